@@ -1,0 +1,9 @@
+pub mod StandLemmas
+pub mod NotingLemmas
+pub mod PartsLemmas
+pub mod SurveyLemmas
+pub mod EyesLemmas
+pub mod EyeLists
+pub mod StrikingLemmas
+pub mod HeldLemmas
+pub mod ContestLemmas

@@ -1,0 +1,96 @@
+-- Striking out.
+use Rattle.std.proofs.Common.{ℕ, List, Bool}
+use Rattle.std.specs.List.{Contains}
+use Rattle.go_grid.specs.declared.grid.Colour.{Colour}
+use Rattle.go_grid.specs.Chain.{InChain}
+use Rattle.go_grid.specs.Grid.{Grid, HasStone, Lacks}
+use Rattle.go_grid.specs.Marks.{IsMarked, Marks, Lists}
+use Rattle.go_grid.proofs.WalkLemmas.{joined_back, joined_join, joined_end}
+use Rattle.benson_life.specs.Life.{IsEye, HasTwoEyes, IsHealthy, IsLargestHealthy, IsAlive, IsCounted}
+
+-- more stones for walls
+eye_more : (g : Grid) (c : Colour) (In More : ℕ → Type 0) → ((s : ℕ) → In s → More s) → (s r : ℕ)
+    → IsEye g c In s r → IsEye g c More s r
+eye_more g c In More wider s r eye = record {
+  lacks = eye.lacks;
+  vital = eye.vital;
+  walled = λ p t at n stone. wider t (eye.walled p t at n stone);
+}
+
+eyes_more : (g : Grid) (c : Colour) (In More : ℕ → Type 0) → ((s : ℕ) → In s → More s) → (s : ℕ)
+    → HasTwoEyes g c In s → HasTwoEyes g c More s
+eyes_more g c In More wider s two =
+    (two.0, two.1, eye_more g c In More wider s two.0 two.2, eye_more g c In More wider s two.1 two.3, two.4)
+
+-- the stones of one chain have the same eyes
+eye_chain : (g : Grid) (c : Colour) (In : ℕ → Type 0) (s t r : ℕ) → InChain g c s t → IsEye g c In s r → IsEye g c In t r
+eye_chain g c In s t r j eye = record {
+  lacks = eye.lacks;
+  vital = λ p at empty. let l = eye.vital p at empty in
+      (l.0, (l.1.0, joined_join g.columns (HasStone g c) t s l.1.0 (joined_back g.columns (HasStone g c) s t j) l.1.1, l.1.2));
+  walled = eye.walled;
+}
+
+-- only stones that cannot be alive have been struck out
+pub record MayBeAlive (g : Grid) (c : Colour) (kept : List Bool) : Type 0 where
+  pub stones : (s : ℕ) → IsMarked kept s → HasStone g c s
+  pub eyed : (s : ℕ) → HasStone g c s → HasTwoEyes g c (IsMarked kept) s → IsMarked kept s
+  pub healthy : (T : List ℕ) → IsHealthy g c T → (s : ℕ) → Contains T s → IsMarked kept s
+
+pub may_start : (g : Grid) (c : Colour) (kept : List Bool) → Marks kept (HasStone g c) → MayBeAlive g c kept
+may_start g c kept is = record {
+  stones = λ s. (is s).0;
+  eyed = λ s stone _. (is s).1 stone;
+  healthy = λ T good s in'. (is s).1 (good.stones s in');
+}
+
+pub may_next : (g : Grid) (c : Colour) (kept left : List Bool) → MayBeAlive g c kept
+    → Marks left (λ s. IsMarked kept s × HasTwoEyes g c (IsMarked kept) s) → MayBeAlive g c left
+may_next g c kept left w is =
+    let wider = λ (s : ℕ) (m : IsMarked left s). ((is s).0 m).0 in
+    record {
+      stones = λ s m. w.stones s (wider s m);
+      eyed = λ s stone two. let old = eyes_more g c (IsMarked left) (IsMarked kept) wider s two in (is s).1 (w.eyed s stone old, old);
+      healthy = λ T good s in'. (is s).1
+          (w.healthy T good s in', eyes_more g c (Contains T) (IsMarked kept) (w.healthy T good) s (good.eyes s in'));
+    }
+
+-- when nothing more is struck out, what is kept is the largest healthy list
+pub kept_largest : (g : Grid) (c : Colour) (kept left : List Bool) (S : List ℕ) → MayBeAlive g c kept
+    → Marks left (λ s. IsMarked kept s × HasTwoEyes g c (IsMarked kept) s) → ((p : ℕ) → IsMarked kept p → IsMarked left p)
+    → Lists S (IsMarked kept) → IsLargestHealthy g c S
+kept_largest g c kept left S w is all lists = record {
+  healthy = record {
+    stones = λ s in'. w.stones s ((lists.exact s).0 in');
+    whole = λ s t in' j.
+        let two = eyes s ((lists.exact s).0 in') in
+        (lists.exact t).1 (w.eyed t (joined_end g.columns (HasStone g c) s t j) (
+          two.0,
+          two.1,
+          eye_chain g c (IsMarked kept) s t two.0 j two.2,
+          eye_chain g c (IsMarked kept) s t two.1 j two.3,
+          two.4,
+        ));
+    eyes = λ s in'. eyes_more g c (IsMarked kept) (Contains S) (λ x. (lists.exact x).1) s (eyes s ((lists.exact s).0 in'));
+  };
+  largest = λ T good s in'. (lists.exact s).1 (w.healthy T good s in');
+}
+  where
+    eyes : (s : ℕ) → IsMarked kept s → HasTwoEyes g c (IsMarked kept) s
+    eyes s m = ((is s).0 (all s m)).1
+
+-- the points of walled eyes of kept stones are the counted ones
+pub counted_same : (g : Grid) (c : Colour) (alive : List ℕ) (kept found : List Bool) → IsLargestHealthy g c alive
+    → Marks kept (Contains alive)
+    → Marks found (λ p. Lacks g c p × ((s : ℕ) × IsMarked kept s × IsEye g c (IsMarked kept) s p))
+    → Marks found (IsCounted g c)
+counted_same g c alive kept found w isk isf p = (
+  λ m. let h = ((isf p).0 m).1 in (h.0, on h.0 h.1, eye_more g c (IsMarked kept) (IsAlive g c) on h.0 p h.2),
+  λ h. (isf p).1 (h.2.lacks, (h.0, off h.0 h.1, eye_more g c (IsAlive g c) (IsMarked kept) off h.0 p h.2)),
+)
+  where
+    on : (s : ℕ) → IsMarked kept s → IsAlive g c s
+    on s m = (alive, w.healthy, (isk s).0 m)
+
+    off : (s : ℕ) → IsAlive g c s → IsMarked kept s
+    off s a = (isk s).1 (w.largest a.0 a.1 s a.2)

@@ -1,0 +1,35 @@
+-- Eyes: a region and a chain to which it is vital, each named by its lowest point.
+use Rattle.std.specs.Prelude.{◌≡◌, ◌≢◌, ◌↔◌, ℕ, List, Bool, Contains, Option, None, Some}
+use Rattle.go_grid.specs.declared.grid.Colour.{Colour}
+use Rattle.go_grid.specs.Grid.{Grid, HasStone, Lacks}
+use Rattle.go_grid.specs.Marks.{IsMarked}
+use Rattle.go_grid.specs.Parts.{label}
+use Rattle.benson_life.specs.declared.surveys.Survey.{Survey}
+use Rattle.benson_life.specs.declared.eyes.Eye.{Eye}
+use Rattle.benson_life.specs.Life.{IsVital}
+
+-- the region is vital to the chain, and the two points name them
+pub record IsVitalPair (g : Grid) (c : Colour) (s : Survey) (e : Eye) : Type 0 where
+  pub lacks : Lacks g c e.region
+  pub stone : HasStone g c e.chain
+  pub region : label s.regions e.region ≡ e.region
+  pub chain : label s.chains e.chain ≡ e.chain
+  pub vital : IsVital g c e.region e.chain
+
+-- the list has exactly these pairs
+abbrev pub AreEyes : Grid → Colour → Survey → List Eye → Type 0
+AreEyes g c s eyes = (e : Eye) → Contains eyes e ↔ IsVitalPair g c s e
+
+-- the point is there, and a stone of the chain that `k` names
+abbrev pub IsOfChain : Survey → ℕ → Option ℕ → Type 0
+IsOfChain s k None = ⊥
+IsOfChain s k (Some q) = IsMarked s.stones q × (label s.chains q ≡ k)
+
+-- the region is listed for the chain, and its wall isn't breached
+abbrev pub HasWalledEye : List Eye → List Bool → ℕ → ℕ → Type 0
+HasWalledEye eyes breached k r = Contains eyes (record { region = r; chain = k }) × ¬ IsMarked breached r
+
+-- that holds of two different regions
+abbrev pub HasTwoWalledEyes : List Eye → List Bool → ℕ → Type 0
+HasTwoWalledEyes eyes breached k =
+    (r t : ℕ) × HasWalledEye eyes breached k r × HasWalledEye eyes breached k t × (r ≢ t)

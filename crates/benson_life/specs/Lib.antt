@@ -1,0 +1,5 @@
+pub mod Life
+pub mod Survey
+pub mod Eyes
+pub mod Held
+pub mod Region

@@ -1,0 +1,92 @@
+// A shelf in memory, whose loads fail where they are told to.
+ghost use Rattle.std.specs.Prelude.{◌≡◌, [], ◌∷◌, ◌++◌, Some, OnOk, OnErr};
+ghost use Rattle.std.specs.FinMap as map;
+ghost use Rattle.desk_io.specs.Files.{FailsByCount, Loads, has_failed, told_file};
+ghost use Rattle.desk_io.specs.Memory.{Stored, counted, fails_next, files_in, stored_code, uncalled};
+
+use crate::{LoadError, Loaded, Shelf};
+use std::alloc::{AllocError, Global};
+use std::collections::BTreeMap;
+use std::marker::Model;
+
+/// A shelf that tells its files. Loads fail only where `fail_at` names them.
+#[derive(Drop)]
+pub struct MemoryShelf {
+    files: BTreeMap<String, Vec<u8>>,
+    failing: Vec<u64>,
+    calls: u64,
+    faults: u64,
+}
+
+impl Model for MemoryShelf {
+    ghost Value = { Stored };
+
+    ghost coded = { stored_code };
+
+    ghost view = { λ s. record { files = files_in s.files; calls = record { next = s.calls; failing = s.failing.items; faults = s.faults } } };
+}
+
+impl MemoryShelf {
+    /// Holds no file.
+    #[tactic(auto, unfolding(crate::specs::Memory::files_in))]
+    pub fn new(alloc: Global) -> Self
+        ensures { result ≡ record { files = map.empty; calls = uncalled [] } }
+    {
+        MemoryShelf {
+            files: BTreeMap::new(alloc),
+            failing: Vec::new(alloc),
+            calls: 0,
+            faults: 0,
+        }
+    }
+
+    /// Puts a file on the shelf, in the place of an earlier one of that name. At an error the shelf is as before.
+    #[tactic(auto, using(crate::proofs::Kept::files_after, crate::proofs::Kept::files_same))]
+    pub fn add(&mut self, name: &str, bytes: Vec<u8>) -> Result<(), AllocError>
+        ensures ok { OnOk result (self.new ≡ record self.old { files = map.insert self.old.files name.now bytes.items }) }
+        ensures err { OnErr result (self.new ≡ self.old) }
+    {
+        let name = String::from_str(*self.failing.allocator(), name)?;
+        self.files.insert(name, bytes)?;
+        Ok(())
+    }
+
+    /// The load of this number fails, counted from 0. At an error the shelf is as before.
+    pub fn fail_at(&mut self, call: u64) -> Result<(), AllocError>
+        ensures ok { OnOk result (self.new ≡ record self.old { calls = record self.old.calls { failing = self.old.calls.failing ++ call ∷ [] } }) }
+        ensures err { OnErr result (self.new ≡ self.old) }
+    {
+        Ok(self.failing.push(call)?)
+    }
+}
+
+impl Shelf for MemoryShelf {
+    ghost files = { λ s. Some s.files };
+
+    ghost faults = { λ s. s.calls.faults };
+
+    #[tactic(auto, using(crate::proofs::Kept::file_in))]
+    fn load(&mut self, name: &str, limit: usize, out: &mut Vec<u8>) -> Result<Loaded, LoadError>
+        ensures same { self.new.files ≡ self.old.files }
+        ensures bytes { Loads (told_file (Some self.old.files) name.now) limit out.old.items out.new.items result }
+        ensures cause { FailsByCount self.old.calls.faults self.new.calls.faults result }
+        ensures named { has_failed result ≡ fails_next self.old.calls }
+        ensures calls { self.new.calls ≡ counted self.old.calls (has_failed result) }
+    {
+        let call = self.calls;
+        self.calls = call.saturating_add(1);
+        if self.failing.contains(&call) {
+            self.faults = self.faults.saturating_add(1);
+            return Err(LoadError::Failed);
+        }
+        let Some(bytes) = self.files.get(name) else {
+            return Err(LoadError::Absent);
+        };
+        if bytes.len() > limit {
+            out.extend_from_slice(&bytes[..limit])?;
+            return Ok(Loaded::Longer);
+        }
+        out.extend_from_slice(bytes)?;
+        Ok(Loaded::Whole)
+    }
+}

@@ -1,0 +1,9 @@
+mod ClosedLaws
+mod ItemLaws
+mod HeadLaws
+mod PutLaws
+mod FormLaws
+mod BoardLaws
+mod Found
+mod TextLaws
+mod TopLaws

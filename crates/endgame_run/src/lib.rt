@@ -1,0 +1,17 @@
+//! The top call: words, a source and a sink go in, and a status comes out.
+#![tactic(auto)]
+
+mod closed;
+mod file;
+mod form;
+mod report;
+mod status;
+mod top;
+
+pub use status::{FileFault, Status, Unbuilt};
+pub use top::run;
+
+#[cfg(test)]
+mod outside_tests;
+#[cfg(test)]
+mod tests;

@@ -1,0 +1,142 @@
+//! The texts of the answers.
+
+ghost use Rattle.std.specs.Prelude.{◌≡◌, ◌<◌, ◌*◌, ◌++◌, ℕ, length, OnOk, IfOk, IfSome, string_bytes, codes, Some};
+ghost use Rattle.endgame_run.specs.Texts.{colour_word, token_word, point_name, word_line, purse_line, state_lines, solve_text, winner_line, move_line, point_line, IsMoveOnBoard};
+
+use go_grid::{Colour, Point, Size, name};
+use std::alloc::{AllocError, Global};
+use whole_rules::{Move, Token, Whole};
+
+fn colour_word(colour: Colour) -> &'static str
+    ensures { result.now ≡ colour_word colour }
+{
+    match colour {
+        Colour::Black => "black",
+        Colour::White => "white",
+    }
+}
+
+fn token_word(token: Token) -> &'static str
+    ensures { result.now ≡ token_word token }
+{
+    match token {
+        Token::Nobody => "none",
+        Token::Black => "black",
+        Token::White => "white",
+    }
+}
+
+/// Appends the name of a point.
+#[tactic(auto, using(std::proofs::Common::append_assoc))]
+fn write_name(text: &mut String, size: Size, point: Point) -> Result<(), AllocError>
+    requires { point < size.columns * size.rows }
+    ensures { OnOk result (string_bytes text.new ≡ string_bytes text.old ++ point_name size.columns point) }
+{
+    let [column, row] = name(size, point);
+    text.push(char::from(column))?;
+    text.push(char::from(row))
+}
+
+/// Appends a line of two words.
+#[tactic(auto, unfolding(crate::specs::Texts::word_line))]
+fn write_words(text: &mut String, label: &str, word: &str) -> Result<(), AllocError>
+    ensures { OnOk result (string_bytes text.new ≡ string_bytes text.old ++ word_line label.now word.now) }
+{
+    writeln!(text, "{label} {word}")
+}
+
+/// Appends the line of a purse, in points.
+#[tactic(auto, unfolding(crate::specs::Texts::purse_line))]
+fn write_purse(text: &mut String, colour: Colour, purse: u64) -> Result<(), AllocError>
+    ensures { OnOk result (string_bytes text.new ≡ string_bytes text.old ++ purse_line colour purse) }
+{
+    let owner = colour_word(colour);
+    writeln!(text, "purse {owner} {purse}")
+}
+
+/// Appends the lines on the side to move, the purses and the token.
+#[tactic(auto, using(std::proofs::Common::append_assoc))]
+fn write_state(text: &mut String, state: &Whole) -> Result<(), AllocError>
+    ensures { OnOk result (string_bytes text.new ≡ string_bytes text.old ++ state_lines state.now) }
+{
+    write_words(text, "side", colour_word(state.side()))?;
+    write_purse(text, Colour::Black, state.purse(Colour::Black))?;
+    write_purse(text, Colour::White, state.purse(Colour::White))?;
+    write_words(text, "half", token_word(state.token()))
+}
+
+/// Appends the line of a point with a fault.
+#[tactic(auto, using(std::proofs::Common::append_assoc), unfolding(crate::specs::Texts::point_line))]
+fn write_point(text: &mut String, label: &str, size: Size, point: Point) -> Result<(), AllocError>
+    requires { point < size.columns * size.rows }
+    ensures { OnOk result (string_bytes text.new ≡ string_bytes text.old ++ point_line label.now size.columns point) }
+{
+    text.push_str(label)?;
+    text.push_str(" ")?;
+    write_name(text, size, point)?;
+    text.push_str("\n")
+}
+
+/// Appends the line of a move.
+#[tactic(auto, using(std::proofs::Common::append_assoc), unfolding(crate::specs::Texts::word_line, crate::specs::Texts::point_line))]
+fn write_move(text: &mut String, size: Size, chosen: Move) -> Result<(), AllocError>
+    requires { IsMoveOnBoard size.columns size.rows chosen }
+    ensures { OnOk result (string_bytes text.new ≡ string_bytes text.old ++ move_line size.columns (Some chosen)) }
+{
+    match chosen {
+        Move::Stone(point) => write_point(text, "move", size, point),
+        Move::Spend => write_words(text, "move", "spend"),
+        Move::Half => write_words(text, "move", "half"),
+    }
+}
+
+/// Appends the lines on the winner and the move.
+#[tactic(auto, using(std::proofs::Common::append_assoc))]
+fn write_outcome(
+    text: &mut String,
+    size: Size,
+    winner: Colour,
+    chosen: Option<Move>,
+) -> Result<(), AllocError>
+    requires { IfSome chosen (IsMoveOnBoard size.columns size.rows) }
+    ensures { OnOk result (string_bytes text.new ≡ string_bytes text.old ++ (winner_line winner ++ move_line size.columns chosen)) }
+{
+    write_words(text, "winner", colour_word(winner))?;
+    match chosen {
+        Some(chosen) => write_move(text, size, chosen),
+        None => write_words(text, "move", "none"),
+    }
+}
+
+/// The text of a solved state without regions of play.
+#[tactic(auto, using(std::proofs::Common::append_assoc))]
+pub(crate) fn solve_text(
+    alloc: Global,
+    state: &Whole,
+    winner: Colour,
+    chosen: Option<Move>,
+) -> Result<String, AllocError>
+    requires { IfSome chosen (IsMoveOnBoard state.now.board.columns state.now.board.rows) }
+    ensures { IfOk result (λ text. string_bytes text ≡ solve_text state.now winner chosen) }
+{
+    let mut text = String::new(alloc);
+    write_state(&mut text, state)?;
+    text.push_str("regions 0\npositions 0\n")?;
+    write_outcome(&mut text, state.board().size(), winner, chosen)?;
+    Ok(text)
+}
+
+/// The line of a point with a fault.
+pub(crate) fn point_text(
+    alloc: Global,
+    label: &str,
+    size: Size,
+    point: Point,
+) -> Result<String, AllocError>
+    requires { point < size.columns * size.rows }
+    ensures { IfOk result (λ text. string_bytes text ≡ point_line label.now size.columns point) }
+{
+    let mut text = String::new(alloc);
+    write_point(&mut text, label, size, point)?;
+    Ok(text)
+}

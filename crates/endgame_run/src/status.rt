@@ -1,0 +1,62 @@
+//! What a run ends with.
+
+ghost use Rattle.std.specs.Prelude.{◌≡◌};
+
+use go_grid::Point;
+
+/// Why a file of the right form has no position.
+#[derive(Clone, Copy, Debug, PartialEq, Eq)]
+pub enum FileFault {
+    /// A chain has no liberty; the lowest stone of such a chain.
+    NoLiberty(Point),
+}
+
+/// What isn't built yet.
+#[derive(Clone, Copy, Debug, PartialEq, Eq)]
+pub enum Unbuilt {
+    /// Files of other forms.
+    Form,
+    /// Boards with contested points; the lowest of them.
+    Contested(Point),
+}
+
+/// What a run ends with.
+#[derive(Clone, Copy, Debug, PartialEq, Eq)]
+pub enum Status {
+    /// The text of the command was written.
+    Done,
+    /// The words are none of the command line's grammar.
+    Usage,
+    /// A read failed.
+    CannotRead,
+    /// A write failed.
+    CannotWrite,
+    /// The file has a fault.
+    BadFile(FileFault),
+    /// Memory was refused.
+    Memory,
+    /// The file has more than 1,048,576 bytes.
+    TooLong,
+    /// The file is one that isn't served yet.
+    Unbuilt(Unbuilt),
+}
+
+impl Status {
+    ghost use Rattle.endgame_run.specs.Codes.{code_of};
+
+    /// The number of the status, with which the program ends.
+    pub fn code(&self) -> u8
+        ensures { result ≡ code_of self.now }
+    {
+        match self {
+            Status::Done => 0,
+            Status::Usage => 1,
+            Status::CannotRead => 2,
+            Status::CannotWrite => 3,
+            Status::BadFile(_) => 4,
+            Status::Memory => 8,
+            Status::TooLong => 10,
+            Status::Unbuilt(_) => 11,
+        }
+    }
+}

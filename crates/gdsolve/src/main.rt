@@ -1,0 +1,38 @@
+//! The program: the words of the command line, standard input and standard output.
+#![tactic(auto)]
+
+use desk_io::{StdSink, StdSource};
+use endgame_run::{Status, run};
+use std::alloc::{AllocError, Global};
+use std::env::Env;
+use std::process::ExitCode;
+use std::{env, io};
+
+/// The words after the program's name, or none where one isn't UTF-8.
+fn words<R: Env + AllocGlobal>(rt: &R) -> Result<Vec<String>, AllocError> {
+    let alloc = rt.alloc();
+    match env::args(rt) {
+        Ok(args) => args.skip(1).collect(alloc),
+        Err(error) if error.kind() == io::ErrorKind::OutOfMemory => Err(AllocError),
+        Err(_) => Ok(Vec::new(alloc)),
+    }
+}
+
+/// The exit status of a run over the real things.
+fn start<R: Env + Input + Print + AllocGlobal>(rt: &R) -> Result<u8, AllocError> {
+    let alloc = rt.alloc();
+    let owned = words(rt)?;
+    let mut texts: Vec<&str> = Vec::with_capacity(alloc, owned.len())?;
+    for word in &owned {
+        texts.push(word.as_str())?;
+    }
+    let mut lines = StdSource::new(rt.reader());
+    let mut out = StdSink::new(io::writer(rt));
+    let status = run(alloc, &texts, &mut lines, &mut out);
+    Ok(status.code())
+}
+
+fn main(rt: HostRuntime) -> ExitCode {
+    let code = start(&rt).unwrap_or(Status::Memory.code());
+    ExitCode::from(code)
+}

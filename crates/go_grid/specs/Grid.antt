@@ -1,0 +1,72 @@
+-- Boards: columns, rows and a list of cells, row by row from the top left.
+use Rattle.std.specs.Prelude.{◌≡◌, ◌≢◌, ℕ, ◌+◌, ◌*◌, ◌/◌, ◌%◌, ◌<◌, ◌≤◌, ◌⊎◌, ◌↔◌, List, length, slice_index_or, Option, None, Some}
+use Rattle.go_grid.specs.declared.grid.Cell.{Cell}
+use Rattle.go_grid.specs.declared.grid.Cell.TheVariants as cell
+use Rattle.go_grid.specs.declared.grid.Colour.{Colour}
+use Rattle.go_grid.specs.declared.grid.Colour.TheVariants as colour
+
+pub record Grid : Type 0 where
+  pub columns : ℕ
+  pub rows : ℕ
+  pub cells : List Cell
+
+-- 1 to 25 columns and rows, and a cell for each point
+pub record IsGrid (g : Grid) : Type 0 where
+  pub some_columns : 1 ≤ g.columns
+  pub most_columns : g.columns ≤ 25
+  pub some_rows : 1 ≤ g.rows
+  pub most_rows : g.rows ≤ 25
+  pub full : length g.cells ≡ g.columns * g.rows
+
+-- the two differ by one
+abbrev pub DifferByOne : ℕ → ℕ → Type 0
+DifferByOne a b = (a + 1 ≡ b) ⊎ (b + 1 ≡ a)
+
+-- two points are next to each other when they differ by one in exactly one of column and row
+abbrev pub NextTo : ℕ → ℕ → ℕ → Type 0
+NextTo columns p q =
+    ((p / columns ≡ q / columns) × DifferByOne (p % columns) (q % columns))
+    ⊎ ((p % columns ≡ q % columns) × DifferByOne (p / columns) (q / columns))
+
+-- `q` is directly above `p`
+abbrev pub IsAbove : ℕ → ℕ → ℕ → Type 0
+IsAbove columns p q = (q / columns + 1 ≡ p / columns) × (q % columns ≡ p % columns)
+
+-- `q` is directly left of `p`
+abbrev pub IsLeftOf : ℕ → ℕ → ℕ → Type 0
+IsLeftOf columns p q = (q / columns ≡ p / columns) × (q % columns + 1 ≡ p % columns)
+
+-- the point of the board of which `Is` holds, where there is one
+abbrev pub IsThe : ℕ → (ℕ → Type 0) → Option ℕ → Type 0
+IsThe area Is None = (q : ℕ) → q < area → ¬ Is q
+IsThe area Is (Some q) = (q < area) × Is q
+
+-- The neighbours of `p` in the four directions, on a board of `area` points: no other point of the board is next to `p`.
+pub record AreNear (columns area p : ℕ) (up left right down : Option ℕ) : Type 0 where
+  pub above : IsThe area (λ q. IsAbove columns p q) up
+  pub before : IsThe area (λ q. IsLeftOf columns p q) left
+  pub after : IsThe area (λ q. IsLeftOf columns q p) right
+  pub below : IsThe area (λ q. IsAbove columns q p) down
+  pub next : (q : ℕ) → ((q < area) × NextTo columns p q)
+      ↔ ((up ≡ Some q) ⊎ ((left ≡ Some q) ⊎ ((right ≡ Some q) ⊎ (down ≡ Some q))))
+
+abbrev pub cell_at : Grid → ℕ → Cell
+cell_at g p = slice_index_or g.cells p cell.Empty
+
+abbrev pub stone : Colour → Cell
+stone colour.Black = cell.Black
+stone colour.White = cell.White
+
+abbrev pub other : Colour → Colour
+other colour.Black = colour.White
+other colour.White = colour.Black
+
+abbrev pub HasStone : Grid → Colour → ℕ → Type 0
+HasStone g c p = (p < length g.cells) × (cell_at g p ≡ stone c)
+
+abbrev pub IsEmpty : Grid → ℕ → Type 0
+IsEmpty g p = (p < length g.cells) × (cell_at g p ≡ cell.Empty)
+
+-- a point of the board with no stone of the colour
+abbrev pub Lacks : Grid → Colour → ℕ → Type 0
+Lacks g c p = (p < length g.cells) × (cell_at g p ≢ stone c)

@@ -1,0 +1,33 @@
+-- Sets of points, as a list of marks.
+use Rattle.std.specs.Prelude.{◌≡◌, ℕ, ◌<◌, ◌↔◌, List, Bool, true, false, slice_index_or, Option, Some, None, Contains}
+use Rattle.std.specs.List.Sorted.{IsStrictlyIncreasing}
+use Rattle.go_grid.specs.Grid.{NextTo}
+
+abbrev pub IsMarked : List Bool → ℕ → Type 0
+IsMarked marks p = slice_index_or marks p false ≡ true
+
+-- some point next to `p` is marked
+abbrev pub Touches : ℕ → List Bool → ℕ → Type 0
+Touches columns marks p = (q : ℕ) × NextTo columns p q × IsMarked marks q
+
+-- each point of `within` that is next to a marked point is marked
+abbrev pub IsClosed : ℕ → List Bool → List Bool → Type 0
+IsClosed columns within marks = (p : ℕ) → IsMarked within p → Touches columns marks p → IsMarked marks p
+
+-- no point from `area` on is marked
+abbrev pub IsWithin : ℕ → List Bool → Type 0
+IsWithin area marks = (p : ℕ) → IsMarked marks p → p < area
+
+-- whether there is a point and it is marked
+abbrev pub HasMark : List Bool → Option ℕ → Bool → Type 0
+HasMark marks None b = b ≡ false
+HasMark marks (Some p) b = b ≡ slice_index_or marks p false
+
+-- the marked points are exactly those of `P`
+abbrev pub Marks : List Bool → (ℕ → Type 0) → Type 0
+Marks marks P = (p : ℕ) → IsMarked marks p ↔ P p
+
+-- the list has exactly the points of `P`, in ascending order
+pub record Lists (points : List ℕ) (P : ℕ → Type 0) : Type 0 where
+  pub ascending : IsStrictlyIncreasing points
+  pub exact : (p : ℕ) → Contains points p ↔ P p

@@ -1,0 +1,85 @@
+//! Boards.
+
+ghost use Rattle.std.specs.Prelude.{◌≡◌, ◌-◌, ◌*◌, ◌<◌, ◌≤◌, length, IfOk, slice_set, replicate};
+
+use crate::grid::{Cell, Point, Size};
+use std::alloc::{AllocError, Global};
+use std::marker::Model;
+
+/// A board: its size and a cell for each of its points.
+#[derive(Drop)]
+pub struct Board {
+    size: Size,
+    cells: Vec<Cell>,
+}
+
+impl Model for Board {
+    ghost use Rattle.go_grid.specs.Grid.{Grid, IsGrid};
+    ghost use Rattle.std.specs.Prelude.{◌≡◌, ◌*◌, length};
+
+    ghost Value = { Grid };
+
+    ghost view = { λ b. record { columns = b.size.columns; rows = b.size.rows; cells = b.cells.items } };
+
+    ghost invariant = { λ b. length b.cells.items ≡ b.size.columns * b.size.rows };
+}
+
+impl Board {
+    ghost use Rattle.go_grid.specs.Grid.{Grid, IsGrid, cell_at};
+    ghost use Rattle.go_grid.specs.declared.grid.Cell.TheVariants.{Empty};
+
+    /// A board of the size without stones.
+    pub fn empty(alloc: Global, size: Size) -> Result<Board, AllocError>
+        ensures { IfOk result (λ b. b ≡ record {
+          columns = size.columns;
+          rows = size.rows;
+          cells = replicate (size.columns * size.rows) Empty;
+        }) }
+    {
+        let cells = vec![in alloc; Cell::Empty; usize::from(size.area())]?;
+        Ok(Board { size, cells })
+    }
+
+    /// The same board once more.
+    pub fn copy(&self) -> Result<Board, AllocError>
+        ensures { IfOk result (λ b. b ≡ self.now) }
+    {
+        Ok(Board {
+            size: self.size,
+            cells: self.cells.clone()?,
+        })
+    }
+
+    /// The board's size.
+    #[tactic(auto, using(crate::proofs::GridLemmas::area_most))]
+    pub fn size(&self) -> Size
+        ensures columns { result.columns ≡ self.now.columns }
+        ensures rows { result.rows ≡ self.now.rows }
+        ensures grid { IsGrid self.now }
+        ensures area { result.columns * result.rows ≡ length self.now.cells }
+        ensures most { length self.now.cells ≤ 625 }
+    {
+        self.size
+    }
+
+    /// What a point of the board holds.
+    pub fn get(&self, point: Point) -> Cell
+        requires { point < length self.now.cells }
+        ensures { result ≡ cell_at self.now point }
+    {
+        self.cells[usize::from(point.0)]
+    }
+
+    /// Makes a point of the board hold the cell, and changes no other point.
+    pub fn set(&mut self, point: Point, cell: Cell)
+        requires { point < length self.old.cells }
+        ensures { self.new ≡ record self.old { cells = slice_set self.old.cells point cell } }
+    {
+        self.cells[usize::from(point.0)] = cell;
+    }
+
+    /// Where the board's memory comes from.
+    pub fn allocator(&self) -> Global {
+        *self.cells.allocator()
+    }
+}

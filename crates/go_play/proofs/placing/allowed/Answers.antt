@@ -1,0 +1,24 @@
+use Rattle.std.proofs.lemmas.Result.{err_from_is_err_and}
+use Rattle.go_grid.specs.Grid.{other}
+use Rattle.go_play.specs.Place.{with_stone, IsTaken}
+use Rattle.go_play.proofs.PlaceLemmas.{refused}
+use Rattle.go_play.proofs.StripLemmas.{stripped, without_stripped, number_taken}
+use Rattle.go_play.proofs.placing.allowed.Goals as goal
+
+pub returns-in_err-taken : goal.returns-in_err-taken
+returns-in_err-taken c =
+    let p = err_from_is_err_and c.from_residual.result c.from_residual.ensures.1 in
+    rw (p.1, p.2) (c.args.board.now, refused c.args.board.now c.args.point c.args.colour c.in_err-taken.field-0.0 c.in_err-taken.ensures)
+
+pub returns : goal.returns
+returns c =
+    let g = c.args.board.now in
+    let b = with_stone g c.args.point c.args.colour in
+    let j = c.in_ok-taken.ensures in
+    let w = without_stripped b (IsTaken b c.args.point (other c.args.colour)) c.in_ok-taken.taken j.1 in (
+      stripped b c.in_ok-taken.taken,
+      (
+        record { free = j.0; without = w; breathes = j.2 _ w },
+        rw c.count.ensures (number_taken g c.args.point c.args.colour _ c.in_ok-taken.taken j.0 j.1 w),
+      ),
+    )

@@ -1,0 +1,190 @@
+//! Placing a stone, with what it takes off the board.
+
+ghost use Rattle.std.specs.Prelude.{◌≡◌, ℕ, ◌<◌, ◌↔◌, ◌⊎◌, true, length, IfSome, Some};
+ghost use Rattle.go_grid.specs.Grid.{Grid, IsEmpty, other, stone};
+ghost use Rattle.go_grid.specs.Marks.{IsMarked, Marks};
+ghost use Rattle.go_grid.specs.Chain.{HasLiberty};
+ghost use Rattle.go_play.specs.Place.{with_stone, IsTaken, IsWithout, Answers};
+ghost use Rattle.go_play.specs.Tried.{IsTried, IsLost, Judges};
+
+use go_grid::{
+    Board, Cell, Colour, Marks, Point, count, fill, neighbours, part_touches, union, unmarked,
+};
+
+/// Why a stone may not be placed.
+#[derive(Clone, Copy, PartialEq, Eq, Debug)]
+pub enum PlaceError {
+    /// The point isn't empty.
+    Occupied,
+    /// With all that it takes off the board, the new stone's chain has no liberty.
+    Suicide,
+}
+
+/// What stands on a board after a new stone, before any is taken off.
+#[derive(Drop)]
+struct Tried {
+    own: Marks,
+    theirs: Marks,
+    empty: Marks,
+}
+
+/// The points of a set, and one more.
+fn with(marks: &Marks, point: Point) -> Marks
+    requires { point < 625 }
+    ensures { Marks result (λ q. IsMarked marks.now q ⊎ (q ≡ point)) }
+{
+    let mut more = *marks;
+    more[usize::from(point.0)] = true;
+    more
+}
+
+/// The points of a set but one.
+fn without(marks: &Marks, point: Point) -> Marks
+    requires { point < 625 }
+    ensures { Marks result (λ q. IsMarked marks.now q × (q ≡ point → ⊥)) }
+{
+    let mut less = *marks;
+    less[usize::from(point.0)] = false;
+    less
+}
+
+/// A new stone at an empty point, as sets of points.
+fn try_stone(board: &Board, point: Point, colour: Colour) -> Tried
+    requires { IsEmpty board.now point }
+    ensures { IsTried board.now point colour result }
+{
+    let _size = board.size();
+    Tried {
+        own: with(&board.stones(colour), point),
+        theirs: board.stones(colour.other()),
+        empty: without(&board.empties(), point),
+    }
+}
+
+/// Adds the chain at a point to the taken stones, if it is the other colour's and has no liberty.
+fn take_chain(
+    board: &Board,
+    point: Point,
+    colour: Colour,
+    tried: &Tried,
+    stone: Point,
+    taken: &mut Marks,
+)
+    requires tried { IsTried board.now point colour tried.now }
+    requires stone { stone < length board.now.cells }
+    ensures { Marks taken.new (λ q. IsMarked taken.old q ⊎ IsLost (with_stone board.now point colour) (other colour) stone q) }
+{
+    let size = board.size();
+    if tried.theirs[usize::from(stone.0)]
+        && !part_touches(size, &tried.theirs, stone, &tried.empty)
+    {
+        *taken = union(taken, &fill(size, &tried.theirs, stone));
+    }
+}
+
+/// As `take_chain`, if there is such a point.
+fn take_near(
+    board: &Board,
+    point: Point,
+    colour: Colour,
+    tried: &Tried,
+    stone: Option<Point>,
+    taken: &mut Marks,
+)
+    requires tried { IsTried board.now point colour tried.now }
+    requires stone { IfSome stone (λ s. s < length board.now.cells) }
+    ensures { Marks taken.new (λ q. IsMarked taken.old q
+        ⊎ ((s : ℕ) × (stone ≡ Some s) × IsLost (with_stone board.now point colour) (other colour) s q)) }
+{
+    if let Some(near) = stone {
+        take_chain(board, point, colour, tried, near, taken);
+    }
+}
+
+/// The stones that a new stone takes.
+fn taken(board: &Board, point: Point, colour: Colour, tried: &Tried) -> Marks
+    requires point { point < length board.now.cells }
+    requires tried { IsTried board.now point colour tried.now }
+    ensures { Marks result (IsTaken (with_stone board.now point colour) point (other colour)) }
+{
+    let near = neighbours(board.size(), point);
+    let mut taken = unmarked();
+    take_near(board, point, colour, tried, near.up, &mut taken);
+    take_near(board, point, colour, tried, near.left, &mut taken);
+    take_near(board, point, colour, tried, near.right, &mut taken);
+    take_near(board, point, colour, tried, near.down, &mut taken);
+    taken
+}
+
+/// Whether the new stone's chain has a liberty once the taken stones are gone.
+fn stands(board: &Board, point: Point, colour: Colour, tried: &Tried, taken: &Marks) -> bool
+    requires empty { IsEmpty board.now point }
+    requires tried { IsTried board.now point colour tried.now }
+    requires taken { Marks taken.now (IsTaken (with_stone board.now point colour) point (other colour)) }
+    ensures { (h : Grid) → IsWithout (with_stone board.now point colour)
+        (IsTaken (with_stone board.now point colour) point (other colour)) h
+        → (result ≡ true) ↔ HasLiberty h colour point }
+{
+    part_touches(board.size(), &tried.own, point, &union(&tried.empty, taken))
+}
+
+/// The stones that a new stone takes, or why it is refused.
+fn judge(board: &Board, point: Point, colour: Colour) -> Result<Marks, PlaceError>
+    requires { point < length board.now.cells }
+    ensures { Judges board.now point colour result }
+{
+    if !board.get(point).is(Cell::Empty) {
+        return Err(PlaceError::Occupied);
+    }
+    let tried = try_stone(board, point, colour);
+    let taken = taken(board, point, colour, &tried);
+    if stands(board, point, colour, &tried, &taken) {
+        Ok(taken)
+    } else {
+        Err(PlaceError::Suicide)
+    }
+}
+
+/// Empties the points of a set.
+fn take_off(board: &mut Board, marks: &Marks)
+    ensures { IsWithout board.old (IsMarked marks.now) board.new }
+{
+    for number in 0..board.size().area() {
+        if marks[usize::from(number)] {
+            board.set(Point(number), Cell::Empty);
+        }
+    }
+}
+
+/// Places a stone and takes off each chain of the other colour next to it that has no liberty left.
+/// Gives the number of stones taken, or leaves the board as it was: `Occupied` where the point isn't empty,
+/// else `Suicide` where the new stone's own chain would then have no liberty.
+pub fn place(board: &mut Board, point: Point, colour: Colour) -> Result<u16, PlaceError>
+    requires { point < length board.old.cells }
+    ensures { Answers board.old point colour board.new result }
+{
+    let taken = judge(board, point, colour)?;
+    let number = count(&taken);
+    board.set(point, stone(colour));
+    take_off(board, &taken);
+    Ok(number)
+}
+
+/// What `place` would answer; the board stays as it is.
+pub fn allowed(board: &Board, point: Point, colour: Colour) -> Result<u16, PlaceError>
+    requires { point < length board.now.cells }
+    ensures { (h : Grid) × Answers board.now point colour h result }
+{
+    let taken = judge(board, point, colour)?;
+    Ok(count(&taken))
+}
+
+/// The cell with a stone of the colour.
+fn stone(colour: Colour) -> Cell
+    ensures { result ≡ stone colour }
+{
+    match colour {
+        Colour::Black => Cell::Black,
+        Colour::White => Cell::White,
+    }
+}

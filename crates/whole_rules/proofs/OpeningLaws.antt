@@ -1,0 +1,24 @@
+-- What an opening is made of.
+use Rattle.std.proofs.Common.{◌≡◌, ℕ, ◌+◌, sym, ap, subst, ◌∙◌, List, Bool, ℤ}
+use Rattle.go_grid.specs.declared.grid.Colour.{Colour}
+use Rattle.go_grid.specs.declared.grid.Colour.TheVariants.{Black, White}
+use Rattle.go_grid.specs.Grid.{Grid}
+use Rattle.go_grid.specs.Marks.{Marks}
+use Rattle.benson_life.specs.Held.{IsHeld}
+use Rattle.benson_life.specs.Region.{IsContested}
+use Rattle.whole_rules.specs.declared.money.Purses.{Purses}
+use Rattle.whole_rules.specs.WholeGame.{State}
+use Rattle.whole_rules.specs.Opening.{komi_units, komi_token, IsOpening}
+
+pub opens : (g b : Grid) (marks : List Bool) (m : Purses) (c : Colour) (s : State) (x y bp wp : ℕ) (k : ℤ)
+    → s ≡ record { board = b; contested = marks; purses = m; side = c } → b ≡ g → Marks marks (IsContested g)
+    → m ≡ record { black = x + bp + komi_units Black k; white = y + wp + komi_units White k; token = komi_token k }
+    → IsHeld g Black x → IsHeld g White y → IsOpening g bp wp k c s
+opens g b marks m c s x y bp wp k e same is purses hx hy = record {
+  board = ap (λ z. z.board) e ∙ same;
+  contested = subst (λ z. Marks z (IsContested g)) (sym (ap (λ z. z.contested) e)) is;
+  black = (x, hx, ap (λ z. z.purses.black) e ∙ ap (λ z. z.black) purses);
+  white = (y, hy, ap (λ z. z.purses.white) e ∙ ap (λ z. z.white) purses);
+  token = ap (λ z. z.purses.token) e ∙ ap (λ z. z.token) purses;
+  turn = ap (λ z. z.side) e;
+}

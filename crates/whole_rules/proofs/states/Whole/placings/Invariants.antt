@@ -1,0 +1,5 @@
+use Rattle.whole_rules.specs.WholeGame.{MovesBelow}
+use Rattle.whole_rules.proofs.states.Whole.placings.Given as goal
+
+abbrev pub invariant-loop-number : goal.invariant-loop-number
+invariant-loop-number l = MovesBelow l.self l.number l.moves.items

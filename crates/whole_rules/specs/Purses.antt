@@ -1,0 +1,31 @@
+-- What moves make of two purses and a token.
+use Rattle.std.specs.Prelude.{ℕ, ◌+◌, ◌-◌}
+use Rattle.go_grid.specs.declared.grid.Colour.{Colour}
+use Rattle.go_grid.specs.declared.grid.Colour.TheVariants.{Black, White}
+use Rattle.whole_rules.specs.declared.money.Purses.{Purses}
+use Rattle.whole_rules.specs.declared.money.Token.{Token}
+use Rattle.whole_rules.specs.declared.money.Token.TheVariants as token
+
+abbrev pub purse : Colour → Purses → ℕ
+purse Black m = m.black
+purse White m = m.white
+
+-- the purses with n units more in that of a player
+abbrev pub paid_in : Colour → ℕ → Purses → Purses
+paid_in Black n m = record m { black = m.black + n }
+paid_in White n m = record m { white = m.white + n }
+
+-- the purses after a player has spent a unit
+abbrev pub paid_out : Colour → Purses → Purses
+paid_out Black m = record m { black = m.black - 1 }
+paid_out White m = record m { white = m.white - 1 }
+
+-- the opponent of the token's owner leaves the owner a unit
+abbrev pub rewarded : Token → Colour → Purses → Purses
+rewarded token.Black White m = paid_in Black 1 m
+rewarded token.White Black m = paid_in White 1 m
+rewarded _ _ m = m
+
+-- the purses after a player's move on the token
+abbrev pub halved : Colour → Purses → Purses
+halved c m = record (rewarded m.token c m) { token = token.Nobody }

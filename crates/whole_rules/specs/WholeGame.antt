@@ -1,0 +1,85 @@
+-- States of the whole game and their moves.
+use Rattle.std.specs.Prelude.{ℕ, ◌≡◌, ◌≢◌, ◌<◌, ◌≤◌, ◌↔◌, List, Bool, length, slice_index_or, Contains, Result, Ok, Err, Option, Some, None}
+use Rattle.go_grid.specs.declared.grid.Colour.{Colour}
+use Rattle.go_grid.specs.Grid.{Grid, IsEmpty, other}
+use Rattle.go_grid.specs.Marks.{IsMarked}
+use Rattle.go_play.specs.Place.{IsPlaced, IsNumberTaken, IsSuicide}
+use Rattle.whole_rules.specs.declared.money.Purses.{Purses}
+use Rattle.whole_rules.specs.declared.money.Token.TheVariants.{Nobody}
+use Rattle.whole_rules.specs.declared.states.Move.{Move}
+use Rattle.whole_rules.specs.declared.states.Move.TheVariants.{Stone, Spend, Half}
+use Rattle.whole_rules.specs.declared.states.MoveError.{MoveError}
+use Rattle.whole_rules.specs.declared.states.MoveError.TheVariants.{NotContested, Occupied, Suicide, EmptyPurse, NoHalf}
+use Rattle.whole_rules.specs.Purses.{purse, paid_in, paid_out, halved}
+
+pub record State : Type 0 where
+  pub board : Grid
+  -- a mark for each contested point
+  pub contested : List Bool
+  pub purses : Purses
+  pub side : Colour
+
+-- the board and the purses after a move, and the other side to move
+abbrev pub after : Grid → Purses → State → State
+after h m s = record s { board = h; purses = m; side = other s.side }
+
+-- the move leads from the one state to the other
+abbrev pub IsMove : State → Move → State → Type 0
+IsMove s (Stone p) t = IsMarked s.contested p × ((h : Grid) × ((n : ℕ) × IsPlaced s.board p s.side h × IsNumberTaken s.board h n × (t ≡ after h (paid_in s.side n s.purses) s)))
+IsMove s Spend t = (1 ≤ purse s.side s.purses) × (t ≡ after s.board (paid_out s.side s.purses) s)
+IsMove s Half t = (s.purses.token ≢ Nobody) × (t ≡ after s.board (halved s.side s.purses) s)
+
+abbrev pub IsLegal : State → Move → Type 0
+IsLegal s m = (t : State) × IsMove s m t
+
+-- some move leads from the one state to the other
+abbrev pub Leads : State → State → Type 0
+Leads s t = (m : Move) × IsMove s m t
+
+-- a stone may be placed at the point
+abbrev pub IsPlayable : State → ℕ → Type 0
+IsPlayable s p = IsMarked s.contested p × ((h : Grid) × IsPlaced s.board p s.side h)
+
+-- a point of the board that is contested
+abbrev pub IsOpen : State → ℕ → Type 0
+IsOpen s p = (p < length s.board.cells) × IsMarked s.contested p
+
+abbrev pub Refuses : State → Move → MoveError → Type 0
+Refuses s (Stone p) NotContested = ¬ IsOpen s p
+Refuses s (Stone p) Occupied = IsOpen s p × ¬ IsEmpty s.board p
+Refuses s (Stone p) Suicide = IsOpen s p × IsEmpty s.board p × IsSuicide s.board p s.side
+Refuses s Spend EmptyPurse = purse s.side s.purses ≡ 0
+Refuses s Half NoHalf = s.purses.token ≡ Nobody
+Refuses _ _ _ = ⊥
+
+-- what a move answers, from the one state to the other
+abbrev pub Applies : State → Move → State → Result Unit MoveError → Type 0
+Applies s m t (Ok _) = IsMove s m t
+Applies s m t (Err e) = (t ≡ s) × Refuses s m e
+
+-- the order of moves: stones by point, then a unit spent, then the half
+abbrev pub rank : Move → ℕ
+rank (Stone p) = p
+rank Spend = 625
+rank Half = 626
+
+abbrev pub rank_at : List Move → ℕ → ℕ
+rank_at ms k = rank (slice_index_or ms k Half)
+
+abbrev pub AreOrdered : List Move → Type 0
+AreOrdered ms = (j k : ℕ) → j < k → k < length ms → rank_at ms j < rank_at ms k
+
+-- the list has the legal moves, in their order
+pub record ListsMoves (s : State) (ms : List Move) : Type 0 where
+  pub ordered : AreOrdered ms
+  pub exact : (m : Move) → Contains ms m ↔ IsLegal s m
+
+-- the same of the moves whose rank is below n
+pub record MovesBelow (s : State) (n : ℕ) (ms : List Move) : Type 0 where
+  pub ordered : AreOrdered ms
+  pub exact : (m : Move) → Contains ms m ↔ ((rank m < n) × IsLegal s m)
+
+-- the first legal move, where there is one
+abbrev pub IsFirstMove : State → Option Move → Type 0
+IsFirstMove s (Some m) = IsLegal s m × ((k : Move) → IsLegal s k → rank m ≤ rank k)
+IsFirstMove s None = (k : Move) → ¬ IsLegal s k

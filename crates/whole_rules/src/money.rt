@@ -1,0 +1,100 @@
+//! Two purses and the token of a half unit.
+
+ghost use Rattle.std.specs.Prelude.{◌≡◌, ◌≢◌, ℕ, ◌+◌, ◌^◌, ◌<◌, ◌≤◌, ◌↔◌, true};
+ghost use Rattle.whole_rules.specs.declared.money.Token.TheVariants.{Nobody};
+ghost use Rattle.whole_rules.specs.Purses.{purse, paid_in, paid_out, halved};
+
+use go_grid::Colour;
+
+/// Who owns the half unit that a komi leaves.
+#[derive(Clone, Copy, PartialEq, Eq)]
+pub enum Token {
+    Nobody,
+    Black,
+    White,
+}
+
+impl Token {
+    /// Whether there is no token.
+    pub fn is_nobody(self) -> bool
+        ensures { (result ≡ true) ↔ (self ≡ Nobody) }
+    {
+        match self {
+            Token::Nobody => true,
+            Token::Black => false,
+            Token::White => false,
+        }
+    }
+}
+
+/// What the two players may still spend.
+#[derive(Clone, Copy)]
+pub struct Purses {
+    pub black: u64,
+    pub white: u64,
+    pub token: Token,
+}
+
+impl Purses {
+    pub fn of(self, colour: Colour) -> u64
+        ensures { result ≡ purse colour self }
+    {
+        match colour {
+            Colour::Black => self.black,
+            Colour::White => self.white,
+        }
+    }
+
+    /// The purses with some units more in that of a player.
+    pub fn paid_in(self, colour: Colour, units: u64) -> Purses
+        requires { purse colour self + units < 2 ^ 64 }
+        ensures { result ≡ paid_in colour units self }
+    {
+        match colour {
+            Colour::Black => Purses {
+                black: self.black + units,
+                ..self
+            },
+            Colour::White => Purses {
+                white: self.white + units,
+                ..self
+            },
+        }
+    }
+
+    /// The purses after a player has spent a unit.
+    pub fn paid_out(self, colour: Colour) -> Purses
+        requires { 1 ≤ purse colour self }
+        ensures { result ≡ paid_out colour self }
+    {
+        match colour {
+            Colour::Black => Purses {
+                black: self.black - 1,
+                ..self
+            },
+            Colour::White => Purses {
+                white: self.white - 1,
+                ..self
+            },
+        }
+    }
+
+    /// The purses after a player's move on the token.
+    pub fn halved(self, colour: Colour) -> Purses
+        requires black { self.black + 1 < 2 ^ 64 }
+        requires white { self.white + 1 < 2 ^ 64 }
+        ensures { result ≡ halved colour self }
+    {
+        let rewarded = match (self.token, colour) {
+            (Token::Black, Colour::White) => self.paid_in(Colour::Black, 1),
+            (Token::White, Colour::Black) => self.paid_in(Colour::White, 1),
+            (Token::Nobody, _) => self,
+            (Token::Black, Colour::Black) => self,
+            (Token::White, Colour::White) => self,
+        };
+        Purses {
+            token: Token::Nobody,
+            ..rewarded
+        }
+    }
+}

@@ -1,0 +1,95 @@
+//! The state in which a setup opens.
+
+ghost use Rattle.std.specs.Prelude.{◌≡◌, ℕ, ◌+◌, ◌^◌, ◌<◌, ◌≤◌, ◌↔◌, ◌⊎◌, true, false, length, IfOk, pos, negsuc, ◌≤ℤ◌};
+ghost use Rattle.go_grid.specs.declared.grid.Colour.TheVariants.{Black, White};
+ghost use Rattle.go_grid.specs.Chain.{IsSettled};
+ghost use Rattle.go_grid.specs.Marks.{Marks, Lists};
+ghost use Rattle.benson_life.specs.Life.{IsLargestHealthy, IsCounted};
+ghost use Rattle.benson_life.specs.Region.{IsContested};
+ghost use Rattle.whole_rules.specs.Opening.{komi_units, komi_token, IsOpening};
+
+use crate::money::{Purses, Token};
+use crate::states::Whole;
+use benson_life::{alive, contested, counted, held};
+use go_grid::{Board, Colour};
+use std::alloc::{AllocError, Global};
+
+/// The whole units of a komi that a player gets. A positive komi is White's.
+fn komi_units(colour: Colour, halves: i64) -> u64
+    ensures units { result ≡ komi_units colour halves }
+    ensures most { result ≤ 2 ^ 62 }
+{
+    match (colour, halves < 0) {
+        (Colour::Black, true) => halves.unsigned_abs() / 2,
+        (Colour::White, false) => halves.unsigned_abs() / 2,
+        (Colour::Black, false) => 0,
+        (Colour::White, true) => 0,
+    }
+}
+
+/// The half unit of a komi.
+fn komi_token(halves: i64) -> Token
+    ensures { result ≡ komi_token halves }
+{
+    if halves.unsigned_abs() % 2 == 0 {
+        return Token::Nobody;
+    }
+    if halves < 0 {
+        return Token::Black;
+    }
+    Token::White
+}
+
+/// The purses and the token of an opening.
+fn opening_purses(
+    black_held: u32,
+    white_held: u32,
+    black_prisoners: u64,
+    white_prisoners: u64,
+    komi_halves: i64,
+) -> Purses
+    requires black { black_prisoners < 2 ^ 40 }
+    requires white { white_prisoners < 2 ^ 40 }
+    ensures { result ≡ record {
+      black = black_held + black_prisoners + komi_units Black komi_halves;
+      white = white_held + white_prisoners + komi_units White komi_halves;
+      token = komi_token komi_halves;
+    } }
+{
+    Purses {
+        black: u64::from(black_held) + black_prisoners + komi_units(Colour::Black, komi_halves),
+        white: u64::from(white_held) + white_prisoners + komi_units(Colour::White, komi_halves),
+        token: komi_token(komi_halves),
+    }
+}
+
+impl Whole {
+    /// The state in which a settled board opens: prisoners in points, and a komi in half-points, White's where it is positive.
+    pub fn opening(
+        alloc: Global,
+        board: &Board,
+        black_prisoners: u64,
+        white_prisoners: u64,
+        komi_halves: i64,
+        side: Colour,
+    ) -> Result<Whole, AllocError>
+        requires settled { IsSettled board.now }
+        requires black { black_prisoners < 2 ^ 40 }
+        requires white { white_prisoners < 2 ^ 40 }
+        ensures { IfOk result (λ w. IsOpening board.now black_prisoners white_prisoners komi_halves side w) }
+    {
+        let black = alive(alloc, board, Colour::Black)?;
+        let white = alive(alloc, board, Colour::White)?;
+        let black_counted = counted(alloc, board, Colour::Black, &black)?;
+        let white_counted = counted(alloc, board, Colour::White, &white)?;
+        let contested = contested(board, &black, &white, &black_counted, &white_counted);
+        let purses = opening_purses(
+            held(board, Colour::Black, &black_counted),
+            held(board, Colour::White, &white_counted),
+            black_prisoners,
+            white_prisoners,
+            komi_halves,
+        );
+        Ok(Whole::new(board.copy()?, contested, purses, side))
+    }
+}

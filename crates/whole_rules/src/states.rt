@@ -1,0 +1,230 @@
+//! States of the whole game and their moves.
+
+ghost use Rattle.std.specs.Prelude.{◌≡◌, ℕ, ◌+◌, ◌^◌, ◌<◌, ◌≤◌, ◌↔◌, true, false, length, IfOk, MatchOption};
+ghost use Rattle.whole_rules.specs.Purses.{purse};
+ghost use Rattle.whole_rules.specs.WholeGame.{State, Applies, IsLegal, ListsMoves, MovesBelow, IsFirstMove};
+
+use crate::money::{Purses, Token};
+use go_grid::{Board, Colour, Marks, Point};
+use go_play::{PlaceError, allowed, place};
+use std::alloc::{AllocError, Global};
+use std::marker::Model;
+
+/// What a player may do in their turn.
+#[derive(Clone, Copy, PartialEq, Eq)]
+pub enum Move {
+    Stone(Point),
+    Spend,
+    Half,
+}
+
+/// Why a move is refused.
+#[derive(Clone, Copy, PartialEq, Eq)]
+pub enum MoveError {
+    NotContested,
+    Occupied,
+    Suicide,
+    EmptyPurse,
+    NoHalf,
+}
+
+/// A state of the whole game.
+#[derive(Drop)]
+pub struct Whole {
+    board: Board,
+    contested: Marks,
+    purses: Purses,
+    side: Colour,
+}
+
+impl Model for Whole {
+    ghost use Rattle.whole_rules.specs.WholeGame.{State};
+
+    ghost Value = { State };
+
+    ghost view = { λ w. record { board = w.board; contested = w.contested; purses = w.purses; side = w.side } };
+}
+
+impl Whole {
+    ghost use Rattle.go_grid.specs.Marks.{IsMarked};
+    ghost use Rattle.whole_rules.specs.declared.states.Move.{Move};
+    ghost use Rattle.whole_rules.specs.declared.states.Move.TheVariants.{Stone, Spend, Half};
+
+    pub fn new(board: Board, contested: Marks, purses: Purses, side: Colour) -> Whole
+        ensures { result ≡ record { board = board; contested = contested; purses = purses; side = side } }
+    {
+        Whole {
+            board,
+            contested,
+            purses,
+            side,
+        }
+    }
+
+    pub fn copy(&self) -> Result<Whole, AllocError>
+        ensures { IfOk result (λ w. w ≡ self.now) }
+    {
+        Ok(Whole::new(self.board.copy()?, self.contested, self.purses, self.side))
+    }
+
+    pub fn board(&self) -> &Board
+        ensures { result.now ≡ self.now.board }
+    {
+        &self.board
+    }
+
+    pub fn purse(&self, colour: Colour) -> u64
+        ensures { result ≡ purse colour self.now.purses }
+    {
+        self.purses.of(colour)
+    }
+
+    pub fn token(&self) -> Token
+        ensures { result ≡ self.now.purses.token }
+    {
+        self.purses.token
+    }
+
+    pub fn side(&self) -> Colour
+        ensures { result ≡ self.now.side }
+    {
+        self.side
+    }
+
+    pub fn contested(&self, point: Point) -> bool
+        ensures { (result ≡ true) ↔ IsMarked self.now.contested point }
+    {
+        match self.contested.get(usize::from(point.0)) {
+            Some(mark) => *mark,
+            None => false,
+        }
+    }
+
+    /// Whether a stone of the side to move may be placed.
+    fn may_place(&self, point: Point) -> bool
+        requires { point < length self.now.board.cells }
+        ensures { (result ≡ true) ↔ IsLegal self.now (Stone point) }
+    {
+        if !self.contested(point) {
+            return false;
+        }
+        match allowed(&self.board, point, self.side) {
+            Ok(_) => true,
+            Err(_) => false,
+        }
+    }
+
+    /// Whether the side to move has a unit to spend.
+    fn may_spend(&self) -> bool
+        ensures { (result ≡ true) ↔ IsLegal self.now Spend }
+    {
+        self.purses.of(self.side) > 0
+    }
+
+    /// Whether there is a token to move on.
+    fn may_halve(&self) -> bool
+        ensures { (result ≡ true) ↔ IsLegal self.now Half }
+    {
+        !self.purses.token.is_nobody()
+    }
+
+    /// The legal placings, by point.
+    fn placings(&self, alloc: Global) -> Result<Vec<Move>, AllocError>
+        ensures { IfOk result (λ moves. MovesBelow self.now 625 moves.items) }
+    {
+        let mut moves = Vec::new(alloc);
+        for number in 0..self.board.size().area() {
+            if self.may_place(Point(number)) {
+                moves.push(Move::Stone(Point(number)))?;
+            }
+        }
+        Ok(moves)
+    }
+
+    /// All legal moves, in a list of this allocator.
+    pub(crate) fn moves_in(&self, alloc: Global) -> Result<Vec<Move>, AllocError>
+        ensures { IfOk result (λ moves. ListsMoves self.now moves.items) }
+    {
+        let _size = self.board.size();
+        let mut moves = self.placings(alloc)?;
+        if self.may_spend() {
+            moves.push(Move::Spend)?;
+        }
+        if self.may_halve() {
+            moves.push(Move::Half)?;
+        }
+        Ok(moves)
+    }
+
+    /// All legal moves of the side to move: stones by point, then `Spend`, then `Half`.
+    pub fn moves(&self) -> Result<Vec<Move>, AllocError>
+        ensures { IfOk result (λ moves. ListsMoves self.now moves.items) }
+    {
+        self.moves_in(self.board.allocator())
+    }
+
+    /// The first legal move.
+    pub fn first_move(&self) -> Option<Move>
+        ensures { IsFirstMove self.now result }
+    {
+        for number in 0..self.board.size().area() {
+            if self.may_place(Point(number)) {
+                return Some(Move::Stone(Point(number)));
+            }
+        }
+        if self.may_spend() {
+            return Some(Move::Spend);
+        }
+        if self.may_halve() {
+            return Some(Move::Half);
+        }
+        None
+    }
+
+    /// Puts a stone of the side to move.
+    fn put(&mut self, point: Point) -> Result<(), MoveError>
+        requires black { self.old.purses.black < 2 ^ 62 }
+        requires white { self.old.purses.white < 2 ^ 62 }
+        ensures { Applies self.old (Stone point) self.new result }
+    {
+        if point.0 >= self.board.size().area() || !self.contested(point) {
+            return Err(MoveError::NotContested);
+        }
+        match place(&mut self.board, point, self.side) {
+            Ok(taken) => {
+                self.purses = self.purses.paid_in(self.side, u64::from(taken));
+                self.side = self.side.other();
+                Ok(())
+            }
+            Err(PlaceError::Occupied) => Err(MoveError::Occupied),
+            Err(PlaceError::Suicide) => Err(MoveError::Suicide),
+        }
+    }
+
+    /// Makes a move of the side to move.
+    pub fn apply(&mut self, chosen: Move) -> Result<(), MoveError>
+        requires black { self.old.purses.black < 2 ^ 62 }
+        requires white { self.old.purses.white < 2 ^ 62 }
+        ensures { Applies self.old chosen self.new result }
+    {
+        match chosen {
+            Move::Stone(point) => self.put(point),
+            Move::Spend => {
+                if self.purses.of(self.side) == 0 {
+                    return Err(MoveError::EmptyPurse);
+                }
+                self.purses = self.purses.paid_out(self.side);
+                self.side = self.side.other();
+                Ok(())
+            }
+            Move::Half => {
+                if self.purses.token.is_nobody() {
+                    return Err(MoveError::NoHalf);
+                }
+                self.purses = self.purses.halved(self.side);
+                self.side = self.side.other();
+                Ok(())
+            }
+        }
+    }
+}
