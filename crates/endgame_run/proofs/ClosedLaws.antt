@@ -12,10 +12,9 @@ use Rattle.whole_rules.specs.declared.states.Move.TheVariants.{Stone, Spend, Hal
 use Rattle.whole_rules.specs.Purses.{purse, paid_out, halved}
 use Rattle.whole_rules.specs.WholeGame.{State, IsMove, Leads, after, rank}
 use Rattle.whole_rules.specs.PlainRecursion.{WinsWithin, LosesWithin}
-use Rattle.whole_rules.specs.FirstWinningMove.{IsWinning, IsFirstWinning}
+use Rattle.whole_rules.specs.FirstWinningMove.{IsWinning, IsFirstWinning, IsWinner}
 use Rattle.whole_rules.proofs.OutcomeLaws.{wins-not_loses}
 use Rattle.endgame_run.specs.Closed.{IsClosed, IsAhead, IsAheadByAUnit, wealth}
-use Rattle.endgame_run.specs.Solution.{IsWinner}
 
 -- what moves can still take away
 abbrev token_weight : Token → ℕ

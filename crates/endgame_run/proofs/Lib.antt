@@ -1,9 +1,4 @@
+mod SizeLaws
 mod ClosedLaws
-mod ItemLaws
-mod HeadLaws
-mod PutLaws
-mod FormLaws
-mod BoardLaws
-mod Found
 mod TextLaws
 mod TopLaws

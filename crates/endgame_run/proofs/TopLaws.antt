@@ -1,91 +1,141 @@
 -- How the parts of the top call make its clauses.
-use Rattle.std.proofs.Common.{◌≡◌, ℕ, ◌<◌, inl, inr, sym, ap, subst, ◌∙◌, List, [], ◌++◌, length, append_assoc, Some, None}
+use Rattle.std.proofs.Common.{◌≡◌, ℕ, ◌<◌, inl, inr, refl, sym, ap, subst, ◌∙◌, List, [], ◌++◌, length, append_assoc, Some, None, Ok}
 use Rattle.std.specs.Prelude.{Option, codes}
 use Rattle.std.proofs.lemmas.List.{append-nil}
 use Rattle.std.specs.Io.KnownBytes.{append_known, prepend_known}
+use Rattle.desk_io.specs.Outside.{Rose}
 use Rattle.go_grid.specs.declared.grid.Colour.{Colour}
-use Rattle.go_grid.specs.Grid.{Grid}
-use Rattle.go_grid.specs.Chain.{IsSettled}
 use Rattle.benson_life.specs.Region.{IsContested}
+use Rattle.sgf_tree.specs.Grammar.{PropertyText}
+use Rattle.sgf_tree.specs.Reading.{IsAnswer as IsTreeAnswer}
+use Rattle.sgf_tree.specs.Reading.Answer.{line}
+use Rattle.std.proofs.Common.{ℤ, pos, negsuc, to_z, of_z, w64, arith, ◌≤◌, ◌^◌}
+use Rattle.std.proofs.lemmas.Int.{to_z-of_z, fits_signed_from_abs, ints}
+use Rattle.std.specs.Prelude.{unsigned_abs}
+use Rattle.sgf_go.specs.Komi.{IsInRange}
+use Rattle.sgf_go.specs.Setup.{Gives}
+use Rattle.sgf_go.specs.declared.settings.Settings.{Settings}
+use Rattle.sgf_go.specs.declared.settings.Setup.{Setup}
 use Rattle.whole_rules.specs.declared.states.Move.{Move}
 use Rattle.whole_rules.specs.WholeGame.{State}
 use Rattle.endgame_run.specs.declared.status.Status.{Status}
-use Rattle.endgame_run.specs.declared.status.Status.TheVariants.{Done, Usage, CannotRead, CannotWrite, BadFile, Memory, TooLong, Unbuilt}
-use Rattle.endgame_run.specs.declared.status.Unbuilt.TheVariants.{Form, Contested}
-use Rattle.endgame_run.specs.declared.status.FileFault.TheVariants.{NoLiberty}
-use Rattle.endgame_run.specs.File.{IsTold, IsWhole, IsShort}
-use Rattle.endgame_run.specs.Form.{IsOnlyBoardOf}
+use Rattle.endgame_run.specs.declared.status.Status.TheVariants.{Done, Usage, CannotRead, CannotWrite, BadFile, Memory, TooLong}
+use Rattle.endgame_run.specs.declared.status.Unbuilt.TheVariants as unbuilt
+use Rattle.endgame_run.specs.declared.status.Status.TheVariants as status
+use Rattle.endgame_run.specs.declared.status.Unbuilt.{Unbuilt}
+use Rattle.gd_words.specs.declared.job.Command.{Command}
+use Rattle.gd_words.specs.declared.job.Command.TheVariants as command
+use Rattle.gd_words.specs.Viewed.{task_of}
+use denote.Ref.{Bor}
+use Rattle.endgame_run.specs.declared.status.FileFault.TheVariants as fault
+use Rattle.gd_words.specs.Job.{JobView}
+use Rattle.endgame_run.specs.File.{Outside, IsTold, IsWhole, IsShort, dash, told_source, told_of, count_of}
 use Rattle.endgame_run.specs.Solution.{IsOpeningOf}
 use Rattle.endgame_run.specs.Texts.{solve_text, state_lines, word_line, winner_line, move_line, colour_word}
-use Rattle.endgame_run.specs.Top.{IsFirstMarked, IsSolved, IsFinished}
-use Rattle.endgame_run.specs.Verdict.{IsFirstContested, IsFileVerdict, IsFileText, IsAnswer, IsDecided, IsWritten, HasLine, WritesWinner, WritesMove}
-use Rattle.endgame_run.specs.Words.{AreSolve}
-use denote.Ref.{Bor}
+use Rattle.std.proofs.Common.{Bool, true, false, ◌≢◌}
+use Rattle.std.specs.Str.{bytes_eq}
+use Rattle.std.proofs.lemmas.Slice.Eq.{bytes_eq-Decides}
+use Rattle.endgame_run.specs.Top.{IsFirstMarked, IsLineAnswer, IsSolved, IsSolveRun, IsFinished}
+use Rattle.endgame_run.specs.Verdict.{IsFirstContested, IsFileAnswer, IsAnswer, IsUnbuilt, AskToSolve, IsDecided, HasCause, IsWritten, HasLine, WritesWinner, WritesMove}
 
-pub first_is : (g : Grid) (s : State) (p : ℕ) → IsOpeningOf g s → IsFirstMarked s.contested (length s.board.cells) (Some p) → IsFirstContested g p
-first_is g s p o m = record { contested = (o.contested p).0 m.1; lowest = λ q l h. m.2 q l ((o.contested q).1 h) }
+pub first_is : (setup : Setup) (s : State) (p : ℕ) → IsOpeningOf setup s → IsFirstMarked s.contested (length s.board.cells) (Some p) → IsFirstContested setup.board p
+first_is setup s p o m = record { contested = (o.contested p).0 m.1; lowest = λ q l h. m.2 q l ((o.contested q).1 h) }
 
-pub none_is : (g : Grid) (s : State) → IsOpeningOf g s → IsFirstMarked s.contested (length s.board.cells) None → (p : ℕ) → ¬ IsContested g p
-none_is g s o m p h = m p (subst (λ b. p < length b.cells) (sym o.board) h.0) ((o.contested p).1 h)
+pub none_is : (setup : Setup) (s : State) → IsOpeningOf setup s → IsFirstMarked s.contested (length s.board.cells) None → (p : ℕ) → ¬ IsContested setup.board p
+none_is setup s o m p h = m p (subst (λ b. p < length b.cells) (sym o.board) h.0) ((o.contested p).1 h)
 
--- a settled board's status is its file's
-pub solved_file : (file : List ℕ) (g : Grid) (s : Status) (text : List ℕ) → IsOnlyBoardOf file g → IsSettled g → IsSolved g s text → IsFileVerdict file s × IsFileText file s text
-solved_file file g Done text only settled h = ((g, only, settled, h.0), (g, h.1.0, h.1.1, h.1.2, only, h.1.3, h.1.4))
-solved_file file g (Unbuilt (Contested p)) text only settled h = ((g, only, settled, h.0), (g, only, h.1))
-solved_file file g (Unbuilt Form) text only settled h = absurd h
-solved_file file g Usage text only settled h = absurd h
-solved_file file g CannotRead text only settled h = absurd h
-solved_file file g CannotWrite text only settled h = absurd h
-solved_file file g (BadFile f) text only settled h = absurd h
-solved_file file g Memory text only settled h = absurd h
-solved_file file g TooLong text only settled h = absurd h
+-- a solved position's status is its main line's
+pub solved_line : (l : List (List PropertyText)) (settings : Settings) (setup : Setup) (s : Status) (text : List ℕ) → Gives settings l (Ok setup) → IsSolved setup s text → IsLineAnswer l settings s text
+solved_line l settings setup Done text g h = (setup, g, h)
+solved_line l settings setup (status.Unbuilt u) text g h = (setup, g, h)
+solved_line l settings setup Usage text g h = absurd h
+solved_line l settings setup CannotRead text g h = absurd h
+solved_line l settings setup CannotWrite text g h = absurd h
+solved_line l settings setup (BadFile f) text g h = absurd h
+solved_line l settings setup Memory text g h = absurd h
+solved_line l settings setup TooLong text g h = absurd h
 
-pub told_is : (before now : Option (List ℕ)) (file : List ℕ) → IsWhole before now file → IsTold before file
+-- a main line's status is its file's
+pub line_file : (file : List ℕ) (l : List (List PropertyText)) (settings : Settings) (s : Status) (text : List ℕ) → IsTreeAnswer file (line l) → IsLineAnswer l settings s text → IsFileAnswer file settings s text
+line_file file l settings Done text t h = (h.0, h.2.1.0, h.2.1.1, h.2.1.2, (l, t, h.1), h.2.0, h.2.1.3, h.2.1.4)
+line_file file l settings (status.Unbuilt (unbuilt.Contested p)) text t h = (h.0, (l, t, h.1), h.2.0, h.2.1)
+line_file file l settings (status.Unbuilt unbuilt.Command) text t h = absurd h.2
+line_file file l settings (BadFile (fault.Setup f)) text t h = ((l, t, h.0), (l, t, h.1))
+line_file file l settings (BadFile (fault.Tree f)) text t h = absurd h
+line_file file l settings Usage text t h = absurd h.2
+line_file file l settings CannotRead text t h = absurd h.2
+line_file file l settings CannotWrite text t h = absurd h.2
+line_file file l settings Memory text t h = absurd h.2
+line_file file l settings TooLong text t h = absurd h.2
+
+-- a file's status is an answer
+pub answered : (told : Option (Option (List ℕ))) (before now : ℕ) (file : List ℕ) (settings : Settings) (s : Status) (text : List ℕ) → IsTold told file → IsShort file → IsFileAnswer file settings s text → IsAnswer told before now settings s text
+answered told before now file settings Done text t short h = (file, t, short, h)
+answered told before now file settings (status.Unbuilt u) text t short h = (file, t, short, h)
+answered told before now file settings (BadFile f) text t short h = (file, t, short, h)
+answered told before now file settings Usage text t short h = absurd h
+answered told before now file settings CannotRead text t short h = absurd h
+answered told before now file settings CannotWrite text t short h = absurd h
+answered told before now file settings Memory text t short h = absurd h
+answered told before now file settings TooLong text t short h = absurd h
+
+pub told_is : (before now : Option (List ℕ)) (file : List ℕ) → IsWhole before now file → IsTold (told_source before) file
 told_is None now file w = tt
 told_is (Some bytes) now file w = let e : now ≡ Some [] = w.end in
     let f : Path (Option (List ℕ)) (Some bytes) (Some (file ++ [])) = w.all ∙ ap (prepend_known file) e in
-    let g : bytes ≡ file ++ [] = cc in g ∙ append-nil file
+    let g : bytes ≡ file ++ [] = cc in ap Some (g ∙ append-nil file)
 
--- a file's verdict is an answer
-pub answered : (told : Option (List ℕ)) (before now : ℕ) (file : List ℕ) (s : Status) (text : List ℕ) → IsTold told file → IsShort file → IsFileVerdict file s × IsFileText file s text → IsAnswer told before now s text
-answered told before now file Done text t short h = (file, t, short, h.0, h.1)
-answered told before now file (Unbuilt (Contested p)) text t short h = (file, t, short, h.0, h.1)
-answered told before now file (Unbuilt Form) text t short h = (file, t, short, h.0, h.1)
-answered told before now file (BadFile (NoLiberty p)) text t short h = (file, t, short, h.0, h.1)
-answered told before now file Usage text t short h = absurd h.0
-answered told before now file CannotRead text t short h = absurd h.0
-answered told before now file CannotWrite text t short h = absurd h.0
-answered told before now file Memory text t short h = absurd h.0
-answered told before now file TooLong text t short h = absurd h.0
+-- a komi in range is what a 64-bit number holds of it
+komi_small : (k : ℤ) → IsInRange k → unsigned_abs k < 2 ^ 63
+komi_small (pos n) h = let a : n ≤ 1999999 = omega (arith, ints, h.1) in omega arith
+komi_small (negsuc n) h = let a : n ≤ 1999998 = omega (arith, ints, h.0) in omega arith
+
+pub komi_held : (k : ℤ) → IsInRange k → to_z w64 (of_z w64 k) ≡ k
+komi_held k h = to_z-of_z w64 k (fits_signed_from_abs w64 k (komi_small k h))
 
 -- a decided status with its text, written
-written_whole : (words : List (Bor (List ℕ))) (told : Option (List ℕ)) (fb fn : ℕ) (before now : Option (List ℕ)) (s : Status) (text : List ℕ)
-    → IsDecided words told fb fn s text → now ≡ append_known before text → IsWritten words told fb fn before now s
-written_whole words told fb fn before now Done text d e = (text, d, e)
-written_whole words told fb fn before now Usage text d e = (text, d, e)
-written_whole words told fb fn before now CannotRead text d e = (text, d, e)
-written_whole words told fb fn before now TooLong text d e = (text, d, e)
-written_whole words told fb fn before now (BadFile f) text d e = (text, d, e)
-written_whole words told fb fn before now (Unbuilt u) text d e = (text, d, e)
-written_whole words told fb fn before now CannotWrite text d e = absurd d.1.3
-written_whole words told fb fn before now Memory text d e = absurd d.1.3
+written_whole : (words : List (List ℕ)) (o : Outside) (before now : Option (List ℕ)) (s : Status) (text : List ℕ) → IsDecided words o s text → now ≡ append_known before text → IsWritten words o before now s
+written_whole words o before now Done text d e = (text, d, e)
+written_whole words o before now Usage text d e = (text, d, e)
+written_whole words o before now CannotRead text d e = (text, d, e)
+written_whole words o before now TooLong text d e = (text, d, e)
+written_whole words o before now (BadFile f) text d e = (text, d, e)
+written_whole words o before now (status.Unbuilt u) text d e = (text, d, e)
+written_whole words o before now CannotWrite text d e = absurd d.3.3
+written_whole words o before now Memory text d e = absurd d.3.3
 
-pub written : (words : List (Bor (List ℕ))) (told : Option (List ℕ)) (fb fn kb kn : ℕ) (before now : Option (List ℕ)) (s : Status) (text : List ℕ) (result : Status)
-    → IsDecided words told fb fn s text → IsFinished s text kb kn before now result → IsWritten words told fb fn before now result
-written words told fb fn kb kn before now s text result d (inl w) =
-    subst (λ r. IsWritten words told fb fn before now r) (sym w.0) (written_whole words told fb fn before now s text d w.1)
-written words told fb fn kb kn before now s text result d (inr f) =
-    subst (λ r. IsWritten words told fb fn before now r) (sym f.0) (s, text, f.2.0, d, f.2.1)
+pub written : (words : List (List ℕ)) (o : Outside) (kb kn : ℕ) (before now : Option (List ℕ)) (s : Status) (text : List ℕ) (result : Status)
+    → IsDecided words o s text → IsFinished s text kb kn before now result → IsWritten words o before now result
+written words o kb kn before now s text result d (inl w) = subst (λ r. IsWritten words o before now r) (sym w.0) (written_whole words o before now s text d w.1)
+written words o kb kn before now s text result d (inr f) = subst (λ r. IsWritten words o before now r) (sym f.0) (s, text, f.2.0, d, f.2.1)
 
-pub decided : (words : List (Bor (List ℕ))) (told : Option (List ℕ)) (fb fn : ℕ) (s : Status) (text : List ℕ) → AreSolve words → IsAnswer told fb fn s text → IsDecided words told fb fn s text
-decided words told fb fn Done text a h = (a, h)
-decided words told fb fn CannotRead text a h = (a, h)
-decided words told fb fn TooLong text a h = (a, h)
-decided words told fb fn (BadFile f) text a h = (a, h)
-decided words told fb fn (Unbuilt u) text a h = (a, h)
-decided words told fb fn Usage text a h = absurd h.3
-decided words told fb fn CannotWrite text a h = absurd h.3
-decided words told fb fn Memory text a h = absurd h.3
+cause_whole : (words : List (List ℕ)) (o : Outside) (s : Status) (text : List ℕ) → IsDecided words o s text → HasCause words o s
+cause_whole words o Done text d = (text, d)
+cause_whole words o Usage text d = (text, d)
+cause_whole words o CannotRead text d = (text, d)
+cause_whole words o TooLong text d = (text, d)
+cause_whole words o (BadFile f) text d = (text, d)
+cause_whole words o (status.Unbuilt u) text d = (text, d)
+cause_whole words o CannotWrite text d = tt
+cause_whole words o Memory text d = absurd d.3.3
+
+pub caused : (words : List (List ℕ)) (o : Outside) (kb kn : ℕ) (before now : Option (List ℕ)) (s : Status) (text : List ℕ) (result : Status)
+    → IsDecided words o s text → IsFinished s text kb kn before now result → HasCause words o result
+caused words o kb kn before now s text result d (inl w) = subst (λ r. HasCause words o r) (sym w.0) (cause_whole words o s text d)
+caused words o kb kn before now s text result d (inr f) = subst (λ r. HasCause words o r) (sym f.0) tt
+
+-- an answer to words that ask to solve a file
+pub decided : (words : List (List ℕ)) (o : Outside) (job : JobView) (word : List ℕ) (s : Status) (text : List ℕ) → AskToSolve words job word
+    → IsAnswer (told_of o.files o.left word) (count_of o.shelf_before o.lines_before word) (count_of o.shelf_now o.lines_now word) job.settings s text → IsDecided words o s text
+decided words o job word Done text a h = (job, word, a, h)
+decided words o job word CannotRead text a h = (job, word, a, h)
+decided words o job word TooLong text a h = (job, word, a, h)
+decided words o job word (BadFile f) text a h = (job, word, a, h)
+decided words o job word (status.Unbuilt (unbuilt.Contested p)) text a h = (job, word, a, h)
+decided words o job word (status.Unbuilt unbuilt.Command) text a h = absurd h.3
+decided words o job word Usage text a h = absurd h.3
+decided words o job word CannotWrite text a h = absurd h.3
+decided words o job word Memory text a h = absurd h.3
 
 -- the line `winner` and the line `move` of the text
 winner_stands : (before : Option (List ℕ)) (s : State) (winner : Colour) (move : Option Move) → HasLine before (append_known before (solve_text s winner move)) (winner_line winner)
@@ -104,42 +154,77 @@ move_stands before s winner move = (
   ap (append_known before) (pieces (state_lines s) (codes "regions 0\npositions 0\n") (codes "winner") (codes " ") (colour_word winner) (codes "\n") (move_line s.board.columns move)),
 )
 
-done_text : (told : Option (List ℕ)) (fb fn kb kn : ℕ) (before now : Option (List ℕ)) (s : Status) (text : List ℕ) (result : Status)
-    → IsAnswer told fb fn s text → IsFinished s text kb kn before now result → result ≡ Done → IsAnswer told fb fn Done text × (now ≡ append_known before text)
-done_text told fb fn kb kn before now s text result a (inl w) e = (subst (λ r. IsAnswer told fb fn r text) (sym w.0 ∙ e) a, w.1)
-done_text told fb fn kb kn before now s text result a (inr f) e = absurd cc
+done_text : (words : List (List ℕ)) (o : Outside) (kb kn : ℕ) (before now : Option (List ℕ)) (s : Status) (text : List ℕ) (result : Status)
+    → IsDecided words o s text → IsFinished s text kb kn before now result → result ≡ Done → IsDecided words o Done text × (now ≡ append_known before text)
+done_text words o kb kn before now s text result d (inl w) e = (subst (λ r. IsDecided words o r text) (sym w.0 ∙ e) d, w.1)
+done_text words o kb kn before now s text result d (inr f) e = absurd cc
 
-pub writes_winner : (told : Option (List ℕ)) (fb fn kb kn : ℕ) (before now : Option (List ℕ)) (s : Status) (text : List ℕ) (result : Status)
-    → IsAnswer told fb fn s text → IsFinished s text kb kn before now result → result ≡ Done → WritesWinner told before now
-writes_winner told fb fn kb kn before now s text result a f e =
-    let d = done_text told fb fn kb kn before now s text result a f e in
-    let t = d.0.4 in (
-      d.0.0,
+pub writes_winner : (words : List (List ℕ)) (o : Outside) (kb kn : ℕ) (before now : Option (List ℕ)) (s : Status) (text : List ℕ) (result : Status)
+    → IsDecided words o s text → IsFinished s text kb kn before now result → result ≡ Done → WritesWinner words o before now
+writes_winner words o kb kn before now s text result a f e =
+    let d = done_text words o kb kn before now s text result a f e in
+    let h = d.0.3 in let t = h.3 in (
       t.0,
       t.1,
       t.2,
-      d.0.1,
-      t.4,
-      t.5.opening,
-      t.5.wins,
-      subst (λ n. HasLine before n (winner_line t.2)) (ap (append_known before) (sym t.6) ∙ sym d.1) (winner_stands before t.1 t.2 t.3),
+      record { job = d.0.0; word = d.0.1; file = h.0; asks = d.0.2; told = h.1; reads = t.4; opening = t.6.opening },
+      t.6.wins,
+      subst (λ n. HasLine before n (winner_line t.2)) (ap (append_known before) (sym t.7) ∙ sym d.1) (winner_stands before t.1 t.2 t.3),
     )
 
-pub writes_move : (told : Option (List ℕ)) (fb fn kb kn : ℕ) (before now : Option (List ℕ)) (s : Status) (text : List ℕ) (result : Status)
-    → IsAnswer told fb fn s text → IsFinished s text kb kn before now result → result ≡ Done → WritesMove told before now
-writes_move told fb fn kb kn before now s text result a f e =
-    let d = done_text told fb fn kb kn before now s text result a f e in
-    let t = d.0.4 in (
-      d.0.0,
+pub writes_move : (words : List (List ℕ)) (o : Outside) (kb kn : ℕ) (before now : Option (List ℕ)) (s : Status) (text : List ℕ) (result : Status)
+    → IsDecided words o s text → IsFinished s text kb kn before now result → result ≡ Done → WritesMove words o before now
+writes_move words o kb kn before now s text result a f e =
+    let d = done_text words o kb kn before now s text result a f e in
+    let h = d.0.3 in let t = h.3 in (
       t.0,
       t.1,
       t.3,
-      d.0.1,
-      t.4,
-      t.5.opening,
-      t.5.first,
-      subst (λ n. HasLine before n (move_line t.1.board.columns t.3)) (ap (append_known before) (sym t.6) ∙ sym d.1) (move_stands before t.1 t.2 t.3),
+      record { job = d.0.0; word = d.0.1; file = h.0; asks = d.0.2; told = h.1; reads = t.4; opening = t.6.opening },
+      t.6.first,
+      subst (λ n. HasLine before n (move_line t.1.board.columns t.3)) (ap (append_known before) (sym t.7) ∙ sym d.1) (move_stands before t.1 t.2 t.3),
     )
 
-pub shown : (told : Option (List ℕ)) (fb fn : ℕ) (s : Status) (text bytes : List ℕ) → bytes ≡ text → IsAnswer told fb fn s text → IsAnswer told fb fn s bytes
-shown told fb fn s text bytes e a = subst (λ t. IsAnswer told fb fn s t) (sym e) a
+-- either the word is that of the source, or it isn't
+pub by_word : (P : Type 0) (word : List ℕ) → (word ≡ dash → P) → (word ≢ dash → P) → P
+by_word P word here there = go (bytes_eq word dash) refl where
+  go : (b : Bool) → bytes_eq word dash ≡ b → P
+  go true e = here ((bytes_eq-Decides word dash).0 e)
+  go false e = there (λ k. let t = (bytes_eq-Decides word dash).1 k in cc)
+
+-- what a run of `solve` comes to, for the words that ask for it
+pub run_caused : (words : List (List ℕ)) (o : Outside) (job : JobView) (word : List ℕ) (kb kn : ℕ) (before now : Option (List ℕ)) (result : Status)
+    → AskToSolve words job word → IsSolveRun job.settings word o kb kn before now result → HasCause words o result
+run_caused words o job word kb kn before now result a (inl m) = subst (λ r. HasCause words o r) (sym m.0) (job, a.0.said)
+run_caused words o job word kb kn before now result a (inr h) = caused words o kb kn before now h.0 h.1 result (decided words o job word h.0 h.1 a h.2) h.3
+
+pub run_written : (words : List (List ℕ)) (o : Outside) (job : JobView) (word : List ℕ) (kb kn : ℕ) (before now : Option (List ℕ)) (result : Status)
+    → AskToSolve words job word → IsSolveRun job.settings word o kb kn before now result → IsWritten words o before now result
+run_written words o job word kb kn before now result a (inl m) = subst (λ r. IsWritten words o before now r) (sym m.0) m.1
+run_written words o job word kb kn before now result a (inr h) = written words o kb kn before now h.0 h.1 result (decided words o job word h.0 h.1 a h.2) h.3
+
+pub run_winner : (words : List (List ℕ)) (o : Outside) (job : JobView) (word : List ℕ) (kb kn : ℕ) (before now : Option (List ℕ)) (result : Status)
+    → AskToSolve words job word → IsSolveRun job.settings word o kb kn before now result → result ≡ Done → WritesWinner words o before now
+run_winner words o job word kb kn before now result a (inl m) e = absurd cc
+run_winner words o job word kb kn before now result a (inr h) e = writes_winner words o kb kn before now h.0 h.1 result (decided words o job word h.0 h.1 a h.2) h.3 e
+
+pub run_move : (words : List (List ℕ)) (o : Outside) (job : JobView) (word : List ℕ) (kb kn : ℕ) (before now : Option (List ℕ)) (result : Status)
+    → AskToSolve words job word → IsSolveRun job.settings word o kb kn before now result → result ≡ Done → WritesMove words o before now
+run_move words o job word kb kn before now result a (inl m) e = absurd cc
+run_move words o job word kb kn before now result a (inr h) e = writes_move words o kb kn before now h.0 h.1 result (decided words o job word h.0 h.1 a h.2) h.3 e
+
+-- a command other than `solve` isn't built
+pub unbuilt_is : (c : Command) → ((word : Bor (List ℕ)) → c ≡ command.Solve word → ⊥) → IsUnbuilt (task_of c)
+unbuilt_is (command.Solve word) other = absurd (other word refl)
+unbuilt_is (command.Safe word) other = tt
+unbuilt_is (command.Values word) other = tt
+unbuilt_is (command.Play word) other = tt
+unbuilt_is (command.Trial n) other = tt
+
+pub unbuilt_not_done : (u : Unbuilt) (text : List ℕ) (kb kn : ℕ) (before now : Option (List ℕ)) (result : Status) → IsFinished (status.Unbuilt u) text kb kn before now result → ¬ (result ≡ Done)
+unbuilt_not_done u text kb kn before now result (inl w) e = let k : Path Status (status.Unbuilt u) Done = sym w.0 ∙ e in cc
+unbuilt_not_done u text kb kn before now result (inr f) e = let k : Path Status CannotWrite Done = sym f.0 ∙ e in cc
+
+pub unbuilt_rose : (u : Unbuilt) (text : List ℕ) (kb kn : ℕ) (before now : Option (List ℕ)) (result : Status) → IsFinished (status.Unbuilt u) text kb kn before now result → result ≡ CannotWrite → Rose kb kn
+unbuilt_rose u text kb kn before now result (inl w) e = let k : Path Status (status.Unbuilt u) CannotWrite = sym w.0 ∙ e in absurd cc
+unbuilt_rose u text kb kn before now result (inr f) e = f.1

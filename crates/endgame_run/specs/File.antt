@@ -1,9 +1,12 @@
--- A file that is read to its end.
-use Rattle.std.specs.Prelude.{◌≡◌, ◌<◌, ◌≤◌, ℕ, List, length, IfSome, Option}
+-- A file that is read to its end: from the source where its word is `-`, and else from the shelf.
+use Rattle.std.specs.Prelude.{◌≡◌, ◌<◌, ◌≤◌, ℕ, List, length, codes, IfSome, Option, Some, if◌then◌else◌}
+use Rattle.std.specs.Option.{option_map}
+use Rattle.std.specs.Str.{bytes_eq}
 use Rattle.std.specs.Io.KnownBytes.{prepend_known}
+use Rattle.desk_io.specs.Files.{Files, told_file}
 use Rattle.desk_io.specs.Outside.{ended}
 
--- the most bytes that a file may have: 1,048,576
+-- at most 1,048,576 bytes
 abbrev pub IsShort : List ℕ → Type 0
 IsShort file = length file ≤ 1048576
 
@@ -13,10 +16,45 @@ pub record IsWhole (before now : Option (List ℕ)) (file : List ℕ) : Type 0 w
   pub end : now ≡ ended before
   pub short : IsShort file
 
--- a told text is longer than a file may be
-abbrev pub IsTooLong : Option (List ℕ) → Type 0
-IsTooLong told = IfSome told (λ bytes. 1048576 < length bytes)
+-- the word of the source
+abbrev pub dash : List ℕ
+dash = codes "-"
 
--- the bytes are the file, where that is told
-abbrev pub IsTold : Option (List ℕ) → List ℕ → Type 0
-IsTold told file = IfSome told (λ bytes. bytes ≡ file)
+-- what the two objects tell and how often each has failed, before a run and now
+pub record Outside : Type 0 where
+  pub files : Option Files
+  pub left : Option (List ℕ)
+  pub shelf_before : ℕ
+  pub shelf_now : ℕ
+  pub lines_before : ℕ
+  pub lines_now : ℕ
+
+abbrev pub outside : Option Files → Option (List ℕ) → ℕ → ℕ → ℕ → ℕ → Outside
+outside files left shelf_before shelf_now lines_before lines_now = record {
+  files = files;
+  left = left;
+  shelf_before = shelf_before;
+  shelf_now = shelf_now;
+  lines_before = lines_before;
+  lines_now = lines_now;
+}
+
+-- what a source tells of the file that it has left
+abbrev pub told_source : Option (List ℕ) → Option (Option (List ℕ))
+told_source left = option_map (λ bytes. Some bytes) left
+
+-- what is told of the file of a word: nothing, that there is none, or its bytes
+abbrev pub told_of : Option Files → Option (List ℕ) → List ℕ → Option (Option (List ℕ))
+told_of files left word = if bytes_eq word dash then told_source left else told_file files word
+
+-- the count of the object that holds the file of a word
+abbrev pub count_of : ℕ → ℕ → List ℕ → ℕ
+count_of shelf lines word = if bytes_eq word dash then lines else shelf
+
+-- the bytes are the file, where that is told; of a file that is told to be absent none are
+abbrev pub IsTold : Option (Option (List ℕ)) → List ℕ → Type 0
+IsTold told file = IfSome told (λ t. t ≡ Some file)
+
+-- the file is told to be longer than a file may be
+abbrev pub IsTooLong : Option (Option (List ℕ)) → Type 0
+IsTooLong told = IfSome told (λ t. (file : List ℕ) × (t ≡ Some file) × (1048576 < length file))

@@ -1,11 +1,8 @@
-pub mod Words
 pub mod Codes
-pub mod Form
-pub mod Reading
-pub mod Viewed
 pub mod Closed
 pub mod Solution
 pub mod Texts
 pub mod File
+pub mod Position
 pub mod Verdict
 pub mod Top

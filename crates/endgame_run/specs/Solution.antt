@@ -1,24 +1,18 @@
--- The solution of a board: the winner and the first winning move of its opening.
-use Rattle.std.specs.Prelude.{◌≡◌, ◌⊎◌, pos, Option}
+-- The solution of a position: the winner and the first winning move of its opening.
+use Rattle.std.specs.Prelude.{Option}
 use Rattle.go_grid.specs.declared.grid.Colour.{Colour}
-use Rattle.go_grid.specs.declared.grid.Colour.TheVariants.{Black}
-use Rattle.go_grid.specs.Grid.{Grid, other}
+use Rattle.sgf_go.specs.declared.settings.Setup.{Setup}
 use Rattle.whole_rules.specs.declared.states.Move.{Move}
-use Rattle.whole_rules.specs.WholeGame.{State, Leads}
-use Rattle.whole_rules.specs.PlainRecursion.{MoverWins, MoverLoses}
+use Rattle.whole_rules.specs.WholeGame.{State}
 use Rattle.whole_rules.specs.Opening.{IsOpening}
-use Rattle.whole_rules.specs.FirstWinningMove.{IsFirstWinning}
+use Rattle.whole_rules.specs.FirstWinningMove.{IsFirstWinning, IsWinner}
 
--- the winner of a state: who moves where the mover wins, the other where the mover loses
-abbrev pub IsWinner : State → Colour → Type 0
-IsWinner s c = ((c ≡ s.side) × MoverWins State Leads s) ⊎ ((c ≡ other s.side) × MoverLoses State Leads s)
+-- the state in which a position opens
+abbrev pub IsOpeningOf : Setup → State → Type 0
+IsOpeningOf setup s = IsOpening setup.board setup.black_prisoners setup.white_prisoners setup.komi_halves setup.side s
 
--- the state in which a file's board opens: no prisoners, no komi, Black to move
-abbrev pub IsOpeningOf : Grid → State → Type 0
-IsOpeningOf g s = IsOpening g 0 0 (pos 0) Black s
-
--- The state opens the board, the colour is its winner, and the move is its first winning one, if there is one.
-pub record IsSolution (g : Grid) (s : State) (winner : Colour) (move : Option Move) : Type 0 where
-  pub opening : IsOpeningOf g s
+-- The state opens the position, the colour is its winner, and the move is its first winning one, if there is one.
+pub record IsSolution (setup : Setup) (s : State) (winner : Colour) (move : Option Move) : Type 0 where
+  pub opening : IsOpeningOf setup s
   pub wins : IsWinner s winner
   pub first : IsFirstWinning s move

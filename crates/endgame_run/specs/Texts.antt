@@ -57,8 +57,12 @@ solve_text s winner move = state_lines s ++ (codes "regions 0\npositions 0\n" ++
 unfoldable pub point_line : List ℕ → ℕ → ℕ → List ℕ
 point_line label columns p = label ++ (codes " " ++ (point_name columns p ++ codes "\n"))
 
-abbrev pub no_liberty_line : ℕ → ℕ → List ℕ
-no_liberty_line columns p = point_line (codes "fault file no liberty at") columns p
+-- what is wrong with a file, alone and with a number behind it
+unfoldable pub fault_line : List ℕ → List ℕ
+fault_line what = codes "fault file " ++ (what ++ codes "\n")
+
+unfoldable pub fault_line_at : List ℕ → ℕ → List ℕ
+fault_line_at what n = codes "fault file " ++ (what ++ (codes " " ++ (decimal n ++ codes "\n")))
 
 abbrev pub contested_line : ℕ → ℕ → List ℕ
 contested_line columns p = point_line (codes "fault unbuilt contested") columns p

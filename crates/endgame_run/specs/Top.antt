@@ -1,34 +1,61 @@
 -- What the parts of the top call answer.
-use Rattle.std.specs.Prelude.{◌≡◌, ◌<◌, ◌⊎◌, take, ℕ, List, Bool, Option, Some, None}
+use Rattle.std.specs.Prelude.{◌≡◌, ◌<◌, ◌≤◌, ◌⊎◌, take, ℕ, List, Bool, Option, Some, None, Ok, Err, IfSome}
 use Rattle.std.specs.Io.KnownBytes.{append_known}
 use Rattle.desk_io.specs.Outside.{Rose}
 use Rattle.go_grid.specs.declared.grid.Colour.{Colour}
-use Rattle.go_grid.specs.Grid.{Grid}
+use Rattle.sgf_go.specs.declared.settings.Setup.{Setup}
 use Rattle.go_grid.specs.Marks.{IsMarked}
 use Rattle.benson_life.specs.Region.{IsContested}
 use Rattle.whole_rules.specs.declared.states.Move.{Move}
 use Rattle.whole_rules.specs.WholeGame.{State}
 use Rattle.endgame_run.specs.declared.status.Status.{Status}
-use Rattle.endgame_run.specs.declared.status.Status.TheVariants.{CannotWrite, Done, Unbuilt}
+use Rattle.endgame_run.specs.declared.status.Status.TheVariants.{BadFile, CannotWrite, Done, Memory, Unbuilt}
 use Rattle.endgame_run.specs.declared.status.Unbuilt.TheVariants.{Contested}
+use Rattle.sgf_go.specs.declared.settings.Settings.{Settings}
+use Rattle.sgf_go.specs.Komi.{IsInRange}
+use Rattle.sgf_go.specs.Setup.{Gives}
+use Rattle.sgf_tree.specs.Grammar.{PropertyText}
+use Rattle.endgame_run.specs.declared.status.FileFault.TheVariants as fault
+use Rattle.endgame_run.specs.Position.{IsSetupFaultText}
 use Rattle.endgame_run.specs.Solution.{IsSolution}
 use Rattle.endgame_run.specs.Texts.{solve_text, contested_line}
-use Rattle.endgame_run.specs.Verdict.{IsFirstContested}
+use Rattle.endgame_run.specs.Verdict.{IsAnswer, IsFirstContested}
+use Rattle.endgame_run.specs.File.{Outside, told_of, count_of}
 
 -- the lowest marked point below `n`, if there is one
 abbrev pub IsFirstMarked : List Bool → ℕ → Option ℕ → Type 0
 IsFirstMarked marks n (Some p) = (p < n) × IsMarked marks p × ((q : ℕ) → q < p → ¬ IsMarked marks q)
 IsFirstMarked marks n None = (q : ℕ) → q < n → ¬ IsMarked marks q
 
--- the status of a settled board, and its text
-abbrev pub IsSolved : Grid → Status → List ℕ → Type 0
-IsSolved g (Unbuilt (Contested p)) text = IsFirstContested g p × (text ≡ contested_line g.columns p)
-IsSolved g Done text = ((p : ℕ) → ¬ IsContested g p)
-    × ((s : State) × (winner : Colour) × (move : Option Move) × IsSolution g s winner move × (text ≡ solve_text s winner move))
-IsSolved g _ text = ⊥
+-- the status of a position with a settled board, and its text
+abbrev pub IsSolved : Setup → Status → List ℕ → Type 0
+IsSolved setup (Unbuilt (Contested p)) text = IsFirstContested setup.board p × (text ≡ contested_line setup.board.columns p)
+IsSolved setup Done text = ((p : ℕ) → ¬ IsContested setup.board p)
+    × ((s : State) × (winner : Colour) × (move : Option Move) × IsSolution setup s winner move × (text ≡ solve_text s winner move))
+IsSolved setup _ text = ⊥
 
 -- a text written whole, with its status, or a front part of it, as a write failed
 abbrev pub IsFinished : Status → List ℕ → ℕ → ℕ → Option (List ℕ) → Option (List ℕ) → Status → Type 0
 IsFinished status text faults_before faults_now before now result =
     ((result ≡ status) × (now ≡ append_known before text))
     ⊎ ((result ≡ CannotWrite) × Rose faults_before faults_now × ((n : ℕ) × (now ≡ append_known before (take n text))))
+
+-- the ranges of settings: prisoners in points, a komi in half-points
+pub record HasRanges (settings : Settings) : Type 0 where
+  pub black : settings.black_prisoners ≤ 999999
+  pub white : settings.white_prisoners ≤ 999999
+  pub komi : IfSome settings.komi IsInRange
+
+-- the status of a main line under settings, and its text
+abbrev pub IsLineAnswer : List (List PropertyText) → Settings → Status → List ℕ → Type 0
+IsLineAnswer l settings (BadFile (fault.Setup f)) text = Gives settings l (Err f) × IsSetupFaultText l f text
+IsLineAnswer l settings (BadFile (fault.Tree f)) text = ⊥
+IsLineAnswer l settings s text = (setup : Setup) × Gives settings l (Ok setup) × IsSolved setup s text
+
+-- what a run of `solve` on the file of a word comes to: nothing for want of memory, and else an answer that was written
+abbrev pub IsSolveRun : Settings → List ℕ → Outside → ℕ → ℕ → Option (List ℕ) → Option (List ℕ) → Status → Type 0
+IsSolveRun settings word o kb kn before now result =
+    ((result ≡ Memory) × (now ≡ before))
+    ⊎ ((s : Status) × (text : List ℕ)
+    × IsAnswer (told_of o.files o.left word) (count_of o.shelf_before o.lines_before word) (count_of o.shelf_now o.lines_now word) settings s text
+    × IsFinished s text kb kn before now result)

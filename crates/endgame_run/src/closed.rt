@@ -1,9 +1,8 @@
 //! Boards without a contested point, on which purses and the token alone decide.
 
 ghost use Rattle.std.specs.Prelude.{◌≡◌, ◌↔◌, ◌≤◌, ◌+◌, true};
-ghost use Rattle.whole_rules.specs.FirstWinningMove.{IsFirstWinning};
+ghost use Rattle.whole_rules.specs.FirstWinningMove.{IsFirstWinning, IsWinner};
 ghost use Rattle.endgame_run.specs.Closed.{IsAhead, IsAheadByAUnit, IsClosed, bonus};
-ghost use Rattle.endgame_run.specs.Solution.{IsWinner};
 
 use go_grid::Colour;
 use whole_rules::{Move, Token, Whole};

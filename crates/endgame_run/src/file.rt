@@ -1,18 +1,19 @@
-//! A file that is read from a source to its end.
+//! A file that is read to its end.
 
-ghost use Rattle.std.specs.Prelude.{◌≡◌, IfOk, IsErrOf};
-ghost use Rattle.desk_io.specs.Outside.{Rose};
-ghost use Rattle.endgame_run.specs.File.{IsWhole, IsTooLong};
+ghost use Rattle.std.specs.Prelude.{◌≡◌, ◌≢◌, ◌⊎◌, Some, None, IfOk, IsErrOf};
+ghost use Rattle.desk_io.specs.Files.{told_file};
+ghost use Rattle.desk_io.specs.Outside.{Rose, ended};
+ghost use Rattle.endgame_run.specs.File.{IsShort, IsTold, IsTooLong, IsWhole, count_of, dash, told_of, told_source};
 ghost use Rattle.endgame_run.specs.declared.file.FileError.TheVariants.{CannotRead, Memory};
 
-use desk_io::{Failed, Source};
+use desk_io::{Failed, LoadError, Loaded, Shelf, Source};
 use std::alloc::{AllocError, Global};
 use thiserror::Error;
 
 /// The most bytes that a file may have.
 const MAX_LEN: usize = 1_048_576;
 
-/// Why a file wasn't read to its end.
+/// Why a file wasn't read to its end. `CannotRead` is also that of a file that the shelf tells to be absent.
 #[derive(Debug, Drop, Error)]
 pub(crate) enum FileError {
     #[error("cannot read")]
@@ -40,9 +41,9 @@ impl From<AllocError> for FileError {
 }
 
 /// Reads all that a source has left, of at most 1,048,576 bytes.
-pub(crate) fn read_file<S: Source>(alloc: Global, lines: &mut S) -> Result<Vec<u8>, FileError>
+fn read_source<S: Source>(alloc: Global, lines: &mut S) -> Result<Vec<u8>, FileError>
     ensures whole { IfOk result (λ file. IsWhole (S.left lines.old) (S.left lines.new) file.items) }
-    ensures too_long { IsErrOf result FileError.TooLong → IsTooLong (S.left lines.old) }
+    ensures too_long { IsErrOf result FileError.TooLong → IsTooLong (told_source (S.left lines.old)) }
     ensures cannot_read { IsErrOf result FileError.CannotRead
         → Rose (S.faults lines.old) (S.faults lines.new) }
 {
@@ -57,4 +58,43 @@ pub(crate) fn read_file<S: Source>(alloc: Global, lines: &mut S) -> Result<Vec<u
         file.extend_from_slice(&piece[..count])?;
     }
     Err(FileError::TooLong)
+}
+
+/// Loads a file of a shelf, of at most 1,048,576 bytes.
+fn load_file<H: Shelf>(alloc: Global, shelf: &mut H, name: &str) -> Result<Vec<u8>, FileError>
+    ensures short { IfOk result (λ file. IsShort file.items) }
+    ensures told { IfOk result (λ file. IsTold (told_file (H.files shelf.old) name.now) file.items) }
+    ensures too_long { IsErrOf result FileError.TooLong → IsTooLong (told_file (H.files shelf.old) name.now) }
+    ensures cannot_read { IsErrOf result FileError.CannotRead → (told_file (H.files shelf.old) name.now ≡ Some None)
+        ⊎ Rose (H.faults shelf.old) (H.faults shelf.new) }
+{
+    let mut file = Vec::new(alloc);
+    match shelf.load(name, MAX_LEN, &mut file) {
+        Ok(Loaded::Whole) => Ok(file),
+        Ok(Loaded::Longer) => Err(FileError::TooLong),
+        Err(LoadError::Absent | LoadError::Failed) => Err(FileError::CannotRead),
+        Err(LoadError::Memory(cause)) => Err(FileError::Memory(cause)),
+    }
+}
+
+/// Reads the file of a word: the source where it is `-`, and else the shelf.
+pub(crate) fn read_file<H: Shelf, S: Source>(
+    alloc: Global,
+    shelf: &mut H,
+    lines: &mut S,
+    word: &str,
+) -> Result<Vec<u8>, FileError>
+    ensures short { IfOk result (λ file. IsShort file.items) }
+    ensures told { IfOk result (λ file. IsTold (told_of (H.files shelf.old) (S.left lines.old) word.now) file.items) }
+    ensures too_long { IsErrOf result FileError.TooLong → IsTooLong (told_of (H.files shelf.old) (S.left lines.old) word.now) }
+    ensures cannot_read { IsErrOf result FileError.CannotRead → (told_of (H.files shelf.old) (S.left lines.old) word.now ≡ Some None)
+        ⊎ Rose (count_of (H.faults shelf.old) (S.faults lines.old) word.now) (count_of (H.faults shelf.new) (S.faults lines.new) word.now) }
+    ensures at_end { IfOk result (λ file. word.now ≡ dash → S.left lines.new ≡ ended (S.left lines.old)) }
+    ensures lines_unread { word.now ≢ dash → lines.new ≡ lines.old }
+    ensures shelf_unread { word.now ≡ dash → shelf.new ≡ shelf.old }
+{
+    if word == "-" {
+        return read_source(alloc, lines);
+    }
+    load_file(alloc, shelf, word)
 }

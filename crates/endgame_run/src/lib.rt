@@ -1,9 +1,8 @@
-//! The top call: words, a source and a sink go in, and a status comes out.
+//! The top call: words, a shelf, a source and a sink go in, and a status comes out.
 #![tactic(auto)]
 
 mod closed;
 mod file;
-mod form;
 mod report;
 mod status;
 mod top;

@@ -86,6 +86,7 @@ fn file_shelf_loads(rt: HostRuntime) -> Result<(), Fail> {
         assert_eq!(rt; shelf.load(name, limit, &mut out), want);
     }
     assert_eq!(rt; out.as_slice(), b"abcab".as_slice());
+    std::fs::remove_file(&rt, "a")?;
     Ok(())
 }
 

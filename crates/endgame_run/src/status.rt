@@ -3,19 +3,21 @@
 ghost use Rattle.std.specs.Prelude.{◌≡◌};
 
 use go_grid::Point;
+use sgf_go::SetupFault;
+use sgf_tree::TreeFault;
 
-/// Why a file of the right form has no position.
+/// What is wrong with a file: its tree, or the position of its main line.
 #[derive(Clone, Copy, Debug, PartialEq, Eq)]
 pub enum FileFault {
-    /// A chain has no liberty; the lowest stone of such a chain.
-    NoLiberty(Point),
+    Tree(TreeFault),
+    Setup(SetupFault),
 }
 
 /// What isn't built yet.
 #[derive(Clone, Copy, Debug, PartialEq, Eq)]
 pub enum Unbuilt {
-    /// Files of other forms.
-    Form,
+    /// Commands other than `solve`.
+    Command,
     /// Boards with contested points; the lowest of them.
     Contested(Point),
 }
@@ -25,9 +27,9 @@ pub enum Unbuilt {
 pub enum Status {
     /// The text of the command was written.
     Done,
-    /// The words are none of the command line's grammar.
+    /// The words are outside the grammar of the command line.
     Usage,
-    /// A read failed.
+    /// A read or a load failed, or the shelf tells that it has no such file.
     CannotRead,
     /// A write failed.
     CannotWrite,
@@ -37,7 +39,7 @@ pub enum Status {
     Memory,
     /// The file has more than 1,048,576 bytes.
     TooLong,
-    /// The file is one that isn't served yet.
+    /// What was asked isn't built yet.
     Unbuilt(Unbuilt),
 }
 

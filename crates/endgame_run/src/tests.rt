@@ -1,40 +1,37 @@
-//! Runs over sources and sinks in memory.
+//! Runs over shelves, sources and sinks in memory.
+
+ghost use Rattle.std.specs.Prelude.{◌≡◌, ◌^◌, ◌<◌, true};
 
 use crate::{FileFault, Status, Unbuilt, run};
-use desk_io::{MemorySink, MemorySource};
-use go_grid::Point;
+use desk_io::{MemoryShelf, MemorySink, MemorySource};
+use go_grid::{Colour, Point};
+use sgf_go::{SetupFault, position};
+use sgf_tree::TreeFault;
 use std::alloc::{AllocError, Global};
 use std::test::Fail;
-
-#[derive(Drop)]
-struct Case {
-    words: &'static [&'static str],
-    file: &'static [u8],
-    piece: usize,
-    failing_read: u64,
-    room: usize,
-    failing_write: u64,
-    status: Status,
-    text: &'static str,
-}
-
-/// The number of no call.
-const NEVER: u64 = 99;
+use whole_rules::{Whole, plain_winner};
 
 /// `.X.XO.O.` / `XXXXOOOO`, black to move in a tie.
-const TIE: Case = Case {
-    words: &["solve", "-"],
-    file: b"(;SZ[8:2]AB[ba][da][ab:db]AW[ea][ga][eb:hb])",
-    piece: 100,
-    failing_read: NEVER,
-    room: 200,
-    failing_write: NEVER,
-    status: Status::Done,
-    text: TIE_TEXT,
-};
+const TIE: &[u8] = b"(;SZ[8:2]AB[ba][da][ab:db]AW[ea][ga][eb:hb])";
+
+/// `.OX.XO.O.` / `XXXXXOOOO`: a captive counts twice.
+const CAPTIVE: &[u8] = b"(;SZ[9:2]AB[ca][ea][ab:eb]AW[ba][fa][ha][fb:ib])";
+
+/// The tie after a move of Black, with a komi of half a point, in a long spelling of its properties.
+const SAVED: &[u8] =
+    b"Saved game (copy)\n(;FF[4]GaMe[1]SiZe[8:2]KM[0.5]C[a \\] b]AB[ba][ab:db]AW[ea][ga][eb:hb](;Black[da]C[an eye])(;B[aa]))";
 
 const TIE_TEXT: &str =
     "side black\npurse black 2\npurse white 2\nhalf none\nregions 0\npositions 0\nwinner white\nmove none\n";
+
+const WHITE_TIE_TEXT: &str =
+    "side white\npurse black 2\npurse white 2\nhalf none\nregions 0\npositions 0\nwinner black\nmove none\n";
+
+const HALF_TEXT: &str =
+    "side white\npurse black 2\npurse white 2\nhalf white\nregions 0\npositions 0\nwinner white\nmove half\n";
+
+const PRISONER_TEXT: &str =
+    "side black\npurse black 3\npurse white 2\nhalf none\nregions 0\npositions 0\nwinner black\nmove spend\n";
 
 const CAPTIVE_TEXT: &str =
     "side black\npurse black 4\npurse white 2\nhalf none\nregions 0\npositions 0\nwinner black\nmove spend\n";
@@ -42,160 +39,264 @@ const CAPTIVE_TEXT: &str =
 const WIDE_TEXT: &str =
     "side black\npurse black 24\npurse white 0\nhalf none\nregions 0\npositions 0\nwinner black\nmove spend\n";
 
-const FORM: Status = Status::Unbuilt(Unbuilt::Form);
+const COMMAND: Status = Status::Unbuilt(Unbuilt::Command);
 
-/// A run on this file, with this outcome.
-const fn on(file: &'static [u8], status: Status, text: &'static str) -> Case {
-    Case {
-        file,
-        status,
-        text,
-        ..TIE
-    }
+/// The calls that fail.
+#[derive(Clone, Copy)]
+struct Failing {
+    load: u64,
+    read: u64,
+    write: u64,
 }
 
-fn outcome(alloc: Global, case: &Case) -> Result<(Status, Vec<u8>), AllocError> {
-    let failing_reads = vec![in alloc; case.failing_read]?;
-    let failing_writes = vec![in alloc; case.failing_write]?;
-    let mut source = MemorySource::new(case.file.to_vec(alloc)?, case.piece.max(1), failing_reads);
-    let mut sink = MemorySink::with_room(alloc, case.room, failing_writes)?;
-    let status = run(alloc, case.words, &mut source, &mut sink);
-    Ok((status, sink.written().to_vec(alloc)?))
+/// The number of no call.
+const NEVER: u64 = u64::MAX;
+
+const NOTHING_FAILS: Failing = Failing {
+    load: NEVER,
+    read: NEVER,
+    write: NEVER,
+};
+
+/// A shelf with the files of the tests.
+fn shelf(alloc: Global, failing: u64) -> Result<MemoryShelf, AllocError> {
+    let mut shelf = MemoryShelf::new(alloc);
+    shelf.add("a", TIE.to_vec(alloc)?)?;
+    shelf.add("g", CAPTIVE.to_vec(alloc)?)?;
+    shelf.add("saved", SAVED.to_vec(alloc)?)?;
+    shelf.fail_at(failing)?;
+    Ok(shelf)
+}
+
+/// What a run ends with and writes, with this file in the source and room in the sink.
+fn outcome(
+    alloc: Global,
+    words: &[&str],
+    file: &[u8],
+    room: usize,
+    failing: Failing,
+) -> Result<(Status, Vec<u8>), AllocError> {
+    let mut shelf = shelf(alloc, failing.load)?;
+    let mut lines = MemorySource::new(file.to_vec(alloc)?, 7, vec![in alloc; failing.read]?);
+    let mut out = MemorySink::with_room(alloc, room, vec![in alloc; failing.write]?)?;
+    let status = run(alloc, words, &mut shelf, &mut lines, &mut out);
+    Ok((status, out.written().to_vec(alloc)?))
 }
 
 #[test]
-fn solves_closed_boards(rt: HostRuntime) -> Result<(), Fail> {
+fn solves_files_of_the_shelf(rt: HostRuntime) -> Result<(), Fail> {
     let alloc = rt.alloc();
-    let cases = [
-        TIE,
-        // `.OX.XO.O.` / `XXXXXOOOO`: a captive counts twice.
-        on(
-            b"(;SZ[9:2]AB[ca][ea][ab:eb]AW[ba][fa][ha][fb:ib])",
+    let rows: [(&[&str], &str); 7] = [
+        (&["solve", "a"], TIE_TEXT),
+        (&["solve", "a", "--turn", "white"], WHITE_TIE_TEXT),
+        (
+            &["solve", "a", "--turn", "white", "--komi", "0.5"],
+            HALF_TEXT,
+        ),
+        (
+            &["solve", "a", "--komi", "0", "--black-prisoners", "1"],
+            PRISONER_TEXT,
+        ),
+        (&["solve", "g"], CAPTIVE_TEXT),
+        (&["solve", "saved"], HALF_TEXT),
+        (
+            &["solve", "saved", "--komi", "0", "--turn", "black"],
+            TIE_TEXT,
+        ),
+    ];
+    for (words, text) in rows {
+        let (status, written) = outcome(alloc, words, b"", 200, NOTHING_FAILS)?;
+        assert_eq!(rt; written.as_slice(), text.as_bytes());
+        assert_eq!(rt; status, Status::Done);
+    }
+    Ok(())
+}
+
+#[test]
+fn answers_files_of_the_source(rt: HostRuntime) -> Result<(), Fail> {
+    let alloc = rt.alloc();
+    let tree = |fault| Status::BadFile(FileFault::Tree(fault));
+    let setup = |fault| Status::BadFile(FileFault::Setup(fault));
+    let contested = |number| Status::Unbuilt(Unbuilt::Contested(Point(number)));
+    let rows: [(&[u8], Status, &str); 21] = [
+        (TIE, Status::Done, TIE_TEXT),
+        (
+            b"x(y(;SZ[8:2]AB[ba][da][ab:db]AW[ea][ga][eb:hb])",
             Status::Done,
-            CAPTIVE_TEXT,
+            TIE_TEXT,
         ),
-        // Later settings win over earlier ones, and items may repeat points.
-        on(
-            b"(;SZ[8:2]AW[aa:hb]AB[ba][da][da][ab:db]AW[ea][ga][eb:hb])",
-            Status::BadFile(FileFault::NoLiberty(Point(0))),
-            "fault file no liberty at aa\n",
-        ),
-        on(
-            b"(;SZ[8:2]AB[ea:hb]AB[ba][da][ab:db]AW[ea][fa:ga][ha][eb:hb])",
-            Status::BadFile(FileFault::NoLiberty(Point(4))),
-            "fault file no liberty at ea\n",
-        ),
-        // `.X.X.O.O.` / `XXXXXOOOO`
-        on(
-            b"(;SZ[9:2]AB[ba][da][ab:eb]AW[fa][ha][fb:ib])",
-            Status::Unbuilt(Unbuilt::Contested(Point(4))),
-            "fault unbuilt contested ea\n",
-        ),
-        on(
-            b"(;SZ[1:1])",
-            Status::Unbuilt(Unbuilt::Contested(Point(0))),
+        (
+            b"(;SZ[01]AB[])",
+            contested(0),
             "fault unbuilt contested aa\n",
         ),
-        on(b"(;SZ[25:25]AB[aa:yx][by])", Status::Done, WIDE_TEXT),
-        on(
+        (b"(;SZ[25:25]AB[aa:yx][by])", Status::Done, WIDE_TEXT),
+        (
+            b"(;SZ[9:2]AB[ba][da][ab:eb]AW[fa][ha][fb:ib])",
+            contested(4),
+            "fault unbuilt contested ea\n",
+        ),
+        (b"(;SZ[1])", contested(0), "fault unbuilt contested aa\n"),
+        (b"", tree(TreeFault::NoTree), "fault file no tree\n"),
+        (
+            b"(;SZ[8:2]AB[ba",
+            tree(TreeFault::CutShort),
+            "fault file cut short\n",
+        ),
+        (
+            b"(;SZ[9]]",
+            tree(TreeFault::BadByte(7)),
+            "fault file bad byte 7\n",
+        ),
+        (
+            b"(;GM[2])",
+            setup(SetupFault::WrongGame),
+            "fault file wrong game\n",
+        ),
+        (
+            b"(;SZ[26])",
+            setup(SetupFault::BadSize),
+            "fault file bad size\n",
+        ),
+        (
+            b"(;KM[6.75])",
+            setup(SetupFault::BadKomi),
+            "fault file bad komi\n",
+        ),
+        (
+            b"(;SZ[3]AB[da])",
+            setup(SetupFault::BadPoint(0)),
+            "fault file bad point at node 0\n",
+        ),
+        (
+            b"(;PL[x])",
+            setup(SetupFault::BadSide),
+            "fault file bad side\n",
+        ),
+        (
+            b"(;SZ[3];B[aa];W[aa])",
+            setup(SetupFault::Occupied(2)),
+            "fault file occupied at node 2\n",
+        ),
+        (
+            b"(;SZ[2:2]AB[ba][ab];W[aa])",
+            setup(SetupFault::Suicide(1)),
+            "fault file suicide at node 1\n",
+        ),
+        (
             b"(;SZ[2:1]AB[aa]AW[ba])",
-            Status::BadFile(FileFault::NoLiberty(Point(0))),
+            setup(SetupFault::NoLiberty(Point(0))),
             "fault file no liberty at aa\n",
         ),
+        (
+            b"(;SZ[8:2]AW[aa:hb]AB[ba][da][da][ab:db]AW[ea][ga][eb:hb])",
+            setup(SetupFault::NoLiberty(Point(0))),
+            "fault file no liberty at aa\n",
+        ),
+        (
+            b"(;SZ[8:2]AB[ba][da][ab:db]AW[ea][ga][eb:hb]PL[W])",
+            Status::Done,
+            WHITE_TIE_TEXT,
+        ),
+        (
+            b"(;SZ[8:2]AB[ba][da][ab:db]AW[ea][ga][eb:hb];B[];W[tt];B[])",
+            Status::Done,
+            WHITE_TIE_TEXT,
+        ),
+        (
+            b"(;SZ[8:2]KM[0.5]PL[W]AB[ba][da][ab:db]AW[ea][ga][eb:hb])",
+            Status::Done,
+            HALF_TEXT,
+        ),
     ];
-    for case in &cases {
-        let (status, text) = outcome(alloc, case)?;
-        assert_eq!(rt; text.as_slice(), case.text.as_bytes());
-        assert_eq!(rt; status, case.status);
+    for (file, status, text) in rows {
+        let (got, written) = outcome(alloc, &["solve", "-"], file, 200, NOTHING_FAILS)?;
+        assert_eq!(rt; written.as_slice(), text.as_bytes());
+        assert_eq!(rt; got, status);
     }
     Ok(())
 }
 
 #[test]
-fn refuses_other_forms(rt: HostRuntime) -> Result<(), Fail> {
+fn answers_words_by_their_grammar(rt: HostRuntime) -> Result<(), Fail> {
     let alloc = rt.alloc();
-    let files: [&[u8]; 12] = [
-        b"",
-        b"(;SZ[8:2]",
-        b"(;SZ[8:2]AB[ba][da][ab:db]AW[ea][ga][eb:hb]PL[W])",
-        b"(;SZ[08:2])",
-        b"(;SZ[26:2])",
-        b"(;SZ[9])",
-        b"(;SZ[8:2]AB)",
-        b"(;SZ[8:2][aa])",
-        b"(;SZ[8:2]AB[ia])",
-        b"(;SZ[8:2]AB[bb:ba])",
-        b"(;SZ[8:2]AB[ba]) ",
-        b"(;SZ[8:2]AE[ba])",
+    let rows: [(&[&str], Status, &str); 10] = [
+        (&[], Status::Usage, "fault usage\n"),
+        (&["solve"], Status::Usage, "fault usage\n"),
+        (
+            &["solve", "a", "--komi", "0.25"],
+            Status::Usage,
+            "fault usage\n",
+        ),
+        (
+            &["solve", "a", "--turn", "black", "--turn", "white"],
+            Status::Usage,
+            "fault usage\n",
+        ),
+        (&["play", "-"], Status::Usage, "fault usage\n"),
+        (&["mend", "a"], Status::Usage, "fault usage\n"),
+        (&["values", "a"], COMMAND, "fault unbuilt command\n"),
+        (&["safe", "a"], COMMAND, "fault unbuilt command\n"),
+        (&["trial", "7"], COMMAND, "fault unbuilt command\n"),
+        (
+            &["solve", "nowhere"],
+            Status::CannotRead,
+            "fault cannot read\n",
+        ),
     ];
-    for file in files {
-        let (status, text) = outcome(alloc, &on(file, FORM, ""))?;
-        assert_eq!(rt; status, FORM);
-        assert_eq!(rt; text.as_slice(), b"fault unbuilt form\n".as_slice());
+    for (words, status, text) in rows {
+        let (got, written) = outcome(alloc, words, TIE, 200, NOTHING_FAILS)?;
+        assert_eq!(rt; written.as_slice(), text.as_bytes());
+        assert_eq!(rt; got, status);
     }
     Ok(())
 }
 
 #[test]
-fn answers_faults_by_their_cause(rt: HostRuntime) -> Result<(), Fail> {
+fn answers_failing_calls(rt: HostRuntime) -> Result<(), Fail> {
     let alloc = rt.alloc();
-    let cases = [
-        Case {
-            words: &[],
-            status: Status::Usage,
-            text: "fault usage\n",
-            ..TIE
-        },
-        Case {
-            words: &["solve"],
-            status: Status::Usage,
-            text: "fault usage\n",
-            ..TIE
-        },
-        Case {
-            words: &["solve", "-", "-"],
-            status: Status::Usage,
-            text: "fault usage\n",
-            ..TIE
-        },
-        Case {
-            failing_read: 0,
-            status: Status::CannotRead,
-            text: "fault cannot read\n",
-            ..TIE
-        },
-        Case {
-            piece: 7,
-            failing_read: 3,
-            status: Status::CannotRead,
-            text: "fault cannot read\n",
-            ..TIE
-        },
-        Case { piece: 1, ..TIE },
-        Case {
-            failing_write: 0,
-            status: Status::CannotWrite,
-            text: "",
-            ..TIE
-        },
-        Case {
-            room: 10,
-            status: Status::CannotWrite,
-            text: "side black",
-            ..TIE
-        },
-        Case {
-            words: &["safe", "-"],
-            room: 5,
-            status: Status::CannotWrite,
-            text: "fault",
-            ..TIE
-        },
+    let load = Failing {
+        load: 0,
+        ..NOTHING_FAILS
+    };
+    let read = Failing {
+        read: 3,
+        ..NOTHING_FAILS
+    };
+    let write = Failing {
+        write: 0,
+        ..NOTHING_FAILS
+    };
+    let rows: [(&str, usize, Failing, Status, &str); 6] = [
+        ("a", 200, load, Status::CannotRead, "fault cannot read\n"),
+        ("-", 200, read, Status::CannotRead, "fault cannot read\n"),
+        ("-", 200, load, Status::Done, TIE_TEXT),
+        ("a", 200, read, Status::Done, TIE_TEXT),
+        ("a", 200, write, Status::CannotWrite, ""),
+        ("a", 10, NOTHING_FAILS, Status::CannotWrite, "side black"),
     ];
-    for case in &cases {
-        let (status, text) = outcome(alloc, case)?;
-        assert_eq!(rt; text.as_slice(), case.text.as_bytes());
-        assert_eq!(rt; status, case.status);
+    for (word, room, failing, status, text) in rows {
+        let (got, written) = outcome(alloc, &["solve", word], TIE, room, failing)?;
+        assert_eq!(rt; written.as_slice(), text.as_bytes());
+        assert_eq!(rt; got, status);
+    }
+    Ok(())
+}
+
+#[test]
+fn a_tree_too_deep_is_refused(rt: HostRuntime) -> Result<(), Fail> {
+    let alloc = rt.alloc();
+    for (opened, fault, text) in [
+        (1001, TreeFault::TooDeep, "fault file too deep\n"),
+        (1000, TreeFault::CutShort, "fault file cut short\n"),
+    ] {
+        let mut file = Vec::new(alloc);
+        for _ in 0..opened {
+            file.extend_from_slice(b"(;")?;
+        }
+        let (status, written) = outcome(alloc, &["solve", "-"], &file, 200, NOTHING_FAILS)?;
+        assert_eq!(rt; written.as_slice(), text.as_bytes());
+        assert_eq!(rt; status, Status::BadFile(FileFault::Tree(fault)));
     }
     Ok(())
 }
@@ -203,11 +304,76 @@ fn answers_faults_by_their_cause(rt: HostRuntime) -> Result<(), Fail> {
 #[test]
 fn a_file_too_long_is_refused(rt: HostRuntime) -> Result<(), Fail> {
     let alloc = rt.alloc();
-    for (len, status) in [(1_048_577, Status::TooLong), (1_048_576, FORM)] {
-        let file = vec![in alloc; b' '; len]?;
-        let mut source = MemorySource::new(file, 5000, Vec::new(alloc));
-        let mut sink = MemorySink::with_room(alloc, 100, Vec::new(alloc))?;
-        assert_eq!(rt; run(alloc, &["solve", "-"], &mut source, &mut sink), status);
+    let no_tree = Status::BadFile(FileFault::Tree(TreeFault::NoTree));
+    for (len, status) in [(1_048_577, Status::TooLong), (1_048_576, no_tree)] {
+        let mut shelf = MemoryShelf::new(alloc);
+        shelf.add("long", vec![in alloc; b' '; len]?)?;
+        for word in ["-", "long"] {
+            let file = vec![in alloc; b' '; len]?;
+            let mut lines = MemorySource::new(file, 5000, Vec::new(alloc));
+            let mut out = MemorySink::with_room(alloc, 100, Vec::new(alloc))?;
+            assert_eq!(rt;
+                run(alloc, &["solve", word], &mut shelf, &mut lines, &mut out),
+                status
+            );
+        }
+    }
+    Ok(())
+}
+
+/// Whether both purses have room for any play.
+fn has_room(state: &Whole) -> bool
+    ensures black { result ≡ true → state.now.purses.black < 2 ^ 60 }
+    ensures white { result ≡ true → state.now.purses.white < 2 ^ 60 }
+{
+    state.purse(Colour::Black) < 1 << 60 && state.purse(Colour::White) < 1 << 60
+}
+
+/// The winner that plain recursion to twenty plies gives for the words on this file.
+fn plain(alloc: Global, words: &[&str], file: &[u8]) -> Result<Option<Colour>, Fail> {
+    if file.len() > 1_048_576 {
+        return Err(Fail::new("too long"));
+    }
+    let job = gd_words::read(words)?;
+    let tree = sgf_tree::read(alloc, file)?;
+    let setup = position(alloc, &tree, &job.settings)?;
+    let state = Whole::opening(
+        alloc,
+        &setup.board,
+        setup.black_prisoners,
+        setup.white_prisoners,
+        setup.komi_halves,
+        setup.side,
+    )?;
+    if !has_room(&state) {
+        return Err(Fail::new("no room"));
+    }
+    Ok(plain_winner(alloc, &state, 20)?)
+}
+
+/// The line of a winner.
+fn line_of(winner: Option<Colour>) -> &'static [u8] {
+    match winner {
+        Some(Colour::Black) => b"\nwinner black\n",
+        Some(Colour::White) => b"\nwinner white\n",
+        None => b"no winner",
+    }
+}
+
+#[test]
+fn the_winner_is_that_of_plain_recursion(rt: HostRuntime) -> Result<(), Fail> {
+    let alloc = rt.alloc();
+    let files: [&[u8]; 4] = [TIE, CAPTIVE, b"(;SZ[5:1]AB[ba][da])", b"(;SZ[3:1]AW[ba])"];
+    for file in files {
+        for side in ["black", "white"] {
+            for komi in ["0", "0.5", "-0.5", "1", "-1.5", "2.5"] {
+                let words = ["solve", "-", "--turn", side, "--komi", komi];
+                let line = line_of(plain(alloc, &words, file)?);
+                let (_status, written) = outcome(alloc, &words, file, 200, NOTHING_FAILS)?;
+                let mut places = written.as_slice().windows(line.len().max(1));
+                assert!(rt; places.any(|place| place == line), "{side} {komi}");
+            }
+        }
     }
     Ok(())
 }

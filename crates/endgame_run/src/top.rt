@@ -1,21 +1,25 @@
 //! The top call.
 
-ghost use Rattle.std.specs.Prelude.{◌≡◌, ◌↔◌, ◌<◌, ◌≤◌, ℕ, true, length, IsTrue, IfOk, IfSome, MatchOption, string_bytes};
-ghost use Rattle.go_grid.specs.Grid.{Grid};
+ghost use Rattle.std.specs.Prelude.{◌≡◌, ◌≢◌, ◌<◌, ◌^◌, ◌≤◌, ◌⊎◌, ◌↔◌, ℕ, List, map, length, sum_by, IfOk, IfSome, Err, Ok, string_bytes};
 ghost use Rattle.go_grid.specs.Chain.{IsSettled};
-ghost use Rattle.go_grid.specs.Marks.{IsMarked};
 ghost use Rattle.desk_io.specs.Outside.{Rose, ended};
-ghost use Rattle.endgame_run.specs.Words.{AreSolve};
-ghost use Rattle.endgame_run.specs.Verdict.{IsFileVerdict, IsFileText, IsAnswer, IsVerdict, IsWritten, WritesWinner, WritesMove};
-ghost use Rattle.endgame_run.specs.Top.{IsFinished, IsFirstMarked, IsSolved};
+ghost use Rattle.sgf_go.specs.declared.settings.Setup.{Setup as Position};
+ghost use Rattle.sgf_tree.specs.Reading.{line_text};
+ghost use Rattle.sgf_go.specs.Komi.{IsInRange};
+ghost use Rattle.gd_words.specs.Viewed.{texts};
+ghost use Rattle.endgame_run.specs.File.{count_of, dash, outside, told_of};
+ghost use Rattle.endgame_run.specs.Top.{HasRanges, IsFinished, IsFirstMarked, IsLineAnswer, IsSolveRun, IsSolved};
+ghost use Rattle.endgame_run.specs.Verdict.{HasCause, IsAnswer, IsFileAnswer, IsWritten, ReadShelf, ReadSource, WritesMove, WritesWinner};
 
 use crate::closed::{first_winning_move, winner};
 use crate::file::{FileError, read_file};
-use crate::form::read_board;
-use crate::report::{point_text, solve_text};
+use crate::report::{point_text, setup_fault_text, solve_text, tree_fault_text};
 use crate::status::{FileFault, Status, Unbuilt};
-use desk_io::{Sink, Source};
-use go_grid::{Board, Colour, Point};
+use desk_io::{Shelf, Sink, Source};
+use gd_words::Command;
+use go_grid::Point;
+use sgf_go::{GoError, Settings, Setup, position};
+use sgf_tree::{SgfError, Tree};
 use std::alloc::{AllocError, Global};
 use whole_rules::Whole;
 
@@ -24,13 +28,6 @@ use whole_rules::Whole;
 struct Report {
     status: Status,
     text: String,
-}
-
-/// Whether the words are `solve -`.
-fn are_solve(words: &[&str]) -> bool
-    ensures { (result ≡ true) ↔ AreSolve words.now }
-{
-    matches!(*words, ["solve", "-"])
 }
 
 /// The lowest contested point.
@@ -45,16 +42,26 @@ fn first_contested(state: &Whole) -> Option<Point>
     None
 }
 
-/// The report on a settled board on which Black is to move, without prisoners and komi.
-fn solve(alloc: Global, board: &Board) -> Result<Report, AllocError>
-    requires { IsSettled board.now }
-    ensures { IfOk result (λ report. IsSolved board.now report.status (string_bytes report.text)) }
+/// The report on a position.
+fn solve(alloc: Global, setup: &Setup) -> Result<Report, AllocError>
+    requires settled { IsSettled setup.now.board }
+    requires black { setup.now.black_prisoners < 2 ^ 40 }
+    requires white { setup.now.white_prisoners < 2 ^ 40 }
+    requires komi { IsInRange setup.now.komi_halves }
+    ensures { IfOk result (λ report. IsSolved setup.now report.status (string_bytes report.text)) }
 {
-    let state = Whole::opening(alloc, board, 0, 0, 0, Colour::Black)?;
+    let state = Whole::opening(
+        alloc,
+        &setup.board,
+        setup.black_prisoners,
+        setup.white_prisoners,
+        setup.komi_halves,
+        setup.side,
+    )?;
     if let Some(point) = first_contested(&state) {
         return Ok(Report {
             status: Status::Unbuilt(Unbuilt::Contested(point)),
-            text: point_text(alloc, "fault unbuilt contested", board.size(), point)?,
+            text: point_text(alloc, "fault unbuilt contested", setup.board.size(), point)?,
         });
     }
     Ok(Report {
@@ -63,34 +70,64 @@ fn solve(alloc: Global, board: &Board) -> Result<Report, AllocError>
     })
 }
 
-/// The report on a file that was read to its end.
-fn report_on(alloc: Global, file: &[u8]) -> Result<Report, AllocError>
-    ensures { IfOk result (λ report. IsFileVerdict file.now report.status × IsFileText file.now report.status (string_bytes report.text)) }
+/// The report on the main line of a file.
+fn report_on_line(alloc: Global, tree: &Tree, settings: &Settings) -> Result<Report, AllocError>
+    requires nodes { length tree.now.line.items ≤ 1048576 }
+    requires properties { sum_by (λ n. length n.properties.items) tree.now.line.items ≤ 1048576 }
+    requires ranges { HasRanges settings.now }
+    ensures { IfOk result (λ report. IsLineAnswer (line_text tree.now) settings.now report.status (string_bytes report.text)) }
 {
-    let Some(board) = read_board(alloc, file)? else {
-        return Ok(Report {
-            status: Status::Unbuilt(Unbuilt::Form),
-            text: String::from_str(alloc, "fault unbuilt form\n")?,
-        });
-    };
-    if let Some(point) = board.unsettled()? {
-        return Ok(Report {
-            status: Status::BadFile(FileFault::NoLiberty(point)),
-            text: point_text(alloc, "fault file no liberty at", board.size(), point)?,
-        });
+    match position(alloc, tree, settings) {
+        Ok(setup) => {
+            let report = solve(alloc, &setup)?;
+            Ok(report)
+        }
+        Err(GoError::Fault(fault)) => Ok(Report {
+            status: Status::BadFile(FileFault::Setup(fault)),
+            text: setup_fault_text(alloc, tree, fault)?,
+        }),
+        Err(GoError::Memory(cause)) => Err(cause),
     }
-    let report = solve(alloc, &board)?;
-    Ok(report)
 }
 
-/// The report on what a source has left.
-fn answer<S: Source>(alloc: Global, lines: &mut S) -> Result<Report, AllocError>
-    ensures answer { IfOk result (λ report. IsAnswer (S.left lines.old) (S.faults lines.old) (S.faults lines.new) report.status (string_bytes report.text)) }
-    ensures at_end { IfOk result (λ report. report.status ≡ Status.Done → S.left lines.new ≡ ended (S.left lines.old)) }
+/// The report on a file that was read to its end.
+fn report_on(alloc: Global, file: &[u8], settings: &Settings) -> Result<Report, AllocError>
+    requires short { length file.now ≤ 1048576 }
+    requires ranges { HasRanges settings.now }
+    ensures { IfOk result (λ report. IsFileAnswer file.now settings.now report.status (string_bytes report.text)) }
 {
-    match read_file(alloc, lines) {
+    match sgf_tree::read(alloc, file) {
+        Ok(tree) => {
+            let report = report_on_line(alloc, &tree, settings)?;
+            Ok(report)
+        }
+        Err(SgfError::Fault(fault)) => Ok(Report {
+            status: Status::BadFile(FileFault::Tree(fault)),
+            text: tree_fault_text(alloc, fault)?,
+        }),
+        Err(SgfError::Memory(cause)) => Err(cause),
+    }
+}
+
+/// The report on the file of a word.
+fn answer<H: Shelf, S: Source>(
+    alloc: Global,
+    shelf: &mut H,
+    lines: &mut S,
+    word: &str,
+    settings: &Settings,
+) -> Result<Report, AllocError>
+    requires { HasRanges settings.now }
+    ensures answer { IfOk result (λ report. IsAnswer (told_of (H.files shelf.old) (S.left lines.old) word.now)
+        (count_of (H.faults shelf.old) (S.faults lines.old) word.now) (count_of (H.faults shelf.new) (S.faults lines.new) word.now)
+        settings.now report.status (string_bytes report.text)) }
+    ensures at_end { IfOk result (λ report. report.status ≡ Status.Done → word.now ≡ dash → S.left lines.new ≡ ended (S.left lines.old)) }
+    ensures lines_unread { word.now ≢ dash → lines.new ≡ lines.old }
+    ensures shelf_unread { word.now ≡ dash → shelf.new ≡ shelf.old }
+{
+    match read_file(alloc, shelf, lines, word) {
         Ok(file) => {
-            let report = report_on(alloc, &file)?;
+            let report = report_on(alloc, &file, settings)?;
             Ok(report)
         }
         Err(FileError::CannotRead) => Ok(Report {
@@ -115,22 +152,59 @@ fn finish<K: Sink>(out: &mut K, status: Status, text: &str) -> Status
     }
 }
 
-/// Does what the words say.
-pub fn run<S: Source, K: Sink>(alloc: Global, words: &[&str], lines: &mut S, out: &mut K) -> Status
-    ensures cause { IsVerdict words.now (S.left lines.old) result }
-    ensures cannot_read { result ≡ Status.CannotRead → Rose (S.faults lines.old) (S.faults lines.new) }
-    ensures cannot_write { result ≡ Status.CannotWrite → Rose (K.faults out.old) (K.faults out.new) }
-    ensures text { IsWritten words.now (S.left lines.old) (S.faults lines.old) (S.faults lines.new) (K.holds out.old) (K.holds out.new) result }
-    ensures winner { result ≡ Status.Done → WritesWinner (S.left lines.old) (K.holds out.old) (K.holds out.new) }
-    ensures first_winning_move { result ≡ Status.Done → WritesMove (S.left lines.old) (K.holds out.old) (K.holds out.new) }
-    ensures at_end { result ≡ Status.Done → S.left lines.new ≡ ended (S.left lines.old) }
-    ensures unread { ¬ AreSolve words.now → lines.new ≡ lines.old }
+/// Solves the file of a word and writes the text.
+fn run_solve<H: Shelf, S: Source, K: Sink>(
+    alloc: Global,
+    settings: &Settings,
+    word: &str,
+    shelf: &mut H,
+    lines: &mut S,
+    out: &mut K,
+) -> Status
+    requires { HasRanges settings.now }
+    ensures solved { IsSolveRun settings.now word.now (outside (H.files shelf.old) (S.left lines.old)
+        (H.faults shelf.old) (H.faults shelf.new) (S.faults lines.old) (S.faults lines.new))
+        (K.faults out.old) (K.faults out.new) (K.holds out.old) (K.holds out.new) result }
+    ensures at_end { result ≡ Status.Done → word.now ≡ dash → S.left lines.new ≡ ended (S.left lines.old) }
+    ensures lines_unread { word.now ≢ dash → lines.new ≡ lines.old }
+    ensures shelf_unread { word.now ≡ dash → shelf.new ≡ shelf.old }
 {
-    if !are_solve(words) {
-        return finish(out, Status::Usage, "fault usage\n");
-    }
-    match answer(alloc, lines) {
+    match answer(alloc, shelf, lines, word, settings) {
         Ok(report) => finish(out, report.status, report.text.as_str()),
         Err(_) => Status::Memory,
     }
+}
+
+/// Does what the words say.
+pub fn run<H: Shelf, S: Source, K: Sink>(
+    alloc: Global,
+    words: &[&str],
+    shelf: &mut H,
+    lines: &mut S,
+    out: &mut K,
+) -> Status
+    ensures cause { HasCause (texts words.now) (outside (H.files shelf.old) (S.left lines.old) (H.faults shelf.old) (H.faults shelf.new)
+        (S.faults lines.old) (S.faults lines.new)) result }
+    ensures cannot_write { result ≡ Status.CannotWrite → Rose (K.faults out.old) (K.faults out.new) }
+    ensures text { IsWritten (texts words.now) (outside (H.files shelf.old) (S.left lines.old) (H.faults shelf.old) (H.faults shelf.new)
+        (S.faults lines.old) (S.faults lines.new)) (K.holds out.old) (K.holds out.new) result }
+    ensures winner { result ≡ Status.Done → WritesWinner (texts words.now) (outside (H.files shelf.old) (S.left lines.old) (H.faults shelf.old) (H.faults shelf.new)
+        (S.faults lines.old) (S.faults lines.new)) (K.holds out.old) (K.holds out.new) }
+    ensures first_winning_move { result ≡ Status.Done → WritesMove (texts words.now) (outside (H.files shelf.old) (S.left lines.old) (H.faults shelf.old) (H.faults shelf.new)
+        (S.faults lines.old) (S.faults lines.new)) (K.holds out.old) (K.holds out.new) }
+    ensures at_end { result ≡ Status.Done → ReadSource (texts words.now) → S.left lines.new ≡ ended (S.left lines.old) }
+    ensures lines_unread { ¬ ReadSource (texts words.now) → lines.new ≡ lines.old }
+    ensures shelf_unread { ¬ ReadShelf (texts words.now) → shelf.new ≡ shelf.old }
+{
+    let Ok(job) = gd_words::read(words) else {
+        return finish(out, Status::Usage, "fault usage\n");
+    };
+    let Command::Solve(word) = job.command else {
+        return finish(
+            out,
+            Status::Unbuilt(Unbuilt::Command),
+            "fault unbuilt command\n",
+        );
+    };
+    run_solve(alloc, &job.settings, word, shelf, lines, out)
 }

@@ -1,10 +1,11 @@
-//! The program: the words of the command line, standard input and standard output.
+//! The program: the words of the command line, the files, standard input and standard output.
 #![tactic(auto)]
 
-use desk_io::{StdSink, StdSource};
+use desk_io::{FileShelf, StdSink, StdSource};
 use endgame_run::{Status, run};
 use std::alloc::{AllocError, Global};
 use std::env::Env;
+use std::fs::Files;
 use std::process::ExitCode;
 use std::{env, io};
 
@@ -19,16 +20,17 @@ fn words<R: Env + AllocGlobal>(rt: &R) -> Result<Vec<String>, AllocError> {
 }
 
 /// The exit status of a run over the real things.
-fn start<R: Env + Input + Print + AllocGlobal>(rt: &R) -> Result<u8, AllocError> {
+fn start<R: Env + Files + Input + Print + AllocGlobal>(rt: &R) -> Result<u8, AllocError> {
     let alloc = rt.alloc();
     let owned = words(rt)?;
     let mut texts: Vec<&str> = Vec::with_capacity(alloc, owned.len())?;
     for word in &owned {
         texts.push(word.as_str())?;
     }
+    let mut shelf = FileShelf::new(rt);
     let mut lines = StdSource::new(rt.reader());
     let mut out = StdSink::new(io::writer(rt));
-    let status = run(alloc, &texts, &mut lines, &mut out);
+    let status = run(alloc, &texts, &mut shelf, &mut lines, &mut out);
     Ok(status.code())
 }
 

@@ -18,12 +18,6 @@ use Rattle.whole_rules.specs.declared.states.MoveError.TheVariants.{NotContested
 use Rattle.whole_rules.proofs.PlacingLaws.{suicide_not_placed}
 use Rattle.whole_rules.specs.WholeGame.{State, after, IsLegal, Refuses, rank, ListsMoves, MovesBelow, IsFirstMove}
 
-pub moves_start : (s : State) → MovesBelow s 0 []
-moves_start s = record {
-  ordered = λ j k a lt. absurd (omega arith);
-  exact = λ m. (λ h. absurd (omega (arith, h.1)), λ h. absurd (omega (arith, h.0)));
-}
-
 pub moves_skip : (s : State) (n k : ℕ) (ms : List Move) → n ≤ k → MovesBelow s n ms → ((m : Move) → n ≤ rank m → rank m < k → ¬ IsLegal s m) → MovesBelow s k ms
 moves_skip s n k ms le w none = record {
   ordered = w.ordered;

@@ -8,11 +8,11 @@ use Rattle.benson_life.specs.Held.{IsHeld}
 use Rattle.benson_life.specs.Region.{IsContested}
 use Rattle.whole_rules.specs.declared.money.Purses.{Purses}
 use Rattle.whole_rules.specs.WholeGame.{State}
-use Rattle.whole_rules.specs.Opening.{komi_units, komi_token, IsOpening}
+use Rattle.whole_rules.specs.Opening.{komi_points, komi_token, IsOpening}
 
 pub opens : (g b : Grid) (marks : List Bool) (m : Purses) (c : Colour) (s : State) (x y bp wp : ℕ) (k : ℤ)
     → s ≡ record { board = b; contested = marks; purses = m; side = c } → b ≡ g → Marks marks (IsContested g)
-    → m ≡ record { black = x + bp + komi_units Black k; white = y + wp + komi_units White k; token = komi_token k }
+    → m ≡ record { black = x + bp + komi_points Black k; white = y + wp + komi_points White k; token = komi_token k }
     → IsHeld g Black x → IsHeld g White y → IsOpening g bp wp k c s
 opens g b marks m c s x y bp wp k e same is purses hx hy = record {
   board = ap (λ z. z.board) e ∙ same;

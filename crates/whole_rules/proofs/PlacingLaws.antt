@@ -33,3 +33,7 @@ one_board g Gone h k a b =
 
 pub suicide_not_placed : (g h : Grid) (p : ℕ) (c : Colour) → IsSuicide g p c → ¬ IsPlaced g p c h
 suicide_not_placed g h p c s d = s.2 (subst (λ k. HasLiberty k c p) (one_board (with_stone g p c) (IsTaken (with_stone g p c) p (other c)) h s.0 d.without s.1) d.breathes)
+
+-- a placing has one outcome
+pub placed_same : (g : Grid) (p : ℕ) (c : Colour) (h k : Grid) → IsPlaced g p c h → IsPlaced g p c k → h ≡ k
+placed_same g p c h k a b = one_board (with_stone g p c) (IsTaken (with_stone g p c) p (other c)) h k a.without b.without

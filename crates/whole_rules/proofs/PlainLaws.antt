@@ -1,16 +1,14 @@
 -- A move leads to one state, and plain recursion looks at each.
-use Rattle.std.proofs.Common.{◌≡◌, ◌≢◌, ℕ, zero, suc, ◌+◌, ◌-◌, ◌<◌, ◌≤◌, inl, inr, refl, sym, ap, ap₂, ◌∙◌, subst, arith, List, [], ◌∷◌, length, get_or, Bool, true, false, below_more, Some, None}
+use Rattle.std.proofs.Common.{◌≡◌, ◌≢◌, ℕ, zero, suc, ◌+◌, ◌-◌, ◌<◌, ◌≤◌, inl, inr, refl, sym, ap, ◌∙◌, subst, arith, List, length, get_or, Bool, true, false, below_more, Some, None}
 use Rattle.std.specs.List.{Contains, count_by}
 use Rattle.std.proofs.lemmas.Bool.{false≢true}
 use Rattle.std.proofs.lemmas.List.{get_or_default}
 use Rattle.std.proofs.lemmas.List.Sums.{count_by-le-length}
 use Rattle.std.proofs.lemmas.List.Elements.{Contains-get_or}
-use Rattle.go_grid.specs.declared.grid.Cell.{Cell}
-use Rattle.go_grid.specs.declared.grid.Cell.TheVariants as cell
 use Rattle.go_grid.specs.declared.grid.Colour.{Colour}
 use Rattle.go_grid.specs.declared.grid.Colour.TheVariants as colour
-use Rattle.go_grid.specs.Grid.{Grid, other}
-use Rattle.go_play.specs.Place.{IsPlaced, IsTaken, with_stone, is_stone}
+use Rattle.go_grid.specs.Grid.{other}
+use Rattle.go_play.specs.Place.{is_stone}
 use Rattle.whole_rules.specs.declared.money.Purses.{Purses}
 use Rattle.whole_rules.specs.declared.money.Token.{Token}
 use Rattle.whole_rules.specs.declared.money.Token.TheVariants as token
@@ -21,33 +19,8 @@ use Rattle.whole_rules.specs.PlainRecursion.{WinsWithin, LosesWithin}
 use Rattle.whole_rules.specs.PlainWinner.{IsOutcome}
 use Rattle.whole_rules.specs.WholeGame.{State, IsMove, Leads, after, IsLegal, ListsMoves}
 use Rattle.whole_rules.proofs.OutcomeLaws.{wins-not_loses}
-
-cell_stable : (x y : Cell) → ¬ ¬ (x ≡ y) → x ≡ y
-cell_stable cell.Empty cell.Empty h = refl
-cell_stable cell.Black cell.Black h = refl
-cell_stable cell.White cell.White h = refl
-cell_stable cell.Empty cell.Black h = absurd (h (λ e. cc))
-cell_stable cell.Empty cell.White h = absurd (h (λ e. cc))
-cell_stable cell.Black cell.Empty h = absurd (h (λ e. cc))
-cell_stable cell.Black cell.White h = absurd (h (λ e. cc))
-cell_stable cell.White cell.Empty h = absurd (h (λ e. cc))
-cell_stable cell.White cell.Black h = absurd (h (λ e. cc))
-
-pub cells_same : (xs ys : List Cell) → length xs ≡ length ys → ((q : ℕ) → get_or xs q cell.Empty ≡ get_or ys q cell.Empty) → xs ≡ ys
-cells_same [] [] e h = refl
-cells_same [] (y ∷ ys) e h = absurd (omega (arith, e))
-cells_same (x ∷ xs) [] e h = absurd (omega (arith, e))
-cells_same (x ∷ xs) (y ∷ ys) e h = ap₂ ◌∷◌ (h 0) (cells_same xs ys (omega (arith, e)) (λ q. h (suc q)))
-
-grid_same : (g h : Grid) → g.columns ≡ h.columns → g.rows ≡ h.rows → g.cells ≡ h.cells → g ≡ h
-grid_same g h a b c = λ i. record { columns = a i; rows = b i; cells = c i }
-
--- a placing has one outcome
-pub placed_same : (g : Grid) (p : ℕ) (c : Colour) (h k : Grid) → IsPlaced g p c h → IsPlaced g p c k → h ≡ k
-placed_same g p c h k a b = grid_same h k (a.without.columns ∙ sym b.without.columns) (a.without.rows ∙ sym b.without.rows)
-    (cells_same h.cells k.cells (a.without.long ∙ sym b.without.long) (λ q. cell_stable _ _ (λ ne.
-    let out : ¬ IsTaken (with_stone g p c) p (other c) q = λ t. ne (a.without.gone q t ∙ sym (b.without.gone q t)) in
-    ne (a.without.kept q out ∙ sym (b.without.kept q out)))))
+use Rattle.whole_rules.proofs.PlacingLaws.{placed_same}
+use Rattle.whole_rules.specs.FirstWinningMove.{HasOneWinner}
 
 pub move_same : (s t u : State) (m : Move) → IsMove s m t → IsMove s m u → t ≡ u
 move_same s t u (Stone p) a b =
@@ -88,9 +61,6 @@ pub record Looked (s : State) (n : ℕ) (ms : List Move) (k : ℕ) (decided : Bo
   pub open' : (j : ℕ) → j < k → (t : State) → IsMove s (get_or ms j Half) t → ¬ LosesWithin State Leads n t
   pub lost : decided ≡ true → (j : ℕ) → j < k → (t : State) → IsMove s (get_or ms j Half) t → WinsWithin State Leads n t
   pub unknown : decided ≡ false → (t : State) × Leads s t × ¬ WinsWithin State Leads n t
-
-pub looked_start : (s : State) (n : ℕ) (ms : List Move) → Looked s n ms 0 true
-looked_start s n ms = record { open' = λ j lt. absurd (omega (arith, lt)); lost = λ e j lt. absurd (omega (arith, lt)); unknown = λ e. absurd (false≢true (sym e)) }
 
 -- the move at k leads to a state whose mover wins
 pub looked_wins : (s t : State) (n : ℕ) (ms : List Move) (k : ℕ) (decided : Bool) → Looked s n ms k decided → IsMove s (get_or ms k Half) t → WinsWithin State Leads n t → Looked s n ms (k + 1) decided
@@ -166,3 +136,9 @@ looked_done s (suc d) k ms decided lt w le moves = let r = looked_all s d k ms d
   where
     one : suc d - 1 ≡ d
     one = omega arith
+
+pub one_winner : HasOneWinner
+one_winner s c d (inl a) (inl b) = a.0 ∙ sym b.0
+one_winner s c d (inr a) (inr b) = a.0 ∙ sym b.0
+one_winner s c d (inl a) (inr b) = absurd (wins-not_loses State Leads a.1.0 b.1.0 s a.1.1 b.1.1)
+one_winner s c d (inr a) (inl b) = absurd (wins-not_loses State Leads b.1.0 a.1.0 s b.1.1 a.1.1)

@@ -1,8 +1,14 @@
--- The first winning move, and the law that no state has two outcomes.
-use Rattle.std.specs.Prelude.{ℕ, ◌≤◌, Option, Some, None}
+-- The winner of a state and its first winning move, and the laws that no state has two outcomes or two winners.
+use Rattle.std.specs.Prelude.{ℕ, ◌≡◌, ◌≤◌, ◌⊎◌, Option, Some, None}
+use Rattle.go_grid.specs.declared.grid.Colour.{Colour}
+use Rattle.go_grid.specs.Grid.{other}
 use Rattle.whole_rules.specs.declared.states.Move.{Move}
-use Rattle.whole_rules.specs.PlainRecursion.{WinsWithin, LosesWithin, MoverLoses}
+use Rattle.whole_rules.specs.PlainRecursion.{WinsWithin, LosesWithin, MoverWins, MoverLoses}
 use Rattle.whole_rules.specs.WholeGame.{State, Leads, IsMove, rank}
+
+-- the winner of a state: who moves where the mover wins, the other where the mover loses
+abbrev pub IsWinner : State → Colour → Type 0
+IsWinner s c = ((c ≡ s.side) × MoverWins State Leads s) ⊎ ((c ≡ other s.side) × MoverLoses State Leads s)
 
 -- the move leads to a state whose mover loses
 abbrev pub IsWinning : State → Move → Type 0
@@ -13,8 +19,15 @@ abbrev pub IsFirstWinning : State → Option Move → Type 0
 IsFirstWinning s (Some m) = IsWinning s m × ((k : Move) → IsWinning s k → rank m ≤ rank k)
 IsFirstWinning s None = (k : Move) → ¬ IsWinning s k
 
+-- who wins or loses within so many moves does so within more
 abbrev pub IsMonotone : Type 0
-IsMonotone = (n m : ℕ) (s : State) → n ≤ m → (WinsWithin State Leads n s → WinsWithin State Leads m s) × (LosesWithin State Leads n s → LosesWithin State Leads m s)
+IsMonotone = (n m : ℕ) (s : State) → n ≤ m
+    → (WinsWithin State Leads n s → WinsWithin State Leads m s) × (LosesWithin State Leads n s → LosesWithin State Leads m s)
 
+-- no mover both wins and loses
 abbrev pub HasOneOutcome : Type 0
 HasOneOutcome = (n m : ℕ) (s : State) → WinsWithin State Leads n s → LosesWithin State Leads m s → ⊥
+
+-- a state has at most one winner
+abbrev pub HasOneWinner : Type 0
+HasOneWinner = (s : State) (c d : Colour) → IsWinner s c → IsWinner s d → c ≡ d

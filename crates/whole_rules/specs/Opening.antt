@@ -1,4 +1,4 @@
--- The state in which a setup opens.
+-- The state in which a settled board opens.
 use Rattle.std.specs.Prelude.{ℕ, suc, ◌≡◌, ◌+◌, ◌/◌, ◌%◌, ℤ, pos, negsuc, cond, nat_eq}
 use Rattle.go_grid.specs.declared.grid.Colour.{Colour}
 use Rattle.go_grid.specs.declared.grid.Colour.TheVariants.{Black, White}
@@ -10,22 +10,23 @@ use Rattle.whole_rules.specs.declared.money.Token.{Token}
 use Rattle.whole_rules.specs.declared.money.Token.TheVariants as token
 use Rattle.whole_rules.specs.WholeGame.{State}
 
--- the whole units of a komi in halves: a positive one is White's
-abbrev pub komi_units : Colour → ℤ → ℕ
-komi_units White (pos n) = n / 2
-komi_units Black (negsuc n) = suc n / 2
-komi_units White (negsuc n) = 0
-komi_units Black (pos n) = 0
+-- the whole points that a player gets of a komi in half-points: a positive one is White's
+abbrev pub komi_points : Colour → ℤ → ℕ
+komi_points White (pos n) = n / 2
+komi_points Black (negsuc n) = suc n / 2
+komi_points White (negsuc n) = 0
+komi_points Black (pos n) = 0
 
--- the half unit that remains
+-- who owns the half-point that remains
 abbrev pub komi_token : ℤ → Token
 komi_token (pos n) = cond (nat_eq (n % 2) 0) token.Nobody token.White
 komi_token (negsuc n) = cond (nat_eq (suc n % 2) 0) token.Nobody token.Black
 
+-- the state opens the board: what each side holds, its prisoners and its part of the komi, before any move
 pub record IsOpening (g : Grid) (black_prisoners white_prisoners : ℕ) (komi : ℤ) (side : Colour) (s : State) : Type 0 where
   pub board : s.board ≡ g
   pub contested : Marks s.contested (IsContested g)
-  pub black : (n : ℕ) × IsHeld g Black n × (s.purses.black ≡ n + black_prisoners + komi_units Black komi)
-  pub white : (n : ℕ) × IsHeld g White n × (s.purses.white ≡ n + white_prisoners + komi_units White komi)
+  pub black : (n : ℕ) × IsHeld g Black n × (s.purses.black ≡ n + black_prisoners + komi_points Black komi)
+  pub white : (n : ℕ) × IsHeld g White n × (s.purses.white ≡ n + white_prisoners + komi_points White komi)
   pub token : s.purses.token ≡ komi_token komi
   pub turn : s.side ≡ side

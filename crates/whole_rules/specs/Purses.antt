@@ -10,17 +10,17 @@ abbrev pub purse : Colour → Purses → ℕ
 purse Black m = m.black
 purse White m = m.white
 
--- the purses with n units more in that of a player
+-- the purses with n points more in that of a player
 abbrev pub paid_in : Colour → ℕ → Purses → Purses
 paid_in Black n m = record m { black = m.black + n }
 paid_in White n m = record m { white = m.white + n }
 
--- the purses after a player has spent a unit
+-- the purses after a player has spent a point
 abbrev pub paid_out : Colour → Purses → Purses
 paid_out Black m = record m { black = m.black - 1 }
 paid_out White m = record m { white = m.white - 1 }
 
--- the opponent of the token's owner leaves the owner a unit
+-- the opponent of the token's owner leaves the owner a point
 abbrev pub rewarded : Token → Colour → Purses → Purses
 rewarded token.Black White m = paid_in Black 1 m
 rewarded token.White Black m = paid_in White 1 m

@@ -12,6 +12,7 @@ use Rattle.whole_rules.specs.declared.states.MoveError.{MoveError}
 use Rattle.whole_rules.specs.declared.states.MoveError.TheVariants.{NotContested, Occupied, Suicide, EmptyPurse, NoHalf}
 use Rattle.whole_rules.specs.Purses.{purse, paid_in, paid_out, halved}
 
+-- a state of the whole game
 pub record State : Type 0 where
   pub board : Grid
   -- a mark for each contested point
@@ -29,6 +30,7 @@ IsMove s (Stone p) t = IsMarked s.contested p × ((h : Grid) × ((n : ℕ) × Is
 IsMove s Spend t = (1 ≤ purse s.side s.purses) × (t ≡ after s.board (paid_out s.side s.purses) s)
 IsMove s Half t = (s.purses.token ≢ Nobody) × (t ≡ after s.board (halved s.side s.purses) s)
 
+-- some state is reached by the move
 abbrev pub IsLegal : State → Move → Type 0
 IsLegal s m = (t : State) × IsMove s m t
 
@@ -36,14 +38,11 @@ IsLegal s m = (t : State) × IsMove s m t
 abbrev pub Leads : State → State → Type 0
 Leads s t = (m : Move) × IsMove s m t
 
--- a stone may be placed at the point
-abbrev pub IsPlayable : State → ℕ → Type 0
-IsPlayable s p = IsMarked s.contested p × ((h : Grid) × IsPlaced s.board p s.side h)
-
 -- a point of the board that is contested
 abbrev pub IsOpen : State → ℕ → Type 0
 IsOpen s p = (p < length s.board.cells) × IsMarked s.contested p
 
+-- why a move is illegal
 abbrev pub Refuses : State → Move → MoveError → Type 0
 Refuses s (Stone p) NotContested = ¬ IsOpen s p
 Refuses s (Stone p) Occupied = IsOpen s p × ¬ IsEmpty s.board p
@@ -57,15 +56,17 @@ abbrev pub Applies : State → Move → State → Result Unit MoveError → Type
 Applies s m t (Ok _) = IsMove s m t
 Applies s m t (Err e) = (t ≡ s) × Refuses s m e
 
--- the order of moves: stones by point, then a unit spent, then the half
+-- the order of moves: stones by point, then a point spent, then the half
 abbrev pub rank : Move → ℕ
 rank (Stone p) = p
 rank Spend = 625
 rank Half = 626
 
+-- the rank of the move at a place of a list
 abbrev pub rank_at : List Move → ℕ → ℕ
 rank_at ms k = rank (slice_index_or ms k Half)
 
+-- each move ranks below the later ones
 abbrev pub AreOrdered : List Move → Type 0
 AreOrdered ms = (j k : ℕ) → j < k → k < length ms → rank_at ms j < rank_at ms k
 

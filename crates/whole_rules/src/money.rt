@@ -1,13 +1,14 @@
-//! Two purses and the token of a half unit.
+//! Two purses in points, and the token of a half-point.
 
-ghost use Rattle.std.specs.Prelude.{◌≡◌, ◌≢◌, ℕ, ◌+◌, ◌^◌, ◌<◌, ◌≤◌, ◌↔◌, true};
+ghost use Rattle.std.specs.Prelude.{◌≡◌, ◌+◌, ◌^◌, ◌<◌, ◌≤◌, ◌↔◌, true};
 ghost use Rattle.whole_rules.specs.declared.money.Token.TheVariants.{Nobody};
 ghost use Rattle.whole_rules.specs.Purses.{purse, paid_in, paid_out, halved};
 
 use go_grid::Colour;
 
-/// Who owns the half unit that a komi leaves.
-#[derive(Clone, Copy, PartialEq, Eq)]
+/// Who owns the half-point that a komi leaves. The owner's move on it removes it; the opponent's removes it and leaves
+/// the owner a point.
+#[derive(Clone, Copy, PartialEq, Eq, Debug)]
 pub enum Token {
     Nobody,
     Black,
@@ -27,7 +28,7 @@ impl Token {
     }
 }
 
-/// What the two players may still spend.
+/// What the two players may still spend, in points, and who owns the half-point.
 #[derive(Clone, Copy)]
 pub struct Purses {
     pub black: u64,
@@ -36,7 +37,8 @@ pub struct Purses {
 }
 
 impl Purses {
-    pub fn of(self, colour: Colour) -> u64
+    /// The purse of a player.
+    pub(crate) fn of(self, colour: Colour) -> u64
         ensures { result ≡ purse colour self }
     {
         match colour {
@@ -45,25 +47,25 @@ impl Purses {
         }
     }
 
-    /// The purses with some units more in that of a player.
-    pub fn paid_in(self, colour: Colour, units: u64) -> Purses
-        requires { purse colour self + units < 2 ^ 64 }
-        ensures { result ≡ paid_in colour units self }
+    /// The purses with some points more in that of a player.
+    pub(crate) fn paid_in(self, colour: Colour, points: u64) -> Purses
+        requires { purse colour self + points < 2 ^ 64 }
+        ensures { result ≡ paid_in colour points self }
     {
         match colour {
             Colour::Black => Purses {
-                black: self.black + units,
+                black: self.black + points,
                 ..self
             },
             Colour::White => Purses {
-                white: self.white + units,
+                white: self.white + points,
                 ..self
             },
         }
     }
 
-    /// The purses after a player has spent a unit.
-    pub fn paid_out(self, colour: Colour) -> Purses
+    /// The purses after a player has spent a point.
+    pub(crate) fn paid_out(self, colour: Colour) -> Purses
         requires { 1 ≤ purse colour self }
         ensures { result ≡ paid_out colour self }
     {
@@ -80,7 +82,7 @@ impl Purses {
     }
 
     /// The purses after a player's move on the token.
-    pub fn halved(self, colour: Colour) -> Purses
+    pub(crate) fn halved(self, colour: Colour) -> Purses
         requires black { self.black + 1 < 2 ^ 64 }
         requires white { self.white + 1 < 2 ^ 64 }
         ensures { result ≡ halved colour self }

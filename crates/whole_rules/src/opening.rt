@@ -1,12 +1,9 @@
-//! The state in which a setup opens.
+//! The state in which a settled board opens.
 
-ghost use Rattle.std.specs.Prelude.{◌≡◌, ℕ, ◌+◌, ◌^◌, ◌<◌, ◌≤◌, ◌↔◌, ◌⊎◌, true, false, length, IfOk, pos, negsuc, ◌≤ℤ◌};
+ghost use Rattle.std.specs.Prelude.{◌≡◌, ◌+◌, ◌^◌, ◌<◌, ◌≤◌, IfOk};
 ghost use Rattle.go_grid.specs.declared.grid.Colour.TheVariants.{Black, White};
 ghost use Rattle.go_grid.specs.Chain.{IsSettled};
-ghost use Rattle.go_grid.specs.Marks.{Marks, Lists};
-ghost use Rattle.benson_life.specs.Life.{IsLargestHealthy, IsCounted};
-ghost use Rattle.benson_life.specs.Region.{IsContested};
-ghost use Rattle.whole_rules.specs.Opening.{komi_units, komi_token, IsOpening};
+ghost use Rattle.whole_rules.specs.Opening.{komi_points, komi_token, IsOpening};
 
 use crate::money::{Purses, Token};
 use crate::states::Whole;
@@ -14,9 +11,9 @@ use benson_life::{alive, contested, counted, held};
 use go_grid::{Board, Colour};
 use std::alloc::{AllocError, Global};
 
-/// The whole units of a komi that a player gets. A positive komi is White's.
-fn komi_units(colour: Colour, halves: i64) -> u64
-    ensures units { result ≡ komi_units colour halves }
+/// The whole points that a player gets of a komi in half-points. A positive komi is White's.
+fn komi_points(colour: Colour, halves: i64) -> u64
+    ensures points { result ≡ komi_points colour halves }
     ensures most { result ≤ 2 ^ 62 }
 {
     match (colour, halves < 0) {
@@ -27,7 +24,7 @@ fn komi_units(colour: Colour, halves: i64) -> u64
     }
 }
 
-/// The half unit of a komi.
+/// Who owns the half-point that remains of a komi in half-points.
 fn komi_token(halves: i64) -> Token
     ensures { result ≡ komi_token halves }
 {
@@ -40,7 +37,7 @@ fn komi_token(halves: i64) -> Token
     Token::White
 }
 
-/// The purses and the token of an opening.
+/// The purses and the token of an opening: points held, prisoners and komi.
 fn opening_purses(
     black_held: u32,
     white_held: u32,
@@ -51,20 +48,21 @@ fn opening_purses(
     requires black { black_prisoners < 2 ^ 40 }
     requires white { white_prisoners < 2 ^ 40 }
     ensures { result ≡ record {
-      black = black_held + black_prisoners + komi_units Black komi_halves;
-      white = white_held + white_prisoners + komi_units White komi_halves;
+      black = black_held + black_prisoners + komi_points Black komi_halves;
+      white = white_held + white_prisoners + komi_points White komi_halves;
       token = komi_token komi_halves;
     } }
 {
     Purses {
-        black: u64::from(black_held) + black_prisoners + komi_units(Colour::Black, komi_halves),
-        white: u64::from(white_held) + white_prisoners + komi_units(Colour::White, komi_halves),
+        black: u64::from(black_held) + black_prisoners + komi_points(Colour::Black, komi_halves),
+        white: u64::from(white_held) + white_prisoners + komi_points(Colour::White, komi_halves),
         token: komi_token(komi_halves),
     }
 }
 
 impl Whole {
-    /// The state in which a settled board opens: prisoners in points, and a komi in half-points, White's where it is positive.
+    /// The state in which a settled board opens: prisoners in points, each below 2^40, and a komi in half-points, White's
+    /// where it is positive.
     pub fn opening(
         alloc: Global,
         board: &Board,

@@ -1,7 +1,7 @@
 //! Plain recursion over whole states, for tests on small boards.
 
-ghost use Rattle.std.specs.Prelude.{◌≡◌, ℕ, ◌+◌, ◌*◌, ◌^◌, ◌<◌, ◌≤◌, ◌↔◌, true, IfOk};
-ghost use Rattle.whole_rules.specs.WholeGame.{State, IsMove, IsLegal};
+ghost use Rattle.std.specs.Prelude.{◌≡◌, ◌+◌, ◌*◌, ◌^◌, ◌<◌, ◌↔◌, true, IfOk};
+ghost use Rattle.whole_rules.specs.WholeGame.{IsMove, IsLegal};
 ghost use Rattle.whole_rules.specs.PlainWinner.{IsOutcome};
 
 use crate::states::{Move, Whole};
@@ -63,8 +63,8 @@ fn winner_within(alloc: Global, state: &Whole, depth: u32) -> Result<Option<Colo
 }
 
 /// The winner by plain recursion over whole states, to a depth in plies: the mover where the mover wins within so many
-/// moves, the opponent where the mover loses within so many, and else none. It recurses as deep as the depth; for tests
-/// on small boards.
+/// moves, the opponent where the mover loses within so many, and else `None`. It looks at every play and recurses as deep
+/// as the depth; for tests on small boards.
 pub fn plain_winner(alloc: Global, state: &Whole, depth: u32) -> Result<Option<Colour>, AllocError>
     requires black { state.now.purses.black < 2 ^ 61 }
     requires white { state.now.purses.white < 2 ^ 61 }

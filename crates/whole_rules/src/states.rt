@@ -1,34 +1,49 @@
 //! States of the whole game and their moves.
 
-ghost use Rattle.std.specs.Prelude.{◌≡◌, ℕ, ◌+◌, ◌^◌, ◌<◌, ◌≤◌, ◌↔◌, true, false, length, IfOk, MatchOption};
+ghost use Rattle.std.specs.Prelude.{◌≡◌, ◌^◌, ◌<◌, ◌↔◌, true, length, IfOk};
 ghost use Rattle.whole_rules.specs.Purses.{purse};
-ghost use Rattle.whole_rules.specs.WholeGame.{State, Applies, IsLegal, ListsMoves, MovesBelow, IsFirstMove};
+ghost use Rattle.whole_rules.specs.WholeGame.{Applies, IsLegal, ListsMoves, MovesBelow, IsFirstMove};
 
 use crate::money::{Purses, Token};
 use go_grid::{Board, Colour, Marks, Point};
 use go_play::{PlaceError, allowed, place};
 use std::alloc::{AllocError, Global};
 use std::marker::Model;
+use thiserror::Error;
 
 /// What a player may do in their turn.
-#[derive(Clone, Copy, PartialEq, Eq)]
+#[derive(Clone, Copy, PartialEq, Eq, Debug)]
 pub enum Move {
+    /// Places a stone on a contested point. Each stone that it takes adds a point to the mover's purse.
     Stone(Point),
+    /// Gives back a point of the mover's purse.
     Spend,
+    /// Removes the token. Where the mover isn't its owner, the owner's purse gains a point.
     Half,
 }
 
 /// Why a move is refused.
-#[derive(Clone, Copy, PartialEq, Eq)]
+#[derive(Clone, Copy, PartialEq, Eq, Debug, Error)]
 pub enum MoveError {
+    /// The point isn't a contested point of the board.
+    #[error("not contested")]
     NotContested,
+    /// The contested point isn't empty.
+    #[error("occupied")]
     Occupied,
+    /// The point is contested and empty, and the new stone's chain would have no liberty.
+    #[error("suicide")]
     Suicide,
+    /// The mover has no point to spend.
+    #[error("empty purse")]
     EmptyPurse,
+    /// Nobody owns a token.
+    #[error("no half")]
     NoHalf,
 }
 
-/// A state of the whole game.
+/// A state of the whole game: a board, the points that were contested at the opening, two purses in points, the token
+/// of a half-point and the side to move. The players move in turn, and one who has no move loses.
 #[derive(Drop)]
 pub struct Whole {
     board: Board,
@@ -50,7 +65,8 @@ impl Whole {
     ghost use Rattle.whole_rules.specs.declared.states.Move.{Move};
     ghost use Rattle.whole_rules.specs.declared.states.Move.TheVariants.{Stone, Spend, Half};
 
-    pub fn new(board: Board, contested: Marks, purses: Purses, side: Colour) -> Whole
+    /// A state of these parts.
+    pub(crate) fn new(board: Board, contested: Marks, purses: Purses, side: Colour) -> Whole
         ensures { result ≡ record { board = board; contested = contested; purses = purses; side = side } }
     {
         Whole {
@@ -61,36 +77,42 @@ impl Whole {
         }
     }
 
-    pub fn copy(&self) -> Result<Whole, AllocError>
+    /// The same state once more.
+    pub(crate) fn copy(&self) -> Result<Whole, AllocError>
         ensures { IfOk result (λ w. w ≡ self.now) }
     {
         Ok(Whole::new(self.board.copy()?, self.contested, self.purses, self.side))
     }
 
+    /// The board.
     pub fn board(&self) -> &Board
         ensures { result.now ≡ self.now.board }
     {
         &self.board
     }
 
+    /// The purse of a player, in points.
     pub fn purse(&self, colour: Colour) -> u64
         ensures { result ≡ purse colour self.now.purses }
     {
         self.purses.of(colour)
     }
 
+    /// Who owns the token of a half-point.
     pub fn token(&self) -> Token
         ensures { result ≡ self.now.purses.token }
     {
         self.purses.token
     }
 
+    /// The side to move.
     pub fn side(&self) -> Colour
         ensures { result ≡ self.now.side }
     {
         self.side
     }
 
+    /// Whether a point is contested. A point off the board isn't.
     pub fn contested(&self, point: Point) -> bool
         ensures { (result ≡ true) ↔ IsMarked self.now.contested point }
     {
@@ -114,7 +136,7 @@ impl Whole {
         }
     }
 
-    /// Whether the side to move has a unit to spend.
+    /// Whether the side to move has a point to spend.
     fn may_spend(&self) -> bool
         ensures { (result ≡ true) ↔ IsLegal self.now Spend }
     {
@@ -163,7 +185,7 @@ impl Whole {
         self.moves_in(self.board.allocator())
     }
 
-    /// The first legal move.
+    /// The first of the legal moves in the order of `moves`, or `None` where the side to move has none.
     pub fn first_move(&self) -> Option<Move>
         ensures { IsFirstMove self.now result }
     {
@@ -201,7 +223,8 @@ impl Whole {
         }
     }
 
-    /// Makes a move of the side to move.
+    /// Makes a move of the side to move, or leaves the state as it was where the move is illegal: for a stone
+    /// `NotContested`, else `Occupied`, else `Suicide`; for `Spend` `EmptyPurse`; for `Half` `NoHalf`.
     pub fn apply(&mut self, chosen: Move) -> Result<(), MoveError>
         requires black { self.old.purses.black < 2 ^ 62 }
         requires white { self.old.purses.white < 2 ^ 62 }

@@ -1,0 +1,165 @@
+-- The board of a main line has one size throughout, so a fault's point lies on the file's board.
+use Rattle.std.proofs.Common.{◌≡◌, ℕ, ◌+◌, ◌*◌, ◌<◌, refl, sym, ap, subst, ◌∙◌, List, [], ◌∷◌, Bool, true, false, length, Some, None, Ok, Err}
+use Rattle.std.specs.Prelude.{Option, Result, codes, ℤ}
+use Rattle.std.proofs.lemmas.List.{length-set, length-replicate}
+use Rattle.go_grid.specs.declared.grid.Cell.{Cell}
+use Rattle.go_grid.specs.declared.grid.Cell.TheVariants as cell
+use Rattle.go_grid.specs.declared.grid.Colour.{Colour}
+use Rattle.go_grid.specs.declared.grid.Colour.TheVariants as colour
+use Rattle.go_grid.specs.Grid.{Grid, stone}
+use Rattle.go_play.specs.Place.{Answers}
+use Rattle.go_play.specs.declared.placing.PlaceError.{PlaceError}
+use Rattle.go_play.specs.declared.placing.PlaceError.TheVariants as place
+use Rattle.sgf_tree.specs.Grammar.{PropertyText}
+use Rattle.sgf_go.specs.declared.replay.Replay.{Replay}
+use Rattle.sgf_go.specs.declared.settings.Settings.{Settings}
+use Rattle.sgf_go.specs.declared.settings.Setup.{Setup}
+use Rattle.sgf_go.specs.declared.fault.SetupFault.{SetupFault}
+use Rattle.sgf_go.specs.declared.fault.SetupFault.TheVariants.{WrongGame, BadSize, BadKomi, BadPoint, BadSide, Occupied, Suicide, NoLiberty}
+use Rattle.sgf_go.specs.Values.{Rectangle, Extent, Says, trimmed}
+use Rattle.sgf_go.specs.Setup.{Part, ◌then◌, GoesOn, Skips, For, Sets, SetsValue, SetsValues, SetsProperty, cell_set, Turns, TurnsTo, side_of, Side, Choice, Chooses, moved, with_taken, placed, Moves, MovesProperty, mover, first_value, NodePart, Unless, LinePart, ends_before, value_of, root, is_go, IsBoardSize, empty_board, Ends, FromKomi, FromSize, FromGame, Gives}
+use Rattle.endgame_run.specs.Position.{IsOnLine}
+use Rattle.sgf_go.specs.Setup.Choice.{pass, stone_at, nothing}
+
+record SameSize (g h : Grid) : Type 0 where
+  columns : h.columns ≡ g.columns
+  rows : h.rows ≡ g.rows
+  long : length h.cells ≡ length g.cells
+
+same_here : (g : Grid) → SameSize g g
+same_here g = record { columns = refl; rows = refl; long = refl }
+
+same_along : (g h k : Grid) → SameSize g h → SameSize h k → SameSize g k
+same_along g h k a b = record { columns = b.columns ∙ a.columns; rows = b.rows ∙ a.rows; long = b.long ∙ a.long }
+
+-- behind a part the board has the size that it had; a part has no fault of the end of the line
+abbrev Fine : Replay → Result Replay SetupFault → Type 0
+Fine s (Ok t) = SameSize s.board t.board
+Fine s (Err (NoLiberty p)) = ⊥
+Fine s (Err f) = Unit {0}
+
+Keeps : Part → Type 0
+Keeps P = (s : Replay) (r : Result Replay SetupFault) → P s r → Fine s r
+
+fine_is : (s : Replay) (r q : Result Replay SetupFault) → r ≡ q → Fine s q → Fine s r
+fine_is s r q e h = subst (Fine s) (sym e) h
+
+fine_along : (s u : Replay) (r : Result Replay SetupFault) → SameSize s.board u.board → Fine u r → Fine s r
+fine_along s u (Ok t) a b = same_along s.board u.board t.board a b
+fine_along s u (Err (NoLiberty p)) a b = b
+fine_along s u (Err WrongGame) a b = tt
+fine_along s u (Err BadSize) a b = tt
+fine_along s u (Err BadKomi) a b = tt
+fine_along s u (Err (BadPoint n)) a b = tt
+fine_along s u (Err BadSide) a b = tt
+fine_along s u (Err (Occupied n)) a b = tt
+fine_along s u (Err (Suicide n)) a b = tt
+
+keeps_skip : Keeps Skips
+unfolding Keeps
+keeps_skip s r h = fine_is s r (Ok s) h (same_here s.board)
+
+goes_on : (Q : Part) → Keeps Q → (s : Replay) (m r : Result Replay SetupFault) → Fine s m → GoesOn Q m r → Fine s r
+unfolding Keeps
+goes_on Q q s (Ok u) r p g = fine_along s u r p (q u r g)
+goes_on Q q s (Err f) r p g = fine_is s r (Err f) g p
+
+keeps_then : (P Q : Part) → Keeps P → Keeps Q → Keeps (P then Q)
+unfolding Keeps
+keeps_then P Q p q s r h = goes_on Q q s h.0 r (p s h.0 h.1) h.2
+
+keeps_for : (A : Type 0) (P : A → Part) → ((x : A) → Keeps (P x)) → (xs : List A) → Keeps (For P xs)
+keeps_for A P p [] = keeps_skip
+keeps_for A P p (x ∷ xs) = keeps_then (P x) (For P xs) (p x) (keeps_for A P p xs)
+
+keeps_sets : (node : ℕ) (c : Cell) (o : Option Rectangle) → Keeps (Sets node c o)
+unfolding Keeps
+keeps_sets node c None s r h = fine_is s r (Err (BadPoint node)) h tt
+keeps_sets node c (Some area) s r h = fine_is s r (Ok (record s { board = h.0 })) h.2 (record { columns = h.1.columns; rows = h.1.rows; long = h.1.long })
+
+keeps_value : (node : ℕ) (c : Cell) (v : List ℕ) → Keeps (SetsValue node c v)
+unfolding Keeps
+keeps_value node c [] s r h = keeps_skip s r h
+keeps_value node c (b ∷ bs) s r h = keeps_sets node c h.0 s r h.2
+
+keeps_values : (node : ℕ) (c : Option Cell) (vs : List (List ℕ)) → Keeps (SetsValues node c vs)
+keeps_values node None vs = keeps_skip
+keeps_values node (Some c) vs = keeps_for (List ℕ) (λ v. SetsValue node c (trimmed v)) (λ v. keeps_value node c (trimmed v)) vs
+
+keeps_turns : (o : Option Colour) → Keeps (Turns o)
+unfolding Keeps
+keeps_turns None s r h = fine_is s r (Err BadSide) h tt
+keeps_turns (Some c) s r h = fine_is s r (Ok (record s { side = c })) h (same_here s.board)
+
+keeps_turns_to : (o : Option (List ℕ)) → Keeps (TurnsTo o)
+keeps_turns_to None = keeps_skip
+keeps_turns_to (Some text) = keeps_turns (side_of text)
+
+keeps_side : (turn : Option Colour) (ps : List PropertyText) → Keeps (Side turn ps)
+keeps_side None ps = keeps_turns_to (value_of (codes "PL") ps)
+keeps_side (Some c) ps = keeps_skip
+
+taken_board : (c : Colour) (n : ℕ) (s : Replay) → (with_taken c n s).board ≡ s.board
+taken_board colour.Black n s = refl
+taken_board colour.White n s = refl
+
+keeps_placed : (node : ℕ) (c : Colour) (p : ℕ) (s : Replay) (h : Grid) (answer : Result ℕ PlaceError) → Answers s.board p c h answer → Fine s (placed node c s h answer)
+keeps_placed node c p s h (Ok n) a =
+    let w = a.0.without in
+    subst (λ b. SameSize s.board b) (sym (taken_board c n (record s { board = h })))
+    (record { columns = w.columns; rows = w.rows; long = w.long ∙ length-set s.board.cells p (stone c) })
+keeps_placed node c p s h (Err place.Occupied) a = tt
+keeps_placed node c p s h (Err place.Suicide) a = tt
+
+keeps_chooses : (node : ℕ) (c : Colour) (k : Choice) → Keeps (Chooses node c k)
+unfolding Keeps
+keeps_chooses node c pass s r h = fine_is s r (Ok (moved c s)) h (same_here s.board)
+keeps_chooses node c nothing s r h = fine_is s r (Err (BadPoint node)) h tt
+keeps_chooses node c (stone_at p) s r h = fine_is s r (placed node c s h.0 h.1) h.3 (keeps_placed node c p s h.0 h.1 h.2)
+
+keeps_moves : (node : ℕ) (c : Option Colour) (text : List ℕ) → Keeps (Moves node c text)
+unfolding Keeps
+keeps_moves node None text s r h = keeps_skip s r h
+keeps_moves node (Some c) text s r h = keeps_chooses node c h.0 s r h.2
+
+keeps_node : (turn : Option Colour) (node : ℕ) (ps : List PropertyText) → Keeps (NodePart turn node ps)
+keeps_node turn node ps = keeps_then (For (SetsProperty node) ps) (Side turn ps then For (MovesProperty node) ps)
+    (keeps_for PropertyText (SetsProperty node) (λ p. keeps_values node (cell_set p) p.values) ps)
+    (keeps_then (Side turn ps) (For (MovesProperty node) ps) (keeps_side turn ps)
+    (keeps_for PropertyText (MovesProperty node) (λ p. keeps_moves node (mover p) (first_value p)) ps))
+
+keeps_unless : (b : Bool) (P : Part) → Keeps P → Keeps (Unless b P)
+keeps_unless true P p = keeps_skip
+keeps_unless false P p = p
+
+keeps_line : (after : Option ℕ) (turn : Option Colour) (node : ℕ) (line : List (List PropertyText)) → Keeps (LinePart after turn node line)
+unfolding Keeps
+keeps_line after turn node [] s r h = keeps_skip s r h
+keeps_line after turn node (ps ∷ line) s r h =
+    keeps_unless (ends_before after ps s.played) (NodePart turn node ps then LinePart after turn (node + 1) line)
+    (keeps_then (NodePart turn node ps) (LinePart after turn (node + 1) line) (keeps_node turn node ps) (keeps_line after turn (node + 1) line)) s r h
+
+from_end : (settings : Settings) (komi : ℤ) (e : Extent) (p : ℕ) (m : Result Replay SetupFault) → Fine (empty_board e) m → Ends settings komi m (Err (NoLiberty p)) → p < e.columns * e.rows
+from_end settings komi e p (Ok s) k h =
+    let same : p ≡ h.0 = cc h.2 in
+    let inside = h.1.choked.1.0 in
+    subst (λ n. p < n) (k.long ∙ length-replicate (e.columns * e.rows) cell.Empty) (subst (λ q. q < length s.board.cells) (sym same) inside)
+from_end settings komi e p (Err f) k h = absurd (fine_is (empty_board e) (Err (NoLiberty p)) (Err f) (err_same h) k) where
+  err_same : Path (Result Setup SetupFault) (Err (NoLiberty p)) (Err f) → Path (Result Replay SetupFault) (Err (NoLiberty p)) (Err f)
+  err_same e = let same : NoLiberty p ≡ f = cc in ap Err same
+
+from_komi : (settings : Settings) (line : List (List PropertyText)) (e : Extent) (p : ℕ) (o : Option ℤ) → FromKomi settings line e o (Err (NoLiberty p)) → p < e.columns * e.rows
+unfolding Keeps
+from_komi settings line e p None h = absurd cc
+from_komi settings line e p (Some k) h = from_end settings k e p h.0 (keeps_line settings.after settings.turn 0 line (empty_board e) h.0 h.1) h.2
+
+from_size : (settings : Settings) (line : List (List PropertyText)) (p : ℕ) (o : Option Extent) → Says (IsBoardSize (value_of (codes "SZ") (root line))) o → FromSize settings line o (Err (NoLiberty p)) → IsOnLine line p
+from_size settings line p None said h = absurd cc
+from_size settings line p (Some e) said h = (e, said, from_komi settings line e p h.0 h.2)
+
+from_game : (settings : Settings) (line : List (List PropertyText)) (p : ℕ) (b : Bool) → FromGame settings line b (Err (NoLiberty p)) → IsOnLine line p
+from_game settings line p false h = absurd cc
+from_game settings line p true h = from_size settings line p h.0 h.1 h.2
+
+pub no_liberty_on_board : (settings : Settings) (line : List (List PropertyText)) (p : ℕ) → Gives settings line (Err (NoLiberty p)) → IsOnLine line p
+no_liberty_on_board settings line p h = from_game settings line p (is_go (value_of (codes "GM") (root line))) h

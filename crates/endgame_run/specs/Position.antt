@@ -1,0 +1,52 @@
+-- The position that a file gives under settings, or what is wrong with it.
+use Rattle.std.specs.Prelude.{◌≡◌, ◌<◌, ◌*◌, ℕ, List, codes, Result, Ok, Err}
+use Rattle.sgf_tree.specs.Grammar.{PropertyText}
+use Rattle.sgf_tree.specs.Reading.{IsAnswer}
+use Rattle.sgf_tree.specs.Reading.Answer.{line, no_tree, bad_byte, cut_short, too_deep}
+use Rattle.sgf_tree.specs.declared.fault.TreeFault.{TreeFault}
+use Rattle.sgf_tree.specs.declared.fault.TreeFault.TheVariants.{NoTree, BadByte, CutShort, TooDeep}
+use Rattle.sgf_go.specs.Setup.{Gives, IsBoardSize, value_of, root}
+use Rattle.sgf_go.specs.Values.{Extent}
+use Rattle.sgf_go.specs.declared.settings.Settings.{Settings}
+use Rattle.sgf_go.specs.declared.settings.Setup.{Setup}
+use Rattle.sgf_go.specs.declared.fault.SetupFault.{SetupFault}
+use Rattle.sgf_go.specs.declared.fault.SetupFault.TheVariants.{WrongGame, BadSize, BadKomi, BadPoint, BadSide, Occupied, Suicide, NoLiberty}
+use Rattle.endgame_run.specs.declared.status.FileFault.{FileFault}
+use Rattle.endgame_run.specs.declared.status.FileFault.TheVariants as fault
+use Rattle.endgame_run.specs.Texts.{point_line, fault_line, fault_line_at}
+
+-- the file's main line gives the position by the settings, or this fault
+abbrev pub Reads : List ℕ → Settings → Result Setup FileFault → Type 0
+Reads file settings (Ok setup) = (l : List (List PropertyText)) × IsAnswer file (line l) × Gives settings l (Ok setup)
+Reads file settings (Err (fault.Setup f)) = (l : List (List PropertyText)) × IsAnswer file (line l) × Gives settings l (Err f)
+Reads file settings (Err (fault.Tree NoTree)) = IsAnswer file no_tree
+Reads file settings (Err (fault.Tree (BadByte at))) = IsAnswer file (bad_byte at)
+Reads file settings (Err (fault.Tree CutShort)) = IsAnswer file cut_short
+Reads file settings (Err (fault.Tree TooDeep)) = IsAnswer file too_deep
+
+-- the line of a fault of a tree
+abbrev pub IsTreeFaultText : TreeFault → List ℕ → Type 0
+IsTreeFaultText NoTree text = text ≡ fault_line (codes "no tree")
+IsTreeFaultText (BadByte at) text = text ≡ fault_line_at (codes "bad byte") at
+IsTreeFaultText CutShort text = text ≡ fault_line (codes "cut short")
+IsTreeFaultText TooDeep text = text ≡ fault_line (codes "too deep")
+
+-- the line of a fault of a position; the point without a liberty is named by the size that the main line gives
+abbrev pub IsSetupFaultText : List (List PropertyText) → SetupFault → List ℕ → Type 0
+IsSetupFaultText l WrongGame text = text ≡ fault_line (codes "wrong game")
+IsSetupFaultText l BadSize text = text ≡ fault_line (codes "bad size")
+IsSetupFaultText l BadKomi text = text ≡ fault_line (codes "bad komi")
+IsSetupFaultText l (BadPoint node) text = text ≡ fault_line_at (codes "bad point at node") node
+IsSetupFaultText l BadSide text = text ≡ fault_line (codes "bad side")
+IsSetupFaultText l (Occupied node) text = text ≡ fault_line_at (codes "occupied at node") node
+IsSetupFaultText l (Suicide node) text = text ≡ fault_line_at (codes "suicide at node") node
+IsSetupFaultText l (NoLiberty p) text = (e : Extent) × IsBoardSize (value_of (codes "SZ") (root l)) e × (text ≡ point_line (codes "fault file no liberty at") e.columns p)
+
+-- the line of a fault of a file
+abbrev pub IsFaultText : List ℕ → FileFault → List ℕ → Type 0
+IsFaultText file (fault.Tree f) text = IsTreeFaultText f text
+IsFaultText file (fault.Setup f) text = (l : List (List PropertyText)) × IsAnswer file (line l) × IsSetupFaultText l f text
+
+-- the point lies on a board of the size that the main line gives
+abbrev pub IsOnLine : List (List PropertyText) → ℕ → Type 0
+IsOnLine l p = (e : Extent) × IsBoardSize (value_of (codes "SZ") (root l)) e × (p < e.columns * e.rows)

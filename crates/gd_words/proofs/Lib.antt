@@ -1,0 +1,7 @@
+pub mod Number
+pub mod Names
+pub mod Unique
+pub mod Saying
+pub mod Listing
+pub mod Jobs
+pub mod Bounds

@@ -1,0 +1,34 @@
+-- A name and a value say at most one option.
+use Rattle.std.proofs.Common.{◌≡◌, ℕ, List, refl, sym, ap, ◌∙◌, subst}
+use Rattle.go_grid.specs.declared.grid.Colour.{Colour}
+use Rattle.go_grid.specs.declared.grid.Colour.TheVariants.{Black, White}
+use Rattle.sgf_go.proofs.Komis.{one_komi}
+use Rattle.gd_words.specs.declared.choice.Choice.{Choice}
+use Rattle.gd_words.specs.declared.choice.Choice.TheVariants.{Komi, Turn, After, BlackPrisoners, WhitePrisoners, Positions, Parts, Engine}
+use Rattle.gd_words.specs.Choice.{IsChoice, IsValue, name_of}
+use Rattle.gd_words.specs.Value.{IsNumber, colour_word}
+use Rattle.gd_words.proofs.Names.{IsOnly, apart, komi_only, turn_only, after_only, black_only, white_only, positions_only, parts_only, engine_only}
+
+pub one_number : (low high : ℕ) (word : List ℕ) (n m : ℕ) → IsNumber low high word n → IsNumber low high word m → n ≡ m
+one_number low high word n m a b = a.value ∙ sym b.value
+
+one_colour : (word : List ℕ) (c d : Colour) → word ≡ colour_word c → word ≡ colour_word d → c ≡ d
+one_colour word Black Black a b = refl
+one_colour word White White a b = refl
+one_colour word Black White a b = absurd (apart (sym a ∙ b) refl refl)
+one_colour word White Black a b = absurd (apart (sym a ∙ b) refl refl)
+
+same : {A : Type 0} (option : A → Choice) (name word : List ℕ) (y : Choice) (v : A) → IsOnly option (name_of (option v)) → name ≡ name_of (option v) → ((w : A) → IsValue word (option w) → v ≡ w) → IsChoice name word y → option v ≡ y
+same option name word y v only e one b =
+    let m = only y (sym b.0 ∙ e) in
+    ap option (one m.0 (subst (IsValue word) m.1 b.1)) ∙ sym m.1
+
+pub one_choice : (name word : List ℕ) (x y : Choice) → IsChoice name word x → IsChoice name word y → x ≡ y
+one_choice name word (Komi v) y a b = same Komi name word y v komi_only a.0 (λ w. one_komi word v w a.1) b
+one_choice name word (Turn v) y a b = same Turn name word y v turn_only a.0 (λ w. one_colour word v w a.1) b
+one_choice name word (After v) y a b = same After name word y v after_only a.0 (λ w. one_number 0 999999 word v w a.1) b
+one_choice name word (BlackPrisoners v) y a b = same BlackPrisoners name word y v black_only a.0 (λ w. one_number 0 999999 word v w a.1) b
+one_choice name word (WhitePrisoners v) y a b = same WhitePrisoners name word y v white_only a.0 (λ w. one_number 0 999999 word v w a.1) b
+one_choice name word (Positions v) y a b = same Positions name word y v positions_only a.0 (λ w. one_number 1 1000000 word v w a.1) b
+one_choice name word (Parts v) y a b = same Parts name word y v parts_only a.0 (λ w. one_number 1 4000 word v w a.1) b
+one_choice name word (Engine v) y a b = same Engine name word y v engine_only a.0 (λ w. one_colour word v w a.1) b

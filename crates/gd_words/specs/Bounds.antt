@@ -1,0 +1,15 @@
+-- What bounds the values of a job.
+use Rattle.std.specs.Prelude.{◌≤◌, IfSome}
+use Rattle.sgf_go.specs.Komi.{IsInRange}
+use Rattle.gd_words.specs.Job.{JobView}
+
+-- the values are such as the position of a file and a search of it ask for
+pub record IsWithin (job : JobView) : Type 0 where
+  pub komi : IfSome job.settings.komi IsInRange
+  pub after : IfSome job.settings.after (λ n. n ≤ 999999)
+  pub black_prisoners : job.settings.black_prisoners ≤ 999999
+  pub white_prisoners : job.settings.white_prisoners ≤ 999999
+  pub some_positions : 1 ≤ job.positions
+  pub few_positions : job.positions ≤ 1000000
+  pub some_parts : 1 ≤ job.parts
+  pub few_parts : job.parts ≤ 4000

@@ -1,0 +1,32 @@
+-- The options of the command line: their names and their values.
+use Rattle.std.specs.Prelude.{◌≡◌, ℕ, List, codes}
+use Rattle.sgf_go.specs.Komi.{IsKomi}
+use Rattle.gd_words.specs.declared.choice.Choice.{Choice}
+use Rattle.gd_words.specs.declared.choice.Choice.TheVariants.{Komi, Turn, After, BlackPrisoners, WhitePrisoners, Positions, Parts, Engine}
+use Rattle.gd_words.specs.Value.{IsNumber, colour_word}
+
+-- the word that names an option
+abbrev pub name_of : Choice → List ℕ
+name_of (Komi halves) = codes "--komi"
+name_of (Turn colour) = codes "--turn"
+name_of (After n) = codes "--after"
+name_of (BlackPrisoners n) = codes "--black-prisoners"
+name_of (WhitePrisoners n) = codes "--white-prisoners"
+name_of (Positions n) = codes "--positions"
+name_of (Parts n) = codes "--parts"
+name_of (Engine colour) = codes "--as"
+
+-- the word gives the option its value; a komi has no white space
+abbrev pub IsValue : List ℕ → Choice → Type 0
+IsValue word (Komi halves) = IsKomi word halves
+IsValue word (Turn colour) = word ≡ colour_word colour
+IsValue word (After n) = IsNumber 0 999999 word n
+IsValue word (BlackPrisoners n) = IsNumber 0 999999 word n
+IsValue word (WhitePrisoners n) = IsNumber 0 999999 word n
+IsValue word (Positions n) = IsNumber 1 1000000 word n
+IsValue word (Parts n) = IsNumber 1 4000 word n
+IsValue word (Engine colour) = word ≡ colour_word colour
+
+-- an option as two words: its name and its value
+abbrev pub IsChoice : List ℕ → List ℕ → Choice → Type 0
+IsChoice name value choice = (name ≡ name_of choice) × IsValue value choice

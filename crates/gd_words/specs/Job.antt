@@ -1,0 +1,82 @@
+-- The grammar of the command line, and the job that its words say:
+--     words = ( "solve" | "safe" | "values" | "play" ) file { name value } | "trial" number
+use Rattle.std.specs.Prelude.{◌≡◌, ◌≢◌, ◌∷◌, [], ⊤, ℕ, List, Option, Some, None}
+use Rattle.std.specs.List.{All, AllPairs, Contains}
+use Rattle.std.specs.Option.{unwrap_or}
+use Rattle.go_grid.specs.declared.grid.Colour.{Colour}
+use Rattle.sgf_go.specs.declared.settings.Settings.{Settings}
+use Rattle.gd_words.specs.declared.choice.Choice.{Choice}
+use Rattle.gd_words.specs.declared.choice.Choice.TheVariants.{Komi, Turn, After, BlackPrisoners, WhitePrisoners, Positions, Parts, Engine}
+use Rattle.gd_words.specs.declared.chosen.Chosen.{Chosen}
+use Rattle.gd_words.specs.Choice.{IsChoice, name_of}
+use Rattle.gd_words.specs.Task.{Task, AreFor, GoesWith}
+
+-- the words are the names and values of the options, one after the other
+abbrev pub Spell : List (List ℕ) → List Choice → Type 0
+Spell [] [] = ⊤
+Spell (name ∷ value ∷ words) (choice ∷ choices) = IsChoice name value choice × Spell words choices
+Spell words choices = ⊥
+
+-- the value of an option that stands among the options, or nothing where it doesn't
+abbrev pub Gives : {A : Type 0} → List Choice → (A → Choice) → Option A → Type 0
+Gives choices option (Some value) = Contains choices (option value)
+Gives {A} choices option None = (value : A) → ¬ Contains choices (option value)
+
+-- what the options say, each its own value
+pub record Say (choices : List Choice) (chosen : Chosen) : Type 0 where
+  pub komi : Gives choices Komi chosen.komi
+  pub turn : Gives choices Turn chosen.turn
+  pub after : Gives choices After chosen.after
+  pub black_prisoners : Gives choices BlackPrisoners chosen.black_prisoners
+  pub white_prisoners : Gives choices WhitePrisoners chosen.white_prisoners
+  pub positions : Gives choices Positions chosen.positions
+  pub parts : Gives choices Parts chosen.parts
+  pub engine : Gives choices Engine chosen.engine
+
+-- the words are options of the task, in any order and none of them twice, and this is what they say
+pub record AreChoices (task : Task) (words : List (List ℕ)) (chosen : Chosen) : Type 0 where
+  pub choices : List Choice
+  pub spelt : Spell words choices
+  pub fit : All (GoesWith task) choices
+  pub once : AllPairs (λ x y. name_of x ≢ name_of y) choices
+  pub said : Say choices chosen
+
+-- a job: what is asked for, of which position, within which limits, and with which colour for the engine
+pub record JobView : Type 0 where
+  pub task : Task
+  pub settings : Settings
+  pub positions : ℕ
+  pub parts : ℕ
+  pub engine : Option Colour
+
+-- the job of a task and its options: what they leave open has its default
+abbrev pub job_of : Task → Chosen → JobView
+job_of task chosen = record {
+  task = task;
+  settings = record {
+    after = chosen.after;
+    komi = chosen.komi;
+    turn = chosen.turn;
+    black_prisoners = unwrap_or chosen.black_prisoners 0;
+    white_prisoners = unwrap_or chosen.white_prisoners 0;
+  };
+  positions = unwrap_or chosen.positions 100000;
+  parts = unwrap_or chosen.parts 500;
+  engine = chosen.engine;
+}
+
+-- the words say the job: two words for the task, and then its options
+pub record IsJob (words : List (List ℕ)) (job : JobView) : Type 0 where
+  pub word : List ℕ
+  pub argument : List ℕ
+  pub rest : List (List ℕ)
+  pub whole : words ≡ word ∷ argument ∷ rest
+  pub task : AreFor word argument job.task
+  pub chosen : Chosen
+  pub options : AreChoices job.task rest chosen
+  pub says : job ≡ job_of job.task chosen
+
+-- the words say the job and no other one
+pub record IsOnlyJob (words : List (List ℕ)) (job : JobView) : Type 0 where
+  pub said : IsJob words job
+  pub only : (other : JobView) → IsJob words other → other ≡ job

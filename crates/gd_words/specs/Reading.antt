@@ -1,0 +1,16 @@
+-- One option more.
+use Rattle.std.specs.Prelude.{◌≡◌, Some, None}
+use Rattle.gd_words.specs.declared.choice.Choice.{Choice}
+use Rattle.gd_words.specs.declared.choice.Choice.TheVariants.{Komi, Turn, After, BlackPrisoners, WhitePrisoners, Positions, Parts, Engine}
+use Rattle.gd_words.specs.declared.chosen.Chosen.{Chosen}
+
+-- `more` says the option besides, which `o` doesn't say
+abbrev pub IsWith : Chosen → Choice → Chosen → Type 0
+IsWith o (Komi halves) more = (o.komi ≡ None) × (more ≡ record o { komi = Some halves })
+IsWith o (Turn colour) more = (o.turn ≡ None) × (more ≡ record o { turn = Some colour })
+IsWith o (After n) more = (o.after ≡ None) × (more ≡ record o { after = Some n })
+IsWith o (BlackPrisoners n) more = (o.black_prisoners ≡ None) × (more ≡ record o { black_prisoners = Some n })
+IsWith o (WhitePrisoners n) more = (o.white_prisoners ≡ None) × (more ≡ record o { white_prisoners = Some n })
+IsWith o (Positions n) more = (o.positions ≡ None) × (more ≡ record o { positions = Some n })
+IsWith o (Parts n) more = (o.parts ≡ None) × (more ≡ record o { parts = Some n })
+IsWith o (Engine colour) more = (o.engine ≡ None) × (more ≡ record o { engine = Some colour })

@@ -1,0 +1,21 @@
+-- What contracts see of words and jobs.
+use Rattle.std.specs.Prelude.{ℕ, List, map}
+use Rattle.gd_words.specs.declared.job.Command.{Command}
+use Rattle.gd_words.specs.declared.job.Command.TheVariants as command
+use Rattle.gd_words.specs.declared.job.Job.{Job}
+use Rattle.gd_words.specs.Task.{Task, solve, safe, values, play, trial}
+use Rattle.gd_words.specs.Job.{JobView}
+use denote.Ref.{Bor}
+
+abbrev pub texts : List (Bor (List ℕ)) → List (List ℕ)
+texts words = map (λ word. word.now) words
+
+abbrev pub task_of : Command → Task
+task_of (command.Solve file) = solve file.now
+task_of (command.Safe file) = safe file.now
+task_of (command.Values file) = values file.now
+task_of (command.Play file) = play file.now
+task_of (command.Trial n) = trial n
+
+abbrev pub viewed : Job → JobView
+viewed job = record { task = task_of job.command; settings = job.settings; positions = job.positions; parts = job.parts; engine = job.engine }

@@ -1,0 +1,50 @@
+//! The options of the command line.
+
+ghost use Rattle.std.specs.Prelude.{◌≡◌, IfSome, IfNone};
+ghost use Rattle.gd_words.specs.Choice.{IsChoice};
+ghost use Rattle.gd_words.specs.declared.choice.Choice.{Choice};
+
+use crate::value::{read_colour, read_number};
+use go_grid::Colour;
+use sgf_go::read_komi;
+
+/// The most moves or prisoners that an option may say.
+const MOST_COUNT: u32 = 999_999;
+
+/// The most positions of a region that an option may allow.
+const MOST_POSITIONS: u32 = 1_000_000;
+
+/// The most parts of a form that an option may allow.
+const MOST_PARTS: u32 = 4_000;
+
+/// An option with its value.
+#[derive(Clone, Copy)]
+pub enum Choice {
+    /// The komi in half-points.
+    Komi(i64),
+    Turn(Colour),
+    After(u32),
+    BlackPrisoners(u32),
+    WhitePrisoners(u32),
+    Positions(u32),
+    Parts(u32),
+    Engine(Colour),
+}
+
+/// The option that a name and a value say.
+pub fn read_choice(name: &str, value: &str) -> Option<Choice>
+    ensures some { IfSome result (λ choice. IsChoice name.now value.now choice) }
+    ensures none { IfNone result ((choice : Choice) → ¬ IsChoice name.now value.now choice) }
+{
+    match name {
+        "--komi" => Some(Choice::Komi(read_komi(value.as_bytes())?)),
+        "--turn" => Some(Choice::Turn(read_colour(value)?)),
+        "--after" => Some(Choice::After(read_number(0, MOST_COUNT, value)?)),
+        "--black-prisoners" => Some(Choice::BlackPrisoners(read_number(0, MOST_COUNT, value)?)),
+        "--white-prisoners" => Some(Choice::WhitePrisoners(read_number(0, MOST_COUNT, value)?)),
+        "--positions" => Some(Choice::Positions(read_number(1, MOST_POSITIONS, value)?)),
+        "--parts" => Some(Choice::Parts(read_number(1, MOST_PARTS, value)?)),
+        "--as" => Some(Choice::Engine(read_colour(value)?)),
+        _ => None,
+    }
+}

@@ -1,0 +1,67 @@
+//! What the words of a command line ask for.
+
+ghost use Rattle.std.specs.Prelude.{◌≡◌, ◌↔◌, true, IfSome, IfNone};
+ghost use Rattle.gd_words.specs.Task.{Task, AreFor, GoesWith};
+ghost use Rattle.gd_words.specs.Viewed.{task_of};
+
+use crate::choice::Choice;
+use crate::value::read_number;
+use go_grid::Colour;
+use sgf_go::Settings;
+
+/// A command with its file, or with the number of a board. The file `-` is the source, which `Play` never has.
+#[derive(Clone, Copy, PartialEq, Eq)]
+pub enum Command<'a> {
+    Solve(&'a str),
+    Safe(&'a str),
+    Values(&'a str),
+    Play(&'a str),
+    Trial(u32),
+}
+
+/// A command and what its options set.
+#[derive(Clone, Copy, PartialEq, Eq)]
+pub struct Job<'a> {
+    pub command: Command<'a>,
+    /// What is set beside the file.
+    pub settings: Settings,
+    /// The most positions of a region.
+    pub positions: u32,
+    /// The most parts of a form.
+    pub parts: u32,
+    /// The colour that the engine plays, where one is given.
+    pub engine: Option<Colour>,
+}
+
+/// The command that the first two words ask for.
+pub fn read_command<'a>(word: &str, argument: &'a str) -> Option<Command<'a>>
+    ensures some { IfSome result (λ command. AreFor word.now argument.now (task_of command)) }
+    ensures none { IfNone result ((task : Task) → ¬ AreFor word.now argument.now task) }
+{
+    match word {
+        "trial" => Some(Command::Trial(read_number(0, u32::MAX, argument)?)),
+        _ if argument.is_empty() => None,
+        "solve" => Some(Command::Solve(argument)),
+        "safe" => Some(Command::Safe(argument)),
+        "values" => Some(Command::Values(argument)),
+        "play" if argument != "-" => Some(Command::Play(argument)),
+        _ => None,
+    }
+}
+
+impl Command<'_> {
+    /// Whether an option goes with the command.
+    pub(crate) fn takes(&self, choice: Choice) -> bool
+        ensures { (result ≡ true) ↔ GoesWith (task_of self.now) choice }
+    {
+        match self {
+            Command::Solve(_) | Command::Values(_) => !matches!(choice, Choice::Engine(_)),
+            Command::Safe(_) => !matches!(
+                choice,
+                Choice::Engine(_) | Choice::Positions(_) | Choice::Parts(_)
+            ),
+            Command::Play(_) => true,
+            Command::Trial(_) => false,
+        }
+    }
+}

@@ -1,0 +1,10 @@
+pub mod Scans
+pub mod Komis
+pub mod Points
+pub mod Sizes
+pub mod Areas
+pub mod Parts
+pub mod FirstValues
+pub mod Trims
+pub mod Positions
+pub mod Only

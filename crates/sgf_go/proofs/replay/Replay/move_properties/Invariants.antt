@@ -1,0 +1,14 @@
+use Rattle.std.proofs.Common.{◌≤◌, ◌+◌, drop}
+use Rattle.std.specs.Prelude.{Result}
+use Rattle.sgf_tree.specs.Reading.{property_text}
+use Rattle.sgf_go.specs.Setup.{For, MovesProperty, Counts}
+use Rattle.sgf_go.specs.declared.replay.Replay.{Replay}
+use Rattle.sgf_go.specs.declared.fault.SetupFault.{SetupFault}
+use Rattle.sgf_go.proofs.replay.Replay.move_properties.Given as goal
+
+abbrev pub invariant-loop-at : goal.invariant-loop-at
+invariant-loop-at l = record {
+  goes_on : (r : Result Replay SetupFault) → For (λ p. MovesProperty l.node (property_text p)) (drop l.at l.properties) l.self r → For (λ p. MovesProperty l.node (property_text p)) l.properties l.fn.self r;
+  counts : Counts l.self;
+  played : l.self.played ≤ l.fn.self.played + l.at;
+}

@@ -1,0 +1,55 @@
+//! Why a record gives no position.
+
+ghost use Rattle.std.specs.Prelude.{◌≡◌};
+ghost use Rattle.sgf_go.specs.declared.fault.GoError.TheVariants.{Memory};
+
+use go_grid::Point;
+use std::alloc::AllocError;
+use thiserror::Error;
+
+/// What is wrong with a record. The numbers are those of nodes of the main line, counted from 0.
+#[derive(Clone, Copy, Debug, PartialEq, Eq, Error)]
+pub enum SetupFault {
+    /// GM is there and isn't `1`.
+    #[error("wrong game")]
+    WrongGame,
+    /// SZ isn't `n` or `columns:rows` with numbers from 1 to 25.
+    #[error("bad size")]
+    BadSize,
+    /// KM isn't a komi.
+    #[error("bad komi")]
+    BadKomi,
+    /// A value of AB, AW or AE is neither a point of the board nor a rectangle on it, or the value of a move neither a
+    /// point nor a pass.
+    #[error("bad point at node {0}")]
+    BadPoint(u32),
+    /// PL names no colour.
+    #[error("bad side")]
+    BadSide,
+    /// A move at a point that isn't empty.
+    #[error("occupied at node {0}")]
+    Occupied(u32),
+    /// A move that would leave its own chain without a liberty.
+    #[error("suicide at node {0}")]
+    Suicide(u32),
+    /// At the end, the lowest stone whose chain has no liberty.
+    #[error("no liberty at point {}", .0.0)]
+    NoLiberty(Point),
+}
+
+/// Why no position was given.
+#[derive(Clone, Copy, Debug, PartialEq, Eq, Error)]
+pub enum GoError {
+    #[error(transparent)]
+    Fault(SetupFault),
+    #[error(transparent)]
+    Memory(AllocError),
+}
+
+impl From<AllocError> for GoError {
+    ghost from_gives = { λ cause e. e ≡ Memory cause };
+
+    fn from(cause: AllocError) -> Self {
+        GoError::Memory(cause)
+    }
+}

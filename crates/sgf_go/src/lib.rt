@@ -1,0 +1,18 @@
+//! The position at the end of the main line of a game record.
+#![tactic(auto)]
+
+mod fault;
+mod komi;
+mod properties;
+mod replay;
+mod settings;
+mod setup;
+mod values;
+
+pub use fault::{GoError, SetupFault};
+pub use komi::read_komi;
+pub use settings::{Settings, Setup};
+pub use setup::{one_position, position, size_of_board};
+
+#[cfg(test)]
+mod tests;

@@ -1,0 +1,28 @@
+//! What a caller sets, and the position that a record gives.
+
+use go_grid::{Board, Colour};
+
+/// What a caller sets beside the record: prisoners of at most 999,999, and a komi from -1,999,999 to 1,999,999 half-points.
+#[derive(Clone, Copy, PartialEq, Eq)]
+pub struct Settings {
+    /// The line ends before the first move that comes after so many moves and passes.
+    pub after: Option<u32>,
+    /// The komi in half-points, in place of the record's.
+    pub komi: Option<i64>,
+    /// The side to move, in place of the record's.
+    pub turn: Option<Colour>,
+    /// Prisoners that Black has besides those of the record's moves.
+    pub black_prisoners: u64,
+    /// The same of White.
+    pub white_prisoners: u64,
+}
+
+/// A position: its board, the stones that each side has taken, the komi in half-points, and the side to move.
+#[derive(Drop)]
+pub struct Setup {
+    pub board: Board,
+    pub black_prisoners: u64,
+    pub white_prisoners: u64,
+    pub komi_halves: i64,
+    pub side: Colour,
+}
