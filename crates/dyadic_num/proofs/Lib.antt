@@ -1,0 +1,3 @@
+pub mod Simplest
+pub mod Fractions
+pub mod Exponents
