@@ -7,3 +7,4 @@ pub mod EyeLists
 pub mod StrikingLemmas
 pub mod HeldLemmas
 pub mod ContestLemmas
+pub mod WallLemmas

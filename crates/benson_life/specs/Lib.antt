@@ -3,3 +3,4 @@ pub mod Survey
 pub mod Eyes
 pub mod Held
 pub mod Region
+pub mod Walls

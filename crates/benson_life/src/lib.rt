@@ -13,4 +13,4 @@ mod walls;
 
 pub use contest::contested;
 pub use striking::alive;
-pub use territory::{counted, held};
+pub use territory::{counted, held, marked};

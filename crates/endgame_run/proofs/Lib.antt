@@ -1,4 +1,3 @@
 mod SizeLaws
 mod ClosedLaws
-mod TextLaws
 mod TopLaws

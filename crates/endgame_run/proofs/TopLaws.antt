@@ -23,20 +23,21 @@ use Rattle.endgame_run.specs.declared.status.Status.TheVariants.{Done, Usage, Ca
 use Rattle.endgame_run.specs.declared.status.Unbuilt.TheVariants as unbuilt
 use Rattle.endgame_run.specs.declared.status.Status.TheVariants as status
 use Rattle.endgame_run.specs.declared.status.Unbuilt.{Unbuilt}
-use Rattle.gd_words.specs.declared.job.Command.{Command}
-use Rattle.gd_words.specs.declared.job.Command.TheVariants as command
-use Rattle.gd_words.specs.Viewed.{task_of}
-use denote.Ref.{Bor}
+use Rattle.gd_words.specs.Task.{Task}
+use Rattle.gd_words.specs.Task.Task.{solve, safe}
 use Rattle.endgame_run.specs.declared.status.FileFault.TheVariants as fault
 use Rattle.gd_words.specs.Job.{JobView}
 use Rattle.endgame_run.specs.File.{Outside, IsTold, IsWhole, IsShort, dash, told_source, told_of, count_of}
-use Rattle.endgame_run.specs.Solution.{IsOpeningOf}
-use Rattle.endgame_run.specs.Texts.{solve_text, state_lines, word_line, winner_line, move_line, colour_word}
+use Rattle.endgame_run.specs.Solution.{IsOpeningOf, IsSolution}
+use Rattle.report.specs.Lines.{colour_word, word_line}
+use Rattle.report.specs.Solution.{move_line, solve_text, state_lines, winner_line}
+use Rattle.endgame_run.specs.declared.question.Question.{Question}
+use Rattle.endgame_run.specs.declared.question.Question.TheVariants as question
 use Rattle.std.proofs.Common.{Bool, true, false, ◌≢◌}
 use Rattle.std.specs.Str.{bytes_eq}
 use Rattle.std.proofs.lemmas.Slice.Eq.{bytes_eq-Decides}
-use Rattle.endgame_run.specs.Top.{IsFirstMarked, IsLineAnswer, IsSolved, IsSolveRun, IsFinished}
-use Rattle.endgame_run.specs.Verdict.{IsFirstContested, IsFileAnswer, IsAnswer, IsUnbuilt, AskToSolve, IsDecided, HasCause, IsWritten, HasLine, WritesWinner, WritesMove}
+use Rattle.endgame_run.specs.Top.{IsFirstMarked, IsFileRun, IsLineAnswer, IsFinished}
+use Rattle.endgame_run.specs.Verdict.{IsFirstContested, IsFileAnswer, IsPositionAnswer, IsPosed, IsAnswer, AskAbout, AskToSolve, IsDecided, HasCause, IsWritten, HasLine, WritesWinner, WritesMove}
 
 pub first_is : (setup : Setup) (s : State) (p : ℕ) → IsOpeningOf setup s → IsFirstMarked s.contested (length s.board.cells) (Some p) → IsFirstContested setup.board p
 first_is setup s p o m = record { contested = (o.contested p).0 m.1; lowest = λ q l h. m.2 q l ((o.contested q).1 h) }
@@ -44,40 +45,40 @@ first_is setup s p o m = record { contested = (o.contested p).0 m.1; lowest = λ
 pub none_is : (setup : Setup) (s : State) → IsOpeningOf setup s → IsFirstMarked s.contested (length s.board.cells) None → (p : ℕ) → ¬ IsContested setup.board p
 none_is setup s o m p h = m p (subst (λ b. p < length b.cells) (sym o.board) h.0) ((o.contested p).1 h)
 
--- a solved position's status is its main line's
-pub solved_line : (l : List (List PropertyText)) (settings : Settings) (setup : Setup) (s : Status) (text : List ℕ) → Gives settings l (Ok setup) → IsSolved setup s text → IsLineAnswer l settings s text
-solved_line l settings setup Done text g h = (setup, g, h)
-solved_line l settings setup (status.Unbuilt u) text g h = (setup, g, h)
-solved_line l settings setup Usage text g h = absurd h
-solved_line l settings setup CannotRead text g h = absurd h
-solved_line l settings setup CannotWrite text g h = absurd h
-solved_line l settings setup (BadFile f) text g h = absurd h
-solved_line l settings setup Memory text g h = absurd h
-solved_line l settings setup TooLong text g h = absurd h
+-- a position's status is its main line's
+pub position_line : (q : Question) (l : List (List PropertyText)) (settings : Settings) (setup : Setup) (s : Status) (text : List ℕ) → Gives settings l (Ok setup) → IsPositionAnswer q setup s text → IsLineAnswer q l settings s text
+position_line q l settings setup Done text g h = (setup, g, h)
+position_line q l settings setup (status.Unbuilt (unbuilt.Contested p)) text g h = (setup, g, h)
+position_line q l settings setup (status.Unbuilt unbuilt.Command) text g h = absurd h
+position_line q l settings setup Usage text g h = absurd h
+position_line q l settings setup CannotRead text g h = absurd h
+position_line q l settings setup CannotWrite text g h = absurd h
+position_line q l settings setup (BadFile f) text g h = absurd h
+position_line q l settings setup Memory text g h = absurd h
+position_line q l settings setup TooLong text g h = absurd h
 
 -- a main line's status is its file's
-pub line_file : (file : List ℕ) (l : List (List PropertyText)) (settings : Settings) (s : Status) (text : List ℕ) → IsTreeAnswer file (line l) → IsLineAnswer l settings s text → IsFileAnswer file settings s text
-line_file file l settings Done text t h = (h.0, h.2.1.0, h.2.1.1, h.2.1.2, (l, t, h.1), h.2.0, h.2.1.3, h.2.1.4)
-line_file file l settings (status.Unbuilt (unbuilt.Contested p)) text t h = (h.0, (l, t, h.1), h.2.0, h.2.1)
-line_file file l settings (status.Unbuilt unbuilt.Command) text t h = absurd h.2
-line_file file l settings (BadFile (fault.Setup f)) text t h = ((l, t, h.0), (l, t, h.1))
-line_file file l settings (BadFile (fault.Tree f)) text t h = absurd h
-line_file file l settings Usage text t h = absurd h.2
-line_file file l settings CannotRead text t h = absurd h.2
-line_file file l settings CannotWrite text t h = absurd h.2
-line_file file l settings Memory text t h = absurd h.2
-line_file file l settings TooLong text t h = absurd h.2
+pub line_file : (q : Question) (file : List ℕ) (l : List (List PropertyText)) (settings : Settings) (s : Status) (text : List ℕ) → IsTreeAnswer file (line l) → IsLineAnswer q l settings s text → IsFileAnswer q file settings s text
+line_file q file l settings Done text t h = (h.0, (l, t, h.1), h.2)
+line_file q file l settings (status.Unbuilt u) text t h = (h.0, (l, t, h.1), h.2)
+line_file q file l settings (BadFile (fault.Setup f)) text t h = ((l, t, h.0), (l, t, h.1))
+line_file q file l settings (BadFile (fault.Tree f)) text t h = absurd h
+line_file q file l settings Usage text t h = absurd h.2
+line_file q file l settings CannotRead text t h = absurd h.2
+line_file q file l settings CannotWrite text t h = absurd h.2
+line_file q file l settings Memory text t h = absurd h.2
+line_file q file l settings TooLong text t h = absurd h.2
 
 -- a file's status is an answer
-pub answered : (told : Option (Option (List ℕ))) (before now : ℕ) (file : List ℕ) (settings : Settings) (s : Status) (text : List ℕ) → IsTold told file → IsShort file → IsFileAnswer file settings s text → IsAnswer told before now settings s text
-answered told before now file settings Done text t short h = (file, t, short, h)
-answered told before now file settings (status.Unbuilt u) text t short h = (file, t, short, h)
-answered told before now file settings (BadFile f) text t short h = (file, t, short, h)
-answered told before now file settings Usage text t short h = absurd h
-answered told before now file settings CannotRead text t short h = absurd h
-answered told before now file settings CannotWrite text t short h = absurd h
-answered told before now file settings Memory text t short h = absurd h
-answered told before now file settings TooLong text t short h = absurd h
+pub answered : (q : Question) (told : Option (Option (List ℕ))) (before now : ℕ) (file : List ℕ) (settings : Settings) (s : Status) (text : List ℕ) → IsTold told file → IsShort file → IsFileAnswer q file settings s text → IsAnswer q told before now settings s text
+answered q told before now file settings Done text t short h = (file, t, short, h)
+answered q told before now file settings (status.Unbuilt u) text t short h = (file, t, short, h)
+answered q told before now file settings (BadFile f) text t short h = (file, t, short, h)
+answered q told before now file settings Usage text t short h = absurd h.2
+answered q told before now file settings CannotRead text t short h = absurd h.2
+answered q told before now file settings CannotWrite text t short h = absurd h.2
+answered q told before now file settings Memory text t short h = absurd h.2
+answered q told before now file settings TooLong text t short h = absurd h.2
 
 pub told_is : (before now : Option (List ℕ)) (file : List ℕ) → IsWhole before now file → IsTold (told_source before) file
 told_is None now file w = tt
@@ -101,8 +102,8 @@ written_whole words o before now CannotRead text d e = (text, d, e)
 written_whole words o before now TooLong text d e = (text, d, e)
 written_whole words o before now (BadFile f) text d e = (text, d, e)
 written_whole words o before now (status.Unbuilt u) text d e = (text, d, e)
-written_whole words o before now CannotWrite text d e = absurd d.3.3
-written_whole words o before now Memory text d e = absurd d.3.3
+written_whole words o before now CannotWrite text d e = absurd d.4.3.2
+written_whole words o before now Memory text d e = absurd d.4.3.2
 
 pub written : (words : List (List ℕ)) (o : Outside) (kb kn : ℕ) (before now : Option (List ℕ)) (s : Status) (text : List ℕ) (result : Status)
     → IsDecided words o s text → IsFinished s text kb kn before now result → IsWritten words o before now result
@@ -117,25 +118,25 @@ cause_whole words o TooLong text d = (text, d)
 cause_whole words o (BadFile f) text d = (text, d)
 cause_whole words o (status.Unbuilt u) text d = (text, d)
 cause_whole words o CannotWrite text d = tt
-cause_whole words o Memory text d = absurd d.3.3
+cause_whole words o Memory text d = absurd d.4.3.2
 
 pub caused : (words : List (List ℕ)) (o : Outside) (kb kn : ℕ) (before now : Option (List ℕ)) (s : Status) (text : List ℕ) (result : Status)
     → IsDecided words o s text → IsFinished s text kb kn before now result → HasCause words o result
 caused words o kb kn before now s text result d (inl w) = subst (λ r. HasCause words o r) (sym w.0) (cause_whole words o s text d)
 caused words o kb kn before now s text result d (inr f) = subst (λ r. HasCause words o r) (sym f.0) tt
 
--- an answer to words that ask to solve a file
-pub decided : (words : List (List ℕ)) (o : Outside) (job : JobView) (word : List ℕ) (s : Status) (text : List ℕ) → AskToSolve words job word
-    → IsAnswer (told_of o.files o.left word) (count_of o.shelf_before o.lines_before word) (count_of o.shelf_now o.lines_now word) job.settings s text → IsDecided words o s text
-decided words o job word Done text a h = (job, word, a, h)
-decided words o job word CannotRead text a h = (job, word, a, h)
-decided words o job word TooLong text a h = (job, word, a, h)
-decided words o job word (BadFile f) text a h = (job, word, a, h)
-decided words o job word (status.Unbuilt (unbuilt.Contested p)) text a h = (job, word, a, h)
-decided words o job word (status.Unbuilt unbuilt.Command) text a h = absurd h.3
-decided words o job word Usage text a h = absurd h.3
-decided words o job word CannotWrite text a h = absurd h.3
-decided words o job word Memory text a h = absurd h.3
+-- an answer to words that ask about a file
+pub decided : (words : List (List ℕ)) (o : Outside) (job : JobView) (q : Question) (word : List ℕ) (s : Status) (text : List ℕ) → AskAbout words job q word
+    → IsAnswer q (told_of o.files o.left word) (count_of o.shelf_before o.lines_before word) (count_of o.shelf_now o.lines_now word) job.settings s text → IsDecided words o s text
+decided words o job q word Done text a h = (job, q, word, a, h)
+decided words o job q word CannotRead text a h = (job, q, word, a, h)
+decided words o job q word TooLong text a h = (job, q, word, a, h)
+decided words o job q word (BadFile f) text a h = (job, q, word, a, h)
+decided words o job q word (status.Unbuilt (unbuilt.Contested p)) text a h = (job, q, word, a, h)
+decided words o job q word (status.Unbuilt unbuilt.Command) text a h = absurd h.3.2
+decided words o job q word Usage text a h = absurd h.3.2
+decided words o job q word CannotWrite text a h = absurd h.3.2
+decided words o job q word Memory text a h = absurd h.3.2
 
 -- the line `winner` and the line `move` of the text
 winner_stands : (before : Option (List ℕ)) (s : State) (winner : Colour) (move : Option Move) → HasLine before (append_known before (solve_text s winner move)) (winner_line winner)
@@ -159,31 +160,64 @@ done_text : (words : List (List ℕ)) (o : Outside) (kb kn : ℕ) (before now : 
 done_text words o kb kn before now s text result d (inl w) e = (subst (λ r. IsDecided words o r text) (sym w.0 ∙ e) d, w.1)
 done_text words o kb kn before now s text result d (inr f) e = absurd cc
 
-pub writes_winner : (words : List (List ℕ)) (o : Outside) (kb kn : ℕ) (before now : Option (List ℕ)) (s : Status) (text : List ℕ) (result : Status)
-    → IsDecided words o s text → IsFinished s text kb kn before now result → result ≡ Done → WritesWinner words o before now
-writes_winner words o kb kn before now s text result a f e =
-    let d = done_text words o kb kn before now s text result a f e in
-    let h = d.0.3 in let t = h.3 in (
-      t.0,
-      t.1,
-      t.2,
-      record { job = d.0.0; word = d.0.1; file = h.0; asks = d.0.2; told = h.1; reads = t.4; opening = t.6.opening },
-      t.6.wins,
-      subst (λ n. HasLine before n (winner_line t.2)) (ap (append_known before) (sym t.7) ∙ sym d.1) (winner_stands before t.1 t.2 t.3),
-    )
+-- a run that ends with `Done` on words that ask to solve a file has written a solution
+pub record Posed (words : List (List ℕ)) (o : Outside) (before now : Option (List ℕ)) : Type 0 where
+  pub setup : Setup
+  pub state : State
+  pub winner : Colour
+  pub move : Option Move
+  pub posed : IsPosed words o setup state
+  pub solution : IsSolution setup state winner move
+  pub text : now ≡ append_known before (solve_text state winner move)
 
-pub writes_move : (words : List (List ℕ)) (o : Outside) (kb kn : ℕ) (before now : Option (List ℕ)) (s : Status) (text : List ℕ) (result : Status)
-    → IsDecided words o s text → IsFinished s text kb kn before now result → result ≡ Done → WritesMove words o before now
-writes_move words o kb kn before now s text result a f e =
+-- words ask one question
+one_question : (words : List (List ℕ)) (job other : JobView) (q : Question) (word w : List ℕ) → AskAbout words job q word → AskAbout words other question.Solve w → q ≡ question.Solve
+one_question words job other question.Solve word w a b = refl
+one_question words job other question.Safe word w a b =
+    let same = a.0.only other b.0.said in
+    let k : Path Task (solve w) (safe word) = sym b.1 ∙ ap (λ j. j.task) same ∙ a.1 in absurd cc
+
+solution_from : (words : List (List ℕ)) (o : Outside) (job : JobView) (q : Question) (word : List ℕ) (before now : Option (List ℕ)) (text : List ℕ) → q ≡ question.Solve → AskAbout words job q word
+    → IsAnswer q (told_of o.files o.left word) (count_of o.shelf_before o.lines_before word) (count_of o.shelf_now o.lines_now word) job.settings Done text
+    → now ≡ append_known before text → Posed words o before now
+solution_from words o job question.Safe word before now text same a h e = absurd cc
+solution_from words o job question.Solve word before now text same a h e =
+    let t = h.3 in let v = t.2.1 in record {
+      setup = t.0;
+      state = v.0;
+      winner = v.1;
+      move = v.2;
+      posed = record { job = job; word = word; file = h.0; asks = a; told = h.1; reads = t.1; opening = v.3.opening };
+      solution = v.3;
+      text = e ∙ ap (append_known before) v.4;
+    }
+
+posed_by : (words : List (List ℕ)) (o : Outside) (kb kn : ℕ) (before now : Option (List ℕ)) (s : Status) (text : List ℕ) (result : Status)
+    → IsDecided words o s text → IsFinished s text kb kn before now result → result ≡ Done → AskToSolve words → Posed words o before now
+posed_by words o kb kn before now s text result a f e asked =
     let d = done_text words o kb kn before now s text result a f e in
-    let h = d.0.3 in let t = h.3 in (
-      t.0,
-      t.1,
-      t.3,
-      record { job = d.0.0; word = d.0.1; file = h.0; asks = d.0.2; told = h.1; reads = t.4; opening = t.6.opening },
-      t.6.first,
-      subst (λ n. HasLine before n (move_line t.1.board.columns t.3)) (ap (append_known before) (sym t.7) ∙ sym d.1) (move_stands before t.1 t.2 t.3),
-    )
+    let h = d.0 in
+    solution_from words o h.0 h.1 h.2 before now text (one_question words h.0 asked.0 h.1 h.2 asked.1 h.3 asked.2) h.3 h.4 d.1
+
+winner_of : (words : List (List ℕ)) (o : Outside) (before now : Option (List ℕ)) → Posed words o before now → WritesWinner words o before now
+winner_of words o before now p = (
+  p.setup,
+  p.state,
+  p.winner,
+  p.posed,
+  p.solution.wins,
+  subst (λ n. HasLine before n (winner_line p.winner)) (sym p.text) (winner_stands before p.state p.winner p.move),
+)
+
+move_of : (words : List (List ℕ)) (o : Outside) (before now : Option (List ℕ)) → Posed words o before now → WritesMove words o before now
+move_of words o before now p = (
+  p.setup,
+  p.state,
+  p.move,
+  p.posed,
+  p.solution.first,
+  subst (λ n. HasLine before n (move_line p.state.board.columns p.move)) (sym p.text) (move_stands before p.state p.winner p.move),
+)
 
 -- either the word is that of the source, or it isn't
 pub by_word : (P : Type 0) (word : List ℕ) → (word ≡ dash → P) → (word ≢ dash → P) → P
@@ -192,39 +226,26 @@ by_word P word here there = go (bytes_eq word dash) refl where
   go true e = here ((bytes_eq-Decides word dash).0 e)
   go false e = there (λ k. let t = (bytes_eq-Decides word dash).1 k in cc)
 
--- what a run of `solve` comes to, for the words that ask for it
-pub run_caused : (words : List (List ℕ)) (o : Outside) (job : JobView) (word : List ℕ) (kb kn : ℕ) (before now : Option (List ℕ)) (result : Status)
-    → AskToSolve words job word → IsSolveRun job.settings word o kb kn before now result → HasCause words o result
-run_caused words o job word kb kn before now result a (inl m) = subst (λ r. HasCause words o r) (sym m.0) (job, a.0.said)
-run_caused words o job word kb kn before now result a (inr h) = caused words o kb kn before now h.0 h.1 result (decided words o job word h.0 h.1 a h.2) h.3
+-- what a run comes to, for the words that ask about a file
+pub run_caused : (words : List (List ℕ)) (o : Outside) (job : JobView) (q : Question) (word : List ℕ) (kb kn : ℕ) (before now : Option (List ℕ)) (result : Status)
+    → AskAbout words job q word → IsFileRun q job.settings word o kb kn before now result → HasCause words o result
+run_caused words o job q word kb kn before now result a (inl m) = subst (λ r. HasCause words o r) (sym m.0) (job, a.0.said)
+run_caused words o job q word kb kn before now result a (inr h) = caused words o kb kn before now h.0 h.1 result (decided words o job q word h.0 h.1 a h.2) h.3
 
-pub run_written : (words : List (List ℕ)) (o : Outside) (job : JobView) (word : List ℕ) (kb kn : ℕ) (before now : Option (List ℕ)) (result : Status)
-    → AskToSolve words job word → IsSolveRun job.settings word o kb kn before now result → IsWritten words o before now result
-run_written words o job word kb kn before now result a (inl m) = subst (λ r. IsWritten words o before now r) (sym m.0) m.1
-run_written words o job word kb kn before now result a (inr h) = written words o kb kn before now h.0 h.1 result (decided words o job word h.0 h.1 a h.2) h.3
+pub run_written : (words : List (List ℕ)) (o : Outside) (job : JobView) (q : Question) (word : List ℕ) (kb kn : ℕ) (before now : Option (List ℕ)) (result : Status)
+    → AskAbout words job q word → IsFileRun q job.settings word o kb kn before now result → IsWritten words o before now result
+run_written words o job q word kb kn before now result a (inl m) = subst (λ r. IsWritten words o before now r) (sym m.0) m.1
+run_written words o job q word kb kn before now result a (inr h) = written words o kb kn before now h.0 h.1 result (decided words o job q word h.0 h.1 a h.2) h.3
 
-pub run_winner : (words : List (List ℕ)) (o : Outside) (job : JobView) (word : List ℕ) (kb kn : ℕ) (before now : Option (List ℕ)) (result : Status)
-    → AskToSolve words job word → IsSolveRun job.settings word o kb kn before now result → result ≡ Done → WritesWinner words o before now
-run_winner words o job word kb kn before now result a (inl m) e = absurd cc
-run_winner words o job word kb kn before now result a (inr h) e = writes_winner words o kb kn before now h.0 h.1 result (decided words o job word h.0 h.1 a h.2) h.3 e
+run_posed : (words : List (List ℕ)) (o : Outside) (job : JobView) (q : Question) (word : List ℕ) (kb kn : ℕ) (before now : Option (List ℕ)) (result : Status)
+    → AskAbout words job q word → IsFileRun q job.settings word o kb kn before now result → result ≡ Done → AskToSolve words → Posed words o before now
+run_posed words o job q word kb kn before now result a (inl m) e asked = absurd cc
+run_posed words o job q word kb kn before now result a (inr h) e asked = posed_by words o kb kn before now h.0 h.1 result (decided words o job q word h.0 h.1 a h.2) h.3 e asked
 
-pub run_move : (words : List (List ℕ)) (o : Outside) (job : JobView) (word : List ℕ) (kb kn : ℕ) (before now : Option (List ℕ)) (result : Status)
-    → AskToSolve words job word → IsSolveRun job.settings word o kb kn before now result → result ≡ Done → WritesMove words o before now
-run_move words o job word kb kn before now result a (inl m) e = absurd cc
-run_move words o job word kb kn before now result a (inr h) e = writes_move words o kb kn before now h.0 h.1 result (decided words o job word h.0 h.1 a h.2) h.3 e
+pub run_winner : (words : List (List ℕ)) (o : Outside) (job : JobView) (q : Question) (word : List ℕ) (kb kn : ℕ) (before now : Option (List ℕ)) (result : Status)
+    → AskAbout words job q word → IsFileRun q job.settings word o kb kn before now result → result ≡ Done → AskToSolve words → WritesWinner words o before now
+run_winner words o job q word kb kn before now result a h e asked = winner_of words o before now (run_posed words o job q word kb kn before now result a h e asked)
 
--- a command other than `solve` isn't built
-pub unbuilt_is : (c : Command) → ((word : Bor (List ℕ)) → c ≡ command.Solve word → ⊥) → IsUnbuilt (task_of c)
-unbuilt_is (command.Solve word) other = absurd (other word refl)
-unbuilt_is (command.Safe word) other = tt
-unbuilt_is (command.Values word) other = tt
-unbuilt_is (command.Play word) other = tt
-unbuilt_is (command.Trial n) other = tt
-
-pub unbuilt_not_done : (u : Unbuilt) (text : List ℕ) (kb kn : ℕ) (before now : Option (List ℕ)) (result : Status) → IsFinished (status.Unbuilt u) text kb kn before now result → ¬ (result ≡ Done)
-unbuilt_not_done u text kb kn before now result (inl w) e = let k : Path Status (status.Unbuilt u) Done = sym w.0 ∙ e in cc
-unbuilt_not_done u text kb kn before now result (inr f) e = let k : Path Status CannotWrite Done = sym f.0 ∙ e in cc
-
-pub unbuilt_rose : (u : Unbuilt) (text : List ℕ) (kb kn : ℕ) (before now : Option (List ℕ)) (result : Status) → IsFinished (status.Unbuilt u) text kb kn before now result → result ≡ CannotWrite → Rose kb kn
-unbuilt_rose u text kb kn before now result (inl w) e = let k : Path Status (status.Unbuilt u) CannotWrite = sym w.0 ∙ e in absurd cc
-unbuilt_rose u text kb kn before now result (inr f) e = f.1
+pub run_move : (words : List (List ℕ)) (o : Outside) (job : JobView) (q : Question) (word : List ℕ) (kb kn : ℕ) (before now : Option (List ℕ)) (result : Status)
+    → AskAbout words job q word → IsFileRun q job.settings word o kb kn before now result → result ≡ Done → AskToSolve words → WritesMove words o before now
+run_move words o job q word kb kn before now result a h e asked = move_of words o before now (run_posed words o job q word kb kn before now result a h e asked)

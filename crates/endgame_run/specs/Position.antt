@@ -13,7 +13,8 @@ use Rattle.sgf_go.specs.declared.fault.SetupFault.{SetupFault}
 use Rattle.sgf_go.specs.declared.fault.SetupFault.TheVariants.{WrongGame, BadSize, BadKomi, BadPoint, BadSide, Occupied, Suicide, NoLiberty}
 use Rattle.endgame_run.specs.declared.status.FileFault.{FileFault}
 use Rattle.endgame_run.specs.declared.status.FileFault.TheVariants as fault
-use Rattle.endgame_run.specs.Texts.{point_line, fault_line, fault_line_at}
+use Rattle.report.specs.Lines.{point_line}
+use Rattle.endgame_run.specs.Texts.{fault_line, fault_line_at}
 
 -- the file's main line gives the position by the settings, or this fault
 abbrev pub Reads : List ℕ → Settings → Result Setup FileFault → Type 0

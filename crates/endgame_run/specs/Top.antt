@@ -18,21 +18,14 @@ use Rattle.sgf_tree.specs.Grammar.{PropertyText}
 use Rattle.endgame_run.specs.declared.status.FileFault.TheVariants as fault
 use Rattle.endgame_run.specs.Position.{IsSetupFaultText}
 use Rattle.endgame_run.specs.Solution.{IsSolution}
-use Rattle.endgame_run.specs.Texts.{solve_text, contested_line}
-use Rattle.endgame_run.specs.Verdict.{IsAnswer, IsFirstContested}
+use Rattle.endgame_run.specs.declared.question.Question.{Question}
+use Rattle.endgame_run.specs.Verdict.{IsAnswer, IsPositionAnswer}
 use Rattle.endgame_run.specs.File.{Outside, told_of, count_of}
 
 -- the lowest marked point below `n`, if there is one
 abbrev pub IsFirstMarked : List Bool → ℕ → Option ℕ → Type 0
 IsFirstMarked marks n (Some p) = (p < n) × IsMarked marks p × ((q : ℕ) → q < p → ¬ IsMarked marks q)
 IsFirstMarked marks n None = (q : ℕ) → q < n → ¬ IsMarked marks q
-
--- the status of a position with a settled board, and its text
-abbrev pub IsSolved : Setup → Status → List ℕ → Type 0
-IsSolved setup (Unbuilt (Contested p)) text = IsFirstContested setup.board p × (text ≡ contested_line setup.board.columns p)
-IsSolved setup Done text = ((p : ℕ) → ¬ IsContested setup.board p)
-    × ((s : State) × (winner : Colour) × (move : Option Move) × IsSolution setup s winner move × (text ≡ solve_text s winner move))
-IsSolved setup _ text = ⊥
 
 -- a text written whole, with its status, or a front part of it, as a write failed
 abbrev pub IsFinished : Status → List ℕ → ℕ → ℕ → Option (List ℕ) → Option (List ℕ) → Status → Type 0
@@ -46,16 +39,16 @@ pub record HasRanges (settings : Settings) : Type 0 where
   pub white : settings.white_prisoners ≤ 999999
   pub komi : IfSome settings.komi IsInRange
 
--- the status of a main line under settings, and its text
-abbrev pub IsLineAnswer : List (List PropertyText) → Settings → Status → List ℕ → Type 0
-IsLineAnswer l settings (BadFile (fault.Setup f)) text = Gives settings l (Err f) × IsSetupFaultText l f text
-IsLineAnswer l settings (BadFile (fault.Tree f)) text = ⊥
-IsLineAnswer l settings s text = (setup : Setup) × Gives settings l (Ok setup) × IsSolved setup s text
+-- the status of a question about a main line under settings, and its text
+abbrev pub IsLineAnswer : Question → List (List PropertyText) → Settings → Status → List ℕ → Type 0
+IsLineAnswer question l settings (BadFile (fault.Setup f)) text = Gives settings l (Err f) × IsSetupFaultText l f text
+IsLineAnswer question l settings (BadFile (fault.Tree f)) text = ⊥
+IsLineAnswer question l settings s text = (setup : Setup) × Gives settings l (Ok setup) × IsPositionAnswer question setup s text
 
--- what a run of `solve` on the file of a word comes to: nothing for want of memory, and else an answer that was written
-abbrev pub IsSolveRun : Settings → List ℕ → Outside → ℕ → ℕ → Option (List ℕ) → Option (List ℕ) → Status → Type 0
-IsSolveRun settings word o kb kn before now result =
+-- what a run of a question about the file of a word comes to: nothing for want of memory, and else an answer that was written
+abbrev pub IsFileRun : Question → Settings → List ℕ → Outside → ℕ → ℕ → Option (List ℕ) → Option (List ℕ) → Status → Type 0
+IsFileRun question settings word o kb kn before now result =
     ((result ≡ Memory) × (now ≡ before))
     ⊎ ((s : Status) × (text : List ℕ)
-    × IsAnswer (told_of o.files o.left word) (count_of o.shelf_before o.lines_before word) (count_of o.shelf_now o.lines_now word) settings s text
+    × IsAnswer question (told_of o.files o.left word) (count_of o.shelf_before o.lines_before word) (count_of o.shelf_now o.lines_now word) settings s text
     × IsFinished s text kb kn before now result)

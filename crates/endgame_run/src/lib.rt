@@ -2,8 +2,9 @@
 #![tactic(auto)]
 
 mod closed;
+mod faults;
 mod file;
-mod report;
+mod question;
 mod status;
 mod top;
 

@@ -39,6 +39,20 @@ const CAPTIVE_TEXT: &str =
 const WIDE_TEXT: &str =
     "side black\npurse black 24\npurse white 0\nhalf none\nregions 0\npositions 0\nwinner black\nmove spend\n";
 
+/// `.X.X.O.O.` / `XXXXXOOOO`, with one contested point.
+const POINT: &[u8] = b"(;SZ[9:2]AB[ba][da][ab:eb]AW[fa][ha][fb:ib])";
+
+const CAPTIVE_SAFE: &str =
+    "chain ba white stones 1 open\nchain ca black stones 7 alive\nchain fa white stones 6 alive\n\
+    counted aa black points 2 held 3\ncounted da black points 1 held 1\ncounted ga white points 1 held 1\n\
+    counted ia white points 1 held 1\n";
+
+const POINT_SAFE: &str = "chain ba black stones 7 alive\nchain fa white stones 6 alive\n\
+    counted aa black points 1 held 1\ncounted ca black points 1 held 1\ncounted ga white points 1 held 1\n\
+    counted ia white points 1 held 1\nregion ea points 1\n";
+
+const OPEN_SAFE: &str = "chain ba black stones 1 open\nregion aa points 4\n";
+
 const COMMAND: Status = Status::Unbuilt(Unbuilt::Command);
 
 /// The calls that fail.
@@ -62,6 +76,7 @@ const NOTHING_FAILS: Failing = Failing {
 fn shelf(alloc: Global, failing: u64) -> Result<MemoryShelf, AllocError> {
     let mut shelf = MemoryShelf::new(alloc);
     shelf.add("a", TIE.to_vec(alloc)?)?;
+    shelf.add("c", POINT.to_vec(alloc)?)?;
     shelf.add("g", CAPTIVE.to_vec(alloc)?)?;
     shelf.add("saved", SAVED.to_vec(alloc)?)?;
     shelf.fail_at(failing)?;
@@ -86,7 +101,7 @@ fn outcome(
 #[test]
 fn solves_files_of_the_shelf(rt: HostRuntime) -> Result<(), Fail> {
     let alloc = rt.alloc();
-    let rows: [(&[&str], &str); 7] = [
+    let rows: [(&[&str], &str); 9] = [
         (&["solve", "a"], TIE_TEXT),
         (&["solve", "a", "--turn", "white"], WHITE_TIE_TEXT),
         (
@@ -103,9 +118,11 @@ fn solves_files_of_the_shelf(rt: HostRuntime) -> Result<(), Fail> {
             &["solve", "saved", "--komi", "0", "--turn", "black"],
             TIE_TEXT,
         ),
+        (&["safe", "g"], CAPTIVE_SAFE),
+        (&["safe", "c", "--turn", "white"], POINT_SAFE),
     ];
     for (words, text) in rows {
-        let (status, written) = outcome(alloc, words, b"", 200, NOTHING_FAILS)?;
+        let (status, written) = outcome(alloc, words, b"", 500, NOTHING_FAILS)?;
         assert_eq!(rt; written.as_slice(), text.as_bytes());
         assert_eq!(rt; status, Status::Done);
     }
@@ -218,9 +235,34 @@ fn answers_files_of_the_source(rt: HostRuntime) -> Result<(), Fail> {
 }
 
 #[test]
+fn says_which_chains_of_the_source_are_alive(rt: HostRuntime) -> Result<(), Fail> {
+    let alloc = rt.alloc();
+    let rows: [(&[u8], Status, &str); 4] = [
+        (b"(;SZ[4:1]AB[ba])", Status::Done, OPEN_SAFE),
+        (b"(;SZ[6])", Status::Done, "region aa points 36\n"),
+        (
+            b"(;SZ[2:1]AB[aa]AW[ba])",
+            Status::BadFile(FileFault::Setup(SetupFault::NoLiberty(Point(0)))),
+            "fault file no liberty at aa\n",
+        ),
+        (
+            b"",
+            Status::BadFile(FileFault::Tree(TreeFault::NoTree)),
+            "fault file no tree\n",
+        ),
+    ];
+    for (file, status, text) in rows {
+        let (got, written) = outcome(alloc, &["safe", "-"], file, 200, NOTHING_FAILS)?;
+        assert_eq!(rt; written.as_slice(), text.as_bytes());
+        assert_eq!(rt; got, status);
+    }
+    Ok(())
+}
+
+#[test]
 fn answers_words_by_their_grammar(rt: HostRuntime) -> Result<(), Fail> {
     let alloc = rt.alloc();
-    let rows: [(&[&str], Status, &str); 10] = [
+    let rows: [(&[&str], Status, &str); 11] = [
         (&[], Status::Usage, "fault usage\n"),
         (&["solve"], Status::Usage, "fault usage\n"),
         (
@@ -236,7 +278,12 @@ fn answers_words_by_their_grammar(rt: HostRuntime) -> Result<(), Fail> {
         (&["play", "-"], Status::Usage, "fault usage\n"),
         (&["mend", "a"], Status::Usage, "fault usage\n"),
         (&["values", "a"], COMMAND, "fault unbuilt command\n"),
-        (&["safe", "a"], COMMAND, "fault unbuilt command\n"),
+        (&["play", "a"], COMMAND, "fault unbuilt command\n"),
+        (
+            &["safe", "a", "--parts", "5"],
+            Status::Usage,
+            "fault usage\n",
+        ),
         (&["trial", "7"], COMMAND, "fault unbuilt command\n"),
         (
             &["solve", "nowhere"],

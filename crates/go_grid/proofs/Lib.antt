@@ -1,5 +1,6 @@
 pub mod NearLemmas
 pub mod MarksLemmas
+pub mod PathLemmas
 pub mod WalkLemmas
 pub mod FillLemmas
 pub mod PartsLemmas

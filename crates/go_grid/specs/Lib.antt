@@ -1,7 +1,9 @@
 pub mod Grid
+pub mod Path
 pub mod Walk
 pub mod Chain
 pub mod Marks
 pub mod Name
 pub mod Work
 pub mod Parts
+pub mod Region

@@ -1,65 +1,36 @@
 -- Alive stones and counted points never change in play.
-use Rattle.std.proofs.Common.{◌≡◌, ◌≢◌, ℕ, ◌<◌, ◌⊎◌, inl, inr, List, [], ◌∷◌, refl, sym, ap, ◌∙◌, subst, ℤ}
-use Rattle.go_grid.specs.declared.grid.Cell.{Cell}
-use Rattle.go_grid.specs.declared.grid.Cell.TheVariants as cell
+use Rattle.std.proofs.Common.{◌≡◌, ◌≢◌, ℕ, ◌<◌, List, [], ◌∷◌, refl, sym, ap, ◌∙◌, subst, ℤ}
 use Rattle.go_grid.specs.declared.grid.Colour.{Colour}
 use Rattle.go_grid.specs.declared.grid.Colour.TheVariants as colour
 use Rattle.go_grid.specs.Grid.{Grid, NextTo, HasStone, IsEmpty, Lacks, cell_at, stone, other}
 use Rattle.go_grid.specs.Walk.{Joined}
 use Rattle.go_grid.specs.Marks.{Marks}
 use Rattle.go_grid.specs.Chain.{InChain, HasLiberty, IsLiberty, IsSettled}
-use Rattle.go_grid.proofs.WalkLemmas.{joined_here, joined_step, joined_end, joined_join, joined_more}
+use Rattle.go_grid.proofs.GridLemmas.{same_stone}
+use Rattle.go_grid.proofs.WalkLemmas.{joined_step, joined_end, joined_more}
 use Rattle.benson_life.specs.Life.{InRegion, IsAlive, IsCounted}
 use Rattle.benson_life.specs.Region.{IsContested}
-use Rattle.benson_life.proofs.StandLemmas.{joined_along}
+use Rattle.benson_life.specs.Walls.{WallsStand}
+use Rattle.benson_life.proofs.StandLemmas.{empty_not_stone, joined_along}
+use Rattle.benson_life.proofs.WallLemmas.{counted_region, walls_breathe}
 use Rattle.go_play.specs.Place.{with_stone, IsPlaced, IsTaken}
 use Rattle.whole_rules.proofs.PlacingLaws.{elsewhere, as_long}
 use Rattle.whole_rules.specs.declared.states.Move.{Move}
 use Rattle.whole_rules.specs.declared.states.Move.TheVariants.{Stone, Spend, Half}
 use Rattle.whole_rules.specs.WholeGame.{State, IsMove}
 use Rattle.whole_rules.specs.Opening.{IsOpening}
-use Rattle.whole_rules.specs.Walls.{Plays, WallsStand, WallsBreathe, WallsLast}
-
-stone_same : (c d : Colour) → stone c ≡ stone d → c ≡ d
-stone_same colour.Black colour.Black e = refl
-stone_same colour.Black colour.White e = cc
-stone_same colour.White colour.Black e = cc
-stone_same colour.White colour.White e = refl
-
-not_empty : (c : Colour) → cell.Empty ≢ stone c
-not_empty colour.Black e = cc
-not_empty colour.White e = cc
-
-empty_or_stone : (x : Cell) → (x ≡ cell.Empty) ⊎ ((d : Colour) × (x ≡ stone d))
-empty_or_stone cell.Empty = inl refl
-empty_or_stone cell.Black = inr (colour.Black, refl)
-empty_or_stone cell.White = inr (colour.White, refl)
+use Rattle.whole_rules.specs.Walls.{Plays, WallsLast}
 
 -- an empty point, and a stone of another colour, lacks the colour
 empty_lacks : (g : Grid) (c : Colour) (p : ℕ) → IsEmpty g p → Lacks g c p
-empty_lacks g c p e = (e.0, λ h. not_empty c (sym e.1 ∙ h))
+empty_lacks g c p e = (e.0, λ h. empty_not_stone c (sym e.1 ∙ h))
 
 stone_lacks : (g : Grid) (c d : Colour) (p : ℕ) → d ≢ c → HasStone g d p → Lacks g c p
-stone_lacks g c d p ne h = (h.0, λ e. ne (stone_same d c (sym h.1 ∙ e)))
+stone_lacks g c d p ne h = (h.0, λ e. ne (same_stone d c (sym h.1 ∙ e)))
 
 module _ (g : Grid) where
   alive_stone : (c : Colour) (s : ℕ) → IsAlive g c s → HasStone g c s
   alive_stone c s a = a.1.stones s a.2
-
-  alive_chain : (c : Colour) (s t : ℕ) → IsAlive g c s → InChain g c s t → IsAlive g c t
-  alive_chain c s t a j = (a.0, a.1, a.1.whole s t a.2 j)
-
-  -- a point of the region of a counted point is counted
-  counted_region : (c : Colour) (p q : ℕ) → IsCounted g c p → InRegion g c p q → IsCounted g c q
-  counted_region c p q w j = (
-    w.0,
-    w.1,
-    record {
-      lacks = joined_end g.columns (Lacks g c) p q j;
-      vital = λ x k e. w.2.vital x (joined_join g.columns (Lacks g c) p q x j k) e;
-      walled = λ x s k n h. w.2.walled x s (joined_join g.columns (Lacks g c) p q x j k) n h;
-    },
-  )
 
   -- the liberties of a chain in a region are in the region
   chain_liberty : (c d : Colour) (q : ℕ) → d ≢ c → HasStone g d q → HasLiberty g d q → (r : ℕ) × InRegion g c q r × IsLiberty g d q r
@@ -69,49 +40,7 @@ module _ (g : Grid) where
       (l.0, joined_step g.columns (Lacks g c) q t.0 l.0 walk t.2 (empty_lacks g c l.0 l.1.0), l.1)
 
   module _ (settled : IsSettled g) where
-    -- each region has an empty point
-    region_empty : (c : Colour) (r : ℕ) → Lacks g c r → (p : ℕ) × InRegion g c r p × IsEmpty g p
-    region_empty c r lacks = elim (empty_or_stone (cell_at g r)) [
-      | inl e ↦ (r, joined_here g.columns (Lacks g c) r lacks, (lacks.0, e))
-      | inr e ↦
-          let ne : e.0 ≢ c = λ k. lacks.1 (e.1 ∙ ap stone k) in
-          let l = chain_liberty c e.0 r ne (lacks.0, e.1) (settled e.0 r (lacks.0, e.1)) in
-          (l.0, l.1, l.2.0)
-    ]
-
-    -- an alive stone's chain has a liberty that is counted
-    alive_liberty : (c : Colour) (s : ℕ) → IsAlive g c s → (p : ℕ) × IsCounted g c p × IsLiberty g c s p
-    alive_liberty c s a =
-        let eyes = a.1.eyes s a.2 in
-        let r = eyes.0 in
-        let eye = eyes.2 in
-        let p = region_empty c r eye.lacks in
-        let counted : IsCounted g c r = (
-          s,
-          a,
-          record {
-            lacks = eye.lacks;
-            vital = eye.vital;
-            walled = λ x t j n h. (a.0, a.1, eye.walled x t j n h);
-          },
-        ) in
-        (p.0, counted_region c r p.0 counted p.1, eye.vital p.0 p.1 p.2)
-
     module _ (h : Grid) (walls : WallsStand g h) where
-      -- the chain of an alive stone is still joined, and so is its liberty
-      pub breathes : WallsBreathe g h
-      breathes c s a =
-          let l = alive_liberty c s a in
-          let t = l.2.1 in
-          let chain = joined_along g.columns (HasStone g c) (HasStone h c) s t.0 (λ x j. walls.stones c x (alive_chain c s x a j)) t.1 in (
-            l.0,
-            l.1,
-            (
-              (subst (λ n. l.0 < n) (sym walls.long) l.2.0.0, walls.counted c l.0 l.1 ∙ l.2.0.1),
-              (t.0, subst (λ n. Joined n (HasStone h c) s t.0) (sym walls.columns) chain, subst (λ n. NextTo n t.0 l.0) (sym walls.columns) t.2),
-            ),
-          )
-
       module _ (p : ℕ) (c : Colour) (k : Grid) (contested : IsContested g p) (placed : IsPlaced h p c k) where
         abbrev b : Grid
         b = with_stone h p c
@@ -134,13 +63,13 @@ module _ (g : Grid) where
         still_breathes : (d : Colour) (s q : ℕ) → q ≢ p → IsLiberty h d s q → HasLiberty b d s
         still_breathes d s q ne l =
             let t = l.1 in
-            (q, (empty_on q ne l.0, (t.0, joined_more h.columns (HasStone h d) (HasStone b d) (λ x w. stone_on d x (λ e. not_empty d (sym placed.free.1 ∙ subst (λ y. cell_at h y ≡ stone d) e w.1)) w) s t.0 t.1, t.2)))
+            (q, (empty_on q ne l.0, (t.0, joined_more h.columns (HasStone h d) (HasStone b d) (λ x w. stone_on d x (λ e. empty_not_stone d (sym placed.free.1 ∙ subst (λ y. cell_at h y ≡ stone d) e w.1)) w) s t.0 t.1, t.2)))
 
         alive_kept : (d : Colour) (s : ℕ) → IsAlive g d s → IsTaken b p (other c) s → ⊥
         alive_kept d s a t =
             let on = stone_on d s (alive_elsewhere d s a) (walls.stones d s a) in
-            let e : d ≡ other c = stone_same d (other c) (sym on.1 ∙ t.0.1) in
-            let l = breathes d s a in
+            let e : d ≡ other c = same_stone d (other c) (sym on.1 ∙ t.0.1) in
+            let l = walls_breathe g settled h walls d s a in
             t.2 (subst (λ z. HasLiberty b z s) e (still_breathes d s l.0 (counted_elsewhere d l.0 l.1) l.2))
 
         counted_kept : (d : Colour) (q : ℕ) → IsCounted g d q → IsTaken b p (other c) q → ⊥
@@ -151,11 +80,11 @@ module _ (g : Grid) where
             let ne : o ≢ d = λ e. w.2.lacks.1 (stood.1 ∙ ap stone e) in
             let l = chain_liberty d o q ne stood (settled o q stood) in
             let in_chain : (x : ℕ) → InChain g o q x → HasStone h o x = λ x j.
-            let wx = counted_region d q x w (joined_more g.columns (HasStone g o) (Lacks g d) (λ y v. stone_lacks g d o y ne v) q x j) in
+            let wx = counted_region g d q x w (joined_more g.columns (HasStone g o) (Lacks g d) (λ y v. stone_lacks g d o y ne v) q x j) in
             let sx = joined_end g.columns (HasStone g o) q x j in
             (subst (λ n. x < n) (sym walls.long) sx.0, walls.counted d x wx ∙ sx.1) in
             let r = l.2.1 in
-            let wl = counted_region d q l.0 w l.1 in
+            let wl = counted_region g d q l.0 w l.1 in
             let liberty : IsLiberty h o q l.0 = (
               (subst (λ n. l.0 < n) (sym walls.long) l.2.0.0, walls.counted d l.0 wl ∙ l.2.0.1),
               (r.0, subst (λ n. Joined n (HasStone h o) q r.0) (sym walls.columns) (joined_along g.columns (HasStone g o) (HasStone h o) q r.0 in_chain r.1), subst (λ n. NextTo n r.0 l.0) (sym walls.columns) r.2),
@@ -205,4 +134,4 @@ keeps_plays g settled s t (m ∷ ms) w e = keeps_plays g settled e.0 t ms (keeps
 pub walls_last : WallsLast
 walls_last g black white komi side s t ms settled o e =
     let w = (keeps_plays g settled s t ms (keeps_start g black white komi side s o) e).walls in
-    (w, breathes g settled t.board w)
+    (w, walls_breathe g settled t.board w)

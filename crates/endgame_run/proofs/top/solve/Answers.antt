@@ -1,6 +1,6 @@
-use Rattle.std.proofs.Common.{◌∙◌, ap, codes, subst}
+use Rattle.std.proofs.Common.{◌∙◌, refl, ap, codes, subst}
 use Rattle.whole_rules.specs.Opening.{IsOpening}
-use Rattle.endgame_run.specs.Texts.{point_line}
+use Rattle.report.specs.Lines.{point_line}
 use Rattle.endgame_run.proofs.TopLaws.{first_is, none_is, komi_held}
 use Rattle.endgame_run.proofs.top.solve.Goals as goal
 
@@ -8,8 +8,9 @@ pub returns-in-Some : goal.returns-in-Some
 returns-in-Some c =
     let p = c.args.setup.now in
     let opening = subst (λ k. IsOpening p.board p.black_prisoners p.white_prisoners k p.side c.in_ok-state.state) (komi_held p.komi_halves c.requires.komi) c.in_ok-state.ensures in (
+      refl,
       first_is p c.in_ok-state.state c.in-Some.point opening c.in-Some.ensures,
-      c.in_ok-point_text.ensures ∙ ap (λ n. point_line (codes "fault unbuilt contested") n c.in-Some.point) c.size.ensures.columns,
+      c.from.ensures ∙ c.in_ok-point_text.ensures ∙ ap (λ n. point_line (codes "fault unbuilt contested") n c.in-Some.point) c.size.ensures.columns,
     )
 
 pub returns : goal.returns

@@ -1,0 +1,308 @@
+-- Exploring the reachable positions.
+use Rattle.std.proofs.Common.{◌≡◌, ◌≢◌, ℕ, ◌^◌, ◌<◌, ◌≤◌, inl, inr, suc, zero, arith, refl, sym, ap, ◌∙◌, List, [], ◌∷◌, ◌++◌, map, length, get_or, subst, length-append, Ok, Err, Some, None, slice_get, Vec}
+use Rattle.std.specs.Global.{Global}
+use Rattle.std.proofs.lemmas.Option.{slice_get_within, get_or_from_slice_get, slice_get-get_or}
+use Rattle.std.specs.List.{AllPairs, Contains}
+use Rattle.std.proofs.lemmas.Bool.{cases_eq, cases_lt}
+use Rattle.std.proofs.lemmas.List.{get_or_append_left, get_or_push, length_push, get_or_default, length-map, get_or-map}
+use Rattle.std.proofs.lemmas.List.Elements.{Contains-get_or, Contains-push_cases}
+use Rattle.go_grid.specs.declared.grid.Cell.{Cell}
+use Rattle.go_grid.specs.declared.region.Touch.{Touch}
+use Rattle.local_play.specs.declared.local_move.LocalMove.{LocalMove}
+use Rattle.local_play.specs.LocalPlay.{IsLocalMove}
+use Rattle.local_play.specs.Packed.{pack}
+use Rattle.local_play.specs.Moves.{ListsMoves, IsPosition}
+use Rattle.local_play.proofs.PackLemmas.{pack_same}
+use Rattle.local_graph.specs.declared.building.GraphError.{GraphError}
+use Rattle.local_graph.specs.declared.building.GraphError.TheVariants.{Points, Positions, Cycle, Memory}
+use Rattle.local_graph.specs.declared.cycle.CycleMove.{CycleMove}
+use Rattle.local_graph.specs.declared.graph.Edge.{Edge}
+use Rattle.local_graph.specs.LocalGraph.{Plays, IsReachable, AreEdges, HasMoves, IsGraph, MoreThan}
+use Rattle.local_graph.specs.Found.{Grows, Extends, EdgesFor, Explored, Placed}
+use Rattle.local_graph.proofs.FoundLemmas.{edge_more}
+use Rattle.local_graph.proofs.FiniteLemmas.{few_positions}
+use Rattle.local_graph.proofs.PlayLemmas.{plays_long, plays_more, one_after}
+
+-- each number is that of a reachable position
+abbrev pub AreReachable : List Touch → List Cell → List ℕ → Type 0
+AreReachable touch opening ns = (n : ℕ) → Contains ns n → (cells : List Cell) × IsReachable touch opening cells × (n ≡ pack cells)
+
+-- the positions so far, the first of them with their edges
+pub record Exploring (touch : List Touch) (opening : List Cell) (limit : ℕ) (positions : List ℕ) (edges : List (List Edge)) : Type 0 where
+  pub some : 0 < length positions
+  pub first : get_or positions 0 0 ≡ pack opening
+  pub once : AllPairs (λ a b. a ≢ b) positions
+  pub few : length positions ≤ limit
+  pub reachable : AreReachable touch opening positions
+  pub beside : length edges ≤ length positions
+  pub moves : (i : ℕ) (cells : List Cell) → i < length edges → IsReachable touch opening cells
+      → get_or positions i 0 ≡ pack cells → HasMoves touch cells positions (get_or edges i [])
+
+contains_nil : (n : ℕ) → Contains [] n → ⊥
+contains_nil n (k, lt, at) = omega arith
+
+only_opening : (touch : List Touch) (opening : List Cell) (start : ℕ) (positions : List ℕ) → Grows [] start positions
+    → start ≡ pack opening → AreReachable touch opening positions
+only_opening touch opening start positions (inl none) e n h = absurd (contains_nil n (subst (λ l. Contains l n) none h))
+only_opening touch opening start positions (inr (is, new)) e n h = elim (Contains-push_cases [] start n (subst (λ l. Contains l n) is h)) [
+  | inl old ↦ absurd (contains_nil n old)
+  | inr same ↦ (opening, ([], refl), sym same ∙ e)
+]
+
+pub explore_start : (touch : List Touch) (opening : List Cell) (limit start place : ℕ) (positions : List ℕ) → Grows [] start positions
+    → place < length positions → get_or positions place 0 ≡ start → length positions ≤ limit → start ≡ pack opening
+    → Exploring touch opening limit positions []
+explore_start touch opening limit start place positions g inside at few e = go g
+  where
+    one : (x : ℕ) → Contains positions x → x ≡ start
+    one x h = elim g as (λ _. x ≡ start) [
+      | inl none ↦ absurd (contains_nil x (subst (λ l. Contains l x) none h))
+      | inr (is, new) ↦ elim (Contains-push_cases [] start x (subst (λ l. Contains l x) is h)) [
+        | inl old ↦ absurd (contains_nil x old)
+        | inr same ↦ sym same
+      ]
+    ]
+
+    go : Grows [] start positions → Exploring touch opening limit positions []
+    go (inl none) = absurd (let l = ap length none in omega arith)
+    go (inr (is, new)) = record {
+      some = omega arith;
+      first = ap (λ l. get_or l 0 0) is ∙ e;
+      once = subst (AllPairs (λ a b. a ≢ b)) (sym is) (λ i j d lt short. absurd (omega arith));
+      few = few;
+      reachable = only_opening touch opening start positions g e;
+      beside = omega arith;
+      moves = λ i cells lt. absurd (omega arith);
+    }
+
+-- what was found keeps its place and its moves
+has_moves_more : (touch : List Touch) (cells : List Cell) (before more after : List ℕ) (edges : List Edge) → after ≡ before ++ more
+    → HasMoves touch cells before edges → HasMoves touch cells after edges
+has_moves_more touch cells before more after edges is (moves, lists, (long, each)) =
+    (moves, lists, (long, λ k m e lt am ae. edge_more before more after m e is (each k m e lt am ae)))
+
+reachable_more : (touch : List Touch) (opening : List Cell) (before after : List ℕ) (cells : List Cell) (moves : List LocalMove)
+    → AreReachable touch opening before → Extends before moves after → IsReachable touch opening cells → ListsMoves touch cells moves
+    → AreReachable touch opening after
+reachable_more touch opening before after cells moves all x here lists n h = elim (x.new n h) [
+  | inl old ↦ all n old
+  | inr (m, among, is) ↦
+      let move = lists.legal m among in
+      let step : CycleMove = record { colour = m.colour; place = m.place } in
+      (move.after, (here.0 ++ step ∷ [], plays_more touch opening cells move.after here.0 step here.1 move.move), sym is ∙ move.next)
+]
+
+pub explore_step : (touch : List Touch) (opening : List Cell) (limit : ℕ) (positions after : List ℕ) (edges : List (List Edge))
+    (cells : List Cell) (moves : List LocalMove) (es : List Edge) → Exploring touch opening limit positions edges
+    → length edges < length positions → IsReachable touch opening cells → get_or positions (length edges) 0 ≡ pack cells
+    → ListsMoves touch cells moves → Extends positions moves after → AreEdges after moves es → length after ≤ limit
+    → Exploring touch opening limit after (edges ++ es ∷ [])
+explore_step touch opening limit positions after edges cells moves es s lt here at lists x linked few =
+    let longer = ap length x.appended in
+    let sum = length-append positions x.more in
+    record {
+      some = omega (arith, s.some);
+      first = ap (λ l. get_or l 0 0) x.appended ∙ get_or_append_left positions x.more 0 0 s.some ∙ s.first;
+      once = x.once;
+      few = few;
+      reachable = reachable_more touch opening positions after cells moves s.reachable x here lists;
+      beside = omega (arith, length_push edges es);
+      moves = λ i there less reach is. elim (cases_eq i (length edges)) [
+        | inl e ↦
+            let number : pack there ≡ pack cells =
+            sym is ∙ ap (λ l. get_or l i 0) x.appended ∙ get_or_append_left positions x.more 0 i (omega arith)
+            ∙ ap (λ j. get_or positions j 0) e ∙ at in
+            let long : length there ≡ length cells =
+            plays_long touch opening there reach.0 reach.1 ∙ sym (plays_long touch opening cells here.0 here.1) in
+            let same = pack_same there cells long number in
+            subst (λ y. HasMoves touch y after (get_or (edges ++ es ∷ []) i [])) (sym same)
+            (subst (HasMoves touch cells after) (sym (get_or_push edges es [] i (sym e))) (moves, lists, linked))
+        | inr ne ↦
+            let old : i < length edges = omega (arith, length_push edges es) in
+            let is' = sym (get_or_append_left positions x.more 0 i (omega (arith, s.beside))) ∙ ap (λ l. get_or l i 0) (sym x.appended) ∙ is in
+            subst (HasMoves touch there after) (sym (get_or_append_left edges (es ∷ []) [] i old))
+            (has_moves_more touch there positions x.more after (get_or edges i []) x.appended (s.moves i there old reach is'))
+      ];
+    }
+
+-- the positions of a list of numbers
+unpacked : (touch : List Touch) (opening : List Cell) (ns : List ℕ) → AreReachable touch opening ns
+    → (found : List (List Cell)) × (map pack found ≡ ns) × ((cells : List Cell) → Contains found cells → IsReachable touch opening cells)
+unpacked touch opening [] all = ([], refl, λ cells h. absurd (omega (arith, h.1)))
+unpacked touch opening (n ∷ ns) all =
+    let first = all n (0, omega arith, refl) in
+    let rest = unpacked touch opening ns (λ m h. all m (suc h.0, omega (arith, h.1), h.2)) in (
+      first.0 ∷ rest.0,
+      (let e = sym first.2 in let e' = rest.1 in cc),
+      λ cells h. from first.0 rest.0 first.1 rest.2 cells h,
+    )
+  where
+    from : (x : List Cell) (xs : List (List Cell)) → IsReachable touch opening x
+        → ((cells : List Cell) → Contains xs cells → IsReachable touch opening cells)
+        → (cells : List Cell) → Contains (x ∷ xs) cells → IsReachable touch opening cells
+    from x xs here others cells (zero, lt, at) = subst (IsReachable touch opening) at here
+    from x xs here others cells (suc k, lt, at) = others cells (k, omega arith, at)
+
+pub too_many : (touch : List Touch) (opening : List Cell) (limit : ℕ) (ns : List ℕ) → AreReachable touch opening ns
+    → AllPairs (λ a b. a ≢ b) ns → limit < length ns → MoreThan touch opening limit
+too_many touch opening limit ns all once many =
+    let w = unpacked touch opening ns all in
+    let long : length w.0 ≡ length ns = sym (length-map w.0 pack) ∙ ap length w.1 in
+    record {
+      found = w.0;
+      different = λ i j d lt short same.
+          let at = λ (k : ℕ) (less : k < length w.0). sym (get_or-map pack w.0 k d 0 less) ∙ ap (λ l. get_or l k 0) w.1 in
+          once i j 0 lt (omega arith) (sym (at i (omega arith)) ∙ ap pack same ∙ at j short);
+      reachable = w.2;
+      many = omega arith;
+    }
+
+pub explore_err : (touch : List Touch) (opening : List Cell) (limit : ℕ) (positions after : List ℕ) (edges : List (List Edge))
+    (cells : List Cell) (moves : List LocalMove) (e : GraphError) → Exploring touch opening limit positions edges
+    → IsReachable touch opening cells → ListsMoves touch cells moves → EdgesFor positions moves limit after (Err e)
+    → Explored touch opening limit after (Err e)
+explore_err touch opening limit positions after edges cells moves Positions s here lists x =
+    too_many touch opening limit after
+    (reachable_more touch opening positions after cells moves s.reachable x.0 here lists) x.0.once x.1
+explore_err touch opening limit positions after edges cells moves (Points n) s here lists x = absurd x
+explore_err touch opening limit positions after edges cells moves (Cycle ms back) s here lists x = absurd x
+explore_err touch opening limit positions after edges cells moves (Memory e) s here lists x = tt
+
+pub start_err : (touch : List Touch) (opening : List Cell) (limit start : ℕ) (after : List ℕ) (e : GraphError) → start ≡ pack opening
+    → Placed [] start limit after (Err e) → Explored touch opening limit after (Err e)
+start_err touch opening limit start after Positions is (g, many) =
+    too_many touch opening limit after (only_opening touch opening start after g is) (once g) many
+  where
+    once : Grows [] start after → AllPairs (λ a b. a ≢ b) after
+    once (inl none) = subst (AllPairs (λ a b. a ≢ b)) (sym none) (λ i j d lt short. absurd (omega arith))
+    once (inr (is', new)) = subst (AllPairs (λ a b. a ≢ b)) (sym is') (λ i j d lt short. absurd (omega arith))
+start_err touch opening limit start after (Points n) is x = absurd x
+start_err touch opening limit start after (Cycle ms back) is x = absurd x
+start_err touch opening limit start after (Memory e) is x = tt
+
+-- with the moves of each position there is no other position
+pub explore_end : (touch : List Touch) (opening : List Cell) (limit : ℕ) (positions : List ℕ) (edges : List (List Edge))
+    → Exploring touch opening limit positions edges → length positions ≤ length edges → IsGraph touch opening positions edges
+explore_end touch opening limit positions edges s all = record {
+  some = s.some;
+  first = s.first;
+  once = s.once;
+  reachable = s.reachable;
+  all = λ cells r. reach opening r.0 cells ([], refl) opening_there r.1;
+  beside = full;
+  moves = λ i cells lt. s.moves i cells (omega arith);
+}
+  where
+    full : length edges ≡ length positions
+    full = omega (arith, s.beside)
+
+    opening_there : Contains positions (pack opening)
+    opening_there = subst (Contains positions) s.first (Contains-get_or positions 0 0 s.some)
+
+    edge_at : (n : ℕ) (ms : List LocalMove) (es : List Edge) (m : LocalMove) → AreEdges positions ms es → Contains ms m → Contains positions m.next
+    edge_at n ms es m (long, each) (k, lt, at) =
+        let short : k < length es = omega arith in
+        let none : Edge = record { colour = m.colour; place = 0; next = 0; taken = 0 } in
+        let e = get_or es k none in
+        let w = each k m e short at (get_or_default es k e none short) in
+        subst (Contains positions) w.next (Contains-get_or positions e.next 0 w.inside)
+
+    -- a legal move leads from a position that was found to one that was found
+    step : (from next : List Cell) (m : CycleMove) → IsReachable touch opening from → Contains positions (pack from)
+        → IsLocalMove touch from m.colour m.place next → Contains positions (pack next)
+    step from next m reach (i, lt, at) move =
+        let is = get_or_default positions i 0 (pack from) lt ∙ at in
+        let h = s.moves i from (omega arith) reach is in
+        let found = h.1.all m.colour m.place next move in
+        let legal = h.1.legal found.0 found.1 in
+        let move' = subst (λ p. IsLocalMove touch from m.colour p next) (sym found.3)
+        move in
+        let move'' = subst (λ c. IsLocalMove touch from c found.0.place next) (sym found.2) move' in
+        let same = one_after touch from legal.after next found.0.colour found.0.place legal.move move'' in
+        subst (Contains positions) (legal.next ∙ ap pack same) (edge_at i h.0 (get_or edges i []) found.0 h.2 found.1)
+
+    reach : (from : List Cell) (ms : List CycleMove) (to : List Cell) → IsReachable touch opening from → Contains positions (pack from)
+        → Plays touch from ms to → Contains positions (pack to)
+    reach from [] to here there p = subst (λ x. Contains positions (pack x)) p there
+    reach from (m ∷ ms) to here there (next, move, rest) =
+        reach next ms to (here.0 ++ m ∷ [], plays_more touch opening from next here.0 m here.1 move) (step from next m here there move) rest
+
+-- the same in the words of the code
+pub start_fails : (touch : List Touch) (opening : List Cell) (limit start : ℕ) (before after : List ℕ) (e : GraphError) → before ≡ []
+    → start ≡ pack opening → Placed before start limit after (Err e) → Explored touch opening limit after (Err e)
+start_fails touch opening limit start before after e none is p =
+    start_err touch opening limit start after e is (subst (λ l. Placed l start limit after (Err e)) none p)
+
+pub start_found : (touch : List Touch) (opening : List Cell) (limit start place : ℕ) (before positions : List ℕ) (all : List (List Edge))
+    → before ≡ [] → start ≡ pack opening → all ≡ [] → Placed before start limit positions (Ok place)
+    → Exploring touch opening limit positions all
+start_found touch opening limit start place before positions all none is empty p =
+    let p' = subst (λ l. Placed l start limit positions (Ok place)) none p in
+    subst (Exploring touch opening limit positions) (sym empty)
+    (explore_start touch opening limit start place positions p'.0 p'.1 p'.2 p'.3 is)
+
+-- the position whose moves come next
+pub record IsNext (touch : List Touch) (opening : List Cell) (positions : List ℕ) (i n : ℕ) : Type 0 where
+  pub inside : i < length positions
+  pub at : get_or positions i 0 ≡ n
+  pub cells : List Cell
+  pub long : length cells ≡ length opening
+  pub reach : IsReachable touch opening cells
+  pub packed : n ≡ pack cells
+
+pub next_position : (touch : List Touch) (opening : List Cell) (limit : ℕ) (positions : List ℕ) (edges : List (List Edge)) (i n : ℕ)
+    → Exploring touch opening limit positions edges → slice_get positions i ≡ Some n → IsNext touch opening positions i n
+next_position touch opening limit positions edges i n s e =
+    let inside = slice_get_within positions i n e in
+    let at = get_or_from_slice_get positions i n 0 e in
+    let w = s.reachable n (subst (Contains positions) at (Contains-get_or positions i 0 inside)) in
+    record { inside = inside; at = at; cells = w.0; long = plays_long touch opening w.0 w.1.0 w.1.1; reach = w.1; packed = w.2 }
+
+pub next_valid : (touch : List Touch) (opening : List Cell) (positions : List ℕ) (i n places : ℕ) → IsNext touch opening positions i n
+    → length opening ≡ places → IsPosition places n
+next_valid touch opening positions i n places w long =
+    (w.cells, w.long ∙ long, w.packed)
+
+pub explored_more : (touch : List Touch) (opening : List Cell) (limit : ℕ) (positions after : List ℕ) (all all' : List (List Edge))
+    (i n : ℕ) (moves : List LocalMove) (es : Vec Edge Global) (edges : List Edge) → Exploring touch opening limit positions all
+    → i ≡ length all → (w : IsNext touch opening positions i n) → ListsMoves touch w.cells moves
+    → EdgesFor positions moves limit after (Ok es) → edges ≡ es.items → all' ≡ all ++ edges ∷ [] → Exploring touch opening limit after all'
+explored_more touch opening limit positions after all all' i n moves es edges s at w lists x same is =
+    let here : get_or positions (length all) 0 ≡ pack w.cells = ap (λ k. get_or positions k 0) (sym at) ∙ w.at ∙ w.packed in
+    let step = explore_step touch opening limit positions after all w.cells moves es.items s (omega (arith, w.inside)) w.reach here
+    lists x.0 x.1 x.2 in
+    subst (Exploring touch opening limit after) (sym (is ∙ ap (λ l. all ++ l ∷ []) same)) step
+
+pub explored_fails : (touch : List Touch) (opening : List Cell) (limit : ℕ) (positions after : List ℕ) (all : List (List Edge))
+    (i n : ℕ) (moves : List LocalMove) (e : GraphError) → Exploring touch opening limit positions all
+    → (w : IsNext touch opening positions i n) → ListsMoves touch w.cells moves
+    → EdgesFor positions moves limit after (Err e) → Explored touch opening limit after (Err e)
+explored_fails touch opening limit positions after all i n moves e s w lists x =
+    explore_err touch opening limit positions after all w.cells moves e s w.reach lists x
+
+pub explored_all : (touch : List Touch) (opening : List Cell) (limit : ℕ) (positions : List ℕ) (all : List (List Edge))
+    → Exploring touch opening limit positions all → length positions ≤ length all
+    → IsGraph touch opening positions all × (length positions ≤ limit)
+explored_all touch opening limit positions all s le = (explore_end touch opening limit positions all s le, s.few)
+
+pub none_left : (positions : List ℕ) (i : ℕ) → None ≡ slice_get positions i → length positions ≤ i
+none_left positions i e = elim (cases_lt i (length positions)) as (λ _. length positions ≤ i) [
+  | inl lt ↦ let some = slice_get-get_or positions i 0 lt in cc
+  | inr le ↦ le
+]
+
+-- there are at most 3 to the number of places
+pub few_numbers : (touch : List Touch) (opening : List Cell) (limit places : ℕ) (positions : List ℕ) (edges : List (List Edge))
+    → Exploring touch opening limit positions edges → length opening ≡ places → length positions ≤ 3 ^ places
+few_numbers touch opening limit places positions edges s e =
+    let w = unpacked touch opening positions s.reachable in
+    let long : length w.0 ≡ length positions = sym (length-map w.0 pack) ∙ ap length w.1 in
+    let few = few_positions touch opening w.0 (different w.0 positions w.1 s.once) w.2 in
+    let same : 3 ^ length opening ≡ 3 ^ places = ap (λ n. 3 ^ n) e in
+    omega arith
+  where
+    different : (found : List (List Cell)) (ns : List ℕ) → map pack found ≡ ns → AllPairs (λ a b. a ≢ b) ns → AllPairs (λ a b. a ≢ b) found
+    different found ns is once i j d lt short same =
+        let long : length found ≡ length ns = sym (length-map found pack) ∙ ap length is in
+        let at = λ (k : ℕ) (less : k < length found). sym (get_or-map pack found k d 0 less) ∙ ap (λ l. get_or l k 0) is in
+        once i j 0 lt (omega arith) (sym (at i (omega arith)) ∙ ap pack same ∙ at j short)

@@ -1,0 +1,155 @@
+-- Positions in the order in which they were found.
+use Rattle.std.proofs.Common.{◌≡◌, ◌≢◌, ℕ, ◌+◌, ◌<◌, ◌≤◌, ◌⊎◌, inl, inr, arith, refl, sym, ap, ◌∙◌, List, [], ◌∷◌, ◌++◌, Bool, true, false, length, get_or, if◌then◌else◌, nat_eq, subst, append_assoc, append-nil, length-append, Err}
+use Rattle.std.specs.List.{AllPairs, Contains, list_any}
+use Rattle.std.proofs.lemmas.Bool.{cases_eq, cases_lt, both_ways, eq-eqb}
+use Rattle.std.proofs.lemmas.List.{get_or_default, get_or_append_left, get_or_push, length_push}
+use Rattle.std.proofs.lemmas.List.Folds.{list_any_at}
+use Rattle.std.proofs.lemmas.List.Elements.{Contains-push_cases, Contains-get_or}
+use Rattle.std.proofs.lemmas.List.Quantifiers.{all_pairs_push}
+use Rattle.local_play.specs.declared.local_move.LocalMove.{LocalMove}
+use Rattle.local_graph.specs.declared.graph.Edge.{Edge}
+use Rattle.local_graph.specs.LocalGraph.{IsEdgeOf, AreEdges}
+use Rattle.local_graph.specs.declared.building.GraphError.{GraphError}
+use Rattle.local_graph.specs.declared.building.GraphError.TheVariants.{Points, Positions, Cycle, Memory}
+use Rattle.local_graph.specs.Found.{Grows, Extends, Placed, EdgesFor}
+
+absent : (n : ℕ) (ns : List ℕ) → list_any (nat_eq n) ns ≡ false → ¬ Contains ns n
+absent n ns none (k, lt, at) = both_ways _ none (list_any_at (nat_eq n) ns k n lt (eq-eqb n (get_or ns k n) (sym at)))
+
+pub grows_from_key : (before after : List ℕ) (n : ℕ)
+    → after ≡ (if list_any (nat_eq n) before then before else before ++ n ∷ []) → Grows before n after
+grows_from_key before after n e = go (list_any (nat_eq n) before) refl
+  where
+    go : (b : Bool) → list_any (nat_eq n) before ≡ b → Grows before n after
+    go true is = inl (e ∙ ap (λ (x : Bool). if x then before else before ++ n ∷ []) is)
+    go false is = inr (e ∙ ap (λ (x : Bool). if x then before else before ++ n ∷ []) is, absent n before is)
+
+-- a number that was not there stands last
+pub grows_few : (before after : List ℕ) (n place limit : ℕ) → Grows before n after → place < length after
+    → get_or after place 0 ≡ n → place < limit → length before ≤ limit → length after ≤ limit
+grows_few before after n place limit (inl same) inside at low few = let l = ap length same in omega arith
+grows_few before after n place limit (inr (e, new)) inside at low few =
+    let l = ap length e in
+    let p = length_push before n in
+    elim (cases_lt place (length before)) [
+      | inl lt ↦
+          let first = get_or_append_left before (n ∷ []) 0 place lt in
+          let there : get_or before place 0 ≡ n = sym first ∙ ap (λ x. get_or x place 0) (sym e) ∙ at in
+          absurd (new (subst (Contains before) there (Contains-get_or before place 0 lt)))
+      | inr le ↦ omega arith
+    ]
+
+Once : List ℕ → Type 0
+Once ns = AllPairs (λ a b. a ≢ b) ns
+
+pub once_grows : (before after : List ℕ) (n : ℕ) → AllPairs (λ a b. a ≢ b) before → Grows before n after → AllPairs (λ a b. a ≢ b) after
+once_grows before after n once (inl same) = subst (AllPairs (λ a b. a ≢ b)) (sym same) once
+once_grows before after n once (inr (e, new)) =
+    subst (AllPairs (λ a b. a ≢ b)) (sym e)
+    (all_pairs_push (λ a b. a ≢ b) before n once
+    (λ k d lt same. new (subst (Contains before) same (Contains-get_or before k d lt))))
+
+-- the edges so far, of the moves below `i`
+pub record Linking (before : List ℕ) (moves : List LocalMove) (limit : ℕ) (after : List ℕ) (edges : List Edge) (i : ℕ) : Type 0 where
+  pub extends : Extends before moves after
+  pub few : length after ≤ limit
+  pub long : length edges ≡ i
+  pub each : (k : ℕ) (m : LocalMove) (e : Edge) → k < i → get_or moves k m ≡ m → get_or edges k e ≡ e → IsEdgeOf after m e
+
+pub linking_start : (before : List ℕ) (moves : List LocalMove) (limit : ℕ) (edges : List Edge) → AllPairs (λ a b. a ≢ b) before
+    → length before ≤ limit → edges ≡ [] → Linking before moves limit before edges 0
+linking_start before moves limit edges once few none = record {
+  extends = record { more = []; appended = sym (append-nil before); new = λ n h. inl h; once = once };
+  few = few;
+  long = ap length none;
+  each = λ k m e lt. absurd (omega arith);
+}
+
+-- positions afterwards keep their places
+pub edge_more : (before more after : List ℕ) (m : LocalMove) (e : Edge) → after ≡ before ++ more → IsEdgeOf before m e → IsEdgeOf after m e
+edge_more before more after m e is w = record {
+  colour = w.colour;
+  place = w.place;
+  taken = w.taken;
+  inside = let l = ap length is in omega (arith, length-append before more, w.inside);
+  next = ap (λ x. get_or x e.next 0) is ∙ get_or_append_left before more 0 e.next w.inside ∙ w.next;
+}
+
+grown : (before after : List ℕ) (n : ℕ) → Grows before n after → (more : List ℕ) × (after ≡ before ++ more)
+grown before after n (inl same) = ([], same ∙ sym (append-nil before))
+grown before after n (inr (e, new)) = (n ∷ [], e)
+
+pub extends_grows : (before between after : List ℕ) (moves : List LocalMove) (m : LocalMove) → Extends before moves between
+    → Contains moves m → Grows between m.next after → Extends before moves after
+extends_grows before between after moves m s among g =
+    let w = grown between after m.next g in
+    record {
+      more = s.more ++ w.0;
+      appended = w.1 ∙ ap (λ l. l ++ w.0) s.appended ∙ append_assoc before s.more w.0;
+      new = λ n h. from n g h;
+      once = once_grows between after m.next s.once g;
+    }
+  where
+    from : (n : ℕ) → Grows between m.next after → Contains after n → Contains before n ⊎ ((x : LocalMove) × Contains moves x × (x.next ≡ n))
+    from n (inl same) h = s.new n (subst (λ l. Contains l n) same h)
+    from n (inr (e, new)) h = elim (Contains-push_cases between m.next n (subst (λ l. Contains l n) e h)) [
+      | inl old ↦ s.new n old
+      | inr is ↦ inr (m, among, is)
+    ]
+
+pub linking_push : (before between after : List ℕ) (moves : List LocalMove) (limit i : ℕ) (edges : List Edge) (m : LocalMove) (e : Edge)
+    → Linking before moves limit between edges i → i < length moves → get_or moves i m ≡ m → Grows between m.next after
+    → length after ≤ limit → e.colour ≡ m.colour → e.place ≡ m.place → e.taken ≡ m.taken → e.next < length after
+    → get_or after e.next 0 ≡ m.next → Linking before moves limit after (edges ++ e ∷ []) (i + 1)
+linking_push before between after moves limit i edges m e s lt at g few ec ep et inside next =
+    let w = grown between after m.next g in
+    let among : Contains moves m = (i, lt, at) in
+    record {
+      extends = extends_grows before between after moves m s.extends among g;
+      few = few;
+      long = length_push edges e ∙ ap (λ n. n + 1) s.long;
+      each = λ k x f less at' is. elim (cases_eq k i) [
+        | inl same ↦
+            let x' : x ≡ m = sym at' ∙ get_or_default moves k x m (omega arith) ∙ ap (λ j. get_or moves j m) same ∙ at in
+            let f' : f ≡ e = sym is ∙ get_or_push edges e f k (s.long ∙ sym same) in
+            subst (λ y. IsEdgeOf after y f) (sym x') (subst (IsEdgeOf after m) (sym f') record {
+              colour = ec;
+              place = ep;
+              taken = et;
+              inside = inside;
+              next = next;
+            })
+        | inr ne ↦
+            let short : k < length edges = omega (arith, s.long) in
+            edge_more between w.0 after x f w.1
+            (s.each k x f (omega arith) at' (sym (get_or_append_left edges (e ∷ []) f k short) ∙ is))
+      ];
+    }
+
+pub linking_end : (before : List ℕ) (moves : List LocalMove) (limit : ℕ) (after : List ℕ) (edges : List Edge)
+    → Linking before moves limit after edges (length moves) → Extends before moves after × AreEdges after moves edges × (length after ≤ limit)
+linking_end before moves limit after edges s = (s.extends, (s.long, λ k m e lt. s.each k m e (omega (arith, s.long))), s.few)
+
+-- the same in the words of the code
+pub placed : (old new : List ℕ) (v n place limit : ℕ) → v ≡ n → new ≡ (if list_any (nat_eq v) old then old else old ++ v ∷ [])
+    → place < length new → get_or new place 0 ≡ v → place < limit → length old ≤ limit
+    → Grows old n new × (place < length new) × (get_or new place 0 ≡ n) × (length new ≤ limit)
+placed old new v n place limit e key inside at low few =
+    let grows = subst (λ x. Grows old x new) e (grows_from_key old new v key) in
+    let at' = at ∙ e in
+    (grows, inside, at', grows_few old new n place limit grows inside at' low few)
+
+pub linking_all : (before : List ℕ) (moves : List LocalMove) (limit : ℕ) (after : List ℕ) (edges : List Edge) (i : ℕ)
+    → Linking before moves limit after edges i → i ≡ length moves
+    → Extends before moves after × AreEdges after moves edges × (length after ≤ limit)
+linking_all before moves limit after edges i s e = linking_end before moves limit after edges (subst (Linking before moves limit after edges) e s)
+
+-- too many positions at one move are too many at the list
+pub linking_err : (before between after : List ℕ) (moves : List LocalMove) (limit i : ℕ) (edges : List Edge) (m : LocalMove) (e : GraphError)
+    → Linking before moves limit between edges i → i < length moves → get_or moves i m ≡ m
+    → Placed between m.next limit after (Err e) → EdgesFor before moves limit after (Err e)
+linking_err before between after moves limit i edges m Positions s lt at p =
+    (extends_grows before between after moves m s.extends (i, lt, at) p.0, p.1)
+linking_err before between after moves limit i edges m (Points n) s lt at p = absurd p
+linking_err before between after moves limit i edges m (Cycle ms back) s lt at p = absurd p
+linking_err before between after moves limit i edges m (Memory e) s lt at p = tt

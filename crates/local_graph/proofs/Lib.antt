@@ -1,0 +1,11 @@
+pub mod FoundLemmas
+pub mod PlayLemmas
+pub mod FiniteLemmas
+pub mod ExploreLemmas
+pub mod OrderLemmas
+pub mod CycleLemmas
+pub mod EdgeListLemmas
+pub mod PathLemmas
+pub mod SearchLemmas
+pub mod BuildLemmas
+pub mod DrawnLemmas

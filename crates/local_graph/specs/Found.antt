@@ -1,0 +1,46 @@
+-- What exploring keeps: the positions found so far, as numbers, and their edges.
+use Rattle.std.specs.Prelude.{◌≡◌, ◌≢◌, ℕ, ◌<◌, ◌≤◌, ◌⊎◌, List, [], ◌∷◌, ◌++◌, length, slice_index, Contains, Result, Ok, Err, Vec}
+use Rattle.std.specs.Global.{Global}
+use Rattle.std.specs.List.{AllPairs}
+use Rattle.go_grid.specs.declared.grid.Cell.{Cell}
+use Rattle.go_grid.specs.declared.region.Touch.{Touch}
+use Rattle.local_play.specs.declared.local_move.LocalMove.{LocalMove}
+use Rattle.local_graph.specs.declared.graph.Edge.{Edge}
+use Rattle.local_graph.specs.declared.building.GraphError.{GraphError}
+use Rattle.local_graph.specs.declared.building.GraphError.TheVariants.{Points, Positions, Cycle, Memory}
+use Rattle.local_graph.specs.LocalGraph.{AreEdges, IsGraph, MoreThan}
+
+-- the number is among the positions afterwards, last where it was not there
+abbrev pub Grows : List ℕ → ℕ → List ℕ → Type 0
+Grows before n after = (after ≡ before) ⊎ ((after ≡ before ++ n ∷ []) × ¬ Contains before n)
+
+-- the number's place, or that there are more positions than the limit
+abbrev pub Placed : List ℕ → ℕ → ℕ → List ℕ → Result ℕ GraphError → Type 0
+Placed before n limit after (Ok place) = Grows before n after × (place < length after) × (slice_index after place ≡ n) × (length after ≤ limit)
+Placed before n limit after (Err Positions) = Grows before n after × (limit < length after)
+Placed before n limit after (Err (Points p)) = ⊥
+Placed before n limit after (Err (Cycle ms back)) = ⊥
+Placed before n limit after (Err (Memory e)) = Unit {0}
+
+-- positions were added that moves of the list lead to
+pub record Extends (before : List ℕ) (moves : List LocalMove) (after : List ℕ) : Type 0 where
+  pub more : List ℕ
+  pub appended : after ≡ before ++ more
+  pub new : (n : ℕ) → Contains after n → Contains before n ⊎ ((m : LocalMove) × Contains moves m × (m.next ≡ n))
+  pub once : AllPairs (λ a b. a ≢ b) after
+
+-- the edges of the moves, or that there are more positions than the limit
+abbrev pub EdgesFor : List ℕ → List LocalMove → ℕ → List ℕ → Result (Vec Edge Global) GraphError → Type 0
+EdgesFor before moves limit after (Ok edges) = Extends before moves after × AreEdges after moves edges.items × (length after ≤ limit)
+EdgesFor before moves limit after (Err Positions) = Extends before moves after × (limit < length after)
+EdgesFor before moves limit after (Err (Points p)) = ⊥
+EdgesFor before moves limit after (Err (Cycle ms back)) = ⊥
+EdgesFor before moves limit after (Err (Memory e)) = Unit {0}
+
+-- the whole graph, or that more positions are reachable than the limit
+abbrev pub Explored : List Touch → List Cell → ℕ → List ℕ → Result (List (List Edge)) GraphError → Type 0
+Explored touch opening limit positions (Ok edges) = IsGraph touch opening positions edges × (length positions ≤ limit)
+Explored touch opening limit positions (Err Positions) = MoreThan touch opening limit
+Explored touch opening limit positions (Err (Points p)) = ⊥
+Explored touch opening limit positions (Err (Cycle ms back)) = ⊥
+Explored touch opening limit positions (Err (Memory e)) = Unit {0}

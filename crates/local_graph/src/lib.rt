@@ -1,0 +1,19 @@
+//! Graphs of local positions: all positions that local play in a region can reach, and an order of them with ends first,
+//! or a cycle.
+#![tactic(auto)]
+
+mod building;
+mod cycle;
+#[cfg(test)]
+mod drawn;
+mod edge_lists;
+mod graph;
+mod laws;
+mod search;
+#[cfg(test)]
+mod tests;
+
+pub use building::{GraphError, build};
+pub use cycle::{CycleList, CycleMove};
+pub use graph::{Edge, Graph};
+pub use laws::finite_local_play;

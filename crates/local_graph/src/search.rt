@@ -1,0 +1,208 @@
+//! Depth-first search: an order with ends first, or a cycle.
+
+ghost use Rattle.std.specs.Prelude.{◌≡◌, ◌^◌, ◌<◌, [], ◌∷◌, ◌++◌, length, map, slice_set, slice_index, IfOk, OnOk, Contains};
+ghost use Rattle.local_graph.specs.Built.{IsRooted, move_of};
+ghost use Rattle.local_graph.specs.SearchedFor.{IsSearched};
+ghost use Rattle.local_graph.specs.Searching.{Searching, Returns, Stepped, Trail, work_left, nodes_of};
+ghost use Rattle.local_graph.specs.Nodes.{edges_at, edge_at};
+ghost use Rattle.local_graph.specs.declared.search.Visit.TheVariants.{OnPath, Placed};
+
+use crate::cycle::{CycleList, CycleMove};
+use crate::edge_lists::EdgeLists;
+use std::alloc::{AllocError, Global};
+
+/// What the search knows of a position.
+#[derive(Clone, Copy)]
+pub enum Visit {
+    /// It was not met.
+    New,
+    /// It is on the path from the opening.
+    OnPath,
+    /// It is in the order.
+    Placed,
+}
+
+/// A position on the path, and how many of its moves are left to follow. Moves are followed from the last on.
+#[derive(Clone, Copy)]
+pub struct Frame {
+    pub node: usize,
+    pub left: usize,
+}
+
+/// The state of a depth-first search from the opening.
+#[derive(Drop)]
+struct Search {
+    path: Vec<Frame>,
+    visits: Vec<Visit>,
+    order: Vec<usize>,
+}
+
+/// What a step of the search comes to.
+#[derive(Clone, Copy)]
+pub enum Progress {
+    /// The search goes on.
+    Forward,
+    /// A move from the last position of the path to one that is on the path.
+    Back(usize),
+    /// All is placed.
+    Done,
+}
+
+impl Search {
+    /// Puts a position that was not met at the end of the path.
+    fn enter(&mut self, edges: &EdgeLists, node: usize) -> Result<(), AllocError>
+        requires inside { node < length edges.now }
+        requires long { length self.old.visits.items ≡ length edges.now }
+        ensures visits { self.new.visits.items ≡ slice_set self.old.visits.items node OnPath }
+        ensures path { OnOk result (self.new.path.items
+            ≡ self.old.path.items ++ record { node = node; left = length (edges_at edges.now node) } ∷ []) }
+        ensures order { self.new.order.items ≡ self.old.order.items }
+        ensures fits { length (edges_at edges.now node) < 2 ^ 64 }
+    {
+        self.visits[node] = Visit::OnPath;
+        self.path.push(Frame {
+            node,
+            left: edges.at(node).len(),
+        })?;
+        Ok(())
+    }
+
+    /// Puts a position at the end of the order.
+    fn place(&mut self, node: usize) -> Result<(), AllocError>
+        requires { node < length self.old.visits.items }
+        ensures visits { self.new.visits.items ≡ slice_set self.old.visits.items node Placed }
+        ensures path { self.new.path.items ≡ self.old.path.items }
+        ensures order { OnOk result (self.new.order.items ≡ self.old.order.items ++ node ∷ []) }
+    {
+        self.visits[node] = Visit::Placed;
+        self.order.push(node)?;
+        Ok(())
+    }
+
+    /// A search with the opening on its path.
+    fn begin(alloc: Global, edges: &EdgeLists) -> Result<Search, AllocError>
+        requires { IsRooted edges.now }
+        ensures { IfOk result (λ s. Searching edges.now s.path.items s.visits.items s.order.items) }
+    {
+        let mut search = Search {
+            path: Vec::new(alloc),
+            visits: vec![in alloc; Visit::New; edges.len()]?,
+            order: Vec::new(alloc),
+        };
+        search.enter(edges, 0)?;
+        Ok(search)
+    }
+
+    /// Follows the next move of a position that was the path's last.
+    fn follow(&mut self, edges: &EdgeLists, last: Frame) -> Result<Progress, AllocError>
+        requires rooted { IsRooted edges.now }
+        requires under_way { Searching edges.now (self.old.path.items ++ last ∷ [])
+            self.old.visits.items self.old.order.items }
+        requires more { 0 < last.left }
+        ensures { IfOk result (Stepped edges.now (work_left (self.old.path.items ++ last ∷ []) self.old.visits.items)
+            self.new.path.items self.new.visits.items self.new.order.items) }
+    {
+        let left = last.left - 1;
+        let next = edges.edge(last.node, left).next;
+        self.path.push(Frame {
+            node: last.node,
+            left,
+        })?;
+        match self.visits[next] {
+            Visit::Placed => Ok(Progress::Forward),
+            Visit::OnPath => Ok(Progress::Back(next)),
+            Visit::New => {
+                self.enter(edges, next)?;
+                Ok(Progress::Forward)
+            }
+        }
+    }
+
+    /// Places the last position of the path, or follows its next move.
+    fn step(&mut self, edges: &EdgeLists) -> Result<Progress, AllocError>
+        requires rooted { IsRooted edges.now }
+        requires under_way { Searching edges.now self.old.path.items self.old.visits.items self.old.order.items }
+        ensures { IfOk result (Stepped edges.now (work_left self.old.path.items self.old.visits.items)
+            self.new.path.items self.new.visits.items self.new.order.items) }
+    {
+        let Some(last) = self.path.pop() else {
+            return Ok(Progress::Done);
+        };
+        if last.left > 0 {
+            return self.follow(edges, last);
+        }
+        self.place(last.node)?;
+        Ok(Progress::Forward)
+    }
+}
+
+/// What a search gives: an order, or a cycle and where it returns to.
+#[derive(Drop)]
+pub enum Searched {
+    Order(Vec<usize>),
+    Cycle(CycleList, usize),
+}
+
+/// The place of a position on a path.
+fn place_on(path: &[Frame], node: usize) -> usize
+    requires { Contains (nodes_of path.now) node }
+    ensures inside { result < length path.now }
+    ensures there { slice_index (nodes_of path.now) result ≡ node }
+{
+    let mut place = 0;
+    'looking: while path[place].node != node {
+        place += 1;
+    }
+    place
+}
+
+/// The moves along a path, with one from its last position.
+fn moves_along(
+    alloc: Global,
+    edges: &EdgeLists,
+    path: &[Frame],
+    last: usize,
+) -> Result<CycleList, AllocError>
+    requires { Trail edges.now 0 path.now last }
+    ensures { IfOk result (λ moves. moves ≡ map (λ f. move_of (edge_at edges.now f.node f.left)) path.now) }
+{
+    let mut moves = CycleList::new(alloc);
+    for frame in path {
+        let edge = edges.edge(frame.node, frame.left);
+        moves.push(CycleMove {
+            colour: edge.colour,
+            place: edge.place,
+        })?;
+    }
+    Ok(moves)
+}
+
+/// The cycle of a path that returns to a position on it.
+fn cycle_of(
+    alloc: Global,
+    edges: &EdgeLists,
+    path: &[Frame],
+    last: usize,
+) -> Result<Searched, AllocError>
+    requires { Returns edges.now path.now last }
+    ensures { IfOk result (IsSearched edges.now) }
+{
+    let start = place_on(path, last);
+    let moves = moves_along(alloc, edges, path, last)?;
+    Ok(Searched::Cycle(moves, start))
+}
+
+/// An order of all positions in which each edge leads to an earlier one, or a cycle.
+pub fn search_from_opening(alloc: Global, edges: &EdgeLists) -> Result<Searched, AllocError>
+    requires { IsRooted edges.now }
+    ensures { IfOk result (IsSearched edges.now) }
+{
+    let mut search = Search::begin(alloc, edges)?;
+    'searching: loop {
+        match search.step(edges)? {
+            Progress::Forward => {}
+            Progress::Back(node) => return cycle_of(alloc, edges, &search.path, node),
+            Progress::Done => return Ok(Searched::Order(search.order)),
+        }
+    }
+}

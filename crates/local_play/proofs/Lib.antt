@@ -1,0 +1,4 @@
+pub mod PackLemmas
+pub mod SpreadLemmas
+pub mod MoveLemmas
+pub mod ExpandLemmas

@@ -1,0 +1,5 @@
+pub mod LocalPlay
+pub mod Packed
+pub mod Spread
+pub mod Tried
+pub mod Moves

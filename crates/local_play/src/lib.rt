@@ -1,0 +1,16 @@
+//! Local play in a region of play: the stones around it are alive and never change, so what a stone does in it is
+//! decided by the region alone.
+#![tactic(auto)]
+
+mod chains;
+mod expanding;
+mod local;
+mod local_move;
+mod places;
+mod steps;
+
+pub use expanding::expand;
+pub use local::{Local, start};
+pub use local_move::LocalMove;
+pub use places::Cells;
+pub use steps::Steps;

@@ -1,0 +1,92 @@
+//! Local positions as numbers.
+
+ghost use Rattle.std.specs.Prelude.{◌≡◌, ℕ, ◌+◌, ◌*◌, ◌<◌, ◌≤◌, ◌^◌, List, length, take};
+ghost use Rattle.go_grid.specs.declared.grid.Cell.{Cell};
+ghost use Rattle.local_play.specs.LocalPlay.{held_at};
+ghost use Rattle.local_play.specs.Packed.{code, pack, IsUnpacked};
+
+use crate::places::Cells;
+use go_grid::{Cell, Region};
+use std::hash::Hash;
+use std::marker::Model;
+
+/// A local position: two bits for each place of a region, those of place `i` being the bits `2i` and `2i + 1`, with 0 for
+/// empty, 1 for black and 2 for white.
+#[derive(Clone, Copy, PartialEq, Eq, Hash)]
+pub struct Local(pub u64);
+
+impl Model for Local {
+    ghost Value = { ℕ };
+
+    ghost view = { λ l. l.0 };
+
+    ghost inverse = { λ n. record { 0 = n } };
+}
+
+/// The code of a cell.
+fn code(cell: Cell) -> u64
+    ensures value { result ≡ code cell }
+    ensures small { result < 3 }
+{
+    match cell {
+        Cell::Empty => 0,
+        Cell::Black => 1,
+        Cell::White => 2,
+    }
+}
+
+/// The cell with a code.
+fn decoded(digit: u64) -> Cell
+    ensures { (c : Cell) → digit ≡ code c → result ≡ c }
+{
+    match digit {
+        0 => Cell::Empty,
+        1 => Cell::Black,
+        _ => Cell::White,
+    }
+}
+
+/// The number of the position that a list of cells is.
+fn pack(cells: &[Cell]) -> u64
+    requires { length cells.now ≤ 32 }
+    ensures { result ≡ pack cells.now }
+{
+    let mut number = 0;
+    for place in (0..cells.len()).rev() {
+        number = 4 * number + code(cells[place]);
+    }
+    number
+}
+
+impl Local {
+    /// The position that holds the listed cells.
+    pub fn of(cells: &[Cell]) -> Local
+        requires { length cells.now ≤ 32 }
+        ensures { result ≡ pack cells.now }
+    {
+        Local(pack(cells))
+    }
+
+    /// What each place holds. Places past the region's are empty.
+    pub fn cells(self) -> Cells
+        ensures { (cells : List Cell) → length cells ≤ 32 → self ≡ pack cells → IsUnpacked cells result }
+    {
+        let mut cells = [Cell::Empty; 32];
+        let mut rest = self.0;
+        for place in 0..32usize {
+            cells[place] = decoded(rest % 4);
+            rest /= 4;
+        }
+        cells
+    }
+}
+
+/// The position in which each point of the region, which has at most 32, holds what the region says.
+pub fn start(region: &Region) -> Local
+    requires { length region.now.points ≤ 32 }
+    ensures packed { result ≡ pack region.now.cells }
+    ensures full { length region.now.cells ≡ length region.now.points }
+{
+    let shape = region;
+    Local::of(&shape.cells)
+}

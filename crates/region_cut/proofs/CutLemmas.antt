@@ -1,0 +1,86 @@
+-- Regions of play, lowest point by lowest point.
+use Rattle.std.proofs.Common.{◌≡◌, ℕ, ◌+◌, ◌<◌, ◌≤◌, inl, inr, sym, ◌∙◌, arith, subst, List, [], ◌∷◌, ◌++◌, length, get_or, Bool}
+use Rattle.std.specs.List.{AllPairs, Contains}
+use Rattle.std.proofs.lemmas.Bool.{cases_eq}
+use Rattle.std.proofs.lemmas.List.Elements.{Contains-get_or, Contains-push, Contains-push_cases, Contains-append_left}
+use Rattle.std.proofs.lemmas.List.Quantifiers.{all_pairs_push}
+use Rattle.go_grid.specs.Grid.{Grid}
+use Rattle.go_grid.specs.Region.{Shape}
+use Rattle.go_grid.specs.declared.grid.Colour.{Colour}
+use Rattle.go_grid.specs.Marks.{IsMarked, Marks}
+use Rattle.go_grid.specs.Parts.{AreParts, label}
+use Rattle.go_grid.proofs.WalkLemmas.{joined_back}
+use Rattle.go_grid.proofs.PartsLemmas.{label_in}
+use Rattle.benson_life.specs.Life.{IsAlive, IsLargestHealthy}
+use Rattle.benson_life.proofs.PartsLemmas.{parts_over}
+use Rattle.benson_life.specs.Region.{IsContested, InRegionOfPlay}
+use Rattle.region_cut.specs.Cut.{AreRegionsOfPlay, IsRegionOfPlay, IsWalledIn, lowest}
+use Rattle.region_cut.specs.LocalBoard.{PlaysLocally}
+
+-- the regions whose lowest point is below `n`
+pub record CutBelow (g : Grid) (parts : List ℕ) (regions : List Shape) (n : ℕ) : Type 0 where
+  pub each : (r : Shape) → Contains regions r → IsRegionOfPlay g r × IsWalledIn g r × PlaysLocally g r × (lowest r < n)
+  pub every : (p : ℕ) → IsContested g p → label parts p < n → (r : Shape) × Contains regions r × Contains r.points p
+  pub ascending : AllPairs (λ r s. lowest r < lowest s) regions
+
+pub cut_start : (g : Grid) (parts : List ℕ) (regions : List Shape) → regions ≡ [] → CutBelow g parts regions 0
+cut_start g parts regions e = record {
+  each = λ r h. let w = subst (λ rs. Contains rs r) e h in absurd (omega (arith, w.1));
+  every = λ p h lt. absurd (omega arith);
+  ascending = λ i j d lt short. absurd (let w = subst (λ rs. j < length rs) e short in omega (arith, w));
+}
+
+pub cut_skip : (g : Grid) (parts : List ℕ) (regions : List Shape) (n : ℕ) → AreParts g.columns (IsContested g) parts
+    → (IsContested g n → ¬ (label parts n ≡ n)) → CutBelow g parts regions n → CutBelow g parts regions (n + 1)
+cut_skip g parts regions n are other s = record {
+  each = λ r h. let w = s.each r h in (w.0, w.1, w.2, omega (arith, w.3));
+  every = λ p h lt. elim (cases_eq (label parts p) n) as (λ _. (r : Shape) × Contains regions r × Contains r.points p) [
+    | inl e ↦
+        let own = label_in g.columns (IsContested g) parts are p h in
+        absurd (other (subst (IsContested g) e own.0) (subst (λ x. label parts x ≡ x) e own.1))
+    | inr ne ↦ s.every p h (omega arith)
+  ];
+  ascending = s.ascending;
+}
+
+pub cut_push : (g : Grid) (parts : List ℕ) (regions : List Shape) (r : Shape) (n : ℕ) → AreParts g.columns (IsContested g) parts
+    → IsRegionOfPlay g r → IsWalledIn g r → PlaysLocally g r → lowest r ≡ n → CutBelow g parts regions n → CutBelow g parts (regions ++ r ∷ []) (n + 1)
+cut_push g parts regions r n are is walled local first s = record {
+  each = λ t h. elim (Contains-push_cases regions r t h) as (λ _. IsRegionOfPlay g t × IsWalledIn g t × PlaysLocally g t × (lowest t < n + 1)) [
+    | inl old ↦ let w = s.each t old in (w.0, w.1, w.2, omega (arith, w.3))
+    | inr e ↦ subst (λ (x : Shape). IsRegionOfPlay g x × IsWalledIn g x × PlaysLocally g x × (lowest x < n + 1)) e (is, walled, local, omega arith)
+  ];
+  every = λ p h lt. elim (cases_eq (label parts p) n)
+      as (λ _. (t : Shape) × Contains (regions ++ r ∷ []) t × Contains t.points p) [
+        | inl e ↦
+            let from : InRegionOfPlay g p (lowest r) = subst (InRegionOfPlay g p) (e ∙ sym first) (are.joined p h) in
+            (r, Contains-push regions r, (is.points p).1 (joined_back g.columns (IsContested g) p (lowest r) from))
+        | inr ne ↦ let w = s.every p h (omega arith) in (w.0, Contains-append_left regions (r ∷ []) w.0 w.1, w.2)
+      ];
+  ascending = all_pairs_push (λ r s. lowest r < lowest s) regions r s.ascending
+      (λ k d lt. let w = (s.each (get_or regions k d) (Contains-get_or regions k d lt)).3 in omega (arith, w, first));
+}
+
+pub cut_all : (g : Grid) (parts : List ℕ) (regions : List Shape) (n : ℕ) → AreParts g.columns (IsContested g) parts
+    → length g.cells ≡ n → CutBelow g parts regions n → AreRegionsOfPlay g regions
+cut_all g parts regions n are full s = record {
+  each = λ r h. (s.each r h).0;
+  every = λ p h. s.every p h (let low = are.lowest p h in omega (arith, h.0, low));
+  ascending = s.ascending;
+}
+
+-- a point that is its own label is the lowest of its region
+pub lowest_is : (g : Grid) (parts : List ℕ) (n p : ℕ) → AreParts g.columns (IsContested g) parts → label parts n ≡ n
+    → IsContested g p → InRegionOfPlay g n p → n ≤ p
+lowest_is g parts n p are e h j = let same = are.same n p j in let low = are.lowest p h in omega (arith, same, low, e)
+
+-- the parts of the contested points
+pub parts_of : (g : Grid) (k : ℕ) (within : List Bool) (parts : List ℕ) → k ≡ g.columns → Marks within (IsContested g)
+    → AreParts k (IsMarked within) parts → AreParts g.columns (IsContested g) parts
+parts_of g k within parts e is w =
+    subst (λ n. AreParts n (IsContested g) parts) e (parts_over k (IsMarked within) (IsContested g) parts is w)
+
+-- the marks of the largest healthy list are the alive stones
+pub alive_marks : (g : Grid) (c : Colour) (xs : List ℕ) (marks : List Bool) → IsLargestHealthy g c xs → Marks marks (Contains xs)
+    → Marks marks (IsAlive g c)
+alive_marks g c xs marks h is p = (λ m. (xs, h.healthy, (is p).0 m), λ a. (is p).1 (h.largest a.0 a.1 p a.2))

@@ -1,0 +1,76 @@
+-- The links of a region are exactly its points' being next to each other.
+use Rattle.std.proofs.Common.{◌≡◌, ℕ, ◌*◌, ◌/◌, ◌%◌, ◌<◌, ◌↔◌, inl, inr, sym, ap, subst, ◌∙◌, List, length, get_or, arith, Option, Some, None}
+use Rattle.std.specs.List.Sorted.{IsStrictlyIncreasing}
+use Rattle.std.proofs.lemmas.Bool.{cases_lt}
+use Rattle.std.proofs.lemmas.List.Elements.{Contains-get_or}
+use Rattle.std.proofs.lemmas.List.Kept.{AllPairs-from_increasing}
+use Rattle.std.proofs.lemmas.Nat.{div-add-mod'}
+use Rattle.go_grid.specs.Grid.{NextTo, IsAbove, IsLeftOf}
+use Rattle.go_grid.specs.Region.{Shape, IsRegion, IsLink, touch_at}
+use Rattle.local_play.specs.LocalPlay.{IsLinked}
+
+-- the links of the region are exactly its points' being next to each other
+abbrev pub LinksAreNext : Shape → Type 0
+LinksAreNext r = (i j : ℕ) → i < length r.points → IsLinked r.touch i j
+    ↔ ((j < length r.points) × NextTo r.columns (get_or r.points i 0) (get_or r.points j 0))
+
+-- ascending points have one place each
+pub one_place : (points : List ℕ) (i j : ℕ) → IsStrictlyIncreasing points → i < length points → j < length points
+    → get_or points i 0 ≡ get_or points j 0 → i ≡ j
+one_place points i j rising li lj e =
+    let less = AllPairs-from_increasing points rising in
+    elim (cases_lt i j) as (λ _. i ≡ j) [
+      | inl lt ↦ absurd (omega (arith, less i j 0 lt lj, e))
+      | inr le ↦ elim (cases_lt j i) as (λ _. i ≡ j) [
+        | inl lt ↦ absurd (omega (arith, less j i 0 lt li, e))
+        | inr le' ↦ omega arith
+      ]
+    ]
+
+-- a point is its row and column
+same_point : (c p q : ℕ) → p / c ≡ q / c → p % c ≡ q % c → p ≡ q
+same_point c p q row column =
+    let r : p / c * c ≡ q / c * c = ap (λ n. n * c) row in
+    omega (arith, div-add-mod' p c, div-add-mod' q c)
+
+-- the link is the place of the one point that is near
+linked_to : (points : List ℕ) (Near : ℕ → Type 0) (o : Option ℕ) (j : ℕ) → IsStrictlyIncreasing points → IsLink points Near o
+    → ((q s : ℕ) → Near q → Near s → q ≡ s) → j < length points → Near (get_or points j 0) → o ≡ Some j
+linked_to points Near None j rising link one lt near = absurd (link (get_or points j 0) (Contains-get_or points j 0 lt) near)
+linked_to points Near (Some k) j rising link one lt near =
+    ap (λ n. Some n) (one_place points k j rising link.0 lt (one (get_or points k 0) (get_or points j 0) link.1 near))
+
+link_at : (points : List ℕ) (Near : ℕ → Type 0) (o : Option ℕ) (j : ℕ) → IsLink points Near o → o ≡ Some j
+    → (j < length points) × Near (get_or points j 0)
+link_at points Near o j link e = subst (IsLink points Near) e link
+
+pub links_are_next : (r : Shape) → IsRegion r.columns r.rows r.points r.cells r.touch → LinksAreNext r
+links_are_next r reg i j lt = (there, back)
+  where
+    there : IsLinked r.touch i j → (j < length r.points) × NextTo r.columns (get_or r.points i 0) (get_or r.points j 0)
+    there link =
+        let links = reg.links i lt in
+        let t = touch_at r.touch i in
+        elim link [
+          | inl e ↦ let w = link_at r.points _ t.up j links.up e in (w.0, inr (sym w.1.1, inr w.1.0))
+          | inr (inl e) ↦ let w = link_at r.points _ t.left j links.left e in (w.0, inl (sym w.1.0, inr w.1.1))
+          | inr (inr (inl e)) ↦ let w = link_at r.points _ t.right j links.right e in (w.0, inl (w.1.0, inl w.1.1))
+          | inr (inr (inr e)) ↦ let w = link_at r.points _ t.down j links.down e in (w.0, inr (w.1.1, inl w.1.0))
+        ]
+
+    back : (j < length r.points) × NextTo r.columns (get_or r.points i 0) (get_or r.points j 0) → IsLinked r.touch i j
+    back (ltj, next) =
+        let c = r.columns in
+        let p = get_or r.points i 0 in
+        let links = reg.links i lt in
+        let t = touch_at r.touch i in
+        elim next [
+          | inl (row, inl e) ↦ inr (inr (inl (linked_to r.points (λ q. IsLeftOf c q p) t.right j reg.ascending links.right
+              (λ q s a b. same_point c q s (sym a.0 ∙ b.0) (sym a.1 ∙ b.1)) ltj (row, e))))
+          | inl (row, inr e) ↦ inr (inl (linked_to r.points (λ q. IsLeftOf c p q) t.left j reg.ascending links.left
+              (λ q s a b. same_point c q s (a.0 ∙ sym b.0) (omega (arith, a.1, b.1))) ltj (sym row, e)))
+          | inr (column, inl e) ↦ inr (inr (inr (linked_to r.points (λ q. IsAbove c q p) t.down j reg.ascending links.down
+              (λ q s a b. same_point c q s (sym a.0 ∙ b.0) (sym a.1 ∙ b.1)) ltj (e, column))))
+          | inr (column, inr e) ↦ inl (linked_to r.points (λ q. IsAbove c p q) t.up j reg.ascending links.up
+              (λ q s a b. same_point c q s (omega (arith, a.0, b.0)) (a.1 ∙ sym b.1)) ltj (e, sym column))
+        ]

@@ -1,0 +1,3 @@
+pub mod ListingLaws
+pub mod SafetyLaws
+pub mod TextLaws

@@ -1,0 +1,163 @@
+-- The lines of chains and of counted regions.
+use Rattle.std.proofs.Common.{◌≡◌, ◌≢◌, ◌⊎◌, ℕ, ◌+◌, ◌*◌, ◌<◌, ◌≤◌, inl, inr, sym, refl, ◌∙◌, arith, subst, List, length, get_or, Bool, false, sum_by, [], ◌++◌, flat_map}
+use Rattle.std.specs.List.{Contains}
+use Rattle.std.specs.List.Sorted.{IsStrictlyIncreasing}
+use Rattle.std.proofs.lemmas.Bool.{cases_lt}
+use Rattle.std.proofs.lemmas.List.{get_or_default}
+use Rattle.std.proofs.lemmas.List.Elements.{Contains-get_or}
+use Rattle.std.proofs.lemmas.Map.Keys.{sorted_from_strictly_increasing, below_from_sorted}
+use Rattle.go_grid.specs.declared.grid.Colour.{Colour}
+use Rattle.go_grid.specs.declared.grid.Colour.TheVariants.{Black, White}
+use Rattle.go_grid.specs.Chain.{InChain}
+use Rattle.go_grid.specs.declared.grid.Cell.TheVariants as cell
+use Rattle.go_grid.specs.Grid.{Grid, HasStone, IsEmpty, Lacks, stone}
+use Rattle.go_grid.specs.Walk.{Joined}
+use Rattle.go_grid.proofs.SetsLemmas.{lists_same}
+use Rattle.go_grid.proofs.WalkLemmas.{joined_end, joined_here, marks_joined}
+use Rattle.go_grid.specs.Marks.{IsMarked, Marks, Lists}
+use Rattle.go_grid.proofs.GridLemmas.{one_colour}
+use Rattle.benson_life.specs.Held.{worth}
+use Rattle.benson_life.specs.Life.{InRegion, IsAlive, IsCounted, IsLargestHealthy}
+use Rattle.go_grid.specs.Region.{Shape}
+use Rattle.region_cut.specs.Cut.{AreRegionsOfPlay}
+use Rattle.report.proofs.TextLaws.{three_pieces}
+use Rattle.region_cut.proofs.CutLemmas.{alive_marks}
+use Rattle.report.specs.declared.safety.ChainLine.{ChainLine}
+use Rattle.report.specs.declared.safety.CountedLine.{CountedLine}
+use Rattle.report.specs.Safety.{AreChainLines, AreCountedLines, IsSafeText, chain_line, counted_line, shape_line, IsLowestStone, IsChainLine, IsLowestCounted, IsCountedLine, IsCountedKey, turn}
+
+-- a list that has a point isn't empty, and its first point is the least
+pub has_first : (points : List ℕ) (p : ℕ) → Contains points p → 0 < length points
+has_first points p (k, lt, e) = omega (arith, lt)
+
+pub first_least : (points : List ℕ) (p : ℕ) → IsStrictlyIncreasing points → Contains points p → get_or points 0 0 ≤ p
+first_least points p rising (k, lt, e) =
+    let at : get_or points k 0 ≡ p = get_or_default points k 0 p lt ∙ e in
+    elim (cases_lt 0 k) as (λ _. get_or points 0 0 ≤ p) [
+      | inl more ↦ let less = below_from_sorted points 0 k 0 (sorted_from_strictly_increasing points rising) more lt in omega (arith, less, at)
+      | inr none ↦ let z : k ≡ 0 = omega arith in let w = subst (λ n. get_or points n 0 ≡ p) z at in omega (arith, w)
+    ]
+
+-- the least point of a list stands first
+pub is_first : (points : List ℕ) (p : ℕ) → IsStrictlyIncreasing points → Contains points p → ((q : ℕ) → Contains points q → p ≤ q) → get_or points 0 0 ≡ p
+is_first points p rising has least =
+    let low = least (get_or points 0 0) (Contains-get_or points 0 0 (has_first points p has)) in
+    let high = first_least points p rising has in omega (arith, low, high)
+
+-- no chain has its lowest stone where no stone is, or where another stone of the chain is lower
+pub no_chain_at : (g : Grid) (p : ℕ) → IsEmpty g p → ¬ ((c : Colour) × IsLowestStone g c p)
+no_chain_at g p e (c, w) = not_both c (sym e.1 ∙ w.0.1)
+  where
+    not_both : (c : Colour) → ¬ (cell.Empty ≡ stone c)
+    not_both Black e = absurd cc
+    not_both White e = absurd cc
+
+pub no_chain_from : (g : Grid) (c : Colour) (p : ℕ) (points : List ℕ) → HasStone g c p → Lists points (InChain g c p) → get_or points 0 0 ≢ p
+    → ¬ ((d : Colour) × IsLowestStone g d p)
+no_chain_from g c p points h lists other (d, w) =
+    let e = one_colour g d c p w.0 h in
+    let least = subst (λ x. (q : ℕ) → InChain g x p q → p ≤ q) e w.1 in
+    other (is_first points p lists.ascending ((lists.exact p).1 (joined_here g.columns (HasStone g c) p h)) (λ q i. least q ((lists.exact q).0 i)))
+
+pub chain_has_first : (g : Grid) (c : Colour) (p : ℕ) (points : List ℕ) → HasStone g c p → Lists points (InChain g c p) → 0 < length points
+chain_has_first g c p points h lists = has_first points p ((lists.exact p).1 (joined_here g.columns (HasStone g c) p h))
+
+pub chain_line_is : (g : Grid) (c : Colour) (p : ℕ) (points : List ℕ) (n : ℕ) (marks : List Bool) (b : Bool) → HasStone g c p → Lists points (InChain g c p)
+    → get_or points 0 0 ≡ p → length points ≡ n → Marks marks (λ q. (d : Colour) × IsAlive g d q) → b ≡ get_or marks p false
+    → IsChainLine g (record { lowest = p; colour = c; stones = n; alive = b })
+chain_line_is g c p points n marks b h lists first long is e = record {
+  lowest = (h, λ q i. subst (λ x. x ≤ q) first (first_least points q lists.ascending ((lists.exact q).1 i)));
+  stones = (points, lists, long);
+  alive = (
+    λ t. (let a = (is p).0 (sym e ∙ t) in subst (λ d. IsAlive g d p) (one_colour g a.0 c p (a.1.1.stones p a.1.2) h) a.1),
+    λ a. e ∙ (is p).1 (c, a),
+  );
+}
+
+-- the marks of the alive stones of both colours
+pub both_marks : (g : Grid) (bs ws : List ℕ) (black white marks : List Bool) → IsLargestHealthy g Black bs → IsLargestHealthy g White ws
+    → Marks black (Contains bs) → Marks white (Contains ws) → Marks marks (λ q. IsMarked black q ⊎ IsMarked white q)
+    → Marks marks (λ p. (c : Colour) × IsAlive g c p)
+both_marks g bs ws black white marks hb hw mb mw is p = (
+  λ m. elim ((is p).0 m) [
+    | inl x ↦ (Black, (alive_marks g Black bs black hb mb p).0 x)
+    | inr x ↦ (White, (alive_marks g White ws white hw mw p).0 x)
+  ],
+  back,
+)
+  where
+    back : (c : Colour) × IsAlive g c p → IsMarked marks p
+    back (Black, a) = (is p).1 (inl ((alive_marks g Black bs black hb mb p).1 a))
+    back (White, a) = (is p).1 (inr ((alive_marks g White ws white hw mw p).1 a))
+
+-- a key has one point and one colour
+one_key : (c d : Colour) (p q : ℕ) → 2 * p + turn c ≡ 2 * q + turn d → (c ≡ d) × (p ≡ q)
+one_key Black Black p q e = (refl, omega (arith, e))
+one_key White White p q e = (refl, omega (arith, e))
+one_key Black White p q e = absurd (omega (arith, e))
+one_key White Black p q e = absurd (omega (arith, e))
+
+key_is : (g : Grid) (c : Colour) (p : ℕ) → IsCountedKey g (2 * p + turn c) → IsLowestCounted g c p
+key_is g c p (d, q, e, w) =
+    let k = one_key c d p q e in
+    subst (λ x. IsLowestCounted g x p) (sym k.0) (subst (λ x. IsLowestCounted g d x) (sym k.1) w)
+
+-- the region of a counted point
+pub region_lists : (g : Grid) (c : Colour) (k p : ℕ) (within filled : List Bool) (points : List ℕ) → k ≡ g.columns → Marks within (Lacks g c)
+    → Marks filled (Joined k (IsMarked within) p) → Lists points (IsMarked filled) → Lists points (InRegion g c p)
+region_lists g c k p within filled points e is f lists =
+    let joined = subst (λ n. Marks filled (Joined n (IsMarked within) p)) e f in
+    lists_same points (IsMarked filled) (InRegion g c p) lists (marks_joined g.columns p within filled (Lacks g c) is joined)
+
+pub region_has_first : (g : Grid) (c : Colour) (p : ℕ) (points : List ℕ) → IsCounted g c p → Lists points (InRegion g c p) → 0 < length points
+region_has_first g c p points h lists = has_first points p ((lists.exact p).1 (joined_here g.columns (Lacks g c) p h.2.lacks))
+
+pub region_on_board : (g : Grid) (c : Colour) (p : ℕ) (points : List ℕ) → Lists points (InRegion g c p) → (k d : ℕ) → k < length points → get_or points k d < length g.cells
+region_on_board g c p points lists k d lt = (joined_end g.columns (Lacks g c) p (get_or points k d) ((lists.exact _).0 (Contains-get_or points k d lt))).0
+
+pub no_key_unmarked : (g : Grid) (c : Colour) (p : ℕ) (marks : List Bool) → Marks marks (IsCounted g c) → ¬ IsMarked marks p → ¬ IsCountedKey g (2 * p + turn c)
+no_key_unmarked g c p marks is un w = un ((is p).1 (key_is g c p w).0)
+
+pub no_key_from : (g : Grid) (c : Colour) (p : ℕ) (points : List ℕ) → IsCounted g c p → Lists points (InRegion g c p) → get_or points 0 0 ≢ p
+    → ¬ IsCountedKey g (2 * p + turn c)
+no_key_from g c p points h lists other w =
+    other (is_first points p lists.ascending ((lists.exact p).1 (joined_here g.columns (Lacks g c) p h.2.lacks)) (λ q i. (key_is g c p w).1 q ((lists.exact q).0 i)))
+
+pub counted_line_is : (g : Grid) (c : Colour) (p n held : ℕ) (points : List ℕ) → IsCounted g c p → Lists points (InRegion g c p)
+    → get_or points 0 0 ≡ p → length points ≡ n → held ≡ sum_by (worth g c) points → IsCountedLine g (record { lowest = p; colour = c; points = n; held = held })
+counted_line_is g c p n held points h lists first long e = record {
+  lowest = (h, λ q i. subst (λ x. x ≤ q) first (first_least points q lists.ascending ((lists.exact q).1 i)));
+  within = points;
+  lists = lists;
+  points = sym long;
+  held = e;
+}
+
+-- the lines name points of the board
+pub chains_on_board : (g : Grid) (ls : List ChainLine) → AreChainLines g ls → (k : ℕ) (d : ChainLine) → k < length ls → (get_or ls k d).lowest < length g.cells
+chains_on_board g ls are k d lt = (are.each (get_or ls k d) (Contains-get_or ls k d lt)).1
+
+pub counted_on_board : (g : Grid) (ls : List CountedLine) → AreCountedLines g ls → (k : ℕ) (d : CountedLine) → k < length ls → (get_or ls k d).lowest < length g.cells
+counted_on_board g ls are k d lt = (are.each (get_or ls k d) (Contains-get_or ls k d lt)).0.lowest.0.2.lacks.0
+
+pub counted_marks : (g : Grid) (c : Colour) (xs : List ℕ) (marks : List Bool) → Lists xs (IsCounted g c) → Marks marks (Contains xs) → Marks marks (IsCounted g c)
+counted_marks g c xs marks lists is p = (λ m. (lists.exact p).0 ((is p).0 m), λ h. (is p).1 ((lists.exact p).1 h))
+
+-- the text of the lines of a board
+pub safe_text_is : (g : Grid) (k : ℕ) (chains : List ChainLine) (counted : List CountedLine) (regions : List Shape) (t u v w text : List ℕ) → k ≡ g.columns
+    → AreChainLines g chains → AreCountedLines g counted → AreRegionsOfPlay g regions → t ≡ [] → u ≡ t ++ flat_map (chain_line k) chains
+    → v ≡ u ++ flat_map (counted_line k) counted → w ≡ v ++ flat_map (shape_line k) regions → text ≡ w → IsSafeText g text
+safe_text_is g k chains counted regions t u v w text e a b r empty first second third is =
+    let three = three_pieces t u v w (flat_map (chain_line k) chains) (flat_map (counted_line k) counted) (flat_map (shape_line k) regions) empty first second third in record {
+      chains = chains;
+      counted = counted;
+      regions = regions;
+      are_chains = a;
+      are_counted = b;
+      are_regions = r;
+      is = is ∙ subst (λ n. w ≡ flat_map (chain_line n) chains ++ (flat_map (counted_line n) counted ++ flat_map (shape_line n) regions)) e three;
+    }
+
+-- the regions are on the board
+pub regions_on_board : (g : Grid) (rs : List Shape) → AreRegionsOfPlay g rs → (k : ℕ) (d : Shape) → k < length rs → ((get_or rs k d).columns ≡ g.columns) × ((get_or rs k d).rows ≡ g.rows)
+regions_on_board g rs are k d lt = let r = are.each (get_or rs k d) (Contains-get_or rs k d lt) in (r.columns, r.rows)

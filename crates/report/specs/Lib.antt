@@ -1,0 +1,4 @@
+pub mod Lines
+pub mod Solution
+pub mod Listing
+pub mod Safety
