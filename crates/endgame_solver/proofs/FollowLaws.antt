@@ -1,0 +1,172 @@
+-- Each region follows its own moves.
+use Rattle.std.proofs.Common.{ℕ, zero, suc, ◌≡◌, ◌<◌, inl, inr, refl, sym, ap, ◌∙◌, subst, arith, List, [], ◌∷◌, length, get_or, set, Contains}
+use Rattle.std.proofs.lemmas.Bool.{cases_eq}
+use Rattle.std.proofs.lemmas.List.{get_or_default, get_or-set_same, get_or-set_other}
+use Rattle.std.proofs.lemmas.List.Elements.{Contains-get_or}
+use Rattle.go_grid.specs.declared.grid.Cell.{Cell}
+use Rattle.go_grid.specs.declared.grid.Colour.{Colour}
+use Rattle.go_grid.specs.Chain.{IsSettled}
+use Rattle.go_grid.specs.Grid.{Grid, cell_at}
+use Rattle.go_grid.specs.Region.{Shape}
+use Rattle.go_play.specs.Place.{IsPlaced}
+use Rattle.go_grid.specs.declared.grid.Colour.TheVariants.{Black, White}
+use Rattle.benson_life.specs.Life.{IsAlive}
+use Rattle.benson_life.specs.Walls.{WallsStand}
+use Rattle.benson_life.specs.Region.{IsContested}
+use Rattle.whole_rules.specs.declared.states.Move.{Move}
+use Rattle.whole_rules.specs.declared.states.Move.TheVariants.{Stone, Spend, Half}
+use Rattle.whole_rules.specs.Walls.{Plays}
+use Rattle.whole_rules.specs.WholeGame.{State}
+use Rattle.whole_rules.proofs.WallLaws.{Keeps, keeps_move, keeps_start, keeps_plays}
+use Rattle.local_graph.specs.declared.cycle.CycleMove.{CycleMove}
+use Rattle.local_graph.specs.LocalGraph.{Plays as LocalPlays}
+use Rattle.region_cut.proofs.WallLemmas.{same_or_not}
+use Rattle.region_cut.specs.Cut.{AreRegionsOfPlay}
+use Rattle.region_cut.specs.LocalBoard.{HoldsPosition, PlaysLocally}
+use Rattle.region_cut.proofs.ApartLemmas.{HoldPositions, holds_start, only_region, positions_after}
+use Rattle.endgame_solver.specs.Bookkeeping.{AreMovesIn, RegionsFollow}
+use Rattle.endgame_solver.specs.Regions.{no_region, region_at}
+
+module _ (g : Grid) (settled : IsSettled g) (regions : List Shape) (cut : AreRegionsOfPlay g regions) (local : (r : Shape) → Contains regions r → PlaysLocally g r) where
+  abbrev Held : List (List Cell) → Grid → Type 0
+  Held positions h = HoldPositions g regions cut positions h
+
+  -- what a region does from a position on
+  record FollowsFrom (r : Shape) (from : List Cell) (c : Colour) (ms : List Move) (h : Grid) : Type 0 where
+    moves : List CycleMove
+    are : AreMovesIn r c ms moves
+    cells : List Cell
+    plays : LocalPlays r.touch from moves cells
+    holds : HoldsPosition g r cells h
+
+  -- a placing in one region
+  record PlacedIn (positions : List (List Cell)) (h after : Grid) (c : Colour) (p : ℕ) : Type 0 where
+    region : ℕ
+    known : region < length regions
+    place : ℕ
+    inside : place < length (region_at regions region).points
+    at : get_or (region_at regions region).points place 0 ≡ p
+    next : List Cell
+    moves : LocalPlays (region_at regions region).touch (get_or positions region []) (record { colour = c; place = place } ∷ []) next
+    held : Held (set positions region next) after
+    alone : (l : ℕ) → l < length regions → Contains (region_at regions l).points p → l ≡ region
+
+  placed_in : (positions : List (List Cell)) (h after : Grid) (c : Colour) (p : ℕ) → Held positions h → IsContested g p → IsPlaced h p c after
+      → PlacedIn positions h after c p
+  placed_in positions h after c p held contested placed =
+      let w = only_region g regions cut p no_region contested in
+      let l = w.0 in
+      let r = region_at regions l in
+      let (i, short, at) = w.2 in
+      let there : get_or r.points i 0 ≡ p = get_or_default r.points i 0 p short ∙ at in
+      let holds = held.each l no_region w.1 in
+      let cells = get_or positions l [] in
+      let placed' = subst (λ x. IsPlaced h x c after) (sym there) placed in
+      let plays = local r (Contains-get_or regions l no_region w.1) in
+      let m = (plays.legal cells h c i holds short).0 (after, placed') in
+      let is = plays.local cells m.0 h after c i holds short placed' m.1 in
+      record {
+        region = l;
+        known = w.1;
+        place = i;
+        inside = short;
+        at = there;
+        next = m.0;
+        moves = (m.0, m.1, refl);
+        held = positions_after g regions cut positions m.0 h after l p c no_region held w.1 placed m.1.long is;
+        alone = w.3;
+      }
+
+  follows : (s t : State) (ms : List Move) (positions : List (List Cell)) (k : ℕ) → Keeps g s → Held positions s.board → Plays s ms t → k < length regions
+      → FollowsFrom (region_at regions k) (get_or positions k []) s.side ms t.board
+  follows s t [] positions k keeps held e lt =
+      record { moves = []; are = refl; cells = get_or positions k []; plays = refl; holds = subst (λ z. HoldsPosition g (region_at regions k) (get_or positions k []) z.board) e (held.each k no_region lt) }
+  follows s t (Spend ∷ ms) positions k keeps held (u, move, rest) lt =
+      let is = move.1 in
+      let f = follows u t ms positions k (keeps_move g settled s u Spend keeps move) (subst (λ z. Held positions z.board) (sym is) held) rest lt in
+      record { moves = f.moves; are = subst (λ d. AreMovesIn (region_at regions k) d ms f.moves) (ap (λ z. z.side) is) f.are; cells = f.cells; plays = f.plays; holds = f.holds }
+  follows s t (Half ∷ ms) positions k keeps held (u, move, rest) lt =
+      let is = move.1 in
+      let f = follows u t ms positions k (keeps_move g settled s u Half keeps move) (subst (λ z. Held positions z.board) (sym is) held) rest lt in
+      record { moves = f.moves; are = subst (λ d. AreMovesIn (region_at regions k) d ms f.moves) (ap (λ z. z.side) is) f.are; cells = f.cells; plays = f.plays; holds = f.holds }
+  follows s t (Stone p ∷ ms) positions k keeps held (u, move, rest) lt =
+      let is = move.1.1.3 in
+      let w = placed_in positions s.board move.1.0 s.side p held ((keeps.contested p).0 move.0) move.1.1.1 in
+      let held' = subst (λ z. Held (set positions w.region w.next) z.board) (sym is) w.held in
+      let f = follows u t ms (set positions w.region w.next) k (keeps_move g settled s u (Stone p) keeps move) held' rest lt in
+      let are = subst (λ d. AreMovesIn (region_at regions k) d ms f.moves) (ap (λ z. z.side) is) f.are in
+      elim (cases_eq k w.region) as (λ _. FollowsFrom (region_at regions k) (get_or positions k []) s.side (Stone p ∷ ms) t.board) [
+        | inl same ↦
+            let short : w.region < length positions = omega (arith, w.known, held.many) in
+            let from : get_or (set positions w.region w.next) k [] ≡ w.next = ap (λ z. get_or (set positions w.region w.next) z []) same ∙ get_or-set_same positions w.region w.next [] short in
+            let first = subst (λ z. LocalPlays (region_at regions z).touch (get_or positions z []) (record { colour = s.side; place = w.place } ∷ []) w.next) (sym same) w.moves in
+            let inside = subst (λ z. w.place < length (region_at regions z).points) (sym same) w.inside in
+            let at = subst (λ z. get_or (region_at regions z).points w.place 0 ≡ p) (sym same) w.at in
+            record {
+              moves = record { colour = s.side; place = w.place } ∷ f.moves;
+              are = inr (w.place, f.moves, inside, at, refl, are);
+              cells = f.cells;
+              plays = (first.0, first.1, subst (λ z. LocalPlays (region_at regions k).touch z f.moves f.cells) (from ∙ sym first.2) f.plays);
+              holds = f.holds;
+            }
+        | inr ne ↦
+            let from : get_or (set positions w.region w.next) k [] ≡ get_or positions k [] = get_or-set_other positions w.region k w.next [] ne in
+            record {
+              moves = f.moves;
+              are = inl (λ in'. ne (w.alone k lt in'), are);
+              cells = f.cells;
+              plays = subst (λ z. LocalPlays (region_at regions k).touch z f.moves f.cells) from f.plays;
+              holds = f.holds;
+            }
+      ]
+
+-- the regions' own cells
+openings : List Shape → List (List Cell)
+openings [] = []
+openings (r ∷ rs) = r.cells ∷ openings rs
+
+openings_long : (rs : List Shape) → length (openings rs) ≡ length rs
+unfolding openings
+openings_long [] = refl
+openings_long (r ∷ rs) = ap suc (openings_long rs)
+
+opening_at : (rs : List Shape) (k : ℕ) (d : Shape) → k < length rs → get_or (openings rs) k [] ≡ (get_or rs k d).cells
+unfolding openings
+opening_at [] k d lt = absurd (omega (arith, lt))
+opening_at (r ∷ rs) zero d lt = refl
+opening_at (r ∷ rs) (suc k) d lt = opening_at rs k d (omega (arith, lt))
+
+held_start : (g : Grid) (regions : List Shape) (cut : AreRegionsOfPlay g regions) → ((r : Shape) → Contains regions r → length r.cells ≡ length r.points)
+    → HoldPositions g regions cut (openings regions) g
+held_start g regions cut full = record {
+  many = openings_long regions;
+  each = λ k d lt. let r = get_or regions k d in let among = Contains-get_or regions k d lt in
+      subst (λ x. HoldsPosition g r x g) (sym (opening_at regions k d lt)) (holds_start g r (cut.each r among) (full r among));
+}
+
+-- a point that isn't contested is an alive stone or counted, and those never change
+others_stay : (g h : Grid) → WallsStand g h → (p : ℕ) → p < length g.cells → ¬ IsContested g p → cell_at h p ≡ cell_at g p
+others_stay g h walls p lt not = elim (same_or_not (cell_at h p) (cell_at g p)) [
+  | inl e ↦ e
+  | inr ne ↦
+      let alive : (c : Colour) → ¬ IsAlive g c p = λ c a. ne ((walls.stones c p a).1 ∙ sym (a.1.stones p a.2).1) in
+      absurd (not (lt, alive Black, alive White, (λ w. ne (walls.counted Black p w)), λ w. ne (walls.counted White p w)))
+]
+
+pub regions_follow : RegionsFollow
+regions_follow g regions black white komi side s t ms settled cut both opening plays =
+    let keeps = keeps_start g black white komi side s opening in
+    let held = subst (λ z. HoldPositions g regions cut (openings regions) z) (sym opening.board) (held_start g regions cut (λ r among. (both r among).1)) in (
+      λ r (k, lt, e).
+          let here : region_at regions k ≡ r = get_or_default regions k no_region r lt ∙ e in
+          let f = follows g settled regions cut (λ x among. (both x among).0) s t ms (openings regions) k keeps held plays lt in
+          let from : get_or (openings regions) k [] ≡ r.cells = opening_at regions k no_region lt ∙ ap (λ x. x.cells) here in
+          record {
+            local = f.moves;
+            moves = subst (λ d. AreMovesIn r d ms f.moves) opening.turn (subst (λ x. AreMovesIn x s.side ms f.moves) here f.are);
+            cells = f.cells;
+            plays = subst (λ x. LocalPlays r.touch x f.moves f.cells) from (subst (λ x. LocalPlays x.touch (get_or (openings regions) k []) f.moves f.cells) here f.plays);
+            holds = subst (λ x. HoldsPosition g x f.cells t.board) here f.holds;
+          },
+      others_stay g t.board (keeps_plays g settled s t ms keeps plays).walls,
+    )

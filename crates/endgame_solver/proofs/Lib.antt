@@ -1,0 +1,13 @@
+pub mod MatchLaws
+pub mod SignLaws
+pub mod PursesLaws
+pub mod PartsLaws
+pub mod PlayLaws
+pub mod Decomposition
+pub mod WholeLaws
+pub mod RegionPlayLaws
+pub mod RegionTreeLaws
+pub mod ValueSumLaws
+pub mod BoardLaws
+pub mod MoneyLaws
+pub mod FollowLaws

@@ -1,0 +1,62 @@
+-- The values of the regions' positions add up to the tree of the game of parts, and so they decide the whole game.
+use Rattle.std.proofs.Common.{ℕ, suc, ◌⊎◌, ◌↔◌, ◌^◌, ◌<◌, ◌≤◌, sym, subst, List, [], ◌∷◌, length}
+use Rattle.go_grid.specs.declared.grid.Cell.{Cell}
+use Rattle.go_grid.specs.Chain.{IsSettled}
+use Rattle.go_grid.specs.Grid.{Grid}
+use Rattle.go_grid.specs.Region.{Shape}
+use Rattle.whole_rules.specs.PlainRecursion.{MoverWins, MoverLoses}
+use Rattle.whole_rules.specs.WholeGame as whole
+use Rattle.whole_rules.proofs.WallLaws.{Keeps}
+use Rattle.local_graph.specs.Nodes.{Nodes}
+use Rattle.game_store.specs.Tree.{Tree, node, none}
+use Rattle.game_store.specs.Order.{◌≡ᵍ◌}
+use Rattle.game_store.specs.Sum.{◌+ᵍ◌, total}
+use Rattle.game_store.specs.Number.{num}
+use Rattle.game_store.specs.Meaning.{pick}
+use Rattle.game_canon.specs.Players.{LosesGame}
+use Rattle.game_canon.proofs.PlayerLaws.{same-refl, same-sym, same-trans, same-plus, loses-same}
+use Rattle.local_value.specs.LocalGame.{tree_within}
+use Rattle.local_value.specs.PositionTree.{IsValueOf}
+use Rattle.endgame_solver.specs.Regions.{Spot, region_at, AreGraphs, moves_at, InRegion, HasCells, IsShown}
+use Rattle.endgame_solver.specs.SumGame.{State, AllEnd, parts_tree, purses_tree, state_tree, balance}
+use Rattle.endgame_solver.specs.Valued.{AreValued}
+use Rattle.endgame_solver.specs.WholeParts.{IsSeenAs}
+use Rattle.endgame_solver.proofs.PursesLaws.{purses-balance}
+use Rattle.endgame_solver.proofs.RegionPlayLaws.{region_play}
+use Rattle.endgame_solver.proofs.RegionTreeLaws.{few_taken, spot_ends, tree_same}
+use Rattle.endgame_solver.proofs.WholeLaws.{whole_decomposes}
+
+module _ (g : Grid) (regions : List Shape) (graphs : List Nodes) (are : AreGraphs g regions graphs) (Ts : List Tree)
+    (n : ℕ) (deep : (k : ℕ) → k < length regions → 3 ^ length (region_at regions k).cells ≤ n) where
+  value_same : (k : ℕ) (q : Spot) (cells : List Cell) (V : Tree) → HasCells regions graphs k q cells → IsValueOf (region_at regions k).touch cells V
+      → V ≡ᵍ tree_within Spot (moves_at graphs) n q
+  value_same k q cells V has v = same-trans _ _ _ (same-sym _ _ v.same) (tree_same g regions graphs are n k q cells v.tree (deep k has.known) has v.of_position)
+
+  pub values_total : (k : ℕ) (qs : List Spot) (ids : List ℕ) → AreValued regions graphs Ts k qs ids
+      → total (pick Ts ids) ≡ᵍ parts_tree Spot (moves_at graphs) n qs
+  unfolding total parts_tree
+  values_total k [] [] w = same-refl (node none none)
+  values_total k [] (id ∷ ids) w = absurd w
+  values_total k (q ∷ qs) [] w = absurd w
+  values_total k (q ∷ qs) (id ∷ ids) ((cells, has, v), w) =
+      same-plus _ _ _ _ (value_same k q cells _ has v) (values_total (suc k) qs ids w)
+
+  pub all_end : (k : ℕ) (qs : List Spot) (ids : List ℕ) → AreValued regions graphs Ts k qs ids → AllEnd Spot (moves_at graphs) n qs
+  all_end k [] [] w = tt
+  all_end k [] (id ∷ ids) w = absurd w
+  all_end k (q ∷ qs) [] w = absurd w
+  all_end k (q ∷ qs) (id ∷ ids) ((cells, has, v), w) =
+      (spot_ends g regions graphs are n k q cells has (deep k has.known), all_end (suc k) qs ids w)
+
+  -- The state has a winner, and who loses is the sign of the sum of the values, of the balance of the purses and of the token.
+  pub decided_by_values : IsSettled g → (s : whole.State) (u : State Spot) (ids : List ℕ) → Keeps g s
+      → IsSeenAs Spot (moves_at graphs) (InRegion regions) (IsShown g regions graphs) (length regions) s u → AreValued regions graphs Ts 0 u.parts ids
+      → (MoverWins whole.State whole.Leads s ⊎ MoverLoses whole.State whole.Leads s)
+      × (MoverLoses whole.State whole.Leads s ↔ LosesGame s.side (total (pick Ts ids) +ᵍ num 1 (balance s.purses)))
+  decided_by_values settled s u ids keeps seen valued =
+      let d = whole_decomposes Spot (moves_at graphs) (InRegion regions) (IsShown g regions graphs) g settled (length regions) (region_play g regions graphs are)
+      33 n s u (few_taken g regions graphs are) (all_end 0 u.parts ids valued) (keeps, seen) in
+      let same : state_tree Spot (moves_at graphs) n u ≡ᵍ (total (pick Ts ids) +ᵍ num 1 (balance s.purses)) =
+      same-plus _ _ _ _ (same-sym _ _ (values_total 0 u.parts ids valued))
+      (subst (λ m. purses_tree u.purses ≡ᵍ num 1 (balance m)) (sym seen.purses) (purses-balance u.purses)) in
+      (d.0, (λ h. loses-same s.side _ _ same (d.1.0 h), λ h. d.1.1 (loses-same s.side _ _ (same-sym _ _ same) h)))

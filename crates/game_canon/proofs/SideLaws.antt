@@ -1,0 +1,163 @@
+-- Laws that hold of both sides, and of lists of ids.
+use Rattle.std.proofs.Common.{ℕ, zero, suc, ◌+◌, ◌<◌, ◌≡◌, ◌⊎◌, List, [], ◌∷◌, ◌++◌, length, get_or, arith, refl, sym, ◌∙◌, inl, inr, ap, subst}
+use Rattle.std.proofs.lemmas.Bool.{cases_Bool}
+use Rattle.game_store.specs.Tree.{Tree, Trees, more, Has, no_one, ◌then◌, size, sizes}
+use Rattle.game_store.specs.Order.{le}
+use Rattle.game_store.proofs.OrderLaws.{le-refl, le-trans, no_one-has}
+use Rattle.game_store.proofs.SumLaws.{then-has, has-then_left, has-then_right}
+use Rattle.game_store.proofs.CanonicalLaws.{some_one}
+use Rattle.game_store.specs.Meaning.{tree_at, pick, AreIds}
+use Rattle.game_store.specs.Forms.{IsOptions}
+use Rattle.game_canon.specs.declared.side.Side.{Side}
+use Rattle.game_canon.specs.declared.side.Side.TheVariants.{Left, Right}
+use Rattle.game_canon.specs.Sides.{near, far, Covers, near_list, far_list, AreBest, IsWithout}
+use Rattle.game_canon.proofs.GameLaws.{has-left, left-has, has-right, right-has}
+use Rattle.game_canon.proofs.IdSteps.{sizes-order, in-order, out-order, ordered-ids}
+use Rattle.game_canon.specs.Ids.{IsInOrder}
+
+pub covers-refl : (s : Side) (G : Tree) → Covers s G G
+covers-refl Left G = le-refl G
+covers-refl Right G = le-refl G
+
+pub covers-trans : (s : Side) (A B C : Tree) → Covers s A B → Covers s B C → Covers s A C
+covers-trans Left A B C p q = le-trans A B C p q
+covers-trans Right A B C p q = le-trans C B A q p
+
+-- a list in which not none covers X has one that does
+pub some-covers : (s : Side) (Gs : Trees) (X : Tree) → (((Y : Tree) → Has Gs Y → Covers s X Y → ⊥) → ⊥) → (Y : Tree) × Has Gs Y × Covers s X Y
+some-covers Left Gs X h = elim (cases_Bool (no_one (λ Y. le X Y) Gs)) [ inl t ↦ absurd (h (λ Y y c. no_one-has _ Gs t Y y c)) | inr f ↦ some_one (λ Y. le X Y) Gs f ]
+some-covers Right Gs X h = elim (cases_Bool (no_one (λ Y. le Y X) Gs)) [ inl t ↦ absurd (h (λ Y y c. no_one-has _ Gs t Y y c)) | inr f ↦ some_one (λ Y. le Y X) Gs f ]
+
+-- lists of ids in a row
+pub pick-append : (Ts : List Tree) (xs ys : List ℕ) → pick Ts (xs ++ ys) ≡ pick Ts xs then pick Ts ys
+pick-append Ts [] ys = refl
+pick-append Ts (x ∷ xs) ys = ap (more (tree_at Ts x)) (pick-append Ts xs ys)
+
+pub append-has : (Ts : List Tree) (xs ys : List ℕ) (X : Tree) → Has (pick Ts (xs ++ ys)) X → Has (pick Ts xs) X ⊎ Has (pick Ts ys) X
+append-has Ts xs ys X h = then-has _ _ X (subst (λ z. Has z X) (pick-append Ts xs ys) h)
+
+pub has-append_left : (Ts : List Tree) (xs ys : List ℕ) (X : Tree) → Has (pick Ts xs) X → Has (pick Ts (xs ++ ys)) X
+has-append_left Ts xs ys X h = subst (λ z. Has z X) (sym (pick-append Ts xs ys)) (has-then_left _ _ X h)
+
+pub has-append_right : (Ts : List Tree) (xs ys : List ℕ) (X : Tree) → Has (pick Ts ys) X → Has (pick Ts (xs ++ ys)) X
+has-append_right Ts xs ys X h = subst (λ z. Has z X) (sym (pick-append Ts xs ys)) (has-then_right _ _ X h)
+
+pub sizes-append : (Ts : List Tree) (xs ys : List ℕ) → sizes (pick Ts (xs ++ ys)) ≡ sizes (pick Ts xs) + sizes (pick Ts ys)
+unfolding size
+sizes-append Ts [] ys = omega arith
+sizes-append Ts (x ∷ xs) ys = omega (arith, sizes-append Ts xs ys)
+
+pub one : (Ts : List Tree) (y : ℕ) (X : Tree) → Has (pick Ts (y ∷ [])) X → X ≡ tree_at Ts y
+one Ts y X (inl e) = e
+one Ts y X (inr h) = absurd h
+
+pub ids-append : (Ts : List Tree) (xs ys : List ℕ) → AreIds Ts xs → AreIds Ts ys → AreIds Ts (xs ++ ys)
+ids-append Ts [] ys a b j l = b j l
+ids-append Ts (x ∷ xs) ys a b zero l = a 0 (omega arith)
+ids-append Ts (x ∷ xs) ys a b (suc j) l = ids-append Ts xs ys (λ j l. a (suc j) (omega arith)) b j (omega (arith, l))
+
+pub ids-one : (Ts : List Tree) (y : ℕ) → y < length Ts → AreIds Ts (y ∷ [])
+ids-one Ts y h zero l = h
+ids-one Ts y h (suc j) l = absurd (omega (arith, l))
+
+-- the ids that top doesn't cover, one by one
+pub without-start : (s : Side) (Ts : List Tree) (top : ℕ) → IsWithout s Ts [] top []
+without-start s Ts top = record { ids = λ j l. absurd (omega (arith, l)); among = λ X h. absurd h; rest = λ X h. absurd h; smaller = omega arith }
+
+pub without-skip : (s : Side) (Ts : List Tree) (xs vs : List ℕ) (top y : ℕ) → Covers s (tree_at Ts y) (tree_at Ts top) → IsWithout s Ts xs top vs → IsWithout s Ts (xs ++ y ∷ []) top vs
+without-skip s Ts xs vs top y c w = record {
+  ids = w.ids;
+  among = λ X h. (has-append_left Ts xs (y ∷ []) X (w.among X h).0, (w.among X h).1);
+  rest = λ X h. elim (append-has Ts xs (y ∷ []) X h) [ inl a ↦ w.rest X a | inr b ↦ inl (subst (λ t. Covers s t (tree_at Ts top)) (sym (one Ts y X b)) c) ];
+  smaller = omega (arith, w.smaller, sizes-append Ts xs (y ∷ []));
+}
+
+pub without-push : (s : Side) (Ts : List Tree) (xs vs : List ℕ) (top y : ℕ) → y < length Ts → (Covers s (tree_at Ts y) (tree_at Ts top) → ⊥) → IsWithout s Ts xs top vs → IsWithout s Ts (xs ++ y ∷ []) top (vs ++ y ∷ [])
+without-push s Ts xs vs top y b c w = record {
+  ids = ids-append Ts vs (y ∷ []) w.ids (ids-one Ts y b);
+  among = λ X h. elim (append-has Ts vs (y ∷ []) X h) [
+    | inl a ↦ (has-append_left Ts xs (y ∷ []) X (w.among X a).0, (w.among X a).1)
+    | inr a ↦ (has-append_right Ts xs (y ∷ []) X a, λ k. c (subst (λ t. Covers s t (tree_at Ts top)) (one Ts y X a) k))
+  ];
+  rest = λ X h. elim (append-has Ts xs (y ∷ []) X h) [
+    | inl a ↦ elim (w.rest X a) [ inl k ↦ inl k | inr k ↦ inr (has-append_left Ts vs (y ∷ []) X k) ]
+    | inr a ↦ inr (has-append_right Ts vs (y ∷ []) X a)
+  ];
+  smaller = omega (arith, w.smaller, sizes-append Ts xs (y ∷ []), sizes-append Ts vs (y ∷ []));
+}
+
+-- the best ids, one by one
+pub best-start : (s : Side) (Ts : List Tree) → AreBest s Ts [] []
+best-start s Ts = record { ids = λ j l. absurd (omega (arith, l)); among = λ X h. absurd h; covers = λ X h. absurd h; free = λ A B a b c. absurd a; smaller = omega arith }
+
+pub best-skip : (s : Side) (Ts : List Tree) (xs bs : List ℕ) (y : ℕ) → (((Y : Tree) → Has (pick Ts bs) Y → Covers s (tree_at Ts y) Y → ⊥) → ⊥) → AreBest s Ts xs bs → AreBest s Ts (xs ++ y ∷ []) bs
+best-skip s Ts xs bs y some b = record {
+  ids = b.ids;
+  among = λ X h. has-append_left Ts xs (y ∷ []) X (b.among X h);
+  covers = λ X h. elim (append-has Ts xs (y ∷ []) X h) [
+    | inl a ↦ b.covers X a
+    | inr a ↦ (let r = some-covers s (pick Ts bs) (tree_at Ts y) some in (r.0, r.1, subst (λ t. Covers s t r.0) (sym (one Ts y X a)) r.2))
+  ];
+  free = b.free;
+  smaller = omega (arith, b.smaller, sizes-append Ts xs (y ∷ []));
+}
+
+pub best-push : (s : Side) (Ts : List Tree) (xs bs ws : List ℕ) (y : ℕ) → y < length Ts → ((Y : Tree) → Has (pick Ts bs) Y → Covers s (tree_at Ts y) Y → ⊥) → AreBest s Ts xs bs → IsWithout s Ts bs y ws → AreBest s Ts (xs ++ y ∷ []) (ws ++ y ∷ [])
+best-push s Ts xs bs ws y l uncovered b w = record {
+  ids = ids-append Ts ws (y ∷ []) w.ids (ids-one Ts y l);
+  among = λ X h. elim (append-has Ts ws (y ∷ []) X h) [
+    | inl a ↦ has-append_left Ts xs (y ∷ []) X (b.among X (w.among X a).0)
+    | inr a ↦ has-append_right Ts xs (y ∷ []) X a
+  ];
+  covers = λ X h. elim (append-has Ts xs (y ∷ []) X h) [
+    | inl a ↦ by_rest X (b.covers X a)
+    | inr a ↦ (X, has-append_right Ts ws (y ∷ []) X a, covers-refl s X)
+  ];
+  free = λ A B a b c. frees A B (append-has Ts ws (y ∷ []) A a) (append-has Ts ws (y ∷ []) B b) c;
+  smaller = omega (arith, b.smaller, w.smaller, sizes-append Ts xs (y ∷ []), sizes-append Ts ws (y ∷ []));
+}
+  where
+    by_rest : (X : Tree) → (Y : Tree) × Has (pick Ts bs) Y × Covers s X Y → (Y : Tree) × Has (pick Ts (ws ++ y ∷ [])) Y × Covers s X Y
+    by_rest X r = elim (w.rest r.0 r.1) [
+      | inl k ↦ (tree_at Ts y, has-append_right Ts ws (y ∷ []) (tree_at Ts y) (inl refl), covers-trans s X r.0 (tree_at Ts y) r.2 k)
+      | inr k ↦ (r.0, has-append_left Ts ws (y ∷ []) r.0 k, r.2)
+    ]
+
+    frees : (A B : Tree) → Has (pick Ts ws) A ⊎ Has (pick Ts (y ∷ [])) A → Has (pick Ts ws) B ⊎ Has (pick Ts (y ∷ [])) B → Covers s A B → A ≡ B
+    frees A B (inl a) (inl c) k = b.free A B (w.among A a).0 (w.among B c).0 k
+    frees A B (inl a) (inr c) k = absurd ((w.among A a).1 (subst (λ t. Covers s A t) (one Ts y B c) k))
+    frees A B (inr a) (inl c) k = absurd (uncovered B (w.among B c).0 (subst (λ t. Covers s t B) (one Ts y A a) k))
+    frees A B (inr a) (inr c) k = one Ts y A a ∙ sym (one Ts y B c)
+
+pub has-near : (s : Side) (Ts : List Tree) (id : ℕ) (ls rs : List ℕ) → IsOptions Ts id ls rs → (X : Tree) → Has (near s (tree_at Ts id)) X → Has (pick Ts (near_list s ls rs)) X
+has-near Left = has-left
+has-near Right = has-right
+
+pub near-has : (s : Side) (Ts : List Tree) (id : ℕ) (ls rs : List ℕ) → IsOptions Ts id ls rs → (X : Tree) → Has (pick Ts (near_list s ls rs)) X → Has (near s (tree_at Ts id)) X
+near-has Left = left-has
+near-has Right = right-has
+
+pub has-far : (s : Side) (Ts : List Tree) (id : ℕ) (ls rs : List ℕ) → IsOptions Ts id ls rs → (X : Tree) → Has (far s (tree_at Ts id)) X → Has (pick Ts (far_list s ls rs)) X
+has-far Left = has-right
+has-far Right = has-left
+
+pub far-has : (s : Side) (Ts : List Tree) (id : ℕ) (ls rs : List ℕ) → IsOptions Ts id ls rs → (X : Tree) → Has (pick Ts (far_list s ls rs)) X → Has (far s (tree_at Ts id)) X
+far-has Left = right-has
+far-has Right = left-has
+
+-- none of the ids covers X, and none is covered by X
+abbrev pub NearUncovered : Side → List Tree → List ℕ → Tree → Type 0
+NearUncovered s Ts is X = (j : ℕ) → j < length is → Covers s X (tree_at Ts (get_or is j 0)) → ⊥
+
+abbrev pub FarUncovered : Side → List Tree → List ℕ → Tree → Type 0
+FarUncovered s Ts is X = (j : ℕ) → j < length is → Covers s (tree_at Ts (get_or is j 0)) X → ⊥
+
+-- the best of ids in order, in order
+pub best-order : (s : Side) (Ts : List Tree) (is ds us vs : List ℕ) → IsInOrder is ds → AreBest s Ts ds us → IsInOrder us vs → AreBest s Ts is vs
+best-order s Ts is ds us vs o b p = record {
+  ids = ordered-ids Ts us vs p b.ids;
+  among = λ X h. out-order Ts is ds o X (b.among X (out-order Ts us vs p X h));
+  covers = λ X h. (let r = b.covers X (in-order Ts is ds o X h) in (r.0, in-order Ts us vs p r.0 r.1, r.2));
+  free = λ A B a c k. b.free A B (out-order Ts us vs p A a) (out-order Ts us vs p B c) k;
+  smaller = omega (arith, sizes-order Ts is ds o, b.smaller, sizes-order Ts us vs p);
+}

@@ -1,0 +1,30 @@
+use Rattle.std.proofs.Common.{get_or, take, ◌++◌, [], ◌∷◌, List, ℕ, sym, subst}
+use Rattle.std.proofs.lemmas.List.{take_more}
+use Rattle.std.proofs.lemmas.Bool.{both_ways}
+use Rattle.game_store.specs.Meaning.{tree_at}
+use Rattle.game_store.proofs.Values.{pick-has}
+use Rattle.game_canon.specs.Sides.{AreBest, Covers}
+use Rattle.game_canon.proofs.GameLaws.{none-list}
+use Rattle.game_canon.proofs.SideLaws.{best-skip, best-push, NearUncovered}
+use Rattle.game_canon.proofs.domination.undominated.Goals as goal
+
+pub loop-id-preserved-then-not-branch : goal.loop-id-preserved-then-not-branch
+loop-id-preserved-then-not-branch c = record {
+  known = c.none_covers.ensures.known;
+  so_far = subst (λ (z : List ℕ). AreBest c.args.side c.args.games.now.store.now z c.loop-id.best.items) (sym (take_more c.args.ids.now c.loop-id.id-index 0 c.loop-id-test.true))
+      (best-skip c.args.side c.args.games.now.store.now _ _ _
+      (λ h. both_ways _ c.if-not-branch.true (c.in_ok-none_covers.ensures.answer.1 (subst (λ (z : List ℕ). NearUncovered c.args.side c.args.games.now.store.now z (tree_at c.args.games.now.store.now (get_or c.args.ids.now c.loop-id.id-index 0))) (sym c.deref.ensures) (λ j l. h _ (pick-has c.args.games.now.store.now c.loop-id.best.items j l)))))
+      c.loop-id.invariant.so_far);
+}
+
+pub loop-id-preserved : goal.loop-id-preserved
+loop-id-preserved c =
+    let w = rw c.deref-in-loop-id.ensures at c.in_ok-best.ensures.without in record {
+      known = c.without_covered.ensures.known;
+      so_far = subst (λ (z : List ℕ). AreBest c.args.side c.args.games.now.store.now z c.push.new.self.items) (sym (take_more c.args.ids.now c.loop-id.id-index 0 c.loop-id-test.true))
+          (subst (λ (z : List ℕ). AreBest c.args.side c.args.games.now.store.now (take c.loop-id.id-index c.args.ids.now ++ get_or c.args.ids.now c.loop-id.id-index 0 ∷ []) z) (sym c.in_ok-push.ensures.ok)
+          (best-push c.args.side c.args.games.now.store.now _ c.loop-id.best.items _ _ (c.requires.ids _ c.loop-id-test.true)
+          (none-list c.args.games.now.store.now c.loop-id.best.items (λ Z. Covers c.args.side (tree_at c.args.games.now.store.now (get_or c.args.ids.now c.loop-id.id-index 0)) Z)
+          (subst (λ (z : List ℕ). NearUncovered c.args.side c.args.games.now.store.now z (tree_at c.args.games.now.store.now (get_or c.args.ids.now c.loop-id.id-index 0))) c.deref.ensures (c.in_ok-none_covers.ensures.answer.0 c.if-not-branch.false)))
+          c.loop-id.invariant.so_far w));
+    }

@@ -1,0 +1,8 @@
+use Rattle.std.proofs.Common.{take}
+use Rattle.game_canon.specs.Comparisons.{recalled}
+use Rattle.game_canon.specs.Games.{IsKnown}
+use Rattle.game_canon.specs.Sides.{IsWithout}
+use Rattle.game_canon.proofs.domination.without_covered.Given as goal
+
+abbrev pub invariant-loop-id : goal.invariant-loop-id
+invariant-loop-id l = record { known : IsKnown l.games (recalled l.memo); so_far : IsWithout l.side l.games.store.now (take l.id-index l.ids) l.top l.left.items }

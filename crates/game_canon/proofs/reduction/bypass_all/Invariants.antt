@@ -1,0 +1,13 @@
+use Rattle.std.proofs.Common.{◌+◌}
+use Rattle.game_store.specs.Tree.{sizes}
+use Rattle.game_store.specs.Meaning.{pick}
+use Rattle.game_canon.specs.Comparisons.{recalled}
+use Rattle.game_canon.specs.Games.{beside, IsKnown}
+use Rattle.game_canon.proofs.Reduce.{IsReducing}
+use Rattle.game_canon.proofs.reduction.bypass_all.Given as goal
+
+abbrev pub invariant-rounds : goal.invariant-rounds
+invariant-rounds l = record { known : IsKnown l.games (recalled l.memo); so_far : IsReducing l.games.store.now (beside l.games) l.lists.left.items l.lists.right.items }
+
+abbrev pub decreases-rounds : goal.decreases-rounds
+decreases-rounds l = sizes (pick l.games.store.now l.lists.left.items) + sizes (pick l.games.store.now l.lists.right.items)

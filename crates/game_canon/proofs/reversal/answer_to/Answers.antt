@@ -1,0 +1,10 @@
+use Rattle.std.proofs.Common.{inr}
+use Rattle.game_canon.proofs.Reduce.{match-along, answer-from, kept-from}
+use Rattle.game_canon.proofs.reversal.answer_to.Goals as goal
+
+pub returns-in_ok-first_covered-in-Options-clause-found :
+    goal.returns-in_ok-first_covered-in-Options-clause-found
+returns-in_ok-first_covered-in-Options-clause-found c = match-along _ _ _ _ _
+    (λ h. inr (kept-from c.args.side c.args.games.now.store.now _ c.args.id _ _ c.in-Options.ensures.form h))
+    (λ x h. answer-from c.args.side c.args.games.now.store.now _ c.args.id _ _ x c.in-Options.ensures.form h)
+    (rw c.far_of.ensures at c.in_ok-first_covered-in-Options.ensures.found)

@@ -1,0 +1,20 @@
+use Rattle.std.proofs.Common.{sym, subst, inl, inr, arith, ◌∙◌, ap, ◌++◌, [], List, ℕ, append-nil}
+use Rattle.std.proofs.lemmas.Grind.{common_steps}
+use Rattle.game_store.specs.Meaning.{AreIds, pick}
+use Rattle.game_store.specs.Tree.{Has}
+use Rattle.game_canon.proofs.Reduce.{replaced-from, few-near, nought-few, near-ids, pieces}
+use Rattle.game_canon.proofs.SideLaws.{near-has, has-near}
+use Rattle.game_canon.proofs.reversal.replaced.Goals as goal
+
+pub returns-in-Number : goal.returns-in-Number
+returns-in-Number c = replaced-from c.args.side c.args.store.now c.args.ids.now c.args.place c.args.answer [] _ c.requires.ids c.requires.place (λ j l. absurd (omega (arith, l)))
+    (inl (60, _, c.in-Number.ensures.form)) (λ X h. absurd h) (nought-few c.args.store.now _)
+    ((pieces c.args.ids.now _ _ _ _ _ c.args.place c.new-all.ensures.items c.in_ok-extend_from_slice.ensures.ok c.in_ok-extend_from_slice-2.ensures.ok (grind (arith, common_steps)) (grind (arith, common_steps))) ∙ sym (append-nil _))
+
+pub returns-in_ok-extend_from_slice-in-Options : goal.returns-in_ok-extend_from_slice-in-Options
+returns-in_ok-extend_from_slice-in-Options c = replaced-from c.args.side c.args.store.now c.args.ids.now c.args.place c.args.answer c.near_of.result.now _ c.requires.ids c.requires.place
+    (subst (AreIds c.args.store.now) (sym c.near_of.ensures) (near-ids c.args.side c.args.store.now c.args.answer _ _ c.requires.answer c.in-Options.ensures.form))
+    (inr (λ X x. subst (λ (z : List ℕ). Has (pick c.args.store.now z) X) (sym c.near_of.ensures) (has-near c.args.side c.args.store.now c.args.answer _ _ c.in-Options.ensures.form X x)))
+    (λ X x. (c.in-Options.ensures.form.no_number, near-has c.args.side c.args.store.now c.args.answer _ _ c.in-Options.ensures.form X (subst (λ (z : List ℕ). Has (pick c.args.store.now z) X) c.near_of.ensures x)))
+    (rw c.near_of.ensures (few-near c.args.side c.args.store.now c.args.answer _ _ c.in-Options.ensures.distinct c.requires.answer c.in-Options.ensures.form))
+    (c.in_ok-extend_from_slice-in-Options.ensures.ok ∙ ap (λ (z : List ℕ). z ++ c.near_of.result.now) (pieces c.args.ids.now _ _ _ _ _ c.args.place c.new-all.ensures.items c.in_ok-extend_from_slice.ensures.ok c.in_ok-extend_from_slice-2.ensures.ok (grind (arith, common_steps)) (grind (arith, common_steps))))

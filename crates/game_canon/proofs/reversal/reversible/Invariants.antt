@@ -1,0 +1,10 @@
+use Rattle.std.proofs.Common.{ℕ, ◌<◌, ◌⊎◌, get_or}
+use Rattle.game_store.specs.Number.{IsNumberTree}
+use Rattle.game_store.specs.Meaning.{tree_at}
+use Rattle.game_canon.specs.Comparisons.{recalled}
+use Rattle.game_canon.specs.Games.{beside, IsKnown}
+use Rattle.game_canon.specs.Sides.{IsKept}
+use Rattle.game_canon.proofs.reversal.reversible.Given as goal
+
+abbrev pub invariant-loop-place : goal.invariant-loop-place
+invariant-loop-place l = record { known : IsKnown l.games (recalled l.memo); so_far : (j : ℕ) → j < l.place → IsNumberTree (tree_at l.games.store.now (get_or l.ids j 0)) ⊎ IsKept l.side (beside l.games) (tree_at l.games.store.now (get_or l.ids j 0)) }

@@ -1,0 +1,53 @@
+-- The games that are compared: those of a store, and of a form beside it.
+use Rattle.std.specs.Prelude.{ℕ, ◌≡◌, ◌<◌, List, [], ◌∷◌, ◌++◌, length, Bool, Option, Some, None}
+use Rattle.game_store.specs.Tree.{Tree}
+use Rattle.game_store.specs.Number.{IsNumber}
+use Rattle.game_store.specs.Threshold.{IsFloor, IsCeiling}
+use Rattle.game_store.specs.Meaning.{tree_at, form, AreIds, AreDistinct, IsAscending}
+use Rattle.game_canon.specs.Comparisons.{AreRight}
+use Rattle.game_canon.specs.declared.games.Games.{Games}
+use Rattle.game_canon.specs.declared.games.Unstored.{Unstored}
+
+abbrev pub with_unstored : List Tree → Option Unstored → List Tree
+with_unstored Ts None = Ts
+with_unstored Ts (Some u) = Ts ++ form Ts u.left.now u.right.now ∷ []
+
+-- the tree of each id
+abbrev pub trees : Games → List Tree
+trees games = with_unstored games.store.now games.unstored
+
+-- a form that is no number, with options of the store
+pub record IsUnstored (Ts : List Tree) (u : Unstored) : Type 0 where
+  pub left_ids : AreIds Ts u.left.now
+  pub right_ids : AreIds Ts u.right.now
+  pub left_ascends : IsAscending u.left.now
+  pub right_ascends : IsAscending u.right.now
+  pub left_some : 0 < length u.left.now
+  pub right_some : 0 < length u.right.now
+  pub no_number : IsNumber (form Ts u.left.now u.right.now) → ⊥
+  pub floor_is : IsFloor 60 (form Ts u.left.now u.right.now) u.floor
+  pub ceiling_is : IsCeiling 60 (form Ts u.left.now u.right.now) u.ceiling
+
+abbrev pub IsBeside : List Tree → Option Unstored → Type 0
+IsBeside Ts None = Unit {0}
+IsBeside Ts (Some u) = IsUnstored Ts u
+
+pub record AreGames (games : Games) : Type 0 where
+  pub distinct : AreDistinct games.store.now
+  pub beside : IsBeside games.store.now games.unstored
+
+-- the tree of the form beside the store
+abbrev pub beside : Games → Tree
+beside games = tree_at (trees games) (length games.store.now)
+
+abbrev pub HasForm : Games → Type 0
+HasForm games = (u : Unstored) × (games.unstored ≡ Some u)
+
+-- the form beside the store has these options
+abbrev pub IsFormBeside : Games → List ℕ → List ℕ → Type 0
+IsFormBeside games ls rs = (u : Unstored) × (games.unstored ≡ Some u) × (u.left.now ≡ ls) × (u.right.now ≡ rs)
+
+-- the games, and right comparisons of them
+pub record IsKnown (games : Games) (known : ℕ → ℕ → Option Bool) : Type 0 where
+  pub games_are : AreGames games
+  pub right : AreRight (trees games) known

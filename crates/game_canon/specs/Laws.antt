@@ -1,0 +1,59 @@
+-- The laws of games.
+use Rattle.std.specs.Prelude.{ℕ, ◌+◌, ◌^◌, ◌≡◌, ◌↔◌, ℤ, pos, ◌+ℤ◌, ◌-ℤ◌, ◌*ℤ◌, ◌<ℤ◌, ◌≤ℤ◌}
+use Rattle.game_store.specs.Tree.{Tree, Trees, node, none, Has, neg}
+use Rattle.game_store.specs.Order.{◌≤ᵍ◌, ◌≡ᵍ◌}
+use Rattle.game_store.specs.Sum.{◌+ᵍ◌, total}
+use Rattle.game_store.specs.Number.{num, IsNumberTree}
+use Rattle.game_store.specs.Moves.{LeftMoves, RightMoves, LeftWins, RightWins}
+use Rattle.game_store.specs.Stops.{IsLeftStop, IsRightStop}
+use Rattle.game_store.specs.TextOrder.{tree_text, IsCanonicalTree, IsCanonicalFor}
+use Rattle.game_store.specs.Laws.{NoneBeats}
+
+-- G is at most H where no Left option of G is at least H, and no Right option of H at most G
+abbrev pub OrderIs : Type 0
+OrderIs = (G H : Tree) → (G ≤ᵍ H) ↔ NoneBeats G H
+
+abbrev pub IsReflexive : Type 0
+IsReflexive = (G : Tree) → G ≤ᵍ G
+
+abbrev pub IsTransitive : Type 0
+IsTransitive = (G H K : Tree) → G ≤ᵍ H → H ≤ᵍ K → G ≤ᵍ K
+
+abbrev pub SumsKeepOrder : Type 0
+SumsKeepOrder = (G H K M : Tree) → G ≤ᵍ H → K ≤ᵍ M → G +ᵍ K ≤ᵍ H +ᵍ M
+
+abbrev pub CancelsNegative : Type 0
+CancelsNegative = (G : Tree) → (G +ᵍ neg G) ≡ᵍ num 0 (pos 0)
+
+-- canonical trees that are no numbers, at least one
+pub record AreHot (Gs : Trees) : Type 0 where
+  pub some : (G : Tree) × Has Gs G
+  pub canonical : (G : Tree) → Has Gs G → IsCanonicalTree G
+  pub no_numbers : (G : Tree) → Has Gs G → IsNumberTree G → ⊥
+
+-- Where a player who moves first wins the sum of such trees and a number, a move in one of the trees wins it: after it
+-- the sum is at least 0 for Left, or at most 0 for Right
+abbrev pub LeftAvoidsNumbers : Type 0
+LeftAvoidsNumbers = (Gs : Trees) (e : ℕ) (m : ℤ) → AreHot Gs → LeftWins (total Gs +ᵍ num e m) → (Hs : Trees) × LeftMoves Gs Hs × (node none none ≤ᵍ total Hs +ᵍ num e m)
+
+abbrev pub RightAvoidsNumbers : Type 0
+RightAvoidsNumbers = (Gs : Trees) (e : ℕ) (m : ℤ) → AreHot Gs → RightWins (total Gs +ᵍ num e m) → (Hs : Trees) × RightMoves Gs Hs × (total Hs +ᵍ num e m ≤ᵍ node none none)
+
+-- A canonical tree is at most its left stop and any y above 0, and at least its right stop less any such y. Here y is
+-- over 2 ^ (d + e), and a stop x over 2 ^ e is x * 2 ^ d over it
+abbrev pub IsUnderLeftStop : Type 0
+IsUnderLeftStop = (e : ℕ) (G : Tree) (x : ℤ) → IsCanonicalTree G → IsLeftStop e G x → (d : ℕ) (y : ℤ) → pos 0 <ℤ y → G ≤ᵍ num (d + e) ((x *ℤ pos (2 ^ d)) +ℤ y)
+
+abbrev pub IsOverRightStop : Type 0
+IsOverRightStop = (e : ℕ) (G : Tree) (x : ℤ) → IsCanonicalTree G → IsRightStop e G x → (d : ℕ) (y : ℤ) → pos 0 <ℤ y → num (d + e) ((x *ℤ pos (2 ^ d)) -ℤ y) ≤ᵍ G
+
+abbrev pub StopsAreOrdered : Type 0
+StopsAreOrdered = (e : ℕ) (G : Tree) (l r : ℤ) → IsCanonicalTree G → IsLeftStop e G l → IsRightStop e G r → r ≤ℤ l
+
+-- trees of equal text are the same tree
+abbrev pub TextsAreOneToOne : Type 0
+TextsAreOneToOne = (G H : Tree) → tree_text G ≡ tree_text H → G ≡ H
+
+-- each tree has exactly one canonical tree that is equal to it
+abbrev pub EachHasCanonical : Type 0
+EachHasCanonical = (G : Tree) → (C : Tree) × IsCanonicalFor G C × ((D : Tree) → IsCanonicalFor G D → C ≡ D)

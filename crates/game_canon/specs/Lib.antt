@@ -1,0 +1,13 @@
+pub mod Games
+pub mod Comparisons
+pub mod Orders
+pub mod Ids
+pub mod Sides
+pub mod Outcomes
+pub mod Followers
+pub mod Bounds
+pub mod Laws
+pub mod Examples
+pub mod Players
+pub mod Changes
+pub mod Reachable

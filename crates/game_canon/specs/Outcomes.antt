@@ -1,0 +1,32 @@
+-- What canonical forms are, and why there is none.
+use Rattle.std.specs.Prelude.{ℕ, ◌<◌, ◌≤◌, List, length, ℤ, unsigned_abs}
+use Rattle.dyadic_num.specs.Units.{IsInBounds}
+use Rattle.game_store.specs.Tree.{Tree}
+use Rattle.game_store.specs.Order.{◌≤ᵍ◌}
+use Rattle.game_store.specs.Number.{IsNumber}
+use Rattle.game_store.specs.TextOrder.{IsCanonicalFor}
+use Rattle.game_store.specs.Meaning.{tree_at, number_tree}
+use Rattle.game_store.specs.Parts.{IsOption, HasMoreParts, IsNumberOf}
+use Rattle.game_canon.specs.declared.errors.FormError.{FormError}
+use Rattle.game_canon.specs.declared.errors.FormError.TheVariants.{Parts, Bounds, Memory}
+
+-- the id of the canonical tree of G
+abbrev pub IsCanonicalId : List Tree → Tree → ℕ → Type 0
+IsCanonicalId Ts G id = (id < length Ts) × IsCanonicalFor G (tree_at Ts id)
+
+-- G is a number, but none within the bounds of a Dyadic
+abbrev pub IsPastBounds : Tree → Type 0
+IsPastBounds G = IsNumber G × ((x : ℤ) → IsInBounds x → G ≤ᵍ number_tree x → number_tree x ≤ᵍ G → ⊥)
+
+-- the numbers of a game have a size of at most b, in parts of 2 ^ -60; and those of each option
+abbrev pub AreWithin : ℕ → Tree → Type 0
+AreWithin b G = (x : ℤ) → IsNumberOf G x → unsigned_abs x ≤ b
+
+abbrev pub AreOptionsWithin : ℕ → Tree → Type 0
+AreOptionsWithin b G = (L : Tree) → IsOption G L → AreWithin b L
+
+-- a refusal has its cause: no number, whose canonical tree has more parts, or a number past the bounds
+abbrev pub IsCause : Tree → ℕ → FormError → Type 0
+IsCause G limit Parts = (IsNumber G → ⊥) × ((C : Tree) → IsCanonicalFor G C → HasMoreParts C limit)
+IsCause G limit Bounds = IsPastBounds G
+IsCause G limit (Memory cause) = Unit {0}

@@ -1,0 +1,32 @@
+-- What a form is made of.
+use Rattle.std.specs.Prelude.{ℕ, ◌≡◌, ◌<◌, ◌≤◌, ◌⊎◌, List, length}
+use Rattle.std.specs.List.{slice_index_or}
+use Rattle.game_store.specs.Tree.{Tree}
+use Rattle.game_store.specs.Number.{IsNumberTree}
+use Rattle.game_store.specs.Meaning.{tree_at, AreIds, IsAscending}
+use Rattle.game_store.specs.Parts.{IsOption, IsPart}
+use Rattle.game_canon.specs.Followers.{IsIn}
+
+-- X is an option of G, which is no number's tree
+abbrev pub IsInner : Tree → Tree → Type 0
+IsInner G X = (IsNumberTree G → ⊥) × IsOption G X
+
+-- X is G, or an option of a part of G
+abbrev pub IsReached : Tree → Tree → Type 0
+IsReached G X = (X ≡ G) ⊎ ((P : Tree) × IsPart G P × IsOption P X)
+
+-- the ids ks, and behind them ids of trees that pass, so that all of these are among them
+pub record IsWidened (Ts : List Tree) (Passes : Tree → Type 0) (ks us : List ℕ) : Type 0 where
+  pub longer : length ks ≤ length us
+  pub same : (j : ℕ) → j < length ks → slice_index_or us j 0 ≡ slice_index_or ks j 0
+  pub below : (j : ℕ) → j < length us → length ks ≤ j → slice_index_or us j 0 < length Ts
+  pub passes : (j : ℕ) → j < length us → length ks ≤ j → Passes (tree_at Ts (slice_index_or us j 0))
+  pub has : (X : Tree) → Passes X → IsIn Ts us X
+
+-- the ids of G and of all options of its parts, in ascending order
+pub record AreReachable (Ts : List Tree) (G : Tree) (is : List ℕ) : Type 0 where
+  pub ids : AreIds Ts is
+  pub ascends : IsAscending is
+  pub root : IsIn Ts is G
+  pub reached : (j : ℕ) → j < length is → IsReached G (tree_at Ts (slice_index_or is j 0))
+  pub closed : (j : ℕ) → j < length is → (X : Tree) → IsInner (tree_at Ts (slice_index_or is j 0)) X → IsIn Ts is X

@@ -1,0 +1,167 @@
+//! Changes of a form that change each of its options alike: to its negative, or to its sum with a number.
+
+ghost use Rattle.std.specs.Prelude.{◌≡◌, ◌<◌, ℕ, nat_eq, cond, Some, length, slice_index, IfOk, IfErr, OnOk, MatchOption};
+ghost use Rattle.indexmap.specs.IndexMap.{get};
+ghost use Rattle.game_store.specs.TextOrder.{IsCanonicalTree};
+ghost use Rattle.game_store.specs.Meaning.{tree_at, number_tree, Extends};
+ghost use Rattle.game_canon.specs.Changes.{IsPastShift, shifted, left_list, right_list, IsChanged, AreNoted, AreKnown, IsMapped, AreClosed, AreDone, IsRefusedAt, IsRefused};
+
+use crate::errors::FormError;
+use crate::ids::{Ids, in_order};
+use crate::reachable::reachable;
+use dyadic_num::Dyadic;
+use game_store::{Form, GameId, Store};
+use indexmap::IndexMap;
+use std::alloc::{AllocError, Global};
+
+/// What a form is changed to: its negative, or its sum with a number.
+#[derive(Clone, Copy)]
+pub(crate) enum Change {
+    Negate,
+    Add(Dyadic),
+}
+
+/// For ids, the ids of the changed forms.
+type Changed = IndexMap<GameId, GameId>;
+
+/// The number after the change. None exactly where it is past the bounds.
+fn shift(change: Change, y: Dyadic) -> Option<Dyadic>
+    ensures { MatchOption result (IsPastShift change y) (λ z. z ≡ shifted change y) }
+{
+    match change {
+        Change::Negate => Some(y.neg()),
+        Change::Add(x) => y.add(x),
+    }
+}
+
+/// The form of a number after the change.
+fn changed_number(store: &mut Store, change: Change, y: Dyadic) -> Result<GameId, FormError>
+    ensures value { IfOk result (λ k. IsChanged store.new change (number_tree y) k) }
+    ensures refusal { IfErr result (λ error. IsRefusedAt change (number_tree y) error) }
+    ensures kept { Extends store.old store.new }
+{
+    let Some(z) = shift(change, y) else {
+        return Err(FormError::Bounds);
+    };
+    Ok(store.number(z)?)
+}
+
+/// The ids that stand for these, in ascending order.
+fn changed_list(alloc: Global, changed: &Changed, ids: &[GameId]) -> Result<Ids, AllocError>
+    requires { AreKnown (get nat_eq changed.now) ids.now }
+    ensures { IfOk result (λ v. IsMapped (get nat_eq changed.now) ids.now v.items) }
+{
+    let mut found = Ids::new(alloc);
+    for id in ids {
+        match changed.get(id).copied() {
+            Some(after) => found.push(after)?,
+            None => unreachable!(),
+        }
+    }
+    Ok(in_order(alloc, &found)?)
+}
+
+/// The options of a changed form.
+#[derive(Drop)]
+struct Lists {
+    left: Ids,
+    right: Ids,
+}
+
+/// The options after the change: where the form is negated the sides change.
+fn changed_lists(
+    alloc: Global,
+    changed: &Changed,
+    change: Change,
+    left: &[GameId],
+    right: &[GameId],
+) -> Result<Lists, AllocError>
+    requires left { AreKnown (get nat_eq changed.now) left.now }
+    requires right { AreKnown (get nat_eq changed.now) right.now }
+    ensures left { IfOk result (λ v. IsMapped (get nat_eq changed.now) (left_list change left.now right.now) v.left.items) }
+    ensures right { IfOk result (λ v. IsMapped (get nat_eq changed.now) (right_list change left.now right.now) v.right.items) }
+{
+    let left = changed_list(alloc, changed, left)?;
+    let right = changed_list(alloc, changed, right)?;
+    match change {
+        Change::Negate => Ok(Lists {
+            left: right,
+            right: left,
+        }),
+        Change::Add(_) => Ok(Lists { left, right }),
+    }
+}
+
+/// The form after the change, where its options are changed.
+fn changed_form(
+    alloc: Global,
+    store: &mut Store,
+    changed: &Changed,
+    change: Change,
+    id: GameId,
+) -> Result<GameId, FormError>
+    requires id { id < length store.old }
+    requires noted { AreNoted store.old (get nat_eq changed.now) change id }
+    ensures value { IfOk result (λ k. IsChanged store.new change (tree_at store.old id) k) }
+    ensures refusal { IfErr result (λ error. IsRefusedAt change (tree_at store.old id) error) }
+    ensures kept { Extends store.old store.new }
+{
+    match store.node(id) {
+        Form::Number(y) => Ok(changed_number(store, change, y)?),
+        Form::Options { left, right } => {
+            let lists = changed_lists(alloc, changed, change, left, right)?;
+            Ok(store.intern(&lists.left, &lists.right)?)
+        }
+    }
+}
+
+/// Notes the id that stands for another.
+fn note(changed: &mut Changed, id: GameId, after: GameId) -> Result<(), AllocError>
+    ensures { OnOk result ((i : ℕ) → get nat_eq changed.new i ≡ cond (nat_eq id i) (Some after) (get nat_eq changed.old i)) }
+{
+    changed.insert(id, after)?;
+    Ok(())
+}
+
+/// Changes the forms, of which options come before what they are options of.
+fn change_all(
+    alloc: Global,
+    store: &mut Store,
+    changed: &mut Changed,
+    change: &Change,
+    ids: &[GameId],
+) -> Result<(), FormError>
+    requires closed { AreClosed store.old ids.now }
+    ensures done { OnOk result (AreDone store.old store.new change.now (get nat_eq changed.new) ids.now (length ids.now)) }
+    ensures refusal { IfErr result (λ error. (j : ℕ) × (j < length ids.now) × IsRefusedAt change.now (tree_at store.old (slice_index ids.now j)) error) }
+    ensures kept { Extends store.old store.new }
+{
+    for id in ids {
+        let after = changed_form(alloc, store, changed, *change, *id)?;
+        note(changed, *id, after)?;
+    }
+    Ok(())
+}
+
+/// The canonical form of a form after the change. `Bounds` exactly where one of its numbers goes past the bounds.
+pub(crate) fn change_form(
+    alloc: Global,
+    store: &mut Store,
+    a: GameId,
+    change: Change,
+) -> Result<GameId, FormError>
+    requires { a < length store.old }
+    ensures value { IfOk result (λ id. IsChanged store.new change (tree_at store.old a) id) }
+    ensures refusal { IfErr result (λ error. IsRefused change (tree_at store.old a) error) }
+    ensures canonical { IsCanonicalTree (tree_at store.old a) }
+    ensures kept { Extends store.old store.new }
+{
+    let _count = store.len();
+    let ids = reachable(alloc, store, a)?;
+    let mut changed = Changed::new(alloc);
+    change_all(alloc, store, &mut changed, &change, &ids)?;
+    match changed.get(&a).copied() {
+        Some(after) => Ok(after),
+        None => unreachable!(),
+    }
+}

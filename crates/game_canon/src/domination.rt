@@ -1,0 +1,105 @@
+//! Options that aren't dominated.
+
+ghost use Rattle.std.specs.Prelude.{ℕ, ◌≡◌, ◌<◌, ◌↔◌, length, slice_index, IfOk, IsTrue};
+ghost use Rattle.game_store.specs.Meaning.{tree_at, AreIds, IsAscending};
+ghost use Rattle.game_canon.specs.Comparisons.{recalled};
+ghost use Rattle.game_canon.specs.Games.{IsKnown};
+ghost use Rattle.game_canon.specs.Sides.{Covers, AreBest, IsWithout};
+
+use crate::comparisons::Comparisons;
+use crate::games::Games;
+use crate::ids::{Ids, in_order};
+use crate::side::{Side, is_covered};
+use game_store::GameId;
+use std::alloc::{AllocError, Global};
+
+/// Whether none of the games covers that of `id`.
+fn none_covers(
+    alloc: Global,
+    memo: &mut Comparisons,
+    games: &Games<'_>,
+    side: Side,
+    ids: &[GameId],
+    id: GameId,
+) -> Result<bool, AllocError>
+    requires known { IsKnown games.now (recalled memo.old) }
+    requires ids { AreIds games.now.store.now ids.now }
+    requires id { id < length games.now.store.now }
+    ensures answer { IfOk result (λ answer. IsTrue answer ↔ ((j : ℕ) → j < length ids.now → Covers side (tree_at games.now.store.now id) (tree_at games.now.store.now (slice_index ids.now j)) → ⊥)) }
+    ensures known { IsKnown games.now (recalled memo.new) }
+{
+    for other in ids {
+        if is_covered(alloc, memo, games, side, id, *other)? {
+            return Ok(false);
+        }
+    }
+    Ok(true)
+}
+
+/// Those of the games that `top` doesn't cover.
+fn without_covered(
+    alloc: Global,
+    memo: &mut Comparisons,
+    games: &Games<'_>,
+    side: Side,
+    ids: &[GameId],
+    top: GameId,
+) -> Result<Ids, AllocError>
+    requires known { IsKnown games.now (recalled memo.old) }
+    requires ids { AreIds games.now.store.now ids.now }
+    requires top { top < length games.now.store.now }
+    ensures without { IfOk result (λ v. IsWithout side games.now.store.now ids.now top v.items) }
+    ensures known { IsKnown games.now (recalled memo.new) }
+{
+    let mut left = Ids::new(alloc);
+    for id in ids {
+        if is_covered(alloc, memo, games, side, *id, top)? {
+            continue;
+        }
+        left.push(*id)?;
+    }
+    Ok(left)
+}
+
+/// The best of the games for the side.
+fn undominated(
+    alloc: Global,
+    memo: &mut Comparisons,
+    games: &Games<'_>,
+    side: Side,
+    ids: &[GameId],
+) -> Result<Ids, AllocError>
+    requires known { IsKnown games.now (recalled memo.old) }
+    requires ids { AreIds games.now.store.now ids.now }
+    ensures best { IfOk result (λ v. AreBest side games.now.store.now ids.now v.items) }
+    ensures known { IsKnown games.now (recalled memo.new) }
+{
+    let mut best = Ids::new(alloc);
+    for id in ids {
+        if !none_covers(alloc, memo, games, side, &best, *id)? {
+            continue;
+        }
+        best = without_covered(alloc, memo, games, side, &best, *id)?;
+        best.push(*id)?;
+    }
+    Ok(best)
+}
+
+/// The best of the games for the side, in ascending order of their ids.
+pub(crate) fn best(
+    alloc: Global,
+    memo: &mut Comparisons,
+    games: &Games<'_>,
+    side: Side,
+    ids: &[GameId],
+) -> Result<Ids, AllocError>
+    requires known { IsKnown games.now (recalled memo.old) }
+    requires ids { AreIds games.now.store.now ids.now }
+    ensures best { IfOk result (λ v. AreBest side games.now.store.now ids.now v.items) }
+    ensures ascends { IfOk result (λ v. IsAscending v.items) }
+    ensures known { IsKnown games.now (recalled memo.new) }
+{
+    let different = in_order(alloc, ids)?;
+    let undominated = undominated(alloc, memo, games, side, &different)?;
+    Ok(in_order(alloc, &undominated)?)
+}

@@ -1,0 +1,72 @@
+//! The canonical form of a form.
+
+ghost use Rattle.std.specs.Prelude.{ℕ, ◌≡◌, ◌<◌, ◌+◌, ◌^◌, length, IfOk, IfErr};
+ghost use Rattle.game_store.specs.Number.{IsNumber};
+ghost use Rattle.game_store.specs.Threshold.{IsFloor, IsCeiling};
+ghost use Rattle.game_store.specs.Meaning.{tree_at, listed, AreIds, Extends};
+ghost use Rattle.game_store.specs.Parts.{HasMoreParts};
+ghost use Rattle.game_canon.specs.Outcomes.{IsCanonicalId, AreWithin, AreOptionsWithin, IsPastBounds, IsCause};
+
+use crate::errors::FormError;
+use crate::followers::has_more_parts;
+use crate::reduction::reduced;
+use crate::thresholds::{Value, number_value};
+use game_store::{GameId, Store};
+use std::alloc::Global;
+
+/// The canonical form of a form that is no number, with its floor and its ceiling in half parts of 2^-60.
+fn reduced_form(
+    alloc: Global,
+    store: &mut Store,
+    left: &[GameId],
+    right: &[GameId],
+    floor: i128,
+    ceiling: i128,
+    parts_limit: u32,
+) -> Result<GameId, FormError>
+    requires left { AreIds store.old left.now }
+    requires right { AreIds store.old right.now }
+    requires no_number { IsNumber (listed store.old left.now right.now) → ⊥ }
+    requires floor { IsFloor 60 (listed store.old left.now right.now) floor }
+    requires ceiling { IsCeiling 60 (listed store.old left.now right.now) ceiling }
+    ensures value { IfOk result (λ id. IsCanonicalId store.new (listed store.old left.now right.now) id) }
+    ensures parts { IfOk result (λ id. HasMoreParts (tree_at store.new id) parts_limit → ⊥) }
+    ensures refusal { IfErr result (λ error. IsCause (listed store.old left.now right.now) parts_limit error) }
+    ensures sizes { IfOk result (λ id. (b : ℕ) → AreOptionsWithin b (listed store.old left.now right.now) → AreWithin (b + 2 ^ 60) (tree_at store.new id)) }
+    ensures kept { Extends store.old store.new }
+{
+    let lists = reduced(alloc, store, left, right, floor, ceiling)?;
+    let _count = store.len();
+    if has_more_parts(alloc, store, &lists.left, &lists.right, parts_limit)? {
+        return Err(FormError::Parts);
+    }
+    Ok(store.intern(&lists.left, &lists.right)?)
+}
+
+/// The canonical form of the form with these options (Conway). `Bounds` where its value is a number past the bounds of a
+/// `Dyadic`, and `Parts` where it is no number and has more than `parts_limit` parts. The size of each number of the
+/// answer is at most 1 above the greatest size of a number of the options. Every id keeps its form, whatever the answer.
+pub fn canonical(
+    alloc: Global,
+    store: &mut Store,
+    left: &[GameId],
+    right: &[GameId],
+    parts_limit: u32,
+) -> Result<GameId, FormError>
+    requires left { AreIds store.old left.now }
+    requires right { AreIds store.old right.now }
+    ensures value { IfOk result (λ id. IsCanonicalId store.new (listed store.old left.now right.now) id) }
+    ensures bounds { IfOk result (λ id. IsPastBounds (listed store.old left.now right.now) → ⊥) }
+    ensures parts { IfOk result (λ id. HasMoreParts (tree_at store.new id) parts_limit → ⊥) }
+    ensures refusal { IfErr result (λ error. IsCause (listed store.old left.now right.now) parts_limit error) }
+    ensures sizes { IfOk result (λ id. (b : ℕ) → AreOptionsWithin b (listed store.old left.now right.now) → AreWithin (b + 2 ^ 60) (tree_at store.new id)) }
+    ensures kept { Extends store.old store.new }
+{
+    match number_value(store, left, right) {
+        Value::Number(x) => Ok(store.number(x)?),
+        Value::PastBounds => Err(FormError::Bounds),
+        Value::NoNumber { floor, ceiling } => {
+            Ok(reduced_form(alloc, store, left, right, floor, ceiling, parts_limit)?)
+        }
+    }
+}

@@ -1,0 +1,146 @@
+//! The games that are compared: those of a store and, while a form is reduced, that form beside them.
+
+ghost use Rattle.std.specs.Prelude.{◌≡◌, ◌<◌, ℕ, ℤ, List, false, IfSome, IfNone, Some, length, IsTrue};
+ghost use Rattle.game_store.specs.Number.{IsNumberTree};
+ghost use Rattle.game_store.specs.Threshold.{IsFloor, IsCeiling};
+ghost use Rattle.game_store.specs.Meaning.{tree_at, number_tree};
+ghost use Rattle.game_store.specs.Forms.{IsOptions};
+ghost use Rattle.game_canon.specs.Games.{trees, AreGames};
+ghost use Rattle.game_canon.specs.declared.games.Unstored.{Unstored};
+
+use game_store::{Form, GameId, Store};
+
+/// A form that isn't stored and is no number: its options, which ascend, and its floor and ceiling in half parts of
+/// 2^-60.
+#[derive(Clone, Copy)]
+pub(crate) struct Unstored<'a> {
+    pub(crate) left: &'a [GameId],
+    pub(crate) right: &'a [GameId],
+    pub(crate) floor: i128,
+    pub(crate) ceiling: i128,
+}
+
+/// The games of a store and, where there is one, of a form beside it, which has the store's length for its id.
+#[derive(Clone, Copy)]
+pub(crate) struct Games<'a> {
+    pub(crate) store: &'a Store,
+    pub(crate) unstored: Option<Unstored<'a>>,
+}
+
+/// The games of a store alone.
+pub(crate) fn games_of(store: &Store) -> Games<'_>
+    ensures known { AreGames result }
+    ensures store { result.store.now ≡ store.now }
+    ensures trees { trees result ≡ store.now }
+{
+    let _count = store.len();
+    Games {
+        store,
+        unstored: None,
+    }
+}
+
+/// The games of a store and of a form beside it, with its options, its floor and its ceiling.
+pub(crate) fn games_beside<'a>(
+    store: &'a Store,
+    left: &'a [GameId],
+    right: &'a [GameId],
+    floor: i128,
+    ceiling: i128,
+) -> Games<'a>
+    ensures store { result.store.now ≡ store.now }
+    ensures form { (u : Unstored) × (result.unstored ≡ Some u) × (u.left.now ≡ left.now) × (u.right.now ≡ right.now) × (u.floor ≡ floor) × (u.ceiling ≡ ceiling) }
+{
+    let form = Unstored {
+        left,
+        right,
+        floor,
+        ceiling,
+    };
+    let unstored = Some(form);
+    Games { store, unstored }
+}
+
+/// The form beside the store, where the id is its.
+fn unstored_of<'a>(games: &Games<'a>, id: GameId) -> Option<Unstored<'a>>
+    requires { id < length (trees games.now) }
+    ensures some { IfSome result (λ form. (games.now.unstored ≡ Some form) × (id ≡ length games.now.store.now)) }
+    ensures none { IfNone result (id < length games.now.store.now) }
+{
+    if id < games.store.len() {
+        return None;
+    }
+    games.unstored
+}
+
+/// Whether the form is a number.
+pub(crate) fn is_number(games: &Games<'_>, id: GameId) -> bool
+    requires known { AreGames games.now }
+    requires id { id < length (trees games.now) }
+    ensures number { IsTrue result → (x : ℤ) × (tree_at (trees games.now) id ≡ number_tree x) }
+    ensures other { result ≡ false → IsNumberTree (tree_at (trees games.now) id) → ⊥ }
+{
+    if let Some(_form) = unstored_of(games, id) {
+        return false;
+    }
+    match games.store.node(id) {
+        Form::Number(_) => true,
+        Form::Options { .. } => false,
+    }
+}
+
+/// The Left options of a form that is no number.
+pub(crate) fn left_options<'a>(games: &Games<'a>, id: GameId) -> &'a [GameId]
+    requires known { AreGames games.now }
+    requires id { id < length (trees games.now) }
+    requires form { IsNumberTree (tree_at (trees games.now) id) → ⊥ }
+    ensures { (rs : List ℕ) × IsOptions (trees games.now) id result.now rs }
+{
+    if let Some(form) = unstored_of(games, id) {
+        return form.left;
+    }
+    match games.store.node(id) {
+        Form::Number(_) => unreachable!(),
+        Form::Options { left, .. } => left,
+    }
+}
+
+/// The Right options of a form that is no number.
+pub(crate) fn right_options<'a>(games: &Games<'a>, id: GameId) -> &'a [GameId]
+    requires known { AreGames games.now }
+    requires id { id < length (trees games.now) }
+    requires form { IsNumberTree (tree_at (trees games.now) id) → ⊥ }
+    ensures { (ls : List ℕ) × IsOptions (trees games.now) id ls result.now }
+{
+    if let Some(form) = unstored_of(games, id) {
+        return form.right;
+    }
+    match games.store.node(id) {
+        Form::Number(_) => unreachable!(),
+        Form::Options { right, .. } => right,
+    }
+}
+
+/// The form's floor in half parts of 2^-60.
+pub(crate) fn floor(games: &Games<'_>, id: GameId) -> i128
+    requires known { AreGames games.now }
+    requires id { id < length (trees games.now) }
+    ensures { IsFloor 60 (tree_at (trees games.now) id) result }
+{
+    match unstored_of(games, id) {
+        Some(form) => form.floor,
+        None => games.store.floor(id),
+    }
+}
+
+/// The form's ceiling in half parts of 2^-60.
+pub(crate) fn ceiling(games: &Games<'_>, id: GameId) -> i128
+    requires known { AreGames games.now }
+    requires id { id < length (trees games.now) }
+    ensures { IsCeiling 60 (tree_at (trees games.now) id) result }
+{
+    match unstored_of(games, id) {
+        Some(form) => form.ceiling,
+        None => games.store.ceiling(id),
+    }
+}

@@ -1,0 +1,21 @@
+//! Short lists of ids.
+
+ghost use Rattle.std.specs.Prelude.{IfOk};
+ghost use Rattle.game_canon.specs.Ids.{IsInOrder};
+
+use game_store::GameId;
+use smallvec::SmallVec;
+use std::alloc::{AllocError, Global};
+
+/// Ids of options, of which a form seldom has more than eight a side.
+pub(crate) type Ids = SmallVec<GameId, 8>;
+
+/// The ids in ascending order, each once.
+pub(crate) fn in_order(alloc: Global, ids: &[GameId]) -> Result<Ids, AllocError>
+    ensures { IfOk result (λ v. IsInOrder ids.now v.items) }
+{
+    let mut sorted = Ids::from_slice(alloc, ids)?;
+    sorted.sort_unstable();
+    sorted.dedup();
+    Ok(sorted)
+}

@@ -1,0 +1,35 @@
+//! Laws of games, each the contract of a function that does nothing.
+
+ghost use Rattle.game_canon.specs.Laws.{OrderIs, IsReflexive, IsTransitive, SumsKeepOrder, CancelsNegative, LeftAvoidsNumbers, RightAvoidsNumbers, IsUnderLeftStop, IsOverRightStop, StopsAreOrdered, TextsAreOneToOne, EachHasCanonical};
+
+/// The order of games is a preorder that sums keep, and each game cancels its negative (Conway).
+pub fn order_laws()
+    ensures is { OrderIs }
+    ensures reflexive { IsReflexive }
+    ensures transitive { IsTransitive }
+    ensures sums { SumsKeepOrder }
+    ensures negative { CancelsNegative }
+{}
+
+/// Number avoidance: beside games that are no numbers, moves in numbers aren't needed (Conway).
+pub fn number_avoidance()
+    ensures left { LeftAvoidsNumbers }
+    ensures right { RightAvoidsNumbers }
+{}
+
+/// Stops bound a game, and the left stop is at least the right one (Siegel, Combinatorial Game Theory).
+pub fn stop_laws()
+    ensures under { IsUnderLeftStop }
+    ensures over { IsOverRightStop }
+    ensures ordered { StopsAreOrdered }
+{}
+
+/// A tree is known by its text.
+pub fn text_law()
+    ensures { TextsAreOneToOne }
+{}
+
+/// Each game has exactly one canonical form (Conway).
+pub fn canonical_law()
+    ensures { EachHasCanonical }
+{}

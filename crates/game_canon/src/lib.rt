@@ -1,0 +1,35 @@
+//! The order of games, canonical forms, and the laws of games.
+#![tactic(auto)]
+
+mod at_most;
+#[cfg(test)]
+mod canonical_tests;
+mod change;
+mod comparisons;
+mod domination;
+mod errors;
+mod followers;
+mod form;
+mod games;
+mod ids;
+mod laws;
+mod negation;
+mod order;
+mod reachable;
+mod reduction;
+mod reversal;
+mod side;
+#[cfg(test)]
+mod tests;
+mod thresholds;
+mod translation;
+#[cfg(test)]
+mod translation_tests;
+
+pub use errors::FormError;
+pub use followers::parts;
+pub use form::canonical;
+pub use laws::{canonical_law, number_avoidance, order_laws, stop_laws, text_law};
+pub use negation::negate;
+pub use order::{Order, compare};
+pub use translation::add_number;

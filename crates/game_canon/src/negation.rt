@@ -1,0 +1,25 @@
+//! The negative of a form.
+
+ghost use Rattle.std.specs.Prelude.{◌<◌, length, IfOk};
+ghost use Rattle.game_store.specs.Tree.{neg};
+ghost use Rattle.game_store.specs.Meaning.{tree_at, Extends};
+ghost use Rattle.game_canon.specs.Outcomes.{IsCanonicalId};
+
+use crate::change::{Change, change_form};
+use crate::errors::FormError;
+use game_store::{GameId, Store};
+use std::alloc::{AllocError, Global};
+
+/// The canonical form of the negative: the form with the sides exchanged at every level. Every id keeps its form,
+/// whatever the answer.
+pub fn negate(alloc: Global, store: &mut Store, a: GameId) -> Result<GameId, AllocError>
+    requires { a < length store.old }
+    ensures value { IfOk result (λ id. IsCanonicalId store.new (neg (tree_at store.old a)) id) }
+    ensures kept { Extends store.old store.new }
+{
+    match change_form(alloc, store, a, Change::Negate) {
+        Ok(id) => Ok(id),
+        Err(FormError::Memory(cause)) => Err(cause),
+        Err(_) => unreachable!(),
+    }
+}

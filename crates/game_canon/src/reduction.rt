@@ -1,0 +1,82 @@
+//! The reduction of a form that is no number: dominated options go, and reversible ones are bypassed, until there is none
+//! (Conway).
+
+ghost use Rattle.std.specs.Prelude.{ℕ, IfOk};
+ghost use Rattle.game_store.specs.Number.{IsNumber};
+ghost use Rattle.game_store.specs.Threshold.{IsFloor, IsCeiling};
+ghost use Rattle.game_store.specs.Meaning.{listed, AreIds};
+ghost use Rattle.game_canon.specs.Comparisons.{recalled};
+ghost use Rattle.game_canon.specs.Games.{beside, IsFormBeside, IsKnown};
+ghost use Rattle.game_canon.specs.Sides.{IsStart, IsReducedForm};
+
+use crate::comparisons::Comparisons;
+use crate::domination::best;
+use crate::games::{Games, games_beside, games_of};
+use crate::ids::Ids;
+use crate::reversal::bypassed;
+use crate::side::Side;
+use game_store::{GameId, Store};
+use indexmap::IndexMap;
+use std::alloc::{AllocError, Global};
+
+/// The options of both sides.
+#[derive(Drop)]
+pub(crate) struct Lists {
+    pub(crate) left: Ids,
+    pub(crate) right: Ids,
+}
+
+/// The options of the form beside the store, of which none is dominated, with every reversible one bypassed.
+fn bypass_all(
+    alloc: Global,
+    memo: &mut Comparisons,
+    games: &Games<'_>,
+    left: &[GameId],
+    right: &[GameId],
+) -> Result<Lists, AllocError>
+    requires known { IsKnown games.now (recalled memo.old) }
+    requires form { IsFormBeside games.now left.now right.now }
+    requires start { IsStart games.now.store.now left.now right.now }
+    ensures { IfOk result (λ lists. IsReducedForm games.now.store.now (beside games.now) lists.left.items lists.right.items) }
+{
+    let mut lists = Lists {
+        left: Ids::from_slice(alloc, left)?,
+        right: Ids::from_slice(alloc, right)?,
+    };
+    'rounds: loop {
+        if let Some(found) = bypassed(alloc, memo, games, Side::Left, &lists.left)? {
+            lists.left = found;
+            continue;
+        }
+        if let Some(found) = bypassed(alloc, memo, games, Side::Right, &lists.right)? {
+            lists.right = found;
+            continue;
+        }
+        return Ok(lists);
+    }
+}
+
+/// The options of a form that is no number, in ascending order, of which none is dominated or reversible any more. The
+/// floor and the ceiling are the form's, in half parts of 2^-60.
+pub(crate) fn reduced(
+    alloc: Global,
+    store: &Store,
+    left: &[GameId],
+    right: &[GameId],
+    floor: i128,
+    ceiling: i128,
+) -> Result<Lists, AllocError>
+    requires left { AreIds store.now left.now }
+    requires right { AreIds store.now right.now }
+    requires no_number { IsNumber (listed store.now left.now right.now) → ⊥ }
+    requires floor { IsFloor 60 (listed store.now left.now right.now) floor }
+    requires ceiling { IsCeiling 60 (listed store.now left.now right.now) ceiling }
+    ensures { IfOk result (λ lists. IsReducedForm store.now (listed store.now left.now right.now) lists.left.items lists.right.items) }
+{
+    let mut memo = IndexMap::new(alloc);
+    let stored = games_of(store);
+    let left = best(alloc, &mut memo, &stored, Side::Left, left)?;
+    let right = best(alloc, &mut memo, &stored, Side::Right, right)?;
+    let games = games_beside(store, &left, &right, floor, ceiling);
+    Ok(bypass_all(alloc, &mut memo, &games, &left, &right)?)
+}

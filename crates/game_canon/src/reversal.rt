@@ -1,0 +1,134 @@
+//! Options that are reversible through an answer.
+
+ghost use Rattle.std.specs.Prelude.{ℕ, ◌≡◌, ◌<◌, ◌⊎◌, length, slice_index, IfOk, MatchOption};
+ghost use Rattle.game_store.specs.Tree.{Has};
+ghost use Rattle.game_store.specs.Number.{IsNumberTree};
+ghost use Rattle.game_store.specs.Meaning.{tree_at, pick, AreIds};
+ghost use Rattle.game_canon.specs.Comparisons.{recalled};
+ghost use Rattle.game_canon.specs.Games.{beside, HasForm, IsKnown};
+ghost use Rattle.game_canon.specs.Sides.{Covers, IsReplaced, IsAnswer, IsKept, IsDone, IsSmaller};
+
+use crate::comparisons::Comparisons;
+use crate::domination::best;
+use crate::games::Games;
+use crate::ids::Ids;
+use crate::side::{Side, far_of, form_covers, near_of};
+use game_store::{Form, GameId, Store};
+use std::alloc::{AllocError, Global};
+
+/// The first of the games that the form beside the store covers.
+fn first_covered(
+    alloc: Global,
+    memo: &mut Comparisons,
+    games: &Games<'_>,
+    side: Side,
+    ids: &[GameId],
+) -> Result<Option<GameId>, AllocError>
+    requires known { IsKnown games.now (recalled memo.old) }
+    requires form { HasForm games.now }
+    requires ids { AreIds games.now.store.now ids.now }
+    ensures found { IfOk result (λ found. MatchOption found ((j : ℕ) → j < length ids.now → Covers side (tree_at games.now.store.now (slice_index ids.now j)) (beside games.now) → ⊥) (λ id. (id < length games.now.store.now) × Has (pick games.now.store.now ids.now) (tree_at games.now.store.now id) × Covers side (tree_at games.now.store.now id) (beside games.now))) }
+    ensures known { IsKnown games.now (recalled memo.new) }
+{
+    for id in ids {
+        if form_covers(alloc, memo, games, side, *id)? {
+            return Ok(Some(*id));
+        }
+    }
+    Ok(None)
+}
+
+/// An answer to the move to `id` after which the side has nothing that it hasn't in the form beside the store. None is
+/// looked for to a number.
+fn answer_to(
+    alloc: Global,
+    memo: &mut Comparisons,
+    games: &Games<'_>,
+    side: Side,
+    id: GameId,
+) -> Result<Option<GameId>, AllocError>
+    requires known { IsKnown games.now (recalled memo.old) }
+    requires form { HasForm games.now }
+    requires id { id < length games.now.store.now }
+    ensures found { IfOk result (λ found. MatchOption found (IsNumberTree (tree_at games.now.store.now id) ⊎ IsKept side (beside games.now) (tree_at games.now.store.now id)) (λ answer. IsAnswer side games.now.store.now (beside games.now) id answer)) }
+    ensures known { IsKnown games.now (recalled memo.new) }
+{
+    match games.store.node(id) {
+        Form::Number(_) => Ok(None),
+        Form::Options { left, right } => {
+            Ok(first_covered(alloc, memo, games, side, far_of(side, left, right))?)
+        }
+    }
+}
+
+/// The first reversible option of the side: its place, and the answer that reverses it.
+fn reversible(
+    alloc: Global,
+    memo: &mut Comparisons,
+    games: &Games<'_>,
+    side: Side,
+    ids: &[GameId],
+) -> Result<Option<(usize, GameId)>, AllocError>
+    requires known { IsKnown games.now (recalled memo.old) }
+    requires form { HasForm games.now }
+    requires ids { AreIds games.now.store.now ids.now }
+    ensures found { IfOk result (λ found. MatchOption found (IsDone side games.now.store.now (beside games.now) ids.now) (λ at. (at.0 < length ids.now) × IsAnswer side games.now.store.now (beside games.now) (slice_index ids.now at.0) at.1)) }
+    ensures known { IsKnown games.now (recalled memo.new) }
+{
+    for (place, id) in ids.iter().enumerate() {
+        if let Some(answer) = answer_to(alloc, memo, games, side, *id)? {
+            return Ok(Some((place, answer)));
+        }
+    }
+    Ok(None)
+}
+
+/// The ids with that at `place` replaced by the side's options of the answer, or by nothing where the answer is a number.
+fn replaced(
+    alloc: Global,
+    store: &Store,
+    side: Side,
+    ids: &[GameId],
+    place: usize,
+    answer: GameId,
+) -> Result<Ids, AllocError>
+    requires ids { AreIds store.now ids.now }
+    requires place { place < length ids.now }
+    requires answer { answer < length store.now }
+    ensures { IfOk result (λ v. IsReplaced side store.now ids.now place answer v.items) }
+{
+    let mut all = Ids::new(alloc);
+    all.extend_from_slice(&ids[..place])?;
+    all.extend_from_slice(&ids[place + 1..])?;
+    match store.node(answer) {
+        Form::Number(_) => Ok(all),
+        Form::Options { left, right } => {
+            all.extend_from_slice(near_of(side, left, right))?;
+            Ok(all)
+        }
+    }
+}
+
+/// The side's options with one reversible option bypassed and the dominated ones dropped, where there is a reversible
+/// one.
+pub(crate) fn bypassed(
+    alloc: Global,
+    memo: &mut Comparisons,
+    games: &Games<'_>,
+    side: Side,
+    ids: &[GameId],
+) -> Result<Option<Ids>, AllocError>
+    requires known { IsKnown games.now (recalled memo.old) }
+    requires form { HasForm games.now }
+    requires ids { AreIds games.now.store.now ids.now }
+    ensures found { IfOk result (λ found. MatchOption found (IsDone side games.now.store.now (beside games.now) ids.now) (λ v. IsSmaller side games.now.store.now (beside games.now) ids.now v.items)) }
+    ensures known { IsKnown games.now (recalled memo.new) }
+{
+    match reversible(alloc, memo, games, side, ids)? {
+        Some((place, answer)) => {
+            let all = replaced(alloc, games.store, side, ids, place, answer)?;
+            Ok(Some(best(alloc, memo, games, side, &all)?))
+        }
+        None => Ok(None),
+    }
+}

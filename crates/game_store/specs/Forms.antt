@@ -1,0 +1,39 @@
+-- What a form that a store lends says of its id.
+use Rattle.std.specs.Prelude.{ℕ, ◌≡◌, ◌<◌, List, length}
+use Rattle.dyadic_num.specs.Units.{IsInBounds}
+use Rattle.game_store.specs.Tree.{Tree}
+use Rattle.game_store.specs.Number.{IsNumberTree}
+use Rattle.game_store.specs.Meaning.{tree_at, form, number_tree, AreBelow, IsAscending, Wanted}
+use Rattle.game_store.specs.Meaning.Wanted.{number, options}
+use Rattle.game_store.specs.declared.Form.{Form}
+use Rattle.game_store.specs.declared.Form.TheVariants.{Number, Options}
+
+abbrev pub wanted : Form → Wanted
+wanted (Number x) = number x
+wanted (Options ls rs) = options ls.now rs.now
+
+-- the tree of an id is the number's, or that of options which are ids below it in ascending order, and then no number's
+pub record IsOptions (Ts : List Tree) (id : ℕ) (ls rs : List ℕ) : Type 0 where
+  pub tree : tree_at Ts id ≡ form Ts ls rs
+  pub left_below : AreBelow id ls
+  pub right_below : AreBelow id rs
+  pub left_ascends : IsAscending ls
+  pub right_ascends : IsAscending rs
+  pub left_some : 0 < length ls
+  pub right_some : 0 < length rs
+  pub no_number : IsNumberTree (tree_at Ts id) → ⊥
+
+abbrev pub IsMeaning : List Tree → ℕ → Wanted → Type 0
+IsMeaning Ts id (number x) = tree_at Ts id ≡ number_tree x
+IsMeaning Ts id (options ls rs) = IsOptions Ts id ls rs
+
+abbrev pub IsFormOf : List Tree → ℕ → Form → Type 0
+IsFormOf Ts id f = IsMeaning Ts id (wanted f)
+
+-- each id's tree is that of a number within the bounds of a Dyadic, or that of options which are ids
+abbrev pub IsWithinBounds : Wanted → Type 0
+IsWithinBounds (number x) = IsInBounds x
+IsWithinBounds (options ls rs) = Unit {0}
+
+abbrev pub HaveForms : List Tree → Type 0
+HaveForms Ts = (id : ℕ) → id < length Ts → (w : Wanted) × IsMeaning Ts id w × IsWithinBounds w

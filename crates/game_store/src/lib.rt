@@ -1,0 +1,214 @@
+//! Games as trees, their order, their stops and their canonical forms, as definitions; and a store of canonical forms,
+//! each kept once under an id.
+#![tactic(auto)]
+
+ghost use Rattle.std.specs.Prelude.{◌≡◌, ◌<◌, length, IfOk};
+ghost use Rattle.game_store.specs.Number.{IsNumberTree};
+ghost use Rattle.game_store.specs.TextOrder.{IsCanonicalTree};
+ghost use Rattle.game_store.specs.Threshold.{IsFloor, IsCeiling, IsFloorRange, IsCeilingRange};
+ghost use Rattle.game_store.specs.Stops.{GoesWithLeftStop, GoesWithRightStop};
+ghost use Rattle.game_store.specs.Meaning.{tree_at, form, number_tree, held, AreIds, IsAscending, AreDistinct, AreCanonical, Extends, IsWithin, IsIdOf};
+ghost use Rattle.game_store.specs.Forms.{wanted, IsFormOf, HaveForms};
+
+mod bounds;
+mod fingerprint;
+mod lookup;
+
+use crate::bounds::{greatest_floor, least_ceiling, read_ceiling, read_floor};
+use crate::fingerprint::{fingerprint_number, fingerprint_options};
+use crate::lookup::{find_number, find_options, read_slot};
+use dyadic_num::Dyadic;
+use indexmap::IndexMap;
+use std::alloc::{AllocError, Global};
+use std::marker::Model;
+
+/// The name of a form in its store.
+pub type GameId = u64;
+
+/// What a store keeps of a form: a number, or where its options stand.
+#[derive(Clone, Copy)]
+pub enum Entry {
+    Number(Dyadic),
+    Options {
+        start: usize,
+        middle: usize,
+        end: usize,
+    },
+}
+
+/// An entry, the id before it with the same fingerprint, and the form's floor and ceiling in half parts of 2^-60.
+#[derive(Clone, Copy)]
+pub struct Slot {
+    entry: Entry,
+    before: Option<u64>,
+    floor: i128,
+    ceiling: i128,
+}
+
+/// A form that a store lends: a number, or the ids of its options, which ascend.
+#[derive(Clone, Copy)]
+pub enum Form<'a> {
+    Number(Dyadic),
+    Options { left: &'a [u64], right: &'a [u64] },
+}
+
+/// Canonical forms, each under an id. Contracts see it as the list of their trees.
+#[derive(Drop)]
+pub struct Store {
+    slots: Vec<Slot>,
+    items: Vec<u64>,
+    latest: IndexMap<u64, u64>,
+}
+
+impl Model for Store {
+    ghost use Rattle.std.specs.Prelude.{List};
+    ghost use Rattle.std.specs.Coded.{coded_list};
+    ghost use Rattle.game_store.specs.Tree.{Tree};
+    ghost use Rattle.game_store.specs.Code.{tree_code};
+
+    ghost Value = { List Tree };
+
+    ghost coded = { coded_list tree_code };
+
+    ghost use Rattle.std.specs.Prelude.{nat_eq};
+    ghost use Rattle.indexmap.specs.IndexMap.{get};
+    ghost use Rattle.game_store.specs.Meaning.{values, IsKept};
+    ghost use Rattle.game_store.specs.Chain.{entries_of, IsChained};
+    ghost use Rattle.game_store.specs.Places.{ArePlaced};
+
+    ghost view = { λ s. values s.items.items (entries_of s.slots.items) };
+
+    ghost invariant = { λ s. IsKept s.items.items (entries_of s.slots.items) × IsChained s.items.items s.slots.items (get nat_eq s.latest) × ArePlaced (values s.items.items (entries_of s.slots.items)) s.slots.items };
+}
+
+/// The form of an entry.
+fn lend(entry: Entry, items: &[u64]) -> Form<'_>
+    requires { IsWithin (length items.now) entry }
+    ensures { held items.now entry ≡ wanted result }
+{
+    match entry {
+        Entry::Number(x) => Form::Number(x),
+        Entry::Options { start, middle, end } => Form::Options {
+            left: &items[start..middle],
+            right: &items[middle..end],
+        },
+    }
+}
+
+impl Store {
+    /// A store without a form.
+    pub fn new(alloc: Global) -> Store
+        ensures { length result ≡ 0 }
+    {
+        Store {
+            slots: Vec::new(alloc),
+            items: Vec::new(alloc),
+            latest: IndexMap::new(alloc),
+        }
+    }
+
+    /// The number of ids.
+    pub fn len(&self) -> u64
+        ensures count { result ≡ length self.now }
+        ensures distinct { AreDistinct self.now }
+        ensures canonical { AreCanonical self.now }
+        ensures forms { HaveForms self.now }
+    {
+        self.slots.len() as u64
+    }
+
+    /// The id of a number. Every id keeps its form, whatever the answer.
+    pub fn number(&mut self, x: Dyadic) -> Result<GameId, AllocError>
+        ensures value { IfOk result (λ id. IsIdOf self.new (number_tree x) id) }
+        ensures kept { Extends self.old self.new }
+    {
+        let fingerprint = fingerprint_number(x);
+        let before = self.latest.get(&fingerprint).copied();
+        if let Some(id) = find_number(&self.slots, &self.items, before, x) {
+            return Ok(id);
+        }
+        let half_parts = x.units() * 2;
+        let slot = Slot {
+            entry: Entry::Number(x),
+            before,
+            floor: half_parts,
+            ceiling: half_parts,
+        };
+        self.latest.reserve(1)?;
+        let id = self.slots.len();
+        self.slots.push(slot)?;
+        self.latest.insert(fingerprint, id as u64)?;
+        Ok(id as u64)
+    }
+
+    /// The id of the form with these options, which has to be canonical and no number. Every id keeps its form, whatever
+    /// the answer.
+    pub fn intern(&mut self, left: &[GameId], right: &[GameId]) -> Result<GameId, AllocError>
+        requires left_ids { AreIds self.old left.now }
+        requires right_ids { AreIds self.old right.now }
+        requires left_ascends { IsAscending left.now }
+        requires right_ascends { IsAscending right.now }
+        requires left_some { 0 < length left.now }
+        requires right_some { 0 < length right.now }
+        requires canonical { IsCanonicalTree (form self.old left.now right.now) }
+        requires no_number { IsNumberTree (form self.old left.now right.now) → ⊥ }
+        ensures value { IfOk result (λ id. IsIdOf self.new (form self.old left.now right.now) id) }
+        ensures kept { Extends self.old self.new }
+    {
+        let fingerprint = fingerprint_options(left, right);
+        let before = self.latest.get(&fingerprint).copied();
+        if let Some(id) = find_options(&self.slots, &self.items, before, left, right) {
+            return Ok(id);
+        }
+        let floor = least_ceiling(&self.slots, right) - 1;
+        let ceiling = greatest_floor(&self.slots, left) + 1;
+        let start = self.items.len();
+        self.items.extend_from_slice(left)?;
+        let middle = self.items.len();
+        self.items.extend_from_slice(right)?;
+        let end = self.items.len();
+        let slot = Slot {
+            entry: Entry::Options { start, middle, end },
+            before,
+            floor,
+            ceiling,
+        };
+        self.latest.reserve(1)?;
+        let id = self.slots.len();
+        self.slots.push(slot)?;
+        self.latest.insert(fingerprint, id as u64)?;
+        Ok(id as u64)
+    }
+
+    /// The form of an id.
+    pub fn node(&self, id: GameId) -> Form<'_>
+        requires { id < length self.now }
+        ensures form { IsFormOf self.now id result }
+        ensures canonical { IsCanonicalTree (tree_at self.now id) }
+        ensures distinct { AreDistinct self.now }
+    {
+        lend(read_slot(&self.slots, id as usize).entry, &self.items)
+    }
+
+    /// The form's floor in half parts of 2^-60: twice its right stop where the stop is at most the form, else one less.
+    /// The right stop is half of the floor and one, rounded down.
+    pub fn floor(&self, id: GameId) -> i128
+        requires { id < length self.now }
+        ensures floor { IsFloor 60 (tree_at self.now id) result }
+        ensures range { IsFloorRange result }
+        ensures stop { GoesWithRightStop 60 (tree_at self.now id) result }
+    {
+        read_floor(&self.slots, id)
+    }
+
+    /// The form's ceiling in half parts of 2^-60: twice its left stop where the stop is at least the form, else one more.
+    /// The left stop is half of the ceiling, rounded down.
+    pub fn ceiling(&self, id: GameId) -> i128
+        requires { id < length self.now }
+        ensures ceiling { IsCeiling 60 (tree_at self.now id) result }
+        ensures range { IsCeilingRange result }
+        ensures stop { GoesWithLeftStop 60 (tree_at self.now id) result }
+    {
+        read_ceiling(&self.slots, id)
+    }
+}

@@ -1,0 +1,108 @@
+-- The edges of a graph are the local moves of its positions.
+use Rattle.std.proofs.Common.{ℕ, ◌≡◌, ◌<◌, ◌≤◌, refl, sym, ap, ◌∙◌, subst, arith, List, [], ◌∷◌, ◌++◌, length, get_or, Contains}
+use Rattle.std.proofs.lemmas.List.{get_or_default}
+use Rattle.std.proofs.lemmas.List.Elements.{Contains-get_or}
+use Rattle.std.proofs.lemmas.List.Sums.{count_by-le-length}
+use Rattle.go_grid.specs.declared.grid.Cell.{Cell}
+use Rattle.go_grid.specs.declared.grid.Colour.{Colour}
+use Rattle.go_grid.specs.Region.{Shape}
+use Rattle.local_play.specs.declared.local_move.LocalMove.{LocalMove}
+use Rattle.local_play.specs.LocalPlay.{is_stone, IsLocalMove, IsNumberTaken}
+use Rattle.local_play.specs.Packed.{pack}
+use Rattle.local_graph.specs.declared.cycle.CycleMove.{CycleMove}
+use Rattle.local_graph.specs.declared.graph.Edge.{Edge}
+use Rattle.local_graph.specs.LocalGraph.{HasMoves}
+use Rattle.local_graph.specs.Nodes.{Nodes, edges_at}
+use Rattle.local_graph.proofs.EdgeListLemmas.{node_inside}
+use Rattle.local_graph.proofs.PlayLemmas.{plays_more, plays_long, one_after}
+use Rattle.local_value.specs.Values.{IsGraphOf, IsPlaceOf}
+
+-- the edge of a local move, or the move of an edge
+pub record IsEdgeFor (positions : List ℕ) (cells next : List Cell) (c : Colour) (i n : ℕ) (e : Edge) : Type 0 where
+  pub colour : e.colour ≡ c
+  pub place : e.place ≡ i
+  pub inside : e.next < length positions
+  pub leads : get_or positions e.next 0 ≡ pack next
+  pub number : IsNumberTaken cells next e.taken
+  pub taken : e.taken ≡ n
+
+module _ (r : Shape) (g : Nodes) (of : IsGraphOf r g) where
+  moves_of : (i : ℕ) (cells : List Cell) → IsPlaceOf r g i cells → HasMoves r.touch cells g.positions (edges_at g.edges i)
+  moves_of i cells h = of.graph.moves i cells h.inside h.reachable h.packed
+
+  -- a local move is an edge
+  pub edge_of : (k : ℕ) (cells next : List Cell) (c : Colour) (i n : ℕ) → IsPlaceOf r g k cells → IsLocalMove r.touch cells c i next → IsNumberTaken cells next n
+      → (e : Edge) × Contains (edges_at g.edges k) e × IsEdgeFor g.positions cells next c i n e
+  edge_of k cells next c i n has move number =
+      let es = edges_at g.edges k in
+      let h = moves_of k cells has in
+      let found = h.1.all c i next move in
+      let legal = h.1.legal found.0 found.1 in
+      let move' = subst (λ x. IsLocalMove r.touch cells c x next) (sym found.3) move in
+      let move'' = subst (λ d. IsLocalMove r.touch cells d found.0.place next) (sym found.2) move' in
+      let same : legal.after ≡ next = one_after r.touch cells legal.after next found.0.colour found.0.place legal.move move'' in
+      let none : Edge = record { colour = c; place = 0; next = 0; taken = 0 } in
+      let short : found.1.0 < length es = omega (arith, found.1.1, h.2.0) in
+      let e = get_or es found.1.0 none in
+      let w = h.2.1 found.1.0 found.0 e short found.1.2 (get_or_default es found.1.0 e none short) in
+      let number' : IsNumberTaken cells next found.0.taken = subst (λ x. IsNumberTaken cells x found.0.taken) same legal.taken in (
+        e,
+        Contains-get_or es found.1.0 none short,
+        record {
+          colour = w.colour ∙ found.2;
+          place = w.place ∙ found.3;
+          inside = w.inside;
+          leads = w.next ∙ legal.next ∙ ap pack same;
+          number = subst (IsNumberTaken cells next) (sym w.taken) number';
+          taken = w.taken ∙ omega (arith, number', number);
+        },
+      )
+
+  -- an edge is a local move
+  pub move_of : (k : ℕ) (cells : List Cell) (e : Edge) → IsPlaceOf r g k cells → Contains (edges_at g.edges k) e
+      → (next : List Cell) × IsLocalMove r.touch cells e.colour e.place next × IsEdgeFor g.positions cells next e.colour e.place e.taken e
+  move_of k cells e has (j, lt, at) =
+      let h = moves_of k cells has in
+      let none : LocalMove = record { colour = e.colour; place = 0; next = 0; taken = 0 } in
+      let short : j < length h.0 = omega (arith, lt, h.2.0) in
+      let m = get_or h.0 j none in
+      let w = h.2.1 j m e lt (get_or_default h.0 j m none short) at in
+      let legal = h.1.legal m (Contains-get_or h.0 j none short) in
+      let move = subst (λ x. IsLocalMove r.touch cells x m.place legal.after) (sym w.colour) legal.move in (
+        legal.after,
+        subst (λ x. IsLocalMove r.touch cells e.colour x legal.after) (sym w.place) move,
+        record {
+          colour = refl;
+          place = refl;
+          inside = w.inside;
+          leads = w.next ∙ legal.next;
+          number = subst (IsNumberTaken cells legal.after) (sym w.taken) legal.taken;
+          taken = refl;
+        },
+      )
+
+  -- it leads to a place of the graph
+  pub next_place : (k : ℕ) (cells next : List Cell) (c : Colour) (i n : ℕ) (e : Edge) → IsPlaceOf r g k cells → IsLocalMove r.touch cells c i next
+      → IsEdgeFor g.positions cells next c i n e → IsPlaceOf r g e.next next
+  next_place k cells next c i n e has move edge =
+      let m : CycleMove = record { colour = c; place = i } in record {
+        inside = edge.inside;
+        reachable = (has.reachable.0 ++ m ∷ [], plays_more r.touch r.cells cells next has.reachable.0 m has.reachable.1 move);
+        packed = edge.leads;
+      }
+
+  -- each place with an edge is that of some position
+  pub cells_at : (k : ℕ) (e : Edge) → Contains (edges_at g.edges k) e → (cells : List Cell) × IsPlaceOf r g k cells
+  cells_at k e (j, lt, at) =
+      let short : k < length g.positions = omega (arith, node_inside g.edges k j lt, of.graph.beside) in
+      let (cells, reach, packed) = of.graph.reachable (get_or g.positions k 0) (Contains-get_or g.positions k 0 short) in
+      (cells, record { inside = short; reachable = reach; packed = packed })
+
+  -- no move takes more than a stone for each place
+  pub taken_few : length r.cells ≤ 32 → (k : ℕ) (e : Edge) → Contains (edges_at g.edges k) e → e.taken ≤ 33
+  taken_few few k e among =
+      let (cells, has) = cells_at k e among in
+      let m = move_of k cells e has among in
+      let long = plays_long r.touch r.cells cells has.reachable.0 has.reachable.1 in
+      let most = count_by-le-length is_stone cells in
+      omega (arith, m.2.number, most, long, few)

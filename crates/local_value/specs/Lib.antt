@@ -1,0 +1,6 @@
+pub mod Ending
+pub mod LocalGame
+pub mod PositionTree
+pub mod Laws
+pub mod Values
+pub mod GraphMoves

@@ -1,0 +1,4 @@
+pub mod CheapMoves
+pub mod Lists
+pub mod Numbers
+pub mod Examples

@@ -1,0 +1,81 @@
+use Rattle.std.proofs.Common.{arith, refl, rules, ap, ◌∙◌, ◌≡◌, ◌<◌, ℕ, List, get_or, set, below_more}
+use mir.Val.{SFits}
+use mir.Syntax.{w128}
+use Rattle.std.proofs.lemmas.Bool.{false≢true, both_ways}
+use Rattle.std.proofs.lemmas.Int.{to_z-of_z}
+use Rattle.go_grid.specs.Grid.{other}
+use Rattle.game_canon.specs.Players.{LosesGame}
+use Rattle.game_canon.proofs.PlayerLaws.{loses-same, same-sym}
+use Rattle.game_store.specs.Meaning.{number_tree}
+use Rattle.sum_outcome.specs.Sums.{sum_tree}
+use Rattle.sum_outcome.specs.Search.{WinsAt}
+use Rattle.sum_outcome.proofs.Lists.{put_back, falls_put, ids_put, loses_all, wins_one, bounded_put, wins_by_option, wins_by_none}
+use Rattle.sum_outcome.proofs.outcome.+search.Goals as goal
+
+pub loses_sum-returns-in-Some-clause-answer : goal.loses_sum-returns-in-Some-clause-answer
+loses_sum-returns-in-Some-clause-answer t c =
+    let f : SFits w128 c.in-Some.value = search rules in
+    let whole = sum_tree c.args.store.now c.args.sum.now c.args.number in
+    let l = rw (to_z-of_z w128 c.in-Some.value f) at c.loses_number.ensures in (
+      λ e. loses-same c.args.side (number_tree c.in-Some.value) whole (same-sym whole (number_tree c.in-Some.value) c.in-Some.ensures) (l.0 e),
+      λ h. l.1 (loses-same c.args.side whole (number_tree c.in-Some.value) c.in-Some.ensures h),
+    )
+
+pub loses_sum-returns-then-wins_at-clause-answer : goal.loses_sum-returns-then-wins_at-clause-answer
+loses_sum-returns-then-wins_at-clause-answer t c =
+    let w = rw c.places.invariant.0 at (c.wins_at.ensures.answer.0 c.if-wins_at.true) in
+    (λ e. absurd (false≢true e), λ l. absurd (wins_one c.args.store.now c.args.sum.now c.args.number c.args.side c.places.place c.places-test.true w l))
+
+pub loses_sum-places-preserved : goal.loses_sum-places-preserved
+loses_sum-places-preserved t c = (
+  c.wins_at.ensures.same ∙ c.places.invariant.0,
+  below_more (λ k. WinsAt c.args.store.now c.args.sum.now c.args.number c.args.side k → ⊥) c.places.place c.places.invariant.1
+      (λ w. both_ways _ c.if-wins_at.false (c.wins_at.ensures.answer.1 (rw (← c.places.invariant.0) at w))),
+)
+
+pub loses_sum-returns-clause-answer : goal.loses_sum-returns-clause-answer
+loses_sum-returns-clause-answer t c = (
+  λ _. loses_all c.args.store.now c.args.sum.now c.args.number c.args.side c.in_default.ensures (λ k lt. c.places.invariant.1 k (omega (arith, c.places-test.false, lt))),
+  λ _. refl,
+)
+
+pub wins_at-loses_sum-lost-requires : goal.wins_at-loses_sum-lost-requires
+wins_at-loses_sum-lost-requires t c =
+    let os = c.moves-options.result.now in
+    let j = c.options.option-index in
+    let i = get_or os j 0 in
+    let below : i < get_or c.args.sum.now c.args.place 0 = c.moves-options.ensures.below j c.options-test.true in
+    rw c.options.invariant.0 (
+      omega (arith, falls_put c.args.sum.now c.args.place i c.requires.place below, c.decreases),
+      (
+        ids_put c.args.store.now c.args.sum.now c.args.place i c.requires.place below c.requires.ids,
+        bounded_put c.args.store.now c.args.sum.now os c.args.number c.args.side c.args.place c.requires.place c.moves-options.ensures.options j c.options-test.true c.requires.bounds,
+      ),
+    )
+
+-- the sum with an option put for the game, and the game put back
+restored : {ids tried now : List ℕ} (k i : ℕ) → tried ≡ ids → now ≡ set tried k i → set now k (get_or ids k 0) ≡ ids
+restored {ids} k i e f = ap (λ l. set l k (get_or ids k 0)) (f ∙ ap (λ l. set l k i) e) ∙ put_back ids k i
+
+pub wins_at-returns-then-lost-clause-same : goal.wins_at-returns-then-lost-clause-same
+wins_at-returns-then-lost-clause-same t c = restored c.args.place _ c.options.invariant.0 c.loses_sum-lost.ensures.same
+
+pub wins_at-returns-then-lost-clause-answer : goal.wins_at-returns-then-lost-clause-answer
+wins_at-returns-then-lost-clause-answer t c =
+    let w = rw (c.options.invariant.0, c.other.ensures) at (c.loses_sum-lost.ensures.answer.0 c.if-lost.true) in (
+      λ _. wins_by_option c.args.store.now c.args.sum.now c.moves-options.result.now c.args.number c.args.side c.args.place c.requires.place c.moves-options.ensures.options c.options.option-index c.options-test.true w,
+      λ _. refl,
+    )
+
+pub wins_at-options-preserved : goal.wins_at-options-preserved
+wins_at-options-preserved t c = (
+  restored c.args.place _ c.options.invariant.0 c.loses_sum-lost.ensures.same,
+  below_more (λ j. LosesGame (other c.args.side) (sum_tree c.args.store.now (set c.args.sum.now c.args.place (get_or c.moves-options.result.now j 0)) c.args.number) → ⊥) c.options.option-index c.options.invariant.1
+      (λ l. both_ways _ c.if-lost.false (c.loses_sum-lost.ensures.answer.1 (rw (c.options.invariant.0, c.other.ensures) l))),
+)
+
+pub wins_at-returns-clause-answer : goal.wins_at-returns-clause-answer
+wins_at-returns-clause-answer t c = (
+  λ e. absurd (false≢true e),
+  λ w. absurd (wins_by_none c.args.store.now c.args.sum.now c.moves-options.result.now c.args.number c.args.side c.args.place c.requires.place c.moves-options.ensures.options (λ j l. c.options.invariant.1 j (omega (arith, c.options-test.false, l))) w),
+)

@@ -1,0 +1,15 @@
+-- Sums of small games.
+use Rattle.std.specs.Prelude.{ℕ, ◌≡◌, ◌<◌, ◌⊎◌, List, [], ◌∷◌, length, pos}
+use Rattle.game_store.specs.Tree.{Tree}
+use Rattle.game_store.specs.Number.{num}
+use Rattle.game_store.specs.Meaning.{tree_at}
+use Rattle.game_canon.specs.Examples.{choice, star}
+
+-- {0|0} or {1|{0|0}}
+abbrev pub IsSmall : Tree → Type 0
+IsSmall G = (G ≡ star) ⊎ (G ≡ choice (num 0 (pos 1)) star)
+
+-- each id is that of a small game
+abbrev pub AreSmall : List Tree → List ℕ → Type 0
+AreSmall Ts [] = Unit {0}
+AreSmall Ts (i ∷ is) = (i < length Ts) × IsSmall (tree_at Ts i) × AreSmall Ts is

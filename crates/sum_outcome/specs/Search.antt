@@ -1,0 +1,33 @@
+-- What the search of a sum asks.
+use Rattle.std.specs.Prelude.{ℕ, zero, suc, ◌<◌, List, length, ℤ}
+use Rattle.std.specs.List.{slice_index_or}
+use Rattle.go_grid.specs.declared.grid.Colour.{Colour}
+use Rattle.go_grid.specs.Grid.{other}
+use Rattle.game_store.specs.Tree.{Tree, Trees, none, more, Has}
+use Rattle.game_store.specs.Sum.{◌+ᵍ◌, total}
+use Rattle.game_store.specs.Number.{IsNumberTree}
+use Rattle.game_store.specs.TextOrder.{IsCanonicalTree}
+use Rattle.game_store.specs.Meaning.{tree_at, pick, number_tree}
+use Rattle.game_canon.specs.Players.{options, LosesGame}
+
+-- a canonical tree that is no number's
+abbrev pub IsNonNumber : Tree → Type 0
+IsNonNumber G = IsCanonicalTree G × (IsNumberTree G → ⊥)
+
+-- some game of the ids is no number
+abbrev pub HasNonNumber : List Tree → List ℕ → Type 0
+HasNonNumber Ts ids = (k : ℕ) × (k < length ids) × IsNonNumber (tree_at Ts (slice_index_or ids k 0))
+
+-- X is a player's option of a game that is no number
+abbrev pub IsMove : Tree → Colour → Tree → Type 0
+IsMove G c X = (IsNumberTree G → ⊥) × Has (options c G) X
+
+-- the list with another game at a place
+abbrev pub put : Trees → ℕ → Tree → Trees
+put none k X = none
+put (more G Gs) zero X = more X Gs
+put (more G Gs) (suc k) X = more G (put Gs k X)
+
+-- the player wins by a move in the game at a place, which is no number
+abbrev pub WinsAt : List Tree → List ℕ → ℤ → Colour → ℕ → Type 0
+WinsAt Ts ids x c k = (X : Tree) × IsMove (tree_at Ts (slice_index_or ids k 0)) c X × LosesGame (other c) (total (put (pick Ts ids) k X) +ᵍ number_tree x)
