@@ -99,3 +99,74 @@ fn forms(rt: HostRuntime) {
     assert_eq!(&rt; count(alloc, &store, star), Some(1));
     assert_eq!(&rt; count(alloc, &store, switch), Some(2));
 }
+
+#[test]
+fn ups_and_nimbers(rt: HostRuntime) {
+    let alloc = rt.alloc();
+    let mut store = Store::new(alloc);
+    let zero = fraction(&mut store, 0, 0).expect(&rt, "0");
+    let star = form(alloc, &mut store, &[zero], &[zero], 1).expect(&rt, "*");
+    let two = form(alloc, &mut store, &[zero, star], &[zero, star], 500).expect(&rt, "*2");
+    let three = form(
+        alloc,
+        &mut store,
+        &[zero, star, two],
+        &[zero, star, two],
+        500,
+    )
+    .expect(&rt, "*3");
+    let skips_two = [zero, star, three];
+    let skips_one = [zero, two, three];
+    assert_eq!(&rt;
+        form(alloc, &mut store, &skips_two, &skips_two, 500),
+        Ok(two)
+    );
+    assert_eq!(&rt;
+        form(alloc, &mut store, &skips_one, &skips_one, 500),
+        Ok(star)
+    );
+    assert_eq!(&rt;
+        form(alloc, &mut store, &[star, three], &[star, three], 500),
+        Ok(zero)
+    );
+    assert_eq!(&rt; count(alloc, &store, three), Some(3));
+    let up = form(alloc, &mut store, &[zero], &[star], 500).expect(&rt, "up");
+    let up_star = form(alloc, &mut store, &[zero, star], &[zero], 500).expect(&rt, "up + *");
+    let double_up = form(alloc, &mut store, &[zero], &[up_star], 500).expect(&rt, "double up");
+    assert_eq!(&rt;
+        form(alloc, &mut store, &[star, up], &[zero, up], 500),
+        Ok(up_star)
+    );
+    assert_eq!(&rt;
+        form(alloc, &mut store, &[up], &[up_star], 500),
+        Ok(double_up)
+    );
+    assert_eq!(&rt;
+        form(
+            alloc,
+            &mut store,
+            &[up_star, double_up],
+            &[up, double_up],
+            500
+        ),
+        form(alloc, &mut store, &[zero], &[up], 500)
+    );
+}
+
+#[test]
+fn corridors(rt: HostRuntime) {
+    let alloc = rt.alloc();
+    let mut store = Store::new(alloc);
+    let mut last = fraction(&mut store, 0, 0).expect(&rt, "0");
+    for length in 1u8..6 {
+        let saved = fraction(&mut store, length as i128, 0).expect(&rt, "all its points");
+        let less = fraction(&mut store, length as i128 - 1, 0).expect(&rt, "a point less");
+        let corridor = form(alloc, &mut store, &[saved], &[last], 500).expect(&rt, "a corridor");
+        assert_eq!(&rt; count(alloc, &store, corridor), Some(length as u64));
+        assert_eq!(&rt;
+            form(alloc, &mut store, &[less, saved], &[saved, last], 500),
+            Ok(corridor)
+        );
+        last = corridor;
+    }
+}

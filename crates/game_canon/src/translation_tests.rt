@@ -75,3 +75,22 @@ fn sums(rt: HostRuntime) {
     );
     assert_eq!(&rt; sum(alloc, &mut store, hot, one), Err(FormError::Bounds));
 }
+
+#[test]
+fn tiny_and_switches(rt: HostRuntime) {
+    let alloc = rt.alloc();
+    let mut store = Store::new(alloc);
+    let zero = fraction(&mut store, 0, 0).expect(&rt, "0");
+    for size in 1i8..5 {
+        let high = fraction(&mut store, size as i128, 0).expect(&rt, "the size");
+        let low = fraction(&mut store, -(size as i128), 0).expect(&rt, "the size turned");
+        let lost = choice(alloc, &mut store, zero, low).expect(&rt, "{0|-n}");
+        let saved = choice(alloc, &mut store, high, zero).expect(&rt, "{n|0}");
+        let tiny = choice(alloc, &mut store, zero, lost).expect(&rt, "tiny");
+        let miny = choice(alloc, &mut store, saved, zero).expect(&rt, "miny");
+        let switch = choice(alloc, &mut store, high, low).expect(&rt, "{n|-n}");
+        assert_eq!(&rt; negative(alloc, &mut store, tiny), Some(miny));
+        assert_eq!(&rt; negative(alloc, &mut store, saved), Some(lost));
+        assert_eq!(&rt; negative(alloc, &mut store, switch), Some(switch));
+    }
+}
