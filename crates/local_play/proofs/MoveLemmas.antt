@@ -14,8 +14,9 @@ use Rattle.go_grid.specs.Marks.{IsMarked, Marks}
 use Rattle.go_grid.specs.Region.{touch_at}
 use Rattle.local_play.specs.LocalPlay.{held_at, Holds, IsLinked, InLocalChain, IsFree, IsRemoved, IsLocalMove, IsNumberTaken, with_stone, is_stone}
 use Rattle.local_play.specs.Tried.{RemovesThrough, IsAfter, IsLessBy}
+use Rattle.go_grid.proofs.FillLemmas.{none_marked}
 use Rattle.go_grid.proofs.PathLemmas.{leads_start, leads_end, leads_more}
-use Rattle.local_play.proofs.SpreadLemmas.{none_marked}
+use Rattle.go_grid.proofs.SetsLemmas.{marked_short}
 
 -- the marked places are those of `P` below `n`
 pub record PlacesBelow (marks : List Bool) (P : ℕ → Type 0) (n : ℕ) : Type 0 where
@@ -48,12 +49,6 @@ places_next marks P n b s lt there back =
 
 pub places_end : (marks : List Bool) (P : ℕ → Type 0) → PlacesBelow marks P 32 → ((p : ℕ) → P p → p < 32) → Marks marks P
 places_end marks P s inside p = (λ m. (s.marked p m).1, λ h. s.all p (inside p h) h)
-
-pub marked_short : (marks : List Bool) (n p : ℕ) → length marks ≡ n → IsMarked marks p → p < n
-marked_short marks n p e m = elim (cases_lt p (length marks)) as (λ _. p < n) [
-  | inl lt ↦ omega arith
-  | inr le ↦ absurd (both_ways _ (get_or_past marks p false le) m)
-]
 
 -- the cells so far, after the places below `n`
 pub record Without (cells : List Cell) (removed : List Bool) (after : List Cell) (taken n : ℕ) : Type 0 where

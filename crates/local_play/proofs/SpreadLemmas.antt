@@ -11,6 +11,7 @@ use Rattle.go_grid.specs.Marks.{IsMarked, Marks}
 use Rattle.go_grid.specs.Region.{nothing_near}
 use Rattle.local_play.specs.LocalPlay.{Holds, IsLinked, InLocalChain}
 use Rattle.local_play.specs.Spread.{Grows, IsReachedFrom, IsSpread}
+use Rattle.go_grid.proofs.FillLemmas.{set_cases, set_kept, count_set, none_marked}
 use Rattle.go_grid.proofs.PathLemmas.{carried, leads_here, leads_step}
 
 count : List Bool → ℕ
@@ -26,18 +27,6 @@ grows_none New cells c marks all = record {
   same = λ e. refl;
   all = λ e. all;
 }
-
--- a marked place of the marks after one is set
-pub set_cases : (marks : List Bool) (n p : ℕ) → IsMarked (set marks n true) p → (p ≡ n) ⊎ IsMarked marks p
-set_cases marks n p m = elim (cases_eq p n) [ inl e ↦ inl e | inr ne ↦ inr (rw get_or-set_other at m) ]
-
-pub set_kept : (marks : List Bool) (n p : ℕ) → n < length marks → IsMarked marks p → IsMarked (set marks n true) p
-set_kept marks n p lt m =
-    elim (cases_eq p n) [ inl e ↦ rw e (get_or-set_same marks n true false lt) | inr ne ↦ rw get_or-set_other m ]
-
-pub count_set : (marks : List Bool) (n : ℕ) → n < length marks → get_or marks n false ≡ false
-    → count_by (λ m. m) (set marks n true) ≡ count_by (λ m. m) marks + 1
-count_set marks n lt off = let e = sum_by-set (λ m. cond m 1 0) marks n true false lt in omega (arith, rw off at e)
 
 pub grows_one : (New : ℕ → Type 0) (cells : List Cell) (c : Colour) (marks : List Bool) (n : ℕ)
     → n < length marks → get_or marks n false ≡ false → New n → Holds cells c n → Grows New cells c marks (set marks n true) true
@@ -160,12 +149,6 @@ spread_end touch cells c before marks grew s e p q on link holds =
 pub record StartsAt (touch : List Touch) (cells : List Cell) (c : Colour) (start : ℕ) (marks : List Bool) : Type 0 where
   pub first : IsMarked marks start
   pub reached : IsReachedFrom touch cells c start marks
-
-pub none_marked : (n p : ℕ) → IsMarked (replicate n false) p → ⊥
-none_marked n p m = elim (cases_lt p n) [
-  | inl lt ↦ both_ways _ (get_or-replicate n p false false lt) m
-  | inr le ↦ both_ways _ (get_or_past (replicate n false) p false (omega (arith, length-replicate n false))) m
-]
 
 pub one_marked : (touch : List Touch) (cells : List Cell) (c : Colour) (start : ℕ) → start < 32 → Holds cells c start
     → StartsAt touch cells c start (set (replicate 32 false) start true)

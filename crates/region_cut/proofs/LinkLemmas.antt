@@ -8,6 +8,7 @@ use Rattle.std.proofs.lemmas.Nat.{div-add-mod'}
 use Rattle.go_grid.specs.Grid.{NextTo, IsAbove, IsLeftOf}
 use Rattle.go_grid.specs.Region.{Shape, IsRegion, IsLink, touch_at}
 use Rattle.local_play.specs.LocalPlay.{IsLinked}
+use Rattle.region_cut.proofs.PlaceLemmas.{same_point}
 
 -- the links of the region are exactly its points' being next to each other
 abbrev pub LinksAreNext : Shape → Type 0
@@ -26,12 +27,6 @@ one_place points i j rising li lj e =
         | inr le' ↦ omega arith
       ]
     ]
-
--- a point is its row and column
-same_point : (c p q : ℕ) → p / c ≡ q / c → p % c ≡ q % c → p ≡ q
-same_point c p q row column =
-    let r : p / c * c ≡ q / c * c = ap (λ n. n * c) row in
-    omega (arith, div-add-mod' p c, div-add-mod' q c)
 
 -- the link is the place of the one point that is near
 linked_to : (points : List ℕ) (Near : ℕ → Type 0) (o : Option ℕ) (j : ℕ) → IsStrictlyIncreasing points → IsLink points Near o

@@ -17,7 +17,7 @@ push_more xs x d n Fits long old new =
     (rw (get_or_push xs x d n long) new)
 
 -- a point is its row and column
-same_point : (c p q : ℕ) → p / c ≡ q / c → p % c ≡ q % c → p ≡ q
+pub same_point : (c p q : ℕ) → p / c ≡ q / c → p % c ≡ q % c → p ≡ q
 same_point c p q row column =
     let r : p / c * c ≡ q / c * c = ap (λ n. n * c) row in
     omega (arith, div-add-mod' p c, div-add-mod' q c)
