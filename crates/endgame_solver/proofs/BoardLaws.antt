@@ -91,9 +91,7 @@ module _ (g : Grid) (regions : List Shape) (graphs : List Nodes) (are : AreGraph
 
   deep : (k : ℕ) → k < length regions → 3 ^ length (region_at regions k).cells ≤ 3 ^ 32
   deep k lt =
-      let full = are.full (region_at regions k) (region_in g regions graphs are k lt) in
-      let few : length (region_at regions k).cells ≤ 32 = omega (arith, full, (are.each k lt).few) in
-      let some : 0 < 3 = omega arith in pow-le-pow_right {n = 3} some few
+      let some : 0 < 3 = omega arith in pow-le-pow_right {n = 3} some (are.each k lt).few
 
   -- a depth that is enough for each region
   enough : (n : ℕ) × ((k : ℕ) → k < length regions → 3 ^ length (region_at regions k).cells ≤ n)

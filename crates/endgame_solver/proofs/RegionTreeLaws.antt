@@ -12,7 +12,7 @@ use Rattle.game_store.specs.Order.{◌≡ᵍ◌}
 use Rattle.local_value.specs.Ending.{EndsWithin}
 use Rattle.local_value.specs.LocalGame.{StepsTo, TakesAtMost, tree_within}
 use Rattle.local_value.specs.PositionTree.{IsTreeOf}
-use Rattle.local_value.proofs.GraphLaws.{taken_few}
+use Rattle.local_value.proofs.GraphLaws.{taken_less}
 use Rattle.local_value.proofs.GraphTreeLaws as graph
 use Rattle.local_value.proofs.StepLaws.{steps-out}
 use Rattle.endgame_solver.specs.Regions.{Spot, region_at, graph_at, no_graph, AreGraphs, spot_in, moves_at, HasCells}
@@ -43,8 +43,7 @@ module _ (g : Grid) (regions : List Shape) (graphs : List Nodes) (are : AreGraph
       let s = steps-out Spot (spot_in k) c (edges_at (graph_at graphs k).edges q.place) x among in
       let known = known_region k q.place (node_inside (graph_at graphs k).edges q.place s.among.0 s.among.1) in
       let r = region_at regions k in
-      let few : length r.cells ≤ 32 = omega (arith, are.full r (region_in g regions graphs are k known), (are.each k known).few) in
-      subst (λ y. y.taken ≤ 33) s.is (taken_few r (graph_at graphs k) (are.each k known) few q.place s.edge s.among)
+      subst (λ y. y.taken ≤ 33) s.is (omega (arith, taken_less r (graph_at graphs k) (are.each k known) q.place s.edge s.among, (are.each k known).few))
     where
       known_region : (k i : ℕ) → i < length (graph_at graphs k).edges → k < length regions
       known_region k i lt = elim (cases_lt k (length graphs)) as (λ _. k < length regions) [

@@ -195,3 +195,29 @@ pub sum-refused : (G : Tree) (x : ℤ) (e : FormError) → IsCanonicalTree G →
 sum-refused G x Parts g r = r
 sum-refused G x Bounds g r = λ C k. past-bounds x G g r.0 r.1 r.2 C k
 sum-refused G x (Memory cause) g r = tt
+
+-- nothing is refused where each number stays within the bounds
+pub sum-fits : (Ts : List Tree) (a : ℕ) (x : ℤ) → HaveForms Ts → a < length Ts → IsCanonicalTree (tree_at Ts a) → ((y : ℤ) → IsNumberOf (tree_at Ts a) y → IsInBounds (y +ℤ x)) → IsSumRefusal (tree_at Ts a +ᵍ number_tree x) Bounds → ⊥
+sum-fits Ts a x f l k small refused = at s.0 s.2 w.0 w.1
+  where
+    C : (C : Tree) × IsCanonicalFor (tree_at Ts a +ᵍ number_tree x) C
+    C = canonical_of (tree_at Ts a +ᵍ number_tree x)
+
+    past : HasNumberPastBounds C.0
+    past = refused C.0 C.1
+
+    from : (X : Tree) × IsReached (tree_at Ts a) X × IsCanonicalTree X × IsCanonicalFor (target (Add x) X) past.0
+    from = reached-out (Add x) (tree_at Ts a) C.0 past.0 k C.1 past.2
+
+    s : (i : ℕ) × (i < length Ts) × (from.0 ≡ tree_at Ts i)
+    s = reached-stored Ts f (tree_at Ts a) from.0 from.1 (a, l, refl)
+
+    w : (w : Wanted) × IsMeaning Ts s.0 w × IsWithinBounds w
+    w = f s.0 s.1
+
+    at : (i : ℕ) → from.0 ≡ tree_at Ts i → (w : Wanted) → IsMeaning Ts i w → ⊥
+    at i e (number y) t =
+        let own : from.0 ≡ number_tree y = e ∙ t in
+        past.3 (y +ℤ x) (small y (to-number (tree_at Ts a) y (subst (IsReached (tree_at Ts a)) own from.1)))
+        (shifted-is (Add x) y past.0 (subst (λ z. IsCanonicalFor (target (Add x) z) past.0) own from.3))
+    at i e (options ls rs) t = t.no_number (subst IsNumberTree e (number-from (Add x) from.0 past.0 from.2 from.3 past.1))

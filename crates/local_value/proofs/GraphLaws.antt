@@ -1,13 +1,18 @@
 -- The edges of a graph are the local moves of its positions.
-use Rattle.std.proofs.Common.{ℕ, ◌≡◌, ◌<◌, ◌≤◌, refl, sym, ap, ◌∙◌, subst, arith, List, [], ◌∷◌, ◌++◌, length, get_or, Contains}
-use Rattle.std.proofs.lemmas.List.{get_or_default}
+use Rattle.std.proofs.Common.{ℕ, ◌≡◌, ◌<◌, ◌≤◌, refl, sym, ap, ◌∙◌, subst, arith, List, [], ◌∷◌, ◌++◌, length, get_or, set, Contains}
+use Rattle.std.specs.Prelude.{cond, count_by}
+use Rattle.std.proofs.lemmas.List.{get_or_default, length-set}
 use Rattle.std.proofs.lemmas.List.Elements.{Contains-get_or}
-use Rattle.std.proofs.lemmas.List.Sums.{count_by-le-length}
+use Rattle.std.proofs.lemmas.List.Sums.{count_by-le-length, sum_by-set}
 use Rattle.go_grid.specs.declared.grid.Cell.{Cell}
+use Rattle.go_grid.specs.declared.grid.Cell.TheVariants as cell
 use Rattle.go_grid.specs.declared.grid.Colour.{Colour}
+use Rattle.go_grid.specs.declared.grid.Colour.TheVariants.{Black, White}
+use Rattle.go_grid.specs.Grid.{stone}
+use Rattle.go_grid.specs.Path.{Path}
 use Rattle.go_grid.specs.Region.{Shape}
 use Rattle.local_play.specs.declared.local_move.LocalMove.{LocalMove}
-use Rattle.local_play.specs.LocalPlay.{is_stone, IsLocalMove, IsNumberTaken}
+use Rattle.local_play.specs.LocalPlay.{held_at, Holds, is_stone, IsLocalMove, IsNumberTaken}
 use Rattle.local_play.specs.Packed.{pack}
 use Rattle.local_graph.specs.declared.cycle.CycleMove.{CycleMove}
 use Rattle.local_graph.specs.declared.graph.Edge.{Edge}
@@ -25,6 +30,31 @@ pub record IsEdgeFor (positions : List ℕ) (cells next : List Cell) (c : Colour
   pub leads : get_or positions e.next 0 ≡ pack next
   pub number : IsNumberTaken cells next e.taken
   pub taken : e.taken ≡ n
+
+-- 1 for a stone
+abbrev weight : Cell → ℕ
+weight x = cond (is_stone x) 1 0
+
+-- an empty place is no stone, and a stone is one
+count_free : (cells : List Cell) (p : ℕ) → p < length cells → held_at cells p ≡ cell.Empty → count_by is_stone cells < length cells
+count_free cells p lt free =
+    let one = sum_by-set weight cells p cell.Black cell.Empty lt in
+    let nothing : weight (get_or cells p cell.Empty) ≡ weight cell.Empty = ap weight free in
+    omega (arith, one, nothing, count_by-le-length is_stone (set cells p cell.Black), length-set cells p cell.Black)
+
+is_one : (c : Colour) → 1 ≤ weight (stone c)
+is_one Black = omega arith
+is_one White = omega arith
+
+count_stone : (cells : List Cell) (c : Colour) (p : ℕ) → p < length cells → Holds cells c p → 0 < count_by is_stone cells
+count_stone cells c p lt holds =
+    let one = sum_by-set weight cells p cell.Empty cell.Empty lt in
+    let here : weight (get_or cells p cell.Empty) ≡ weight (stone c) = ap weight holds in
+    omega (arith, one, here, is_one c)
+
+path_start : (Next : ℕ → ℕ → Type 0) (In : ℕ → Type 0) (p q : ℕ) (rest : List ℕ) → Path Next In p rest q → In p
+path_start Next In p q [] w = w.0
+path_start Next In p q (s ∷ rest) w = w.0
 
 module _ (r : Shape) (g : Nodes) (of : IsGraphOf r g) where
   moves_of : (i : ℕ) (cells : List Cell) → IsPlaceOf r g i cells → HasMoves r.touch cells g.positions (edges_at g.edges i)
@@ -91,18 +121,23 @@ module _ (r : Shape) (g : Nodes) (of : IsGraphOf r g) where
         packed = edge.leads;
       }
 
-  -- each place with an edge is that of some position
-  pub cells_at : (k : ℕ) (e : Edge) → Contains (edges_at g.edges k) e → (cells : List Cell) × IsPlaceOf r g k cells
-  cells_at k e (j, lt, at) =
-      let short : k < length g.positions = omega (arith, node_inside g.edges k j lt, of.graph.beside) in
+  -- a place of the graph is that of some position
+  pub position_at : (k : ℕ) → k < length g.positions → (cells : List Cell) × IsPlaceOf r g k cells
+  position_at k short =
       let (cells, reach, packed) = of.graph.reachable (get_or g.positions k 0) (Contains-get_or g.positions k 0 short) in
       (cells, record { inside = short; reachable = reach; packed = packed })
 
-  -- no move takes more than a stone for each place
-  pub taken_few : length r.cells ≤ 32 → (k : ℕ) (e : Edge) → Contains (edges_at g.edges k) e → e.taken ≤ 33
-  taken_few few k e among =
+  -- each place with an edge is that of some position
+  pub cells_at : (k : ℕ) (e : Edge) → Contains (edges_at g.edges k) e → (cells : List Cell) × IsPlaceOf r g k cells
+  cells_at k e (j, lt, at) = position_at k (omega (arith, node_inside g.edges k j lt, of.graph.beside))
+
+  -- a move takes fewer stones than there are places
+  pub taken_less : (k : ℕ) (e : Edge) → Contains (edges_at g.edges k) e → e.taken < length r.cells
+  taken_less k e among =
       let (cells, has) = cells_at k e among in
       let m = move_of k cells e has among in
+      let move = m.1 in
       let long = plays_long r.touch r.cells cells has.reachable.0 has.reachable.1 in
-      let most = count_by-le-length is_stone cells in
-      omega (arith, m.2.number, most, long, few)
+      let free = count_free cells e.place move.place move.free in
+      let stone = count_stone m.0 e.colour e.place (omega (arith, move.place, move.long)) (path_start _ _ e.place move.stands.0 move.stands.1.0 move.stands.1.1) in
+      omega (arith, m.2.number, free, stone, long)

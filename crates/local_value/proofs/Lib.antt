@@ -5,3 +5,9 @@ pub mod ShortLaws
 pub mod StepLaws
 pub mod GraphLaws
 pub mod GraphTreeLaws
+pub mod AfterLaws
+pub mod OptionsLaws
+pub mod PassLaws
+pub mod PassEndLaws
+pub mod CreditLaws
+pub mod PassCallLaws

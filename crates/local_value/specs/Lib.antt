@@ -4,3 +4,5 @@ pub mod PositionTree
 pub mod Laws
 pub mod Values
 pub mod GraphMoves
+pub mod Refusals
+pub mod Valuing

@@ -12,7 +12,7 @@ use Rattle.local_value.specs.PositionTree.{IsValueOf}
 
 -- the graph has exactly the reachable positions of the region and their moves, and no cycle
 pub record IsGraphOf (r : Shape) (g : Nodes) : Type 0 where
-  pub few : length r.points ≤ 32
+  pub few : length r.cells ≤ 32
   pub graph : IsGraph r.touch r.cells g.positions g.edges
   pub order : IsOrder g.edges g.order
   pub no_cycle : HasNoCycle r.touch r.cells

@@ -2,5 +2,11 @@
 #![tactic(auto)]
 
 mod laws;
+#[cfg(test)]
+mod strip;
+#[cfg(test)]
+mod tests;
+mod values;
 
 pub use laws::position_tree_laws;
+pub use values::{Values, value_all};

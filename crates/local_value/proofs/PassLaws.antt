@@ -1,0 +1,182 @@
+-- One pass over the places of a graph, each after those that its moves lead to.
+use Rattle.std.proofs.Common.{ℕ, zero, suc, ◌+◌, ◌-◌, ◌*◌, ◌^◌, ◌≡◌, ◌≢◌, ◌<◌, ◌≤◌, inl, inr, refl, sym, ap, ◌∙◌, subst, arith, ℤ, pos, List, [], ◌∷◌, length, get_or, set, below_more, Contains}
+use Rattle.std.specs.Prelude.{unsigned_abs}
+use Rattle.std.proofs.Math.Nat.{mul-le-mul_right}
+use Rattle.std.proofs.lemmas.Bool.{cases_lt}
+use Rattle.std.proofs.lemmas.Int.{ints}
+use Rattle.std.proofs.lemmas.List.{get_or-set_same, get_or-set_other, length-set}
+use Rattle.go_grid.specs.declared.grid.Cell.{Cell}
+use Rattle.go_grid.specs.declared.grid.Colour.{Colour}
+use Rattle.go_grid.specs.Region.{Shape}
+use Rattle.local_graph.specs.declared.graph.Edge.{Edge}
+use Rattle.local_graph.specs.Nodes.{Nodes, edges_at}
+use Rattle.game_store.specs.Tree.{Tree, node, none, Has}
+use Rattle.game_store.specs.Order.{◌≡ᵍ◌}
+use Rattle.game_store.specs.Sum.{◌+ᵍ◌}
+use Rattle.game_store.specs.TextOrder.{IsCanonicalFor}
+use Rattle.game_store.specs.Meaning.{tree_at, number_tree, Extends}
+use Rattle.game_store.specs.Parts.{HasMoreParts, IsNumberOf}
+use Rattle.game_store.proofs.NumberLaws.{num-zero}
+use Rattle.game_store.proofs.ReductionLaws.{number-canonical}
+use Rattle.game_canon.specs.Outcomes.{IsCanonicalId, AreWithin}
+use Rattle.game_canon.specs.Players.{options, gain}
+use Rattle.game_canon.proofs.NumberParts.{same-canonical}
+use Rattle.game_canon.proofs.PartLaws.{fewer}
+use Rattle.game_canon.proofs.PlayerLaws.{same-path, same-plus, same-refl, same-sym, same-trans}
+use Rattle.game_canon.proofs.Sizes.{own-number}
+use Rattle.local_value.specs.Ending.{EndsWithin}
+use Rattle.local_value.specs.GraphMoves.{step_of, steps_of}
+use Rattle.local_value.specs.LocalGame.{Step, StepsTo, tree_within}
+use Rattle.local_value.specs.Values.{IsGraphOf, IsPlaceOf}
+use Rattle.local_value.specs.Valuing.{noted, IsNoted, tree_after, IsWithinAfter, AreWithinAfter, HasEdges}
+use Rattle.local_value.proofs.GraphLaws.{position_at, taken_less}
+use Rattle.local_value.proofs.GraphTreeLaws.{place_ends}
+use Rattle.local_value.proofs.LocalLaws.{move-option, option-move}
+use Rattle.local_value.proofs.OptionsLaws.{no-edges}
+use Rattle.local_value.proofs.StepLaws.{steps-in, steps-out}
+
+-- the edges of a place as steps, and the tree of the place, cut off after n moves
+abbrev pub edge_steps : Nodes → Colour → ℕ → List (Step ℕ)
+edge_steps g c i = steps_of ℕ (λ j. j) c (edges_at g.edges i)
+
+abbrev pub graph_tree : Nodes → ℕ → ℕ → Tree
+graph_tree g n i = tree_within ℕ (edge_steps g) n i
+
+abbrev pub place : Nodes → ℕ → ℕ
+place g k = get_or g.order k 0
+
+-- so large are the numbers of the value of the k-th place at most
+abbrev pub most : Shape → ℕ → ℕ
+most r k = (suc k * length r.cells) * 2 ^ 60
+
+-- the id that is noted for the k-th place is that of its value
+pub record IsValued (r : Shape) (g : Nodes) (limit : ℕ) (Ts : List Tree) (ids : List ℕ) (k : ℕ) : Type 0 where
+  pub known : get_or ids (place g k) 0 < length Ts
+  pub canonical : (n : ℕ) → 3 ^ length r.cells ≤ n → IsCanonicalFor (graph_tree g n (place g k)) (noted Ts ids (place g k))
+  pub sizes : AreWithin (most r k) (noted Ts ids (place g k))
+  pub parts : HasMoreParts (noted Ts ids (place g k)) limit → ⊥
+
+-- the pass over the first k places
+pub record IsPass (r : Shape) (g : Nodes) (limit : ℕ) (Ts : List Tree) (ids : List ℕ) (k : ℕ) : Type 0 where
+  pub long : length ids ≡ length g.positions
+  pub each : (j : ℕ) → j < k → IsValued r g limit Ts ids j
+
+pub pass-start : (r : Shape) (g : Nodes) (limit : ℕ) (Ts : List Tree) (ids : List ℕ) → length ids ≡ length g.positions → IsPass r g limit Ts ids 0
+pass-start r g limit Ts ids e = record { long = e; each = λ j lt. absurd (omega (arith, lt)) }
+
+-- sums of sizes
+room : (j k c t x : ℕ) → j < k → t < c → x ≤ (suc j * c) * 2 ^ 60 → x + t * 2 ^ 60 ≤ (k * c + (c - 1)) * 2 ^ 60
+room j k c t x lt less le = let m : suc j * c ≤ k * c = mul-le-mul_right c (omega (arith, lt)) in omega (arith, m, le, less)
+
+module _ (r : Shape) (g : Nodes) (of : IsGraphOf r g) (limit : ℕ) where
+  pub place_inside : (k : ℕ) → k < length g.order → place g k < length g.positions
+  place_inside k lt = omega (arith, of.order.inside k lt, of.graph.beside)
+
+  -- places are as many as positions at most
+  pub order_short : length g.order ≤ length g.positions
+  order_short =
+      let le = fewer (length g.order) (length g.edges) (λ j i. get_or g.order j 0 ≡ i) (λ j lt. (get_or g.order j 0, of.order.inside j lt, refl)) one in
+      omega (arith, le, of.graph.beside)
+    where
+      apart : (i j : ℕ) → i < j → j < length g.order → get_or g.order i 0 ≢ get_or g.order j 0
+      apart i j lt lj = of.order.once i j 0 lt lj
+
+      one : (i j k : ℕ) → i < length g.order → j < length g.order → get_or g.order i 0 ≡ k → get_or g.order j 0 ≡ k → i ≡ j
+      one i j k li lj e f = elim (cases_lt i j) [
+        | inl lt ↦ absurd (apart i j lt lj (e ∙ sym f))
+        | inr ge ↦ elim (cases_lt j i) [ inl lt ↦ absurd (apart j i lt li (f ∙ sym e)) | inr le ↦ omega (arith, ge, le) ]
+      ]
+
+  module _ (Ts : List Tree) (ids : List ℕ) (k : ℕ) (pass : IsPass r g limit Ts ids k) (lt : k < length g.order) where
+    -- an edge of the place leads to an earlier one
+    earlier : (e : Edge) → Contains (edges_at g.edges (place g k)) e → (j : ℕ) × (j < k) × (place g j ≡ e.next)
+    earlier e among = of.order.ends_first k e lt among
+
+    pub edges_noted : (e : Edge) → Contains (edges_at g.edges (place g k)) e → IsNoted Ts ids e.next
+    edges_noted e among =
+        let (j, before, at) = earlier e among in
+        subst (IsNoted Ts ids) at (omega (arith, place_inside j (omega (arith, before, lt)), pass.long), (pass.each j before).known)
+
+    pub edges_within : AreWithinAfter ((k * length r.cells + (length r.cells - 1)) * 2 ^ 60) Ts ids (edges_at g.edges (place g k))
+    edges_within e among x n =
+        let (j, before, at) = earlier e among in
+        let size = (pass.each j before).sizes x (subst (λ i. IsNumberOf (noted Ts ids i) x) (sym at) n) in
+        room j k (length r.cells) e.taken (unsigned_abs x) before (taken_less r g of (place g k) e among) size
+
+    next_same : (n : ℕ) → 3 ^ length r.cells ≤ n → (e : Edge) → Contains (edges_at g.edges (place g k)) e → graph_tree g n e.next ≡ᵍ noted Ts ids e.next
+    next_same n deep e among =
+        let (j, before, at) = earlier e among in
+        let c = (pass.each j before).canonical n deep in
+        subst (λ i. graph_tree g n i ≡ᵍ noted Ts ids i) at (c.under, c.over)
+
+    ends : (n : ℕ) → 3 ^ length r.cells ≤ n → EndsWithin ℕ (StepsTo ℕ (edge_steps g)) n (place g k)
+    ends n deep =
+        let (cells, has) = position_at r g of (place g k) (place_inside k lt) in
+        place_ends ℕ (λ j. j) (edge_steps g) r g of (λ c i. refl) n (place g k) cells has deep
+
+    -- the options of the place's tree are those after its edges
+    pub has_edges : (n : ℕ) → 3 ^ length r.cells ≤ n → HasEdges Ts ids (edges_at g.edges (place g k)) (graph_tree g n (place g k))
+    has_edges n deep = record { from = out; to = back }
+      where
+        out : (c : Colour) (X : Tree) → Has (options c (graph_tree g n (place g k))) X → (e : Edge) × Contains (edges_at g.edges (place g k)) e × (e.colour ≡ c) × (X ≡ᵍ tree_after Ts ids e)
+        out c X h =
+            let (x, among, is) = option-move ℕ (edge_steps g) c n (place g k) X (ends n deep) h in
+            let s = steps-out ℕ (λ j. j) c (edges_at g.edges (place g k)) x among in
+            let there : X ≡ graph_tree g n s.edge.next +ᵍ gain s.edge.colour s.edge.taken = is ∙ ap (λ y. graph_tree g n y.to +ᵍ gain c y.taken) (sym s.is) ∙ ap (λ d. graph_tree g n s.edge.next +ᵍ gain d s.edge.taken) (sym s.colour) in
+            (s.edge, s.among, s.colour, same-trans _ _ _ (same-path _ _ there) (same-plus _ _ _ _ (next_same n deep s.edge s.among) (same-refl (gain s.edge.colour s.edge.taken))))
+
+        back : (e : Edge) → Contains (edges_at g.edges (place g k)) e → (X : Tree) × Has (options e.colour (graph_tree g n (place g k))) X × (X ≡ᵍ tree_after Ts ids e)
+        back e among = (
+          graph_tree g n e.next +ᵍ gain e.colour e.taken,
+          move-option ℕ (edge_steps g) e.colour n (place g k) (step_of ℕ (λ j. j) e) (ends n deep) (steps-in ℕ (λ j. j) e.colour (edges_at g.edges (place g k)) e among refl),
+          same-plus _ _ _ _ (next_same n deep e among) (same-refl (gain e.colour e.taken)),
+        )
+
+    module _ (Us : List Tree) (id : ℕ) (kept : Extends Ts Us)
+        (value : (G : Tree) → HasEdges Ts ids (edges_at g.edges (place g k)) G → IsCanonicalId Us G id)
+        (sizes : (b : ℕ) → AreWithinAfter b Ts ids (edges_at g.edges (place g k)) → AreWithin (b + 2 ^ 60) (tree_at Us id))
+        (parts : HasMoreParts (tree_at Us id) limit → ⊥) where
+      -- the numbers of a place without edges are 0, and a place with one has a point
+      within : AreWithin (most r k) (tree_at Us id)
+      within x n = at (edges_at g.edges (place g k)) refl
+        where
+          at : (es : List Edge) → edges_at g.edges (place g k) ≡ es → unsigned_abs x ≤ most r k
+          at [] e =
+              let none' = value (node none none) (subst (λ z. HasEdges Ts ids z (node none none)) (sym e) (no-edges Ts ids)) in
+              let zero' : IsCanonicalFor (number_tree (pos 0)) (tree_at Us id) = subst (λ t. IsCanonicalFor t (tree_at Us id)) (sym (num-zero 60)) none'.1 in
+              let own = own-number (tree_at Us id) (pos 0) x (zero-tree zero') n in
+              omega (arith, ints, own)
+            where
+              zero-tree : IsCanonicalFor (number_tree (pos 0)) (tree_at Us id) → tree_at Us id ≡ number_tree (pos 0)
+              zero-tree k = same-canonical (number_tree (pos 0)) _ _ k record { canonical = number-canonical 60 (pos 0); under = (same-refl (number_tree (pos 0))).0; over = (same-refl (number_tree (pos 0))).1 }
+          at (e ∷ es) same =
+              let some = taken_less r g of (place g k) e (subst (λ z. Contains z e) (sym same) (0, omega arith, refl)) in
+              let size = sizes _ edges_within x n in
+              omega (arith, some, size)
+
+      now : IsValued r g limit Us (set ids (place g k) id) k
+      now =
+          let e : get_or (set ids (place g k) id) (place g k) 0 ≡ id = get_or-set_same ids (place g k) id 0 (omega (arith, place_inside k lt, pass.long)) in
+          let same : noted Us (set ids (place g k) id) (place g k) ≡ tree_at Us id = ap (tree_at Us) e in record {
+            known = omega (arith, e, (value _ (has_edges (3 ^ length r.cells) (omega arith))).0);
+            canonical = λ n deep. subst (IsCanonicalFor (graph_tree g n (place g k))) (sym same) (value _ (has_edges n deep)).1;
+            sizes = subst (AreWithin (most r k)) (sym same) within;
+            parts = subst (λ t. HasMoreParts t limit → ⊥) (sym same) parts;
+          }
+
+      before : (j : ℕ) → j < k → IsValued r g limit Us (set ids (place g k) id) j
+      before j less =
+          let v = pass.each j less in
+          let e : get_or (set ids (place g k) id) (place g j) 0 ≡ get_or ids (place g j) 0 = get_or-set_other ids (place g k) (place g j) id 0 (of.order.once j k 0 less lt) in
+          let same : noted Us (set ids (place g k) id) (place g j) ≡ noted Ts ids (place g j) = ap (tree_at Us) e ∙ kept.same (get_or ids (place g j) 0) v.known in record {
+            known = omega (arith, e, v.known, kept.longer);
+            canonical = λ n deep. subst (IsCanonicalFor (graph_tree g n (place g j))) (sym same) (v.canonical n deep);
+            sizes = subst (AreWithin (most r j)) (sym same) v.sizes;
+            parts = subst (λ t. HasMoreParts t limit → ⊥) (sym same) v.parts;
+          }
+
+      pub pass-step : IsPass r g limit Us (set ids (place g k) id) (k + 1)
+      pass-step = record {
+        long = length-set ids (place g k) id ∙ pass.long;
+        each = below_more (IsValued r g limit Us (set ids (place g k) id)) k before now;
+      }

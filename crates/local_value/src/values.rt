@@ -1,0 +1,191 @@
+//! The values of all positions of a graph.
+
+ghost use Rattle.std.specs.Prelude.{ℕ, ◌≡◌, ◌↔◌, ◌<◌, ◌≤◌, ◌+◌, ◌-◌, ◌*◌, ◌*ℤ◌, ◌^◌, pos, List, length, slice_index, IfOk, IfErr, OnOk, Contains, true};
+ghost use Rattle.go_grid.specs.Region.{Shape};
+ghost use Rattle.game_store.specs.Tree.{Tree};
+ghost use Rattle.game_store.specs.Meaning.{tree_at, Extends};
+ghost use Rattle.game_store.specs.Parts.{HasMoreParts};
+ghost use Rattle.game_canon.specs.Changes.{HasNumberPastBounds};
+ghost use Rattle.game_canon.specs.Outcomes.{IsCanonicalId, IsCause, AreWithin};
+ghost use Rattle.game_canon.specs.Players.{credit};
+ghost use Rattle.local_value.specs.Refusals.{IsValueRefusal};
+ghost use Rattle.local_value.specs.Values.{IsGraphOf, AreValues};
+ghost use Rattle.local_value.specs.Valuing.{IsNoted, IsWithinAfter, AreWithinAfter, IsAfter, AreAfter, HasEdges};
+
+use dyadic_num::Dyadic;
+use game_canon::{FormError, add_number, canonical};
+use game_store::{GameId, Store};
+use go_grid::Colour;
+use local_graph::{Edge, Graph};
+use std::alloc::{AllocError, Global};
+use std::marker::Model;
+
+/// Ids of a store, one for each position of a graph.
+#[derive(Debug, Drop)]
+pub struct Values {
+    ids: Vec<GameId>,
+}
+
+impl Model for Values {
+    ghost use Rattle.std.specs.Prelude.{ℕ, List};
+
+    ghost Value = { List ℕ };
+
+    ghost view = { λ v. v.ids.items };
+}
+
+impl Values {
+    ghost use Rattle.std.specs.Prelude.{◌≡◌, [], ◌∷◌, ◌++◌, OnOk, OnErr};
+
+    /// No ids.
+    pub fn new(alloc: Global) -> Self
+        ensures { result ≡ [] }
+    {
+        Values {
+            ids: Vec::new(alloc),
+        }
+    }
+
+    /// Appends the id of one more position, or leaves the list as it was where memory is refused.
+    pub fn push(&mut self, id: GameId) -> Result<(), AllocError>
+        ensures ok { OnOk result (self.new ≡ self.old ++ id ∷ []) }
+        ensures err { OnErr result (self.new ≡ self.old) }
+    {
+        self.ids.push(id)?;
+        Ok(())
+    }
+
+    /// The ids by place.
+    pub fn as_slice(&self) -> &[GameId]
+        ensures { result.now ≡ self.now }
+    {
+        &self.ids
+    }
+}
+
+/// Whether the edge is the player's.
+fn is_move_of(edge: &Edge, player: Colour) -> bool
+    ensures { (result ≡ true) ↔ (edge.now.colour ≡ player) }
+{
+    edge.colour == player
+}
+
+/// So many stones to the good of the player.
+fn credit(player: Colour, stones: u8) -> Dyadic
+    ensures { result ≡ credit player stones *ℤ pos (2 ^ 60) }
+{
+    let stones = i32::from(stones);
+    match player {
+        Colour::Black => Dyadic::whole(stones),
+        Colour::White => Dyadic::whole(-stones),
+    }
+}
+
+/// The value after an edge: that of the position that it leads to, with the stones that it takes.
+fn value_after(
+    alloc: Global,
+    store: &mut Store,
+    ids: &[GameId],
+    edge: &Edge,
+) -> Result<GameId, AllocError>
+    requires noted { IsNoted store.old ids.now edge.now.next }
+    requires small { IsWithinAfter (2 ^ 120 - 1) store.old ids.now edge.now }
+    ensures value { IfOk result (λ id. IsAfter store.old store.new ids.now edge.now id) }
+    ensures kept { Extends store.old store.new }
+{
+    let _count = store.len();
+    let taken = credit(edge.colour, edge.taken);
+    match add_number(alloc, store, ids[edge.next], taken) {
+        Ok(id) => Ok(id),
+        Err(FormError::Memory(cause)) => Err(cause),
+        Err(FormError::Parts) => unreachable!(),
+        Err(FormError::Bounds) => unreachable!(),
+    }
+}
+
+/// Puts the values after the player's edges into `options`.
+fn list_options(
+    alloc: Global,
+    store: &mut Store,
+    ids: &[GameId],
+    edges: &[Edge],
+    player: Colour,
+    options: &mut Vec<GameId>,
+) -> Result<(), AllocError>
+    requires noted { (e : Edge) → Contains edges.now e → IsNoted store.old ids.now e.next }
+    requires small { AreWithinAfter (2 ^ 120 - 1) store.old ids.now edges.now }
+    ensures options { OnOk result (AreAfter store.old store.new ids.now player edges.now options.new.items) }
+    ensures kept { Extends store.old store.new }
+{
+    options.clear();
+    for edge in edges {
+        if !is_move_of(edge, player) {
+            continue;
+        }
+        let after = value_after(alloc, store, ids, edge)?;
+        options.push(after)?;
+    }
+    Ok(())
+}
+
+/// The options of a position, by player.
+#[derive(Drop)]
+struct Options {
+    left: Vec<GameId>,
+    right: Vec<GameId>,
+}
+
+/// The value of a position with these edges. The options' lists are only room to work in.
+fn value_of(
+    alloc: Global,
+    store: &mut Store,
+    ids: &[GameId],
+    edges: &[Edge],
+    options: &mut Options,
+    parts_limit: u32,
+) -> Result<GameId, FormError>
+    requires noted { (e : Edge) → Contains edges.now e → IsNoted store.old ids.now e.next }
+    requires small { AreWithinAfter (2 ^ 120 - 1) store.old ids.now edges.now }
+    ensures value { IfOk result (λ id. (G : Tree) → HasEdges store.old ids.now edges.now G → IsCanonicalId store.new G id) }
+    ensures parts { IfOk result (λ id. HasMoreParts (tree_at store.new id) parts_limit → ⊥) }
+    ensures sizes { IfOk result (λ id. (b : ℕ) → AreWithinAfter b store.old ids.now edges.now → AreWithin (b + 2 ^ 60) (tree_at store.new id)) }
+    ensures refusal { IfErr result (λ error. (G : Tree) → HasEdges store.old ids.now edges.now G → IsCause G parts_limit error) }
+    ensures kept { Extends store.old store.new }
+{
+    list_options(alloc, store, ids, edges, Colour::Black, &mut options.left)?;
+    list_options(alloc, store, ids, edges, Colour::White, &mut options.right)?;
+    canonical(alloc, store, &options.left, &options.right, parts_limit)
+}
+
+/// The values of all positions of a graph, as ids by place: the canonical forms of their trees, to each option of which the
+/// stones that its move takes are added for the player who takes them. `Parts` where a value is no number and has more
+/// than `parts_limit` parts, and `Bounds` where a number of a value is past the bounds of a `Dyadic`. Every id of the store
+/// keeps its form, whatever the answer.
+pub fn value_all(
+    alloc: Global,
+    graph: &Graph,
+    store: &mut Store,
+    parts_limit: u32,
+) -> Result<Values, FormError>
+    requires graph { (r : Shape) × IsGraphOf r graph.now }
+    requires few { length graph.now.positions ≤ 1000000 }
+    ensures values { IfOk result (λ values. (r : Shape) → IsGraphOf r graph.now → AreValues r graph.now store.new values) }
+    ensures sizes { IfOk result (λ values. (r : Shape) → IsGraphOf r graph.now → (i : ℕ) → i < length values → AreWithin ((length graph.now.positions * length r.cells) * 2 ^ 60) (tree_at store.new (slice_index values i))) }
+    ensures parts { IfOk result (λ values. (i : ℕ) → i < length values → HasMoreParts (tree_at store.new (slice_index values i)) parts_limit → ⊥) }
+    ensures bounds { IfOk result (λ values. (i : ℕ) → i < length values → HasNumberPastBounds (tree_at store.new (slice_index values i)) → ⊥) }
+    ensures refusal { IfErr result (λ error. (r : Shape) → IsGraphOf r graph.now → IsValueRefusal r graph.now parts_limit error) }
+    ensures kept { Extends store.old store.new }
+{
+    let mut ids = vec![in alloc; 0; graph.len()]?;
+    let mut options = Options {
+        left: Vec::new(alloc),
+        right: Vec::new(alloc),
+    };
+    'valuing: for place in graph.order() {
+        let edges = graph.edges(*place);
+        let id = value_of(alloc, store, &ids, edges, &mut options, parts_limit)?;
+        ids[*place] = id;
+    }
+    let _count = store.len();
+    Ok(Values { ids })
+}
