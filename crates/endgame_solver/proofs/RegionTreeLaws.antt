@@ -16,7 +16,6 @@ use Rattle.local_value.proofs.GraphLaws.{taken_less}
 use Rattle.local_value.proofs.GraphTreeLaws as graph
 use Rattle.local_value.proofs.StepLaws.{steps-out}
 use Rattle.endgame_solver.specs.Regions.{Spot, region_at, graph_at, no_graph, AreGraphs, spot_in, moves_at, HasCells}
-use Rattle.endgame_solver.proofs.RegionPlayLaws.{region_in}
 
 module _ (g : Grid) (regions : List Shape) (graphs : List Nodes) (are : AreGraphs g regions graphs) where
   -- a region's place by its number

@@ -1,5 +1,5 @@
 -- The ids after the edges of a place, as the store grows.
-use Rattle.std.proofs.Common.{ℕ, ◌+◌, ◌-◌, ◌*◌, ◌^◌, ◌≡◌, ◌<◌, ◌≤◌, ◌⊎◌, inl, inr, refl, sym, ap, ◌∙◌, subst, arith, List, [], ◌∷◌, ◌++◌, length, get_or, take, Contains}
+use Rattle.std.proofs.Common.{ℕ, ◌+◌, ◌≡◌, ◌<◌, ◌≤◌, ◌⊎◌, inl, inr, refl, sym, ap, ◌∙◌, subst, arith, List, [], ◌∷◌, ◌++◌, length, get_or, take, Contains}
 use Rattle.std.proofs.lemmas.Bool.{cases_lt}
 use Rattle.std.proofs.lemmas.List.{length-append, get_or_append_left, get_or_push, take_all, take_more}
 use Rattle.std.proofs.lemmas.List.Elements.{Contains-append_left, Contains-get_or, Contains-push, Contains-push_cases}
@@ -105,7 +105,8 @@ module _ (Ts Us : List Tree) (ids : List ℕ) (c : Colour) (es : List Edge) (n :
     pub step-within : (b : ℕ) → AreWithinAfter b Ts ids es → IsWithinAfter b Us ids e
     step-within b small = within-on Ts Us ids e b w.kept (noted e edge_among) (small e edge_among)
 
-  pub listing-push : (Vs : List Tree) (id : ℕ) (more : List ℕ) → e.colour ≡ c → Extends Us Vs → ((d : Edge) → Contains es d → IsNoted Ts ids d.next) → IsAfter Us Vs ids e id → more ≡ afters ++ id ∷ [] → IsListing Ts Vs ids c es (n + 1) more
+  pub listing-push : (Vs : List Tree) (id : ℕ) (more : List ℕ) → e.colour ≡ c → Extends Us Vs → ((d : Edge) → Contains es d → IsNoted Ts ids d.next)
+      → IsAfter Us Vs ids e id → more ≡ afters ++ id ∷ [] → IsListing Ts Vs ids c es (n + 1) more
   listing-push Vs id more same x noted a grown =
       let here = after-from Ts Us Vs ids e id w.kept (noted e edge_among) a in
       let old = all-kept Ts Us Vs ids c (take n es) afters x w.so_far in

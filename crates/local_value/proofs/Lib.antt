@@ -4,6 +4,7 @@ pub mod DepthLaws
 pub mod ShortLaws
 pub mod StepLaws
 pub mod GraphLaws
+pub mod BuiltLaws
 pub mod GraphTreeLaws
 pub mod AfterLaws
 pub mod OptionsLaws

@@ -1,20 +1,20 @@
 -- The form of the ids after the edges of a place, and what it shares with each tree of the same edges.
-use Rattle.std.proofs.Common.{ℕ, ◌^◌, ◌<◌, ◌≤◌, ◌≡◌, inl, inr, refl, sym, subst, arith, ℤ, List, [], length, get_or, Contains}
+use Rattle.std.proofs.Common.{ℕ, ◌<◌, ◌≡◌, inl, inr, refl, sym, subst, arith, List, [], length, get_or, Contains}
 use Rattle.go_grid.specs.declared.grid.Colour.{Colour}
 use Rattle.go_grid.specs.declared.grid.Colour.TheVariants.{Black, White}
 use Rattle.local_graph.specs.declared.graph.Edge.{Edge}
 use Rattle.game_store.specs.Tree.{Tree, node, none, Has}
-use Rattle.game_store.specs.Order.{◌≤ᵍ◌, ◌≡ᵍ◌}
+use Rattle.game_store.specs.Order.{◌≡ᵍ◌}
 use Rattle.game_store.specs.Number.{IsNumber}
 use Rattle.game_store.specs.TextOrder.{IsCanonicalFor}
-use Rattle.game_store.specs.Meaning.{tree_at, pick, listed, AreIds, Extends}
-use Rattle.game_store.specs.Parts.{IsOption, IsNumberOf}
+use Rattle.game_store.specs.Meaning.{tree_at, listed, AreIds, Extends}
+use Rattle.game_store.specs.Parts.{IsOption}
 use Rattle.game_store.proofs.OrderLaws.{le-trans}
 use Rattle.game_store.proofs.Values.{has-pick, pick-has}
 use Rattle.game_canon.specs.declared.errors.FormError.{FormError}
 use Rattle.game_canon.specs.declared.errors.FormError.TheVariants.{Parts, Bounds, Memory}
 use Rattle.game_canon.specs.Outcomes.{IsCanonicalId, IsCause, AreWithin, AreOptionsWithin}
-use Rattle.game_canon.specs.Players.{options, gain}
+use Rattle.game_canon.specs.Players.{options}
 use Rattle.game_canon.proofs.PlayerLaws.{same-path, same-sym, same-trans}
 use Rattle.local_value.specs.Valuing.{IsNoted, tree_after, AreWithinAfter, IsAfter, AreAfter, HasEdges}
 use Rattle.local_value.proofs.AfterLaws.{after-ids, all-from, all-kept}
@@ -73,15 +73,15 @@ module _ (Ts Us : List Tree) (ids ls rs : List ℕ) (es : List Edge) (a : AreBot
   pub edges-same : (G : Tree) → HasEdges Ts ids es G → listed Us ls rs ≡ᵍ G
   edges-same G has = same_options (listed Us ls rs) G
       (λ c X h. (
-        let f = listed-out c X h in
-        let t = has.to f.0 f.1 in
-        (t.0, subst (λ d. Has (options d G) t.0) f.2 t.1, same-trans _ _ _ (same-sym _ _ f.3) (same-sym _ _ t.2))
-        ))
+      let f = listed-out c X h in
+      let t = has.to f.0 f.1 in
+      (t.0, subst (λ d. Has (options d G) t.0) f.2 t.1, same-trans _ _ _ (same-sym _ _ f.3) (same-sym _ _ t.2))
+      ))
       (λ c Y h. (
-        let f = has.from c Y h in
-        let t = listed-in f.0 f.1 in
-        (t.0, subst (λ d. Has (options d (listed Us ls rs)) t.0) f.2 t.1, same-trans _ _ _ t.2 (same-sym _ _ f.3))
-        ))
+      let f = has.from c Y h in
+      let t = listed-in f.0 f.1 in
+      (t.0, subst (λ d. Has (options d (listed Us ls rs)) t.0) f.2 t.1, same-trans _ _ _ t.2 (same-sym _ _ f.3))
+      ))
 
   pub options-within : (m : ℕ) → AreWithinAfter m Ts ids es → AreOptionsWithin m (listed Us ls rs)
   options-within m w L o = at o

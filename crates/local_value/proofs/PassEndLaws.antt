@@ -1,24 +1,20 @@
 -- What a pass over all places of a graph gives, and what a refusal on the way means.
-use Rattle.std.proofs.Common.{ℕ, suc, ◌*◌, ◌^◌, ◌≡◌, ◌<◌, ◌≤◌, inl, refl, sym, ap, ◌∙◌, subst, arith, ℤ, List, length, get_or, Contains}
+use Rattle.std.proofs.Common.{ℕ, suc, ◌*◌, ◌^◌, ◌≡◌, ◌<◌, ◌≤◌, inl, refl, sym, ◌∙◌, subst, arith, List, length, get_or}
 use Rattle.std.proofs.Math.Nat.{mul-le-mul_right}
 use Rattle.std.proofs.lemmas.List.{get_or_default}
 use Rattle.go_grid.specs.declared.grid.Cell.{Cell}
 use Rattle.go_grid.specs.Region.{Shape}
 use Rattle.local_graph.specs.Nodes.{Nodes, edges_at}
 use Rattle.local_graph.proofs.PlayLemmas.{plays_long}
-use Rattle.dyadic_num.specs.Units.{IsInBounds}
 use Rattle.game_store.specs.Tree.{Tree}
 use Rattle.game_store.specs.Order.{◌≤ᵍ◌}
-use Rattle.game_store.specs.Number.{IsNumber}
 use Rattle.game_store.specs.TextOrder.{TextBefore, IsCanonicalFor}
-use Rattle.game_store.specs.Meaning.{number_tree}
 use Rattle.game_store.specs.Parts.{HasMoreParts, IsNumberOf}
 use Rattle.game_store.proofs.Existence.{canon}
 use Rattle.game_store.proofs.TextOrderLaws.{text-order}
 use Rattle.game_canon.specs.declared.errors.FormError.{FormError}
 use Rattle.game_canon.specs.declared.errors.FormError.TheVariants.{Parts, Bounds, Memory}
 use Rattle.game_canon.specs.Outcomes.{IsCause, AreWithin}
-use Rattle.game_canon.specs.Changes.{HasNumberPastBounds}
 use Rattle.game_canon.proofs.ChangeLaws.{tree-number}
 use Rattle.game_canon.proofs.Finish.{made-no_number}
 use Rattle.local_value.specs.PositionTree.{IsValueOf}
@@ -76,12 +72,17 @@ module _ (r : Shape) (g : Nodes) (of : IsGraphOf r g) (limit : ℕ) where
 
   refusal : (i : ℕ) (G V : Tree) (e : FormError) → IsValueAt r g i V → IsCanonicalFor G V → IsCause G limit e → IsValueRefusal r g limit e
   refusal i G V Parts at k w = (i, V, at, made-no_number G V w.0 k, w.1 V k)
-  refusal i G V Bounds at k w = (i, V, at, (
+  refusal i G V Bounds at k w = (
+    i,
     V,
-    tree-number V k.canonical (number-as G V (k.under, k.over) w.0),
-    inl refl,
-    λ u b e. w.1 u b (subst (λ t. G ≤ᵍ t) e k.under) (subst (λ t. t ≤ᵍ G) e k.over),
-  ))
+    at,
+    (
+      V,
+      tree-number V k.canonical (number-as G V (k.under, k.over) w.0),
+      inl refl,
+      λ u b e. w.1 u b (subst (λ t. G ≤ᵍ t) e k.under) (subst (λ t. t ≤ᵍ G) e k.over),
+    ),
+  )
   refusal i G V (Memory cause) at k w = tt
 
   -- a place's form is refused for its value

@@ -1,11 +1,10 @@
 -- One pass over the places of a graph, each after those that its moves lead to.
-use Rattle.std.proofs.Common.{ℕ, zero, suc, ◌+◌, ◌-◌, ◌*◌, ◌^◌, ◌≡◌, ◌≢◌, ◌<◌, ◌≤◌, inl, inr, refl, sym, ap, ◌∙◌, subst, arith, ℤ, pos, List, [], ◌∷◌, length, get_or, set, below_more, Contains}
+use Rattle.std.proofs.Common.{ℕ, suc, ◌+◌, ◌-◌, ◌*◌, ◌^◌, ◌≡◌, ◌≢◌, ◌<◌, ◌≤◌, inl, inr, refl, sym, ap, ◌∙◌, subst, arith, pos, List, [], ◌∷◌, length, get_or, set, below_more, Contains}
 use Rattle.std.specs.Prelude.{unsigned_abs}
 use Rattle.std.proofs.Math.Nat.{mul-le-mul_right}
 use Rattle.std.proofs.lemmas.Bool.{cases_lt}
 use Rattle.std.proofs.lemmas.Int.{ints}
 use Rattle.std.proofs.lemmas.List.{get_or-set_same, get_or-set_other, length-set}
-use Rattle.go_grid.specs.declared.grid.Cell.{Cell}
 use Rattle.go_grid.specs.declared.grid.Colour.{Colour}
 use Rattle.go_grid.specs.Region.{Shape}
 use Rattle.local_graph.specs.declared.graph.Edge.{Edge}
@@ -22,13 +21,13 @@ use Rattle.game_canon.specs.Outcomes.{IsCanonicalId, AreWithin}
 use Rattle.game_canon.specs.Players.{options, gain}
 use Rattle.game_canon.proofs.NumberParts.{same-canonical}
 use Rattle.game_canon.proofs.PartLaws.{fewer}
-use Rattle.game_canon.proofs.PlayerLaws.{same-path, same-plus, same-refl, same-sym, same-trans}
+use Rattle.game_canon.proofs.PlayerLaws.{same-path, same-plus, same-refl, same-trans}
 use Rattle.game_canon.proofs.Sizes.{own-number}
 use Rattle.local_value.specs.Ending.{EndsWithin}
 use Rattle.local_value.specs.GraphMoves.{step_of, steps_of}
 use Rattle.local_value.specs.LocalGame.{Step, StepsTo, tree_within}
-use Rattle.local_value.specs.Values.{IsGraphOf, IsPlaceOf}
-use Rattle.local_value.specs.Valuing.{noted, IsNoted, tree_after, IsWithinAfter, AreWithinAfter, HasEdges}
+use Rattle.local_value.specs.Values.{IsGraphOf}
+use Rattle.local_value.specs.Valuing.{noted, IsNoted, tree_after, AreWithinAfter, HasEdges}
 use Rattle.local_value.proofs.GraphLaws.{position_at, taken_less}
 use Rattle.local_value.proofs.GraphTreeLaws.{place_ends}
 use Rattle.local_value.proofs.LocalLaws.{move-option, option-move}

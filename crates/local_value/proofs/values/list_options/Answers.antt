@@ -7,10 +7,12 @@ pub loop-edge-init : goal.loop-edge-init
 loop-edge-init c = listing-start c.args.store.now c.args.ids.now c.args.player c.args.edges.now c.clear.new.self.items c.clear.ensures.items
 
 pub value_after-requires-clause-noted : goal.value_after-requires-clause-noted
-value_after-requires-clause-noted c = step-noted c.args.store.now c.loop-edge.store c.args.ids.now c.args.player c.args.edges.now c.loop-edge.edge-index c.loop-edge.options.items c.loop-edge-test.true c.loop-edge.invariant c.requires.noted
+value_after-requires-clause-noted c = step-noted c.args.store.now c.loop-edge.store c.args.ids.now c.args.player c.args.edges.now c.loop-edge.edge-index c.loop-edge.options.items c.loop-edge-test.true c.loop-edge.invariant
+    c.requires.noted
 
 pub value_after-requires-clause-small : goal.value_after-requires-clause-small
-value_after-requires-clause-small c = step-within c.args.store.now c.loop-edge.store c.args.ids.now c.args.player c.args.edges.now c.loop-edge.edge-index c.loop-edge.options.items c.loop-edge-test.true c.loop-edge.invariant c.requires.noted (2 ^ 120 - 1) c.requires.small
+value_after-requires-clause-small c = step-within c.args.store.now c.loop-edge.store c.args.ids.now c.args.player c.args.edges.now c.loop-edge.edge-index c.loop-edge.options.items c.loop-edge-test.true c.loop-edge.invariant
+    c.requires.noted (2 ^ 120 - 1) c.requires.small
 
 pub loop-edge-preserved-then-not-is_move_of : goal.loop-edge-preserved-then-not-is_move_of
 loop-edge-preserved-then-not-is_move_of c = listing-skip c.args.store.now c.loop-edge.store c.args.ids.now c.args.player c.args.edges.now c.loop-edge.edge-index c.loop-edge.options.items c.loop-edge-test.true c.loop-edge.invariant

@@ -1,5 +1,4 @@
 use Rattle.std.proofs.Common.{arith, refl}
-use Rattle.std.specs.Prelude.{unsigned_abs}
 use Rattle.std.proofs.lemmas.Result.{err_from_is_err_and}
 use Rattle.go_grid.specs.Region.{Shape}
 use Rattle.game_canon.proofs.ChangeSteps.{passed-on}
@@ -7,7 +6,7 @@ use Rattle.game_canon.proofs.NumberParts.{within-bounds}
 use Rattle.local_value.specs.Refusals.{IsValueRefusal}
 use Rattle.local_value.specs.Values.{IsGraphOf}
 use Rattle.local_value.proofs.AfterLaws.{extends-both}
-use Rattle.local_value.proofs.PassLaws.{IsPass, pass-start}
+use Rattle.local_value.proofs.PassLaws.{pass-start}
 use Rattle.local_value.proofs.PassEndLaws.{pass-values, pass-sizes, pass-parts}
 use Rattle.local_value.proofs.PassCallLaws.{call-noted, call-small, call-step, call-refused, call-done}
 use Rattle.local_value.proofs.values.value_all.Goals as goal

@@ -1,7 +1,6 @@
 use Rattle.std.proofs.Common.{ℕ, ◌+◌, ◌^◌}
 use Rattle.std.proofs.lemmas.Result.{IfErr-weaker, IfOk-weaker}
 use Rattle.game_store.specs.Tree.{Tree}
-use Rattle.game_store.specs.Order.{◌≡ᵍ◌}
 use Rattle.game_store.specs.Meaning.{tree_at, listed}
 use Rattle.game_canon.specs.Outcomes.{IsCanonicalId, IsCause, AreWithin, AreOptionsWithin}
 use Rattle.local_value.specs.Valuing.{AreWithinAfter, HasEdges}
@@ -9,11 +8,13 @@ use Rattle.local_value.proofs.OptionsLaws.{AreBoth, both, left-ids, right-ids, e
 use Rattle.local_value.proofs.values.value_of.Goals as goal
 
 sides : (c : goal.After-deref-2) → AreBoth c.args.store.now c.list_options-2.new.store c.args.ids.now c.args.edges.now c.deref.result.now c.deref-2.result.now
-sides c = both c.args.store.now c.list_options.new.store c.list_options-2.new.store c.args.ids.now c.args.edges.now c.list_options.new.options.items c.list_options-2.new.options.items _ _ c.requires.noted c.list_options.ensures.kept c.list_options-2.ensures.kept
+sides c = both c.args.store.now c.list_options.new.store c.list_options-2.new.store c.args.ids.now c.args.edges.now c.list_options.new.options.items c.list_options-2.new.options.items _ _
+    c.requires.noted c.list_options.ensures.kept c.list_options-2.ensures.kept
     c.in_ok-list_options.ensures.options c.in_ok-list_options-2.ensures.options c.deref.ensures.value c.deref-2.ensures.value
 
 sides' : (c : goal.After-canonical) → AreBoth c.args.store.now c.list_options-2.new.store c.args.ids.now c.args.edges.now c.deref.result.now c.deref-2.result.now
-sides' c = both c.args.store.now c.list_options.new.store c.list_options-2.new.store c.args.ids.now c.args.edges.now c.list_options.new.options.items c.list_options-2.new.options.items _ _ c.requires.noted c.list_options.ensures.kept c.list_options-2.ensures.kept
+sides' c = both c.args.store.now c.list_options.new.store c.list_options-2.new.store c.args.ids.now c.args.edges.now c.list_options.new.options.items c.list_options-2.new.options.items _ _
+    c.requires.noted c.list_options.ensures.kept c.list_options-2.ensures.kept
     c.in_ok-list_options.ensures.options c.in_ok-list_options-2.ensures.options c.deref.ensures.value c.deref-2.ensures.value
 
 pub canonical-requires-clause-left : goal.canonical-requires-clause-left
