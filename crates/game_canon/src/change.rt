@@ -8,7 +8,7 @@ ghost use Rattle.game_canon.specs.Changes.{IsPastShift, shifted, left_list, righ
 
 use crate::errors::FormError;
 use crate::ids::{Ids, in_order};
-use crate::reachable::reachable;
+use crate::reach::reachable;
 use dyadic_num::Dyadic;
 use game_store::{Form, GameId, Store};
 use indexmap::IndexMap;

@@ -1,0 +1,40 @@
+-- The laws of texts.
+use Rattle.std.specs.Prelude.{ℕ, ◌≡◌, ◌<◌, ◌≤◌, ℤ, List, length, Result}
+use Rattle.dyadic_num.specs.Units.{IsInBounds}
+use Rattle.game_store.specs.Tree.{Tree}
+use Rattle.game_store.specs.Number.{IsNumberTree}
+use Rattle.game_store.specs.TextOrder.{tree_text, IsCanonicalTree}
+use Rattle.game_store.specs.Meaning.{tree_at, number_tree, AreDistinct, Extends}
+use Rattle.game_store.specs.Forms.{HaveForms}
+use Rattle.game_store.specs.Parts.{HasMoreParts}
+use Rattle.game_canon.specs.Outcomes.{IsCanonicalId}
+use Rattle.game_canon.specs.Reachable.{IsReached}
+use Rattle.game_text.specs.Depth.{depth, most_open}
+use Rattle.game_text.specs.Reading.{Fault, ReadsText, Names}
+
+-- reading a text comes to one thing
+abbrev pub OneReading : Type 0
+OneReading = (limit : ℕ) (text : List ℕ) (one other : Result Tree Fault) → ReadsText limit text one → ReadsText limit text other → one ≡ other
+
+-- each number of G, as G itself or an option of a part of it, is within the bounds of a Dyadic
+abbrev pub HasNumbersWithinBounds : Tree → Type 0
+HasNumbersWithinBounds G = (N : Tree) → IsNumberTree N → IsReached G N → (u : ℤ) × IsInBounds u × (N ≡ number_tree u)
+
+-- what can be read back: the braces of its text don't nest too deep, and it hasn't too many parts
+pub record IsReadable (limit : ℕ) (C : Tree) : Type 0 where
+  pub canonical : IsCanonicalTree C
+  pub numbers : HasNumbersWithinBounds C
+  pub shallow : depth C ≤ most_open
+  pub small : HasMoreParts C limit → ⊥
+
+-- the text of such a tree names it
+abbrev pub RoundTrip : Type 0
+RoundTrip = (limit : ℕ) (C : Tree) → IsReadable limit C → Names limit (tree_text C) C
+
+-- the numbers of a store's trees are within the bounds
+abbrev pub StoresKeepBounds : Type 0
+StoresKeepBounds = (Ts : List Tree) → HaveForms Ts → (id : ℕ) → id < length Ts → HasNumbersWithinBounds (tree_at Ts id)
+
+-- the text of an id's tree is read back as the id, in the store or in what it has grown to
+abbrev pub IdsComeBack : Type 0
+IdsComeBack = (limit : ℕ) (Ts Us : List Tree) (id back : ℕ) (G : Tree) → id < length Ts → IsReadable limit (tree_at Ts id) → Extends Ts Us → AreDistinct Us → Names limit (tree_text (tree_at Ts id)) G → IsCanonicalId Us G back → back ≡ id

@@ -1,0 +1,152 @@
+-- Where the reader stands in a text: the forms that are open, and what the rest of the text then comes to.
+use Rattle.std.specs.Prelude.{ℕ, suc, ◌≡◌, ◌+◌, ◌<◌, ◌≤◌, List, [], ◌∷◌, ◌++◌, length, drop, Option, Some, None, Result, Ok, Err}
+use Rattle.std.specs.List.{slice_index_or}
+use Rattle.game_store.specs.Tree.{Tree, Trees, node, none, more, ◌then◌}
+use Rattle.game_store.specs.Meaning.{tree_at, listed}
+use Rattle.game_store.specs.Parts.{HasMoreParts}
+use Rattle.game_canon.specs.Outcomes.{IsCanonicalId, IsPastBounds}
+use Rattle.game_text.specs.Reading.{Fault, Outcome, Side, left_side, right_side, mark_of, IsNumberByte, EndsNumber, IsClosed, ReadsGame, ReadsOptions, ReadsMore, ReadsText}
+use Rattle.game_text.specs.Reading.Fault.{bad_byte}
+use Rattle.game_text.specs.Reading.Outcome.{reads, refused}
+use Rattle.game_text.specs.declared.reading.Opening.{Opening}
+use Rattle.game_text.specs.declared.reading.Step.{Step}
+use Rattle.game_text.specs.declared.reading.Place.{Place}
+use Rattle.game_text.specs.declared.reading.Place.TheVariants as place
+
+abbrev pub Answer : Type 0
+Answer = Result Tree Fault
+
+-- an open form: its Left options so far; or all of them, and its Right options so far
+pub data Frame : Type 0 where
+  on_left : Trees → Frame
+  on_right : Trees → Trees → Frame
+
+abbrev pub side_in : Frame → Side
+side_in (on_left Ls) = left_side
+side_in (on_right Ls Rs) = right_side
+
+abbrev pub with_option : Frame → Tree → Frame
+with_option (on_left Ls) G = on_left (Ls then more G none)
+with_option (on_right Ls Rs) G = on_right Ls (Rs then more G none)
+
+-- what the text comes to, once it is known what its game does
+abbrev pub AtEnd : Outcome Tree → Answer → Type 0
+AtEnd (reads G []) out = out ≡ Ok G
+AtEnd (reads G (x ∷ xs)) out = out ≡ Err (bad_byte (x ∷ xs))
+AtEnd (refused fault) out = out ≡ Err fault
+
+-- what is to be read: the first option of a side, a game, what is behind an option, or nothing behind the whole game
+pub data State : Type 0 where
+  first_option : Frame → List Frame → State
+  a_game : List Frame → State
+  other_options : Frame → List Frame → State
+  all_read : Tree → State
+
+module _ (limit : ℕ) where
+  -- what it comes to, once it is known what other Right options of the innermost form do, where Next tells it of the form
+  abbrev pub BehindRight : (Outcome Tree → Answer → Type 0) → Trees → Trees → Outcome Trees → Answer → Type 0
+  BehindRight Next Ls Rs (reads Gs rest) out = (o : Outcome Tree) × IsClosed limit (node Ls (Rs then Gs)) rest o × Next o out
+  BehindRight Next Ls Rs (refused fault) out = out ≡ Err fault
+
+  -- the same of other Left options, where n braces are open
+  abbrev pub BehindLeft : (Outcome Tree → Answer → Type 0) → ℕ → Trees → Outcome Trees → Answer → Type 0
+  BehindLeft Next n Ls (reads Gs rest) out = (o : Outcome Trees) × ReadsOptions limit n right_side rest o × BehindRight Next (Ls then Gs) none o out
+  BehindLeft Next n Ls (refused fault) out = out ≡ Err fault
+
+  abbrev pub BehindSide : (Outcome Tree → Answer → Type 0) → ℕ → Frame → Outcome Trees → Answer → Type 0
+  BehindSide Next n (on_left Ls) o out = BehindLeft Next n Ls o out
+  BehindSide Next n (on_right Ls Rs) o out = BehindRight Next Ls Rs o out
+
+  -- what it comes to, once it is known what a game within the open forms does, the innermost first
+  abbrev pub BehindGame : List Frame → Outcome Tree → Answer → Type 0
+  BehindGame [] o out = AtEnd o out
+  BehindGame (f ∷ fs) (reads G rest) out = (o : Outcome Trees) × ReadsMore limit (suc (length fs)) (side_in (with_option f G)) rest o × BehindSide (BehindGame fs) (suc (length fs)) (with_option f G) o out
+  BehindGame (f ∷ fs) (refused fault) out = out ≡ Err fault
+
+  -- what the rest of the text comes to there
+  abbrev pub Rest : State → List ℕ → Answer → Type 0
+  Rest (first_option f fs) bytes out = (o : Outcome Trees) × ReadsOptions limit (suc (length fs)) (side_in f) bytes o × BehindSide (BehindGame fs) (suc (length fs)) f o out
+  Rest (a_game fs) bytes out = (o : Outcome Tree) × ReadsGame limit (length fs) bytes o × BehindGame fs o out
+  Rest (other_options f fs) bytes out = (o : Outcome Trees) × ReadsMore limit (suc (length fs)) (side_in f) bytes o × BehindSide (BehindGame fs) (suc (length fs)) f o out
+  Rest (all_read G) bytes out = AtEnd (reads G bytes) out
+
+-- the ids are those of the canonical trees of these
+abbrev pub AreNamed : List Tree → Trees → List ℕ → Type 0
+AreNamed Ts none [] = Unit {0}
+AreNamed Ts none (i ∷ is) = ⊥
+AreNamed Ts (more G Gs) [] = ⊥
+AreNamed Ts (more G Gs) (i ∷ is) = IsCanonicalId Ts G i × AreNamed Ts Gs is
+
+abbrev pub opening_at : ℕ → Option ℕ → Opening
+opening_at first second = record { start = first; middle = second }
+
+-- the ids of an open form's options behind n others, and where they begin
+abbrev pub IsOpening : List Tree → Frame → ℕ → List ℕ → Opening → Type 0
+IsOpening Ts (on_left Ls) n own o = (o ≡ opening_at n None) × AreNamed Ts Ls own
+IsOpening Ts (on_right Ls Rs) n own o = (ls rs : List ℕ) × (own ≡ ls ++ rs) × (o ≡ opening_at n (Some (n + length ls))) × AreNamed Ts Ls ls × AreNamed Ts Rs rs
+
+-- an open form behind those that are open before it
+pub record IsInnermost (Ts : List Tree) (f : Frame) (Before : List ℕ → List Opening → Type 0) (options : List ℕ) (opens : List Opening) : Type 0 where
+  pub before : List ℕ
+  pub own : List ℕ
+  pub below : List Opening
+  pub top : Opening
+  pub options_are : options ≡ before ++ own
+  pub opens_are : opens ≡ below ++ top ∷ []
+  pub opening : IsOpening Ts f (length before) own top
+  pub others : Before before below
+
+-- the options and the openings of the open forms, the innermost first
+abbrev pub AreOpen : List Tree → List Frame → List ℕ → List Opening → Type 0
+AreOpen Ts [] options opens = (options ≡ []) × (opens ≡ [])
+AreOpen Ts (f ∷ fs) options opens = IsInnermost Ts f (AreOpen Ts fs) options opens
+
+-- how the reader keeps a state
+abbrev pub Keeps : List Tree → State → Place → List ℕ → List Opening → Type 0
+Keeps Ts (first_option f fs) p options opens = (p ≡ place.First) × AreOpen Ts (f ∷ fs) options opens
+Keeps Ts (a_game fs) p options opens = (p ≡ place.Game) × AreOpen Ts fs options opens
+Keeps Ts (other_options f fs) p options opens = (p ≡ place.Behind) × AreOpen Ts (f ∷ fs) options opens
+Keeps Ts (all_read G) p options opens = (p ≡ place.Whole) × (id : ℕ) × (options ≡ id ∷ []) × IsCanonicalId Ts G id
+
+-- the text comes to what its rest comes to from the place on
+pub record IsReading (Ts : List Tree) (limit : ℕ) (text : List ℕ) (spot : ℕ) (p : Place) (options : List ℕ) (opens : List Opening) : Type 0 where
+  pub state : State
+  pub kept : Keeps Ts state p options opens
+  pub within : spot ≤ length text
+  pub comes : (out : Answer) → Rest limit state (drop spot text) out → ReadsText limit text out
+
+-- where the reader goes on, further on in the text
+abbrev pub IsNext : List Tree → ℕ → List ℕ → ℕ → Step → List ℕ → List Opening → Type 0
+IsNext Ts limit text spot step options opens = IsReading Ts limit text step.at step.place options opens × (spot < step.at)
+
+-- what is read behind a game
+abbrev pub place_after : List Opening → Place
+place_after [] = place.Whole
+place_after (o ∷ os) = place.Behind
+
+-- the side of the innermost open form whose options are read
+abbrev pub side_of : Option ℕ → Side
+side_of None = left_side
+side_of (Some middle) = right_side
+
+abbrev pub mark_at : Opening → ℕ
+mark_at o = mark_of (side_of o.middle)
+
+-- the longest run of bytes of numbers from a place on
+pub record EndsRunAt (text : List ℕ) (first past : ℕ) : Type 0 where
+  pub forward : first ≤ past
+  pub within : past ≤ length text
+  pub number_bytes : (k : ℕ) → first ≤ k → k < past → IsNumberByte (slice_index_or text k 0)
+  pub longest : EndsNumber (drop past text)
+
+-- the byte ends the side of the innermost open form
+abbrev pub IsMarkOfInnermost : List Opening → ℕ → Type 0
+IsMarkOfInnermost opens byte = (below : List Opening) × (top : Opening) × (opens ≡ below ++ top ∷ []) × (byte ≡ mark_at top)
+
+-- the id of the form with these options, which is taken, behind others
+abbrev pub IsFormTaken : (Ts Us : List Tree) → ℕ → (ls rs before after : List ℕ) → Type 0
+IsFormTaken Ts Us limit ls rs before after = (id : ℕ) × (after ≡ before ++ id ∷ []) × IsCanonicalId Us (listed Ts ls rs) id × (IsPastBounds (listed Ts ls rs) → ⊥) × (HasMoreParts (tree_at Us id) limit → ⊥)
+
+-- where the whole game was read, its id is all that is kept
+abbrev pub IsEnded : Place → List ℕ → Type 0
+IsEnded p options = p ≡ place.Whole → (id : ℕ) × (options ≡ id ∷ [])

@@ -1,0 +1,129 @@
+-- What a text names, and why it is refused: the grammar, read from the front.
+--     game = number | "{" options "|" options "}"        options = [ game { "," game } ]
+use Rattle.std.specs.Prelude.{ℕ, suc, ◌≡◌, ◌+◌, ◌<◌, ◌≤◌, ◌⊎◌, ℤ, List, [], ◌∷◌, ◌++◌, length, Result, Ok, Err}
+use Rattle.dyadic_num.specs.Units.{IsInBounds}
+use Rattle.game_store.specs.Tree.{Tree, Trees, node, none, more}
+use Rattle.game_store.specs.Text.{open_brace, bar, close_brace, comma}
+use Rattle.game_store.specs.TextOrder.{tree_text, IsCanonicalFor}
+use Rattle.game_store.specs.Meaning.{number_tree}
+use Rattle.game_store.specs.Parts.{HasMoreParts}
+use Rattle.game_canon.specs.Outcomes.{IsPastBounds, IsCause}
+use Rattle.game_canon.specs.declared.errors.FormError.TheVariants.{Parts}
+use Rattle.game_text.specs.Depth.{most_open}
+use Rattle.game_text.specs.declared.errors.ReadError.{ReadError}
+use Rattle.game_text.specs.declared.errors.ReadError.TheVariants as reading
+
+-- the bytes of numbers: `-`, `/` and the digits
+abbrev pub IsNumberByte : ℕ → Type 0
+IsNumberByte x = (x ≡ 45) ⊎ ((47 ≤ x) × (x < 58))
+
+abbrev pub AreNumberBytes : List ℕ → Type 0
+AreNumberBytes [] = Unit {0}
+AreNumberBytes (x ∷ xs) = IsNumberByte x × AreNumberBytes xs
+
+-- no number goes on with these bytes
+abbrev pub EndsNumber : List ℕ → Type 0
+EndsNumber [] = Unit {0}
+EndsNumber (x ∷ xs) = IsNumberByte x → ⊥
+
+-- the bytes are the longest run of bytes of numbers, of which there is at least one, and the rest
+pub record IsRun (bytes run rest : List ℕ) : Type 0 where
+  pub is : bytes ≡ run ++ rest
+  pub some : 0 < length run
+  pub number_bytes : AreNumberBytes run
+  pub longest : EndsNumber rest
+
+-- the text of the number u, which is within the bounds of a Dyadic
+abbrev pub IsNumberText : ℤ → List ℕ → Type 0
+IsNumberText u run = IsInBounds u × (run ≡ tree_text (number_tree u))
+
+-- why a text is refused; a place is told by the bytes from it on
+pub data Fault : Type 0 where
+  bad_byte : List ℕ → Fault
+  bad_number : List ℕ → Fault
+  cut_short : Fault
+  too_deep : Fault
+  too_many_parts : Fault
+  past_bounds : Fault
+
+-- what reading comes to: what was read and the bytes behind it, or a fault
+pub data Outcome (A : Type 0) : Type 0 where
+  reads : A → List ℕ → Outcome A
+  refused : Fault → Outcome A
+
+-- the same with G in front
+abbrev pub behind : Tree → Outcome Trees → Outcome Trees
+behind G (reads Gs rest) = reads (more G Gs) rest
+behind G (refused fault) = refused fault
+
+-- the options of a form: the Left ones end at a bar, the Right ones at a closing brace
+pub data Side : Type 0 where
+  left_side : Side
+  right_side : Side
+
+abbrev pub mark_of : Side → ℕ
+mark_of left_side = bar
+mark_of right_side = close_brace
+
+abbrev pub BeginsOtherwise : ℕ → List ℕ → Type 0
+BeginsOtherwise mark [] = Unit {0}
+BeginsOtherwise mark (x ∷ xs) = x ≡ mark → ⊥
+
+module _ (limit : ℕ) where
+  -- a form was closed: its canonical tree has at most so many parts, or more of them, or it is a number past the bounds
+  pub data IsClosed (G : Tree) (rest : List ℕ) : Outcome Tree → Type 0 where
+    taken : (IsPastBounds G → ⊥) → ((C : Tree) → IsCanonicalFor G C → HasMoreParts C limit → ⊥) → IsClosed G rest (reads G rest)
+    with_many_parts : IsCause G limit Parts → IsClosed G rest (refused too_many_parts)
+    far : IsPastBounds G → IsClosed G rest (refused past_bounds)
+
+  mutual
+    -- what reading a game from the front of the bytes comes to, where n braces are open
+    pub data ReadsGame : ℕ → List ℕ → Outcome Tree → Type 0 where
+      number : (n : ℕ) (bytes run rest : List ℕ) (u : ℤ) → IsRun bytes run rest → IsNumberText u run → ReadsGame n bytes (reads (number_tree u) rest)
+      no_number : (n : ℕ) (bytes run rest : List ℕ) → IsRun bytes run rest → ((u : ℤ) → IsNumberText u run → ⊥) → ReadsGame n bytes (refused (bad_number bytes))
+      one_too_deep : (n x : ℕ) (xs : List ℕ) → x ≡ open_brace → most_open ≤ n → ReadsGame n (x ∷ xs) (refused too_deep)
+      form : (n x : ℕ) (xs ys zs : List ℕ) (Ls Rs : Trees) (out : Outcome Tree) → x ≡ open_brace → n < most_open → ReadsOptions (suc n) left_side xs (reads Ls ys) → ReadsOptions (suc n) right_side ys (reads Rs zs) → IsClosed (node Ls Rs) zs out → ReadsGame n (x ∷ xs) out
+      left_refused : (n x : ℕ) (xs : List ℕ) (fault : Fault) → x ≡ open_brace → n < most_open → ReadsOptions (suc n) left_side xs (refused fault) → ReadsGame n (x ∷ xs) (refused fault)
+      right_refused : (n x : ℕ) (xs ys : List ℕ) (Ls : Trees) (fault : Fault) → x ≡ open_brace → n < most_open → ReadsOptions (suc n) left_side xs (reads Ls ys) → ReadsOptions (suc n) right_side ys (refused fault) → ReadsGame n (x ∷ xs) (refused fault)
+      game_stray : (n x : ℕ) (xs : List ℕ) → (IsNumberByte x → ⊥) → (x ≡ open_brace → ⊥) → ReadsGame n (x ∷ xs) (refused (bad_byte (x ∷ xs)))
+      game_cut : (n : ℕ) → ReadsGame n [] (refused cut_short)
+
+    -- the options of a side, and the mark at their end
+    pub data ReadsOptions : ℕ → Side → List ℕ → Outcome Trees → Type 0 where
+      no_option : (n : ℕ) (side : Side) (x : ℕ) (xs : List ℕ) → x ≡ mark_of side → ReadsOptions n side (x ∷ xs) (reads none xs)
+      first : (n : ℕ) (side : Side) (bytes ys : List ℕ) (G : Tree) (others out : Outcome Trees) → BeginsOtherwise (mark_of side) bytes → ReadsGame n bytes (reads G ys) → ReadsMore n side ys others → out ≡ behind G others → ReadsOptions n side bytes out
+      first_refused : (n : ℕ) (side : Side) (bytes : List ℕ) (fault : Fault) → BeginsOtherwise (mark_of side) bytes → ReadsGame n bytes (refused fault) → ReadsOptions n side bytes (refused fault)
+
+    -- the options behind the first, each behind a comma, and the mark at their end
+    pub data ReadsMore : ℕ → Side → List ℕ → Outcome Trees → Type 0 where
+      no_more : (n : ℕ) (side : Side) (x : ℕ) (xs : List ℕ) → x ≡ mark_of side → ReadsMore n side (x ∷ xs) (reads none xs)
+      next : (n : ℕ) (side : Side) (x : ℕ) (xs ys : List ℕ) (G : Tree) (others out : Outcome Trees) → x ≡ comma → ReadsGame n xs (reads G ys) → ReadsMore n side ys others → out ≡ behind G others → ReadsMore n side (x ∷ xs) out
+      next_refused : (n : ℕ) (side : Side) (x : ℕ) (xs : List ℕ) (fault : Fault) → x ≡ comma → ReadsGame n xs (refused fault) → ReadsMore n side (x ∷ xs) (refused fault)
+      more_stray : (n : ℕ) (side : Side) (x : ℕ) (xs : List ℕ) → (x ≡ mark_of side → ⊥) → (x ≡ comma → ⊥) → ReadsMore n side (x ∷ xs) (refused (bad_byte (x ∷ xs)))
+      more_cut : (n : ℕ) (side : Side) → ReadsMore n side [] (refused cut_short)
+
+  -- what reading the whole text comes to: behind a game it ends
+  pub data ReadsText (text : List ℕ) : Result Tree Fault → Type 0 where
+    whole_text : (G : Tree) → ReadsGame 0 text (reads G []) → ReadsText text (Ok G)
+    followed : (G : Tree) (x : ℕ) (xs : List ℕ) → ReadsGame 0 text (reads G (x ∷ xs)) → ReadsText text (Err (bad_byte (x ∷ xs)))
+    unread : (fault : Fault) → ReadsGame 0 text (refused fault) → ReadsText text (Err fault)
+
+-- the text names G
+abbrev pub Names : ℕ → List ℕ → Tree → Type 0
+Names limit text G = ReadsText limit text (Ok G)
+
+abbrev pub Refuses : ℕ → List ℕ → Fault → Type 0
+Refuses limit text fault = ReadsText limit text (Err fault)
+
+-- the text is refused so at a place, counted from 0
+abbrev pub RefusesAt : ℕ → List ℕ → (List ℕ → Fault) → ℕ → Type 0
+RefusesAt limit text fault place = (rest : List ℕ) × Refuses limit text (fault rest) × (place + length rest ≡ length text)
+
+abbrev pub IsReadRefusal : ℕ → List ℕ → ReadError → Type 0
+IsReadRefusal limit text (reading.BadByte place) = RefusesAt limit text bad_byte place
+IsReadRefusal limit text (reading.BadNumber place) = RefusesAt limit text bad_number place
+IsReadRefusal limit text reading.CutShort = Refuses limit text cut_short
+IsReadRefusal limit text reading.Deep = Refuses limit text too_deep
+IsReadRefusal limit text reading.Parts = Refuses limit text too_many_parts
+IsReadRefusal limit text reading.Bounds = Refuses limit text past_bounds
+IsReadRefusal limit text (reading.Memory cause) = Unit {0}

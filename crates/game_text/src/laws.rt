@@ -1,0 +1,13 @@
+//! Laws of texts, each the contract of a function that does nothing.
+
+ghost use Rattle.game_text.specs.Laws.{OneReading, RoundTrip, StoresKeepBounds, IdsComeBack};
+
+/// A text names at most one form, or is refused for one reason; the text of a canonical form that can be read back names
+/// it; and what is written of an id is read back as the id. Trees of equal texts are equal: that is `text_law` of
+/// `game_canon`.
+pub fn text_laws()
+    ensures one_reading { OneReading }
+    ensures round_trip { RoundTrip }
+    ensures bounds { StoresKeepBounds }
+    ensures ids { IdsComeBack }
+{}

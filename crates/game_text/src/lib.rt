@@ -1,0 +1,18 @@
+//! The texts of canonical forms: how they are written, and how they are read.
+#![tactic(auto)]
+
+mod errors;
+mod laws;
+mod numbers;
+mod reading;
+#[cfg(test)]
+mod tests;
+mod text;
+mod texts;
+mod writing;
+
+pub use errors::{ReadError, WriteError};
+pub use laws::text_laws;
+pub use reading::read;
+pub use text::Text;
+pub use writing::write;
