@@ -101,7 +101,7 @@ non_number-cheap : (G : Tree) → IsNonNumber G → IsCheap G
 non_number-cheap G h = cheap G (λ n. h.1 (n.0, n.1, canonical-number G h.0 n))
 
 -- one game put for another
-put-total : (Gs : Trees) (k : ℕ) (G X : Tree) → IsAt Gs k G → (total (put Gs k X) +ᵍ G) ≡ᵍ (total Gs +ᵍ X)
+pub put-total : (Gs : Trees) (k : ℕ) (G X : Tree) → IsAt Gs k G → (total (put Gs k X) +ᵍ G) ≡ᵍ (total Gs +ᵍ X)
 unfolding total
 put-total none k G X h = absurd h
 put-total (more H Hs) zero G X h = rw h (same-trans _ _ _ (same-swap X (total Hs) G) (same-trans _ _ _ (same-plus _ _ _ _ (same-comm X G) (same-refl (total Hs))) (same-swap G X (total Hs))))

@@ -1,5 +1,5 @@
 -- Bounds of small games.
-use Rattle.std.proofs.Common.{ℕ, zero, suc, ◌≡◌, ◌*◌, ◌≤◌, ◌^◌, arith, inl, inr, refl, sym, ap, ◌∙◌, subst, List, [], ◌∷◌, length, sum, ℤ, pos, ◌*ℤ◌}
+use Rattle.std.proofs.Common.{ℕ, zero, suc, ◌≡◌, ◌*◌, ◌≤◌, ◌^◌, arith, inl, inr, refl, sym, ap, ◌∙◌, subst, List, [], ◌∷◌, length, replicate, sum, ℤ, pos, ◌*ℤ◌}
 use Rattle.std.specs.Prelude.{unsigned_abs}
 use Rattle.std.proofs.lemmas.Int.{ints, by_lt_z, unsigned_abs-mul}
 use Rattle.std.proofs.lemmas.List.Sums.{sum_by-cons}
@@ -61,7 +61,12 @@ small-ids Ts [] a j l = absurd (omega (arith, l))
 small-ids Ts (i ∷ is) a zero l = a.0
 small-ids Ts (i ∷ is) a (suc j) l = small-ids Ts is a.2 j (omega (arith, l))
 
-pub small-bounded : (Ts : List Tree) (is : List ℕ) (u n : ℤ) → AreSmall Ts is → length is ≤ 2 → unsigned_abs n ≤ 4 → IsFraction u n 1 → IsBounded (pick Ts is) u
+-- many of one game
+pub small-many : (Ts : List Tree) (i : ℕ) → IsIdOf Ts star i → (n : ℕ) → AreSmall Ts (replicate n i)
+small-many Ts i is zero = tt
+small-many Ts i is (suc n) = (is.0, inl is.1, small-many Ts i is n)
+
+pub small-bounded : (Ts : List Tree) (is : List ℕ) (u n : ℤ) → AreSmall Ts is → length is ≤ 40 → unsigned_abs n ≤ 4 → IsFraction u n 1 → IsBounded (pick Ts is) u
 small-bounded Ts is u n a few small f =
     let r = bounds-small Ts is a in
     let s = sym (unsigned_abs-mul u (pos (2 ^ 1))) ∙ ap unsigned_abs f ∙ unsigned_abs-mul n (pos (2 ^ 60)) in

@@ -1,5 +1,5 @@
 -- What the search of a sum asks.
-use Rattle.std.specs.Prelude.{ℕ, zero, suc, ◌<◌, List, length, ℤ}
+use Rattle.std.specs.Prelude.{ℕ, zero, suc, ◌≡◌, ◌<◌, List, length, ℤ}
 use Rattle.std.specs.List.{slice_index_or}
 use Rattle.go_grid.specs.declared.grid.Colour.{Colour}
 use Rattle.go_grid.specs.Grid.{other}
@@ -31,3 +31,7 @@ put (more G Gs) (suc k) X = more G (put Gs k X)
 -- the player wins by a move in the game at a place, which is no number
 abbrev pub WinsAt : List Tree → List ℕ → ℤ → Colour → ℕ → Type 0
 WinsAt Ts ids x c k = (X : Tree) × IsMove (tree_at Ts (slice_index_or ids k 0)) c X × LosesGame (other c) (total (put (pick Ts ids) k X) +ᵍ number_tree x)
+
+-- the id at a place stands at an earlier one too
+abbrev pub StoodBefore : List ℕ → ℕ → Type 0
+StoodBefore ids k = (j : ℕ) × (j < k) × (slice_index_or ids j 0 ≡ slice_index_or ids k 0)

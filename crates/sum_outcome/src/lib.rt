@@ -6,21 +6,25 @@ ghost use Rattle.game_store.specs.Meaning.{pick, AreIds};
 ghost use Rattle.game_canon.specs.Players.{LosesGame};
 ghost use Rattle.sum_outcome.specs.Sums.{sum_tree, IsBounded};
 
+mod memo;
 mod outcome;
 #[cfg(test)]
 mod tests;
 
+use crate::memo::Memo;
 use crate::outcome::loses_sum;
 use dyadic_num::Dyadic;
 use game_store::{GameId, Store};
 use go_grid::grid::Colour;
 use std::alloc::{AllocError, Global};
 use std::marker::Model;
+use std::num::NonZeroUsize;
 
-/// A search of sums. Contracts see it as the number of sums that it may remember; so far it remembers none.
+/// A search of sums. Contracts see it as the number of sums that it may remember for each player while it answers a question.
 #[derive(Drop)]
 pub struct Search {
     entries: usize,
+    memo: Memo,
 }
 
 impl Model for Search {
@@ -33,12 +37,14 @@ impl Model for Search {
 
 impl Search {
     /// A search that may remember so many sums, from 1 to 1,000,000.
-    pub fn new(_alloc: Global, entries: usize) -> Result<Search, AllocError>
+    pub fn new(alloc: Global, entries: usize) -> Result<Search, AllocError>
         requires some { 1 ≤ entries }
         requires most { entries ≤ 1000000 }
         ensures { IfOk result (λ search. search ≡ entries) }
     {
-        Ok(Search { entries })
+        let most = NonZeroUsize::new(entries).unwrap_or(NonZeroUsize::MIN);
+        let memo = Memo::new(alloc, most)?;
+        Ok(Search { entries, memo })
     }
 
     /// Whether a player who is to move loses the sum of the listed games and the number: Black where it is at most 0,
@@ -51,6 +57,7 @@ impl Search {
         ensures same { sum.new ≡ sum.old }
         ensures kept { self.new ≡ self.old }
     {
-        loses_sum(store, sum, number, side)
+        self.memo.clear();
+        loses_sum(store, &mut self.memo, sum, number, side)
     }
 }

@@ -8,8 +8,10 @@ ghost use Rattle.game_store.specs.Order.{◌≡ᵍ◌};
 ghost use Rattle.game_store.specs.Meaning.{tree_at, pick, number_tree, AreIds, AreBelow};
 ghost use Rattle.game_canon.specs.Players.{LosesGame};
 ghost use Rattle.sum_outcome.specs.Sums.{sum_tree, IsBounded};
-ghost use Rattle.sum_outcome.specs.Search.{HasNonNumber, IsMove, WinsAt};
+ghost use Rattle.sum_outcome.specs.Memo.{IsRight};
+ghost use Rattle.sum_outcome.specs.Search.{HasNonNumber, IsMove, StoodBefore, WinsAt};
 
+use crate::memo::Memo;
 use dyadic_num::Dyadic;
 use game_store::{Form, GameId, Store};
 use go_grid::grid::Colour;
@@ -53,19 +55,63 @@ fn moves(store: &Store, id: GameId, side: Colour) -> &[GameId]
     }
 }
 
-/// Whether a player who is to move loses the sum.
+/// Whether a player who is to move loses the sum. What is decided is remembered.
 #[cycle(search)]
-pub(crate) fn loses_sum(store: &Store, sum: &mut [GameId], number: Dyadic, side: Colour) -> bool
+pub(crate) fn loses_sum(
+    store: &Store,
+    memo: &mut Memo,
+    sum: &mut [GameId],
+    number: Dyadic,
+    side: Colour,
+) -> bool
     requires ids { AreIds store.now sum.old }
     requires bounds { IsBounded (pick store.now sum.old) number }
+    requires right { IsRight store.now number memo.old }
     ensures same { sum.new ≡ sum.old }
     ensures answer { IsTrue result ↔ LosesGame side (sum_tree store.now sum.old number) }
+    ensures right { IsRight store.now number memo.new }
 {
     if let Some(value) = sum_of_numbers(store, sum, number) {
         return loses_number(value, side);
     }
+    if let Some(lost) = memo.recall(sum, side) {
+        return lost;
+    }
+    let lost = loses_by_moves(store, memo, sum, number, side);
+    memo.remember(sum, side, lost);
+    lost
+}
+
+/// Whether the game at a place stands at an earlier one too.
+fn is_repeated(sum: &[GameId], place: usize) -> bool
+    requires { place < length sum.now }
+    ensures { IsTrue result ↔ StoodBefore sum.now place }
+{
+    sum[..place].contains(&sum[place])
+}
+
+/// Whether no move in a game that is no number wins. Of equal games the first is enough.
+#[cycle(search)]
+fn loses_by_moves(
+    store: &Store,
+    memo: &mut Memo,
+    sum: &mut [GameId],
+    number: Dyadic,
+    side: Colour,
+) -> bool
+    requires ids { AreIds store.now sum.old }
+    requires bounds { IsBounded (pick store.now sum.old) number }
+    requires hot { HasNonNumber store.now sum.old }
+    requires right { IsRight store.now number memo.old }
+    ensures same { sum.new ≡ sum.old }
+    ensures answer { IsTrue result ↔ LosesGame side (sum_tree store.now sum.old number) }
+    ensures right { IsRight store.now number memo.new }
+{
     'places: for place in 0..sum.len() {
-        if wins_at(store, sum, place, number, side) {
+        if is_repeated(sum, place) {
+            continue;
+        }
+        if wins_at(store, memo, sum, place, number, side) {
             return false;
         }
     }
@@ -74,18 +120,27 @@ pub(crate) fn loses_sum(store: &Store, sum: &mut [GameId], number: Dyadic, side:
 
 /// Whether a player who is to move wins by a move in the game at a place, which is no number.
 #[cycle(search)]
-fn wins_at(store: &Store, sum: &mut [GameId], place: usize, number: Dyadic, side: Colour) -> bool
+fn wins_at(
+    store: &Store,
+    memo: &mut Memo,
+    sum: &mut [GameId],
+    place: usize,
+    number: Dyadic,
+    side: Colour,
+) -> bool
     requires ids { AreIds store.now sum.old }
     requires bounds { IsBounded (pick store.now sum.old) number }
     requires place { place < length sum.old }
+    requires right { IsRight store.now number memo.old }
     ensures same { sum.new ≡ sum.old }
     ensures answer { IsTrue result ↔ WinsAt store.now sum.old number side place }
+    ensures right { IsRight store.now number memo.new }
 {
     let id = sum[place];
     let options = moves(store, id, side);
     'options: for option in options {
         sum[place] = *option;
-        let lost = loses_sum(store, sum, number, side.other());
+        let lost = loses_sum(store, memo, sum, number, side.other());
         sum[place] = id;
         if lost {
             return true;

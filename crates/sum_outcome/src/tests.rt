@@ -41,7 +41,7 @@ fn loses(
     side: Colour,
 ) -> Option<bool>
     requires games { AreSmall store.now sum.old }
-    requires few { length sum.old ≤ 2 }
+    requires few { length sum.old ≤ 40 }
     requires halves { unsigned_abs halves ≤ 4 }
 {
     let number = Dyadic::part(halves, 1)?;
@@ -78,6 +78,28 @@ fn sums(rt: HostRuntime) -> Result<(), Fail> {
     assert_eq!(&rt;
         loses(&mut search, &store, &mut [], 2, Colour::White),
         Some(true)
+    );
+    Ok(())
+}
+
+/// Whether Black, who is to move, loses 40 times a game, and 39 times.
+fn loses_many(search: &mut Search, store: &Store, star: GameId) -> (Option<bool>, Option<bool>)
+    requires { IsIdOf store.now the_star star }
+{
+    let even = loses(search, store, &mut [star; 40], 0, Colour::Black);
+    let odd = loses(search, store, &mut [star; 39], 0, Colour::Black);
+    (even, odd)
+}
+
+#[test]
+fn many_games(rt: HostRuntime) -> Result<(), Fail> {
+    let alloc = rt.alloc();
+    let mut store = Store::new(alloc);
+    let star = star(&mut store)?;
+    let mut search = Search::new(alloc, 1000)?;
+    assert_eq!(&rt;
+        loses_many(&mut search, &store, star),
+        (Some(true), Some(false))
     );
     Ok(())
 }

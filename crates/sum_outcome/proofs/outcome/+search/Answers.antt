@@ -9,6 +9,7 @@ use Rattle.game_canon.proofs.PlayerLaws.{loses-same, same-sym}
 use Rattle.game_store.specs.Meaning.{number_tree}
 use Rattle.sum_outcome.specs.Sums.{sum_tree}
 use Rattle.sum_outcome.specs.Search.{WinsAt}
+use Rattle.sum_outcome.proofs.EqualGames.{wins_elsewhere}
 use Rattle.sum_outcome.proofs.Lists.{put_back, falls_put, ids_put, loses_all, wins_one, bounded_put, wins_by_option, wins_by_none}
 use Rattle.sum_outcome.proofs.outcome.+search.Goals as goal
 
@@ -21,21 +22,32 @@ loses_sum-returns-in-Some-clause-answer t c =
       λ h. l.1 (loses-same c.args.side whole (number_tree c.in-Some.value) c.in-Some.ensures h),
     )
 
-pub loses_sum-returns-then-wins_at-clause-answer : goal.loses_sum-returns-then-wins_at-clause-answer
-loses_sum-returns-then-wins_at-clause-answer t c =
+pub loses_by_moves-returns-then-wins_at-clause-answer : goal.loses_by_moves-returns-then-wins_at-clause-answer
+loses_by_moves-returns-then-wins_at-clause-answer t c =
     let w = rw c.places.invariant.0 at (c.wins_at.ensures.answer.0 c.if-wins_at.true) in
     (λ e. absurd (false≢true e), λ l. absurd (wins_one c.args.store.now c.args.sum.now c.args.number c.args.side c.places.place c.places-test.true w l))
 
-pub loses_sum-places-preserved : goal.loses_sum-places-preserved
-loses_sum-places-preserved t c = (
+pub loses_by_moves-places-preserved : goal.loses_by_moves-places-preserved
+loses_by_moves-places-preserved t c = (
   c.wins_at.ensures.same ∙ c.places.invariant.0,
   below_more (λ k. WinsAt c.args.store.now c.args.sum.now c.args.number c.args.side k → ⊥) c.places.place c.places.invariant.1
       (λ w. both_ways _ c.if-wins_at.false (c.wins_at.ensures.answer.1 (rw (← c.places.invariant.0) at w))),
+  c.wins_at.ensures.right,
 )
 
-pub loses_sum-returns-clause-answer : goal.loses_sum-returns-clause-answer
-loses_sum-returns-clause-answer t c = (
-  λ _. loses_all c.args.store.now c.args.sum.now c.args.number c.args.side c.in_default.ensures (λ k lt. c.places.invariant.1 k (omega (arith, c.places-test.false, lt))),
+pub loses_by_moves-places-preserved-then-is_repeated : goal.loses_by_moves-places-preserved-then-is_repeated
+loses_by_moves-places-preserved-then-is_repeated t c =
+    let (j, before, same) = rw c.places.invariant.0 at (c.is_repeated.ensures.0 c.if-is_repeated.true) in (
+      c.places.invariant.0,
+      below_more (λ k. WinsAt c.args.store.now c.args.sum.now c.args.number c.args.side k → ⊥) c.places.place c.places.invariant.1
+          (λ w. c.places.invariant.1 j before
+          (wins_elsewhere c.args.store.now c.args.sum.now c.args.number c.args.side j c.places.place (omega (arith, before, c.places-test.true)) c.places-test.true same w)),
+      c.places.invariant.2,
+    )
+
+pub loses_by_moves-returns-clause-answer : goal.loses_by_moves-returns-clause-answer
+loses_by_moves-returns-clause-answer t c = (
+  λ _. loses_all c.args.store.now c.args.sum.now c.args.number c.args.side c.requires.hot (λ k lt. c.places.invariant.1 k (omega (arith, c.places-test.false, lt))),
   λ _. refl,
 )
 
@@ -49,7 +61,10 @@ wins_at-loses_sum-lost-requires t c =
       omega (arith, falls_put c.args.sum.now c.args.place i c.requires.place below, c.decreases),
       (
         ids_put c.args.store.now c.args.sum.now c.args.place i c.requires.place below c.requires.ids,
-        bounded_put c.args.store.now c.args.sum.now os c.args.number c.args.side c.args.place c.requires.place c.moves-options.ensures.options j c.options-test.true c.requires.bounds,
+        (
+          bounded_put c.args.store.now c.args.sum.now os c.args.number c.args.side c.args.place c.requires.place c.moves-options.ensures.options j c.options-test.true c.requires.bounds,
+          c.options.invariant.2,
+        ),
       ),
     )
 
@@ -72,6 +87,7 @@ wins_at-options-preserved t c = (
   restored c.args.place _ c.options.invariant.0 c.loses_sum-lost.ensures.same,
   below_more (λ j. LosesGame (other c.args.side) (sum_tree c.args.store.now (set c.args.sum.now c.args.place (get_or c.moves-options.result.now j 0)) c.args.number) → ⊥) c.options.option-index c.options.invariant.1
       (λ l. both_ways _ c.if-lost.false (c.loses_sum-lost.ensures.answer.1 (rw (c.options.invariant.0, c.other.ensures) l))),
+  c.loses_sum-lost.ensures.right,
 )
 
 pub wins_at-returns-clause-answer : goal.wins_at-returns-clause-answer
