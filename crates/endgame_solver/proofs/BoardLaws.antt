@@ -47,7 +47,7 @@ module _ (g : Grid) (regions : List Shape) (graphs : List Nodes) (are : AreGraph
   spots-long k zero = refl
   spots-long k (suc n) = ap suc (spots-long (suc k) n)
 
-  opening_shown : (k : ℕ) → k < length regions → Shown g k (record { region = k; place = 0 })
+  pub opening_shown : (k : ℕ) → k < length regions → Shown g k (record { region = k; place = 0 })
   opening_shown k lt =
       let r = region_at regions k in
       let of = (are.each k lt).graph in (
@@ -94,7 +94,7 @@ module _ (g : Grid) (regions : List Shape) (graphs : List Nodes) (are : AreGraph
       let some : 0 < 3 = omega arith in pow-le-pow_right {n = 3} some (are.each k lt).few
 
   -- a depth that is enough for each region
-  enough : (n : ℕ) × ((k : ℕ) → k < length regions → 3 ^ length (region_at regions k).cells ≤ n)
+  pub enough : (n : ℕ) × ((k : ℕ) → k < length regions → 3 ^ length (region_at regions k).cells ≤ n)
   enough = (3 ^ 32, deep)
 
   trees_total : (n : ℕ) (large : (k : ℕ) → k < length regions → 3 ^ length (region_at regions k).cells ≤ n) (h : Grid) (k : ℕ) (rs : List Shape) (trees : Trees) (qs : List Spot) → ((j : ℕ) → j < length rs → region_at regions (k + j) ≡ get_or rs j no_region)

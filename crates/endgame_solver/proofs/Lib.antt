@@ -11,3 +11,17 @@ pub mod ValueSumLaws
 pub mod BoardLaws
 pub mod MoneyLaws
 pub mod FollowLaws
+pub mod HeldLaws
+pub mod StoneLaws
+pub mod RoomLaws
+pub mod WinningLaws
+pub mod StoneSearch
+pub mod ReportLaws
+pub mod WinnerLaws
+pub mod KeptLaws
+pub mod OneCut
+pub mod BeginLaws
+pub mod SolvingLaws
+pub mod RoomAtStart
+pub mod KeptAtStart
+pub mod BegunLaws

@@ -29,7 +29,7 @@ module _ (g : Grid) (regions : List Shape) (graphs : List Nodes) (are : AreGraph
   region_in k lt = Contains-get_or regions k no_region lt
 
   -- the board after a local move of one region holds the next position there, and the same elsewhere
-  shown_after : (h after : Grid) (k : ℕ) (q : Spot) (cells next : List Cell) (c : Colour) (i p n : ℕ) (e : Edge) → HasCells regions graphs k q cells
+  pub shown_after : (h after : Grid) (k : ℕ) (q : Spot) (cells next : List Cell) (c : Colour) (i p n : ℕ) (e : Edge) → HasCells regions graphs k q cells
       → HoldsPosition g (region_at regions k) cells h → IsPlaced h p c after → IsLocalMove (region_at regions k).touch cells c i next
       → IsLocal (region_at regions k) h after cells next → IsEdgeFor (graph_at graphs k).positions cells next c i n e
       → IsShown g regions graphs after k (record { region = k; place = e.next }) × OthersStay Spot (moves_at graphs) (InRegion regions) (IsShown g regions graphs) k h after

@@ -5,3 +5,8 @@ pub mod Regions
 pub mod Valued
 pub mod Decomposition
 pub mod Bookkeeping
+pub mod Faults
+pub mod Solved
+pub mod Held
+pub mod Code
+pub mod Solving

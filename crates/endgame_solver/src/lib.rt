@@ -1,6 +1,19 @@
 //! The decomposition of the whole game into its regions of play.
 #![tactic(auto)]
 
+mod cycle_names;
+mod faults;
 mod laws;
+mod limits;
+mod opening;
+mod solved;
+mod solving;
+#[cfg(test)]
+mod tests;
+mod winning;
 
+pub use cycle_names::CycleNames;
+pub use faults::SolveError;
 pub use laws::decomposition_laws;
+pub use limits::Limits;
+pub use solved::{RegionReport, Solved};

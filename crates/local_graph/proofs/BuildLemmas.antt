@@ -1,11 +1,11 @@
 -- From exploring and searching to a graph.
-use Rattle.std.proofs.Common.{◌≡◌, ℕ, ◌+◌, ◌-◌, ◌*◌, ◌<◌, ◌≤◌, zero, suc, add-one, arith, refl, sym, ap, ◌∙◌, List, [], ◌∷◌, ◌++◌, map, true, length, get_or, subst, nat_eq}
-use Rattle.std.specs.List.{Contains, list_any}
+use Rattle.std.proofs.Common.{◌≡◌, ◌≢◌, ◌↔◌, ℕ, ◌+◌, ◌-◌, ◌*◌, ◌<◌, ◌≤◌, zero, suc, add-one, arith, refl, sym, ap, ◌∙◌, List, [], ◌∷◌, ◌++◌, map, true, length, get_or, subst, nat_eq}
+use Rattle.std.specs.List.{AllPairs, Contains, list_any}
 use Rattle.std.specs.List.Sorted.{IsStrictlyIncreasing}
 use Rattle.std.specs.Cmp.{nat_eq_equiv}
 use Rattle.std.proofs.Math.Nat.{mul-le-mul}
 use Rattle.std.proofs.lemmas.Bool.{eqb-true}
-use Rattle.std.proofs.lemmas.List.{length-map, get_or_default}
+use Rattle.std.proofs.lemmas.List.{length-map, get_or_default, get_or-map}
 use Rattle.std.proofs.lemmas.List.Elements.{Contains-get_or}
 use Rattle.std.proofs.lemmas.Map.Made.{length-le_from_is_member}
 use Rattle.std.proofs.lemmas.Map.Views.{Contains-from_any, list_any-from_Contains}
@@ -22,6 +22,7 @@ use Rattle.local_graph.specs.FiniteLocalPlay.{HasNoCycle}
 use Rattle.local_graph.specs.LocalGraph.{AreDifferent, IsCycle, IsGraph, IsOrder, IsReachable, MoreThan, Plays}
 use Rattle.local_graph.proofs.CycleLemmas.{comes_back}
 use Rattle.local_graph.proofs.EdgeListLemmas.{node_inside}
+use Rattle.local_graph.proofs.ExploreLemmas.{unpacked, apart}
 use Rattle.local_graph.proofs.FiniteLemmas.{distinct, at_map}
 use Rattle.local_graph.proofs.OrderLemmas.{edge_for, no_cycle, same_place}
 use Rattle.local_graph.proofs.PlayLemmas.{plays_long, plays_more}
@@ -80,6 +81,29 @@ module _ (touch : List Touch) (opening : List Cell) (positions : List ℕ) (edge
         let same = same_place positions f.0 i g.once f.3 short (f.4 ∙ sym w.2) in
         (f.1, subst (Follows edges 0 f.1) same f.2);
   }
+
+  -- a list of exactly the reachable positions
+  pub all_positions : (found : List (List Cell)) × AllPairs (λ a b. a ≢ b) found × ((cells : List Cell) → Contains found cells ↔ IsReachable touch opening cells)
+      × (length found ≡ length positions)
+  all_positions =
+      let w = unpacked touch opening positions g.reachable in
+      let long : length w.0 ≡ length positions = sym (length-map w.0 pack) ∙ ap length w.1 in (
+        w.0,
+        apart w.0 positions w.1 g.once,
+        (λ cells. (w.2 cells, λ reach. there w.0 w.1 w.2 cells reach)),
+        long,
+      )
+    where
+      there : (found : List (List Cell)) → map pack found ≡ positions → ((cells : List Cell) → Contains found cells → IsReachable touch opening cells)
+          → (cells : List Cell) → IsReachable touch opening cells → Contains found cells
+      there found is from cells reach =
+          let (k, lt, at) = g.all cells reach in
+          let short : k < length found = omega (arith, lt, length-map found pack, ap length is) in
+          let other = get_or found k [] in
+          let reach' = from other (Contains-get_or found k [] short) in
+          let number : pack other ≡ pack cells = sym (get_or-map pack found k [] (pack cells) short) ∙ ap (λ l. get_or l k (pack cells)) is ∙ at in
+          let same = pack_same other cells (plays_long touch opening other reach'.0 reach'.1 ∙ sym (plays_long touch opening cells reach.0 reach.1)) number in
+          subst (Contains found) same (Contains-get_or found k [] short)
 
   -- no more positions are reachable than the graph has
   pub not_more : (limit : ℕ) → length positions ≤ limit → ¬ MoreThan touch opening limit

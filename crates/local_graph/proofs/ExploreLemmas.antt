@@ -126,7 +126,7 @@ explore_step touch opening limit positions after edges cells moves es s lt here 
     }
 
 -- the positions of a list of numbers
-unpacked : (touch : List Touch) (opening : List Cell) (ns : List ℕ) → AreReachable touch opening ns
+pub unpacked : (touch : List Touch) (opening : List Cell) (ns : List ℕ) → AreReachable touch opening ns
     → (found : List (List Cell)) × (map pack found ≡ ns) × ((cells : List Cell) → Contains found cells → IsReachable touch opening cells)
 unpacked touch opening [] all = ([], refl, λ cells h. absurd (omega (arith, h.1)))
 unpacked touch opening (n ∷ ns) all =
@@ -143,6 +143,13 @@ unpacked touch opening (n ∷ ns) all =
     from x xs here others cells (zero, lt, at) = subst (IsReachable touch opening) at here
     from x xs here others cells (suc k, lt, at) = others cells (k, omega arith, at)
 
+-- positions are different where their numbers are
+pub apart : (found : List (List Cell)) (ns : List ℕ) → map pack found ≡ ns → AllPairs (λ a b. a ≢ b) ns → AllPairs (λ a b. a ≢ b) found
+apart found ns is once i j d lt short same =
+    let long : length found ≡ length ns = sym (length-map found pack) ∙ ap length is in
+    let at = λ (k : ℕ) (less : k < length found). sym (get_or-map pack found k d 0 less) ∙ ap (λ l. get_or l k 0) is in
+    once i j 0 lt (omega arith) (sym (at i (omega arith)) ∙ ap pack same ∙ at j short)
+
 pub too_many : (touch : List Touch) (opening : List Cell) (limit : ℕ) (ns : List ℕ) → AreReachable touch opening ns
     → AllPairs (λ a b. a ≢ b) ns → limit < length ns → MoreThan touch opening limit
 too_many touch opening limit ns all once many =
@@ -150,9 +157,7 @@ too_many touch opening limit ns all once many =
     let long : length w.0 ≡ length ns = sym (length-map w.0 pack) ∙ ap length w.1 in
     record {
       found = w.0;
-      different = λ i j d lt short same.
-          let at = λ (k : ℕ) (less : k < length w.0). sym (get_or-map pack w.0 k d 0 less) ∙ ap (λ l. get_or l k 0) w.1 in
-          once i j 0 lt (omega arith) (sym (at i (omega arith)) ∙ ap pack same ∙ at j short);
+      different = apart w.0 ns w.1 once;
       reachable = w.2;
       many = omega arith;
     }
@@ -297,12 +302,6 @@ pub few_numbers : (touch : List Touch) (opening : List Cell) (limit places : ℕ
 few_numbers touch opening limit places positions edges s e =
     let w = unpacked touch opening positions s.reachable in
     let long : length w.0 ≡ length positions = sym (length-map w.0 pack) ∙ ap length w.1 in
-    let few = few_positions touch opening w.0 (different w.0 positions w.1 s.once) w.2 in
+    let few = few_positions touch opening w.0 (apart w.0 positions w.1 s.once) w.2 in
     let same : 3 ^ length opening ≡ 3 ^ places = ap (λ n. 3 ^ n) e in
     omega arith
-  where
-    different : (found : List (List Cell)) (ns : List ℕ) → map pack found ≡ ns → AllPairs (λ a b. a ≢ b) ns → AllPairs (λ a b. a ≢ b) found
-    different found ns is once i j d lt short same =
-        let long : length found ≡ length ns = sym (length-map found pack) ∙ ap length is in
-        let at = λ (k : ℕ) (less : k < length found). sym (get_or-map pack found k d 0 less) ∙ ap (λ l. get_or l k 0) is in
-        once i j 0 lt (omega arith) (sym (at i (omega arith)) ∙ ap pack same ∙ at j short)

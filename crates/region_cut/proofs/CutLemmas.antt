@@ -5,7 +5,7 @@ use Rattle.std.proofs.lemmas.Bool.{cases_eq}
 use Rattle.std.proofs.lemmas.List.Elements.{Contains-get_or, Contains-push, Contains-push_cases, Contains-append_left}
 use Rattle.std.proofs.lemmas.List.Quantifiers.{all_pairs_push}
 use Rattle.go_grid.specs.Grid.{Grid}
-use Rattle.go_grid.specs.Region.{Shape}
+use Rattle.go_grid.specs.Region.{Shape, IsRegion}
 use Rattle.go_grid.specs.declared.grid.Colour.{Colour}
 use Rattle.go_grid.specs.Marks.{IsMarked, Marks}
 use Rattle.go_grid.specs.Parts.{AreParts, label}
@@ -17,9 +17,16 @@ use Rattle.benson_life.specs.Region.{IsContested, InRegionOfPlay}
 use Rattle.region_cut.specs.Cut.{AreRegionsOfPlay, IsRegionOfPlay, IsWalledIn, lowest}
 use Rattle.region_cut.specs.LocalBoard.{PlaysLocally}
 
+-- a region of play, in which local play is play on the board
+pub record IsCut (g : Grid) (r : Shape) : Type 0 where
+  pub play : IsRegionOfPlay g r
+  pub walled : IsWalledIn g r
+  pub local : PlaysLocally g r
+  pub proper : IsRegion r.columns r.rows r.points r.cells r.touch
+
 -- the regions whose lowest point is below `n`
 pub record CutBelow (g : Grid) (parts : List ℕ) (regions : List Shape) (n : ℕ) : Type 0 where
-  pub each : (r : Shape) → Contains regions r → IsRegionOfPlay g r × IsWalledIn g r × PlaysLocally g r × (lowest r < n)
+  pub each : (r : Shape) → Contains regions r → IsCut g r × (lowest r < n)
   pub every : (p : ℕ) → IsContested g p → label parts p < n → (r : Shape) × Contains regions r × Contains r.points p
   pub ascending : AllPairs (λ r s. lowest r < lowest s) regions
 
@@ -33,7 +40,7 @@ cut_start g parts regions e = record {
 pub cut_skip : (g : Grid) (parts : List ℕ) (regions : List Shape) (n : ℕ) → AreParts g.columns (IsContested g) parts
     → (IsContested g n → ¬ (label parts n ≡ n)) → CutBelow g parts regions n → CutBelow g parts regions (n + 1)
 cut_skip g parts regions n are other s = record {
-  each = λ r h. let w = s.each r h in (w.0, w.1, w.2, omega (arith, w.3));
+  each = λ r h. let w = s.each r h in (w.0, omega (arith, w.1));
   every = λ p h lt. elim (cases_eq (label parts p) n) as (λ _. (r : Shape) × Contains regions r × Contains r.points p) [
     | inl e ↦
         let own = label_in g.columns (IsContested g) parts are p h in
@@ -44,27 +51,27 @@ cut_skip g parts regions n are other s = record {
 }
 
 pub cut_push : (g : Grid) (parts : List ℕ) (regions : List Shape) (r : Shape) (n : ℕ) → AreParts g.columns (IsContested g) parts
-    → IsRegionOfPlay g r → IsWalledIn g r → PlaysLocally g r → lowest r ≡ n → CutBelow g parts regions n → CutBelow g parts (regions ++ r ∷ []) (n + 1)
-cut_push g parts regions r n are is walled local first s = record {
-  each = λ t h. elim (Contains-push_cases regions r t h) as (λ _. IsRegionOfPlay g t × IsWalledIn g t × PlaysLocally g t × (lowest t < n + 1)) [
-    | inl old ↦ let w = s.each t old in (w.0, w.1, w.2, omega (arith, w.3))
-    | inr e ↦ subst (λ (x : Shape). IsRegionOfPlay g x × IsWalledIn g x × PlaysLocally g x × (lowest x < n + 1)) e (is, walled, local, omega arith)
+    → IsCut g r → lowest r ≡ n → CutBelow g parts regions n → CutBelow g parts (regions ++ r ∷ []) (n + 1)
+cut_push g parts regions r n are is first s = record {
+  each = λ t h. elim (Contains-push_cases regions r t h) as (λ _. IsCut g t × (lowest t < n + 1)) [
+    | inl old ↦ let w = s.each t old in (w.0, omega (arith, w.1))
+    | inr e ↦ subst (λ (x : Shape). IsCut g x × (lowest x < n + 1)) e (is, omega arith)
   ];
   every = λ p h lt. elim (cases_eq (label parts p) n)
       as (λ _. (t : Shape) × Contains (regions ++ r ∷ []) t × Contains t.points p) [
         | inl e ↦
             let from : InRegionOfPlay g p (lowest r) = subst (InRegionOfPlay g p) (e ∙ sym first) (are.joined p h) in
-            (r, Contains-push regions r, (is.points p).1 (joined_back g.columns (IsContested g) p (lowest r) from))
+            (r, Contains-push regions r, (is.play.points p).1 (joined_back g.columns (IsContested g) p (lowest r) from))
         | inr ne ↦ let w = s.every p h (omega arith) in (w.0, Contains-append_left regions (r ∷ []) w.0 w.1, w.2)
       ];
   ascending = all_pairs_push (λ r s. lowest r < lowest s) regions r s.ascending
-      (λ k d lt. let w = (s.each (get_or regions k d) (Contains-get_or regions k d lt)).3 in omega (arith, w, first));
+      (λ k d lt. let w = (s.each (get_or regions k d) (Contains-get_or regions k d lt)).1 in omega (arith, w, first));
 }
 
 pub cut_all : (g : Grid) (parts : List ℕ) (regions : List Shape) (n : ℕ) → AreParts g.columns (IsContested g) parts
     → length g.cells ≡ n → CutBelow g parts regions n → AreRegionsOfPlay g regions
 cut_all g parts regions n are full s = record {
-  each = λ r h. (s.each r h).0;
+  each = λ r h. (s.each r h).0.play;
   every = λ p h. s.every p h (let low = are.lowest p h in omega (arith, h.0, low));
   ascending = s.ascending;
 }

@@ -37,8 +37,8 @@ pub struct Purses {
 }
 
 impl Purses {
-    /// The purse of a player.
-    pub(crate) fn of(self, colour: Colour) -> u64
+    /// The purse of a player, in points.
+    pub fn of(self, colour: Colour) -> u64
         ensures { result ≡ purse colour self }
     {
         match colour {
@@ -48,7 +48,7 @@ impl Purses {
     }
 
     /// The purses with some points more in that of a player.
-    pub(crate) fn paid_in(self, colour: Colour, points: u64) -> Purses
+    pub fn paid_in(self, colour: Colour, points: u64) -> Purses
         requires { purse colour self + points < 2 ^ 64 }
         ensures { result ≡ paid_in colour points self }
     {
@@ -65,7 +65,7 @@ impl Purses {
     }
 
     /// The purses after a player has spent a point.
-    pub(crate) fn paid_out(self, colour: Colour) -> Purses
+    pub fn paid_out(self, colour: Colour) -> Purses
         requires { 1 ≤ purse colour self }
         ensures { result ≡ paid_out colour self }
     {
@@ -82,7 +82,7 @@ impl Purses {
     }
 
     /// The purses after a player's move on the token.
-    pub(crate) fn halved(self, colour: Colour) -> Purses
+    pub fn halved(self, colour: Colour) -> Purses
         requires black { self.black + 1 < 2 ^ 64 }
         requires white { self.white + 1 < 2 ^ 64 }
         ensures { result ≡ halved colour self }

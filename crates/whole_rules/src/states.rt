@@ -105,6 +105,13 @@ impl Whole {
         self.purses.token
     }
 
+    /// Both purses and the token.
+    pub fn purses(&self) -> Purses
+        ensures { result ≡ self.now.purses }
+    {
+        self.purses
+    }
+
     /// The side to move.
     pub fn side(&self) -> Colour
         ensures { result ≡ self.now.side }

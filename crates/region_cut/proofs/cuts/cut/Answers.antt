@@ -52,7 +52,7 @@ cutting-preserved c =
       | then-within-place+then-parts-place+in_ok-region_of+in_ok-push w ↦
           let made = w.in_ok-region_of.ensures in
           rw (w.regions-is, w.in_ok-push.ensures.items)
-          (cut_push g parts regions _ n are made.region made.walled made.local made.named c.cutting.invariant)
+          (cut_push g parts regions _ n are (record { play = made.region; walled = made.walled; local = made.local; proper = made.proper }) made.named c.cutting.invariant)
       | else-within-place w ↦
           rw w.regions-is
           (cut_skip g parts regions n are (λ h e.
@@ -74,7 +74,10 @@ returns-clause-regions c =
     (omega (arith, c.size-size.ensures.area, c.area-number-end.ensures.value)) c.cutting.invariant
 
 pub returns-clause-walled : goal.returns-clause-walled
-returns-clause-walled c r h = (c.cutting.invariant.each r h).1
+returns-clause-walled c r h = (c.cutting.invariant.each r h).0.walled
 
 pub returns-clause-local : goal.returns-clause-local
-returns-clause-local c r h = (c.cutting.invariant.each r h).2
+returns-clause-local c r h = (c.cutting.invariant.each r h).0.local
+
+pub returns-clause-proper : goal.returns-clause-proper
+returns-clause-proper c r h = (c.cutting.invariant.each r h).0.proper

@@ -104,3 +104,6 @@ returns-clause-local c =
       links = links_are_next r kept;
       rising = kept.ascending;
     }
+
+pub returns-clause-proper : goal.returns-clause-proper
+returns-clause-proper c = invariant_of-result c

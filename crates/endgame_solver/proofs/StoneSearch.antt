@@ -1,0 +1,64 @@
+-- Looking for the edge of a stone, and for the first stone that wins.
+use Rattle.std.proofs.Common.{ℕ, ◌≡◌, ◌<◌, ◌≤◌, inl, inr, arith, List, length, get_or, Some, None}
+use Rattle.std.proofs.lemmas.Bool.{cases_lt}
+use Rattle.go_grid.specs.declared.grid.Colour.{Colour}
+use Rattle.go_grid.specs.Region.{Shape}
+use Rattle.whole_rules.specs.declared.states.Move.{Move}
+use Rattle.whole_rules.specs.declared.states.Move.TheVariants.{Stone, Spend, Half}
+use Rattle.whole_rules.specs.FirstWinningMove.{IsWinning, IsFirstWinning}
+use Rattle.whole_rules.specs.WholeGame.{State, rank}
+use Rattle.local_graph.specs.declared.graph.Edge.{Edge}
+use Rattle.local_graph.specs.Nodes.{Nodes}
+use Rattle.endgame_solver.specs.Held.{IsStoneAt, IsStoneEdge, IsFirstStone}
+
+-- none of the first n edges is the stone's
+abbrev pub NoneBefore : Shape → List Edge → Colour → ℕ → ℕ → Type 0
+NoneBefore r edges c p n = (j : ℕ) (e : Edge) → j < n → j < length edges → get_or edges j e ≡ e → ¬ IsStoneAt r c p e
+
+-- no edge of the first n regions is the stone's
+abbrev pub NoneIn : List Shape → List Nodes → List ℕ → Colour → ℕ → ℕ → Type 0
+NoneIn regions graphs places c p n = (k : ℕ) (e : Edge) → k < n → ¬ IsStoneEdge regions graphs places c p k e
+
+-- no stone below n wins
+abbrev pub NoStone : State → ℕ → Type 0
+NoStone s n = (q : ℕ) → q < n → ¬ IsWinning s (Stone q)
+
+-- a stone that wins is on the board
+pub no_stone_end : (s : State) (n : ℕ) → length s.board.cells ≤ n → NoStone s n → IsFirstStone s None
+no_stone_end s n le none q (t, (mark, (h, (k, placed, number, is))), lost) = none q (omega (arith, placed.free.0, le)) (t, (mark, (h, (k, placed, number, is))), lost)
+
+-- the first winning move, by the stones, the point spent and the half
+pub first_stone : (s : State) (p : ℕ) → IsFirstStone s (Some p) → IsFirstWinning s (Some (Stone p))
+first_stone s p w = (w.1, λ m x. least m x)
+  where
+    least : (m : Move) → IsWinning s m → p ≤ rank m
+    least (Stone q) x = elim (cases_lt q p) as (λ _. p ≤ q) [
+      | inl lt ↦ absurd (w.2 q lt x)
+      | inr ge ↦ omega (arith, ge)
+    ]
+    least Spend x = omega (arith, w.0)
+    least Half x = omega (arith, w.0)
+
+pub first_spend : (s : State) → IsFirstStone s None → IsWinning s Spend → IsFirstWinning s (Some Spend)
+first_spend s none w = (w, λ m x. least m x)
+  where
+    least : (m : Move) → IsWinning s m → 625 ≤ rank m
+    least (Stone q) x = absurd (none q x)
+    least Spend x = omega arith
+    least Half x = omega arith
+
+pub first_half : (s : State) → IsFirstStone s None → ¬ IsWinning s Spend → IsWinning s Half → IsFirstWinning s (Some Half)
+first_half s none not w = (w, λ m x. least m x)
+  where
+    least : (m : Move) → IsWinning s m → 626 ≤ rank m
+    least (Stone q) x = absurd (none q x)
+    least Spend x = absurd (not x)
+    least Half x = omega arith
+
+pub none_wins : (s : State) → IsFirstStone s None → ¬ IsWinning s Spend → ¬ IsWinning s Half → IsFirstWinning s None
+none_wins s none not not' m w = lost m w
+  where
+    lost : (m : Move) → IsWinning s m → ⊥
+    lost (Stone q) x = none q x
+    lost Spend x = not x
+    lost Half x = not' x

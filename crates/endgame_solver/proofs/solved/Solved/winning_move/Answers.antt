@@ -1,0 +1,15 @@
+use Rattle.std.proofs.Common.{◌≡◌, ◌↔◌, subst, None}
+use Rattle.whole_rules.specs.FirstWinningMove.{IsFirstWinning}
+use Rattle.whole_rules.specs.PlainRecursion.{MoverLoses}
+use Rattle.whole_rules.specs.WholeGame.{State, Leads}
+use Rattle.endgame_solver.proofs.WinnerLaws.{none_loses}
+use Rattle.endgame_solver.proofs.solved.Solved.winning_move.Goals as goal
+
+pub returns-clause-none : goal.returns-clause-none
+returns-clause-none c =
+    let i = c.self.inside in
+    subst (λ v. (c.first_winning_move.result ≡ None) ↔ MoverLoses State Leads v.state) c.self.view_is
+    (none_loses i.regions.items i.graphs.items i.values.items i.places.items i.sum.items i.store i.whole c.self.invariant c.first_winning_move.result c.first_winning_move.ensures.first)
+
+pub returns-clause-first : goal.returns-clause-first
+returns-clause-first c = subst (λ v. IsFirstWinning v.state c.first_winning_move.result) c.self.view_is c.first_winning_move.ensures.first

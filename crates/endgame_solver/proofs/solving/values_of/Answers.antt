@@ -1,0 +1,21 @@
+use Rattle.endgame_solver.proofs.BeginLaws.{no_large_form}
+use Rattle.endgame_solver.proofs.solving.values_of.Goals as goal
+
+pub returns-in-Ok-clause-solved : goal.returns-in-Ok-clause-solved
+returns-in-Ok-clause-solved c =
+    let r = c.args.region.now in
+    let g = c.args.graph.now in
+    let held = c.requires.graph in
+    let said = c.in-Ok.ensures in
+    let are = said.values r held.graph in
+    record {
+      sound = record {
+        points = c.requires.points;
+        positions = held.positions;
+        no_cycle = held.graph.no_cycle;
+        forms = no_large_form r g held.graph _ _ _ are said.parts said.bounds;
+      };
+      graph = held;
+      values = are;
+      within = said.sizes r held.graph;
+    }

@@ -1,0 +1,72 @@
+-- What a contract sees of a solved game, and what its calls say.
+use Rattle.std.specs.Prelude.{◌≡◌, ◌≢◌, ℕ, ◌<◌, ◌↔◌, List, length, slice_index, Contains, Result, Ok, Err, ℤ, pos, ◌*ℤ◌, ◌^◌}
+use Rattle.std.specs.List.{AllPairs}
+use Rattle.go_grid.specs.declared.grid.Cell.{Cell}
+use Rattle.go_grid.specs.Grid.{Grid, cell_at}
+use Rattle.go_grid.specs.Region.{Shape}
+use Rattle.sgf_go.specs.declared.settings.Setup.{Setup}
+use Rattle.local_play.specs.LocalPlay.{held_at}
+use Rattle.local_graph.specs.LocalGraph.{IsReachable}
+use Rattle.region_cut.specs.Cut.{lowest}
+use Rattle.whole_rules.specs.Opening.{IsOpening}
+use Rattle.whole_rules.specs.WholeGame.{State}
+use Rattle.game_store.specs.Tree.{Tree}
+use Rattle.game_store.specs.Meaning.{tree_at}
+use Rattle.local_value.specs.PositionTree.{IsValueOf}
+use Rattle.endgame_solver.specs.Regions.{region_at}
+use Rattle.endgame_solver.specs.SumGame.{balance}
+use Rattle.endgame_solver.specs.Faults.{AreRegions, AreSound, AreRefused}
+use Rattle.endgame_solver.specs.declared.limits.Limits.{Limits}
+use Rattle.endgame_solver.specs.declared.faults.SolveError.{SolveError}
+use Rattle.endgame_solver.specs.declared.faults.SolveError.TheVariants.{Memory}
+use Rattle.endgame_solver.specs.declared.solved.RegionReport.{RegionReport}
+
+-- the regions of play, the trees of the store, and the present state
+pub record SolvedGame : Type 0 where
+  pub regions : List Shape
+  pub trees : List Tree
+  pub state : State
+
+-- the state in which the position opens
+abbrev pub OpensAs : Setup → State → Type 0
+OpensAs setup s = IsOpening setup.board setup.black_prisoners setup.white_prisoners setup.komi_halves setup.side s
+
+-- the game that the position opens, all of whose regions are sound, or why there is none
+abbrev pub Begun : Setup → Limits → Result SolvedGame SolveError → Type 0
+Begun setup limits (Ok game) = OpensAs setup game.state × AreRegions setup.board game.regions × AreSound limits game.regions
+Begun setup limits (Err (Memory e)) = Unit {0}
+Begun setup limits (Err fault) = (regions : List Shape) × AreRegions setup.board regions × AreRefused limits regions fault
+
+-- the board holds the cells in the region
+abbrev pub HoldsCells : Grid → Shape → List Cell → Type 0
+HoldsCells h r cells = (length cells ≡ length r.points) × ((i : ℕ) → i < length r.points → cell_at h (slice_index r.points i) ≡ held_at cells i)
+
+-- the id is that of the value of the cells
+abbrev pub IsValueId : List Tree → Shape → List Cell → ℕ → Type 0
+IsValueId Ts r cells id = (id < length Ts) × IsValueOf r.touch cells (tree_at Ts id)
+
+-- the id is that of the value of the region's present position
+abbrev pub IsPresent : SolvedGame → ℕ → ℕ → Type 0
+IsPresent game k id = (cells : List Cell) × HoldsCells game.state.board (region_at game.regions k) cells
+    × IsValueId game.trees (region_at game.regions k) cells id
+
+-- the same for each region
+pub record ArePresent (game : SolvedGame) (ids : List ℕ) : Type 0 where
+  pub many : length ids ≡ length game.regions
+  pub each : (k : ℕ) → k < length game.regions → IsPresent game k (slice_index ids k)
+
+-- exactly so many positions are reachable
+abbrev pub IsNumberOfPositions : Shape → ℕ → Type 0
+IsNumberOfPositions r n = (found : List (List Cell)) × AllPairs (λ a b. a ≢ b) found
+    × ((cells : List Cell) → Contains found cells ↔ IsReachable r.touch r.cells cells) × (length found ≡ n)
+
+-- the report of a region: its lowest point, its points, its reachable positions and the value of its opening
+pub record IsReport (Ts : List Tree) (r : Shape) (report : RegionReport) : Type 0 where
+  pub lowest_point : report.lowest ≡ lowest r
+  pub points : report.points ≡ length r.points
+  pub positions : IsNumberOfPositions r report.positions
+  pub value : IsValueId Ts r r.cells report.value
+
+-- Black's purse less White's, and a half for the token's owner, in parts of 2 ^ -60
+abbrev pub balance_units : State → ℤ
+balance_units s = balance s.purses *ℤ pos (2 ^ 59)

@@ -1,0 +1,8 @@
+//! Limits of solving.
+
+/// How many positions a region may have, from 1 to 1,000,000, and how many parts the form of a value, from 1 to 4,000.
+#[derive(Clone, Copy, Debug, PartialEq, Eq)]
+pub struct Limits {
+    pub positions: u32,
+    pub parts: u32,
+}

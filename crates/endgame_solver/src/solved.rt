@@ -1,0 +1,229 @@
+//! Solved games.
+
+ghost use Rattle.std.specs.Prelude.{◌≡◌, ℕ, ◌+◌, ◌^◌, ◌<◌, ◌≤◌, ◌↔◌, List, length, None, unsigned_abs};
+ghost use Rattle.go_grid.specs.Chain.{IsSettled};
+ghost use Rattle.go_grid.specs.Region.{Shape};
+ghost use Rattle.go_grid.specs.Grid.{other};
+ghost use Rattle.whole_rules.specs.FirstWinningMove.{IsFirstWinning, IsWinner};
+ghost use Rattle.whole_rules.specs.PlainRecursion.{MoverLoses};
+ghost use Rattle.whole_rules.specs.WholeGame.{State, Leads, Applies};
+ghost use Rattle.game_canon.specs.Players.{LosesGame};
+ghost use Rattle.sum_outcome.specs.Sums.{sum_tree};
+ghost use Rattle.endgame_solver.specs.Regions.{region_at};
+ghost use Rattle.endgame_solver.specs.Faults.{AreRegions, most_steps};
+ghost use Rattle.endgame_solver.specs.Solved.{Begun, IsPresent, ArePresent, IsReport, balance_units};
+
+use crate::faults::SolveError;
+use crate::limits::Limits;
+use crate::opening::{first_large, opening_places, opening_values, regions_of_play};
+use crate::solving::solve_regions;
+use crate::winning::{Present, balance_of, first_winning_move, stone_edge, value_at};
+use dyadic_num::Dyadic;
+use game_store::{GameId, Store};
+use go_grid::{Colour, Point, Region};
+use local_graph::Graph;
+use local_play::Steps;
+use local_value::Values;
+use sgf_go::Setup;
+use std::alloc::Global;
+use std::marker::Model;
+use std::sync::ledger::Ledger;
+use sum_outcome::Search;
+use whole_rules::{Move, MoveError, Whole};
+
+/// How many sums a search may remember.
+const SEARCH_ENTRIES: usize = 100_000;
+
+/// What is known of a region at the opening: its lowest point, how many points it has, how many positions are reachable,
+/// and the value of the opening.
+#[derive(Clone, Copy, Debug, PartialEq, Eq)]
+pub struct RegionReport {
+    pub lowest: Point,
+    pub points: u16,
+    pub positions: u64,
+    pub value: GameId,
+}
+
+/// A state of the whole game with its regions of play, all of whose positions have their values. Contracts see the
+/// regions, the trees of the store and the present state.
+#[derive(Drop)]
+pub struct Solved {
+    whole: Whole,
+    store: Store,
+    regions: Vec<Region>,
+    graphs: Vec<Graph>,
+    /// The values of each region's positions.
+    values: Vec<Values>,
+    /// The place of each region's present position in its graph.
+    places: Vec<usize>,
+    /// The values of the present positions.
+    sum: Vec<GameId>,
+    search: Search,
+}
+
+impl Model for Solved {
+    ghost use Rattle.endgame_solver.specs.Solved.{SolvedGame};
+    ghost use Rattle.endgame_solver.specs.Held.{IsKept};
+    ghost use Rattle.endgame_solver.specs.Code.{solved_code};
+
+    ghost Value = { SolvedGame };
+
+    ghost coded = { solved_code };
+
+    ghost view = { λ s. record { regions = s.regions.items; trees = s.store; state = s.whole } };
+
+    ghost invariant = { λ s. IsKept s.regions.items s.graphs.items s.values.items s.places.items s.sum.items s.store s.whole };
+}
+
+impl Solved {
+    /// The game that a settled position opens: its regions, each with its graph and the values of all its positions. Or
+    /// the first region of more than 32 points; or else the first with too many positions, a cycle or a value without a
+    /// form. It takes at most one step for each position of each region.
+    pub fn begin<L: Ledger>(
+        alloc: Global,
+        setup: &Setup,
+        limits: &Limits,
+        steps: &mut Steps<L>,
+    ) -> Result<Solved, SolveError>
+        requires settled { IsSettled setup.now.board }
+        requires black { setup.now.black_prisoners < 2 ^ 40 }
+        requires white { setup.now.white_prisoners < 2 ^ 40 }
+        requires komi { unsigned_abs setup.now.komi_halves ≤ 2000000 }
+        requires positions { limits.now.positions ≤ 1000000 }
+        ensures begun { Begun setup.now limits.now result }
+        ensures steps { (regions : List Shape) → AreRegions setup.now.board regions → steps.new ≤ steps.old + most_steps limits.now regions }
+    {
+        let board = &setup.board;
+        let _size = board.size();
+        let whole = Whole::opening(
+            alloc,
+            board,
+            setup.black_prisoners,
+            setup.white_prisoners,
+            setup.komi_halves,
+            setup.side,
+        )?;
+        let regions = regions_of_play(alloc, board)?;
+        if let Some((lowest, points)) = first_large(&regions) {
+            return Err(SolveError::Points(lowest, points));
+        }
+        let mut store = Store::new(alloc);
+        let (graphs, values) = solve_regions(alloc, &regions, limits, &mut store, steps)?;
+        let places = opening_places(alloc, regions.len())?;
+        let sum = opening_values(alloc, &values)?;
+        let search = Search::new(alloc, SEARCH_ENTRIES)?;
+        Ok(Solved {
+            whole,
+            store,
+            regions,
+            graphs,
+            values,
+            places,
+            sum,
+            search,
+        })
+    }
+
+    /// The present state.
+    pub fn whole(&self) -> &Whole
+        ensures { result.now ≡ self.now.state }
+    {
+        &self.whole
+    }
+
+    /// The store of the values.
+    pub fn store(&self) -> &Store
+        ensures { result.now ≡ self.now.trees }
+    {
+        &self.store
+    }
+
+    /// The number of regions of play.
+    pub fn regions(&self) -> usize
+        ensures { result ≡ length self.now.regions }
+    {
+        self.regions.len()
+    }
+
+    /// What is known of a region's opening, by the region's number.
+    pub fn region_report(&self, i: usize) -> RegionReport
+        requires { i < length self.now.regions }
+        ensures report { IsReport self.now.trees (region_at self.now.regions i) result }
+        ensures on_board { result.lowest < length self.now.state.board.cells }
+    {
+        let points = &self.regions[i].points;
+        RegionReport {
+            lowest: points[0],
+            points: points.len() as u16,
+            positions: self.graphs[i].len() as u64,
+            value: value_at(&self.values[i], 0),
+        }
+    }
+
+    /// The value of the present position of a region.
+    pub fn present(&self, i: usize) -> GameId
+        requires { i < length self.now.regions }
+        ensures { IsPresent self.now i result }
+    {
+        self.sum[i]
+    }
+
+    /// Black's purse less White's, and 1/2 more where the token is Black's, 1/2 less where it is White's.
+    pub fn balance(&self) -> Dyadic
+        ensures { result ≡ balance_units self.now.state }
+    {
+        balance_of(self.whole.purses())
+    }
+
+    /// The winner of the present state by plain recursion. It is who isn't to move exactly where the sum of the present
+    /// values and the balance is at most 0 for Black to move, at least 0 for White.
+    pub fn winner(&mut self) -> Colour
+        ensures plain { IsWinner self.old.state result }
+        ensures sum { (ids : List ℕ) → ArePresent self.old ids → (result ≡ other self.old.state.side) ↔ LosesGame self.old.state.side (sum_tree self.old.trees ids (balance_units self.old.state)) }
+        ensures same { self.new ≡ self.old }
+    {
+        let side = self.whole.side();
+        let balance = balance_of(self.whole.purses());
+        if self.search.loses(&self.store, &mut self.sum, balance, side) {
+            return side.other();
+        }
+        side
+    }
+
+    /// The first winning move of the present state: stones by point, then `Spend`, then `Half`. None exactly where the
+    /// side to move loses.
+    pub fn winning_move(&mut self) -> Option<Move>
+        ensures first { IsFirstWinning self.old.state result }
+        ensures none { (result ≡ None) ↔ MoverLoses State Leads self.old.state }
+        ensures same { self.new ≡ self.old }
+    {
+        let present = Present {
+            whole: &self.whole,
+            regions: &self.regions,
+            graphs: &self.graphs,
+            values: &self.values,
+            places: &self.places,
+            store: &self.store,
+        };
+        first_winning_move(&present, &mut self.search, &mut self.sum)
+    }
+
+    /// Makes a move of the side to move, or leaves the game as it was where the move is illegal, as `Whole::apply` does.
+    pub fn play(&mut self, chosen: Move) -> Result<(), MoveError>
+        ensures applied { Applies self.old.state chosen self.new.state result }
+        ensures regions { self.new.regions ≡ self.old.regions }
+        ensures trees { self.new.trees ≡ self.old.trees }
+    {
+        let Move::Stone(point) = chosen else {
+            return self.whole.apply(chosen);
+        };
+        let side = self.whole.side();
+        let edge = stone_edge(&self.regions, &self.graphs, &self.places, point, side);
+        self.whole.apply(chosen)?;
+        if let Some((k, edge)) = edge {
+            self.places[k] = edge.next;
+            self.sum[k] = value_at(&self.values[k], edge.next);
+        }
+        Ok(())
+    }
+}

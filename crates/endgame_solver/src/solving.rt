@@ -1,0 +1,128 @@
+//! Regions, one after the other: the graph of each, and the values of its positions.
+
+ghost use Rattle.std.specs.Prelude.{◌≡◌, ℕ, ◌+◌, ◌^◌, ◌<◌, ◌≤◌, All, IfErr, IfOk, length, map, min};
+ghost use Rattle.game_store.specs.Meaning.{Extends};
+ghost use Rattle.endgame_solver.specs.Faults.{named, AreRefused, AreSmall, most_steps};
+ghost use Rattle.endgame_solver.specs.Solving.{AreSolvedBelow, IsGraphWithin, IsRefusalOf, IsSolvedBy};
+
+use crate::cycle_names::CycleNames;
+use crate::faults::SolveError;
+use crate::limits::Limits;
+use game_canon::FormError;
+use game_store::Store;
+use go_grid::Region;
+use local_graph::{CycleMove, Graph, GraphError, build};
+use local_play::Steps;
+use local_value::{Values, value_all};
+use std::alloc::{AllocError, Global};
+use std::sync::ledger::Ledger;
+
+/// The moves of a region with the points of the board.
+fn named_cycle(
+    alloc: Global,
+    region: &Region,
+    moves: &[CycleMove],
+) -> Result<CycleNames, AllocError>
+    requires { All (λ m. m.place < length region.now.points) moves.now }
+    ensures { IfOk result (λ names. names ≡ map (named region.now) moves.now) }
+{
+    let points = &region.points;
+    let mut names = CycleNames::new(alloc);
+    'moves: for step in moves {
+        names.push((step.colour, points[usize::from(step.place)]))?;
+    }
+    Ok(names)
+}
+
+/// The graph of a region of at most 32 points.
+fn graph_of<L: Ledger>(
+    alloc: Global,
+    region: &Region,
+    limits: &Limits,
+    steps: &mut Steps<L>,
+) -> Result<Graph, SolveError>
+    requires { length region.now.points ≤ 32 }
+    ensures graph { IfOk result (λ g. IsGraphWithin limits.now.positions region.now g) }
+    ensures refusal { IfErr result (λ e. IsRefusalOf limits.now region.now e) }
+    ensures steps { steps.new ≤ steps.old + min limits.now.positions (3 ^ length region.now.points) }
+{
+    let lowest = region.points[0];
+    match build(alloc, region, limits.positions, steps) {
+        Ok(graph) => Ok(graph),
+        Err(GraphError::Points(points)) => Err(SolveError::Points(lowest, points)),
+        Err(GraphError::Positions) => Err(SolveError::Positions(lowest)),
+        Err(GraphError::Cycle(moves, back)) => {
+            let names = named_cycle(alloc, region, moves.as_slice())?;
+            Err(SolveError::Cycle(lowest, names, back))
+        }
+        Err(GraphError::Memory(error)) => Err(SolveError::Memory(error)),
+    }
+}
+
+/// The values of the positions of a region's graph.
+fn values_of(
+    alloc: Global,
+    region: &Region,
+    graph: &Graph,
+    limits: &Limits,
+    store: &mut Store,
+) -> Result<Values, SolveError>
+    requires points { length region.now.points ≤ 32 }
+    requires graph { IsGraphWithin limits.now.positions region.now graph.now }
+    requires limit { limits.now.positions ≤ 1000000 }
+    ensures solved { IfOk result (λ ids. IsSolvedBy limits.now region.now graph.now store.new ids) }
+    ensures refusal { IfErr result (λ e. IsRefusalOf limits.now region.now e) }
+    ensures kept { Extends store.old store.new }
+{
+    let lowest = region.points[0];
+    match value_all(alloc, graph, store, limits.parts) {
+        Ok(values) => Ok(values),
+        Err(FormError::Parts) => Err(SolveError::Form(lowest)),
+        Err(FormError::Bounds) => Err(SolveError::Form(lowest)),
+        Err(FormError::Memory(error)) => Err(SolveError::Memory(error)),
+    }
+}
+
+/// The graph and the values of a region.
+fn solve_region<L: Ledger>(
+    alloc: Global,
+    region: &Region,
+    limits: &Limits,
+    store: &mut Store,
+    steps: &mut Steps<L>,
+) -> Result<(Graph, Values), SolveError>
+    requires points { length region.now.points ≤ 32 }
+    requires limit { limits.now.positions ≤ 1000000 }
+    ensures solved { IfOk result (λ x. IsSolvedBy limits.now region.now x.0 store.new x.1) }
+    ensures refusal { IfErr result (λ e. IsRefusalOf limits.now region.now e) }
+    ensures kept { Extends store.old store.new }
+    ensures steps { steps.new ≤ steps.old + min limits.now.positions (3 ^ length region.now.points) }
+{
+    let graph = graph_of(alloc, region, limits, steps)?;
+    let values = values_of(alloc, region, &graph, limits, store)?;
+    Ok((graph, values))
+}
+
+/// The graphs and the values of all regions, or why the first that has none has none.
+pub(crate) fn solve_regions<L: Ledger>(
+    alloc: Global,
+    regions: &[Region],
+    limits: &Limits,
+    store: &mut Store,
+    steps: &mut Steps<L>,
+) -> Result<(Vec<Graph>, Vec<Values>), SolveError>
+    requires small { AreSmall regions.now }
+    requires limit { limits.now.positions ≤ 1000000 }
+    ensures solved { IfOk result (λ x. AreSolvedBelow limits.now regions.now x.0.items x.1.items store.new (length regions.now)) }
+    ensures refusal { IfErr result (λ e. AreRefused limits.now regions.now e) }
+    ensures steps { steps.new ≤ steps.old + most_steps limits.now regions.now }
+{
+    let mut graphs = Vec::new(alloc);
+    let mut values = Vec::new(alloc);
+    'regions: for region in regions {
+        let (graph, ids) = solve_region(alloc, region, limits, store, steps)?;
+        graphs.push(graph)?;
+        values.push(ids)?;
+    }
+    Ok((graphs, values))
+}

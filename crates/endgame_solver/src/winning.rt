@@ -1,0 +1,240 @@
+//! Who wins the present state, and by which moves: each is asked of the sum of the values that the move leaves.
+
+ghost use Rattle.std.specs.Prelude.{◌≡◌, ℕ, ◌<◌, ◌≤◌, ◌^◌, ◌+ℤ◌, ◌*ℤ◌, neg_ℤ, pos, unsigned_abs, ◌↔◌, IsTrue, MatchOption, length, slice_index};
+ghost use Rattle.go_grid.specs.declared.grid.Colour.{Colour};
+ghost use Rattle.local_graph.specs.declared.graph.Edge.{Edge};
+ghost use Rattle.whole_rules.specs.declared.states.Move.TheVariants.{Stone, Spend, Half};
+ghost use Rattle.whole_rules.specs.FirstWinningMove.{IsFirstWinning, IsWinning};
+ghost use Rattle.endgame_solver.specs.SumGame.{balance, halves};
+ghost use Rattle.endgame_solver.specs.Held.{IsSeen, IsEdgeTo, IsStoneAt, IsStoneEdge, IsFirstStone, AreModest, ArePlaces};
+
+use dyadic_num::Dyadic;
+use game_store::{GameId, Store};
+use go_grid::{Colour, Point, Region};
+use local_graph::{Edge, Graph};
+use local_value::Values;
+use sum_outcome::Search;
+use whole_rules::{Move, Purses, Token, Whole};
+
+/// The present state, and what is known of its regions.
+#[derive(Clone, Copy)]
+pub(crate) struct Present<'a> {
+    pub whole: &'a Whole,
+    pub regions: &'a [Region],
+    pub graphs: &'a [Graph],
+    pub values: &'a [Values],
+    pub places: &'a [usize],
+    pub store: &'a Store,
+}
+
+/// What the token is worth to Black, in halves of a point.
+fn token_halves(token: Token) -> i128
+    ensures value { result ≡ halves token }
+    ensures small { unsigned_abs result ≤ 1 }
+{
+    match token {
+        Token::Nobody => 0,
+        Token::Black => 1,
+        Token::White => -1,
+    }
+}
+
+/// What the first number is more than the second.
+fn difference(first: u64, second: u64) -> i128
+    ensures { result ≡ pos first +ℤ neg_ℤ (pos second) }
+{
+    i128::from(first) - i128::from(second)
+}
+
+/// So many points and halves, in halves of a point.
+fn in_halves(points: i128, halves: i128) -> i128
+    requires points { unsigned_abs points ≤ 2 ^ 42 }
+    requires halves { unsigned_abs halves ≤ 1 }
+    ensures { result ≡ (points +ℤ points) +ℤ halves }
+{
+    points + points + halves
+}
+
+/// So many halves of a point.
+fn of_halves(halves: i128) -> Dyadic
+    requires { unsigned_abs halves ≤ 2 ^ 45 }
+    ensures { result ≡ halves *ℤ pos (2 ^ 59) }
+{
+    match Dyadic::of_units(halves * (1 << 59)) {
+        Some(number) => number,
+        None => unreachable!(),
+    }
+}
+
+/// Black's purse less White's, with the token's half.
+pub(crate) fn balance_of(purses: Purses) -> Dyadic
+    requires { AreModest purses }
+    ensures { result ≡ balance purses *ℤ pos (2 ^ 59) }
+{
+    let points = difference(purses.black, purses.white);
+    of_halves(in_halves(points, token_halves(purses.token)))
+}
+
+/// Whether the two are the same.
+fn is_same(a: Colour, b: Colour) -> bool
+    ensures { IsTrue result ↔ (a ≡ b) }
+{
+    a == b
+}
+
+/// Whether the point stands at the place.
+fn is_at(points: &[Point], place: usize, point: Point) -> bool
+    ensures { IsTrue result ↔ ((place < length points.now) × (slice_index points.now place ≡ point)) }
+{
+    match points.get(place) {
+        Some(other) => other.0 == point.0,
+        None => false,
+    }
+}
+
+/// Whether the edge is that of a stone of the player at the point.
+fn is_stone_at(region: &Region, edge: Edge, point: Point, colour: Colour) -> bool
+    ensures { IsTrue result ↔ IsStoneAt region.now colour point edge }
+{
+    if !is_same(edge.colour, colour) {
+        return false;
+    }
+    is_at(&region.points, usize::from(edge.place), point)
+}
+
+/// The edge of a stone of the player at a point of a region.
+fn edge_in(region: &Region, edges: &[Edge], point: Point, colour: Colour) -> Option<Edge>
+    ensures { MatchOption result ((e : Edge) → ¬ IsEdgeTo region.now edges.now colour point e) (λ e. IsEdgeTo region.now edges.now colour point e) }
+{
+    'edges: for edge in edges {
+        if is_stone_at(region, *edge, point, colour) {
+            return Some(*edge);
+        }
+    }
+    None
+}
+
+/// The region and the edge of a stone at a point.
+pub(crate) fn stone_edge(
+    regions: &[Region],
+    graphs: &[Graph],
+    places: &[usize],
+    point: Point,
+    colour: Colour,
+) -> Option<(usize, Edge)>
+    requires { ArePlaces regions.now graphs.now places.now }
+    ensures { MatchOption result ((k : ℕ) (e : Edge) → ¬ IsStoneEdge regions.now graphs.now places.now colour point k e) (λ x. IsStoneEdge regions.now graphs.now places.now colour point x.0 x.1) }
+{
+    'regions: for k in 0..regions.len() {
+        let edges = graphs[k].edges(places[k]);
+        if let Some(edge) = edge_in(&regions[k], edges, point, colour) {
+            return Some((k, edge));
+        }
+    }
+    None
+}
+
+/// The value of the position at a place.
+pub(crate) fn value_at(values: &Values, place: usize) -> GameId
+    requires { place < length values.now }
+    ensures { result ≡ slice_index values.now place }
+{
+    values.as_slice()[place]
+}
+
+/// Whether a stone of the side to move at the point wins. The sum is as before at the end.
+pub(crate) fn stone_wins(
+    present: &Present<'_>,
+    search: &mut Search,
+    sum: &mut [GameId],
+    point: Point,
+) -> bool
+    requires { IsSeen present.now sum.old }
+    ensures wins { IsTrue result ↔ IsWinning present.now.whole.now (Stone point) }
+    ensures same { sum.new ≡ sum.old }
+    ensures kept { search.new ≡ search.old }
+{
+    let side = present.whole.side();
+    let Some((k, edge)) = stone_edge(present.regions, present.graphs, present.places, point, side)
+    else {
+        return false;
+    };
+    let purses = present.whole.purses().paid_in(side, u64::from(edge.taken));
+    let before = sum[k];
+    sum[k] = value_at(&present.values[k], edge.next);
+    let lost = search.loses(present.store, sum, balance_of(purses), side.other());
+    sum[k] = before;
+    lost
+}
+
+/// Whether it wins to give back a point.
+pub(crate) fn spend_wins(present: &Present<'_>, search: &mut Search, sum: &mut [GameId]) -> bool
+    requires { IsSeen present.now sum.old }
+    ensures wins { IsTrue result ↔ IsWinning present.now.whole.now Spend }
+    ensures same { sum.new ≡ sum.old }
+    ensures kept { search.new ≡ search.old }
+{
+    let side = present.whole.side();
+    if present.whole.purse(side) == 0 {
+        return false;
+    }
+    let purses = present.whole.purses().paid_out(side);
+    search.loses(present.store, sum, balance_of(purses), side.other())
+}
+
+/// Whether a move on the token wins.
+pub(crate) fn half_wins(present: &Present<'_>, search: &mut Search, sum: &mut [GameId]) -> bool
+    requires { IsSeen present.now sum.old }
+    ensures wins { IsTrue result ↔ IsWinning present.now.whole.now Half }
+    ensures same { sum.new ≡ sum.old }
+    ensures kept { search.new ≡ search.old }
+{
+    let side = present.whole.side();
+    if present.whole.token().is_nobody() {
+        return false;
+    }
+    let purses = present.whole.purses().halved(side);
+    search.loses(present.store, sum, balance_of(purses), side.other())
+}
+
+/// The lowest point at which a stone wins.
+pub(crate) fn winning_stone(
+    present: &Present<'_>,
+    search: &mut Search,
+    sum: &mut [GameId],
+) -> Option<Point>
+    requires { IsSeen present.now sum.old }
+    ensures first { IsFirstStone present.now.whole.now result }
+    ensures same { sum.new ≡ sum.old }
+    ensures kept { search.new ≡ search.old }
+{
+    'points: for number in 0..present.whole.board().size().area() {
+        if stone_wins(present, search, sum, Point(number)) {
+            return Some(Point(number));
+        }
+    }
+    None
+}
+
+/// The first move that wins: a stone, else a point given back, else the half.
+pub(crate) fn first_winning_move(
+    present: &Present<'_>,
+    search: &mut Search,
+    sum: &mut [GameId],
+) -> Option<Move>
+    requires { IsSeen present.now sum.old }
+    ensures first { IsFirstWinning present.now.whole.now result }
+    ensures same { sum.new ≡ sum.old }
+    ensures kept { search.new ≡ search.old }
+{
+    if let Some(point) = winning_stone(present, search, sum) {
+        return Some(Move::Stone(point));
+    }
+    if spend_wins(present, search, sum) {
+        return Some(Move::Spend);
+    }
+    if half_wins(present, search, sum) {
+        return Some(Move::Half);
+    }
+    None
+}
