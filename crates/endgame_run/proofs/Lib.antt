@@ -1,3 +1,7 @@
+mod OneRegions
+mod OneStatus
+mod RefusalLaws
 mod SizeLaws
-mod ClosedLaws
+mod StepLaws
 mod TopLaws
+mod WrittenLaws

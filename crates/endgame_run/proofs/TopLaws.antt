@@ -1,11 +1,8 @@
 -- How the parts of the top call make its clauses.
-use Rattle.std.proofs.Common.{◌≡◌, ℕ, ◌<◌, inl, inr, refl, sym, ap, subst, ◌∙◌, List, [], ◌++◌, length, append_assoc, Some, None, Ok}
-use Rattle.std.specs.Prelude.{Option, codes}
+use Rattle.std.proofs.Common.{◌≡◌, ℕ, ◌<◌, inl, inr, refl, sym, ap, subst, ◌∙◌, List, [], ◌++◌, Some, None, Ok}
+use Rattle.std.specs.Prelude.{Option}
 use Rattle.std.proofs.lemmas.List.{append-nil}
 use Rattle.std.specs.Io.KnownBytes.{append_known, prepend_known}
-use Rattle.desk_io.specs.Outside.{Rose}
-use Rattle.go_grid.specs.declared.grid.Colour.{Colour}
-use Rattle.benson_life.specs.Region.{IsContested}
 use Rattle.sgf_tree.specs.Grammar.{PropertyText}
 use Rattle.sgf_tree.specs.Reading.{IsAnswer as IsTreeAnswer}
 use Rattle.sgf_tree.specs.Reading.Answer.{line}
@@ -16,39 +13,26 @@ use Rattle.sgf_go.specs.Komi.{IsInRange}
 use Rattle.sgf_go.specs.Setup.{Gives}
 use Rattle.sgf_go.specs.declared.settings.Settings.{Settings}
 use Rattle.sgf_go.specs.declared.settings.Setup.{Setup}
-use Rattle.whole_rules.specs.declared.states.Move.{Move}
-use Rattle.whole_rules.specs.WholeGame.{State}
 use Rattle.endgame_run.specs.declared.status.Status.{Status}
 use Rattle.endgame_run.specs.declared.status.Status.TheVariants.{Done, Usage, CannotRead, CannotWrite, BadFile, Memory, TooLong}
 use Rattle.endgame_run.specs.declared.status.Unbuilt.TheVariants as unbuilt
 use Rattle.endgame_run.specs.declared.status.Status.TheVariants as status
-use Rattle.endgame_run.specs.declared.status.Unbuilt.{Unbuilt}
-use Rattle.gd_words.specs.Task.{Task}
-use Rattle.gd_words.specs.Task.Task.{solve, safe}
 use Rattle.endgame_run.specs.declared.status.FileFault.TheVariants as fault
 use Rattle.gd_words.specs.Job.{JobView}
 use Rattle.endgame_run.specs.File.{Outside, IsTold, IsWhole, IsShort, dash, told_source, told_of, count_of}
-use Rattle.endgame_run.specs.Solution.{IsOpeningOf, IsSolution}
-use Rattle.report.specs.Lines.{colour_word, word_line}
-use Rattle.report.specs.Solution.{move_line, solve_text, state_lines, winner_line}
 use Rattle.endgame_run.specs.declared.question.Question.{Question}
-use Rattle.endgame_run.specs.declared.question.Question.TheVariants as question
 use Rattle.std.proofs.Common.{Bool, true, false, ◌≢◌}
 use Rattle.std.specs.Str.{bytes_eq}
 use Rattle.std.proofs.lemmas.Slice.Eq.{bytes_eq-Decides}
-use Rattle.endgame_run.specs.Top.{IsFirstMarked, IsFileRun, IsLineAnswer, IsFinished}
-use Rattle.endgame_run.specs.Verdict.{IsFirstContested, IsFileAnswer, IsPositionAnswer, IsPosed, IsAnswer, AskAbout, AskToSolve, IsDecided, HasCause, IsWritten, HasLine, WritesWinner, WritesMove}
-
-pub first_is : (setup : Setup) (s : State) (p : ℕ) → IsOpeningOf setup s → IsFirstMarked s.contested (length s.board.cells) (Some p) → IsFirstContested setup.board p
-first_is setup s p o m = record { contested = (o.contested p).0 m.1; lowest = λ q l h. m.2 q l ((o.contested q).1 h) }
-
-pub none_is : (setup : Setup) (s : State) → IsOpeningOf setup s → IsFirstMarked s.contested (length s.board.cells) None → (p : ℕ) → ¬ IsContested setup.board p
-none_is setup s o m p h = m p (subst (λ b. p < length b.cells) (sym o.board) h.0) ((o.contested p).1 h)
+use Rattle.endgame_run.specs.Top.{IsFileRun, IsLineAnswer, IsFinished}
+use Rattle.endgame_run.specs.Verdict.{IsFileAnswer, IsPositionAnswer, IsAnswer, AskAbout, IsDecided, HasCause, IsWritten}
 
 -- a position's status is its main line's
 pub position_line : (q : Question) (l : List (List PropertyText)) (settings : Settings) (setup : Setup) (s : Status) (text : List ℕ) → Gives settings l (Ok setup) → IsPositionAnswer q setup s text → IsLineAnswer q l settings s text
 position_line q l settings setup Done text g h = (setup, g, h)
-position_line q l settings setup (status.Unbuilt (unbuilt.Contested p)) text g h = (setup, g, h)
+position_line q l settings setup status.Cycle text g h = (setup, g, h)
+position_line q l settings setup status.RegionLimit text g h = (setup, g, h)
+position_line q l settings setup status.FormLimit text g h = (setup, g, h)
 position_line q l settings setup (status.Unbuilt unbuilt.Command) text g h = absurd h
 position_line q l settings setup Usage text g h = absurd h
 position_line q l settings setup CannotRead text g h = absurd h
@@ -60,6 +44,9 @@ position_line q l settings setup TooLong text g h = absurd h
 -- a main line's status is its file's
 pub line_file : (q : Question) (file : List ℕ) (l : List (List PropertyText)) (settings : Settings) (s : Status) (text : List ℕ) → IsTreeAnswer file (line l) → IsLineAnswer q l settings s text → IsFileAnswer q file settings s text
 line_file q file l settings Done text t h = (h.0, (l, t, h.1), h.2)
+line_file q file l settings status.Cycle text t h = (h.0, (l, t, h.1), h.2)
+line_file q file l settings status.RegionLimit text t h = (h.0, (l, t, h.1), h.2)
+line_file q file l settings status.FormLimit text t h = (h.0, (l, t, h.1), h.2)
 line_file q file l settings (status.Unbuilt u) text t h = (h.0, (l, t, h.1), h.2)
 line_file q file l settings (BadFile (fault.Setup f)) text t h = ((l, t, h.0), (l, t, h.1))
 line_file q file l settings (BadFile (fault.Tree f)) text t h = absurd h
@@ -72,6 +59,9 @@ line_file q file l settings TooLong text t h = absurd h.2
 -- a file's status is an answer
 pub answered : (q : Question) (told : Option (Option (List ℕ))) (before now : ℕ) (file : List ℕ) (settings : Settings) (s : Status) (text : List ℕ) → IsTold told file → IsShort file → IsFileAnswer q file settings s text → IsAnswer q told before now settings s text
 answered q told before now file settings Done text t short h = (file, t, short, h)
+answered q told before now file settings status.Cycle text t short h = (file, t, short, h)
+answered q told before now file settings status.RegionLimit text t short h = (file, t, short, h)
+answered q told before now file settings status.FormLimit text t short h = (file, t, short, h)
 answered q told before now file settings (status.Unbuilt u) text t short h = (file, t, short, h)
 answered q told before now file settings (BadFile f) text t short h = (file, t, short, h)
 answered q told before now file settings Usage text t short h = absurd h.2
@@ -97,6 +87,9 @@ komi_held k h = to_z-of_z w64 k (fits_signed_from_abs w64 k (komi_small k h))
 -- a decided status with its text, written
 written_whole : (words : List (List ℕ)) (o : Outside) (before now : Option (List ℕ)) (s : Status) (text : List ℕ) → IsDecided words o s text → now ≡ append_known before text → IsWritten words o before now s
 written_whole words o before now Done text d e = (text, d, e)
+written_whole words o before now status.Cycle text d e = (text, d, e)
+written_whole words o before now status.RegionLimit text d e = (text, d, e)
+written_whole words o before now status.FormLimit text d e = (text, d, e)
 written_whole words o before now Usage text d e = (text, d, e)
 written_whole words o before now CannotRead text d e = (text, d, e)
 written_whole words o before now TooLong text d e = (text, d, e)
@@ -112,6 +105,9 @@ written words o kb kn before now s text result d (inr f) = subst (λ r. IsWritte
 
 cause_whole : (words : List (List ℕ)) (o : Outside) (s : Status) (text : List ℕ) → IsDecided words o s text → HasCause words o s
 cause_whole words o Done text d = (text, d)
+cause_whole words o status.Cycle text d = (text, d)
+cause_whole words o status.RegionLimit text d = (text, d)
+cause_whole words o status.FormLimit text d = (text, d)
 cause_whole words o Usage text d = (text, d)
 cause_whole words o CannotRead text d = (text, d)
 cause_whole words o TooLong text d = (text, d)
@@ -129,95 +125,21 @@ caused words o kb kn before now s text result d (inr f) = subst (λ r. HasCause 
 pub decided : (words : List (List ℕ)) (o : Outside) (job : JobView) (q : Question) (word : List ℕ) (s : Status) (text : List ℕ) → AskAbout words job q word
     → IsAnswer q (told_of o.files o.left word) (count_of o.shelf_before o.lines_before word) (count_of o.shelf_now o.lines_now word) job.settings s text → IsDecided words o s text
 decided words o job q word Done text a h = (job, q, word, a, h)
+decided words o job q word status.Cycle text a h = (job, q, word, a, h)
+decided words o job q word status.RegionLimit text a h = (job, q, word, a, h)
+decided words o job q word status.FormLimit text a h = (job, q, word, a, h)
 decided words o job q word CannotRead text a h = (job, q, word, a, h)
 decided words o job q word TooLong text a h = (job, q, word, a, h)
 decided words o job q word (BadFile f) text a h = (job, q, word, a, h)
-decided words o job q word (status.Unbuilt (unbuilt.Contested p)) text a h = (job, q, word, a, h)
 decided words o job q word (status.Unbuilt unbuilt.Command) text a h = absurd h.3.2
 decided words o job q word Usage text a h = absurd h.3.2
 decided words o job q word CannotWrite text a h = absurd h.3.2
 decided words o job q word Memory text a h = absurd h.3.2
 
--- the line `winner` and the line `move` of the text
-winner_stands : (before : Option (List ℕ)) (s : State) (winner : Colour) (move : Option Move) → HasLine before (append_known before (solve_text s winner move)) (winner_line winner)
-winner_stands before s winner move =
-    let a = state_lines s in let b = codes "regions 0\npositions 0" in let rest = winner_line winner ++ move_line s.board.columns move in
-    (a ++ b, move_line s.board.columns move, ap (append_known before) (sym (append_assoc (a ++ b) (codes "\n") rest ∙ append_assoc a b (codes "\n" ++ rest))))
-
-pieces : (a b c d e f g : List ℕ) → a ++ (b ++ ((c ++ (d ++ (e ++ f))) ++ g)) ≡ ((a ++ (b ++ (c ++ (d ++ e)))) ++ f) ++ (g ++ [])
-pieces a b c d e f g = simp (append_assoc, append-nil)
-
-move_stands : (before : Option (List ℕ)) (s : State) (winner : Colour) (move : Option Move) → HasLine before (append_known before (solve_text s winner move)) (move_line s.board.columns move)
-unfolding word_line
-move_stands before s winner move = (
-  state_lines s ++ (codes "regions 0\npositions 0\n" ++ (codes "winner" ++ (codes " " ++ colour_word winner))),
-  [],
-  ap (append_known before) (pieces (state_lines s) (codes "regions 0\npositions 0\n") (codes "winner") (codes " ") (colour_word winner) (codes "\n") (move_line s.board.columns move)),
-)
-
-done_text : (words : List (List ℕ)) (o : Outside) (kb kn : ℕ) (before now : Option (List ℕ)) (s : Status) (text : List ℕ) (result : Status)
+pub done_text : (words : List (List ℕ)) (o : Outside) (kb kn : ℕ) (before now : Option (List ℕ)) (s : Status) (text : List ℕ) (result : Status)
     → IsDecided words o s text → IsFinished s text kb kn before now result → result ≡ Done → IsDecided words o Done text × (now ≡ append_known before text)
 done_text words o kb kn before now s text result d (inl w) e = (subst (λ r. IsDecided words o r text) (sym w.0 ∙ e) d, w.1)
 done_text words o kb kn before now s text result d (inr f) e = absurd cc
-
--- a run that ends with `Done` on words that ask to solve a file has written a solution
-pub record Posed (words : List (List ℕ)) (o : Outside) (before now : Option (List ℕ)) : Type 0 where
-  pub setup : Setup
-  pub state : State
-  pub winner : Colour
-  pub move : Option Move
-  pub posed : IsPosed words o setup state
-  pub solution : IsSolution setup state winner move
-  pub text : now ≡ append_known before (solve_text state winner move)
-
--- words ask one question
-one_question : (words : List (List ℕ)) (job other : JobView) (q : Question) (word w : List ℕ) → AskAbout words job q word → AskAbout words other question.Solve w → q ≡ question.Solve
-one_question words job other question.Solve word w a b = refl
-one_question words job other question.Safe word w a b =
-    let same = a.0.only other b.0.said in
-    let k : Path Task (solve w) (safe word) = sym b.1 ∙ ap (λ j. j.task) same ∙ a.1 in absurd cc
-
-solution_from : (words : List (List ℕ)) (o : Outside) (job : JobView) (q : Question) (word : List ℕ) (before now : Option (List ℕ)) (text : List ℕ) → q ≡ question.Solve → AskAbout words job q word
-    → IsAnswer q (told_of o.files o.left word) (count_of o.shelf_before o.lines_before word) (count_of o.shelf_now o.lines_now word) job.settings Done text
-    → now ≡ append_known before text → Posed words o before now
-solution_from words o job question.Safe word before now text same a h e = absurd cc
-solution_from words o job question.Solve word before now text same a h e =
-    let t = h.3 in let v = t.2.1 in record {
-      setup = t.0;
-      state = v.0;
-      winner = v.1;
-      move = v.2;
-      posed = record { job = job; word = word; file = h.0; asks = a; told = h.1; reads = t.1; opening = v.3.opening };
-      solution = v.3;
-      text = e ∙ ap (append_known before) v.4;
-    }
-
-posed_by : (words : List (List ℕ)) (o : Outside) (kb kn : ℕ) (before now : Option (List ℕ)) (s : Status) (text : List ℕ) (result : Status)
-    → IsDecided words o s text → IsFinished s text kb kn before now result → result ≡ Done → AskToSolve words → Posed words o before now
-posed_by words o kb kn before now s text result a f e asked =
-    let d = done_text words o kb kn before now s text result a f e in
-    let h = d.0 in
-    solution_from words o h.0 h.1 h.2 before now text (one_question words h.0 asked.0 h.1 h.2 asked.1 h.3 asked.2) h.3 h.4 d.1
-
-winner_of : (words : List (List ℕ)) (o : Outside) (before now : Option (List ℕ)) → Posed words o before now → WritesWinner words o before now
-winner_of words o before now p = (
-  p.setup,
-  p.state,
-  p.winner,
-  p.posed,
-  p.solution.wins,
-  subst (λ n. HasLine before n (winner_line p.winner)) (sym p.text) (winner_stands before p.state p.winner p.move),
-)
-
-move_of : (words : List (List ℕ)) (o : Outside) (before now : Option (List ℕ)) → Posed words o before now → WritesMove words o before now
-move_of words o before now p = (
-  p.setup,
-  p.state,
-  p.move,
-  p.posed,
-  p.solution.first,
-  subst (λ n. HasLine before n (move_line p.state.board.columns p.move)) (sym p.text) (move_stands before p.state p.winner p.move),
-)
 
 -- either the word is that of the source, or it isn't
 pub by_word : (P : Type 0) (word : List ℕ) → (word ≡ dash → P) → (word ≢ dash → P) → P
@@ -236,16 +158,3 @@ pub run_written : (words : List (List ℕ)) (o : Outside) (job : JobView) (q : Q
     → AskAbout words job q word → IsFileRun q job.settings word o kb kn before now result → IsWritten words o before now result
 run_written words o job q word kb kn before now result a (inl m) = subst (λ r. IsWritten words o before now r) (sym m.0) m.1
 run_written words o job q word kb kn before now result a (inr h) = written words o kb kn before now h.0 h.1 result (decided words o job q word h.0 h.1 a h.2) h.3
-
-run_posed : (words : List (List ℕ)) (o : Outside) (job : JobView) (q : Question) (word : List ℕ) (kb kn : ℕ) (before now : Option (List ℕ)) (result : Status)
-    → AskAbout words job q word → IsFileRun q job.settings word o kb kn before now result → result ≡ Done → AskToSolve words → Posed words o before now
-run_posed words o job q word kb kn before now result a (inl m) e asked = absurd cc
-run_posed words o job q word kb kn before now result a (inr h) e asked = posed_by words o kb kn before now h.0 h.1 result (decided words o job q word h.0 h.1 a h.2) h.3 e asked
-
-pub run_winner : (words : List (List ℕ)) (o : Outside) (job : JobView) (q : Question) (word : List ℕ) (kb kn : ℕ) (before now : Option (List ℕ)) (result : Status)
-    → AskAbout words job q word → IsFileRun q job.settings word o kb kn before now result → result ≡ Done → AskToSolve words → WritesWinner words o before now
-run_winner words o job q word kb kn before now result a h e asked = winner_of words o before now (run_posed words o job q word kb kn before now result a h e asked)
-
-pub run_move : (words : List (List ℕ)) (o : Outside) (job : JobView) (q : Question) (word : List ℕ) (kb kn : ℕ) (before now : Option (List ℕ)) (result : Status)
-    → AskAbout words job q word → IsFileRun q job.settings word o kb kn before now result → result ≡ Done → AskToSolve words → WritesMove words o before now
-run_move words o job q word kb kn before now result a h e asked = move_of words o before now (run_posed words o job q word kb kn before now result a h e asked)

@@ -1,7 +1,7 @@
 -- The numbers of the statuses.
 use Rattle.std.specs.Prelude.{ℕ}
 use Rattle.endgame_run.specs.declared.status.Status.{Status}
-use Rattle.endgame_run.specs.declared.status.Status.TheVariants.{Done, Usage, CannotRead, CannotWrite, BadFile, Memory, TooLong, Unbuilt}
+use Rattle.endgame_run.specs.declared.status.Status.TheVariants.{Done, Usage, CannotRead, CannotWrite, BadFile, Cycle, RegionLimit, FormLimit, Memory, TooLong, Unbuilt}
 
 abbrev pub code_of : Status → ℕ
 code_of Done = 0
@@ -9,6 +9,9 @@ code_of Usage = 1
 code_of CannotRead = 2
 code_of CannotWrite = 3
 code_of (BadFile fault) = 4
+code_of Cycle = 5
+code_of RegionLimit = 6
+code_of FormLimit = 7
 code_of Memory = 8
 code_of TooLong = 10
 code_of (Unbuilt what) = 11

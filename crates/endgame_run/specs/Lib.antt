@@ -1,8 +1,9 @@
 pub mod Codes
-pub mod Closed
 pub mod Solution
 pub mod Texts
 pub mod File
 pub mod Position
+pub mod Refusal
 pub mod Verdict
 pub mod Top
+pub mod Laws

@@ -1,6 +1,5 @@
 -- The lines of faults.
 use Rattle.std.specs.Prelude.{ℕ, List, ◌++◌, codes, decimal}
-use Rattle.report.specs.Lines.{point_line}
 
 -- what is wrong with a file, alone and with a number behind it
 unfoldable pub fault_line : List ℕ → List ℕ
@@ -8,6 +7,3 @@ fault_line what = codes "fault file " ++ (what ++ codes "\n")
 
 unfoldable pub fault_line_at : List ℕ → ℕ → List ℕ
 fault_line_at what n = codes "fault file " ++ (what ++ (codes " " ++ (decimal n ++ codes "\n")))
-
-abbrev pub contested_line : ℕ → ℕ → List ℕ
-contested_line columns p = point_line (codes "fault unbuilt contested") columns p

@@ -1,31 +1,20 @@
 -- What the parts of the top call answer.
-use Rattle.std.specs.Prelude.{◌≡◌, ◌<◌, ◌≤◌, ◌⊎◌, take, ℕ, List, Bool, Option, Some, None, Ok, Err, IfSome}
+use Rattle.std.specs.Prelude.{◌≡◌, ◌≤◌, ◌⊎◌, take, ℕ, List, Option, Ok, Err, IfSome}
 use Rattle.std.specs.Io.KnownBytes.{append_known}
 use Rattle.desk_io.specs.Outside.{Rose}
-use Rattle.go_grid.specs.declared.grid.Colour.{Colour}
 use Rattle.sgf_go.specs.declared.settings.Setup.{Setup}
-use Rattle.go_grid.specs.Marks.{IsMarked}
-use Rattle.benson_life.specs.Region.{IsContested}
-use Rattle.whole_rules.specs.declared.states.Move.{Move}
-use Rattle.whole_rules.specs.WholeGame.{State}
 use Rattle.endgame_run.specs.declared.status.Status.{Status}
-use Rattle.endgame_run.specs.declared.status.Status.TheVariants.{BadFile, CannotWrite, Done, Memory, Unbuilt}
-use Rattle.endgame_run.specs.declared.status.Unbuilt.TheVariants.{Contested}
+use Rattle.endgame_run.specs.declared.status.Status.TheVariants.{BadFile, CannotWrite, Memory}
 use Rattle.sgf_go.specs.declared.settings.Settings.{Settings}
 use Rattle.sgf_go.specs.Komi.{IsInRange}
 use Rattle.sgf_go.specs.Setup.{Gives}
 use Rattle.sgf_tree.specs.Grammar.{PropertyText}
 use Rattle.endgame_run.specs.declared.status.FileFault.TheVariants as fault
-use Rattle.endgame_run.specs.Position.{IsSetupFaultText}
-use Rattle.endgame_run.specs.Solution.{IsSolution}
+use Rattle.endgame_run.specs.Position.{IsSetupFaultText, Reads}
 use Rattle.endgame_run.specs.declared.question.Question.{Question}
-use Rattle.endgame_run.specs.Verdict.{IsAnswer, IsPositionAnswer}
-use Rattle.endgame_run.specs.File.{Outside, told_of, count_of}
-
--- the lowest marked point below `n`, if there is one
-abbrev pub IsFirstMarked : List Bool → ℕ → Option ℕ → Type 0
-IsFirstMarked marks n (Some p) = (p < n) × IsMarked marks p × ((q : ℕ) → q < p → ¬ IsMarked marks q)
-IsFirstMarked marks n None = (q : ℕ) → q < n → ¬ IsMarked marks q
+use Rattle.endgame_run.specs.declared.question.Question.TheVariants.{Solve, Safe}
+use Rattle.endgame_run.specs.Verdict.{AreStepsFor, IsAnswer, IsPositionAnswer}
+use Rattle.endgame_run.specs.File.{Outside, IsTold, told_of, count_of}
 
 -- a text written whole, with its status, or a front part of it, as a write failed
 abbrev pub IsFinished : Status → List ℕ → ℕ → ℕ → Option (List ℕ) → Option (List ℕ) → Status → Type 0
@@ -38,6 +27,11 @@ pub record HasRanges (settings : Settings) : Type 0 where
   pub black : settings.black_prisoners ≤ 999999
   pub white : settings.white_prisoners ≤ 999999
   pub komi : IfSome settings.komi IsInRange
+
+-- a question with limits within which it can be solved
+abbrev pub IsModest : Question → Type 0
+IsModest (Solve limits) = limits.positions ≤ 1000000
+IsModest Safe = Unit {0}
 
 -- the status of a question about a main line under settings, and its text
 abbrev pub IsLineAnswer : Question → List (List PropertyText) → Settings → Status → List ℕ → Type 0
@@ -52,3 +46,14 @@ IsFileRun question settings word o kb kn before now result =
     ⊎ ((s : Status) × (text : List ℕ)
     × IsAnswer question (told_of o.files o.left word) (count_of o.shelf_before o.lines_before word) (count_of o.shelf_now o.lines_now word) settings s text
     × IsFinished s text kb kn before now result)
+
+-- the steps of a question about a main line, about a file, and about the file of which this is told
+abbrev pub AreLineSteps : Question → List (List PropertyText) → Settings → ℕ → ℕ → Type 0
+AreLineSteps question l settings before now = (now ≡ before) ⊎ ((setup : Setup) × Gives settings l (Ok setup) × AreStepsFor question setup before now)
+
+abbrev pub AreFileSteps : Question → List ℕ → Settings → ℕ → ℕ → Type 0
+AreFileSteps question file settings before now = (now ≡ before) ⊎ ((setup : Setup) × Reads file settings (Ok setup) × AreStepsFor question setup before now)
+
+abbrev pub AreToldSteps : Question → Option (Option (List ℕ)) → Settings → ℕ → ℕ → Type 0
+AreToldSteps question told settings before now = (now ≡ before)
+    ⊎ ((file : List ℕ) × (setup : Setup) × IsTold told file × Reads file settings (Ok setup) × AreStepsFor question setup before now)

@@ -1,10 +1,10 @@
 -- Which status the words, the file and the counts of faults have, and what is written then.
-use Rattle.std.specs.Prelude.{◌≡◌, ◌≢◌, ◌<◌, ◌⊎◌, ◌++◌, ℕ, List, codes, take, ⊤, Option, Some, None, Ok, Err}
+use Rattle.std.specs.Prelude.{◌≡◌, ◌≢◌, ◌+◌, ◌≤◌, ◌⊎◌, ◌++◌, ℕ, List, codes, take, ⊤, Option, Some, None, Ok, Err}
 use Rattle.std.specs.Io.KnownBytes.{append_known}
+use Rattle.desk_io.specs.Files.{Files}
 use Rattle.desk_io.specs.Outside.{Rose}
 use Rattle.go_grid.specs.declared.grid.Colour.{Colour}
-use Rattle.go_grid.specs.Grid.{Grid}
-use Rattle.benson_life.specs.Region.{IsContested}
+use Rattle.go_grid.specs.Region.{Shape}
 use Rattle.sgf_go.specs.declared.settings.Settings.{Settings}
 use Rattle.sgf_go.specs.declared.settings.Setup.{Setup}
 use Rattle.gd_words.specs.Job.{JobView, IsJob, IsOnlyJob}
@@ -14,33 +14,59 @@ use Rattle.whole_rules.specs.declared.states.Move.{Move}
 use Rattle.whole_rules.specs.WholeGame.{State}
 use Rattle.whole_rules.specs.FirstWinningMove.{IsFirstWinning, IsWinner}
 use Rattle.endgame_run.specs.declared.status.Status.{Status}
-use Rattle.endgame_run.specs.declared.status.Status.TheVariants.{Done, Usage, CannotRead, CannotWrite, BadFile, Memory, TooLong, Unbuilt}
-use Rattle.endgame_run.specs.declared.status.Unbuilt.TheVariants as unbuilt
+use Rattle.endgame_run.specs.declared.status.Status.TheVariants.{Done, Usage, CannotRead, CannotWrite, BadFile, Cycle, RegionLimit, FormLimit, Memory, TooLong, Unbuilt}
+use Rattle.endgame_run.specs.declared.status.Unbuilt.TheVariants.{Command}
+use Rattle.endgame_solver.specs.declared.limits.Limits.{Limits}
+use Rattle.endgame_solver.specs.declared.faults.SolveError.{SolveError}
+use Rattle.endgame_solver.specs.Faults.{AreRegions, AreSound, AreRefused, most_steps}
 use Rattle.endgame_run.specs.File.{Outside, IsShort, IsTold, IsTooLong, told_of, count_of, dash}
 use Rattle.endgame_run.specs.Position.{Reads, IsFaultText}
 use Rattle.endgame_run.specs.Solution.{IsOpeningOf, IsSolution}
 use Rattle.report.specs.Safety.{IsSafeText}
-use Rattle.report.specs.Solution.{solve_text, winner_line, move_line}
+use Rattle.endgame_run.specs.Refusal.{HasStatus, refusal_line}
+use Rattle.report.specs.Solution.{AreNumbers, solve_text, winner_line, move_line}
 use Rattle.endgame_run.specs.declared.question.Question.{Question}
 use Rattle.endgame_run.specs.declared.question.Question.TheVariants.{Solve, Safe}
-use Rattle.endgame_run.specs.Texts.{contested_line}
 
--- the lowest contested point
-pub record IsFirstContested (g : Grid) (p : ℕ) : Type 0 where
-  pub contested : IsContested g p
-  pub lowest : (q : ℕ) → q < p → ¬ IsContested g q
+-- the regions of play of a position, all sound within the limits, the number of positions of each, and the solution, in its text
+pub record IsSolved (limits : Limits) (setup : Setup) (text : List ℕ) : Type 0 where
+  pub regions : List Shape
+  pub numbers : List ℕ
+  pub state : State
+  pub winner : Colour
+  pub move : Option Move
+  pub are_regions : AreRegions setup.board regions
+  pub sound : AreSound limits regions
+  pub counted : AreNumbers regions numbers
+  pub solution : IsSolution setup state winner move
+  pub is : text ≡ solve_text state regions numbers winner move
+
+-- the regions of play of a position and a fault that keeps it from being solved within the limits, with its status and its line
+pub record IsRefused (limits : Limits) (setup : Setup) (s : Status) (text : List ℕ) : Type 0 where
+  pub regions : List Shape
+  pub fault : SolveError
+  pub are_regions : AreRegions setup.board regions
+  pub refused : AreRefused limits regions fault
+  pub status : HasStatus fault s
+  pub is : text ≡ refusal_line limits setup.board.columns fault
 
 -- the text that answers a question about a position
 abbrev pub IsTextOf : Question → Setup → List ℕ → Type 0
-IsTextOf Solve setup text = ((p : ℕ) → ¬ IsContested setup.board p)
-    × ((s : State) × (winner : Colour) × (move : Option Move) × IsSolution setup s winner move × (text ≡ solve_text s winner move))
+IsTextOf (Solve limits) setup text = IsSolved limits setup text
 IsTextOf Safe setup text = IsSafeText setup.board text
+
+-- a question about a position that isn't answered, and its text
+abbrev pub IsRefusalOf : Question → Setup → Status → List ℕ → Type 0
+IsRefusalOf (Solve limits) setup s text = IsRefused limits setup s text
+IsRefusalOf Safe setup s text = ⊥
 
 -- the status of a question about a position, and its text
 abbrev pub IsPositionAnswer : Question → Setup → Status → List ℕ → Type 0
 IsPositionAnswer question setup Done text = IsTextOf question setup text
-IsPositionAnswer question setup (Unbuilt (unbuilt.Contested p)) text = (question ≡ Solve) × IsFirstContested setup.board p × (text ≡ contested_line setup.board.columns p)
-IsPositionAnswer question setup _ text = ⊥
+IsPositionAnswer question setup Cycle text = IsRefusalOf question setup Cycle text
+IsPositionAnswer question setup RegionLimit text = IsRefusalOf question setup RegionLimit text
+IsPositionAnswer question setup FormLimit text = IsRefusalOf question setup FormLimit text
+IsPositionAnswer question setup s text = ⊥
 
 -- The status of a question about a file that is not too long, and its text: no two of these statuses can hold at once.
 abbrev pub IsFileAnswer : Question → List ℕ → Settings → Status → List ℕ → Type 0
@@ -53,18 +79,26 @@ IsAnswer question told before now settings CannotRead text = ((told ≡ Some Non
 IsAnswer question told before now settings TooLong text = IsTooLong told × (text ≡ codes "fault too long\n")
 IsAnswer question told before now settings s text = (file : List ℕ) × IsTold told file × IsShort file × IsFileAnswer question file settings s text
 
--- the task of a question about the file of a word
-abbrev pub task_for : Question → List ℕ → Task
-task_for Solve word = solve word
-task_for Safe word = safe word
+-- the limits of a job
+abbrev pub limits_of : JobView → Limits
+limits_of job = record { positions = job.positions; parts = job.parts }
 
--- the words ask this about the file of this word, under the job's settings
+-- the job asks this about the file of this word, within its limits
+abbrev pub Asks : JobView → Question → List ℕ → Type 0
+Asks job (Solve limits) word = (job.task ≡ solve word) × (limits ≡ limits_of job)
+Asks job Safe word = job.task ≡ safe word
+
+-- the words ask this about the file of this word, under the job's settings and within its limits
 abbrev pub AskAbout : List (List ℕ) → JobView → Question → List ℕ → Type 0
-AskAbout words job question word = IsOnlyJob words job × (job.task ≡ task_for question word)
+AskAbout words job question word = IsOnlyJob words job × Asks job question word
+
+-- the words are the job of solving the file of this word
+abbrev pub AreToSolve : List (List ℕ) → JobView → List ℕ → Type 0
+AreToSolve words job word = AskAbout words job (Solve (limits_of job)) word
 
 -- the words ask to solve a file
 abbrev pub AskToSolve : List (List ℕ) → Type 0
-AskToSolve words = (job : JobView) × (word : List ℕ) × AskAbout words job Solve word
+AskToSolve words = (job : JobView) × (word : List ℕ) × AreToSolve words job word
 
 -- commands that aren't built yet
 abbrev pub IsUnbuilt : Task → Type 0
@@ -75,7 +109,7 @@ IsUnbuilt task = Unit {0}
 -- The status that was decided, with its cause, and its text: `Usage` exactly where the words are outside the grammar.
 abbrev pub IsDecided : List (List ℕ) → Outside → Status → List ℕ → Type 0
 IsDecided words o Usage text = ((job : JobView) → ¬ IsJob words job) × (text ≡ codes "fault usage\n")
-IsDecided words o (Unbuilt unbuilt.Command) text = ((job : JobView) × IsJob words job × IsUnbuilt job.task) × (text ≡ codes "fault unbuilt command\n")
+IsDecided words o (Unbuilt Command) text = ((job : JobView) × IsJob words job × IsUnbuilt job.task) × (text ≡ codes "fault unbuilt command\n")
 IsDecided words o s text = (job : JobView) × (question : Question) × (word : List ℕ) × AskAbout words job question word
     × IsAnswer question (told_of o.files o.left word) (count_of o.shelf_before o.lines_before word) (count_of o.shelf_now o.lines_now word) job.settings s text
 
@@ -100,7 +134,7 @@ pub record IsPosed (words : List (List ℕ)) (o : Outside) (setup : Setup) (s : 
   pub job : JobView
   pub word : List ℕ
   pub file : List ℕ
-  pub asks : AskAbout words job Solve word
+  pub asks : AreToSolve words job word
   pub told : IsTold (told_of o.files o.left word) file
   pub reads : Reads file job.settings (Ok setup)
   pub opening : IsOpeningOf setup s
@@ -121,3 +155,23 @@ ReadSource words = (job : JobView) × (question : Question) × AskAbout words jo
 
 abbrev pub ReadShelf : List (List ℕ) → Type 0
 ReadShelf words = (job : JobView) × (question : Question) × (word : List ℕ) × AskAbout words job question word × (word ≢ dash)
+
+-- the words ask to solve a file that is told, within these limits, and this is its position
+pub record IsToldToSolve (words : List (List ℕ)) (files : Option Files) (left : Option (List ℕ)) (limits : Limits) (setup : Setup) : Type 0 where
+  pub job : JobView
+  pub word : List ℕ
+  pub file : List ℕ
+  pub asks : AskAbout words job (Solve limits) word
+  pub told : told_of files left word ≡ Some (Some file)
+  pub reads : Reads file job.settings (Ok setup)
+
+-- how many steps a question about a position takes at most: none but to solve it, and then for each region the limit, or 3 to its points
+abbrev pub AreStepsFor : Question → Setup → ℕ → ℕ → Type 0
+AreStepsFor (Solve limits) setup before now = (regions : List Shape) → AreRegions setup.board regions → now ≤ before + most_steps limits regions
+AreStepsFor Safe setup before now = now ≡ before
+
+-- steps are taken only for the position of a file that has all that is told of the one asked about
+abbrev pub AreSteps : List (List ℕ) → Option Files → Option (List ℕ) → ℕ → ℕ → Type 0
+AreSteps words files left before now = (now ≡ before)
+    ⊎ ((job : JobView) × (question : Question) × (word : List ℕ) × (file : List ℕ) × (setup : Setup) × AskAbout words job question word
+    × IsTold (told_of files left word) file × Reads file job.settings (Ok setup) × AreStepsFor question setup before now)

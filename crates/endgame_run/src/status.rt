@@ -2,7 +2,6 @@
 
 ghost use Rattle.std.specs.Prelude.{◌≡◌};
 
-use go_grid::Point;
 use sgf_go::SetupFault;
 use sgf_tree::TreeFault;
 
@@ -16,10 +15,8 @@ pub enum FileFault {
 /// What isn't built yet.
 #[derive(Clone, Copy, Debug, PartialEq, Eq)]
 pub enum Unbuilt {
-    /// Commands other than `solve`.
+    /// Commands other than `solve` and `safe`.
     Command,
-    /// Boards with contested points; the lowest of them.
-    Contested(Point),
 }
 
 /// What a run ends with.
@@ -35,6 +32,12 @@ pub enum Status {
     CannotWrite,
     /// The file has a fault.
     BadFile(FileFault),
+    /// The moves of a region lead back to an earlier position.
+    Cycle,
+    /// A region has more than 32 points, or more positions than the limit.
+    RegionLimit,
+    /// A value has more parts than the limit, or a number past the bounds of a `Dyadic`.
+    FormLimit,
     /// Memory was refused.
     Memory,
     /// The file has more than 1,048,576 bytes.
@@ -56,6 +59,9 @@ impl Status {
             Status::CannotRead => 2,
             Status::CannotWrite => 3,
             Status::BadFile(_) => 4,
+            Status::Cycle => 5,
+            Status::RegionLimit => 6,
+            Status::FormLimit => 7,
             Status::Memory => 8,
             Status::TooLong => 10,
             Status::Unbuilt(_) => 11,

@@ -5,9 +5,12 @@ ghost use Rattle.std.specs.Prelude.{◌≡◌, ◌^◌, ◌<◌, true};
 use crate::{FileFault, Status, Unbuilt, run};
 use desk_io::{MemoryShelf, MemorySink, MemorySource};
 use go_grid::{Colour, Point};
+use local_play::Steps;
 use sgf_go::{SetupFault, position};
 use sgf_tree::TreeFault;
 use std::alloc::{AllocError, Global};
+use std::marker::Brand;
+use std::sync::ledger::{Blank, Ledger};
 use std::test::Fail;
 use whole_rules::{Whole, plain_winner};
 
@@ -40,7 +43,61 @@ const WIDE_TEXT: &str =
     "side black\npurse black 24\npurse white 0\nhalf none\nregions 0\npositions 0\nwinner black\nmove spend\n";
 
 /// `.X.X.O.O.` / `XXXXXOOOO`, with one contested point.
-const POINT: &[u8] = b"(;SZ[9:2]AB[ba][da][ab:eb]AW[fa][ha][fb:ib])";
+const ONE_POINT: &[u8] = b"(;SZ[9:2]AB[ba][da][ab:eb]AW[fa][ha][fb:ib])";
+
+const ONE_POINT_TEXT: &str = "side black\npurse black 2\npurse white 2\nhalf none\nregions 1\n\
+    region ea points 1 positions 3\npositions 3\nwinner black\nmove ea\n";
+
+const WHITE_ONE_POINT_TEXT: &str =
+    "side white\npurse black 2\npurse white 2\nhalf none\nregions 1\n\
+    region ea points 1 positions 3\npositions 3\nwinner white\nmove ea\n";
+
+/// `.X.X.O.O.` / `XXXX.OOOO`, with two contested points, which are worth nothing to who moves first.
+const TWO_POINTS: &[u8] = b"(;SZ[9:2]AB[ba][da][ab:db]AW[fa][ha][fb:ib])";
+
+const TWO_POINTS_TEXT: &str = "side black\npurse black 2\npurse white 2\nhalf none\nregions 1\n\
+    region ea points 2 positions 9\npositions 9\nwinner white\nmove none\n";
+
+/// `.X.XXXO.O.` / `XXXX..OOOO` / `XXXXXXOOOO`: a corridor of two points, open to White.
+const CORRIDOR: &[u8] = b"(;SZ[10:3]AB[ba][da:fa][ab:db][ac:fc]AW[ga][ia][gb:jb][gc:jc])";
+
+const CORRIDOR_TEXT: &str = "side black\npurse black 2\npurse white 2\nhalf none\nregions 1\n\
+    region eb points 2 positions 8\npositions 8\nwinner black\nmove fb\n";
+
+const WHITE_CORRIDOR_TEXT: &str = "side white\npurse black 2\npurse white 2\nhalf none\nregions 1\n\
+    region eb points 2 positions 8\npositions 8\nwinner black\nmove none\n";
+
+/// The corridor with a white stone inside.
+const VISITED: &[u8] = b"(;SZ[10:3]AB[ba][da:fa][ab:db][ac:fc]AW[ga][ia][gb:jb][gc:jc][eb])";
+
+const VISITED_TEXT: &str = "side black\npurse black 2\npurse white 2\nhalf none\nregions 1\n\
+    region eb points 2 positions 4\npositions 4\nwinner black\nmove fb\n";
+
+const WHITE_VISITED_TEXT: &str = "side white\npurse black 2\npurse white 2\nhalf none\nregions 1\n\
+    region eb points 2 positions 4\npositions 4\nwinner white\nmove fb\n";
+
+/// `.X.XXOO.O.` / `XXXX..OOOO` / `XXXXXOOOOO`: two points, one of Black and one of White, with stones taken back and forth.
+const ENDLESS: &[u8] = b"(;SZ[10:3]AB[ba][da:ea][ab:db][ac:ec]AW[fa:ga][ia][gb:jb][fc:jc])";
+
+/// Black's stone at `fb` takes the white one at `eb`, and a new white one there takes it.
+const CYCLE: &str = "fault cycle eb 1 white:eb black:fb white:eb\n";
+
+/// `.X.XXXXO.O.` / `XXXX...OOOO` / `XXXXXXXOOOO`: a corridor of three points, open to White.
+const LONG_CORRIDOR: &[u8] = b"(;SZ[11:3]AB[ba][da:ga][ab:db][ac:gc]AW[ha][ja][hb:kb][hc:kc])";
+
+const LONG_CORRIDOR_TEXT: &str = "side black\npurse black 2\npurse white 2\nhalf none\nregions 1\n\
+    region eb points 3 positions 22\npositions 22\nwinner black\nmove eb\n";
+
+/// One point without a liberty for any stone.
+const SINGLE_TEXT: &str = "side black\npurse black 0\npurse white 0\nhalf none\nregions 1\n\
+    region aa points 1 positions 1\npositions 1\nwinner white\nmove none\n";
+
+/// A saved game of two lines, after a move, a capture and a pass.
+const COPY: &[u8] =
+    b"Saved game (copy)\n(;FF[4]GaMe[1]SiZe[9:2]KM[6.5]C[a \\] b]AB[ba][da][ab:bb][db:eb]AW[ca][fa][ha][fb:ib](;B[cb]C[takes];W[tt];Black[tt])(;B[ea]))";
+
+const COPY_TEXT: &str = "side white\npurse black 3\npurse white 8\nhalf white\nregions 1\n\
+    region ea points 1 positions 3\npositions 3\nwinner white\nmove ea\n";
 
 const CAPTIVE_SAFE: &str =
     "chain ba white stones 1 open\nchain ca black stones 7 alive\nchain fa white stones 6 alive\n\
@@ -76,11 +133,43 @@ const NOTHING_FAILS: Failing = Failing {
 fn shelf(alloc: Global, failing: u64) -> Result<MemoryShelf, AllocError> {
     let mut shelf = MemoryShelf::new(alloc);
     shelf.add("a", TIE.to_vec(alloc)?)?;
-    shelf.add("c", POINT.to_vec(alloc)?)?;
+    shelf.add("b", TWO_POINTS.to_vec(alloc)?)?;
+    shelf.add("c", ONE_POINT.to_vec(alloc)?)?;
+    shelf.add("d", CORRIDOR.to_vec(alloc)?)?;
+    shelf.add("e", ENDLESS.to_vec(alloc)?)?;
+    shelf.add("f", LONG_CORRIDOR.to_vec(alloc)?)?;
+    shelf.add("visited", VISITED.to_vec(alloc)?)?;
     shelf.add("g", CAPTIVE.to_vec(alloc)?)?;
     shelf.add("saved", SAVED.to_vec(alloc)?)?;
     shelf.fail_at(failing)?;
     Ok(shelf)
+}
+
+/// What a run over these things ends with, whose steps a new ledger counts.
+fn counted<L: Ledger>(
+    alloc: Global,
+    words: &[&str],
+    shelf: &mut MemoryShelf,
+    lines: &mut MemorySource,
+    out: &mut MemorySink,
+    blank: Blank,
+) -> Status
+    requires name { blank.name ≡ L.name }
+    requires parts { blank.parts ≡ L.parts }
+    requires some { 0 < blank.parts }
+{
+    run(alloc, words, shelf, lines, out, &mut Steps::<L>::new(blank))
+}
+
+/// What a run over these things ends with.
+fn status_of(
+    alloc: Global,
+    words: &[&str],
+    shelf: &mut MemoryShelf,
+    lines: &mut MemorySource,
+    out: &mut MemorySink,
+) -> Status {
+    counted::<Brand>(alloc, words, shelf, lines, out, Blank::new(1))
 }
 
 /// What a run ends with and writes, with this file in the source and room in the sink.
@@ -94,14 +183,14 @@ fn outcome(
     let mut shelf = shelf(alloc, failing.load)?;
     let mut lines = MemorySource::new(file.to_vec(alloc)?, 7, vec![in alloc; failing.read]?);
     let mut out = MemorySink::with_room(alloc, room, vec![in alloc; failing.write]?)?;
-    let status = run(alloc, words, &mut shelf, &mut lines, &mut out);
+    let status = status_of(alloc, words, &mut shelf, &mut lines, &mut out);
     Ok((status, out.written().to_vec(alloc)?))
 }
 
 #[test]
 fn solves_files_of_the_shelf(rt: HostRuntime) -> Result<(), Fail> {
     let alloc = rt.alloc();
-    let rows: [(&[&str], &str); 9] = [
+    let rows: [(&[&str], &str); 18] = [
         (&["solve", "a"], TIE_TEXT),
         (&["solve", "a", "--turn", "white"], WHITE_TIE_TEXT),
         (
@@ -118,6 +207,15 @@ fn solves_files_of_the_shelf(rt: HostRuntime) -> Result<(), Fail> {
             &["solve", "saved", "--komi", "0", "--turn", "black"],
             TIE_TEXT,
         ),
+        (&["solve", "b"], TWO_POINTS_TEXT),
+        (&["solve", "b", "--positions", "9"], TWO_POINTS_TEXT),
+        (&["solve", "c", "--turn", "white"], WHITE_ONE_POINT_TEXT),
+        (&["solve", "d"], CORRIDOR_TEXT),
+        (&["solve", "d", "--turn", "white"], WHITE_CORRIDOR_TEXT),
+        (&["solve", "d", "--parts", "2"], CORRIDOR_TEXT),
+        (&["solve", "f"], LONG_CORRIDOR_TEXT),
+        (&["solve", "visited"], VISITED_TEXT),
+        (&["solve", "visited", "--turn", "white"], WHITE_VISITED_TEXT),
         (&["safe", "g"], CAPTIVE_SAFE),
         (&["safe", "c", "--turn", "white"], POINT_SAFE),
     ];
@@ -130,30 +228,51 @@ fn solves_files_of_the_shelf(rt: HostRuntime) -> Result<(), Fail> {
 }
 
 #[test]
+fn answers_faults_of_regions(rt: HostRuntime) -> Result<(), Fail> {
+    let alloc = rt.alloc();
+    let rows: [(&[&str], Status, &str); 3] = [
+        (
+            &["solve", "b", "--positions", "8"],
+            Status::RegionLimit,
+            "fault region ea positions over 8\n",
+        ),
+        (
+            &["solve", "d", "--parts", "1"],
+            Status::FormLimit,
+            "fault form eb\n",
+        ),
+        (&["solve", "e"], Status::Cycle, CYCLE),
+    ];
+    for (words, status, text) in rows {
+        let (got, written) = outcome(alloc, words, b"", 200, NOTHING_FAILS)?;
+        assert_eq!(rt; written.as_slice(), text.as_bytes());
+        assert_eq!(rt; got, status);
+    }
+    Ok(())
+}
+
+#[test]
 fn answers_files_of_the_source(rt: HostRuntime) -> Result<(), Fail> {
     let alloc = rt.alloc();
     let tree = |fault| Status::BadFile(FileFault::Tree(fault));
     let setup = |fault| Status::BadFile(FileFault::Setup(fault));
-    let contested = |number| Status::Unbuilt(Unbuilt::Contested(Point(number)));
-    let rows: [(&[u8], Status, &str); 21] = [
+    let rows: [(&[u8], Status, &str); 23] = [
         (TIE, Status::Done, TIE_TEXT),
         (
             b"x(y(;SZ[8:2]AB[ba][da][ab:db]AW[ea][ga][eb:hb])",
             Status::Done,
             TIE_TEXT,
         ),
-        (
-            b"(;SZ[01]AB[])",
-            contested(0),
-            "fault unbuilt contested aa\n",
-        ),
+        (b"(;SZ[01]AB[])", Status::Done, SINGLE_TEXT),
         (b"(;SZ[25:25]AB[aa:yx][by])", Status::Done, WIDE_TEXT),
+        (ONE_POINT, Status::Done, ONE_POINT_TEXT),
+        (COPY, Status::Done, COPY_TEXT),
+        (b"(;SZ[1])", Status::Done, SINGLE_TEXT),
         (
-            b"(;SZ[9:2]AB[ba][da][ab:eb]AW[fa][ha][fb:ib])",
-            contested(4),
-            "fault unbuilt contested ea\n",
+            b"(;SZ[6])",
+            Status::RegionLimit,
+            "fault region aa points 36\n",
         ),
-        (b"(;SZ[1])", contested(0), "fault unbuilt contested aa\n"),
         (b"", tree(TreeFault::NoTree), "fault file no tree\n"),
         (
             b"(;SZ[8:2]AB[ba",
@@ -360,7 +479,7 @@ fn a_file_too_long_is_refused(rt: HostRuntime) -> Result<(), Fail> {
             let mut lines = MemorySource::new(file, 5000, Vec::new(alloc));
             let mut out = MemorySink::with_room(alloc, 100, Vec::new(alloc))?;
             assert_eq!(rt;
-                run(alloc, &["solve", word], &mut shelf, &mut lines, &mut out),
+                status_of(alloc, &["solve", word], &mut shelf, &mut lines, &mut out),
                 status
             );
         }
@@ -410,7 +529,14 @@ fn line_of(winner: Option<Colour>) -> &'static [u8] {
 #[test]
 fn the_winner_is_that_of_plain_recursion(rt: HostRuntime) -> Result<(), Fail> {
     let alloc = rt.alloc();
-    let files: [&[u8]; 4] = [TIE, CAPTIVE, b"(;SZ[5:1]AB[ba][da])", b"(;SZ[3:1]AW[ba])"];
+    let files: [&[u8]; 6] = [
+        TIE,
+        CAPTIVE,
+        b"(;SZ[5:1]AB[ba][da])",
+        b"(;SZ[3:1]AW[ba])",
+        TWO_POINTS,
+        VISITED,
+    ];
     for file in files {
         for side in ["black", "white"] {
             for komi in ["0", "0.5", "-0.5", "1", "-1.5", "2.5"] {

@@ -1,96 +1,51 @@
 //! The top call.
 
-ghost use Rattle.std.specs.Prelude.{◌≡◌, ◌≢◌, ◌<◌, ◌^◌, ◌≤◌, ◌⊎◌, ◌↔◌, ℕ, List, map, length, sum_by, IfOk, IfSome, MatchOption, Err, Ok};
+ghost use Rattle.std.specs.Prelude.{◌≡◌, ◌≢◌, ◌<◌, ◌^◌, ◌≤◌, ◌+◌, List, length, sum_by, IfOk, MatchOption};
 ghost use Rattle.go_grid.specs.Chain.{IsSettled};
+ghost use Rattle.go_grid.specs.Region.{Shape};
 ghost use Rattle.desk_io.specs.Outside.{Rose, ended};
 ghost use Rattle.sgf_go.specs.declared.settings.Setup.{Setup as Position};
 ghost use Rattle.sgf_tree.specs.Reading.{line_text};
 ghost use Rattle.sgf_go.specs.Komi.{IsInRange};
-ghost use Rattle.gd_words.specs.Viewed.{task_of, texts};
+ghost use Rattle.gd_words.specs.Viewed.{task_of, texts, viewed};
+ghost use Rattle.endgame_solver.specs.declared.limits.Limits.{Limits};
+ghost use Rattle.endgame_solver.specs.Faults.{AreRegions, most_steps};
 ghost use Rattle.endgame_run.specs.File.{count_of, dash, outside, told_of};
-ghost use Rattle.endgame_run.specs.Top.{HasRanges, IsFileRun, IsFinished, IsFirstMarked, IsLineAnswer};
-ghost use Rattle.endgame_run.specs.Verdict.{AskToSolve, HasCause, IsAnswer, IsFileAnswer, IsPositionAnswer, IsUnbuilt, IsWritten, ReadShelf, ReadSource, WritesMove, WritesWinner, task_for};
+ghost use Rattle.endgame_run.specs.Top.{AreFileSteps, AreLineSteps, AreToldSteps, HasRanges, IsFileRun, IsFinished, IsLineAnswer, IsModest};
+ghost use Rattle.endgame_run.specs.Verdict.{AreSteps, AreStepsFor, AskToSolve, Asks, HasCause, IsAnswer, IsFileAnswer, IsPositionAnswer, IsToldToSolve, IsUnbuilt, IsWritten, ReadShelf, ReadSource, WritesMove, WritesWinner};
 
-use crate::closed::{first_winning_move, winner};
-use crate::faults::{point_text, setup_fault_text, tree_fault_text};
+use crate::faults::{setup_fault_text, tree_fault_text};
 use crate::file::{FileError, read_file};
-use crate::question::Question;
+use crate::question::{Inquiry, Question, Report};
+use crate::solving::solve;
 use crate::status::{FileFault, Status, Unbuilt};
 use desk_io::{Shelf, Sink, Source};
-use gd_words::Command;
-use go_grid::Point;
-use report::{Text, safe_text, solve_text};
+use endgame_solver::Limits;
+use gd_words::{Command, Job};
+use local_play::Steps;
+use report::{Text, safe_text};
 use sgf_go::{GoError, Settings, Setup, position};
 use sgf_tree::{SgfError, Tree};
 use std::alloc::{AllocError, Global};
-use whole_rules::Whole;
-
-/// A status and its text.
-#[derive(Drop)]
-struct Report {
-    status: Status,
-    text: Text,
-}
-
-/// The lowest contested point.
-fn first_contested(state: &Whole) -> Option<Point>
-    ensures { IsFirstMarked state.now.contested (length state.now.board.cells) result }
-{
-    for number in 0..state.board().size().area() {
-        if state.contested(Point(number)) {
-            return Some(Point(number));
-        }
-    }
-    None
-}
+use std::sync::ledger::Ledger;
 
 /// The report on a position.
-fn solve(alloc: Global, setup: &Setup) -> Result<Report, AllocError>
-    requires settled { IsSettled setup.now.board }
-    requires black { setup.now.black_prisoners < 2 ^ 40 }
-    requires white { setup.now.white_prisoners < 2 ^ 40 }
-    requires komi { IsInRange setup.now.komi_halves }
-    ensures { IfOk result (λ report. IsPositionAnswer Question.Solve setup.now report.status (report.text)) }
-{
-    let state = Whole::opening(
-        alloc,
-        &setup.board,
-        setup.black_prisoners,
-        setup.white_prisoners,
-        setup.komi_halves,
-        setup.side,
-    )?;
-    if let Some(point) = first_contested(&state) {
-        return Ok(Report {
-            status: Status::Unbuilt(Unbuilt::Contested(point)),
-            text: Text::from(point_text(
-                alloc,
-                "fault unbuilt contested",
-                setup.board.size(),
-                point,
-            )?),
-        });
-    }
-    Ok(Report {
-        status: Status::Done,
-        text: solve_text(alloc, &state, winner(&state), first_winning_move(&state))?,
-    })
-}
-
-/// The report on a position.
-fn report_on_position(
+fn report_on_position<L: Ledger>(
     alloc: Global,
     question: Question,
     setup: &Setup,
+    steps: &mut Steps<L>,
 ) -> Result<Report, AllocError>
     requires settled { IsSettled setup.now.board }
     requires black { setup.now.black_prisoners < 2 ^ 40 }
     requires white { setup.now.white_prisoners < 2 ^ 40 }
     requires komi { IsInRange setup.now.komi_halves }
-    ensures { IfOk result (λ report. IsPositionAnswer question setup.now report.status report.text) }
+    requires modest { IsModest question }
+    ensures answer { IfOk result (λ report. IsPositionAnswer question setup.now report.status report.text) }
+    ensures steps { AreStepsFor question setup.now steps.old steps.new }
 {
     match question {
-        Question::Solve => solve(alloc, setup),
+        Question::Solve(limits) => solve(alloc, setup, &limits, steps),
         Question::Safe => Ok(Report {
             status: Status::Done,
             text: safe_text(alloc, &setup.board)?,
@@ -99,20 +54,23 @@ fn report_on_position(
 }
 
 /// The report on the main line of a file.
-fn report_on_line(
+fn report_on_line<L: Ledger>(
     alloc: Global,
     question: Question,
     tree: &Tree,
     settings: &Settings,
+    steps: &mut Steps<L>,
 ) -> Result<Report, AllocError>
     requires nodes { length tree.now.line.items ≤ 1048576 }
     requires properties { sum_by (λ n. length n.properties.items) tree.now.line.items ≤ 1048576 }
     requires ranges { HasRanges settings.now }
-    ensures { IfOk result (λ report. IsLineAnswer question (line_text tree.now) settings.now report.status report.text) }
+    requires modest { IsModest question }
+    ensures answer { IfOk result (λ report. IsLineAnswer question (line_text tree.now) settings.now report.status report.text) }
+    ensures steps { AreLineSteps question (line_text tree.now) settings.now steps.old steps.new }
 {
     match position(alloc, tree, settings) {
         Ok(setup) => {
-            let report = report_on_position(alloc, question, &setup)?;
+            let report = report_on_position(alloc, question, &setup, steps)?;
             Ok(report)
         }
         Err(GoError::Fault(fault)) => Ok(Report {
@@ -124,19 +82,22 @@ fn report_on_line(
 }
 
 /// The report on a file that was read to its end.
-fn report_on(
+fn report_on<L: Ledger>(
     alloc: Global,
     question: Question,
     file: &[u8],
     settings: &Settings,
+    steps: &mut Steps<L>,
 ) -> Result<Report, AllocError>
     requires short { length file.now ≤ 1048576 }
     requires ranges { HasRanges settings.now }
-    ensures { IfOk result (λ report. IsFileAnswer question file.now settings.now report.status report.text) }
+    requires modest { IsModest question }
+    ensures answer { IfOk result (λ report. IsFileAnswer question file.now settings.now report.status report.text) }
+    ensures steps { AreFileSteps question file.now settings.now steps.old steps.new }
 {
     match sgf_tree::read(alloc, file) {
         Ok(tree) => {
-            let report = report_on_line(alloc, question, &tree, settings)?;
+            let report = report_on_line(alloc, question, &tree, settings, steps)?;
             Ok(report)
         }
         Err(SgfError::Fault(fault)) => Ok(Report {
@@ -148,25 +109,27 @@ fn report_on(
 }
 
 /// The report on the file of a word.
-fn answer<H: Shelf, S: Source>(
+fn answer<H: Shelf, S: Source, L: Ledger>(
     alloc: Global,
+    inquiry: &Inquiry<'_>,
+    settings: &Settings,
     shelf: &mut H,
     lines: &mut S,
-    question: Question,
-    word: &str,
-    settings: &Settings,
+    steps: &mut Steps<L>,
 ) -> Result<Report, AllocError>
-    requires { HasRanges settings.now }
-    ensures answer { IfOk result (λ report. IsAnswer question (told_of (H.files shelf.old) (S.left lines.old) word.now)
-        (count_of (H.faults shelf.old) (S.faults lines.old) word.now) (count_of (H.faults shelf.new) (S.faults lines.new) word.now)
+    requires ranges { HasRanges settings.now }
+    requires modest { IsModest inquiry.now.question }
+    ensures answer { IfOk result (λ report. IsAnswer inquiry.now.question (told_of (H.files shelf.old) (S.left lines.old) inquiry.now.word.now)
+        (count_of (H.faults shelf.old) (S.faults lines.old) inquiry.now.word.now) (count_of (H.faults shelf.new) (S.faults lines.new) inquiry.now.word.now)
         settings.now report.status report.text) }
-    ensures at_end { IfOk result (λ report. report.status ≡ Status.Done → word.now ≡ dash → S.left lines.new ≡ ended (S.left lines.old)) }
-    ensures lines_unread { word.now ≢ dash → lines.new ≡ lines.old }
-    ensures shelf_unread { word.now ≡ dash → shelf.new ≡ shelf.old }
+    ensures steps { AreToldSteps inquiry.now.question (told_of (H.files shelf.old) (S.left lines.old) inquiry.now.word.now) settings.now steps.old steps.new }
+    ensures at_end { IfOk result (λ report. report.status ≡ Status.Done → inquiry.now.word.now ≡ dash → S.left lines.new ≡ ended (S.left lines.old)) }
+    ensures lines_unread { inquiry.now.word.now ≢ dash → lines.new ≡ lines.old }
+    ensures shelf_unread { inquiry.now.word.now ≡ dash → shelf.new ≡ shelf.old }
 {
-    match read_file(alloc, shelf, lines, word) {
+    match read_file(alloc, shelf, lines, inquiry.word) {
         Ok(file) => {
-            let report = report_on(alloc, question, &file, settings)?;
+            let report = report_on(alloc, inquiry.question, &file, settings, steps)?;
             Ok(report)
         }
         Err(FileError::CannotRead) => Ok(Report {
@@ -192,47 +155,59 @@ fn finish<K: Sink>(out: &mut K, status: Status, text: &[u8]) -> Status
 }
 
 /// Answers a question about the file of a word, and writes the text.
-fn run_file<H: Shelf, S: Source, K: Sink>(
+fn run_file<H: Shelf, S: Source, K: Sink, L: Ledger>(
     alloc: Global,
-    question: Question,
+    inquiry: &Inquiry<'_>,
     settings: &Settings,
-    word: &str,
     shelf: &mut H,
     lines: &mut S,
     out: &mut K,
+    steps: &mut Steps<L>,
 ) -> Status
-    requires { HasRanges settings.now }
-    ensures answered { IsFileRun question settings.now word.now (outside (H.files shelf.old) (S.left lines.old)
+    requires ranges { HasRanges settings.now }
+    requires modest { IsModest inquiry.now.question }
+    ensures answered { IsFileRun inquiry.now.question settings.now inquiry.now.word.now (outside (H.files shelf.old) (S.left lines.old)
         (H.faults shelf.old) (H.faults shelf.new) (S.faults lines.old) (S.faults lines.new))
         (K.faults out.old) (K.faults out.new) (K.holds out.old) (K.holds out.new) result }
-    ensures at_end { result ≡ Status.Done → word.now ≡ dash → S.left lines.new ≡ ended (S.left lines.old) }
-    ensures lines_unread { word.now ≢ dash → lines.new ≡ lines.old }
-    ensures shelf_unread { word.now ≡ dash → shelf.new ≡ shelf.old }
+    ensures steps { AreToldSteps inquiry.now.question (told_of (H.files shelf.old) (S.left lines.old) inquiry.now.word.now) settings.now steps.old steps.new }
+    ensures at_end { result ≡ Status.Done → inquiry.now.word.now ≡ dash → S.left lines.new ≡ ended (S.left lines.old) }
+    ensures lines_unread { inquiry.now.word.now ≢ dash → lines.new ≡ lines.old }
+    ensures shelf_unread { inquiry.now.word.now ≡ dash → shelf.new ≡ shelf.old }
 {
-    match answer(alloc, shelf, lines, question, word, settings) {
+    match answer(alloc, inquiry, settings, shelf, lines, steps) {
         Ok(report) => finish(out, report.status, report.text.as_slice()),
         Err(_) => Status::Memory,
     }
 }
 
-/// What a command asks, and the word of the file that it asks about, where it is built.
-fn asked<'a>(command: &Command<'a>) -> Option<(Question, &'a str)>
-    ensures { MatchOption result (IsUnbuilt (task_of command.now)) (λ asked. task_of command.now ≡ task_for asked.0 asked.1.now) }
+/// What a job asks about a file, where its command is built.
+fn asked<'a>(job: &Job<'a>) -> Option<Inquiry<'a>>
+    ensures { MatchOption result (IsUnbuilt (task_of job.now.command)) (λ inquiry. Asks (viewed job.now) inquiry.question inquiry.word.now) }
 {
-    match *command {
-        Command::Solve(word) => Some((Question::Solve, word)),
-        Command::Safe(word) => Some((Question::Safe, word)),
+    match job.command {
+        Command::Solve(word) => Some(Inquiry {
+            question: Question::Solve(Limits {
+                positions: job.positions,
+                parts: job.parts,
+            }),
+            word,
+        }),
+        Command::Safe(word) => Some(Inquiry {
+            question: Question::Safe,
+            word,
+        }),
         Command::Values(_) | Command::Play(_) | Command::Trial(_) => None,
     }
 }
 
-/// Does what the words say.
-pub fn run<H: Shelf, S: Source, K: Sink>(
+/// Does what the words say, and counts the positions of regions that are expanded.
+pub fn run<H: Shelf, S: Source, K: Sink, L: Ledger>(
     alloc: Global,
     words: &[&str],
     shelf: &mut H,
     lines: &mut S,
     out: &mut K,
+    steps: &mut Steps<L>,
 ) -> Status
     ensures cause { HasCause (texts words.now) (outside (H.files shelf.old) (S.left lines.old) (H.faults shelf.old) (H.faults shelf.new)
         (S.faults lines.old) (S.faults lines.new)) result }
@@ -243,6 +218,10 @@ pub fn run<H: Shelf, S: Source, K: Sink>(
         (S.faults lines.old) (S.faults lines.new)) (K.holds out.old) (K.holds out.new) }
     ensures first_winning_move { result ≡ Status.Done → AskToSolve (texts words.now) → WritesMove (texts words.now) (outside (H.files shelf.old) (S.left lines.old) (H.faults shelf.old) (H.faults shelf.new)
         (S.faults lines.old) (S.faults lines.new)) (K.holds out.old) (K.holds out.new) }
+    ensures steps { (limits : Limits) (setup : Position) (regions : List Shape)
+        → IsToldToSolve (texts words.now) (H.files shelf.old) (S.left lines.old) limits setup → AreRegions setup.board regions → steps.new ≤ steps.old + most_steps limits regions }
+    ensures few_steps { AreSteps (texts words.now) (H.files shelf.old) (S.left lines.old) steps.old steps.new }
+    ensures no_steps { ¬ AskToSolve (texts words.now) → steps.new ≡ steps.old }
     ensures at_end { result ≡ Status.Done → ReadSource (texts words.now) → S.left lines.new ≡ ended (S.left lines.old) }
     ensures lines_unread { ¬ ReadSource (texts words.now) → lines.new ≡ lines.old }
     ensures shelf_unread { ¬ ReadShelf (texts words.now) → shelf.new ≡ shelf.old }
@@ -250,12 +229,12 @@ pub fn run<H: Shelf, S: Source, K: Sink>(
     let Ok(job) = gd_words::read(words) else {
         return finish(out, Status::Usage, b"fault usage\n");
     };
-    let Some((question, word)) = asked(&job.command) else {
+    let Some(inquiry) = asked(&job) else {
         return finish(
             out,
             Status::Unbuilt(Unbuilt::Command),
             b"fault unbuilt command\n",
         );
     };
-    run_file(alloc, question, &job.settings, word, shelf, lines, out)
+    run_file(alloc, &inquiry, &job.settings, shelf, lines, out, steps)
 }

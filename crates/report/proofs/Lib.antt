@@ -1,3 +1,4 @@
 pub mod ListingLaws
 pub mod SafetyLaws
+pub mod SolutionLaws
 pub mod TextLaws

@@ -1,11 +1,12 @@
 //! The text of `solve`.
 
-ghost use Rattle.std.specs.Prelude.{◌≡◌, ◌++◌, OnOk, IfOk, IfSome, string_bytes, Some};
-ghost use Rattle.report.specs.Solution.{IsMoveOnBoard, move_line, purse_line, solve_text, state_lines, token_word, winner_line};
+ghost use Rattle.std.specs.Prelude.{◌≡◌, ◌<◌, ◌*◌, ◌++◌, OnOk, IfOk, IfSome, string_bytes, Some};
+ghost use Rattle.report.specs.Solution.{HasLines, HasOutcome, HasRegions, IsMoveOnBoard, IsSolveText, count_line, move_line, purse_line, solved_line, state_lines, token_word, winner_line};
 
-use crate::lines::{colour_word, write_point, write_words};
+use crate::lines::{colour_word, write_name, write_point, write_words};
 use crate::text::Text;
-use go_grid::{Colour, Size};
+use endgame_solver::Solved;
+use go_grid::{Colour, Point, Size};
 use std::alloc::{AllocError, Global};
 use whole_rules::{Move, Token, Whole};
 
@@ -70,20 +71,75 @@ fn write_outcome(
     }
 }
 
-/// The text of a solved state without regions of play, whose winner and first winning move are given.
-#[tactic(auto, using(std::proofs::Common::append_assoc))]
-pub fn solve_text(
-    alloc: Global,
-    state: &Whole,
-    winner: Colour,
-    chosen: Option<Move>,
-) -> Result<Text, AllocError>
-    requires { IfSome chosen (IsMoveOnBoard state.now.board.columns state.now.board.rows) }
-    ensures { IfOk result (λ text. text ≡ solve_text state.now winner chosen) }
+/// Appends the lines on the winner and the first winning move of the present state.
+fn write_solution(text: &mut String, solved: &mut Solved) -> Result<(), AllocError>
+    ensures outcome { OnOk result (HasOutcome solved.old.state (string_bytes text.old) (string_bytes text.new)) }
+    ensures same { solved.new ≡ solved.old }
+{
+    let size = solved.whole().board().size();
+    let winner = solved.winner();
+    let chosen = solved.winning_move();
+    write_outcome(text, size, winner, chosen)?;
+    Ok(())
+}
+
+/// Appends the line of a number.
+#[tactic(auto, unfolding(crate::specs::Solution::count_line))]
+fn write_count(text: &mut String, label: &str, count: u128) -> Result<(), AllocError>
+    ensures { OnOk result (string_bytes text.new ≡ string_bytes text.old ++ count_line label.now count) }
+{
+    writeln!(text, "{label} {count}")
+}
+
+/// Appends the line of a region by its lowest point, the number of its points and that of its positions.
+fn write_region(
+    text: &mut String,
+    size: Size,
+    lowest: Point,
+    points: u16,
+    positions: u64,
+) -> Result<(), AllocError>
+    requires { lowest < size.columns * size.rows }
+    ensures { OnOk result (string_bytes text.new ≡ string_bytes text.old ++ solved_line size.columns lowest points positions) }
+{
+    text.push_str("region ")?;
+    write_name(text, size, lowest)?;
+    writeln!(text, " points {points} positions {positions}")?;
+    Ok(())
+}
+
+/// Appends a line for each region of play, and answers how many positions they have together.
+fn write_lines(text: &mut String, solved: &Solved) -> Result<u128, AllocError>
+    ensures { IfOk result (λ total. HasLines solved.now.state.board.columns solved.now.regions (string_bytes text.old) (string_bytes text.new) total) }
+{
+    let size = solved.whole().board().size();
+    let mut total = 0;
+    'writing: for number in 0..solved.regions() {
+        let report = solved.region_report(number);
+        write_region(text, size, report.lowest, report.points, report.positions)?;
+        total += u128::from(report.positions);
+    }
+    Ok(total)
+}
+
+/// Appends the lines on the regions of play.
+fn write_regions(text: &mut String, solved: &Solved) -> Result<(), AllocError>
+    ensures { OnOk result (HasRegions solved.now.state.board.columns solved.now.regions (string_bytes text.old) (string_bytes text.new)) }
+{
+    write_count(text, "regions", solved.regions() as u128)?;
+    let total = write_lines(text, solved)?;
+    write_count(text, "positions", total)?;
+    Ok(())
+}
+
+/// The text of a solved game: its state, its regions of play, its winner and its first winning move.
+pub fn solve_text(alloc: Global, solved: &mut Solved) -> Result<Text, AllocError>
+    ensures text { IfOk result (λ text. IsSolveText solved.old text) }
+    ensures same { solved.new ≡ solved.old }
 {
     let mut text = String::new(alloc);
-    write_state(&mut text, state)?;
-    text.push_str("regions 0\npositions 0\n")?;
-    write_outcome(&mut text, state.board().size(), winner, chosen)?;
+    write_state(&mut text, solved.whole())?;
+    write_regions(&mut text, solved)?;
+    write_solution(&mut text, solved)?;
     Ok(Text::from(text))
 }

@@ -1,16 +1,12 @@
 use Rattle.std.proofs.Common.{subst}
-use Rattle.endgame_run.specs.Verdict.{IsFileAnswer}
-use Rattle.endgame_run.specs.File.{told_of, count_of}
-use Rattle.endgame_run.proofs.TopLaws.{answered}
+use Rattle.endgame_run.specs.File.{told_of}
+use Rattle.endgame_run.specs.Top.{AreFileSteps}
+use Rattle.endgame_run.proofs.StepLaws.{told_steps}
 use Rattle.endgame_run.proofs.top.answer.Goals as goal
 
-pub returns-in_ok-report-in-Ok-clause-answer : goal.returns-in_ok-report-in-Ok-clause-answer
-returns-in_ok-report-in-Ok-clause-answer g c =
-    let status = c.in_ok-report-in-Ok.report.status in
-    let text = c.in_ok-report-in-Ok.report.text in
-    let settings = c.args.settings.now in
-    answered c.args.question (told_of (g.H.Shelf.files c.args.shelf.now) (g.S.Source.left c.args.lines.now) c.args.word.now)
-    (count_of (g.H.Shelf.faults c.args.shelf.now) (g.S.Source.faults c.args.lines.now) c.args.word.now)
-    (count_of (g.H.Shelf.faults c.read_file.new.shelf) (g.S.Source.faults c.read_file.new.lines) c.args.word.now)
-    c.in-Ok.file.items settings status text c.in-Ok.ensures.told c.in-Ok.ensures.short
-    (subst (λ f. IsFileAnswer c.args.question f settings status text) c.deref.ensures.value c.in_ok-report-in-Ok.ensures)
+pub returns-in_ok-report-in-Ok-clause-steps : goal.returns-in_ok-report-in-Ok-clause-steps
+returns-in_ok-report-in-Ok-clause-steps g c =
+    let question = c.args.inquiry.now.question in
+    told_steps question (told_of (g.H.Shelf.files c.args.shelf.now) (g.S.Source.left c.args.lines.now) c.args.inquiry.now.word.now) c.in-Ok.file.items c.args.settings.now
+    c.args.steps.now c.report_on.new.steps c.in-Ok.ensures.told
+    (subst (λ f. AreFileSteps question f c.args.settings.now c.args.steps.now c.report_on.new.steps) c.deref.ensures.value c.report_on.ensures.steps)

@@ -1,11 +1,10 @@
-use Rattle.std.proofs.Common.{◌∙◌, ap, ◌++◌, codes, string_bytes}
-use Rattle.report.specs.Solution.{state_lines, winner_line, move_line}
-use Rattle.report.proofs.TextLaws.{three_pieces}
+use Rattle.std.proofs.Common.{◌∙◌, ap, string_bytes, ◌++◌}
+use Rattle.report.specs.Solution.{state_lines}
+use Rattle.report.proofs.SolutionLaws.{text_is}
 use Rattle.report.proofs.solution.solve_text.Goals as goal
 
-pub returns : goal.returns
-returns c =
-    let s = c.args.state.now in
-    c.from.ensures ∙ three_pieces _ _ _ _ (state_lines s) (codes "regions 0\npositions 0\n") (winner_line c.args.winner ++ move_line s.board.columns c.args.chosen)
-    c.new-text.ensures.bytes c.in_ok-write_state.ensures c.in_ok-push_str.ensures.bytes
-    (c.in_ok-write_outcome.ensures ∙ ap (λ n. string_bytes c.push_str.new.self ++ (winner_line c.args.winner ++ move_line n c.args.chosen)) (c.size.ensures.columns ∙ ap (λ g. g.columns) c.board.ensures))
+pub returns-clause-text : goal.returns-clause-text
+returns-clause-text c =
+    text_is c.args.solved.now (string_bytes c.new-text.result) (string_bytes c.write_state.new.text) (string_bytes c.write_regions.new.text) (string_bytes c.write_solution.new.text)
+    c.from.result c.new-text.ensures.bytes (c.in_ok-write_state.ensures ∙ ap (λ s. string_bytes c.new-text.result ++ state_lines s) c.whole.ensures)
+    c.in_ok-write_regions.ensures c.in_ok-write_solution.ensures.outcome c.from.ensures

@@ -1,0 +1,225 @@
+-- A question about a file has one status.
+use Rattle.std.proofs.Common.{◌≡◌, ℕ, ◌<◌, ◌⊎◌, inl, inr, refl, sym, ap, ◌∙◌, subst, arith, List, length, Some, None, Result, Ok, Err}
+use Rattle.std.specs.Prelude.{Option}
+use Rattle.std.specs.List.{Contains}
+use Rattle.std.proofs.lemmas.Bool.{cases_order}
+use Rattle.std.proofs.lemmas.List.Elements.{Contains-get_or}
+use Rattle.go_grid.specs.Region.{Shape}
+use Rattle.sgf_tree.specs.Grammar.{PropertyText}
+use Rattle.sgf_tree.specs.Reading.{Answer, IsAnswer as IsTreeAnswer}
+use Rattle.sgf_tree.specs.Reading.Answer.{line, no_tree, bad_byte, cut_short, too_deep}
+use Rattle.sgf_tree.specs.declared.fault.TreeFault.{TreeFault}
+use Rattle.sgf_tree.specs.declared.fault.TreeFault.TheVariants.{NoTree, BadByte, CutShort, TooDeep}
+use Rattle.sgf_tree.proofs.Only.{one_answer}
+use Rattle.sgf_go.specs.declared.fault.SetupFault.{SetupFault}
+use Rattle.sgf_go.specs.declared.settings.Settings.{Settings}
+use Rattle.sgf_go.specs.declared.settings.Setup.{Setup}
+use Rattle.sgf_go.specs.Setup.{Gives}
+use Rattle.sgf_go.proofs.Only.{one_position}
+use Rattle.endgame_solver.specs.declared.limits.Limits.{Limits}
+use Rattle.endgame_solver.specs.declared.faults.SolveError.{SolveError}
+use Rattle.endgame_solver.specs.declared.faults.SolveError.TheVariants.{Points, Positions, Cycle, Form, Memory}
+use Rattle.endgame_solver.specs.Faults.{AreRefused, AreSmall, AreSound, IsFaultOf, IsFirstFault, IsSound}
+use Rattle.endgame_solver.specs.Regions.{no_region, region_at}
+use Rattle.endgame_run.specs.declared.status.Status.{Status}
+use Rattle.endgame_run.specs.declared.status.Status.TheVariants as status
+use Rattle.endgame_run.specs.declared.status.FileFault.{FileFault}
+use Rattle.endgame_run.specs.declared.status.FileFault.TheVariants as fault
+use Rattle.endgame_run.specs.declared.question.Question.{Question}
+use Rattle.endgame_run.specs.declared.question.Question.TheVariants as question
+use Rattle.endgame_run.specs.Laws.{HasOneStatus, RefusesFaults, SolvesSound}
+use Rattle.endgame_run.specs.Position.{Reads}
+use Rattle.endgame_run.specs.Refusal.{HasStatus}
+use Rattle.endgame_run.specs.Verdict.{IsFileAnswer, IsPositionAnswer, IsRefused, IsSolved}
+use Rattle.endgame_run.proofs.OneRegions.{one_regions}
+
+-- what a fault of a tree is among the answers of a reading, and back
+abbrev answer_of : TreeFault → Answer
+answer_of NoTree = no_tree
+answer_of (BadByte at) = bad_byte at
+answer_of CutShort = cut_short
+answer_of TooDeep = too_deep
+
+abbrev fault_of : Answer → Option TreeFault
+fault_of (line l) = None
+fault_of no_tree = Some NoTree
+fault_of (bad_byte at) = Some (BadByte at)
+fault_of cut_short = Some CutShort
+fault_of too_deep = Some TooDeep
+
+there_and_back : (f : TreeFault) → Path (Option TreeFault) (fault_of (answer_of f)) (Some f)
+there_and_back NoTree = refl
+there_and_back (BadByte at) = refl
+there_and_back CutShort = refl
+there_and_back TooDeep = refl
+
+tree_read : (file : List ℕ) (settings : Settings) (f : TreeFault) → Reads file settings (Err (fault.Tree f)) → IsTreeAnswer file (answer_of f)
+tree_read file settings NoTree h = h
+tree_read file settings (BadByte at) h = h
+tree_read file settings CutShort h = h
+tree_read file settings TooDeep h = h
+
+same_line : (file : List ℕ) (l m : List (List PropertyText)) → IsTreeAnswer file (line l) → IsTreeAnswer file (line m) → m ≡ l
+same_line file l m t u = let e : Path Answer (line m) (line l) = one_answer file (line m) (line l) u t in cc
+
+line_or_fault : (file : List ℕ) (settings : Settings) (l : List (List PropertyText)) (f : TreeFault) → IsTreeAnswer file (line l) → Reads file settings (Err (fault.Tree f)) → ⊥
+line_or_fault file settings l f t u =
+    let e = ap fault_of (one_answer file (line l) (answer_of f) t (tree_read file settings f u)) ∙ there_and_back f in absurd cc
+
+-- a file gives a position or a fault
+one_fault : (file : List ℕ) (settings : Settings) (f g : FileFault) → Reads file settings (Err f) → Reads file settings (Err g) → f ≡ g
+one_fault file settings (fault.Tree f) (fault.Tree g) a b =
+    let e = sym (there_and_back f) ∙ ap fault_of (one_answer file (answer_of f) (answer_of g) (tree_read file settings f a) (tree_read file settings g b)) ∙ there_and_back g in
+    let same : f ≡ g = cc in ap fault.Tree same
+one_fault file settings (fault.Tree f) (fault.Setup g) a (l, t, h) = absurd (line_or_fault file settings l f t a)
+one_fault file settings (fault.Setup f) (fault.Tree g) (l, t, h) b = absurd (line_or_fault file settings l g t b)
+one_fault file settings (fault.Setup f) (fault.Setup g) (l, t, h) (m, u, k) =
+    let e : Path (Result Setup SetupFault) (Err f) (Err g) = one_position settings l (Err f) (Err g) h (subst (λ x. Gives settings x (Err g)) (same_line file l m t u) k) in
+    let same : f ≡ g = cc in ap fault.Setup same
+
+not_both : (file : List ℕ) (settings : Settings) (p : Setup) (f : FileFault) → Reads file settings (Ok p) → Reads file settings (Err f) → ⊥
+not_both file settings p (fault.Tree f) (l, t, h) b = line_or_fault file settings l f t b
+not_both file settings p (fault.Setup f) (l, t, h) (m, u, k) =
+    let e : Path (Result Setup SetupFault) (Ok p) (Err f) = one_position settings l (Ok p) (Err f) h (subst (λ x. Gives settings x (Err f)) (same_line file l m t u) k) in absurd cc
+
+pub one_setup : (file : List ℕ) (settings : Settings) (a b : Setup) → Reads file settings (Ok a) → Reads file settings (Ok b) → a ≡ b
+one_setup file settings a b (l, t, g) (m, u, h) =
+    let e : Path (Result Setup SetupFault) (Ok a) (Ok b) = one_position settings l (Ok a) (Ok b) g (subst (λ x. Gives settings x (Ok b)) (same_line file l m t u) h) in cc
+
+-- a sound region has no fault
+sound_has_none : (limits : Limits) (r : Shape) (f : SolveError) → IsSound limits r → IsFaultOf limits r f → ⊥
+sound_has_none limits r (Points p n) s h = h
+sound_has_none limits r (Positions p) s h = s.positions h.1
+sound_has_none limits r (Cycle p names back) s h = s.no_cycle h.2.0 back h.2.1
+sound_has_none limits r (Form p) s h = s.forms h.3
+sound_has_none limits r (Memory e) s h = h
+
+-- the faults of a region have one status
+region_status : (limits : Limits) (r : Shape) (f g : SolveError) (s t : Status) → IsFaultOf limits r f → IsFaultOf limits r g → HasStatus f s → HasStatus g t → s ≡ t
+region_status limits r (Points p n) g s t a b x y = absurd a
+region_status limits r (Memory e) g s t a b x y = absurd a
+region_status limits r f (Points p n) s t a b x y = absurd b
+region_status limits r f (Memory e) s t a b x y = absurd b
+region_status limits r (Positions p) (Positions q) s t a b x y = x ∙ sym y
+region_status limits r (Positions p) (Cycle q names back) s t a b x y = absurd (b.1 a.1)
+region_status limits r (Positions p) (Form q) s t a b x y = absurd (b.1 a.1)
+region_status limits r (Cycle p names back) (Positions q) s t a b x y = absurd (a.1 b.1)
+region_status limits r (Cycle p names back) (Cycle q others forth) s t a b x y = x ∙ sym y
+region_status limits r (Cycle p names back) (Form q) s t a b x y = absurd (b.2 a.2.0 back a.2.1)
+region_status limits r (Form p) (Positions q) s t a b x y = absurd (a.1 b.1)
+region_status limits r (Form p) (Cycle q names back) s t a b x y = absurd (a.2 b.2.0 back b.2.1)
+region_status limits r (Form p) (Form q) s t a b x y = x ∙ sym y
+
+-- a region of more than 32 points, or else the first fault of a region
+abbrev HasLarge : List Shape → Type 0
+HasLarge rs = (r : Shape) × Contains rs r × (32 < length r.points)
+
+by_size : (limits : Limits) (rs : List Shape) (f : SolveError) (s : Status) → AreRefused limits rs f → HasStatus f s
+    → (HasLarge rs × (s ≡ status.RegionLimit)) ⊎ (AreSmall rs × IsFirstFault limits rs f)
+by_size limits rs (Points p n) s h x = let many : 32 < length (region_at rs h.0).points = omega (arith, h.3, h.4) in inl ((region_at rs h.0, Contains-get_or rs h.0 no_region h.1, many), x)
+by_size limits rs (Positions p) s h x = inr h
+by_size limits rs (Cycle p names back) s h x = inr h
+by_size limits rs (Form p) s h x = inr h
+by_size limits rs (Memory e) s h x = absurd x
+
+large_or_small : (rs : List Shape) → HasLarge rs → AreSmall rs → ⊥
+large_or_small rs (r, among, large) small = let few = small r among in absurd (omega (arith, few, large))
+
+first_status : (limits : Limits) (rs : List Shape) (f g : SolveError) (s t : Status) → IsFirstFault limits rs f → IsFirstFault limits rs g → HasStatus f s → HasStatus g t → s ≡ t
+first_status limits rs f g s t (k, lt, a, before) (j, lt', b, earlier) x y = elim (cases_order k j) as (λ _. s ≡ t) [
+  | inl e ↦ region_status limits (region_at rs j) f g s t (subst (λ i. IsFaultOf limits (region_at rs i) f) e a) b x y
+  | inr (inl less) ↦ absurd (sound_has_none limits (region_at rs k) f (earlier k less) a)
+  | inr (inr more) ↦ absurd (sound_has_none limits (region_at rs j) g (before j more) b)
+]
+
+refusals : (limits : Limits) (rs : List Shape) (f g : SolveError) (s t : Status) → AreRefused limits rs f → AreRefused limits rs g → HasStatus f s → HasStatus g t → s ≡ t
+refusals limits rs f g s t a b x y = go (by_size limits rs f s a x) (by_size limits rs g t b y) where
+  go : (HasLarge rs × (s ≡ status.RegionLimit)) ⊎ (AreSmall rs × IsFirstFault limits rs f) → (HasLarge rs × (t ≡ status.RegionLimit)) ⊎ (AreSmall rs × IsFirstFault limits rs g) → s ≡ t
+  go (inl l) (inl m) = l.1 ∙ sym m.1
+  go (inl l) (inr m) = absurd (large_or_small rs l.0 m.0)
+  go (inr l) (inl m) = absurd (large_or_small rs m.0 l.0)
+  go (inr l) (inr m) = first_status limits rs f g s t l.1 m.1 x y
+
+sound_or_refused : (limits : Limits) (rs : List Shape) (f : SolveError) (s : Status) → AreSound limits rs → AreRefused limits rs f → HasStatus f s → ⊥
+sound_or_refused limits rs f s sound a x = go (by_size limits rs f s a x) where
+  go : (HasLarge rs × (s ≡ status.RegionLimit)) ⊎ (AreSmall rs × IsFirstFault limits rs f) → ⊥
+  go (inl l) = large_or_small rs l.0 (λ r h. (sound r h).points)
+  go (inr (small, (k, lt, fault, before))) = sound_has_none limits (region_at rs k) f (sound (region_at rs k) (Contains-get_or rs k no_region lt)) fault
+
+-- a position that is to be solved is solved or refused
+solved_or_refused : (limits : Limits) (p : Setup) (s : Status) (a : List ℕ) → IsPositionAnswer (question.Solve limits) p s a → ((s ≡ status.Done) × IsSolved limits p a) ⊎ IsRefused limits p s a
+solved_or_refused limits p status.Done a h = inl (refl, h)
+solved_or_refused limits p status.Cycle a h = inr h
+solved_or_refused limits p status.RegionLimit a h = inr h
+solved_or_refused limits p status.FormLimit a h = inr h
+solved_or_refused limits p status.Usage a h = absurd h
+solved_or_refused limits p status.CannotRead a h = absurd h
+solved_or_refused limits p status.CannotWrite a h = absurd h
+solved_or_refused limits p (status.BadFile f) a h = absurd h
+solved_or_refused limits p status.Memory a h = absurd h
+solved_or_refused limits p status.TooLong a h = absurd h
+solved_or_refused limits p (status.Unbuilt u) a h = absurd h
+
+clash : (limits : Limits) (p : Setup) (s : Status) (a b : List ℕ) → IsSolved limits p a → IsRefused limits p s b → ⊥
+clash limits p s a b v w =
+    sound_or_refused limits w.regions w.fault s (subst (AreSound limits) (one_regions p.board v.regions w.regions v.are_regions w.are_regions) v.sound) w.refused w.status
+
+pub solves_sound : SolvesSound
+solves_sound limits p regions s a are sound h = go (solved_or_refused limits p s a h) where
+  go : ((s ≡ status.Done) × IsSolved limits p a) ⊎ IsRefused limits p s a → s ≡ status.Done
+  go (inl v) = v.0
+  go (inr w) = absurd (sound_or_refused limits w.regions w.fault s (subst (AreSound limits) (one_regions p.board regions w.regions are w.are_regions) sound) w.refused w.status)
+
+pub refuses_faults : RefusesFaults
+refuses_faults limits p regions f s t a are refused x h = go (solved_or_refused limits p s a h) where
+  go : ((s ≡ status.Done) × IsSolved limits p a) ⊎ IsRefused limits p s a → s ≡ t
+  go (inl v) =
+      absurd (sound_or_refused limits regions f t (subst (AreSound limits) (one_regions p.board v.1.regions regions v.1.are_regions are) v.1.sound) refused x)
+  go (inr w) = refusals limits regions w.fault f s t (subst (λ l. AreRefused limits l w.fault) (one_regions p.board w.regions regions w.are_regions are) w.refused) refused w.status x
+
+safe_is_done : (p : Setup) (s : Status) (a : List ℕ) → IsPositionAnswer question.Safe p s a → s ≡ status.Done
+safe_is_done p status.Done a h = refl
+safe_is_done p status.Cycle a h = absurd h
+safe_is_done p status.RegionLimit a h = absurd h
+safe_is_done p status.FormLimit a h = absurd h
+safe_is_done p status.Usage a h = absurd h
+safe_is_done p status.CannotRead a h = absurd h
+safe_is_done p status.CannotWrite a h = absurd h
+safe_is_done p (status.BadFile f) a h = absurd h
+safe_is_done p status.Memory a h = absurd h
+safe_is_done p status.TooLong a h = absurd h
+safe_is_done p (status.Unbuilt u) a h = absurd h
+
+position_status : (q : Question) (p : Setup) (s t : Status) (a b : List ℕ) → IsPositionAnswer q p s a → IsPositionAnswer q p t b → s ≡ t
+position_status question.Safe p s t a b x y = safe_is_done p s a x ∙ sym (safe_is_done p t b y)
+position_status (question.Solve limits) p s t a b x y = go (solved_or_refused limits p s a x) (solved_or_refused limits p t b y) where
+  go : ((s ≡ status.Done) × IsSolved limits p a) ⊎ IsRefused limits p s a → ((t ≡ status.Done) × IsSolved limits p b) ⊎ IsRefused limits p t b → s ≡ t
+  go (inl v) (inl w) = v.0 ∙ sym w.0
+  go (inl v) (inr w) = absurd (clash limits p t a b v.1 w)
+  go (inr v) (inl w) = absurd (clash limits p s b a w.1 v)
+  go (inr v) (inr w) =
+      refusals limits w.regions v.fault w.fault s t (subst (λ l. AreRefused limits l v.fault) (one_regions p.board v.regions w.regions v.are_regions w.are_regions) v.refused) w.refused v.status w.status
+
+-- a file has a fault, or a position whose status it is
+file_or_position : (q : Question) (file : List ℕ) (settings : Settings) (s : Status) (a : List ℕ) → IsFileAnswer q file settings s a
+    → ((f : FileFault) × (s ≡ status.BadFile f) × Reads file settings (Err f)) ⊎ ((p : Setup) × Reads file settings (Ok p) × IsPositionAnswer q p s a)
+file_or_position q file settings (status.BadFile f) a h = inl (f, refl, h.0)
+file_or_position q file settings status.Done a h = inr h
+file_or_position q file settings status.Cycle a h = inr h
+file_or_position q file settings status.RegionLimit a h = inr h
+file_or_position q file settings status.FormLimit a h = inr h
+file_or_position q file settings status.Usage a h = inr h
+file_or_position q file settings status.CannotRead a h = inr h
+file_or_position q file settings status.CannotWrite a h = inr h
+file_or_position q file settings status.Memory a h = inr h
+file_or_position q file settings status.TooLong a h = inr h
+file_or_position q file settings (status.Unbuilt u) a h = inr h
+
+pub one_status : HasOneStatus
+one_status q file settings s t a b x y = go (file_or_position q file settings s a x) (file_or_position q file settings t b y) where
+  go : ((f : FileFault) × (s ≡ status.BadFile f) × Reads file settings (Err f)) ⊎ ((p : Setup) × Reads file settings (Ok p) × IsPositionAnswer q p s a)
+      → ((f : FileFault) × (t ≡ status.BadFile f) × Reads file settings (Err f)) ⊎ ((p : Setup) × Reads file settings (Ok p) × IsPositionAnswer q p t b) → s ≡ t
+  go (inl (f, e, h)) (inl (g, d, k)) = e ∙ ap status.BadFile (one_fault file settings f g h k) ∙ sym d
+  go (inl (f, e, h)) (inr (p, k, z)) = absurd (not_both file settings p f k h)
+  go (inr (p, h, z)) (inl (g, d, k)) = absurd (not_both file settings p g h k)
+  go (inr (p, h, z)) (inr (r, k, w)) = position_status q r s t a b (subst (λ v. IsPositionAnswer q v s a) (one_setup file settings p r h k) z) w

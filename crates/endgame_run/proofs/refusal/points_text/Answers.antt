@@ -1,0 +1,11 @@
+use Rattle.std.specs.Prelude.{codes, decimal, ◌++◌}
+use Rattle.report.specs.Lines.{point_name}
+use Rattle.report.proofs.TextLaws.{three_pieces}
+use Rattle.endgame_run.specs.Refusal.{points_line}
+use Rattle.endgame_run.proofs.refusal.points_text.Goals as goal
+
+pub returns : goal.returns
+unfolding points_line
+returns c =
+    three_pieces _ _ _ _ (codes "fault region ") (point_name c.args.size.columns c.args.lowest) (codes " points " ++ (decimal c.args.points ++ codes "\n"))
+    c.new-text.ensures.bytes c.in_ok-push_str.ensures.bytes c.in_ok-write_name.ensures c.in_ok-writeln.ensures.bytes

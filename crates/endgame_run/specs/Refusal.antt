@@ -1,0 +1,53 @@
+-- Faults of regions: their statuses and their lines.
+use Rattle.std.specs.Prelude.{◌≡◌, ◌<◌, ℕ, List, [], ◌++◌, All, flat_map, codes, decimal}
+use Rattle.go_grid.specs.declared.grid.Colour.{Colour}
+use Rattle.report.specs.Lines.{colour_word, point_line, point_name}
+use Rattle.endgame_solver.specs.declared.limits.Limits.{Limits}
+use Rattle.endgame_solver.specs.declared.faults.SolveError.{SolveError}
+use Rattle.endgame_solver.specs.declared.faults.SolveError.TheVariants.{Points, Positions, Cycle, Form, Memory}
+use Rattle.endgame_run.specs.declared.status.Status.{Status}
+use Rattle.endgame_run.specs.declared.status.Status.TheVariants as status
+
+-- the status of a fault; want of memory is none
+abbrev pub HasStatus : SolveError → Status → Type 0
+HasStatus (Points p n) s = s ≡ status.RegionLimit
+HasStatus (Positions p) s = s ≡ status.RegionLimit
+HasStatus (Cycle p names back) s = s ≡ status.Cycle
+HasStatus (Form p) s = s ≡ status.FormLimit
+HasStatus (Memory e) s = ⊥
+
+-- a region of too many points, by its lowest one and their number
+unfoldable pub points_line : ℕ → ℕ → ℕ → List ℕ
+points_line columns p n = codes "fault region " ++ (point_name columns p ++ (codes " points " ++ (decimal n ++ codes "\n")))
+
+-- a region of more positions than the limit
+unfoldable pub positions_line : ℕ → ℕ → ℕ → List ℕ
+positions_line columns p limit = codes "fault region " ++ (point_name columns p ++ (codes " positions over " ++ (decimal limit ++ codes "\n")))
+
+-- a move of a cycle, behind a blank
+unfoldable pub cycle_move : ℕ → Colour × ℕ → List ℕ
+cycle_move columns m = codes " " ++ (colour_word m.0 ++ (codes ":" ++ point_name columns m.1))
+
+-- the moves of a cycle of a region, and after how many of them the position stands first that the last one repeats
+unfoldable pub cycle_line : ℕ → ℕ → ℕ → List (Colour × ℕ) → List ℕ
+cycle_line columns p back moves = codes "fault cycle " ++ (point_name columns p ++ (codes " " ++ (decimal back ++ (flat_map (cycle_move columns) moves ++ codes "\n"))))
+
+-- a region with a value that has no form within the limit
+abbrev pub form_line : ℕ → ℕ → List ℕ
+form_line columns p = point_line (codes "fault form") columns p
+
+-- the line of a fault on a board of so many columns
+abbrev pub refusal_line : Limits → ℕ → SolveError → List ℕ
+refusal_line limits columns (Points p n) = points_line columns p n
+refusal_line limits columns (Positions p) = positions_line columns p limits.positions
+refusal_line limits columns (Cycle p names back) = cycle_line columns p back names
+refusal_line limits columns (Form p) = form_line columns p
+refusal_line limits columns (Memory e) = []
+
+-- the points that the fault names are below the number
+abbrev pub NamesPoints : ℕ → SolveError → Type 0
+NamesPoints area (Points p n) = p < area
+NamesPoints area (Positions p) = p < area
+NamesPoints area (Cycle p names back) = (p < area) × All (λ m. m.1 < area) names
+NamesPoints area (Form p) = p < area
+NamesPoints area (Memory e) = Unit {0}

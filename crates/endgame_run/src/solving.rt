@@ -1,0 +1,83 @@
+//! Positions that are to be solved.
+
+ghost use Rattle.std.specs.Prelude.{◌≡◌, ◌<◌, ◌≤◌, ◌+◌, ◌*◌, ◌^◌, List, IfOk};
+ghost use Rattle.go_grid.specs.Chain.{IsSettled};
+ghost use Rattle.go_grid.specs.Region.{Shape};
+ghost use Rattle.sgf_go.specs.Komi.{IsInRange};
+ghost use Rattle.endgame_solver.specs.Faults.{AreRegions, most_steps};
+ghost use Rattle.endgame_run.specs.Refusal.{HasStatus, NamesPoints, refusal_line};
+ghost use Rattle.endgame_run.specs.Verdict.{IsPositionAnswer};
+
+use crate::faults::point_text;
+use crate::question::{Question, Report};
+use crate::refusal::{cycle_text, points_text, positions_text};
+use crate::status::Status;
+use endgame_solver::{Limits, SolveError, Solved};
+use go_grid::Size;
+use local_play::Steps;
+use report::{Text, solve_text};
+use sgf_go::Setup;
+use std::alloc::{AllocError, Global};
+use std::sync::ledger::Ledger;
+
+/// The report on a fault of the regions.
+fn refused(
+    alloc: Global,
+    size: Size,
+    limits: &Limits,
+    fault: SolveError,
+) -> Result<Report, AllocError>
+    requires { NamesPoints (size.columns * size.rows) fault }
+    ensures status { IfOk result (λ report. HasStatus fault report.status) }
+    ensures text { IfOk result (λ report. report.text ≡ refusal_line limits.now size.columns fault) }
+{
+    match fault {
+        SolveError::Points(lowest, points) => Ok(Report {
+            status: Status::RegionLimit,
+            text: Text::from(points_text(alloc, size, lowest, points)?),
+        }),
+        SolveError::Positions(lowest) => Ok(Report {
+            status: Status::RegionLimit,
+            text: Text::from(positions_text(alloc, size, lowest, limits.positions)?),
+        }),
+        SolveError::Cycle(lowest, moves, back) => Ok(Report {
+            status: Status::Cycle,
+            text: Text::from(cycle_text(alloc, size, lowest, back, moves.as_slice())?),
+        }),
+        SolveError::Form(lowest) => Ok(Report {
+            status: Status::FormLimit,
+            text: Text::from(point_text(alloc, "fault form", size, lowest)?),
+        }),
+        SolveError::Memory(cause) => Err(cause),
+    }
+}
+
+/// The report on a position that is to be solved within the limits.
+pub(crate) fn solve<L: Ledger>(
+    alloc: Global,
+    setup: &Setup,
+    limits: &Limits,
+    steps: &mut Steps<L>,
+) -> Result<Report, AllocError>
+    requires settled { IsSettled setup.now.board }
+    requires black { setup.now.black_prisoners < 2 ^ 40 }
+    requires white { setup.now.white_prisoners < 2 ^ 40 }
+    requires komi { IsInRange setup.now.komi_halves }
+    requires positions { limits.now.positions ≤ 1000000 }
+    ensures answer { IfOk result (λ report. IsPositionAnswer (Question.Solve limits.now) setup.now report.status report.text) }
+    ensures steps { (regions : List Shape) → AreRegions setup.now.board regions → steps.new ≤ steps.old + most_steps limits.now regions }
+{
+    match Solved::begin(alloc, setup, limits, steps) {
+        Ok(mut solved) => {
+            let text = solve_text(alloc, &mut solved)?;
+            Ok(Report {
+                status: Status::Done,
+                text,
+            })
+        }
+        Err(fault) => {
+            let report = refused(alloc, setup.board.size(), limits, fault)?;
+            Ok(report)
+        }
+    }
+}
