@@ -1,0 +1,60 @@
+-- A session as far as it was played.
+use Rattle.std.proofs.Common.{◌≡◌, ℕ, suc, List, [], ◌++◌, inl, inr, refl, sym, ap, ◌∙◌, subst, append_assoc, append-nil, Option, Some, None, Ok, Err}
+use Rattle.std.specs.Io.KnownBytes.{append_known}
+use Rattle.play_session.specs.declared.end.SessionEnd.{SessionEnd}
+use Rattle.play_session.specs.declared.fault.Fault.{Fault}
+use Rattle.play_session.specs.Session.{Ends, Turns, IsTextOf}
+use Rattle.play_session.specs.Written.{SessionState, standing, IsTextOfTurn, TurnWritten, IsPlayed, IsBroken}
+use Rattle.play_session.proofs.Turns.{append_none, append_twice}
+
+-- turns that were written lead from the one session to the other
+pub record Went (start : SessionState) (bytes : List ℕ) (holds₀ : Option (List ℕ)) (session : SessionState) (read : ℕ) (left holds : Option (List ℕ)) : Type 0 where
+  pub number : ℕ
+  pub rest : List ℕ
+  pub text : List ℕ
+  pub unread : left ≡ Some rest
+  pub turns : Turns start.engine number (standing start 0 bytes) text (standing session read rest)
+  pub written : holds ≡ append_known holds₀ text
+
+pub record Going (start : SessionState) (left₀ holds₀ : Option (List ℕ)) (session : SessionState) (read : ℕ) (left holds : Option (List ℕ)) : Type 0 where
+  pub told : (bytes : List ℕ) → left₀ ≡ Some bytes → Went start bytes holds₀ session read left holds
+
+pub going_start : (start : SessionState) (left holds : Option (List ℕ)) → Going start left holds start 0 left holds
+going_start start left holds = record { told = λ bytes e. record { number = 0; rest = bytes; text = []; unread = e; turns = (refl, refl); written = append_none holds } }
+
+module _ (start : SessionState) (left₀ holds₀ : Option (List ℕ)) (session : SessionState) (read : ℕ) (left holds : Option (List ℕ)) (w : Going start left₀ holds₀ session read left holds) (new : SessionState) (count : ℕ) (left' holds' : Option (List ℕ)) where
+  joined : (bytes a b : List ℕ) → holds ≡ append_known holds₀ a → holds' ≡ append_known holds b → holds' ≡ append_known holds₀ (a ++ b)
+  joined bytes a b e f = f ∙ ap (λ h. append_known h b) e ∙ append_twice holds₀ a b
+
+  -- a turn more
+  pub going_turn : ((bytes : List ℕ) → left ≡ Some bytes → TurnWritten start.engine (standing session read bytes) holds holds' (Ok None) new count left') → Going start left₀ holds₀ new count left' holds'
+  going_turn turn = record {
+    told = λ bytes e.
+        let x = w.told bytes e in let t = turn x.rest x.unread in
+        record { number = suc x.number; rest = t.0; text = x.text ++ t.1; unread = t.2; turns = (standing session read x.rest, (x.text, t.1, x.turns, t.3, refl)); written = joined bytes x.text t.1 x.written t.4 };
+  }
+
+  pub going_ended : (end : SessionEnd) → ((bytes : List ℕ) → left ≡ Some bytes → TurnWritten start.engine (standing session read bytes) holds holds' (Ok (Some end)) new count left')
+      → (bytes : List ℕ) → left₀ ≡ Some bytes → IsPlayed start.engine (standing start 0 bytes) holds₀ holds' end new left'
+  going_ended end turn bytes e =
+      let x = w.told bytes e in let t = turn x.rest x.unread in
+      record {
+        text = x.text ++ t.1;
+        read = count;
+        rest = t.0;
+        played = record { number = x.number; first = x.text; last = t.1; turns = subst (Turns start.engine x.number (standing start 0 bytes) x.text) t.4 x.turns; ends = subst (λ a. Ends start.engine a t.1 end) t.4 t.3; whole = refl };
+        written = joined bytes x.text t.1 x.written t.5;
+        unread = t.2;
+      }
+
+  going_text : (bytes text : List ℕ) (x : Went start bytes holds₀ session read left holds) → IsTextOfTurn start.engine (standing session read x.rest) text → IsTextOf start.engine (standing start 0 bytes) (x.text ++ text)
+  going_text bytes text x (inl none) = inl (x.number, (standing session read x.rest, subst (λ l. Turns start.engine x.number (standing start 0 bytes) l (standing session read x.rest)) (sym (ap (λ l. x.text ++ l) none ∙ append-nil x.text)) x.turns))
+  going_text bytes text x (inr (inl t)) = inl (suc x.number, (t.0, (standing session read x.rest, (x.text, text, x.turns, t.1, refl))))
+  going_text bytes text x (inr (inr t)) = inr (standing session read x.rest, (t.0, record { number = x.number; first = x.text; last = text; turns = x.turns; ends = t.1; whole = refl }))
+
+  pub going_failed : (f : Fault) → ((bytes : List ℕ) → left ≡ Some bytes → TurnWritten start.engine (standing session read bytes) holds holds' (Err f) new count left')
+      → (bytes : List ℕ) → left₀ ≡ Some bytes → IsBroken start.engine (standing start 0 bytes) holds₀ holds'
+  going_failed f turn bytes e =
+      let x = w.told bytes e in let t = turn x.rest x.unread in
+      let whole : IsTextOf start.engine (standing start 0 bytes) ((x.text ++ t.0) ++ t.1) = subst (IsTextOf start.engine (standing start 0 bytes)) (sym (append_assoc x.text t.0 t.1)) (going_text bytes (t.0 ++ t.1) x t.2) in
+      (x.text ++ t.0, (t.1, whole), joined bytes x.text t.0 x.written t.3)

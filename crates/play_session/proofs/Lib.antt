@@ -1,0 +1,10 @@
+pub mod Sides
+pub mod Pieces
+pub mod Spaces
+pub mod Trimming
+pub mod Turns
+pub mod Going
+pub mod Wins
+pub mod OneLine
+pub mod OneMove
+pub mod OneText

@@ -1,0 +1,122 @@
+-- Bytes that are held in an array, and those that a source has left.
+use Rattle.std.proofs.Common.{◌≡◌, ◌≢◌, ◌⊎◌, ℕ, ◌+◌, ◌-◌, ◌≤◌, ◌<◌, List, [], ◌∷◌, ◌++◌, length, take, drop, get_or, inl, inr, refl, sym, ap, ◌∙◌, arith, append_assoc, append-nil, length-append, below_more, Option, Some, None}
+use Rattle.std.specs.List.{copy_within, All}
+use Rattle.std.specs.Io.KnownBytes.{prepend_known}
+use Rattle.std.proofs.lemmas.List.{take_at, take_all, take-append-le, drop-take, length-take-le, length-drop, take-append-drop, get_or-take, drop_more, drop_all, get_or_append_left, get_or_default}
+use Rattle.std.proofs.lemmas.Bool.{cases_eq}
+use borrow.Rule.Slice.PartMut.{put_mid, post_of}
+use Rattle.std.proofs.Math.Seq.{take-append-add}
+use Rattle.desk_io.specs.Outside.{ended}
+use Rattle.play_session.specs.Lines.{IsCut, IsSameInput, IsFeed, IsFound}
+
+-- what stands at the front after the first bytes were moved away
+pub dropped : (xs : List ℕ) (count len : ℕ) → count ≤ len → len ≤ length xs → take (len - count) (copy_within xs count len 0) ≡ drop count (take len xs)
+dropped xs count len fits in_bounds =
+    let m = len - count in
+    let long : length (take m (drop count xs)) ≡ m = length-take-le m (drop count xs) (omega (arith, length-drop count xs)) in
+    let sum : count + m ≡ len = omega arith in
+    take_at (take m (drop count xs)) (drop (0 + m) xs) m long ∙ sym (drop-take count m xs) ∙ ap (λ k. drop count (take k xs)) sum
+
+-- so many bytes of a piece that was read come after those that are held
+pub read_on : (xs buf : List ℕ) (len room n : ℕ) → len ≤ length xs → n ≤ length buf → take (len + n) (put_mid len room xs buf) ≡ take len xs ++ take n buf
+read_on xs buf len room n in_bounds few =
+    let front = take len xs in
+    let rest = post_of len room xs in
+    let long : length front ≡ len = length-take-le len xs in_bounds in
+    ap (λ k. take (k + n) (front ++ (buf ++ rest))) (sym long) ∙ take-append-add front (buf ++ rest) n ∙ ap (λ l. front ++ l) (take-append-le n buf rest few)
+
+pub input_same : (held : List ℕ) (told : Option (List ℕ)) → IsSameInput held told held told
+input_same held told = λ bytes e. (bytes, e, refl)
+
+-- a piece came
+pub input_more : (held piece : List ℕ) (before now : Option (List ℕ)) → before ≡ prepend_known piece now → IsSameInput held before (held ++ piece) now
+input_more held piece before None e = λ bytes h. absurd (cc (sym h ∙ e))
+input_more held piece before (Some rest) e = λ bytes h. (rest, refl, ap (λ l. held ++ l) (cc (sym h ∙ e)) ∙ sym (append_assoc held piece rest))
+
+pub input_then : (a b c : List ℕ) (before mid now : Option (List ℕ)) → IsSameInput a before b mid → IsSameInput b mid c now → IsSameInput a before c now
+input_then a b c before mid now first second = λ bytes e. let x = first bytes e in let y = second x.0 x.1 in (y.0, y.1, x.2 ∙ y.2)
+
+-- the places before this one were looked at, and are held
+pub record Looked (start held : List ℕ) (before now : Option (List ℕ)) (at : ℕ) : Type 0 where
+  pub same : IsSameInput start before held now
+  pub within : at ≤ length held
+  pub plain : (k : ℕ) → k < at → get_or held k 0 ≢ 10
+
+module _ (start held : List ℕ) (before now : Option (List ℕ)) where
+  pub looked_start : Looked start start before before 0
+  looked_start = record { same = input_same start before; within = omega arith; plain = λ k lt. absurd (omega (arith, lt)) }
+
+  -- more was read
+  pub looked_read : (at : ℕ) (piece next : List ℕ) (later : Option (List ℕ)) → Looked start held before now at → next ≡ held ++ piece → IsSameInput held now next later → Looked start next before later at
+  looked_read at piece next later w e same = record {
+    same = input_then start held next before now later w.same same;
+    within = omega (arith, w.within, ap length e, length-append held piece);
+    plain = λ k lt feed. w.plain k lt (sym (get_or_append_left held piece 0 k (omega (arith, lt, w.within))) ∙ ap (λ l. get_or l k 0) (sym e) ∙ feed);
+  }
+
+  -- no line feed stands there
+  pub looked_more : (at : ℕ) → Looked start held before now at → at < length held → get_or held at 0 ≢ 10 → Looked start held before now (at + 1)
+  looked_more at w lt none = record {
+    same = w.same;
+    within = omega (arith, lt);
+    plain = below_more (λ k. get_or held k 0 ≢ 10) at w.plain none;
+  }
+
+-- all 256 were looked at
+pub looked_all : (start held : List ℕ) (before now : Option (List ℕ)) (at : ℕ) → Looked start held before now at → length held ≤ 256 → 256 ≤ at → IsFeed held now None
+looked_all start held before now at w most all = ((λ k lt. w.plain k (omega (arith, lt, most, all))), inl (omega (arith, most, all, w.within)))
+
+-- all that is held was looked at, and the source is at its end
+pub looked_end : (start held : List ℕ) (before now : Option (List ℕ)) (at : ℕ) → Looked start held before now at → length held ≤ at → now ≡ ended now → IsFeed held now None
+looked_end start held before now at w all end = ((λ k lt. w.plain k (omega (arith, lt, all))), inr end)
+
+plain_front : (held : List ℕ) (n : ℕ) → n ≤ length held → ((k : ℕ) → k < n → get_or held k 0 ≢ 10) → All (λ b. b ≢ 10) (take n held)
+plain_front held n le plain k d lt e =
+    let short : k < n = omega (arith, lt, length-take-le n held le) in
+    plain k short (get_or_default held k 0 d (omega (arith, short, le)) ∙ sym (get_or-take n held k d short) ∙ e)
+
+-- up to a line feed
+pub found_feed : (held : List ℕ) (left : Option (List ℕ)) (at : ℕ) → at < 256 → IsFeed held left (Some at) → IsFound held left (Some (record { line = at; taken = at + 1 }))
+found_feed held left at lt feed =
+    let long : length (take at held) ≡ at = length-take-le at held (omega (arith, feed.0)) in (
+      omega (arith, feed.0),
+      omega (arith, feed.0),
+      omega (arith, feed.0),
+      λ rest e. record {
+        plain = plain_front held at (omega (arith, feed.0)) feed.2;
+        cut = inl (
+          omega (arith, long, lt),
+          ap (λ l. l ++ rest) (sym (take-append-drop at held) ∙ ap (λ l. take at held ++ l) (drop_more held at 0 feed.0 ∙ ap (λ b. b ∷ drop (at + 1) held) feed.1)) ∙ append_assoc (take at held) (10 ∷ drop (at + 1) held) rest,
+        );
+      },
+    )
+
+-- all that is held
+pub found_all : (held : List ℕ) (left : Option (List ℕ)) (len : ℕ) → len ≡ length held → 0 < len → len ≤ 256 → IsFeed held left None → IsFound held left (Some (record { line = len; taken = len }))
+found_all held left len long some most feed =
+    let whole : take len held ≡ held = take_all len held (omega (arith, long)) in
+    let none : drop len held ≡ [] = drop_all len held (omega (arith, long)) in
+    let plain : All (λ b. b ≢ 10) (take len held) = plain_front held len (omega (arith, long)) (λ k lt. feed.0 k (omega (arith, lt, long))) in
+    let same = length-take-le len held (omega (arith, long)) in (
+      omega (arith, long),
+      omega (arith, long),
+      omega (arith, long, some),
+      λ rest e. record { plain = plain; cut = cut_of rest e whole none same (cases_eq len 256) },
+    )
+  where
+    cut_of : (rest : List ℕ) → left ≡ Some rest → take len held ≡ held → drop len held ≡ [] → length (take len held) ≡ len → (len ≡ 256) ⊎ (len ≢ 256) → IsCut (held ++ rest) (take len held) (drop len held ++ rest)
+    cut_of rest e whole none same (inl full) = inr (inl (omega (arith, same, full), ap (λ l. l ++ rest) (sym whole) ∙ ap (λ l. take len held ++ (l ++ rest)) (sym none)))
+    cut_of rest e whole none same (inr short) = elim feed.1 [
+      | inl full ↦ absurd (short (omega (arith, long, full)))
+      | inr end ↦
+          let over : rest ≡ [] = cc (sym e ∙ end ∙ ap ended e) in
+          inr (inr (
+            omega (arith, same, most, short),
+            ap (λ l. held ++ l) over ∙ append-nil held ∙ sym whole,
+            ap (λ l. l ++ rest) none ∙ over,
+          ))
+    ]
+
+pub found_none : (held : List ℕ) (left : Option (List ℕ)) → length held ≡ 0 → IsFeed held left None → IsFound held left None
+found_none [] left none feed = elim feed.1 [ inl full ↦ absurd (omega (arith, full)) | inr end ↦ (refl, end) ]
+found_none (b ∷ more) left none feed = absurd (omega (arith, none))

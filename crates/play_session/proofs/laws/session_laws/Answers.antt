@@ -1,0 +1,12 @@
+use Rattle.play_session.proofs.OneText.{has_one_text, has_one_beginning}
+use Rattle.play_session.proofs.Wins.{win_is_kept}
+use Rattle.play_session.proofs.laws.session_laws.Goals as goal
+
+pub returns-clause-win : goal.returns-clause-win
+returns-clause-win c = win_is_kept
+
+pub returns-clause-one_text : goal.returns-clause-one_text
+returns-clause-one_text c = has_one_text
+
+pub returns-clause-one_beginning : goal.returns-clause-one_beginning
+returns-clause-one_beginning c = has_one_beginning

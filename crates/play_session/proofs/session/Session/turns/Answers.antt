@@ -1,0 +1,36 @@
+use Rattle.std.proofs.Common.{sym, ap, ◌∙◌, subst, le_trans, Ok, Err, Some, None}
+use Rattle.whole_rules.specs.FirstWinningMove.{IsWinner}
+use Rattle.play_session.specs.Written.{standing, TurnWritten}
+use Rattle.play_session.proofs.Going.{going_turn, going_ended, going_failed}
+use Rattle.play_session.proofs.session.Session.turns.Goals as goal
+
+pub returns-in-Err-clause-written : goal.returns-in-Err-clause-written
+returns-in-Err-clause-written g c =
+    let start = c.args.self.now in let at = c.turns in let left = g.S.Source.left at.lines in let holds = g.K.Sink.holds at.out in
+    let new = c.turn.new.self in let left' = g.S.Source.left c.turn.new.lines in let holds' = g.K.Sink.holds c.turn.new.out in
+    going_failed start (g.S.Source.left c.args.lines.now) (g.K.Sink.holds c.args.out.now) at.self at.read left holds at.invariant.0 new c.turn.new.read left' holds' c.in-Err.fault
+    (λ rest e. subst (λ s. TurnWritten s (standing at.self at.read rest) holds holds' (Err c.in-Err.fault) new c.turn.new.read left') at.invariant.1 (c.in-Err.ensures.written rest e))
+
+pub returns-in-Ok-Some-clause-written : goal.returns-in-Ok-Some-clause-written
+returns-in-Ok-Some-clause-written g c =
+    let start = c.args.self.now in let at = c.turns in let left = g.S.Source.left at.lines in let holds = g.K.Sink.holds at.out in
+    let new = c.turn.new.self in let left' = g.S.Source.left c.turn.new.lines in let holds' = g.K.Sink.holds c.turn.new.out in
+    let r = c.in-Ok-Some in
+    going_ended start (g.S.Source.left c.args.lines.now) (g.K.Sink.holds c.args.out.now) at.self at.read left holds at.invariant.0 new c.turn.new.read left' holds' r.end
+    (λ rest e. subst (λ s. TurnWritten s (standing at.self at.read rest) holds holds' (Ok (Some r.end)) new c.turn.new.read left') at.invariant.1
+    (subst (λ x. TurnWritten at.self.engine (standing at.self at.read rest) holds holds' (Ok x) new c.turn.new.read left') r.field-0-is (r.ensures.written rest e)))
+
+pub turns-preserved : goal.turns-preserved
+turns-preserved g c =
+    let start = c.args.self.now in let at = c.turns in let left = g.S.Source.left at.lines in let holds = g.K.Sink.holds at.out in
+    let new = c.turn.new.self in let left' = g.S.Source.left c.turn.new.lines in let holds' = g.K.Sink.holds c.turn.new.out in
+    let r = c.in-Ok-None in let inv = at.invariant in (
+      going_turn start (g.S.Source.left c.args.lines.now) (g.K.Sink.holds c.args.out.now) at.self at.read left holds inv.0 new c.turn.new.read left' holds'
+          (λ rest e. subst (λ s. TurnWritten s (standing at.self at.read rest) holds holds' (Ok None) new c.turn.new.read left') inv.1
+          (subst (λ x. TurnWritten at.self.engine (standing at.self at.read rest) holds holds' (Ok x) new c.turn.new.read left') r.field-0-is (r.ensures.written rest e))),
+      c.turn.ensures.engine ∙ inv.1,
+      λ w. subst (λ s. IsWinner new.state s) inv.1 (c.turn.ensures.keeps (subst (λ s. IsWinner at.self.state s) (sym inv.1) (inv.2 w))).0,
+      (c.turn.ensures.fewer (r.is ∙ ap Ok r.field-0-is)).0,
+      le_trans inv.4 c.turn.ensures.cause.reads_later,
+      le_trans inv.5 c.turn.ensures.cause.writes_later,
+    )

@@ -1,0 +1,5 @@
+pub mod Lines
+pub mod Words
+pub mod Session
+pub mod Written
+pub mod Laws

@@ -1,0 +1,124 @@
+-- The session of a game: what each turn writes, and where the session stands after it.
+use Rattle.std.specs.Prelude.{◌≡◌, ◌≢◌, ◌⊎◌, ℕ, zero, suc, ◌+◌, ◌<◌, List, [], ◌++◌, codes, Result, Ok, Err, Option, Some, None}
+use Rattle.go_grid.specs.declared.grid.Colour.{Colour}
+use Rattle.go_grid.specs.Grid.{Grid, other}
+use Rattle.report.specs.Lines.{word_line}
+use Rattle.report.specs.Solution.{move_word, winner_line}
+use Rattle.whole_rules.specs.FirstWinningMove.{IsFirstWinning}
+use Rattle.whole_rules.specs.WholeGame.{State, IsLegal, IsMove, IsFirstMove, Applies}
+use Rattle.whole_rules.specs.declared.states.Move.{Move}
+use Rattle.whole_rules.specs.declared.states.MoveError.{MoveError}
+use Rattle.whole_rules.specs.declared.states.MoveError.TheVariants.{NotContested, Occupied, Suicide, EmptyPurse, NoHalf}
+use Rattle.play_session.specs.declared.end.SessionEnd.{SessionEnd}
+use Rattle.play_session.specs.declared.end.SessionEnd.TheVariants.{Won, Lost, InputEnded, TooManyLines}
+use Rattle.play_session.specs.Lines.{IsLine}
+use Rattle.play_session.specs.Words.{Asks}
+
+-- where a session stands: the state, how many lines were read, and the bytes that are left
+pub record Standing : Type 0 where
+  pub state : State
+  pub read : ℕ
+  pub left : List ℕ
+
+-- the line of the engine's move
+abbrev pub engine_line : Grid → Move → List ℕ
+engine_line g m = word_line (codes "engine") (move_word g.columns (Some m))
+
+-- the lines that answer the opponent
+abbrev pub played_line : Grid → Move → List ℕ
+played_line g m = word_line (codes "played") (move_word g.columns (Some m))
+
+abbrev pub refused_line : List ℕ → List ℕ
+refused_line why = word_line (codes "refused") why
+
+abbrev pub refusal_word : MoveError → List ℕ
+refusal_word NotContested = codes "not contested"
+refusal_word Occupied = codes "occupied"
+refusal_word Suicide = codes "suicide"
+refusal_word EmptyPurse = codes "empty purse"
+refusal_word NoHalf = codes "no half"
+
+abbrev pub input_line : List ℕ
+input_line = word_line (codes "input") (codes "ended")
+
+-- the line that answers a move
+abbrev pub answer_line : Grid → Move → Result Unit MoveError → List ℕ
+answer_line g m (Ok _) = played_line g m
+answer_line g m (Err e) = refused_line (refusal_word e)
+
+-- the side to move has a move
+abbrev pub HasMove : State → Type 0
+HasMove s = (m : Move) × IsLegal s m
+
+-- the first winning move, or the first move where no move wins
+abbrev pub Chooses : State → Move → Type 0
+Chooses s m = IsFirstWinning s (Some m) ⊎ (IsFirstWinning s None × IsFirstMove s (Some m))
+
+-- the engine moves
+pub record EngineMoves (s : State) (text : List ℕ) (t : State) : Type 0 where
+  pub chosen : Move
+  pub choice : Chooses s chosen
+  pub played : IsMove s chosen t
+  pub written : text ≡ engine_line s.board chosen
+
+-- the engine's turn
+pub record IsEngineTurn (engine : Colour) (a : Standing) (text : List ℕ) (b : Standing) : Type 0 where
+  pub turn : a.state.side ≡ engine
+  pub moved : EngineMoves a.state text b.state
+  pub same_count : b.read ≡ a.read
+  pub same_bytes : b.left ≡ a.left
+
+-- what is written, and the state after, where a move or none was asked for
+abbrev pub Answers : State → Option Move → List ℕ → State → Type 0
+Answers s None text t = (text ≡ refused_line (codes "line")) × (t ≡ s)
+Answers s (Some m) text t = (result : Result Unit MoveError) × Applies s m t result × (text ≡ answer_line s.board m result)
+
+-- it is the opponent's turn, and the opponent has a move
+abbrev pub IsToAnswer : Colour → State → Type 0
+IsToAnswer engine s = (s.side ≡ other engine) × HasMove s
+
+-- the opponent's turn: one line is read and answered
+pub record IsOpponentTurn (engine : Colour) (a : Standing) (text : List ℕ) (b : Standing) : Type 0 where
+  pub turn : IsToAnswer engine a.state
+  pub few : a.read < 10000
+  pub some : a.left ≢ []
+  pub line : List ℕ
+  pub asked : Option Move
+  pub taken : IsLine a.left line b.left
+  pub asks : Asks a.state.board line asked
+  pub answered : Answers a.state asked text b.state
+  pub counted : b.read ≡ a.read + 1
+
+-- a turn after which the session goes on
+abbrev pub Turn : Colour → Standing → List ℕ → Standing → Type 0
+Turn engine a text b = IsEngineTurn engine a text b ⊎ IsOpponentTurn engine a text b
+
+-- the session ends here: the side to move has no move, or the opponent is to move and no line may be read or is left
+abbrev pub Ends : Colour → Standing → List ℕ → SessionEnd → Type 0
+Ends engine a text Won = ¬ HasMove a.state × (a.state.side ≡ other engine) × (text ≡ winner_line engine)
+Ends engine a text Lost = ¬ HasMove a.state × (a.state.side ≡ engine) × (text ≡ winner_line (other engine))
+Ends engine a text TooManyLines = IsToAnswer engine a.state × (a.read ≡ 10000) × (text ≡ [])
+Ends engine a text InputEnded = IsToAnswer engine a.state × (a.read < 10000) × (a.left ≡ []) × (text ≡ input_line)
+Ends engine a text _ = ⊥
+
+-- so many turns, one after the other, and what they write
+abbrev pub Turns : Colour → ℕ → Standing → List ℕ → Standing → Type 0
+Turns engine zero a text b = (text ≡ []) × (b ≡ a)
+Turns engine (suc n) a text c = (b : Standing) × ((first then : List ℕ) × Turns engine n a first b × Turn engine b then c × (text ≡ first ++ then))
+
+-- a whole session: turns, and then its end
+pub record IsSession (engine : Colour) (a : Standing) (text : List ℕ) (b : Standing) (end : SessionEnd) : Type 0 where
+  pub number : ℕ
+  pub first : List ℕ
+  pub last : List ℕ
+  pub turns : Turns engine number a first b
+  pub ends : Ends engine b last end
+  pub whole : text ≡ first ++ last
+
+-- the text of some turns, or of a whole session
+abbrev pub IsTextOf : Colour → Standing → List ℕ → Type 0
+IsTextOf engine a text = ((n : ℕ) × ((b : Standing) × Turns engine n a text b)) ⊎ ((b : Standing) × ((end : SessionEnd) × IsSession engine a text b end))
+
+-- the session begins with this text
+abbrev pub Begins : Colour → Standing → List ℕ → Type 0
+Begins engine a text = (more : List ℕ) × IsTextOf engine a (text ++ more)

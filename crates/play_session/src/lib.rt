@@ -1,0 +1,17 @@
+//! The player of a solved game over lines.
+#![tactic(auto)]
+
+mod end;
+mod fault;
+mod input;
+mod laws;
+mod replies;
+mod reply;
+mod session;
+#[cfg(test)]
+mod tests;
+mod words;
+
+pub use end::SessionEnd;
+pub use laws::session_laws;
+pub use session::Session;

@@ -1,0 +1,277 @@
+//! The session.
+
+ghost use Rattle.std.specs.Prelude.{◌≡◌, ◌≢◌, ◌↔◌, ◌⊎◌, ◌+◌, ◌≤◌, ◌<◌, ◌++◌, List, ℕ, [], true, codes, IfOk, IfSome, IsErrOf, Ok, Some, None};
+ghost use Rattle.desk_io.specs.Outside.{Appends, HasCause, Rose};
+ghost use Rattle.go_grid.specs.Grid.{other};
+ghost use Rattle.report.specs.Solution.{winner_line};
+ghost use Rattle.whole_rules.specs.FirstWinningMove.{IsWinner};
+ghost use Rattle.whole_rules.specs.WholeGame.{IsFirstMove};
+ghost use Rattle.play_session.specs.declared.fault.Fault.TheVariants.{Read, Write};
+ghost use Rattle.play_session.specs.declared.end.SessionEnd.TheVariants.{Won, Lost, InputEnded, ReadFault, WriteFault};
+ghost use Rattle.play_session.specs.Session.{Answers, Chooses, EngineMoves, IsToAnswer, input_line};
+ghost use Rattle.play_session.specs.Words.{IsOnBoard};
+ghost use Rattle.play_session.specs.Written.{Causes, IsStep, IsNatural, IsPlayedTo, IsPossible, IsRequested, Played, TurnWritten, WriteCauses, standing, turns_left};
+
+use crate::end::SessionEnd;
+use crate::fault::Fault;
+use crate::input::Input;
+use crate::replies::{move_line, refusal, word_line};
+use crate::reply::Reply;
+use crate::words::asked_move;
+use desk_io::{Failed, Sink, Source};
+use endgame_solver::Solved;
+use go_grid::{Board, Colour};
+use report::colour_word;
+use std::marker::Model;
+use whole_rules::Move;
+
+/// The most lines that a session reads.
+const MOST_LINES: usize = 10_000;
+
+/// What the opponent's line asks for.
+#[derive(Drop)]
+pub(crate) enum Request {
+    /// There is no line: the input is at its end.
+    Ended,
+    /// A line, and the move that it names, if it names one.
+    Line(Option<Move>),
+}
+
+/// Whether the two are the same.
+fn is_same(a: Colour, b: Colour) -> bool
+    ensures { (result ≡ true) ↔ (a ≡ b) }
+{
+    a == b
+}
+
+/// Writes a line.
+fn say<K: Sink>(out: &mut K, line: &Reply) -> Result<(), Fault>
+    ensures bytes { Appends (K.holds out.old) (K.holds out.new) result line.now }
+    ensures cause { WriteCauses (K.faults out.old) (K.faults out.new) result }
+{
+    match out.write(line.as_slice()) {
+        Ok(()) => Ok(()),
+        Err(_) => Err(Fault::Write),
+    }
+}
+
+/// Writes who won, with which the session ends.
+fn end_game<K: Sink>(
+    winner: Colour,
+    engine: Colour,
+    out: &mut K,
+) -> Result<Option<SessionEnd>, Fault>
+    ensures bytes { Appends (K.holds out.old) (K.holds out.new) result (winner_line winner) }
+    ensures end { IfOk result (λ end. ((end ≡ Some Won) × (winner ≡ engine)) ⊎ ((end ≡ Some Lost) × (winner ≡ other engine))) }
+    ensures cause { WriteCauses (K.faults out.old) (K.faults out.new) result }
+{
+    match say(out, &word_line("winner", colour_word(winner).as_bytes())) {
+        Err(fault) => return Err(fault),
+        Ok(()) => {}
+    }
+    if is_same(winner, engine) {
+        return Ok(Some(SessionEnd::Won));
+    }
+    Ok(Some(SessionEnd::Lost))
+}
+
+/// Writes that the input is at its end, with which the session ends.
+fn end_input<K: Sink>(out: &mut K) -> Result<Option<SessionEnd>, Fault>
+    ensures bytes { Appends (K.holds out.old) (K.holds out.new) result input_line }
+    ensures end { IfOk result (λ end. end ≡ Some InputEnded) }
+    ensures cause { WriteCauses (K.faults out.old) (K.faults out.new) result }
+{
+    match say(out, &word_line("input", b"ended")) {
+        Err(fault) => return Err(fault),
+        Ok(()) => {}
+    }
+    Ok(Some(SessionEnd::InputEnded))
+}
+
+/// The first winning move, or the first move where no move wins.
+fn choose(solved: &mut Solved, first: Move) -> Move
+    requires { IsFirstMove solved.old.state (Some first) }
+    ensures choice { Chooses solved.old.state result }
+    ensures same { solved.new ≡ solved.old }
+{
+    match solved.winning_move() {
+        Some(winning) => winning,
+        None => first,
+    }
+}
+
+/// Makes the engine's move and writes it.
+fn move_engine<K: Sink>(solved: &mut Solved, first: Move, out: &mut K) -> Result<(), Fault>
+    requires { IsFirstMove solved.old.state (Some first) }
+    ensures moved { (text : List ℕ) × EngineMoves solved.old.state text solved.new.state × Appends (K.holds out.old) (K.holds out.new) result text }
+    ensures cause { WriteCauses (K.faults out.old) (K.faults out.new) result }
+{
+    let chosen = choose(solved, first);
+    let line = move_line("engine", solved.whole().board().size(), &chosen);
+    match solved.play(chosen) {
+        Ok(()) => say(out, &line),
+        Err(_) => unreachable!(),
+    }
+}
+
+/// Answers what a line asks for.
+fn answer<K: Sink>(solved: &mut Solved, asked: Option<Move>, out: &mut K) -> Result<(), Fault>
+    requires { IfSome asked (IsOnBoard solved.old.state.board) }
+    ensures answered { (text : List ℕ) × Answers solved.old.state asked text solved.new.state × Appends (K.holds out.old) (K.holds out.new) result text }
+    ensures cause { WriteCauses (K.faults out.old) (K.faults out.new) result }
+{
+    let Some(chosen) = asked else {
+        return say(out, &word_line("refused", b"line"));
+    };
+    let played = move_line("played", solved.whole().board().size(), &chosen);
+    match solved.play(chosen) {
+        Ok(()) => say(out, &played),
+        Err(error) => say(out, &refusal(error)),
+    }
+}
+
+/// Takes a line of the input.
+pub(crate) fn take_request<S: Source>(
+    input: &mut Input,
+    board: &Board,
+    lines: &mut S,
+) -> Result<Request, Failed>
+    ensures requested { (bytes : List ℕ) → S.left lines.old ≡ Some bytes → IfOk result (λ request. IsRequested board.now (input.old ++ bytes) request input.new (S.left lines.new)) }
+    ensures on_board { IfOk result (IsPossible board.now) }
+    ensures cause { HasCause (S.faults lines.old) (S.faults lines.new) result }
+{
+    let Some(found) = input.find_line(lines)? else {
+        return Ok(Request::Ended);
+    };
+    let asked = asked_move(board, input.front(found.line));
+    input.drop_front(found.taken);
+    Ok(Request::Line(asked))
+}
+
+/// A game between the engine and whoever writes the lines. Contracts see the state, the engine's colour, and the bytes
+/// that were read and not yet used.
+#[derive(Drop)]
+pub struct Session {
+    solved: Solved,
+    engine: Colour,
+    input: Input,
+}
+
+impl Model for Session {
+    ghost use Rattle.play_session.specs.Written.{SessionState};
+
+    ghost Value = { SessionState };
+
+    ghost view = { λ s. record { state = s.solved.state; engine = s.engine; held = s.input } };
+}
+
+impl Session {
+    /// A session that hasn't read anything.
+    pub fn new(solved: Solved, engine: Colour) -> Session
+        ensures { result ≡ record { state = solved.state; engine = engine; held = [] } }
+    {
+        Session {
+            solved,
+            engine,
+            input: Input::new(),
+        }
+    }
+
+    /// The opponent's turn.
+    fn opponent_turn<S: Source, K: Sink>(
+        &mut self,
+        read: &mut usize,
+        lines: &mut S,
+        out: &mut K,
+    ) -> Result<Option<SessionEnd>, Fault>
+        requires turn { IsToAnswer self.old.engine self.old.state }
+        requires few { read.old ≤ 10000 }
+        ensures engine { self.new.engine ≡ self.old.engine }
+        ensures written { (bytes : List ℕ) → S.left lines.old ≡ Some bytes → TurnWritten self.old.engine (standing self.old read.old bytes) (K.holds out.old) (K.holds out.new) result self.new read.new (S.left lines.new) }
+        ensures stepped { IsStep self.old.state self.new.state }
+        ensures counted { result ≡ Ok None → (read.old < 10000) × (read.new ≡ read.old + 1) }
+        ensures never_lost { result ≢ Ok (Some Lost) }
+        ensures natural { IfOk result (λ end. IfSome end IsNatural) }
+        ensures cause { Causes (S.faults lines.old) (S.faults lines.new) (K.faults out.old) (K.faults out.new) result }
+    {
+        if *read == MOST_LINES {
+            return Ok(Some(SessionEnd::TooManyLines));
+        }
+        let asked = match take_request(&mut self.input, self.solved.whole().board(), lines) {
+            Err(_) => return Err(Fault::Read),
+            Ok(Request::Ended) => return end_input(out),
+            Ok(Request::Line(asked)) => asked,
+        };
+        *read += 1;
+        match answer(&mut self.solved, asked, out) {
+            Err(fault) => return Err(fault),
+            Ok(()) => {}
+        }
+        Ok(None)
+    }
+
+    /// One turn, or the end where the side to move has no move or no line is left to be read.
+    fn turn<S: Source, K: Sink>(
+        &mut self,
+        read: &mut usize,
+        lines: &mut S,
+        out: &mut K,
+    ) -> Result<Option<SessionEnd>, Fault>
+        requires few { read.old ≤ 10000 }
+        ensures engine { self.new.engine ≡ self.old.engine }
+        ensures written { (bytes : List ℕ) → S.left lines.old ≡ Some bytes → TurnWritten self.old.engine (standing self.old read.old bytes) (K.holds out.old) (K.holds out.new) result self.new read.new (S.left lines.new) }
+        ensures keeps { IsWinner self.old.state self.old.engine → IsWinner self.new.state self.old.engine × (result ≢ Ok (Some Lost)) }
+        ensures fewer { result ≡ Ok None → (read.new ≤ 10000) × (turns_left self.new read.new < turns_left self.old read.old) }
+        ensures natural { IfOk result (λ end. IfSome end IsNatural) }
+        ensures cause { Causes (S.faults lines.old) (S.faults lines.new) (K.faults out.old) (K.faults out.new) result }
+    {
+        let side = self.solved.whole().side();
+        let first = match self.solved.whole().first_move() {
+            None => return end_game(side.other(), self.engine, out),
+            Some(first) => first,
+        };
+        if !is_same(side, self.engine) {
+            return self.opponent_turn(read, lines, out);
+        }
+        match move_engine(&mut self.solved, first, out) {
+            Err(fault) => return Err(fault),
+            Ok(()) => {}
+        }
+        Ok(None)
+    }
+
+    /// Plays turn by turn.
+    fn turns<S: Source, K: Sink>(&mut self, lines: &mut S, out: &mut K) -> Result<SessionEnd, Fault>
+        ensures engine { self.new.engine ≡ self.old.engine }
+        ensures written { (bytes : List ℕ) → S.left lines.old ≡ Some bytes → IsPlayedTo self.old.engine (standing self.old 0 bytes) (K.holds out.old) (K.holds out.new) result self.new (S.left lines.new) }
+        ensures keeps { IsWinner self.old.state self.old.engine → result ≢ Ok Lost }
+        ensures natural { IfOk result IsNatural }
+        ensures cause { Causes (S.faults lines.old) (S.faults lines.new) (K.faults out.old) (K.faults out.new) result }
+    {
+        let mut read = 0;
+        'turns: loop {
+            match self.turn(&mut read, lines, out) {
+                Err(fault) => return Err(fault),
+                Ok(Some(end)) => return Ok(end),
+                Ok(None) => {}
+            }
+        }
+    }
+
+    /// Plays the session to its end, from the state as it stands. The bytes that count are those that the session holds
+    /// unread, and then those that the source has left; 10,000 lines are read at most in this call. Where the source tells
+    /// its bytes, the text of the session was written, or at a fault a front part of it.
+    pub fn run<S: Source, K: Sink>(&mut self, lines: &mut S, out: &mut K) -> SessionEnd
+        ensures text { (bytes : List ℕ) → S.left lines.old ≡ Some bytes → Played self.old.engine (standing self.old 0 bytes) (K.holds out.old) (K.holds out.new) result self.new (S.left lines.new) }
+        ensures read_fault { result ≡ ReadFault → Rose (S.faults lines.old) (S.faults lines.new) }
+        ensures write_fault { result ≡ WriteFault → Rose (K.faults out.old) (K.faults out.new) }
+        ensures keeps_win { IsWinner self.old.state self.old.engine → result ≢ Lost }
+        ensures engine { self.new.engine ≡ self.old.engine }
+    {
+        match self.turns(lines, out) {
+            Ok(end) => end,
+            Err(Fault::Read) => SessionEnd::ReadFault,
+            Err(Fault::Write) => SessionEnd::WriteFault,
+        }
+    }
+}
