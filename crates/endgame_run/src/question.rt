@@ -2,7 +2,7 @@
 
 use crate::status::Status;
 use endgame_solver::Limits;
-use report::Text;
+use game_text::Text;
 
 /// The commands that read a file and write one text.
 #[derive(Clone, Copy, PartialEq, Eq)]

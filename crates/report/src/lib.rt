@@ -4,9 +4,7 @@
 mod lines;
 mod safety;
 mod solution;
-mod text;
 
 pub use lines::{colour_word, write_name, write_point, write_words};
 pub use safety::{ChainLine, CountedLine, safe_text};
 pub use solution::solve_text;
-pub use text::Text;

@@ -10,8 +10,8 @@ ghost use Rattle.region_cut.specs.Cut.{AreRegionsOfPlay, lowest};
 ghost use Rattle.report.specs.Safety.{AreChainLines, AreChainsBelow, AreCountedBelow, AreCountedLines, IsSafeText, chain_line, counted_line, life_word, region_line, shape_line, turn};
 
 use crate::lines::{colour_word, write_name};
-use crate::text::Text;
 use benson_life::{alive, counted, held, marked};
+use game_text::Text;
 use go_grid::{Board, Colour, Marks, Point, Region, Size, fill, listed, union};
 use region_cut::cut;
 use std::alloc::{AllocError, Global};
