@@ -1,0 +1,118 @@
+-- Marks, step by step.
+use Rattle.std.proofs.Common.{ℕ, ◌+◌, ◌<◌, ◌≤◌, ◌≡◌, ◌⊎◌, ◌↔◌, ◌∙◌, arith, refl, inl, inr, sym, ap, subst, Bool, true, false, List, ◌++◌, length, get_or, set, take, drop, replicate}
+use Rattle.std.proofs.lemmas.Bool.{cases_eq, cases_lt, true≢false}
+use Rattle.std.proofs.Math.Seq.{take-append_seam}
+use Rattle.std.proofs.lemmas.List.{length-set, get_or-set_same, get_or-set_other, get_or-replicate, length-replicate, get_or_past, get_or_default}
+use Rattle.game_store.specs.Tree.{Tree, left, right, Has}
+use Rattle.game_store.specs.Number.{IsNumberTree}
+use Rattle.game_store.specs.Meaning.{tree_at, pick, AreDistinct}
+use Rattle.game_store.specs.Parts.{IsFollower}
+use Rattle.game_store.specs.Parts.IsFollower.{itself, further}
+use Rattle.game_store.specs.Forms.{IsOptions}
+use Rattle.game_store.proofs.Values.{has-pick, pick-has}
+use Rattle.game_store.proofs.TextOrderLaws.{sorted-has, has-sorted}
+use Rattle.thermograph.specs.Marks.{IsMarked, AreAdded, IsAmong, IsInner, AreFollowers}
+use Rattle.thermograph.proofs.Between.{follower-trans}
+
+pub added-none : (In : ℕ → Type 0) (xs : List Bool) → ((i : ℕ) → In i → ⊥) → AreAdded In xs xs
+added-none In xs n = record { size = refl; marked = λ i h. (λ m. inl m, λ m. elim m [ inl a ↦ a | inr b ↦ absurd (n i b) ]) }
+
+-- one more mark
+pub added-one : (In Now : ℕ → Type 0) (xs ys : List Bool) (k : ℕ) → AreAdded In xs ys → k < length ys → ((i : ℕ) → Now i ↔ (In i ⊎ (i ≡ k))) → AreAdded Now xs (set ys k true)
+added-one In Now xs ys k a l n = record { size = length-set ys k true ∙ a.size; marked = λ i h. (to i h (cases_eq i k), from i h (cases_eq i k)) }
+  where
+    to : (i : ℕ) → i < length xs → (i ≡ k) ⊎ (i ≡ k → ⊥) → IsMarked (set ys k true) i → IsMarked xs i ⊎ Now i
+    to i h (inl e) m = inr ((n i).1 (inr e))
+    to i h (inr d) m = elim ((a.marked i h).0 (sym (get_or-set_other ys k i true false d) ∙ m)) [ inl b ↦ inl b | inr b ↦ inr ((n i).1 (inl b)) ]
+
+    from : (i : ℕ) → i < length xs → (i ≡ k) ⊎ (i ≡ k → ⊥) → IsMarked xs i ⊎ Now i → IsMarked (set ys k true) i
+    from i h (inl e) m = subst (IsMarked (set ys k true)) (sym e) (get_or-set_same ys k true false l)
+    from i h (inr d) m = get_or-set_other ys k i true false d ∙ (a.marked i h).1 (elim m [ inl b ↦ inl b | inr b ↦ elim ((n i).0 b) [ inl c ↦ inr c | inr e ↦ absurd (d e) ] ])
+
+-- marks of one set, and then of another
+pub added-both : (A B Both : ℕ → Type 0) (xs ys zs : List Bool) → AreAdded A xs ys → AreAdded B ys zs → ((i : ℕ) → i < length xs → Both i ↔ (A i ⊎ B i)) → AreAdded Both xs zs
+added-both A B Both xs ys zs a b n = record { size = b.size ∙ a.size; marked = λ i h. (to i h, from i h) }
+  where
+    in_second : (i : ℕ) → i < length xs → i < length ys
+    in_second i h = omega (arith, h, a.size)
+
+    to : (i : ℕ) → i < length xs → IsMarked zs i → IsMarked xs i ⊎ Both i
+    to i h m = elim ((b.marked i (in_second i h)).0 m) [
+      | inl c ↦ elim ((a.marked i h).0 c) [ inl d ↦ inl d | inr d ↦ inr ((n i h).1 (inl d)) ]
+      | inr d ↦ inr ((n i h).1 (inr d))
+    ]
+
+    from : (i : ℕ) → i < length xs → IsMarked xs i ⊎ Both i → IsMarked zs i
+    from i h (inl m) = (b.marked i (in_second i h)).1 (inl ((a.marked i h).1 (inl m)))
+    from i h (inr m) = (b.marked i (in_second i h)).1 (elim ((n i h).0 m) [ inl d ↦ inl ((a.marked i h).1 (inr d)) | inr d ↦ inr d ])
+
+module _ (Ts : List Tree) (id : ℕ) (ls rs : List ℕ) (o : IsOptions Ts id ls rs) where
+  -- an id of the form is an option below it
+  pub left-inner : (i : ℕ) → IsAmong ls i → IsInner Ts id i
+  left-inner i (j, l, e) = subst (IsInner Ts id) e (o.left_below j l, o.no_number, inl (subst (λ G. Has (left G) (tree_at Ts (get_or ls j 0))) (sym o.tree) (has-sorted (pick Ts ls) _ (pick-has Ts ls j l))))
+
+  pub right-inner : (i : ℕ) → IsAmong rs i → IsInner Ts id i
+  right-inner i (j, l, e) = subst (IsInner Ts id) e (o.right_below j l, o.no_number, inr (subst (λ G. Has (right G) (tree_at Ts (get_or rs j 0))) (sym o.tree) (has-sorted (pick Ts rs) _ (pick-has Ts rs j l))))
+
+  -- and the other way round
+  pub inner-listed : AreDistinct Ts → id < length Ts → (i : ℕ) → IsInner Ts id i → IsAmong ls i ⊎ IsAmong rs i
+  inner-listed d h i (l, _, inl p) = inl (let r = has-pick Ts ls (tree_at Ts i) (sorted-has (pick Ts ls) _ (subst (λ G. Has (left G) (tree_at Ts i)) o.tree p)) in
+      (r.0, r.1, sym (d i (get_or ls r.0 0) (omega (arith, l, h)) (omega (arith, h, o.left_below r.0 r.1)) r.2)))
+  inner-listed d h i (l, _, inr p) = inr (let r = has-pick Ts rs (tree_at Ts i) (sorted-has (pick Ts rs) _ (subst (λ G. Has (right G) (tree_at Ts i)) o.tree p)) in
+      (r.0, r.1, sym (d i (get_or rs r.0 0) (omega (arith, l, h)) (omega (arith, h, o.right_below r.0 r.1)) r.2)))
+
+-- a number has no inner forms
+pub number-inner : (Ts : List Tree) (id : ℕ) → IsNumberTree (tree_at Ts id) → (i : ℕ) → IsInner Ts id i → ⊥
+number-inner Ts id n i (l, m, o) = m n
+
+-- the walk from id down
+pub following-start : (Ts : List Tree) (id count : ℕ) (ys : List Bool) → count ≡ id + 1 → ys ≡ set (replicate count false) id true → AreFollowers Ts id count ys
+following-start Ts id count ys k e = subst (AreFollowers Ts id count) (sym e) record {
+  size = length-set (replicate count false) id true ∙ length-replicate count false ∙ k;
+  root = get_or-set_same (replicate count false) id true false (omega (arith, k, length-replicate count false));
+  follows = λ i h m. one i m (cases_eq i id);
+  closed = λ j i p q. absurd (omega (arith, p, q, length-set (replicate count false) id true, length-replicate count false));
+}
+  where
+    one : (i : ℕ) → IsMarked (set (replicate count false) id true) i → (i ≡ id) ⊎ (i ≡ id → ⊥) → IsFollower (tree_at Ts id) (tree_at Ts i)
+    one i m (inl s) = subst (λ n. IsFollower (tree_at Ts id) (tree_at Ts n)) (sym s) (itself (tree_at Ts id))
+    one i m (inr d) = absurd (true≢false (sym m ∙ get_or-set_other (replicate count false) id i true false d ∙ unmarked i (cases_lt i count)))
+      where
+        unmarked : (i : ℕ) → (i < count) ⊎ (count ≤ i) → get_or (replicate count false) i false ≡ false
+        unmarked i (inl l) = get_or-replicate count i false false l
+        unmarked i (inr l) = get_or_past (replicate count false) i false (omega (arith, l, length-replicate count false))
+
+pub following-skip : (Ts : List Tree) (id place next : ℕ) (ys : List Bool) → AreFollowers Ts id place ys → place ≡ next + 1 → get_or ys next false ≡ false → AreFollowers Ts id next ys
+following-skip Ts id place next ys f e n = record {
+  size = f.size;
+  root = f.root;
+  follows = f.follows;
+  closed = λ j i p q m k. (elim (cases_eq j next) [
+    | inl s ↦ absurd (true≢false (sym m ∙ ap (λ x. get_or ys x false) s ∙ n))
+    | inr d ↦ f.closed j i (omega (arith, p, d, e)) q m k
+  ]);
+}
+
+pub following-step : (Ts : List Tree) (id place next : ℕ) (ys zs : List Bool) → AreFollowers Ts id place ys → place ≡ next + 1 → place ≤ length ys → IsMarked ys next → AreAdded (IsInner Ts next) ys zs → AreFollowers Ts id next zs
+following-step Ts id place next ys zs f e b n a = record {
+  size = a.size ∙ f.size;
+  root = (a.marked id (omega (arith, f.size))).1 (inl f.root);
+  follows = λ i h m. (elim ((a.marked i (omega (arith, h, a.size))).0 m) [
+    | inl k ↦ f.follows i (omega (arith, h, a.size)) k
+    | inr k ↦ follower-trans (tree_at Ts id) (tree_at Ts next) (tree_at Ts i) (f.follows next (omega (arith, e, b)) n) (further (tree_at Ts next) (tree_at Ts i) (tree_at Ts i) k.2 (itself (tree_at Ts i)))
+  ]);
+  closed = λ j i p q m k. (elim (cases_eq j next) [
+    | inl s ↦ (a.marked i (omega (arith, q, k.0, a.size))).1 (inr (subst (λ x. IsInner Ts x i) s k))
+    | inr d ↦ elim ((a.marked j (omega (arith, q, a.size))).0 m) [
+      | inl o ↦ (a.marked i (omega (arith, q, k.0, a.size))).1 (inl (f.closed j i (omega (arith, p, d, e)) (omega (arith, q, a.size)) o k))
+      | inr o ↦ absurd (omega (arith, p, d, o.0))
+    ]
+  ]);
+}
+
+-- a list that was written whole
+pub written : (xs ys : List Bool) (n : ℕ) → n ≡ length xs → length ys ≡ length xs → take n (ys ++ drop (length ys) xs) ≡ ys
+written xs ys n e s = ap (λ m. take m (ys ++ drop (length ys) xs)) (e ∙ sym s) ∙ take-append_seam ys (drop (length ys) xs)
+
+pub marked-read : (xs : List Bool) (i : ℕ) (b : Bool) → i < length xs → b ≡ get_or xs i b → b ≡ true → IsMarked xs i
+marked-read xs i b h p q = get_or_default xs i false b h ∙ sym p ∙ q

@@ -1,0 +1,50 @@
+use Rattle.std.proofs.Common.{◌≡◌, sym, ◌∙◌, ap, subst, List}
+use Rattle.game_store.specs.Meaning.{tree_at}
+use Rattle.thermograph.specs.declared.breaks.Break.{Break}
+use Rattle.thermograph.specs.Walls.{HasWalls}
+use Rattle.thermograph.specs.Breaks.{wall_at}
+use Rattle.thermograph.specs.Drawings.{IsTemperature, AreBreaks, end_of}
+use Rattle.thermograph.specs.Thermographs.{breaks, IsFromZero, AreInBounds}
+use Rattle.thermograph.proofs.Between.{none-between}
+use Rattle.thermograph.proofs.Points.{points-in_bounds, breaks-points, points-from_zero}
+use Rattle.thermograph.proofs.pass.draw.Goals as goal
+use Rattle.thermograph.proofs.pass.draw.Goals.{After-drop-marks-2}
+
+pub wall_with-requires : goal.wall_with-requires
+wall_with-requires c = let d = c.in_ok-drawing.ensures.drawn in
+    subst AreInBounds (sym c.deref-2.ensures.value) (points-in_bounds c.in_ok-drawing.drawing.left.items (end_of c.in_ok-drawing.drawing.temperature) d.left_breaks d.drawn.left_level d.end)
+
+pub wall_with-requires-2 : goal.wall_with-requires-2
+wall_with-requires-2 c = let d = c.in_ok-drawing.ensures.drawn in
+    subst AreInBounds (sym c.deref-3.ensures.value) (points-in_bounds c.in_ok-drawing.drawing.right.items (end_of c.in_ok-drawing.drawing.temperature) d.right_breaks d.drawn.right_level d.end)
+
+left_is : (c : After-drop-marks-2) → breaks c.in_ok-left.left ≡ c.in_ok-drawing.drawing.left.items
+left_is c = ap breaks (c.in_ok-left.ensures {u = tt}) ∙ breaks-points c.deref-2.result.now ∙ c.deref-2.ensures.value
+
+right_is : (c : After-drop-marks-2) → breaks c.in_ok-right.right ≡ c.in_ok-drawing.drawing.right.items
+right_is c = ap breaks (c.in_ok-right.ensures {u = tt}) ∙ breaks-points c.deref-3.result.now ∙ c.deref-3.ensures.value
+
+pub returns-clause-walls : goal.returns-clause-walls
+returns-clause-walls c = let G = tree_at c.args.store.now c.args.id in
+    subst (λ (l : List Break). HasWalls 60 G (wall_at l) (wall_at (breaks c.in_ok-right.right))) (sym (left_is c))
+    (subst (λ (r : List Break). HasWalls 60 G (wall_at c.in_ok-drawing.drawing.left.items) (wall_at r)) (sym (right_is c)) c.in_ok-drawing.ensures.drawn.drawn.walls)
+
+pub returns-clause-temperature : goal.returns-clause-temperature
+returns-clause-temperature c = let G = tree_at c.args.store.now c.args.id in
+    subst (λ (l : List Break). IsTemperature G (wall_at l) (wall_at (breaks c.in_ok-right.right)) c.in_ok-drawing.drawing.temperature c.in_ok-drawing.drawing.mean) (sym (left_is c))
+    (subst (λ (r : List Break). IsTemperature G (wall_at c.in_ok-drawing.drawing.left.items) (wall_at r) c.in_ok-drawing.drawing.temperature c.in_ok-drawing.drawing.mean) (sym (right_is c)) c.in_ok-drawing.ensures.drawn.temperature)
+
+pub returns-clause-left_breaks : goal.returns-clause-left_breaks
+returns-clause-left_breaks c = (
+  subst IsFromZero (sym (c.in_ok-left.ensures {u = tt})) (points-from_zero c.deref-2.result.now),
+  subst (λ (l : List Break). AreBreaks l (end_of c.in_ok-drawing.drawing.temperature)) (sym (left_is c)) c.in_ok-drawing.ensures.drawn.left_breaks,
+)
+
+pub returns-clause-right_breaks : goal.returns-clause-right_breaks
+returns-clause-right_breaks c = (
+  subst IsFromZero (sym (c.in_ok-right.ensures {u = tt})) (points-from_zero c.deref-3.result.now),
+  subst (λ (r : List Break). AreBreaks r (end_of c.in_ok-drawing.drawing.temperature)) (sym (right_is c)) c.in_ok-drawing.ensures.drawn.right_breaks,
+)
+
+pub returns-clause-within : goal.returns-clause-within
+returns-clause-within c = λ p. none-between 60 (tree_at c.args.store.now c.args.id) p.0 _ _ c.in_ok-drawing.ensures.drawn.drawn.walls p.1.0 p.2

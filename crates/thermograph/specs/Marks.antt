@@ -1,0 +1,30 @@
+-- Marks on the ids of a store.
+use Rattle.std.specs.Prelude.{ℕ, ◌+◌, ◌≡◌, ◌<◌, ◌≤◌, ◌⊎◌, ◌↔◌, Bool, true, false, List, length}
+use Rattle.std.specs.List.{slice_index_or}
+use Rattle.game_store.specs.Tree.{Tree}
+use Rattle.game_store.specs.Number.{IsNumberTree}
+use Rattle.game_store.specs.Meaning.{tree_at}
+use Rattle.game_store.specs.Parts.{IsOption, IsFollower}
+
+abbrev pub IsMarked : List Bool → ℕ → Type 0
+IsMarked marks i = slice_index_or marks i false ≡ true
+
+-- the second list has the marks of the first, and one at each place that is in the set
+pub record AreAdded (In : ℕ → Type 0) (marks after : List Bool) : Type 0 where
+  pub size : length after ≡ length marks
+  pub marked : (i : ℕ) → i < length marks → IsMarked after i ↔ (IsMarked marks i ⊎ In i)
+
+-- i is one of the ids
+abbrev pub IsAmong : List ℕ → ℕ → Type 0
+IsAmong is i = (j : ℕ) × (j < length is) × (slice_index_or is j 0 ≡ i)
+
+-- the form of i is an option of that of id, which is no number
+abbrev pub IsInner : List Tree → ℕ → ℕ → Type 0
+IsInner Ts id i = (i < id) × (IsNumberTree (tree_at Ts id) → ⊥) × IsOption (tree_at Ts id) (tree_at Ts i)
+
+-- followers of id are marked, id among them; and of the marked ones from a place on all options are marked
+pub record AreFollowers (Ts : List Tree) (id place : ℕ) (marks : List Bool) : Type 0 where
+  pub size : length marks ≡ id + 1
+  pub root : IsMarked marks id
+  pub follows : (i : ℕ) → i < length marks → IsMarked marks i → IsFollower (tree_at Ts id) (tree_at Ts i)
+  pub closed : (j i : ℕ) → place ≤ j → j < length marks → IsMarked marks j → IsInner Ts j i → IsMarked marks i
