@@ -21,3 +21,4 @@ pub mod OptionWalls
 pub mod DrawingLaws
 pub mod Passes
 pub mod Points
+pub mod Finer

@@ -1,6 +1,6 @@
 -- What is drawn of a game: its walls, their break points, its temperature and its mean, in parts of 2 ^ -60.
 use Rattle.std.specs.declared.alloc.Global.{Global}
-use Rattle.std.specs.Prelude.{ℕ, ◌+◌, ◌-◌, ◌^◌, ◌≡◌, ◌<◌, ◌↔◌, length, ℤ, pos, unsigned_abs, ◌<ℤ◌, Bool, List, Vec, Option, Some, None}
+use Rattle.std.specs.Prelude.{ℕ, ◌+◌, ◌-◌, ◌*◌, ◌^◌, ◌≡◌, ◌<◌, ◌↔◌, length, map, ℤ, pos, unsigned_abs, ◌*ℤ◌, ◌<ℤ◌, Bool, List, Vec, Option, Some, None}
 use Rattle.std.specs.List.{slice_index_or}
 use Rattle.game_store.specs.Tree.{Tree}
 use Rattle.game_store.specs.Number.{IsNumberTree}
@@ -20,6 +20,14 @@ pub record AreBreaks (bs : List Break) (end : ℕ) : Type 0 where
   pub last_at : (slice_index_or bs (length bs - 1) (record { at = end + 1; value = pos 0 })).at ≡ end
   pub path : IsPath bs
   pub bends : (t : ℕ) → 0 < t → t < end → IsBreakAt bs t ↔ Bends (wall_at bs) t
+
+-- the same break points where all numbers are in parts of 2 ^ -(60 + j)
+abbrev pub in_parts : ℕ → List Break → List Break
+in_parts j bs = map (λ b. record { at = b.at * 2 ^ j; value = b.value *ℤ pos (2 ^ j) }) bs
+
+-- the lists of break points draw the walls of G at each dyadic t: at the multiples of 2 ^ -(60 + j), for every j
+abbrev pub DrawWalls : Tree → List Break → List Break → Type 0
+DrawWalls G l r = (j : ℕ) → HasWalls (60 + j) G (wall_at (in_parts j l)) (wall_at (in_parts j r))
 
 -- where l and r are the walls: a number has no temperature, and its mean is the number; the temperature of another game
 -- is where the walls meet, and its mean is where they meet

@@ -2,10 +2,9 @@
 
 ghost use Rattle.std.specs.Prelude.{◌≡◌, ◌<◌, ◌≤◌, [], ◌∷◌, ◌++◌, length, IfOk, IfErr, OnOk};
 ghost use Rattle.game_store.specs.Meaning.{tree_at};
-ghost use Rattle.thermograph.specs.Walls.{HasWalls};
 ghost use Rattle.thermograph.specs.Breaks.{wall_at};
 ghost use Rattle.thermograph.specs.Marks.{AreFollowers};
-ghost use Rattle.thermograph.specs.Drawings.{IsTemperature, AreBreaks, end_of, IsDrawing, AreDrawn, IsPastBounds};
+ghost use Rattle.thermograph.specs.Drawings.{DrawWalls, IsTemperature, AreBreaks, end_of, IsDrawing, AreDrawn, IsPastBounds};
 ghost use Rattle.thermograph.specs.Thermographs.{breaks, IsFromZero};
 ghost use Rattle.thermograph.specs.declared.error.ThermoError.TheVariants as the_error;
 
@@ -74,7 +73,7 @@ fn draw_below(
 /// `Bounds` exactly where a break point of the game or of one of its parts is past the bounds of a `Dyadic`.
 pub fn draw(alloc: Global, store: &Store, id: GameId) -> Result<Thermograph, ThermoError>
     requires { id < length store.now }
-    ensures walls { IfOk result (λ g. HasWalls 60 (tree_at store.now id) (wall_at (breaks g.left)) (wall_at (breaks g.right))) }
+    ensures walls { IfOk result (λ g. DrawWalls (tree_at store.now id) (breaks g.left) (breaks g.right)) }
     ensures temperature { IfOk result (λ g. IsTemperature (tree_at store.now id) (wall_at (breaks g.left)) (wall_at (breaks g.right)) g.temperature g.mean) }
     ensures left_breaks { IfOk result (λ g. IsFromZero g.left × AreBreaks (breaks g.left) (end_of g.temperature)) }
     ensures right_breaks { IfOk result (λ g. IsFromZero g.right × AreBreaks (breaks g.right) (end_of g.temperature)) }

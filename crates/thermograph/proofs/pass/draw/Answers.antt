@@ -1,11 +1,11 @@
 use Rattle.std.proofs.Common.{◌≡◌, sym, ◌∙◌, ap, subst, List}
 use Rattle.game_store.specs.Meaning.{tree_at}
 use Rattle.thermograph.specs.declared.breaks.Break.{Break}
-use Rattle.thermograph.specs.Walls.{HasWalls}
 use Rattle.thermograph.specs.Breaks.{wall_at}
-use Rattle.thermograph.specs.Drawings.{IsTemperature, AreBreaks, end_of}
+use Rattle.thermograph.specs.Drawings.{DrawWalls, IsTemperature, AreBreaks, end_of}
 use Rattle.thermograph.specs.Thermographs.{breaks, IsFromZero, AreInBounds}
 use Rattle.thermograph.proofs.Between.{none-between}
+use Rattle.thermograph.proofs.Finer.{draw-all}
 use Rattle.thermograph.proofs.Points.{points-in_bounds, breaks-points, points-from_zero}
 use Rattle.thermograph.proofs.pass.draw.Goals as goal
 use Rattle.thermograph.proofs.pass.draw.Goals.{After-drop-marks-2}
@@ -26,8 +26,9 @@ right_is c = ap breaks (c.in_ok-right.ensures {u = tt}) ∙ breaks-points c.dere
 
 pub returns-clause-walls : goal.returns-clause-walls
 returns-clause-walls c = let G = tree_at c.args.store.now c.args.id in
-    subst (λ (l : List Break). HasWalls 60 G (wall_at l) (wall_at (breaks c.in_ok-right.right))) (sym (left_is c))
-    (subst (λ (r : List Break). HasWalls 60 G (wall_at c.in_ok-drawing.drawing.left.items) (wall_at r)) (sym (right_is c)) c.in_ok-drawing.ensures.drawn.drawn.walls)
+    let d = c.in_ok-drawing.ensures.drawn in
+    subst (λ (l : List Break). DrawWalls G l (breaks c.in_ok-right.right)) (sym (left_is c))
+    (subst (λ (r : List Break). DrawWalls G c.in_ok-drawing.drawing.left.items r) (sym (right_is c)) (draw-all G c.in_ok-drawing.drawing.left.items c.in_ok-drawing.drawing.right.items d.left_breaks.path d.right_breaks.path d.drawn.walls))
 
 pub returns-clause-temperature : goal.returns-clause-temperature
 returns-clause-temperature c = let G = tree_at c.args.store.now c.args.id in
