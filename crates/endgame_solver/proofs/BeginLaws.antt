@@ -42,7 +42,7 @@ chosen {X} d P (suc n) f =
     at x xs p q (suc k) lt = q k (omega (arith, lt))
 
 -- a position has one value
-one_value : (touch : List Touch) (cells : List Cell) (V W : Tree) → IsValueOf touch cells V → IsValueOf touch cells W → V ≡ W
+pub one_value : (touch : List Touch) (cells : List Cell) (V W : Tree) → IsValueOf touch cells V → IsValueOf touch cells W → V ≡ W
 one_value touch cells V W v w =
     let trees = trees-same (List Cell) (IsStep touch) (3 ^ length cells) cells v.tree w.tree v.of_position w.of_position in
     let same = same-trans V v.tree W (same-sym v.tree V v.same) (same-trans v.tree w.tree W trees w.same) in

@@ -13,6 +13,7 @@ mod writing;
 
 pub use errors::{ReadError, WriteError};
 pub use laws::text_laws;
+pub use numbers::number_text;
 pub use reading::read;
 pub use text::Text;
 pub use writing::write;

@@ -11,7 +11,7 @@ use dyadic_num::Dyadic;
 use std::alloc::{AllocError, Global};
 
 /// The text of a number: a whole number in decimal, and any other as a fraction in lowest terms.
-pub(crate) fn number_text(alloc: Global, x: Dyadic) -> Result<String, AllocError>
+pub fn number_text(alloc: Global, x: Dyadic) -> Result<String, AllocError>
     ensures { IfOk result (λ t. string_bytes t ≡ tree_text (number_tree x)) }
 {
     let mut text = String::new(alloc);

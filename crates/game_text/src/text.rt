@@ -46,6 +46,14 @@ impl Text {
         Ok(self.bytes.push(item)?)
     }
 
+    /// Appends bytes, or leaves the text as it was where memory is refused.
+    pub fn extend_from_slice(&mut self, more: &[u8]) -> Result<(), AllocError>
+        ensures ok { OnOk result (self.new ≡ self.old ++ more.now) }
+        ensures err { OnErr result (self.new ≡ self.old) }
+    {
+        Ok(self.bytes.extend_from_slice(more)?)
+    }
+
     /// The bytes.
     pub fn as_slice(&self) -> &[u8]
         ensures { result.now ≡ self.now }

@@ -2,3 +2,4 @@ pub mod ListingLaws
 pub mod SafetyLaws
 pub mod SolutionLaws
 pub mod TextLaws
+pub mod ValuesLaws

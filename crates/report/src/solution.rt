@@ -85,14 +85,14 @@ fn write_solution(text: &mut String, solved: &mut Solved) -> Result<(), AllocErr
 
 /// Appends the line of a number.
 #[tactic(auto, unfolding(crate::specs::Solution::count_line))]
-fn write_count(text: &mut String, label: &str, count: u128) -> Result<(), AllocError>
+pub(crate) fn write_count(text: &mut String, label: &str, count: u128) -> Result<(), AllocError>
     ensures { OnOk result (string_bytes text.new ≡ string_bytes text.old ++ count_line label.now count) }
 {
     writeln!(text, "{label} {count}")
 }
 
 /// Appends the line of a region by its lowest point, the number of its points and that of its positions.
-fn write_region(
+pub(crate) fn write_region(
     text: &mut String,
     size: Size,
     lowest: Point,

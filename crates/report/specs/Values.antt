@@ -1,0 +1,95 @@
+-- The text of `values`: the value of each region's opening, with its stops and its thermograph.
+use Rattle.std.specs.Prelude.{◌≡◌, ◌<◌, ◌⊎◌, ⊤, ◌++◌, [], ◌∷◌, ℕ, List, length, flat_map, codes}
+use Rattle.go_grid.specs.Region.{Shape}
+use Rattle.region_cut.specs.Cut.{lowest}
+use Rattle.game_store.specs.Tree.{Tree}
+use Rattle.game_store.specs.Meaning.{tree_at}
+use Rattle.game_store.specs.TextOrder.{tree_text}
+use Rattle.game_text.specs.Depth.{depth}
+use Rattle.thermograph.specs.Drawings.{IsPastBounds}
+use Rattle.local_value.specs.PositionTree.{IsValueOf}
+use Rattle.endgame_solver.specs.Regions.{region_at}
+use Rattle.endgame_solver.specs.Solved.{IsNumberOfPositions}
+use Rattle.endgame_solver.specs.declared.solved.RegionReport.{RegionReport}
+use Rattle.report.specs.declared.values.Showing.{Showing}
+use Rattle.report.specs.declared.values.ValuesError.{ValuesError}
+use Rattle.report.specs.declared.values.ValuesError.TheVariants.{Form, Memory}
+use Rattle.report.specs.Lines.{word_line}
+use Rattle.report.specs.Solution.{count_line, solved_line}
+use Rattle.report.specs.Thermographs.{Picture, IsPicture, picture_lines}
+
+-- The value isn't shown: a break point of it or of one of its parts is past the bounds of numbers, its text has more than
+-- 65,536 bytes, or its braces nest more than 1,000 deep.
+abbrev pub IsUnshown : Tree → Type 0
+IsUnshown G = IsPastBounds G ⊎ ((65536 < length (tree_text G)) ⊎ (1000 < depth G))
+
+-- the value of the region's opening is shown, or isn't
+abbrev pub HasShownValue : Shape → Type 0
+HasShownValue r = (G : Tree) × IsValueOf r.touch r.cells G × (IsUnshown G → ⊥)
+
+abbrev pub HasUnshownValue : Shape → Type 0
+HasUnshownValue r = (G : Tree) × IsValueOf r.touch r.cells G × IsUnshown G
+
+-- the point is the lowest of the first region whose value isn't shown
+pub record IsFirstUnshown (regions : List Shape) (p : ℕ) : Type 0 where
+  pub place : ℕ
+  pub inside : place < length regions
+  pub lowest_point : p ≡ lowest (region_at regions place)
+  pub unshown : HasUnshownValue (region_at regions place)
+  pub shown : (j : ℕ) → j < place → HasShownValue (region_at regions j)
+
+-- what is shown of a region: how many positions are reachable, the value of its opening, and what is drawn of the value
+pub record Entry : Type 0 where
+  pub region : Shape
+  pub positions : ℕ
+  pub value : Tree
+  pub picture : Picture
+
+pub record IsEntry (e : Entry) : Type 0 where
+  pub counted : IsNumberOfPositions e.region e.positions
+  pub is_value : IsValueOf e.region.touch e.region.cells e.value
+  pub shown : IsUnshown e.value → ⊥
+  pub drawn : IsPicture e.value e.picture
+
+abbrev pub entry_lines : ℕ → Entry → List ℕ
+entry_lines columns e = solved_line columns (lowest e.region) (length e.region.points) e.positions ++ (word_line (codes "value") (tree_text e.value) ++ picture_lines e.picture)
+
+-- an entry for each region
+abbrev pub AreEntries : List Shape → List Entry → Type 0
+AreEntries [] [] = ⊤
+AreEntries (r ∷ regions) (e ∷ entries) = (e.region ≡ r) × IsEntry e × AreEntries regions entries
+AreEntries regions entries = ⊥
+
+-- the text of `values` for the regions of play of a board with so many columns
+pub record IsValuesText (columns : ℕ) (regions : List Shape) (text : List ℕ) : Type 0 where
+  pub entries : List Entry
+  pub are : AreEntries regions entries
+  pub is : text ≡ count_line (codes "regions") (length regions) ++ flat_map (entry_lines columns) entries
+
+-- the stops and the thermograph of a report
+abbrev pub picture : Showing → Picture
+picture s = record { left_stop = s.left_stop; right_stop = s.right_stop; thermograph = s.thermograph }
+
+-- what is said of a region's value stands in a report: the text of the value, its stops and its thermograph
+pub record IsShowing (G : Tree) (s : Showing) : Type 0 where
+  pub text_is : s.text ≡ tree_text G
+  pub drawn : IsPicture G (picture s)
+  pub shown : IsUnshown G → ⊥
+
+-- why there is no text
+abbrev pub IsRefusal : (ℕ → Type 0) → ValuesError → Type 0
+IsRefusal Unshown (Form p) = Unshown p
+IsRefusal Unshown (Memory cause) = Unit {0}
+
+-- behind the text stand the lines on the value with this report
+pub record HasEntry (columns : ℕ) (Ts : List Tree) (report : RegionReport) (before now : List ℕ) : Type 0 where
+  pub picture : Picture
+  pub drawn : IsPicture (tree_at Ts report.value) picture
+  pub shown : IsUnshown (tree_at Ts report.value) → ⊥
+  pub lines : now ≡ before ++ (solved_line columns report.lowest report.points report.positions ++ (word_line (codes "value") (tree_text (tree_at Ts report.value)) ++ picture_lines picture))
+
+-- behind the text stand the lines of the regions
+pub record HasEntries (columns : ℕ) (regions : List Shape) (before now : List ℕ) : Type 0 where
+  pub entries : List Entry
+  pub are : AreEntries regions entries
+  pub lines : now ≡ before ++ flat_map (entry_lines columns) entries
