@@ -1,6 +1,9 @@
+mod GameLaws
+mod OneGame
 mod OneRegions
 mod OneStatus
 mod RefusalLaws
+mod SessionLaws
 mod SizeLaws
 mod StepLaws
 mod TopLaws

@@ -19,7 +19,7 @@ use Rattle.sgf_go.proofs.Only.{one_position}
 use Rattle.endgame_solver.specs.declared.limits.Limits.{Limits}
 use Rattle.endgame_solver.specs.declared.faults.SolveError.{SolveError}
 use Rattle.endgame_solver.specs.declared.faults.SolveError.TheVariants.{Points, Positions, Cycle, Form, Memory}
-use Rattle.endgame_solver.specs.Faults.{AreRefused, AreSmall, AreSound, IsFaultOf, IsFirstFault, IsSound}
+use Rattle.endgame_solver.specs.Faults.{AreRefused, AreRegions, AreSmall, AreSound, IsFaultOf, IsFirstFault, IsSound}
 use Rattle.endgame_solver.specs.Regions.{no_region, region_at}
 use Rattle.endgame_run.specs.declared.status.Status.{Status}
 use Rattle.endgame_run.specs.declared.status.Status.TheVariants as status
@@ -27,10 +27,13 @@ use Rattle.endgame_run.specs.declared.status.FileFault.{FileFault}
 use Rattle.endgame_run.specs.declared.status.FileFault.TheVariants as fault
 use Rattle.endgame_run.specs.declared.question.Question.{Question}
 use Rattle.endgame_run.specs.declared.question.Question.TheVariants as question
-use Rattle.endgame_run.specs.Laws.{HasOneStatus, RefusesFaults, SolvesSound}
+use Rattle.endgame_run.specs.Laws.{HasOneStatus, RefusesFaults, RefusesUnshown, ShowsShown, SolvesSound}
 use Rattle.endgame_run.specs.Position.{Reads}
 use Rattle.endgame_run.specs.Refusal.{HasStatus}
-use Rattle.endgame_run.specs.Verdict.{IsFileAnswer, IsPositionAnswer, IsRefused, IsSolved}
+use Rattle.endgame_run.specs.Verdict.{AreUnshown, IsFileAnswer, IsPositionAnswer, IsRefused, IsSolved, IsValued}
+use Rattle.endgame_solver.proofs.BeginLaws.{one_value}
+use Rattle.report.specs.Values.{HasShownValue, IsFirstUnshown, IsUnshown}
+use Rattle.report.proofs.ValuesLaws.{shown_at}
 use Rattle.endgame_run.proofs.OneRegions.{one_regions}
 
 -- what a fault of a tree is among the answers of a reading, and back
@@ -158,24 +161,95 @@ solved_or_refused limits p status.CannotWrite a h = absurd h
 solved_or_refused limits p (status.BadFile f) a h = absurd h
 solved_or_refused limits p status.Memory a h = absurd h
 solved_or_refused limits p status.TooLong a h = absurd h
+solved_or_refused limits p status.TooManyLines a h = absurd h
 solved_or_refused limits p (status.Unbuilt u) a h = absurd h
 
-clash : (limits : Limits) (p : Setup) (s : Status) (a b : List ℕ) → IsSolved limits p a → IsRefused limits p s b → ⊥
-clash limits p s a b v w =
-    sound_or_refused limits w.regions w.fault s (subst (AreSound limits) (one_regions p.board v.regions w.regions v.are_regions w.are_regions) v.sound) w.refused w.status
+-- sound regions aren't refused
+sound_clash : (limits : Limits) (p : Setup) (s : Status) (b : List ℕ) (regions : List Shape) → AreRegions p.board regions → AreSound limits regions → IsRefused limits p s b → ⊥
+sound_clash limits p s b regions are sound w =
+    sound_or_refused limits w.regions w.fault s (subst (AreSound limits) (one_regions p.board regions w.regions are w.are_regions) sound) w.refused w.status
+
+-- refused regions have one status
+two_refusals : (limits : Limits) (p : Setup) (s t : Status) (a b : List ℕ) → IsRefused limits p s a → IsRefused limits p t b → s ≡ t
+two_refusals limits p s t a b v w =
+    refusals limits w.regions v.fault w.fault s t (subst (λ l. AreRefused limits l v.fault) (one_regions p.board v.regions w.regions v.are_regions w.are_regions) v.refused) w.refused v.status w.status
 
 pub solves_sound : SolvesSound
 solves_sound limits p regions s a are sound h = go (solved_or_refused limits p s a h) where
   go : ((s ≡ status.Done) × IsSolved limits p a) ⊎ IsRefused limits p s a → s ≡ status.Done
   go (inl v) = v.0
-  go (inr w) = absurd (sound_or_refused limits w.regions w.fault s (subst (AreSound limits) (one_regions p.board regions w.regions are w.are_regions) sound) w.refused w.status)
+  go (inr w) = absurd (sound_clash limits p s a regions are sound w)
+
+-- a position whose values are asked for has them shown, or is refused, or isn't shown
+valued_or_not : (limits : Limits) (p : Setup) (s : Status) (a : List ℕ) → IsPositionAnswer (question.Values limits) p s a
+    → ((s ≡ status.Done) × IsValued limits p a) ⊎ (IsRefused limits p s a ⊎ AreUnshown limits p s a)
+valued_or_not limits p status.Done a h = inl (refl, h)
+valued_or_not limits p status.Cycle a h = inr h
+valued_or_not limits p status.RegionLimit a h = inr h
+valued_or_not limits p status.FormLimit a h = inr h
+valued_or_not limits p status.Usage a h = absurd h
+valued_or_not limits p status.CannotRead a h = absurd h
+valued_or_not limits p status.CannotWrite a h = absurd h
+valued_or_not limits p (status.BadFile f) a h = absurd h
+valued_or_not limits p status.Memory a h = absurd h
+valued_or_not limits p status.TooLong a h = absurd h
+valued_or_not limits p status.TooManyLines a h = absurd h
+valued_or_not limits p (status.Unbuilt u) a h = absurd h
+
+-- of regions all of whose values are shown none isn't
+shown_clash : (regions others : List Shape) (p : ℕ) → others ≡ regions → ((k : ℕ) → k < length regions → HasShownValue (region_at regions k)) → IsFirstUnshown others p → ⊥
+shown_clash regions others p same shown first =
+    let u = subst (λ rs. IsFirstUnshown rs p) same first in
+    let r = region_at regions u.place in
+    let value = shown u.place u.inside in
+    value.2 (subst IsUnshown (one_value r.touch r.cells u.unshown.0 value.0 u.unshown.1 value.1) u.unshown.2)
+
+valued_clash : (limits : Limits) (p : Setup) (s : Status) (a b : List ℕ) → IsValued limits p a → AreUnshown limits p s b → ⊥
+valued_clash limits p s a b v w =
+    shown_clash v.regions w.regions w.point (one_regions p.board w.regions v.regions w.are_regions v.are_regions) (λ k lt. shown_at v.regions v.is.entries v.is.are k lt) w.first
+
+pub shows_shown : ShowsShown
+shows_shown limits p regions s a are sound shown h = go (valued_or_not limits p s a h) where
+  go : ((s ≡ status.Done) × IsValued limits p a) ⊎ (IsRefused limits p s a ⊎ AreUnshown limits p s a) → s ≡ status.Done
+  go (inl v) = v.0
+  go (inr (inl w)) = absurd (sound_clash limits p s a regions are sound w)
+  go (inr (inr w)) = absurd (shown_clash regions w.regions w.point (one_regions p.board w.regions regions w.are_regions are) shown w.first)
+
+pub refuses_unshown : RefusesUnshown
+refuses_unshown limits p regions point s a are sound first h = go (valued_or_not limits p s a h) where
+  go : ((s ≡ status.Done) × IsValued limits p a) ⊎ (IsRefused limits p s a ⊎ AreUnshown limits p s a) → s ≡ status.FormLimit
+  go (inl v) = absurd (shown_clash v.1.regions regions point (one_regions p.board regions v.1.regions are v.1.are_regions) (λ k lt. shown_at v.1.regions v.1.is.entries v.1.is.are k lt) first)
+  go (inr (inl w)) = absurd (sound_clash limits p s a regions are sound w)
+  go (inr (inr w)) = w.status
+
+-- what is refused for a fault of a region, against an answer
+against : (limits : Limits) (p : Setup) (regions : List Shape) (f : SolveError) (s t : Status) (a : List ℕ) → AreRegions p.board regions → AreRefused limits regions f → HasStatus f t
+    → IsRefused limits p s a → s ≡ t
+against limits p regions f s t a are refused x w =
+    refusals limits regions w.fault f s t (subst (λ l. AreRefused limits l w.fault) (one_regions p.board w.regions regions w.are_regions are) w.refused) refused w.status x
+
+never_sound : (limits : Limits) (p : Setup) (regions others : List Shape) (f : SolveError) (t : Status) → AreRegions p.board regions → AreRefused limits regions f → HasStatus f t
+    → AreRegions p.board others → AreSound limits others → ⊥
+never_sound limits p regions others f t are refused x too sound =
+    sound_or_refused limits regions f t (subst (AreSound limits) (one_regions p.board others regions too are) sound) refused x
 
 pub refuses_faults : RefusesFaults
-refuses_faults limits p regions f s t a are refused x h = go (solved_or_refused limits p s a h) where
-  go : ((s ≡ status.Done) × IsSolved limits p a) ⊎ IsRefused limits p s a → s ≡ t
-  go (inl v) =
-      absurd (sound_or_refused limits regions f t (subst (AreSound limits) (one_regions p.board v.1.regions regions v.1.are_regions are) v.1.sound) refused x)
-  go (inr w) = refusals limits regions w.fault f s t (subst (λ l. AreRefused limits l w.fault) (one_regions p.board w.regions regions w.are_regions are) w.refused) refused w.status x
+refuses_faults (question.Solve most) limits p regions f s t a e are refused x h = go (solved_or_refused most p s a h) where
+  own : AreRefused most regions f
+  own = subst (λ l. AreRefused l regions f) (sym e) refused
+
+  go : ((s ≡ status.Done) × IsSolved most p a) ⊎ IsRefused most p s a → s ≡ t
+  go (inl v) = absurd (never_sound most p regions v.1.regions f t are own x v.1.are_regions v.1.sound)
+  go (inr w) = against most p regions f s t a are own x w
+refuses_faults (question.Values most) limits p regions f s t a e are refused x h = go (valued_or_not most p s a h) where
+  own : AreRefused most regions f
+  own = subst (λ l. AreRefused l regions f) (sym e) refused
+
+  go : ((s ≡ status.Done) × IsValued most p a) ⊎ (IsRefused most p s a ⊎ AreUnshown most p s a) → s ≡ t
+  go (inl v) = absurd (never_sound most p regions v.1.regions f t are own x v.1.are_regions v.1.sound)
+  go (inr (inl w)) = against most p regions f s t a are own x w
+  go (inr (inr w)) = absurd (never_sound most p regions w.regions f t are own x w.are_regions w.sound)
+refuses_faults question.Safe limits p regions f s t a e are refused x h = absurd e
 
 safe_is_done : (p : Setup) (s : Status) (a : List ℕ) → IsPositionAnswer question.Safe p s a → s ≡ status.Done
 safe_is_done p status.Done a h = refl
@@ -188,6 +262,7 @@ safe_is_done p status.CannotWrite a h = absurd h
 safe_is_done p (status.BadFile f) a h = absurd h
 safe_is_done p status.Memory a h = absurd h
 safe_is_done p status.TooLong a h = absurd h
+safe_is_done p status.TooManyLines a h = absurd h
 safe_is_done p (status.Unbuilt u) a h = absurd h
 
 position_status : (q : Question) (p : Setup) (s t : Status) (a b : List ℕ) → IsPositionAnswer q p s a → IsPositionAnswer q p t b → s ≡ t
@@ -195,10 +270,21 @@ position_status question.Safe p s t a b x y = safe_is_done p s a x ∙ sym (safe
 position_status (question.Solve limits) p s t a b x y = go (solved_or_refused limits p s a x) (solved_or_refused limits p t b y) where
   go : ((s ≡ status.Done) × IsSolved limits p a) ⊎ IsRefused limits p s a → ((t ≡ status.Done) × IsSolved limits p b) ⊎ IsRefused limits p t b → s ≡ t
   go (inl v) (inl w) = v.0 ∙ sym w.0
-  go (inl v) (inr w) = absurd (clash limits p t a b v.1 w)
-  go (inr v) (inl w) = absurd (clash limits p s b a w.1 v)
-  go (inr v) (inr w) =
-      refusals limits w.regions v.fault w.fault s t (subst (λ l. AreRefused limits l v.fault) (one_regions p.board v.regions w.regions v.are_regions w.are_regions) v.refused) w.refused v.status w.status
+  go (inl v) (inr w) = absurd (sound_clash limits p t b v.1.regions v.1.are_regions v.1.sound w)
+  go (inr v) (inl w) = absurd (sound_clash limits p s a w.1.regions w.1.are_regions w.1.sound v)
+  go (inr v) (inr w) = two_refusals limits p s t a b v w
+position_status (question.Values limits) p s t a b x y = go (valued_or_not limits p s a x) (valued_or_not limits p t b y) where
+  go : ((s ≡ status.Done) × IsValued limits p a) ⊎ (IsRefused limits p s a ⊎ AreUnshown limits p s a)
+      → ((t ≡ status.Done) × IsValued limits p b) ⊎ (IsRefused limits p t b ⊎ AreUnshown limits p t b) → s ≡ t
+  go (inl v) (inl w) = v.0 ∙ sym w.0
+  go (inl v) (inr (inl w)) = absurd (sound_clash limits p t b v.1.regions v.1.are_regions v.1.sound w)
+  go (inl v) (inr (inr w)) = absurd (valued_clash limits p t a b v.1 w)
+  go (inr (inl v)) (inl w) = absurd (sound_clash limits p s a w.1.regions w.1.are_regions w.1.sound v)
+  go (inr (inl v)) (inr (inl w)) = two_refusals limits p s t a b v w
+  go (inr (inl v)) (inr (inr w)) = absurd (sound_clash limits p s a w.regions w.are_regions w.sound v)
+  go (inr (inr v)) (inl w) = absurd (valued_clash limits p s b a w.1 v)
+  go (inr (inr v)) (inr (inl w)) = absurd (sound_clash limits p t b v.regions v.are_regions v.sound w)
+  go (inr (inr v)) (inr (inr w)) = v.status ∙ sym w.status
 
 -- a file has a fault, or a position whose status it is
 file_or_position : (q : Question) (file : List ℕ) (settings : Settings) (s : Status) (a : List ℕ) → IsFileAnswer q file settings s a
@@ -213,6 +299,7 @@ file_or_position q file settings status.CannotRead a h = inr h
 file_or_position q file settings status.CannotWrite a h = inr h
 file_or_position q file settings status.Memory a h = inr h
 file_or_position q file settings status.TooLong a h = inr h
+file_or_position q file settings status.TooManyLines a h = inr h
 file_or_position q file settings (status.Unbuilt u) a h = inr h
 
 pub one_status : HasOneStatus

@@ -1,5 +1,5 @@
 -- The points that faults of regions name, and what a position that isn't solved comes to.
-use Rattle.std.proofs.Common.{◌≡◌, ℕ, zero, suc, ◌<◌, ◌++◌, List, [], length, map, take, drop, get_or, refl, sym, subst, ap, ◌∙◌, arith, append_assoc, Ok, Err, ◌∷◌}
+use Rattle.std.proofs.Common.{◌≡◌, ℕ, zero, suc, ◌<◌, ◌++◌, inl, inr, refl, List, [], length, map, take, drop, get_or, sym, subst, ap, ◌∙◌, arith, append_assoc, Ok, Err, ◌∷◌}
 use Rattle.std.specs.List.{All, Contains}
 use Rattle.std.proofs.lemmas.List.{take-append-drop}
 use Rattle.std.proofs.lemmas.List.Elements.{All-map, Contains-get_or}
@@ -20,11 +20,16 @@ use Rattle.endgame_solver.specs.Faults.{AreRegions, named}
 use Rattle.endgame_solver.specs.Regions.{region_at, no_region}
 use Rattle.endgame_solver.specs.Solved.{Begun, SolvedGame}
 use Rattle.report.specs.Solution.{IsSolveText}
+use Rattle.report.specs.declared.values.ValuesError.{ValuesError}
+use Rattle.report.specs.declared.values.ValuesError.TheVariants as values
+use Rattle.report.specs.Values.{IsFirstUnshown, IsRefusal, IsValuesText}
 use Rattle.endgame_run.specs.declared.status.Status.{Status}
 use Rattle.endgame_run.specs.declared.status.Status.TheVariants as status
 use Rattle.endgame_run.specs.declared.question.Question.TheVariants as question
-use Rattle.endgame_run.specs.Refusal.{HasStatus, NamesPoints, refusal_line}
-use Rattle.endgame_run.specs.Verdict.{IsPositionAnswer}
+use Rattle.endgame_run.specs.Refusal.{HasStatus, NamesPoints, NamesRegion, form_line, refusal_line}
+use Rattle.endgame_run.specs.Top.{IsValuesReport}
+use Rattle.endgame_run.specs.Verdict.{IsPositionAnswer, IsRefused}
+use Rattle.endgame_run.proofs.TopLaws.{refused_answer, refused_question}
 
 -- five pieces of a text
 pub five_pieces : (t u v w x y a b c d e : List ℕ) → t ≡ [] → u ≡ t ++ a → v ≡ u ++ b → w ≡ v ++ c → x ≡ w ++ d → y ≡ x ++ e → y ≡ a ++ (b ++ (c ++ (d ++ e)))
@@ -82,17 +87,46 @@ names_points setup limits (Form p) (regions, are, (small, first)) =
 names_points setup limits (Memory e) b = tt
 
 -- a fault is the answer of its status
+pub is_refused : (setup : Setup) (limits : Limits) (fault : SolveError) (s : Status) (text : List ℕ) → Begun setup limits (Err fault) → HasStatus fault s
+    → text ≡ refusal_line limits setup.board.columns fault → IsRefused limits setup s text
+is_refused setup limits (Points p n) s text (regions, are, r) e t = record { regions = regions; fault = Points p n; are_regions = are; refused = r; status = e; is = t }
+is_refused setup limits (Positions p) s text (regions, are, r) e t = record { regions = regions; fault = Positions p; are_regions = are; refused = r; status = e; is = t }
+is_refused setup limits (Cycle p names back) s text (regions, are, r) e t =
+    record { regions = regions; fault = Cycle p names back; are_regions = are; refused = r; status = e; is = t }
+is_refused setup limits (Form p) s text (regions, are, r) e t = record { regions = regions; fault = Form p; are_regions = are; refused = r; status = e; is = t }
+is_refused setup limits (Memory m) s text b e t = absurd e
+
 pub refused_is : (setup : Setup) (limits : Limits) (fault : SolveError) (s : Status) (text : List ℕ) → Begun setup limits (Err fault) → HasStatus fault s
     → text ≡ refusal_line limits setup.board.columns fault → IsPositionAnswer (question.Solve limits) setup s text
-refused_is setup limits (Points p n) s text (regions, are, r) e t =
-    subst (λ x. IsPositionAnswer (question.Solve limits) setup x text) (sym e) (record { regions = regions; fault = Points p n; are_regions = are; refused = r; status = refl; is = t })
-refused_is setup limits (Positions p) s text (regions, are, r) e t =
-    subst (λ x. IsPositionAnswer (question.Solve limits) setup x text) (sym e) (record { regions = regions; fault = Positions p; are_regions = are; refused = r; status = refl; is = t })
-refused_is setup limits (Cycle p names back) s text (regions, are, r) e t =
-    subst (λ x. IsPositionAnswer (question.Solve limits) setup x text) (sym e) (record { regions = regions; fault = Cycle p names back; are_regions = are; refused = r; status = refl; is = t })
-refused_is setup limits (Form p) s text (regions, are, r) e t =
-    subst (λ x. IsPositionAnswer (question.Solve limits) setup x text) (sym e) (record { regions = regions; fault = Form p; are_regions = are; refused = r; status = refl; is = t })
-refused_is setup limits (Memory m) s text b e t = absurd e
+refused_is setup limits fault s text b e t = (refused_answer limits setup s text (is_refused setup limits fault s text b e t)).0
+
+pub refused_values : (setup : Setup) (limits : Limits) (fault : SolveError) (s : Status) (text : List ℕ) → Begun setup limits (Err fault) → HasStatus fault s
+    → text ≡ refusal_line limits setup.board.columns fault → IsPositionAnswer (question.Values limits) setup s text
+refused_values setup limits fault s text b e t = (refused_question (question.Values limits) limits setup s text (λ t x. inl x) (is_refused setup limits fault s text b e t)).0
+
+-- the values of a solved game are the answer to that question
+pub values_are : (setup : Setup) (limits : Limits) (game : SolvedGame) (s : Status) (text : List ℕ) → Begun setup limits (Ok game) → IsValuesReport game s text
+    → IsPositionAnswer (question.Values limits) setup s text
+values_are setup limits game status.Done text (opening, are, sound) t =
+    record { regions = game.regions; are_regions = are; sound = sound; is = subst (λ g. IsValuesText g.columns game.regions text) opening.board t }
+values_are setup limits game status.FormLimit text (opening, are, sound) (p, first, t) =
+    inr record { regions = game.regions; point = p; are_regions = are; sound = sound; first = first; status = refl; is = t ∙ ap (λ g. form_line g.columns p) opening.board }
+values_are setup limits game status.Cycle text b t = absurd t
+values_are setup limits game status.RegionLimit text b t = absurd t
+values_are setup limits game status.Usage text b t = absurd t
+values_are setup limits game status.CannotRead text b t = absurd t
+values_are setup limits game status.CannotWrite text b t = absurd t
+values_are setup limits game (status.BadFile f) text b t = absurd t
+values_are setup limits game status.Memory text b t = absurd t
+values_are setup limits game status.TooLong text b t = absurd t
+values_are setup limits game status.TooManyLines text b t = absurd t
+values_are setup limits game (status.Unbuilt u) text b t = absurd t
+
+-- a value that isn't shown is the report on the values of its game
+pub unshown_is : (game : SolvedGame) (fault : ValuesError) (s : Status) (text : List ℕ) → IsRefusal (IsFirstUnshown game.regions) fault → s ≡ status.FormLimit
+    → IsRefusal (λ p. text ≡ form_line game.state.board.columns p) fault → NamesRegion fault → IsValuesReport game s text
+unshown_is game (values.Form p) s text first is line named = subst (λ t. IsValuesReport game t text) (sym is) (p, first, line)
+unshown_is game (values.Memory e) s text first is line named = absurd named
 
 -- a solved game is the answer of its text
 pub solved_is : (setup : Setup) (limits : Limits) (game : SolvedGame) (text : List ℕ) → Begun setup limits (Ok game) → IsSolveText game text

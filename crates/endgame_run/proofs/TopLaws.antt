@@ -1,74 +1,106 @@
 -- How the parts of the top call make its clauses.
-use Rattle.std.proofs.Common.{◌≡◌, ℕ, ◌<◌, inl, inr, refl, sym, ap, subst, ◌∙◌, List, [], ◌++◌, Some, None, Ok}
+use Rattle.std.proofs.Common.{◌≡◌, ℕ, ◌<◌, ◌⊎◌, inl, inr, refl, sym, ap, subst, ◌∙◌, List, [], ◌++◌, Some, None}
 use Rattle.std.specs.Prelude.{Option}
 use Rattle.std.proofs.lemmas.List.{append-nil}
 use Rattle.std.specs.Io.KnownBytes.{append_known, prepend_known}
-use Rattle.sgf_tree.specs.Grammar.{PropertyText}
-use Rattle.sgf_tree.specs.Reading.{IsAnswer as IsTreeAnswer}
-use Rattle.sgf_tree.specs.Reading.Answer.{line}
 use Rattle.std.proofs.Common.{ℤ, pos, negsuc, to_z, of_z, w64, arith, ◌≤◌, ◌^◌}
 use Rattle.std.proofs.lemmas.Int.{to_z-of_z, fits_signed_from_abs, ints}
 use Rattle.std.specs.Prelude.{unsigned_abs}
 use Rattle.sgf_go.specs.Komi.{IsInRange}
-use Rattle.sgf_go.specs.Setup.{Gives}
 use Rattle.sgf_go.specs.declared.settings.Settings.{Settings}
 use Rattle.sgf_go.specs.declared.settings.Setup.{Setup}
 use Rattle.endgame_run.specs.declared.status.Status.{Status}
-use Rattle.endgame_run.specs.declared.status.Status.TheVariants.{Done, Usage, CannotRead, CannotWrite, BadFile, Memory, TooLong}
+use Rattle.endgame_run.specs.declared.status.Status.TheVariants.{Done, Usage, CannotRead, CannotWrite, BadFile, Memory, TooManyLines, TooLong}
 use Rattle.endgame_run.specs.declared.status.Unbuilt.TheVariants as unbuilt
 use Rattle.endgame_run.specs.declared.status.Status.TheVariants as status
-use Rattle.endgame_run.specs.declared.status.FileFault.TheVariants as fault
 use Rattle.gd_words.specs.Job.{JobView}
-use Rattle.endgame_run.specs.File.{Outside, IsTold, IsWhole, IsShort, dash, told_source, told_of, count_of}
+use Rattle.endgame_run.specs.File.{Outside, IsTold, IsWhole, dash, told_source, told_of, count_of}
 use Rattle.endgame_run.specs.declared.question.Question.{Question}
+use Rattle.endgame_run.specs.declared.question.Question.TheVariants.{Solve}
+use Rattle.endgame_solver.specs.declared.limits.Limits.{Limits}
+use Rattle.endgame_solver.specs.declared.faults.SolveError.{SolveError}
+use Rattle.endgame_solver.specs.declared.faults.SolveError.TheVariants.{Points, Positions, Cycle, Form}
+use Rattle.endgame_solver.specs.declared.faults.SolveError.TheVariants as error
+use Rattle.go_grid.specs.declared.grid.Colour.{Colour}
+use Rattle.endgame_run.specs.declared.question.Found.{Found}
+use Rattle.endgame_run.specs.declared.question.Found.TheVariants.{Position}
+use Rattle.endgame_run.specs.declared.question.Opened.{Opened}
+use Rattle.endgame_run.specs.declared.question.Opened.TheVariants as opened
+use Rattle.endgame_run.specs.Found.{IsFileFault, IsFound, IsPositionOf}
+use Rattle.endgame_run.specs.Refusal.{HasStatus}
 use Rattle.std.proofs.Common.{Bool, true, false, ◌≢◌}
 use Rattle.std.specs.Str.{bytes_eq}
 use Rattle.std.proofs.lemmas.Slice.Eq.{bytes_eq-Decides}
-use Rattle.endgame_run.specs.Top.{IsFileRun, IsLineAnswer, IsFinished}
-use Rattle.endgame_run.specs.Verdict.{IsFileAnswer, IsPositionAnswer, IsAnswer, AskAbout, IsDecided, HasCause, IsWritten}
+use Rattle.endgame_run.specs.Top.{IsBegun, IsFileRun, IsFinished, IsOpened}
+use Rattle.endgame_run.specs.Verdict.{IsPositionAnswer, IsRefusalOf, IsRefused, IsAnswer, AreToPlay, AskAbout, IsDecided, HasCause, IsWritten, limits_of}
 
--- a position's status is its main line's
-pub position_line : (q : Question) (l : List (List PropertyText)) (settings : Settings) (setup : Setup) (s : Status) (text : List ℕ) → Gives settings l (Ok setup) → IsPositionAnswer q setup s text → IsLineAnswer q l settings s text
-position_line q l settings setup Done text g h = (setup, g, h)
-position_line q l settings setup status.Cycle text g h = (setup, g, h)
-position_line q l settings setup status.RegionLimit text g h = (setup, g, h)
-position_line q l settings setup status.FormLimit text g h = (setup, g, h)
-position_line q l settings setup (status.Unbuilt unbuilt.Command) text g h = absurd h
-position_line q l settings setup Usage text g h = absurd h
-position_line q l settings setup CannotRead text g h = absurd h
-position_line q l settings setup CannotWrite text g h = absurd h
-position_line q l settings setup (BadFile f) text g h = absurd h
-position_line q l settings setup Memory text g h = absurd h
-position_line q l settings setup TooLong text g h = absurd h
+-- a position's status is an answer about its file
+pub position_answer : (q : Question) (told : Option (Option (List ℕ))) (before now : ℕ) (settings : Settings) (setup : Setup) (s : Status) (text : List ℕ)
+    → IsPositionOf told settings setup → IsPositionAnswer q setup s text → IsAnswer q told before now settings s text
+position_answer q told before now settings setup Done text p h = (p.file, p.told_so, p.short, (setup, p.reads, h))
+position_answer q told before now settings setup status.Cycle text p h = (p.file, p.told_so, p.short, (setup, p.reads, h))
+position_answer q told before now settings setup status.RegionLimit text p h = (p.file, p.told_so, p.short, (setup, p.reads, h))
+position_answer q told before now settings setup status.FormLimit text p h = (p.file, p.told_so, p.short, (setup, p.reads, h))
+position_answer q told before now settings setup Usage text p h = absurd h
+position_answer q told before now settings setup CannotRead text p h = absurd h
+position_answer q told before now settings setup CannotWrite text p h = absurd h
+position_answer q told before now settings setup TooLong text p h = absurd h
+position_answer q told before now settings setup TooManyLines text p h = absurd h
+position_answer q told before now settings setup Memory text p h = absurd h
+position_answer q told before now settings setup (BadFile f) text p h = absurd h
+position_answer q told before now settings setup (status.Unbuilt unbuilt.Command) text p h = absurd h
 
--- a main line's status is its file's
-pub line_file : (q : Question) (file : List ℕ) (l : List (List PropertyText)) (settings : Settings) (s : Status) (text : List ℕ) → IsTreeAnswer file (line l) → IsLineAnswer q l settings s text → IsFileAnswer q file settings s text
-line_file q file l settings Done text t h = (h.0, (l, t, h.1), h.2)
-line_file q file l settings status.Cycle text t h = (h.0, (l, t, h.1), h.2)
-line_file q file l settings status.RegionLimit text t h = (h.0, (l, t, h.1), h.2)
-line_file q file l settings status.FormLimit text t h = (h.0, (l, t, h.1), h.2)
-line_file q file l settings (status.Unbuilt u) text t h = (h.0, (l, t, h.1), h.2)
-line_file q file l settings (BadFile (fault.Setup f)) text t h = ((l, t, h.0), (l, t, h.1))
-line_file q file l settings (BadFile (fault.Tree f)) text t h = absurd h
-line_file q file l settings Usage text t h = absurd h.2
-line_file q file l settings CannotRead text t h = absurd h.2
-line_file q file l settings CannotWrite text t h = absurd h.2
-line_file q file l settings Memory text t h = absurd h.2
-line_file q file l settings TooLong text t h = absurd h.2
+pub found_position : (told : Option (Option (List ℕ))) (before now : ℕ) (settings : Settings) (found : Found) (setup : Setup) → found ≡ Position setup
+    → IsFound told before now settings found → IsPositionOf told settings setup
+found_position told before now settings found setup e h = (subst (λ f. IsFound told before now settings f) e h).0
 
--- a file's status is an answer
-pub answered : (q : Question) (told : Option (Option (List ℕ))) (before now : ℕ) (file : List ℕ) (settings : Settings) (s : Status) (text : List ℕ) → IsTold told file → IsShort file → IsFileAnswer q file settings s text → IsAnswer q told before now settings s text
-answered q told before now file settings Done text t short h = (file, t, short, h)
-answered q told before now file settings status.Cycle text t short h = (file, t, short, h)
-answered q told before now file settings status.RegionLimit text t short h = (file, t, short, h)
-answered q told before now file settings status.FormLimit text t short h = (file, t, short, h)
-answered q told before now file settings (status.Unbuilt u) text t short h = (file, t, short, h)
-answered q told before now file settings (BadFile f) text t short h = (file, t, short, h)
-answered q told before now file settings Usage text t short h = absurd h.2
-answered q told before now file settings CannotRead text t short h = absurd h.2
-answered q told before now file settings CannotWrite text t short h = absurd h.2
-answered q told before now file settings Memory text t short h = absurd h.2
-answered q told before now file settings TooLong text t short h = absurd h.2
+-- a fault of a file is the answer to each question about it, which isn't answered
+pub fault_answer : (q : Question) (told : Option (Option (List ℕ))) (before now : ℕ) (settings : Settings) (s : Status) (text : List ℕ)
+    → IsFileFault told before now settings s text → IsAnswer q told before now settings s text
+fault_answer q told before now settings CannotRead text h = h
+fault_answer q told before now settings TooLong text h = h
+fault_answer q told before now settings (BadFile f) text h = (h.0, h.1, h.2, (h.3, h.4))
+fault_answer q told before now settings Done text h = absurd h
+fault_answer q told before now settings status.Cycle text h = absurd h
+fault_answer q told before now settings status.RegionLimit text h = absurd h
+fault_answer q told before now settings status.FormLimit text h = absurd h
+fault_answer q told before now settings Usage text h = absurd h
+fault_answer q told before now settings CannotWrite text h = absurd h
+fault_answer q told before now settings TooManyLines text h = absurd h
+fault_answer q told before now settings Memory text h = absurd h
+fault_answer q told before now settings (status.Unbuilt unbuilt.Command) text h = absurd h
+
+pub fault_undone : (told : Option (Option (List ℕ))) (before now : ℕ) (settings : Settings) (s : Status) (text : List ℕ) → IsFileFault told before now settings s text → s ≢ Done
+fault_undone told before now settings s text h e = subst (λ x. IsFileFault told before now settings x text) e h
+
+-- a position that isn't solved is the answer to that question, which isn't answered
+is_refusal : (f : SolveError) (s : Status) → HasStatus f s → (s ≡ status.RegionLimit) ⊎ ((s ≡ status.Cycle) ⊎ (s ≡ status.FormLimit))
+is_refusal (Points p n) s h = inl h
+is_refusal (Positions p) s h = inl h
+is_refusal (Cycle p names back) s h = inr (inl h)
+is_refusal (Form p) s h = inr (inr h)
+is_refusal (error.Memory e) s h = absurd h
+
+pub refused_question : (q : Question) (limits : Limits) (setup : Setup) (s : Status) (text : List ℕ) → ((t : Status) → IsRefused limits setup t text → IsRefusalOf q setup t text)
+    → IsRefused limits setup s text → IsPositionAnswer q setup s text × (s ≢ Done)
+refused_question q limits setup s text refusal r = go (is_refusal r.fault s r.status) where
+  at : (t : Status) → (IsRefusalOf q setup t text → IsPositionAnswer q setup t text) → s ≡ t → IsPositionAnswer q setup s text
+  at t is e = subst (λ x. IsPositionAnswer q setup x text) (sym e) (is (refusal t (subst (λ x. IsRefused limits setup x text) e r)))
+
+  go : (s ≡ status.RegionLimit) ⊎ ((s ≡ status.Cycle) ⊎ (s ≡ status.FormLimit)) → IsPositionAnswer q setup s text × (s ≢ Done)
+  go (inl e) = (at status.RegionLimit (λ x. x) e, λ d. absurd cc)
+  go (inr (inl e)) = (at status.Cycle (λ x. x) e, λ d. absurd cc)
+  go (inr (inr e)) = (at status.FormLimit (λ x. x) e, λ d. absurd cc)
+
+pub refused_answer : (limits : Limits) (setup : Setup) (s : Status) (text : List ℕ) → IsRefused limits setup s text → IsPositionAnswer (Solve limits) setup s text × (s ≢ Done)
+refused_answer limits setup s text r = refused_question (Solve limits) limits setup s text (λ t x. x) r
+
+-- a position that was begun, or refused, of a file
+pub begun_opened : (limits : Limits) (given : Option Colour) (told : Option (Option (List ℕ))) (before now : ℕ) (settings : Settings) (setup : Setup) (opened : Opened)
+    → IsPositionOf told settings setup → IsBegun limits given setup opened → IsOpened limits given told before now settings opened
+begun_opened limits given told before now settings setup (opened.Game session) p h = (setup, p, h.0, h.1, h.2)
+begun_opened limits given told before now settings setup (opened.Fault report) p r =
+    let h = refused_answer limits setup report.status report.text r in (position_answer (Solve limits) told before now settings setup report.status report.text p h.0, h.1)
 
 pub told_is : (before now : Option (List ℕ)) (file : List ℕ) → IsWhole before now file → IsTold (told_source before) file
 told_is None now file w = tt
@@ -93,6 +125,7 @@ written_whole words o before now status.FormLimit text d e = (text, d, e)
 written_whole words o before now Usage text d e = (text, d, e)
 written_whole words o before now CannotRead text d e = (text, d, e)
 written_whole words o before now TooLong text d e = (text, d, e)
+written_whole words o before now TooManyLines text d e = (text, d, e)
 written_whole words o before now (BadFile f) text d e = (text, d, e)
 written_whole words o before now (status.Unbuilt u) text d e = (text, d, e)
 written_whole words o before now CannotWrite text d e = absurd d.4.3.2
@@ -111,6 +144,7 @@ cause_whole words o status.FormLimit text d = (text, d)
 cause_whole words o Usage text d = (text, d)
 cause_whole words o CannotRead text d = (text, d)
 cause_whole words o TooLong text d = (text, d)
+cause_whole words o TooManyLines text d = (text, d)
 cause_whole words o (BadFile f) text d = (text, d)
 cause_whole words o (status.Unbuilt u) text d = (text, d)
 cause_whole words o CannotWrite text d = tt
@@ -125,16 +159,34 @@ caused words o kb kn before now s text result d (inr f) = subst (λ r. HasCause 
 pub decided : (words : List (List ℕ)) (o : Outside) (job : JobView) (q : Question) (word : List ℕ) (s : Status) (text : List ℕ) → AskAbout words job q word
     → IsAnswer q (told_of o.files o.left word) (count_of o.shelf_before o.lines_before word) (count_of o.shelf_now o.lines_now word) job.settings s text → IsDecided words o s text
 decided words o job q word Done text a h = (job, q, word, a, h)
-decided words o job q word status.Cycle text a h = (job, q, word, a, h)
-decided words o job q word status.RegionLimit text a h = (job, q, word, a, h)
-decided words o job q word status.FormLimit text a h = (job, q, word, a, h)
-decided words o job q word CannotRead text a h = (job, q, word, a, h)
-decided words o job q word TooLong text a h = (job, q, word, a, h)
-decided words o job q word (BadFile f) text a h = (job, q, word, a, h)
+decided words o job q word status.Cycle text a h = (job, q, word, inl a, h)
+decided words o job q word status.RegionLimit text a h = (job, q, word, inl a, h)
+decided words o job q word status.FormLimit text a h = (job, q, word, inl a, h)
+decided words o job q word CannotRead text a h = (job, q, word, inl a, h)
+decided words o job q word TooLong text a h = (job, q, word, inl a, h)
+decided words o job q word (BadFile f) text a h = (job, q, word, inl a, h)
 decided words o job q word (status.Unbuilt unbuilt.Command) text a h = absurd h.3.2
 decided words o job q word Usage text a h = absurd h.3.2
 decided words o job q word CannotWrite text a h = absurd h.3.2
+decided words o job q word TooManyLines text a h = absurd h.3.2
 decided words o job q word Memory text a h = absurd h.3.2
+
+-- what keeps a file from being solved keeps it from being played
+pub undone : (words : List (List ℕ)) (o : Outside) (job : JobView) (word : List ℕ) (s : Status) (text : List ℕ) → AreToPlay words job word → s ≢ Done
+    → IsAnswer (Solve (limits_of job)) (told_of o.files o.left word) (count_of o.shelf_before o.lines_before word) (count_of o.shelf_now o.lines_now word) job.settings s text
+    → IsDecided words o s text
+undone words o job word Done text a n h = absurd (n refl)
+undone words o job word status.Cycle text a n h = (job, Solve (limits_of job), word, inr (a, refl), h)
+undone words o job word status.RegionLimit text a n h = (job, Solve (limits_of job), word, inr (a, refl), h)
+undone words o job word status.FormLimit text a n h = (job, Solve (limits_of job), word, inr (a, refl), h)
+undone words o job word CannotRead text a n h = (job, Solve (limits_of job), word, inr (a, refl), h)
+undone words o job word TooLong text a n h = (job, Solve (limits_of job), word, inr (a, refl), h)
+undone words o job word (BadFile f) text a n h = (job, Solve (limits_of job), word, inr (a, refl), h)
+undone words o job word (status.Unbuilt unbuilt.Command) text a n h = absurd h.3.2
+undone words o job word Usage text a n h = absurd h.3.2
+undone words o job word CannotWrite text a n h = absurd h.3.2
+undone words o job word TooManyLines text a n h = absurd h.3.2
+undone words o job word Memory text a n h = absurd h.3.2
 
 pub done_text : (words : List (List ℕ)) (o : Outside) (kb kn : ℕ) (before now : Option (List ℕ)) (s : Status) (text : List ℕ) (result : Status)
     → IsDecided words o s text → IsFinished s text kb kn before now result → result ≡ Done → IsDecided words o Done text × (now ≡ append_known before text)

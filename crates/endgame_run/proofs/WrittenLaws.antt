@@ -10,7 +10,7 @@ use Rattle.whole_rules.specs.declared.states.Move.{Move}
 use Rattle.whole_rules.specs.WholeGame.{State}
 use Rattle.gd_words.specs.Job.{JobView}
 use Rattle.gd_words.specs.Task.{Task}
-use Rattle.gd_words.specs.Task.Task.{solve, safe}
+use Rattle.gd_words.specs.Task.Task.{solve, safe, values}
 use Rattle.report.specs.Lines.{colour_word, word_line}
 use Rattle.report.specs.Solution.{count_line, move_line, region_lines, regions_text, solve_text, state_lines, winner_line}
 use Rattle.endgame_solver.specs.declared.limits.Limits.{Limits}
@@ -65,6 +65,9 @@ pub record Posed (words : List (List ℕ)) (o : Outside) (before now : Option (L
 -- words ask one question
 one_question : (words : List (List ℕ)) (job other : JobView) (q : Question) (word w : List ℕ) → AskAbout words job q word → AreToSolve words other w → (limits : Limits) × (q ≡ question.Solve limits)
 one_question words job other (question.Solve limits) word w a b = (limits, refl)
+one_question words job other (question.Values limits) word w a b =
+    let same = a.0.only other b.0.said in
+    let k : Path Task (solve w) (values word) = sym b.1.0 ∙ ap (λ j. j.task) same ∙ a.1.0 in absurd cc
 one_question words job other question.Safe word w a b =
     let same = a.0.only other b.0.said in
     let k : Path Task (solve w) (safe word) = sym b.1.0 ∙ ap (λ j. j.task) same ∙ a.1 in absurd cc

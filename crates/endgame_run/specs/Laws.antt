@@ -1,5 +1,6 @@
--- The law of the verdict.
-use Rattle.std.specs.Prelude.{◌≡◌, ℕ, List}
+-- The laws of the verdict.
+use Rattle.std.specs.Prelude.{◌≡◌, ◌⊎◌, ◌≤◌, ◌<◌, ℕ, List, length, Option}
+use Rattle.go_grid.specs.declared.grid.Colour.{Colour}
 use Rattle.go_grid.specs.Region.{Shape}
 use Rattle.sgf_go.specs.declared.settings.Settings.{Settings}
 use Rattle.sgf_go.specs.declared.settings.Setup.{Setup}
@@ -7,11 +8,15 @@ use Rattle.endgame_solver.specs.declared.limits.Limits.{Limits}
 use Rattle.endgame_solver.specs.declared.faults.SolveError.{SolveError}
 use Rattle.endgame_solver.specs.Faults.{AreRefused, AreRegions, AreSound}
 use Rattle.endgame_run.specs.declared.status.Status.{Status}
-use Rattle.endgame_run.specs.declared.status.Status.TheVariants.{Done}
+use Rattle.whole_rules.specs.WholeGame.{State}
+use Rattle.endgame_run.specs.declared.status.Status.TheVariants.{Done, FormLimit, TooManyLines}
 use Rattle.endgame_run.specs.declared.question.Question.{Question}
-use Rattle.endgame_run.specs.declared.question.Question.TheVariants.{Solve}
+use Rattle.endgame_run.specs.declared.question.Question.TheVariants.{Solve, Values}
+use Rattle.report.specs.Values.{HasShownValue, IsFirstUnshown}
+use Rattle.endgame_solver.specs.Regions.{region_at}
+use Rattle.endgame_run.specs.Game.{IsGameWritten}
 use Rattle.endgame_run.specs.Refusal.{HasStatus}
-use Rattle.endgame_run.specs.Verdict.{IsFileAnswer, IsPositionAnswer}
+use Rattle.endgame_run.specs.Verdict.{HasLimits, IsFileAnswer, IsPositionAnswer}
 
 -- a question about a file has at most one status
 abbrev pub HasOneStatus : Type 0
@@ -23,7 +28,23 @@ abbrev pub SolvesSound : Type 0
 SolvesSound = (limits : Limits) (setup : Setup) (regions : List Shape) (s : Status) (text : List ℕ)
     → AreRegions setup.board regions → AreSound limits regions → IsPositionAnswer (Solve limits) setup s text → s ≡ Done
 
+-- a position whose regions are all sound has its values shown, where each can be
+abbrev pub ShowsShown : Type 0
+ShowsShown = (limits : Limits) (setup : Setup) (regions : List Shape) (s : Status) (text : List ℕ) → AreRegions setup.board regions → AreSound limits regions
+    → ((k : ℕ) → k < length regions → HasShownValue (region_at regions k)) → IsPositionAnswer (Values limits) setup s text → s ≡ Done
+
+-- and is else refused for the first that can't
+abbrev pub RefusesUnshown : Type 0
+RefusesUnshown = (limits : Limits) (setup : Setup) (regions : List Shape) (p : ℕ) (s : Status) (text : List ℕ) → AreRegions setup.board regions → AreSound limits regions
+    → IsFirstUnshown regions p → IsPositionAnswer (Values limits) setup s text → s ≡ FormLimit
+
 -- a position whose regions have a fault is refused with the status of that fault
 abbrev pub RefusesFaults : Type 0
-RefusesFaults = (limits : Limits) (setup : Setup) (regions : List Shape) (fault : SolveError) (s t : Status) (text : List ℕ)
-    → AreRegions setup.board regions → AreRefused limits regions fault → HasStatus fault t → IsPositionAnswer (Solve limits) setup s text → s ≡ t
+RefusesFaults = (question : Question) (limits : Limits) (setup : Setup) (regions : List Shape) (fault : SolveError) (s t : Status) (text : List ℕ)
+    → HasLimits question limits → AreRegions setup.board regions → AreRefused limits regions fault → HasStatus fault t → IsPositionAnswer question setup s text → s ≡ t
+
+-- a game over these bytes that no read and no write broke off has one status and one text
+abbrev pub HasOneGame : Type 0
+HasOneGame = (engine : Colour) (s : State) (bytes : List ℕ) (p q : Status) (before now new : Option (List ℕ)) → length s.board.cells ≤ 625
+    → (p ≡ Done) ⊎ (p ≡ TooManyLines) → (q ≡ Done) ⊎ (q ≡ TooManyLines)
+    → IsGameWritten engine s bytes before now p → IsGameWritten engine s bytes before new q → (p ≡ q) × (now ≡ new)

@@ -3,7 +3,9 @@ pub mod Solution
 pub mod Texts
 pub mod File
 pub mod Position
+pub mod Found
 pub mod Refusal
 pub mod Verdict
+pub mod Game
 pub mod Top
 pub mod Laws

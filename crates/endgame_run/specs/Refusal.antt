@@ -5,6 +5,8 @@ use Rattle.report.specs.Lines.{colour_word, point_line, point_name}
 use Rattle.endgame_solver.specs.declared.limits.Limits.{Limits}
 use Rattle.endgame_solver.specs.declared.faults.SolveError.{SolveError}
 use Rattle.endgame_solver.specs.declared.faults.SolveError.TheVariants.{Points, Positions, Cycle, Form, Memory}
+use Rattle.report.specs.declared.values.ValuesError.{ValuesError}
+use Rattle.report.specs.declared.values.ValuesError.TheVariants as values
 use Rattle.endgame_run.specs.declared.status.Status.{Status}
 use Rattle.endgame_run.specs.declared.status.Status.TheVariants as status
 
@@ -51,3 +53,8 @@ NamesPoints area (Positions p) = p < area
 NamesPoints area (Cycle p names back) = (p < area) × All (λ m. m.1 < area) names
 NamesPoints area (Form p) = p < area
 NamesPoints area (Memory e) = Unit {0}
+
+-- the fault names a region whose value isn't shown
+abbrev pub NamesRegion : ValuesError → Type 0
+NamesRegion (values.Form p) = Unit {0}
+NamesRegion (values.Memory e) = ⊥

@@ -1,20 +1,30 @@
 -- What the parts of the top call answer.
-use Rattle.std.specs.Prelude.{◌≡◌, ◌≤◌, ◌⊎◌, take, ℕ, List, Option, Ok, Err, IfSome}
+use Rattle.std.specs.Prelude.{◌≡◌, ◌≢◌, ◌≤◌, ◌⊎◌, take, ℕ, [], List, Option, Ok, IfSome}
 use Rattle.std.specs.Io.KnownBytes.{append_known}
 use Rattle.desk_io.specs.Outside.{Rose}
-use Rattle.sgf_go.specs.declared.settings.Setup.{Setup}
-use Rattle.endgame_run.specs.declared.status.Status.{Status}
-use Rattle.endgame_run.specs.declared.status.Status.TheVariants.{BadFile, CannotWrite, Memory}
+use Rattle.go_grid.specs.declared.grid.Colour.{Colour}
 use Rattle.sgf_go.specs.declared.settings.Settings.{Settings}
-use Rattle.sgf_go.specs.Komi.{IsInRange}
-use Rattle.sgf_go.specs.Setup.{Gives}
-use Rattle.sgf_tree.specs.Grammar.{PropertyText}
-use Rattle.endgame_run.specs.declared.status.FileFault.TheVariants as fault
-use Rattle.endgame_run.specs.Position.{IsSetupFaultText, Reads}
+use Rattle.sgf_go.specs.declared.settings.Setup.{Setup}
+use Rattle.gd_words.specs.Job.{JobView}
+use Rattle.gd_words.specs.Task.Task.{play}
+use Rattle.whole_rules.specs.WholeGame.{State}
+use Rattle.endgame_solver.specs.declared.limits.Limits.{Limits}
+use Rattle.endgame_run.specs.declared.status.Status.{Status}
+use Rattle.endgame_run.specs.declared.status.Status.TheVariants.{CannotRead, CannotWrite, Done, FormLimit, Memory}
+use Rattle.endgame_run.specs.declared.question.Asked.{Asked}
+use Rattle.endgame_run.specs.declared.question.Asked.TheVariants as asked
+use Rattle.endgame_run.specs.declared.question.Opened.{Opened}
+use Rattle.endgame_run.specs.declared.question.Opened.TheVariants.{Game, Fault}
 use Rattle.endgame_run.specs.declared.question.Question.{Question}
-use Rattle.endgame_run.specs.declared.question.Question.TheVariants.{Solve, Safe}
-use Rattle.endgame_run.specs.Verdict.{AreStepsFor, IsAnswer, IsPositionAnswer}
+use Rattle.endgame_run.specs.declared.question.Question.TheVariants.{Solve, Values, Safe}
 use Rattle.endgame_run.specs.File.{Outside, IsTold, told_of, count_of}
+use Rattle.endgame_run.specs.Found.{IsPositionOf}
+use Rattle.endgame_run.specs.Game.{IsEngine, IsGameWritten, IsPlayable, IsSessionStatus}
+use Rattle.endgame_run.specs.Position.{Reads}
+use Rattle.endgame_run.specs.Refusal.{form_line}
+use Rattle.endgame_solver.specs.Solved.{SolvedGame}
+use Rattle.report.specs.Values.{IsFirstUnshown, IsValuesText}
+use Rattle.endgame_run.specs.Verdict.{AreStepsFor, Asks, IsAnswer, IsRefused, limits_of}
 
 -- a text written whole, with its status, or a front part of it, as a write failed
 abbrev pub IsFinished : Status → List ℕ → ℕ → ℕ → Option (List ℕ) → Option (List ℕ) → Status → Type 0
@@ -22,22 +32,16 @@ IsFinished status text faults_before faults_now before now result =
     ((result ≡ status) × (now ≡ append_known before text))
     ⊎ ((result ≡ CannotWrite) × Rose faults_before faults_now × ((n : ℕ) × (now ≡ append_known before (take n text))))
 
--- the ranges of settings: prisoners in points, a komi in half-points
-pub record HasRanges (settings : Settings) : Type 0 where
-  pub black : settings.black_prisoners ≤ 999999
-  pub white : settings.white_prisoners ≤ 999999
-  pub komi : IfSome settings.komi IsInRange
-
--- a question with limits within which it can be solved
+-- a question with limits within which it can be answered
 abbrev pub IsModest : Question → Type 0
 IsModest (Solve limits) = limits.positions ≤ 1000000
+IsModest (Values limits) = limits.positions ≤ 1000000
 IsModest Safe = Unit {0}
 
--- the status of a question about a main line under settings, and its text
-abbrev pub IsLineAnswer : Question → List (List PropertyText) → Settings → Status → List ℕ → Type 0
-IsLineAnswer question l settings (BadFile (fault.Setup f)) text = Gives settings l (Err f) × IsSetupFaultText l f text
-IsLineAnswer question l settings (BadFile (fault.Tree f)) text = ⊥
-IsLineAnswer question l settings s text = (setup : Setup) × Gives settings l (Ok setup) × IsPositionAnswer question setup s text
+-- the job asks a question, or for a game within its limits, with its colour for the engine
+abbrev pub IsAsked : JobView → Asked → Type 0
+IsAsked job (asked.Answer inquiry) = Asks job inquiry.question inquiry.word.now
+IsAsked job (asked.Game game) = (job.task ≡ play game.word.now) × (game.limits ≡ limits_of job) × (game.engine ≡ job.engine)
 
 -- what a run of a question about the file of a word comes to: nothing for want of memory, and else an answer that was written
 abbrev pub IsFileRun : Question → Settings → List ℕ → Outside → ℕ → ℕ → Option (List ℕ) → Option (List ℕ) → Status → Type 0
@@ -47,13 +51,42 @@ IsFileRun question settings word o kb kn before now result =
     × IsAnswer question (told_of o.files o.left word) (count_of o.shelf_before o.lines_before word) (count_of o.shelf_now o.lines_now word) settings s text
     × IsFinished s text kb kn before now result)
 
--- the steps of a question about a main line, about a file, and about the file of which this is told
-abbrev pub AreLineSteps : Question → List (List PropertyText) → Settings → ℕ → ℕ → Type 0
-AreLineSteps question l settings before now = (now ≡ before) ⊎ ((setup : Setup) × Gives settings l (Ok setup) × AreStepsFor question setup before now)
+-- the report on the values of a solved game
+abbrev pub IsValuesReport : SolvedGame → Status → List ℕ → Type 0
+IsValuesReport game Done text = IsValuesText game.state.board.columns game.regions text
+IsValuesReport game FormLimit text = (p : ℕ) × IsFirstUnshown game.regions p × (text ≡ form_line game.state.board.columns p)
+IsValuesReport game s text = ⊥
 
-abbrev pub AreFileSteps : Question → List ℕ → Settings → ℕ → ℕ → Type 0
-AreFileSteps question file settings before now = (now ≡ before) ⊎ ((setup : Setup) × Reads file settings (Ok setup) × AreStepsFor question setup before now)
+-- a session that begins with the position, or the report of what keeps it from being solved
+abbrev pub IsBegun : Limits → Option Colour → Setup → Opened → Type 0
+IsBegun limits given setup (Game session) = IsPlayable limits setup session.state × IsEngine given setup session.engine × (session.held ≡ [])
+IsBegun limits given setup (Fault report) = IsRefused limits setup report.status report.text
 
+-- the same of the file of which this is told
+abbrev pub IsOpened : Limits → Option Colour → Option (Option (List ℕ)) → ℕ → ℕ → Settings → Opened → Type 0
+IsOpened limits given told before now settings (Game session) = (setup : Setup) × IsPositionOf told settings setup
+    × IsPlayable limits setup session.state × IsEngine given setup session.engine × (session.held ≡ [])
+IsOpened limits given told before now settings (Fault report) = IsAnswer (Solve limits) told before now settings report.status report.text × (report.status ≢ Done)
+
+-- a session that was played over what the source has left, with the line of a fault behind it
+pub record IsPlayRun (engine : Colour) (s : State) (left : Option (List ℕ)) (reads reads_now writes writes_now : ℕ) (before now : Option (List ℕ)) (result : Status) : Type 0 where
+  pub begun : IsSessionStatus result
+  pub read : result ≡ CannotRead → Rose reads reads_now
+  pub write : result ≡ CannotWrite → Rose writes writes_now
+  pub written : IfSome left (λ bytes. IsGameWritten engine s bytes before now result)
+
+-- what a game of the file of a word comes to: nothing for want of memory, the fault that keeps the file from being solved, or a session
+abbrev pub IsGameOutcome : Limits → Option Colour → Settings → List ℕ → Outside → ℕ → ℕ → Option (List ℕ) → Option (List ℕ) → Status → Type 0
+IsGameOutcome limits given settings word o kb kn before now result =
+    ((result ≡ Memory) × (now ≡ before))
+    ⊎ (((s : Status) × (text : List ℕ)
+    × (IsAnswer (Solve limits) (told_of o.files o.left word) (count_of o.shelf_before o.lines_before word) (count_of o.shelf_now o.lines_now word) settings s text × (s ≢ Done))
+    × IsFinished s text kb kn before now result)
+    ⊎ ((setup : Setup) × (engine : Colour) × (s : State)
+    × IsPositionOf (told_of o.files o.left word) settings setup × IsPlayable limits setup s × IsEngine given setup engine
+    × IsPlayRun engine s o.left o.lines_before o.lines_now kb kn before now result))
+
+-- the steps of a question about the file of which this is told
 abbrev pub AreToldSteps : Question → Option (Option (List ℕ)) → Settings → ℕ → ℕ → Type 0
 AreToldSteps question told settings before now = (now ≡ before)
     ⊎ ((file : List ℕ) × (setup : Setup) × IsTold told file × Reads file settings (Ok setup) × AreStepsFor question setup before now)

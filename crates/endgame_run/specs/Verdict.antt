@@ -9,7 +9,7 @@ use Rattle.sgf_go.specs.declared.settings.Settings.{Settings}
 use Rattle.sgf_go.specs.declared.settings.Setup.{Setup}
 use Rattle.gd_words.specs.Job.{JobView, IsJob, IsOnlyJob}
 use Rattle.gd_words.specs.Task.{Task}
-use Rattle.gd_words.specs.Task.Task.{solve, safe}
+use Rattle.gd_words.specs.Task.Task.{solve, safe, values, play}
 use Rattle.whole_rules.specs.declared.states.Move.{Move}
 use Rattle.whole_rules.specs.WholeGame.{State}
 use Rattle.whole_rules.specs.FirstWinningMove.{IsFirstWinning, IsWinner}
@@ -23,10 +23,11 @@ use Rattle.endgame_run.specs.File.{Outside, IsShort, IsTold, IsTooLong, told_of,
 use Rattle.endgame_run.specs.Position.{Reads, IsFaultText}
 use Rattle.endgame_run.specs.Solution.{IsOpeningOf, IsSolution}
 use Rattle.report.specs.Safety.{IsSafeText}
-use Rattle.endgame_run.specs.Refusal.{HasStatus, refusal_line}
+use Rattle.report.specs.Values.{IsFirstUnshown, IsValuesText}
+use Rattle.endgame_run.specs.Refusal.{HasStatus, form_line, refusal_line}
 use Rattle.report.specs.Solution.{AreNumbers, solve_text, winner_line, move_line}
 use Rattle.endgame_run.specs.declared.question.Question.{Question}
-use Rattle.endgame_run.specs.declared.question.Question.TheVariants.{Solve, Safe}
+use Rattle.endgame_run.specs.declared.question.Question.TheVariants.{Solve, Values, Safe}
 
 -- the regions of play of a position, all sound within the limits, the number of positions of each, and the solution, in its text
 pub record IsSolved (limits : Limits) (setup : Setup) (text : List ℕ) : Type 0 where
@@ -50,14 +51,33 @@ pub record IsRefused (limits : Limits) (setup : Setup) (s : Status) (text : List
   pub status : HasStatus fault s
   pub is : text ≡ refusal_line limits setup.board.columns fault
 
+-- the regions of play of a position, all sound within the limits, and the text of the values of their openings
+pub record IsValued (limits : Limits) (setup : Setup) (text : List ℕ) : Type 0 where
+  pub regions : List Shape
+  pub are_regions : AreRegions setup.board regions
+  pub sound : AreSound limits regions
+  pub is : IsValuesText setup.board.columns regions text
+
+-- the same regions where the value of an opening isn't shown, with the status and the line of the first of them
+pub record AreUnshown (limits : Limits) (setup : Setup) (s : Status) (text : List ℕ) : Type 0 where
+  pub regions : List Shape
+  pub point : ℕ
+  pub are_regions : AreRegions setup.board regions
+  pub sound : AreSound limits regions
+  pub first : IsFirstUnshown regions point
+  pub status : s ≡ FormLimit
+  pub is : text ≡ form_line setup.board.columns point
+
 -- the text that answers a question about a position
 abbrev pub IsTextOf : Question → Setup → List ℕ → Type 0
 IsTextOf (Solve limits) setup text = IsSolved limits setup text
+IsTextOf (Values limits) setup text = IsValued limits setup text
 IsTextOf Safe setup text = IsSafeText setup.board text
 
 -- a question about a position that isn't answered, and its text
 abbrev pub IsRefusalOf : Question → Setup → Status → List ℕ → Type 0
 IsRefusalOf (Solve limits) setup s text = IsRefused limits setup s text
+IsRefusalOf (Values limits) setup s text = IsRefused limits setup s text ⊎ AreUnshown limits setup s text
 IsRefusalOf Safe setup s text = ⊥
 
 -- the status of a question about a position, and its text
@@ -86,6 +106,7 @@ limits_of job = record { positions = job.positions; parts = job.parts }
 -- the job asks this about the file of this word, within its limits
 abbrev pub Asks : JobView → Question → List ℕ → Type 0
 Asks job (Solve limits) word = (job.task ≡ solve word) × (limits ≡ limits_of job)
+Asks job (Values limits) word = (job.task ≡ values word) × (limits ≡ limits_of job)
 Asks job Safe word = job.task ≡ safe word
 
 -- the words ask this about the file of this word, under the job's settings and within its limits
@@ -100,17 +121,44 @@ AreToSolve words job word = AskAbout words job (Solve (limits_of job)) word
 abbrev pub AskToSolve : List (List ℕ) → Type 0
 AskToSolve words = (job : JobView) × (word : List ℕ) × AreToSolve words job word
 
+-- the words are the job of playing the file of this word
+abbrev pub AreToPlay : List (List ℕ) → JobView → List ℕ → Type 0
+AreToPlay words job word = IsOnlyJob words job × (job.task ≡ play word)
+
+-- the words ask to play a file
+abbrev pub AskToPlay : List (List ℕ) → Type 0
+AskToPlay words = (job : JobView) × (word : List ℕ) × AreToPlay words job word
+
+-- the words pose this question on the file of this word: they ask it, or ask to play the file, which is to be solved for that
+abbrev pub Pose : List (List ℕ) → JobView → Question → List ℕ → Type 0
+Pose words job question word = AskAbout words job question word ⊎ (AreToPlay words job word × (question ≡ Solve (limits_of job)))
+
+-- the question is about the regions of play, within these limits
+abbrev pub HasLimits : Question → Limits → Type 0
+HasLimits (Solve most) limits = most ≡ limits
+HasLimits (Values most) limits = most ≡ limits
+HasLimits Safe limits = ⊥
+
+-- the words need the regions of play of a file
+abbrev pub NeedRegions : List (List ℕ) → Type 0
+NeedRegions words = (job : JobView) × (question : Question) × (word : List ℕ) × Pose words job question word × HasLimits question (limits_of job)
+
 -- commands that aren't built yet
 abbrev pub IsUnbuilt : Task → Type 0
 IsUnbuilt (solve word) = ⊥
 IsUnbuilt (safe word) = ⊥
+IsUnbuilt (values word) = ⊥
+IsUnbuilt (play word) = ⊥
 IsUnbuilt task = Unit {0}
 
--- The status that was decided, with its cause, and its text: `Usage` exactly where the words are outside the grammar.
+-- The status that was decided, with its cause, and its text: `Usage` exactly where the words are outside the grammar. What keeps
+-- a file from being solved keeps it from being played.
 abbrev pub IsDecided : List (List ℕ) → Outside → Status → List ℕ → Type 0
 IsDecided words o Usage text = ((job : JobView) → ¬ IsJob words job) × (text ≡ codes "fault usage\n")
 IsDecided words o (Unbuilt Command) text = ((job : JobView) × IsJob words job × IsUnbuilt job.task) × (text ≡ codes "fault unbuilt command\n")
-IsDecided words o s text = (job : JobView) × (question : Question) × (word : List ℕ) × AskAbout words job question word
+IsDecided words o Done text = (job : JobView) × (question : Question) × (word : List ℕ) × AskAbout words job question word
+    × IsAnswer question (told_of o.files o.left word) (count_of o.shelf_before o.lines_before word) (count_of o.shelf_now o.lines_now word) job.settings Done text
+IsDecided words o s text = (job : JobView) × (question : Question) × (word : List ℕ) × Pose words job question word
     × IsAnswer question (told_of o.files o.left word) (count_of o.shelf_before o.lines_before word) (count_of o.shelf_now o.lines_now word) job.settings s text
 
 -- The cause of a status. A failed write has one of its own, and want of memory never comes with words outside the grammar.
@@ -149,29 +197,32 @@ abbrev pub WritesMove : List (List ℕ) → Outside → Option (List ℕ) → Op
 WritesMove words o before now = (setup : Setup) × (s : State) × (move : Option Move)
     × IsPosed words o setup s × IsFirstWinning s move × HasLine before now (move_line s.board.columns move)
 
--- the words ask for a file of the source, or of the shelf
+-- the words ask about a file of the source, or ask about or to play one of the shelf
 abbrev pub ReadSource : List (List ℕ) → Type 0
 ReadSource words = (job : JobView) × (question : Question) × AskAbout words job question dash
 
 abbrev pub ReadShelf : List (List ℕ) → Type 0
-ReadShelf words = (job : JobView) × (question : Question) × (word : List ℕ) × AskAbout words job question word × (word ≢ dash)
+ReadShelf words = (job : JobView) × (question : Question) × (word : List ℕ) × Pose words job question word × (word ≢ dash)
 
--- the words ask to solve a file that is told, within these limits, and this is its position
-pub record IsToldToSolve (words : List (List ℕ)) (files : Option Files) (left : Option (List ℕ)) (limits : Limits) (setup : Setup) : Type 0 where
+-- the words need the regions of play of a file that is told, within these limits, and this is its position
+pub record IsToldRegions (words : List (List ℕ)) (files : Option Files) (left : Option (List ℕ)) (limits : Limits) (setup : Setup) : Type 0 where
   pub job : JobView
   pub word : List ℕ
   pub file : List ℕ
-  pub asks : AskAbout words job (Solve limits) word
+  pub question : Question
+  pub asks : Pose words job question word
+  pub limited : HasLimits question limits
   pub told : told_of files left word ≡ Some (Some file)
   pub reads : Reads file job.settings (Ok setup)
 
--- how many steps a question about a position takes at most: none but to solve it, and then for each region the limit, or 3 to its points
+-- how many steps a question about a position takes at most: none but about its regions of play, and then for each the limit, or 3 to its points
 abbrev pub AreStepsFor : Question → Setup → ℕ → ℕ → Type 0
 AreStepsFor (Solve limits) setup before now = (regions : List Shape) → AreRegions setup.board regions → now ≤ before + most_steps limits regions
+AreStepsFor (Values limits) setup before now = (regions : List Shape) → AreRegions setup.board regions → now ≤ before + most_steps limits regions
 AreStepsFor Safe setup before now = now ≡ before
 
 -- steps are taken only for the position of a file that has all that is told of the one asked about
 abbrev pub AreSteps : List (List ℕ) → Option Files → Option (List ℕ) → ℕ → ℕ → Type 0
 AreSteps words files left before now = (now ≡ before)
-    ⊎ ((job : JobView) × (question : Question) × (word : List ℕ) × (file : List ℕ) × (setup : Setup) × AskAbout words job question word
+    ⊎ ((job : JobView) × (question : Question) × (word : List ℕ) × (file : List ℕ) × (setup : Setup) × Pose words job question word
     × IsTold (told_of files left word) file × Reads file job.settings (Ok setup) × AreStepsFor question setup before now)

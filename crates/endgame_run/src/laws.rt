@@ -1,11 +1,15 @@
-//! The law of the verdict.
+//! The laws of the verdict.
 
-ghost use Rattle.endgame_run.specs.Laws.{HasOneStatus, RefusesFaults, SolvesSound};
+ghost use Rattle.endgame_run.specs.Laws.{HasOneGame, HasOneStatus, RefusesFaults, RefusesUnshown, ShowsShown, SolvesSound};
 
 /// A question about a file has at most one status; where all regions are sound that is `Done`, and else that of the
-/// first fault. It has no code.
+/// first fault. Values that can't all be shown are a fault behind those. A game over the same lines has one status and
+/// one text, where no read and no write fails. It has no code.
 pub fn verdict_law()
     ensures one { HasOneStatus }
     ensures sound { SolvesSound }
     ensures faults { RefusesFaults }
+    ensures shown { ShowsShown }
+    ensures unshown { RefusesUnshown }
+    ensures one_game { HasOneGame }
 {}

@@ -1,8 +1,11 @@
 //! The top call: words, a shelf, a source and a sink go in, and a status comes out.
 #![tactic(auto)]
 
+mod ending;
 mod faults;
 mod file;
+mod finding;
+mod game;
 mod laws;
 mod question;
 mod refusal;
@@ -17,4 +20,8 @@ pub use top::run;
 #[cfg(test)]
 mod outside_tests;
 #[cfg(test)]
+mod play_tests;
+#[cfg(test)]
 mod tests;
+#[cfg(test)]
+mod values_tests;

@@ -3,12 +3,17 @@
 use crate::status::Status;
 use endgame_solver::Limits;
 use game_text::Text;
+use go_grid::Colour;
+use play_session::Session;
+use sgf_go::Setup;
 
 /// The commands that read a file and write one text.
 #[derive(Clone, Copy, PartialEq, Eq)]
 pub(crate) enum Question {
     /// Who wins, and by which move? Regions and values are within the limits.
     Solve(Limits),
+    /// What are the regions of play worth? Regions and values are within the limits.
+    Values(Limits),
     /// Which chains are alive?
     Safe,
 }
@@ -20,9 +25,38 @@ pub(crate) struct Inquiry<'a> {
     pub word: &'a str,
 }
 
+/// A game of the file of a word within the limits, and the engine's colour, where it isn't the side to move.
+#[derive(Clone, Copy)]
+pub(crate) struct Match<'a> {
+    pub limits: Limits,
+    pub engine: Option<Colour>,
+    pub word: &'a str,
+}
+
+/// What a job asks for.
+#[derive(Clone, Copy)]
+pub(crate) enum Asked<'a> {
+    Answer(Inquiry<'a>),
+    Game(Match<'a>),
+}
+
 /// A status and its text.
 #[derive(Drop)]
 pub(crate) struct Report {
     pub status: Status,
     pub text: Text,
+}
+
+/// The position of a file, or the report on what is wrong with the file.
+#[derive(Drop)]
+pub(crate) enum Found {
+    Position(Setup),
+    Fault(Report),
+}
+
+/// A game that begins, or the report on why it can't.
+#[derive(Drop)]
+pub(crate) enum Opened {
+    Game(Session),
+    Fault(Report),
 }

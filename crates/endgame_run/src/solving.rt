@@ -1,22 +1,25 @@
-//! Positions that are to be solved.
+//! Positions whose regions are solved.
 
 ghost use Rattle.std.specs.Prelude.{◌≡◌, ◌<◌, ◌≤◌, ◌+◌, ◌*◌, ◌^◌, List, IfOk};
 ghost use Rattle.go_grid.specs.Chain.{IsSettled};
 ghost use Rattle.go_grid.specs.Region.{Shape};
 ghost use Rattle.sgf_go.specs.Komi.{IsInRange};
 ghost use Rattle.endgame_solver.specs.Faults.{AreRegions, most_steps};
-ghost use Rattle.endgame_run.specs.Refusal.{HasStatus, NamesPoints, refusal_line};
+ghost use Rattle.report.specs.Values.{IsRefusal};
+ghost use Rattle.endgame_run.specs.Refusal.{HasStatus, NamesPoints, NamesRegion, form_line, refusal_line};
+ghost use Rattle.endgame_run.specs.Top.{IsBegun, IsValuesReport};
 ghost use Rattle.endgame_run.specs.Verdict.{IsPositionAnswer};
 
 use crate::faults::point_text;
-use crate::question::{Question, Report};
+use crate::question::{Opened, Question, Report};
 use crate::refusal::{cycle_text, points_text, positions_text};
 use crate::status::Status;
 use endgame_solver::{Limits, SolveError, Solved};
 use game_text::Text;
-use go_grid::Size;
+use go_grid::{Colour, Size};
 use local_play::Steps;
-use report::solve_text;
+use play_session::Session;
+use report::{ValuesError, solve_text, values_text};
 use sgf_go::Setup;
 use std::alloc::{AllocError, Global};
 use std::sync::ledger::Ledger;
@@ -79,6 +82,91 @@ pub(crate) fn solve<L: Ledger>(
         Err(fault) => {
             let report = refused(alloc, setup.board.size(), limits, fault)?;
             Ok(report)
+        }
+    }
+}
+
+/// The report on values that aren't shown.
+fn unshown(alloc: Global, size: Size, fault: ValuesError) -> Result<Report, AllocError>
+    requires { IsRefusal (λ p. p < size.columns * size.rows) fault }
+    ensures status { IfOk result (λ report. report.status ≡ Status.FormLimit) }
+    ensures text { IfOk result (λ report. IsRefusal (λ p. report.text ≡ form_line size.columns p) fault) }
+    ensures named { IfOk result (λ _. NamesRegion fault) }
+{
+    match fault {
+        ValuesError::Form(lowest) => Ok(Report {
+            status: Status::FormLimit,
+            text: Text::from(point_text(alloc, "fault form", size, lowest)?),
+        }),
+        ValuesError::Memory(cause) => Err(cause),
+    }
+}
+
+/// The report on the values of a solved game.
+fn report_values(alloc: Global, solved: &Solved) -> Result<Report, AllocError>
+    ensures { IfOk result (λ report. IsValuesReport solved.now report.status report.text) }
+{
+    let size = solved.whole().board().size();
+    match values_text(alloc, solved) {
+        Ok(text) => Ok(Report {
+            status: Status::Done,
+            text,
+        }),
+        Err(fault) => {
+            let report = unshown(alloc, size, fault)?;
+            Ok(report)
+        }
+    }
+}
+
+/// The report on the values of a position within the limits.
+pub(crate) fn value<L: Ledger>(
+    alloc: Global,
+    setup: &Setup,
+    limits: &Limits,
+    steps: &mut Steps<L>,
+) -> Result<Report, AllocError>
+    requires settled { IsSettled setup.now.board }
+    requires black { setup.now.black_prisoners < 2 ^ 40 }
+    requires white { setup.now.white_prisoners < 2 ^ 40 }
+    requires komi { IsInRange setup.now.komi_halves }
+    requires positions { limits.now.positions ≤ 1000000 }
+    ensures answer { IfOk result (λ report. IsPositionAnswer (Question.Values limits.now) setup.now report.status report.text) }
+    ensures steps { (regions : List Shape) → AreRegions setup.now.board regions → steps.new ≤ steps.old + most_steps limits.now regions }
+{
+    match Solved::begin(alloc, setup, limits, steps) {
+        Ok(solved) => {
+            let report = report_values(alloc, &solved)?;
+            Ok(report)
+        }
+        Err(fault) => {
+            let report = refused(alloc, setup.board.size(), limits, fault)?;
+            Ok(report)
+        }
+    }
+}
+
+/// The session of a position that is solved within the limits. The engine has the colour, or else the side to move.
+pub(crate) fn begin<L: Ledger>(
+    alloc: Global,
+    setup: &Setup,
+    limits: &Limits,
+    engine: Option<Colour>,
+    steps: &mut Steps<L>,
+) -> Result<Opened, AllocError>
+    requires settled { IsSettled setup.now.board }
+    requires black { setup.now.black_prisoners < 2 ^ 40 }
+    requires white { setup.now.white_prisoners < 2 ^ 40 }
+    requires komi { IsInRange setup.now.komi_halves }
+    requires positions { limits.now.positions ≤ 1000000 }
+    ensures begun { IfOk result (IsBegun limits.now engine setup.now) }
+    ensures steps { (regions : List Shape) → AreRegions setup.now.board regions → steps.new ≤ steps.old + most_steps limits.now regions }
+{
+    match Solved::begin(alloc, setup, limits, steps) {
+        Ok(solved) => Ok(Opened::Game(Session::new(solved, engine.unwrap_or(setup.side)))),
+        Err(fault) => {
+            let report = refused(alloc, setup.board.size(), limits, fault)?;
+            Ok(Opened::Fault(report))
         }
     }
 }

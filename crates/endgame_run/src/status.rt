@@ -15,14 +15,14 @@ pub enum FileFault {
 /// What isn't built yet.
 #[derive(Clone, Copy, Debug, PartialEq, Eq)]
 pub enum Unbuilt {
-    /// Commands other than `solve` and `safe`.
+    /// The commands `values` and `trial`.
     Command,
 }
 
 /// What a run ends with.
 #[derive(Clone, Copy, Debug, PartialEq, Eq)]
 pub enum Status {
-    /// The text of the command was written.
+    /// The text of the command was written, or the game was played to its end or to that of the input.
     Done,
     /// The words are outside the grammar of the command line.
     Usage,
@@ -40,6 +40,8 @@ pub enum Status {
     FormLimit,
     /// Memory was refused.
     Memory,
+    /// In a game the opponent was to move, and 10,000 lines were read.
+    TooManyLines,
     /// The file has more than 1,048,576 bytes.
     TooLong,
     /// What was asked isn't built yet.
@@ -63,6 +65,7 @@ impl Status {
             Status::RegionLimit => 6,
             Status::FormLimit => 7,
             Status::Memory => 8,
+            Status::TooManyLines => 9,
             Status::TooLong => 10,
             Status::Unbuilt(_) => 11,
         }

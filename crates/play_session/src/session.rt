@@ -265,6 +265,8 @@ impl Session {
         ensures text { (bytes : List ℕ) → S.left lines.old ≡ Some bytes → Played self.old.engine (standing self.old 0 bytes) (K.holds out.old) (K.holds out.new) result self.new (S.left lines.new) }
         ensures read_fault { result ≡ ReadFault → Rose (S.faults lines.old) (S.faults lines.new) }
         ensures write_fault { result ≡ WriteFault → Rose (K.faults out.old) (K.faults out.new) }
+        ensures reads_later { S.faults lines.old ≤ S.faults lines.new }
+        ensures writes_later { K.faults out.old ≤ K.faults out.new }
         ensures keeps_win { IsWinner self.old.state self.old.engine → result ≢ Lost }
         ensures engine { self.new.engine ≡ self.old.engine }
     {

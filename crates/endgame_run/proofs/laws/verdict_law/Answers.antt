@@ -1,4 +1,5 @@
-use Rattle.endgame_run.proofs.OneStatus.{one_status, refuses_faults, solves_sound}
+use Rattle.endgame_run.proofs.OneStatus.{one_status, refuses_faults, refuses_unshown, shows_shown, solves_sound}
+use Rattle.endgame_run.proofs.OneGame.{one_game}
 use Rattle.endgame_run.proofs.laws.verdict_law.Goals as goal
 
 pub returns-clause-one : goal.returns-clause-one
@@ -9,3 +10,12 @@ returns-clause-sound c = solves_sound
 
 pub returns-clause-faults : goal.returns-clause-faults
 returns-clause-faults c = refuses_faults
+
+pub returns-clause-shown : goal.returns-clause-shown
+returns-clause-shown c = shows_shown
+
+pub returns-clause-unshown : goal.returns-clause-unshown
+returns-clause-unshown c = refuses_unshown
+
+pub returns-clause-one_game : goal.returns-clause-one_game
+returns-clause-one_game c = one_game

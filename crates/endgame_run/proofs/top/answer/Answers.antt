@@ -1,12 +1,7 @@
-use Rattle.std.proofs.Common.{subst}
-use Rattle.endgame_run.specs.File.{told_of}
-use Rattle.endgame_run.specs.Top.{AreFileSteps}
-use Rattle.endgame_run.proofs.StepLaws.{told_steps}
+use Rattle.endgame_run.proofs.TopLaws.{found_position, position_answer}
 use Rattle.endgame_run.proofs.top.answer.Goals as goal
 
-pub returns-in_ok-report-in-Ok-clause-steps : goal.returns-in_ok-report-in-Ok-clause-steps
-returns-in_ok-report-in-Ok-clause-steps g c =
-    let question = c.args.inquiry.now.question in
-    told_steps question (told_of (g.H.Shelf.files c.args.shelf.now) (g.S.Source.left c.args.lines.now) c.args.inquiry.now.word.now) c.in-Ok.file.items c.args.settings.now
-    c.args.steps.now c.report_on.new.steps c.in-Ok.ensures.told
-    (subst (λ f. AreFileSteps question f c.args.settings.now c.args.steps.now c.report_on.new.steps) c.deref.ensures.value c.report_on.ensures.steps)
+pub returns-in_ok-report-in-Position-clause-answer : goal.returns-in_ok-report-in-Position-clause-answer
+returns-in_ok-report-in-Position-clause-answer g c =
+    position_answer c.args.inquiry.now.question _ _ _ c.args.settings.now c.in-Position.setup c.in_ok-report-in-Position.report.status c.in_ok-report-in-Position.report.text
+    (found_position _ _ _ c.args.settings.now c.in_ok-setup.field-0 c.in-Position.setup c.in-Position.is c.in_ok-setup.ensures.found) c.in_ok-report-in-Position.ensures.answer

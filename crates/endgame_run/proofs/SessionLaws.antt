@@ -1,0 +1,128 @@
+-- How a session and the line of a fault behind it make the run of a game.
+use Rattle.std.proofs.Common.{append_assoc, ◌≡◌, ◌≢◌, ◌≤◌, ◌++◌, ◌⊎◌, ℕ, inl, inr, refl, sym, ap, subst, ◌∙◌, arith, List, [], Some, None}
+use Rattle.std.specs.Prelude.{Option, IfSome, take, codes}
+use Rattle.std.specs.Io.KnownBytes.{append_known}
+use Rattle.desk_io.specs.Outside.{Rose}
+use Rattle.go_grid.specs.declared.grid.Colour.{Colour}
+use Rattle.whole_rules.specs.WholeGame.{State}
+use Rattle.whole_rules.specs.FirstWinningMove.{IsWinner}
+use Rattle.play_session.specs.declared.end.SessionEnd.{SessionEnd}
+use Rattle.play_session.specs.declared.end.SessionEnd.TheVariants as end
+use Rattle.play_session.specs.Session.{Begins, IsSession}
+use Rattle.play_session.specs.Written.{IsBroken, IsPlayed, Played, SessionState, standing}
+use Rattle.endgame_run.specs.declared.status.Status.{Status}
+use Rattle.endgame_run.specs.declared.status.Status.TheVariants.{CannotRead, CannotWrite, Done, Memory, TooManyLines}
+use Rattle.endgame_run.specs.declared.status.Status.TheVariants as status
+use Rattle.endgame_run.specs.Game.{BeginsWith, IsGameWritten, IsOver, IsSessionOf, IsSessionStatus, IsStopped, beginning}
+use Rattle.endgame_run.specs.Top.{IsFinished, IsPlayRun}
+
+-- a session that holds nothing begins with the bytes of the source
+begins_here : (session : SessionState) (bytes : List ℕ) → session.held ≡ [] → standing session 0 bytes ≡ beginning session.state bytes
+begins_here session bytes e = ap (λ held. record { state = session.state; read = 0; left = held ++ bytes }) e
+
+-- a session that ended by itself
+session_of : (engine : Colour) (session new : SessionState) (bytes : List ℕ) (before now left : Option (List ℕ)) (final : SessionEnd) → session.held ≡ []
+    → IsPlayed engine (standing session 0 bytes) before now final new left → (text : List ℕ) × IsSessionOf engine session.state bytes final text × (now ≡ append_known before text)
+session_of engine session new bytes before now left final e p =
+    (p.text, (standing new p.read p.rest, subst (λ a. IsSession engine a p.text (standing new p.read p.rest) final) (begins_here session bytes e) p.played), p.written)
+
+pub over_written : (engine : Colour) (session new : SessionState) (bytes : List ℕ) (before now left : Option (List ℕ)) (final : SessionEnd) → session.held ≡ [] → IsOver final
+    → (IsWinner session.state engine → final ≢ end.Lost) → IsPlayed engine (standing session 0 bytes) before now final new left → IsGameWritten engine session.state bytes before now Done
+over_written engine session new bytes before now left final e over kept p =
+    let h = session_of engine session new bytes before now left final e p in (final, h.0, over, kept, h.1, h.2)
+
+played_is : (engine : Colour) (session new : SessionState) (bytes : List ℕ) (before now left : Option (List ℕ)) (final : SessionEnd) → IsOver final
+    → Played engine (standing session 0 bytes) before now final new left → IsPlayed engine (standing session 0 bytes) before now final new left
+played_is engine session new bytes before now left end.Won over p = p
+played_is engine session new bytes before now left end.Lost over p = p
+played_is engine session new bytes before now left end.InputEnded over p = p
+played_is engine session new bytes before now left end.ReadFault over p = absurd over
+played_is engine session new bytes before now left end.WriteFault over p = absurd over
+played_is engine session new bytes before now left end.TooManyLines over p = absurd over
+
+pub is_over : (final : SessionEnd) → (final ≡ end.Won) ⊎ ((final ≡ end.Lost) ⊎ (final ≡ end.InputEnded)) → IsOver final
+is_over final (inl e) = subst IsOver (sym e) tt
+is_over final (inr (inl e)) = subst IsOver (sym e) tt
+is_over final (inr (inr e)) = subst IsOver (sym e) tt
+
+-- what a source tells is written
+told_written : (P : List ℕ → Type 0) (left : Option (List ℕ)) → ((bytes : List ℕ) → left ≡ Some bytes → P bytes) → IfSome left P
+told_written P None h = tt
+told_written P (Some bytes) h = h bytes refl
+
+pub over_run : (engine : Colour) (session new : SessionState) (left rest : Option (List ℕ)) (reads reads_now writes writes_now : ℕ) (before now : Option (List ℕ)) (final : SessionEnd) → session.held ≡ [] → IsOver final
+    → (IsWinner session.state engine → final ≢ end.Lost) → ((bytes : List ℕ) → left ≡ Some bytes → Played engine (standing session 0 bytes) before now final new rest)
+    → IsPlayRun engine session.state left reads reads_now writes writes_now before now Done
+over_run engine session new left rest reads reads_now writes writes_now before now final e over kept p = record {
+  begun = tt;
+  read = λ d. absurd cc;
+  write = λ d. absurd cc;
+  written = told_written _ left (λ bytes is. over_written engine session new bytes before now rest final e over kept (played_is engine session new bytes before now rest final over (p bytes is)));
+}
+
+-- a session that a fault broke off
+broken_here : (engine : Colour) (session : SessionState) (bytes : List ℕ) (before now : Option (List ℕ)) → session.held ≡ [] → IsBroken engine (standing session 0 bytes) before now
+    → (text : List ℕ) × BeginsWith engine session.state bytes text × (now ≡ append_known before text)
+broken_here engine session bytes before now e (text, begins, is) = (text, subst (λ a. Begins engine a text) (begins_here session bytes e) begins, is)
+
+pub write_run : (engine : Colour) (session : SessionState) (left : Option (List ℕ)) (reads reads_now writes writes_now : ℕ) (before now : Option (List ℕ)) → session.held ≡ [] → Rose writes writes_now
+    → ((bytes : List ℕ) → left ≡ Some bytes → IsBroken engine (standing session 0 bytes) before now) → IsPlayRun engine session.state left reads reads_now writes writes_now before now CannotWrite
+write_run engine session left reads reads_now writes writes_now before now e rose p = record {
+  begun = tt;
+  read = λ d. absurd cc;
+  write = λ d. rose;
+  written = told_written _ left (λ bytes is. inl (broken_here engine session bytes before now e (p bytes is)));
+}
+
+-- a line behind a text
+behind : (before : Option (List ℕ)) (text line : List ℕ) → append_known (append_known before text) line ≡ append_known before (text ++ line)
+behind None text line = refl
+behind (Some b) text line = ap Some (append_assoc b text line)
+
+stopped_whole : (engine : Colour) (s : State) (bytes : List ℕ) (before now : Option (List ℕ)) (fault : Status) (text line : List ℕ) → IsStopped engine s bytes fault text line
+    → now ≡ append_known before (text ++ line) → IsGameWritten engine s bytes before now fault
+stopped_whole engine s bytes before now CannotRead text line h e = (text, line, h, e)
+stopped_whole engine s bytes before now TooManyLines text line h e = (text, line, h, e)
+stopped_whole engine s bytes before now Done text line h e = absurd h
+stopped_whole engine s bytes before now CannotWrite text line h e = absurd h
+stopped_whole engine s bytes before now Memory text line h e = absurd h
+stopped_whole engine s bytes before now status.Usage text line h e = absurd h
+stopped_whole engine s bytes before now status.Cycle text line h e = absurd h
+stopped_whole engine s bytes before now status.RegionLimit text line h e = absurd h
+stopped_whole engine s bytes before now status.FormLimit text line h e = absurd h
+stopped_whole engine s bytes before now status.TooLong text line h e = absurd h
+stopped_whole engine s bytes before now (status.BadFile f) text line h e = absurd h
+stopped_whole engine s bytes before now (status.Unbuilt u) text line h e = absurd h
+
+rose_later : (a b c : ℕ) → a ≤ b → Rose b c → Rose a c
+rose_later a b c le rose = omega (arith, le, rose)
+
+-- the line of a fault was written behind the session, or a front part of it
+pub stopped_run : (engine : Colour) (s : State) (left : Option (List ℕ)) (reads reads_now writes writes_mid writes_now : ℕ) (before mid now : Option (List ℕ)) (fault result : Status) (line : List ℕ)
+    → IsSessionStatus fault → fault ≢ CannotWrite → (fault ≡ CannotRead → Rose reads reads_now) → writes ≤ writes_mid
+    → ((bytes : List ℕ) → left ≡ Some bytes → (text : List ℕ) × IsStopped engine s bytes fault text line × (mid ≡ append_known before text))
+    → IsFinished fault line writes_mid writes_now mid now result → IsPlayRun engine s left reads reads_now writes writes_now before now result
+stopped_run engine s left reads reads_now writes writes_mid writes_now before mid now fault result line begun apart rose later p (inl w) = record {
+  begun = subst IsSessionStatus (sym w.0) begun;
+  read = λ e. rose (sym w.0 ∙ e);
+  write = λ e. absurd (apart (sym w.0 ∙ e));
+  written = told_written _ left (λ bytes is. let h = p bytes is in subst (λ r. IsGameWritten engine s bytes before now r) (sym w.0)
+      (stopped_whole engine s bytes before now fault h.0 line h.1 (w.1 ∙ ap (λ m. append_known m line) h.2 ∙ behind before h.0 line)));
+}
+stopped_run engine s left reads reads_now writes writes_mid writes_now before mid now fault result line begun apart rose later p (inr w) = record {
+  begun = subst IsSessionStatus (sym w.0) tt;
+  read = λ e. absurd (let k : Path Status CannotWrite CannotRead = sym w.0 ∙ e in cc);
+  write = λ e. rose_later writes writes_mid writes_now later w.1;
+  written = told_written _ left (λ bytes is. let h = p bytes is in subst (λ r. IsGameWritten engine s bytes before now r) (sym w.0)
+      (inr (fault, h.0, line, w.2.0, h.1, w.2.1 ∙ ap (λ m. append_known m (take w.2.0 line)) h.2 ∙ behind before h.0 (take w.2.0 line))));
+}
+
+pub read_stops : (engine : Colour) (session : SessionState) (left : Option (List ℕ)) (before mid : Option (List ℕ)) → session.held ≡ []
+    → ((bytes : List ℕ) → left ≡ Some bytes → IsBroken engine (standing session 0 bytes) before mid)
+    → (bytes : List ℕ) → left ≡ Some bytes → (text : List ℕ) × IsStopped engine session.state bytes CannotRead text (codes "fault cannot read\n") × (mid ≡ append_known before text)
+read_stops engine session left before mid e p bytes is = let h = broken_here engine session bytes before mid e (p bytes is) in (h.0, (h.1, refl), h.2)
+
+pub lines_stop : (engine : Colour) (session new : SessionState) (left rest : Option (List ℕ)) (before mid : Option (List ℕ)) → session.held ≡ []
+    → ((bytes : List ℕ) → left ≡ Some bytes → IsPlayed engine (standing session 0 bytes) before mid end.TooManyLines new rest)
+    → (bytes : List ℕ) → left ≡ Some bytes → (text : List ℕ) × IsStopped engine session.state bytes TooManyLines text (codes "fault lines\n") × (mid ≡ append_known before text)
+lines_stop engine session new left rest before mid e p bytes is = let h = session_of engine session new bytes before mid rest end.TooManyLines e (p bytes is) in (h.0, (h.1, refl), h.2)

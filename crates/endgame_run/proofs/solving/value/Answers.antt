@@ -1,0 +1,13 @@
+use Rattle.std.proofs.Common.{subst, sym, ap, ◌∙◌}
+use Rattle.endgame_run.specs.Refusal.{NamesPoints, refusal_line}
+use Rattle.endgame_run.proofs.RefusalLaws.{names_points, refused_values}
+use Rattle.endgame_run.proofs.solving.value.Goals as goal
+
+pub refused-requires : goal.refused-requires
+refused-requires g c =
+    subst (λ n. NamesPoints n c.in-Err.fault) (sym c.size.ensures.area) (names_points c.args.setup.now c.args.limits.now c.in-Err.fault c.in-Err.ensures.begun)
+
+pub returns-in_ok-report-in-Err-clause-answer : goal.returns-in_ok-report-in-Err-clause-answer
+returns-in_ok-report-in-Err-clause-answer g c =
+    refused_values c.args.setup.now c.args.limits.now c.in-Err.fault c.in_ok-report-in-Err.report.status c.in_ok-report-in-Err.report.text c.in-Err.ensures.begun
+    c.in_ok-report-in-Err.ensures.status (c.in_ok-report-in-Err.ensures.text ∙ ap (λ n. refusal_line c.args.limits.now n c.in-Err.fault) c.size.ensures.columns)

@@ -1,0 +1,101 @@
+-- A game of a file over the lines of the source: when there is one, how it ends, and what it writes.
+use Rattle.std.specs.Prelude.{◌≡◌, ◌≢◌, ◌⊎◌, ◌++◌, ℕ, List, codes, take, Option, Some, IfSome}
+use Rattle.std.specs.Option.{unwrap_or}
+use Rattle.std.specs.Io.KnownBytes.{append_known}
+use Rattle.desk_io.specs.Outside.{Rose}
+use Rattle.go_grid.specs.declared.grid.Colour.{Colour}
+use Rattle.go_grid.specs.Region.{Shape}
+use Rattle.sgf_go.specs.declared.settings.Setup.{Setup}
+use Rattle.whole_rules.specs.WholeGame.{State}
+use Rattle.whole_rules.specs.FirstWinningMove.{IsWinner}
+use Rattle.gd_words.specs.Job.{JobView}
+use Rattle.endgame_solver.specs.declared.limits.Limits.{Limits}
+use Rattle.endgame_solver.specs.Faults.{AreRegions, AreSound}
+use Rattle.play_session.specs.declared.end.SessionEnd.{SessionEnd}
+use Rattle.play_session.specs.declared.end.SessionEnd.TheVariants as end
+use Rattle.play_session.specs.Laws.{KeepsWin}
+use Rattle.play_session.specs.Session.{Standing, Turns, IsSession, Begins}
+use Rattle.endgame_run.specs.declared.status.Status.{Status}
+use Rattle.endgame_run.specs.declared.status.Status.TheVariants.{Done, CannotRead, CannotWrite, TooManyLines}
+use Rattle.endgame_run.specs.File.{Outside, told_of}
+use Rattle.endgame_run.specs.Found.{IsPositionOf}
+use Rattle.endgame_run.specs.Solution.{IsOpeningOf}
+use Rattle.endgame_run.specs.Verdict.{AreToPlay, limits_of}
+
+-- the regions of play of a position are all sound within the limits, and the state opens it
+pub record IsPlayable (limits : Limits) (setup : Setup) (s : State) : Type 0 where
+  pub regions : List Shape
+  pub are_regions : AreRegions setup.board regions
+  pub sound : AreSound limits regions
+  pub opening : IsOpeningOf setup s
+
+-- the engine has the colour that is given, or else the side to move
+abbrev pub IsEngine : Option Colour → Setup → Colour → Type 0
+IsEngine given setup engine = engine ≡ unwrap_or given setup.side
+
+-- the words ask to play a file, the state opens its position by their settings, which can be played within their limits, and this is the engine's colour
+pub record IsGame (words : List (List ℕ)) (o : Outside) (engine : Colour) (s : State) : Type 0 where
+  pub job : JobView
+  pub word : List ℕ
+  pub setup : Setup
+  pub asks : AreToPlay words job word
+  pub position : IsPositionOf (told_of o.files o.left word) job.settings setup
+  pub playable : IsPlayable (limits_of job) setup s
+  pub colour : IsEngine job.engine setup engine
+
+-- where a session begins: no line was read
+abbrev pub beginning : State → List ℕ → Standing
+beginning s bytes = record { state = s; read = 0; left = bytes }
+
+-- a whole session over the bytes, with its end
+abbrev pub IsSessionOf : Colour → State → List ℕ → SessionEnd → List ℕ → Type 0
+IsSessionOf engine s bytes final text = (b : Standing) × IsSession engine (beginning s bytes) text b final
+
+-- the session begins with this text
+abbrev pub BeginsWith : Colour → State → List ℕ → List ℕ → Type 0
+BeginsWith engine s bytes text = Begins engine (beginning s bytes) text
+
+-- the ends of a game that is done
+abbrev pub IsOver : SessionEnd → Type 0
+IsOver end.Won = Unit {0}
+IsOver end.Lost = Unit {0}
+IsOver end.InputEnded = Unit {0}
+IsOver final = ⊥
+
+-- the statuses with which a game ends that has begun
+abbrev pub IsSessionStatus : Status → Type 0
+IsSessionStatus Done = Unit {0}
+IsSessionStatus CannotRead = Unit {0}
+IsSessionStatus CannotWrite = Unit {0}
+IsSessionStatus TooManyLines = Unit {0}
+IsSessionStatus s = ⊥
+
+-- the text of a session up to a fault, and the line of the fault: a read failed, or the opponent was to move and 10,000 lines were read
+abbrev pub IsStopped : Colour → State → List ℕ → Status → List ℕ → List ℕ → Type 0
+IsStopped engine s bytes CannotRead text line = BeginsWith engine s bytes text × (line ≡ codes "fault cannot read\n")
+IsStopped engine s bytes TooManyLines text line = IsSessionOf engine s bytes end.TooManyLines text × (line ≡ codes "fault lines\n")
+IsStopped engine s bytes status text line = ⊥
+
+-- What a game over the bytes has written, by its status: the session, and the line of a fault behind it, or a front part of them
+-- where a write failed. What the engine has won isn't lost.
+abbrev pub IsGameWritten : Colour → State → List ℕ → Option (List ℕ) → Option (List ℕ) → Status → Type 0
+IsGameWritten engine s bytes before now Done = (final : SessionEnd) × (text : List ℕ) × IsOver final × (IsWinner s engine → final ≢ end.Lost)
+    × IsSessionOf engine s bytes final text × (now ≡ append_known before text)
+IsGameWritten engine s bytes before now CannotWrite = ((text : List ℕ) × BeginsWith engine s bytes text × (now ≡ append_known before text))
+    ⊎ ((fault : Status) × (text line : List ℕ) × (n : ℕ) × IsStopped engine s bytes fault text line × (now ≡ append_known before (text ++ take n line)))
+IsGameWritten engine s bytes before now status = (text line : List ℕ) × IsStopped engine s bytes status text line × (now ≡ append_known before (text ++ line))
+
+-- A game that has begun: its status, and its text where the source tells its bytes. A read that failed was counted.
+pub record IsGameRun (words : List (List ℕ)) (o : Outside) (before now : Option (List ℕ)) (status : Status) : Type 0 where
+  pub engine : Colour
+  pub state : State
+  pub game : IsGame words o engine state
+  pub begun : IsSessionStatus status
+  pub read : status ≡ CannotRead → Rose o.lines_before o.lines_now
+  pub written : IfSome o.left (λ bytes. IsGameWritten engine state bytes before now status)
+
+-- Where the engine wins at the opening, it wins wherever turns lead: after each of its moves the opponent is to move and loses,
+-- and no line names the opponent as the winner.
+abbrev pub EngineKeepsWin : List (List ℕ) → Outside → Type 0
+EngineKeepsWin words o = (engine : Colour) (s : State) (bytes : List ℕ) → IsGame words o engine s → IsWinner s engine → o.left ≡ Some bytes
+    → (n : ℕ) (text : List ℕ) (b : Standing) → Turns engine n (beginning s bytes) text b → KeepsWin engine b

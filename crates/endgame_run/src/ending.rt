@@ -1,0 +1,16 @@
+//! The end of a run.
+
+ghost use Rattle.endgame_run.specs.Top.{IsFinished};
+
+use crate::status::Status;
+use desk_io::Sink;
+
+/// Writes the text of a status at once.
+pub(crate) fn finish<K: Sink>(out: &mut K, status: Status, text: &[u8]) -> Status
+    ensures { IsFinished status text.now (K.faults out.old) (K.faults out.new) (K.holds out.old) (K.holds out.new) result }
+{
+    match out.write(text) {
+        Ok(()) => status,
+        Err(_) => Status::CannotWrite,
+    }
+}
