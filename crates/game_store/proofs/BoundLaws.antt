@@ -25,20 +25,20 @@ placed-number x f c p =
     let b = (p.ceiling_is 60 x (x +ℤ x) cell).0 (le-refl (num 60 x)) in
     omega (arith, ints, a, b, p.floor_range, p.ceiling_range)
 
-pub have-forms : (items : List ℕ) (slots : List Slot) → IsKept items (entries_of slots) → ArePlaced (values items (entries_of slots)) slots → HaveForms (values items (entries_of slots))
-have-forms items slots k p id l = (w, m, bounds w m)
+pub have-forms : (lists : List (List ℕ)) (slots : List Slot) → IsKept lists (entries_of slots) → ArePlaced (values lists (entries_of slots)) slots → HaveForms (values lists (entries_of slots))
+have-forms lists slots k p id l = (w, m, bounds w m)
   where
     Ts : List Tree
-    Ts = values items (entries_of slots)
+    Ts = values lists (entries_of slots)
 
     w : Wanted
-    w = held items (entry_at (entries_of slots) id)
+    w = held lists (entry_at (entries_of slots) id)
 
     below : id < length (entries_of slots)
-    below = omega (arith, l, length-values items (entries_of slots))
+    below = omega (arith, l, length-values lists (entries_of slots))
 
     m : IsMeaning Ts id w
-    m = means items (entries_of slots) k id below w refl
+    m = means lists (entries_of slots) k id below w refl
 
     bounds : (w : Wanted) → IsMeaning Ts id w → IsWithinBounds w
     bounds (number x) t = placed-number x (floor_at slots id) (ceiling_at slots id) (subst (λ G. IsPlaced G (floor_at slots id) (ceiling_at slots id)) t (p id (omega (arith, below, length-entries slots))))

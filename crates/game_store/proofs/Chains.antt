@@ -57,19 +57,19 @@ pub latest-none : (P : ℕ → ℕ) (n p : ℕ) → None ≡ latest_of P n p →
 unfolding IsNone
 latest-none P n p e = at_none P n p (subst IsNone e tt)
 
-pub at-first : (items : List ℕ) (slots : List Slot) (w : Wanted) (at : Option ℕ) → at ≡ latest_of (fingerprints items slots) (length slots) (fingerprint w) → IsAt items slots w at
-at-first items slots w at e = record { left = length slots; within = omega arith; is = e; passed = λ k a b. absurd (omega (arith, a, b)) }
+pub at-first : (lists : List (List ℕ)) (slots : List Slot) (w : Wanted) (at : Option ℕ) → at ≡ latest_of (fingerprints lists slots) (length slots) (fingerprint w) → IsAt lists slots w at
+at-first lists slots w at e = record { left = length slots; within = omega arith; is = e; passed = λ k a b. absurd (omega (arith, a, b)) }
 
-pub at-within : (items : List ℕ) (slots : List Slot) (w : Wanted) (at : Option ℕ) (k : ℕ) → at ≡ Some k → IsAt items slots w at → k < length slots
-at-within items slots w at k e a = let l : IsLast (fingerprints items slots) a.left (fingerprint w) k = latest-some _ _ _ k (sym e ∙ a.is) in omega (arith, l.below, a.within)
+pub at-within : (lists : List (List ℕ)) (slots : List Slot) (w : Wanted) (at : Option ℕ) (k : ℕ) → at ≡ Some k → IsAt lists slots w at → k < length slots
+at-within lists slots w at k e a = let l : IsLast (fingerprints lists slots) a.left (fingerprint w) k = latest-some _ _ _ k (sym e ∙ a.is) in omega (arith, l.below, a.within)
 
-pub at-next : (items : List ℕ) (slots : List Slot) (w : Wanted) (at next : Option ℕ) (k : ℕ) → HasBefores items slots → at ≡ Some k → IsAt items slots w at → next ≡ before_at slots k → (held items (entry_at (entries_of slots) k) ≡ w → ⊥) → IsAt items slots w next
-at-next items slots w at next k h e a is not_this = record { left = k; within = omega (arith, last.below, a.within); is = is ∙ h k (omega (arith, last.below, a.within)) ∙ ap (latest_of (fingerprints items slots) k) last.fingerprint_is; passed = passed }
+pub at-next : (lists : List (List ℕ)) (slots : List Slot) (w : Wanted) (at next : Option ℕ) (k : ℕ) → HasBefores lists slots → at ≡ Some k → IsAt lists slots w at → next ≡ before_at slots k → (held lists (entry_at (entries_of slots) k) ≡ w → ⊥) → IsAt lists slots w next
+at-next lists slots w at next k h e a is not_this = record { left = k; within = omega (arith, last.below, a.within); is = is ∙ h k (omega (arith, last.below, a.within)) ∙ ap (latest_of (fingerprints lists slots) k) last.fingerprint_is; passed = passed }
   where
-    last : IsLast (fingerprints items slots) a.left (fingerprint w) k
+    last : IsLast (fingerprints lists slots) a.left (fingerprint w) k
     last = latest-some _ _ _ k (sym e ∙ a.is)
 
-    passed : (j : ℕ) → k ≤ j → j < length slots → held items (entry_at (entries_of slots) j) ≡ w → ⊥
+    passed : (j : ℕ) → k ≤ j → j < length slots → held lists (entry_at (entries_of slots) j) ≡ w → ⊥
     passed j b c f = elim (cases_lt j a.left) [
       | inl d ↦ elim (cases_lt k j) [
         | inl g ↦ last.none_after j g d (ap fingerprint f)
@@ -79,18 +79,18 @@ at-next items slots w at next k h e a is not_this = record { left = k; within = 
     ]
 
 -- the measure falls
-pub at-smaller : (items : List ℕ) (slots : List Slot) (w : Wanted) (at next : Option ℕ) (k : ℕ) → HasBefores items slots → at ≡ Some k → IsAt items slots w at → next ≡ before_at slots k → place next < place at
-at-smaller items slots w at next k h e a is = rw e (by_next next (is ∙ h k (omega (arith, last.below, a.within))))
+pub at-smaller : (lists : List (List ℕ)) (slots : List Slot) (w : Wanted) (at next : Option ℕ) (k : ℕ) → HasBefores lists slots → at ≡ Some k → IsAt lists slots w at → next ≡ before_at slots k → place next < place at
+at-smaller lists slots w at next k h e a is = rw e (by_next next (is ∙ h k (omega (arith, last.below, a.within))))
   where
-    last : IsLast (fingerprints items slots) a.left (fingerprint w) k
+    last : IsLast (fingerprints lists slots) a.left (fingerprint w) k
     last = latest-some _ _ _ k (sym e ∙ a.is)
 
-    by_next : (o : Option ℕ) → o ≡ latest_of (fingerprints items slots) k (fingerprints items slots k) → place o < suc k
+    by_next : (o : Option ℕ) → o ≡ latest_of (fingerprints lists slots) k (fingerprints lists slots k) → place o < suc k
     by_next None q = omega arith
-    by_next (Some j) q = let l : IsLast (fingerprints items slots) k (fingerprints items slots k) j = latest-some _ _ _ j q in omega (arith, l.below)
+    by_next (Some j) q = let l : IsLast (fingerprints lists slots) k (fingerprints lists slots k) j = latest-some _ _ _ j q in omega (arith, l.below)
 
-pub at-end : (items : List ℕ) (slots : List Slot) (w : Wanted) (at : Option ℕ) → at ≡ None → IsAt items slots w at → (k : ℕ) → k < length slots → held items (entry_at (entries_of slots) k) ≡ w → ⊥
-at-end items slots w at e a k b f = elim (cases_lt k a.left) [
+pub at-end : (lists : List (List ℕ)) (slots : List Slot) (w : Wanted) (at : Option ℕ) → at ≡ None → IsAt lists slots w at → (k : ℕ) → k < length slots → held lists (entry_at (entries_of slots) k) ≡ w → ⊥
+at-end lists slots w at e a k b f = elim (cases_lt k a.left) [
   | inl c ↦ latest-none _ _ _ (sym e ∙ a.is) k c (ap fingerprint f)
   | inr c ↦ a.passed k c b f
 ]
@@ -104,25 +104,25 @@ entry-at [] k = refl
 entry-at (s ∷ ss) zero = refl
 entry-at (s ∷ ss) (suc k) = entry-at ss k
 
-pub within-at : (items : List ℕ) (slots : List Slot) (k : ℕ) → Within items (entries_of slots) → k < length slots → IsWithin (length items) (slot_at slots k).entry
-within-at items slots k w l = subst (IsWithin (length items)) (entry-at slots k) (w k (omega (arith, l, length-entries slots)))
+pub within-at : (lists : List (List ℕ)) (slots : List Slot) (k : ℕ) → Within lists (entries_of slots) → k < length slots → IsWithin lists (slot_at slots k).entry
+within-at lists slots k w l = subst (IsWithin lists) (entry-at slots k) (w k (omega (arith, l, length-entries slots)))
 
--- the chains don't change with more items, and a new slot heads its chain
+-- the chains don't change with more lists, and a new slot heads its chain
 latest-same : (P Q : ℕ → ℕ) (n p : ℕ) → ((k : ℕ) → k < n → P k ≡ Q k) → latest_of P n p ≡ latest_of Q n p
 latest-same P Q zero p h = refl
 latest-same P Q (suc n) p h = rw (h n (omega arith), latest-same P Q n p (λ k l. h k (omega arith)))
 
-fingerprint-more : (items extra : List ℕ) (k : ℕ) (e : Entry) → Fits items k e → fingerprint (held (items ++ extra) e) ≡ fingerprint (held items e)
-fingerprint-more items extra k e f = ap fingerprint (held-more items extra k e f)
+fingerprint-more : (lists extra : List (List ℕ)) (k : ℕ) (e : Entry) → Fits lists k e → fingerprint (held (lists ++ extra) e) ≡ fingerprint (held lists e)
+fingerprint-more lists extra k e f = ap fingerprint (held-more lists extra k e f)
 
-pub chained-more : (items extra : List ℕ) (slots : List Slot) (L : ℕ → Option ℕ) → AllFit items (entries_of slots) → IsChained items slots L → IsChained (items ++ extra) slots L
-chained-more items extra slots L f c = record {
-  befores = λ k l. c.befores k l ∙ sym (latest-same _ _ k _ (λ j b. same j (omega (arith, b, l)))) ∙ ap (latest_of (fingerprints (items ++ extra) slots) k) (sym (same k l));
+pub chained-more : (lists extra : List (List ℕ)) (slots : List Slot) (L : ℕ → Option ℕ) → AllFit lists (entries_of slots) → IsChained lists slots L → IsChained (lists ++ extra) slots L
+chained-more lists extra slots L f c = record {
+  befores = λ k l. c.befores k l ∙ sym (latest-same _ _ k _ (λ j b. same j (omega (arith, b, l)))) ∙ ap (latest_of (fingerprints (lists ++ extra) slots) k) (sym (same k l));
   latest_is = λ p. c.latest_is p ∙ sym (latest-same _ _ (length slots) p same);
 }
   where
-    same : (k : ℕ) → k < length slots → fingerprints (items ++ extra) slots k ≡ fingerprints items slots k
-    same k l = fingerprint-more items extra k (entry_at (entries_of slots) k) (f k (omega (arith, l, length-entries slots)))
+    same : (k : ℕ) → k < length slots → fingerprints (lists ++ extra) slots k ≡ fingerprints lists slots k
+    same k l = fingerprint-more lists extra k (entry_at (entries_of slots) k) (f k (omega (arith, l, length-entries slots)))
 
 entry-before : (slots : List Slot) (s : Slot) (k : ℕ) → k < length slots → entry_at (entries_of (slots ++ s ∷ [])) k ≡ entry_at (entries_of slots) k
 entry-before [] s k l = absurd (omega arith)
@@ -142,37 +142,37 @@ before-last : (slots : List Slot) (s : Slot) → before_at (slots ++ s ∷ []) (
 before-last [] s = refl
 before-last (t ∷ ts) s = before-last ts s
 
-pub chained-push : (items : List ℕ) (slots : List Slot) (L L' : ℕ → Option ℕ) (s : Slot) (p : ℕ) → IsChained items slots L → fingerprint (held items s.entry) ≡ p → s.before ≡ L p → ((q : ℕ) → L' q ≡ cond (nat_eq p q) (Some (length slots)) (L q)) → IsChained items (slots ++ s ∷ []) L'
-chained-push items slots L L' s p c p_is b_is l_is = record { befores = befores; latest_is = latest_is }
+pub chained-push : (lists : List (List ℕ)) (slots : List Slot) (L L' : ℕ → Option ℕ) (s : Slot) (p : ℕ) → IsChained lists slots L → fingerprint (held lists s.entry) ≡ p → s.before ≡ L p → ((q : ℕ) → L' q ≡ cond (nat_eq p q) (Some (length slots)) (L q)) → IsChained lists (slots ++ s ∷ []) L'
+chained-push lists slots L L' s p c p_is b_is l_is = record { befores = befores; latest_is = latest_is }
   where
     P : ℕ → ℕ
-    P = fingerprints items slots
+    P = fingerprints lists slots
 
     P' : ℕ → ℕ
-    P' = fingerprints items (slots ++ s ∷ [])
+    P' = fingerprints lists (slots ++ s ∷ [])
 
     n : ℕ
     n = length slots
 
-    old : (k : ℕ) → k < length slots → fingerprints items (slots ++ s ∷ []) k ≡ fingerprints items slots k
-    old k l = ap (λ x. fingerprint (held items x)) (entry-before slots s k l)
+    old : (k : ℕ) → k < length slots → fingerprints lists (slots ++ s ∷ []) k ≡ fingerprints lists slots k
+    old k l = ap (λ x. fingerprint (held lists x)) (entry-before slots s k l)
 
-    new : fingerprints items (slots ++ s ∷ []) (length slots) ≡ p
-    new = ap (λ x. fingerprint (held items x)) (entry-last slots s) ∙ p_is
+    new : fingerprints lists (slots ++ s ∷ []) (length slots) ≡ p
+    new = ap (λ x. fingerprint (held lists x)) (entry-last slots s) ∙ p_is
 
     count : length (slots ++ s ∷ []) ≡ suc (length slots)
     count = omega (arith, length-append slots (s ∷ []))
 
-    all_old : (q : ℕ) → latest_of (fingerprints items (slots ++ s ∷ [])) (length slots) q ≡ latest_of (fingerprints items slots) (length slots) q
+    all_old : (q : ℕ) → latest_of (fingerprints lists (slots ++ s ∷ [])) (length slots) q ≡ latest_of (fingerprints lists slots) (length slots) q
     all_old q = latest-same _ _ (length slots) q old
 
-    befores : HasBefores items (slots ++ s ∷ [])
+    befores : HasBefores lists (slots ++ s ∷ [])
     befores k l = elim (cases_lt k (length slots)) [
-      | inl b ↦ before-before slots s k b ∙ c.befores k b ∙ sym (latest-same _ _ k _ (λ j d. old j (omega (arith, b, d)))) ∙ ap (latest_of (fingerprints items (slots ++ s ∷ [])) k) (sym (old k b))
-      | inr b ↦ (let same : k ≡ length slots = omega (arith, b, l, count) in rw same (before-last slots s ∙ b_is ∙ c.latest_is p ∙ sym (all_old p) ∙ ap (latest_of (fingerprints items (slots ++ s ∷ [])) (length slots)) (sym new)))
+      | inl b ↦ before-before slots s k b ∙ c.befores k b ∙ sym (latest-same _ _ k _ (λ j d. old j (omega (arith, b, d)))) ∙ ap (latest_of (fingerprints lists (slots ++ s ∷ [])) k) (sym (old k b))
+      | inr b ↦ (let same : k ≡ length slots = omega (arith, b, l, count) in rw same (before-last slots s ∙ b_is ∙ c.latest_is p ∙ sym (all_old p) ∙ ap (latest_of (fingerprints lists (slots ++ s ∷ [])) (length slots)) (sym new)))
     ]
 
-    latest_is : (q : ℕ) → L' q ≡ latest_of (fingerprints items (slots ++ s ∷ [])) (length (slots ++ s ∷ [])) q
+    latest_is : (q : ℕ) → L' q ≡ latest_of (fingerprints lists (slots ++ s ∷ [])) (length (slots ++ s ∷ [])) q
     latest_is q = rw (count, new, all_old q, ← c.latest_is q) (l_is q)
 
 pub entries-push : (slots : List Slot) (s : Slot) → entries_of (slots ++ s ∷ []) ≡ entries_of slots ++ s.entry ∷ []

@@ -26,8 +26,8 @@ fingerprint (number x) = number_fingerprint x
 fingerprint (options ls rs) = options_fingerprint ls rs
 
 -- the fingerprint of each place
-abbrev pub fingerprints : List ℕ → List Slot → ℕ → ℕ
-fingerprints items slots k = fingerprint (held items (entry_at (entries_of slots) k))
+abbrev pub fingerprints : List (List ℕ) → List Slot → ℕ → ℕ
+fingerprints lists slots k = fingerprint (held lists (entry_at (entries_of slots) k))
 
 -- the last of the first n places that has the fingerprint
 abbrev pub latest_of : (ℕ → ℕ) → ℕ → ℕ → Option ℕ
@@ -40,19 +40,19 @@ slot_at slots k = slice_index_or slots k (record { entry = Number (pos 0); befor
 abbrev pub before_at : List Slot → ℕ → Option ℕ
 before_at slots k = (slot_at slots k).before
 
-abbrev pub HasBefores : List ℕ → List Slot → Type 0
-HasBefores items slots = (k : ℕ) → k < length slots → before_at slots k ≡ latest_of (fingerprints items slots) k (fingerprints items slots k)
+abbrev pub HasBefores : List (List ℕ) → List Slot → Type 0
+HasBefores lists slots = (k : ℕ) → k < length slots → before_at slots k ≡ latest_of (fingerprints lists slots) k (fingerprints lists slots k)
 
-pub record IsChained (items : List ℕ) (slots : List Slot) (latest : ℕ → Option ℕ) : Type 0 where
-  pub befores : HasBefores items slots
-  pub latest_is : (p : ℕ) → latest p ≡ latest_of (fingerprints items slots) (length slots) p
+pub record IsChained (lists : List (List ℕ)) (slots : List Slot) (latest : ℕ → Option ℕ) : Type 0 where
+  pub befores : HasBefores lists slots
+  pub latest_is : (p : ℕ) → latest p ≡ latest_of (fingerprints lists slots) (length slots) p
 
 -- where a walk along a chain is: what it has left is the chain of the first n places, and no place from n on has the form
-pub record IsAt (items : List ℕ) (slots : List Slot) (w : Wanted) (at : Option ℕ) : Type 0 where
+pub record IsAt (lists : List (List ℕ)) (slots : List Slot) (w : Wanted) (at : Option ℕ) : Type 0 where
   pub left : ℕ
   pub within : left ≤ length slots
-  pub is : at ≡ latest_of (fingerprints items slots) left (fingerprint w)
-  pub passed : (k : ℕ) → left ≤ k → k < length slots → held items (entry_at (entries_of slots) k) ≡ w → ⊥
+  pub is : at ≡ latest_of (fingerprints lists slots) left (fingerprint w)
+  pub passed : (k : ℕ) → left ≤ k → k < length slots → held lists (entry_at (entries_of slots) k) ≡ w → ⊥
 
 -- a number that falls along the chain
 abbrev pub place : Option ℕ → ℕ

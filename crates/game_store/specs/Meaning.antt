@@ -1,5 +1,5 @@
 -- What the entries of a store mean: a list of trees, one for each id.
-use Rattle.std.specs.Prelude.{ℕ, ◌≡◌, ◌<◌, ◌≤◌, List, [], ◌∷◌, ◌++◌, length, slice_range, ℤ, pos}
+use Rattle.std.specs.Prelude.{ℕ, ◌≡◌, ◌<◌, ◌≤◌, List, [], ◌∷◌, ◌++◌, length, take, drop, ℤ, pos}
 use Rattle.std.specs.List.{slice_index_or}
 use Rattle.game_store.specs.Tree.{Tree, Trees, node, none, more}
 use Rattle.game_store.specs.Number.{num, IsNumberTree}
@@ -37,22 +37,26 @@ abbrev pub meaning : List Tree → Wanted → Tree
 meaning Ts (number x) = number_tree x
 meaning Ts (options ls rs) = form Ts ls rs
 
--- what an entry holds
-abbrev pub held : List ℕ → Entry → Wanted
-held items (Number x) = number x
-held items (Options start middle end) = options (slice_range items start middle) (slice_range items middle end)
+-- the list at a place of a pool
+abbrev pub list_at : List (List ℕ) → ℕ → List ℕ
+list_at lists place = slice_index_or lists place []
+
+-- what an entry holds, where the options of both sides are one list, the Left ones first
+abbrev pub held : List (List ℕ) → Entry → Wanted
+held lists (Number x) = number x
+held lists (Options place left_count) = options (take left_count (list_at lists place)) (drop left_count (list_at lists place))
 
 -- the tree of an entry, where Ts are those of the entries before it
-abbrev pub value_of : List ℕ → List Tree → Entry → Tree
-value_of items Ts e = meaning Ts (held items e)
+abbrev pub value_of : List (List ℕ) → List Tree → Entry → Tree
+value_of lists Ts e = meaning Ts (held lists e)
 
 -- the trees of the entries, after those of Ts
-abbrev pub values_after : List ℕ → List Tree → List Entry → List Tree
-values_after items Ts [] = Ts
-values_after items Ts (e ∷ es) = values_after items (Ts ++ value_of items Ts e ∷ []) es
+abbrev pub values_after : List (List ℕ) → List Tree → List Entry → List Tree
+values_after lists Ts [] = Ts
+values_after lists Ts (e ∷ es) = values_after lists (Ts ++ value_of lists Ts e ∷ []) es
 
-abbrev pub values : List ℕ → List Entry → List Tree
-values items es = values_after items [] es
+abbrev pub values : List (List ℕ) → List Entry → List Tree
+values lists es = values_after lists [] es
 
 abbrev pub entry_at : List Entry → ℕ → Entry
 entry_at es k = slice_index_or es k (Number (pos 0))
@@ -65,13 +69,21 @@ AreBelow n is = (j : ℕ) → j < length is → slice_index_or is j 0 < n
 abbrev pub IsAscending : List ℕ → Type 0
 IsAscending xs = (i j : ℕ) → i < j → j < length xs → slice_index_or xs i 0 < slice_index_or xs j 0
 
--- the options of an entry stand among the items, in order, and are ids below it
-abbrev pub Fits : List ℕ → ℕ → Entry → Type 0
-Fits items k (Number x) = Unit {0}
-Fits items k (Options start middle end) = (start ≤ middle) × (middle ≤ end) × (end ≤ length items) × ((j : ℕ) → start ≤ j → j < end → slice_index_or items j 0 < k) × IsAscending (slice_range items start middle) × IsAscending (slice_range items middle end) × (start < middle) × (middle < end)
+-- ids below k, of which the first are Left's: some on both sides, each in order
+pub record AreOptions (k left_count : ℕ) (is : List ℕ) : Type 0 where
+  pub below : AreBelow k is
+  pub left_ascends : IsAscending (take left_count is)
+  pub right_ascends : IsAscending (drop left_count is)
+  pub left_some : 0 < left_count
+  pub right_some : left_count < length is
 
-abbrev pub AllFit : List ℕ → List Entry → Type 0
-AllFit items es = (k : ℕ) → k < length es → Fits items k (entry_at es k)
+-- the options of an entry are a list of the pool
+abbrev pub Fits : List (List ℕ) → ℕ → Entry → Type 0
+Fits lists k (Number x) = Unit {0}
+Fits lists k (Options place left_count) = (place < length lists) × AreOptions k left_count (list_at lists place)
+
+abbrev pub AllFit : List (List ℕ) → List Entry → Type 0
+AllFit lists es = (k : ℕ) → k < length es → Fits lists k (entry_at es k)
 
 -- ids are equal where their trees are
 abbrev pub AreDistinct : List Tree → Type 0
@@ -93,21 +105,21 @@ pub record Extends (Ts Us : List Tree) : Type 0 where
 -- an entry with options has no number's tree
 abbrev pub IsNoNumber : Tree → Entry → Type 0
 IsNoNumber G (Number x) = Unit {0}
-IsNoNumber G (Options start middle end) = IsNumberTree G → ⊥
+IsNoNumber G (Options place left_count) = IsNumberTree G → ⊥
 
-pub record IsKept (items : List ℕ) (es : List Entry) : Type 0 where
-  pub fit : AllFit items es
-  pub distinct : AreDistinct (values items es)
-  pub canonical : AreCanonical (values items es)
-  pub no_numbers : (k : ℕ) → k < length es → IsNoNumber (tree_at (values items es) k) (entry_at es k)
+pub record IsKept (lists : List (List ℕ)) (es : List Entry) : Type 0 where
+  pub fit : AllFit lists es
+  pub distinct : AreDistinct (values lists es)
+  pub canonical : AreCanonical (values lists es)
+  pub no_numbers : (k : ℕ) → k < length es → IsNoNumber (tree_at (values lists es) k) (entry_at es k)
 
--- each entry's options are a part of the items
-abbrev pub IsWithin : ℕ → Entry → Type 0
-IsWithin n (Number x) = Unit {0}
-IsWithin n (Options start middle end) = (start ≤ middle) × (middle ≤ end) × (end ≤ n)
+-- each entry's options are a list of the pool, and those of Left a front part of it
+abbrev pub IsWithin : List (List ℕ) → Entry → Type 0
+IsWithin lists (Number x) = Unit {0}
+IsWithin lists (Options place left_count) = (place < length lists) × (left_count ≤ length (list_at lists place))
 
-abbrev pub Within : List ℕ → List Entry → Type 0
-Within items es = (k : ℕ) → k < length es → IsWithin (length items) (entry_at es k)
+abbrev pub Within : List (List ℕ) → List Entry → Type 0
+Within lists es = (k : ℕ) → k < length es → IsWithin lists (entry_at es k)
 
 -- an id of the store whose tree is this one
 abbrev pub IsIdOf : List Tree → Tree → ℕ → Type 0

@@ -2,7 +2,7 @@
 //! each kept once under an id.
 #![tactic(auto)]
 
-ghost use Rattle.std.specs.Prelude.{◌≡◌, ◌<◌, length, IfOk};
+ghost use Rattle.std.specs.Prelude.{◌≡◌, ◌<◌, ◌++◌, length, IfOk, OnErr};
 ghost use Rattle.game_store.specs.Number.{IsNumberTree};
 ghost use Rattle.game_store.specs.TextOrder.{IsCanonicalTree};
 ghost use Rattle.game_store.specs.Threshold.{IsFloor, IsCeiling, IsFloorRange, IsCeilingRange};
@@ -19,21 +19,19 @@ use crate::fingerprint::{fingerprint_number, fingerprint_options};
 use crate::lookup::{find_number, find_options, read_slot};
 use dyadic_num::Dyadic;
 use indexmap::IndexMap;
+use list_pool::ListPool;
 use std::alloc::{AllocError, Global};
 use std::marker::Model;
 
 /// The name of a form in its store.
 pub type GameId = u64;
 
-/// What a store keeps of a form: a number, or where its options stand.
+/// What a store keeps of a form: a number, or the place of its options in the pool, the Left ones first, and how many
+/// of them are Left's.
 #[derive(Clone, Copy)]
 pub enum Entry {
     Number(Dyadic),
-    Options {
-        start: usize,
-        middle: usize,
-        end: usize,
-    },
+    Options { place: usize, left_count: usize },
 }
 
 /// An entry, the id before it with the same fingerprint, and the form's floor and ceiling in half parts of 2^-60.
@@ -56,8 +54,9 @@ pub enum Form<'a> {
 #[derive(Drop)]
 pub struct Store {
     slots: Vec<Slot>,
-    items: Vec<u64>,
+    pool: ListPool,
     latest: IndexMap<u64, u64>,
+    alloc: Global,
 }
 
 impl Model for Store {
@@ -76,23 +75,33 @@ impl Model for Store {
     ghost use Rattle.game_store.specs.Chain.{entries_of, IsChained};
     ghost use Rattle.game_store.specs.Places.{ArePlaced};
 
-    ghost view = { λ s. values s.items.items (entries_of s.slots.items) };
+    ghost view = { λ s. values s.pool.lists (entries_of s.slots.items) };
 
-    ghost invariant = { λ s. IsKept s.items.items (entries_of s.slots.items) × IsChained s.items.items s.slots.items (get nat_eq s.latest) × ArePlaced (values s.items.items (entries_of s.slots.items)) s.slots.items };
+    ghost invariant = { λ s. IsKept s.pool.lists (entries_of s.slots.items) × IsChained s.pool.lists s.slots.items (get nat_eq s.latest) × ArePlaced (values s.pool.lists (entries_of s.slots.items)) s.slots.items };
 }
 
 /// The form of an entry.
-fn lend(entry: Entry, items: &[u64]) -> Form<'_>
-    requires { IsWithin (length items.now) entry }
-    ensures { held items.now entry ≡ wanted result }
+fn lend(entry: Entry, pool: &ListPool) -> Form<'_>
+    requires { IsWithin pool.now.lists entry }
+    ensures { held pool.now.lists entry ≡ wanted result }
 {
     match entry {
         Entry::Number(x) => Form::Number(x),
-        Entry::Options { start, middle, end } => Form::Options {
-            left: &items[start..middle],
-            right: &items[middle..end],
-        },
+        Entry::Options { place, left_count } => {
+            let (left, right) = pool.get(place).split_at(left_count);
+            Form::Options { left, right }
+        }
     }
+}
+
+/// The ids of both sides in one list, the Left ones first.
+fn join(alloc: Global, left: &[GameId], right: &[GameId]) -> Result<Vec<GameId>, AllocError>
+    ensures { IfOk result (λ options. options.items ≡ left.now ++ right.now) }
+{
+    let mut options = Vec::with_capacity(alloc, left.len() + right.len())?;
+    options.extend_from_slice(left)?;
+    options.extend_from_slice(right)?;
+    Ok(options)
 }
 
 impl Store {
@@ -102,8 +111,9 @@ impl Store {
     {
         Store {
             slots: Vec::new(alloc),
-            items: Vec::new(alloc),
+            pool: ListPool::new(alloc),
             latest: IndexMap::new(alloc),
+            alloc,
         }
     }
 
@@ -117,14 +127,15 @@ impl Store {
         self.slots.len() as u64
     }
 
-    /// The id of a number. Every id keeps its form, whatever the answer.
+    /// The id of a number. Every id keeps its form, and after a refusal the store is as before.
     pub fn number(&mut self, x: Dyadic) -> Result<GameId, AllocError>
         ensures value { IfOk result (λ id. IsIdOf self.new (number_tree x) id) }
         ensures kept { Extends self.old self.new }
+        ensures refusal { OnErr result (self.new ≡ self.old) }
     {
         let fingerprint = fingerprint_number(x);
         let before = self.latest.get(&fingerprint).copied();
-        if let Some(id) = find_number(&self.slots, &self.items, before, x) {
+        if let Some(id) = find_number(&self.slots, &self.pool, before, x) {
             return Ok(id);
         }
         let half_parts = x.units() * 2;
@@ -141,8 +152,8 @@ impl Store {
         Ok(id as u64)
     }
 
-    /// The id of the form with these options, which has to be canonical and no number. Every id keeps its form, whatever
-    /// the answer.
+    /// The id of the form with these options, which has to be canonical and no number. Every id keeps its form, and after
+    /// a refusal the store is as before.
     pub fn intern(&mut self, left: &[GameId], right: &[GameId]) -> Result<GameId, AllocError>
         requires left_ids { AreIds self.old left.now }
         requires right_ids { AreIds self.old right.now }
@@ -154,28 +165,31 @@ impl Store {
         requires no_number { IsNumberTree (form self.old left.now right.now) → ⊥ }
         ensures value { IfOk result (λ id. IsIdOf self.new (form self.old left.now right.now) id) }
         ensures kept { Extends self.old self.new }
+        ensures refusal { OnErr result (self.new ≡ self.old) }
     {
         let fingerprint = fingerprint_options(left, right);
         let before = self.latest.get(&fingerprint).copied();
-        if let Some(id) = find_options(&self.slots, &self.items, before, left, right) {
+        if let Some(id) = find_options(&self.slots, &self.pool, before, left, right) {
             return Ok(id);
         }
         let floor = least_ceiling(&self.slots, right) - 1;
         let ceiling = greatest_floor(&self.slots, left) + 1;
-        let start = self.items.len();
-        self.items.extend_from_slice(left)?;
-        let middle = self.items.len();
-        self.items.extend_from_slice(right)?;
-        let end = self.items.len();
+        let options = join(self.alloc, left, right)?;
+        self.latest.reserve(1)?;
+        self.slots.reserve(1)?;
+        self.pool.reserve(options.len())?;
+        let place = self.pool.push_reserved(&options);
         let slot = Slot {
-            entry: Entry::Options { start, middle, end },
+            entry: Entry::Options {
+                place,
+                left_count: left.len(),
+            },
             before,
             floor,
             ceiling,
         };
-        self.latest.reserve(1)?;
         let id = self.slots.len();
-        self.slots.push(slot)?;
+        self.slots.push_reserved(slot);
         self.latest.insert(fingerprint, id as u64)?;
         Ok(id as u64)
     }
@@ -187,7 +201,7 @@ impl Store {
         ensures canonical { IsCanonicalTree (tree_at self.now id) }
         ensures distinct { AreDistinct self.now }
     {
-        lend(read_slot(&self.slots, id as usize).entry, &self.items)
+        lend(read_slot(&self.slots, id as usize).entry, &self.pool)
     }
 
     /// The form's floor in half parts of 2^-60: twice its right stop where the stop is at most the form, else one less.

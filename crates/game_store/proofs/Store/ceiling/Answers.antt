@@ -10,7 +10,7 @@ use Rattle.game_store.proofs.StopLaws.{goes_with-left}
 use Rattle.game_store.proofs.Store.ceiling.Goals as goal
 
 below : (c : goal.After-deref) → c.args.id < length c.self.inside.slots.items
-below c = in_range c.self.inside.items.items c.self.inside.slots.items c.args.id (rw c.self.view_is c.requires)
+below c = in_range c.self.inside.pool.lists c.self.inside.slots.items c.args.id (rw c.self.view_is c.requires)
 
 pub read_ceiling-requires : goal.read_ceiling-requires
 read_ceiling-requires c = rw c.deref.ensures.value (below c)
@@ -23,7 +23,7 @@ placed c =
     let p = c.self.invariant.2 c.args.id (below c.before) in
     let e : ceiling_at c.self.inside.slots.items c.args.id ≡ c.read_ceiling.result = sym (c.read_ceiling.ensures ∙ ap (λ slots. ceiling_at slots c.args.id) c.deref.ensures.value) in
     subst (λ us. IsPlaced (tree_at us c.args.id) (floor_at c.self.inside.slots.items c.args.id) (to_z w128 (of_z w128 c.read_ceiling.result))) c.self.view_is
-    (subst (λ x. IsPlaced (tree_at (values c.self.inside.items.items (entries_of c.self.inside.slots.items)) c.args.id) (floor_at c.self.inside.slots.items c.args.id) x) (e ∙ back c) p)
+    (subst (λ x. IsPlaced (tree_at (values c.self.inside.pool.lists (entries_of c.self.inside.slots.items)) c.args.id) (floor_at c.self.inside.slots.items c.args.id) x) (e ∙ back c) p)
 
 pub returns-clause-ceiling : goal.returns-clause-ceiling
 returns-clause-ceiling c = (placed c).ceiling_is

@@ -10,7 +10,7 @@ use Rattle.game_store.proofs.StopLaws.{goes_with-right}
 use Rattle.game_store.proofs.Store.floor.Goals as goal
 
 below : (c : goal.After-deref) → c.args.id < length c.self.inside.slots.items
-below c = in_range c.self.inside.items.items c.self.inside.slots.items c.args.id (rw c.self.view_is c.requires)
+below c = in_range c.self.inside.pool.lists c.self.inside.slots.items c.args.id (rw c.self.view_is c.requires)
 
 pub read_floor-requires : goal.read_floor-requires
 read_floor-requires c = rw c.deref.ensures.value (below c)
@@ -23,7 +23,7 @@ placed c =
     let p = c.self.invariant.2 c.args.id (below c.before) in
     let e : floor_at c.self.inside.slots.items c.args.id ≡ c.read_floor.result = sym (c.read_floor.ensures ∙ ap (λ slots. floor_at slots c.args.id) c.deref.ensures.value) in
     subst (λ us. IsPlaced (tree_at us c.args.id) (to_z w128 (of_z w128 c.read_floor.result)) (ceiling_at c.self.inside.slots.items c.args.id)) c.self.view_is
-    (subst (λ x. IsPlaced (tree_at (values c.self.inside.items.items (entries_of c.self.inside.slots.items)) c.args.id) x (ceiling_at c.self.inside.slots.items c.args.id)) (e ∙ back c) p)
+    (subst (λ x. IsPlaced (tree_at (values c.self.inside.pool.lists (entries_of c.self.inside.slots.items)) c.args.id) x (ceiling_at c.self.inside.slots.items c.args.id)) (e ∙ back c) p)
 
 pub returns-clause-floor : goal.returns-clause-floor
 returns-clause-floor c = (placed c).floor_is

@@ -13,26 +13,26 @@ use Rattle.game_store.proofs.Store.number.Goals as goal
 
 pub returns-in-Some-clause-value : goal.returns-in-Some-clause-value
 returns-in-Some-clause-value c =
-    let found : (c.in-Some.id < length c.self.inside.slots.items) × (held c.self.inside.items.items (entry_at (entries_of c.self.inside.slots.items) c.in-Some.id) ≡ number c.args.x)
-    = rw (c.deref.ensures.value, c.deref-2.ensures.value) at c.in-Some.ensures.found in
+    let found : (c.in-Some.id < length c.self.inside.slots.items) × (held c.self.inside.pool.lists (entry_at (entries_of c.self.inside.slots.items) c.in-Some.id) ≡ number c.args.x)
+    = rw c.deref.ensures.value at c.in-Some.ensures.found in
     let below : c.in-Some.id < length (entries_of c.self.inside.slots.items) = omega (arith, found.0, length-entries c.self.inside.slots.items) in
     rw (← c.self.view_is) (
-      omega (arith, below, length-values c.self.inside.items.items (entries_of c.self.inside.slots.items)),
+      omega (arith, below, length-values c.self.inside.pool.lists (entries_of c.self.inside.slots.items)),
       held-from _ _ c.self.invariant.0 _ _ below found.1,
     )
 
 last_id : (c : goal.In_ok-insert) → c.len-id.result ≡ length c.self.inside.slots.items
 last_id c = search rules
 
-full : (c : goal.In_ok-insert) → Holds (c.args.self.now ++ number_tree c.args.x ∷ []) c.self.inside.items.items c.push.new.self.items (get nat_eq c.insert.new.self)
-full c = holds-new c.args.self.now c.self.inside.items.items c.self.inside.slots.items _ (get nat_eq c.self.inside.latest) (get nat_eq c.insert.new.self) (number c.args.x) _
+full : (c : goal.In_ok-insert) → Holds (c.args.self.now ++ number_tree c.args.x ∷ []) c.self.inside.pool.lists c.push.new.self.items (get nat_eq c.insert.new.self)
+full c = holds-new c.args.self.now c.self.inside.pool.lists c.self.inside.slots.items _ (get nat_eq c.self.inside.latest) (get nat_eq c.insert.new.self) (number c.args.x) _
     (record { all = c.self.invariant; values_are = c.self.view_is }) (may-number c.args.self.now c.args.x) (let b = c.units-half_parts.ensures.bounds in let u = c.units-half_parts.ensures.count in number-placed c.args.x _ b (grind (arith, ints))) tt refl
-    (rw (c.deref.ensures.value, c.deref-2.ensures.value) at c.in_default.ensures.absent)
+    (rw c.deref.ensures.value at c.in_default.ensures.absent)
     c.in_ok-push.ensures.items
     (rw (← c.fingerprint_number-fingerprint.ensures) (c.copied-before.ensures ∙ c.get.ensures.value))
     (λ q. rw (← c.fingerprint_number-fingerprint.ensures, ← last_id c) (c.in_ok-insert.ensures.updates.0 q ∙ ap (cond (nat_eq c.fingerprint_number-fingerprint.result q) (Some c.len-id.result)) (ap (lookup (nat_eq q)) c.reserve.ensures.entries)))
 
-unchanged : (c : goal.After-from_residual-in_err-push) → Holds c.args.self.now c.self.inside.items.items c.push.new.self.items (get nat_eq c.reserve.new.self)
+unchanged : (c : goal.After-from_residual-in_err-push) → Holds c.args.self.now c.self.inside.pool.lists c.push.new.self.items (get nat_eq c.reserve.new.self)
 unchanged c = rw c.in_err-push.ensures.items (holds-map _ _ _ _ _ (record { all = c.self.invariant; values_are = c.self.view_is }) (λ q. ap (lookup (nat_eq q)) c.reserve.ensures.entries))
 
 pub invariant_of-self-2 : goal.invariant_of-self-2
@@ -40,7 +40,7 @@ invariant_of-self-2 c = (full c).all
 
 pub returns-clause-value : goal.returns-clause-value
 returns-clause-value c =
-    let n : c.len-id.result ≡ length c.args.self.now = rw (← c.self.view_is) (omega (arith, last_id c, length-values c.self.inside.items.items (entries_of c.self.inside.slots.items), length-entries c.self.inside.slots.items)) in
+    let n : c.len-id.result ≡ length c.args.self.now = rw (← c.self.view_is) (omega (arith, last_id c, length-values c.self.inside.pool.lists (entries_of c.self.inside.slots.items), length-entries c.self.inside.slots.items)) in
     last-value _ _ _ _ n (full c).values_are
 
 pub returns-clause-kept : goal.returns-clause-kept

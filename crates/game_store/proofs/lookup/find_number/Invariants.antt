@@ -3,7 +3,7 @@ use Rattle.game_store.specs.Chain.{IsAt, place}
 use Rattle.game_store.proofs.lookup.find_number.Given as goal
 
 abbrev pub invariant-loop-at : goal.invariant-loop-at
-invariant-loop-at l = IsAt l.items l.slots (number l.x) l.at
+invariant-loop-at l = IsAt l.pool.lists l.slots (number l.x) l.at
 
 abbrev pub decreases-loop-at : goal.decreases-loop-at
 decreases-loop-at l = place l.at
