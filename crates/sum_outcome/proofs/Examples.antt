@@ -1,13 +1,14 @@
 -- Bounds of small games.
-use Rattle.std.proofs.Common.{ℕ, zero, suc, ◌≡◌, ◌*◌, ◌≤◌, ◌^◌, arith, inl, inr, refl, sym, ap, ◌∙◌, subst, List, [], ◌∷◌, length, replicate, sum, ℤ, pos, ◌*ℤ◌}
+use Rattle.std.proofs.Common.{ℕ, zero, suc, ◌≡◌, ◌*◌, ◌↔◌, ◌<◌, ◌++◌, ◌≤◌, ◌^◌, arith, inl, inr, refl, sym, ap, ◌∙◌, subst, List, [], ◌∷◌, length, sum, ℤ, pos, ◌+ℤ◌, ◌-ℤ◌, ◌*ℤ◌}
 use Rattle.std.specs.Prelude.{unsigned_abs}
 use Rattle.std.proofs.lemmas.Int.{ints, by_lt_z, unsigned_abs-mul}
+use Rattle.std.proofs.lemmas.List.{length_push}
 use Rattle.std.proofs.lemmas.List.Sums.{sum_by-cons}
 use Rattle.dyadic_num.specs.Units.{IsFraction}
 use Rattle.game_store.specs.Tree.{Tree, node, none}
 use Rattle.game_store.specs.Order.{◌≤ᵍ◌}
 use Rattle.game_store.specs.Number.{num, IsNumberTree}
-use Rattle.game_store.specs.Parts.{IsOption}
+use Rattle.game_store.specs.Parts.{IsOption, IsNumberOf}
 use Rattle.game_store.specs.Meaning.{tree_at, form, pick, number_tree, AreIds, Extends, IsIdOf}
 use Rattle.game_store.proofs.OrderLaws.{le-refl}
 use Rattle.game_store.proofs.NumberLaws.{num-lt, num-zero}
@@ -45,28 +46,30 @@ bound-star = bound-choice (node none none) (node none none) (2 ^ 60) star-no_num
     nothing : IsBound (node none none) (2 ^ 60)
     nothing = subst (λ t. IsBound t (2 ^ 60)) (num-zero 60) (bound-number (pos 0) (2 ^ 60) (omega arith))
 
-bound-small : (G : Tree) → IsSmall G → IsBound G (2 ^ 60)
-bound-small G (inl e) = subst (λ t. IsBound t (2 ^ 60)) (sym e) bound-star
-bound-small G (inr e) = subst (λ t. IsBound t (2 ^ 60)) (sym e) (bound-choice (num 0 (pos 1)) star (2 ^ 60) one_or_star-no_number one bound-star)
+more-bound : (G : Tree) (b c : ℕ) → b ≤ c → IsBound G b → IsBound G c
+more-bound G b c l f x n = omega (arith, l, f x n)
+
+bound-one_or_star : IsBound (choice (num 0 (pos 1)) star) (2 ^ 60)
+bound-one_or_star = bound-choice (num 0 (pos 1)) star (2 ^ 60) one_or_star-no_number one bound-star
   where
     one : IsBound (num 0 (pos 1)) (2 ^ 60)
     one = subst (λ t. IsBound t (2 ^ 60)) (num-scaled 60 0 (pos 1)) (bound-number (pos (2 ^ 60)) (2 ^ 60) (omega arith))
 
-bounds-small : (Ts : List Tree) (is : List ℕ) → AreSmall Ts is → (bs : List ℕ) × AreBounds (pick Ts is) bs × (sum bs ≡ 2 ^ 60 * length is)
+bound-small : (G : Tree) → IsSmall G → IsBound G (2 ^ 64)
+bound-small G (inl e) = subst (λ t. IsBound t (2 ^ 64)) (sym e) (more-bound star (2 ^ 60) (2 ^ 64) (omega arith) bound-star)
+bound-small G (inr (inl e)) = subst (λ t. IsBound t (2 ^ 64)) (sym e) (more-bound (choice (num 0 (pos 1)) star) (2 ^ 60) (2 ^ 64) (omega arith) bound-one_or_star)
+bound-small G (inr (inr f)) = f
+
+bounds-small : (Ts : List Tree) (is : List ℕ) → AreSmall Ts is → (bs : List ℕ) × AreBounds (pick Ts is) bs × (sum bs ≡ 2 ^ 64 * length is)
 bounds-small Ts [] a = ([], tt, refl)
-bounds-small Ts (i ∷ is) a = let r = bounds-small Ts is a.2 in (2 ^ 60 ∷ r.0, (bound-small (tree_at Ts i) a.1, r.1), omega (arith, r.2, sum_by-cons (λ n. n) (2 ^ 60) r.0))
+bounds-small Ts (i ∷ is) a = let r = bounds-small Ts is a.2 in (2 ^ 64 ∷ r.0, (bound-small (tree_at Ts i) a.1, r.1), omega (arith, r.2, sum_by-cons (λ n. n) (2 ^ 64) r.0))
 
 pub small-ids : (Ts : List Tree) (is : List ℕ) → AreSmall Ts is → AreIds Ts is
 small-ids Ts [] a j l = absurd (omega (arith, l))
 small-ids Ts (i ∷ is) a zero l = a.0
 small-ids Ts (i ∷ is) a (suc j) l = small-ids Ts is a.2 j (omega (arith, l))
 
--- many of one game
-pub small-many : (Ts : List Tree) (i : ℕ) → IsIdOf Ts star i → (n : ℕ) → AreSmall Ts (replicate n i)
-small-many Ts i is zero = tt
-small-many Ts i is (suc n) = (is.0, inl is.1, small-many Ts i is n)
-
-pub small-bounded : (Ts : List Tree) (is : List ℕ) (u n : ℤ) → AreSmall Ts is → length is ≤ 40 → unsigned_abs n ≤ 4 → IsFraction u n 1 → IsBounded (pick Ts is) u
+pub small-bounded : (Ts : List Tree) (is : List ℕ) (u n : ℤ) → AreSmall Ts is → length is ≤ 40 → unsigned_abs n ≤ 100 → IsFraction u n 1 → IsBounded (pick Ts is) u
 small-bounded Ts is u n a few small f =
     let r = bounds-small Ts is a in
     let s = sym (unsigned_abs-mul u (pos (2 ^ 1))) ∙ ap unsigned_abs f ∙ unsigned_abs-mul n (pos (2 ^ 60)) in
@@ -81,3 +84,34 @@ star-form Ts i x is e = let z = whole-tree Ts i (pos 0) x is e ∙ num-zero 0 in
 
 pub one_or_star-form : (Ts Us : List Tree) (i j : ℕ) (x : ℤ) → IsIdOf Us (number_tree x) i → x ≡ pos 1 *ℤ pos (2 ^ 60) → Extends Ts Us → IsIdOf Ts star j → form Us (i ∷ []) (j ∷ []) ≡ choice (num 0 (pos 1)) star
 one_or_star-form Ts Us i j x is e k s = form-choice Us i j (num 0 (pos 1)) star (whole-tree Us i (pos 1) x is e) (k.same j s.0 ∙ s.1)
+
+-- the games that a number is added to
+shifted-bound : (G : Tree) (x y : ℤ) → x ≡ y *ℤ pos (2 ^ 60) → unsigned_abs y ≤ 15 → ((z : ℤ) → IsNumberOf (choice (num 0 (pos 1)) star) z ↔ IsNumberOf G (z +ℤ x)) → IsBound G (2 ^ 64)
+shifted-bound G x y e l f z n =
+    let b = bound-one_or_star (z -ℤ x) ((f (z -ℤ x)).1 (subst (IsNumberOf G) (omega (arith, ints)) n)) in
+    omega (arith, ints, b, e, l)
+
+-- each id listed is that of a small game, also after more forms
+small-kept : (Ts Us : List Tree) (is : List ℕ) → Extends Ts Us → AreSmall Ts is → AreSmall Us is
+small-kept Ts Us [] k a = tt
+small-kept Ts Us (i ∷ is) k a = (omega (arith, k.longer, a.0), subst IsSmall (sym (k.same i a.0)) a.1, small-kept Ts Us is k a.2)
+
+small-push : (Ts : List Tree) (is : List ℕ) (i : ℕ) → AreSmall Ts is → i < length Ts → IsSmall (tree_at Ts i) → AreSmall Ts (is ++ i ∷ [])
+small-push Ts [] i a l s = (l, s, tt)
+small-push Ts (j ∷ js) i a l s = (a.0, a.1, small-push Ts js i a.2 l s)
+
+-- n games so far, to each of which a number is added
+pub record ShiftedSoFar (Ts : List Tree) (game : ℕ) (is : List ℕ) (n : ℤ) : Type 0 where
+  pub game_is : IsIdOf Ts (choice (num 0 (pos 1)) star) game
+  pub small : AreSmall Ts is
+  pub count : pos (length is) ≡ n +ℤ pos 14
+  pub few : length is ≤ 30
+
+pub shifted_step : (Ts Us : List Tree) (game i : ℕ) (is : List ℕ) (n x : ℤ) → ShiftedSoFar Ts game is n → unsigned_abs n ≤ 15 → x ≡ n *ℤ pos (2 ^ 60) → Extends Ts Us → i < length Us
+    → ((z : ℤ) → IsNumberOf (tree_at Ts game) z ↔ IsNumberOf (tree_at Us i) (z +ℤ x)) → ShiftedSoFar Us game (is ++ i ∷ []) (n +ℤ pos 1)
+shifted_step Ts Us game i is n x w l e k lt f = record {
+  game_is = (omega (arith, k.longer, w.game_is.0), k.same game w.game_is.0 ∙ w.game_is.1);
+  small = small-push Us is i (small-kept Ts Us is k w.small) lt (inr (inr (shifted-bound (tree_at Us i) x n e l (subst (λ t. (z : ℤ) → IsNumberOf t z ↔ IsNumberOf (tree_at Us i) (z +ℤ x)) w.game_is.1 f))));
+  count = omega (arith, ints, w.count, length_push is i);
+  few = omega (arith, ints, w.count, l, length_push is i);
+}

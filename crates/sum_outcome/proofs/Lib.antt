@@ -4,3 +4,6 @@ pub mod Numbers
 pub mod Examples
 pub mod MemoLaws
 pub mod EqualGames
+pub mod StopSums
+pub mod StopLoop
+pub mod KeyLaws

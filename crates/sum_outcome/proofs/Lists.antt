@@ -63,7 +63,7 @@ module _ (Ts : List Tree) where
   at-pick (i ∷ is) zero G h = (omega arith, h)
   at-pick (i ∷ is) (suc k) G h = let r = at-pick is k G h in (omega (arith, r.0), r.1)
 
-  pick-put : (ids : List ℕ) (k j : ℕ) → pick Ts (set ids k j) ≡ put (pick Ts ids) k (tree_at Ts j)
+  pub pick-put : (ids : List ℕ) (k j : ℕ) → pick Ts (set ids k j) ≡ put (pick Ts ids) k (tree_at Ts j)
   pick-put [] k j = refl
   pick-put (i ∷ is) zero j = refl
   pick-put (i ∷ is) (suc k) j = ap (more (tree_at Ts i)) (pick-put is k j)

@@ -1,13 +1,14 @@
 -- Sums of small games.
-use Rattle.std.specs.Prelude.{ℕ, ◌≡◌, ◌<◌, ◌⊎◌, List, [], ◌∷◌, length, pos}
+use Rattle.std.specs.Prelude.{ℕ, ◌≡◌, ◌<◌, ◌^◌, ◌⊎◌, List, [], ◌∷◌, length, pos}
 use Rattle.game_store.specs.Tree.{Tree}
 use Rattle.game_store.specs.Number.{num}
 use Rattle.game_store.specs.Meaning.{tree_at}
+use Rattle.sum_outcome.specs.Sums.{IsBound}
 use Rattle.game_canon.specs.Examples.{choice, star}
 
--- {0|0} or {1|{0|0}}
+-- {0|0} or {1|{0|0}}, or a game whose numbers have a size of at most 16
 abbrev pub IsSmall : Tree → Type 0
-IsSmall G = (G ≡ star) ⊎ (G ≡ choice (num 0 (pos 1)) star)
+IsSmall G = (G ≡ star) ⊎ ((G ≡ choice (num 0 (pos 1)) star) ⊎ IsBound G (2 ^ 64))
 
 -- each id is that of a small game
 abbrev pub AreSmall : List Tree → List ℕ → Type 0

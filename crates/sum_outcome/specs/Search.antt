@@ -3,7 +3,10 @@ use Rattle.std.specs.Prelude.{ℕ, zero, suc, ◌≡◌, ◌<◌, List, length, 
 use Rattle.std.specs.List.{slice_index_or}
 use Rattle.go_grid.specs.declared.grid.Colour.{Colour}
 use Rattle.go_grid.specs.Grid.{other}
-use Rattle.game_store.specs.Tree.{Tree, Trees, none, more, Has}
+use Rattle.std.specs.declared.cmp.Ordering.{Ordering}
+use Rattle.std.specs.declared.cmp.Ordering.TheVariants.{Less, Equal, Greater}
+use Rattle.game_store.specs.Tree.{Tree, Trees, node, none, more, Has}
+use Rattle.game_store.specs.Order.{◌≤ᵍ◌, ◌≡ᵍ◌}
 use Rattle.game_store.specs.Sum.{◌+ᵍ◌, total}
 use Rattle.game_store.specs.Number.{IsNumberTree}
 use Rattle.game_store.specs.TextOrder.{IsCanonicalTree}
@@ -17,6 +20,12 @@ IsNonNumber G = IsCanonicalTree G × (IsNumberTree G → ⊥)
 -- some game of the ids is no number
 abbrev pub HasNonNumber : List Tree → List ℕ → Type 0
 HasNonNumber Ts ids = (k : ℕ) × (k < length ids) × IsNonNumber (tree_at Ts (slice_index_or ids k 0))
+
+-- how a game stands to 0
+abbrev pub IsSign : Ordering → Tree → Type 0
+IsSign Less G = (G ≤ᵍ node none none) × (node none none ≤ᵍ G → ⊥)
+IsSign Equal G = G ≡ᵍ node none none
+IsSign Greater G = (node none none ≤ᵍ G) × (G ≤ᵍ node none none → ⊥)
 
 -- X is a player's option of a game that is no number
 abbrev pub IsMove : Tree → Colour → Tree → Type 0

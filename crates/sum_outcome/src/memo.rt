@@ -1,57 +1,45 @@
 //! Sums that a search has decided.
 
-ghost use Rattle.std.specs.Prelude.{◌≡◌, ◌↔◌, ℤ, List, IsTrue, IfOk, IfSome};
+ghost use Rattle.std.specs.Prelude.{◌≡◌, ◌↔◌, List, IsTrue, IfOk, IfSome};
 ghost use Rattle.game_store.specs.Tree.{Tree};
 ghost use Rattle.game_canon.specs.Players.{LosesGame};
-ghost use Rattle.sum_outcome.specs.Sums.{sum_tree};
-ghost use Rattle.sum_outcome.specs.Memo.{IsAmong, AreKept, IsRight};
+ghost use Rattle.sum_outcome.specs.Memo.{key_tree, IsAmong, AreKept, IsRight};
 
-use game_store::GameId;
+use crate::key::Key;
 use go_grid::grid::Colour;
 use lru::LruCache;
 use std::alloc::{AllocError, Global};
 use std::num::NonZeroUsize;
 
-/// The sums of one player, by the ids of their games.
-type Sums = LruCache<Vec<GameId>, bool>;
+/// The sums of one player.
+type Sums = LruCache<Key, bool>;
 
-/// The games in a list of their own, unless memory is wanting.
-fn copied(alloc: Global, games: &[GameId]) -> Option<Vec<GameId>>
-    ensures { IfSome result (λ list. list.items ≡ games.now) }
+/// What is kept of a sum.
+fn look_up(sums: &Sums, key: &Key) -> Option<bool>
+    ensures { IfSome result (λ lost. IsAmong sums.now.entries key.now lost) }
 {
-    let mut list = Vec::new(alloc);
-    match list.extend_from_slice(games) {
-        Ok(()) => Some(list),
-        Err(_) => None,
-    }
+    sums.peek(key).copied()
 }
 
-/// What is kept of the games.
-fn look_up(sums: &Sums, games: &[GameId]) -> Option<bool>
-    ensures { IfSome result (λ lost. IsAmong sums.now.entries games.now lost) }
+/// Keeps an answer for a sum, or leaves it out where memory is wanting.
+fn keep(sums: &mut Sums, key: Key, lost: bool)
+    ensures { AreKept sums.old.entries key lost sums.new.entries }
 {
-    sums.peek(games).copied()
+    let _kept = sums.put(key, lost);
 }
 
-/// Keeps an answer for the games, or leaves it out where memory is wanting.
-fn keep(sums: &mut Sums, games: Vec<GameId>, lost: bool)
-    ensures { AreKept sums.old.entries games.items lost sums.new.entries }
-{
-    let _kept = sums.put(games, lost);
-}
-
-/// Sums with one number, by the ids of their games: whether the player who is to move loses. The latest stay.
+/// Whether the player who is to move loses, for sums by their keys. The latest stay.
 #[derive(Drop)]
 pub struct Memo {
     black: Sums,
     white: Sums,
-    alloc: Global,
+    pub(crate) alloc: Global,
 }
 
 impl Memo {
     /// Nothing is remembered yet; for each player there may be so many sums.
     pub(crate) fn new(alloc: Global, entries: NonZeroUsize) -> Result<Memo, AllocError>
-        ensures { IfOk result (λ memo. (Ts : List Tree) (x : ℤ) → IsRight Ts x memo) }
+        ensures { IfOk result (λ memo. (Ts : List Tree) → IsRight Ts memo) }
     {
         Ok(Memo {
             black: LruCache::new(alloc, entries)?,
@@ -62,32 +50,29 @@ impl Memo {
 
     /// Forgets all.
     pub(crate) fn clear(&mut self)
-        ensures { (Ts : List Tree) (x : ℤ) → IsRight Ts x self.new }
+        ensures { (Ts : List Tree) → IsRight Ts self.new }
     {
         self.black.clear();
         self.white.clear();
     }
 
     /// Whether the player who is to move loses, where it is remembered.
-    pub(crate) fn recall(&self, sum: &[GameId], side: Colour) -> Option<bool>
-        ensures { IfSome result (λ lost. (Ts : List Tree) (x : ℤ) → IsRight Ts x self.now → IsTrue lost ↔ LosesGame side (sum_tree Ts sum.now x)) }
+    pub(crate) fn recall(&self, key: &Key, side: Colour) -> Option<bool>
+        ensures { IfSome result (λ lost. (Ts : List Tree) → IsRight Ts self.now → IsTrue lost ↔ LosesGame side (key_tree Ts key.now)) }
     {
         match side {
-            Colour::Black => look_up(&self.black, sum),
-            Colour::White => look_up(&self.white, sum),
+            Colour::Black => look_up(&self.black, key),
+            Colour::White => look_up(&self.white, key),
         }
     }
 
     /// Remembers whether the player who is to move loses. It is left out where memory is wanting.
-    pub(crate) fn remember(&mut self, sum: &[GameId], side: Colour, lost: bool)
-        ensures { (Ts : List Tree) (x : ℤ) → (IsTrue lost ↔ LosesGame side (sum_tree Ts sum.now x)) → IsRight Ts x self.old → IsRight Ts x self.new }
+    pub(crate) fn remember(&mut self, key: Key, side: Colour, lost: bool)
+        ensures { (Ts : List Tree) → (IsTrue lost ↔ LosesGame side (key_tree Ts key)) → IsRight Ts self.old → IsRight Ts self.new }
     {
-        let Some(games) = copied(self.alloc, sum) else {
-            return;
-        };
         match side {
-            Colour::Black => keep(&mut self.black, games, lost),
-            Colour::White => keep(&mut self.white, games, lost),
+            Colour::Black => keep(&mut self.black, key, lost),
+            Colour::White => keep(&mut self.white, key, lost),
         }
     }
 }

@@ -1,45 +1,69 @@
-//! The plain search of a sum: each move in each game that is no number. Beside such a game no move in a number is needed
-//! (number avoidance, Conway).
+//! The search of a sum. Where stops don't tell who loses, it tries each move in each game that is no number. Beside such a
+//! game no move in a number is needed (number avoidance, Conway).
 
 ghost use Rattle.std.specs.Prelude.{◌≡◌, ◌<◌, ◌↔◌, ℤ, length, IsTrue, MatchOption};
 ghost use Rattle.std.specs.List.{slice_index_or};
 ghost use Rattle.game_store.specs.Tree.{Tree, Has};
-ghost use Rattle.game_store.specs.Order.{◌≡ᵍ◌};
-ghost use Rattle.game_store.specs.Meaning.{tree_at, pick, number_tree, AreIds, AreBelow};
+ghost use Rattle.game_store.specs.Number.{IsNumberTree};
+ghost use Rattle.game_store.specs.TextOrder.{IsCanonicalTree};
+ghost use Rattle.game_store.specs.Meaning.{tree_at, pick, AreIds, AreBelow};
 ghost use Rattle.game_canon.specs.Players.{LosesGame};
 ghost use Rattle.sum_outcome.specs.Sums.{sum_tree, IsBounded};
 ghost use Rattle.sum_outcome.specs.Memo.{IsRight};
-ghost use Rattle.sum_outcome.specs.Search.{HasNonNumber, IsMove, StoodBefore, WinsAt};
+ghost use Rattle.sum_outcome.specs.Search.{HasNonNumber, IsSign, IsMove, StoodBefore, WinsAt};
 
+use crate::key::key_of;
 use crate::memo::Memo;
 use dyadic_num::Dyadic;
+use game_stops::{left_stop, right_stop};
 use game_store::{Form, GameId, Store};
 use go_grid::grid::Colour;
+use std::cmp::Ordering;
 
-/// Whether a player who is to move loses a number, in parts of 2^-60.
-fn loses_number(value: i128, side: Colour) -> bool
-    ensures { IsTrue result ↔ LosesGame side (number_tree value) }
+/// Whether a player who is to move loses a game of this sign.
+fn loses_at(sign: Ordering, side: Colour) -> bool
+    ensures { (G : Tree) → IsSign sign G → IsTrue result ↔ LosesGame side G }
 {
     match side {
-        Colour::Black => value <= 0,
-        Colour::White => value >= 0,
+        Colour::Black => sign.is_le(),
+        Colour::White => sign.is_ge(),
     }
 }
 
-/// The value of the sum in parts of 2^-60, where all its games are numbers.
-fn sum_of_numbers(store: &Store, sum: &[GameId], number: Dyadic) -> Option<i128>
+/// Whether the game is a number.
+fn is_number(store: &Store, id: GameId) -> bool
+    requires { id < length store.now }
+    ensures number { IsTrue result ↔ IsNumberTree (tree_at store.now id) }
+    ensures canonical { IsCanonicalTree (tree_at store.now id) }
+{
+    match store.node(id) {
+        Form::Number(_) => true,
+        Form::Options { .. } => false,
+    }
+}
+
+/// The sign of the sum where its stops tell it: it is above 0 where the right stops and the number add up to more, and
+/// below 0 where the left stops and the number add up to less. Of numbers alone the stops are the sum.
+fn sign_by_stops(store: &Store, sum: &[GameId], number: Dyadic) -> Option<Ordering>
     requires ids { AreIds store.now sum.now }
     requires bounds { IsBounded (pick store.now sum.now) number }
-    ensures { MatchOption result (HasNonNumber store.now sum.now) (λ value. sum_tree store.now sum.now number ≡ᵍ number_tree value) }
+    ensures { MatchOption result (HasNonNumber store.now sum.now) (λ sign. IsSign sign (sum_tree store.now sum.now number)) }
 {
-    let mut total = number.units();
+    let mut low = number.units();
+    let mut high = number.units();
+    let mut numbers = true;
     'adding: for id in sum {
-        match store.node(*id) {
-            Form::Number(x) => total += x.units(),
-            Form::Options { .. } => return None,
-        }
+        low += right_stop(store, *id).units();
+        high += left_stop(store, *id).units();
+        numbers &= is_number(store, *id);
     }
-    Some(total)
+    if low > 0 {
+        return Some(Ordering::Greater);
+    }
+    if high < 0 {
+        return Some(Ordering::Less);
+    }
+    if numbers { Some(Ordering::Equal) } else { None }
 }
 
 /// A player's options of a game, and none of a number.
@@ -66,19 +90,22 @@ pub(crate) fn loses_sum(
 ) -> bool
     requires ids { AreIds store.now sum.old }
     requires bounds { IsBounded (pick store.now sum.old) number }
-    requires right { IsRight store.now number memo.old }
+    requires right { IsRight store.now memo.old }
     ensures same { sum.new ≡ sum.old }
     ensures answer { IsTrue result ↔ LosesGame side (sum_tree store.now sum.old number) }
-    ensures right { IsRight store.now number memo.new }
+    ensures right { IsRight store.now memo.new }
 {
-    if let Some(value) = sum_of_numbers(store, sum, number) {
-        return loses_number(value, side);
+    if let Some(sign) = sign_by_stops(store, sum, number) {
+        return loses_at(sign, side);
     }
-    if let Some(lost) = memo.recall(sum, side) {
+    let Some(key) = key_of(memo.alloc, store, sum, number) else {
+        return loses_by_moves(store, memo, sum, number, side);
+    };
+    if let Some(lost) = memo.recall(&key, side) {
         return lost;
     }
     let lost = loses_by_moves(store, memo, sum, number, side);
-    memo.remember(sum, side, lost);
+    memo.remember(key, side, lost);
     lost
 }
 
@@ -102,10 +129,10 @@ fn loses_by_moves(
     requires ids { AreIds store.now sum.old }
     requires bounds { IsBounded (pick store.now sum.old) number }
     requires hot { HasNonNumber store.now sum.old }
-    requires right { IsRight store.now number memo.old }
+    requires right { IsRight store.now memo.old }
     ensures same { sum.new ≡ sum.old }
     ensures answer { IsTrue result ↔ LosesGame side (sum_tree store.now sum.old number) }
-    ensures right { IsRight store.now number memo.new }
+    ensures right { IsRight store.now memo.new }
 {
     'places: for place in 0..sum.len() {
         if is_repeated(sum, place) {
@@ -131,10 +158,10 @@ fn wins_at(
     requires ids { AreIds store.now sum.old }
     requires bounds { IsBounded (pick store.now sum.old) number }
     requires place { place < length sum.old }
-    requires right { IsRight store.now number memo.old }
+    requires right { IsRight store.now memo.old }
     ensures same { sum.new ≡ sum.old }
     ensures answer { IsTrue result ↔ WinsAt store.now sum.old number side place }
-    ensures right { IsRight store.now number memo.new }
+    ensures right { IsRight store.now memo.new }
 {
     let id = sum[place];
     let options = moves(store, id, side);

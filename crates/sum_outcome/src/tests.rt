@@ -1,16 +1,17 @@
 //! Who loses sums of small games.
 
-ghost use Rattle.std.specs.Prelude.{◌≤◌, ◌^◌, pos, length, unsigned_abs, IfOk};
+ghost use Rattle.std.specs.Prelude.{◌≡◌, ◌<◌, ◌≤◌, ◌^◌, pos, length, unsigned_abs, IfOk, IfSome};
 ghost use Rattle.game_store.specs.Number.{num};
-ghost use Rattle.game_store.specs.Meaning.{IsIdOf, Extends};
+ghost use Rattle.game_store.specs.Meaning.{tree_at, IsIdOf, Extends};
 ghost use Rattle.game_canon.specs.Examples.{choice, star as the_star};
-ghost use Rattle.sum_outcome.specs.Examples.{AreSmall};
+ghost use Rattle.sum_outcome.specs.Examples.{IsSmall, AreSmall};
 
 use crate::Search;
 use dyadic_num::Dyadic;
+use game_canon::add_number;
 use game_store::{GameId, Store};
 use go_grid::grid::Colour;
-use std::alloc::AllocError;
+use std::alloc::{AllocError, Global};
 use std::test::Fail;
 
 /// The game `{0|0}`.
@@ -42,7 +43,8 @@ fn loses(
 ) -> Option<bool>
     requires games { AreSmall store.now sum.old }
     requires few { length sum.old ≤ 40 }
-    requires halves { unsigned_abs halves ≤ 4 }
+    requires halves { unsigned_abs halves ≤ 100 }
+    ensures { sum.new ≡ sum.old }
 {
     let number = Dyadic::part(halves, 1)?;
     Some(search.loses(store, sum, number, side))
@@ -82,12 +84,19 @@ fn sums(rt: HostRuntime) -> Result<(), Fail> {
     Ok(())
 }
 
-/// Whether Black, who is to move, loses 40 times a game, and 39 times.
-fn loses_many(search: &mut Search, store: &Store, star: GameId) -> (Option<bool>, Option<bool>)
-    requires { IsIdOf store.now the_star star }
+/// Whether Black, who is to move, loses 40 times a game with so many halves, and 39 times.
+fn loses_many(
+    search: &mut Search,
+    store: &Store,
+    game: GameId,
+    halves: i128,
+) -> (Option<bool>, Option<bool>)
+    requires game { game < length store.now }
+    requires small { IsSmall (tree_at store.now game) }
+    requires halves { unsigned_abs halves ≤ 100 }
 {
-    let even = loses(search, store, &mut [star; 40], 0, Colour::Black);
-    let odd = loses(search, store, &mut [star; 39], 0, Colour::Black);
+    let even = loses(search, store, &mut [game; 40], halves, Colour::Black);
+    let odd = loses(search, store, &mut [game; 39], halves, Colour::Black);
     (even, odd)
 }
 
@@ -96,10 +105,62 @@ fn many_games(rt: HostRuntime) -> Result<(), Fail> {
     let alloc = rt.alloc();
     let mut store = Store::new(alloc);
     let star = star(&mut store)?;
-    let mut search = Search::new(alloc, 1000)?;
+    let other = one_or_star(&mut store, star)?;
+    let mut search = Search::new(alloc, 10000)?;
     assert_eq!(&rt;
-        loses_many(&mut search, &store, star),
+        loses_many(&mut search, &store, star, 0),
         (Some(true), Some(false))
+    );
+    assert_eq!(&rt;
+        loses_many(&mut search, &store, other, -40),
+        (Some(true), Some(true))
+    );
+    assert_eq!(&rt;
+        loses_many(&mut search, &store, other, -39),
+        (Some(false), Some(false))
+    );
+    Ok(())
+}
+
+/// The game with each whole number from -14 to 15 added to it.
+fn shifted(alloc: Global, store: &mut Store, game: GameId) -> Option<Vec<GameId>>
+    requires { IsIdOf store.old (choice (num 0 (pos 1)) the_star) game }
+    ensures { IfSome result (λ games. AreSmall store.new games.items × (length games.items ≡ 30)) }
+{
+    let mut games = Vec::new(alloc);
+    'adding: for n in -14..16 {
+        let Ok(sum) = add_number(alloc, store, game, Dyadic::whole(n)) else {
+            return None;
+        };
+        let Ok(()) = games.push(sum) else {
+            return None;
+        };
+    }
+    Some(games)
+}
+
+/// Whether White loses by moving first, and whether Black does, where stops of different games leave 13 and -5.
+fn lose_by_stops(search: &mut Search, store: &Store, sum: &mut [GameId]) -> [Option<bool>; 2]
+    requires games { AreSmall store.now sum.old }
+    requires few { length sum.old ≤ 40 }
+{
+    [
+        loses(search, store, sum, -4, Colour::White),
+        loses(search, store, sum, -100, Colour::Black),
+    ]
+}
+
+#[test]
+fn different_games(rt: HostRuntime) -> Result<(), Fail> {
+    let alloc = rt.alloc();
+    let mut store = Store::new(alloc);
+    let star = star(&mut store)?;
+    let game = one_or_star(&mut store, star)?;
+    let mut search = Search::new(alloc, 1)?;
+    let mut games = shifted(alloc, &mut store, game).expect(&rt, "memory");
+    assert_eq!(&rt;
+        lose_by_stops(&mut search, &store, &mut games),
+        [Some(true), Some(true)]
     );
     Ok(())
 }

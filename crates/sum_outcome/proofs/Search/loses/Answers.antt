@@ -1,4 +1,4 @@
 use Rattle.sum_outcome.proofs.Search.loses.Goals as goal
 
 pub loses_sum-requires-clause-right : goal.loses_sum-requires-clause-right
-loses_sum-requires-clause-right c = c.clear.ensures c.args.store.now c.args.number
+loses_sum-requires-clause-right c = c.clear.ensures c.args.store.now

@@ -1,26 +1,25 @@
-use Rattle.std.proofs.Common.{arith, refl, rules, ap, ◌∙◌, ◌≡◌, ◌<◌, ℕ, List, get_or, set, below_more}
-use mir.Val.{SFits}
-use mir.Syntax.{w128}
+use Rattle.std.proofs.Common.{arith, refl, ap, ◌∙◌, ◌≡◌, ◌<◌, ℕ, List, get_or, set, below_more}
 use Rattle.std.proofs.lemmas.Bool.{false≢true, both_ways}
-use Rattle.std.proofs.lemmas.Int.{to_z-of_z}
 use Rattle.go_grid.specs.Grid.{other}
 use Rattle.game_canon.specs.Players.{LosesGame}
-use Rattle.game_canon.proofs.PlayerLaws.{loses-same, same-sym}
-use Rattle.game_store.specs.Meaning.{number_tree}
 use Rattle.sum_outcome.specs.Sums.{sum_tree}
 use Rattle.sum_outcome.specs.Search.{WinsAt}
 use Rattle.sum_outcome.proofs.EqualGames.{wins_elsewhere}
+use Rattle.sum_outcome.proofs.MemoLaws.{from_key, to_key}
 use Rattle.sum_outcome.proofs.Lists.{put_back, falls_put, ids_put, loses_all, wins_one, bounded_put, wins_by_option, wins_by_none}
 use Rattle.sum_outcome.proofs.outcome.+search.Goals as goal
 
 pub loses_sum-returns-in-Some-clause-answer : goal.loses_sum-returns-in-Some-clause-answer
-loses_sum-returns-in-Some-clause-answer t c =
-    let f : SFits w128 c.in-Some.value = search rules in
-    let whole = sum_tree c.args.store.now c.args.sum.now c.args.number in
-    let l = rw (to_z-of_z w128 c.in-Some.value f) at c.loses_number.ensures in (
-      λ e. loses-same c.args.side (number_tree c.in-Some.value) whole (same-sym whole (number_tree c.in-Some.value) c.in-Some.ensures) (l.0 e),
-      λ h. l.1 (loses-same c.args.side whole (number_tree c.in-Some.value) c.in-Some.ensures h),
-    )
+loses_sum-returns-in-Some-clause-answer t c = c.loses_at.ensures (sum_tree c.args.store.now c.args.sum.now c.args.number) c.in-Some.ensures
+
+pub loses_sum-returns-in-Some-recall-clause-answer : goal.loses_sum-returns-in-Some-recall-clause-answer
+loses_sum-returns-in-Some-recall-clause-answer t c =
+    from_key c.args.store.now c.args.sum.now c.args.number c.args.side c.in-Some-key_of.key c.in-Some-recall.lost (c.in-Some-key_of.ensures {u = tt}) (c.in-Some-recall.ensures {u = tt} c.args.store.now c.requires.right)
+
+pub loses_sum-returns-clause-right : goal.loses_sum-returns-clause-right
+loses_sum-returns-clause-right t c =
+    let a = c.loses_by_moves-lost.ensures in
+    c.remember.ensures c.args.store.now (to_key c.args.store.now c.args.sum.now c.args.number c.args.side c.in-Some-key_of.key c.loses_by_moves-lost.result (c.in-Some-key_of.ensures {u = tt}) a.answer) a.right
 
 pub loses_by_moves-returns-then-wins_at-clause-answer : goal.loses_by_moves-returns-then-wins_at-clause-answer
 loses_by_moves-returns-then-wins_at-clause-answer t c =

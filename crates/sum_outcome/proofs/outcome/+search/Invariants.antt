@@ -16,9 +16,9 @@ abbrev pub decreases-wins_at : goal.decreases-wins_at
 decreases-wins_at l = 3 * sum l.sum.now
 
 abbrev pub invariant-loses_by_moves-places : goal.invariant-loses_by_moves-places
-invariant-loses_by_moves-places l = (l.sum ≡ l.fn.sum) × ((k : ℕ) → k < l.place → WinsAt l.store l.fn.sum l.number l.side k → ⊥) × IsRight l.store l.number l.memo
+invariant-loses_by_moves-places l = (l.sum ≡ l.fn.sum) × ((k : ℕ) → k < l.place → WinsAt l.store l.fn.sum l.number l.side k → ⊥) × IsRight l.store l.memo
 
 abbrev pub invariant-wins_at-options : goal.invariant-wins_at-options
 invariant-wins_at-options l = (l.sum ≡ l.fn.sum)
     × ((j : ℕ) → j < l.option-index → LosesGame (other l.side) (sum_tree l.store (set l.fn.sum l.place (get_or l.options j 0)) l.number) → ⊥)
-    × IsRight l.store l.number l.memo
+    × IsRight l.store l.memo
