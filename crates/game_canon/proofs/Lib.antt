@@ -17,3 +17,8 @@ pub mod ChangeLaws
 pub mod ChangeSteps
 pub mod NumberParts
 pub mod ReachableLaws
+pub mod IncentiveLaws
+pub mod SumMoves
+pub mod SumBounds
+pub mod SumWaiting
+pub mod SumCancelling

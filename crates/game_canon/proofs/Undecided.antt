@@ -4,15 +4,15 @@ use Rattle.std.specs.Prelude.{Option}
 use Rattle.std.proofs.lemmas.Bool.{cases_lt}
 use Rattle.std.proofs.lemmas.Nat.{mul-add-lt}
 
-abbrev row : (ℕ → ℕ) → ℕ → ℕ
+abbrev pub row : (ℕ → ℕ) → ℕ → ℕ
 row f zero = 0
 row f (suc n) = f n + row f n
 
-row-le : (f g : ℕ → ℕ) (n : ℕ) → ((j : ℕ) → g j ≤ f j) → row g n ≤ row f n
+pub row-le : (f g : ℕ → ℕ) (n : ℕ) → ((j : ℕ) → g j ≤ f j) → row g n ≤ row f n
 row-le f g zero h = omega arith
 row-le f g (suc n) h = omega (arith, h n, row-le f g n h)
 
-row-lt : (f g : ℕ → ℕ) (n k : ℕ) → ((j : ℕ) → g j ≤ f j) → k < n → g k < f k → row g n < row f n
+pub row-lt : (f g : ℕ → ℕ) (n k : ℕ) → ((j : ℕ) → g j ≤ f j) → k < n → g k < f k → row g n < row f n
 row-lt f g zero k h l m = absurd (omega (arith, l))
 row-lt f g (suc n) k h l m = elim (cases_lt k n) [
   | inl d ↦ omega (arith, h n, row-lt f g n k h d m)

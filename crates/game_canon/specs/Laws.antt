@@ -57,3 +57,15 @@ TextsAreOneToOne = (G H : Tree) → tree_text G ≡ tree_text H → G ≡ H
 -- each tree has exactly one canonical tree that is equal to it
 abbrev pub EachHasCanonical : Type 0
 EachHasCanonical = (G : Tree) → (C : Tree) × IsCanonicalFor G C × ((D : Tree) → IsCanonicalFor G D → C ≡ D)
+
+-- the incentive of an option G' of G is G' - G
+abbrev pub incentive : Tree → Tree → Tree
+incentive G G' = G' +ᵍ neg G
+
+-- Where the incentive of an option H' of H is at most that of an option G' of G, it is dominated by it: to move to G'
+-- and leave H is at least as good as to leave G and move to H'. And the other way round
+abbrev pub IncentiveDominates : Type 0
+IncentiveDominates = (G G' H H' : Tree) → incentive H H' ≤ᵍ incentive G G' → G +ᵍ H' ≤ᵍ G' +ᵍ H
+
+abbrev pub IncentiveDominatesBack : Type 0
+IncentiveDominatesBack = (G G' H H' : Tree) → G +ᵍ H' ≤ᵍ G' +ᵍ H → incentive H H' ≤ᵍ incentive G G'

@@ -11,3 +11,4 @@ pub mod Examples
 pub mod Players
 pub mod Changes
 pub mod Reachable
+pub mod SumComparisons

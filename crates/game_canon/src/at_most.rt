@@ -30,7 +30,7 @@ pub(crate) enum Step {
 }
 
 /// Whether `x` is at most `y`.
-fn is_within(x: i128, y: i128) -> bool
+pub(crate) fn is_within(x: i128, y: i128) -> bool
     ensures { IsTrue result ↔ (x ≤ℤ y) }
 {
     x <= y

@@ -1,6 +1,6 @@
 //! Laws of games, each the contract of a function that does nothing.
 
-ghost use Rattle.game_canon.specs.Laws.{OrderIs, IsReflexive, IsTransitive, SumsKeepOrder, CancelsNegative, LeftAvoidsNumbers, RightAvoidsNumbers, IsUnderLeftStop, IsOverRightStop, StopsAreOrdered, TextsAreOneToOne, EachHasCanonical};
+ghost use Rattle.game_canon.specs.Laws.{OrderIs, IsReflexive, IsTransitive, SumsKeepOrder, CancelsNegative, LeftAvoidsNumbers, RightAvoidsNumbers, IsUnderLeftStop, IsOverRightStop, StopsAreOrdered, TextsAreOneToOne, EachHasCanonical, IncentiveDominates, IncentiveDominatesBack};
 
 /// The order of games is a preorder that sums keep, and each game cancels its negative (Conway).
 pub fn order_laws()
@@ -32,4 +32,11 @@ pub fn text_law()
 /// Each game has exactly one canonical form (Conway).
 pub fn canonical_law()
     ensures { EachHasCanonical }
+{}
+
+/// Dominated incentives: the incentive of one game's option is at least that of another game's option exactly where to
+/// move to the one and leave the other game is at least as good as the other way round.
+pub fn incentive_law()
+    ensures dominated { IncentiveDominates }
+    ensures back { IncentiveDominatesBack }
 {}

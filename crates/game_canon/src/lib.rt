@@ -12,6 +12,9 @@ mod followers;
 mod form;
 mod games;
 mod ids;
+#[cfg(test)]
+mod incentive_tests;
+mod incentives;
 mod laws;
 mod negation;
 mod order;
@@ -19,6 +22,8 @@ mod reach;
 mod reduction;
 mod reversal;
 mod side;
+mod sums;
+mod sums_at_most;
 #[cfg(test)]
 mod tests;
 mod thresholds;
@@ -29,7 +34,8 @@ mod translation_tests;
 pub use errors::FormError;
 pub use followers::parts;
 pub use form::canonical;
-pub use laws::{canonical_law, number_avoidance, order_laws, stop_laws, text_law};
+pub use incentives::incentive_at_least;
+pub use laws::{canonical_law, incentive_law, number_avoidance, order_laws, stop_laws, text_law};
 pub use negation::negate;
 pub use order::{Order, compare};
 pub use reach::reachable;

@@ -7,12 +7,17 @@ use std::alloc::Global;
 use std::rt::HostRuntime;
 
 /// The id of a fraction.
-fn fraction(store: &mut Store, numerator: i128, exponent: u8) -> Option<GameId> {
+pub(crate) fn fraction(store: &mut Store, numerator: i128, exponent: u8) -> Option<GameId> {
     store.number(Dyadic::part(numerator, exponent)?).ok()
 }
 
 /// The canonical form with one option on each side, or none where an id isn't the store's.
-fn choice(alloc: Global, store: &mut Store, left: GameId, right: GameId) -> Option<GameId> {
+pub(crate) fn choice(
+    alloc: Global,
+    store: &mut Store,
+    left: GameId,
+    right: GameId,
+) -> Option<GameId> {
     if left >= store.len() {
         return None;
     }

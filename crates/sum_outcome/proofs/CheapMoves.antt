@@ -26,7 +26,7 @@ IsAt (more H Hs) zero G = H ≡ G
 IsAt (more H Hs) (suc k) G = IsAt Hs k G
 
 -- the first game is no better for the player than the second
-abbrev NoBetter : Colour → Tree → Tree → Type 0
+abbrev pub NoBetter : Colour → Tree → Tree → Type 0
 NoBetter Black G H = G ≤ᵍ H
 NoBetter White G H = H ≤ᵍ G
 
@@ -42,23 +42,23 @@ abbrev with_number : Tree → ℤ → Tree
 with_number G x = G +ᵍ number_tree x
 
 -- laws of NoBetter
-same-no_better : (c : Colour) (G H : Tree) → G ≡ᵍ H → NoBetter c G H
+pub same-no_better : (c : Colour) (G H : Tree) → G ≡ᵍ H → NoBetter c G H
 same-no_better Black G H e = e.0
 same-no_better White G H e = e.1
 
-no_better-trans : (c : Colour) (G H K : Tree) → NoBetter c G H → NoBetter c H K → NoBetter c G K
+pub no_better-trans : (c : Colour) (G H K : Tree) → NoBetter c G H → NoBetter c H K → NoBetter c G K
 no_better-trans Black G H K p q = le-trans G H K p q
 no_better-trans White G H K p q = le-trans K H G q p
 
-no_better-plus : (c : Colour) (G H K : Tree) → NoBetter c G H → NoBetter c (G +ᵍ K) (H +ᵍ K)
+pub no_better-plus : (c : Colour) (G H K : Tree) → NoBetter c G H → NoBetter c (G +ᵍ K) (H +ᵍ K)
 no_better-plus Black G H K p = plus-le G H K p
 no_better-plus White G H K p = plus-le H G K p
 
-no_better-cancel : (c : Colour) (G H K : Tree) → NoBetter c (G +ᵍ K) (H +ᵍ K) → NoBetter c G H
+pub no_better-cancel : (c : Colour) (G H K : Tree) → NoBetter c (G +ᵍ K) (H +ᵍ K) → NoBetter c G H
 no_better-cancel Black G H K p = plus-cancel G H K p
 no_better-cancel White G H K p = plus-cancel H G K p
 
-wins-better : (c : Colour) (G H : Tree) → NoBetter c G H → LosesGame (other c) G → LosesGame (other c) H
+pub wins-better : (c : Colour) (G H : Tree) → NoBetter c G H → LosesGame (other c) G → LosesGame (other c) H
 wins-better Black G H p l = le-trans nought G H l p
 wins-better White G H p l = le-trans H G nought p l
 
@@ -109,7 +109,7 @@ put-total (more H Hs) (suc k) G X h = same-trans _ _ _
     (same-path _ _ (plus-assoc H (total (put Hs k X)) G))
     (same-trans _ _ _ (same-plus _ _ _ _ (same-refl H) (put-total Hs k G X h)) (same-path _ _ (sym (plus-assoc H (total Hs) X))))
 
-put-option : (c : Colour) (Gs : Trees) (k : ℕ) (G X : Tree) → IsAt Gs k G → Has (options c G) X → Has (options c (total Gs)) (total (put Gs k X))
+pub put-option : (c : Colour) (Gs : Trees) (k : ℕ) (G X : Tree) → IsAt Gs k G → Has (options c G) X → Has (options c (total Gs)) (total (put Gs k X))
 unfolding total
 put-option c none k G X h x = absurd h
 put-option c (more H Hs) zero G X h x = option_in_first c H (total Hs) X (rw h x)

@@ -3,7 +3,7 @@ pub mod Lists
 pub mod Numbers
 pub mod Examples
 pub mod MemoLaws
-pub mod EqualGames
 pub mod StopSums
 pub mod StopLoop
 pub mod KeyLaws
+pub mod Domination

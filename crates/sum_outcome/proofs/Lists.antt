@@ -12,7 +12,7 @@ use Rattle.game_store.specs.Number.{IsNumberTree}
 use Rattle.game_store.specs.Parts.{IsOption}
 use Rattle.game_store.specs.TextOrder.{sorted}
 use Rattle.game_store.specs.Meaning.{tree_at, pick, number_tree, AreIds}
-use Rattle.game_store.proofs.Values.{has-pick, pick-has}
+use Rattle.game_store.proofs.Values.{pick-has}
 use Rattle.game_store.proofs.TextOrderLaws.{sorted-has, has-sorted}
 use Rattle.game_store.proofs.PartLaws.{option-numbers}
 use Rattle.game_canon.specs.Players.{options, LosesGame}
@@ -88,9 +88,3 @@ module _ (Ts : List Tree) where
       (moves (tree_at Ts (get_or os j 0))).0 (pick-has Ts os j l),
       subst (λ t. LosesGame (other c) (total t +ᵍ number_tree x)) (pick-put ids k (get_or os j 0)) w,
     )
-
-    pub wins_by_none : ((j : ℕ) → j < length os → LosesGame (other c) (sum_tree Ts (set ids k (get_or os j 0)) x) → ⊥) → WinsAt Ts ids x c k → ⊥
-    wins_by_none fails w =
-        let r = has-pick Ts os w.0 ((moves w.0).1 w.1) in
-        fails r.0 r.1 (subst (λ t. LosesGame (other c) (total t +ᵍ number_tree x)) (sym (pick-put ids k (get_or os r.0 0)))
-        (subst (λ t. LosesGame (other c) (total (put (pick Ts ids) k t) +ᵍ number_tree x)) r.2 w.2))

@@ -2,3 +2,4 @@ pub mod Sums
 pub mod Search
 pub mod Examples
 pub mod Memo
+pub mod Incentives

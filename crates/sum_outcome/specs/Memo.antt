@@ -6,6 +6,7 @@ use Rattle.game_store.specs.Tree.{Tree}
 use Rattle.game_store.specs.Order.{◌≡ᵍ◌}
 use Rattle.game_canon.specs.Players.{LosesGame}
 use Rattle.sum_outcome.specs.Sums.{sum_tree}
+use Rattle.sum_outcome.specs.Incentives.{recalled_incentives, AreIncentivesRight}
 use Rattle.sum_outcome.specs.declared.key.Key.{Key}
 use Rattle.sum_outcome.specs.declared.memo.Memo.{Memo}
 
@@ -36,3 +37,4 @@ AreAnswers Ts c entries = (e : Key × Bool) → Contains entries e → IsTrue e.
 pub record IsRight (Ts : List Tree) (memo : Memo) : Type 0 where
   pub black : AreAnswers Ts Black memo.black.entries
   pub white : AreAnswers Ts White memo.white.entries
+  pub incentives : AreIncentivesRight Ts (recalled_incentives memo.incentives)

@@ -6,6 +6,7 @@ ghost use Rattle.game_store.specs.Meaning.{pick, AreIds};
 ghost use Rattle.game_canon.specs.Players.{LosesGame};
 ghost use Rattle.sum_outcome.specs.Sums.{sum_tree, IsBounded};
 
+mod incentives;
 mod key;
 mod memo;
 mod outcome;

@@ -5,8 +5,10 @@ ghost use Rattle.game_store.specs.Tree.{Tree};
 ghost use Rattle.game_canon.specs.Players.{LosesGame};
 ghost use Rattle.sum_outcome.specs.Memo.{key_tree, IsAmong, AreKept, IsRight};
 
+use crate::incentives::Incentives;
 use crate::key::Key;
 use go_grid::grid::Colour;
+use indexmap::IndexMap;
 use lru::LruCache;
 use std::alloc::{AllocError, Global};
 use std::num::NonZeroUsize;
@@ -28,11 +30,13 @@ fn keep(sums: &mut Sums, key: Key, lost: bool)
     let _kept = sums.put(key, lost);
 }
 
-/// Whether the player who is to move loses, for sums by their keys. The latest stay.
+/// Whether the player who is to move loses, for sums by their keys, of which the latest stay, and which moves are as good as
+/// others.
 #[derive(Drop)]
 pub struct Memo {
     black: Sums,
     white: Sums,
+    pub(crate) incentives: Incentives,
     pub(crate) alloc: Global,
 }
 
@@ -44,6 +48,7 @@ impl Memo {
         Ok(Memo {
             black: LruCache::new(alloc, entries)?,
             white: LruCache::new(alloc, entries)?,
+            incentives: IndexMap::new(alloc),
             alloc,
         })
     }
@@ -54,6 +59,7 @@ impl Memo {
     {
         self.black.clear();
         self.white.clear();
+        self.incentives.clear();
     }
 
     /// Whether the player who is to move loses, where it is remembered.

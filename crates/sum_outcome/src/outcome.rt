@@ -1,17 +1,19 @@
-//! The search of a sum. Where stops don't tell who loses, it tries each move in each game that is no number. Beside such a
-//! game no move in a number is needed (number avoidance, Conway).
+//! The search of a sum. Where stops don't tell who loses, it tries moves in the games that are no numbers. Beside such a
+//! game no move in a number is needed (number avoidance, Conway), and none whose incentive one in another game dominates.
 
-ghost use Rattle.std.specs.Prelude.{◌≡◌, ◌<◌, ◌↔◌, ℤ, length, IsTrue, MatchOption};
-ghost use Rattle.std.specs.List.{slice_index_or};
+ghost use Rattle.std.specs.Prelude.{◌≡◌, ◌<◌, ◌↔◌, length, IsTrue, MatchOption};
+ghost use Rattle.std.specs.Bool.{OnFalse};
 ghost use Rattle.game_store.specs.Tree.{Tree, Has};
 ghost use Rattle.game_store.specs.Number.{IsNumberTree};
 ghost use Rattle.game_store.specs.TextOrder.{IsCanonicalTree};
-ghost use Rattle.game_store.specs.Meaning.{tree_at, pick, AreIds, AreBelow};
+ghost use Rattle.game_store.specs.Meaning.{tree_at, pick, AreIds};
 ghost use Rattle.game_canon.specs.Players.{LosesGame};
 ghost use Rattle.sum_outcome.specs.Sums.{sum_tree, IsBounded};
 ghost use Rattle.sum_outcome.specs.Memo.{IsRight};
-ghost use Rattle.sum_outcome.specs.Search.{HasNonNumber, IsSign, IsMove, StoodBefore, WinsAt};
+ghost use Rattle.sum_outcome.specs.Incentives.{IsSettled};
+ghost use Rattle.sum_outcome.specs.Search.{HasNonNumber, IsSign, WinsAt};
 
+use crate::incentives::{is_dominated, is_repeated, moves};
 use crate::key::key_of;
 use crate::memo::Memo;
 use dyadic_num::Dyadic;
@@ -66,19 +68,6 @@ fn sign_by_stops(store: &Store, sum: &[GameId], number: Dyadic) -> Option<Orderi
     if numbers { Some(Ordering::Equal) } else { None }
 }
 
-/// A player's options of a game, and none of a number.
-fn moves(store: &Store, id: GameId, side: Colour) -> &[GameId]
-    requires { id < length store.now }
-    ensures below { AreBelow id result.now }
-    ensures options { (X : Tree) → Has (pick store.now result.now) X ↔ IsMove (tree_at store.now id) side X }
-{
-    match (store.node(id), side) {
-        (Form::Number(_), _) => &[],
-        (Form::Options { left, .. }, Colour::Black) => left,
-        (Form::Options { right, .. }, Colour::White) => right,
-    }
-}
-
 /// Whether a player who is to move loses the sum. What is decided is remembered.
 #[cycle(search)]
 pub(crate) fn loses_sum(
@@ -109,15 +98,8 @@ pub(crate) fn loses_sum(
     lost
 }
 
-/// Whether the game at a place stands at an earlier one too.
-fn is_repeated(sum: &[GameId], place: usize) -> bool
-    requires { place < length sum.now }
-    ensures { IsTrue result ↔ StoodBefore sum.now place }
-{
-    sum[..place].contains(&sum[place])
-}
-
-/// Whether no move in a game that is no number wins. Of equal games the first is enough.
+/// Whether no move in a game that is no number wins. Of equal games the first is enough, and moves that others dominate are
+/// left out.
 #[cycle(search)]
 fn loses_by_moves(
     store: &Store,
@@ -145,7 +127,8 @@ fn loses_by_moves(
     true
 }
 
-/// Whether a player who is to move wins by a move in the game at a place, which is no number.
+/// Whether a player who is to move wins by a move in the game at a place, which is no number. Moves that others dominate are
+/// left to those.
 #[cycle(search)]
 fn wins_at(
     store: &Store,
@@ -160,12 +143,24 @@ fn wins_at(
     requires place { place < length sum.old }
     requires right { IsRight store.now memo.old }
     ensures same { sum.new ≡ sum.old }
-    ensures answer { IsTrue result ↔ WinsAt store.now sum.old number side place }
+    ensures wins { IsTrue result → WinsAt store.now sum.old number side place }
+    ensures settled { OnFalse result (IsSettled store.now sum.old number side place) }
     ensures right { IsRight store.now memo.new }
 {
     let id = sum[place];
     let options = moves(store, id, side);
     'options: for option in options {
+        if is_dominated(
+            memo.alloc,
+            store,
+            &mut memo.incentives,
+            sum,
+            place,
+            *option,
+            side,
+        ) {
+            continue;
+        }
         sum[place] = *option;
         let lost = loses_sum(store, memo, sum, number, side.other());
         sum[place] = id;

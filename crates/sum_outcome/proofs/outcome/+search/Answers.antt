@@ -1,12 +1,10 @@
-use Rattle.std.proofs.Common.{arith, refl, ap, ◌∙◌, ◌≡◌, ◌<◌, ℕ, List, get_or, set, below_more}
-use Rattle.std.proofs.lemmas.Bool.{false≢true, both_ways}
-use Rattle.go_grid.specs.Grid.{other}
-use Rattle.game_canon.specs.Players.{LosesGame}
+use Rattle.std.proofs.Common.{arith, refl, inl, inr, ap, ◌∙◌, ◌≡◌, ◌<◌, ℕ, List, get_or, set, below_more}
+use Rattle.std.proofs.lemmas.Bool.{false≢true, both_ways, OnFalse_at}
 use Rattle.sum_outcome.specs.Sums.{sum_tree}
-use Rattle.sum_outcome.specs.Search.{WinsAt}
-use Rattle.sum_outcome.proofs.EqualGames.{wins_elsewhere}
+use Rattle.sum_outcome.specs.Incentives.{IsSettled}
+use Rattle.sum_outcome.proofs.Domination.{OptionIsSettled, options_settled, repeated_settled, all_fail}
 use Rattle.sum_outcome.proofs.MemoLaws.{from_key, to_key}
-use Rattle.sum_outcome.proofs.Lists.{put_back, falls_put, ids_put, loses_all, wins_one, bounded_put, wins_by_option, wins_by_none}
+use Rattle.sum_outcome.proofs.Lists.{put_back, falls_put, ids_put, loses_all, wins_one, bounded_put, wins_by_option}
 use Rattle.sum_outcome.proofs.outcome.+search.Goals as goal
 
 pub loses_sum-returns-in-Some-clause-answer : goal.loses_sum-returns-in-Some-clause-answer
@@ -23,14 +21,14 @@ loses_sum-returns-clause-right t c =
 
 pub loses_by_moves-returns-then-wins_at-clause-answer : goal.loses_by_moves-returns-then-wins_at-clause-answer
 loses_by_moves-returns-then-wins_at-clause-answer t c =
-    let w = rw c.places.invariant.0 at (c.wins_at.ensures.answer.0 c.if-wins_at.true) in
+    let w = rw c.places.invariant.0 at (c.wins_at.ensures.wins c.if-wins_at.true) in
     (λ e. absurd (false≢true e), λ l. absurd (wins_one c.args.store.now c.args.sum.now c.args.number c.args.side c.places.place c.places-test.true w l))
 
 pub loses_by_moves-places-preserved : goal.loses_by_moves-places-preserved
 loses_by_moves-places-preserved t c = (
   c.wins_at.ensures.same ∙ c.places.invariant.0,
-  below_more (λ k. WinsAt c.args.store.now c.args.sum.now c.args.number c.args.side k → ⊥) c.places.place c.places.invariant.1
-      (λ w. both_ways _ c.if-wins_at.false (c.wins_at.ensures.answer.1 (rw (← c.places.invariant.0) at w))),
+  below_more (λ k. IsSettled c.args.store.now c.args.sum.now c.args.number c.args.side k) c.places.place c.places.invariant.1
+      (rw c.places.invariant.0 at (OnFalse_at c.if-wins_at.false c.wins_at.ensures.settled)),
   c.wins_at.ensures.right,
 )
 
@@ -38,15 +36,15 @@ pub loses_by_moves-places-preserved-then-is_repeated : goal.loses_by_moves-place
 loses_by_moves-places-preserved-then-is_repeated t c =
     let (j, before, same) = rw c.places.invariant.0 at (c.is_repeated.ensures.0 c.if-is_repeated.true) in (
       c.places.invariant.0,
-      below_more (λ k. WinsAt c.args.store.now c.args.sum.now c.args.number c.args.side k → ⊥) c.places.place c.places.invariant.1
-          (λ w. c.places.invariant.1 j before
-          (wins_elsewhere c.args.store.now c.args.sum.now c.args.number c.args.side j c.places.place (omega (arith, before, c.places-test.true)) c.places-test.true same w)),
+      below_more (λ k. IsSettled c.args.store.now c.args.sum.now c.args.number c.args.side k) c.places.place c.places.invariant.1
+          (repeated_settled c.args.store.now c.args.sum.now c.args.number c.args.side j c.places.place before c.places-test.true same),
       c.places.invariant.2,
     )
 
 pub loses_by_moves-returns-clause-answer : goal.loses_by_moves-returns-clause-answer
 loses_by_moves-returns-clause-answer t c = (
-  λ _. loses_all c.args.store.now c.args.sum.now c.args.number c.args.side c.requires.hot (λ k lt. c.places.invariant.1 k (omega (arith, c.places-test.false, lt))),
+  λ _. loses_all c.args.store.now c.args.sum.now c.args.number c.args.side c.requires.hot
+      (all_fail c.args.store.now c.args.sum.now c.args.number c.args.side (λ k lt. c.places.invariant.1 k (omega (arith, c.places-test.false, lt)))),
   λ _. refl,
 )
 
@@ -62,7 +60,7 @@ wins_at-loses_sum-lost-requires t c =
         ids_put c.args.store.now c.args.sum.now c.args.place i c.requires.place below c.requires.ids,
         (
           bounded_put c.args.store.now c.args.sum.now os c.args.number c.args.side c.args.place c.requires.place c.moves-options.ensures.options j c.options-test.true c.requires.bounds,
-          c.options.invariant.2,
+          record { black = c.options.invariant.2.black; white = c.options.invariant.2.white; incentives = c.is_dominated.ensures.right },
         ),
       ),
     )
@@ -74,23 +72,26 @@ restored {ids} k i e f = ap (λ l. set l k (get_or ids k 0)) (f ∙ ap (λ l. se
 pub wins_at-returns-then-lost-clause-same : goal.wins_at-returns-then-lost-clause-same
 wins_at-returns-then-lost-clause-same t c = restored c.args.place _ c.options.invariant.0 c.loses_sum-lost.ensures.same
 
-pub wins_at-returns-then-lost-clause-answer : goal.wins_at-returns-then-lost-clause-answer
-wins_at-returns-then-lost-clause-answer t c =
-    let w = rw (c.options.invariant.0, c.other.ensures) at (c.loses_sum-lost.ensures.answer.0 c.if-lost.true) in (
-      λ _. wins_by_option c.args.store.now c.args.sum.now c.moves-options.result.now c.args.number c.args.side c.args.place c.requires.place c.moves-options.ensures.options c.options.option-index c.options-test.true w,
-      λ _. refl,
-    )
+pub wins_at-returns-then-lost-clause-wins : goal.wins_at-returns-then-lost-clause-wins
+wins_at-returns-then-lost-clause-wins t c =
+    let w = rw (c.options.invariant.0, c.other.ensures) at (c.loses_sum-lost.ensures.answer.0 c.if-lost.true) in
+    λ _. wins_by_option c.args.store.now c.args.sum.now c.moves-options.result.now c.args.number c.args.side c.args.place c.requires.place c.moves-options.ensures.options c.options.option-index c.options-test.true w
 
 pub wins_at-options-preserved : goal.wins_at-options-preserved
 wins_at-options-preserved t c = (
   restored c.args.place _ c.options.invariant.0 c.loses_sum-lost.ensures.same,
-  below_more (λ j. LosesGame (other c.args.side) (sum_tree c.args.store.now (set c.args.sum.now c.args.place (get_or c.moves-options.result.now j 0)) c.args.number) → ⊥) c.options.option-index c.options.invariant.1
-      (λ l. both_ways _ c.if-lost.false (c.loses_sum-lost.ensures.answer.1 (rw (c.options.invariant.0, c.other.ensures) l))),
+  below_more (λ j. OptionIsSettled c.args.store.now c.args.sum.now c.args.number c.args.side c.args.place (get_or c.moves-options.result.now j 0)) c.options.option-index c.options.invariant.1
+      (inl (λ l. both_ways _ c.if-lost.false (c.loses_sum-lost.ensures.answer.1 (rw (c.options.invariant.0, c.other.ensures) l)))),
   c.loses_sum-lost.ensures.right,
 )
 
-pub wins_at-returns-clause-answer : goal.wins_at-returns-clause-answer
-wins_at-returns-clause-answer t c = (
-  λ e. absurd (false≢true e),
-  λ w. absurd (wins_by_none c.args.store.now c.args.sum.now c.moves-options.result.now c.args.number c.args.side c.args.place c.requires.place c.moves-options.ensures.options (λ j l. c.options.invariant.1 j (omega (arith, c.options-test.false, l))) w),
+pub wins_at-options-preserved-then-is_dominated : goal.wins_at-options-preserved-then-is_dominated
+wins_at-options-preserved-then-is_dominated t c = (
+  c.options.invariant.0,
+  below_more (λ j. OptionIsSettled c.args.store.now c.args.sum.now c.args.number c.args.side c.args.place (get_or c.moves-options.result.now j 0)) c.options.option-index c.options.invariant.1
+      (inr (rw c.options.invariant.0 at (c.is_dominated.ensures.answer c.if-is_dominated.true))),
+  record { black = c.options.invariant.2.black; white = c.options.invariant.2.white; incentives = c.is_dominated.ensures.right },
 )
+
+pub wins_at-returns-clause-settled : goal.wins_at-returns-clause-settled
+wins_at-returns-clause-settled t c = options_settled c.args.store.now c.args.sum.now c.args.number c.args.side c.moves-options.result.now c.args.place c.moves-options.ensures.options (λ j l. c.options.invariant.1 j (omega (arith, c.options-test.false, l)))

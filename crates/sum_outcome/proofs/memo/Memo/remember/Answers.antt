@@ -11,6 +11,7 @@ returns-in-Black c Ts answer right =
     record {
       black = answers_kept Ts Black c.args.self.now.black.entries c.keep.new.sums.entries c.args.key c.args.lost own c.keep.ensures right.black;
       white = right.white;
+      incentives = right.incentives;
     }
 
 pub returns-in-White : goal.returns-in-White
@@ -19,4 +20,5 @@ returns-in-White c Ts answer right =
     record {
       black = right.black;
       white = answers_kept Ts White c.args.self.now.white.entries c.keep-in-White.new.sums.entries c.args.key c.args.lost own c.keep-in-White.ensures right.white;
+      incentives = right.incentives;
     }

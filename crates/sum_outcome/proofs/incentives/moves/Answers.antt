@@ -3,7 +3,7 @@ use Rattle.go_grid.specs.declared.grid.Colour.TheVariants.{Black, White}
 use Rattle.game_store.specs.Tree.{left, right}
 use Rattle.game_store.specs.Meaning.{tree_at}
 use Rattle.sum_outcome.proofs.Lists.{listed-moves}
-use Rattle.sum_outcome.proofs.outcome.moves.Goals as goal
+use Rattle.sum_outcome.proofs.incentives.moves.Goals as goal
 
 pub returns-in-Options-Black-clause-options : goal.returns-in-Options-Black-clause-options
 returns-in-Options-Black-clause-options c =

@@ -1,0 +1,142 @@
+-- Comparisons of sums that wait for one another.
+use Rattle.std.proofs.Common.{ℕ, ◌+◌, ◌*◌, ◌<◌, ◌≤◌, ◌≡◌, List, [], ◌∷◌, ◌++◌, length, get_or, arith, refl, sym, ◌∙◌, inl, inr, ap, subst, Bool, true, nat_eq, ◌&&◌, cond, Some}
+use Rattle.std.specs.Prelude.{Option}
+use Rattle.std.proofs.lemmas.Bool.{cases_Bool, cases_lt, and_parts, eqb-true, eq-eqb}
+use Rattle.std.proofs.lemmas.List.{length-append, get_or_append_left}
+use Rattle.std.proofs.Math.Seq.{get_or-append_seam}
+use Rattle.game_store.specs.Tree.{Tree}
+use Rattle.game_canon.specs.declared.sums.SumPair.{SumPair}
+use Rattle.game_canon.specs.declared.sums_at_most.SumStep.TheVariants.{Ask}
+use Rattle.game_canon.specs.SumComparisons.{same_games, with_sums, Tells, AreSumsRight, AreOpen, IsSumStep, weight}
+use Rattle.game_canon.proofs.Undecided.{row, row-le, row-lt, one_open, measure-answer}
+
+abbrev no_games : SumPair
+no_games = record { first = 0; second = 0; third = 0; fourth = 0 }
+
+-- where the search is: at a comparison, with those that wait for it, the one asked at first at the bottom
+pub record AreAsking (Ts : List Tree) (known : SumPair → Option Bool) (p q : SumPair) (ws : List SumPair) : Type 0 where
+  pub right : AreSumsRight Ts known
+  pub now : AreOpen Ts known q
+  pub waits : (i : ℕ) → i < length ws → AreOpen Ts known (get_or ws i no_games)
+  pub above : (i : ℕ) → i < length ws → weight q < weight (get_or ws i no_games)
+  pub falls : (i j : ℕ) → i < j → j < length ws → weight (get_or ws j no_games) < weight (get_or ws i no_games)
+  pub first_is : get_or ws 0 q ≡ p
+
+first-push : (ws : List SumPair) (x y : SumPair) → get_or (ws ++ x ∷ []) 0 y ≡ get_or ws 0 x
+first-push [] x y = refl
+first-push (w ∷ ws) x y = refl
+
+-- of a list with one more at its end
+at-old : (ws : List SumPair) (x : SumPair) (P : SumPair → Type 0) (i : ℕ) → i < length ws → P (get_or ws i no_games) → P (get_or (ws ++ x ∷ []) i no_games)
+at-old ws x P i l = subst P (sym (get_or_append_left ws (x ∷ []) no_games i l))
+
+at-end : (ws : List SumPair) (x : SumPair) (P : SumPair → Type 0) (i : ℕ) → length ws ≤ i → i < length (ws ++ x ∷ []) → P x → P (get_or (ws ++ x ∷ []) i no_games)
+at-end ws x P i l m p = let same : length ws ≡ i = omega (arith, l, m, length-append ws (x ∷ [])) in subst (λ k. P (get_or (ws ++ x ∷ []) k no_games)) same (subst P (sym (get_or-append_seam ws x [] no_games)) p)
+
+-- another comparison comes first
+pub sums_ask : (Ts : List Tree) (known : SumPair → Option Bool) (p q next : SumPair) (ws us : List SumPair) → AreAsking Ts known p q ws → IsSumStep Ts known q (Ask next) → us ≡ ws ++ q ∷ [] → AreAsking Ts known p next us
+sums_ask Ts known p q next ws us w s e = rw e record {
+  right = w.right;
+  now = s.0;
+  waits = λ i l. elim (cases_lt i (length ws)) [
+    | inl d ↦ at-old ws q (AreOpen Ts known) i d (w.waits i d)
+    | inr d ↦ at-end ws q (AreOpen Ts known) i d l w.now
+  ];
+  above = λ i l. elim (cases_lt i (length ws)) [
+    | inl d ↦ at-old ws q (λ x. weight next < weight x) i d (omega (arith, s.1, w.above i d))
+    | inr d ↦ at-end ws q (λ x. weight next < weight x) i d l s.1
+  ];
+  falls = λ i j l m. elim (cases_lt j (length ws)) [
+    | inl d ↦ at-old ws q (λ x. weight (get_or (ws ++ q ∷ []) j no_games) < weight x) i (omega (arith, l, d))
+        (at-old ws q (λ x. weight x < weight (get_or ws i no_games)) j d (w.falls i j l d))
+    | inr d ↦ (
+        let c : i < length ws = omega (arith, l, m, length-append ws (q ∷ [])) in
+        at-old ws q (λ x. weight (get_or (ws ++ q ∷ []) j no_games) < weight x) i c
+        (at-end ws q (λ x. weight x < weight (get_or ws i no_games)) j d m (w.above i c))
+        )
+  ];
+  first_is = first-push ws q next ∙ w.first_is;
+}
+
+-- pairs that the test takes for the same are the same
+games-same : (p q : SumPair) → same_games p q ≡ true → p ≡ q
+games-same p q t =
+    let x = and_parts (nat_eq p.first q.first) (nat_eq p.second q.second && (nat_eq p.third q.third && nat_eq p.fourth q.fourth)) t in
+    let y = and_parts (nat_eq p.second q.second) (nat_eq p.third q.third && nat_eq p.fourth q.fourth) x.1 in
+    let z = and_parts (nat_eq p.third q.third) (nat_eq p.fourth q.fourth) y.1 in
+    λ i. record { first = eqb-true p.first q.first x.0 i; second = eqb-true p.second q.second y.0 i; third = eqb-true p.third q.third z.0 i; fourth = eqb-true p.fourth q.fourth z.1 i }
+
+-- an answer changes no other pair
+other-pair : (known : SumPair → Option Bool) (p : SumPair) (answer : Bool) (q : SumPair) → weight p < weight q → with_sums known p answer q ≡ known q
+other-pair known p answer q l = elim (cases_Bool (same_games p q)) [
+  | inl t ↦ absurd (omega (arith, l, ap weight (games-same p q t)))
+  | inr f ↦ ap (λ t. cond t (Some answer) (known q)) f
+]
+
+own-pair : (known : SumPair → Option Bool) (p : SumPair) (answer : Bool) → with_sums known p answer p ≡ Some answer
+own-pair known p answer = rw (eq-eqb p.first p.first refl, eq-eqb p.second p.second refl, eq-eqb p.third p.third refl, eq-eqb p.fourth p.fourth refl) refl
+
+right_more : (Ts : List Tree) (known after : SumPair → Option Bool) (p : SumPair) (answer : Bool) → AreSumsRight Ts known → Tells Ts p answer → ((r : SumPair) → after r ≡ with_sums known p answer r) → AreSumsRight Ts after
+right_more Ts known after p answer r s e q v k = elim (cases_Bool (same_games p q)) [
+  | inl t ↦ (
+      let same : Some answer ≡ Some v = sym (ap (λ z. cond z (Some answer) (known q)) t) ∙ sym (e q) ∙ k in
+      let is : answer ≡ v = cc in
+      subst (λ x. Tells Ts x v) (games-same p q t) (subst (λ b. Tells Ts p b) is s)
+      )
+  | inr f ↦ r q v (sym (ap (λ z. cond z (Some answer) (known q)) f) ∙ sym (e q) ∙ k)
+]
+
+still-open : (Ts : List Tree) (known after : SumPair → Option Bool) (p : SumPair) (answer : Bool) (q : SumPair) → ((r : SumPair) → after r ≡ with_sums known p answer r) → weight p < weight q → AreOpen Ts known q → AreOpen Ts after q
+still-open Ts known after p answer q e l w = record { ids = w.ids; hot = w.hot; unknown = e q ∙ other-pair known p answer q l ∙ w.unknown }
+
+-- the comparison is answered, and the last that waits goes on
+pub sums_answer : (Ts : List Tree) (known after : SumPair → Option Bool) (p q next : SumPair) (us ws : List SumPair) (answer : Bool) → AreAsking Ts known p q us → Tells Ts q answer
+    → ((r : SumPair) → after r ≡ with_sums known q answer r) → us ≡ ws ++ next ∷ [] → AreAsking Ts after p next ws
+sums_answer Ts known after p q next us ws answer asked s e u = record {
+  right = right_more Ts known after q answer w.right s e;
+  now = still-open Ts known after q answer next e (subst (λ x. weight q < weight x) last (w.above (length ws) in_it)) (subst (AreOpen Ts known) last (w.waits (length ws) in_it));
+  waits = λ i l. still-open Ts known after q answer (get_or ws i no_games) e (subst (λ x. weight q < weight x) (old i l) (w.above i (omega (arith, l, in_it)))) (subst (AreOpen Ts known) (old i l) (w.waits i (omega (arith, l, in_it))));
+  above = λ i l. subst (λ x. weight next < weight x) (old i l) (subst (λ x. weight x < weight (get_or (ws ++ next ∷ []) i no_games)) last (w.falls i (length ws) l in_it));
+  falls = λ i j l m. subst (λ x. weight (get_or ws j no_games) < weight x) (old i (omega (arith, l, m))) (subst (λ x. weight x < weight (get_or (ws ++ next ∷ []) i no_games)) (old j m) (w.falls i j l (omega (arith, m, in_it))));
+  first_is = sym (first-push ws next q) ∙ w.first_is;
+}
+  where
+    w : AreAsking Ts known p q (ws ++ next ∷ [])
+    w = subst (AreAsking Ts known p q) u asked
+
+    in_it : length ws < length (ws ++ next ∷ [])
+    in_it = omega (arith, length-append ws (next ∷ []))
+
+    last : get_or (ws ++ next ∷ []) (length ws) no_games ≡ next
+    last = get_or-append_seam ws next [] no_games
+
+    old : (i : ℕ) → i < length ws → get_or (ws ++ next ∷ []) i no_games ≡ get_or ws i no_games
+    old i l = get_or_append_left ws (next ∷ []) no_games i l
+
+-- how many pairs of sums are still open
+abbrev pub open_sums : (SumPair → Option Bool) → ℕ → ℕ
+open_sums known n = row (λ a. row (λ b. row (λ c. row (λ d. one_open (known (record { first = a; second = b; third = c; fourth = d }))) n) n) n) n
+
+open_sums-falls : (known after : SumPair → Option Bool) (n : ℕ) (p : SumPair) → ((q : SumPair) → one_open (after q) ≤ one_open (known q)) → p.first < n → p.second < n → p.third < n → p.fourth < n → one_open (after p) < one_open (known p) → open_sums after n < open_sums known n
+open_sums-falls known after n p h a b c d l = row-lt _ _ n p.first (λ i. row-le _ _ n (λ j. row-le _ _ n (λ k. row-le _ _ n (λ m. h (record { first = i; second = j; third = k; fourth = m }))))) a
+    (row-lt _ _ n p.second (λ j. row-le _ _ n (λ k. row-le _ _ n (λ m. h (record { first = p.first; second = j; third = k; fourth = m })))) b
+    (row-lt _ _ n p.third (λ k. row-le _ _ n (λ m. h (record { first = p.first; second = p.second; third = k; fourth = m }))) c
+    (row-lt _ _ n p.fourth (λ m. h (record { first = p.first; second = p.second; third = p.third; fourth = m })) d l)))
+
+-- the measure
+abbrev pub sums_work : List Tree → (SumPair → Option Bool) → SumPair → ℕ
+sums_work Ts known q = open_sums known (length Ts) * (length Ts + length Ts + length Ts + length Ts) + weight q
+
+fewer : (known after : SumPair → Option Bool) (p : SumPair) (answer : Bool) → ((r : SumPair) → after r ≡ with_sums known p answer r) → (q : SumPair) → one_open (after q) ≤ one_open (known q)
+fewer known after p answer e q = elim (cases_Bool (same_games p q)) [
+  | inl t ↦ rw (e q ∙ ap (λ z. cond z (Some answer) (known q)) t) (omega arith)
+  | inr f ↦ rw (e q ∙ ap (λ z. cond z (Some answer) (known q)) f) (omega arith)
+]
+
+pub sums_smaller : (Ts : List Tree) (known after : SumPair → Option Bool) (p q next : SumPair) (us ws : List SumPair) (answer : Bool) → AreAsking Ts known p q us → ((r : SumPair) → after r ≡ with_sums known q answer r) → us ≡ ws ++ next ∷ [] → sums_work Ts after next < sums_work Ts known q
+sums_smaller Ts known after p q next us ws answer asked e u =
+    let o : AreOpen Ts known next = subst (AreOpen Ts known) (get_or-append_seam ws next [] no_games) (subst (λ xs. AreOpen Ts known (get_or xs (length ws) no_games)) u (asked.waits (length ws) (rw u (omega (arith, length-append ws (next ∷ [])))))) in
+    measure-answer (open_sums known (length Ts)) (open_sums after (length Ts)) (weight q) (weight next) (length Ts + length Ts + length Ts + length Ts)
+    (open_sums-falls known after (length Ts) q (fewer known after q answer e) asked.now.ids.first_id asked.now.ids.second_id asked.now.ids.third_id asked.now.ids.fourth_id
+    (rw (e q ∙ own-pair known q answer, asked.now.unknown) (omega arith)))
+    (omega (arith, o.ids.first_id, o.ids.second_id, o.ids.third_id, o.ids.fourth_id))

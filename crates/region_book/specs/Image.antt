@@ -1,0 +1,89 @@
+-- The images of a local position: its places, turned by a symmetry, in the order of rows and columns.
+use Rattle.std.specs.Prelude.{◌≡◌, ℕ, ◌+◌, ◌-◌, ◌*◌, ◌/◌, ◌%◌, ◌<◌, ◌≤◌, List, Bool, true, false, length, slice_index}
+use Rattle.std.specs.Cmp.Lexicographic.{slice_cmp}
+use Rattle.std.specs.Ordering.{nat_cmp, is_gt}
+use Rattle.go_grid.specs.declared.grid.Cell.{Cell}
+use Rattle.go_grid.specs.declared.grid.Colour.TheVariants.{Black, White}
+use Rattle.go_grid.specs.Marks.{Lists}
+use Rattle.go_grid.specs.Region.{Shape, IsRegion, touch_at}
+use Rattle.local_play.specs.LocalPlay.{held_at, is_beside}
+use Rattle.local_play.specs.Packed.{code}
+use Rattle.region_book.specs.Shape.{cell_after, colour_after}
+use Rattle.region_book.specs.declared.symmetry.Symmetry.{Symmetry}
+use Rattle.region_book.specs.declared.shapes.Turn.{Turn}
+
+-- a region on a board of at most 25 columns and rows
+pub record IsOnBoard (r : Shape) : Type 0 where
+  pub region : IsRegion r.columns r.rows r.points r.cells r.touch
+  pub columns : r.columns ≤ 25
+  pub rows : r.rows ≤ 25
+
+-- a column or row of the largest board, counted from the other side where it is turned over
+abbrev pub side : Bool → ℕ → ℕ
+side false n = n
+side true n = 24 - n
+
+-- the first, or the second where the two change places
+abbrev pub one_of : Bool → ℕ → ℕ → ℕ
+one_of false a b = a
+one_of true a b = b
+
+-- the column and the row of a place after a symmetry
+abbrev pub column_of : Shape → Symmetry → ℕ → ℕ
+column_of r s i = side s.columns (one_of s.exchange (slice_index r.points i % r.columns) (slice_index r.points i / r.columns))
+
+abbrev pub row_of : Shape → Symmetry → ℕ → ℕ
+row_of r s i = side s.rows (one_of s.exchange (slice_index r.points i / r.columns) (slice_index r.points i % r.columns))
+
+-- after the symmetry the region begins at the column and at the row
+pub record BeginsAt (r : Shape) (s : Symmetry) (left top : ℕ) : Type 0 where
+  pub columns : (i : ℕ) → i < length r.points → left ≤ column_of r s i
+  pub some_column : (i : ℕ) × (i < length r.points) × (column_of r s i ≡ left)
+  pub rows : (i : ℕ) → i < length r.points → top ≤ row_of r s i
+  pub some_row : (i : ℕ) × (i < length r.points) × (row_of r s i ≡ top)
+
+abbrev pub mark : Bool → ℕ
+mark false = 0
+mark true = 1
+
+-- what is known of a place, as a number
+abbrev pub spot : ℕ → ℕ → Cell → Bool → Bool → ℕ
+spot column row x black white = (((row * 32 + column) * 4 + code x) * 2 + mark black) * 2 + mark white
+
+abbrev pub spot_of : Shape → List Cell → Symmetry → Bool → ℕ → ℕ → ℕ → ℕ
+spot_of r cells s colours left top i = spot (column_of r s i - left) (row_of r s i - top) (cell_after colours (held_at cells i))
+    (is_beside (touch_at r.touch i) (colour_after colours Black)) (is_beside (touch_at r.touch i) (colour_after colours White))
+
+-- the number is that of a place
+abbrev pub IsSpot : Shape → List Cell → Symmetry → Bool → ℕ → ℕ → ℕ → Type 0
+IsSpot r cells s colours left top x = (i : ℕ) × (i < length r.points) × (x ≡ spot_of r cells s colours left top i)
+
+-- the image of the position, turned by the symmetry, with the colours exchanged or not
+pub record IsImage (r : Shape) (cells : List Cell) (s : Symmetry) (colours : Bool) (left top : ℕ) (image : List ℕ) : Type 0 where
+  pub begins : BeginsAt r s left top
+  pub spots : Lists image (IsSpot r cells s colours left top)
+
+abbrev pub AtMost : List ℕ → List ℕ → Type 0
+AtMost xs ys = is_gt (slice_cmp nat_cmp xs ys) ≡ false
+
+-- the list has the place of the image for each place of the region
+abbrev pub Places : Shape → List Cell → Symmetry → Bool → ℕ → ℕ → List ℕ → List ℕ → Type 0
+Places r cells s colours left top image places = (i : ℕ) → i < length r.points
+    → (slice_index places i < length image) × (slice_index image (slice_index places i) ≡ spot_of r cells s colours left top i)
+
+-- the turn makes the image of the position
+pub record Makes (r : Shape) (cells : List Cell) (t : Turn) (image : List ℕ) : Type 0 where
+  pub symmetry : Symmetry
+  pub left : ℕ
+  pub top : ℕ
+  pub image_is : IsImage r cells symmetry t.colours left top image
+  pub long : length image ≡ length r.points
+  pub places : Places r cells symmetry t.colours left top image t.places
+  pub past : (i : ℕ) → length r.points ≤ i → i < 32 → slice_index t.places i ≡ 0
+
+-- The shape is the least of the sixteen images of the position on its board, and the turn makes it.
+pub record IsShape (r : Shape) (cells : List Cell) (image : List ℕ) (t : Turn) : Type 0 where
+  pub board : IsOnBoard r
+  pub made : Makes r cells t image
+  pub least : (s : Symmetry) (colours : Bool) (left top : ℕ) (found : List ℕ) → IsImage r cells s colours left top found
+      → AtMost image found

@@ -1,0 +1,155 @@
+//! Regions for tests: points of a small board that walks join.
+
+ghost use Rattle.std.specs.Prelude.{◌≡◌, ℕ, ◌*◌, ◌<◌, ◌≤◌, Contains, IfNone, IfOk, IfSome, Some, length, slice_index};
+ghost use Rattle.go_grid.specs.Marks.{IsMarked, IsWithin, Lists};
+ghost use Rattle.go_grid.specs.Region.{AreLinks, touch_at};
+ghost use Rattle.go_grid.specs.Walk.{Joined};
+
+use go_grid::{Cell, Marks, Point, Region, Size, Touch, fill, listed, neighbours, unmarked};
+use std::alloc::{AllocError, Global};
+
+/// A region on a board of four columns and rows: its points in ascending order, what they hold, and next to which of them
+/// an alive stone of each colour stands. X is black, O is white, and a mark is an X too.
+#[derive(Clone, Copy)]
+pub struct Drawing {
+    pub points: &'static [u16],
+    pub cells: &'static [u8],
+    pub black: &'static [u8],
+    pub white: &'static [u8],
+}
+
+/// The cell that a letter draws.
+fn cell_of(letter: Option<&u8>) -> Cell {
+    match letter {
+        Some(b'X') => Cell::Black,
+        Some(b'O') => Cell::White,
+        _ => Cell::Empty,
+    }
+}
+
+/// Whether there is a mark at a place.
+fn is_marked(marks: &[u8], place: usize) -> bool {
+    cell_of(marks.get(place)).is(Cell::Black)
+}
+
+/// Those of the points that are on the board.
+fn marks_of(size: Size, points: &[u16]) -> Marks
+    ensures { IsWithin (size.columns * size.rows) result }
+{
+    let mut marks = unmarked();
+    'marking: for number in points {
+        if *number < size.area() {
+            marks[usize::from(*number)] = true;
+        }
+    }
+    marks
+}
+
+/// The marked points that walks over marked points join to a point.
+fn part_of(
+    alloc: Global,
+    size: Size,
+    within: &Marks,
+    start: Point,
+) -> Result<Vec<Point>, AllocError>
+    requires within { IsWithin (size.columns * size.rows) within.now }
+    requires starts { IsMarked within.now start }
+    ensures { IfOk result (λ ps. Lists ps.items (Joined size.columns (IsMarked within.now) start)) }
+{
+    let points = listed(alloc, &fill(size, within, start))?;
+    Ok(points)
+}
+
+/// What so many places hold.
+fn cells_of(alloc: Global, count: usize, drawn: Drawing) -> Result<Vec<Cell>, AllocError>
+    ensures { IfOk result (λ cells. length cells.items ≡ count) }
+{
+    let mut cells = Vec::new(alloc);
+    for place in 0..count {
+        cells.push(cell_of(drawn.cells.get(place)))?;
+    }
+    Ok(cells)
+}
+
+/// The place of a point in a list, if there is a point and the list has it.
+fn place_of(points: &[Point], point: Option<Point>) -> Option<u16>
+    requires { length points.now ≤ 625 }
+    ensures some { IfSome result (λ j. (j < length points.now) × (point ≡ Some (slice_index points.now j))) }
+    ensures none { IfNone result ((p : ℕ) → point ≡ Some p → ¬ Contains points.now p) }
+{
+    let wanted = point?;
+    let mut place = 0u16;
+    'seeking: for candidate in points {
+        if *candidate == wanted {
+            return Some(place);
+        }
+        place += 1;
+    }
+    None
+}
+
+/// What is next to a place.
+fn touch_of(size: Size, points: &[Point], place: usize, drawn: Drawing) -> Touch
+    requires short { length points.now ≤ 625 }
+    requires place { place < length points.now }
+    requires inside { (p : ℕ) → Contains points.now p → p < size.columns * size.rows }
+    ensures { AreLinks size.columns points.now (slice_index points.now place) result }
+{
+    let near = neighbours(size, points[place]);
+    Touch {
+        black: is_marked(drawn.black, place),
+        white: is_marked(drawn.white, place),
+        up: place_of(points, near.up),
+        left: place_of(points, near.left),
+        right: place_of(points, near.right),
+        down: place_of(points, near.down),
+    }
+}
+
+/// What is next to each place.
+fn touches_of(
+    alloc: Global,
+    size: Size,
+    points: &[Point],
+    drawn: Drawing,
+) -> Result<Vec<Touch>, AllocError>
+    requires short { length points.now ≤ 625 }
+    requires inside { (p : ℕ) → Contains points.now p → p < size.columns * size.rows }
+    ensures long { IfOk result (λ ts. length ts.items ≡ length points.now) }
+    ensures links { IfOk result (λ ts. (i : ℕ) → i < length points.now
+        → AreLinks size.columns points.now (slice_index points.now i) (touch_at ts.items i)) }
+{
+    let mut touch = Vec::new(alloc);
+    for place in 0..points.len() {
+        touch.push(touch_of(size, points, place, drawn))?;
+    }
+    Ok(touch)
+}
+
+/// The region of the points that walks join to the first. There has to be one on the board.
+pub fn region(alloc: Global, drawn: Drawing) -> Result<Region, AllocError> {
+    let size = Size {
+        columns: 4,
+        rows: 4,
+    };
+    let marks = marks_of(size, drawn.points);
+    let Some(first) = drawn.points.first() else {
+        return Err(AllocError);
+    };
+    let start = *first;
+    if start >= 16 || !marks[usize::from(start)] {
+        return Err(AllocError);
+    }
+    let points = part_of(alloc, size, &marks, Point(start))?;
+    if points.len() > 32 {
+        return Err(AllocError);
+    }
+    let cells = cells_of(alloc, points.len(), drawn)?;
+    let touch = touches_of(alloc, size, &points, drawn)?;
+    Ok(Region {
+        size,
+        points,
+        cells,
+        touch,
+    })
+}

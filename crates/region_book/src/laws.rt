@@ -1,0 +1,17 @@
+//! That shapes tell which positions are alike.
+
+ghost use Rattle.std.specs.Prelude.{ℕ, List};
+ghost use Rattle.go_grid.specs.declared.grid.Cell.{Cell};
+ghost use Rattle.go_grid.specs.Region.{Shape};
+ghost use Rattle.region_book.specs.declared.shapes.Turn.{Turn};
+ghost use Rattle.region_book.specs.Law.{TellsShapes, PairsPlaces};
+
+/// Two positions have equal shapes exactly where they have one shape. Then the pairing of the places that their turns bring
+/// to the same place carries the first onto the second, with the colours exchanged exactly where one of the turns exchanges
+/// them. It has no code.
+pub fn one_shape()
+    ensures same { (r : Shape) (cells : List Cell) (x : List ℕ) (s : Turn) (q : Shape) (cells' : List Cell) (y : List ℕ) (t : Turn)
+        → TellsShapes r cells x s q cells' y t }
+    ensures pairs { (r : Shape) (cells : List Cell) (x : List ℕ) (s : Turn) (q : Shape) (cells' : List Cell) (y : List ℕ) (t : Turn)
+        → PairsPlaces r cells x s q cells' y t }
+{}

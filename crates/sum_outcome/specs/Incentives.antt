@@ -1,0 +1,67 @@
+-- Which moves are as good as others.
+use Rattle.std.specs.Prelude.{ℕ, ◌≡◌, ◌<◌, List, length, Bool, IsTrue, nat_eq, ◌&&◌, Option, Some, cond, ◌↔◌, ◌⊎◌, ℤ}
+use Rattle.std.specs.List.{slice_index_or}
+use Rattle.indexmap.specs.IndexMap.{IndexMap, get}
+use Rattle.go_grid.specs.declared.grid.Colour.{Colour}
+use Rattle.go_grid.specs.declared.grid.Colour.TheVariants.{Black, White}
+use Rattle.game_store.specs.Tree.{Tree}
+use Rattle.game_store.specs.Order.{◌≤ᵍ◌}
+use Rattle.game_store.specs.Meaning.{tree_at, pick, number_tree}
+use Rattle.game_store.specs.Sum.{◌+ᵍ◌, total}
+use Rattle.game_canon.specs.Players.{LosesGame}
+use Rattle.go_grid.specs.Grid.{other}
+use Rattle.game_canon.specs.Laws.{incentive}
+use Rattle.sum_outcome.specs.Search.{IsMove, put}
+use Rattle.sum_outcome.specs.declared.incentives.MovePair.{MovePair}
+
+abbrev pub same_moves : MovePair → MovePair → Bool
+same_moves p q = nat_eq p.game q.game && (nat_eq p.option q.option && (nat_eq p.other q.other && nat_eq p.other_option q.other_option))
+
+-- what is remembered of each pair of moves
+abbrev pub recalled_incentives : {S : Type 0} → IndexMap MovePair Bool S → MovePair → Option Bool
+recalled_incentives known p = get same_moves known p
+
+-- the same after one more answer
+abbrev pub with_incentive : (MovePair → Option Bool) → MovePair → Bool → MovePair → Option Bool
+with_incentive known p answer q = cond (same_moves p q) (Some answer) (known q)
+
+-- the four games are ids
+pub record AreMoves (Ts : List Tree) (p : MovePair) : Type 0 where
+  pub game_id : p.game < length Ts
+  pub option_id : p.option < length Ts
+  pub other_id : p.other < length Ts
+  pub other_option_id : p.other_option < length Ts
+
+-- the incentive of the first move is at least that of the second
+abbrev pub IsAtLeast : List Tree → MovePair → Type 0
+IsAtLeast Ts p = incentive (tree_at Ts p.other) (tree_at Ts p.other_option) ≤ᵍ incentive (tree_at Ts p.game) (tree_at Ts p.option)
+
+-- the moves in the other order
+abbrev pub turned : MovePair → MovePair
+turned p = record { game = p.other; option = p.other_option; other = p.game; other_option = p.option }
+
+-- what is remembered is right
+abbrev pub AreIncentivesRight : List Tree → (MovePair → Option Bool) → Type 0
+AreIncentivesRight Ts known = (p : MovePair) (answer : Bool) → known p ≡ Some answer → IsTrue answer ↔ IsAtLeast Ts p
+
+-- the move from G to Y is as good for the player as the one from H to X: Left wants the great incentive, Right the small one
+abbrev pub IsGood : Colour → Tree → Tree → Tree → Tree → Type 0
+IsGood Black G Y H X = incentive H X ≤ᵍ incentive G Y
+IsGood White G Y H X = incentive G Y ≤ᵍ incentive H X
+
+-- the first move of a pair is as good for the player as the second
+abbrev pub IsAsGood : List Tree → Colour → MovePair → Type 0
+IsAsGood Ts c p = IsGood c (tree_at Ts p.game) (tree_at Ts p.option) (tree_at Ts p.other) (tree_at Ts p.other_option)
+
+-- some move in the game of the id is better for the player than the one from H to X, or as good where Earlier holds
+abbrev pub HasPreferred : List Tree → Colour → ℕ → Tree → Tree → Type 0 → Type 0
+HasPreferred Ts c i H X Earlier = (Y : Tree) × IsMove (tree_at Ts i) c Y × IsGood c (tree_at Ts i) Y H X × (Earlier ⊎ (IsGood c H X (tree_at Ts i) Y → ⊥))
+
+-- some move is better for the player than the one to X at the place, or as good and in an earlier game
+abbrev pub IsDominated : List Tree → List ℕ → Colour → ℕ → Tree → Type 0
+IsDominated Ts ids c k X = (j : ℕ) × (j < length ids) × HasPreferred Ts c (slice_index_or ids j 0) (tree_at Ts (slice_index_or ids k 0)) X (j < k)
+
+-- each move at the place fails or is dominated
+abbrev pub IsSettled : List Tree → List ℕ → ℤ → Colour → ℕ → Type 0
+IsSettled Ts ids x c k = (X : Tree) → IsMove (tree_at Ts (slice_index_or ids k 0)) c X
+    → (LosesGame (other c) (total (put (pick Ts ids) k X) +ᵍ number_tree x) → ⊥) ⊎ IsDominated Ts ids c k X

@@ -1,0 +1,216 @@
+//! Which moves in a sum need not be tried, since one in another game is better, or as good and in an earlier one.
+
+ghost use Rattle.std.specs.Prelude.{◌≡◌, ◌<◌, ◌↔◌, length, OnOk, OnErr, IsTrue, IfSome, ◌⊎◌};
+ghost use Rattle.game_store.specs.Tree.{Tree, Has};
+ghost use Rattle.game_store.specs.Meaning.{tree_at, pick, AreIds, AreBelow};
+ghost use Rattle.sum_outcome.specs.Search.{IsMove, StoodBefore};
+ghost use Rattle.sum_outcome.specs.Incentives.{recalled_incentives, with_incentive, AreIncentivesRight, AreMoves, turned, IsAtLeast, IsAsGood, HasPreferred, IsDominated};
+ghost use Rattle.sum_outcome.specs.declared.incentives.MovePair.{MovePair};
+
+use game_canon::incentive_at_least;
+use game_store::{Form, GameId, Store};
+use go_grid::grid::Colour;
+use indexmap::IndexMap;
+use std::alloc::{AllocError, Global};
+
+/// Two moves: from a game to an option, and from another game to an option of that.
+#[derive(Clone, Copy, PartialEq, Eq, Hash)]
+pub(crate) struct MovePair {
+    game: GameId,
+    option: GameId,
+    other: GameId,
+    other_option: GameId,
+}
+
+/// For pairs of moves, whether the incentive of the first is at least that of the second.
+pub(crate) type Incentives = IndexMap<MovePair, bool>;
+
+/// The answer for a pair, if it is remembered.
+fn recall_incentive(known: &Incentives, pair: MovePair) -> Option<bool>
+    ensures { result ≡ recalled_incentives known.now pair }
+{
+    known.get(&pair).copied()
+}
+
+/// Remembers the answer for a pair. What is remembered stays as it is where memory is wanting.
+fn remember_incentive(
+    known: &mut Incentives,
+    pair: MovePair,
+    answer: bool,
+) -> Result<(), AllocError>
+    ensures kept { OnOk result ((p : MovePair) → recalled_incentives known.new p ≡ with_incentive (recalled_incentives known.old) pair answer p) }
+    ensures lost { OnErr result ((p : MovePair) → recalled_incentives known.new p ≡ recalled_incentives known.old p) }
+{
+    known.insert(pair, answer)?;
+    Ok(())
+}
+
+/// Whether the incentive of the first of two moves is at least that of the second, unless memory is wanting.
+fn is_at_least(alloc: Global, store: &Store, known: &mut Incentives, pair: MovePair) -> Option<bool>
+    requires ids { AreMoves store.now pair }
+    requires right { AreIncentivesRight store.now (recalled_incentives known.old) }
+    ensures answer { IfSome result (λ answer. IsTrue answer ↔ IsAtLeast store.now pair) }
+    ensures right { AreIncentivesRight store.now (recalled_incentives known.new) }
+{
+    if let Some(answer) = recall_incentive(known, pair) {
+        return Some(answer);
+    }
+    let Ok(answer) = incentive_at_least(
+        alloc,
+        store,
+        pair.game,
+        pair.option,
+        pair.other,
+        pair.other_option,
+    ) else {
+        return None;
+    };
+    let _kept = remember_incentive(known, pair, answer);
+    Some(answer)
+}
+
+/// The moves of a pair in the other order.
+fn turned(pair: MovePair) -> MovePair
+    ensures { result ≡ turned pair }
+{
+    MovePair {
+        game: pair.other,
+        option: pair.other_option,
+        other: pair.game,
+        other_option: pair.option,
+    }
+}
+
+/// Whether the first of two moves is as good for the player as the second, unless memory is wanting. Right wants the small
+/// incentive.
+fn is_as_good(
+    alloc: Global,
+    store: &Store,
+    known: &mut Incentives,
+    pair: MovePair,
+    side: Colour,
+) -> Option<bool>
+    requires ids { AreMoves store.now pair }
+    requires right { AreIncentivesRight store.now (recalled_incentives known.old) }
+    ensures answer { IfSome result (λ answer. IsTrue answer ↔ IsAsGood store.now side pair) }
+    ensures right { AreIncentivesRight store.now (recalled_incentives known.new) }
+{
+    match side {
+        Colour::Black => is_at_least(alloc, store, known, pair),
+        Colour::White => is_at_least(alloc, store, known, turned(pair)),
+    }
+}
+
+/// Whether the first of two moves is known to be better for the player than the second, or as good where its game stands
+/// earlier.
+fn is_preferred(
+    alloc: Global,
+    store: &Store,
+    known: &mut Incentives,
+    pair: MovePair,
+    side: Colour,
+    earlier: bool,
+) -> bool
+    requires ids { AreMoves store.now pair }
+    requires right { AreIncentivesRight store.now (recalled_incentives known.old) }
+    ensures good { IsTrue result → IsAsGood store.now side pair }
+    ensures better { IsTrue result → IsTrue earlier ⊎ (IsAsGood store.now side (turned pair) → ⊥) }
+    ensures right { AreIncentivesRight store.now (recalled_incentives known.new) }
+{
+    let Some(true) = is_as_good(alloc, store, known, pair, side) else {
+        return false;
+    };
+    if earlier {
+        return true;
+    }
+    let Some(false) = is_as_good(alloc, store, known, turned(pair), side) else {
+        return false;
+    };
+    true
+}
+
+/// Whether the game at a place stands at an earlier one too.
+pub(crate) fn is_repeated(sum: &[GameId], place: usize) -> bool
+    requires { place < length sum.now }
+    ensures { IsTrue result ↔ StoodBefore sum.now place }
+{
+    sum[..place].contains(&sum[place])
+}
+
+/// A player's options of a game, and none of a number.
+pub(crate) fn moves(store: &Store, id: GameId, side: Colour) -> &[GameId]
+    requires { id < length store.now }
+    ensures below { AreBelow id result.now }
+    ensures options { (X : Tree) → Has (pick store.now result.now) X ↔ IsMove (tree_at store.now id) side X }
+{
+    match (store.node(id), side) {
+        (Form::Number(_), _) => &[],
+        (Form::Options { left, .. }, Colour::Black) => left,
+        (Form::Options { right, .. }, Colour::White) => right,
+    }
+}
+
+/// Whether some move of a player in a game is known to be better than one in another game, or as good where its game stands
+/// earlier.
+fn has_preferred(
+    alloc: Global,
+    store: &Store,
+    known: &mut Incentives,
+    game: GameId,
+    other: GameId,
+    other_option: GameId,
+    side: Colour,
+    earlier: bool,
+) -> bool
+    requires game { game < length store.now }
+    requires other { other < length store.now }
+    requires other_option { other_option < length store.now }
+    requires right { AreIncentivesRight store.now (recalled_incentives known.old) }
+    ensures answer { IsTrue result → HasPreferred store.now side game (tree_at store.now other) (tree_at store.now other_option) (IsTrue earlier) }
+    ensures right { AreIncentivesRight store.now (recalled_incentives known.new) }
+{
+    let options = moves(store, game, side);
+    'options: for option in options {
+        let pair = MovePair {
+            game,
+            option: *option,
+            other,
+            other_option,
+        };
+        if is_preferred(alloc, store, known, pair, side, earlier) {
+            return true;
+        }
+    }
+    false
+}
+
+/// Whether some move of a player in another game of the sum is known to be better than one in the game at a place, or as
+/// good and in an earlier game.
+pub(crate) fn is_dominated(
+    alloc: Global,
+    store: &Store,
+    known: &mut Incentives,
+    sum: &[GameId],
+    place: usize,
+    option: GameId,
+    side: Colour,
+) -> bool
+    requires ids { AreIds store.now sum.now }
+    requires place { place < length sum.now }
+    requires option { option < length store.now }
+    requires right { AreIncentivesRight store.now (recalled_incentives known.old) }
+    ensures answer { IsTrue result → IsDominated store.now sum.now side place (tree_at store.now option) }
+    ensures right { AreIncentivesRight store.now (recalled_incentives known.new) }
+{
+    let game = sum[place];
+    'rivals: for rival in 0..sum.len() {
+        if is_repeated(sum, rival) || sum[rival] == game {
+            continue;
+        }
+        let earlier = rival < place;
+        if has_preferred(alloc, store, known, sum[rival], game, option, side, earlier) {
+            return true;
+        }
+    }
+    false
+}
