@@ -14,8 +14,7 @@ use Rattle.go_grid.specs.declared.grid.Colour.{Colour}
 use Rattle.go_grid.specs.Grid.{Grid, NextTo, cell_at}
 use Rattle.benson_life.specs.Life.{IsAlive}
 use Rattle.go_grid.specs.Region.{AreLinks, IsBeside, IsLink, IsRegion, Shape, nothing_near, touch_at}
-use Rattle.region_cut.specs.Cut.{IsRegionOfPlay}
-use Rattle.endgame_solver.specs.Faults.{AreRegions}
+use Rattle.region_cut.specs.Cut.{IsRegionOfPlay, AreRegionsOfPlay}
 use Rattle.endgame_solver.specs.Regions.{no_region, region_at}
 use Rattle.endgame_solver.proofs.OneCut.{regions_unique}
 
@@ -77,7 +76,7 @@ one_shape g r s a b m n points =
     (a.walls k Black here) (there_too Black k there) (a.walls k White here) (there_too White k there)) in
     λ i. record { columns = columns i; rows = rows i; points = points i; cells = cells i; touch = touch i }
 
-pub one_regions : (g : Grid) (rs ss : List Shape) → AreRegions g rs → AreRegions g ss → rs ≡ ss
+pub one_regions : (g : Grid) (rs ss : List Shape) → AreRegionsOfPlay g rs → AreRegionsOfPlay g ss → rs ≡ ss
 one_regions g rs ss a b =
     let same = regions_unique g rs ss a b in
     let many : length rs ≡ length ss = sym (length-map rs (λ r. r.points)) ∙ ap length same ∙ length-map ss (λ r. r.points) in
@@ -86,4 +85,4 @@ one_regions g rs ss a b =
     let h = Contains-get_or rs k no_region lt in
     let h' = Contains-get_or ss k no_region lt' in
     let points = sym (get_or-map (λ r. r.points) rs k no_region [] lt) ∙ ap (λ l. get_or l k []) same ∙ get_or-map (λ r. r.points) ss k no_region [] lt' in
-    one_shape g (region_at rs k) (region_at ss k) (a.cut.each _ h) (b.cut.each _ h') (a.proper _ h) (b.proper _ h') points)
+    one_shape g (region_at rs k) (region_at ss k) (a.each _ h) (b.each _ h') (a.each _ h).proper (b.each _ h').proper points)

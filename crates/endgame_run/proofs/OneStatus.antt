@@ -19,7 +19,8 @@ use Rattle.sgf_go.proofs.Only.{one_position}
 use Rattle.endgame_solver.specs.declared.limits.Limits.{Limits}
 use Rattle.endgame_solver.specs.declared.faults.SolveError.{SolveError}
 use Rattle.endgame_solver.specs.declared.faults.SolveError.TheVariants.{Points, Positions, Cycle, Form, Memory}
-use Rattle.endgame_solver.specs.Faults.{AreRefused, AreRegions, AreSmall, AreSound, IsFaultOf, IsFirstFault, IsSound}
+use Rattle.endgame_solver.specs.Faults.{AreRefused, AreSmall, AreSound, IsFaultOf, IsFirstFault, IsSound}
+use Rattle.region_cut.specs.Cut.{AreRegionsOfPlay}
 use Rattle.endgame_solver.specs.Regions.{no_region, region_at}
 use Rattle.endgame_run.specs.declared.status.Status.{Status}
 use Rattle.endgame_run.specs.declared.status.Status.TheVariants as status
@@ -165,7 +166,7 @@ solved_or_refused limits p status.TooManyLines a h = absurd h
 solved_or_refused limits p (status.Unbuilt u) a h = absurd h
 
 -- sound regions aren't refused
-sound_clash : (limits : Limits) (p : Setup) (s : Status) (b : List ℕ) (regions : List Shape) → AreRegions p.board regions → AreSound limits regions → IsRefused limits p s b → ⊥
+sound_clash : (limits : Limits) (p : Setup) (s : Status) (b : List ℕ) (regions : List Shape) → AreRegionsOfPlay p.board regions → AreSound limits regions → IsRefused limits p s b → ⊥
 sound_clash limits p s b regions are sound w =
     sound_or_refused limits w.regions w.fault s (subst (AreSound limits) (one_regions p.board regions w.regions are w.are_regions) sound) w.refused w.status
 
@@ -223,13 +224,13 @@ refuses_unshown limits p regions point s a are sound first h = go (valued_or_not
   go (inr (inr w)) = w.status
 
 -- what is refused for a fault of a region, against an answer
-against : (limits : Limits) (p : Setup) (regions : List Shape) (f : SolveError) (s t : Status) (a : List ℕ) → AreRegions p.board regions → AreRefused limits regions f → HasStatus f t
+against : (limits : Limits) (p : Setup) (regions : List Shape) (f : SolveError) (s t : Status) (a : List ℕ) → AreRegionsOfPlay p.board regions → AreRefused limits regions f → HasStatus f t
     → IsRefused limits p s a → s ≡ t
 against limits p regions f s t a are refused x w =
     refusals limits regions w.fault f s t (subst (λ l. AreRefused limits l w.fault) (one_regions p.board w.regions regions w.are_regions are) w.refused) refused w.status x
 
-never_sound : (limits : Limits) (p : Setup) (regions others : List Shape) (f : SolveError) (t : Status) → AreRegions p.board regions → AreRefused limits regions f → HasStatus f t
-    → AreRegions p.board others → AreSound limits others → ⊥
+never_sound : (limits : Limits) (p : Setup) (regions others : List Shape) (f : SolveError) (t : Status) → AreRegionsOfPlay p.board regions → AreRefused limits regions f → HasStatus f t
+    → AreRegionsOfPlay p.board others → AreSound limits others → ⊥
 never_sound limits p regions others f t are refused x too sound =
     sound_or_refused limits regions f t (subst (AreSound limits) (one_regions p.board others regions too are) sound) refused x
 

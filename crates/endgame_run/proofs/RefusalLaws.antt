@@ -9,14 +9,14 @@ use Rattle.go_grid.specs.Grid.{Grid}
 use Rattle.go_grid.specs.Region.{Shape}
 use Rattle.go_grid.proofs.WalkLemmas.{joined_end}
 use Rattle.benson_life.specs.Region.{IsContested}
-use Rattle.region_cut.specs.Cut.{lowest}
+use Rattle.region_cut.specs.Cut.{lowest, AreRegionsOfPlay}
 use Rattle.sgf_go.specs.declared.settings.Setup.{Setup}
 use Rattle.local_graph.specs.declared.cycle.CycleMove.{CycleMove}
 use Rattle.local_graph.specs.LocalGraph.{IsCycle, Plays}
 use Rattle.endgame_solver.specs.declared.limits.Limits.{Limits}
 use Rattle.endgame_solver.specs.declared.faults.SolveError.{SolveError}
 use Rattle.endgame_solver.specs.declared.faults.SolveError.TheVariants.{Points, Positions, Cycle, Form, Memory}
-use Rattle.endgame_solver.specs.Faults.{AreRegions, named}
+use Rattle.endgame_solver.specs.Faults.{named}
 use Rattle.endgame_solver.specs.Regions.{region_at, no_region}
 use Rattle.endgame_solver.specs.Solved.{Begun, SolvedGame}
 use Rattle.report.specs.Solution.{IsSolveText}
@@ -54,16 +54,16 @@ cycle_inside touch opening ms back c =
     let whole = plays_join touch opening c.returns_to c.returns_to (take back ms) (drop back ms) c.there c.again in
     plays_inside touch opening c.returns_to ms (subst (λ l. Plays touch opening l c.returns_to) (take-append-drop back ms) whole)
 
-module _ (g : Grid) (regions : List Shape) (are : AreRegions g regions) (k : ℕ) (lt : k < length regions) where
+module _ (g : Grid) (regions : List Shape) (are : AreRegionsOfPlay g regions) (k : ℕ) (lt : k < length regions) where
   here : Contains regions (region_at regions k)
   here = Contains-get_or regions k no_region lt
 
   -- the points of a region are points of the board
   on_board : (p : ℕ) → Contains (region_at regions k).points p → p < length g.cells
-  on_board p h = (joined_end g.columns (IsContested g) (lowest (region_at regions k)) p (((are.cut.each (region_at regions k) here).points p).0 h)).0
+  on_board p h = (joined_end g.columns (IsContested g) (lowest (region_at regions k)) p (((are.each (region_at regions k) here).points p).0 h)).0
 
   pub lowest_on_board : lowest (region_at regions k) < length g.cells
-  lowest_on_board = on_board _ (Contains-get_or (region_at regions k).points 0 0 (are.proper (region_at regions k) here).some)
+  lowest_on_board = on_board _ (Contains-get_or (region_at regions k).points 0 0 (are.each (region_at regions k) here).proper.some)
 
   pub cycle_on_board : (ms : List CycleMove) (back : ℕ) → IsCycle (region_at regions k).touch (region_at regions k).cells ms back
       → All (λ m. m.1 < length g.cells) (map (named (region_at regions k)) ms)
@@ -71,7 +71,7 @@ module _ (g : Grid) (regions : List Shape) (are : AreRegions g regions) (k : ℕ
       let r = region_at regions k in
       All-map (λ m. m.1 < length g.cells) (named r) ms
       (λ j d below. let inside = cycle_inside r.touch r.cells ms back c j d below in
-      on_board _ (Contains-get_or r.points (get_or ms j d).place 0 (omega (arith, inside, (are.proper r here).full))))
+      on_board _ (Contains-get_or r.points (get_or ms j d).place 0 (omega (arith, inside, (are.each r here).proper.full))))
 
 -- the points that a fault names are points of the board
 pub names_points : (setup : Setup) (limits : Limits) (fault : SolveError) → Begun setup limits (Err fault) → NamesPoints (length setup.board.cells) fault

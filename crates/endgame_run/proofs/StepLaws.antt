@@ -7,7 +7,8 @@ use Rattle.gd_words.specs.Job.{IsOnlyJob, JobView}
 use Rattle.gd_words.specs.Task.{Task}
 use Rattle.gd_words.specs.Task.Task.{solve, safe, values, play, trial}
 use Rattle.endgame_solver.specs.declared.limits.Limits.{Limits}
-use Rattle.endgame_solver.specs.Faults.{AreRegions, most_steps}
+use Rattle.endgame_solver.specs.Faults.{most_steps}
+use Rattle.region_cut.specs.Cut.{AreRegionsOfPlay}
 use Rattle.endgame_run.specs.declared.question.Question.{Question}
 use Rattle.endgame_run.specs.declared.question.Question.TheVariants as question
 use Rattle.endgame_run.specs.File.{IsTold, told_of}
@@ -56,7 +57,7 @@ one_file words job other q r limits most word w a h b k =
 
 -- a question has limits, or takes no steps
 with_limits : (q : Question) (setup : Setup) (before now : ℕ) → AreStepsFor q setup before now
-    → (now ≡ before) ⊎ ((limits : Limits) × HasLimits q limits × ((regions : List Shape) → AreRegions setup.board regions → now ≤ before + most_steps limits regions))
+    → (now ≡ before) ⊎ ((limits : Limits) × HasLimits q limits × ((regions : List Shape) → AreRegionsOfPlay setup.board regions → now ≤ before + most_steps limits regions))
 with_limits question.Safe setup before now s = inl s
 with_limits (question.Solve limits) setup before now s = inr (limits, refl, s)
 with_limits (question.Values limits) setup before now s = inr (limits, refl, s)
@@ -65,17 +66,17 @@ with_limits (question.Values limits) setup before now s = inr (limits, refl, s)
 pub no_steps : (words : List (List ℕ)) (files : Option Files) (left : Option (List ℕ)) (before now : ℕ) → AreSteps words files left before now → ¬ NeedRegions words → now ≡ before
 no_steps words files left before now (inl e) none = e
 no_steps words files left before now (inr (job, q, word, file, setup, a, told, reads, s)) none = go (with_limits q setup before now s) where
-  go : (now ≡ before) ⊎ ((limits : Limits) × HasLimits q limits × ((regions : List Shape) → AreRegions setup.board regions → now ≤ before + most_steps limits regions)) → now ≡ before
+  go : (now ≡ before) ⊎ ((limits : Limits) × HasLimits q limits × ((regions : List Shape) → AreRegionsOfPlay setup.board regions → now ≤ before + most_steps limits regions)) → now ≡ before
   go (inl e) = e
   go (inr (limits, h, few)) = absurd (none (job, q, word, a, subst (HasLimits q) (posed words job q limits word a h).2 h))
 
 -- the steps for a file that is told
 pub steps_told : (words : List (List ℕ)) (files : Option Files) (left : Option (List ℕ)) (before now : ℕ) → AreSteps words files left before now → (limits : Limits) (setup : Setup) (regions : List Shape)
     → IsToldRegions words files left limits setup
-    → AreRegions setup.board regions → now ≤ before + most_steps limits regions
+    → AreRegionsOfPlay setup.board regions → now ≤ before + most_steps limits regions
 steps_told words files left before now (inl e) limits setup regions t are = omega (arith, e)
 steps_told words files left before now (inr (job, q, word, file, position, a, told, reads, s)) limits setup regions t are = go (with_limits q position before now s) where
-  go : (now ≡ before) ⊎ ((most : Limits) × HasLimits q most × ((rs : List Shape) → AreRegions position.board rs → now ≤ before + most_steps most rs)) → now ≤ before + most_steps limits regions
+  go : (now ≡ before) ⊎ ((most : Limits) × HasLimits q most × ((rs : List Shape) → AreRegionsOfPlay position.board rs → now ≤ before + most_steps most rs)) → now ≤ before + most_steps limits regions
   go (inl e) = omega (arith, e)
   go (inr (most, h, few)) =
       let one = one_file words t.job job t.question q limits most t.word word t.asks t.limited a h in
@@ -83,4 +84,4 @@ steps_told words files left before now (inr (job, q, word, file, position, a, to
       let file_is : t.file ≡ file = cc in
       let read : Reads t.file t.job.settings (Ok position) = subst (λ f. Reads f t.job.settings (Ok position)) (sym file_is) (subst (λ j. Reads file j.settings (Ok position)) one.0 reads) in
       let position_is : position ≡ setup = one_setup t.file t.job.settings position setup read t.reads in
-      subst (λ m. now ≤ before + most_steps m regions) one.2 (few regions (subst (λ z. AreRegions z.board regions) (sym position_is) are))
+      subst (λ m. now ≤ before + most_steps m regions) one.2 (few regions (subst (λ z. AreRegionsOfPlay z.board regions) (sym position_is) are))

@@ -10,7 +10,8 @@ use Rattle.whole_rules.specs.WholeGame.{State}
 use Rattle.whole_rules.specs.FirstWinningMove.{IsWinner}
 use Rattle.gd_words.specs.Job.{JobView}
 use Rattle.endgame_solver.specs.declared.limits.Limits.{Limits}
-use Rattle.endgame_solver.specs.Faults.{AreRegions, AreSound}
+use Rattle.endgame_solver.specs.Faults.{AreSound}
+use Rattle.region_cut.specs.Cut.{AreRegionsOfPlay}
 use Rattle.play_session.specs.declared.end.SessionEnd.{SessionEnd}
 use Rattle.play_session.specs.declared.end.SessionEnd.TheVariants as end
 use Rattle.play_session.specs.Laws.{KeepsWin}
@@ -25,7 +26,7 @@ use Rattle.endgame_run.specs.Verdict.{AreToPlay, limits_of}
 -- the regions of play of a position are all sound within the limits, and the state opens it
 pub record IsPlayable (limits : Limits) (setup : Setup) (s : State) : Type 0 where
   pub regions : List Shape
-  pub are_regions : AreRegions setup.board regions
+  pub are_regions : AreRegionsOfPlay setup.board regions
   pub sound : AreSound limits regions
   pub opening : IsOpeningOf setup s
 

@@ -6,7 +6,8 @@ use Rattle.sgf_go.specs.declared.settings.Settings.{Settings}
 use Rattle.sgf_go.specs.declared.settings.Setup.{Setup}
 use Rattle.endgame_solver.specs.declared.limits.Limits.{Limits}
 use Rattle.endgame_solver.specs.declared.faults.SolveError.{SolveError}
-use Rattle.endgame_solver.specs.Faults.{AreRefused, AreRegions, AreSound}
+use Rattle.endgame_solver.specs.Faults.{AreRefused, AreSound}
+use Rattle.region_cut.specs.Cut.{AreRegionsOfPlay}
 use Rattle.endgame_run.specs.declared.status.Status.{Status}
 use Rattle.whole_rules.specs.WholeGame.{State}
 use Rattle.endgame_run.specs.declared.status.Status.TheVariants.{Done, FormLimit, TooManyLines}
@@ -26,22 +27,22 @@ HasOneStatus = (question : Question) (file : List ℕ) (settings : Settings) (s 
 -- a position whose regions are all sound is solved
 abbrev pub SolvesSound : Type 0
 SolvesSound = (limits : Limits) (setup : Setup) (regions : List Shape) (s : Status) (text : List ℕ)
-    → AreRegions setup.board regions → AreSound limits regions → IsPositionAnswer (Solve limits) setup s text → s ≡ Done
+    → AreRegionsOfPlay setup.board regions → AreSound limits regions → IsPositionAnswer (Solve limits) setup s text → s ≡ Done
 
 -- a position whose regions are all sound has its values shown, where each can be
 abbrev pub ShowsShown : Type 0
-ShowsShown = (limits : Limits) (setup : Setup) (regions : List Shape) (s : Status) (text : List ℕ) → AreRegions setup.board regions → AreSound limits regions
+ShowsShown = (limits : Limits) (setup : Setup) (regions : List Shape) (s : Status) (text : List ℕ) → AreRegionsOfPlay setup.board regions → AreSound limits regions
     → ((k : ℕ) → k < length regions → HasShownValue (region_at regions k)) → IsPositionAnswer (Values limits) setup s text → s ≡ Done
 
 -- and is else refused for the first that can't
 abbrev pub RefusesUnshown : Type 0
-RefusesUnshown = (limits : Limits) (setup : Setup) (regions : List Shape) (p : ℕ) (s : Status) (text : List ℕ) → AreRegions setup.board regions → AreSound limits regions
+RefusesUnshown = (limits : Limits) (setup : Setup) (regions : List Shape) (p : ℕ) (s : Status) (text : List ℕ) → AreRegionsOfPlay setup.board regions → AreSound limits regions
     → IsFirstUnshown regions p → IsPositionAnswer (Values limits) setup s text → s ≡ FormLimit
 
 -- a position whose regions have a fault is refused with the status of that fault
 abbrev pub RefusesFaults : Type 0
 RefusesFaults = (question : Question) (limits : Limits) (setup : Setup) (regions : List Shape) (fault : SolveError) (s t : Status) (text : List ℕ)
-    → HasLimits question limits → AreRegions setup.board regions → AreRefused limits regions fault → HasStatus fault t → IsPositionAnswer question setup s text → s ≡ t
+    → HasLimits question limits → AreRegionsOfPlay setup.board regions → AreRefused limits regions fault → HasStatus fault t → IsPositionAnswer question setup s text → s ≡ t
 
 -- a game over these bytes that no read and no write broke off has one status and one text
 abbrev pub HasOneGame : Type 0

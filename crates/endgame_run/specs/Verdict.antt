@@ -18,7 +18,8 @@ use Rattle.endgame_run.specs.declared.status.Status.TheVariants.{Done, Usage, Ca
 use Rattle.endgame_run.specs.declared.status.Unbuilt.TheVariants.{Command}
 use Rattle.endgame_solver.specs.declared.limits.Limits.{Limits}
 use Rattle.endgame_solver.specs.declared.faults.SolveError.{SolveError}
-use Rattle.endgame_solver.specs.Faults.{AreRegions, AreSound, AreRefused, most_steps}
+use Rattle.endgame_solver.specs.Faults.{AreSound, AreRefused, most_steps}
+use Rattle.region_cut.specs.Cut.{AreRegionsOfPlay}
 use Rattle.endgame_run.specs.File.{Outside, IsShort, IsTold, IsTooLong, told_of, count_of, dash}
 use Rattle.endgame_run.specs.Position.{Reads, IsFaultText}
 use Rattle.endgame_run.specs.Solution.{IsOpeningOf, IsSolution}
@@ -36,7 +37,7 @@ pub record IsSolved (limits : Limits) (setup : Setup) (text : List ℕ) : Type 0
   pub state : State
   pub winner : Colour
   pub move : Option Move
-  pub are_regions : AreRegions setup.board regions
+  pub are_regions : AreRegionsOfPlay setup.board regions
   pub sound : AreSound limits regions
   pub counted : AreNumbers regions numbers
   pub solution : IsSolution setup state winner move
@@ -46,7 +47,7 @@ pub record IsSolved (limits : Limits) (setup : Setup) (text : List ℕ) : Type 0
 pub record IsRefused (limits : Limits) (setup : Setup) (s : Status) (text : List ℕ) : Type 0 where
   pub regions : List Shape
   pub fault : SolveError
-  pub are_regions : AreRegions setup.board regions
+  pub are_regions : AreRegionsOfPlay setup.board regions
   pub refused : AreRefused limits regions fault
   pub status : HasStatus fault s
   pub is : text ≡ refusal_line limits setup.board.columns fault
@@ -54,7 +55,7 @@ pub record IsRefused (limits : Limits) (setup : Setup) (s : Status) (text : List
 -- the regions of play of a position, all sound within the limits, and the text of the values of their openings
 pub record IsValued (limits : Limits) (setup : Setup) (text : List ℕ) : Type 0 where
   pub regions : List Shape
-  pub are_regions : AreRegions setup.board regions
+  pub are_regions : AreRegionsOfPlay setup.board regions
   pub sound : AreSound limits regions
   pub is : IsValuesText setup.board.columns regions text
 
@@ -62,7 +63,7 @@ pub record IsValued (limits : Limits) (setup : Setup) (text : List ℕ) : Type 0
 pub record AreUnshown (limits : Limits) (setup : Setup) (s : Status) (text : List ℕ) : Type 0 where
   pub regions : List Shape
   pub point : ℕ
-  pub are_regions : AreRegions setup.board regions
+  pub are_regions : AreRegionsOfPlay setup.board regions
   pub sound : AreSound limits regions
   pub first : IsFirstUnshown regions point
   pub status : s ≡ FormLimit
@@ -217,8 +218,8 @@ pub record IsToldRegions (words : List (List ℕ)) (files : Option Files) (left 
 
 -- how many steps a question about a position takes at most: none but about its regions of play, and then for each the limit, or 3 to its points
 abbrev pub AreStepsFor : Question → Setup → ℕ → ℕ → Type 0
-AreStepsFor (Solve limits) setup before now = (regions : List Shape) → AreRegions setup.board regions → now ≤ before + most_steps limits regions
-AreStepsFor (Values limits) setup before now = (regions : List Shape) → AreRegions setup.board regions → now ≤ before + most_steps limits regions
+AreStepsFor (Solve limits) setup before now = (regions : List Shape) → AreRegionsOfPlay setup.board regions → now ≤ before + most_steps limits regions
+AreStepsFor (Values limits) setup before now = (regions : List Shape) → AreRegionsOfPlay setup.board regions → now ≤ before + most_steps limits regions
 AreStepsFor Safe setup before now = now ≡ before
 
 -- steps are taken only for the position of a file that has all that is told of the one asked about

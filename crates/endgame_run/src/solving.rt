@@ -4,7 +4,8 @@ ghost use Rattle.std.specs.Prelude.{◌≡◌, ◌<◌, ◌≤◌, ◌+◌, ◌*
 ghost use Rattle.go_grid.specs.Chain.{IsSettled};
 ghost use Rattle.go_grid.specs.Region.{Shape};
 ghost use Rattle.sgf_go.specs.Komi.{IsInRange};
-ghost use Rattle.endgame_solver.specs.Faults.{AreRegions, most_steps};
+ghost use Rattle.endgame_solver.specs.Faults.{most_steps};
+ghost use Rattle.region_cut.specs.Cut.{AreRegionsOfPlay};
 ghost use Rattle.report.specs.Values.{IsRefusal};
 ghost use Rattle.endgame_run.specs.Refusal.{HasStatus, NamesPoints, NamesRegion, form_line, refusal_line};
 ghost use Rattle.endgame_run.specs.Top.{IsBegun, IsValuesReport};
@@ -69,7 +70,7 @@ pub(crate) fn solve<L: Ledger>(
     requires komi { IsInRange setup.now.komi_halves }
     requires positions { limits.now.positions ≤ 1000000 }
     ensures answer { IfOk result (λ report. IsPositionAnswer (Question.Solve limits.now) setup.now report.status report.text) }
-    ensures steps { (regions : List Shape) → AreRegions setup.now.board regions → steps.new ≤ steps.old + most_steps limits.now regions }
+    ensures steps { (regions : List Shape) → AreRegionsOfPlay setup.now.board regions → steps.new ≤ steps.old + most_steps limits.now regions }
 {
     match Solved::begin(alloc, setup, limits, steps) {
         Ok(mut solved) => {
@@ -132,7 +133,7 @@ pub(crate) fn value<L: Ledger>(
     requires komi { IsInRange setup.now.komi_halves }
     requires positions { limits.now.positions ≤ 1000000 }
     ensures answer { IfOk result (λ report. IsPositionAnswer (Question.Values limits.now) setup.now report.status report.text) }
-    ensures steps { (regions : List Shape) → AreRegions setup.now.board regions → steps.new ≤ steps.old + most_steps limits.now regions }
+    ensures steps { (regions : List Shape) → AreRegionsOfPlay setup.now.board regions → steps.new ≤ steps.old + most_steps limits.now regions }
 {
     match Solved::begin(alloc, setup, limits, steps) {
         Ok(solved) => {
@@ -160,7 +161,7 @@ pub(crate) fn begin<L: Ledger>(
     requires komi { IsInRange setup.now.komi_halves }
     requires positions { limits.now.positions ≤ 1000000 }
     ensures begun { IfOk result (IsBegun limits.now engine setup.now) }
-    ensures steps { (regions : List Shape) → AreRegions setup.now.board regions → steps.new ≤ steps.old + most_steps limits.now regions }
+    ensures steps { (regions : List Shape) → AreRegionsOfPlay setup.now.board regions → steps.new ≤ steps.old + most_steps limits.now regions }
 {
     match Solved::begin(alloc, setup, limits, steps) {
         Ok(solved) => Ok(Opened::Game(Session::new(solved, engine.unwrap_or(setup.side)))),

@@ -8,7 +8,8 @@ ghost use Rattle.sgf_go.specs.declared.settings.Setup.{Setup as Position};
 ghost use Rattle.sgf_go.specs.Komi.{IsInRange};
 ghost use Rattle.gd_words.specs.Viewed.{task_of, texts, viewed};
 ghost use Rattle.endgame_solver.specs.declared.limits.Limits.{Limits};
-ghost use Rattle.endgame_solver.specs.Faults.{AreRegions, most_steps};
+ghost use Rattle.endgame_solver.specs.Faults.{most_steps};
+ghost use Rattle.region_cut.specs.Cut.{AreRegionsOfPlay};
 ghost use Rattle.endgame_run.specs.File.{count_of, dash, outside, told_of};
 ghost use Rattle.endgame_run.specs.Found.{HasRanges};
 ghost use Rattle.endgame_run.specs.Game.{EngineKeepsWin, IsGameRun, IsSessionStatus};
@@ -170,7 +171,7 @@ pub fn run<H: Shelf, S: Source, K: Sink, L: Ledger>(
     ensures first_winning_move { result ≡ Status.Done → AskToSolve (texts words.now) → WritesMove (texts words.now) (outside (H.files shelf.old) (S.left lines.old) (H.faults shelf.old) (H.faults shelf.new)
         (S.faults lines.old) (S.faults lines.new)) (K.holds out.old) (K.holds out.new) }
     ensures steps { (limits : Limits) (setup : Position) (regions : List Shape)
-        → IsToldRegions (texts words.now) (H.files shelf.old) (S.left lines.old) limits setup → AreRegions setup.board regions → steps.new ≤ steps.old + most_steps limits regions }
+        → IsToldRegions (texts words.now) (H.files shelf.old) (S.left lines.old) limits setup → AreRegionsOfPlay setup.board regions → steps.new ≤ steps.old + most_steps limits regions }
     ensures few_steps { AreSteps (texts words.now) (H.files shelf.old) (S.left lines.old) steps.old steps.new }
     ensures no_steps { ¬ NeedRegions (texts words.now) → steps.new ≡ steps.old }
     ensures at_end { result ≡ Status.Done → ReadSource (texts words.now) → S.left lines.new ≡ ended (S.left lines.old) }

@@ -8,7 +8,8 @@ use Rattle.go_grid.specs.Region.{Shape}
 use Rattle.sgf_go.specs.declared.settings.Setup.{Setup}
 use Rattle.local_graph.specs.Nodes.{Nodes}
 use Rattle.game_store.specs.Tree.{Tree}
-use Rattle.endgame_solver.specs.Faults.{AreRefused, AreRegions, most_steps}
+use Rattle.endgame_solver.specs.Faults.{AreRefused, most_steps}
+use Rattle.region_cut.specs.Cut.{AreRegionsOfPlay}
 use Rattle.endgame_solver.specs.Held.{ids_at}
 use Rattle.endgame_solver.specs.Solved.{Begun}
 use Rattle.endgame_solver.specs.Solving.{AreSolvedBelow}
@@ -17,11 +18,11 @@ use Rattle.endgame_solver.specs.declared.faults.SolveError.{SolveError}
 use Rattle.endgame_solver.specs.declared.faults.SolveError.TheVariants.{Points, Positions, Cycle, Form, Memory}
 use Rattle.endgame_solver.proofs.OneCut.{one_sum}
 
-pub steps_within : (limits : Limits) (g : Grid) (rs : List Shape) (start now : ℕ) → AreRegions g rs → now ≤ start + most_steps limits rs
-    → (ss : List Shape) → AreRegions g ss → now ≤ start + most_steps limits ss
+pub steps_within : (limits : Limits) (g : Grid) (rs : List Shape) (start now : ℕ) → AreRegionsOfPlay g rs → now ≤ start + most_steps limits rs
+    → (ss : List Shape) → AreRegionsOfPlay g ss → now ≤ start + most_steps limits ss
 steps_within limits g rs start now a few ss b = omega (arith, few, one_sum g rs ss a b (λ points. min limits.positions (3 ^ length points)))
 
-pub refusal_begun : (setup : Setup) (limits : Limits) (regions : List Shape) → AreRegions setup.board regions → (e : SolveError) → AreRefused limits regions e → Begun setup limits (Err e)
+pub refusal_begun : (setup : Setup) (limits : Limits) (regions : List Shape) → AreRegionsOfPlay setup.board regions → (e : SolveError) → AreRefused limits regions e → Begun setup limits (Err e)
 refusal_begun setup limits regions are (Points p n) h = (regions, are, h)
 refusal_begun setup limits regions are (Positions p) h = (regions, are, h)
 refusal_begun setup limits regions are (Cycle p names back) h = (regions, are, h)

@@ -22,12 +22,13 @@ use Rattle.local_graph.specs.declared.cycle.CycleMove.{CycleMove}
 use Rattle.local_graph.specs.LocalGraph.{Plays as LocalPlays}
 use Rattle.region_cut.proofs.WallLemmas.{same_or_not}
 use Rattle.region_cut.specs.Cut.{AreRegionsOfPlay}
-use Rattle.region_cut.specs.LocalBoard.{HoldsPosition, PlaysLocally}
+use Rattle.region_cut.specs.LocalBoard.{HoldsPosition}
+use Rattle.region_cut.proofs.LocalBoardLemmas.{plays_locally}
 use Rattle.region_cut.proofs.ApartLemmas.{HoldPositions, holds_start, only_region, positions_after}
 use Rattle.endgame_solver.specs.Bookkeeping.{AreMovesIn, RegionsFollow}
 use Rattle.endgame_solver.specs.Regions.{no_region, region_at}
 
-module _ (g : Grid) (settled : IsSettled g) (regions : List Shape) (cut : AreRegionsOfPlay g regions) (local : (r : Shape) → Contains regions r → PlaysLocally g r) where
+module _ (g : Grid) (settled : IsSettled g) (regions : List Shape) (cut : AreRegionsOfPlay g regions) where
   abbrev Held : List (List Cell) → Grid → Type 0
   Held positions h = HoldPositions g regions cut positions h
 
@@ -62,7 +63,7 @@ module _ (g : Grid) (settled : IsSettled g) (regions : List Shape) (cut : AreReg
       let holds = held.each l no_region w.1 in
       let cells = get_or positions l [] in
       let placed' = subst (λ x. IsPlaced h x c after) (sym there) placed in
-      let plays = local r (Contains-get_or regions l no_region w.1) in
+      let plays = plays_locally g r settled (cut.each r (Contains-get_or regions l no_region w.1)) in
       let m = (plays.legal cells h c i holds short).0 (after, placed') in
       let is = plays.local cells m.0 h after c i holds short placed' m.1 in
       record {
@@ -136,12 +137,11 @@ opening_at [] k d lt = absurd (omega (arith, lt))
 opening_at (r ∷ rs) zero d lt = refl
 opening_at (r ∷ rs) (suc k) d lt = opening_at rs k d (omega (arith, lt))
 
-held_start : (g : Grid) (regions : List Shape) (cut : AreRegionsOfPlay g regions) → ((r : Shape) → Contains regions r → length r.cells ≡ length r.points)
-    → HoldPositions g regions cut (openings regions) g
-held_start g regions cut full = record {
+held_start : (g : Grid) (regions : List Shape) (cut : AreRegionsOfPlay g regions) → HoldPositions g regions cut (openings regions) g
+held_start g regions cut = record {
   many = openings_long regions;
   each = λ k d lt. let r = get_or regions k d in let among = Contains-get_or regions k d lt in
-      subst (λ x. HoldsPosition g r x g) (sym (opening_at regions k d lt)) (holds_start g r (cut.each r among) (full r among));
+      subst (λ x. HoldsPosition g r x g) (sym (opening_at regions k d lt)) (holds_start g r (cut.each r among) (cut.each r among).proper.full);
 }
 
 -- a point that isn't contested is an alive stone or counted, and those never change
@@ -154,12 +154,12 @@ others_stay g h walls p lt not = elim (same_or_not (cell_at h p) (cell_at g p)) 
 ]
 
 pub regions_follow : RegionsFollow
-regions_follow g regions black white komi side s t ms settled cut both opening plays =
+regions_follow g regions black white komi side s t ms settled cut opening plays =
     let keeps = keeps_start g black white komi side s opening in
-    let held = subst (λ z. HoldPositions g regions cut (openings regions) z) (sym opening.board) (held_start g regions cut (λ r among. (both r among).1)) in (
+    let held = subst (λ z. HoldPositions g regions cut (openings regions) z) (sym opening.board) (held_start g regions cut) in (
       λ r (k, lt, e).
           let here : region_at regions k ≡ r = get_or_default regions k no_region r lt ∙ e in
-          let f = follows g settled regions cut (λ x among. (both x among).0) s t ms (openings regions) k keeps held plays lt in
+          let f = follows g settled regions cut s t ms (openings regions) k keeps held plays lt in
           let from : get_or (openings regions) k [] ≡ r.cells = opening_at regions k no_region lt ∙ ap (λ x. x.cells) here in
           record {
             local = f.moves;

@@ -13,10 +13,10 @@ use Rattle.whole_rules.specs.Opening.{IsOpening}
 use Rattle.whole_rules.specs.WholeGame.{State}
 use Rattle.whole_rules.proofs.WallLaws.{keeps_start}
 use Rattle.local_graph.specs.Nodes.{Nodes}
-use Rattle.region_cut.specs.Cut.{lowest}
+use Rattle.region_cut.specs.Cut.{lowest, AreRegionsOfPlay}
 use Rattle.region_cut.specs.LocalBoard.{PlaysLocally}
 use Rattle.game_store.specs.Tree.{Tree}
-use Rattle.endgame_solver.specs.Faults.{AreRegions, AreSound, IsSound}
+use Rattle.endgame_solver.specs.Faults.{AreSound, IsSound}
 use Rattle.endgame_solver.specs.Held.{AreSolved, AreSummed, IsAt, IsKept, ids_at, place_at}
 use Rattle.endgame_solver.specs.Regions.{AreGraphs, IsShown, graph_at, no_region, region_at, spot_in}
 use Rattle.endgame_solver.specs.Solving.{AreSolvedBelow}
@@ -27,7 +27,7 @@ use Rattle.endgame_solver.proofs.OneCut.{increases, lows_ascend, low_contested}
 use Rattle.endgame_solver.proofs.RoomAtStart.{purse_few, room_at_start}
 
 -- a board has no more regions than points
-few_regions : (g : Grid) (regions : List Shape) → AreRegions g regions → length g.cells ≤ 625 → length regions ≤ 625
+few_regions : (g : Grid) (regions : List Shape) → AreRegionsOfPlay g regions → length g.cells ≤ 625 → length regions ≤ 625
 few_regions g regions are few =
     let bound = short (map lowest regions) (length g.cells) (increases (map lowest regions) (lows_ascend g regions are)) inside in
     omega (arith, bound, few, length-map regions lowest)
@@ -48,13 +48,13 @@ few_units positions cells scale few small =
     times a b c h = grind (arith, h)
 
 module _ (limits : Limits) (g : Grid) (regions : List Shape) (graphs : List Nodes) (values : List (List ℕ)) (Ts : List Tree) (settled : IsSettled g)
-    (are : AreRegions g regions) (local : (r : Shape) → Contains regions r → PlaysLocally g r) (few : length g.cells ≤ 625)
+    (are : AreRegionsOfPlay g regions) (local : (r : Shape) → Contains regions r → PlaysLocally g r) (few : length g.cells ≤ 625)
     (limit : limits.positions ≤ 1000000) (done : AreSolvedBelow limits regions graphs values Ts (length regions)) where
   are_graphs : AreGraphs g regions graphs
   are_graphs = record {
-    cut = are.cut;
+    cut = are;
     local = local;
-    full = λ r h. (are.proper r h).full;
+    full = λ r h. (are.each r h).proper.full;
     many = done.as_many_graphs;
     each = λ k lt. (done.each k lt).graph.graph;
   }
@@ -67,7 +67,7 @@ module _ (limits : Limits) (g : Grid) (regions : List Shape) (graphs : List Node
   are_solved : AreSolved g regions graphs values Ts
   are_solved = record {
     settled = settled;
-    proper = are.proper;
+    proper = λ r h. (are.each r h).proper;
     cut = are_graphs;
     few = few_regions g regions are few;
     short = short_order;

@@ -9,6 +9,8 @@ pub mod RegionPlayLaws
 pub mod RegionTreeLaws
 pub mod ValueSumLaws
 pub mod BoardLaws
+pub mod CellPlayLaws
+pub mod WholeDecomposition
 pub mod MoneyLaws
 pub mod FollowLaws
 pub mod HeldLaws

@@ -10,9 +10,8 @@ use Rattle.go_grid.specs.Grid.{Grid}
 use Rattle.go_grid.specs.Region.{Shape}
 use Rattle.go_grid.proofs.WalkLemmas.{joined_back, joined_end}
 use Rattle.benson_life.specs.Region.{IsContested, InRegionOfPlay}
-use Rattle.region_cut.specs.Cut.{lowest}
+use Rattle.region_cut.specs.Cut.{lowest, AreRegionsOfPlay}
 use Rattle.game_store.specs.Meaning.{IsAscending}
-use Rattle.endgame_solver.specs.Faults.{AreRegions}
 use Rattle.endgame_solver.specs.Regions.{no_region, region_at}
 
 -- two ways of saying that a list ascends
@@ -54,31 +53,31 @@ one_list (x ∷ xs) (y ∷ ys) a b f g =
     later z zs p (zero, short, at) less = absurd (omega (arith, at, less))
     later z zs p (suc k, short, at) less = (k, omega (arith, short), at)
 
-module _ (g : Grid) (rs : List Shape) (are : AreRegions g rs) where
+module _ (g : Grid) (rs : List Shape) (are : AreRegionsOfPlay g rs) where
   pub low_in : (r : Shape) → Contains rs r → Contains r.points (lowest r)
-  low_in r h = Contains-get_or r.points 0 0 (are.proper r h).some
+  low_in r h = Contains-get_or r.points 0 0 (are.each r h).proper.some
 
   -- the lowest point of a region is contested
   pub low_contested : (r : Shape) → Contains rs r → IsContested g (lowest r)
-  low_contested r h = joined_end g.columns (IsContested g) (lowest r) (lowest r) (((are.cut.each r h).points (lowest r)).0 (low_in r h))
+  low_contested r h = joined_end g.columns (IsContested g) (lowest r) (lowest r) (((are.each r h).points (lowest r)).0 (low_in r h))
 
   pub lows_ascend : IsAscending (map lowest rs)
   lows_ascend i j lt short =
       let inside : j < length rs = omega (arith, short, length-map rs lowest) in
       let before : i < length rs = omega (arith, lt, inside) in
-      let less = are.cut.ascending i j no_region lt inside in
+      let less = are.ascending i j no_region lt inside in
       omega (arith, less, get_or-map lowest rs i no_region 0 before, get_or-map lowest rs j no_region 0 inside)
 
 -- the lowest points of one list are among those of the other
-module _ (g : Grid) (rs ss : List Shape) (a : AreRegions g rs) (b : AreRegions g ss) where
+module _ (g : Grid) (rs ss : List Shape) (a : AreRegionsOfPlay g rs) (b : AreRegionsOfPlay g ss) where
   low_of : (r : Shape) → Contains rs r → (s : Shape) × Contains ss s × (lowest s ≡ lowest r)
   low_of r h =
       let p = lowest r in
-      let (s, among, inside) = b.cut.every p (low_contested g rs a r h) in
-      let to : InRegionOfPlay g (lowest s) p = ((b.cut.each s among).points p).0 inside in
+      let (s, among, inside) = b.every p (low_contested g rs a r h) in
+      let to : InRegionOfPlay g (lowest s) p = ((b.each s among).points p).0 inside in
       let back : InRegionOfPlay g p (lowest s) = joined_back g.columns (IsContested g) (lowest s) p to in
-      let low = (a.cut.each r h).first (lowest s) (((a.cut.each r h).points (lowest s)).1 back) in
-      let high = (b.cut.each s among).first p inside in
+      let low = (a.each r h).first (lowest s) (((a.each r h).points (lowest s)).1 back) in
+      let high = (b.each s among).first p inside in
       (s, among, omega (arith, low, high))
 
   pub lows_among : (p : ℕ) → Contains (map lowest rs) p → Contains (map lowest ss) p
@@ -89,7 +88,7 @@ module _ (g : Grid) (rs ss : List Shape) (a : AreRegions g rs) (b : AreRegions g
       let there : get_or (map lowest ss) j p ≡ p = get_or-map lowest ss j s p known ∙ ap lowest here ∙ same ∙ sym is in
       (j, omega (arith, known, length-map ss lowest), there)
 
-module _ (g : Grid) (rs ss : List Shape) (a : AreRegions g rs) (b : AreRegions g ss) where
+module _ (g : Grid) (rs ss : List Shape) (a : AreRegionsOfPlay g rs) (b : AreRegionsOfPlay g ss) where
   same_lows : map lowest rs ≡ map lowest ss
   same_lows = one_list (map lowest rs) (map lowest ss) (lows_ascend g rs a) (lows_ascend g ss b) (lows_among g rs ss a b) (lows_among g ss rs b a)
 
@@ -104,9 +103,9 @@ module _ (g : Grid) (rs ss : List Shape) (a : AreRegions g rs) (b : AreRegions g
       let h = Contains-get_or rs k no_region lt in
       let h' = Contains-get_or ss k no_region lt' in
       let same : lowest r ≡ lowest s = sym (get_or-map lowest rs k no_region 0 lt) ∙ ap (λ xs. get_or xs k 0) same_lows ∙ get_or-map lowest ss k no_region 0 lt' in
-      one_list r.points s.points (ascends r.points (a.proper r h).ascending) (ascends s.points (b.proper s h').ascending)
-      (λ p i. ((b.cut.each s h').points p).1 (subst (λ z. InRegionOfPlay g z p) same (((a.cut.each r h).points p).0 i)))
-      (λ p i. ((a.cut.each r h).points p).1 (subst (λ z. InRegionOfPlay g z p) (sym same) (((b.cut.each s h').points p).0 i)))
+      one_list r.points s.points (ascends r.points (a.each r h).proper.ascending) (ascends s.points (b.each s h').proper.ascending)
+      (λ p i. ((b.each s h').points p).1 (subst (λ z. InRegionOfPlay g z p) same (((a.each r h).points p).0 i)))
+      (λ p i. ((a.each r h).points p).1 (subst (λ z. InRegionOfPlay g z p) (sym same) (((b.each s h').points p).0 i)))
 
   pub regions_unique : map (λ r. r.points) rs ≡ map (λ r. r.points) ss
   regions_unique = ext_get_or [] (map (λ r. r.points) rs) (map (λ r. r.points) ss)

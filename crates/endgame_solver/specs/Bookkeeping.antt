@@ -19,7 +19,7 @@ use Rattle.local_graph.specs.LocalGraph.{Plays as LocalPlays}
 use Rattle.whole_rules.specs.Opening.{IsOpening}
 use Rattle.whole_rules.specs.Walls.{Plays}
 use Rattle.region_cut.specs.Cut.{AreRegionsOfPlay}
-use Rattle.region_cut.specs.LocalBoard.{HoldsPosition, PlaysLocally}
+use Rattle.region_cut.specs.LocalBoard.{HoldsPosition}
 
 -- The moves of the list that fall into the region, in their order, as local moves, where the player is the first to move.
 abbrev pub AreMovesIn : Shape → Colour → List Move → List CycleMove → Type 0
@@ -91,6 +91,5 @@ PursesFollow = (c : Colour) (s t : State) (ms : List Move) (ns : List ℕ) → P
 -- After any moves from the opening each region follows its own moves, and all points that aren't contested are as at the opening.
 abbrev pub RegionsFollow : Type 0
 RegionsFollow = (g : Grid) (regions : List Shape) (black white : ℕ) (komi : ℤ) (side : Colour) (s t : State) (ms : List Move) → IsSettled g
-    → AreRegionsOfPlay g regions → ((r : Shape) → Contains regions r → PlaysLocally g r × (length r.cells ≡ length r.points))
-    → IsOpening g black white komi side s → Plays s ms t
+    → AreRegionsOfPlay g regions → IsOpening g black white komi side s → Plays s ms t
     → ((r : Shape) → Contains regions r → RegionFollows g r side ms t.board) × ((p : ℕ) → p < length g.cells → ¬ IsContested g p → cell_at t.board p ≡ cell_at g p)

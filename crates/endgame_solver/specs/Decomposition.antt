@@ -1,5 +1,5 @@
 -- The decomposition law over whole boards: who loses the whole game is the sign of a sum.
-use Rattle.std.specs.Prelude.{ℕ, ℤ, ◌⊎◌, ◌↔◌, ◌^◌, ◌+ℤ◌, List, [], ◌∷◌, length}
+use Rattle.std.specs.Prelude.{ℕ, ℤ, ◌⊎◌, ◌↔◌, ◌^◌, ◌+ℤ◌, List, [], ◌∷◌, length, Contains}
 use Rattle.go_grid.specs.declared.grid.Cell.{Cell}
 use Rattle.go_grid.specs.declared.grid.Colour.{Colour}
 use Rattle.go_grid.specs.declared.grid.Colour.TheVariants.{Black, White}
@@ -12,14 +12,14 @@ use Rattle.whole_rules.specs.Opening.{IsOpening}
 use Rattle.whole_rules.specs.PlainRecursion.{MoverWins, MoverLoses}
 use Rattle.whole_rules.specs.Walls.{Plays}
 use Rattle.whole_rules.specs.WholeGame as whole
-use Rattle.local_graph.specs.Nodes.{Nodes}
+use Rattle.local_graph.specs.FiniteLocalPlay.{HasNoCycle}
+use Rattle.region_cut.specs.Cut.{AreRegionsOfPlay}
 use Rattle.region_cut.specs.LocalBoard.{HoldsPosition}
 use Rattle.game_store.specs.Tree.{Tree, Trees, none, more}
 use Rattle.game_store.specs.Number.{num}
 use Rattle.game_store.specs.Sum.{◌+ᵍ◌, total}
 use Rattle.game_canon.specs.Players.{credit, LosesGame}
 use Rattle.local_value.specs.PositionTree.{IsTreeOf}
-use Rattle.endgame_solver.specs.Regions.{AreGraphs}
 use Rattle.endgame_solver.specs.SumGame.{token_tree}
 
 -- the trees of the positions that the board holds in the regions
@@ -32,10 +32,12 @@ AreTreesOn g h _ _ = ⊥
 abbrev pub money_tree : Purses → Tree
 money_tree m = num 0 (credit Black m.black +ℤ credit White m.white) +ᵍ token_tree m.token
 
--- Where no region has a cycle, each state that moves reach from the opening has a winner, and the player to move loses
--- exactly where the sum of the regions' trees and the money is at most 0 for Black, at least 0 for White.
+-- Where no region of a settled board has a cycle, each state that moves reach from the opening has a winner. And the player to
+-- move loses exactly where the sum of trees of the regions' positions and the money is at most 0 for Black, at least 0 for White.
 abbrev pub WholeDecomposes : Type 0
-WholeDecomposes = (g : Grid) (regions : List Shape) (graphs : List Nodes) (black white : ℕ) (komi : ℤ) (side : Colour) (s t : whole.State) (ms : List Move)
-    → IsSettled g → AreGraphs g regions graphs → IsOpening g black white komi side s → Plays s ms t → (trees : Trees) → AreTreesOn g t.board regions trees
+WholeDecomposes = (g : Grid) (regions : List Shape) (black white : ℕ) (komi : ℤ) (side : Colour) (s t : whole.State) (ms : List Move)
+    → IsSettled g → AreRegionsOfPlay g regions → ((r : Shape) → Contains regions r → HasNoCycle r.touch r.cells)
+    → IsOpening g black white komi side s → Plays s ms t
     → (MoverWins whole.State whole.Leads t ⊎ MoverLoses whole.State whole.Leads t)
-    × (MoverLoses whole.State whole.Leads t ↔ LosesGame t.side (total trees +ᵍ money_tree t.purses))
+    × ((trees : Trees) → AreTreesOn g t.board regions trees
+    → MoverLoses whole.State whole.Leads t ↔ LosesGame t.side (total trees +ᵍ money_tree t.purses))

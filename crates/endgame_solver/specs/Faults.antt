@@ -3,12 +3,11 @@ use Rattle.std.specs.Prelude.{◌≡◌, ℕ, ◌<◌, ◌≤◌, ◌⊎◌, Lis
 use Rattle.std.specs.List.{sum_by}
 use Rattle.go_grid.specs.declared.grid.Cell.{Cell}
 use Rattle.go_grid.specs.declared.grid.Colour.{Colour}
-use Rattle.go_grid.specs.Grid.{Grid}
-use Rattle.go_grid.specs.Region.{Shape, IsRegion}
+use Rattle.go_grid.specs.Region.{Shape}
 use Rattle.local_graph.specs.declared.cycle.CycleMove.{CycleMove}
 use Rattle.local_graph.specs.FiniteLocalPlay.{HasNoCycle}
 use Rattle.local_graph.specs.LocalGraph.{IsReachable, IsCycle, AreDifferent, MoreThan}
-use Rattle.region_cut.specs.Cut.{AreRegionsOfPlay, lowest}
+use Rattle.region_cut.specs.Cut.{lowest}
 use Rattle.game_store.specs.Tree.{Tree}
 use Rattle.game_store.specs.Parts.{HasMoreParts}
 use Rattle.game_canon.specs.Changes.{HasNumberPastBounds}
@@ -17,11 +16,6 @@ use Rattle.endgame_solver.specs.Regions.{region_at}
 use Rattle.endgame_solver.specs.declared.limits.Limits.{Limits}
 use Rattle.endgame_solver.specs.declared.faults.SolveError.{SolveError}
 use Rattle.endgame_solver.specs.declared.faults.SolveError.TheVariants.{Points, Positions, Cycle, Form, Memory}
-
--- the regions of play of the board, by lowest point, each of points of the board that ascend
-pub record AreRegions (g : Grid) (regions : List Shape) : Type 0 where
-  pub cut : AreRegionsOfPlay g regions
-  pub proper : (r : Shape) → Contains regions r → IsRegion r.columns r.rows r.points r.cells r.touch
 
 -- the value of some reachable position has more parts than the limit, or a number past the bounds of a Dyadic
 abbrev pub HasLargeForm : Shape → ℕ → Type 0

@@ -7,7 +7,7 @@ use Rattle.go_grid.specs.Region.{Shape}
 use Rattle.sgf_go.specs.declared.settings.Setup.{Setup}
 use Rattle.local_play.specs.LocalPlay.{held_at}
 use Rattle.local_graph.specs.LocalGraph.{IsReachable}
-use Rattle.region_cut.specs.Cut.{lowest}
+use Rattle.region_cut.specs.Cut.{lowest, AreRegionsOfPlay}
 use Rattle.whole_rules.specs.Opening.{IsOpening}
 use Rattle.whole_rules.specs.WholeGame.{State}
 use Rattle.game_store.specs.Tree.{Tree}
@@ -15,7 +15,7 @@ use Rattle.game_store.specs.Meaning.{tree_at}
 use Rattle.local_value.specs.PositionTree.{IsValueOf}
 use Rattle.endgame_solver.specs.Regions.{region_at}
 use Rattle.endgame_solver.specs.SumGame.{balance}
-use Rattle.endgame_solver.specs.Faults.{AreRegions, AreSound, AreRefused}
+use Rattle.endgame_solver.specs.Faults.{AreSound, AreRefused}
 use Rattle.endgame_solver.specs.declared.limits.Limits.{Limits}
 use Rattle.endgame_solver.specs.declared.faults.SolveError.{SolveError}
 use Rattle.endgame_solver.specs.declared.faults.SolveError.TheVariants.{Memory}
@@ -33,9 +33,9 @@ OpensAs setup s = IsOpening setup.board setup.black_prisoners setup.white_prison
 
 -- the game that the position opens, all of whose regions are sound, or why there is none
 abbrev pub Begun : Setup → Limits → Result SolvedGame SolveError → Type 0
-Begun setup limits (Ok game) = OpensAs setup game.state × AreRegions setup.board game.regions × AreSound limits game.regions
+Begun setup limits (Ok game) = OpensAs setup game.state × AreRegionsOfPlay setup.board game.regions × AreSound limits game.regions
 Begun setup limits (Err (Memory e)) = Unit {0}
-Begun setup limits (Err fault) = (regions : List Shape) × AreRegions setup.board regions × AreRefused limits regions fault
+Begun setup limits (Err fault) = (regions : List Shape) × AreRegionsOfPlay setup.board regions × AreRefused limits regions fault
 
 -- the board holds the cells in the region
 abbrev pub HoldsCells : Grid → Shape → List Cell → Type 0

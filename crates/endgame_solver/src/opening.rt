@@ -4,7 +4,7 @@ ghost use Rattle.std.specs.Prelude.{◌≡◌, ℕ, ◌<◌, ◌≤◌, All, Con
 ghost use Rattle.go_grid.specs.Chain.{IsSettled};
 ghost use Rattle.go_grid.specs.Region.{Shape};
 ghost use Rattle.region_cut.specs.LocalBoard.{PlaysLocally};
-ghost use Rattle.endgame_solver.specs.Faults.{AreRegions};
+ghost use Rattle.region_cut.specs.Cut.{AreRegionsOfPlay};
 ghost use Rattle.endgame_solver.specs.Solving.{FindsLarge};
 
 use benson_life::{alive, counted};
@@ -20,7 +20,7 @@ const MOST_POINTS: usize = 32;
 /// The regions of play of a settled board, by lowest point.
 pub(crate) fn regions_of_play(alloc: Global, board: &Board) -> Result<Vec<Region>, AllocError>
     requires { IsSettled board.now }
-    ensures regions { IfOk result (λ regions. AreRegions board.now regions.items) }
+    ensures regions { IfOk result (λ regions. AreRegionsOfPlay board.now regions.items) }
     ensures local { IfOk result (λ regions. (r : Shape) → Contains regions.items r → PlaysLocally board.now r) }
 {
     let black = alive(alloc, board, Colour::Black)?;

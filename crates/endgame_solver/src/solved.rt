@@ -10,7 +10,8 @@ ghost use Rattle.whole_rules.specs.WholeGame.{State, Leads, Applies};
 ghost use Rattle.game_canon.specs.Players.{LosesGame};
 ghost use Rattle.sum_outcome.specs.Sums.{sum_tree};
 ghost use Rattle.endgame_solver.specs.Regions.{region_at};
-ghost use Rattle.endgame_solver.specs.Faults.{AreRegions, most_steps};
+ghost use Rattle.endgame_solver.specs.Faults.{most_steps};
+ghost use Rattle.region_cut.specs.Cut.{AreRegionsOfPlay};
 ghost use Rattle.endgame_solver.specs.Solved.{Begun, IsPresent, ArePresent, IsReport, balance_units};
 
 use crate::faults::SolveError;
@@ -91,7 +92,7 @@ impl Solved {
         requires komi { unsigned_abs setup.now.komi_halves ≤ 2000000 }
         requires positions { limits.now.positions ≤ 1000000 }
         ensures begun { Begun setup.now limits.now result }
-        ensures steps { (regions : List Shape) → AreRegions setup.now.board regions → steps.new ≤ steps.old + most_steps limits.now regions }
+        ensures steps { (regions : List Shape) → AreRegionsOfPlay setup.now.board regions → steps.new ≤ steps.old + most_steps limits.now regions }
     {
         let board = &setup.board;
         let _size = board.size();

@@ -156,14 +156,34 @@ fn first_report(solved: &Solved) -> Option<RegionReport> {
     Some(solved.region_report(0))
 }
 
+/// Whether the game is 0.
+fn is_zero(store: &Store, id: GameId) -> bool {
+    if id >= store.len() {
+        return false;
+    }
+    match store.node(id) {
+        Form::Number(x) => x.units() == 0,
+        Form::Options { .. } => false,
+    }
+}
+
 /// Whether the value of the first region's present position is 0.
 fn is_nought(solved: &Solved) -> bool {
+    solved.regions() > 0 && is_zero(solved.store(), solved.present(0))
+}
+
+/// Whether the value of the first region's present position is `{0|0}`.
+fn is_star(solved: &Solved) -> bool {
     if solved.regions() == 0 {
         return false;
     }
-    match solved.store().node(solved.present(0)) {
-        Form::Number(x) => x.units() == 0,
-        Form::Options { .. } => false,
+    let store = solved.store();
+    match store.node(solved.present(0)) {
+        Form::Options {
+            left: [left],
+            right: [right],
+        } => is_zero(store, *left) && is_zero(store, *right),
+        _ => false,
     }
 }
 
@@ -230,16 +250,16 @@ fn has_too_many_positions<L: Ledger>(alloc: Global, blank: Blank, limits: Limits
     )
 }
 
-/// Whether a corridor is refused for a value without a form.
-fn has_no_form<L: Ledger>(alloc: Global, blank: Blank, limits: Limits) -> bool
+/// The point for which a corridor is refused for a value without a form.
+fn refused_form<L: Ledger>(alloc: Global, blank: Blank, limits: Limits) -> Option<u16>
     requires name { blank.name ≡ L.name }
     requires parts { blank.parts ≡ L.parts }
     requires some { 0 < blank.parts }
 {
-    matches!(
-        begin::<L>(alloc, blank, CORRIDOR, limits),
-        Err(SolveError::Form(_))
-    )
+    match begin::<L>(alloc, blank, CORRIDOR, limits) {
+        Err(SolveError::Form(point)) => Some(point.0),
+        _ => None,
+    }
 }
 
 /// Whether the endless region is refused for a cycle of two moves behind the first position that comes again.
@@ -276,9 +296,9 @@ fn refusals(rt: HostRuntime) {
         };
         assert!(rt; has_too_many_positions::<Brand>(alloc, Blank::new(1), limits) == refused);
     }
-    for (parts, refused) in [(1, true), (2, false)] {
+    for (parts, refused) in [(1, Some(14)), (2, None)] {
         let limits = Limits { parts, ..LIMITS };
-        assert!(rt; has_no_form::<Brand>(alloc, Blank::new(1), limits) == refused);
+        assert!(rt; refused_form::<Brand>(alloc, Blank::new(1), limits) == refused);
     }
     assert!(rt; has_a_cycle::<Brand>(alloc, Blank::new(1)));
     assert_eq!(rt; large_region::<Brand>(alloc, Blank::new(1)), Some(36));
@@ -287,7 +307,8 @@ fn refusals(rt: HostRuntime) {
 #[test]
 fn played(rt: HostRuntime) -> Result<(), SolveError> {
     let mut solved = begin::<Brand>(rt.alloc(), Blank::new(1), ONE_OPEN, LIMITS)?;
-    assert!(rt; !is_nought(&solved));
+    assert!(rt; is_star(&solved));
+    assert_eq!(rt; solved.balance().units(), 0);
     assert_eq!(rt;
         solved.play(Move::Stone(Point(0))),
         Err(MoveError::NotContested)

@@ -1,8 +1,8 @@
 -- The laws of games.
 use Rattle.std.specs.Prelude.{ℕ, ◌+◌, ◌^◌, ◌≡◌, ◌↔◌, ℤ, pos, ◌+ℤ◌, ◌-ℤ◌, ◌*ℤ◌, ◌<ℤ◌, ◌≤ℤ◌}
-use Rattle.game_store.specs.Tree.{Tree, Trees, node, none, Has, neg}
+use Rattle.game_store.specs.Tree.{Tree, Trees, node, none, left, right, Has, neg}
 use Rattle.game_store.specs.Order.{◌≤ᵍ◌, ◌≡ᵍ◌}
-use Rattle.game_store.specs.Sum.{◌+ᵍ◌, total}
+use Rattle.game_store.specs.Sum.{◌+ᵍ◌, each_plus, total}
 use Rattle.game_store.specs.Number.{num, IsNumberTree}
 use Rattle.game_store.specs.Moves.{LeftMoves, RightMoves, LeftWins, RightWins}
 use Rattle.game_store.specs.Stops.{IsLeftStop, IsRightStop}
@@ -39,6 +39,11 @@ LeftAvoidsNumbers = (Gs : Trees) (e : ℕ) (m : ℤ) → AreHot Gs → LeftWins 
 abbrev pub RightAvoidsNumbers : Type 0
 RightAvoidsNumbers = (Gs : Trees) (e : ℕ) (m : ℤ) → AreHot Gs → RightWins (total Gs +ᵍ num e m) → (Hs : Trees) × RightMoves Gs Hs × (total Hs +ᵍ num e m ≤ᵍ node none none)
 
+-- A canonical tree that is no number and a number add up to the tree whose options are the game's, each with the number added
+abbrev pub NumbersTranslate : Type 0
+NumbersTranslate = (G : Tree) (e : ℕ) (m : ℤ) → IsCanonicalTree G → (IsNumberTree G → ⊥)
+    → (G +ᵍ num e m) ≡ᵍ node (each_plus (left G) (num e m)) (each_plus (right G) (num e m))
+
 -- A canonical tree is at most its left stop and any y above 0, and at least its right stop less any such y. Here y is
 -- over 2 ^ (d + e), and a stop x over 2 ^ e is x * 2 ^ d over it
 abbrev pub IsUnderLeftStop : Type 0
@@ -53,6 +58,10 @@ StopsAreOrdered = (e : ℕ) (G : Tree) (l r : ℤ) → IsCanonicalTree G → IsL
 -- trees of equal text are the same tree
 abbrev pub TextsAreOneToOne : Type 0
 TextsAreOneToOne = (G H : Tree) → tree_text G ≡ tree_text H → G ≡ H
+
+-- canonical trees have equal texts exactly where they are equal as games
+abbrev pub TextsTellGames : Type 0
+TextsTellGames = (G H : Tree) → IsCanonicalTree G → IsCanonicalTree H → (tree_text G ≡ tree_text H) ↔ (G ≡ᵍ H)
 
 -- each tree has exactly one canonical tree that is equal to it
 abbrev pub EachHasCanonical : Type 0

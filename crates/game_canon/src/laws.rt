@@ -1,6 +1,6 @@
 //! Laws of games, each the contract of a function that does nothing.
 
-ghost use Rattle.game_canon.specs.Laws.{OrderIs, IsReflexive, IsTransitive, SumsKeepOrder, CancelsNegative, LeftAvoidsNumbers, RightAvoidsNumbers, IsUnderLeftStop, IsOverRightStop, StopsAreOrdered, TextsAreOneToOne, EachHasCanonical, IncentiveDominates, IncentiveDominatesBack};
+ghost use Rattle.game_canon.specs.Laws.{OrderIs, IsReflexive, IsTransitive, SumsKeepOrder, CancelsNegative, LeftAvoidsNumbers, RightAvoidsNumbers, NumbersTranslate, IsUnderLeftStop, IsOverRightStop, StopsAreOrdered, TextsAreOneToOne, TextsTellGames, EachHasCanonical, IncentiveDominates, IncentiveDominatesBack};
 
 /// The order of games is a preorder that sums keep, and each game cancels its negative (Conway).
 pub fn order_laws()
@@ -17,6 +17,11 @@ pub fn number_avoidance()
     ensures right { RightAvoidsNumbers }
 {}
 
+/// Number translation: to add a number to a canonical game that is no number is to add it to each option (Conway).
+pub fn number_translation()
+    ensures { NumbersTranslate }
+{}
+
 /// Stops bound a game, and the left stop is at least the right one (Siegel, Combinatorial Game Theory).
 pub fn stop_laws()
     ensures under { IsUnderLeftStop }
@@ -24,9 +29,10 @@ pub fn stop_laws()
     ensures ordered { StopsAreOrdered }
 {}
 
-/// A tree is known by its text.
+/// A tree is known by its text, and a game by the text of its canonical form.
 pub fn text_law()
-    ensures { TextsAreOneToOne }
+    ensures trees { TextsAreOneToOne }
+    ensures games { TextsTellGames }
 {}
 
 /// Each game has exactly one canonical form (Conway).

@@ -142,6 +142,14 @@ trace_different touch opening p front (m ∷ ms) end none first (next, move, res
     go later (suc i) zero d lt short = absurd (omega arith)
     go later (suc i) (suc j) d lt short = later i j d (omega arith) (omega arith)
 
+-- without a cycle a list of moves is shorter than 3 to the number of places
+pub plays_short : (touch : List Touch) (opening : List Cell) → HasNoCycle touch opening → (ms : List CycleMove) (end : List Cell)
+    → Plays touch opening ms end → length ms < 3 ^ length opening
+plays_short touch opening none ms end h =
+    let different = trace_different touch opening opening [] ms end none refl h in
+    let few = few_positions touch opening (trace touch opening ms end h) different (trace_reached touch opening ms end h) in
+    omega (arith, few, trace_long touch opening ms end h)
+
 pub short_play : (touch : List Touch) (opening : List Cell) → ShortPlay touch opening
 short_play touch opening none found all ms end h =
     let xs = trace touch opening ms end h in

@@ -91,7 +91,7 @@ module _ (P : Type 0) (to : ℕ → P) (moves : Colour → P → List (Step P)) 
   pub place_ends : (n i : ℕ) (cells : List Cell) → IsPlaceOf r g i cells → 3 ^ length r.cells ≤ n → EndsWithin P (StepsTo P moves) n (to i)
   place_ends n i cells has le = short-ends P (StepsTo P moves) n (to i) (λ qs w.
       let p = play_of i (to i) cells qs refl has w in
-      let most = short_plays r.touch r.cells g.positions g.edges of.graph of.no_cycle cells has.reachable p.0 p.1 in
+      let most = short_plays r.touch r.cells of.no_cycle cells has.reachable p.0 p.1 in
       omega (arith, most, le, p.2))
 
   -- a tree of a position is as good as that of its place, cut off at any depth that is long enough
@@ -99,7 +99,7 @@ module _ (P : Type 0) (to : ℕ → P) (moves : Colour → P → List (Step P)) 
       → G ≡ᵍ tree_within P moves n (to i)
   tree_same n deep i cells G has tree =
       let long : length cells ≡ length r.cells = plays_long r.touch r.cells cells has.reachable.0 has.reachable.1 in
-      let short = short_plays r.touch r.cells g.positions g.edges of.graph of.no_cycle cells has.reachable in
+      let short = short_plays r.touch r.cells of.no_cycle cells has.reachable in
       let short' : PlaysAreShort (List Cell) (MovesTo r.touch) (3 ^ length cells) cells = λ qs w. omega (arith, short qs w, ap (λ m. 3 ^ m) long) in
       let shorter : PlaysAreShort (List Cell) (MovesTo r.touch) n cells = λ qs w. omega (arith, short qs w, deep) in
       depths-agree (List Cell) (IsStep r.touch) (3 ^ length cells) n cells G (tree_within P moves n (to i)) short' shorter tree (place_tree n i cells has)

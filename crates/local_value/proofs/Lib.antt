@@ -1,7 +1,10 @@
 pub mod LocalLaws
+pub mod Decided
+pub mod MoveList
 pub mod PositionLaws
 pub mod DepthLaws
 pub mod ShortLaws
+pub mod CellTreeLaws
 pub mod StepLaws
 pub mod GraphLaws
 pub mod BuiltLaws

@@ -19,3 +19,7 @@ DepthIsFree = (touch : List Touch) (cells : List Cell) (n m : ℕ) (G H : Tree) 
 -- Trees of one position to one depth are equal as games.
 abbrev pub OneTree : Type 0
 OneTree = (touch : List Touch) (cells : List Cell) (n : ℕ) (G H : Tree) → IsTreeOf touch n cells G → IsTreeOf touch n cells H → G ≡ᵍ H
+
+-- Each local position has a tree of each depth.
+abbrev pub TreesExist : Type 0
+TreesExist = (touch : List Touch) (cells : List Cell) (n : ℕ) → (G : Tree) × IsTreeOf touch n cells G

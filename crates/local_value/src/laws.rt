@@ -1,9 +1,10 @@
 //! Laws of the trees of positions.
 
-ghost use Rattle.local_value.specs.Laws.{DepthIsFree, OneTree};
+ghost use Rattle.local_value.specs.Laws.{DepthIsFree, OneTree, TreesExist};
 
-/// The tree of a local position is one as a game, and its depth doesn't matter once no play is longer.
+/// A local position has a tree of each depth, which is one as a game, and its depth doesn't matter once no play is longer.
 pub fn position_tree_laws()
+    ensures exist { TreesExist }
     ensures one { OneTree }
     ensures depth { DepthIsFree }
 {}

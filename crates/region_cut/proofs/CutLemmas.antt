@@ -5,7 +5,7 @@ use Rattle.std.proofs.lemmas.Bool.{cases_eq}
 use Rattle.std.proofs.lemmas.List.Elements.{Contains-get_or, Contains-push, Contains-push_cases, Contains-append_left}
 use Rattle.std.proofs.lemmas.List.Quantifiers.{all_pairs_push}
 use Rattle.go_grid.specs.Grid.{Grid}
-use Rattle.go_grid.specs.Region.{Shape, IsRegion}
+use Rattle.go_grid.specs.Region.{Shape}
 use Rattle.go_grid.specs.declared.grid.Colour.{Colour}
 use Rattle.go_grid.specs.Marks.{IsMarked, Marks}
 use Rattle.go_grid.specs.Parts.{AreParts, label}
@@ -15,14 +15,11 @@ use Rattle.benson_life.specs.Life.{IsAlive, IsLargestHealthy}
 use Rattle.benson_life.proofs.PartsLemmas.{parts_over}
 use Rattle.benson_life.specs.Region.{IsContested, InRegionOfPlay}
 use Rattle.region_cut.specs.Cut.{AreRegionsOfPlay, IsRegionOfPlay, IsWalledIn, lowest}
-use Rattle.region_cut.specs.LocalBoard.{PlaysLocally}
 
--- a region of play, in which local play is play on the board
+-- a region of play between alive stones
 pub record IsCut (g : Grid) (r : Shape) : Type 0 where
   pub play : IsRegionOfPlay g r
   pub walled : IsWalledIn g r
-  pub local : PlaysLocally g r
-  pub proper : IsRegion r.columns r.rows r.points r.cells r.touch
 
 -- the regions whose lowest point is below `n`
 pub record CutBelow (g : Grid) (parts : List ℕ) (regions : List Shape) (n : ℕ) : Type 0 where

@@ -2,7 +2,6 @@
 use Rattle.std.proofs.Common.{◌≡◌, ℕ, ◌<◌, ◌⊎◌, ◌↔◌, inl, inr, refl, sym, ap, subst, ◌∙◌, List, length, get_or, nat_eq}
 use Rattle.std.specs.Cmp.{nat_eq_equiv}
 use Rattle.std.specs.List.{Contains, list_any}
-use Rattle.std.specs.List.Sorted.{IsStrictlyIncreasing}
 use Rattle.std.proofs.lemmas.Bool.{cases_Bool, both_ways, eqb-true}
 use Rattle.std.proofs.lemmas.List.{get_or_default}
 use Rattle.std.proofs.lemmas.List.Elements.{Contains-get_or}
@@ -25,9 +24,10 @@ use Rattle.benson_life.proofs.StandLemmas.{empty_not_stone}
 use Rattle.benson_life.proofs.WallLemmas.{walls_breathe}
 use Rattle.local_play.specs.LocalPlay.{Holds, IsLinked, InLocalChain, IsFree, IsRemoved, IsBeside as IsBesidePlace}
 use Rattle.go_grid.proofs.PathLemmas.{carried, leads_here, leads_start, leads_step}
-use Rattle.region_cut.specs.Cut.{IsRegionOfPlay, IsWalledIn, lowest}
+use Rattle.region_cut.specs.Cut.{IsRegionOfPlay, lowest}
 use Rattle.region_cut.specs.LocalBoard.{HoldsPosition}
-use Rattle.region_cut.proofs.LinkLemmas.{LinksAreNext}
+use Rattle.region_cut.proofs.LinkLemmas.{links_are_next}
+use Rattle.region_cut.proofs.RegionLemmas.{never_open, true_stable}
 
 -- a number is in a list or not
 pub among_or_not : (ns : List ℕ) (q : ℕ) → Contains ns q ⊎ (¬ Contains ns q)
@@ -41,31 +41,27 @@ beside_is : (touch : List Touch) (c : Colour) (i : ℕ) → IsBesidePlace touch 
 beside_is touch colour.Black i = (λ e. e, λ e. e)
 beside_is touch colour.White i = (λ e. e, λ e. e)
 
--- a region of play of a settled board, with what its type keeps
-pub record IsSurrounded (g : Grid) (r : Shape) : Type 0 where
-  pub settled : IsSettled g
-  pub play : IsRegionOfPlay g r
-  pub walled : IsWalledIn g r
-  pub links : LinksAreNext r
-  pub rising : IsStrictlyIncreasing r.points
+beside_stable : (touch : List Touch) (c : Colour) (i : ℕ) → ¬ ¬ IsBeside c (touch_at touch i) → IsBeside c (touch_at touch i)
+beside_stable touch colour.Black i = true_stable (touch_at touch i).black
+beside_stable touch colour.White i = true_stable (touch_at touch i).white
 
 pub point_contested : (g : Grid) (r : Shape) → IsRegionOfPlay g r → (q : ℕ) → Contains r.points q → IsContested g q
 point_contested g r play q h = joined_end g.columns (IsContested g) (lowest r) q ((play.points q).0 h)
 
-module _ (g : Grid) (r : Shape) (is : IsSurrounded g r) (cells : List Cell) (h : Grid) (holds : HoldsPosition g r cells h) where
+module _ (g : Grid) (r : Shape) (settled : IsSettled g) (play : IsRegionOfPlay g r) (cells : List Cell) (h : Grid) (holds : HoldsPosition g r cells h) where
   abbrev at : ℕ → ℕ
   at i = get_or r.points i 0
 
   same_columns : r.columns ≡ h.columns
-  same_columns = is.play.columns ∙ sym holds.walls.columns
+  same_columns = play.columns ∙ sym holds.walls.columns
 
   pub inside : (i : ℕ) → i < length r.points → at i < length h.cells
   inside i lt =
-      let on = point_contested g r is.play (at i) (Contains-get_or r.points i 0 lt) in
+      let on = point_contested g r play (at i) (Contains-get_or r.points i 0 lt) in
       subst (λ n. at i < n) (sym holds.walls.long) on.0
 
   next_of : (i j : ℕ) → i < length r.points → IsLinked r.touch i j → (j < length r.points) × NextTo h.columns (at i) (at j)
-  next_of i j lt link = let w = (is.links i j lt).0 link in (w.0, subst (λ n. NextTo n (at i) (at j)) same_columns w.1)
+  next_of i j lt link = let w = (links_are_next r play.proper i j lt).0 link in (w.0, subst (λ n. NextTo n (at i) (at j)) same_columns w.1)
 
   -- a neighbour in the region is linked
   linked : (k y : ℕ) → k < length r.points → NextTo h.columns (at k) y → Contains r.points y
@@ -73,21 +69,19 @@ module _ (g : Grid) (r : Shape) (is : IsSurrounded g r) (cells : List Cell) (h :
   linked k y lt next (m, ltm, e) =
       let here = get_or_default r.points m 0 y ltm ∙ e in
       let next' = subst (λ x. NextTo h.columns (at k) x) (sym here) next in
-      (m, ltm, here, (is.links k m lt).1 (ltm, subst (λ n. NextTo n (at k) (at m)) (sym same_columns) next'))
+      (m, ltm, here, (links_are_next r play.proper k m lt).1 (ltm, subst (λ n. NextTo n (at k) (at m)) (sym same_columns) next'))
 
-  -- a neighbour outside it is an alive stone
+  -- a neighbour outside it is an alive stone, though which list of stones lives there isn't known
   outside : (k y : ℕ) → k < length r.points → NextTo h.columns (at k) y → y < length h.cells → ¬ Contains r.points y
-      → (c : Colour) × IsAlive g c y × NextTo g.columns (at k) y
-  outside k y lt next on none =
+      → ¬ ¬ ((c : Colour) × IsAlive g c y × NextTo g.columns (at k) y)
+  outside k y lt next on none never =
       let next' = subst (λ n. NextTo n (at k) y) holds.walls.columns next in
-      elim (is.walled (at k) y (Contains-get_or r.points k 0 lt) next' (subst (λ n. y < n) holds.walls.long on) none) [
-        | inl black ↦ (colour.Black, black, next')
-        | inr white ↦ (colour.White, white, next')
-      ]
+      never_open g r play (at k) y (Contains-get_or r.points k 0 lt) next' (subst (λ n. y < n) holds.walls.long on) none
+      (λ c alive. never (c, alive, next'))
 
   module _ (d : Colour) where
     breathes : (s : ℕ) → IsAlive g d s → HasLiberty h d s
-    breathes s alive = let w = walls_breathe g is.settled h holds.walls d s alive in (w.0, w.2)
+    breathes s alive = let w = walls_breathe g settled h holds.walls d s alive in (w.0, w.2)
 
     stone_up : (i : ℕ) → i < length r.points → Holds cells d i → HasStone h d (at i)
     stone_up i lt e = (inside i lt, holds.local i lt ∙ e)
@@ -109,7 +103,7 @@ module _ (g : Grid) (r : Shape) (is : IsSurrounded g r) (cells : List Cell) (h :
               let next = next_of j k up.0 link in
               (at k, ((inside k next.0, holds.local k next.0 ∙ empty), (at j, up.1, next.1)))
           | inr beside ↦
-              let (s, next, alive) = (is.play.walls j d up.0).0 ((beside_is r.touch d j).0 beside) in
+              let (s, next, alive) = (play.walls j d up.0).0 ((beside_is r.touch d j).0 beside) in
               let next' = subst (λ n. NextTo n (at j) s) (sym holds.walls.columns) next in
               let there = joined_step h.columns (HasStone h d) (at i) (at j) s up.1 next' (holds.walls.stones d s alive) in
               same_liberty h d (at i) s there (breathes s alive)
@@ -129,9 +123,9 @@ module _ (g : Grid) (r : Shape) (is : IsSurrounded g r) (cells : List Cell) (h :
               let own' : Holds cells d w.0 = sym (holds.local w.0 w.1) ∙ ap (cell_at h) w.2 ∙ own.1 in
               inr (w.0, w.1, w.2, leads_step (IsLinked r.touch) (Holds cells d) i k w.0 chain w.3 own')
           | inr none ↦
-              let w = outside k y lt next' own.0 none in
-              let same = same_stone w.0 d (sym (holds.walls.stones w.0 y w.1).1 ∙ own.1) in
-              let beside = (is.play.walls k d lt).1 (y, w.2, subst (λ c. IsAlive g c y) same w.1) in
+              let beside = beside_stable r.touch d k (λ never. outside k y lt next' own.0 none (λ (c, alive, near).
+              let same = same_stone c d (sym (holds.walls.stones c y alive).1 ∙ own.1) in
+              never ((play.walls k d lt).1 (y, near, subst (λ c. IsAlive g c y) same alive)))) in
               inl (k, chain, inr ((beside_is r.touch d k).1 beside))
         ]
 
@@ -152,8 +146,8 @@ module _ (g : Grid) (r : Shape) (is : IsSurrounded g r) (cells : List Cell) (h :
                     let w = linked k e ltk near' among in
                     (k, chain, inl (w.0, w.3, sym (holds.local w.0 w.1) ∙ ap (cell_at h) w.2 ∙ empty.1))
                 | inr none ↦
-                    let w = outside k e ltk near' empty.0 none in
-                    absurd (empty_not_stone w.0 (sym empty.1 ∙ (holds.walls.stones w.0 e w.1).1))
+                    absurd (outside k e ltk near' empty.0 none
+                    (λ (c, alive, _). empty_not_stone c (sym empty.1 ∙ (holds.walls.stones c e alive).1)))
               ]
         ]
 
@@ -189,8 +183,7 @@ module _ (g : Grid) (r : Shape) (is : IsSurrounded g r) (cells : List Cell) (h :
                 | inr (j, ltj, there, chain) ↦ (j, ltj, there, (w.0, w.3, chain, bound))
               ]
           | inr none ↦
-              let w = outside i s lt near' stone'.0 none in
-              let same = same_stone w.0 d (sym (holds.walls.stones w.0 s w.1).1 ∙ stone'.1) in
-              let alive = subst (λ c. IsAlive g c s) same w.1 in
-              absurd (choked (same_liberty h d q s walk (breathes s alive)))
+              absurd (outside i s lt near' stone'.0 none (λ (c, alive, _).
+              let same = same_stone c d (sym (holds.walls.stones c s alive).1 ∙ stone'.1) in
+              choked (same_liberty h d q s walk (breathes s (subst (λ x. IsAlive g x s) same alive)))))
         ]

@@ -1,10 +1,9 @@
 -- The links of a region are exactly its points' being next to each other.
-use Rattle.std.proofs.Common.{◌≡◌, ℕ, ◌*◌, ◌/◌, ◌%◌, ◌<◌, ◌↔◌, inl, inr, sym, ap, subst, ◌∙◌, List, length, get_or, arith, Option, Some, None}
+use Rattle.std.proofs.Common.{◌≡◌, ℕ, ◌<◌, ◌↔◌, inl, inr, sym, ap, subst, ◌∙◌, List, length, get_or, arith, Option, Some, None}
 use Rattle.std.specs.List.Sorted.{IsStrictlyIncreasing}
 use Rattle.std.proofs.lemmas.Bool.{cases_lt}
 use Rattle.std.proofs.lemmas.List.Elements.{Contains-get_or}
 use Rattle.std.proofs.lemmas.List.Kept.{AllPairs-from_increasing}
-use Rattle.std.proofs.lemmas.Nat.{div-add-mod'}
 use Rattle.go_grid.specs.Grid.{NextTo, IsAbove, IsLeftOf}
 use Rattle.go_grid.specs.Region.{Shape, IsRegion, IsLink, touch_at}
 use Rattle.local_play.specs.LocalPlay.{IsLinked}

@@ -8,6 +8,7 @@ use Rattle.go_grid.specs.declared.grid.Cell.{Cell}
 use Rattle.go_grid.specs.declared.grid.Cell.TheVariants as cell
 use Rattle.go_grid.specs.declared.grid.Colour.{Colour}
 use Rattle.go_grid.specs.declared.region.Touch.{Touch}
+use Rattle.go_grid.specs.Chain.{IsSettled}
 use Rattle.go_grid.specs.Grid.{Grid, HasStone, cell_at, stone, other}
 use Rattle.go_grid.specs.Region.{Shape}
 use Rattle.go_grid.proofs.WalkLemmas.{joined_start}
@@ -15,7 +16,7 @@ use Rattle.go_play.specs.Place.{with_stone, is_stone, IsPlaced, IsTaken}
 use Rattle.local_play.specs.LocalPlay.{held_at, IsRemoved, IsLocalMove, with_stone as with_local_stone, is_stone as is_local_stone}
 use Rattle.region_cut.specs.Cut.{IsRegionOfPlay}
 use Rattle.region_cut.specs.LocalBoard.{HoldsPosition, IsLocal, PlaysLocally}
-use Rattle.region_cut.proofs.FreedomLemmas.{IsSurrounded, among_or_not, free_down, free_up, inside, point_contested, removed_up, taken_down}
+use Rattle.region_cut.proofs.FreedomLemmas.{among_or_not, free_down, free_up, inside, point_contested, removed_up, taken_down}
 use Rattle.region_cut.proofs.LinkLemmas.{one_place}
 use Rattle.region_cut.proofs.WallLemmas.{not_alive, not_counted, same_or_not}
 use Rattle.region_cut.proofs.WrittenLemmas.{written, length-written, written_at, written_outside, count_written}
@@ -47,7 +48,7 @@ holds_after g r cells next h after play holds columns full long within outside =
   local = within;
 }
 
-module _ (g : Grid) (r : Shape) (is : IsSurrounded g r) (cells : List Cell) (h : Grid) (holds : HoldsPosition g r cells h) where
+module _ (g : Grid) (r : Shape) (settled : IsSettled g) (play : IsRegionOfPlay g r) (cells : List Cell) (h : Grid) (holds : HoldsPosition g r cells h) where
   abbrev at : ℕ → ℕ
   at i = get_or r.points i 0
 
@@ -65,28 +66,28 @@ module _ (g : Grid) (r : Shape) (is : IsSurrounded g r) (cells : List Cell) (h :
       n = length r.points
 
       more : List Cell
-      more = written r.points is.rising h.cells next n
+      more = written r.points play.proper.ascending h.cells next n
 
       same : (q : ℕ) → get_or after.cells q cell.Empty ≡ get_or more q cell.Empty
       same q = elim (among_or_not r.points q) [
         | inl (j, lt, e) ↦
             let here = get_or_default r.points j 0 q lt ∙ e in
             subst (λ z. get_or after.cells z cell.Empty ≡ get_or more z cell.Empty) here
-            (within j lt ∙ sym (written_at r.points is.rising h.cells next (inside g r is cells h holds) n j (omega arith) lt))
+            (within j lt ∙ sym (written_at r.points play.proper.ascending h.cells next (inside g r settled play cells h holds) n j (omega arith) lt))
         | inr out ↦
-            outside q out ∙ sym (written_outside r.points is.rising h.cells next n q
+            outside q out ∙ sym (written_outside r.points play.proper.ascending h.cells next n q
             (λ i lt e. out (subst (Contains r.points) e (Contains-get_or r.points i 0 lt))))
       ]
 
       equal : after.cells ≡ more
-      equal = ext_get_or cell.Empty after.cells more (full ∙ sym (length-written r.points is.rising h.cells next n)) (λ q _. same q)
+      equal = ext_get_or cell.Empty after.cells more (full ∙ sym (length-written r.points play.proper.ascending h.cells next n)) (λ q _. same q)
 
       ln : length next ≡ n
       ln = long ∙ holds.long
 
       count : count_by is_stone after.cells + count_by is_local_stone cells ≡ count_by is_stone h.cells + count_by is_local_stone next
       count =
-          let w = count_written r.points is.rising h.cells next (inside g r is cells h holds) is_stone cells ln holds.long (λ i lt. holds.local i lt) n (omega arith) in
+          let w = count_written r.points play.proper.ascending h.cells next (inside g r settled play cells h holds) is_stone cells ln holds.long (λ i lt. holds.local i lt) n (omega arith) in
           omega (
             arith,
             w,
@@ -113,14 +114,14 @@ module _ (g : Grid) (r : Shape) (is : IsSurrounded g r) (cells : List Cell) (h :
     -- the board with the new stone holds the position with it
     holds_more : HoldsPosition g r more b
     holds_more =
-        holds_after g r cells more h b is.play holds refl (length-set h.cells (at i) (stone c)) (length-set cells i (stone c))
+        holds_after g r cells more h b play holds refl (length-set h.cells (at i) (stone c)) (length-set cells i (stone c))
         (λ j l. elim (cases_eq j i) as (λ _. cell_at b (at j) ≡ held_at more j) [
           | inl e ↦
               subst (λ z. cell_at b (at z) ≡ held_at more z) (sym e)
-              (get_or-set_same h.cells (at i) (stone c) cell.Empty (inside g r is cells h holds i lt)
+              (get_or-set_same h.cells (at i) (stone c) cell.Empty (inside g r settled play cells h holds i lt)
               ∙ sym (get_or-set_same cells i (stone c) cell.Empty short))
           | inr ne ↦
-              elsewhere (at j) (λ e. ne (one_place r.points j i is.rising l lt e)) ∙ holds.local j l
+              elsewhere (at j) (λ e. ne (one_place r.points j i play.proper.ascending l lt e)) ∙ holds.local j l
               ∙ sym (get_or-set_other cells i j (stone c) cell.Empty ne)
         ])
         (λ q out. elsewhere q (λ e. out (subst (Contains r.points) (sym e) (Contains-get_or r.points i 0 lt))))
@@ -132,13 +133,13 @@ module _ (g : Grid) (r : Shape) (is : IsSurrounded g r) (cells : List Cell) (h :
     Removed j = IsRemoved r.touch more i (other c) j
 
     up : (j : ℕ) → Removed j → (j < length r.points) × Taken (at j)
-    up j t = removed_up g r is more b holds_more (other c) i j lt t
+    up j t = removed_up g r settled play more b holds_more (other c) i j lt t
 
     down : (q : ℕ) → Taken q → (j : ℕ) × (j < length r.points) × (at j ≡ q) × Removed j
-    down q t = taken_down g r is more b holds_more (other c) i q lt t
+    down q t = taken_down g r settled play more b holds_more (other c) i q lt t
 
     down_at : (j : ℕ) → j < length r.points → Taken (at j) → Removed j
-    down_at j l t = let w = down (at j) t in subst (λ z. Removed z) (one_place r.points w.0 j is.rising w.1 l w.2) w.3
+    down_at j l t = let w = down (at j) t in subst (λ z. Removed z) (one_place r.points w.0 j play.proper.ascending w.1 l w.2) w.3
 
     -- a placing is a local move
     pub placing_is_local : (after : Grid) → IsPlaced h (at i) c after
@@ -180,8 +181,8 @@ module _ (g : Grid) (r : Shape) (is : IsSurrounded g r) (cells : List Cell) (h :
           long = long;
           gone = λ j t. (let w = up j t in sym (within j w.0) ∙ placed.without.gone (at j) w.1);
           kept = kept;
-          stands = free_down g r is next after
-              (holds_after g r cells next h after is.play holds placed.without.columns full long within outside) c i lt
+          stands = free_down g r settled play next after
+              (holds_after g r cells next h after play holds placed.without.columns full long within outside) c i lt
               (sym (within i lt) ∙ own.1) placed.breathes;
         }
 
@@ -194,17 +195,17 @@ module _ (g : Grid) (r : Shape) (is : IsSurrounded g r) (cells : List Cell) (h :
         n = length r.points
 
         after : Grid
-        after = record h { cells = written r.points is.rising h.cells next n }
+        after = record h { cells = written r.points play.proper.ascending h.cells next n }
 
         full : length after.cells ≡ length h.cells
-        full = length-written r.points is.rising h.cells next n
+        full = length-written r.points play.proper.ascending h.cells next n
 
         within : (j : ℕ) → j < length r.points → cell_at after (at j) ≡ held_at next j
-        within j l = written_at r.points is.rising h.cells next (inside g r is cells h holds) n j (omega arith) l
+        within j l = written_at r.points play.proper.ascending h.cells next (inside g r settled play cells h holds) n j (omega arith) l
 
         outside : (q : ℕ) → ¬ Contains r.points q → cell_at after q ≡ cell_at h q
         outside q out =
-            written_outside r.points is.rising h.cells next n q
+            written_outside r.points play.proper.ascending h.cells next n q
             (λ j l e. out (subst (Contains r.points) e (Contains-get_or r.points j 0 l)))
 
         kept : (q : ℕ) → ¬ Taken q → cell_at after q ≡ cell_at b q
@@ -219,7 +220,7 @@ module _ (g : Grid) (r : Shape) (is : IsSurrounded g r) (cells : List Cell) (h :
 
         placed : IsPlaced h (at i) c after
         placed = record {
-          free = (inside g r is cells h holds i lt, holds.local i lt ∙ move.free);
+          free = (inside g r settled play cells h holds i lt, holds.local i lt ∙ move.free);
           without = record {
             columns = refl;
             rows = refl;
@@ -227,8 +228,8 @@ module _ (g : Grid) (r : Shape) (is : IsSurrounded g r) (cells : List Cell) (h :
             gone = λ q t. (let w = down q t in subst (λ z. cell_at after z ≡ cell.Empty) w.2 (within w.0 w.1 ∙ move.gone w.0 w.3));
             kept = kept;
           };
-          breathes = free_up g r is next after
-              (holds_after g r cells next h after is.play holds refl full move.long within outside) c i lt move.stands;
+          breathes = free_up g r settled play next after
+              (holds_after g r cells next h after play holds refl full move.long within outside) c i lt move.stands;
         }
 
 -- a local move leads to one position
@@ -242,13 +243,13 @@ one_move touch cells a b c p m n =
           m.kept j stays ∙ sym (n.kept j stays)
     ])
 
-pub plays_locally : (g : Grid) (r : Shape) → IsSurrounded g r → PlaysLocally g r
-plays_locally g r is = record {
+pub plays_locally : (g : Grid) (r : Shape) → IsSettled g → IsRegionOfPlay g r → PlaysLocally g r
+plays_locally g r settled play = record {
   legal = λ cells h c i holds lt. (
-    λ (after, placed). let w = placing_is_local g r is cells h holds i lt c after placed in (w.0, w.1),
-    λ (next, move). local_is_placing g r is cells h holds i lt c next move,
+    λ (after, placed). let w = placing_is_local g r settled play cells h holds i lt c after placed in (w.0, w.1),
+    λ (next, move). local_is_placing g r settled play cells h holds i lt c next move,
   );
   local = λ cells next h after c i holds lt placed move.
-      let (next', move', local) = placing_is_local g r is cells h holds i lt c after placed in
+      let (next', move', local) = placing_is_local g r settled play cells h holds i lt c after placed in
       subst (λ x. IsLocal r h after cells x) (one_move r.touch cells next' next c i move' move) local;
 }

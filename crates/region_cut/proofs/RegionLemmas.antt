@@ -19,7 +19,7 @@ use Rattle.go_grid.proofs.SetsLemmas.{lists_same}
 use Rattle.go_grid.proofs.WalkLemmas.{carried, joined_here, joined_step, joined_back, joined_join, joined_end, marks_joined}
 use Rattle.benson_life.specs.Life.{IsAlive}
 use Rattle.benson_life.specs.Region.{IsContested, InRegionOfPlay}
-use Rattle.region_cut.specs.Cut.{IsRegionOfPlay, IsWalledIn}
+use Rattle.region_cut.specs.Cut.{IsRegionOfPlay, IsWalledIn, lowest}
 use Rattle.region_cut.specs.Places.{IsTouch}
 use Rattle.region_cut.proofs.WallLemmas.{never_next_to_counted}
 
@@ -108,14 +108,16 @@ walls_of g points black white p t White isb isw touch = (
 
 -- the region of a contested point that is its lowest
 pub is_region_of_play : (g : Grid) (k r start : ℕ) (points : List ℕ) (cells : List Cell) (touch : List Touch) (black white : List Bool)
-    → k ≡ g.columns → r ≡ g.rows → get_or points 0 0 ≡ start → ((p : ℕ) → InRegionOfPlay g start p → start ≤ p)
+    → k ≡ g.columns → r ≡ g.rows → IsRegion k r points cells touch → get_or points 0 0 ≡ start
+    → ((p : ℕ) → InRegionOfPlay g start p → start ≤ p)
     → Lists points (InRegionOfPlay g start) → ((i : ℕ) → i < length points → get_or cells i Empty ≡ cell_at g (get_or points i 0))
     → Marks black (IsAlive g Black) → Marks white (IsAlive g White)
     → ((i : ℕ) → i < length points → IsTouch k points black white (get_or points i 0) (touch_at touch i))
     → IsRegionOfPlay g (record { columns = k; rows = r; points = points; cells = cells; touch = touch })
-is_region_of_play g k r start points cells touch black white ek er first least lists read isb isw each = record {
+is_region_of_play g k r start points cells touch black white ek er proper first least lists read isb isw each = record {
   columns = ek;
   rows = er;
+  proper = proper;
   points = λ p. subst (λ s. Contains points p ↔ InRegionOfPlay g s p) (sym first) (lists.exact p);
   first = λ p h. subst (λ s. s ≤ p) (sym first) (least p ((lists.exact p).0 h));
   cells = read;
@@ -127,25 +129,37 @@ true_or_not : (b : Bool) → (b ≡ true) ⊎ ¬ (b ≡ true)
 true_or_not true = inl refl
 true_or_not false = inr (λ e. cc)
 
--- what stands next to the region and outside it is an alive stone
-pub walled_in : (g : Grid) (start : ℕ) (r : Shape) (black white : List Bool)
-    → Marks black (IsAlive g Black) → Marks white (IsAlive g White)
-    → ((p : ℕ) → Contains r.points p ↔ InRegionOfPlay g start p) → IsWalledIn g r
-walled_in g start r black white isb isw exact p q h next lt out =
+pub true_stable : (b : Bool) → ¬ ¬ (b ≡ true) → b ≡ true
+true_stable b never = elim (true_or_not b) [ inl e ↦ e | inr off ↦ absurd (never off) ]
+
+-- what stands next to the region and outside it can't but be an alive stone
+pub never_open : (g : Grid) (r : Shape) → IsRegionOfPlay g r → (p q : ℕ) → Contains r.points p → NextTo g.columns p q
+    → q < length g.cells → ¬ Contains r.points q → ¬ ((c : Colour) → ¬ IsAlive g c q)
+never_open g r play p q h next lt out dead =
+    let start = lowest r in
+    let from = (play.points p).0 h in
+    let here = joined_end g.columns (IsContested g) start p from in
+    let contested : IsContested g q = (
+      lt,
+      dead Black,
+      dead White,
+      never_next_to_counted g Black p q here next,
+      never_next_to_counted g White p q here next,
+    ) in
+    out ((play.points q).1 (joined_step g.columns (IsContested g) start p q from next contested))
+
+-- it is one, which marks of the alive stones tell
+pub walled_in : (g : Grid) (r : Shape) (black white : List Bool) → Marks black (IsAlive g Black) → Marks white (IsAlive g White)
+    → IsRegionOfPlay g r → IsWalledIn g r
+walled_in g r black white isb isw play p q h next lt out =
     elim (true_or_not (get_or black q false)) as (λ _. IsAlive g Black q ⊎ IsAlive g White q) [
       | inl m ↦ inl ((isb q).0 m)
       | inr nb ↦ elim (true_or_not (get_or white q false)) as (λ _. IsAlive g Black q ⊎ IsAlive g White q) [
         | inl m ↦ inr ((isw q).0 m)
-        | inr nw ↦
-            let from = (exact p).0 h in
-            let here = joined_end g.columns (IsContested g) start p from in
-            let contested : IsContested g q = (
-              lt,
-              λ a. nb ((isb q).1 a),
-              λ a. nw ((isw q).1 a),
-              never_next_to_counted g Black p q here next,
-              never_next_to_counted g White p q here next,
-            ) in
-            absurd (out ((exact q).1 (joined_step g.columns (IsContested g) start p q from next contested)))
+        | inr nw ↦ absurd (never_open g r play p q h next lt out (dead nb nw))
       ]
     ]
+  where
+    dead : ¬ (get_or black q false ≡ true) → ¬ (get_or white q false ≡ true) → (c : Colour) → ¬ IsAlive g c q
+    dead nb nw Black a = nb ((isb q).1 a)
+    dead nb nw White a = nw ((isw q).1 a)

@@ -5,7 +5,7 @@ use Rattle.go_grid.specs.declared.grid.Cell.TheVariants.{Empty}
 use Rattle.go_grid.specs.declared.grid.Colour.{Colour}
 use Rattle.go_grid.specs.declared.grid.Colour.TheVariants.{Black, White}
 use Rattle.go_grid.specs.Grid.{Grid, NextTo, cell_at}
-use Rattle.go_grid.specs.Region.{Shape, IsBeside, touch_at}
+use Rattle.go_grid.specs.Region.{Shape, IsBeside, IsRegion, touch_at}
 use Rattle.benson_life.specs.Life.{IsAlive}
 use Rattle.benson_life.specs.Region.{IsContested, InRegionOfPlay}
 
@@ -13,10 +13,12 @@ use Rattle.benson_life.specs.Region.{IsContested, InRegionOfPlay}
 abbrev pub lowest : Shape → ℕ
 lowest r = slice_index r.points 0
 
--- The region has all points that walks over contested points join to its lowest one, with what they hold and with the alive stones next to them.
+-- The region has exactly the points that walks over contested points join to its lowest one, each of them once and in ascending
+-- order, with what they hold, their links and the alive stones next to them.
 pub record IsRegionOfPlay (g : Grid) (r : Shape) : Type 0 where
   pub columns : r.columns ≡ g.columns
   pub rows : r.rows ≡ g.rows
+  pub proper : IsRegion r.columns r.rows r.points r.cells r.touch
   pub points : (p : ℕ) → Contains r.points p ↔ InRegionOfPlay g (lowest r) p
   pub first : (p : ℕ) → Contains r.points p → lowest r ≤ p
   pub cells : (i : ℕ) → i < length r.points → slice_index_or r.cells i Empty ≡ cell_at g (slice_index r.points i)

@@ -2,10 +2,12 @@
 use Rattle.std.specs.Prelude.{◌≡◌, ℕ, ◌<◌, ◌↔◌, List, length, slice_index, Contains}
 use Rattle.go_grid.specs.declared.grid.Cell.{Cell}
 use Rattle.go_grid.specs.declared.grid.Colour.{Colour}
+use Rattle.go_grid.specs.Chain.{IsSettled}
 use Rattle.go_grid.specs.Grid.{Grid, cell_at}
 use Rattle.go_grid.specs.Region.{Shape}
 use Rattle.go_play.specs.Place.{IsPlaced, IsNumberTaken}
 use Rattle.benson_life.specs.Walls.{WallsStand}
+use Rattle.region_cut.specs.Cut.{IsRegionOfPlay}
 use Rattle.local_play.specs.LocalPlay.{held_at, IsLocalMove, IsNumberTaken as IsLocalNumberTaken}
 
 -- on `h` the alive stones and counted points of `g` are as they were, and the region has the cells of a local position
@@ -26,3 +28,7 @@ pub record PlaysLocally (g : Grid) (r : Shape) : Type 0 where
       → ((after : Grid) × IsPlaced h (slice_index r.points i) c after) ↔ ((next : List Cell) × IsLocalMove r.touch cells c i next)
   pub local : (cells next : List Cell) (h after : Grid) (c : Colour) (i : ℕ) → HoldsPosition g r cells h → i < length r.points
       → IsPlaced h (slice_index r.points i) c after → IsLocalMove r.touch cells c i next → IsLocal r h after cells next
+
+-- that holds of each region of play of a settled board
+abbrev pub LocalPlayIsPlay : Type 0
+LocalPlayIsPlay = (g : Grid) (r : Shape) → IsSettled g → IsRegionOfPlay g r → PlaysLocally g r

@@ -6,7 +6,7 @@ ghost use Rattle.go_grid.specs.declared.grid.Colour.TheVariants.{Black, White};
 ghost use Rattle.go_grid.specs.Chain.{IsSettled};
 ghost use Rattle.go_grid.specs.Grid.{cell_at};
 ghost use Rattle.go_grid.specs.Marks.{Lists, Marks};
-ghost use Rattle.go_grid.specs.Region.{Shape, IsRegion};
+ghost use Rattle.go_grid.specs.Region.{Shape};
 ghost use Rattle.benson_life.specs.Life.{IsAlive, IsCounted, IsLargestHealthy};
 ghost use Rattle.benson_life.specs.Region.{IsContested, InRegionOfPlay};
 ghost use Rattle.region_cut.specs.Cut.{AreRegionsOfPlay, IsRegionOfPlay, IsWalledIn, lowest};
@@ -49,8 +49,6 @@ fn region_of(
     requires lowest { (p : ℕ) → InRegionOfPlay board.now start p → start ≤ p }
     ensures region { IfOk result (λ r. IsRegionOfPlay board.now r) }
     ensures walled { IfOk result (λ r. IsWalledIn board.now r) }
-    ensures local { IfOk result (λ r. PlaysLocally board.now r) }
-    ensures proper { IfOk result (λ r. IsRegion r.columns r.rows r.points r.cells r.touch) }
     ensures named { IfOk result (λ r. lowest r ≡ start) }
 {
     let size = board.size();
@@ -84,7 +82,6 @@ pub fn cut(
     ensures regions { IfOk result (λ regions. AreRegionsOfPlay board.now regions.items) }
     ensures walled { IfOk result (λ regions. (r : Shape) → Contains regions.items r → IsWalledIn board.now r) }
     ensures local { IfOk result (λ regions. (r : Shape) → Contains regions.items r → PlaysLocally board.now r) }
-    ensures proper { IfOk result (λ regions. (r : Shape) → Contains regions.items r → IsRegion r.columns r.rows r.points r.cells r.touch) }
 {
     let size = board.size();
     let within = contested(

@@ -2,8 +2,10 @@
 #![tactic(auto)]
 
 mod cuts;
+mod laws;
 #[cfg(test)]
 mod tests;
 mod touching;
 
 pub use cuts::cut;
+pub use laws::local_play_law;

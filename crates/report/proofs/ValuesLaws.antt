@@ -15,7 +15,7 @@ use Rattle.report.specs.Lines.{word_line}
 use Rattle.report.specs.Solution.{count_line, solved_line}
 use Rattle.report.specs.Thermographs.{picture_lines}
 use Rattle.game_text.specs.Depth.{depth}
-use Rattle.thermograph.specs.Drawings.{IsPastBounds}
+use Rattle.thermograph.specs.PastBounds.{IsPastBounds}
 use Rattle.report.specs.declared.values.ValuesError.{ValuesError}
 use Rattle.report.specs.declared.values.ValuesError.TheVariants.{Form, Memory}
 use Rattle.report.proofs.TextLaws.{three_more}

@@ -6,7 +6,7 @@ use Rattle.game_store.specs.Tree.{Tree}
 use Rattle.game_store.specs.Meaning.{tree_at}
 use Rattle.game_store.specs.TextOrder.{tree_text}
 use Rattle.game_text.specs.Depth.{depth}
-use Rattle.thermograph.specs.Drawings.{IsPastBounds}
+use Rattle.thermograph.specs.PastBounds.{IsPastBounds}
 use Rattle.local_value.specs.PositionTree.{IsValueOf}
 use Rattle.endgame_solver.specs.Regions.{region_at}
 use Rattle.endgame_solver.specs.Solved.{IsNumberOfPositions}

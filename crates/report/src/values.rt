@@ -4,7 +4,7 @@ ghost use Rattle.std.specs.Prelude.{◌≡◌, ◌<◌, ◌≤◌, ◌*◌, ◌+
 ghost use Rattle.game_store.specs.Meaning.{tree_at};
 ghost use Rattle.game_store.specs.TextOrder.{tree_text};
 ghost use Rattle.game_text.specs.Depth.{depth};
-ghost use Rattle.thermograph.specs.Drawings.{IsPastBounds};
+ghost use Rattle.thermograph.specs.PastBounds.{IsPastBounds};
 ghost use Rattle.report.specs.Solution.{solved_line};
 ghost use Rattle.report.specs.Thermographs.{IsThermograph, picture_lines};
 ghost use Rattle.report.specs.Values.{HasEntries, HasEntry, IsFirstUnshown, IsRefusal, IsShowing, IsUnshown, IsValuesText, picture};

@@ -19,6 +19,7 @@ pub mod Crossings
 pub mod StoreTrees
 pub mod OptionWalls
 pub mod DrawingLaws
+pub mod PastBounds
 pub mod Passes
 pub mod Points
 pub mod Finer

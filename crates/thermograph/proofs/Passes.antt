@@ -1,19 +1,17 @@
 -- The pass up over the ids, and what is drawn at its end.
 use Rattle.std.specs.declared.alloc.Global.{Global}
 use Rattle.std.proofs.Common.{ℕ, zero, suc, ◌+◌, ◌<◌, ◌≡◌, ◌⊎◌, arith, refl, inl, inr, sym, ◌∙◌, ap, subst, List, [], ◌∷◌, ◌++◌, length, Bool, Vec}
-use Rattle.std.proofs.lemmas.Int.{ints}
 use Rattle.std.proofs.lemmas.List.{length-append}
 use Rattle.game_store.specs.Tree.{Tree}
 use Rattle.game_store.specs.Meaning.{tree_at}
 use Rattle.thermograph.specs.declared.breaks.Break.{Break}
-use Rattle.game_store.specs.Parts.IsFollower.{itself}
-use Rattle.game_store.specs.Number.{IsNumberTree}
-use Rattle.thermograph.specs.Walls.{WallsAre, HasTemperatureBetween}
-use Rattle.thermograph.specs.Walls.WallsAre.{of_number, of_game}
+use Rattle.thermograph.specs.Walls.{HasTemperatureBetween}
 use Rattle.thermograph.specs.Scaffolds.{wall_of}
 use Rattle.thermograph.specs.Marks.{IsMarked, AreFollowers}
-use Rattle.thermograph.specs.Drawings.{IsDrawn, AreDrawnBelow, AreDrawn, IsPastBounds}
+use Rattle.thermograph.specs.Drawings.{IsDrawn, AreDrawnBelow, AreDrawn}
+use Rattle.thermograph.specs.PastBounds.{IsPastBounds}
 use Rattle.thermograph.proofs.Lines.{below-or_at}
+use Rattle.thermograph.proofs.PastBounds.{past-bounds_of}
 
 module _ (Ts : List Tree) (marks : List Bool) where
   pub drawn-start : AreDrawn Ts marks 0 [] []
@@ -48,13 +46,5 @@ module _ (Ts : List Tree) (marks : List Bool) where
       at i (inr h) m = subst (λ k. IsDrawn (tree_at Ts k) (wall_of (lefts ++ l ∷ []) k) (wall_of (rights ++ r ∷ []) k)) (sym h)
           (same n _ _ _ _ (ap (wall_of (lefts ++ l ∷ [])) (sym d.left_count) ∙ wall-new lefts l) (ap (wall_of (rights ++ r ∷ [])) (sym d.right_count) ∙ wall-new rights r) (new (subst (IsMarked marks) h m)))
 
--- a game with a temperature is no number
-pub between-no_number : (k : ℕ) (P : Tree) → HasTemperatureBetween k P → IsNumberTree P → ⊥
-between-no_number k P b n = at (b.walls.all P (itself P))
-  where
-    at : WallsAre (suc k) b.walls.lw b.walls.rw P → ⊥
-    at (of_number x i p q) = omega (arith, ints, b.meets.before 0 (omega arith), p 0, q 0, b.walls.left_is 0, b.walls.right_is 0)
-    at (of_game m _ _ _ _ _) = m n
-
 pub past-bounds : (Ts : List Tree) (id n : ℕ) (marks : List Bool) → AreFollowers Ts id 0 marks → n < length marks → IsMarked marks n → HasTemperatureBetween 60 (tree_at Ts n) → IsPastBounds (tree_at Ts id)
-past-bounds Ts id n marks f l m b = (tree_at Ts n, (f.follows n l m, between-no_number 60 (tree_at Ts n) b), b)
+past-bounds Ts id n marks f l m b = past-bounds_of (tree_at Ts id) (tree_at Ts n) (f.follows n l m) b

@@ -5,10 +5,9 @@ use Rattle.std.specs.List.{slice_index_or}
 use Rattle.game_store.specs.Tree.{Tree}
 use Rattle.game_store.specs.Number.{IsNumberTree}
 use Rattle.game_store.specs.Meaning.{tree_at, number_tree}
-use Rattle.game_store.specs.Parts.{IsPart}
 use Rattle.thermograph.specs.declared.breaks.Break.{Break}
 use Rattle.thermograph.specs.declared.drawing.Drawing.{Drawing}
-use Rattle.thermograph.specs.Walls.{HasWalls, IsMeeting, HasTemperatureBetween}
+use Rattle.thermograph.specs.Walls.{HasWalls, IsMeeting}
 use Rattle.thermograph.specs.Breaks.{wall_at, IsLevel, IsPath, IsBreakAt, Bends}
 use Rattle.thermograph.specs.Scaffolds.{wall_of, AreApart, IsTraced}
 use Rattle.thermograph.specs.Marks.{IsMarked, IsInner}
@@ -39,11 +38,6 @@ IsTemperature G l r (Some t) mean = (IsNumberTree G → ⊥) × ((u : ℕ) × (t
 abbrev pub end_of : Option ℤ → ℕ
 end_of None = 0
 end_of (Some t) = unsigned_abs t
-
--- a break point of a part of G is past the bounds: its denominator is greater than 2 ^ 60. Since walls begin at numbers of
--- the game and go by whole steps, this can only be where the walls of a part meet
-abbrev pub IsPastBounds : Tree → Type 0
-IsPastBounds G = (P : Tree) × IsPart G P × HasTemperatureBetween 60 P
 
 -- the two lists draw the walls of G
 pub record IsDrawn (G : Tree) (l r : List Break) : Type 0 where

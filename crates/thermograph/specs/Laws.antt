@@ -24,6 +24,10 @@ WallsGoOn = (k : ℕ) (G : Tree) (l r : ℕ → ℤ) → HasWalls k G l r → Ha
 abbrev pub WallsBeginAtStops : Type 0
 WallsBeginAtStops = (k : ℕ) (G : Tree) (l r : ℕ → ℤ) → HasWalls k G l r → IsLeftStop k G (l 0) × IsRightStop k G (r 0)
 
+-- a canonical tree has both stops on each grid that is fine enough
+abbrev pub StopsExist : Type 0
+StopsExist = (G : Tree) → IsCanonicalTree G → (e : ℕ) × ((k : ℕ) → e ≤ k → (l r : ℤ) × IsLeftStop k G l × IsRightStop k G r)
+
 -- a game with walls that is no number has a temperature and a mean
 abbrev pub TemperaturesExist : Type 0
 TemperaturesExist = (k : ℕ) (G : Tree) (l r : ℕ → ℤ) → HasWalls k G l r → (IsNumberTree G → ⊥) → (u : ℕ) × (x : ℤ) × IsMeeting l r u x

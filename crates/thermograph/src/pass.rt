@@ -4,7 +4,8 @@ ghost use Rattle.std.specs.Prelude.{◌≡◌, ◌<◌, ◌≤◌, [], ◌∷◌
 ghost use Rattle.game_store.specs.Meaning.{tree_at};
 ghost use Rattle.thermograph.specs.Breaks.{wall_at};
 ghost use Rattle.thermograph.specs.Marks.{AreFollowers};
-ghost use Rattle.thermograph.specs.Drawings.{DrawWalls, IsTemperature, AreBreaks, end_of, IsDrawing, AreDrawn, IsPastBounds};
+ghost use Rattle.thermograph.specs.Drawings.{DrawWalls, IsTemperature, AreBreaks, end_of, IsDrawing, AreDrawn};
+ghost use Rattle.thermograph.specs.PastBounds.{IsPastBounds};
 ghost use Rattle.thermograph.specs.Thermographs.{breaks, IsFromZero};
 ghost use Rattle.thermograph.specs.declared.error.ThermoError.TheVariants as the_error;
 
@@ -80,6 +81,7 @@ pub fn draw(alloc: Global, store: &Store, id: GameId) -> Result<Thermograph, The
     ensures bounds { IfErr result (λ e. e ≡ the_error.Bounds → IsPastBounds (tree_at store.now id)) }
     ensures within { IfOk result (λ g. IsPastBounds (tree_at store.now id) → ⊥) }
 {
+    let _count = store.len();
     let marks = followers(alloc, store, id)?;
     let walls = draw_below(alloc, store, &marks, id)?;
     let drawing = draw_form(alloc, store, &walls, id)?;

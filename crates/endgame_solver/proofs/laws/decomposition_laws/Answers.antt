@@ -1,4 +1,4 @@
-use Rattle.endgame_solver.proofs.BoardLaws.{decomposes_whole}
+use Rattle.endgame_solver.proofs.WholeDecomposition.{decomposes_whole}
 use Rattle.endgame_solver.proofs.Decomposition.{decomposes}
 use Rattle.endgame_solver.proofs.MoneyLaws.{purses_follow}
 use Rattle.endgame_solver.proofs.FollowLaws.{regions_follow}

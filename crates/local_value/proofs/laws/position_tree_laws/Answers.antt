@@ -1,3 +1,4 @@
+use Rattle.local_value.proofs.CellTreeLaws.{trees-exist}
 use Rattle.std.proofs.Common.{List}
 use Rattle.go_grid.specs.declared.grid.Cell.{Cell}
 use Rattle.local_value.specs.PositionTree.{IsStep}
@@ -10,3 +11,6 @@ returns-clause-one c = λ touch cells n G H. trees-same (List Cell) (IsStep touc
 
 pub returns-clause-depth : goal.returns-clause-depth
 returns-clause-depth c = λ touch cells n m G H s t g h. depths-agree (List Cell) (IsStep touch) n m cells G H s t g h
+
+pub returns-clause-exist : goal.returns-clause-exist
+returns-clause-exist c = trees-exist

@@ -5,6 +5,7 @@ use Rattle.go_grid.proofs.WalkLemmas.{joined_end}
 use Rattle.benson_life.specs.Region.{IsContested}
 use Rattle.benson_life.proofs.ContestLemmas.{alive_short}
 use Rattle.region_cut.proofs.CutLemmas.{alive_marks, cut_all, cut_push, cut_skip, lowest_is, parts_of}
+use Rattle.region_cut.proofs.LocalBoardLemmas.{plays_locally}
 use Rattle.region_cut.proofs.cuts.cut.Goals as goal
 use Rattle.region_cut.proofs.cuts.cut.Goals.{then-within-place+then-parts-place+in_ok-region_of+in_ok-push, else-within-place, else-within-place-via-then-within-place+else-parts-place, else-within-place-via-else-within-place}
 
@@ -52,7 +53,7 @@ cutting-preserved c =
       | then-within-place+then-parts-place+in_ok-region_of+in_ok-push w ↦
           let made = w.in_ok-region_of.ensures in
           rw (w.regions-is, w.in_ok-push.ensures.items)
-          (cut_push g parts regions _ n are (record { play = made.region; walled = made.walled; local = made.local; proper = made.proper }) made.named c.cutting.invariant)
+          (cut_push g parts regions _ n are (record { play = made.region; walled = made.walled }) made.named c.cutting.invariant)
       | else-within-place w ↦
           rw w.regions-is
           (cut_skip g parts regions n are (λ h e.
@@ -77,7 +78,4 @@ pub returns-clause-walled : goal.returns-clause-walled
 returns-clause-walled c r h = (c.cutting.invariant.each r h).0.walled
 
 pub returns-clause-local : goal.returns-clause-local
-returns-clause-local c r h = (c.cutting.invariant.each r h).0.local
-
-pub returns-clause-proper : goal.returns-clause-proper
-returns-clause-proper c r h = (c.cutting.invariant.each r h).0.proper
+returns-clause-local c r h = plays_locally c.args.board.now r c.requires.settled (c.cutting.invariant.each r h).0.play

@@ -1,12 +1,10 @@
 use Rattle.std.proofs.Common.{◌≡◌, ◌<◌, ℕ, arith, ap, ◌∙◌, get_or, length, subst}
 use Rattle.go_grid.specs.declared.grid.Cell.TheVariants.{Empty}
 use Rattle.go_grid.specs.Grid.{cell_at}
-use Rattle.go_grid.specs.Region.{Shape, touch_at}
+use Rattle.go_grid.specs.Region.{touch_at}
 use Rattle.benson_life.proofs.HeldLemmas.{short}
 use Rattle.region_cut.specs.Places.{IsTouch}
 use Rattle.region_cut.proofs.RegionLemmas.{keeps_region, region_lists, region_inside, region_first, is_region_of_play, walled_in}
-use Rattle.region_cut.proofs.LinkLemmas.{links_are_next}
-use Rattle.region_cut.proofs.LocalBoardLemmas.{plays_locally}
 use Rattle.region_cut.proofs.cuts.region_of.Goals as goal
 
 pub cells_of-requires : goal.cells_of-requires
@@ -65,7 +63,7 @@ returns-clause-region c =
     let lists = region_lists g k c.args.start c.args.within.now c.fill.result points
     c.size-size.ensures.columns c.requires.within c.fill.ensures c.in_ok-points.ensures in
     is_region_of_play g k c.size-size.result.rows c.args.start points cells touch c.args.black.now c.args.white.now
-    c.size-size.ensures.columns c.size-size.ensures.rows
+    c.size-size.ensures.columns c.size-size.ensures.rows (invariant_of-result c)
     (region_first g c.args.start points c.requires.contested c.requires.lowest lists) c.requires.lowest lists
     (subst (λ xs. (i : ℕ) → i < length xs → get_or cells i Empty ≡ cell_at g (get_or xs i 0)) c.deref.ensures.value c.in_ok-cells.ensures.each)
     c.requires.black c.requires.white
@@ -74,14 +72,7 @@ returns-clause-region c =
 
 pub returns-clause-walled : goal.returns-clause-walled
 returns-clause-walled c =
-    let g = c.args.board.now in
-    let k = c.size-size.result.columns in
-    let points = c.in_ok-points.points.items in
-    let lists = region_lists g k c.args.start c.args.within.now c.fill.result points
-    c.size-size.ensures.columns c.requires.within c.fill.ensures c.in_ok-points.ensures in
-    walled_in g c.args.start
-    (record { columns = k; rows = c.size-size.result.rows; points = points; cells = c.in_ok-cells.cells.items; touch = c.in_ok-touch.touch.items })
-    c.args.black.now c.args.white.now c.requires.black c.requires.white lists.exact
+    walled_in c.args.board.now _ c.args.black.now c.args.white.now c.requires.black c.requires.white (returns-clause-region c)
 
 pub returns-clause-named : goal.returns-clause-named
 returns-clause-named c =
@@ -89,21 +80,3 @@ returns-clause-named c =
     let lists = region_lists c.args.board.now c.size-size.result.columns c.args.start c.args.within.now c.fill.result points
     c.size-size.ensures.columns c.requires.within c.fill.ensures c.in_ok-points.ensures in
     region_first c.args.board.now c.args.start points c.requires.contested c.requires.lowest lists
-
-pub returns-clause-local : goal.returns-clause-local
-returns-clause-local c =
-    let g = c.args.board.now in
-    let k = c.size-size.result.columns in
-    let points = c.in_ok-points.points.items in
-    let kept = invariant_of-result c in
-    let r : Shape = record { columns = k; rows = c.size-size.result.rows; points = points; cells = c.in_ok-cells.cells.items; touch = c.in_ok-touch.touch.items } in
-    plays_locally g r record {
-      settled = c.requires.settled;
-      play = returns-clause-region c;
-      walled = returns-clause-walled c;
-      links = links_are_next r kept;
-      rising = kept.ascending;
-    }
-
-pub returns-clause-proper : goal.returns-clause-proper
-returns-clause-proper c = invariant_of-result c

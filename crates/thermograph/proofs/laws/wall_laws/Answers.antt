@@ -25,6 +25,12 @@ returns-clause-go_on c = has_walls-finer
 pub returns-clause-begin : goal.returns-clause-begin
 returns-clause-begin c = λ k G l r h. (let z = walls-zero k h.lw h.rw G h.all in (subst (IsLeftStop k G) (h.left_is 0) z.0, subst (IsRightStop k G) (h.right_is 0) z.1))
 
+pub returns-clause-stops : goal.returns-clause-stops
+returns-clause-stops c = λ G f. (
+  size G + size G,
+  λ k h. (let z = walls-zero k (left_wall k) (right_wall k) G (walls-exist (size G) k G h (f, over-size G)) in (left_wall k G 0, right_wall k G 0, z.0, z.1)),
+)
+
 pub returns-clause-temperature : goal.returns-clause-temperature
 returns-clause-temperature c = meeting-exists
 

@@ -1,10 +1,12 @@
+use Rattle.std.proofs.lemmas.Result.{err_from_is_err_and}
+use Rattle.game_store.specs.Parts.IsFollower.{itself}
 use Rattle.std.proofs.Common.{◌≡◌, sym, ◌∙◌, ap, subst, List}
 use Rattle.game_store.specs.Meaning.{tree_at}
 use Rattle.thermograph.specs.declared.breaks.Break.{Break}
 use Rattle.thermograph.specs.Breaks.{wall_at}
 use Rattle.thermograph.specs.Drawings.{DrawWalls, IsTemperature, AreBreaks, end_of}
 use Rattle.thermograph.specs.Thermographs.{breaks, IsFromZero, AreInBounds}
-use Rattle.thermograph.proofs.Between.{none-between}
+use Rattle.thermograph.proofs.PastBounds.{none-past_bounds, past-bounds_of}
 use Rattle.thermograph.proofs.Finer.{draw-all}
 use Rattle.thermograph.proofs.Points.{points-in_bounds, breaks-points, points-from_zero}
 use Rattle.thermograph.proofs.pass.draw.Goals as goal
@@ -48,4 +50,11 @@ returns-clause-right_breaks c = (
 )
 
 pub returns-clause-within : goal.returns-clause-within
-returns-clause-within c = λ p. none-between 60 (tree_at c.args.store.now c.args.id) p.0 _ _ c.in_ok-drawing.ensures.drawn.drawn.walls p.1.0 p.2
+returns-clause-within c =
+    none-past_bounds c.args.store.now c.len-count.ensures.forms c.args.id c.requires _ _ c.in_ok-drawing.ensures.drawn.drawn.walls
+
+pub returns-in_err-drawing-clause-bounds : goal.returns-in_err-drawing-clause-bounds
+returns-in_err-drawing-clause-bounds c =
+    let p = err_from_is_err_and c.from_residual-in_err-drawing.result c.from_residual-in_err-drawing.ensures.1 in
+    let G = tree_at c.args.store.now c.args.id in
+    rw (p.1, p.2) (λ e. past-bounds_of G G (itself G) (c.in_err-drawing.ensures.bounds e))

@@ -1,0 +1,286 @@
+-- The local moves of a position can be listed, since it can be decided which places are free and which chains are removed.
+use Rattle.std.proofs.Common.{◌≡◌, ℕ, zero, suc, ◌+◌, ◌-◌, ◌<◌, ◌≤◌, ◌⊎◌, inl, inr, refl, sym, ap, ◌∙◌, subst, arith, List, [], ◌∷◌, length, Bool, true, false, Option, Some, None, Contains}
+use Rattle.std.specs.Prelude.{cond, count_by}
+use Rattle.std.proofs.lemmas.Bool.{cases_eq, cases_lt}
+use Rattle.std.proofs.lemmas.List.{ext_get_or, get_or_past, length-set}
+use Rattle.std.proofs.lemmas.List.Sums.{sum_by-cons, sum_by-set}
+use Rattle.go_grid.specs.declared.grid.Cell.{Cell}
+use Rattle.go_grid.specs.declared.grid.Cell.TheVariants as cell
+use Rattle.go_grid.specs.declared.grid.Colour.{Colour}
+use Rattle.go_grid.specs.declared.grid.Colour.TheVariants.{Black, White}
+use Rattle.go_grid.specs.declared.region.Touch.{Touch}
+use Rattle.go_grid.specs.Grid.{other, stone}
+use Rattle.go_grid.specs.Region.{touch_at}
+use Rattle.go_grid.proofs.PathLemmas.{leads_end}
+use Rattle.local_play.specs.LocalPlay.{held_at, is_beside, is_stone, with_stone, Holds, InLocalChain, IsBeside, IsFree, IsLinked, IsLocalMove, IsNumberTaken, IsOpen, IsRemoved}
+use Rattle.local_value.specs.LocalGame.{Step}
+use Rattle.local_value.specs.PositionTree.{IsStep}
+use Rattle.local_value.proofs.Decided.{Decided, alike, both, denied, either, leads_or_not, some_below}
+use Rattle.local_value.proofs.LocalLaws.{contains-cases, contains-head, contains-tail}
+
+same_or_not : (a b : Cell) → Decided (a ≡ b)
+same_or_not cell.Empty cell.Empty = inl refl
+same_or_not cell.Empty cell.Black = inr (λ e. cc)
+same_or_not cell.Empty cell.White = inr (λ e. cc)
+same_or_not cell.Black cell.Empty = inr (λ e. cc)
+same_or_not cell.Black cell.Black = inl refl
+same_or_not cell.Black cell.White = inr (λ e. cc)
+same_or_not cell.White cell.Empty = inr (λ e. cc)
+same_or_not cell.White cell.Black = inr (λ e. cc)
+same_or_not cell.White cell.White = inl refl
+
+true_or_not : (b : Bool) → Decided (b ≡ true)
+true_or_not true = inl refl
+true_or_not false = inr (λ e. cc)
+
+not_empty : (c : Colour) → cell.Empty ≡ stone c → ⊥
+not_empty Black e = cc
+not_empty White e = cc
+
+some_at : (o : Option ℕ) (P : ℕ → Type 0) → ((j : ℕ) → Decided (P j)) → Decided ((j : ℕ) × (o ≡ Some j) × P j)
+some_at None P d = inr (λ (j, e, p). cc)
+some_at (Some k) P d = elim (d k) [
+  | inl p ↦ inl (k, refl, p)
+  | inr f ↦ inr (λ (j, e, p). let same : k ≡ j = cc in f (subst P (sym same) p))
+]
+
+-- a list of so many cells
+made : ℕ → (ℕ → Cell) → List Cell
+made zero f = []
+made (suc n) f = f 0 ∷ made n (λ i. f (suc i))
+
+length-made : (n : ℕ) (f : ℕ → Cell) → length (made n f) ≡ n
+unfolding made
+length-made zero f = refl
+length-made (suc n) f = ap suc (length-made n (λ i. f (suc i)))
+
+made-at : (n : ℕ) (f : ℕ → Cell) (i : ℕ) → i < n → held_at (made n f) i ≡ f i
+unfolding made
+made-at zero f i lt = absurd (omega (arith, lt))
+made-at (suc n) f zero lt = refl
+made-at (suc n) f (suc i) lt = made-at n (λ j. f (suc j)) i (omega (arith, lt))
+
+-- 1 for a stone
+abbrev weight : Cell → ℕ
+weight x = cond (is_stone x) 1 0
+
+count_less : (a b : List Cell) → length a ≡ length b → ((i : ℕ) → (held_at a i ≡ cell.Empty) ⊎ (held_at a i ≡ held_at b i))
+    → count_by is_stone a ≤ count_by is_stone b
+count_less [] b e h = omega arith
+count_less (x ∷ a) [] e h = absurd (omega (arith, e))
+count_less (x ∷ a) (y ∷ b) e h =
+    let rest = count_less a b (omega (arith, e)) (λ i. h (suc i)) in
+    let first : weight x ≤ weight y = elim (h 0) [
+      | inl none ↦ let zero' = ap weight none in omega (arith, zero')
+      | inr same ↦ let one = ap weight same in omega (arith, one)
+    ] in
+    omega (arith, rest, first, sum_by-cons weight x a, sum_by-cons weight y b)
+
+-- the value of an option, with P
+abbrev At : (ℕ → Type 0) → Option ℕ → Type 0
+At P o = (j : ℕ) × (o ≡ Some j) × P j
+
+module _ (touch : List Touch) where
+  some_linked : (i : ℕ) (P : ℕ → Type 0) → ((j : ℕ) → Decided (P j)) → Decided ((j : ℕ) × IsLinked touch i j × P j)
+  some_linked i P d =
+      let t = touch_at touch i in
+      alike _ _ there back (either _ _ (some_at t.up P d) (either _ _ (some_at t.left P d) (either _ _ (some_at t.right P d) (some_at t.down P d))))
+    where
+      there : At P (touch_at touch i).up ⊎ (At P (touch_at touch i).left ⊎ (At P (touch_at touch i).right ⊎ At P (touch_at touch i).down)) → (j : ℕ) × IsLinked touch i j × P j
+      there (inl (j, e, p)) = (j, inl e, p)
+      there (inr (inl (j, e, p))) = (j, inr (inl e), p)
+      there (inr (inr (inl (j, e, p)))) = (j, inr (inr (inl e)), p)
+      there (inr (inr (inr (j, e, p)))) = (j, inr (inr (inr e)), p)
+
+      back : (j : ℕ) × IsLinked touch i j × P j → At P (touch_at touch i).up ⊎ (At P (touch_at touch i).left ⊎ (At P (touch_at touch i).right ⊎ At P (touch_at touch i).down))
+      back (j, inl e, p) = inl (j, e, p)
+      back (j, inr (inl e), p) = inr (inl (j, e, p))
+      back (j, inr (inr (inl e)), p) = inr (inr (inl (j, e, p)))
+      back (j, inr (inr (inr e)), p) = inr (inr (inr (j, e, p)))
+
+  linked_or_not : (i j : ℕ) → Decided (IsLinked touch i j)
+  linked_or_not i j = alike _ _ (λ (k, link, e). subst (IsLinked touch i) e link) (λ link. (j, link, refl)) (some_linked i (λ k. k ≡ j) (λ k. cases_eq k j))
+
+  module _ (cells : List Cell) where
+    within : (c : Colour) (i : ℕ) → Holds cells c i → i < length cells
+    within c i holds = elim (cases_lt i (length cells)) as (λ _. i < length cells) [
+      | inl lt ↦ lt
+      | inr le ↦ absurd (not_empty c (sym (get_or_past cells i cell.Empty le) ∙ holds))
+    ]
+
+    chain_or_not : (c : Colour) (i j : ℕ) → Decided (InLocalChain touch cells c i j)
+    chain_or_not c i j =
+        leads_or_not (IsLinked touch) (Holds cells c) (length cells) (within c) linked_or_not (λ k. same_or_not (held_at cells k) (stone c)) i j
+
+    chain_within : (c : Colour) (i j : ℕ) → InLocalChain touch cells c i j → j < length cells
+    chain_within c i j chain = within c j (leads_end (IsLinked touch) (Holds cells c) i j chain)
+
+    free_or_not : (c : Colour) (i : ℕ) → Decided (IsFree touch cells c i)
+    free_or_not c i =
+        alike _ _ (λ (j, lt, (chain, breath)). (j, chain, breath)) (λ (j, chain, breath). (j, chain_within c i j chain, (chain, breath)))
+        (some_below (length cells) (λ j. InLocalChain touch cells c i j × (IsOpen touch cells j ⊎ IsBeside touch c j))
+        (λ j. both _ _ (chain_or_not c i j)
+        (either _ _ (some_linked j (λ k. held_at cells k ≡ cell.Empty) (λ k. same_or_not (held_at cells k) cell.Empty))
+        (true_or_not (is_beside (touch_at touch j) c)))))
+
+    removed_or_not : (p : ℕ) (d : Colour) (j : ℕ) → Decided (IsRemoved touch cells p d j)
+    removed_or_not p d j =
+        alike _ _ (λ (i, link, (chain, bound)). (i, link, chain, bound)) (λ (i, link, chain, bound). (i, link, (chain, bound)))
+        (some_linked p (λ i. InLocalChain touch cells d i j × ¬ IsFree touch cells d i) (λ i. both _ _ (chain_or_not d i j) (denied _ (free_or_not d i))))
+
+  emptied : (P : Type 0) → Decided P → Cell → Cell
+  emptied P (inl p) x = cell.Empty
+  emptied P (inr f) x = x
+
+  emptied-gone : (P : Type 0) (d : Decided P) (x : Cell) → P → emptied P d x ≡ cell.Empty
+  unfolding emptied
+  emptied-gone P (inl p) x h = refl
+  emptied-gone P (inr f) x h = absurd (f h)
+
+  emptied-kept : (P : Type 0) (d : Decided P) (x : Cell) → ¬ P → emptied P d x ≡ x
+  unfolding emptied
+  emptied-kept P (inl p) x f = absurd (f p)
+  emptied-kept P (inr g) x f = refl
+
+  module _ (cells : List Cell) (c : Colour) where
+    -- the position after a stone at a place
+    next : ℕ → List Cell
+    next p = let placed = with_stone cells p c in
+        made (length cells) (λ i. emptied (IsRemoved touch placed p (other c) i) (removed_or_not placed p (other c) i) (held_at placed i))
+
+    length-next : (p : ℕ) → length (next p) ≡ length cells
+    unfolding next
+    length-next p = length-made (length cells) _
+
+    placed_long : (p : ℕ) → length (with_stone cells p c) ≡ length cells
+    placed_long p = length-set cells p (stone c)
+
+    -- a place past the region is empty before and after
+    next-at : (p i : ℕ) → held_at (next p) i ≡ emptied (IsRemoved touch (with_stone cells p c) p (other c) i) (removed_or_not (with_stone cells p c) p (other c) i) (held_at (with_stone cells p c) i)
+    unfolding next emptied
+    next-at p i = elim (cases_lt i (length cells)) as (λ _. held_at (next p) i ≡ emptied (IsRemoved touch (with_stone cells p c) p (other c) i) (removed_or_not (with_stone cells p c) p (other c) i) (held_at (with_stone cells p c) i)) [
+      | inl lt ↦ made-at (length cells) _ i lt
+      | inr le ↦
+          get_or_past (next p) i cell.Empty (omega (arith, le, length-next p))
+          ∙ sym (still (IsRemoved touch (with_stone cells p c) p (other c) i) (removed_or_not (with_stone cells p c) p (other c) i) (held_at (with_stone cells p c) i) (get_or_past (with_stone cells p c) i cell.Empty (omega (arith, le, placed_long p))))
+    ]
+      where
+        still : (P : Type 0) (d : Decided P) (x : Cell) → x ≡ cell.Empty → emptied P d x ≡ cell.Empty
+        still P (inl p) x e = refl
+        still P (inr f) x e = e
+
+    record IsLegal (p : ℕ) : Type 0 where
+      place : p < length cells
+      free : held_at cells p ≡ cell.Empty
+      stands : IsFree touch (next p) c p
+
+    legal_or_not : (p : ℕ) → Decided (IsLegal p)
+    legal_or_not p =
+        alike _ _ (λ (lt, (e, f)). record { place = lt; free = e; stands = f }) (λ l. (l.place, (l.free, l.stands)))
+        (both _ _ (less p (length cells)) (both _ _ (same_or_not (held_at cells p) cell.Empty) (free_or_not (next p) c p)))
+      where
+        less : (p n : ℕ) → Decided (p < n)
+        less p n = elim (cases_lt p n) [ inl lt ↦ inl lt | inr le ↦ inr (λ lt. absurd (omega (arith, lt, le))) ]
+
+    gone : (p i : ℕ) → IsRemoved touch (with_stone cells p c) p (other c) i → held_at (next p) i ≡ cell.Empty
+    gone p i h = next-at p i ∙ emptied-gone _ (removed_or_not (with_stone cells p c) p (other c) i) (held_at (with_stone cells p c) i) h
+
+    kept : (p i : ℕ) → ¬ IsRemoved touch (with_stone cells p c) p (other c) i → held_at (next p) i ≡ held_at (with_stone cells p c) i
+    kept p i f = next-at p i ∙ emptied-kept _ (removed_or_not (with_stone cells p c) p (other c) i) (held_at (with_stone cells p c) i) f
+
+    legal_move : (p : ℕ) → IsLegal p → IsLocalMove touch cells c p (next p)
+    legal_move p l = record {
+      place = l.place;
+      free = l.free;
+      long = length-next p;
+      gone = gone p;
+      kept = kept p;
+      stands = l.stands;
+    }
+
+    -- each local move is one of these
+    move_is : (p : ℕ) (after : List Cell) → IsLocalMove touch cells c p after → IsLegal p × (after ≡ next p)
+    move_is p after m =
+        let same : after ≡ next p = ext_get_or cell.Empty after (next p) (m.long ∙ sym (length-next p)) (λ i _.
+        elim (removed_or_not (with_stone cells p c) p (other c) i) [
+          | inl h ↦ m.gone i h ∙ sym (gone p i h)
+          | inr f ↦ m.kept i f ∙ sym (kept p i f)
+        ]) in
+        (record { place = m.place; free = m.free; stands = subst (λ x. IsFree touch x c p) same m.stands }, same)
+
+    taken : ℕ → ℕ
+    taken p = (count_by is_stone cells + 1) - count_by is_stone (next p)
+
+    number_taken : (p : ℕ) → IsLegal p → IsNumberTaken cells (next p) (taken p)
+    unfolding taken
+    number_taken p l =
+        let one = sum_by-set weight cells p (stone c) cell.Empty l.place in
+        let none : weight (held_at cells p) ≡ 0 = ap weight l.free in
+        let less = count_less (next p) (with_stone cells p c) (length-next p ∙ sym (placed_long p)) (λ i.
+        elim (removed_or_not (with_stone cells p c) p (other c) i) [ inl h ↦ inl (gone p i h) | inr f ↦ inr (kept p i f) ]) in
+        omega (arith, one, none, counts c, less)
+      where
+        counts : (c : Colour) → weight (stone c) ≡ 1
+        counts Black = refl
+        counts White = refl
+
+    -- the moves of the player, with what each takes, as steps between values of `P`
+    module _ (P : Type 0) (to : List Cell → P) where
+      step : ℕ → Step P
+      step p = record { to = to (next p); taken = taken p }
+
+      with_step : (p : ℕ) → Decided (IsLegal p) → List (Step P) → List (Step P)
+      with_step p (inl l) xs = step p ∷ xs
+      with_step p (inr f) xs = xs
+
+      steps_below : ℕ → List (Step P)
+      steps_below zero = []
+      steps_below (suc n) = with_step n (legal_or_not n) (steps_below n)
+
+      pub steps : List (Step P)
+      steps = steps_below (length cells)
+
+      from_below : (n : ℕ) (x : Step P) → Contains (steps_below n) x → (p : ℕ) × IsLegal p × (step p ≡ x)
+      unfolding steps_below with_step
+      from_below zero x h = absurd (omega (arith, h.1))
+      from_below (suc n) x h = from (from_below n x) (legal_or_not n) h
+        where
+          from : (Contains (steps_below n) x → (p : ℕ) × IsLegal p × (step p ≡ x)) → (d : Decided (IsLegal n)) → Contains (with_step n d (steps_below n)) x → (p : ℕ) × IsLegal p × (step p ≡ x)
+          from rest (inl l) h = elim (contains-cases (Step P) (step n) x (steps_below n) h) [
+            | inl e ↦ (n, l, e)
+            | inr k ↦ rest k
+          ]
+          from rest (inr f) h = rest h
+
+      in_below : (n p : ℕ) → p < n → IsLegal p → Contains (steps_below n) (step p)
+      unfolding steps_below with_step
+      in_below zero p lt l = absurd (omega (arith, lt))
+      in_below (suc n) p lt l = into (λ less. in_below n p less l) (legal_or_not n)
+        where
+          into : (p < n → Contains (steps_below n) (step p)) → (d : Decided (IsLegal n)) → Contains (with_step n d (steps_below n)) (step p)
+          into rest (inl k) = elim (cases_eq p n) as (λ _. Contains (step n ∷ steps_below n) (step p)) [
+            | inl e ↦ subst (λ z. Contains (step n ∷ steps_below n) (step z)) (sym e) (contains-head (Step P) (step n) (steps_below n))
+            | inr ne ↦ contains-tail (Step P) (step n) (step p) (steps_below n) (rest (omega (arith, lt, ne)))
+          ]
+          into rest (inr f) = elim (cases_eq p n) as (λ _. Contains (steps_below n) (step p)) [
+            | inl e ↦ absurd (f (subst IsLegal e l))
+            | inr ne ↦ rest (omega (arith, lt, ne))
+          ]
+
+      -- a listed step is a local move
+      pub step_out : (x : Step P) → Contains steps x
+          → (y : Step (List Cell)) × IsStep touch c cells y × (to y.to ≡ x.to) × (y.taken ≡ x.taken)
+      unfolding steps step
+      step_out x h =
+          let (p, l, e) = from_below (length cells) x h in
+          (record { to = next p; taken = taken p }, (p, legal_move p l, number_taken p l), ap (λ z. z.to) e, ap (λ z. z.taken) e)
+
+      -- and each local move is listed
+      pub step_in : (y : Step (List Cell)) → IsStep touch c cells y → Contains steps (record { to = to y.to; taken = y.taken })
+      unfolding steps step
+      step_in y (p, move, number) =
+          let (l, same) = move_is p y.to move in
+          let here = in_below (length cells) p l.place l in
+          let count : taken p ≡ y.taken = (let n = number_taken p l in
+          let m = subst (λ z. IsNumberTaken cells z y.taken) same number in omega (arith, n, m)) in
+          subst (Contains (steps_below (length cells))) (λ i. record { to = to (sym same i); taken = count i }) here

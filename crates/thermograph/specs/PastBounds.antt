@@ -1,0 +1,30 @@
+-- Break points past the bounds of a Dyadic.
+use Rattle.std.specs.Prelude.{ℕ, ◌≡◌, ◌<◌, ◌^◌, ◌⊎◌, ℤ, pos, ◌*ℤ◌, unsigned_abs}
+use Rattle.game_store.specs.Tree.{Tree}
+use Rattle.game_store.specs.Parts.{IsPart}
+use Rattle.thermograph.specs.Breaks.{Bends}
+use Rattle.thermograph.specs.Walls.{HasWalls, IsMeeting}
+
+-- n / 2 ^ k is within the bounds of a Dyadic: some u / 2 ^ 60 with u below 2 ^ 120 in size
+abbrev pub IsWithin : ℕ → ℤ → Type 0
+IsWithin k n = (u : ℤ) × (unsigned_abs u < 2 ^ 120) × (n *ℤ pos (2 ^ 60) ≡ u *ℤ pos (2 ^ k))
+
+-- a wall has a break point at t, where l and r are the walls: at 0, where its slope changes, or where the two meet
+abbrev pub IsBreak : (l r wall : ℕ → ℤ) → ℕ → Type 0
+IsBreak l r wall t = (t ≡ 0) ⊎ (Bends wall t ⊎ ((x : ℤ) × IsMeeting l r t x))
+
+-- a break point (t, x) of a wall of P is past the bounds: t or x is
+pub record HasBreakPast (P : Tree) : Type 0 where
+  pub grid : ℕ
+  pub left : ℕ → ℤ
+  pub right : ℕ → ℤ
+  pub walls : HasWalls grid P left right
+  pub wall : ℕ → ℤ
+  pub one : (wall ≡ left) ⊎ (wall ≡ right)
+  pub place : ℕ
+  pub breaks : IsBreak left right wall place
+  pub past : ¬ IsWithin grid (pos place) ⊎ ¬ IsWithin grid (wall place)
+
+-- some break point of the game or of one of its parts is past the bounds
+abbrev pub IsPastBounds : Tree → Type 0
+IsPastBounds G = (P : Tree) × ((P ≡ G) ⊎ IsPart G P) × HasBreakPast P
