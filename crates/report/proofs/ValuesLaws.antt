@@ -15,7 +15,7 @@ use Rattle.report.specs.Lines.{word_line}
 use Rattle.report.specs.Solution.{count_line, solved_line}
 use Rattle.report.specs.Thermographs.{picture_lines}
 use Rattle.game_text.specs.Depth.{depth}
-use Rattle.thermograph.specs.PastBounds.{IsPastBounds}
+use Rattle.thermograph.specs.PastBounds.{IsDrawnPastBounds}
 use Rattle.report.specs.declared.values.ValuesError.{ValuesError}
 use Rattle.report.specs.declared.values.ValuesError.TheVariants.{Form, Memory}
 use Rattle.report.proofs.TextLaws.{three_more}
@@ -83,7 +83,7 @@ pub values_is : (c : ℕ) (rs : List Shape) (a b : List ℕ) → a ≡ count_lin
 values_is c rs a b first lines = record { entries = lines.entries; are = lines.are; is = lines.lines ∙ ap (λ t. t ++ flat_map (entry_lines c) lines.entries) first }
 
 -- a value whose text and thermograph are within the limits is shown
-pub none_unshown : (G : Tree) (text : List ℕ) → text ≡ tree_text G → (length text ≤ 65536) × (depth G ≤ 1000) → (IsPastBounds G → ⊥) → IsUnshown G → ⊥
+pub none_unshown : (G : Tree) (text : List ℕ) → text ≡ tree_text G → (length text ≤ 65536) × (depth G ≤ 1000) → (IsDrawnPastBounds G → ⊥) → IsUnshown G → ⊥
 none_unshown G text is few within (inl past) = within past
 none_unshown G text is few within (inr (inl long)) = let e = ap length is in omega (arith, e, few.0, long)
 none_unshown G text is few within (inr (inr deep)) = omega (arith, few.1, deep)

@@ -6,7 +6,7 @@ use Rattle.game_store.specs.Tree.{Tree}
 use Rattle.game_store.specs.Meaning.{tree_at}
 use Rattle.game_store.specs.TextOrder.{tree_text}
 use Rattle.game_text.specs.Depth.{depth}
-use Rattle.thermograph.specs.PastBounds.{IsPastBounds}
+use Rattle.thermograph.specs.PastBounds.{IsDrawnPastBounds}
 use Rattle.local_value.specs.PositionTree.{IsValueOf}
 use Rattle.endgame_solver.specs.Regions.{region_at}
 use Rattle.endgame_solver.specs.Solved.{IsNumberOfPositions}
@@ -21,7 +21,7 @@ use Rattle.report.specs.Thermographs.{Picture, IsPicture, picture_lines}
 -- The value isn't shown: a break point of it or of one of its parts is past the bounds of numbers, its text has more than
 -- 65,536 bytes, or its braces nest more than 1,000 deep.
 abbrev pub IsUnshown : Tree → Type 0
-IsUnshown G = IsPastBounds G ⊎ ((65536 < length (tree_text G)) ⊎ (1000 < depth G))
+IsUnshown G = IsDrawnPastBounds G ⊎ ((65536 < length (tree_text G)) ⊎ (1000 < depth G))
 
 -- the value of the region's opening is shown, or isn't
 abbrev pub HasShownValue : Shape → Type 0

@@ -4,7 +4,7 @@ ghost use Rattle.std.specs.Prelude.{◌≡◌, ◌<◌, ◌≤◌, ◌*◌, ◌+
 ghost use Rattle.game_store.specs.Meaning.{tree_at};
 ghost use Rattle.game_store.specs.TextOrder.{tree_text};
 ghost use Rattle.game_text.specs.Depth.{depth};
-ghost use Rattle.thermograph.specs.PastBounds.{IsPastBounds};
+ghost use Rattle.thermograph.specs.PastBounds.{IsDrawnPastBounds};
 ghost use Rattle.report.specs.Solution.{solved_line};
 ghost use Rattle.report.specs.Thermographs.{IsThermograph, picture_lines};
 ghost use Rattle.report.specs.Values.{HasEntries, HasEntry, IsFirstUnshown, IsRefusal, IsShowing, IsUnshown, IsValuesText, picture};
@@ -78,8 +78,8 @@ fn value_thermograph(
 ) -> Result<Thermograph, ValuesError>
     requires { value < length store.now }
     ensures drawn { IfOk result (IsThermograph (tree_at store.now value)) }
-    ensures within { IfOk result (λ _. IsPastBounds (tree_at store.now value) → ⊥) }
-    ensures refusal { IfErr result (IsRefusal (λ p. (p ≡ point) × IsPastBounds (tree_at store.now value))) }
+    ensures within { IfOk result (λ _. IsDrawnPastBounds (tree_at store.now value) → ⊥) }
+    ensures refusal { IfErr result (IsRefusal (λ p. (p ≡ point) × IsDrawnPastBounds (tree_at store.now value))) }
 {
     match draw(alloc, store, value) {
         Ok(drawn) => Ok(drawn),

@@ -9,7 +9,7 @@ use Rattle.thermograph.specs.Walls.{HasTemperatureBetween}
 use Rattle.thermograph.specs.Scaffolds.{wall_of}
 use Rattle.thermograph.specs.Marks.{IsMarked, AreFollowers}
 use Rattle.thermograph.specs.Drawings.{IsDrawn, AreDrawnBelow, AreDrawn}
-use Rattle.thermograph.specs.PastBounds.{IsPastBounds}
+use Rattle.thermograph.specs.PastBounds.{IsDrawnPastBounds}
 use Rattle.thermograph.proofs.Lines.{below-or_at}
 use Rattle.thermograph.proofs.PastBounds.{past-bounds_of}
 
@@ -46,5 +46,5 @@ module _ (Ts : List Tree) (marks : List Bool) where
       at i (inr h) m = subst (λ k. IsDrawn (tree_at Ts k) (wall_of (lefts ++ l ∷ []) k) (wall_of (rights ++ r ∷ []) k)) (sym h)
           (same n _ _ _ _ (ap (wall_of (lefts ++ l ∷ [])) (sym d.left_count) ∙ wall-new lefts l) (ap (wall_of (rights ++ r ∷ [])) (sym d.right_count) ∙ wall-new rights r) (new (subst (IsMarked marks) h m)))
 
-pub past-bounds : (Ts : List Tree) (id n : ℕ) (marks : List Bool) → AreFollowers Ts id 0 marks → n < length marks → IsMarked marks n → HasTemperatureBetween 60 (tree_at Ts n) → IsPastBounds (tree_at Ts id)
+pub past-bounds : (Ts : List Tree) (id n : ℕ) (marks : List Bool) → AreFollowers Ts id 0 marks → n < length marks → IsMarked marks n → HasTemperatureBetween 60 (tree_at Ts n) → IsDrawnPastBounds (tree_at Ts id)
 past-bounds Ts id n marks f l m b = past-bounds_of (tree_at Ts id) (tree_at Ts n) (f.follows n l m) b

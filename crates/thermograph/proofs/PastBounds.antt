@@ -16,7 +16,7 @@ use Rattle.thermograph.specs.Walls.{Follow, HasWalls, HasTemperatureBetween, IsM
 use Rattle.thermograph.specs.Walls.Follow.{apart, met}
 use Rattle.thermograph.specs.Walls.WallsAre.{of_number, of_game}
 use Rattle.thermograph.specs.Breaks.{Bends}
-use Rattle.thermograph.specs.PastBounds.{IsBreak, IsWithin, HasBreakPast, IsPastBounds}
+use Rattle.thermograph.specs.PastBounds.{IsBreak, IsWithin, HasBreakPast, IsDrawnPastBounds}
 use Rattle.thermograph.proofs.Between.{follower-trans, none-bends, none-between}
 use Rattle.thermograph.proofs.Lines.{finer-doubles, Parity, parity}
 use Rattle.thermograph.proofs.Lines.Parity.{even, odd}
@@ -417,10 +417,10 @@ part-stored Ts forms _ _ (further G H P o g) f s = part-stored Ts forms H P g f 
     at (inl h) = (store-bounded Ts forms).left_in G H hot s h
     at (inr h) = (store-bounded Ts forms).right_in G H hot s h
 
-pub past-bounds_of : (G P : Tree) → IsFollower G P → HasTemperatureBetween 60 P → IsPastBounds G
+pub past-bounds_of : (G P : Tree) → IsFollower G P → HasTemperatureBetween 60 P → IsDrawnPastBounds G
 past-bounds_of G P f b = (P, inr (f, between-no_number 60 P b), between-past P b)
 
-pub none-past_bounds : (Ts : List Tree) (forms : HaveForms Ts) (id : ℕ) → id < length Ts → (l r : ℕ → ℤ) → HasWalls 60 (tree_at Ts id) l r → IsPastBounds (tree_at Ts id) → ⊥
+pub none-past_bounds : (Ts : List Tree) (forms : HaveForms Ts) (id : ℕ) → id < length Ts → (l r : ℕ → ℤ) → HasWalls 60 (tree_at Ts id) l r → IsDrawnPastBounds (tree_at Ts id) → ⊥
 none-past_bounds Ts forms id lt l r h (P, which, b) =
     none-past (IsStored Ts) (store-bounded Ts forms) P (stored which) (h.lw P) (h.rw P)
     (record { lw = h.lw; rw = h.rw; all = λ Q g. h.all Q (follower-trans (tree_at Ts id) P Q (follows which) g); left_is = λ t. refl; right_is = λ t. refl }) b

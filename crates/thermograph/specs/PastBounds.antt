@@ -26,5 +26,5 @@ pub record HasBreakPast (P : Tree) : Type 0 where
   pub past : ¬ IsWithin grid (pos place) ⊎ ¬ IsWithin grid (wall place)
 
 -- some break point of the game or of one of its parts is past the bounds
-abbrev pub IsPastBounds : Tree → Type 0
-IsPastBounds G = (P : Tree) × ((P ≡ G) ⊎ IsPart G P) × HasBreakPast P
+abbrev pub IsDrawnPastBounds : Tree → Type 0
+IsDrawnPastBounds G = (P : Tree) × ((P ≡ G) ⊎ IsPart G P) × HasBreakPast P

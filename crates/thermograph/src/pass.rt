@@ -5,7 +5,7 @@ ghost use Rattle.game_store.specs.Meaning.{tree_at};
 ghost use Rattle.thermograph.specs.Breaks.{wall_at};
 ghost use Rattle.thermograph.specs.Marks.{AreFollowers};
 ghost use Rattle.thermograph.specs.Drawings.{DrawWalls, IsTemperature, AreBreaks, end_of, IsDrawing, AreDrawn};
-ghost use Rattle.thermograph.specs.PastBounds.{IsPastBounds};
+ghost use Rattle.thermograph.specs.PastBounds.{IsDrawnPastBounds};
 ghost use Rattle.thermograph.specs.Thermographs.{breaks, IsFromZero};
 ghost use Rattle.thermograph.specs.declared.error.ThermoError.TheVariants as the_error;
 
@@ -49,7 +49,7 @@ fn draw_below(
     requires id { id < length store.now }
     requires marks { AreFollowers store.now id 0 marks.now }
     ensures drawn { IfOk result (λ walls. AreDrawn store.now marks.now id walls.left.items walls.right.items) }
-    ensures bounds { IfErr result (λ e. e ≡ the_error.Bounds → IsPastBounds (tree_at store.now id)) }
+    ensures bounds { IfErr result (λ e. e ≡ the_error.Bounds → IsDrawnPastBounds (tree_at store.now id)) }
 {
     let mut walls = Walls {
         left: Vec::new(alloc),
@@ -78,8 +78,8 @@ pub fn draw(alloc: Global, store: &Store, id: GameId) -> Result<Thermograph, The
     ensures temperature { IfOk result (λ g. IsTemperature (tree_at store.now id) (wall_at (breaks g.left)) (wall_at (breaks g.right)) g.temperature g.mean) }
     ensures left_breaks { IfOk result (λ g. IsFromZero g.left × AreBreaks (breaks g.left) (end_of g.temperature)) }
     ensures right_breaks { IfOk result (λ g. IsFromZero g.right × AreBreaks (breaks g.right) (end_of g.temperature)) }
-    ensures bounds { IfErr result (λ e. e ≡ the_error.Bounds → IsPastBounds (tree_at store.now id)) }
-    ensures within { IfOk result (λ g. IsPastBounds (tree_at store.now id) → ⊥) }
+    ensures bounds { IfErr result (λ e. e ≡ the_error.Bounds → IsDrawnPastBounds (tree_at store.now id)) }
+    ensures within { IfOk result (λ g. IsDrawnPastBounds (tree_at store.now id) → ⊥) }
 {
     let _count = store.len();
     let marks = followers(alloc, store, id)?;
