@@ -11,6 +11,8 @@ pub mod ValueSumLaws
 pub mod BoardLaws
 pub mod CellPlayLaws
 pub mod WholeDecomposition
+pub mod CarriedPlay
+pub mod CarriedTrees
 pub mod MoneyLaws
 pub mod FollowLaws
 pub mod HeldLaws

@@ -4,6 +4,7 @@ pub mod WholeParts
 pub mod Regions
 pub mod Valued
 pub mod Decomposition
+pub mod ShapeValues
 pub mod Bookkeeping
 pub mod Faults
 pub mod Solved

@@ -14,6 +14,6 @@ mod winning;
 
 pub use cycle_names::CycleNames;
 pub use faults::SolveError;
-pub use laws::decomposition_laws;
+pub use laws::{decomposition_laws, shape_law};
 pub use limits::Limits;
 pub use solved::{RegionReport, Solved};

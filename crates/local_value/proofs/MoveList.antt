@@ -18,7 +18,7 @@ use Rattle.local_value.specs.PositionTree.{IsStep}
 use Rattle.local_value.proofs.Decided.{Decided, alike, both, denied, either, leads_or_not, some_below}
 use Rattle.local_value.proofs.LocalLaws.{contains-cases, contains-head, contains-tail}
 
-same_or_not : (a b : Cell) → Decided (a ≡ b)
+pub same_or_not : (a b : Cell) → Decided (a ≡ b)
 same_or_not cell.Empty cell.Empty = inl refl
 same_or_not cell.Empty cell.Black = inr (λ e. cc)
 same_or_not cell.Empty cell.White = inr (λ e. cc)
@@ -33,7 +33,7 @@ true_or_not : (b : Bool) → Decided (b ≡ true)
 true_or_not true = inl refl
 true_or_not false = inr (λ e. cc)
 
-not_empty : (c : Colour) → cell.Empty ≡ stone c → ⊥
+pub not_empty : (c : Colour) → cell.Empty ≡ stone c → ⊥
 not_empty Black e = cc
 not_empty White e = cc
 
@@ -45,16 +45,16 @@ some_at (Some k) P d = elim (d k) [
 ]
 
 -- a list of so many cells
-made : ℕ → (ℕ → Cell) → List Cell
+pub made : ℕ → (ℕ → Cell) → List Cell
 made zero f = []
 made (suc n) f = f 0 ∷ made n (λ i. f (suc i))
 
-length-made : (n : ℕ) (f : ℕ → Cell) → length (made n f) ≡ n
+pub length-made : (n : ℕ) (f : ℕ → Cell) → length (made n f) ≡ n
 unfolding made
 length-made zero f = refl
 length-made (suc n) f = ap suc (length-made n (λ i. f (suc i)))
 
-made-at : (n : ℕ) (f : ℕ → Cell) (i : ℕ) → i < n → held_at (made n f) i ≡ f i
+pub made-at : (n : ℕ) (f : ℕ → Cell) (i : ℕ) → i < n → held_at (made n f) i ≡ f i
 unfolding made
 made-at zero f i lt = absurd (omega (arith, lt))
 made-at (suc n) f zero lt = refl
