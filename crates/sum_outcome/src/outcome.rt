@@ -9,7 +9,7 @@ ghost use Rattle.game_store.specs.TextOrder.{IsCanonicalTree};
 ghost use Rattle.game_store.specs.Meaning.{tree_at, pick, AreIds};
 ghost use Rattle.game_canon.specs.Players.{LosesGame};
 ghost use Rattle.sum_outcome.specs.Sums.{sum_tree, IsBounded};
-ghost use Rattle.sum_outcome.specs.Memo.{IsRight};
+ghost use Rattle.sum_outcome.specs.Memo.{IsRight, StaysRight};
 ghost use Rattle.sum_outcome.specs.Incentives.{IsSettled};
 ghost use Rattle.sum_outcome.specs.Search.{HasNonNumber, IsSign, WinsAt};
 
@@ -82,19 +82,19 @@ pub(crate) fn loses_sum(
     requires right { IsRight store.now memo.old }
     ensures same { sum.new ≡ sum.old }
     ensures answer { IsTrue result ↔ LosesGame side (sum_tree store.now sum.old number) }
-    ensures right { IsRight store.now memo.new }
+    ensures right { StaysRight store.now memo.old memo.new }
 {
     if let Some(sign) = sign_by_stops(store, sum, number) {
         return loses_at(sign, side);
     }
-    let Some(key) = key_of(memo.alloc, store, sum, number) else {
+    let Some(key) = key_of(memo.alloc, store, sum, number, side) else {
         return loses_by_moves(store, memo, sum, number, side);
     };
-    if let Some(lost) = memo.recall(&key, side) {
+    if let Some(lost) = memo.recall(&key) {
         return lost;
     }
     let lost = loses_by_moves(store, memo, sum, number, side);
-    memo.remember(key, side, lost);
+    memo.remember(key, lost);
     lost
 }
 
@@ -114,7 +114,7 @@ fn loses_by_moves(
     requires right { IsRight store.now memo.old }
     ensures same { sum.new ≡ sum.old }
     ensures answer { IsTrue result ↔ LosesGame side (sum_tree store.now sum.old number) }
-    ensures right { IsRight store.now memo.new }
+    ensures right { StaysRight store.now memo.old memo.new }
 {
     'places: for place in 0..sum.len() {
         if is_repeated(sum, place) {
@@ -145,7 +145,7 @@ fn wins_at(
     ensures same { sum.new ≡ sum.old }
     ensures wins { IsTrue result → WinsAt store.now sum.old number side place }
     ensures settled { OnFalse result (IsSettled store.now sum.old number side place) }
-    ensures right { IsRight store.now memo.new }
+    ensures right { StaysRight store.now memo.old memo.new }
 {
     let id = sum[place];
     let options = moves(store, id, side);

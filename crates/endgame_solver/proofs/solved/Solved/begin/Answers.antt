@@ -40,12 +40,14 @@ invariant_of-result g c =
     let made = c.in_ok-regions.ensures in
     let few : length setup.board.cells ≤ 625 = omega (arith, c.size-size.ensures.area, c.size-size.ensures.most) in
     let opens = subst (λ komi. IsOpening setup.board setup.black_prisoners setup.white_prisoners komi setup.side c.in_ok-whole.whole) (komi_held setup.komi_halves c.requires.komi) c.in_ok-whole.ensures in
-    let done = solved_all c.args.limits.now c.deref-2.result.now regions _ _ c.solve_regions.new.store c.deref-2.ensures.value c.in_ok-graphs.ensures.solved in
-    is_kept c.args.limits.now setup.board regions _ _ c.solve_regions.new.store c.requires.settled made.regions made.local few c.requires.positions done
-    setup.black_prisoners setup.white_prisoners setup.komi_halves setup.side c.in_ok-whole.whole opens _ _
-    (c.in_ok-places.ensures ∙ ap (λ n. replicate n 0) (c.len.ensures ∙ c.in_ok-regions.regions.ok.0))
-    (c.in_ok-sum.ensures ∙ ap (map (λ ids. get_or ids 0 0)) c.deref-3.ensures.value)
-    c.requires.black c.requires.white c.requires.komi
+    let done = solved_all c.args.limits.now c.deref-2.result.now regions _ _ c.solve_regions.new.store c.deref-2.ensures.value c.in_ok-graphs.ensures.solved in (
+      is_kept c.args.limits.now setup.board regions _ _ c.solve_regions.new.store c.requires.settled made.regions made.local few c.requires.positions done
+          setup.black_prisoners setup.white_prisoners setup.komi_halves setup.side c.in_ok-whole.whole opens _ _
+          (c.in_ok-places.ensures ∙ ap (λ n. replicate n 0) (c.len.ensures ∙ c.in_ok-regions.regions.ok.0))
+          (c.in_ok-sum.ensures ∙ ap (map (λ ids. get_or ids 0 0)) c.deref-3.ensures.value)
+          c.requires.black c.requires.white c.requires.komi,
+      c.in_ok-search.ensures.fits c.solve_regions.new.store,
+    )
 
 pub returns-clause-begun : goal.returns-clause-begun
 returns-clause-begun g c =
