@@ -110,10 +110,11 @@ impl Solved {
             return Err(SolveError::Points(lowest, points));
         }
         let mut store = Store::new(alloc);
+        let mut search = Search::new(alloc, SEARCH_ENTRIES)?;
+        search.note_zero(&mut store)?;
         let (graphs, values) = solve_regions(alloc, &regions, limits, &mut store, steps)?;
         let places = opening_places(alloc, regions.len())?;
         let sum = opening_values(alloc, &values)?;
-        let search = Search::new(alloc, SEARCH_ENTRIES)?;
         Ok(Solved {
             whole,
             store,

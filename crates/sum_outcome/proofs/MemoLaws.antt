@@ -25,6 +25,7 @@ use Rattle.game_canon.specs.Players.{LosesGame}
 use Rattle.game_canon.proofs.PlayerLaws.{loses-same, same-sym}
 use Rattle.sum_outcome.specs.Sums.{sum_tree}
 use Rattle.sum_outcome.specs.Incentives as pairs
+use Rattle.sum_outcome.specs.Opposites.{IsZero}
 use Rattle.sum_outcome.specs.Memo.{NoneIsNew, IsRight, StaysRight, remembered, key_tree, mover, IsAnswer, AreAnswers, IsKeyOf, AreSame, IsAmong, AreKept, Fits, Remembered, FitsGrownStores}
 use Rattle.sum_outcome.specs.declared.key.Key.{Key}
 use Rattle.sum_outcome.specs.declared.memo.Memo.{Memo}
@@ -134,12 +135,15 @@ to_key Ts ids x c key lost k a = (
 )
 
 -- what fits once, and again after each step
+pub stays : (Ts : List Tree) (a : Memo) → IsRight Ts a → StaysRight Ts a a
+stays Ts a right = record { right = right; sums = refl; incentives = refl }
+
 pub stays_on : (Ts : List Tree) (a b c : Memo) → StaysRight Ts a b → StaysRight Ts b c → StaysRight Ts a c
 stays_on Ts a b c p q = record { right = q.right; sums = q.sums ∙ p.sums; incentives = q.incentives ∙ p.incentives }
 
 pub incentives_changed : (Ts : List Tree) (a b : Memo) (now : LruCache MovePair Bool) → StaysRight Ts a b → pairs.AreIncentivesRight Ts now.entries → now.cap ≡ b.incentives.cap
-    → StaysRight Ts a (record { sums = b.sums; incentives = now; alloc = b.alloc })
-incentives_changed Ts a b now w right cap = record { right = record { sums = w.right.sums; incentives = right }; sums = w.sums; incentives = cap ∙ w.incentives }
+    → StaysRight Ts a (record { sums = b.sums; incentives = now; zero = b.zero; alloc = b.alloc })
+incentives_changed Ts a b now w right cap = record { right = record { sums = w.right.sums; incentives = right; zero = w.right.zero }; sums = w.sums; incentives = cap ∙ w.incentives }
 
 -- more forms change nothing
 pick-extends : (Ts Us : List Tree) (is : List ℕ) → Extends Ts Us → AreIds Ts is → pick Us is ≡ pick Ts is
@@ -150,6 +154,10 @@ pick-extends Ts Us (i ∷ is) x are =
 
 grown_ids : (Ts Us : List Tree) (is : List ℕ) → Extends Ts Us → AreIds Ts is → AreIds Us is
 grown_ids Ts Us is x are j l = omega (arith, are j l, x.longer)
+
+zero_grown : (Ts Us : List Tree) (o : Option ℕ) → Extends Ts Us → IsZero Ts o → IsZero Us o
+zero_grown Ts Us None x w = tt
+zero_grown Ts Us (Some z) x w = (omega (arith, w.0, x.longer), x.same z w.0 ∙ w.1)
 
 pub fits_grown : FitsGrownStores
 fits_grown Ts Us search x fits = record {
@@ -171,6 +179,7 @@ fits_grown Ts Us search x fits = record {
         },
         subst (λ t. IsTrue e.1 ↔ t) (λ i. incentive (sym other i) (sym other_option i) ≤ᵍ incentive (sym game i) (sym option i)) w.1,
       ));
+  zero = zero_grown Ts Us search.zero x fits.zero;
 }
 
 -- ids put in another order

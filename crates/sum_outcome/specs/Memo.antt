@@ -1,5 +1,5 @@
 -- What a search remembers, and where it fits a store.
-use Rattle.std.specs.Prelude.{ℕ, ℤ, ◌≡◌, ◌⊎◌, ◌↔◌, ◌≤◌, List, length, Contains, Bool, IsTrue, cond}
+use Rattle.std.specs.Prelude.{ℕ, ℤ, ◌≡◌, ◌⊎◌, ◌↔◌, ◌≤◌, List, length, Contains, Bool, IsTrue, cond, Option}
 use Rattle.go_grid.specs.declared.grid.Colour.{Colour}
 use Rattle.go_grid.specs.declared.grid.Colour.TheVariants.{Black, White}
 use Rattle.game_store.specs.Tree.{Tree}
@@ -8,16 +8,18 @@ use Rattle.game_store.specs.Meaning.{AreIds, Extends}
 use Rattle.game_canon.specs.Players.{LosesGame}
 use Rattle.sum_outcome.specs.Sums.{sum_tree}
 use Rattle.sum_outcome.specs.Incentives.{AreIncentivesRight}
+use Rattle.sum_outcome.specs.Opposites.{IsZero}
 use Rattle.sum_outcome.specs.declared.key.Key.{Key}
 use Rattle.sum_outcome.specs.declared.incentives.MovePair.{MovePair}
 use Rattle.sum_outcome.specs.declared.memo.Memo.{Memo}
 
--- how many sums a search may remember, whether the player who is to move loses each of those that it does, and of
--- pairs of moves whether the incentive of the first is at least that of the second
+-- how many sums a search may remember, whether the player who is to move loses each of those that it does, of pairs
+-- of moves whether the incentive of the first is at least that of the second, and the id of 0
 pub record Remembered : Type 0 where
   pub entries : ℕ
   pub sums : List (Key × Bool)
   pub incentives : List (MovePair × Bool)
+  pub zero : Option ℕ
 
 -- the sum of a key's games and its number
 abbrev pub key_tree : List Tree → Key → Tree
@@ -38,6 +40,7 @@ AreAnswers Ts entries = (e : Key × Bool) → Contains entries e → IsAnswer Ts
 pub record Fits (Ts : List Tree) (search : Remembered) : Type 0 where
   pub sums : AreAnswers Ts search.sums
   pub incentives : AreIncentivesRight Ts search.incentives
+  pub zero : IsZero Ts search.zero
 
 -- a search remembers at most as much as it may
 pub record IsWithin (search : Remembered) : Type 0 where
@@ -49,7 +52,7 @@ abbrev pub FitsGrownStores : Type 0
 FitsGrownStores = (Ts Us : List Tree) (search : Remembered) → Extends Ts Us → Fits Ts search → Fits Us search
 
 abbrev pub remembered : Memo → Remembered
-remembered memo = record { entries = memo.sums.cap; sums = memo.sums.entries; incentives = memo.incentives.entries }
+remembered memo = record { entries = memo.sums.cap; sums = memo.sums.entries; incentives = memo.incentives.entries; zero = memo.zero }
 
 -- both memos have room for as much
 abbrev pub HasBounds : Memo → Type 0

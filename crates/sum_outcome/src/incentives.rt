@@ -17,10 +17,10 @@ use std::alloc::Global;
 /// Two moves: from a game to an option, and from another game to an option of that.
 #[derive(Clone, Copy, PartialEq, Eq, Hash)]
 pub(crate) struct MovePair {
-    game: GameId,
-    option: GameId,
-    other: GameId,
-    other_option: GameId,
+    pub(crate) game: GameId,
+    pub(crate) option: GameId,
+    pub(crate) other: GameId,
+    pub(crate) other_option: GameId,
 }
 
 /// For pairs of moves, whether the incentive of the first is at least that of the second.
@@ -44,7 +44,12 @@ fn remember_incentive(known: &mut Incentives, pair: MovePair, answer: bool)
 }
 
 /// Whether the incentive of the first of two moves is at least that of the second, unless memory is wanting.
-fn is_at_least(alloc: Global, store: &Store, known: &mut Incentives, pair: MovePair) -> Option<bool>
+pub(crate) fn is_at_least(
+    alloc: Global,
+    store: &Store,
+    known: &mut Incentives,
+    pair: MovePair,
+) -> Option<bool>
     requires ids { AreMoves store.now pair }
     requires right { AreIncentivesRight store.now known.old.entries }
     ensures answer { IfSome result (λ answer. IsTrue answer ↔ IsAtLeast store.now pair) }

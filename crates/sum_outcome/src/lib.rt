@@ -1,9 +1,9 @@
 //! Who loses a sum of games by moving first.
 #![tactic(auto)]
 
-ghost use Rattle.std.specs.Prelude.{◌≡◌, ◌<◌, ◌≤◌, ◌↔◌, List, [], length, IfOk, IsTrue};
+ghost use Rattle.std.specs.Prelude.{◌≡◌, ◌<◌, ◌≤◌, ◌↔◌, List, [], None, length, IfOk, IsTrue};
 ghost use Rattle.game_store.specs.Tree.{Tree};
-ghost use Rattle.game_store.specs.Meaning.{pick, AreIds};
+ghost use Rattle.game_store.specs.Meaning.{pick, AreIds, Extends};
 ghost use Rattle.game_canon.specs.Players.{LosesGame};
 ghost use Rattle.sum_outcome.specs.Sums.{sum_tree, IsBounded};
 ghost use Rattle.sum_outcome.specs.Memo.{Fits, IsWithin, FitsGrownStores};
@@ -11,11 +11,13 @@ ghost use Rattle.sum_outcome.specs.Memo.{Fits, IsWithin, FitsGrownStores};
 mod incentives;
 mod key;
 mod memo;
+mod opposites;
 mod outcome;
 #[cfg(test)]
 mod tests;
 
 use crate::memo::Memo;
+pub use crate::opposites::opposites_law;
 use crate::outcome::loses_sum;
 use dyadic_num::Dyadic;
 use game_store::{GameId, Store};
@@ -46,12 +48,24 @@ impl Search {
     pub fn new(alloc: Global, entries: usize) -> Result<Search, AllocError>
         requires some { 1 ≤ entries }
         requires most { entries ≤ 1000000 }
-        ensures empty { IfOk result (λ search. search ≡ record { entries = entries; sums = []; incentives = [] }) }
+        ensures empty { IfOk result (λ search. search ≡ record { entries = entries; sums = []; incentives = []; zero = None }) }
         ensures fits { IfOk result (λ search. (Ts : List Tree) → Fits Ts search) }
     {
         let most = NonZeroUsize::new(entries).unwrap_or(NonZeroUsize::MIN);
         let memo = Memo::new(alloc, most)?;
         Ok(Search { memo })
+    }
+
+    /// Takes note of 0 in a store, which it makes there if need be. From then on games that cancel are taken out of sums:
+    /// those whose ids are greater than that of 0, so this is best done before other forms are made.
+    pub fn note_zero(&mut self, store: &mut Store) -> Result<(), AllocError>
+        requires { Fits store.old self.old }
+        ensures kept { Extends store.old store.new }
+        ensures fits { Fits store.new self.new }
+        ensures entries { self.new.entries ≡ self.old.entries }
+    {
+        self.memo.zero = Some(store.number(Dyadic::whole(0))?);
+        Ok(())
     }
 
     /// Whether a player who is to move loses the sum of the listed games and the number: Black where it is at most 0,

@@ -1,6 +1,6 @@
 //! Sums that a search has decided.
 
-ghost use Rattle.std.specs.Prelude.{◌≡◌, ◌↔◌, List, [], IsTrue, IfOk, IfSome};
+ghost use Rattle.std.specs.Prelude.{◌≡◌, ◌↔◌, List, [], None, IsTrue, IfOk, IfSome};
 ghost use Rattle.std.specs.NonZero.{non_zero_usize_get};
 ghost use Rattle.game_store.specs.Tree.{Tree};
 ghost use Rattle.game_canon.specs.Players.{LosesGame};
@@ -8,6 +8,7 @@ ghost use Rattle.sum_outcome.specs.Memo.{key_tree, mover, remembered, AreSame, I
 
 use crate::incentives::Incentives;
 use crate::key::Key;
+use game_store::GameId;
 use lru::LruCache;
 use std::alloc::{AllocError, Global};
 use std::num::NonZeroUsize;
@@ -37,18 +38,21 @@ fn keep(sums: &mut Sums, key: Key, lost: bool)
 pub struct Memo {
     pub(crate) sums: Sums,
     pub(crate) incentives: Incentives,
+    /// The id of 0, which may stand for games that cancel.
+    pub(crate) zero: Option<GameId>,
     pub(crate) alloc: Global,
 }
 
 impl Memo {
     /// Nothing is remembered yet. The room for entries grows as they come.
     pub(crate) fn new(alloc: Global, entries: NonZeroUsize) -> Result<Memo, AllocError>
-        ensures empty { IfOk result (λ memo. remembered memo ≡ record { entries = non_zero_usize_get entries; sums = []; incentives = [] }) }
+        ensures empty { IfOk result (λ memo. remembered memo ≡ record { entries = non_zero_usize_get entries; sums = []; incentives = []; zero = None }) }
         ensures room { IfOk result (λ memo. memo.incentives.cap ≡ memo.sums.cap) }
     {
         Ok(Memo {
             sums: LruCache::sparse(alloc, entries)?,
             incentives: LruCache::sparse(alloc, entries)?,
+            zero: None,
             alloc,
         })
     }

@@ -4,32 +4,58 @@ use Rattle.sum_outcome.specs.Sums.{sum_tree}
 use Rattle.sum_outcome.specs.Incentives.{IsSettled}
 use Rattle.sum_outcome.proofs.Domination.{OptionIsSettled, options_settled, repeated_settled, all_fail}
 use Rattle.sum_outcome.proofs.MemoLaws.{from_key, to_key, stays_on, incentives_changed}
+use Rattle.sum_outcome.proofs.OppositeLaws.{falls_without, ids_without, bounded_without, restored_both, answer_without}
 use Rattle.sum_outcome.proofs.Lists.{put_back, falls_put, ids_put, loses_all, wins_one, bounded_put, wins_by_option}
 use Rattle.sum_outcome.proofs.outcome.+search.Goals as goal
 
-pub loses_sum-returns-in-Some-clause-answer : goal.loses_sum-returns-in-Some-clause-answer
-loses_sum-returns-in-Some-clause-answer t c = c.loses_at.ensures (sum_tree c.args.store.now c.args.sum.now c.args.number) c.in-Some.ensures
+pub loses_sum-returns-in-Some-sign_by_stops-clause-answer : goal.loses_sum-returns-in-Some-sign_by_stops-clause-answer
+loses_sum-returns-in-Some-sign_by_stops-clause-answer t c = c.loses_at.ensures (sum_tree c.args.store.now c.args.sum.now c.args.number) c.in-Some-sign_by_stops.ensures
 
 pub loses_sum-returns-in-Some-recall-clause-answer : goal.loses_sum-returns-in-Some-recall-clause-answer
 loses_sum-returns-in-Some-recall-clause-answer t c =
-    from_key c.args.store.now c.args.sum.now c.args.number c.args.side c.in-Some-key_of.key c.in-Some-recall.lost (c.in-Some-key_of.ensures {u = tt}) (c.in-Some-recall.ensures.answer c.args.store.now c.requires.right)
+    from_key c.args.store.now c.args.sum.now c.args.number c.args.side c.in-Some-key_of.key c.in-Some-recall.lost (c.in-Some-key_of.ensures {u = tt}) (c.in-Some-recall.ensures.answer c.args.store.now c.find_opposites.ensures.right.right)
 
 pub loses_sum-returns-in-Some-recall-clause-right : goal.loses_sum-returns-in-Some-recall-clause-right
-loses_sum-returns-in-Some-recall-clause-right t c = c.recall.ensures.right c.args.store.now c.requires.right
+loses_sum-returns-in-Some-recall-clause-right t c =
+    let found = c.find_opposites.ensures.right in stays_on c.args.store.now c.args.memo.now c.find_opposites.new.memo c.recall.new.self found (c.recall.ensures.right c.args.store.now found.right)
 
 pub loses_sum-loses_by_moves-lost-requires : goal.loses_sum-loses_by_moves-lost-requires
 loses_sum-loses_by_moves-lost-requires t c = (
   omega (arith, c.decreases),
-  (c.requires.ids, (c.requires.bounds, (c.in_default.ensures, (c.recall.ensures.right c.args.store.now c.requires.right).right))),
+  (c.requires.ids, (c.requires.bounds, (c.in_default-sign_by_stops.ensures, (c.recall.ensures.right c.args.store.now c.find_opposites.ensures.right.right).right))),
 )
 
 pub loses_sum-returns-clause-right : goal.loses_sum-returns-clause-right
 loses_sum-returns-clause-right t c =
     let Ts = c.args.store.now in
+    let found = c.find_opposites.ensures.right in
     let a = c.loses_by_moves-lost.ensures in
     stays_on Ts c.args.memo.now c.loses_by_moves-lost.new.memo c.remember.new.self
-    (stays_on Ts c.args.memo.now c.recall.new.self c.loses_by_moves-lost.new.memo (c.recall.ensures.right Ts c.requires.right) a.right)
+    (stays_on Ts c.args.memo.now c.recall.new.self c.loses_by_moves-lost.new.memo
+    (stays_on Ts c.args.memo.now c.find_opposites.new.memo c.recall.new.self found (c.recall.ensures.right Ts found.right)) a.right)
     (c.remember.ensures Ts (to_key Ts c.args.sum.now c.args.number c.args.side c.in-Some-key_of.key c.loses_by_moves-lost.result (c.in-Some-key_of.ensures {u = tt}) a.answer) a.right.right)
+
+pub loses_without-loses_sum-lost-requires : goal.loses_without-loses_sum-lost-requires
+loses_without-loses_sum-lost-requires t c =
+    let Ts = c.args.store.now in
+    let ids = c.args.sum.now in
+    let o = c.args.opposites in (
+      omega (arith, falls_without Ts ids o.zero o.first o.second c.requires.zero c.requires.opposite, c.decreases),
+      (
+        ids_without Ts ids o.zero o.first o.second c.requires.zero c.requires.opposite c.requires.ids,
+        (bounded_without Ts ids o.zero o.first o.second c.requires.zero c.requires.opposite c.args.number c.requires.bounds, c.requires.right),
+      ),
+    )
+
+pub loses_without-returns-clause-same : goal.loses_without-returns-clause-same
+loses_without-returns-clause-same t c =
+    let o = c.args.opposites in
+    restored_both c.args.store.now c.args.sum.now o.zero o.first o.second c.requires.zero c.requires.opposite c.loses_sum-lost.new.sum c.loses_sum-lost.ensures.same
+
+pub loses_without-returns-clause-answer : goal.loses_without-returns-clause-answer
+loses_without-returns-clause-answer t c =
+    let o = c.args.opposites in
+    answer_without c.args.store.now c.args.sum.now o.zero o.first o.second c.requires.zero c.requires.opposite c.args.number c.args.side c.loses_sum-lost.result c.loses_sum-lost.ensures.answer
 
 pub loses_by_moves-returns-then-wins_at-clause-answer : goal.loses_by_moves-returns-then-wins_at-clause-answer
 loses_by_moves-returns-then-wins_at-clause-answer t c =

@@ -7,6 +7,9 @@ use Rattle.sum_outcome.proofs.outcome.+search.Given as goal
 abbrev pub decreases-loses_sum : goal.decreases-loses_sum
 decreases-loses_sum l = 3 * sum l.sum.now + 2
 
+abbrev pub decreases-loses_without : goal.decreases-loses_without
+decreases-loses_without l = 3 * sum l.sum.now + 1
+
 abbrev pub decreases-loses_by_moves : goal.decreases-loses_by_moves
 decreases-loses_by_moves l = 3 * sum l.sum.now + 1
 
