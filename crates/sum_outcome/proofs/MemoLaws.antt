@@ -1,6 +1,6 @@
 -- What a search remembers stays right.
-use Rattle.std.proofs.Common.{ℕ, ℤ, ◌≡◌, ◌↔◌, ◌<◌, arith, inl, inr, refl, sym, ap, subst, ◌∙◌, List, [], ◌∷◌, ◌++◌, suc, length, get_or, cond, Bool, true, false, ◌&&◌, IsTrue, Option, Some, None, Result, Ok, Err, OnOk, OnErr, IfSome, nat_eq}
-use Rattle.std.specs.List.{Contains, All}
+use Rattle.std.proofs.Common.{ℕ, ℤ, ◌≡◌, ◌↔◌, ◌<◌, arith, inl, inr, refl, sym, ap, subst, ◌∙◌, List, [], ◌∷◌, ◌++◌, suc, length, cond, Bool, true, false, ◌&&◌, IsTrue, Option, Some, None, Result, Ok, Err, OnOk, OnErr, IfSome, nat_eq}
+use Rattle.std.specs.List.{Contains}
 use Rattle.std.specs.List.Sorted.{IsPermutation}
 use Rattle.std.proofs.lemmas.List.Elements.{All-get_or, All-from_get_or, All-push}
 use Rattle.std.proofs.lemmas.List.Sorted.{All-permutation}
@@ -16,17 +16,17 @@ use Rattle.lru.specs.LruCache.{LruCache, lru_cache, put_entries, promoted}
 use Rattle.lru.proofs.CallerLemmas.{Contains-lookup, Contains-put_entries, Contains-promoted}
 use Rattle.go_grid.specs.declared.grid.Colour.{Colour}
 use Rattle.go_grid.specs.declared.grid.Colour.TheVariants.{Black, White}
-use Rattle.game_store.specs.Tree.{Tree, Trees, more}
+use Rattle.game_store.specs.Tree.{Tree, more}
 use Rattle.game_store.specs.Order.{◌≤ᵍ◌}
 use Rattle.game_store.specs.Sum.{◌+ᵍ◌, total}
 use Rattle.game_canon.specs.Laws.{incentive}
-use Rattle.game_store.specs.Meaning.{tree_at, pick, number_tree, AreIds, Extends}
+use Rattle.game_store.specs.Meaning.{pick, number_tree, AreIds, Extends}
 use Rattle.game_canon.specs.Players.{LosesGame}
 use Rattle.game_canon.proofs.PlayerLaws.{loses-same, same-sym}
 use Rattle.sum_outcome.specs.Sums.{sum_tree}
 use Rattle.sum_outcome.specs.Incentives as pairs
 use Rattle.sum_outcome.specs.Opposites.{IsZero}
-use Rattle.sum_outcome.specs.Memo.{NoneIsNew, IsRight, StaysRight, remembered, key_tree, mover, IsAnswer, AreAnswers, IsKeyOf, AreSame, IsAmong, AreKept, Fits, Remembered, FitsGrownStores}
+use Rattle.sum_outcome.specs.Memo.{NoneIsNew, IsRight, StaysRight, key_tree, mover, IsAnswer, AreAnswers, IsKeyOf, AreSame, IsAmong, AreKept, FitsGrownStores}
 use Rattle.sum_outcome.specs.declared.key.Key.{Key}
 use Rattle.sum_outcome.specs.declared.memo.Memo.{Memo}
 use Rattle.sum_outcome.specs.declared.incentives.MovePair.{MovePair}

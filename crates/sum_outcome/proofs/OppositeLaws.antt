@@ -1,6 +1,5 @@
 -- Games that cancel may be taken out of a sum.
-use Rattle.std.proofs.Common.{ℕ, zero, suc, ◌≡◌, ◌≢◌, ◌↔◌, ◌<◌, ◌+◌, ◌*◌, ◌∙◌, arith, refl, sym, ap, subst, List, [], ◌∷◌, length, get_or, set, sum, ℤ, pos, IsTrue, Bool, Some}
-use Rattle.std.specs.Prelude.{unsigned_abs}
+use Rattle.std.proofs.Common.{ℕ, zero, suc, ◌≡◌, ◌≢◌, ◌↔◌, ◌<◌, ◌∙◌, arith, sym, ap, subst, List, [], ◌∷◌, length, get_or, set, sum, ℤ, pos, IsTrue, Bool, Some}
 use Rattle.std.proofs.lemmas.Int.{ints}
 use Rattle.std.proofs.lemmas.List.{get_or-set_other, length-set}
 use Rattle.go_grid.specs.declared.grid.Colour.{Colour}
@@ -14,9 +13,9 @@ use Rattle.game_store.proofs.NumberLaws.{num-zero}
 use Rattle.game_canon.specs.Laws.{incentive}
 use Rattle.game_canon.specs.Players.{LosesGame}
 use Rattle.game_canon.proofs.IncentiveLaws.{incentive-dominates}
-use Rattle.game_canon.proofs.PlayerLaws.{same-refl, same-path, same-sym, same-trans, same-plus, same-comm, same-swap, loses-same}
+use Rattle.game_canon.proofs.PlayerLaws.{same-refl, same-path, same-sym, same-trans, same-plus, same-comm, loses-same}
 use Rattle.game_canon.proofs.Sizes.{own-number}
-use Rattle.sum_outcome.specs.Sums.{sum_tree, IsBound, AreBounds, IsBounded}
+use Rattle.sum_outcome.specs.Sums.{sum_tree, AreBounds, IsBounded}
 use Rattle.sum_outcome.specs.Search.{put}
 use Rattle.sum_outcome.specs.Opposites.{Cancel, MayBeTakenOut, IsZero, AreOpposite}
 use Rattle.sum_outcome.proofs.CheapMoves.{put-total}

@@ -1,5 +1,5 @@
 -- Which moves are as good as others.
-use Rattle.std.specs.Prelude.{ℕ, ◌≡◌, ◌<◌, List, length, Contains, Bool, IsTrue, ◌↔◌, ◌⊎◌, ℤ}
+use Rattle.std.specs.Prelude.{ℕ, ◌<◌, List, length, Contains, Bool, IsTrue, ◌↔◌, ◌⊎◌, ℤ}
 use Rattle.std.specs.List.{slice_index_or}
 use Rattle.go_grid.specs.declared.grid.Colour.{Colour}
 use Rattle.go_grid.specs.declared.grid.Colour.TheVariants.{Black, White}

@@ -14,6 +14,8 @@ mod memo;
 mod opposites;
 mod outcome;
 #[cfg(test)]
+mod plain_tests;
+#[cfg(test)]
 mod tests;
 
 use crate::memo::Memo;

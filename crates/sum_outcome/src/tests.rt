@@ -35,7 +35,7 @@ fn one_or_star(store: &mut Store, star: GameId) -> Result<GameId, AllocError>
 }
 
 /// Whether a player loses the sum of the games and so many halves.
-fn loses(
+pub(crate) fn loses(
     search: &mut Search,
     store: &Store,
     sum: &mut [GameId],

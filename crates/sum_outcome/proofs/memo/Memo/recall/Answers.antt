@@ -1,4 +1,4 @@
-use Rattle.std.proofs.Common.{◌↔◌, ◌≡◌, List, Bool, Option, Some, None, IsTrue, IfSome, refl}
+use Rattle.std.proofs.Common.{◌↔◌, List, Bool, Option, Some, None, IsTrue, IfSome, refl}
 use Rattle.game_store.specs.Tree.{Tree}
 use Rattle.game_canon.specs.Players.{LosesGame}
 use Rattle.sum_outcome.specs.Memo.{IsAmong, AreSame, IsRight, mover, key_tree}
