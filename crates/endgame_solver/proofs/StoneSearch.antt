@@ -54,11 +54,3 @@ first_half s none not w = (w, λ m x. least m x)
     least (Stone q) x = absurd (none q x)
     least Spend x = absurd (not x)
     least Half x = omega arith
-
-pub none_wins : (s : State) → IsFirstStone s None → ¬ IsWinning s Spend → ¬ IsWinning s Half → IsFirstWinning s None
-none_wins s none not not' m w = lost m w
-  where
-    lost : (m : Move) → IsWinning s m → ⊥
-    lost (Stone q) x = none q x
-    lost Spend x = not x
-    lost Half x = not' x

@@ -6,6 +6,7 @@ use Rattle.go_grid.specs.Grid.{other}
 use Rattle.go_grid.specs.Region.{Shape}
 use Rattle.whole_rules.specs.declared.money.Purses.{Purses}
 use Rattle.whole_rules.specs.declared.states.Move.{Move}
+use Rattle.whole_rules.specs.declared.states.Move.TheVariants.{Stone, Spend, Half}
 use Rattle.whole_rules.specs.PlainRecursion.{WinsWithin, MoverLoses}
 use Rattle.whole_rules.specs.FirstWinningMove.{IsWinner, IsWinning, IsFirstWinning}
 use Rattle.whole_rules.specs.WholeGame.{State, Leads}
@@ -15,9 +16,17 @@ use Rattle.game_store.specs.Tree.{Tree}
 use Rattle.game_canon.specs.Players.{LosesGame}
 use Rattle.sum_outcome.specs.Sums.{sum_tree}
 use Rattle.endgame_solver.specs.SumGame.{balance}
-use Rattle.endgame_solver.specs.Held.{IsKept}
+use Rattle.endgame_solver.specs.Held.{IsKept, IsFirstStone}
 use Rattle.endgame_solver.specs.Solved.{ArePresent, balance_units}
 use Rattle.endgame_solver.proofs.HeldLaws.{decided_now, decided_present}
+
+-- where the player to move loses no move wins
+pub loses_none : (s : State) → MoverLoses State Leads s → IsFirstWinning s None
+loses_none s loses m w = wins-not_loses State Leads (suc w.2.0) loses.0 s (w.0, (m, w.1), w.2.1) loses.1
+
+wins_none : (s : State) (n : ℕ) → WinsWithin State Leads n s → ((m : Move) → ¬ IsWinning s m) → ⊥
+wins_none s zero w none = w
+wins_none s (suc n) (t, (m, move), loses) none = none m (t, move, (n, loses))
 
 pub not_other : (c : Colour) → c ≡ other c → ⊥
 not_other Black e = cc
@@ -73,16 +82,25 @@ module _ (regions : List Shape) (graphs : List Nodes) (values : List (List ℕ))
   pub none_loses : (m : Option Move) → IsFirstWinning s m → (m ≡ None) ↔ MoverLoses State Leads s
   none_loses None first = (
     λ _. elim (decided_now kept.board regions graphs values Ts kept.solved s places ids kept.at kept.summed).0 [
-      | inl wins ↦ absurd (wins_none wins.0 wins.1 first)
+      | inl wins ↦ absurd (wins_none s wins.0 wins.1 first)
       | inr loses ↦ loses
     ],
     λ _. refl,
   )
+  none_loses (Some m) first = (λ e. absurd (cc), λ loses. absurd (loses_none s loses m first.0))
+
+  -- where the player to move wins by no other move, the half wins: it may be moved exactly where there is a token
+  pub last_wins : ¬ MoverLoses State Leads s → IsFirstStone s None → ¬ IsWinning s Spend → IsWinning s Half
+  last_wins not none spend = elim (decided_now kept.board regions graphs values Ts kept.solved s places ids kept.at kept.summed).0 [
+    | inl wins ↦ by wins.0 wins.1
+    | inr loses ↦ absurd (not loses)
+  ]
     where
-      wins_none : (n : ℕ) → WinsWithin State Leads n s → ((m : Move) → ¬ IsWinning s m) → ⊥
-      wins_none zero w none = w
-      wins_none (suc n) (t, (m, move), loses) none = none m (t, move, (n, loses))
-  none_loses (Some m) first = (
-    λ e. absurd (cc),
-    λ loses. absurd (wins-not_loses State Leads (suc first.0.2.0) loses.0 s (first.0.0, (m, first.0.1), first.0.2.1) loses.1),
-  )
+      half : (m : Move) → IsWinning s m → IsWinning s Half
+      half (Stone q) w = absurd (none q w)
+      half Spend w = absurd (spend w)
+      half Half w = w
+
+      by : (n : ℕ) → WinsWithin State Leads n s → IsWinning s Half
+      by zero w = absurd w
+      by (suc n) (t, (m, move), loses) = half m (t, move, (n, loses))

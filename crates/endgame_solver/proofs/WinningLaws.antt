@@ -78,17 +78,6 @@ pub modest_spent : (graphs : List Nodes) (places : List ℕ) (s : State) (c : Co
 modest_spent graphs places s Black room = record { black = omega (arith, room.room Black); white = omega (arith, room.room White) }
 modest_spent graphs places s White room = record { black = omega (arith, room.room Black); white = omega (arith, room.room White) }
 
-pub modest_halved : (graphs : List Nodes) (places : List ℕ) (s : State) (c : Colour) → HasRoom graphs places s → AreModest (halved c s.purses)
-modest_halved graphs places s c room = few c s.purses.token s.purses.black s.purses.white (omega (arith, room.room Black)) (omega (arith, room.room White))
-  where
-    few : (c : Colour) (x : Token) (b w : ℕ) → b ≤ 2 ^ 41 → w ≤ 2 ^ 41 → AreModest (halved c (record { black = b; white = w; token = x }))
-    few Black token.Nobody b w hb hw = record { black = omega (arith, hb); white = omega (arith, hw) }
-    few Black token.Black b w hb hw = record { black = omega (arith, hb); white = omega (arith, hw) }
-    few Black token.White b w hb hw = record { black = omega (arith, hb); white = omega (arith, hw) }
-    few White token.Nobody b w hb hw = record { black = omega (arith, hb); white = omega (arith, hw) }
-    few White token.Black b w hb hw = record { black = omega (arith, hb); white = omega (arith, hw) }
-    few White token.White b w hb hw = record { black = omega (arith, hb); white = omega (arith, hw) }
-
 module _ (regions : List Shape) (graphs : List Nodes) (values : List (List ℕ)) (places ids : List ℕ) (Ts : List Tree) (s : State)
     (kept : IsKept regions graphs values places ids Ts s) where
   pub are_places : ArePlaces regions graphs places
@@ -147,13 +136,4 @@ module _ (regions : List Shape) (graphs : List Nodes) (values : List (List ℕ))
       let lost : (u : State) → IsMove s Spend u → MoverLoses State Leads u ↔ LosesGame (other s.side) (sum_tree Ts ids (balance (paid_out s.side s.purses) *ℤ pos (2 ^ 59))) =
       λ u m. loses_after u places ids (paid_out s.side s.purses)
       (spend_leads kept.board regions graphs values Ts kept.solved s places kept.at u m) kept.summed (ap (λ z. z.purses) m.1) (ap (λ z. z.side) m.1) in
-      (λ h. (t, (some, refl), (lost t (some, refl)).1 (w.0 h)), λ h. w.1 ((lost h.0 h.1).0 h.2))
-
-  pub half_wins : (b : Bool) → s.purses.token ≢ token.Nobody → IsTrue b ↔ LosesGame (other s.side) (sum_tree Ts ids (balance (halved s.side s.purses) *ℤ pos (2 ^ 59)))
-      → IsTrue b ↔ IsWinning s Half
-  half_wins b some w =
-      let t = after s.board (halved s.side s.purses) s in
-      let lost : (u : State) → IsMove s Half u → MoverLoses State Leads u ↔ LosesGame (other s.side) (sum_tree Ts ids (balance (halved s.side s.purses) *ℤ pos (2 ^ 59))) =
-      λ u m. loses_after u places ids (halved s.side s.purses)
-      (half_leads kept.board regions graphs values Ts kept.solved s places kept.at u m) kept.summed (ap (λ z. z.purses) m.1) (ap (λ z. z.side) m.1) in
       (λ h. (t, (some, refl), (lost t (some, refl)).1 (w.0 h)), λ h. w.1 ((lost h.0 h.1).0 h.2))

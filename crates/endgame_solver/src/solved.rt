@@ -33,7 +33,7 @@ use sum_outcome::Search;
 use whole_rules::{Move, MoveError, Whole};
 
 /// How many sums a search may remember.
-const SEARCH_ENTRIES: usize = 100_000;
+const SEARCH_ENTRIES: usize = 1_000_000;
 
 /// What is known of a region at the opening: its lowest point, how many points it has, how many positions are reachable,
 /// and the value of the opening.
@@ -59,12 +59,14 @@ pub struct Solved {
     places: Vec<usize>,
     /// The values of the present positions.
     sum: Vec<GameId>,
+    /// It fits the store, so what it remembers serves all questions.
     search: Search,
 }
 
 impl Model for Solved {
     ghost use Rattle.endgame_solver.specs.Solved.{SolvedGame};
     ghost use Rattle.endgame_solver.specs.Held.{IsKept};
+    ghost use Rattle.sum_outcome.specs.Memo.{Fits};
     ghost use Rattle.endgame_solver.specs.Code.{solved_code};
 
     ghost Value = { SolvedGame };
@@ -73,7 +75,7 @@ impl Model for Solved {
 
     ghost view = { λ s. record { regions = s.regions.items; trees = s.store; state = s.whole } };
 
-    ghost invariant = { λ s. IsKept s.regions.items s.graphs.items s.values.items s.places.items s.sum.items s.store s.whole };
+    ghost invariant = { λ s. IsKept s.regions.items s.graphs.items s.values.items s.places.items s.sum.items s.store s.whole × Fits s.store s.search };
 }
 
 impl Solved {
@@ -109,10 +111,11 @@ impl Solved {
             return Err(SolveError::Points(lowest, points));
         }
         let mut store = Store::new(alloc);
+        let mut search = Search::new(alloc, SEARCH_ENTRIES)?;
+        search.note_zero(&mut store)?;
         let (graphs, values) = solve_regions(alloc, &regions, limits, &mut store, steps)?;
         let places = opening_places(alloc, regions.len())?;
         let sum = opening_values(alloc, &values)?;
-        let search = Search::new(alloc, SEARCH_ENTRIES)?;
         Ok(Solved {
             whole,
             store,

@@ -115,6 +115,7 @@ pub(crate) fn solve_regions<L: Ledger>(
     requires limit { limits.now.positions ≤ 1000000 }
     ensures solved { IfOk result (λ x. AreSolvedBelow limits.now regions.now x.0.items x.1.items store.new (length regions.now)) }
     ensures refusal { IfErr result (λ e. AreRefused limits.now regions.now e) }
+    ensures kept { IfOk result (λ x. Extends store.old store.new) }
     ensures steps { steps.new ≤ steps.old + most_steps limits.now regions.now }
 {
     let mut graphs = Vec::new(alloc);

@@ -3,8 +3,11 @@
 ghost use Rattle.std.specs.Prelude.{◌≡◌, ℕ, ◌<◌, ◌≤◌, ◌^◌, ◌+ℤ◌, ◌*ℤ◌, neg_ℤ, pos, unsigned_abs, ◌↔◌, IsTrue, MatchOption, length, slice_index};
 ghost use Rattle.go_grid.specs.declared.grid.Colour.{Colour};
 ghost use Rattle.local_graph.specs.declared.graph.Edge.{Edge};
-ghost use Rattle.whole_rules.specs.declared.states.Move.TheVariants.{Stone, Spend, Half};
+ghost use Rattle.whole_rules.specs.declared.states.Move.TheVariants.{Stone, Spend};
 ghost use Rattle.whole_rules.specs.FirstWinningMove.{IsFirstWinning, IsWinning};
+ghost use Rattle.whole_rules.specs.PlainRecursion.{MoverLoses};
+ghost use Rattle.whole_rules.specs.WholeGame.{State, Leads};
+ghost use Rattle.sum_outcome.specs.Memo.{Fits};
 ghost use Rattle.endgame_solver.specs.SumGame.{balance, halves};
 ghost use Rattle.endgame_solver.specs.Held.{IsSeen, IsEdgeTo, IsStoneAt, IsStoneEdge, IsFirstStone, AreModest, ArePlaces};
 
@@ -149,10 +152,11 @@ pub(crate) fn stone_wins(
     sum: &mut [GameId],
     point: Point,
 ) -> bool
-    requires { IsSeen present.now sum.old }
+    requires seen { IsSeen present.now sum.old }
+    requires fits { Fits present.now.store.now search.old }
     ensures wins { IsTrue result ↔ IsWinning present.now.whole.now (Stone point) }
     ensures same { sum.new ≡ sum.old }
-    ensures kept { search.new ≡ search.old }
+    ensures fits { Fits present.now.store.now search.new }
 {
     let side = present.whole.side();
     let Some((k, edge)) = stone_edge(present.regions, present.graphs, present.places, point, side)
@@ -169,10 +173,11 @@ pub(crate) fn stone_wins(
 
 /// Whether it wins to give back a point.
 pub(crate) fn spend_wins(present: &Present<'_>, search: &mut Search, sum: &mut [GameId]) -> bool
-    requires { IsSeen present.now sum.old }
+    requires seen { IsSeen present.now sum.old }
+    requires fits { Fits present.now.store.now search.old }
     ensures wins { IsTrue result ↔ IsWinning present.now.whole.now Spend }
     ensures same { sum.new ≡ sum.old }
-    ensures kept { search.new ≡ search.old }
+    ensures fits { Fits present.now.store.now search.new }
 {
     let side = present.whole.side();
     if present.whole.purse(side) == 0 {
@@ -182,19 +187,17 @@ pub(crate) fn spend_wins(present: &Present<'_>, search: &mut Search, sum: &mut [
     search.loses(present.store, sum, balance_of(purses), side.other())
 }
 
-/// Whether a move on the token wins.
-pub(crate) fn half_wins(present: &Present<'_>, search: &mut Search, sum: &mut [GameId]) -> bool
-    requires { IsSeen present.now sum.old }
-    ensures wins { IsTrue result ↔ IsWinning present.now.whole.now Half }
+/// Whether the side to move loses.
+pub(crate) fn mover_loses(present: &Present<'_>, search: &mut Search, sum: &mut [GameId]) -> bool
+    requires seen { IsSeen present.now sum.old }
+    requires fits { Fits present.now.store.now search.old }
+    ensures loses { IsTrue result ↔ MoverLoses State Leads present.now.whole.now }
     ensures same { sum.new ≡ sum.old }
-    ensures kept { search.new ≡ search.old }
+    ensures fits { Fits present.now.store.now search.new }
 {
     let side = present.whole.side();
-    if present.whole.token().is_nobody() {
-        return false;
-    }
-    let purses = present.whole.purses().halved(side);
-    search.loses(present.store, sum, balance_of(purses), side.other())
+    let balance = balance_of(present.whole.purses());
+    search.loses(present.store, sum, balance, side)
 }
 
 /// The lowest point at which a stone wins.
@@ -203,10 +206,11 @@ pub(crate) fn winning_stone(
     search: &mut Search,
     sum: &mut [GameId],
 ) -> Option<Point>
-    requires { IsSeen present.now sum.old }
+    requires seen { IsSeen present.now sum.old }
+    requires fits { Fits present.now.store.now search.old }
     ensures first { IsFirstStone present.now.whole.now result }
     ensures same { sum.new ≡ sum.old }
-    ensures kept { search.new ≡ search.old }
+    ensures fits { Fits present.now.store.now search.new }
 {
     'points: for number in 0..present.whole.board().size().area() {
         if stone_wins(present, search, sum, Point(number)) {
@@ -216,25 +220,27 @@ pub(crate) fn winning_stone(
     None
 }
 
-/// The first move that wins: a stone, else a point given back, else the half.
+/// The first move that wins: a stone, else a point given back, else the half, which needs no question where the side to
+/// move wins by no other move.
 pub(crate) fn first_winning_move(
     present: &Present<'_>,
     search: &mut Search,
     sum: &mut [GameId],
 ) -> Option<Move>
-    requires { IsSeen present.now sum.old }
+    requires seen { IsSeen present.now sum.old }
+    requires fits { Fits present.now.store.now search.old }
     ensures first { IsFirstWinning present.now.whole.now result }
     ensures same { sum.new ≡ sum.old }
-    ensures kept { search.new ≡ search.old }
+    ensures fits { Fits present.now.store.now search.new }
 {
+    if mover_loses(present, search, sum) {
+        return None;
+    }
     if let Some(point) = winning_stone(present, search, sum) {
         return Some(Move::Stone(point));
     }
     if spend_wins(present, search, sum) {
         return Some(Move::Spend);
     }
-    if half_wins(present, search, sum) {
-        return Some(Move::Half);
-    }
-    None
+    Some(Move::Half)
 }

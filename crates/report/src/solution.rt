@@ -1,6 +1,7 @@
 //! The text of `solve`.
 
-ghost use Rattle.std.specs.Prelude.{◌≡◌, ◌<◌, ◌*◌, ◌++◌, OnOk, IfOk, IfSome, string_bytes, Some};
+ghost use Rattle.std.specs.Prelude.{◌≡◌, ◌<◌, ◌*◌, ◌++◌, OnOk, IfOk, IfSome, MatchOption, string_bytes, Some};
+ghost use Rattle.go_grid.specs.Grid.{other};
 ghost use Rattle.report.specs.Solution.{HasLines, HasOutcome, HasRegions, IsMoveOnBoard, IsSolveText, count_line, move_line, purse_line, solved_line, state_lines, token_word, winner_line};
 
 use crate::lines::{colour_word, write_name, write_point, write_words};
@@ -71,14 +72,25 @@ fn write_outcome(
     }
 }
 
+/// Who wins where the first winning move of the side to move is this, or where it has none.
+fn winner_with(side: Colour, chosen: &Option<Move>) -> Colour
+    ensures { MatchOption chosen.now (result ≡ other side) (λ m. result ≡ side) }
+{
+    match chosen {
+        Some(_chosen) => side,
+        None => side.other(),
+    }
+}
+
 /// Appends the lines on the winner and the first winning move of the present state.
 fn write_solution(text: &mut String, solved: &mut Solved) -> Result<(), AllocError>
     ensures outcome { OnOk result (HasOutcome solved.old.state (string_bytes text.old) (string_bytes text.new)) }
     ensures same { solved.new ≡ solved.old }
 {
     let size = solved.whole().board().size();
-    let winner = solved.winner();
+    let side = solved.whole().side();
     let chosen = solved.winning_move();
+    let winner = winner_with(side, &chosen);
     write_outcome(text, size, winner, chosen)?;
     Ok(())
 }

@@ -9,7 +9,7 @@ use Rattle.game_store.specs.Tree.{Tree, node, none}
 use Rattle.game_store.specs.Order.{◌≤ᵍ◌}
 use Rattle.game_store.specs.Number.{num, IsNumberTree}
 use Rattle.game_store.specs.Parts.{IsOption, IsNumberOf}
-use Rattle.game_store.specs.Meaning.{tree_at, form, pick, number_tree, AreIds, Extends, IsIdOf}
+use Rattle.game_store.specs.Meaning.{listed, tree_at, form, pick, number_tree, AreIds, Extends, IsIdOf}
 use Rattle.game_store.proofs.OrderLaws.{le-refl}
 use Rattle.game_store.proofs.NumberLaws.{num-lt, num-zero}
 use Rattle.game_store.proofs.StopLaws.{num-scaled}
@@ -17,7 +17,8 @@ use Rattle.game_store.proofs.PartLaws.{follower-of, number-follower}
 use Rattle.game_canon.specs.Examples.{choice, star}
 use Rattle.game_canon.proofs.Examples.{form-choice, star-no_number, one_or_star-no_number}
 use Rattle.sum_outcome.specs.Sums.{IsBound, AreBounds, IsBounded}
-use Rattle.sum_outcome.specs.Examples.{IsSmall, AreSmall}
+use Rattle.game_canon.specs.Outcomes.{AreOptionsWithin}
+use Rattle.sum_outcome.specs.Examples.{IsSmall, AreSmall, IsSmallId}
 
 num-one : (e : ℕ) (m n : ℤ) → num e m ≡ num e n → m ≡ n
 num-one e m n p = by_lt_z m n (λ l. absurd (num-lt e m n l (subst (λ t. t ≤ᵍ num e m) p (le-refl (num e m)))))
@@ -115,3 +116,15 @@ shifted_step Ts Us game i is n x w l e k lt f = record {
   count = omega (arith, ints, w.count, length_push is i);
   few = omega (arith, ints, w.count, l, length_push is i);
 }
+
+pub small-number : (Ts : List Tree) (i : ℕ) (x n : ℤ) → IsIdOf Ts (number_tree x) i → unsigned_abs n ≤ 4 → x ≡ n *ℤ pos (2 ^ 60) → IsSmallId Ts (2 ^ 62) i
+small-number Ts i x n is few e = (is.0, subst (λ t. IsBound t (2 ^ 62)) (sym is.1) (bound-number x (2 ^ 62) (omega (arith, few, ap unsigned_abs e ∙ unsigned_abs-mul n (pos (2 ^ 60))))))
+
+pub options-small : (Ts : List Tree) (i j b : ℕ) → IsBound (tree_at Ts i) b → IsBound (tree_at Ts j) b → AreOptionsWithin b (listed Ts (i ∷ []) (j ∷ []))
+options-small Ts i j b l r X (inl (inl e)) = subst (λ t. IsBound t b) (sym e) l
+options-small Ts i j b l r X (inl (inr h)) = absurd h
+options-small Ts i j b l r X (inr (inl e)) = subst (λ t. IsBound t b) (sym e) r
+options-small Ts i j b l r X (inr (inr h)) = absurd h
+
+pub small-id_kept : (Ts Us : List Tree) (i b : ℕ) → Extends Ts Us → IsSmallId Ts b i → IsSmallId Us b i
+small-id_kept Ts Us i b k s = (omega (arith, k.longer, s.0), subst (λ t. IsBound t b) (sym (k.same i s.0)) s.1)

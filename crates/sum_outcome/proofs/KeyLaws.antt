@@ -12,10 +12,14 @@ use mir.Syntax.{w128}
 use Rattle.game_store.specs.Tree.{Tree, Trees, more}
 use Rattle.game_store.specs.Order.{◌≡ᵍ◌}
 use Rattle.game_store.specs.Sum.{◌+ᵍ◌, total}
-use Rattle.game_store.specs.Meaning.{tree_at, pick, number_tree}
+use Rattle.game_store.specs.Meaning.{tree_at, pick, number_tree, AreIds}
 use Rattle.game_store.proofs.SumLaws.{plus-assoc, plus-cancel, nought-plus, plus-nought}
 use Rattle.game_canon.proofs.PlayerLaws.{same-refl, same-path, same-trans, same-plus}
+use Rattle.go_grid.specs.declared.grid.Colour.{Colour}
 use Rattle.sum_outcome.specs.Sums.{sum_tree, IsBounded}
+use Rattle.sum_outcome.specs.Memo.{mover, IsKeyOf}
+use Rattle.sum_outcome.specs.declared.key.Key.{Key}
+use Rattle.sum_outcome.proofs.MemoLaws.{ids_pushed, ids_permuted}
 use Rattle.sum_outcome.proofs.CheapMoves.{IsAt, put-total}
 use Rattle.sum_outcome.proofs.Lists.{pick-at, pick-put}
 use Rattle.sum_outcome.proofs.StopLoop.{same_over, bounded_over, small_fits}
@@ -24,10 +28,11 @@ use Rattle.sum_outcome.proofs.StopLoop.{same_over, bounded_over, small_fits}
 pub record SplitSoFar (Ts : List Tree) (ids : List ℕ) (x : ℤ) (games : List ℕ) (y : ℤ) (k : ℕ) : Type 0 where
   pub same : sum_tree Ts ids x ≡ᵍ (total (pick Ts games) +ᵍ sum_tree Ts (drop k ids) y)
   pub bounds : IsBounded (pick Ts (drop k ids)) y
+  pub known : AreIds Ts games
 
 pub split_start : (Ts : List Tree) (ids : List ℕ) (x : ℤ) → IsBounded (pick Ts ids) x → SplitSoFar Ts ids x [] x 0
 unfolding total
-split_start Ts ids x b = record { same = same-path _ _ (sym (nought-plus (sum_tree Ts ids x))); bounds = b }
+split_start Ts ids x b = record { same = same-path _ _ (sym (nought-plus (sum_tree Ts ids x))); bounds = b; known = λ j l. absurd (omega (arith, l)) }
 
 total-push : (Ts : List Tree) (games : List ℕ) (i : ℕ) → total (pick Ts (games ++ i ∷ [])) ≡ total (pick Ts games) +ᵍ tree_at Ts i
 unfolding total
@@ -60,16 +65,18 @@ module _ (Ts : List Tree) (ids : List ℕ) (x y : ℤ) (games : List ℕ) (k : �
     same = same-trans _ _ _ w.same (same-plus _ _ _ _ (same-refl (total (pick Ts games)))
         (rw (drop_more ids k 0 lt) (subst (λ t. ((t +ᵍ total rest) +ᵍ number_tree y) ≡ᵍ (total rest +ᵍ number_tree (y +ℤ z))) (sym e) (same_over (total rest) y z))));
     bounds = bounds_over z e;
+    known = w.known;
   }
 
-  pub split_game : SplitSoFar Ts ids x (games ++ get_or ids k 0 ∷ []) y (k + 1)
+  pub split_game : AreIds Ts ids → SplitSoFar Ts ids x (games ++ get_or ids k 0 ∷ []) y (k + 1)
   unfolding total
-  split_game = record {
+  split_game are = record {
     same = same-trans _ _ _ w.same (same-path _ _ (ap (λ l. total (pick Ts games) +ᵍ sum_tree Ts l y) (drop_more ids k 0 lt)
         ∙ ap (λ t. total (pick Ts games) +ᵍ t) (plus-assoc next (total rest) (number_tree y))
         ∙ sym (plus-assoc (total (pick Ts games)) next (total rest +ᵍ number_tree y))
         ∙ ap (λ t. t +ᵍ (total rest +ᵍ number_tree y)) (sym (total-push Ts games (get_or ids k 0)))));
     bounds = bounded_rest next rest y bounds_here;
+    known = ids_pushed Ts games (get_or ids k 0) w.known (are k lt);
   }
 
 -- two games of a list exchanged: first the second is put for the first
@@ -103,7 +110,11 @@ module _ (Ts : List Tree) (is : List ℕ) (i j : ℕ) (li : i < length is) (lj :
 pub sorted_same : (Ts : List Tree) (games is : List ℕ) → IsPermutation games is → total (pick Ts games) ≡ᵍ total (pick Ts is)
 sorted_same Ts games is p = IsPermutation-keeps games (λ l. total (pick Ts games) ≡ᵍ total (pick Ts l)) (same-refl (total (pick Ts games))) (λ l i j li lj e. same-trans _ _ _ e (same_swap Ts l i j li lj)) is p
 
-pub split_end : (Ts : List Tree) (ids : List ℕ) (x y : ℤ) (games is : List ℕ) (k : ℕ) → SplitSoFar Ts ids x games y k → length ids ≤ k → IsPermutation games is → sum_tree Ts ids x ≡ᵍ sum_tree Ts is y
+pub split_end : (Ts : List Tree) (ids : List ℕ) (x y : ℤ) (c : Colour) (games : List ℕ) (k : ℕ) (key : Key) → SplitSoFar Ts ids x games y k → length ids ≤ k → IsPermutation games key.games.items → key.number ≡ y → mover key ≡ c → IsKeyOf Ts ids x c key
 unfolding total
-split_end Ts ids x y games is k w le p = same-trans _ _ _ (rw (drop_all k ids le) at w.same)
-    (same-plus (total (pick Ts games)) (total (pick Ts is)) _ (number_tree y) (sorted_same Ts games is p) (same-path _ _ (nought-plus (number_tree y))))
+split_end Ts ids x y c games k key w le p number turn = record {
+  same = subst (λ z. sum_tree Ts ids x ≡ᵍ sum_tree Ts key.games.items z) (sym number) (same-trans _ _ _ (rw (drop_all k ids le) at w.same)
+      (same-plus (total (pick Ts games)) (total (pick Ts key.games.items)) _ (number_tree y) (sorted_same Ts games key.games.items p) (same-path _ _ (nought-plus (number_tree y)))));
+  mover = turn;
+  known = ids_permuted Ts games key.games.items p w.known;
+}

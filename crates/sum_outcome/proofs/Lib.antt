@@ -7,3 +7,4 @@ pub mod StopSums
 pub mod StopLoop
 pub mod KeyLaws
 pub mod Domination
+pub mod OppositeLaws

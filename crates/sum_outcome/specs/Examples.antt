@@ -14,3 +14,7 @@ IsSmall G = (G ≡ star) ⊎ ((G ≡ choice (num 0 (pos 1)) star) ⊎ IsBound G 
 abbrev pub AreSmall : List Tree → List ℕ → Type 0
 AreSmall Ts [] = Unit {0}
 AreSmall Ts (i ∷ is) = (i < length Ts) × IsSmall (tree_at Ts i) × AreSmall Ts is
+
+-- an id of the store, whose game's numbers have a size of at most b
+abbrev pub IsSmallId : List Tree → ℕ → ℕ → Type 0
+IsSmallId Ts b i = (i < length Ts) × IsBound (tree_at Ts i) b

@@ -1,7 +1,6 @@
 -- Which moves are as good as others.
-use Rattle.std.specs.Prelude.{ℕ, ◌≡◌, ◌<◌, List, length, Bool, IsTrue, nat_eq, ◌&&◌, Option, Some, cond, ◌↔◌, ◌⊎◌, ℤ}
+use Rattle.std.specs.Prelude.{ℕ, ◌<◌, List, length, Contains, Bool, IsTrue, ◌↔◌, ◌⊎◌, ℤ}
 use Rattle.std.specs.List.{slice_index_or}
-use Rattle.indexmap.specs.IndexMap.{IndexMap, get}
 use Rattle.go_grid.specs.declared.grid.Colour.{Colour}
 use Rattle.go_grid.specs.declared.grid.Colour.TheVariants.{Black, White}
 use Rattle.game_store.specs.Tree.{Tree}
@@ -13,17 +12,6 @@ use Rattle.go_grid.specs.Grid.{other}
 use Rattle.game_canon.specs.Laws.{incentive}
 use Rattle.sum_outcome.specs.Search.{IsMove, put}
 use Rattle.sum_outcome.specs.declared.incentives.MovePair.{MovePair}
-
-abbrev pub same_moves : MovePair → MovePair → Bool
-same_moves p q = nat_eq p.game q.game && (nat_eq p.option q.option && (nat_eq p.other q.other && nat_eq p.other_option q.other_option))
-
--- what is remembered of each pair of moves
-abbrev pub recalled_incentives : {S : Type 0} → IndexMap MovePair Bool S → MovePair → Option Bool
-recalled_incentives known p = get same_moves known p
-
--- the same after one more answer
-abbrev pub with_incentive : (MovePair → Option Bool) → MovePair → Bool → MovePair → Option Bool
-with_incentive known p answer q = cond (same_moves p q) (Some answer) (known q)
 
 -- the four games are ids
 pub record AreMoves (Ts : List Tree) (p : MovePair) : Type 0 where
@@ -40,9 +28,13 @@ IsAtLeast Ts p = incentive (tree_at Ts p.other) (tree_at Ts p.other_option) ≤�
 abbrev pub turned : MovePair → MovePair
 turned p = record { game = p.other; option = p.other_option; other = p.game; other_option = p.option }
 
--- what is remembered is right
-abbrev pub AreIncentivesRight : List Tree → (MovePair → Option Bool) → Type 0
-AreIncentivesRight Ts known = (p : MovePair) (answer : Bool) → known p ≡ Some answer → IsTrue answer ↔ IsAtLeast Ts p
+-- the moves are of ids of the store, and the answer is right there
+abbrev pub IsAnswer : List Tree → MovePair → Bool → Type 0
+IsAnswer Ts p answer = AreMoves Ts p × (IsTrue answer ↔ IsAtLeast Ts p)
+
+-- all answers are right
+abbrev pub AreIncentivesRight : List Tree → List (MovePair × Bool) → Type 0
+AreIncentivesRight Ts known = (e : MovePair × Bool) → Contains known e → IsAnswer Ts e.0 e.1
 
 -- the move from G to Y is as good for the player as the one from H to X: Left wants the great incentive, Right the small one
 abbrev pub IsGood : Colour → Tree → Tree → Tree → Tree → Type 0

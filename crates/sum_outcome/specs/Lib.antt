@@ -3,3 +3,4 @@ pub mod Search
 pub mod Examples
 pub mod Memo
 pub mod Incentives
+pub mod Opposites

@@ -1,56 +1,60 @@
 //! Which moves in a sum need not be tried, since one in another game is better, or as good and in an earlier one.
 
-ghost use Rattle.std.specs.Prelude.{◌≡◌, ◌<◌, ◌↔◌, length, OnOk, OnErr, IsTrue, IfSome, ◌⊎◌};
+ghost use Rattle.std.specs.Prelude.{◌≡◌, ◌<◌, ◌↔◌, length, Contains, IsTrue, IfSome, ◌⊎◌};
 ghost use Rattle.game_store.specs.Tree.{Tree, Has};
 ghost use Rattle.game_store.specs.Meaning.{tree_at, pick, AreIds, AreBelow};
 ghost use Rattle.sum_outcome.specs.Search.{IsMove, StoodBefore};
-ghost use Rattle.sum_outcome.specs.Incentives.{recalled_incentives, with_incentive, AreIncentivesRight, AreMoves, turned, IsAtLeast, IsAsGood, HasPreferred, IsDominated};
+ghost use Rattle.sum_outcome.specs.Incentives.{AreIncentivesRight, AreMoves, turned, IsAtLeast, IsAsGood, HasPreferred, IsDominated};
+ghost use Rattle.sum_outcome.specs.Memo.{AreKept, NoneIsNew};
 ghost use Rattle.sum_outcome.specs.declared.incentives.MovePair.{MovePair};
 
 use game_canon::incentive_at_least;
 use game_store::{Form, GameId, Store};
 use go_grid::grid::Colour;
-use indexmap::IndexMap;
-use std::alloc::{AllocError, Global};
+use lru::LruCache;
+use std::alloc::Global;
 
 /// Two moves: from a game to an option, and from another game to an option of that.
 #[derive(Clone, Copy, PartialEq, Eq, Hash)]
 pub(crate) struct MovePair {
-    game: GameId,
-    option: GameId,
-    other: GameId,
-    other_option: GameId,
+    pub(crate) game: GameId,
+    pub(crate) option: GameId,
+    pub(crate) other: GameId,
+    pub(crate) other_option: GameId,
 }
 
 /// For pairs of moves, whether the incentive of the first is at least that of the second.
-pub(crate) type Incentives = IndexMap<MovePair, bool>;
+pub(crate) type Incentives = LruCache<MovePair, bool>;
 
 /// The answer for a pair, if it is remembered.
-fn recall_incentive(known: &Incentives, pair: MovePair) -> Option<bool>
-    ensures { result ≡ recalled_incentives known.now pair }
+fn recall_incentive(known: &mut Incentives, pair: MovePair) -> Option<bool>
+    ensures found { IfSome result (λ answer. Contains known.old.entries (pair, answer)) }
+    ensures kept { NoneIsNew known.old.entries known.new.entries }
+    ensures cap { known.new.cap ≡ known.old.cap }
 {
     known.get(&pair).copied()
 }
 
-/// Remembers the answer for a pair. What is remembered stays as it is where memory is wanting.
-fn remember_incentive(
-    known: &mut Incentives,
-    pair: MovePair,
-    answer: bool,
-) -> Result<(), AllocError>
-    ensures kept { OnOk result ((p : MovePair) → recalled_incentives known.new p ≡ with_incentive (recalled_incentives known.old) pair answer p) }
-    ensures lost { OnErr result ((p : MovePair) → recalled_incentives known.new p ≡ recalled_incentives known.old p) }
+/// Remembers the answer for a pair, or leaves it out where memory is wanting.
+fn remember_incentive(known: &mut Incentives, pair: MovePair, answer: bool)
+    ensures kept { AreKept (λ p q. p ≡ q) known.old.entries pair answer known.new.entries }
+    ensures cap { known.new.cap ≡ known.old.cap }
 {
-    known.insert(pair, answer)?;
-    Ok(())
+    let _kept = known.put(pair, answer);
 }
 
 /// Whether the incentive of the first of two moves is at least that of the second, unless memory is wanting.
-fn is_at_least(alloc: Global, store: &Store, known: &mut Incentives, pair: MovePair) -> Option<bool>
+pub(crate) fn is_at_least(
+    alloc: Global,
+    store: &Store,
+    known: &mut Incentives,
+    pair: MovePair,
+) -> Option<bool>
     requires ids { AreMoves store.now pair }
-    requires right { AreIncentivesRight store.now (recalled_incentives known.old) }
+    requires right { AreIncentivesRight store.now known.old.entries }
     ensures answer { IfSome result (λ answer. IsTrue answer ↔ IsAtLeast store.now pair) }
-    ensures right { AreIncentivesRight store.now (recalled_incentives known.new) }
+    ensures right { AreIncentivesRight store.now known.new.entries }
+    ensures cap { known.new.cap ≡ known.old.cap }
 {
     if let Some(answer) = recall_incentive(known, pair) {
         return Some(answer);
@@ -65,7 +69,7 @@ fn is_at_least(alloc: Global, store: &Store, known: &mut Incentives, pair: MoveP
     ) else {
         return None;
     };
-    let _kept = remember_incentive(known, pair, answer);
+    remember_incentive(known, pair, answer);
     Some(answer)
 }
 
@@ -91,9 +95,10 @@ fn is_as_good(
     side: Colour,
 ) -> Option<bool>
     requires ids { AreMoves store.now pair }
-    requires right { AreIncentivesRight store.now (recalled_incentives known.old) }
+    requires right { AreIncentivesRight store.now known.old.entries }
     ensures answer { IfSome result (λ answer. IsTrue answer ↔ IsAsGood store.now side pair) }
-    ensures right { AreIncentivesRight store.now (recalled_incentives known.new) }
+    ensures right { AreIncentivesRight store.now known.new.entries }
+    ensures cap { known.new.cap ≡ known.old.cap }
 {
     match side {
         Colour::Black => is_at_least(alloc, store, known, pair),
@@ -112,10 +117,11 @@ fn is_preferred(
     earlier: bool,
 ) -> bool
     requires ids { AreMoves store.now pair }
-    requires right { AreIncentivesRight store.now (recalled_incentives known.old) }
+    requires right { AreIncentivesRight store.now known.old.entries }
     ensures good { IsTrue result → IsAsGood store.now side pair }
     ensures better { IsTrue result → IsTrue earlier ⊎ (IsAsGood store.now side (turned pair) → ⊥) }
-    ensures right { AreIncentivesRight store.now (recalled_incentives known.new) }
+    ensures right { AreIncentivesRight store.now known.new.entries }
+    ensures cap { known.new.cap ≡ known.old.cap }
 {
     let Some(true) = is_as_good(alloc, store, known, pair, side) else {
         return false;
@@ -165,9 +171,10 @@ fn has_preferred(
     requires game { game < length store.now }
     requires other { other < length store.now }
     requires other_option { other_option < length store.now }
-    requires right { AreIncentivesRight store.now (recalled_incentives known.old) }
+    requires right { AreIncentivesRight store.now known.old.entries }
     ensures answer { IsTrue result → HasPreferred store.now side game (tree_at store.now other) (tree_at store.now other_option) (IsTrue earlier) }
-    ensures right { AreIncentivesRight store.now (recalled_incentives known.new) }
+    ensures right { AreIncentivesRight store.now known.new.entries }
+    ensures cap { known.new.cap ≡ known.old.cap }
 {
     let options = moves(store, game, side);
     'options: for option in options {
@@ -198,9 +205,10 @@ pub(crate) fn is_dominated(
     requires ids { AreIds store.now sum.now }
     requires place { place < length sum.now }
     requires option { option < length store.now }
-    requires right { AreIncentivesRight store.now (recalled_incentives known.old) }
+    requires right { AreIncentivesRight store.now known.old.entries }
     ensures answer { IsTrue result → IsDominated store.now sum.now side place (tree_at store.now option) }
-    ensures right { AreIncentivesRight store.now (recalled_incentives known.new) }
+    ensures right { AreIncentivesRight store.now known.new.entries }
+    ensures cap { known.new.cap ≡ known.old.cap }
 {
     let game = sum[place];
     'rivals: for rival in 0..sum.len() {

@@ -1,84 +1,74 @@
 //! Sums that a search has decided.
 
-ghost use Rattle.std.specs.Prelude.{◌≡◌, ◌↔◌, List, IsTrue, IfOk, IfSome};
+ghost use Rattle.std.specs.Prelude.{◌≡◌, ◌↔◌, List, [], None, IsTrue, IfOk, IfSome};
+ghost use Rattle.std.specs.NonZero.{non_zero_usize_get};
 ghost use Rattle.game_store.specs.Tree.{Tree};
 ghost use Rattle.game_canon.specs.Players.{LosesGame};
-ghost use Rattle.sum_outcome.specs.Memo.{key_tree, IsAmong, AreKept, IsRight};
+ghost use Rattle.sum_outcome.specs.Memo.{key_tree, mover, remembered, AreSame, IsAmong, AreKept, NoneIsNew, IsAnswer, IsRight, StaysRight};
 
 use crate::incentives::Incentives;
 use crate::key::Key;
-use go_grid::grid::Colour;
-use indexmap::IndexMap;
+use game_store::GameId;
 use lru::LruCache;
 use std::alloc::{AllocError, Global};
 use std::num::NonZeroUsize;
 
-/// The sums of one player.
+/// Whether the player who is to move loses, for sums by their keys.
 type Sums = LruCache<Key, bool>;
 
-/// What is kept of a sum.
-fn look_up(sums: &Sums, key: &Key) -> Option<bool>
-    ensures { IfSome result (λ lost. IsAmong sums.now.entries key.now lost) }
+/// What is kept of a sum, which becomes the latest that was used.
+fn look_up(sums: &mut Sums, key: &Key) -> Option<bool>
+    ensures found { IfSome result (λ lost. IsAmong AreSame sums.old.entries key.now lost) }
+    ensures kept { NoneIsNew sums.old.entries sums.new.entries }
+    ensures cap { sums.new.cap ≡ sums.old.cap }
 {
-    sums.peek(key).copied()
+    sums.get(key).copied()
 }
 
 /// Keeps an answer for a sum, or leaves it out where memory is wanting.
 fn keep(sums: &mut Sums, key: Key, lost: bool)
-    ensures { AreKept sums.old.entries key lost sums.new.entries }
+    ensures kept { AreKept AreSame sums.old.entries key lost sums.new.entries }
+    ensures cap { sums.new.cap ≡ sums.old.cap }
 {
     let _kept = sums.put(key, lost);
 }
 
-/// Whether the player who is to move loses, for sums by their keys, of which the latest stay, and which moves are as good as
-/// others.
+/// Who loses sums, and which moves are as good as others. Of each the latest that were used stay.
 #[derive(Drop)]
 pub struct Memo {
-    black: Sums,
-    white: Sums,
+    pub(crate) sums: Sums,
     pub(crate) incentives: Incentives,
+    /// The id of 0, which may stand for games that cancel.
+    pub(crate) zero: Option<GameId>,
     pub(crate) alloc: Global,
 }
 
 impl Memo {
-    /// Nothing is remembered yet; for each player there may be so many sums.
+    /// Nothing is remembered yet. The room for entries grows as they come.
     pub(crate) fn new(alloc: Global, entries: NonZeroUsize) -> Result<Memo, AllocError>
-        ensures { IfOk result (λ memo. (Ts : List Tree) → IsRight Ts memo) }
+        ensures empty { IfOk result (λ memo. remembered memo ≡ record { entries = non_zero_usize_get entries; sums = []; incentives = []; zero = None }) }
+        ensures room { IfOk result (λ memo. memo.incentives.cap ≡ memo.sums.cap) }
     {
         Ok(Memo {
-            black: LruCache::new(alloc, entries)?,
-            white: LruCache::new(alloc, entries)?,
-            incentives: IndexMap::new(alloc),
+            sums: LruCache::sparse(alloc, entries)?,
+            incentives: LruCache::sparse(alloc, entries)?,
+            zero: None,
             alloc,
         })
     }
 
-    /// Forgets all.
-    pub(crate) fn clear(&mut self)
-        ensures { (Ts : List Tree) → IsRight Ts self.new }
-    {
-        self.black.clear();
-        self.white.clear();
-        self.incentives.clear();
-    }
-
     /// Whether the player who is to move loses, where it is remembered.
-    pub(crate) fn recall(&self, key: &Key, side: Colour) -> Option<bool>
-        ensures { IfSome result (λ lost. (Ts : List Tree) → IsRight Ts self.now → IsTrue lost ↔ LosesGame side (key_tree Ts key.now)) }
+    pub(crate) fn recall(&mut self, key: &Key) -> Option<bool>
+        ensures answer { IfSome result (λ lost. (Ts : List Tree) → IsRight Ts self.old → IsTrue lost ↔ LosesGame (mover key.now) (key_tree Ts key.now)) }
+        ensures right { (Ts : List Tree) → IsRight Ts self.old → StaysRight Ts self.old self.new }
     {
-        match side {
-            Colour::Black => look_up(&self.black, key),
-            Colour::White => look_up(&self.white, key),
-        }
+        look_up(&mut self.sums, key)
     }
 
     /// Remembers whether the player who is to move loses. It is left out where memory is wanting.
-    pub(crate) fn remember(&mut self, key: Key, side: Colour, lost: bool)
-        ensures { (Ts : List Tree) → (IsTrue lost ↔ LosesGame side (key_tree Ts key)) → IsRight Ts self.old → IsRight Ts self.new }
+    pub(crate) fn remember(&mut self, key: Key, lost: bool)
+        ensures { (Ts : List Tree) → IsAnswer Ts key lost → IsRight Ts self.old → StaysRight Ts self.old self.new }
     {
-        match side {
-            Colour::Black => keep(&mut self.black, key, lost),
-            Colour::White => keep(&mut self.white, key, lost),
-        }
+        keep(&mut self.sums, key, lost);
     }
 }

@@ -1,7 +1,7 @@
 //! The search of a sum. Where stops don't tell who loses, it tries moves in the games that are no numbers. Beside such a
 //! game no move in a number is needed (number avoidance, Conway), and none whose incentive one in another game dominates.
 
-ghost use Rattle.std.specs.Prelude.{◌≡◌, ◌<◌, ◌↔◌, length, IsTrue, MatchOption};
+ghost use Rattle.std.specs.Prelude.{◌≡◌, ◌<◌, ◌↔◌, length, IsTrue, Some, MatchOption};
 ghost use Rattle.std.specs.Bool.{OnFalse};
 ghost use Rattle.game_store.specs.Tree.{Tree, Has};
 ghost use Rattle.game_store.specs.Number.{IsNumberTree};
@@ -9,13 +9,15 @@ ghost use Rattle.game_store.specs.TextOrder.{IsCanonicalTree};
 ghost use Rattle.game_store.specs.Meaning.{tree_at, pick, AreIds};
 ghost use Rattle.game_canon.specs.Players.{LosesGame};
 ghost use Rattle.sum_outcome.specs.Sums.{sum_tree, IsBounded};
-ghost use Rattle.sum_outcome.specs.Memo.{IsRight};
+ghost use Rattle.sum_outcome.specs.Memo.{IsRight, StaysRight};
 ghost use Rattle.sum_outcome.specs.Incentives.{IsSettled};
+ghost use Rattle.sum_outcome.specs.Opposites.{IsZero, AreOpposite};
 ghost use Rattle.sum_outcome.specs.Search.{HasNonNumber, IsSign, WinsAt};
 
 use crate::incentives::{is_dominated, is_repeated, moves};
 use crate::key::key_of;
 use crate::memo::Memo;
+use crate::opposites::{Opposites, find_opposites};
 use dyadic_num::Dyadic;
 use game_stops::{left_stop, right_stop};
 use game_store::{Form, GameId, Store};
@@ -82,19 +84,56 @@ pub(crate) fn loses_sum(
     requires right { IsRight store.now memo.old }
     ensures same { sum.new ≡ sum.old }
     ensures answer { IsTrue result ↔ LosesGame side (sum_tree store.now sum.old number) }
-    ensures right { IsRight store.now memo.new }
+    ensures right { StaysRight store.now memo.old memo.new }
 {
+    if let Some(opposites) = find_opposites(store, memo, sum) {
+        return loses_without(store, memo, sum, number, side, opposites);
+    }
     if let Some(sign) = sign_by_stops(store, sum, number) {
         return loses_at(sign, side);
     }
-    let Some(key) = key_of(memo.alloc, store, sum, number) else {
+    let Some(key) = key_of(memo.alloc, store, sum, number, side) else {
         return loses_by_moves(store, memo, sum, number, side);
     };
-    if let Some(lost) = memo.recall(&key, side) {
+    if let Some(lost) = memo.recall(&key) {
         return lost;
     }
     let lost = loses_by_moves(store, memo, sum, number, side);
-    memo.remember(key, side, lost);
+    memo.remember(key, lost);
+    lost
+}
+
+/// Whether a player who is to move loses the sum without the games at two places, which cancel. 0 stands for them meanwhile.
+#[cycle(search)]
+fn loses_without(
+    store: &Store,
+    memo: &mut Memo,
+    sum: &mut [GameId],
+    number: Dyadic,
+    side: Colour,
+    opposites: Opposites,
+) -> bool
+    requires ids { AreIds store.now sum.old }
+    requires bounds { IsBounded (pick store.now sum.old) number }
+    requires zero { IsZero store.now (Some opposites.zero) }
+    requires opposite { AreOpposite store.now sum.old opposites.zero opposites.first opposites.second }
+    requires right { IsRight store.now memo.old }
+    ensures same { sum.new ≡ sum.old }
+    ensures answer { IsTrue result ↔ LosesGame side (sum_tree store.now sum.old number) }
+    ensures right { StaysRight store.now memo.old memo.new }
+{
+    let Opposites {
+        zero,
+        first,
+        second,
+    } = opposites;
+    let game = sum[first];
+    let other = sum[second];
+    sum[first] = zero;
+    sum[second] = zero;
+    let lost = loses_sum(store, memo, sum, number, side);
+    sum[second] = other;
+    sum[first] = game;
     lost
 }
 
@@ -114,7 +153,7 @@ fn loses_by_moves(
     requires right { IsRight store.now memo.old }
     ensures same { sum.new ≡ sum.old }
     ensures answer { IsTrue result ↔ LosesGame side (sum_tree store.now sum.old number) }
-    ensures right { IsRight store.now memo.new }
+    ensures right { StaysRight store.now memo.old memo.new }
 {
     'places: for place in 0..sum.len() {
         if is_repeated(sum, place) {
@@ -145,7 +184,7 @@ fn wins_at(
     ensures same { sum.new ≡ sum.old }
     ensures wins { IsTrue result → WinsAt store.now sum.old number side place }
     ensures settled { OnFalse result (IsSettled store.now sum.old number side place) }
-    ensures right { IsRight store.now memo.new }
+    ensures right { StaysRight store.now memo.old memo.new }
 {
     let id = sum[place];
     let options = moves(store, id, side);

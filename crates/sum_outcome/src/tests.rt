@@ -4,6 +4,7 @@ ghost use Rattle.std.specs.Prelude.{◌≡◌, ◌<◌, ◌≤◌, ◌^◌, pos,
 ghost use Rattle.game_store.specs.Number.{num};
 ghost use Rattle.game_store.specs.Meaning.{tree_at, IsIdOf, Extends};
 ghost use Rattle.game_canon.specs.Examples.{choice, star as the_star};
+ghost use Rattle.sum_outcome.specs.Memo.{Fits};
 ghost use Rattle.sum_outcome.specs.Examples.{IsSmall, AreSmall};
 
 use crate::Search;
@@ -34,7 +35,7 @@ fn one_or_star(store: &mut Store, star: GameId) -> Result<GameId, AllocError>
 }
 
 /// Whether a player loses the sum of the games and so many halves.
-fn loses(
+pub(crate) fn loses(
     search: &mut Search,
     store: &Store,
     sum: &mut [GameId],
@@ -44,7 +45,9 @@ fn loses(
     requires games { AreSmall store.now sum.old }
     requires few { length sum.old ≤ 40 }
     requires halves { unsigned_abs halves ≤ 100 }
-    ensures { sum.new ≡ sum.old }
+    requires fits { Fits store.now search.old }
+    ensures same { sum.new ≡ sum.old }
+    ensures fits { Fits store.now search.new }
 {
     let number = Dyadic::part(halves, 1)?;
     Some(search.loses(store, sum, number, side))
@@ -94,6 +97,8 @@ fn loses_many(
     requires game { game < length store.now }
     requires small { IsSmall (tree_at store.now game) }
     requires halves { unsigned_abs halves ≤ 100 }
+    requires fits { Fits store.now search.old }
+    ensures { Fits store.now search.new }
 {
     let even = loses(search, store, &mut [game; 40], halves, Colour::Black);
     let odd = loses(search, store, &mut [game; 39], halves, Colour::Black);
@@ -143,6 +148,7 @@ fn shifted(alloc: Global, store: &mut Store, game: GameId) -> Option<Vec<GameId>
 fn lose_by_stops(search: &mut Search, store: &Store, sum: &mut [GameId]) -> [Option<bool>; 2]
     requires games { AreSmall store.now sum.old }
     requires few { length sum.old ≤ 40 }
+    requires fits { Fits store.now search.old }
 {
     [
         loses(search, store, sum, -4, Colour::White),

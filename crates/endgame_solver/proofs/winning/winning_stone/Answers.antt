@@ -6,8 +6,8 @@ use Rattle.endgame_solver.proofs.StoneSearch.{no_stone_end}
 use Rattle.endgame_solver.proofs.WinningLaws.{differ}
 use Rattle.endgame_solver.proofs.winning.winning_stone.Goals as goal
 
-pub stone_wins-requires : goal.stone_wins-requires
-stone_wins-requires c = subst (IsSeen c.args.present.now) (sym c.points.invariant.0) c.requires
+pub stone_wins-requires-clause-seen : goal.stone_wins-requires-clause-seen
+stone_wins-requires-clause-seen c = subst (IsSeen c.args.present.now) (sym c.points.invariant.0) c.requires.seen
 
 pub returns-then-stone_wins-clause-first : goal.returns-then-stone_wins-clause-first
 returns-then-stone_wins-clause-first c = (omega (arith, c.points-test.true, c.area-number-end.ensures), c.stone_wins.ensures.wins.0 c.if-stone_wins.true, c.points.invariant.2)
@@ -15,13 +15,10 @@ returns-then-stone_wins-clause-first c = (omega (arith, c.points-test.true, c.ar
 pub returns-then-stone_wins-clause-same : goal.returns-then-stone_wins-clause-same
 returns-then-stone_wins-clause-same c = c.stone_wins.ensures.same ∙ c.points.invariant.0
 
-pub returns-then-stone_wins-clause-kept : goal.returns-then-stone_wins-clause-kept
-returns-then-stone_wins-clause-kept c = c.stone_wins.ensures.kept ∙ c.points.invariant.1
-
 pub points-preserved : goal.points-preserved
 points-preserved c = (
   c.stone_wins.ensures.same ∙ c.points.invariant.0,
-  c.stone_wins.ensures.kept ∙ c.points.invariant.1,
+  c.stone_wins.ensures.fits,
   below_more (λ q. ¬ IsWinning c.args.present.now.whole.now (Stone q)) c.points.number c.points.invariant.2
       (λ w. differ c.stone_wins.result c.if-stone_wins.false (c.stone_wins.ensures.wins.1 w)),
 )
@@ -33,6 +30,3 @@ returns-clause-first c =
 
 pub returns-clause-same : goal.returns-clause-same
 returns-clause-same c = c.points.invariant.0
-
-pub returns-clause-kept : goal.returns-clause-kept
-returns-clause-kept c = c.points.invariant.1

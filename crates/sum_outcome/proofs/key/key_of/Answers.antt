@@ -1,4 +1,4 @@
-use Rattle.std.proofs.Common.{arith, ◌<◌, ◌+ℤ◌, length}
+use Rattle.std.proofs.Common.{arith, refl, ◌<◌, ◌+ℤ◌, length}
 use mir.Val.{to_z}
 use mir.Syntax.{w128}
 use Rattle.std.proofs.lemmas.Int.{to_z-of_z}
@@ -24,8 +24,8 @@ splitting-preserved c =
           rw (w.games-is, w.total-is, to_z-of_z w128 u.result (small_fits u.result (rw u.ensures.count u.ensures.bounds)), u.ensures.count)
           (rw (to_z-of_z w128 (y +ℤ x) (split_fits c.args.store.now c.args.sum.now c.args.number y games c.splitting.id-index c.splitting.invariant lt x w.in-Number.ensures.form))
           (split_number c.args.store.now c.args.sum.now c.args.number y games c.splitting.id-index c.splitting.invariant lt x w.in-Number.ensures.form))
-      | in-Options+in-Ok w ↦ rw (w.games-is, w.total-is, (w.in-Ok.ensures {u = tt}).items) (split_game c.args.store.now c.args.sum.now c.args.number y games c.splitting.id-index c.splitting.invariant lt)
+      | in-Options+in-Ok w ↦ rw (w.games-is, w.total-is, (w.in-Ok.ensures {u = tt}).items) (split_game c.args.store.now c.args.sum.now c.args.number y games c.splitting.id-index c.splitting.invariant lt c.requires.ids)
     ]
 
 pub returns : goal.returns
-returns c = split_end c.args.store.now c.args.sum.now c.args.number (to_z w128 c.splitting.total-bits) c.splitting.games.items c.sort_unstable.new.self.items c.splitting.id-index c.splitting.invariant (omega (arith, c.splitting-test.false)) c.sort_unstable.ensures.permutation
+returns c = split_end c.args.store.now c.args.sum.now c.args.number (to_z w128 c.splitting.total-bits) c.args.side c.splitting.games.items c.splitting.id-index _ c.splitting.invariant (omega (arith, c.splitting-test.false)) c.sort_unstable.ensures.permutation refl c.is_black.ensures

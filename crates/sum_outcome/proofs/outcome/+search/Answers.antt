@@ -3,21 +3,59 @@ use Rattle.std.proofs.lemmas.Bool.{false≢true, both_ways, OnFalse_at}
 use Rattle.sum_outcome.specs.Sums.{sum_tree}
 use Rattle.sum_outcome.specs.Incentives.{IsSettled}
 use Rattle.sum_outcome.proofs.Domination.{OptionIsSettled, options_settled, repeated_settled, all_fail}
-use Rattle.sum_outcome.proofs.MemoLaws.{from_key, to_key}
+use Rattle.sum_outcome.proofs.MemoLaws.{from_key, to_key, stays_on, incentives_changed}
+use Rattle.sum_outcome.proofs.OppositeLaws.{falls_without, ids_without, bounded_without, restored_both, answer_without}
 use Rattle.sum_outcome.proofs.Lists.{put_back, falls_put, ids_put, loses_all, wins_one, bounded_put, wins_by_option}
 use Rattle.sum_outcome.proofs.outcome.+search.Goals as goal
 
-pub loses_sum-returns-in-Some-clause-answer : goal.loses_sum-returns-in-Some-clause-answer
-loses_sum-returns-in-Some-clause-answer t c = c.loses_at.ensures (sum_tree c.args.store.now c.args.sum.now c.args.number) c.in-Some.ensures
+pub loses_sum-returns-in-Some-sign_by_stops-clause-answer : goal.loses_sum-returns-in-Some-sign_by_stops-clause-answer
+loses_sum-returns-in-Some-sign_by_stops-clause-answer t c = c.loses_at.ensures (sum_tree c.args.store.now c.args.sum.now c.args.number) c.in-Some-sign_by_stops.ensures
 
 pub loses_sum-returns-in-Some-recall-clause-answer : goal.loses_sum-returns-in-Some-recall-clause-answer
 loses_sum-returns-in-Some-recall-clause-answer t c =
-    from_key c.args.store.now c.args.sum.now c.args.number c.args.side c.in-Some-key_of.key c.in-Some-recall.lost (c.in-Some-key_of.ensures {u = tt}) (c.in-Some-recall.ensures {u = tt} c.args.store.now c.requires.right)
+    from_key c.args.store.now c.args.sum.now c.args.number c.args.side c.in-Some-key_of.key c.in-Some-recall.lost (c.in-Some-key_of.ensures {u = tt}) (c.in-Some-recall.ensures.answer c.args.store.now c.find_opposites.ensures.right.right)
+
+pub loses_sum-returns-in-Some-recall-clause-right : goal.loses_sum-returns-in-Some-recall-clause-right
+loses_sum-returns-in-Some-recall-clause-right t c =
+    let found = c.find_opposites.ensures.right in stays_on c.args.store.now c.args.memo.now c.find_opposites.new.memo c.recall.new.self found (c.recall.ensures.right c.args.store.now found.right)
+
+pub loses_sum-loses_by_moves-lost-requires : goal.loses_sum-loses_by_moves-lost-requires
+loses_sum-loses_by_moves-lost-requires t c = (
+  omega (arith, c.decreases),
+  (c.requires.ids, (c.requires.bounds, (c.in_default-sign_by_stops.ensures, (c.recall.ensures.right c.args.store.now c.find_opposites.ensures.right.right).right))),
+)
 
 pub loses_sum-returns-clause-right : goal.loses_sum-returns-clause-right
 loses_sum-returns-clause-right t c =
+    let Ts = c.args.store.now in
+    let found = c.find_opposites.ensures.right in
     let a = c.loses_by_moves-lost.ensures in
-    c.remember.ensures c.args.store.now (to_key c.args.store.now c.args.sum.now c.args.number c.args.side c.in-Some-key_of.key c.loses_by_moves-lost.result (c.in-Some-key_of.ensures {u = tt}) a.answer) a.right
+    stays_on Ts c.args.memo.now c.loses_by_moves-lost.new.memo c.remember.new.self
+    (stays_on Ts c.args.memo.now c.recall.new.self c.loses_by_moves-lost.new.memo
+    (stays_on Ts c.args.memo.now c.find_opposites.new.memo c.recall.new.self found (c.recall.ensures.right Ts found.right)) a.right)
+    (c.remember.ensures Ts (to_key Ts c.args.sum.now c.args.number c.args.side c.in-Some-key_of.key c.loses_by_moves-lost.result (c.in-Some-key_of.ensures {u = tt}) a.answer) a.right.right)
+
+pub loses_without-loses_sum-lost-requires : goal.loses_without-loses_sum-lost-requires
+loses_without-loses_sum-lost-requires t c =
+    let Ts = c.args.store.now in
+    let ids = c.args.sum.now in
+    let o = c.args.opposites in (
+      omega (arith, falls_without Ts ids o.zero o.first o.second c.requires.zero c.requires.opposite, c.decreases),
+      (
+        ids_without Ts ids o.zero o.first o.second c.requires.zero c.requires.opposite c.requires.ids,
+        (bounded_without Ts ids o.zero o.first o.second c.requires.zero c.requires.opposite c.args.number c.requires.bounds, c.requires.right),
+      ),
+    )
+
+pub loses_without-returns-clause-same : goal.loses_without-returns-clause-same
+loses_without-returns-clause-same t c =
+    let o = c.args.opposites in
+    restored_both c.args.store.now c.args.sum.now o.zero o.first o.second c.requires.zero c.requires.opposite c.loses_sum-lost.new.sum c.loses_sum-lost.ensures.same
+
+pub loses_without-returns-clause-answer : goal.loses_without-returns-clause-answer
+loses_without-returns-clause-answer t c =
+    let o = c.args.opposites in
+    answer_without c.args.store.now c.args.sum.now o.zero o.first o.second c.requires.zero c.requires.opposite c.args.number c.args.side c.loses_sum-lost.result c.loses_sum-lost.ensures.answer
 
 pub loses_by_moves-returns-then-wins_at-clause-answer : goal.loses_by_moves-returns-then-wins_at-clause-answer
 loses_by_moves-returns-then-wins_at-clause-answer t c =
@@ -29,7 +67,7 @@ loses_by_moves-places-preserved t c = (
   c.wins_at.ensures.same ∙ c.places.invariant.0,
   below_more (λ k. IsSettled c.args.store.now c.args.sum.now c.args.number c.args.side k) c.places.place c.places.invariant.1
       (rw c.places.invariant.0 at (OnFalse_at c.if-wins_at.false c.wins_at.ensures.settled)),
-  c.wins_at.ensures.right,
+  stays_on c.args.store.now c.args.memo.now c.places.memo c.wins_at.new.memo c.places.invariant.2 c.wins_at.ensures.right,
 )
 
 pub loses_by_moves-places-preserved-then-is_repeated : goal.loses_by_moves-places-preserved-then-is_repeated
@@ -60,7 +98,7 @@ wins_at-loses_sum-lost-requires t c =
         ids_put c.args.store.now c.args.sum.now c.args.place i c.requires.place below c.requires.ids,
         (
           bounded_put c.args.store.now c.args.sum.now os c.args.number c.args.side c.args.place c.requires.place c.moves-options.ensures.options j c.options-test.true c.requires.bounds,
-          record { black = c.options.invariant.2.black; white = c.options.invariant.2.white; incentives = c.is_dominated.ensures.right },
+          (incentives_changed c.args.store.now c.args.memo.now c.options.memo c.is_dominated.new.known c.options.invariant.2 c.is_dominated.ensures.right c.is_dominated.ensures.cap).right,
         ),
       ),
     )
@@ -82,7 +120,9 @@ wins_at-options-preserved t c = (
   restored c.args.place _ c.options.invariant.0 c.loses_sum-lost.ensures.same,
   below_more (λ j. OptionIsSettled c.args.store.now c.args.sum.now c.args.number c.args.side c.args.place (get_or c.moves-options.result.now j 0)) c.options.option-index c.options.invariant.1
       (inl (λ l. both_ways _ c.if-lost.false (c.loses_sum-lost.ensures.answer.1 (rw (c.options.invariant.0, c.other.ensures) l)))),
-  c.loses_sum-lost.ensures.right,
+  stays_on c.args.store.now c.args.memo.now _ c.loses_sum-lost.new.memo
+      (incentives_changed c.args.store.now c.args.memo.now c.options.memo c.is_dominated.new.known c.options.invariant.2 c.is_dominated.ensures.right c.is_dominated.ensures.cap)
+      c.loses_sum-lost.ensures.right,
 )
 
 pub wins_at-options-preserved-then-is_dominated : goal.wins_at-options-preserved-then-is_dominated
@@ -90,8 +130,16 @@ wins_at-options-preserved-then-is_dominated t c = (
   c.options.invariant.0,
   below_more (λ j. OptionIsSettled c.args.store.now c.args.sum.now c.args.number c.args.side c.args.place (get_or c.moves-options.result.now j 0)) c.options.option-index c.options.invariant.1
       (inr (rw c.options.invariant.0 at (c.is_dominated.ensures.answer c.if-is_dominated.true))),
-  record { black = c.options.invariant.2.black; white = c.options.invariant.2.white; incentives = c.is_dominated.ensures.right },
+  incentives_changed c.args.store.now c.args.memo.now c.options.memo c.is_dominated.new.known c.options.invariant.2 c.is_dominated.ensures.right c.is_dominated.ensures.cap,
 )
 
 pub wins_at-returns-clause-settled : goal.wins_at-returns-clause-settled
 wins_at-returns-clause-settled t c = options_settled c.args.store.now c.args.sum.now c.args.number c.args.side c.moves-options.result.now c.args.place c.moves-options.ensures.options (λ j l. c.options.invariant.1 j (omega (arith, c.options-test.false, l)))
+
+pub wins_at-returns-then-lost-clause-right : goal.wins_at-returns-then-lost-clause-right
+wins_at-returns-then-lost-clause-right t c = stays_on c.args.store.now c.args.memo.now _ c.loses_sum-lost.new.memo
+    (incentives_changed c.args.store.now c.args.memo.now c.options.memo c.is_dominated.new.known c.options.invariant.2 c.is_dominated.ensures.right c.is_dominated.ensures.cap)
+    c.loses_sum-lost.ensures.right
+
+pub loses_by_moves-returns-then-wins_at-clause-right : goal.loses_by_moves-returns-then-wins_at-clause-right
+loses_by_moves-returns-then-wins_at-clause-right t c = stays_on c.args.store.now c.args.memo.now c.places.memo c.wins_at.new.memo c.places.invariant.2 c.wins_at.ensures.right

@@ -2,6 +2,7 @@ use Rattle.std.proofs.Common.{◌+◌, ◌<◌, ◌≤◌, sym, ap, ◌∙◌, s
 use Rattle.std.specs.List.{All}
 use Rattle.std.proofs.lemmas.Result.{err_from_is_err_and}
 use Rattle.whole_rules.specs.Opening.{IsOpening}
+use Rattle.sum_outcome.proofs.MemoLaws.{fits_grown}
 use Rattle.endgame_solver.specs.Faults.{AreRefused, most_steps}
 use Rattle.endgame_solver.proofs.BegunLaws.{komi_held, refusal_begun, solved_all, some_value, steps_within}
 use Rattle.endgame_solver.proofs.KeptAtStart.{is_kept, are_sound}
@@ -29,10 +30,6 @@ pub returns-in_err-sum-clause-steps : goal.returns-in_err-sum-clause-steps
 returns-in_err-sum-clause-steps g c = steps_within c.args.limits.now c.args.setup.now.board c.in_ok-regions.regions.items _ _ c.in_ok-regions.ensures.regions
     (subst (λ rs. c.solve_regions.new.steps ≤ c.args.steps.now + most_steps c.args.limits.now rs) c.deref-2.ensures.value c.solve_regions.ensures.steps)
 
-pub returns-in_err-search-clause-steps : goal.returns-in_err-search-clause-steps
-returns-in_err-search-clause-steps g c = steps_within c.args.limits.now c.args.setup.now.board c.in_ok-regions.regions.items _ _ c.in_ok-regions.ensures.regions
-    (subst (λ rs. c.solve_regions.new.steps ≤ c.args.steps.now + most_steps c.args.limits.now rs) c.deref-2.ensures.value c.solve_regions.ensures.steps)
-
 pub invariant_of-result : goal.invariant_of-result
 invariant_of-result g c =
     let setup = c.args.setup.now in
@@ -40,12 +37,14 @@ invariant_of-result g c =
     let made = c.in_ok-regions.ensures in
     let few : length setup.board.cells ≤ 625 = omega (arith, c.size-size.ensures.area, c.size-size.ensures.most) in
     let opens = subst (λ komi. IsOpening setup.board setup.black_prisoners setup.white_prisoners komi setup.side c.in_ok-whole.whole) (komi_held setup.komi_halves c.requires.komi) c.in_ok-whole.ensures in
-    let done = solved_all c.args.limits.now c.deref-2.result.now regions _ _ c.solve_regions.new.store c.deref-2.ensures.value c.in_ok-graphs.ensures.solved in
-    is_kept c.args.limits.now setup.board regions _ _ c.solve_regions.new.store c.requires.settled made.regions made.local few c.requires.positions done
-    setup.black_prisoners setup.white_prisoners setup.komi_halves setup.side c.in_ok-whole.whole opens _ _
-    (c.in_ok-places.ensures ∙ ap (λ n. replicate n 0) (c.len.ensures ∙ c.in_ok-regions.regions.ok.0))
-    (c.in_ok-sum.ensures ∙ ap (map (λ ids. get_or ids 0 0)) c.deref-3.ensures.value)
-    c.requires.black c.requires.white c.requires.komi
+    let done = solved_all c.args.limits.now c.deref-2.result.now regions _ _ c.solve_regions.new.store c.deref-2.ensures.value c.in_ok-graphs.ensures.solved in (
+      is_kept c.args.limits.now setup.board regions _ _ c.solve_regions.new.store c.requires.settled made.regions made.local few c.requires.positions done
+          setup.black_prisoners setup.white_prisoners setup.komi_halves setup.side c.in_ok-whole.whole opens _ _
+          (c.in_ok-places.ensures ∙ ap (λ n. replicate n 0) (c.len.ensures ∙ c.in_ok-regions.regions.ok.0))
+          (c.in_ok-sum.ensures ∙ ap (map (λ ids. get_or ids 0 0)) c.deref-3.ensures.value)
+          c.requires.black c.requires.white c.requires.komi,
+      fits_grown c.note_zero.new.store c.solve_regions.new.store c.note_zero.new.self c.in_ok-graphs.ensures.kept c.note_zero.ensures.fits,
+    )
 
 pub returns-clause-begun : goal.returns-clause-begun
 returns-clause-begun g c =
