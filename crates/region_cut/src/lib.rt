@@ -6,4 +6,4 @@ mod cuts;
 mod tests;
 mod touching;
 
-pub use cuts::cut;
+pub use cuts::{cut, cut_territory};
