@@ -2,15 +2,30 @@
 use Rattle.std.proofs.Common.{◌≡◌, ◌≢◌, ℕ, ◌+◌, ◌<◌, ◌≤◌, inl, inr, List, Bool, length, get_or, set, refl, ap, sym, ◌∙◌, subst, arith, below_more}
 use Rattle.std.proofs.lemmas.Bool.{cases_eq}
 use Rattle.std.proofs.lemmas.List.{get_or_default, length-set, get_or-set_same, get_or-set_other}
+use Rattle.std.specs.List.{All}
+use Rattle.std.proofs.lemmas.List.Elements.{Contains-get_or}
+use Rattle.go_grid.specs.declared.grid.Colour.{Colour}
+use Rattle.go_grid.specs.Grid.{Grid}
 use Rattle.go_grid.specs.Marks.{IsMarked, Marks}
 use Rattle.go_grid.specs.Parts.{label}
 use Rattle.benson_life.specs.declared.eyes.Eye.{Eye}
-use Rattle.benson_life.specs.Eyes.{HasTwoWalledEyes, HasWalledEye}
-use Rattle.benson_life.proofs.NotingLemmas.{Noting}
+use Rattle.benson_life.specs.declared.surveys.Survey.{Survey}
+use Rattle.benson_life.specs.Eyes.{AreEyes, HasTwoWalledEyes, HasWalledEye}
+use Rattle.go_grid.proofs.PointsLemmas.{Noted}
 
 -- the eye at a place of the list
 abbrev pub eye_at : List Eye → ℕ → Eye
 eye_at eyes j = get_or eyes j (record { region = 0; chain = 0 })
+
+pub eye_item : (eyes : List Eye) (j : ℕ) (e : Eye) → j < length eyes → e ≡ get_or eyes j e → e ≡ eye_at eyes j
+eye_item eyes j e lt is = is ∙ get_or_default eyes j e (record { region = 0; chain = 0 }) lt
+
+-- the names of listed eyes are points of the board
+pub eyes_inside : (g : Grid) (c : Colour) (s : Survey) (eyes : List Eye) → AreEyes g c s eyes → length g.cells ≤ 625
+    → All (λ e. (e.region < 625) × (e.chain < 625)) eyes
+eyes_inside g c s eyes are small k d lt =
+    let pair = (are (get_or eyes k d)).0 (Contains-get_or eyes k d lt) in
+    (omega (arith, pair.lacks.0, small), omega (arith, pair.stone.0, small))
 
 -- the place is of a walled eye other than the one that is known of the chain `k`
 abbrev pub SecondAt : List Eye → List Bool → List ℕ → ℕ → ℕ → Type 0
@@ -80,10 +95,10 @@ some_end eyes breached regions i w le k r h =
 -- what is noted of second eyes and of kept ones
 pub two_end : (eyes : List Eye) (breached found : List Bool) (one : List ℕ) (i : ℕ)
     → ((k r : ℕ) → HasWalledEye eyes breached k r → HasWalledEye eyes breached k (label one k))
-    → Noting found (SecondAt eyes breached one) i → i ≤ length eyes → length eyes ≤ i → Marks found (HasTwoWalledEyes eyes breached)
+    → Marks found (Noted (SecondAt eyes breached one) i) → i ≤ length eyes → length eyes ≤ i → Marks found (HasTwoWalledEyes eyes breached)
 two_end eyes breached found one i some w le ge k = (
   λ m.
-      let h = (w.exact k).0 m in
+      let h = (w k).0 m in
       let first = walled_at eyes breached h.0 k (eye_at eyes h.0).region (omega (arith, h.1)) h.2.0 refl h.2.1 in
       ((eye_at eyes h.0).region, label one k, first, some k (eye_at eyes h.0).region first, λ e. h.2.2 (sym e)),
   λ h. elim (cases_eq (label one k) h.0) as (λ _. IsMarked found k) [
@@ -95,15 +110,15 @@ two_end eyes breached found one i some w le ge k = (
     back : (r : ℕ) → HasWalledEye eyes breached k r → label one k ≢ r → IsMarked found k
     back r h ne =
         let at = place_of eyes breached k r h in
-        (w.exact k).1 (at.0, omega (arith, at.1), (at.2, subst (λ x. ¬ IsMarked breached x) (sym at.3) h.1, subst (λ x. label one k ≢ x) (sym at.3) ne))
+        (w k).1 (at.0, omega (arith, at.1), (at.2, subst (λ x. ¬ IsMarked breached x) (sym at.3) h.1, subst (λ x. label one k ≢ x) (sym at.3) ne))
 
-pub kept_end : (eyes : List Eye) (breached kept found : List Bool) (i : ℕ) → Noting found (KeptAt eyes breached kept) i
+pub kept_end : (eyes : List Eye) (breached kept found : List Bool) (i : ℕ) → Marks found (Noted (KeptAt eyes breached kept) i)
     → i ≤ length eyes → length eyes ≤ i → Marks found (λ r. (k : ℕ) × HasWalledEye eyes breached k r × IsMarked kept k)
 kept_end eyes breached kept found i w le ge r = (
   λ m.
-      let h = (w.exact r).0 m in
+      let h = (w r).0 m in
       ((eye_at eyes h.0).chain, walled_at eyes breached h.0 (eye_at eyes h.0).chain r (omega (arith, h.1)) refl h.2.0 h.2.1, h.2.2),
   λ h.
       let at = place_of eyes breached h.0 r h.1 in
-      (w.exact r).1 (at.0, omega (arith, at.1), (at.3, h.1.1, subst (IsMarked kept) (sym at.2) h.2)),
+      (w r).1 (at.0, omega (arith, at.1), (at.3, h.1.1, subst (IsMarked kept) (sym at.2) h.2)),
 )

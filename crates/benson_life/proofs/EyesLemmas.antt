@@ -1,23 +1,28 @@
 -- Listed eyes are the eyes of the definition.
-use Rattle.std.proofs.Common.{◌↔◌, ◌≡◌, ℕ, ◌+◌, ◌<◌, ◌≤◌, ◌⊎◌, inl, inr, List, [], ◌∷◌, ◌++◌, Bool, true, false, length, replicate, set, refl, ap, sym, ◌∙◌, subst, arith, below_more, Option, Some}
+use Rattle.std.proofs.Common.{◌↔◌, ◌≡◌, ℕ, ◌+◌, ◌<◌, ◌≤◌, ◌⊎◌, inl, inr, List, [], ◌∷◌, ◌++◌, Bool, length, get_or, refl, ap, sym, ◌∙◌, subst, arith, below_more}
 use Rattle.std.specs.List.{Contains}
-use Rattle.std.proofs.lemmas.List.{length-set, length-replicate, get_or-set_same}
+use Rattle.std.proofs.lemmas.Bool.{cases_eq}
+use Rattle.std.proofs.lemmas.List.{get_or_default}
 use Rattle.std.proofs.lemmas.List.Elements.{Contains-push, Contains-push_cases, Contains-append_left}
 use Rattle.go_grid.specs.declared.grid.Colour.{Colour}
 use Rattle.go_grid.specs.Chain.{IsSettled}
-use Rattle.go_grid.specs.Grid.{Grid, HasStone, IsEmpty, Lacks}
-use Rattle.go_grid.specs.Marks.{IsMarked}
+use Rattle.go_grid.specs.Grid.{Grid, AreAround, HasStone, IsEmpty, Lacks}
+use Rattle.go_grid.specs.Marks.{IsMarked, Marks}
 use Rattle.go_grid.specs.Parts.{label}
-use Rattle.go_grid.proofs.FillLemmas.{none_marked, set_cases, set_kept}
 use Rattle.go_grid.proofs.WalkLemmas.{joined_back}
 use Rattle.benson_life.specs.declared.eyes.Eye.{Eye}
 use Rattle.benson_life.specs.declared.surveys.Survey.{Survey}
-use Rattle.benson_life.specs.Eyes.{AreEyes, HasTwoWalledEyes, HasWalledEye, IsOfChain, IsVitalPair}
+use Rattle.benson_life.specs.Eyes.{AreEyes, HasTwoWalledEyes, HasWalledEye, IsOfChain, IsPairOf, IsVitalPair}
 use Rattle.benson_life.specs.Life.{HasTwoEyes, IsEye, IsWalledBy, IsVital}
 use Rattle.benson_life.specs.Survey.{IsSurvey}
 use Rattle.benson_life.proofs.StandLemmas.{region_empty}
 use Rattle.benson_life.proofs.PartsLemmas.{label_in, label_own}
-use Rattle.benson_life.proofs.SurveyLemmas.{HasOfChain, empty_lacks, region_of, vital_at, liberty_is}
+use Rattle.benson_life.proofs.SurveyLemmas.{empty_lacks, region_of, vital_at, liberty_is}
+
+-- the lists differ by the pairs of the region of `p` and the chains of the first `n` points
+abbrev pub AddsBelow : Grid → Colour → Survey → List Eye → List Eye → ℕ → List ℕ → ℕ → Type 0
+AddsBelow g c s old new p near n = (e : Eye)
+    → Contains new e ↔ (Contains old e ⊎ ((i : ℕ) × (i < n) × IsPairOf g c s p (get_or near i 0) e))
 
 module _ (g : Grid) (c : Colour) (s : Survey) (is : IsSurvey g c s) where
   -- an eye is listed under the names of its region and of the stone's chain
@@ -79,133 +84,133 @@ module _ (g : Grid) (c : Colour) (s : Survey) (is : IsSurvey g c s) where
       λ h. (label s.chains h.0, (eye_is h.0 p (stones h.0 h.1) lacks).1 h.2, whole h.0 h.1),
     )
 
-  -- what is added of the region of an empty point `p` and the chain of a neighbour, if that is a stone
-  abbrev pub Adds : List Eye → List Eye → ℕ → Option ℕ → Type 0
-  Adds old new p near = (e : Eye) → Contains new e ↔ (Contains old e ⊎ (IsVitalPair g c s e × (e.region ≡ label s.regions p) × IsOfChain s e.chain near))
+  -- the lists differ by the pair of the region of `p` and the chain of `q`, if that is a stone and the region vital to it
+  abbrev pub Adds : List Eye → List Eye → ℕ → ℕ → Type 0
+  Adds old new p q = (e : Eye) → Contains new e ↔ (Contains old e ⊎ IsPairOf g c s p q e)
 
-  pub one_eye : (old more : List Eye) (p q x y : ℕ) (near : Option ℕ) → near ≡ Some q → x ≡ p → y ≡ q → IsEmpty g p → IsMarked s.stones y
-      → IsVital g c (label s.regions x) (label s.chains y)
-      → more ≡ old ++ record { region = label s.regions x; chain = label s.chains y } ∷ [] → Adds old more p near
-  one_eye old more p q x y near is' ex ey empty m vital e' e =
-      let region = label s.regions x in
-      let chain = label s.chains y in
+  pub one_eye : (old more : List Eye) (p q : ℕ) → IsEmpty g p → IsMarked s.stones q → IsVital g c (label s.regions p) (label s.chains q)
+      → more ≡ old ++ record { region = label s.regions p; chain = label s.chains q } ∷ [] → Adds old more p q
+  one_eye old more p q empty m vital e' e =
+      let region = label s.regions p in
+      let chain = label s.chains q in
       let new : Eye = record { region = region; chain = chain } in
-      let lacks : Lacks g c x = rw ex (empty_lacks g c p empty) in
-      let stone = (is.stones y).0 m in
+      let lacks = empty_lacks g c p empty in
+      let stone = (is.stones q).0 m in
       let pair : IsVitalPair g c s new = record {
-        lacks = label_in g.columns (Lacks g c) s.regions x is.regions lacks;
-        stone = label_in g.columns (HasStone g c) s.chains y is.chains stone;
-        region = label_own g.columns (Lacks g c) s.regions x is.regions lacks;
-        chain = label_own g.columns (HasStone g c) s.chains y is.chains stone;
+        lacks = label_in g.columns (Lacks g c) s.regions p is.regions lacks;
+        stone = label_in g.columns (HasStone g c) s.chains q is.chains stone;
+        region = label_own g.columns (Lacks g c) s.regions p is.regions lacks;
+        chain = label_own g.columns (HasStone g c) s.chains q is.chains stone;
         vital = vital;
-      } in
-      let of : IsOfChain s chain near = rw (is', ← ey) (m, refl) in (
-        λ h. elim (Contains-push_cases old new e (rw e' at h)) [
+      } in (
+        λ h. elim (Contains-push_cases old new e (rw e' at h)) as (λ _. Contains old e ⊎ IsPairOf g c s p q e) [
           | inl in' ↦ inl in'
-          | inr same ↦ inr (subst (λ z. IsVitalPair g c s z × (z.region ≡ label s.regions p) × IsOfChain s z.chain near) same
-              (pair, ap (label s.regions) ex, of))
+          | inr same ↦ inr (subst (IsPairOf g c s p q) same (pair, refl, (m, refl)))
         ],
         λ h. rw e' (elim h as (λ _. Contains (old ++ new ∷ []) e) [
           | inl in' ↦ Contains-append_left old (new ∷ []) e in'
-          | inr h' ↦
-              let named = rw is' at h'.2 in
-              subst (Contains (old ++ new ∷ []))
-              (same_eye region chain e (h'.1 ∙ sym (ap (label s.regions) ex)) (ap (label s.chains) ey ∙ named.1)) (Contains-push old new)
+          | inr h' ↦ subst (Contains (old ++ new ∷ [])) (same_eye region chain e h'.1 h'.2.1) (Contains-push old new)
         ]),
       )
     where
       same_eye : (r k : ℕ) (e : Eye) → e.region ≡ r → k ≡ e.chain → record { region = r; chain = k } ≡ e
       same_eye r k e a b = rw (← a, b) refl
 
-  pub no_eye : (old : List Eye) (p q x y : ℕ) (near : Option ℕ) → near ≡ Some q → x ≡ p → y ≡ q
-      → ¬ IsVital g c (label s.regions x) (label s.chains y) → Adds old old p near
-  no_eye old p q x y near is' ex ey none e = (
+  pub no_eye : (old : List Eye) (p q : ℕ) → (IsMarked s.stones q → ¬ IsVital g c (label s.regions p) (label s.chains q)) → Adds old old p q
+  no_eye old p q none e = (
     inl,
-    λ h. elim h [
+    λ h. elim h as (λ _. Contains old e) [
       | inl in' ↦ in'
-      | inr h' ↦
-          let named = rw is' at h'.2 in
-          let same : e.region ≡ label s.regions x = h'.1 ∙ sym (ap (label s.regions) ex) in
-          let chain : e.chain ≡ label s.chains y = sym (ap (label s.chains) ey ∙ named.1) in
-          absurd (none (rw (← same, ← chain) h'.0.vital))
+      | inr h' ↦ absurd (none h'.2.0 (rw (← h'.1, h'.2.1) h'.0.vital))
     ],
   )
 
-  -- the chains next to one of its empty points are all to which a region can be vital
-  pub four_eyes : (old a b d more : List Eye) (p : ℕ) (u l r w : Option ℕ) → Adds old a p u → Adds a b p l
-      → Adds b d p r → Adds d more p w → IsEmpty g p
-      → ((k : ℕ) → (IsOfChain s k u ⊎ (IsOfChain s k l ⊎ (IsOfChain s k r ⊎ IsOfChain s k w))) ↔ HasOfChain g.columns s k p) → (e : Eye)
-      → Contains more e ↔ (Contains old e ⊎ (IsVitalPair g c s e × (e.region ≡ label s.regions p)))
-  four_eyes old a b d more p u l r w i j k m empty all e = (there, λ h. elim h [ inl in' ↦ on (inl in') | inr v ↦ back v.0 v.1 ])
-    where
-      there : Contains more e → Contains old e ⊎ (IsVitalPair g c s e × (e.region ≡ label s.regions p))
-      there h = elim ((m e).0 h) [
-        | inr v ↦ inr (v.0, v.1)
-        | inl h ↦ elim ((k e).0 h) [
-          | inr v ↦ inr (v.0, v.1)
-          | inl h ↦ elim ((j e).0 h) [
-            | inr v ↦ inr (v.0, v.1)
-            | inl h ↦ elim ((i e).0 h) [ inr v ↦ inr (v.0, v.1) | inl h ↦ inl h ]
-          ]
-        ]
+  pub adds_start : (old : List Eye) (p : ℕ) (near : List ℕ) → AddsBelow g c s old old p near 0
+  adds_start old p near e = (inl, λ h. elim h as (λ _. Contains old e) [ inl in' ↦ in' | inr t ↦ absurd (omega (arith, t.1)) ])
+
+  pub adds_next : (old now more : List Eye) (p q : ℕ) (near : List ℕ) (n : ℕ) → AddsBelow g c s old now p near n → q ≡ get_or near n 0
+      → Adds now more p q → AddsBelow g c s old more p near (n + 1)
+  adds_next old now more p q near n below at adds e = (
+    λ h. elim ((adds e).0 h) as (λ _. Contains old e ⊎ ((i : ℕ) × (i < n + 1) × IsPairOf g c s p (get_or near i 0) e)) [
+      | inl in' ↦ elim ((below e).0 in') as (λ _. Contains old e ⊎ ((i : ℕ) × (i < n + 1) × IsPairOf g c s p (get_or near i 0) e)) [
+        | inl o ↦ inl o
+        | inr t ↦ inr (t.0, omega (arith, t.1), t.2)
       ]
+      | inr v ↦ inr (n, omega arith, subst (λ x. IsPairOf g c s p x e) at v)
+    ],
+    λ h. (adds e).1 (elim h as (λ _. Contains now e ⊎ IsPairOf g c s p q e) [
+      | inl o ↦ inl ((below e).1 (inl o))
+      | inr t ↦ elim (cases_eq t.0 n) as (λ _. Contains now e ⊎ IsPairOf g c s p q e) [
+        | inl k ↦ inr (subst (λ x. IsPairOf g c s p x e) (ap (λ i. get_or near i 0) k ∙ sym at) t.2)
+        | inr ne ↦ inl ((below e).1 (inr (t.0, omega (arith, t.1, ne), t.2)))
+      ]
+    ]),
+  )
 
-      on : (Contains old e ⊎ (IsVitalPair g c s e × (e.region ≡ label s.regions p) × IsOfChain s e.chain u)) → Contains more e
-      on h = (m e).1 (inl ((k e).1 (inl ((j e).1 (inl ((i e).1 h))))))
-
+  -- the chains next to one of its empty points are all to which a region can be vital
+  pub adds_all : (old more : List Eye) (p area n : ℕ) (near : List ℕ) → AddsBelow g c s old more p near n → length near ≤ n → IsEmpty g p
+      → AreAround g.columns area p near → length g.cells ≤ area → (e : Eye)
+      → Contains more e ↔ (Contains old e ⊎ (IsVitalPair g c s e × (e.region ≡ label s.regions p)))
+  adds_all old more p area n near below le empty around long e = (
+    λ h. elim ((below e).0 h) as (λ _. Contains old e ⊎ (IsVitalPair g c s e × (e.region ≡ label s.regions p))) [
+      | inl o ↦ inl o
+      | inr t ↦ inr (t.2.0, t.2.1)
+    ],
+    λ h. elim h as (λ _. Contains more e) [ inl o ↦ (below e).1 (inl o) | inr v ↦ back v.0 v.1 ],
+  )
+    where
       back : IsVitalPair g c s e → e.region ≡ label s.regions p → Contains more e
       back pair f =
           let in' = region_of g c s is e.region p pair.lacks (empty_lacks g c p empty) (pair.region ∙ f) in
-          elim ((all e.chain).1 ((liberty_is g c s is e.chain p pair.stone pair.chain empty).1 (pair.vital p in' empty))) [
-            | inl h ↦ on (inr (pair, f, h))
-            | inr (inl h) ↦ (m e).1 (inl ((k e).1 (inl ((j e).1 (inr (pair, f, h))))))
-            | inr (inr (inl h)) ↦ (m e).1 (inl ((k e).1 (inr (pair, f, h))))
-            | inr (inr (inr h)) ↦ (m e).1 (inr (pair, f, h))
-          ]
+          let (q, next, of) = (liberty_is g c s is e.chain p pair.stone pair.chain empty).1 (pair.vital p in' empty) in
+          let at = (around q).1 (let on = ((is.stones q).0 of.0).0 in omega (arith, on, long), next) in
+          (below e).1 (inr (
+            at.0,
+            omega (arith, at.1, le),
+            (
+              pair,
+              f,
+              subst (IsOfChain s e.chain) (sym (get_or_default near at.0 0 q at.1 ∙ at.2)) of,
+            ),
+          ))
 
 module _ (g : Grid) (c : Colour) (s : Survey) where
   -- the eyes of the regions that are seen, which are those of the empty points below `n`
   pub record Gathering (eyes : List Eye) (seen : List Bool) (n : ℕ) : Type 0 where
-    pub long : length seen ≡ 625
     pub exact : (e : Eye) → Contains eyes e ↔ (IsVitalPair g c s e × IsMarked seen e.region)
     pub every : (p : ℕ) → p < n → IsEmpty g p → IsMarked seen (label s.regions p)
 
-  pub gather_start : (seen : List Bool) → seen ≡ replicate 625 false → Gathering [] seen 0
-  gather_start seen e = record {
-    long = ap length e ∙ length-replicate 625 false;
-    exact = λ x. (λ h. absurd (omega (arith, h.1)), λ h. absurd (none_marked 625 x.region (rw e at h.1)));
+  pub gather_start : (seen : List Bool) → Marks seen (λ _. ⊥) → Gathering [] seen 0
+  gather_start seen none = record {
+    exact = λ x. (λ h. absurd (omega (arith, h.1)), λ h. absurd ((none x.region).0 h.1));
     every = λ p lt. absurd (omega arith);
   }
 
   pub gather_skip : (eyes : List Eye) (seen : List Bool) (n : ℕ) → Gathering eyes seen n → (IsEmpty g n → IsMarked seen (label s.regions n))
       → Gathering eyes seen (n + 1)
   gather_skip eyes seen n w here = record {
-    long = w.long;
     exact = w.exact;
     every = below_more (λ p. IsEmpty g p → IsMarked seen (label s.regions p)) n w.every here;
   }
 
-  pub gather_more : (eyes more : List Eye) (seen : List Bool) (n x : ℕ) → Gathering eyes seen n → x ≡ label s.regions n → x < 625
+  pub gather_more : (eyes more : List Eye) (seen new : List Bool) (n : ℕ) → Gathering eyes seen n
+      → Marks new (λ q. IsMarked seen q ⊎ (q ≡ label s.regions n))
       → ((e : Eye) → Contains more e ↔ (Contains eyes e ⊎ (IsVitalPair g c s e × (e.region ≡ label s.regions n))))
-      → Gathering more (set seen x true) (n + 1)
-  gather_more eyes more seen n x w at lt adds =
-      let short : x < length seen = omega (arith, w.long) in
-      let here : IsMarked (set seen x true) (label s.regions n) = subst (IsMarked (set seen x true)) at (get_or-set_same seen x true false short) in
-      record {
-        long = length-set seen x true ∙ w.long;
-        exact = λ e. (
-          λ h. elim ((adds e).0 h) [
-            | inl old ↦ let v = (w.exact e).0 old in (v.0, set_kept seen x e.region short v.1)
-            | inr new ↦ (new.0, subst (IsMarked (set seen x true)) (sym new.1) here)
-          ],
-          λ h. (adds e).1 (elim (set_cases seen x e.region h.1) [
-            | inl k ↦ inr (h.0, k ∙ at)
-            | inr old ↦ inl ((w.exact e).1 (h.0, old))
-          ]),
-        );
-        every = below_more (λ p. IsEmpty g p → IsMarked (set seen x true) (label s.regions p)) n
-            (λ p lt' empty. set_kept seen x (label s.regions p) short (w.every p lt' empty)) (λ _. here);
-      }
+      → Gathering more new (n + 1)
+  gather_more eyes more seen new n w is adds = record {
+    exact = λ e. (
+      λ h. elim ((adds e).0 h) [
+        | inl old ↦ let v = (w.exact e).0 old in (v.0, (is e.region).1 (inl v.1))
+        | inr k ↦ (k.0, (is e.region).1 (inr k.1))
+      ],
+      λ h. (adds e).1 (elim ((is e.region).0 h.1) [
+        | inl old ↦ inl ((w.exact e).1 (h.0, old))
+        | inr k ↦ inr (h.0, k)
+      ]),
+    );
+    every = below_more (λ p. IsEmpty g p → IsMarked new (label s.regions p)) n
+        (λ p lt' empty. (is (label s.regions p)).1 (inl (w.every p lt' empty))) (λ _. (is (label s.regions n)).1 (inr refl));
+  }
 
   pub gather_end : (eyes : List Eye) (seen : List Bool) (n : ℕ) → IsSurvey g c s → IsSettled g → Gathering eyes seen n → length g.cells ≤ n
       → AreEyes g c s eyes

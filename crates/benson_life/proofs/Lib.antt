@@ -1,5 +1,5 @@
 pub mod StandLemmas
-pub mod NotingLemmas
+pub mod CountLemmas
 pub mod PartsLemmas
 pub mod SurveyLemmas
 pub mod EyesLemmas

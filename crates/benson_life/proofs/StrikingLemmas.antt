@@ -1,5 +1,5 @@
 -- Striking out.
-use Rattle.std.proofs.Common.{ℕ, List, Bool}
+use Rattle.std.proofs.Common.{ℕ, ◌↔◌, List, Bool}
 use Rattle.std.specs.List.{Contains}
 use Rattle.go_grid.specs.declared.grid.Colour.{Colour}
 use Rattle.go_grid.specs.Chain.{InChain}
@@ -55,42 +55,56 @@ may_next g c kept left w is =
           (w.healthy T good s in', eyes_more g c (Contains T) (IsMarked kept) (w.healthy T good) s (good.eyes s in'));
     }
 
--- when nothing more is struck out, what is kept is the largest healthy list
-pub kept_largest : (g : Grid) (c : Colour) (kept left : List Bool) (S : List ℕ) → MayBeAlive g c kept
+-- when nothing more is struck out, what is kept is alive
+pub kept_alive : (g : Grid) (c : Colour) (kept left : List Bool) → MayBeAlive g c kept
     → Marks left (λ s. IsMarked kept s × HasTwoEyes g c (IsMarked kept) s) → ((p : ℕ) → IsMarked kept p → IsMarked left p)
-    → Lists S (IsMarked kept) → IsLargestHealthy g c S
-kept_largest g c kept left S w is all lists = record {
-  healthy = record {
-    stones = λ s in'. w.stones s ((lists.exact s).0 in');
-    whole = λ s t in' j.
-        let two = eyes s ((lists.exact s).0 in') in
-        (lists.exact t).1 (w.eyed t (joined_end g.columns (HasStone g c) s t j) (
-          two.0,
-          two.1,
-          eye_chain g c (IsMarked kept) s t two.0 j two.2,
-          eye_chain g c (IsMarked kept) s t two.1 j two.3,
-          two.4,
-        ));
-    eyes = λ s in'. eyes_more g c (IsMarked kept) (Contains S) (λ x. (lists.exact x).1) s (eyes s ((lists.exact s).0 in'));
-  };
-  largest = λ T good s in'. (lists.exact s).1 (w.healthy T good s in');
-}
+    → (S : List ℕ) → ((s : ℕ) → Contains S s ↔ IsMarked kept s) → Marks kept (IsAlive g c)
+kept_alive g c kept left w is all S lists s = (λ m. (S, healthy, (lists s).1 m), λ a. w.healthy a.0 a.1 s a.2)
   where
     eyes : (s : ℕ) → IsMarked kept s → HasTwoEyes g c (IsMarked kept) s
     eyes s m = ((is s).0 (all s m)).1
 
--- the points of walled eyes of kept stones are the counted ones
-pub counted_same : (g : Grid) (c : Colour) (alive : List ℕ) (kept found : List Bool) → IsLargestHealthy g c alive
-    → Marks kept (Contains alive)
-    → Marks found (λ p. Lacks g c p × ((s : ℕ) × IsMarked kept s × IsEye g c (IsMarked kept) s p))
-    → Marks found (IsCounted g c)
-counted_same g c alive kept found w isk isf p = (
-  λ m. let h = ((isf p).0 m).1 in (h.0, on h.0 h.1, eye_more g c (IsMarked kept) (IsAlive g c) on h.0 p h.2),
-  λ h. (isf p).1 (h.2.lacks, (h.0, off h.0 h.1, eye_more g c (IsAlive g c) (IsMarked kept) off h.0 p h.2)),
-)
-  where
-    on : (s : ℕ) → IsMarked kept s → IsAlive g c s
-    on s m = (alive, w.healthy, (isk s).0 m)
+    healthy : IsHealthy g c S
+    healthy = record {
+      stones = λ s in'. w.stones s ((lists s).0 in');
+      whole = λ s t in' j.
+          let two = eyes s ((lists s).0 in') in
+          (lists t).1 (w.eyed t (joined_end g.columns (HasStone g c) s t j) (
+            two.0,
+            two.1,
+            eye_chain g c (IsMarked kept) s t two.0 j two.2,
+            eye_chain g c (IsMarked kept) s t two.1 j two.3,
+            two.4,
+          ));
+      eyes = λ s in'. eyes_more g c (IsMarked kept) (Contains S) (λ x. (lists x).1) s (eyes s ((lists s).0 in'));
+    }
 
-    off : (s : ℕ) → IsAlive g c s → IsMarked kept s
-    off s a = (isk s).1 (w.largest a.0 a.1 s a.2)
+pub alive_stone : (g : Grid) (c : Colour) (s : ℕ) → IsAlive g c s → HasStone g c s
+alive_stone g c s a = a.1.stones s a.2
+
+pub alive_whole : (g : Grid) (c : Colour) (s t : ℕ) → IsAlive g c s → InChain g c s t → IsAlive g c t
+alive_whole g c s t a j = (a.0, a.1, a.1.whole s t a.2 j)
+
+-- all that is alive is the largest healthy list
+pub alive_largest : (g : Grid) (c : Colour) (S : List ℕ) → Lists S (IsAlive g c) → IsLargestHealthy g c S
+alive_largest g c S lists = record {
+  healthy = record {
+    stones = λ s in'. alive_stone g c s ((lists.exact s).0 in');
+    whole = λ s t in' j. (lists.exact t).1 (alive_whole g c s t ((lists.exact s).0 in') j);
+    eyes = λ s in'.
+        let a = (lists.exact s).0 in' in
+        eyes_more g c (Contains a.0) (Contains S) (λ t k. (lists.exact t).1 (a.0, a.1, k)) s (a.1.eyes s a.2);
+  };
+  largest = λ T good s in'. (lists.exact s).1 (T, good, in');
+}
+
+-- the points of walled eyes of alive stones are the counted ones
+pub counted_same : (g : Grid) (c : Colour) (alive found : List Bool) → Marks alive (IsAlive g c)
+    → Marks found (λ p. Lacks g c p × ((s : ℕ) × IsMarked alive s × IsEye g c (IsMarked alive) s p))
+    → Marks found (IsCounted g c)
+counted_same g c alive found isa isf p = (
+  λ m.
+      let h = ((isf p).0 m).1 in
+      (h.0, (isa h.0).0 h.1, eye_more g c (IsMarked alive) (IsAlive g c) (λ s. (isa s).0) h.0 p h.2),
+  λ h. (isf p).1 (h.2.lacks, (h.0, (isa h.0).1 h.1, eye_more g c (IsAlive g c) (IsMarked alive) (λ s. (isa s).1) h.0 p h.2)),
+)

@@ -1,13 +1,12 @@
 -- Regions, chains and walls by their labels.
-use Rattle.std.proofs.Common.{◌↔◌, ◌≡◌, ℕ, ◌+◌, ◌-◌, ◌%◌, ◌<◌, ◌≤◌, ◌⊎◌, inl, inr, List, Bool, true, false, get_or, ◌||◌, refl, sym, ◌∙◌, arith, Option, Some, None}
+use Rattle.std.proofs.Common.{◌↔◌, ◌≡◌, ℕ, inl, inr, List, Bool, false, get_or, sym, ◌∙◌}
 use Rattle.std.proofs.lemmas.Bool.{cases_Bool, both_ways}
-use Rattle.std.specs.Option.{SomeIff}
 use Rattle.go_grid.specs.declared.grid.Colour.{Colour}
 use Rattle.go_grid.specs.Chain.{InChain, IsLiberty}
 use Rattle.go_grid.specs.Grid.{Grid, NextTo, HasStone, IsEmpty, Lacks}
 use Rattle.go_grid.specs.Marks.{IsMarked, Marks, Touches}
 use Rattle.go_grid.specs.Parts.{label}
-use Rattle.go_grid.proofs.NearLemmas.{next_back, next_up, next_down, next_left, next_right, one_of_four, IsOneOf, up, left, right, down}
+use Rattle.go_grid.proofs.NearLemmas.{next_back}
 use Rattle.go_grid.proofs.WalkLemmas.{joined_back, joined_end, joined_join}
 use Rattle.benson_life.specs.declared.surveys.Survey.{Survey}
 use Rattle.benson_life.specs.Eyes.{IsOfChain}
@@ -18,53 +17,7 @@ use Rattle.benson_life.proofs.StandLemmas.{empty_not_stone}
 
 -- a stone of the chain that `k` names is next to `p`
 abbrev pub HasOfChain : ℕ → Survey → ℕ → ℕ → Type 0
-HasOfChain columns s k p = (q : ℕ) × NextTo columns p q × IsMarked s.stones q × (label s.chains q ≡ k)
-
-here_some : (s : Survey) (k v : ℕ) (o : Option ℕ) (P : Type 0) → SomeIff o P v → P → IsMarked s.stones v → label s.chains v ≡ k → IsOfChain s k o
-here_some s k v None P iff p m e = absurd (iff p)
-here_some s k v (Some q) P iff p m e = rw iff.1 (m, e)
-
-from_some : (s : Survey) (k v : ℕ) (o : Option ℕ) (P : Type 0) → SomeIff o P v → IsOfChain s k o → P × IsMarked s.stones v × (label s.chains v ≡ k)
-from_some s k v None P iff h = absurd h
-from_some s k v (Some q) P iff h = (iff.0, rw (← iff.1) h.0, rw (← iff.1) h.1)
-
--- it is one of the four that are computed
-pub around : (c area p k : ℕ) (s : Survey) (u l r d : Option ℕ) → 0 < c → ((q : ℕ) → IsMarked s.stones q → q < area)
-    → SomeIff u (c ≤ p) (p - c) → SomeIff l (0 < p % c) (p - 1)
-    → SomeIff r (p % c + 1 < c) (p + 1) → SomeIff d (p + c < area) (p + c)
-    → (IsOfChain s k u ⊎ (IsOfChain s k l ⊎ (IsOfChain s k r ⊎ IsOfChain s k d))) ↔ HasOfChain c s k p
-around c area p k s u l r d pos inside su sl sr sd = (there, λ h. back h.0 h.2 h.3 (one_of_four c p h.0 pos h.1))
-  where
-    there : IsOfChain s k u ⊎ (IsOfChain s k l ⊎ (IsOfChain s k r ⊎ IsOfChain s k d)) → HasOfChain c s k p
-    there (inl h) = let w = from_some s k _ u _ su h in (p - c, next_up c p pos w.0, w.1, w.2)
-    there (inr (inl h)) = let w = from_some s k _ l _ sl h in (p - 1, next_left c p pos w.0, w.1, w.2)
-    there (inr (inr (inl h))) = let w = from_some s k _ r _ sr h in (p + 1, next_right c p pos w.0, w.1, w.2)
-    there (inr (inr (inr h))) = let w = from_some s k _ d _ sd h in (p + c, next_down c p pos, w.1, w.2)
-
-    back : (q : ℕ) → IsMarked s.stones q → label s.chains q ≡ k → IsOneOf c p q → IsOfChain s k u ⊎ (IsOfChain s k l ⊎ (IsOfChain s k r ⊎ IsOfChain s k d))
-    back q m e (up le f) = inl (here_some s k _ u _ su le (rw (← f) m) (rw (← f) e))
-    back q m e (left lt f) = inr (inl (here_some s k _ l _ sl lt (rw (← f) m) (rw (← f) e)))
-    back q m e (right lt f) = inr (inr (inl (here_some s k _ r _ sr lt (rw (← f) m) (rw (← f) e))))
-    back q m e (down f) =
-        let n : p + c < area = let lt : q < area = inside q m in omega arith in
-        inr (inr (inr (here_some s k _ d _ sd n (rw (← f) m) (rw (← f) e))))
-
--- four tests, one for each direction
-pub any_of_four : (s : Survey) (k : ℕ) (u l r d : Option ℕ) (bu bl br bd : Bool)
-    → (bu ≡ true) ↔ IsOfChain s k u → (bl ≡ true) ↔ IsOfChain s k l → (br ≡ true) ↔ IsOfChain s k r → (bd ≡ true) ↔ IsOfChain s k d
-    → ((bu || bl || br || bd) ≡ true) ↔ (IsOfChain s k u ⊎ (IsOfChain s k l ⊎ (IsOfChain s k r ⊎ IsOfChain s k d)))
-any_of_four s k u l r d true bl br bd iu il ir id = (λ _. inl (iu.0 refl), λ _. refl)
-any_of_four s k u l r d false true br bd iu il ir id = (λ _. inr (inl (il.0 refl)), λ _. refl)
-any_of_four s k u l r d false false true bd iu il ir id = (λ _. inr (inr (inl (ir.0 refl))), λ _. refl)
-any_of_four s k u l r d false false false bd iu il ir id = (
-  λ t. inr (inr (inr (id.0 t))),
-  λ h. elim h [
-    | inl x ↦ absurd (both_ways false refl (iu.1 x))
-    | inr (inl x) ↦ absurd (both_ways false refl (il.1 x))
-    | inr (inr (inl x)) ↦ absurd (both_ways false refl (ir.1 x))
-    | inr (inr (inr x)) ↦ id.1 x
-  ],
-)
+HasOfChain columns s k p = (q : ℕ) × NextTo columns p q × IsOfChain s k q
 
 module _ (g : Grid) (c : Colour) (s : Survey) (is : IsSurvey g c s) where
   -- points of one region have one label, and the other way
@@ -79,13 +32,15 @@ module _ (g : Grid) (c : Colour) (s : Survey) (is : IsSurvey g c s) where
   liberty_is k p stone named empty = (
     λ h. (
       empty,
-      (h.0, chain_of k h.0 stone ((is.stones h.0).0 h.2) (named ∙ sym h.3), next_back g.columns p h.0 h.1),
+      (h.0, chain_of k h.0 stone ((is.stones h.0).0 h.2.0) (named ∙ sym h.2.1), next_back g.columns p h.0 h.1),
     ),
     λ l. (
       l.1.0,
       next_back g.columns l.1.0 p l.1.2,
-      (is.stones l.1.0).1 (joined_end g.columns (HasStone g c) k l.1.0 l.1.1),
-      sym (is.chains.same k l.1.0 l.1.1) ∙ named,
+      (
+        (is.stones l.1.0).1 (joined_end g.columns (HasStone g c) k l.1.0 l.1.1),
+        sym (is.chains.same k l.1.0 l.1.1) ∙ named,
+      ),
     ),
   )
 

@@ -1,5 +1,5 @@
 -- Eyes: a region and a chain to which it is vital, each named by its lowest point.
-use Rattle.std.specs.Prelude.{◌≡◌, ◌≢◌, ◌↔◌, ℕ, List, Bool, Contains, Option, None, Some}
+use Rattle.std.specs.Prelude.{◌≡◌, ◌≢◌, ◌↔◌, ℕ, List, Bool, Contains}
 use Rattle.go_grid.specs.declared.grid.Colour.{Colour}
 use Rattle.go_grid.specs.Grid.{Grid, HasStone, Lacks}
 use Rattle.go_grid.specs.Marks.{IsMarked}
@@ -20,10 +20,13 @@ pub record IsVitalPair (g : Grid) (c : Colour) (s : Survey) (e : Eye) : Type 0 w
 abbrev pub AreEyes : Grid → Colour → Survey → List Eye → Type 0
 AreEyes g c s eyes = (e : Eye) → Contains eyes e ↔ IsVitalPair g c s e
 
--- the point is there, and a stone of the chain that `k` names
-abbrev pub IsOfChain : Survey → ℕ → Option ℕ → Type 0
-IsOfChain s k None = ⊥
-IsOfChain s k (Some q) = IsMarked s.stones q × (label s.chains q ≡ k)
+-- the point is a stone of the chain that `k` names
+abbrev pub IsOfChain : Survey → ℕ → ℕ → Type 0
+IsOfChain s k q = IsMarked s.stones q × (label s.chains q ≡ k)
+
+-- the pair is of the region of `p` and the chain of the stone `q`
+abbrev pub IsPairOf : Grid → Colour → Survey → ℕ → ℕ → Eye → Type 0
+IsPairOf g c s p q e = IsVitalPair g c s e × (e.region ≡ label s.regions p) × IsOfChain s e.chain q
 
 -- the region is listed for the chain, and its wall isn't breached
 abbrev pub HasWalledEye : List Eye → List Bool → ℕ → ℕ → Type 0

@@ -4,3 +4,4 @@ pub mod Eyes
 pub mod Held
 pub mod Region
 pub mod Walls
+pub mod Territory

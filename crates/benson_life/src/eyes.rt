@@ -1,57 +1,51 @@
 //! Regions that are vital to a chain.
 
-ghost use Rattle.std.specs.Prelude.{◌≡◌, ℕ, ◌<◌, ◌↔◌, ◌⊎◌, true, IfOk, IfSome, OnOk, Contains};
+ghost use Rattle.std.specs.Prelude.{◌≡◌, ℕ, ◌<◌, ◌↔◌, ◌⊎◌, true, IfOk, OnOk, Contains};
 ghost use Rattle.go_grid.specs.Chain.{IsLiberty, IsSettled};
 ghost use Rattle.go_grid.specs.Grid.{HasStone, IsEmpty, Lacks};
 ghost use Rattle.go_grid.specs.Parts.{label};
-ghost use Rattle.benson_life.specs.Eyes.{AreEyes, IsOfChain, IsVitalPair};
+ghost use Rattle.benson_life.specs.Eyes.{AreEyes, IsOfChain, IsPairOf, IsVitalPair};
 ghost use Rattle.benson_life.specs.Life.{IsVital};
 ghost use Rattle.benson_life.specs.Survey.{IsSurvey};
 
 use crate::surveys::Survey;
-use go_grid::{Board, Colour, Point, neighbours, unmarked};
+use go_grid::{Board, Colour, Point, Points, around, label_of};
 use std::alloc::{AllocError, Global};
 
 /// A region that is vital to a chain. Each is named by its lowest point.
 #[derive(Clone, Copy)]
-pub struct Eye {
-    pub region: u16,
-    pub chain: u16,
+pub(crate) struct Eye {
+    pub region: Point,
+    pub chain: Point,
 }
 
-/// Whether a point is there and is a stone of the chain.
-fn is_of_chain(survey: &Survey, chain: u16, near: Option<Point>) -> bool
-    requires { IfSome near (λ p. p < 625) }
-    ensures { (result ≡ true) ↔ IsOfChain survey.now chain near }
+/// Whether a point is a stone of the chain.
+fn is_of_chain(survey: &Survey, chain: Point, point: Point) -> bool
+    requires { point < 625 }
+    ensures { (result ≡ true) ↔ IsOfChain survey.now chain point }
 {
-    match near {
-        Some(point) => {
-            let place = usize::from(point.0);
-            survey.stones[place] && survey.chains[place] == chain
-        }
-        None => false,
-    }
+    survey.stones.contains(point) && label_of(&survey.chains, point).is(chain)
 }
 
 /// Whether an empty point is a liberty of the chain.
-fn is_liberty(board: &Board, colour: Colour, survey: &Survey, chain: u16, point: Point) -> bool
+fn is_liberty(board: &Board, colour: Colour, survey: &Survey, chain: Point, point: Point) -> bool
     requires survey { IsSurvey board.now colour survey.now }
     requires stone { HasStone board.now colour chain }
     requires named { label survey.now.chains chain ≡ chain }
     requires point { IsEmpty board.now point }
     ensures { (result ≡ true) ↔ IsLiberty board.now colour chain point }
 {
-    let size = board.size();
-    let near = neighbours(size, point);
-    let up = is_of_chain(survey, chain, near.up);
-    let left = is_of_chain(survey, chain, near.left);
-    let right = is_of_chain(survey, chain, near.right);
-    let down = is_of_chain(survey, chain, near.down);
-    up | left | right | down
+    let around = around(board.size(), point);
+    for near in around.as_slice() {
+        if is_of_chain(survey, chain, *near) {
+            return true;
+        }
+    }
+    false
 }
 
 /// Whether each empty point of the region is a liberty of the chain.
-fn is_vital(board: &Board, colour: Colour, survey: &Survey, region: u16, chain: u16) -> bool
+fn is_vital(board: &Board, colour: Colour, survey: &Survey, region: Point, chain: Point) -> bool
     requires survey { IsSurvey board.now colour survey.now }
     requires lacks { Lacks board.now colour region }
     requires region { label survey.now.regions region ≡ region }
@@ -60,10 +54,10 @@ fn is_vital(board: &Board, colour: Colour, survey: &Survey, region: u16, chain: 
     ensures { (result ≡ true) ↔ IsVital board.now colour region chain }
 {
     for number in 0..board.size().area() {
-        let place = usize::from(number);
-        if survey.empties[place]
-            && survey.regions[place] == region
-            && !is_liberty(board, colour, survey, chain, Point(number))
+        let point = Point(number);
+        if survey.empties.contains(point)
+            && label_of(&survey.regions, point).is(region)
+            && !is_liberty(board, colour, survey, chain, point)
         {
             return false;
         }
@@ -71,31 +65,28 @@ fn is_vital(board: &Board, colour: Colour, survey: &Survey, region: u16, chain: 
     true
 }
 
-/// Adds the region of an empty point with the chain of the stone at another point, where there is one and the
-/// region is vital to it.
+/// Adds the region of an empty point with the chain of another point, where that is a stone and the region is
+/// vital to its chain.
 fn add_eye(
     board: &Board,
     colour: Colour,
     survey: &Survey,
     point: Point,
-    near: Option<Point>,
+    near: Point,
     eyes: &mut Vec<Eye>,
 ) -> Result<(), AllocError>
     requires survey { IsSurvey board.now colour survey.now }
     requires point { IsEmpty board.now point }
-    requires near { IfSome near (λ p. p < 625) }
+    requires near { near < 625 }
     ensures { OnOk result ((e : Eye) → Contains eyes.new.items e
-        ↔ (Contains eyes.old.items e ⊎ (IsVitalPair board.now colour survey.now e
-        × (e.region ≡ label survey.now.regions point) × IsOfChain survey.now e.chain near))) }
+        ↔ (Contains eyes.old.items e ⊎ IsPairOf board.now colour survey.now point near e)) }
 {
-    let region = survey.regions[usize::from(point.0)];
-    if let Some(stone) = near {
-        let place = usize::from(stone.0);
-        if survey.stones[place] {
-            let chain = survey.chains[place];
-            if is_vital(board, colour, survey, region, chain) {
-                eyes.push(Eye { region, chain })?;
-            }
+    let _size = board.size();
+    if survey.stones.contains(near) {
+        let region = label_of(&survey.regions, point);
+        let chain = label_of(&survey.chains, near);
+        if is_vital(board, colour, survey, region, chain) {
+            eyes.push(Eye { region, chain })?;
         }
     }
     Ok(())
@@ -115,17 +106,16 @@ fn add_eyes(
         ↔ (Contains eyes.old.items e
         ⊎ (IsVitalPair board.now colour survey.now e × (e.region ≡ label survey.now.regions point)))) }
 {
-    let near = neighbours(board.size(), point);
-    add_eye(board, colour, survey, point, near.up, eyes)?;
-    add_eye(board, colour, survey, point, near.left, eyes)?;
-    add_eye(board, colour, survey, point, near.right, eyes)?;
-    add_eye(board, colour, survey, point, near.down, eyes)?;
+    let around = around(board.size(), point);
+    for near in around.as_slice() {
+        add_eye(board, colour, survey, point, *near, eyes)?;
+    }
     Ok(())
 }
 
 /// Each region of the colour with each chain to which it is vital. Since each region of a settled board
 /// has an empty point, only chains next to its first one are tried.
-pub fn all_eyes(
+pub(crate) fn all_eyes(
     alloc: Global,
     board: &Board,
     colour: Colour,
@@ -136,13 +126,13 @@ pub fn all_eyes(
     ensures { IfOk result (λ eyes. AreEyes board.now colour survey.now eyes.items) }
 {
     let mut eyes = Vec::new(alloc);
-    let mut seen = unmarked();
+    let mut seen = Points::new();
     for number in 0..board.size().area() {
-        let place = usize::from(number);
-        let region = usize::from(survey.regions[place]);
-        if survey.empties[place] && !seen[region] {
-            seen[region] = true;
-            add_eyes(board, colour, survey, Point(number), &mut eyes)?;
+        let point = Point(number);
+        let region = label_of(&survey.regions, point);
+        if survey.empties.contains(point) && !seen.contains(region) {
+            seen.insert(region);
+            add_eyes(board, colour, survey, point, &mut eyes)?;
         }
     }
     Ok(eyes)

@@ -2,8 +2,9 @@
 //! they count, and the points that stay contested.
 #![tactic(auto)]
 
-mod contest;
+mod counting;
 mod eyes;
+mod laws;
 mod striking;
 mod surveys;
 mod territory;
@@ -11,6 +12,6 @@ mod territory;
 mod tests;
 mod walls;
 
-pub use contest::contested;
-pub use striking::alive;
-pub use territory::{counted, held, marked};
+pub use counting::held;
+pub use laws::benson_law;
+pub use territory::{Life, Territory, alive, alive_set, contested, counted};

@@ -3,21 +3,21 @@
 ghost use Rattle.std.specs.Prelude.{◌*◌};
 ghost use Rattle.benson_life.specs.Survey.{IsSurvey};
 
-use go_grid::{Board, Colour, Labels, Marks, components};
+use go_grid::{Board, Colour, Labels, Points, components};
 
 /// A board as one colour sees it: its stones with their chains, the points without one of its stones
 /// with their regions, and the empty points. A chain or region is named by its lowest point.
 #[derive(Drop)]
-pub struct Survey {
-    pub stones: Marks,
-    pub lacking: Marks,
-    pub empties: Marks,
+pub(crate) struct Survey {
+    pub stones: Points,
+    pub lacking: Points,
+    pub empties: Points,
     pub chains: Labels,
     pub regions: Labels,
 }
 
 /// The chains and regions of the colour.
-pub fn survey_of(board: &Board, colour: Colour) -> Survey
+pub(crate) fn survey_of(board: &Board, colour: Colour) -> Survey
     ensures { IsSurvey board.now colour result }
 {
     let size = board.size();

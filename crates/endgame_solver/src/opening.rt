@@ -3,31 +3,33 @@
 ghost use Rattle.std.specs.Prelude.{◌≡◌, ℕ, ◌<◌, ◌≤◌, All, Contains, IfOk, length, replicate, slice_index, map};
 ghost use Rattle.go_grid.specs.Chain.{IsSettled};
 ghost use Rattle.go_grid.specs.Region.{Shape};
+ghost use Rattle.benson_life.specs.Territory.{IsTerritory};
 ghost use Rattle.region_cut.specs.LocalBoard.{PlaysLocally};
 ghost use Rattle.region_cut.specs.Cut.{AreRegionsOfPlay};
 ghost use Rattle.endgame_solver.specs.Solving.{FindsLarge};
 
-use benson_life::{alive, counted};
+use benson_life::Territory;
 use game_store::GameId;
-use go_grid::{Board, Colour, Point, Region};
+use go_grid::{Board, Point, Region};
 use local_value::Values;
-use region_cut::cut;
+use region_cut::cut_territory;
 use std::alloc::{AllocError, Global};
 
 /// How many points a region may have.
 const MOST_POINTS: usize = 32;
 
 /// The regions of play of a settled board, by lowest point.
-pub(crate) fn regions_of_play(alloc: Global, board: &Board) -> Result<Vec<Region>, AllocError>
-    requires { IsSettled board.now }
+pub(crate) fn regions_of_play(
+    alloc: Global,
+    board: &Board,
+    territory: &Territory,
+) -> Result<Vec<Region>, AllocError>
+    requires settled { IsSettled board.now }
+    requires territory { IsTerritory board.now territory.now }
     ensures regions { IfOk result (λ regions. AreRegionsOfPlay board.now regions.items) }
     ensures local { IfOk result (λ regions. (r : Shape) → Contains regions.items r → PlaysLocally board.now r) }
 {
-    let black = alive(alloc, board, Colour::Black)?;
-    let white = alive(alloc, board, Colour::White)?;
-    let black_counted = counted(alloc, board, Colour::Black, &black)?;
-    let white_counted = counted(alloc, board, Colour::White, &white)?;
-    cut(alloc, board, &black, &white, &black_counted, &white_counted)
+    cut_territory(alloc, board, territory)
 }
 
 /// The lowest point of the first region with more than 32 points, and the number of its points.

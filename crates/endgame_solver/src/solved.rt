@@ -19,6 +19,7 @@ use crate::limits::Limits;
 use crate::opening::{first_large, opening_places, opening_values, regions_of_play};
 use crate::solving::solve_regions;
 use crate::winning::{Present, balance_of, first_winning_move, stone_edge, value_at};
+use benson_life::Territory;
 use dyadic_num::Dyadic;
 use game_store::{GameId, Store};
 use go_grid::{Colour, Point, Region};
@@ -98,15 +99,17 @@ impl Solved {
     {
         let board = &setup.board;
         let _size = board.size();
-        let whole = Whole::opening(
+        let territory = Territory::of(alloc, board)?;
+        let whole = Whole::opening_with(
             alloc,
             board,
+            &territory,
             setup.black_prisoners,
             setup.white_prisoners,
             setup.komi_halves,
             setup.side,
         )?;
-        let regions = regions_of_play(alloc, board)?;
+        let regions = regions_of_play(alloc, board, &territory)?;
         if let Some((lowest, points)) = first_large(&regions) {
             return Err(SolveError::Points(lowest, points));
         }

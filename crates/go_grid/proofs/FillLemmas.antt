@@ -1,32 +1,17 @@
 -- One fill: a point is met, a point's neighbours are met, and what is met when none waits.
-use Rattle.std.proofs.Common.{◌≡◌, ◌≢◌, ℕ, ◌+◌, ◌-◌, ◌%◌, ◌<◌, ◌≤◌, ◌⊎◌, inl, inr, arith, List, Bool, true, false, length, get_or, cond, replicate, ◌∙◌, ap, set, below_more, sym, Option, Some, None, IfSome}
-use Rattle.std.specs.List.{count_by}
-use Rattle.std.specs.Option.{SomeIff}
-use Rattle.std.proofs.lemmas.Bool.{cases_eq, cases_lt, both_ways}
-use Rattle.std.proofs.lemmas.List.{length-set, get_or-set_same, get_or-set_other, get_or-replicate, get_or_past, length-replicate}
-use Rattle.std.proofs.lemmas.List.Sums.{sum_by-set, count_by-le-length}
+use Rattle.std.proofs.Common.{◌≡◌, ◌≢◌, ℕ, ◌+◌, ◌<◌, ◌≤◌, ◌⊎◌, inl, inr, arith, refl, List, Bool, length, get_or, ◌∙◌, set, below_more, sym, subst}
+use Rattle.std.specs.List.{Contains, count_by}
+use Rattle.std.proofs.lemmas.List.Elements.{Contains-get_or}
+use Rattle.std.proofs.lemmas.Bool.{cases_eq}
+use Rattle.std.proofs.lemmas.List.{get_or-set_same, get_or-set_other}
 use Rattle.go_grid.specs.declared.filling.Work.{Work}
 use Rattle.go_grid.specs.Grid.{NextTo}
 use Rattle.go_grid.specs.Walk.{Joined}
-use Rattle.go_grid.specs.Marks.{IsMarked, Touches, IsClosed, IsWithin, Marks}
+use Rattle.go_grid.specs.Marks.{IsMarked, Touches, IsClosed, Marks}
 use Rattle.go_grid.specs.Work.{IsListed, IsFilled, IsFilling}
-use Rattle.go_grid.proofs.NearLemmas.{next_back, next_up, next_left, next_right, next_down, one_of_four, IsOneOf, up, left, right, down}
-use Rattle.go_grid.proofs.WalkLemmas.{joined_here, joined_step, joined_back, carried}
-
--- a marked point of the marks after one is set
-pub set_cases : (marks : List Bool) (n p : ℕ) → IsMarked (set marks n true) p → (p ≡ n) ⊎ IsMarked marks p
-set_cases marks n p m = elim (cases_eq p n) [ inl e ↦ inl e | inr ne ↦ inr (rw get_or-set_other at m) ]
-
-pub set_kept : (marks : List Bool) (n p : ℕ) → n < length marks → IsMarked marks p → IsMarked (set marks n true) p
-set_kept marks n p lt m =
-    elim (cases_eq p n) [ inl e ↦ rw e (get_or-set_same marks n true false lt) | inr ne ↦ rw get_or-set_other m ]
-
--- no mark
-pub none_marked : (n p : ℕ) → IsMarked (replicate n false) p → ⊥
-none_marked n p m = elim (cases_lt p n) [
-  | inl lt ↦ both_ways _ (get_or-replicate n p false false lt) m
-  | inr le ↦ both_ways _ (get_or_past (replicate n false) p false (omega (arith, length-replicate n false))) m
-]
+use Rattle.go_grid.proofs.NearLemmas.{next_back}
+use Rattle.go_grid.proofs.PointsLemmas.{no_mark}
+use Rattle.go_grid.proofs.WalkLemmas.{joined_here, joined_back, carried}
 
 -- marks that are closed have each point that a walk reaches
 pub closed_all : (c : ℕ) (within marks : List Bool) → IsClosed c within marks → (start p : ℕ)
@@ -34,59 +19,43 @@ pub closed_all : (c : ℕ) (within marks : List Bool) → IsClosed c within mark
 closed_all c within marks closed start p first j =
     carried c (IsMarked within) (IsMarked marks) (λ x y m n h. closed y h (x, next_back c x y n, m)) start p first j
 
-pub count_set : (marks : List Bool) (n : ℕ) → n < length marks → get_or marks n false ≡ false
-    → count_by (λ m. m) (set marks n true) ≡ count_by (λ m. m) marks + 1
-count_set marks n lt off = let e = sum_by-set (λ m. cond m 1 0) marks n true false lt in omega (arith, rw off at e)
-
--- fewer are marked than there are marks, while one isn't
-pub count_below : (marks : List Bool) (n count : ℕ) → length marks ≡ 625 → n < 625 → get_or marks n false ≡ false
-    → count_by (λ m. m) marks ≡ count → count < 625
-count_below marks n count long lt off e =
-    let short : n < length marks = omega (arith, long) in
-    omega (arith, count_set marks n short off, count_by-le-length (λ (m : Bool). m) (set marks n true), length-set marks n true)
-
-pub count_most : (marks : List Bool) (count : ℕ) → length marks ≡ 625 → count_by (λ m. m) marks ≡ count → count ≤ 625
-count_most marks count long e = omega (arith, count_by-le-length (λ (m : Bool). m) marks)
-
 -- the work with one more point
-abbrev with_point : Work → ℕ → Work
-with_point w p = record { marks = set w.marks p true; points = set w.points w.count p; count = w.count + 1 }
+abbrev with_point : Work → List Bool → ℕ → Work
+with_point w marks p = record { marks = marks; points = set w.points w.count p; count = w.count + 1 }
 
-listed_more : (from p q : ℕ) (w : Work) → IsListed from w q → IsListed from (with_point w p) q
-listed_more from p q w l = let other : l.0 ≢ w.count = omega (arith, l.2) in (l.0, l.1, omega (arith, l.2), rw (get_or-set_other w.points w.count l.0 p 0 other) l.3)
+listed_more : (from p q : ℕ) (new : List Bool) (w : Work) → IsListed from w q → IsListed from (with_point w new p) q
+listed_more from p q new w l = let other : l.0 ≢ w.count = omega (arith, l.2) in (l.0, l.1, omega (arith, l.2), rw (get_or-set_other w.points w.count l.0 p 0 other) l.3)
 
 -- a point of the set is met
-pub filling_add : (c start from done p : ℕ) (within before : List Bool) (w : Work)
-    → length w.marks ≡ 625 → length w.points ≡ 625 → w.count < 625 → IsMarked within p → get_or w.marks p false ≡ false
-    → p < 625 → Joined c (IsMarked within) start p → from ≤ w.count → done ≤ w.count
-    → IsFilling c within before start from done w → IsFilling c within before start from done (with_point w p)
-filling_add c start from done p within before w long wide room in' off small j lf ld s =
-    let short : p < length w.marks = omega (arith, long) in
-    let fits : w.count < length w.points = omega (arith, wide) in
+pub filling_add : (c start from done p : ℕ) (within before new : List Bool) (w : Work) → w.count < length w.points → IsMarked within p
+    → Marks new (λ q. IsMarked w.marks q ⊎ (q ≡ p)) → count_by (λ m. m) new ≡ count_by (λ m. m) w.marks + 1 → w.count + 1 ≤ 625
+    → Joined c (IsMarked within) start p → from ≤ w.count → done ≤ w.count
+    → IsFilling c within before start from done w → IsFilling c within before start from done (with_point w new p)
+filling_add c start from done p within before new w fits in' is more most j lf ld s =
     let last : get_or (set w.points w.count p) w.count 0 ≡ p = get_or-set_same w.points w.count p 0 fits in
     record {
-      inside = λ q m. elim (set_cases w.marks p q m) as (λ _. IsMarked within q) [ inl e ↦ rw e in' | inr old ↦ s.inside q old ];
-      listed = λ i lt. elim (cases_eq i w.count) as (λ _. IsMarked (set w.marks p true) (get_or (set w.points w.count p) i 0)) [
-        | inl e ↦ rw (e, last) (get_or-set_same w.marks p true false short)
-        | inr ne ↦ rw (get_or-set_other w.points w.count i p 0 ne) (set_kept w.marks p (get_or w.points i 0) short (s.listed i (omega arith)))
+      inside = λ q m. elim ((is q).0 m) as (λ _. IsMarked within q) [ inl old ↦ s.inside q old | inr e ↦ rw e in' ];
+      listed = λ i lt. elim (cases_eq i w.count) as (λ _. IsMarked new (get_or (set w.points w.count p) i 0)) [
+        | inl e ↦ rw (e, last) ((is p).1 (inr refl))
+        | inr ne ↦ rw (get_or-set_other w.points w.count i p 0 ne) ((is (get_or w.points i 0)).1 (inl (s.listed i (omega arith))))
       ];
-      counted = omega (arith, count_set w.marks p short off, s.counted);
-      kept = λ q m. set_kept w.marks p q short (s.kept q m);
-      met = λ q m. elim (set_cases w.marks p q m)
-          as (λ _. IsMarked before q ⊎ (Joined c (IsMarked within) start q × IsListed from (with_point w p) q)) [
-            | inl e ↦ inr (rw e j, (w.count, lf, omega arith, last ∙ sym e))
-            | inr old ↦ elim (s.met q old) as (λ _. IsMarked before q ⊎ (Joined c (IsMarked within) start q × IsListed from (with_point w p) q)) [
-              | inl b ↦ inl b
-              | inr l ↦ inr (l.0, listed_more from p q w l.1)
-            ]
-          ];
+      counted = omega (arith, more, s.counted);
+      most = most;
+      kept = λ q m. (is q).1 (inl (s.kept q m));
+      met = λ q m. elim ((is q).0 m) as (λ _. IsMarked before q ⊎ (Joined c (IsMarked within) start q × IsListed from (with_point w new p) q)) [
+        | inl old ↦ elim (s.met q old) as (λ _. IsMarked before q ⊎ (Joined c (IsMarked within) start q × IsListed from (with_point w new p) q)) [
+          | inl b ↦ inl b
+          | inr l ↦ inr (l.0, listed_more from p q new w l.1)
+        ]
+        | inr e ↦ inr (rw e j, (w.count, lf, omega arith, last ∙ sym e))
+      ];
       earlier = λ i le lt. elim (cases_eq i w.count) as (λ _. Joined c (IsMarked within) start (get_or (set w.points w.count p) i 0)) [
         | inl e ↦ rw (e, last) j
         | inr ne ↦ rw (get_or-set_other w.points w.count i p 0 ne) (s.earlier i le (omega arith))
       ];
-      spread = λ q r m not next here. elim (set_cases w.marks p q m) as (λ _. IsMarked (set w.marks p true) r) [
-        | inl e ↦ absurd (not (w.count, ld, omega arith, last ∙ sym e))
-        | inr old ↦ set_kept w.marks p r short (s.spread q r old (λ l. not (listed_more done p q w l)) next here)
+      spread = λ q r m not next here. elim ((is q).0 m) as (λ _. IsMarked new r) [
+        | inl old ↦ (is r).1 (inl (s.spread q r old (λ l. not (listed_more done p q new w l)) next here))
+        | inr e ↦ absurd (not (w.count, ld, omega arith, last ∙ sym e))
       ];
     }
 
@@ -94,7 +63,6 @@ filling_add c start from done p within before w long wide room in' off small j l
 pub record Spreading (c : ℕ) (within : List Bool) (start : ℕ) (old w : Work) (done : ℕ) : Type 0 where
   pub filling : IsFilling c within old.marks start old.count done w
   pub first : IsMarked w.marks start
-  pub most : w.count ≤ 625
   pub begun : old.count ≤ done
   pub reached : done ≤ w.count
 
@@ -104,6 +72,7 @@ filling_start c start within w s = record {
   inside = s.inside;
   listed = s.listed;
   counted = s.counted;
+  most = s.most;
   kept = λ p m. m;
   met = λ p m. inl m;
   earlier = λ i le lt. absurd (omega arith);
@@ -118,6 +87,7 @@ filling_next c start from done within before w s near = record {
   inside = s.inside;
   listed = s.listed;
   counted = s.counted;
+  most = s.most;
   kept = s.kept;
   met = s.met;
   earlier = s.earlier;
@@ -130,69 +100,6 @@ filling_next c start from done within before w s near = record {
   ];
 }
 
--- a neighbour by its direction
-met_one : (within marks : List Bool) (o : Option ℕ) (P : Type 0) (v : ℕ) → SomeIff o P v
-    → IfSome o (λ q. IsMarked within q → IsMarked marks q) → P → IsMarked within v → IsMarked marks v
-met_one within marks None P v iff m here in' = absurd (iff here)
-met_one within marks (Some q) P v iff m here in' = rw (← iff.1) (m (rw iff.1 in'))
-
-pub near_met : (c area p q : ℕ) (within marks : List Bool) (u l r d : Option ℕ) → 0 < c → IsWithin area within
-    → SomeIff u (c ≤ p) (p - c) → SomeIff l (0 < p % c) (p - 1)
-    → SomeIff r (p % c + 1 < c) (p + 1) → SomeIff d (p + c < area) (p + c)
-    → IfSome u (λ q. IsMarked within q → IsMarked marks q) → IfSome l (λ q. IsMarked within q → IsMarked marks q)
-    → IfSome r (λ q. IsMarked within q → IsMarked marks q) → IfSome d (λ q. IsMarked within q → IsMarked marks q)
-    → NextTo c p q → IsMarked within q → IsMarked marks q
-near_met c area p q within marks u l r d pos inside su sl sr sd mu ml mr md next here = by (one_of_four c p q pos next)
-  where
-    by : IsOneOf c p q → IsMarked marks q
-    by (up le e) = rw e (met_one within marks u _ _ su mu le (rw e at here))
-    by (left lt e) = rw e (met_one within marks l _ _ sl ml lt (rw e at here))
-    by (right lt e) = rw e (met_one within marks r _ _ sr mr lt (rw e at here))
-    by (down e) = let low : p + c < area = let k : q < area = inside q here in omega arith in
-        rw e (met_one within marks d _ _ sd md low (rw e at here))
-
--- what is met stays met
-met_kept : (within marks more : List Bool) (o : Option ℕ) → ((p : ℕ) → IsMarked marks p → IsMarked more p)
-    → IfSome o (λ q. IsMarked within q → IsMarked marks q) → IfSome o (λ q. IsMarked within q → IsMarked more q)
-met_kept within marks more None kept m = m
-met_kept within marks more (Some q) kept m = λ h. kept q (m h)
-
-joined_one : (c p start v : ℕ) (within : List Bool) (o : Option ℕ) (P : Type 0) → SomeIff o P v → (P → NextTo c p v)
-    → Joined c (IsMarked within) start p → IfSome o (λ q. IsMarked within q → Joined c (IsMarked within) start q)
-joined_one c p start v within None P iff next j = tt
-joined_one c p start v within (Some q) P iff next j = λ h. joined_step c (IsMarked within) start p q j (rw iff.1 (next iff.0)) h
-
--- the neighbours of a point that is joined to the start, where the set has them
-pub record NearJoined (c start : ℕ) (within : List Bool) (u l r d : Option ℕ) : Type 0 where
-  pub up : IfSome u (λ q. IsMarked within q → Joined c (IsMarked within) start q)
-  pub left : IfSome l (λ q. IsMarked within q → Joined c (IsMarked within) start q)
-  pub right : IfSome r (λ q. IsMarked within q → Joined c (IsMarked within) start q)
-  pub down : IfSome d (λ q. IsMarked within q → Joined c (IsMarked within) start q)
-
-pub near_joined : (c area p start : ℕ) (within : List Bool) (u l r d : Option ℕ) → 0 < c
-    → SomeIff u (c ≤ p) (p - c) → SomeIff l (0 < p % c) (p - 1)
-    → SomeIff r (p % c + 1 < c) (p + 1) → SomeIff d (p + c < area) (p + c)
-    → Joined c (IsMarked within) start p → NearJoined c start within u l r d
-near_joined c area p start within u l r d pos su sl sr sd j = record {
-  up = joined_one c p start (p - c) within u (c ≤ p) su (next_up c p pos) j;
-  left = joined_one c p start (p - 1) within l (0 < p % c) sl (next_left c p pos) j;
-  right = joined_one c p start (p + 1) within r (p % c + 1 < c) sr (next_right c p pos) j;
-  down = joined_one c p start (p + c) within d (p + c < area) sd (λ _. next_down c p pos) j;
-}
-
--- the neighbours were met one after the other
-pub all_met : (within a b e f : List Bool) (u l r d : Option ℕ)
-    → ((p : ℕ) → IsMarked a p → IsMarked b p) → ((p : ℕ) → IsMarked b p → IsMarked e p) → ((p : ℕ) → IsMarked e p → IsMarked f p)
-    → IfSome u (λ q. IsMarked within q → IsMarked a q) → IfSome l (λ q. IsMarked within q → IsMarked b q)
-    → IfSome r (λ q. IsMarked within q → IsMarked e q)
-    → IfSome u (λ q. IsMarked within q → IsMarked f q) × IfSome l (λ q. IsMarked within q → IsMarked f q)
-    × IfSome r (λ q. IsMarked within q → IsMarked f q)
-all_met within a b e f u l r d ab be ef mu ml mr = (
-  met_kept within a f u (λ p m. ef p (be p (ab p m))) mu,
-  met_kept within b f l (λ p m. ef p (be p m)) ml,
-  met_kept within e f r ef mr,
-)
-
 -- no point waits
 pub filling_end : (c start from done : ℕ) (within before : List Bool) (w : Work) → IsFilling c within before start from done w
     → w.count ≤ done → IsFilled c within w
@@ -200,6 +107,7 @@ filling_end c start from done within before w s le = record {
   inside = s.inside;
   listed = s.listed;
   counted = s.counted;
+  most = s.most;
   closed = λ p here t. s.spread t.0 p t.2 (λ l. absurd (omega (arith, l.1, l.2))) (next_back c p t.0 t.1) here;
 }
 
@@ -225,12 +133,13 @@ spread_listed c start done within old w s le closed fresh p = (
 )
 
 -- nothing is met yet
-pub idle_filled : (c : ℕ) (within : List Bool) (w : Work) → w.marks ≡ replicate 625 false → w.count ≡ 0 → IsFilled c within w
+pub idle_filled : (c : ℕ) (within : List Bool) (w : Work) → Marks w.marks (λ _. ⊥) → w.count ≡ 0 → IsFilled c within w
 idle_filled c within w e z = record {
-  inside = λ p m. absurd (none_marked 625 p (rw e at m));
+  inside = λ p m. absurd ((e p).0 m);
   listed = λ i lt. absurd (omega arith);
-  counted = ap (count_by (λ m. m)) e ∙ sym z;
-  closed = λ p _ t. absurd (none_marked 625 t.0 (rw e at t.2));
+  counted = no_mark w.marks (λ p. (e p).0) ∙ sym z;
+  most = omega arith;
+  closed = λ p _ t. absurd ((e t.0).0 t.2);
 }
 
 -- a fill from each start below `number`
@@ -239,11 +148,11 @@ pub record FillingAll (c : ℕ) (within starts : List Bool) (w : Work) (number :
   pub met : (p : ℕ) → IsMarked w.marks p → (s : ℕ) × IsMarked starts s × Joined c (IsMarked within) s p
   pub all : (s : ℕ) → s < number → IsMarked starts s → IsMarked w.marks s
 
-pub all_start : (c : ℕ) (within starts : List Bool) (w : Work) → w.marks ≡ replicate 625 false → IsFilled c within w
+pub all_start : (c : ℕ) (within starts : List Bool) (w : Work) → Marks w.marks (λ _. ⊥) → IsFilled c within w
     → FillingAll c within starts w 0
 all_start c within starts w e f = record {
   filled = f;
-  met = λ p m. absurd (none_marked 625 p (rw e at m));
+  met = λ p m. absurd ((e p).0 m);
   all = λ s lt _. absurd (omega arith);
 }
 
@@ -277,11 +186,11 @@ all_end c within starts w n s inside p = (
 )
 
 -- one start
-pub part_marks : (c start : ℕ) (within : List Bool) (old w : Work) → old.marks ≡ replicate 625 false
+pub part_marks : (c start : ℕ) (within : List Bool) (old w : Work) → Marks old.marks (λ _. ⊥)
     → Marks w.marks (λ p. IsMarked old.marks p ⊎ Joined c (IsMarked within) start p) → Marks w.marks (Joined c (IsMarked within) start)
 part_marks c start within old w e is p = (
   λ m. elim ((is p).0 m) as (λ _. Joined c (IsMarked within) start p) [
-    | inl b ↦ absurd (none_marked 625 p (rw e at b))
+    | inl b ↦ absurd ((e p).0 b)
     | inr j ↦ j
   ],
   λ j. (is p).1 (inr j),
@@ -293,3 +202,34 @@ pub none_touches : (c start : ℕ) (within marks : List Bool) (w : Work)
     → ((i : ℕ) → i < w.count → ¬ Touches c marks (get_or w.points i 0))
     → ¬ ((p : ℕ) × Joined c (IsMarked within) start p × Touches c marks p)
 none_touches c start within marks w listed none t = let l = listed t.0 t.1 in none l.0 l.2 (rw (← l.3) at t.2)
+
+-- what holds when those of the first `number` points that the set has are met
+pub record Entering (within : List Bool) (old w : Work) (points : List ℕ) (number : ℕ) : Type 0 where
+  pub met : (i : ℕ) → i < number → IsMarked within (get_or points i 0) → IsMarked w.marks (get_or points i 0)
+  pub kept : (p : ℕ) → IsMarked old.marks p → IsMarked w.marks p
+  pub same : (i : ℕ) → i < old.count → get_or w.points i 0 ≡ get_or old.points i 0
+  pub more : old.count ≤ w.count
+  pub counted : count_by (λ m. m) w.marks ≡ w.count
+  pub under_way : (c start from done : ℕ) (before : List Bool)
+      → ((p : ℕ) → Contains points p → IsMarked within p → Joined c (IsMarked within) start p)
+      → from ≤ old.count → done ≤ old.count → IsFilling c within before start from done old → IsFilling c within before start from done w
+
+pub entering_next : (within : List Bool) (old w v : Work) (points : List ℕ) (p n : ℕ) → Entering within old w points n
+    → n < length points → p ≡ get_or points n 0
+    → (IsMarked within p → IsMarked v.marks p) → ((q : ℕ) → IsMarked w.marks q → IsMarked v.marks q)
+    → ((i : ℕ) → i < w.count → get_or v.points i 0 ≡ get_or w.points i 0) → w.count ≤ v.count → count_by (λ m. m) v.marks ≡ v.count
+    → ((c start from done : ℕ) (before : List Bool) → (IsMarked within p → Joined c (IsMarked within) start p)
+    → from ≤ w.count → done ≤ w.count → IsFilling c within before start from done w → IsFilling c within before start from done v)
+    → Entering within old v points (n + 1)
+entering_next within old w v points p n s lt at met kept same more counted way = record {
+  met = below_more (λ i. IsMarked within (get_or points i 0) → IsMarked v.marks (get_or points i 0)) n
+      (λ i lt' h. kept (get_or points i 0) (s.met i lt' h)) (subst (λ x. IsMarked within x → IsMarked v.marks x) at met);
+  kept = λ q m. kept q (s.kept q m);
+  same = λ i lt'. let r = s.more in same i (omega (arith, r, lt')) ∙ s.same i lt';
+  more = omega (arith, more, s.more);
+  counted = counted;
+  under_way = λ c start from done before j lf ld f.
+      let r = s.more in
+      way c start from done before (λ h. j p (subst (Contains points) (sym at) (Contains-get_or points n 0 lt)) h)
+      (omega (arith, lf, r)) (omega (arith, ld, r)) (s.under_way c start from done before j lf ld f);
+}

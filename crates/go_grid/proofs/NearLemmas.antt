@@ -1,5 +1,7 @@
 -- The neighbours that are computed are those that differ by one in exactly one of column and row.
-use Rattle.std.proofs.Common.{◌≡◌, ℕ, ◌+◌, ◌-◌, ◌*◌, ◌/◌, ◌%◌, ◌<◌, ◌≤◌, inl, inr, ap, sym, arith, Option, None, Some, ◌∙◌, ◌⊎◌}
+use Rattle.std.proofs.Common.{◌≡◌, ℕ, ◌+◌, ◌-◌, ◌*◌, ◌/◌, ◌%◌, ◌<◌, ◌≤◌, inl, inr, ap, sym, arith, Option, None, Some, ◌∙◌, ◌⊎◌, List, [], ◌∷◌, ◌++◌, ◌↔◌}
+use Rattle.std.specs.List.{Contains}
+use Rattle.std.proofs.lemmas.List.Elements.{Contains-push, Contains-push_cases, Contains-append_left}
 use Rattle.std.proofs.lemmas.Nat.{same_from_place, mod_below, div-add-mod', mul-add-lt, div_below}
 use Rattle.std.specs.Option.{SomeIff}
 use Rattle.go_grid.specs.Grid.{NextTo, IsAbove, IsLeftOf, IsThe, AreNear}
@@ -139,3 +141,40 @@ near_is c r p u l i d pos inside su sl si sd = record {
     named q lt (left h e) = inr (inl (some_at (p - 1) q (0 < p % c) l sl h e))
     named q lt (right h e) = inr (inr (inl (some_at (p + 1) q (p % c + 1 < c) i si h e)))
     named q lt (down e) = let room : p + c < c * r = omega arith in inr (inr (inr (some_at (p + c) q (p + c < c * r) d sd room e)))
+
+-- a list with one more point
+pub push_contains : (xs : List ℕ) (x q : ℕ) → Contains (xs ++ x ∷ []) q ↔ (Contains xs q ⊎ (Some x ≡ Some q))
+push_contains xs x q = (
+  λ h. elim (Contains-push_cases xs x q h) as (λ _. Contains xs q ⊎ (Some x ≡ Some q)) [ inl old ↦ inl old | inr e ↦ inr (ap Some e) ],
+  λ h. elim h as (λ _. Contains (xs ++ x ∷ []) q) [
+    | inl old ↦ Contains-append_left xs (x ∷ []) q old
+    | inr e ↦ let k : x ≡ q = cc in rw (← k) (Contains-push xs x)
+  ],
+)
+
+-- what four additions give
+pub four_added : (a b d e f : List ℕ) (u l r w : Option ℕ) → a ≡ []
+    → ((q : ℕ) → Contains b q ↔ (Contains a q ⊎ (u ≡ Some q))) → ((q : ℕ) → Contains d q ↔ (Contains b q ⊎ (l ≡ Some q)))
+    → ((q : ℕ) → Contains e q ↔ (Contains d q ⊎ (r ≡ Some q))) → ((q : ℕ) → Contains f q ↔ (Contains e q ⊎ (w ≡ Some q)))
+    → (q : ℕ) → Contains f q ↔ ((u ≡ Some q) ⊎ ((l ≡ Some q) ⊎ ((r ≡ Some q) ⊎ (w ≡ Some q))))
+four_added a b d e f u l r w none first second third last q = (
+  λ h. elim ((last q).0 h) as (λ _. (u ≡ Some q) ⊎ ((l ≡ Some q) ⊎ ((r ≡ Some q) ⊎ (w ≡ Some q)))) [
+    | inr k ↦ inr (inr (inr k))
+    | inl h ↦ elim ((third q).0 h) as (λ _. (u ≡ Some q) ⊎ ((l ≡ Some q) ⊎ ((r ≡ Some q) ⊎ (w ≡ Some q)))) [
+      | inr k ↦ inr (inr (inl k))
+      | inl h ↦ elim ((second q).0 h) as (λ _. (u ≡ Some q) ⊎ ((l ≡ Some q) ⊎ ((r ≡ Some q) ⊎ (w ≡ Some q)))) [
+        | inr k ↦ inr (inl k)
+        | inl h ↦ elim ((first q).0 h) as (λ _. (u ≡ Some q) ⊎ ((l ≡ Some q) ⊎ ((r ≡ Some q) ⊎ (w ≡ Some q)))) [
+          | inr k ↦ inl k
+          | inl h ↦ absurd (omega (arith, (rw none at h).1))
+        ]
+      ]
+    ]
+  ],
+  λ h. elim h as (λ _. Contains f q) [
+    | inl k ↦ (last q).1 (inl ((third q).1 (inl ((second q).1 (inl ((first q).1 (inr k)))))))
+    | inr (inl k) ↦ (last q).1 (inl ((third q).1 (inl ((second q).1 (inr k)))))
+    | inr (inr (inl k)) ↦ (last q).1 (inl ((third q).1 (inr k)))
+    | inr (inr (inr k)) ↦ (last q).1 (inr k)
+  ],
+)

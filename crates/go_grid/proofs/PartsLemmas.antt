@@ -1,39 +1,36 @@
 -- Labels of parts, part by part.
-use Rattle.std.proofs.Common.{◌≡◌, ℕ, ◌+◌, ◌<◌, ◌≤◌, ◌⊎◌, inl, inr, arith, List, Bool, false, replicate, sym, ◌∙◌, below_more}
+use Rattle.std.proofs.Common.{◌≡◌, ℕ, ◌+◌, ◌<◌, ◌≤◌, ◌⊎◌, inl, inr, arith, List, Bool, sym, ◌∙◌, below_more}
 use Rattle.std.proofs.lemmas.Bool.{cases_lt}
 use Rattle.go_grid.specs.declared.filling.Work.{Work}
 use Rattle.go_grid.specs.Walk.{Joined}
 use Rattle.go_grid.specs.Marks.{IsMarked, Marks}
 use Rattle.go_grid.specs.Work.{IsListed, IsFilled}
 use Rattle.go_grid.specs.Parts.{AreParts, label}
-use Rattle.go_grid.proofs.FillLemmas.{none_marked, closed_all}
+use Rattle.go_grid.proofs.FillLemmas.{closed_all}
 use Rattle.go_grid.proofs.WalkLemmas.{joined_here, joined_back, joined_join, joined_start, joined_end}
 
 -- the parts of the points below `number` are labelled
 pub record PartsBelow (c : ℕ) (within : List Bool) (labels : List ℕ) (w : Work) (number : ℕ) : Type 0 where
   pub filled : IsFilled c within w
-  pub most : w.count ≤ 625
   pub all : (p : ℕ) → p < number → IsMarked within p → IsMarked w.marks p
   pub joined : (p : ℕ) → IsMarked w.marks p → Joined c (IsMarked within) p (label labels p)
   pub same : (p q : ℕ) → IsMarked w.marks p → Joined c (IsMarked within) p q → label labels p ≡ label labels q
   pub lowest : (p : ℕ) → IsMarked w.marks p → label labels p ≤ p
 
-pub parts_start : (c : ℕ) (within : List Bool) (labels : List ℕ) (w : Work) → w.marks ≡ replicate 625 false → w.count ≡ 0
+pub parts_start : (c : ℕ) (within : List Bool) (labels : List ℕ) (w : Work) → Marks w.marks (λ _. ⊥) → w.count ≡ 0
     → IsFilled c within w → PartsBelow c within labels w 0
 parts_start c within labels w e z f = record {
   filled = f;
-  most = omega arith;
   all = λ p lt _. absurd (omega arith);
-  joined = λ p m. absurd (none_marked 625 p (rw e at m));
-  same = λ p q m _. absurd (none_marked 625 p (rw e at m));
-  lowest = λ p m. absurd (none_marked 625 p (rw e at m));
+  joined = λ p m. absurd ((e p).0 m);
+  same = λ p q m _. absurd ((e p).0 m);
+  lowest = λ p m. absurd ((e p).0 m);
 }
 
 pub parts_skip : (c : ℕ) (within : List Bool) (labels : List ℕ) (w : Work) (n : ℕ) → PartsBelow c within labels w n
     → (IsMarked within n → IsMarked w.marks n) → PartsBelow c within labels w (n + 1)
 parts_skip c within labels w n s here = record {
   filled = s.filled;
-  most = s.most;
   all = below_more (λ p. IsMarked within p → IsMarked w.marks p) n s.all here;
   joined = s.joined;
   same = s.same;
@@ -41,14 +38,13 @@ parts_skip c within labels w n s here = record {
 }
 
 pub parts_one : (c : ℕ) (within : List Bool) (labels more : List ℕ) (w v : Work) (n : ℕ) → PartsBelow c within labels w n
-    → IsMarked within n → ¬ IsMarked w.marks n → IsFilled c within v → v.count ≤ 625
+    → IsMarked within n → ¬ IsMarked w.marks n → IsFilled c within v
     → Marks v.marks (λ p. IsMarked w.marks p ⊎ Joined c (IsMarked within) n p)
     → ((p : ℕ) → (Joined c (IsMarked within) n p → IsListed w.count v p) × (IsListed w.count v p → Joined c (IsMarked within) n p))
     → ((p : ℕ) → IsListed w.count v p → label more p ≡ n) → ((p : ℕ) → ¬ IsListed w.count v p → label more p ≡ label labels p)
     → PartsBelow c within more v (n + 1)
-parts_one c within labels more w v n s on fresh f most is listed new old = record {
+parts_one c within labels more w v n s on fresh f is listed new old = record {
   filled = f;
-  most = most;
   all = below_more (λ p. IsMarked within p → IsMarked v.marks p) n (λ p lt h. (is p).1 (inl (s.all p lt h)))
       (λ h. (is n).1 (inr (joined_here c (IsMarked within) n on)));
   joined = λ p m. elim ((is p).0 m) as (λ _. Joined c (IsMarked within) p (label more p)) [

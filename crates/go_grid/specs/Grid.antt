@@ -1,5 +1,5 @@
 -- Boards: columns, rows and a list of cells, row by row from the top left.
-use Rattle.std.specs.Prelude.{◌≡◌, ◌≢◌, ℕ, ◌+◌, ◌*◌, ◌/◌, ◌%◌, ◌<◌, ◌≤◌, ◌⊎◌, ◌↔◌, List, length, slice_index_or, Option, None, Some}
+use Rattle.std.specs.Prelude.{◌≡◌, ◌≢◌, ℕ, ◌+◌, ◌*◌, ◌/◌, ◌%◌, ◌<◌, ◌≤◌, ◌⊎◌, ◌↔◌, List, Contains, length, slice_index_or, Option, None, Some}
 use Rattle.go_grid.specs.declared.grid.Cell.{Cell}
 use Rattle.go_grid.specs.declared.grid.Cell.TheVariants as cell
 use Rattle.go_grid.specs.declared.grid.Colour.{Colour}
@@ -49,6 +49,10 @@ pub record AreNear (columns area p : ℕ) (up left right down : Option ℕ) : Ty
   pub below : IsThe area (λ q. IsAbove columns q p) down
   pub next : (q : ℕ) → ((q < area) × NextTo columns p q)
       ↔ ((up ≡ Some q) ⊎ ((left ≡ Some q) ⊎ ((right ≡ Some q) ⊎ (down ≡ Some q))))
+
+-- the list has exactly the points of a board of `area` points that are next to `p`
+abbrev pub AreAround : ℕ → ℕ → ℕ → List ℕ → Type 0
+AreAround columns area p points = (q : ℕ) → Contains points q ↔ ((q < area) × NextTo columns p q)
 
 abbrev pub cell_at : Grid → ℕ → Cell
 cell_at g p = slice_index_or g.cells p cell.Empty

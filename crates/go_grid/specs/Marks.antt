@@ -1,5 +1,5 @@
 -- Sets of points, as a list of marks.
-use Rattle.std.specs.Prelude.{◌≡◌, ℕ, ◌<◌, ◌↔◌, List, Bool, true, false, slice_index_or, Option, Some, None, Contains}
+use Rattle.std.specs.Prelude.{◌≡◌, ℕ, ◌<◌, ◌↔◌, List, Bool, true, false, slice_index_or, Contains}
 use Rattle.std.specs.List.Sorted.{IsStrictlyIncreasing}
 use Rattle.go_grid.specs.Grid.{NextTo}
 
@@ -18,11 +18,6 @@ IsClosed columns within marks = (p : ℕ) → IsMarked within p → Touches colu
 abbrev pub IsWithin : ℕ → List Bool → Type 0
 IsWithin area marks = (p : ℕ) → IsMarked marks p → p < area
 
--- whether there is a point and it is marked
-abbrev pub HasMark : List Bool → Option ℕ → Bool → Type 0
-HasMark marks None b = b ≡ false
-HasMark marks (Some p) b = b ≡ slice_index_or marks p false
-
 -- the marked points are exactly those of `P`
 abbrev pub Marks : List Bool → (ℕ → Type 0) → Type 0
 Marks marks P = (p : ℕ) → IsMarked marks p ↔ P p
@@ -31,3 +26,8 @@ Marks marks P = (p : ℕ) → IsMarked marks p ↔ P p
 pub record Lists (points : List ℕ) (P : ℕ → Type 0) : Type 0 where
   pub ascending : IsStrictlyIncreasing points
   pub exact : (p : ℕ) → Contains points p ↔ P p
+
+-- below `n` exactly the points are marked for which the answer was true, and none from `n` on
+pub record AreChosen (n : ℕ) (Answers : ℕ → Bool → Type 0) (marks : List Bool) : Type 0 where
+  pub within : IsWithin n marks
+  pub each : (p : ℕ) → p < n → (answer : Bool) × Answers p answer × ((answer ≡ true) ↔ IsMarked marks p)

@@ -14,6 +14,7 @@ pub record IsFilled (columns : ℕ) (within : List Bool) (w : Work) : Type 0 whe
   pub inside : (p : ℕ) → IsMarked w.marks p → IsMarked within p
   pub listed : (i : ℕ) → i < w.count → IsMarked w.marks (slice_index w.points i)
   pub counted : count_by (λ m. m) w.marks ≡ w.count
+  pub most : w.count ≤ 625
   pub closed : IsClosed columns within w.marks
 
 -- A fill from `start` is under way: `before` was met when it began with place `from` of the list, and the points from place `done` on wait for a look at their neighbours.
@@ -21,6 +22,7 @@ pub record IsFilling (columns : ℕ) (within before : List Bool) (start from don
   pub inside : (p : ℕ) → IsMarked w.marks p → IsMarked within p
   pub listed : (i : ℕ) → i < w.count → IsMarked w.marks (slice_index w.points i)
   pub counted : count_by (λ m. m) w.marks ≡ w.count
+  pub most : w.count ≤ 625
   pub kept : (p : ℕ) → IsMarked before p → IsMarked w.marks p
   pub met : (p : ℕ) → IsMarked w.marks p → IsMarked before p ⊎ (Joined columns (IsMarked within) start p × IsListed from w p)
   pub earlier : (i : ℕ) → from ≤ i → i < w.count → Joined columns (IsMarked within) start (slice_index w.points i)

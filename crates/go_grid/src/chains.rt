@@ -1,11 +1,12 @@
 //! Chains and liberties of a board.
 
-ghost use Rattle.std.specs.Prelude.{◌≡◌, ◌<◌, ◌↔◌, true, length, IfOk, MatchOption};
+ghost use Rattle.std.specs.Prelude.{◌<◌, length, IfOk, MatchOption};
 
 use crate::boards::Board;
-use crate::filling::{Marks, fill, fill_all, part_touches};
+use crate::filling::{fill, fill_all};
 use crate::grid::{Cell, Colour, Point};
-use crate::sets::{edge, holding, listed, rest};
+use crate::points::Points;
+use crate::sets::{edge, holding};
 use std::alloc::AllocError;
 
 impl Board {
@@ -17,7 +18,7 @@ impl Board {
     ghost use Rattle.go_grid.specs.Marks.{Marks, Lists};
 
     /// The stones of the colour.
-    pub fn stones(&self, colour: Colour) -> Marks
+    pub fn stones(&self, colour: Colour) -> Points
         ensures { Marks result (HasStone self.now colour) }
     {
         match colour {
@@ -27,21 +28,21 @@ impl Board {
     }
 
     /// The points that hold no stone of the colour.
-    pub fn lacking(&self, colour: Colour) -> Marks
+    pub fn lacking(&self, colour: Colour) -> Points
         ensures { Marks result (Lacks self.now colour) }
     {
-        rest(self.size(), &self.stones(colour))
+        self.stones(colour).complement(self.size())
     }
 
     /// The empty points.
-    pub fn empties(&self) -> Marks
+    pub fn empties(&self) -> Points
         ensures { Marks result (IsEmpty self.now) }
     {
         holding(self, Cell::Empty)
     }
 
     /// The chain of a stone of the colour.
-    pub fn chain(&self, colour: Colour, stone: Point) -> Marks
+    pub fn chain(&self, colour: Colour, stone: Point) -> Points
         requires { HasStone self.now colour stone }
         ensures { Marks result (InChain self.now colour stone) }
     {
@@ -49,7 +50,7 @@ impl Board {
     }
 
     /// The liberties of the chain of a stone of the colour.
-    pub fn liberties(&self, colour: Colour, stone: Point) -> Marks
+    pub fn liberties(&self, colour: Colour, stone: Point) -> Points
         requires { HasStone self.now colour stone }
         ensures { Marks result (IsLiberty self.now colour stone) }
     {
@@ -68,16 +69,8 @@ impl Board {
         }
     }
 
-    /// Whether the chain of a stone of the colour has a liberty, for the cost of its chain once its sets are made.
-    pub fn has_liberty(&self, colour: Colour, stone: Point) -> bool
-        requires { HasStone self.now colour stone }
-        ensures { (result ≡ true) ↔ HasLiberty self.now colour stone }
-    {
-        part_touches(self.size(), &self.stones(colour), stone, &self.empties())
-    }
-
     /// The stones of the colour whose chains have a liberty.
-    pub fn breathing(&self, colour: Colour) -> Marks
+    pub fn breathing(&self, colour: Colour) -> Points
         ensures { Marks result (λ p. HasStone self.now colour p × HasLiberty self.now colour p) }
     {
         let size = self.size();
@@ -92,7 +85,7 @@ impl Board {
             → Lists points.items (InChain self.now c point)) }
     {
         match self.colour_at(point) {
-            Some(colour) => listed(self.allocator(), &self.chain(colour, point)),
+            Some(colour) => self.chain(colour, point).to_list(self.allocator()),
             None => unreachable!(),
         }
     }
@@ -104,15 +97,14 @@ impl Board {
             → Lists points.items (IsLiberty self.now c point)) }
     {
         match self.colour_at(point) {
-            Some(colour) => listed(self.allocator(), &self.liberties(colour, point)),
+            Some(colour) => self.liberties(colour, point).to_list(self.allocator()),
             None => unreachable!(),
         }
     }
 
     /// Whether a point is empty or its stone is among the given ones with a liberty.
-    fn is_free(&self, black: &Marks, white: &Marks, point: Point) -> bool
+    fn is_free(&self, black: &Points, white: &Points, point: Point) -> bool
         requires point { point < length self.now.cells }
-        requires inside { point < 625 }
         requires black { Marks black.now (λ p. HasStone self.now Black p × HasLiberty self.now Black p) }
         requires white { Marks white.now (λ p. HasStone self.now White p × HasLiberty self.now White p) }
         ensures free { OnTrue result ((c : Colour) → HasStone self.now c point → HasLiberty self.now c point) }
@@ -120,8 +112,8 @@ impl Board {
     {
         match self.colour_at(point) {
             None => true,
-            Some(Colour::Black) => black[usize::from(point.0)],
-            Some(Colour::White) => white[usize::from(point.0)],
+            Some(Colour::Black) => black.contains(point),
+            Some(Colour::White) => white.contains(point),
         }
     }
 

@@ -1,79 +1,59 @@
 //! Walks over a set of points, by marks.
 
-ghost use Rattle.std.specs.Prelude.{◌≡◌, ℕ, ◌+◌, ◌-◌, ◌*◌, ◌<◌, ◌≤◌, ◌↔◌, ◌⊎◌, Bool, true, false, IfSome, count_by, replicate, List, slice_index};
+ghost use Rattle.std.specs.Prelude.{◌≡◌, ℕ, ◌+◌, ◌-◌, ◌*◌, ◌<◌, ◌≤◌, ◌↔◌, ◌⊎◌, Bool, true, false, All, Contains, count_by, replicate, List, slice_index};
 ghost use Rattle.go_grid.specs.Walk.{Joined};
-ghost use Rattle.go_grid.specs.Marks.{IsMarked, Touches, IsWithin, HasMark, Marks};
+ghost use Rattle.go_grid.specs.Marks.{IsMarked, Touches, IsWithin, Marks};
 ghost use Rattle.go_grid.specs.Work.{IsListed, IsFilled, IsFilling};
 
 use crate::grid::{Point, Size};
-use crate::nearby::neighbours;
+use crate::nearby::around;
+use crate::points::Points;
 
-/// A set of points: a mark for each point of the largest board.
-pub type Marks = [bool; 625];
-
-/// No point.
-pub fn unmarked() -> Marks
-    ensures { result ≡ replicate 625 false }
-{
-    [false; 625]
-}
-
-/// A zero for each point of the largest board.
-pub(crate) fn zeroes() -> [u16; 625]
+/// Point 0 for each point of the largest board.
+pub(crate) fn zeroes() -> [Point; 625]
     ensures { result ≡ replicate 625 0 }
 {
-    [0; 625]
+    [Point(0); 625]
 }
 
-/// Whether the point is there, and marked.
-fn has(marks: &Marks, point: Option<Point>) -> bool
-    requires { IfSome point (λ p. p < 625) }
-    ensures { HasMark marks.now point result }
-{
-    match point {
-        Some(p) => marks[usize::from(p.0)],
-        None => false,
-    }
-}
-
-/// Whether some neighbour of the point is marked.
-#[tactic(auto, using(crate::proofs::MarksLemmas::touched, crate::proofs::GridLemmas::area_most))]
-pub fn touches(size: Size, marks: &Marks, point: Point) -> bool
+/// Whether some neighbour of the point is in the set.
+pub fn touches(size: Size, points: &Points, point: Point) -> bool
     requires on_board { point < size.columns * size.rows }
-    requires inside { IsWithin (size.columns * size.rows) marks.now }
-    ensures { (result ≡ true) ↔ Touches size.columns marks.now point }
+    requires inside { IsWithin (size.columns * size.rows) points.now }
+    ensures { (result ≡ true) ↔ Touches size.columns points.now point }
 {
-    let near = neighbours(size, point);
-    let up = has(marks, near.up);
-    let left = has(marks, near.left);
-    let right = has(marks, near.right);
-    let down = has(marks, near.down);
-    up | left | right | down
+    let around = around(size, point);
+    for near in around.as_slice() {
+        if points.contains(*near) {
+            return true;
+        }
+    }
+    false
 }
 
 /// The points that a fill has met, by marks and in the order in which it met them.
 #[derive(Drop)]
 pub(crate) struct Work {
-    pub marks: Marks,
-    pub points: [u16; 625],
+    pub marks: Points,
+    pub points: [Point; 625],
     pub count: u16,
 }
 
 /// A fill that has met no point.
 pub(crate) fn idle() -> Work
-    ensures empty { result.marks ≡ replicate 625 false }
+    ensures empty { Marks result.marks (λ _. ⊥) }
     ensures none { result.count ≡ 0 }
     ensures filled { (columns : ℕ) (within : List Bool) → IsFilled columns within result }
 {
     Work {
-        marks: unmarked(),
+        marks: Points::new(),
         points: zeroes(),
         count: 0,
     }
 }
 
 /// Meets a point, if the set has it and it wasn't met.
-fn enter(within: &Marks, work: &mut Work, point: Point)
+fn enter(within: &Points, work: &mut Work, point: Point)
     requires inside { point < 625 }
     requires counted { count_by (λ m. m) work.old.marks ≡ work.old.count }
     ensures met { IsMarked within.now point → IsMarked work.new.marks point }
@@ -81,46 +61,41 @@ fn enter(within: &Marks, work: &mut Work, point: Point)
     ensures same { (i : ℕ) → i < work.old.count → slice_index work.new.points i ≡ slice_index work.old.points i }
     ensures more { work.old.count ≤ work.new.count }
     ensures counted { count_by (λ m. m) work.new.marks ≡ work.new.count }
-    ensures most { work.new.count ≤ 625 }
     ensures under_way { (columns start from done : ℕ) (before : List Bool)
         → (IsMarked within.now point → Joined columns (IsMarked within.now) start point)
         → from ≤ work.old.count → done ≤ work.old.count
         → IsFilling columns within.now before start from done work.old
         → IsFilling columns within.now before start from done work.new }
 {
-    let place = usize::from(point.0);
-    if within[place] && !work.marks[place] {
-        work.marks[place] = true;
-        work.points[usize::from(work.count)] = point.0;
+    if within.contains(point) && !work.marks.contains(point) {
+        work.marks.insert(point);
+        work.points[usize::from(work.count)] = point;
         work.count += 1;
     }
 }
 
-/// Meets a point, if there is one, the set has it and it wasn't met.
-fn meet(within: &Marks, work: &mut Work, point: Option<Point>)
-    requires inside { IfSome point (λ p. p < 625) }
-    requires most { work.old.count ≤ 625 }
+/// Meets those of the points that the set has.
+fn enter_all(within: &Points, work: &mut Work, points: &[Point])
+    requires inside { All (λ p. p < 625) points.now }
     requires counted { count_by (λ m. m) work.old.marks ≡ work.old.count }
-    ensures met { IfSome point (λ p. IsMarked within.now p → IsMarked work.new.marks p) }
+    ensures met { (p : ℕ) → Contains points.now p → IsMarked within.now p → IsMarked work.new.marks p }
     ensures kept { (p : ℕ) → IsMarked work.old.marks p → IsMarked work.new.marks p }
     ensures same { (i : ℕ) → i < work.old.count → slice_index work.new.points i ≡ slice_index work.old.points i }
     ensures more { work.old.count ≤ work.new.count }
-    ensures counted { count_by (λ m. m) work.new.marks ≡ work.new.count }
-    ensures most { work.new.count ≤ 625 }
     ensures under_way { (columns start from done : ℕ) (before : List Bool)
-        → IfSome point (λ p. IsMarked within.now p → Joined columns (IsMarked within.now) start p)
+        → ((p : ℕ) → Contains points.now p → IsMarked within.now p → Joined columns (IsMarked within.now) start p)
         → from ≤ work.old.count → done ≤ work.old.count
         → IsFilling columns within.now before start from done work.old
         → IsFilling columns within.now before start from done work.new }
 {
-    if let Some(p) = point {
-        enter(within, work, p);
+    for point in points {
+        enter(within, work, *point);
     }
 }
 
 /// Meets all points that walks over `within` join to `start`, each of them once.
 #[tactic(auto, using(crate::proofs::GridLemmas::area_most))]
-pub(crate) fn spread(size: Size, within: &Marks, work: &mut Work, start: Point)
+pub(crate) fn spread(size: Size, within: &Points, work: &mut Work, start: Point)
     requires within { IsWithin (size.columns * size.rows) within.now }
     requires starts { IsMarked within.now start }
     requires fresh { ¬ IsMarked work.old.marks start }
@@ -128,22 +103,18 @@ pub(crate) fn spread(size: Size, within: &Marks, work: &mut Work, start: Point)
     ensures filled { IsFilled size.columns within.now work.new }
     ensures met { Marks work.new.marks (λ p. IsMarked work.old.marks p ⊎ Joined size.columns (IsMarked within.now) start p) }
     ensures listed { (p : ℕ) → Joined size.columns (IsMarked within.now) start p ↔ IsListed work.old.count work.new p }
-    ensures most { work.new.count ≤ 625 }
 {
     let mut done = work.count;
     enter(within, work, start);
     'spreading: while done < work.count {
-        let near = neighbours(size, Point(work.points[usize::from(done)]));
-        meet(within, work, near.up);
-        meet(within, work, near.left);
-        meet(within, work, near.right);
-        meet(within, work, near.down);
+        let around = around(size, work.points[usize::from(done)]);
+        enter_all(within, work, around.as_slice());
         done += 1;
     }
 }
 
 /// A fill that has met the points that walks over `within` join to `start`.
-fn part(size: Size, within: &Marks, start: Point) -> Work
+fn part(size: Size, within: &Points, start: Point) -> Work
     requires within { IsWithin (size.columns * size.rows) within.now }
     requires starts { IsMarked within.now start }
     ensures marks { Marks result.marks (Joined size.columns (IsMarked within.now) start) }
@@ -157,7 +128,7 @@ fn part(size: Size, within: &Marks, start: Point) -> Work
 }
 
 /// The points that walks over `within` join to `start`.
-pub fn fill(size: Size, within: &Marks, start: Point) -> Marks
+pub fn fill(size: Size, within: &Points, start: Point) -> Points
     requires within { IsWithin (size.columns * size.rows) within.now }
     requires starts { IsMarked within.now start }
     ensures { Marks result (Joined size.columns (IsMarked within.now) start) }
@@ -166,7 +137,7 @@ pub fn fill(size: Size, within: &Marks, start: Point) -> Marks
 }
 
 /// Whether some point that walks over `within` join to `start` is next to a marked point.
-pub fn part_touches(size: Size, within: &Marks, start: Point, marks: &Marks) -> bool
+pub fn part_touches(size: Size, within: &Points, start: Point, marks: &Points) -> bool
     requires within { IsWithin (size.columns * size.rows) within.now }
     requires starts { IsMarked within.now start }
     requires inside { IsWithin (size.columns * size.rows) marks.now }
@@ -174,7 +145,7 @@ pub fn part_touches(size: Size, within: &Marks, start: Point, marks: &Marks) -> 
 {
     let work = part(size, within, start);
     for index in 0..work.count {
-        if touches(size, marks, Point(work.points[usize::from(index)])) {
+        if touches(size, marks, work.points[usize::from(index)]) {
             return true;
         }
     }
@@ -182,16 +153,16 @@ pub fn part_touches(size: Size, within: &Marks, start: Point, marks: &Marks) -> 
 }
 
 /// The points that walks over `within` join to some point of `starts`.
-pub fn fill_all(size: Size, within: &Marks, starts: &Marks) -> Marks
+pub fn fill_all(size: Size, within: &Points, starts: &Points) -> Points
     requires within { IsWithin (size.columns * size.rows) within.now }
     requires starts { (p : ℕ) → IsMarked starts.now p → IsMarked within.now p }
     ensures { Marks result (λ p. (s : ℕ) × IsMarked starts.now s × Joined size.columns (IsMarked within.now) s p) }
 {
     let mut work = idle();
     for number in 0..size.area() {
-        let place = usize::from(number);
-        if starts[place] && !work.marks[place] {
-            spread(size, within, &mut work, Point(number));
+        let point = Point(number);
+        if starts.contains(point) && !work.marks.contains(point) {
+            spread(size, within, &mut work, point);
         }
     }
     work.marks

@@ -62,6 +62,15 @@ impl Size {
     }
 }
 
+impl Point {
+    /// Whether the two points are the same.
+    pub fn is(self, other: Point) -> bool
+        ensures { (result ≡ true) ↔ (self ≡ other) }
+    {
+        self == other
+    }
+}
+
 impl Colour {
     ghost use Rattle.go_grid.specs.Grid.{other};
 

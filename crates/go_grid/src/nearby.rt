@@ -1,10 +1,11 @@
 //! The neighbours of a point.
 
-ghost use Rattle.std.specs.Prelude.{◌≡◌, ◌+◌, ◌-◌, ◌*◌, ◌/◌, ◌%◌, ◌<◌, ◌≤◌, ◌↔◌, true, IfSome};
-ghost use Rattle.go_grid.specs.Grid.{NextTo, DifferByOne, AreNear};
+ghost use Rattle.std.specs.Prelude.{◌≡◌, ◌+◌, ◌-◌, ◌*◌, ◌%◌, ◌<◌, ◌≤◌, ◌↔◌, All, IfSome};
+ghost use Rattle.go_grid.specs.Grid.{AreAround, AreNear};
 ghost use Rattle.std.specs.Option.{SomeIff};
 
 use crate::grid::{Point, Size};
+use std::marker::Model;
 
 /// The points directly above, left, right and below a point, where the board has them.
 #[derive(Clone, Copy)]
@@ -57,20 +58,77 @@ pub fn neighbours(size: Size, point: Point) -> Near
     }
 }
 
-/// Whether two points are next to each other.
-pub fn is_next_to(size: Size, a: Point, b: Point) -> bool
-    ensures { (result ≡ true) ↔ NextTo size.columns a b }
+/// The points next to a point of a board of the size.
+pub fn around(size: Size, point: Point) -> NearPoints
+    requires { point < size.columns * size.rows }
+    ensures around { AreAround size.columns (size.columns * size.rows) point result }
+    ensures on_board { All (λ q. q < size.columns * size.rows) result }
+    ensures inside { All (λ q. q < 625) result }
 {
-    let columns = u16::from(size.columns);
-    let rows = (a.0 / columns, b.0 / columns);
-    let places = (a.0 % columns, b.0 % columns);
-    (rows.0 == rows.1 && differ_by_one(places.0, places.1))
-        || (places.0 == places.1 && differ_by_one(rows.0, rows.1))
+    neighbours(size, point).points()
 }
 
-/// Whether two numbers differ by one.
-fn differ_by_one(a: u16, b: u16) -> bool
-    ensures { (result ≡ true) ↔ DifferByOne a b }
-{
-    a.abs_diff(b) == 1
+impl Near {
+    ghost use Rattle.std.specs.Prelude.{Contains, Some, ◌⊎◌, ℕ};
+
+    /// The neighbours that the board has.
+    pub fn points(self) -> NearPoints
+        ensures { (q : ℕ) → Contains result q
+            ↔ ((self.up ≡ Some q) ⊎ ((self.left ≡ Some q) ⊎ ((self.right ≡ Some q) ⊎ (self.down ≡ Some q)))) }
+    {
+        let mut near = NearPoints::new();
+        near.add(self.up);
+        near.add(self.left);
+        near.add(self.right);
+        near.add(self.down);
+        near
+    }
+}
+
+/// The points next to a point, at most four.
+#[derive(Drop)]
+pub struct NearPoints {
+    points: [Point; 4],
+    number: usize,
+}
+
+impl Model for NearPoints {
+    ghost use Rattle.std.specs.Prelude.{◌≡◌, ℕ, List, length, take, ◌≤◌};
+
+    ghost Value = { List ℕ };
+
+    ghost view = { λ a. take a.number a.points };
+
+    ghost invariant = { λ a. (length a.points ≡ 4) × (a.number ≤ 4) };
+}
+
+impl NearPoints {
+    ghost use Rattle.std.specs.Prelude.{[], Contains, Some, length, ◌⊎◌, ℕ};
+
+    fn new() -> NearPoints
+        ensures { result ≡ [] }
+    {
+        NearPoints {
+            points: [Point(0); 4],
+            number: 0,
+        }
+    }
+
+    fn add(&mut self, point: Option<Point>)
+        requires { length self.old < 4 }
+        ensures more { length self.new ≤ length self.old + 1 }
+        ensures points { (q : ℕ) → Contains self.new q ↔ (Contains self.old q ⊎ (point ≡ Some q)) }
+    {
+        if let Some(near) = point {
+            self.points[self.number] = near;
+            self.number += 1;
+        }
+    }
+
+    /// The points.
+    pub fn as_slice(&self) -> &[Point]
+        ensures { result.now ≡ self.now }
+    {
+        &self.points[..self.number]
+    }
 }

@@ -1,16 +1,18 @@
 -- A new stone, the chains that it takes and the liberties that it has.
-use Rattle.std.proofs.Common.{◌≡◌, ◌≢◌, ℕ, ◌<◌, ◌⊎◌, ◌↔◌, inl, inr, List, Bool, false, length, get_or, refl, sym, ◌∙◌, subst, replicate, Option, Some, None, IfSome, Err}
+use Rattle.std.proofs.Common.{◌≡◌, ◌≢◌, ℕ, ◌≤◌, arith, ◌⊎◌, ◌↔◌, inl, inr, List, Bool, false, length, get_or, refl, sym, ◌∙◌, subst, Err}
 use Rattle.std.proofs.lemmas.Bool.{cases_Bool, both_ways}
+use Rattle.std.proofs.lemmas.List.{get_or_default}
+use Rattle.std.proofs.lemmas.List.Elements.{Contains-get_or}
 use Rattle.go_grid.specs.declared.grid.Cell.{Cell}
 use Rattle.go_grid.specs.declared.grid.Cell.TheVariants as cell
 use Rattle.go_grid.specs.declared.grid.Colour.{Colour}
 use Rattle.go_grid.specs.declared.grid.Colour.TheVariants as colour
-use Rattle.go_grid.specs.Grid.{Grid, NextTo, AreNear, HasStone, IsEmpty, cell_at, stone, other}
+use Rattle.go_grid.specs.Grid.{Grid, NextTo, AreAround, HasStone, IsEmpty, cell_at, stone, other}
 use Rattle.go_grid.specs.Walk.{Joined}
 use Rattle.go_grid.specs.Marks.{IsMarked, Marks, Touches}
 use Rattle.go_grid.specs.Chain.{InChain, HasLiberty}
 use Rattle.go_grid.proofs.NearLemmas.{next_back}
-use Rattle.go_grid.proofs.FillLemmas.{none_marked}
+use Rattle.go_grid.proofs.PointsLemmas.{Noted}
 use Rattle.go_grid.proofs.WalkLemmas.{joined_end, joined_back, marks_joined}
 use Rattle.go_grid.proofs.ChainLemmas.{liberty_marks, same_liberty}
 use Rattle.go_play.specs.declared.placing.PlaceError.{PlaceError}
@@ -73,42 +75,21 @@ taken_lost b d p q t =
       joined_back b.columns (HasStone b d) q r t.1.1,
     )
 
--- what a neighbour adds to the taken stones
-abbrev pub Adds : Grid → Colour → Option ℕ → List Bool → List Bool → Type 0
-Adds b d o old new = Marks new (λ q. IsMarked old q ⊎ ((s : ℕ) × (o ≡ Some s) × IsLost b d s q))
+-- what the chain of each point of a list adds
+abbrev pub Loses : Grid → Colour → List ℕ → ℕ → ℕ → Type 0
+Loses b d points i = IsLost b d (get_or points i 0)
 
-pub taken_all : (b : Grid) (d : Colour) (area p : ℕ) (u l r e : Option ℕ) (none a0 a1 a2 a3 : List Bool)
-    → none ≡ replicate 625 false → Adds b d u none a0 → Adds b d l a0 a1 → Adds b d r a1 a2 → Adds b d e a2 a3
-    → length b.cells ≡ area → AreNear b.columns area p u l r e → Marks a3 (IsTaken b p d)
-taken_all b d area p u l r e none a0 a1 a2 a3 empty au al ar ae long near q = (
-  λ m. elim ((ae q).0 m) as (λ _. IsTaken b p d q) [
-    | inr t ↦ lost_taken b d p t.0 q ((near.next t.0).1 (inr (inr (inr t.1)))).1 t.2
-    | inl m ↦ elim ((ar q).0 m) as (λ _. IsTaken b p d q) [
-      | inr t ↦ lost_taken b d p t.0 q ((near.next t.0).1 (inr (inr (inl t.1)))).1 t.2
-      | inl m ↦ elim ((al q).0 m) as (λ _. IsTaken b p d q) [
-        | inr t ↦ lost_taken b d p t.0 q ((near.next t.0).1 (inr (inl t.1))).1 t.2
-        | inl m ↦ elim ((au q).0 m) as (λ _. IsTaken b p d q) [
-          | inr t ↦ lost_taken b d p t.0 q ((near.next t.0).1 (inl t.1)).1 t.2
-          | inl m ↦ absurd (none_marked 625 q (rw empty at m))
-        ]
-      ]
-    ]
-  ],
+pub taken_all : (b : Grid) (d : Colour) (area p n : ℕ) (points : List ℕ) (taken : List Bool) → Marks taken (Noted (Loses b d points) n)
+    → n ≤ length points → length points ≤ n → length b.cells ≡ area → AreAround b.columns area p points → Marks taken (IsTaken b p d)
+taken_all b d area p n points taken is most all long around q = (
+  λ m.
+      let t = (is q).0 m in
+      lost_taken b d p (get_or points t.0 0) q ((around (get_or points t.0 0)).0 (Contains-get_or points t.0 0 (omega (arith, t.1, most)))).1 t.2,
   λ t.
-      let s = t.1.0 in
       let lost = taken_lost b d p q t in
-      let on = rw long at (lost.0.0) in
-      elim ((near.next s).0 (on, next_back b.columns s p t.1.2)) as (λ _. IsMarked a3 q) [
-        | inl h ↦ (ae q).1 (inl ((ar q).1 (inl ((al q).1 (inl ((au q).1 (inr (s, h, lost))))))))
-        | inr (inl h) ↦ (ae q).1 (inl ((ar q).1 (inl ((al q).1 (inr (s, h, lost))))))
-        | inr (inr (inl h)) ↦ (ae q).1 (inl ((ar q).1 (inr (s, h, lost))))
-        | inr (inr (inr h)) ↦ (ae q).1 (inr (s, h, lost))
-      ],
+      let h = (around t.1.0).1 (rw long at lost.0.0, next_back b.columns t.1.0 p t.1.2) in
+      (is q).1 (h.0, omega (arith, h.1, all), subst (λ x. IsLost b d x q) (sym (get_or_default points h.0 0 t.1.0 h.1 ∙ h.2)) lost),
 )
-
-pub near_inside : (n : ℕ) (o : Option ℕ) → ((q : ℕ) → o ≡ Some q → q < n) → IfSome o (λ q. q < n)
-near_inside n None inside = tt
-near_inside n (Some q) inside = inside q refl
 
 -- the new stone's colour and the empty points on the board without the taken stones
 own_without : (b : Grid) (p : ℕ) (c : Colour) (h : Grid) → IsWithout b (IsTaken b p (other c)) h

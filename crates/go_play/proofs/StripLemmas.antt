@@ -10,6 +10,7 @@ use Rattle.go_grid.specs.declared.grid.Colour.{Colour}
 use Rattle.go_grid.specs.declared.grid.Colour.TheVariants as colour
 use Rattle.go_grid.specs.Grid.{Grid, IsEmpty, cell_at, stone, other}
 use Rattle.go_grid.specs.Marks.{IsMarked, Marks}
+use Rattle.go_grid.proofs.PointsLemmas.{no_mark}
 use Rattle.go_play.specs.Place.{with_stone, IsTaken, IsWithout, is_stone, IsNumberTaken}
 
 -- the cells, without those that are marked
@@ -40,11 +41,6 @@ AllStones ms xs = (q : ℕ) → IsMarked ms q → (q < length xs) × (is_stone (
 
 counted-cons : {X : Type 0} (p : X → Bool) (x : X) (xs : List X) → count_by p (x ∷ xs) ≡ cond (p x) 1 0 + count_by p xs
 counted-cons p x xs = sum_by-cons (λ y. cond (p y) 1 0) x xs
-
-no_mark : (ms : List Bool) → ((q : ℕ) → ¬ IsMarked ms q) → count_by (λ m. m) ms ≡ 0
-no_mark [] none = refl
-no_mark (true ∷ ms) none = absurd (none 0 refl)
-no_mark (false ∷ ms) none = omega (arith, counted-cons (λ m. m) false ms, no_mark ms (λ q. none (suc q)))
 
 counted-strip : (ms : List Bool) (xs : List Cell) → AllStones ms xs
     → count_by is_stone (strip ms xs) + count_by (λ m. m) ms ≡ count_by is_stone xs

@@ -1,51 +1,32 @@
 //! Placing a stone, with what it takes off the board.
 
-ghost use Rattle.std.specs.Prelude.{◌≡◌, ℕ, ◌<◌, ◌↔◌, ◌⊎◌, true, length, IfSome, Some};
+ghost use Rattle.std.specs.Prelude.{◌≡◌, ℕ, ◌<◌, ◌↔◌, ◌⊎◌, true, length};
 ghost use Rattle.go_grid.specs.Grid.{Grid, IsEmpty, other, stone};
 ghost use Rattle.go_grid.specs.Marks.{IsMarked, Marks};
 ghost use Rattle.go_grid.specs.Chain.{HasLiberty};
 ghost use Rattle.go_play.specs.Place.{with_stone, IsTaken, IsWithout, Answers};
 ghost use Rattle.go_play.specs.Tried.{IsTried, IsLost, Judges};
 
-use go_grid::{
-    Board, Cell, Colour, Marks, Point, count, fill, neighbours, part_touches, union, unmarked,
-};
+use go_grid::{Board, Cell, Colour, Point, Points, around, fill, part_touches};
+use thiserror::Error;
 
 /// Why a stone may not be placed.
-#[derive(Clone, Copy, PartialEq, Eq, Debug)]
+#[derive(Clone, Copy, PartialEq, Eq, Debug, Error)]
 pub enum PlaceError {
     /// The point isn't empty.
+    #[error("the point isn't empty")]
     Occupied,
     /// With all that it takes off the board, the new stone's chain has no liberty.
+    #[error("the new stone's chain has no liberty")]
     Suicide,
 }
 
 /// What stands on a board after a new stone, before any is taken off.
 #[derive(Drop)]
 struct Tried {
-    own: Marks,
-    theirs: Marks,
-    empty: Marks,
-}
-
-/// The points of a set, and one more.
-fn with(marks: &Marks, point: Point) -> Marks
-    requires { point < 625 }
-    ensures { Marks result (λ q. IsMarked marks.now q ⊎ (q ≡ point)) }
-{
-    let mut more = *marks;
-    more[usize::from(point.0)] = true;
-    more
-}
-
-/// The points of a set but one.
-fn without(marks: &Marks, point: Point) -> Marks
-    requires { point < 625 }
-    ensures { Marks result (λ q. IsMarked marks.now q × (q ≡ point → ⊥)) }
-{
-    let mut less = *marks;
-    less[usize::from(point.0)] = false;
-    less
+    own: Points,
+    theirs: Points,
+    empty: Points,
 }
 
 /// A new stone at an empty point, as sets of points.
@@ -54,10 +35,14 @@ fn try_stone(board: &Board, point: Point, colour: Colour) -> Tried
     ensures { IsTried board.now point colour result }
 {
     let _size = board.size();
+    let mut own = board.stones(colour);
+    own.insert(point);
+    let mut empty = board.empties();
+    empty.remove(point);
     Tried {
-        own: with(&board.stones(colour), point),
+        own,
         theirs: board.stones(colour.other()),
-        empty: without(&board.empties(), point),
+        empty,
     }
 }
 
@@ -68,56 +53,34 @@ fn take_chain(
     colour: Colour,
     tried: &Tried,
     stone: Point,
-    taken: &mut Marks,
+    taken: &mut Points,
 )
     requires tried { IsTried board.now point colour tried.now }
     requires stone { stone < length board.now.cells }
     ensures { Marks taken.new (λ q. IsMarked taken.old q ⊎ IsLost (with_stone board.now point colour) (other colour) stone q) }
 {
     let size = board.size();
-    if tried.theirs[usize::from(stone.0)]
-        && !part_touches(size, &tried.theirs, stone, &tried.empty)
-    {
-        *taken = union(taken, &fill(size, &tried.theirs, stone));
-    }
-}
-
-/// As `take_chain`, if there is such a point.
-fn take_near(
-    board: &Board,
-    point: Point,
-    colour: Colour,
-    tried: &Tried,
-    stone: Option<Point>,
-    taken: &mut Marks,
-)
-    requires tried { IsTried board.now point colour tried.now }
-    requires stone { IfSome stone (λ s. s < length board.now.cells) }
-    ensures { Marks taken.new (λ q. IsMarked taken.old q
-        ⊎ ((s : ℕ) × (stone ≡ Some s) × IsLost (with_stone board.now point colour) (other colour) s q)) }
-{
-    if let Some(near) = stone {
-        take_chain(board, point, colour, tried, near, taken);
+    if tried.theirs.contains(stone) && !part_touches(size, &tried.theirs, stone, &tried.empty) {
+        *taken = taken.union(&fill(size, &tried.theirs, stone));
     }
 }
 
 /// The stones that a new stone takes.
-fn taken(board: &Board, point: Point, colour: Colour, tried: &Tried) -> Marks
+fn taken(board: &Board, point: Point, colour: Colour, tried: &Tried) -> Points
     requires point { point < length board.now.cells }
     requires tried { IsTried board.now point colour tried.now }
     ensures { Marks result (IsTaken (with_stone board.now point colour) point (other colour)) }
 {
-    let near = neighbours(board.size(), point);
-    let mut taken = unmarked();
-    take_near(board, point, colour, tried, near.up, &mut taken);
-    take_near(board, point, colour, tried, near.left, &mut taken);
-    take_near(board, point, colour, tried, near.right, &mut taken);
-    take_near(board, point, colour, tried, near.down, &mut taken);
+    let around = around(board.size(), point);
+    let mut taken = Points::new();
+    for stone in around.as_slice() {
+        take_chain(board, point, colour, tried, *stone, &mut taken);
+    }
     taken
 }
 
 /// Whether the new stone's chain has a liberty once the taken stones are gone.
-fn stands(board: &Board, point: Point, colour: Colour, tried: &Tried, taken: &Marks) -> bool
+fn stands(board: &Board, point: Point, colour: Colour, tried: &Tried, taken: &Points) -> bool
     requires empty { IsEmpty board.now point }
     requires tried { IsTried board.now point colour tried.now }
     requires taken { Marks taken.now (IsTaken (with_stone board.now point colour) point (other colour)) }
@@ -125,11 +88,11 @@ fn stands(board: &Board, point: Point, colour: Colour, tried: &Tried, taken: &Ma
         (IsTaken (with_stone board.now point colour) point (other colour)) h
         → (result ≡ true) ↔ HasLiberty h colour point }
 {
-    part_touches(board.size(), &tried.own, point, &union(&tried.empty, taken))
+    part_touches(board.size(), &tried.own, point, &tried.empty.union(taken))
 }
 
 /// The stones that a new stone takes, or why it is refused.
-fn judge(board: &Board, point: Point, colour: Colour) -> Result<Marks, PlaceError>
+fn judge(board: &Board, point: Point, colour: Colour) -> Result<Points, PlaceError>
     requires { point < length board.now.cells }
     ensures { Judges board.now point colour result }
 {
@@ -146,12 +109,13 @@ fn judge(board: &Board, point: Point, colour: Colour) -> Result<Marks, PlaceErro
 }
 
 /// Empties the points of a set.
-fn take_off(board: &mut Board, marks: &Marks)
-    ensures { IsWithout board.old (IsMarked marks.now) board.new }
+fn take_off(board: &mut Board, points: &Points)
+    ensures { IsWithout board.old (IsMarked points.now) board.new }
 {
     for number in 0..board.size().area() {
-        if marks[usize::from(number)] {
-            board.set(Point(number), Cell::Empty);
+        let point = Point(number);
+        if points.contains(point) {
+            board.set(point, Cell::Empty);
         }
     }
 }
@@ -164,7 +128,7 @@ pub fn place(board: &mut Board, point: Point, colour: Colour) -> Result<u16, Pla
     ensures { Answers board.old point colour board.new result }
 {
     let taken = judge(board, point, colour)?;
-    let number = count(&taken);
+    let number = taken.len();
     board.set(point, stone(colour));
     take_off(board, &taken);
     Ok(number)
@@ -176,7 +140,7 @@ pub fn allowed(board: &Board, point: Point, colour: Colour) -> Result<u16, Place
     ensures { (h : Grid) × Answers board.now point colour h result }
 {
     let taken = judge(board, point, colour)?;
-    Ok(count(&taken))
+    Ok(taken.len())
 }
 
 /// The cell with a stone of the colour.

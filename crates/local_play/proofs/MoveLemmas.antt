@@ -14,9 +14,8 @@ use Rattle.go_grid.specs.Marks.{IsMarked, Marks}
 use Rattle.go_grid.specs.Region.{touch_at}
 use Rattle.local_play.specs.LocalPlay.{held_at, Holds, IsLinked, InLocalChain, IsFree, IsRemoved, IsLocalMove, IsNumberTaken, with_stone, is_stone}
 use Rattle.local_play.specs.Tried.{RemovesThrough, IsAfter, IsLessBy}
-use Rattle.go_grid.proofs.FillLemmas.{none_marked}
 use Rattle.go_grid.proofs.PathLemmas.{leads_start, leads_end, leads_more}
-use Rattle.go_grid.proofs.SetsLemmas.{marked_short}
+use Rattle.go_grid.proofs.PointsLemmas.{marked_short, none_marked}
 
 -- the marked places are those of `P` below `n`
 pub record PlacesBelow (marks : List Bool) (P : ℕ → Type 0) (n : ℕ) : Type 0 where

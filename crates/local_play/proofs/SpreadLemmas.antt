@@ -11,8 +11,20 @@ use Rattle.go_grid.specs.Marks.{IsMarked, Marks}
 use Rattle.go_grid.specs.Region.{nothing_near}
 use Rattle.local_play.specs.LocalPlay.{Holds, IsLinked, InLocalChain}
 use Rattle.local_play.specs.Spread.{Grows, IsReachedFrom, IsSpread}
-use Rattle.go_grid.proofs.FillLemmas.{set_cases, set_kept, count_set, none_marked}
+use Rattle.go_grid.proofs.PointsLemmas.{none_marked}
 use Rattle.go_grid.proofs.PathLemmas.{carried, leads_here, leads_step}
+
+-- a marked place of the marks after one is set
+set_cases : (marks : List Bool) (n p : ℕ) → IsMarked (set marks n true) p → (p ≡ n) ⊎ IsMarked marks p
+set_cases marks n p m = elim (cases_eq p n) [ inl e ↦ inl e | inr ne ↦ inr (rw get_or-set_other at m) ]
+
+set_kept : (marks : List Bool) (n p : ℕ) → n < length marks → IsMarked marks p → IsMarked (set marks n true) p
+set_kept marks n p lt m =
+    elim (cases_eq p n) [ inl e ↦ rw e (get_or-set_same marks n true false lt) | inr ne ↦ rw get_or-set_other m ]
+
+count_set : (marks : List Bool) (n : ℕ) → n < length marks → get_or marks n false ≡ false
+    → count_by (λ m. m) (set marks n true) ≡ count_by (λ m. m) marks + 1
+count_set marks n lt off = let e = sum_by-set (λ m. cond m 1 0) marks n true false lt in omega (arith, rw off at e)
 
 count : List Bool → ℕ
 count marks = count_by (λ m. m) marks

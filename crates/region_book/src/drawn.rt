@@ -5,7 +5,7 @@ ghost use Rattle.go_grid.specs.Marks.{IsMarked, IsWithin, Lists};
 ghost use Rattle.go_grid.specs.Region.{AreLinks, touch_at};
 ghost use Rattle.go_grid.specs.Walk.{Joined};
 
-use go_grid::{Cell, Marks, Point, Region, Size, Touch, fill, listed, neighbours, unmarked};
+use go_grid::{Cell, Point, Points, Region, Size, Touch, fill, neighbours};
 use std::alloc::{AllocError, Global};
 
 /// A region on a board of four columns and rows: its points in ascending order, what they hold, and next to which of them
@@ -33,30 +33,30 @@ fn is_marked(marks: &[u8], place: usize) -> bool {
 }
 
 /// Those of the points that are on the board.
-fn marks_of(size: Size, points: &[u16]) -> Marks
+fn points_of(size: Size, points: &[u16]) -> Points
     ensures { IsWithin (size.columns * size.rows) result }
 {
-    let mut marks = unmarked();
+    let mut found = Points::new();
     'marking: for number in points {
         if *number < size.area() {
-            marks[usize::from(*number)] = true;
+            found.insert(Point(*number));
         }
     }
-    marks
+    found
 }
 
 /// The marked points that walks over marked points join to a point.
 fn part_of(
     alloc: Global,
     size: Size,
-    within: &Marks,
+    within: &Points,
     start: Point,
 ) -> Result<Vec<Point>, AllocError>
     requires within { IsWithin (size.columns * size.rows) within.now }
     requires starts { IsMarked within.now start }
     ensures { IfOk result (λ ps. Lists ps.items (Joined size.columns (IsMarked within.now) start)) }
 {
-    let points = listed(alloc, &fill(size, within, start))?;
+    let points = fill(size, within, start).to_list(alloc)?;
     Ok(points)
 }
 
@@ -132,15 +132,15 @@ pub fn region(alloc: Global, drawn: Drawing) -> Result<Region, AllocError> {
         columns: 4,
         rows: 4,
     };
-    let marks = marks_of(size, drawn.points);
+    let within = points_of(size, drawn.points);
     let Some(first) = drawn.points.first() else {
         return Err(AllocError);
     };
-    let start = *first;
-    if start >= 16 || !marks[usize::from(start)] {
+    let start = Point(*first);
+    if !within.contains(start) {
         return Err(AllocError);
     }
-    let points = part_of(alloc, size, &marks, Point(start))?;
+    let points = part_of(alloc, size, &within, start)?;
     if points.len() > 32 {
         return Err(AllocError);
     }

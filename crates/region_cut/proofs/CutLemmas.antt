@@ -83,8 +83,3 @@ pub parts_of : (g : Grid) (k : ℕ) (within : List Bool) (parts : List ℕ) → 
     → AreParts k (IsMarked within) parts → AreParts g.columns (IsContested g) parts
 parts_of g k within parts e is w =
     subst (λ n. AreParts n (IsContested g) parts) e (parts_over k (IsMarked within) (IsContested g) parts is w)
-
--- the marks of the largest healthy list are the alive stones
-pub alive_marks : (g : Grid) (c : Colour) (xs : List ℕ) (marks : List Bool) → IsLargestHealthy g c xs → Marks marks (Contains xs)
-    → Marks marks (IsAlive g c)
-alive_marks g c xs marks h is p = (λ m. (xs, h.healthy, (is p).0 m), λ a. (is p).1 (h.largest a.0 a.1 p a.2))

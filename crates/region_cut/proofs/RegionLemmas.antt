@@ -15,7 +15,7 @@ use Rattle.go_grid.specs.Grid.{Grid, NextTo, cell_at}
 use Rattle.go_grid.specs.Marks.{IsMarked, Marks, Lists}
 use Rattle.go_grid.specs.Region.{Shape, IsRegion, IsBeside, touch_at}
 use Rattle.go_grid.specs.Walk.{Joined}
-use Rattle.go_grid.proofs.SetsLemmas.{lists_same}
+use Rattle.go_grid.proofs.PointsLemmas.{lists_same}
 use Rattle.go_grid.proofs.WalkLemmas.{carried, joined_here, joined_step, joined_back, joined_join, joined_end, marks_joined}
 use Rattle.benson_life.specs.Life.{IsAlive}
 use Rattle.benson_life.specs.Region.{IsContested, InRegionOfPlay}

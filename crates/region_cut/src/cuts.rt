@@ -8,13 +8,14 @@ ghost use Rattle.go_grid.specs.Grid.{cell_at};
 ghost use Rattle.go_grid.specs.Marks.{Lists, Marks};
 ghost use Rattle.go_grid.specs.Region.{Shape};
 ghost use Rattle.benson_life.specs.Life.{IsAlive, IsCounted, IsLargestHealthy};
+ghost use Rattle.benson_life.specs.Territory.{IsTerritory};
 ghost use Rattle.benson_life.specs.Region.{IsContested, InRegionOfPlay};
 ghost use Rattle.region_cut.specs.Cut.{AreRegionsOfPlay, IsRegionOfPlay, IsWalledIn, lowest};
 ghost use Rattle.region_cut.specs.LocalBoard.{PlaysLocally};
 
 use crate::touching::touches_of;
-use benson_life::{contested, marked};
-use go_grid::{Board, Cell, Marks, Point, Region, components, fill, listed};
+use benson_life::{Territory, alive_set, contested};
+use go_grid::{Board, Cell, Colour, Point, Points, Region, components, fill, label_of};
 use std::alloc::{AllocError, Global};
 
 /// What the points of a list hold.
@@ -36,9 +37,9 @@ fn cells_of(alloc: Global, board: &Board, points: &[Point]) -> Result<Vec<Cell>,
 fn region_of(
     alloc: Global,
     board: &Board,
-    within: &Marks,
-    black: &Marks,
-    white: &Marks,
+    within: &Points,
+    black: &Points,
+    white: &Points,
     start: Point,
 ) -> Result<Region, AllocError>
     requires settled { IsSettled board.now }
@@ -52,7 +53,7 @@ fn region_of(
     ensures named { IfOk result (λ r. lowest r ≡ start) }
 {
     let size = board.size();
-    let points = listed(alloc, &fill(size, within, start))?;
+    let points = fill(size, within, start).to_list(alloc)?;
     let cells = cells_of(alloc, board, &points)?;
     let touch = touches_of(alloc, size, &points, black, white)?;
     Ok(Region {
@@ -61,6 +62,34 @@ fn region_of(
         cells,
         touch,
     })
+}
+
+/// The regions of play, by lowest point. The sets are the contested points and the alive stones of each colour.
+fn cut_sets(
+    alloc: Global,
+    board: &Board,
+    within: &Points,
+    black: &Points,
+    white: &Points,
+) -> Result<Vec<Region>, AllocError>
+    requires settled { IsSettled board.now }
+    requires within { Marks within.now (IsContested board.now) }
+    requires black { Marks black.now (IsAlive board.now Black) }
+    requires white { Marks white.now (IsAlive board.now White) }
+    ensures regions { IfOk result (λ regions. AreRegionsOfPlay board.now regions.items) }
+    ensures walled { IfOk result (λ regions. (r : Shape) → Contains regions.items r → IsWalledIn board.now r) }
+    ensures local { IfOk result (λ regions. (r : Shape) → Contains regions.items r → PlaysLocally board.now r) }
+{
+    let size = board.size();
+    let parts = components(size, within);
+    let mut regions = Vec::new(alloc);
+    'cutting: for number in 0..size.area() {
+        let point = Point(number);
+        if within.contains(point) && label_of(&parts, point).is(point) {
+            regions.push(region_of(alloc, board, within, black, white, point)?)?;
+        }
+    }
+    Ok(regions)
 }
 
 /// The regions of play, by lowest point. The board is settled, and the lists are those that `alive` and
@@ -83,7 +112,6 @@ pub fn cut(
     ensures walled { IfOk result (λ regions. (r : Shape) → Contains regions.items r → IsWalledIn board.now r) }
     ensures local { IfOk result (λ regions. (r : Shape) → Contains regions.items r → PlaysLocally board.now r) }
 {
-    let size = board.size();
     let within = contested(
         board,
         black_alive,
@@ -91,15 +119,29 @@ pub fn cut(
         black_counted,
         white_counted,
     );
-    let black = marked(black_alive);
-    let white = marked(white_alive);
-    let parts = components(size, &within);
-    let mut regions = Vec::new(alloc);
-    'cutting: for number in 0..size.area() {
-        let place = usize::from(number);
-        if within[place] && parts[place] == number {
-            regions.push(region_of(alloc, board, &within, &black, &white, Point(number))?)?;
-        }
-    }
-    Ok(regions)
+    let black = alive_set(board, Colour::Black, black_alive);
+    let white = alive_set(board, Colour::White, white_alive);
+    cut_sets(alloc, board, &within, &black, &white)
+}
+
+/// What `cut` gives, from the territory of the board.
+pub fn cut_territory(
+    alloc: Global,
+    board: &Board,
+    territory: &Territory,
+) -> Result<Vec<Region>, AllocError>
+    requires settled { IsSettled board.now }
+    requires territory { IsTerritory board.now territory.now }
+    ensures regions { IfOk result (λ regions. AreRegionsOfPlay board.now regions.items) }
+    ensures walled { IfOk result (λ regions. (r : Shape) → Contains regions.items r → IsWalledIn board.now r) }
+    ensures local { IfOk result (λ regions. (r : Shape) → Contains regions.items r → PlaysLocally board.now r) }
+{
+    let within = territory.contested(board);
+    cut_sets(
+        alloc,
+        board,
+        &within,
+        &territory.black.alive,
+        &territory.white.alive,
+    )
 }

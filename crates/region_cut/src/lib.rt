@@ -7,5 +7,5 @@ mod laws;
 mod tests;
 mod touching;
 
-pub use cuts::cut;
+pub use cuts::{cut, cut_territory};
 pub use laws::local_play_law;

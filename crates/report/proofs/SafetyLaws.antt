@@ -1,5 +1,5 @@
 -- The lines of chains and of counted regions.
-use Rattle.std.proofs.Common.{◌≡◌, ◌≢◌, ◌⊎◌, ℕ, ◌+◌, ◌*◌, ◌<◌, ◌≤◌, inl, inr, sym, refl, ◌∙◌, arith, subst, List, length, get_or, Bool, false, sum_by, [], ◌++◌, flat_map}
+use Rattle.std.proofs.Common.{◌≡◌, ◌≢◌, ◌⊎◌, ℕ, ◌+◌, ◌*◌, ◌<◌, ◌≤◌, inl, inr, sym, refl, ◌∙◌, arith, subst, List, length, get_or, Bool, true, ◌↔◌, sum_by, [], ◌++◌, flat_map}
 use Rattle.std.specs.List.{Contains}
 use Rattle.std.specs.List.Sorted.{IsStrictlyIncreasing}
 use Rattle.std.proofs.lemmas.Bool.{cases_lt}
@@ -12,16 +12,15 @@ use Rattle.go_grid.specs.Chain.{InChain}
 use Rattle.go_grid.specs.declared.grid.Cell.TheVariants as cell
 use Rattle.go_grid.specs.Grid.{Grid, HasStone, IsEmpty, Lacks, stone}
 use Rattle.go_grid.specs.Walk.{Joined}
-use Rattle.go_grid.proofs.SetsLemmas.{lists_same}
+use Rattle.go_grid.proofs.PointsLemmas.{lists_same}
 use Rattle.go_grid.proofs.WalkLemmas.{joined_end, joined_here, marks_joined}
 use Rattle.go_grid.specs.Marks.{IsMarked, Marks, Lists}
 use Rattle.go_grid.proofs.GridLemmas.{one_colour}
 use Rattle.benson_life.specs.Held.{worth}
-use Rattle.benson_life.specs.Life.{InRegion, IsAlive, IsCounted, IsLargestHealthy}
+use Rattle.benson_life.specs.Life.{InRegion, IsAlive, IsCounted}
 use Rattle.go_grid.specs.Region.{Shape}
 use Rattle.region_cut.specs.Cut.{AreRegionsOfPlay}
 use Rattle.report.proofs.TextLaws.{three_pieces}
-use Rattle.region_cut.proofs.CutLemmas.{alive_marks}
 use Rattle.report.specs.declared.safety.ChainLine.{ChainLine}
 use Rattle.report.specs.declared.safety.CountedLine.{CountedLine}
 use Rattle.report.specs.Safety.{AreChainLines, AreCountedLines, IsSafeText, chain_line, counted_line, shape_line, IsLowestStone, IsChainLine, IsLowestCounted, IsCountedLine, IsCountedKey, turn}
@@ -63,32 +62,28 @@ pub chain_has_first : (g : Grid) (c : Colour) (p : ℕ) (points : List ℕ) → 
 chain_has_first g c p points h lists = has_first points p ((lists.exact p).1 (joined_here g.columns (HasStone g c) p h))
 
 pub chain_line_is : (g : Grid) (c : Colour) (p : ℕ) (points : List ℕ) (n : ℕ) (marks : List Bool) (b : Bool) → HasStone g c p → Lists points (InChain g c p)
-    → get_or points 0 0 ≡ p → length points ≡ n → Marks marks (λ q. (d : Colour) × IsAlive g d q) → b ≡ get_or marks p false
+    → get_or points 0 0 ≡ p → length points ≡ n → Marks marks (λ q. (d : Colour) × IsAlive g d q) → (b ≡ true) ↔ IsMarked marks p
     → IsChainLine g (record { lowest = p; colour = c; stones = n; alive = b })
 chain_line_is g c p points n marks b h lists first long is e = record {
   lowest = (h, λ q i. subst (λ x. x ≤ q) first (first_least points q lists.ascending ((lists.exact q).1 i)));
   stones = (points, lists, long);
   alive = (
-    λ t. (let a = (is p).0 (sym e ∙ t) in subst (λ d. IsAlive g d p) (one_colour g a.0 c p (a.1.1.stones p a.1.2) h) a.1),
-    λ a. e ∙ (is p).1 (c, a),
+    λ t. (let a = (is p).0 (e.0 t) in subst (λ d. IsAlive g d p) (one_colour g a.0 c p (a.1.1.stones p a.1.2) h) a.1),
+    λ a. e.1 ((is p).1 (c, a)),
   );
 }
 
--- the marks of the alive stones of both colours
-pub both_marks : (g : Grid) (bs ws : List ℕ) (black white marks : List Bool) → IsLargestHealthy g Black bs → IsLargestHealthy g White ws
-    → Marks black (Contains bs) → Marks white (Contains ws) → Marks marks (λ q. IsMarked black q ⊎ IsMarked white q)
-    → Marks marks (λ p. (c : Colour) × IsAlive g c p)
-both_marks g bs ws black white marks hb hw mb mw is p = (
-  λ m. elim ((is p).0 m) [
-    | inl x ↦ (Black, (alive_marks g Black bs black hb mb p).0 x)
-    | inr x ↦ (White, (alive_marks g White ws white hw mw p).0 x)
-  ],
+-- the alive stones of both colours
+pub both_marks : (g : Grid) (black white marks : List Bool) → Marks black (IsAlive g Black) → Marks white (IsAlive g White)
+    → Marks marks (λ q. IsMarked black q ⊎ IsMarked white q) → Marks marks (λ p. (c : Colour) × IsAlive g c p)
+both_marks g black white marks mb mw is p = (
+  λ m. elim ((is p).0 m) [ inl x ↦ (Black, (mb p).0 x) | inr x ↦ (White, (mw p).0 x) ],
   back,
 )
   where
     back : (c : Colour) × IsAlive g c p → IsMarked marks p
-    back (Black, a) = (is p).1 (inl ((alive_marks g Black bs black hb mb p).1 a))
-    back (White, a) = (is p).1 (inr ((alive_marks g White ws white hw mw p).1 a))
+    back (Black, a) = (is p).1 (inl ((mb p).1 a))
+    back (White, a) = (is p).1 (inr ((mw p).1 a))
 
 -- a key has one point and one colour
 one_key : (c d : Colour) (p q : ℕ) → 2 * p + turn c ≡ 2 * q + turn d → (c ≡ d) × (p ≡ q)
@@ -139,9 +134,6 @@ chains_on_board g ls are k d lt = (are.each (get_or ls k d) (Contains-get_or ls 
 
 pub counted_on_board : (g : Grid) (ls : List CountedLine) → AreCountedLines g ls → (k : ℕ) (d : CountedLine) → k < length ls → (get_or ls k d).lowest < length g.cells
 counted_on_board g ls are k d lt = (are.each (get_or ls k d) (Contains-get_or ls k d lt)).0.lowest.0.2.lacks.0
-
-pub counted_marks : (g : Grid) (c : Colour) (xs : List ℕ) (marks : List Bool) → Lists xs (IsCounted g c) → Marks marks (Contains xs) → Marks marks (IsCounted g c)
-counted_marks g c xs marks lists is p = (λ m. (lists.exact p).0 ((is p).0 m), λ h. (is p).1 ((lists.exact p).1 h))
 
 -- the text of the lines of a board
 pub safe_text_is : (g : Grid) (k : ℕ) (chains : List ChainLine) (counted : List CountedLine) (regions : List Shape) (t u v w text : List ℕ) → k ≡ g.columns

@@ -1,19 +1,20 @@
 //! The text of `safe`.
 
-ghost use Rattle.std.specs.Prelude.{◌≡◌, ◌↔◌, ◌++◌, ◌+◌, ◌*◌, ◌<◌, ℕ, false, true, All, OnOk, IfOk, flat_map, length, slice_index, slice_index_or, string_bytes};
+ghost use Rattle.std.specs.Prelude.{◌≡◌, ◌↔◌, ◌++◌, ◌+◌, ◌*◌, ◌<◌, ℕ, false, true, All, OnOk, IfOk, flat_map, length, slice_index, string_bytes};
 ghost use Rattle.go_grid.specs.Chain.{IsSettled};
 ghost use Rattle.go_grid.specs.Marks.{Lists, Marks};
-ghost use Rattle.benson_life.specs.Life.{InRegion, IsAlive, IsCounted, IsLargestHealthy};
+ghost use Rattle.benson_life.specs.Life.{InRegion, IsAlive, IsCounted};
+ghost use Rattle.benson_life.specs.Territory.{IsTerritory};
 ghost use Rattle.go_grid.specs.declared.grid.Colour.{Colour};
 ghost use Rattle.go_grid.specs.declared.grid.Colour.TheVariants.{Black, White};
 ghost use Rattle.region_cut.specs.Cut.{AreRegionsOfPlay, lowest};
 ghost use Rattle.report.specs.Safety.{AreChainLines, AreChainsBelow, AreCountedBelow, AreCountedLines, IsSafeText, chain_line, counted_line, life_word, region_line, shape_line, turn};
 
 use crate::lines::{colour_word, write_name};
-use benson_life::{alive, counted, held, marked};
+use benson_life::{Territory, held};
 use game_text::Text;
-use go_grid::{Board, Colour, Marks, Point, Region, Size, fill, listed, union};
-use region_cut::cut;
+use go_grid::{Board, Colour, Point, Points, Region, Size, fill};
+use region_cut::cut_territory;
 use std::alloc::{AllocError, Global};
 
 /// A chain by its lowest stone.
@@ -43,19 +44,11 @@ fn stands_first(points: &[Point], point: Point) -> bool
     points[0] == point
 }
 
-/// Whether a point is marked.
-fn has(marks: &Marks, point: Point) -> bool
-    requires { point < 625 }
-    ensures { result ≡ slice_index_or marks.now point false }
-{
-    marks[usize::from(point.0)]
-}
-
 /// Adds the line of the chain whose lowest stone is at a point, if there is one. The marks are the alive stones.
 fn add_chain(
     lines: &mut Vec<ChainLine>,
     board: &Board,
-    alive: &Marks,
+    alive: &Points,
     point: Point,
 ) -> Result<(), AllocError>
     requires on_board { point < length board.now.cells }
@@ -75,13 +68,13 @@ fn add_chain(
         lowest: point,
         colour,
         stones: stones.len(),
-        alive: has(alive, point),
+        alive: alive.contains(point),
     })?;
     Ok(())
 }
 
 /// A line for each chain, by its lowest stone. The marks are the alive stones.
-fn chain_lines(alloc: Global, board: &Board, alive: &Marks) -> Result<Vec<ChainLine>, AllocError>
+fn chain_lines(alloc: Global, board: &Board, alive: &Points) -> Result<Vec<ChainLine>, AllocError>
     requires { Marks alive.now (λ p. (c : Colour) × IsAlive board.now c p) }
     ensures { IfOk result (λ lines. AreChainLines board.now lines.items) }
 {
@@ -103,7 +96,7 @@ fn region_of(
     ensures { IfOk result (λ points. Lists points.items (InRegion board.now colour point)) }
 {
     let size = board.size();
-    let region = listed(alloc, &fill(size, &board.lacking(colour), point))?;
+    let region = fill(size, &board.lacking(colour), point).to_list(alloc)?;
     Ok(region)
 }
 
@@ -114,7 +107,7 @@ fn add_counted(
     lines: &mut Vec<CountedLine>,
     board: &Board,
     colour: Colour,
-    counted: &Marks,
+    counted: &Points,
     point: Point,
 ) -> Result<(), AllocError>
     requires on_board { point < length board.now.cells }
@@ -123,7 +116,7 @@ fn add_counted(
     ensures { OnOk result (AreCountedBelow board.now (2 * point + turn colour + 1) lines.new.items) }
 {
     let _size = board.size();
-    if !has(counted, point) {
+    if !counted.contains(point) {
         return Ok(());
     }
     let region = region_of(alloc, board, colour, point)?;
@@ -143,8 +136,8 @@ fn add_counted(
 fn counted_lines(
     alloc: Global,
     board: &Board,
-    black: &Marks,
-    white: &Marks,
+    black: &Points,
+    white: &Points,
 ) -> Result<Vec<CountedLine>, AllocError>
     requires black { Marks black.now (IsCounted board.now Black) }
     requires white { Marks white.now (IsCounted board.now White) }
@@ -298,22 +291,11 @@ fn lines_text(
 }
 
 /// The alive stones of the two colours.
-fn living(board: &Board, black: &[Point], white: &[Point]) -> Marks
-    requires black { IsLargestHealthy board.now Black black.now }
-    requires white { IsLargestHealthy board.now White white.now }
+fn living(board: &Board, territory: &Territory) -> Points
+    requires { IsTerritory board.now territory.now }
     ensures { Marks result (λ p. (c : Colour) × IsAlive board.now c p) }
 {
-    let _size = board.size();
-    union(&marked(black), &marked(white))
-}
-
-/// The counted points of a colour.
-fn paying(board: &Board, colour: Colour, counted: &[Point]) -> Marks
-    requires { Lists counted.now (IsCounted board.now colour) }
-    ensures { Marks result (IsCounted board.now colour) }
-{
-    let _size = board.size();
-    marked(counted)
+    territory.black.alive.union(&territory.white.alive)
 }
 
 /// The text of `safe` for a settled board: a line for each chain, alive or open (Benson 1976), one for each counted
@@ -322,14 +304,10 @@ pub fn safe_text(alloc: Global, board: &Board) -> Result<Text, AllocError>
     requires { IsSettled board.now }
     ensures { IfOk result (λ text. IsSafeText board.now text) }
 {
-    let black = alive(alloc, board, Colour::Black)?;
-    let white = alive(alloc, board, Colour::White)?;
-    let black_counted = counted(alloc, board, Colour::Black, &black)?;
-    let white_counted = counted(alloc, board, Colour::White, &white)?;
-    let regions = cut(alloc, board, &black, &white, &black_counted, &white_counted)?;
-    let chains = chain_lines(alloc, board, &living(board, &black, &white))?;
-    let black_paying = paying(board, Colour::Black, &black_counted);
-    let white_paying = paying(board, Colour::White, &white_counted);
-    let counted = counted_lines(alloc, board, &black_paying, &white_paying)?;
+    let territory = Territory::of(alloc, board)?;
+    let regions = cut_territory(alloc, board, &territory)?;
+    let chains = chain_lines(alloc, board, &living(board, &territory))?;
+    let (black, white) = (&territory.black.counted, &territory.white.counted);
+    let counted = counted_lines(alloc, board, black, white)?;
     lines_text(alloc, board, &chains, &counted, &regions)
 }

@@ -3,11 +3,12 @@
 ghost use Rattle.std.specs.Prelude.{◌≡◌, ◌+◌, ◌^◌, ◌<◌, ◌≤◌, IfOk};
 ghost use Rattle.go_grid.specs.declared.grid.Colour.TheVariants.{Black, White};
 ghost use Rattle.go_grid.specs.Chain.{IsSettled};
+ghost use Rattle.benson_life.specs.Territory.{IsTerritory};
 ghost use Rattle.whole_rules.specs.Opening.{komi_points, komi_token, IsOpening};
 
 use crate::money::{Purses, Token};
 use crate::states::Whole;
-use benson_life::{alive, contested, counted, held};
+use benson_life::Territory;
 use go_grid::{Board, Colour};
 use std::alloc::{AllocError, Global};
 
@@ -76,18 +77,37 @@ impl Whole {
         requires white { white_prisoners < 2 ^ 40 }
         ensures { IfOk result (λ w. IsOpening board.now black_prisoners white_prisoners komi_halves side w) }
     {
-        let black = alive(alloc, board, Colour::Black)?;
-        let white = alive(alloc, board, Colour::White)?;
-        let black_counted = counted(alloc, board, Colour::Black, &black)?;
-        let white_counted = counted(alloc, board, Colour::White, &white)?;
-        let contested = contested(board, &black, &white, &black_counted, &white_counted);
-        let purses = opening_purses(
-            held(board, Colour::Black, &black_counted),
-            held(board, Colour::White, &white_counted),
+        let territory = Territory::of(alloc, board)?;
+        Whole::opening_with(
+            alloc,
+            board,
+            &territory,
             black_prisoners,
             white_prisoners,
             komi_halves,
-        );
+            side,
+        )
+    }
+
+    /// What `opening` gives, from the territory of the board.
+    pub fn opening_with(
+        alloc: Global,
+        board: &Board,
+        territory: &Territory,
+        black_prisoners: u64,
+        white_prisoners: u64,
+        komi_halves: i64,
+        side: Colour,
+    ) -> Result<Whole, AllocError>
+        requires territory { IsTerritory board.now territory.now }
+        requires black { black_prisoners < 2 ^ 40 }
+        requires white { white_prisoners < 2 ^ 40 }
+        ensures { IfOk result (λ w. IsOpening board.now black_prisoners white_prisoners komi_halves side w) }
+    {
+        let black = territory.black.held(alloc, board, Colour::Black)?;
+        let white = territory.white.held(alloc, board, Colour::White)?;
+        let purses = opening_purses(black, white, black_prisoners, white_prisoners, komi_halves);
+        let contested = territory.contested(board);
         Ok(Whole::new(board.copy()?, contested, purses, side))
     }
 }

@@ -5,7 +5,7 @@ ghost use Rattle.whole_rules.specs.Purses.{purse};
 ghost use Rattle.whole_rules.specs.WholeGame.{Applies, IsLegal, ListsMoves, MovesBelow, IsFirstMove};
 
 use crate::money::{Purses, Token};
-use go_grid::{Board, Colour, Marks, Point};
+use go_grid::{Board, Colour, Point, Points};
 use go_play::{PlaceError, allowed, place};
 use std::alloc::{AllocError, Global};
 use std::marker::Model;
@@ -47,7 +47,7 @@ pub enum MoveError {
 #[derive(Drop)]
 pub struct Whole {
     board: Board,
-    contested: Marks,
+    contested: Points,
     purses: Purses,
     side: Colour,
 }
@@ -66,7 +66,7 @@ impl Whole {
     ghost use Rattle.whole_rules.specs.declared.states.Move.TheVariants.{Stone, Spend, Half};
 
     /// A state of these parts.
-    pub(crate) fn new(board: Board, contested: Marks, purses: Purses, side: Colour) -> Whole
+    pub(crate) fn new(board: Board, contested: Points, purses: Purses, side: Colour) -> Whole
         ensures { result ≡ record { board = board; contested = contested; purses = purses; side = side } }
     {
         Whole {
@@ -123,10 +123,7 @@ impl Whole {
     pub fn contested(&self, point: Point) -> bool
         ensures { (result ≡ true) ↔ IsMarked self.now.contested point }
     {
-        match self.contested.get(usize::from(point.0)) {
-            Some(mark) => *mark,
-            None => false,
-        }
+        self.contested.contains(point)
     }
 
     /// Whether a stone of the side to move may be placed.

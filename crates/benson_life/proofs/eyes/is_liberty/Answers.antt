@@ -1,18 +1,25 @@
-use Rattle.std.proofs.Common.{arith, ◌*◌}
-use Rattle.benson_life.proofs.SurveyLemmas.{around, liberty_is, any_of_four}
+use Rattle.std.proofs.Common.{arith, refl, sym}
+use Rattle.benson_life.specs.Eyes.{IsOfChain}
+use Rattle.go_grid.proofs.PointsLemmas.{each_item}
+use Rattle.benson_life.proofs.SurveyLemmas.{liberty_is}
 use Rattle.benson_life.proofs.eyes.is_liberty.Goals as goal
 
+pub returns-then-is_of_chain : goal.returns-then-is_of_chain
+returns-then-is_of_chain c =
+    let near = rw (c.size.ensures.columns, ← c.as_slice-near-items.ensures) at c.around-around.ensures.around in
+    let next = ((near _).0 (c.loop-near.near-index, c.loop-near-test.true, sym c.near-item.is)).1 in
+    let by = liberty_is c.args.board.now c.args.colour c.args.survey.now c.requires.survey c.args.chain c.args.point c.requires.stone
+    c.requires.named c.requires.point in
+    (λ _. by.0 (c.near-item.result, next, c.is_of_chain.ensures.0 c.if-is_of_chain.true), λ _. refl)
+
 pub returns : goal.returns
-returns c =
-    let g = c.args.board.now in
-    let s = c.args.survey.now in
-    let size = c.size-size.result in
-    let near = c.neighbours-near.ensures in
-    let at = c.neighbours-near.result in
-    let four = any_of_four s c.args.chain at.up at.left at.right at.down _ _ _ _
-    c.is_of_chain-up.ensures c.is_of_chain-left.ensures c.is_of_chain-right.ensures c.is_of_chain-down.ensures in
-    let all = rw c.size-size.ensures.columns at
-    (around size.columns (size.columns * size.rows) c.args.point c.args.chain s at.up at.left at.right at.down (omega arith)
-    (λ q m. omega (arith, ((c.requires.survey.stones q).0 m).0, c.size-size.ensures.area)) near.up near.left near.right near.down) in
-    let lib = liberty_is g c.args.colour s c.requires.survey c.args.chain c.args.point c.requires.stone c.requires.named c.requires.point in
-    (λ t. lib.0 (all.0 (four.0 t)), λ l. four.1 (all.1 (lib.1 l)))
+returns c = (
+  λ e. cc,
+  λ l.
+      let near = rw (c.size.ensures.columns, ← c.as_slice-near-items.ensures) at c.around-around.ensures.around in
+      let (q, next, of) = (liberty_is c.args.board.now c.args.colour c.args.survey.now c.requires.survey c.args.chain c.args.point
+      c.requires.stone c.requires.named c.requires.point).1 l in
+      let on = ((c.requires.survey.stones q).0 of.0).0 in
+      absurd (each_item (λ p. ¬ IsOfChain c.args.survey.now c.args.chain p) _ _ c.loop-near.invariant c.loop-near-test.false q
+      ((near q).1 (omega (arith, on, rw c.size.ensures.columns at c.size.ensures.area), next)) of),
+)

@@ -1,21 +1,21 @@
-use Rattle.std.proofs.Common.{arith, sym, refl}
+use Rattle.std.proofs.Common.{◌≡◌, ◌∙◌, arith, refl}
 use Rattle.std.proofs.lemmas.Bool.{both_ways}
-use Rattle.benson_life.proofs.EyeLists.{eye_at, some_set, some_skip, some_end}
+use Rattle.benson_life.proofs.EyeLists.{eye_item, some_set, some_skip, some_end}
 use Rattle.benson_life.proofs.striking.some_eyes.Goals as goal
-use Rattle.benson_life.proofs.striking.some_eyes.Goals.{then-not-breached-from, else-not-breached-from}
+use Rattle.benson_life.proofs.striking.some_eyes.Goals.{then-not-contains, else-not-contains}
 
 pub loop-eye-preserved : goal.loop-eye-preserved
 loop-eye-preserved c =
-    let at = c.from.ensures in
-    let small = c.requires c.loop-eye.eye-index (eye_at c.args.eyes.now c.loop-eye.eye-index) (omega arith) in
-    elim c.if-not-breached-from.branch [
-      | then-not-breached-from w ↦
-          let key = w.from-then-not-breached-from.ensures in
-          rw w.regions-is
-          (some_set c.args.eyes.now c.args.breached.now _ _ _ _ c.loop-eye.invariant (omega arith) (sym key) refl
-          (omega (arith, key, small.1)) (both_ways _ (rw at at w.if-not-breached-from.true)))
-      | else-not-breached-from w ↦
-          rw w.regions-is (some_skip c.args.eyes.now c.args.breached.now _ _ c.loop-eye.invariant (rw at at w.if-not-breached-from.false))
+    let at = eye_item c.args.eyes.now _ _ c.loop-eye-test.true c.eye-item.is in
+    let walled = rw at at c.contains.ensures in
+    elim c.if-not-contains.branch [
+      | then-not-contains w ↦
+          let key : w.from.result ≡ c.eye-item.result.chain = w.from.ensures ∙ w.chain.view_is in
+          rw (w.regions-is, key, at)
+          (some_set c.args.eyes.now c.args.breached.now _ _ _ _ c.loop-eye.invariant c.loop-eye-test.true refl refl
+          (c.requires c.loop-eye.eye-index _ c.loop-eye-test.true).1 (λ m. both_ways _ w.if-not-contains.true (walled.1 m)))
+      | else-not-contains w ↦
+          rw w.regions-is (some_skip c.args.eyes.now c.args.breached.now _ _ c.loop-eye.invariant (walled.0 w.if-not-contains.false))
     ]
 
 pub returns : goal.returns

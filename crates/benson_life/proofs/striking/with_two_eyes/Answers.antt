@@ -1,13 +1,11 @@
-use Rattle.std.proofs.Common.{arith}
-use Rattle.std.proofs.lemmas.List.Elements.{Contains-get_or}
 use Rattle.go_grid.specs.Marks.{IsMarked}
 use Rattle.benson_life.proofs.EyesLemmas.{two_is}
+use Rattle.benson_life.proofs.EyeLists.{eyes_inside}
 use Rattle.benson_life.proofs.striking.with_two_eyes.Goals as goal
 
 pub two_eyed-requires : goal.two_eyed-requires
-two_eyed-requires c k d lt =
-    let pair = (c.requires.eyes _).0 (Contains-get_or c.args.eyes.now k d lt) in
-    (omega (arith, pair.lacks.0, c.size-size.ensures.most), omega (arith, pair.stone.0, c.size-size.ensures.most))
+two_eyed-requires c =
+    eyes_inside c.args.board.now c.args.colour c.args.survey.now c.args.eyes.now c.requires.eyes c.size-size.ensures.most
 
 pub returns : goal.returns
 returns c s =

@@ -3,4 +3,4 @@ use Rattle.go_grid.proofs.FillLemmas.{idle_filled}
 use Rattle.go_grid.proofs.filling.idle.Goals as goal
 
 pub returns-clause-filled : goal.returns-clause-filled
-returns-clause-filled c columns within = idle_filled columns within _ c.unmarked.ensures refl
+returns-clause-filled c columns within = idle_filled columns within _ c.new.ensures refl

@@ -1,8 +1,8 @@
-use Rattle.go_grid.proofs.FillLemmas.{none_marked, part_marks}
+use Rattle.go_grid.proofs.FillLemmas.{part_marks}
 use Rattle.go_grid.proofs.filling.part.Goals as goal
 
 pub spread-requires-clause-fresh : goal.spread-requires-clause-fresh
-spread-requires-clause-fresh c m = none_marked 625 c.args.start (rw c.idle-work.ensures.empty at m)
+spread-requires-clause-fresh c m = (c.idle-work.ensures.empty c.args.start).0 m
 
 pub spread-requires-clause-filled : goal.spread-requires-clause-filled
 spread-requires-clause-filled c = c.idle-work.ensures.filled _ _

@@ -19,6 +19,6 @@ returns c =
       stripped b c.in_ok-taken.taken,
       (
         record { free = j.0; without = w; breathes = j.2 _ w },
-        rw c.count.ensures (number_taken g c.args.point c.args.colour _ c.in_ok-taken.taken j.0 j.1 w),
+        rw c.len.ensures (number_taken g c.args.point c.args.colour _ c.in_ok-taken.taken j.0 j.1 w),
       ),
     )

@@ -12,5 +12,5 @@ returns c =
     let w = without_marked b (IsTaken b c.args.point (other c.args.colour)) c.in_ok-taken.taken h j.1
     (rw (c.set.ensures, c.stone.ensures) at c.take_off.ensures) in (
       record { free = j.0; without = w; breathes = j.2 h w },
-      rw c.count-number.ensures (number_taken g c.args.point c.args.colour h c.in_ok-taken.taken j.0 j.1 w),
+      rw c.len-number.ensures (number_taken g c.args.point c.args.colour h c.in_ok-taken.taken j.0 j.1 w),
     )

@@ -4,4 +4,4 @@ use Rattle.go_play.specs.Place.{IsWithout}
 use Rattle.go_play.proofs.placing.take_off.Given as goal
 
 abbrev pub invariant-loop-number : goal.invariant-loop-number
-invariant-loop-number l = IsWithout l.fn.board (λ q. IsMarked l.marks q × (q < l.number)) l.board
+invariant-loop-number l = IsWithout l.fn.board (λ q. IsMarked l.points q × (q < l.number)) l.board

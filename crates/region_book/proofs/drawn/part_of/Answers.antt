@@ -1,6 +1,6 @@
 use Rattle.go_grid.specs.Marks.{IsMarked}
 use Rattle.go_grid.specs.Walk.{Joined}
-use Rattle.go_grid.proofs.SetsLemmas.{lists_same}
+use Rattle.go_grid.proofs.PointsLemmas.{lists_same}
 use Rattle.region_book.proofs.drawn.part_of.Goals as goal
 
 pub returns : goal.returns

@@ -27,6 +27,6 @@ pub returns : goal.returns
 returns c =
     let points = c.in_ok-stones.stones.items in
     let first = subst (λ xs. (c.stands_first.result ≡ true) → get_or xs 0 0 ≡ c.args.point) c.deref.ensures.value c.stands_first.ensures.0 in
-    let line = chain_line_is c.args.board.now c.in-Some.colour c.args.point points c.len.result c.args.alive.now c.has.result c.in-Some.ensures
-    (c.in_ok-stones.ensures c.in-Some.colour c.in-Some.ensures) (first c.if-not-stands_first.false) (ap length (sym c.deref.ensures.value) ∙ c.deref.ensures.len ∙ sym c.len.ensures) c.requires.alive c.has.ensures in
+    let line = chain_line_is c.args.board.now c.in-Some.colour c.args.point points c.len.result c.args.alive.now c.contains.result c.in-Some.ensures
+    (c.in_ok-stones.ensures c.in-Some.colour c.in-Some.ensures) (first c.if-not-stands_first.false) (ap length (sym c.deref.ensures.value) ∙ c.deref.ensures.len ∙ sym c.len.ensures) c.requires.alive c.contains.ensures in
     rw c.in_ok-push.ensures.items (listing_more _ _ _ _ c.args.point c.args.lines.now.items _ c.requires.below line refl)

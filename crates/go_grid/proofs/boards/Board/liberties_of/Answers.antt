@@ -5,16 +5,16 @@ use Rattle.go_grid.specs.Grid.{HasStone}
 use Rattle.go_grid.specs.Chain.{IsLiberty}
 use Rattle.go_grid.specs.Marks.{IsMarked, Lists}
 use Rattle.go_grid.proofs.GridLemmas.{one_colour}
-use Rattle.go_grid.proofs.SetsLemmas.{lists_same}
+use Rattle.go_grid.proofs.PointsLemmas.{lists_same}
 use Rattle.go_grid.proofs.boards.Board.liberties_of.Goals as goal
 
 pub returns : goal.returns
 returns c =
     let g = c.args.self.now in
-    IfOk-weaker c.listed.result (λ points. Lists points.items (IsMarked c.liberties.result))
+    IfOk-weaker c.to_list.result (λ points. Lists points.items (IsMarked c.liberties.result))
     (λ points. (d : Colour) → HasStone g d c.args.point → Lists points.items (IsLiberty g d c.args.point))
     (λ points l d h.
     subst (λ (e : Colour). Lists points.items (IsLiberty g e c.args.point))
     (one_colour g _ d c.args.point c.in-Some.ensures h)
     (lists_same points.items (IsMarked c.liberties.result) (IsLiberty g c.in-Some.colour c.args.point) l c.liberties.ensures))
-    c.listed.ensures
+    c.to_list.ensures

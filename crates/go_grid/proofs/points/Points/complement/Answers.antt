@@ -1,0 +1,6 @@
+use Rattle.std.proofs.Common.{rules, arith}
+use Rattle.go_grid.proofs.PointsLemmas.{chosen_are}
+use Rattle.go_grid.proofs.points.Points.complement.Goals as goal
+
+pub returns : goal.returns
+returns c = chosen_are _ _ _ _ c.chosen.ensures (λ p h. omega (arith, h.0)) (λ p b lt a. search rules)

@@ -1,0 +1,156 @@
+//! Sets of points.
+
+ghost use Rattle.std.specs.Prelude.{◌≡◌, ℕ, ◌*◌, ◌<◌, ◌≤◌, ◌↔◌, ◌⊎◌, true, All, Contains, IfOk, count_by, replicate, false, ◌+◌};
+ghost use Rattle.std.specs.Bool.{OnFalse, OnTrue};
+ghost use Rattle.go_grid.specs.Marks.{AreChosen, IsMarked, Lists, Marks};
+
+use crate::grid::{Point, Size};
+use std::alloc::{AllocError, Global};
+use std::marker::Model;
+
+/// A set of points: a mark for each point of the largest board.
+#[derive(Clone, Copy)]
+pub struct Points {
+    marks: [bool; 625],
+}
+
+impl Model for Points {
+    ghost use Rattle.std.specs.Prelude.{List, Bool};
+
+    ghost Value = { List Bool };
+
+    ghost view = { λ s. s.marks };
+
+    ghost inverse = { λ marks. record { marks = marks } };
+}
+
+impl Points {
+    /// No point.
+    pub fn new() -> Points
+        ensures { Marks result (λ _. ⊥) }
+    {
+        Points { marks: blank() }
+    }
+
+    /// The points of a list.
+    pub fn of(list: &[Point]) -> Points
+        requires { All (λ p. p < 625) list.now }
+        ensures { Marks result (Contains list.now) }
+    {
+        let mut points = Points::new();
+        for point in list {
+            points.insert(*point);
+        }
+        points
+    }
+
+    /// Whether the point is in the set.
+    pub fn contains(&self, point: Point) -> bool
+        ensures { (result ≡ true) ↔ IsMarked self.now point }
+    {
+        let place = usize::from(point.0);
+        place < 625 && self.marks[place]
+    }
+
+    /// Adds a point.
+    pub fn insert(&mut self, point: Point)
+        requires { point < 625 }
+        ensures marks { Marks self.new (λ q. IsMarked self.old q ⊎ (q ≡ point)) }
+        ensures number { ¬ IsMarked self.old point → count_by (λ m. m) self.new ≡ count_by (λ m. m) self.old + 1 }
+        ensures most { count_by (λ m. m) self.new ≤ 625 }
+    {
+        self.marks[usize::from(point.0)] = true;
+    }
+
+    /// Takes a point out.
+    pub fn remove(&mut self, point: Point)
+        requires { point < 625 }
+        ensures { Marks self.new (λ q. IsMarked self.old q × (q ≡ point → ⊥)) }
+    {
+        self.marks[usize::from(point.0)] = false;
+    }
+
+    /// The points below a number for which the test holds.
+    pub fn chosen<F: Fn(Point) -> bool>(number: u16, test: F) -> Points
+        requires number { number ≤ 625 }
+        requires test { (p : ℕ) → p < number → F.pre test p }
+        ensures { AreChosen number (F.post test) result }
+    {
+        let mut points = Points::new();
+        for at in 0..number {
+            if test(Point(at)) {
+                points.insert(Point(at));
+            }
+        }
+        points
+    }
+
+    /// The points of either set.
+    pub fn union(&self, other: &Points) -> Points
+        ensures { Marks result (λ q. IsMarked self.now q ⊎ IsMarked other.now q) }
+    {
+        let (mine, theirs) = (&self.marks, &other.marks);
+        Points::chosen(625, |point| {
+            let place = usize::from(point.0);
+            mine[place] || theirs[place]
+        })
+    }
+
+    /// The points of this set that are not in the other.
+    pub fn difference(&self, other: &Points) -> Points
+        ensures { Marks result (λ q. IsMarked self.now q × ¬ IsMarked other.now q) }
+    {
+        let (mine, theirs) = (&self.marks, &other.marks);
+        Points::chosen(625, |point| {
+            let place = usize::from(point.0);
+            mine[place] && !theirs[place]
+        })
+    }
+
+    /// The points of a board that are not in the set.
+    pub fn complement(&self, size: Size) -> Points
+        ensures { Marks result (λ p. (p < size.columns * size.rows) × ¬ IsMarked self.now p) }
+    {
+        Points::chosen(size.area(), |point| !self.contains(point))
+    }
+
+    /// The points of the set, lowest first.
+    pub fn to_list(&self, alloc: Global) -> Result<Vec<Point>, AllocError>
+        ensures { IfOk result (λ points. Lists points.items (IsMarked self.now)) }
+    {
+        let mut points = Vec::new(alloc);
+        for number in 0..625u16 {
+            if self.marks[usize::from(number)] {
+                points.push(Point(number))?;
+            }
+        }
+        Ok(points)
+    }
+
+    /// Whether the set has no point.
+    pub fn is_empty(&self) -> bool
+        ensures none { OnTrue result ((p : ℕ) → ¬ IsMarked self.now p) }
+        ensures some { OnFalse result ((p : ℕ) × IsMarked self.now p) }
+    {
+        for mark in &self.marks {
+            if *mark {
+                return false;
+            }
+        }
+        true
+    }
+
+    /// How many points the set has.
+    pub fn len(&self) -> u16
+        ensures { result ≡ count_by (λ m. m) self.now }
+    {
+        self.marks.iter().filter(|mark| **mark).count() as u16
+    }
+}
+
+/// No mark.
+fn blank() -> [bool; 625]
+    ensures { result ≡ replicate 625 false }
+{
+    [false; 625]
+}
