@@ -69,6 +69,7 @@ fn load_file<H: Shelf>(alloc: Global, shelf: &mut H, name: &str) -> Result<Vec<u
     ensures too_long { IsErrOf result FileError.TooLong → IsTooLong (told_file (H.files shelf.old) name.now) }
     ensures cannot_read { IsErrOf result FileError.CannotRead → (told_file (H.files shelf.old) name.now ≡ Some None)
         ⊎ Rose (H.faults shelf.old) (H.faults shelf.new) }
+    ensures asked { H.asks shelf.old name.now shelf.new }
     ensures same_files { H.files shelf.new ≡ H.files shelf.old }
     ensures later { H.faults shelf.old ≤ H.faults shelf.new }
 {
@@ -94,6 +95,7 @@ pub(crate) fn read_file<H: Shelf, S: Source>(
     ensures cannot_read { IsErrOf result FileError.CannotRead → (told_of (H.files shelf.old) (S.left lines.old) word.now ≡ Some None)
         ⊎ Rose (count_of (H.faults shelf.old) (S.faults lines.old) word.now) (count_of (H.faults shelf.new) (S.faults lines.new) word.now) }
     ensures takes { TakesAtMost 1048577 (S.left lines.old) (S.left lines.new) }
+    ensures asked { word.now ≢ dash → H.asks shelf.old word.now shelf.new }
     ensures same_files { H.files shelf.new ≡ H.files shelf.old }
     ensures later_loads { H.faults shelf.old ≤ H.faults shelf.new }
     ensures later_reads { S.faults lines.old ≤ S.faults lines.new }

@@ -65,6 +65,7 @@ pub(crate) fn find_position<H: Shelf, S: Source>(
     ensures found { IfOk result (IsFound (told_of (H.files shelf.old) (S.left lines.old) word.now)
         (count_of (H.faults shelf.old) (S.faults lines.old) word.now) (count_of (H.faults shelf.new) (S.faults lines.new) word.now) settings.now) }
     ensures takes { TakesAtMost 1048577 (S.left lines.old) (S.left lines.new) }
+    ensures asked { word.now ≢ dash → H.asks shelf.old word.now shelf.new }
     ensures same_files { H.files shelf.new ≡ H.files shelf.old }
     ensures later_loads { H.faults shelf.old ≤ H.faults shelf.new }
     ensures later_reads { S.faults lines.old ≤ S.faults lines.new }

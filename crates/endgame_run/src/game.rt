@@ -34,6 +34,7 @@ fn open_game<H: Shelf, S: Source, L: Ledger>(
     ensures opened { IfOk result (IsOpened game.now.limits game.now.engine (told_of (H.files shelf.old) (S.left lines.old) game.now.word.now)
         (count_of (H.faults shelf.old) (S.faults lines.old) game.now.word.now) (count_of (H.faults shelf.new) (S.faults lines.new) game.now.word.now) settings.now) }
     ensures steps { AreToldSteps (Solve game.now.limits) (told_of (H.files shelf.old) (S.left lines.old) game.now.word.now) settings.now steps.old steps.new }
+    ensures asked { game.now.word.now ≢ dash → H.asks shelf.old game.now.word.now shelf.new }
     ensures same_files { H.files shelf.new ≡ H.files shelf.old }
     ensures later_loads { H.faults shelf.old ≤ H.faults shelf.new }
     ensures lines_unread { game.now.word.now ≢ dash → lines.new ≡ lines.old }
@@ -82,6 +83,7 @@ pub(crate) fn run_game<H: Shelf, S: Source, K: Sink, L: Ledger>(
         (K.faults out.old) (K.faults out.new) (K.holds out.old) (K.holds out.new) result }
     ensures steps { AreToldSteps (Solve game.now.limits) (told_of (H.files shelf.old) (S.left lines.old) game.now.word.now) settings.now steps.old steps.new }
     ensures takes { TakesAtMost 2560256 (S.left lines.old) (S.left lines.new) }
+    ensures asked { H.asks shelf.old game.now.word.now shelf.new }
     ensures same_files { H.files shelf.new ≡ H.files shelf.old }
     ensures later_loads { H.faults shelf.old ≤ H.faults shelf.new }
     ensures later_reads { S.faults lines.old ≤ S.faults lines.new }

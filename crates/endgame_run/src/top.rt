@@ -16,7 +16,7 @@ ghost use Rattle.endgame_run.specs.Found.{HasRanges};
 ghost use Rattle.endgame_run.specs.Game.{IsGameRun, PlaysWon};
 ghost use Rattle.endgame_run.specs.Output.{IsPartOutput};
 ghost use Rattle.endgame_run.specs.Top.{AreToldSteps, IsAsked, IsFileRun, IsModest};
-ghost use Rattle.endgame_run.specs.Verdict.{AreSteps, AreStepsFor, AskToPlay, AskToSolve, HasCause, IsAnswer, IsPositionAnswer, IsToldRegions, IsUnbuilt, IsWritten, NeedRegions, ReadShelf, ReadSource, WritesMove, WritesWinner, limits_of};
+ghost use Rattle.endgame_run.specs.Verdict.{AreSteps, AreStepsFor, AskShelf, AskToPlay, AskToSolve, HasCause, IsAnswer, IsPositionAnswer, IsToldRegions, IsUnbuilt, IsWritten, NeedRegions, ReadShelf, ReadSource, WritesMove, WritesWinner, limits_of};
 
 use crate::ending::finish;
 use crate::finding::find_position;
@@ -74,6 +74,7 @@ fn answer<H: Shelf, S: Source, L: Ledger>(
         settings.now report.status report.text) }
     ensures steps { AreToldSteps inquiry.now.question (told_of (H.files shelf.old) (S.left lines.old) inquiry.now.word.now) settings.now steps.old steps.new }
     ensures takes { TakesAtMost 1048577 (S.left lines.old) (S.left lines.new) }
+    ensures asked { inquiry.now.word.now ≢ dash → H.asks shelf.old inquiry.now.word.now shelf.new }
     ensures same_files { H.files shelf.new ≡ H.files shelf.old }
     ensures later_loads { H.faults shelf.old ≤ H.faults shelf.new }
     ensures later_reads { S.faults lines.old ≤ S.faults lines.new }
@@ -107,6 +108,7 @@ fn run_file<H: Shelf, S: Source, K: Sink, L: Ledger>(
         (K.faults out.old) (K.faults out.new) (K.holds out.old) (K.holds out.new) result }
     ensures steps { AreToldSteps inquiry.now.question (told_of (H.files shelf.old) (S.left lines.old) inquiry.now.word.now) settings.now steps.old steps.new }
     ensures takes { TakesAtMost 1048577 (S.left lines.old) (S.left lines.new) }
+    ensures asked { inquiry.now.word.now ≢ dash → H.asks shelf.old inquiry.now.word.now shelf.new }
     ensures same_files { H.files shelf.new ≡ H.files shelf.old }
     ensures later_loads { H.faults shelf.old ≤ H.faults shelf.new }
     ensures later_reads { S.faults lines.old ≤ S.faults lines.new }
@@ -200,6 +202,7 @@ pub fn run<H: Shelf, S: Source, K: Sink, L: Ledger>(
         (S.faults lines.old) (S.faults lines.new)) (K.holds out.old) (K.holds out.new) result }
     ensures file_taken { ¬ AskToPlay (texts words.now) → TakesAtMost 1048577 (S.left lines.old) (S.left lines.new) }
     ensures lines_taken { AskToPlay (texts words.now) → TakesAtMost 2560256 (S.left lines.old) (S.left lines.new) }
+    ensures asked { (shelf.new ≡ shelf.old) ⊎ AskShelf (texts words.now) (λ word. H.asks shelf.old word shelf.new) }
     ensures same_files { H.files shelf.new ≡ H.files shelf.old }
     ensures later_loads { H.faults shelf.old ≤ H.faults shelf.new }
     ensures later_reads { S.faults lines.old ≤ S.faults lines.new }

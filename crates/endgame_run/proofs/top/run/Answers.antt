@@ -180,3 +180,21 @@ returns-in-Game-clause-lines_unplayed g c _ =
     let o = outside (g.H.Shelf.files c.args.shelf.now) (g.S.Source.left c.args.lines.now) (g.H.Shelf.faults c.args.shelf.now) (g.H.Shelf.faults c.run_game.new.shelf) (g.S.Source.faults c.args.lines.now) (g.S.Source.faults c.run_game.new.lines) in
     unplayed (texts c.args.words.now) o (viewed c.in-Ok.job) c.in-Game.game.limits c.in-Game.game.engine c.in-Game.game.word.now _ _ _ _ c.run_game.result _ asks
     (subst (IsAsked (viewed c.in-Ok.job)) c.in-Game.is c.in-Some.ensures).1 (subst (IsAsked (viewed c.in-Ok.job)) c.in-Game.is c.in-Some.ensures).2 c.run_game.ensures.lines_unplayed
+
+pub returns-in-Answer-clause-asked : goal.returns-in-Answer-clause-asked
+returns-in-Answer-clause-asked g c =
+    let asks : AskAbout (texts c.args.words.now) (viewed c.in-Ok.job) c.in-Answer.inquiry.question c.in-Answer.inquiry.word.now = (c.in-Ok.ensures.job, (subst (IsAsked (viewed c.in-Ok.job)) c.in-Answer.is c.in-Some.ensures)) in
+    by_word _ c.in-Answer.inquiry.word.now (λ is. inl (c.run_file.ensures.shelf_unread is))
+    (λ ne. inr (viewed c.in-Ok.job, c.in-Answer.inquiry.question, c.in-Answer.inquiry.word.now, inl asks, ne, c.run_file.ensures.asked ne))
+
+pub returns-in-Game-clause-asked : goal.returns-in-Game-clause-asked
+returns-in-Game-clause-asked g c =
+    let asks : Pose (texts c.args.words.now) (viewed c.in-Ok.job) (Solve c.in-Game.game.limits) c.in-Game.game.word.now = inr ((c.in-Ok.ensures.job, (subst (IsAsked (viewed c.in-Ok.job)) c.in-Game.is c.in-Some.ensures).0), ap Solve (subst (IsAsked (viewed c.in-Ok.job)) c.in-Game.is c.in-Some.ensures).1) in
+    inr (
+      viewed c.in-Ok.job,
+      Solve c.in-Game.game.limits,
+      c.in-Game.game.word.now,
+      asks,
+      played_apart (texts c.args.words.now) (viewed c.in-Ok.job) c.in-Game.game.word.now c.in-Ok.ensures.job.said (subst (IsAsked (viewed c.in-Ok.job)) c.in-Game.is c.in-Some.ensures).0,
+      c.run_game.ensures.asked,
+    )
