@@ -1,5 +1,5 @@
 // The real shelf, over files. It tells no content.
-ghost use Rattle.std.specs.Prelude.{◌≡◌, None, Some};
+ghost use Rattle.std.specs.Prelude.{◌≡◌, Bool, None, Some};
 ghost use Rattle.std.specs.Option.{option_map};
 ghost use Rattle.desk_io.specs.Files.{FailsByCount, Loads, has_failed};
 ghost use Rattle.desk_io.specs.Outside.{faults_after};
@@ -29,10 +29,13 @@ impl<R: Files> Shelf for FileShelf<'_, R> {
 
     ghost faults = { λ s. s.faults };
 
+    ghost asks = { λ s name t. (failed : Bool) × (t.faults ≡ faults_after s.faults failed) };
+
     fn load(&mut self, name: &str, limit: usize, out: &mut Vec<u8>) -> Result<Loaded, LoadError>
         ensures bytes { Loads None limit out.old.items out.new.items result }
         ensures cause { FailsByCount self.old.faults self.new.faults result }
         ensures count { self.new.faults ≡ faults_after self.old.faults (has_failed result) }
+        ensures asked { (failed : Bool) × (self.new.faults ≡ faults_after self.old.faults failed) }
     {
         let result = copy(self.rt, name, limit, out);
         if let Err(LoadError::Failed) = result {

@@ -65,6 +65,8 @@ impl Shelf for MemoryShelf {
 
     ghost faults = { λ s. s.calls.faults };
 
+    ghost asks = { λ s name t. t ≡ record s { calls = counted s.calls (fails_next s.calls) } };
+
     #[tactic(auto, using(crate::proofs::Kept::file_in))]
     fn load(&mut self, name: &str, limit: usize, out: &mut Vec<u8>) -> Result<Loaded, LoadError>
         ensures same { self.new.files ≡ self.old.files }
@@ -72,6 +74,7 @@ impl Shelf for MemoryShelf {
         ensures cause { FailsByCount self.old.calls.faults self.new.calls.faults result }
         ensures named { has_failed result ≡ fails_next self.old.calls }
         ensures calls { self.new.calls ≡ counted self.old.calls (has_failed result) }
+        ensures asked { self.new ≡ record self.old { calls = counted self.old.calls (fails_next self.old.calls) } }
     {
         let call = self.calls;
         self.calls = call.saturating_add(1);

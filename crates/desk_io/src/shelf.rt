@@ -1,5 +1,5 @@
 // Named files, as the rest of the program sees them.
-ghost use Rattle.std.specs.Prelude.{◌≡◌, ℕ};
+ghost use Rattle.std.specs.Prelude.{◌≡◌, ℕ, List};
 ghost use Rattle.std.specs.declared.option.Option.{Option};
 ghost use Rattle.desk_io.specs.Files.{FailsByCount, Files, Loads, told_file};
 ghost use Rattle.desk_io.specs.declared.shelf.LoadError.TheVariants.{Memory};
@@ -41,10 +41,14 @@ pub trait Shelf {
     /// How often a load has failed. It never falls.
     ghost faults: { Self → ℕ };
 
+    /// One load of the file of this name leads from the one shelf to the other.
+    ghost asks: { Self → List ℕ → Self → Type 0 };
+
     /// Appends the bytes of the file to `out`, or the first `limit` of them where it has more. At an error a front
     /// part of them was appended.
     fn load(&mut self, name: &str, limit: usize, out: &mut Vec<u8>) -> Result<Loaded, LoadError>
         ensures same { files self.new ≡ files self.old }
         ensures bytes { Loads (told_file (files self.old) name.now) limit out.old.items out.new.items result }
-        ensures cause { FailsByCount (faults self.old) (faults self.new) result };
+        ensures cause { FailsByCount (faults self.old) (faults self.new) result }
+        ensures asked { asks self.old name.now self.new };
 }

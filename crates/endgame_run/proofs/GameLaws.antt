@@ -6,7 +6,6 @@ use Rattle.gd_words.specs.Job.{IsJob, JobView}
 use Rattle.gd_words.specs.Task.{AreFor, Task}
 use Rattle.gd_words.specs.Task.Task.{solve, safe, play, values}
 use Rattle.endgame_solver.specs.declared.limits.Limits.{Limits}
-use Rattle.play_session.proofs.Wins.{win_is_kept}
 use Rattle.endgame_run.specs.declared.status.Status.{Status}
 use Rattle.endgame_run.specs.declared.question.Question.{Question}
 use Rattle.endgame_run.specs.declared.question.Question.TheVariants as question
@@ -15,8 +14,8 @@ use Rattle.sgf_go.specs.declared.settings.Settings.{Settings}
 use Rattle.endgame_run.specs.declared.question.Opened.{Opened}
 use Rattle.endgame_run.specs.declared.question.Opened.TheVariants.{Game}
 use Rattle.endgame_run.specs.File.{Outside, dash, told_of}
-use Rattle.endgame_run.specs.Game.{EngineKeepsWin, IsGameRun, beginning}
-use Rattle.endgame_run.specs.Top.{IsGameOutcome, IsOpened, IsPlayRun}
+use Rattle.endgame_run.specs.Game.{IsGameRun}
+use Rattle.endgame_run.specs.Top.{IsGameOutcome, IsOpened, IsPlayedGame, IsPlayRun}
 use Rattle.endgame_run.specs.Verdict.{AreToPlay, AskAbout, HasCause, IsWritten, limits_of}
 use Rattle.endgame_run.proofs.TopLaws.{caused, undone, written}
 
@@ -37,12 +36,12 @@ pub game_modest : (job : JobView) (limits : Limits) → limits ≡ limits_of job
 game_modest job limits e few = subst (λ l. l.positions ≤ 1000000) (sym e) few
 
 -- a game that was opened, and its run
-pub opened_outcome : (limits : Limits) (given : Option Colour) (settings : Settings) (word : List ℕ) (o : Outside) (b n kb kn : ℕ) (before now : Option (List ℕ)) (result : Status) (opened : Opened) (session : SessionState)
+pub opened_game : (limits : Limits) (given : Option Colour) (settings : Settings) (word : List ℕ) (o : Outside) (b n kb kn : ℕ) (before now : Option (List ℕ)) (result : Status) (opened : Opened) (session : SessionState)
     → opened ≡ Game session → IsOpened limits given (told_of o.files o.left word) b n settings opened → IsPlayRun session.engine session.state o.left o.lines_before o.lines_now kb kn before now result
-    → IsGameOutcome limits given settings word o kb kn before now result
-opened_outcome limits given settings word o b n kb kn before now result opened session e h run =
+    → IsPlayedGame limits given settings word o kb kn before now result
+opened_game limits given settings word o b n kb kn before now result opened session e h run =
     let k : IsOpened limits given (told_of o.files o.left word) b n settings (Game session) = subst (λ x. IsOpened limits given (told_of o.files o.left word) b n settings x) e h in
-    inr (inr (k.0, session.engine, session.state, k.1, k.2, k.3, run))
+    (k.0, session.engine, session.state, k.1, k.2, k.3, run)
 
 -- what a game comes to, by the job
 pub own_outcome : (job : JobView) (limits : Limits) (given : Option Colour) (word : List ℕ) (o : Outside) (kb kn : ℕ) (before now : Option (List ℕ)) (result : Status) → limits ≡ limits_of job → given ≡ job.engine
@@ -50,31 +49,34 @@ pub own_outcome : (job : JobView) (limits : Limits) (given : Option Colour) (wor
 own_outcome job limits given word o kb kn before now result e d h =
     subst (λ l. IsGameOutcome l job.engine job.settings word o kb kn before now result) e (subst (λ c. IsGameOutcome limits c job.settings word o kb kn before now result) d h)
 
-pub game_caused : (words : List (List ℕ)) (o : Outside) (job : JobView) (word : List ℕ) (kb kn : ℕ) (before now : Option (List ℕ)) (result : Status) → AreToPlay words job word
-    → IsGameOutcome (limits_of job) job.engine job.settings word o kb kn before now result → HasCause words o result ⊎ IsGameRun words o before now result
-game_caused words o job word kb kn before now result a (inl m) = inl (subst (λ r. HasCause words o r) (sym m.0) (job, a.0.said))
-game_caused words o job word kb kn before now result a (inr (inl h)) = inl (caused words o kb kn before now h.0 h.1 result (undone words o job word h.0 h.1 a h.2.1 h.2.0) h.3)
-game_caused words o job word kb kn before now result a (inr (inr (setup, engine, s, position, playable, colour, run))) = inr (record {
+-- a game that was played, of words that ask for it
+pub game_run : (words : List (List ℕ)) (o : Outside) (job : JobView) (word : List ℕ) (kb kn : ℕ) (before now : Option (List ℕ)) (result : Status) → AreToPlay words job word
+    → IsPlayedGame (limits_of job) job.engine job.settings word o kb kn before now result → IsGameRun words o before now result
+game_run words o job word kb kn before now result a (setup, engine, s, position, playable, colour, run) = record {
   engine = engine;
   state = s;
   game = record { job = job; word = word; setup = setup; asks = a; position = position; playable = playable; colour = colour };
   begun = run.begun;
   read = run.read;
   written = run.written;
-})
+}
+
+pub game_caused : (words : List (List ℕ)) (o : Outside) (job : JobView) (word : List ℕ) (kb kn : ℕ) (before now : Option (List ℕ)) (result : Status) → AreToPlay words job word
+    → IsGameOutcome (limits_of job) job.engine job.settings word o kb kn before now result → HasCause words o result ⊎ IsGameRun words o before now result
+game_caused words o job word kb kn before now result a (inl m) = inl (subst (λ r. HasCause words o r) (sym m.0) (job, a.0.said))
+game_caused words o job word kb kn before now result a (inr (inl h)) = inl (caused words o kb kn before now h.0 h.1 result (undone words o job word h.0 h.1 a h.2.1 h.2.0) h.3)
+game_caused words o job word kb kn before now result a (inr (inr h)) = inr (game_run words o job word kb kn before now result a h)
 
 pub game_written : (words : List (List ℕ)) (o : Outside) (job : JobView) (word : List ℕ) (kb kn : ℕ) (before now : Option (List ℕ)) (result : Status) → AreToPlay words job word
     → IsGameOutcome (limits_of job) job.engine job.settings word o kb kn before now result → IsWritten words o before now result ⊎ IsGameRun words o before now result
 game_written words o job word kb kn before now result a (inl m) = inl (subst (λ r. IsWritten words o before now r) (sym m.0) m.1)
 game_written words o job word kb kn before now result a (inr (inl h)) = inl (written words o kb kn before now h.0 h.1 result (undone words o job word h.0 h.1 a h.2.1 h.2.0) h.3)
-game_written words o job word kb kn before now result a (inr (inr (setup, engine, s, position, playable, colour, run))) = inr (record {
-  engine = engine;
-  state = s;
-  game = record { job = job; word = word; setup = setup; asks = a; position = position; playable = playable; colour = colour };
-  begun = run.begun;
-  read = run.read;
-  written = run.written;
-})
+game_written words o job word kb kn before now result a (inr (inr h)) = inr (game_run words o job word kb kn before now result a h)
 
-pub keeps_win : (words : List (List ℕ)) (o : Outside) → EngineKeepsWin words o
-keeps_win words o engine s bytes game wins told n text b turns = win_is_kept engine (beginning s bytes) b n text wins turns
+-- where no game was played the lines are as before
+pub unplayed : (words : List (List ℕ)) (o : Outside) (job : JobView) (limits : Limits) (given : Option Colour) (word : List ℕ) (kb kn : ℕ) (before now : Option (List ℕ)) (result : Status) (Same : Type 0)
+    → AreToPlay words job word → limits ≡ limits_of job → given ≡ job.engine → Same ⊎ IsPlayedGame limits given job.settings word o kb kn before now result → Same ⊎ IsGameRun words o before now result
+unplayed words o job limits given word kb kn before now result Same a e d (inl same) = inl same
+unplayed words o job limits given word kb kn before now result Same a e d (inr h) =
+    inr (game_run words o job word kb kn before now result a
+    (subst (λ l. IsPlayedGame l job.engine job.settings word o kb kn before now result) e (subst (λ c. IsPlayedGame limits c job.settings word o kb kn before now result) d h)))

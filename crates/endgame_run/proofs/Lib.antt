@@ -1,10 +1,14 @@
+mod CompleteLaws
 mod GameLaws
+mod GameWins
 mod OneGame
 mod OneRegions
 mod OneStatus
+mod OutputLaws
 mod RefusalLaws
 mod SessionLaws
 mod SizeLaws
 mod StepLaws
+mod TakenLaws
 mod TopLaws
 mod WrittenLaws

@@ -81,7 +81,7 @@ one_fault file settings (fault.Setup f) (fault.Setup g) (l, t, h) (m, u, k) =
     let e : Path (Result Setup SetupFault) (Err f) (Err g) = one_position settings l (Err f) (Err g) h (subst (λ x. Gives settings x (Err g)) (same_line file l m t u) k) in
     let same : f ≡ g = cc in ap fault.Setup same
 
-not_both : (file : List ℕ) (settings : Settings) (p : Setup) (f : FileFault) → Reads file settings (Ok p) → Reads file settings (Err f) → ⊥
+pub not_both : (file : List ℕ) (settings : Settings) (p : Setup) (f : FileFault) → Reads file settings (Ok p) → Reads file settings (Err f) → ⊥
 not_both file settings p (fault.Tree f) (l, t, h) b = line_or_fault file settings l f t b
 not_both file settings p (fault.Setup f) (l, t, h) (m, u, k) =
     let e : Path (Result Setup SetupFault) (Ok p) (Err f) = one_position settings l (Ok p) (Err f) h (subst (λ x. Gives settings x (Err f)) (same_line file l m t u) k) in absurd cc
@@ -252,7 +252,7 @@ refuses_faults (question.Values most) limits p regions f s t a e are refused x h
   go (inr (inr w)) = absurd (never_sound most p regions w.regions f t are own x w.are_regions w.sound)
 refuses_faults question.Safe limits p regions f s t a e are refused x h = absurd e
 
-safe_is_done : (p : Setup) (s : Status) (a : List ℕ) → IsPositionAnswer question.Safe p s a → s ≡ status.Done
+pub safe_is_done : (p : Setup) (s : Status) (a : List ℕ) → IsPositionAnswer question.Safe p s a → s ≡ status.Done
 safe_is_done p status.Done a h = refl
 safe_is_done p status.Cycle a h = absurd h
 safe_is_done p status.RegionLimit a h = absurd h
@@ -288,7 +288,7 @@ position_status (question.Values limits) p s t a b x y = go (valued_or_not limit
   go (inr (inr v)) (inr (inr w)) = v.status ∙ sym w.status
 
 -- a file has a fault, or a position whose status it is
-file_or_position : (q : Question) (file : List ℕ) (settings : Settings) (s : Status) (a : List ℕ) → IsFileAnswer q file settings s a
+pub file_or_position : (q : Question) (file : List ℕ) (settings : Settings) (s : Status) (a : List ℕ) → IsFileAnswer q file settings s a
     → ((f : FileFault) × (s ≡ status.BadFile f) × Reads file settings (Err f)) ⊎ ((p : Setup) × Reads file settings (Ok p) × IsPositionAnswer q p s a)
 file_or_position q file settings (status.BadFile f) a h = inl (f, refl, h.0)
 file_or_position q file settings status.Done a h = inr h

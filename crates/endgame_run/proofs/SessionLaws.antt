@@ -1,5 +1,5 @@
 -- How a session and the line of a fault behind it make the run of a game.
-use Rattle.std.proofs.Common.{append_assoc, ◌≡◌, ◌≢◌, ◌≤◌, ◌++◌, ◌⊎◌, ℕ, inl, inr, refl, sym, ap, subst, ◌∙◌, arith, List, [], Some, None}
+use Rattle.std.proofs.Common.{append_assoc, length, length-append, ◌≡◌, ◌≢◌, ◌≤◌, ◌++◌, ◌⊎◌, ℕ, inl, inr, refl, sym, ap, subst, ◌∙◌, arith, List, [], Some, None}
 use Rattle.std.specs.Prelude.{Option, IfSome, take, codes}
 use Rattle.std.specs.Io.KnownBytes.{append_known}
 use Rattle.desk_io.specs.Outside.{Rose}
@@ -8,13 +8,15 @@ use Rattle.whole_rules.specs.WholeGame.{State}
 use Rattle.whole_rules.specs.FirstWinningMove.{IsWinner}
 use Rattle.play_session.specs.declared.end.SessionEnd.{SessionEnd}
 use Rattle.play_session.specs.declared.end.SessionEnd.TheVariants as end
-use Rattle.play_session.specs.Session.{Begins, IsSession}
-use Rattle.play_session.specs.Written.{IsBroken, IsPlayed, Played, SessionState, standing}
+use Rattle.play_session.specs.Session.{BreaksOff, IsSession, Waits}
+use Rattle.play_session.specs.Written.{IsCutOff, IsPlayed, IsUnread, Played, SessionState, standing}
 use Rattle.endgame_run.specs.declared.status.Status.{Status}
 use Rattle.endgame_run.specs.declared.status.Status.TheVariants.{CannotRead, CannotWrite, Done, Memory, TooManyLines}
 use Rattle.endgame_run.specs.declared.status.Status.TheVariants as status
-use Rattle.endgame_run.specs.Game.{BeginsWith, IsGameWritten, IsOver, IsSessionOf, IsSessionStatus, IsStopped, beginning}
+use Rattle.endgame_run.specs.Game.{IsGameWritten, IsOver, IsSessionOf, IsSessionStatus, IsStopped, beginning}
+use Rattle.endgame_run.specs.File.{TakesAtMost}
 use Rattle.endgame_run.specs.Top.{IsFinished, IsPlayRun}
+use Rattle.play_session.specs.Lines.{UsesLines}
 
 -- a session that holds nothing begins with the bytes of the source
 begins_here : (session : SessionState) (bytes : List ℕ) → session.held ≡ [] → standing session 0 bytes ≡ beginning session.state bytes
@@ -60,18 +62,18 @@ over_run engine session new left rest reads reads_now writes writes_now before n
   written = told_written _ left (λ bytes is. over_written engine session new bytes before now rest final e over kept (played_is engine session new bytes before now rest final over (p bytes is)));
 }
 
--- a session that a fault broke off
-broken_here : (engine : Colour) (session : SessionState) (bytes : List ℕ) (before now : Option (List ℕ)) → session.held ≡ [] → IsBroken engine (standing session 0 bytes) before now
-    → (text : List ℕ) × BeginsWith engine session.state bytes text × (now ≡ append_known before text)
-broken_here engine session bytes before now e (text, begins, is) = (text, subst (λ a. Begins engine a text) (begins_here session bytes e) begins, is)
+-- a session that a failing write broke off
+cut_here : (engine : Colour) (session : SessionState) (bytes : List ℕ) (before now : Option (List ℕ)) → session.held ≡ [] → IsCutOff engine (standing session 0 bytes) before now
+    → (text : List ℕ) × BreaksOff engine (beginning session.state bytes) text × (now ≡ append_known before text)
+cut_here engine session bytes before now e p = (p.0, subst (λ a. BreaksOff engine a p.0) (begins_here session bytes e) p.1, p.2)
 
 pub write_run : (engine : Colour) (session : SessionState) (left : Option (List ℕ)) (reads reads_now writes writes_now : ℕ) (before now : Option (List ℕ)) → session.held ≡ [] → Rose writes writes_now
-    → ((bytes : List ℕ) → left ≡ Some bytes → IsBroken engine (standing session 0 bytes) before now) → IsPlayRun engine session.state left reads reads_now writes writes_now before now CannotWrite
+    → ((bytes : List ℕ) → left ≡ Some bytes → IsCutOff engine (standing session 0 bytes) before now) → IsPlayRun engine session.state left reads reads_now writes writes_now before now CannotWrite
 write_run engine session left reads reads_now writes writes_now before now e rose p = record {
   begun = tt;
   read = λ d. absurd cc;
   write = λ d. rose;
-  written = told_written _ left (λ bytes is. inl (broken_here engine session bytes before now e (p bytes is)));
+  written = told_written _ left (λ bytes is. inl (cut_here engine session bytes before now e (p bytes is)));
 }
 
 -- a line behind a text
@@ -117,12 +119,21 @@ stopped_run engine s left reads reads_now writes writes_mid writes_now before mi
       (inr (fault, h.0, line, w.2.0, h.1, w.2.1 ∙ ap (λ m. append_known m (take w.2.0 line)) h.2 ∙ behind before h.0 (take w.2.0 line))));
 }
 
-pub read_stops : (engine : Colour) (session : SessionState) (left : Option (List ℕ)) (before mid : Option (List ℕ)) → session.held ≡ []
-    → ((bytes : List ℕ) → left ≡ Some bytes → IsBroken engine (standing session 0 bytes) before mid)
+pub read_stops : (engine : Colour) (session new : SessionState) (left rest : Option (List ℕ)) (before mid : Option (List ℕ)) → session.held ≡ []
+    → ((bytes : List ℕ) → left ≡ Some bytes → IsUnread engine (standing session 0 bytes) before mid new rest)
     → (bytes : List ℕ) → left ≡ Some bytes → (text : List ℕ) × IsStopped engine session.state bytes CannotRead text (codes "fault cannot read\n") × (mid ≡ append_known before text)
-read_stops engine session left before mid e p bytes is = let h = broken_here engine session bytes before mid e (p bytes is) in (h.0, (h.1, refl), h.2)
+read_stops engine session new left rest before mid e p bytes is =
+    let h = p bytes is in
+    let b = standing new h.read h.rest in
+    (h.text, ((b, subst (λ a. Waits engine a h.text b) (begins_here session bytes e) h.waits), refl), h.written)
 
 pub lines_stop : (engine : Colour) (session new : SessionState) (left rest : Option (List ℕ)) (before mid : Option (List ℕ)) → session.held ≡ []
     → ((bytes : List ℕ) → left ≡ Some bytes → IsPlayed engine (standing session 0 bytes) before mid end.TooManyLines new rest)
     → (bytes : List ℕ) → left ≡ Some bytes → (text : List ℕ) × IsStopped engine session.state bytes TooManyLines text (codes "fault lines\n") × (mid ≡ append_known before text)
 lines_stop engine session new left rest before mid e p bytes is = let h = session_of engine session new bytes before mid rest end.TooManyLines e (p bytes is) in (h.0, (h.1, refl), h.2)
+
+-- what a session took of its source
+pub lines_taken : (session : SessionState) (held : List ℕ) (before now : Option (List ℕ)) → session.held ≡ [] → UsesLines 0 10000 session.held before held now → length held ≤ 256 → TakesAtMost 2560256 before now
+lines_taken session held before now none used few = λ bytes e.
+    let u = used bytes e in
+    (u.0 ++ held, u.1, u.2, ap (λ l. l ++ bytes) (sym none) ∙ u.3 ∙ sym (append_assoc u.0 held u.1), omega (arith, u.4, few, length-append u.0 held))

@@ -1,5 +1,5 @@
 -- A file that is read to its end: from the source where its word is `-`, and else from the shelf.
-use Rattle.std.specs.Prelude.{◌≡◌, ◌<◌, ◌≤◌, ℕ, List, length, codes, IfSome, Option, Some, if◌then◌else◌}
+use Rattle.std.specs.Prelude.{◌≡◌, ◌<◌, ◌≤◌, ◌++◌, ℕ, List, length, codes, IfSome, Option, Some, if◌then◌else◌}
 use Rattle.std.specs.Option.{option_map}
 use Rattle.std.specs.Str.{bytes_eq}
 use Rattle.std.specs.Io.KnownBytes.{prepend_known}
@@ -15,6 +15,10 @@ pub record IsWhole (before now : Option (List ℕ)) (file : List ℕ) : Type 0 w
   pub all : before ≡ prepend_known file now
   pub end : now ≡ ended before
   pub short : IsShort file
+
+-- of the bytes that a source tells at most so many were taken
+abbrev pub TakesAtMost : ℕ → Option (List ℕ) → Option (List ℕ) → Type 0
+TakesAtMost most before now = (bytes : List ℕ) → before ≡ Some bytes → (taken rest : List ℕ) × (now ≡ Some rest) × (bytes ≡ taken ++ rest) × (length taken ≤ most)
 
 -- the word of the source
 abbrev pub dash : List ℕ

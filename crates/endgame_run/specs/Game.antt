@@ -1,10 +1,12 @@
 -- A game of a file over the lines of the source: when there is one, how it ends, and what it writes.
-use Rattle.std.specs.Prelude.{◌≡◌, ◌≢◌, ◌⊎◌, ◌++◌, ℕ, List, codes, take, Option, Some, IfSome}
+use Rattle.std.specs.Prelude.{◌≡◌, ◌≢◌, ◌⊎◌, ◌++◌, ◌≤◌, ℕ, List, codes, take, Option, IfSome}
 use Rattle.std.specs.Option.{unwrap_or}
 use Rattle.std.specs.Io.KnownBytes.{append_known}
 use Rattle.desk_io.specs.Outside.{Rose}
 use Rattle.go_grid.specs.declared.grid.Colour.{Colour}
+use Rattle.go_grid.specs.Grid.{other}
 use Rattle.go_grid.specs.Region.{Shape}
+use Rattle.report.specs.Solution.{winner_line}
 use Rattle.sgf_go.specs.declared.settings.Setup.{Setup}
 use Rattle.whole_rules.specs.WholeGame.{State}
 use Rattle.whole_rules.specs.FirstWinningMove.{IsWinner}
@@ -14,8 +16,8 @@ use Rattle.endgame_solver.specs.Faults.{AreSound}
 use Rattle.region_cut.specs.Cut.{AreRegionsOfPlay}
 use Rattle.play_session.specs.declared.end.SessionEnd.{SessionEnd}
 use Rattle.play_session.specs.declared.end.SessionEnd.TheVariants as end
-use Rattle.play_session.specs.Laws.{KeepsWin}
-use Rattle.play_session.specs.Session.{Standing, Turns, IsSession, Begins}
+use Rattle.play_session.specs.Laws.{IsLineIn, KeepsWin}
+use Rattle.play_session.specs.Session.{Standing, Turns, IsSession, Waits, BreaksOff}
 use Rattle.endgame_run.specs.declared.status.Status.{Status}
 use Rattle.endgame_run.specs.declared.status.Status.TheVariants.{Done, CannotRead, CannotWrite, TooManyLines}
 use Rattle.endgame_run.specs.File.{Outside, told_of}
@@ -52,9 +54,9 @@ beginning s bytes = record { state = s; read = 0; left = bytes }
 abbrev pub IsSessionOf : Colour → State → List ℕ → SessionEnd → List ℕ → Type 0
 IsSessionOf engine s bytes final text = (b : Standing) × IsSession engine (beginning s bytes) text b final
 
--- the session begins with this text
-abbrev pub BeginsWith : Colour → State → List ℕ → List ℕ → Type 0
-BeginsWith engine s bytes text = Begins engine (beginning s bytes) text
+-- all turns of the session up to one of the opponent's, whose line is still to be read
+abbrev pub WaitsAfter : Colour → State → List ℕ → List ℕ → Type 0
+WaitsAfter engine s bytes text = (b : Standing) × Waits engine (beginning s bytes) text b
 
 -- the ends of a game that is done
 abbrev pub IsOver : SessionEnd → Type 0
@@ -73,16 +75,16 @@ IsSessionStatus s = ⊥
 
 -- the text of a session up to a fault, and the line of the fault: a read failed, or the opponent was to move and 10,000 lines were read
 abbrev pub IsStopped : Colour → State → List ℕ → Status → List ℕ → List ℕ → Type 0
-IsStopped engine s bytes CannotRead text line = BeginsWith engine s bytes text × (line ≡ codes "fault cannot read\n")
+IsStopped engine s bytes CannotRead text line = WaitsAfter engine s bytes text × (line ≡ codes "fault cannot read\n")
 IsStopped engine s bytes TooManyLines text line = IsSessionOf engine s bytes end.TooManyLines text × (line ≡ codes "fault lines\n")
 IsStopped engine s bytes status text line = ⊥
 
--- What a game over the bytes has written, by its status: the session, and the line of a fault behind it, or a front part of them
--- where a write failed. What the engine has won isn't lost.
+-- What a game over the bytes has written, by its status: the session, and the line of a fault behind it. Where a write failed it is
+-- turns and a front part of the line after them, or a front part of the fault's line. What the engine has won isn't lost.
 abbrev pub IsGameWritten : Colour → State → List ℕ → Option (List ℕ) → Option (List ℕ) → Status → Type 0
 IsGameWritten engine s bytes before now Done = (final : SessionEnd) × (text : List ℕ) × IsOver final × (IsWinner s engine → final ≢ end.Lost)
     × IsSessionOf engine s bytes final text × (now ≡ append_known before text)
-IsGameWritten engine s bytes before now CannotWrite = ((text : List ℕ) × BeginsWith engine s bytes text × (now ≡ append_known before text))
+IsGameWritten engine s bytes before now CannotWrite = ((text : List ℕ) × BreaksOff engine (beginning s bytes) text × (now ≡ append_known before text))
     ⊎ ((fault : Status) × (text line : List ℕ) × (n : ℕ) × IsStopped engine s bytes fault text line × (now ≡ append_known before (text ++ take n line)))
 IsGameWritten engine s bytes before now status = (text line : List ℕ) × IsStopped engine s bytes status text line × (now ≡ append_known before (text ++ line))
 
@@ -95,8 +97,19 @@ pub record IsGameRun (words : List (List ℕ)) (o : Outside) (before now : Optio
   pub read : status ≡ CannotRead → Rose o.lines_before o.lines_now
   pub written : IfSome o.left (λ bytes. IsGameWritten engine state bytes before now status)
 
--- Where the engine wins at the opening, it wins wherever turns lead: after each of its moves the opponent is to move and loses,
--- and no line names the opponent as the winner.
-abbrev pub EngineKeepsWin : List (List ℕ) → Outside → Type 0
-EngineKeepsWin words o = (engine : Colour) (s : State) (bytes : List ℕ) → IsGame words o engine s → IsWinner s engine → o.left ≡ Some bytes
-    → (n : ℕ) (text : List ℕ) (b : Standing) → Turns engine n (beginning s bytes) text b → KeepsWin engine b
+-- What was written of a game that the engine wins at its opening: turns, and what stands behind them. Wherever the turns lead the
+-- engine wins, so that after each of its moves the opponent is to move and loses, and no line names the opponent as the winner.
+pub record IsWonGame (engine : Colour) (s : State) (bytes : List ℕ) (before now : Option (List ℕ)) : Type 0 where
+  pub number : ℕ
+  pub reached : Standing
+  pub first : List ℕ
+  pub last : List ℕ
+  pub turns : Turns engine number (beginning s bytes) first reached
+  pub kept : (n : ℕ) (text : List ℕ) (b : Standing) → n ≤ number → Turns engine n (beginning s bytes) text b → KeepsWin engine b
+  pub written : now ≡ append_known before (first ++ last)
+  pub unnamed : ¬ IsLineIn (winner_line (other engine)) (first ++ last)
+
+-- a game was played over bytes that are told, and where the engine wins at its opening it keeps its win
+abbrev pub PlaysWon : List (List ℕ) → Outside → Option (List ℕ) → Option (List ℕ) → Type 0
+PlaysWon words o before now = (engine : Colour) × (s : State) × IsGame words o engine s
+    × (IsWinner s engine → IfSome o.left (λ bytes. IsWonGame engine s bytes before now))

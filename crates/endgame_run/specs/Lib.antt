@@ -9,3 +9,5 @@ pub mod Verdict
 pub mod Game
 pub mod Top
 pub mod Laws
+pub mod Output
+pub mod Complete

@@ -75,6 +75,12 @@ pub record IsPlayRun (engine : Colour) (s : State) (left : Option (List ℕ)) (r
   pub write : result ≡ CannotWrite → Rose writes writes_now
   pub written : IfSome left (λ bytes. IsGameWritten engine s bytes before now result)
 
+-- a game of the file of a word, which was begun and played
+abbrev pub IsPlayedGame : Limits → Option Colour → Settings → List ℕ → Outside → ℕ → ℕ → Option (List ℕ) → Option (List ℕ) → Status → Type 0
+IsPlayedGame limits given settings word o kb kn before now result = (setup : Setup) × (engine : Colour) × (s : State)
+    × IsPositionOf (told_of o.files o.left word) settings setup × IsPlayable limits setup s × IsEngine given setup engine
+    × IsPlayRun engine s o.left o.lines_before o.lines_now kb kn before now result
+
 -- what a game of the file of a word comes to: nothing for want of memory, the fault that keeps the file from being solved, or a session
 abbrev pub IsGameOutcome : Limits → Option Colour → Settings → List ℕ → Outside → ℕ → ℕ → Option (List ℕ) → Option (List ℕ) → Status → Type 0
 IsGameOutcome limits given settings word o kb kn before now result =
@@ -82,9 +88,7 @@ IsGameOutcome limits given settings word o kb kn before now result =
     ⊎ (((s : Status) × (text : List ℕ)
     × (IsAnswer (Solve limits) (told_of o.files o.left word) (count_of o.shelf_before o.lines_before word) (count_of o.shelf_now o.lines_now word) settings s text × (s ≢ Done))
     × IsFinished s text kb kn before now result)
-    ⊎ ((setup : Setup) × (engine : Colour) × (s : State)
-    × IsPositionOf (told_of o.files o.left word) settings setup × IsPlayable limits setup s × IsEngine given setup engine
-    × IsPlayRun engine s o.left o.lines_before o.lines_now kb kn before now result))
+    ⊎ IsPlayedGame limits given settings word o kb kn before now result)
 
 -- the steps of a question about the file of which this is told
 abbrev pub AreToldSteps : Question → Option (Option (List ℕ)) → Settings → ℕ → ℕ → Type 0

@@ -205,6 +205,10 @@ ReadSource words = (job : JobView) × (question : Question) × AskAbout words jo
 abbrev pub ReadShelf : List (List ℕ) → Type 0
 ReadShelf words = (job : JobView) × (question : Question) × (word : List ℕ) × Pose words job question word × (word ≢ dash)
 
+-- the words ask for a file of the shelf, by this word
+abbrev pub AskShelf : List (List ℕ) → (List ℕ → Type 0) → Type 0
+AskShelf words is = (job : JobView) × (question : Question) × (word : List ℕ) × Pose words job question word × (word ≢ dash) × is word
+
 -- the words need the regions of play of a file that is told, within these limits, and this is its position
 pub record IsToldRegions (words : List (List ℕ)) (files : Option Files) (left : Option (List ℕ)) (limits : Limits) (setup : Setup) : Type 0 where
   pub job : JobView

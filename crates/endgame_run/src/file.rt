@@ -1,9 +1,9 @@
 //! A file that is read to its end.
 
-ghost use Rattle.std.specs.Prelude.{◌≡◌, ◌≢◌, ◌⊎◌, Some, None, IfOk, IsErrOf};
+ghost use Rattle.std.specs.Prelude.{◌≡◌, ◌≢◌, ◌≤◌, ◌⊎◌, Some, None, IfOk, IsErrOf};
 ghost use Rattle.desk_io.specs.Files.{told_file};
 ghost use Rattle.desk_io.specs.Outside.{Rose, ended};
-ghost use Rattle.endgame_run.specs.File.{IsShort, IsTold, IsTooLong, IsWhole, count_of, dash, told_of, told_source};
+ghost use Rattle.endgame_run.specs.File.{IsShort, IsTold, IsTooLong, IsWhole, TakesAtMost, count_of, dash, told_of, told_source};
 ghost use Rattle.endgame_run.specs.declared.file.FileError.TheVariants.{CannotRead, Memory};
 
 use desk_io::{Failed, LoadError, Loaded, Shelf, Source};
@@ -46,6 +46,8 @@ fn read_source<S: Source>(alloc: Global, lines: &mut S) -> Result<Vec<u8>, FileE
     ensures too_long { IsErrOf result FileError.TooLong → IsTooLong (told_source (S.left lines.old)) }
     ensures cannot_read { IsErrOf result FileError.CannotRead
         → Rose (S.faults lines.old) (S.faults lines.new) }
+    ensures takes { TakesAtMost 1048577 (S.left lines.old) (S.left lines.new) }
+    ensures later { S.faults lines.old ≤ S.faults lines.new }
 {
     let mut file = Vec::new(alloc);
     let mut piece = [0u8; 4096];
@@ -67,6 +69,9 @@ fn load_file<H: Shelf>(alloc: Global, shelf: &mut H, name: &str) -> Result<Vec<u
     ensures too_long { IsErrOf result FileError.TooLong → IsTooLong (told_file (H.files shelf.old) name.now) }
     ensures cannot_read { IsErrOf result FileError.CannotRead → (told_file (H.files shelf.old) name.now ≡ Some None)
         ⊎ Rose (H.faults shelf.old) (H.faults shelf.new) }
+    ensures asked { H.asks shelf.old name.now shelf.new }
+    ensures same_files { H.files shelf.new ≡ H.files shelf.old }
+    ensures later { H.faults shelf.old ≤ H.faults shelf.new }
 {
     let mut file = Vec::new(alloc);
     match shelf.load(name, MAX_LEN, &mut file) {
@@ -89,6 +94,11 @@ pub(crate) fn read_file<H: Shelf, S: Source>(
     ensures too_long { IsErrOf result FileError.TooLong → IsTooLong (told_of (H.files shelf.old) (S.left lines.old) word.now) }
     ensures cannot_read { IsErrOf result FileError.CannotRead → (told_of (H.files shelf.old) (S.left lines.old) word.now ≡ Some None)
         ⊎ Rose (count_of (H.faults shelf.old) (S.faults lines.old) word.now) (count_of (H.faults shelf.new) (S.faults lines.new) word.now) }
+    ensures takes { TakesAtMost 1048577 (S.left lines.old) (S.left lines.new) }
+    ensures asked { word.now ≢ dash → H.asks shelf.old word.now shelf.new }
+    ensures same_files { H.files shelf.new ≡ H.files shelf.old }
+    ensures later_loads { H.faults shelf.old ≤ H.faults shelf.new }
+    ensures later_reads { S.faults lines.old ≤ S.faults lines.new }
     ensures at_end { IfOk result (λ file. word.now ≡ dash → S.left lines.new ≡ ended (S.left lines.old)) }
     ensures lines_unread { word.now ≢ dash → lines.new ≡ lines.old }
     ensures shelf_unread { word.now ≡ dash → shelf.new ≡ shelf.old }

@@ -1,13 +1,12 @@
 //! Games of files.
 
-ghost use Rattle.std.specs.Prelude.{◌≡◌, ◌≢◌, ◌≤◌, [], IfOk};
+ghost use Rattle.std.specs.Prelude.{◌≡◌, ◌≢◌, ◌≤◌, ◌⊎◌, [], IfOk};
 ghost use Rattle.sgf_go.specs.declared.settings.Setup.{Setup as Position};
 ghost use Rattle.endgame_solver.specs.declared.limits.Limits.{Limits};
 ghost use Rattle.endgame_run.specs.declared.question.Question.TheVariants.{Solve};
-ghost use Rattle.endgame_run.specs.File.{count_of, dash, outside, told_of};
+ghost use Rattle.endgame_run.specs.File.{TakesAtMost, count_of, dash, outside, told_of};
 ghost use Rattle.endgame_run.specs.Found.{HasRanges};
-ghost use Rattle.endgame_run.specs.Game.{IsSessionStatus};
-ghost use Rattle.endgame_run.specs.Top.{AreToldSteps, IsGameOutcome, IsOpened, IsPlayRun};
+ghost use Rattle.endgame_run.specs.Top.{AreToldSteps, IsGameOutcome, IsOpened, IsPlayRun, IsPlayedGame};
 
 use crate::ending::finish;
 use crate::finding::find_position;
@@ -35,6 +34,9 @@ fn open_game<H: Shelf, S: Source, L: Ledger>(
     ensures opened { IfOk result (IsOpened game.now.limits game.now.engine (told_of (H.files shelf.old) (S.left lines.old) game.now.word.now)
         (count_of (H.faults shelf.old) (S.faults lines.old) game.now.word.now) (count_of (H.faults shelf.new) (S.faults lines.new) game.now.word.now) settings.now) }
     ensures steps { AreToldSteps (Solve game.now.limits) (told_of (H.files shelf.old) (S.left lines.old) game.now.word.now) settings.now steps.old steps.new }
+    ensures asked { game.now.word.now ≢ dash → H.asks shelf.old game.now.word.now shelf.new }
+    ensures same_files { H.files shelf.new ≡ H.files shelf.old }
+    ensures later_loads { H.faults shelf.old ≤ H.faults shelf.new }
     ensures lines_unread { game.now.word.now ≢ dash → lines.new ≡ lines.old }
 {
     match find_position(alloc, game.word, settings, shelf, lines)? {
@@ -49,7 +51,10 @@ fn open_game<H: Shelf, S: Source, L: Ledger>(
 /// Plays a session over the lines, and writes the line of a fault behind it.
 fn play<S: Source, K: Sink>(session: &mut Session, lines: &mut S, out: &mut K) -> Status
     requires { session.old.held ≡ [] }
-    ensures { IsPlayRun session.old.engine session.old.state (S.left lines.old) (S.faults lines.old) (S.faults lines.new)
+    ensures takes { TakesAtMost 2560256 (S.left lines.old) (S.left lines.new) }
+    ensures later_reads { S.faults lines.old ≤ S.faults lines.new }
+    ensures later_writes { K.faults out.old ≤ K.faults out.new }
+    ensures played { IsPlayRun session.old.engine session.old.state (S.left lines.old) (S.faults lines.old) (S.faults lines.new)
         (K.faults out.old) (K.faults out.new) (K.holds out.old) (K.holds out.new) result }
 {
     match session.run(lines, out) {
@@ -77,7 +82,15 @@ pub(crate) fn run_game<H: Shelf, S: Source, K: Sink, L: Ledger>(
         (H.faults shelf.old) (H.faults shelf.new) (S.faults lines.old) (S.faults lines.new))
         (K.faults out.old) (K.faults out.new) (K.holds out.old) (K.holds out.new) result }
     ensures steps { AreToldSteps (Solve game.now.limits) (told_of (H.files shelf.old) (S.left lines.old) game.now.word.now) settings.now steps.old steps.new }
-    ensures lines_unplayed { ¬ IsSessionStatus result → lines.new ≡ lines.old }
+    ensures takes { TakesAtMost 2560256 (S.left lines.old) (S.left lines.new) }
+    ensures asked { H.asks shelf.old game.now.word.now shelf.new }
+    ensures same_files { H.files shelf.new ≡ H.files shelf.old }
+    ensures later_loads { H.faults shelf.old ≤ H.faults shelf.new }
+    ensures later_reads { S.faults lines.old ≤ S.faults lines.new }
+    ensures later_writes { K.faults out.old ≤ K.faults out.new }
+    ensures lines_unplayed { (lines.new ≡ lines.old) ⊎ IsPlayedGame game.now.limits game.now.engine settings.now game.now.word.now
+        (outside (H.files shelf.old) (S.left lines.old) (H.faults shelf.old) (H.faults shelf.new) (S.faults lines.old) (S.faults lines.new))
+        (K.faults out.old) (K.faults out.new) (K.holds out.old) (K.holds out.new) result }
 {
     match open_game(alloc, game, settings, shelf, lines, steps) {
         Ok(Opened::Game(mut session)) => play(&mut session, lines, out),

@@ -7,6 +7,7 @@ mod file;
 mod finding;
 mod game;
 mod laws;
+mod program;
 mod question;
 mod refusal;
 mod solving;
@@ -14,6 +15,7 @@ mod status;
 mod top;
 
 pub use laws::verdict_law;
+pub use program::{code_of_run, start};
 pub use status::{FileFault, Status, Unbuilt};
 pub use top::run;
 

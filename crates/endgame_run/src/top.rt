@@ -6,15 +6,18 @@ ghost use Rattle.go_grid.specs.Region.{Shape};
 ghost use Rattle.desk_io.specs.Outside.{Rose, ended};
 ghost use Rattle.sgf_go.specs.declared.settings.Setup.{Setup as Position};
 ghost use Rattle.sgf_go.specs.Komi.{IsInRange};
+ghost use Rattle.gd_words.specs.Job.{IsJob, JobView};
 ghost use Rattle.gd_words.specs.Viewed.{task_of, texts, viewed};
 ghost use Rattle.endgame_solver.specs.declared.limits.Limits.{Limits};
 ghost use Rattle.endgame_solver.specs.Faults.{most_steps};
 ghost use Rattle.region_cut.specs.Cut.{AreRegionsOfPlay};
-ghost use Rattle.endgame_run.specs.File.{count_of, dash, outside, told_of};
+ghost use Rattle.endgame_run.specs.Complete.{IsAnswerable, IsAnswered};
+ghost use Rattle.endgame_run.specs.File.{TakesAtMost, count_of, dash, outside, told_of};
 ghost use Rattle.endgame_run.specs.Found.{HasRanges};
-ghost use Rattle.endgame_run.specs.Game.{EngineKeepsWin, IsGameRun, IsSessionStatus};
+ghost use Rattle.endgame_run.specs.Game.{IsGameRun, PlaysWon};
+ghost use Rattle.endgame_run.specs.Output.{IsPartOutput};
 ghost use Rattle.endgame_run.specs.Top.{AreToldSteps, IsAsked, IsFileRun, IsModest};
-ghost use Rattle.endgame_run.specs.Verdict.{AreSteps, AreStepsFor, AskToPlay, AskToSolve, HasCause, IsAnswer, IsPositionAnswer, IsToldRegions, IsUnbuilt, IsWritten, NeedRegions, ReadShelf, ReadSource, WritesMove, WritesWinner, limits_of};
+ghost use Rattle.endgame_run.specs.Verdict.{AreSteps, AreStepsFor, AskShelf, AskToPlay, AskToSolve, HasCause, IsAnswer, IsPositionAnswer, IsToldRegions, IsUnbuilt, IsWritten, NeedRegions, ReadShelf, ReadSource, WritesMove, WritesWinner, limits_of};
 
 use crate::ending::finish;
 use crate::finding::find_position;
@@ -71,6 +74,11 @@ fn answer<H: Shelf, S: Source, L: Ledger>(
         (count_of (H.faults shelf.old) (S.faults lines.old) inquiry.now.word.now) (count_of (H.faults shelf.new) (S.faults lines.new) inquiry.now.word.now)
         settings.now report.status report.text) }
     ensures steps { AreToldSteps inquiry.now.question (told_of (H.files shelf.old) (S.left lines.old) inquiry.now.word.now) settings.now steps.old steps.new }
+    ensures takes { TakesAtMost 1048577 (S.left lines.old) (S.left lines.new) }
+    ensures asked { inquiry.now.word.now ≢ dash → H.asks shelf.old inquiry.now.word.now shelf.new }
+    ensures same_files { H.files shelf.new ≡ H.files shelf.old }
+    ensures later_loads { H.faults shelf.old ≤ H.faults shelf.new }
+    ensures later_reads { S.faults lines.old ≤ S.faults lines.new }
     ensures at_end { IfOk result (λ report. report.status ≡ Status.Done → inquiry.now.word.now ≡ dash → S.left lines.new ≡ ended (S.left lines.old)) }
     ensures lines_unread { inquiry.now.word.now ≢ dash → lines.new ≡ lines.old }
     ensures shelf_unread { inquiry.now.word.now ≡ dash → shelf.new ≡ shelf.old }
@@ -100,6 +108,12 @@ fn run_file<H: Shelf, S: Source, K: Sink, L: Ledger>(
         (H.faults shelf.old) (H.faults shelf.new) (S.faults lines.old) (S.faults lines.new))
         (K.faults out.old) (K.faults out.new) (K.holds out.old) (K.holds out.new) result }
     ensures steps { AreToldSteps inquiry.now.question (told_of (H.files shelf.old) (S.left lines.old) inquiry.now.word.now) settings.now steps.old steps.new }
+    ensures takes { TakesAtMost 1048577 (S.left lines.old) (S.left lines.new) }
+    ensures asked { inquiry.now.word.now ≢ dash → H.asks shelf.old inquiry.now.word.now shelf.new }
+    ensures same_files { H.files shelf.new ≡ H.files shelf.old }
+    ensures later_loads { H.faults shelf.old ≤ H.faults shelf.new }
+    ensures later_reads { S.faults lines.old ≤ S.faults lines.new }
+    ensures later_writes { K.faults out.old ≤ K.faults out.new }
     ensures at_end { result ≡ Status.Done → inquiry.now.word.now ≡ dash → S.left lines.new ≡ ended (S.left lines.old) }
     ensures lines_unread { inquiry.now.word.now ≢ dash → lines.new ≡ lines.old }
     ensures shelf_unread { inquiry.now.word.now ≡ dash → shelf.new ≡ shelf.old }
@@ -164,8 +178,17 @@ pub fn run<H: Shelf, S: Source, K: Sink, L: Ledger>(
         (S.faults lines.old) (S.faults lines.new)) (K.holds out.old) (K.holds out.new) result
         ⊎ IsGameRun (texts words.now) (outside (H.files shelf.old) (S.left lines.old) (H.faults shelf.old) (H.faults shelf.new)
         (S.faults lines.old) (S.faults lines.new)) (K.holds out.old) (K.holds out.new) result }
-    ensures engine_keeps_win { EngineKeepsWin (texts words.now) (outside (H.files shelf.old) (S.left lines.old) (H.faults shelf.old) (H.faults shelf.new)
-        (S.faults lines.old) (S.faults lines.new)) }
+    ensures partial_output { result ≢ Status.Done → IsPartOutput (texts words.now) (outside (H.files shelf.old) (S.left lines.old) (H.faults shelf.old) (H.faults shelf.new)
+        (S.faults lines.old) (S.faults lines.new)) (K.holds out.old) (K.holds out.new) result }
+    ensures outside_grammar { ((job : JobView) → ¬ IsJob (texts words.now) job) → (result ≡ Status.Usage) ⊎ (result ≡ Status.CannotWrite) }
+    ensures complete { IsAnswerable (texts words.now) (outside (H.files shelf.old) (S.left lines.old) (H.faults shelf.old) (H.faults shelf.new)
+        (S.faults lines.old) (S.faults lines.new)) (K.faults out.old) (K.faults out.new)
+        → IsAnswered (texts words.now) (outside (H.files shelf.old) (S.left lines.old) (H.faults shelf.old) (H.faults shelf.new)
+        (S.faults lines.old) (S.faults lines.new)) result }
+    ensures engine_keeps_win { IsWritten (texts words.now) (outside (H.files shelf.old) (S.left lines.old) (H.faults shelf.old) (H.faults shelf.new)
+        (S.faults lines.old) (S.faults lines.new)) (K.holds out.old) (K.holds out.new) result
+        ⊎ PlaysWon (texts words.now) (outside (H.files shelf.old) (S.left lines.old) (H.faults shelf.old) (H.faults shelf.new)
+        (S.faults lines.old) (S.faults lines.new)) (K.holds out.old) (K.holds out.new) }
     ensures winner { result ≡ Status.Done → AskToSolve (texts words.now) → WritesWinner (texts words.now) (outside (H.files shelf.old) (S.left lines.old) (H.faults shelf.old) (H.faults shelf.new)
         (S.faults lines.old) (S.faults lines.new)) (K.holds out.old) (K.holds out.new) }
     ensures first_winning_move { result ≡ Status.Done → AskToSolve (texts words.now) → WritesMove (texts words.now) (outside (H.files shelf.old) (S.left lines.old) (H.faults shelf.old) (H.faults shelf.new)
@@ -176,7 +199,15 @@ pub fn run<H: Shelf, S: Source, K: Sink, L: Ledger>(
     ensures no_steps { ¬ NeedRegions (texts words.now) → steps.new ≡ steps.old }
     ensures at_end { result ≡ Status.Done → ReadSource (texts words.now) → S.left lines.new ≡ ended (S.left lines.old) }
     ensures lines_unread { ¬ ReadSource (texts words.now) → ¬ AskToPlay (texts words.now) → lines.new ≡ lines.old }
-    ensures lines_unplayed { ¬ ReadSource (texts words.now) → ¬ IsSessionStatus result → lines.new ≡ lines.old }
+    ensures lines_unplayed { ¬ ReadSource (texts words.now) → (lines.new ≡ lines.old) ⊎ IsGameRun (texts words.now) (outside (H.files shelf.old) (S.left lines.old) (H.faults shelf.old) (H.faults shelf.new)
+        (S.faults lines.old) (S.faults lines.new)) (K.holds out.old) (K.holds out.new) result }
+    ensures file_taken { ¬ AskToPlay (texts words.now) → TakesAtMost 1048577 (S.left lines.old) (S.left lines.new) }
+    ensures lines_taken { AskToPlay (texts words.now) → TakesAtMost 2560256 (S.left lines.old) (S.left lines.new) }
+    ensures asked { (shelf.new ≡ shelf.old) ⊎ AskShelf (texts words.now) (λ word. H.asks shelf.old word shelf.new) }
+    ensures same_files { H.files shelf.new ≡ H.files shelf.old }
+    ensures later_loads { H.faults shelf.old ≤ H.faults shelf.new }
+    ensures later_reads { S.faults lines.old ≤ S.faults lines.new }
+    ensures later_writes { K.faults out.old ≤ K.faults out.new }
     ensures shelf_unread { ¬ ReadShelf (texts words.now) → shelf.new ≡ shelf.old }
 {
     let Ok(job) = gd_words::read(words) else {

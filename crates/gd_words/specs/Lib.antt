@@ -5,3 +5,4 @@ pub mod Job
 pub mod Bounds
 pub mod Reading
 pub mod Viewed
+pub mod Laws

@@ -4,10 +4,12 @@
 mod choice;
 mod chosen;
 mod job;
+mod laws;
 mod value;
 mod words;
 
 pub use job::{Command, Job};
+pub use laws::words_law;
 pub use words::{Usage, read};
 
 #[cfg(test)]

@@ -1,10 +1,11 @@
 -- A session as far as it was played.
-use Rattle.std.proofs.Common.{◌≡◌, ℕ, suc, List, [], ◌++◌, inl, inr, refl, sym, ap, ◌∙◌, subst, append_assoc, append-nil, Option, Some, None, Ok, Err}
+use Rattle.std.proofs.Common.{◌≡◌, ℕ, suc, ◌<◌, List, [], ◌++◌, refl, ap, ◌∙◌, subst, Option, Some, None, Ok, Err}
 use Rattle.std.specs.Io.KnownBytes.{append_known}
 use Rattle.play_session.specs.declared.end.SessionEnd.{SessionEnd}
 use Rattle.play_session.specs.declared.fault.Fault.{Fault}
-use Rattle.play_session.specs.Session.{Ends, Turns, IsTextOf}
-use Rattle.play_session.specs.Written.{SessionState, standing, IsTextOfTurn, TurnWritten, IsPlayed, IsBroken}
+use Rattle.play_session.specs.declared.fault.Fault.TheVariants.{Read, Write}
+use Rattle.play_session.specs.Session.{Ends, Turns, IsToAnswer}
+use Rattle.play_session.specs.Written.{SessionState, standing, TurnWritten, IsPlayed, IsPlayedTo}
 use Rattle.play_session.proofs.Turns.{append_none, append_twice}
 
 -- turns that were written lead from the one session to the other
@@ -47,14 +48,20 @@ module _ (start : SessionState) (left₀ holds₀ : Option (List ℕ)) (session 
         unread = t.2;
       }
 
-  going_text : (bytes text : List ℕ) (x : Went start bytes holds₀ session read left holds) → IsTextOfTurn start.engine (standing session read x.rest) text → IsTextOf start.engine (standing start 0 bytes) (x.text ++ text)
-  going_text bytes text x (inl none) = inl (x.number, (standing session read x.rest, subst (λ l. Turns start.engine x.number (standing start 0 bytes) l (standing session read x.rest)) (sym (ap (λ l. x.text ++ l) none ∙ append-nil x.text)) x.turns))
-  going_text bytes text x (inr (inl t)) = inl (suc x.number, (t.0, (standing session read x.rest, (x.text, text, x.turns, t.1, refl))))
-  going_text bytes text x (inr (inr t)) = inr (standing session read x.rest, (t.0, record { number = x.number; first = x.text; last = text; turns = x.turns; ends = t.1; whole = refl }))
-
+  -- a fault broke the session off
   pub going_failed : (f : Fault) → ((bytes : List ℕ) → left ≡ Some bytes → TurnWritten start.engine (standing session read bytes) holds holds' (Err f) new count left')
-      → (bytes : List ℕ) → left₀ ≡ Some bytes → IsBroken start.engine (standing start 0 bytes) holds₀ holds'
-  going_failed f turn bytes e =
+      → (bytes : List ℕ) → left₀ ≡ Some bytes → IsPlayedTo start.engine (standing start 0 bytes) holds₀ holds' (Err f) new left'
+  going_failed Read turn bytes e =
+      let x = w.told bytes e in let t = turn x.rest x.unread in let a = standing session read x.rest in let b = standing new count t.0 in
+      let same : a ≡ b = t.4 in
+      record {
+        text = x.text;
+        read = count;
+        rest = t.0;
+        waits = (x.number, subst (Turns start.engine x.number (standing start 0 bytes) x.text) same x.turns, subst (λ s. IsToAnswer start.engine s.state) same t.2, subst (λ s. s.read < 10000) same t.3);
+        written = t.5 ∙ x.written;
+        unread = t.1;
+      }
+  going_failed Write turn bytes e =
       let x = w.told bytes e in let t = turn x.rest x.unread in
-      let whole : IsTextOf start.engine (standing start 0 bytes) ((x.text ++ t.0) ++ t.1) = subst (IsTextOf start.engine (standing start 0 bytes)) (sym (append_assoc x.text t.0 t.1)) (going_text bytes (t.0 ++ t.1) x t.2) in
-      (x.text ++ t.0, (t.1, whole), joined bytes x.text t.0 x.written t.3)
+      (x.text ++ t.0, (x.number, standing session read x.rest, x.text, t.0, t.1, x.turns, t.2, refl), joined bytes x.text t.0 x.written t.3)

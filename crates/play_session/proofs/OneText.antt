@@ -5,7 +5,7 @@ use Rattle.go_grid.specs.declared.grid.Colour.{Colour}
 use Rattle.play_session.specs.declared.end.SessionEnd.{SessionEnd}
 use Rattle.play_session.specs.declared.end.SessionEnd.TheVariants.{Won, Lost, InputEnded, ReadFault, WriteFault, TooManyLines}
 use Rattle.play_session.specs.Laws.{HasOneText, HasOneBeginning}
-use Rattle.play_session.specs.Session.{Standing, HasMove, IsEngineTurn, IsOpponentTurn, Answers, Turn, Turns, Ends, IsSession, IsTextOf}
+use Rattle.play_session.specs.Session.{Standing, HasMove, IsEngineTurn, IsOpponentTurn, Answers, Turn, Turns, Ends, IsSession, IsNextLine}
 use Rattle.play_session.specs.Words.{Asks}
 use Rattle.play_session.proofs.Sides.{other_not}
 use Rattle.play_session.proofs.Wins.{chosen_legal}
@@ -127,12 +127,18 @@ module _ (engine : Colour) (a : Standing) (small : IsSmall a) where
     ]
   ]
 
-  text_front : (b : Standing) (x t : List ℕ) (end : SessionEnd) → IsTextOf engine a x → IsSession engine a t b end → (more : List ℕ) × (t ≡ x ++ more)
-  text_front b x t end (inl u) q = elim (cases_lt q.number u.0) [
-    | inl lt ↦ absurd (turns_over u.0 q.number u.1.0 b x q.first q.last end lt u.1.1 q.turns q.ends)
-    | inr ge ↦ (let e = turns_front u.0 q.number u.1.0 b x q.first (omega (arith, ge)) u.1.1 q.turns in (e.0 ++ q.last, q.whole ∙ ap (λ l. l ++ q.last) e.1 ∙ append_assoc x e.0 q.last))
+  turns_text : (n : ℕ) (c b : Standing) (x t : List ℕ) (end : SessionEnd) → Turns engine n a x c → IsSession engine a t b end → (more : List ℕ) × (t ≡ x ++ more)
+  turns_text n c b x t end u q = elim (cases_lt q.number n) [
+    | inl lt ↦ absurd (turns_over n q.number c b x q.first q.last end lt u q.turns q.ends)
+    | inr ge ↦ (let e = turns_front n q.number c b x q.first (omega (arith, ge)) u q.turns in (e.0 ++ q.last, q.whole ∙ ap (λ l. l ++ q.last) e.1 ∙ append_assoc x e.0 q.last))
   ]
-  text_front b x t end (inr p) q = let e = sessions_same p.0 b x t p.1.0 end p.1.1 q in ([], sym e.0 ∙ sym (append-nil x))
+
+  -- turns and the line after them
+  line_text : (n : ℕ) (c b : Standing) (x y t : List ℕ) (end : SessionEnd) → Turns engine n a x c → IsNextLine engine c y → IsSession engine a t b end → (more : List ℕ) × (t ≡ (x ++ y) ++ more)
+  line_text n c b x y t end u (inl s) q = turns_text (suc n) s.0 b (x ++ y) t end (c, (x, y, u, s.1, refl)) q
+  line_text n c b x y t end u (inr s) q =
+      let e = sessions_same c b (x ++ y) t s.0 end (record { number = n; first = x; last = y; turns = u; ends = s.1; whole = refl }) q in
+      ([], sym e.0 ∙ sym (append-nil (x ++ y)))
 
 pub has_one_text : HasOneText
 unfolding IsSmall
@@ -140,4 +146,10 @@ has_one_text engine a b c s t end final small p q = sessions_same engine a small
 
 pub has_one_beginning : HasOneBeginning
 unfolding IsSmall
-has_one_beginning engine a b s t end small p q = let e = text_front engine a small b (s ++ p.0) t end p.1 q in (p.0 ++ e.0, e.1 ∙ append_assoc s p.0 e.0)
+has_one_beginning engine a b s t end small (inl w) q = turns_text engine a small w.1.0 w.0 b s t end w.1.1 q
+has_one_beginning engine a b s t end small (inr w) q =
+    let e = line_text engine a small w.0 w.1 b w.2 (w.3 ++ w.4) t end w.5 w.6 q in
+    (w.4 ++ e.0, e.1 ∙ four w.2 w.3 w.4 e.0 ∙ ap (λ x. x ++ (w.4 ++ e.0)) (sym w.7))
+  where
+    four : (x y z w : List ℕ) → (x ++ (y ++ z)) ++ w ≡ (x ++ y) ++ (z ++ w)
+    four x y z w = simp append_assoc

@@ -1,5 +1,6 @@
 -- A session turn by turn.
 use Rattle.std.proofs.Common.{◌≡◌, ◌≢◌, ◌⊎◌, ℕ, ◌+◌, ◌≤◌, List, [], ◌++◌, length, take, drop, inl, inr, refl, sym, ap, ◌∙◌, subst, arith, append_assoc, append-nil, take-append-drop, Option, Some, None, Ok, Err, Result, IfOk}
+use Rattle.std.specs.Prelude.{IsErrOf}
 use Rattle.std.specs.Io.KnownBytes.{append_known}
 use Rattle.desk_io.specs.Outside.{Appends}
 use Rattle.go_grid.specs.declared.grid.Colour.{Colour}
@@ -11,9 +12,11 @@ use Rattle.play_session.proofs.Sides.{one_side, other_twice}
 use Rattle.play_session.specs.declared.end.SessionEnd.{SessionEnd}
 use Rattle.play_session.specs.declared.end.SessionEnd.TheVariants.{Won, Lost, InputEnded, TooManyLines}
 use Rattle.play_session.specs.declared.fault.Fault.{Fault}
+use Rattle.play_session.specs.declared.fault.Fault.TheVariants.{Read, Write}
 use Rattle.play_session.specs.declared.session.Request.TheVariants.{Ended, Line}
-use Rattle.play_session.specs.Session.{Standing, HasMove, EngineMoves, Answers, IsToAnswer, Turn, Ends, input_line}
-use Rattle.play_session.specs.Written.{SessionState, standing, IsTextOfTurn, TurnWritten, IsRequested}
+use Rattle.play_session.specs.Session.{Standing, HasMove, EngineMoves, Answers, IsToAnswer, Turn, Ends, IsNextLine, input_line}
+use Rattle.play_session.specs.Written.{SessionState, standing, TurnWritten, IsRequested}
+use Rattle.play_session.specs.Lines.{IsSameInput}
 
 pub append_none : (told : Option (List ℕ)) → told ≡ append_known told []
 append_none None = refl
@@ -23,16 +26,19 @@ pub append_twice : (told : Option (List ℕ)) (a b : List ℕ) → append_known 
 append_twice None a b = refl
 append_twice (Some xs) a b = ap Some (append_assoc xs a b)
 
--- a fault came before anything was written
-pub turn_unread : (engine : Colour) (a : Standing) (before : Option (List ℕ)) (f : Fault) (session : SessionState) (read : ℕ) (left : Option (List ℕ)) → TurnWritten engine a before before (Err f) session read left
-turn_unread engine a before f session read left = ([], [], inl refl, append_none before)
-
 -- a write failed
 pub turn_failed : (engine : Colour) (a : Standing) (before now : Option (List ℕ)) (f : Fault) (session : SessionState) (read : ℕ) (left : Option (List ℕ)) (text : List ℕ)
-    → IsTextOfTurn engine a text → (n : ℕ) × (n ≤ length text) × (now ≡ append_known before (take n text)) → TurnWritten engine a before now (Err f) session read left
-turn_failed engine a before now f session read left text is w = (take w.0 text, drop w.0 text, subst (IsTextOfTurn engine a) (sym (take-append-drop w.0 text)) is, w.2)
+    → IsNextLine engine a text → f ≢ Read → (n : ℕ) × (n ≤ length text) × (now ≡ append_known before (take n text)) → TurnWritten engine a before now (Err f) session read left
+turn_failed engine a before now Read session read left text is ne w = absurd (ne refl)
+turn_failed engine a before now Write session read left text is ne w = (take w.0 text, drop w.0 text, subst (IsNextLine engine a) (sym (take-append-drop w.0 text)) is, w.2)
 
 module _ (session : SessionState) (read : ℕ) (bytes : List ℕ) (left before now : Option (List ℕ)) where
+  -- the opponent's line can't be read
+  pub turn_unread : (input : List ℕ) → IsToAnswer session.engine session.state → read ≤ 10000 → read ≢ 10000 → IsSameInput session.held (Some bytes) input left
+      → TurnWritten session.engine (standing session read bytes) before before (Err Read) (record { state = session.state; engine = session.engine; held = input }) read left
+  turn_unread input turn few ne same =
+      let r = same bytes refl in (r.0, r.1, turn, omega (arith, few, ne), (λ i. record { state = session.state; read = read; left = r.2 i }), refl)
+
   -- the opponent's line was answered
   pub answered_turn : (asked : Option Move) (input text : List ℕ) (t : State) → IsToAnswer session.engine session.state → read ≤ 10000 → read ≢ 10000 → IsRequested session.state.board (session.held ++ bytes) (Line asked) input left
       → Answers session.state asked text t → (rest : List ℕ) × (left ≡ Some rest) × Turn session.engine (standing session read bytes) text (standing (record { state = t; engine = session.engine; held = input }) (read + 1) rest)
@@ -57,16 +63,16 @@ module _ (session : SessionState) (read : ℕ) (bytes : List ℕ) (left before n
   answer_written asked input t text turn few ne r a e = let h = answered_turn asked input text t turn few ne r a in (h.0, text, h.1, h.2, e)
 
   pub answer_failed : (asked : Option Move) (input : List ℕ) (t : State) (text : List ℕ) (f : Fault) (new : SessionState) (count : ℕ) → IsToAnswer session.engine session.state → read ≤ 10000 → read ≢ 10000 → IsRequested session.state.board (session.held ++ bytes) (Line asked) input left
-      → Answers session.state asked text t → (n : ℕ) × (n ≤ length text) × (now ≡ append_known before (take n text)) → TurnWritten session.engine (standing session read bytes) before now (Err f) new count left
-  answer_failed asked input t text f new count turn few ne r a w =
-      let h = answered_turn asked input text t turn few ne r a in turn_failed session.engine (standing session read bytes) before now f new count left text (inr (inl (standing (record { state = t; engine = session.engine; held = input }) (read + 1) h.0, h.2))) w
+      → Answers session.state asked text t → f ≢ Read → (n : ℕ) × (n ≤ length text) × (now ≡ append_known before (take n text)) → TurnWritten session.engine (standing session read bytes) before now (Err f) new count left
+  answer_failed asked input t text f new count turn few ne r a write w =
+      let h = answered_turn asked input text t turn few ne r a in turn_failed session.engine (standing session read bytes) before now f new count left text (inl (standing (record { state = t; engine = session.engine; held = input }) (read + 1) h.0, h.2)) write w
 
   -- the input was at its end
   pub input_ended : (input : List ℕ) (result : Result (Option SessionEnd) Fault) → IsToAnswer session.engine session.state → read ≤ 10000 → read ≢ 10000 → IsRequested session.state.board (session.held ++ bytes) Ended input left
-      → Appends before now result input_line → IfOk result (λ end. end ≡ Some InputEnded) → TurnWritten session.engine (standing session read bytes) before now result (record { state = session.state; engine = session.engine; held = input }) read left
-  input_ended input (Err f) turn few ne r w e = turn_failed session.engine (standing session read bytes) before now f (record { state = session.state; engine = session.engine; held = input }) read left input_line (inr (inr (InputEnded, (turn, omega (arith, few, ne), r.0, refl)))) w
-  input_ended input (Ok None) turn few ne r w e = absurd (cc e)
-  input_ended input (Ok (Some end)) turn few ne r w e =
+      → Appends before now result input_line → ¬ IsErrOf result Read → IfOk result (λ end. end ≡ Some InputEnded) → TurnWritten session.engine (standing session read bytes) before now result (record { state = session.state; engine = session.engine; held = input }) read left
+  input_ended input (Err f) turn few ne r w write e = turn_failed session.engine (standing session read bytes) before now f (record { state = session.state; engine = session.engine; held = input }) read left input_line (inr (InputEnded, (turn, omega (arith, few, ne), r.0, refl))) (λ k. write (ap Err k)) w
+  input_ended input (Ok None) turn few ne r w write e = absurd (cc e)
+  input_ended input (Ok (Some end)) turn few ne r w write e =
       let is : end ≡ InputEnded = cc e in
       let same : session.held ++ bytes ≡ input ++ [] = r.0 ∙ sym (append-nil input ∙ r.1) in
       ([], input_line, r.2, subst (Ends session.engine (standing session read bytes) input_line) (sym is) (turn, omega (arith, few, ne), r.0, refl), (λ i. record { state = session.state; read = read; left = same i }), w)
@@ -80,9 +86,9 @@ module _ (session : SessionState) (read : ℕ) (bytes : List ℕ) (left before n
       → TurnWritten session.engine (standing session read bytes) before now (Ok None) (record { state = t; engine = session.engine; held = session.held }) read left
   engine_written t text e turn m w = (bytes, text, e, inl (record { turn = turn; moved = m; same_count = refl; same_bytes = refl }), w)
 
-  pub engine_failed : (t : State) (text : List ℕ) (f : Fault) (new : SessionState) → session.state.side ≡ session.engine → EngineMoves session.state text t → (n : ℕ) × (n ≤ length text) × (now ≡ append_known before (take n text))
+  pub engine_failed : (t : State) (text : List ℕ) (f : Fault) (new : SessionState) → session.state.side ≡ session.engine → EngineMoves session.state text t → f ≢ Read → (n : ℕ) × (n ≤ length text) × (now ≡ append_known before (take n text))
       → TurnWritten session.engine (standing session read bytes) before now (Err f) new read left
-  engine_failed t text f new turn m w = turn_failed session.engine (standing session read bytes) before now f new read left text (inr (inl (standing (record { state = t; engine = session.engine; held = session.held }) read bytes, inl (record { turn = turn; moved = m; same_count = refl; same_bytes = refl })))) w
+  engine_failed t text f new turn m write w = turn_failed session.engine (standing session read bytes) before now f new read left text (inl (standing (record { state = t; engine = session.engine; held = session.held }) read bytes, inl (record { turn = turn; moved = m; same_count = refl; same_bytes = refl }))) write w
 
   -- the side to move has no move
   ends_game : (winner : Colour) → ¬ HasMove session.state → winner ≡ other session.state.side → (end : Option SessionEnd) → ((end ≡ Some Won) × (winner ≡ session.engine)) ⊎ ((end ≡ Some Lost) × (winner ≡ other session.engine))
@@ -94,11 +100,11 @@ module _ (session : SessionState) (read : ℕ) (bytes : List ℕ) (left before n
   some_end winner none is (inl mine) = let x = ends_game winner none is (Some Won) (inl (refl, mine)) in (x.0, x.2)
   some_end winner none is (inr theirs) = let x = ends_game winner none is (Some Lost) (inr (refl, theirs)) in (x.0, x.2)
 
-  pub game_ended : (winner : Colour) (result : Result (Option SessionEnd) Fault) → left ≡ Some bytes → ¬ HasMove session.state → winner ≡ other session.state.side → Appends before now result (winner_line winner)
+  pub game_ended : (winner : Colour) (result : Result (Option SessionEnd) Fault) → left ≡ Some bytes → ¬ HasMove session.state → winner ≡ other session.state.side → Appends before now result (winner_line winner) → ¬ IsErrOf result Read
       → IfOk result (λ end. ((end ≡ Some Won) × (winner ≡ session.engine)) ⊎ ((end ≡ Some Lost) × (winner ≡ other session.engine))) → TurnWritten session.engine (standing session read bytes) before now result session read left
-  game_ended winner (Err f) e none is w h =
-      let x = some_end winner none is (one_side winner session.engine) in turn_failed session.engine (standing session read bytes) before now f session read left (winner_line winner) (inr (inr x)) w
-  game_ended winner (Ok None) e none is w h = absurd (elim h [ inl x ↦ cc x.0 | inr x ↦ cc x.0 ])
-  game_ended winner (Ok (Some end)) e none is w h =
+  game_ended winner (Err f) e none is w write h =
+      let x = some_end winner none is (one_side winner session.engine) in turn_failed session.engine (standing session read bytes) before now f session read left (winner_line winner) (inr x) (λ k. write (ap Err k)) w
+  game_ended winner (Ok None) e none is w write h = absurd (elim h [ inl x ↦ cc x.0 | inr x ↦ cc x.0 ])
+  game_ended winner (Ok (Some end)) e none is w write h =
       let x = ends_game winner none is (Some end) h in
       let same : end ≡ x.0 = cc x.1 in (bytes, winner_line winner, e, subst (Ends session.engine (standing session read bytes) (winner_line winner)) (sym same) x.2, refl, w)

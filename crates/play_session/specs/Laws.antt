@@ -1,5 +1,5 @@
 -- A session has one text, and an engine that has won keeps its win.
-use Rattle.std.specs.Prelude.{◌≡◌, ◌≢◌, ℕ, ◌≤◌, List, ◌++◌, length}
+use Rattle.std.specs.Prelude.{◌≡◌, ◌≢◌, ◌⊎◌, ℕ, ◌≤◌, List, [], ◌++◌, codes, length}
 use Rattle.go_grid.specs.declared.grid.Colour.{Colour}
 use Rattle.go_grid.specs.Grid.{other}
 use Rattle.report.specs.Solution.{winner_line}
@@ -8,7 +8,7 @@ use Rattle.whole_rules.specs.PlainRecursion.{MoverLoses}
 use Rattle.whole_rules.specs.WholeGame.{State, Leads}
 use Rattle.play_session.specs.declared.end.SessionEnd.{SessionEnd}
 use Rattle.play_session.specs.declared.end.SessionEnd.TheVariants.{Lost}
-use Rattle.play_session.specs.Session.{Standing, IsEngineTurn, Ends, Turns, IsSession, Begins}
+use Rattle.play_session.specs.Session.{Standing, IsEngineTurn, Ends, Turns, IsSession, Waits, BreaksOff}
 
 -- the engine wins here, after each of its turns the opponent is to move and loses, and the session doesn't end in the opponent's win
 pub record KeepsWin (engine : Colour) (a : Standing) : Type 0 where
@@ -25,7 +25,11 @@ abbrev pub HasOneText : Type 0
 HasOneText = (engine : Colour) (a b c : Standing) (s t : List ℕ) (end final : SessionEnd) → length a.state.board.cells ≤ 625
     → IsSession engine a s b end → IsSession engine a t c final → (s ≡ t) × (b ≡ c) × (end ≡ final)
 
--- and what a session begins with is a front part of its text
+-- and what a failing read or a failing write leaves of it is a front part of its text
 abbrev pub HasOneBeginning : Type 0
 HasOneBeginning = (engine : Colour) (a b : Standing) (s t : List ℕ) (end : SessionEnd) → length a.state.board.cells ≤ 625
-    → Begins engine a s → IsSession engine a t b end → (more : List ℕ) × (t ≡ s ++ more)
+    → ((c : Standing) × Waits engine a s c) ⊎ BreaksOff engine a s → IsSession engine a t b end → (more : List ℕ) × (t ≡ s ++ more)
+
+-- the line stands in the text, at its front or behind a line feed
+abbrev pub IsLineIn : List ℕ → List ℕ → Type 0
+IsLineIn line text = (front back : List ℕ) × (text ≡ front ++ (line ++ back)) × ((front ≡ []) ⊎ ((start : List ℕ) × (front ≡ start ++ codes "\n")))

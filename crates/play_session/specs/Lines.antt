@@ -1,5 +1,5 @@
 -- The lines of a session.
-use Rattle.std.specs.Prelude.{◌≡◌, ◌≢◌, ◌⊎◌, ℕ, ◌<◌, ◌≤◌, List, [], ◌∷◌, ◌++◌, length, take, drop, slice_index, All, Option, Some, None}
+use Rattle.std.specs.Prelude.{◌≡◌, ◌≢◌, ◌⊎◌, ℕ, ◌+◌, ◌*◌, ◌<◌, ◌≤◌, List, [], ◌∷◌, ◌++◌, length, take, drop, slice_index, All, Option, Some, None}
 use Rattle.desk_io.specs.Outside.{ended}
 use Rattle.play_session.specs.declared.input.Found.{Found}
 
@@ -18,6 +18,11 @@ pub record IsLine (bytes line rest : List ℕ) : Type 0 where
 -- what counts is the same: the bytes that are held, and then those that the source has left
 abbrev pub IsSameInput : List ℕ → Option (List ℕ) → List ℕ → Option (List ℕ) → Type 0
 IsSameInput held before held' now = (bytes : List ℕ) → before ≡ Some bytes → (rest : List ℕ) × (now ≡ Some rest) × (held ++ bytes ≡ held' ++ rest)
+
+-- of the bytes that count the lines between the two numbers were used, of at most 256 bytes each; what is left is held, or is in the source
+abbrev pub UsesLines : ℕ → ℕ → List ℕ → Option (List ℕ) → List ℕ → Option (List ℕ) → Type 0
+UsesLines from to held before held' now = (bytes : List ℕ) → before ≡ Some bytes
+    → (used rest : List ℕ) × (now ≡ Some rest) × (held ++ bytes ≡ used ++ (held' ++ rest)) × (length used + 256 * from ≤ 256 * to)
 
 -- the place of the first line feed, where one is held; else 256 bytes are held, or the source is at its end
 abbrev pub IsFeed : List ℕ → Option (List ℕ) → Option ℕ → Type 0

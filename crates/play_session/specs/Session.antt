@@ -106,6 +106,18 @@ abbrev pub Turns : Colour → ℕ → Standing → List ℕ → Standing → Typ
 Turns engine zero a text b = (text ≡ []) × (b ≡ a)
 Turns engine (suc n) a text c = (b : Standing) × ((first then : List ℕ) × Turns engine n a first b × Turn engine b then c × (text ≡ first ++ then))
 
+-- the line of the turn that comes next, or of the end
+abbrev pub IsNextLine : Colour → Standing → List ℕ → Type 0
+IsNextLine engine a text = ((b : Standing) × Turn engine a text b) ⊎ ((end : SessionEnd) × Ends engine a text end)
+
+-- all turns up to one of the opponent's, whose line is still to be read
+abbrev pub Waits : Colour → Standing → List ℕ → Standing → Type 0
+Waits engine a text b = (n : ℕ) × Turns engine n a text b × IsToAnswer engine b.state × (b.read < 10000)
+
+-- turns, and a front part of the line after them
+abbrev pub BreaksOff : Colour → Standing → List ℕ → Type 0
+BreaksOff engine a text = (n : ℕ) × (b : Standing) × (first last more : List ℕ) × Turns engine n a first b × IsNextLine engine b (last ++ more) × (text ≡ first ++ last)
+
 -- a whole session: turns, and then its end
 pub record IsSession (engine : Colour) (a : Standing) (text : List ℕ) (b : Standing) (end : SessionEnd) : Type 0 where
   pub number : ℕ
@@ -114,11 +126,3 @@ pub record IsSession (engine : Colour) (a : Standing) (text : List ℕ) (b : Sta
   pub turns : Turns engine number a first b
   pub ends : Ends engine b last end
   pub whole : text ≡ first ++ last
-
--- the text of some turns, or of a whole session
-abbrev pub IsTextOf : Colour → Standing → List ℕ → Type 0
-IsTextOf engine a text = ((n : ℕ) × ((b : Standing) × Turns engine n a text b)) ⊎ ((b : Standing) × ((end : SessionEnd) × IsSession engine a text b end))
-
--- the session begins with this text
-abbrev pub Begins : Colour → Standing → List ℕ → Type 0
-Begins engine a text = (more : List ℕ) × IsTextOf engine a (text ++ more)

@@ -1,5 +1,5 @@
 -- What the parts of a session write, and where their faults come from.
-use Rattle.std.specs.Prelude.{◌≡◌, ◌≢◌, ◌⊎◌, ℕ, ◌+◌, ◌*◌, ◌-◌, ◌≤◌, List, [], ◌++◌, Result, Ok, Err, Option, Some, None, IsErrOf, IfSome}
+use Rattle.std.specs.Prelude.{◌≡◌, ◌≢◌, ◌⊎◌, ℕ, ◌+◌, ◌*◌, ◌-◌, ◌≤◌, ◌<◌, List, [], ◌++◌, Result, Ok, Err, Option, Some, None, IsErrOf, IfSome}
 use Rattle.std.specs.Io.KnownBytes.{append_known}
 use Rattle.desk_io.specs.Outside.{Rose}
 use Rattle.go_grid.specs.Grid.{Grid}
@@ -14,7 +14,7 @@ use Rattle.play_session.specs.declared.session.Request.{Request}
 use Rattle.play_session.specs.declared.session.Request.TheVariants.{Ended, Line}
 use Rattle.play_session.specs.Lines.{IsLine}
 use Rattle.play_session.specs.Words.{Asks, IsOnBoard}
-use Rattle.play_session.specs.Session.{Standing, Turn, Ends, IsSession, Begins}
+use Rattle.play_session.specs.Session.{Standing, IsToAnswer, Turn, Ends, IsSession, IsNextLine, Waits, BreaksOff}
 
 -- what a session keeps: the state, the engine's colour, and the bytes that it holds unread
 pub record SessionState : Type 0 where
@@ -39,15 +39,13 @@ pub record Causes {T : Type 0} (reads reads_now writes writes_now : ℕ) (result
 abbrev pub standing : SessionState → ℕ → List ℕ → Standing
 standing session read rest = record { state = session.state; read = read; left = session.held ++ rest }
 
--- the text of a turn, of an end, or no text
-abbrev pub IsTextOfTurn : Colour → Standing → List ℕ → Type 0
-IsTextOfTurn engine a text = (text ≡ []) ⊎ (((b : Standing) × Turn engine a text b) ⊎ ((end : SessionEnd) × Ends engine a text end))
-
--- one turn was written, or the end, or a front part of one of them
+-- One turn was written, or the end. Where a read failed nothing was written, and the opponent's line is still to be read; where a
+-- write failed, a front part of the line was.
 abbrev pub TurnWritten : Colour → Standing → Option (List ℕ) → Option (List ℕ) → Result (Option SessionEnd) Fault → SessionState → ℕ → Option (List ℕ) → Type 0
 TurnWritten engine a before now (Ok None) session read left = (rest text : List ℕ) × (left ≡ Some rest) × Turn engine a text (standing session read rest) × (now ≡ append_known before text)
 TurnWritten engine a before now (Ok (Some end)) session read left = (rest text : List ℕ) × (left ≡ Some rest) × Ends engine a text end × (a ≡ standing session read rest) × (now ≡ append_known before text)
-TurnWritten engine a before now (Err _) session read left = (text more : List ℕ) × IsTextOfTurn engine a (text ++ more) × (now ≡ append_known before text)
+TurnWritten engine a before now (Err Read) session read left = (rest : List ℕ) × (left ≡ Some rest) × IsToAnswer engine a.state × (a.read < 10000) × (a ≡ standing session read rest) × (now ≡ before)
+TurnWritten engine a before now (Err Write) session read left = (text more : List ℕ) × IsNextLine engine a (text ++ more) × (now ≡ append_known before text)
 
 -- the whole session was written, and the session stands at its end
 pub record IsPlayed (engine : Colour) (a : Standing) (before now : Option (List ℕ)) (end : SessionEnd) (session : SessionState) (left : Option (List ℕ)) : Type 0 where
@@ -58,19 +56,29 @@ pub record IsPlayed (engine : Colour) (a : Standing) (before now : Option (List 
   pub written : now ≡ append_known before text
   pub unread : left ≡ Some rest
 
--- a front part of the session was written
-abbrev pub IsBroken : Colour → Standing → Option (List ℕ) → Option (List ℕ) → Type 0
-IsBroken engine a before now = (text : List ℕ) × Begins engine a text × (now ≡ append_known before text)
+-- all turns so far were written, and the session stands where the opponent's line is to be read
+pub record IsUnread (engine : Colour) (a : Standing) (before now : Option (List ℕ)) (session : SessionState) (left : Option (List ℕ)) : Type 0 where
+  pub text : List ℕ
+  pub read : ℕ
+  pub rest : List ℕ
+  pub waits : Waits engine a text (standing session read rest)
+  pub written : now ≡ append_known before text
+  pub unread : left ≡ Some rest
 
--- the whole session, or where a fault came a front part
+-- turns were written, and a front part of the line after them
+abbrev pub IsCutOff : Colour → Standing → Option (List ℕ) → Option (List ℕ) → Type 0
+IsCutOff engine a before now = (text : List ℕ) × BreaksOff engine a text × (now ≡ append_known before text)
+
+-- the whole session, or where a read failed all turns so far, or where a write failed a front part
 abbrev pub IsPlayedTo : Colour → Standing → Option (List ℕ) → Option (List ℕ) → Result SessionEnd Fault → SessionState → Option (List ℕ) → Type 0
 IsPlayedTo engine a before now (Ok end) session left = IsPlayed engine a before now end session left
-IsPlayedTo engine a before now (Err _) session left = IsBroken engine a before now
+IsPlayedTo engine a before now (Err Read) session left = IsUnread engine a before now session left
+IsPlayedTo engine a before now (Err Write) session left = IsCutOff engine a before now
 
 -- the same by the end that is answered
 abbrev pub Played : Colour → Standing → Option (List ℕ) → Option (List ℕ) → SessionEnd → SessionState → Option (List ℕ) → Type 0
-Played engine a before now ReadFault session left = IsBroken engine a before now
-Played engine a before now WriteFault session left = IsBroken engine a before now
+Played engine a before now ReadFault session left = IsUnread engine a before now session left
+Played engine a before now WriteFault session left = IsCutOff engine a before now
 Played engine a before now end session left = IsPlayed engine a before now end session left
 
 -- a session ends by itself in one of four ways

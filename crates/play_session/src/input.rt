@@ -85,6 +85,7 @@ impl Input {
         ensures more { IfOk result (λ n. (piece : List ℕ) × (self.new ≡ self.old ++ piece) × (length piece ≡ n)) }
         ensures end { IfOk result (λ n. n ≡ 0 → S.left lines.new ≡ ended (S.left lines.new)) }
         ensures failed { OnErr result (self.new ≡ self.old) }
+        ensures few { length self.new ≤ 256 }
         ensures cause { HasCause (S.faults lines.old) (S.faults lines.new) result }
     {
         let count = lines.read(&mut self.bytes[self.len..])?;
@@ -96,6 +97,7 @@ impl Input {
     fn next_feed<S: Source>(&mut self, lines: &mut S) -> Result<Option<usize>, Failed>
         ensures same { IsSameInput self.old (S.left lines.old) self.new (S.left lines.new) }
         ensures feed { IfOk result (λ at. IsFeed self.new (S.left lines.new) at) }
+        ensures few { length self.new ≤ 256 }
         ensures cause { HasCause (S.faults lines.old) (S.faults lines.new) result }
     {
         'looking: for at in 0..ROOM {
@@ -114,6 +116,7 @@ impl Input {
     pub fn find_line<S: Source>(&mut self, lines: &mut S) -> Result<Option<Found>, Failed>
         ensures same { IsSameInput self.old (S.left lines.old) self.new (S.left lines.new) }
         ensures found { IfOk result (λ f. IsFound self.new (S.left lines.new) f) }
+        ensures few { length self.new ≤ 256 }
         ensures cause { HasCause (S.faults lines.old) (S.faults lines.new) result }
     {
         let feed = self.next_feed(lines)?;

@@ -1,6 +1,6 @@
 //! The session.
 
-ghost use Rattle.std.specs.Prelude.{◌≡◌, ◌≢◌, ◌↔◌, ◌⊎◌, ◌+◌, ◌≤◌, ◌<◌, ◌++◌, List, ℕ, [], true, codes, IfOk, IfSome, IsErrOf, Ok, Some, None};
+ghost use Rattle.std.specs.Prelude.{◌≡◌, ◌≢◌, ◌↔◌, ◌⊎◌, ◌+◌, ◌≤◌, ◌<◌, ◌++◌, List, ℕ, [], true, codes, length, IfOk, OnErr, IfSome, IsErrOf, Ok, Some, None};
 ghost use Rattle.desk_io.specs.Outside.{Appends, HasCause, Rose};
 ghost use Rattle.go_grid.specs.Grid.{other};
 ghost use Rattle.report.specs.Solution.{winner_line};
@@ -8,6 +8,7 @@ ghost use Rattle.whole_rules.specs.FirstWinningMove.{IsWinner};
 ghost use Rattle.whole_rules.specs.WholeGame.{IsFirstMove};
 ghost use Rattle.play_session.specs.declared.fault.Fault.TheVariants.{Read, Write};
 ghost use Rattle.play_session.specs.declared.end.SessionEnd.TheVariants.{Won, Lost, InputEnded, ReadFault, WriteFault};
+ghost use Rattle.play_session.specs.Lines.{IsSameInput, UsesLines};
 ghost use Rattle.play_session.specs.Session.{Answers, Chooses, EngineMoves, IsToAnswer, input_line};
 ghost use Rattle.play_session.specs.Words.{IsOnBoard};
 ghost use Rattle.play_session.specs.Written.{Causes, IsStep, IsNatural, IsPlayedTo, IsPossible, IsRequested, Played, TurnWritten, WriteCauses, standing, turns_left};
@@ -138,6 +139,9 @@ pub(crate) fn take_request<S: Source>(
 ) -> Result<Request, Failed>
     ensures requested { (bytes : List ℕ) → S.left lines.old ≡ Some bytes → IfOk result (λ request. IsRequested board.now (input.old ++ bytes) request input.new (S.left lines.new)) }
     ensures on_board { IfOk result (IsPossible board.now) }
+    ensures same { OnErr result (IsSameInput input.old (S.left lines.old) input.new (S.left lines.new)) }
+    ensures used { UsesLines 0 1 input.old (S.left lines.old) input.new (S.left lines.new) }
+    ensures few { length input.new ≤ 256 }
     ensures cause { HasCause (S.faults lines.old) (S.faults lines.new) result }
 {
     let Some(found) = input.find_line(lines)? else {
@@ -158,11 +162,14 @@ pub struct Session {
 }
 
 impl Model for Session {
+    ghost use Rattle.std.specs.Prelude.{◌≤◌, length};
     ghost use Rattle.play_session.specs.Written.{SessionState};
 
     ghost Value = { SessionState };
 
     ghost view = { λ s. record { state = s.solved.state; engine = s.engine; held = s.input } };
+
+    ghost invariant = { λ s. length s.input ≤ 256 };
 }
 
 impl Session {
@@ -186,8 +193,12 @@ impl Session {
     ) -> Result<Option<SessionEnd>, Fault>
         requires turn { IsToAnswer self.old.engine self.old.state }
         requires few { read.old ≤ 10000 }
+        requires few_held { length self.old.held ≤ 256 }
         ensures engine { self.new.engine ≡ self.old.engine }
         ensures written { (bytes : List ℕ) → S.left lines.old ≡ Some bytes → TurnWritten self.old.engine (standing self.old read.old bytes) (K.holds out.old) (K.holds out.new) result self.new read.new (S.left lines.new) }
+        ensures used { UsesLines read.old read.new self.old.held (S.left lines.old) self.new.held (S.left lines.new) }
+        ensures few_held { length self.new.held ≤ 256 }
+        ensures few_read { read.new ≤ 10000 }
         ensures stepped { IsStep self.old.state self.new.state }
         ensures counted { result ≡ Ok None → (read.old < 10000) × (read.new ≡ read.old + 1) }
         ensures never_lost { result ≢ Ok (Some Lost) }
@@ -220,8 +231,11 @@ impl Session {
         requires few { read.old ≤ 10000 }
         ensures engine { self.new.engine ≡ self.old.engine }
         ensures written { (bytes : List ℕ) → S.left lines.old ≡ Some bytes → TurnWritten self.old.engine (standing self.old read.old bytes) (K.holds out.old) (K.holds out.new) result self.new read.new (S.left lines.new) }
+        ensures used { UsesLines read.old read.new self.old.held (S.left lines.old) self.new.held (S.left lines.new) }
+        ensures few_held { length self.new.held ≤ 256 }
+        ensures few_read { read.new ≤ 10000 }
         ensures keeps { IsWinner self.old.state self.old.engine → IsWinner self.new.state self.old.engine × (result ≢ Ok (Some Lost)) }
-        ensures fewer { result ≡ Ok None → (read.new ≤ 10000) × (turns_left self.new read.new < turns_left self.old read.old) }
+        ensures fewer { result ≡ Ok None → (turns_left self.new read.new < turns_left self.old read.old) }
         ensures natural { IfOk result (λ end. IfSome end IsNatural) }
         ensures cause { Causes (S.faults lines.old) (S.faults lines.new) (K.faults out.old) (K.faults out.new) result }
     {
@@ -244,6 +258,8 @@ impl Session {
     fn turns<S: Source, K: Sink>(&mut self, lines: &mut S, out: &mut K) -> Result<SessionEnd, Fault>
         ensures engine { self.new.engine ≡ self.old.engine }
         ensures written { (bytes : List ℕ) → S.left lines.old ≡ Some bytes → IsPlayedTo self.old.engine (standing self.old 0 bytes) (K.holds out.old) (K.holds out.new) result self.new (S.left lines.new) }
+        ensures used { UsesLines 0 10000 self.old.held (S.left lines.old) self.new.held (S.left lines.new) }
+        ensures few_held { length self.new.held ≤ 256 }
         ensures keeps { IsWinner self.old.state self.old.engine → result ≢ Ok Lost }
         ensures natural { IfOk result IsNatural }
         ensures cause { Causes (S.faults lines.old) (S.faults lines.new) (K.faults out.old) (K.faults out.new) result }
@@ -259,10 +275,13 @@ impl Session {
     }
 
     /// Plays the session to its end, from the state as it stands. The bytes that count are those that the session holds
-    /// unread, and then those that the source has left; 10,000 lines are read at most in this call. Where the source tells
-    /// its bytes, the text of the session was written, or at a fault a front part of it.
+    /// unread, at most 256, and then those that the source has left; 10,000 lines are read at most in this call. Where the
+    /// source tells its bytes, the text of the session was written. Where a read failed it is all turns up to the one whose
+    /// line was to be read, and where a write failed all turns before that line and a front part of it.
     pub fn run<S: Source, K: Sink>(&mut self, lines: &mut S, out: &mut K) -> SessionEnd
         ensures text { (bytes : List ℕ) → S.left lines.old ≡ Some bytes → Played self.old.engine (standing self.old 0 bytes) (K.holds out.old) (K.holds out.new) result self.new (S.left lines.new) }
+        ensures used { UsesLines 0 10000 self.old.held (S.left lines.old) self.new.held (S.left lines.new) }
+        ensures few_held { length self.new.held ≤ 256 }
         ensures read_fault { result ≡ ReadFault → Rose (S.faults lines.old) (S.faults lines.new) }
         ensures write_fault { result ≡ WriteFault → Rose (K.faults out.old) (K.faults out.new) }
         ensures reads_later { S.faults lines.old ≤ S.faults lines.new }

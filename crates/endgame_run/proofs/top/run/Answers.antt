@@ -1,21 +1,34 @@
-use Rattle.std.proofs.Common.{inl, inr, refl, ap, subst}
+use Rattle.std.proofs.Common.{rules, inl, inr, refl, ap, subst}
 use Rattle.gd_words.specs.Viewed.{texts, viewed}
 use Rattle.endgame_run.specs.declared.question.Question.TheVariants.{Solve}
+use Rattle.endgame_run.specs.File.{outside}
 use Rattle.endgame_run.specs.Top.{IsAsked}
 use Rattle.endgame_run.specs.Verdict.{AreToPlay, AskAbout, Pose, limits_of}
-use Rattle.endgame_run.proofs.GameLaws.{game_caused, game_written, keeps_win, only_play, own_outcome, played_apart}
-use Rattle.endgame_run.proofs.TopLaws.{by_word, written, run_caused, run_written}
+use Rattle.endgame_run.proofs.GameLaws.{game_caused, game_written, only_play, own_outcome, unplayed, played_apart}
+use Rattle.endgame_run.proofs.GameWins.{plays_won}
+use Rattle.endgame_run.proofs.CompleteLaws.{complete}
+use Rattle.endgame_run.proofs.OutputLaws.{no_job, part_output}
+use Rattle.endgame_run.proofs.TakenLaws.{taken_none}
+use Rattle.endgame_run.proofs.TopLaws.{by_word, caused, written, run_caused, run_written}
 use Rattle.endgame_run.proofs.WrittenLaws.{run_winner, run_move}
 use Rattle.endgame_run.proofs.StepLaws.{no_steps, run_steps, steps_told}
 use Rattle.endgame_run.proofs.top.run.Goals as goal
 
+pub returns-in_default-clause-cause : goal.returns-in_default-clause-cause
+returns-in_default-clause-cause g c = inl (caused (texts c.args.words.now) _ _ _ _ _ _ _ c.finish.result (c.in_default.ensures.usage, refl) c.finish.ensures.written)
+
+pub returns-in_default-asked-clause-cause : goal.returns-in_default-asked-clause-cause
+returns-in_default-asked-clause-cause g c =
+    inl (caused (texts c.args.words.now) _ _ _ _ _ _ _ c.finish-in_default-asked.result ((viewed c.in-Ok.job, c.in-Ok.ensures.job.said, c.in_default-asked.ensures), refl)
+    c.finish-in_default-asked.ensures.written)
+
 pub returns-in_default-clause-text : goal.returns-in_default-clause-text
-returns-in_default-clause-text g c = inl (written (texts c.args.words.now) _ _ _ _ _ _ _ c.finish.result (c.in_default.ensures.usage, refl) c.finish.ensures)
+returns-in_default-clause-text g c = inl (written (texts c.args.words.now) _ _ _ _ _ _ _ c.finish.result (c.in_default.ensures.usage, refl) c.finish.ensures.written)
 
 pub returns-in_default-asked-clause-text : goal.returns-in_default-asked-clause-text
 returns-in_default-asked-clause-text g c =
     inl (written (texts c.args.words.now) _ _ _ _ _ _ _ c.finish-in_default-asked.result ((viewed c.in-Ok.job, c.in-Ok.ensures.job.said, c.in_default-asked.ensures), refl)
-    c.finish-in_default-asked.ensures)
+    c.finish-in_default-asked.ensures.written)
 
 pub returns-in-Answer-clause-cause : goal.returns-in-Answer-clause-cause
 returns-in-Answer-clause-cause g c =
@@ -99,18 +112,6 @@ returns-in-Game-clause-shelf_unread g c other =
 pub returns-in-Game-clause-lines_unread : goal.returns-in-Game-clause-lines_unread
 returns-in-Game-clause-lines_unread g c read play = absurd (play (viewed c.in-Ok.job, c.in-Game.game.word.now, (c.in-Ok.ensures.job, (subst (IsAsked (viewed c.in-Ok.job)) c.in-Game.is c.in-Some.ensures).0)))
 
-pub returns-in-Game-clause-engine_keeps_win : goal.returns-in-Game-clause-engine_keeps_win
-returns-in-Game-clause-engine_keeps_win g c = keeps_win (texts c.args.words.now) _
-
-pub returns-in_default-clause-engine_keeps_win : goal.returns-in_default-clause-engine_keeps_win
-returns-in_default-clause-engine_keeps_win g c = keeps_win (texts c.args.words.now) _
-
-pub returns-in_default-asked-clause-engine_keeps_win : goal.returns-in_default-asked-clause-engine_keeps_win
-returns-in_default-asked-clause-engine_keeps_win g c = keeps_win (texts c.args.words.now) _
-
-pub returns-in-Answer-clause-engine_keeps_win : goal.returns-in-Answer-clause-engine_keeps_win
-returns-in-Answer-clause-engine_keeps_win g c = keeps_win (texts c.args.words.now) _
-
 pub returns-in-Answer-clause-no_steps : goal.returns-in-Answer-clause-no_steps
 returns-in-Answer-clause-no_steps g c =
     no_steps (texts c.args.words.now) (g.H.Shelf.files c.args.shelf.now) (g.S.Source.left c.args.lines.now) c.args.steps.now c.run_file.new.steps (returns-in-Answer-clause-few_steps g c)
@@ -118,3 +119,82 @@ returns-in-Answer-clause-no_steps g c =
 pub returns-in-Game-clause-no_steps : goal.returns-in-Game-clause-no_steps
 returns-in-Game-clause-no_steps g c =
     no_steps (texts c.args.words.now) (g.H.Shelf.files c.args.shelf.now) (g.S.Source.left c.args.lines.now) c.args.steps.now c.run_game.new.steps (returns-in-Game-clause-few_steps g c)
+
+pub returns-in_default-clause-partial_output : goal.returns-in_default-clause-partial_output
+returns-in_default-clause-partial_output g c = part_output (texts c.args.words.now) _ _ _ c.finish.result (returns-in_default-clause-text g c)
+
+pub returns-in_default-clause-outside_grammar : goal.returns-in_default-clause-outside_grammar
+returns-in_default-clause-outside_grammar g c = no_job (texts c.args.words.now) _ _ _ c.finish.result (returns-in_default-clause-cause g c)
+
+pub returns-in_default-clause-engine_keeps_win : goal.returns-in_default-clause-engine_keeps_win
+returns-in_default-clause-engine_keeps_win g c = plays_won (texts c.args.words.now) _ _ _ c.finish.result (returns-in_default-clause-text g c)
+
+pub returns-in_default-asked-clause-partial_output : goal.returns-in_default-asked-clause-partial_output
+returns-in_default-asked-clause-partial_output g c = part_output (texts c.args.words.now) _ _ _ c.finish-in_default-asked.result (returns-in_default-asked-clause-text g c)
+
+pub returns-in_default-asked-clause-outside_grammar : goal.returns-in_default-asked-clause-outside_grammar
+returns-in_default-asked-clause-outside_grammar g c = no_job (texts c.args.words.now) _ _ _ c.finish-in_default-asked.result (returns-in_default-asked-clause-cause g c)
+
+pub returns-in_default-asked-clause-engine_keeps_win : goal.returns-in_default-asked-clause-engine_keeps_win
+returns-in_default-asked-clause-engine_keeps_win g c = plays_won (texts c.args.words.now) _ _ _ c.finish-in_default-asked.result (returns-in_default-asked-clause-text g c)
+
+pub returns-in-Answer-clause-partial_output : goal.returns-in-Answer-clause-partial_output
+returns-in-Answer-clause-partial_output g c = part_output (texts c.args.words.now) _ _ _ c.run_file.result (returns-in-Answer-clause-text g c)
+
+pub returns-in-Answer-clause-outside_grammar : goal.returns-in-Answer-clause-outside_grammar
+returns-in-Answer-clause-outside_grammar g c = no_job (texts c.args.words.now) _ _ _ c.run_file.result (returns-in-Answer-clause-cause g c)
+
+pub returns-in-Answer-clause-engine_keeps_win : goal.returns-in-Answer-clause-engine_keeps_win
+returns-in-Answer-clause-engine_keeps_win g c = plays_won (texts c.args.words.now) _ _ _ c.run_file.result (returns-in-Answer-clause-text g c)
+
+pub returns-in-Game-clause-partial_output : goal.returns-in-Game-clause-partial_output
+returns-in-Game-clause-partial_output g c = part_output (texts c.args.words.now) _ _ _ c.run_game.result (returns-in-Game-clause-text g c)
+
+pub returns-in-Game-clause-outside_grammar : goal.returns-in-Game-clause-outside_grammar
+returns-in-Game-clause-outside_grammar g c = no_job (texts c.args.words.now) _ _ _ c.run_game.result (returns-in-Game-clause-cause g c)
+
+pub returns-in-Game-clause-engine_keeps_win : goal.returns-in-Game-clause-engine_keeps_win
+returns-in-Game-clause-engine_keeps_win g c = plays_won (texts c.args.words.now) _ _ _ c.run_game.result (returns-in-Game-clause-text g c)
+
+pub returns-in_default-clause-cannot_write : goal.returns-in_default-clause-cannot_write
+returns-in_default-clause-cannot_write g c = search rules
+
+pub returns-in_default-clause-complete : goal.returns-in_default-clause-complete
+returns-in_default-clause-complete g c = complete (texts c.args.words.now) _ _ _ _ _ c.finish.result (returns-in_default-clause-cannot_write g c) (returns-in_default-clause-cause g c)
+
+pub returns-in-Answer-clause-cannot_write : goal.returns-in-Answer-clause-cannot_write
+returns-in-Answer-clause-cannot_write g c = search rules
+
+pub returns-in-Answer-clause-complete : goal.returns-in-Answer-clause-complete
+returns-in-Answer-clause-complete g c = complete (texts c.args.words.now) _ _ _ _ _ c.run_file.result (returns-in-Answer-clause-cannot_write g c) (returns-in-Answer-clause-cause g c)
+
+pub returns-in-Game-clause-cannot_write : goal.returns-in-Game-clause-cannot_write
+returns-in-Game-clause-cannot_write g c = search rules
+
+pub returns-in-Game-clause-complete : goal.returns-in-Game-clause-complete
+returns-in-Game-clause-complete g c = complete (texts c.args.words.now) _ _ _ _ _ c.run_game.result (returns-in-Game-clause-cannot_write g c) (returns-in-Game-clause-cause g c)
+
+pub returns-in-Game-clause-lines_unplayed : goal.returns-in-Game-clause-lines_unplayed
+returns-in-Game-clause-lines_unplayed g c _ =
+    let asks : AreToPlay (texts c.args.words.now) (viewed c.in-Ok.job) c.in-Game.game.word.now = (c.in-Ok.ensures.job, (subst (IsAsked (viewed c.in-Ok.job)) c.in-Game.is c.in-Some.ensures).0) in
+    let o = outside (g.H.Shelf.files c.args.shelf.now) (g.S.Source.left c.args.lines.now) (g.H.Shelf.faults c.args.shelf.now) (g.H.Shelf.faults c.run_game.new.shelf) (g.S.Source.faults c.args.lines.now) (g.S.Source.faults c.run_game.new.lines) in
+    unplayed (texts c.args.words.now) o (viewed c.in-Ok.job) c.in-Game.game.limits c.in-Game.game.engine c.in-Game.game.word.now _ _ _ _ c.run_game.result _ asks
+    (subst (IsAsked (viewed c.in-Ok.job)) c.in-Game.is c.in-Some.ensures).1 (subst (IsAsked (viewed c.in-Ok.job)) c.in-Game.is c.in-Some.ensures).2 c.run_game.ensures.lines_unplayed
+
+pub returns-in-Answer-clause-asked : goal.returns-in-Answer-clause-asked
+returns-in-Answer-clause-asked g c =
+    let asks : AskAbout (texts c.args.words.now) (viewed c.in-Ok.job) c.in-Answer.inquiry.question c.in-Answer.inquiry.word.now = (c.in-Ok.ensures.job, (subst (IsAsked (viewed c.in-Ok.job)) c.in-Answer.is c.in-Some.ensures)) in
+    by_word _ c.in-Answer.inquiry.word.now (λ is. inl (c.run_file.ensures.shelf_unread is))
+    (λ ne. inr (viewed c.in-Ok.job, c.in-Answer.inquiry.question, c.in-Answer.inquiry.word.now, inl asks, ne, c.run_file.ensures.asked ne))
+
+pub returns-in-Game-clause-asked : goal.returns-in-Game-clause-asked
+returns-in-Game-clause-asked g c =
+    let asks : Pose (texts c.args.words.now) (viewed c.in-Ok.job) (Solve c.in-Game.game.limits) c.in-Game.game.word.now = inr ((c.in-Ok.ensures.job, (subst (IsAsked (viewed c.in-Ok.job)) c.in-Game.is c.in-Some.ensures).0), ap Solve (subst (IsAsked (viewed c.in-Ok.job)) c.in-Game.is c.in-Some.ensures).1) in
+    inr (
+      viewed c.in-Ok.job,
+      Solve c.in-Game.game.limits,
+      c.in-Game.game.word.now,
+      asks,
+      played_apart (texts c.args.words.now) (viewed c.in-Ok.job) c.in-Game.game.word.now c.in-Ok.ensures.job.said (subst (IsAsked (viewed c.in-Ok.job)) c.in-Game.is c.in-Some.ensures).0,
+      c.run_game.ensures.asked,
+    )

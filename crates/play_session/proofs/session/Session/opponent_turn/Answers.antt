@@ -1,15 +1,36 @@
-use Rattle.std.proofs.Common.{◌+◌, ◌++◌, sym, ap, ◌∙◌, subst, Ok, Err, None}
+use Rattle.std.proofs.Common.{◌+◌, ◌++◌, [], sym, ap, ◌∙◌, subst, arith, append-nil, Ok, Err, None}
 use Rattle.play_session.specs.declared.fault.Fault.TheVariants.{Read}
 use Rattle.play_session.specs.declared.session.Request.TheVariants.{Ended, Line}
+use Rattle.play_session.specs.Lines.{IsSameInput}
 use Rattle.play_session.specs.Session.{IsToAnswer}
 use Rattle.play_session.specs.Written.{SessionState, standing, TurnWritten, IsRequested, IsStep}
 use Rattle.play_session.proofs.Turns.{turn_unread, answer_written, answer_failed, input_ended}
 use Rattle.play_session.proofs.Wins.{answers_step}
+use Rattle.play_session.proofs.Pieces.{input_same}
+use Rattle.play_session.proofs.Used.{used_none}
 use Rattle.play_session.proofs.session.Session.opponent_turn.Goals as goal
+
+pub returns-then-read-eq-MOST_LINES-clause-used : goal.returns-then-read-eq-MOST_LINES-clause-used
+returns-then-read-eq-MOST_LINES-clause-used g c =
+    let held = c.args.self.now.held in let left = g.S.Source.left c.args.lines.now in
+    used_none c.args.read.now c.args.read.now held held left left (omega arith) (input_same held left)
+
+pub returns-in-Ok-Ended-clause-used : goal.returns-in-Ok-Ended-clause-used
+returns-in-Ok-Ended-clause-used g c = λ bytes e.
+    let i = c.self.inside in let input = c.take_request.new.input in let left = g.S.Source.left c.take_request.new.lines in
+    let asked : IsRequested c.board.result.now (i.input ++ bytes) Ended input left =
+    subst (λ r. IsRequested c.board.result.now (i.input ++ bytes) r input left) c.in-Ok-Ended.field-0-is (c.in-Ok-Ended.ensures.requested bytes e) in
+    ([], [], asked.2, ap (λ v. v.held ++ bytes) (sym c.self.view_is) ∙ asked.0 ∙ sym (append-nil input ∙ asked.1), omega arith)
 
 pub returns-in-Err-clause-written : goal.returns-in-Err-clause-written
 returns-in-Err-clause-written g c = λ bytes e.
-    turn_unread c.args.self.now.engine (standing c.args.self.now c.args.read.now bytes) (g.K.Sink.holds c.args.out.now) Read c.args.self.now c.args.read.now (g.S.Source.left c.take_request.new.lines)
+    let i = c.self.inside in let before = g.K.Sink.holds c.args.out.now in
+    let left = g.S.Source.left c.take_request.new.lines in let input = c.take_request.new.input in
+    let session : SessionState = record { state = i.solved.state; engine = i.engine; held = i.input } in
+    let new : SessionState = record { state = i.solved.state; engine = i.engine; held = input } in
+    let turn : IsToAnswer session.engine session.state = subst (λ v. IsToAnswer v.engine v.state) (sym c.self.view_is) c.requires.turn in
+    subst (λ v. TurnWritten v.engine (standing v c.args.read.now bytes) before before (Err Read) new c.args.read.now left) c.self.view_is
+    (turn_unread session c.args.read.now bytes left before before input turn c.requires.few c.if-read-eq-MOST_LINES.false (subst (λ l. IsSameInput i.input l input left) e c.in-Err.ensures.same))
 
 pub returns-in-Ok-Ended-clause-written : goal.returns-in-Ok-Ended-clause-written
 returns-in-Ok-Ended-clause-written g c = λ bytes e.
@@ -22,7 +43,7 @@ returns-in-Ok-Ended-clause-written g c = λ bytes e.
     subst (λ r. IsRequested session.state.board (session.held ++ bytes) r input left) c.in-Ok-Ended.field-0-is (subst (λ b. IsRequested b (session.held ++ bytes) c.in-Ok-Ended.field-0 input left) board (c.in-Ok-Ended.ensures.requested bytes e)) in
     let turn : IsToAnswer session.engine session.state = subst (λ v. IsToAnswer v.engine v.state) (sym c.self.view_is) c.requires.turn in
     subst (λ v. TurnWritten v.engine (standing v c.args.read.now bytes) before now c.end_input.result new c.args.read.now left) c.self.view_is
-    (input_ended session c.args.read.now bytes left before now input c.end_input.result turn c.requires.few c.if-read-eq-MOST_LINES.false asked c.end_input.ensures.bytes c.end_input.ensures.end)
+    (input_ended session c.args.read.now bytes left before now input c.end_input.result turn c.requires.few c.if-read-eq-MOST_LINES.false asked c.end_input.ensures.bytes c.end_input.ensures.cause.not_read c.end_input.ensures.end)
 
 pub returns-in-Err-answer-clause-written : goal.returns-in-Err-answer-clause-written
 returns-in-Err-answer-clause-written g c = λ bytes e.
@@ -37,7 +58,7 @@ returns-in-Err-answer-clause-written g c = λ bytes e.
     let turn : IsToAnswer session.engine session.state = subst (λ v. IsToAnswer v.engine v.state) (sym c.self.view_is) c.requires.turn in
     let a = c.in-Err-answer.ensures.answered in
     subst (λ v. TurnWritten v.engine (standing v c.args.read.now bytes) before now (Err c.in-Err-answer.fault) new (c.args.read.now + 1) left) c.self.view_is
-    (answer_failed session c.args.read.now bytes left before now c.in-Ok-Line.asked input c.answer.new.solved.state a.0 c.in-Err-answer.fault new (c.args.read.now + 1) turn c.requires.few c.if-read-eq-MOST_LINES.false asked a.1 a.2)
+    (answer_failed session c.args.read.now bytes left before now c.in-Ok-Line.asked input c.answer.new.solved.state a.0 c.in-Err-answer.fault new (c.args.read.now + 1) turn c.requires.few c.if-read-eq-MOST_LINES.false asked a.1 (λ k. c.in-Err-answer.ensures.cause.not_read (ap Err k)) a.2)
 
 pub returns-in-Err-answer-clause-stepped : goal.returns-in-Err-answer-clause-stepped
 returns-in-Err-answer-clause-stepped g c =

@@ -1,4 +1,4 @@
-use Rattle.std.proofs.Common.{sym, ap, ◌∙◌, subst, Err, None}
+use Rattle.std.proofs.Common.{sym, ap, ◌∙◌, subst, arith, Err, None}
 use Rattle.go_grid.specs.Grid.{other}
 use Rattle.whole_rules.specs.FirstWinningMove.{IsWinner}
 use Rattle.whole_rules.specs.WholeGame.{IsFirstMove}
@@ -6,7 +6,20 @@ use Rattle.play_session.specs.Written.{SessionState, standing, TurnWritten}
 use Rattle.play_session.proofs.Sides.{not_other}
 use Rattle.play_session.proofs.Turns.{engine_failed, game_ended}
 use Rattle.play_session.proofs.Wins.{engine_keeps, opponent_keeps, end_keeps}
+use Rattle.play_session.specs.Lines.{UsesLines}
+use Rattle.play_session.proofs.Pieces.{input_same}
+use Rattle.play_session.proofs.Used.{used_none}
 use Rattle.play_session.proofs.session.Session.turn.Goals as goal
+
+pub returns-in-Err-clause-used : goal.returns-in-Err-clause-used
+returns-in-Err-clause-used g c =
+    let held = c.self.inside.input in let left = g.S.Source.left c.args.lines.now in let read = c.args.read.now in
+    subst (λ v. UsesLines read read v.held left held left) c.self.view_is (used_none read read held held left left (omega arith) (input_same held left))
+
+pub returns-clause-used : goal.returns-clause-used
+returns-clause-used g c =
+    let held = c.self.inside.input in let left = g.S.Source.left c.args.lines.now in let read = c.args.read.now in
+    subst (λ v. UsesLines read read v.held left held left) c.self.view_is (used_none read read held held left left (omega arith) (input_same held left))
 
 pub returns-in-None-clause-written : goal.returns-in-None-clause-written
 returns-in-None-clause-written g c = λ bytes e.
@@ -15,7 +28,7 @@ returns-in-None-clause-written g c = λ bytes e.
     let none : IsFirstMove i.solved.state None = subst (λ s. IsFirstMove s None) c.whole-2.ensures c.in-None.ensures in
     let winner = c.other.ensures ∙ ap other (c.side-side.ensures ∙ ap (λ s. s.side) c.whole.ensures) in
     subst (λ v. TurnWritten v.engine (standing v c.args.read.now bytes) before now c.end_game.result v c.args.read.now left) c.self.view_is
-    (game_ended session c.args.read.now bytes left before now c.other.result c.end_game.result e (λ m. none m.0 m.1) winner c.end_game.ensures.bytes c.end_game.ensures.end)
+    (game_ended session c.args.read.now bytes left before now c.other.result c.end_game.result e (λ m. none m.0 m.1) winner c.end_game.ensures.bytes c.end_game.ensures.cause.not_read c.end_game.ensures.end)
 
 pub returns-in-None-clause-keeps : goal.returns-in-None-clause-keeps
 returns-in-None-clause-keeps g c = λ w.
@@ -39,7 +52,7 @@ returns-in-Err-clause-written g c = λ bytes e.
     let turn = sym (c.side-side.ensures ∙ ap (λ s. s.side) c.whole.ensures) ∙ c.is_same.ensures.0 c.if-not-is_same.false in
     let m = c.in-Err.ensures.moved in
     subst (λ v. TurnWritten v.engine (standing v c.args.read.now bytes) before now (Err c.in-Err.fault) new c.args.read.now left) c.self.view_is
-    (engine_failed session c.args.read.now bytes left before now c.move_engine.new.solved.state m.0 c.in-Err.fault new turn m.1 m.2)
+    (engine_failed session c.args.read.now bytes left before now c.move_engine.new.solved.state m.0 c.in-Err.fault new turn m.1 (λ k. c.in-Err.ensures.cause.not_read (ap Err k)) m.2)
 
 pub returns-in-Err-clause-keeps : goal.returns-in-Err-clause-keeps
 returns-in-Err-clause-keeps g c = λ w.

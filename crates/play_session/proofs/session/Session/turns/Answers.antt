@@ -1,8 +1,25 @@
-use Rattle.std.proofs.Common.{sym, ap, ◌∙◌, subst, le_trans, Ok, Err, Some, None}
+use Rattle.std.proofs.Common.{refl, sym, ◌∙◌, subst, arith, le_refl, le_trans, Ok, Err, Some, None}
 use Rattle.whole_rules.specs.FirstWinningMove.{IsWinner}
 use Rattle.play_session.specs.Written.{standing, TurnWritten}
-use Rattle.play_session.proofs.Going.{going_turn, going_ended, going_failed}
+use Rattle.play_session.proofs.Going.{going_start, going_turn, going_ended, going_failed}
+use Rattle.play_session.proofs.Used.{used_most, used_none, used_then}
+use Rattle.play_session.proofs.Pieces.{input_same}
 use Rattle.play_session.proofs.session.Session.turns.Goals as goal
+
+pub turns-init : goal.turns-init
+turns-init g c =
+    let left = g.S.Source.left c.args.lines.now in
+    (going_start c.args.self.now left (g.K.Sink.holds c.args.out.now), refl, (λ w. w), omega arith, le_refl _, le_refl _, used_none 0 0 c.args.self.now.held c.args.self.now.held left left (omega arith) (input_same c.args.self.now.held left))
+
+pub returns-in-Err-clause-used : goal.returns-in-Err-clause-used
+returns-in-Err-clause-used g c =
+    let start = c.args.self.now in let at = c.turns in let new = c.turn.new.self in let before = g.S.Source.left c.args.lines.now in let left' = g.S.Source.left c.turn.new.lines in
+    used_most c.turn.new.read 10000 start.held new.held before left' c.turn.ensures.few_read (used_then 0 at.read c.turn.new.read start.held at.self.held new.held before (g.S.Source.left at.lines) left' at.invariant.6 c.turn.ensures.used)
+
+pub returns-in-Ok-Some-clause-used : goal.returns-in-Ok-Some-clause-used
+returns-in-Ok-Some-clause-used g c =
+    let start = c.args.self.now in let at = c.turns in let new = c.turn.new.self in let before = g.S.Source.left c.args.lines.now in let left' = g.S.Source.left c.turn.new.lines in
+    used_most c.turn.new.read 10000 start.held new.held before left' c.turn.ensures.few_read (used_then 0 at.read c.turn.new.read start.held at.self.held new.held before (g.S.Source.left at.lines) left' at.invariant.6 c.turn.ensures.used)
 
 pub returns-in-Err-clause-written : goal.returns-in-Err-clause-written
 returns-in-Err-clause-written g c =
@@ -30,7 +47,8 @@ turns-preserved g c =
           (subst (λ x. TurnWritten at.self.engine (standing at.self at.read rest) holds holds' (Ok x) new c.turn.new.read left') r.field-0-is (r.ensures.written rest e))),
       c.turn.ensures.engine ∙ inv.1,
       λ w. subst (λ s. IsWinner new.state s) inv.1 (c.turn.ensures.keeps (subst (λ s. IsWinner at.self.state s) (sym inv.1) (inv.2 w))).0,
-      (c.turn.ensures.fewer (r.is ∙ ap Ok r.field-0-is)).0,
+      c.turn.ensures.few_read,
       le_trans inv.4 c.turn.ensures.cause.reads_later,
       le_trans inv.5 c.turn.ensures.cause.writes_later,
+      used_then 0 at.read c.turn.new.read start.held at.self.held new.held (g.S.Source.left c.args.lines.now) left left' inv.6 c.turn.ensures.used,
     )

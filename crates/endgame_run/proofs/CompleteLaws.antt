@@ -1,0 +1,137 @@
+-- A file that is told, read and within all limits is answered.
+use Rattle.std.proofs.Common.{◌≡◌, ◌≤◌, ◌<◌, ◌⊎◌, ℕ, Bool, true, false, inl, inr, refl, sym, ap, subst, ◌∙◌, arith, List, length, Some, None, Ok, Err}
+use Rattle.std.specs.Prelude.{Option, if◌then◌else◌}
+use Rattle.std.specs.Str.{bytes_eq}
+use Rattle.desk_io.specs.Outside.{Rose}
+use Rattle.sgf_go.specs.declared.settings.Settings.{Settings}
+use Rattle.sgf_go.specs.declared.settings.Setup.{Setup}
+use Rattle.gd_words.specs.Job.{IsOnlyJob, JobView}
+use Rattle.gd_words.specs.Task.{Task}
+use Rattle.gd_words.specs.Task.Task.{solve, safe, values, play, trial}
+use Rattle.endgame_solver.specs.declared.limits.Limits.{Limits}
+use Rattle.endgame_run.specs.declared.status.FileFault.{FileFault}
+use Rattle.endgame_run.specs.declared.status.Status.{Status}
+use Rattle.endgame_run.specs.declared.status.Status.TheVariants.{CannotRead, CannotWrite, Done, Memory, TooManyLines}
+use Rattle.endgame_run.specs.declared.status.Status.TheVariants as status
+use Rattle.endgame_run.specs.declared.status.Unbuilt.TheVariants as unbuilt
+use Rattle.endgame_run.specs.declared.question.Question.{Question}
+use Rattle.endgame_run.specs.declared.question.Question.TheVariants as question
+use Rattle.endgame_run.specs.Complete.{IsAnswerable, IsAnswered, IsWithinLimits}
+use Rattle.endgame_run.specs.File.{Outside, IsShort, IsTold, IsTooLong, count_of, dash, told_of}
+use Rattle.endgame_run.specs.Game.{IsGameRun}
+use Rattle.endgame_run.specs.Position.{Reads}
+use Rattle.endgame_run.specs.Verdict.{HasCause, IsAnswer, IsFileAnswer, IsPositionAnswer, IsUnbuilt, Pose, limits_of}
+use Rattle.endgame_run.proofs.GameWins.{map_told}
+use Rattle.endgame_run.proofs.OneStatus.{file_or_position, not_both, one_setup, safe_is_done, shows_shown, solves_sound}
+use Rattle.endgame_run.proofs.OutputLaws.{pose_said}
+
+-- the question of a task and the file that it is about
+abbrev question_of : Limits → Task → Option (Question × List ℕ)
+question_of limits (solve word) = Some (question.Solve limits, word)
+question_of limits (values word) = Some (question.Values limits, word)
+question_of limits (safe word) = Some (question.Safe, word)
+question_of limits (play word) = Some (question.Solve limits, word)
+question_of limits (trial number) = None
+
+pose_is : (words : List (List ℕ)) (job : JobView) (q : Question) (word : List ℕ) → Pose words job q word → question_of (limits_of job) job.task ≡ Some (q, word)
+pose_is words job (question.Solve limits) word (inl a) = ap (question_of (limits_of job)) a.1.0 ∙ ap (λ l. Some (question.Solve l, word)) (sym a.1.1)
+pose_is words job (question.Values limits) word (inl a) = ap (question_of (limits_of job)) a.1.0 ∙ ap (λ l. Some (question.Values l, word)) (sym a.1.1)
+pose_is words job question.Safe word (inl a) = ap (question_of (limits_of job)) a.1
+pose_is words job q word (inr a) = ap (question_of (limits_of job)) a.0.1 ∙ ap (λ k. Some (k, word)) (sym a.1)
+
+pose_only : (words : List (List ℕ)) (job : JobView) (q : Question) (word : List ℕ) → Pose words job q word → IsOnlyJob words job
+pose_only words job q word (inl a) = a.0
+pose_only words job q word (inr a) = a.0.0
+
+-- words pose one question on one file
+one_pose : (words : List (List ℕ)) (job other : JobView) (q r : Question) (word w : List ℕ) → Pose words job q word → Pose words other r w → (other ≡ job) × Path (Question × List ℕ) (r, w) (q, word)
+one_pose words job other q r word w a b =
+    let same = (pose_only words job q word a).only other (pose_said words other r w b) in
+    let e : Path (Option (Question × List ℕ)) (Some (r, w)) (Some (q, word)) = sym (pose_is words other r w b) ∙ ap (λ j. question_of (limits_of j) j.task) same ∙ pose_is words job q word a in
+    (same, cc)
+
+unbuilt_task : (t : Task) (limits : Limits) (p : Question × List ℕ) → question_of limits t ≡ Some p → ¬ IsUnbuilt t
+unbuilt_task (solve word) limits p e u = u
+unbuilt_task (values word) limits p e u = u
+unbuilt_task (safe word) limits p e u = u
+unbuilt_task (play word) limits p e u = u
+unbuilt_task (trial number) limits p e u = absurd (let k : Path (Option (Question × List ℕ)) None (Some p) = e in cc)
+
+-- neither count has risen, and so not that of the object that holds the file
+count_stays : (word : List ℕ) (a b c d : ℕ) → ¬ Rose a b → ¬ Rose c d → ¬ Rose (count_of a c word) (count_of b d word)
+count_stays word a b c d first second = go (bytes_eq word dash) where
+  go : (k : Bool) → ¬ Rose (if k then c else a) (if k then d else b)
+  go true = second
+  go false = first
+
+within_done : (q : Question) (setup : Setup) (s : Status) (text : List ℕ) → IsWithinLimits q setup → IsPositionAnswer q setup s text → s ≡ Done
+within_done (question.Solve limits) setup s text w h = solves_sound limits setup w.0 s text w.1 w.2 h
+within_done (question.Values limits) setup s text w h = shows_shown limits setup w.0 s text w.1 w.2 w.3 h
+within_done question.Safe setup s text w h = safe_is_done setup s text h
+
+-- an answer about the file is the text
+file_done : (q : Question) (file : List ℕ) (settings : Settings) (setup : Setup) (s : Status) (text : List ℕ) → Reads file settings (Ok setup) → IsWithinLimits q setup → IsFileAnswer q file settings s text → s ≡ Done
+file_done q file settings setup s text reads within h = go (file_or_position q file settings s text h) where
+  go : ((f : FileFault) × (s ≡ status.BadFile f) × Reads file settings (Err f)) ⊎ ((p : Setup) × Reads file settings (Ok p) × IsPositionAnswer q p s text) → s ≡ Done
+  go (inl (f, e, bad)) = absurd (not_both file settings setup f reads bad)
+  go (inr (p, r, a)) = within_done q setup s text within (subst (λ x. IsPositionAnswer q x s text) (one_setup file settings p setup r reads) a)
+
+module _ (words : List (List ℕ)) (o : Outside) (kb kn : ℕ) (a : IsAnswerable words o kb kn) where
+  abbrev Answer : Status → List ℕ → Type 0
+  Answer s text = IsAnswer a.question (told_of o.files o.left a.word) (count_of o.shelf_before o.lines_before a.word) (count_of o.shelf_now o.lines_now a.word) a.job.settings s text
+
+  -- what is decided about the words' own question
+  own : (job : JobView) (q : Question) (word : List ℕ) (s : Status) (text : List ℕ) → Pose words job q word
+      → IsAnswer q (told_of o.files o.left word) (count_of o.shelf_before o.lines_before word) (count_of o.shelf_now o.lines_now word) job.settings s text → Answer s text
+  own job q word s text b h =
+      let one = one_pose words a.job job a.question q a.word word a.asks b in
+      subst (λ j. IsAnswer a.question (told_of o.files o.left a.word) (count_of o.shelf_before o.lines_before a.word) (count_of o.shelf_now o.lines_now a.word) j.settings s text) one.0
+      (subst (λ p. IsAnswer p.0 (told_of o.files o.left p.1) (count_of o.shelf_before o.lines_before p.1) (count_of o.shelf_now o.lines_now p.1) job.settings s text) one.1 h)
+
+  told_file : (file : List ℕ) → IsTold (told_of o.files o.left a.word) file → file ≡ a.file
+  told_file file t = let k : IsTold (Some (Some a.file)) file = subst (λ x. IsTold x file) a.told t in let e : Path (Option (List ℕ)) (Some a.file) (Some file) = k in cc
+
+  by_file : (s : Status) (text : List ℕ) → (file : List ℕ) × IsTold (told_of o.files o.left a.word) file × IsShort file × IsFileAnswer a.question file a.job.settings s text → s ≡ Done
+  by_file s text (file, told, short, h) = file_done a.question a.file a.job.settings a.setup s text a.reads a.within (subst (λ f. IsFileAnswer a.question f a.job.settings s text) (told_file file told) h)
+
+  unread : (told : Option (Option (List ℕ))) → told ≡ Some (Some a.file) → told ≡ Some None → ⊥
+  unread told e d = let k : Path (Option (Option (List ℕ))) (Some (Some a.file)) (Some None) = sym e ∙ d in cc
+
+  too_long : IsTooLong (told_of o.files o.left a.word) → ⊥
+  too_long h =
+      let k : IsTooLong (Some (Some a.file)) = subst IsTooLong a.told h in
+      let e : Path (Option (List ℕ)) (Some a.file) (Some k.0) = k.1 in
+      let same : a.file ≡ k.0 = cc in omega (arith, a.short, ap length same, k.2)
+
+  not_read : (told_of o.files o.left a.word ≡ Some None) ⊎ Rose (count_of o.shelf_before o.lines_before a.word) (count_of o.shelf_now o.lines_now a.word) → ⊥
+  not_read (inl none) = unread (told_of o.files o.left a.word) a.told none
+  not_read (inr rose) = count_stays a.word o.shelf_before o.shelf_now o.lines_before o.lines_now a.no_load_failed a.no_read_failed rose
+
+  answered : (before now : Option (List ℕ)) (result : Status) → (result ≡ CannotWrite → Rose kb kn) → HasCause words o result ⊎ IsGameRun words o before now result → IsAnswered words o result
+  answered before now Done rose h = inl refl
+  answered before now Memory rose h = inr (inl refl)
+  answered before now CannotWrite rose h = absurd (a.no_write_failed (rose refl))
+  answered before now TooManyLines rose (inr g) = inr (inr (refl, (g.engine, g.state, g.game, map_told _ _ o.left (λ bytes h. (h.0, h.2.0)) g.written)))
+  answered before now TooManyLines rose (inl h) = absurd h.1.4.3.2
+  answered before now CannotRead rose (inr g) = absurd (a.no_read_failed (g.read refl))
+  answered before now CannotRead rose (inl h) = absurd (not_read (own h.1.0 h.1.1 h.1.2 CannotRead h.0 h.1.3 h.1.4).0)
+  answered before now status.TooLong rose (inl h) = absurd (too_long (own h.1.0 h.1.1 h.1.2 status.TooLong h.0 h.1.3 h.1.4).0)
+  answered before now status.Usage rose (inl h) = absurd (h.1.0 a.job (pose_said words a.job a.question a.word a.asks))
+  answered before now (status.Unbuilt unbuilt.Command) rose (inl h) =
+      let same = (pose_only words a.job a.question a.word a.asks).only h.1.0.0 h.1.0.1 in
+      absurd (unbuilt_task a.job.task (limits_of a.job) (a.question, a.word) (pose_is words a.job a.question a.word a.asks) (subst (λ j. IsUnbuilt j.task) same h.1.0.2))
+  answered before now (status.BadFile f) rose (inl h) = inl (by_file (status.BadFile f) h.0 (own h.1.0 h.1.1 h.1.2 (status.BadFile f) h.0 h.1.3 h.1.4))
+  answered before now status.Cycle rose (inl h) = inl (by_file status.Cycle h.0 (own h.1.0 h.1.1 h.1.2 status.Cycle h.0 h.1.3 h.1.4))
+  answered before now status.RegionLimit rose (inl h) = inl (by_file status.RegionLimit h.0 (own h.1.0 h.1.1 h.1.2 status.RegionLimit h.0 h.1.3 h.1.4))
+  answered before now status.FormLimit rose (inl h) = inl (by_file status.FormLimit h.0 (own h.1.0 h.1.1 h.1.2 status.FormLimit h.0 h.1.3 h.1.4))
+  answered before now status.Usage rose (inr g) = absurd g.begun
+  answered before now status.Cycle rose (inr g) = absurd g.begun
+  answered before now status.RegionLimit rose (inr g) = absurd g.begun
+  answered before now status.FormLimit rose (inr g) = absurd g.begun
+  answered before now status.TooLong rose (inr g) = absurd g.begun
+  answered before now (status.BadFile f) rose (inr g) = absurd g.begun
+  answered before now (status.Unbuilt u) rose (inr g) = absurd g.begun
+
+pub complete : (words : List (List ℕ)) (o : Outside) (kb kn : ℕ) (before now : Option (List ℕ)) (result : Status) → (result ≡ CannotWrite → Rose kb kn)
+    → HasCause words o result ⊎ IsGameRun words o before now result → IsAnswerable words o kb kn → IsAnswered words o result
+complete words o kb kn before now result rose h a = answered words o kb kn a before now result rose h

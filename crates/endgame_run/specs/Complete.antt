@@ -1,0 +1,50 @@
+-- When a run is answered: nothing keeps it from its text but want of memory.
+use Rattle.std.specs.Prelude.{◌≡◌, ◌⊎◌, ◌<◌, ℕ, List, length, ⊤, Some, Ok, IfSome}
+use Rattle.go_grid.specs.declared.grid.Colour.{Colour}
+use Rattle.go_grid.specs.Region.{Shape}
+use Rattle.desk_io.specs.Outside.{Rose}
+use Rattle.sgf_go.specs.declared.settings.Setup.{Setup}
+use Rattle.gd_words.specs.Job.{JobView}
+use Rattle.whole_rules.specs.WholeGame.{State}
+use Rattle.endgame_solver.specs.Faults.{AreSound}
+use Rattle.region_cut.specs.Cut.{AreRegionsOfPlay}
+use Rattle.endgame_solver.specs.Regions.{region_at}
+use Rattle.report.specs.Values.{HasShownValue}
+use Rattle.play_session.specs.declared.end.SessionEnd.TheVariants as end
+use Rattle.endgame_run.specs.declared.status.Status.{Status}
+use Rattle.endgame_run.specs.declared.status.Status.TheVariants.{Done, Memory, TooManyLines}
+use Rattle.endgame_run.specs.declared.question.Question.{Question}
+use Rattle.endgame_run.specs.declared.question.Question.TheVariants.{Solve, Values, Safe}
+use Rattle.endgame_run.specs.File.{Outside, IsShort, told_of}
+use Rattle.endgame_run.specs.Game.{IsSessionOf}
+use Rattle.endgame_run.specs.Output.{InGame}
+use Rattle.endgame_run.specs.Position.{Reads}
+use Rattle.endgame_run.specs.Verdict.{Pose}
+
+-- the regions of play that the question asks about are all sound within its limits, and the values that it asks for can all be shown
+abbrev pub IsWithinLimits : Question → Setup → Type 0
+IsWithinLimits (Solve limits) setup = (regions : List Shape) × AreRegionsOfPlay setup.board regions × AreSound limits regions
+IsWithinLimits (Values limits) setup = (regions : List Shape) × AreRegionsOfPlay setup.board regions × AreSound limits regions
+    × ((k : ℕ) → k < length regions → HasShownValue (region_at regions k))
+IsWithinLimits Safe setup = ⊤
+
+-- the words pose a question on a file that is told, the file is read, all is within its limits, and no count of faults has risen
+pub record IsAnswerable (words : List (List ℕ)) (o : Outside) (writes writes_now : ℕ) : Type 0 where
+  pub job : JobView
+  pub question : Question
+  pub word : List ℕ
+  pub file : List ℕ
+  pub setup : Setup
+  pub asks : Pose words job question word
+  pub told : told_of o.files o.left word ≡ Some (Some file)
+  pub short : IsShort file
+  pub reads : Reads file job.settings (Ok setup)
+  pub within : IsWithinLimits question setup
+  pub no_load_failed : ¬ Rose o.shelf_before o.shelf_now
+  pub no_read_failed : ¬ Rose o.lines_before o.lines_now
+  pub no_write_failed : ¬ Rose writes writes_now
+
+-- the run is done, or memory was wanted; a game may also have come to 10,000 lines, where the session over the bytes ends so
+abbrev pub IsAnswered : List (List ℕ) → Outside → Status → Type 0
+IsAnswered words o status = (status ≡ Done) ⊎ ((status ≡ Memory)
+    ⊎ ((status ≡ TooManyLines) × InGame words o (λ engine s bytes. (text : List ℕ) × IsSessionOf engine s bytes end.TooManyLines text)))

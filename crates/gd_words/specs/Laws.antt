@@ -1,0 +1,6 @@
+-- Words have at most one job.
+use Rattle.std.specs.Prelude.{◌≡◌, ℕ, List}
+use Rattle.gd_words.specs.Job.{JobView, IsJob}
+
+abbrev pub HasOneJob : Type 0
+HasOneJob = (words : List (List ℕ)) (job other : JobView) → IsJob words job → IsJob words other → job ≡ other
