@@ -1,5 +1,3 @@
-use Rattle.std.proofs.Common.{subst}
-use Rattle.go_grid.specs.Marks.{IsMarked, Lists}
 use Rattle.go_grid.proofs.PointsLemmas.{lists_same}
 use Rattle.benson_life.specs.Life.{IsCounted}
 use Rattle.benson_life.proofs.ContestLemmas.{counted_short}
