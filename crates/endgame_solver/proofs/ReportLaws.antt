@@ -1,5 +1,5 @@
 -- What is reported of a region, and the present values.
-use Rattle.std.proofs.Common.{ℕ, ◌≡◌, ◌<◌, refl, sym, subst, arith, List, [], length, get_or}
+use Rattle.std.proofs.Common.{ℕ, ◌<◌, refl, sym, subst, arith, List, [], length, get_or}
 use Rattle.std.specs.List.{Contains}
 use Rattle.std.proofs.lemmas.List.Elements.{Contains-get_or}
 use Rattle.go_grid.specs.Region.{Shape}
@@ -14,7 +14,7 @@ use Rattle.game_store.specs.Meaning.{tree_at}
 use Rattle.local_value.specs.PositionTree.{IsValueOf}
 use Rattle.endgame_solver.specs.Regions.{region_at, graph_at, no_region}
 use Rattle.endgame_solver.specs.Held.{IsKept, ids_at, place_at}
-use Rattle.endgame_solver.specs.Solved.{SolvedGame, IsPresent, IsNumberOfPositions, IsValueId}
+use Rattle.endgame_solver.specs.Solved.{IsPresent, IsNumberOfPositions, IsValueId}
 use Rattle.endgame_solver.proofs.WinningLaws.{place_inside}
 
 module _ (regions : List Shape) (graphs : List Nodes) (values : List (List ℕ)) (places ids : List ℕ) (Ts : List Tree) (s : State)
