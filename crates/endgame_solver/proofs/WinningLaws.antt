@@ -1,5 +1,5 @@
 -- A move wins exactly where the sum that it leaves is lost.
-use Rattle.std.proofs.Common.{ℕ, ◌≡◌, ◌≢◌, ◌↔◌, ◌^◌, ◌<◌, ◌≤◌, inl, inr, refl, sym, ap, ◌∙◌, subst, arith, List, length, get_or, set, Bool, true, false, IsTrue, pos, ◌*ℤ◌}
+use Rattle.std.proofs.Common.{ℕ, ◌≡◌, ◌↔◌, ◌^◌, ◌<◌, ◌≤◌, inl, inr, refl, sym, ap, ◌∙◌, subst, arith, List, length, get_or, set, Bool, true, false, IsTrue, pos, ◌*ℤ◌}
 use Rattle.std.proofs.lemmas.Bool.{cases_eq}
 use Rattle.std.proofs.lemmas.List.{get_or-set_same, get_or-set_other, length-set}
 use Rattle.go_grid.specs.declared.grid.Colour.{Colour}
@@ -7,10 +7,8 @@ use Rattle.go_grid.specs.declared.grid.Colour.TheVariants.{Black, White}
 use Rattle.go_grid.specs.Grid.{Grid, other}
 use Rattle.go_grid.specs.Region.{Shape}
 use Rattle.whole_rules.specs.declared.money.Purses.{Purses}
-use Rattle.whole_rules.specs.declared.money.Token.{Token}
-use Rattle.whole_rules.specs.declared.money.Token.TheVariants as token
-use Rattle.whole_rules.specs.declared.states.Move.TheVariants.{Stone, Spend, Half}
-use Rattle.whole_rules.specs.Purses.{purse, paid_in, paid_out, halved}
+use Rattle.whole_rules.specs.declared.states.Move.TheVariants.{Stone, Spend}
+use Rattle.whole_rules.specs.Purses.{purse, paid_in, paid_out}
 use Rattle.whole_rules.specs.WholeGame.{State, IsMove, Leads, after}
 use Rattle.whole_rules.specs.PlainRecursion.{MoverLoses}
 use Rattle.whole_rules.specs.FirstWinningMove.{IsWinning}
@@ -26,7 +24,7 @@ use Rattle.endgame_solver.specs.Held.{AreSolved, IsAt, AreSummed, HasRoom, IsKep
 use Rattle.endgame_solver.specs.Solved.{balance_units}
 use Rattle.endgame_solver.proofs.HeldLaws.{decided_now}
 use Rattle.endgame_solver.proofs.RoomLaws.{bounded, small_units}
-use Rattle.endgame_solver.proofs.StoneLaws.{StoneLeads, stone_legal, stone_edge, stone_leads, stone_next, stone_taken, spend_leads, half_leads}
+use Rattle.endgame_solver.proofs.StoneLaws.{StoneLeads, stone_legal, stone_edge, stone_leads, stone_next, stone_taken, spend_leads}
 
 pub differ : (b : Bool) → b ≡ false → b ≡ true → ⊥
 differ b p q = let e = sym p ∙ q in cc

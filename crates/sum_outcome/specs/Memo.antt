@@ -1,5 +1,5 @@
 -- What a search remembers, and where it fits a store.
-use Rattle.std.specs.Prelude.{ℕ, ℤ, ◌≡◌, ◌⊎◌, ◌↔◌, ◌≤◌, List, length, Contains, Bool, IsTrue, cond, Option}
+use Rattle.std.specs.Prelude.{ℕ, ℤ, ◌≡◌, ◌⊎◌, ◌↔◌, ◌≤◌, List, [], length, Contains, Bool, IsTrue, cond, Option, None}
 use Rattle.go_grid.specs.declared.grid.Colour.{Colour}
 use Rattle.go_grid.specs.declared.grid.Colour.TheVariants.{Black, White}
 use Rattle.game_store.specs.Tree.{Tree}
@@ -20,6 +20,10 @@ pub record Remembered : Type 0 where
   pub sums : List (Key × Bool)
   pub incentives : List (MovePair × Bool)
   pub zero : Option ℕ
+
+-- what a search remembers at first
+abbrev pub blank : ℕ → Remembered
+blank n = record { entries = n; sums = []; incentives = []; zero = None }
 
 -- the sum of a key's games and its number
 abbrev pub key_tree : List Tree → Key → Tree
@@ -66,6 +70,14 @@ pub record StaysRight (Ts : List Tree) (before now : Memo) : Type 0 where
   pub right : IsRight Ts now
   pub sums : now.sums.cap ≡ before.sums.cap
   pub incentives : now.incentives.cap ≡ before.incentives.cap
+
+-- where what is remembered is right, so is this answer
+abbrev pub IsRecalled : Memo → Key → Bool → Type 0
+IsRecalled memo key lost = (Ts : List Tree) → IsRight Ts memo → IsAnswer Ts key lost
+
+-- and it stays right once a right answer is added
+abbrev pub Learns : Key → Bool → Memo → Memo → Type 0
+Learns key lost before now = (Ts : List Tree) → IsAnswer Ts key lost → IsRight Ts before → StaysRight Ts before now
 
 -- a key of a player's sum is one that has ids and comes to the same
 pub record IsKeyOf (Ts : List Tree) (ids : List ℕ) (x : ℤ) (c : Colour) (key : Key) : Type 0 where

@@ -7,6 +7,7 @@ use Rattle.game_store.specs.Order.{◌≡ᵍ◌}
 use Rattle.game_store.specs.Sum.{◌+ᵍ◌}
 use Rattle.game_store.specs.Meaning.{tree_at, number_tree}
 use Rattle.game_canon.specs.Players.{LosesGame}
+use Rattle.sum_outcome.specs.declared.opposites.Opposites.{Opposites}
 
 -- two games cancel where they add up to 0
 abbrev pub Cancel : Tree → Tree → Type 0
@@ -28,3 +29,8 @@ pub record AreOpposite (Ts : List Tree) (ids : List ℕ) (zero i j : ℕ) : Type
   pub first : zero < slice_index_or ids i 0
   pub second : zero < slice_index_or ids j 0
   pub cancel : Cancel (tree_at Ts (slice_index_or ids i 0)) (tree_at Ts (slice_index_or ids j 0))
+
+-- 0 may stand for the games at two places, which cancel
+pub record MayCancel (Ts : List Tree) (ids : List ℕ) (o : Opposites) : Type 0 where
+  pub zero : IsZero Ts (Some o.zero)
+  pub places : AreOpposite Ts ids o.zero o.first o.second

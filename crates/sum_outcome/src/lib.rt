@@ -1,12 +1,12 @@
 //! Who loses a sum of games by moving first.
 #![tactic(auto)]
 
-ghost use Rattle.std.specs.Prelude.{◌≡◌, ◌<◌, ◌≤◌, ◌↔◌, List, [], None, length, IfOk, IsTrue};
+ghost use Rattle.std.specs.Prelude.{◌≡◌, ◌<◌, ◌≤◌, ◌↔◌, List, length, IfOk, IsTrue};
 ghost use Rattle.game_store.specs.Tree.{Tree};
 ghost use Rattle.game_store.specs.Meaning.{pick, AreIds, Extends};
 ghost use Rattle.game_canon.specs.Players.{LosesGame};
 ghost use Rattle.sum_outcome.specs.Sums.{sum_tree, IsBounded};
-ghost use Rattle.sum_outcome.specs.Memo.{Fits, IsWithin, FitsGrownStores};
+ghost use Rattle.sum_outcome.specs.Memo.{blank, Fits, IsWithin, FitsGrownStores};
 
 mod incentives;
 mod key;
@@ -50,7 +50,7 @@ impl Search {
     pub fn new(alloc: Global, entries: usize) -> Result<Search, AllocError>
         requires some { 1 ≤ entries }
         requires most { entries ≤ 1000000 }
-        ensures empty { IfOk result (λ search. search ≡ record { entries = entries; sums = []; incentives = []; zero = None }) }
+        ensures empty { IfOk result (λ search. search ≡ blank entries) }
         ensures fits { IfOk result (λ search. (Ts : List Tree) → Fits Ts search) }
     {
         let most = NonZeroUsize::new(entries).unwrap_or(NonZeroUsize::MIN);

@@ -1,10 +1,9 @@
 //! Sums that a search has decided.
 
-ghost use Rattle.std.specs.Prelude.{◌≡◌, ◌↔◌, List, [], None, IsTrue, IfOk, IfSome};
+ghost use Rattle.std.specs.Prelude.{◌≡◌, List, IfOk, IfSome};
 ghost use Rattle.std.specs.NonZero.{non_zero_usize_get};
 ghost use Rattle.game_store.specs.Tree.{Tree};
-ghost use Rattle.game_canon.specs.Players.{LosesGame};
-ghost use Rattle.sum_outcome.specs.Memo.{key_tree, mover, remembered, AreSame, IsAmong, AreKept, NoneIsNew, IsAnswer, IsRight, StaysRight};
+ghost use Rattle.sum_outcome.specs.Memo.{remembered, blank, AreSame, IsAmong, AreKept, NoneIsNew, IsRight, StaysRight, IsRecalled, Learns};
 
 use crate::incentives::Incentives;
 use crate::key::Key;
@@ -46,7 +45,7 @@ pub struct Memo {
 impl Memo {
     /// Nothing is remembered yet. The room for entries grows as they come.
     pub(crate) fn new(alloc: Global, entries: NonZeroUsize) -> Result<Memo, AllocError>
-        ensures empty { IfOk result (λ memo. remembered memo ≡ record { entries = non_zero_usize_get entries; sums = []; incentives = []; zero = None }) }
+        ensures empty { IfOk result (λ memo. remembered memo ≡ blank (non_zero_usize_get entries)) }
         ensures room { IfOk result (λ memo. memo.incentives.cap ≡ memo.sums.cap) }
     {
         Ok(Memo {
@@ -59,7 +58,7 @@ impl Memo {
 
     /// Whether the player who is to move loses, where it is remembered.
     pub(crate) fn recall(&mut self, key: &Key) -> Option<bool>
-        ensures answer { IfSome result (λ lost. (Ts : List Tree) → IsRight Ts self.old → IsTrue lost ↔ LosesGame (mover key.now) (key_tree Ts key.now)) }
+        ensures answer { IfSome result (IsRecalled self.old key.now) }
         ensures right { (Ts : List Tree) → IsRight Ts self.old → StaysRight Ts self.old self.new }
     {
         look_up(&mut self.sums, key)
@@ -67,7 +66,7 @@ impl Memo {
 
     /// Remembers whether the player who is to move loses. It is left out where memory is wanting.
     pub(crate) fn remember(&mut self, key: Key, lost: bool)
-        ensures { (Ts : List Tree) → IsAnswer Ts key lost → IsRight Ts self.old → StaysRight Ts self.old self.new }
+        ensures { Learns key lost self.old self.new }
     {
         keep(&mut self.sums, key, lost);
     }

@@ -4,7 +4,7 @@ ghost use Rattle.std.specs.Prelude.{◌≡◌, ◌<◌, length, IfSome, Some, Is
 ghost use Rattle.game_store.specs.Meaning.{tree_at, number_tree, AreIds};
 ghost use Rattle.sum_outcome.specs.Incentives.{AreIncentivesRight};
 ghost use Rattle.sum_outcome.specs.Memo.{IsRight, StaysRight};
-ghost use Rattle.sum_outcome.specs.Opposites.{Cancel, IsZero, AreOpposite, MayBeTakenOut};
+ghost use Rattle.sum_outcome.specs.Opposites.{Cancel, IsZero, AreOpposite, MayCancel, MayBeTakenOut};
 
 use crate::incentives::{Incentives, MovePair, is_at_least};
 use crate::memo::Memo;
@@ -116,7 +116,7 @@ fn opposite_places(
     requires zero { IsZero store.now (Some zero) }
     requires ids { AreIds store.now sum.now }
     requires right { AreIncentivesRight store.now known.old.entries }
-    ensures opposite { IfSome result (λ places. AreOpposite store.now sum.now zero places.0 places.1) }
+    ensures opposite { IfSome result (λ p. AreOpposite store.now sum.now zero p.0 p.1) }
     ensures right { AreIncentivesRight store.now known.new.entries }
     ensures cap { known.new.cap ≡ known.old.cap }
 {
@@ -140,7 +140,7 @@ pub(crate) struct Opposites {
 pub(crate) fn find_opposites(store: &Store, memo: &mut Memo, sum: &[GameId]) -> Option<Opposites>
     requires ids { AreIds store.now sum.now }
     requires right { IsRight store.now memo.old }
-    ensures opposite { IfSome result (λ o. IsZero store.now (Some o.zero) × AreOpposite store.now sum.now o.zero o.first o.second) }
+    ensures opposite { IfSome result (MayCancel store.now sum.now) }
     ensures right { StaysRight store.now memo.old memo.new }
 {
     let zero = memo.zero?;

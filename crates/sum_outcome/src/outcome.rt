@@ -1,7 +1,7 @@
 //! The search of a sum. Where stops don't tell who loses, it tries moves in the games that are no numbers. Beside such a
 //! game no move in a number is needed (number avoidance, Conway), and none whose incentive one in another game dominates.
 
-ghost use Rattle.std.specs.Prelude.{◌≡◌, ◌<◌, ◌↔◌, length, IsTrue, Some, MatchOption};
+ghost use Rattle.std.specs.Prelude.{◌≡◌, ◌<◌, ◌↔◌, length, IsTrue, MatchOption};
 ghost use Rattle.std.specs.Bool.{OnFalse};
 ghost use Rattle.game_store.specs.Tree.{Tree, Has};
 ghost use Rattle.game_store.specs.Number.{IsNumberTree};
@@ -11,7 +11,7 @@ ghost use Rattle.game_canon.specs.Players.{LosesGame};
 ghost use Rattle.sum_outcome.specs.Sums.{sum_tree, IsBounded};
 ghost use Rattle.sum_outcome.specs.Memo.{IsRight, StaysRight};
 ghost use Rattle.sum_outcome.specs.Incentives.{IsSettled};
-ghost use Rattle.sum_outcome.specs.Opposites.{IsZero, AreOpposite};
+ghost use Rattle.sum_outcome.specs.Opposites.{MayCancel};
 ghost use Rattle.sum_outcome.specs.Search.{HasNonNumber, IsSign, WinsAt};
 
 use crate::incentives::{is_dominated, is_repeated, moves};
@@ -115,8 +115,7 @@ fn loses_without(
 ) -> bool
     requires ids { AreIds store.now sum.old }
     requires bounds { IsBounded (pick store.now sum.old) number }
-    requires zero { IsZero store.now (Some opposites.zero) }
-    requires opposite { AreOpposite store.now sum.old opposites.zero opposites.first opposites.second }
+    requires opposite { MayCancel store.now sum.old opposites }
     requires right { IsRight store.now memo.old }
     ensures same { sum.new ≡ sum.old }
     ensures answer { IsTrue result ↔ LosesGame side (sum_tree store.now sum.old number) }

@@ -13,7 +13,7 @@ loses_sum-returns-in-Some-sign_by_stops-clause-answer t c = c.loses_at.ensures (
 
 pub loses_sum-returns-in-Some-recall-clause-answer : goal.loses_sum-returns-in-Some-recall-clause-answer
 loses_sum-returns-in-Some-recall-clause-answer t c =
-    from_key c.args.store.now c.args.sum.now c.args.number c.args.side c.in-Some-key_of.key c.in-Some-recall.lost (c.in-Some-key_of.ensures {u = tt}) (c.in-Some-recall.ensures.answer c.args.store.now c.find_opposites.ensures.right.right)
+    from_key c.args.store.now c.args.sum.now c.args.number c.args.side c.in-Some-key_of.key c.in-Some-recall.lost (c.in-Some-key_of.ensures {u = tt}) (c.in-Some-recall.ensures.answer c.args.store.now c.find_opposites.ensures.right.right).1
 
 pub loses_sum-returns-in-Some-recall-clause-right : goal.loses_sum-returns-in-Some-recall-clause-right
 loses_sum-returns-in-Some-recall-clause-right t c =
@@ -40,22 +40,22 @@ loses_without-loses_sum-lost-requires t c =
     let Ts = c.args.store.now in
     let ids = c.args.sum.now in
     let o = c.args.opposites in (
-      omega (arith, falls_without Ts ids o.zero o.first o.second c.requires.zero c.requires.opposite, c.decreases),
+      omega (arith, falls_without Ts ids o.zero o.first o.second c.requires.opposite.zero c.requires.opposite.places, c.decreases),
       (
-        ids_without Ts ids o.zero o.first o.second c.requires.zero c.requires.opposite c.requires.ids,
-        (bounded_without Ts ids o.zero o.first o.second c.requires.zero c.requires.opposite c.args.number c.requires.bounds, c.requires.right),
+        ids_without Ts ids o.zero o.first o.second c.requires.opposite.zero c.requires.opposite.places c.requires.ids,
+        (bounded_without Ts ids o.zero o.first o.second c.requires.opposite.zero c.requires.opposite.places c.args.number c.requires.bounds, c.requires.right),
       ),
     )
 
 pub loses_without-returns-clause-same : goal.loses_without-returns-clause-same
 loses_without-returns-clause-same t c =
     let o = c.args.opposites in
-    restored_both c.args.store.now c.args.sum.now o.zero o.first o.second c.requires.zero c.requires.opposite c.loses_sum-lost.new.sum c.loses_sum-lost.ensures.same
+    restored_both c.args.store.now c.args.sum.now o.zero o.first o.second c.requires.opposite.zero c.requires.opposite.places c.loses_sum-lost.new.sum c.loses_sum-lost.ensures.same
 
 pub loses_without-returns-clause-answer : goal.loses_without-returns-clause-answer
 loses_without-returns-clause-answer t c =
     let o = c.args.opposites in
-    answer_without c.args.store.now c.args.sum.now o.zero o.first o.second c.requires.zero c.requires.opposite c.args.number c.args.side c.loses_sum-lost.result c.loses_sum-lost.ensures.answer
+    answer_without c.args.store.now c.args.sum.now o.zero o.first o.second c.requires.opposite.zero c.requires.opposite.places c.args.number c.args.side c.loses_sum-lost.result c.loses_sum-lost.ensures.answer
 
 pub loses_by_moves-returns-then-wins_at-clause-answer : goal.loses_by_moves-returns-then-wins_at-clause-answer
 loses_by_moves-returns-then-wins_at-clause-answer t c =

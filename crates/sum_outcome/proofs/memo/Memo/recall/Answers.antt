@@ -1,15 +1,13 @@
-use Rattle.std.proofs.Common.{◌↔◌, List, Bool, Option, Some, None, IsTrue, IfSome, refl}
-use Rattle.game_store.specs.Tree.{Tree}
-use Rattle.game_canon.specs.Players.{LosesGame}
-use Rattle.sum_outcome.specs.Memo.{IsAmong, AreSame, IsRight, mover, key_tree}
+use Rattle.std.proofs.Common.{Bool, Option, Some, None, IfSome, refl}
+use Rattle.sum_outcome.specs.Memo.{IsAmong, AreSame, IsRecalled}
 use Rattle.sum_outcome.specs.declared.key.Key.{Key}
 use Rattle.sum_outcome.specs.declared.memo.Memo.{Memo}
 use Rattle.sum_outcome.proofs.MemoLaws.{answer_found}
 use Rattle.sum_outcome.proofs.memo.Memo.recall.Goals as goal
 
-answers : (memo : Memo) (key : Key) (r : Option Bool) → IfSome r (λ lost. IsAmong AreSame memo.sums.entries key lost) → IfSome r (λ lost. (Ts : List Tree) → IsRight Ts memo → IsTrue lost ↔ LosesGame (mover key) (key_tree Ts key))
+answers : (memo : Memo) (key : Key) (r : Option Bool) → IfSome r (IsAmong AreSame memo.sums.entries key) → IfSome r (IsRecalled memo key)
 answers memo key None w = tt
-answers memo key (Some lost) w = λ Ts right. (answer_found Ts memo.sums.entries key lost w right.sums).1
+answers memo key (Some lost) w = λ Ts right. answer_found Ts memo.sums.entries key lost w right.sums
 
 pub returns-clause-answer : goal.returns-clause-answer
 returns-clause-answer c = answers c.args.self.now c.args.key.now c.look_up.result c.look_up.ensures.found
