@@ -47,3 +47,7 @@ pub record IsAnswerable (words : List (List ℕ)) (o : Outside) (writes writes_n
 abbrev pub IsAnswered : List (List ℕ) → Outside → Status → Type 0
 IsAnswered words o status = (status ≡ Done) ⊎ ((status ≡ Memory)
     ⊎ ((status ≡ TooManyLines) × InGame words o (λ engine s bytes. (text : List ℕ) × IsSessionOf engine s bytes end.TooManyLines text)))
+
+-- where nothing keeps the run from its text, it is answered
+abbrev pub IsComplete : List (List ℕ) → Outside → ℕ → ℕ → Status → Type 0
+IsComplete words o writes writes_now status = IsAnswerable words o writes writes_now → IsAnswered words o status
