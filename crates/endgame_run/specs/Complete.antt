@@ -1,11 +1,9 @@
 -- When a run is answered: nothing keeps it from its text but want of memory.
-use Rattle.std.specs.Prelude.{◌≡◌, ◌⊎◌, ◌<◌, ℕ, List, length, ⊤, Some, Ok, IfSome}
-use Rattle.go_grid.specs.declared.grid.Colour.{Colour}
+use Rattle.std.specs.Prelude.{◌≡◌, ◌⊎◌, ◌<◌, ℕ, List, length, ⊤, Some, Ok}
 use Rattle.go_grid.specs.Region.{Shape}
 use Rattle.desk_io.specs.Outside.{Rose}
 use Rattle.sgf_go.specs.declared.settings.Setup.{Setup}
 use Rattle.gd_words.specs.Job.{JobView}
-use Rattle.whole_rules.specs.WholeGame.{State}
 use Rattle.endgame_solver.specs.Faults.{AreRegions, AreSound}
 use Rattle.endgame_solver.specs.Regions.{region_at}
 use Rattle.report.specs.Values.{HasShownValue}
