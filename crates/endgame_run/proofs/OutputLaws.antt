@@ -1,5 +1,5 @@
 -- What a run that isn't done has written, from the two forms of what was written.
-use Rattle.std.proofs.Common.{◌≡◌, ◌≢◌, ◌⊎◌, ◌++◌, ℕ, inl, inr, refl, sym, ap, subst, ◌∙◌, List}
+use Rattle.std.proofs.Common.{◌≡◌, ◌≢◌, ◌⊎◌, ◌++◌, ℕ, inl, inr, refl, ap, ◌∙◌, List}
 use Rattle.std.specs.Prelude.{Option}
 use Rattle.std.specs.Io.KnownBytes.{append_known}
 use Rattle.gd_words.specs.Job.{IsJob, JobView}
@@ -11,7 +11,7 @@ use Rattle.endgame_run.specs.declared.question.Question.{Question}
 use Rattle.endgame_run.specs.File.{Outside}
 use Rattle.endgame_run.specs.Game.{IsGameRun}
 use Rattle.endgame_run.specs.Output.{IsPartOutput}
-use Rattle.endgame_run.specs.Verdict.{HasCause, IsDecided, IsWritten, Pose}
+use Rattle.endgame_run.specs.Verdict.{HasCause, IsWritten, Pose}
 use Rattle.endgame_run.proofs.GameWins.{map_told}
 
 pub part_output : (words : List (List ℕ)) (o : Outside) (before now : Option (List ℕ)) (result : Status) → IsWritten words o before now result ⊎ IsGameRun words o before now result

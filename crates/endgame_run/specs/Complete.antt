@@ -1,11 +1,9 @@
 -- When a run is answered: nothing keeps it from its text but want of memory.
-use Rattle.std.specs.Prelude.{◌≡◌, ◌⊎◌, ◌<◌, ℕ, List, length, ⊤, Some, Ok, IfSome}
-use Rattle.go_grid.specs.declared.grid.Colour.{Colour}
+use Rattle.std.specs.Prelude.{◌≡◌, ◌⊎◌, ◌<◌, ℕ, List, length, ⊤, Some, Ok}
 use Rattle.go_grid.specs.Region.{Shape}
 use Rattle.desk_io.specs.Outside.{Rose}
 use Rattle.sgf_go.specs.declared.settings.Setup.{Setup}
 use Rattle.gd_words.specs.Job.{JobView}
-use Rattle.whole_rules.specs.WholeGame.{State}
 use Rattle.endgame_solver.specs.Faults.{AreSound}
 use Rattle.region_cut.specs.Cut.{AreRegionsOfPlay}
 use Rattle.endgame_solver.specs.Regions.{region_at}
@@ -48,3 +46,7 @@ pub record IsAnswerable (words : List (List ℕ)) (o : Outside) (writes writes_n
 abbrev pub IsAnswered : List (List ℕ) → Outside → Status → Type 0
 IsAnswered words o status = (status ≡ Done) ⊎ ((status ≡ Memory)
     ⊎ ((status ≡ TooManyLines) × InGame words o (λ engine s bytes. (text : List ℕ) × IsSessionOf engine s bytes end.TooManyLines text)))
+
+-- where nothing keeps the run from its text, it is answered
+abbrev pub IsComplete : List (List ℕ) → Outside → ℕ → ℕ → Status → Type 0
+IsComplete words o writes writes_now status = IsAnswerable words o writes writes_now → IsAnswered words o status

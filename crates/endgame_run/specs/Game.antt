@@ -23,7 +23,7 @@ use Rattle.endgame_run.specs.declared.status.Status.TheVariants.{Done, CannotRea
 use Rattle.endgame_run.specs.File.{Outside, told_of}
 use Rattle.endgame_run.specs.Found.{IsPositionOf}
 use Rattle.endgame_run.specs.Solution.{IsOpeningOf}
-use Rattle.endgame_run.specs.Verdict.{AreToPlay, limits_of}
+use Rattle.endgame_run.specs.Verdict.{AreToPlay, IsWritten, limits_of}
 
 -- the regions of play of a position are all sound within the limits, and the state opens it
 pub record IsPlayable (limits : Limits) (setup : Setup) (s : State) : Type 0 where
@@ -113,3 +113,7 @@ pub record IsWonGame (engine : Colour) (s : State) (bytes : List ℕ) (before no
 abbrev pub PlaysWon : List (List ℕ) → Outside → Option (List ℕ) → Option (List ℕ) → Type 0
 PlaysWon words o before now = (engine : Colour) × (s : State) × IsGame words o engine s
     × (IsWinner s engine → IfSome o.left (λ bytes. IsWonGame engine s bytes before now))
+
+-- what was written is the text of the decided status, or that of a game in which the engine keeps what it has won
+abbrev pub EngineKeepsWin : List (List ℕ) → Outside → Option (List ℕ) → Option (List ℕ) → Status → Type 0
+EngineKeepsWin words o before now status = IsWritten words o before now status ⊎ PlaysWon words o before now

@@ -1,4 +1,4 @@
--- What a run that isn't done has written, for every command.
+-- What a run has written, for every command.
 use Rattle.std.specs.Prelude.{◌≡◌, ◌⊎◌, ◌++◌, ℕ, List, codes, take, Option, IfSome}
 use Rattle.std.specs.Io.KnownBytes.{append_known}
 use Rattle.go_grid.specs.declared.grid.Colour.{Colour}
@@ -7,8 +7,16 @@ use Rattle.play_session.specs.declared.end.SessionEnd.TheVariants as end
 use Rattle.endgame_run.specs.declared.status.Status.{Status}
 use Rattle.endgame_run.specs.declared.status.Status.TheVariants.{CannotRead, CannotWrite, Memory, TooManyLines}
 use Rattle.endgame_run.specs.File.{Outside}
-use Rattle.endgame_run.specs.Game.{IsGame, IsGameWritten, IsSessionOf, WaitsAfter}
-use Rattle.endgame_run.specs.Verdict.{IsDecided}
+use Rattle.endgame_run.specs.Game.{IsGame, IsGameRun, IsGameWritten, IsSessionOf, WaitsAfter}
+use Rattle.endgame_run.specs.Verdict.{HasCause, IsDecided, IsWritten}
+
+-- the status was decided with its cause, or it is that of a game that has begun
+abbrev pub IsCaused : List (List ℕ) → Outside → Option (List ℕ) → Option (List ℕ) → Status → Type 0
+IsCaused words o before now status = HasCause words o status ⊎ IsGameRun words o before now status
+
+-- the text of the decided status was written, or that of a game that has begun
+abbrev pub IsOutput : List (List ℕ) → Outside → Option (List ℕ) → Option (List ℕ) → Status → Type 0
+IsOutput words o before now status = IsWritten words o before now status ⊎ IsGameRun words o before now status
 
 -- the line of the status was written, and nothing else
 abbrev pub IsLineWritten : List (List ℕ) → Outside → Option (List ℕ) → Option (List ℕ) → Status → Type 0

@@ -20,9 +20,15 @@ pub use status::{FileFault, Status, Unbuilt};
 pub use top::run;
 
 #[cfg(test)]
+mod device_tests;
+#[cfg(test)]
 mod outside_tests;
 #[cfg(test)]
+mod plain_tests;
+#[cfg(test)]
 mod play_tests;
+#[cfg(test)]
+mod source_tests;
 #[cfg(test)]
 mod tests;
 #[cfg(test)]

@@ -5,7 +5,7 @@ use desk_io::{
     Source, StdSink, StdSource,
 };
 use std::alloc::Global;
-use std::io::{self, Write};
+use std::io::{self, ErrorKind, Read, Write};
 use std::test::Fail;
 
 #[test]
@@ -120,5 +120,59 @@ fn adapters_pass_on(rt: HostRuntime) -> Result<(), Fail> {
     assert_eq!(rt; sink.write(b"def"), Err(Failed));
     assert_eq!(rt; sink.write(b"g"), Err(Failed));
     assert_eq!(rt; sink.write(b""), Ok(()));
+    Ok(())
+}
+
+/// A reader and a writer whose first call is interrupted, and which then takes or gives one byte a call.
+#[derive(Drop)]
+struct Interrupted {
+    called: bool,
+}
+
+impl Interrupted {
+    /// Whether the call is the first.
+    fn is_first(&mut self) -> bool {
+        let first = !self.called;
+        self.called = true;
+        first
+    }
+}
+
+impl Read for Interrupted {
+    fn read(&mut self, buf: &mut [u8]) -> io::Result<usize> {
+        if self.is_first() {
+            return Err(io::Error::from(ErrorKind::Interrupted));
+        }
+        match buf.first_mut() {
+            Some(first) => {
+                *first = b'x';
+                Ok(1)
+            }
+            None => Ok(0),
+        }
+    }
+}
+
+impl Write for Interrupted {
+    fn write(&mut self, buf: &[u8]) -> io::Result<usize> {
+        if self.is_first() {
+            return Err(io::Error::from(ErrorKind::Interrupted));
+        }
+        Ok(buf.len().min(1))
+    }
+
+    fn flush(&mut self) -> io::Result<()> {
+        Ok(())
+    }
+}
+
+#[test]
+fn adapters_try_interrupted_calls_again(rt: HostRuntime) -> Result<(), Fail> {
+    let mut source = StdSource::new(Interrupted { called: false });
+    let mut buf = [0u8; 4];
+    assert_eq!(rt; source.read(&mut buf), Ok(1));
+    assert_eq!(rt; buf[0], b'x');
+    let mut sink = StdSink::new(Interrupted { called: false });
+    assert_eq!(rt; sink.write(b"abc"), Ok(()));
     Ok(())
 }

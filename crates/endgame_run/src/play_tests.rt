@@ -28,7 +28,19 @@ fn plays_over_the_lines(rt: HostRuntime) -> Result<(), Fail> {
         write: 1,
         ..NOTHING_FAILS
     };
-    let rows: [(&[&str], &[u8], usize, Failing, Status, &str); 8] = [
+    let second_read = Failing {
+        read: 1,
+        ..NOTHING_FAILS
+    };
+    let rows: [(&[&str], &[u8], usize, Failing, Status, &str); 9] = [
+        (
+            AS_BLACK,
+            b"spend\nspend\n",
+            500,
+            second_read,
+            Status::CannotRead,
+            "engine ea\nplayed spend\nengine spend\nfault cannot read\n",
+        ),
         (AS_BLACK, LINES, 500, NOTHING_FAILS, Status::Done, GAME),
         (
             &["play", "c"],
@@ -102,6 +114,32 @@ fn repeated(alloc: Global, text: &[u8], count: usize) -> Result<Vec<u8>, AllocEr
         bytes.extend_from_slice(text)?;
     }
     Ok(bytes)
+}
+
+#[test]
+fn a_line_is_cut_after_256_bytes(rt: HostRuntime) -> Result<(), Fail> {
+    let alloc = rt.alloc();
+    // What is left of a line that was cut is a line of its own.
+    let rows = [
+        (250, "engine ea\nplayed spend\nengine spend\ninput ended\n"),
+        (
+            251,
+            "engine ea\nplayed spend\nengine spend\nrefused line\ninput ended\n",
+        ),
+        (
+            252,
+            "engine ea\nplayed spend\nengine spend\nrefused line\ninput ended\n",
+        ),
+    ];
+    for (blanks, text) in rows {
+        let mut lines = b"spend".to_vec(alloc)?;
+        lines.extend_from_slice(&repeated(alloc, b" ", blanks)?)?;
+        lines.extend_from_slice(b"\n")?;
+        let (status, written) = outcome(alloc, AS_BLACK, &lines, 500, NOTHING_FAILS)?;
+        assert_eq!(rt; written.as_slice(), text.as_bytes());
+        assert_eq!(rt; status, Status::Done);
+    }
+    Ok(())
 }
 
 #[test]

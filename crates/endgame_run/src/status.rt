@@ -15,7 +15,7 @@ pub enum FileFault {
 /// What isn't built yet.
 #[derive(Clone, Copy, Debug, PartialEq, Eq)]
 pub enum Unbuilt {
-    /// The commands `values` and `trial`.
+    /// The command `trial`.
     Command,
 }
 

@@ -11,13 +11,13 @@ ghost use Rattle.gd_words.specs.Viewed.{task_of, texts, viewed};
 ghost use Rattle.endgame_solver.specs.declared.limits.Limits.{Limits};
 ghost use Rattle.endgame_solver.specs.Faults.{most_steps};
 ghost use Rattle.region_cut.specs.Cut.{AreRegionsOfPlay};
-ghost use Rattle.endgame_run.specs.Complete.{IsAnswerable, IsAnswered};
+ghost use Rattle.endgame_run.specs.Complete.{IsComplete};
 ghost use Rattle.endgame_run.specs.File.{TakesAtMost, count_of, dash, outside, told_of};
 ghost use Rattle.endgame_run.specs.Found.{HasRanges};
-ghost use Rattle.endgame_run.specs.Game.{IsGameRun, PlaysWon};
-ghost use Rattle.endgame_run.specs.Output.{IsPartOutput};
+ghost use Rattle.endgame_run.specs.Game.{EngineKeepsWin, IsGameRun};
+ghost use Rattle.endgame_run.specs.Output.{IsCaused, IsOutput, IsPartOutput};
 ghost use Rattle.endgame_run.specs.Top.{AreToldSteps, IsAsked, IsFileRun, IsModest};
-ghost use Rattle.endgame_run.specs.Verdict.{AreSteps, AreStepsFor, AskShelf, AskToPlay, AskToSolve, HasCause, IsAnswer, IsPositionAnswer, IsToldRegions, IsUnbuilt, IsWritten, NeedRegions, ReadShelf, ReadSource, WritesMove, WritesWinner, limits_of};
+ghost use Rattle.endgame_run.specs.Verdict.{AreSteps, AreStepsFor, AskShelf, AskToPlay, AskToSolve, IsAnswer, IsPositionAnswer, IsToldRegions, IsUnbuilt, NeedRegions, ReadShelf, ReadSource, WritesMove, WritesWinner, limits_of};
 
 use crate::ending::finish;
 use crate::finding::find_position;
@@ -169,41 +169,61 @@ pub fn run<H: Shelf, S: Source, K: Sink, L: Ledger>(
     out: &mut K,
     steps: &mut Steps<L>,
 ) -> Status
-    ensures cause { HasCause (texts words.now) (outside (H.files shelf.old) (S.left lines.old) (H.faults shelf.old) (H.faults shelf.new)
-        (S.faults lines.old) (S.faults lines.new)) result
-        ⊎ IsGameRun (texts words.now) (outside (H.files shelf.old) (S.left lines.old) (H.faults shelf.old) (H.faults shelf.new)
-        (S.faults lines.old) (S.faults lines.new)) (K.holds out.old) (K.holds out.new) result }
-    ensures cannot_write { result ≡ Status.CannotWrite → Rose (K.faults out.old) (K.faults out.new) }
-    ensures text { IsWritten (texts words.now) (outside (H.files shelf.old) (S.left lines.old) (H.faults shelf.old) (H.faults shelf.new)
-        (S.faults lines.old) (S.faults lines.new)) (K.holds out.old) (K.holds out.new) result
-        ⊎ IsGameRun (texts words.now) (outside (H.files shelf.old) (S.left lines.old) (H.faults shelf.old) (H.faults shelf.new)
-        (S.faults lines.old) (S.faults lines.new)) (K.holds out.old) (K.holds out.new) result }
-    ensures partial_output { result ≢ Status.Done → IsPartOutput (texts words.now) (outside (H.files shelf.old) (S.left lines.old) (H.faults shelf.old) (H.faults shelf.new)
-        (S.faults lines.old) (S.faults lines.new)) (K.holds out.old) (K.holds out.new) result }
-    ensures outside_grammar { ((job : JobView) → ¬ IsJob (texts words.now) job) → (result ≡ Status.Usage) ⊎ (result ≡ Status.CannotWrite) }
-    ensures complete { IsAnswerable (texts words.now) (outside (H.files shelf.old) (S.left lines.old) (H.faults shelf.old) (H.faults shelf.new)
-        (S.faults lines.old) (S.faults lines.new)) (K.faults out.old) (K.faults out.new)
-        → IsAnswered (texts words.now) (outside (H.files shelf.old) (S.left lines.old) (H.faults shelf.old) (H.faults shelf.new)
-        (S.faults lines.old) (S.faults lines.new)) result }
-    ensures engine_keeps_win { IsWritten (texts words.now) (outside (H.files shelf.old) (S.left lines.old) (H.faults shelf.old) (H.faults shelf.new)
-        (S.faults lines.old) (S.faults lines.new)) (K.holds out.old) (K.holds out.new) result
-        ⊎ PlaysWon (texts words.now) (outside (H.files shelf.old) (S.left lines.old) (H.faults shelf.old) (H.faults shelf.new)
-        (S.faults lines.old) (S.faults lines.new)) (K.holds out.old) (K.holds out.new) }
-    ensures winner { result ≡ Status.Done → AskToSolve (texts words.now) → WritesWinner (texts words.now) (outside (H.files shelf.old) (S.left lines.old) (H.faults shelf.old) (H.faults shelf.new)
-        (S.faults lines.old) (S.faults lines.new)) (K.holds out.old) (K.holds out.new) }
-    ensures first_winning_move { result ≡ Status.Done → AskToSolve (texts words.now) → WritesMove (texts words.now) (outside (H.files shelf.old) (S.left lines.old) (H.faults shelf.old) (H.faults shelf.new)
-        (S.faults lines.old) (S.faults lines.new)) (K.holds out.old) (K.holds out.new) }
+    ensures cause { IsCaused (texts words.now)
+        (outside (H.files shelf.old) (S.left lines.old) (H.faults shelf.old)
+        (H.faults shelf.new) (S.faults lines.old) (S.faults lines.new))
+        (K.holds out.old) (K.holds out.new) result }
+    ensures cannot_write { result ≡ Status.CannotWrite
+        → Rose (K.faults out.old) (K.faults out.new) }
+    ensures text { IsOutput (texts words.now)
+        (outside (H.files shelf.old) (S.left lines.old) (H.faults shelf.old)
+        (H.faults shelf.new) (S.faults lines.old) (S.faults lines.new))
+        (K.holds out.old) (K.holds out.new) result }
+    ensures partial_output { result ≢ Status.Done → IsPartOutput (texts words.now)
+        (outside (H.files shelf.old) (S.left lines.old) (H.faults shelf.old)
+        (H.faults shelf.new) (S.faults lines.old) (S.faults lines.new))
+        (K.holds out.old) (K.holds out.new) result }
+    ensures outside_grammar { ((job : JobView) → ¬ IsJob (texts words.now) job)
+        → (result ≡ Status.Usage) ⊎ (result ≡ Status.CannotWrite) }
+    ensures complete { IsComplete (texts words.now)
+        (outside (H.files shelf.old) (S.left lines.old) (H.faults shelf.old)
+        (H.faults shelf.new) (S.faults lines.old) (S.faults lines.new))
+        (K.faults out.old) (K.faults out.new) result }
+    ensures engine_keeps_win { EngineKeepsWin (texts words.now)
+        (outside (H.files shelf.old) (S.left lines.old) (H.faults shelf.old)
+        (H.faults shelf.new) (S.faults lines.old) (S.faults lines.new))
+        (K.holds out.old) (K.holds out.new) result }
+    ensures winner { result ≡ Status.Done → AskToSolve (texts words.now)
+        → WritesWinner (texts words.now)
+        (outside (H.files shelf.old) (S.left lines.old) (H.faults shelf.old)
+        (H.faults shelf.new) (S.faults lines.old) (S.faults lines.new))
+        (K.holds out.old) (K.holds out.new) }
+    ensures first_winning_move { result ≡ Status.Done → AskToSolve (texts words.now)
+        → WritesMove (texts words.now)
+        (outside (H.files shelf.old) (S.left lines.old) (H.faults shelf.old)
+        (H.faults shelf.new) (S.faults lines.old) (S.faults lines.new))
+        (K.holds out.old) (K.holds out.new) }
     ensures steps { (limits : Limits) (setup : Position) (regions : List Shape)
-        → IsToldRegions (texts words.now) (H.files shelf.old) (S.left lines.old) limits setup → AreRegionsOfPlay setup.board regions → steps.new ≤ steps.old + most_steps limits regions }
-    ensures few_steps { AreSteps (texts words.now) (H.files shelf.old) (S.left lines.old) steps.old steps.new }
+        → IsToldRegions (texts words.now) (H.files shelf.old) (S.left lines.old) limits setup
+        → AreRegionsOfPlay setup.board regions → steps.new ≤ steps.old + most_steps limits regions }
+    ensures few_steps { AreSteps (texts words.now) (H.files shelf.old) (S.left lines.old)
+        steps.old steps.new }
     ensures no_steps { ¬ NeedRegions (texts words.now) → steps.new ≡ steps.old }
-    ensures at_end { result ≡ Status.Done → ReadSource (texts words.now) → S.left lines.new ≡ ended (S.left lines.old) }
-    ensures lines_unread { ¬ ReadSource (texts words.now) → ¬ AskToPlay (texts words.now) → lines.new ≡ lines.old }
-    ensures lines_unplayed { ¬ ReadSource (texts words.now) → (lines.new ≡ lines.old) ⊎ IsGameRun (texts words.now) (outside (H.files shelf.old) (S.left lines.old) (H.faults shelf.old) (H.faults shelf.new)
-        (S.faults lines.old) (S.faults lines.new)) (K.holds out.old) (K.holds out.new) result }
-    ensures file_taken { ¬ AskToPlay (texts words.now) → TakesAtMost 1048577 (S.left lines.old) (S.left lines.new) }
-    ensures lines_taken { AskToPlay (texts words.now) → TakesAtMost 2560256 (S.left lines.old) (S.left lines.new) }
-    ensures asked { (shelf.new ≡ shelf.old) ⊎ AskShelf (texts words.now) (λ word. H.asks shelf.old word shelf.new) }
+    ensures at_end { result ≡ Status.Done → ReadSource (texts words.now)
+        → S.left lines.new ≡ ended (S.left lines.old) }
+    ensures lines_unread { ¬ ReadSource (texts words.now) → ¬ AskToPlay (texts words.now)
+        → lines.new ≡ lines.old }
+    ensures lines_unplayed { ¬ ReadSource (texts words.now) → (lines.new ≡ lines.old)
+        ⊎ IsGameRun (texts words.now)
+        (outside (H.files shelf.old) (S.left lines.old) (H.faults shelf.old)
+        (H.faults shelf.new) (S.faults lines.old) (S.faults lines.new))
+        (K.holds out.old) (K.holds out.new) result }
+    ensures file_taken { ¬ AskToPlay (texts words.now)
+        → TakesAtMost 1048577 (S.left lines.old) (S.left lines.new) }
+    ensures lines_taken { AskToPlay (texts words.now)
+        → TakesAtMost 2560256 (S.left lines.old) (S.left lines.new) }
+    ensures asked { (shelf.new ≡ shelf.old)
+        ⊎ AskShelf (texts words.now) (λ word. H.asks shelf.old word shelf.new) }
     ensures same_files { H.files shelf.new ≡ H.files shelf.old }
     ensures later_loads { H.faults shelf.old ≤ H.faults shelf.new }
     ensures later_reads { S.faults lines.old ≤ S.faults lines.new }

@@ -8,7 +8,6 @@ use Rattle.endgame_run.proofs.GameLaws.{game_caused, game_written, only_play, ow
 use Rattle.endgame_run.proofs.GameWins.{plays_won}
 use Rattle.endgame_run.proofs.CompleteLaws.{complete}
 use Rattle.endgame_run.proofs.OutputLaws.{no_job, part_output}
-use Rattle.endgame_run.proofs.TakenLaws.{taken_none}
 use Rattle.endgame_run.proofs.TopLaws.{by_word, caused, written, run_caused, run_written}
 use Rattle.endgame_run.proofs.WrittenLaws.{run_winner, run_move}
 use Rattle.endgame_run.proofs.StepLaws.{no_steps, run_steps, steps_told}
