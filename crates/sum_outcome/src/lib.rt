@@ -90,7 +90,7 @@ impl Search {
     }
 }
 
-/// A new search fits every store, and a search that fits a store fits it after more forms were interned.
+/// A search that fits a store fits it after more forms were interned.
 pub fn fits_law()
     ensures { FitsGrownStores }
 {}

@@ -1,5 +1,6 @@
-//! The search of a sum. Where stops don't tell who loses, it tries moves in the games that are no numbers. Beside such a
-//! game no move in a number is needed (number avoidance, Conway), and none whose incentive one in another game dominates.
+//! The search of a sum. Games that cancel are taken out. Where stops don't tell who loses then, it tries moves in the games
+//! that are no numbers. Beside such a game no move in a number is needed (number avoidance, Conway), and none whose incentive
+//! one in another game dominates.
 
 ghost use Rattle.std.specs.Prelude.{◌≡◌, ◌<◌, ◌↔◌, length, IsTrue, MatchOption};
 ghost use Rattle.std.specs.Bool.{OnFalse};
