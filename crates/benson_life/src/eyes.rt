@@ -9,7 +9,7 @@ ghost use Rattle.benson_life.specs.Life.{IsVital};
 ghost use Rattle.benson_life.specs.Survey.{IsSurvey};
 
 use crate::surveys::Survey;
-use go_grid::{Board, Colour, Point, Points, around, label_of};
+use go_grid::{Board, Colour, NearPoints, Point, Points, label_of};
 use std::alloc::{AllocError, Global};
 
 /// A region that is vital to a chain. Each is named by its lowest point.
@@ -35,7 +35,8 @@ fn is_liberty(board: &Board, colour: Colour, survey: &Survey, chain: Point, poin
     requires point { IsEmpty board.now point }
     ensures { (result ≡ true) ↔ IsLiberty board.now colour chain point }
 {
-    let around = around(board.size(), point);
+    let mut around = NearPoints::new();
+    around.look_around(board.size(), point);
     for near in around.as_slice() {
         if is_of_chain(survey, chain, *near) {
             return true;
@@ -106,7 +107,8 @@ fn add_eyes(
         ↔ (Contains eyes.old.items e
         ⊎ (IsVitalPair board.now colour survey.now e × (e.region ≡ label survey.now.regions point)))) }
 {
-    let around = around(board.size(), point);
+    let mut around = NearPoints::new();
+    around.look_around(board.size(), point);
     for near in around.as_slice() {
         add_eye(board, colour, survey, point, *near, eyes)?;
     }

@@ -6,7 +6,7 @@ ghost use Rattle.go_grid.specs.Marks.{IsMarked, Touches, IsWithin, Marks};
 ghost use Rattle.go_grid.specs.Work.{IsListed, IsFilled, IsFilling};
 
 use crate::grid::{Point, Size};
-use crate::nearby::around;
+use crate::nearby::NearPoints;
 use crate::points::Points;
 
 /// Point 0 for each point of the largest board.
@@ -22,7 +22,8 @@ pub fn touches(size: Size, points: &Points, point: Point) -> bool
     requires inside { IsWithin (size.columns * size.rows) points.now }
     ensures { (result ≡ true) ↔ Touches size.columns points.now point }
 {
-    let around = around(size, point);
+    let mut around = NearPoints::new();
+    around.look_around(size, point);
     for near in around.as_slice() {
         if points.contains(*near) {
             return true;
@@ -105,9 +106,10 @@ pub(crate) fn spread(size: Size, within: &Points, work: &mut Work, start: Point)
     ensures listed { (p : ℕ) → Joined size.columns (IsMarked within.now) start p ↔ IsListed work.old.count work.new p }
 {
     let mut done = work.count;
+    let mut around = NearPoints::new();
     enter(within, work, start);
     'spreading: while done < work.count {
-        let around = around(size, work.points[usize::from(done)]);
+        around.look_around(size, work.points[usize::from(done)]);
         enter_all(within, work, around.as_slice());
         done += 1;
     }

@@ -16,7 +16,7 @@ pub use boards::Board;
 pub use filling::{fill, fill_all, part_touches, touches};
 pub use grid::{Cell, Colour, Point, Size};
 pub use names::{name, point_of};
-pub use nearby::{Near, NearPoints, around, neighbours};
+pub use nearby::{Near, NearPoints, neighbours};
 pub use parts::{Labels, components, label_of};
 pub use points::Points;
 pub use region::{Region, Touch};

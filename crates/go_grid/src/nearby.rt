@@ -58,33 +58,6 @@ pub fn neighbours(size: Size, point: Point) -> Near
     }
 }
 
-/// The points next to a point of a board of the size.
-pub fn around(size: Size, point: Point) -> NearPoints
-    requires { point < size.columns * size.rows }
-    ensures around { AreAround size.columns (size.columns * size.rows) point result }
-    ensures on_board { All (λ q. q < size.columns * size.rows) result }
-    ensures inside { All (λ q. q < 625) result }
-{
-    neighbours(size, point).points()
-}
-
-impl Near {
-    ghost use Rattle.std.specs.Prelude.{Contains, Some, ◌⊎◌, ℕ};
-
-    /// The neighbours that the board has.
-    pub fn points(self) -> NearPoints
-        ensures { (q : ℕ) → Contains result q
-            ↔ ((self.up ≡ Some q) ⊎ ((self.left ≡ Some q) ⊎ ((self.right ≡ Some q) ⊎ (self.down ≡ Some q)))) }
-    {
-        let mut near = NearPoints::new();
-        near.add(self.up);
-        near.add(self.left);
-        near.add(self.right);
-        near.add(self.down);
-        near
-    }
-}
-
 /// The points next to a point, at most four.
 #[derive(Drop)]
 pub struct NearPoints {
@@ -105,13 +78,37 @@ impl Model for NearPoints {
 impl NearPoints {
     ghost use Rattle.std.specs.Prelude.{[], Contains, Some, length, ◌⊎◌, ℕ};
 
-    fn new() -> NearPoints
+    /// No point.
+    pub fn new() -> NearPoints
         ensures { result ≡ [] }
     {
         NearPoints {
             points: [Point(0); 4],
             number: 0,
         }
+    }
+
+    /// Drops all points.
+    fn clear(&mut self)
+        ensures { self.new ≡ [] }
+    {
+        self.number = 0;
+    }
+
+    /// Takes the points next to a point of a board of the size in place of those that it had. Filled in place, since a
+    /// copy of the few points costs more than the rest.
+    pub fn look_around(&mut self, size: Size, point: Point)
+        requires { point < size.columns * size.rows }
+        ensures around { AreAround size.columns (size.columns * size.rows) point self.new }
+        ensures on_board { All (λ q. q < size.columns * size.rows) self.new }
+        ensures inside { All (λ q. q < 625) self.new }
+    {
+        let near = neighbours(size, point);
+        self.clear();
+        self.add(near.up);
+        self.add(near.left);
+        self.add(near.right);
+        self.add(near.down);
     }
 
     fn add(&mut self, point: Option<Point>)

@@ -7,7 +7,7 @@ ghost use Rattle.go_grid.specs.Chain.{HasLiberty};
 ghost use Rattle.go_play.specs.Place.{with_stone, IsTaken, IsWithout, Answers};
 ghost use Rattle.go_play.specs.Tried.{IsTried, IsLost, Judges};
 
-use go_grid::{Board, Cell, Colour, Point, Points, around, fill, part_touches};
+use go_grid::{Board, Cell, Colour, NearPoints, Point, Points, fill, part_touches};
 use thiserror::Error;
 
 /// Why a stone may not be placed.
@@ -71,7 +71,8 @@ fn taken(board: &Board, point: Point, colour: Colour, tried: &Tried) -> Points
     requires tried { IsTried board.now point colour tried.now }
     ensures { Marks result (IsTaken (with_stone board.now point colour) point (other colour)) }
 {
-    let around = around(board.size(), point);
+    let mut around = NearPoints::new();
+    around.look_around(board.size(), point);
     let mut taken = Points::new();
     for stone in around.as_slice() {
         take_chain(board, point, colour, tried, *stone, &mut taken);

@@ -14,5 +14,5 @@ loop-near-preserved c =
 pub returns : goal.returns
 returns c =
     adds_all c.args.board.now c.args.colour c.args.survey.now c.requires.survey _ _ _ _ _ _ c.loop-near.invariant c.loop-near-test.false
-    c.requires.point (rw (c.size.ensures.columns, ← c.as_slice-near-items.ensures) at c.around-around.ensures.around)
+    c.requires.point (rw (c.size.ensures.columns, ← c.as_slice-near-items.ensures) at c.look_around.ensures.around)
     (omega (arith, rw c.size.ensures.columns at c.size.ensures.area))

@@ -6,7 +6,7 @@ use Rattle.benson_life.proofs.eyes.is_liberty.Goals as goal
 
 pub returns-then-is_of_chain : goal.returns-then-is_of_chain
 returns-then-is_of_chain c =
-    let near = rw (c.size.ensures.columns, ← c.as_slice-near-items.ensures) at c.around-around.ensures.around in
+    let near = rw (c.size.ensures.columns, ← c.as_slice-near-items.ensures) at c.look_around.ensures.around in
     let next = ((near _).0 (c.loop-near.near-index, c.loop-near-test.true, sym c.near-item.is)).1 in
     let by = liberty_is c.args.board.now c.args.colour c.args.survey.now c.requires.survey c.args.chain c.args.point c.requires.stone
     c.requires.named c.requires.point in
@@ -16,7 +16,7 @@ pub returns : goal.returns
 returns c = (
   λ e. cc,
   λ l.
-      let near = rw (c.size.ensures.columns, ← c.as_slice-near-items.ensures) at c.around-around.ensures.around in
+      let near = rw (c.size.ensures.columns, ← c.as_slice-near-items.ensures) at c.look_around.ensures.around in
       let (q, next, of) = (liberty_is c.args.board.now c.args.colour c.args.survey.now c.requires.survey c.args.chain c.args.point
       c.requires.stone c.requires.named c.requires.point).1 l in
       let on = ((c.requires.survey.stones q).0 of.0).0 in

@@ -26,7 +26,7 @@ spreading-preserved c =
     let e = c.enter_all.ensures in
     let lt : i < length c.spreading.work.points = search rules in
     let near = rw (c.from.ensures, get_or_default c.spreading.work.points i c.index-work-from.result 0 lt, ← c.as_slice.ensures)
-    at c.around-around.ensures.around in
+    at c.look_around.ensures.around in
     record {
       filling = filling_next k c.args.start from i in' c.args.work.now.marks c.enter_all.new.work
           (e.under_way k c.args.start from i c.args.work.now.marks

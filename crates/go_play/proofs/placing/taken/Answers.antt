@@ -21,4 +21,4 @@ returns c =
     taken_all (with_stone c.args.board.now c.args.point c.args.colour) (other c.args.colour) _ c.args.point _ _ _ c.loop-stone.invariant
     c.loop-stone.auto.stone-index-end c.loop-stone-test.false
     (length-set c.args.board.now.cells c.args.point (stone c.args.colour) ∙ sym (rw c.size.ensures.columns at c.size.ensures.area))
-    (rw (c.size.ensures.columns, ← c.as_slice-stone-items.ensures) at c.around-around.ensures.around)
+    (rw (c.size.ensures.columns, ← c.as_slice-stone-items.ensures) at c.look_around.ensures.around)
