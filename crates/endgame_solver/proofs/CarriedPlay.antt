@@ -86,14 +86,17 @@ module _ (touch : List Touch) (cells : List Cell) (touch' : List Touch) (cells' 
 
   pub free_over : (c : Colour) (i j : ℕ) → Paired i j → IsFree touch cells c i → IsFree touch' cells' (colour_after colours c) j
   free_over c i j p (k, chain, breath) =
-      let (l, q, chain') = chain_over c i j k p chain in
-      (l, chain', elim breath [
-        | inl (m, link, empty) ↦
-            let (d, e) = direction_of touch k m link in
-            let (n, r) = h.first m (linked.inside k m d e) in
-            inl (n, linked_over k l m n q r link, h.held m n r ∙ ap (cell_after colours) empty ∙ empty_after colours)
-        | inr beside ↦ inr (h.beside k l q c ∙ beside)
-      ])
+      let (l, q, chain') = chain_over c i j k p chain in (
+        l,
+        chain',
+        elim breath [
+          | inl (m, link, empty) ↦
+              let (d, e) = direction_of touch k m link in
+              let (n, r) = h.first m (linked.inside k m d e) in
+              inl (n, linked_over k l m n q r link, h.held m n r ∙ ap (cell_after colours) empty ∙ empty_after colours)
+          | inr beside ↦ inr (h.beside k l q c ∙ beside)
+        ],
+      )
 
 module _ (touch : List Touch) (cells : List Cell) (touch' : List Touch) (cells' : List Cell) (Paired : ℕ → ℕ → Type 0) (s : Symmetry)
     (colours : Bool) (linked : AreLinked touch cells) (linked' : AreLinked touch' cells')
@@ -169,7 +172,13 @@ module _ (touch touch' : List Touch) (Paired : ℕ → ℕ → Type 0) (s : Symm
   recelled : (cells cells' after after' : List Cell) → Carries touch cells touch' cells' Paired s colours
       → ((i j : ℕ) → Paired i j → held_at after' j ≡ cell_after colours (held_at after i)) → Carries touch after touch' after' Paired s colours
   recelled cells cells' after after' h held = record {
-    inside = h.inside; first = h.first; second = h.second; one = h.one; links = h.links; held = held; beside = h.beside;
+    inside = h.inside;
+    first = h.first;
+    second = h.second;
+    one = h.one;
+    links = h.links;
+    held = held;
+    beside = h.beside;
   }
 
   count_same : (cells cells' : List Cell) → AreLinked touch cells → AreLinked touch' cells' → Carries touch cells touch' cells' Paired s colours
