@@ -1,5 +1,5 @@
 -- Where a pairing carries one local position onto another, their local moves are paired, and take as many stones.
-use Rattle.std.proofs.Common.{◌≡◌, ◌≢◌, ℕ, zero, suc, ◌+◌, ◌<◌, ◌≤◌, ◌⊎◌, ◌↔◌, inl, inr, refl, sym, ap, ◌∙◌, subst, arith, List, [], ◌∷◌, length, get_or, set, Bool, true, false, Option, Some, None}
+use Rattle.std.proofs.Common.{◌≡◌, ◌≢◌, ℕ, zero, suc, ◌+◌, ◌<◌, ◌≤◌, ◌⊎◌, ◌↔◌, inl, inr, refl, sym, ap, ◌∙◌, subst, arith, List, [], ◌∷◌, length, set, Bool, true, false, Some}
 use Rattle.std.specs.Prelude.{cond, count_by}
 use Rattle.std.proofs.lemmas.Bool.{cases_eq, cases_lt, true≢false}
 use Rattle.std.proofs.lemmas.List.{get_or_past, get_or-set_same, get_or-set_other, length-set}
@@ -10,10 +10,9 @@ use Rattle.go_grid.specs.declared.grid.Colour.{Colour}
 use Rattle.go_grid.specs.declared.grid.Colour.TheVariants as colour
 use Rattle.go_grid.specs.declared.region.Touch.{Touch}
 use Rattle.go_grid.specs.Grid.{other, stone}
-use Rattle.go_grid.specs.Path.{Leads}
 use Rattle.go_grid.specs.Region.{touch_at}
-use Rattle.go_grid.proofs.PathLemmas.{carried, leads_end, leads_here, leads_start, leads_step}
-use Rattle.local_play.specs.LocalPlay.{held_at, is_stone, with_stone, Holds, InLocalChain, IsBeside, IsFree, IsLinked, IsLocalMove, IsNumberTaken, IsOpen, IsRemoved}
+use Rattle.go_grid.proofs.PathLemmas.{carried, leads_here, leads_start, leads_step}
+use Rattle.local_play.specs.LocalPlay.{held_at, is_stone, with_stone, Holds, InLocalChain, IsFree, IsLinked, IsLocalMove, IsNumberTaken, IsRemoved}
 use Rattle.local_value.proofs.MoveList.{length-made, made, made-at, not_empty}
 use Rattle.region_book.specs.declared.symmetry.Symmetry.{Symmetry}
 use Rattle.region_book.specs.Shape.{Carries, Direction, cell_after, colour_after, link, turned}

@@ -1,5 +1,5 @@
 -- Where a pairing carries one local position onto another, their trees are equal, or the one is the negative of the other.
-use Rattle.std.proofs.Common.{arith, pos, neg_ℤ, ◌≡◌, ℕ, zero, suc, refl, sym, ap, ap₂, ◌∙◌, subst, List, Bool, true, false}
+use Rattle.std.proofs.Common.{arith, pos, neg_ℤ, ◌≡◌, ℕ, zero, suc, refl, sym, ap, ◌∙◌, subst, List, Bool, true, false}
 use Rattle.std.proofs.Math.IntN.{neg_ℤ-neg_ℤ}
 use Rattle.go_grid.specs.declared.grid.Cell.{Cell}
 use Rattle.go_grid.specs.declared.grid.Colour.{Colour}

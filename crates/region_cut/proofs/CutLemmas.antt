@@ -6,12 +6,10 @@ use Rattle.std.proofs.lemmas.List.Elements.{Contains-get_or, Contains-push, Cont
 use Rattle.std.proofs.lemmas.List.Quantifiers.{all_pairs_push}
 use Rattle.go_grid.specs.Grid.{Grid}
 use Rattle.go_grid.specs.Region.{Shape}
-use Rattle.go_grid.specs.declared.grid.Colour.{Colour}
 use Rattle.go_grid.specs.Marks.{IsMarked, Marks}
 use Rattle.go_grid.specs.Parts.{AreParts, label}
 use Rattle.go_grid.proofs.WalkLemmas.{joined_back}
 use Rattle.go_grid.proofs.PartsLemmas.{label_in}
-use Rattle.benson_life.specs.Life.{IsAlive, IsLargestHealthy}
 use Rattle.benson_life.proofs.PartsLemmas.{parts_over}
 use Rattle.benson_life.specs.Region.{IsContested, InRegionOfPlay}
 use Rattle.region_cut.specs.Cut.{AreRegionsOfPlay, IsRegionOfPlay, IsWalledIn, lowest}
