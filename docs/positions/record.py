@@ -216,3 +216,47 @@ def ask(command, text, options):
     """The lines that the program writes for the bytes of a file."""
     done = subprocess.run([gdsolve(), command, '-', *options], input=text, stdout=subprocess.PIPE)
     return done.stdout.decode().splitlines()
+
+
+# What is alive
+
+
+def lowest(point):
+    """The order of points by which the program calls one the lowest."""
+    return point[1], point[0]
+
+
+def signs(board, lines):
+    """The sign of each point by the lines of `safe`, and the regions of play, each its lowest point and its number of points.
+
+    An alive stone is X or O, a stone on a contested point x or o, an empty contested point `.`. An empty counted point is b or w, by its
+    owner, and one with a captive B or W.
+    """
+    drawn = {point: '.' for point in board.points()}
+    told = {'chain': [], 'counted': [], 'region': []}
+    for label, *words in map(str.split, lines):
+        told[label].append(words)
+    lows = []
+    for name, colour, _, number, life in told['chain']:
+        chain = board.chain(board.point(name))
+        agree(len(chain) == int(number) and board.stones[board.point(name)] == colour, name)
+        lows.append(min(chain, key=lowest))
+        for point in chain:
+            drawn[point] = SYMBOL[colour] if life == 'alive' else SYMBOL[colour].lower()
+    agree(lows == [min(chain, key=lowest) for chain in board.chains()], 'the chains')
+    for name, colour, _, number, *_ in told['counted']:
+        region = board.part(board.point(name), lambda point: board.stones.get(point) != colour)
+        agree(len(region) == int(number), name)
+        for point in region:
+            drawn[point] = colour[0].upper() if point in board.stones else colour[0]
+    regions = []
+    for name, _, number in told['region']:
+        regions.append((board.point(name), int(number)))
+        agree(len(board.part(board.point(name), lambda point: drawn[point] in '.xo')) == int(number), name)
+    return drawn, regions
+
+
+def agree(does_agree, what):
+    """Faults where this script's board isn't the one that the program has read."""
+    if not does_agree:
+        raise Fault("this script's board and that of the program differ: %s" % what)
