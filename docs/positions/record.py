@@ -1,0 +1,262 @@
+"""Records of games and boards, for the scripts beside it: SGF files read and replayed as docs/FORMATS.md says."""
+
+import os
+import pathlib
+import re
+import subprocess
+
+GTP_COLUMNS = 'ABCDEFGHJKLMNOPQRSTUVWXYZ'
+SYMBOL = {'black': 'X', 'white': 'O'}
+OTHER = {'black': 'white', 'white': 'black'}
+COLOURS = ('black', 'white')
+
+
+class Fault(Exception):
+    """What keeps a script from its answer, in words for the user."""
+
+
+# Trees
+
+
+def main_line(text):
+    """The nodes of the first tree's main line: each a list of pairs, a property's name and its values, in file order."""
+    begin = re.search(rb'\((?=[\t-\r ]*;)', text)
+    if not begin:
+        raise Fault('the file has no tree')
+    token = re.compile(rb'[\t-\r ]*(?:([();])|([A-Za-z]+)|\[((?:[^\]\\]|\\.)*)\])', re.S)
+    nodes, at, depth, is_over = [], begin.start(), 0, False
+    while True:
+        found = token.match(text, at)
+        if not found:
+            raise Fault('byte %d of the file is none that a tree goes on with' % at)
+        at = found.end()
+        sign, name, value = found.groups()
+        if sign == b'(':
+            depth += 1
+        elif sign == b')':
+            depth -= 1
+            is_over = True  # what follows the first tree to close are other variations
+            if depth == 0:
+                return nodes
+        elif is_over:
+            continue
+        elif sign == b';':
+            nodes.append([])
+        elif name is not None:
+            nodes[-1].append((''.join(c for c in name.decode() if c.isupper()), []))
+        else:
+            nodes[-1][-1][1].append(re.sub(rb'\\(.)', rb'\1', value, flags=re.S).decode('latin-1').strip())
+
+
+def first_value(node, name):
+    """The first value of the first property of this name, or None."""
+    for key, values in node:
+        if key == name:
+            return values[0]
+    return None
+
+
+# Boards
+
+
+class Board:
+    """A board: its stones are a dictionary from a point, (column, row) counted from the top left, to a colour."""
+
+    def __init__(self, columns, rows):
+        self.columns, self.rows, self.stones = columns, rows, {}
+
+    def points(self):
+        """All points, row by row from the top left, as the program numbers them."""
+        return [(x, y) for y in range(self.rows) for x in range(self.columns)]
+
+    def near(self, point):
+        x, y = point
+        around = ((x, y - 1), (x - 1, y), (x + 1, y), (x, y + 1))
+        return [(a, b) for a, b in around if 0 <= a < self.columns and 0 <= b < self.rows]
+
+    def part(self, point, holds):
+        """The connected part of the points for which `holds` is true, around a point of it."""
+        seen, todo = {point}, [point]
+        while todo:
+            for other in self.near(todo.pop()):
+                if other not in seen and holds(other):
+                    seen.add(other)
+                    todo.append(other)
+        return seen
+
+    def chain(self, point):
+        """The chain of the stone at a point; empty where there is none."""
+        if point not in self.stones:
+            return set()
+        return self.part(point, lambda other: self.stones.get(other) == self.stones[point])
+
+    def has_liberty(self, chain):
+        return any(other not in self.stones for point in chain for other in self.near(point))
+
+    def chains(self):
+        """The chains, by lowest stone."""
+        found, seen = [], set()
+        for point in self.points():
+            if point in self.stones and point not in seen:
+                found.append(self.chain(point))
+                seen |= found[-1]
+        return found
+
+    def place(self, point, colour):
+        """Places a stone, takes off what it captures, and gives the number of the stones taken."""
+        if point in self.stones:
+            raise Fault('a move at %s, where a stone stands' % self.name(point))
+        self.stones[point] = colour
+        taken = set()
+        for other in self.near(point):
+            if self.stones.get(other) == OTHER[colour] and other not in taken:
+                chain = self.chain(other)
+                if not self.has_liberty(chain):
+                    taken |= chain
+        for other in taken:
+            del self.stones[other]
+        if not self.has_liberty(self.chain(point)):
+            raise Fault('a move at %s is suicide' % self.name(point))
+        return len(taken)
+
+    # Names
+
+    def name(self, point):
+        """The name as in SGF: column, then row, from the top left."""
+        return chr(97 + point[0]) + chr(97 + point[1])
+
+    def gtp_name(self, point):
+        """The name as in GTP: A to Z without I, then the row counted from the bottom."""
+        return GTP_COLUMNS[point[0]] + str(self.rows - point[1])
+
+    def point(self, name):
+        if not re.fullmatch('[a-z][a-z]', name):
+            raise Fault('%r is no point' % name)
+        point = ord(name[0]) - 97, ord(name[1]) - 97
+        if point[0] >= self.columns or point[1] >= self.rows:
+            raise Fault('the point %s is not on the board' % name)
+        return point
+
+    def gtp_point(self, name):
+        return GTP_COLUMNS.index(name[0].upper()), self.rows - int(name[1:])
+
+    def rectangle(self, value):
+        """The points of a value of AB, AW, AE, TB or TW: one point, or a rectangle with corners in any order."""
+        if not value:
+            return []
+        corners = [self.point(name.strip()) for name in value.split(':', 1)]
+        columns = sorted(x for x, _ in corners)
+        rows = sorted(y for _, y in corners)
+        return [(x, y) for y in range(rows[0], rows[-1] + 1) for x in range(columns[0], columns[-1] + 1)]
+
+
+# Records
+
+
+class Record:
+    """The main line of a file, replayed up to `after` moves: the board, the side to move, the prisoners, and the moves
+    that were played and that come later, each a colour and a point, None for a pass."""
+
+    def __init__(self, text, after=None):
+        self.nodes = main_line(text)
+        size = first_value(self.nodes[0], 'SZ') or '19'
+        found = re.fullmatch(r'(\d\d?)(?:\s*:\s*(\d\d?))?', size)
+        if not found or not all(1 <= int(n or 1) <= 25 for n in found.groups()):
+            raise Fault('the size %r is none of 1 to 25 columns and rows' % size)
+        self.board = Board(int(found[1]), int(found[2] or found[1]))
+        self.komi = first_value(self.nodes[0], 'KM') or '0'
+        self.side = 'black'
+        self.prisoners = {'black': 0, 'white': 0}
+        self.played, self.later = [], []
+        is_over = False
+        for node in self.nodes:
+            moves = [(key, values[0]) for key, values in node if key in ('B', 'W')]
+            if moves and after is not None and len(self.played) >= after:
+                is_over = True
+            if not is_over:
+                self.set_up(node)
+            for key, value in moves:
+                colour = 'black' if key == 'B' else 'white'
+                point = None if self.is_pass(value) else self.board.point(value)
+                (self.later if is_over else self.played).append((colour, point))
+                if not is_over:
+                    if point is not None:
+                        self.prisoners[colour] += self.board.place(point, colour)
+                    self.side = OTHER[colour]
+
+    def set_up(self, node):
+        for key, values in node:
+            if key in ('AB', 'AW', 'AE'):
+                for point in [point for value in values for point in self.board.rectangle(value)]:
+                    if key == 'AE':
+                        self.board.stones.pop(point, None)
+                    else:
+                        self.board.stones[point] = 'black' if key == 'AB' else 'white'
+        side = first_value(node, 'PL')
+        if side:
+            self.side = 'black' if side[0] in 'Bb' else 'white'
+
+    def is_pass(self, value):
+        return value == '' or (value == 'tt' and self.board.columns <= 19 and self.board.rows <= 19)
+
+
+# Programs
+
+
+def gdsolve():
+    """The program: the environment's GDSOLVE, else the one that this repository builds."""
+    built = pathlib.Path(__file__).resolve().parents[2] / 'crates/gdsolve/out/gdsolve'
+    program = os.environ.get('GDSOLVE') or str(built)
+    if not os.access(program, os.X_OK):
+        raise Fault('there is no program %s: build it by ./gdsolve, or set GDSOLVE' % program)
+    return program
+
+
+def ask(command, text, options):
+    """The lines that the program writes for the bytes of a file."""
+    done = subprocess.run([gdsolve(), command, '-', *options], input=text, stdout=subprocess.PIPE)
+    return done.stdout.decode().splitlines()
+
+
+# What is alive
+
+
+def lowest(point):
+    """The order of points by which the program calls one the lowest."""
+    return point[1], point[0]
+
+
+def signs(board, lines):
+    """The sign of each point by the lines of `safe`, and the regions of play, each its lowest point and its number of points.
+
+    An alive stone is X or O, a stone on a contested point x or o, an empty contested point `.`. An empty counted point is b or w, by its
+    owner, and one with a captive B or W.
+    """
+    drawn = {point: '.' for point in board.points()}
+    told = {'chain': [], 'counted': [], 'region': []}
+    for label, *words in map(str.split, lines):
+        told[label].append(words)
+    lows = []
+    for name, colour, _, number, life in told['chain']:
+        chain = board.chain(board.point(name))
+        agree(len(chain) == int(number) and board.stones[board.point(name)] == colour, name)
+        lows.append(min(chain, key=lowest))
+        for point in chain:
+            drawn[point] = SYMBOL[colour] if life == 'alive' else SYMBOL[colour].lower()
+    agree(lows == [min(chain, key=lowest) for chain in board.chains()], 'the chains')
+    for name, colour, _, number, *_ in told['counted']:
+        region = board.part(board.point(name), lambda point: board.stones.get(point) != colour)
+        agree(len(region) == int(number), name)
+        for point in region:
+            drawn[point] = colour[0].upper() if point in board.stones else colour[0]
+    regions = []
+    for name, _, number in told['region']:
+        regions.append((board.point(name), int(number)))
+        agree(len(board.part(board.point(name), lambda point: drawn[point] in '.xo')) == int(number), name)
+    return drawn, regions
+
+
+def agree(does_agree, what):
+    """Faults where this script's board isn't the one that the program has read."""
+    if not does_agree:
+        raise Fault("this script's board and that of the program differ: %s" % what)
