@@ -1,0 +1,2 @@
+pub mod CorridorLemmas
+pub mod BoardLemmas
