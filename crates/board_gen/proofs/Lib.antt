@@ -1,0 +1,4 @@
+pub mod CorridorLemmas
+pub mod BoardLemmas
+pub mod LineLemmas
+pub mod SettledLemmas

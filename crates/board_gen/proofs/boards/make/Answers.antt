@@ -1,0 +1,5 @@
+use Rattle.board_gen.proofs.SettledLemmas.{trial_settled}
+use Rattle.board_gen.proofs.boards.make.Goals as goal
+
+pub returns-clause-settled : goal.returns-clause-settled
+returns-clause-settled c = trial_settled _ _ c.in_ok-board_of.ensures
