@@ -4,7 +4,7 @@ ghost use Rattle.std.specs.Prelude.{◌≡◌, ◌<◌, ◌≤◌, ◌^◌, IfOk
 ghost use Rattle.go_grid.specs.Chain.{IsSettled};
 
 use crate::{Limits, RegionReport, SolveError, Solved};
-use game_store::Form;
+use game_store::{Form, GameId, Store};
 use go_grid::{Board, Cell, Colour, Point, Size};
 use local_play::Steps;
 use sgf_go::Setup;
