@@ -250,16 +250,16 @@ fn has_too_many_positions<L: Ledger>(alloc: Global, blank: Blank, limits: Limits
     )
 }
 
-/// The point for which a corridor is refused for a value without a form.
-fn refused_form<L: Ledger>(alloc: Global, blank: Blank, limits: Limits) -> Option<u16>
+/// Whether a corridor is refused for a value without a form.
+fn has_no_form<L: Ledger>(alloc: Global, blank: Blank, limits: Limits) -> bool
     requires name { blank.name ≡ L.name }
     requires parts { blank.parts ≡ L.parts }
     requires some { 0 < blank.parts }
 {
-    match begin::<L>(alloc, blank, CORRIDOR, limits) {
-        Err(SolveError::Form(point)) => Some(point.0),
-        _ => None,
-    }
+    matches!(
+        begin::<L>(alloc, blank, CORRIDOR, limits),
+        Err(SolveError::Form(_))
+    )
 }
 
 /// Whether the endless region is refused for a cycle of two moves behind the first position that comes again.
@@ -296,9 +296,9 @@ fn refusals(rt: HostRuntime) {
         };
         assert!(rt; has_too_many_positions::<Brand>(alloc, Blank::new(1), limits) == refused);
     }
-    for (parts, refused) in [(1, Some(14)), (2, None)] {
+    for (parts, refused) in [(1, true), (2, false)] {
         let limits = Limits { parts, ..LIMITS };
-        assert!(rt; refused_form::<Brand>(alloc, Blank::new(1), limits) == refused);
+        assert!(rt; has_no_form::<Brand>(alloc, Blank::new(1), limits) == refused);
     }
     assert!(rt; has_a_cycle::<Brand>(alloc, Blank::new(1)));
     assert_eq!(rt; large_region::<Brand>(alloc, Blank::new(1)), Some(36));
