@@ -1,6 +1,7 @@
 -- One fill: a point is met, a point's neighbours are met, and what is met when none waits.
-use Rattle.std.proofs.Common.{◌≡◌, ◌≢◌, ℕ, ◌+◌, ◌<◌, ◌≤◌, ◌⊎◌, inl, inr, arith, refl, List, Bool, length, get_or, ◌∙◌, set, below_more, sym, subst}
+use Rattle.std.proofs.Common.{◌≡◌, ◌≢◌, ℕ, ◌+◌, ◌<◌, ◌≤◌, ◌⊎◌, inl, inr, arith, refl, List, Bool, Option, Some, None, length, get_or, ◌∙◌, set, below_more, sym, subst}
 use Rattle.std.specs.List.{Contains, count_by}
+use Rattle.std.specs.Option.{IfSome}
 use Rattle.std.proofs.lemmas.List.Elements.{Contains-get_or}
 use Rattle.std.proofs.lemmas.Bool.{cases_eq}
 use Rattle.std.proofs.lemmas.List.{get_or-set_same, get_or-set_other}
@@ -203,33 +204,7 @@ pub none_touches : (c start : ℕ) (within marks : List Bool) (w : Work)
     → ¬ ((p : ℕ) × Joined c (IsMarked within) start p × Touches c marks p)
 none_touches c start within marks w listed none t = let l = listed t.0 t.1 in none l.0 l.2 (rw (← l.3) at t.2)
 
--- what holds when those of the first `number` points that the set has are met
-pub record Entering (within : List Bool) (old w : Work) (points : List ℕ) (number : ℕ) : Type 0 where
-  pub met : (i : ℕ) → i < number → IsMarked within (get_or points i 0) → IsMarked w.marks (get_or points i 0)
-  pub kept : (p : ℕ) → IsMarked old.marks p → IsMarked w.marks p
-  pub same : (i : ℕ) → i < old.count → get_or w.points i 0 ≡ get_or old.points i 0
-  pub more : old.count ≤ w.count
-  pub counted : count_by (λ m. m) w.marks ≡ w.count
-  pub under_way : (c start from done : ℕ) (before : List Bool)
-      → ((p : ℕ) → Contains points p → IsMarked within p → Joined c (IsMarked within) start p)
-      → from ≤ old.count → done ≤ old.count → IsFilling c within before start from done old → IsFilling c within before start from done w
-
-pub entering_next : (within : List Bool) (old w v : Work) (points : List ℕ) (p n : ℕ) → Entering within old w points n
-    → n < length points → p ≡ get_or points n 0
-    → (IsMarked within p → IsMarked v.marks p) → ((q : ℕ) → IsMarked w.marks q → IsMarked v.marks q)
-    → ((i : ℕ) → i < w.count → get_or v.points i 0 ≡ get_or w.points i 0) → w.count ≤ v.count → count_by (λ m. m) v.marks ≡ v.count
-    → ((c start from done : ℕ) (before : List Bool) → (IsMarked within p → Joined c (IsMarked within) start p)
-    → from ≤ w.count → done ≤ w.count → IsFilling c within before start from done w → IsFilling c within before start from done v)
-    → Entering within old v points (n + 1)
-entering_next within old w v points p n s lt at met kept same more counted way = record {
-  met = below_more (λ i. IsMarked within (get_or points i 0) → IsMarked v.marks (get_or points i 0)) n
-      (λ i lt' h. kept (get_or points i 0) (s.met i lt' h)) (subst (λ x. IsMarked within x → IsMarked v.marks x) at met);
-  kept = λ q m. kept q (s.kept q m);
-  same = λ i lt'. let r = s.more in same i (omega (arith, r, lt')) ∙ s.same i lt';
-  more = omega (arith, more, s.more);
-  counted = counted;
-  under_way = λ c start from done before j lf ld f.
-      let r = s.more in
-      way c start from done before (λ h. j p (subst (Contains points) (sym at) (Contains-get_or points n 0 lt)) h)
-      (omega (arith, lf, r)) (omega (arith, ld, r)) (s.under_way c start from done before j lf ld f);
-}
+-- what holds of the value, if there is one
+pub if_some : (o : Option ℕ) (P : ℕ → Type 0) → ((q : ℕ) → o ≡ Some q → P q) → IfSome o P
+if_some None P h = cc
+if_some (Some q) P h = h q refl

@@ -1,6 +1,7 @@
 -- The work of a fill: the points that it has met, marked and in a list.
-use Rattle.std.specs.Prelude.{◌≡◌, ℕ, ◌<◌, ◌≤◌, ◌⊎◌, List, Bool, slice_index, count_by}
+use Rattle.std.specs.Prelude.{◌≡◌, ℕ, ◌<◌, ◌≤◌, ◌⊎◌, List, Bool, Some, slice_index, count_by}
 use Rattle.go_grid.specs.declared.filling.Work.{Work}
+use Rattle.go_grid.specs.declared.nearby.Near.{Near}
 use Rattle.go_grid.specs.Grid.{NextTo}
 use Rattle.go_grid.specs.Walk.{Joined}
 use Rattle.go_grid.specs.Marks.{IsMarked, IsClosed}
@@ -27,3 +28,7 @@ pub record IsFilling (columns : ℕ) (within before : List Bool) (start from don
   pub met : (p : ℕ) → IsMarked w.marks p → IsMarked before p ⊎ (Joined columns (IsMarked within) start p × IsListed from w p)
   pub earlier : (i : ℕ) → from ≤ i → i < w.count → Joined columns (IsMarked within) start (slice_index w.points i)
   pub spread : (p q : ℕ) → IsMarked w.marks p → ¬ IsListed done w p → NextTo columns p q → IsMarked within q → IsMarked w.marks q
+
+-- one of the four
+abbrev pub IsNear : Near → ℕ → Type 0
+IsNear near q = (near.up ≡ Some q) ⊎ ((near.left ≡ Some q) ⊎ ((near.right ≡ Some q) ⊎ (near.down ≡ Some q)))

@@ -1,12 +1,12 @@
 //! Walks over a set of points, by marks.
 
-ghost use Rattle.std.specs.Prelude.{◌≡◌, ℕ, ◌+◌, ◌-◌, ◌*◌, ◌<◌, ◌≤◌, ◌↔◌, ◌⊎◌, Bool, true, false, All, Contains, count_by, replicate, List, slice_index};
+ghost use Rattle.std.specs.Prelude.{◌≡◌, ℕ, ◌+◌, ◌-◌, ◌*◌, ◌<◌, ◌≤◌, ◌↔◌, ◌⊎◌, Bool, true, false, IfSome, Some, count_by, replicate, List, slice_index};
 ghost use Rattle.go_grid.specs.Walk.{Joined};
 ghost use Rattle.go_grid.specs.Marks.{IsMarked, Touches, IsWithin, Marks};
-ghost use Rattle.go_grid.specs.Work.{IsListed, IsFilled, IsFilling};
+ghost use Rattle.go_grid.specs.Work.{IsListed, IsFilled, IsFilling, IsNear};
 
 use crate::grid::{Point, Size};
-use crate::nearby::NearPoints;
+use crate::nearby::{Near, neighbours};
 use crate::points::Points;
 
 /// Point 0 for each point of the largest board.
@@ -16,20 +16,29 @@ pub(crate) fn zeroes() -> [Point; 625]
     [Point(0); 625]
 }
 
+/// Whether the point is there, and in the set.
+fn has(points: &Points, point: Option<Point>) -> bool
+    requires { IfSome point (λ p. p < 625) }
+    ensures { (result ≡ true) ↔ ((p : ℕ) × (point ≡ Some p) × IsMarked points.now p) }
+{
+    match point {
+        Some(p) => points.contains(p),
+        None => false,
+    }
+}
+
 /// Whether some neighbour of the point is in the set.
+#[tactic(auto, using(crate::proofs::GridLemmas::area_most))]
 pub fn touches(size: Size, points: &Points, point: Point) -> bool
     requires on_board { point < size.columns * size.rows }
     requires inside { IsWithin (size.columns * size.rows) points.now }
     ensures { (result ≡ true) ↔ Touches size.columns points.now point }
 {
-    let mut around = NearPoints::new();
-    around.look_around(size, point);
-    for near in around.as_slice() {
-        if points.contains(*near) {
-            return true;
-        }
-    }
-    false
+    let near = neighbours(size, point);
+    has(points, near.up)
+        || has(points, near.left)
+        || has(points, near.right)
+        || has(points, near.down)
 }
 
 /// The points that a fill has met, by marks and in the order in which it met them.
@@ -75,23 +84,44 @@ fn enter(within: &Points, work: &mut Work, point: Point)
     }
 }
 
-/// Meets those of the points that the set has.
-fn enter_all(within: &Points, work: &mut Work, points: &[Point])
-    requires inside { All (λ p. p < 625) points.now }
+/// Meets the point, if it is there, the set has it and it wasn't met.
+fn meet(within: &Points, work: &mut Work, point: Option<Point>)
+    requires inside { IfSome point (λ p. p < 625) }
     requires counted { count_by (λ m. m) work.old.marks ≡ work.old.count }
-    ensures met { (p : ℕ) → Contains points.now p → IsMarked within.now p → IsMarked work.new.marks p }
+    ensures met { (p : ℕ) → point ≡ Some p → IsMarked within.now p → IsMarked work.new.marks p }
     ensures kept { (p : ℕ) → IsMarked work.old.marks p → IsMarked work.new.marks p }
     ensures same { (i : ℕ) → i < work.old.count → slice_index work.new.points i ≡ slice_index work.old.points i }
     ensures more { work.old.count ≤ work.new.count }
+    ensures counted { count_by (λ m. m) work.new.marks ≡ work.new.count }
     ensures under_way { (columns start from done : ℕ) (before : List Bool)
-        → ((p : ℕ) → Contains points.now p → IsMarked within.now p → Joined columns (IsMarked within.now) start p)
+        → ((p : ℕ) → point ≡ Some p → IsMarked within.now p → Joined columns (IsMarked within.now) start p)
         → from ≤ work.old.count → done ≤ work.old.count
         → IsFilling columns within.now before start from done work.old
         → IsFilling columns within.now before start from done work.new }
 {
-    for point in points {
-        enter(within, work, *point);
+    if let Some(p) = point {
+        enter(within, work, p);
     }
+}
+
+/// Meets the points next to a point.
+fn meet_around(within: &Points, work: &mut Work, near: Near)
+    requires inside { (q : ℕ) → IsNear near q → q < 625 }
+    requires counted { count_by (λ m. m) work.old.marks ≡ work.old.count }
+    ensures met { (p : ℕ) → IsNear near p → IsMarked within.now p → IsMarked work.new.marks p }
+    ensures kept { (p : ℕ) → IsMarked work.old.marks p → IsMarked work.new.marks p }
+    ensures same { (i : ℕ) → i < work.old.count → slice_index work.new.points i ≡ slice_index work.old.points i }
+    ensures more { work.old.count ≤ work.new.count }
+    ensures under_way { (columns start from done : ℕ) (before : List Bool)
+        → ((p : ℕ) → IsNear near p → IsMarked within.now p → Joined columns (IsMarked within.now) start p)
+        → from ≤ work.old.count → done ≤ work.old.count
+        → IsFilling columns within.now before start from done work.old
+        → IsFilling columns within.now before start from done work.new }
+{
+    meet(within, work, near.up);
+    meet(within, work, near.left);
+    meet(within, work, near.right);
+    meet(within, work, near.down);
 }
 
 /// Meets all points that walks over `within` join to `start`, each of them once.
@@ -106,11 +136,10 @@ pub(crate) fn spread(size: Size, within: &Points, work: &mut Work, start: Point)
     ensures listed { (p : ℕ) → Joined size.columns (IsMarked within.now) start p ↔ IsListed work.old.count work.new p }
 {
     let mut done = work.count;
-    let mut around = NearPoints::new();
     enter(within, work, start);
     'spreading: while done < work.count {
-        around.look_around(size, work.points[usize::from(done)]);
-        enter_all(within, work, around.as_slice());
+        let near = neighbours(size, work.points[usize::from(done)]);
+        meet_around(within, work, near);
         done += 1;
     }
 }

@@ -9,3 +9,4 @@ pub mod PathLemmas
 pub mod SearchLemmas
 pub mod BuildLemmas
 pub mod DrawnLemmas
+pub mod ReturnLemmas

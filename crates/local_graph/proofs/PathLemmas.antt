@@ -10,7 +10,7 @@ use Rattle.local_graph.specs.declared.graph.Edge.{Edge}
 use Rattle.local_graph.specs.declared.search.Frame.{Frame}
 use Rattle.local_graph.specs.declared.search.Visit.{Visit}
 use Rattle.local_graph.specs.declared.search.Visit.TheVariants.{Placed}
-use Rattle.local_graph.specs.Built.{Follows, ComesBack, IsEdgeAt, move_of}
+use Rattle.local_graph.specs.Built.{Follows, ComesBack, IsEdgeAt, IsRooted, move_of}
 use Rattle.local_graph.specs.Nodes.{edges_at, no_edge, edge_at}
 use Rattle.local_graph.specs.Searching.{visit_at, nodes_of, Trail, IsPath, Returns}
 
@@ -140,3 +140,7 @@ pub look_more : (path : List Frame) (node place : ℕ) (d : Frame) → Contains 
 look_more path node place d there none apart =
     below_more (λ k. get_or (nodes_of path) k 0 ≢ node) place none
     (λ e. apart (sym (get_or-map (λ f. f.node) path place d 0 (look_on path node place there none)) ∙ e))
+
+-- an edge of a node leads to a node
+pub next_inside : (E : List (List Edge)) (i k : ℕ) → IsRooted E → k < length (edges_at E i) → (edge_at E i k).next < length E
+next_inside E i k r lt = r.inside i (edge_at E i k) (Contains-get_or (edges_at E i) k no_edge lt)

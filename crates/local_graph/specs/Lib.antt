@@ -5,3 +5,5 @@ pub mod Found
 pub mod Built
 pub mod SearchedFor
 pub mod Searching
+pub mod Components
+pub mod Breadth

@@ -91,7 +91,7 @@ fn edges_of(
 }
 
 /// All positions that are reachable, and their moves.
-fn explore<L: Ledger>(
+pub(crate) fn explore<L: Ledger>(
     alloc: Global,
     region: &Region,
     limit: u32,

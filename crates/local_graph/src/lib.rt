@@ -2,13 +2,18 @@
 //! or a cycle.
 #![tactic(auto)]
 
+mod breadth;
 mod building;
+mod components;
 mod cycle;
+#[cfg(test)]
+mod cycle_tests;
 #[cfg(test)]
 mod drawn;
 mod edge_lists;
 mod graph;
 mod laws;
+mod returning;
 mod search;
 #[cfg(test)]
 mod tests;

@@ -9,6 +9,7 @@ ghost use Rattle.local_graph.specs.declared.search.Visit.TheVariants.{OnPath, Pl
 
 use crate::cycle::{CycleList, CycleMove};
 use crate::edge_lists::EdgeLists;
+use crate::returning::soonest_cycle;
 use std::alloc::{AllocError, Global};
 
 /// What the search knows of a position.
@@ -178,7 +179,7 @@ fn moves_along(
 }
 
 /// The cycle of a path that returns to a position on it.
-fn cycle_of(
+pub(crate) fn cycle_of(
     alloc: Global,
     edges: &EdgeLists,
     path: &[Frame],
@@ -201,7 +202,7 @@ pub fn search_from_opening(alloc: Global, edges: &EdgeLists) -> Result<Searched,
     'searching: loop {
         match search.step(edges)? {
             Progress::Forward => {}
-            Progress::Back(node) => return cycle_of(alloc, edges, &search.path, node),
+            Progress::Back(node) => return soonest_cycle(alloc, edges, &search.path, node),
             Progress::Done => return Ok(Searched::Order(search.order)),
         }
     }

@@ -23,16 +23,15 @@ spreading-preserved c =
     let from = c.args.work.now.count in
     let in' = c.args.within.now in
     let s = c.spreading.invariant in
-    let e = c.enter_all.ensures in
+    let e = c.meet_around.ensures in
     let lt : i < length c.spreading.work.points = search rules in
-    let near = rw (c.from.ensures, get_or_default c.spreading.work.points i c.index-work-from.result 0 lt, ← c.as_slice.ensures)
-    at c.look_around.ensures.around in
+    let near = rw (c.from.ensures, get_or_default c.spreading.work.points i c.index-work-from.result 0 lt) at c.neighbours-near.ensures.near.next in
     record {
-      filling = filling_next k c.args.start from i in' c.args.work.now.marks c.enter_all.new.work
+      filling = filling_next k c.args.start from i in' c.args.work.now.marks c.meet_around.new.work
           (e.under_way k c.args.start from i c.args.work.now.marks
-          (λ p h on. joined_step k (IsMarked in') c.args.start _ p (s.filling.earlier i s.begun c.spreading-test.true) ((near p).0 h).1 on)
+          (λ p h on. joined_step k (IsMarked in') c.args.start _ p (s.filling.earlier i s.begun c.spreading-test.true) ((near p).1 h).1 on)
           (omega arith) (omega arith) s.filling)
-          (λ q next on. e.met q ((near q).1 (c.requires.within q on, rw (e.same i (omega arith)) at next)) on);
+          (λ q next on. e.met q ((near q).0 (c.requires.within q on, rw (e.same i (omega arith)) at next)) on);
       first = e.kept c.args.start s.first;
       begun = omega arith;
       reached = omega arith;

@@ -1,0 +1,5 @@
+use Rattle.local_graph.specs.Breadth.{IsReady}
+use Rattle.local_graph.proofs.breadth.Breadth.follow.Given as goal
+
+abbrev pub invariant-following : goal.invariant-following
+invariant-following l = IsReady l.edges l.self

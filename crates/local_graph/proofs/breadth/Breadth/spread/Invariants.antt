@@ -1,0 +1,5 @@
+use Rattle.local_graph.specs.Breadth.{IsReady}
+use Rattle.local_graph.proofs.breadth.Breadth.spread.Given as goal
+
+abbrev pub invariant-spreading : goal.invariant-spreading
+invariant-spreading l = IsReady l.edges l.self
