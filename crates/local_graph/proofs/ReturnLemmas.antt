@@ -1,7 +1,7 @@
 -- Whether a path returns, by a look along it.
-use Rattle.std.proofs.Common.{◌≡◌, ◌≢◌, ℕ, ◌+◌, ◌<◌, arith, refl, sym, ap, ◌∙◌, List, [], ◌∷◌, ◌++◌, map, length, get_or, take, subst, below_more}
+use Rattle.std.proofs.Common.{◌≡◌, ◌≢◌, ℕ, ◌+◌, ◌<◌, arith, sym, ◌∙◌, List, [], ◌∷◌, ◌++◌, length, get_or, take, subst, below_more}
 use Rattle.std.specs.List.{AllPairs, Contains}
-use Rattle.std.proofs.lemmas.List.{length-map, get_or-map, get_or_default, take_more, take_all, map-append}
+use Rattle.std.proofs.lemmas.List.{length-map, get_or-map, get_or_default, take_more, map-append}
 use Rattle.std.proofs.lemmas.List.Elements.{Contains-get_or}
 use Rattle.std.proofs.lemmas.List.Quantifiers.{all_pairs_push}
 use Rattle.local_graph.specs.declared.graph.Edge.{Edge}
