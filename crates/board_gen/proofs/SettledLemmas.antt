@@ -51,25 +51,25 @@ drawn_owner colour.White letter x e is =
       | inr other ↦ absurd (false≢true other)
     ]
 
-drawn_empty : (held : Cell) → IsDrawnBy 46 held → held ≡ cell.Empty
+pub drawn_empty : (held : Cell) → IsDrawnBy 46 held → held ≡ cell.Empty
 drawn_empty cell.Empty is = refl
 drawn_empty cell.Black is = absurd (omega (arith, is))
 drawn_empty cell.White is = absurd (omega (arith, is))
 
 -- ---- columns
 
-owner_of : (x : ℕ) → (c : Colour) × IsOwner x c
+pub owner_of : (x : ℕ) → (c : Colour) × IsOwner x c
 owner_of x = elim (cases_lt x 8) [
   | inl low ↦ (colour.Black, inl low)
   | inr least ↦ elim (cases_lt x 16) [ inl most ↦ (colour.White, (least, most)) | inr high ↦ (colour.Black, inr high) ]
 ]
 
 -- a column of the owner's without corridors, which ends at an empty point
-record IsSpine (c : Colour) (s : ℕ) : Type 0 where
-  inside : s < 25
-  owner : IsOwner s c
-  clear : (x j p : ℕ) → p % 25 ≡ s → ¬ IsInCorridor x j p
-  open_end : slice_index last_row s ≡ 46
+pub record IsSpine (c : Colour) (s : ℕ) : Type 0 where
+  pub inside : s < 25
+  pub owner : IsOwner s c
+  pub clear : (x j p : ℕ) → p % 25 ≡ s → ¬ IsInCorridor x j p
+  pub open_end : slice_index last_row s ≡ 46
 
 -- a corridor's columns are near the border
 near_border : (c : Colour) (j k s : ℕ) → k < 4 → IsCorridorColumn c j k s → ((5 ≤ s) × (s < 11)) ⊎ ((13 ≤ s) × (s < 19))
@@ -78,7 +78,7 @@ near_border colour.Black j k s short (inr h) = inr (omega (arith, h.1), omega (a
 near_border colour.White j k s short (inl h) = inl (omega (arith, h.1), omega (arith, short, h.2))
 near_border colour.White j k s short (inr h) = inr (omega (arith, short, h.1), omega (arith, h.2))
 
-spine : (c : Colour) (s : ℕ) → s < 25 → IsOwner s c → (5 ≤ s → 11 ≤ s) × (13 ≤ s → 19 ≤ s) → slice_index last_row s ≡ 46 → IsSpine c s
+pub spine : (c : Colour) (s : ℕ) → s < 25 → IsOwner s c → (5 ≤ s → 11 ≤ s) × (13 ≤ s → 19 ≤ s) → slice_index last_row s ≡ 46 → IsSpine c s
 spine c s inside owner far end = record {
   inside = inside;
   owner = owner;
@@ -92,10 +92,10 @@ spine c s inside owner far end = record {
 }
 
 -- the columns between the two are the owner's
-abbrev OwnsBetween : Colour → ℕ → ℕ → Type 0
+abbrev pub OwnsBetween : Colour → ℕ → ℕ → Type 0
 OwnsBetween c x s = (k : ℕ) → x ≤ k → k ≤ s → IsOwner k c
 
-spine_of : (c : Colour) (x : ℕ) → x < 25 → IsOwner x c → (s : ℕ) × IsSpine c s × (((x ≤ s) × OwnsBetween c x s) ⊎ ((s ≤ x) × OwnsBetween c s x))
+unfoldable pub spine_of : (c : Colour) (x : ℕ) → x < 25 → IsOwner x c → (s : ℕ) × IsSpine c s × (((x ≤ s) × OwnsBetween c x s) ⊎ ((s ≤ x) × OwnsBetween c s x))
 spine_of colour.Black x lt (inl low) =
     (0, spine colour.Black 0 (omega arith) (inl (omega arith)) (λ h. omega (arith, h), λ h. omega (arith, h)) refl, inr (omega arith, λ k _ le. inl (omega (arith, le, low))))
 spine_of colour.Black x lt (inr high) = (
@@ -117,7 +117,7 @@ spine_of colour.White x lt own = (
 
 module _ (number : ℕ) (g : Grid) (board : IsTrialBoard number g) where
   -- a stone is its column's owner's
-  stone_owner : (c : Colour) (p : ℕ) → HasStone g c p → IsOwner (p % 25) c
+  pub stone_owner : (c : Colour) (p : ℕ) → HasStone g c p → IsOwner (p % 25) c
   stone_owner c p h =
       let inside : p < 625 = omega (arith, h.0, board.full) in
       let is = board.each p inside in
@@ -137,7 +137,7 @@ module _ (number : ℕ) (g : Grid) (board : IsTrialBoard number g) where
       no_stone colour.White e = cc
 
   -- a point of an owner's column that is in no corridor
-  wall_stone : (c : Colour) (r x : ℕ) → r < 24 → x < 25 → IsOwner x c → ¬ IsInSomeCorridor number (r * 25 + x) → HasStone g c (r * 25 + x)
+  pub wall_stone : (c : Colour) (r x : ℕ) → r < 24 → x < 25 → IsOwner x c → ¬ IsInSomeCorridor number (r * 25 + x) → HasStone g c (r * 25 + x)
   wall_stone c r x low lt own out =
       let inside : r * 25 + x < 625 = omega (arith, low, lt) in (
         omega (arith, inside, board.full),
@@ -145,7 +145,7 @@ module _ (number : ℕ) (g : Grid) (board : IsTrialBoard number g) where
       )
 
   -- the rows between those of the corridors
-  row_stone : (c : Colour) (r x : ℕ) → r < 24 → r % 3 ≢ 1 → x < 25 → IsOwner x c → HasStone g c (r * 25 + x)
+  pub row_stone : (c : Colour) (r x : ℕ) → r < 24 → r % 3 ≢ 1 → x < 25 → IsOwner x c → HasStone g c (r * 25 + x)
   row_stone c r x low apart lt own = wall_stone c r x low lt own
       (λ i. let row : r ≡ 3 * ((i.0 - 1) / 2) + 1 = sym (div-mul-add r 25 x lt) ∙ i.3.row in apart (omega (arith, row)))
 
@@ -153,7 +153,7 @@ module _ (number : ℕ) (g : Grid) (board : IsTrialBoard number g) where
   spine_stone c r s low is = wall_stone c r s low is.inside is.owner (λ i. is.clear (draw number i.0) i.0 (r * 25 + s) (mod-mul-add r 25 s is.inside) i.3)
 
   -- a stone of a row between corridors reaches the end of a spine
-  from_row : (c : Colour) (r x s : ℕ) → r < 24 → r % 3 ≢ 1 → x < 25 → IsSpine c s
+  pub from_row : (c : Colour) (r x s : ℕ) → r < 24 → r % 3 ≢ 1 → x < 25 → IsSpine c s
       → ((x ≤ s) × OwnsBetween c x s) ⊎ ((s ≤ x) × OwnsBetween c s x) → Joined 25 (HasStone g c) (r * 25 + x) (23 * 25 + s)
   from_row c r x s low apart lt is side =
       joined_join 25 (HasStone g c) (r * 25 + x) (r * 25 + s) (23 * 25 + s) (across side) (down_column (HasStone g c) r s low (λ k less. spine_stone c k s less is))
@@ -164,7 +164,7 @@ module _ (number : ℕ) (g : Grid) (board : IsTrialBoard number g) where
           (along_row (HasStone g c) r s x h.0 lt (λ k least most. row_stone c r k low apart (omega (arith, most, lt)) (h.1 k least most)))
 
   -- a stone is in a row between corridors, or below one
-  reaches_row : (c : Colour) (p : ℕ) → HasStone g c p → IsOwner (p % 25) c
+  pub reaches_row : (c : Colour) (p : ℕ) → HasStone g c p → IsOwner (p % 25) c
       → (r : ℕ) × (r < 24) × (r % 3 ≢ 1) × Joined 25 (HasStone g c) p (r * 25 + p % 25)
   reaches_row c p h own =
       elim (cases_lt (p / 25) 24) [

@@ -1,2 +1,3 @@
 pub mod Trial
 pub mod Corridor
+pub mod Short

@@ -6,6 +6,7 @@ ghost use Rattle.go_grid.specs.declared.grid.Colour.TheVariants.{Black};
 ghost use Rattle.go_grid.specs.Chain.{IsSettled};
 ghost use Rattle.go_grid.specs.Grid.{stone};
 ghost use Rattle.board_gen.specs.Corridor.{AreCorridors};
+ghost use Rattle.board_gen.specs.Short.{HasShortRegions};
 ghost use Rattle.board_gen.specs.Trial.{IsDrawnBy, IsOwner, IsTrialBoard, IsTrialCell};
 
 use crate::corridors::{COLUMNS, Corridor, corridors_of, is_in_corridor};
@@ -68,10 +69,12 @@ fn board_of(alloc: Global, number: u32) -> Result<Board, AllocError>
     Ok(board)
 }
 
-/// The position that the number draws: Black moves first, without prisoners or komi.
+/// The position that the number draws: Black moves first, without prisoners or komi. Each region of play is a short
+/// corridor.
 pub fn make(alloc: Global, number: u32) -> Result<Setup, AllocError>
     ensures board { IfOk result (λ setup. IsTrialBoard number setup.board) }
     ensures settled { IfOk result (λ setup. IsSettled setup.board) }
+    ensures short { IfOk result (λ setup. HasShortRegions setup.board) }
     ensures plain { IfOk result (λ setup. (setup.side ≡ Black) × (setup.komi_halves ≡ pos 0)
         × (setup.black_prisoners ≡ 0) × (setup.white_prisoners ≡ 0)) }
 {

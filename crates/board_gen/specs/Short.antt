@@ -1,0 +1,17 @@
+-- Regions that are quickly played out.
+use Rattle.std.specs.Prelude.{◌≤◌, List, length, Contains}
+use Rattle.go_grid.specs.Grid.{Grid}
+use Rattle.go_grid.specs.Region.{Shape}
+use Rattle.local_graph.specs.FiniteLocalPlay.{HasNoCycle}
+use Rattle.local_graph.specs.LocalGraph.{MoreThan}
+use Rattle.region_cut.specs.Cut.{AreRegionsOfPlay}
+
+-- the region has at most 3 points, at most 27 reachable positions, and no cycle
+pub record IsShort (r : Shape) : Type 0 where
+  pub points : length r.points ≤ 3
+  pub positions : ¬ MoreThan r.touch r.cells 27
+  pub no_cycle : HasNoCycle r.touch r.cells
+
+-- each region of play of the board is such
+abbrev pub HasShortRegions : Grid → Type 0
+HasShortRegions g = (regions : List Shape) → AreRegionsOfPlay g regions → (r : Shape) → Contains regions r → IsShort r
