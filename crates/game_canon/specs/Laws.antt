@@ -5,6 +5,7 @@ use Rattle.game_store.specs.Order.{◌≤ᵍ◌, ◌≡ᵍ◌}
 use Rattle.game_store.specs.Sum.{◌+ᵍ◌, each_plus, total}
 use Rattle.game_store.specs.Number.{num, IsNumberTree}
 use Rattle.game_store.specs.Moves.{LeftMoves, RightMoves, LeftWins, RightWins}
+use Rattle.game_store.specs.Parts.{IsFollower, IsOption}
 use Rattle.game_store.specs.Stops.{IsLeftStop, IsRightStop}
 use Rattle.game_store.specs.TextOrder.{tree_text, IsCanonicalTree, IsCanonicalFor}
 use Rattle.game_store.specs.Laws.{NoneBeats}
@@ -66,6 +67,11 @@ TextsTellGames = (G H : Tree) → IsCanonicalTree G → IsCanonicalTree H → (t
 -- each tree has exactly one canonical tree that is equal to it
 abbrev pub EachHasCanonical : Type 0
 EachHasCanonical = (G : Tree) → (C : Tree) × IsCanonicalFor G C × ((D : Tree) → IsCanonicalFor G D → C ≡ D)
+
+-- Where the options of a tree are canonical, those of its canonical tree are followers of them
+abbrev pub OptionsAreFollowers : Type 0
+OptionsAreFollowers = (G C : Tree) → ((X : Tree) → IsOption G X → IsCanonicalTree X) → IsCanonicalFor G C
+    → (X : Tree) → IsOption C X → (L : Tree) × IsOption G L × IsFollower L X
 
 -- the incentive of an option G' of G is G' - G
 abbrev pub incentive : Tree → Tree → Tree

@@ -1,6 +1,6 @@
 //! Laws of games, each the contract of a function that does nothing.
 
-ghost use Rattle.game_canon.specs.Laws.{OrderIs, IsReflexive, IsTransitive, SumsKeepOrder, CancelsNegative, LeftAvoidsNumbers, RightAvoidsNumbers, NumbersTranslate, IsUnderLeftStop, IsOverRightStop, StopsAreOrdered, TextsAreOneToOne, TextsTellGames, EachHasCanonical, IncentiveDominates, IncentiveDominatesBack};
+ghost use Rattle.game_canon.specs.Laws.{OrderIs, IsReflexive, IsTransitive, SumsKeepOrder, CancelsNegative, LeftAvoidsNumbers, RightAvoidsNumbers, NumbersTranslate, IsUnderLeftStop, IsOverRightStop, StopsAreOrdered, TextsAreOneToOne, TextsTellGames, EachHasCanonical, OptionsAreFollowers, IncentiveDominates, IncentiveDominatesBack};
 
 /// The order of games is a preorder that sums keep, and each game cancels its negative (Conway).
 pub fn order_laws()
@@ -35,9 +35,10 @@ pub fn text_law()
     ensures games { TextsTellGames }
 {}
 
-/// Each game has exactly one canonical form (Conway).
+/// Each game has exactly one canonical form (Conway). It is made of followers of the options' canonical forms.
 pub fn canonical_law()
-    ensures { EachHasCanonical }
+    ensures one { EachHasCanonical }
+    ensures followers { OptionsAreFollowers }
 {}
 
 /// Dominated incentives: the incentive of one game's option is at least that of another game's option exactly where to

@@ -4,6 +4,8 @@ use Rattle.std.proofs.lemmas.Bool.{cases_Bool, true≢false}
 use Rattle.game_store.specs.Tree.{Tree, Trees, node, none, more, left, right, Has, size, sizes, no_one, ◌then◌}
 use Rattle.game_store.specs.Order.{le, ◌≤ᵍ◌}
 use Rattle.game_store.specs.Canonical.{Ascends, IsCanonical, AreCanonical}
+use Rattle.game_store.specs.Parts.{IsFollower, IsOption}
+use Rattle.game_store.specs.Parts.IsFollower.{itself, further}
 use Rattle.game_store.proofs.OrderLaws.{le-out, le-in, le-refl, le-trans, size-left, size-right, size-node, no_one-has}
 use Rattle.game_store.proofs.SumLaws.{not_le_left, not_right_le, then-has, has-then_left, has-then_right}
 use Rattle.game_store.proofs.CanonicalLaws.{some_one}
@@ -11,7 +13,8 @@ use Rattle.game_store.proofs.FormLaws.{by_better, all-canonical}
 
 -- for one side: `near` has a side's options, `far` the other side's, and ans G R says that R is a good enough answer in G
 module _ (Before : Tree → Tree → Type 0) (near far : Tree → Trees) (ans : Tree → Tree → Bool) (near-size : (G : Tree) → sizes (near G) < size G) (far-size : (G R : Tree) → Has (far G) R → size R < size G)
-    (near-canonical : (G : Tree) → IsCanonical Before G → AreCanonical Before (near G)) (far-canonical : (G R : Tree) → IsCanonical Before G → Has (far G) R → IsCanonical Before R) where
+    (near-canonical : (G : Tree) → IsCanonical Before G → AreCanonical Before (near G)) (far-canonical : (G R : Tree) → IsCanonical Before G → Has (far G) R → IsCanonical Before R)
+    (near-option : (G X : Tree) → Has (near G) X → IsOption G X) (far-option : (G X : Tree) → Has (far G) X → IsOption G X) where
   -- X can be answered
   abbrev IsAnswered : Tree → Tree → Type 0
   IsAnswered G X = (R : Tree) × Has (far X) R × (ans G R ≡ true)
@@ -20,6 +23,7 @@ module _ (Before : Tree → Tree → Type 0) (near far : Tree → Trees) (ans : 
   record Bypassed (G : Tree) (Ls Ms : Trees) : Type 0 where
     kept : (X : Tree) → Has Ls X → Has Ms X ⊎ ((R : Tree) × Has (far X) R × (ans G R ≡ true) × ((Y : Tree) → Has (near R) Y → Has Ms Y))
     from : (X : Tree) → Has Ms X → Has Ls X ⊎ ((R : Tree) × (ans G R ≡ true) × Has (near R) X)
+    under : (X : Tree) → Has Ms X → (L : Tree) × Has Ls L × IsFollower L X
     smaller : sizes Ms ≤ sizes Ls
     done : (sizes Ms < sizes Ls) ⊎ ((X : Tree) → Has Ls X → IsAnswered G X → ⊥)
     canonical : AreCanonical Before Ms
@@ -43,6 +47,10 @@ module _ (Before : Tree → Tree → Type 0) (near far : Tree → Trees) (ans : 
     record {
       kept = λ X h. elim h [ inl i ↦ inl (inl i) | inr x ↦ elim (r.1.kept X x) [ inl y ↦ inl (inr y) | inr w ↦ inr (w.0, w.1, w.2, λ Y y. inr (w.3 Y y)) ] ];
       from = λ X h. elim h [ inl i ↦ inl (inl i) | inr x ↦ elim (r.1.from X x) [ inl y ↦ inl (inr y) | inr w ↦ inr w ] ];
+      under = λ X h. elim h [
+        | inl i ↦ (L, inl refl, subst (IsFollower L) (sym i) (itself L))
+        | inr x ↦ (let w = r.1.under X x in (w.0, inr w.1, w.2))
+      ];
       smaller = omega (arith, sizes-more L Ls, sizes-more L r.0, r.1.smaller);
       done = elim r.1.done [
         | inl l ↦ inl (omega (arith, sizes-more L Ls, sizes-more L r.0, l))
@@ -62,6 +70,10 @@ module _ (Before : Tree → Tree → Type 0) (near far : Tree → Trees) (ans : 
             | inr x ↦ elim (r.1.kept X x) [ inl y ↦ inl (has-then_right (near a.0) r.0 X y) | inr w ↦ inr (w.0, w.1, w.2, λ Y y. has-then_right (near a.0) r.0 Y (w.3 Y y)) ]
           ];
           from = λ X h. elim (then-has (near a.0) r.0 X h) [ inl y ↦ inr (a.0, a.2, y) | inr x ↦ elim (r.1.from X x) [ inl y ↦ inl (inr y) | inr w ↦ inr w ] ];
+          under = λ X h. elim (then-has (near a.0) r.0 X h) [
+            | inl y ↦ (L, inl refl, further L a.0 X (far-option L a.0 a.1) (further a.0 X X (near-option a.0 X y) (itself X)))
+            | inr x ↦ (let w = r.1.under X x in (w.0, inr w.1, w.2))
+          ];
           smaller = omega (arith, sizes-more L Ls, sizes-then (near a.0) r.0, r.1.smaller, near-size a.0, far-size L a.0 a.1);
           done = inl (omega (arith, sizes-more L Ls, sizes-then (near a.0) r.0, r.1.smaller, near-size a.0, far-size L a.0 a.1));
           canonical = both-canonical (near a.0) r.0 (near-canonical a.0 (far-canonical L a.0 c a.1)) r.1.canonical;
@@ -69,7 +81,7 @@ module _ (Before : Tree → Tree → Type 0) (near far : Tree → Trees) (ans : 
       )
 
   bypass : (G : Tree) (Ls : Trees) → AreCanonical Before Ls → (Ms : Trees) × Bypassed G Ls Ms
-  bypass G none c = (none, record { kept = λ X h. absurd h; from = λ X h. absurd h; smaller = omega arith; done = inr (λ X h. absurd h); canonical = tt })
+  bypass G none c = (none, record { kept = λ X h. absurd h; from = λ X h. absurd h; under = λ X h. absurd h; smaller = omega arith; done = inr (λ X h. absurd h); canonical = tt })
   bypass G (more L Ls) c = extend G L Ls c.0 (bypass G Ls c.1) (no_one (λ R. ans G R) (far L)) refl
 
 -- the greatest of a list by a preorder
@@ -209,10 +221,10 @@ module _ (Before : Tree → Tree → Type 0) (total : (G H : Tree) → Before G 
   at-canonical (more K Ks) X c (inr h) = at-canonical Ks X c.1 h
 
   abbrev ByLeft : Tree → Trees → Trees → Type 0
-  ByLeft = Bypassed Before left right (λ G R. le R G) left-size size-right left-canonical (λ G R c h. at-canonical (right G) R (right-canonical G c) h)
+  ByLeft = Bypassed Before left right (λ G R. le R G) left-size size-right left-canonical (λ G R c h. at-canonical (right G) R (right-canonical G c) h) (λ G X h. inl h) (λ G X h. inr h)
 
   abbrev ByRight : Tree → Trees → Trees → Type 0
-  ByRight = Bypassed Before right left (λ G L. le G L) right-size size-left right-canonical (λ G L c h. at-canonical (left G) L (left-canonical G c) h)
+  ByRight = Bypassed Before right left (λ G L. le G L) right-size size-left right-canonical (λ G L c h. at-canonical (left G) L (left-canonical G c) h) (λ G X h. inr h) (λ G X h. inl h)
 
   bypass-equal : (ls rs Ms : Trees) → ByLeft (node ls rs) ls Ms → (node ls rs ≤ᵍ node Ms rs) × (node Ms rs ≤ᵍ node ls rs)
   bypass-equal ls rs Ms b = (
@@ -255,12 +267,24 @@ module _ (Before : Tree → Tree → Type 0) (total : (G H : Tree) → Before G 
     pub under : G ≤ᵍ tree
     pub over : tree ≤ᵍ G
 
+  -- each option of the one is a follower of an option of the other
+  abbrev pub AreBelow : Tree → Tree → Type 0
+  AreBelow G C = (X : Tree) → IsOption C X → (L : Tree) × IsOption G L × IsFollower L X
+
+  -- a canonical tree that is equal to G, whose options are below those of G
+  pub record CanonBelow (G : Tree) : Type 0 where
+    pub canon : Canon G
+    pub below : AreBelow G canon.tree
+
   -- where no option can be answered: the greatest Left options and the least Right ones, sorted
   above-left : Tree → Tree → Bool
   above-left A B = le A B
 
-  finish : (ls rs : Trees) → AreCanonical Before ls → AreCanonical Before rs → ((X R : Tree) → Has ls X → Has (right X) R → R ≤ᵍ node ls rs → ⊥) → ((X L : Tree) → Has rs X → Has (left X) L → node ls rs ≤ᵍ L → ⊥) → Canon (node ls rs)
-  finish ls rs c d no_left no_right = record { tree = node lefts.0 rights.0; canonical = canonical; under = under; over = over }
+  finish : (ls rs : Trees) → AreCanonical Before ls → AreCanonical Before rs → ((X R : Tree) → Has ls X → Has (right X) R → R ≤ᵍ node ls rs → ⊥) → ((X L : Tree) → Has rs X → Has (left X) L → node ls rs ≤ᵍ L → ⊥) → CanonBelow (node ls rs)
+  finish ls rs c d no_left no_right = record {
+    canon = record { tree = node lefts.0 rights.0; canonical = canonical; under = under; over = over };
+    below = λ X h. (X, elim h [ inl l ↦ inl (most.1.among X (lefts.1.to X l)) | inr r ↦ inr (least.1.among X (rights.1.to X r)) ], itself X);
+  }
     where
       most : (Ms : Trees) × Greatest le le-refl le-trans ls Ms
       most = greatest le le-refl le-trans ls
@@ -301,30 +325,51 @@ module _ (Before : Tree → Tree → Type 0) (total : (G H : Tree) → Before G 
   along : (G H : Tree) → (G ≤ᵍ H) × (H ≤ᵍ G) → Canon H → Canon G
   along G H e c = record { tree = c.tree; canonical = c.canonical; under = le-trans G H c.tree e.0 c.under; over = le-trans c.tree H G c.over e.1 }
 
+  -- a follower of a follower
+  deeper : (L M X : Tree) → IsFollower L M → IsFollower M X → IsFollower L X
+  deeper L M X (itself _) g = g
+  deeper L M X (further _ H _ o f) g = further L H X o (deeper H M X f g)
+
+  along_below : (G H : Tree) → (G ≤ᵍ H) × (H ≤ᵍ G) → AreBelow G H → CanonBelow H → CanonBelow G
+  unfolding along
+  along_below G H e b c = record {
+    canon = along G H e c.canon;
+    below = λ X h. let w = c.below X h in let v = b w.0 w.1 in (v.0, v.1, deeper v.0 w.0 X v.2 w.2);
+  }
+
   Canons : ℕ → Type 0
-  Canons n = (ls rs : Trees) → sizes ls + sizes rs < n → AreCanonical Before ls → AreCanonical Before rs → Canon (node ls rs)
+  Canons n = (ls rs : Trees) → sizes ls + sizes rs < n → AreCanonical Before ls → AreCanonical Before rs → CanonBelow (node ls rs)
 
   -- one round: replace on the left, else on the right, else finish
   round : (n : ℕ) → Canons n → Canons (suc n)
   unfolding Canons
-  round n ih ls rs a c d = by_left (bypass Before left right (λ G R. le R G) left-size size-right left-canonical (λ G R c h. at-canonical (right G) R (right-canonical G c) h) (node ls rs) ls c)
+  round n ih ls rs a c d = by_left (bypass Before left right (λ G R. le R G) left-size size-right left-canonical (λ G R c h. at-canonical (right G) R (right-canonical G c) h) (λ G X h. inl h) (λ G X h. inr h) (node ls rs) ls c)
     where
-      by_right : ((X R : Tree) → Has ls X → Has (right X) R → R ≤ᵍ node ls rs → ⊥) → (Ms : Trees) × ByRight (node ls rs) rs Ms → Canon (node ls rs)
+      by_right : ((X R : Tree) → Has ls X → Has (right X) R → R ≤ᵍ node ls rs → ⊥) → (Ms : Trees) × ByRight (node ls rs) rs Ms → CanonBelow (node ls rs)
       by_right f r = elim r.1.done [
-        | inl l ↦ along _ _ (bypass-equal_right ls rs r.0 r.1) (ih ls r.0 (omega (arith, l, a)) c r.1.canonical)
+        | inl l ↦ along_below _ _ (bypass-equal_right ls rs r.0 r.1)
+            (λ X h. elim h [ inl x ↦ (X, inl x, itself X) | inr y ↦ (let w = r.1.under X y in (w.0, inr w.1, w.2)) ])
+            (ih ls r.0 (omega (arith, l, a)) c r.1.canonical)
         | inr g ↦ finish ls rs c d f (λ X L x l y. g X x (L, l, y))
       ]
 
-      by_left : (Ms : Trees) × ByLeft (node ls rs) ls Ms → Canon (node ls rs)
+      by_left : (Ms : Trees) × ByLeft (node ls rs) ls Ms → CanonBelow (node ls rs)
       by_left r = elim r.1.done [
-        | inl l ↦ along _ _ (bypass-equal ls rs r.0 r.1) (ih r.0 rs (omega (arith, l, a)) r.1.canonical d)
-        | inr f ↦ by_right (λ X R x r y. f X x (R, r, y)) (bypass Before right left (λ G L. le G L) right-size size-left right-canonical (λ G L c h. at-canonical (left G) L (left-canonical G c) h) (node ls rs) rs d)
+        | inl l ↦ along_below _ _ (bypass-equal ls rs r.0 r.1)
+            (λ X h. elim h [ inl x ↦ (let w = r.1.under X x in (w.0, inl w.1, w.2)) | inr y ↦ (X, inr y, itself X) ])
+            (ih r.0 rs (omega (arith, l, a)) r.1.canonical d)
+        | inr f ↦ by_right (λ X R x r y. f X x (R, r, y)) (bypass Before right left (λ G L. le G L) right-size size-left right-canonical (λ G L c h. at-canonical (left G) L (left-canonical G c) h) (λ G X h. inr h) (λ G X h. inl h) (node ls rs) rs d)
       ]
 
   rounds : (n : ℕ) → Canons n
   unfolding Canons
   rounds zero ls rs a c d = absurd (omega arith)
   rounds (suc n) ls rs a c d = round n (rounds n) ls rs a c d
+
+  -- where the options are canonical
+  pub canon_below : (ls rs : Trees) → AreCanonical Before ls → AreCanonical Before rs → CanonBelow (node ls rs)
+  unfolding Canons
+  canon_below ls rs c d = rounds (suc (sizes ls + sizes rs)) ls rs (omega arith) c d
 
   -- of every tree
   record Canon_each (Gs : Trees) : Type 0 where
@@ -339,7 +384,7 @@ module _ (Before : Tree → Tree → Type 0) (total : (G H : Tree) → Before G 
     by_better _ _ (λ L l. (let y = a.to L l in (y.0, y.1, y.2))) (λ S s. (let x = b.from S s in (x.0, x.1, x.2))),
     by_better _ _ (λ L l. (let x = a.from L l in (x.0, x.1, x.3))) (λ S s. (let y = b.to S s in (y.0, y.1, y.3))),
   )
-      (rounds (suc (sizes a.trees + sizes b.trees)) a.trees b.trees (omega arith) a.canonical b.canonical)
+      (rounds (suc (sizes a.trees + sizes b.trees)) a.trees b.trees (omega arith) a.canonical b.canonical).canon
 
   add_each : (G : Tree) (Gs : Trees) → Canon G → Canon_each Gs → Canon_each (more G Gs)
   add_each G Gs c r = record {
