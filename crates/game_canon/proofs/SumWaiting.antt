@@ -1,13 +1,16 @@
 -- Comparisons of sums that wait for one another.
-use Rattle.std.proofs.Common.{ℕ, ◌+◌, ◌*◌, ◌<◌, ◌≤◌, ◌≡◌, List, [], ◌∷◌, ◌++◌, length, get_or, arith, refl, sym, ◌∙◌, inl, inr, ap, subst, Bool, true, nat_eq, ◌&&◌, cond, Some}
+use Rattle.std.proofs.Common.{ℕ, ◌+◌, ◌*◌, ◌<◌, ◌≤◌, ◌≡◌, List, [], ◌∷◌, ◌++◌, length, get_or, arith, refl, sym, ◌∙◌, inl, inr, ap, subst, Bool, true, nat_eq, ◌&&◌, cond, Some, None, IfSome, IsTrue, ◌↔◌}
 use Rattle.std.specs.Prelude.{Option}
 use Rattle.std.proofs.lemmas.Bool.{cases_Bool, cases_lt, and_parts, eqb-true, eq-eqb}
 use Rattle.std.proofs.lemmas.List.{length-append, get_or_append_left}
 use Rattle.std.proofs.Math.Seq.{get_or-append_seam}
 use Rattle.game_store.specs.Tree.{Tree}
+use Rattle.game_store.specs.Order.{◌≤ᵍ◌}
+use Rattle.game_store.specs.Sum.{◌+ᵍ◌}
+use Rattle.game_store.specs.Meaning.{Extends}
 use Rattle.game_canon.specs.declared.sums.SumPair.{SumPair}
 use Rattle.game_canon.specs.declared.sums_at_most.SumStep.TheVariants.{Ask}
-use Rattle.game_canon.specs.SumComparisons.{same_games, with_sums, Tells, AreSumsRight, AreOpen, IsSumStep, weight}
+use Rattle.game_canon.specs.SumComparisons.{same_games, with_sums, Compared, Tells, AreStored, AreSumsRight, AreComparisonsRight, AreOpen, IsSumStep, weight}
 use Rattle.game_canon.proofs.Undecided.{row, row-le, row-lt, one_open, measure-answer}
 
 abbrev no_games : SumPair
@@ -76,15 +79,26 @@ other-pair known p answer q l = elim (cases_Bool (same_games p q)) [
 own-pair : (known : SumPair → Option Bool) (p : SumPair) (answer : Bool) → with_sums known p answer p ≡ Some answer
 own-pair known p answer = rw (eq-eqb p.first p.first refl, eq-eqb p.second p.second refl, eq-eqb p.third p.third refl, eq-eqb p.fourth p.fourth refl) refl
 
-right_more : (Ts : List Tree) (known after : SumPair → Option Bool) (p : SumPair) (answer : Bool) → AreSumsRight Ts known → Tells Ts p answer → ((r : SumPair) → after r ≡ with_sums known p answer r) → AreSumsRight Ts after
-right_more Ts known after p answer r s e q v k = elim (cases_Bool (same_games p q)) [
+-- what is remembered stays right with one more answer that is right
+pub right_more : (Ts : List Tree) (known after : SumPair → Option Bool) (p : SumPair) (answer : Bool) → AreStored Ts p → Tells Ts p answer → ((r : SumPair) → after r ≡ with_sums known p answer r) → AreSumsRight Ts known → AreSumsRight Ts after
+right_more Ts known after p answer ids s e r q v k = elim (cases_Bool (same_games p q)) [
   | inl t ↦ (
       let same : Some answer ≡ Some v = sym (ap (λ z. cond z (Some answer) (known q)) t) ∙ sym (e q) ∙ k in
       let is : answer ≡ v = cc in
-      subst (λ x. Tells Ts x v) (games-same p q t) (subst (λ b. Tells Ts p b) is s)
+      subst (λ x. AreStored Ts x × Tells Ts x v) (games-same p q t) (ids, subst (λ b. Tells Ts p b) is s)
       )
   | inr f ↦ r q v (sym (ap (λ z. cond z (Some answer) (known q)) f) ∙ sym (e q) ∙ k)
 ]
+
+pub right_same : (Ts : List Tree) (before now : Compared) → now ≡ before → AreComparisonsRight Ts before → AreComparisonsRight Ts now
+right_same Ts before now e r = subst (AreComparisonsRight Ts) (sym e) r
+
+pub right_empty : (Ts : List Tree) (now : Compared) → now ≡ [] → AreComparisonsRight Ts now
+right_empty Ts now e = subst (AreComparisonsRight Ts) (sym e) (λ p answer n. cc)
+
+pub right_tells : (Ts : List Tree) (known : SumPair → Option Bool) (p : SumPair) (r : Option Bool) → AreSumsRight Ts known → r ≡ known p → IfSome r (λ answer. Tells Ts p answer)
+right_tells Ts known p None right e = tt
+right_tells Ts known p (Some answer) right e = (right p answer (sym e)).1
 
 still-open : (Ts : List Tree) (known after : SumPair → Option Bool) (p : SumPair) (answer : Bool) (q : SumPair) → ((r : SumPair) → after r ≡ with_sums known p answer r) → weight p < weight q → AreOpen Ts known q → AreOpen Ts after q
 still-open Ts known after p answer q e l w = record { ids = w.ids; hot = w.hot; unknown = e q ∙ other-pair known p answer q l ∙ w.unknown }
@@ -93,7 +107,7 @@ still-open Ts known after p answer q e l w = record { ids = w.ids; hot = w.hot; 
 pub sums_answer : (Ts : List Tree) (known after : SumPair → Option Bool) (p q next : SumPair) (us ws : List SumPair) (answer : Bool) → AreAsking Ts known p q us → Tells Ts q answer
     → ((r : SumPair) → after r ≡ with_sums known q answer r) → us ≡ ws ++ next ∷ [] → AreAsking Ts after p next ws
 sums_answer Ts known after p q next us ws answer asked s e u = record {
-  right = right_more Ts known after q answer w.right s e;
+  right = right_more Ts known after q answer w.now.ids s e w.right;
   now = still-open Ts known after q answer next e (subst (λ x. weight q < weight x) last (w.above (length ws) in_it)) (subst (AreOpen Ts known) last (w.waits (length ws) in_it));
   waits = λ i l. still-open Ts known after q answer (get_or ws i no_games) e (subst (λ x. weight q < weight x) (old i l) (w.above i (omega (arith, l, in_it)))) (subst (AreOpen Ts known) (old i l) (w.waits i (omega (arith, l, in_it))));
   above = λ i l. subst (λ x. weight next < weight x) (old i l) (subst (λ x. weight x < weight (get_or (ws ++ next ∷ []) i no_games)) last (w.falls i (length ws) l in_it));
@@ -140,3 +154,20 @@ sums_smaller Ts known after p q next us ws answer asked e u =
     (open_sums-falls known after (length Ts) q (fewer known after q answer e) asked.now.ids.first_id asked.now.ids.second_id asked.now.ids.third_id asked.now.ids.fourth_id
     (rw (e q ∙ own-pair known q answer, asked.now.unknown) (omega arith)))
     (omega (arith, o.ids.first_id, o.ids.second_id, o.ids.third_id, o.ids.fourth_id))
+
+-- the same ids after more forms were interned
+pub right_grown : (Ts Us : List Tree) (memo : Compared) → Extends Ts Us → AreComparisonsRight Ts memo → AreComparisonsRight Us memo
+right_grown Ts Us memo x right p answer e =
+    let w = right p answer e in
+    let first = x.same p.first w.0.first_id in
+    let second = x.same p.second w.0.second_id in
+    let third = x.same p.third w.0.third_id in
+    let fourth = x.same p.fourth w.0.fourth_id in (
+      record {
+        first_id = omega (arith, w.0.first_id, x.longer);
+        second_id = omega (arith, w.0.second_id, x.longer);
+        third_id = omega (arith, w.0.third_id, x.longer);
+        fourth_id = omega (arith, w.0.fourth_id, x.longer);
+      },
+      subst (λ t. IsTrue answer ↔ t) (λ i. sym first i +ᵍ sym second i ≤ᵍ sym third i +ᵍ sym fourth i) w.1,
+    )

@@ -1,12 +1,13 @@
 -- Comparisons of sums of two games: which rest on which, and what is remembered of them.
 use Rattle.std.specs.Prelude.{ℕ, ◌+◌, ◌≡◌, ◌⊎◌, ◌<◌, ◌≤◌, ◌↔◌, List, length, Bool, IsTrue, nat_eq, ◌&&◌, Option, Some, None, cond, ℤ, ◌+ℤ◌}
-use Rattle.indexmap.specs.IndexMap.{IndexMap, get}
+use Rattle.std.specs.Map.{lookup}
+use Rattle.indexmap.specs.IndexMap.{IndexMap}
 use Rattle.game_store.specs.Tree.{Tree, Trees, left, right, Has}
 use Rattle.game_store.specs.Number.{IsNumberTree}
 use Rattle.game_store.specs.Order.{◌≤ᵍ◌}
 use Rattle.game_store.specs.Sum.{◌+ᵍ◌}
 use Rattle.game_store.specs.Threshold.{IsFloor, IsCeiling}
-use Rattle.game_store.specs.Meaning.{tree_at, pick, AreBelow}
+use Rattle.game_store.specs.Meaning.{tree_at, pick, AreBelow, Extends}
 use Rattle.game_canon.specs.declared.sums.SumPair.{SumPair}
 use Rattle.game_canon.specs.declared.sums.Place.{Place}
 use Rattle.game_canon.specs.declared.sums.Place.TheVariants.{First, Second, Third, Fourth}
@@ -27,17 +28,20 @@ AreSameSums p = ((p.first ≡ p.third) × (p.second ≡ p.fourth)) ⊎ ((p.first
 abbrev pub same_games : SumPair → SumPair → Bool
 same_games p q = nat_eq p.first q.first && (nat_eq p.second q.second && (nat_eq p.third q.third && nat_eq p.fourth q.fourth))
 
--- what is remembered of each pair of sums
+-- pairs of sums that are remembered, each with its answer
+abbrev pub Compared : Type 0
+Compared = List (SumPair × Bool)
+
+-- what is remembered of a pair of sums
+abbrev pub answer_in : Compared → SumPair → Option Bool
+answer_in memo p = lookup (same_games p) memo
+
 abbrev pub recalled_sums : {S : Type 0} → IndexMap SumPair Bool S → SumPair → Option Bool
-recalled_sums memo p = get same_games memo p
+recalled_sums memo = answer_in memo.entries
 
 -- the same after one more answer
 abbrev pub with_sums : (SumPair → Option Bool) → SumPair → Bool → SumPair → Option Bool
 with_sums known p answer q = cond (same_games p q) (Some answer) (known q)
-
--- what is remembered is right
-abbrev pub AreSumsRight : List Tree → (SumPair → Option Bool) → Type 0
-AreSumsRight Ts known = (p : SumPair) (answer : Bool) → known p ≡ Some answer → Tells Ts p answer
 
 -- the four games are ids
 pub record AreStored (Ts : List Tree) (p : SumPair) : Type 0 where
@@ -45,6 +49,17 @@ pub record AreStored (Ts : List Tree) (p : SumPair) : Type 0 where
   pub second_id : p.second < length Ts
   pub third_id : p.third < length Ts
   pub fourth_id : p.fourth < length Ts
+
+-- what is remembered is of ids of the store, and right there
+abbrev pub AreSumsRight : List Tree → (SumPair → Option Bool) → Type 0
+AreSumsRight Ts known = (p : SumPair) (answer : Bool) → known p ≡ Some answer → AreStored Ts p × Tells Ts p answer
+
+abbrev pub AreComparisonsRight : List Tree → Compared → Type 0
+AreComparisonsRight Ts memo = AreSumsRight Ts (answer_in memo)
+
+-- comparisons that are right for a store are right for it after more forms were interned
+abbrev pub StayRightInGrownStores : Type 0
+StayRightInGrownStores = (Ts Us : List Tree) (memo : Compared) → Extends Ts Us → AreComparisonsRight Ts memo → AreComparisonsRight Us memo
 
 -- the four games are numbers
 pub record AreNumbers (Ts : List Tree) (p : SumPair) : Type 0 where

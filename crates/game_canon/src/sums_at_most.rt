@@ -5,10 +5,9 @@ ghost use Rattle.game_canon.specs.SumComparisons.{recalled_sums, Tells, AreSameS
 
 use crate::at_most::is_within;
 use crate::sums::{
-    Place, SumComparisons, SumPair, cancelled, counter_by, moves, recall_sums, remember_sums,
+    Place, SumAnswers, SumPair, cancelled, counter_by, moves, recall_sums, remember_sums,
 };
 use game_store::{GameId, Store};
-use indexmap::IndexMap;
 use std::alloc::{AllocError, Global};
 
 /// What going on with a comparison finds: its answer, or another one that has to come first.
@@ -65,7 +64,7 @@ fn by_bounds(store: &Store, pair: SumPair) -> Option<bool>
 }
 
 /// The answer where it takes no further comparison.
-fn known_sums(memo: &SumComparisons, store: &Store, pair: SumPair) -> Option<bool>
+fn known_sums(memo: &SumAnswers, store: &Store, pair: SumPair) -> Option<bool>
     requires ids { AreStored store.now pair }
     requires right { AreSumsRight store.now (recalled_sums memo.now) }
     ensures some { IfSome result (λ answer. Tells store.now pair answer) }
@@ -82,7 +81,7 @@ fn known_sums(memo: &SumComparisons, store: &Store, pair: SumPair) -> Option<boo
 
 /// What the moves in the game at a place show: that one of them counters, or a comparison that has to come first. None
 /// where none of them counters.
-fn tried(memo: &SumComparisons, store: &Store, pair: SumPair, place: Place) -> Option<SumStep>
+fn tried(memo: &SumAnswers, store: &Store, pair: SumPair, place: Place) -> Option<SumStep>
     requires ids { AreStored store.now pair }
     requires right { AreSumsRight store.now (recalled_sums memo.now) }
     ensures { MatchOption result (Resists store.now pair place) (λ step. IsSumStep store.now (recalled_sums memo.now) pair step) }
@@ -101,7 +100,7 @@ fn tried(memo: &SumComparisons, store: &Store, pair: SumPair, place: Place) -> O
 
 /// Goes on with a comparison as far as answers are known. One that has waited is gone through again from its first move:
 /// what was found out on the way is remembered, so this is little beside the comparison that came first.
-fn go_on_with_sums(memo: &SumComparisons, store: &Store, pair: SumPair) -> SumStep
+fn go_on_with_sums(memo: &SumAnswers, store: &Store, pair: SumPair) -> SumStep
     requires open { AreOpen store.now (recalled_sums memo.now) pair }
     requires right { AreSumsRight store.now (recalled_sums memo.now) }
     ensures { IsSumStep store.now (recalled_sums memo.now) pair result }
@@ -122,26 +121,32 @@ fn go_on_with_sums(memo: &SumComparisons, store: &Store, pair: SumPair) -> SumSt
     SumStep::Answer(true)
 }
 
-/// Whether the sum of a pair's first two games is at most that of the others.
-pub(crate) fn sums_at_most(alloc: Global, store: &Store, pair: SumPair) -> Result<bool, AllocError>
-    requires { AreStored store.now pair }
-    ensures { IfOk result (λ answer. Tells store.now pair answer) }
+/// Whether the sum of a pair's first two games is at most that of the others. What is found out on the way is remembered.
+pub(crate) fn sums_at_most(
+    alloc: Global,
+    memo: &mut SumAnswers,
+    store: &Store,
+    pair: SumPair,
+) -> Result<bool, AllocError>
+    requires ids { AreStored store.now pair }
+    requires right { AreSumsRight store.now (recalled_sums memo.old) }
+    ensures answer { IfOk result (λ answer. Tells store.now pair answer) }
+    ensures right { AreSumsRight store.now (recalled_sums memo.new) }
 {
-    let mut memo = IndexMap::new(alloc);
-    if let Some(answer) = known_sums(&memo, store, pair) {
+    if let Some(answer) = known_sums(memo, store, pair) {
         return Ok(answer);
     }
     let mut waiting = Vec::new(alloc);
     let mut question = pair;
     'asking: loop {
-        match go_on_with_sums(&memo, store, question) {
+        match go_on_with_sums(memo, store, question) {
             SumStep::Ask(next) => {
                 waiting.push(question)?;
                 question = next;
                 continue;
             }
             SumStep::Answer(answer) => {
-                remember_sums(&mut memo, question, answer)?;
+                remember_sums(memo, question, answer)?;
                 match waiting.pop() {
                     Some(next) => question = next,
                     None => return Ok(answer),
