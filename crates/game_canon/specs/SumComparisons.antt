@@ -7,10 +7,11 @@ use Rattle.game_store.specs.Number.{IsNumberTree}
 use Rattle.game_store.specs.Order.{◌≤ᵍ◌}
 use Rattle.game_store.specs.Sum.{◌+ᵍ◌}
 use Rattle.game_store.specs.Threshold.{IsFloor, IsCeiling}
-use Rattle.game_store.specs.Meaning.{tree_at, pick, AreBelow, Extends}
+use Rattle.game_store.specs.Meaning.{tree_at, pick, AreBelow, IsAscending, Extends}
 use Rattle.game_canon.specs.declared.sums.SumPair.{SumPair}
 use Rattle.game_canon.specs.declared.sums.Place.{Place}
 use Rattle.game_canon.specs.declared.sums.Place.TheVariants.{First, Second, Third, Fourth}
+use Rattle.game_canon.specs.declared.sums_at_most.SumQuestion.{SumQuestion}
 use Rattle.game_canon.specs.declared.sums_at_most.SumStep.{SumStep}
 use Rattle.game_canon.specs.declared.sums_at_most.SumStep.TheVariants.{Answer, Ask}
 
@@ -99,10 +100,11 @@ options_at Fourth = right
 abbrev pub IsMoveIn : (Tree → Trees) → Tree → Tree → Type 0
 IsMoveIn options G X = (IsNumberTree G → ⊥) × Has (options G) X
 
--- the ids of these options
+-- the ids of these options, which ascend
 pub record AreMoves (Ts : List Tree) (options : Tree → Trees) (id : ℕ) (is : List ℕ) : Type 0 where
   pub below : AreBelow id is
   pub has : (X : Tree) → Has (pick Ts is) X ↔ IsMoveIn options (tree_at Ts id) X
+  pub ascends : IsAscending is
 
 -- The comparison that counters, after a move in the game at a place to x: where it holds, the first sum isn't at most the
 -- second.
@@ -122,6 +124,18 @@ Counters Ts p Fourth X = tree_at Ts p.third +ᵍ X ≤ᵍ tree_at Ts p.first +�
 abbrev pub Resists : List Tree → SumPair → Place → Type 0
 Resists Ts p at = (X : Tree) → IsMoveIn (options_at at) (tree_at Ts (game_at p at)) X → Counters Ts p at X → ⊥
 
+-- how many places come before
+abbrev pub rank : Place → ℕ
+rank First = 0
+rank Second = 1
+rank Third = 2
+rank Fourth = 3
+
+-- no move in a game before the question's place counters, and none in the game at the place to an id below
+pub record HasResisted (Ts : List Tree) (q : SumQuestion) : Type 0 where
+  pub places : (at : Place) → rank at < rank q.place → Resists Ts q.pair at
+  pub below : (i : ℕ) → i < q.from → IsMoveIn (options_at q.place) (tree_at Ts (game_at q.pair q.place)) (tree_at Ts i) → Counters Ts q.pair q.place (tree_at Ts i) → ⊥
+
 -- what falls from a comparison to those on which it rests, since options are smaller ids
 abbrev pub weight : SumPair → ℕ
 weight p = p.first + p.second + p.third + p.fourth
@@ -135,4 +149,4 @@ pub record IsCancelled (p q : SumPair) : Type 0 where
 -- what going on with a comparison finds: its answer, or one of smaller ids that has to come first
 abbrev pub IsSumStep : List Tree → (SumPair → Option Bool) → SumPair → SumStep → Type 0
 IsSumStep Ts known p (Answer answer) = Tells Ts p answer
-IsSumStep Ts known p (Ask q) = AreOpen Ts known q × (weight q < weight p)
+IsSumStep Ts known p (Ask waiting q) = AreOpen Ts known q × (weight q < weight p) × (waiting.pair ≡ p) × HasResisted Ts waiting

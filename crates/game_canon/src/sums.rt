@@ -1,8 +1,8 @@
 //! Comparisons of sums of two games: which rest on which, and what is remembered of them.
 
-ghost use Rattle.std.specs.Prelude.{◌≡◌, ◌<◌, List, length, OnOk};
+ghost use Rattle.std.specs.Prelude.{◌≡◌, ◌<◌, suc, List, length, OnOk, MatchOption};
 ghost use Rattle.game_store.specs.Tree.{Tree, left, right};
-ghost use Rattle.game_canon.specs.SumComparisons.{recalled_sums, with_sums, Tells, AreSumsRight, AreStored, AreMoves, game_at, options_at, counter_by, IsCancelled};
+ghost use Rattle.game_canon.specs.SumComparisons.{recalled_sums, with_sums, Tells, AreSumsRight, AreStored, AreMoves, game_at, options_at, rank, counter_by, IsCancelled};
 ghost use Rattle.game_canon.specs.declared.sums.SumPair.{SumPair};
 
 use game_store::{Form, GameId, Store};
@@ -25,6 +25,18 @@ pub(crate) enum Place {
     Second,
     Third,
     Fourth,
+}
+
+/// The place after another, where there is one.
+pub(crate) fn next_place(place: Place) -> Option<Place>
+    ensures { MatchOption result (rank place ≡ 3) (λ next. rank next ≡ suc (rank place)) }
+{
+    match place {
+        Place::First => Some(Place::Second),
+        Place::Second => Some(Place::Third),
+        Place::Third => Some(Place::Fourth),
+        Place::Fourth => None,
+    }
 }
 
 /// For pairs of sums, whether the first is at most the second.
