@@ -8,8 +8,8 @@ returns-in_default-next_place c =
     let Ts = c.args.store.now in
     let same = c.places.invariant.0 in (
       λ _. subst (IsSumWithin Ts) same (
-        resisted_last Ts c.places.current c.places.invariant.1 c.in_default.ensures c.len-count.ensures.canonical
-        (subst (AreStored Ts) (sym same) c.requires.open.ids) (subst (λ p. AreNumbers Ts p → ⊥) (sym same) c.requires.open.hot) c.in_default-next_place.ensures
-        ),
+          resisted_last Ts c.places.current c.places.invariant.1 c.in_default.ensures c.len-count.ensures.canonical
+          (subst (AreStored Ts) (sym same) c.requires.open.ids) (subst (λ p. AreNumbers Ts p → ⊥) (sym same) c.requires.open.hot) c.in_default-next_place.ensures
+          ),
       λ _. refl,
     )
