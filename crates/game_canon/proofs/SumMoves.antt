@@ -1,24 +1,26 @@
 -- A comparison of sums of two games, of which one is no number, rests on the moves in those that are no numbers.
-use Rattle.std.proofs.Common.{ℕ, ◌<◌, ◌≡◌, ◌↔◌, List, length, get_or, arith, sym, subst, ℤ, pos, ◌+ℤ◌, ◌<ℤ◌, neg_ℤ}
+use Rattle.std.proofs.Common.{ℕ, zero, suc, ◌<◌, ◌≡◌, ◌↔◌, ◌∙◌, List, length, get_or, arith, inl, inr, refl, sym, ap, subst, ℤ, pos, ◌+ℤ◌, ◌<ℤ◌, neg_ℤ}
+use Rattle.std.proofs.lemmas.Bool.{cases_lt}
 use Rattle.std.proofs.lemmas.Int.{ints}
 use Rattle.game_store.specs.Tree.{Tree, Trees, left, right, Has}
 use Rattle.game_store.specs.Order.{◌≤ᵍ◌}
 use Rattle.game_store.specs.Sum.{◌+ᵍ◌}
 use Rattle.game_store.specs.Number.{num, IsNumber, IsNumberTree}
 use Rattle.game_store.specs.TextOrder.{IsCanonicalTree, sorted}
-use Rattle.game_store.specs.Meaning.{tree_at, pick, AreBelow, AreCanonical}
+use Rattle.game_store.specs.Meaning.{tree_at, pick, AreBelow, AreCanonical, AreDistinct, IsAscending}
 use Rattle.game_store.proofs.OrderLaws.{le-out, le-in, le-refl, le-trans}
 use Rattle.game_store.proofs.SumLaws.{InSum, left_of_sum, right_of_sum, left_in_first, left_in_second, right_in_first, right_in_second, plus-le, plus-le_both, plus-cancel, plus-assoc}
 use Rattle.game_store.proofs.SumLaws.InSum.{in_first, in_second}
 use Rattle.game_store.proofs.NumberLaws.{num-left, num-right, num-le, num-plus_le}
 use Rattle.game_store.proofs.ReductionLaws.{canonical-number}
 use Rattle.game_store.proofs.AvoidanceLaws.{cheap_left, cheap_right}
-use Rattle.game_store.proofs.Values.{pick-has}
+use Rattle.game_store.proofs.Values.{pick-has, has-pick}
 use Rattle.game_store.proofs.TextOrderLaws.{sorted-has, has-sorted}
 use Rattle.game_canon.specs.declared.sums.SumPair.{SumPair}
 use Rattle.game_canon.specs.declared.sums.Place.{Place}
 use Rattle.game_canon.specs.declared.sums.Place.TheVariants.{First, Second, Third, Fourth}
-use Rattle.game_canon.specs.SumComparisons.{IsSumWithin, AreStored, AreNumbers, game_at, options_at, AreMoves, counter_by, Counters, Resists}
+use Rattle.game_canon.specs.declared.sums_at_most.SumQuestion.{SumQuestion}
+use Rattle.game_canon.specs.SumComparisons.{IsSumWithin, AreStored, AreNumbers, game_at, options_at, IsMoveIn, AreMoves, counter_by, Counters, Resists, rank, HasResisted, weight}
 use Rattle.game_canon.proofs.GameLaws.{none-list}
 use Rattle.game_canon.proofs.PlayerLaws.{same-swap}
 
@@ -135,10 +137,18 @@ counters-as Ts p Second x = (λ y. y, λ y. y)
 counters-as Ts p Third x = (λ y. y, λ y. y)
 counters-as Ts p Fourth x = (λ y. y, λ y. y)
 
+-- which is of smaller ids
+pub counter-lighter : (p : SumPair) (at : Place) (x : ℕ) → x < game_at p at → weight (counter_by p at x) < weight p
+counter-lighter p First x l = omega (arith, l)
+counter-lighter p Second x l = omega (arith, l)
+counter-lighter p Third x l = omega (arith, l)
+counter-lighter p Fourth x l = omega (arith, l)
+
 -- the options listed are the moves
-pub listed-moves : (Ts : List Tree) (options : Tree → Trees) (id : ℕ) (is : List ℕ) → AreBelow id is → (IsNumberTree (tree_at Ts id) → ⊥) → options (tree_at Ts id) ≡ sorted (pick Ts is) → AreMoves Ts options id is
-listed-moves Ts options id is below no_number e = record {
+pub listed-moves : (Ts : List Tree) (options : Tree → Trees) (id : ℕ) (is : List ℕ) → AreBelow id is → IsAscending is → (IsNumberTree (tree_at Ts id) → ⊥) → options (tree_at Ts id) ≡ sorted (pick Ts is) → AreMoves Ts options id is
+listed-moves Ts options id is below ascends no_number e = record {
   below = below;
+  ascends = ascends;
   has = λ X. (λ h. (no_number, subst (λ t. Has t X) (sym e) (has-sorted (pick Ts is) X h)), λ m. sorted-has (pick Ts is) X (subst (λ t. Has t X) e m.1));
 }
 
@@ -148,3 +158,66 @@ module _ (Ts : List Tree) (p : SumPair) (at : Place) (is : List ℕ) (moves : Ar
 
   pub none-counter : ((j : ℕ) → j < length is → IsSumWithin Ts (counter_by p at (get_or is j 0)) → ⊥) → Resists Ts p at
   none-counter f X m y = none-list Ts is (Counters Ts p at) (λ j l z. f j l ((counters-as Ts p at (get_or is j 0)).1 z)) X ((moves.has X).1 m) y
+
+  -- none of the moves to smaller ids than that at a place of the list counters, where none of those before it does
+  pub resists_below : AreDistinct Ts → game_at p at < length Ts → (k : ℕ) → k < length is → ((j : ℕ) → j < k → IsSumWithin Ts (counter_by p at (get_or is j 0)) → ⊥)
+      → (i : ℕ) → i < get_or is k 0 → IsMoveIn (options_at at) (tree_at Ts (game_at p at)) (tree_at Ts i) → Counters Ts p at (tree_at Ts i) → ⊥
+  resists_below distinct stored k l f i b m y =
+      let (j, inside, same) = has-pick Ts is (tree_at Ts i) ((moves.has (tree_at Ts i)).1 m) in
+      let e : i ≡ get_or is j 0 = distinct i (get_or is j 0) (omega (arith, b, moves.below k l, stored)) (omega (arith, moves.below j inside, stored)) same in
+      elim (cases_lt j k) [
+        | inl d ↦ f j d ((counters-as Ts p at (get_or is j 0)).1 (subst (λ n. Counters Ts p at (tree_at Ts n)) e y))
+        | inr d ↦ elim (cases_lt k j) [
+          | inl u ↦ absurd (omega (arith, moves.ascends k j u inside, b, e))
+          | inr u ↦ (let q : k ≡ j = omega (arith, d, u) in absurd (omega (arith, b, e, ap (λ n. get_or is n 0) q)))
+        ]
+      ]
+
+  -- a move that was found not to counter
+  pub not_counter : (j : ℕ) → j < length is → (IsMoveIn (options_at at) (tree_at Ts (game_at p at)) (tree_at Ts (get_or is j 0)) → Counters Ts p at (tree_at Ts (get_or is j 0)) → ⊥) → IsSumWithin Ts (counter_by p at (get_or is j 0)) → ⊥
+  not_counter j l f y = f ((moves.has (tree_at Ts (get_or is j 0))).0 (pick-has Ts is j l)) ((counters-as Ts p at (get_or is j 0)).0 y)
+
+pub stored_at : (Ts : List Tree) (p : SumPair) (at : Place) → AreStored Ts p → game_at p at < length Ts
+stored_at Ts p First s = s.first_id
+stored_at Ts p Second s = s.second_id
+stored_at Ts p Third s = s.third_id
+stored_at Ts p Fourth s = s.fourth_id
+
+-- places by how many come before
+abbrev place_of : ℕ → Place
+place_of zero = First
+place_of (suc zero) = Second
+place_of (suc (suc zero)) = Third
+place_of (suc (suc (suc n))) = Fourth
+
+place-rank : (at : Place) → place_of (rank at) ≡ at
+place-rank First = refl
+place-rank Second = refl
+place-rank Third = refl
+place-rank Fourth = refl
+
+pub rank-most : (at : Place) → rank at < 4
+rank-most First = omega arith
+rank-most Second = omega arith
+rank-most Third = omega arith
+rank-most Fourth = omega arith
+
+resists-at : (Ts : List Tree) (p : SumPair) (a b : Place) → rank a ≡ rank b → Resists Ts p a → Resists Ts p b
+resists-at Ts p a b e r = subst (Resists Ts p) (sym (place-rank a) ∙ ap place_of e ∙ place-rank b) r
+
+pub begun_resisted : (Ts : List Tree) (p : SumPair) → HasResisted Ts (record { pair = p; place = First; from = 0 })
+begun_resisted Ts p = record { places = λ at l. absurd (omega (arith, l)); below = λ i l. absurd (omega (arith, l)) }
+
+-- no move in the game at the question's place counters either
+module _ (Ts : List Tree) (q : SumQuestion) (so_far : HasResisted Ts q) (here : Resists Ts q.pair q.place) where
+  up_to : (at : Place) → rank at < suc (rank q.place) → Resists Ts q.pair at
+  up_to at l = elim (cases_lt (rank at) (rank q.place)) [
+    | inl d ↦ so_far.places at d
+    | inr d ↦ resists-at Ts q.pair q.place at (omega (arith, d, l)) here
+  ]
+
+  pub resisted_next : (next : Place) → rank next ≡ suc (rank q.place) → HasResisted Ts (record { pair = q.pair; place = next; from = 0 })
+  resisted_next next e = record { places = λ at l. up_to at (omega (arith, l, e)); below = λ i l. absurd (omega (arith, l)) }
+
+  pub resisted_last : AreCanonical Ts → AreStored Ts q.pair → (AreNumbers Ts q.pair → ⊥) → rank q.place ≡ 3 → IsSumWithin Ts q.pair
+  resisted_last canonical ids hot e = let all : (at : Place) → Resists Ts q.pair at = λ at. up_to at (omega (arith, e, rank-most at)) in resisted Ts q.pair canonical ids hot (all First) (all Second) (all Third) (all Fourth)

@@ -1,15 +1,17 @@
 -- Comparisons of sums of two games: which rest on which, and what is remembered of them.
 use Rattle.std.specs.Prelude.{ℕ, ◌+◌, ◌≡◌, ◌⊎◌, ◌<◌, ◌≤◌, ◌↔◌, List, length, Bool, IsTrue, nat_eq, ◌&&◌, Option, Some, None, cond, ℤ, ◌+ℤ◌}
-use Rattle.indexmap.specs.IndexMap.{IndexMap, get}
+use Rattle.std.specs.Map.{lookup}
+use Rattle.indexmap.specs.IndexMap.{IndexMap}
 use Rattle.game_store.specs.Tree.{Tree, Trees, left, right, Has}
 use Rattle.game_store.specs.Number.{IsNumberTree}
 use Rattle.game_store.specs.Order.{◌≤ᵍ◌}
 use Rattle.game_store.specs.Sum.{◌+ᵍ◌}
 use Rattle.game_store.specs.Threshold.{IsFloor, IsCeiling}
-use Rattle.game_store.specs.Meaning.{tree_at, pick, AreBelow}
+use Rattle.game_store.specs.Meaning.{tree_at, pick, AreBelow, IsAscending, Extends}
 use Rattle.game_canon.specs.declared.sums.SumPair.{SumPair}
 use Rattle.game_canon.specs.declared.sums.Place.{Place}
 use Rattle.game_canon.specs.declared.sums.Place.TheVariants.{First, Second, Third, Fourth}
+use Rattle.game_canon.specs.declared.sums_at_most.SumQuestion.{SumQuestion}
 use Rattle.game_canon.specs.declared.sums_at_most.SumStep.{SumStep}
 use Rattle.game_canon.specs.declared.sums_at_most.SumStep.TheVariants.{Answer, Ask}
 
@@ -27,17 +29,20 @@ AreSameSums p = ((p.first ≡ p.third) × (p.second ≡ p.fourth)) ⊎ ((p.first
 abbrev pub same_games : SumPair → SumPair → Bool
 same_games p q = nat_eq p.first q.first && (nat_eq p.second q.second && (nat_eq p.third q.third && nat_eq p.fourth q.fourth))
 
--- what is remembered of each pair of sums
+-- pairs of sums that are remembered, each with its answer
+abbrev pub Compared : Type 0
+Compared = List (SumPair × Bool)
+
+-- what is remembered of a pair of sums
+abbrev pub answer_in : Compared → SumPair → Option Bool
+answer_in memo p = lookup (same_games p) memo
+
 abbrev pub recalled_sums : {S : Type 0} → IndexMap SumPair Bool S → SumPair → Option Bool
-recalled_sums memo p = get same_games memo p
+recalled_sums memo = answer_in memo.entries
 
 -- the same after one more answer
 abbrev pub with_sums : (SumPair → Option Bool) → SumPair → Bool → SumPair → Option Bool
 with_sums known p answer q = cond (same_games p q) (Some answer) (known q)
-
--- what is remembered is right
-abbrev pub AreSumsRight : List Tree → (SumPair → Option Bool) → Type 0
-AreSumsRight Ts known = (p : SumPair) (answer : Bool) → known p ≡ Some answer → Tells Ts p answer
 
 -- the four games are ids
 pub record AreStored (Ts : List Tree) (p : SumPair) : Type 0 where
@@ -45,6 +50,17 @@ pub record AreStored (Ts : List Tree) (p : SumPair) : Type 0 where
   pub second_id : p.second < length Ts
   pub third_id : p.third < length Ts
   pub fourth_id : p.fourth < length Ts
+
+-- what is remembered is of ids of the store, and right there
+abbrev pub AreSumsRight : List Tree → (SumPair → Option Bool) → Type 0
+AreSumsRight Ts known = (p : SumPair) (answer : Bool) → known p ≡ Some answer → AreStored Ts p × Tells Ts p answer
+
+abbrev pub AreComparisonsRight : List Tree → Compared → Type 0
+AreComparisonsRight Ts memo = AreSumsRight Ts (answer_in memo)
+
+-- comparisons that are right for a store are right for it after more forms were interned
+abbrev pub StayRightInGrownStores : Type 0
+StayRightInGrownStores = (Ts Us : List Tree) (memo : Compared) → Extends Ts Us → AreComparisonsRight Ts memo → AreComparisonsRight Us memo
 
 -- the four games are numbers
 pub record AreNumbers (Ts : List Tree) (p : SumPair) : Type 0 where
@@ -84,10 +100,11 @@ options_at Fourth = right
 abbrev pub IsMoveIn : (Tree → Trees) → Tree → Tree → Type 0
 IsMoveIn options G X = (IsNumberTree G → ⊥) × Has (options G) X
 
--- the ids of these options
+-- the ids of these options, which ascend
 pub record AreMoves (Ts : List Tree) (options : Tree → Trees) (id : ℕ) (is : List ℕ) : Type 0 where
   pub below : AreBelow id is
   pub has : (X : Tree) → Has (pick Ts is) X ↔ IsMoveIn options (tree_at Ts id) X
+  pub ascends : IsAscending is
 
 -- The comparison that counters, after a move in the game at a place to x: where it holds, the first sum isn't at most the
 -- second.
@@ -107,6 +124,18 @@ Counters Ts p Fourth X = tree_at Ts p.third +ᵍ X ≤ᵍ tree_at Ts p.first +�
 abbrev pub Resists : List Tree → SumPair → Place → Type 0
 Resists Ts p at = (X : Tree) → IsMoveIn (options_at at) (tree_at Ts (game_at p at)) X → Counters Ts p at X → ⊥
 
+-- how many places come before
+abbrev pub rank : Place → ℕ
+rank First = 0
+rank Second = 1
+rank Third = 2
+rank Fourth = 3
+
+-- no move in a game before the question's place counters, and none in the game at the place to an id below
+pub record HasResisted (Ts : List Tree) (q : SumQuestion) : Type 0 where
+  pub places : (at : Place) → rank at < rank q.place → Resists Ts q.pair at
+  pub below : (i : ℕ) → i < q.from → IsMoveIn (options_at q.place) (tree_at Ts (game_at q.pair q.place)) (tree_at Ts i) → Counters Ts q.pair q.place (tree_at Ts i) → ⊥
+
 -- what falls from a comparison to those on which it rests, since options are smaller ids
 abbrev pub weight : SumPair → ℕ
 weight p = p.first + p.second + p.third + p.fourth
@@ -120,4 +149,4 @@ pub record IsCancelled (p q : SumPair) : Type 0 where
 -- what going on with a comparison finds: its answer, or one of smaller ids that has to come first
 abbrev pub IsSumStep : List Tree → (SumPair → Option Bool) → SumPair → SumStep → Type 0
 IsSumStep Ts known p (Answer answer) = Tells Ts p answer
-IsSumStep Ts known p (Ask q) = AreOpen Ts known q × (weight q < weight p)
+IsSumStep Ts known p (Ask waiting q) = AreOpen Ts known q × (weight q < weight p) × (waiting.pair ≡ p) × HasResisted Ts waiting

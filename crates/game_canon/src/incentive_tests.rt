@@ -1,7 +1,9 @@
 //! Incentives of small games.
 
-use crate::incentive_at_least;
+ghost use Rattle.game_canon.specs.SumComparisons.{AreComparisonsRight};
+
 use crate::translation_tests::{choice, fraction};
+use crate::{SumComparisons, compare_incentives, incentive_at_least};
 use game_store::{GameId, Store};
 use std::alloc::Global;
 use std::rt::HostRuntime;
@@ -16,8 +18,12 @@ struct Row {
     at_least: bool,
 }
 
-/// Whether the first incentive of a row is at least the second, or none where an id isn't the store's.
-fn answer(alloc: Global, store: &Store, row: &Row) -> Option<bool> {
+/// Whether the first incentive of a row is at least the second, or none where an id isn't the store's or what is remembered
+/// of earlier rows tells otherwise.
+fn answer(alloc: Global, comparisons: &mut SumComparisons, store: &Store, row: &Row) -> Option<bool>
+    requires { AreComparisonsRight store.now comparisons.old }
+    ensures { AreComparisonsRight store.now comparisons.new }
+{
     let count = store.len();
     if row.game >= count || row.option >= count {
         return None;
@@ -25,15 +31,27 @@ fn answer(alloc: Global, store: &Store, row: &Row) -> Option<bool> {
     if row.other >= count || row.other_option >= count {
         return None;
     }
-    incentive_at_least(
+    let remembered = compare_incentives(
+        alloc,
+        comparisons,
+        store,
+        row.game,
+        row.option,
+        row.other,
+        row.other_option,
+    );
+    let anew = incentive_at_least(
         alloc,
         store,
         row.game,
         row.option,
         row.other,
         row.other_option,
-    )
-    .ok()
+    );
+    match (remembered, anew) {
+        (Ok(remembered), Ok(anew)) if remembered == anew => Some(anew),
+        _ => None,
+    }
 }
 
 /// A row of a table.
@@ -79,7 +97,9 @@ fn incentives(rt: HostRuntime) {
         row_of((half, zero), (five, four), true),
         row_of((five, four), (half, zero), false),
     ];
-    for row in &rows {
-        assert_eq!(&rt; answer(alloc, &store, row), Some(row.at_least));
+    let mut comparisons = SumComparisons::new(alloc);
+    'rows: for row in &rows {
+        let found = answer(alloc, &mut comparisons, &store, row);
+        assert_eq!(&rt; found, Some(row.at_least));
     }
 }

@@ -1,8 +1,8 @@
 //! Comparisons of sums of two games: which rest on which, and what is remembered of them.
 
-ghost use Rattle.std.specs.Prelude.{◌≡◌, ◌<◌, length, OnOk};
-ghost use Rattle.game_store.specs.Tree.{left, right};
-ghost use Rattle.game_canon.specs.SumComparisons.{recalled_sums, with_sums, AreStored, AreMoves, game_at, options_at, counter_by, IsCancelled};
+ghost use Rattle.std.specs.Prelude.{◌≡◌, ◌<◌, suc, List, length, OnOk, MatchOption};
+ghost use Rattle.game_store.specs.Tree.{Tree, left, right};
+ghost use Rattle.game_canon.specs.SumComparisons.{recalled_sums, with_sums, Tells, AreSumsRight, AreStored, AreMoves, game_at, options_at, rank, counter_by, IsCancelled};
 ghost use Rattle.game_canon.specs.declared.sums.SumPair.{SumPair};
 
 use game_store::{Form, GameId, Store};
@@ -27,11 +27,23 @@ pub(crate) enum Place {
     Fourth,
 }
 
+/// The place after another, where there is one.
+pub(crate) fn next_place(place: Place) -> Option<Place>
+    ensures { MatchOption result (rank place ≡ 3) (λ next. rank next ≡ suc (rank place)) }
+{
+    match place {
+        Place::First => Some(Place::Second),
+        Place::Second => Some(Place::Third),
+        Place::Third => Some(Place::Fourth),
+        Place::Fourth => None,
+    }
+}
+
 /// For pairs of sums, whether the first is at most the second.
-pub(crate) type SumComparisons = IndexMap<SumPair, bool>;
+pub(crate) type SumAnswers = IndexMap<SumPair, bool>;
 
 /// The answer for a pair, if it is remembered.
-pub(crate) fn recall_sums(memo: &SumComparisons, pair: SumPair) -> Option<bool>
+pub(crate) fn recall_sums(memo: &SumAnswers, pair: SumPair) -> Option<bool>
     ensures { result ≡ recalled_sums memo.now pair }
 {
     memo.get(&pair).copied()
@@ -39,14 +51,28 @@ pub(crate) fn recall_sums(memo: &SumComparisons, pair: SumPair) -> Option<bool>
 
 /// Remembers the answer for a pair.
 pub(crate) fn remember_sums(
-    memo: &mut SumComparisons,
+    memo: &mut SumAnswers,
     pair: SumPair,
     answer: bool,
 ) -> Result<(), AllocError>
-    ensures { OnOk result ((p : SumPair) → recalled_sums memo.new p ≡ with_sums (recalled_sums memo.old) pair answer p) }
+    ensures noted { OnOk result ((p : SumPair) → recalled_sums memo.new p ≡ with_sums (recalled_sums memo.old) pair answer p) }
+    ensures right { (Ts : List Tree) → AreStored Ts pair → Tells Ts pair answer → AreSumsRight Ts (recalled_sums memo.old) → AreSumsRight Ts (recalled_sums memo.new) }
 {
     memo.insert(pair, answer)?;
     Ok(())
+}
+
+/// How many comparisons may be remembered when the next question comes.
+const MOST_COMPARISONS: usize = 100_000;
+
+/// Forgets all comparisons where they are too many.
+pub(crate) fn make_room(memo: &mut SumAnswers)
+    ensures room { length memo.new.entries < 100000 }
+    ensures right { (Ts : List Tree) → AreSumsRight Ts (recalled_sums memo.old) → AreSumsRight Ts (recalled_sums memo.new) }
+{
+    if memo.len() >= MOST_COMPARISONS {
+        memo.clear();
+    }
 }
 
 /// The Left options of a form, and none of a number.

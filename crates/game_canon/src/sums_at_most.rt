@@ -1,20 +1,31 @@
 //! Whether a sum of two games is at most another, with no recursion: comparisons that wait for others stand in a list.
 
-ghost use Rattle.std.specs.Prelude.{◌<◌, length, IfOk, IfSome, IfNone, IsTrue, MatchOption};
-ghost use Rattle.game_canon.specs.SumComparisons.{recalled_sums, Tells, AreSameSums, AreSumsRight, AreStored, AreFloors, AreCeilings, AreNumbers, AreOpen, Resists, IsSumStep};
+ghost use Rattle.std.specs.Prelude.{◌≡◌, ◌<◌, List, length, IfOk, IfSome, IfNone, IsTrue, MatchOption};
+ghost use Rattle.game_store.specs.Tree.{Tree};
+ghost use Rattle.game_store.specs.Meaning.{AreDistinct};
+ghost use Rattle.game_canon.specs.SumComparisons.{recalled_sums, Tells, AreSameSums, AreSumsRight, AreStored, AreFloors, AreCeilings, AreNumbers, AreOpen, Resists, HasResisted, IsSumStep};
 
 use crate::at_most::is_within;
 use crate::sums::{
-    Place, SumComparisons, SumPair, cancelled, counter_by, moves, recall_sums, remember_sums,
+    Place, SumAnswers, SumPair, cancelled, counter_by, moves, next_place, recall_sums,
+    remember_sums,
 };
 use game_store::{GameId, Store};
-use indexmap::IndexMap;
 use std::alloc::{AllocError, Global};
 
-/// What going on with a comparison finds: its answer, or another one that has to come first.
+/// A comparison that is gone on with. No move in a game before the place counters it, nor does one in the game at the place
+/// to an id below `from`.
+#[derive(Clone, Copy)]
+pub(crate) struct SumQuestion {
+    pair: SumPair,
+    place: Place,
+    from: GameId,
+}
+
+/// What going on with a comparison finds: its answer, or another one that has to come first, and where to go on then.
 pub(crate) enum SumStep {
     Answer(bool),
-    Ask(SumPair),
+    Ask { waiting: SumQuestion, pair: SumPair },
 }
 
 /// Whether both sums are of the same games.
@@ -65,7 +76,7 @@ fn by_bounds(store: &Store, pair: SumPair) -> Option<bool>
 }
 
 /// The answer where it takes no further comparison.
-fn known_sums(memo: &SumComparisons, store: &Store, pair: SumPair) -> Option<bool>
+fn known_sums(memo: &SumAnswers, store: &Store, pair: SumPair) -> Option<bool>
     requires ids { AreStored store.now pair }
     requires right { AreSumsRight store.now (recalled_sums memo.now) }
     ensures some { IfSome result (λ answer. Tells store.now pair answer) }
@@ -80,18 +91,32 @@ fn known_sums(memo: &SumComparisons, store: &Store, pair: SumPair) -> Option<boo
     recall_sums(memo, pair)
 }
 
-/// What the moves in the game at a place show: that one of them counters, or a comparison that has to come first. None
-/// where none of them counters.
-fn tried(memo: &SumComparisons, store: &Store, pair: SumPair, place: Place) -> Option<SumStep>
-    requires ids { AreStored store.now pair }
+/// What the moves in the game at a question's place show: that one of them counters, or a comparison that has to come first.
+/// None where none of them counters.
+fn tried(memo: &SumAnswers, store: &Store, question: SumQuestion) -> Option<SumStep>
+    requires ids { AreStored store.now question.pair }
+    requires distinct { AreDistinct store.now }
     requires right { AreSumsRight store.now (recalled_sums memo.now) }
-    ensures { MatchOption result (Resists store.now pair place) (λ step. IsSumStep store.now (recalled_sums memo.now) pair step) }
+    requires resisted { HasResisted store.now question }
+    ensures { MatchOption result (Resists store.now question.pair question.place) (λ step. IsSumStep store.now (recalled_sums memo.now) question.pair step) }
 {
-    let options = moves(store, pair, place);
+    let options = moves(store, question.pair, question.place);
     'options: for option in options {
-        let counter = cancelled(counter_by(pair, place, *option));
+        if *option < question.from {
+            continue;
+        }
+        let counter = cancelled(counter_by(question.pair, question.place, *option));
         match known_sums(memo, store, counter) {
-            None => return Some(SumStep::Ask(counter)),
+            None => {
+                let waiting = SumQuestion {
+                    from: *option,
+                    ..question
+                };
+                return Some(SumStep::Ask {
+                    waiting,
+                    pair: counter,
+                });
+            }
             Some(true) => return Some(SumStep::Answer(false)),
             Some(false) => {}
         }
@@ -99,49 +124,71 @@ fn tried(memo: &SumComparisons, store: &Store, pair: SumPair, place: Place) -> O
     None
 }
 
-/// Goes on with a comparison as far as answers are known. One that has waited is gone through again from its first move:
-/// what was found out on the way is remembered, so this is little beside the comparison that came first.
-fn go_on_with_sums(memo: &SumComparisons, store: &Store, pair: SumPair) -> SumStep
-    requires open { AreOpen store.now (recalled_sums memo.now) pair }
+/// Goes on with a comparison as far as answers are known, from the move at which it had to wait.
+fn go_on_with_sums(memo: &SumAnswers, store: &Store, question: SumQuestion) -> SumStep
+    requires open { AreOpen store.now (recalled_sums memo.now) question.pair }
     requires right { AreSumsRight store.now (recalled_sums memo.now) }
-    ensures { IsSumStep store.now (recalled_sums memo.now) pair result }
+    requires resisted { HasResisted store.now question }
+    ensures { IsSumStep store.now (recalled_sums memo.now) question.pair result }
 {
     let _count = store.len();
-    if let Some(step) = tried(memo, store, pair, Place::First) {
-        return step;
+    let mut current = question;
+    'places: loop {
+        if let Some(step) = tried(memo, store, current) {
+            return step;
+        }
+        let Some(place) = next_place(current.place) else {
+            return SumStep::Answer(true);
+        };
+        current = SumQuestion {
+            place,
+            from: 0,
+            ..current
+        };
     }
-    if let Some(step) = tried(memo, store, pair, Place::Second) {
-        return step;
-    }
-    if let Some(step) = tried(memo, store, pair, Place::Third) {
-        return step;
-    }
-    if let Some(step) = tried(memo, store, pair, Place::Fourth) {
-        return step;
-    }
-    SumStep::Answer(true)
 }
 
-/// Whether the sum of a pair's first two games is at most that of the others.
-pub(crate) fn sums_at_most(alloc: Global, store: &Store, pair: SumPair) -> Result<bool, AllocError>
-    requires { AreStored store.now pair }
-    ensures { IfOk result (λ answer. Tells store.now pair answer) }
+/// A comparison of which no move was tried yet.
+fn begun(pair: SumPair) -> SumQuestion
+    ensures pair { result.pair ≡ pair }
+    ensures resisted { (Ts : List Tree) → HasResisted Ts result }
 {
-    let mut memo = IndexMap::new(alloc);
-    if let Some(answer) = known_sums(&memo, store, pair) {
+    SumQuestion {
+        pair,
+        place: Place::First,
+        from: 0,
+    }
+}
+
+/// Whether the sum of a pair's first two games is at most that of the others. What is found out on the way is remembered.
+pub(crate) fn sums_at_most(
+    alloc: Global,
+    memo: &mut SumAnswers,
+    store: &Store,
+    pair: SumPair,
+) -> Result<bool, AllocError>
+    requires ids { AreStored store.now pair }
+    requires right { AreSumsRight store.now (recalled_sums memo.old) }
+    ensures answer { IfOk result (λ answer. Tells store.now pair answer) }
+    ensures right { AreSumsRight store.now (recalled_sums memo.new) }
+{
+    if let Some(answer) = known_sums(memo, store, pair) {
         return Ok(answer);
     }
     let mut waiting = Vec::new(alloc);
-    let mut question = pair;
+    let mut question = begun(pair);
     'asking: loop {
-        match go_on_with_sums(&memo, store, question) {
-            SumStep::Ask(next) => {
-                waiting.push(question)?;
-                question = next;
+        match go_on_with_sums(memo, store, question) {
+            SumStep::Ask {
+                waiting: rest,
+                pair: next,
+            } => {
+                waiting.push(rest)?;
+                question = begun(next);
                 continue;
             }
             SumStep::Answer(answer) => {
-                remember_sums(&mut memo, question, answer)?;
+                remember_sums(memo, question.pair, answer)?;
                 match waiting.pop() {
                     Some(next) => question = next,
                     None => return Ok(answer),

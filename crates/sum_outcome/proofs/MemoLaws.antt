@@ -23,6 +23,7 @@ use Rattle.game_canon.specs.Laws.{incentive}
 use Rattle.game_store.specs.Meaning.{pick, number_tree, AreIds, Extends}
 use Rattle.game_canon.specs.Players.{LosesGame}
 use Rattle.game_canon.proofs.PlayerLaws.{loses-same, same-sym}
+use Rattle.game_canon.proofs.SumWaiting.{right_grown}
 use Rattle.sum_outcome.specs.Sums.{sum_tree}
 use Rattle.sum_outcome.specs.Incentives as pairs
 use Rattle.sum_outcome.specs.Opposites.{IsZero}
@@ -30,6 +31,7 @@ use Rattle.sum_outcome.specs.Memo.{NoneIsNew, IsRight, StaysRight, key_tree, mov
 use Rattle.sum_outcome.specs.declared.key.Key.{Key}
 use Rattle.sum_outcome.specs.declared.memo.Memo.{Memo}
 use Rattle.sum_outcome.specs.declared.incentives.MovePair.{MovePair}
+use Rattle.sum_outcome.specs.declared.incentives.Incentives.{Incentives}
 
 both : (p q : Bool) → (p && q) ≡ true → (p ≡ true) × (q ≡ true)
 both true q t = (refl, t)
@@ -141,9 +143,9 @@ stays Ts a right = record { right = right; sums = refl; incentives = refl }
 pub stays_on : (Ts : List Tree) (a b c : Memo) → StaysRight Ts a b → StaysRight Ts b c → StaysRight Ts a c
 stays_on Ts a b c p q = record { right = q.right; sums = q.sums ∙ p.sums; incentives = q.incentives ∙ p.incentives }
 
-pub incentives_changed : (Ts : List Tree) (a b : Memo) (now : LruCache MovePair Bool) → StaysRight Ts a b → pairs.AreIncentivesRight Ts now.entries → now.cap ≡ b.incentives.cap
+pub incentives_changed : (Ts : List Tree) (a b : Memo) (now : Incentives) → StaysRight Ts a b → pairs.IsKnownRight Ts now → now.answers.cap ≡ b.incentives.answers.cap
     → StaysRight Ts a (record { sums = b.sums; incentives = now; zero = b.zero; alloc = b.alloc })
-incentives_changed Ts a b now w right cap = record { right = record { sums = w.right.sums; incentives = right; zero = w.right.zero }; sums = w.sums; incentives = cap ∙ w.incentives }
+incentives_changed Ts a b now w right cap = record { right = record { sums = w.right.sums; incentives = right.0; comparisons = right.1; zero = w.right.zero }; sums = w.sums; incentives = cap ∙ w.incentives }
 
 -- more forms change nothing
 pick-extends : (Ts Us : List Tree) (is : List ℕ) → Extends Ts Us → AreIds Ts is → pick Us is ≡ pick Ts is
@@ -179,6 +181,7 @@ fits_grown Ts Us search x fits = record {
         },
         subst (λ t. IsTrue e.1 ↔ t) (λ i. incentive (sym other i) (sym other_option i) ≤ᵍ incentive (sym game i) (sym option i)) w.1,
       ));
+  comparisons = right_grown Ts Us search.comparisons x fits.comparisons;
   zero = zero_grown Ts Us search.zero x fits.zero;
 }
 

@@ -10,8 +10,10 @@ use Rattle.game_store.specs.Sum.{◌+ᵍ◌, total}
 use Rattle.game_canon.specs.Players.{LosesGame}
 use Rattle.go_grid.specs.Grid.{other}
 use Rattle.game_canon.specs.Laws.{incentive}
+use Rattle.game_canon.specs.SumComparisons.{AreComparisonsRight}
 use Rattle.sum_outcome.specs.Search.{IsMove, put}
 use Rattle.sum_outcome.specs.declared.incentives.MovePair.{MovePair}
+use Rattle.sum_outcome.specs.declared.incentives.Incentives.{Incentives}
 
 -- the four games are ids
 pub record AreMoves (Ts : List Tree) (p : MovePair) : Type 0 where
@@ -35,6 +37,10 @@ IsAnswer Ts p answer = AreMoves Ts p × (IsTrue answer ↔ IsAtLeast Ts p)
 -- all answers are right
 abbrev pub AreIncentivesRight : List Tree → List (MovePair × Bool) → Type 0
 AreIncentivesRight Ts known = (e : MovePair × Bool) → Contains known e → IsAnswer Ts e.0 e.1
+
+-- and so are the comparisons of sums that are kept beside them
+abbrev pub IsKnownRight : List Tree → Incentives → Type 0
+IsKnownRight Ts known = AreIncentivesRight Ts known.answers.entries × AreComparisonsRight Ts known.comparisons
 
 -- the move from G to Y is as good for the player as the one from H to X: Left wants the great incentive, Right the small one
 abbrev pub IsGood : Colour → Tree → Tree → Tree → Tree → Type 0

@@ -6,6 +6,7 @@ use Rattle.game_store.specs.Tree.{Tree}
 use Rattle.game_store.specs.Order.{◌≡ᵍ◌}
 use Rattle.game_store.specs.Meaning.{AreIds, Extends}
 use Rattle.game_canon.specs.Players.{LosesGame}
+use Rattle.game_canon.specs.SumComparisons.{Compared, AreComparisonsRight}
 use Rattle.sum_outcome.specs.Sums.{sum_tree}
 use Rattle.sum_outcome.specs.Incentives.{AreIncentivesRight}
 use Rattle.sum_outcome.specs.Opposites.{IsZero}
@@ -14,16 +15,18 @@ use Rattle.sum_outcome.specs.declared.incentives.MovePair.{MovePair}
 use Rattle.sum_outcome.specs.declared.memo.Memo.{Memo}
 
 -- how many sums a search may remember, whether the player who is to move loses each of those that it does, of pairs
--- of moves whether the incentive of the first is at least that of the second, and the id of 0
+-- of moves whether the incentive of the first is at least that of the second, of pairs of sums of two games whether the
+-- first is at most the second, and the id of 0
 pub record Remembered : Type 0 where
   pub entries : ℕ
   pub sums : List (Key × Bool)
   pub incentives : List (MovePair × Bool)
+  pub comparisons : Compared
   pub zero : Option ℕ
 
 -- what a search remembers at first
 abbrev pub blank : ℕ → Remembered
-blank n = record { entries = n; sums = []; incentives = []; zero = None }
+blank n = record { entries = n; sums = []; incentives = []; comparisons = []; zero = None }
 
 -- the sum of a key's games and its number
 abbrev pub key_tree : List Tree → Key → Tree
@@ -44,6 +47,7 @@ AreAnswers Ts entries = (e : Key × Bool) → Contains entries e → IsAnswer Ts
 pub record Fits (Ts : List Tree) (search : Remembered) : Type 0 where
   pub sums : AreAnswers Ts search.sums
   pub incentives : AreIncentivesRight Ts search.incentives
+  pub comparisons : AreComparisonsRight Ts search.comparisons
   pub zero : IsZero Ts search.zero
 
 -- a search remembers at most as much as it may
@@ -56,11 +60,11 @@ abbrev pub FitsGrownStores : Type 0
 FitsGrownStores = (Ts Us : List Tree) (search : Remembered) → Extends Ts Us → Fits Ts search → Fits Us search
 
 abbrev pub remembered : Memo → Remembered
-remembered memo = record { entries = memo.sums.cap; sums = memo.sums.entries; incentives = memo.incentives.entries; zero = memo.zero }
+remembered memo = record { entries = memo.sums.cap; sums = memo.sums.entries; incentives = memo.incentives.answers.entries; comparisons = memo.incentives.comparisons; zero = memo.zero }
 
 -- both memos have room for as much
 abbrev pub HasBounds : Memo → Type 0
-HasBounds memo = memo.incentives.cap ≡ memo.sums.cap
+HasBounds memo = memo.incentives.answers.cap ≡ memo.sums.cap
 
 abbrev pub IsRight : List Tree → Memo → Type 0
 IsRight Ts memo = Fits Ts (remembered memo)
@@ -69,7 +73,7 @@ IsRight Ts memo = Fits Ts (remembered memo)
 pub record StaysRight (Ts : List Tree) (before now : Memo) : Type 0 where
   pub right : IsRight Ts now
   pub sums : now.sums.cap ≡ before.sums.cap
-  pub incentives : now.incentives.cap ≡ before.incentives.cap
+  pub incentives : now.incentives.answers.cap ≡ before.incentives.answers.cap
 
 -- where what is remembered is right, so is this answer
 abbrev pub IsRecalled : Memo → Key → Bool → Type 0

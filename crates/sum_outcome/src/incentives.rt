@@ -4,11 +4,11 @@ ghost use Rattle.std.specs.Prelude.{◌≡◌, ◌<◌, ◌↔◌, length, Conta
 ghost use Rattle.game_store.specs.Tree.{Tree, Has};
 ghost use Rattle.game_store.specs.Meaning.{tree_at, pick, AreIds, AreBelow};
 ghost use Rattle.sum_outcome.specs.Search.{IsMove, StoodBefore};
-ghost use Rattle.sum_outcome.specs.Incentives.{AreIncentivesRight, AreMoves, turned, IsAtLeast, IsAsGood, HasPreferred, IsDominated};
+ghost use Rattle.sum_outcome.specs.Incentives.{IsKnownRight, AreMoves, turned, IsAtLeast, IsAsGood, HasPreferred, IsDominated};
 ghost use Rattle.sum_outcome.specs.Memo.{AreKept, NoneIsNew};
 ghost use Rattle.sum_outcome.specs.declared.incentives.MovePair.{MovePair};
 
-use game_canon::incentive_at_least;
+use game_canon::{SumComparisons, compare_incentives};
 use game_store::{Form, GameId, Store};
 use go_grid::grid::Colour;
 use lru::LruCache;
@@ -24,23 +24,31 @@ pub(crate) struct MovePair {
 }
 
 /// For pairs of moves, whether the incentive of the first is at least that of the second.
-pub(crate) type Incentives = LruCache<MovePair, bool>;
+type Answers = LruCache<MovePair, bool>;
+
+/// What is known of incentives: answers, of which the latest that were used stay, and comparisons of sums, which tell the
+/// next ones sooner.
+#[derive(Drop)]
+pub(crate) struct Incentives {
+    pub(crate) answers: Answers,
+    pub(crate) comparisons: SumComparisons,
+}
 
 /// The answer for a pair, if it is remembered.
-fn recall_incentive(known: &mut Incentives, pair: MovePair) -> Option<bool>
-    ensures found { IfSome result (λ answer. Contains known.old.entries (pair, answer)) }
-    ensures kept { NoneIsNew known.old.entries known.new.entries }
-    ensures cap { known.new.cap ≡ known.old.cap }
+fn recall_incentive(answers: &mut Answers, pair: MovePair) -> Option<bool>
+    ensures found { IfSome result (λ answer. Contains answers.old.entries (pair, answer)) }
+    ensures kept { NoneIsNew answers.old.entries answers.new.entries }
+    ensures cap { answers.new.cap ≡ answers.old.cap }
 {
-    known.get(&pair).copied()
+    answers.get(&pair).copied()
 }
 
 /// Remembers the answer for a pair, or leaves it out where memory is wanting.
-fn remember_incentive(known: &mut Incentives, pair: MovePair, answer: bool)
-    ensures kept { AreKept (λ p q. p ≡ q) known.old.entries pair answer known.new.entries }
-    ensures cap { known.new.cap ≡ known.old.cap }
+fn remember_incentive(answers: &mut Answers, pair: MovePair, answer: bool)
+    ensures kept { AreKept (λ p q. p ≡ q) answers.old.entries pair answer answers.new.entries }
+    ensures cap { answers.new.cap ≡ answers.old.cap }
 {
-    let _kept = known.put(pair, answer);
+    let _kept = answers.put(pair, answer);
 }
 
 /// Whether the incentive of the first of two moves is at least that of the second, unless memory is wanting.
@@ -51,16 +59,17 @@ pub(crate) fn is_at_least(
     pair: MovePair,
 ) -> Option<bool>
     requires ids { AreMoves store.now pair }
-    requires right { AreIncentivesRight store.now known.old.entries }
+    requires right { IsKnownRight store.now known.old }
     ensures answer { IfSome result (λ answer. IsTrue answer ↔ IsAtLeast store.now pair) }
-    ensures right { AreIncentivesRight store.now known.new.entries }
-    ensures cap { known.new.cap ≡ known.old.cap }
+    ensures right { IsKnownRight store.now known.new }
+    ensures cap { known.new.answers.cap ≡ known.old.answers.cap }
 {
-    if let Some(answer) = recall_incentive(known, pair) {
+    if let Some(answer) = recall_incentive(&mut known.answers, pair) {
         return Some(answer);
     }
-    let Ok(answer) = incentive_at_least(
+    let Ok(answer) = compare_incentives(
         alloc,
+        &mut known.comparisons,
         store,
         pair.game,
         pair.option,
@@ -69,7 +78,7 @@ pub(crate) fn is_at_least(
     ) else {
         return None;
     };
-    remember_incentive(known, pair, answer);
+    remember_incentive(&mut known.answers, pair, answer);
     Some(answer)
 }
 
@@ -95,10 +104,10 @@ fn is_as_good(
     side: Colour,
 ) -> Option<bool>
     requires ids { AreMoves store.now pair }
-    requires right { AreIncentivesRight store.now known.old.entries }
+    requires right { IsKnownRight store.now known.old }
     ensures answer { IfSome result (λ answer. IsTrue answer ↔ IsAsGood store.now side pair) }
-    ensures right { AreIncentivesRight store.now known.new.entries }
-    ensures cap { known.new.cap ≡ known.old.cap }
+    ensures right { IsKnownRight store.now known.new }
+    ensures cap { known.new.answers.cap ≡ known.old.answers.cap }
 {
     match side {
         Colour::Black => is_at_least(alloc, store, known, pair),
@@ -117,11 +126,11 @@ fn is_preferred(
     earlier: bool,
 ) -> bool
     requires ids { AreMoves store.now pair }
-    requires right { AreIncentivesRight store.now known.old.entries }
+    requires right { IsKnownRight store.now known.old }
     ensures good { IsTrue result → IsAsGood store.now side pair }
     ensures better { IsTrue result → IsTrue earlier ⊎ (IsAsGood store.now side (turned pair) → ⊥) }
-    ensures right { AreIncentivesRight store.now known.new.entries }
-    ensures cap { known.new.cap ≡ known.old.cap }
+    ensures right { IsKnownRight store.now known.new }
+    ensures cap { known.new.answers.cap ≡ known.old.answers.cap }
 {
     let Some(true) = is_as_good(alloc, store, known, pair, side) else {
         return false;
@@ -171,10 +180,10 @@ fn has_preferred(
     requires game { game < length store.now }
     requires other { other < length store.now }
     requires other_option { other_option < length store.now }
-    requires right { AreIncentivesRight store.now known.old.entries }
+    requires right { IsKnownRight store.now known.old }
     ensures answer { IsTrue result → HasPreferred store.now side game (tree_at store.now other) (tree_at store.now other_option) (IsTrue earlier) }
-    ensures right { AreIncentivesRight store.now known.new.entries }
-    ensures cap { known.new.cap ≡ known.old.cap }
+    ensures right { IsKnownRight store.now known.new }
+    ensures cap { known.new.answers.cap ≡ known.old.answers.cap }
 {
     let options = moves(store, game, side);
     'options: for option in options {
@@ -205,10 +214,10 @@ pub(crate) fn is_dominated(
     requires ids { AreIds store.now sum.now }
     requires place { place < length sum.now }
     requires option { option < length store.now }
-    requires right { AreIncentivesRight store.now known.old.entries }
+    requires right { IsKnownRight store.now known.old }
     ensures answer { IsTrue result → IsDominated store.now sum.now side place (tree_at store.now option) }
-    ensures right { AreIncentivesRight store.now known.new.entries }
-    ensures cap { known.new.cap ≡ known.old.cap }
+    ensures right { IsKnownRight store.now known.new }
+    ensures cap { known.new.answers.cap ≡ known.old.answers.cap }
 {
     let game = sum[place];
     'rivals: for rival in 0..sum.len() {

@@ -85,7 +85,7 @@ impl Search {
     {
         let lost = loses_sum(store, &mut self.memo, sum, number, side);
         let _sums = self.memo.sums.len();
-        let _incentives = self.memo.incentives.len();
+        let _incentives = self.memo.incentives.answers.len();
         lost
     }
 }

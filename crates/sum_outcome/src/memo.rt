@@ -7,6 +7,7 @@ ghost use Rattle.sum_outcome.specs.Memo.{remembered, blank, AreSame, IsAmong, Ar
 
 use crate::incentives::Incentives;
 use crate::key::Key;
+use game_canon::SumComparisons;
 use game_store::GameId;
 use lru::LruCache;
 use std::alloc::{AllocError, Global};
@@ -46,11 +47,14 @@ impl Memo {
     /// Nothing is remembered yet. The room for entries grows as they come.
     pub(crate) fn new(alloc: Global, entries: NonZeroUsize) -> Result<Memo, AllocError>
         ensures empty { IfOk result (λ memo. remembered memo ≡ blank (non_zero_usize_get entries)) }
-        ensures room { IfOk result (λ memo. memo.incentives.cap ≡ memo.sums.cap) }
+        ensures room { IfOk result (λ memo. memo.incentives.answers.cap ≡ memo.sums.cap) }
     {
         Ok(Memo {
             sums: LruCache::sparse(alloc, entries)?,
-            incentives: LruCache::sparse(alloc, entries)?,
+            incentives: Incentives {
+                answers: LruCache::sparse(alloc, entries)?,
+                comparisons: SumComparisons::new(alloc),
+            },
             zero: None,
             alloc,
         })

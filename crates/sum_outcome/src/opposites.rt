@@ -2,7 +2,7 @@
 
 ghost use Rattle.std.specs.Prelude.{◌≡◌, ◌<◌, length, IfSome, Some, IsTrue, slice_index};
 ghost use Rattle.game_store.specs.Meaning.{tree_at, number_tree, AreIds};
-ghost use Rattle.sum_outcome.specs.Incentives.{AreIncentivesRight};
+ghost use Rattle.sum_outcome.specs.Incentives.{IsKnownRight};
 ghost use Rattle.sum_outcome.specs.Memo.{IsRight, StaysRight};
 ghost use Rattle.sum_outcome.specs.Opposites.{Cancel, IsZero, AreOpposite, MayCancel, MayBeTakenOut};
 
@@ -44,11 +44,11 @@ fn do_cancel(
     requires zero { IsZero store.now (Some zero) }
     requires game { game < length store.now }
     requires other { other < length store.now }
-    requires right { AreIncentivesRight store.now known.old.entries }
+    requires right { IsKnownRight store.now known.old }
     ensures answer { IsTrue result → Cancel (tree_at store.now game) (tree_at store.now other) }
     ensures behind { IsTrue result → zero < other }
-    ensures right { AreIncentivesRight store.now known.new.entries }
-    ensures cap { known.new.cap ≡ known.old.cap }
+    ensures right { IsKnownRight store.now known.new }
+    ensures cap { known.new.answers.cap ≡ known.old.answers.cap }
 {
     if !may_cancel(store, zero, other) {
         return false;
@@ -89,10 +89,10 @@ fn opposite_of(
     requires zero { IsZero store.now (Some zero) }
     requires ids { AreIds store.now sum.now }
     requires place { place < length sum.now }
-    requires right { AreIncentivesRight store.now known.old.entries }
+    requires right { IsKnownRight store.now known.old }
     ensures opposite { IfSome result (λ other. AreOpposite store.now sum.now zero place other) }
-    ensures right { AreIncentivesRight store.now known.new.entries }
-    ensures cap { known.new.cap ≡ known.old.cap }
+    ensures right { IsKnownRight store.now known.new }
+    ensures cap { known.new.answers.cap ≡ known.old.answers.cap }
 {
     if !may_cancel(store, zero, sum[place]) {
         return None;
@@ -115,10 +115,10 @@ fn opposite_places(
 ) -> Option<(usize, usize)>
     requires zero { IsZero store.now (Some zero) }
     requires ids { AreIds store.now sum.now }
-    requires right { AreIncentivesRight store.now known.old.entries }
+    requires right { IsKnownRight store.now known.old }
     ensures opposite { IfSome result (λ p. AreOpposite store.now sum.now zero p.0 p.1) }
-    ensures right { AreIncentivesRight store.now known.new.entries }
-    ensures cap { known.new.cap ≡ known.old.cap }
+    ensures right { IsKnownRight store.now known.new }
+    ensures cap { known.new.answers.cap ≡ known.old.answers.cap }
 {
     'places: for place in 0..sum.len() {
         if let Some(other) = opposite_of(alloc, store, known, zero, sum, place) {

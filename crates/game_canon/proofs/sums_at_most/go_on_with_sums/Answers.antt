@@ -1,9 +1,15 @@
-use Rattle.std.proofs.Common.{refl}
-use Rattle.game_canon.proofs.SumMoves.{resisted}
+use Rattle.std.proofs.Common.{sym, subst, refl}
+use Rattle.game_canon.specs.SumComparisons.{IsSumWithin, AreStored, AreNumbers}
+use Rattle.game_canon.proofs.SumMoves.{resisted_last}
 use Rattle.game_canon.proofs.sums_at_most.go_on_with_sums.Goals as goal
 
-pub returns : goal.returns
-returns c = (
-  λ _. resisted c.args.store.now c.args.pair c.len-count.ensures.canonical c.requires.open.ids c.requires.open.hot c.in_default.ensures c.in_default-tried.ensures c.in_default-tried-2.ensures c.in_default-tried-3.ensures,
-  λ _. refl,
-)
+pub returns-in_default-next_place : goal.returns-in_default-next_place
+returns-in_default-next_place c =
+    let Ts = c.args.store.now in
+    let same = c.places.invariant.0 in (
+      λ _. subst (IsSumWithin Ts) same (
+          resisted_last Ts c.places.current c.places.invariant.1 c.in_default.ensures c.len-count.ensures.canonical
+          (subst (AreStored Ts) (sym same) c.requires.open.ids) (subst (λ p. AreNumbers Ts p → ⊥) (sym same) c.requires.open.hot) c.in_default-next_place.ensures
+          ),
+      λ _. refl,
+    )

@@ -6,4 +6,4 @@ abbrev pub invariant-asking : goal.invariant-asking
 invariant-asking l = AreAsking l.store (recalled_sums l.memo) l.fn.pair l.question l.waiting.items
 
 abbrev pub decreases-asking : goal.decreases-asking
-decreases-asking l = sums_work l.store (recalled_sums l.memo) l.question
+decreases-asking l = sums_work l.store (recalled_sums l.memo) l.question.pair

@@ -10,4 +10,4 @@ returns-clause-fits c =
     let before : Fits c.args.store.now (remembered c.self.inside.memo) = subst (Fits c.args.store.now) (sym c.self.view_is) c.requires in
     let grown = fits_grown c.args.store.now c.number.new.self (remembered c.self.inside.memo) c.number.ensures.kept before in
     let none : c.whole.result ≡ pos 0 = omega (arith, ints, c.whole.ensures) in
-    record { sums = grown.sums; incentives = grown.incentives; zero = subst (λ x. IsIdOf c.number.new.self (number_tree x) c.in_ok-number.field-0) none c.in_ok-number.ensures.value }
+    record { sums = grown.sums; incentives = grown.incentives; comparisons = grown.comparisons; zero = subst (λ x. IsIdOf c.number.new.self (number_tree x) c.in_ok-number.field-0) none c.in_ok-number.ensures.value }

@@ -1,6 +1,6 @@
 use Rattle.std.proofs.Common.{◌≡◌}
-use Rattle.sum_outcome.specs.Incentives.{AreIncentivesRight}
+use Rattle.sum_outcome.specs.Incentives.{IsKnownRight}
 use Rattle.sum_outcome.proofs.incentives.has_preferred.Given as goal
 
 abbrev pub invariant-options : goal.invariant-options
-invariant-options l = AreIncentivesRight l.store l.known.entries × (l.known.cap ≡ l.fn.known.cap)
+invariant-options l = IsKnownRight l.store l.known × (l.known.answers.cap ≡ l.fn.known.answers.cap)

@@ -2,14 +2,17 @@ use Rattle.sum_outcome.proofs.MemoLaws.{incentives_kept}
 use Rattle.sum_outcome.proofs.incentives.is_at_least.Goals as goal
 
 pub returns-in-Some-clause-answer : goal.returns-in-Some-clause-answer
-returns-in-Some-clause-answer c = (c.requires.right (c.args.pair, c.in-Some.answer) c.in-Some.ensures.found).1
+returns-in-Some-clause-answer c = (c.requires.right.0 (c.args.pair, c.in-Some.answer) c.in-Some.ensures.found).1
 
 pub returns-in-Some-clause-right : goal.returns-in-Some-clause-right
-returns-in-Some-clause-right c = λ e among. c.requires.right e (c.recall_incentive.ensures.kept e among)
+returns-in-Some-clause-right c = (λ e among. c.requires.right.0 e (c.recall_incentive.ensures.kept e among), c.requires.right.1)
 
-pub returns-in_default-incentive_at_least-clause-right : goal.returns-in_default-incentive_at_least-clause-right
-returns-in_default-incentive_at_least-clause-right c = λ e among. c.requires.right e (c.recall_incentive.ensures.kept e among)
+pub returns-in_default-compare_incentives-clause-right : goal.returns-in_default-compare_incentives-clause-right
+returns-in_default-compare_incentives-clause-right c = (λ e among. c.requires.right.0 e (c.recall_incentive.ensures.kept e among), c.compare_incentives.ensures.right)
 
 pub returns-clause-right : goal.returns-clause-right
-returns-clause-right c = incentives_kept c.args.store.now c.recall_incentive.new.known.entries c.remember_incentive.new.known.entries c.args.pair c.in-Ok.answer
-    (c.requires.ids, c.in-Ok.ensures {u = tt}) c.remember_incentive.ensures.kept (λ e among. c.requires.right e (c.recall_incentive.ensures.kept e among))
+returns-clause-right c = (
+  incentives_kept c.args.store.now c.recall_incentive.new.answers.entries c.remember_incentive.new.answers.entries c.args.pair c.in-Ok.answer
+      (c.requires.ids, (c.in-Ok.ensures {u = tt}).answer) c.remember_incentive.ensures.kept (λ e among. c.requires.right.0 e (c.recall_incentive.ensures.kept e among)),
+  c.compare_incentives.ensures.right,
+)

@@ -14,7 +14,7 @@ returns-clause-answer c = answers c.args.self.now c.args.key.now c.look_up.resul
 
 pub returns-clause-right : goal.returns-clause-right
 returns-clause-right c Ts right = record {
-  right = record { sums = λ e among. right.sums e (c.look_up.ensures.kept e among); incentives = right.incentives; zero = right.zero };
+  right = record { sums = λ e among. right.sums e (c.look_up.ensures.kept e among); incentives = right.incentives; comparisons = right.comparisons; zero = right.zero };
   sums = c.look_up.ensures.cap;
   incentives = refl;
 }

@@ -7,6 +7,7 @@ returns c Ts answer right = record {
   right = record {
     sums = answers_kept Ts c.args.self.now.sums.entries c.keep.new.sums.entries c.args.key c.args.lost answer c.keep.ensures.kept right.sums;
     incentives = right.incentives;
+    comparisons = right.comparisons;
     zero = right.zero;
   };
   sums = c.keep.ensures.cap;

@@ -1,0 +1,5 @@
+use Rattle.game_canon.proofs.SumMoves.{begun_resisted}
+use Rattle.game_canon.proofs.sums_at_most.begun.Goals as goal
+
+pub returns-clause-resisted : goal.returns-clause-resisted
+returns-clause-resisted c Ts = begun_resisted Ts c.args.pair
