@@ -6,3 +6,4 @@ pub mod AliveLemmas
 pub mod NoReturn
 pub mod GapLemmas
 pub mod RegionLemmas
+pub mod Heights

@@ -16,7 +16,7 @@ returns-clause-one c = λ G. (let r = canon TextBefore text-order.total G in (
   λ D d. canonical-unique TextBefore text-order.irreflexive text-order.transitive r.tree D r.canonical d.canonical (le-trans r.tree G D r.over d.under) (le-trans D G r.tree d.over r.under),
 ))
 
-below : (G C : Tree) → ((X : Tree) → IsOption G X → IsCanonicalTree X) → IsCanonicalFor G C → (X : Tree) → IsOption C X
+pub below : (G C : Tree) → ((X : Tree) → IsOption G X → IsCanonicalTree X) → IsCanonicalFor G C → (X : Tree) → IsOption C X
     → (L : Tree) × IsOption G L × IsFollower L X
 below (node ls rs) C each is X h =
     let r = canon_below TextBefore text-order.total ls rs (all-canonical TextBefore ls (λ Y y. each Y (inl y))) (all-canonical TextBefore rs (λ Y y. each Y (inr y))) in
