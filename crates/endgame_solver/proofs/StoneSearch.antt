@@ -10,14 +10,18 @@ use Rattle.whole_rules.specs.WholeGame.{State, rank}
 use Rattle.local_graph.specs.declared.graph.Edge.{Edge}
 use Rattle.local_graph.specs.Nodes.{Nodes}
 use Rattle.endgame_solver.specs.Held.{IsStoneAt, IsStoneEdge, IsFirstStone}
+use Rattle.endgame_solver.specs.Views.{ShowsAll, own}
+use Rattle.endgame_solver.specs.declared.sharing.Book.{Book}
+use Rattle.endgame_solver.specs.declared.views.View.{View}
 
--- none of the first n edges is the stone's
-abbrev pub NoneBefore : Shape → List Edge → Colour → ℕ → ℕ → Type 0
-NoneBefore r edges c p n = (j : ℕ) (e : Edge) → j < n → j < length edges → get_or edges j e ≡ e → ¬ IsStoneAt r c p e
+-- none of the first n edges stands for a move of the stone
+abbrev pub NoneBefore : Shape → View → List Edge → Colour → ℕ → ℕ → Type 0
+NoneBefore r v edges c p n = (j : ℕ) (f : Edge) → j < n → j < length edges → get_or edges j f ≡ f → ¬ IsStoneAt r c p (own v f)
 
 -- no edge of the first n regions is the stone's
-abbrev pub NoneIn : List Shape → List Nodes → List ℕ → Colour → ℕ → ℕ → Type 0
-NoneIn regions graphs places c p n = (k : ℕ) (e : Edge) → k < n → ¬ IsStoneEdge regions graphs places c p k e
+abbrev pub NoneIn : List Shape → Book → List ℕ → Colour → ℕ → ℕ → Type 0
+NoneIn regions book places c p n = (graphs : List Nodes) (values : List (List ℕ)) → ShowsAll book graphs values (length regions)
+    → (k : ℕ) (e : Edge) → k < n → ¬ IsStoneEdge regions graphs places c p k e
 
 -- no stone below n wins
 abbrev pub NoStone : State → ℕ → Type 0

@@ -6,10 +6,12 @@ mod faults;
 mod laws;
 mod limits;
 mod opening;
+mod sharing;
 mod solved;
 mod solving;
 #[cfg(test)]
 mod tests;
+mod views;
 mod winning;
 
 pub use cycle_names::CycleNames;

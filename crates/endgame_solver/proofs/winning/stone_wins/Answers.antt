@@ -16,9 +16,9 @@ pub returns-in_default-clause-wins : goal.returns-in_default-clause-wins
 returns-in_default-clause-wins c =
     let p = c.args.present.now in
     let s = p.whole.now in
-    let none = subst (λ d. (k : ℕ) (e : Edge) → ¬ IsStoneEdge p.regions.now p.graphs.now p.places.now d c.args.point k e) c.side-side.ensures (c.in_default.ensures {u = tt}) in (
+    let none = subst (λ d. (k : ℕ) (e : Edge) → ¬ IsStoneEdge p.regions.now c.requires.seen.graphs p.places.now d c.args.point k e) c.side-side.ensures (c.in_default.ensures {u = tt}) in (
       λ e. absurd (cc),
-      λ w. absurd (no_stone p.regions.now p.graphs.now p.values.now p.places.now c.args.sum.now p.store.now s c.requires.seen c.args.point none w),
+      λ w. absurd (no_stone p.regions.now c.requires.seen.graphs c.requires.seen.values p.places.now c.args.sum.now p.store.now s c.requires.seen.kept c.args.point none w),
     )
 
 pub value_at-requires : goal.value_at-requires
@@ -27,9 +27,9 @@ value_at-requires c =
     let s = p.whole.now in
     let k = c.in-Some.k in
     let e = c.in-Some.edge in
-    let x : IsStoneEdge p.regions.now p.graphs.now p.places.now s.side c.args.point k e = subst (λ d. IsStoneEdge p.regions.now p.graphs.now p.places.now d c.args.point k e) c.side-side.ensures c.in-Some.ensures in
-    let asks = asks_stone p.regions.now p.graphs.now p.values.now p.places.now c.args.sum.now p.store.now s c.requires.seen c.args.point k e x in
-    let ids = get_or_default p.values.now k [] c.index-present-k.result asks.list in
+    let x : IsStoneEdge p.regions.now c.requires.seen.graphs p.places.now s.side c.args.point k e = subst (λ d. IsStoneEdge p.regions.now c.requires.seen.graphs p.places.now d c.args.point k e) c.side-side.ensures c.in-Some.ensures in
+    let asks = asks_stone p.regions.now c.requires.seen.graphs c.requires.seen.values p.places.now c.args.sum.now p.store.now s c.requires.seen.kept c.args.point k e x in
+    let ids = get_or_default c.requires.seen.values k [] c.index-present-k.result asks.list in
     subst (λ z. e.next < length z) ids asks.next
 
 pub balance_of-requires : goal.balance_of-requires
@@ -38,10 +38,10 @@ balance_of-requires c =
     let s = p.whole.now in
     let k = c.in-Some.k in
     let e = c.in-Some.edge in
-    let x : IsStoneEdge p.regions.now p.graphs.now p.places.now s.side c.args.point k e = subst (λ d. IsStoneEdge p.regions.now p.graphs.now p.places.now d c.args.point k e) c.side-side.ensures c.in-Some.ensures in
-    let asks = asks_stone p.regions.now p.graphs.now p.values.now p.places.now c.args.sum.now p.store.now s c.requires.seen c.args.point k e x in
+    let x : IsStoneEdge p.regions.now c.requires.seen.graphs p.places.now s.side c.args.point k e = subst (λ d. IsStoneEdge p.regions.now c.requires.seen.graphs p.places.now d c.args.point k e) c.side-side.ensures c.in-Some.ensures in
+    let asks = asks_stone p.regions.now c.requires.seen.graphs c.requires.seen.values p.places.now c.args.sum.now p.store.now s c.requires.seen.kept c.args.point k e x in
     let few : c.from.result < 256 = omega (arith, c.from.ensures, asks.taken) in
-    let modest = subst AreModest (sym (c.paid_in-purses.ensures ∙ ap (paid_in c.side-side.result c.from.result) c.purses.ensures)) (modest_paid p.graphs.now p.places.now s c.side-side.result c.from.result few c.requires.seen.room) in
+    let modest = subst AreModest (sym (c.paid_in-purses.ensures ∙ ap (paid_in c.side-side.result c.from.result) c.purses.ensures)) (modest_paid c.requires.seen.graphs p.places.now s c.side-side.result c.from.result few c.requires.seen.kept.room) in
     modest
 
 pub loses-lost-requires-clause-ids : goal.loses-lost-requires-clause-ids
@@ -50,9 +50,9 @@ loses-lost-requires-clause-ids c =
     let s = p.whole.now in
     let k = c.in-Some.k in
     let e = c.in-Some.edge in
-    let x : IsStoneEdge p.regions.now p.graphs.now p.places.now s.side c.args.point k e = subst (λ d. IsStoneEdge p.regions.now p.graphs.now p.places.now d c.args.point k e) c.side-side.ensures c.in-Some.ensures in
-    let asks = asks_stone p.regions.now p.graphs.now p.values.now p.places.now c.args.sum.now p.store.now s c.requires.seen c.args.point k e x in
-    let value : get_or (ids_at p.values.now k) e.next 0 ≡ c.value_at.result = ap (λ z. get_or z e.next 0) (get_or_default p.values.now k [] c.index-present-k.result asks.list) ∙ sym c.value_at.ensures in
+    let x : IsStoneEdge p.regions.now c.requires.seen.graphs p.places.now s.side c.args.point k e = subst (λ d. IsStoneEdge p.regions.now c.requires.seen.graphs p.places.now d c.args.point k e) c.side-side.ensures c.in-Some.ensures in
+    let asks = asks_stone p.regions.now c.requires.seen.graphs c.requires.seen.values p.places.now c.args.sum.now p.store.now s c.requires.seen.kept c.args.point k e x in
+    let value : get_or (ids_at c.requires.seen.values k) e.next 0 ≡ c.value_at.result = ap (λ z. get_or z e.next 0) (get_or_default c.requires.seen.values k [] c.index-present-k.result asks.list) ∙ sym c.value_at.ensures in
     subst (λ v. AreIds p.store.now (set c.args.sum.now k v)) value asks.fits.known
 
 pub loses-lost-requires-clause-bounds : goal.loses-lost-requires-clause-bounds
@@ -61,11 +61,11 @@ loses-lost-requires-clause-bounds c =
     let s = p.whole.now in
     let k = c.in-Some.k in
     let e = c.in-Some.edge in
-    let x : IsStoneEdge p.regions.now p.graphs.now p.places.now s.side c.args.point k e = subst (λ d. IsStoneEdge p.regions.now p.graphs.now p.places.now d c.args.point k e) c.side-side.ensures c.in-Some.ensures in
-    let asks = asks_stone p.regions.now p.graphs.now p.values.now p.places.now c.args.sum.now p.store.now s c.requires.seen c.args.point k e x in
-    let value : get_or (ids_at p.values.now k) e.next 0 ≡ c.value_at.result = ap (λ z. get_or z e.next 0) (get_or_default p.values.now k [] c.index-present-k.result asks.list) ∙ sym c.value_at.ensures in
+    let x : IsStoneEdge p.regions.now c.requires.seen.graphs p.places.now s.side c.args.point k e = subst (λ d. IsStoneEdge p.regions.now c.requires.seen.graphs p.places.now d c.args.point k e) c.side-side.ensures c.in-Some.ensures in
+    let asks = asks_stone p.regions.now c.requires.seen.graphs c.requires.seen.values p.places.now c.args.sum.now p.store.now s c.requires.seen.kept c.args.point k e x in
+    let value : get_or (ids_at c.requires.seen.values k) e.next 0 ≡ c.value_at.result = ap (λ z. get_or z e.next 0) (get_or_default c.requires.seen.values k [] c.index-present-k.result asks.list) ∙ sym c.value_at.ensures in
     let few : c.from.result < 256 = omega (arith, c.from.ensures, asks.taken) in
-    let modest = subst AreModest (sym (c.paid_in-purses.ensures ∙ ap (paid_in c.side-side.result c.from.result) c.purses.ensures)) (modest_paid p.graphs.now p.places.now s c.side-side.result c.from.result few c.requires.seen.room) in
+    let modest = subst AreModest (sym (c.paid_in-purses.ensures ∙ ap (paid_in c.side-side.result c.from.result) c.purses.ensures)) (modest_paid c.requires.seen.graphs p.places.now s c.side-side.result c.from.result few c.requires.seen.kept.room) in
     subst (IsBounded (pick p.store.now (set c.args.sum.now k c.value_at.result))) (sym c.balance_of.ensures)
     (subst (λ v. IsBounded (pick p.store.now (set c.args.sum.now k v)) (balance c.paid_in-purses.result *ℤ pos (2 ^ 59))) value (asks.fits.bounds c.paid_in-purses.result modest))
 
@@ -75,9 +75,9 @@ returns-clause-wins c =
     let s = p.whole.now in
     let k = c.in-Some.k in
     let e = c.in-Some.edge in
-    let x : IsStoneEdge p.regions.now p.graphs.now p.places.now s.side c.args.point k e = subst (λ d. IsStoneEdge p.regions.now p.graphs.now p.places.now d c.args.point k e) c.side-side.ensures c.in-Some.ensures in
-    let asks = asks_stone p.regions.now p.graphs.now p.values.now p.places.now c.args.sum.now p.store.now s c.requires.seen c.args.point k e x in
-    let value : get_or (ids_at p.values.now k) e.next 0 ≡ c.value_at.result = ap (λ z. get_or z e.next 0) (get_or_default p.values.now k [] c.index-present-k.result asks.list) ∙ sym c.value_at.ensures in
+    let x : IsStoneEdge p.regions.now c.requires.seen.graphs p.places.now s.side c.args.point k e = subst (λ d. IsStoneEdge p.regions.now c.requires.seen.graphs p.places.now d c.args.point k e) c.side-side.ensures c.in-Some.ensures in
+    let asks = asks_stone p.regions.now c.requires.seen.graphs c.requires.seen.values p.places.now c.args.sum.now p.store.now s c.requires.seen.kept c.args.point k e x in
+    let value : get_or (ids_at c.requires.seen.values k) e.next 0 ≡ c.value_at.result = ap (λ z. get_or z e.next 0) (get_or_default c.requires.seen.values k [] c.index-present-k.result asks.list) ∙ sym c.value_at.ensures in
     let side = c.other.ensures ∙ ap other c.side-side.ensures in
     let purses = c.paid_in-purses.ensures ∙ ap (λ d. paid_in d c.from.result c.purses.result) c.side-side.ensures ∙ ap (λ n. paid_in s.side n c.purses.result) c.from.ensures ∙ ap (paid_in s.side e.taken) c.purses.ensures in
     let number = c.balance_of.ensures ∙ ap (λ m. balance m *ℤ pos (2 ^ 59)) purses in

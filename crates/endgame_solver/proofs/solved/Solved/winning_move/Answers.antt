@@ -9,7 +9,7 @@ pub returns-clause-none : goal.returns-clause-none
 returns-clause-none c =
     let i = c.self.inside in
     subst (λ v. (c.first_winning_move.result ≡ None) ↔ MoverLoses State Leads v.state) c.self.view_is
-    (none_loses i.regions.items i.graphs.items i.values.items i.places.items i.sum.items i.store i.whole c.self.invariant.0 c.first_winning_move.result c.first_winning_move.ensures.first)
+    (none_loses i.regions.items c.self.invariant.0.graphs c.self.invariant.0.values i.places.items i.sum.items i.store i.whole c.self.invariant.0.kept c.first_winning_move.result c.first_winning_move.ensures.first)
 
 pub returns-clause-first : goal.returns-clause-first
 returns-clause-first c = subst (λ v. IsFirstWinning v.state c.first_winning_move.result) c.self.view_is c.first_winning_move.ensures.first
