@@ -11,7 +11,7 @@ ghost use Rattle.sum_outcome.specs.Memo.{Fits};
 ghost use Rattle.endgame_solver.specs.SumGame.{balance, halves};
 ghost use Rattle.endgame_solver.specs.Held.{IsStoneAt, IsStoneEdge, IsFirstStone, AreModest};
 ghost use Rattle.endgame_solver.specs.Views.{IsSeen, ShowsAll, ShowsPlaces, own, seen_graph, seen_ids, view_at};
-ghost use Rattle.local_graph.specs.Nodes.{Nodes};
+ghost use Rattle.local_graph.specs.Nodes.{Nodes, edges_at};
 
 use crate::sharing::Book;
 use crate::views::View;
@@ -129,6 +129,25 @@ fn edge_in(
     None
 }
 
+/// The edges of the graph that a region sees, of the position at a place.
+fn edges_seen(book: &Book, region: usize, place: usize) -> &[Edge]
+    requires view { region < length book.now.views.items }
+    requires graph { (view_at book.now.views.items region).graph < length book.now.graphs.items }
+    requires place { place < length (seen_graph book.now region).positions }
+    ensures { result.now ≡ edges_at (seen_graph book.now region).edges place }
+{
+    let view = view_of(book, region);
+    book.graphs[view.graph].edges(place)
+}
+
+/// How a region sees the book.
+fn view_of(book: &Book, region: usize) -> View
+    requires { region < length book.now.views.items }
+    ensures { result ≡ view_at book.now.views.items region }
+{
+    book.views[region]
+}
+
 /// The region and the edge of a stone at a point.
 pub(crate) fn stone_edge(
     regions: &[Region],
@@ -143,9 +162,10 @@ pub(crate) fn stone_edge(
         (λ x. IsStoneEdge regions.now graphs places.now colour point x.0 x.1) }
 {
     'regions: for k in 0..regions.len() {
-        let view = book.views[k];
-        let edges = book.graphs[view.graph].edges(places[k]);
-        if let Some(edge) = edge_in(&regions[k], view, edges, point, colour) {
+        let region = &regions[k];
+        let view = view_of(book, k);
+        let edges = edges_seen(book, k, places[k]);
+        if let Some(edge) = edge_in(region, view, edges, point, colour) {
             return Some((k, edge));
         }
     }
@@ -167,7 +187,7 @@ pub(crate) fn value_seen(book: &Book, region: usize, place: usize) -> GameId
     requires place { place < length (seen_ids book.now region) }
     ensures { result ≡ slice_index (seen_ids book.now region) place }
 {
-    let view = book.views[region];
+    let view = view_of(book, region);
     value_at(&book.values[view.values], place)
 }
 
@@ -177,7 +197,7 @@ pub(crate) fn positions_seen(book: &Book, region: usize) -> usize
     requires graph { (view_at book.now.views.items region).graph < length book.now.graphs.items }
     ensures { result ≡ length (seen_graph book.now region).positions }
 {
-    let view = book.views[region];
+    let view = view_of(book, region);
     book.graphs[view.graph].len()
 }
 
