@@ -29,19 +29,6 @@ refusal_begun setup limits regions are (Cycle p names back) h = (regions, are, h
 refusal_begun setup limits regions are (Form p) h = (regions, are, h)
 refusal_begun setup limits regions are (Memory e) h = tt
 
--- each region has a position, and so a value
-pub some_value : (limits : Limits) (regions : List Shape) (graphs : List Nodes) (values : List (List ℕ)) (Ts : List Tree) (n : ℕ) → AreSolvedBelow limits regions graphs values Ts n
-    → All (λ ids. 0 < length ids) values
-some_value limits regions graphs values Ts n s k d lt =
-    let solved = s.each k (omega (arith, lt, s.as_many_values)) in
-    let some : 0 < length (ids_at values k) = omega (arith, solved.values.long, solved.graph.graph.graph.some) in
-    subst (λ ids. 0 < length ids) (get_or_default values k [] d lt) some
-
--- all regions are solved, by whichever name the list goes
-pub solved_all : (limits : Limits) (lent regions : List Shape) (graphs : List Nodes) (values : List (List ℕ)) (Ts : List Tree) → lent ≡ regions
-    → AreSolvedBelow limits lent graphs values Ts (length lent) → AreSolvedBelow limits regions graphs values Ts (length regions)
-solved_all limits lent regions graphs values Ts e s = subst (λ rs. AreSolvedBelow limits rs graphs values Ts (length rs)) e s
-
 -- a komi is the same as a number of 64 bits
 pub komi_held : (komi : ℤ) → unsigned_abs komi ≤ 2000000 → to_z w64 (of_z w64 komi) ≡ komi
 komi_held komi h = to_z-of_z w64 komi (fits_signed_from_abs w64 komi (omega (arith, ints, h)))

@@ -10,7 +10,9 @@ use Rattle.local_graph.specs.Nodes.{Nodes, edges_at}
 use Rattle.game_store.specs.Tree.{Tree}
 use Rattle.endgame_solver.specs.Held.{IsKept, IsStoneAt, IsStoneEdge, ids_at, place_at}
 use Rattle.endgame_solver.specs.Regions.{region_at}
+use Rattle.endgame_solver.specs.Sharing.{AreSharedBy}
 use Rattle.endgame_solver.specs.Views.{IsHeld, ShowsAll, ShowsPlaces, own, seen_graph, seen_ids, view_at}
+use Rattle.endgame_solver.specs.declared.limits.Limits.{Limits}
 use Rattle.endgame_solver.specs.declared.sharing.Book.{Book}
 use Rattle.endgame_solver.specs.declared.views.View.{View}
 use Rattle.endgame_solver.proofs.StoneSearch.{NoneIn}
@@ -30,6 +32,15 @@ module _ (regions : List Shape) (book : Book) (graphs : List Nodes) (values : Li
     known = lt;
     edge = record { stone = stone; among = ((shows.each k lt).seen.moves (place_at places k) e).1 (f, among, is) };
   }
+
+-- each region's opening has a value
+pub openings_known : (limits : Limits) (regions : List Shape) (book : Book) (Ts : List Tree) → AreSharedBy limits regions book Ts → (k : ℕ) → k < length book.views.items
+    → ((view_at book.views.items k).values < length book.values.items) × (0 < length (seen_ids book k))
+openings_known limits regions book Ts s k lt =
+    let short : k < length regions = omega (arith, lt, s.views_are.many) in
+    let w = s.views_are.each k short in
+    let solved = s.solved.each k short in
+    (w.values, omega (arith, ap length w.same, solved.values.long, solved.graph.graph.graph.some))
 
 -- the values of the openings
 pub sum_is : (book : Book) (graphs : List Nodes) (values : List (List ℕ)) (n : ℕ) (sum : List ℕ) → ShowsAll book graphs values n → length values ≡ n

@@ -1,6 +1,6 @@
 //! Who wins the present state, and by which moves: each is asked of the sum of the values that the move leaves.
 
-ghost use Rattle.std.specs.Prelude.{◌≡◌, ℕ, ◌<◌, ◌≤◌, ◌^◌, ◌+ℤ◌, ◌*ℤ◌, neg_ℤ, pos, unsigned_abs, ◌↔◌, Contains, IsTrue, List, MatchOption, length, slice_index};
+ghost use Rattle.std.specs.Prelude.{◌≡◌, ℕ, ◌<◌, ◌≤◌, ◌^◌, ◌+ℤ◌, ◌*ℤ◌, neg_ℤ, pos, unsigned_abs, ◌↔◌, Contains, IfSome, IsTrue, List, MatchOption, length, slice_index};
 ghost use Rattle.go_grid.specs.declared.grid.Colour.{Colour};
 ghost use Rattle.local_graph.specs.declared.graph.Edge.{Edge};
 ghost use Rattle.whole_rules.specs.declared.states.Move.TheVariants.{Stone, Spend};
@@ -157,7 +157,8 @@ pub(crate) fn stone_edge(
     colour: Colour,
 ) -> Option<(usize, Edge)>
     requires { ShowsPlaces regions.now book.now places.now }
-    ensures { (graphs : List Nodes) (values : List (List ℕ)) → ShowsAll book.now graphs values (length regions.now)
+    ensures known { IfSome result (λ x. x.0 < length regions.now) }
+    ensures edges { (graphs : List Nodes) (values : List (List ℕ)) → ShowsAll book.now graphs values (length regions.now)
         → MatchOption result ((k : ℕ) (e : Edge) → ¬ IsStoneEdge regions.now graphs places.now colour point k e)
         (λ x. IsStoneEdge regions.now graphs places.now colour point x.0 x.1) }
 {

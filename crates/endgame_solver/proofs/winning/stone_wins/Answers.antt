@@ -16,7 +16,7 @@ pub returns-in_default-clause-wins : goal.returns-in_default-clause-wins
 returns-in_default-clause-wins c =
     let p = c.args.present.now in
     let s = p.whole.now in
-    let none = subst (λ d. (k : ℕ) (e : Edge) → ¬ IsStoneEdge p.regions.now c.requires.seen.graphs p.places.now d c.args.point k e) c.side-side.ensures (c.in_default.ensures {u = tt} c.requires.seen.graphs c.requires.seen.values c.requires.seen.views_are) in (
+    let none = subst (λ d. (k : ℕ) (e : Edge) → ¬ IsStoneEdge p.regions.now c.requires.seen.graphs p.places.now d c.args.point k e) c.side-side.ensures ((c.in_default.ensures {u = tt}).edges c.requires.seen.graphs c.requires.seen.values c.requires.seen.views_are) in (
       λ e. absurd (cc),
       λ w. absurd (no_stone p.regions.now c.requires.seen.graphs c.requires.seen.values p.places.now c.args.sum.now p.store.now s c.requires.seen.kept c.args.point none w),
     )
@@ -29,7 +29,7 @@ value_seen-requires-clause-view c =
     let p = c.args.present.now in
     let s = p.whole.now in
     let k = c.in-Some.k in
-    let x = c.in-Some.ensures c.requires.seen.graphs c.requires.seen.values c.requires.seen.views_are in
+    let x = c.in-Some.ensures.edges c.requires.seen.graphs c.requires.seen.values c.requires.seen.views_are in
     asks_view p.regions.now p.book.now p.places.now c.args.sum.now p.store.now s c.requires.seen k x.known
 
 pub value_seen-requires-clause-values : goal.value_seen-requires-clause-values
@@ -37,7 +37,7 @@ value_seen-requires-clause-values c =
     let p = c.args.present.now in
     let s = p.whole.now in
     let k = c.in-Some.k in
-    let x = c.in-Some.ensures c.requires.seen.graphs c.requires.seen.values c.requires.seen.views_are in
+    let x = c.in-Some.ensures.edges c.requires.seen.graphs c.requires.seen.values c.requires.seen.views_are in
     asks_values p.regions.now p.book.now p.places.now c.args.sum.now p.store.now s c.requires.seen k x.known
 
 pub value_seen-requires-clause-place : goal.value_seen-requires-clause-place
@@ -46,7 +46,7 @@ value_seen-requires-clause-place c =
     let s = p.whole.now in
     let k = c.in-Some.k in
     let e = c.in-Some.edge in
-    let x : IsStoneEdge p.regions.now c.requires.seen.graphs p.places.now s.side c.args.point k e = subst (λ d. IsStoneEdge p.regions.now c.requires.seen.graphs p.places.now d c.args.point k e) c.side-side.ensures (c.in-Some.ensures c.requires.seen.graphs c.requires.seen.values c.requires.seen.views_are) in
+    let x : IsStoneEdge p.regions.now c.requires.seen.graphs p.places.now s.side c.args.point k e = subst (λ d. IsStoneEdge p.regions.now c.requires.seen.graphs p.places.now d c.args.point k e) c.side-side.ensures (c.in-Some.ensures.edges c.requires.seen.graphs c.requires.seen.values c.requires.seen.views_are) in
     let asks = asks_stone p.regions.now c.requires.seen.graphs c.requires.seen.values p.places.now c.args.sum.now p.store.now s c.requires.seen.kept c.args.point k e x in
     subst (λ z. e.next < length z) (sym (ids_seen p.regions.now p.book.now p.places.now c.args.sum.now p.store.now s c.requires.seen k x.known)) asks.next
 
@@ -56,7 +56,7 @@ balance_of-requires c =
     let s = p.whole.now in
     let k = c.in-Some.k in
     let e = c.in-Some.edge in
-    let x : IsStoneEdge p.regions.now c.requires.seen.graphs p.places.now s.side c.args.point k e = subst (λ d. IsStoneEdge p.regions.now c.requires.seen.graphs p.places.now d c.args.point k e) c.side-side.ensures (c.in-Some.ensures c.requires.seen.graphs c.requires.seen.values c.requires.seen.views_are) in
+    let x : IsStoneEdge p.regions.now c.requires.seen.graphs p.places.now s.side c.args.point k e = subst (λ d. IsStoneEdge p.regions.now c.requires.seen.graphs p.places.now d c.args.point k e) c.side-side.ensures (c.in-Some.ensures.edges c.requires.seen.graphs c.requires.seen.values c.requires.seen.views_are) in
     let asks = asks_stone p.regions.now c.requires.seen.graphs c.requires.seen.values p.places.now c.args.sum.now p.store.now s c.requires.seen.kept c.args.point k e x in
     let few : c.from.result < 256 = omega (arith, c.from.ensures, asks.taken) in
     let modest = subst AreModest (sym (c.paid_in-purses.ensures ∙ ap (paid_in c.side-side.result c.from.result) c.purses.ensures)) (modest_paid c.requires.seen.graphs p.places.now s c.side-side.result c.from.result few c.requires.seen.kept.room) in
@@ -68,7 +68,7 @@ loses-lost-requires-clause-ids c =
     let s = p.whole.now in
     let k = c.in-Some.k in
     let e = c.in-Some.edge in
-    let x : IsStoneEdge p.regions.now c.requires.seen.graphs p.places.now s.side c.args.point k e = subst (λ d. IsStoneEdge p.regions.now c.requires.seen.graphs p.places.now d c.args.point k e) c.side-side.ensures (c.in-Some.ensures c.requires.seen.graphs c.requires.seen.values c.requires.seen.views_are) in
+    let x : IsStoneEdge p.regions.now c.requires.seen.graphs p.places.now s.side c.args.point k e = subst (λ d. IsStoneEdge p.regions.now c.requires.seen.graphs p.places.now d c.args.point k e) c.side-side.ensures (c.in-Some.ensures.edges c.requires.seen.graphs c.requires.seen.values c.requires.seen.views_are) in
     let asks = asks_stone p.regions.now c.requires.seen.graphs c.requires.seen.values p.places.now c.args.sum.now p.store.now s c.requires.seen.kept c.args.point k e x in
     let value : get_or (ids_at c.requires.seen.values k) e.next 0 ≡ c.value_seen.result = ap (λ z. get_or z e.next 0) (sym (ids_seen p.regions.now p.book.now p.places.now c.args.sum.now p.store.now s c.requires.seen k x.known)) ∙ sym c.value_seen.ensures in
     subst (λ v. AreIds p.store.now (set c.args.sum.now k v)) value asks.fits.known
@@ -79,7 +79,7 @@ loses-lost-requires-clause-bounds c =
     let s = p.whole.now in
     let k = c.in-Some.k in
     let e = c.in-Some.edge in
-    let x : IsStoneEdge p.regions.now c.requires.seen.graphs p.places.now s.side c.args.point k e = subst (λ d. IsStoneEdge p.regions.now c.requires.seen.graphs p.places.now d c.args.point k e) c.side-side.ensures (c.in-Some.ensures c.requires.seen.graphs c.requires.seen.values c.requires.seen.views_are) in
+    let x : IsStoneEdge p.regions.now c.requires.seen.graphs p.places.now s.side c.args.point k e = subst (λ d. IsStoneEdge p.regions.now c.requires.seen.graphs p.places.now d c.args.point k e) c.side-side.ensures (c.in-Some.ensures.edges c.requires.seen.graphs c.requires.seen.values c.requires.seen.views_are) in
     let asks = asks_stone p.regions.now c.requires.seen.graphs c.requires.seen.values p.places.now c.args.sum.now p.store.now s c.requires.seen.kept c.args.point k e x in
     let value : get_or (ids_at c.requires.seen.values k) e.next 0 ≡ c.value_seen.result = ap (λ z. get_or z e.next 0) (sym (ids_seen p.regions.now p.book.now p.places.now c.args.sum.now p.store.now s c.requires.seen k x.known)) ∙ sym c.value_seen.ensures in
     let few : c.from.result < 256 = omega (arith, c.from.ensures, asks.taken) in
@@ -93,7 +93,7 @@ returns-clause-wins c =
     let s = p.whole.now in
     let k = c.in-Some.k in
     let e = c.in-Some.edge in
-    let x : IsStoneEdge p.regions.now c.requires.seen.graphs p.places.now s.side c.args.point k e = subst (λ d. IsStoneEdge p.regions.now c.requires.seen.graphs p.places.now d c.args.point k e) c.side-side.ensures (c.in-Some.ensures c.requires.seen.graphs c.requires.seen.values c.requires.seen.views_are) in
+    let x : IsStoneEdge p.regions.now c.requires.seen.graphs p.places.now s.side c.args.point k e = subst (λ d. IsStoneEdge p.regions.now c.requires.seen.graphs p.places.now d c.args.point k e) c.side-side.ensures (c.in-Some.ensures.edges c.requires.seen.graphs c.requires.seen.values c.requires.seen.views_are) in
     let asks = asks_stone p.regions.now c.requires.seen.graphs c.requires.seen.values p.places.now c.args.sum.now p.store.now s c.requires.seen.kept c.args.point k e x in
     let value : get_or (ids_at c.requires.seen.values k) e.next 0 ≡ c.value_seen.result = ap (λ z. get_or z e.next 0) (sym (ids_seen p.regions.now p.book.now p.places.now c.args.sum.now p.store.now s c.requires.seen k x.known)) ∙ sym c.value_seen.ensures in
     let side = c.other.ensures ∙ ap other c.side-side.ensures in

@@ -25,8 +25,8 @@ apply-requires-2-clause-black c = let i = c.self.inside in few_black i.regions.i
 pub apply-requires-2-clause-white : goal.apply-requires-2-clause-white
 apply-requires-2-clause-white c = let i = c.self.inside in few_white i.regions.items c.self.invariant.0.graphs c.self.invariant.0.values i.places.items i.sum.items i.store i.whole c.self.invariant.0.kept
 
-pub stone_edge-requires : goal.stone_edge-requires
-stone_edge-requires c =
+pub stone_edge-edge-requires : goal.stone_edge-edge-requires
+stone_edge-edge-requires c =
     let i = c.self.inside in
     subst (λ rs. ShowsPlaces rs i.book c.deref-2.result.now) (sym c.deref.ensures.value)
     (subst (ShowsPlaces i.regions.items i.book) (sym c.deref-2.ensures.value) (shows_places i.regions.items i.book i.places.items i.sum.items i.store i.whole c.self.invariant.0))
@@ -37,7 +37,7 @@ value_seen-requires-clause-view c =
     let held = c.self.invariant.0 in
     let shows = subst (λ rs. ShowsAll i.book held.graphs held.values (length rs)) (sym c.deref.ensures.value) held.views_are in
     let x = edge_seen c.deref.result.now i.regions.items held.graphs held.graphs c.deref-2.result.now i.places.items c.side-side.result i.whole.side c.in-Stone.point c.in-Some.k c.in-Some.edge
-    c.deref.ensures.value refl c.deref-2.ensures.value c.side-side.ensures (c.in-Some.ensures {u = tt} held.graphs held.values shows) in
+    c.deref.ensures.value refl c.deref-2.ensures.value c.side-side.ensures ((c.in-Some.ensures {u = tt}).edges held.graphs held.values shows) in
     asks_view i.regions.items i.book i.places.items i.sum.items i.store i.whole held c.in-Some.k x.known
 
 pub value_seen-requires-clause-values : goal.value_seen-requires-clause-values
@@ -46,7 +46,7 @@ value_seen-requires-clause-values c =
     let held = c.self.invariant.0 in
     let shows = subst (λ rs. ShowsAll i.book held.graphs held.values (length rs)) (sym c.deref.ensures.value) held.views_are in
     let x = edge_seen c.deref.result.now i.regions.items held.graphs held.graphs c.deref-2.result.now i.places.items c.side-side.result i.whole.side c.in-Stone.point c.in-Some.k c.in-Some.edge
-    c.deref.ensures.value refl c.deref-2.ensures.value c.side-side.ensures (c.in-Some.ensures {u = tt} held.graphs held.values shows) in
+    c.deref.ensures.value refl c.deref-2.ensures.value c.side-side.ensures ((c.in-Some.ensures {u = tt}).edges held.graphs held.values shows) in
     asks_values i.regions.items i.book i.places.items i.sum.items i.store i.whole held c.in-Some.k x.known
 
 pub value_seen-requires-clause-place : goal.value_seen-requires-clause-place
@@ -58,7 +58,7 @@ value_seen-requires-clause-place c =
     let p = c.in-Stone.point in
     let shows = subst (λ rs. ShowsAll i.book held.graphs held.values (length rs)) (sym c.deref.ensures.value) held.views_are in
     let x = edge_seen c.deref.result.now i.regions.items held.graphs held.graphs c.deref-2.result.now i.places.items c.side-side.result i.whole.side p k e
-    c.deref.ensures.value refl c.deref-2.ensures.value c.side-side.ensures (c.in-Some.ensures {u = tt} held.graphs held.values shows) in
+    c.deref.ensures.value refl c.deref-2.ensures.value c.side-side.ensures ((c.in-Some.ensures {u = tt}).edges held.graphs held.values shows) in
     let asks = asks_stone i.regions.items held.graphs held.values i.places.items i.sum.items i.store i.whole held.kept p k e x in
     subst (λ z. e.next < length z) (sym (ids_seen i.regions.items i.book i.places.items i.sum.items i.store i.whole held k x.known)) asks.next
 
@@ -71,7 +71,7 @@ invariant_of-self-in-Some c =
     let p = c.in-Stone.point in
     let shows = subst (λ rs. ShowsAll i.book held.graphs held.values (length rs)) (sym c.deref.ensures.value) held.views_are in
     let x = edge_seen c.deref.result.now i.regions.items held.graphs held.graphs c.deref-2.result.now i.places.items c.side-side.result i.whole.side p k e
-    c.deref.ensures.value refl c.deref-2.ensures.value c.side-side.ensures (c.in-Some.ensures {u = tt} held.graphs held.values shows) in
+    c.deref.ensures.value refl c.deref-2.ensures.value c.side-side.ensures ((c.in-Some.ensures {u = tt}).edges held.graphs held.values shows) in
     let ids = sym (ids_seen i.regions.items i.book i.places.items i.sum.items i.store i.whole held k x.known) in
     let value : get_or (ids_at held.values k) e.next 0 ≡ c.value_seen.result = ap (λ z. get_or z e.next 0) ids ∙ sym c.value_seen.ensures in (
       held_as i.regions.items i.book i.places.items i.sum.items i.store i.whole held (set i.places.items k e.next) (set i.sum.items k c.value_seen.result) c.apply-2.new.self
@@ -87,5 +87,5 @@ invariant_of-self-in_default-edge c =
     let p = c.in-Stone.point in
     let shows = subst (λ rs. ShowsAll i.book held.graphs held.values (length rs)) (sym c.deref.ensures.value) held.views_are in
     let none = none_seen c.deref.result.now i.regions.items held.graphs held.graphs c.deref-2.result.now i.places.items c.side-side.result i.whole.side p
-    c.deref.ensures.value refl c.deref-2.ensures.value c.side-side.ensures (c.in_default-edge.ensures {u = tt} held.graphs held.values shows) in
+    c.deref.ensures.value refl c.deref-2.ensures.value c.side-side.ensures ((c.in_default-edge.ensures {u = tt}).edges held.graphs held.values shows) in
     absurd (some_edge i.regions.items held.graphs held.values i.places.items i.sum.items i.store i.whole held.kept p c.apply-2.new.self (c.in_ok-apply.ensures {u = tt}) none)
