@@ -134,8 +134,7 @@ module _ (q r : Shape) (h : Nodes) (Paired : ℕ → ℕ → Type 0) (v : View) 
       → (i : ℕ) × (a : List Cell) × IsPlaceOf q h i a × Matched q.touch r.touch Paired v.colours a b
   place_of b reach =
       let (a, reached, m) = reach_matched r.touch q.touch Back v.colours r.cells q.cells b (turned_back q.cells r.cells opening) reach in
-      let (i, inside, is) = of.graph.all a reached in
-      (
+      let (i, inside, is) = of.graph.all a reached in (
         i,
         a,
         record { inside = inside; reachable = reached; packed = get_or_default h.positions i 0 (pack a) inside ∙ is },
@@ -193,32 +192,41 @@ module _ (q r : Shape) (h : Nodes) (Paired : ℕ → ℕ → Type 0) (v : View) 
   HasKey i n = (f : Edge) × Contains (edges_at h.edges i) f × (key (own v f) ≡ n)
 
   sorted_more : (i n : ℕ) (es : List Edge) → Sorted i n es → Decided (HasKey i n) → (es : List Edge) × Sorted i (suc n) es
-  sorted_more i n es s (inl (f, among, is)) = (es ++ own v f ∷ [], record {
-    from = λ e c. elim (Contains-append_cases es (own v f ∷ []) e c) [
-      | inl before ↦ (let (g, there, same, less) = s.from e before in (g, there, same, omega (arith, less)))
-      | inr last ↦ (let same = sym (only (own v f) e last) in (f, among, same, (let k = ap key same in omega (arith, k, is))))
-    ];
-    to = λ g c lt. elim (cases_eq (key (own v g)) n) [
-      | inl same ↦ (own v f, Contains-append_right es (own v f ∷ []) (own v f) (contains-head Edge (own v f) []), is ∙ sym same)
-      | inr other ↦ (let (e, there, same) = s.to g c (omega (arith, lt, other)) in (e, Contains-append_left es (own v f ∷ []) e there, same))
-    ];
-    rising = pairs_push (λ a b. key a < key b) es (own v f) s.rising (λ e c. let less = (s.from e c).3 in omega (arith, less, is));
-  })
-  sorted_more i n es s (inr none) = (es, record {
-    from = λ e c. let (g, there, same, less) = s.from e c in (g, there, same, omega (arith, less));
-    to = λ g c lt. s.to g c (elim (cases_eq (key (own v g)) n) as (λ _. key (own v g) < n) [
-      | inl same ↦ absurd (none (g, c, same))
-      | inr other ↦ omega (arith, lt, other)
-    ]);
-    rising = s.rising;
-  })
+  sorted_more i n es s (inl (f, among, is)) = (
+    es ++ own v f ∷ [],
+    record {
+      from = λ e c. elim (Contains-append_cases es (own v f ∷ []) e c) [
+        | inl before ↦ (let (g, there, same, less) = s.from e before in (g, there, same, omega (arith, less)))
+        | inr last ↦ (let same = sym (only (own v f) e last) in (f, among, same, (let k = ap key same in omega (arith, k, is))))
+      ];
+      to = λ g c lt. elim (cases_eq (key (own v g)) n) [
+        | inl same ↦ (own v f, Contains-append_right es (own v f ∷ []) (own v f) (contains-head Edge (own v f) []), is ∙ sym same)
+        | inr other ↦ (let (e, there, same) = s.to g c (omega (arith, lt, other)) in (e, Contains-append_left es (own v f ∷ []) e there, same))
+      ];
+      rising = pairs_push (λ a b. key a < key b) es (own v f) s.rising (λ e c. let less = (s.from e c).3 in omega (arith, less, is));
+    },
+  )
+  sorted_more i n es s (inr none) = (
+    es,
+    record {
+      from = λ e c. let (g, there, same, less) = s.from e c in (g, there, same, omega (arith, less));
+      to = λ g c lt. s.to g c (elim (cases_eq (key (own v g)) n) as (λ _. key (own v g) < n) [
+        | inl same ↦ absurd (none (g, c, same))
+        | inr other ↦ omega (arith, lt, other)
+      ]);
+      rising = s.rising;
+    },
+  )
 
   sorted : (i n : ℕ) → (es : List Edge) × Sorted i n es
-  sorted i zero = ([], record {
-    from = λ e c. absurd (omega (arith, c.1));
-    to = λ f c lt. absurd (omega (arith, lt));
-    rising = λ j k d lt short. absurd (omega (arith, short));
-  })
+  sorted i zero = (
+    [],
+    record {
+      from = λ e c. absurd (omega (arith, c.1));
+      to = λ f c lt. absurd (omega (arith, lt));
+      rising = λ j k d lt short. absurd (omega (arith, short));
+    },
+  )
   sorted i (suc n) = let (es, s) = sorted i n in
       sorted_more i n es s (some_of (edges_at h.edges i) (λ f. key (own v f) ≡ n) (λ f. cases_eq (key (own v f)) n))
 
@@ -266,13 +274,16 @@ module _ (q r : Shape) (h : Nodes) (Paired : ℕ → ℕ → Type 0) (v : View) 
     }
 
     are_edges : AreEdges positions (map move_for es) es
-    are_edges = (sym (length-map es move_for), λ k m e lt is is'.
-        let (f, among, same, less) = s.from e (k, lt, is') in
-        let (cells, has) = cells_at q h of i f among in
-        let (a, move, edge) = move_of q h of i cells f has among in
-        let inside : e.next < length positions = subst (λ y. y.next < length positions) (sym same) (omega (arith, edge.inside, many)) in
-        subst (λ m. IsEdgeOf positions m e) (ap move_for (sym is') ∙ sym (get_or-map move_for es k e m lt) ∙ is)
-        record { colour = refl; place = refl; taken = refl; inside = inside; next = refl })
+    are_edges = (
+      sym (length-map es move_for),
+      λ k m e lt is is'.
+          let (f, among, same, less) = s.from e (k, lt, is') in
+          let (cells, has) = cells_at q h of i f among in
+          let (a, move, edge) = move_of q h of i cells f has among in
+          let inside : e.next < length positions = subst (λ y. y.next < length positions) (sym same) (omega (arith, edge.inside, many)) in
+          subst (λ m. IsEdgeOf positions m e) (ap move_for (sym is') ∙ sym (get_or-map move_for es k e m lt) ∙ is)
+          record { colour = refl; place = refl; taken = refl; inside = inside; next = refl },
+    )
 
     has_moves : HasMoves r.touch w.turned positions es
     has_moves = (map move_for es, lists, are_edges)

@@ -200,13 +200,22 @@ module _ (limits : Limits) (regions : List Shape) where
     ];
     apart = pairs_push (λ a b. a.shape.spots.items ≢ b.shape.spots.items) kinds kind s.apart apart;
     every = λ k lt. elim (cases_lt k n) [
-      | inl less ↦ (let (j, short, w) = s.every k less in (j, omega (arith, short, length_push kinds kind),
-          λ found is. w found (sym (get_or_append_left kinds (kind ∷ []) found j short) ∙ is)))
-      | inr past ↦ (length kinds, omega (arith, length_push kinds kind), λ found is.
-          let here : k ≡ n = omega (arith, lt, past) in
-          let same : kind ≡ found = sym (get_or_push kinds kind found (length kinds) refl) ∙ is in
-          (kind.turn, subst (λ f. IsShape (region_at regions k) (region_at regions k).cells f.shape.spots.items kind.turn) same
-          (subst (λ m. IsShape (region_at regions m) (region_at regions m).cells kind.shape.spots.items kind.turn) (sym here) shape)))
+      | inl less ↦ (let (j, short, w) = s.every k less in (
+        j,
+        omega (arith, short, length_push kinds kind),
+        λ found is. w found (sym (get_or_append_left kinds (kind ∷ []) found j short) ∙ is),
+      ))
+      | inr past ↦ (
+        length kinds,
+        omega (arith, length_push kinds kind),
+        λ found is.
+            let here : k ≡ n = omega (arith, lt, past) in
+            let same : kind ≡ found = sym (get_or_push kinds kind found (length kinds) refl) ∙ is in (
+              kind.turn,
+              subst (λ f. IsShape (region_at regions k) (region_at regions k).cells f.shape.spots.items kind.turn) same
+                  (subst (λ m. IsShape (region_at regions m) (region_at regions m).cells kind.shape.spots.items kind.turn) (sym here) shape),
+            ),
+      )
     ];
   }
 
@@ -221,10 +230,16 @@ module _ (limits : Limits) (regions : List Shape) where
     apart = s.apart;
     every = λ k lt. elim (cases_lt k n) [
       | inl less ↦ s.every k less
-      | inr past ↦ (j, short, λ kind at.
-          let here : k ≡ n = omega (arith, lt, past) in
-          (t, subst (λ y. IsShape (region_at regions k) (region_at regions k).cells y t) (sym (is kind at))
-          (subst (λ m. IsShape (region_at regions m) (region_at regions m).cells x t) (sym here) shape)))
+      | inr past ↦ (
+        j,
+        short,
+        λ kind at.
+            let here : k ≡ n = omega (arith, lt, past) in (
+              t,
+              subst (λ y. IsShape (region_at regions k) (region_at regions k).cells y t) (sym (is kind at))
+                  (subst (λ m. IsShape (region_at regions m) (region_at regions m).cells x t) (sym here) shape),
+            ),
+      )
     ];
   }
 

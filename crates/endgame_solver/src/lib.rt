@@ -6,6 +6,10 @@ mod faults;
 mod laws;
 mod limits;
 mod opening;
+#[cfg(test)]
+mod plain_tests;
+#[cfg(test)]
+mod shape_tests;
 mod sharing;
 mod solved;
 mod solving;

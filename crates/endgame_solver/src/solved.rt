@@ -19,7 +19,9 @@ use crate::limits::Limits;
 use crate::opening::{first_large, opening_places, opening_values, regions_of_play};
 use crate::sharing::Book;
 use crate::solving::solve_regions;
-use crate::winning::{Present, balance_of, first_winning_move, positions_seen, stone_edge, value_seen};
+use crate::winning::{
+    Present, balance_of, first_winning_move, positions_seen, stone_edge, value_seen,
+};
 use benson_life::Territory;
 use dyadic_num::Dyadic;
 use game_store::{GameId, Store};
