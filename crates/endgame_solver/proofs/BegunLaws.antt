@@ -1,18 +1,12 @@
 -- What beginning answers, and how many steps it takes, whatever list of the board's regions is meant.
-use Rattle.std.proofs.Common.{◌≡◌, ℤ, unsigned_abs, to_z, of_z, w64, ℕ, ◌+◌, ◌^◌, ◌<◌, ◌≤◌, subst, arith, List, [], length, Err, min}
+use Rattle.std.proofs.Common.{◌≡◌, ℤ, unsigned_abs, to_z, of_z, w64, ℕ, ◌+◌, ◌^◌, ◌≤◌, arith, List, length, Err, min}
 use Rattle.std.proofs.lemmas.Int.{fits_signed_from_abs, ints, to_z-of_z}
-use Rattle.std.proofs.lemmas.List.{get_or_default}
-use Rattle.std.specs.List.{All}
 use Rattle.go_grid.specs.Grid.{Grid}
 use Rattle.go_grid.specs.Region.{Shape}
 use Rattle.sgf_go.specs.declared.settings.Setup.{Setup}
-use Rattle.local_graph.specs.Nodes.{Nodes}
-use Rattle.game_store.specs.Tree.{Tree}
 use Rattle.endgame_solver.specs.Faults.{AreRefused, most_steps}
 use Rattle.region_cut.specs.Cut.{AreRegionsOfPlay}
-use Rattle.endgame_solver.specs.Held.{ids_at}
 use Rattle.endgame_solver.specs.Solved.{Begun}
-use Rattle.endgame_solver.specs.Solving.{AreSolvedBelow}
 use Rattle.endgame_solver.specs.declared.limits.Limits.{Limits}
 use Rattle.endgame_solver.specs.declared.faults.SolveError.{SolveError}
 use Rattle.endgame_solver.specs.declared.faults.SolveError.TheVariants.{Points, Positions, Cycle, Form, Memory}

@@ -1,5 +1,5 @@
 -- Where a pairing carries one opening onto another, the first region's graph, turned, is a graph of the second.
-use Rattle.std.proofs.Common.{◌≡◌, ◌≢◌, ℕ, zero, suc, ◌+◌, ◌<◌, ◌≤◌, ◌⊎◌, ◌↔◌, inl, inr, refl, sym, ap, ◌∙◌, subst, arith, List, [], ◌∷◌, ◌++◌, length, get_or, map, Bool, true, false, Contains}
+use Rattle.std.proofs.Common.{◌≡◌, ℕ, zero, suc, ◌+◌, ◌<◌, ◌≤◌, ◌⊎◌, inl, inr, refl, sym, ap, ◌∙◌, subst, arith, List, [], ◌∷◌, ◌++◌, length, get_or, map, Contains}
 use Rattle.std.specs.List.{AllPairs}
 use Rattle.std.proofs.lemmas.Bool.{cases_eq}
 use Rattle.std.proofs.lemmas.List.{get_or-map, get_or_default, length-map}
@@ -7,16 +7,15 @@ use Rattle.std.proofs.lemmas.List.Elements.{Contains-append_cases, Contains-appe
 use Rattle.go_grid.specs.declared.grid.Cell.{Cell}
 use Rattle.go_grid.specs.declared.grid.Colour.{Colour}
 use Rattle.go_grid.specs.declared.grid.Colour.TheVariants.{Black, White}
-use Rattle.go_grid.specs.declared.region.Touch.{Touch}
 use Rattle.go_grid.specs.Region.{Shape}
 use Rattle.local_play.specs.declared.local_move.LocalMove.{LocalMove}
 use Rattle.local_play.specs.LocalPlay.{IsLocalMove, IsNumberTaken}
-use Rattle.local_play.specs.Moves.{IsMoveFrom, ListsMoves, StandsBefore}
+use Rattle.local_play.specs.Moves.{IsMoveFrom, ListsMoves}
 use Rattle.local_play.specs.Packed.{pack}
 use Rattle.local_play.proofs.PackLemmas.{pack_same}
 use Rattle.local_graph.specs.declared.graph.Edge.{Edge}
 use Rattle.local_graph.specs.FiniteLocalPlay.{HasNoCycle}
-use Rattle.local_graph.specs.LocalGraph.{AreEdges, HasMoves, IsEdgeOf, IsGraph, IsOrder, IsReachable}
+use Rattle.local_graph.specs.LocalGraph.{AreEdges, HasMoves, IsEdgeOf, IsGraph, IsReachable}
 use Rattle.local_graph.specs.Nodes.{Nodes, edges_at, no_edge}
 use Rattle.local_graph.proofs.EdgeListLemmas.{node_inside}
 use Rattle.local_graph.proofs.OrderLemmas.{same_place}

@@ -1,5 +1,5 @@
 -- Where a pairing carries one opening onto another, it carries the positions that are reached from the one onto those of the other.
-use Rattle.std.proofs.Common.{◌≡◌, ℕ, suc, ◌+◌, ◌-◌, ◌<◌, refl, sym, ap, ◌∙◌, subst, arith, List, [], ◌∷◌, ◌++◌, length, take, drop, Bool, length-drop}
+use Rattle.std.proofs.Common.{◌≡◌, ℕ, suc, refl, sym, ap, ◌∙◌, subst, arith, List, [], ◌∷◌, ◌++◌, length, take, drop, Bool, length-drop}
 use Rattle.std.proofs.Math.Seq.{take-append_seam, drop-append_seam}
 use Rattle.std.proofs.lemmas.List.{ext_get_or, length-append}
 use Rattle.go_grid.specs.declared.grid.Cell.{Cell}
@@ -9,7 +9,7 @@ use Rattle.go_grid.specs.declared.region.Touch.{Touch}
 use Rattle.local_play.specs.LocalPlay.{IsLocalMove, IsNumberTaken}
 use Rattle.local_graph.specs.declared.cycle.CycleMove.{CycleMove}
 use Rattle.local_graph.specs.FiniteLocalPlay.{HasNoCycle}
-use Rattle.local_graph.specs.LocalGraph.{IsCycle, IsReachable, Plays}
+use Rattle.local_graph.specs.LocalGraph.{IsReachable, Plays}
 use Rattle.region_book.specs.declared.symmetry.Symmetry.{Symmetry}
 use Rattle.region_book.specs.Shape.{Carries, colour_after}
 use Rattle.region_book.proofs.CarryLaws.{carries_back}

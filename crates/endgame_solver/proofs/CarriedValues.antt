@@ -1,5 +1,5 @@
 -- A region whose opening has the shape of a solved region's is solved by that one's graph and values, turned.
-use Rattle.std.proofs.Common.{◌≡◌, ℕ, ◌^◌, ◌<◌, ◌≤◌, inl, sym, ap, ◌∙◌, subst, arith, List, length, get_or, Bool, true, false}
+use Rattle.std.proofs.Common.{◌≡◌, ℕ, ◌^◌, ◌<◌, ◌≤◌, inl, sym, ◌∙◌, subst, arith, List, length, get_or, Bool, true, false}
 use Rattle.go_grid.specs.declared.grid.Cell.{Cell}
 use Rattle.go_grid.specs.declared.region.Touch.{Touch}
 use Rattle.go_grid.specs.Region.{Shape}
@@ -14,16 +14,15 @@ use Rattle.game_store.specs.TextOrder.{IsCanonicalFor}
 use Rattle.game_store.specs.Tree.{Tree}
 use Rattle.game_store.proofs.SumLaws.{neg-le}
 use Rattle.game_canon.proofs.NumberParts.{within-bounds}
-use Rattle.game_canon.proofs.PlayerLaws.{same-refl, same-trans}
+use Rattle.game_canon.proofs.PlayerLaws.{same-trans}
 use Rattle.local_value.specs.PositionTree.{IsTreeOf, IsValueOf}
 use Rattle.local_value.specs.Values.{AreValues}
 use Rattle.local_value.proofs.CellTreeLaws.{trees-exist}
 use Rattle.local_value.proofs.GraphLaws.{position_at}
 use Rattle.region_book.proofs.CarryLaws.{carries_back}
 use Rattle.region_book.proofs.SymmetryLaws.{back}
-use Rattle.endgame_solver.specs.Held.{ids_at}
 use Rattle.endgame_solver.specs.ShapeValues.{game_after}
-use Rattle.endgame_solver.specs.Sharing.{AreTurnedValues, IsTurnedValue}
+use Rattle.endgame_solver.specs.Sharing.{AreTurnedValues}
 use Rattle.endgame_solver.specs.Solving.{IsGraphWithin, IsSolvedBy}
 use Rattle.endgame_solver.specs.Views.{Serves}
 use Rattle.endgame_solver.specs.declared.limits.Limits.{Limits}

@@ -1,5 +1,5 @@
 -- What a solved game keeps, at the opening.
-use Rattle.std.proofs.Common.{◌≡◌, ℕ, ◌*◌, ◌^◌, ◌<◌, ◌≤◌, sym, ap, ◌∙◌, subst, arith, List, [], length, get_or, map, replicate, ℤ, unsigned_abs}
+use Rattle.std.proofs.Common.{◌≡◌, ℕ, ◌^◌, ◌<◌, ◌≤◌, sym, ap, ◌∙◌, subst, arith, List, [], length, get_or, map, replicate, ℤ, unsigned_abs}
 use Rattle.std.specs.List.{All, Contains}
 use Rattle.std.proofs.lemmas.List.{get_or-map, get_or-replicate, get_or_default, length-map, length-replicate}
 use Rattle.std.proofs.lemmas.List.Elements.{Contains-get_or}

@@ -1,5 +1,5 @@
 -- An array of 32 places that is filled place by place, and the negatives of values one after the other.
-use Rattle.std.proofs.Common.{◌≡◌, ◌≢◌, ℕ, ◌+◌, ◌<◌, ◌↔◌, inl, inr, refl, sym, ap, ◌∙◌, subst, arith, List, [], ◌∷◌, ◌++◌, length, get_or, set, take, drop, replicate, below_more, Bool, true, Option, Some, None}
+use Rattle.std.proofs.Common.{◌≡◌, ◌≢◌, ℕ, ◌+◌, ◌<◌, ◌↔◌, inl, inr, sym, ap, ◌∙◌, subst, arith, List, [], ◌∷◌, ◌++◌, length, get_or, set, take, drop, replicate, below_more, Bool, true, Option, Some, None}
 use Rattle.std.proofs.lemmas.Bool.{cases_eq}
 use Rattle.std.proofs.lemmas.List.{get_or_append_left, get_or_push, get_or-set_other, get_or-set_same, length_push, length-replicate, length-set, take-append-le}
 use Rattle.std.proofs.Math.Seq.{take-length}
@@ -10,7 +10,7 @@ use Rattle.game_store.specs.Tree.{Tree, neg}
 use Rattle.game_canon.specs.Outcomes.{AreWithin, IsCanonicalId}
 use Rattle.game_canon.proofs.ChangeSteps.{extends-on}
 use Rattle.endgame_solver.specs.ShapeValues.{game_after}
-use Rattle.endgame_solver.specs.Sharing.{AreNegatives, AreTurnedValues, IsTurnedValue}
+use Rattle.endgame_solver.specs.Sharing.{AreNegatives, IsTurnedValue}
 
 -- each of the first n places holds what it is to hold
 pub record Filled (Is : ℕ → ℕ → Type 0) (n : ℕ) (places : List ℕ) : Type 0 where

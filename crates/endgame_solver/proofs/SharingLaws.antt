@@ -1,5 +1,5 @@
 -- Regions are solved one after the other, each by the graph and the values of the first that has its shape.
-use Rattle.std.proofs.Common.{◌≡◌, ◌≢◌, ℕ, zero, suc, ◌+◌, ◌<◌, ◌≤◌, ◌↔◌, inl, inr, refl, sym, ap, ◌∙◌, subst, arith, List, [], ◌∷◌, ◌++◌, length, get_or, Bool, true, false, Option, Some, None, Contains}
+use Rattle.std.proofs.Common.{◌≡◌, ◌≢◌, ℕ, zero, suc, ◌+◌, ◌<◌, ◌≤◌, inl, inr, refl, sym, ap, ◌∙◌, subst, arith, List, [], ◌∷◌, ◌++◌, length, get_or, false, Option, Some, Contains}
 use Rattle.std.proofs.lemmas.Bool.{cases_eq, cases_lt}
 use Rattle.std.proofs.lemmas.List.{get_or_append_left, get_or_default, get_or_past, get_or_push, length-append, length_push}
 use Rattle.std.proofs.lemmas.List.Elements.{Contains-get_or}
@@ -12,22 +12,20 @@ use Rattle.game_store.specs.Forms.{HaveForms}
 use Rattle.game_store.specs.Meaning.{AreCanonical, AreIds, Extends}
 use Rattle.game_store.specs.Tree.{Tree}
 use Rattle.game_store.proofs.OrderLaws.{le-refl}
-use Rattle.local_value.specs.PositionTree.{IsValueOf}
 use Rattle.local_value.specs.Values.{IsGraphOf}
 use Rattle.region_book.specs.Image.{IsShape}
-use Rattle.region_book.specs.Law.{Meet, differ}
+use Rattle.region_book.specs.Law.{Meet}
 use Rattle.region_book.specs.Shape.{Carries, Direction, colour_after, link}
 use Rattle.region_book.specs.Shape.Direction.{up, left, right, down}
 use Rattle.region_book.specs.declared.shapes.Turn.{Turn}
-use Rattle.region_book.specs.declared.symmetry.Symmetry.{Symmetry}
 use Rattle.region_book.proofs.ShapeLaws.{pairs_places, tells_shapes}
 use Rattle.endgame_solver.specs.Faults.{AreSmall}
 use Rattle.endgame_solver.specs.Held.{ids_at}
 use Rattle.endgame_solver.specs.Regions.{graph_at, no_graph, no_region, region_at}
 use Rattle.endgame_solver.specs.ShapeValues.{AreLinked}
-use Rattle.endgame_solver.specs.Sharing.{AreKinds, AreSharedBy, AreTurnedValues, IsKind, IsTurnedValue, IsViewFor, PairsWith, SharesBelow}
+use Rattle.endgame_solver.specs.Sharing.{AreKinds, AreSharedBy, AreTurnedValues, IsKind, IsViewFor, SharesBelow}
 use Rattle.endgame_solver.specs.Solved.{IsNumberOfShapes}
-use Rattle.endgame_solver.specs.Solving.{AreSolvedBelow, IsSolvedBy}
+use Rattle.endgame_solver.specs.Solving.{IsSolvedBy}
 use Rattle.endgame_solver.specs.Views.{AreViews, Serves, IsView, no_view, own, view_at}
 use Rattle.endgame_solver.specs.declared.limits.Limits.{Limits}
 use Rattle.endgame_solver.specs.declared.sharing.Book.{Book}
@@ -35,7 +33,6 @@ use Rattle.endgame_solver.specs.declared.sharing.Kind.{Kind}
 use Rattle.endgame_solver.specs.declared.views.View.{View}
 use Rattle.game_canon.proofs.NegationLaws.{chosen}
 use Rattle.endgame_solver.proofs.BeginLaws.{pairs_push}
-use Rattle.endgame_solver.proofs.CarriedGraph.{seen}
 use Rattle.endgame_solver.proofs.CarriedReach.{Matched}
 use Rattle.endgame_solver.proofs.CarriedValues.{turned_graph, turned_seen, turned_solved}
 use Rattle.endgame_solver.proofs.SolvingLaws.{solved_later, solved_next}

@@ -1,4 +1,4 @@
-use Rattle.std.proofs.Common.{◌≡◌, ◌∙◌, refl, sym, ap, subst, arith, length}
+use Rattle.std.proofs.Common.{◌≡◌, ◌∙◌, refl, sym, ap, subst, length}
 use Rattle.endgame_solver.specs.Sharing.{AreNegatives}
 use Rattle.endgame_solver.proofs.PairingLaws.{lent_back, turned_step}
 use Rattle.endgame_solver.proofs.sharing.negatives.Goals as goal

@@ -1,4 +1,4 @@
-use Rattle.std.proofs.Common.{ℕ, ◌<◌, ◌≡◌, get_or, length}
+use Rattle.std.proofs.Common.{◌≡◌}
 use Rattle.endgame_solver.proofs.PairingLaws.{Filled}
 use Rattle.endgame_solver.proofs.sharing.own_places.Given as goal
 

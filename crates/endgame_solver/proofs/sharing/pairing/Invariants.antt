@@ -1,4 +1,4 @@
-use Rattle.std.proofs.Common.{ℕ, ◌<◌, ◌≡◌, get_or, length}
+use Rattle.std.proofs.Common.{◌<◌, ◌≡◌, get_or}
 use Rattle.endgame_solver.proofs.PairingLaws.{Filled}
 use Rattle.endgame_solver.proofs.sharing.pairing.Given as goal
 

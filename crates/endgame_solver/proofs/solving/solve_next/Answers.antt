@@ -1,4 +1,4 @@
-use Rattle.std.proofs.Common.{ℕ, ◌≡◌, ◌≢◌, ◌∙◌, sym, subst, Contains}
+use Rattle.std.proofs.Common.{◌≢◌, ◌∙◌, sym, subst, Contains}
 use Rattle.std.proofs.lemmas.List.{get_or_read}
 use Rattle.std.proofs.lemmas.Result.{err_from_is_err_and}
 use Rattle.region_book.specs.Image.{IsShape}

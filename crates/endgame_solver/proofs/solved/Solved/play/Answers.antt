@@ -1,4 +1,4 @@
-use Rattle.std.proofs.Common.{◌≡◌, ◌<◌, ◌∙◌, refl, sym, ap, subst, length, get_or, set, []}
+use Rattle.std.proofs.Common.{◌≡◌, ◌<◌, ◌∙◌, refl, sym, ap, subst, length, get_or, set}
 use Rattle.endgame_solver.specs.Held.{IsKept, ids_at}
 use Rattle.endgame_solver.specs.Views.{ShowsAll, ShowsPlaces}
 use Rattle.endgame_solver.proofs.ViewLaws.{asks_values, asks_view, held_as, ids_seen, shows_places}

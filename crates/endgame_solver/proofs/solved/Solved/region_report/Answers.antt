@@ -1,4 +1,4 @@
-use Rattle.std.proofs.Common.{◌<◌, ◌≡◌, ◌∙◌, length, sym, subst, ap, get_or, arith, []}
+use Rattle.std.proofs.Common.{◌<◌, ◌≡◌, ◌∙◌, length, sym, subst, ap, get_or, arith}
 use Rattle.std.proofs.lemmas.List.{get_or_default}
 use Rattle.endgame_solver.specs.Regions.{region_at, no_region}
 use Rattle.endgame_solver.specs.declared.solved.RegionReport.{RegionReport}
