@@ -1,9 +1,10 @@
 -- What a region's graph and values say of it: how many positions it has, that no form is too large, and where its moves are.
-use Rattle.std.proofs.Common.{◌≡◌, ℕ, zero, suc, ◌^◌, ◌<◌, ◌≤◌, inl, inr, refl, ◌∙◌, subst, arith, List, [], ◌∷◌, length, get_or, take, drop, true, false, nat_eq}
-use Rattle.std.specs.List.{All, list_any}
+use Rattle.std.proofs.Common.{◌≡◌, ℕ, ◌*◌, ◌^◌, ◌<◌, ◌≤◌, inl, inr, sym, ◌∙◌, subst, arith, List, [], ◌∷◌, ◌++◌, length, get_or, take, drop, true, false, nat_eq}
+use Rattle.std.specs.List.{All, AllPairs, Contains, list_any}
+use Rattle.std.proofs.Math.Nat.{mul-le-mul}
 use Rattle.std.proofs.lemmas.Bool.{cases_Bool, cases_lt, eqb-true}
-use Rattle.std.proofs.lemmas.List.{get_or_default, take-append-drop}
-use Rattle.std.proofs.lemmas.List.Elements.{All-cons, All-nil, All-weaker}
+use Rattle.std.proofs.lemmas.List.{get_or_append_left, get_or_default, get_or_push, length_push, take-append-drop}
+use Rattle.std.proofs.lemmas.List.Elements.{All-cons, All-nil, All-weaker, Contains-get_or}
 use Rattle.std.proofs.lemmas.Map.Keys.{IsDistinct-from_apart}
 use Rattle.std.proofs.lemmas.Map.Steps.{length-le_from_distinct_below}
 use Rattle.std.proofs.lemmas.Map.Views.{Contains-from_any}
@@ -28,18 +29,24 @@ use Rattle.local_value.specs.Values.{IsGraphOf, IsPlaceOf, AreValues}
 use Rattle.local_value.proofs.PositionLaws.{trees-same}
 use Rattle.endgame_solver.specs.Faults.{HasLargeForm}
 
--- a value for each number below n, in a list
-pub chosen : {X : Type 0} (d : X) (P : ℕ → X → Type 0) (n : ℕ) → ((k : ℕ) → k < n → (x : X) × P k x)
-    → (xs : List X) × (length xs ≡ n) × ((k : ℕ) → k < n → P k (get_or xs k d))
-chosen d P zero f = ([], refl, λ k lt. absurd (omega (arith, lt)))
-chosen {X} d P (suc n) f =
-    let first = f 0 (omega arith) in
-    let rest = chosen d (λ k x. P (suc k) x) n (λ k lt. f (suc k) (omega (arith, lt))) in
-    (first.0 ∷ rest.0, omega (arith, rest.1), λ k lt. at first.0 rest.0 first.1 rest.2 k lt)
+-- one item more, which stands in the relation to each before it
+pub pairs_push : {X : Type 0} (R : X → X → Type 0) (xs : List X) (y : X) → AllPairs R xs → ((x : X) → Contains xs x → R x y) → AllPairs R (xs ++ y ∷ [])
+pairs_push R xs y pairs new j k d lt short = elim (cases_lt k (length xs)) as (λ _. R (get_or (xs ++ y ∷ []) j d) (get_or (xs ++ y ∷ []) k d)) [
+  | inl inside ↦ rw (get_or_append_left xs (y ∷ []) d j (omega (arith, lt, inside)), get_or_append_left xs (y ∷ []) d k inside) (pairs j k d lt inside)
+  | inr past ↦
+      let last : k ≡ length xs = omega (arith, past, short, length_push xs y) in
+      let first : j < length xs = omega (arith, lt, last) in
+      rw (get_or_append_left xs (y ∷ []) d j first, get_or_push xs y d k (sym last)) (new (get_or xs j d) (Contains-get_or xs j d first))
+]
+
+-- a product of a million and 32 is as much as the sizes of values may be
+pub few_units : (positions cells scale : ℕ) → positions ≤ 1000000 → cells ≤ 32 → (positions * cells) * scale ≤ 32000000 * scale
+few_units positions cells scale few small =
+    let area : positions * cells ≤ 1000000 * 32 = mul-le-mul {n₂ = 1000000} {m₂ = 32} few small in
+    times (positions * cells) 32000000 scale (omega (arith, area))
   where
-    at : (x : X) (xs : List X) → P 0 x → ((k : ℕ) → k < n → P (suc k) (get_or xs k d)) → (k : ℕ) → k < suc n → P k (get_or (x ∷ xs) k d)
-    at x xs p q zero lt = p
-    at x xs p q (suc k) lt = q k (omega (arith, lt))
+    times : (a b c : ℕ) → a ≤ b → a * c ≤ b * c
+    times a b c h = grind (arith, h)
 
 -- a position has one value
 pub one_value : (touch : List Touch) (cells : List Cell) (V W : Tree) → IsValueOf touch cells V → IsValueOf touch cells W → V ≡ W

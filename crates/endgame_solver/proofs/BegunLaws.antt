@@ -1,18 +1,12 @@
 -- What beginning answers, and how many steps it takes, whatever list of the board's regions is meant.
-use Rattle.std.proofs.Common.{◌≡◌, ℤ, unsigned_abs, to_z, of_z, w64, ℕ, ◌+◌, ◌^◌, ◌<◌, ◌≤◌, subst, arith, List, [], length, Err, min}
+use Rattle.std.proofs.Common.{◌≡◌, ℤ, unsigned_abs, to_z, of_z, w64, ℕ, ◌+◌, ◌^◌, ◌≤◌, arith, List, length, Err, min}
 use Rattle.std.proofs.lemmas.Int.{fits_signed_from_abs, ints, to_z-of_z}
-use Rattle.std.proofs.lemmas.List.{get_or_default}
-use Rattle.std.specs.List.{All}
 use Rattle.go_grid.specs.Grid.{Grid}
 use Rattle.go_grid.specs.Region.{Shape}
 use Rattle.sgf_go.specs.declared.settings.Setup.{Setup}
-use Rattle.local_graph.specs.Nodes.{Nodes}
-use Rattle.game_store.specs.Tree.{Tree}
 use Rattle.endgame_solver.specs.Faults.{AreRefused, most_steps}
 use Rattle.region_cut.specs.Cut.{AreRegionsOfPlay}
-use Rattle.endgame_solver.specs.Held.{ids_at}
 use Rattle.endgame_solver.specs.Solved.{Begun}
-use Rattle.endgame_solver.specs.Solving.{AreSolvedBelow}
 use Rattle.endgame_solver.specs.declared.limits.Limits.{Limits}
 use Rattle.endgame_solver.specs.declared.faults.SolveError.{SolveError}
 use Rattle.endgame_solver.specs.declared.faults.SolveError.TheVariants.{Points, Positions, Cycle, Form, Memory}
@@ -28,19 +22,6 @@ refusal_begun setup limits regions are (Positions p) h = (regions, are, h)
 refusal_begun setup limits regions are (Cycle p names back) h = (regions, are, h)
 refusal_begun setup limits regions are (Form p) h = (regions, are, h)
 refusal_begun setup limits regions are (Memory e) h = tt
-
--- each region has a position, and so a value
-pub some_value : (limits : Limits) (regions : List Shape) (graphs : List Nodes) (values : List (List ℕ)) (Ts : List Tree) (n : ℕ) → AreSolvedBelow limits regions graphs values Ts n
-    → All (λ ids. 0 < length ids) values
-some_value limits regions graphs values Ts n s k d lt =
-    let solved = s.each k (omega (arith, lt, s.as_many_values)) in
-    let some : 0 < length (ids_at values k) = omega (arith, solved.values.long, solved.graph.graph.graph.some) in
-    subst (λ ids. 0 < length ids) (get_or_default values k [] d lt) some
-
--- all regions are solved, by whichever name the list goes
-pub solved_all : (limits : Limits) (lent regions : List Shape) (graphs : List Nodes) (values : List (List ℕ)) (Ts : List Tree) → lent ≡ regions
-    → AreSolvedBelow limits lent graphs values Ts (length lent) → AreSolvedBelow limits regions graphs values Ts (length regions)
-solved_all limits lent regions graphs values Ts e s = subst (λ rs. AreSolvedBelow limits rs graphs values Ts (length rs)) e s
 
 -- a komi is the same as a number of 64 bits
 pub komi_held : (komi : ℤ) → unsigned_abs komi ≤ 2000000 → to_z w64 (of_z w64 komi) ≡ komi

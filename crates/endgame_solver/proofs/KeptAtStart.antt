@@ -1,7 +1,6 @@
 -- What a solved game keeps, at the opening.
-use Rattle.std.proofs.Common.{◌≡◌, ℕ, ◌*◌, ◌^◌, ◌<◌, ◌≤◌, sym, ap, ◌∙◌, subst, arith, List, [], length, get_or, map, replicate, ℤ, unsigned_abs}
+use Rattle.std.proofs.Common.{◌≡◌, ℕ, ◌^◌, ◌<◌, ◌≤◌, sym, ap, ◌∙◌, subst, arith, List, [], length, get_or, map, replicate, ℤ, unsigned_abs}
 use Rattle.std.specs.List.{All, Contains}
-use Rattle.std.proofs.Math.Nat.{mul-le-mul}
 use Rattle.std.proofs.lemmas.List.{get_or-map, get_or-replicate, get_or_default, length-map, length-replicate}
 use Rattle.std.proofs.lemmas.List.Elements.{Contains-get_or}
 use Rattle.go_grid.specs.declared.grid.Colour.{Colour}
@@ -38,15 +37,6 @@ few_regions g regions are few =
         let w = (low_contested g regions are (region_at regions k) (Contains-get_or regions k no_region known)).0 in
         omega (arith, w, get_or-map lowest regions k no_region d known)
 
--- a product of a million and 32 is as much as the sizes of values may be
-few_units : (positions cells scale : ℕ) → positions ≤ 1000000 → cells ≤ 32 → (positions * cells) * scale ≤ 32000000 * scale
-few_units positions cells scale few small =
-    let area : positions * cells ≤ 1000000 * 32 = mul-le-mul {n₂ = 1000000} {m₂ = 32} few small in
-    times (positions * cells) 32000000 scale (omega (arith, area))
-  where
-    times : (a b c : ℕ) → a ≤ b → a * c ≤ b * c
-    times a b c h = grind (arith, h)
-
 module _ (limits : Limits) (g : Grid) (regions : List Shape) (graphs : List Nodes) (values : List (List ℕ)) (Ts : List Tree) (settled : IsSettled g)
     (are : AreRegionsOfPlay g regions) (local : (r : Shape) → Contains regions r → PlaysLocally g r) (few : length g.cells ≤ 625)
     (limit : limits.positions ≤ 1000000) (done : AreSolvedBelow limits regions graphs values Ts (length regions)) where
@@ -73,10 +63,7 @@ module _ (limits : Limits) (g : Grid) (regions : List Shape) (graphs : List Node
     short = short_order;
     many = done.as_many_values;
     valued = λ k lt. (done.each k lt).values;
-    within = λ k i lt short x h.
-        let solved = done.each k lt in
-        let most = few_units (length (graph_at graphs k).positions) (length (region_at regions k).cells) (2 ^ 60) (omega (arith, solved.graph.few, limit)) solved.graph.graph.few in
-        omega (arith, solved.within i short x h, most);
+    within = λ k i lt short. (done.each k lt).within i short;
   }
 
   pub are_sound : AreSound limits regions

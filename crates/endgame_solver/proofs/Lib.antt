@@ -13,6 +13,7 @@ pub mod CellPlayLaws
 pub mod WholeDecomposition
 pub mod CarriedPlay
 pub mod CarriedTrees
+pub mod CarriedReach
 pub mod MoneyLaws
 pub mod FollowLaws
 pub mod HeldLaws
@@ -25,7 +26,12 @@ pub mod WinnerLaws
 pub mod KeptLaws
 pub mod OneCut
 pub mod BeginLaws
+pub mod CarriedGraph
 pub mod SolvingLaws
+pub mod PairingLaws
+pub mod CarriedValues
+pub mod SharingLaws
+pub mod ViewLaws
 pub mod RoomAtStart
 pub mod KeptAtStart
 pub mod BegunLaws

@@ -17,7 +17,7 @@ use Rattle.whole_rules.specs.WholeGame.{State}
 use Rattle.local_graph.specs.Nodes.{Nodes}
 use Rattle.endgame_solver.specs.Held.{HasRoom, place_at, token_left}
 use Rattle.endgame_solver.specs.Regions.{graph_at}
-use Rattle.endgame_solver.proofs.BeginLaws.{chosen}
+use Rattle.game_canon.proofs.NegationLaws.{chosen}
 
 -- there are no more points of a kind than the board has
 number_few : (P : ℕ → Type 0) (n most : ℕ) → ((p : ℕ) → P p → p < most) → IsNumberOf P n → n ≤ most

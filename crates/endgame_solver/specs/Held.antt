@@ -20,7 +20,6 @@ use Rattle.game_store.specs.Tree.{Tree}
 use Rattle.game_store.specs.Meaning.{tree_at}
 use Rattle.game_canon.specs.Outcomes.{AreWithin}
 use Rattle.local_value.specs.Values.{AreValues}
-use Rattle.endgame_solver.specs.declared.winning.Present.{Present}
 use Rattle.endgame_solver.specs.Regions.{region_at, graph_at, AreGraphs, spot_in, IsShown}
 
 -- the ids of a region's positions, by place
@@ -111,7 +110,3 @@ pub record AreModest (m : Purses) : Type 0 where
 abbrev pub IsFirstStone : State → Option ℕ → Type 0
 IsFirstStone s (Some p) = (p < 625) × IsWinning s (Stone p) × ((q : ℕ) → q < p → ¬ IsWinning s (Stone q))
 IsFirstStone s None = (q : ℕ) → ¬ IsWinning s (Stone q)
-
--- the same of what a search looks at
-abbrev pub IsSeen : Present → List ℕ → Type 0
-IsSeen present ids = IsKept present.regions.now present.graphs.now present.values.now present.places.now ids present.store.now present.whole.now

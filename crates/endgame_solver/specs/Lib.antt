@@ -11,3 +11,5 @@ pub mod Solved
 pub mod Held
 pub mod Code
 pub mod Solving
+pub mod Views
+pub mod Sharing

@@ -7,6 +7,7 @@ use Rattle.go_grid.specs.Region.{Shape}
 use Rattle.sgf_go.specs.declared.settings.Setup.{Setup}
 use Rattle.local_play.specs.LocalPlay.{held_at}
 use Rattle.local_graph.specs.LocalGraph.{IsReachable}
+use Rattle.region_book.specs.Shape.{HaveOneShape}
 use Rattle.region_cut.specs.Cut.{lowest, AreRegionsOfPlay}
 use Rattle.whole_rules.specs.Opening.{IsOpening}
 use Rattle.whole_rules.specs.WholeGame.{State}
@@ -66,6 +67,19 @@ pub record IsReport (Ts : List Tree) (r : Shape) (report : RegionReport) : Type 
   pub points : report.points ≡ length r.points
   pub positions : IsNumberOfPositions r report.positions
   pub value : IsValueId Ts r r.cells report.value
+
+-- the openings of the two regions have one shape
+abbrev pub HaveShape : List Shape → ℕ → ℕ → Type 0
+HaveShape regions i k =
+    HaveOneShape (region_at regions i).touch (region_at regions i).cells (region_at regions k).touch (region_at regions k).cells
+
+-- The openings have so many different shapes: no two of as many regions have one shape, and each region has that of one of them.
+pub record IsNumberOfShapes (regions : List Shape) (n : ℕ) : Type 0 where
+  pub firsts : List ℕ
+  pub many : length firsts ≡ n
+  pub known : (j : ℕ) → j < n → slice_index firsts j < length regions
+  pub different : (i j : ℕ) → i < j → j < n → ¬ HaveShape regions (slice_index firsts i) (slice_index firsts j)
+  pub every : (k : ℕ) → k < length regions → (j : ℕ) × (j < n) × HaveShape regions (slice_index firsts j) k
 
 -- Black's purse less White's, and a half for the token's owner, in parts of 2 ^ -60
 abbrev pub balance_units : State → ℤ

@@ -1,5 +1,5 @@
 -- What solving a region gives, and solving one region after the other.
-use Rattle.std.specs.Prelude.{◌≡◌, ℕ, ◌*◌, ◌^◌, ◌<◌, ◌≤◌, List, length, slice_index, Option, Some, None}
+use Rattle.std.specs.Prelude.{◌≡◌, ℕ, ◌<◌, ◌≤◌, List, length, slice_index, Option, Some, None}
 use Rattle.go_grid.specs.Region.{Shape}
 use Rattle.local_graph.specs.LocalGraph.{MoreThan}
 use Rattle.local_graph.specs.Nodes.{Nodes}
@@ -9,7 +9,7 @@ use Rattle.game_canon.specs.Outcomes.{AreWithin}
 use Rattle.local_value.specs.Values.{IsGraphOf, AreValues}
 use Rattle.endgame_solver.specs.Regions.{region_at, graph_at}
 use Rattle.endgame_solver.specs.Faults.{AreSmall, IsFirstLarge, IsFaultOf, IsSound}
-use Rattle.endgame_solver.specs.Held.{ids_at}
+use Rattle.endgame_solver.specs.Held.{ids_at, most_units}
 use Rattle.endgame_solver.specs.declared.limits.Limits.{Limits}
 use Rattle.endgame_solver.specs.declared.faults.SolveError.{SolveError}
 use Rattle.endgame_solver.specs.declared.faults.SolveError.TheVariants.{Memory}
@@ -30,7 +30,7 @@ pub record IsSolvedBy (limits : Limits) (r : Shape) (g : Nodes) (Ts : List Tree)
   pub sound : IsSound limits r
   pub graph : IsGraphWithin limits.positions r g
   pub values : AreValues r g Ts ids
-  pub within : (i : ℕ) → i < length ids → AreWithin ((length g.positions * length r.cells) * 2 ^ 60) (tree_at Ts (slice_index ids i))
+  pub within : (i : ℕ) → i < length ids → AreWithin most_units (tree_at Ts (slice_index ids i))
 
 -- the region's fault, or want of memory
 abbrev pub IsRefusalOf : Limits → Shape → SolveError → Type 0

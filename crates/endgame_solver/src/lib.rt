@@ -6,10 +6,16 @@ mod faults;
 mod laws;
 mod limits;
 mod opening;
+#[cfg(test)]
+mod plain_tests;
+#[cfg(test)]
+mod shape_tests;
+mod sharing;
 mod solved;
 mod solving;
 #[cfg(test)]
 mod tests;
+mod views;
 mod winning;
 
 pub use cycle_names::CycleNames;

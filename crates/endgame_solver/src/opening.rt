@@ -1,17 +1,19 @@
 //! The regions of play of a board, and where they stand at the opening.
 
-ghost use Rattle.std.specs.Prelude.{◌≡◌, ℕ, ◌<◌, ◌≤◌, All, Contains, IfOk, length, replicate, slice_index, map};
+ghost use Rattle.std.specs.Prelude.{◌≡◌, ℕ, ◌<◌, ◌≤◌, Contains, IfOk, length, replicate, slice_index};
 ghost use Rattle.go_grid.specs.Chain.{IsSettled};
 ghost use Rattle.go_grid.specs.Region.{Shape};
 ghost use Rattle.benson_life.specs.Territory.{IsTerritory};
 ghost use Rattle.region_cut.specs.LocalBoard.{PlaysLocally};
 ghost use Rattle.region_cut.specs.Cut.{AreRegionsOfPlay};
 ghost use Rattle.endgame_solver.specs.Solving.{FindsLarge};
+ghost use Rattle.endgame_solver.specs.Views.{seen_ids, view_at};
 
+use crate::sharing::Book;
+use crate::winning::value_seen;
 use benson_life::Territory;
 use game_store::GameId;
 use go_grid::{Board, Point, Region};
-use local_value::Values;
 use region_cut::cut_territory;
 use std::alloc::{AllocError, Global};
 
@@ -53,13 +55,16 @@ pub(crate) fn opening_places(alloc: Global, regions: usize) -> Result<Vec<usize>
 }
 
 /// The values of the openings.
-pub(crate) fn opening_values(alloc: Global, values: &[Values]) -> Result<Vec<GameId>, AllocError>
-    requires { All (λ ids. 0 < length ids) values.now }
-    ensures { IfOk result (λ sum. sum.items ≡ map (λ ids. slice_index ids 0) values.now) }
+pub(crate) fn opening_values(alloc: Global, book: &Book) -> Result<Vec<GameId>, AllocError>
+    requires { (k : ℕ) → k < length book.now.views.items
+        → ((view_at book.now.views.items k).values < length book.now.values.items) × (0 < length (seen_ids book.now k)) }
+    ensures long { IfOk result (λ sum. length sum.items ≡ length book.now.views.items) }
+    ensures each { IfOk result (λ sum. (k : ℕ) → k < length book.now.views.items
+        → slice_index sum.items k ≡ slice_index (seen_ids book.now k) 0) }
 {
     let mut sum = Vec::new(alloc);
-    'regions: for ids in values {
-        sum.push(ids.as_slice()[0])?;
+    'regions: for region in 0..book.views.len() {
+        sum.push(value_seen(book, region, 0))?;
     }
     Ok(sum)
 }

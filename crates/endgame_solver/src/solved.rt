@@ -12,20 +12,21 @@ ghost use Rattle.sum_outcome.specs.Sums.{sum_tree};
 ghost use Rattle.endgame_solver.specs.Regions.{region_at};
 ghost use Rattle.endgame_solver.specs.Faults.{most_steps};
 ghost use Rattle.region_cut.specs.Cut.{AreRegionsOfPlay};
-ghost use Rattle.endgame_solver.specs.Solved.{Begun, IsPresent, ArePresent, IsReport, balance_units};
+ghost use Rattle.endgame_solver.specs.Solved.{Begun, IsNumberOfShapes, IsPresent, ArePresent, IsReport, balance_units};
 
 use crate::faults::SolveError;
 use crate::limits::Limits;
 use crate::opening::{first_large, opening_places, opening_values, regions_of_play};
+use crate::sharing::Book;
 use crate::solving::solve_regions;
-use crate::winning::{Present, balance_of, first_winning_move, stone_edge, value_at};
+use crate::winning::{
+    Present, balance_of, first_winning_move, positions_seen, stone_edge, value_seen,
+};
 use benson_life::Territory;
 use dyadic_num::Dyadic;
 use game_store::{GameId, Store};
 use go_grid::{Colour, Point, Region};
-use local_graph::Graph;
 use local_play::Steps;
-use local_value::Values;
 use sgf_go::Setup;
 use std::alloc::Global;
 use std::marker::Model;
@@ -53,9 +54,8 @@ pub struct Solved {
     whole: Whole,
     store: Store,
     regions: Vec<Region>,
-    graphs: Vec<Graph>,
-    /// The values of each region's positions.
-    values: Vec<Values>,
+    /// The graphs and the values of the regions, one graph for each shape of an opening.
+    book: Book,
     /// The place of each region's present position in its graph.
     places: Vec<usize>,
     /// The values of the present positions.
@@ -66,7 +66,7 @@ pub struct Solved {
 
 impl Model for Solved {
     ghost use Rattle.endgame_solver.specs.Solved.{SolvedGame};
-    ghost use Rattle.endgame_solver.specs.Held.{IsKept};
+    ghost use Rattle.endgame_solver.specs.Views.{IsHeld};
     ghost use Rattle.sum_outcome.specs.Memo.{Fits};
     ghost use Rattle.endgame_solver.specs.Code.{solved_code};
 
@@ -76,7 +76,7 @@ impl Model for Solved {
 
     ghost view = { λ s. record { regions = s.regions.items; trees = s.store; state = s.whole } };
 
-    ghost invariant = { λ s. IsKept s.regions.items s.graphs.items s.values.items s.places.items s.sum.items s.store s.whole × Fits s.store s.search };
+    ghost invariant = { λ s. IsHeld s.regions.items s.book s.places.items s.sum.items s.store s.whole × Fits s.store s.search };
 }
 
 impl Solved {
@@ -116,15 +116,14 @@ impl Solved {
         let mut store = Store::new(alloc);
         let mut search = Search::new(alloc, SEARCH_ENTRIES)?;
         search.note_zero(&mut store)?;
-        let (graphs, values) = solve_regions(alloc, &regions, limits, &mut store, steps)?;
+        let book = solve_regions(alloc, &regions, limits, &mut store, steps)?;
         let places = opening_places(alloc, regions.len())?;
-        let sum = opening_values(alloc, &values)?;
+        let sum = opening_values(alloc, &book)?;
         Ok(Solved {
             whole,
             store,
             regions,
-            graphs,
-            values,
+            book,
             places,
             sum,
             search,
@@ -152,6 +151,13 @@ impl Solved {
         self.regions.len()
     }
 
+    /// The number of different shapes of the openings of the regions.
+    pub fn shapes(&self) -> usize
+        ensures { IsNumberOfShapes self.now.regions result }
+    {
+        self.book.graphs.len()
+    }
+
     /// What is known of a region's opening, by the region's number.
     pub fn region_report(&self, i: usize) -> RegionReport
         requires { i < length self.now.regions }
@@ -162,8 +168,8 @@ impl Solved {
         RegionReport {
             lowest: points[0],
             points: points.len() as u16,
-            positions: self.graphs[i].len() as u64,
-            value: value_at(&self.values[i], 0),
+            positions: positions_seen(&self.book, i) as u64,
+            value: value_seen(&self.book, i, 0),
         }
     }
 
@@ -207,8 +213,7 @@ impl Solved {
         let present = Present {
             whole: &self.whole,
             regions: &self.regions,
-            graphs: &self.graphs,
-            values: &self.values,
+            book: &self.book,
             places: &self.places,
             store: &self.store,
         };
@@ -225,11 +230,11 @@ impl Solved {
             return self.whole.apply(chosen);
         };
         let side = self.whole.side();
-        let edge = stone_edge(&self.regions, &self.graphs, &self.places, point, side);
+        let edge = stone_edge(&self.regions, &self.book, &self.places, point, side);
         self.whole.apply(chosen)?;
         if let Some((k, edge)) = edge {
             self.places[k] = edge.next;
-            self.sum[k] = value_at(&self.values[k], edge.next);
+            self.sum[k] = value_seen(&self.book, k, edge.next);
         }
         Ok(())
     }

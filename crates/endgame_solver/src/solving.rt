@@ -1,19 +1,23 @@
 //! Regions, one after the other: the graph of each, and the values of its positions.
 
-ghost use Rattle.std.specs.Prelude.{◌≡◌, ℕ, ◌+◌, ◌^◌, ◌<◌, ◌≤◌, All, IfErr, IfOk, length, map, min};
+ghost use Rattle.std.specs.Prelude.{◌≡◌, ℕ, ◌+◌, ◌^◌, ◌<◌, ◌≤◌, All, IfErr, IfOk, OnOk, length, map, min};
 ghost use Rattle.game_store.specs.Meaning.{Extends};
 ghost use Rattle.endgame_solver.specs.Faults.{named, AreRefused, AreSmall, most_steps};
-ghost use Rattle.endgame_solver.specs.Solving.{AreSolvedBelow, IsGraphWithin, IsRefusalOf, IsSolvedBy};
+ghost use Rattle.endgame_solver.specs.Regions.{region_at};
+ghost use Rattle.endgame_solver.specs.Sharing.{AreSharedBy, SharesBelow};
+ghost use Rattle.endgame_solver.specs.Solving.{IsGraphWithin, IsRefusalOf, IsSolvedBy};
 
 use crate::cycle_names::CycleNames;
 use crate::faults::SolveError;
 use crate::limits::Limits;
+use crate::sharing::{Book, Kind, kind_of, own_view, view_for};
 use game_canon::FormError;
 use game_store::Store;
 use go_grid::Region;
 use local_graph::{CycleMove, Graph, GraphError, build};
-use local_play::Steps;
+use local_play::{Steps, start};
 use local_value::{Values, value_all};
+use region_book::shape;
 use std::alloc::{AllocError, Global};
 use std::sync::ledger::Ledger;
 
@@ -103,6 +107,50 @@ fn solve_region<L: Ledger>(
     Ok((graph, values))
 }
 
+/// Adds the graph and the values of the next region. They are those of an earlier one where the openings have one shape.
+fn solve_next<L: Ledger>(
+    alloc: Global,
+    regions: &[Region],
+    number: usize,
+    limits: &Limits,
+    kinds: &mut Vec<Kind>,
+    book: &mut Book,
+    store: &mut Store,
+    steps: &mut Steps<L>,
+) -> Result<(), SolveError>
+    requires number { number < length regions.now }
+    requires small { AreSmall regions.now }
+    requires limit { limits.now.positions ≤ 1000000 }
+    requires before { SharesBelow limits.now regions.now book.old.graphs.items book.old.values.items book.old.views.items
+        kinds.old.items store.old number }
+    ensures next { OnOk result (SharesBelow limits.now regions.now book.new.graphs.items book.new.values.items
+        book.new.views.items kinds.new.items store.new (number + 1)) }
+    ensures refusal { IfErr result (λ e. AreRefused limits.now regions.now e) }
+    ensures kept { Extends store.old store.new }
+    ensures steps { steps.new ≤ steps.old
+        + min limits.now.positions (3 ^ length (region_at regions.now number).points) }
+{
+    let region = &regions[number];
+    let (image, turn) = shape(alloc, region, start(region))?;
+    if let Some(place) = kind_of(kinds, &image) {
+        let kind = &kinds[place];
+        let view = view_for(alloc, region, &turn, place, kind, &mut book.values, store)?;
+        book.views.push(view)?;
+        return Ok(());
+    }
+    let (graph, ids) = solve_region(alloc, region, limits, store, steps)?;
+    let values = book.values.len();
+    book.views.push(own_view(book.graphs.len(), values))?;
+    book.graphs.push(graph)?;
+    book.values.push(ids)?;
+    kinds.push(Kind {
+        shape: image,
+        turn,
+        values,
+    })?;
+    Ok(())
+}
+
 /// The graphs and the values of all regions, or why the first that has none has none.
 pub(crate) fn solve_regions<L: Ledger>(
     alloc: Global,
@@ -110,20 +158,24 @@ pub(crate) fn solve_regions<L: Ledger>(
     limits: &Limits,
     store: &mut Store,
     steps: &mut Steps<L>,
-) -> Result<(Vec<Graph>, Vec<Values>), SolveError>
+) -> Result<Book, SolveError>
     requires small { AreSmall regions.now }
     requires limit { limits.now.positions ≤ 1000000 }
-    ensures solved { IfOk result (λ x. AreSolvedBelow limits.now regions.now x.0.items x.1.items store.new (length regions.now)) }
+    ensures solved { IfOk result (λ book. AreSharedBy limits.now regions.now book store.new) }
     ensures refusal { IfErr result (λ e. AreRefused limits.now regions.now e) }
     ensures kept { IfOk result (λ x. Extends store.old store.new) }
     ensures steps { steps.new ≤ steps.old + most_steps limits.now regions.now }
 {
-    let mut graphs = Vec::new(alloc);
-    let mut values = Vec::new(alloc);
-    'regions: for region in regions {
-        let (graph, ids) = solve_region(alloc, region, limits, store, steps)?;
-        graphs.push(graph)?;
-        values.push(ids)?;
+    let mut book = Book {
+        graphs: Vec::new(alloc),
+        values: Vec::new(alloc),
+        views: Vec::new(alloc),
+    };
+    let mut kinds = Vec::new(alloc);
+    'regions: for number in 0..regions.len() {
+        solve_next(
+            alloc, regions, number, limits, &mut kinds, &mut book, store, steps,
+        )?;
     }
-    Ok((graphs, values))
+    Ok(book)
 }

@@ -15,16 +15,16 @@ use whole_rules::{Move, MoveError, Whole, plain_winner};
 
 /// A board, a komi in half-points and the side to move.
 #[derive(Clone, Copy)]
-struct Game {
-    columns: u8,
-    rows: u8,
-    drawing: &'static [u8],
-    komi: i64,
-    side: Colour,
+pub(crate) struct Game {
+    pub columns: u8,
+    pub rows: u8,
+    pub drawing: &'static [u8],
+    pub komi: i64,
+    pub side: Colour,
 }
 
 /// One open point between the players.
-const ONE_OPEN: Game = Game {
+pub(crate) const ONE_OPEN: Game = Game {
     columns: 9,
     rows: 2,
     drawing: b".X.X.O.O.XXXXXOOOO",
@@ -33,20 +33,20 @@ const ONE_OPEN: Game = Game {
 };
 
 /// Two open points that belong together.
-const TWO_OPEN: Game = Game {
+pub(crate) const TWO_OPEN: Game = Game {
     drawing: b".X.X.O.O.XXXX.OOOO",
     ..ONE_OPEN
 };
 
 /// Two open points apart from each other.
-const TWO_APART: Game = Game {
+pub(crate) const TWO_APART: Game = Game {
     rows: 3,
     drawing: b".X.X.O.O.XXXXXOOOOXXXX.OOOO",
     ..ONE_OPEN
 };
 
 /// A corridor of two points, in Black's stones.
-const CORRIDOR: Game = Game {
+pub(crate) const CORRIDOR: Game = Game {
     columns: 10,
     rows: 3,
     drawing: b".X.XXXO.O.XXXX..OOOOXXXXXXOOOO",
@@ -54,7 +54,7 @@ const CORRIDOR: Game = Game {
 };
 
 /// The same with a white stone in it.
-const WITH_STONE: Game = Game {
+pub(crate) const WITH_STONE: Game = Game {
     drawing: b".X.XXXO.O.XXXXO.OOOOXXXXXXOOOO",
     ..CORRIDOR
 };
@@ -66,7 +66,7 @@ const ENDLESS: Game = Game {
 };
 
 /// A board of one point.
-const ONE_POINT: Game = Game {
+pub(crate) const ONE_POINT: Game = Game {
     columns: 1,
     rows: 1,
     drawing: b".",
@@ -81,7 +81,7 @@ const EMPTY: Game = Game {
     ..ONE_OPEN
 };
 
-const LIMITS: Limits = Limits {
+pub(crate) const LIMITS: Limits = Limits {
     positions: 100_000,
     parts: 500,
 };
@@ -104,7 +104,7 @@ fn board(alloc: Global, game: Game) -> Result<Option<Board>, AllocError> {
 }
 
 /// The position of a game, or `None` where its board isn't settled or its komi is too great.
-fn setup(alloc: Global, game: Game) -> Result<Option<Setup>, AllocError>
+pub(crate) fn setup(alloc: Global, game: Game) -> Result<Option<Setup>, AllocError>
     ensures settled { IfOk result (λ setup. IfSome setup (λ s. IsSettled s.board)) }
     ensures black { IfOk result (λ setup. IfSome setup (λ s. s.black_prisoners < 2 ^ 40)) }
     ensures white { IfOk result (λ setup. IfSome setup (λ s. s.white_prisoners < 2 ^ 40)) }
@@ -129,7 +129,7 @@ fn setup(alloc: Global, game: Game) -> Result<Option<Setup>, AllocError>
 }
 
 /// The solved game, or want of memory where there is no position.
-fn begin<L: Ledger>(
+pub(crate) fn begin<L: Ledger>(
     alloc: Global,
     blank: Blank,
     game: Game,
@@ -323,82 +323,5 @@ fn played(rt: HostRuntime) -> Result<(), SolveError> {
         solved.play(Move::Stone(Point(4))),
         Err(MoveError::Occupied)
     );
-    Ok(())
-}
-
-/// The state in which a game opens, with room in both purses.
-fn opened(alloc: Global, game: Game) -> Result<Option<Whole>, AllocError>
-    ensures black { IfOk result (λ state. IfSome state (λ s. s.purses.black < 2 ^ 60)) }
-    ensures white { IfOk result (λ state. IfSome state (λ s. s.purses.white < 2 ^ 60)) }
-{
-    let Some(setup) = setup(alloc, game)? else {
-        return Ok(None);
-    };
-    let state = Whole::opening(alloc, &setup.board, 0, 0, setup.komi_halves, setup.side)?;
-    if state.purse(Colour::Black) >= 1 << 60 || state.purse(Colour::White) >= 1 << 60 {
-        return Ok(None);
-    }
-    Ok(Some(state))
-}
-
-/// Whether a move wins by plain recursion.
-fn wins_plainly(alloc: Global, game: Game, chosen: Move) -> Result<bool, AllocError> {
-    let Some(mut state) = opened(alloc, game)? else {
-        return Ok(false);
-    };
-    if state.apply(chosen).is_err() {
-        return Ok(false);
-    }
-    if state.purse(Colour::Black) >= 1 << 61 || state.purse(Colour::White) >= 1 << 61 {
-        return Ok(false);
-    }
-    Ok(plain_winner(alloc, &state, 13)? == Some(game.side))
-}
-
-/// The first winning move by plain recursion.
-fn first_plain(alloc: Global, game: Game) -> Result<Option<Move>, AllocError> {
-    let Some(state) = opened(alloc, game)? else {
-        return Ok(None);
-    };
-    for chosen in &state.moves()? {
-        if wins_plainly(alloc, game, *chosen)? {
-            return Ok(Some(*chosen));
-        }
-    }
-    Ok(None)
-}
-
-/// Whether the solved game agrees with plain recursion.
-fn agrees<L: Ledger>(alloc: Global, blank: Blank, game: Game) -> Result<bool, SolveError>
-    requires name { blank.name ≡ L.name }
-    requires parts { blank.parts ≡ L.parts }
-    requires some { 0 < blank.parts }
-{
-    let mut solved = begin::<L>(alloc, blank, game, LIMITS)?;
-    let Some(state) = opened(alloc, game)? else {
-        return Ok(false);
-    };
-    Ok(
-        plain_winner(alloc, &state, 14)? == Some(solved.winner())
-            && first_plain(alloc, game)? == solved.winning_move(),
-    )
-}
-
-#[test]
-fn plain_recursion(rt: HostRuntime) -> Result<(), SolveError> {
-    let games = [
-        ONE_OPEN, TWO_OPEN, TWO_APART, CORRIDOR, WITH_STONE, ONE_POINT,
-    ];
-    for (at, game) in games.into_iter().enumerate() {
-        for komi in [-3, -1, 0, 1, 2] {
-            for side in [Colour::Black, Colour::White] {
-                let game = Game { komi, side, ..game };
-                assert!(rt;
-                    agrees::<Brand>(rt.alloc(), Blank::new(1), game)?,
-                    "at {at}, {komi}"
-                );
-            }
-        }
-    }
     Ok(())
 }

@@ -1,6 +1,6 @@
 //! Who wins the present state, and by which moves: each is asked of the sum of the values that the move leaves.
 
-ghost use Rattle.std.specs.Prelude.{◌≡◌, ℕ, ◌<◌, ◌≤◌, ◌^◌, ◌+ℤ◌, ◌*ℤ◌, neg_ℤ, pos, unsigned_abs, ◌↔◌, IsTrue, MatchOption, length, slice_index};
+ghost use Rattle.std.specs.Prelude.{◌≡◌, ℕ, ◌<◌, ◌≤◌, ◌^◌, ◌+ℤ◌, ◌*ℤ◌, neg_ℤ, pos, unsigned_abs, ◌↔◌, Contains, IfSome, IsTrue, List, MatchOption, length, slice_index};
 ghost use Rattle.go_grid.specs.declared.grid.Colour.{Colour};
 ghost use Rattle.local_graph.specs.declared.graph.Edge.{Edge};
 ghost use Rattle.whole_rules.specs.declared.states.Move.TheVariants.{Stone, Spend};
@@ -9,12 +9,16 @@ ghost use Rattle.whole_rules.specs.PlainRecursion.{MoverLoses};
 ghost use Rattle.whole_rules.specs.WholeGame.{State, Leads};
 ghost use Rattle.sum_outcome.specs.Memo.{Fits};
 ghost use Rattle.endgame_solver.specs.SumGame.{balance, halves};
-ghost use Rattle.endgame_solver.specs.Held.{IsSeen, IsEdgeTo, IsStoneAt, IsStoneEdge, IsFirstStone, AreModest, ArePlaces};
+ghost use Rattle.endgame_solver.specs.Held.{IsStoneAt, IsStoneEdge, IsFirstStone, AreModest};
+ghost use Rattle.endgame_solver.specs.Views.{IsSeen, ShowsAll, ShowsPlaces, own, seen_graph, seen_ids, view_at};
+ghost use Rattle.local_graph.specs.Nodes.{Nodes, edges_at};
 
+use crate::sharing::Book;
+use crate::views::View;
 use dyadic_num::Dyadic;
 use game_store::{GameId, Store};
 use go_grid::{Colour, Point, Region};
-use local_graph::{Edge, Graph};
+use local_graph::Edge;
 use local_value::Values;
 use sum_outcome::Search;
 use whole_rules::{Move, Purses, Token, Whole};
@@ -24,8 +28,7 @@ use whole_rules::{Move, Purses, Token, Whole};
 pub(crate) struct Present<'a> {
     pub whole: &'a Whole,
     pub regions: &'a [Region],
-    pub graphs: &'a [Graph],
-    pub values: &'a [Values],
+    pub book: &'a Book,
     pub places: &'a [usize],
     pub store: &'a Store,
 }
@@ -105,32 +108,65 @@ fn is_stone_at(region: &Region, edge: Edge, point: Point, colour: Colour) -> boo
     is_at(&region.points, usize::from(edge.place), point)
 }
 
-/// The edge of a stone of the player at a point of a region.
-fn edge_in(region: &Region, edges: &[Edge], point: Point, colour: Colour) -> Option<Edge>
-    ensures { MatchOption result ((e : Edge) → ¬ IsEdgeTo region.now edges.now colour point e) (λ e. IsEdgeTo region.now edges.now colour point e) }
+/// The move of a stone of the player at a point of a region, among those that the edges stand for.
+fn edge_in(
+    region: &Region,
+    view: View,
+    edges: &[Edge],
+    point: Point,
+    colour: Colour,
+) -> Option<Edge>
+    requires { (f : Edge) → Contains edges.now f → f.place < 32 }
+    ensures { MatchOption result ((f : Edge) → Contains edges.now f → ¬ IsStoneAt region.now colour point (own view f))
+        (λ e. (f : Edge) × Contains edges.now f × (e ≡ own view f) × IsStoneAt region.now colour point e) }
 {
     'edges: for edge in edges {
-        if is_stone_at(region, *edge, point, colour) {
-            return Some(*edge);
+        let own = view.own(*edge);
+        if is_stone_at(region, own, point, colour) {
+            return Some(own);
         }
     }
     None
 }
 
+/// The edges of the graph that a region sees, of the position at a place.
+fn edges_seen(book: &Book, region: usize, place: usize) -> &[Edge]
+    requires view { region < length book.now.views.items }
+    requires graph { (view_at book.now.views.items region).graph < length book.now.graphs.items }
+    requires place { place < length (seen_graph book.now region).positions }
+    ensures { result.now ≡ edges_at (seen_graph book.now region).edges place }
+{
+    let view = view_of(book, region);
+    book.graphs[view.graph].edges(place)
+}
+
+/// How a region sees the book.
+fn view_of(book: &Book, region: usize) -> View
+    requires { region < length book.now.views.items }
+    ensures { result ≡ view_at book.now.views.items region }
+{
+    book.views[region]
+}
+
 /// The region and the edge of a stone at a point.
 pub(crate) fn stone_edge(
     regions: &[Region],
-    graphs: &[Graph],
+    book: &Book,
     places: &[usize],
     point: Point,
     colour: Colour,
 ) -> Option<(usize, Edge)>
-    requires { ArePlaces regions.now graphs.now places.now }
-    ensures { MatchOption result ((k : ℕ) (e : Edge) → ¬ IsStoneEdge regions.now graphs.now places.now colour point k e) (λ x. IsStoneEdge regions.now graphs.now places.now colour point x.0 x.1) }
+    requires { ShowsPlaces regions.now book.now places.now }
+    ensures known { IfSome result (λ x. x.0 < length regions.now) }
+    ensures edges { (graphs : List Nodes) (values : List (List ℕ)) → ShowsAll book.now graphs values (length regions.now)
+        → MatchOption result ((k : ℕ) (e : Edge) → ¬ IsStoneEdge regions.now graphs places.now colour point k e)
+        (λ x. IsStoneEdge regions.now graphs places.now colour point x.0 x.1) }
 {
     'regions: for k in 0..regions.len() {
-        let edges = graphs[k].edges(places[k]);
-        if let Some(edge) = edge_in(&regions[k], edges, point, colour) {
+        let region = &regions[k];
+        let view = view_of(book, k);
+        let edges = edges_seen(book, k, places[k]);
+        if let Some(edge) = edge_in(region, view, edges, point, colour) {
             return Some((k, edge));
         }
     }
@@ -143,6 +179,27 @@ pub(crate) fn value_at(values: &Values, place: usize) -> GameId
     ensures { result ≡ slice_index values.now place }
 {
     values.as_slice()[place]
+}
+
+/// The value of a region's position at a place.
+pub(crate) fn value_seen(book: &Book, region: usize, place: usize) -> GameId
+    requires view { region < length book.now.views.items }
+    requires values { (view_at book.now.views.items region).values < length book.now.values.items }
+    requires place { place < length (seen_ids book.now region) }
+    ensures { result ≡ slice_index (seen_ids book.now region) place }
+{
+    let view = view_of(book, region);
+    value_at(&book.values[view.values], place)
+}
+
+/// The number of a region's positions.
+pub(crate) fn positions_seen(book: &Book, region: usize) -> usize
+    requires view { region < length book.now.views.items }
+    requires graph { (view_at book.now.views.items region).graph < length book.now.graphs.items }
+    ensures { result ≡ length (seen_graph book.now region).positions }
+{
+    let view = view_of(book, region);
+    book.graphs[view.graph].len()
 }
 
 /// Whether a stone of the side to move at the point wins. The sum is as before at the end.
@@ -159,13 +216,13 @@ pub(crate) fn stone_wins(
     ensures fits { Fits present.now.store.now search.new }
 {
     let side = present.whole.side();
-    let Some((k, edge)) = stone_edge(present.regions, present.graphs, present.places, point, side)
+    let Some((k, edge)) = stone_edge(present.regions, present.book, present.places, point, side)
     else {
         return false;
     };
     let purses = present.whole.purses().paid_in(side, u64::from(edge.taken));
     let before = sum[k];
-    sum[k] = value_at(&present.values[k], edge.next);
+    sum[k] = value_seen(present.book, k, edge.next);
     let lost = search.loses(present.store, sum, balance_of(purses), side.other());
     sum[k] = before;
     lost

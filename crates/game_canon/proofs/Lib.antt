@@ -16,6 +16,7 @@ pub mod PlayerLaws
 pub mod ChangeLaws
 pub mod ChangeSteps
 pub mod NumberParts
+pub mod NegationLaws
 pub mod ReachableLaws
 pub mod IncentiveLaws
 pub mod SumMoves

@@ -96,7 +96,7 @@ parts-in c _ _ C (further G H P o p) f g k =
     let q = parts-in c H P r.0 p f r.2 r.3 in
     (q.0, (further C r.0 q.0 r.1 q.1.0, q.1.1), q.2, q.3)
 
-parts-out : (c : Change) (C Q G : Tree) → IsFollower C Q → (IsNumberTree Q → ⊥) → IsCanonicalTree G → IsCanonicalFor (target c G) C → (P : Tree) × IsPart G P × IsCanonicalTree P × IsCanonicalFor (target c P) Q
+pub parts-out : (c : Change) (C Q G : Tree) → IsFollower C Q → (IsNumberTree Q → ⊥) → IsCanonicalTree G → IsCanonicalFor (target c G) C → (P : Tree) × IsPart G P × IsCanonicalTree P × IsCanonicalFor (target c P) Q
 parts-out c _ _ G (itself C) f g k = (G, (itself G, λ n. f (number-to c G C k n)), g, k)
 parts-out c _ _ G (further C H Q o q) f g k =
     let r = option-out c G C g (λ n. hot-before C Q (further C H Q o q) f (number-to c G C k n)) k H o in

@@ -1,5 +1,9 @@
-use Rattle.std.proofs.Common.{◌≡◌, get_or, map, take}
+use Rattle.std.proofs.Common.{◌≡◌, ℕ, ◌<◌, get_or, length}
+use Rattle.endgame_solver.specs.Views.{seen_ids}
 use Rattle.endgame_solver.proofs.opening.opening_values.Given as goal
 
 abbrev pub invariant-regions : goal.invariant-regions
-invariant-regions l = l.sum.items ≡ map (λ ids. get_or ids 0 0) (take l.ids-index l.values)
+invariant-regions l = record {
+  long : length l.sum.items ≡ l.region;
+  each : (k : ℕ) → k < l.region → get_or l.sum.items k 0 ≡ get_or (seen_ids l.book k) 0 0;
+}

@@ -1,6 +1,12 @@
+use Rattle.std.proofs.Common.{◌+◌, ◌≤◌, take}
 use Rattle.game_store.specs.Meaning.{Extends}
-use Rattle.endgame_solver.proofs.SolvingLaws.{SolvesBelow}
+use Rattle.endgame_solver.specs.Faults.{most_steps}
+use Rattle.endgame_solver.specs.Sharing.{SharesBelow}
 use Rattle.endgame_solver.proofs.solving.solve_regions.Given as goal
 
 abbrev pub invariant-regions : goal.invariant-regions
-invariant-regions g l = SolvesBelow l.limits l.regions l.graphs.items l.values.items l.store l.initial.steps l.steps l.region-index × Extends l.initial.store l.store
+invariant-regions g l = record {
+  shared : SharesBelow l.limits l.regions l.book.graphs.items l.book.values.items l.book.views.items l.kinds.items l.store l.number;
+  steps : l.steps ≤ l.initial.steps + most_steps l.limits (take l.number l.regions);
+  kept : Extends l.initial.store l.store;
+}

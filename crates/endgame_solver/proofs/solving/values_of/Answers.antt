@@ -1,4 +1,5 @@
-use Rattle.endgame_solver.proofs.BeginLaws.{no_large_form}
+use Rattle.std.proofs.Common.{◌^◌, arith, length}
+use Rattle.endgame_solver.proofs.BeginLaws.{few_units, no_large_form}
 use Rattle.endgame_solver.proofs.solving.values_of.Goals as goal
 
 pub returns-in-Ok-clause-solved : goal.returns-in-Ok-clause-solved
@@ -17,5 +18,8 @@ returns-in-Ok-clause-solved c =
       };
       graph = held;
       values = are;
-      within = said.sizes r held.graph;
+      within = λ i short x h.
+          let size = said.sizes r held.graph i short x h in
+          let most = few_units (length g.positions) (length r.cells) (2 ^ 60) (omega (arith, held.few, c.requires.limit)) held.graph.few in
+          omega (arith, size, most);
     }

@@ -20,5 +20,5 @@ returns-clause-first c =
     let none = (c.in_default.ensures {u = tt}).first in
     let not : ¬ IsWinning p.whole.now Spend = λ w. differ c.spend_wins.result c.if-spend_wins.false (c.spend_wins.ensures.wins.1 w) in
     first_half p.whole.now none not
-    (last_wins p.regions.now p.graphs.now p.values.now p.places.now c.args.sum.now p.store.now p.whole.now c.requires.seen
+    (last_wins p.regions.now c.requires.seen.graphs c.requires.seen.values p.places.now c.args.sum.now p.store.now p.whole.now c.requires.seen.kept
     (λ l. differ c.mover_loses.result c.if-mover_loses.false (c.mover_loses.ensures.loses.1 l)) none not)

@@ -1,7 +1,7 @@
 use Rattle.std.proofs.Common.{◌∙◌, ap, arith, below_more, length, sym, subst}
 use Rattle.whole_rules.specs.declared.states.Move.TheVariants.{Stone}
 use Rattle.whole_rules.specs.FirstWinningMove.{IsWinning}
-use Rattle.endgame_solver.specs.Held.{IsSeen}
+use Rattle.endgame_solver.specs.Views.{IsSeen}
 use Rattle.endgame_solver.proofs.StoneSearch.{no_stone_end}
 use Rattle.endgame_solver.proofs.WinningLaws.{differ}
 use Rattle.endgame_solver.proofs.winning.winning_stone.Goals as goal

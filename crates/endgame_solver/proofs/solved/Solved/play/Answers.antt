@@ -1,6 +1,7 @@
-use Rattle.std.proofs.Common.{◌≡◌, ◌<◌, ◌∙◌, sym, ap, subst, length, get_or, set, []}
-use Rattle.std.proofs.lemmas.List.{get_or_default}
+use Rattle.std.proofs.Common.{◌≡◌, ◌<◌, ◌∙◌, refl, sym, ap, subst, length, get_or, set}
 use Rattle.endgame_solver.specs.Held.{IsKept, ids_at}
+use Rattle.endgame_solver.specs.Views.{ShowsAll, ShowsPlaces}
+use Rattle.endgame_solver.proofs.ViewLaws.{asks_values, asks_view, held_as, ids_seen, shows_places}
 use Rattle.endgame_solver.proofs.WinningLaws.{asks_stone}
 use Rattle.endgame_solver.proofs.KeptLaws.{edge_seen, none_seen, few_black, few_white, kept_stone, some_edge, kept_applied}
 use Rattle.endgame_solver.proofs.solved.Solved.play.Goals as goal
@@ -9,53 +10,82 @@ pub apply-requires : goal.apply-requires
 apply-requires c =
     let i = c.self.inside in
     record {
-      black = few_black i.regions.items i.graphs.items i.values.items i.places.items i.sum.items i.store i.whole c.self.invariant.0;
-      white = few_white i.regions.items i.graphs.items i.values.items i.places.items i.sum.items i.store i.whole c.self.invariant.0;
+      black = few_black i.regions.items c.self.invariant.0.graphs c.self.invariant.0.values i.places.items i.sum.items i.store i.whole c.self.invariant.0.kept;
+      white = few_white i.regions.items c.self.invariant.0.graphs c.self.invariant.0.values i.places.items i.sum.items i.store i.whole c.self.invariant.0.kept;
     }
 
 pub invariant_of-self : goal.invariant_of-self
 invariant_of-self c =
     let i = c.self.inside in
-    (kept_applied i.regions.items i.graphs.items i.values.items i.places.items i.sum.items i.store i.whole c.self.invariant.0 c.args.chosen c.in_default.not-Stone c.apply.new.self c.apply.result c.apply.ensures, c.self.invariant.1)
+    (held_as i.regions.items i.book i.places.items i.sum.items i.store i.whole c.self.invariant.0 i.places.items i.sum.items c.apply.new.self (kept_applied i.regions.items c.self.invariant.0.graphs c.self.invariant.0.values i.places.items i.sum.items i.store i.whole c.self.invariant.0.kept c.args.chosen c.in_default.not-Stone c.apply.new.self c.apply.result c.apply.ensures), c.self.invariant.1)
 
 pub apply-requires-2-clause-black : goal.apply-requires-2-clause-black
-apply-requires-2-clause-black c = let i = c.self.inside in few_black i.regions.items i.graphs.items i.values.items i.places.items i.sum.items i.store i.whole c.self.invariant.0
+apply-requires-2-clause-black c = let i = c.self.inside in few_black i.regions.items c.self.invariant.0.graphs c.self.invariant.0.values i.places.items i.sum.items i.store i.whole c.self.invariant.0.kept
 
 pub apply-requires-2-clause-white : goal.apply-requires-2-clause-white
-apply-requires-2-clause-white c = let i = c.self.inside in few_white i.regions.items i.graphs.items i.values.items i.places.items i.sum.items i.store i.whole c.self.invariant.0
+apply-requires-2-clause-white c = let i = c.self.inside in few_white i.regions.items c.self.invariant.0.graphs c.self.invariant.0.values i.places.items i.sum.items i.store i.whole c.self.invariant.0.kept
 
-pub value_at-requires : goal.value_at-requires
-value_at-requires c =
+pub stone_edge-edge-requires : goal.stone_edge-edge-requires
+stone_edge-edge-requires c =
     let i = c.self.inside in
+    subst (λ rs. ShowsPlaces rs i.book c.deref-2.result.now) (sym c.deref.ensures.value)
+    (subst (ShowsPlaces i.regions.items i.book) (sym c.deref-2.ensures.value) (shows_places i.regions.items i.book i.places.items i.sum.items i.store i.whole c.self.invariant.0))
+
+pub value_seen-requires-clause-view : goal.value_seen-requires-clause-view
+value_seen-requires-clause-view c =
+    let i = c.self.inside in
+    let held = c.self.invariant.0 in
+    let shows = subst (λ rs. ShowsAll i.book held.graphs held.values (length rs)) (sym c.deref.ensures.value) held.views_are in
+    let x = edge_seen c.deref.result.now i.regions.items held.graphs held.graphs c.deref-2.result.now i.places.items c.side-side.result i.whole.side c.in-Stone.point c.in-Some.k c.in-Some.edge
+    c.deref.ensures.value refl c.deref-2.ensures.value c.side-side.ensures ((c.in-Some.ensures {u = tt}).edges held.graphs held.values shows) in
+    asks_view i.regions.items i.book i.places.items i.sum.items i.store i.whole held c.in-Some.k x.known
+
+pub value_seen-requires-clause-values : goal.value_seen-requires-clause-values
+value_seen-requires-clause-values c =
+    let i = c.self.inside in
+    let held = c.self.invariant.0 in
+    let shows = subst (λ rs. ShowsAll i.book held.graphs held.values (length rs)) (sym c.deref.ensures.value) held.views_are in
+    let x = edge_seen c.deref.result.now i.regions.items held.graphs held.graphs c.deref-2.result.now i.places.items c.side-side.result i.whole.side c.in-Stone.point c.in-Some.k c.in-Some.edge
+    c.deref.ensures.value refl c.deref-2.ensures.value c.side-side.ensures ((c.in-Some.ensures {u = tt}).edges held.graphs held.values shows) in
+    asks_values i.regions.items i.book i.places.items i.sum.items i.store i.whole held c.in-Some.k x.known
+
+pub value_seen-requires-clause-place : goal.value_seen-requires-clause-place
+value_seen-requires-clause-place c =
+    let i = c.self.inside in
+    let held = c.self.invariant.0 in
     let k = c.in-Some.k in
     let e = c.in-Some.edge in
     let p = c.in-Stone.point in
-    let x = edge_seen c.deref.result.now i.regions.items c.deref-2.result.now i.graphs.items c.deref-3.result.now i.places.items c.side-side.result i.whole.side p k e
-    c.deref.ensures.value c.deref-2.ensures.value c.deref-3.ensures.value c.side-side.ensures (c.in-Some.ensures {u = tt}) in
-    let asks = asks_stone i.regions.items i.graphs.items i.values.items i.places.items i.sum.items i.store i.whole c.self.invariant.0 p k e x in
-    let ids : ids_at i.values.items k ≡ c.index.result.now = get_or_default i.values.items k [] c.index.result.now asks.list ∙ sym c.index.ensures in
-    subst (λ z. e.next < length z) ids asks.next
+    let shows = subst (λ rs. ShowsAll i.book held.graphs held.values (length rs)) (sym c.deref.ensures.value) held.views_are in
+    let x = edge_seen c.deref.result.now i.regions.items held.graphs held.graphs c.deref-2.result.now i.places.items c.side-side.result i.whole.side p k e
+    c.deref.ensures.value refl c.deref-2.ensures.value c.side-side.ensures ((c.in-Some.ensures {u = tt}).edges held.graphs held.values shows) in
+    let asks = asks_stone i.regions.items held.graphs held.values i.places.items i.sum.items i.store i.whole held.kept p k e x in
+    subst (λ z. e.next < length z) (sym (ids_seen i.regions.items i.book i.places.items i.sum.items i.store i.whole held k x.known)) asks.next
 
 pub invariant_of-self-in-Some : goal.invariant_of-self-in-Some
 invariant_of-self-in-Some c =
     let i = c.self.inside in
+    let held = c.self.invariant.0 in
     let k = c.in-Some.k in
     let e = c.in-Some.edge in
     let p = c.in-Stone.point in
-    let x = edge_seen c.deref.result.now i.regions.items c.deref-2.result.now i.graphs.items c.deref-3.result.now i.places.items c.side-side.result i.whole.side p k e
-    c.deref.ensures.value c.deref-2.ensures.value c.deref-3.ensures.value c.side-side.ensures (c.in-Some.ensures {u = tt}) in
-    let asks = asks_stone i.regions.items i.graphs.items i.values.items i.places.items i.sum.items i.store i.whole c.self.invariant.0 p k e x in
-    let ids : ids_at i.values.items k ≡ c.index.result.now = get_or_default i.values.items k [] c.index.result.now asks.list ∙ sym c.index.ensures in
-    let value : get_or (ids_at i.values.items k) e.next 0 ≡ c.value_at.result = ap (λ z. get_or z e.next 0) ids ∙ sym c.value_at.ensures in (
-      subst (λ v. IsKept i.regions.items i.graphs.items i.values.items (set i.places.items k e.next) (set i.sum.items k v) i.store c.apply-2.new.self) value
-          (kept_stone i.regions.items i.graphs.items i.values.items i.places.items i.sum.items i.store i.whole c.self.invariant.0 p k e c.apply-2.new.self x (c.in_ok-apply.ensures {u = tt})),
+    let shows = subst (λ rs. ShowsAll i.book held.graphs held.values (length rs)) (sym c.deref.ensures.value) held.views_are in
+    let x = edge_seen c.deref.result.now i.regions.items held.graphs held.graphs c.deref-2.result.now i.places.items c.side-side.result i.whole.side p k e
+    c.deref.ensures.value refl c.deref-2.ensures.value c.side-side.ensures ((c.in-Some.ensures {u = tt}).edges held.graphs held.values shows) in
+    let ids = sym (ids_seen i.regions.items i.book i.places.items i.sum.items i.store i.whole held k x.known) in
+    let value : get_or (ids_at held.values k) e.next 0 ≡ c.value_seen.result = ap (λ z. get_or z e.next 0) ids ∙ sym c.value_seen.ensures in (
+      held_as i.regions.items i.book i.places.items i.sum.items i.store i.whole held (set i.places.items k e.next) (set i.sum.items k c.value_seen.result) c.apply-2.new.self
+          (subst (λ v. IsKept i.regions.items held.graphs held.values (set i.places.items k e.next) (set i.sum.items k v) i.store c.apply-2.new.self) value
+          (kept_stone i.regions.items held.graphs held.values i.places.items i.sum.items i.store i.whole held.kept p k e c.apply-2.new.self x (c.in_ok-apply.ensures {u = tt}))),
       c.self.invariant.1,
     )
 
 pub invariant_of-self-in_default-edge : goal.invariant_of-self-in_default-edge
 invariant_of-self-in_default-edge c =
     let i = c.self.inside in
+    let held = c.self.invariant.0 in
     let p = c.in-Stone.point in
-    let none = none_seen c.deref.result.now i.regions.items c.deref-2.result.now i.graphs.items c.deref-3.result.now i.places.items c.side-side.result i.whole.side p
-    c.deref.ensures.value c.deref-2.ensures.value c.deref-3.ensures.value c.side-side.ensures (c.in_default-edge.ensures {u = tt}) in
-    absurd (some_edge i.regions.items i.graphs.items i.values.items i.places.items i.sum.items i.store i.whole c.self.invariant.0 p c.apply-2.new.self (c.in_ok-apply.ensures {u = tt}) none)
+    let shows = subst (λ rs. ShowsAll i.book held.graphs held.values (length rs)) (sym c.deref.ensures.value) held.views_are in
+    let none = none_seen c.deref.result.now i.regions.items held.graphs held.graphs c.deref-2.result.now i.places.items c.side-side.result i.whole.side p
+    c.deref.ensures.value refl c.deref-2.ensures.value c.side-side.ensures ((c.in_default-edge.ensures {u = tt}).edges held.graphs held.values shows) in
+    absurd (some_edge i.regions.items held.graphs held.values i.places.items i.sum.items i.store i.whole held.kept p c.apply-2.new.self (c.in_ok-apply.ensures {u = tt}) none)

@@ -11,47 +11,47 @@ use Rattle.endgame_solver.proofs.WinnerLaws.{by_search, other_wins, side_wins, w
 use Rattle.endgame_solver.proofs.solved.Solved.winner.Goals as goal
 
 pub balance_of-balance-requires : goal.balance_of-balance-requires
-balance_of-balance-requires c = let i = c.self.inside in subst AreModest (sym c.purses.ensures) (modest_now i.graphs.items i.places.items i.whole c.self.invariant.0.room)
+balance_of-balance-requires c = let i = c.self.inside in subst AreModest (sym c.purses.ensures) (modest_now c.self.invariant.0.graphs i.places.items i.whole c.self.invariant.0.kept.room)
 
 pub loses-requires-clause-bounds : goal.loses-requires-clause-bounds
 loses-requires-clause-bounds c =
     let i = c.self.inside in
-    let modest = subst AreModest (sym c.purses.ensures) (modest_now i.graphs.items i.places.items i.whole c.self.invariant.0.room) in
-    let fits = fits_now i.regions.items i.graphs.items i.values.items i.places.items i.sum.items i.store i.whole c.self.invariant.0 in
+    let modest = subst AreModest (sym c.purses.ensures) (modest_now c.self.invariant.0.graphs i.places.items i.whole c.self.invariant.0.kept.room) in
+    let fits = fits_now i.regions.items c.self.invariant.0.graphs c.self.invariant.0.values i.places.items i.sum.items i.store i.whole c.self.invariant.0.kept in
     subst (λ z. IsBounded (pick i.store z) c.balance_of-balance.result) (sym c.deref_mut.ensures.value)
     (subst (IsBounded (pick i.store i.sum.items)) (sym c.balance_of-balance.ensures) (fits.bounds c.purses.result modest))
 
 pub returns-then-loses-clause-plain : goal.returns-then-loses-clause-plain
 returns-then-loses-clause-plain c =
     let i = c.self.inside in
-    let answer = by_search i.regions.items i.graphs.items i.values.items i.places.items i.sum.items i.store i.whole c.self.invariant.0 c.loses.result c.side-side.result c.deref_mut.result.now
+    let answer = by_search i.regions.items c.self.invariant.0.graphs c.self.invariant.0.values i.places.items i.sum.items i.store i.whole c.self.invariant.0.kept c.loses.result c.side-side.result c.deref_mut.result.now
     c.balance_of-balance.result c.purses.result c.side-side.ensures c.deref_mut.ensures.value c.purses.ensures c.balance_of-balance.ensures c.loses.ensures.answer in
     let lost = answer.0 c.if-loses.true in
-    let wins = other_wins i.regions.items i.graphs.items i.values.items i.places.items i.sum.items i.store i.whole c.self.invariant.0 lost in
+    let wins = other_wins i.regions.items c.self.invariant.0.graphs c.self.invariant.0.values i.places.items i.sum.items i.store i.whole c.self.invariant.0.kept lost in
     subst (λ v. IsWinner v.state c.other.result) c.self.view_is (subst (IsWinner i.whole) (sym (c.other.ensures ∙ ap other c.side-side.ensures)) wins)
 
 pub returns-then-loses-clause-sum : goal.returns-then-loses-clause-sum
 returns-then-loses-clause-sum c =
     let i = c.self.inside in
-    let answer = by_search i.regions.items i.graphs.items i.values.items i.places.items i.sum.items i.store i.whole c.self.invariant.0 c.loses.result c.side-side.result c.deref_mut.result.now
+    let answer = by_search i.regions.items c.self.invariant.0.graphs c.self.invariant.0.values i.places.items i.sum.items i.store i.whole c.self.invariant.0.kept c.loses.result c.side-side.result c.deref_mut.result.now
     c.balance_of-balance.result c.purses.result c.side-side.ensures c.deref_mut.ensures.value c.purses.ensures c.balance_of-balance.ensures c.loses.ensures.answer in
     let lost = answer.0 c.if-loses.true in
     subst (λ v. (ids : List ℕ) → ArePresent v ids → (c.other.result ≡ other v.state.side) ↔ LosesGame v.state.side (sum_tree v.trees ids (balance_units v.state))) c.self.view_is
-    (winner_by_sum i.regions.items i.graphs.items i.values.items i.places.items i.sum.items i.store i.whole c.self.invariant.0 c.other.result (c.other.ensures ∙ ap other c.side-side.ensures) lost)
+    (winner_by_sum i.regions.items c.self.invariant.0.graphs c.self.invariant.0.values i.places.items i.sum.items i.store i.whole c.self.invariant.0.kept c.other.result (c.other.ensures ∙ ap other c.side-side.ensures) lost)
 
 pub returns-clause-plain : goal.returns-clause-plain
 returns-clause-plain c =
     let i = c.self.inside in
-    let answer = by_search i.regions.items i.graphs.items i.values.items i.places.items i.sum.items i.store i.whole c.self.invariant.0 c.loses.result c.side-side.result c.deref_mut.result.now
+    let answer = by_search i.regions.items c.self.invariant.0.graphs c.self.invariant.0.values i.places.items i.sum.items i.store i.whole c.self.invariant.0.kept c.loses.result c.side-side.result c.deref_mut.result.now
     c.balance_of-balance.result c.purses.result c.side-side.ensures c.deref_mut.ensures.value c.purses.ensures c.balance_of-balance.ensures c.loses.ensures.answer in
-    let wins = side_wins i.regions.items i.graphs.items i.values.items i.places.items i.sum.items i.store i.whole c.self.invariant.0 (λ h. differ c.loses.result c.if-loses.false (answer.1 h)) in
+    let wins = side_wins i.regions.items c.self.invariant.0.graphs c.self.invariant.0.values i.places.items i.sum.items i.store i.whole c.self.invariant.0.kept (λ h. differ c.loses.result c.if-loses.false (answer.1 h)) in
     subst (λ v. IsWinner v.state c.side-side.result) c.self.view_is (subst (IsWinner i.whole) (sym c.side-side.ensures) wins)
 
 pub returns-clause-sum : goal.returns-clause-sum
 returns-clause-sum c =
     let i = c.self.inside in
-    let answer = by_search i.regions.items i.graphs.items i.values.items i.places.items i.sum.items i.store i.whole c.self.invariant.0 c.loses.result c.side-side.result c.deref_mut.result.now
+    let answer = by_search i.regions.items c.self.invariant.0.graphs c.self.invariant.0.values i.places.items i.sum.items i.store i.whole c.self.invariant.0.kept c.loses.result c.side-side.result c.deref_mut.result.now
     c.balance_of-balance.result c.purses.result c.side-side.ensures c.deref_mut.ensures.value c.purses.ensures c.balance_of-balance.ensures c.loses.ensures.answer in
     subst (λ v. (ids : List ℕ) → ArePresent v ids → (c.side-side.result ≡ other v.state.side) ↔ LosesGame v.state.side (sum_tree v.trees ids (balance_units v.state))) c.self.view_is
-    (side_by_sum i.regions.items i.graphs.items i.values.items i.places.items i.sum.items i.store i.whole c.self.invariant.0 c.side-side.result c.side-side.ensures
+    (side_by_sum i.regions.items c.self.invariant.0.graphs c.self.invariant.0.values i.places.items i.sum.items i.store i.whole c.self.invariant.0.kept c.side-side.result c.side-side.ensures
     (λ h. differ c.loses.result c.if-loses.false (answer.1 h)))
