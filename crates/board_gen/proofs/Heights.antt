@@ -89,7 +89,7 @@ pub from_option : (G C : Tree) → IsCanonicalFor G C → (X : Tree) → IsOptio
 from_option G C is X o =
     let l = lifted G in
     let w = below l.tree C (λ Y h. (l.from Y h).2.canonical)
-        record { canonical = is.canonical; under = le-trans l.tree G C l.over is.under; over = le-trans C G l.tree is.over l.under } X o in
+    record { canonical = is.canonical; under = le-trans l.tree G C l.over is.under; over = le-trans C G l.tree is.over l.under } X o in
     let h = l.from w.0 w.1 in
     (h.0, (w.0, (h.1, (h.2, w.2))))
 

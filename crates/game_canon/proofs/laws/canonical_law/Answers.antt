@@ -23,7 +23,7 @@ below (node ls rs) C each is X h =
     let t = r.canon in
     let G = node ls rs in
     let same = canonical-unique TextBefore text-order.irreflexive text-order.transitive C t.tree is.canonical t.canonical
-        (le-trans C G t.tree is.over t.under) (le-trans t.tree G C t.over is.under) in
+    (le-trans C G t.tree is.over t.under) (le-trans t.tree G C t.over is.under) in
     r.below X (subst (λ z. IsOption z X) same h)
 
 pub returns-clause-followers : goal.returns-clause-followers
