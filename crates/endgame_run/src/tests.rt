@@ -75,7 +75,7 @@ const WHITE_VISITED_TEXT: &str = "side white\npurse black 2\npurse white 2\nhalf
 const ENDLESS: &[u8] = b"(;SZ[10:3]AB[ba][da:ea][ab:db][ac:ec]AW[fa:ga][ia][gb:jb][fc:jc])";
 
 /// Black's stone at `fb` takes the white one at `eb`, and a new white one there takes it.
-const CYCLE: &str = "fault cycle eb 1 white:eb black:fb white:eb\n";
+const CYCLE: &str = "fault cycle eb 1 black:fb white:eb black:fb\n";
 
 /// `.X.XXXXO.O.` / `XXXX...OOOO` / `XXXXXXXOOOO`: a corridor of three points, open to White.
 const LONG_CORRIDOR: &[u8] = b"(;SZ[11:3]AB[ba][da:ga][ab:db][ac:gc]AW[ha][ja][hb:kb][hc:kc])";

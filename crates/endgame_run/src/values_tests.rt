@@ -61,7 +61,7 @@ fn values_of_files(rt: HostRuntime) -> Result<(), Fail> {
             &["values", "e"],
             b"",
             Status::Cycle,
-            "fault cycle eb 1 white:eb black:fb white:eb\n",
+            "fault cycle eb 1 black:fb white:eb black:fb\n",
         ),
     ];
     for (words, file, status, text) in rows {
