@@ -7,3 +7,5 @@ pub mod NoReturn
 pub mod GapLemmas
 pub mod RegionLemmas
 pub mod Heights
+pub mod Owners
+pub mod Forms

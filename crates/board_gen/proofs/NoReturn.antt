@@ -19,7 +19,7 @@ no_stone colour.Black e = cc
 no_stone colour.White e = cc
 
 -- one colour or the other
-same_or_other : (c d : Colour) → (d ≡ c) ⊎ (c ≡ other d)
+pub same_or_other : (c d : Colour) → (d ≡ c) ⊎ (c ≡ other d)
 same_or_other colour.Black colour.Black = inl refl
 same_or_other colour.White colour.White = inl refl
 same_or_other colour.Black colour.White = inr refl
@@ -49,6 +49,10 @@ stone_elsewhere : (cells : List Cell) (p i : ℕ) (c d : Colour) → held_at cel
 stone_elsewhere cells p i c d empty h =
     get_or-set_other cells p i (stone d) cell.Empty (λ e. no_stone c (sym empty ∙ subst (λ k. held_at cells k ≡ stone c) e h)) ∙ h
 
+pub plays_long : (touch : List Touch) (ms : List CycleMove) (from to : List Cell) → Plays touch from ms to → length to ≡ length from
+plays_long touch [] from to same = ap length (sym same)
+plays_long touch (m ∷ ms) from to (next, move, rest) = plays_long touch ms next to rest ∙ move.long
+
 module _ (touch : List Touch) (n : ℕ) (c : Colour) (walled : AreWalled touch n c) where
   -- no stone of the colour is removed
   none_removed : (cells : List Cell) (p j : ℕ) → length cells ≡ n → ¬ IsRemoved touch cells p c j
@@ -66,13 +70,13 @@ module _ (touch : List Touch) (n : ℕ) (c : Colour) (walled : AreWalled touch n
   with_long : (cells : List Cell) (p : ℕ) (d : Colour) → length cells ≡ n → length (with_stone cells p d) ≡ n
   with_long cells p d long = length-set cells p (stone d) ∙ long
 
-  placed : (cells after : List Cell) (d : Colour) (p : ℕ) → IsLocalMove touch cells d p after → Holds after d p
+  pub placed : (cells after : List Cell) (d : Colour) (p : ℕ) → IsLocalMove touch cells d p after → Holds after d p
   placed cells after d p m =
       let there = stone_there cells p d m.place in
       m.kept p (none_own (with_stone cells p d) p p d there) ∙ there
 
   -- the colour's stones stay
-  owner_stays : (cells after : List Cell) (d : Colour) (p i : ℕ) → length cells ≡ n → IsLocalMove touch cells d p after
+  pub owner_stays : (cells after : List Cell) (d : Colour) (p i : ℕ) → length cells ≡ n → IsLocalMove touch cells d p after
       → Holds cells c i → Holds after c i
   owner_stays cells after d p i long m h =
       let there = stone_elsewhere cells p i c d m.free h in
@@ -83,7 +87,7 @@ module _ (touch : List Touch) (n : ℕ) (c : Colour) (walled : AreWalled touch n
       ]) ∙ there
 
   -- and where the other colour moves all stones stay
-  all_stay : (cells after : List Cell) (d e : Colour) (p i : ℕ) → length cells ≡ n → c ≡ other d → IsLocalMove touch cells d p after
+  pub all_stay : (cells after : List Cell) (d e : Colour) (p i : ℕ) → length cells ≡ n → c ≡ other d → IsLocalMove touch cells d p after
       → Holds cells e i → Holds after e i
   all_stay cells after d e p i long o m h =
       let there = stone_elsewhere cells p i e d m.free h in
@@ -95,10 +99,6 @@ module _ (touch : List Touch) (n : ℕ) (c : Colour) (walled : AreWalled touch n
   owner_stays_along [] from to i long same h = subst (λ x. Holds x c i) same h
   owner_stays_along (m ∷ ms) from to i long (next, move, rest) h =
       owner_stays_along ms next to i (move.long ∙ long) rest (owner_stays from next m.colour m.place i long move h)
-
-  long_along : (ms : List CycleMove) (from to : List Cell) → Plays touch from ms to → length to ≡ length from
-  long_along [] from to same = ap length (sym same)
-  long_along (m ∷ ms) from to (next, move, rest) = long_along ms next to rest ∙ move.long
 
   -- a stone of the other colour where `to` has none isn't gone at the end, if the colour's stones of `to` are there already
   not_back : (ms : List CycleMove) (from to : List Cell) (p : ℕ) → length from ≡ n → Plays touch from ms to
@@ -125,4 +125,4 @@ module _ (touch : List Touch) (n : ℕ) (c : Colour) (walled : AreWalled touch n
     where
       at : (left : List CycleMove) → length left ≡ length ms - back → Plays touch cycle.returns_to left cycle.returns_to → ⊥
       at [] e plays = omega (arith, e, cycle.before_end)
-      at (m ∷ rest) e plays = no_return m rest cycle.returns_to (long_along (take back ms) opening cycle.returns_to cycle.there ∙ long) plays
+      at (m ∷ rest) e plays = no_return m rest cycle.returns_to (plays_long touch (take back ms) opening cycle.returns_to cycle.there ∙ long) plays
