@@ -98,10 +98,10 @@ guess-num (suc e) m = elim (cases_Bool (is_even m)) [
 mutual
   unfolding same
 
-  same-refl : (G : Tree) → same G G ≡ true
+  pub same-refl : (G : Tree) → same G G ≡ true
   same-refl (node ls rs) = λ i. same_each-refl ls i && same_each-refl rs i
 
-  same_each-refl : (Gs : Trees) → same_each Gs Gs ≡ true
+  pub same_each-refl : (Gs : Trees) → same_each Gs Gs ≡ true
   same_each-refl none = refl
   same_each-refl (more G Gs) = λ i. same-refl G i && same_each-refl Gs i
 

@@ -1,0 +1,5 @@
+use Rattle.game_text.proofs.NamedLaws.{named-one_to_one, named-games}
+use Rattle.game_text.proofs.laws.named_text_law.Goals as goal
+
+pub returns : goal.returns
+returns c = record { trees = named-one_to_one; games = named-games }
