@@ -9,6 +9,7 @@ pub mod BracesTexts
 pub mod NamesFound
 pub mod SideTexts
 pub mod NimberIds
+pub mod NimberParts
 pub mod Decimals
 pub mod Runs
 pub mod OneReading
@@ -21,6 +22,7 @@ pub mod NamedForms
 pub mod ReadingSteps
 pub mod ReadingPlaces
 pub mod SideEnds
+pub mod NameReading
 pub mod ReadingGoals
 pub mod RoundTrips
 pub mod StoredTexts

@@ -77,7 +77,7 @@ module _ (Ts : List Tree) (ks : List ℕ) (a : AreNimbers Ts ks) where
   first-ids : (n : ℕ) → n ≤ length ks → (j : ℕ) → j < length (take n ks) → (j < n) × (get_or (take n ks) j 0 ≡ get_or ks j 0)
   first-ids n l j k = let s : j < n = omega (arith, k, length-take-le n ks l) in (s, get_or-take n ks j 0 s)
 
-  first-nimbers : (n : ℕ) → n ≤ length ks → sorted (pick Ts (take n ks)) ≡ sorted (nimbers_below n)
+  pub first-nimbers : (n : ℕ) → n ≤ length ks → sorted (pick Ts (take n ks)) ≡ sorted (nimbers_below n)
   first-nimbers n l = same_list (sorted (pick Ts (take n ks))) (sorted (nimbers_below n)) (sorted-ascends (pick Ts (take n ks))) (sorted-ascends (nimbers_below n))
       (λ X h. (let r = has-pick Ts (take n ks) X (sorted-has (pick Ts (take n ks)) X h) in let f = first-ids n l r.0 r.1 in
       subst (Has (sorted (nimbers_below n))) (sym (r.2 ∙ ap (λ i. tree_at Ts i) f.1 ∙ a.each r.0 (omega (arith, f.0, l)))) (nimber-option n r.0 f.0)))
@@ -117,7 +117,7 @@ pub next-number : (G : Tree) (x : ℤ) (ks : List ℕ) → G ≡ number_tree x �
 next-number G x ks e p q = e ∙ ap number_tree q ∙ sym zero-tree ∙ ap (λ n. nimber n) (sym p)
 
 -- options have lesser ids
-option-below : (Ts : List Tree) → HaveForms Ts → (id : ℕ) → id < length Ts → (X : Tree) → IsInner (tree_at Ts id) X → (i : ℕ) × (i < id) × (X ≡ tree_at Ts i)
+pub option-below : (Ts : List Tree) → HaveForms Ts → (id : ℕ) → id < length Ts → (X : Tree) → IsInner (tree_at Ts id) X → (i : ℕ) × (i < id) × (X ≡ tree_at Ts i)
 option-below Ts forms id l X (f, o) = let h = forms id l in at h.0 h.1 o
   where
     at : (w : Wanted) → IsMeaning Ts id w → IsOption (tree_at Ts id) X → (i : ℕ) × (i < id) × (X ≡ tree_at Ts i)

@@ -3,6 +3,7 @@
 
 mod errors;
 mod laws;
+mod named_games;
 mod names;
 mod numbers;
 mod reading;

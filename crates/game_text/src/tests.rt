@@ -58,6 +58,33 @@ fn texts(rt: HostRuntime) -> Result<(), Fail> {
     Ok(())
 }
 
+/// Both texts of a game are read as one id, and names beside other games.
+#[test]
+fn both_editions(rt: HostRuntime) -> Result<(), Fail> {
+    let alloc = rt.alloc();
+    let table: [(&[u8], &[u8]); 12] = [
+        (b"{0|{0|0}}", b"^"),
+        (b"{{0|0}|0}", b"v"),
+        (b"{0|0}", b"*"),
+        (b"{0,{0|0}|0,{0|0}}", b"*2"),
+        (b"{*,*2,0|0,*2,*}", b"*3"),
+        (b"{2|-2}", b"+-2"),
+        (b"{1/2|-1/2}", b"+-1/2"),
+        (b"{1|{0|0}}", b"{1|*}"),
+        (b"{{{0|0}|-1}|-2}", b"{{*|-1}|-2}"),
+        (b"{0,{0|0}|0}", b"{*,0|0}"),
+        (b"{*|*}", b"0"),
+        (b"{^|v}", b"*"),
+    ];
+    for (text, named) in table {
+        let mut store = Store::new(alloc);
+        let one = read(alloc, &mut store, text, 500).expect(&rt, "a text");
+        let other = read(alloc, &mut store, named, 500).expect(&rt, "a named text");
+        assert_eq!(rt; one, other);
+    }
+    Ok(())
+}
+
 /// Games that the field names (Siegel, Combinatorial Game Theory), and corridors of one to five points: their texts
 /// without names, and with names.
 #[test]
@@ -136,7 +163,31 @@ fn lengths(rt: HostRuntime) -> Result<(), Fail> {
 #[test]
 fn refusals(rt: HostRuntime) -> Result<(), Fail> {
     let alloc = rt.alloc();
-    let table: [(&[u8], u32, ReadError); 24] = [
+    let table: [(&[u8], u32, ReadError); 48] = [
+        (b"*1", 500, ReadError::BadNumber(1)),
+        (b"*0", 500, ReadError::BadNumber(1)),
+        (b"*02", 500, ReadError::BadNumber(1)),
+        (b"*4294967296", 500, ReadError::BadNumber(1)),
+        (b"*4294967295", 4_000, ReadError::Parts),
+        (b"*3", 2, ReadError::Parts),
+        (b"*", 0, ReadError::Parts),
+        (b"^", 1, ReadError::Parts),
+        (b"v", 1, ReadError::Parts),
+        (b"+-1", 0, ReadError::Parts),
+        (b"+1", 500, ReadError::BadNumber(1)),
+        (b"+-0", 500, ReadError::BadNumber(1)),
+        (b"+-2/4", 500, ReadError::BadNumber(1)),
+        (b"+", 500, ReadError::CutShort),
+        (b"+*", 500, ReadError::BadByte(1)),
+        (b"+{0|0}", 500, ReadError::BadByte(1)),
+        (b"**", 500, ReadError::BadByte(1)),
+        (b"*-1", 500, ReadError::BadByte(1)),
+        (b"*2/3", 500, ReadError::BadByte(2)),
+        (b"^^", 500, ReadError::BadByte(1)),
+        (b"{*,|0}", 500, ReadError::BadByte(3)),
+        (b"{*", 500, ReadError::CutShort),
+        (b"{1|*}", 1, ReadError::Parts),
+        (b"{0|+-3", 500, ReadError::CutShort),
         (b"", 500, ReadError::CutShort),
         (b"{", 500, ReadError::CutShort),
         (b"{0|", 500, ReadError::CutShort),
