@@ -26,3 +26,4 @@ pub mod NameReading
 pub mod ReadingGoals
 pub mod RoundTrips
 pub mod StoredTexts
+pub mod NamedRoundTrips

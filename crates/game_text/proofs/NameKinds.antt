@@ -20,7 +20,7 @@ pub data IsNamed (G : Tree) (t : List ℕ) : Type 0 where
   a_nimber : (n : ℕ) → 0 < n → G ≡ nimber n → t ≡ nimber_name n → IsNamed G t
   an_up : G ≡ up → t ≡ 94 ∷ [] → IsNamed G t
   a_down : G ≡ down → t ≡ 118 ∷ [] → IsNamed G t
-  a_switch : (x : Fraction) → is_positive x.numerator ≡ true → G ≡ switch x → t ≡ 43 ∷ 45 ∷ fraction_text x → IsNamed G t
+  a_switch : (x : Fraction) → is_positive x.numerator ≡ true → (G ≡ switch x) × (guess (num x.exponent x.numerator) ≡ x) → t ≡ 43 ∷ 45 ∷ fraction_text x → IsNamed G t
 
 first-is : (o p : Option (List ℕ)) (t : List ℕ) → first_text o p ≡ Some t → (o ≡ Some t) ⊎ ((o ≡ None) × (p ≡ Some t))
 first-is (Some u) p t e = inl e
@@ -60,7 +60,7 @@ is-named G t e = elim (first-is (number_text G) _ t e) [
       | inl a ↦ (let r = where-is (same up G) (94 ∷ []) t a in an_up (sym (same-is up G r.0)) r.1)
       | inr d ↦ elim (first-is (text_where (same down G) (118 ∷ [])) _ t d.1) [
         | inl a ↦ (let r = where-is (same down G) (118 ∷ []) t a in a_down (sym (same-is down G r.0)) r.1)
-        | inr f ↦ (let r = switch-is G (guess (first_of (left G))) _ t refl f.1 in a_switch (guess (first_of (left G))) r.0 r.1 r.2)
+        | inr f ↦ (let r = switch-is G (guess (first_of (left G))) _ t refl f.1 in a_switch (guess (first_of (left G))) r.0 (r.1, ap (λ z. guess (first_of (left z))) (sym r.1)) r.2)
       ]
     ]
   ]
@@ -132,7 +132,7 @@ one-named G H t (a_switch y l q f) (a_number x p e) = absurd (omega (arith, numb
 one-named G H t (a_switch y l q f) (a_nimber n k p e) = absurd (omega (arith, head-is (sym e ∙ f)))
 one-named G H t (a_switch y l q f) (an_up p e) = absurd (omega (arith, head-is (sym e ∙ f)))
 one-named G H t (a_switch y l q f) (a_down p e) = absurd (omega (arith, head-is (sym e ∙ f)))
-one-named G H t (a_switch x k p e) (a_switch y l q f) = p ∙ ap (λ z. switch z) (fraction-one_to_one x y (tail-is (tail-is (sym e ∙ f)))) ∙ sym q
+one-named G H t (a_switch x k p e) (a_switch y l q f) = p.0 ∙ ap (λ z. switch z) (fraction-one_to_one x y (tail-is (tail-is (sym e ∙ f)))) ∙ sym q.0
 
 -- the bytes of names
 digits-plain : (t : List ℕ) → AreDigits t → ArePlain t

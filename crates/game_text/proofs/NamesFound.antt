@@ -67,7 +67,7 @@ module _ (G : Tree) (no_number : IsNumberTree G → ⊥) where
       of-kind t (a_nimber n l p e) = f n p
       of-kind t (an_up p e) = g p
       of-kind t (a_down p e) = h p
-      of-kind t (a_switch x p q e) = k x p q
+      of-kind t (a_switch x p q e) = k x p q.0
 
       at : (o : Option (List ℕ)) → name G ≡ o → name G ≡ None
       at (Some t) e = absurd (of-kind t (is-named G t e))

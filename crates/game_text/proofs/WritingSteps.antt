@@ -124,7 +124,7 @@ named-nimber : (n k : ℕ) (X : Tree) → X ≡ nimber k → name X ≡ None →
 named-nimber n zero X e p = some-none (sym (name-number (nimber 0) _ (ap number_text zero-tree ∙ number-text (pos 0))) ∙ ap name (sym e) ∙ p)
 named-nimber n (suc k) X e p = some-none (sym (name-nimber (suc k) (omega arith)) ∙ ap name (sym e) ∙ p)
 
-named-num : (e : ℕ) (m : ℤ) (X : Tree) → X ≡ num e m → name X ≡ None → ⊥
+pub named-num : (e : ℕ) (m : ℤ) (X : Tree) → X ≡ num e m → name X ≡ None → ⊥
 named-num e m X q p = let r = number_of-num e m in some-none (sym (name-number (num e m) (fraction_text r.0) (ap text_of_number r.2)) ∙ ap name (sym q) ∙ p)
 
 named-option : (G X : Tree) (t : List ℕ) → IsNamed G t → IsOption G X → name X ≡ None → ⊥
@@ -132,7 +132,7 @@ named-option G X t (a_number x p e) o q = let r = number-option G X (x.exponent,
 named-option G X t (a_nimber n l p e) o q = elim (subst (λ z. IsOption z X) p o) [ inl h ↦ (let r = option-nimber n X h in named-nimber n r.0 X r.2 q) | inr h ↦ (let r = option-nimber n X h in named-nimber n r.0 X r.2 q) ]
 named-option G X t (an_up p e) o q = elim (subst (λ z. IsOption z X) p o) [ inl h ↦ elim h [ inl i ↦ named-nimber 0 0 X i q | inr i ↦ absurd i ] | inr h ↦ elim h [ inl i ↦ named-nimber 0 1 X i q | inr i ↦ absurd i ] ]
 named-option G X t (a_down p e) o q = elim (subst (λ z. IsOption z X) p o) [ inl h ↦ elim h [ inl i ↦ named-nimber 0 1 X i q | inr i ↦ absurd i ] | inr h ↦ elim h [ inl i ↦ named-nimber 0 0 X i q | inr i ↦ absurd i ] ]
-named-option G X t (a_switch x l p e) o q = elim (subst (λ z. IsOption z X) p o) [ inl h ↦ elim h [ inl i ↦ named-num _ _ X i q | inr i ↦ absurd i ] | inr h ↦ elim h [ inl i ↦ named-num _ _ X i q | inr i ↦ absurd i ] ]
+named-option G X t (a_switch x l p e) o q = elim (subst (λ z. IsOption z X) p.0 o) [ inl h ↦ elim h [ inl i ↦ named-num _ _ X i q | inr i ↦ absurd i ] | inr h ↦ elim h [ inl i ↦ named-num _ _ X i q | inr i ↦ absurd i ] ]
 
 unnamed-before : (G X : Tree) → IsOption G X → name X ≡ None → name G ≡ None
 unnamed-before G X o q = at (name G) refl
