@@ -12,7 +12,7 @@ use std::test::Fail;
 
 /// One contested point, worth nothing but the move.
 const POINT_VALUES: &str =
-    "regions 1\nregion ea points 1 positions 3\nvalue {0|0}\nstops 0 0\nmean 0\ntemperature 0\n\
+    "regions 1\nregion ea points 1 positions 3\nvalue *\nstops 0 0\nmean 0\ntemperature 0\n\
     left 0:0\nright 0:0\n";
 
 /// The commands that write one text, and their texts about the board of one contested point.

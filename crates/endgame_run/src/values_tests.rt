@@ -11,7 +11,7 @@ const NOTHING: &str =
 
 /// A corridor of two points, open to White.
 const CORRIDOR: &str =
-    "regions 1\nregion eb points 2 positions 8\nvalue {1|{0|0}}\nstops 1 0\nmean 1/2\ntemperature 1/2\n\
+    "regions 1\nregion eb points 2 positions 8\nvalue {1|*}\nstops 1 0\nmean 1/2\ntemperature 1/2\n\
     left 0:1 1/2:1/2\nright 0:0 1/2:1/2\n";
 
 /// The corridor with a white stone inside.
@@ -21,7 +21,7 @@ const VISITED: &str =
 
 /// A corridor of three points, open to White.
 const LONG_CORRIDOR: &str =
-    "regions 1\nregion eb points 3 positions 22\nvalue {2|{1|{0|0}}}\nstops 2 1\nmean 5/4\ntemperature 3/4\n\
+    "regions 1\nregion eb points 3 positions 22\nvalue {2|{1|*}}\nstops 2 1\nmean 5/4\ntemperature 3/4\n\
     left 0:2 3/4:5/4\nright 0:1 1/2:1 3/4:5/4\n";
 
 /// One point without a liberty for any stone.

@@ -5,10 +5,10 @@ use Rattle.game_store.specs.Tree.{Tree, Trees, node, none, more, ◌then◌}
 use Rattle.game_store.specs.Text.{open_brace, bar, close_brace, comma}
 use Rattle.game_store.specs.Meaning.{number_tree}
 use Rattle.game_text.specs.Depth.{most_open}
-use Rattle.game_text.specs.Reading.{IsNumberByte, IsRun, IsNumberText, Fault, Outcome, behind, left_side, right_side, mark_of, BeginsOtherwise, IsClosed, ReadsMore, ReadsText}
+use Rattle.game_text.specs.Reading.{IsNumberByte, IsNameByte, ReadsName, IsRun, IsNumberText, Fault, Outcome, behind, left_side, right_side, mark_of, BeginsOtherwise, IsClosed, ReadsMore, ReadsText}
 use Rattle.game_text.specs.Reading.Fault.{bad_byte, bad_number, cut_short, too_deep}
 use Rattle.game_text.specs.Reading.Outcome.{reads, refused}
-use Rattle.game_text.specs.Reading.ReadsGame.{number, no_number, one_too_deep, form, left_refused, right_refused, game_stray, game_cut}
+use Rattle.game_text.specs.Reading.ReadsGame.{number, no_number, name, no_name, one_too_deep, form, left_refused, right_refused, game_stray, game_cut}
 use Rattle.game_text.specs.Reading.ReadsOptions.{no_option, first, first_refused}
 use Rattle.game_text.specs.Reading.ReadsMore.{no_more, next, next_refused, more_stray, more_cut}
 use Rattle.game_text.specs.Reading.ReadsText.{whole_text, followed, unread}
@@ -97,8 +97,18 @@ module _ (limit : ℕ) where
   pub deep-open : (fs : List Frame) (x : ℕ) (xs : List ℕ) → x ≡ open_brace → most_open ≤ length fs → Rest limit (a_game fs) (x ∷ xs) (Err too_deep)
   deep-open fs x xs m l = (refused too_deep, one_too_deep (length fs) x xs m l, game-refused fs too_deep (Err too_deep) refl)
 
-  pub stray-game : (fs : List Frame) (x : ℕ) (xs : List ℕ) → (IsNumberByte x → ⊥) → (x ≡ open_brace → ⊥) → Rest limit (a_game fs) (x ∷ xs) (Err (bad_byte (x ∷ xs)))
-  stray-game fs x xs f g = (refused (bad_byte (x ∷ xs)), game_stray (length fs) x xs f g, game-refused fs (bad_byte (x ∷ xs)) (Err (bad_byte (x ∷ xs))) refl)
+  -- a name
+  pub name-read : (fs : List Frame) (x : ℕ) (xs rest : List ℕ) (G : Tree) (out : Answer) → ReadsName x xs (reads G rest) → IsClosed limit G rest (reads G rest) → Rest limit (state_after fs G) rest out → Rest limit (a_game fs) (x ∷ xs) out
+  name-read fs x xs rest G out r c s = (reads G rest, name (length fs) x xs rest G (reads G rest) r c, after-game fs G rest out s)
+
+  pub name-closed : (fs : List Frame) (x : ℕ) (xs rest : List ℕ) (G : Tree) (fault : Fault) → ReadsName x xs (reads G rest) → IsClosed limit G rest (refused fault) → Rest limit (a_game fs) (x ∷ xs) (Err fault)
+  name-closed fs x xs rest G fault r c = (refused fault, name (length fs) x xs rest G (refused fault) r c, game-refused fs fault (Err fault) refl)
+
+  pub name-refused : (fs : List Frame) (x : ℕ) (xs : List ℕ) (fault : Fault) → ReadsName x xs (refused fault) → Rest limit (a_game fs) (x ∷ xs) (Err fault)
+  name-refused fs x xs fault r = (refused fault, no_name (length fs) x xs fault r, game-refused fs fault (Err fault) refl)
+
+  pub stray-game : (fs : List Frame) (x : ℕ) (xs : List ℕ) → (IsNumberByte x → ⊥) → (IsNameByte x → ⊥) → (x ≡ open_brace → ⊥) → Rest limit (a_game fs) (x ∷ xs) (Err (bad_byte (x ∷ xs)))
+  stray-game fs x xs f k g = (refused (bad_byte (x ∷ xs)), game_stray (length fs) x xs f k g, game-refused fs (bad_byte (x ∷ xs)) (Err (bad_byte (x ∷ xs))) refl)
 
   pub stray-behind : (f : Frame) (fs : List Frame) (x : ℕ) (xs : List ℕ) → (x ≡ mark_of (side_in f) → ⊥) → (x ≡ comma → ⊥) → Rest limit (other_options f fs) (x ∷ xs) (Err (bad_byte (x ∷ xs)))
   stray-behind f fs x xs g h = (refused (bad_byte (x ∷ xs)), more_stray (suc (length fs)) (side_in f) x xs g h, side-refused (BehindGame limit fs) (suc (length fs)) f (bad_byte (x ∷ xs)) (Err (bad_byte (x ∷ xs))) refl)

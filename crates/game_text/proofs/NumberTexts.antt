@@ -24,7 +24,7 @@ pub record IsReduced (e : ℕ) (m : ℤ) (x : Fraction) : Type 0 where
   pub scaled : x.numerator *ℤ pos (2 ^ spare) ≡ m
   pub least : (x.exponent ≡ 0) ⊎ (is_even x.numerator ≡ false)
 
-once : (m : ℤ) → m *ℤ pos (2 ^ 0) ≡ m
+pub once : (m : ℤ) → m *ℤ pos (2 ^ 0) ≡ m
 once m = omega (arith, ints)
 
 doubled : (m : ℤ) (k : ℕ) → m *ℤ pos (2 ^ suc k) ≡ (m *ℤ pos (2 ^ k)) +ℤ (m *ℤ pos (2 ^ k))
@@ -47,7 +47,7 @@ guess-whole (pos n) = guess-count n
 guess-whole (negsuc n) = guess-negative n
 
 -- an odd number is in lowest terms
-no_spare : (e : ℕ) (m : ℤ) (x : Fraction) → IsReduced e m x → is_even m ≡ false → x.exponent ≡ e
+pub no_spare : (e : ℕ) (m : ℤ) (x : Fraction) → IsReduced e m x → is_even m ≡ false → x.exponent ≡ e
 no_spare e m x r f = at r.spare r.exponents r.scaled
   where
     at : (k : ℕ) → k + x.exponent ≡ e → x.numerator *ℤ pos (2 ^ k) ≡ m → x.exponent ≡ e
@@ -98,10 +98,10 @@ guess-num (suc e) m = elim (cases_Bool (is_even m)) [
 mutual
   unfolding same
 
-  same-refl : (G : Tree) → same G G ≡ true
+  pub same-refl : (G : Tree) → same G G ≡ true
   same-refl (node ls rs) = λ i. same_each-refl ls i && same_each-refl rs i
 
-  same_each-refl : (Gs : Trees) → same_each Gs Gs ≡ true
+  pub same_each-refl : (Gs : Trees) → same_each Gs Gs ≡ true
   same_each-refl none = refl
   same_each-refl (more G Gs) = λ i. same-refl G i && same_each-refl Gs i
 

@@ -1,5 +1,5 @@
 -- Reading a text comes to one thing.
-use Rattle.std.proofs.Common.{ℕ, suc, ◌<◌, ◌≤◌, ◌≡◌, List, [], ◌∷◌, arith, refl, inl, inr, sym, ◌∙◌, ap, ap₂, subst, ℤ}
+use Rattle.std.proofs.Common.{ℕ, suc, ◌<◌, ◌≤◌, ◌≡◌, List, [], ◌∷◌, length, arith, refl, inl, inr, sym, ◌∙◌, ap, ap₂, subst, ℤ}
 use Rattle.std.specs.Prelude.{Result, Ok, Err}
 use Rattle.game_store.specs.Tree.{Tree, Trees, node, none}
 use Rattle.game_store.specs.Text.{open_brace, comma}
@@ -8,13 +8,23 @@ use Rattle.game_store.specs.Meaning.{number_tree}
 use Rattle.game_store.proofs.TextLaws.{head-is, tail-is, IsMore}
 use Rattle.game_store.proofs.TextOrderLaws.{tree_text-one_to_one, text-order}
 use Rattle.game_store.proofs.Existence.{canon}
-use Rattle.game_text.proofs.Runs.{one-run, run-first, run-some}
+use Rattle.game_text.proofs.Runs.{one-run, one-digits, more-length, run-first, run-some}
+use Rattle.game_text.proofs.NameKinds.{digits-bytes}
+use Rattle.game_store.specs.NumberText.{digits}
+use Rattle.game_store.proofs.NumberTextLaws.{digits-one_to_one}
+use Rattle.game_canon.proofs.Sizes.{number-same}
+use Rattle.game_text.specs.NamedText.{nimber}
+use Rattle.game_text.specs.Reading.{IsDigitRun, EndsDigits, switch_below}
+use Rattle.game_text.specs.Reading.ReadsNimber.{of_one, of_number, of_none}
+use Rattle.game_text.specs.Reading.ReadsSwitch.{of_negative, of_other, ends}
+use Rattle.game_text.specs.Reading.ReadsSwitch.{no_number as no_switch}
+use Rattle.game_text.specs.Reading.ReadsName.{a_nimber, an_up, a_down, a_switch}
 use Rattle.game_text.specs.Depth.{most_open}
-use Rattle.game_text.specs.Reading.{IsNumberByte, IsRun, IsNumberText, Fault, Outcome, behind, Side, left_side, right_side, mark_of, BeginsOtherwise, IsClosed, ReadsGame, ReadsOptions, ReadsMore, ReadsText}
+use Rattle.game_text.specs.Reading.{IsNumberByte, IsNameByte, ReadsNimber, ReadsSwitch, ReadsName, IsNimberDigits, IsRun, IsNumberText, Fault, Outcome, behind, Side, left_side, right_side, mark_of, BeginsOtherwise, IsClosed, ReadsGame, ReadsOptions, ReadsMore, ReadsText}
 use Rattle.game_text.specs.Reading.Fault.{bad_byte, bad_number, cut_short, too_deep}
 use Rattle.game_text.specs.Reading.Outcome.{reads, refused}
 use Rattle.game_text.specs.Reading.IsClosed.{taken, with_many_parts, far}
-use Rattle.game_text.specs.Reading.ReadsGame.{number, no_number, one_too_deep, form, left_refused, right_refused, game_stray, game_cut}
+use Rattle.game_text.specs.Reading.ReadsGame.{number, no_number, name, no_name, one_too_deep, form, left_refused, right_refused, game_stray, game_cut}
 use Rattle.game_text.specs.Reading.ReadsOptions.{no_option, first, first_refused}
 use Rattle.game_text.specs.Reading.ReadsMore.{no_more, next, next_refused, more_stray, more_cut}
 use Rattle.game_text.specs.Reading.ReadsText.{whole_text, followed, unread}
@@ -22,6 +32,90 @@ use Rattle.game_text.specs.Reading.ReadsText.{whole_text, followed, unread}
 no_brace : (x : ℕ) → IsNumberByte x → x ≡ open_brace → ⊥
 no_brace x (inl e) p = omega (arith, e, p)
 no_brace x (inr l) p = omega (arith, l, p)
+
+-- a name begins otherwise
+name-byte : (x : ℕ) (xs : List ℕ) (o : Outcome Tree) → ReadsName x xs o → IsNameByte x
+name-byte x xs o (a_nimber e r) = inl e
+name-byte x xs o (an_up e r) = inr (inl e)
+name-byte x xs o (a_down e r) = inr (inr (inl e))
+name-byte x xs o (a_switch e r) = inr (inr (inr e))
+
+no-name_number : (x : ℕ) → IsNameByte x → IsNumberByte x → ⊥
+no-name_number x (inl e) (inl p) = omega (arith, e, p)
+no-name_number x (inl e) (inr p) = omega (arith, e, p)
+no-name_number x (inr (inl e)) (inl p) = omega (arith, e, p)
+no-name_number x (inr (inl e)) (inr p) = omega (arith, e, p)
+no-name_number x (inr (inr (inl e))) (inl p) = omega (arith, e, p)
+no-name_number x (inr (inr (inl e))) (inr p) = omega (arith, e, p)
+no-name_number x (inr (inr (inr e))) (inl p) = omega (arith, e, p)
+no-name_number x (inr (inr (inr e))) (inr p) = omega (arith, e, p)
+
+no-name_brace : (x : ℕ) → IsNameByte x → x ≡ open_brace → ⊥
+no-name_brace x (inl e) p = omega (arith, e, p)
+no-name_brace x (inr (inl e)) p = omega (arith, e, p)
+no-name_brace x (inr (inr (inl e))) p = omega (arith, e, p)
+no-name_brace x (inr (inr (inr e))) p = omega (arith, e, p)
+
+-- a name is read in one way
+digit-some : (run rest bytes : List ℕ) → IsDigitRun bytes run rest → 0 < length run → EndsDigits bytes → ⊥
+digit-some [] rest bytes r l f = omega (arith, l)
+digit-some (x ∷ xs) rest bytes r l f = subst EndsDigits r.is f r.digit_bytes.0
+
+some-digits : (n : ℕ) (run : List ℕ) → IsNimberDigits n run → 0 < length run
+some-digits n run d = subst (λ (z : List ℕ). 0 < length z) (sym d.2) (more-length (digits n []) (digits-bytes n [] tt).1)
+
+one-nimber : (bytes : List ℕ) (o p : Outcome Tree) → ReadsNimber bytes o → ReadsNimber bytes p → o ≡ p
+one-nimber bytes _ _ (of_one a) (of_one b) = refl
+one-nimber bytes _ _ (of_one a) (of_number run rest n r d) = absurd (digit-some run rest bytes r (some-digits n run d) a)
+one-nimber bytes _ _ (of_one a) (of_none run rest r l f) = absurd (digit-some run rest bytes r l a)
+one-nimber bytes _ _ (of_number run rest n r d) (of_one a) = absurd (digit-some run rest bytes r (some-digits n run d) a)
+one-nimber bytes _ _ (of_number run rest n r d) (of_number sun sest m s e) =
+    let q = one-digits bytes run sun rest sest r s in ap₂ (λ k z. reads (nimber k) z) (digits-one_to_one n m (sym d.2 ∙ q.0 ∙ e.2)) q.1
+one-nimber bytes _ _ (of_number run rest n r d) (of_none sun sest s l f) = absurd (f n (subst (IsNimberDigits n) (one-digits bytes run sun rest sest r s).0 d))
+one-nimber bytes _ _ (of_none run rest r l f) (of_one a) = absurd (digit-some run rest bytes r l a)
+one-nimber bytes _ _ (of_none run rest r l f) (of_number sun sest m s e) = absurd (f m (subst (IsNimberDigits m) (one-digits bytes sun run sest rest s r).0 e))
+one-nimber bytes _ _ (of_none run rest r l f) (of_none sun sest s k g) = refl
+
+run-there : (bytes run rest : List ℕ) → IsRun bytes run rest → bytes ≡ [] → ⊥
+run-there bytes run rest r e = run-some run rest r.some (sym e ∙ r.is)
+
+one-switch : (bytes : List ℕ) (o p : Outcome Tree) → ReadsSwitch bytes o → ReadsSwitch bytes p → o ≡ p
+one-switch bytes _ _ (of_negative run rest u r t l) (of_negative sun sest v s w k) =
+    let q = one-run bytes run sun rest sest r s in
+    ap₂ (λ a z. reads (switch_below a) z) (number-same u v (tree_text-one_to_one (number_tree u) (number_tree v) (sym t.1 ∙ q.0 ∙ w.1))) q.1
+one-switch bytes _ _ (of_negative run rest u r t l) (of_other sun sest s f) = absurd (f u (subst (IsNumberText u) (one-run bytes run sun rest sest r s).0 t) l)
+one-switch bytes _ _ (of_negative run rest u r t l) (no_switch x xs e f) = absurd (f (run-first x xs run rest (subst (λ z. IsRun z run rest) e r)))
+one-switch bytes _ _ (of_negative run rest u r t l) (ends e) = absurd (run-there bytes run rest r e)
+one-switch bytes _ _ (of_other run rest r f) (of_negative sun sest v s w k) = absurd (f v (subst (IsNumberText v) (one-run bytes sun run sest rest s r).0 w) k)
+one-switch bytes _ _ (of_other run rest r f) (of_other sun sest s g) = refl
+one-switch bytes _ _ (of_other run rest r f) (no_switch x xs e g) = absurd (g (run-first x xs run rest (subst (λ z. IsRun z run rest) e r)))
+one-switch bytes _ _ (of_other run rest r f) (ends e) = absurd (run-there bytes run rest r e)
+one-switch bytes _ _ (no_switch x xs e f) (of_negative run rest u r t l) = absurd (f (run-first x xs run rest (subst (λ z. IsRun z run rest) e r)))
+one-switch bytes _ _ (no_switch x xs e f) (of_other run rest r g) = absurd (f (run-first x xs run rest (subst (λ z. IsRun z run rest) e r)))
+one-switch bytes _ _ (no_switch x xs e f) (no_switch y ys d g) = refl
+one-switch bytes _ _ (no_switch x xs e f) (ends d) = absurd (subst IsMore (sym e ∙ d) tt)
+one-switch bytes _ _ (ends e) (of_negative run rest u r t l) = absurd (run-there bytes run rest r e)
+one-switch bytes _ _ (ends e) (of_other run rest r f) = absurd (run-there bytes run rest r e)
+one-switch bytes _ _ (ends e) (no_switch x xs d f) = absurd (subst IsMore (sym d ∙ e) tt)
+one-switch bytes _ _ (ends e) (ends d) = refl
+
+one-name : (x : ℕ) (xs : List ℕ) (o p : Outcome Tree) → ReadsName x xs o → ReadsName x xs p → o ≡ p
+one-name x xs o p (a_nimber e r) (a_nimber f s) = one-nimber xs o p r s
+one-name x xs o p (a_nimber e r) (an_up f s) = absurd (omega (arith, e, f))
+one-name x xs o p (a_nimber e r) (a_down f s) = absurd (omega (arith, e, f))
+one-name x xs o p (a_nimber e r) (a_switch f s) = absurd (omega (arith, e, f))
+one-name x xs o p (an_up e r) (a_nimber f s) = absurd (omega (arith, e, f))
+one-name x xs o p (an_up e r) (an_up f s) = r ∙ sym s
+one-name x xs o p (an_up e r) (a_down f s) = absurd (omega (arith, e, f))
+one-name x xs o p (an_up e r) (a_switch f s) = absurd (omega (arith, e, f))
+one-name x xs o p (a_down e r) (a_nimber f s) = absurd (omega (arith, e, f))
+one-name x xs o p (a_down e r) (an_up f s) = absurd (omega (arith, e, f))
+one-name x xs o p (a_down e r) (a_down f s) = r ∙ sym s
+one-name x xs o p (a_down e r) (a_switch f s) = absurd (omega (arith, e, f))
+one-name x xs o p (a_switch e r) (a_nimber f s) = absurd (omega (arith, e, f))
+one-name x xs o p (a_switch e r) (an_up f s) = absurd (omega (arith, e, f))
+one-name x xs o p (a_switch e r) (a_down f s) = absurd (omega (arith, e, f))
+one-name x xs o p (a_switch e r) (a_switch f s) = one-switch xs o p r s
 
 no_comma : (side : Side) → comma ≡ mark_of side → ⊥
 no_comma left_side e = omega (arith, e)
@@ -56,11 +150,13 @@ module _ (limit : ℕ) where
   numbered _ _ _ (number n bytes a s u q t) run rest r = let e = one-run bytes a run s rest q r in
       subst (λ z. Numbered run rest bytes (reads (number_tree u) z)) (sym e.1) (is_one u (subst (IsNumberText u) e.0 t))
   numbered _ _ _ (no_number n bytes a s q f) run rest r = is_none (λ u t. f u (subst (IsNumberText u) (sym (one-run bytes a run s rest q r).0) t))
+  numbered _ _ _ (name n x xs ys G out a c) run rest r = absurd (no-name_number x (name-byte x xs _ a) (run-first x xs run rest r))
+  numbered _ _ _ (no_name n x xs fault a) run rest r = absurd (no-name_number x (name-byte x xs _ a) (run-first x xs run rest r))
   numbered _ _ _ (one_too_deep n x xs e l) run rest r = absurd (no_brace x (run-first x xs run rest r) e)
   numbered _ _ _ (form n x xs ys zs Ls Rs out e l a b c) run rest r = absurd (no_brace x (run-first x xs run rest r) e)
   numbered _ _ _ (left_refused n x xs fault e l a) run rest r = absurd (no_brace x (run-first x xs run rest r) e)
   numbered _ _ _ (right_refused n x xs ys Ls fault e l a b) run rest r = absurd (no_brace x (run-first x xs run rest r) e)
-  numbered _ _ _ (game_stray n x xs f g) run rest r = absurd (f (run-first x xs run rest r))
+  numbered _ _ _ (game_stray n x xs f h g) run rest r = absurd (f (run-first x xs run rest r))
   numbered _ _ _ (game_cut n) run rest r = absurd (run-some run rest r.some r.is)
 
   one-numbered : (run rest bytes : List ℕ) (o p : Outcome Tree) → Numbered run rest bytes o → Numbered run rest bytes p → o ≡ p
@@ -79,11 +175,13 @@ module _ (limit : ℕ) where
   braced : (n : ℕ) (bytes : List ℕ) (o : Outcome Tree) → ReadsGame limit n bytes o → (x : ℕ) (xs : List ℕ) → bytes ≡ x ∷ xs → x ≡ open_brace → Braced n xs o
   braced _ _ _ (number n bytes a s u q t) x xs e b = absurd (no_brace x (run-first x xs a s (subst (λ z. IsRun z a s) e q)) b)
   braced _ _ _ (no_number n bytes a s q f) x xs e b = absurd (no_brace x (run-first x xs a s (subst (λ z. IsRun z a s) e q)) b)
+  braced _ _ _ (name n y ys zs G out a c) x xs e b = absurd (no-name_brace y (name-byte y ys _ a) (head-is e ∙ b))
+  braced _ _ _ (no_name n y ys fault a) x xs e b = absurd (no-name_brace y (name-byte y ys _ a) (head-is e ∙ b))
   braced _ _ _ (one_too_deep n y zs c l) x xs e b = deep l
   braced _ _ _ (form n y ws ys zs Ls Rs out c l p q r) x xs e b = closed ys zs Ls Rs out l (subst (λ z. ReadsOptions limit (suc n) left_side z (reads Ls ys)) (tail-is e) p) q r
   braced _ _ _ (left_refused n y ws fault c l p) x xs e b = on_left fault l (subst (λ z. ReadsOptions limit (suc n) left_side z (refused fault)) (tail-is e) p)
   braced _ _ _ (right_refused n y ws ys Ls fault c l p q) x xs e b = on_right ys Ls fault l (subst (λ z. ReadsOptions limit (suc n) left_side z (reads Ls ys)) (tail-is e) p) q
-  braced _ _ _ (game_stray n y ys f g) x xs e b = absurd (g (head-is e ∙ b))
+  braced _ _ _ (game_stray n y ys f h g) x xs e b = absurd (g (head-is e ∙ b))
   braced _ _ _ (game_cut n) x xs e b = absurd (subst IsMore (sym e) tt)
 
   -- each of the four, where the parts of the one reading are all that there is
@@ -117,25 +215,53 @@ module _ (limit : ℕ) where
   one-deep n xs _ (on_left other l p) k = absurd (omega (arith, l, k))
   one-deep n xs _ (on_right us Ms other l p q) k = absurd (omega (arith, l, k))
 
-  one-stray : (n : ℕ) (bytes : List ℕ) (o : Outcome Tree) → ReadsGame limit n bytes o → (x : ℕ) (xs : List ℕ) → bytes ≡ x ∷ xs → (IsNumberByte x → ⊥) → (x ≡ open_brace → ⊥) → refused (bad_byte (x ∷ xs)) ≡ o
-  one-stray _ _ _ (number n bytes a s u q t) x xs e f g = absurd (f (run-first x xs a s (subst (λ z. IsRun z a s) e q)))
-  one-stray _ _ _ (no_number n bytes a s q h) x xs e f g = absurd (f (run-first x xs a s (subst (λ z. IsRun z a s) e q)))
-  one-stray _ _ _ (one_too_deep n y zs c l) x xs e f g = absurd (g (sym (head-is e) ∙ c))
-  one-stray _ _ _ (form n y ws ys zs Ls Rs out c l p q r) x xs e f g = absurd (g (sym (head-is e) ∙ c))
-  one-stray _ _ _ (left_refused n y ws fault c l p) x xs e f g = absurd (g (sym (head-is e) ∙ c))
-  one-stray _ _ _ (right_refused n y ws ys Ls fault c l p q) x xs e f g = absurd (g (sym (head-is e) ∙ c))
-  one-stray _ _ _ (game_stray n y ys h i) x xs e f g = ap (λ z. refused (bad_byte z)) (sym e)
-  one-stray _ _ _ (game_cut n) x xs e f g = absurd (subst IsMore (sym e) tt)
+  one-stray : (n : ℕ) (bytes : List ℕ) (o : Outcome Tree) → ReadsGame limit n bytes o → (x : ℕ) (xs : List ℕ) → bytes ≡ x ∷ xs → (IsNumberByte x → ⊥) → (IsNameByte x → ⊥) → (x ≡ open_brace → ⊥) → refused (bad_byte (x ∷ xs)) ≡ o
+  one-stray _ _ _ (number n bytes a s u q t) x xs e f k g = absurd (f (run-first x xs a s (subst (λ z. IsRun z a s) e q)))
+  one-stray _ _ _ (no_number n bytes a s q h) x xs e f k g = absurd (f (run-first x xs a s (subst (λ z. IsRun z a s) e q)))
+  one-stray _ _ _ (name n y ys zs G out a c) x xs e f k g = absurd (k (subst IsNameByte (head-is e) (name-byte y ys _ a)))
+  one-stray _ _ _ (no_name n y ys fault a) x xs e f k g = absurd (k (subst IsNameByte (head-is e) (name-byte y ys _ a)))
+  one-stray _ _ _ (one_too_deep n y zs c l) x xs e f k g = absurd (g (sym (head-is e) ∙ c))
+  one-stray _ _ _ (form n y ws ys zs Ls Rs out c l p q r) x xs e f k g = absurd (g (sym (head-is e) ∙ c))
+  one-stray _ _ _ (left_refused n y ws fault c l p) x xs e f k g = absurd (g (sym (head-is e) ∙ c))
+  one-stray _ _ _ (right_refused n y ws ys Ls fault c l p q) x xs e f k g = absurd (g (sym (head-is e) ∙ c))
+  one-stray _ _ _ (game_stray n y ys h m i) x xs e f k g = ap (λ z. refused (bad_byte z)) (sym e)
+  one-stray _ _ _ (game_cut n) x xs e f k g = absurd (subst IsMore (sym e) tt)
 
   one-cut : (n : ℕ) (bytes : List ℕ) (o : Outcome Tree) → ReadsGame limit n bytes o → bytes ≡ [] → refused cut_short ≡ o
   one-cut _ _ _ (number n bytes a s u q t) e = absurd (run-some a s q.some (sym e ∙ q.is))
   one-cut _ _ _ (no_number n bytes a s q h) e = absurd (run-some a s q.some (sym e ∙ q.is))
+  one-cut _ _ _ (name n y ys zs G out a c) e = absurd (subst IsMore e tt)
+  one-cut _ _ _ (no_name n y ys fault a) e = absurd (subst IsMore e tt)
   one-cut _ _ _ (one_too_deep n y zs c l) e = absurd (subst IsMore e tt)
   one-cut _ _ _ (form n y ws ys zs Ls Rs out c l p q r) e = absurd (subst IsMore e tt)
   one-cut _ _ _ (left_refused n y ws fault c l p) e = absurd (subst IsMore e tt)
   one-cut _ _ _ (right_refused n y ws ys Ls fault c l p q) e = absurd (subst IsMore e tt)
-  one-cut _ _ _ (game_stray n y ys h i) e = absurd (subst IsMore e tt)
+  one-cut _ _ _ (game_stray n y ys h m i) e = absurd (subst IsMore e tt)
   one-cut _ _ _ (game_cut n) e = refl
+
+  -- what a game that begins with a name comes to
+  data Called (x : ℕ) (xs : List ℕ) : Outcome Tree → Type 0 where
+    ended : (rest : List ℕ) (G : Tree) (out : Outcome Tree) → ReadsName x xs (reads G rest) → IsClosed limit G rest out → Called x xs out
+    unnamed : (fault : Fault) → ReadsName x xs (refused fault) → Called x xs (refused fault)
+
+  called : (n : ℕ) (bytes : List ℕ) (o : Outcome Tree) → ReadsGame limit n bytes o → (x : ℕ) (xs : List ℕ) → bytes ≡ x ∷ xs → IsNameByte x → Called x xs o
+  called _ _ _ (number n bytes a s u q t) x xs e b = absurd (no-name_number x b (run-first x xs a s (subst (λ z. IsRun z a s) e q)))
+  called _ _ _ (no_number n bytes a s q f) x xs e b = absurd (no-name_number x b (run-first x xs a s (subst (λ z. IsRun z a s) e q)))
+  called _ _ _ (name n y ys zs G out a c) x xs e b = ended zs G out (subst (λ k. ReadsName k xs (reads G zs)) (head-is e) (subst (λ z. ReadsName y z (reads G zs)) (tail-is e) a)) c
+  called _ _ _ (no_name n y ys fault a) x xs e b = unnamed fault (subst (λ k. ReadsName k xs (refused fault)) (head-is e) (subst (λ z. ReadsName y z (refused fault)) (tail-is e) a))
+  called _ _ _ (one_too_deep n y zs c l) x xs e b = absurd (no-name_brace x b (sym (head-is e) ∙ c))
+  called _ _ _ (form n y ws ys zs Ls Rs out c l p q r) x xs e b = absurd (no-name_brace x b (sym (head-is e) ∙ c))
+  called _ _ _ (left_refused n y ws fault c l p) x xs e b = absurd (no-name_brace x b (sym (head-is e) ∙ c))
+  called _ _ _ (right_refused n y ws ys Ls fault c l p q) x xs e b = absurd (no-name_brace x b (sym (head-is e) ∙ c))
+  called _ _ _ (game_stray n y ys f k g) x xs e b = absurd (k (subst IsNameByte (sym (head-is e)) b))
+  called _ _ _ (game_cut n) x xs e b = absurd (subst IsMore (sym e) tt)
+
+  one-called : (x : ℕ) (xs : List ℕ) (o p : Outcome Tree) → Called x xs o → Called x xs p → o ≡ p
+  one-called x xs _ _ (ended rest G out a c) (ended sest H other b d) = let e = reads-apart G H rest sest (one-name x xs (reads G rest) (reads H sest) a b) in
+      one-closed G rest out other c (subst (λ z. IsClosed limit G z other) (sym e.1) (subst (λ K. IsClosed limit K sest other) (sym e.0) d))
+  one-called x xs _ _ (ended rest G out a c) (unnamed fault b) = absurd (not-refused G rest fault (one-name x xs (reads G rest) (refused fault) a b))
+  one-called x xs _ _ (unnamed fault a) (ended rest G out b d) = absurd (not-refused G rest fault (one-name x xs (reads G rest) (refused fault) b a))
+  one-called x xs _ _ (unnamed fault a) (unnamed other b) = one-name x xs (refused fault) (refused other) a b
 
   -- the same of options
   one-none : (n : ℕ) (side : Side) (bytes : List ℕ) (o : Outcome Trees) → ReadsOptions limit n side bytes o → (x : ℕ) (xs : List ℕ) → bytes ≡ x ∷ xs → x ≡ mark_of side → reads none xs ≡ o
@@ -195,11 +321,13 @@ module _ (limit : ℕ) where
     pub one-game : (n : ℕ) (bytes : List ℕ) (o : Outcome Tree) → ReadsGame limit n bytes o → (p : Outcome Tree) → ReadsGame limit n bytes p → o ≡ p
     one-game _ _ _ (number n bytes a s u r t) p b = one-numbered a s bytes _ p (is_one u t) (numbered n bytes p b a s r)
     one-game _ _ _ (no_number n bytes a s r f) p b = one-numbered a s bytes _ p (is_none f) (numbered n bytes p b a s r)
+    one-game _ _ _ (name n x xs zs G out a c) p b = one-called x xs out p (ended zs G out a c) (called n (x ∷ xs) p b x xs refl (name-byte x xs _ a))
+    one-game _ _ _ (no_name n x xs fault a) p b = one-called x xs _ p (unnamed fault a) (called n (x ∷ xs) p b x xs refl (name-byte x xs _ a))
     one-game _ _ _ (one_too_deep n x xs e l) p b = one-deep n xs p (braced n (x ∷ xs) p b x xs refl e) l
     one-game _ _ _ (form n x xs ys zs Ls Rs out e l q r c) p b = one-form n xs p (braced n (x ∷ xs) p b x xs refl e) Ls Rs ys zs out l (one-options (suc n) left_side xs (reads Ls ys) q) (one-options (suc n) right_side ys (reads Rs zs) r) c
     one-game _ _ _ (left_refused n x xs fault e l q) p b = one-left n xs p (braced n (x ∷ xs) p b x xs refl e) fault l (one-options (suc n) left_side xs (refused fault) q)
     one-game _ _ _ (right_refused n x xs ys Ls fault e l q r) p b = one-right n xs p (braced n (x ∷ xs) p b x xs refl e) Ls ys fault l (one-options (suc n) left_side xs (reads Ls ys) q) (one-options (suc n) right_side ys (refused fault) r)
-    one-game _ _ _ (game_stray n x xs f g) p b = one-stray n (x ∷ xs) p b x xs refl f g
+    one-game _ _ _ (game_stray n x xs f k g) p b = one-stray n (x ∷ xs) p b x xs refl f k g
     one-game _ _ _ (game_cut n) p b = one-cut n [] p b refl
 
     pub one-options : (n : ℕ) (side : Side) (bytes : List ℕ) (o : Outcome Trees) → ReadsOptions limit n side bytes o → (p : Outcome Trees) → ReadsOptions limit n side bytes p → o ≡ p

@@ -6,18 +6,25 @@ use Rattle.std.proofs.lemmas.Bool.{cases_lt}
 use Rattle.game_store.specs.Tree.{Tree, none}
 use Rattle.game_store.specs.Text.{open_brace, comma}
 use Rattle.game_store.specs.TextOrder.{IsCanonicalFor}
-use Rattle.game_store.specs.Meaning.{number_tree, Extends, IsIdOf}
-use Rattle.game_store.proofs.OrderLaws.{le-refl}
-use Rattle.game_store.proofs.ReductionLaws.{number-canonical}
+use Rattle.game_store.specs.Meaning.{tree_at, number_tree, Extends, IsIdOf}
+use Rattle.game_store.specs.Parts.{HasMoreParts}
+use Rattle.game_store.proofs.OrderLaws.{le-refl, le-trans}
+use Rattle.game_store.proofs.ReductionLaws.{number-canonical, canonical-same}
+use Rattle.game_text.specs.Reading.{Fault, Outcome}
+use Rattle.game_text.specs.Reading.Outcome.{reads, refused}
+use Rattle.game_text.specs.Reading.IsClosed.{taken, with_many_parts, far}
+use Rattle.game_text.specs.Machine.{IsTaken, IsRefusedBy}
+use Rattle.game_text.specs.declared.errors.ReadError.{ReadError}
+use Rattle.game_text.specs.declared.errors.ReadError.TheVariants as error
 use Rattle.game_canon.specs.Outcomes.{IsCanonicalId}
 use Rattle.game_text.specs.Depth.{most_open}
-use Rattle.game_text.specs.Reading.{IsNumberByte, AreNumberBytes, EndsNumber, IsRun, IsNumberText, mark_of, BeginsOtherwise, ReadsText, Names, Refuses, RefusesAt}
+use Rattle.game_text.specs.Reading.{IsNumberByte, IsNameByte, ReadsName, IsClosed, IsReadRefusal, AreNumberBytes, EndsNumber, IsRun, IsNumberText, mark_of, BeginsOtherwise, ReadsText, Names, Refuses, RefusesAt}
 use Rattle.game_text.specs.Reading.Fault.{bad_byte, bad_number, cut_short, too_deep}
 use Rattle.game_text.specs.Machine.{Answer, Frame, on_left, side_in, State, first_option, a_game, other_options, all_read, Rest, opening_at, AreOpen, Keeps, IsReading, place_after, mark_at, EndsRunAt, IsEnded}
 use Rattle.game_text.specs.declared.reading.Opening.{Opening}
 use Rattle.game_text.specs.declared.reading.Place.{Place}
 use Rattle.game_text.specs.declared.reading.Place.TheVariants as place
-use Rattle.game_text.proofs.MachineSteps.{state_after, first-game, comma-game, mark-behind, brace-open, number-read, bad-number, deep-open, stray-game, stray-behind, cut, start}
+use Rattle.game_text.proofs.MachineSteps.{state_after, first-game, comma-game, mark-behind, brace-open, number-read, bad-number, deep-open, stray-game, name-read, name-closed, name-refused, stray-behind, cut, start}
 use Rattle.game_text.proofs.ReadingSteps.{byte-drop, mark-is, frames-many, open-kept, game-taken}
 
 -- places differ
@@ -133,9 +140,9 @@ module _ (Ts : List Tree) (limit : ℕ) (text : List ℕ) (i : ℕ) (options : L
       by (other_options h fs) k c = absurd (game-is_not_behind k.0)
       by (all_read G) k c = absurd (game-is_not_whole k.0)
 
-  pub game-stray : IsReading Ts limit text i place.Game options opens → (IsNumberByte (get_or text i 0) → ⊥) → (get_or text i 0 ≡ open_brace → ⊥) → RefusesAt limit text bad_byte i
-  game-stray r f g = let a = frames r in
-      (get_or text i 0 ∷ drop (i + 1) text, a.1.1 _ (subst (λ z. Rest limit (a_game a.0) z (Err (bad_byte (get_or text i 0 ∷ drop (i + 1) text)))) (sym (byte-drop text i l)) (stray-game limit a.0 (get_or text i 0) (drop (i + 1) text) f g)), place-is)
+  pub game-stray : IsReading Ts limit text i place.Game options opens → (IsNumberByte (get_or text i 0) → ⊥) → (IsNameByte (get_or text i 0) → ⊥) → (get_or text i 0 ≡ open_brace → ⊥) → RefusesAt limit text bad_byte i
+  game-stray r f k g = let a = frames r in
+      (get_or text i 0 ∷ drop (i + 1) text, a.1.1 _ (subst (λ z. Rest limit (a_game a.0) z (Err (bad_byte (get_or text i 0 ∷ drop (i + 1) text)))) (sym (byte-drop text i l)) (stray-game limit a.0 (get_or text i 0) (drop (i + 1) text) f k g)), place-is)
 
   pub game-deep : IsReading Ts limit text i place.Game options opens → get_or text i 0 ≡ open_brace → most_open ≤ length opens → Refuses limit text too_deep
   game-deep r e m = let a = frames r in
@@ -148,6 +155,35 @@ module _ (Ts : List Tree) (limit : ℕ) (text : List ℕ) (i : ℕ) (options : L
     within = omega (arith, l);
     comes = λ out s. a.1.1 out (subst (λ z. Rest limit (a_game a.0) z out) (sym (byte-drop text i l)) (brace-open limit a.0 (get_or text i 0) (drop (i + 1) text) out e (subst (λ n. n < most_open) (frames-many Ts a.0 options opens a.1.0) m) s));
   }
+
+  -- a name
+  pub game-name : (Us : List Tree) (past id : ℕ) (G : Tree) (after : List ℕ) (now : List Opening) (p : Place) → IsReading Ts limit text i place.Game options opens → ReadsName (get_or text i 0) (drop (i + 1) text) (reads G (drop past text)) → IsTaken Us limit G id → past ≤ length text → Extends Ts Us → after ≡ options ++ id ∷ [] → now ≡ opens → p ≡ place_after opens → IsReading Us limit text past p after now
+  game-name Us past id G after now p r n t w x q s v = let a = frames r in record {
+    state = state_after a.0 G;
+    kept = subst (λ (z : List Opening). Keeps Us (state_after a.0 G) p after z) (sym s) (subst (λ (z : List ℕ). Keeps Us (state_after a.0 G) p z opens) (sym q) (subst (λ z. Keeps Us (state_after a.0 G) z (options ++ id ∷ []) opens) (sym v)
+        (game-taken Us a.0 options opens G id (open-kept Ts Us a.0 options opens x a.1.0) t.0)));
+    within = w;
+    comes = λ out u. a.1.1 out (subst (λ z. Rest limit (a_game a.0) z out) (sym (byte-drop text i l)) (name-read limit a.0 (get_or text i 0) (drop (i + 1) text) (drop past text) G out n
+        (taken t.1 (λ C c h. t.2 (subst (λ z. HasMoreParts z limit) (canonical-same C (tree_at Us id) c.canonical t.0.1.canonical (le-trans C G (tree_at Us id) c.over t.0.1.under) (le-trans (tree_at Us id) G C t.0.1.over c.under)) h))) u));
+  }
+
+  name-fault : (fault : Fault) → IsReading Ts limit text i place.Game options opens → ReadsName (get_or text i 0) (drop (i + 1) text) (refused fault) → Refuses limit text fault
+  name-fault fault r n = let a = frames r in a.1.1 _ (subst (λ z. Rest limit (a_game a.0) z (Err fault)) (sym (byte-drop text i l)) (name-refused limit a.0 (get_or text i 0) (drop (i + 1) text) fault n))
+
+  name-cause : (fault : Fault) (G : Tree) (rest : List ℕ) → IsReading Ts limit text i place.Game options opens → ReadsName (get_or text i 0) (drop (i + 1) text) (reads G rest) → IsClosed limit G rest (refused fault) → Refuses limit text fault
+  name-cause fault G rest r n c = let a = frames r in a.1.1 _ (subst (λ z. Rest limit (a_game a.0) z (Err fault)) (sym (byte-drop text i l)) (name-closed limit a.0 (get_or text i 0) (drop (i + 1) text) rest G fault n c))
+
+  behind-is : i + 1 + length (drop (i + 1) text) ≡ length text
+  behind-is = let e : length (drop (i + 1) text) ≡ length text - (i + 1) = length-drop (i + 1) text in omega (arith, e, l)
+
+  pub game-name_refused : (R : List ℕ → Outcome Tree → Type 0) → ((o : Outcome Tree) → R (drop (i + 1) text) o → ReadsName (get_or text i 0) (drop (i + 1) text) o) → IsReading Ts limit text i place.Game options opens → (e : ReadError) → IsRefusedBy R limit text (i + 1) e → IsReadRefusal limit text e
+  game-name_refused R f r (error.BadByte place) h = (drop (i + 1) text, name-fault _ r (f _ h.1), ap (λ k. k + length (drop (i + 1) text)) h.0 ∙ behind-is)
+  game-name_refused R f r (error.BadNumber place) h = (drop (i + 1) text, name-fault _ r (f _ h.1), ap (λ k. k + length (drop (i + 1) text)) h.0 ∙ behind-is)
+  game-name_refused R f r error.CutShort h = name-fault _ r (f _ h)
+  game-name_refused R f r error.Deep h = absurd h
+  game-name_refused R f r error.Parts h = name-cause _ h.0 h.1 r (f _ h.2) (with_many_parts h.3)
+  game-name_refused R f r error.Bounds h = name-cause _ h.0 h.1 r (f _ h.2) (far h.3)
+  game-name_refused R f r (error.Memory cause) h = tt
 
   -- the longest run of bytes of numbers
   all-bytes : (xs : List ℕ) (n : ℕ) → n ≤ length xs → ((k : ℕ) → k < n → IsNumberByte (get_or xs k 0)) → AreNumberBytes (take n xs)
@@ -162,7 +198,7 @@ module _ (Ts : List Tree) (limit : ℕ) (text : List ℕ) (i : ℕ) (options : L
     | inr h ↦ absurd (let s : past ≡ i = omega (arith, h, e.forward) in subst EndsNumber (ap (λ k. drop k text) s ∙ byte-drop text i l) e.longest b)
   ]
 
-  run-is : (past : ℕ) → EndsRunAt text i past → IsNumberByte (get_or text i 0) → IsRun (drop i text) (take (past - i) (drop i text)) (drop past text)
+  pub run-is : (past : ℕ) → EndsRunAt text i past → IsNumberByte (get_or text i 0) → IsRun (drop i text) (take (past - i) (drop i text)) (drop past text)
   run-is past e b =
       let h : i < past = run-longer past e b in
       let long : length (drop i text) ≡ length text - i = length-drop i text in record {

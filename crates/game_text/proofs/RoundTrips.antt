@@ -43,15 +43,15 @@ option-depth ls rs X e (inl h) = omega (arith, node-depth ls rs e, has-depth ls 
 option-depth ls rs X e (inr h) = omega (arith, node-depth ls rs e, has-depth rs X h)
 
 -- no number's tree
-no-number : (G : Tree) → number_of G ≡ None → IsNumberTree G → ⊥
+pub no-number : (G : Tree) → number_of G ≡ None → IsNumberTree G → ⊥
 no-number G e n = let r = number_of-num n.0 n.1 in let f : number_of G ≡ Some r.0 = ap number_of n.2 ∙ r.2 in cc
 
 -- the numbers and the parts of an option are those of the tree
-numbers-option : (G X : Tree) → (IsNumberTree G → ⊥) → IsOption G X → HasNumbersWithinBounds G → HasNumbersWithinBounds X
+pub numbers-option : (G X : Tree) → (IsNumberTree G → ⊥) → IsOption G X → HasNumbersWithinBounds G → HasNumbersWithinBounds X
 numbers-option G X f o h N n (inl e) = h N n (inr (G, (itself G, f), subst (IsOption G) (sym e) o))
 numbers-option G X f o h N n (inr (P, p, q)) = h N n (inr (P, (further G X P o p.0, p.1), q))
 
-parts-option : (G X : Tree) (limit : ℕ) → IsOption G X → HasMoreParts X limit → HasMoreParts G limit
+pub parts-option : (G X : Tree) (limit : ℕ) → IsOption G X → HasMoreParts X limit → HasMoreParts G limit
 parts-option G X limit o (Xs, p, l) = (Xs, record { each = λ j k. (let r = p.each j k in (further G X _ o r.0, r.1)); different = p.different }, l)
 
 module _ (limit : ℕ) where

@@ -1,12 +1,14 @@
 -- How the texts of forms are written one after another.
-use Rattle.std.proofs.Common.{ℕ, ◌+◌, ◌<◌, ◌≤◌, ◌≡◌, List, [], ◌∷◌, ◌++◌, length, get_or, arith, refl, inl, inr, sym, ◌∙◌, ap, subst, Some, None, Bool, true, false, cond, nat_eq, length-append}
+use Rattle.std.proofs.Common.{ℕ, ◌+◌, ◌<◌, ◌≤◌, ◌≡◌, List, [], ◌∷◌, ◌++◌, length, get_or, arith, refl, inl, inr, sym, ◌∙◌, ap, subst, Some, None, Bool, true, false, cond, nat_eq, length-append, append-nil, zero, suc, ℤ, pos}
 use Rattle.std.specs.Prelude.{Option, Result, Err, IfErr}
 use Rattle.std.proofs.lemmas.Bool.{cases_lt, eqb-true, eq-eqb}
 use Rattle.game_store.specs.Tree.{Tree, Trees, node, none, more, Has}
-use Rattle.game_store.specs.Number.{IsNumberTree}
-use Rattle.game_store.specs.NumberText.{number_text}
-use Rattle.game_store.specs.Text.{text, texts, texts_rest, bar, close_brace}
-use Rattle.game_store.specs.TextOrder.{tree_text}
+use Rattle.game_store.specs.Number.{num}
+use Rattle.game_store.specs.NumberText.{fraction_text, text_of_number, number_text}
+use Rattle.game_store.specs.Text.{bar, close_brace}
+use Rattle.game_store.proofs.NumberTextLaws.{number_of-is}
+use Rattle.game_store.proofs.PartLaws.{number-option}
+use Rattle.game_text.specs.NamedText.{nimber, name, in_braces, named_text, named_texts}
 use Rattle.game_store.specs.Meaning.{tree_at, AreDistinct}
 use Rattle.game_store.specs.Forms.{IsOptions}
 use Rattle.game_store.specs.Parts.{IsOption, IsFollower}
@@ -15,14 +17,18 @@ use Rattle.game_store.proofs.Values.{pick-has, range-more, last-range}
 use Rattle.game_canon.specs.Changes.{AreClosed}
 use Rattle.game_canon.specs.Reachable.{IsReached, AreReachable}
 use Rattle.game_canon.proofs.GameLaws.{left-has, right-has}
-use Rattle.game_canon.proofs.ReachableLaws.{hot-before}
 use Rattle.game_text.specs.declared.texts.Span.{Span}
 use Rattle.game_text.specs.declared.errors.WriteError.{WriteError}
 use Rattle.game_text.specs.declared.errors.WriteError.TheVariants.{Long, Deep, Memory}
 use Rattle.game_text.specs.Refusals.{IsWriteRefusal}
 use Rattle.game_text.specs.Written.{IsWithin, text_at, HasText, AreKept, HaveTexts, span_of, IsAppended, HasOptionTexts, IsAdded, IsTooLong, AreWritten}
-use Rattle.game_text.proofs.NumberTexts.{text-braces}
-use Rattle.game_text.proofs.BracesTexts.{no-number_text, text-behind}
+use Rattle.game_text.proofs.NumberTexts.{number_of-num}
+use Rattle.game_text.proofs.Nimbers.{option-nimber}
+use Rattle.game_text.proofs.Spelled.{behind_commas, row, braces-row}
+use Rattle.game_text.proofs.TextLists.{In}
+use Rattle.game_text.proofs.NameKinds.{IsNamed, a_number, a_nimber, an_up, a_down, a_switch, is-named}
+use Rattle.game_text.proofs.NamedLaws.{text-unnamed, in-named}
+use Rattle.game_text.proofs.NamesFound.{name-number, name-nimber, number-text, zero-tree, some-none}
 
 -- the texts of the options
 pub left-texts : (Ts : List Tree) (id : ℕ) (bytes : List ℕ) (spans : ℕ → Option Span) (ls rs : List ℕ) → IsOptions Ts id ls rs → HasOptionTexts Ts bytes spans id → HaveTexts Ts bytes spans ls
@@ -44,33 +50,29 @@ stays-text old t None w = refl
 stays-text old t (Some s) w = range-more old t s.start s.end w.0 w.1
 
 -- the text of an id at a span
-has-text : (Ts : List Tree) (bytes : List ℕ) (G : Tree) (o p : Option Span) → o ≡ p → IsWithin bytes p × (text_at bytes p ≡ tree_text G) → IsWithin bytes o × (text_at bytes o ≡ tree_text G)
-has-text Ts bytes G o p e h = subst (λ z. IsWithin bytes z × (text_at bytes z ≡ tree_text G)) (sym e) h
+has-text : (Ts : List Tree) (bytes : List ℕ) (G : Tree) (o p : Option Span) → o ≡ p → IsWithin bytes p × (text_at bytes p ≡ named_text G) → IsWithin bytes o × (text_at bytes o ≡ named_text G)
+has-text Ts bytes G o p e h = subst (λ z. IsWithin bytes z × (text_at bytes z ≡ named_text G)) (sym e) h
 
-pub added-is : (Ts : List Tree) (limit id : ℕ) (old : List ℕ) (spans : ℕ → Option Span) (t new : List ℕ) (after : ℕ → Option Span) → IsAppended old spans id t new after → t ≡ tree_text (tree_at Ts id) → length t ≤ limit → IsAdded Ts limit id old spans new after
-added-is Ts limit id old spans t new after a e l = record {
+pub added-is : (Ts : List Tree) (id : ℕ) (old : List ℕ) (spans : ℕ → Option Span) (t new : List ℕ) (after : ℕ → Option Span) → IsAppended old spans id t new after → t ≡ named_text (tree_at Ts id) → IsAdded Ts id old spans new after
+added-is Ts id old spans t new after a e = record {
   stays = λ i h. at i h (nat_eq id i) refl (a.1 i);
   added = subst (λ (z : List ℕ). HasText Ts z after id) (sym a.0) (has-text Ts (old ++ t) (tree_at Ts id) (after id) _ (last id refl) here);
-  within = subst (λ z. length z ≤ limit) e l;
 }
   where
     last : (i : ℕ) → i ≡ id → after i ≡ Some (span_of (length old) (length (old ++ t)))
     last i s = a.1 i ∙ ap (λ b. cond b (Some (span_of (length old) (length new))) (spans i)) (eq-eqb id i (sym s)) ∙ ap (λ z. Some (span_of (length old) (length z))) a.0
 
-    here : IsWithin (old ++ t) (Some (span_of (length old) (length (old ++ t)))) × (text_at (old ++ t) (Some (span_of (length old) (length (old ++ t)))) ≡ tree_text (tree_at Ts id))
+    here : IsWithin (old ++ t) (Some (span_of (length old) (length (old ++ t)))) × (text_at (old ++ t) (Some (span_of (length old) (length (old ++ t)))) ≡ named_text (tree_at Ts id))
     here = ((omega (arith, length-append old t), omega arith), last-range old t ∙ e)
 
     at : (i : ℕ) → HasText Ts old spans i → (b : Bool) → nat_eq id i ≡ b → after i ≡ cond (nat_eq id i) (Some (span_of (length old) (length new))) (spans i) → HasText Ts new after i
-    at i h true p q = let s : id ≡ i = eqb-true id i p in subst (λ (z : List ℕ). HasText Ts z after i) (sym a.0) (has-text Ts (old ++ t) (tree_at Ts i) (after i) _ (last i (sym s)) (here.0, here.1 ∙ ap (λ k. tree_text (tree_at Ts k)) s))
+    at i h true p q = let s : id ≡ i = eqb-true id i p in subst (λ (z : List ℕ). HasText Ts z after i) (sym a.0) (has-text Ts (old ++ t) (tree_at Ts i) (after i) _ (last i (sym s)) (here.0, here.1 ∙ ap (λ k. named_text (tree_at Ts k)) s))
     at i h false p q = subst (λ (z : List ℕ). HasText Ts z after i) (sym a.0) (has-text Ts (old ++ t) (tree_at Ts i) (after i) (spans i) (q ∙ ap (λ b. cond b (Some (span_of (length old) (length new))) (spans i)) p)
         (stays-within old t (spans i) h.0, stays-text old t (spans i) h.0 ∙ h.1))
 
 -- the loop over the ids
-module _ (Ts : List Tree) (limit : ℕ) (ids : List ℕ) where
-  pub written-start : (bytes : List ℕ) (spans : ℕ → Option Span) → AreWritten Ts limit ids 0 bytes spans
-  written-start bytes spans = record { have = λ j l. absurd (omega (arith, l)); within = λ j l. absurd (omega (arith, l)) }
-
-  before : AreClosed Ts ids → (n : ℕ) → n < length ids → (j : ℕ) → j < length ids → get_or ids j 0 < get_or ids n 0 → j < n
+module _ (Ts : List Tree) (ids : List ℕ) where
+  pub before : AreClosed Ts ids → (n : ℕ) → n < length ids → (j : ℕ) → j < length ids → get_or ids j 0 < get_or ids n 0 → j < n
   before closed n l j k m = elim (cases_lt j n) [
     | inl d ↦ d
     | inr d ↦ elim (cases_lt n j) [
@@ -79,73 +81,85 @@ module _ (Ts : List Tree) (limit : ℕ) (ids : List ℕ) where
     ]
   ]
 
-  pub written-options : (n : ℕ) (bytes : List ℕ) (spans : ℕ → Option Span) → AreDistinct Ts → AreClosed Ts ids → AreWritten Ts limit ids n bytes spans → n < length ids → HasOptionTexts Ts bytes spans (get_or ids n 0)
+  pub written-options : (n : ℕ) (bytes : List ℕ) (spans : ℕ → Option Span) → AreDistinct Ts → AreClosed Ts ids → AreWritten Ts ids n bytes spans → n < length ids → HasOptionTexts Ts bytes spans (get_or ids n 0)
   written-options n bytes spans d closed w l i b inner =
       let r = closed.closed n l (tree_at Ts i) inner in
       let e : i ≡ get_or ids r.0 0 = d i (get_or ids r.0 0) (omega (arith, b, closed.ids n l)) (closed.ids r.0 r.1) r.2 in
-      subst (HasText Ts bytes spans) (sym e) (w.have r.0 (before closed n l r.0 r.1 (subst (λ z. z < get_or ids n 0) e b)) r.1)
+      subst (HasText Ts bytes spans) (sym e) (w r.0 (before closed n l r.0 r.1 (subst (λ z. z < get_or ids n 0) e b)) r.1)
 
-  pub written-step : (n : ℕ) (old : List ℕ) (spans : ℕ → Option Span) (new : List ℕ) (after : ℕ → Option Span) → AreWritten Ts limit ids n old spans → IsAdded Ts limit (get_or ids n 0) old spans new after → AreWritten Ts limit ids (n + 1) new after
-  written-step n old spans new after w a = record {
-    have = λ j l k. elim (cases_lt j n) [
-      | inl d ↦ a.stays (get_or ids j 0) (w.have j d k)
-      | inr d ↦ (let s : n ≡ j = omega (arith, l, d) in subst (λ z. HasText Ts new after (get_or ids z 0)) s a.added)
-    ];
-    within = λ j l k. elim (cases_lt j n) [
-      | inl d ↦ w.within j d k
-      | inr d ↦ (let s : n ≡ j = omega (arith, l, d) in subst (λ z. length (tree_text (tree_at Ts (get_or ids z 0))) ≤ limit) s a.within)
-    ];
-  }
+  pub written-step : (n : ℕ) (old : List ℕ) (spans : ℕ → Option Span) (new : List ℕ) (after : ℕ → Option Span) → AreWritten Ts ids n old spans → IsAdded Ts (get_or ids n 0) old spans new after → AreWritten Ts ids (n + 1) new after
+  written-step n old spans new after w a j l k = elim (cases_lt j n) [
+    | inl d ↦ a.stays (get_or ids j 0) (w j d k)
+    | inr d ↦ (let s : n ≡ j = omega (arith, l, d) in subst (λ z. HasText Ts new after (get_or ids z 0)) s a.added)
+  ]
 
--- what stands in a text is no longer than it
-rest-longer : (Gs : Trees) (r : List ℕ) → length r ≤ length (texts_rest number_text Gs r)
-unfolding text
-rest-longer none r = omega arith
-rest-longer (more G Gs) r = let e = ap length (text-behind G (texts_rest number_text Gs r)) in omega (arith, e, length-append (tree_text G) (texts_rest number_text Gs r), rest-longer Gs r)
+-- a text without a name begins as braces do, and is at least as long as those of its options
+commas-longer : (ts : List (List ℕ)) (s : List ℕ) → length s ≤ length (behind_commas ts s)
+commas-longer [] s = omega arith
+commas-longer (t ∷ ts) s = omega (arith, length-append t (behind_commas ts s), commas-longer ts s)
 
-has-rest : (Gs : Trees) (X : Tree) (r : List ℕ) → Has Gs X → length (tree_text X) + length r ≤ length (texts_rest number_text Gs r)
-unfolding text
-has-rest none X r h = absurd h
-has-rest (more G Gs) X r (inl i) = let e = ap length (text-behind G (texts_rest number_text Gs r)) in omega (arith, e, length-append (tree_text G) (texts_rest number_text Gs r), rest-longer Gs r, ap (λ z. length (tree_text z)) i)
-has-rest (more G Gs) X r (inr h) = let e = ap length (text-behind G (texts_rest number_text Gs r)) in omega (arith, e, length-append (tree_text G) (texts_rest number_text Gs r), has-rest Gs X r h)
+in-commas : (ts : List (List ℕ)) (t s : List ℕ) → In t ts → length t + length s ≤ length (behind_commas ts s)
+in-commas [] t s i = absurd i
+in-commas (u ∷ us) t s (inl e) = omega (arith, ap (λ (z : List ℕ). length z) e, length-append u (behind_commas us s), commas-longer us s)
+in-commas (u ∷ us) t s (inr i) = omega (arith, length-append u (behind_commas us s), in-commas us t s i)
 
-has-side : (Gs : Trees) (X : Tree) (r : List ℕ) → Has Gs X → length (tree_text X) + length r ≤ length (texts number_text Gs r)
-unfolding text
-has-side none X r h = absurd h
-has-side (more G Gs) X r (inl i) = let e = ap length (text-behind G (texts_rest number_text Gs r)) in omega (arith, e, length-append (tree_text G) (texts_rest number_text Gs r), rest-longer Gs r, ap (λ z. length (tree_text z)) i)
-has-side (more G Gs) X r (inr h) = let e = ap length (text-behind G (texts_rest number_text Gs r)) in omega (arith, e, length-append (tree_text G) (texts_rest number_text Gs r), has-rest Gs X r h)
+in-row : (ts : List (List ℕ)) (t s : List ℕ) → In t ts → length t + length s ≤ length (row ts s)
+in-row [] t s i = absurd i
+in-row (u ∷ us) t s (inl e) = omega (arith, ap (λ (z : List ℕ). length z) e, length-append u (behind_commas us s), commas-longer us s)
+in-row (u ∷ us) t s (inr i) = omega (arith, length-append u (behind_commas us s), in-commas us t s i)
 
-side-longer : (Gs : Trees) (r : List ℕ) → length r ≤ length (texts number_text Gs r)
-unfolding text
-side-longer none r = omega arith
-side-longer (more G Gs) r = let e = ap length (text-behind G (texts_rest number_text Gs r)) in omega (arith, e, length-append (tree_text G) (texts_rest number_text Gs r), rest-longer Gs r)
+row-longer : (ts : List (List ℕ)) (s : List ℕ) → length s ≤ length (row ts s)
+row-longer [] s = omega arith
+row-longer (t ∷ ts) s = omega (arith, length-append t (behind_commas ts s), commas-longer ts s)
 
-option-length : (G X : Tree) → (IsNumberTree G → ⊥) → IsOption G X → length (tree_text X) ≤ length (tree_text G)
-unfolding tree_text
-option-length (node ls rs) X f o = let e = ap length (text-braces ls rs [] (no-number_text (node ls rs) f)) in elim o [
-  | inl h ↦ omega (arith, e, has-side ls X (bar ∷ texts number_text rs (close_brace ∷ [])) h)
-  | inr h ↦ omega (arith, e, side-longer ls (bar ∷ texts number_text rs (close_brace ∷ [])), has-side rs X (close_brace ∷ []) h)
-]
+braces-length : (ls rs : List (List ℕ)) → length (in_braces ls rs) ≡ suc (length (row ls (bar ∷ row rs (close_brace ∷ []))))
+braces-length ls rs = ap length (sym (append-nil (in_braces ls rs)) ∙ braces-row ls rs [])
 
-follower-length : (G P : Tree) → IsFollower G P → (IsNumberTree P → ⊥) → length (tree_text P) ≤ length (tree_text G)
-follower-length _ _ (itself G) f = omega arith
-follower-length _ _ (further G H P o g) f = omega (arith, follower-length H P g f, option-length G H (hot-before G P (further G H P o g) f) o)
+option-length : (G X : Tree) → name G ≡ None → IsOption G X → length (named_text X) ≤ length (named_text G)
+option-length (node ls rs) X n (inl h) = omega (arith, ap (λ (z : List ℕ). length z) (text-unnamed ls rs n), braces-length (named_texts ls) (named_texts rs), in-row (named_texts ls) (named_text X) (bar ∷ row (named_texts rs) (close_brace ∷ [])) (in-named ls X h))
+option-length (node ls rs) X n (inr h) = omega (arith, ap (λ (z : List ℕ). length z) (text-unnamed ls rs n), braces-length (named_texts ls) (named_texts rs), row-longer (named_texts ls) (bar ∷ row (named_texts rs) (close_brace ∷ [])), in-row (named_texts rs) (named_text X) (close_brace ∷ []) (in-named rs X h))
 
-reached-length : (G X : Tree) → IsReached G X → length (tree_text X) ≤ length (tree_text G)
-reached-length G X (inl e) = subst (λ z. length (tree_text z) ≤ length (tree_text G)) (sym e) (omega arith)
-reached-length G X (inr r) = omega (arith, option-length r.0 X r.1.1 r.2, follower-length G r.0 r.1.0 r.1.1)
+-- options of trees with names have names
+named-nimber : (n k : ℕ) (X : Tree) → X ≡ nimber k → name X ≡ None → ⊥
+named-nimber n zero X e p = some-none (sym (name-number (nimber 0) _ (ap number_text zero-tree ∙ number-text (pos 0))) ∙ ap name (sym e) ∙ p)
+named-nimber n (suc k) X e p = some-none (sym (name-nimber (suc k) (omega arith)) ∙ ap name (sym e) ∙ p)
+
+pub named-num : (e : ℕ) (m : ℤ) (X : Tree) → X ≡ num e m → name X ≡ None → ⊥
+named-num e m X q p = let r = number_of-num e m in some-none (sym (name-number (num e m) (fraction_text r.0) (ap text_of_number r.2)) ∙ ap name (sym q) ∙ p)
+
+named-option : (G X : Tree) (t : List ℕ) → IsNamed G t → IsOption G X → name X ≡ None → ⊥
+named-option G X t (a_number x p e) o q = let r = number-option G X (x.exponent, x.numerator, number_of-is G x p) o in named-num r.0 r.1 X r.2 q
+named-option G X t (a_nimber n l p e) o q = elim (subst (λ z. IsOption z X) p o) [ inl h ↦ (let r = option-nimber n X h in named-nimber n r.0 X r.2 q) | inr h ↦ (let r = option-nimber n X h in named-nimber n r.0 X r.2 q) ]
+named-option G X t (an_up p e) o q = elim (subst (λ z. IsOption z X) p o) [ inl h ↦ elim h [ inl i ↦ named-nimber 0 0 X i q | inr i ↦ absurd i ] | inr h ↦ elim h [ inl i ↦ named-nimber 0 1 X i q | inr i ↦ absurd i ] ]
+named-option G X t (a_down p e) o q = elim (subst (λ z. IsOption z X) p o) [ inl h ↦ elim h [ inl i ↦ named-nimber 0 1 X i q | inr i ↦ absurd i ] | inr h ↦ elim h [ inl i ↦ named-nimber 0 0 X i q | inr i ↦ absurd i ] ]
+named-option G X t (a_switch x l p e) o q = elim (subst (λ z. IsOption z X) p.0 o) [ inl h ↦ elim h [ inl i ↦ named-num _ _ X i q | inr i ↦ absurd i ] | inr h ↦ elim h [ inl i ↦ named-num _ _ X i q | inr i ↦ absurd i ] ]
+
+unnamed-before : (G X : Tree) → IsOption G X → name X ≡ None → name G ≡ None
+unnamed-before G X o q = at (name G) refl
+  where
+    at : (p : Option (List ℕ)) → name G ≡ p → name G ≡ None
+    at None e = e
+    at (Some t) e = absurd (named-option G X t (is-named G t e) o q)
+
+follower-length : (G P : Tree) → IsFollower G P → name P ≡ None → (name G ≡ None) × (length (named_text P) ≤ length (named_text G))
+follower-length _ _ (itself G) f = (f, omega arith)
+follower-length _ _ (further G H P o g) f = let r = follower-length H P g f in let n = unnamed-before G H o r.0 in (n, omega (arith, r.1, option-length G H n o))
+
+reached-length : (G X : Tree) → IsReached G X → name X ≡ None → length (named_text X) ≤ length (named_text G)
+reached-length G X (inl e) n = subst (λ z. length (named_text z) ≤ length (named_text G)) (sym e) (omega arith)
+reached-length G X (inr r) n = let m = unnamed-before r.0 X r.2 n in omega (arith, option-length r.0 X m r.2, (follower-length G r.0 r.1.0 m).1)
 
 pub all-too_long : (Ts : List Tree) (G : Tree) (ids : List ℕ) (limit : ℕ) (e : WriteError) → AreReachable Ts G ids → (j : ℕ) × (j < length ids) × IsTooLong (tree_at Ts (get_or ids j 0)) limit e → IsWriteRefusal G limit e
-all-too_long Ts G ids limit Long w r = let l = reached-length G _ (w.reached r.0 r.1) in omega (arith, l, r.2)
+all-too_long Ts G ids limit Long w r = let l = reached-length G _ (w.reached r.0 r.1) r.2.0 in omega (arith, l, r.2.1)
 all-too_long Ts G ids limit Deep w r = absurd r.2
 all-too_long Ts G ids limit (Memory cause) w r = tt
 
 -- the text of the form itself
-pub root-text : (Ts : List Tree) (limit a : ℕ) (ids : List ℕ) (bytes : List ℕ) (spans : ℕ → Option Span) → AreDistinct Ts → a < length Ts → AreReachable Ts (tree_at Ts a) ids → AreWritten Ts limit ids (length ids) bytes spans → HasText Ts bytes spans a × (length (tree_text (tree_at Ts a)) ≤ limit)
-root-text Ts limit a ids bytes spans d l w m =
+pub root-text : (Ts : List Tree) (a : ℕ) (ids : List ℕ) (bytes : List ℕ) (spans : ℕ → Option Span) → AreDistinct Ts → a < length Ts → AreReachable Ts (tree_at Ts a) ids → AreWritten Ts ids (length ids) bytes spans → HasText Ts bytes spans a
+root-text Ts a ids bytes spans d l w m =
     let r = w.root in
     let e : get_or ids r.0 0 ≡ a = d (get_or ids r.0 0) a (w.ids r.0 r.1) l (sym r.2) in
-    (subst (HasText Ts bytes spans) e (m.have r.0 r.1 r.1), subst (λ z. length (tree_text (tree_at Ts z)) ≤ limit) e (m.within r.0 r.1 r.1))
+    subst (HasText Ts bytes spans) e (m r.0 r.1 r.1)
 
 -- what the exit of a `?` says of the error that it passes on
 pub passed-on : {A : Type 0} (r : Result A WriteError) (x : WriteError) (P : WriteError → Type 0) → (y : WriteError) × (r ≡ Err y) × (y ≡ x) → P x → IfErr r P

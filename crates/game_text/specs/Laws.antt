@@ -1,16 +1,18 @@
 -- The laws of texts.
-use Rattle.std.specs.Prelude.{ℕ, ◌≡◌, ◌<◌, ◌≤◌, ℤ, List, length, Result}
+use Rattle.std.specs.Prelude.{ℕ, ◌≡◌, ◌↔◌, ◌<◌, ◌≤◌, ℤ, List, length, Result}
 use Rattle.dyadic_num.specs.Units.{IsInBounds}
 use Rattle.game_store.specs.Tree.{Tree}
+use Rattle.game_store.specs.Order.{◌≡ᵍ◌}
 use Rattle.game_store.specs.Number.{IsNumberTree}
-use Rattle.game_store.specs.TextOrder.{tree_text, IsCanonicalTree}
+use Rattle.game_store.specs.TextOrder.{tree_text, IsCanonicalTree, IsCanonicalFor}
 use Rattle.game_store.specs.Meaning.{tree_at, number_tree, AreDistinct, Extends}
 use Rattle.game_store.specs.Forms.{HaveForms}
 use Rattle.game_store.specs.Parts.{HasMoreParts}
 use Rattle.game_canon.specs.Outcomes.{IsCanonicalId}
 use Rattle.game_canon.specs.Reachable.{IsReached}
 use Rattle.game_text.specs.Depth.{depth, most_open}
-use Rattle.game_text.specs.Reading.{Fault, ReadsText, Names}
+use Rattle.game_text.specs.NamedText.{named_text, named_depth}
+use Rattle.game_text.specs.Reading.{Fault, most_nimber, ReadsText, Names}
 
 -- reading a text comes to one thing
 abbrev pub OneReading : Type 0
@@ -38,3 +40,26 @@ StoresKeepBounds = (Ts : List Tree) → HaveForms Ts → (id : ℕ) → id < len
 -- the text of an id's tree is read back as the id, in the store or in what it has grown to
 abbrev pub IdsComeBack : Type 0
 IdsComeBack = (limit : ℕ) (Ts Us : List Tree) (id back : ℕ) (G : Tree) → id < length Ts → IsReadable limit (tree_at Ts id) → Extends Ts Us → AreDistinct Us → Names limit (tree_text (tree_at Ts id)) G → IsCanonicalId Us G back → back ≡ id
+
+-- canonical trees of equal named text are the same tree
+abbrev pub NamedTextsTellTrees : Type 0
+NamedTextsTellTrees = (G H : Tree) → IsCanonicalTree G → IsCanonicalTree H → named_text G ≡ named_text H → G ≡ H
+
+-- canonical trees have equal named texts exactly where they are equal as games
+abbrev pub NamedTextsTellGames : Type 0
+NamedTextsTellGames = (G H : Tree) → IsCanonicalTree G → IsCanonicalTree H → (named_text G ≡ named_text H) ↔ (G ≡ᵍ H)
+
+-- what can be read back by its named text: the same, but for the braces, which are those of the named text
+pub record IsReadableByName (limit : ℕ) (C : Tree) : Type 0 where
+  pub canonical : IsCanonicalTree C
+  pub numbers : HasNumbersWithinBounds C
+  pub shallow : named_depth C ≤ most_open
+  pub small : HasMoreParts C limit → ⊥
+
+-- the named text of such a tree names a game whose canonical tree it is; a limit of parts is a number of 32 bits
+abbrev pub NamedRoundTrip : Type 0
+NamedRoundTrip = (limit : ℕ) (C : Tree) → limit ≤ most_nimber → IsReadableByName limit C → (G : Tree) × Names limit (named_text C) G × IsCanonicalFor G C
+
+-- the named text of an id's tree is read back as the id, in the store or in what it has grown to
+abbrev pub NamedIdsComeBack : Type 0
+NamedIdsComeBack = (limit : ℕ) (Ts Us : List Tree) (id back : ℕ) (G : Tree) → limit ≤ most_nimber → id < length Ts → IsReadableByName limit (tree_at Ts id) → Extends Ts Us → AreDistinct Us → Names limit (named_text (tree_at Ts id)) G → IsCanonicalId Us G back → back ≡ id

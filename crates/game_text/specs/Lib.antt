@@ -1,4 +1,5 @@
 pub mod Depth
+pub mod NamedText
 pub mod Refusals
 pub mod Reading
 pub mod Written

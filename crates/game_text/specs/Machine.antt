@@ -4,9 +4,14 @@ use Rattle.std.specs.List.{slice_index_or}
 use Rattle.game_store.specs.Tree.{Tree, Trees, node, none, more, ◌then◌}
 use Rattle.game_store.specs.Meaning.{tree_at, listed}
 use Rattle.game_store.specs.Parts.{HasMoreParts}
-use Rattle.game_canon.specs.Outcomes.{IsCanonicalId, IsPastBounds}
+use Rattle.game_canon.specs.Outcomes.{IsCanonicalId, IsPastBounds, IsCause}
 use Rattle.game_text.specs.Reading.{Fault, Outcome, Side, left_side, right_side, mark_of, IsNumberByte, EndsNumber, IsClosed, ReadsGame, ReadsOptions, ReadsMore, ReadsText}
-use Rattle.game_text.specs.Reading.Fault.{bad_byte}
+use Rattle.game_text.specs.Reading.Fault.{bad_byte, bad_number, cut_short}
+use Rattle.game_text.specs.Reading.{IsDigitByte, EndsDigits}
+use Rattle.game_text.specs.declared.named_games.Found.{Found}
+use Rattle.game_text.specs.declared.errors.ReadError.{ReadError}
+use Rattle.game_text.specs.declared.errors.ReadError.TheVariants as error
+use Rattle.game_canon.specs.declared.errors.FormError.TheVariants as form
 use Rattle.game_text.specs.Reading.Outcome.{reads, refused}
 use Rattle.game_text.specs.declared.reading.Opening.{Opening}
 use Rattle.game_text.specs.declared.reading.Step.{Step}
@@ -150,3 +155,28 @@ IsFormTaken Ts Us limit ls rs before after = (id : ℕ) × (after ≡ before ++ 
 -- where the whole game was read, its id is all that is kept
 abbrev pub IsEnded : Place → List ℕ → Type 0
 IsEnded p options = p ≡ place.Whole → (id : ℕ) × (options ≡ id ∷ [])
+
+-- the id of the canonical tree of G, which has at most so many parts and is no number past the bounds
+abbrev pub IsTaken : List Tree → ℕ → Tree → ℕ → Type 0
+IsTaken Us limit G id = IsCanonicalId Us G id × (IsPastBounds G → ⊥) × (HasMoreParts (tree_at Us id) limit → ⊥)
+
+-- a game that is read from a place on, by R, and taken; and the place behind it
+abbrev pub IsFoundBy : (List ℕ → Outcome Tree → Type 0) → List Tree → ℕ → List ℕ → ℕ → Found → Type 0
+IsFoundBy R Us limit text spot found = (G : Tree) × R (drop spot text) (reads G (drop found.end text)) × IsTaken Us limit G found.id × (spot ≤ found.end) × (found.end ≤ length text)
+
+-- why none is
+abbrev pub IsRefusedBy : (List ℕ → Outcome Tree → Type 0) → ℕ → List ℕ → ℕ → ReadError → Type 0
+IsRefusedBy R limit text spot (error.BadByte place) = (place ≡ spot) × R (drop spot text) (refused (bad_byte (drop spot text)))
+IsRefusedBy R limit text spot (error.BadNumber place) = (place ≡ spot) × R (drop spot text) (refused (bad_number (drop spot text)))
+IsRefusedBy R limit text spot error.CutShort = R (drop spot text) (refused cut_short)
+IsRefusedBy R limit text spot error.Deep = ⊥
+IsRefusedBy R limit text spot error.Parts = (G : Tree) × (rest : List ℕ) × R (drop spot text) (reads G rest) × IsCause G limit form.Parts
+IsRefusedBy R limit text spot error.Bounds = (G : Tree) × (rest : List ℕ) × R (drop spot text) (reads G rest) × IsCause G limit form.Bounds
+IsRefusedBy R limit text spot (error.Memory cause) = Unit {0}
+
+-- the longest run of digits from a place on
+pub record EndsDigitsAt (text : List ℕ) (first past : ℕ) : Type 0 where
+  pub forward : first ≤ past
+  pub within : past ≤ length text
+  pub digit_bytes : (k : ℕ) → first ≤ k → k < past → IsDigitByte (slice_index_or text k 0)
+  pub longest : EndsDigits (drop past text)

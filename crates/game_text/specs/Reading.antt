@@ -1,11 +1,15 @@
 -- What a text names, and why it is refused: the grammar, read from the front.
---     game = number | "{" options "|" options "}"        options = [ game { "," game } ]
-use Rattle.std.specs.Prelude.{ℕ, suc, ◌≡◌, ◌+◌, ◌<◌, ◌≤◌, ◌⊎◌, ℤ, List, [], ◌∷◌, ◌++◌, length, Result, Ok, Err}
+--     game = number | "*" [ digits ] | "^" | "v" | "+" number | "{" options "|" options "}"
+--     options = [ game { "," game } ]
+use Rattle.std.specs.Prelude.{ℕ, suc, ◌≡◌, ◌+◌, ◌<◌, ◌≤◌, ◌⊎◌, ℤ, pos, neg_ℤ, ◌<ℤ◌, List, [], ◌∷◌, ◌++◌, length, Result, Ok, Err}
 use Rattle.dyadic_num.specs.Units.{IsInBounds}
 use Rattle.game_store.specs.Tree.{Tree, Trees, node, none, more}
 use Rattle.game_store.specs.Text.{open_brace, bar, close_brace, comma}
 use Rattle.game_store.specs.TextOrder.{tree_text, IsCanonicalFor}
 use Rattle.game_store.specs.Meaning.{number_tree}
+use Rattle.game_store.specs.NumberText.{digits}
+use Rattle.game_canon.specs.Examples.{choice}
+use Rattle.game_text.specs.NamedText.{nimber, up, down}
 use Rattle.game_store.specs.Parts.{HasMoreParts}
 use Rattle.game_canon.specs.Outcomes.{IsPastBounds, IsCause}
 use Rattle.game_canon.specs.declared.errors.FormError.TheVariants.{Parts}
@@ -33,6 +37,32 @@ pub record IsRun (bytes run rest : List ℕ) : Type 0 where
   pub number_bytes : AreNumberBytes run
   pub longest : EndsNumber rest
 
+-- the digits
+abbrev pub IsDigitByte : ℕ → Type 0
+IsDigitByte x = (48 ≤ x) × (x < 58)
+
+abbrev pub AreDigitBytes : List ℕ → Type 0
+AreDigitBytes [] = Unit {0}
+AreDigitBytes (x ∷ xs) = IsDigitByte x × AreDigitBytes xs
+
+abbrev pub EndsDigits : List ℕ → Type 0
+EndsDigits [] = Unit {0}
+EndsDigits (x ∷ xs) = IsDigitByte x → ⊥
+
+-- the bytes are the longest run of digits, which may be empty, and the rest
+pub record IsDigitRun (bytes run rest : List ℕ) : Type 0 where
+  pub is : bytes ≡ run ++ rest
+  pub digit_bytes : AreDigitBytes run
+  pub longest : EndsDigits rest
+
+-- the greatest number whose nimber has a name
+abbrev pub most_nimber : ℕ
+most_nimber = 4294967295
+
+-- the digits of a number of which they name the nimber
+abbrev pub IsNimberDigits : ℕ → List ℕ → Type 0
+IsNimberDigits n run = (2 ≤ n) × (n ≤ most_nimber) × (run ≡ digits n [])
+
 -- the text of the number u, which is within the bounds of a Dyadic
 abbrev pub IsNumberText : ℤ → List ℕ → Type 0
 IsNumberText u run = IsInBounds u × (run ≡ tree_text (number_tree u))
@@ -56,6 +86,46 @@ abbrev pub behind : Tree → Outcome Trees → Outcome Trees
 behind G (reads Gs rest) = reads (more G Gs) rest
 behind G (refused fault) = refused fault
 
+-- the bytes with which names of games that are no numbers begin: `*`, `^`, `v` and `+`
+abbrev pub star : ℕ
+star = 42
+
+abbrev pub caret : ℕ
+caret = 94
+
+abbrev pub letter_v : ℕ
+letter_v = 118
+
+abbrev pub plus : ℕ
+plus = 43
+
+abbrev pub IsNameByte : ℕ → Type 0
+IsNameByte x = (x ≡ star) ⊎ ((x ≡ caret) ⊎ ((x ≡ letter_v) ⊎ (x ≡ plus)))
+
+-- what the bytes behind `*` come to: the nimber of 1, or of the number that the digits give
+pub data ReadsNimber (bytes : List ℕ) : Outcome Tree → Type 0 where
+  of_one : EndsDigits bytes → ReadsNimber bytes (reads (nimber 1) bytes)
+  of_number : (run rest : List ℕ) (n : ℕ) → IsDigitRun bytes run rest → IsNimberDigits n run → ReadsNimber bytes (reads (nimber n) rest)
+  of_none : (run rest : List ℕ) → IsDigitRun bytes run rest → 0 < length run → ((n : ℕ) → IsNimberDigits n run → ⊥) → ReadsNimber bytes (refused (bad_number bytes))
+
+-- the switch of -u, where u is below 0
+abbrev pub switch_below : ℤ → Tree
+switch_below u = choice (number_tree (neg_ℤ u)) (number_tree u)
+
+-- what the bytes behind `+` come to: the switch whose Right option is the number there, which is below 0
+pub data ReadsSwitch (bytes : List ℕ) : Outcome Tree → Type 0 where
+  of_negative : (run rest : List ℕ) (u : ℤ) → IsRun bytes run rest → IsNumberText u run → u <ℤ pos 0 → ReadsSwitch bytes (reads (switch_below u) rest)
+  of_other : (run rest : List ℕ) → IsRun bytes run rest → ((u : ℤ) → IsNumberText u run → u <ℤ pos 0 → ⊥) → ReadsSwitch bytes (refused (bad_number bytes))
+  no_number : (x : ℕ) (xs : List ℕ) → bytes ≡ x ∷ xs → (IsNumberByte x → ⊥) → ReadsSwitch bytes (refused (bad_byte bytes))
+  ends : bytes ≡ [] → ReadsSwitch bytes (refused cut_short)
+
+-- what a name comes to that begins with x, and has these bytes behind it
+pub data ReadsName (x : ℕ) (xs : List ℕ) (o : Outcome Tree) : Type 0 where
+  a_nimber : x ≡ star → ReadsNimber xs o → ReadsName x xs o
+  an_up : x ≡ caret → o ≡ reads up xs → ReadsName x xs o
+  a_down : x ≡ letter_v → o ≡ reads down xs → ReadsName x xs o
+  a_switch : x ≡ plus → ReadsSwitch xs o → ReadsName x xs o
+
 -- the options of a form: the Left ones end at a bar, the Right ones at a closing brace
 pub data Side : Type 0 where
   left_side : Side
@@ -70,7 +140,7 @@ BeginsOtherwise mark [] = Unit {0}
 BeginsOtherwise mark (x ∷ xs) = x ≡ mark → ⊥
 
 module _ (limit : ℕ) where
-  -- a form was closed: its canonical tree has at most so many parts, or more of them, or it is a number past the bounds
+  -- a name or a form was read to its end: its canonical tree has at most so many parts, or more of them, or it is a number past the bounds
   pub data IsClosed (G : Tree) (rest : List ℕ) : Outcome Tree → Type 0 where
     taken : (IsPastBounds G → ⊥) → ((C : Tree) → IsCanonicalFor G C → HasMoreParts C limit → ⊥) → IsClosed G rest (reads G rest)
     with_many_parts : IsCause G limit Parts → IsClosed G rest (refused too_many_parts)
@@ -81,11 +151,13 @@ module _ (limit : ℕ) where
     pub data ReadsGame : ℕ → List ℕ → Outcome Tree → Type 0 where
       number : (n : ℕ) (bytes run rest : List ℕ) (u : ℤ) → IsRun bytes run rest → IsNumberText u run → ReadsGame n bytes (reads (number_tree u) rest)
       no_number : (n : ℕ) (bytes run rest : List ℕ) → IsRun bytes run rest → ((u : ℤ) → IsNumberText u run → ⊥) → ReadsGame n bytes (refused (bad_number bytes))
+      name : (n x : ℕ) (xs rest : List ℕ) (G : Tree) (out : Outcome Tree) → ReadsName x xs (reads G rest) → IsClosed G rest out → ReadsGame n (x ∷ xs) out
+      no_name : (n x : ℕ) (xs : List ℕ) (fault : Fault) → ReadsName x xs (refused fault) → ReadsGame n (x ∷ xs) (refused fault)
       one_too_deep : (n x : ℕ) (xs : List ℕ) → x ≡ open_brace → most_open ≤ n → ReadsGame n (x ∷ xs) (refused too_deep)
       form : (n x : ℕ) (xs ys zs : List ℕ) (Ls Rs : Trees) (out : Outcome Tree) → x ≡ open_brace → n < most_open → ReadsOptions (suc n) left_side xs (reads Ls ys) → ReadsOptions (suc n) right_side ys (reads Rs zs) → IsClosed (node Ls Rs) zs out → ReadsGame n (x ∷ xs) out
       left_refused : (n x : ℕ) (xs : List ℕ) (fault : Fault) → x ≡ open_brace → n < most_open → ReadsOptions (suc n) left_side xs (refused fault) → ReadsGame n (x ∷ xs) (refused fault)
       right_refused : (n x : ℕ) (xs ys : List ℕ) (Ls : Trees) (fault : Fault) → x ≡ open_brace → n < most_open → ReadsOptions (suc n) left_side xs (reads Ls ys) → ReadsOptions (suc n) right_side ys (refused fault) → ReadsGame n (x ∷ xs) (refused fault)
-      game_stray : (n x : ℕ) (xs : List ℕ) → (IsNumberByte x → ⊥) → (x ≡ open_brace → ⊥) → ReadsGame n (x ∷ xs) (refused (bad_byte (x ∷ xs)))
+      game_stray : (n x : ℕ) (xs : List ℕ) → (IsNumberByte x → ⊥) → (IsNameByte x → ⊥) → (x ≡ open_brace → ⊥) → ReadsGame n (x ∷ xs) (refused (bad_byte (x ∷ xs)))
       game_cut : (n : ℕ) → ReadsGame n [] (refused cut_short)
 
     -- the options of a side, and the mark at their end

@@ -1,20 +1,20 @@
 -- Why a tree has no text, and what reading passes on of a form that is refused.
 use Rattle.std.specs.Prelude.{ℕ, ◌<◌, ◌≤◌, length}
 use Rattle.game_store.specs.Tree.{Tree}
-use Rattle.game_store.specs.TextOrder.{tree_text}
 use Rattle.game_canon.specs.Outcomes.{IsCause}
 use Rattle.game_canon.specs.declared.errors.FormError.{FormError}
 use Rattle.game_canon.specs.declared.errors.FormError.TheVariants as form
-use Rattle.game_text.specs.Depth.{depth, most_open}
+use Rattle.game_text.specs.Depth.{most_open}
+use Rattle.game_text.specs.NamedText.{named_text, named_depth}
 use Rattle.game_text.specs.declared.errors.WriteError.{WriteError}
 use Rattle.game_text.specs.declared.errors.WriteError.TheVariants.{Long, Deep, Memory}
 use Rattle.game_text.specs.declared.errors.ReadError.{ReadError}
 use Rattle.game_text.specs.declared.errors.ReadError.TheVariants as reading
 
--- the text has more bytes than allowed; or it hasn't, and its braces nest too deep
+-- the named text has more bytes than allowed; or it hasn't, and its braces nest too deep
 abbrev pub IsWriteRefusal : Tree → ℕ → WriteError → Type 0
-IsWriteRefusal G limit Long = limit < length (tree_text G)
-IsWriteRefusal G limit Deep = (length (tree_text G) ≤ limit) × (most_open < depth G)
+IsWriteRefusal G limit Long = limit < length (named_text G)
+IsWriteRefusal G limit Deep = (length (named_text G) ≤ limit) × (most_open < named_depth G)
 IsWriteRefusal G limit (Memory cause) = Unit {0}
 
 abbrev pub passed_on : FormError → ReadError

@@ -1,12 +1,14 @@
 -- How the texts of forms are kept while a text is built from them.
-use Rattle.std.specs.Prelude.{ℕ, ◌≡◌, ◌<◌, ◌≤◌, List, [], ◌∷◌, ◌++◌, length, map, slice_range, Option, Some, None, cond, nat_eq}
-use Rattle.std.specs.List.{slice_index_or, flat_map}
+use Rattle.std.specs.Prelude.{ℕ, ◌≡◌, ◌<◌, ◌≤◌, ℤ, pos, neg_ℤ, ◌<ℤ◌, ◌⊎◌, true, List, [], ◌∷◌, ◌++◌, length, map, slice_range, Option, Some, None, cond, nat_eq}
+use Rattle.std.specs.List.{slice_index_or}
 use Rattle.std.specs.List.Sorted.{IsPermutation, IsSortedBy}
 use Rattle.game_store.specs.Tree.{Tree}
-use Rattle.game_store.specs.Text.{open_brace, bar, close_brace, comma}
+use Rattle.game_store.specs.Number.{num}
+use Rattle.game_store.specs.NumberText.{Fraction}
 use Rattle.game_store.specs.TextOrder.{tree_text, lesser_text}
-use Rattle.game_store.specs.Meaning.{tree_at}
+use Rattle.game_store.specs.Meaning.{tree_at, number_tree, AreIds, IsAscending}
 use Rattle.game_canon.specs.Reachable.{IsInner}
+use Rattle.game_text.specs.NamedText.{nimber, is_positive, joined, in_braces, name, named_text}
 use Rattle.game_text.specs.declared.texts.Span.{Span}
 use Rattle.game_text.specs.declared.errors.WriteError.{WriteError}
 use Rattle.game_text.specs.declared.errors.WriteError.TheVariants.{Long, Deep, Memory}
@@ -22,20 +24,19 @@ text_at bytes (Some span) = slice_range bytes span.start span.end
 
 -- the text of an id's tree is kept
 abbrev pub HasText : List Tree → List ℕ → (ℕ → Option Span) → ℕ → Type 0
-HasText Ts bytes spans id = IsWithin bytes (spans id) × (text_at bytes (spans id) ≡ tree_text (tree_at Ts id))
+HasText Ts bytes spans id = IsWithin bytes (spans id) × (text_at bytes (spans id) ≡ named_text (tree_at Ts id))
 
--- texts with commas between them
-abbrev pub joined : List (List ℕ) → List ℕ
-joined [] = []
-joined (t ∷ ts) = t ++ flat_map (λ u. comma ∷ u) ts
+-- the texts of the ids in the order of their bytes
+abbrev pub AreSideTexts : List ℕ → (ℕ → Option Span) → List ℕ → List (List ℕ) → Type 0
+AreSideTexts bytes spans ids ts = IsPermutation (map (λ id. text_at bytes (spans id)) ids) ts × IsSortedBy lesser_text ts
 
--- the texts of the ids in the order of their bytes, with commas between them
+-- the same with commas between them
 abbrev pub IsSideText : List ℕ → (ℕ → Option Span) → List ℕ → List ℕ → Type 0
-IsSideText bytes spans ids t = (ts : List (List ℕ)) × IsPermutation (map (λ id. text_at bytes (spans id)) ids) ts × IsSortedBy lesser_text ts × (t ≡ joined ts)
+IsSideText bytes spans ids t = (ts : List (List ℕ)) × AreSideTexts bytes spans ids ts × (t ≡ joined ts)
 
 -- such texts of two sides in braces
 abbrev pub IsBracesText : List ℕ → (ℕ → Option Span) → List ℕ → List ℕ → List ℕ → Type 0
-IsBracesText bytes spans ls rs t = (l r : List ℕ) × IsSideText bytes spans ls l × IsSideText bytes spans rs r × (t ≡ open_brace ∷ (l ++ (bar ∷ (r ++ (close_brace ∷ [])))))
+IsBracesText bytes spans ls rs t = (us vs : List (List ℕ)) × AreSideTexts bytes spans ls us × AreSideTexts bytes spans rs vs × (t ≡ in_braces us vs)
 
 -- the ids whose texts are kept
 abbrev pub AreKept : List ℕ → (ℕ → Option Span) → List ℕ → Type 0
@@ -55,19 +56,54 @@ IsAppended old spans id text new after = (new ≡ old ++ text) × ((i : ℕ) →
 abbrev pub HasOptionTexts : List Tree → List ℕ → (ℕ → Option Span) → ℕ → Type 0
 HasOptionTexts Ts bytes spans id = (i : ℕ) → i < id → IsInner (tree_at Ts id) (tree_at Ts i) → HasText Ts bytes spans i
 
--- what was kept stays so, and the text of this id too, which has at most so many bytes
-pub record IsAdded (Ts : List Tree) (limit id : ℕ) (old : List ℕ) (spans : ℕ → Option Span) (new : List ℕ) (after : ℕ → Option Span) : Type 0 where
+-- what was kept stays so, and the text of this id is kept too
+pub record IsAdded (Ts : List Tree) (id : ℕ) (old : List ℕ) (spans : ℕ → Option Span) (new : List ℕ) (after : ℕ → Option Span) : Type 0 where
   pub stays : (i : ℕ) → HasText Ts old spans i → HasText Ts new after i
   pub added : HasText Ts new after id
-  pub within : length (tree_text (tree_at Ts id)) ≤ limit
 
--- why no text is kept
+-- why no text is kept: it stands in braces and has more bytes than allowed
 abbrev pub IsTooLong : Tree → ℕ → WriteError → Type 0
-IsTooLong G limit Long = limit < length (tree_text G)
+IsTooLong G limit Long = (name G ≡ None) × (limit < length (named_text G))
 IsTooLong G limit Deep = ⊥
 IsTooLong G limit (Memory cause) = Unit {0}
 
--- the texts of the first n ids, of at most so many bytes each
-pub record AreWritten (Ts : List Tree) (limit : ℕ) (ids : List ℕ) (n : ℕ) (bytes : List ℕ) (spans : ℕ → Option Span) : Type 0 where
-  pub have : (j : ℕ) → j < n → j < length ids → HasText Ts bytes spans (slice_index_or ids j 0)
-  pub within : (j : ℕ) → j < n → j < length ids → length (tree_text (tree_at Ts (slice_index_or ids j 0))) ≤ limit
+-- the texts of the first n ids are kept
+abbrev pub AreWritten : List Tree → List ℕ → ℕ → List ℕ → (ℕ → Option Span) → Type 0
+AreWritten Ts ids n bytes spans = (j : ℕ) → j < n → j < length ids → HasText Ts bytes spans (slice_index_or ids j 0)
+
+-- the ids of the nimbers of 0, 1, 2 and so on
+pub record AreNimbers (Ts : List Tree) (ks : List ℕ) : Type 0 where
+  pub below : AreIds Ts ks
+  pub ascends : IsAscending ks
+  pub each : (k : ℕ) → k < length ks → tree_at Ts (slice_index_or ks k 0) ≡ nimber k
+
+-- where the id's tree is a nimber, it is the one of that number among these
+abbrev pub IsAmong : List Tree → List ℕ → ℕ → Type 0
+IsAmong Ts ks id = (n : ℕ) → tree_at Ts id ≡ nimber n → (n < length ks) × (slice_index_or ks n 0 ≡ id)
+
+-- the nimbers of the first n ids
+pub record AreFound (Ts : List Tree) (ids : List ℕ) (n : ℕ) (ks : List ℕ) : Type 0 where
+  pub nimbers : AreNimbers Ts ks
+  pub from : (k : ℕ) → k < length ks → (j : ℕ) × (j < n) × (j < length ids) × (slice_index_or ks k 0 ≡ slice_index_or ids j 0)
+  pub among : (j : ℕ) → j < n → j < length ids → IsAmong Ts ks (slice_index_or ids j 0)
+
+-- the options of up, of down, and of the switch of a number above 0
+abbrev pub IsUpPair : Tree → Tree → Type 0
+IsUpPair A B = (A ≡ nimber 0) × (B ≡ nimber 1)
+
+abbrev pub IsDownPair : Tree → Tree → Type 0
+IsDownPair A B = (A ≡ nimber 1) × (B ≡ nimber 0)
+
+abbrev pub IsSwitchPair : Tree → Tree → Type 0
+IsSwitchPair A B = (x : Fraction) × (is_positive x.numerator ≡ true) × (A ≡ num x.exponent x.numerator) × (B ≡ num x.exponent (neg_ℤ x.numerator))
+
+abbrev pub IsNamedPair : Tree → Tree → Type 0
+IsNamedPair A B = IsUpPair A B ⊎ (IsDownPair A B ⊎ IsSwitchPair A B)
+
+-- the name of the switch with these options
+abbrev pub IsSwitchName : Tree → Tree → List ℕ → Type 0
+IsSwitchName A B t = (u : ℤ) × (pos 0 <ℤ u) × (A ≡ number_tree u) × (B ≡ number_tree (neg_ℤ u)) × (t ≡ 43 ∷ 45 ∷ tree_text A)
+
+-- the name of up, down or such a switch
+abbrev pub IsPairName : Tree → Tree → List ℕ → Type 0
+IsPairName A B t = (IsUpPair A B × (t ≡ 94 ∷ [])) ⊎ ((IsDownPair A B × (t ≡ 118 ∷ [])) ⊎ IsSwitchName A B t)

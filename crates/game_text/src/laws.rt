@@ -1,6 +1,8 @@
 //! Laws of texts, each the contract of a function that does nothing.
 
 ghost use Rattle.game_text.specs.Laws.{OneReading, RoundTrip, StoresKeepBounds, IdsComeBack};
+ghost use Rattle.game_text.specs.Laws.{NamedTextsTellTrees, NamedTextsTellGames};
+ghost use Rattle.game_text.specs.Laws.{NamedRoundTrip, NamedIdsComeBack};
 
 /// A text names at most one form, or is refused for one reason; the text of a canonical form that can be read back names
 /// it; and what is written of an id is read back as the id. Trees of equal texts are equal: that is `text_law` of
@@ -10,4 +12,13 @@ pub fn text_laws()
     ensures round_trip { RoundTrip }
     ensures bounds { StoresKeepBounds }
     ensures ids { IdsComeBack }
+{}
+
+/// A canonical form is known by its named text, and so is its game; what is written of an id is read back as the id. For texts without names that is `text_law` of
+/// `game_canon`.
+pub fn named_text_law()
+    ensures trees { NamedTextsTellTrees }
+    ensures games { NamedTextsTellGames }
+    ensures round_trip { NamedRoundTrip }
+    ensures ids { NamedIdsComeBack }
 {}

@@ -3,6 +3,8 @@
 
 mod errors;
 mod laws;
+mod named_games;
+mod names;
 mod numbers;
 mod reading;
 #[cfg(test)]
@@ -12,7 +14,7 @@ mod texts;
 mod writing;
 
 pub use errors::{ReadError, WriteError};
-pub use laws::text_laws;
+pub use laws::{named_text_law, text_laws};
 pub use numbers::number_text;
 pub use reading::read;
 pub use text::Text;

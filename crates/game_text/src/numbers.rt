@@ -52,12 +52,19 @@ fn parsed_integer(text: &[u8]) -> Option<i128>
     parsed_size(text)
 }
 
+/// The number of 64 bits that digits write.
+pub(crate) fn parsed_count(digits: &[u8]) -> Option<u64>
+    ensures { (n : ℕ) → n < 2 ^ 64 → digits.now ≡ decimal n → result ≡ Some n }
+{
+    let text = std::str::from_utf8(digits).ok()?;
+    text.parse::<u64>().ok()
+}
+
 /// The exponent of the power of two that digits write.
 fn parsed_exponent(digits: &[u8]) -> Option<u8>
     ensures { (e : ℕ) → e ≤ 60 → digits.now ≡ decimal (2 ^ e) → result ≡ Some e }
 {
-    let text = std::str::from_utf8(digits).ok()?;
-    let power = text.parse::<u64>().ok()?;
+    let power = parsed_count(digits)?;
     if power == 0 {
         return None;
     }

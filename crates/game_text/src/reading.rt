@@ -1,11 +1,11 @@
 //! Reading.
 
-ghost use Rattle.std.specs.Prelude.{◌≡◌, ◌<◌, ◌≤◌, ◌++◌, ◌∷◌, [], ◌↔◌, List, length, slice_index, slice_range, take, drop, None, IsTrue, IfOk, IfErr, OnOk};
+ghost use Rattle.std.specs.Prelude.{◌≡◌, ◌<◌, ◌≤◌, ◌+◌, ◌++◌, ◌∷◌, [], ◌↔◌, List, length, slice_index, slice_range, take, drop, None, IsTrue, IfOk, IfErr, OnOk};
 ghost use Rattle.game_store.specs.Tree.{Tree};
 ghost use Rattle.game_store.specs.Meaning.{listed, AreIds, Extends};
 ghost use Rattle.game_canon.specs.Outcomes.{IsCanonicalId};
-ghost use Rattle.game_text.specs.Reading.{IsNumberByte, Names, IsReadRefusal};
-ghost use Rattle.game_text.specs.Machine.{IsReading, EndsRunAt, IsNext, IsMarkOfInnermost, IsFormTaken, IsEnded, mark_at, opening_at, place_after};
+ghost use Rattle.game_text.specs.Reading.{IsNameByte, IsNumberByte, IsReadRefusal, Names, ReadsName};
+ghost use Rattle.game_text.specs.Machine.{IsReading, EndsRunAt, IsNext, IsMarkOfInnermost, IsFormTaken, IsFoundBy, IsRefusedBy, IsEnded, mark_at, opening_at, place_after};
 ghost use Rattle.game_text.specs.Depth.{most_open};
 ghost use Rattle.game_text.specs.Refusals.{IsWantOfMemory, IsOpeningRefusal, IsFormRefusal};
 ghost use Rattle.game_text.specs.declared.reading.Opening.{Opening};
@@ -13,6 +13,7 @@ ghost use Rattle.game_text.specs.declared.reading.Place.TheVariants.{First, Game
 ghost use Rattle.game_text.specs.declared.errors.ReadError.TheVariants.{CutShort};
 
 use crate::errors::ReadError;
+use crate::named_games::{Found, read_nimber, read_switch, taken_down, taken_up};
 use crate::numbers::number_of_text;
 use crate::writing::MOST_OPEN;
 use game_canon::canonical;
@@ -58,14 +59,14 @@ struct Step {
 }
 
 /// Whether the byte is one of numbers.
-fn is_number_byte(byte: u8) -> bool
+pub(crate) fn is_number_byte(byte: u8) -> bool
     ensures { IsTrue result ↔ IsNumberByte byte }
 {
     matches!(byte, b'-' | b'/'..=b'9')
 }
 
 /// Where the longest run of bytes of numbers ends.
-fn run_end(text: &[u8], first: usize) -> usize
+pub(crate) fn run_end(text: &[u8], first: usize) -> usize
     requires { first ≤ length text.now }
     ensures { EndsRunAt text.now first result }
 {
@@ -131,6 +132,65 @@ fn read_number(
     Ok(Step { at: end, place })
 }
 
+/// Whether the byte begins the name of a game that is no number.
+fn is_name_byte(byte: u8) -> bool
+    ensures { IsTrue result ↔ IsNameByte byte }
+{
+    matches!(byte, b'*' | b'^' | b'v' | b'+')
+}
+
+/// The game that a name names, and the place behind it.
+fn named_game(
+    alloc: Global,
+    store: &mut Store,
+    source: &Source<'_>,
+    at: usize,
+) -> Result<Found, ReadError>
+    requires here { at < length source.now.text.now }
+    requires byte { IsNameByte (slice_index source.now.text.now at) }
+    ensures found { IfOk result (λ found. IsFoundBy (ReadsName (slice_index source.now.text.now at)) store.new source.now.parts_limit source.now.text.now (at + 1) found) }
+    ensures refusal { IfErr result (λ e. IsRefusedBy (ReadsName (slice_index source.now.text.now at)) source.now.parts_limit source.now.text.now (at + 1) e) }
+    ensures kept { Extends store.old store.new }
+{
+    let byte = source.text[at];
+    let start = at + 1;
+    if byte == b'*' {
+        return read_nimber(alloc, store, source.text, start, source.parts_limit);
+    }
+    if byte == b'+' {
+        return read_switch(alloc, store, source.text, start, source.parts_limit);
+    }
+    if byte == b'^' {
+        let id = taken_up(alloc, store, source.parts_limit)?;
+        return Ok(Found { id, end: start });
+    }
+    let id = taken_down(alloc, store, source.parts_limit)?;
+    Ok(Found { id, end: start })
+}
+
+/// Reads a name.
+fn read_name(
+    alloc: Global,
+    store: &mut Store,
+    pending: &mut Pending,
+    source: &Source<'_>,
+    at: usize,
+) -> Result<Step, ReadError>
+    requires reading { IsReading store.old source.now.parts_limit source.now.text.now at Game pending.old.options.items pending.old.opens.items }
+    requires here { at < length source.now.text.now }
+    requires byte { IsNameByte (slice_index source.now.text.now at) }
+    ensures next { IfOk result (λ step. IsNext store.new source.now.parts_limit source.now.text.now at step pending.new.options.items pending.new.opens.items) }
+    ensures refusal { IfErr result (λ e. IsReadRefusal source.now.parts_limit source.now.text.now e) }
+    ensures kept { Extends store.old store.new }
+{
+    let found = named_game(alloc, store, source, at)?;
+    let place = take_game(pending, found.id)?;
+    Ok(Step {
+        at: found.end,
+        place,
+    })
+}
+
 /// Opens a form.
 fn open_form(pending: &mut Pending) -> Result<(), ReadError>
     ensures opens { OnOk result (pending.new.opens.items ≡ pending.old.opens.items ++ opening_at (length pending.old.options.items) None ∷ []) }
@@ -149,7 +209,7 @@ fn open_form(pending: &mut Pending) -> Result<(), ReadError>
     Ok(())
 }
 
-/// Reads a number or the opening brace of a form.
+/// Reads a number, a name or the opening brace of a form.
 fn read_game(
     alloc: Global,
     store: &mut Store,
@@ -166,6 +226,9 @@ fn read_game(
     let byte = source.text[at];
     if is_number_byte(byte) {
         return read_number(alloc, store, pending, source, at);
+    }
+    if is_name_byte(byte) {
+        return read_name(alloc, store, pending, source, at);
     }
     if byte != b'{' {
         return Err(ReadError::BadByte(at));
@@ -288,12 +351,15 @@ fn named(pending: &Pending, place: Place) -> Result<GameId, ReadError>
     }
 }
 
-/// The canonical form that a text names: a number in decimal or as a fraction in lowest terms, or `{`, games with commas
-/// between them, `|`, games with commas between them and `}`. Each form in braces is made canonical when its closing
-/// brace is read. The first refusal from the front is given: `BadNumber` at a run of the bytes `-`, `/` and digits that
-/// is no text of a `Dyadic`, `BadByte` at a byte that fits no rule, `Deep` at a brace that is number 1,001 of those that
-/// are open, `Parts` and `Bounds` as `canonical` has them, and `CutShort` where the text ends before its game does. Every
-/// id keeps its form, whatever the answer.
+/// The canonical form that a text names: a number in decimal or as a fraction in lowest terms; `*` for the nimber of 1,
+/// and `*` with digits for that of a number from 2 to 4,294,967,295; `^` for up and `v` for down; `+` and the text of a
+/// number -x below 0 for the switch `{x|-x}`; or `{`, games with commas between them, `|`, games with commas between them
+/// and `}`. Each form is made canonical when its closing brace is read, so texts with and without names are read. The
+/// first refusal from the front is given: `BadNumber` at a run of the bytes `-`, `/` and digits that is no text of a
+/// `Dyadic`, or of none below 0 behind `+`, and at digits behind `*` that are no such number; `BadByte` at a byte that
+/// fits no rule, `Deep` at a brace that is number 1,001 of those that are open, `Parts` and `Bounds` as `canonical` has
+/// them, at a name too, and `CutShort` where the text ends before its game does. Every id keeps its form, whatever the
+/// answer.
 pub fn read(
     alloc: Global,
     store: &mut Store,

@@ -21,7 +21,7 @@ fn written(
 #[test]
 fn texts(rt: HostRuntime) -> Result<(), Fail> {
     let alloc = rt.alloc();
-    let table: [(&[u8], &[u8]); 18] = [
+    let table: [(&[u8], &[u8]); 25] = [
         (b"0", b"0"),
         (b"-3", b"-3"),
         (b"-1/2", b"-1/2"),
@@ -32,10 +32,17 @@ fn texts(rt: HostRuntime) -> Result<(), Fail> {
         (b"{1,2|}", b"3"),
         (b"{|-1,0}", b"-2"),
         (b"{{0|0}|{0|0}}", b"0"),
-        (b"{0|0}", b"{0|0}"),
-        (b"{0|{0|0}}", b"{0|{0|0}}"),
-        (b"{1,{0|0},1|{0|0}}", b"{1|{0|0}}"),
-        (b"{0,{0|0}|{0|0},0}", b"{0,{0|0}|0,{0|0}}"),
+        (b"{0|0}", b"*"),
+        (b"{0|{0|0}}", b"^"),
+        (b"{{0|0}|0}", b"v"),
+        (b"{1,{0|0},1|{0|0}}", b"{1|*}"),
+        (b"{0,{0|0}|{0|0},0}", b"*2"),
+        (b"{0,{0|0}|0}", b"{*,0|0}"),
+        (b"{1|-1}", b"+-1"),
+        (b"{1/2|-1/2}", b"+-1/2"),
+        (b"{-1|1}", b"0"),
+        (b"{1|0}", b"{1|0}"),
+        (b"{0|-1}", b"{0|-1}"),
         (b"{3|1/2,-1/2,7}", b"{3|-1/2}"),
         (b"{{3|-1},{2|0}|-5}", b"{{2|0},{3|-1}|-5}"),
         (b"{{3|-1},{10|-20}|-50}", b"{{10|-20},{3|-1}|-50}"),
@@ -51,25 +58,100 @@ fn texts(rt: HostRuntime) -> Result<(), Fail> {
     Ok(())
 }
 
+/// Both texts of a game are read as one id, and names beside other games.
+#[test]
+fn both_editions(rt: HostRuntime) -> Result<(), Fail> {
+    let alloc = rt.alloc();
+    let table: [(&[u8], &[u8]); 12] = [
+        (b"{0|{0|0}}", b"^"),
+        (b"{{0|0}|0}", b"v"),
+        (b"{0|0}", b"*"),
+        (b"{0,{0|0}|0,{0|0}}", b"*2"),
+        (b"{*,*2,0|0,*2,*}", b"*3"),
+        (b"{2|-2}", b"+-2"),
+        (b"{1/2|-1/2}", b"+-1/2"),
+        (b"{1|{0|0}}", b"{1|*}"),
+        (b"{{{0|0}|-1}|-2}", b"{{*|-1}|-2}"),
+        (b"{0,{0|0}|0}", b"{*,0|0}"),
+        (b"{*|*}", b"0"),
+        (b"{^|v}", b"*"),
+    ];
+    for (text, named) in table {
+        let mut store = Store::new(alloc);
+        let one = read(alloc, &mut store, text, 500).expect(&rt, "a text");
+        let other = read(alloc, &mut store, named, 500).expect(&rt, "a named text");
+        assert_eq!(rt; one, other);
+    }
+    Ok(())
+}
+
+/// Games that the field names (Siegel, Combinatorial Game Theory), and corridors of one to five points: their texts
+/// without names, and with names.
+#[test]
+fn named_games(rt: HostRuntime) -> Result<(), Fail> {
+    let alloc = rt.alloc();
+    let table: [(&[u8], &[u8]); 18] = [
+        // the nimbers of 1 to 4
+        (b"{0|0}", b"*"),
+        (b"{0,{0|0}|0,{0|0}}", b"*2"),
+        (
+            b"{0,{0,{0|0}|0,{0|0}},{0|0}|0,{0,{0|0}|0,{0|0}},{0|0}}",
+            b"*3",
+        ),
+        (
+            b"{0,{0,{0,{0|0}|0,{0|0}},{0|0}|0,{0,{0|0}|0,{0|0}},{0|0}},{0,{0|0}|0,{0|0}},{0|0}|0,{0,{0,{0|0}|0,{0|0}},{0|0}|0,{0,{0|0}|0,{0|0}},{0|0}},{0,{0|0}|0,{0|0}},{0|0}}",
+            b"*4",
+        ),
+        // up, down, up star, double up and double up star
+        (b"{0|{0|0}}", b"^"),
+        (b"{{0|0}|0}", b"v"),
+        (b"{0,{0|0}|0}", b"{*,0|0}"),
+        (b"{0|{0,{0|0}|0}}", b"{0|{*,0|0}}"),
+        (b"{0|{0|{0|0}}}", b"{0|^}"),
+        // tiny and miny one, and switches
+        (b"{0|{0|-1}}", b"{0|{0|-1}}"),
+        (b"{{1|0}|0}", b"{{1|0}|0}"),
+        (b"{2|-2}", b"+-2"),
+        (b"{3|1}", b"{3|1}"),
+        // corridors
+        (b"{1|{0|0}}", b"{1|*}"),
+        (b"{2|{1|{0|0}}}", b"{2|{1|*}}"),
+        (b"{3|{2|{1|{0|0}}}}", b"{3|{2|{1|*}}}"),
+        (b"{4|{3|{2|{1|{0|0}}}}}", b"{4|{3|{2|{1|*}}}}"),
+        (b"{{{{{0|0}|-1}|-2}|-3}|-4}", b"{{{{*|-1}|-2}|-3}|-4}"),
+    ];
+    for (text, want) in table {
+        match written(alloc, text, 100) {
+            Ok(Ok(found)) => assert_eq!(rt; found.as_slice(), want),
+            Ok(Err(_)) => assert!(rt; false),
+            Err(_) => assert!(rt; false),
+        }
+    }
+    Ok(())
+}
+
 #[test]
 fn lengths(rt: HostRuntime) -> Result<(), Fail> {
     let alloc = rt.alloc();
-    let table: [(&[u8], usize, bool); 6] = [
-        (b"{0|0}", 4, false),
-        (b"{0|0}", 5, true),
-        (b"{0|{0|0}}", 8, false),
-        (b"{0|{0|0}}", 9, true),
-        (b"-1/2", 3, false),
-        (b"-1/2", 4, true),
+    let table: [(&[u8], usize, &[u8]); 12] = [
+        (b"{0|0}", 0, b""),
+        (b"{0|0}", 1, b"*"),
+        (b"{1|{0|0}}", 4, b""),
+        (b"{1|{0|0}}", 5, b"{1|*}"),
+        (b"{0,{0|0}|0,{0|0}}", 1, b""),
+        (b"{0,{0|0}|0,{0|0}}", 2, b"*2"),
+        (b"{1234|-1234}", 5, b""),
+        (b"{1234|-1234}", 6, b"+-1234"),
+        (b"-1/2", 3, b""),
+        (b"-1/2", 4, b"-1/2"),
+        (b"{{0|0}|0}", 9, b"v"),
+        (b"{0,{0|0}|0}", 9, b"{*,0|0}"),
     ];
-    for (text, limit, fits) in table {
+    for (text, limit, want) in table {
         match written(alloc, text, limit) {
-            Ok(Ok(found)) => {
-                assert!(rt; fits);
-                assert_eq!(rt; found.as_slice(), text);
-            }
+            Ok(Ok(found)) => assert_eq!(rt; found.as_slice(), want),
             Ok(Err(cause)) => {
-                assert!(rt; !fits);
+                assert!(rt; want.is_empty());
                 assert_eq!(rt; cause, WriteError::Long);
             }
             Err(_) => assert!(rt; false),
@@ -81,7 +163,31 @@ fn lengths(rt: HostRuntime) -> Result<(), Fail> {
 #[test]
 fn refusals(rt: HostRuntime) -> Result<(), Fail> {
     let alloc = rt.alloc();
-    let table: [(&[u8], u32, ReadError); 24] = [
+    let table: [(&[u8], u32, ReadError); 48] = [
+        (b"*1", 500, ReadError::BadNumber(1)),
+        (b"*0", 500, ReadError::BadNumber(1)),
+        (b"*02", 500, ReadError::BadNumber(1)),
+        (b"*4294967296", 500, ReadError::BadNumber(1)),
+        (b"*4294967295", 4_000, ReadError::Parts),
+        (b"*3", 2, ReadError::Parts),
+        (b"*", 0, ReadError::Parts),
+        (b"^", 1, ReadError::Parts),
+        (b"v", 1, ReadError::Parts),
+        (b"+-1", 0, ReadError::Parts),
+        (b"+1", 500, ReadError::BadNumber(1)),
+        (b"+-0", 500, ReadError::BadNumber(1)),
+        (b"+-2/4", 500, ReadError::BadNumber(1)),
+        (b"+", 500, ReadError::CutShort),
+        (b"+*", 500, ReadError::BadByte(1)),
+        (b"+{0|0}", 500, ReadError::BadByte(1)),
+        (b"**", 500, ReadError::BadByte(1)),
+        (b"*-1", 500, ReadError::BadByte(1)),
+        (b"*2/3", 500, ReadError::BadByte(2)),
+        (b"^^", 500, ReadError::BadByte(1)),
+        (b"{*,|0}", 500, ReadError::BadByte(3)),
+        (b"{*", 500, ReadError::CutShort),
+        (b"{1|*}", 1, ReadError::Parts),
+        (b"{0|+-3", 500, ReadError::CutShort),
         (b"", 500, ReadError::CutShort),
         (b"{", 500, ReadError::CutShort),
         (b"{0|", 500, ReadError::CutShort),

@@ -3,15 +3,16 @@
 ghost use Rattle.std.specs.Prelude.{◌≡◌, ◌<◌, ◌≤◌, ◌^◌, ℕ, List, nat_eq, length, slice_index, IfOk, IfErr, OnOk};
 ghost use Rattle.indexmap.specs.IndexMap.{get};
 ghost use Rattle.game_store.specs.Tree.{Tree};
-ghost use Rattle.game_store.specs.TextOrder.{tree_text};
 ghost use Rattle.game_store.specs.Meaning.{tree_at, AreDistinct};
+ghost use Rattle.game_store.specs.Forms.{IsOptions};
 ghost use Rattle.game_canon.specs.Changes.{AreClosed};
-ghost use Rattle.game_text.specs.Depth.{depth};
+ghost use Rattle.game_text.specs.NamedText.{named_depth, named_text};
 ghost use Rattle.game_text.specs.Nesting.{braces_after};
 ghost use Rattle.game_text.specs.Refusals.{IsWriteRefusal};
-ghost use Rattle.game_text.specs.Written.{HasOptionTexts, IsAdded, IsTooLong, AreWritten};
+ghost use Rattle.game_text.specs.Written.{AreFound, AreNimbers, AreWritten, HasOptionTexts, IsAdded, IsAmong, IsTooLong};
 
 use crate::errors::WriteError;
+use crate::names::{form_name, nimbers_of};
 use crate::numbers::number_text;
 use crate::text::Text;
 use crate::texts::{Texts, braces, keep, text_of};
@@ -23,15 +24,58 @@ use std::alloc::{AllocError, Global};
 /// The most braces that may be open at once.
 pub(crate) const MOST_OPEN: usize = 1000;
 
+/// The text of a form with these options, whose texts are kept.
+fn options_text(
+    alloc: Global,
+    store: &Store,
+    texts: &Texts,
+    nimbers: &[GameId],
+    id: GameId,
+    left: &[GameId],
+    right: &[GameId],
+    limit: usize,
+) -> Result<Vec<u8>, WriteError>
+    requires id { id < length store.now }
+    requires distinct { AreDistinct store.now }
+    requires form { IsOptions store.now id left.now right.now }
+    requires options { HasOptionTexts store.now texts.now.bytes.items (get nat_eq texts.now.spans) id }
+    requires nimbers { AreNimbers store.now nimbers.now }
+    requires among { IsAmong store.now nimbers.now id }
+    ensures text { IfOk result (λ t. t.items ≡ named_text (tree_at store.now id)) }
+    ensures refusal { IfErr result (λ e. IsTooLong (tree_at store.now id) limit e) }
+{
+    let _count = store.len();
+    if let Some(name) = form_name(alloc, store, texts, nimbers, id, left, right)? {
+        return Ok(name);
+    }
+    let text = braces(alloc, texts, left, right)?;
+    if limit < text.len() {
+        return Err(WriteError::Long);
+    }
+    Ok(text)
+}
+
 /// The text of a form of which the options' texts are kept.
-fn form_text(alloc: Global, store: &Store, texts: &Texts, id: GameId) -> Result<Vec<u8>, AllocError>
+fn form_text(
+    alloc: Global,
+    store: &Store,
+    texts: &Texts,
+    nimbers: &[GameId],
+    id: GameId,
+    limit: usize,
+) -> Result<Vec<u8>, WriteError>
     requires id { id < length store.now }
     requires options { HasOptionTexts store.now texts.now.bytes.items (get nat_eq texts.now.spans) id }
-    ensures { IfOk result (λ t. t.items ≡ tree_text (tree_at store.now id)) }
+    requires nimbers { AreNimbers store.now nimbers.now }
+    requires among { IsAmong store.now nimbers.now id }
+    ensures text { IfOk result (λ t. t.items ≡ named_text (tree_at store.now id)) }
+    ensures refusal { IfErr result (λ e. IsTooLong (tree_at store.now id) limit e) }
 {
     match store.node(id) {
         Form::Number(x) => Ok(number_text(alloc, x)?.into_bytes()),
-        Form::Options { left, right } => Ok(braces(alloc, texts, left, right)?),
+        Form::Options { left, right } => {
+            options_text(alloc, store, texts, nimbers, id, left, right, limit)
+        }
     }
 }
 
@@ -40,18 +84,18 @@ fn write_form(
     alloc: Global,
     store: &Store,
     texts: &mut Texts,
+    nimbers: &[GameId],
     id: GameId,
     limit: usize,
 ) -> Result<(), WriteError>
     requires id { id < length store.now }
     requires options { HasOptionTexts store.now texts.old.bytes.items (get nat_eq texts.old.spans) id }
-    ensures added { OnOk result (IsAdded store.now limit id texts.old.bytes.items (get nat_eq texts.old.spans) texts.new.bytes.items (get nat_eq texts.new.spans)) }
+    requires nimbers { AreNimbers store.now nimbers.now }
+    requires among { IsAmong store.now nimbers.now id }
+    ensures added { OnOk result (IsAdded store.now id texts.old.bytes.items (get nat_eq texts.old.spans) texts.new.bytes.items (get nat_eq texts.new.spans)) }
     ensures refusal { IfErr result (λ e. IsTooLong (tree_at store.now id) limit e) }
 {
-    let text = form_text(alloc, store, texts, id)?;
-    if text.len() > limit {
-        return Err(WriteError::Long);
-    }
+    let text = form_text(alloc, store, texts, nimbers, id, limit)?;
     keep(texts, id, &text)?;
     Ok(())
 }
@@ -61,16 +105,18 @@ fn write_all(
     alloc: Global,
     store: &Store,
     texts: &mut Texts,
+    nimbers: &[GameId],
     ids: &[GameId],
     limit: usize,
 ) -> Result<(), WriteError>
     requires distinct { AreDistinct store.now }
     requires closed { AreClosed store.now ids.now }
-    ensures written { OnOk result (AreWritten store.now limit ids.now (length ids.now) texts.new.bytes.items (get nat_eq texts.new.spans)) }
+    requires found { AreFound store.now ids.now (length ids.now) nimbers.now }
+    ensures written { OnOk result (AreWritten store.now ids.now (length ids.now) texts.new.bytes.items (get nat_eq texts.new.spans)) }
     ensures refusal { IfErr result (λ e. (j : ℕ) × (j < length ids.now) × IsTooLong (tree_at store.now (slice_index ids.now j)) limit e) }
 {
     for id in ids {
-        write_form(alloc, store, texts, *id, limit)?;
+        write_form(alloc, store, texts, nimbers, *id, limit)?;
     }
     Ok(())
 }
@@ -89,7 +135,7 @@ fn braces_behind(count: usize, byte: u8) -> usize
 
 /// How deep the braces of a form's text nest.
 fn nesting(text: &[u8]) -> usize
-    ensures { (G : Tree) → text.now ≡ tree_text G → result ≡ depth G }
+    ensures { (G : Tree) → text.now ≡ named_text G → result ≡ named_depth G }
 {
     let mut open = 0;
     let mut deepest = 0;
@@ -100,14 +146,15 @@ fn nesting(text: &[u8]) -> usize
     deepest
 }
 
-/// The text of a form: a number is written in decimal or as a fraction in lowest terms, and any other form as `{`, the
-/// texts of its Left options, `|`, those of its Right options and `}`, on each side in the order of their bytes and with
-/// commas between them. `Long` where it has more than `limit` bytes, and else `Deep` where its braces nest deeper than
-/// 1,000.
+/// The named text of a form: a number is written in decimal or as a fraction in lowest terms, the nimber of 1 as `*` and
+/// that of a greater number as `*` and the number, up as `^`, down as `v`, and the switch of a number above 0 as `+-` and
+/// the number. Any other form is `{`, the named texts of its Left options, `|`, those of its Right options and `}`, on
+/// each side in the order of their bytes and with commas between them. `Long` where it has more than `limit` bytes, and
+/// else `Deep` where its braces nest deeper than 1,000.
 pub fn write(alloc: Global, store: &Store, id: GameId, limit: usize) -> Result<Text, WriteError>
     requires { id < length store.now }
-    ensures text { IfOk result (λ t. t ≡ tree_text (tree_at store.now id)) }
-    ensures within { IfOk result (λ t. (length t ≤ limit) × (depth (tree_at store.now id) ≤ 1000)) }
+    ensures text { IfOk result (λ t. t ≡ named_text (tree_at store.now id)) }
+    ensures within { IfOk result (λ t. (length t ≤ limit) × (named_depth (tree_at store.now id) ≤ 1000)) }
     ensures refusal { IfErr result (λ e. IsWriteRefusal (tree_at store.now id) limit e) }
 {
     let _count = store.len();
@@ -116,8 +163,13 @@ pub fn write(alloc: Global, store: &Store, id: GameId, limit: usize) -> Result<T
         bytes: Vec::new(alloc),
         spans: IndexMap::new(alloc),
     };
-    write_all(alloc, store, &mut texts, &ids, limit)?;
+    let forms: &[GameId] = &ids;
+    let nimbers = nimbers_of(alloc, store, forms)?;
+    write_all(alloc, store, &mut texts, &nimbers, forms, limit)?;
     let text = text_of(&texts, id);
+    if text.len() > limit {
+        return Err(WriteError::Long);
+    }
     if nesting(text) > MOST_OPEN {
         return Err(WriteError::Deep);
     }

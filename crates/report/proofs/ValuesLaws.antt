@@ -7,14 +7,13 @@ use Rattle.go_grid.specs.Region.{Shape}
 use Rattle.region_cut.specs.Cut.{lowest}
 use Rattle.game_store.specs.Tree.{Tree}
 use Rattle.game_store.specs.Meaning.{tree_at}
-use Rattle.game_store.specs.TextOrder.{tree_text}
 use Rattle.endgame_solver.specs.Regions.{region_at, no_region}
 use Rattle.endgame_solver.specs.Solved.{IsReport}
 use Rattle.endgame_solver.specs.declared.solved.RegionReport.{RegionReport}
 use Rattle.report.specs.Lines.{word_line}
 use Rattle.report.specs.Solution.{count_line, solved_line}
 use Rattle.report.specs.Thermographs.{picture_lines}
-use Rattle.game_text.specs.Depth.{depth}
+use Rattle.game_text.specs.NamedText.{named_text, named_depth}
 use Rattle.thermograph.specs.PastBounds.{IsDrawnPastBounds}
 use Rattle.report.specs.declared.values.ValuesError.{ValuesError}
 use Rattle.report.specs.declared.values.ValuesError.TheVariants.{Form, Memory}
@@ -38,7 +37,7 @@ entries_step c Ts rs i report before now after h lt is more =
     let G = tree_at Ts report.value in
     let e : Entry = record { region = r; positions = report.positions; value = G; picture = more.picture } in
     let entry : IsEntry e = record { counted = is.positions; is_value = is.value.1; shown = more.shown; drawn = more.drawn } in
-    let rest = word_line (codes "value") (tree_text G) ++ picture_lines more.picture in
+    let rest = word_line (codes "value") (named_text G) ++ picture_lines more.picture in
     let are = entries_more (take i rs) h.entries r e h.are refl entry in
     let last : after ≡ now ++ entry_lines c e =
     more.lines ∙ ap (λ p. now ++ (solved_line c p report.points report.positions ++ rest)) is.lowest_point
@@ -83,7 +82,7 @@ pub values_is : (c : ℕ) (rs : List Shape) (a b : List ℕ) → a ≡ count_lin
 values_is c rs a b first lines = record { entries = lines.entries; are = lines.are; is = lines.lines ∙ ap (λ t. t ++ flat_map (entry_lines c) lines.entries) first }
 
 -- a value whose text and thermograph are within the limits is shown
-pub none_unshown : (G : Tree) (text : List ℕ) → text ≡ tree_text G → (length text ≤ 65536) × (depth G ≤ 1000) → (IsDrawnPastBounds G → ⊥) → IsUnshown G → ⊥
+pub none_unshown : (G : Tree) (text : List ℕ) → text ≡ named_text G → (length text ≤ 65536) × (named_depth G ≤ 1000) → (IsDrawnPastBounds G → ⊥) → IsUnshown G → ⊥
 none_unshown G text is few within (inl past) = within past
 none_unshown G text is few within (inr (inl long)) = let e = ap length is in omega (arith, e, few.0, long)
 none_unshown G text is few within (inr (inr deep)) = omega (arith, few.1, deep)

@@ -2,8 +2,7 @@
 
 ghost use Rattle.std.specs.Prelude.{◌≡◌, ◌<◌, ◌≤◌, ◌*◌, ◌++◌, codes, length, IfOk, IfErr, OnOk, string_bytes};
 ghost use Rattle.game_store.specs.Meaning.{tree_at};
-ghost use Rattle.game_store.specs.TextOrder.{tree_text};
-ghost use Rattle.game_text.specs.Depth.{depth};
+ghost use Rattle.game_text.specs.NamedText.{named_depth, named_text};
 ghost use Rattle.thermograph.specs.PastBounds.{IsDrawnPastBounds};
 ghost use Rattle.report.specs.Solution.{solved_line};
 ghost use Rattle.report.specs.Thermographs.{IsThermograph, picture_lines};
@@ -22,8 +21,8 @@ use std::alloc::{AllocError, Global};
 use thermograph::{ThermoError, Thermograph, draw};
 use thiserror::Error;
 
-/// Why values aren't shown: the value of the region with this lowest point has a text of more than 65,536 bytes, braces
-/// that nest more than 1,000 deep, or a break point past the bounds of a `Dyadic`; or memory is wanting.
+/// Why values aren't shown: the value of the region with this lowest point has a named text of more than 65,536 bytes,
+/// braces in it that nest more than 1,000 deep, or a break point past the bounds of a `Dyadic`; or memory is wanting.
 #[derive(Clone, Copy, Debug, PartialEq, Eq, Error)]
 pub enum ValuesError {
     #[error("a value that isn't shown")]
@@ -57,8 +56,8 @@ fn value_text(
     point: Point,
 ) -> Result<Text, ValuesError>
     requires { value < length store.now }
-    ensures text { IfOk result (λ t. t ≡ tree_text (tree_at store.now value)) }
-    ensures within { IfOk result (λ t. (length t ≤ 65536) × (depth (tree_at store.now value) ≤ 1000)) }
+    ensures text { IfOk result (λ t. t ≡ named_text (tree_at store.now value)) }
+    ensures within { IfOk result (λ t. (length t ≤ 65536) × (named_depth (tree_at store.now value) ≤ 1000)) }
     ensures refusal { IfErr result (IsRefusal (λ p. (p ≡ point) × IsUnshown (tree_at store.now value))) }
 {
     match write(alloc, store, value, 65_536) {

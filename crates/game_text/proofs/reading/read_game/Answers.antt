@@ -7,7 +7,7 @@ use Rattle.game_text.proofs.ReadingGoals.{read-passed_on, opening-refused}
 use Rattle.game_text.proofs.reading.read_game.Goals as goal
 
 pub returns-then-byte-ne123-clause-refusal : goal.returns-then-byte-ne123-clause-refusal
-returns-then-byte-ne123-clause-refusal c = game-stray c.args.store.now c.args.source.now.parts_limit c.args.source.now.text.now c.args.at c.args.pending.now.options.items c.args.pending.now.opens.items c.requires.here c.requires.reading (λ b. true≢false (sym (c.if-is_number_byte.ensures.1 b))) c.if-byte-ne123.true
+returns-then-byte-ne123-clause-refusal c = game-stray c.args.store.now c.args.source.now.parts_limit c.args.source.now.text.now c.args.at c.args.pending.now.options.items c.args.pending.now.opens.items c.requires.here c.requires.reading (λ b. true≢false (sym (c.if-is_number_byte.ensures.1 b))) (λ b. true≢false (sym (c.if-is_name_byte.ensures.1 b))) c.if-byte-ne123.true
 
 pub returns-in_err-open_form-clause-refusal : goal.returns-in_err-open_form-clause-refusal
 returns-in_err-open_form-clause-refusal c = read-passed_on c.from_residual.result _ (IsReadRefusal c.args.source.now.parts_limit c.args.source.now.text.now) (err_from_is_err_and c.from_residual.result c.from_residual.ensures.1)

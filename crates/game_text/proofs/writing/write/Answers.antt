@@ -7,9 +7,12 @@ use Rattle.game_text.specs.Refusals.{IsWriteRefusal}
 use Rattle.game_text.proofs.WritingSteps.{passed-on, all-too_long}
 use Rattle.game_text.proofs.writing.write.Goals as goal
 
+pub nimbers_of-requires-clause-closed : goal.nimbers_of-requires-clause-closed
+nimbers_of-requires-clause-closed c = reachable-closed c.args.store.now _ c.deref-forms.result.now (subst (AreReachable c.args.store.now (tree_at c.args.store.now c.args.id)) (sym c.deref-forms.ensures) c.in_ok-ids.ensures)
+
 pub write_all-requires-clause-closed : goal.write_all-requires-clause-closed
-write_all-requires-clause-closed c = reachable-closed c.args.store.now _ c.deref.result.now (subst (AreReachable c.args.store.now (tree_at c.args.store.now c.args.id)) (sym c.deref.ensures) c.in_ok-ids.ensures)
+write_all-requires-clause-closed c = reachable-closed c.args.store.now _ c.deref-forms.result.now (subst (AreReachable c.args.store.now (tree_at c.args.store.now c.args.id)) (sym c.deref-forms.ensures) c.in_ok-ids.ensures)
 
 pub returns-in_err-write_all-clause-refusal : goal.returns-in_err-write_all-clause-refusal
 returns-in_err-write_all-clause-refusal c = passed-on c.from_residual-in_err-write_all.result _ (IsWriteRefusal (tree_at c.args.store.now c.args.id) c.args.limit) (err_from_is_err_and c.from_residual-in_err-write_all.result c.from_residual-in_err-write_all.ensures.1)
-    (all-too_long c.args.store.now (tree_at c.args.store.now c.args.id) c.deref.result.now c.args.limit _ (subst (AreReachable c.args.store.now (tree_at c.args.store.now c.args.id)) (sym c.deref.ensures) c.in_ok-ids.ensures) c.in_err-write_all.ensures.refusal)
+    (all-too_long c.args.store.now (tree_at c.args.store.now c.args.id) c.deref-forms.result.now c.args.limit _ (subst (AreReachable c.args.store.now (tree_at c.args.store.now c.args.id)) (sym c.deref-forms.ensures) c.in_ok-ids.ensures) c.in_err-write_all.ensures.refusal)

@@ -4,4 +4,4 @@ use Rattle.game_text.specs.Written.{AreWritten}
 use Rattle.game_text.proofs.writing.write_all.Given as goal
 
 abbrev pub invariant-loop-id : goal.invariant-loop-id
-invariant-loop-id l = AreWritten l.store l.fn.limit l.ids l.id-index l.texts.bytes.items (get nat_eq l.texts.spans)
+invariant-loop-id l = AreWritten l.store l.ids l.id-index l.texts.bytes.items (get nat_eq l.texts.spans)

@@ -1,0 +1,10 @@
+use Rattle.std.proofs.Common.{arith}
+use Rattle.game_text.proofs.NimberParts.{nimber-cause}
+use Rattle.game_text.proofs.NameReading.{nimber-taken}
+use Rattle.game_text.proofs.named_games.taken_nimber.Goals as goal
+
+pub returns-then-number-from-clause-refusal : goal.returns-then-number-from-clause-refusal
+returns-then-number-from-clause-refusal c = nimber-cause c.args.number c.args.parts_limit c.requires (omega (arith, c.if-number-from.true, c.from.ensures))
+
+pub returns-clause-taken : goal.returns-clause-taken
+returns-clause-taken c = nimber-taken c.built_nimber.new.store c.args.parts_limit c.args.number c.in_ok-id.id c.requires (omega (arith, c.if-number-from.false, c.from.ensures)) c.in_ok-id.ensures.value
