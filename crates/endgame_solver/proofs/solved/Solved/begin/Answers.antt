@@ -23,6 +23,14 @@ pub returns-in_err-places-clause-steps : goal.returns-in_err-places-clause-steps
 returns-in_err-places-clause-steps g c = steps_within c.args.limits.now c.args.setup.now.board c.in_ok-regions.regions.items _ _ c.in_ok-regions.ensures.regions
     (subst (λ rs. c.solve_regions.new.steps ≤ c.args.steps.now + most_steps c.args.limits.now rs) c.deref-2.ensures.value c.solve_regions.ensures.steps)
 
+pub returns-in_err-places-clause-begun : goal.returns-in_err-places-clause-begun
+returns-in_err-places-clause-begun g c =
+    let p = err_from_is_err_and c.from_residual-in_err-places.result c.from_residual-in_err-places.ensures.1 in rw (p.1, p.2) tt
+
+pub returns-in_err-sum-clause-begun : goal.returns-in_err-sum-clause-begun
+returns-in_err-sum-clause-begun g c =
+    let p = err_from_is_err_and c.from_residual-in_err-sum.result c.from_residual-in_err-sum.ensures.1 in rw (p.1, p.2) tt
+
 pub opening_values-requires : goal.opening_values-requires
 opening_values-requires g c = openings_known c.args.limits.now c.deref-2.result.now c.in_ok-book.book c.solve_regions.new.store c.in_ok-book.ensures.solved
 
