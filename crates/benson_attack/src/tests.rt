@@ -54,7 +54,7 @@ fn replayed(board: &mut Board, stone: Point, placings: &[Point]) -> Outcome {
 }
 
 /// The outcome of the attack on the black stone at a point.
-fn outcome(board: &mut Board, stone: Point) -> Result<Outcome, AllocError> {
+fn attacked(board: &mut Board, stone: Point) -> Result<Outcome, AllocError> {
     if stone.0 >= board.size().area()
         || !board.get(stone).is(Cell::Black)
         || board.unsettled()?.is_some()
@@ -84,7 +84,7 @@ fn attacks(rt: HostRuntime) -> Result<(), AllocError> {
     ];
     for (columns, height, drawing, stone, want) in rows {
         let mut board = board(alloc, columns, height, drawing)?;
-        assert!(rt; outcome(&mut board, Point(stone))? == want);
+        assert!(rt; attacked(&mut board, Point(stone))? == want);
     }
     Ok(())
 }
