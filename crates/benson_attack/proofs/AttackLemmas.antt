@@ -1,5 +1,5 @@
 -- Attacks on a stone of either colour, and why no stone that lives without answers has one.
-use Rattle.std.proofs.Common.{◌≡◌, ℕ, List, [], refl, sym, subst}
+use Rattle.std.proofs.Common.{◌≡◌, ℕ, List, refl, subst}
 use Rattle.go_grid.specs.declared.grid.Colour.{Colour}
 use Rattle.go_grid.specs.declared.grid.Colour.TheVariants as colour
 use Rattle.go_grid.specs.Chain.{IsSettled}
@@ -13,10 +13,6 @@ use Rattle.benson_attack.specs.Attack.{IsAttack, Takes}
 twice : (c : Colour) → other (other c) ≡ c
 twice colour.Black = refl
 twice colour.White = refl
-
-pub other_side : (g : Grid) (c d : Colour) (s : ℕ) → d ≡ other c → HasStone g c s → HasStone g (other d) s
-other_side g c d s e at =
-    subst (λ x. HasStone g (other x) s) (sym e) (subst (λ x. HasStone g x s) (sym (twice c)) at)
 
 attack_of : (g : Grid) (c : Colour) (s : ℕ) (ps : List ℕ) → HasStone g c s → Takes g (other c) s ps → IsAttack g c s ps
 attack_of g c s ps at t =
@@ -39,9 +35,3 @@ not_alive g c d s ps settled e at t b alive =
     let there = alive.1.stones s alive.2 in
     let a = attack_on g c d s ps e at t b there in
     a.gone (healthy_stands g b alive.0 settled alive.1 s alive.2 ps a.left a.legal)
-
-pub alive_on : (g : Grid) (c d : Colour) (s : ℕ) → d ≡ other c → HasStone g c s → IsAlive g (other d) s
-    → (b : Colour) → HasStone g b s → IsAlive g b s
-alive_on g c d s e at alive b there =
-    subst (λ x. IsAlive g x s) (one_colour g c b s at there)
-    (subst (λ x. IsAlive g x s) (twice c) (subst (λ x. IsAlive g (other x) s) e alive))

@@ -1,14 +1,13 @@
 -- Each placing leaves more stones of its colour on the board.
-use Rattle.std.proofs.Common.{◌≡◌, ℕ, ◌+◌, ◌-◌, ◌≤◌, ◌<◌, List, [], ◌∷◌, suc, zero, inl, inr, Bool, true, false, length, get_or, set, refl, sym, ap, ◌∙◌, arith, cond}
+use Rattle.std.proofs.Common.{◌≡◌, ℕ, ◌+◌, ◌-◌, ◌≤◌, ◌<◌, List, [], ◌∷◌, suc, inl, inr, Bool, true, false, length, get_or, set, refl, sym, ap, ◌∙◌, arith, cond}
 use Rattle.std.specs.List.{count_by}
 use Rattle.std.proofs.lemmas.Bool.{cases_Bool}
-use Rattle.std.proofs.lemmas.List.{length-set}
 use Rattle.std.proofs.lemmas.List.Sums.{count_by-le-length, sum_by-set, sum_by-cons}
 use Rattle.go_grid.specs.declared.grid.Cell.{Cell}
 use Rattle.go_grid.specs.declared.grid.Cell.TheVariants as cell
 use Rattle.go_grid.specs.declared.grid.Colour.{Colour}
 use Rattle.go_grid.specs.declared.grid.Colour.TheVariants as colour
-use Rattle.go_grid.specs.Grid.{Grid, stone, other, cell_at}
+use Rattle.go_grid.specs.Grid.{Grid, stone, cell_at}
 use Rattle.go_play.specs.Place.{with_stone, IsPlaced}
 use Rattle.benson_life.proofs.StandLemmas.{not_both}
 use Rattle.benson_attack.specs.Reached.{is_of, number_of}

@@ -1,16 +1,16 @@
 -- Placings that are legal since another point of the region stays empty, or since the last liberty of a chain is filled.
-use Rattle.std.proofs.Common.{◌≡◌, ◌≢◌, ℕ, ◌<◌, ◌⊎◌, inl, inr, length, refl, sym, ap, ◌∙◌}
+use Rattle.std.proofs.Common.{◌≡◌, ◌≢◌, ℕ, ◌<◌, ◌⊎◌, inl, inr, length, sym, ap, ◌∙◌}
 use Rattle.std.proofs.lemmas.Bool.{cases_eq}
 use Rattle.std.proofs.lemmas.List.{length-set, get_or-set_same, get_or-set_other}
 use Rattle.go_grid.specs.declared.grid.Cell.TheVariants as cell
 use Rattle.go_grid.specs.declared.grid.Colour.{Colour}
-use Rattle.go_grid.specs.Grid.{Grid, NextTo, HasStone, IsEmpty, Lacks, cell_at, stone, other}
+use Rattle.go_grid.specs.Grid.{Grid, HasStone, IsEmpty, Lacks, cell_at, stone, other}
 use Rattle.go_grid.specs.Chain.{InChain, IsLiberty, HasLiberty}
 use Rattle.go_grid.proofs.NearLemmas.{next_back}
 use Rattle.go_grid.proofs.WalkLemmas.{joined_here, joined_step, joined_start, joined_join, joined_back, joined_more, carried}
 use Rattle.go_play.specs.Place.{with_stone, IsPlaced, IsTaken, IsWithout}
 use Rattle.benson_life.specs.Life.{InRegion}
-use Rattle.benson_life.proofs.StandLemmas.{stone_or_not, empty_or_other, empty_not_stone, not_both}
+use Rattle.benson_life.proofs.StandLemmas.{empty_or_other, empty_not_stone, not_both}
 
 -- the board with a stone of `d` more at the empty point `p`, and `m` is that board without what the stone takes
 module _ (h : Grid) (d : Colour) (p : ℕ) (m : Grid) (free : IsEmpty h p)

@@ -1,8 +1,7 @@
 -- What placings at liberties of chains under attack keep, and why two of them that are refused are two eyes.
-use Rattle.std.proofs.Common.{◌≡◌, ◌≢◌, ℕ, ◌<◌, ◌⊎◌, inl, inr, List, [], ◌∷◌, ◌++◌, length, refl, sym, ap, ◌∙◌, subst}
+use Rattle.std.proofs.Common.{◌≡◌, ◌≢◌, ℕ, ◌<◌, inl, inr, List, [], ◌∷◌, ◌++◌, length, refl, sym, ◌∙◌, subst}
 use Rattle.std.proofs.lemmas.Bool.{cases_eq}
-use Rattle.std.proofs.lemmas.List.{length-set, get_or-set_same, get_or-set_other}
-use Rattle.go_grid.specs.declared.grid.Cell.{Cell}
+use Rattle.std.proofs.lemmas.List.{length-set, get_or-set_other}
 use Rattle.go_grid.specs.declared.grid.Cell.TheVariants as cell
 use Rattle.go_grid.specs.declared.grid.Colour.{Colour}
 use Rattle.go_grid.specs.Grid.{Grid, NextTo, HasStone, IsEmpty, Lacks, cell_at, stone, other}
@@ -11,10 +10,10 @@ use Rattle.go_grid.specs.Chain.{InChain, IsLiberty, HasLiberty, IsSettled}
 use Rattle.go_grid.proofs.NearLemmas.{next_back}
 use Rattle.go_grid.proofs.WalkLemmas.{joined_here, joined_step, joined_start, joined_end, joined_join, joined_back, joined_more}
 use Rattle.go_play.specs.Place.{with_stone, IsPlaced, IsTaken, IsSuicide, Placings}
-use Rattle.benson_life.specs.Life.{InRegion, IsVital, IsWalledBy, IsEye, HasTwoEyes}
-use Rattle.benson_life.proofs.StandLemmas.{stone_or_not, empty_or_other, empty_not_stone, not_both, joined_along}
+use Rattle.benson_life.specs.Life.{InRegion, IsVital, IsEye, HasTwoEyes}
+use Rattle.benson_life.proofs.StandLemmas.{stone_or_not, empty_or_other, empty_not_stone, joined_along}
 use Rattle.benson_attack.specs.Reached.{IsReached}
-use Rattle.benson_attack.proofs.LegalLemmas.{room, captures, new_stone, stays_as, stays_empty, stays_own, with_other, had_liberty, still, stood_earlier}
+use Rattle.benson_attack.proofs.LegalLemmas.{room, stays_empty, with_other, had_liberty, still, stood_earlier}
 
 module _ (g : Grid) (d : Colour) (Under : ℕ → Type 0) (h : Grid) (w : IsReached g d Under h) where
   -- a chain was the same stones or more

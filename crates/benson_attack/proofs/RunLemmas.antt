@@ -1,16 +1,16 @@
 -- Runs: what an attack on one stone keeps, and how it ends.
-use Rattle.std.proofs.Common.{◌≡◌, ◌≢◌, ℕ, ◌≤◌, ◌<◌, ◌+◌, ◌⊎◌, ◌↔◌, inl, inr, suc, zero, List, [], ◌∷◌, ◌++◌, Bool, true, false, length, refl, sym, ap, ◌∙◌, subst, arith}
+use Rattle.std.proofs.Common.{◌≡◌, ◌≢◌, ℕ, ◌<◌, ◌+◌, ◌⊎◌, ◌↔◌, inl, inr, suc, zero, List, [], ◌∷◌, ◌++◌, Bool, true, false, length, refl, sym, ap, ◌∙◌, subst, arith}
 use Rattle.std.specs.List.{Contains}
 use Rattle.std.proofs.lemmas.Bool.{cases_eq}
 use Rattle.go_grid.specs.declared.grid.Colour.{Colour}
 use Rattle.go_grid.specs.Grid.{Grid, HasStone, other}
 use Rattle.go_grid.specs.Chain.{InChain, IsLiberty, HasLiberty, IsSettled}
-use Rattle.go_grid.specs.Marks.{IsMarked, Marks}
+use Rattle.go_grid.specs.Marks.{Marks}
 use Rattle.go_grid.proofs.PointsLemmas.{some_list}
 use Rattle.go_play.specs.Place.{IsPlaced, IsSuicide, Placings}
-use Rattle.benson_life.specs.Life.{HasTwoEyes, IsEye, IsAlive, IsHealthy}
+use Rattle.benson_life.specs.Life.{HasTwoEyes, IsEye, IsHealthy}
 use Rattle.benson_attack.specs.declared.captures.Run.{Run}
-use Rattle.benson_attack.specs.Reached.{IsReached, IsRun, IsAtRest, HasRefusals, Follows, Captures, IsPressed, AllAlive, number_of}
+use Rattle.benson_attack.specs.Reached.{IsReached, IsAtRest, HasRefusals, Follows, Captures, IsPressed, AllAlive, number_of}
 use Rattle.benson_attack.proofs.LegalLemmas.{captures, long, stood_earlier}
 use Rattle.benson_attack.proofs.ReachLemmas.{refused_eyes, reached_first, reached_under, reached_over, reached_next, placings_more}
 use Rattle.benson_attack.proofs.CountLemmas.{rises}
