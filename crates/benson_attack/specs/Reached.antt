@@ -1,5 +1,6 @@
 -- What placings of one colour at liberties of chains of the other reach, one chain after the other.
-use Rattle.std.specs.Prelude.{◌≡◌, ◌≢◌, ℕ, ◌<◌, ◌≤◌, ◌⊎◌, Bool, true, false, Option, None, Some, length, count_by}
+use Rattle.std.specs.Prelude.{◌≡◌, ◌≢◌, ℕ, ◌<◌, ◌≤◌, ◌⊎◌, Bool, true, false, Option, None, Some, length}
+use Rattle.std.specs.Prelude.{count_by}
 use Rattle.go_grid.specs.declared.grid.Cell.{Cell}
 use Rattle.go_grid.specs.declared.grid.Cell.TheVariants as cell
 use Rattle.go_grid.specs.declared.grid.Colour.{Colour}
@@ -10,8 +11,9 @@ use Rattle.go_play.specs.Place.{IsPlaced, IsSuicide, Placings}
 use Rattle.benson_life.specs.Life.{HasTwoEyes, IsAlive}
 use Rattle.benson_attack.specs.declared.captures.Run.{Run}
 
--- On `h`, which placings of the colour reach from `g`, chains of the other colour stand whole or are empty points, and
--- each point that was filled is next to a point of a chain that was taken, or of one of `Under`, which are under attack.
+-- On `h`, which placings of the colour reach from `g`, chains of the other colour stand whole or are
+-- empty points. Each point that was filled is next to a point of a chain that was taken, or that is in
+-- `Under`: those are under attack.
 pub record IsReached (g : Grid) (d : Colour) (Under : ℕ → Type 0) (h : Grid) : Type 0 where
   pub columns : h.columns ≡ g.columns
   pub long : length h.cells ≡ length g.cells
@@ -66,7 +68,8 @@ pub record Follows (d : Colour) (old new : Run) : Type 0 where
 -- the stone is taken, or it has two eyes among the stones that stood
 abbrev pub Captures : Colour → ℕ → Run → Run → Bool → Type 0
 Captures d v old new true = Follows d old new
-Captures d v old new false = (g : Grid) → IsAtRest g d old → HasTwoEyes g (other d) (HasStone old.board (other d)) v
+Captures d v old new false = (g : Grid) → IsAtRest g d old
+    → HasTwoEyes g (other d) (HasStone old.board (other d)) v
 
 -- an attack on the stone at `v` is under way
 pub record IsPressed (d : Colour) (v : ℕ) (old now : Run) : Type 0 where
@@ -78,4 +81,5 @@ pub record IsPressed (d : Colour) (v : ℕ) (old now : Run) : Type 0 where
 
 -- each stone of the other colour that stands lives without answers on the first board
 abbrev pub AllAlive : Colour → Run → Type 0
-AllAlive d run = (g : Grid) → IsAtRest g d run → (q : ℕ) → HasStone run.board (other d) q → IsAlive g (other d) q
+AllAlive d run = (g : Grid) → IsAtRest g d run → (q : ℕ) → HasStone run.board (other d) q
+    → IsAlive g (other d) q

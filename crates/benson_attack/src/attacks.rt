@@ -38,15 +38,17 @@ fn taking(
     Ok(run.placings)
 }
 
-/// An attack on the stone at a point: legal placings of the other colour, none of them answered, after which the point
-/// holds no stone of its colour. `Alive` exactly where the stone lives without answers (Benson 1976).
+/// An attack on the stone at a point: legal placings of the other colour, none of them answered, after
+/// which the point holds no stone of its colour. `Alive` exactly where the stone lives without answers
+/// (Benson 1976).
 pub fn attack(alloc: Global, board: &Board, stone: Point) -> Result<Vec<Point>, AttackError>
     requires settled { IsSettled board.now }
     requires stone { StoneAt board.now stone }
     ensures attack { IfOk result (λ placings. (c : Colour) → HasStone board.now c stone
         → IsAttack board.now c stone placings.items) }
     ensures open { IfOk result (λ _. (c : Colour) → ¬ IsAlive board.now c stone) }
-    ensures alive { result ≡ Err Alive → (c : Colour) → HasStone board.now c stone → IsAlive board.now c stone }
+    ensures alive { result ≡ Err Alive → (c : Colour) → HasStone board.now c stone
+        → IsAlive board.now c stone }
 {
     match board.colour_at(stone) {
         Some(colour) => taking(alloc, board, stone, colour.other()),

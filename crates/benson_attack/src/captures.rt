@@ -20,7 +20,8 @@ pub(crate) struct Run {
 impl Run {
     /// The same run once more.
     fn copy(&self) -> Result<Run, AllocError>
-        ensures { IfOk result (λ run. (run.board ≡ self.now.board) × (run.placings.items ≡ self.now.placings.items)) }
+        ensures { IfOk result (λ run. (run.board ≡ self.now.board)
+            × (run.placings.items ≡ self.now.placings.items)) }
     {
         Ok(Run {
             board: self.board.copy()?,
@@ -64,8 +65,8 @@ fn press(board: &mut Board, victim: Point, colour: Colour) -> Option<Point>
     None
 }
 
-/// Places at liberties of the victim's chain until it is taken, or until no such placing is legal. Tells whether it
-/// was taken.
+/// Places at liberties of the victim's chain until it is taken, or until no such placing is legal.
+/// Tells whether it was taken.
 fn capture(run: &mut Run, victim: Point, colour: Colour) -> Result<bool, AllocError>
     requires { HasStone run.old.board (other colour) victim }
     ensures { IfOk result (Captures colour victim run.old run.new) }
@@ -79,10 +80,11 @@ fn capture(run: &mut Run, victim: Point, colour: Colour) -> Result<bool, AllocEr
     Ok(true)
 }
 
-/// The run after the capture of the first chain that can be captured, or `None` where there is none: then each
-/// stone of the other colour that stands lives without answers.
+/// The run after the capture of the first chain that can be captured, or `None` where there is none:
+/// then each stone of the other colour that stands lives without answers.
 pub(crate) fn advance(run: &Run, colour: Colour) -> Result<Option<Run>, AllocError>
-    ensures { IfOk result (λ next. MatchOption next (AllAlive colour run.now) (Follows colour run.now)) }
+    ensures { IfOk result (λ next. MatchOption next (AllAlive colour run.now)
+        (Follows colour run.now)) }
 {
     let victims = run.board.stones(colour.other());
     for number in 0..run.board.size().area() {

@@ -1,4 +1,5 @@
-//! Attacks on stones that don't live without answers: placings that nobody answers and that take them off the board.
+//! Attacks on stones that don't live without answers: placings that nobody answers and that take them
+//! off the board.
 #![tactic(auto)]
 
 mod attacks;

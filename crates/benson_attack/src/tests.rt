@@ -1,4 +1,5 @@
-//! Attacks on worked boards, drawn row by row with X for black and O for white, replayed placing by placing.
+//! Attacks on worked boards, drawn row by row with X for black and O for white, replayed placing by
+//! placing.
 
 use crate::{AttackError, attack};
 use go_grid::{Board, Cell, Colour, Point, Size};
