@@ -1,0 +1,37 @@
+-- Attacks on a stone of either colour, and why no stone that lives without answers has one.
+use Rattle.std.proofs.Common.{◌≡◌, ℕ, List, refl, subst}
+use Rattle.go_grid.specs.declared.grid.Colour.{Colour}
+use Rattle.go_grid.specs.declared.grid.Colour.TheVariants as colour
+use Rattle.go_grid.specs.Chain.{IsSettled}
+use Rattle.go_grid.specs.Grid.{Grid, HasStone, other}
+use Rattle.go_grid.proofs.GridLemmas.{one_colour}
+use Rattle.go_play.specs.Place.{Placings}
+use Rattle.benson_life.specs.Life.{IsAlive}
+use Rattle.benson_life.proofs.StandLemmas.{healthy_stands}
+use Rattle.benson_attack.specs.Attack.{IsAttack, Takes}
+
+twice : (c : Colour) → other (other c) ≡ c
+twice colour.Black = refl
+twice colour.White = refl
+
+attack_of : (g : Grid) (c : Colour) (s : ℕ) (ps : List ℕ) → HasStone g c s → Takes g (other c) s ps → IsAttack g c s ps
+attack_of g c s ps at t =
+    let gone : ¬ HasStone t.0 c s = subst (λ x. ¬ HasStone t.0 x s) (twice c) t.2 in record {
+      some = λ e. gone (subst (λ x. HasStone x c s) (subst (λ x. Placings (other c) g x t.0) e t.1) at);
+      left = t.0;
+      legal = t.1;
+      gone = gone;
+    }
+
+pub attack_on : (g : Grid) (c d : Colour) (s : ℕ) (ps : List ℕ) → d ≡ other c → HasStone g c s → Takes g d s ps
+    → (b : Colour) → HasStone g b s → IsAttack g b s ps
+attack_on g c d s ps e at t b there =
+    subst (λ x. IsAttack g x s ps) (one_colour g c b s at there)
+    (attack_of g c s ps at (subst (λ x. Takes g x s ps) e t))
+
+pub not_alive : (g : Grid) (c d : Colour) (s : ℕ) (ps : List ℕ) → IsSettled g → d ≡ other c → HasStone g c s → Takes g d s ps
+    → (b : Colour) → ¬ IsAlive g b s
+not_alive g c d s ps settled e at t b alive =
+    let there = alive.1.stones s alive.2 in
+    let a = attack_on g c d s ps e at t b there in
+    a.gone (healthy_stands g b alive.0 settled alive.1 s alive.2 ps a.left a.legal)

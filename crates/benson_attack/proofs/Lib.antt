@@ -1,0 +1,5 @@
+pub mod LegalLemmas
+pub mod ReachLemmas
+pub mod CountLemmas
+pub mod RunLemmas
+pub mod AttackLemmas

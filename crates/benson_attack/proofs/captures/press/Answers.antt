@@ -1,0 +1,38 @@
+use Rattle.std.proofs.Common.{◌∙◌, subst, arith}
+use Rattle.std.proofs.lemmas.Bool.{both_ways, OnFalse_at}
+use Rattle.go_grid.specs.Chain.{IsLiberty}
+use Rattle.go_grid.specs.Marks.{Marks}
+use Rattle.go_play.specs.Place.{IsSuicide}
+use Rattle.benson_attack.proofs.RunLemmas.{two_refused, refused_more}
+use Rattle.benson_attack.proofs.captures.press.Goals as goal
+use Rattle.benson_attack.proofs.captures.press.Goals.{else-contains-via-then-contains+else-try_place, else-contains-via-else-contains}
+
+pub loop-number-preserved : goal.loop-number-preserved
+loop-number-preserved c =
+    let g = c.args.board.now in
+    let d = c.args.colour in
+    let v = c.args.victim in
+    let n = c.loop-number.number in
+    let below = c.loop-number.invariant in
+    let marks = subst (λ k. Marks c.liberties-liberties.result (IsLiberty g k v)) c.other.ensures c.liberties-liberties.ensures in
+    elim c.else-contains.branch [
+      | else-contains-via-then-contains+else-try_place w ↦
+          let tried = OnFalse_at w.if-try_place.false w.try_place.ensures.refused in (
+            w.board-is ∙ tried.0 ∙ below.0,
+            refused_more g d v n below.1 (λ _. subst (λ b. IsSuicide b n d) below.0 tried.1),
+          )
+      | else-contains-via-else-contains w ↦ (
+        w.board-is ∙ below.0,
+        refused_more g d v n below.1 (λ l. absurd (both_ways _ w.if-contains.false (c.contains.ensures.1 ((marks n).1 l)))),
+      )
+    ]
+
+pub returns : goal.returns
+returns c =
+    let g = c.args.board.now in
+    let v = c.args.victim in
+    let marks = subst (λ k. Marks c.liberties-liberties.result (IsLiberty g k v)) c.other.ensures c.liberties-liberties.ensures in (
+      c.loop-number.invariant.0,
+      two_refused g c.args.colour v c.liberties-liberties.result marks (λ p l. c.loop-number.invariant.1 p
+          (omega (arith, c.loop-number-test.false, c.area-number-end.ensures.value, c.size.ensures.area, l.0.0)) l),
+    )

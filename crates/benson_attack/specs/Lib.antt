@@ -1,0 +1,2 @@
+pub mod Attack
+pub mod Reached
