@@ -235,7 +235,7 @@ def signs(board, lines):
     drawn = {point: '.' for point in board.points()}
     told = {'chain': [], 'counted': [], 'region': []}
     for label, *words in map(str.split, lines):
-        told[label].append(words)
+        told.setdefault(label, []).append(words)
     lows = []
     for name, colour, _, number, life in told['chain']:
         chain = board.chain(board.point(name))

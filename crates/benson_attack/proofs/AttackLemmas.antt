@@ -10,13 +10,14 @@ use Rattle.benson_life.specs.Life.{IsAlive}
 use Rattle.benson_life.proofs.StandLemmas.{healthy_stands}
 use Rattle.benson_attack.specs.Attack.{IsAttack, Takes}
 
-twice : (c : Colour) → other (other c) ≡ c
+pub twice : (c : Colour) → other (other c) ≡ c
 twice colour.Black = refl
 twice colour.White = refl
 
 attack_of : (g : Grid) (c : Colour) (s : ℕ) (ps : List ℕ) → HasStone g c s → Takes g (other c) s ps → IsAttack g c s ps
 attack_of g c s ps at t =
-    let gone : ¬ HasStone t.0 c s = subst (λ x. ¬ HasStone t.0 x s) (twice c) t.2 in record {
+    let gone : ¬ HasStone t.0 c s = subst (λ x. ¬ HasStone t.0 x s) (twice c) t.3 in record {
+      short = t.2;
       some = λ e. gone (subst (λ x. HasStone x c s) (subst (λ x. Placings (other c) g x t.0) e t.1) at);
       left = t.0;
       legal = t.1;

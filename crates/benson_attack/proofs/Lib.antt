@@ -3,3 +3,7 @@ pub mod ReachLemmas
 pub mod CountLemmas
 pub mod RunLemmas
 pub mod AttackLemmas
+pub mod TriedLemmas
+pub mod CampaignLemmas
+pub mod PlacingDecided
+pub mod AliveDecided

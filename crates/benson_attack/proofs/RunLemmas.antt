@@ -1,7 +1,8 @@
 -- Runs: what an attack on one stone keeps, and how it ends.
-use Rattle.std.proofs.Common.{◌≡◌, ◌≢◌, ℕ, ◌<◌, ◌+◌, ◌⊎◌, ◌↔◌, inl, inr, suc, zero, List, [], ◌∷◌, ◌++◌, Bool, true, false, length, refl, sym, ap, ◌∙◌, subst, arith}
+use Rattle.std.proofs.Common.{◌≡◌, ◌≢◌, ℕ, ◌<◌, ◌≤◌, ◌+◌, ◌⊎◌, ◌↔◌, inl, inr, suc, zero, List, [], ◌∷◌, ◌++◌, Bool, true, false, length, refl, sym, ap, ◌∙◌, subst, arith}
 use Rattle.std.specs.List.{Contains}
 use Rattle.std.proofs.lemmas.Bool.{cases_eq}
+use Rattle.std.proofs.lemmas.List.{length-append}
 use Rattle.go_grid.specs.declared.grid.Colour.{Colour}
 use Rattle.go_grid.specs.Grid.{Grid, HasStone, other}
 use Rattle.go_grid.specs.Chain.{InChain, IsLiberty, HasLiberty, IsSettled}
@@ -10,18 +11,18 @@ use Rattle.go_grid.proofs.PointsLemmas.{some_list}
 use Rattle.go_play.specs.Place.{IsPlaced, IsSuicide, Placings}
 use Rattle.benson_life.specs.Life.{HasTwoEyes, IsEye, IsHealthy}
 use Rattle.benson_attack.specs.declared.captures.Run.{Run}
-use Rattle.benson_attack.specs.Reached.{IsReached, IsAtRest, HasRefusals, Follows, Captures, IsPressed, AllAlive, number_of}
+use Rattle.benson_attack.specs.Reached.{IsReached, IsAtRest, HasRefusals, Follows, Captures, IsPressed, AllAlive, HasEyes, number_of}
 use Rattle.benson_attack.proofs.LegalLemmas.{captures, long, stood_earlier}
 use Rattle.benson_attack.proofs.ReachLemmas.{refused_eyes, reached_first, reached_under, reached_over, reached_next, placings_more}
 use Rattle.benson_attack.proofs.CountLemmas.{rises}
 
-in_first : (x : ℕ) (xs : List ℕ) → Contains (x ∷ xs) x
+pub in_first : (x : ℕ) (xs : List ℕ) → Contains (x ∷ xs) x
 in_first x xs = (0, omega arith, refl)
 
-in_more : (x : ℕ) (xs : List ℕ) (q : ℕ) → Contains xs q → Contains (x ∷ xs) q
+pub in_more : (x : ℕ) (xs : List ℕ) (q : ℕ) → Contains xs q → Contains (x ∷ xs) q
 in_more x xs q at = (suc at.0, omega (arith, at.1), at.2)
 
-in_either : (x : ℕ) (xs : List ℕ) (q : ℕ) → Contains (x ∷ xs) q → (q ≡ x) ⊎ Contains xs q
+pub in_either : (x : ℕ) (xs : List ℕ) (q : ℕ) → Contains (x ∷ xs) q → (q ≡ x) ⊎ Contains xs q
 in_either x xs q (zero, lt, e) = inl (sym e)
 in_either x xs q (suc i, lt, e) = inr (i, omega (arith, lt), e)
 
@@ -39,39 +40,41 @@ same_or_apart p (x ∷ xs) = elim (cases_eq p x)
     ]
 
 -- where each placing at a liberty is refused, there are two
+pub two_listed : (h : Grid) (d : Colour) (v : ℕ) → ((p : ℕ) → IsLiberty h (other d) v p → IsSuicide h p d) → ¬ ¬ HasLiberty h (other d) v
+    → (points : List ℕ) → ((p : ℕ) → Contains points p ↔ IsLiberty h (other d) v p) → HasRefusals h d v
+two_listed h d v refused some [] each = absurd (some (λ l. omega (arith, ((each l.0).1 l.1).1)))
+two_listed h d v refused some (p ∷ points) each =
+    let l = (each p).0 (in_first p points) in
+    elim (same_or_apart p points) as (λ _. HasRefusals h d v) [
+      | inl all ↦
+          let r = refused p l in
+          absurd (r.2 (captures h d p r.0 l.0 r.1 v l (λ q k. elim (in_either p points q ((each q).1 k)) as (λ _. q ≡ p) [
+            | inl e ↦ e
+            | inr at ↦ all q at
+          ])))
+      | inr t ↦
+          let k = (each t.0).0 (in_more p points t.0 t.1) in
+          record {
+            one = p;
+            two = t.0;
+            apart = t.2;
+            one_liberty = l;
+            one_refused = refused p l;
+            two_liberty = k;
+            two_refused = refused t.0 k;
+          }
+    ]
+
 pub two_refused : (h : Grid) (d : Colour) (v : ℕ) (liberties : List Bool) → Marks liberties (IsLiberty h (other d) v)
     → ((p : ℕ) → IsLiberty h (other d) v p → IsSuicide h p d) → ¬ ¬ HasLiberty h (other d) v → HasRefusals h d v
 two_refused h d v liberties is refused some =
     let (points, listed) = some_list liberties in
-    go points (λ p. (λ at. (is p).0 ((listed p).0 at), λ l. (listed p).1 ((is p).1 l)))
-  where
-    go : (points : List ℕ) → ((p : ℕ) → Contains points p ↔ IsLiberty h (other d) v p) → HasRefusals h d v
-    go [] each = absurd (some (λ l. omega (arith, ((each l.0).1 l.1).1)))
-    go (p ∷ points) each =
-        let l = (each p).0 (in_first p points) in
-        elim (same_or_apart p points) as (λ _. HasRefusals h d v) [
-          | inl all ↦
-              let r = refused p l in
-              absurd (r.2 (captures h d p r.0 l.0 r.1 v l (λ q k. elim (in_either p points q ((each q).1 k)) as (λ _. q ≡ p) [
-                | inl e ↦ e
-                | inr at ↦ all q at
-              ])))
-          | inr t ↦
-              let k = (each t.0).0 (in_more p points t.0 t.1) in
-              record {
-                one = p;
-                two = t.0;
-                apart = t.2;
-                one_liberty = l;
-                one_refused = refused p l;
-                two_liberty = k;
-                two_refused = refused t.0 k;
-              }
-        ]
+    two_listed h d v refused some points (λ p. (λ at. (is p).0 ((listed p).0 at), λ l. (listed p).1 ((is p).1 l)))
 
 -- the attack begins
 pub pressed_first : (d : Colour) (v : ℕ) (run : Run) → HasStone run.board (other d) v → IsPressed d v run run
 pressed_first d v run s = record {
+  short = λ k. k;
   long = refl;
   goes = λ g w. (reached_under g d run.board (InChain g (other d) v) w.0, w.1);
   fewer = λ q k. k;
@@ -84,6 +87,10 @@ pub pressed_next : (d : Colour) (v : ℕ) (old now new : Run) (p : ℕ) → IsPr
     → IsPlaced now.board p d new.board → new.placings.items ≡ now.placings.items ++ p ∷ [] → IsPressed d v old new
 pressed_next d v old now new p w l placed items =
     let up = rises now.board d p new.board placed in record {
+      short = λ k.
+          let one_more : length new.placings.items ≡ length now.placings.items + 1 = ap length items ∙ length-append now.placings.items (p ∷ []) in
+          let few = w.short k in
+          omega (arith, up, one_more, few);
       long = long now.board d p new.board placed.free placed.without ∙ w.long;
       goes = λ g rest. let run = w.goes g rest in (
         reached_next g d v now.board run.0 p l new.board placed,
@@ -98,12 +105,13 @@ pressed_next d v old now new p w l placed items =
 -- it ends with the stone taken
 pub pressed_taken : (d : Colour) (v : ℕ) (old now : Run) → IsPressed d v old now → ¬ HasStone now.board (other d) v → Follows d old now
 pressed_taken d v old now w gone = record {
+  short = w.short;
   long = w.long;
   goes = λ g rest. let run = w.goes g rest in (reached_over g d v now.board run.0 gone, run.1);
   more = elim w.more as (λ _. number_of d old.board < number_of d now.board) [ inl s ↦ absurd (gone s) | inr lt ↦ lt ];
 }
 
-eyes_wider : (g : Grid) (c : Colour) (In More : ℕ → Type 0) → ((q : ℕ) → In q → More q) → (s : ℕ) → HasTwoEyes g c In s
+pub eyes_wider : (g : Grid) (c : Colour) (In More : ℕ → Type 0) → ((q : ℕ) → In q → More q) → (s : ℕ) → HasTwoEyes g c In s
     → HasTwoEyes g c More s
 eyes_wider g c In More wider s two = (two.0, two.1, eye two.0 two.2, eye two.1 two.3, two.4)
   where
@@ -131,6 +139,7 @@ rest_of_copy g d run copy same items rest = (
 pub follows_copy : (d : Colour) (run copy new : Run) → copy.board ≡ run.board → copy.placings.items ≡ run.placings.items
     → Follows d copy new → Follows d run new
 follows_copy d run copy new same items w = record {
+  short = λ k. w.short (subst (λ b. length copy.placings.items ≤ number_of d b) (sym same) (subst (λ ps. length ps ≤ number_of d run.board) (sym items) k));
   long = w.long ∙ ap (λ b. length b.cells) same;
   goes = λ g rest. w.goes g (rest_of_copy g d run copy same items rest);
   more = subst (λ b. number_of d b < number_of d new.board) same w.more;
@@ -144,32 +153,23 @@ failed_copy d v run copy new true same items w e g rest = cc
 failed_copy d v run copy new false same items w e g rest =
     subst (λ b. HasTwoEyes g (other d) (HasStone b (other d)) v) same (w g (rest_of_copy g d run copy same items rest))
 
-pub eyes_more : (d : Colour) (run : Run) (n : ℕ)
-    → ((v : ℕ) → v < n → HasStone run.board (other d) v → (g : Grid) → IsAtRest g d run → HasTwoEyes g (other d) (HasStone run.board (other d)) v)
-    → (HasStone run.board (other d) n → (g : Grid) → IsAtRest g d run → HasTwoEyes g (other d) (HasStone run.board (other d)) n)
-    → (v : ℕ) → v < n + 1 → HasStone run.board (other d) v → (g : Grid) → IsAtRest g d run
-    → HasTwoEyes g (other d) (HasStone run.board (other d)) v
-eyes_more d run n below now v lt s g rest = elim (cases_eq v n) as (λ _. HasTwoEyes g (other d) (HasStone run.board (other d)) v) [
-  | inl e ↦ subst (λ x. HasTwoEyes g (other d) (HasStone run.board (other d)) x) (sym e)
-      (now (subst (λ x. HasStone run.board (other d) x) e s) g rest)
-  | inr ne ↦ below v (omega (arith, lt, ne)) s g rest
-]
-
 -- stones that all have two eyes are a healthy list
-pub alive_all : (d : Colour) (run : Run) (victims : List Bool) → Marks victims (HasStone run.board (other d))
-    → ((v : ℕ) → HasStone run.board (other d) v → (g : Grid) → IsAtRest g d run
-    → HasTwoEyes g (other d) (HasStone run.board (other d)) v)
-    → AllAlive d run
-alive_all d run victims is eyes g rest q s =
+pub healthy_all : (g : Grid) (d : Colour) (h : Grid) → IsReached g d (λ _. ⊥) h
+    → ((v : ℕ) → HasStone h (other d) v → HasTwoEyes g (other d) (HasStone h (other d)) v)
+    → (points : List ℕ) → ((p : ℕ) → Contains points p ↔ HasStone h (other d) p) → IsHealthy g (other d) points
+healthy_all g d h w eyes points each = record {
+  stones = λ x at. w.stood x ((each x).0 at);
+  whole = λ x y at j. (each y).1 (w.whole x y j ((each x).0 at));
+  eyes = λ x at. eyes_wider g (other d) (HasStone h (other d)) (Contains points) (λ q k. (each q).1 k) x (eyes x ((each x).0 at));
+}
+
+pub alive_all : (d : Colour) (alive : List Bool) (run : Run) (victims : List Bool) → Marks victims (HasStone run.board (other d))
+    → ((v : ℕ) → HasStone run.board (other d) v → HasEyes d alive run v) → AllAlive d alive run
+alive_all d alive run victims is eyes g settled marks rest q s =
     let (points, listed) = some_list victims in
-    let stand : (x : ℕ) → Contains points x → HasStone run.board (other d) x = λ x at. (is x).0 ((listed x).0 at) in
-    let has : (x : ℕ) → HasStone run.board (other d) x → Contains points x = λ x k. (listed x).1 ((is x).1 k) in
-    let healthy : IsHealthy g (other d) points = record {
-      stones = λ x at. rest.0.stood x (stand x at);
-      whole = λ x y at j. has y (rest.0.whole x y j (stand x at));
-      eyes = λ x at. eyes_wider g (other d) (HasStone run.board (other d)) (Contains points) has x (eyes x (stand x at) g rest);
-    } in
-    (points, healthy, has q s)
+    let each : (x : ℕ) → Contains points x ↔ HasStone run.board (other d) x =
+    λ x. (λ at. (is x).0 ((listed x).0 at), λ k. (listed x).1 ((is x).1 k)) in
+    (points, healthy_all g d run.board rest.0 (λ v k. eyes v k g settled marks rest) points each, (each q).1 s)
 
 -- the run before any placing
 pub rest_first : (g : Grid) (d : Colour) (run : Run) → IsSettled g → run.board ≡ g → run.placings.items ≡ [] → IsAtRest g d run

@@ -1,2 +1,3 @@
 pub mod Attack
 pub mod Reached
+pub mod Attacks

@@ -1,12 +1,13 @@
 -- What placings of one colour at liberties of chains of the other reach, one chain after the other.
-use Rattle.std.specs.Prelude.{◌≡◌, ◌≢◌, ℕ, ◌<◌, ◌≤◌, ◌⊎◌, Bool, true, false, Option, None, Some, length}
+use Rattle.std.specs.Prelude.{◌≡◌, ◌≢◌, ℕ, ◌<◌, ◌≤◌, ◌⊎◌, Bool, List, true, false, Option, None, Some, length}
 use Rattle.std.specs.Prelude.{count_by}
 use Rattle.go_grid.specs.declared.grid.Cell.{Cell}
 use Rattle.go_grid.specs.declared.grid.Cell.TheVariants as cell
 use Rattle.go_grid.specs.declared.grid.Colour.{Colour}
 use Rattle.go_grid.specs.declared.grid.Colour.TheVariants as colour
 use Rattle.go_grid.specs.Grid.{Grid, HasStone, IsEmpty, NextTo, other}
-use Rattle.go_grid.specs.Chain.{InChain, IsLiberty, HasLiberty}
+use Rattle.go_grid.specs.Chain.{InChain, IsLiberty, HasLiberty, IsSettled}
+use Rattle.go_grid.specs.Marks.{IsMarked, Marks}
 use Rattle.go_play.specs.Place.{IsPlaced, IsSuicide, Placings}
 use Rattle.benson_life.specs.Life.{HasTwoEyes, IsAlive}
 use Rattle.benson_attack.specs.declared.captures.Run.{Run}
@@ -59,27 +60,44 @@ abbrev pub Presses : Colour → ℕ → Grid → Grid → Option ℕ → Type 0
 Presses d v g h None = (h ≡ g) × (¬ ¬ HasLiberty g (other d) v → HasRefusals g d v)
 Presses d v g h (Some p) = IsLiberty g (other d) v p × IsPlaced g p d h
 
+-- the run has no more placings than the colour has stones on its board
+abbrev pub IsShort : Colour → Run → Type 0
+IsShort d run = length run.placings.items ≤ number_of d run.board
+
 -- `new` is the run `old` with placings more
 pub record Follows (d : Colour) (old new : Run) : Type 0 where
+  pub short : IsShort d old → IsShort d new
   pub long : length new.board.cells ≡ length old.board.cells
   pub goes : (g : Grid) → IsAtRest g d old → IsAtRest g d new
   pub more : number_of d old.board < number_of d new.board
 
 -- the stone is taken, or it has two eyes among the stones that stood
 abbrev pub Captures : Colour → ℕ → Run → Run → Bool → Type 0
-Captures d v old new true = Follows d old new
+Captures d v old new true = Follows d old new × ¬ HasStone new.board (other d) v
 Captures d v old new false = (g : Grid) → IsAtRest g d old
     → HasTwoEyes g (other d) (HasStone old.board (other d)) v
 
 -- an attack on the stone at `v` is under way
 pub record IsPressed (d : Colour) (v : ℕ) (old now : Run) : Type 0 where
+  pub short : IsShort d old → IsShort d now
   pub long : length now.board.cells ≡ length old.board.cells
   pub goes : (g : Grid) → IsAtRest g d old → IsRun g d (InChain g (other d) v) now
   pub fewer : (q : ℕ) → HasStone now.board (other d) q → HasStone old.board (other d) q
   pub least : number_of d old.board ≤ number_of d now.board
   pub more : HasStone now.board (other d) v ⊎ (number_of d old.board < number_of d now.board)
 
--- each stone of the other colour that stands lives without answers on the first board
-abbrev pub AllAlive : Colour → Run → Type 0
-AllAlive d run = (g : Grid) → IsAtRest g d run → (q : ℕ) → HasStone run.board (other d) q
-    → IsAlive g (other d) q
+-- each stone of the other colour that stands lives without answers on the first board, where the marks are those that do
+abbrev pub AllAlive : Colour → List Bool → Run → Type 0
+AllAlive d alive run = (g : Grid) → IsSettled g → Marks alive (IsAlive g (other d)) → IsAtRest g d run
+    → (q : ℕ) → HasStone run.board (other d) q → IsAlive g (other d) q
+
+-- the stone has two eyes on the first board, among the stones that stand on the run's
+abbrev pub HasEyes : Colour → List Bool → Run → ℕ → Type 0
+HasEyes d alive run v = (g : Grid) → IsSettled g → Marks alive (IsAlive g (other d)) → IsAtRest g d run
+    → HasTwoEyes g (other d) (HasStone run.board (other d)) v
+
+-- each stone that stands has two eyes, but for those that are marked and at `n` or above
+pub record AreTriedBelow (d : Colour) (alive left : List Bool) (run : Run) (n : ℕ) : Type 0 where
+  pub stand : (v : ℕ) → IsMarked left v → HasStone run.board (other d) v
+  pub below : (v : ℕ) → HasStone run.board (other d) v → v < n → HasEyes d alive run v
+  pub tried : (v : ℕ) → HasStone run.board (other d) v → ¬ IsMarked left v → HasEyes d alive run v

@@ -1,14 +1,14 @@
 //! Captures of one chain after the other.
 
-ghost use Rattle.std.specs.Prelude.{◌≡◌, ℕ, ◌<◌, ◌↔◌, true, length, IfOk, MatchOption};
+ghost use Rattle.std.specs.Prelude.{◌≡◌, ℕ, ◌<◌, ◌↔◌, [], true, length, IfOk, MatchOption};
 ghost use Rattle.std.specs.Bool.{OnFalse, OnTrue};
 ghost use Rattle.go_grid.specs.Grid.{HasStone, IsEmpty, other};
 ghost use Rattle.go_play.specs.Place.{IsPlaced, IsSuicide};
 ghost use Rattle.benson_attack.specs.Reached.{AllAlive, Captures, Follows, Presses};
 
-use go_grid::{Board, Cell, Colour, Point};
+use go_grid::{Board, Cell, Colour, Point, Points};
 use go_play::place;
-use std::alloc::AllocError;
+use std::alloc::{AllocError, Global};
 
 /// A board that unanswered placings of one colour reach, with the placings.
 #[derive(Drop)]
@@ -18,6 +18,23 @@ pub(crate) struct Run {
 }
 
 impl Run {
+    /// The run of no placing.
+    pub(crate) fn begin(alloc: Global, board: &Board) -> Result<Run, AllocError>
+        ensures { IfOk result (λ run. (run.board ≡ board.now) × (run.placings.items ≡ [])) }
+    {
+        Ok(Run {
+            board: board.copy()?,
+            placings: Vec::new(alloc),
+        })
+    }
+
+    /// Its placings.
+    pub(crate) fn listed(&self) -> Result<Vec<Point>, AllocError>
+        ensures { IfOk result (λ placings. placings.items ≡ self.now.placings.items) }
+    {
+        self.placings.clone()
+    }
+
     /// The same run once more.
     fn copy(&self) -> Result<Run, AllocError>
         ensures { IfOk result (λ run. (run.board ≡ self.now.board)
@@ -67,7 +84,7 @@ fn press(board: &mut Board, victim: Point, colour: Colour) -> Option<Point>
 
 /// Places at liberties of the victim's chain until it is taken, or until no such placing is legal.
 /// Tells whether it was taken.
-fn capture(run: &mut Run, victim: Point, colour: Colour) -> Result<bool, AllocError>
+pub(crate) fn capture(run: &mut Run, victim: Point, colour: Colour) -> Result<bool, AllocError>
     requires { HasStone run.old.board (other colour) victim }
     ensures { IfOk result (Captures colour victim run.old run.new) }
 {
@@ -80,20 +97,21 @@ fn capture(run: &mut Run, victim: Point, colour: Colour) -> Result<bool, AllocEr
     Ok(true)
 }
 
-/// The run after the capture of the first chain that can be captured, or `None` where there is none:
-/// then each stone of the other colour that stands lives without answers.
-pub(crate) fn advance(run: &Run, colour: Colour) -> Result<Option<Run>, AllocError>
-    ensures { IfOk result (λ next. MatchOption next (AllAlive colour run.now)
+/// The run after the capture of the first chain that can be captured, or `None` where there is none: then each
+/// stone of the other colour that stands lives without answers. The marks are stones that do, and are not tried.
+pub(crate) fn advance(run: &Run, colour: Colour, alive: &Points) -> Result<Option<Run>, AllocError>
+    ensures { IfOk result (λ next. MatchOption next (AllAlive colour alive.now run.now)
         (Follows colour run.now)) }
 {
-    let victims = run.board.stones(colour.other());
+    let mut left = run.board.stones(colour.other()).difference(alive);
     for number in 0..run.board.size().area() {
         let victim = Point(number);
-        if victims.contains(victim) {
+        if left.contains(victim) {
             let mut trial = run.copy()?;
             if capture(&mut trial, victim, colour)? {
                 return Ok(Some(trial));
             }
+            left = left.difference(&run.board.chain(colour.other(), victim));
         }
     }
     Ok(None)

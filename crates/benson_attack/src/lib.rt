@@ -3,10 +3,13 @@
 #![tactic(auto)]
 
 mod attacks;
+mod campaign;
 mod captures;
 mod errors;
+mod laws;
 #[cfg(test)]
 mod tests;
 
-pub use attacks::attack;
+pub use attacks::{Attacks, attack};
 pub use errors::AttackError;
+pub use laws::alive_law;

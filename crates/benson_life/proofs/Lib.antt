@@ -8,3 +8,6 @@ pub mod StrikingLemmas
 pub mod HeldLemmas
 pub mod ContestLemmas
 pub mod WallLemmas
+pub mod GroupLemmas
+pub mod FirstLemmas
+pub mod TaxLemmas

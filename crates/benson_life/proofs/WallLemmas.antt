@@ -1,11 +1,12 @@
 -- Alive chains keep a liberty on each board on which the alive stones stand and the counted points hold what they held.
-use Rattle.std.proofs.Common.{ℕ, ◌<◌, sym, ◌∙◌, subst}
+use Rattle.std.proofs.Common.{ℕ, ◌<◌, sym, ◌∙◌, subst, List}
+use Rattle.std.specs.List.{Contains}
 use Rattle.go_grid.specs.declared.grid.Colour.{Colour}
 use Rattle.go_grid.specs.Grid.{Grid, NextTo, HasStone, Lacks}
 use Rattle.go_grid.specs.Walk.{Joined}
-use Rattle.go_grid.specs.Chain.{IsSettled}
+use Rattle.go_grid.specs.Chain.{IsLiberty, IsSettled}
 use Rattle.go_grid.proofs.WalkLemmas.{joined_end, joined_join}
-use Rattle.benson_life.specs.Life.{InRegion, IsCounted}
+use Rattle.benson_life.specs.Life.{InRegion, IsCounted, IsEye, IsHealthy}
 use Rattle.benson_life.specs.Walls.{WallsStand, WallsBreathe}
 use Rattle.benson_life.proofs.StandLemmas.{joined_along, region_empty}
 
@@ -21,10 +22,11 @@ counted_region g c p q w j = (
   },
 )
 
-pub walls_breathe : (g : Grid) → IsSettled g → (h : Grid) → WallsStand g h → WallsBreathe g h
-walls_breathe g settled h walls c s (S, healthy, among) =
-    let (r, _, eye, _, _) = healthy.eyes s among in
-    let (p, in', empty) = region_empty g c r settled eye.lacks in
+-- an eye of an alive stone has a counted point that is a liberty of the stone's chain
+pub eye_point : (g : Grid) (c : Colour) (s r : ℕ) (S : List ℕ) → IsSettled g → IsHealthy g c S → Contains S s → IsEye g c (Contains S) s r
+    → (p : ℕ) × InRegion g c r p × IsCounted g c p × IsLiberty g c s p
+eye_point g c s r S settled healthy among eye =
+    let (p, at, empty) = region_empty g c r settled eye.lacks in
     let counted : IsCounted g c r = (
       s,
       (S, healthy, among),
@@ -33,9 +35,12 @@ walls_breathe g settled h walls c s (S, healthy, among) =
         vital = eye.vital;
         walled = λ x t j n own. (S, healthy, eye.walled x t j n own);
       },
-    ) in
-    let here = counted_region g c r p counted in' in
-    let (on, (t, chain, next)) = eye.vital p in' empty in
+    ) in (p, at, counted_region g c r p counted at, eye.vital p at empty)
+
+pub walls_breathe : (g : Grid) → IsSettled g → (h : Grid) → WallsStand g h → WallsBreathe g h
+walls_breathe g settled h walls c s (S, healthy, among) =
+    let (r, _, eye, _, _) = healthy.eyes s among in
+    let (p, _, here, (on, (t, chain, next))) = eye_point g c s r S settled healthy among eye in
     let chain' = joined_along g.columns (HasStone g c) (HasStone h c) s t
     (λ x j. walls.stones c x (S, healthy, healthy.whole s x among j)) chain in (
       p,

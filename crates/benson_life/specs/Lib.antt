@@ -5,3 +5,4 @@ pub mod Held
 pub mod Region
 pub mod Walls
 pub mod Territory
+pub mod Groups

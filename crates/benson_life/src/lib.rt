@@ -4,6 +4,9 @@
 
 mod counting;
 mod eyes;
+#[cfg(test)]
+mod group_tests;
+mod grouping;
 mod laws;
 mod striking;
 mod surveys;
@@ -13,5 +16,6 @@ mod tests;
 mod walls;
 
 pub use counting::held;
-pub use laws::benson_law;
+pub use grouping::groups;
+pub use laws::{benson_law, tax_law};
 pub use territory::{Life, Territory, alive, alive_set, contested, counted};

@@ -6,6 +6,7 @@ ghost use Rattle.go_grid.specs.declared.grid.Colour.TheVariants.{Black, White};
 ghost use Rattle.go_grid.specs.Chain.{IsSettled};
 ghost use Rattle.go_grid.specs.Marks.{Lists, Marks};
 ghost use Rattle.go_play.specs.Place.{Stands};
+ghost use Rattle.benson_life.specs.Groups.{IsNumberOfGroups};
 ghost use Rattle.benson_life.specs.Held.{IsHeld};
 ghost use Rattle.benson_life.specs.Life.{IsAlive, IsCounted, IsLargestHealthy};
 ghost use Rattle.benson_life.specs.Region.{IsContested};
@@ -13,6 +14,7 @@ ghost use Rattle.benson_life.specs.Territory.{IsLife, IsTerritory};
 
 use crate::counting::{counted_points, held};
 use crate::eyes::all_eyes;
+use crate::grouping::number_of_groups;
 use crate::striking::living;
 use crate::surveys::survey_of;
 use go_grid::{Board, Colour, Point, Points};
@@ -52,6 +54,14 @@ impl Life {
     {
         let counted = self.counted.to_list(alloc)?;
         Ok(held(board, colour, &counted))
+    }
+
+    /// The number of groups of the colour.
+    pub fn groups(&self, alloc: Global, board: &Board, colour: Colour) -> Result<u32, AllocError>
+        requires { IsLife board.now colour self.now }
+        ensures { IfOk result (IsNumberOfGroups board.now colour) }
+    {
+        number_of_groups(alloc, board, colour, &self.alive, &self.counted)
     }
 }
 
@@ -124,7 +134,7 @@ pub fn alive_set(board: &Board, colour: Colour, alive: &[Point]) -> Points
 }
 
 /// The set of a list of counted points.
-fn counted_set(board: &Board, colour: Colour, counted: &[Point]) -> Points
+pub(crate) fn counted_set(board: &Board, colour: Colour, counted: &[Point]) -> Points
     requires { Lists counted.now (IsCounted board.now colour) }
     ensures { Marks result (IsCounted board.now colour) }
 {

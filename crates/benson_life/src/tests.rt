@@ -1,6 +1,6 @@
 //! Worked boards, drawn row by row with X for black and O for white.
 
-use crate::{alive, counted, held};
+use crate::{alive, counted, groups, held};
 use go_grid::{Board, Cell, Colour, Point, Size};
 use go_play::{PlaceError, allowed, place};
 use std::alloc::{AllocError, Global};
@@ -15,7 +15,12 @@ fn drawn(letter: Option<&u8>) -> Cell {
 }
 
 /// The board of a size that a drawing shows, and one of an empty point where no board has the size.
-fn board(alloc: Global, columns: u8, rows: u8, drawing: &[u8]) -> Result<Board, AllocError> {
+pub(crate) fn board(
+    alloc: Global,
+    columns: u8,
+    rows: u8,
+    drawing: &[u8],
+) -> Result<Board, AllocError> {
     let size = Size::new(columns, rows).unwrap_or(Size {
         columns: 1,
         rows: 1,
@@ -247,6 +252,7 @@ fn a_whole_board(rt: HostRuntime) -> Result<(), AllocError> {
         assert_eq!(rt; stones.len(), 313);
         assert_eq!(rt; points.len(), 312);
         assert_eq!(rt; held(&board, Colour::Black, &points), 312);
+        assert_eq!(rt; groups(alloc, &board, Colour::Black, &stones, &points)?, 1);
     }
     Ok(())
 }

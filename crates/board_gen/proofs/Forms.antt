@@ -1,8 +1,7 @@
 -- Where an alive stone of one colour is next to each of at most three places, the values of local positions have few parts and small
 -- numbers. Each part is the value of a position together with some stones taken, of which there are few.
-use Rattle.std.proofs.Common.{◌≡◌, ℕ, zero, suc, ◌+◌, ◌*◌, ◌-◌, ◌^◌, ◌<◌, ◌≤◌, ◌⊎◌, inl, inr, refl, sym, ap, ◌∙◌, subst, arith, ℤ, pos, neg_ℤ, ◌+ℤ◌, ◌*ℤ◌, List, [], ◌∷◌, length, get_or}
+use Rattle.std.proofs.Common.{◌≡◌, ℕ, zero, suc, ◌+◌, ◌*◌, ◌-◌, ◌^◌, ◌<◌, ◌≤◌, ◌⊎◌, inl, inr, refl, sym, ap, ◌∙◌, subst, arith, pos, ◌+ℤ◌, ◌*ℤ◌, List, [], ◌∷◌, length}
 use Rattle.std.proofs.Math.Nat.{pow-le-pow_right, pow-suc}
-use Rattle.std.proofs.lemmas.Bool.{cases_lt}
 use Rattle.std.proofs.lemmas.Int.{ints}
 use Rattle.go_grid.specs.declared.grid.Cell.{Cell}
 use Rattle.go_grid.specs.declared.grid.Cell.TheVariants as cell
@@ -17,7 +16,7 @@ use Rattle.game_store.specs.Number.{num, IsNumberTree}
 use Rattle.game_store.specs.Meaning.{number_tree, tree_at}
 use Rattle.game_store.specs.Parts.{HasMoreParts, IsFollower, IsOption, IsPart}
 use Rattle.game_store.specs.Parts.IsFollower.{itself, further}
-use Rattle.game_store.specs.TextOrder.{IsCanonicalFor, IsCanonicalTree, TextBefore}
+use Rattle.game_store.specs.TextOrder.{IsCanonicalFor, TextBefore}
 use Rattle.game_store.proofs.Existence.{canon}
 use Rattle.game_store.proofs.NumberLaws.{num-le_plus, num-plus_le, num-zero}
 use Rattle.game_store.proofs.OrderLaws.{le-refl, le-trans}
@@ -26,7 +25,7 @@ use Rattle.game_store.proofs.SumLaws.{plus-assoc, plus-le, plus-le_both, plus-no
 use Rattle.game_store.proofs.TextOrderLaws.{text-order}
 use Rattle.game_canon.specs.Changes.{HasNumberPastBounds}
 use Rattle.game_canon.specs.Players.{credit, gain, options}
-use Rattle.game_canon.proofs.NumberParts.{same-canonical}
+use Rattle.game_canon.proofs.NumberParts.{same-canonical, sum-parts}
 use Rattle.game_canon.proofs.PartLaws.{fewer}
 use Rattle.local_value.specs.LocalGame.{Step}
 use Rattle.local_value.specs.Laws.{MovesTo}
@@ -111,12 +110,7 @@ code_tells (x ∷ xs) (y ∷ ys) long e =
     let rest = code_tells xs ys (omega (arith, long)) (omega (arith, e, digit_most x, digit_most y)) in
     ap (λ z. z ∷ xs) one ∙ ap (λ zs. y ∷ zs) rest
 
--- the parts of a sum with a number are those of the game, each with the number added
-abbrev pub PartsMove : Type 0
-PartsMove = (u : ℤ) (C X G : Tree) → IsFollower C X → (IsNumberTree X → ⊥) → IsCanonicalTree G → IsCanonicalFor (G +ᵍ number_tree u) C
-    → (P : Tree) × IsPart G P × IsCanonicalTree P × IsCanonicalFor (P +ᵍ number_tree u) X
-
-module _ (parts_move : PartsMove) (touch : List Touch) (n : ℕ) (c : Colour) (walled : AreWalled touch n c) (narrow : n ≤ 3) where
+module _ (touch : List Touch) (n : ℕ) (c : Colour) (walled : AreWalled touch n c) (narrow : n ≤ 3) where
   -- how many stones of the colour may still come, four times
   left_over : List Cell → ℕ
   left_over cells = 4 * (3 - owners c cells)
@@ -213,7 +207,7 @@ module _ (parts_move : PartsMove) (touch : List Touch) (n : ℕ) (c : Colour) (w
           let is_cy : IsCanonicalFor Y cy.tree = record { canonical = cy.canonical; under = cy.under; over = cy.over } in
           let sum : IsCanonicalFor (cy.tree +ᵍ g) L = for_equal (Y +ᵍ g) (cy.tree +ᵍ g) L (plus-le Y cy.tree g cy.under, plus-le cy.tree Y g cy.over)
           (subst (λ t. IsCanonicalFor t L) same value) in
-          let (P, part, canonical, moved) = parts_move u L X cy.tree fol hot cy.canonical (subst (λ t. IsCanonicalFor (cy.tree +ᵍ t) L) (gain_number d x.taken) sum) in
+          let (P, part, canonical, moved) = sum-parts u L X cy.tree fol hot cy.canonical (subst (λ t. IsCanonicalFor (cy.tree +ᵍ t) L) (gain_number d x.taken) sum) in
           let shorter : PlaysAreShort (List Cell) (MovesTo touch) m x.to = λ qs w. omega (arith, short (x.to ∷ qs) ((d, (x.taken, step)), w)) in
           let met = again x.to Y cy.tree P s.2 shorter tree is_cy part.0 part.1 in
           let moved' : IsCanonicalFor (P +ᵍ g) X = subst (λ t. IsCanonicalFor (P +ᵍ t) X) (sym (gain_number d x.taken)) moved in

@@ -1,5 +1,5 @@
 -- How long games last. A canonical form lasts no longer than the game.
-use Rattle.std.proofs.Common.{ℕ, zero, suc, ◌+◌, ◌*◌, ◌^◌, ◌-◌, ◌<◌, ◌≤◌, ◌≡◌, ◌⊎◌, arith, refl, inl, inr, sym, ap, ◌∙◌, subst, true, false, ℤ, pos, negsuc, ◌+ℤ◌, ◌*ℤ◌, unsigned_abs}
+use Rattle.std.proofs.Common.{ℕ, zero, suc, ◌+◌, ◌*◌, ◌^◌, ◌-◌, ◌≤◌, ◌≡◌, arith, refl, inl, inr, sym, ap, ◌∙◌, subst, false, ℤ, pos, negsuc, ◌+ℤ◌, ◌*ℤ◌, unsigned_abs}
 use Rattle.std.proofs.Math.Nat.{mul_assoc, mul-le-mul_right, pow-suc}
 use Rattle.std.proofs.lemmas.Bool.{cases_Bool}
 use Rattle.std.proofs.lemmas.Nat.{pow-add}
@@ -18,7 +18,7 @@ use Rattle.game_store.specs.TextOrder.{IsCanonicalFor, IsCanonicalTree, TextBefo
 use Rattle.game_store.proofs.CanonicalLaws.{canonical-unique}
 use Rattle.game_store.proofs.Existence.{canon, canon_below}
 use Rattle.game_store.proofs.FormLaws.{all-canonical, by_better}
-use Rattle.game_store.proofs.NumberLaws.{half-even, half-odd, is_even-double, num-even, num-odd, whole-has_left, whole-has_right}
+use Rattle.game_store.proofs.NumberLaws.{half-even, half-odd, num-even, num-odd, whole-has_left, whole-has_right}
 use Rattle.game_store.proofs.OrderLaws.{le-trans}
 use Rattle.game_store.proofs.StopLaws.{num-scaled}
 use Rattle.game_store.proofs.SumLaws.{InSum, left_of_sum, neg-left, neg-right, neg_each-has, right_of_sum}

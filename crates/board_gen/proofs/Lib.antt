@@ -9,3 +9,4 @@ pub mod RegionLemmas
 pub mod Heights
 pub mod Owners
 pub mod Forms
+pub mod OneBoard

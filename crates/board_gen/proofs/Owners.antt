@@ -1,8 +1,6 @@
 -- How many stones of one colour a local position has, where an alive stone of it is next to each place.
-use Rattle.std.proofs.Common.{◌≡◌, ℕ, zero, suc, ◌+◌, ◌-◌, ◌<◌, ◌≤◌, ◌⊎◌, inl, inr, Bool, true, false, cond, refl, sym, ap, ◌∙◌, subst, arith, List, [], ◌∷◌, length, get_or}
+use Rattle.std.proofs.Common.{◌≡◌, ℕ, zero, suc, ◌+◌, ◌<◌, ◌≤◌, Bool, true, false, cond, refl, sym, subst, arith, List, [], ◌∷◌, length}
 use Rattle.std.specs.Prelude.{count_by}
-use Rattle.std.proofs.lemmas.Bool.{cases_eq, cases_lt}
-use Rattle.std.proofs.lemmas.List.{get_or_past}
 use Rattle.std.proofs.lemmas.List.Sums.{count_by-le-length, sum_by-cons}
 use Rattle.go_grid.specs.declared.grid.Cell.{Cell}
 use Rattle.go_grid.specs.declared.grid.Cell.TheVariants as cell
@@ -10,8 +8,8 @@ use Rattle.go_grid.specs.declared.grid.Colour.{Colour}
 use Rattle.go_grid.specs.declared.grid.Colour.TheVariants as colour
 use Rattle.go_grid.specs.declared.region.Touch.{Touch}
 use Rattle.go_grid.specs.Grid.{stone, other}
-use Rattle.local_play.specs.LocalPlay.{Holds, IsLocalMove, IsNumberTaken, held_at, is_stone, with_stone}
-use Rattle.board_gen.proofs.NoReturn.{AreWalled, all_stay, owner_stays, placed, same_or_other}
+use Rattle.local_play.specs.LocalPlay.{Holds, IsLocalMove, IsNumberTaken, held_at, is_stone}
+use Rattle.board_gen.proofs.NoReturn.{AreWalled, all_stay, owner_stays, placed}
 
 abbrev one_if : Bool → ℕ
 one_if b = cond b 1 0

@@ -1,5 +1,5 @@
 -- The regions of play of a trial board: at most three points each, beside alive stones of one colour.
-use Rattle.std.proofs.Common.{◌≡◌, ℕ, ◌+◌, ◌-◌, ◌*◌, ◌/◌, ◌%◌, ◌^◌, ◌≤◌, inl, inr, refl, sym, ap, subst, arith, length, get_or}
+use Rattle.std.proofs.Common.{◌≡◌, ◌∙◌, ℕ, List, ◌+◌, ◌-◌, ◌*◌, ◌/◌, ◌%◌, ◌^◌, ◌≤◌, inl, inr, refl, sym, ap, subst, arith, length, get_or}
 use Rattle.std.specs.List.{Contains}
 use Rattle.std.proofs.Math.Nat.{pow-le-pow_right}
 use Rattle.std.proofs.lemmas.Bool.{cases_lt}
@@ -18,12 +18,14 @@ use Rattle.benson_life.specs.Region.{IsContested}
 use Rattle.region_cut.specs.Cut.{IsRegionOfPlay, lowest}
 use Rattle.local_play.specs.LocalPlay.{IsBeside}
 use Rattle.local_graph.specs.FiniteLocalPlay.{HasNoCycle}
+use Rattle.local_graph.specs.LocalGraph.{IsReachable}
 use Rattle.local_graph.proofs.FiniteLemmas.{few_positions}
 use Rattle.board_gen.specs.Short.{HasShortRegions, IsShort}
 use Rattle.board_gen.specs.Trial.{IsTrialBoard}
 use Rattle.board_gen.proofs.AliveLemmas.{all_alive}
 use Rattle.board_gen.proofs.GapLemmas.{IsGap, IsInGap, few_in_gap, gap_of, next_in_gap}
-use Rattle.board_gen.proofs.NoReturn.{AreWalled, no_cycle}
+use Rattle.board_gen.proofs.Forms.{few_parts, small_numbers}
+use Rattle.board_gen.proofs.NoReturn.{AreWalled, no_cycle, plays_long}
 
 -- the two ways to say that an alive stone is next to a place
 beside_same : (c : Colour) (r : Shape) (i : ℕ) → IsBesideTouch c (touch_at r.touch i) → IsBeside r.touch c i
@@ -88,7 +90,14 @@ module _ (number : ℕ) (g : Grid) (board : IsTrialBoard number g) where
           let third : 3 ^ length r.cells ≤ 3 ^ 3 = pow-le-pow_right {n = 3} (omega arith) small in
           omega (arith, more.many, most, third);
       no_cycle = ends;
+      parts = λ cells V reached value more. gap_of number g board (lowest r) first_empty (λ (c, (row, (first, (end, (gap, i))))).
+          few_parts r.touch (length r.points) c (walled c row first end gap i) few cells V (long_reached cells reached) value more);
+      bounds = λ cells V reached value past. gap_of number g board (lowest r) first_empty (λ (c, (row, (first, (end, (gap, i))))).
+          small_numbers r.touch (length r.points) c (walled c row first end gap i) few cells V (long_reached cells reached) value past);
     }
+      where
+        long_reached : (cells : List Cell) → IsReachable r.touch r.cells cells → length cells ≡ length r.points
+        long_reached cells reached = plays_long r.touch reached.0 r.cells cells reached.1 ∙ is.proper.full
 
   pub short_regions : HasShortRegions g
   short_regions regions are r here = short r (are.each r here)

@@ -1,16 +1,24 @@
 -- Regions that are quickly played out.
 use Rattle.std.specs.Prelude.{◌≤◌, List, length, Contains}
+use Rattle.go_grid.specs.declared.grid.Cell.{Cell}
 use Rattle.go_grid.specs.Grid.{Grid}
 use Rattle.go_grid.specs.Region.{Shape}
 use Rattle.local_graph.specs.FiniteLocalPlay.{HasNoCycle}
-use Rattle.local_graph.specs.LocalGraph.{MoreThan}
+use Rattle.local_graph.specs.LocalGraph.{IsReachable, MoreThan}
+use Rattle.game_store.specs.Tree.{Tree}
+use Rattle.game_store.specs.Parts.{HasMoreParts}
+use Rattle.game_canon.specs.Changes.{HasNumberPastBounds}
+use Rattle.local_value.specs.PositionTree.{IsValueOf}
 use Rattle.region_cut.specs.Cut.{AreRegionsOfPlay}
 
--- the region has at most 3 points, at most 27 reachable positions, and no cycle
+-- the region has at most 3 points, at most 27 reachable positions and no cycle, and the value of each of these has at most 500
+-- parts and numbers within the bounds of a Dyadic
 pub record IsShort (r : Shape) : Type 0 where
   pub points : length r.points ≤ 3
   pub positions : ¬ MoreThan r.touch r.cells 27
   pub no_cycle : HasNoCycle r.touch r.cells
+  pub parts : (cells : List Cell) (V : Tree) → IsReachable r.touch r.cells cells → IsValueOf r.touch cells V → ¬ HasMoreParts V 500
+  pub bounds : (cells : List Cell) (V : Tree) → IsReachable r.touch r.cells cells → IsValueOf r.touch cells V → ¬ HasNumberPastBounds V
 
 -- each region of play of the board is such
 abbrev pub HasShortRegions : Grid → Type 0

@@ -5,57 +5,24 @@ use Rattle.std.specs.Str.{bytes_eq}
 use Rattle.desk_io.specs.Outside.{Rose}
 use Rattle.sgf_go.specs.declared.settings.Settings.{Settings}
 use Rattle.sgf_go.specs.declared.settings.Setup.{Setup}
+use Rattle.game_calc.specs.declared.errors.CalcFault.{CalcFault}
 use Rattle.gd_words.specs.Job.{IsOnlyJob, JobView}
-use Rattle.gd_words.specs.Task.{Task}
-use Rattle.gd_words.specs.Task.Task.{solve, safe, values, play, trial}
-use Rattle.endgame_solver.specs.declared.limits.Limits.{Limits}
 use Rattle.endgame_run.specs.declared.status.FileFault.{FileFault}
 use Rattle.endgame_run.specs.declared.status.Status.{Status}
 use Rattle.endgame_run.specs.declared.status.Status.TheVariants.{CannotRead, CannotWrite, Done, Memory, TooManyLines}
 use Rattle.endgame_run.specs.declared.status.Status.TheVariants as status
-use Rattle.endgame_run.specs.declared.status.Unbuilt.TheVariants as unbuilt
 use Rattle.endgame_run.specs.declared.question.Question.{Question}
 use Rattle.endgame_run.specs.declared.question.Question.TheVariants as question
-use Rattle.endgame_run.specs.Complete.{IsAnswerable, IsAnswered, IsWithinLimits}
+use Rattle.endgame_run.specs.Calc.{IsCalc}
+use Rattle.endgame_run.specs.Complete.{AreAnswerable, IsAnswerable, IsAnswered, IsComplete, IsWithinLimits}
 use Rattle.endgame_run.specs.File.{Outside, IsShort, IsTold, IsTooLong, count_of, dash, told_of}
 use Rattle.endgame_run.specs.Game.{IsGameRun}
 use Rattle.endgame_run.specs.Position.{Reads}
-use Rattle.endgame_run.specs.Verdict.{HasCause, IsAnswer, IsFileAnswer, IsPositionAnswer, IsUnbuilt, Pose, limits_of}
+use Rattle.endgame_run.specs.Verdict.{HasCause, IsAnswer, IsFileAnswer, IsPositionAnswer, IsTextAlone, Pose, limits_of}
 use Rattle.endgame_run.proofs.GameWins.{map_told}
 use Rattle.endgame_run.proofs.OneStatus.{file_or_position, not_both, one_setup, safe_is_done, shows_shown, solves_sound}
 use Rattle.endgame_run.proofs.OutputLaws.{pose_said}
-
--- the question of a task and the file that it is about
-abbrev question_of : Limits → Task → Option (Question × List ℕ)
-question_of limits (solve word) = Some (question.Solve limits, word)
-question_of limits (values word) = Some (question.Values limits, word)
-question_of limits (safe word) = Some (question.Safe, word)
-question_of limits (play word) = Some (question.Solve limits, word)
-question_of limits (trial number) = None
-
-pose_is : (words : List (List ℕ)) (job : JobView) (q : Question) (word : List ℕ) → Pose words job q word → question_of (limits_of job) job.task ≡ Some (q, word)
-pose_is words job (question.Solve limits) word (inl a) = ap (question_of (limits_of job)) a.1.0 ∙ ap (λ l. Some (question.Solve l, word)) (sym a.1.1)
-pose_is words job (question.Values limits) word (inl a) = ap (question_of (limits_of job)) a.1.0 ∙ ap (λ l. Some (question.Values l, word)) (sym a.1.1)
-pose_is words job question.Safe word (inl a) = ap (question_of (limits_of job)) a.1
-pose_is words job q word (inr a) = ap (question_of (limits_of job)) a.0.1 ∙ ap (λ k. Some (k, word)) (sym a.1)
-
-pose_only : (words : List (List ℕ)) (job : JobView) (q : Question) (word : List ℕ) → Pose words job q word → IsOnlyJob words job
-pose_only words job q word (inl a) = a.0
-pose_only words job q word (inr a) = a.0.0
-
--- words pose one question on one file
-one_pose : (words : List (List ℕ)) (job other : JobView) (q r : Question) (word w : List ℕ) → Pose words job q word → Pose words other r w → (other ≡ job) × Path (Question × List ℕ) (r, w) (q, word)
-one_pose words job other q r word w a b =
-    let same = (pose_only words job q word a).only other (pose_said words other r w b) in
-    let e : Path (Option (Question × List ℕ)) (Some (r, w)) (Some (q, word)) = sym (pose_is words other r w b) ∙ ap (λ j. question_of (limits_of j) j.task) same ∙ pose_is words job q word a in
-    (same, cc)
-
-unbuilt_task : (t : Task) (limits : Limits) (p : Question × List ℕ) → question_of limits t ≡ Some p → ¬ IsUnbuilt t
-unbuilt_task (solve word) limits p e u = u
-unbuilt_task (values word) limits p e u = u
-unbuilt_task (safe word) limits p e u = u
-unbuilt_task (play word) limits p e u = u
-unbuilt_task (trial number) limits p e u = absurd (let k : Path (Option (Question × List ℕ)) None (Some p) = e in cc)
+use Rattle.endgame_run.proofs.PoseLaws.{alone_unposed, calc_unposed, one_pose, trial_unposed}
 
 -- neither count has risen, and so not that of the object that holds the file
 count_stays : (word : List ℕ) (a b c d : ℕ) → ¬ Rose a b → ¬ Rose c d → ¬ Rose (count_of a c word) (count_of b d word)
@@ -117,9 +84,6 @@ module _ (words : List (List ℕ)) (o : Outside) (kb kn : ℕ) (a : IsAnswerable
   answered before now CannotRead rose (inl h) = absurd (not_read (own h.1.0 h.1.1 h.1.2 CannotRead h.0 h.1.3 h.1.4).0)
   answered before now status.TooLong rose (inl h) = absurd (too_long (own h.1.0 h.1.1 h.1.2 status.TooLong h.0 h.1.3 h.1.4).0)
   answered before now status.Usage rose (inl h) = absurd (h.1.0 a.job (pose_said words a.job a.question a.word a.asks))
-  answered before now (status.Unbuilt unbuilt.Command) rose (inl h) =
-      let same = (pose_only words a.job a.question a.word a.asks).only h.1.0.0 h.1.0.1 in
-      absurd (unbuilt_task a.job.task (limits_of a.job) (a.question, a.word) (pose_is words a.job a.question a.word a.asks) (subst (λ j. IsUnbuilt j.task) same h.1.0.2))
   answered before now (status.BadFile f) rose (inl h) = inl (by_file (status.BadFile f) h.0 (own h.1.0 h.1.1 h.1.2 (status.BadFile f) h.0 h.1.3 h.1.4))
   answered before now status.Cycle rose (inl h) = inl (by_file status.Cycle h.0 (own h.1.0 h.1.1 h.1.2 status.Cycle h.0 h.1.3 h.1.4))
   answered before now status.RegionLimit rose (inl h) = inl (by_file status.RegionLimit h.0 (own h.1.0 h.1.1 h.1.2 status.RegionLimit h.0 h.1.3 h.1.4))
@@ -130,8 +94,47 @@ module _ (words : List (List ℕ)) (o : Outside) (kb kn : ℕ) (a : IsAnswerable
   answered before now status.FormLimit rose (inr g) = absurd g.begun
   answered before now status.TooLong rose (inr g) = absurd g.begun
   answered before now (status.BadFile f) rose (inr g) = absurd g.begun
-  answered before now (status.Unbuilt u) rose (inr g) = absurd g.begun
+  answered before now (status.BadExpression f) rose (inl (text, d)) = absurd (alone_unposed words (status.BadExpression f) text a.job a.question a.word d a.asks)
+  answered before now status.CalcLimit rose (inl (text, d)) = absurd (alone_unposed words status.CalcLimit text a.job a.question a.word d a.asks)
+  answered before now (status.BadExpression f) rose (inr g) = absurd g.begun
+  answered before now status.CalcLimit rose (inr g) = absurd g.begun
+
+-- words that pose no question, and whose task is not refused, are done, where no write failed
+alone_answered : (words : List (List ℕ)) (o : Outside) (kb kn : ℕ) (before now : Option (List ℕ)) (result : Status) (own : JobView) → IsOnlyJob words own
+    → ((job : JobView) (q : Question) (word : List ℕ) → ¬ Pose words job q word) → ((f : CalcFault) (text : List ℕ) → ¬ IsTextAlone own.parts own.task (status.BadExpression f) text)
+    → ((text : List ℕ) → ¬ IsTextAlone own.parts own.task status.CalcLimit text) → ¬ Rose kb kn
+    → (result ≡ CannotWrite → Rose kb kn) → HasCause words o result ⊎ IsGameRun words o before now result → (result ≡ Done) ⊎ (result ≡ Memory)
+alone_answered words o kb kn before now result own only none bad large calm rose (inr g) = absurd (none g.game.job (question.Solve (limits_of g.game.job)) g.game.word (inr (g.game.asks, refl)))
+alone_answered words o kb kn before now Done own only none bad large calm rose (inl h) = inl refl
+alone_answered words o kb kn before now Memory own only none bad large calm rose (inl h) = inr refl
+alone_answered words o kb kn before now CannotWrite own only none bad large calm rose (inl h) = absurd (calm (rose refl))
+alone_answered words o kb kn before now status.Usage own only none bad large calm rose (inl h) = absurd (h.1.0 own only.said)
+alone_answered words o kb kn before now CannotRead own only none bad large calm rose (inl h) = absurd (none h.1.0 h.1.1 h.1.2 h.1.3)
+alone_answered words o kb kn before now TooManyLines own only none bad large calm rose (inl h) = absurd (none h.1.0 h.1.1 h.1.2 h.1.3)
+alone_answered words o kb kn before now status.TooLong own only none bad large calm rose (inl h) = absurd (none h.1.0 h.1.1 h.1.2 h.1.3)
+alone_answered words o kb kn before now (status.BadFile f) own only none bad large calm rose (inl h) = absurd (none h.1.0 h.1.1 h.1.2 h.1.3)
+alone_answered words o kb kn before now status.Cycle own only none bad large calm rose (inl h) = absurd (none h.1.0 h.1.1 h.1.2 h.1.3)
+alone_answered words o kb kn before now status.RegionLimit own only none bad large calm rose (inl h) = absurd (none h.1.0 h.1.1 h.1.2 h.1.3)
+alone_answered words o kb kn before now status.FormLimit own only none bad large calm rose (inl h) = absurd (none h.1.0 h.1.1 h.1.2 h.1.3)
+alone_answered words o kb kn before now (status.BadExpression f) own only none bad large calm rose (inl (text, (job, its, is))) =
+    absurd (bad f text (subst (λ j. IsTextAlone j.parts j.task (status.BadExpression f) text) (only.only job its.said) is))
+alone_answered words o kb kn before now status.CalcLimit own only none bad large calm rose (inl (text, (job, its, is))) =
+    absurd (large text (subst (λ j. IsTextAlone j.parts j.task status.CalcLimit text) (only.only job its.said) is))
+
+-- the words that ask for a number's board, or for an expression that no refusal meets
+answerable_done : (words : List (List ℕ)) (o : Outside) (kb kn : ℕ) (before now : Option (List ℕ)) (result : Status) → AreAnswerable words → ¬ Rose kb kn
+    → (result ≡ CannotWrite → Rose kb kn) → HasCause words o result ⊎ IsGameRun words o before now result → (result ≡ Done) ⊎ (result ≡ Memory)
+answerable_done words o kb kn before now result (inl (number, (own, only, is))) calm rose h =
+    alone_answered words o kb kn before now result own only (λ job q word a. trial_unposed words number job q word (own, only, is) a)
+    (λ f text t. subst (λ k. IsTextAlone own.parts k (status.BadExpression f) text) is t) (λ text t. subst (λ k. IsTextAlone own.parts k status.CalcLimit text) is t) calm rose h
+answerable_done words o kb kn before now result (inr (limit, expression, (own, only, is, same), unrefused)) calm rose h =
+    alone_answered words o kb kn before now result own only (λ job q word a. calc_unposed words limit expression job q word (own, only, is, same) a)
+    (λ f text t. unrefused.0 f (subst (λ l. IsCalc l expression (status.BadExpression f) text) (sym same) (subst (λ k. IsTextAlone own.parts k (status.BadExpression f) text) is t)).0)
+    (λ text t. unrefused.1 (subst (λ l. IsCalc l expression status.CalcLimit text) (sym same) (subst (λ k. IsTextAlone own.parts k status.CalcLimit text) is t)).0) calm rose h
 
 pub complete : (words : List (List ℕ)) (o : Outside) (kb kn : ℕ) (before now : Option (List ℕ)) (result : Status) → (result ≡ CannotWrite → Rose kb kn)
-    → HasCause words o result ⊎ IsGameRun words o before now result → IsAnswerable words o kb kn → IsAnswered words o result
-complete words o kb kn before now result rose h a = answered words o kb kn a before now result rose h
+    → HasCause words o result ⊎ IsGameRun words o before now result → IsComplete words o kb kn result
+complete words o kb kn before now result rose h = (
+  λ a. answered words o kb kn a before now result rose h,
+  λ (a, calm). answerable_done words o kb kn before now result a calm rose h,
+)

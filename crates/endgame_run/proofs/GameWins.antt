@@ -55,7 +55,8 @@ module _ (engine : Colour) (s : State) (bytes : List ℕ) (before now : Option (
   won_stopped status.FormLimit text line part h unnamed is = absurd h
   won_stopped status.TooLong text line part h unnamed is = absurd h
   won_stopped (status.BadFile f) text line part h unnamed is = absurd h
-  won_stopped (status.Unbuilt u) text line part h unnamed is = absurd h
+  won_stopped (status.BadExpression f) text line part h unnamed is = absurd h
+  won_stopped status.CalcLimit text line part h unnamed is = absurd h
 
   line_unnamed : (line whole : List ℕ) (n : ℕ) → line ≡ whole → (whole ≡ codes "fault cannot read\n") ⊎ (whole ≡ codes "fault lines\n") → IsUnnamed engine (take n line)
   line_unnamed line whole n e (inl is) = subst (λ l. IsUnnamed engine (take n l)) (sym (e ∙ is)) (calm_unnamed engine (codes "fault cannot read\n") n refl)
@@ -82,7 +83,8 @@ module _ (engine : Colour) (s : State) (bytes : List ℕ) (before now : Option (
   won_game status.FormLimit begun h = absurd begun
   won_game status.TooLong begun h = absurd begun
   won_game (status.BadFile f) begun h = absurd begun
-  won_game (status.Unbuilt u) begun h = absurd begun
+  won_game (status.BadExpression f) begun h = absurd begun
+  won_game status.CalcLimit begun h = absurd begun
 
 pub plays_won : (words : List (List ℕ)) (o : Outside) (before now : Option (List ℕ)) (result : Status) → IsWritten words o before now result ⊎ IsGameRun words o before now result
     → IsWritten words o before now result ⊎ PlaysWon words o before now

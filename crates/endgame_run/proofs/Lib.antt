@@ -1,3 +1,4 @@
+mod CalcLaws
 mod CompleteLaws
 mod GameLaws
 mod GameWins
@@ -12,3 +13,5 @@ mod StepLaws
 mod TakenLaws
 mod TopLaws
 mod WrittenLaws
+pub mod PoseLaws
+pub mod TrialLaws

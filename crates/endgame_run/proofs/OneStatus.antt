@@ -163,7 +163,8 @@ solved_or_refused limits p (status.BadFile f) a h = absurd h
 solved_or_refused limits p status.Memory a h = absurd h
 solved_or_refused limits p status.TooLong a h = absurd h
 solved_or_refused limits p status.TooManyLines a h = absurd h
-solved_or_refused limits p (status.Unbuilt u) a h = absurd h
+solved_or_refused limits p (status.BadExpression f) a h = absurd h
+solved_or_refused limits p status.CalcLimit a h = absurd h
 
 -- sound regions aren't refused
 sound_clash : (limits : Limits) (p : Setup) (s : Status) (b : List ℕ) (regions : List Shape) → AreRegionsOfPlay p.board regions → AreSound limits regions → IsRefused limits p s b → ⊥
@@ -195,7 +196,8 @@ valued_or_not limits p (status.BadFile f) a h = absurd h
 valued_or_not limits p status.Memory a h = absurd h
 valued_or_not limits p status.TooLong a h = absurd h
 valued_or_not limits p status.TooManyLines a h = absurd h
-valued_or_not limits p (status.Unbuilt u) a h = absurd h
+valued_or_not limits p (status.BadExpression f) a h = absurd h
+valued_or_not limits p status.CalcLimit a h = absurd h
 
 -- of regions all of whose values are shown none isn't
 shown_clash : (regions others : List Shape) (p : ℕ) → others ≡ regions → ((k : ℕ) → k < length regions → HasShownValue (region_at regions k)) → IsFirstUnshown others p → ⊥
@@ -264,7 +266,8 @@ safe_is_done p (status.BadFile f) a h = absurd h
 safe_is_done p status.Memory a h = absurd h
 safe_is_done p status.TooLong a h = absurd h
 safe_is_done p status.TooManyLines a h = absurd h
-safe_is_done p (status.Unbuilt u) a h = absurd h
+safe_is_done p (status.BadExpression f) a h = absurd h
+safe_is_done p status.CalcLimit a h = absurd h
 
 position_status : (q : Question) (p : Setup) (s t : Status) (a b : List ℕ) → IsPositionAnswer q p s a → IsPositionAnswer q p t b → s ≡ t
 position_status question.Safe p s t a b x y = safe_is_done p s a x ∙ sym (safe_is_done p t b y)
@@ -301,7 +304,8 @@ file_or_position q file settings status.CannotWrite a h = inr h
 file_or_position q file settings status.Memory a h = inr h
 file_or_position q file settings status.TooLong a h = inr h
 file_or_position q file settings status.TooManyLines a h = inr h
-file_or_position q file settings (status.Unbuilt u) a h = inr h
+file_or_position q file settings (status.BadExpression f) a h = inr h
+file_or_position q file settings status.CalcLimit a h = inr h
 
 pub one_status : HasOneStatus
 one_status q file settings s t a b x y = go (file_or_position q file settings s a x) (file_or_position q file settings t b y) where

@@ -6,7 +6,6 @@ use Rattle.gd_words.specs.Job.{IsJob, JobView}
 use Rattle.endgame_run.specs.declared.status.Status.{Status}
 use Rattle.endgame_run.specs.declared.status.Status.TheVariants.{CannotRead, CannotWrite, Done, Memory, TooManyLines}
 use Rattle.endgame_run.specs.declared.status.Status.TheVariants as status
-use Rattle.endgame_run.specs.declared.status.Unbuilt.TheVariants as unbuilt
 use Rattle.endgame_run.specs.declared.question.Question.{Question}
 use Rattle.endgame_run.specs.File.{Outside}
 use Rattle.endgame_run.specs.Game.{IsGameRun}
@@ -32,7 +31,8 @@ part_output words o before now status.RegionLimit (inl w) ne = w
 part_output words o before now status.FormLimit (inl w) ne = w
 part_output words o before now status.TooLong (inl w) ne = w
 part_output words o before now (status.BadFile f) (inl w) ne = w
-part_output words o before now (status.Unbuilt unbuilt.Command) (inl w) ne = w
+part_output words o before now (status.BadExpression f) (inl w) ne = w
+part_output words o before now status.CalcLimit (inl w) ne = w
 part_output words o before now Memory (inr g) ne = absurd g.begun
 part_output words o before now status.Usage (inr g) ne = absurd g.begun
 part_output words o before now status.Cycle (inr g) ne = absurd g.begun
@@ -40,7 +40,8 @@ part_output words o before now status.RegionLimit (inr g) ne = absurd g.begun
 part_output words o before now status.FormLimit (inr g) ne = absurd g.begun
 part_output words o before now status.TooLong (inr g) ne = absurd g.begun
 part_output words o before now (status.BadFile f) (inr g) ne = absurd g.begun
-part_output words o before now (status.Unbuilt unbuilt.Command) (inr g) ne = absurd g.begun
+part_output words o before now (status.BadExpression f) (inr g) ne = absurd g.begun
+part_output words o before now status.CalcLimit (inr g) ne = absurd g.begun
 
 -- words that pose a question are a job
 pub pose_said : (words : List (List ℕ)) (job : JobView) (q : Question) (word : List ℕ) → Pose words job q word → IsJob words job
@@ -54,8 +55,8 @@ no_job words o before now result (inr g) none = absurd (none g.game.job g.game.a
 no_job words o before now status.Usage (inl h) none = inl refl
 no_job words o before now CannotWrite (inl h) none = inr refl
 no_job words o before now Memory (inl h) none = absurd (none h.0 h.1)
-no_job words o before now Done (inl h) none = absurd (none h.1.0 h.1.3.0.said)
-no_job words o before now (status.Unbuilt unbuilt.Command) (inl h) none = absurd (none h.1.0.0 h.1.0.1)
+no_job words o before now Done (inl (text, inl h)) none = absurd (none h.0 h.3.0.said)
+no_job words o before now Done (inl (text, inr h)) none = absurd (none h.0 h.1.said)
 no_job words o before now CannotRead (inl h) none = absurd (none h.1.0 (pose_said words h.1.0 h.1.1 h.1.2 h.1.3))
 no_job words o before now TooManyLines (inl h) none = absurd (none h.1.0 (pose_said words h.1.0 h.1.1 h.1.2 h.1.3))
 no_job words o before now status.Cycle (inl h) none = absurd (none h.1.0 (pose_said words h.1.0 h.1.1 h.1.2 h.1.3))
@@ -63,3 +64,5 @@ no_job words o before now status.RegionLimit (inl h) none = absurd (none h.1.0 (
 no_job words o before now status.FormLimit (inl h) none = absurd (none h.1.0 (pose_said words h.1.0 h.1.1 h.1.2 h.1.3))
 no_job words o before now status.TooLong (inl h) none = absurd (none h.1.0 (pose_said words h.1.0 h.1.1 h.1.2 h.1.3))
 no_job words o before now (status.BadFile f) (inl h) none = absurd (none h.1.0 (pose_said words h.1.0 h.1.1 h.1.2 h.1.3))
+no_job words o before now (status.BadExpression f) (inl (text, h)) none = absurd (none h.0 h.1.said)
+no_job words o before now status.CalcLimit (inl (text, h)) none = absurd (none h.0 h.1.said)

@@ -120,7 +120,8 @@ values_are setup limits game (status.BadFile f) text b t = absurd t
 values_are setup limits game status.Memory text b t = absurd t
 values_are setup limits game status.TooLong text b t = absurd t
 values_are setup limits game status.TooManyLines text b t = absurd t
-values_are setup limits game (status.Unbuilt u) text b t = absurd t
+values_are setup limits game (status.BadExpression f) text b t = absurd t
+values_are setup limits game status.CalcLimit text b t = absurd t
 
 -- a value that isn't shown is the report on the values of its game
 pub unshown_is : (game : SolvedGame) (fault : ValuesError) (s : Status) (text : List ℕ) → IsRefusal (IsFirstUnshown game.regions) fault → s ≡ status.FormLimit

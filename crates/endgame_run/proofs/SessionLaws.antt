@@ -94,7 +94,8 @@ stopped_whole engine s bytes before now status.RegionLimit text line h e = absur
 stopped_whole engine s bytes before now status.FormLimit text line h e = absurd h
 stopped_whole engine s bytes before now status.TooLong text line h e = absurd h
 stopped_whole engine s bytes before now (status.BadFile f) text line h e = absurd h
-stopped_whole engine s bytes before now (status.Unbuilt u) text line h e = absurd h
+stopped_whole engine s bytes before now (status.BadExpression f) text line h e = absurd h
+stopped_whole engine s bytes before now status.CalcLimit text line h e = absurd h
 
 rose_later : (a b c : ℕ) → a ≤ b → Rose b c → Rose a c
 rose_later a b c le rose = omega (arith, le, rose)

@@ -3,9 +3,11 @@ use Rattle.std.proofs.Common.{◌≡◌, ℕ, ◌≤◌, ◌+◌, ◌⊎◌, inl
 use Rattle.std.specs.Prelude.{Option}
 use Rattle.go_grid.specs.Region.{Shape}
 use Rattle.sgf_go.specs.declared.settings.Setup.{Setup}
+use Rattle.board_gen.specs.Trial.{IsTrialBoard}
+use Rattle.board_gen.proofs.OneBoard.{one_board}
 use Rattle.gd_words.specs.Job.{IsOnlyJob, JobView}
 use Rattle.gd_words.specs.Task.{Task}
-use Rattle.gd_words.specs.Task.Task.{solve, safe, values, play, trial}
+use Rattle.gd_words.specs.Task.Task.{solve, safe, values, play, trial, calc}
 use Rattle.endgame_solver.specs.declared.limits.Limits.{Limits}
 use Rattle.endgame_solver.specs.Faults.{most_steps}
 use Rattle.region_cut.specs.Cut.{AreRegionsOfPlay}
@@ -16,7 +18,8 @@ use Rattle.desk_io.specs.Files.{Files}
 use Rattle.endgame_run.specs.Position.{Reads}
 use Rattle.endgame_run.specs.Top.{AreToldSteps, IsModest}
 use Rattle.endgame_run.proofs.OneStatus.{one_setup}
-use Rattle.endgame_run.specs.Verdict.{AreSteps, AreStepsFor, Asks, HasLimits, IsToldRegions, NeedRegions, Pose, limits_of}
+use Rattle.endgame_run.proofs.PoseLaws.{one_number, trial_unposed}
+use Rattle.endgame_run.specs.Verdict.{AreNeededRegions, AreSteps, AreStepsFor, Asks, HasLimits, NeedRegions, Pose, limits_of}
 
 -- a job's limits are such as a search asks for
 pub modest : (job : JobView) (q : Question) (word : List ℕ) → Asks job q word → job.positions ≤ 1000000 → IsModest q
@@ -26,7 +29,7 @@ modest job question.Safe word a few = tt
 
 pub run_steps : (words : List (List ℕ)) (files : Option Files) (left : Option (List ℕ)) (job : JobView) (q : Question) (word : List ℕ) (before now : ℕ) → Pose words job q word → AreToldSteps q (told_of files left word) job.settings before now → AreSteps words files left before now
 run_steps words files left job q word before now a (inl e) = inl e
-run_steps words files left job q word before now a (inr h) = inr (job, q, word, h.0, h.1, a, h.2, h.3, h.4)
+run_steps words files left job q word before now a (inr h) = inr (inl (job, q, word, h.0, h.1, a, h.2, h.3, h.4))
 
 -- the file that a task is about
 abbrev file_of : Task → Option (List ℕ)
@@ -35,6 +38,7 @@ file_of (safe word) = Some word
 file_of (values word) = Some word
 file_of (play word) = Some word
 file_of (trial number) = None
+file_of (calc expression) = None
 
 -- the file and the limits of words that need regions of play
 posed : (words : List (List ℕ)) (job : JobView) (q : Question) (limits : Limits) (word : List ℕ) → Pose words job q word → HasLimits q limits
@@ -65,17 +69,25 @@ with_limits (question.Values limits) setup before now s = inr (limits, refl, s)
 -- no steps where no regions are needed
 pub no_steps : (words : List (List ℕ)) (files : Option Files) (left : Option (List ℕ)) (before now : ℕ) → AreSteps words files left before now → ¬ NeedRegions words → now ≡ before
 no_steps words files left before now (inl e) none = e
-no_steps words files left before now (inr (job, q, word, file, setup, a, told, reads, s)) none = go (with_limits q setup before now s) where
+no_steps words files left before now (inr (inr (number, a, s))) none = absurd (none (inr (number, a)))
+no_steps words files left before now (inr (inl (job, q, word, file, setup, a, told, reads, s))) none = go (with_limits q setup before now s) where
   go : (now ≡ before) ⊎ ((limits : Limits) × HasLimits q limits × ((regions : List Shape) → AreRegionsOfPlay setup.board regions → now ≤ before + most_steps limits regions)) → now ≡ before
   go (inl e) = e
-  go (inr (limits, h, few)) = absurd (none (job, q, word, a, subst (HasLimits q) (posed words job q limits word a h).2 h))
+  go (inr (limits, h, few)) = absurd (none (inl (job, q, word, a, subst (HasLimits q) (posed words job q limits word a h).2 h)))
 
--- the steps for a file that is told
+-- the steps for a position, of a file that is told or of a number
 pub steps_told : (words : List (List ℕ)) (files : Option Files) (left : Option (List ℕ)) (before now : ℕ) → AreSteps words files left before now → (limits : Limits) (setup : Setup) (regions : List Shape)
-    → IsToldRegions words files left limits setup
+    → AreNeededRegions words files left limits setup
     → AreRegionsOfPlay setup.board regions → now ≤ before + most_steps limits regions
 steps_told words files left before now (inl e) limits setup regions t are = omega (arith, e)
-steps_told words files left before now (inr (job, q, word, file, position, a, told, reads, s)) limits setup regions t are = go (with_limits q position before now s) where
+steps_told words files left before now (inr (inl (job, q, word, file, position, a, told, reads, s))) limits setup regions (inr (number, b, here, default)) are =
+    absurd (trial_unposed words number job q word b a)
+steps_told words files left before now (inr (inr (number, a, s))) limits setup regions (inl t) are = absurd (trial_unposed words number t.job t.question t.word a t.asks)
+steps_told words files left before now (inr (inr (number, a, inl e))) limits setup regions (inr w) are = omega (arith, e)
+steps_told words files left before now (inr (inr (number, a, inr (position, drawn, few)))) limits setup regions (inr (other, b, here, default)) are =
+    let board = one_board number position.board setup.board drawn.board (subst (λ n. IsTrialBoard n setup.board) (one_number words other number b a) here.board) in
+    subst (λ l. now ≤ before + most_steps l regions) (sym default) (few regions (subst (λ g. AreRegionsOfPlay g regions) (sym board) are))
+steps_told words files left before now (inr (inl (job, q, word, file, position, a, told, reads, s))) limits setup regions (inl t) are = go (with_limits q position before now s) where
   go : (now ≡ before) ⊎ ((most : Limits) × HasLimits q most × ((rs : List Shape) → AreRegionsOfPlay position.board rs → now ≤ before + most_steps most rs)) → now ≤ before + most_steps limits regions
   go (inl e) = omega (arith, e)
   go (inr (most, h, few)) =

@@ -11,7 +11,6 @@ use Rattle.sgf_go.specs.declared.settings.Settings.{Settings}
 use Rattle.sgf_go.specs.declared.settings.Setup.{Setup}
 use Rattle.endgame_run.specs.declared.status.Status.{Status}
 use Rattle.endgame_run.specs.declared.status.Status.TheVariants.{Done, Usage, CannotRead, CannotWrite, BadFile, Memory, TooManyLines, TooLong}
-use Rattle.endgame_run.specs.declared.status.Unbuilt.TheVariants as unbuilt
 use Rattle.endgame_run.specs.declared.status.Status.TheVariants as status
 use Rattle.gd_words.specs.Job.{JobView}
 use Rattle.endgame_run.specs.File.{Outside, IsTold, IsWhole, dash, told_source, told_of, count_of}
@@ -48,7 +47,8 @@ position_answer q told before now settings setup TooLong text p h = absurd h
 position_answer q told before now settings setup TooManyLines text p h = absurd h
 position_answer q told before now settings setup Memory text p h = absurd h
 position_answer q told before now settings setup (BadFile f) text p h = absurd h
-position_answer q told before now settings setup (status.Unbuilt unbuilt.Command) text p h = absurd h
+position_answer q told before now settings setup (status.BadExpression f) text p h = absurd h
+position_answer q told before now settings setup status.CalcLimit text p h = absurd h
 
 pub found_position : (told : Option (Option (List ℕ))) (before now : ℕ) (settings : Settings) (found : Found) (setup : Setup) → found ≡ Position setup
     → IsFound told before now settings found → IsPositionOf told settings setup
@@ -68,7 +68,8 @@ fault_answer q told before now settings Usage text h = absurd h
 fault_answer q told before now settings CannotWrite text h = absurd h
 fault_answer q told before now settings TooManyLines text h = absurd h
 fault_answer q told before now settings Memory text h = absurd h
-fault_answer q told before now settings (status.Unbuilt unbuilt.Command) text h = absurd h
+fault_answer q told before now settings (status.BadExpression f) text h = absurd h
+fault_answer q told before now settings status.CalcLimit text h = absurd h
 
 pub fault_undone : (told : Option (Option (List ℕ))) (before now : ℕ) (settings : Settings) (s : Status) (text : List ℕ) → IsFileFault told before now settings s text → s ≢ Done
 fault_undone told before now settings s text h e = subst (λ x. IsFileFault told before now settings x text) e h
@@ -127,7 +128,8 @@ written_whole words o before now CannotRead text d e = (text, d, e)
 written_whole words o before now TooLong text d e = (text, d, e)
 written_whole words o before now TooManyLines text d e = (text, d, e)
 written_whole words o before now (BadFile f) text d e = (text, d, e)
-written_whole words o before now (status.Unbuilt u) text d e = (text, d, e)
+written_whole words o before now (status.BadExpression f) text d e = (text, d, e)
+written_whole words o before now status.CalcLimit text d e = (text, d, e)
 written_whole words o before now CannotWrite text d e = absurd d.4.3.2
 written_whole words o before now Memory text d e = absurd d.4.3.2
 
@@ -146,7 +148,8 @@ cause_whole words o CannotRead text d = (text, d)
 cause_whole words o TooLong text d = (text, d)
 cause_whole words o TooManyLines text d = (text, d)
 cause_whole words o (BadFile f) text d = (text, d)
-cause_whole words o (status.Unbuilt u) text d = (text, d)
+cause_whole words o (status.BadExpression f) text d = (text, d)
+cause_whole words o status.CalcLimit text d = (text, d)
 cause_whole words o CannotWrite text d = tt
 cause_whole words o Memory text d = absurd d.4.3.2
 
@@ -158,18 +161,19 @@ caused words o kb kn before now s text result d (inr f) = subst (λ r. HasCause 
 -- an answer to words that ask about a file
 pub decided : (words : List (List ℕ)) (o : Outside) (job : JobView) (q : Question) (word : List ℕ) (s : Status) (text : List ℕ) → AskAbout words job q word
     → IsAnswer q (told_of o.files o.left word) (count_of o.shelf_before o.lines_before word) (count_of o.shelf_now o.lines_now word) job.settings s text → IsDecided words o s text
-decided words o job q word Done text a h = (job, q, word, a, h)
+decided words o job q word Done text a h = inl (job, q, word, a, h)
 decided words o job q word status.Cycle text a h = (job, q, word, inl a, h)
 decided words o job q word status.RegionLimit text a h = (job, q, word, inl a, h)
 decided words o job q word status.FormLimit text a h = (job, q, word, inl a, h)
 decided words o job q word CannotRead text a h = (job, q, word, inl a, h)
 decided words o job q word TooLong text a h = (job, q, word, inl a, h)
 decided words o job q word (BadFile f) text a h = (job, q, word, inl a, h)
-decided words o job q word (status.Unbuilt unbuilt.Command) text a h = absurd h.3.2
 decided words o job q word Usage text a h = absurd h.3.2
 decided words o job q word CannotWrite text a h = absurd h.3.2
 decided words o job q word TooManyLines text a h = absurd h.3.2
 decided words o job q word Memory text a h = absurd h.3.2
+decided words o job q word (status.BadExpression f) text a h = absurd h.3.2
+decided words o job q word status.CalcLimit text a h = absurd h.3.2
 
 -- what keeps a file from being solved keeps it from being played
 pub undone : (words : List (List ℕ)) (o : Outside) (job : JobView) (word : List ℕ) (s : Status) (text : List ℕ) → AreToPlay words job word → s ≢ Done
@@ -182,11 +186,12 @@ undone words o job word status.FormLimit text a n h = (job, Solve (limits_of job
 undone words o job word CannotRead text a n h = (job, Solve (limits_of job), word, inr (a, refl), h)
 undone words o job word TooLong text a n h = (job, Solve (limits_of job), word, inr (a, refl), h)
 undone words o job word (BadFile f) text a n h = (job, Solve (limits_of job), word, inr (a, refl), h)
-undone words o job word (status.Unbuilt unbuilt.Command) text a n h = absurd h.3.2
 undone words o job word Usage text a n h = absurd h.3.2
 undone words o job word CannotWrite text a n h = absurd h.3.2
 undone words o job word TooManyLines text a n h = absurd h.3.2
 undone words o job word Memory text a n h = absurd h.3.2
+undone words o job word (status.BadExpression f) text a n h = absurd h.3.2
+undone words o job word status.CalcLimit text a n h = absurd h.3.2
 
 pub done_text : (words : List (List ℕ)) (o : Outside) (kb kn : ℕ) (before now : Option (List ℕ)) (s : Status) (text : List ℕ) (result : Status)
     → IsDecided words o s text → IsFinished s text kb kn before now result → result ≡ Done → IsDecided words o Done text × (now ≡ append_known before text)

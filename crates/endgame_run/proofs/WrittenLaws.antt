@@ -21,7 +21,8 @@ use Rattle.endgame_run.specs.declared.question.Question.TheVariants as question
 use Rattle.endgame_run.specs.File.{Outside, told_of, count_of}
 use Rattle.endgame_run.specs.Solution.{IsSolution}
 use Rattle.endgame_run.specs.Top.{IsFileRun, IsFinished}
-use Rattle.endgame_run.specs.Verdict.{IsPosed, IsAnswer, AreToSolve, AskAbout, AskToSolve, IsDecided, HasLine, WritesWinner, WritesMove}
+use Rattle.endgame_run.specs.Verdict.{IsPosed, IsAnswer, AreToSolve, AskAbout, AskToSolve, IsDecided, IsDecidedAlone, HasLine, WritesWinner, WritesMove, limits_of}
+use Rattle.endgame_run.proofs.PoseLaws.{alone_unposed}
 use Rattle.endgame_run.proofs.TopLaws.{decided, done_text}
 
 front_pieces : (a b c d e f n r : List ℕ) → a ++ ((b ++ (c ++ (d ++ (e ++ (f ++ n))))) ++ r) ≡ ((a ++ (b ++ (c ++ (d ++ (e ++ f))))) ++ n) ++ r
@@ -59,7 +60,7 @@ pub record Posed (words : List (List ℕ)) (o : Outside) (before now : Option (L
   pub winner : Colour
   pub move : Option Move
   pub posed : IsPosed words o setup state
-  pub solution : IsSolution setup state winner move
+  pub solution : IsSolution setup posed.job.tax state winner move
   pub text : now ≡ append_known before (solve_text state regions numbers winner move)
 
 -- words ask one question
@@ -76,26 +77,34 @@ solution_from : (words : List (List ℕ)) (o : Outside) (job : JobView) (limits 
     → IsAnswer (question.Solve limits) (told_of o.files o.left word) (count_of o.shelf_before o.lines_before word) (count_of o.shelf_now o.lines_now word) job.settings Done text
     → now ≡ append_known before text → Posed words o before now
 solution_from words o job limits word before now text a h e =
-    let t = h.3 in let v = t.2 in record {
+    let t = h.3 in let v = t.2 in
+    let solution = subst (λ l. IsSolution t.0 l.tax v.state v.winner v.move) a.1.1 v.solution in record {
       setup = t.0;
       state = v.state;
       regions = v.regions;
       numbers = v.numbers;
       winner = v.winner;
       move = v.move;
-      posed = record { job = job; word = word; file = h.0; asks = (a.0, (a.1.0, refl)); told = h.1; reads = t.1; opening = v.solution.opening };
-      solution = v.solution;
+      posed = record { job = job; word = word; file = h.0; asks = (a.0, (a.1.0, refl)); told = h.1; reads = t.1; opening = solution.opening };
+      solution = solution;
       text = e ∙ ap (append_known before) v.is;
     }
+
+-- words that ask to solve a file ask for nothing that depends on them alone
+file_asked : (words : List (List ℕ)) (text : List ℕ) → AskToSolve words → IsDecidedAlone words Done text → ⊥
+file_asked words text (job, word, asks) d = alone_unposed words Done text job (question.Solve (limits_of job)) word d (inl asks)
+
+posed_done : (words : List (List ℕ)) (o : Outside) (before now : Option (List ℕ)) (text : List ℕ) → IsDecided words o Done text → now ≡ append_known before text → AskToSolve words → Posed words o before now
+posed_done words o before now text (inr d) e asked = absurd (file_asked words text asked d)
+posed_done words o before now text (inl h) e asked =
+    let q = one_question words h.0 asked.0 h.1 h.2 asked.1 h.3 asked.2 in
+    solution_from words o h.0 q.0 h.2 before now text (subst (λ k. AskAbout words h.0 k h.2) q.1 h.3)
+    (subst (λ k. IsAnswer k (told_of o.files o.left h.2) (count_of o.shelf_before o.lines_before h.2) (count_of o.shelf_now o.lines_now h.2) h.0.settings Done text) q.1 h.4) e
 
 posed_by : (words : List (List ℕ)) (o : Outside) (kb kn : ℕ) (before now : Option (List ℕ)) (s : Status) (text : List ℕ) (result : Status)
     → IsDecided words o s text → IsFinished s text kb kn before now result → result ≡ Done → AskToSolve words → Posed words o before now
 posed_by words o kb kn before now s text result a f e asked =
-    let d = done_text words o kb kn before now s text result a f e in
-    let h = d.0 in
-    let q = one_question words h.0 asked.0 h.1 h.2 asked.1 h.3 asked.2 in
-    solution_from words o h.0 q.0 h.2 before now text (subst (λ k. AskAbout words h.0 k h.2) q.1 h.3)
-    (subst (λ k. IsAnswer k (told_of o.files o.left h.2) (count_of o.shelf_before o.lines_before h.2) (count_of o.shelf_now o.lines_now h.2) h.0.settings Done text) q.1 h.4) d.1
+    let d = done_text words o kb kn before now s text result a f e in posed_done words o before now text d.0 d.1 asked
 
 winner_of : (words : List (List ℕ)) (o : Outside) (before now : Option (List ℕ)) → Posed words o before now → WritesWinner words o before now
 winner_of words o before now p = (

@@ -1,7 +1,7 @@
 -- The numbers of the statuses.
 use Rattle.std.specs.Prelude.{ℕ}
 use Rattle.endgame_run.specs.declared.status.Status.{Status}
-use Rattle.endgame_run.specs.declared.status.Status.TheVariants.{Done, Usage, CannotRead, CannotWrite, BadFile, Cycle, RegionLimit, FormLimit, Memory, TooManyLines, TooLong, Unbuilt}
+use Rattle.endgame_run.specs.declared.status.Status.TheVariants.{Done, Usage, CannotRead, CannotWrite, BadFile, Cycle, RegionLimit, FormLimit, Memory, TooManyLines, TooLong, BadExpression, CalcLimit}
 
 abbrev pub code_of : Status → ℕ
 code_of Done = 0
@@ -15,4 +15,5 @@ code_of FormLimit = 7
 code_of Memory = 8
 code_of TooManyLines = 9
 code_of TooLong = 10
-code_of (Unbuilt what) = 11
+code_of (BadExpression fault) = 12
+code_of CalcLimit = 13

@@ -3,6 +3,9 @@ use Rattle.std.specs.Prelude.{◌≡◌, ◌⊎◌, ◌<◌, ℕ, List, length, 
 use Rattle.go_grid.specs.Region.{Shape}
 use Rattle.desk_io.specs.Outside.{Rose}
 use Rattle.sgf_go.specs.declared.settings.Setup.{Setup}
+use Rattle.game_calc.specs.Answer.{IsCalcRefusal}
+use Rattle.game_calc.specs.declared.errors.CalcError.TheVariants as calc
+use Rattle.game_calc.specs.declared.errors.CalcFault.{CalcFault}
 use Rattle.gd_words.specs.Job.{JobView}
 use Rattle.endgame_solver.specs.Faults.{AreSound}
 use Rattle.region_cut.specs.Cut.{AreRegionsOfPlay}
@@ -17,7 +20,7 @@ use Rattle.endgame_run.specs.File.{Outside, IsShort, told_of}
 use Rattle.endgame_run.specs.Game.{IsSessionOf}
 use Rattle.endgame_run.specs.Output.{InGame}
 use Rattle.endgame_run.specs.Position.{Reads}
-use Rattle.endgame_run.specs.Verdict.{Pose}
+use Rattle.endgame_run.specs.Verdict.{AreToCalc, AreToTrial, Pose}
 
 -- the regions of play that the question asks about are all sound within its limits, and the values that it asks for can all be shown
 abbrev pub IsWithinLimits : Question → Setup → Type 0
@@ -47,6 +50,20 @@ abbrev pub IsAnswered : List (List ℕ) → Outside → Status → Type 0
 IsAnswered words o status = (status ≡ Done) ⊎ ((status ≡ Memory)
     ⊎ ((status ≡ TooManyLines) × InGame words o (λ engine s bytes. (text : List ℕ) × IsSessionOf engine s bytes end.TooManyLines text)))
 
--- where nothing keeps the run from its text, it is answered
+-- no refusal meets the expression within the limit of parts
+abbrev pub IsUnrefused : ℕ → List ℕ → Type 0
+IsUnrefused limit expression = ((fault : CalcFault) → ¬ IsCalcRefusal limit expression (calc.Fault fault)) × ¬ IsCalcRefusal limit expression calc.Limit
+
+-- the words ask for the board of a number, or for the answer to an expression that no refusal meets
+abbrev pub AreAnswerable : List (List ℕ) → Type 0
+AreAnswerable words = ((number : ℕ) × AreToTrial words number)
+    ⊎ ((limit : ℕ) × (expression : List ℕ) × AreToCalc words limit expression × IsUnrefused limit expression)
+
+-- the same, and no write has failed
+abbrev pub IsAnswerableAlone : List (List ℕ) → ℕ → ℕ → Type 0
+IsAnswerableAlone words writes writes_now = AreAnswerable words × ¬ Rose writes writes_now
+
+-- where nothing keeps the run from its text, it is answered; what depends on the words alone is done, or memory was wanted
 abbrev pub IsComplete : List (List ℕ) → Outside → ℕ → ℕ → Status → Type 0
-IsComplete words o writes writes_now status = IsAnswerable words o writes writes_now → IsAnswered words o status
+IsComplete words o writes writes_now status = (IsAnswerable words o writes writes_now → IsAnswered words o status)
+    × (IsAnswerableAlone words writes writes_now → (status ≡ Done) ⊎ (status ≡ Memory))

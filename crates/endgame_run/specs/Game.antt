@@ -30,7 +30,7 @@ pub record IsPlayable (limits : Limits) (setup : Setup) (s : State) : Type 0 whe
   pub regions : List Shape
   pub are_regions : AreRegionsOfPlay setup.board regions
   pub sound : AreSound limits regions
-  pub opening : IsOpeningOf setup s
+  pub opening : IsOpeningOf setup limits.tax s
 
 -- the engine has the colour that is given, or else the side to move
 abbrev pub IsEngine : Option Colour → Setup → Colour → Type 0

@@ -15,6 +15,7 @@ use Rattle.endgame_run.specs.declared.question.Question.{Question}
 use Rattle.endgame_run.specs.declared.question.Question.TheVariants.{Solve, Values}
 use Rattle.report.specs.Values.{HasShownValue, IsFirstUnshown}
 use Rattle.endgame_solver.specs.Regions.{region_at}
+use Rattle.endgame_run.specs.Calc.{IsCalc}
 use Rattle.endgame_run.specs.Game.{IsGameWritten}
 use Rattle.endgame_run.specs.Refusal.{HasStatus}
 use Rattle.endgame_run.specs.Verdict.{HasLimits, IsFileAnswer, IsPositionAnswer}
@@ -23,6 +24,10 @@ use Rattle.endgame_run.specs.Verdict.{HasLimits, IsFileAnswer, IsPositionAnswer}
 abbrev pub HasOneStatus : Type 0
 HasOneStatus = (question : Question) (file : List ℕ) (settings : Settings) (s t : Status) (a b : List ℕ)
     → IsFileAnswer question file settings s a → IsFileAnswer question file settings t b → s ≡ t
+
+-- an expression has at most one status
+abbrev pub HasOneOutcome : Type 0
+HasOneOutcome = (limit : ℕ) (expression : List ℕ) (s t : Status) (a b : List ℕ) → IsCalc limit expression s a → IsCalc limit expression t b → s ≡ t
 
 -- a position whose regions are all sound is solved
 abbrev pub SolvesSound : Type 0

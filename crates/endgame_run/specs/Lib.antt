@@ -5,6 +5,8 @@ pub mod File
 pub mod Position
 pub mod Found
 pub mod Refusal
+pub mod Trial
+pub mod Calc
 pub mod Verdict
 pub mod Game
 pub mod Top

@@ -1,5 +1,5 @@
 -- The solution of a position: the winner and the first winning move of its opening.
-use Rattle.std.specs.Prelude.{Option}
+use Rattle.std.specs.Prelude.{Bool, Option}
 use Rattle.go_grid.specs.declared.grid.Colour.{Colour}
 use Rattle.sgf_go.specs.declared.settings.Setup.{Setup}
 use Rattle.whole_rules.specs.declared.states.Move.{Move}
@@ -7,12 +7,12 @@ use Rattle.whole_rules.specs.WholeGame.{State}
 use Rattle.whole_rules.specs.Opening.{IsOpening}
 use Rattle.whole_rules.specs.FirstWinningMove.{IsFirstWinning, IsWinner}
 
--- the state in which a position opens
-abbrev pub IsOpeningOf : Setup → State → Type 0
-IsOpeningOf setup s = IsOpening setup.board setup.black_prisoners setup.white_prisoners setup.komi_halves setup.side s
+-- the state in which a position opens, with or without a tax
+abbrev pub IsOpeningOf : Setup → Bool → State → Type 0
+IsOpeningOf setup tax s = IsOpening setup.board setup.black_prisoners setup.white_prisoners setup.komi_halves setup.side tax s
 
 -- The state opens the position, the colour is its winner, and the move is its first winning one, if there is one.
-pub record IsSolution (setup : Setup) (s : State) (winner : Colour) (move : Option Move) : Type 0 where
-  pub opening : IsOpeningOf setup s
+pub record IsSolution (setup : Setup) (tax : Bool) (s : State) (winner : Colour) (move : Option Move) : Type 0 where
+  pub opening : IsOpeningOf setup tax s
   pub wins : IsWinner s winner
   pub first : IsFirstWinning s move

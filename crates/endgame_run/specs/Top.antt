@@ -6,7 +6,7 @@ use Rattle.go_grid.specs.declared.grid.Colour.{Colour}
 use Rattle.sgf_go.specs.declared.settings.Settings.{Settings}
 use Rattle.sgf_go.specs.declared.settings.Setup.{Setup}
 use Rattle.gd_words.specs.Job.{JobView}
-use Rattle.gd_words.specs.Task.Task.{play}
+use Rattle.gd_words.specs.Task.Task.{play, trial, calc}
 use Rattle.whole_rules.specs.WholeGame.{State}
 use Rattle.endgame_solver.specs.declared.limits.Limits.{Limits}
 use Rattle.endgame_run.specs.declared.status.Status.{Status}
@@ -24,6 +24,8 @@ use Rattle.endgame_run.specs.Position.{Reads}
 use Rattle.endgame_run.specs.Refusal.{form_line}
 use Rattle.endgame_solver.specs.Solved.{SolvedGame}
 use Rattle.report.specs.Values.{IsFirstUnshown, IsValuesText}
+use Rattle.endgame_run.specs.Calc.{IsCalc}
+use Rattle.endgame_run.specs.Trial.{IsTrial}
 use Rattle.endgame_run.specs.Verdict.{AreStepsFor, Asks, IsAnswer, IsRefused, limits_of}
 
 -- a text written whole, with its status, or a front part of it, as a write failed
@@ -38,10 +40,13 @@ IsModest (Solve limits) = limits.positions ≤ 1000000
 IsModest (Values limits) = limits.positions ≤ 1000000
 IsModest Safe = Unit {0}
 
--- the job asks a question, or for a game within its limits, with its colour for the engine
+-- the job asks a question, or for a game within its limits, with its colour for the engine, for the board of a number, or for the answer
+-- to an expression within its limit of parts
 abbrev pub IsAsked : JobView → Asked → Type 0
 IsAsked job (asked.Answer inquiry) = Asks job inquiry.question inquiry.word.now
 IsAsked job (asked.Game game) = (job.task ≡ play game.word.now) × (game.limits ≡ limits_of job) × (game.engine ≡ job.engine)
+IsAsked job (asked.Trial number) = job.task ≡ trial number
+IsAsked job (asked.Calc line) = (job.task ≡ calc line.expression.now) × (line.parts ≡ job.parts)
 
 -- what a run of a question about the file of a word comes to: nothing for want of memory, and else an answer that was written
 abbrev pub IsFileRun : Question → Settings → List ℕ → Outside → ℕ → ℕ → Option (List ℕ) → Option (List ℕ) → Status → Type 0
@@ -50,6 +55,16 @@ IsFileRun question settings word o kb kn before now result =
     ⊎ ((s : Status) × (text : List ℕ)
     × IsAnswer question (told_of o.files o.left word) (count_of o.shelf_before o.lines_before word) (count_of o.shelf_now o.lines_now word) settings s text
     × IsFinished s text kb kn before now result)
+
+-- what a run of the board of a number comes to: nothing for want of memory, and else its text, which was written
+abbrev pub IsTrialRun : ℕ → ℕ → ℕ → Option (List ℕ) → Option (List ℕ) → Status → Type 0
+IsTrialRun number kb kn before now result =
+    ((result ≡ Memory) × (now ≡ before)) ⊎ ((text : List ℕ) × IsTrial number text × IsFinished Done text kb kn before now result)
+
+-- what a run of an expression comes to: nothing for want of memory, and else the text of its status, which was written
+abbrev pub IsCalcRun : ℕ → List ℕ → ℕ → ℕ → Option (List ℕ) → Option (List ℕ) → Status → Type 0
+IsCalcRun limit expression kb kn before now result =
+    ((result ≡ Memory) × (now ≡ before)) ⊎ ((s : Status) × (text : List ℕ) × IsCalc limit expression s text × IsFinished s text kb kn before now result)
 
 -- the report on the values of a solved game
 abbrev pub IsValuesReport : SolvedGame → Status → List ℕ → Type 0

@@ -9,13 +9,12 @@ use Rattle.sgf_go.specs.declared.settings.Settings.{Settings}
 use Rattle.sgf_go.specs.declared.settings.Setup.{Setup}
 use Rattle.gd_words.specs.Job.{JobView, IsJob, IsOnlyJob}
 use Rattle.gd_words.specs.Task.{Task}
-use Rattle.gd_words.specs.Task.Task.{solve, safe, values, play}
+use Rattle.gd_words.specs.Task.Task.{solve, safe, values, play, trial, calc}
 use Rattle.whole_rules.specs.declared.states.Move.{Move}
 use Rattle.whole_rules.specs.WholeGame.{State}
 use Rattle.whole_rules.specs.FirstWinningMove.{IsFirstWinning, IsWinner}
 use Rattle.endgame_run.specs.declared.status.Status.{Status}
-use Rattle.endgame_run.specs.declared.status.Status.TheVariants.{Done, Usage, CannotRead, CannotWrite, BadFile, Cycle, RegionLimit, FormLimit, Memory, TooLong, Unbuilt}
-use Rattle.endgame_run.specs.declared.status.Unbuilt.TheVariants.{Command}
+use Rattle.endgame_run.specs.declared.status.Status.TheVariants.{Done, Usage, CannotRead, CannotWrite, BadFile, Cycle, RegionLimit, FormLimit, Memory, TooLong, BadExpression, CalcLimit}
 use Rattle.endgame_solver.specs.declared.limits.Limits.{Limits}
 use Rattle.endgame_solver.specs.declared.faults.SolveError.{SolveError}
 use Rattle.endgame_solver.specs.Faults.{AreSound, AreRefused, most_steps}
@@ -25,6 +24,8 @@ use Rattle.endgame_run.specs.Position.{Reads, IsFaultText}
 use Rattle.endgame_run.specs.Solution.{IsOpeningOf, IsSolution}
 use Rattle.report.specs.Safety.{IsSafeText}
 use Rattle.report.specs.Values.{IsFirstUnshown, IsValuesText}
+use Rattle.endgame_run.specs.Calc.{IsCalc}
+use Rattle.endgame_run.specs.Trial.{IsTrial, IsTrialPosition, trial_limits}
 use Rattle.endgame_run.specs.Refusal.{HasStatus, form_line, refusal_line}
 use Rattle.report.specs.Solution.{AreNumbers, solve_text, winner_line, move_line}
 use Rattle.endgame_run.specs.declared.question.Question.{Question}
@@ -40,7 +41,7 @@ pub record IsSolved (limits : Limits) (setup : Setup) (text : List ℕ) : Type 0
   pub are_regions : AreRegionsOfPlay setup.board regions
   pub sound : AreSound limits regions
   pub counted : AreNumbers regions numbers
-  pub solution : IsSolution setup state winner move
+  pub solution : IsSolution setup limits.tax state winner move
   pub is : text ≡ solve_text state regions numbers winner move
 
 -- the regions of play of a position and a fault that keeps it from being solved within the limits, with its status and its line
@@ -100,9 +101,9 @@ IsAnswer question told before now settings CannotRead text = ((told ≡ Some Non
 IsAnswer question told before now settings TooLong text = IsTooLong told × (text ≡ codes "fault too long\n")
 IsAnswer question told before now settings s text = (file : List ℕ) × IsTold told file × IsShort file × IsFileAnswer question file settings s text
 
--- the limits of a job
+-- the limits of a job, and whether there is a tax
 abbrev pub limits_of : JobView → Limits
-limits_of job = record { positions = job.positions; parts = job.parts }
+limits_of job = record { positions = job.positions; parts = job.parts; tax = job.tax }
 
 -- the job asks this about the file of this word, within its limits
 abbrev pub Asks : JobView → Question → List ℕ → Type 0
@@ -140,25 +141,46 @@ HasLimits (Solve most) limits = most ≡ limits
 HasLimits (Values most) limits = most ≡ limits
 HasLimits Safe limits = ⊥
 
--- the words need the regions of play of a file
-abbrev pub NeedRegions : List (List ℕ) → Type 0
-NeedRegions words = (job : JobView) × (question : Question) × (word : List ℕ) × Pose words job question word × HasLimits question (limits_of job)
+-- the words are the job of the board that this number draws
+abbrev pub AreToTrial : List (List ℕ) → ℕ → Type 0
+AreToTrial words number = (job : JobView) × IsOnlyJob words job × (job.task ≡ trial number)
 
--- commands that aren't built yet
-abbrev pub IsUnbuilt : Task → Type 0
-IsUnbuilt (solve word) = ⊥
-IsUnbuilt (safe word) = ⊥
-IsUnbuilt (values word) = ⊥
-IsUnbuilt (play word) = ⊥
-IsUnbuilt task = Unit {0}
+-- the words need the regions of play of a file, or those of a number's board
+abbrev pub NeedRegions : List (List ℕ) → Type 0
+NeedRegions words = ((job : JobView) × (question : Question) × (word : List ℕ) × Pose words job question word × HasLimits question (limits_of job))
+    ⊎ ((number : ℕ) × AreToTrial words number)
+
+-- the words are the job of the expression, within this limit of parts
+abbrev pub AreToCalc : List (List ℕ) → ℕ → List ℕ → Type 0
+AreToCalc words limit expression = (job : JobView) × IsOnlyJob words job × (job.task ≡ calc expression) × (limit ≡ job.parts)
+
+-- the status of the board of a number, and its text
+abbrev pub IsTrialAnswer : ℕ → Status → List ℕ → Type 0
+IsTrialAnswer number Done text = IsTrial number text
+IsTrialAnswer number s text = ⊥
+
+-- the status of a task that depends on its words alone, within a limit of parts, and its text
+abbrev pub IsTextAlone : ℕ → Task → Status → List ℕ → Type 0
+IsTextAlone limit (trial number) s text = IsTrialAnswer number s text
+IsTextAlone limit (calc expression) s text = IsCalc limit expression s text
+IsTextAlone limit task s text = ⊥
+
+-- the words ask for what depends on them alone, and this is its status and its text
+abbrev pub IsDecidedAlone : List (List ℕ) → Status → List ℕ → Type 0
+IsDecidedAlone words s text = (job : JobView) × IsOnlyJob words job × IsTextAlone job.parts job.task s text
+
+-- a question about a file is asked, and this is its text
+abbrev pub IsDecidedByFile : List (List ℕ) → Outside → List ℕ → Type 0
+IsDecidedByFile words o text = (job : JobView) × (question : Question) × (word : List ℕ) × AskAbout words job question word
+    × IsAnswer question (told_of o.files o.left word) (count_of o.shelf_before o.lines_before word) (count_of o.shelf_now o.lines_now word) job.settings Done text
 
 -- The status that was decided, with its cause, and its text: `Usage` exactly where the words are outside the grammar. What keeps
--- a file from being solved keeps it from being played.
+-- a file from being solved keeps it from being played. What depends on the words alone is done; an expression may be refused.
 abbrev pub IsDecided : List (List ℕ) → Outside → Status → List ℕ → Type 0
 IsDecided words o Usage text = ((job : JobView) → ¬ IsJob words job) × (text ≡ codes "fault usage\n")
-IsDecided words o (Unbuilt Command) text = ((job : JobView) × IsJob words job × IsUnbuilt job.task) × (text ≡ codes "fault unbuilt command\n")
-IsDecided words o Done text = (job : JobView) × (question : Question) × (word : List ℕ) × AskAbout words job question word
-    × IsAnswer question (told_of o.files o.left word) (count_of o.shelf_before o.lines_before word) (count_of o.shelf_now o.lines_now word) job.settings Done text
+IsDecided words o Done text = IsDecidedByFile words o text ⊎ IsDecidedAlone words Done text
+IsDecided words o (BadExpression f) text = IsDecidedAlone words (BadExpression f) text
+IsDecided words o CalcLimit text = IsDecidedAlone words CalcLimit text
 IsDecided words o s text = (job : JobView) × (question : Question) × (word : List ℕ) × Pose words job question word
     × IsAnswer question (told_of o.files o.left word) (count_of o.shelf_before o.lines_before word) (count_of o.shelf_now o.lines_now word) job.settings s text
 
@@ -186,7 +208,7 @@ pub record IsPosed (words : List (List ℕ)) (o : Outside) (setup : Setup) (s : 
   pub asks : AreToSolve words job word
   pub told : IsTold (told_of o.files o.left word) file
   pub reads : Reads file job.settings (Ok setup)
-  pub opening : IsOpeningOf setup s
+  pub opening : IsOpeningOf setup job.tax s
 
 -- the line `winner` names the winner of the opening
 abbrev pub WritesWinner : List (List ℕ) → Outside → Option (List ℕ) → Option (List ℕ) → Type 0
@@ -220,14 +242,27 @@ pub record IsToldRegions (words : List (List ℕ)) (files : Option Files) (left 
   pub told : told_of files left word ≡ Some (Some file)
   pub reads : Reads file job.settings (Ok setup)
 
+-- the words ask for the board of a number, and this is its position; these are the limits of all such boards
+abbrev pub IsTrialRegions : List (List ℕ) → Limits → Setup → Type 0
+IsTrialRegions words limits setup = (number : ℕ) × AreToTrial words number × IsTrialPosition number setup × (limits ≡ trial_limits)
+
+-- the words need the regions of play of this position within these limits: it is that of a file that is told, or of a number
+abbrev pub AreNeededRegions : List (List ℕ) → Option Files → Option (List ℕ) → Limits → Setup → Type 0
+AreNeededRegions words files left limits setup = IsToldRegions words files left limits setup ⊎ IsTrialRegions words limits setup
+
 -- how many steps a question about a position takes at most: none but about its regions of play, and then for each the limit, or 3 to its points
 abbrev pub AreStepsFor : Question → Setup → ℕ → ℕ → Type 0
 AreStepsFor (Solve limits) setup before now = (regions : List Shape) → AreRegionsOfPlay setup.board regions → now ≤ before + most_steps limits regions
 AreStepsFor (Values limits) setup before now = (regions : List Shape) → AreRegionsOfPlay setup.board regions → now ≤ before + most_steps limits regions
 AreStepsFor Safe setup before now = now ≡ before
 
--- steps are taken only for the position of a file that has all that is told of the one asked about
+-- steps are taken for the position of the number
+abbrev pub AreTrialSteps : ℕ → ℕ → ℕ → Type 0
+AreTrialSteps number before now = (now ≡ before) ⊎ ((setup : Setup) × IsTrialPosition number setup × AreStepsFor (Solve trial_limits) setup before now)
+
+-- steps are taken only for the position of a file that has all that is told of the one asked about, or for that of a number
 abbrev pub AreSteps : List (List ℕ) → Option Files → Option (List ℕ) → ℕ → ℕ → Type 0
 AreSteps words files left before now = (now ≡ before)
-    ⊎ ((job : JobView) × (question : Question) × (word : List ℕ) × (file : List ℕ) × (setup : Setup) × Pose words job question word
+    ⊎ (((job : JobView) × (question : Question) × (word : List ℕ) × (file : List ℕ) × (setup : Setup) × Pose words job question word
     × IsTold (told_of files left word) file × Reads file job.settings (Ok setup) × AreStepsFor question setup before now)
+    ⊎ ((number : ℕ) × AreToTrial words number × AreTrialSteps number before now))

@@ -1,7 +1,7 @@
 //! Devices that fail, and files that are cut.
 
 use crate::tests::{
-    COPY, Failing, NOTHING_FAILS, ONE_POINT, ONE_POINT_TEXT, POINT_SAFE, outcome,
+    COPY, Failing, NOTHING_FAILS, ONE_POINT, ONE_POINT_TEXT, POINT_SAFE, SEVEN_TEXT, outcome,
     outcome_in_pieces, shelf, status_of,
 };
 use crate::{FileFault, Status};
@@ -90,7 +90,8 @@ fn reads_that_fail_are_told(rt: HostRuntime) -> Result<(), Fail> {
 #[test]
 fn a_full_sink_has_a_front_part(rt: HostRuntime) -> Result<(), Fail> {
     let alloc = rt.alloc();
-    let rows: [(&[&str], &[u8], &str); 5] = [
+    let rows: [(&[&str], &[u8], &str); 6] = [
+        (&["trial", "7"], b"", SEVEN_TEXT),
         (&["solve", "c"], b"", ONE_POINT_TEXT),
         (&["safe", "c"], b"", POINT_SAFE),
         (&["values", "c"], b"", POINT_VALUES),
@@ -220,9 +221,10 @@ impl Sink for Counter {
 #[test]
 fn a_text_and_each_line_of_a_game_are_one_write(rt: HostRuntime) -> Result<(), Fail> {
     let alloc = rt.alloc();
-    let rows: [(&[&str], usize, usize); 7] = [
+    let rows: [(&[&str], usize, usize); 8] = [
+        (&["trial", "7"], 1, 6),
         (&["solve", "c"], 1, 9),
-        (&["safe", "c"], 1, 7),
+        (&["safe", "c"], 1, 9),
         (&["values", "c"], 1, 8),
         (&["solve", "-"], 1, 1),
         (&["solve"], 1, 1),

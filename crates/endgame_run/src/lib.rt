@@ -1,6 +1,7 @@
 //! The top call: words, a shelf, a source and a sink go in, and a status comes out.
 #![tactic(auto)]
 
+mod calc;
 mod ending;
 mod faults;
 mod file;
@@ -13,12 +14,15 @@ mod refusal;
 mod solving;
 mod status;
 mod top;
+mod trial;
 
 pub use laws::verdict_law;
 pub use program::{code_of_run, start};
-pub use status::{FileFault, Status, Unbuilt};
+pub use status::{FileFault, Status};
 pub use top::run;
 
+#[cfg(test)]
+mod calc_tests;
 #[cfg(test)]
 mod device_tests;
 #[cfg(test)]
@@ -29,6 +33,8 @@ mod plain_tests;
 mod play_tests;
 #[cfg(test)]
 mod source_tests;
+#[cfg(test)]
+mod tax_tests;
 #[cfg(test)]
 mod tests;
 #[cfg(test)]

@@ -32,6 +32,7 @@ fn plain(alloc: Global, words: &[&str], file: &[u8]) -> Result<Option<Colour>, F
         setup.white_prisoners,
         setup.komi_halves,
         setup.side,
+        job.tax,
     )?;
     if !has_room(&state) {
         return Err(Fail::new("no room"));

@@ -33,11 +33,22 @@ pub(crate) struct Match<'a> {
     pub word: &'a str,
 }
 
+/// An expression, and the most parts of a form in its table of sums.
+#[derive(Clone, Copy)]
+pub(crate) struct Line<'a> {
+    pub expression: &'a str,
+    pub parts: u32,
+}
+
 /// What a job asks for.
 #[derive(Clone, Copy)]
 pub(crate) enum Asked<'a> {
     Answer(Inquiry<'a>),
     Game(Match<'a>),
+    /// The text of the board that a number draws.
+    Trial(u32),
+    /// The answer to an expression.
+    Calc(Line<'a>),
 }
 
 /// A status and its text.

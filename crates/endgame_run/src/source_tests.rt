@@ -19,7 +19,8 @@ const WIDE_TEXT: &str =
 const SINGLE_TEXT: &str = "side black\npurse black 0\npurse white 0\nhalf none\nregions 1\n\
     region aa points 1 positions 1\npositions 1\nwinner white\nmove none\n";
 
-const OPEN_SAFE: &str = "chain ba black stones 1 open\nregion aa points 4\n";
+const OPEN_SAFE: &str =
+    "chain ba black stones 1 open\nattack ca aa\ngroups black 0\ngroups white 0\nregion aa points 4\n";
 
 const COPY_TEXT: &str = "side white\npurse black 3\npurse white 8\nhalf white\nregions 1\n\
     region ea points 1 positions 3\npositions 3\nwinner white\nmove ea\n";
@@ -131,7 +132,11 @@ fn says_which_chains_of_the_source_are_alive(rt: HostRuntime) -> Result<(), Fail
     let alloc = rt.alloc();
     let rows: [(&[u8], Status, &str); 4] = [
         (b"(;SZ[4:1]AB[ba])", Status::Done, OPEN_SAFE),
-        (b"(;SZ[6])", Status::Done, "region aa points 36\n"),
+        (
+            b"(;SZ[6])",
+            Status::Done,
+            "groups black 0\ngroups white 0\nregion aa points 36\n",
+        ),
         (
             b"(;SZ[2:1]AB[aa]AW[ba])",
             Status::BadFile(FileFault::Setup(SetupFault::NoLiberty(Point(0)))),

@@ -2,6 +2,7 @@
 
 ghost use Rattle.std.specs.Prelude.{◌≡◌};
 
+use game_calc::CalcFault;
 use sgf_go::SetupFault;
 use sgf_tree::TreeFault;
 
@@ -10,13 +11,6 @@ use sgf_tree::TreeFault;
 pub enum FileFault {
     Tree(TreeFault),
     Setup(SetupFault),
-}
-
-/// What isn't built yet.
-#[derive(Clone, Copy, Debug, PartialEq, Eq)]
-pub enum Unbuilt {
-    /// The command `trial`.
-    Command,
 }
 
 /// What a run ends with.
@@ -44,8 +38,10 @@ pub enum Status {
     TooManyLines,
     /// The file has more than 1,048,576 bytes.
     TooLong,
-    /// What was asked isn't built yet.
-    Unbuilt(Unbuilt),
+    /// The expression is outside the grammar of the calculator.
+    BadExpression(CalcFault),
+    /// A game or a sum of the expression, or its answer, is past the limits.
+    CalcLimit,
 }
 
 impl Status {
@@ -67,7 +63,8 @@ impl Status {
             Status::Memory => 8,
             Status::TooManyLines => 9,
             Status::TooLong => 10,
-            Status::Unbuilt(_) => 11,
+            Status::BadExpression(_) => 12,
+            Status::CalcLimit => 13,
         }
     }
 }

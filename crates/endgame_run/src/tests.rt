@@ -2,7 +2,7 @@
 
 ghost use Rattle.std.specs.Prelude.{◌≡◌, ◌<◌, ◌≤◌};
 
-use crate::{Status, Unbuilt, run};
+use crate::{Status, run};
 use desk_io::{MemoryShelf, MemorySink, MemorySource, Sink};
 use local_play::Steps;
 use std::alloc::{AllocError, Global};
@@ -88,15 +88,26 @@ pub(crate) const COPY: &[u8] =
     b"Saved game (copy)\n(;FF[4]GaMe[1]SiZe[9:2]KM[6.5]C[a \\] b]AB[ba][da][ab:bb][db:eb]AW[ca][fa][ha][fb:ib](;B[cb]C[takes];W[tt];Black[tt])(;B[ea]))";
 
 pub(crate) const CAPTIVE_SAFE: &str =
-    "chain ba white stones 1 open\nchain ca black stones 7 alive\nchain fa white stones 6 alive\n\
+    "chain ba white stones 1 open\nattack aa\nchain ca black stones 7 alive\nchain fa white stones 6 alive\n\
     counted aa black points 2 held 3\ncounted da black points 1 held 1\ncounted ga white points 1 held 1\n\
-    counted ia white points 1 held 1\n";
+    counted ia white points 1 held 1\ngroups black 1\ngroups white 1\n";
 
 pub(crate) const POINT_SAFE: &str = "chain ba black stones 7 alive\nchain fa white stones 6 alive\n\
     counted aa black points 1 held 1\ncounted ca black points 1 held 1\ncounted ga white points 1 held 1\n\
-    counted ia white points 1 held 1\nregion ea points 1\n";
+    counted ia white points 1 held 1\ngroups black 1\ngroups white 1\nregion ea points 1\n";
 
-const COMMAND: Status = Status::Unbuilt(Unbuilt::Command);
+/// The board of 7.
+pub(crate) const SEVEN_TEXT: &str =
+    "trial 7\nregions 14\npositions 181\nshapes 3\nwinner black\nmove ib\n";
+
+const NO_REGION_TEXT: &str =
+    "trial 65536\nregions 0\npositions 0\nshapes 0\nwinner white\nmove none\n";
+
+const WHITE_WINS_TEXT: &str =
+    "trial 564787871\nregions 12\npositions 179\nshapes 3\nwinner white\nmove none\n";
+
+const TWO_SHAPES_TEXT: &str =
+    "trial 4294326608\nregions 12\npositions 194\nshapes 2\nwinner black\nmove hb\n";
 
 /// The calls that fail.
 #[derive(Clone, Copy)]
@@ -254,7 +265,7 @@ fn answers_faults_of_regions(rt: HostRuntime) -> Result<(), Fail> {
 #[test]
 fn answers_words_by_their_grammar(rt: HostRuntime) -> Result<(), Fail> {
     let alloc = rt.alloc();
-    let rows: [(&[&str], Status, &str); 10] = [
+    let rows: [(&[&str], Status, &str); 15] = [
         (&[], Status::Usage, "fault usage\n"),
         (&["solve"], Status::Usage, "fault usage\n"),
         (
@@ -279,7 +290,12 @@ fn answers_words_by_their_grammar(rt: HostRuntime) -> Result<(), Fail> {
             Status::Usage,
             "fault usage\n",
         ),
-        (&["trial", "7"], COMMAND, "fault unbuilt command\n"),
+        (&["trial", "7"], Status::Done, SEVEN_TEXT),
+        (&["trial", "0000000007"], Status::Done, SEVEN_TEXT),
+        (&["trial", "65536"], Status::Done, NO_REGION_TEXT),
+        (&["trial", "564787871"], Status::Done, WHITE_WINS_TEXT),
+        (&["trial", "4294326608"], Status::Done, TWO_SHAPES_TEXT),
+        (&["trial", "4294967296"], Status::Usage, "fault usage\n"),
         (
             &["solve", "nowhere"],
             Status::CannotRead,

@@ -1,13 +1,13 @@
 //! The top call.
 
-ghost use Rattle.std.specs.Prelude.{◌≡◌, ◌≢◌, ◌<◌, ◌^◌, ◌≤◌, ◌+◌, ◌⊎◌, List, IfOk, MatchOption};
+ghost use Rattle.std.specs.Prelude.{◌≡◌, ◌≢◌, ◌<◌, ◌^◌, ◌≤◌, ◌+◌, ◌⊎◌, List, IfOk};
 ghost use Rattle.go_grid.specs.Chain.{IsSettled};
 ghost use Rattle.go_grid.specs.Region.{Shape};
 ghost use Rattle.desk_io.specs.Outside.{Rose, ended};
 ghost use Rattle.sgf_go.specs.declared.settings.Setup.{Setup as Position};
 ghost use Rattle.sgf_go.specs.Komi.{IsInRange};
 ghost use Rattle.gd_words.specs.Job.{IsJob, JobView};
-ghost use Rattle.gd_words.specs.Viewed.{task_of, texts, viewed};
+ghost use Rattle.gd_words.specs.Viewed.{texts, viewed};
 ghost use Rattle.endgame_solver.specs.declared.limits.Limits.{Limits};
 ghost use Rattle.endgame_solver.specs.Faults.{most_steps};
 ghost use Rattle.region_cut.specs.Cut.{AreRegionsOfPlay};
@@ -17,14 +17,16 @@ ghost use Rattle.endgame_run.specs.Found.{HasRanges};
 ghost use Rattle.endgame_run.specs.Game.{EngineKeepsWin, IsGameRun};
 ghost use Rattle.endgame_run.specs.Output.{IsCaused, IsOutput, IsPartOutput};
 ghost use Rattle.endgame_run.specs.Top.{AreToldSteps, IsAsked, IsFileRun, IsModest};
-ghost use Rattle.endgame_run.specs.Verdict.{AreSteps, AreStepsFor, AskShelf, AskToPlay, AskToSolve, IsAnswer, IsPositionAnswer, IsToldRegions, IsUnbuilt, NeedRegions, ReadShelf, ReadSource, WritesMove, WritesWinner, limits_of};
+ghost use Rattle.endgame_run.specs.Verdict.{AreNeededRegions, AreSteps, AreStepsFor, AskShelf, AskToPlay, AskToSolve, IsAnswer, IsPositionAnswer, NeedRegions, ReadShelf, ReadSource, WritesMove, WritesWinner, limits_of};
 
+use crate::calc::run_calc;
 use crate::ending::finish;
 use crate::finding::find_position;
 use crate::game::run_game;
-use crate::question::{Asked, Found, Inquiry, Match, Question, Report};
+use crate::question::{Asked, Found, Inquiry, Line, Match, Question, Report};
 use crate::solving::{solve, value};
-use crate::status::{Status, Unbuilt};
+use crate::status::Status;
+use crate::trial::run_trial;
 use desk_io::{Shelf, Sink, Source};
 use endgame_solver::Limits;
 use gd_words::{Command, Job};
@@ -124,39 +126,44 @@ fn run_file<H: Shelf, S: Source, K: Sink, L: Ledger>(
     }
 }
 
-/// The limits of a job.
+/// The limits of a job, and whether there is a tax.
 fn limits(job: &Job<'_>) -> Limits
     ensures { result ≡ limits_of (viewed job.now) }
 {
     Limits {
         positions: job.positions,
         parts: job.parts,
+        tax: job.tax,
     }
 }
 
-/// What a job asks for, where its command is built.
-fn asked<'a>(job: &Job<'a>) -> Option<Asked<'a>>
-    ensures { MatchOption result (IsUnbuilt (task_of job.now.command)) (IsAsked (viewed job.now)) }
+/// What a job asks for.
+fn asked<'a>(job: &Job<'a>) -> Asked<'a>
+    ensures { IsAsked (viewed job.now) result }
 {
     match job.command {
-        Command::Solve(word) => Some(Asked::Answer(Inquiry {
+        Command::Solve(word) => Asked::Answer(Inquiry {
             question: Question::Solve(limits(job)),
             word,
-        })),
-        Command::Values(word) => Some(Asked::Answer(Inquiry {
+        }),
+        Command::Values(word) => Asked::Answer(Inquiry {
             question: Question::Values(limits(job)),
             word,
-        })),
-        Command::Safe(word) => Some(Asked::Answer(Inquiry {
+        }),
+        Command::Safe(word) => Asked::Answer(Inquiry {
             question: Question::Safe,
             word,
-        })),
-        Command::Play(word) => Some(Asked::Game(Match {
+        }),
+        Command::Play(word) => Asked::Game(Match {
             limits: limits(job),
             engine: job.engine,
             word,
-        })),
-        Command::Trial(_) => None,
+        }),
+        Command::Trial(number) => Asked::Trial(number),
+        Command::Calc(expression) => Asked::Calc(Line {
+            expression,
+            parts: job.parts,
+        }),
     }
 }
 
@@ -204,7 +211,7 @@ pub fn run<H: Shelf, S: Source, K: Sink, L: Ledger>(
         (H.faults shelf.new) (S.faults lines.old) (S.faults lines.new))
         (K.holds out.old) (K.holds out.new) }
     ensures steps { (limits : Limits) (setup : Position) (regions : List Shape)
-        → IsToldRegions (texts words.now) (H.files shelf.old) (S.left lines.old) limits setup
+        → AreNeededRegions (texts words.now) (H.files shelf.old) (S.left lines.old) limits setup
         → AreRegionsOfPlay setup.board regions → steps.new ≤ steps.old + most_steps limits regions }
     ensures few_steps { AreSteps (texts words.now) (H.files shelf.old) (S.left lines.old)
         steps.old steps.new }
@@ -233,17 +240,12 @@ pub fn run<H: Shelf, S: Source, K: Sink, L: Ledger>(
     let Ok(job) = gd_words::read(words) else {
         return finish(out, Status::Usage, b"fault usage\n");
     };
-    let Some(asked) = asked(&job) else {
-        return finish(
-            out,
-            Status::Unbuilt(Unbuilt::Command),
-            b"fault unbuilt command\n",
-        );
-    };
-    match asked {
+    match asked(&job) {
         Asked::Answer(inquiry) => {
             run_file(alloc, &inquiry, &job.settings, shelf, lines, out, steps)
         }
         Asked::Game(game) => run_game(alloc, &game, &job.settings, shelf, lines, out, steps),
+        Asked::Trial(number) => run_trial(alloc, number, out, steps),
+        Asked::Calc(line) => run_calc(alloc, &line, out),
     }
 }

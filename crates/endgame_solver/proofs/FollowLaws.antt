@@ -154,8 +154,8 @@ others_stay g h walls p lt not = elim (same_or_not (cell_at h p) (cell_at g p)) 
 ]
 
 pub regions_follow : RegionsFollow
-regions_follow g regions black white komi side s t ms settled cut opening plays =
-    let keeps = keeps_start g black white komi side s opening in
+regions_follow g regions black white komi side tax s t ms settled cut opening plays =
+    let keeps = keeps_start g black white komi side tax s opening in
     let held = subst (λ z. HoldPositions g regions cut (openings regions) z) (sym opening.board) (held_start g regions cut) in (
       λ r (k, lt, e).
           let here : region_at regions k ≡ r = get_or_default regions k no_region r lt ∙ e in

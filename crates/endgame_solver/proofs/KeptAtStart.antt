@@ -1,5 +1,5 @@
 -- What a solved game keeps, at the opening.
-use Rattle.std.proofs.Common.{◌≡◌, ℕ, ◌^◌, ◌<◌, ◌≤◌, sym, ap, ◌∙◌, subst, arith, List, [], length, get_or, map, replicate, ℤ, unsigned_abs}
+use Rattle.std.proofs.Common.{◌≡◌, ℕ, ◌^◌, ◌<◌, ◌≤◌, sym, ap, ◌∙◌, subst, arith, List, [], length, get_or, map, replicate, ℤ, unsigned_abs, Bool}
 use Rattle.std.specs.List.{All, Contains}
 use Rattle.std.proofs.lemmas.List.{get_or-map, get_or-replicate, get_or_default, length-map, length-replicate}
 use Rattle.std.proofs.lemmas.List.Elements.{Contains-get_or}
@@ -69,7 +69,7 @@ module _ (limits : Limits) (g : Grid) (regions : List Shape) (graphs : List Node
   pub are_sound : AreSound limits regions
   are_sound r (k, lt, at) = subst (IsSound limits) (get_or_default regions k no_region r lt ∙ at) (done.each k lt).sound
 
-  module _ (black white : ℕ) (komi : ℤ) (side : Colour) (s : State) (opening : IsOpening g black white komi side s) (places sum : List ℕ)
+  module _ (black white : ℕ) (komi : ℤ) (side : Colour) (tax : Bool) (s : State) (opening : IsOpening g black white komi side tax s) (places sum : List ℕ)
       (first : places ≡ replicate (length regions) 0) (ids : sum ≡ map (λ xs. get_or xs 0 0) values) where
     many_places : length places ≡ length regions
     many_places = ap length first ∙ length-replicate (length regions) 0
@@ -80,7 +80,7 @@ module _ (limits : Limits) (g : Grid) (regions : List Shape) (graphs : List Node
     is_at : IsAt g regions graphs places s
     is_at = record {
       many = many_places;
-      walls = (keeps_start g black white komi side s opening).walls;
+      walls = (keeps_start g black white komi side tax s opening).walls;
       contested = opening.contested;
       shown = λ k lt. subst (λ h. IsShown g regions graphs h k (spot_in k (place_at places k))) (sym opening.board)
           (subst (λ i. IsShown g regions graphs g k (spot_in k i)) (sym (first_place k lt)) (opening_shown g regions graphs are_graphs k lt));
@@ -105,5 +105,5 @@ module _ (limits : Limits) (g : Grid) (regions : List Shape) (graphs : List Node
           let of = (done.each k known).graph.graph in
           subst (Contains (graph_at graphs k).order) (sym (first_place k known)) (of.order.every 0 (omega (arith, of.graph.some, of.graph.beside))))
           (λ k lt. short_order k (omega (arith, lt, many_places)))
-          (purse_few g black white komi side s few opening small small' half);
+          (purse_few g black white komi side tax s few opening small small' half);
     }

@@ -1,5 +1,5 @@
 -- At the opening the purses are small, and leave room for every play.
-use Rattle.std.proofs.Common.{◌≡◌, ℕ, ◌+◌, ◌*◌, ◌^◌, ◌<◌, ◌≤◌, ◌∙◌, arith, List, length, get_or, ℤ, pos, negsuc, unsigned_abs}
+use Rattle.std.proofs.Common.{◌≡◌, ℕ, ◌+◌, ◌*◌, ◌^◌, ◌<◌, ◌≤◌, ◌∙◌, arith, List, length, get_or, ℤ, pos, negsuc, unsigned_abs, Bool, true, false}
 use Rattle.std.specs.List.{All, Contains, sum_by}
 use Rattle.std.proofs.lemmas.List.{get_or_default}
 use Rattle.std.proofs.lemmas.List.Elements.{Contains-get_or}
@@ -11,7 +11,7 @@ use Rattle.benson_life.specs.Held.{IsHeld, IsNumberOf}
 use Rattle.benson_life.proofs.HeldLemmas.{short}
 use Rattle.whole_rules.specs.declared.money.Token.{Token}
 use Rattle.whole_rules.specs.declared.money.Token.TheVariants as token
-use Rattle.whole_rules.specs.Opening.{IsOpening, komi_points}
+use Rattle.whole_rules.specs.Opening.{IsOpening, IsStart, komi_points}
 use Rattle.whole_rules.specs.Purses.{purse}
 use Rattle.whole_rules.specs.WholeGame.{State}
 use Rattle.local_graph.specs.Nodes.{Nodes}
@@ -31,20 +31,24 @@ held_few g c n few h =
     let taken = number_few _ h.captive (length g.cells) (λ p w. w.1.0) h.captives in
     omega (arith, few, free, taken, h.sum)
 
+start_few : (g : Grid) (c : Colour) (tax : Bool) (n : ℕ) → length g.cells ≤ 625 → IsStart g c tax n → n ≤ 1875
+start_few g c false n few held = held_few g c n few held
+start_few g c true n few (groups, _, held) = omega (arith, held_few g c (n + 2 * groups) few held)
+
 komi_few : (c : Colour) (komi : ℤ) → unsigned_abs komi ≤ 2000000 → komi_points c komi ≤ 1000000
 komi_few White (pos n) h = omega (arith, h)
 komi_few Black (negsuc n) h = omega (arith, h)
 komi_few White (negsuc n) h = omega arith
 komi_few Black (pos n) h = omega arith
 
-pub purse_few : (g : Grid) (black white : ℕ) (komi : ℤ) (side : Colour) (s : State) → length g.cells ≤ 625 → IsOpening g black white komi side s
+pub purse_few : (g : Grid) (black white : ℕ) (komi : ℤ) (side : Colour) (tax : Bool) (s : State) → length g.cells ≤ 625 → IsOpening g black white komi side tax s
     → black < 2 ^ 40 → white < 2 ^ 40 → unsigned_abs komi ≤ 2000000 → (c : Colour) → purse c s.purses ≤ 2 ^ 40 + 1001875
-purse_few g black white komi side s few o small small' half Black =
-    let (n, held, is) = o.black in
-    omega (arith, held_few g Black n few held, komi_few Black komi half, small, is)
-purse_few g black white komi side s few o small small' half White =
-    let (n, held, is) = o.white in
-    omega (arith, held_few g White n few held, komi_few White komi half, small', is)
+purse_few g black white komi side tax s few o small small' half Black =
+    let (n, start, is) = o.black in
+    omega (arith, start_few g Black tax n few start, komi_few Black komi half, small, is)
+purse_few g black white komi side tax s few o small small' half White =
+    let (n, start, is) = o.white in
+    omega (arith, start_few g White tax n few start, komi_few White komi half, small', is)
 
 token_few : (t : Token) → token_left t ≤ 1
 token_few token.Nobody = omega arith

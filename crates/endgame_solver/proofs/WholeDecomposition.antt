@@ -1,5 +1,5 @@
 -- The decomposition law over whole boards: the positions that a board holds in the regions follow the moves.
-use Rattle.std.proofs.Common.{ℕ, ℤ, zero, suc, ◌≡◌, ◌^◌, ◌+◌, ◌<◌, ◌≤◌, refl, sym, ap, ◌∙◌, subst, arith, List, [], ◌∷◌, length, get_or, Contains}
+use Rattle.std.proofs.Common.{ℕ, ℤ, zero, suc, ◌≡◌, ◌^◌, ◌+◌, ◌<◌, ◌≤◌, refl, sym, ap, ◌∙◌, subst, arith, List, [], ◌∷◌, length, get_or, Contains, Bool}
 use Rattle.std.proofs.lemmas.List.{ext_get_or}
 use Rattle.std.proofs.lemmas.List.Elements.{Contains-get_or}
 use Rattle.go_grid.specs.declared.grid.Cell.{Cell}
@@ -72,11 +72,11 @@ module _ (g : Grid) (settled : IsSettled g) (regions : List Shape) (are : AreReg
         openings_held (suc k) n (omega (arith, le)),
       )
 
-  seen_start : (black white : ℕ) (komi : ℤ) (side : Colour) (s : whole.State) → IsOpening g black white komi side s → (u : State Position) × SeenAs s u
-  seen_start black white komi side s o = (
+  seen_start : (black white : ℕ) (komi : ℤ) (side : Colour) (tax : Bool) (s : whole.State) → IsOpening g black white komi side tax s → (u : State Position) × SeenAs s u
+  seen_start black white komi side tax s o = (
     record { parts = openings regions 0 (length regions); purses = s.purses; side = s.side },
     (
-      keeps_start g black white komi side s o,
+      keeps_start g black white komi side tax s o,
       record {
         count = openings-long regions 0 (length regions);
         shown = subst (λ h. AllShown Position Moves (InRegion regions) (IsHeld g regions) h 0 (openings regions 0 (length regions))) (sym o.board) (openings_held 0 (length regions) (omega arith));
@@ -120,8 +120,8 @@ module _ (g : Grid) (settled : IsSettled g) (regions : List Shape) (are : AreReg
         same-plus _ _ _ _ first rest
 
 pub decomposes_whole : WholeDecomposes
-decomposes_whole g regions black white komi side s t ms settled are calm opening plays =
-    let u = seen_start g settled regions are black white komi side s opening in
+decomposes_whole g regions black white komi side tax s t ms settled are calm opening plays =
+    let u = seen_start g settled regions are black white komi side tax s opening in
     let v = seen_plays g settled regions are s t ms u.0 u.1 plays in
     let d = whole_decomposes Position (moves g settled regions are) (InRegion regions) (IsHeld g regions) g settled (length regions) (cell_play g settled regions are)
     ((largest regions).0 + 1) (depth g settled regions are) t v.0 (few_cells g settled regions are) (all_end g settled regions are calm t.board 0 v.0.parts v.1.1.shown) v.1 in (

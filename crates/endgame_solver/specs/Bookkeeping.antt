@@ -1,5 +1,5 @@
 -- What a list of moves makes of the regions and of the purses.
-use Rattle.std.specs.Prelude.{ℕ, ℤ, ◌≡◌, ◌⊎◌, ◌+◌, ◌<◌, List, [], ◌∷◌, length, slice_index, Contains}
+use Rattle.std.specs.Prelude.{ℕ, ℤ, ◌≡◌, ◌⊎◌, ◌+◌, ◌<◌, List, [], ◌∷◌, length, slice_index, Contains, Bool}
 use Rattle.go_grid.specs.declared.grid.Cell.{Cell}
 use Rattle.go_grid.specs.declared.grid.Colour.{Colour}
 use Rattle.go_grid.specs.declared.grid.Colour.TheVariants.{Black, White}
@@ -90,6 +90,6 @@ PursesFollow = (c : Colour) (s t : State) (ms : List Move) (ns : List ℕ) → P
 
 -- After any moves from the opening each region follows its own moves, and all points that aren't contested are as at the opening.
 abbrev pub RegionsFollow : Type 0
-RegionsFollow = (g : Grid) (regions : List Shape) (black white : ℕ) (komi : ℤ) (side : Colour) (s t : State) (ms : List Move) → IsSettled g
-    → AreRegionsOfPlay g regions → IsOpening g black white komi side s → Plays s ms t
+RegionsFollow = (g : Grid) (regions : List Shape) (black white : ℕ) (komi : ℤ) (side : Colour) (tax : Bool) (s t : State) (ms : List Move) → IsSettled g
+    → AreRegionsOfPlay g regions → IsOpening g black white komi side tax s → Plays s ms t
     → ((r : Shape) → Contains regions r → RegionFollows g r side ms t.board) × ((p : ℕ) → p < length g.cells → ¬ IsContested g p → cell_at t.board p ≡ cell_at g p)

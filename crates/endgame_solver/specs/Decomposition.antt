@@ -1,5 +1,5 @@
 -- The decomposition law over whole boards: who loses the whole game is the sign of a sum.
-use Rattle.std.specs.Prelude.{ℕ, ℤ, ◌⊎◌, ◌↔◌, ◌^◌, ◌+ℤ◌, List, [], ◌∷◌, length, Contains}
+use Rattle.std.specs.Prelude.{ℕ, ℤ, ◌⊎◌, ◌↔◌, ◌^◌, ◌+ℤ◌, List, [], ◌∷◌, length, Contains, Bool}
 use Rattle.go_grid.specs.declared.grid.Cell.{Cell}
 use Rattle.go_grid.specs.declared.grid.Colour.{Colour}
 use Rattle.go_grid.specs.declared.grid.Colour.TheVariants.{Black, White}
@@ -35,9 +35,9 @@ money_tree m = num 0 (credit Black m.black +ℤ credit White m.white) +ᵍ token
 -- Where no region of a settled board has a cycle, each state that moves reach from the opening has a winner. And the player to
 -- move loses exactly where the sum of trees of the regions' positions and the money is at most 0 for Black, at least 0 for White.
 abbrev pub WholeDecomposes : Type 0
-WholeDecomposes = (g : Grid) (regions : List Shape) (black white : ℕ) (komi : ℤ) (side : Colour) (s t : whole.State) (ms : List Move)
+WholeDecomposes = (g : Grid) (regions : List Shape) (black white : ℕ) (komi : ℤ) (side : Colour) (tax : Bool) (s t : whole.State) (ms : List Move)
     → IsSettled g → AreRegionsOfPlay g regions → ((r : Shape) → Contains regions r → HasNoCycle r.touch r.cells)
-    → IsOpening g black white komi side s → Plays s ms t
+    → IsOpening g black white komi side tax s → Plays s ms t
     → (MoverWins whole.State whole.Leads t ⊎ MoverLoses whole.State whole.Leads t)
     × ((trees : Trees) → AreTreesOn g t.board regions trees
     → MoverLoses whole.State whole.Leads t ↔ LosesGame t.side (total trees +ᵍ money_tree t.purses))

@@ -1,5 +1,5 @@
 -- What a contract sees of a solved game, and what its calls say.
-use Rattle.std.specs.Prelude.{◌≡◌, ◌≢◌, ℕ, ◌<◌, ◌↔◌, List, length, slice_index, Contains, Result, Ok, Err, ℤ, pos, ◌*ℤ◌, ◌^◌}
+use Rattle.std.specs.Prelude.{◌≡◌, ◌≢◌, ℕ, ◌<◌, ◌↔◌, List, length, slice_index, Contains, Result, Ok, Err, ℤ, pos, ◌*ℤ◌, ◌^◌, Bool}
 use Rattle.std.specs.List.{AllPairs}
 use Rattle.go_grid.specs.declared.grid.Cell.{Cell}
 use Rattle.go_grid.specs.Grid.{Grid, cell_at}
@@ -28,13 +28,13 @@ pub record SolvedGame : Type 0 where
   pub trees : List Tree
   pub state : State
 
--- the state in which the position opens
-abbrev pub OpensAs : Setup → State → Type 0
-OpensAs setup s = IsOpening setup.board setup.black_prisoners setup.white_prisoners setup.komi_halves setup.side s
+-- the state in which the position opens, with or without a tax
+abbrev pub OpensAs : Setup → Bool → State → Type 0
+OpensAs setup tax s = IsOpening setup.board setup.black_prisoners setup.white_prisoners setup.komi_halves setup.side tax s
 
 -- the game that the position opens, all of whose regions are sound, or why there is none
 abbrev pub Begun : Setup → Limits → Result SolvedGame SolveError → Type 0
-Begun setup limits (Ok game) = OpensAs setup game.state × AreRegionsOfPlay setup.board game.regions × AreSound limits game.regions
+Begun setup limits (Ok game) = OpensAs setup limits.tax game.state × AreRegionsOfPlay setup.board game.regions × AreSound limits game.regions
 Begun setup limits (Err (Memory e)) = Unit {0}
 Begun setup limits (Err fault) = (regions : List Shape) × AreRegionsOfPlay setup.board regions × AreRefused limits regions fault
 

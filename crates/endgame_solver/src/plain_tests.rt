@@ -20,7 +20,15 @@ fn opened(alloc: Global, game: Game) -> Result<Option<Whole>, AllocError>
     let Some(setup) = setup(alloc, game)? else {
         return Ok(None);
     };
-    let state = Whole::opening(alloc, &setup.board, 0, 0, setup.komi_halves, setup.side)?;
+    let state = Whole::opening(
+        alloc,
+        &setup.board,
+        0,
+        0,
+        setup.komi_halves,
+        setup.side,
+        false,
+    )?;
     if state.purse(Colour::Black) >= 1 << 60 || state.purse(Colour::White) >= 1 << 60 {
         return Ok(None);
     }

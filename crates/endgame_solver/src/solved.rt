@@ -80,7 +80,7 @@ impl Model for Solved {
 }
 
 impl Solved {
-    /// The game that a settled position opens: its regions, each with its graph and the values of all its positions. Or
+    /// The game that a settled position opens, with a tax where the limits say it: its regions, each with its graph and the values of all its positions. Or
     /// the first region of more than 32 points; or else the first with too many positions, a cycle or a value without a
     /// form. It takes at most one step for each position of each region.
     pub fn begin<L: Ledger>(
@@ -108,6 +108,7 @@ impl Solved {
             setup.white_prisoners,
             setup.komi_halves,
             setup.side,
+            limits.tax,
         )?;
         let regions = regions_of_play(alloc, board, &territory)?;
         if let Some((lowest, points)) = first_large(&regions) {

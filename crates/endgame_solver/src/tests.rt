@@ -84,6 +84,7 @@ const EMPTY: Game = Game {
 pub(crate) const LIMITS: Limits = Limits {
     positions: 100_000,
     parts: 500,
+    tax: false,
 };
 
 /// The board of a drawing, or `None` where it has no size.

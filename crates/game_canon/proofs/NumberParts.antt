@@ -221,3 +221,8 @@ sum-fits Ts a x f l k small refused = at s.0 s.2 w.0 w.1
         past.3 (y +ℤ x) (small y (to-number (tree_at Ts a) y (subst (IsReached (tree_at Ts a)) own from.1)))
         (shifted-is (Add x) y past.0 (subst (λ z. IsCanonicalFor (target (Add x) z) past.0) own from.3))
     at i e (options ls rs) t = t.no_number (subst IsNumberTree e (number-from (Add x) from.0 past.0 from.2 from.3 past.1))
+
+-- the parts of a sum with a number are those of the game, each with the number added
+pub sum-parts : (x : ℤ) (C Q G : Tree) → IsFollower C Q → (IsNumberTree Q → ⊥) → IsCanonicalTree G → IsCanonicalFor (G +ᵍ number_tree x) C
+    → (P : Tree) × IsPart G P × IsCanonicalTree P × IsCanonicalFor (P +ᵍ number_tree x) Q
+sum-parts x C Q G f hot g k = parts-out (Add x) C Q G f hot g k

@@ -5,10 +5,10 @@ use Rattle.std.specs.List.{AllPairs, Contains}
 use Rattle.std.proofs.lemmas.Bool.{cases_order}
 use Rattle.std.proofs.lemmas.List.{get_or_default}
 use Rattle.gd_words.specs.declared.choice.Choice.{Choice}
-use Rattle.gd_words.specs.declared.choice.Choice.TheVariants.{Komi, Turn, After, BlackPrisoners, WhitePrisoners, Positions, Parts, Engine}
+use Rattle.gd_words.specs.declared.choice.Choice.TheVariants.{Komi, Turn, After, BlackPrisoners, WhitePrisoners, Positions, Parts, Engine, Tax}
 use Rattle.gd_words.specs.declared.chosen.Chosen.{Chosen}
 use Rattle.gd_words.specs.Choice.{name_of}
-use Rattle.gd_words.specs.Task.{Task, solve, safe, values, play, trial, AreFor}
+use Rattle.gd_words.specs.Task.{Task, solve, safe, values, play, trial, calc, AreFor}
 use Rattle.gd_words.specs.Job.{Gives, Say, AreChoices, JobView, job_of, IsJob, IsOnlyJob}
 use Rattle.gd_words.proofs.Names.{apart}
 use Rattle.gd_words.proofs.Unique.{one_number}
@@ -20,6 +20,7 @@ one_task word argument (safe f) (safe g) a b = ap safe (sym a.1 ∙ b.1)
 one_task word argument (values f) (values g) a b = ap values (sym a.1 ∙ b.1)
 one_task word argument (play f) (play g) a b = ap play (sym a.1 ∙ b.1)
 one_task word argument (trial n) (trial m) a b = ap trial (one_number 0 4294967295 argument n m a.1 b.1)
+one_task word argument (calc e) (calc f) a b = ap calc (sym a.1 ∙ b.1)
 one_task word argument t u a b = absurd (apart (sym a.0 ∙ b.0) refl refl)
 
 abbrev AreOnce : List Choice → Type 0
@@ -54,7 +55,8 @@ one_say xs o p n a b =
     let positions = one_value Positions xs o.positions p.positions n (λ v w. refl) (λ v w e. cc) a.positions b.positions in
     let parts = one_value Parts xs o.parts p.parts n (λ v w. refl) (λ v w e. cc) a.parts b.parts in
     let engine = one_value Engine xs o.engine p.engine n (λ v w. refl) (λ v w e. cc) a.engine b.engine in
-    λ i. record { komi = komi i; turn = turn i; after = after i; black_prisoners = black i; white_prisoners = white i; positions = positions i; parts = parts i; engine = engine i }
+    let tax = one_value Tax xs o.tax p.tax n (λ v w. refl) (λ v w e. cc) a.tax b.tax in
+    λ i. record { komi = komi i; turn = turn i; after = after i; black_prisoners = black i; white_prisoners = white i; positions = positions i; parts = parts i; engine = engine i; tax = tax i }
 
 one_choices : (task : Task) (words : List (List ℕ)) (o p : Chosen) → AreChoices task words o → AreChoices task words p → o ≡ p
 one_choices task words o p a b =

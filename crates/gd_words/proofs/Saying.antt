@@ -4,12 +4,12 @@ use Rattle.std.specs.Prelude.{Option}
 use Rattle.std.specs.List.{Contains}
 use Rattle.std.proofs.lemmas.List.Elements.{Contains-get_or, Contains-append_left, Contains-push, Contains-push_cases}
 use Rattle.gd_words.specs.declared.choice.Choice.{Choice}
-use Rattle.gd_words.specs.declared.choice.Choice.TheVariants.{Komi, Turn, After, BlackPrisoners, WhitePrisoners, Positions, Parts, Engine}
+use Rattle.gd_words.specs.declared.choice.Choice.TheVariants.{Komi, Turn, After, BlackPrisoners, WhitePrisoners, Positions, Parts, Engine, Tax}
 use Rattle.gd_words.specs.declared.chosen.Chosen.{Chosen}
 use Rattle.gd_words.specs.Choice.{name_of}
 use Rattle.gd_words.specs.Job.{Gives, Say}
 use Rattle.gd_words.specs.Reading.{IsWith}
-use Rattle.gd_words.proofs.Names.{IsOnly, komi_only, turn_only, after_only, black_only, white_only, positions_only, parts_only, engine_only}
+use Rattle.gd_words.proofs.Names.{IsOnly, komi_only, turn_only, after_only, black_only, white_only, positions_only, parts_only, engine_only, tax_only}
 
 -- no option of the list has the name
 abbrev pub IsNew : List Choice → List ℕ → Type 0
@@ -33,6 +33,7 @@ fresh xs o p (WhitePrisoners v) s w = not_there WhitePrisoners xs v o.white_pris
 fresh xs o p (Positions v) s w = not_there Positions xs v o.positions positions_only s.positions w.0
 fresh xs o p (Parts v) s w = not_there Parts xs v o.parts parts_only s.parts w.0
 fresh xs o p (Engine v) s w = not_there Engine xs v o.engine engine_only s.engine w.0
+fresh xs o p (Tax v) s w = not_there Tax xs v o.tax tax_only s.tax w.0
 
 there : {A : Type 0} (option : A → Choice) (xs : List Choice) (o : Option A) → Gives xs option o → o ≢ None → (v : A) × Contains xs (option v)
 there option xs (Some v) g n = (v, g)
@@ -47,6 +48,7 @@ given xs o (WhitePrisoners v) s n = let t = there WhitePrisoners xs o.white_pris
 given xs o (Positions v) s n = let t = there Positions xs o.positions s.positions (λ e. n (record o { positions = Some v }) (e, refl)) in (Positions t.0, t.1, refl)
 given xs o (Parts v) s n = let t = there Parts xs o.parts s.parts (λ e. n (record o { parts = Some v }) (e, refl)) in (Parts t.0, t.1, refl)
 given xs o (Engine v) s n = let t = there Engine xs o.engine s.engine (λ e. n (record o { engine = Some v }) (e, refl)) in (Engine t.0, t.1, refl)
+given xs o (Tax v) s n = let t = there Tax xs o.tax s.tax (λ e. n (record o { tax = Some v }) (e, refl)) in (Tax t.0, t.1, refl)
 
 other : {A : Type 0} (option : A → Choice) (xs : List Choice) (x : Choice) (o : Option A) → ((v : A) → option v ≢ x) → Gives xs option o → Gives (xs ++ x ∷ []) option o
 other option xs x (Some v) n g = Contains-append_left xs (x ∷ []) (option v) g
@@ -88,6 +90,10 @@ engine_next : Next Engine (λ o. o.engine)
 engine_next xs o p (Engine v) g w = subst (λ q. Gives (xs ++ Engine v ∷ []) Engine q.engine) (sym w.1) (Contains-push xs (Engine v))
 engine_next xs o p x g w = subst (λ q. Gives (xs ++ x ∷ []) Engine q.engine) (sym w.1) (other Engine xs x o.engine (λ v e. cc) g)
 
+tax_next : Next Tax (λ o. o.tax)
+tax_next xs o p (Tax v) g w = subst (λ q. Gives (xs ++ Tax v ∷ []) Tax q.tax) (sym w.1) (Contains-push xs (Tax v))
+tax_next xs o p x g w = subst (λ q. Gives (xs ++ x ∷ []) Tax q.tax) (sym w.1) (other Tax xs x o.tax (λ v e. cc) g)
+
 pub say_more : (xs : List Choice) (o p : Chosen) (x : Choice) → Say xs o → IsWith o x p → Say (xs ++ x ∷ []) p
 say_more xs o p x s w = record {
   komi = komi_next xs o p x s.komi w;
@@ -98,11 +104,12 @@ say_more xs o p x s w = record {
   positions = positions_next xs o p x s.positions w;
   parts = parts_next xs o p x s.parts w;
   engine = engine_next xs o p x s.engine w;
+  tax = tax_next xs o p x s.tax w;
 }
 
 -- the options that say nothing
 abbrev pub IsUnsaid : Chosen → Type 0
-IsUnsaid o = (o.komi ≡ None) × ((o.turn ≡ None) × ((o.after ≡ None) × ((o.black_prisoners ≡ None) × ((o.white_prisoners ≡ None) × ((o.positions ≡ None) × ((o.parts ≡ None) × (o.engine ≡ None)))))))
+IsUnsaid o = (o.komi ≡ None) × ((o.turn ≡ None) × ((o.after ≡ None) × ((o.black_prisoners ≡ None) × ((o.white_prisoners ≡ None) × ((o.positions ≡ None) × ((o.parts ≡ None) × ((o.engine ≡ None) × (o.tax ≡ None))))))))
 
 nothing : {A : Type 0} (option : A → Choice) (o : Option A) → o ≡ None → Gives [] option o
 nothing option (Some v) e = cc
@@ -117,5 +124,6 @@ say_nothing o e = record {
   white_prisoners = nothing WhitePrisoners o.white_prisoners e.1.1.1.1.0;
   positions = nothing Positions o.positions e.1.1.1.1.1.0;
   parts = nothing Parts o.parts e.1.1.1.1.1.1.0;
-  engine = nothing Engine o.engine e.1.1.1.1.1.1.1;
+  engine = nothing Engine o.engine e.1.1.1.1.1.1.1.0;
+  tax = nothing Tax o.tax e.1.1.1.1.1.1.1.1;
 }

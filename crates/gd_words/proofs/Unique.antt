@@ -1,13 +1,13 @@
 -- A name and a value say at most one option.
-use Rattle.std.proofs.Common.{◌≡◌, ℕ, List, refl, sym, ap, ◌∙◌, subst}
+use Rattle.std.proofs.Common.{◌≡◌, ℕ, List, Bool, true, false, refl, sym, ap, ◌∙◌, subst}
 use Rattle.go_grid.specs.declared.grid.Colour.{Colour}
 use Rattle.go_grid.specs.declared.grid.Colour.TheVariants.{Black, White}
 use Rattle.sgf_go.proofs.Komis.{one_komi}
 use Rattle.gd_words.specs.declared.choice.Choice.{Choice}
-use Rattle.gd_words.specs.declared.choice.Choice.TheVariants.{Komi, Turn, After, BlackPrisoners, WhitePrisoners, Positions, Parts, Engine}
+use Rattle.gd_words.specs.declared.choice.Choice.TheVariants.{Komi, Turn, After, BlackPrisoners, WhitePrisoners, Positions, Parts, Engine, Tax}
 use Rattle.gd_words.specs.Choice.{IsChoice, IsValue, name_of}
-use Rattle.gd_words.specs.Value.{IsNumber, colour_word}
-use Rattle.gd_words.proofs.Names.{IsOnly, apart, komi_only, turn_only, after_only, black_only, white_only, positions_only, parts_only, engine_only}
+use Rattle.gd_words.specs.Value.{IsNumber, answer_word, colour_word}
+use Rattle.gd_words.proofs.Names.{IsOnly, apart, komi_only, turn_only, after_only, black_only, white_only, positions_only, parts_only, engine_only, tax_only}
 
 pub one_number : (low high : ℕ) (word : List ℕ) (n m : ℕ) → IsNumber low high word n → IsNumber low high word m → n ≡ m
 one_number low high word n m a b = a.value ∙ sym b.value
@@ -17,6 +17,12 @@ one_colour word Black Black a b = refl
 one_colour word White White a b = refl
 one_colour word Black White a b = absurd (apart (sym a ∙ b) refl refl)
 one_colour word White Black a b = absurd (apart (sym a ∙ b) refl refl)
+
+one_answer : (word : List ℕ) (c d : Bool) → word ≡ answer_word c → word ≡ answer_word d → c ≡ d
+one_answer word true true a b = refl
+one_answer word false false a b = refl
+one_answer word true false a b = absurd (apart (sym a ∙ b) refl refl)
+one_answer word false true a b = absurd (apart (sym a ∙ b) refl refl)
 
 same : {A : Type 0} (option : A → Choice) (name word : List ℕ) (y : Choice) (v : A) → IsOnly option (name_of (option v)) → name ≡ name_of (option v) → ((w : A) → IsValue word (option w) → v ≡ w) → IsChoice name word y → option v ≡ y
 same option name word y v only e one b =
@@ -32,3 +38,4 @@ one_choice name word (WhitePrisoners v) y a b = same WhitePrisoners name word y 
 one_choice name word (Positions v) y a b = same Positions name word y v positions_only a.0 (λ w. one_number 1 1000000 word v w a.1) b
 one_choice name word (Parts v) y a b = same Parts name word y v parts_only a.0 (λ w. one_number 1 4000 word v w a.1) b
 one_choice name word (Engine v) y a b = same Engine name word y v engine_only a.0 (λ w. one_colour word v w a.1) b
+one_choice name word (Tax v) y a b = same Tax name word y v tax_only a.0 (λ w. one_answer word v w a.1) b

@@ -2,8 +2,8 @@
 use Rattle.std.specs.Prelude.{◌≡◌, ℕ, List, codes}
 use Rattle.sgf_go.specs.Komi.{IsKomi}
 use Rattle.gd_words.specs.declared.choice.Choice.{Choice}
-use Rattle.gd_words.specs.declared.choice.Choice.TheVariants.{Komi, Turn, After, BlackPrisoners, WhitePrisoners, Positions, Parts, Engine}
-use Rattle.gd_words.specs.Value.{IsNumber, colour_word}
+use Rattle.gd_words.specs.declared.choice.Choice.TheVariants.{Komi, Turn, After, BlackPrisoners, WhitePrisoners, Positions, Parts, Engine, Tax}
+use Rattle.gd_words.specs.Value.{IsNumber, colour_word, answer_word}
 
 -- the word that names an option
 abbrev pub name_of : Choice → List ℕ
@@ -15,6 +15,7 @@ name_of (WhitePrisoners n) = codes "--white-prisoners"
 name_of (Positions n) = codes "--positions"
 name_of (Parts n) = codes "--parts"
 name_of (Engine colour) = codes "--as"
+name_of (Tax taxed) = codes "--tax"
 
 -- the word gives the option its value; a komi has no white space
 abbrev pub IsValue : List ℕ → Choice → Type 0
@@ -26,6 +27,7 @@ IsValue word (WhitePrisoners n) = IsNumber 0 999999 word n
 IsValue word (Positions n) = IsNumber 1 1000000 word n
 IsValue word (Parts n) = IsNumber 1 4000 word n
 IsValue word (Engine colour) = word ≡ colour_word colour
+IsValue word (Tax taxed) = word ≡ answer_word taxed
 
 -- an option as two words: its name and its value
 abbrev pub IsChoice : List ℕ → List ℕ → Choice → Type 0

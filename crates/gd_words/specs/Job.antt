@@ -1,12 +1,12 @@
 -- The grammar of the command line, and the job that its words say:
---     words = ( "solve" | "safe" | "values" | "play" ) file { name value } | "trial" number
-use Rattle.std.specs.Prelude.{◌≡◌, ◌≢◌, ◌∷◌, [], ⊤, ℕ, List, Option, Some, None}
+--     words = ( "solve" | "safe" | "values" | "play" ) file { name value } | "trial" number | "calc" expression { name value }
+use Rattle.std.specs.Prelude.{◌≡◌, ◌≢◌, ◌∷◌, [], ⊤, ℕ, List, Bool, false, Option, Some, None}
 use Rattle.std.specs.List.{All, AllPairs, Contains}
 use Rattle.std.specs.Option.{unwrap_or}
 use Rattle.go_grid.specs.declared.grid.Colour.{Colour}
 use Rattle.sgf_go.specs.declared.settings.Settings.{Settings}
 use Rattle.gd_words.specs.declared.choice.Choice.{Choice}
-use Rattle.gd_words.specs.declared.choice.Choice.TheVariants.{Komi, Turn, After, BlackPrisoners, WhitePrisoners, Positions, Parts, Engine}
+use Rattle.gd_words.specs.declared.choice.Choice.TheVariants.{Komi, Turn, After, BlackPrisoners, WhitePrisoners, Positions, Parts, Engine, Tax}
 use Rattle.gd_words.specs.declared.chosen.Chosen.{Chosen}
 use Rattle.gd_words.specs.Choice.{IsChoice, name_of}
 use Rattle.gd_words.specs.Task.{Task, AreFor, GoesWith}
@@ -32,6 +32,7 @@ pub record Say (choices : List Choice) (chosen : Chosen) : Type 0 where
   pub positions : Gives choices Positions chosen.positions
   pub parts : Gives choices Parts chosen.parts
   pub engine : Gives choices Engine chosen.engine
+  pub tax : Gives choices Tax chosen.tax
 
 -- the words are options of the task, in any order and none of them twice, and this is what they say
 pub record AreChoices (task : Task) (words : List (List ℕ)) (chosen : Chosen) : Type 0 where
@@ -41,13 +42,14 @@ pub record AreChoices (task : Task) (words : List (List ℕ)) (chosen : Chosen) 
   pub once : AllPairs (λ x y. name_of x ≢ name_of y) choices
   pub said : Say choices chosen
 
--- a job: what is asked for, of which position, within which limits, and with which colour for the engine
+-- a job: what is asked for, of which position, within which limits, with which colour for the engine, and with or without a tax
 pub record JobView : Type 0 where
   pub task : Task
   pub settings : Settings
   pub positions : ℕ
   pub parts : ℕ
   pub engine : Option Colour
+  pub tax : Bool
 
 -- the job of a task and its options: what they leave open has its default
 abbrev pub job_of : Task → Chosen → JobView
@@ -63,6 +65,7 @@ job_of task chosen = record {
   positions = unwrap_or chosen.positions 100000;
   parts = unwrap_or chosen.parts 500;
   engine = chosen.engine;
+  tax = unwrap_or chosen.tax false;
 }
 
 -- the words say the job: two words for the task, and then its options

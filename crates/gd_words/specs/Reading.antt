@@ -1,7 +1,7 @@
 -- One option more.
 use Rattle.std.specs.Prelude.{◌≡◌, Some, None}
 use Rattle.gd_words.specs.declared.choice.Choice.{Choice}
-use Rattle.gd_words.specs.declared.choice.Choice.TheVariants.{Komi, Turn, After, BlackPrisoners, WhitePrisoners, Positions, Parts, Engine}
+use Rattle.gd_words.specs.declared.choice.Choice.TheVariants.{Komi, Turn, After, BlackPrisoners, WhitePrisoners, Positions, Parts, Engine, Tax}
 use Rattle.gd_words.specs.declared.chosen.Chosen.{Chosen}
 
 -- `more` says the option besides, which `o` doesn't say
@@ -14,3 +14,4 @@ IsWith o (WhitePrisoners n) more = (o.white_prisoners ≡ None) × (more ≡ rec
 IsWith o (Positions n) more = (o.positions ≡ None) × (more ≡ record o { positions = Some n })
 IsWith o (Parts n) more = (o.parts ≡ None) × (more ≡ record o { parts = Some n })
 IsWith o (Engine colour) more = (o.engine ≡ None) × (more ≡ record o { engine = Some colour })
+IsWith o (Tax taxed) more = (o.tax ≡ None) × (more ≡ record o { tax = Some taxed })

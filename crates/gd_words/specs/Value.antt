@@ -1,5 +1,5 @@
--- The values that single words stand for: numbers and colours.
-use Rattle.std.specs.Prelude.{◌≡◌, ◌≤◌, ℕ, List, true, codes, length}
+-- The values that single words stand for: numbers, colours and answers.
+use Rattle.std.specs.Prelude.{◌≡◌, ◌≤◌, ℕ, List, Bool, true, false, codes, length}
 use Rattle.std.specs.Char.{is_ascii_digit}
 use Rattle.std.specs.List.{list_all}
 use Rattle.std.specs.Str.Parse.{digits_value}
@@ -18,3 +18,7 @@ pub record IsNumber (low high : ℕ) (word : List ℕ) (n : ℕ) : Type 0 where
 abbrev pub colour_word : Colour → List ℕ
 colour_word Black = codes "black"
 colour_word White = codes "white"
+
+abbrev pub answer_word : Bool → List ℕ
+answer_word true = codes "yes"
+answer_word false = codes "no"

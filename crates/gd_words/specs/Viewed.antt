@@ -3,7 +3,7 @@ use Rattle.std.specs.Prelude.{ℕ, List, map}
 use Rattle.gd_words.specs.declared.job.Command.{Command}
 use Rattle.gd_words.specs.declared.job.Command.TheVariants as command
 use Rattle.gd_words.specs.declared.job.Job.{Job}
-use Rattle.gd_words.specs.Task.{Task, solve, safe, values, play, trial}
+use Rattle.gd_words.specs.Task.{Task, solve, safe, values, play, trial, calc}
 use Rattle.gd_words.specs.Job.{JobView}
 use denote.Ref.{Bor}
 
@@ -16,6 +16,14 @@ task_of (command.Safe file) = safe file.now
 task_of (command.Values file) = values file.now
 task_of (command.Play file) = play file.now
 task_of (command.Trial n) = trial n
+task_of (command.Calc expression) = calc expression.now
 
 abbrev pub viewed : Job → JobView
-viewed job = record { task = task_of job.command; settings = job.settings; positions = job.positions; parts = job.parts; engine = job.engine }
+viewed job = record {
+  task = task_of job.command;
+  settings = job.settings;
+  positions = job.positions;
+  parts = job.parts;
+  engine = job.engine;
+  tax = job.tax;
+}

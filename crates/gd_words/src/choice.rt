@@ -4,7 +4,7 @@ ghost use Rattle.std.specs.Prelude.{◌≡◌, IfSome, IfNone};
 ghost use Rattle.gd_words.specs.Choice.{IsChoice};
 ghost use Rattle.gd_words.specs.declared.choice.Choice.{Choice};
 
-use crate::value::{read_colour, read_number};
+use crate::value::{read_answer, read_colour, read_number};
 use go_grid::Colour;
 use sgf_go::read_komi;
 
@@ -29,6 +29,8 @@ pub enum Choice {
     Positions(u32),
     Parts(u32),
     Engine(Colour),
+    /// Whether there is a tax of two points for each group.
+    Tax(bool),
 }
 
 /// The option that a name and a value say.
@@ -45,6 +47,7 @@ pub fn read_choice(name: &str, value: &str) -> Option<Choice>
         "--positions" => Some(Choice::Positions(read_number(1, MOST_POSITIONS, value)?)),
         "--parts" => Some(Choice::Parts(read_number(1, MOST_PARTS, value)?)),
         "--as" => Some(Choice::Engine(read_colour(value)?)),
+        "--tax" => Some(Choice::Tax(read_answer(value)?)),
         _ => None,
     }
 }

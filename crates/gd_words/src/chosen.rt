@@ -28,6 +28,7 @@ pub struct Chosen {
     pub positions: Option<u32>,
     pub parts: Option<u32>,
     pub engine: Option<Colour>,
+    pub tax: Option<bool>,
 }
 
 impl Chosen {
@@ -47,6 +48,7 @@ impl Chosen {
             Choice::Positions(n) if self.positions.is_none() => self.positions = Some(n),
             Choice::Parts(n) if self.parts.is_none() => self.parts = Some(n),
             Choice::Engine(colour) if self.engine.is_none() => self.engine = Some(colour),
+            Choice::Tax(taxed) if self.tax.is_none() => self.tax = Some(taxed),
             _ => return None,
         }
         Some(self)
@@ -68,6 +70,7 @@ impl Chosen {
             positions: self.positions.unwrap_or(DEFAULT_POSITIONS),
             parts: self.parts.unwrap_or(DEFAULT_PARTS),
             engine: self.engine,
+            tax: self.tax.unwrap_or(false),
         }
     }
 }

@@ -9,7 +9,7 @@ use crate::value::read_number;
 use go_grid::Colour;
 use sgf_go::Settings;
 
-/// A command with its file, or with the number of a board. The file `-` is the source, which `Play` never has.
+/// A command with its file, the number of its board, or its expression. The file `-` is the source, which `Play` never has.
 #[derive(Clone, Copy, PartialEq, Eq)]
 pub enum Command<'a> {
     Solve(&'a str),
@@ -17,6 +17,7 @@ pub enum Command<'a> {
     Values(&'a str),
     Play(&'a str),
     Trial(u32),
+    Calc(&'a str),
 }
 
 /// A command and what its options set.
@@ -31,6 +32,8 @@ pub struct Job<'a> {
     pub parts: u32,
     /// The colour that the engine plays, where one is given.
     pub engine: Option<Colour>,
+    /// Whether there is a tax of two points for each group.
+    pub tax: bool,
 }
 
 /// The command that the first two words ask for.
@@ -45,6 +48,7 @@ pub fn read_command<'a>(word: &str, argument: &'a str) -> Option<Command<'a>>
         "safe" => Some(Command::Safe(argument)),
         "values" => Some(Command::Values(argument)),
         "play" if argument != "-" => Some(Command::Play(argument)),
+        "calc" => Some(Command::Calc(argument)),
         _ => None,
     }
 }
@@ -58,10 +62,11 @@ impl Command<'_> {
             Command::Solve(_) | Command::Values(_) => !matches!(choice, Choice::Engine(_)),
             Command::Safe(_) => !matches!(
                 choice,
-                Choice::Engine(_) | Choice::Positions(_) | Choice::Parts(_)
+                Choice::Engine(_) | Choice::Positions(_) | Choice::Parts(_) | Choice::Tax(_)
             ),
             Command::Play(_) => true,
             Command::Trial(_) => false,
+            Command::Calc(_) => matches!(choice, Choice::Parts(_)),
         }
     }
 }

@@ -18,6 +18,7 @@ const PLAIN: Job<'static> = Job {
     positions: 100_000,
     parts: 500,
     engine: None,
+    tax: false,
 };
 
 /// A command without options.
@@ -27,12 +28,20 @@ const fn of(command: Command<'static>) -> Job<'static> {
 
 #[test]
 fn jobs(rt: HostRuntime) -> Result<(), Fail> {
-    let table: [(&[&str], Job<'static>); 10] = [
+    let table: [(&[&str], Job<'static>); 14] = [
         (&["solve", "c"], PLAIN),
         (&["solve", "-"], of(Command::Solve("-"))),
         (&["safe", "--komi"], of(Command::Safe("--komi"))),
         (&["values", "-"], of(Command::Values("-"))),
         (&["play", "--"], of(Command::Play("--"))),
+        (&["calc", "^ + *"], of(Command::Calc("^ + *"))),
+        (
+            &["calc", "-", "--parts", "1"],
+            Job {
+                parts: 1,
+                ..of(Command::Calc("-"))
+            },
+        ),
         (&["trial", "0000000007"], of(Command::Trial(7))),
         (&["trial", "4294967295"], of(Command::Trial(4_294_967_295))),
         (
@@ -91,6 +100,8 @@ fn jobs(rt: HostRuntime) -> Result<(), Fail> {
                 ..of(Command::Play("c"))
             },
         ),
+        (&["solve", "c", "--tax", "yes"], Job { tax: true, ..PLAIN }),
+        (&["values", "c", "--tax", "no"], of(Command::Values("c"))),
     ];
     for (words, job) in table {
         assert!(rt; read(words) == Ok(job));
@@ -100,7 +111,7 @@ fn jobs(rt: HostRuntime) -> Result<(), Fail> {
 
 #[test]
 fn faulty_words(rt: HostRuntime) -> Result<(), Fail> {
-    let table: [&[&str]; 36] = [
+    let table: [&[&str]; 42] = [
         &[],
         &["solve"],
         &["solve", ""],
@@ -134,6 +145,12 @@ fn faulty_words(rt: HostRuntime) -> Result<(), Fail> {
         &["trial", ""],
         &["trial", "4294967296"],
         &["trial", "7", "--parts", "5"],
+        &["trial", "7", "--tax", "no"],
+        &["safe", "c", "--tax", "yes"],
+        &["solve", "c", "--tax", "2"],
+        &["calc"],
+        &["calc", ""],
+        &["calc", "0", "--positions", "5"],
         &["mend", "c"],
         &["--help"],
         &["--version"],

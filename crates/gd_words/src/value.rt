@@ -1,11 +1,11 @@
-//! Words that stand for a number or a colour.
+//! Words that stand for a number, a colour or an answer.
 
-ghost use Rattle.std.specs.Prelude.{◌≡◌, ◌≤◌, ◌<◌, ◌^◌, ℕ, length, true, IfSome, IfNone};
+ghost use Rattle.std.specs.Prelude.{◌≡◌, ◌≤◌, ◌<◌, ◌^◌, ℕ, Bool, length, true, IfSome, IfNone};
 ghost use Rattle.std.specs.Str.Parse.{digits_value};
 ghost use Rattle.std.specs.Char.{is_ascii_digit};
 ghost use Rattle.std.specs.List.{list_all};
 ghost use Rattle.go_grid.specs.declared.grid.Colour.{Colour};
-ghost use Rattle.gd_words.specs.Value.{IsNumber, colour_word};
+ghost use Rattle.gd_words.specs.Value.{IsNumber, answer_word, colour_word};
 
 use go_grid::Colour;
 
@@ -20,6 +20,18 @@ pub fn read_colour(word: &str) -> Option<Colour>
     match word {
         "black" => Some(Colour::Black),
         "white" => Some(Colour::White),
+        _ => None,
+    }
+}
+
+/// True for `yes`, and false for `no`.
+pub fn read_answer(word: &str) -> Option<bool>
+    ensures some { IfSome result (λ answer. word.now ≡ answer_word answer) }
+    ensures none { IfNone result ((answer : Bool) → ¬ (word.now ≡ answer_word answer)) }
+{
+    match word {
+        "yes" => Some(true),
+        "no" => Some(false),
         _ => None,
     }
 }

@@ -28,7 +28,7 @@ fn read_job<'a>(words: &[&'a str]) -> Option<Job<'a>>
 }
 
 /// The job that the words of a command line say: `solve`, `safe`, `values` or `play` with a file and options, each a
-/// name and a value, or `trial` with a number. `Usage` comes exactly where the words have no such form.
+/// name and a value, `trial` with a number, or `calc` with an expression and options. `Usage` comes exactly where the words have no such form.
 pub fn read<'a>(words: &[&'a str]) -> Result<Job<'a>, Usage>
     ensures job { IfOk result (λ job. IsOnlyJob (texts words.now) (viewed job)) }
     ensures bounds { IfOk result (λ job. IsWithin (viewed job)) }

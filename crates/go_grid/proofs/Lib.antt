@@ -8,3 +8,4 @@ pub mod GridLemmas
 pub mod ChainLemmas
 pub mod NameLemmas
 mod Instances
+pub mod Decided

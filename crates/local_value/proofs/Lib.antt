@@ -1,5 +1,4 @@
 pub mod LocalLaws
-pub mod Decided
 pub mod MoveList
 pub mod PositionLaws
 pub mod DepthLaws

@@ -15,7 +15,7 @@ use Rattle.go_grid.proofs.PathLemmas.{leads_end}
 use Rattle.local_play.specs.LocalPlay.{held_at, is_beside, is_stone, with_stone, Holds, InLocalChain, IsBeside, IsFree, IsLinked, IsLocalMove, IsNumberTaken, IsOpen, IsRemoved}
 use Rattle.local_value.specs.LocalGame.{Step}
 use Rattle.local_value.specs.PositionTree.{IsStep}
-use Rattle.local_value.proofs.Decided.{Decided, alike, both, denied, either, leads_or_not, some_below}
+use Rattle.go_grid.proofs.Decided.{Decided, alike, both, denied, either, leads_or_not, some_below}
 use Rattle.local_value.proofs.LocalLaws.{contains-cases, contains-head, contains-tail}
 
 pub same_or_not : (a b : Cell) → Decided (a ≡ b)

@@ -11,11 +11,11 @@ use std::alloc::{AllocError, Global};
 /// A region on a board of four columns and rows: its points in ascending order, what they hold, and next to which of them
 /// an alive stone of each colour stands. X is black, O is white, and a mark is an X too.
 #[derive(Clone, Copy)]
-pub struct Drawing {
-    pub points: &'static [u16],
-    pub cells: &'static [u8],
-    pub black: &'static [u8],
-    pub white: &'static [u8],
+pub struct Drawing<'a> {
+    pub points: &'a [u16],
+    pub cells: &'a [u8],
+    pub black: &'a [u8],
+    pub white: &'a [u8],
 }
 
 /// The cell that a letter draws.
@@ -61,7 +61,7 @@ fn part_of(
 }
 
 /// What so many places hold.
-fn cells_of(alloc: Global, count: usize, drawn: Drawing) -> Result<Vec<Cell>, AllocError>
+fn cells_of(alloc: Global, count: usize, drawn: Drawing<'_>) -> Result<Vec<Cell>, AllocError>
     ensures { IfOk result (λ cells. length cells.items ≡ count) }
 {
     let mut cells = Vec::new(alloc);
@@ -89,7 +89,7 @@ fn place_of(points: &[Point], point: Option<Point>) -> Option<u16>
 }
 
 /// What is next to a place.
-fn touch_of(size: Size, points: &[Point], place: usize, drawn: Drawing) -> Touch
+fn touch_of(size: Size, points: &[Point], place: usize, drawn: Drawing<'_>) -> Touch
     requires short { length points.now ≤ 625 }
     requires place { place < length points.now }
     requires inside { (p : ℕ) → Contains points.now p → p < size.columns * size.rows }
@@ -111,7 +111,7 @@ fn touches_of(
     alloc: Global,
     size: Size,
     points: &[Point],
-    drawn: Drawing,
+    drawn: Drawing<'_>,
 ) -> Result<Vec<Touch>, AllocError>
     requires short { length points.now ≤ 625 }
     requires inside { (p : ℕ) → Contains points.now p → p < size.columns * size.rows }
@@ -127,7 +127,7 @@ fn touches_of(
 }
 
 /// The region of the points that walks join to the first. There has to be one on the board.
-pub fn region(alloc: Global, drawn: Drawing) -> Result<Region, AllocError> {
+pub fn region(alloc: Global, drawn: Drawing<'_>) -> Result<Region, AllocError> {
     let size = Size {
         columns: 4,
         rows: 4,

@@ -6,6 +6,8 @@
 mod drawn;
 mod images;
 mod laws;
+#[cfg(test)]
+mod pairing_tests;
 mod shapes;
 mod shaping;
 mod symmetry;

@@ -8,7 +8,7 @@ use local_play::start;
 use std::alloc::{AllocError, Global};
 
 /// The shape of what a drawing shows.
-fn shape_of(alloc: Global, drawn: Drawing) -> Result<(Shape, Turn), AllocError> {
+fn shape_of(alloc: Global, drawn: Drawing<'_>) -> Result<(Shape, Turn), AllocError> {
     let region = region(alloc, drawn)?;
     if region.points.len() > 32 {
         return Err(AllocError);
@@ -17,35 +17,35 @@ fn shape_of(alloc: Global, drawn: Drawing) -> Result<(Shape, Turn), AllocError> 
 }
 
 /// A corridor of three points with a black stone at its closed end.
-const CORRIDOR: Drawing = Drawing {
+const CORRIDOR: Drawing<'static> = Drawing {
     points: &[0, 1, 2],
     cells: b"X..",
     black: b".XX",
     white: b"X..",
 };
 
-const FROM_RIGHT: Drawing = Drawing {
+const FROM_RIGHT: Drawing<'static> = Drawing {
     points: &[5, 6, 7],
     cells: b"..X",
     black: b"XX.",
     white: b"..X",
 };
 
-const EXCHANGED: Drawing = Drawing {
+const EXCHANGED: Drawing<'static> = Drawing {
     points: &[3, 7, 11],
     cells: b"O..",
     black: b"X..",
     white: b".XX",
 };
 
-const BENT: Drawing = Drawing {
+const BENT: Drawing<'static> = Drawing {
     points: &[0, 1, 4],
     cells: b".X.",
     black: b"X.X",
     white: b".X.",
 };
 
-const LONG: Drawing = Drawing {
+const LONG: Drawing<'static> = Drawing {
     points: &[0, 4, 8, 9],
     cells: b"O...",
     black: b"XX..",
@@ -53,7 +53,7 @@ const LONG: Drawing = Drawing {
 };
 
 /// The other seven images of the long bent one.
-const IMAGES: [Drawing; 7] = [
+const IMAGES: [Drawing<'static>; 7] = [
     Drawing {
         points: &[1, 5, 8, 9],
         cells: b"O...",

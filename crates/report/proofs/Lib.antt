@@ -3,3 +3,5 @@ pub mod SafetyLaws
 pub mod SolutionLaws
 pub mod TextLaws
 pub mod ValuesLaws
+pub mod ChainLaws
+pub mod TrialLaws

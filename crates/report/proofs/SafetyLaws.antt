@@ -1,5 +1,5 @@
 -- The lines of chains and of counted regions.
-use Rattle.std.proofs.Common.{◌≡◌, ◌≢◌, ◌⊎◌, ℕ, ◌+◌, ◌*◌, ◌<◌, ◌≤◌, inl, inr, sym, refl, ◌∙◌, arith, subst, List, length, get_or, Bool, true, ◌↔◌, sum_by, [], ◌++◌, flat_map}
+use Rattle.std.proofs.Common.{◌≡◌, ◌≢◌, ℕ, ◌+◌, ◌*◌, ◌<◌, ◌≤◌, inl, inr, sym, refl, ◌∙◌, arith, subst, List, length, get_or, Bool, sum_by, [], ◌++◌, flat_map, ap, append_assoc}
 use Rattle.std.specs.List.{Contains}
 use Rattle.std.specs.List.Sorted.{IsStrictlyIncreasing}
 use Rattle.std.proofs.lemmas.Bool.{cases_lt}
@@ -8,22 +8,21 @@ use Rattle.std.proofs.lemmas.List.Elements.{Contains-get_or}
 use Rattle.std.proofs.lemmas.Map.Keys.{sorted_from_strictly_increasing, below_from_sorted}
 use Rattle.go_grid.specs.declared.grid.Colour.{Colour}
 use Rattle.go_grid.specs.declared.grid.Colour.TheVariants.{Black, White}
-use Rattle.go_grid.specs.Chain.{InChain}
-use Rattle.go_grid.specs.declared.grid.Cell.TheVariants as cell
-use Rattle.go_grid.specs.Grid.{Grid, HasStone, IsEmpty, Lacks, stone}
+use Rattle.go_grid.specs.Grid.{Grid, Lacks}
 use Rattle.go_grid.specs.Walk.{Joined}
 use Rattle.go_grid.proofs.PointsLemmas.{lists_same}
 use Rattle.go_grid.proofs.WalkLemmas.{joined_end, joined_here, marks_joined}
 use Rattle.go_grid.specs.Marks.{IsMarked, Marks, Lists}
-use Rattle.go_grid.proofs.GridLemmas.{one_colour}
+use Rattle.benson_life.specs.Groups.{IsNumberOfGroups}
 use Rattle.benson_life.specs.Held.{worth}
-use Rattle.benson_life.specs.Life.{InRegion, IsAlive, IsCounted}
+use Rattle.benson_life.specs.Life.{InRegion, IsCounted}
 use Rattle.go_grid.specs.Region.{Shape}
 use Rattle.region_cut.specs.Cut.{AreRegionsOfPlay}
 use Rattle.report.proofs.TextLaws.{three_pieces}
-use Rattle.report.specs.declared.safety.ChainLine.{ChainLine}
+use Rattle.report.specs.declared.chains.ChainLine.{ChainLine}
 use Rattle.report.specs.declared.safety.CountedLine.{CountedLine}
-use Rattle.report.specs.Safety.{AreChainLines, AreCountedLines, IsSafeText, chain_line, counted_line, shape_line, IsLowestStone, IsChainLine, IsLowestCounted, IsCountedLine, IsCountedKey, turn}
+use Rattle.report.specs.Chains.{AreChainLines, chain_lines}
+use Rattle.report.specs.Safety.{AreCountedLines, IsSafeText, counted_line, groups_line, shape_line, IsLowestCounted, IsCountedLine, IsCountedKey, turn}
 
 -- a list that has a point isn't empty, and its first point is the least
 pub has_first : (points : List ℕ) (p : ℕ) → Contains points p → 0 < length points
@@ -42,48 +41,6 @@ pub is_first : (points : List ℕ) (p : ℕ) → IsStrictlyIncreasing points →
 is_first points p rising has least =
     let low = least (get_or points 0 0) (Contains-get_or points 0 0 (has_first points p has)) in
     let high = first_least points p rising has in omega (arith, low, high)
-
--- no chain has its lowest stone where no stone is, or where another stone of the chain is lower
-pub no_chain_at : (g : Grid) (p : ℕ) → IsEmpty g p → ¬ ((c : Colour) × IsLowestStone g c p)
-no_chain_at g p e (c, w) = not_both c (sym e.1 ∙ w.0.1)
-  where
-    not_both : (c : Colour) → ¬ (cell.Empty ≡ stone c)
-    not_both Black e = absurd cc
-    not_both White e = absurd cc
-
-pub no_chain_from : (g : Grid) (c : Colour) (p : ℕ) (points : List ℕ) → HasStone g c p → Lists points (InChain g c p) → get_or points 0 0 ≢ p
-    → ¬ ((d : Colour) × IsLowestStone g d p)
-no_chain_from g c p points h lists other (d, w) =
-    let e = one_colour g d c p w.0 h in
-    let least = subst (λ x. (q : ℕ) → InChain g x p q → p ≤ q) e w.1 in
-    other (is_first points p lists.ascending ((lists.exact p).1 (joined_here g.columns (HasStone g c) p h)) (λ q i. least q ((lists.exact q).0 i)))
-
-pub chain_has_first : (g : Grid) (c : Colour) (p : ℕ) (points : List ℕ) → HasStone g c p → Lists points (InChain g c p) → 0 < length points
-chain_has_first g c p points h lists = has_first points p ((lists.exact p).1 (joined_here g.columns (HasStone g c) p h))
-
-pub chain_line_is : (g : Grid) (c : Colour) (p : ℕ) (points : List ℕ) (n : ℕ) (marks : List Bool) (b : Bool) → HasStone g c p → Lists points (InChain g c p)
-    → get_or points 0 0 ≡ p → length points ≡ n → Marks marks (λ q. (d : Colour) × IsAlive g d q) → (b ≡ true) ↔ IsMarked marks p
-    → IsChainLine g (record { lowest = p; colour = c; stones = n; alive = b })
-chain_line_is g c p points n marks b h lists first long is e = record {
-  lowest = (h, λ q i. subst (λ x. x ≤ q) first (first_least points q lists.ascending ((lists.exact q).1 i)));
-  stones = (points, lists, long);
-  alive = (
-    λ t. (let a = (is p).0 (e.0 t) in subst (λ d. IsAlive g d p) (one_colour g a.0 c p (a.1.1.stones p a.1.2) h) a.1),
-    λ a. e.1 ((is p).1 (c, a)),
-  );
-}
-
--- the alive stones of both colours
-pub both_marks : (g : Grid) (black white marks : List Bool) → Marks black (IsAlive g Black) → Marks white (IsAlive g White)
-    → Marks marks (λ q. IsMarked black q ⊎ IsMarked white q) → Marks marks (λ p. (c : Colour) × IsAlive g c p)
-both_marks g black white marks mb mw is p = (
-  λ m. elim ((is p).0 m) [ inl x ↦ (Black, (mb p).0 x) | inr x ↦ (White, (mw p).0 x) ],
-  back,
-)
-  where
-    back : (c : Colour) × IsAlive g c p → IsMarked marks p
-    back (Black, a) = (is p).1 (inl ((mb p).1 a))
-    back (White, a) = (is p).1 (inr ((mw p).1 a))
 
 -- a key has one point and one colour
 one_key : (c d : Colour) (p q : ℕ) → 2 * p + turn c ≡ 2 * q + turn d → (c ≡ d) × (p ≡ q)
@@ -129,25 +86,31 @@ counted_line_is g c p n held points h lists first long e = record {
 }
 
 -- the lines name points of the board
-pub chains_on_board : (g : Grid) (ls : List ChainLine) → AreChainLines g ls → (k : ℕ) (d : ChainLine) → k < length ls → (get_or ls k d).lowest < length g.cells
-chains_on_board g ls are k d lt = (are.each (get_or ls k d) (Contains-get_or ls k d lt)).1
-
 pub counted_on_board : (g : Grid) (ls : List CountedLine) → AreCountedLines g ls → (k : ℕ) (d : CountedLine) → k < length ls → (get_or ls k d).lowest < length g.cells
 counted_on_board g ls are k d lt = (are.each (get_or ls k d) (Contains-get_or ls k d lt)).0.lowest.0.2.lacks.0
 
 -- the text of the lines of a board
-pub safe_text_is : (g : Grid) (k : ℕ) (chains : List ChainLine) (counted : List CountedLine) (regions : List Shape) (t u v w text : List ℕ) → k ≡ g.columns
-    → AreChainLines g chains → AreCountedLines g counted → AreRegionsOfPlay g regions → t ≡ [] → u ≡ t ++ flat_map (chain_line k) chains
-    → v ≡ u ++ flat_map (counted_line k) counted → w ≡ v ++ flat_map (shape_line k) regions → text ≡ w → IsSafeText g text
-safe_text_is g k chains counted regions t u v w text e a b r empty first second third is =
-    let three = three_pieces t u v w (flat_map (chain_line k) chains) (flat_map (counted_line k) counted) (flat_map (shape_line k) regions) empty first second third in record {
+pub safe_text_is : (g : Grid) (k : ℕ) (chains : List ChainLine) (counted : List CountedLine) (black white : ℕ) (regions : List Shape) (t u v x y w text : List ℕ)
+    → k ≡ g.columns → AreChainLines g chains → AreCountedLines g counted → IsNumberOfGroups g Black black → IsNumberOfGroups g White white → AreRegionsOfPlay g regions → t ≡ [] → u ≡ t ++ flat_map (chain_lines k) chains
+    → v ≡ u ++ flat_map (counted_line k) counted → x ≡ v ++ groups_line Black black → y ≡ x ++ groups_line White white → w ≡ y ++ flat_map (shape_line k) regions
+    → text ≡ w → IsSafeText g text
+safe_text_is g k chains counted black white regions t u v x y w text e a b m n r empty first second third fourth fifth is =
+    let groups = groups_line Black black ++ groups_line White white in
+    let both : y ≡ v ++ groups = fourth ∙ ap (λ z. z ++ groups_line White white) third ∙ append_assoc v (groups_line Black black) (groups_line White white) in
+    let rest : w ≡ v ++ (groups ++ flat_map (shape_line k) regions) = fifth ∙ ap (λ z. z ++ flat_map (shape_line k) regions) both
+    ∙ append_assoc v groups (flat_map (shape_line k) regions) in
+    let three = three_pieces t u v w (flat_map (chain_lines k) chains) (flat_map (counted_line k) counted) (groups ++ flat_map (shape_line k) regions) empty first second rest in record {
       chains = chains;
       counted = counted;
+      black_groups = black;
+      white_groups = white;
       regions = regions;
       are_chains = a;
       are_counted = b;
+      are_black = m;
+      are_white = n;
       are_regions = r;
-      is = is ∙ subst (λ n. w ≡ flat_map (chain_line n) chains ++ (flat_map (counted_line n) counted ++ flat_map (shape_line n) regions)) e three;
+      is = is ∙ subst (λ j. w ≡ flat_map (chain_lines j) chains ++ (flat_map (counted_line j) counted ++ (groups ++ flat_map (shape_line j) regions))) e three;
     }
 
 -- the regions are on the board

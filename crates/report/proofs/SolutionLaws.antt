@@ -28,7 +28,7 @@ lines_more c (q ∷ rs) (m ∷ ns) r n h =
 pub lines_start : (c : ℕ) (rs : List Shape) (text : List ℕ) → HasLines c (take 0 rs) text text 0
 lines_start c rs text = record { numbers = []; counted = tt; lines = sym (append-nil text); whole = refl }
 
-sum_more : (ns : List ℕ) (n : ℕ) → sum ns + n ≡ sum (ns ++ n ∷ [])
+pub sum_more : (ns : List ℕ) (n : ℕ) → sum ns + n ≡ sum (ns ++ n ∷ [])
 sum_more ns n = let e = sum_by-append (λ x. x) ns (n ∷ []) in omega (arith, e)
 
 -- one region more

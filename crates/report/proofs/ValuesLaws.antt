@@ -1,5 +1,5 @@
 -- The lines of regions and their values, one region after another.
-use Rattle.std.proofs.Common.{◌≡◌, ℕ, zero, suc, ◌+◌, ◌<◌, ◌≤◌, inl, inr, ◌++◌, ◌∷◌, [], List, length, take, ap, refl, sym, subst, ◌∙◌, arith, append_assoc, flat_map}
+use Rattle.std.proofs.Common.{◌≡◌, ℕ, zero, suc, ◌+◌, ◌<◌, ◌++◌, ◌∷◌, [], List, length, take, ap, refl, sym, subst, ◌∙◌, arith, append_assoc, flat_map}
 use Rattle.std.specs.Prelude.{codes}
 use Rattle.std.proofs.lemmas.List.{append-nil, take_more}
 use Rattle.std.proofs.lemmas.List.Concat.{flat_map-append}
@@ -10,14 +10,11 @@ use Rattle.game_store.specs.Meaning.{tree_at}
 use Rattle.endgame_solver.specs.Regions.{region_at, no_region}
 use Rattle.endgame_solver.specs.Solved.{IsReport}
 use Rattle.endgame_solver.specs.declared.solved.RegionReport.{RegionReport}
-use Rattle.report.specs.Lines.{word_line}
+use Rattle.game_lines.specs.Showings.{game_lines}
 use Rattle.report.specs.Solution.{count_line, solved_line}
-use Rattle.report.specs.Thermographs.{picture_lines}
-use Rattle.game_text.specs.NamedText.{named_text, named_depth}
-use Rattle.thermograph.specs.PastBounds.{IsDrawnPastBounds}
+use Rattle.game_text.specs.NamedText.{named_text}
 use Rattle.report.specs.declared.values.ValuesError.{ValuesError}
 use Rattle.report.specs.declared.values.ValuesError.TheVariants.{Form, Memory}
-use Rattle.report.proofs.TextLaws.{three_more}
 use Rattle.report.specs.Values.{IsRefusal, AreEntries, Entry, HasEntries, HasEntry, HasShownValue, IsEntry, IsFirstUnshown, IsUnshown, IsValuesText, entry_lines}
 
 entries_more : (rs : List Shape) (es : List Entry) (r : Shape) (e : Entry) → AreEntries rs es → e.region ≡ r → IsEntry e → AreEntries (rs ++ r ∷ []) (es ++ e ∷ [])
@@ -37,7 +34,7 @@ entries_step c Ts rs i report before now after h lt is more =
     let G = tree_at Ts report.value in
     let e : Entry = record { region = r; positions = report.positions; value = G; picture = more.picture } in
     let entry : IsEntry e = record { counted = is.positions; is_value = is.value.1; shown = more.shown; drawn = more.drawn } in
-    let rest = word_line (codes "value") (named_text G) ++ picture_lines more.picture in
+    let rest = game_lines (named_text G) more.picture in
     let are = entries_more (take i rs) h.entries r e h.are refl entry in
     let last : after ≡ now ++ entry_lines c e =
     more.lines ∙ ap (λ p. now ++ (solved_line c p report.points report.positions ++ rest)) is.lowest_point
@@ -81,19 +78,9 @@ first_unshown c Ts rs i p report before now h lt is at unshown = record {
 pub values_is : (c : ℕ) (rs : List Shape) (a b : List ℕ) → a ≡ count_line (codes "regions") (length rs) → HasEntries c rs a b → IsValuesText c rs b
 values_is c rs a b first lines = record { entries = lines.entries; are = lines.are; is = lines.lines ∙ ap (λ t. t ++ flat_map (entry_lines c) lines.entries) first }
 
--- a value whose text and thermograph are within the limits is shown
-pub none_unshown : (G : Tree) (text : List ℕ) → text ≡ named_text G → (length text ≤ 65536) × (named_depth G ≤ 1000) → (IsDrawnPastBounds G → ⊥) → IsUnshown G → ⊥
-none_unshown G text is few within (inl past) = within past
-none_unshown G text is few within (inr (inl long)) = let e = ap length is in omega (arith, e, few.0, long)
-none_unshown G text is few within (inr (inr deep)) = omega (arith, few.1, deep)
-
--- the lines on a value, piece by piece
-pub entry_is : (t a b d front form back S T P : List ℕ) → a ≡ t ++ front → front ≡ S ++ codes "value " → b ≡ a ++ form → form ≡ T → d ≡ b ++ back → back ≡ codes "\n" ++ P
-    → d ≡ t ++ (S ++ (word_line (codes "value") T ++ P))
-unfolding word_line
-entry_is t a b d front form back S T P first is second text third end =
-    three_more t a b d (S ++ codes "value ") T (codes "\n" ++ P) (first ∙ ap (λ x. t ++ x) is) (second ∙ ap (λ x. a ++ x) text) (third ∙ ap (λ x. b ++ x) end)
-    ∙ ap (λ x. t ++ x) (append_assoc S (codes "value ") (T ++ (codes "\n" ++ P)) ∙ ap (λ x. S ++ (codes "value " ++ x)) (sym (append_assoc T (codes "\n") P)))
+-- the lines on a value, behind those of its region
+pub entry_is : (t a b front S lines L : List ℕ) → a ≡ t ++ front → front ≡ S → b ≡ a ++ lines → lines ≡ L → b ≡ t ++ (S ++ L)
+entry_is t a b front S lines L first region second value = second ∙ ap (λ x. a ++ x) value ∙ ap (λ x. x ++ L) (first ∙ ap (λ x. t ++ x) region) ∙ append_assoc t S L
 
 -- a refusal with another reason
 pub refusal_map : {A B : ℕ → Type 0} (e : ValuesError) → ((p : ℕ) → A p → B p) → IsRefusal A e → IsRefusal B e

@@ -1,26 +1,21 @@
 -- The text of `values`: the value of each region's opening, with its stops and its thermograph.
-use Rattle.std.specs.Prelude.{◌≡◌, ◌<◌, ◌⊎◌, ⊤, ◌++◌, [], ◌∷◌, ℕ, List, length, flat_map, codes}
+use Rattle.std.specs.Prelude.{◌≡◌, ◌<◌, ⊤, ◌++◌, [], ◌∷◌, ℕ, List, length, flat_map, codes}
 use Rattle.go_grid.specs.Region.{Shape}
 use Rattle.region_cut.specs.Cut.{lowest}
 use Rattle.game_store.specs.Tree.{Tree}
 use Rattle.game_store.specs.Meaning.{tree_at}
-use Rattle.game_text.specs.NamedText.{named_text, named_depth}
-use Rattle.thermograph.specs.PastBounds.{IsDrawnPastBounds}
+use Rattle.game_text.specs.NamedText.{named_text}
 use Rattle.local_value.specs.PositionTree.{IsValueOf}
 use Rattle.endgame_solver.specs.Regions.{region_at}
 use Rattle.endgame_solver.specs.Solved.{IsNumberOfPositions}
 use Rattle.endgame_solver.specs.declared.solved.RegionReport.{RegionReport}
-use Rattle.report.specs.declared.values.Showing.{Showing}
 use Rattle.report.specs.declared.values.ValuesError.{ValuesError}
 use Rattle.report.specs.declared.values.ValuesError.TheVariants.{Form, Memory}
-use Rattle.report.specs.Lines.{word_line}
 use Rattle.report.specs.Solution.{count_line, solved_line}
-use Rattle.report.specs.Thermographs.{Picture, IsPicture, picture_lines}
-
--- The value isn't shown: a break point of it or of one of its parts is past the bounds of numbers, its named text has
--- more than 65,536 bytes, or its braces nest more than 1,000 deep.
-abbrev pub IsUnshown : Tree → Type 0
-IsUnshown G = IsDrawnPastBounds G ⊎ ((65536 < length (named_text G)) ⊎ (1000 < named_depth G))
+use Rattle.game_lines.specs.Pictures.{Picture, IsPicture}
+use Rattle.game_lines.specs.Showings.{game_lines}
+-- a value that isn't shown
+pub use Rattle.game_lines.specs.Showings.{IsUnshown}
 
 -- the value of the region's opening is shown, or isn't
 abbrev pub HasShownValue : Shape → Type 0
@@ -51,7 +46,7 @@ pub record IsEntry (e : Entry) : Type 0 where
   pub drawn : IsPicture e.value e.picture
 
 abbrev pub entry_lines : ℕ → Entry → List ℕ
-entry_lines columns e = solved_line columns (lowest e.region) (length e.region.points) e.positions ++ (word_line (codes "value") (named_text e.value) ++ picture_lines e.picture)
+entry_lines columns e = solved_line columns (lowest e.region) (length e.region.points) e.positions ++ game_lines (named_text e.value) e.picture
 
 -- an entry for each region
 abbrev pub AreEntries : List Shape → List Entry → Type 0
@@ -65,16 +60,6 @@ pub record IsValuesText (columns : ℕ) (regions : List Shape) (text : List ℕ)
   pub are : AreEntries regions entries
   pub is : text ≡ count_line (codes "regions") (length regions) ++ flat_map (entry_lines columns) entries
 
--- the stops and the thermograph of a report
-abbrev pub picture : Showing → Picture
-picture s = record { left_stop = s.left_stop; right_stop = s.right_stop; thermograph = s.thermograph }
-
--- what is said of a region's value stands in a report: the text of the value, its stops and its thermograph
-pub record IsShowing (G : Tree) (s : Showing) : Type 0 where
-  pub text_is : s.text ≡ named_text G
-  pub drawn : IsPicture G (picture s)
-  pub shown : IsUnshown G → ⊥
-
 -- why there is no text
 abbrev pub IsRefusal : (ℕ → Type 0) → ValuesError → Type 0
 IsRefusal Unshown (Form p) = Unshown p
@@ -85,7 +70,7 @@ pub record HasEntry (columns : ℕ) (Ts : List Tree) (report : RegionReport) (be
   pub picture : Picture
   pub drawn : IsPicture (tree_at Ts report.value) picture
   pub shown : IsUnshown (tree_at Ts report.value) → ⊥
-  pub lines : now ≡ before ++ (solved_line columns report.lowest report.points report.positions ++ (word_line (codes "value") (named_text (tree_at Ts report.value)) ++ picture_lines picture))
+  pub lines : now ≡ before ++ (solved_line columns report.lowest report.points report.positions ++ game_lines (named_text (tree_at Ts report.value)) picture)
 
 -- behind the text stand the lines of the regions
 pub record HasEntries (columns : ℕ) (regions : List Shape) (before now : List ℕ) : Type 0 where

@@ -1,7 +1,7 @@
 //! Words and lines.
 
 ghost use Rattle.std.specs.Prelude.{◌≡◌, ◌<◌, ◌*◌, ◌++◌, OnOk, string_bytes};
-ghost use Rattle.report.specs.Lines.{colour_word, point_line, point_name, word_line};
+ghost use Rattle.report.specs.Lines.{colour_word, point_line, point_name};
 
 use go_grid::{Colour, Point, Size, name};
 use std::alloc::AllocError;
@@ -25,14 +25,6 @@ pub fn write_name(text: &mut String, size: Size, point: Point) -> Result<(), All
     let [column, row] = name(size, point);
     text.push(char::from(column))?;
     text.push(char::from(row))
-}
-
-/// Appends a line of two words.
-#[tactic(auto, unfolding(crate::specs::Lines::word_line))]
-pub fn write_words(text: &mut String, label: &str, word: &str) -> Result<(), AllocError>
-    ensures { OnOk result (string_bytes text.new ≡ string_bytes text.old ++ word_line label.now word.now) }
-{
-    writeln!(text, "{label} {word}")
 }
 
 /// Appends a line that ends in a point of a board of the size.

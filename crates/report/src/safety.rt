@@ -3,28 +3,23 @@
 ghost use Rattle.std.specs.Prelude.{◌≡◌, ◌↔◌, ◌++◌, ◌+◌, ◌*◌, ◌<◌, ℕ, false, true, All, OnOk, IfOk, flat_map, length, slice_index, string_bytes};
 ghost use Rattle.go_grid.specs.Chain.{IsSettled};
 ghost use Rattle.go_grid.specs.Marks.{Lists, Marks};
-ghost use Rattle.benson_life.specs.Life.{InRegion, IsAlive, IsCounted};
+ghost use Rattle.benson_life.specs.Groups.{IsNumberOfGroups};
+ghost use Rattle.benson_life.specs.Life.{InRegion, IsCounted};
 ghost use Rattle.benson_life.specs.Territory.{IsTerritory};
 ghost use Rattle.go_grid.specs.declared.grid.Colour.{Colour};
 ghost use Rattle.go_grid.specs.declared.grid.Colour.TheVariants.{Black, White};
 ghost use Rattle.region_cut.specs.Cut.{AreRegionsOfPlay, lowest};
-ghost use Rattle.report.specs.Safety.{AreChainLines, AreChainsBelow, AreCountedBelow, AreCountedLines, IsSafeText, chain_line, counted_line, life_word, region_line, shape_line, turn};
+ghost use Rattle.report.specs.Chains.{AreChainLines};
+ghost use Rattle.report.specs.Safety.{AreCountedBelow, AreCountedLines, IsSafeText, counted_line, groups_line, region_line, shape_line, turn};
 
+use crate::chains::{ChainLine, chain_lines, write_chains};
 use crate::lines::{colour_word, write_name};
+use benson_attack::Attacks;
 use benson_life::{Territory, held};
 use game_text::Text;
 use go_grid::{Board, Colour, Point, Points, Region, Size, fill};
 use region_cut::cut_territory;
 use std::alloc::{AllocError, Global};
-
-/// A chain by its lowest stone.
-#[derive(Clone, Copy)]
-pub struct ChainLine {
-    pub lowest: Point,
-    pub colour: Colour,
-    pub stones: usize,
-    pub alive: bool,
-}
 
 /// A counted region by its lowest point.
 #[derive(Clone, Copy)]
@@ -37,52 +32,11 @@ pub struct CountedLine {
 }
 
 /// Whether a point stands first in a list.
-fn stands_first(points: &[Point], point: Point) -> bool
+pub(crate) fn stands_first(points: &[Point], point: Point) -> bool
     requires { 0 < length points.now }
     ensures { (result ≡ true) ↔ (slice_index points.now 0 ≡ point) }
 {
     points[0] == point
-}
-
-/// Adds the line of the chain whose lowest stone is at a point, if there is one. The marks are the alive stones.
-fn add_chain(
-    lines: &mut Vec<ChainLine>,
-    board: &Board,
-    alive: &Points,
-    point: Point,
-) -> Result<(), AllocError>
-    requires on_board { point < length board.now.cells }
-    requires alive { Marks alive.now (λ p. (c : Colour) × IsAlive board.now c p) }
-    requires below { AreChainsBelow board.now point lines.old.items }
-    ensures { OnOk result (AreChainsBelow board.now (point + 1) lines.new.items) }
-{
-    let _size = board.size();
-    let Some(colour) = board.colour_at(point) else {
-        return Ok(());
-    };
-    let stones = board.chain_of(point)?;
-    if !stands_first(&stones, point) {
-        return Ok(());
-    }
-    lines.push(ChainLine {
-        lowest: point,
-        colour,
-        stones: stones.len(),
-        alive: alive.contains(point),
-    })?;
-    Ok(())
-}
-
-/// A line for each chain, by its lowest stone. The marks are the alive stones.
-fn chain_lines(alloc: Global, board: &Board, alive: &Points) -> Result<Vec<ChainLine>, AllocError>
-    requires { Marks alive.now (λ p. (c : Colour) × IsAlive board.now c p) }
-    ensures { IfOk result (λ lines. AreChainLines board.now lines.items) }
-{
-    let mut lines = Vec::new(alloc);
-    'chains: for number in 0..board.size().area() {
-        add_chain(&mut lines, board, alive, Point(number))?;
-    }
-    Ok(lines)
 }
 
 /// The region of a counted point.
@@ -165,41 +119,6 @@ fn counted_lines(
     Ok(lines)
 }
 
-fn life_word(alive: bool) -> &'static str
-    ensures { result.now ≡ life_word alive }
-{
-    if alive {
-        return "alive";
-    }
-    "open"
-}
-
-/// Appends the line of a chain.
-#[tactic(auto, using(std::proofs::Common::append_assoc), unfolding(crate::specs::Safety::chain_line))]
-fn write_chain(text: &mut String, size: Size, line: &ChainLine) -> Result<(), AllocError>
-    requires { line.now.lowest < size.columns * size.rows }
-    ensures { OnOk result (string_bytes text.new ≡ string_bytes text.old ++ chain_line size.columns line.now) }
-{
-    text.push_str("chain ")?;
-    write_name(text, size, line.lowest)?;
-    let colour = colour_word(line.colour);
-    let stones = line.stones;
-    let life = life_word(line.alive);
-    writeln!(text, " {colour} stones {stones} {life}")
-}
-
-/// Appends the lines of chains.
-#[tactic(auto, using(std::proofs::Common::append_assoc))]
-fn write_chains(text: &mut String, size: Size, lines: &[ChainLine]) -> Result<(), AllocError>
-    requires { All (λ l. l.lowest < size.columns * size.rows) lines.now }
-    ensures { OnOk result (string_bytes text.new ≡ string_bytes text.old ++ flat_map (chain_line size.columns) lines.now) }
-{
-    'writing: for line in lines {
-        write_chain(text, size, line)?;
-    }
-    Ok(())
-}
-
 /// Appends the line of a counted region.
 #[tactic(auto, using(std::proofs::Common::append_assoc), unfolding(crate::specs::Safety::counted_line))]
 fn write_counted(text: &mut String, size: Size, line: &CountedLine) -> Result<(), AllocError>
@@ -224,6 +143,15 @@ fn write_all_counted(text: &mut String, size: Size, lines: &[CountedLine]) -> Re
         write_counted(text, size, line)?;
     }
     Ok(())
+}
+
+/// Appends the line of the number of groups of a colour.
+#[tactic(auto, using(std::proofs::Common::append_assoc), unfolding(crate::specs::Safety::groups_line))]
+fn write_groups(text: &mut String, colour: Colour, groups: u32) -> Result<(), AllocError>
+    ensures { OnOk result (string_bytes text.new ≡ string_bytes text.old ++ groups_line colour groups) }
+{
+    let colour = colour_word(colour);
+    writeln!(text, "groups {colour} {groups}")
 }
 
 /// The lowest point of a region.
@@ -275,10 +203,14 @@ fn lines_text(
     board: &Board,
     chains: &[ChainLine],
     counted: &[CountedLine],
+    black_groups: u32,
+    white_groups: u32,
     regions: &[Region],
 ) -> Result<Text, AllocError>
     requires chains { AreChainLines board.now chains.now }
     requires counted { AreCountedLines board.now counted.now }
+    requires black_groups { IsNumberOfGroups board.now Black black_groups }
+    requires white_groups { IsNumberOfGroups board.now White white_groups }
     requires regions { AreRegionsOfPlay board.now regions.now }
     ensures { IfOk result (λ text. IsSafeText board.now text) }
 {
@@ -286,28 +218,34 @@ fn lines_text(
     let mut text = String::new(alloc);
     write_chains(&mut text, size, chains)?;
     write_all_counted(&mut text, size, counted)?;
+    write_groups(&mut text, Colour::Black, black_groups)?;
+    write_groups(&mut text, Colour::White, white_groups)?;
     write_regions(&mut text, size, regions)?;
     Ok(Text::from(text))
 }
 
-/// The alive stones of the two colours.
-fn living(board: &Board, territory: &Territory) -> Points
-    requires { IsTerritory board.now territory.now }
-    ensures { Marks result (λ p. (c : Colour) × IsAlive board.now c p) }
-{
-    territory.black.alive.union(&territory.white.alive)
-}
-
-/// The text of `safe` for a settled board: a line for each chain, alive or open (Benson 1976), one for each counted
-/// region, and one for each region of play.
+/// The text of `safe` for a settled board: a line for each chain, alive or open (Benson 1976), behind each open one
+/// a line with placings that take it, one for each counted region, one for the number of groups of each colour, and
+/// one for each region of play.
 pub fn safe_text(alloc: Global, board: &Board) -> Result<Text, AllocError>
     requires { IsSettled board.now }
     ensures { IfOk result (λ text. IsSafeText board.now text) }
 {
     let territory = Territory::of(alloc, board)?;
     let regions = cut_territory(alloc, board, &territory)?;
-    let chains = chain_lines(alloc, board, &living(board, &territory))?;
+    let attacks = Attacks::of(alloc, board, &territory)?;
+    let chains = chain_lines(alloc, board, &attacks)?;
     let (black, white) = (&territory.black.counted, &territory.white.counted);
     let counted = counted_lines(alloc, board, black, white)?;
-    lines_text(alloc, board, &chains, &counted, &regions)
+    let black_groups = territory.black.groups(alloc, board, Colour::Black)?;
+    let white_groups = territory.white.groups(alloc, board, Colour::White)?;
+    lines_text(
+        alloc,
+        board,
+        &chains,
+        &counted,
+        black_groups,
+        white_groups,
+        &regions,
+    )
 }

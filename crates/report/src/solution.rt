@@ -4,8 +4,9 @@ ghost use Rattle.std.specs.Prelude.{◌≡◌, ◌<◌, ◌*◌, ◌++◌, OnOk,
 ghost use Rattle.go_grid.specs.Grid.{other};
 ghost use Rattle.report.specs.Solution.{HasLines, HasOutcome, HasRegions, IsMoveOnBoard, IsSolveText, count_line, move_line, purse_line, solved_line, state_lines, token_word, winner_line};
 
-use crate::lines::{colour_word, write_name, write_point, write_words};
+use crate::lines::{colour_word, write_name, write_point};
 use endgame_solver::Solved;
+use game_lines::write_words;
 use game_text::Text;
 use go_grid::{Colour, Point, Size};
 use std::alloc::{AllocError, Global};
@@ -42,7 +43,7 @@ fn write_state(text: &mut String, state: &Whole) -> Result<(), AllocError>
 }
 
 /// Appends the line of a move.
-#[tactic(auto, using(std::proofs::Common::append_assoc), unfolding(crate::specs::Lines::word_line, crate::specs::Lines::point_line))]
+#[tactic(auto, using(std::proofs::Common::append_assoc), unfolding(game_lines::specs::Words::word_line, crate::specs::Lines::point_line))]
 fn write_move(text: &mut String, size: Size, chosen: Move) -> Result<(), AllocError>
     requires { IsMoveOnBoard size.columns size.rows chosen }
     ensures { OnOk result (string_bytes text.new ≡ string_bytes text.old ++ move_line size.columns (Some chosen)) }
@@ -83,7 +84,7 @@ fn winner_with(side: Colour, chosen: &Option<Move>) -> Colour
 }
 
 /// Appends the lines on the winner and the first winning move of the present state.
-fn write_solution(text: &mut String, solved: &mut Solved) -> Result<(), AllocError>
+pub(crate) fn write_solution(text: &mut String, solved: &mut Solved) -> Result<(), AllocError>
     ensures outcome { OnOk result (HasOutcome solved.old.state (string_bytes text.old) (string_bytes text.new)) }
     ensures same { solved.new ≡ solved.old }
 {

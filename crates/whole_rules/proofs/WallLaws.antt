@@ -1,5 +1,5 @@
 -- Alive stones and counted points never change in play.
-use Rattle.std.proofs.Common.{◌≡◌, ◌≢◌, ℕ, ◌<◌, List, [], ◌∷◌, refl, sym, ap, ◌∙◌, subst, ℤ}
+use Rattle.std.proofs.Common.{◌≡◌, ◌≢◌, ℕ, ◌<◌, List, [], ◌∷◌, Bool, refl, sym, ap, ◌∙◌, subst, ℤ}
 use Rattle.go_grid.specs.declared.grid.Colour.{Colour}
 use Rattle.go_grid.specs.declared.grid.Colour.TheVariants as colour
 use Rattle.go_grid.specs.Grid.{Grid, NextTo, HasStone, IsEmpty, Lacks, cell_at, stone, other}
@@ -107,8 +107,8 @@ pub record Keeps (g : Grid) (s : State) : Type 0 where
   pub walls : WallsStand g s.board
   pub contested : Marks s.contested (IsContested g)
 
-pub keeps_start : (g : Grid) (black white : ℕ) (komi : ℤ) (side : Colour) (s : State) → IsOpening g black white komi side s → Keeps g s
-keeps_start g black white komi side s o = record {
+pub keeps_start : (g : Grid) (black white : ℕ) (komi : ℤ) (side : Colour) (tax : Bool) (s : State) → IsOpening g black white komi side tax s → Keeps g s
+keeps_start g black white komi side tax s o = record {
   walls = subst (λ b. WallsStand g b) (sym o.board) record { columns = refl; long = refl; stones = λ c t a. alive_stone g c t a; counted = λ c p w. refl };
   contested = o.contested;
 }
@@ -132,6 +132,6 @@ keeps_plays g settled s t [] w e = subst (Keeps g) e w
 keeps_plays g settled s t (m ∷ ms) w e = keeps_plays g settled e.0 t ms (keeps_move g settled s e.0 m w e.1) e.2
 
 pub walls_last : WallsLast
-walls_last g black white komi side s t ms settled o e =
-    let w = (keeps_plays g settled s t ms (keeps_start g black white komi side s o) e).walls in
+walls_last g black white komi side tax s t ms settled o e =
+    let w = (keeps_plays g settled s t ms (keeps_start g black white komi side tax s o) e).walls in
     (w, walls_breathe g settled t.board w)

@@ -1,9 +1,10 @@
 -- The state in which a settled board opens.
-use Rattle.std.specs.Prelude.{ℕ, suc, ◌≡◌, ◌+◌, ◌/◌, ◌%◌, ℤ, pos, negsuc, cond, nat_eq}
+use Rattle.std.specs.Prelude.{ℕ, suc, ◌≡◌, ◌+◌, ◌*◌, ◌/◌, ◌%◌, ℤ, pos, negsuc, cond, nat_eq, Bool, true, false}
 use Rattle.go_grid.specs.declared.grid.Colour.{Colour}
 use Rattle.go_grid.specs.declared.grid.Colour.TheVariants.{Black, White}
 use Rattle.go_grid.specs.Grid.{Grid}
 use Rattle.go_grid.specs.Marks.{Marks}
+use Rattle.benson_life.specs.Groups.{IsNumberOfGroups}
 use Rattle.benson_life.specs.Held.{IsHeld}
 use Rattle.benson_life.specs.Region.{IsContested}
 use Rattle.whole_rules.specs.declared.money.Token.{Token}
@@ -22,11 +23,16 @@ abbrev pub komi_token : ℤ → Token
 komi_token (pos n) = cond (nat_eq (n % 2) 0) token.Nobody token.White
 komi_token (negsuc n) = cond (nat_eq (suc n % 2) 0) token.Nobody token.Black
 
--- the state opens the board: what each side holds, its prisoners and its part of the komi, before any move
-pub record IsOpening (g : Grid) (black_prisoners white_prisoners : ℕ) (komi : ℤ) (side : Colour) (s : State) : Type 0 where
+-- the points that the board gives a player at the start: what it holds, less two for each of its groups where there is a tax
+abbrev pub IsStart : Grid → Colour → Bool → ℕ → Type 0
+IsStart g c false n = IsHeld g c n
+IsStart g c true n = (groups : ℕ) × IsNumberOfGroups g c groups × IsHeld g c (n + 2 * groups)
+
+-- The state opens the board before any move: what it gives each side, with or without a tax, its prisoners and its part of the komi.
+pub record IsOpening (g : Grid) (black_prisoners white_prisoners : ℕ) (komi : ℤ) (side : Colour) (tax : Bool) (s : State) : Type 0 where
   pub board : s.board ≡ g
   pub contested : Marks s.contested (IsContested g)
-  pub black : (n : ℕ) × IsHeld g Black n × (s.purses.black ≡ n + black_prisoners + komi_points Black komi)
-  pub white : (n : ℕ) × IsHeld g White n × (s.purses.white ≡ n + white_prisoners + komi_points White komi)
+  pub black : (n : ℕ) × IsStart g Black tax n × (s.purses.black ≡ n + black_prisoners + komi_points Black komi)
+  pub white : (n : ℕ) × IsStart g White tax n × (s.purses.white ≡ n + white_prisoners + komi_points White komi)
   pub token : s.purses.token ≡ komi_token komi
   pub turn : s.side ≡ side

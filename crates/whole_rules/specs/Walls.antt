@@ -1,5 +1,5 @@
 -- Alive stones and counted points never change in play.
-use Rattle.std.specs.Prelude.{ℕ, ℤ, ◌≡◌, List, [], ◌∷◌}
+use Rattle.std.specs.Prelude.{ℕ, ℤ, ◌≡◌, List, [], ◌∷◌, Bool}
 use Rattle.go_grid.specs.declared.grid.Colour.{Colour}
 use Rattle.go_grid.specs.Grid.{Grid}
 use Rattle.go_grid.specs.Chain.{IsSettled}
@@ -14,5 +14,5 @@ Plays s [] t = s ≡ t
 Plays s (m ∷ ms) t = (u : State) × IsMove s m u × Plays u ms t
 
 abbrev pub WallsLast : Type 0
-WallsLast = (g : Grid) (black white : ℕ) (komi : ℤ) (side : Colour) (s t : State) (ms : List Move)
-    → IsSettled g → IsOpening g black white komi side s → Plays s ms t → WallsStand g t.board × WallsBreathe g t.board
+WallsLast = (g : Grid) (black white : ℕ) (komi : ℤ) (side : Colour) (tax : Bool) (s t : State) (ms : List Move)
+    → IsSettled g → IsOpening g black white komi side tax s → Plays s ms t → WallsStand g t.board × WallsBreathe g t.board

@@ -1,14 +1,14 @@
 //! The state in which a settled board opens.
 
-ghost use Rattle.std.specs.Prelude.{◌≡◌, ◌+◌, ◌^◌, ◌<◌, ◌≤◌, IfOk};
+ghost use Rattle.std.specs.Prelude.{◌≡◌, ◌+◌, ◌-◌, ◌*◌, ◌^◌, ◌<◌, ◌≤◌, IfOk};
 ghost use Rattle.go_grid.specs.declared.grid.Colour.TheVariants.{Black, White};
 ghost use Rattle.go_grid.specs.Chain.{IsSettled};
-ghost use Rattle.benson_life.specs.Territory.{IsTerritory};
-ghost use Rattle.whole_rules.specs.Opening.{komi_points, komi_token, IsOpening};
+ghost use Rattle.benson_life.specs.Territory.{IsLife, IsTerritory};
+ghost use Rattle.whole_rules.specs.Opening.{komi_points, komi_token, IsOpening, IsStart};
 
 use crate::money::{Purses, Token};
 use crate::states::Whole;
-use benson_life::Territory;
+use benson_life::{Life, Territory, tax_law};
 use go_grid::{Board, Colour};
 use std::alloc::{AllocError, Global};
 
@@ -38,10 +38,40 @@ fn komi_token(halves: i64) -> Token
     Token::White
 }
 
-/// The purses and the token of an opening: points held, prisoners and komi.
+/// What is left of held points after a tax of two points for each group.
+fn after_tax(held: u32, groups: u32) -> u32
+    requires { 2 * groups ≤ held }
+    ensures { result ≡ held - 2 * groups }
+{
+    held - 2 * groups
+}
+
+/// The points that the board gives a player at the start: what it holds, less two for each of its groups where there is
+/// a tax.
+fn start_points(
+    alloc: Global,
+    board: &Board,
+    life: &Life,
+    colour: Colour,
+    tax: bool,
+) -> Result<u32, AllocError>
+    requires settled { IsSettled board.now }
+    requires life { IsLife board.now colour life.now }
+    ensures { IfOk result (IsStart board.now colour tax) }
+{
+    let held = life.held(alloc, board, colour)?;
+    if tax {
+        let groups = life.groups(alloc, board, colour)?;
+        tax_law();
+        return Ok(after_tax(held, groups));
+    }
+    Ok(held)
+}
+
+/// The purses and the token of an opening: points of the board, prisoners and komi.
 fn opening_purses(
-    black_held: u32,
-    white_held: u32,
+    black_start: u32,
+    white_start: u32,
     black_prisoners: u64,
     white_prisoners: u64,
     komi_halves: i64,
@@ -49,21 +79,21 @@ fn opening_purses(
     requires black { black_prisoners < 2 ^ 40 }
     requires white { white_prisoners < 2 ^ 40 }
     ensures { result ≡ record {
-      black = black_held + black_prisoners + komi_points Black komi_halves;
-      white = white_held + white_prisoners + komi_points White komi_halves;
+      black = black_start + black_prisoners + komi_points Black komi_halves;
+      white = white_start + white_prisoners + komi_points White komi_halves;
       token = komi_token komi_halves;
     } }
 {
     Purses {
-        black: u64::from(black_held) + black_prisoners + komi_points(Colour::Black, komi_halves),
-        white: u64::from(white_held) + white_prisoners + komi_points(Colour::White, komi_halves),
+        black: u64::from(black_start) + black_prisoners + komi_points(Colour::Black, komi_halves),
+        white: u64::from(white_start) + white_prisoners + komi_points(Colour::White, komi_halves),
         token: komi_token(komi_halves),
     }
 }
 
 impl Whole {
-    /// The state in which a settled board opens: prisoners in points, each below 2^40, and a komi in half-points, White's
-    /// where it is positive.
+    /// The state in which a settled board opens: prisoners in points, each below 2^40, a komi in half-points, White's
+    /// where it is positive, and with or without a tax of two points for each group.
     pub fn opening(
         alloc: Global,
         board: &Board,
@@ -71,11 +101,12 @@ impl Whole {
         white_prisoners: u64,
         komi_halves: i64,
         side: Colour,
+        tax: bool,
     ) -> Result<Whole, AllocError>
         requires settled { IsSettled board.now }
         requires black { black_prisoners < 2 ^ 40 }
         requires white { white_prisoners < 2 ^ 40 }
-        ensures { IfOk result (λ w. IsOpening board.now black_prisoners white_prisoners komi_halves side w) }
+        ensures { IfOk result (λ w. IsOpening board.now black_prisoners white_prisoners komi_halves side tax w) }
     {
         let territory = Territory::of(alloc, board)?;
         Whole::opening_with(
@@ -86,6 +117,7 @@ impl Whole {
             white_prisoners,
             komi_halves,
             side,
+            tax,
         )
     }
 
@@ -98,14 +130,16 @@ impl Whole {
         white_prisoners: u64,
         komi_halves: i64,
         side: Colour,
+        tax: bool,
     ) -> Result<Whole, AllocError>
+        requires settled { IsSettled board.now }
         requires territory { IsTerritory board.now territory.now }
         requires black { black_prisoners < 2 ^ 40 }
         requires white { white_prisoners < 2 ^ 40 }
-        ensures { IfOk result (λ w. IsOpening board.now black_prisoners white_prisoners komi_halves side w) }
+        ensures { IfOk result (λ w. IsOpening board.now black_prisoners white_prisoners komi_halves side tax w) }
     {
-        let black = territory.black.held(alloc, board, Colour::Black)?;
-        let white = territory.white.held(alloc, board, Colour::White)?;
+        let black = start_points(alloc, board, &territory.black, Colour::Black, tax)?;
+        let white = start_points(alloc, board, &territory.white, Colour::White, tax)?;
         let purses = opening_purses(black, white, black_prisoners, white_prisoners, komi_halves);
         let contested = territory.contested(board);
         Ok(Whole::new(board.copy()?, contested, purses, side))

@@ -6,13 +6,14 @@ use crate::{Move, MoveError, Token, Whole, plain_winner};
 use go_grid::{Board, Cell, Colour, Point, Size};
 use std::alloc::{AllocError, Global};
 
-/// A board, a komi in half-points and the side to move.
+/// A board, a komi in half-points, the side to move, and whether there is a tax.
 #[derive(Clone, Copy)]
 struct Game {
     columns: u8,
     drawing: &'static [u8],
     komi: i64,
     side: Colour,
+    tax: bool,
 }
 
 const ALL_COUNTED: &[u8] = b".X.XO.O.XXXXOOOO";
@@ -27,13 +28,27 @@ const IN_ATARI: &[u8] = b".XOX.O.O.XX.XXOOOO";
 
 const ONE_POINT: &[u8] = b".";
 
-/// A game of so many columns.
+const TWO_GROUPS: &[u8] = b".X.XO.O.OX.X.XXXXOOOOOXXXX";
+
+/// A game of so many columns, without a tax.
 fn game_of(columns: u8, drawing: &'static [u8], komi: i64, side: Colour) -> Game {
     Game {
         columns,
         drawing,
         komi,
         side,
+        tax: false,
+    }
+}
+
+/// A game with a tax, without komi and with Black to move.
+fn taxed(columns: u8, drawing: &'static [u8]) -> Game {
+    Game {
+        columns,
+        drawing,
+        komi: 0,
+        side: Colour::Black,
+        tax: true,
     }
 }
 
@@ -63,7 +78,7 @@ fn opened(alloc: Global, game: Game) -> Result<Option<Whole>, AllocError> {
     if board.unsettled()?.is_some() {
         return Ok(None);
     }
-    let state = Whole::opening(alloc, &board, 0, 0, game.komi, game.side)?;
+    let state = Whole::opening(alloc, &board, 0, 0, game.komi, game.side, game.tax)?;
     Ok(Some(state))
 }
 
@@ -135,6 +150,20 @@ fn openings(rt: HostRuntime) -> Result<(), AllocError> {
             purses: (0, 0),
             token: Token::Nobody,
             contested: &[0],
+            moves: &[],
+        },
+        Opening {
+            game: taxed(9, WITH_CAPTIVE),
+            purses: (2, 0),
+            token: Token::Nobody,
+            contested: &[],
+            moves: &[Move::Spend],
+        },
+        Opening {
+            game: taxed(13, TWO_GROUPS),
+            purses: (0, 0),
+            token: Token::Nobody,
+            contested: &[],
             moves: &[],
         },
     ];
@@ -249,6 +278,8 @@ fn winners(rt: HostRuntime) -> Result<(), AllocError> {
         (game_of(8, ALL_COUNTED, 1, white), 8, Some(white)),
         (game_of(9, TWO_OPEN, 0, black), 8, Some(white)),
         (game_of(9, WITH_CAPTIVE, 0, black), 8, Some(black)),
+        (game_of(13, TWO_GROUPS, 0, black), 8, Some(black)),
+        (taxed(13, TWO_GROUPS), 8, Some(white)),
     ];
     for (at, (game, depth, winner)) in rows.iter().enumerate() {
         assert!(rt; is_won(rt.alloc(), *game, *depth, *winner)?, "at {at}");

@@ -1,27 +1,41 @@
-use Rattle.std.proofs.Common.{subst, arith}
+use Rattle.std.proofs.Common.{◌+◌, subst, sym, arith}
 use Rattle.std.proofs.lemmas.Bool.{both_ways}
+use Rattle.go_grid.specs.Chain.{InChain}
 use Rattle.go_grid.specs.Grid.{HasStone}
 use Rattle.go_grid.specs.Marks.{Marks}
-use Rattle.benson_attack.proofs.RunLemmas.{eyes_more, failed_copy, alive_all}
+use Rattle.benson_attack.specs.Reached.{AreTriedBelow}
+use Rattle.benson_attack.proofs.RunLemmas.{failed_copy}
+use Rattle.benson_attack.proofs.TriedLemmas.{tried_first, tried_skip, tried_more, tried_all}
 use Rattle.benson_attack.proofs.captures.advance.Goals as goal
 use Rattle.benson_attack.proofs.captures.advance.Goals.{then-contains+in_ok-trial+in_ok-capture+else-branch, else-contains}
+
+pub loop-number-init : goal.loop-number-init
+loop-number-init c =
+    let marks = subst (λ k. Marks c.stones.result (HasStone c.args.run.now.board k)) c.other.ensures c.stones.ensures in
+    tried_first c.args.colour c.args.alive.now c.difference-left.result c.args.run.now c.stones.result marks c.difference-left.ensures
 
 pub loop-number-preserved : goal.loop-number-preserved
 loop-number-preserved c =
     let d = c.args.colour in
+    let alive = c.args.alive.now in
     let run = c.args.run.now in
     let n = c.loop-number.number in
-    let marks = subst (λ k. Marks c.stones-victims.result (HasStone run.board k)) c.other.ensures c.stones-victims.ensures in
-    eyes_more d run n c.loop-number.invariant (elim c.if-contains.branch [
-      | then-contains+in_ok-trial+in_ok-capture+else-branch w ↦ λ s.
-          failed_copy d n run w.in_ok-trial.trial w.capture.new.run w.in_ok-capture.field-0 w.in_ok-trial.ensures.0
-          w.in_ok-trial.ensures.1 w.in_ok-capture.ensures w.if-branch.false
-      | else-contains w ↦ λ s. absurd (both_ways _ w.if-contains.false (c.contains.ensures.1 ((marks n).1 s)))
-    ])
+    elim c.if-contains.branch [
+      | then-contains+in_ok-trial+in_ok-capture+else-branch w ↦
+          let chain = subst (λ k. Marks w.chain.result (InChain run.board k n)) w.other-then-contains.ensures w.chain.ensures in
+          subst (λ x. AreTriedBelow d alive x run (n + 1)) (sym w.left-is)
+          (tried_more d alive c.loop-number.left run n w.chain.result w.difference-left-then-contains.result c.loop-number.invariant
+          (λ g settled marks. failed_copy d n run w.in_ok-trial.trial w.capture.new.run w.in_ok-capture.field-0 w.in_ok-trial.ensures.0
+          w.in_ok-trial.ensures.1 w.in_ok-capture.ensures w.if-branch.false g)
+          chain w.difference-left-then-contains.ensures)
+      | else-contains w ↦ subst (λ x. AreTriedBelow d alive x run (n + 1)) (sym w.left-is)
+          (tried_skip d alive c.loop-number.left run n c.loop-number.invariant
+          (λ m. both_ways _ w.if-contains.false (c.contains.ensures.1 m)))
+    ]
 
 pub returns : goal.returns
 returns c =
     let run = c.args.run.now in
-    let marks = subst (λ k. Marks c.stones-victims.result (HasStone run.board k)) c.other.ensures c.stones-victims.ensures in
-    alive_all c.args.colour run c.stones-victims.result marks (λ v s. c.loop-number.invariant v
-    (omega (arith, c.loop-number-test.false, c.area-number-end.ensures.value, c.size.ensures.area, s.0)) s)
+    let marks = subst (λ k. Marks c.stones.result (HasStone run.board k)) c.other.ensures c.stones.ensures in
+    tried_all c.args.colour c.args.alive.now c.loop-number.left run c.loop-number.number c.stones.result c.loop-number.invariant
+    (omega (arith, c.loop-number-test.false, c.area-number-end.ensures.value, c.size.ensures.area)) marks

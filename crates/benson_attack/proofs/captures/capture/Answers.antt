@@ -1,6 +1,6 @@
 use Rattle.std.proofs.Common.{sym, subst}
 use Rattle.std.proofs.lemmas.Bool.{both_ways}
-use Rattle.go_grid.specs.Grid.{HasStone}
+use Rattle.go_grid.specs.Grid.{HasStone, other}
 use Rattle.benson_attack.proofs.CountLemmas.{rises, falls}
 use Rattle.benson_attack.proofs.LegalLemmas.{long}
 use Rattle.benson_attack.proofs.RunLemmas.{pressed_next, pressed_taken, pressed_held}
@@ -30,5 +30,7 @@ returns-in-None c =
 pub returns : goal.returns
 returns c =
     let v = c.args.victim in
-    pressed_taken c.args.colour v c.args.run.now c.pressing.run c.pressing.invariant
-    (λ s. both_ways _ c.pressing-test.false (c.holds.ensures.1 (subst (λ k. HasStone c.pressing.run.board k v) (sym c.other.ensures) s)))
+    let d = c.args.colour in
+    let gone : HasStone c.pressing.run.board (other d) v → ⊥ = λ s.
+    both_ways _ c.pressing-test.false (c.holds.ensures.1 (subst (λ k. HasStone c.pressing.run.board k v) (sym c.other.ensures) s)) in
+    (pressed_taken d v c.args.run.now c.pressing.run c.pressing.invariant gone, gone)

@@ -8,6 +8,9 @@ use Rattle.endgame_run.proofs.GameLaws.{game_caused, game_written, only_play, ow
 use Rattle.endgame_run.proofs.GameWins.{plays_won}
 use Rattle.endgame_run.proofs.CompleteLaws.{complete}
 use Rattle.endgame_run.proofs.OutputLaws.{no_job, part_output}
+use Rattle.endgame_run.proofs.PoseLaws.{calc_unposed, trial_unposed}
+use Rattle.endgame_run.proofs.CalcLaws.{calc_caused, calc_written}
+use Rattle.endgame_run.proofs.TrialLaws.{trial_caused, trial_written}
 use Rattle.endgame_run.proofs.TopLaws.{by_word, caused, written, run_caused, run_written}
 use Rattle.endgame_run.proofs.WrittenLaws.{run_winner, run_move}
 use Rattle.endgame_run.proofs.StepLaws.{no_steps, run_steps, steps_told}
@@ -16,85 +19,75 @@ use Rattle.endgame_run.proofs.top.run.Goals as goal
 pub returns-in_default-clause-cause : goal.returns-in_default-clause-cause
 returns-in_default-clause-cause g c = inl (caused (texts c.args.words.now) _ _ _ _ _ _ _ c.finish.result (c.in_default.ensures.usage, refl) c.finish.ensures.written)
 
-pub returns-in_default-asked-clause-cause : goal.returns-in_default-asked-clause-cause
-returns-in_default-asked-clause-cause g c =
-    inl (caused (texts c.args.words.now) _ _ _ _ _ _ _ c.finish-in_default-asked.result ((viewed c.in-Ok.job, c.in-Ok.ensures.job.said, c.in_default-asked.ensures), refl)
-    c.finish-in_default-asked.ensures.written)
-
 pub returns-in_default-clause-text : goal.returns-in_default-clause-text
 returns-in_default-clause-text g c = inl (written (texts c.args.words.now) _ _ _ _ _ _ _ c.finish.result (c.in_default.ensures.usage, refl) c.finish.ensures.written)
 
-pub returns-in_default-asked-clause-text : goal.returns-in_default-asked-clause-text
-returns-in_default-asked-clause-text g c =
-    inl (written (texts c.args.words.now) _ _ _ _ _ _ _ c.finish-in_default-asked.result ((viewed c.in-Ok.job, c.in-Ok.ensures.job.said, c.in_default-asked.ensures), refl)
-    c.finish-in_default-asked.ensures.written)
-
 pub returns-in-Answer-clause-cause : goal.returns-in-Answer-clause-cause
 returns-in-Answer-clause-cause g c =
-    let asks : AskAbout (texts c.args.words.now) (viewed c.in-Ok.job) c.in-Answer.inquiry.question c.in-Answer.inquiry.word.now = (c.in-Ok.ensures.job, (subst (IsAsked (viewed c.in-Ok.job)) c.in-Answer.is c.in-Some.ensures)) in
+    let asks : AskAbout (texts c.args.words.now) (viewed c.in-Ok.job) c.in-Answer.inquiry.question c.in-Answer.inquiry.word.now = (c.in-Ok.ensures.job, (subst (IsAsked (viewed c.in-Ok.job)) c.in-Answer.is c.asked.ensures)) in
     inl (run_caused (texts c.args.words.now) _ (viewed c.in-Ok.job) c.in-Answer.inquiry.question c.in-Answer.inquiry.word.now _ _ _ _ c.run_file.result asks c.run_file.ensures.answered)
 
 pub returns-in-Answer-clause-text : goal.returns-in-Answer-clause-text
 returns-in-Answer-clause-text g c =
-    let asks : AskAbout (texts c.args.words.now) (viewed c.in-Ok.job) c.in-Answer.inquiry.question c.in-Answer.inquiry.word.now = (c.in-Ok.ensures.job, (subst (IsAsked (viewed c.in-Ok.job)) c.in-Answer.is c.in-Some.ensures)) in
+    let asks : AskAbout (texts c.args.words.now) (viewed c.in-Ok.job) c.in-Answer.inquiry.question c.in-Answer.inquiry.word.now = (c.in-Ok.ensures.job, (subst (IsAsked (viewed c.in-Ok.job)) c.in-Answer.is c.asked.ensures)) in
     inl (run_written (texts c.args.words.now) _ (viewed c.in-Ok.job) c.in-Answer.inquiry.question c.in-Answer.inquiry.word.now _ _ _ _ c.run_file.result asks c.run_file.ensures.answered)
 
 pub returns-in-Answer-clause-winner : goal.returns-in-Answer-clause-winner
 returns-in-Answer-clause-winner g c =
-    let asks : AskAbout (texts c.args.words.now) (viewed c.in-Ok.job) c.in-Answer.inquiry.question c.in-Answer.inquiry.word.now = (c.in-Ok.ensures.job, (subst (IsAsked (viewed c.in-Ok.job)) c.in-Answer.is c.in-Some.ensures)) in
+    let asks : AskAbout (texts c.args.words.now) (viewed c.in-Ok.job) c.in-Answer.inquiry.question c.in-Answer.inquiry.word.now = (c.in-Ok.ensures.job, (subst (IsAsked (viewed c.in-Ok.job)) c.in-Answer.is c.asked.ensures)) in
     run_winner (texts c.args.words.now) _ (viewed c.in-Ok.job) c.in-Answer.inquiry.question c.in-Answer.inquiry.word.now _ _ _ _ c.run_file.result asks c.run_file.ensures.answered
 
 pub returns-in-Answer-clause-first_winning_move : goal.returns-in-Answer-clause-first_winning_move
 returns-in-Answer-clause-first_winning_move g c =
-    let asks : AskAbout (texts c.args.words.now) (viewed c.in-Ok.job) c.in-Answer.inquiry.question c.in-Answer.inquiry.word.now = (c.in-Ok.ensures.job, (subst (IsAsked (viewed c.in-Ok.job)) c.in-Answer.is c.in-Some.ensures)) in
+    let asks : AskAbout (texts c.args.words.now) (viewed c.in-Ok.job) c.in-Answer.inquiry.question c.in-Answer.inquiry.word.now = (c.in-Ok.ensures.job, (subst (IsAsked (viewed c.in-Ok.job)) c.in-Answer.is c.asked.ensures)) in
     run_move (texts c.args.words.now) _ (viewed c.in-Ok.job) c.in-Answer.inquiry.question c.in-Answer.inquiry.word.now _ _ _ _ c.run_file.result asks c.run_file.ensures.answered
 
 pub returns-in-Answer-clause-few_steps : goal.returns-in-Answer-clause-few_steps
 returns-in-Answer-clause-few_steps g c =
-    let asks : AskAbout (texts c.args.words.now) (viewed c.in-Ok.job) c.in-Answer.inquiry.question c.in-Answer.inquiry.word.now = (c.in-Ok.ensures.job, (subst (IsAsked (viewed c.in-Ok.job)) c.in-Answer.is c.in-Some.ensures)) in
+    let asks : AskAbout (texts c.args.words.now) (viewed c.in-Ok.job) c.in-Answer.inquiry.question c.in-Answer.inquiry.word.now = (c.in-Ok.ensures.job, (subst (IsAsked (viewed c.in-Ok.job)) c.in-Answer.is c.asked.ensures)) in
     run_steps (texts c.args.words.now) (g.H.Shelf.files c.args.shelf.now) (g.S.Source.left c.args.lines.now) (viewed c.in-Ok.job) c.in-Answer.inquiry.question c.in-Answer.inquiry.word.now c.args.steps.now c.run_file.new.steps (inl asks) c.run_file.ensures.steps
 
 pub returns-in-Answer-clause-steps : goal.returns-in-Answer-clause-steps
 returns-in-Answer-clause-steps g c =
-    let asks : AskAbout (texts c.args.words.now) (viewed c.in-Ok.job) c.in-Answer.inquiry.question c.in-Answer.inquiry.word.now = (c.in-Ok.ensures.job, (subst (IsAsked (viewed c.in-Ok.job)) c.in-Answer.is c.in-Some.ensures)) in
+    let asks : AskAbout (texts c.args.words.now) (viewed c.in-Ok.job) c.in-Answer.inquiry.question c.in-Answer.inquiry.word.now = (c.in-Ok.ensures.job, (subst (IsAsked (viewed c.in-Ok.job)) c.in-Answer.is c.asked.ensures)) in
     steps_told (texts c.args.words.now) (g.H.Shelf.files c.args.shelf.now) (g.S.Source.left c.args.lines.now) c.args.steps.now c.run_file.new.steps
     (run_steps (texts c.args.words.now) (g.H.Shelf.files c.args.shelf.now) (g.S.Source.left c.args.lines.now) (viewed c.in-Ok.job) c.in-Answer.inquiry.question c.in-Answer.inquiry.word.now c.args.steps.now c.run_file.new.steps (inl asks) c.run_file.ensures.steps)
 
 pub returns-in-Answer-clause-shelf_unread : goal.returns-in-Answer-clause-shelf_unread
 returns-in-Answer-clause-shelf_unread g c other =
-    by_word _ c.in-Answer.inquiry.word.now c.run_file.ensures.shelf_unread (λ ne. absurd (other (viewed c.in-Ok.job, c.in-Answer.inquiry.question, c.in-Answer.inquiry.word.now, inl (c.in-Ok.ensures.job, (subst (IsAsked (viewed c.in-Ok.job)) c.in-Answer.is c.in-Some.ensures)), ne)))
+    by_word _ c.in-Answer.inquiry.word.now c.run_file.ensures.shelf_unread (λ ne. absurd (other (viewed c.in-Ok.job, c.in-Answer.inquiry.question, c.in-Answer.inquiry.word.now, inl (c.in-Ok.ensures.job, (subst (IsAsked (viewed c.in-Ok.job)) c.in-Answer.is c.asked.ensures)), ne)))
 
 pub returns-in-Game-clause-cause : goal.returns-in-Game-clause-cause
 returns-in-Game-clause-cause g c =
-    let asks : AreToPlay (texts c.args.words.now) (viewed c.in-Ok.job) c.in-Game.game.word.now = (c.in-Ok.ensures.job, (subst (IsAsked (viewed c.in-Ok.job)) c.in-Game.is c.in-Some.ensures).0) in
+    let asks : AreToPlay (texts c.args.words.now) (viewed c.in-Ok.job) c.in-Game.game.word.now = (c.in-Ok.ensures.job, (subst (IsAsked (viewed c.in-Ok.job)) c.in-Game.is c.asked.ensures).0) in
     game_caused (texts c.args.words.now) _ (viewed c.in-Ok.job) c.in-Game.game.word.now _ _ _ _ c.run_game.result asks
-    (own_outcome (viewed c.in-Ok.job) c.in-Game.game.limits c.in-Game.game.engine c.in-Game.game.word.now _ _ _ _ _ c.run_game.result (subst (IsAsked (viewed c.in-Ok.job)) c.in-Game.is c.in-Some.ensures).1 (subst (IsAsked (viewed c.in-Ok.job)) c.in-Game.is c.in-Some.ensures).2 c.run_game.ensures.outcome)
+    (own_outcome (viewed c.in-Ok.job) c.in-Game.game.limits c.in-Game.game.engine c.in-Game.game.word.now _ _ _ _ _ c.run_game.result (subst (IsAsked (viewed c.in-Ok.job)) c.in-Game.is c.asked.ensures).1 (subst (IsAsked (viewed c.in-Ok.job)) c.in-Game.is c.asked.ensures).2 c.run_game.ensures.outcome)
 
 pub returns-in-Game-clause-text : goal.returns-in-Game-clause-text
 returns-in-Game-clause-text g c =
-    let asks : AreToPlay (texts c.args.words.now) (viewed c.in-Ok.job) c.in-Game.game.word.now = (c.in-Ok.ensures.job, (subst (IsAsked (viewed c.in-Ok.job)) c.in-Game.is c.in-Some.ensures).0) in
+    let asks : AreToPlay (texts c.args.words.now) (viewed c.in-Ok.job) c.in-Game.game.word.now = (c.in-Ok.ensures.job, (subst (IsAsked (viewed c.in-Ok.job)) c.in-Game.is c.asked.ensures).0) in
     game_written (texts c.args.words.now) _ (viewed c.in-Ok.job) c.in-Game.game.word.now _ _ _ _ c.run_game.result asks
-    (own_outcome (viewed c.in-Ok.job) c.in-Game.game.limits c.in-Game.game.engine c.in-Game.game.word.now _ _ _ _ _ c.run_game.result (subst (IsAsked (viewed c.in-Ok.job)) c.in-Game.is c.in-Some.ensures).1 (subst (IsAsked (viewed c.in-Ok.job)) c.in-Game.is c.in-Some.ensures).2 c.run_game.ensures.outcome)
+    (own_outcome (viewed c.in-Ok.job) c.in-Game.game.limits c.in-Game.game.engine c.in-Game.game.word.now _ _ _ _ _ c.run_game.result (subst (IsAsked (viewed c.in-Ok.job)) c.in-Game.is c.asked.ensures).1 (subst (IsAsked (viewed c.in-Ok.job)) c.in-Game.is c.asked.ensures).2 c.run_game.ensures.outcome)
 
 pub returns-in-Game-clause-winner : goal.returns-in-Game-clause-winner
-returns-in-Game-clause-winner g c done (job, word, ask) = absurd (only_play (texts c.args.words.now) (viewed c.in-Ok.job) job (Solve (limits_of job)) c.in-Game.game.word.now word (c.in-Ok.ensures.job, (subst (IsAsked (viewed c.in-Ok.job)) c.in-Game.is c.in-Some.ensures).0) ask)
+returns-in-Game-clause-winner g c done (job, word, ask) = absurd (only_play (texts c.args.words.now) (viewed c.in-Ok.job) job (Solve (limits_of job)) c.in-Game.game.word.now word (c.in-Ok.ensures.job, (subst (IsAsked (viewed c.in-Ok.job)) c.in-Game.is c.asked.ensures).0) ask)
 
 pub returns-in-Game-clause-first_winning_move : goal.returns-in-Game-clause-first_winning_move
 returns-in-Game-clause-first_winning_move g c done (job, word, ask) =
-    absurd (only_play (texts c.args.words.now) (viewed c.in-Ok.job) job (Solve (limits_of job)) c.in-Game.game.word.now word (c.in-Ok.ensures.job, (subst (IsAsked (viewed c.in-Ok.job)) c.in-Game.is c.in-Some.ensures).0) ask)
+    absurd (only_play (texts c.args.words.now) (viewed c.in-Ok.job) job (Solve (limits_of job)) c.in-Game.game.word.now word (c.in-Ok.ensures.job, (subst (IsAsked (viewed c.in-Ok.job)) c.in-Game.is c.asked.ensures).0) ask)
 
 pub returns-in-Game-clause-at_end : goal.returns-in-Game-clause-at_end
 returns-in-Game-clause-at_end g c done (job, question, ask) =
-    absurd (only_play (texts c.args.words.now) (viewed c.in-Ok.job) job question c.in-Game.game.word.now _ (c.in-Ok.ensures.job, (subst (IsAsked (viewed c.in-Ok.job)) c.in-Game.is c.in-Some.ensures).0) ask)
+    absurd (only_play (texts c.args.words.now) (viewed c.in-Ok.job) job question c.in-Game.game.word.now _ (c.in-Ok.ensures.job, (subst (IsAsked (viewed c.in-Ok.job)) c.in-Game.is c.asked.ensures).0) ask)
 
 pub returns-in-Game-clause-few_steps : goal.returns-in-Game-clause-few_steps
 returns-in-Game-clause-few_steps g c =
-    let asks : Pose (texts c.args.words.now) (viewed c.in-Ok.job) (Solve c.in-Game.game.limits) c.in-Game.game.word.now = inr ((c.in-Ok.ensures.job, (subst (IsAsked (viewed c.in-Ok.job)) c.in-Game.is c.in-Some.ensures).0), ap Solve (subst (IsAsked (viewed c.in-Ok.job)) c.in-Game.is c.in-Some.ensures).1) in
+    let asks : Pose (texts c.args.words.now) (viewed c.in-Ok.job) (Solve c.in-Game.game.limits) c.in-Game.game.word.now = inr ((c.in-Ok.ensures.job, (subst (IsAsked (viewed c.in-Ok.job)) c.in-Game.is c.asked.ensures).0), ap Solve (subst (IsAsked (viewed c.in-Ok.job)) c.in-Game.is c.asked.ensures).1) in
     run_steps (texts c.args.words.now) (g.H.Shelf.files c.args.shelf.now) (g.S.Source.left c.args.lines.now) (viewed c.in-Ok.job) (Solve c.in-Game.game.limits) c.in-Game.game.word.now c.args.steps.now c.run_game.new.steps asks c.run_game.ensures.steps
 
 pub returns-in-Game-clause-steps : goal.returns-in-Game-clause-steps
 returns-in-Game-clause-steps g c =
-    let asks : Pose (texts c.args.words.now) (viewed c.in-Ok.job) (Solve c.in-Game.game.limits) c.in-Game.game.word.now = inr ((c.in-Ok.ensures.job, (subst (IsAsked (viewed c.in-Ok.job)) c.in-Game.is c.in-Some.ensures).0), ap Solve (subst (IsAsked (viewed c.in-Ok.job)) c.in-Game.is c.in-Some.ensures).1) in
+    let asks : Pose (texts c.args.words.now) (viewed c.in-Ok.job) (Solve c.in-Game.game.limits) c.in-Game.game.word.now = inr ((c.in-Ok.ensures.job, (subst (IsAsked (viewed c.in-Ok.job)) c.in-Game.is c.asked.ensures).0), ap Solve (subst (IsAsked (viewed c.in-Ok.job)) c.in-Game.is c.asked.ensures).1) in
     steps_told (texts c.args.words.now) (g.H.Shelf.files c.args.shelf.now) (g.S.Source.left c.args.lines.now) c.args.steps.now c.run_game.new.steps
     (run_steps (texts c.args.words.now) (g.H.Shelf.files c.args.shelf.now) (g.S.Source.left c.args.lines.now) (viewed c.in-Ok.job) (Solve c.in-Game.game.limits) c.in-Game.game.word.now c.args.steps.now c.run_game.new.steps asks c.run_game.ensures.steps)
 
@@ -104,12 +97,12 @@ returns-in-Game-clause-shelf_unread g c other =
       viewed c.in-Ok.job,
       Solve c.in-Game.game.limits,
       c.in-Game.game.word.now,
-      inr ((c.in-Ok.ensures.job, (subst (IsAsked (viewed c.in-Ok.job)) c.in-Game.is c.in-Some.ensures).0), ap Solve (subst (IsAsked (viewed c.in-Ok.job)) c.in-Game.is c.in-Some.ensures).1),
-      played_apart (texts c.args.words.now) (viewed c.in-Ok.job) c.in-Game.game.word.now c.in-Ok.ensures.job.said (subst (IsAsked (viewed c.in-Ok.job)) c.in-Game.is c.in-Some.ensures).0,
+      inr ((c.in-Ok.ensures.job, (subst (IsAsked (viewed c.in-Ok.job)) c.in-Game.is c.asked.ensures).0), ap Solve (subst (IsAsked (viewed c.in-Ok.job)) c.in-Game.is c.asked.ensures).1),
+      played_apart (texts c.args.words.now) (viewed c.in-Ok.job) c.in-Game.game.word.now c.in-Ok.ensures.job.said (subst (IsAsked (viewed c.in-Ok.job)) c.in-Game.is c.asked.ensures).0,
     ))
 
 pub returns-in-Game-clause-lines_unread : goal.returns-in-Game-clause-lines_unread
-returns-in-Game-clause-lines_unread g c read play = absurd (play (viewed c.in-Ok.job, c.in-Game.game.word.now, (c.in-Ok.ensures.job, (subst (IsAsked (viewed c.in-Ok.job)) c.in-Game.is c.in-Some.ensures).0)))
+returns-in-Game-clause-lines_unread g c read play = absurd (play (viewed c.in-Ok.job, c.in-Game.game.word.now, (c.in-Ok.ensures.job, (subst (IsAsked (viewed c.in-Ok.job)) c.in-Game.is c.asked.ensures).0)))
 
 pub returns-in-Answer-clause-no_steps : goal.returns-in-Answer-clause-no_steps
 returns-in-Answer-clause-no_steps g c =
@@ -127,15 +120,6 @@ returns-in_default-clause-outside_grammar g c = no_job (texts c.args.words.now) 
 
 pub returns-in_default-clause-engine_keeps_win : goal.returns-in_default-clause-engine_keeps_win
 returns-in_default-clause-engine_keeps_win g c = plays_won (texts c.args.words.now) _ _ _ c.finish.result (returns-in_default-clause-text g c)
-
-pub returns-in_default-asked-clause-partial_output : goal.returns-in_default-asked-clause-partial_output
-returns-in_default-asked-clause-partial_output g c = part_output (texts c.args.words.now) _ _ _ c.finish-in_default-asked.result (returns-in_default-asked-clause-text g c)
-
-pub returns-in_default-asked-clause-outside_grammar : goal.returns-in_default-asked-clause-outside_grammar
-returns-in_default-asked-clause-outside_grammar g c = no_job (texts c.args.words.now) _ _ _ c.finish-in_default-asked.result (returns-in_default-asked-clause-cause g c)
-
-pub returns-in_default-asked-clause-engine_keeps_win : goal.returns-in_default-asked-clause-engine_keeps_win
-returns-in_default-asked-clause-engine_keeps_win g c = plays_won (texts c.args.words.now) _ _ _ c.finish-in_default-asked.result (returns-in_default-asked-clause-text g c)
 
 pub returns-in-Answer-clause-partial_output : goal.returns-in-Answer-clause-partial_output
 returns-in-Answer-clause-partial_output g c = part_output (texts c.args.words.now) _ _ _ c.run_file.result (returns-in-Answer-clause-text g c)
@@ -175,25 +159,112 @@ returns-in-Game-clause-complete g c = complete (texts c.args.words.now) _ _ _ _ 
 
 pub returns-in-Game-clause-lines_unplayed : goal.returns-in-Game-clause-lines_unplayed
 returns-in-Game-clause-lines_unplayed g c _ =
-    let asks : AreToPlay (texts c.args.words.now) (viewed c.in-Ok.job) c.in-Game.game.word.now = (c.in-Ok.ensures.job, (subst (IsAsked (viewed c.in-Ok.job)) c.in-Game.is c.in-Some.ensures).0) in
+    let asks : AreToPlay (texts c.args.words.now) (viewed c.in-Ok.job) c.in-Game.game.word.now = (c.in-Ok.ensures.job, (subst (IsAsked (viewed c.in-Ok.job)) c.in-Game.is c.asked.ensures).0) in
     let o = outside (g.H.Shelf.files c.args.shelf.now) (g.S.Source.left c.args.lines.now) (g.H.Shelf.faults c.args.shelf.now) (g.H.Shelf.faults c.run_game.new.shelf) (g.S.Source.faults c.args.lines.now) (g.S.Source.faults c.run_game.new.lines) in
     unplayed (texts c.args.words.now) o (viewed c.in-Ok.job) c.in-Game.game.limits c.in-Game.game.engine c.in-Game.game.word.now _ _ _ _ c.run_game.result _ asks
-    (subst (IsAsked (viewed c.in-Ok.job)) c.in-Game.is c.in-Some.ensures).1 (subst (IsAsked (viewed c.in-Ok.job)) c.in-Game.is c.in-Some.ensures).2 c.run_game.ensures.lines_unplayed
+    (subst (IsAsked (viewed c.in-Ok.job)) c.in-Game.is c.asked.ensures).1 (subst (IsAsked (viewed c.in-Ok.job)) c.in-Game.is c.asked.ensures).2 c.run_game.ensures.lines_unplayed
 
 pub returns-in-Answer-clause-asked : goal.returns-in-Answer-clause-asked
 returns-in-Answer-clause-asked g c =
-    let asks : AskAbout (texts c.args.words.now) (viewed c.in-Ok.job) c.in-Answer.inquiry.question c.in-Answer.inquiry.word.now = (c.in-Ok.ensures.job, (subst (IsAsked (viewed c.in-Ok.job)) c.in-Answer.is c.in-Some.ensures)) in
+    let asks : AskAbout (texts c.args.words.now) (viewed c.in-Ok.job) c.in-Answer.inquiry.question c.in-Answer.inquiry.word.now = (c.in-Ok.ensures.job, (subst (IsAsked (viewed c.in-Ok.job)) c.in-Answer.is c.asked.ensures)) in
     by_word _ c.in-Answer.inquiry.word.now (λ is. inl (c.run_file.ensures.shelf_unread is))
     (λ ne. inr (viewed c.in-Ok.job, c.in-Answer.inquiry.question, c.in-Answer.inquiry.word.now, inl asks, ne, c.run_file.ensures.asked ne))
 
 pub returns-in-Game-clause-asked : goal.returns-in-Game-clause-asked
 returns-in-Game-clause-asked g c =
-    let asks : Pose (texts c.args.words.now) (viewed c.in-Ok.job) (Solve c.in-Game.game.limits) c.in-Game.game.word.now = inr ((c.in-Ok.ensures.job, (subst (IsAsked (viewed c.in-Ok.job)) c.in-Game.is c.in-Some.ensures).0), ap Solve (subst (IsAsked (viewed c.in-Ok.job)) c.in-Game.is c.in-Some.ensures).1) in
+    let asks : Pose (texts c.args.words.now) (viewed c.in-Ok.job) (Solve c.in-Game.game.limits) c.in-Game.game.word.now = inr ((c.in-Ok.ensures.job, (subst (IsAsked (viewed c.in-Ok.job)) c.in-Game.is c.asked.ensures).0), ap Solve (subst (IsAsked (viewed c.in-Ok.job)) c.in-Game.is c.asked.ensures).1) in
     inr (
       viewed c.in-Ok.job,
       Solve c.in-Game.game.limits,
       c.in-Game.game.word.now,
       asks,
-      played_apart (texts c.args.words.now) (viewed c.in-Ok.job) c.in-Game.game.word.now c.in-Ok.ensures.job.said (subst (IsAsked (viewed c.in-Ok.job)) c.in-Game.is c.in-Some.ensures).0,
+      played_apart (texts c.args.words.now) (viewed c.in-Ok.job) c.in-Game.game.word.now c.in-Ok.ensures.job.said (subst (IsAsked (viewed c.in-Ok.job)) c.in-Game.is c.asked.ensures).0,
       c.run_game.ensures.asked,
     )
+
+pub returns-in-Trial-clause-cause : goal.returns-in-Trial-clause-cause
+returns-in-Trial-clause-cause g c =
+    inl (trial_caused (texts c.args.words.now) _ (viewed c.in-Ok.job) c.in-Trial.number _ _ _ _ c.run_trial.result c.in-Ok.ensures.job (subst (IsAsked (viewed c.in-Ok.job)) c.in-Trial.is c.asked.ensures) c.run_trial.ensures.answered)
+
+pub returns-in-Trial-clause-text : goal.returns-in-Trial-clause-text
+returns-in-Trial-clause-text g c =
+    inl (trial_written (texts c.args.words.now) _ (viewed c.in-Ok.job) c.in-Trial.number _ _ _ _ c.run_trial.result c.in-Ok.ensures.job (subst (IsAsked (viewed c.in-Ok.job)) c.in-Trial.is c.asked.ensures) c.run_trial.ensures.answered)
+
+pub returns-in-Trial-clause-cannot_write : goal.returns-in-Trial-clause-cannot_write
+returns-in-Trial-clause-cannot_write g c = search rules
+
+pub returns-in-Trial-clause-partial_output : goal.returns-in-Trial-clause-partial_output
+returns-in-Trial-clause-partial_output g c = part_output (texts c.args.words.now) _ _ _ c.run_trial.result (returns-in-Trial-clause-text g c)
+
+pub returns-in-Trial-clause-outside_grammar : goal.returns-in-Trial-clause-outside_grammar
+returns-in-Trial-clause-outside_grammar g c = no_job (texts c.args.words.now) _ _ _ c.run_trial.result (returns-in-Trial-clause-cause g c)
+
+pub returns-in-Trial-clause-complete : goal.returns-in-Trial-clause-complete
+returns-in-Trial-clause-complete g c = complete (texts c.args.words.now) _ _ _ _ _ c.run_trial.result (returns-in-Trial-clause-cannot_write g c) (returns-in-Trial-clause-cause g c)
+
+pub returns-in-Trial-clause-engine_keeps_win : goal.returns-in-Trial-clause-engine_keeps_win
+returns-in-Trial-clause-engine_keeps_win g c = plays_won (texts c.args.words.now) _ _ _ c.run_trial.result (returns-in-Trial-clause-text g c)
+
+pub returns-in-Trial-clause-winner : goal.returns-in-Trial-clause-winner
+returns-in-Trial-clause-winner g c done (job, word, ask) =
+    absurd (trial_unposed (texts c.args.words.now) c.in-Trial.number job (Solve (limits_of job)) word (viewed c.in-Ok.job, c.in-Ok.ensures.job, (subst (IsAsked (viewed c.in-Ok.job)) c.in-Trial.is c.asked.ensures)) (inl ask))
+
+pub returns-in-Trial-clause-first_winning_move : goal.returns-in-Trial-clause-first_winning_move
+returns-in-Trial-clause-first_winning_move g c done (job, word, ask) =
+    absurd (trial_unposed (texts c.args.words.now) c.in-Trial.number job (Solve (limits_of job)) word (viewed c.in-Ok.job, c.in-Ok.ensures.job, (subst (IsAsked (viewed c.in-Ok.job)) c.in-Trial.is c.asked.ensures)) (inl ask))
+
+pub returns-in-Trial-clause-at_end : goal.returns-in-Trial-clause-at_end
+returns-in-Trial-clause-at_end g c done (job, question, ask) =
+    absurd (trial_unposed (texts c.args.words.now) c.in-Trial.number job question _ (viewed c.in-Ok.job, c.in-Ok.ensures.job, (subst (IsAsked (viewed c.in-Ok.job)) c.in-Trial.is c.asked.ensures)) (inl ask))
+
+pub returns-in-Trial-clause-few_steps : goal.returns-in-Trial-clause-few_steps
+returns-in-Trial-clause-few_steps g c =
+    inr (inr (c.in-Trial.number, (viewed c.in-Ok.job, c.in-Ok.ensures.job, (subst (IsAsked (viewed c.in-Ok.job)) c.in-Trial.is c.asked.ensures)), c.run_trial.ensures.steps))
+
+pub returns-in-Trial-clause-steps : goal.returns-in-Trial-clause-steps
+returns-in-Trial-clause-steps g c =
+    steps_told (texts c.args.words.now) (g.H.Shelf.files c.args.shelf.now) (g.S.Source.left c.args.lines.now) c.args.steps.now c.run_trial.new.steps (returns-in-Trial-clause-few_steps g c)
+
+pub returns-in-Trial-clause-no_steps : goal.returns-in-Trial-clause-no_steps
+returns-in-Trial-clause-no_steps g c =
+    no_steps (texts c.args.words.now) (g.H.Shelf.files c.args.shelf.now) (g.S.Source.left c.args.lines.now) c.args.steps.now c.run_trial.new.steps (returns-in-Trial-clause-few_steps g c)
+
+pub returns-in-Calc-clause-cause : goal.returns-in-Calc-clause-cause
+returns-in-Calc-clause-cause g c =
+    inl (calc_caused (texts c.args.words.now) _ (viewed c.in-Ok.job) c.in-Calc.line.parts c.in-Calc.line.expression.now _ _ _ _ c.run_calc.result c.in-Ok.ensures.job (subst (IsAsked (viewed c.in-Ok.job)) c.in-Calc.is c.asked.ensures).0 (subst (IsAsked (viewed c.in-Ok.job)) c.in-Calc.is c.asked.ensures).1 c.run_calc.ensures.answered)
+
+pub returns-in-Calc-clause-text : goal.returns-in-Calc-clause-text
+returns-in-Calc-clause-text g c =
+    inl (calc_written (texts c.args.words.now) _ (viewed c.in-Ok.job) c.in-Calc.line.parts c.in-Calc.line.expression.now _ _ _ _ c.run_calc.result c.in-Ok.ensures.job (subst (IsAsked (viewed c.in-Ok.job)) c.in-Calc.is c.asked.ensures).0 (subst (IsAsked (viewed c.in-Ok.job)) c.in-Calc.is c.asked.ensures).1 c.run_calc.ensures.answered)
+
+pub returns-in-Calc-clause-cannot_write : goal.returns-in-Calc-clause-cannot_write
+returns-in-Calc-clause-cannot_write g c =
+    search rules
+
+pub returns-in-Calc-clause-partial_output : goal.returns-in-Calc-clause-partial_output
+returns-in-Calc-clause-partial_output g c =
+    part_output (texts c.args.words.now) _ _ _ c.run_calc.result (returns-in-Calc-clause-text g c)
+
+pub returns-in-Calc-clause-outside_grammar : goal.returns-in-Calc-clause-outside_grammar
+returns-in-Calc-clause-outside_grammar g c =
+    no_job (texts c.args.words.now) _ _ _ c.run_calc.result (returns-in-Calc-clause-cause g c)
+
+pub returns-in-Calc-clause-complete : goal.returns-in-Calc-clause-complete
+returns-in-Calc-clause-complete g c =
+    complete (texts c.args.words.now) _ _ _ _ _ c.run_calc.result (returns-in-Calc-clause-cannot_write g c) (returns-in-Calc-clause-cause g c)
+
+pub returns-in-Calc-clause-engine_keeps_win : goal.returns-in-Calc-clause-engine_keeps_win
+returns-in-Calc-clause-engine_keeps_win g c =
+    plays_won (texts c.args.words.now) _ _ _ c.run_calc.result (returns-in-Calc-clause-text g c)
+
+pub returns-in-Calc-clause-winner : goal.returns-in-Calc-clause-winner
+returns-in-Calc-clause-winner g c done (job, word, ask) =
+    absurd (calc_unposed (texts c.args.words.now) c.in-Calc.line.parts c.in-Calc.line.expression.now job (Solve (limits_of job)) word (viewed c.in-Ok.job, c.in-Ok.ensures.job, (subst (IsAsked (viewed c.in-Ok.job)) c.in-Calc.is c.asked.ensures).0, (subst (IsAsked (viewed c.in-Ok.job)) c.in-Calc.is c.asked.ensures).1) (inl ask))
+
+pub returns-in-Calc-clause-first_winning_move : goal.returns-in-Calc-clause-first_winning_move
+returns-in-Calc-clause-first_winning_move g c done (job, word, ask) =
+    absurd (calc_unposed (texts c.args.words.now) c.in-Calc.line.parts c.in-Calc.line.expression.now job (Solve (limits_of job)) word (viewed c.in-Ok.job, c.in-Ok.ensures.job, (subst (IsAsked (viewed c.in-Ok.job)) c.in-Calc.is c.asked.ensures).0, (subst (IsAsked (viewed c.in-Ok.job)) c.in-Calc.is c.asked.ensures).1) (inl ask))
+
+pub returns-in-Calc-clause-at_end : goal.returns-in-Calc-clause-at_end
+returns-in-Calc-clause-at_end g c done (job, question, ask) =
+    absurd (calc_unposed (texts c.args.words.now) c.in-Calc.line.parts c.in-Calc.line.expression.now job question _ (viewed c.in-Ok.job, c.in-Ok.ensures.job, (subst (IsAsked (viewed c.in-Ok.job)) c.in-Calc.is c.asked.ensures).0, (subst (IsAsked (viewed c.in-Ok.job)) c.in-Calc.is c.asked.ensures).1) (inl ask))

@@ -1,9 +1,8 @@
-use Rattle.std.proofs.Common.{◌∙◌}
+use Rattle.std.proofs.Common.{◌∙◌, ap}
 use Rattle.game_store.specs.Meaning.{tree_at}
 use Rattle.game_text.specs.NamedText.{named_text}
 use Rattle.report.specs.Solution.{solved_line}
-use Rattle.report.specs.Thermographs.{picture_lines}
-use Rattle.report.specs.Values.{picture}
+use Rattle.game_lines.specs.Showings.{game_lines, picture}
 use Rattle.report.proofs.ValuesLaws.{entry_is}
 use Rattle.report.proofs.values.write_entry.Goals as goal
 
@@ -11,12 +10,11 @@ pub returns-clause-entry : goal.returns-clause-entry
 returns-clause-entry c =
     let r = c.args.report in
     let s = c.in_ok-showing.ensures.shown in
+    let drawn = picture c.in_ok-showing.showing in
     record {
-      picture = picture c.in_ok-showing.showing;
+      picture = drawn;
       drawn = s.drawn;
       shown = s.shown;
-      lines = entry_is _ _ _ _ _ _ _ (solved_line c.args.size.columns r.lowest r.points r.positions) (named_text (tree_at c.args.store.now r.value)) (picture_lines (picture c.in_ok-showing.showing))
-          c.in_ok-extend_from_slice.ensures.ok (c.as_bytes.ensures.value ∙ c.in_ok-entry_front.ensures)
-          c.in_ok-extend_from_slice-2.ensures.ok (c.as_slice.ensures ∙ s.text_is)
-          c.in_ok-extend_from_slice-3.ensures.ok (c.as_bytes-2.ensures.value ∙ c.in_ok-entry_back.ensures);
+      lines = entry_is _ _ _ _ (solved_line c.args.size.columns r.lowest r.points r.positions) _ (game_lines (named_text (tree_at c.args.store.now r.value)) drawn)
+          c.in_ok-extend_from_slice.ensures.ok (c.as_bytes.ensures.value ∙ c.in_ok-region_line.ensures) c.in_ok-write_showing.ensures (ap (λ x. game_lines x drawn) s.text_is);
     }

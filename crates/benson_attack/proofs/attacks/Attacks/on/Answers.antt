@@ -1,0 +1,27 @@
+use Rattle.std.proofs.Common.{subst}
+use Rattle.std.proofs.lemmas.Result.{IfOk-weaker}
+use Rattle.go_grid.specs.declared.grid.Colour.{Colour}
+use Rattle.go_grid.specs.declared.grid.Colour.TheVariants.{Black, White}
+use Rattle.go_grid.specs.Grid.{HasStone}
+use Rattle.benson_life.specs.Life.{IsAlive}
+use Rattle.benson_attack.specs.Attack.{Takes}
+use Rattle.benson_attack.proofs.AttackLemmas.{not_alive}
+use Rattle.benson_attack.proofs.attacks.Attacks.on.Goals as goal
+
+pub returns-in-Some-Black-clause-open : goal.returns-in-Some-Black-clause-open
+returns-in-Some-Black-clause-open c =
+    let g = c.args.board.now in
+    let s = c.args.stone in
+    let at = subst (λ k. HasStone g k s) c.in-Some-Black.field-0-is c.in-Some-Black.ensures in
+    let d = c.args.self.now.on_black.by in
+    IfOk-weaker c.on.result (λ placings. Takes g d s placings.items) (λ _. (b : Colour) → ¬ IsAlive g b s)
+    (λ placings t. not_alive g Black d s placings.items c.requires.settled c.requires.attacks.by_white at t) c.on.ensures.taken
+
+pub returns-in-Some-White-clause-open : goal.returns-in-Some-White-clause-open
+returns-in-Some-White-clause-open c =
+    let g = c.args.board.now in
+    let s = c.args.stone in
+    let at = subst (λ k. HasStone g k s) c.in-Some-White.field-0-is c.in-Some-White.ensures in
+    let d = c.args.self.now.on_white.by in
+    IfOk-weaker c.on-in-Some-White.result (λ placings. Takes g d s placings.items) (λ _. (b : Colour) → ¬ IsAlive g b s)
+    (λ placings t. not_alive g White d s placings.items c.requires.settled c.requires.attacks.by_black at t) c.on-in-Some-White.ensures.taken

@@ -1,0 +1,29 @@
+-- The answers of `calc`: what the status and the text of an expression are.
+use Rattle.std.specs.Prelude.{◌≡◌, ◌++◌, ℕ, List, codes, decimal}
+use Rattle.game_calc.specs.Answer.{IsAnswered, IsCalcRefusal}
+use Rattle.game_calc.specs.declared.errors.CalcError.TheVariants as calc
+use Rattle.game_calc.specs.declared.errors.CalcFault.{CalcFault}
+use Rattle.game_calc.specs.declared.errors.CalcFault.TheVariants as fault
+use Rattle.endgame_run.specs.declared.status.Status.{Status}
+use Rattle.endgame_run.specs.declared.status.Status.TheVariants.{Done, BadExpression, CalcLimit}
+
+-- what is wrong with an expression, alone and with a place behind it
+unfoldable pub expression_line : List ℕ → List ℕ
+expression_line what = codes "fault expression " ++ (what ++ codes "\n")
+
+unfoldable pub expression_line_at : List ℕ → ℕ → List ℕ
+expression_line_at what place = codes "fault expression " ++ (what ++ (codes " " ++ (decimal place ++ codes "\n")))
+
+abbrev pub expression_fault : CalcFault → List ℕ
+expression_fault (fault.Byte place) = expression_line_at (codes "bad byte") place
+expression_fault (fault.Number place) = expression_line_at (codes "bad number") place
+expression_fault fault.CutShort = expression_line (codes "cut short")
+expression_fault fault.Deep = expression_line (codes "too deep")
+
+-- The status of an expression within a limit of parts, and its text: the answer, where none of the refusals meets it. No two of these
+-- statuses can hold at once.
+abbrev pub IsCalc : ℕ → List ℕ → Status → List ℕ → Type 0
+IsCalc limit expression Done text = IsAnswered limit expression text
+IsCalc limit expression (BadExpression f) text = IsCalcRefusal limit expression (calc.Fault f) × (text ≡ expression_fault f)
+IsCalc limit expression CalcLimit text = IsCalcRefusal limit expression calc.Limit × (text ≡ codes "fault calc limit\n")
+IsCalc limit expression s text = ⊥

@@ -1,0 +1,10 @@
+pub mod SumSteps
+pub mod TableSteps
+pub mod PlaceSteps
+pub mod TokenSteps
+pub mod AmountSteps
+pub mod LineSteps
+pub mod BehindSteps
+pub mod TurnSteps
+pub mod AnswerSteps
+pub mod OneLine

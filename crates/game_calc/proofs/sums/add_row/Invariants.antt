@@ -1,0 +1,6 @@
+use Rattle.game_calc.specs.Table.{noted}
+use Rattle.game_calc.proofs.TableSteps.{IsRow}
+use Rattle.game_calc.proofs.sums.add_row.Given as goal
+
+abbrev pub invariant-adding : goal.invariant-adding
+invariant-adding l = IsRow l.fn.store l.store l.parts_limit l.a (noted l.fn.sums) (noted l.sums) l.places l.place-index

@@ -1,0 +1,140 @@
+//! The sum of a pair of places, where the sums after each move are noted.
+
+ghost use Rattle.std.specs.Prelude.{◌≡◌, ◌<◌, ℕ, List, length, IfOk, IfErr, OnOk, MatchOption};
+ghost use Rattle.game_store.specs.Number.{IsNumberTree};
+ghost use Rattle.game_store.specs.Sum.{◌+ᵍ◌};
+ghost use Rattle.game_store.specs.Meaning.{tree_at, number_tree, Extends};
+ghost use Rattle.game_store.specs.Parts.{HasMoreParts};
+ghost use Rattle.game_canon.specs.Changes.{AreKnown};
+ghost use Rattle.game_canon.specs.Outcomes.{IsCanonicalId};
+ghost use Rattle.game_calc.specs.Steps.{IsPairRefusal};
+ghost use Rattle.game_calc.specs.Table.{noted, beside, AreNoted, AddsSums, AddsMoves, AreMovesKnown, AreRight};
+
+use crate::table::{Summand, Sums, noted_sum};
+use dyadic_num::Dyadic;
+use game_canon::{FormError, canonical};
+use game_store::{Form, GameId, Store};
+use std::alloc::{AllocError, Global};
+
+/// The options of a sum, by player.
+#[derive(Drop)]
+struct Options {
+    left: Vec<GameId>,
+    right: Vec<GameId>,
+}
+
+/// Adds the sums after moves to these ids, with the other game beside them.
+fn add_sums(
+    sums: &Sums,
+    summand: Summand,
+    ids: &[GameId],
+    other: GameId,
+    found: &mut Vec<GameId>,
+) -> Result<(), AllocError>
+    requires { AreKnown (beside (noted sums.now) summand other) ids.now }
+    ensures { OnOk result (AddsSums (beside (noted sums.now) summand other) ids.now found.old.items found.new.items) }
+{
+    'adding: for id in ids {
+        match noted_sum(sums, summand, *id, other) {
+            Some(sum) => found.push(sum)?,
+            None => unreachable!(),
+        }
+    }
+    Ok(())
+}
+
+/// Adds the sums after each move in a game, where it is no number, with the other game beside it.
+fn add_moves(
+    store: &Store,
+    sums: &Sums,
+    summand: Summand,
+    moved: GameId,
+    other: GameId,
+    options: &mut Options,
+) -> Result<(), AllocError>
+    requires moved { moved < length store.now }
+    requires known { AreMovesKnown store.now (beside (noted sums.now) summand other) moved }
+    ensures { OnOk result (AddsMoves store.now (beside (noted sums.now) summand other) moved options.old.left.items options.old.right.items options.new.left.items options.new.right.items) }
+{
+    match store.node(moved) {
+        Form::Number(_) => Ok(()),
+        Form::Options { left, right } => {
+            add_sums(sums, summand, left, other, &mut options.left)?;
+            add_sums(sums, summand, right, other, &mut options.right)?;
+            Ok(())
+        }
+    }
+}
+
+/// The number that a form is.
+fn number_of(store: &Store, id: GameId) -> Option<Dyadic>
+    requires { id < length store.now }
+    ensures { MatchOption result (IsNumberTree (tree_at store.now id) → ⊥) (λ x. tree_at store.now id ≡ number_tree x) }
+{
+    match store.node(id) {
+        Form::Number(x) => Some(x),
+        Form::Options { .. } => None,
+    }
+}
+
+/// The numbers that both forms are.
+fn both_numbers(store: &Store, a: GameId, b: GameId) -> Option<(Dyadic, Dyadic)>
+    requires a { a < length store.now }
+    requires b { b < length store.now }
+    ensures { MatchOption result (IsNumberTree (tree_at store.now a) → IsNumberTree (tree_at store.now b) → ⊥) (λ p. (tree_at store.now a ≡ number_tree p.0) × (tree_at store.now b ≡ number_tree p.1)) }
+{
+    let x = number_of(store, a)?;
+    let y = number_of(store, b)?;
+    Some((x, y))
+}
+
+/// The sum of two numbers. `Bounds` exactly where it is past the bounds of a `Dyadic`.
+fn number_sum(
+    store: &mut Store,
+    x: Dyadic,
+    y: Dyadic,
+    parts_limit: u32,
+) -> Result<GameId, FormError>
+    ensures value { IfOk result (λ id. IsCanonicalId store.new (number_tree x +ᵍ number_tree y) id) }
+    ensures parts { IfOk result (λ id. HasMoreParts (tree_at store.new id) parts_limit → ⊥) }
+    ensures refusal { IfErr result (λ error. IsPairRefusal (number_tree x +ᵍ number_tree y) parts_limit error) }
+    ensures kept { Extends store.old store.new }
+{
+    let Some(sum) = x.add(y) else {
+        return Err(FormError::Bounds);
+    };
+    Ok(store.number(sum)?)
+}
+
+/// The canonical form of the sum of two forms: two numbers are added; else its options are the sums after each move in a
+/// game that is no number (number avoidance, Conway).
+pub(crate) fn pair_sum(
+    alloc: Global,
+    store: &mut Store,
+    sums: &Sums,
+    a: GameId,
+    b: GameId,
+    parts_limit: u32,
+) -> Result<GameId, FormError>
+    requires a { a < length store.old }
+    requires b { b < length store.old }
+    requires first { AreMovesKnown store.old (λ i. noted sums.now i b) a }
+    requires second { AreMovesKnown store.old (λ i. noted sums.now a i) b }
+    requires right { AreRight store.old parts_limit (noted sums.now) }
+    ensures value { IfOk result (λ id. IsCanonicalId store.new (tree_at store.old a +ᵍ tree_at store.old b) id) }
+    ensures parts { IfOk result (λ id. HasMoreParts (tree_at store.new id) parts_limit → ⊥) }
+    ensures refusal { IfErr result (λ error. IsPairRefusal (tree_at store.old a +ᵍ tree_at store.old b) parts_limit error) }
+    ensures kept { Extends store.old store.new }
+{
+    let _count = store.len();
+    if let Some((x, y)) = both_numbers(store, a, b) {
+        return number_sum(store, x, y, parts_limit);
+    }
+    let mut options = Options {
+        left: Vec::new(alloc),
+        right: Vec::new(alloc),
+    };
+    add_moves(store, sums, Summand::First, a, b, &mut options)?;
+    add_moves(store, sums, Summand::Second, b, a, &mut options)?;
+    canonical(alloc, store, &options.left, &options.right, parts_limit)
+}

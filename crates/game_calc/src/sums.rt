@@ -1,0 +1,96 @@
+//! The sum of two canonical forms.
+
+ghost use Rattle.std.specs.Prelude.{◌≡◌, ◌<◌, ℕ, Some, length, slice_index, IfOk, IfErr, OnOk};
+ghost use Rattle.game_store.specs.Sum.{◌+ᵍ◌};
+ghost use Rattle.game_store.specs.Meaning.{tree_at, Extends};
+ghost use Rattle.game_canon.specs.Changes.{AreClosed, AreKnown};
+ghost use Rattle.game_canon.specs.Outcomes.{IsCanonicalId};
+ghost use Rattle.game_calc.specs.Steps.{IsOutOfLimits, IsPairRefusal, IsStepRefusal};
+ghost use Rattle.game_calc.specs.Table.{noted, Grows, AreRight, AreRowsKnown, AreInnerKnown};
+
+use crate::pair::pair_sum;
+use crate::table::{Sums, note_sum};
+use game_canon::{FormError, reachable};
+use game_store::{GameId, Store};
+use indexmap::IndexMap;
+use std::alloc::Global;
+
+/// Notes the sums of a place of one form with all places of the other, of which options come first.
+fn add_row(
+    alloc: Global,
+    store: &mut Store,
+    sums: &mut Sums,
+    a: GameId,
+    places: &[GameId],
+    parts_limit: u32,
+) -> Result<(), FormError>
+    requires a { a < length store.old }
+    requires places { AreClosed store.old places.now }
+    requires inner { AreInnerKnown store.old (noted sums.old) a places.now }
+    requires right { AreRight store.old parts_limit (noted sums.old) }
+    ensures known { OnOk result (AreKnown (λ i. noted sums.new a i) places.now) }
+    ensures right { OnOk result (AreRight store.new parts_limit (noted sums.new)) }
+    ensures grows { OnOk result (Grows (noted sums.old) (noted sums.new)) }
+    ensures refusal { IfErr result (λ error. (j : ℕ) × (j < length places.now) × IsPairRefusal (tree_at store.old a +ᵍ tree_at store.old (slice_index places.now j)) parts_limit error) }
+    ensures kept { Extends store.old store.new }
+{
+    let _count = store.len();
+    'adding: for place in places {
+        let sum = pair_sum(alloc, store, sums, a, *place, parts_limit)?;
+        note_sum(sums, a, *place, sum)?;
+    }
+    Ok(())
+}
+
+/// Notes the sums of all places of one form with all places of the other, of which options come first.
+fn add_all(
+    alloc: Global,
+    store: &mut Store,
+    sums: &mut Sums,
+    first: &[GameId],
+    second: &[GameId],
+    parts_limit: u32,
+) -> Result<(), FormError>
+    requires first { AreClosed store.old first.now }
+    requires second { AreClosed store.old second.now }
+    requires right { AreRight store.old parts_limit (noted sums.old) }
+    ensures known { OnOk result (AreRowsKnown (noted sums.new) first.now second.now (length first.now)) }
+    ensures right { OnOk result (AreRight store.new parts_limit (noted sums.new)) }
+    ensures refusal { IfErr result (λ error. (i j : ℕ) × (i < length first.now) × (j < length second.now) × IsPairRefusal (tree_at store.old (slice_index first.now i) +ᵍ tree_at store.old (slice_index second.now j)) parts_limit error) }
+    ensures kept { Extends store.old store.new }
+{
+    let _count = store.len();
+    'adding: for place in first {
+        add_row(alloc, store, sums, *place, second, parts_limit)?;
+    }
+    Ok(())
+}
+
+/// The canonical form of the sum of two forms, by the table of pairs of their places, each pair once. `Parts` or `Bounds`
+/// exactly where for some pair the canonical form of the sum has more parts than the limit, or a number past the bounds
+/// of a `Dyadic`. Every id keeps its form, whatever the answer.
+pub fn add(
+    alloc: Global,
+    store: &mut Store,
+    a: GameId,
+    b: GameId,
+    parts_limit: u32,
+) -> Result<GameId, FormError>
+    requires a { a < length store.old }
+    requires b { b < length store.old }
+    ensures value { IfOk result (λ id. IsCanonicalId store.new (tree_at store.old a +ᵍ tree_at store.old b) id) }
+    ensures within { IfOk result (λ _. IsOutOfLimits parts_limit (tree_at store.old a) (tree_at store.old b) → ⊥) }
+    ensures refusal { IfErr result (λ error. IsStepRefusal parts_limit (tree_at store.old a) (tree_at store.old b) error) }
+    ensures kept { Extends store.old store.new }
+{
+    let _count = store.len();
+    let first = reachable(alloc, store, a)?;
+    let second = reachable(alloc, store, b)?;
+    let mut sums = IndexMap::new(alloc);
+    add_all(alloc, store, &mut sums, &first, &second, parts_limit)?;
+    let _new_count = store.len();
+    match sums.get(&(a, b)).copied() {
+        Some(sum) => Ok(sum),
+        None => unreachable!(),
+    }
+}

@@ -1,0 +1,9 @@
+//! The lines that show a game: its text, stops, mean, temperature and the walls of its thermograph.
+#![tactic(auto)]
+
+mod picture;
+mod showing;
+mod words;
+
+pub use showing::{ShowError, Showing, show, write_showing};
+pub use words::write_words;

@@ -1,6 +1,0 @@
-use Rattle.std.proofs.Common.{◌≡◌, ◌++◌, take, flat_map, string_bytes}
-use Rattle.report.specs.Safety.{chain_line}
-use Rattle.report.proofs.safety.write_chains.Given as goal
-
-abbrev pub invariant-writing : goal.invariant-writing
-invariant-writing l = string_bytes l.text ≡ string_bytes l.fn.text ++ flat_map (chain_line l.size.columns) (take l.line-index l.lines)

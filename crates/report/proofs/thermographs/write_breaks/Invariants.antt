@@ -1,6 +1,0 @@
-use Rattle.std.proofs.Common.{◌≡◌, ◌++◌, take, flat_map, string_bytes}
-use Rattle.report.specs.Thermographs.{break_point}
-use Rattle.report.proofs.thermographs.write_breaks.Given as goal
-
-abbrev pub invariant-writing : goal.invariant-writing
-invariant-writing l = string_bytes l.text ≡ string_bytes l.fn.text ++ flat_map break_point (take l.point-index l.wall)
