@@ -109,14 +109,6 @@ told_is (Some bytes) now file w = let e : now ≡ Some [] = w.end in
     let f : Path (Option (List ℕ)) (Some bytes) (Some (file ++ [])) = w.all ∙ ap (prepend_known file) e in
     let g : bytes ≡ file ++ [] = cc in ap Some (g ∙ append-nil file)
 
--- a komi in range is what a 64-bit number holds of it
-komi_small : (k : ℤ) → IsInRange k → unsigned_abs k < 2 ^ 63
-komi_small (pos n) h = let a : n ≤ 1999999 = omega (arith, ints, h.1) in omega arith
-komi_small (negsuc n) h = let a : n ≤ 1999998 = omega (arith, ints, h.0) in omega arith
-
-pub komi_held : (k : ℤ) → IsInRange k → to_z w64 (of_z w64 k) ≡ k
-komi_held k h = to_z-of_z w64 k (fits_signed_from_abs w64 k (komi_small k h))
-
 -- a decided status with its text, written
 written_whole : (words : List (List ℕ)) (o : Outside) (before now : Option (List ℕ)) (s : Status) (text : List ℕ) → IsDecided words o s text → now ≡ append_known before text → IsWritten words o before now s
 written_whole words o before now Done text d e = (text, d, e)

@@ -1,9 +1,9 @@
 -- The position that a file gives, or what is wrong with the file.
-use Rattle.std.specs.Prelude.{◌≡◌, ◌≤◌, ◌<◌, ◌^◌, ◌⊎◌, ℕ, List, codes, Option, Some, None, Ok, Err, IfSome}
+use Rattle.std.specs.Prelude.{◌≡◌, ◌≤◌, ◌⊎◌, ℕ, List, codes, Option, Some, None, Ok, Err, IfSome}
 use Rattle.desk_io.specs.Outside.{Rose}
-use Rattle.go_grid.specs.Chain.{IsSettled}
 use Rattle.sgf_tree.specs.Grammar.{PropertyText}
 use Rattle.sgf_go.specs.Komi.{IsInRange}
+use Rattle.sgf_go.specs.Position.{IsFit}
 use Rattle.sgf_go.specs.Setup.{Gives}
 use Rattle.sgf_go.specs.declared.fault.SetupFault.{SetupFault}
 use Rattle.sgf_go.specs.declared.settings.Settings.{Settings}
@@ -22,13 +22,6 @@ pub record HasRanges (settings : Settings) : Type 0 where
   pub black : settings.black_prisoners ≤ 999999
   pub white : settings.white_prisoners ≤ 999999
   pub komi : IfSome settings.komi IsInRange
-
--- a position that can be asked about: each stone has its liberty, and the numbers are in range
-pub record IsFit (setup : Setup) : Type 0 where
-  pub settled : IsSettled setup.board
-  pub black : setup.black_prisoners < 2 ^ 40
-  pub white : setup.white_prisoners < 2 ^ 40
-  pub komi : IsInRange setup.komi_halves
 
 -- the position of a main line, or the fault of the line
 abbrev pub IsLineFound : List (List PropertyText) → Settings → Found → Type 0

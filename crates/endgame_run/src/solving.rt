@@ -1,9 +1,8 @@
 //! Positions whose regions are solved.
 
 ghost use Rattle.std.specs.Prelude.{◌≡◌, ◌<◌, ◌≤◌, ◌+◌, ◌*◌, ◌^◌, List, IfOk};
-ghost use Rattle.go_grid.specs.Chain.{IsSettled};
 ghost use Rattle.go_grid.specs.Region.{Shape};
-ghost use Rattle.sgf_go.specs.Komi.{IsInRange};
+ghost use Rattle.sgf_go.specs.Position.{IsFit};
 ghost use Rattle.endgame_solver.specs.Faults.{most_steps};
 ghost use Rattle.region_cut.specs.Cut.{AreRegionsOfPlay};
 ghost use Rattle.report.specs.Values.{IsRefusal};
@@ -64,10 +63,7 @@ pub(crate) fn solve<L: Ledger>(
     limits: &Limits,
     steps: &mut Steps<L>,
 ) -> Result<Report, AllocError>
-    requires settled { IsSettled setup.now.board }
-    requires black { setup.now.black_prisoners < 2 ^ 40 }
-    requires white { setup.now.white_prisoners < 2 ^ 40 }
-    requires komi { IsInRange setup.now.komi_halves }
+    requires fit { IsFit setup.now }
     requires positions { limits.now.positions ≤ 1000000 }
     ensures answer { IfOk result (λ report. IsPositionAnswer (Question.Solve limits.now) setup.now report.status report.text) }
     ensures steps { (regions : List Shape) → AreRegionsOfPlay setup.now.board regions → steps.new ≤ steps.old + most_steps limits.now regions }
@@ -127,10 +123,7 @@ pub(crate) fn value<L: Ledger>(
     limits: &Limits,
     steps: &mut Steps<L>,
 ) -> Result<Report, AllocError>
-    requires settled { IsSettled setup.now.board }
-    requires black { setup.now.black_prisoners < 2 ^ 40 }
-    requires white { setup.now.white_prisoners < 2 ^ 40 }
-    requires komi { IsInRange setup.now.komi_halves }
+    requires fit { IsFit setup.now }
     requires positions { limits.now.positions ≤ 1000000 }
     ensures answer { IfOk result (λ report. IsPositionAnswer (Question.Values limits.now) setup.now report.status report.text) }
     ensures steps { (regions : List Shape) → AreRegionsOfPlay setup.now.board regions → steps.new ≤ steps.old + most_steps limits.now regions }
@@ -155,10 +148,7 @@ pub(crate) fn begin<L: Ledger>(
     engine: Option<Colour>,
     steps: &mut Steps<L>,
 ) -> Result<Opened, AllocError>
-    requires settled { IsSettled setup.now.board }
-    requires black { setup.now.black_prisoners < 2 ^ 40 }
-    requires white { setup.now.white_prisoners < 2 ^ 40 }
-    requires komi { IsInRange setup.now.komi_halves }
+    requires fit { IsFit setup.now }
     requires positions { limits.now.positions ≤ 1000000 }
     ensures begun { IfOk result (IsBegun limits.now engine setup.now) }
     ensures steps { (regions : List Shape) → AreRegionsOfPlay setup.now.board regions → steps.new ≤ steps.old + most_steps limits.now regions }

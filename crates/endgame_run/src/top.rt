@@ -1,11 +1,10 @@
 //! The top call.
 
 ghost use Rattle.std.specs.Prelude.{◌≡◌, ◌≢◌, ◌<◌, ◌^◌, ◌≤◌, ◌+◌, ◌⊎◌, List, IfOk};
-ghost use Rattle.go_grid.specs.Chain.{IsSettled};
 ghost use Rattle.go_grid.specs.Region.{Shape};
 ghost use Rattle.desk_io.specs.Outside.{Rose, ended};
 ghost use Rattle.sgf_go.specs.declared.settings.Setup.{Setup as Position};
-ghost use Rattle.sgf_go.specs.Komi.{IsInRange};
+ghost use Rattle.sgf_go.specs.Position.{IsFit};
 ghost use Rattle.gd_words.specs.Job.{IsJob, JobView};
 ghost use Rattle.gd_words.specs.Viewed.{texts, viewed};
 ghost use Rattle.endgame_solver.specs.declared.limits.Limits.{Limits};
@@ -43,10 +42,7 @@ fn report_on_position<L: Ledger>(
     setup: &Setup,
     steps: &mut Steps<L>,
 ) -> Result<Report, AllocError>
-    requires settled { IsSettled setup.now.board }
-    requires black { setup.now.black_prisoners < 2 ^ 40 }
-    requires white { setup.now.white_prisoners < 2 ^ 40 }
-    requires komi { IsInRange setup.now.komi_halves }
+    requires fit { IsFit setup.now }
     requires modest { IsModest question }
     ensures answer { IfOk result (λ report. IsPositionAnswer question setup.now report.status report.text) }
     ensures steps { AreStepsFor question setup.now steps.old steps.new }

@@ -18,6 +18,7 @@ use Rattle.region_book.specs.Law.{Meet}
 use Rattle.region_book.specs.Shape.{Carries, Direction, colour_after, link}
 use Rattle.region_book.specs.Shape.Direction.{up, left, right, down}
 use Rattle.region_book.specs.declared.shapes.Turn.{Turn}
+use Rattle.region_book.specs.declared.spots.Spot.{Spot}
 use Rattle.region_book.proofs.ShapeLaws.{pairs_places, tells_shapes}
 use Rattle.endgame_solver.specs.Faults.{AreSmall}
 use Rattle.endgame_solver.specs.Held.{ids_at}
@@ -63,7 +64,7 @@ region_linked r of = record {
     none down k e = cc
 
 -- the later region's shape pairs its places with the first one's
-pub some_partner : (q r : Shape) (x y : List ℕ) (t s : Turn) → IsShape q q.cells x t → IsShape r r.cells y s → x ≡ y
+pub some_partner : (q r : Shape) (x y : List Spot) (t s : Turn) → IsShape q q.cells x t → IsShape r r.cells y s → x ≡ y
     → (j : ℕ) → j < length r.points → (i : ℕ) × (i < length r.points) × (get_or s.places i 0 ≡ get_or t.places j 0)
 some_partner q r x y t s a b e j lt =
     let (turn, c) = pairs_places q q.cells x t r r.cells y s a b e in
@@ -72,7 +73,7 @@ some_partner q r x y t s a b e j lt =
     (i, meets.1, meets.2)
 
 -- the later region is solved by what it sees of the first one's graph and values
-pub seen_solved : (limits : Limits) (q r : Shape) (h : Nodes) (x : List ℕ) (kind : Kind) (s : Turn) (place : ℕ) (before after : List (List ℕ)) (Ts : List Tree) (v : View)
+pub seen_solved : (limits : Limits) (q r : Shape) (h : Nodes) (x : List Spot) (kind : Kind) (s : Turn) (place : ℕ) (before after : List (List ℕ)) (Ts : List Tree) (v : View)
     → IsShape q q.cells kind.shape.spots.items kind.turn → IsShape r r.cells x s → kind.shape.spots.items ≡ x → length r.points ≤ 32
     → IsViewFor (length r.points) place s kind before after Ts v → HaveForms Ts → IsSolvedBy limits q h Ts (ids_at before kind.values)
     → (g : Nodes) × IsSolvedBy limits r g Ts (ids_at after v.values) × Serves v h g
@@ -217,7 +218,7 @@ module _ (limits : Limits) (regions : List Shape) where
   }
 
   -- the next region has the shape of a kind
-  same_kinds : (shared : List Nodes) (held : List (List ℕ)) (kinds : List Kind) (Ts : List Tree) (n j : ℕ) (x : List ℕ) (t : Turn)
+  same_kinds : (shared : List Nodes) (held : List (List ℕ)) (kinds : List Kind) (Ts : List Tree) (n j : ℕ) (x : List Spot) (t : Turn)
       → AreKinds limits regions shared held kinds Ts n → j < length kinds
       → ((kind : Kind) → get_or kinds j kind ≡ kind → kind.shape.spots.items ≡ x) → IsShape (region_at regions n) (region_at regions n).cells x t
       → AreKinds limits regions shared held kinds Ts (n + 1)
@@ -258,7 +259,7 @@ module _ (limits : Limits) (regions : List Shape) where
     ];
   }
 
-  pub shares_seen : (shared : List Nodes) (held : List (List ℕ)) (views : List View) (kinds : List Kind) (Ts : List Tree) (n j : ℕ) (x : List ℕ) (t : Turn) (v : View) (g : Nodes)
+  pub shares_seen : (shared : List Nodes) (held : List (List ℕ)) (views : List View) (kinds : List Kind) (Ts : List Tree) (n j : ℕ) (x : List Spot) (t : Turn) (v : View) (g : Nodes)
       → SharesBelow limits regions shared held views kinds Ts n → j < length kinds → ((kind : Kind) → get_or kinds j kind ≡ kind → kind.shape.spots.items ≡ x)
       → IsShape (region_at regions n) (region_at regions n).cells x t → v.graph ≡ j → v.values < length held → Serves v (graph_at shared j) g
       → IsSolvedBy limits (region_at regions n) g Ts (ids_at held v.values) → SharesBelow limits regions shared held (views ++ v ∷ []) kinds Ts (n + 1)
@@ -322,7 +323,7 @@ module _ (limits : Limits) (regions : List Shape) where
   small_region small n lt r at = subst (λ q. length q.points ≤ 32) (sym at) (small (region_at regions n) (Contains-get_or regions n no_region lt))
 
   -- the same in the words of the code
-  pub partner_for : (shared : List Nodes) (held : List (List ℕ)) (views : List View) (kinds lent : List Kind) (Ts : List Tree) (n : ℕ) (r : Shape) (j : ℕ) (kind : Kind) (x : List ℕ) (t : Turn)
+  pub partner_for : (shared : List Nodes) (held : List (List ℕ)) (views : List View) (kinds lent : List Kind) (Ts : List Tree) (n : ℕ) (r : Shape) (j : ℕ) (kind : Kind) (x : List Spot) (t : Turn)
       → lent ≡ kinds → SharesBelow limits regions shared held views kinds Ts n
       → (j < length lent) × ((k : Kind) → get_or lent j k ≡ k → k.shape.spots.items ≡ x) → get_or kinds j kind ≡ kind → IsShape r r.cells x t
       → (i : ℕ) → i < length r.points → (m : ℕ) × (m < length r.points) × (get_or t.places m 0 ≡ get_or kind.turn.places i 0)
@@ -332,7 +333,7 @@ module _ (limits : Limits) (regions : List Shape) where
       some_partner (region_at regions k.region) r kind.shape.spots.items x kind.turn t k.shape shape (found.1 kind (ap (λ ks. get_or ks j kind) e ∙ is))
 
   pub next_seen : (shared : List Nodes) (held held' : List (List ℕ)) (views views' : List View) (kinds lent : List Kind) (Ts Us : List Tree) (n : ℕ) (r : Shape) (j : ℕ) (kind : Kind)
-      (x : List ℕ) (t : Turn) (v : View) → lent ≡ kinds → SharesBelow limits regions shared held views kinds Ts n → n < length regions → AreSmall regions → r ≡ region_at regions n
+      (x : List Spot) (t : Turn) (v : View) → lent ≡ kinds → SharesBelow limits regions shared held views kinds Ts n → n < length regions → AreSmall regions → r ≡ region_at regions n
       → (j < length lent) × ((k : Kind) → get_or lent j k ≡ k → k.shape.spots.items ≡ x) → get_or kinds j kind ≡ kind → IsShape r r.cells x t
       → IsViewFor (length r.points) j t kind held held' Us v → (more : List (List ℕ)) × (held' ≡ held ++ more) → Extends Ts Us → HaveForms Us → views' ≡ views ++ v ∷ []
       → SharesBelow limits regions shared held' views' kinds Us (n + 1)

@@ -1,7 +1,6 @@
 //! Solved games.
 
-ghost use Rattle.std.specs.Prelude.{◌≡◌, ℕ, ◌+◌, ◌^◌, ◌<◌, ◌≤◌, ◌↔◌, List, length, None, unsigned_abs};
-ghost use Rattle.go_grid.specs.Chain.{IsSettled};
+ghost use Rattle.std.specs.Prelude.{◌≡◌, ℕ, ◌+◌, ◌<◌, ◌≤◌, ◌↔◌, List, length, None};
 ghost use Rattle.go_grid.specs.Region.{Shape};
 ghost use Rattle.go_grid.specs.Grid.{other};
 ghost use Rattle.whole_rules.specs.FirstWinningMove.{IsFirstWinning, IsWinner};
@@ -12,6 +11,7 @@ ghost use Rattle.sum_outcome.specs.Sums.{sum_tree};
 ghost use Rattle.endgame_solver.specs.Regions.{region_at};
 ghost use Rattle.endgame_solver.specs.Faults.{most_steps};
 ghost use Rattle.region_cut.specs.Cut.{AreRegionsOfPlay};
+ghost use Rattle.sgf_go.specs.Position.{IsFit};
 ghost use Rattle.endgame_solver.specs.Solved.{Begun, IsNumberOfShapes, IsPresent, ArePresent, IsReport, balance_units};
 
 use crate::faults::SolveError;
@@ -80,22 +80,20 @@ impl Model for Solved {
 }
 
 impl Solved {
-    /// The game that a settled position opens, with a tax where the limits say it: its regions, each with its graph and the values of all its positions. Or
-    /// the first region of more than 32 points; or else the first with too many positions, a cycle or a value without a
-    /// form. It takes at most one step for each position of each region.
+    /// The game that a fit position opens, with a tax where the limits say it: its regions, each with its graph and the
+    /// values of all its positions. Or the first region of more than 32 points; or else the first with too many positions,
+    /// a cycle or a value without a form. It takes at most one step for each position of each region.
     pub fn begin<L: Ledger>(
         alloc: Global,
         setup: &Setup,
         limits: &Limits,
         steps: &mut Steps<L>,
     ) -> Result<Solved, SolveError>
-        requires settled { IsSettled setup.now.board }
-        requires black { setup.now.black_prisoners < 2 ^ 40 }
-        requires white { setup.now.white_prisoners < 2 ^ 40 }
-        requires komi { unsigned_abs setup.now.komi_halves ≤ 2000000 }
+        requires fit { IsFit setup.now }
         requires positions { limits.now.positions ≤ 1000000 }
         ensures begun { Begun setup.now limits.now result }
-        ensures steps { (regions : List Shape) → AreRegionsOfPlay setup.now.board regions → steps.new ≤ steps.old + most_steps limits.now regions }
+        ensures steps { (regions : List Shape) → AreRegionsOfPlay setup.now.board regions
+            → steps.new ≤ steps.old + most_steps limits.now regions }
     {
         let board = &setup.board;
         let _size = board.size();

@@ -7,8 +7,9 @@ use Rattle.go_grid.specs.declared.region.Touch.{Touch}
 use Rattle.go_grid.specs.Region.{Shape, touch_at}
 use Rattle.local_play.specs.LocalPlay.{held_at, is_beside}
 use Rattle.region_book.specs.Shape.{Direction, up, left, right, down, turned, link, Carries, cell_after, colour_after}
-use Rattle.region_book.specs.Image.{IsOnBoard, column_of, row_of, BeginsAt, IsImage, spot, spot_of}
+use Rattle.region_book.specs.Image.{IsOnBoard, column_of, row_of, BeginsAt, IsImage, is_stone, spot_of}
 use Rattle.region_book.specs.Law.{differ}
+use Rattle.region_book.specs.declared.spots.Spot.{Spot}
 use Rattle.region_book.specs.declared.symmetry.Symmetry.{Symmetry}
 use Rattle.region_book.proofs.SymmetryLaws.{after, after_is, back, back_first, back_last, cell_back, colour_back, cell_onward, colour_onward}
 use Rattle.region_book.proofs.PlaceLaws.{Steps, links_turned, reaches}
@@ -92,7 +93,7 @@ module _ (r : Shape) (cells : List Cell) (q : Shape) (cells' : List Cell) (at : 
             step_apart (turned t d) _ _ _ _ _ _ _ _ _ _ _ _ first
             (subst (λ x. Steps x (column_of q u n) (row_of q u n) (column_of q u n') (row_of q u n')) (same d) second) (known n pn)
 
-    module _ (a : Bool) (west north : ℕ) (image : List ℕ) (m : IsImage r cells t a west north image) where
+    module _ (a : Bool) (west north : ℕ) (image : List Spot) (m : IsImage r cells t a west north image) where
       -- partners of places in the first column and in the first row
       first_column : (j : ℕ) × Paired (m.begins.some_column.0) j
       first_column = partner (m.begins.some_column.0) (m.begins.some_column.1)
@@ -129,7 +130,14 @@ module _ (r : Shape) (cells : List Cell) (q : Shape) (cells' : List Cell) (at : 
           let held = sym (ap (cell_after (differ a e)) (h.held i j p) ∙ cell_onward a e (held_at cells i)) in
           let black = beside Black in
           let white = beside White in
-          λ n. spot (columns n) (rows n) (held n) (black n) (white n)
+          λ n. record {
+            row = rows n;
+            column = columns n;
+            black = is_stone Black (held n);
+            white = is_stone White (held n);
+            beside_black = black n;
+            beside_white = white n;
+          }
         where
           beside : (c : Colour) → is_beside (touch_at r.touch i) (colour_after a c)
               ≡ is_beside (touch_at q.touch j) (colour_after (differ a e) c)
@@ -138,17 +146,15 @@ module _ (r : Shape) (cells : List Cell) (q : Shape) (cells' : List Cell) (at : 
       image_with : IsImage q cells' u (differ a e) west' north' image
       image_with = record {
         begins = begins';
-        spots = record {
-          ascending = m.spots.ascending;
-          exact = λ x. (
-            λ c. let (i, lt, is) = (m.spots.exact x).0 c in let (j, p) = partner i lt in (j, there i j p, is ∙ same_spot i j p),
-            λ w. let (j, lt, is) = w in let (i, p) = partner_of j lt in (m.spots.exact x).1 (i, here i j p, is ∙ sym (same_spot i j p)),
-          );
-        };
+        ascending = m.ascending;
+        exact = λ x. (
+          λ c. let (i, lt, is) = (m.exact x).0 c in let (j, p) = partner i lt in (j, there i j p, is ∙ same_spot i j p),
+          λ w. let (j, lt, is) = w in let (i, p) = partner_of j lt in (m.exact x).1 (i, here i j p, is ∙ sym (same_spot i j p)),
+        );
       }
 
   -- each image of the first position is an image of the second
-  pub carried_image : (t : Symmetry) (a : Bool) (west north : ℕ) (image : List ℕ) → IsImage r cells t a west north image
+  pub carried_image : (t : Symmetry) (a : Bool) (west north : ℕ) (image : List Spot) → IsImage r cells t a west north image
       → (u : Symmetry) × (b : Bool) × (west' : ℕ) × (north' : ℕ) × IsImage q cells' u b west' north' image
   carried_image t a west north image m =
       let u = after t (back s) in

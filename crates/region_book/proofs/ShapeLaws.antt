@@ -1,9 +1,9 @@
 -- Equal shapes are those of positions that have one shape.
-use Rattle.std.proofs.Common.{◌≡◌, ℕ, zero, suc, ◌+◌, ◌-◌, ◌<◌, ◌↔◌, sym, ap, subst, ◌∙◌, refl, arith, List, [], ◌∷◌, length, get_or, Some, Bool, Less, Equal, Greater}
-use Rattle.std.specs.Ordering.{nat_cmp, is_gt, ordering_reverse}
+use Rattle.std.proofs.Common.{◌≡◌, ℕ, zero, suc, ◌+◌, ◌<◌, ◌↔◌, sym, ap, subst, ◌∙◌, refl, arith, List, [], ◌∷◌, length, get_or, Some, Bool, Less, Equal, Greater}
+use Rattle.std.specs.Ordering.{is_gt, ordering_reverse}
 use Rattle.std.specs.declared.cmp.Ordering.{Ordering}
-use Rattle.std.specs.Cmp.Lexicographic.{slice_cmp, nat_list_cmp_total}
-use Rattle.std.specs.FinSet.{slice_cmp-IsAntisymmetric, nat_cmp-IsAntisymmetric}
+use Rattle.std.specs.Cmp.Lexicographic.{slice_cmp}
+use Rattle.std.specs.FinSet.{slice_cmp-IsAntisymmetric}
 use Rattle.std.proofs.lemmas.Bool.{true≢false}
 use Rattle.std.proofs.lemmas.List.Elements.{Contains-get_or}
 use Rattle.go_grid.specs.declared.grid.Cell.{Cell}
@@ -12,22 +12,23 @@ use Rattle.go_grid.specs.declared.grid.Colour.TheVariants.{Black, White}
 use Rattle.go_grid.specs.Region.{Shape, touch_at}
 use Rattle.local_play.specs.LocalPlay.{held_at, is_beside}
 use Rattle.region_book.specs.Shape.{Direction, up, left, right, down, turned, link, Carries, HaveOneShape, IsPartner, cell_after, colour_after}
-use Rattle.region_book.specs.Image.{IsOnBoard, AtMost, Makes, column_of, row_of, spot_of}
+use Rattle.region_book.specs.Image.{IsOnBoard, AtMost, Makes, column_of, row_of, spot_cmp, spot_of}
 use Rattle.region_book.specs.Law.{differ, Meet, PairsPlaces, TellsShapes}
+use Rattle.region_book.specs.declared.spots.Spot.{Spot}
 use Rattle.region_book.specs.declared.symmetry.Symmetry.{Symmetry}
 use Rattle.region_book.specs.declared.shapes.Turn.{Turn}
 use Rattle.region_book.proofs.SymmetryLaws.{after, after_is, back, back_first, cell_back, cell_both, colour_back, colour_both}
-use Rattle.region_book.proofs.PlaceLaws.{Steps, column_small, links_turned, one_place}
+use Rattle.region_book.proofs.PlaceLaws.{Steps, links_turned}
 use Rattle.region_book.proofs.CarryLaws.{carried_image, carries_back, carries_same}
-use Rattle.region_book.proofs.SpotLaws.{SameSpot, one_spot, same_parts}
+use Rattle.region_book.proofs.SpotLaws.{SameSpot, one_spot, one_spot_at, same_parts, spot_same, spots_total}
 
 -- two lists, each at most the other, are the same
-pub at_most_same : (x y : List ℕ) → AtMost x y → AtMost y x → x ≡ y
-at_most_same x y a b = at (slice_cmp nat_cmp x y) refl
+pub at_most_same : (x y : List Spot) → AtMost x y → AtMost y x → x ≡ y
+at_most_same x y a b = at (slice_cmp spot_cmp x y) refl
   where
-    at : (o : Ordering) → slice_cmp nat_cmp x y ≡ o → x ≡ y
-    at Less e = absurd (true≢false (sym (ap is_gt (nat_list_cmp_total.antisymm y x ∙ ap ordering_reverse e)) ∙ b))
-    at Equal e = slice_cmp-IsAntisymmetric nat_cmp-IsAntisymmetric x y e
+    at : (o : Ordering) → slice_cmp spot_cmp x y ≡ o → x ≡ y
+    at Less e = absurd (true≢false (sym (ap is_gt (spots_total.antisymm y x ∙ ap ordering_reverse e)) ∙ b))
+    at Equal e = slice_cmp-IsAntisymmetric spot_same x y e
     at Greater e = absurd (true≢false (sym (ap is_gt e) ∙ a))
 
 -- a value for each number below n, in a list
@@ -64,36 +65,34 @@ steps_same down a r a' r' b q b' q' w w' n n' e f = (
 )
 
 -- the place that is turned to a place of the image
-reached : (r : Shape) (cells : List Cell) (x : List ℕ) (t : Turn) → (m : Makes r cells t x) → (k : ℕ) → k < length x
+reached : (r : Shape) (cells : List Cell) (x : List Spot) (t : Turn) → (m : Makes r cells t x) → (k : ℕ) → k < length x
     → (i : ℕ) × (i < length r.points) × (get_or t.places i 0 ≡ k)
 reached r cells x t m k lt =
-    let (i, here, is) = (m.image_is.spots.exact (get_or x k 0)).0 (Contains-get_or x k 0 lt) in
+    let d = spot_of r cells m.symmetry t.colours m.left m.top 0 in
+    let (i, here, is) = (m.image_is.exact (get_or x k d)).0 (Contains-get_or x k d lt) in
     let w = m.places i here in
-    (i, here, one_place x (get_or t.places i 0) k m.image_is.spots.ascending w.0 lt (w.1 ∙ sym is))
+    (i, here, one_spot_at x (get_or t.places i 0) k d m.image_is.ascending w.0 lt (w.1 d ∙ sym is))
 
 -- places that are turned to one place are the same
-turned_once : (r : Shape) (cells : List Cell) (x : List ℕ) (t : Turn) → IsOnBoard r → (m : Makes r cells t x) → (i k : ℕ)
+turned_once : (r : Shape) (cells : List Cell) (x : List Spot) (t : Turn) → IsOnBoard r → (m : Makes r cells t x) → (i k : ℕ)
     → i < length r.points → k < length r.points → get_or t.places i 0 ≡ get_or t.places k 0 → i ≡ k
 turned_once r cells x t at m i k lt lt' e =
+    let d = spot_of r cells m.symmetry t.colours m.left m.top i in
     one_spot r cells at m.symmetry t.colours m.left m.top m.image_is.begins i k lt lt'
-    (sym ((m.places i lt).1) ∙ ap (λ p. get_or x p 0) e ∙ (m.places k lt').1)
+    (sym ((m.places i lt).1 d) ∙ ap (λ p. get_or x p d) e ∙ (m.places k lt').1 d)
 
 module _ (r : Shape) (cells : List Cell) (q : Shape) (cells' : List Cell) (at : IsOnBoard r) (at' : IsOnBoard q)
-    (x : List ℕ) (s t : Turn) (m : Makes r cells s x) (n : Makes q cells' t x) where
+    (x : List Spot) (s t : Turn) (m : Makes r cells s x) (n : Makes q cells' t x) where
   -- what is known of places that meet
   meet_spot : (i j : ℕ) → Meet r s q t i j → spot_of r cells m.symmetry s.colours m.left m.top i ≡ spot_of q cells' n.symmetry t.colours n.left n.top j
-  meet_spot i j (lt, lt', e) = sym ((m.places i lt).1) ∙ ap (λ p. get_or x p 0) (sym e) ∙ (n.places j lt').1
+  meet_spot i j (lt, lt', e) =
+      let d = spot_of r cells m.symmetry s.colours m.left m.top i in
+      sym ((m.places i lt).1 d) ∙ ap (λ p. get_or x p d) (sym e) ∙ (n.places j lt').1 d
 
   meet_parts : (i j : ℕ) → Meet r s q t i j
-      → SameSpot (column_of r m.symmetry i - m.left) (row_of r m.symmetry i - m.top) (cell_after s.colours (held_at cells i))
-      (is_beside (touch_at r.touch i) (colour_after s.colours Black)) (is_beside (touch_at r.touch i) (colour_after s.colours White))
-      (column_of q n.symmetry j - n.left) (row_of q n.symmetry j - n.top) (cell_after t.colours (held_at cells' j))
-      (is_beside (touch_at q.touch j) (colour_after t.colours Black)) (is_beside (touch_at q.touch j) (colour_after t.colours White))
-  meet_parts i j (lt, lt', e) =
-      let small = column_small r at m.symmetry i lt in
-      let small' = column_small q at' n.symmetry j lt' in
-      same_parts (column_of r m.symmetry i - m.left) (row_of r m.symmetry i - m.top) _ _ _ (column_of q n.symmetry j - n.left) (row_of q n.symmetry j - n.top) _ _ _
-      (omega (arith, small)) (omega (arith, small')) (meet_spot i j (lt, lt', e))
+      → SameSpot r cells m.symmetry s.colours m.left m.top i q cells' n.symmetry t.colours n.left n.top j
+  meet_parts i j p =
+      same_parts r cells m.symmetry s.colours m.left m.top i q cells' n.symmetry t.colours n.left n.top j (meet_spot i j p)
 
   meet_far : (i j : ℕ) → Meet r s q t i j → (column_of r m.symmetry i + n.left ≡ column_of q n.symmetry j + m.left)
       × (row_of r m.symmetry i + n.top ≡ row_of q n.symmetry j + m.top)
@@ -123,7 +122,7 @@ module _ (r : Shape) (cells : List Cell) (q : Shape) (cells' : List Cell) (at : 
 
   meet_held : (i j : ℕ) → Meet r s q t i j → held_at cells' j ≡ cell_after (differ s.colours t.colours) (held_at cells i)
   meet_held i j p =
-      sym (cell_back t.colours (held_at cells' j)) ∙ ap (cell_after t.colours) (sym ((meet_parts i j p).cells))
+      sym (cell_back t.colours (held_at cells' j)) ∙ ap (cell_after t.colours) (sym ((meet_parts i j p).held))
       ∙ cell_both t.colours s.colours (held_at cells i)
 
   meet_beside : (i j : ℕ) → Meet r s q t i j → (c : Colour)
@@ -166,7 +165,7 @@ listed_pairing r cells q cells' P s e h =
     let of_list : (i j : ℕ) → IsPartner partners i j → P i j = λ i j w. subst (P i) w.1 (each i (omega (arith, w.0, long))) in
     (partners, s, e, carries_same r.touch cells q.touch cells' P (IsPartner partners) s e to of_list h)
 
-pub pairs_places : (r : Shape) (cells : List Cell) (x : List ℕ) (s : Turn) (q : Shape) (cells' : List Cell) (y : List ℕ) (t : Turn)
+pub pairs_places : (r : Shape) (cells : List Cell) (x : List Spot) (s : Turn) (q : Shape) (cells' : List Cell) (y : List Spot) (t : Turn)
     → PairsPlaces r cells x s q cells' y t
 pairs_places r cells x s q cells' y t a b e =
     let at = a.board in
@@ -174,7 +173,7 @@ pairs_places r cells x s q cells' y t a b e =
     let n : Makes q cells' t x = subst (Makes q cells' t) (sym e) b.made in
     (turn r cells q cells' at at' x s t a.made n, meeting_carries r cells q cells' at at' x s t a.made n)
 
-pub tells_shapes : (r : Shape) (cells : List Cell) (x : List ℕ) (s : Turn) (q : Shape) (cells' : List Cell) (y : List ℕ) (t : Turn)
+pub tells_shapes : (r : Shape) (cells : List Cell) (x : List Spot) (s : Turn) (q : Shape) (cells' : List Cell) (y : List Spot) (t : Turn)
     → TellsShapes r cells x s q cells' y t
 tells_shapes r cells x s q cells' y t a b = (there, here)
   where

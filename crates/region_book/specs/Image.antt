@@ -1,14 +1,18 @@
 -- The images of a local position: its places, turned by a symmetry, in the order of rows and columns.
-use Rattle.std.specs.Prelude.{◌≡◌, ℕ, ◌+◌, ◌-◌, ◌*◌, ◌/◌, ◌%◌, ◌<◌, ◌≤◌, List, Bool, true, false, length, slice_index}
+use Rattle.std.specs.Prelude.{◌≡◌, ℕ, ◌-◌, ◌/◌, ◌%◌, ◌<◌, ◌≤◌, ◌↔◌, List, Bool, true, false, Contains, length, slice_index, slice_index_or}
 use Rattle.std.specs.Cmp.Lexicographic.{slice_cmp}
-use Rattle.std.specs.Ordering.{nat_cmp, is_gt}
+use Rattle.std.specs.List.{AllPairs}
+use Rattle.std.specs.Ordering.{nat_cmp, bool_cmp, is_gt, on, then_cmp}
+use Rattle.std.specs.declared.cmp.Ordering.{Ordering}
+use Rattle.std.specs.declared.cmp.Ordering.TheVariants.{Less}
 use Rattle.go_grid.specs.declared.grid.Cell.{Cell}
+use Rattle.go_grid.specs.declared.grid.Cell.TheVariants as cell
+use Rattle.go_grid.specs.declared.grid.Colour.{Colour}
 use Rattle.go_grid.specs.declared.grid.Colour.TheVariants.{Black, White}
-use Rattle.go_grid.specs.Marks.{Lists}
 use Rattle.go_grid.specs.Region.{Shape, IsRegion, touch_at}
 use Rattle.local_play.specs.LocalPlay.{held_at, is_beside}
-use Rattle.local_play.specs.Packed.{code}
 use Rattle.region_book.specs.Shape.{cell_after, colour_after}
+use Rattle.region_book.specs.declared.spots.Spot.{Spot}
 use Rattle.region_book.specs.declared.symmetry.Symmetry.{Symmetry}
 use Rattle.region_book.specs.declared.shapes.Turn.{Turn}
 
@@ -42,37 +46,53 @@ pub record BeginsAt (r : Shape) (s : Symmetry) (left top : ℕ) : Type 0 where
   pub rows : (i : ℕ) → i < length r.points → top ≤ row_of r s i
   pub some_row : (i : ℕ) × (i < length r.points) × (row_of r s i ≡ top)
 
-abbrev pub mark : Bool → ℕ
-mark false = 0
-mark true = 1
+-- whether the cell holds a stone of the colour
+abbrev pub is_stone : Colour → Cell → Bool
+is_stone c cell.Empty = false
+is_stone Black cell.Black = true
+is_stone Black cell.White = false
+is_stone White cell.Black = false
+is_stone White cell.White = true
 
--- what is known of a place, as a number
-abbrev pub spot : ℕ → ℕ → Cell → Bool → Bool → ℕ
-spot column row x black white = (((row * 32 + column) * 4 + code x) * 2 + mark black) * 2 + mark white
+-- the order of the places of an image: row by row, then by column, and then by what is there
+abbrev pub spot_cmp : Spot → Spot → Ordering
+spot_cmp = then_cmp (on (λ x. x.row) nat_cmp) (then_cmp (on (λ x. x.column) nat_cmp)
+    (then_cmp (on (λ x. x.black) bool_cmp) (then_cmp (on (λ x. x.white) bool_cmp)
+    (then_cmp (on (λ x. x.beside_black) bool_cmp) (on (λ x. x.beside_white) bool_cmp)))))
 
-abbrev pub spot_of : Shape → List Cell → Symmetry → Bool → ℕ → ℕ → ℕ → ℕ
-spot_of r cells s colours left top i = spot (column_of r s i - left) (row_of r s i - top) (cell_after colours (held_at cells i))
-    (is_beside (touch_at r.touch i) (colour_after colours Black)) (is_beside (touch_at r.touch i) (colour_after colours White))
+-- what is known of a place, where the region begins at the column and at the row
+abbrev pub spot_of : Shape → List Cell → Symmetry → Bool → ℕ → ℕ → ℕ → Spot
+spot_of r cells s colours left top i = record {
+  row = row_of r s i - top;
+  column = column_of r s i - left;
+  black = is_stone Black (cell_after colours (held_at cells i));
+  white = is_stone White (cell_after colours (held_at cells i));
+  beside_black = is_beside (touch_at r.touch i) (colour_after colours Black);
+  beside_white = is_beside (touch_at r.touch i) (colour_after colours White);
+}
 
--- the number is that of a place
-abbrev pub IsSpot : Shape → List Cell → Symmetry → Bool → ℕ → ℕ → ℕ → Type 0
+-- this is known of some place
+abbrev pub IsSpot : Shape → List Cell → Symmetry → Bool → ℕ → ℕ → Spot → Type 0
 IsSpot r cells s colours left top x = (i : ℕ) × (i < length r.points) × (x ≡ spot_of r cells s colours left top i)
 
--- the image of the position, turned by the symmetry, with the colours exchanged or not
-pub record IsImage (r : Shape) (cells : List Cell) (s : Symmetry) (colours : Bool) (left top : ℕ) (image : List ℕ) : Type 0 where
+-- the image of the position, turned by the symmetry, with the colours exchanged or not: each of its places once, in their order
+pub record IsImage (r : Shape) (cells : List Cell) (s : Symmetry) (colours : Bool) (left top : ℕ) (image : List Spot) : Type 0 where
   pub begins : BeginsAt r s left top
-  pub spots : Lists image (IsSpot r cells s colours left top)
+  pub ascending : AllPairs (λ a b. spot_cmp a b ≡ Less) image
+  pub exact : (x : Spot) → Contains image x ↔ IsSpot r cells s colours left top x
 
-abbrev pub AtMost : List ℕ → List ℕ → Type 0
-AtMost xs ys = is_gt (slice_cmp nat_cmp xs ys) ≡ false
+-- the first image doesn't come after the second, place by place
+abbrev pub AtMost : List Spot → List Spot → Type 0
+AtMost xs ys = is_gt (slice_cmp spot_cmp xs ys) ≡ false
 
 -- the list has the place of the image for each place of the region
-abbrev pub Places : Shape → List Cell → Symmetry → Bool → ℕ → ℕ → List ℕ → List ℕ → Type 0
+abbrev pub Places : Shape → List Cell → Symmetry → Bool → ℕ → ℕ → List Spot → List ℕ → Type 0
 Places r cells s colours left top image places = (i : ℕ) → i < length r.points
-    → (slice_index places i < length image) × (slice_index image (slice_index places i) ≡ spot_of r cells s colours left top i)
+    → (slice_index places i < length image)
+    × ((d : Spot) → slice_index_or image (slice_index places i) d ≡ spot_of r cells s colours left top i)
 
 -- the turn makes the image of the position
-pub record Makes (r : Shape) (cells : List Cell) (t : Turn) (image : List ℕ) : Type 0 where
+pub record Makes (r : Shape) (cells : List Cell) (t : Turn) (image : List Spot) : Type 0 where
   pub symmetry : Symmetry
   pub left : ℕ
   pub top : ℕ
@@ -82,8 +102,8 @@ pub record Makes (r : Shape) (cells : List Cell) (t : Turn) (image : List ℕ) :
   pub past : (i : ℕ) → length r.points ≤ i → i < 32 → slice_index t.places i ≡ 0
 
 -- The shape is the least of the sixteen images of the position on its board, and the turn makes it.
-pub record IsShape (r : Shape) (cells : List Cell) (image : List ℕ) (t : Turn) : Type 0 where
+pub record IsShape (r : Shape) (cells : List Cell) (image : List Spot) (t : Turn) : Type 0 where
   pub board : IsOnBoard r
   pub made : Makes r cells t image
-  pub least : (s : Symmetry) (colours : Bool) (left top : ℕ) (found : List ℕ) → IsImage r cells s colours left top found
+  pub least : (s : Symmetry) (colours : Bool) (left top : ℕ) (found : List Spot) → IsImage r cells s colours left top found
       → AtMost image found

@@ -4,6 +4,7 @@ use Rattle.go_grid.specs.declared.grid.Cell.{Cell}
 use Rattle.go_grid.specs.Region.{Shape}
 use Rattle.region_book.specs.Shape.{Carries, HaveOneShape}
 use Rattle.region_book.specs.Image.{IsShape}
+use Rattle.region_book.specs.declared.spots.Spot.{Spot}
 use Rattle.region_book.specs.declared.symmetry.Symmetry.{Symmetry}
 use Rattle.region_book.specs.declared.shapes.Turn.{Turn}
 
@@ -18,11 +19,11 @@ abbrev pub Meet : Shape → Turn → Shape → Turn → ℕ → ℕ → Type 0
 Meet r s q t i j = (i < length r.points) × (j < length q.points) × (slice_index t.places j ≡ slice_index s.places i)
 
 -- positions have equal shapes exactly where they have one shape
-abbrev pub TellsShapes : Shape → List Cell → List ℕ → Turn → Shape → List Cell → List ℕ → Turn → Type 0
+abbrev pub TellsShapes : Shape → List Cell → List Spot → Turn → Shape → List Cell → List Spot → Turn → Type 0
 TellsShapes r cells x s q cells' y t = IsShape r cells x s → IsShape q cells' y t
     → (x ≡ y) ↔ HaveOneShape r.touch cells q.touch cells'
 
 -- where shapes are equal, places that meet are partners
-abbrev pub PairsPlaces : Shape → List Cell → List ℕ → Turn → Shape → List Cell → List ℕ → Turn → Type 0
+abbrev pub PairsPlaces : Shape → List Cell → List Spot → Turn → Shape → List Cell → List Spot → Turn → Type 0
 PairsPlaces r cells x s q cells' y t = IsShape r cells x s → IsShape q cells' y t
     → x ≡ y → (turn : Symmetry) × Carries r.touch cells q.touch cells' (Meet r s q t) turn (differ s.colours t.colours)

@@ -1,20 +1,21 @@
 -- What the code of a shape keeps.
-use Rattle.std.specs.Prelude.{◌≡◌, ℕ, ◌<◌, List, Bool, length, slice_index}
+use Rattle.std.specs.Prelude.{◌≡◌, ℕ, ◌<◌, List, Bool, length, slice_index_or}
 use Rattle.go_grid.specs.declared.grid.Cell.{Cell}
 use Rattle.go_grid.specs.Region.{Shape}
 use Rattle.region_book.specs.Image.{IsOnBoard, IsImage, AtMost, spot_of}
+use Rattle.region_book.specs.declared.spots.Spot.{Spot}
 use Rattle.region_book.specs.declared.symmetry.Symmetry.{Symmetry}
 use Rattle.region_book.specs.declared.images.Image.{Image}
 
--- the list has the number of each place
-abbrev pub Spots : Shape → List Cell → Symmetry → Bool → ℕ → ℕ → List ℕ → Type 0
+-- the list has what is known of each place
+abbrev pub Spots : Shape → List Cell → Symmetry → Bool → ℕ → ℕ → List Spot → Type 0
 Spots r cells s colours left top xs = (length xs ≡ length r.points)
-    × ((i : ℕ) → i < length r.points → slice_index xs i ≡ spot_of r cells s colours left top i)
+    × ((i : ℕ) (d : Spot) → i < length r.points → slice_index_or xs i d ≡ spot_of r cells s colours left top i)
 
 -- the image is one of the position, and the least of those that are among the ones named
 pub record IsLeastAmong (r : Shape) (cells : List Cell) (Among : Symmetry → Bool → Type 0) (m : Image) : Type 0 where
   pub board : IsOnBoard r
   pub image_is : IsImage r cells m.symmetry m.colours m.begin.column m.begin.row m.spots.items
   pub long : length m.spots.items ≡ length r.points
-  pub least : (s : Symmetry) (colours : Bool) (left top : ℕ) (found : List ℕ) → Among s colours
+  pub least : (s : Symmetry) (colours : Bool) (left top : ℕ) (found : List Spot) → Among s colours
       → IsImage r cells s colours left top found → AtMost m.spots.items found

@@ -1,13 +1,14 @@
 //! The images of a local position.
 
-ghost use Rattle.std.specs.Prelude.{◌≡◌, ℕ, ◌*◌, ◌+◌, ◌-◌, ◌<◌, ◌≤◌, ◌⊎◌, Bool, false, true, length, slice_index, IfOk, Contains, replicate};
+ghost use Rattle.std.specs.Prelude.{◌≡◌, ℕ, ◌*◌, ◌+◌, ◌-◌, ◌<◌, ◌≤◌, ◌⊎◌, ◌↔◌, Bool, false, true, IsTrue, length, slice_index, slice_index_or, IfOk, Contains, replicate};
 ghost use Rattle.go_grid.specs.Region.{touch_at};
 ghost use Rattle.local_play.specs.LocalPlay.{held_at, is_beside};
-ghost use Rattle.local_play.specs.Packed.{code};
 ghost use Rattle.region_book.specs.Shape.{cell_after, colour_after};
-ghost use Rattle.region_book.specs.Image.{AtMost, IsImage, BeginsAt, Places, mark, spot, spot_of};
+ghost use Rattle.region_book.specs.Image.{AtMost, IsImage, BeginsAt, Places, is_stone, spot_of};
+ghost use Rattle.region_book.specs.declared.spots.Spot.{Spot};
 ghost use Rattle.region_book.specs.Made.{IsLeastAmong, Spots};
 
+use crate::spots::Spot;
 use crate::symmetry::{Stand, Symmetry, begin, places, turned};
 use go_grid::{Cell, Colour, Region, Touch};
 use local_play::Cells;
@@ -16,35 +17,32 @@ use std::alloc::{AllocError, Global};
 /// An image, and the symmetry, the exchange and the beginning that make it.
 #[derive(Drop)]
 pub struct Image {
-    pub spots: Vec<u16>,
+    pub spots: Vec<Spot>,
     pub symmetry: Symmetry,
     pub colours: bool,
     pub begin: Stand,
 }
 
-/// The code of a cell, with the colours exchanged or not.
-fn code(cell: Cell, colours: bool) -> u16
-    ensures value { result ≡ code (cell_after colours cell) }
-    ensures small { result < 3 }
+/// Whether a cell holds a stone that is of the colour, or of the other one where colours are exchanged.
+fn is_stone(cell: Cell, colour: Colour, colours: bool) -> bool
+    ensures { result ≡ is_stone colour (cell_after colours cell) }
 {
-    match cell {
-        Cell::Empty => 0,
-        Cell::Black => { if colours { 2 } else { 1 } }
-        Cell::White => { if colours { 1 } else { 2 } }
+    match (cell, colour) {
+        (Cell::Empty, _) => false,
+        (Cell::Black, Colour::Black) | (Cell::White, Colour::White) => !colours,
+        (Cell::Black, Colour::White) | (Cell::White, Colour::Black) => colours,
     }
 }
 
-/// 1 where an alive stone is next to a place that is of the colour, or of the other one where colours are exchanged.
-fn mark(touch: Touch, colour: Colour, colours: bool) -> u16
-    ensures value { result ≡ mark (is_beside touch (colour_after colours colour)) }
-    ensures small { result < 2 }
+/// Whether an alive stone is next to a place that is of the colour, or of the other one where colours are exchanged.
+fn is_beside_after(touch: Touch, colour: Colour, colours: bool) -> bool
+    ensures { result ≡ is_beside touch (colour_after colours colour) }
 {
-    let beside = if colours {
+    if colours {
         is_beside(touch, colour.other())
     } else {
         is_beside(touch, colour)
-    };
-    u16::from(beside)
+    }
 }
 
 /// Whether an alive stone of the colour is next to a place.
@@ -66,7 +64,7 @@ fn touch(region: &Region, place: usize) -> Touch
     shape.touch[place]
 }
 
-/// What is known of a place, as a number.
+/// What is known of a place.
 fn spot(
     region: &Region,
     cells: &Cells,
@@ -74,7 +72,7 @@ fn spot(
     colours: bool,
     begin: Stand,
     place: usize,
-) -> u16
+) -> Spot
     requires few { length region.now.points ≤ 32 }
     requires place { place < length region.now.points }
     requires begin { BeginsAt region.now symmetry begin.column begin.row }
@@ -82,15 +80,17 @@ fn spot(
 {
     let near = touch(region, place);
     let at = turned(region, symmetry, place);
-    let column = at.column - begin.column;
-    let row = at.row - begin.row;
-    let held = (row * 32 + column) * 4 + code(cells[place], colours);
-    let black = mark(near, Colour::Black, colours);
-    let white = mark(near, Colour::White, colours);
-    (held * 2 + black) * 2 + white
+    Spot {
+        row: at.row - begin.row,
+        column: at.column - begin.column,
+        black: is_stone(cells[place], Colour::Black, colours),
+        white: is_stone(cells[place], Colour::White, colours),
+        beside_black: is_beside_after(near, Colour::Black, colours),
+        beside_white: is_beside_after(near, Colour::White, colours),
+    }
 }
 
-/// The numbers of all places.
+/// What is known of each place.
 fn spots(
     alloc: Global,
     region: &Region,
@@ -98,7 +98,7 @@ fn spots(
     symmetry: Symmetry,
     colours: bool,
     begin: Stand,
-) -> Result<Vec<u16>, AllocError>
+) -> Result<Vec<Spot>, AllocError>
     requires few { length region.now.points ≤ 32 }
     requires begin { BeginsAt region.now symmetry begin.column begin.row }
     ensures { IfOk result (λ v. Spots region.now cells.now symmetry colours begin.column begin.row v.items) }
@@ -133,7 +133,7 @@ fn image_of(
 }
 
 /// Whether the first image is at most the second.
-fn is_at_most(a: &[u16], b: &[u16]) -> bool
+fn is_at_most(a: &[Spot], b: &[Spot]) -> bool
     ensures first { result ≡ true → AtMost a.now b.now }
     ensures second { result ≡ false → AtMost b.now a.now }
 {
@@ -222,13 +222,21 @@ pub(crate) fn least_image(
     Ok(lesser(kept, exchanged))
 }
 
-/// The place of a number in a list that has it.
-fn place_of(spots: &[u16], spot: u16) -> usize
+/// Whether the two are the same.
+fn is_same(a: Spot, b: Spot) -> bool
+    ensures { IsTrue result ↔ (a ≡ b) }
+{
+    a == b
+}
+
+/// The place of an item in a list that has it.
+fn place_of(spots: &[Spot], spot: Spot) -> usize
     requires { Contains spots.now spot }
-    ensures { (result < length spots.now) × (slice_index spots.now result ≡ spot) }
+    ensures within { result < length spots.now }
+    ensures there { (d : Spot) → slice_index_or spots.now result d ≡ spot }
 {
     for place in 0..spots.len() {
-        if spots[place] == spot {
+        if is_same(spots[place], spot) {
             return place;
         }
     }

@@ -10,6 +10,7 @@ mod laws;
 mod pairing_tests;
 mod shapes;
 mod shaping;
+mod spots;
 mod symmetry;
 #[cfg(test)]
 mod tests;

@@ -3,10 +3,10 @@
 ghost use Rattle.std.specs.Prelude.{false, map, sum_by, get_or, [], ◌≡◌, ◌≤◌, ◌<◌, ◌+◌, ◌-◌, ◌⊎◌, ◌^◌, ◌*◌, true, length, take, IfSome, IfNone, IfOk, codes};
 ghost use Rattle.std.specs.Char.{is_ascii_digit};
 ghost use Rattle.std.specs.Option.{option_map};
-ghost use Rattle.go_grid.specs.Chain.{IsSettled};
 ghost use Rattle.sgf_tree.specs.Reading.{property_text, node_text, line_text};
 ghost use Rattle.sgf_go.specs.Reading.{extent};
 ghost use Rattle.sgf_go.specs.Komi.{IsInRange};
+ghost use Rattle.sgf_go.specs.Position.{IsFit};
 ghost use Rattle.sgf_go.specs.Values.{colon, Says, IsSide, IsSize, LacksColon};
 ghost use Rattle.sgf_go.specs.Setup.{Counts, AnswersPosition, AnswersEnd, OnePosition, value_of, is_go, IsBoardSize, IsKomiFor, root, empty_board};
 
@@ -117,11 +117,10 @@ fn finish(replay: Replay, settings: &Settings, komi: i64) -> Result<Setup, GoErr
     requires few { replay.played ≤ 1048576 }
     requires black { settings.now.black_prisoners ≤ 999999 }
     requires white { settings.now.white_prisoners ≤ 999999 }
+    requires komi { IsInRange komi }
     ensures answer { AnswersEnd settings.now komi replay result }
-    ensures black { IfOk result (λ s. s.black_prisoners < 2 ^ 40) }
-    ensures white { IfOk result (λ s. s.white_prisoners < 2 ^ 40) }
+    ensures fit { IfOk result IsFit }
     ensures komi { IfOk result (λ s. s.komi_halves ≡ komi) }
-    ensures settled { IfOk result (λ s. IsSettled s.board) }
 {
     match replay.board.unsettled()? {
         Some(point) => Err(GoError::Fault(SetupFault::NoLiberty(point))),
@@ -205,10 +204,8 @@ pub fn position(alloc: Global, tree: &Tree, settings: &Settings) -> Result<Setup
     requires white { settings.now.white_prisoners ≤ 999999 }
     requires komi { IfSome settings.now.komi IsInRange }
     ensures answer { AnswersPosition tree.now settings.now result }
-    ensures black { IfOk result (λ s. s.black_prisoners < 2 ^ 40) }
-    ensures white { IfOk result (λ s. s.white_prisoners < 2 ^ 40) }
+    ensures fit { IfOk result IsFit }
     ensures komi { IfOk result (λ s. IsInRange s.komi_halves) }
-    ensures settled { IfOk result (λ s. IsSettled s.board) }
 {
     let first = root(&tree.line);
     if !is_go_game(first) {

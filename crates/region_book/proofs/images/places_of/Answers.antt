@@ -8,10 +8,10 @@ loop-place-init c = placing_none _ _ _ _ _ _ _ _ c.no_places-all.ensures
 pub place_of-requires : goal.place_of-requires
 place_of-requires c =
     let lt : c.loop-place.place < length c.args.region.now.points = omega (arith, c.loop-place-test.true, c.places-place-end.ensures.value) in
-    rw c.deref.ensures.value ((c.requires.image.spots.exact c.spot-spot.result).1 (c.loop-place.place, lt, c.spot-spot.ensures))
+    rw c.deref.ensures.value ((c.requires.image.exact c.spot-spot.result).1 (c.loop-place.place, lt, c.spot-spot.ensures))
 
 pub loop-place-preserved : goal.loop-place-preserved
 loop-place-preserved c =
     let few : c.loop-place.place < 32 = omega (arith, c.loop-place-test.true, c.places-place-end.ensures.value, c.requires.few) in
     let found = rw c.deref.ensures.value at c.place_of.ensures in
-    placing_more _ _ _ _ _ _ _ c.loop-place.place c.loop-place.all c.place_of.result c.loop-place.invariant few found.0 (found.1 ∙ c.spot-spot.ensures)
+    placing_more _ _ _ _ _ _ _ c.loop-place.place c.loop-place.all c.place_of.result c.loop-place.invariant few found.within (λ d. found.there d ∙ c.spot-spot.ensures)

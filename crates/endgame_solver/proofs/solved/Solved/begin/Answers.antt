@@ -44,7 +44,7 @@ invariant_of-result g c =
     let regions = c.in_ok-regions.regions.items in
     let made = c.in_ok-regions.ensures in
     let few : length setup.board.cells ≤ 625 = omega (arith, c.size-size.ensures.area, c.size-size.ensures.most) in
-    let opens = subst (λ komi. IsOpening setup.board setup.black_prisoners setup.white_prisoners komi setup.side c.args.limits.now.tax c.in_ok-whole.whole) (komi_held setup.komi_halves c.requires.komi) c.in_ok-whole.ensures in
+    let opens = subst (λ komi. IsOpening setup.board setup.black_prisoners setup.white_prisoners komi setup.side c.args.limits.now.tax c.in_ok-whole.whole) (komi_held setup.komi_halves c.requires.fit.komi) c.in_ok-whole.ensures in
     let book = c.in_ok-book.book in
     let shared = subst (λ rs. AreSharedBy c.args.limits.now rs book c.solve_regions.new.store) c.deref-2.ensures.value c.in_ok-book.ensures.solved in (
       record {
@@ -52,11 +52,11 @@ invariant_of-result g c =
         values = shared.values;
         views_are = shared.views_are;
         shapes = shared.shapes;
-        kept = is_kept c.args.limits.now setup.board regions shared.graphs shared.values c.solve_regions.new.store c.requires.settled made.regions made.local few c.requires.positions shared.solved
+        kept = is_kept c.args.limits.now setup.board regions shared.graphs shared.values c.solve_regions.new.store c.requires.fit.settled made.regions made.local few c.requires.positions shared.solved
             setup.black_prisoners setup.white_prisoners setup.komi_halves setup.side c.args.limits.now.tax c.in_ok-whole.whole opens _ _
             (c.in_ok-places.ensures ∙ ap (λ n. replicate n 0) (c.len.ensures ∙ c.in_ok-regions.regions.ok.0))
             (sum_is book shared.graphs shared.values (length regions) _ shared.views_are shared.solved.as_many_values c.in_ok-sum.ensures.long c.in_ok-sum.ensures.each)
-            c.requires.black c.requires.white c.requires.komi;
+            c.requires.fit.black c.requires.fit.white c.requires.fit.komi;
       },
       fits_grown c.note_zero.new.store c.solve_regions.new.store c.note_zero.new.self c.in_ok-book.ensures.kept c.note_zero.ensures.fits,
     )
@@ -67,9 +67,9 @@ returns-clause-begun g c =
     let regions = c.in_ok-regions.regions.items in
     let made = c.in_ok-regions.ensures in
     let few : length setup.board.cells ≤ 625 = omega (arith, c.size-size.ensures.area, c.size-size.ensures.most) in
-    let opens = subst (λ komi. IsOpening setup.board setup.black_prisoners setup.white_prisoners komi setup.side c.args.limits.now.tax c.in_ok-whole.whole) (komi_held setup.komi_halves c.requires.komi) c.in_ok-whole.ensures in
+    let opens = subst (λ komi. IsOpening setup.board setup.black_prisoners setup.white_prisoners komi setup.side c.args.limits.now.tax c.in_ok-whole.whole) (komi_held setup.komi_halves c.requires.fit.komi) c.in_ok-whole.ensures in
     let shared = subst (λ rs. AreSharedBy c.args.limits.now rs c.in_ok-book.book c.solve_regions.new.store) c.deref-2.ensures.value c.in_ok-book.ensures.solved in
-    (opens, made.regions, are_sound c.args.limits.now setup.board regions shared.graphs shared.values c.solve_regions.new.store c.requires.settled made.regions made.local few c.requires.positions shared.solved)
+    (opens, made.regions, are_sound c.args.limits.now setup.board regions shared.graphs shared.values c.solve_regions.new.store c.requires.fit.settled made.regions made.local few c.requires.positions shared.solved)
 
 pub returns-clause-steps : goal.returns-clause-steps
 returns-clause-steps g c = steps_within c.args.limits.now c.args.setup.now.board c.in_ok-regions.regions.items _ _ c.in_ok-regions.ensures.regions
