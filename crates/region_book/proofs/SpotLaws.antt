@@ -1,5 +1,5 @@
 -- What two equal spots say, and the order of spots.
-use Rattle.std.proofs.Common.{◌≡◌, ℕ, ◌-◌, ◌<◌, ◌≤◌, sym, ap, zero, suc, inl, inr, ◌∙◌, subst, ◌⊎◌, refl, arith, rules, get_or, length, List, [], ◌∷◌, Bool, true, false, Less, Equal, Greater}
+use Rattle.std.proofs.Common.{◌≡◌, ℕ, ◌-◌, ◌<◌, ◌≤◌, sym, ap, zero, suc, inl, inr, ◌∙◌, subst, ◌⊎◌, refl, arith, rules, nat_eq, ◌&&◌, get_or, length, List, [], ◌∷◌, Bool, true, false, Less, Equal, Greater}
 use Rattle.std.specs.List.{AllPairs, Contains, IsDistinct}
 use Rattle.std.specs.List.Sorted.{IsSorted}
 use Rattle.std.specs.Ordering.{nat_cmp, bool_cmp, eq_by_cmp, is_eq, ordering_index, ordering_reverse, ordering_then}
@@ -8,9 +8,11 @@ use Rattle.std.proofs.lemmas.Cmp.{tied_itself}
 use Rattle.std.proofs.lemmas.List.{get_or_default}
 use Rattle.std.proofs.lemmas.List.Sorted.{searchable_from_sorted}
 use Rattle.std.proofs.lemmas.Map.Keys.{apart_from_distinct}
-use Rattle.std.specs.Cmp.{IsTotalOrder}
+use Rattle.std.specs.Bool.{Decides, beq}
+use Rattle.std.specs.Cmp.{IsTotalOrder, booleans_Decides}
+use Rattle.std.proofs.lemmas.Bool.Decides.{Decides-and, Decides-eqb, Decides-like}
 use Rattle.std.specs.Cmp.Rules.{comparing}
-use Rattle.std.specs.Cmp.Lexicographic.{slice_cmp, lists_total}
+use Rattle.std.specs.Cmp.Lexicographic.{slice_cmp, lists_total, pointwise, pointwise_decides}
 use Rattle.std.specs.FinSet.{IsAntisymmetric, nat_cmp-IsAntisymmetric}
 use Rattle.std.specs.declared.cmp.Ordering.{Ordering}
 use Rattle.go_grid.specs.declared.grid.Cell.{Cell}
@@ -183,3 +185,25 @@ rises_sorted xs sorted apart i j d less short = at (spot_cmp b a) refl
     at Less e = absurd (omega (arith, up, level, ap ordering_index e))
     at Equal e = absurd (true≢false (sym (ap is_eq (spot_total.antisymm a b ∙ ap ordering_reverse e)) ∙ apart_from_distinct (eq_by_cmp spot_cmp) xs i j d apart less short))
     at Greater e = spot_total.antisymm a b ∙ ap ordering_reverse e
+
+-- equality of lists of spots, as the derived test has it
+same_spot : (x y : Spot) → Decides (nat_eq x.row y.row && (nat_eq x.column y.column && (beq x.black y.black && (beq x.white y.white
+    && (beq x.beside_black y.beside_black && beq x.beside_white y.beside_white))))) (x ≡ y)
+same_spot x y =
+    Decides-like _
+    (λ p i. record {
+      row = p.0 i;
+      column = p.1.0 i;
+      black = p.1.1.0 i;
+      white = p.1.1.1.0 i;
+      beside_black = p.1.1.1.1.0 i;
+      beside_white = p.1.1.1.1.1 i;
+    })
+    (λ e. (ap (λ z. z.row) e, (ap (λ z. z.column) e, (ap (λ z. z.black) e, (ap (λ z. z.white) e, (ap (λ z. z.beside_black) e, ap (λ z. z.beside_white) e))))))
+    (Decides-and _ _ (Decides-eqb x.row y.row) (Decides-and _ _ (Decides-eqb x.column y.column)
+    (Decides-and _ _ (booleans_Decides x.black y.black) (Decides-and _ _ (booleans_Decides x.white y.white)
+    (Decides-and _ _ (booleans_Decides x.beside_black y.beside_black) (booleans_Decides x.beside_white y.beside_white))))))
+
+pub same_spots : (xs ys : List Spot) → Decides (pointwise (λ x y. nat_eq x.row y.row && (nat_eq x.column y.column && (beq x.black y.black
+    && (beq x.white y.white && (beq x.beside_black y.beside_black && beq x.beside_white y.beside_white))))) xs ys) (xs ≡ ys)
+same_spots = pointwise_decides same_spot
