@@ -1,4 +1,4 @@
-use Rattle.std.proofs.Common.{IsTrue, sym, subst, ◌≡◌}
+use Rattle.std.proofs.Common.{sym, ◌∙◌}
 use Rattle.region_book.proofs.SpotLaws.{same_spots}
 use Rattle.endgame_solver.proofs.sharing.is_same.Goals as goal
 
