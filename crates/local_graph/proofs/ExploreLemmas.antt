@@ -1,6 +1,5 @@
 -- Exploring the reachable positions.
-use Rattle.std.proofs.Common.{◌≡◌, ◌≢◌, ℕ, ◌^◌, ◌<◌, ◌≤◌, inl, inr, suc, zero, arith, refl, sym, ap, ◌∙◌, List, [], ◌∷◌, ◌++◌, map, length, get_or, subst, length-append, Ok, Err, Some, None, slice_get, Vec}
-use Rattle.std.specs.Global.{Global}
+use Rattle.std.proofs.Common.{◌≡◌, ◌≢◌, ℕ, ◌^◌, ◌<◌, ◌≤◌, inl, inr, suc, zero, arith, refl, sym, ap, ◌∙◌, List, [], ◌∷◌, ◌++◌, map, length, get_or, subst, length-append, Ok, Err, Some, None, slice_get}
 use Rattle.std.proofs.lemmas.Option.{slice_get_within, get_or_from_slice_get, slice_get-get_or}
 use Rattle.std.specs.List.{AllPairs, Contains}
 use Rattle.std.proofs.lemmas.Bool.{cases_eq, cases_lt}
@@ -163,15 +162,15 @@ too_many touch opening limit ns all once many =
     }
 
 pub explore_err : (touch : List Touch) (opening : List Cell) (limit : ℕ) (positions after : List ℕ) (edges : List (List Edge))
-    (cells : List Cell) (moves : List LocalMove) (e : GraphError) → Exploring touch opening limit positions edges
-    → IsReachable touch opening cells → ListsMoves touch cells moves → EdgesFor positions moves limit after (Err e)
+    (cells : List Cell) (moves : List LocalMove) (es : List Edge) (e : GraphError) → Exploring touch opening limit positions edges
+    → IsReachable touch opening cells → ListsMoves touch cells moves → EdgesFor positions moves limit after es (Err e)
     → Explored touch opening limit after (Err e)
-explore_err touch opening limit positions after edges cells moves Positions s here lists x =
+explore_err touch opening limit positions after edges cells moves es Positions s here lists x =
     too_many touch opening limit after
     (reachable_more touch opening positions after cells moves s.reachable x.0 here lists) x.0.once x.1
-explore_err touch opening limit positions after edges cells moves (Points n) s here lists x = absurd x
-explore_err touch opening limit positions after edges cells moves (Cycle ms back) s here lists x = absurd x
-explore_err touch opening limit positions after edges cells moves (Memory e) s here lists x = tt
+explore_err touch opening limit positions after edges cells moves es (Points n) s here lists x = absurd x
+explore_err touch opening limit positions after edges cells moves es (Cycle ms back) s here lists x = absurd x
+explore_err touch opening limit positions after edges cells moves es (Memory e) s here lists x = tt
 
 pub start_err : (touch : List Touch) (opening : List Cell) (limit start : ℕ) (after : List ℕ) (e : GraphError) → start ≡ pack opening
     → Placed [] start limit after (Err e) → Explored touch opening limit after (Err e)
@@ -269,21 +268,21 @@ next_valid touch opening positions i n places w long =
     (w.cells, w.long ∙ long, w.packed)
 
 pub explored_more : (touch : List Touch) (opening : List Cell) (limit : ℕ) (positions after : List ℕ) (all all' : List (List Edge))
-    (i n : ℕ) (moves : List LocalMove) (es : Vec Edge Global) (edges : List Edge) → Exploring touch opening limit positions all
+    (i n : ℕ) (moves : List LocalMove) (es edges : List Edge) (done : Unit {0}) → Exploring touch opening limit positions all
     → i ≡ length all → (w : IsNext touch opening positions i n) → ListsMoves touch w.cells moves
-    → EdgesFor positions moves limit after (Ok es) → edges ≡ es.items → all' ≡ all ++ edges ∷ [] → Exploring touch opening limit after all'
-explored_more touch opening limit positions after all all' i n moves es edges s at w lists x same is =
+    → EdgesFor positions moves limit after es (Ok done) → edges ≡ es → all' ≡ all ++ edges ∷ [] → Exploring touch opening limit after all'
+explored_more touch opening limit positions after all all' i n moves es edges done s at w lists x same is =
     let here : get_or positions (length all) 0 ≡ pack w.cells = ap (λ k. get_or positions k 0) (sym at) ∙ w.at ∙ w.packed in
-    let step = explore_step touch opening limit positions after all w.cells moves es.items s (omega (arith, w.inside)) w.reach here
+    let step = explore_step touch opening limit positions after all w.cells moves es s (omega (arith, w.inside)) w.reach here
     lists x.0 x.1 x.2 in
     subst (Exploring touch opening limit after) (sym (is ∙ ap (λ l. all ++ l ∷ []) same)) step
 
 pub explored_fails : (touch : List Touch) (opening : List Cell) (limit : ℕ) (positions after : List ℕ) (all : List (List Edge))
-    (i n : ℕ) (moves : List LocalMove) (e : GraphError) → Exploring touch opening limit positions all
+    (i n : ℕ) (moves : List LocalMove) (es : List Edge) (e : GraphError) → Exploring touch opening limit positions all
     → (w : IsNext touch opening positions i n) → ListsMoves touch w.cells moves
-    → EdgesFor positions moves limit after (Err e) → Explored touch opening limit after (Err e)
-explored_fails touch opening limit positions after all i n moves e s w lists x =
-    explore_err touch opening limit positions after all w.cells moves e s w.reach lists x
+    → EdgesFor positions moves limit after es (Err e) → Explored touch opening limit after (Err e)
+explored_fails touch opening limit positions after all i n moves es e s w lists x =
+    explore_err touch opening limit positions after all w.cells moves es e s w.reach lists x
 
 pub explored_all : (touch : List Touch) (opening : List Cell) (limit : ℕ) (positions : List ℕ) (all : List (List Edge))
     → Exploring touch opening limit positions all → length positions ≤ length all

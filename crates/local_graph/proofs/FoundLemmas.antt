@@ -147,7 +147,7 @@ linking_all before moves limit after edges i s e = linking_end before moves limi
 -- too many positions at one move are too many at the list
 pub linking_err : (before between after : List ℕ) (moves : List LocalMove) (limit i : ℕ) (edges : List Edge) (m : LocalMove) (e : GraphError)
     → Linking before moves limit between edges i → i < length moves → get_or moves i m ≡ m
-    → Placed between m.next limit after (Err e) → EdgesFor before moves limit after (Err e)
+    → Placed between m.next limit after (Err e) → EdgesFor before moves limit after edges (Err e)
 linking_err before between after moves limit i edges m Positions s lt at p =
     (extends_grows before between after moves m s.extends (i, lt, at) p.0, p.1)
 linking_err before between after moves limit i edges m (Points n) s lt at p = absurd p

@@ -1,6 +1,5 @@
 -- What exploring keeps: the positions found so far, as numbers, and their edges.
-use Rattle.std.specs.Prelude.{◌≡◌, ◌≢◌, ℕ, ◌<◌, ◌≤◌, ◌⊎◌, List, [], ◌∷◌, ◌++◌, length, slice_index, Contains, Result, Ok, Err, Vec}
-use Rattle.std.specs.Global.{Global}
+use Rattle.std.specs.Prelude.{◌≡◌, ◌≢◌, ℕ, ◌<◌, ◌≤◌, ◌⊎◌, List, [], ◌∷◌, ◌++◌, length, slice_index, Contains, Result, Ok, Err}
 use Rattle.std.specs.List.{AllPairs}
 use Rattle.go_grid.specs.declared.grid.Cell.{Cell}
 use Rattle.go_grid.specs.declared.region.Touch.{Touch}
@@ -30,12 +29,13 @@ pub record Extends (before : List ℕ) (moves : List LocalMove) (after : List �
   pub once : AllPairs (λ a b. a ≢ b) after
 
 -- the edges of the moves, or that there are more positions than the limit
-abbrev pub EdgesFor : List ℕ → List LocalMove → ℕ → List ℕ → Result (Vec Edge Global) GraphError → Type 0
-EdgesFor before moves limit after (Ok edges) = Extends before moves after × AreEdges after moves edges.items × (length after ≤ limit)
-EdgesFor before moves limit after (Err Positions) = Extends before moves after × (limit < length after)
-EdgesFor before moves limit after (Err (Points p)) = ⊥
-EdgesFor before moves limit after (Err (Cycle ms back)) = ⊥
-EdgesFor before moves limit after (Err (Memory e)) = Unit {0}
+abbrev pub EdgesFor : List ℕ → List LocalMove → ℕ → List ℕ → List Edge → Result (Unit {0}) GraphError → Type 0
+EdgesFor before moves limit after edges (Ok done) =
+    Extends before moves after × AreEdges after moves edges × (length after ≤ limit)
+EdgesFor before moves limit after edges (Err Positions) = Extends before moves after × (limit < length after)
+EdgesFor before moves limit after edges (Err (Points p)) = ⊥
+EdgesFor before moves limit after edges (Err (Cycle ms back)) = ⊥
+EdgesFor before moves limit after edges (Err (Memory e)) = Unit {0}
 
 -- the whole graph, or that more positions are reachable than the limit
 abbrev pub Explored : List Touch → List Cell → ℕ → List ℕ → Result (List (List Edge)) GraphError → Type 0

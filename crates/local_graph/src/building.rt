@@ -12,7 +12,7 @@ use crate::graph::{Edge, Graph};
 use crate::search::{Searched, search_from_opening};
 use go_grid::Region;
 use indexmap::IndexSet;
-use local_play::{Local, LocalMove, Steps, expand, start};
+use local_play::{Links, Local, LocalMove, Steps, list_moves, start};
 use std::alloc::{AllocError, AllocFailed, Global};
 use std::sync::ledger::Ledger;
 
@@ -66,18 +66,18 @@ fn place_of(positions: &mut IndexSet<u64>, position: Local, limit: u32) -> Resul
     }
 }
 
-/// The edges of a position's moves.
-fn edges_of(
-    alloc: Global,
+/// Makes the list that of the edges of a position's moves.
+fn list_edges(
     positions: &mut IndexSet<u64>,
     moves: &[LocalMove],
     limit: u32,
-) -> Result<Vec<Edge>, GraphError>
+    edges: &mut Vec<Edge>,
+) -> Result<(), GraphError>
     requires once { AllPairs (λ a b. a ≢ b) positions.old.keys }
     requires few { length positions.old.keys ≤ limit }
-    ensures { EdgesFor positions.old.keys moves.now limit positions.new.keys result }
+    ensures { EdgesFor positions.old.keys moves.now limit positions.new.keys edges.new.items result }
 {
-    let mut edges = Vec::with_capacity(alloc, moves.len())?;
+    edges.clear();
     for step in moves {
         let next = place_of(positions, step.next, limit)?;
         edges.push(Edge {
@@ -87,7 +87,7 @@ fn edges_of(
             taken: step.taken,
         })?;
     }
-    Ok(edges)
+    Ok(())
 }
 
 /// All positions that are reachable, and their moves.
@@ -106,9 +106,12 @@ pub(crate) fn explore<L: Ledger>(
 {
     let mut all = EdgeLists::new(alloc);
     place_of(positions, start(region), limit)?;
+    let links = Links::of(region);
+    let mut moves = Vec::new(alloc);
+    let mut edges = Vec::new(alloc);
     'exploring: while let Some(position) = positions.get_index(all.len()) {
-        let moves = expand(alloc, region, Local(*position), steps)?;
-        let edges = edges_of(alloc, positions, &moves, limit)?;
+        list_moves(&links, Local(*position), steps, &mut moves)?;
+        list_edges(positions, &moves, limit, &mut edges)?;
         all.push(&edges)?;
     }
     Ok(all)

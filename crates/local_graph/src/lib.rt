@@ -11,6 +11,8 @@ mod cycle_tests;
 #[cfg(test)]
 mod drawn;
 mod edge_lists;
+#[cfg(test)]
+mod expand_tests;
 mod graph;
 mod laws;
 mod returning;

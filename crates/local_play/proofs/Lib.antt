@@ -1,4 +1,9 @@
 pub mod PackLemmas
-pub mod SpreadLemmas
+pub mod BitLemmas
+pub mod PackBits
+pub mod SetLemmas
+pub mod LinkLemmas
+pub mod LastingLemmas
+pub mod JudgingLemmas
 pub mod MoveLemmas
-pub mod ExpandLemmas
+pub mod ListLemmas

@@ -1,5 +1,6 @@
 pub mod LocalPlay
 pub mod Packed
-pub mod Spread
-pub mod Tried
+pub mod Places
+pub mod Links
 pub mod Moves
+pub mod Lasting

@@ -1,40 +1,56 @@
 //! All local moves of a position.
 
-ghost use Rattle.std.specs.Prelude.{◌≡◌, ℕ, ◌+◌, ◌<◌, ◌≤◌, List, length, IfOk, OnOk, [], ◌∷◌, ◌++◌};
+ghost use Rattle.std.specs.Prelude.{◌≡◌, ℕ, ◌+◌, ◌≤◌, List, length, IfOk, OnOk};
 ghost use Rattle.go_grid.specs.declared.grid.Cell.{Cell};
-ghost use Rattle.local_play.specs.Packed.{pack, IsUnpacked};
+ghost use Rattle.go_grid.specs.declared.region.Touch.{Touch};
+ghost use Rattle.local_play.specs.Packed.{pack};
 ghost use Rattle.local_play.specs.Moves.{ListsMoves, IsPosition};
-ghost use Rattle.local_play.specs.Spread.{LinksWithin};
-ghost use Rattle.local_play.specs.Tried.{AddsMoves};
+ghost use Rattle.local_play.specs.Links.{IsTable};
+ghost use Rattle.local_play.specs.Lasting.{IsTurn, AddsMoves};
 
+use crate::links::Links;
 use crate::local::Local;
-use crate::local_move::{LocalMove, try_stone};
-use crate::places::Cells;
+use crate::local_move::{LocalMove, Turn};
+use crate::places::Places;
 use crate::steps::Steps;
-use go_grid::{Colour, Region, Touch};
+use go_grid::Region;
 use std::alloc::{AllocError, Global};
 use std::sync::ledger::Ledger;
 
 /// Adds the moves of a colour, by place.
-fn add_moves(
-    touch: &[Touch],
-    cells: &Cells,
-    colour: Colour,
-    moves: &mut Vec<LocalMove>,
-) -> Result<(), AllocError>
-    requires { LinksWithin touch.now }
-    ensures { OnOk result (AddsMoves touch.now cells.now colour moves.old.items moves.new.items) }
+fn add_moves(links: &Links, turn: &Turn, moves: &mut Vec<LocalMove>) -> Result<(), AllocError>
+    ensures { (touch : List Touch) (cells : List Cell) → IsTable touch links.now
+        → IsTurn touch cells turn.now
+        → OnOk result (AddsMoves touch cells turn.now.colour moves.old.items moves.new.items) }
 {
-    for place in 0..touch.len() {
-        if let Some(after) = try_stone(touch, cells, place, colour) {
-            moves.push(LocalMove {
-                colour,
-                place: place as u8,
-                next: Local::of(&after.cells[..touch.len()]),
-                taken: after.taken,
-            })?;
+    let mut rest = turn.empty;
+    'placing: while let Some(place) = rest.first() {
+        rest = rest.without(Places::of(place));
+        if let Some(found) = turn.try_stone(links, place) {
+            moves.push(found)?;
         }
     }
+    Ok(())
+}
+
+/// Makes the list that of all legal local moves of a position of the region that the links are of: Black's by place and
+/// then White's. It takes one step.
+pub fn list_moves<L: Ledger>(
+    links: &Links,
+    from: Local,
+    steps: &mut Steps<L>,
+    moves: &mut Vec<LocalMove>,
+) -> Result<(), AllocError>
+    ensures moves { (touch : List Touch) (cells : List Cell) → IsTable touch links.now
+        → length cells ≡ length touch → from ≡ pack cells
+        → OnOk result (ListsMoves touch cells moves.new.items) }
+    ensures step { steps.new ≡ steps.old + 1 }
+{
+    steps.tick();
+    moves.clear();
+    let black = Turn::of(links, from);
+    add_moves(links, &black, moves)?;
+    add_moves(links, &black.other(), moves)?;
     Ok(())
 }
 
@@ -52,11 +68,7 @@ pub fn expand<L: Ledger>(
         → IfOk result (λ moves. ListsMoves region.now.touch cells moves.items) }
     ensures step { steps.new ≡ steps.old + 1 }
 {
-    steps.tick();
-    let shape = region;
-    let cells = from.cells();
     let mut moves = Vec::new(alloc);
-    add_moves(&shape.touch, &cells, Colour::Black, &mut moves)?;
-    add_moves(&shape.touch, &cells, Colour::White, &mut moves)?;
+    list_moves(&Links::of(region), from, steps, &mut moves)?;
     Ok(moves)
 }

@@ -2,14 +2,16 @@
 //! decided by the region alone.
 #![tactic(auto)]
 
-mod chains;
 mod expanding;
+mod links;
 mod local;
 mod local_move;
 mod places;
+mod sides;
 mod steps;
 
-pub use expanding::expand;
+pub use expanding::{expand, list_moves};
+pub use links::Links;
 pub use local::{Local, start};
 pub use local_move::LocalMove;
 pub use places::Cells;

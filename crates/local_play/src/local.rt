@@ -1,12 +1,14 @@
 //! Local positions as numbers.
 
-ghost use Rattle.std.specs.Prelude.{◌≡◌, ℕ, ◌+◌, ◌*◌, ◌<◌, ◌≤◌, ◌^◌, List, length, take};
+ghost use Rattle.std.specs.Prelude.{◌≡◌, ℕ, ◌+◌, ◌*◌, ◌<◌, ◌≤◌, ◌↔◌, List, length};
 ghost use Rattle.go_grid.specs.declared.grid.Cell.{Cell};
-ghost use Rattle.local_play.specs.LocalPlay.{held_at};
-ghost use Rattle.local_play.specs.Packed.{code, pack, IsUnpacked};
+ghost use Rattle.go_grid.specs.declared.grid.Cell.TheVariants.{Empty};
+ghost use Rattle.local_play.specs.LocalPlay.{Holds, held_at, with_stone};
+ghost use Rattle.local_play.specs.Packed.{code, pack, IsUnpacked, cleared};
+ghost use Rattle.local_play.specs.Places.{Has};
 
-use crate::places::Cells;
-use go_grid::{Cell, Region};
+use crate::places::{Cells, Places};
+use go_grid::{Cell, Colour, Region};
 use std::hash::Hash;
 use std::marker::Model;
 
@@ -65,6 +67,40 @@ impl Local {
         ensures { result ≡ pack cells.now }
     {
         Local(pack(cells))
+    }
+
+    /// The stones of a colour. What the set says of places past the region's is that they hold none.
+    pub(crate) fn stones(self, colour: Colour) -> Places
+        ensures { (cells : List Cell) → self ≡ pack cells → (q : ℕ)
+            → Has result q ↔ Holds cells colour q }
+    {
+        match colour {
+            Colour::Black => Places(self.0),
+            Colour::White => Places(self.0 >> 1),
+        }
+    }
+
+    /// The position with a stone more.
+    pub(crate) fn with_stone(self, place: usize, colour: Colour) -> Local
+        requires { place < 32 }
+        ensures { (cells : List Cell) → self ≡ pack cells → place < length cells
+            → held_at cells place ≡ Empty → result ≡ pack (with_stone cells place colour) }
+    {
+        match colour {
+            Colour::Black => Local(self.0 | 1 << (2 * place)),
+            Colour::White => Local(self.0 | 2 << (2 * place)),
+        }
+    }
+
+    /// The position without the stones of a colour on the places of a set.
+    pub(crate) fn without(self, colour: Colour, gone: Places) -> Local
+        ensures { (cells : List Cell) → self ≡ pack cells
+            → ((q : ℕ) → Has gone q → Holds cells colour q) → result ≡ pack (cleared gone.0 cells) }
+    {
+        match colour {
+            Colour::Black => Local(self.0 & !gone.alone()),
+            Colour::White => Local(self.0 & !(gone.alone() << 1)),
+        }
     }
 
     /// What each place holds. Places past the region's are empty.

@@ -1,16 +1,20 @@
 //! One local move.
 
-ghost use Rattle.std.specs.Prelude.{◌≡◌, ℕ, ◌+◌, ◌<◌, ◌≤◌, ◌⊎◌, List, Bool, true, false, Some, length, count_by, MatchOption};
+ghost use Rattle.std.specs.Prelude.{◌≡◌, ℕ, ◌<◌, ◌⊎◌, ◌↔◌, List, length, true};
+ghost use Rattle.go_grid.specs.declared.grid.Cell.{Cell};
+ghost use Rattle.go_grid.specs.declared.region.Touch.{Touch};
+ghost use Rattle.go_grid.specs.declared.grid.Colour.TheVariants.{Black};
 ghost use Rattle.go_grid.specs.Grid.{other};
-ghost use Rattle.go_grid.specs.Marks.{IsMarked, Marks};
-ghost use Rattle.local_play.specs.LocalPlay.{held_at, with_stone, IsRemoved, IsFree, is_stone};
-ghost use Rattle.local_play.specs.Spread.{LinksWithin};
-ghost use Rattle.local_play.specs.Tried.{IsAfter, IsTried, RemovesThrough, IsLessBy};
+ghost use Rattle.local_play.specs.Packed.{pack};
+ghost use Rattle.local_play.specs.Places.{Has};
+ghost use Rattle.local_play.specs.Links.{IsTable};
+ghost use Rattle.local_play.specs.Lasting.{CanStand, IsTurn, IsTried};
 
-use crate::chains::choked;
+use crate::links::Links;
 use crate::local::Local;
-use crate::places::{Cells, Places, no_places, stone};
-use go_grid::{Cell, Colour, Touch};
+use crate::places::Places;
+use crate::sides::Side;
+use go_grid::Colour;
 
 /// A legal local move: whose it is, its place in the region, the position after it, and the number of stones taken.
 #[derive(Clone, Copy)]
@@ -21,96 +25,88 @@ pub struct LocalMove {
     pub taken: u8,
 }
 
-/// What a legal move leaves.
+/// The position that a stone is placed in, as its colour sees it.
 #[derive(Clone, Copy)]
-pub struct After {
-    pub cells: Cells,
-    pub taken: u8,
+pub struct Turn {
+    pub from: Local,
+    pub colour: Colour,
+    pub empty: Places,
+    pub own: Side,
+    pub foe: Side,
 }
 
-/// The places of either set.
-fn union(a: &Places, b: &Places) -> Places
-    ensures { Marks result (λ q. IsMarked a.now q ⊎ IsMarked b.now q) }
-{
-    let mut both = no_places();
-    for place in 0..32usize {
-        both[place] = a[place] | b[place];
-    }
-    both
-}
-
-/// Adds the chain of a linked place to the removed stones, where it is of the colour and isn't free.
-fn remove_through(
-    touch: &[Touch],
-    cells: &Cells,
-    colour: Colour,
-    link: Option<u16>,
-    removed: &Places,
-) -> Places
-    requires within { LinksWithin touch.now }
-    requires link { (j : ℕ) → link ≡ Some j → j < length touch.now }
-    ensures { Marks result (λ q. IsMarked removed.now q ⊎ RemovesThrough touch.now cells.now colour link q) }
-{
-    let Some(number) = link else {
-        return *removed;
-    };
-    let place = usize::from(number);
-    if !cells[place].is(stone(colour)) {
-        return *removed;
-    }
-    match choked(touch, cells, colour, place) {
-        None => *removed,
-        Some(chain) => union(removed, &chain),
-    }
-}
-
-/// The stones of the colour that a stone at a place removes.
-fn removed(touch: &[Touch], cells: &Cells, place: usize, colour: Colour) -> Places
-    requires within { LinksWithin touch.now }
-    requires place { place < length touch.now }
-    ensures { Marks result (IsRemoved touch.now cells.now place colour) }
-{
-    let near = touch[place];
-    let up = remove_through(touch, cells, colour, near.up, &no_places());
-    let left = remove_through(touch, cells, colour, near.left, &up);
-    let right = remove_through(touch, cells, colour, near.right, &left);
-    remove_through(touch, cells, colour, near.down, &right)
-}
-
-/// The position without the stones of a set, and how many it had.
-fn without(cells: &Cells, removed: &Places) -> After
-    ensures cells { IsAfter cells.now removed.now result.cells }
-    ensures taken { IsLessBy cells.now result.cells removed.now result.taken }
-{
-    let mut after = *cells;
-    let mut taken = 0;
-    for place in 0..32usize {
-        if removed[place] {
-            after[place] = Cell::Empty;
-            taken += 1;
+impl Turn {
+    /// Black's turn in a position.
+    pub fn of(links: &Links, from: Local) -> Turn
+        ensures black { result.colour ≡ Black }
+        ensures turn { (touch : List Touch) (cells : List Cell) → IsTable touch links.now
+            → length cells ≡ length touch → from ≡ pack cells → IsTurn touch cells result }
+    {
+        let black = from.stones(Colour::Black);
+        let white = from.stones(Colour::White);
+        let empty = links.all().without(black.union(white));
+        Turn {
+            from,
+            colour: Colour::Black,
+            empty,
+            own: Side::of(links, from, Colour::Black, empty),
+            foe: Side::of(links, from, Colour::White, empty),
         }
     }
-    After {
-        cells: after,
-        taken,
-    }
-}
 
-/// What a stone of the colour at a place leaves, where it is legal.
-pub fn try_stone(touch: &[Touch], cells: &Cells, place: usize, colour: Colour) -> Option<After>
-    requires within { LinksWithin touch.now }
-    requires place { place < length touch.now }
-    ensures { IsTried touch.now cells.now place colour result }
-{
-    if !cells[place].is(Cell::Empty) {
-        return None;
+    /// The other colour's turn in the same position.
+    pub fn other(&self) -> Turn
+        ensures colour { result.colour ≡ other self.now.colour }
+        ensures turn { (touch : List Touch) (cells : List Cell) → IsTurn touch cells self.now
+            → IsTurn touch cells result }
+    {
+        Turn {
+            from: self.from,
+            colour: self.colour.other(),
+            empty: self.empty,
+            own: self.foe,
+            foe: self.own,
+        }
     }
-    let mut with_stone = *cells;
-    with_stone[place] = stone(colour);
-    let removed = removed(touch, &with_stone, place, colour.other());
-    let after = without(&with_stone, &removed);
-    match choked(touch, &after.cells, colour, place) {
-        None => Some(after),
-        Some(_) => None,
+
+    /// Whether a stone at an empty place that takes nothing has a liberty, or joins a chain that lasts.
+    fn stands(&self, near: Places, place: usize) -> bool
+        requires { place < 32 }
+        ensures { (result ≡ true) ↔ CanStand self.now near place }
+    {
+        let support = self.empty.union(self.own.lasting);
+        if !near.intersection(support).is_empty() {
+            return true;
+        }
+        !self.own.beside.intersection(Places::of(place)).is_empty()
+    }
+
+    /// The move at an empty place, where it is legal.
+    pub fn try_stone(&self, links: &Links, place: usize) -> Option<LocalMove>
+        requires small { place < 32 }
+        ensures { (touch : List Touch) (cells : List Cell) → IsTable touch links.now
+            → IsTurn touch cells self.now → Has self.now.empty place → IsTried touch cells place self.now.colour result }
+    {
+        let near = links.near(place);
+        let taken = near.intersection(self.foe.stones.without(self.foe.lasting));
+        let next = self.from.with_stone(place, self.colour);
+        if taken.is_empty() {
+            if !self.stands(near, place) {
+                return None;
+            }
+            return Some(LocalMove {
+                colour: self.colour,
+                place: place as u8,
+                next,
+                taken: 0,
+            });
+        }
+        let gone = links.flood(taken, self.foe.stones).places;
+        Some(LocalMove {
+            colour: self.colour,
+            place: place as u8,
+            next: next.without(self.colour.other(), gone),
+            taken: gone.count(),
+        })
     }
 }

@@ -1,7 +1,7 @@
 use Rattle.std.proofs.Common.{arith, ap, sym, ◌∙◌, ◌≡◌, length}
 use Rattle.std.proofs.lemmas.Result.{err_from_is_err_and}
 use Rattle.std.proofs.lemmas.List.{length_push}
-use Rattle.local_graph.proofs.ExploreLemmas.{start_fails, start_found, next_position, next_valid, explored_more, explored_fails, explored_all, none_left, few_numbers}
+use Rattle.local_graph.proofs.ExploreLemmas.{start_fails, start_found, next_position, explored_more, explored_fails, explored_all, none_left, few_numbers}
 use Rattle.local_graph.proofs.building.explore.Goals as goal
 
 pub returns-in_err-place_of-clause-graph : goal.returns-in_err-place_of-clause-graph
@@ -10,31 +10,28 @@ returns-in_err-place_of-clause-graph g c =
     rw (p.1, p.2)
     (start_fails _ _ _ _ _ _ _ c.requires.none c.start.ensures.packed c.in_err-place_of.ensures)
 
-pub expand-requires-clause-from : goal.expand-requires-clause-from
-expand-requires-clause-from g c =
+pub returns-in_err-list_edges-clause-graph : goal.returns-in_err-list_edges-clause-graph
+returns-in_err-list_edges-clause-graph g c =
     let next = next_position c.args.region.now.touch c.args.region.now.cells c.args.limit c.exploring.positions.keys c.exploring.all c.len.result c.in-Some.position.now c.exploring.invariant.so_far (sym c.in-Some.ensures.key) in
-    next_valid _ _ _ _ _ (length c.args.region.now.points) next c.start.ensures.full
-
-pub returns-in_err-edges-clause-graph : goal.returns-in_err-edges-clause-graph
-returns-in_err-edges-clause-graph g c =
-    let next = next_position c.args.region.now.touch c.args.region.now.cells c.args.limit c.exploring.positions.keys c.exploring.all c.len.result c.in-Some.position.now c.exploring.invariant.so_far (sym c.in-Some.ensures.key) in
-    let moves = c.in_ok-moves.ensures.moves next.cells (next.long ∙ c.start.ensures.full) next.packed in
-    let p = err_from_is_err_and c.from_residual-in_err-edges.result c.from_residual-in_err-edges.ensures.1 in
+    let full = next.long ∙ c.start.ensures.full ∙ sym c.of-links.ensures.full in
+    let moves = c.in_ok-list_moves.ensures.moves c.args.region.now.touch next.cells c.of-links.ensures.table full next.packed in
+    let p = err_from_is_err_and c.from_residual-in_err-list_edges.result c.from_residual-in_err-list_edges.ensures.1 in
     rw (p.1, p.2)
-    (explored_fails _ _ _ _ _ c.exploring.all _ _ c.deref.result.now _ c.exploring.invariant.so_far next
-    (rw c.deref.ensures.value moves) c.in_err-edges.ensures)
+    (explored_fails _ _ _ _ _ c.exploring.all _ _ c.deref.result.now c.list_edges.new.edges.items _ c.exploring.invariant.so_far next
+    (rw c.deref.ensures.value moves) c.in_err-list_edges.ensures)
 
 pub exploring-preserved : goal.exploring-preserved
 exploring-preserved g c =
     let next = next_position c.args.region.now.touch c.args.region.now.cells c.args.limit c.exploring.positions.keys c.exploring.all c.len.result c.in-Some.position.now c.exploring.invariant.so_far (sym c.in-Some.ensures.key) in
-    let moves = c.in_ok-moves.ensures.moves next.cells (next.long ∙ c.start.ensures.full) next.packed in
+    let full = next.long ∙ c.start.ensures.full ∙ sym c.of-links.ensures.full in
+    let moves = c.in_ok-list_moves.ensures.moves c.args.region.now.touch next.cells c.of-links.ensures.table full next.packed in
     let at : c.len.result ≡ length c.exploring.all = omega (arith, c.len.ensures) in
-    let more = explored_more c.args.region.now.touch c.args.region.now.cells c.args.limit _ _ c.exploring.all c.push.new.self _ _ c.deref.result.now c.in_ok-edges.edges c.deref-in-Some.result.now
-    c.exploring.invariant.so_far at next (rw c.deref.ensures.value moves) c.in_ok-edges.ensures c.deref-in-Some.ensures.value c.in_ok-push.ensures.ok in
+    let more = explored_more c.args.region.now.touch c.args.region.now.cells c.args.limit _ _ c.exploring.all c.push.new.self _ _ c.deref.result.now c.list_edges.new.edges.items c.deref-in-Some.result.now
+    c.in_ok-list_edges.field-0 c.exploring.invariant.so_far at next (rw c.deref.ensures.value moves) c.in_ok-list_edges.ensures c.deref-in-Some.ensures.value c.in_ok-push.ensures.ok in
     record {
       so_far = more;
       fewer = few_numbers c.args.region.now.touch c.args.region.now.cells c.args.limit (length c.args.region.now.points) _ _ more c.start.ensures.full;
-      counted = omega (arith, c.in_ok-moves.ensures.step, c.exploring.invariant.counted, ap length c.in_ok-push.ensures.ok, length_push c.exploring.all c.deref-in-Some.result.now);
+      counted = omega (arith, c.in_ok-list_moves.ensures.step, c.exploring.invariant.counted, ap length c.in_ok-push.ensures.ok, length_push c.exploring.all c.deref-in-Some.result.now);
     }
 
 pub returns-clause-graph : goal.returns-clause-graph
