@@ -1,3 +1,4 @@
 pub mod Outside
 pub mod Files
 pub mod Memory
+pub mod Lines

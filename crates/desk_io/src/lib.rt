@@ -3,6 +3,7 @@
 
 mod adapters;
 mod file_shelf;
+mod lines;
 mod memory;
 mod memory_shelf;
 mod outside;
@@ -10,6 +11,7 @@ mod shelf;
 
 pub use adapters::{StdSink, StdSource};
 pub use file_shelf::FileShelf;
+pub use lines::{FoundLine, LineReader};
 pub use memory::{MemorySink, MemorySource};
 pub use memory_shelf::MemoryShelf;
 pub use outside::{Failed, Sink, Source};

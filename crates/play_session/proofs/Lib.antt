@@ -1,12 +1,10 @@
 pub mod Sides
-pub mod Pieces
 pub mod Spaces
 pub mod Trimming
 pub mod Turns
-pub mod Used
 pub mod Going
 pub mod Wins
 pub mod Named
-pub mod OneLine
+pub mod OneAsked
 pub mod OneMove
 pub mod OneText

@@ -16,7 +16,7 @@ use Rattle.play_session.specs.declared.fault.Fault.TheVariants.{Read, Write}
 use Rattle.play_session.specs.declared.session.Request.TheVariants.{Ended, Line}
 use Rattle.play_session.specs.Session.{Standing, HasMove, EngineMoves, Answers, IsToAnswer, Turn, Ends, IsNextLine, input_line}
 use Rattle.play_session.specs.Written.{SessionState, standing, TurnWritten, IsRequested}
-use Rattle.play_session.specs.Lines.{IsSameInput}
+use Rattle.desk_io.specs.Lines.{IsSameInput}
 
 pub append_none : (told : Option (List ℕ)) → told ≡ append_known told []
 append_none None = refl

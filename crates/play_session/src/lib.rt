@@ -3,7 +3,6 @@
 
 mod end;
 mod fault;
-mod input;
 mod laws;
 mod replies;
 mod reply;

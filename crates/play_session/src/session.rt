@@ -8,18 +8,18 @@ ghost use Rattle.whole_rules.specs.FirstWinningMove.{IsWinner};
 ghost use Rattle.whole_rules.specs.WholeGame.{IsFirstMove};
 ghost use Rattle.play_session.specs.declared.fault.Fault.TheVariants.{Read, Write};
 ghost use Rattle.play_session.specs.declared.end.SessionEnd.TheVariants.{Won, Lost, InputEnded, ReadFault, WriteFault};
-ghost use Rattle.play_session.specs.Lines.{IsSameInput, UsesLines};
+ghost use Rattle.desk_io.specs.Lines.{IsSameInput};
+ghost use Rattle.play_session.specs.Lines.{UsesLines};
 ghost use Rattle.play_session.specs.Session.{Answers, Chooses, EngineMoves, IsToAnswer, input_line};
 ghost use Rattle.play_session.specs.Words.{IsOnBoard};
 ghost use Rattle.play_session.specs.Written.{Causes, IsStep, IsNatural, IsPlayedTo, IsPossible, IsRequested, Played, TurnWritten, WriteCauses, standing, turns_left};
 
 use crate::end::SessionEnd;
 use crate::fault::Fault;
-use crate::input::Input;
 use crate::replies::{move_line, refusal, word_line};
 use crate::reply::Reply;
 use crate::words::asked_move;
-use desk_io::{Failed, Sink, Source};
+use desk_io::{Failed, LineReader, Sink, Source};
 use endgame_solver::Solved;
 use go_grid::{Board, Colour};
 use report::colour_word;
@@ -28,6 +28,9 @@ use whole_rules::Move;
 
 /// The most lines that a session reads.
 const MOST_LINES: usize = 10_000;
+
+/// The most bytes of a line.
+pub(crate) const MOST_BYTES: usize = 256;
 
 /// What the opponent's line asks for.
 #[derive(Drop)]
@@ -133,7 +136,7 @@ fn answer<K: Sink>(solved: &mut Solved, asked: Option<Move>, out: &mut K) -> Res
 
 /// Takes a line of the input.
 pub(crate) fn take_request<S: Source>(
-    input: &mut Input,
+    input: &mut LineReader<MOST_BYTES>,
     board: &Board,
     lines: &mut S,
 ) -> Result<Request, Failed>
@@ -158,7 +161,7 @@ pub(crate) fn take_request<S: Source>(
 pub struct Session {
     solved: Solved,
     engine: Colour,
-    input: Input,
+    input: LineReader<MOST_BYTES>,
 }
 
 impl Model for Session {
@@ -180,7 +183,7 @@ impl Session {
         Session {
             solved,
             engine,
-            input: Input::new(),
+            input: LineReader::new(),
         }
     }
 

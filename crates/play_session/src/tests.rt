@@ -1,8 +1,7 @@
 //! Lines of a source in memory.
 
-use crate::input::Input;
-use crate::session::{Request, take_request};
-use desk_io::{Failed, MemorySource, Source};
+use crate::session::{MOST_BYTES, Request, take_request};
+use desk_io::{Failed, LineReader, MemorySource, Source};
 use go_grid::{Board, Point, Size};
 use std::alloc::{AllocError, Global};
 use std::test::Fail;
@@ -41,7 +40,7 @@ fn letters(
     count: usize,
     alloc: Global,
 ) -> Result<Vec<u8>, AllocError> {
-    let mut input = Input::new();
+    let mut input: LineReader<MOST_BYTES> = LineReader::new();
     let mut letters = Vec::new(alloc);
     for _ in 0..count {
         letters.push(letter(&take_request(&mut input, board, &mut lines)))?;

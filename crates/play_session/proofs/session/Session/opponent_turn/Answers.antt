@@ -1,19 +1,19 @@
 use Rattle.std.proofs.Common.{◌+◌, ◌++◌, [], sym, ap, ◌∙◌, subst, arith, append-nil, Ok, Err, None}
 use Rattle.play_session.specs.declared.fault.Fault.TheVariants.{Read}
 use Rattle.play_session.specs.declared.session.Request.TheVariants.{Ended, Line}
-use Rattle.play_session.specs.Lines.{IsSameInput}
+use Rattle.desk_io.specs.Lines.{IsSameInput}
 use Rattle.play_session.specs.Session.{IsToAnswer}
 use Rattle.play_session.specs.Written.{SessionState, standing, TurnWritten, IsRequested, IsStep}
 use Rattle.play_session.proofs.Turns.{turn_unread, answer_written, answer_failed, input_ended}
 use Rattle.play_session.proofs.Wins.{answers_step}
-use Rattle.play_session.proofs.Pieces.{input_same}
-use Rattle.play_session.proofs.Used.{used_none}
+use Rattle.desk_io.proofs.Held.{input_same}
+use Rattle.desk_io.proofs.Used.{used_none}
 use Rattle.play_session.proofs.session.Session.opponent_turn.Goals as goal
 
 pub returns-then-read-eq-MOST_LINES-clause-used : goal.returns-then-read-eq-MOST_LINES-clause-used
 returns-then-read-eq-MOST_LINES-clause-used g c =
     let held = c.args.self.now.held in let left = g.S.Source.left c.args.lines.now in
-    used_none c.args.read.now c.args.read.now held held left left (omega arith) (input_same held left)
+    used_none 256 c.args.read.now c.args.read.now held held left left (omega arith) (input_same held left)
 
 pub returns-in-Ok-Ended-clause-used : goal.returns-in-Ok-Ended-clause-used
 returns-in-Ok-Ended-clause-used g c = λ bytes e.

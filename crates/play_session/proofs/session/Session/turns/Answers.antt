@@ -2,24 +2,24 @@ use Rattle.std.proofs.Common.{refl, sym, ◌∙◌, subst, arith, le_refl, le_tr
 use Rattle.whole_rules.specs.FirstWinningMove.{IsWinner}
 use Rattle.play_session.specs.Written.{standing, TurnWritten}
 use Rattle.play_session.proofs.Going.{going_start, going_turn, going_ended, going_failed}
-use Rattle.play_session.proofs.Used.{used_most, used_none, used_then}
-use Rattle.play_session.proofs.Pieces.{input_same}
+use Rattle.desk_io.proofs.Used.{used_most, used_none, used_then}
+use Rattle.desk_io.proofs.Held.{input_same}
 use Rattle.play_session.proofs.session.Session.turns.Goals as goal
 
 pub turns-init : goal.turns-init
 turns-init g c =
     let left = g.S.Source.left c.args.lines.now in
-    (going_start c.args.self.now left (g.K.Sink.holds c.args.out.now), refl, (λ w. w), omega arith, le_refl _, le_refl _, used_none 0 0 c.args.self.now.held c.args.self.now.held left left (omega arith) (input_same c.args.self.now.held left))
+    (going_start c.args.self.now left (g.K.Sink.holds c.args.out.now), refl, (λ w. w), omega arith, le_refl _, le_refl _, used_none 256 0 0 c.args.self.now.held c.args.self.now.held left left (omega arith) (input_same c.args.self.now.held left))
 
 pub returns-in-Err-clause-used : goal.returns-in-Err-clause-used
 returns-in-Err-clause-used g c =
     let start = c.args.self.now in let at = c.turns in let new = c.turn.new.self in let before = g.S.Source.left c.args.lines.now in let left' = g.S.Source.left c.turn.new.lines in
-    used_most c.turn.new.read 10000 start.held new.held before left' c.turn.ensures.few_read (used_then 0 at.read c.turn.new.read start.held at.self.held new.held before (g.S.Source.left at.lines) left' at.invariant.6 c.turn.ensures.used)
+    used_most 256 c.turn.new.read 10000 start.held new.held before left' c.turn.ensures.few_read (used_then 256 0 at.read c.turn.new.read start.held at.self.held new.held before (g.S.Source.left at.lines) left' at.invariant.6 c.turn.ensures.used)
 
 pub returns-in-Ok-Some-clause-used : goal.returns-in-Ok-Some-clause-used
 returns-in-Ok-Some-clause-used g c =
     let start = c.args.self.now in let at = c.turns in let new = c.turn.new.self in let before = g.S.Source.left c.args.lines.now in let left' = g.S.Source.left c.turn.new.lines in
-    used_most c.turn.new.read 10000 start.held new.held before left' c.turn.ensures.few_read (used_then 0 at.read c.turn.new.read start.held at.self.held new.held before (g.S.Source.left at.lines) left' at.invariant.6 c.turn.ensures.used)
+    used_most 256 c.turn.new.read 10000 start.held new.held before left' c.turn.ensures.few_read (used_then 256 0 at.read c.turn.new.read start.held at.self.held new.held before (g.S.Source.left at.lines) left' at.invariant.6 c.turn.ensures.used)
 
 pub returns-in-Err-clause-written : goal.returns-in-Err-clause-written
 returns-in-Err-clause-written g c =
@@ -50,5 +50,5 @@ turns-preserved g c =
       c.turn.ensures.few_read,
       le_trans inv.4 c.turn.ensures.cause.reads_later,
       le_trans inv.5 c.turn.ensures.cause.writes_later,
-      used_then 0 at.read c.turn.new.read start.held at.self.held new.held (g.S.Source.left c.args.lines.now) left left' inv.6 c.turn.ensures.used,
+      used_then 256 0 at.read c.turn.new.read start.held at.self.held new.held (g.S.Source.left c.args.lines.now) left left' inv.6 c.turn.ensures.used,
     )

@@ -1,46 +1,44 @@
 //! Lines out of a source that is read in pieces.
 
 ghost use Rattle.std.specs.Prelude.{◌≡◌, ◌+◌, ◌<◌, ◌≤◌, ◌++◌, ◌↔◌, true, List, ℕ, [], length, take, drop, IfOk, OnErr, slice_index};
+ghost use Rattle.desk_io.specs.Lines.{IsFeed, IsFound, IsSameInput};
 ghost use Rattle.desk_io.specs.Outside.{HasCause, ended};
-ghost use Rattle.play_session.specs.Lines.{IsFeed, IsFound, IsSameInput};
 
-use desk_io::{Failed, Source};
+use crate::{Failed, Source};
 use std::marker::Model;
-
-/// The most bytes of a line.
-const ROOM: usize = 256;
 
 /// How long a line is, and how many bytes it takes with its line feed.
 #[derive(Clone, Copy)]
-pub(crate) struct Found {
+pub struct FoundLine {
     pub line: usize,
     pub taken: usize,
 }
 
-/// Bytes that were read and not yet used, at most 256. Contracts see the list of them.
+/// Takes a source apart into lines of at most `MOST` bytes. It holds the bytes that were read and not yet used, at most
+/// `MOST`. Contracts see the list of them.
 #[derive(Drop)]
-pub(crate) struct Input {
-    bytes: [u8; 256],
+pub struct LineReader<const MOST: usize> {
+    bytes: [u8; MOST],
     len: usize,
 }
 
-impl Model for Input {
+impl<const MOST: usize> Model for LineReader<MOST> {
     ghost use Rattle.std.specs.Prelude.{◌≤◌, List, ℕ, take};
 
     ghost Value = { List ℕ };
 
     ghost view = { λ i. take i.len i.bytes };
 
-    ghost invariant = { λ i. i.len ≤ 256 };
+    ghost invariant = { λ i. i.len ≤ MOST };
 }
 
-impl Input {
+impl<const MOST: usize> LineReader<MOST> {
     /// Holds nothing.
-    pub fn new() -> Input
+    pub fn new() -> Self
         ensures { result ≡ [] }
     {
-        Input {
-            bytes: [0; 256],
+        LineReader {
+            bytes: [0; MOST],
             len: 0,
         }
     }
@@ -48,7 +46,7 @@ impl Input {
     /// How many bytes are held.
     fn len(&self) -> usize
         ensures value { result ≡ length self.now }
-        ensures most { result ≤ 256 }
+        ensures most { result ≤ MOST }
     {
         self.len
     }
@@ -80,27 +78,28 @@ impl Input {
 
     /// Reads on, and answers how many bytes came. 0 is the end of the input.
     fn read_more<S: Source>(&mut self, lines: &mut S) -> Result<usize, Failed>
-        requires { length self.old < 256 }
+        requires { length self.old < MOST }
         ensures same { IsSameInput self.old (S.left lines.old) self.new (S.left lines.new) }
         ensures more { IfOk result (λ n. (piece : List ℕ) × (self.new ≡ self.old ++ piece) × (length piece ≡ n)) }
         ensures end { IfOk result (λ n. n ≡ 0 → S.left lines.new ≡ ended (S.left lines.new)) }
         ensures failed { OnErr result (self.new ≡ self.old) }
-        ensures few { length self.new ≤ 256 }
+        ensures few { length self.new ≤ MOST }
         ensures cause { HasCause (S.faults lines.old) (S.faults lines.new) result }
     {
-        let count = lines.read(&mut self.bytes[self.len..])?;
+        let bytes = &mut self.bytes[..];
+        let count = lines.read(&mut bytes[self.len..])?;
         self.len += count;
         Ok(count)
     }
 
-    /// Reads on until a line feed, 256 bytes or all that is left are held. The place of the first line feed.
+    /// Reads on until a line feed, `MOST` bytes or all that is left are held. The place of the first line feed.
     fn next_feed<S: Source>(&mut self, lines: &mut S) -> Result<Option<usize>, Failed>
         ensures same { IsSameInput self.old (S.left lines.old) self.new (S.left lines.new) }
-        ensures feed { IfOk result (λ at. IsFeed self.new (S.left lines.new) at) }
-        ensures few { length self.new ≤ 256 }
+        ensures feed { IfOk result (λ at. IsFeed MOST self.new (S.left lines.new) at) }
+        ensures few { length self.new ≤ MOST }
         ensures cause { HasCause (S.faults lines.old) (S.faults lines.new) result }
     {
-        'looking: for at in 0..ROOM {
+        'looking: for at in 0..MOST {
             if at == self.len() && self.read_more(lines)? == 0 {
                 return Ok(None);
             }
@@ -112,17 +111,18 @@ impl Input {
         Ok(None)
     }
 
-    /// Finds the next line, which is held then. `None` is the end of the input.
-    pub fn find_line<S: Source>(&mut self, lines: &mut S) -> Result<Option<Found>, Failed>
+    /// Finds the next line, which is held then. `None` is the end of the input. Where a read fails nothing is lost.
+    pub fn find_line<S: Source>(&mut self, lines: &mut S) -> Result<Option<FoundLine>, Failed>
+        requires { 1 ≤ MOST }
         ensures same { IsSameInput self.old (S.left lines.old) self.new (S.left lines.new) }
-        ensures found { IfOk result (λ f. IsFound self.new (S.left lines.new) f) }
-        ensures few { length self.new ≤ 256 }
+        ensures found { IfOk result (λ f. IsFound MOST self.new (S.left lines.new) f) }
+        ensures few { length self.new ≤ MOST }
         ensures cause { HasCause (S.faults lines.old) (S.faults lines.new) result }
     {
         let feed = self.next_feed(lines)?;
         let len = self.len();
         if let Some(at) = feed {
-            return Ok(Some(Found {
+            return Ok(Some(FoundLine {
                 line: at,
                 taken: at + 1,
             }));
@@ -130,7 +130,7 @@ impl Input {
         if len == 0 {
             return Ok(None);
         }
-        Ok(Some(Found {
+        Ok(Some(FoundLine {
             line: len,
             taken: len,
         }))

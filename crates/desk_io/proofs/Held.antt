@@ -7,7 +7,7 @@ use Rattle.std.proofs.lemmas.Bool.{cases_eq}
 use borrow.Rule.Slice.PartMut.{put_mid, post_of}
 use Rattle.std.proofs.Math.Seq.{take-append-add}
 use Rattle.desk_io.specs.Outside.{ended}
-use Rattle.play_session.specs.Lines.{IsCut, IsSameInput, IsFeed, IsFound}
+use Rattle.desk_io.specs.Lines.{IsCut, IsSameInput, IsFeed, IsFound}
 
 -- what stands at the front after the first bytes were moved away
 pub dropped : (xs : List ℕ) (count len : ℕ) → count ≤ len → len ≤ length xs → take (len - count) (copy_within xs count len 0) ≡ drop count (take len xs)
@@ -62,13 +62,13 @@ module _ (start held : List ℕ) (before now : Option (List ℕ)) where
     plain = below_more (λ k. get_or held k 0 ≢ 10) at w.plain none;
   }
 
--- all 256 were looked at
-pub looked_all : (start held : List ℕ) (before now : Option (List ℕ)) (at : ℕ) → Looked start held before now at → length held ≤ 256 → 256 ≤ at → IsFeed held now None
-looked_all start held before now at w most all = ((λ k lt. w.plain k (omega (arith, lt, most, all))), inl (omega (arith, most, all, w.within)))
+-- as many were looked at as a line may have
+pub looked_all : (most : ℕ) (start held : List ℕ) (before now : Option (List ℕ)) (at : ℕ) → Looked start held before now at → length held ≤ most → most ≤ at → IsFeed most held now None
+looked_all most start held before now at w few all = ((λ k lt. w.plain k (omega (arith, lt, few, all))), inl (omega (arith, few, all, w.within)))
 
 -- all that is held was looked at, and the source is at its end
-pub looked_end : (start held : List ℕ) (before now : Option (List ℕ)) (at : ℕ) → Looked start held before now at → length held ≤ at → now ≡ ended now → IsFeed held now None
-looked_end start held before now at w all end = ((λ k lt. w.plain k (omega (arith, lt, all))), inr end)
+pub looked_end : (most : ℕ) (start held : List ℕ) (before now : Option (List ℕ)) (at : ℕ) → Looked start held before now at → length held ≤ at → now ≡ ended now → IsFeed most held now None
+looked_end most start held before now at w all end = ((λ k lt. w.plain k (omega (arith, lt, all))), inr end)
 
 plain_front : (held : List ℕ) (n : ℕ) → n ≤ length held → ((k : ℕ) → k < n → get_or held k 0 ≢ 10) → All (λ b. b ≢ 10) (take n held)
 plain_front held n le plain k d lt e =
@@ -76,8 +76,8 @@ plain_front held n le plain k d lt e =
     plain k short (get_or_default held k 0 d (omega (arith, short, le)) ∙ sym (get_or-take n held k d short) ∙ e)
 
 -- up to a line feed
-pub found_feed : (held : List ℕ) (left : Option (List ℕ)) (at : ℕ) → at < 256 → IsFeed held left (Some at) → IsFound held left (Some (record { line = at; taken = at + 1 }))
-found_feed held left at lt feed =
+pub found_feed : (most : ℕ) (held : List ℕ) (left : Option (List ℕ)) (at : ℕ) → at < most → IsFeed most held left (Some at) → IsFound most held left (Some (record { line = at; taken = at + 1 }))
+found_feed most held left at lt feed =
     let long : length (take at held) ≡ at = length-take-le at held (omega (arith, feed.0)) in (
       omega (arith, feed.0),
       omega (arith, feed.0),
@@ -92,8 +92,8 @@ found_feed held left at lt feed =
     )
 
 -- all that is held
-pub found_all : (held : List ℕ) (left : Option (List ℕ)) (len : ℕ) → len ≡ length held → 0 < len → len ≤ 256 → IsFeed held left None → IsFound held left (Some (record { line = len; taken = len }))
-found_all held left len long some most feed =
+pub found_all : (most : ℕ) (held : List ℕ) (left : Option (List ℕ)) (len : ℕ) → len ≡ length held → 0 < len → len ≤ most → IsFeed most held left None → IsFound most held left (Some (record { line = len; taken = len }))
+found_all most held left len long some few feed =
     let whole : take len held ≡ held = take_all len held (omega (arith, long)) in
     let none : drop len held ≡ [] = drop_all len held (omega (arith, long)) in
     let plain : All (λ b. b ≢ 10) (take len held) = plain_front held len (omega (arith, long)) (λ k lt. feed.0 k (omega (arith, lt, long))) in
@@ -101,22 +101,22 @@ found_all held left len long some most feed =
       omega (arith, long),
       omega (arith, long),
       omega (arith, long, some),
-      λ rest e. record { plain = plain; cut = cut_of rest e whole none same (cases_eq len 256) },
+      λ rest e. record { plain = plain; cut = cut_of rest e whole none same (cases_eq len most) },
     )
   where
-    cut_of : (rest : List ℕ) → left ≡ Some rest → take len held ≡ held → drop len held ≡ [] → length (take len held) ≡ len → (len ≡ 256) ⊎ (len ≢ 256) → IsCut (held ++ rest) (take len held) (drop len held ++ rest)
+    cut_of : (rest : List ℕ) → left ≡ Some rest → take len held ≡ held → drop len held ≡ [] → length (take len held) ≡ len → (len ≡ most) ⊎ (len ≢ most) → IsCut most (held ++ rest) (take len held) (drop len held ++ rest)
     cut_of rest e whole none same (inl full) = inr (inl (omega (arith, same, full), ap (λ l. l ++ rest) (sym whole) ∙ ap (λ l. take len held ++ (l ++ rest)) (sym none)))
     cut_of rest e whole none same (inr short) = elim feed.1 [
       | inl full ↦ absurd (short (omega (arith, long, full)))
       | inr end ↦
           let over : rest ≡ [] = cc (sym e ∙ end ∙ ap ended e) in
           inr (inr (
-            omega (arith, same, most, short),
+            omega (arith, same, few, short),
             ap (λ l. held ++ l) over ∙ append-nil held ∙ sym whole,
             ap (λ l. l ++ rest) none ∙ over,
           ))
     ]
 
-pub found_none : (held : List ℕ) (left : Option (List ℕ)) → length held ≡ 0 → IsFeed held left None → IsFound held left None
-found_none [] left none feed = elim feed.1 [ inl full ↦ absurd (omega (arith, full)) | inr end ↦ (refl, end) ]
-found_none (b ∷ more) left none feed = absurd (omega (arith, none))
+pub found_none : (most : ℕ) (held : List ℕ) (left : Option (List ℕ)) → 1 ≤ most → length held ≡ 0 → IsFeed most held left None → IsFound most held left None
+found_none most [] left some none feed = elim feed.1 [ inl full ↦ absurd (omega (arith, full, some)) | inr end ↦ (refl, end) ]
+found_none most (b ∷ more) left some none feed = absurd (omega (arith, none))
