@@ -4,6 +4,7 @@ use Rattle.std.proofs.lemmas.Bool.{cases_lt}
 use Rattle.std.proofs.lemmas.List.{length-append, get_or_append_left, get_or_push, take_all, take_more}
 use Rattle.std.proofs.lemmas.List.Elements.{Contains-append_left, Contains-get_or, Contains-push, Contains-push_cases}
 use Rattle.go_grid.specs.declared.grid.Colour.{Colour}
+use Rattle.go_grid.specs.declared.grid.Colour.TheVariants.{Black, White}
 use Rattle.local_graph.specs.declared.graph.Edge.{Edge}
 use Rattle.local_graph.specs.Nodes.{no_edge}
 use Rattle.game_store.specs.Tree.{Tree}
@@ -13,7 +14,8 @@ use Rattle.game_store.specs.Meaning.{tree_at, AreIds, Extends}
 use Rattle.game_store.specs.Parts.{IsNumberOf}
 use Rattle.game_canon.specs.Outcomes.{AreWithin}
 use Rattle.game_canon.specs.Players.{gain}
-use Rattle.local_value.specs.Valuing.{noted, IsNoted, tree_after, IsWithinAfter, AreWithinAfter, IsAfter, AreAfter}
+use Rattle.local_value.specs.declared.memo.Options.{Options}
+use Rattle.local_value.specs.Valuing.{noted, IsNoted, tree_after, IsWithinAfter, AreWithinAfter, IsAfter, AreAfter, AreBothAfter, IsAdded}
 
 pub extends-both : (Ts Us Vs : List Tree) → Extends Ts Us → Extends Us Vs → Extends Ts Vs
 extends-both Ts Us Vs a b = record { longer = omega (arith, a.longer, b.longer); same = λ i l. b.same i (omega (arith, l, a.longer)) ∙ a.same i l }
@@ -89,7 +91,7 @@ module _ (Ts Us : List Tree) (ids : List ℕ) (c : Colour) (es : List Edge) (n :
   last : Contains (take (n + 1) es) e
   last = subst (λ z. Contains z e) (sym next) (Contains-push (take n es) e)
 
-  pub listing-skip : (e.colour ≡ c → ⊥) → IsListing Ts Us ids c es (n + 1) afters
+  listing-skip : (e.colour ≡ c → ⊥) → IsListing Ts Us ids c es (n + 1) afters
   listing-skip other = record {
     kept = w.kept;
     so_far = record {
@@ -105,7 +107,7 @@ module _ (Ts Us : List Tree) (ids : List ℕ) (c : Colour) (es : List Edge) (n :
     pub step-within : (b : ℕ) → AreWithinAfter b Ts ids es → IsWithinAfter b Us ids e
     step-within b small = within-on Ts Us ids e b w.kept (noted e edge_among) (small e edge_among)
 
-  pub listing-push : (Vs : List Tree) (id : ℕ) (more : List ℕ) → e.colour ≡ c → Extends Us Vs → ((d : Edge) → Contains es d → IsNoted Ts ids d.next)
+  listing-push : (Vs : List Tree) (id : ℕ) (more : List ℕ) → e.colour ≡ c → Extends Us Vs → ((d : Edge) → Contains es d → IsNoted Ts ids d.next)
       → IsAfter Us Vs ids e id → more ≡ afters ++ id ∷ [] → IsListing Ts Vs ids c es (n + 1) more
   listing-push Vs id more same x noted a grown =
       let here = after-from Ts Us Vs ids e id w.kept (noted e edge_among) a in
@@ -127,5 +129,27 @@ module _ (Ts Us : List Tree) (ids : List ℕ) (c : Colour) (es : List Edge) (n :
         | inr i ↦ (length afters, omega (arith, length-append afters (id ∷ [])), subst (λ z. IsAfter Ts Vs ids z (get_or (afters ++ id ∷ []) (length afters) 0)) i (subst (IsAfter Ts Vs ids e) (sym (get_or_push afters id 0 (length afters) refl)) here))
       ]
 
-pub listing-end : (Ts Us : List Tree) (ids : List ℕ) (c : Colour) (es : List Edge) (n : ℕ) (afters : List ℕ) → length es ≤ n → IsListing Ts Us ids c es n afters → AreAfter Ts Us ids c es afters
+listing-end : (Ts Us : List Tree) (ids : List ℕ) (c : Colour) (es : List Edge) (n : ℕ) (afters : List ℕ) → length es ≤ n → IsListing Ts Us ids c es n afters → AreAfter Ts Us ids c es afters
 listing-end Ts Us ids c es n afters l w = subst (λ z. AreAfter Ts Us ids c z afters) (take_all n es l) w.so_far
+
+listing-on : (Ts Us Vs : List Tree) (ids : List ℕ) (c : Colour) (es : List Edge) (n : ℕ) (afters : List ℕ) → Extends Us Vs → IsListing Ts Us ids c es n afters → IsListing Ts Vs ids c es n afters
+listing-on Ts Us Vs ids c es n afters x w = record { kept = extends-both Ts Us Vs w.kept x; so_far = all-kept Ts Us Vs ids c (take n es) afters x w.so_far }
+
+black-white : Black ≡ White → ⊥
+black-white e = cc
+
+-- the loop goes on for both players
+pub listing-add : (Ts Us : List Tree) (ids : List ℕ) (es : List Edge) (n : ℕ) (before : Options) → n < length es → IsListing Ts Us ids Black es n before.left.items → IsListing Ts Us ids White es n before.right.items
+    → (Vs : List Tree) (id : ℕ) (c : Colour) (now : Options) → c ≡ (get_or es n no_edge).colour → Extends Us Vs → ((d : Edge) → Contains es d → IsNoted Ts ids d.next) → IsAfter Us Vs ids (get_or es n no_edge) id → IsAdded c id before now
+    → IsListing Ts Vs ids Black es (n + 1) now.left.items × IsListing Ts Vs ids White es (n + 1) now.right.items
+listing-add Ts Us ids es n before among l r Vs id Black now same x noted a added = (
+  listing-push Ts Us ids Black es n before.left.items among l Vs id now.left.items (sym same) x noted a added.0,
+  subst (IsListing Ts Vs ids White es (n + 1)) (sym added.1) (listing-on Ts Us Vs ids White es (n + 1) before.right.items x (listing-skip Ts Us ids White es n before.right.items among r (λ w. black-white (same ∙ w)))),
+)
+listing-add Ts Us ids es n before among l r Vs id White now same x noted a added = (
+  subst (IsListing Ts Vs ids Black es (n + 1)) (sym added.0) (listing-on Ts Us Vs ids Black es (n + 1) before.left.items x (listing-skip Ts Us ids Black es n before.left.items among l (λ b. black-white (sym (same ∙ b))))),
+  listing-push Ts Us ids White es n before.right.items among r Vs id now.right.items (sym same) x noted a added.1,
+)
+
+pub listing-done : (Ts Us : List Tree) (ids : List ℕ) (es : List Edge) (n : ℕ) (ls rs : List ℕ) → length es ≤ n → IsListing Ts Us ids Black es n ls → IsListing Ts Us ids White es n rs → AreBothAfter Ts Us ids es ls rs
+listing-done Ts Us ids es n ls rs le l r = record { left = listing-end Ts Us ids Black es n ls le l; right = listing-end Ts Us ids White es n rs le r }

@@ -1,5 +1,5 @@
 -- Stones as numbers.
-use Rattle.std.proofs.Common.{ℕ, ◌+◌, ◌-◌, ◌*◌, ◌^◌, ◌≡◌, ◌<◌, ◌≤◌, ◌↔◌, ◌∙◌, ap, sym, subst, arith, ℤ, pos, neg_ℤ, ◌+ℤ◌, ◌*ℤ◌, List, length, get_or}
+use Rattle.std.proofs.Common.{ℕ, ◌+◌, ◌-◌, ◌*◌, ◌^◌, ◌≡◌, ◌<◌, ◌≤◌, ◌↔◌, ◌∙◌, ap, refl, sym, subst, arith, ℤ, pos, neg_ℤ, ◌+ℤ◌, ◌*ℤ◌, List, length, get_or}
 use Rattle.std.specs.Prelude.{unsigned_abs}
 use Rattle.std.proofs.lemmas.Int.{ints}
 use Rattle.go_grid.specs.declared.grid.Colour.{Colour}
@@ -8,7 +8,7 @@ use Rattle.local_graph.specs.declared.graph.Edge.{Edge}
 use Rattle.game_store.specs.Tree.{Tree}
 use Rattle.game_store.specs.Sum.{◌+ᵍ◌}
 use Rattle.game_store.specs.TextOrder.{IsCanonicalFor}
-use Rattle.game_store.specs.Meaning.{tree_at, number_tree, AreCanonical}
+use Rattle.game_store.specs.Meaning.{tree_at, number_tree, AreCanonical, Extends}
 use Rattle.game_store.specs.Forms.{HaveForms}
 use Rattle.game_store.specs.Parts.{IsNumberOf}
 use Rattle.game_store.proofs.StopLaws.{num-scaled}
@@ -16,7 +16,8 @@ use Rattle.game_canon.specs.declared.errors.FormError.TheVariants.{Bounds}
 use Rattle.game_canon.specs.Changes.{IsSumRefusal}
 use Rattle.game_canon.specs.Outcomes.{IsCanonicalId}
 use Rattle.game_canon.specs.Players.{credit, gain}
-use Rattle.game_canon.proofs.NumberParts.{sum-fits}
+use Rattle.game_canon.proofs.NumberParts.{sum-fits, same-sum}
+use Rattle.local_value.specs.Memo.{stones_units, IsStonesSum}
 use Rattle.local_value.specs.Valuing.{noted, IsWithinAfter, IsAfter}
 
 credit-tree : (c : Colour) (n : ℕ) (x : ℤ) → x ≡ credit c n *ℤ pos (2 ^ 60) → number_tree x ≡ gain c n
@@ -39,7 +40,7 @@ module _ (Ts : List Tree) (ids : List ℕ) (e : Edge) (x : ℤ) (is : x ≡ cred
   never-refused forms canonical lt small = sum-fits Ts (get_or ids e.next 0) x forms lt (canonical (get_or ids e.next 0) lt)
       (λ y n. let le = sum-size y x (e.taken * 2 ^ 60) (2 ^ 120 - 1) size (small y n) in omega (arith, le))
 
-  pub value-after : (Us : List Tree) (id : ℕ) → IsCanonicalId Us (noted Ts ids e.next +ᵍ number_tree x) id
+  value-after : (Us : List Tree) (id : ℕ) → IsCanonicalId Us (noted Ts ids e.next +ᵍ number_tree x) id
       → ((y : ℤ) → IsNumberOf (noted Ts ids e.next) y ↔ IsNumberOf (tree_at Us id) (y +ℤ x)) → IsAfter Ts Us ids e id
   value-after Us id value numbers = record {
     known = value.0;
@@ -49,3 +50,24 @@ module _ (Ts : List Tree) (ids : List ℕ) (e : Edge) (x : ℤ) (is : x ≡ cred
         let old = (numbers (z +ℤ neg_ℤ x)).1 (subst (IsNumberOf (tree_at Us id)) (sym back) n) in
         subst (λ y. unsigned_abs y ≤ b) back (sum-size (z +ℤ neg_ℤ x) x (e.taken * 2 ^ 60) b size (w (z +ℤ neg_ℤ x) old)));
   }
+
+credit-zero : (c : Colour) (n : ℕ) → n ≡ 0 → credit c n *ℤ pos (2 ^ 60) ≡ pos 0
+credit-zero Black n e = omega (arith, ints, e)
+credit-zero White n e = omega (arith, ints, e)
+
+-- where no stones are taken, the value stays
+pub value-untaken : (Ts : List Tree) (ids : List ℕ) (e : Edge) → e.taken ≡ 0 → get_or ids e.next 0 < length Ts → AreCanonical Ts → IsAfter Ts Ts ids e (get_or ids e.next 0)
+value-untaken Ts ids e none lt canonical =
+    let zero = credit-zero e.colour e.taken none in
+    value-after Ts ids e (credit e.colour e.taken *ℤ pos (2 ^ 60)) refl Ts (get_or ids e.next 0) (same-sum Ts (get_or ids e.next 0) _ zero lt (canonical (get_or ids e.next 0) lt))
+    (λ y. subst (λ z. IsNumberOf (noted Ts ids e.next) y ↔ IsNumberOf (noted Ts ids e.next) z) (same y _ zero) (λ n. n, λ n. n))
+  where
+    same : (y x : ℤ) → x ≡ pos 0 → y ≡ y +ℤ x
+    same y x z = omega (arith, ints, z)
+
+-- the sum with the stones that an edge takes
+pub value-summed : (Ts Us : List Tree) (ids : List ℕ) (e : Edge) (stones : ℤ) (id : ℕ) → stones ≡ credit e.colour e.taken → Extends Ts Us → get_or ids e.next 0 < length Ts → IsStonesSum Us (get_or ids e.next 0) stones id → IsAfter Ts Us ids e id
+value-summed Ts Us ids e stones id is x lt s =
+    let same = x.same (get_or ids e.next 0) lt in
+    value-after Ts ids e (stones_units stones) (ap stones_units is) Us id (subst (λ t. IsCanonicalId Us (t +ᵍ number_tree (stones_units stones)) id) same s.value)
+    (subst (λ t. (y : ℤ) → IsNumberOf t y ↔ IsNumberOf (tree_at Us id) (y +ℤ stones_units stones)) same s.numbers)

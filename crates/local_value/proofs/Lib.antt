@@ -1,4 +1,5 @@
 pub mod LocalLaws
+pub mod MemoLaws
 pub mod MoveList
 pub mod PositionLaws
 pub mod DepthLaws

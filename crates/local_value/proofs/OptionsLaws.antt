@@ -1,5 +1,5 @@
 -- The form of the ids after the edges of a place, and what it shares with each tree of the same edges.
-use Rattle.std.proofs.Common.{ℕ, ◌<◌, ◌≡◌, inl, inr, refl, sym, subst, arith, List, [], length, get_or, Contains}
+use Rattle.std.proofs.Common.{ℕ, ◌+◌, ◌^◌, ◌<◌, ◌≡◌, inl, inr, refl, sym, subst, arith, List, [], length, get_or, Contains}
 use Rattle.go_grid.specs.declared.grid.Colour.{Colour}
 use Rattle.go_grid.specs.declared.grid.Colour.TheVariants.{Black, White}
 use Rattle.local_graph.specs.declared.graph.Edge.{Edge}
@@ -16,26 +16,16 @@ use Rattle.game_canon.specs.declared.errors.FormError.TheVariants.{Parts, Bounds
 use Rattle.game_canon.specs.Outcomes.{IsCanonicalId, IsCause, AreWithin, AreOptionsWithin}
 use Rattle.game_canon.specs.Players.{options}
 use Rattle.game_canon.proofs.PlayerLaws.{same-path, same-sym, same-trans}
-use Rattle.local_value.specs.Valuing.{IsNoted, tree_after, AreWithinAfter, IsAfter, AreAfter, HasEdges}
-use Rattle.local_value.proofs.AfterLaws.{after-ids, all-from, all-kept}
+use Rattle.local_value.specs.Memo.{IsFormOf}
+use Rattle.local_value.specs.Valuing.{tree_after, AreWithinAfter, IsAfter, AreAfter, AreBothAfter, HasEdges}
+use Rattle.local_value.proofs.AfterLaws.{after-ids}
+use Rattle.local_value.proofs.MemoLaws.{listed-grown}
 use Rattle.local_value.proofs.PositionLaws.{same_options}
 
 after-same : (Ts Us : List Tree) (ids : List ℕ) (e : Edge) (id : ℕ) → IsAfter Ts Us ids e id → tree_after Ts ids e ≡ᵍ tree_at Us id
 after-same Ts Us ids e id a = (a.canonical.under, a.canonical.over)
 
--- the ids after the edges of both players
-pub record AreBoth (Ts Us : List Tree) (ids : List ℕ) (es : List Edge) (ls rs : List ℕ) : Type 0 where
-  pub left : AreAfter Ts Us ids Black es ls
-  pub right : AreAfter Ts Us ids White es rs
-
-pub both : (Ts Us Vs : List Tree) (ids : List ℕ) (es : List Edge) (ls rs ms ns : List ℕ) → ((e : Edge) → Contains es e → IsNoted Ts ids e.next) → Extends Ts Us → Extends Us Vs
-    → AreAfter Ts Us ids Black es ls → AreAfter Us Vs ids White es rs → ms ≡ ls → ns ≡ rs → AreBoth Ts Vs ids es ms ns
-both Ts Us Vs ids es ls rs ms ns noted x y a b p q = record {
-  left = subst (AreAfter Ts Vs ids Black es) (sym p) (all-kept Ts Us Vs ids Black es ls y a);
-  right = subst (AreAfter Ts Vs ids White es) (sym q) (all-from Ts Us Vs ids White es rs x noted b);
-}
-
-module _ (Ts Us : List Tree) (ids ls rs : List ℕ) (es : List Edge) (a : AreBoth Ts Us ids es ls rs) where
+module _ (Ts Us : List Tree) (ids ls rs : List ℕ) (es : List Edge) (a : AreBothAfter Ts Us ids es ls rs) where
   abbrev side : Colour → List ℕ
   side Black = ls
   side White = rs
@@ -83,7 +73,7 @@ module _ (Ts Us : List Tree) (ids ls rs : List ℕ) (es : List Edge) (a : AreBot
       (t.0, subst (λ d. Has (options d (listed Us ls rs)) t.0) f.2 t.1, same-trans _ _ _ t.2 (same-sym _ _ f.3))
       ))
 
-  pub options-within : (m : ℕ) → AreWithinAfter m Ts ids es → AreOptionsWithin m (listed Us ls rs)
+  options-within : (m : ℕ) → AreWithinAfter m Ts ids es → AreOptionsWithin m (listed Us ls rs)
   options-within m w L o = at o
     where
       within : (c : Colour) (j : ℕ) → j < length (side c) → AreWithin m (tree_at Us (get_or (side c) j 0))
@@ -94,7 +84,7 @@ module _ (Ts Us : List Tree) (ids ls rs : List ℕ) (es : List Edge) (a : AreBot
       at (inr h) = let q = has-pick Us rs L h in subst (AreWithin m) (sym q.2) (within White q.0 q.1)
 
 -- equal trees have one canonical tree, and are refused alike
-pub canonical-as : (Ts : List Tree) (G H : Tree) (id : ℕ) → G ≡ᵍ H → IsCanonicalId Ts G id → IsCanonicalId Ts H id
+canonical-as : (Ts : List Tree) (G H : Tree) (id : ℕ) → G ≡ᵍ H → IsCanonicalId Ts G id → IsCanonicalId Ts H id
 canonical-as Ts G H id s k = (k.0, canonical-moved G H (tree_at Ts id) s k.1)
   where
     canonical-moved : (G H C : Tree) → G ≡ᵍ H → IsCanonicalFor G C → IsCanonicalFor H C
@@ -110,6 +100,17 @@ cause-as G H limit Parts s w = (
 )
 cause-as G H limit Bounds s w = (number-as G H s w.0, λ x b y z. w.1 x b (le-trans G H _ s.0 y) (le-trans _ H G z s.1))
 cause-as G H limit (Memory cause) s w = tt
+
+-- the form that is made of the ids is that of each tree of the edges
+module _ (Ts Us : List Tree) (ids ls rs : List ℕ) (es : List Edge) (a : AreBothAfter Ts Us ids es ls rs) (Vs : List Tree) (limit id : ℕ) (x : Extends Us Vs) (f : IsFormOf Vs limit ls rs id) where
+  same : listed Vs ls rs ≡ listed Us ls rs
+  same = listed-grown Us Vs ls rs x (left-ids Ts Us ids ls rs es a) (right-ids Ts Us ids ls rs es a)
+
+  pub form-valued : (G : Tree) → HasEdges Ts ids es G → IsCanonicalId Vs G id
+  form-valued G has = canonical-as Vs (listed Us ls rs) G id (edges-same Ts Us ids ls rs es a G has) (subst (λ t. IsCanonicalId Vs t id) same f.value)
+
+  pub form-within : (m : ℕ) → AreWithinAfter m Ts ids es → AreWithin (m + 2 ^ 60) (tree_at Vs id)
+  form-within m w = f.sizes m (subst (AreOptionsWithin m) (sym same) (options-within Ts Us ids ls rs es a m w))
 
 -- a tree without edges has no option
 pub no-edges : (Ts : List Tree) (ids : List ℕ) → HasEdges Ts ids [] (node none none)

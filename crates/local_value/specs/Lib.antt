@@ -6,3 +6,4 @@ pub mod Values
 pub mod GraphMoves
 pub mod Refusals
 pub mod Valuing
+pub mod Memo

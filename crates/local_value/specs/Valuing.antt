@@ -1,7 +1,9 @@
 -- What a pass over a graph notes of its places, and what it makes of the edges of one.
-use Rattle.std.specs.Prelude.{ℕ, ◌+◌, ◌*◌, ◌^◌, ◌≡◌, ◌<◌, ◌≤◌, List, length, Contains, ℤ, unsigned_abs, slice_index}
+use Rattle.std.specs.Prelude.{ℕ, ◌+◌, ◌*◌, ◌^◌, ◌≡◌, ◌<◌, ◌≤◌, List, [], ◌∷◌, ◌++◌, length, Contains, ℤ, unsigned_abs, slice_index}
 use Rattle.go_grid.specs.declared.grid.Colour.{Colour}
+use Rattle.go_grid.specs.declared.grid.Colour.TheVariants.{Black, White}
 use Rattle.local_graph.specs.declared.graph.Edge.{Edge}
+use Rattle.local_value.specs.declared.memo.Options.{Options}
 use Rattle.game_store.specs.Tree.{Tree, Has}
 use Rattle.game_store.specs.Order.{◌≡ᵍ◌}
 use Rattle.game_store.specs.Sum.{◌+ᵍ◌}
@@ -40,6 +42,16 @@ pub record IsAfter (Ts Us : List Tree) (ids : List ℕ) (e : Edge) (id : ℕ) : 
 pub record AreAfter (Ts Us : List Tree) (ids : List ℕ) (c : Colour) (es : List Edge) (afters : List ℕ) : Type 0 where
   pub from : (j : ℕ) → j < length afters → (e : Edge) × Contains es e × (e.colour ≡ c) × IsAfter Ts Us ids e (slice_index afters j)
   pub to : (e : Edge) → Contains es e → e.colour ≡ c → (j : ℕ) × (j < length afters) × IsAfter Ts Us ids e (slice_index afters j)
+
+-- the ids are those after the edges, by player
+pub record AreBothAfter (Ts Us : List Tree) (ids : List ℕ) (es : List Edge) (ls rs : List ℕ) : Type 0 where
+  pub left : AreAfter Ts Us ids Black es ls
+  pub right : AreAfter Ts Us ids White es rs
+
+-- an id stands behind the options of a player, and the other's are as before
+abbrev pub IsAdded : Colour → ℕ → Options → Options → Type 0
+IsAdded Black id before now = (now.left.items ≡ before.left.items ++ id ∷ []) × (now.right.items ≡ before.right.items)
+IsAdded White id before now = (now.left.items ≡ before.left.items) × (now.right.items ≡ before.right.items ++ id ∷ [])
 
 -- the options of G are equal to the trees after the edges
 pub record HasEdges (Ts : List Tree) (ids : List ℕ) (es : List Edge) (G : Tree) : Type 0 where

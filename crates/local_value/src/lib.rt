@@ -2,6 +2,7 @@
 #![tactic(auto)]
 
 mod laws;
+mod memo;
 #[cfg(test)]
 mod strip;
 #[cfg(test)]

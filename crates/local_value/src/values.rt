@@ -1,6 +1,6 @@
 //! The values of all positions of a graph.
 
-ghost use Rattle.std.specs.Prelude.{ℕ, ◌≡◌, ◌↔◌, ◌<◌, ◌≤◌, ◌+◌, ◌-◌, ◌*◌, ◌*ℤ◌, ◌^◌, pos, List, length, slice_index, IfOk, IfErr, OnOk, Contains, true};
+ghost use Rattle.std.specs.Prelude.{ℕ, ◌≡◌, ◌↔◌, ◌<◌, ◌≤◌, ◌+◌, ◌-◌, ◌*◌, ◌^◌, unsigned_abs, List, length, slice_index, IfOk, IfErr, OnOk, Contains, true};
 ghost use Rattle.go_grid.specs.Region.{Shape};
 ghost use Rattle.game_store.specs.Tree.{Tree};
 ghost use Rattle.game_store.specs.Meaning.{tree_at, Extends};
@@ -8,12 +8,13 @@ ghost use Rattle.game_store.specs.Parts.{HasMoreParts};
 ghost use Rattle.game_canon.specs.Changes.{HasNumberPastBounds};
 ghost use Rattle.game_canon.specs.Outcomes.{IsCanonicalId, IsCause, AreWithin};
 ghost use Rattle.game_canon.specs.Players.{credit};
+ghost use Rattle.local_value.specs.Memo.{recalled_sum, AreSumsRight, IsMemoRight};
 ghost use Rattle.local_value.specs.Refusals.{IsValueRefusal};
 ghost use Rattle.local_value.specs.Values.{IsGraphOf, AreValues};
-ghost use Rattle.local_value.specs.Valuing.{IsNoted, IsWithinAfter, AreWithinAfter, IsAfter, AreAfter, HasEdges};
+ghost use Rattle.local_value.specs.Valuing.{IsNoted, IsWithinAfter, AreWithinAfter, IsAfter, AreBothAfter, IsAdded, HasEdges};
 
-use dyadic_num::Dyadic;
-use game_canon::{FormError, add_number, canonical};
+use crate::memo::{Memo, Options, Sums, form_of, with_stones};
+use game_canon::FormError;
 use game_store::{GameId, Store};
 use go_grid::Colour;
 use local_graph::{Edge, Graph};
@@ -63,21 +64,15 @@ impl Values {
     }
 }
 
-/// Whether the edge is the player's.
-fn is_move_of(edge: &Edge, player: Colour) -> bool
-    ensures { (result ≡ true) ↔ (edge.now.colour ≡ player) }
-{
-    edge.colour == player
-}
-
-/// So many stones to the good of the player.
-fn credit(player: Colour, stones: u8) -> Dyadic
-    ensures { result ≡ credit player stones *ℤ pos (2 ^ 60) }
+/// So many stones to the good of the player, as stones to the good of Black.
+fn credit(player: Colour, stones: u8) -> i32
+    ensures credit { result ≡ credit player stones }
+    ensures small { unsigned_abs result ≤ 255 }
 {
     let stones = i32::from(stones);
     match player {
-        Colour::Black => Dyadic::whole(stones),
-        Colour::White => Dyadic::whole(-stones),
+        Colour::Black => stones,
+        Colour::White => -stones,
     }
 }
 
@@ -85,17 +80,24 @@ fn credit(player: Colour, stones: u8) -> Dyadic
 fn value_after(
     alloc: Global,
     store: &mut Store,
+    sums: &mut Sums,
     ids: &[GameId],
     edge: &Edge,
 ) -> Result<GameId, AllocError>
     requires noted { IsNoted store.old ids.now edge.now.next }
     requires small { IsWithinAfter (2 ^ 120 - 1) store.old ids.now edge.now }
+    requires sums { AreSumsRight store.old (recalled_sum sums.old) }
     ensures value { IfOk result (λ id. IsAfter store.old store.new ids.now edge.now id) }
+    ensures sums { OnOk result (AreSumsRight store.new (recalled_sum sums.new)) }
     ensures kept { Extends store.old store.new }
 {
     let _count = store.len();
+    let before = ids[edge.next];
+    if edge.taken == 0 {
+        return Ok(before);
+    }
     let taken = credit(edge.colour, edge.taken);
-    match add_number(alloc, store, ids[edge.next], taken) {
+    match with_stones(alloc, store, sums, before, taken) {
         Ok(id) => Ok(id),
         Err(FormError::Memory(cause)) => Err(cause),
         Err(FormError::Parts) => unreachable!(),
@@ -103,42 +105,47 @@ fn value_after(
     }
 }
 
-/// Puts the values after the player's edges into `options`.
-fn list_options(
-    alloc: Global,
-    store: &mut Store,
-    ids: &[GameId],
-    edges: &[Edge],
-    player: Colour,
-    options: &mut Vec<GameId>,
-) -> Result<(), AllocError>
-    requires noted { (e : Edge) → Contains edges.now e → IsNoted store.old ids.now e.next }
-    requires small { AreWithinAfter (2 ^ 120 - 1) store.old ids.now edges.now }
-    ensures options { OnOk result (AreAfter store.old store.new ids.now player edges.now options.new.items) }
-    ensures kept { Extends store.old store.new }
+/// Puts one more option of a player behind the others.
+fn add_option(options: &mut Options, player: Colour, id: GameId) -> Result<(), AllocError>
+    ensures { OnOk result (IsAdded player id options.old options.new) }
 {
-    options.clear();
-    for edge in edges {
-        if !is_move_of(edge, player) {
-            continue;
-        }
-        let after = value_after(alloc, store, ids, edge)?;
-        options.push(after)?;
+    match player {
+        Colour::Black => options.left.push(id)?,
+        Colour::White => options.right.push(id)?,
     }
     Ok(())
 }
 
-/// The options of a position, by player.
-#[derive(Drop)]
-struct Options {
-    left: Vec<GameId>,
-    right: Vec<GameId>,
+/// Puts the values after the edges into `options`, by player.
+fn list_options(
+    alloc: Global,
+    store: &mut Store,
+    sums: &mut Sums,
+    ids: &[GameId],
+    edges: &[Edge],
+    options: &mut Options,
+) -> Result<(), AllocError>
+    requires noted { (e : Edge) → Contains edges.now e → IsNoted store.old ids.now e.next }
+    requires small { AreWithinAfter (2 ^ 120 - 1) store.old ids.now edges.now }
+    requires sums { AreSumsRight store.old (recalled_sum sums.old) }
+    ensures options { OnOk result (AreBothAfter store.old store.new ids.now edges.now options.new.left.items options.new.right.items) }
+    ensures sums { OnOk result (AreSumsRight store.new (recalled_sum sums.new)) }
+    ensures kept { Extends store.old store.new }
+{
+    options.left.clear();
+    options.right.clear();
+    for edge in edges {
+        let after = value_after(alloc, store, sums, ids, edge)?;
+        add_option(options, edge.colour, after)?;
+    }
+    Ok(())
 }
 
 /// The value of a position with these edges. The options' lists are only room to work in.
 fn value_of(
     alloc: Global,
     store: &mut Store,
+    memo: &mut Memo,
     ids: &[GameId],
     edges: &[Edge],
     options: &mut Options,
@@ -146,15 +153,16 @@ fn value_of(
 ) -> Result<GameId, FormError>
     requires noted { (e : Edge) → Contains edges.now e → IsNoted store.old ids.now e.next }
     requires small { AreWithinAfter (2 ^ 120 - 1) store.old ids.now edges.now }
+    requires memo { IsMemoRight store.old parts_limit memo.old }
     ensures value { IfOk result (λ id. (G : Tree) → HasEdges store.old ids.now edges.now G → IsCanonicalId store.new G id) }
     ensures parts { IfOk result (λ id. HasMoreParts (tree_at store.new id) parts_limit → ⊥) }
     ensures sizes { IfOk result (λ id. (b : ℕ) → AreWithinAfter b store.old ids.now edges.now → AreWithin (b + 2 ^ 60) (tree_at store.new id)) }
     ensures refusal { IfErr result (λ error. (G : Tree) → HasEdges store.old ids.now edges.now G → IsCause G parts_limit error) }
+    ensures memo { OnOk result (IsMemoRight store.new parts_limit memo.new) }
     ensures kept { Extends store.old store.new }
 {
-    list_options(alloc, store, ids, edges, Colour::Black, &mut options.left)?;
-    list_options(alloc, store, ids, edges, Colour::White, &mut options.right)?;
-    canonical(alloc, store, &options.left, &options.right, parts_limit)
+    list_options(alloc, store, &mut memo.sums, ids, edges, options)?;
+    form_of(alloc, store, &mut memo.forms, options, parts_limit)
 }
 
 /// The values of all positions of a graph, as ids by place: the canonical forms of their trees, to each option of which the
@@ -181,9 +189,18 @@ pub fn value_all(
         left: Vec::new(alloc),
         right: Vec::new(alloc),
     };
+    let mut memo = Memo::new(alloc);
     'valuing: for place in graph.order() {
         let edges = graph.edges(*place);
-        let id = value_of(alloc, store, &ids, edges, &mut options, parts_limit)?;
+        let id = value_of(
+            alloc,
+            store,
+            &mut memo,
+            &ids,
+            edges,
+            &mut options,
+            parts_limit,
+        )?;
         ids[*place] = id;
     }
     let _count = store.len();

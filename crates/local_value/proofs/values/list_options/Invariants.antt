@@ -1,5 +1,11 @@
+use Rattle.go_grid.specs.declared.grid.Colour.TheVariants.{Black, White}
+use Rattle.local_value.specs.Memo.{recalled_sum, AreSumsRight}
 use Rattle.local_value.proofs.AfterLaws.{IsListing}
 use Rattle.local_value.proofs.values.list_options.Given as goal
 
 abbrev pub invariant-loop-edge : goal.invariant-loop-edge
-invariant-loop-edge l = IsListing l.fn.store l.store l.ids l.player l.edges l.edge-index l.options.items
+invariant-loop-edge l = record {
+  left : IsListing l.fn.store l.store l.ids Black l.edges l.edge-index l.options.left.items;
+  right : IsListing l.fn.store l.store l.ids White l.edges l.edge-index l.options.right.items;
+  sums : AreSumsRight l.store (recalled_sum l.sums);
+}

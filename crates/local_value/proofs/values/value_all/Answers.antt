@@ -12,7 +12,7 @@ use Rattle.local_value.proofs.PassCallLaws.{call-noted, call-small, call-step, c
 use Rattle.local_value.proofs.values.value_all.Goals as goal
 
 pub valuing-init : goal.valuing-init
-valuing-init c = record { kept = record { longer = omega arith; same = λ i l. refl }; pass = λ r of. pass-start r c.args.graph.now c.args.parts_limit c.args.store.now _ (omega (arith, c.in_ok-ids.ids.ok, c.in_ok-ids.ensures.len, c.len.ensures)) }
+valuing-init c = record { kept = record { longer = omega arith; same = λ i l. refl }; pass = λ r of. pass-start r c.args.graph.now c.args.parts_limit c.args.store.now _ (omega (arith, c.in_ok-ids.ids.ok, c.in_ok-ids.ensures.len, c.len.ensures)); memo = c.new-memo.ensures c.args.store.now c.args.parts_limit }
 
 pub value_of-requires-clause-noted : goal.value_of-requires-clause-noted
 value_of-requires-clause-noted c = let (r, of) = c.requires.graph in
@@ -31,6 +31,7 @@ valuing-preserved c = record {
       call-step r c.args.graph.now of c.args.parts_limit c.valuing.store c.valuing.ids.items c.valuing.place-index (c.valuing.invariant.pass r of) c.order-place-items.result.now c.edges-edges.result.now c.deref.result.now
       c.order-place-items.ensures c.edges-edges.ensures c.deref.ensures.value c.valuing-test.true
       c.value_of.new.store c.in_ok-id.id c.value_of.ensures.kept c.in_ok-id.ensures.value c.in_ok-id.ensures.sizes c.in_ok-id.ensures.parts;
+  memo = c.in_ok-id.ensures.memo;
 }
 
 pub returns-in_err-id-clause-refusal : goal.returns-in_err-id-clause-refusal
