@@ -4,9 +4,9 @@ ghost use Rattle.std.specs.Prelude.{◌≡◌, ℕ, ◌*◌, ◌+◌, ◌-◌, �
 ghost use Rattle.go_grid.specs.Region.{touch_at};
 ghost use Rattle.local_play.specs.LocalPlay.{held_at, is_beside};
 ghost use Rattle.region_book.specs.Shape.{cell_after, colour_after};
-ghost use Rattle.region_book.specs.Image.{AtMost, IsImage, BeginsAt, Places, is_stone, spot_of};
+ghost use Rattle.region_book.specs.Image.{AtMost, BeginsAt, is_stone, spot_of};
 ghost use Rattle.region_book.specs.declared.spots.Spot.{Spot};
-ghost use Rattle.region_book.specs.Made.{IsLeastAmong, Spots};
+ghost use Rattle.region_book.specs.Made.{AreImagePlaces, IsImageOf, IsLeastAmong, Spots};
 
 use crate::spots::Spot;
 use crate::symmetry::{Stand, Symmetry, begin, places, turned};
@@ -101,7 +101,8 @@ fn spots(
 ) -> Result<Vec<Spot>, AllocError>
     requires few { length region.now.points ≤ 32 }
     requires begin { BeginsAt region.now symmetry begin.column begin.row }
-    ensures { IfOk result (λ v. Spots region.now cells.now symmetry colours begin.column begin.row v.items) }
+    ensures { IfOk result (λ v. Spots region.now cells.now symmetry colours
+        begin.column begin.row v.items) }
 {
     let mut all = Vec::new(alloc);
     for place in 0..places(region) {
@@ -119,7 +120,8 @@ fn image_of(
     colours: bool,
 ) -> Result<Image, AllocError>
     requires { length region.now.points ≤ 32 }
-    ensures { IfOk result (λ m. IsLeastAmong region.now cells.now (λ s c. (s ≡ symmetry) × (c ≡ colours)) m) }
+    ensures { IfOk result (IsLeastAmong region.now cells.now
+        (λ s c. (s ≡ symmetry) × (c ≡ colours))) }
 {
     let begin = begin(region, symmetry);
     let mut spots = spots(alloc, region, cells, symmetry, colours, begin)?;
@@ -176,7 +178,8 @@ fn least_of_rows(
     columns: bool,
 ) -> Result<Image, AllocError>
     requires { length region.now.points ≤ 32 }
-    ensures { IfOk result (λ m. IsLeastAmong region.now cells.now (λ s c. (s.exchange ≡ exchange) × (s.columns ≡ columns)) m) }
+    ensures { IfOk result (IsLeastAmong region.now cells.now
+        (λ s c. (s.exchange ≡ exchange) × (s.columns ≡ columns))) }
 {
     let kept = Symmetry {
         exchange,
@@ -201,7 +204,7 @@ fn least_of_columns(
     exchange: bool,
 ) -> Result<Image, AllocError>
     requires { length region.now.points ≤ 32 }
-    ensures { IfOk result (λ m. IsLeastAmong region.now cells.now (λ s c. s.exchange ≡ exchange) m) }
+    ensures { IfOk result (IsLeastAmong region.now cells.now (λ s c. s.exchange ≡ exchange)) }
 {
     let kept = least_of_rows(alloc, region, cells, exchange, false)?;
     let over = least_of_rows(alloc, region, cells, exchange, true)?;
@@ -254,8 +257,8 @@ fn no_places() -> [u8; 32]
 pub(crate) fn places_of(region: &Region, cells: &Cells, image: &Image) -> [u8; 32]
     requires few { length region.now.points ≤ 32 }
     requires long { length image.now.spots.items ≤ 32 }
-    requires image { IsImage region.now cells.now image.now.symmetry image.now.colours image.now.begin.column image.now.begin.row image.now.spots.items }
-    ensures places { Places region.now cells.now image.now.symmetry image.now.colours image.now.begin.column image.now.begin.row image.now.spots.items result }
+    requires image { IsImageOf region.now cells.now image.now }
+    ensures places { AreImagePlaces region.now cells.now image.now result }
     ensures past { (i : ℕ) → length region.now.points ≤ i → i < 32 → slice_index result i ≡ 0 }
 {
     let mut all = no_places();

@@ -11,8 +11,10 @@ ghost use Rattle.region_book.specs.Law.{TellsShapes, PairsPlaces};
 /// to the same place carries the first onto the second, with the colours exchanged exactly where one of the turns exchanges
 /// them. It has no code.
 pub fn one_shape()
-    ensures same { (r : Shape) (cells : List Cell) (x : List Spot) (s : Turn) (q : Shape) (cells' : List Cell) (y : List Spot) (t : Turn)
+    ensures same { (r : Shape) (cells : List Cell) (x : List Spot) (s : Turn)
+        (q : Shape) (cells' : List Cell) (y : List Spot) (t : Turn)
         → TellsShapes r cells x s q cells' y t }
-    ensures pairs { (r : Shape) (cells : List Cell) (x : List Spot) (s : Turn) (q : Shape) (cells' : List Cell) (y : List Spot) (t : Turn)
+    ensures pairs { (r : Shape) (cells : List Cell) (x : List Spot) (s : Turn)
+        (q : Shape) (cells' : List Cell) (y : List Spot) (t : Turn)
         → PairsPlaces r cells x s q cells' y t }
 {}
