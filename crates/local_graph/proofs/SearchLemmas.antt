@@ -1,11 +1,14 @@
 -- A depth-first search under way.
-use Rattle.std.proofs.Common.{◌≡◌, ◌≢◌, ℕ, ◌+◌, ◌^◌, ◌<◌, ◌≤◌, inl, inr, arith, refl, sym, ap, ◌∙◌, List, [], ◌∷◌, ◌++◌, length, get_or, set, cond, subst, append_assoc}
+use Rattle.std.proofs.Common.{◌≡◌, ◌≢◌, ℕ, ◌+◌, ◌^◌, ◌<◌, ◌≤◌, inl, inr, arith, refl, sym, ap, ◌∙◌, List, [], ◌∷◌, ◌++◌, length, get_or, set, cond, subst, append_assoc, ◌-◌, take, slice_get, Some}
 use Rattle.std.specs.List.{AllPairs, Contains}
 use Rattle.std.proofs.lemmas.Bool.{cases_eq, cases_lt}
 use Rattle.std.proofs.lemmas.List.{length_push, length-set, map-append, get_or-set_same, get_or-set_other, get_or_past, get_or_push, get_or_append_left, get_or_default}
 use Rattle.std.proofs.lemmas.List.Elements.{Contains-get_or, Contains-push, Contains-push_cases, Contains-append_left}
 use Rattle.std.proofs.lemmas.List.Quantifiers.{all_pairs_push}
 use Rattle.std.proofs.lemmas.List.Sums.{sum_by-set, sum_by_push}
+use Rattle.std.proofs.Math.Seq.{set-append_seam}
+use Rattle.std.proofs.lemmas.Option.{slice_get_within, get_or_from_slice_get}
+use Rattle.std.proofs.lemmas.List.{take_more, take_all}
 use Rattle.local_graph.specs.declared.graph.Edge.{Edge}
 use Rattle.local_graph.specs.declared.search.Frame.{Frame}
 use Rattle.local_graph.specs.declared.search.Visit.{Visit}
@@ -321,3 +324,23 @@ search_end E visits order r s = record {
         let w = s.ends_first k e lt (subst (λ x. Contains (edges_at E x) e) (sym is) f.0) in
         let short : w.0 < length order = omega (arith, w.1) in
         reach e.next j es (subst (Contains order) w.2 (Contains-get_or order w.0 0 short)) f.1
+
+-- a frame in place of the last
+pub frame_there : (front path : List Frame) (f g : Frame) (k : ℕ) → path ≡ front ++ f ∷ [] → k + 1 ≡ length path
+    → set path k g ≡ front ++ g ∷ []
+frame_there front path f g k ends at =
+    let here : k ≡ length front = omega (arith, at, ap length ends, length_push front f) in
+    ap (λ l. set l k g) ends ∙ ap (λ j. set (front ++ f ∷ []) j g) here ∙ set-append_seam front f [] g
+
+pub path_some : (front path : List Frame) (f : Frame) → path ≡ front ++ f ∷ [] → 0 < length path
+path_some front path f ends = omega (arith, ap length ends, length_push front f)
+
+-- what `last` answers is the path's last frame
+pub ends_in : (path now : List Frame) (f : Frame) → now ≡ path → slice_get now (length now - 1) ≡ Some f
+    → path ≡ take (length path - 1) path ++ f ∷ []
+ends_in path now f same e =
+    let e' : slice_get path (length path - 1) ≡ Some f = subst (λ l. slice_get l (length l - 1) ≡ Some f) same e in
+    let lt = slice_get_within path (length path - 1) f e' in
+    let whole : take (length path - 1 + 1) path ≡ path = take_all (length path - 1 + 1) path (omega (arith, lt)) in
+    sym whole ∙ take_more path (length path - 1) f lt
+    ∙ ap (λ x. take (length path - 1) path ++ x ∷ []) (get_or_from_slice_get path (length path - 1) f f e')

@@ -1,5 +1,5 @@
 -- A depth-first search from the first node.
-use Rattle.std.specs.Prelude.{◌≡◌, ◌≢◌, ℕ, ◌+◌, ◌*◌, ◌^◌, ◌<◌, ◌≤◌, ◌⊎◌, List, [], ◌∷◌, length, map, slice_index, slice_index_or, Contains, Bool, true, false, count_by, sum_by}
+use Rattle.std.specs.Prelude.{◌≡◌, ◌≢◌, ℕ, ◌+◌, ◌*◌, ◌^◌, ◌<◌, ◌≤◌, ◌⊎◌, List, [], ◌∷◌, ◌++◌, length, map, slice_index, slice_index_or, Contains, Bool, true, false, count_by, sum_by}
 use Rattle.std.specs.List.{AllPairs}
 use Rattle.local_graph.specs.declared.graph.Edge.{Edge}
 use Rattle.local_graph.specs.declared.search.Frame.{Frame}
@@ -15,6 +15,10 @@ visit_at visits i = slice_index_or visits i New
 
 abbrev pub nodes_of : List Frame → List ℕ
 nodes_of path = map (λ f. f.node) path
+
+-- the frame is the last of the path
+abbrev pub EndsIn : List Frame → Frame → Type 0
+EndsIn path f = (front : List Frame) × (path ≡ front ++ f ∷ [])
 
 -- The frames lead from node `i` to node `j`, each by the edge that it has left.
 abbrev pub Trail : List (List Edge) → ℕ → List Frame → ℕ → Type 0

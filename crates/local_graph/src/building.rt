@@ -1,6 +1,6 @@
 //! Building a graph: the positions are explored in the order in which they are found, and then put in an order.
 
-ghost use Rattle.std.specs.Prelude.{◌≡◌, ◌≢◌, ◌+◌, ◌*◌, ◌^◌, ◌<◌, ◌≤◌, List, [], length, MatchResult, alloc_error};
+ghost use Rattle.std.specs.Prelude.{◌≡◌, ◌≢◌, ◌+◌, ◌*◌, ◌^◌, ◌<◌, ◌≤◌, List, [], length, IfOk, MatchResult, alloc_error};
 ghost use Rattle.local_graph.specs.declared.building.GraphError.TheVariants.{Memory};
 ghost use Rattle.std.specs.List.{AllPairs};
 ghost use Rattle.local_graph.specs.Built.{Built};
@@ -117,6 +117,15 @@ pub(crate) fn explore<L: Ledger>(
     Ok(all)
 }
 
+/// The positions found, as a list alone: what finds their places is given back.
+fn list_of(alloc: Global, found: IndexSet<u64>) -> Result<Vec<u64>, AllocError>
+    ensures { IfOk result (λ positions. positions.items ≡ found.keys) }
+{
+    let mut positions = Vec::new(alloc);
+    positions.extend_from_slice(found.as_slice())?;
+    Ok(positions)
+}
+
 /// The graph of exactly the positions that local play reaches from the region's cells, each with exactly its moves. It takes at
 /// most one step for each of them.
 pub fn build<L: Ledger>(
@@ -134,8 +143,9 @@ pub fn build<L: Ledger>(
     if points > 32 {
         return Err(GraphError::Points(points as u16));
     }
-    let mut positions = IndexSet::new(alloc);
-    let edges = explore(alloc, region, limit, &mut positions, steps)?;
+    let mut found = IndexSet::new(alloc);
+    let edges = explore(alloc, region, limit, &mut found, steps)?;
+    let positions = list_of(alloc, found)?;
     match search_from_opening(alloc, &edges)? {
         Searched::Order(order) => Ok(Graph::new(positions, edges, order)),
         Searched::Cycle(moves, start) => Err(GraphError::Cycle(moves, start)),

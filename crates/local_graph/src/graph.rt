@@ -4,7 +4,6 @@ ghost use Rattle.std.specs.Prelude.{◌≡◌, ◌<◌, length, slice_index, sli
 
 use crate::edge_lists::EdgeLists;
 use go_grid::Colour;
-use indexmap::IndexSet;
 use local_play::Local;
 use std::marker::Model;
 
@@ -20,7 +19,7 @@ pub struct Edge {
 /// All positions that local moves reach from an opening, and their moves.
 #[derive(Drop)]
 pub struct Graph {
-    positions: IndexSet<u64>,
+    positions: Vec<u64>,
     edges: EdgeLists,
     order: Vec<usize>,
 }
@@ -31,18 +30,18 @@ impl Model for Graph {
 
     ghost Value = { Nodes };
 
-    ghost view = { λ g. record { positions = g.positions.keys; edges = g.edges; order = g.order.items } };
+    ghost view = { λ g. record { positions = g.positions.items; edges = g.edges; order = g.order.items } };
 
-    ghost invariant = { λ g. length g.edges ≡ length g.positions.keys };
+    ghost invariant = { λ g. length g.edges ≡ length g.positions.items };
 }
 
 impl Graph {
     ghost use Rattle.local_graph.specs.Nodes.{Nodes};
 
     /// A graph of positions, their edges and an order of them.
-    pub fn new(positions: IndexSet<u64>, edges: EdgeLists, order: Vec<usize>) -> Graph
-        requires { length edges ≡ length positions.keys }
-        ensures { result ≡ record { positions = positions.keys; edges = edges; order = order.items } }
+    pub(crate) fn new(positions: Vec<u64>, edges: EdgeLists, order: Vec<usize>) -> Graph
+        requires { length edges ≡ length positions.items }
+        ensures { result ≡ record { positions = positions.items; edges = edges; order = order.items } }
     {
         Graph {
             positions,
@@ -63,7 +62,7 @@ impl Graph {
         requires { place < length self.now.positions }
         ensures { result ≡ slice_index self.now.positions place }
     {
-        Local(self.positions.as_slice()[place])
+        Local(self.positions[place])
     }
 
     /// The moves of the position at a place, Black's by place and then White's.

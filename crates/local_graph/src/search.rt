@@ -3,7 +3,7 @@
 ghost use Rattle.std.specs.Prelude.{◌≡◌, ◌^◌, ◌<◌, [], ◌∷◌, ◌++◌, length, map, slice_set, slice_index, IfOk, OnOk, Contains};
 ghost use Rattle.local_graph.specs.Built.{IsRooted, move_of};
 ghost use Rattle.local_graph.specs.SearchedFor.{IsSearched};
-ghost use Rattle.local_graph.specs.Searching.{Searching, Returns, Stepped, Trail, work_left, nodes_of};
+ghost use Rattle.local_graph.specs.Searching.{Searching, Returns, Stepped, Trail, EndsIn, work_left, nodes_of};
 ghost use Rattle.local_graph.specs.Nodes.{edges_at, edge_at};
 ghost use Rattle.local_graph.specs.declared.search.Visit.TheVariants.{OnPath, Placed};
 
@@ -94,21 +94,23 @@ impl Search {
         Ok(search)
     }
 
-    /// Follows the next move of a position that was the path's last.
+    /// Follows the next move of the path's last position.
     fn follow(&mut self, edges: &EdgeLists, last: Frame) -> Result<Progress, AllocError>
         requires rooted { IsRooted edges.now }
-        requires under_way { Searching edges.now (self.old.path.items ++ last ∷ [])
+        requires under_way { Searching edges.now self.old.path.items
             self.old.visits.items self.old.order.items }
+        requires ends { EndsIn self.old.path.items last }
         requires more { 0 < last.left }
-        ensures { IfOk result (Stepped edges.now (work_left (self.old.path.items ++ last ∷ []) self.old.visits.items)
+        ensures { IfOk result (Stepped edges.now (work_left self.old.path.items self.old.visits.items)
             self.new.path.items self.new.visits.items self.new.order.items) }
     {
         let left = last.left - 1;
         let next = edges.edge(last.node, left).next;
-        self.path.push(Frame {
+        let at = self.path.len() - 1;
+        self.path[at] = Frame {
             node: last.node,
             left,
-        })?;
+        };
         match self.visits[next] {
             Visit::Placed => Ok(Progress::Forward),
             Visit::OnPath => Ok(Progress::Back(next)),
@@ -126,12 +128,13 @@ impl Search {
         ensures { IfOk result (Stepped edges.now (work_left self.old.path.items self.old.visits.items)
             self.new.path.items self.new.visits.items self.new.order.items) }
     {
-        let Some(last) = self.path.pop() else {
+        let Some(last) = self.path.last().copied() else {
             return Ok(Progress::Done);
         };
         if last.left > 0 {
             return self.follow(edges, last);
         }
+        self.path.pop();
         self.place(last.node)?;
         Ok(Progress::Forward)
     }

@@ -1,35 +1,85 @@
-use Rattle.std.proofs.Common.{◌-◌, arith, refl}
-use Rattle.local_graph.proofs.SearchLemmas.{edge_inside, next_inside, said_skip, said_back, said_enter}
+use Rattle.std.proofs.Common.{◌≡◌, ◌∷◌, [], ◌++◌, ◌+◌, ◌-◌, ◌<◌, length, set, arith, refl, sym, subst}
+use Rattle.local_graph.specs.declared.search.Frame.{Frame}
+use Rattle.local_graph.specs.Searching.{Searching, work_left}
+use Rattle.local_graph.proofs.SearchLemmas.{edge_inside, next_inside, said_skip, said_back, said_enter, frame_there, path_some}
 use Rattle.local_graph.proofs.search.Search.follow.Goals as goal
 
 pub edge-next-requires : goal.edge-next-requires
 edge-next-requires c =
-    edge_inside _ _ _ _ _ c.requires.under_way record { node = c.args.last.node; left = c.args.last.left - 1 } refl (omega (arith, c.requires.more))
+    let s = c.args.self.now in
+    let front = c.requires.ends.0 in
+    let ends = c.requires.ends.1 in
+    let g : Frame = record { node = c.args.last.node; left = c.args.last.left - 1 } in
+    let under : Searching c.args.edges.now (front ++ c.args.last ∷ []) s.visits.items s.order.items =
+    subst (λ p. Searching c.args.edges.now p s.visits.items s.order.items) ends c.requires.under_way in
+    edge_inside c.args.edges.now front c.args.last s.visits.items s.order.items under g refl (omega (arith, c.requires.more))
 
 pub index-requires : goal.index-requires
 index-requires c =
-    let inside = next_inside _ _ _ _ _ c.requires.under_way record { node = c.args.last.node; left = c.args.last.left - 1 } refl
-    (omega (arith, c.requires.more)) c.requires.rooted in
-    rw c.edge-next.ensures (omega (arith, inside, c.args.self.now.visits.ok))
+    let s = c.args.self.now in
+    let front = c.requires.ends.0 in
+    let ends = c.requires.ends.1 in
+    let g : Frame = record { node = c.args.last.node; left = c.args.last.left - 1 } in
+    let under : Searching c.args.edges.now (front ++ c.args.last ∷ []) s.visits.items s.order.items =
+    subst (λ p. Searching c.args.edges.now p s.visits.items s.order.items) ends c.requires.under_way in
+    let inside = next_inside c.args.edges.now front c.args.last s.visits.items s.order.items under g refl (omega (arith, c.requires.more)) c.requires.rooted in
+    rw c.edge-next.ensures (omega (arith, inside, s.visits.ok))
 
 pub enter-requires-clause-inside : goal.enter-requires-clause-inside
 enter-requires-clause-inside c =
-    let inside = next_inside _ _ _ _ _ c.requires.under_way record { node = c.args.last.node; left = c.args.last.left - 1 } refl
-    (omega (arith, c.requires.more)) c.requires.rooted in
+    let s = c.args.self.now in
+    let front = c.requires.ends.0 in
+    let ends = c.requires.ends.1 in
+    let g : Frame = record { node = c.args.last.node; left = c.args.last.left - 1 } in
+    let under : Searching c.args.edges.now (front ++ c.args.last ∷ []) s.visits.items s.order.items =
+    subst (λ p. Searching c.args.edges.now p s.visits.items s.order.items) ends c.requires.under_way in
+    let inside = next_inside c.args.edges.now front c.args.last s.visits.items s.order.items under g refl (omega (arith, c.requires.more)) c.requires.rooted in
     rw c.edge-next.ensures (omega (arith, inside, c.requires.under_way.long))
 
 pub returns-in-Placed : goal.returns-in-Placed
 returns-in-Placed c =
-    said_skip _ _ _ _ _ c.requires.under_way record { node = c.args.last.node; left = c.args.last.left - 1 } refl (omega (arith, c.requires.more))
-    c.edge-next.result _ c.index.result.now c.requires.rooted c.edge-next.ensures c.in_ok-push.ensures.items c.index.ensures c.in-Placed.is
+    let s = c.args.self.now in
+    let front = c.requires.ends.0 in
+    let ends = c.requires.ends.1 in
+    let g : Frame = record { node = c.args.last.node; left = c.args.last.left - 1 } in
+    let under : Searching c.args.edges.now (front ++ c.args.last ∷ []) s.visits.items s.order.items =
+    subst (λ p. Searching c.args.edges.now p s.visits.items s.order.items) ends c.requires.under_way in
+    let some = path_some front s.path.items c.args.last ends in
+    let last : c.len-at.result - 1 + 1 ≡ length s.path.items = omega (arith, some, c.len-at.ensures, s.path.ok) in
+    let there = frame_there front s.path.items c.args.last g (c.len-at.result - 1) ends last in
+    subst (λ w. Searching c.args.edges.now (set s.path.items (c.len-at.result - 1) g) s.visits.items s.order.items
+    × (work_left (set s.path.items (c.len-at.result - 1) g) s.visits.items < work_left w s.visits.items)) (sym ends)
+    (said_skip c.args.edges.now front c.args.last s.visits.items s.order.items under g refl (omega (arith, c.requires.more))
+    c.edge-next.result _ c.index.result.now c.requires.rooted c.edge-next.ensures there c.index.ensures c.in-Placed.is)
 
 pub returns-in-OnPath : goal.returns-in-OnPath
 returns-in-OnPath c =
-    said_back _ _ _ _ _ c.requires.under_way record { node = c.args.last.node; left = c.args.last.left - 1 } refl (omega (arith, c.requires.more))
-    c.edge-next.result _ c.index.result.now c.requires.rooted c.edge-next.ensures c.in_ok-push.ensures.items c.index.ensures c.in-OnPath.is
+    let s = c.args.self.now in
+    let front = c.requires.ends.0 in
+    let ends = c.requires.ends.1 in
+    let g : Frame = record { node = c.args.last.node; left = c.args.last.left - 1 } in
+    let under : Searching c.args.edges.now (front ++ c.args.last ∷ []) s.visits.items s.order.items =
+    subst (λ p. Searching c.args.edges.now p s.visits.items s.order.items) ends c.requires.under_way in
+    let some = path_some front s.path.items c.args.last ends in
+    let last : c.len-at.result - 1 + 1 ≡ length s.path.items = omega (arith, some, c.len-at.ensures, s.path.ok) in
+    let there = frame_there front s.path.items c.args.last g (c.len-at.result - 1) ends last in
+    said_back c.args.edges.now front c.args.last s.visits.items s.order.items under g refl (omega (arith, c.requires.more))
+    c.edge-next.result _ c.index.result.now c.requires.rooted c.edge-next.ensures there c.index.ensures c.in-OnPath.is
 
 pub returns-in_ok-enter-in-New : goal.returns-in_ok-enter-in-New
 returns-in_ok-enter-in-New c =
-    said_enter _ _ _ _ _ c.requires.under_way record { node = c.args.last.node; left = c.args.last.left - 1 } refl (omega (arith, c.requires.more))
-    c.edge-next.result _ c.index.result.now c.requires.rooted c.edge-next.ensures c.in_ok-push.ensures.items c.index.ensures _ _ _ c.in-New.is
-    c.in_ok-enter-in-New.ensures.path c.in_ok-enter-in-New.ensures.visits c.in_ok-enter-in-New.ensures.order c.in_ok-enter-in-New.ensures.fits
+    let s = c.args.self.now in
+    let front = c.requires.ends.0 in
+    let ends = c.requires.ends.1 in
+    let g : Frame = record { node = c.args.last.node; left = c.args.last.left - 1 } in
+    let under : Searching c.args.edges.now (front ++ c.args.last ∷ []) s.visits.items s.order.items =
+    subst (λ p. Searching c.args.edges.now p s.visits.items s.order.items) ends c.requires.under_way in
+    let some = path_some front s.path.items c.args.last ends in
+    let last : c.len-at.result - 1 + 1 ≡ length s.path.items = omega (arith, some, c.len-at.ensures, s.path.ok) in
+    let there = frame_there front s.path.items c.args.last g (c.len-at.result - 1) ends last in
+    let now = c.enter.new.self in
+    subst (λ w. Searching c.args.edges.now now.path.items now.visits.items now.order.items
+    × (work_left now.path.items now.visits.items < work_left w s.visits.items)) (sym ends)
+    (said_enter c.args.edges.now front c.args.last s.visits.items s.order.items under g refl (omega (arith, c.requires.more))
+    c.edge-next.result _ c.index.result.now c.requires.rooted c.edge-next.ensures there c.index.ensures _ _ _ c.in-New.is
+    c.in_ok-enter-in-New.ensures.path c.in_ok-enter-in-New.ensures.visits c.in_ok-enter-in-New.ensures.order c.in_ok-enter-in-New.ensures.fits)
