@@ -1,5 +1,5 @@
 -- Comparisons of forms that are remembered from form to form.
-use Rattle.std.specs.Prelude.{ℕ, List, Bool, Option}
+use Rattle.std.specs.Prelude.{ℕ, List, Bool}
 use Rattle.std.specs.Map.{lookup}
 use Rattle.game_store.specs.Tree.{Tree}
 use Rattle.game_canon.specs.Comparisons.{same_pair, AreRight}

@@ -2,7 +2,7 @@ use Rattle.std.proofs.Common.{◌∙◌, arith, sym, subst}
 use Rattle.std.proofs.lemmas.Int.{ints}
 use Rattle.game_store.specs.Meaning.{AreIds, AreDistinct}
 use Rattle.game_canon.specs.Comparisons.{recalled, AreRight}
-use Rattle.game_canon.proofs.Finish.{starts, start-as, known-beside, reduced-beside, right-empty, right-grown}
+use Rattle.game_canon.proofs.Finish.{starts, start-as, known-beside, reduced-beside, right-empty}
 use Rattle.game_canon.proofs.reduction.reduced.Goals as goal
 
 pub best-requires-clause-ids : goal.best-requires-clause-ids
