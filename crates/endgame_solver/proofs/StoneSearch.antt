@@ -3,6 +3,7 @@ use Rattle.std.proofs.Common.{ℕ, ◌≡◌, ◌+◌, ◌<◌, ◌≤◌, inl, 
 use Rattle.std.proofs.lemmas.Bool.{cases_eq, cases_lt}
 use Rattle.std.proofs.lemmas.List.{get_or_default}
 use Rattle.go_grid.specs.declared.grid.Colour.{Colour}
+use Rattle.go_grid.specs.Marks.{IsMarked}
 use Rattle.go_grid.specs.Region.{Shape}
 use Rattle.whole_rules.specs.declared.states.Move.{Move}
 use Rattle.whole_rules.specs.declared.states.Move.TheVariants.{Stone, Spend, Half}
@@ -30,6 +31,10 @@ none_before_more r v edges c p n none before j f less short at stone = elim (cas
   | inl same ↦ none (subst (λ x. IsStoneAt r c p (own v x)) (sym at ∙ get_or_default edges j f no_edge short ∙ ap (λ m. get_or edges m no_edge) same) stone)
   | inr other ↦ before j f (omega (arith, less, other)) short at stone
 ]
+
+-- a stone that wins is at a contested point
+pub contested-winning : (s : State) (p : ℕ) → IsWinning s (Stone p) → IsMarked s.contested p
+contested-winning s p w = w.1.0
 
 -- no stone below n wins
 abbrev pub NoStone : State → ℕ → Type 0

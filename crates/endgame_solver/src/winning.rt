@@ -215,6 +215,9 @@ pub(crate) fn stone_wins(
     ensures same { sum.new ≡ sum.old }
     ensures fits { Fits present.now.store.now search.new }
 {
+    if !present.whole.contested(point) {
+        return false;
+    }
     let side = present.whole.side();
     let Some((k, edge)) = stone_edge(present.regions, present.book, present.places, point, side)
     else {

@@ -6,13 +6,14 @@ ghost use Rattle.game_store.specs.Sum.{◌+ᵍ◌};
 ghost use Rattle.game_store.specs.Meaning.{tree_at, number_tree, Extends};
 ghost use Rattle.game_store.specs.Parts.{HasMoreParts};
 ghost use Rattle.game_canon.specs.Changes.{AreKnown};
+ghost use Rattle.game_canon.specs.FormComparisons.{AreFormComparisonsRight};
 ghost use Rattle.game_canon.specs.Outcomes.{IsCanonicalId};
 ghost use Rattle.game_calc.specs.Steps.{IsPairRefusal};
 ghost use Rattle.game_calc.specs.Table.{noted, beside, AreNoted, AddsSums, AddsMoves, AreMovesKnown, AreRight};
 
 use crate::table::{Summand, Sums, noted_sum};
 use dyadic_num::Dyadic;
-use game_canon::{FormError, canonical};
+use game_canon::{FormComparisons, FormError, canonical_with};
 use game_store::{Form, GameId, Store};
 use std::alloc::{AllocError, Global};
 
@@ -106,12 +107,14 @@ fn number_sum(
     Ok(store.number(sum)?)
 }
 
-/// The canonical form of the sum of two forms: two numbers are added; else its options are the sums after each move in a
+/// The canonical form of the sum of two forms: that of the same two the other way round, where it is noted; two numbers are
+/// added; else its options are the sums after each move in a
 /// game that is no number (number avoidance, Conway).
 pub(crate) fn pair_sum(
     alloc: Global,
     store: &mut Store,
     sums: &Sums,
+    comparisons: &mut FormComparisons,
     a: GameId,
     b: GameId,
     parts_limit: u32,
@@ -121,12 +124,17 @@ pub(crate) fn pair_sum(
     requires first { AreMovesKnown store.old (λ i. noted sums.now i b) a }
     requires second { AreMovesKnown store.old (λ i. noted sums.now a i) b }
     requires right { AreRight store.old parts_limit (noted sums.now) }
+    requires comparisons { AreFormComparisonsRight store.old comparisons.old }
     ensures value { IfOk result (λ id. IsCanonicalId store.new (tree_at store.old a +ᵍ tree_at store.old b) id) }
     ensures parts { IfOk result (λ id. HasMoreParts (tree_at store.new id) parts_limit → ⊥) }
     ensures refusal { IfErr result (λ error. IsPairRefusal (tree_at store.old a +ᵍ tree_at store.old b) parts_limit error) }
+    ensures comparisons { AreFormComparisonsRight store.new comparisons.new }
     ensures kept { Extends store.old store.new }
 {
     let _count = store.len();
+    if let Some(sum) = noted_sum(sums, Summand::Second, a, b) {
+        return Ok(sum);
+    }
     if let Some((x, y)) = both_numbers(store, a, b) {
         return number_sum(store, x, y, parts_limit);
     }
@@ -136,5 +144,12 @@ pub(crate) fn pair_sum(
     };
     add_moves(store, sums, Summand::First, a, b, &mut options)?;
     add_moves(store, sums, Summand::Second, b, a, &mut options)?;
-    canonical(alloc, store, &options.left, &options.right, parts_limit)
+    canonical_with(
+        alloc,
+        store,
+        comparisons,
+        &options.left,
+        &options.right,
+        parts_limit,
+    )
 }

@@ -4,13 +4,14 @@ ghost use Rattle.std.specs.Prelude.{◌≡◌, ◌<◌, ℕ, Some, length, slice
 ghost use Rattle.game_store.specs.Sum.{◌+ᵍ◌};
 ghost use Rattle.game_store.specs.Meaning.{tree_at, Extends};
 ghost use Rattle.game_canon.specs.Changes.{AreClosed, AreKnown};
+ghost use Rattle.game_canon.specs.FormComparisons.{AreFormComparisonsRight};
 ghost use Rattle.game_canon.specs.Outcomes.{IsCanonicalId};
 ghost use Rattle.game_calc.specs.Steps.{IsOutOfLimits, IsPairRefusal, IsStepRefusal};
 ghost use Rattle.game_calc.specs.Table.{noted, Grows, AreRight, AreRowsKnown, AreInnerKnown};
 
 use crate::pair::pair_sum;
 use crate::table::{Sums, note_sum};
-use game_canon::{FormError, reachable};
+use game_canon::{FormComparisons, FormError, reachable};
 use game_store::{GameId, Store};
 use indexmap::IndexMap;
 use std::alloc::Global;
@@ -20,6 +21,7 @@ fn add_row(
     alloc: Global,
     store: &mut Store,
     sums: &mut Sums,
+    comparisons: &mut FormComparisons,
     a: GameId,
     places: &[GameId],
     parts_limit: u32,
@@ -28,15 +30,17 @@ fn add_row(
     requires places { AreClosed store.old places.now }
     requires inner { AreInnerKnown store.old (noted sums.old) a places.now }
     requires right { AreRight store.old parts_limit (noted sums.old) }
+    requires comparisons { AreFormComparisonsRight store.old comparisons.old }
     ensures known { OnOk result (AreKnown (λ i. noted sums.new a i) places.now) }
     ensures right { OnOk result (AreRight store.new parts_limit (noted sums.new)) }
+    ensures comparisons { OnOk result (AreFormComparisonsRight store.new comparisons.new) }
     ensures grows { OnOk result (Grows (noted sums.old) (noted sums.new)) }
     ensures refusal { IfErr result (λ error. (j : ℕ) × (j < length places.now) × IsPairRefusal (tree_at store.old a +ᵍ tree_at store.old (slice_index places.now j)) parts_limit error) }
     ensures kept { Extends store.old store.new }
 {
     let _count = store.len();
     'adding: for place in places {
-        let sum = pair_sum(alloc, store, sums, a, *place, parts_limit)?;
+        let sum = pair_sum(alloc, store, sums, comparisons, a, *place, parts_limit)?;
         note_sum(sums, a, *place, sum)?;
     }
     Ok(())
@@ -47,6 +51,7 @@ fn add_all(
     alloc: Global,
     store: &mut Store,
     sums: &mut Sums,
+    comparisons: &mut FormComparisons,
     first: &[GameId],
     second: &[GameId],
     parts_limit: u32,
@@ -54,14 +59,16 @@ fn add_all(
     requires first { AreClosed store.old first.now }
     requires second { AreClosed store.old second.now }
     requires right { AreRight store.old parts_limit (noted sums.old) }
+    requires comparisons { AreFormComparisonsRight store.old comparisons.old }
     ensures known { OnOk result (AreRowsKnown (noted sums.new) first.now second.now (length first.now)) }
     ensures right { OnOk result (AreRight store.new parts_limit (noted sums.new)) }
+    ensures comparisons { OnOk result (AreFormComparisonsRight store.new comparisons.new) }
     ensures refusal { IfErr result (λ error. (i j : ℕ) × (i < length first.now) × (j < length second.now) × IsPairRefusal (tree_at store.old (slice_index first.now i) +ᵍ tree_at store.old (slice_index second.now j)) parts_limit error) }
     ensures kept { Extends store.old store.new }
 {
     let _count = store.len();
     'adding: for place in first {
-        add_row(alloc, store, sums, *place, second, parts_limit)?;
+        add_row(alloc, store, sums, comparisons, *place, second, parts_limit)?;
     }
     Ok(())
 }
@@ -87,7 +94,16 @@ pub fn add(
     let first = reachable(alloc, store, a)?;
     let second = reachable(alloc, store, b)?;
     let mut sums = IndexMap::new(alloc);
-    add_all(alloc, store, &mut sums, &first, &second, parts_limit)?;
+    let mut comparisons = FormComparisons::new(alloc);
+    add_all(
+        alloc,
+        store,
+        &mut sums,
+        &mut comparisons,
+        &first,
+        &second,
+        parts_limit,
+    )?;
     let _new_count = store.len();
     match sums.get(&(a, b)).copied() {
         Some(sum) => Ok(sum),

@@ -1,5 +1,5 @@
 -- A reduced form in the order of its ids is the canonical tree.
-use Rattle.std.proofs.Common.{ℕ, zero, suc, ◌+◌, ◌<◌, ◌≤◌, ◌≡◌, List, length, arith, refl, sym, ◌∙◌, inl, inr, subst, ℤ}
+use Rattle.std.proofs.Common.{ℕ, zero, suc, ◌+◌, ◌<◌, ◌≤◌, ◌≡◌, List, [], length, arith, refl, sym, ap, ◌∙◌, inl, inr, subst, ℤ}
 use Rattle.std.proofs.lemmas.Bool.{cases_lt}
 use Rattle.game_store.specs.Tree.{Tree, left, right, Has}
 use Rattle.game_store.specs.Order.{◌≤ᵍ◌, ◌≡ᵍ◌}
@@ -7,7 +7,7 @@ use Rattle.game_store.specs.Number.{IsNumberTree, num, IsNumber}
 use Rattle.game_store.specs.TextOrder.{IsCanonicalTree, IsCanonicalFor}
 use Rattle.game_store.specs.Reduction.{KeepsLeft, KeepsRight}
 use Rattle.std.proofs.Common.{pos, negsuc}
-use Rattle.std.specs.Prelude.{Option, Some, Bool, IsTrue, ◌↔◌, unsigned_abs, ◌^◌}
+use Rattle.std.specs.Prelude.{Option, Some, None, Bool, IsTrue, ◌↔◌, unsigned_abs, ◌^◌}
 use Rattle.game_store.specs.Threshold.{IsFloor, IsCeiling}
 use Rattle.std.proofs.lemmas.Int.{ints}
 use Rattle.game_store.specs.Tree.{neg, size}
@@ -17,14 +17,16 @@ use Rattle.game_store.proofs.TextOrderLaws.{sorted-has, has-sorted}
 use Rattle.game_store.proofs.OrderLaws.{le-trans, le-refl, le-in, size-left, size-right, size-pos}
 use Rattle.game_store.proofs.FormLaws.{by_better, number_between}
 use Rattle.game_store.proofs.ReductionLaws.{form-canonical, number-kept_left, number-kept_right, number-canonical, canonical-same}
-use Rattle.game_store.specs.Meaning.{tree_at, pick, listed, form, AreIds, AreCanonical, AreDistinct, IsAscending, number_tree, IsIdOf}
+use Rattle.game_store.specs.Meaning.{tree_at, pick, listed, form, AreIds, AreCanonical, AreDistinct, IsAscending, number_tree, IsIdOf, Extends}
 use Rattle.game_store.proofs.Values.{has-pick}
 use Rattle.game_canon.specs.declared.side.Side.TheVariants.{Left, Right}
 use Rattle.game_canon.specs.Sides.{IsReducedForm, IsStart, AreBest}
 use Rattle.game_canon.specs.declared.games.Unstored.{Unstored}
 use Rattle.game_canon.specs.declared.games.Games.{Games}
 use Rattle.game_canon.specs.Games.{with_unstored, beside, IsUnstored, IsBeside, IsKnown}
-use Rattle.game_canon.specs.Comparisons.{AreRight}
+use Rattle.std.specs.Map.{lookup}
+use Rattle.indexmap.specs.IndexMap.{IndexMap}
+use Rattle.game_canon.specs.Comparisons.{same_pair, recalled, AreRight}
 use Rattle.dyadic_num.specs.Units.{IsInBounds}
 use Rattle.game_store.specs.Parts.{HasMoreParts}
 use Rattle.game_canon.specs.Outcomes.{IsCanonicalId}
@@ -170,13 +172,24 @@ is-unstored Ts G u f c e n s a b p q = record {
     m : IsNumber (form Ts u.left.now u.right.now) → ⊥
     m k = n (k.0, k.1, le-trans _ _ _ e.0 k.2, le-trans _ _ _ k.3 e.1)
 
--- what was found out on the store's games holds beside a form
-pub right-beside : (Ts : List Tree) (o : Option Unstored) (known : ℕ → ℕ → Option Bool) → AreRight Ts known → AreRight (with_unstored Ts o) known
-right-beside Ts o known r a b answer e = let s = r a b answer e in let x = trees-extend Ts o in (
+-- comparisons that are right stay so as the store grows
+pub right-grown : (Ts Us : List Tree) (known : ℕ → ℕ → Option Bool) → Extends Ts Us → AreRight Ts known → AreRight Us known
+right-grown Ts Us known x r a b answer e = let s = r a b answer e in (
   omega (arith, s.0, x.longer),
   omega (arith, s.1, x.longer),
-  subst (λ t. IsTrue answer ↔ (t ≤ᵍ tree_at (with_unstored Ts o) b)) (sym (x.same a s.0)) (subst (λ t. IsTrue answer ↔ (tree_at Ts a ≤ᵍ t)) (sym (x.same b s.1)) s.2),
+  subst (λ t. IsTrue answer ↔ (t ≤ᵍ tree_at Us b)) (sym (x.same a s.0)) (subst (λ t. IsTrue answer ↔ (tree_at Ts a ≤ᵍ t)) (sym (x.same b s.1)) s.2),
 )
+
+-- what was found out on the store's games holds beside a form
+pub right-beside : (Ts : List Tree) (o : Option Unstored) (known : ℕ → ℕ → Option Bool) → AreRight Ts known → AreRight (with_unstored Ts o) known
+right-beside Ts o known r = right-grown Ts (with_unstored Ts o) known (trees-extend Ts o) r
+
+-- nothing is remembered
+pub right-empty : {S : Type 0} (Ts : List Tree) (memo : IndexMap (ℕ × ℕ) Bool S) → memo.entries ≡ [] → AreRight Ts (recalled memo)
+right-empty Ts memo e a b answer k = absurd (none-some answer (sym (ap (λ es. lookup (same_pair (a, b)) es) e) ∙ k))
+  where
+    none-some : (answer : Bool) → None ≡ Some answer → ⊥
+    none-some answer k = cc
 
 pub reducing-start : (Ts : List Tree) (o : Option Unstored) (u : Unstored) (ls rs ms ns : List ℕ) → o ≡ Some u → u.left.now ≡ ls → u.right.now ≡ rs → ms ≡ ls → ns ≡ rs → IsStart Ts ls rs → IsReducing Ts (tree_at (with_unstored Ts o) (length Ts)) ms ns
 reducing-start Ts o u ls rs ms ns e p q i j s = subst (λ z. IsReducing Ts (tree_at (with_unstored Ts o) (length Ts)) z ns) (sym i) (subst (λ z. IsReducing Ts (tree_at (with_unstored Ts o) (length Ts)) ls z) (sym j) record {
@@ -209,11 +222,12 @@ module _ (Ts : List Tree) (g : Games) (u : Unstored) (G : Tree) (ms ns : List �
   same_form : G ≡ᵍ form Ts u.left.now u.right.now
   same_form = subst (λ z. G ≡ᵍ form Ts z u.right.now) (sym p) (subst (λ z. G ≡ᵍ form Ts ms z) (sym q) same)
 
-  pub known-beside : (known : ℕ → ℕ → Option Bool) (f c : ℤ) → AreDistinct Ts → AreRight Ts known → (IsNumber G → ⊥) → IsStart Ts ms ns → IsFloor 60 G f → IsCeiling 60 G c → u.floor ≡ f → u.ceiling ≡ c → IsKnown g known
-  known-beside known f c d r n s a b x y = record {
+  pub known-beside : (known : ℕ → ℕ → Option Bool) (f c : ℤ) → AreDistinct Ts → AreRight Ts known → AreRight Ts (recalled g.earlier.now) → (IsNumber G → ⊥) → IsStart Ts ms ns → IsFloor 60 G f → IsCeiling 60 G c → u.floor ≡ f → u.ceiling ≡ c → IsKnown g known
+  known-beside known f c d r w n s a b x y = record {
     games_are = record {
       distinct = subst AreDistinct (sym e) d;
       beside = subst (λ o. IsBeside g.store.now o) (sym i) (subst (λ Us. IsUnstored Us u) (sym e) (is-unstored Ts G u f c same_form n (subst (λ z. IsStart Ts z u.right.now) (sym p) (subst (λ z. IsStart Ts ms z) (sym q) s)) a b x y));
+      earlier = subst (λ Us. AreRight Us (recalled g.earlier.now)) (sym e) w;
     };
     right = subst (λ Us. AreRight (with_unstored Us g.unstored) known) (sym e) (right-beside Ts g.unstored known r);
   }

@@ -4,7 +4,7 @@ use Rattle.game_store.specs.Tree.{Tree}
 use Rattle.game_store.specs.Number.{IsNumber}
 use Rattle.game_store.specs.Threshold.{IsFloor, IsCeiling}
 use Rattle.game_store.specs.Meaning.{tree_at, form, AreIds, AreDistinct, IsAscending}
-use Rattle.game_canon.specs.Comparisons.{AreRight}
+use Rattle.game_canon.specs.Comparisons.{recalled, AreRight}
 use Rattle.game_canon.specs.declared.games.Games.{Games}
 use Rattle.game_canon.specs.declared.games.Unstored.{Unstored}
 
@@ -35,6 +35,7 @@ IsBeside Ts (Some u) = IsUnstored Ts u
 pub record AreGames (games : Games) : Type 0 where
   pub distinct : AreDistinct games.store.now
   pub beside : IsBeside games.store.now games.unstored
+  pub earlier : AreRight games.store.now (recalled games.earlier.now)
 
 -- the tree of the form beside the store
 abbrev pub beside : Games → Tree

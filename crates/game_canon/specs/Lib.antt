@@ -1,5 +1,6 @@
 pub mod Games
 pub mod Comparisons
+pub mod FormComparisons
 pub mod Orders
 pub mod Ids
 pub mod Sides

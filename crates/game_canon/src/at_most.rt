@@ -88,7 +88,10 @@ fn known(memo: &Comparisons, games: &Games<'_>, a: GameId, b: GameId) -> Option<
     if let Some(answer) = settled(games, a, b) {
         return Some(answer);
     }
-    recall(memo, a, b)
+    if let Some(answer) = recall(memo, a, b) {
+        return Some(answer);
+    }
+    recall(games.earlier, a, b)
 }
 
 /// The comparison at a place among those on which a question rests.

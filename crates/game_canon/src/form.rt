@@ -5,10 +5,12 @@ ghost use Rattle.game_store.specs.Number.{IsNumber};
 ghost use Rattle.game_store.specs.Threshold.{IsFloor, IsCeiling};
 ghost use Rattle.game_store.specs.Meaning.{tree_at, listed, AreIds, Extends};
 ghost use Rattle.game_store.specs.Parts.{HasMoreParts};
+ghost use Rattle.game_canon.specs.FormComparisons.{AreFormComparisonsRight};
 ghost use Rattle.game_canon.specs.Outcomes.{IsCanonicalId, AreWithin, AreOptionsWithin, IsPastBounds, IsCause};
 
 use crate::errors::FormError;
 use crate::followers::has_more_parts;
+use crate::form_comparisons::FormComparisons;
 use crate::reduction::reduced;
 use crate::thresholds::{Value, number_value};
 use game_store::{GameId, Store};
@@ -18,12 +20,14 @@ use std::alloc::Global;
 fn reduced_form(
     alloc: Global,
     store: &mut Store,
+    comparisons: &mut FormComparisons,
     left: &[GameId],
     right: &[GameId],
     floor: i128,
     ceiling: i128,
     parts_limit: u32,
 ) -> Result<GameId, FormError>
+    requires comparisons { AreFormComparisonsRight store.old comparisons.old }
     requires left { AreIds store.old left.now }
     requires right { AreIds store.old right.now }
     requires no_number { IsNumber (listed store.old left.now right.now) → ⊥ }
@@ -33,14 +37,56 @@ fn reduced_form(
     ensures parts { IfOk result (λ id. HasMoreParts (tree_at store.new id) parts_limit → ⊥) }
     ensures refusal { IfErr result (λ error. IsCause (listed store.old left.now right.now) parts_limit error) }
     ensures sizes { IfOk result (λ id. (b : ℕ) → AreOptionsWithin b (listed store.old left.now right.now) → AreWithin (b + 2 ^ 60) (tree_at store.new id)) }
+    ensures comparisons { AreFormComparisonsRight store.new comparisons.new }
     ensures kept { Extends store.old store.new }
 {
-    let lists = reduced(alloc, store, left, right, floor, ceiling)?;
+    comparisons.limit();
+    let known = &mut comparisons.known;
+    let lists = reduced(alloc, store, known, left, right, floor, ceiling)?;
     let _count = store.len();
     if has_more_parts(alloc, store, &lists.left, &lists.right, parts_limit)? {
         return Err(FormError::Parts);
     }
     Ok(store.intern(&lists.left, &lists.right)?)
+}
+
+/// The canonical form of the form with these options, as `canonical` makes it, where comparisons are remembered from form
+/// to form. They have to be right for the store, and are so afterwards, whatever the answer.
+pub fn canonical_with(
+    alloc: Global,
+    store: &mut Store,
+    comparisons: &mut FormComparisons,
+    left: &[GameId],
+    right: &[GameId],
+    parts_limit: u32,
+) -> Result<GameId, FormError>
+    requires comparisons { AreFormComparisonsRight store.old comparisons.old }
+    requires left { AreIds store.old left.now }
+    requires right { AreIds store.old right.now }
+    ensures value { IfOk result (λ id. IsCanonicalId store.new (listed store.old left.now right.now) id) }
+    ensures bounds { IfOk result (λ id. IsPastBounds (listed store.old left.now right.now) → ⊥) }
+    ensures parts { IfOk result (λ id. HasMoreParts (tree_at store.new id) parts_limit → ⊥) }
+    ensures refusal { IfErr result (λ error. IsCause (listed store.old left.now right.now) parts_limit error) }
+    ensures sizes { IfOk result (λ id. (b : ℕ) → AreOptionsWithin b (listed store.old left.now right.now) → AreWithin (b + 2 ^ 60) (tree_at store.new id)) }
+    ensures comparisons { AreFormComparisonsRight store.new comparisons.new }
+    ensures kept { Extends store.old store.new }
+{
+    match number_value(store, left, right) {
+        Value::Number(x) => Ok(store.number(x)?),
+        Value::PastBounds => Err(FormError::Bounds),
+        Value::NoNumber { floor, ceiling } => {
+            Ok(reduced_form(
+                alloc,
+                store,
+                comparisons,
+                left,
+                right,
+                floor,
+                ceiling,
+                parts_limit,
+            )?)
+        }
+    }
 }
 
 /// The canonical form of the form with these options (Conway). `Bounds` where its value is a number past the bounds of a
@@ -62,11 +108,6 @@ pub fn canonical(
     ensures sizes { IfOk result (λ id. (b : ℕ) → AreOptionsWithin b (listed store.old left.now right.now) → AreWithin (b + 2 ^ 60) (tree_at store.new id)) }
     ensures kept { Extends store.old store.new }
 {
-    match number_value(store, left, right) {
-        Value::Number(x) => Ok(store.number(x)?),
-        Value::PastBounds => Err(FormError::Bounds),
-        Value::NoNumber { floor, ceiling } => {
-            Ok(reduced_form(alloc, store, left, right, floor, ceiling, parts_limit)?)
-        }
-    }
+    let mut comparisons = FormComparisons::new(alloc);
+    canonical_with(alloc, store, &mut comparisons, left, right, parts_limit)
 }

@@ -5,9 +5,11 @@ ghost use Rattle.game_store.specs.Number.{IsNumberTree};
 ghost use Rattle.game_store.specs.Threshold.{IsFloor, IsCeiling};
 ghost use Rattle.game_store.specs.Meaning.{tree_at, number_tree};
 ghost use Rattle.game_store.specs.Forms.{IsOptions};
+ghost use Rattle.game_canon.specs.Comparisons.{recalled, AreRight};
 ghost use Rattle.game_canon.specs.Games.{trees, AreGames};
 ghost use Rattle.game_canon.specs.declared.games.Unstored.{Unstored};
 
+use crate::comparisons::Comparisons;
 use game_store::{Form, GameId, Store};
 
 /// A form that isn't stored and is no number: its options, which ascend, and its floor and ceiling in half parts of
@@ -25,10 +27,13 @@ pub(crate) struct Unstored<'a> {
 pub(crate) struct Games<'a> {
     pub(crate) store: &'a Store,
     pub(crate) unstored: Option<Unstored<'a>>,
+    /// What was found out earlier of the store's games.
+    pub(crate) earlier: &'a Comparisons,
 }
 
 /// The games of a store alone.
-pub(crate) fn games_of(store: &Store) -> Games<'_>
+pub(crate) fn games_of<'a>(store: &'a Store, earlier: &'a Comparisons) -> Games<'a>
+    requires { AreRight store.now (recalled earlier.now) }
     ensures known { AreGames result }
     ensures store { result.store.now ≡ store.now }
     ensures trees { trees result ≡ store.now }
@@ -37,18 +42,21 @@ pub(crate) fn games_of(store: &Store) -> Games<'_>
     Games {
         store,
         unstored: None,
+        earlier,
     }
 }
 
 /// The games of a store and of a form beside it, with its options, its floor and its ceiling.
 pub(crate) fn games_beside<'a>(
     store: &'a Store,
+    earlier: &'a Comparisons,
     left: &'a [GameId],
     right: &'a [GameId],
     floor: i128,
     ceiling: i128,
 ) -> Games<'a>
     ensures store { result.store.now ≡ store.now }
+    ensures earlier { result.earlier.now ≡ earlier.now }
     ensures form { (u : Unstored) × (result.unstored ≡ Some u) × (u.left.now ≡ left.now) × (u.right.now ≡ right.now) × (u.floor ≡ floor) × (u.ceiling ≡ ceiling) }
 {
     let form = Unstored {
@@ -58,7 +66,11 @@ pub(crate) fn games_beside<'a>(
         ceiling,
     };
     let unstored = Some(form);
-    Games { store, unstored }
+    Games {
+        store,
+        unstored,
+        earlier,
+    }
 }
 
 /// The form beside the store, where the id is its.

@@ -10,6 +10,7 @@ mod domination;
 mod errors;
 mod followers;
 mod form;
+mod form_comparisons;
 mod games;
 mod ids;
 #[cfg(test)]
@@ -34,7 +35,8 @@ mod translation_tests;
 
 pub use errors::FormError;
 pub use followers::parts;
-pub use form::canonical;
+pub use form::{canonical, canonical_with};
+pub use form_comparisons::FormComparisons;
 pub use incentives::{compare_incentives, incentive_at_least};
 pub use laws::{canonical_law, incentive_law, number_avoidance, order_laws, stop_laws, text_law};
 pub use negation::negate;

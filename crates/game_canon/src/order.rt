@@ -41,7 +41,8 @@ pub fn compare(alloc: Global, store: &Store, a: GameId, b: GameId) -> Result<Ord
     ensures { IfOk result (λ order. IsOrder order (tree_at store.now a) (tree_at store.now b)) }
 {
     let mut memo = IndexMap::new(alloc);
-    let games = games_of(store);
+    let none = IndexMap::new(alloc);
+    let games = games_of(store, &none);
     let below = at_most(alloc, &mut memo, &games, a, b)?;
     let above = at_most(alloc, &mut memo, &games, b, a)?;
     Ok(order_of(below, above))

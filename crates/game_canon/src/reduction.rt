@@ -5,7 +5,7 @@ ghost use Rattle.std.specs.Prelude.{ℕ, IfOk};
 ghost use Rattle.game_store.specs.Number.{IsNumber};
 ghost use Rattle.game_store.specs.Threshold.{IsFloor, IsCeiling};
 ghost use Rattle.game_store.specs.Meaning.{listed, AreIds};
-ghost use Rattle.game_canon.specs.Comparisons.{recalled};
+ghost use Rattle.game_canon.specs.Comparisons.{recalled, AreRight};
 ghost use Rattle.game_canon.specs.Games.{beside, IsFormBeside, IsKnown};
 ghost use Rattle.game_canon.specs.Sides.{IsStart, IsReducedForm};
 
@@ -57,26 +57,31 @@ fn bypass_all(
 }
 
 /// The options of a form that is no number, in ascending order, of which none is dominated or reversible any more. The
-/// floor and the ceiling are the form's, in half parts of 2^-60.
+/// floor and the ceiling are the form's, in half parts of 2^-60. What is found out of the store's games on the way to the
+/// undominated ones is remembered.
 pub(crate) fn reduced(
     alloc: Global,
     store: &Store,
+    memo: &mut Comparisons,
     left: &[GameId],
     right: &[GameId],
     floor: i128,
     ceiling: i128,
 ) -> Result<Lists, AllocError>
+    requires memo { AreRight store.now (recalled memo.old) }
     requires left { AreIds store.now left.now }
     requires right { AreIds store.now right.now }
     requires no_number { IsNumber (listed store.now left.now right.now) → ⊥ }
     requires floor { IsFloor 60 (listed store.now left.now right.now) floor }
     requires ceiling { IsCeiling 60 (listed store.now left.now right.now) ceiling }
-    ensures { IfOk result (λ lists. IsReducedForm store.now (listed store.now left.now right.now) lists.left.items lists.right.items) }
+    ensures reduced { IfOk result (λ lists. IsReducedForm store.now (listed store.now left.now right.now) lists.left.items lists.right.items) }
+    ensures memo { AreRight store.now (recalled memo.new) }
 {
-    let mut memo = IndexMap::new(alloc);
-    let stored = games_of(store);
-    let left = best(alloc, &mut memo, &stored, Side::Left, left)?;
-    let right = best(alloc, &mut memo, &stored, Side::Right, right)?;
-    let games = games_beside(store, &left, &right, floor, ceiling);
-    Ok(bypass_all(alloc, &mut memo, &games, &left, &right)?)
+    let none = IndexMap::new(alloc);
+    let stored = games_of(store, &none);
+    let left = best(alloc, memo, &stored, Side::Left, left)?;
+    let right = best(alloc, memo, &stored, Side::Right, right)?;
+    let games = games_beside(store, memo, &left, &right, floor, ceiling);
+    let mut beside = IndexMap::new(alloc);
+    Ok(bypass_all(alloc, &mut beside, &games, &left, &right)?)
 }

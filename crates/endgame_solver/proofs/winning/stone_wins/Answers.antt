@@ -8,9 +8,16 @@ use Rattle.sum_outcome.specs.Sums.{IsBounded, sum_tree}
 use Rattle.sum_outcome.proofs.Lists.{put_back}
 use Rattle.endgame_solver.specs.Held.{AreModest, IsStoneEdge, ids_at}
 use Rattle.endgame_solver.specs.SumGame.{balance}
-use Rattle.endgame_solver.proofs.WinningLaws.{modest_paid, no_stone, asks_stone}
+use Rattle.endgame_solver.proofs.StoneSearch.{contested-winning}
+use Rattle.endgame_solver.proofs.WinningLaws.{differ, modest_paid, no_stone, asks_stone}
 use Rattle.endgame_solver.proofs.ViewLaws.{asks_values, asks_view, ids_seen, shows_places}
 use Rattle.endgame_solver.proofs.winning.stone_wins.Goals as goal
+
+pub returns-then-not-contested-clause-wins : goal.returns-then-not-contested-clause-wins
+returns-then-not-contested-clause-wins c = (
+  λ e. absurd (cc),
+  λ w. absurd (differ c.contested.result c.if-not-contested.true (c.contested.ensures.1 (contested-winning c.args.present.now.whole.now c.args.point w))),
+)
 
 pub returns-in_default-clause-wins : goal.returns-in_default-clause-wins
 returns-in_default-clause-wins c =

@@ -1,7 +1,9 @@
 use Rattle.std.proofs.lemmas.Result.{IfErr-weaker, IfOk-weaker}
+use Rattle.std.proofs.Common.{sym, ◌∙◌}
 use Rattle.game_store.specs.Sum.{◌+ᵍ◌}
 use Rattle.game_store.specs.Meaning.{tree_at, listed}
 use Rattle.game_canon.specs.Outcomes.{IsCanonicalId, IsCause}
+use Rattle.game_store.proofs.SumLaws.{plus-comm}
 use Rattle.game_calc.specs.Steps.{IsPairRefusal}
 use Rattle.game_calc.specs.Table.{noted}
 use Rattle.game_calc.proofs.SumSteps.{IsPairForm, pair-form, id-as, refusal-as}
@@ -9,30 +11,39 @@ use Rattle.game_calc.proofs.pair.pair_sum.Goals as goal
 
 made : (c : goal.After-deref-2) → IsPairForm c.args.store.now c.args.a c.args.b c.deref.result.now c.deref-2.result.now
 made c = pair-form c.args.store.now c.args.parts_limit (noted c.args.sums.now) c.args.a c.args.b c.new.result.items c.new-2.result.items c.add_moves.new.options.left.items c.add_moves.new.options.right.items
-    c.add_moves-2.new.options.left.items c.add_moves-2.new.options.right.items _ _ c.requires.right c.len-count.ensures.canonical c.requires.a c.requires.b c.in_default.ensures c.new.ensures.items c.new-2.ensures.items
+    c.add_moves-2.new.options.left.items c.add_moves-2.new.options.right.items _ _ c.requires.right c.len-count.ensures.canonical c.requires.a c.requires.b c.in_default-both_numbers.ensures c.new.ensures.items c.new-2.ensures.items
     c.in_ok-add_moves.ensures c.in_ok-add_moves-2.ensures c.deref.ensures.value c.deref-2.ensures.value
 
 made' : (c : goal.After-drop-options-3) → IsPairForm c.args.store.now c.args.a c.args.b c.deref.result.now c.deref-2.result.now
 made' c = pair-form c.args.store.now c.args.parts_limit (noted c.args.sums.now) c.args.a c.args.b c.new.result.items c.new-2.result.items c.add_moves.new.options.left.items c.add_moves.new.options.right.items
-    c.add_moves-2.new.options.left.items c.add_moves-2.new.options.right.items _ _ c.requires.right c.len-count.ensures.canonical c.requires.a c.requires.b c.in_default.ensures c.new.ensures.items c.new-2.ensures.items
+    c.add_moves-2.new.options.left.items c.add_moves-2.new.options.right.items _ _ c.requires.right c.len-count.ensures.canonical c.requires.a c.requires.b c.in_default-both_numbers.ensures c.new.ensures.items c.new-2.ensures.items
     c.in_ok-add_moves.ensures c.in_ok-add_moves-2.ensures c.deref.ensures.value c.deref-2.ensures.value
 
-pub canonical-requires-clause-left : goal.canonical-requires-clause-left
-canonical-requires-clause-left c = (made c).left_ids
+pub canonical_with-requires-clause-left : goal.canonical_with-requires-clause-left
+canonical_with-requires-clause-left c = (made c).left_ids
 
-pub canonical-requires-clause-right : goal.canonical-requires-clause-right
-canonical-requires-clause-right c = (made c).right_ids
+pub canonical_with-requires-clause-right : goal.canonical_with-requires-clause-right
+canonical_with-requires-clause-right c = (made c).right_ids
 
 pub returns-clause-value : goal.returns-clause-value
 returns-clause-value c =
     let S = tree_at c.args.store.now c.args.a +ᵍ tree_at c.args.store.now c.args.b in
     let F = listed c.args.store.now c.deref.result.now c.deref-2.result.now in
-    IfOk-weaker c.canonical.result (λ id. IsCanonicalId c.canonical.new.store F id) (λ id. IsCanonicalId c.canonical.new.store S id)
-    (λ id k. id-as c.canonical.new.store S F id (made' c).equal k) c.canonical.ensures.value
+    IfOk-weaker c.canonical_with.result (λ id. IsCanonicalId c.canonical_with.new.store F id) (λ id. IsCanonicalId c.canonical_with.new.store S id)
+    (λ id k. id-as c.canonical_with.new.store S F id (made' c).equal k) c.canonical_with.ensures.value
 
 pub returns-clause-refusal : goal.returns-clause-refusal
 returns-clause-refusal c =
     let S = tree_at c.args.store.now c.args.a +ᵍ tree_at c.args.store.now c.args.b in
     let F = listed c.args.store.now c.deref.result.now c.deref-2.result.now in
-    IfErr-weaker c.canonical.result (λ error. IsCause F c.args.parts_limit error) (λ error. IsPairRefusal S c.args.parts_limit error)
-    (λ error k. refusal-as S F c.args.parts_limit error (made' c).equal k) c.canonical.ensures.refusal
+    IfErr-weaker c.canonical_with.result (λ error. IsCause F c.args.parts_limit error) (λ error. IsPairRefusal S c.args.parts_limit error)
+    (λ error k. refusal-as S F c.args.parts_limit error (made' c).equal k) c.canonical_with.ensures.refusal
+
+pub returns-in-Some-clause-value : goal.returns-in-Some-clause-value
+returns-in-Some-clause-value c =
+    let G = tree_at c.args.store.now c.args.a in
+    let H = tree_at c.args.store.now c.args.b in
+    id-as c.args.store.now (G +ᵍ H) (H +ᵍ G) c.in-Some.sum (plus-comm G H, plus-comm H G) (c.requires.right c.args.b c.args.a c.in-Some.sum (sym c.noted_sum.ensures ∙ c.in-Some.is)).sum
+
+pub returns-in-Some-clause-parts : goal.returns-in-Some-clause-parts
+returns-in-Some-clause-parts c = (c.requires.right c.args.b c.args.a c.in-Some.sum (sym c.noted_sum.ensures ∙ c.in-Some.is)).few

@@ -9,10 +9,10 @@ use Rattle.game_calc.proofs.TableSteps.{row-first, row-second, row-step}
 use Rattle.game_calc.proofs.sums.add_row.Goals as goal
 
 pub pair_sum-requires-clause-first : goal.pair_sum-requires-clause-first
-pair_sum-requires-clause-first c = row-first c.args.store.now c.adding.store c.args.parts_limit c.args.a (noted c.args.sums.now) (noted c.adding.sums) c.args.places.now c.adding.place-index c.adding.invariant c.requires.a c.adding-test.true c.requires.inner
+pair_sum-requires-clause-first c = row-first c.args.store.now c.adding.store c.args.parts_limit c.args.a (noted c.args.sums.now) (noted c.adding.sums) c.args.places.now c.adding.place-index c.adding.invariant.table c.requires.a c.adding-test.true c.requires.inner
 
 pub pair_sum-requires-clause-second : goal.pair_sum-requires-clause-second
-pair_sum-requires-clause-second c = row-second c.args.store.now c.adding.store c.args.parts_limit c.args.a (noted c.args.sums.now) (noted c.adding.sums) c.args.places.now c.adding.place-index c.adding.invariant c.requires.a c.adding-test.true c.len-count.ensures.distinct c.requires.places
+pair_sum-requires-clause-second c = row-second c.args.store.now c.adding.store c.args.parts_limit c.args.a (noted c.args.sums.now) (noted c.adding.sums) c.args.places.now c.adding.place-index c.adding.invariant.table c.requires.a c.adding-test.true c.len-count.ensures.distinct c.requires.places
 
 pub returns-in_err-note_sum-clause-refusal : goal.returns-in_err-note_sum-clause-refusal
 returns-in_err-note_sum-clause-refusal c =
@@ -20,5 +20,8 @@ returns-in_err-note_sum-clause-refusal c =
     (err_from_is_err_and c.from_residual-in_err-note_sum.result c.from_residual-in_err-note_sum.ensures.1) (c.adding.place-index, c.adding-test.true, tt)
 
 pub adding-preserved : goal.adding-preserved
-adding-preserved c = row-step c.args.store.now c.adding.store c.args.parts_limit c.args.a (noted c.args.sums.now) (noted c.adding.sums) c.args.places.now c.adding.place-index c.adding.invariant c.requires.a c.adding-test.true
-    c.pair_sum.new.store (noted c.note_sum.new.sums) c.in_ok-sum.sum (c.requires.places.ids c.adding.place-index c.adding-test.true) c.pair_sum.ensures.kept c.in_ok-sum.ensures.value c.in_ok-sum.ensures.parts c.in_ok-note_sum.ensures
+adding-preserved c = record {
+  comparisons = c.pair_sum.ensures.comparisons;
+  table = row-step c.args.store.now c.adding.store c.args.parts_limit c.args.a (noted c.args.sums.now) (noted c.adding.sums) c.args.places.now c.adding.place-index c.adding.invariant.table c.requires.a c.adding-test.true
+      c.pair_sum.new.store (noted c.note_sum.new.sums) c.in_ok-sum.sum (c.requires.places.ids c.adding.place-index c.adding-test.true) c.pair_sum.ensures.kept c.in_ok-sum.ensures.value c.in_ok-sum.ensures.parts c.in_ok-note_sum.ensures;
+}

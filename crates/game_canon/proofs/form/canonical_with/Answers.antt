@@ -1,5 +1,5 @@
 use Rattle.game_canon.proofs.Finish.{made-number, number-few, number-near}
-use Rattle.game_canon.proofs.form.canonical.Goals as goal
+use Rattle.game_canon.proofs.form.canonical_with.Goals as goal
 
 pub returns-in_ok-number-in-Number-clause-value : goal.returns-in_ok-number-in-Number-clause-value
 returns-in_ok-number-in-Number-clause-value c = made-number _ _ _ _ c.in-Number.ensures c.in_ok-number-in-Number.ensures.value
