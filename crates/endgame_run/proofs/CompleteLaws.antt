@@ -7,7 +7,7 @@ use Rattle.sgf_go.specs.declared.settings.Settings.{Settings}
 use Rattle.sgf_go.specs.declared.settings.Setup.{Setup}
 use Rattle.game_calc.specs.declared.errors.CalcFault.{CalcFault}
 use Rattle.gd_words.specs.Job.{IsOnlyJob, JobView}
-use Rattle.endgame_run.specs.declared.status.FileFault.{FileFault}
+use Rattle.sgf_go.specs.declared.fault.FileFault.{FileFault}
 use Rattle.endgame_run.specs.declared.status.Status.{Status}
 use Rattle.endgame_run.specs.declared.status.Status.TheVariants.{CannotRead, CannotWrite, Done, Memory, TooManyLines}
 use Rattle.endgame_run.specs.declared.status.Status.TheVariants as status
@@ -15,12 +15,14 @@ use Rattle.endgame_run.specs.declared.question.Question.{Question}
 use Rattle.endgame_run.specs.declared.question.Question.TheVariants as question
 use Rattle.endgame_run.specs.Calc.{IsCalc}
 use Rattle.endgame_run.specs.Complete.{AreAnswerable, IsAnswerable, IsAnswered, IsComplete, IsWithinLimits}
-use Rattle.endgame_run.specs.File.{Outside, IsShort, IsTold, IsTooLong, count_of, dash, told_of}
+use Rattle.sgf_go.specs.File.{IsShort, IsTold, IsTooLong}
+use Rattle.endgame_run.specs.File.{Outside, count_of, dash, told_of}
 use Rattle.endgame_run.specs.Game.{IsGameRun}
-use Rattle.endgame_run.specs.Position.{Reads}
+use Rattle.sgf_go.specs.File.{Reads}
 use Rattle.endgame_run.specs.Verdict.{HasCause, IsAnswer, IsFileAnswer, IsPositionAnswer, IsTextAlone, Pose, limits_of}
 use Rattle.endgame_run.proofs.GameWins.{map_told}
-use Rattle.endgame_run.proofs.OneStatus.{file_or_position, not_both, one_setup, safe_is_done, shows_shown, solves_sound}
+use Rattle.sgf_go.proofs.OneReading.{not_both, one_setup}
+use Rattle.endgame_run.proofs.OneStatus.{file_or_position, safe_is_done, shows_shown, solves_sound}
 use Rattle.endgame_run.proofs.OutputLaws.{pose_said}
 use Rattle.endgame_run.proofs.PoseLaws.{alone_unposed, calc_unposed, one_pose, trial_unposed}
 

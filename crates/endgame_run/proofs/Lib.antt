@@ -3,7 +3,6 @@ mod CompleteLaws
 mod GameLaws
 mod GameWins
 mod OneGame
-mod OneRegions
 mod OneStatus
 mod OutputLaws
 mod RefusalLaws

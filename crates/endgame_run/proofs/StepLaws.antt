@@ -13,11 +13,12 @@ use Rattle.endgame_solver.specs.Faults.{most_steps}
 use Rattle.region_cut.specs.Cut.{AreRegionsOfPlay}
 use Rattle.endgame_run.specs.declared.question.Question.{Question}
 use Rattle.endgame_run.specs.declared.question.Question.TheVariants as question
-use Rattle.endgame_run.specs.File.{IsTold, told_of}
+use Rattle.sgf_go.specs.File.{IsTold}
+use Rattle.endgame_run.specs.File.{told_of}
 use Rattle.desk_io.specs.Files.{Files}
-use Rattle.endgame_run.specs.Position.{Reads}
+use Rattle.sgf_go.specs.File.{Reads}
 use Rattle.endgame_run.specs.Top.{AreToldSteps, IsModest}
-use Rattle.endgame_run.proofs.OneStatus.{one_setup}
+use Rattle.sgf_go.proofs.OneReading.{one_setup}
 use Rattle.endgame_run.proofs.PoseLaws.{one_number, trial_unposed}
 use Rattle.endgame_run.specs.Verdict.{AreNeededRegions, AreSteps, AreStepsFor, Asks, HasLimits, NeedRegions, Pose, limits_of}
 

@@ -13,7 +13,8 @@ use Rattle.endgame_run.specs.declared.status.Status.{Status}
 use Rattle.endgame_run.specs.declared.status.Status.TheVariants.{Done, Usage, CannotRead, CannotWrite, BadFile, Memory, TooManyLines, TooLong}
 use Rattle.endgame_run.specs.declared.status.Status.TheVariants as status
 use Rattle.gd_words.specs.Job.{JobView}
-use Rattle.endgame_run.specs.File.{Outside, IsTold, IsWhole, dash, told_source, told_of, count_of}
+use Rattle.sgf_go.specs.File.{IsTold}
+use Rattle.endgame_run.specs.File.{Outside, IsWhole, dash, told_source, told_of, count_of}
 use Rattle.endgame_run.specs.declared.question.Question.{Question}
 use Rattle.endgame_run.specs.declared.question.Question.TheVariants.{Solve}
 use Rattle.endgame_solver.specs.declared.limits.Limits.{Limits}

@@ -16,10 +16,11 @@ use Rattle.endgame_run.specs.declared.status.Status.{Status}
 use Rattle.endgame_run.specs.declared.status.Status.TheVariants.{Done, Memory, TooManyLines}
 use Rattle.endgame_run.specs.declared.question.Question.{Question}
 use Rattle.endgame_run.specs.declared.question.Question.TheVariants.{Solve, Values, Safe}
-use Rattle.endgame_run.specs.File.{Outside, IsShort, told_of}
+use Rattle.sgf_go.specs.File.{IsShort}
+use Rattle.endgame_run.specs.File.{Outside, told_of}
 use Rattle.endgame_run.specs.Game.{IsSessionOf}
 use Rattle.endgame_run.specs.Output.{InGame}
-use Rattle.endgame_run.specs.Position.{Reads}
+use Rattle.sgf_go.specs.File.{Reads}
 use Rattle.endgame_run.specs.Verdict.{AreToCalc, AreToTrial, Pose}
 
 -- the regions of play that the question asks about are all sound within its limits, and the values that it asks for can all be shown

@@ -1,14 +1,11 @@
 -- A file that is read to its end: from the source where its word is `-`, and else from the shelf.
-use Rattle.std.specs.Prelude.{◌≡◌, ◌<◌, ◌≤◌, ◌++◌, ℕ, List, length, codes, IfSome, Option, Some, if◌then◌else◌}
+use Rattle.std.specs.Prelude.{◌≡◌, ◌≤◌, ◌++◌, ℕ, List, length, codes, Option, Some, if◌then◌else◌}
 use Rattle.std.specs.Option.{option_map}
 use Rattle.std.specs.Str.{bytes_eq}
 use Rattle.std.specs.Io.KnownBytes.{prepend_known}
 use Rattle.desk_io.specs.Files.{Files, told_file}
 use Rattle.desk_io.specs.Outside.{ended}
-
--- at most 1,048,576 bytes
-abbrev pub IsShort : List ℕ → Type 0
-IsShort file = length file ≤ 1048576
+use Rattle.sgf_go.specs.File.{IsShort}
 
 -- the file is all that was left, and nothing is left now
 pub record IsWhole (before now : Option (List ℕ)) (file : List ℕ) : Type 0 where
@@ -54,11 +51,3 @@ told_of files left word = if bytes_eq word dash then told_source left else told_
 -- the count of the object that holds the file of a word
 abbrev pub count_of : ℕ → ℕ → List ℕ → ℕ
 count_of shelf lines word = if bytes_eq word dash then lines else shelf
-
--- the bytes are the file, where that is told; of a file that is told to be absent none are
-abbrev pub IsTold : Option (Option (List ℕ)) → List ℕ → Type 0
-IsTold told file = IfSome told (λ t. t ≡ Some file)
-
--- the file is told to be longer than a file may be
-abbrev pub IsTooLong : Option (Option (List ℕ)) → Type 0
-IsTooLong told = IfSome told (λ t. (file : List ℕ) × (t ≡ Some file) × (1048576 < length file))

@@ -8,14 +8,15 @@ use Rattle.sgf_go.specs.Setup.{Gives}
 use Rattle.sgf_go.specs.declared.fault.SetupFault.{SetupFault}
 use Rattle.sgf_go.specs.declared.settings.Settings.{Settings}
 use Rattle.sgf_go.specs.declared.settings.Setup.{Setup}
-use Rattle.endgame_run.specs.declared.status.FileFault.{FileFault}
-use Rattle.endgame_run.specs.declared.status.FileFault.TheVariants as fault
+use Rattle.sgf_go.specs.declared.fault.FileFault.{FileFault}
+use Rattle.sgf_go.specs.declared.fault.FileFault.TheVariants as fault
 use Rattle.endgame_run.specs.declared.status.Status.{Status}
 use Rattle.endgame_run.specs.declared.status.Status.TheVariants.{BadFile, CannotRead, TooLong}
 use Rattle.endgame_run.specs.declared.question.Found.{Found}
 use Rattle.endgame_run.specs.declared.question.Found.TheVariants.{Position, Fault}
-use Rattle.endgame_run.specs.File.{IsShort, IsTold, IsTooLong}
-use Rattle.endgame_run.specs.Position.{IsFaultText, IsSetupFaultText, Reads}
+use Rattle.sgf_go.specs.File.{IsShort, IsTold, IsTooLong}
+use Rattle.sgf_go.specs.File.{Reads}
+use Rattle.endgame_run.specs.Position.{IsFaultText, IsSetupFaultText}
 
 -- the ranges of settings: prisoners in points, a komi in half-points
 pub record HasRanges (settings : Settings) : Type 0 where

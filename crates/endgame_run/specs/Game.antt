@@ -22,15 +22,8 @@ use Rattle.endgame_run.specs.declared.status.Status.{Status}
 use Rattle.endgame_run.specs.declared.status.Status.TheVariants.{Done, CannotRead, CannotWrite, TooManyLines}
 use Rattle.endgame_run.specs.File.{Outside, told_of}
 use Rattle.endgame_run.specs.Found.{IsPositionOf}
-use Rattle.endgame_run.specs.Solution.{IsOpeningOf}
+use Rattle.endgame_solver.specs.Solved.{IsPlayable}
 use Rattle.endgame_run.specs.Verdict.{AreToPlay, IsWritten, limits_of}
-
--- the regions of play of a position are all sound within the limits, and the state opens it
-pub record IsPlayable (limits : Limits) (setup : Setup) (s : State) : Type 0 where
-  pub regions : List Shape
-  pub are_regions : AreRegionsOfPlay setup.board regions
-  pub sound : AreSound limits regions
-  pub opening : IsOpeningOf setup limits.tax s
 
 -- the engine has the colour that is given, or else the side to move
 abbrev pub IsEngine : Option Colour → Setup → Colour → Type 0

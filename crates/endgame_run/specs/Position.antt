@@ -11,19 +11,10 @@ use Rattle.sgf_go.specs.declared.settings.Settings.{Settings}
 use Rattle.sgf_go.specs.declared.settings.Setup.{Setup}
 use Rattle.sgf_go.specs.declared.fault.SetupFault.{SetupFault}
 use Rattle.sgf_go.specs.declared.fault.SetupFault.TheVariants.{WrongGame, BadSize, BadKomi, BadPoint, BadSide, Occupied, Suicide, NoLiberty}
-use Rattle.endgame_run.specs.declared.status.FileFault.{FileFault}
-use Rattle.endgame_run.specs.declared.status.FileFault.TheVariants as fault
+use Rattle.sgf_go.specs.declared.fault.FileFault.{FileFault}
+use Rattle.sgf_go.specs.declared.fault.FileFault.TheVariants as fault
 use Rattle.report.specs.Lines.{point_line}
 use Rattle.endgame_run.specs.Texts.{fault_line, fault_line_at}
-
--- the file's main line gives the position by the settings, or this fault
-abbrev pub Reads : List ℕ → Settings → Result Setup FileFault → Type 0
-Reads file settings (Ok setup) = (l : List (List PropertyText)) × IsAnswer file (line l) × Gives settings l (Ok setup)
-Reads file settings (Err (fault.Setup f)) = (l : List (List PropertyText)) × IsAnswer file (line l) × Gives settings l (Err f)
-Reads file settings (Err (fault.Tree NoTree)) = IsAnswer file no_tree
-Reads file settings (Err (fault.Tree (BadByte at))) = IsAnswer file (bad_byte at)
-Reads file settings (Err (fault.Tree CutShort)) = IsAnswer file cut_short
-Reads file settings (Err (fault.Tree TooDeep)) = IsAnswer file too_deep
 
 -- the line of a fault of a tree
 abbrev pub IsTreeFaultText : TreeFault → List ℕ → Type 0

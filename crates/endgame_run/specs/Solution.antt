@@ -4,15 +4,11 @@ use Rattle.go_grid.specs.declared.grid.Colour.{Colour}
 use Rattle.sgf_go.specs.declared.settings.Setup.{Setup}
 use Rattle.whole_rules.specs.declared.states.Move.{Move}
 use Rattle.whole_rules.specs.WholeGame.{State}
-use Rattle.whole_rules.specs.Opening.{IsOpening}
+use Rattle.endgame_solver.specs.Solved.{OpensAs}
 use Rattle.whole_rules.specs.FirstWinningMove.{IsFirstWinning, IsWinner}
-
--- the state in which a position opens, with or without a tax
-abbrev pub IsOpeningOf : Setup → Bool → State → Type 0
-IsOpeningOf setup tax s = IsOpening setup.board setup.black_prisoners setup.white_prisoners setup.komi_halves setup.side tax s
 
 -- The state opens the position, the colour is its winner, and the move is its first winning one, if there is one.
 pub record IsSolution (setup : Setup) (tax : Bool) (s : State) (winner : Colour) (move : Option Move) : Type 0 where
-  pub opening : IsOpeningOf setup tax s
+  pub opening : OpensAs setup tax s
   pub wins : IsWinner s winner
   pub first : IsFirstWinning s move

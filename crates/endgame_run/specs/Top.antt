@@ -17,10 +17,12 @@ use Rattle.endgame_run.specs.declared.question.Opened.{Opened}
 use Rattle.endgame_run.specs.declared.question.Opened.TheVariants.{Game, Fault}
 use Rattle.endgame_run.specs.declared.question.Question.{Question}
 use Rattle.endgame_run.specs.declared.question.Question.TheVariants.{Solve, Values, Safe}
-use Rattle.endgame_run.specs.File.{Outside, IsTold, told_of, count_of}
+use Rattle.sgf_go.specs.File.{IsTold}
+use Rattle.endgame_run.specs.File.{Outside, told_of, count_of}
 use Rattle.endgame_run.specs.Found.{IsPositionOf}
-use Rattle.endgame_run.specs.Game.{IsEngine, IsGameWritten, IsPlayable, IsSessionStatus}
-use Rattle.endgame_run.specs.Position.{Reads}
+use Rattle.endgame_solver.specs.Solved.{IsPlayable}
+use Rattle.endgame_run.specs.Game.{IsEngine, IsGameWritten, IsSessionStatus}
+use Rattle.sgf_go.specs.File.{Reads}
 use Rattle.endgame_run.specs.Refusal.{form_line}
 use Rattle.endgame_solver.specs.Solved.{SolvedGame}
 use Rattle.report.specs.Values.{IsFirstUnshown, IsValuesText}

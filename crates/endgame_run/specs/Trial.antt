@@ -9,7 +9,7 @@ use Rattle.endgame_solver.specs.declared.limits.Limits.{Limits}
 use Rattle.endgame_solver.specs.Solved.{SolvedGame}
 use Rattle.region_cut.specs.Cut.{AreRegionsOfPlay}
 use Rattle.report.specs.Trial.{IsTrialText}
-use Rattle.endgame_run.specs.Solution.{IsOpeningOf}
+use Rattle.endgame_solver.specs.Solved.{OpensAs}
 
 -- the limits of a trial, which are those of a file without options
 abbrev pub trial_limits : Limits
@@ -29,7 +29,7 @@ pub record IsTrial (number : ℕ) (text : List ℕ) : Type 0 where
   pub game : SolvedGame
   pub position : IsTrialPosition number setup
   pub are_regions : AreRegionsOfPlay setup.board game.regions
-  pub opening : IsOpeningOf setup false game.state
+  pub opening : OpensAs setup false game.state
   pub is : IsTrialText number game text
 
 -- the fault is want of memory

@@ -19,9 +19,12 @@ use Rattle.endgame_solver.specs.declared.limits.Limits.{Limits}
 use Rattle.endgame_solver.specs.declared.faults.SolveError.{SolveError}
 use Rattle.endgame_solver.specs.Faults.{AreSound, AreRefused, most_steps}
 use Rattle.region_cut.specs.Cut.{AreRegionsOfPlay}
-use Rattle.endgame_run.specs.File.{Outside, IsShort, IsTold, IsTooLong, told_of, count_of, dash}
-use Rattle.endgame_run.specs.Position.{Reads, IsFaultText}
-use Rattle.endgame_run.specs.Solution.{IsOpeningOf, IsSolution}
+use Rattle.sgf_go.specs.File.{IsShort, IsTold, IsTooLong}
+use Rattle.endgame_run.specs.File.{Outside, told_of, count_of, dash}
+use Rattle.sgf_go.specs.File.{Reads}
+use Rattle.endgame_run.specs.Position.{IsFaultText}
+use Rattle.endgame_solver.specs.Solved.{OpensAs}
+use Rattle.endgame_run.specs.Solution.{IsSolution}
 use Rattle.report.specs.Safety.{IsSafeText}
 use Rattle.report.specs.Values.{IsFirstUnshown, IsValuesText}
 use Rattle.endgame_run.specs.Calc.{IsCalc}
@@ -208,7 +211,7 @@ pub record IsPosed (words : List (List ℕ)) (o : Outside) (setup : Setup) (s : 
   pub asks : AreToSolve words job word
   pub told : IsTold (told_of o.files o.left word) file
   pub reads : Reads file job.settings (Ok setup)
-  pub opening : IsOpeningOf setup job.tax s
+  pub opening : OpensAs setup job.tax s
 
 -- the line `winner` names the winner of the opening
 abbrev pub WritesWinner : List (List ℕ) → Outside → Option (List ℕ) → Option (List ℕ) → Type 0

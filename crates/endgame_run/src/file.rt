@@ -3,7 +3,8 @@
 ghost use Rattle.std.specs.Prelude.{◌≡◌, ◌≢◌, ◌≤◌, ◌⊎◌, Some, None, IfOk, IsErrOf};
 ghost use Rattle.desk_io.specs.Files.{told_file};
 ghost use Rattle.desk_io.specs.Outside.{Rose, ended};
-ghost use Rattle.endgame_run.specs.File.{IsShort, IsTold, IsTooLong, IsWhole, TakesAtMost, count_of, dash, told_of, told_source};
+ghost use Rattle.sgf_go.specs.File.{IsShort, IsTold, IsTooLong};
+ghost use Rattle.endgame_run.specs.File.{IsWhole, TakesAtMost, count_of, dash, told_of, told_source};
 ghost use Rattle.endgame_run.specs.declared.file.FileError.TheVariants.{CannotRead, Memory};
 
 use desk_io::{Failed, LoadError, Loaded, Shelf, Source};

@@ -10,10 +10,10 @@ ghost use Rattle.endgame_run.specs.Found.{HasRanges, IsFileFound, IsFound, IsLin
 use crate::faults::{setup_fault_text, tree_fault_text};
 use crate::file::{FileError, read_file};
 use crate::question::{Found, Report};
-use crate::status::{FileFault, Status};
+use crate::status::Status;
 use desk_io::{Shelf, Source};
 use game_text::Text;
-use sgf_go::{GoError, Settings, position};
+use sgf_go::{FileFault, GoError, Settings, position};
 use sgf_tree::{SgfError, Tree};
 use std::alloc::{AllocError, Global};
 

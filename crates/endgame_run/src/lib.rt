@@ -18,7 +18,8 @@ mod trial;
 
 pub use laws::verdict_law;
 pub use program::{code_of_run, start};
-pub use status::{FileFault, Status};
+pub use sgf_go::FileFault;
+pub use status::Status;
 pub use top::run;
 
 #[cfg(test)]

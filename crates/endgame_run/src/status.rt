@@ -3,15 +3,7 @@
 ghost use Rattle.std.specs.Prelude.{◌≡◌};
 
 use game_calc::CalcFault;
-use sgf_go::SetupFault;
-use sgf_tree::TreeFault;
-
-/// What is wrong with a file: its tree, or the position of its main line.
-#[derive(Clone, Copy, Debug, PartialEq, Eq)]
-pub enum FileFault {
-    Tree(TreeFault),
-    Setup(SetupFault),
-}
+use sgf_go::FileFault;
 
 /// What a run ends with.
 #[derive(Clone, Copy, Debug, PartialEq, Eq)]

@@ -35,3 +35,4 @@ pub mod ViewLaws
 pub mod RoomAtStart
 pub mod KeptAtStart
 pub mod BegunLaws
+pub mod OneRegions

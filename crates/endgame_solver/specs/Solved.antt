@@ -1,5 +1,5 @@
 -- What a contract sees of a solved game, and what its calls say.
-use Rattle.std.specs.Prelude.{◌≡◌, ◌≢◌, ℕ, ◌<◌, ◌↔◌, List, length, slice_index, Contains, Result, Ok, Err, ℤ, pos, ◌*ℤ◌, ◌^◌, Bool}
+use Rattle.std.specs.Prelude.{◌≡◌, ◌≢◌, ◌⊎◌, ℕ, ◌<◌, ◌↔◌, List, length, slice_index, Contains, Result, Ok, Err, ℤ, pos, ◌*ℤ◌, ◌^◌, Bool, Some, None}
 use Rattle.std.specs.List.{AllPairs}
 use Rattle.go_grid.specs.declared.grid.Cell.{Cell}
 use Rattle.go_grid.specs.Grid.{Grid, cell_at}
@@ -10,7 +10,9 @@ use Rattle.local_graph.specs.LocalGraph.{IsReachable}
 use Rattle.region_book.specs.Shape.{HaveOneShape}
 use Rattle.region_cut.specs.Cut.{lowest, AreRegionsOfPlay}
 use Rattle.whole_rules.specs.Opening.{IsOpening}
-use Rattle.whole_rules.specs.WholeGame.{State}
+use Rattle.whole_rules.specs.WholeGame.{State, IsLegal, IsFirstMove}
+use Rattle.whole_rules.specs.FirstWinningMove.{IsFirstWinning}
+use Rattle.whole_rules.specs.declared.states.Move.{Move}
 use Rattle.game_store.specs.Tree.{Tree}
 use Rattle.game_store.specs.Meaning.{tree_at}
 use Rattle.local_value.specs.PositionTree.{IsValueOf}
@@ -32,11 +34,26 @@ pub record SolvedGame : Type 0 where
 abbrev pub OpensAs : Setup → Bool → State → Type 0
 OpensAs setup tax s = IsOpening setup.board setup.black_prisoners setup.white_prisoners setup.komi_halves setup.side tax s
 
+-- the regions of play of a position are all sound within the limits, and the state opens it
+pub record IsPlayable (limits : Limits) (setup : Setup) (s : State) : Type 0 where
+  pub regions : List Shape
+  pub are_regions : AreRegionsOfPlay setup.board regions
+  pub sound : AreSound limits regions
+  pub opening : OpensAs setup limits.tax s
+
 -- the game that the position opens, all of whose regions are sound, or why there is none
 abbrev pub Begun : Setup → Limits → Result SolvedGame SolveError → Type 0
 Begun setup limits (Ok game) = OpensAs setup limits.tax game.state × AreRegionsOfPlay setup.board game.regions × AreSound limits game.regions
 Begun setup limits (Err (Memory e)) = Unit {0}
 Begun setup limits (Err fault) = (regions : List Shape) × AreRegionsOfPlay setup.board regions × AreRefused limits regions fault
+
+-- the side to move has a move
+abbrev pub HasMove : State → Type 0
+HasMove s = (m : Move) × IsLegal s m
+
+-- the first winning move, or the first move where no move wins
+abbrev pub Chooses : State → Move → Type 0
+Chooses s m = IsFirstWinning s (Some m) ⊎ (IsFirstWinning s None × IsFirstMove s (Some m))
 
 -- the board holds the cells in the region
 abbrev pub HoldsCells : Grid → Shape → List Cell → Type 0

@@ -9,7 +9,8 @@ use Rattle.whole_rules.specs.declared.states.MoveError.TheVariants.{NotContested
 use Rattle.whole_rules.proofs.MoveLaws.{stone_only, spend_only, half_only, refused_not_legal}
 use Rattle.whole_rules.proofs.PlacingLaws.{as_long}
 use Rattle.whole_rules.proofs.PlainLaws.{move_same}
-use Rattle.play_session.specs.Session.{Chooses, EngineMoves, Answers, answer_line, engine_line}
+use Rattle.endgame_solver.specs.Solved.{Chooses}
+use Rattle.play_session.specs.Session.{EngineMoves, Answers, answer_line, engine_line}
 
 -- moves leave the board's size
 pub cells_kept : (s t : State) (m : Move) → IsMove s m t → length t.board.cells ≡ length s.board.cells

@@ -5,7 +5,8 @@ use Rattle.go_grid.specs.declared.grid.Colour.{Colour}
 use Rattle.play_session.specs.declared.end.SessionEnd.{SessionEnd}
 use Rattle.play_session.specs.declared.end.SessionEnd.TheVariants.{Won, Lost, InputEnded, ReadFault, WriteFault, TooManyLines}
 use Rattle.play_session.specs.Laws.{HasOneText, HasOneBeginning}
-use Rattle.play_session.specs.Session.{Standing, HasMove, IsEngineTurn, IsOpponentTurn, Answers, Turn, Turns, Ends, IsSession, IsNextLine}
+use Rattle.endgame_solver.specs.Solved.{HasMove}
+use Rattle.play_session.specs.Session.{Standing, IsEngineTurn, IsOpponentTurn, Answers, Turn, Turns, Ends, IsSession, IsNextLine}
 use Rattle.play_session.specs.Words.{Asks}
 use Rattle.play_session.proofs.Sides.{other_not}
 use Rattle.play_session.proofs.Wins.{chosen_legal}

@@ -14,7 +14,8 @@ use Rattle.play_session.specs.declared.end.SessionEnd.TheVariants.{Won, Lost, In
 use Rattle.play_session.specs.declared.fault.Fault.{Fault}
 use Rattle.play_session.specs.declared.fault.Fault.TheVariants.{Read, Write}
 use Rattle.play_session.specs.declared.session.Request.TheVariants.{Ended, Line}
-use Rattle.play_session.specs.Session.{Standing, HasMove, EngineMoves, Answers, IsToAnswer, Turn, Ends, IsNextLine, input_line}
+use Rattle.endgame_solver.specs.Solved.{HasMove}
+use Rattle.play_session.specs.Session.{Standing, EngineMoves, Answers, IsToAnswer, Turn, Ends, IsNextLine, input_line}
 use Rattle.play_session.specs.Written.{SessionState, standing, TurnWritten, IsRequested}
 use Rattle.desk_io.specs.Lines.{IsSameInput}
 

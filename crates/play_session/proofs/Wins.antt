@@ -14,7 +14,8 @@ use Rattle.play_session.proofs.Sides.{other_not, other_twice}
 use Rattle.play_session.specs.declared.fault.Fault.{Fault}
 use Rattle.play_session.specs.declared.end.SessionEnd.{SessionEnd}
 use Rattle.play_session.specs.declared.end.SessionEnd.TheVariants.{Won, Lost, InputEnded, ReadFault, WriteFault, TooManyLines}
-use Rattle.play_session.specs.Session.{Standing, HasMove, Chooses, EngineMoves, Answers, Turn, Turns, Ends, input_line}
+use Rattle.endgame_solver.specs.Solved.{HasMove, Chooses}
+use Rattle.play_session.specs.Session.{Standing, EngineMoves, Answers, Turn, Turns, Ends, input_line}
 use Rattle.play_session.specs.Written.{IsStep}
 use Rattle.play_session.specs.Laws.{KeepsWin, WinIsKept}
 

@@ -4,8 +4,8 @@ use Rattle.go_grid.specs.declared.grid.Colour.{Colour}
 use Rattle.go_grid.specs.Grid.{Grid, other}
 use Rattle.report.specs.Lines.{word_line}
 use Rattle.report.specs.Solution.{move_word, winner_line}
-use Rattle.whole_rules.specs.FirstWinningMove.{IsFirstWinning}
-use Rattle.whole_rules.specs.WholeGame.{State, IsLegal, IsMove, IsFirstMove, Applies}
+use Rattle.endgame_solver.specs.Solved.{HasMove, Chooses}
+use Rattle.whole_rules.specs.WholeGame.{State, IsMove, Applies}
 use Rattle.whole_rules.specs.declared.states.Move.{Move}
 use Rattle.whole_rules.specs.declared.states.MoveError.{MoveError}
 use Rattle.whole_rules.specs.declared.states.MoveError.TheVariants.{NotContested, Occupied, Suicide, EmptyPurse, NoHalf}
@@ -45,14 +45,6 @@ input_line = word_line (codes "input") (codes "ended")
 abbrev pub answer_line : Grid → Move → Result Unit MoveError → List ℕ
 answer_line g m (Ok _) = played_line g m
 answer_line g m (Err e) = refused_line (refusal_word e)
-
--- the side to move has a move
-abbrev pub HasMove : State → Type 0
-HasMove s = (m : Move) × IsLegal s m
-
--- the first winning move, or the first move where no move wins
-abbrev pub Chooses : State → Move → Type 0
-Chooses s m = IsFirstWinning s (Some m) ⊎ (IsFirstWinning s None × IsFirstMove s (Some m))
 
 -- the engine moves
 pub record EngineMoves (s : State) (text : List ℕ) (t : State) : Type 0 where

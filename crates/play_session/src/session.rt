@@ -10,7 +10,8 @@ ghost use Rattle.play_session.specs.declared.fault.Fault.TheVariants.{Read, Writ
 ghost use Rattle.play_session.specs.declared.end.SessionEnd.TheVariants.{Won, Lost, InputEnded, ReadFault, WriteFault};
 ghost use Rattle.desk_io.specs.Lines.{IsSameInput};
 ghost use Rattle.play_session.specs.Lines.{UsesLines};
-ghost use Rattle.play_session.specs.Session.{Answers, Chooses, EngineMoves, IsToAnswer, input_line};
+ghost use Rattle.endgame_solver.specs.Solved.{Chooses};
+ghost use Rattle.play_session.specs.Session.{Answers, EngineMoves, IsToAnswer, input_line};
 ghost use Rattle.play_session.specs.Words.{IsOnBoard};
 ghost use Rattle.play_session.specs.Written.{Causes, IsStep, IsNatural, IsPlayedTo, IsPossible, IsRequested, Played, TurnWritten, WriteCauses, standing, turns_left};
 

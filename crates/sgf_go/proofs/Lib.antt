@@ -8,3 +8,4 @@ pub mod FirstValues
 pub mod Trims
 pub mod Positions
 pub mod Only
+pub mod OneReading

@@ -4,6 +4,7 @@ ghost use Rattle.std.specs.Prelude.{◌≡◌};
 ghost use Rattle.sgf_go.specs.declared.fault.GoError.TheVariants.{Memory};
 
 use go_grid::Point;
+use sgf_tree::TreeFault;
 use std::alloc::AllocError;
 use thiserror::Error;
 
@@ -35,6 +36,13 @@ pub enum SetupFault {
     /// At the end, the lowest stone whose chain has no liberty.
     #[error("no liberty at point {}", .0.0)]
     NoLiberty(Point),
+}
+
+/// What is wrong with a file: its tree, or the position of its main line.
+#[derive(Clone, Copy, Debug, PartialEq, Eq)]
+pub enum FileFault {
+    Tree(TreeFault),
+    Setup(SetupFault),
 }
 
 /// Why no position was given.

@@ -9,7 +9,7 @@ mod settings;
 mod setup;
 mod values;
 
-pub use fault::{GoError, SetupFault};
+pub use fault::{FileFault, GoError, SetupFault};
 pub use komi::read_komi;
 pub use settings::{Settings, Setup};
 pub use setup::{one_position, position, size_of_board};
