@@ -78,12 +78,12 @@ sorted_image r cells s c w n xs ys at begins spots moved sorted = record {
     apart : (i j : ℕ) (d : Spot) → i < j → j < length xs → eq_by_cmp spot_cmp (get_or xs i d) (get_or xs j d) ≡ false
     apart i j d less lt = elim (cases_Bool (eq_by_cmp spot_cmp (get_or xs i d) (get_or xs j d))) as (λ _. eq_by_cmp spot_cmp (get_or xs i d) (get_or xs j d) ≡ false) [
       | inl e ↦
-        let lt' : j < length r.points = omega (arith, lt, spots.0) in
-        let less' : i < length r.points = omega (arith, less, lt') in
-        let tied = (Equal-is (spot_cmp (get_or xs i d) (get_or xs j d))).0 e in
-        let one = spot_same (get_or xs i d) (get_or xs j d) tied in
-        let same = one_spot r cells at s c w n begins i j less' lt' (sym (spots.1 i d less') ∙ one ∙ spots.1 j d lt') in
-        absurd (omega (arith, same, less))
+          let lt' : j < length r.points = omega (arith, lt, spots.0) in
+          let less' : i < length r.points = omega (arith, less, lt') in
+          let tied = (Equal-is (spot_cmp (get_or xs i d) (get_or xs j d))).0 e in
+          let one = spot_same (get_or xs i d) (get_or xs j d) tied in
+          let same = one_spot r cells at s c w n begins i j less' lt' (sym (spots.1 i d less') ∙ one ∙ spots.1 j d lt') in
+          absurd (omega (arith, same, less))
       | inr e ↦ e
     ]
 

@@ -149,9 +149,9 @@ one_list (x ∷ xs) (y ∷ ys) a b f g =
     let same : x ≡ y = elim (first_or_later y ys x (f x (0, omega arith, refl))) as (λ _. x ≡ y) [
       | inl e ↦ sym e
       | inr late ↦ elim (first_or_later x xs y (g y (0, omega arith, refl))) as (λ _. x ≡ y) [
-          | inl e ↦ e
-          | inr later ↦ absurd (both_less x y (above x xs y a later) (above y ys x b late))
-        ]
+        | inl e ↦ e
+        | inr later ↦ absurd (both_less x y (above x xs y a later) (above y ys x b late))
+      ]
     ] in
     let rest = one_list xs ys (tail x xs a) (tail y ys b)
     (λ p h. later_of y ys p (f p (further x xs p h)) (λ e. never_less x p (same ∙ e) (above x xs p a h)))
