@@ -1,0 +1,7 @@
+pub mod Names
+pub mod Numbers
+pub mod Cleaning
+pub mod Splitting
+pub mod Acting
+pub mod Files
+pub mod Doing
