@@ -1,6 +1,6 @@
 //! A session over lines.
 
-ghost use Rattle.std.specs.Prelude.{◌≡◌, ◌≤◌, ◌×◌, List, ℕ, Some, length};
+ghost use Rattle.std.specs.Prelude.{◌≡◌, ◌≤◌, List, ℕ, Some, length};
 ghost use Rattle.desk_io.specs.Lines.{UsesLines};
 ghost use Rattle.desk_io.specs.Outside.{Rose};
 ghost use Rattle.gtp_engine.specs.declared.end.GtpEnd.TheVariants.{ReadFault, WriteFault};
