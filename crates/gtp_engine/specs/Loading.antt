@@ -36,3 +36,9 @@ abbrev pub IsLoaded : Option (Option (List ℕ)) → Option ℕ → ℕ → ℕ 
 IsLoaded told after before now (Position setup) = GivesSetup told after setup × CanBegin setup
 IsLoaded told after before now Nothing = GivesNone told after
 IsLoaded told after before now Failed = Rose before now
+
+-- what a load comes to can be taken over: a position can be solved
+abbrev pub CanKeep : Loading → Type 0
+CanKeep (Position setup) = CanBegin setup
+CanKeep Nothing = Unit {0}
+CanKeep Failed = Unit {0}

@@ -8,6 +8,7 @@ ghost use Rattle.sgf_go.specs.Komi.{IsInRange};
 ghost use Rattle.gtp_engine.specs.Doing.{IsDone, IsFresh, IsLoadNoted, IsRunning, IsTurnTaken};
 ghost use Rattle.gtp_engine.specs.Viewed.{order_of};
 ghost use Rattle.gtp_engine.specs.Kept.{AreLoads};
+ghost use Rattle.gtp_engine.specs.Loading.{CanKeep};
 ghost use Rattle.gtp_engine.specs.Request.Order.{boardsize, komi, loadsgf};
 ghost use Rattle.gtp_engine.specs.Session.{IsKnown, done, fresh, reply_text};
 ghost use Rattle.gtp_engine.specs.Written.{IsAnswered, IsObeyed, unused};
@@ -240,6 +241,7 @@ impl Engine {
     /// Notes what a load comes to.
     fn note(&mut self, id: &[u8], loading: Loading) -> Result<Text, AllocError>
         requires few { self.old.loads < 1000000 }
+        requires fit { CanKeep loading }
         ensures noted { IfOk result (λ reply. IsLoadNoted id.now loading self.old reply self.new) }
         ensures same { OnErr result (self.new ≡ self.old) }
     {
