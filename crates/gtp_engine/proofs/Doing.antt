@@ -1,5 +1,5 @@
 -- What single orders leave behind.
-use Rattle.std.proofs.Common.{◌≡◌, ◌≢◌, ◌⊎◌, ◌≤◌, ◌<◌, ℕ, ℤ, List, [], inl, inr, refl, sym, ap, ◌∙◌, subst, Some, None}
+use Rattle.std.proofs.Common.{◌≡◌, ◌≢◌, ◌⊎◌, ◌≤◌, ◌<◌, ℕ, ℤ, List, [], inl, inr, refl, ap, ◌∙◌, subst, Some, None}
 use Rattle.go_grid.specs.declared.grid.Colour.{Colour}
 use Rattle.sgf_go.specs.declared.settings.Setup.{Setup}
 use Rattle.whole_rules.specs.WholeGame.{State}
@@ -19,9 +19,14 @@ komi_refused a halves id reply runs said = (refused GameHasBegun, a.table, inr (
 pub komi_taken : (a b : EngineView) (halves kept : ℤ) (id reply : List ℕ) → IsFresh a → kept ≡ halves
     → b ≡ record a { table = record { setup = record a.table.setup { komi_halves = kept }; game = a.table.game } } → reply ≡ reply_text id (done []) → IsDone (komi halves) id a reply b
 komi_taken a b halves kept id reply none held is said =
-    let after : Table = record { setup = record a.table.setup { komi_halves = halves }; game = None } in
-    (done [], after, inl (none, refl, refl), said, is ∙ ap (λ k. with_table a (record { setup = record a.table.setup { komi_halves = k }; game = a.table.game })) held
-        ∙ ap (λ g. with_table a (record { setup = record a.table.setup { komi_halves = halves }; game = g })) none)
+    let after : Table = record { setup = record a.table.setup { komi_halves = halves }; game = None } in (
+      done [],
+      after,
+      inl (none, refl, refl),
+      said,
+      is ∙ ap (λ k. with_table a (record { setup = record a.table.setup { komi_halves = k }; game = a.table.game })) held
+          ∙ ap (λ g. with_table a (record { setup = record a.table.setup { komi_halves = halves }; game = g })) none,
+    )
 
 pub size_refused : (a : EngineView) (n : ℕ) (id reply : List ℕ) → (n < 1) ⊎ (25 < n) → reply ≡ reply_text id (refused UnacceptableSize) → IsDone (boardsize n) id a reply a
 size_refused a n id reply out said = (refused UnacceptableSize, a.table, inr (out, (refl, refl)), said, refl)
@@ -53,7 +58,10 @@ module _ (a : EngineView) (limits : Limits) (setup other : Setup) (c : Colour) (
   -- the first turn of the game that the setup opens
   pub turn_first : (b : EngineView) (s v : State) → IsPlayable limits other s → IsActed action id s reply v → b ≡ record a { table = record { setup = other; game = Some v } }
       → IsTurnTaken c action id a reply b
-  turn_first b s v playable acted left =
-      (acted.0, record { setup = turned a.table.setup c; game = Some v },
-        inl (none, (s, v, subst (λ l. IsPlayable l (turned a.table.setup c) s) same_limits (subst (λ x. IsPlayable limits x s) turned_is playable), acted.1, refl)),
-        acted.2, left ∙ ap (λ x. with_table a (record { setup = x; game = Some v })) turned_is)
+  turn_first b s v playable acted left = (
+    acted.0,
+    record { setup = turned a.table.setup c; game = Some v },
+    inl (none, (s, v, subst (λ l. IsPlayable l (turned a.table.setup c) s) same_limits (subst (λ x. IsPlayable limits x s) turned_is playable), acted.1, refl)),
+    acted.2,
+    left ∙ ap (λ x. with_table a (record { setup = x; game = Some v })) turned_is,
+  )

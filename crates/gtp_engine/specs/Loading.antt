@@ -1,5 +1,5 @@
 -- What a load of a position comes to.
-use Rattle.std.specs.Prelude.{◌≡◌, ◌≤◌, ◌<◌, ◌^◌, ℕ, List, Option, Some, None, Result, Ok, Err, unsigned_abs}
+use Rattle.std.specs.Prelude.{◌≤◌, ◌<◌, ◌^◌, ℕ, List, Option, Ok, Err, unsigned_abs}
 use Rattle.desk_io.specs.Outside.{Rose}
 use Rattle.go_grid.specs.Chain.{IsSettled}
 use Rattle.sgf_tree.specs.Grammar.{PropertyText}

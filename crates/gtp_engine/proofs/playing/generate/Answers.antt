@@ -1,4 +1,4 @@
-use Rattle.std.proofs.Common.{◌≡◌, sym, ap, ◌∙◌, subst}
+use Rattle.std.proofs.Common.{sym, ap, ◌∙◌, subst}
 use Rattle.whole_rules.proofs.MoveLaws.{refused_not_legal}
 use Rattle.gtp_engine.specs.Moves.{move_text}
 use Rattle.gtp_engine.proofs.Acting.{acted_generated, acted_resigned, chosen_legal}
