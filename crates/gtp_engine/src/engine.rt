@@ -4,11 +4,11 @@ ghost use Rattle.std.specs.Prelude.{◌≡◌, ◌↔◌, ◌≤◌, ◌<◌, �
 ghost use Rattle.endgame_solver.specs.Faults.{most_steps};
 ghost use Rattle.go_grid.specs.Region.{Shape};
 ghost use Rattle.region_cut.specs.Cut.{AreRegionsOfPlay};
+ghost use Rattle.gtp_engine.specs.Loading.{CanKeep};
 ghost use Rattle.sgf_go.specs.Komi.{IsInRange};
 ghost use Rattle.gtp_engine.specs.Doing.{IsDone, IsFresh, IsLoadNoted, IsRunning, IsTurnTaken};
 ghost use Rattle.gtp_engine.specs.Viewed.{order_of};
 ghost use Rattle.gtp_engine.specs.Kept.{AreLoads};
-ghost use Rattle.gtp_engine.specs.Loading.{CanKeep};
 ghost use Rattle.gtp_engine.specs.Request.Order.{boardsize, komi, loadsgf};
 ghost use Rattle.gtp_engine.specs.Session.{IsKnown, done, fresh, reply_text};
 ghost use Rattle.gtp_engine.specs.Written.{IsAnswered, IsObeyed, unused};
