@@ -1,0 +1,39 @@
+-- What files give.
+use Rattle.std.proofs.Common.{◌≡◌, ℕ, List, inl, inr, refl, subst, Option, Some, None, Ok, Err, Result}
+use Rattle.desk_io.specs.Files.{Loads}
+use Rattle.desk_io.specs.declared.shelf.Loaded.TheVariants.{Longer}
+use Rattle.sgf_tree.specs.Grammar.{PropertyText}
+use Rattle.sgf_tree.specs.Reading.{IsAnswer}
+use Rattle.sgf_tree.specs.Reading.Answer.{line}
+use Rattle.sgf_tree.specs.declared.fault.SgfError.{SgfError}
+use Rattle.sgf_tree.specs.declared.fault.SgfError.TheVariants as sgf
+use Rattle.sgf_tree.specs.Reading.{Answers}
+use Rattle.sgf_tree.specs.declared.tree.Tree.{Tree}
+use Rattle.sgf_tree.specs.declared.fault.TreeFault.{TreeFault}
+use Rattle.sgf_tree.specs.declared.fault.TreeFault.TheVariants.{NoTree, BadByte, CutShort, TooDeep}
+use Rattle.sgf_go.specs.declared.fault.FileFault.TheVariants as fault
+use Rattle.sgf_go.specs.declared.settings.Settings.{Settings}
+use Rattle.sgf_go.specs.File.{Reads}
+use Rattle.gtp_engine.specs.declared.loading.Loading.{Loading}
+use Rattle.gtp_engine.specs.declared.loading.Loading.TheVariants.{Position, Nothing, Failed}
+use Rattle.gtp_engine.specs.Loading.{IsFoundIn, IsFoundOn}
+use Rattle.gtp_engine.specs.Session.{GivesNone}
+
+-- what is on the main line is in the file
+pub found_in : (file : List ℕ) (after : Option ℕ) (l : List (List PropertyText)) (found : Loading) → IsAnswer file (line l) → IsFoundOn l after found → IsFoundIn file after found
+found_in file after l (Position setup) a h = ((l, a, h.0), h.1)
+found_in file after l Nothing a h = (fault.Setup h.0, (l, a, h.1))
+found_in file after l Failed a h = absurd h
+
+-- a tree with a fault gives no position
+pub tree_fault : (file : List ℕ) (settings : Settings) (f : TreeFault) (r : Result Tree SgfError) → r ≡ Err (sgf.Fault f) → Answers file r → Reads file settings (Err (fault.Tree f))
+tree_fault file settings NoTree r e a = subst (Answers file) e a
+tree_fault file settings (BadByte at) r e a = subst (Answers file) e a
+tree_fault file settings CutShort r e a = subst (Answers file) e a
+tree_fault file settings TooDeep r e a = subst (Answers file) e a
+
+-- a file that is longer
+pub too_long : (told : Option (Option (List ℕ))) (after : Option ℕ) (old new : List ℕ) → Loads told 1048576 old new (Ok Longer) → GivesNone told after
+too_long None after old new h = inr (inl tt)
+too_long (Some None) after old new h = absurd h
+too_long (Some (Some file)) after old new h = inr (inl (file, refl, h.0))

@@ -1,0 +1,6 @@
+use Rattle.std.proofs.Common.{rules}
+use Rattle.gtp_engine.proofs.Splitting.{split_all}
+use Rattle.gtp_engine.proofs.words.split.Goals as goal
+
+pub returns : goal.returns
+returns c = split_all _ _ _ c.splitting.invariant c.in_default.ensures.none

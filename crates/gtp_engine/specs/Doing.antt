@@ -1,0 +1,39 @@
+-- What single orders leave behind.
+use Rattle.std.specs.Prelude.{◌≡◌, ◌+◌, ◌++◌, ◌∷◌, [], ℕ, List, Option, Some, None}
+use Rattle.go_grid.specs.declared.grid.Colour.{Colour}
+use Rattle.whole_rules.specs.WholeGame.{State}
+use Rattle.gtp_engine.specs.declared.loading.Loading.{Loading}
+use Rattle.gtp_engine.specs.declared.loading.Loading.TheVariants.{Position, Nothing, Failed}
+use Rattle.gtp_engine.specs.declared.reply.Refusal.TheVariants.{CannotLoadFile}
+use Rattle.gtp_engine.specs.declared.playing.Action.{Action}
+use Rattle.gtp_engine.specs.Playing.{Acts}
+use Rattle.gtp_engine.specs.Request.{Order}
+use Rattle.gtp_engine.specs.Session.{Does, Said, Table, TakesTurn, done, refused, reply_text}
+use Rattle.gtp_engine.specs.Written.{EngineView}
+
+-- nothing but the table changes
+abbrev pub with_table : EngineView → Table → EngineView
+with_table a u = record a { table = u }
+
+-- the reply to an order that loads nothing, and what it leaves
+abbrev pub IsDone : Order → List ℕ → EngineView → List ℕ → EngineView → Type 0
+IsDone order id a reply b = (said : Said) × (u : Table) × Does a.limits order a.table said u × (reply ≡ reply_text id said) × (b ≡ with_table a u)
+
+-- the reply to a turn of the colour, and what it leaves
+abbrev pub IsTurnTaken : Colour → Action → List ℕ → EngineView → List ℕ → EngineView → Type 0
+IsTurnTaken c action id a reply b = (said : Said) × (u : Table) × TakesTurn a.limits c (Acts action) a.table said u × (reply ≡ reply_text id said) × (b ≡ with_table a u)
+
+-- a game runs, or not
+abbrev pub IsRunning : EngineView → Type 0
+IsRunning a = (s : State) × (a.table.game ≡ Some s)
+
+abbrev pub IsFresh : EngineView → Type 0
+IsFresh a = a.table.game ≡ None
+
+-- the reply to a load of a file, and what it leaves
+abbrev pub IsLoadNoted : List ℕ → Loading → EngineView → List ℕ → EngineView → Type 0
+IsLoadNoted id (Position setup) a reply b = (reply ≡ reply_text id (done []))
+    × (b ≡ record a { table = record { setup = setup; game = None }; loads = a.loads + 1 })
+IsLoadNoted id Nothing a reply b = (reply ≡ reply_text id (refused CannotLoadFile)) × (b ≡ record a { loads = a.loads + 1 })
+IsLoadNoted id Failed a reply b = (reply ≡ reply_text id (refused CannotLoadFile))
+    × (b ≡ record a { loads = a.loads + 1; failed_loads = a.failed_loads ++ a.loads ∷ [] })

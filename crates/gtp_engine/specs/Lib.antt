@@ -1,0 +1,10 @@
+pub mod Words
+pub mod Moves
+pub mod Request
+pub mod Session
+pub mod Written
+pub mod Viewed
+pub mod Loading
+pub mod Playing
+pub mod Kept
+pub mod Doing

@@ -1,0 +1,254 @@
+-- A session: what each line is answered, and where the session stands after it.
+use Rattle.std.specs.Prelude.{Bool, true, false, ◌≡◌, ◌≢◌, ◌⊎◌, ◌≤◌, ◌<◌, ◌+◌, ◌*◌, ◌++◌, ◌∷◌, ℕ, zero, suc, ℤ, pos, List, [], codes, replicate, Option, Some, None, Ok, Err, Contains}
+use Rattle.std.specs.Str.{IsUtf8}
+use Rattle.desk_io.specs.Files.{Files, told_file}
+use Rattle.desk_io.specs.Lines.{IsLine}
+use Rattle.go_grid.specs.declared.grid.Cell.TheVariants as cell
+use Rattle.go_grid.specs.declared.grid.Colour.{Colour}
+use Rattle.go_grid.specs.declared.grid.Colour.TheVariants as colour
+use Rattle.go_grid.specs.Region.{Shape}
+use Rattle.sgf_go.specs.declared.fault.FileFault.{FileFault}
+use Rattle.sgf_go.specs.declared.settings.Settings.{Settings}
+use Rattle.sgf_go.specs.declared.settings.Setup.{Setup}
+use Rattle.sgf_go.specs.File.{IsShort, IsTold, IsTooLong, Reads}
+use Rattle.whole_rules.specs.declared.states.Move.{Move}
+use Rattle.whole_rules.specs.declared.states.MoveError.{MoveError}
+use Rattle.whole_rules.specs.WholeGame.{State, Applies, IsMove}
+use Rattle.region_cut.specs.Cut.{AreRegionsOfPlay}
+use Rattle.endgame_solver.specs.declared.limits.Limits.{Limits}
+use Rattle.endgame_solver.specs.Faults.{AreSound}
+use Rattle.endgame_solver.specs.Solved.{IsPlayable, HasMove, Chooses}
+use Rattle.gtp_engine.specs.declared.moves.Wanted.{Wanted}
+use Rattle.gtp_engine.specs.declared.command.Command.{Command}
+use Rattle.gtp_engine.specs.declared.end.GtpEnd.{GtpEnd}
+use Rattle.gtp_engine.specs.declared.end.GtpEnd.TheVariants.{Quit, InputEnded, TooManyLines}
+use Rattle.gtp_engine.specs.declared.reply.Refusal.{Refusal}
+use Rattle.gtp_engine.specs.declared.reply.Refusal.TheVariants.{UnknownCommand, SyntaxError, UnacceptableSize, GameHasBegun, CannotSolve, NotInTurn, IllegalMove, CannotLoadFile}
+use Rattle.gtp_engine.specs.Words.{AreWords, HasId, cleaned}
+use Rattle.gtp_engine.specs.Moves.{move_for, move_text}
+use Rattle.gtp_engine.specs.Request.{Order, Asked, Asks, command_word}
+use Rattle.gtp_engine.specs.Request.Order.{protocol_version, name, version, known_command, list_commands, boardsize, clear_board, komi, play, genmove, loadsgf, quit}
+use Rattle.gtp_engine.specs.Request.Asked.{something, unknown, misfit}
+
+-- a setup, and the state of the game that runs after it, if one does
+pub record Table : Type 0 where
+  pub setup : Setup
+  pub game : Option State
+
+-- a fresh empty board of the size: no prisoners, and Black to move
+abbrev pub fresh : ℕ → ℕ → ℤ → Table
+fresh columns rows halves = record {
+  setup = record {
+    board = record { columns = columns; rows = rows; cells = replicate (columns * rows) cell.Empty };
+    black_prisoners = 0;
+    white_prisoners = 0;
+    komi_halves = halves;
+    side = colour.Black;
+  };
+  game = None;
+}
+
+-- what is said: a text, or why the request is refused
+pub data Said : Type 0 where
+  done : List ℕ → Said
+  refused : Refusal → Said
+
+abbrev pub refusal_text : Refusal → List ℕ
+refusal_text UnknownCommand = codes "unknown command"
+refusal_text SyntaxError = codes "syntax error"
+refusal_text UnacceptableSize = codes "unacceptable size"
+refusal_text GameHasBegun = codes "game has begun"
+refusal_text CannotSolve = codes "cannot solve"
+refusal_text NotInTurn = codes "not in turn"
+refusal_text IllegalMove = codes "illegal move"
+refusal_text CannotLoadFile = codes "cannot load file"
+
+-- the reply: its sign, the id, a blank, the text and two line feeds
+abbrev pub reply_text : List ℕ → Said → List ℕ
+reply_text id (done text) = codes "=" ++ (id ++ (codes " " ++ (text ++ codes "\n\n")))
+reply_text id (refused why) = codes "?" ++ (id ++ (codes " " ++ (refusal_text why ++ codes "\n\n")))
+
+-- the names of all commands, one a line
+abbrev pub all_commands : List ℕ
+all_commands = codes "protocol_version\nname\nversion\nknown_command\nlist_commands\nboardsize\nclear_board\nkomi\nplay\ngenmove\nloadsgf\nquit"
+
+-- the state is that of before
+abbrev pub Says : List ℕ → Table → Said → Table → Type 0
+Says text t said u = (said ≡ done text) × (u ≡ t)
+
+abbrev pub Refuses : Refusal → Table → Said → Table → Type 0
+Refuses why t said u = (said ≡ refused why) × (u ≡ t)
+
+-- whether a word is the name of a command
+abbrev pub IsKnown : List ℕ → List ℕ → Type 0
+IsKnown word text = (((command : Command) × (word ≡ command_word command)) × (text ≡ codes "true"))
+    ⊎ (((command : Command) → word ≢ command_word command) × (text ≡ codes "false"))
+
+-- a fresh empty board of the size with the present komi
+abbrev pub TakesSize : ℕ → Table → Said → Table → Type 0
+TakesSize n t said u = ((1 ≤ n) × (n ≤ 25) × (said ≡ done []) × (u ≡ fresh n n t.setup.komi_halves))
+    ⊎ (((n < 1) ⊎ (25 < n)) × Refuses UnacceptableSize t said u)
+
+-- the komi of a fresh setup
+abbrev pub TakesKomi : ℤ → Table → Said → Table → Type 0
+TakesKomi halves t said u = ((t.game ≡ None) × (said ≡ done []) × (u ≡ record { setup = record t.setup { komi_halves = halves }; game = None }))
+    ⊎ (((s : State) × (t.game ≡ Some s)) × Refuses GameHasBegun t said u)
+
+-- what a move of the side to move comes to, in its state
+abbrev pub PlaysMove : Option Move → State → Said → State → Type 0
+PlaysMove None s said t = (said ≡ refused IllegalMove) × (t ≡ s)
+PlaysMove (Some m) s said t = (IsMove s m t × (said ≡ done []))
+    ⊎ ((e : MoveError) × Applies s m t (Err e) × (said ≡ refused IllegalMove))
+
+abbrev pub PlaysWanted : Wanted → State → Said → State → Type 0
+PlaysWanted wanted s said t = PlaysMove (move_for s.board.columns s.board.rows wanted) s said t
+
+-- the engine's move, where the side to move has one
+abbrev pub Generates : State → Said → State → Type 0
+Generates s said t = ((m : Move) × Chooses s m × IsMove s m t × (said ≡ done (move_text s.board.columns s.board.rows m)))
+    ⊎ ((¬ HasMove s) × (said ≡ done (codes "resign")) × (t ≡ s))
+
+-- the setup with the colour to move
+abbrev pub turned : Setup → Colour → Setup
+turned setup c = record setup { side = c }
+
+-- the regions of play aren't all sound within the limits
+abbrev pub CannotOpen : Limits → Setup → Type 0
+CannotOpen limits setup = (regions : List Shape) × AreRegionsOfPlay setup.board regions × ¬ AreSound limits regions
+
+-- A turn of the colour in a running game, or in that which a fresh setup opens with the colour to move.
+abbrev pub TakesTurn : Limits → Colour → (State → Said → State → Type 0) → Table → Said → Table → Type 0
+TakesTurn limits c Act t said u =
+    ((t.game ≡ None) × ((s v : State) × IsPlayable limits (turned t.setup c) s × Act s said v × (u ≡ record { setup = turned t.setup c; game = Some v })))
+    ⊎ (((t.game ≡ None) × CannotOpen limits (turned t.setup c) × Refuses CannotSolve t said u)
+    ⊎ (((s v : State) × (t.game ≡ Some s) × (s.side ≡ c) × Act s said v × (u ≡ record t { game = Some v }))
+    ⊎ ((s : State) × (t.game ≡ Some s) × (s.side ≢ c) × Refuses NotInTurn t said u)))
+
+-- what becomes of the load of a line: it has none, or it is made, or it fails
+pub data Fate : Type 0 where
+  no_load : Fate
+  made : Fate
+  failed : Fate
+
+-- the settings of a file of which so many moves are replayed
+abbrev pub settings_after : Option ℕ → Settings
+settings_after after = record { after = after; komi = None; turn = None; black_prisoners = 0; white_prisoners = 0 }
+
+-- the file gives the position
+abbrev pub GivesSetup : Option (Option (List ℕ)) → Option ℕ → Setup → Type 0
+GivesSetup told after setup = (file : List ℕ) × IsTold told file × IsShort file × Reads file (settings_after after) (Ok setup)
+
+-- the shelf doesn't hold the file, or it is too long, or it gives no position
+abbrev pub GivesNone : Option (Option (List ℕ)) → Option ℕ → Type 0
+GivesNone told after = (told ≡ Some None)
+    ⊎ (IsTooLong told
+    ⊎ ((file : List ℕ) × (fault : FileFault) × IsTold told file × IsShort file × Reads file (settings_after after) (Err fault)))
+
+-- a file of the shelf is loaded; a name that isn't UTF-8 isn't asked for
+abbrev pub LoadsFile : Option Files → List ℕ → Option ℕ → Fate → Table → Said → Table → Type 0
+LoadsFile files file after no_load t said u = (¬ IsUtf8 file) × Refuses CannotLoadFile t said u
+LoadsFile files file after made t said u = IsUtf8 file
+    × (((setup : Setup) × GivesSetup (told_file files file) after setup × (said ≡ done []) × (u ≡ record { setup = setup; game = None }))
+    ⊎ (GivesNone (told_file files file) after × Refuses CannotLoadFile t said u))
+LoadsFile files file after failed t said u = IsUtf8 file × Refuses CannotLoadFile t said u
+
+-- what an order that loads nothing does
+abbrev pub Does : Limits → Order → Table → Said → Table → Type 0
+Does limits protocol_version t said u = Says (codes "2") t said u
+Does limits name t said u = Says (codes "gdsolve") t said u
+Does limits version t said u = Says (codes "1") t said u
+Does limits (known_command word) t said u = (text : List ℕ) × IsKnown word text × Says text t said u
+Does limits list_commands t said u = Says all_commands t said u
+Does limits (boardsize n) t said u = TakesSize n t said u
+Does limits clear_board t said u = (said ≡ done []) × (u ≡ fresh t.setup.board.columns t.setup.board.rows t.setup.komi_halves)
+Does limits (komi halves) t said u = TakesKomi halves t said u
+Does limits (play c wanted) t said u = TakesTurn limits c (PlaysWanted wanted) t said u
+Does limits (genmove c) t said u = TakesTurn limits c Generates t said u
+Does limits quit t said u = Says [] t said u
+Does limits (loadsgf file after) t said u = ⊥
+
+-- what an order does, by what becomes of its load
+abbrev pub Obeys : Limits → Option Files → Order → Fate → Table → Said → Table → Type 0
+Obeys limits files (loadsgf file after) fate t said u = LoadsFile files file after fate t said u
+Obeys limits files order fate t said u = (fate ≡ no_load) × Does limits order t said u
+
+-- what is done on what the words ask for
+abbrev pub Meets : Limits → Option Files → Asked → Fate → Table → Said → Table → Type 0
+Meets limits files (something order) fate t said u = Obeys limits files order fate t said u
+Meets limits files unknown fate t said u = (fate ≡ no_load) × Refuses UnknownCommand t said u
+Meets limits files misfit fate t said u = (fate ≡ no_load) × Refuses SyntaxError t said u
+
+-- whether the session ends here
+abbrev pub is_last : Asked → Bool
+is_last (something quit) = true
+is_last asked = false
+
+-- words are answered: nothing where there are none, and else by what they ask for behind the id
+abbrev pub AnswersWords : Limits → Option Files → List (List ℕ) → Fate → Table → List ℕ → Table → Bool → Type 0
+AnswersWords limits files [] fate t reply u last = (fate ≡ no_load) × (reply ≡ []) × (u ≡ t) × (last ≡ false)
+AnswersWords limits files (word ∷ words) fate t reply u last = (id : List ℕ) × (rest : List (List ℕ)) × (asked : Asked) × (said : Said)
+    × HasId (word ∷ words) id rest × Asks rest asked × Meets limits files asked fate t said u × (reply ≡ reply_text id said) × (last ≡ is_last asked)
+
+-- a line is answered by its words
+abbrev pub AnswersLine : Limits → Option Files → List ℕ → Fate → Table → List ℕ → Table → Bool → Type 0
+AnswersLine limits files line fate t reply u last = (words : List (List ℕ)) × AreWords (cleaned line) words × AnswersWords limits files words fate t reply u last
+
+-- loads are numbered from 0, and those of the list fail
+abbrev pub IsNumbered : List ℕ → Fate → ℕ → ℕ → Type 0
+IsNumbered failing no_load n next = next ≡ n
+IsNumbered failing made n next = (next ≡ n + 1) × ¬ Contains failing n
+IsNumbered failing failed n next = (next ≡ n + 1) × Contains failing n
+
+-- where a session stands: its table, how many loads there were, how many lines were read, and the bytes that are left
+pub record Standing : Type 0 where
+  pub table : Table
+  pub loads : ℕ
+  pub read : ℕ
+  pub left : List ℕ
+
+-- one line is read and answered
+pub record TakesLine (limits : Limits) (files : Option Files) (failing : List ℕ) (a : Standing) (text : List ℕ) (b : Standing) (last : Bool) : Type 0 where
+  pub few : a.read < 10000
+  pub some : a.left ≢ []
+  pub line : List ℕ
+  pub fate : Fate
+  pub taken : IsLine 1024 a.left line b.left
+  pub answered : AnswersLine limits files line fate a.table text b.table last
+  pub counted : b.read ≡ a.read + 1
+  pub numbered : IsNumbered failing fate a.loads b.loads
+
+-- the session ends here: with a line that says so, or where no line is left or may be read
+abbrev pub Ends : Limits → Option Files → List ℕ → Standing → List ℕ → Standing → GtpEnd → Type 0
+Ends limits files failing a text b Quit = TakesLine limits files failing a text b true
+Ends limits files failing a text b InputEnded = (a.read < 10000) × (a.left ≡ []) × (text ≡ []) × (b ≡ a)
+Ends limits files failing a text b TooManyLines = (a.read ≡ 10000) × (text ≡ []) × (b ≡ a)
+Ends limits files failing a text b end = ⊥
+
+-- so many lines, one after the other, and their replies
+abbrev pub Turns : Limits → Option Files → List ℕ → ℕ → Standing → List ℕ → Standing → Type 0
+Turns limits files failing zero a text b = (text ≡ []) × (b ≡ a)
+Turns limits files failing (suc n) a text c = (b : Standing) × ((first then : List ℕ) × Turns limits files failing n a first b
+    × TakesLine limits files failing b then c false × (text ≡ first ++ then))
+
+-- a whole session: lines, and then its end
+pub record IsSession (limits : Limits) (files : Option Files) (failing : List ℕ) (a : Standing) (text : List ℕ) (c : Standing) (end : GtpEnd) : Type 0 where
+  pub number : ℕ
+  pub before_end : Standing
+  pub first : List ℕ
+  pub then : List ℕ
+  pub turns : Turns limits files failing number a first before_end
+  pub ends : Ends limits files failing before_end then c end
+  pub whole : text ≡ first ++ then
+
+-- the replies to all lines up to one that is still to be answered
+abbrev pub Waits : Limits → Option Files → List ℕ → Standing → List ℕ → Standing → Type 0
+Waits limits files failing a text b = (n : ℕ) × Turns limits files failing n a text b × (b.read < 10000)
+
+-- the replies to some lines, and a front part of the next reply
+abbrev pub BreaksOff : Limits → Option Files → List ℕ → Standing → List ℕ → Type 0
+BreaksOff limits files failing a text = (n : ℕ) × (b c : Standing) × (first then more : List ℕ) × (last : Bool) × Turns limits files failing n a first b
+    × TakesLine limits files failing b (then ++ more) c last × (text ≡ first ++ then)
+
+-- where a session begins: an empty board of 19 by 19 without a komi, Black to move, and nothing was loaded or read
+abbrev pub beginning : List ℕ → Standing
+beginning bytes = record { table = fresh 19 19 (pos 0); loads = 0; read = 0; left = bytes }

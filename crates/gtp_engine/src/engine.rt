@@ -1,0 +1,374 @@
+//! The engine.
+
+ghost use Rattle.std.specs.Prelude.{◌≡◌, ◌↔◌, ◌≤◌, ◌<◌, ◌+◌, List, ℕ, [], true, false, IfOk, OnErr};
+ghost use Rattle.endgame_solver.specs.Faults.{most_steps};
+ghost use Rattle.go_grid.specs.Region.{Shape};
+ghost use Rattle.region_cut.specs.Cut.{AreRegionsOfPlay};
+ghost use Rattle.gtp_engine.specs.Loading.{CanKeep};
+ghost use Rattle.sgf_go.specs.Komi.{IsInRange};
+ghost use Rattle.gtp_engine.specs.Doing.{IsDone, IsFresh, IsLoadNoted, IsRunning, IsTurnTaken};
+ghost use Rattle.gtp_engine.specs.Viewed.{order_of};
+ghost use Rattle.gtp_engine.specs.Kept.{AreLoads};
+ghost use Rattle.gtp_engine.specs.Request.Order.{boardsize, komi, loadsgf};
+ghost use Rattle.gtp_engine.specs.Session.{IsKnown, done, fresh, reply_text};
+ghost use Rattle.gtp_engine.specs.Written.{IsAnswered, IsObeyed, unused};
+
+use crate::command::read_command;
+use crate::loading::{Loading, load};
+use crate::playing::{Action, act, open};
+use crate::reply::{Refusal, accept, refuse};
+use crate::request::{Asked, Request, read_asked};
+use crate::setups::{fresh, turned};
+use crate::words::{clean, split, take_id};
+use desk_io::Shelf;
+use endgame_solver::{Limits, Solved};
+use game_text::Text;
+use go_grid::{Colour, Size};
+use local_play::Steps;
+use sgf_go::Setup;
+use std::alloc::{AllocError, Global};
+use std::marker::Model;
+use std::str;
+use std::sync::ledger::Ledger;
+
+/// The reply to a line, and whether the session ends with it.
+#[derive(Drop)]
+pub struct Answer {
+    pub reply: Text,
+    pub quit: bool,
+}
+
+/// A setup, and the game that runs after it, if one does; and the loads so far. Contracts see these and the limits.
+#[derive(Drop)]
+pub struct Engine {
+    limits: Limits,
+    setup: Setup,
+    game: Option<Solved>,
+    loads: u32,
+    failed: Vec<u32>,
+}
+
+impl Model for Engine {
+    ghost use Rattle.std.specs.Prelude.{◌≡◌, ◌≤◌, ◌<◌, false, ℕ, List};
+    ghost use Rattle.gtp_engine.specs.Written.{EngineView};
+    ghost use Rattle.gtp_engine.specs.Kept.{state_in, IsKept};
+
+    ghost Value = { EngineView };
+
+    ghost view = { λ e. record { limits = e.limits; table = record { setup = e.setup; game = state_in e.game }; loads = e.loads; failed_loads = e.failed.items } };
+
+    ghost invariant = { λ e. IsKept e.limits e.setup e.loads e.failed.items };
+}
+
+/// The names of all commands, one a line.
+const ALL_COMMANDS: &[u8] =
+    b"protocol_version\nname\nversion\nknown_command\nlist_commands\nboardsize\nclear_board\nkomi\nplay\ngenmove\nloadsgf\nquit";
+
+/// Whether a word is the name of a command.
+fn known(word: &[u8]) -> &'static [u8]
+    ensures { IsKnown word.now result.now }
+{
+    match read_command(word) {
+        Some(_) => b"true",
+        None => b"false",
+    }
+}
+
+/// Whether the two are the same.
+fn is_same(a: Colour, b: Colour) -> bool
+    ensures { (result ≡ true) ↔ (a ≡ b) }
+{
+    a == b
+}
+
+impl Engine {
+    /// An engine with an empty board of 19 by 19, no komi and Black to move.
+    pub fn new(alloc: Global, limits: Limits) -> Result<Engine, AllocError>
+        requires positions { limits.positions ≤ 1000000 }
+        requires no_tax { limits.tax ≡ false }
+        ensures { IfOk result (λ engine. engine ≡ unused limits) }
+    {
+        let size = Size {
+            columns: 19,
+            rows: 19,
+        };
+        Ok(Engine {
+            limits,
+            setup: fresh(alloc, size, 0)?,
+            game: None,
+            loads: 0,
+            failed: Vec::new(alloc),
+        })
+    }
+
+    /// How many loads there were.
+    pub fn loads(&self) -> u32
+        ensures { result ≡ self.now.loads }
+    {
+        self.loads
+    }
+
+    /// The numbers of the loads that failed, counted from 0, in ascending order.
+    pub fn failed_loads(&self) -> &[u32]
+        ensures value { result.now ≡ self.now.failed_loads }
+        ensures numbered { AreLoads self.now.loads self.now.failed_loads }
+    {
+        &self.failed
+    }
+
+    /// A fresh empty board of a size with the present komi.
+    fn clear(&mut self, id: &[u8], size: Size) -> Result<Text, AllocError>
+        ensures cleared { IfOk result (λ reply. (reply ≡ reply_text id.now (done []))
+            × (self.new ≡ record self.old { table = fresh size.columns size.rows self.old.table.setup.komi_halves })) }
+        ensures same { OnErr result (self.new ≡ self.old) }
+    {
+        let alloc = self.setup.board.allocator();
+        let setup = fresh(alloc, size, self.setup.komi_halves)?;
+        let reply = accept(alloc, id, b"")?;
+        self.setup = setup;
+        self.game = None;
+        Ok(reply)
+    }
+
+    /// A fresh empty board of so many columns and rows with the present komi.
+    fn resize(&mut self, id: &[u8], number: u64) -> Result<Text, AllocError>
+        ensures resized { IfOk result (λ reply. IsDone (boardsize number) id.now self.old reply self.new) }
+        ensures same { OnErr result (self.new ≡ self.old) }
+    {
+        if number < 1 || number > 25 {
+            let reply = refuse(self.setup.board.allocator(), id, Refusal::UnacceptableSize)?;
+            return Ok(reply);
+        }
+        let side = number as u8;
+        let size = Size {
+            columns: side,
+            rows: side,
+        };
+        let reply = self.clear(id, size)?;
+        Ok(reply)
+    }
+
+    /// Whether a game runs.
+    fn is_running(&self) -> bool
+        ensures running { result ≡ true → IsRunning self.now }
+        ensures fresh { result ≡ false → IsFresh self.now }
+    {
+        match &self.game {
+            Some(_solved) => true,
+            None => false,
+        }
+    }
+
+    /// The komi of a fresh setup.
+    fn set_komi(&mut self, id: &[u8], halves: i64) -> Result<Text, AllocError>
+        requires { IsInRange halves }
+        ensures set { IfOk result (λ reply. IsDone (komi halves) id.now self.old reply self.new) }
+        ensures same { OnErr result (self.new ≡ self.old) }
+    {
+        let alloc = self.setup.board.allocator();
+        if self.is_running() {
+            let reply = refuse(alloc, id, Refusal::GameHasBegun)?;
+            return Ok(reply);
+        }
+        let reply = accept(alloc, id, b"")?;
+        self.setup.komi_halves = halves;
+        Ok(reply)
+    }
+
+    /// A turn of the colour in the running game.
+    fn go_on(&mut self, id: &[u8], colour: Colour, action: Action) -> Result<Text, AllocError>
+        requires { IsRunning self.old }
+        ensures taken { IfOk result (λ reply. IsTurnTaken colour action id.now self.old reply self.new) }
+        ensures same { OnErr result (self.new ≡ self.old) }
+    {
+        let alloc = self.setup.board.allocator();
+        match &mut self.game {
+            Some(solved) => {
+                if !is_same(solved.whole().side(), colour) {
+                    let reply = refuse(alloc, id, Refusal::NotInTurn)?;
+                    return Ok(reply);
+                }
+                let reply = act(alloc, id, solved, action)?;
+                Ok(reply)
+            }
+            None => unreachable!(),
+        }
+    }
+
+    /// A turn of the colour in the game that the fresh setup opens.
+    fn set_out<L: Ledger>(
+        &mut self,
+        id: &[u8],
+        colour: Colour,
+        action: Action,
+        steps: &mut Steps<L>,
+    ) -> Result<Text, AllocError>
+        requires { IsFresh self.old }
+        ensures taken { IfOk result (λ reply. IsTurnTaken colour action id.now self.old reply self.new) }
+        ensures same { OnErr result (self.new ≡ self.old) }
+        ensures steps { (regions : List Shape) → AreRegionsOfPlay self.old.table.setup.board regions → steps.new ≤ steps.old + most_steps self.old.limits regions }
+    {
+        let alloc = self.setup.board.allocator();
+        let setup = turned(&self.setup, colour)?;
+        let Some(mut solved) = open(alloc, &setup, &self.limits, steps)? else {
+            let reply = refuse(alloc, id, Refusal::CannotSolve)?;
+            return Ok(reply);
+        };
+        let reply = act(alloc, id, &mut solved, action)?;
+        self.setup = setup;
+        self.game = Some(solved);
+        Ok(reply)
+    }
+
+    /// A turn of the colour.
+    fn take_turn<L: Ledger>(
+        &mut self,
+        id: &[u8],
+        colour: Colour,
+        action: Action,
+        steps: &mut Steps<L>,
+    ) -> Result<Text, AllocError>
+        ensures taken { IfOk result (λ reply. IsTurnTaken colour action id.now self.old reply self.new) }
+        ensures same { OnErr result (self.new ≡ self.old) }
+        ensures steps { (regions : List Shape) → AreRegionsOfPlay self.old.table.setup.board regions → steps.new ≤ steps.old + most_steps self.old.limits regions }
+    {
+        if self.is_running() {
+            return self.go_on(id, colour, action);
+        }
+        self.set_out(id, colour, action, steps)
+    }
+
+    /// Notes what a load comes to.
+    fn note(&mut self, id: &[u8], loading: Loading) -> Result<Text, AllocError>
+        requires few { self.old.loads < 1000000 }
+        requires fit { CanKeep loading }
+        ensures noted { IfOk result (λ reply. IsLoadNoted id.now loading self.old reply self.new) }
+        ensures same { OnErr result (self.new ≡ self.old) }
+    {
+        let alloc = self.setup.board.allocator();
+        let refused = refuse(alloc, id, Refusal::CannotLoadFile)?;
+        match loading {
+            Loading::Position(setup) => {
+                let reply = accept(alloc, id, b"")?;
+                self.setup = setup;
+                self.game = None;
+                self.loads += 1;
+                Ok(reply)
+            }
+            Loading::Nothing => {
+                self.loads += 1;
+                Ok(refused)
+            }
+            Loading::Failed => {
+                self.failed.push(self.loads)?;
+                self.loads += 1;
+                Ok(refused)
+            }
+        }
+    }
+
+    /// Loads a file of the shelf.
+    fn load_file<H: Shelf>(
+        &mut self,
+        id: &[u8],
+        file: &[u8],
+        after: Option<u32>,
+        shelf: &mut H,
+    ) -> Result<Text, AllocError>
+        requires few { self.old.loads < 1000000 }
+        ensures loaded { IfOk result (λ reply. IsObeyed (H.files shelf.old) (H.faults shelf.old) (H.faults shelf.new) id.now (loadsgf file.now after) self.old reply self.new) }
+        ensures same { OnErr result (self.new ≡ self.old) }
+        ensures same_files { H.files shelf.new ≡ H.files shelf.old }
+        ensures later { H.faults shelf.old ≤ H.faults shelf.new }
+    {
+        let alloc = self.setup.board.allocator();
+        let name = match str::from_utf8(file) {
+            Ok(name) => name,
+            Err(_) => return refuse(alloc, id, Refusal::CannotLoadFile),
+        };
+        let loading = load(alloc, shelf, name, after)?;
+        self.note(id, loading)
+    }
+
+    /// Does what a request says.
+    fn obey<H: Shelf, L: Ledger>(
+        &mut self,
+        id: &[u8],
+        request: Request<'_>,
+        shelf: &mut H,
+        steps: &mut Steps<L>,
+    ) -> Result<Text, AllocError>
+        requires few { self.old.loads < 1000000 }
+        ensures obeyed { IfOk result (λ reply. IsObeyed (H.files shelf.old) (H.faults shelf.old) (H.faults shelf.new) id.now (order_of request) self.old reply self.new) }
+        ensures same { OnErr result (self.new ≡ self.old) }
+        ensures same_files { H.files shelf.new ≡ H.files shelf.old }
+        ensures later { H.faults shelf.old ≤ H.faults shelf.new }
+        ensures steps { (regions : List Shape) → AreRegionsOfPlay self.old.table.setup.board regions → steps.new ≤ steps.old + most_steps self.old.limits regions }
+    {
+        let alloc = self.setup.board.allocator();
+        match request {
+            Request::ProtocolVersion => accept(alloc, id, b"2"),
+            Request::Name => accept(alloc, id, b"gdsolve"),
+            Request::Version => accept(alloc, id, b"1"),
+            Request::KnownCommand(word) => accept(alloc, id, known(word)),
+            Request::ListCommands => accept(alloc, id, ALL_COMMANDS),
+            Request::BoardSize(number) => self.resize(id, number),
+            Request::ClearBoard => self.clear(id, self.setup.board.size()),
+            Request::Komi(halves) => self.set_komi(id, halves),
+            Request::Play(colour, wanted) => {
+                self.take_turn(id, colour, Action::Play(wanted), steps)
+            }
+            Request::GenMove(colour) => self.take_turn(id, colour, Action::Generate, steps),
+            Request::LoadSgf(file, after) => self.load_file(id, file, after, shelf),
+            Request::Quit => accept(alloc, id, b""),
+        }
+    }
+
+    /// Answers what words ask for.
+    fn meet<H: Shelf, L: Ledger>(
+        &mut self,
+        id: &[u8],
+        asked: Asked<'_>,
+        shelf: &mut H,
+        steps: &mut Steps<L>,
+    ) -> Result<Answer, AllocError>
+        requires few { self.old.loads < 1000000 }
+        ensures same { OnErr result (self.new ≡ self.old) }
+    {
+        let alloc = self.setup.board.allocator();
+        let quit = matches!(&asked, Asked::Something(Request::Quit));
+        let reply = match asked {
+            Asked::Something(request) => self.obey(id, request, shelf, steps)?,
+            Asked::Unknown => refuse(alloc, id, Refusal::UnknownCommand)?,
+            Asked::Misfit => refuse(alloc, id, Refusal::SyntaxError)?,
+        };
+        Ok(Answer { reply, quit })
+    }
+
+    /// Answers a line, or leaves the engine as it was where memory is refused. A load that fails is noted.
+    pub fn answer<H: Shelf, L: Ledger>(
+        &mut self,
+        line: &[u8],
+        shelf: &mut H,
+        steps: &mut Steps<L>,
+    ) -> Result<Answer, AllocError>
+        requires few { self.old.loads < 1000000 }
+        ensures answered { IfOk result (λ answer. IsAnswered (H.files shelf.old) (H.faults shelf.old) (H.faults shelf.new) line.now self.old answer.reply self.new answer.quit) }
+        ensures same { OnErr result (self.new ≡ self.old) }
+        ensures same_files { H.files shelf.new ≡ H.files shelf.old }
+        ensures later_loads { H.faults shelf.old ≤ H.faults shelf.new }
+        ensures steps { (regions : List Shape) → AreRegionsOfPlay self.old.table.setup.board regions → steps.new ≤ steps.old + most_steps self.old.limits regions }
+    {
+        let alloc = self.setup.board.allocator();
+        let text = clean(alloc, line)?;
+        let words = split(alloc, &text)?;
+        if words.is_empty() {
+            return Ok(Answer {
+                reply: Text::new(alloc),
+                quit: false,
+            });
+        }
+        let headed = take_id(&words);
+        self.meet(headed.id, read_asked(headed.rest), shelf, steps)
+    }
+}

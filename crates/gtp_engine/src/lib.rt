@@ -1,0 +1,19 @@
+//! An engine for the Go Text Protocol over a solved game.
+#![tactic(auto)]
+
+mod command;
+mod end;
+mod engine;
+mod loading;
+mod moves;
+mod playing;
+mod reply;
+mod request;
+mod session;
+mod setups;
+#[cfg(test)]
+mod tests;
+mod words;
+
+pub use end::GtpEnd;
+pub use engine::{Answer, Engine};

@@ -1,0 +1,91 @@
+//! Positions of files.
+
+ghost use Rattle.std.specs.Prelude.{◌≡◌, ◌≤◌, length, sum_by, IfOk};
+ghost use Rattle.sgf_tree.specs.Reading.{line_text};
+ghost use Rattle.desk_io.specs.Files.{told_file};
+ghost use Rattle.gtp_engine.specs.Loading.{IsFoundIn, IsFoundOn, IsLoaded};
+ghost use Rattle.gtp_engine.specs.Session.{settings_after};
+
+use desk_io::{LoadError, Loaded, Shelf};
+use sgf_go::{GoError, Settings, Setup, position};
+use sgf_tree::{SgfError, Tree};
+use std::alloc::{AllocError, Global};
+
+/// The most bytes that a file may have.
+const MAX_LEN: usize = 1_048_576;
+
+/// What a load comes to.
+#[derive(Drop)]
+pub(crate) enum Loading {
+    /// The position of the file.
+    Position(Setup),
+    /// There is no such file, or it is too long, or it gives no position.
+    Nothing,
+    Failed,
+}
+
+/// The settings of a file of which so many moves are replayed.
+fn settings_after(after: Option<u32>) -> Settings
+    ensures { result ≡ settings_after after }
+{
+    Settings {
+        after,
+        komi: None,
+        turn: None,
+        black_prisoners: 0,
+        white_prisoners: 0,
+    }
+}
+
+/// The position of a main line, where it gives one.
+fn find_on(alloc: Global, tree: &Tree, after: Option<u32>) -> Result<Loading, AllocError>
+    requires nodes { length tree.now.line.items ≤ 1048576 }
+    requires properties { sum_by (λ n. length n.properties.items) tree.now.line.items ≤ 1048576 }
+    ensures { IfOk result (IsFoundOn (line_text tree.now) after) }
+{
+    match position(alloc, tree, &settings_after(after)) {
+        Ok(setup) => Ok(Loading::Position(setup)),
+        Err(GoError::Fault(_fault)) => Ok(Loading::Nothing),
+        Err(GoError::Memory(cause)) => Err(cause),
+    }
+}
+
+/// The position of a file, where it gives one.
+fn find_in(alloc: Global, file: &[u8], after: Option<u32>) -> Result<Loading, AllocError>
+    requires { length file.now ≤ 1048576 }
+    ensures { IfOk result (IsFoundIn file.now after) }
+{
+    match sgf_tree::read(alloc, file) {
+        Ok(tree) => {
+            let found = find_on(alloc, &tree, after)?;
+            Ok(found)
+        }
+        Err(SgfError::Fault(_fault)) => Ok(Loading::Nothing),
+        Err(SgfError::Memory(cause)) => Err(cause),
+    }
+}
+
+/// Loads the position of a file.
+pub(crate) fn load<H: Shelf>(
+    alloc: Global,
+    shelf: &mut H,
+    name: &str,
+    after: Option<u32>,
+) -> Result<Loading, AllocError>
+    ensures loaded { IfOk result (IsLoaded (told_file (H.files shelf.old) name.now) after (H.faults shelf.old) (H.faults shelf.new)) }
+    ensures same_files { H.files shelf.new ≡ H.files shelf.old }
+    ensures asked { H.asks shelf.old name.now shelf.new }
+    ensures later { H.faults shelf.old ≤ H.faults shelf.new }
+{
+    let mut file = Vec::new(alloc);
+    match shelf.load(name, MAX_LEN, &mut file) {
+        Ok(Loaded::Whole) => {
+            let found = find_in(alloc, &file, after)?;
+            Ok(found)
+        }
+        Ok(Loaded::Longer) => Ok(Loading::Nothing),
+        Err(LoadError::Absent) => Ok(Loading::Nothing),
+        Err(LoadError::Failed) => Ok(Loading::Failed),
+        Err(LoadError::Memory(cause)) => Err(cause),
+    }
+}

@@ -1,0 +1,182 @@
+//! The words of a line.
+
+ghost use Rattle.std.specs.Prelude.{◌≡◌, ◌↔◌, ◌++◌, ◌<◌, ◌≤◌, true, All, List, ℕ, length, take, drop, slice_index, map, IfOk, IfSome, IfNone};
+ghost use Rattle.gtp_engine.specs.Words.{AreBlanks, AreWords, HasId, IsFirst, IsNumber, IsNumeral, cleaned, kept};
+ghost use Rattle.std.specs.Char.{is_ascii_digit};
+ghost use Rattle.std.specs.List.{list_all};
+ghost use Rattle.std.specs.Str.Parse.{digits_value};
+
+use std::alloc::{AllocError, Global};
+use std::str;
+
+/// The most digits of a number.
+const MOST_DIGITS: usize = 10;
+
+/// What is kept of a byte: a blank for a tab, and nothing of another control byte.
+fn keep(byte: u8, text: &mut Vec<u8>) -> Result<(), AllocError>
+    ensures { IfOk result (λ _. text.new.items ≡ text.old.items ++ kept byte) }
+{
+    if byte == b'\t' {
+        return Ok(text.push(b' ')?);
+    }
+    if byte < 32 || byte == 127 {
+        return Ok(());
+    }
+    Ok(text.push(byte)?)
+}
+
+/// What counts of a line.
+#[tactic(auto, using(crate::proofs::Cleaning::cleaned_more, crate::proofs::Cleaning::cleaned_comment, crate::proofs::Cleaning::cleaned_all))]
+pub(crate) fn clean(alloc: Global, line: &[u8]) -> Result<Vec<u8>, AllocError>
+    ensures { IfOk result (λ text. text.items ≡ cleaned line.now) }
+{
+    let mut text = Vec::new(alloc);
+    'cleaning: for at in 0..line.len() {
+        if line[at] == b'#' {
+            return Ok(text);
+        }
+        keep(line[at], &mut text)?;
+    }
+    Ok(text)
+}
+
+/// Whether a byte is a blank.
+fn is_blank(byte: u8) -> bool
+    ensures { (result ≡ true) ↔ (byte ≡ 32) }
+{
+    byte == b' '
+}
+
+/// How many blanks a text begins with.
+#[tactic(auto, using(crate::proofs::Splitting::one_blank, std::proofs::lemmas::List::take_all))]
+fn blanks_before(text: &[u8]) -> usize
+    ensures within { result ≤ length text.now }
+    ensures blanks { AreBlanks (take result text.now) }
+    ensures next { result < length text.now → ¬ (slice_index text.now result ≡ 32) }
+{
+    'blanks: for at in 0..text.len() {
+        if !is_blank(text[at]) {
+            return at;
+        }
+    }
+    text.len()
+}
+
+/// How many bytes a text has before its first blank.
+#[tactic(auto, using(crate::proofs::Splitting::one_letter, std::proofs::lemmas::List::take_all))]
+fn word_length(text: &[u8]) -> usize
+    ensures within { result ≤ length text.now }
+    ensures word { All (λ b. ¬ (b ≡ 32)) (take result text.now) }
+    ensures next { result < length text.now → slice_index text.now result ≡ 32 }
+{
+    'letters: for at in 0..text.len() {
+        if is_blank(text[at]) {
+            return at;
+        }
+    }
+    text.len()
+}
+
+/// The first word of a text, and what comes after it.
+#[derive(Clone, Copy)]
+struct Parted<'a> {
+    word: &'a [u8],
+    rest: &'a [u8],
+}
+
+/// Takes the first word off a text, where there is one.
+fn part(text: &[u8]) -> Option<Parted<'_>>
+    ensures some { IfSome result (λ p. IsFirst text.now p.word.now p.rest.now) }
+    ensures none { IfNone result (AreBlanks text.now) }
+    ensures shorter { IfSome result (λ p. length p.rest.now < length text.now) }
+{
+    let begun = &text[blanks_before(text)..];
+    let len = word_length(begun);
+    if len == 0 {
+        return None;
+    }
+    Some(Parted {
+        word: &begun[..len],
+        rest: &begun[len..],
+    })
+}
+
+/// The words of a text.
+#[tactic(auto, using(crate::proofs::Splitting::split_all))]
+pub(crate) fn split<'a>(alloc: Global, text: &'a [u8]) -> Result<Vec<&'a [u8]>, AllocError>
+    ensures { IfOk result (λ words. AreWords text.now (map (λ w. w.now) words.items)) }
+{
+    let mut words = Vec::new(alloc);
+    let mut left = text;
+    'splitting: while let Some(parted) = part(left) {
+        words.push(parted.word)?;
+        left = parted.rest;
+    }
+    Ok(words)
+}
+
+fn are_digits(word: &[u8]) -> bool
+    ensures { result ≡ list_all is_ascii_digit word.now }
+{
+    word.iter().all(|byte| byte.is_ascii_digit())
+}
+
+/// Whether a word is one to ten digits.
+fn is_numeral(word: &[u8]) -> bool
+    ensures { (result ≡ true) ↔ IsNumeral word.now }
+{
+    if word.is_empty() || word.len() > MOST_DIGITS {
+        return false;
+    }
+    are_digits(word)
+}
+
+#[tactic(auto, using(crate::proofs::Numbers::parsed))]
+fn value_of(digits: &str) -> u64
+    requires digits { list_all is_ascii_digit digits.now ≡ true }
+    requires some { 1 ≤ length digits.now }
+    requires few { length digits.now ≤ 10 }
+    ensures { result ≡ digits_value 10 digits.now }
+{
+    match digits.parse::<u64>() {
+        Ok(value) => value,
+        Err(_) => unreachable!(),
+    }
+}
+
+/// The number that a word of one to ten digits writes.
+#[tactic(auto, using(crate::proofs::Numbers::not_text))]
+pub(crate) fn read_number(word: &[u8]) -> Option<u64>
+    ensures some { IfSome result (λ n. IsNumber word.now n) }
+    ensures none { IfNone result ((n : ℕ) → ¬ IsNumber word.now n) }
+{
+    if !is_numeral(word) {
+        return None;
+    }
+    match str::from_utf8(word) {
+        Ok(digits) => Some(value_of(digits)),
+        Err(_) => None,
+    }
+}
+
+/// The words behind the id, and the id, which is empty where there is none.
+#[derive(Clone, Copy)]
+pub(crate) struct Headed<'a, 'b> {
+    pub id: &'a [u8],
+    pub rest: &'b [&'a [u8]],
+}
+
+/// Takes the id off the words.
+pub(crate) fn take_id<'a, 'b>(words: &'b [&'a [u8]]) -> Headed<'a, 'b>
+    ensures { HasId (map (λ w. w.now) words.now) result.id.now (map (λ w. w.now) result.rest.now) }
+{
+    if let [first, rest @ ..] = words {
+        if is_numeral(first) {
+            return Headed { id: first, rest };
+        }
+    }
+    Headed {
+        id: b"",
+        rest: words,
+    }
+}
