@@ -5,3 +5,9 @@ pub mod Splitting
 pub mod Acting
 pub mod Files
 pub mod Doing
+pub mod Answering
+pub mod Numbering
+pub mod Taking
+pub mod Going
+pub mod Wins
+pub mod Ranges
