@@ -1,5 +1,6 @@
 -- What an engine answers.
-use Rattle.std.proofs.Common.{Bool, false, ◌≡◌, ◌≢◌, ◌+◌, ◌++◌, ◌∷◌, ℕ, List, [], inl, inr, refl, sym, ap, ◌∙◌, subst, Option, Some, None, Ok, Err, Result, IfOk}
+use Rattle.std.proofs.Common.{Bool, true, false, ◌==◌, length, map, ◌≡◌, ◌≢◌, ◌+◌, ◌++◌, ◌∷◌, ℕ, List, [], inl, inr, refl, sym, ap, ◌∙◌, subst, Option, Some, None, Ok, Err, Result, IfOk}
+use Rattle.std.proofs.lemmas.Bool.{false≢true}
 use Rattle.std.specs.Str.{IsUtf8}
 use Rattle.desk_io.specs.Files.{Files, told_file}
 use Rattle.gtp_engine.specs.declared.loading.Loading.{Loading}
@@ -33,19 +34,6 @@ pub loads_obeyed : {E : Type 0} (files : Option Files) (before now : ℕ) (id fi
     → IfOk result (λ reply. IsObeyed files before now id (loadsgf file after) a reply b)
 loads_obeyed files before now id file after a b loading (Ok reply) text l n = load_obeyed files before now id file after a b loading reply text l n
 loads_obeyed files before now id file after a b loading (Err e) text l n = tt
-
-module _ {E : Type 0} (files : Option Files) (before now : ℕ) (id : List ℕ) (ordered order : Order) (is : ordered ≡ order) (a b : EngineView) (result : Result (List ℕ) E) where
-  -- an order that loads nothing
-  done_obeyed : ((said : Said) (u : Table) → Does a.limits order a.table said u → Obeys a.limits files order no_load a.table said u) → (r : Result (List ℕ) E) → IfOk r (λ reply. IsDone order id a reply b)
-      → IfOk r (λ reply. IsObeyed files before now id order a reply b)
-  done_obeyed plain (Ok reply) d =
-      (no_load, d.0, subst (λ t. Obeys a.limits files order no_load a.table d.0 t) (sym (ap (λ x. x.table) d.4)) (plain d.0 d.1 d.2), d.3,
-      (ap (λ x. x.loads) d.4, ap (λ x. x.failed_loads) d.4), ap (λ x. x.limits) d.4)
-  done_obeyed plain (Err e) d = tt
-
-  pub obeyed_done : ((said : Said) (u : Table) → Does a.limits order a.table said u → Obeys a.limits files order no_load a.table said u) → IfOk result (λ reply. IsDone order id a reply b)
-      → IfOk result (λ reply. IsObeyed files before now id ordered a reply b)
-  obeyed_done plain d = subst (λ o. IfOk result (λ reply. IsObeyed files before now id o a reply b)) (sym is) (done_obeyed plain result d)
 
 -- an order that is answered by a text alone
 pub obeyed_told : {E : Type 0} (files : Option Files) (before now : ℕ) (id text : List ℕ) (ordered order : Order) (a : EngineView) (result : Result (List ℕ) E) → ordered ≡ order
@@ -89,6 +77,11 @@ met_misfit files before now id asked a reply is said = subst (λ x. IsMet files 
 -- a line of blanks
 pub answered_blank : (files : Option Files) (before now : ℕ) (line : List ℕ) (words : List (List ℕ)) (a : EngineView) → AreWords (cleaned line) words → words ≡ [] → IsAnswered files before now line a [] a false
 answered_blank files before now line words a are none = (no_load, (words, are, subst (λ w. AnswersWords a.limits files w no_load a.table [] a.table false) (sym none) (refl, refl, refl, refl)), (refl, refl), refl)
+
+-- words that were split are some, where their list isn't empty
+pub some_words : {A B : Type 0} (f : A → B) (xs : List A) (n : ℕ) (empty : Bool) → empty ≡ false → empty ≡ (n == 0) → length xs ≡ n → map f xs ≢ []
+some_words f [] n empty not is len none = absurd (false≢true (sym not ∙ is ∙ ap (λ k. k == 0) (sym len)))
+some_words f (x ∷ xs) n empty not is len none = absurd (cc none)
 
 -- a line with words
 pub answered_words : (files : Option Files) (before now : ℕ) (line id : List ℕ) (words rest : List (List ℕ)) (asked : Asked) (a b : EngineView) (reply : List ℕ) (last : Bool)

@@ -3,9 +3,10 @@ use Rattle.std.proofs.Common.{◌≡◌, ◌⊎◌, ◌<◌, ◌≤◌, ◌+◌,
 use Rattle.std.specs.Prelude.{Contains}
 use Rattle.std.proofs.lemmas.List.Elements.{Contains-append_left, Contains-push, Contains-push_cases}
 use Rattle.desk_io.specs.Outside.{Rose}
+use Rattle.endgame_solver.specs.declared.limits.Limits.{Limits}
 use Rattle.gtp_engine.specs.Session.{Fate, IsNumbered}
 use Rattle.gtp_engine.specs.Session.Fate.{no_load, made, failed}
-use Rattle.gtp_engine.specs.Written.{EngineView, IsNoted, RoseBy}
+use Rattle.gtp_engine.specs.Written.{EngineView, IsNoted, RoseBy, unused}
 
 -- the list tells of the loads so far what the other one tells
 abbrev pub Agrees : ℕ → List ℕ → List ℕ → Type 0
@@ -59,3 +60,13 @@ module _ (before now : ℕ) (a b : EngineView) where
   noted_rose made first h later rose = subst (λ l. RoseBy (length l) first now) (sym h.1) (omega (arith, rose, later))
   noted_rose failed first h later rose =
       subst (λ l. RoseBy (length l) first now) (sym h.1) (subst (λ n. RoseBy n first now) (sym (length-append a.failed_loads (a.loads ∷ []))) (omega (arith, rose, later, h.2)))
+
+-- an engine that has answered nothing
+pub unused_below : (limits : Limits) (a : EngineView) → a ≡ unused limits → AreBelow a.loads a.failed_loads
+unused_below limits a first = subst (λ v. AreBelow v.loads v.failed_loads) (sym first) (λ n c. absurd (omega (arith, c.1)))
+
+pub unused_loads : (limits : Limits) (a : EngineView) → a ≡ unused limits → a.loads ≤ 0
+unused_loads limits a first = subst (λ v. v.loads ≤ 0) (sym first) (omega arith)
+
+pub unused_rose : (limits : Limits) (a : EngineView) (faults : ℕ) → a ≡ unused limits → RoseBy (length a.failed_loads) faults faults
+unused_rose limits a faults first = subst (λ v. RoseBy (length v.failed_loads) faults faults) (sym first) (omega arith)

@@ -1,5 +1,6 @@
 -- A komi that is asked for is in range.
-use Rattle.std.proofs.Common.{◌≡◌, ◌≤◌, ◌+◌, ◌*◌, ℕ, ℤ, pos, ◌≤ℤ◌, List, [], ◌∷◌, arith, ints, sym, subst}
+use Rattle.std.proofs.Common.{◌≡◌, ◌≤◌, ◌+◌, ◌*◌, ℕ, ℤ, pos, ◌≤ℤ◌, List, [], ◌∷◌, arith, sym, subst}
+use Rattle.std.proofs.lemmas.Int.{ints}
 use Rattle.sgf_go.specs.Komi.{IsKomi, unsigned, positive, negative, IsHalves, halves, IsFraction, nothing, zeros, half, IsInRange}
 use Rattle.gtp_engine.specs.declared.command.Command.{Command}
 use Rattle.gtp_engine.specs.declared.command.Command.TheVariants.{ProtocolVersion, Name, Version, KnownCommand, ListCommands, BoardSize, ClearBoard, Komi, Play, GenMove, LoadSgf, Quit}

@@ -393,6 +393,7 @@ impl Engine {
             });
         }
         let headed = take_id(&words);
-        self.meet(headed.id, read_asked(headed.rest), shelf, steps)
+        let answer = self.meet(headed.id, read_asked(headed.rest), shelf, steps)?;
+        Ok(answer)
     }
 }
