@@ -56,9 +56,14 @@ pub obeyed_turn : {E : Type 0} (files : Option Files) (before now : ℕ) (id : L
     → ((said : Said) (u : Table) → TakesTurn a.limits c (Acts action) a.table said u → Obeys a.limits files order no_load a.table said u)
     → IfOk result (λ reply. IsTurnTaken c action id a reply b) → IfOk result (λ reply. IsObeyed files before now id ordered a reply b)
 obeyed_turn files before now id ordered order c action a b (Ok reply) is plain d =
-    subst (λ o. IsObeyed files before now id o a reply b) (sym is)
-    (no_load, d.0, subst (λ t. Obeys a.limits files order no_load a.table d.0 t) (sym (ap (λ x. x.table) d.4)) (plain d.0 d.1 d.2), d.3,
-    (ap (λ x. x.loads) d.4, ap (λ x. x.failed_loads) d.4), ap (λ x. x.limits) d.4)
+    subst (λ o. IsObeyed files before now id o a reply b) (sym is) (
+      no_load,
+      d.0,
+      subst (λ t. Obeys a.limits files order no_load a.table d.0 t) (sym (ap (λ x. x.table) d.4)) (plain d.0 d.1 d.2),
+      d.3,
+      (ap (λ x. x.loads) d.4, ap (λ x. x.failed_loads) d.4),
+      ap (λ x. x.limits) d.4,
+    )
 obeyed_turn files before now id ordered order c action a b (Err e) is plain d = tt
 
 -- what is asked for

@@ -69,8 +69,16 @@ module _ (limits : Limits) (files : Option Files) (left₀ holds₀ : Option (Li
           rest = t.0;
           text = x.text ++ l.0;
           unread = t.1;
-          turns = λ failing agrees. (standing a read (held ++ x.rest), (x.text, l.0, x.turns failing (noted_agrees before now a b l.1.answered.0 failing l.1.answered.2 agrees),
-              takes limits files failing before now a b read (held ++ x.rest) l.0 (held' ++ t.0) false own few below agrees l.1, refl));
+          turns = λ failing agrees. (
+            standing a read (held ++ x.rest),
+            (
+              x.text,
+              l.0,
+              x.turns failing (noted_agrees before now a b l.1.answered.0 failing l.1.answered.2 agrees),
+              takes limits files failing before now a b read (held ++ x.rest) l.0 (held' ++ t.0) false own few below agrees l.1,
+              refl,
+            ),
+          );
           written = joined x.text l.0 x.written l.2;
         };
   }
@@ -78,27 +86,35 @@ module _ (limits : Limits) (files : Option Files) (left₀ holds₀ : Option (Li
   -- the session ends
   pub going_end : (end : GtpEnd) → Taken files before now a held left holds holds' (Some end) b held' left' → (bytes : List ℕ) → left₀ ≡ Some bytes → IsRun limits files b.failed_loads bytes holds₀ holds' end
   going_end Quit taken bytes e =
-      let x = w.told bytes e in let t = taken x.rest x.unread in let l = t.2 in let agrees = agrees_itself b.loads b.failed_loads in
-      (standing b (read + 1) (held' ++ t.0), x.text ++ l.0, record {
-        number = x.number;
-        before_end = standing a read (held ++ x.rest);
-        first = x.text;
-        then = l.0;
-        turns = x.turns b.failed_loads (noted_agrees before now a b l.1.answered.0 b.failed_loads l.1.answered.2 agrees);
-        ends = takes limits files b.failed_loads before now a b read (held ++ x.rest) l.0 (held' ++ t.0) true own few below agrees l.1;
-        whole = refl;
-      }, joined x.text l.0 x.written l.2)
+      let x = w.told bytes e in let t = taken x.rest x.unread in let l = t.2 in let agrees = agrees_itself b.loads b.failed_loads in (
+        standing b (read + 1) (held' ++ t.0),
+        x.text ++ l.0,
+        record {
+          number = x.number;
+          before_end = standing a read (held ++ x.rest);
+          first = x.text;
+          then = l.0;
+          turns = x.turns b.failed_loads (noted_agrees before now a b l.1.answered.0 b.failed_loads l.1.answered.2 agrees);
+          ends = takes limits files b.failed_loads before now a b read (held ++ x.rest) l.0 (held' ++ t.0) true own few below agrees l.1;
+          whole = refl;
+        },
+        joined x.text l.0 x.written l.2,
+      )
   going_end InputEnded taken bytes e =
-      let x = w.told bytes e in let t = taken x.rest x.unread in let l = t.2 in
-      (standing a read (held ++ x.rest), x.text, record {
-        number = x.number;
-        before_end = standing a read (held ++ x.rest);
-        first = x.text;
-        then = [];
-        turns = x.turns b.failed_loads (subst (λ v. Agrees a.loads a.failed_loads v.failed_loads) (sym l.1) (agrees_itself a.loads a.failed_loads));
-        ends = (few, l.0, refl, refl);
-        whole = sym (append-nil x.text);
-      }, l.2 ∙ x.written)
+      let x = w.told bytes e in let t = taken x.rest x.unread in let l = t.2 in (
+        standing a read (held ++ x.rest),
+        x.text,
+        record {
+          number = x.number;
+          before_end = standing a read (held ++ x.rest);
+          first = x.text;
+          then = [];
+          turns = x.turns b.failed_loads (subst (λ v. Agrees a.loads a.failed_loads v.failed_loads) (sym l.1) (agrees_itself a.loads a.failed_loads));
+          ends = (few, l.0, refl, refl);
+          whole = sym (append-nil x.text);
+        },
+        l.2 ∙ x.written,
+      )
   going_end ReadFault taken bytes e =
       let x = w.told bytes e in let t = taken x.rest x.unread in let l = t.2 in
       (standing a read (held ++ x.rest), x.text, (x.number, x.turns b.failed_loads (subst (λ v. Agrees a.loads a.failed_loads v.failed_loads) (sym l.0) (agrees_itself a.loads a.failed_loads)), few), l.1 ∙ x.written)
@@ -106,23 +122,39 @@ module _ (limits : Limits) (files : Option Files) (left₀ holds₀ : Option (Li
       let x = w.told bytes e in let t = taken x.rest x.unread in let l = t.2 in
       (standing a read (held ++ x.rest), x.text, (x.number, x.turns b.failed_loads (subst (λ v. Agrees a.loads a.failed_loads v.failed_loads) (sym l.0) (agrees_itself a.loads a.failed_loads)), few), l.1 ∙ x.written)
   going_end WriteFault taken bytes e =
-      let x = w.told bytes e in let t = taken x.rest x.unread in let l = t.2 in let agrees = agrees_itself b.loads b.failed_loads in
-      (x.text ++ l.0, (x.number, standing a read (held ++ x.rest), standing b (read + 1) (held' ++ t.0), x.text, l.0, l.1, l.2,
-        x.turns b.failed_loads (noted_agrees before now a b l.3.answered.0 b.failed_loads l.3.answered.2 agrees),
-        takes limits files b.failed_loads before now a b read (held ++ x.rest) (l.0 ++ l.1) (held' ++ t.0) l.2 own few below agrees l.3, refl), joined x.text l.0 x.written l.4)
+      let x = w.told bytes e in let t = taken x.rest x.unread in let l = t.2 in let agrees = agrees_itself b.loads b.failed_loads in (
+        x.text ++ l.0,
+        (
+          x.number,
+          standing a read (held ++ x.rest),
+          standing b (read + 1) (held' ++ t.0),
+          x.text,
+          l.0,
+          l.1,
+          l.2,
+          x.turns b.failed_loads (noted_agrees before now a b l.3.answered.0 b.failed_loads l.3.answered.2 agrees),
+          takes limits files b.failed_loads before now a b read (held ++ x.rest) (l.0 ++ l.1) (held' ++ t.0) l.2 own few below agrees l.3,
+          refl,
+        ),
+        joined x.text l.0 x.written l.4,
+      )
   going_end TooManyLines taken bytes e = let x = w.told bytes e in absurd (taken x.rest x.unread).2
 
 -- as many lines were read as a session reads
 pub going_over : (limits : Limits) (files : Option Files) (left₀ holds₀ : Option (List ℕ)) (a : EngineView) (read : ℕ) (held : List ℕ) (left holds : Option (List ℕ)) → Going limits files left₀ holds₀ a read held left holds → read ≡ 10000
     → (bytes : List ℕ) → left₀ ≡ Some bytes → IsRun limits files a.failed_loads bytes holds₀ holds TooManyLines
 going_over limits files left₀ holds₀ a read held left holds w all bytes e =
-    let x = w.told bytes e in
-    (standing a read (held ++ x.rest), x.text, record {
-      number = x.number;
-      before_end = standing a read (held ++ x.rest);
-      first = x.text;
-      then = [];
-      turns = x.turns a.failed_loads (agrees_itself a.loads a.failed_loads);
-      ends = (all, refl, refl);
-      whole = sym (append-nil x.text);
-    }, x.written)
+    let x = w.told bytes e in (
+      standing a read (held ++ x.rest),
+      x.text,
+      record {
+        number = x.number;
+        before_end = standing a read (held ++ x.rest);
+        first = x.text;
+        then = [];
+        turns = x.turns a.failed_loads (agrees_itself a.loads a.failed_loads);
+        ends = (all, refl, refl);
+        whole = sym (append-nil x.text);
+      },
+      x.written,
+    )

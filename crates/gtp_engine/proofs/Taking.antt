@@ -43,14 +43,17 @@ module _ (files : Option Files) (before now : ℕ) (a : EngineView) (start held 
     replies : (text : List ℕ) (last : Bool) → IsAnswered files before now line a text b last → (bytes : List ℕ) → left ≡ Some bytes
         → (rest : List ℕ) × (left' ≡ Some rest) × Replies files before now a (start ++ bytes) text b (used ++ rest) last
     replies text last answered bytes e =
-        let r = same bytes e in
-        (r.0, r.1, record {
-          some = λ n. absurd (omega (arith, found.2, ap length (sym r.2 ∙ n), length-append held r.0));
-          line = line;
-          taken = subst (λ u. IsLine 1024 (start ++ bytes) line (u ++ r.0)) (sym behind) (subst (λ l. IsLine 1024 (start ++ bytes) l (drop f.taken held ++ r.0)) (sym is)
-              (subst (λ l. IsLine 1024 l (take f.line held) (drop f.taken held ++ r.0)) (sym r.2) (found.3 r.0 r.1)));
-          answered = answered;
-        })
+        let r = same bytes e in (
+          r.0,
+          r.1,
+          record {
+            some = λ n. absurd (omega (arith, found.2, ap length (sym r.2 ∙ n), length-append held r.0));
+            line = line;
+            taken = subst (λ u. IsLine 1024 (start ++ bytes) line (u ++ r.0)) (sym behind) (subst (λ l. IsLine 1024 (start ++ bytes) l (drop f.taken held ++ r.0)) (sym is)
+                (subst (λ l. IsLine 1024 l (take f.line held) (drop f.taken held ++ r.0)) (sym r.2) (found.3 r.0 r.1)));
+            answered = answered;
+          },
+        )
 
     -- the line was answered, and the session goes on
     pub taken_on : (text : List ℕ) (last : Bool) (holds' : Option (List ℕ)) → IsAnswered files before now line a text b last → last ≡ false → holds' ≡ append_known holds text

@@ -1,9 +1,9 @@
 //! A session over lines.
 
-ghost use Rattle.std.specs.Prelude.{◌≡◌, ◌≢◌, ◌≤◌, ◌<◌, ◌++◌, List, ℕ, [], Some, length};
+ghost use Rattle.std.specs.Prelude.{◌≡◌, ◌≤◌, ◌<◌, ◌++◌, List, ℕ, [], Some, length};
 ghost use Rattle.desk_io.specs.Lines.{UsesLines};
 ghost use Rattle.desk_io.specs.Outside.{Appends, HasCause, Rose};
-ghost use Rattle.gtp_engine.specs.declared.end.GtpEnd.TheVariants.{ReadFault, TooManyLines, WriteFault};
+ghost use Rattle.gtp_engine.specs.declared.end.GtpEnd.TheVariants.{ReadFault, WriteFault};
 ghost use Rattle.gtp_engine.specs.Taking.{IsSomeNoted, LineTaken};
 ghost use Rattle.gtp_engine.specs.Written.{IsRun, RoseBy, unused};
 
@@ -48,7 +48,6 @@ impl Engine {
         ensures write_fault { result ≡ Some WriteFault → Rose (K.faults out.old) (K.faults out.new) }
         ensures used { UsesLines 1024 0 1 reader.old (S.left lines.old) reader.new (S.left lines.new) }
         ensures few_held { length reader.new ≤ 1024 }
-        ensures goes_on { result ≢ Some TooManyLines }
         ensures same_files { H.files shelf.new ≡ H.files shelf.old }
         ensures later_loads { H.faults shelf.old ≤ H.faults shelf.new }
         ensures later_reads { S.faults lines.old ≤ S.faults lines.new }

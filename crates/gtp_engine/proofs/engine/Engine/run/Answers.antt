@@ -7,8 +7,7 @@ use Rattle.gtp_engine.proofs.engine.Engine.run.Goals as goal
 
 pub session-init : goal.session-init
 session-init g c =
-    let start = c.args.self.now in let files = g.H.Shelf.files c.args.shelf.now in let left = g.S.Source.left c.args.lines.now in let faults = g.H.Shelf.faults c.args.shelf.now in
-    (
+    let start = c.args.self.now in let files = g.H.Shelf.files c.args.shelf.now in let left = g.S.Source.left c.args.lines.now in let faults = g.H.Shelf.faults c.args.shelf.now in (
       going_start start.limits files left (g.K.Sink.holds c.args.out.now) start c.new-reader.result c.requires.first c.new-reader.ensures,
       refl,
       unused_below start.limits start c.requires.first,
@@ -30,8 +29,7 @@ session-preserved g c =
     let before = g.H.Shelf.faults at.shelf in let now = g.H.Shelf.faults c.take_line.new.shelf in let new = c.take_line.new.self in let held = c.take_line.new.reader in
     let left' = g.S.Source.left c.take_line.new.lines in let holds' = g.K.Sink.holds c.take_line.new.out in
     let noted = c.take_line.ensures.noted in
-    let on = subst (λ r. Taken (g.H.Shelf.files at.shelf) before now at.self at.reader left holds holds' r new held left') c.in_default.is c.take_line.ensures.taken in
-    (
+    let on = subst (λ r. Taken (g.H.Shelf.files at.shelf) before now at.self at.reader left holds holds' r new held left') c.in_default.is c.take_line.ensures.taken in (
       going_line start.limits files left₀ holds₀ at.self at._read at.reader left holds inv.0 before now new held left' holds' inv.1 c.session-test.true inv.2
           (subst (λ f. Taken f before now at.self at.reader left holds holds' None new held left') inv.5 on),
       c.take_line.ensures.limits ∙ inv.1,
@@ -64,9 +62,12 @@ returns-in-Some-clause-counted g c =
 pub returns-in-Some-clause-used : goal.returns-in-Some-clause-used
 returns-in-Some-clause-used g c =
     let at = c.session in let held = c.take_line.new.reader in
-    let left₀ = g.S.Source.left c.args.lines.now in let left = g.S.Source.left at.lines in let left' = g.S.Source.left c.take_line.new.lines in
-    (held, c.take_line.ensures.few_held, used_most 1024 (at._read + 1) 10000 [] held left₀ left' (omega (arith, c.session-test.true))
-        (used_then 1024 0 at._read (at._read + 1) [] at.reader held left₀ left left' at.invariant.9 (used_at 1024 at._read (at._read + 1) at.reader held left left' (omega arith) c.take_line.ensures.used)))
+    let left₀ = g.S.Source.left c.args.lines.now in let left = g.S.Source.left at.lines in let left' = g.S.Source.left c.take_line.new.lines in (
+      held,
+      c.take_line.ensures.few_held,
+      used_most 1024 (at._read + 1) 10000 [] held left₀ left' (omega (arith, c.session-test.true))
+          (used_then 1024 0 at._read (at._read + 1) [] at.reader held left₀ left left' at.invariant.9 (used_at 1024 at._read (at._read + 1) at.reader held left left' (omega arith) c.take_line.ensures.used)),
+    )
 
 pub returns-clause-text : goal.returns-clause-text
 returns-clause-text g c =
