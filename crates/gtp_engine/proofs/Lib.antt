@@ -6,3 +6,9 @@ pub mod Acting
 pub mod Keeping
 pub mod Files
 pub mod Doing
+pub mod Answering
+pub mod Numbering
+pub mod Taking
+pub mod Going
+pub mod Wins
+pub mod Ranges

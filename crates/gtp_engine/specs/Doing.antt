@@ -7,7 +7,10 @@ use Rattle.gtp_engine.specs.declared.loading.Loading.TheVariants.{Position, Noth
 use Rattle.gtp_engine.specs.declared.reply.Refusal.TheVariants.{CannotLoadFile}
 use Rattle.gtp_engine.specs.declared.playing.Action.{Action}
 use Rattle.gtp_engine.specs.Playing.{Acts}
-use Rattle.gtp_engine.specs.Request.{Order}
+use Rattle.sgf_go.specs.Komi.{IsInRange}
+use Rattle.gtp_engine.specs.Request.{Asked, Order}
+use Rattle.gtp_engine.specs.Request.Asked.{something}
+use Rattle.gtp_engine.specs.Request.Order.{komi}
 use Rattle.gtp_engine.specs.Session.{Does, Said, Table, TakesTurn, done, refused, reply_text}
 use Rattle.gtp_engine.specs.Written.{EngineView}
 
@@ -37,3 +40,12 @@ IsLoadNoted id (Position setup) a reply b = (reply ≡ reply_text id (done []))
 IsLoadNoted id Nothing a reply b = (reply ≡ reply_text id (refused CannotLoadFile)) × (b ≡ record a { loads = a.loads + 1 })
 IsLoadNoted id Failed a reply b = (reply ≡ reply_text id (refused CannotLoadFile))
     × (b ≡ record a { loads = a.loads + 1; failed_loads = a.failed_loads ++ a.loads ∷ [] })
+
+-- a komi that is ordered is in range
+abbrev pub HasKomiInRange : Order → Type 0
+HasKomiInRange (komi halves) = IsInRange halves
+HasKomiInRange order = Unit {0}
+
+abbrev pub AsksInRange : Asked → Type 0
+AsksInRange (something order) = HasKomiInRange order
+AsksInRange asked = Unit {0}

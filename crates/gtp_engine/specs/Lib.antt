@@ -8,3 +8,5 @@ pub mod Loading
 pub mod Playing
 pub mod Kept
 pub mod Doing
+pub mod Taking
+pub mod Laws

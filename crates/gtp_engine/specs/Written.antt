@@ -7,7 +7,7 @@ use Rattle.endgame_solver.specs.declared.limits.Limits.{Limits}
 use Rattle.gtp_engine.specs.declared.end.GtpEnd.{GtpEnd}
 use Rattle.gtp_engine.specs.declared.end.GtpEnd.TheVariants.{ReadFault, WriteFault, Memory}
 use Rattle.gtp_engine.specs.Request.{Order, Asked}
-use Rattle.gtp_engine.specs.Session.{Table, Said, Fate, no_load, made, failed, Standing, Obeys, AnswersLine, AnswersWords, reply_text, fresh, beginning, IsSession, Waits, BreaksOff}
+use Rattle.gtp_engine.specs.Session.{Table, Said, Fate, no_load, made, failed, Standing, Obeys, Meets, AnswersLine, AnswersWords, reply_text, fresh, beginning, IsSession, Waits, BreaksOff}
 
 -- what an engine keeps: its limits, its table, how many loads there were, and the numbers of those that failed
 pub record EngineView : Type 0 where
@@ -25,6 +25,11 @@ IsNoted before now failed a b = (b.loads ≡ a.loads + 1) × (b.failed_loads ≡
 -- the reply to an order, and what it leaves
 abbrev pub IsObeyed : Option Files → ℕ → ℕ → List ℕ → Order → EngineView → List ℕ → EngineView → Type 0
 IsObeyed files before now id order a reply b = (fate : Fate) × (said : Said) × Obeys a.limits files order fate a.table said b.table
+    × (reply ≡ reply_text id said) × IsNoted before now fate a b × (b.limits ≡ a.limits)
+
+-- the reply to what words ask for, and what it leaves
+abbrev pub IsMet : Option Files → ℕ → ℕ → List ℕ → Asked → EngineView → List ℕ → EngineView → Type 0
+IsMet files before now id asked a reply b = (fate : Fate) × (said : Said) × Meets a.limits files asked fate a.table said b.table
     × (reply ≡ reply_text id said) × IsNoted before now fate a b × (b.limits ≡ a.limits)
 
 -- the reply to a line, and what it leaves

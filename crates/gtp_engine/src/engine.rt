@@ -6,12 +6,13 @@ ghost use Rattle.go_grid.specs.Region.{Shape};
 ghost use Rattle.region_cut.specs.Cut.{AreRegionsOfPlay};
 ghost use Rattle.gtp_engine.specs.Loading.{CanKeep};
 ghost use Rattle.sgf_go.specs.Komi.{IsInRange};
-ghost use Rattle.gtp_engine.specs.Doing.{IsDone, IsFresh, IsLoadNoted, IsRunning, IsTurnTaken};
-ghost use Rattle.gtp_engine.specs.Viewed.{order_of};
+ghost use Rattle.gtp_engine.specs.Doing.{AsksInRange, HasKomiInRange, IsDone, IsFresh, IsLoadNoted, IsRunning, IsTurnTaken};
+ghost use Rattle.gtp_engine.specs.Viewed.{asked_of, order_of};
 ghost use Rattle.gtp_engine.specs.Kept.{AreLoads};
+ghost use Rattle.gtp_engine.specs.Request.Asked.{something};
 ghost use Rattle.gtp_engine.specs.Request.Order.{boardsize, komi, loadsgf};
-ghost use Rattle.gtp_engine.specs.Session.{IsKnown, done, fresh, reply_text};
-ghost use Rattle.gtp_engine.specs.Written.{IsAnswered, IsObeyed, unused};
+ghost use Rattle.gtp_engine.specs.Session.{IsKnown, done, fresh, is_last, reply_text};
+ghost use Rattle.gtp_engine.specs.Written.{IsAnswered, IsMet, IsObeyed, unused};
 
 use crate::command::read_command;
 use crate::loading::{Loading, load};
@@ -72,6 +73,13 @@ fn known(word: &[u8]) -> &'static [u8]
         Some(_) => b"true",
         None => b"false",
     }
+}
+
+/// Whether a request ends the session.
+fn is_quit(request: &Request<'_>) -> bool
+    ensures { result ≡ is_last (something (order_of request.now)) }
+{
+    matches!(request, Request::Quit)
 }
 
 /// Whether the two are the same.
@@ -299,7 +307,8 @@ impl Engine {
         steps: &mut Steps<L>,
     ) -> Result<Text, AllocError>
         requires few { self.old.loads < 1000000 }
-        ensures obeyed { IfOk result (λ reply. IsObeyed (H.files shelf.old) (H.faults shelf.old) (H.faults shelf.new) id.now (order_of request) self.old reply self.new) }
+        requires komi { HasKomiInRange (order_of request) }
+        ensures obeyed { IfOk result (λ reply. IsObeyed (H.files shelf.old) (H.faults shelf.old) (H.faults shelf.new) id.now (order_of request.entry) self.old reply self.new) }
         ensures same { OnErr result (self.new ≡ self.old) }
         ensures same_files { H.files shelf.new ≡ H.files shelf.old }
         ensures later { H.faults shelf.old ≤ H.faults shelf.new }
@@ -313,7 +322,10 @@ impl Engine {
             Request::KnownCommand(word) => accept(alloc, id, known(word)),
             Request::ListCommands => accept(alloc, id, ALL_COMMANDS),
             Request::BoardSize(number) => self.resize(id, number),
-            Request::ClearBoard => self.clear(id, self.setup.board.size()),
+            Request::ClearBoard => {
+                let size = self.setup.board.size();
+                self.clear(id, size)
+            }
             Request::Komi(halves) => self.set_komi(id, halves),
             Request::Play(colour, wanted) => {
                 self.take_turn(id, colour, Action::Play(wanted), steps)
@@ -333,16 +345,30 @@ impl Engine {
         steps: &mut Steps<L>,
     ) -> Result<Answer, AllocError>
         requires few { self.old.loads < 1000000 }
+        requires komi { AsksInRange (asked_of asked) }
+        ensures met { IfOk result (λ answer. IsMet (H.files shelf.old) (H.faults shelf.old) (H.faults shelf.new) id.now (asked_of asked.entry) self.old answer.reply self.new) }
+        ensures quit { IfOk result (λ answer. answer.quit ≡ is_last (asked_of asked.entry)) }
         ensures same { OnErr result (self.new ≡ self.old) }
+        ensures same_files { H.files shelf.new ≡ H.files shelf.old }
+        ensures later { H.faults shelf.old ≤ H.faults shelf.new }
+        ensures steps { (regions : List Shape) → AreRegionsOfPlay self.old.table.setup.board regions → steps.new ≤ steps.old + most_steps self.old.limits regions }
     {
         let alloc = self.setup.board.allocator();
-        let quit = matches!(&asked, Asked::Something(Request::Quit));
-        let reply = match asked {
-            Asked::Something(request) => self.obey(id, request, shelf, steps)?,
-            Asked::Unknown => refuse(alloc, id, Refusal::UnknownCommand)?,
-            Asked::Misfit => refuse(alloc, id, Refusal::SyntaxError)?,
-        };
-        Ok(Answer { reply, quit })
+        match asked {
+            Asked::Something(request) => {
+                let quit = is_quit(&request);
+                let reply = self.obey(id, request, shelf, steps)?;
+                Ok(Answer { reply, quit })
+            }
+            Asked::Unknown => {
+                let reply = refuse(alloc, id, Refusal::UnknownCommand)?;
+                Ok(Answer { reply, quit: false })
+            }
+            Asked::Misfit => {
+                let reply = refuse(alloc, id, Refusal::SyntaxError)?;
+                Ok(Answer { reply, quit: false })
+            }
+        }
     }
 
     /// Answers a line, or leaves the engine as it was where memory is refused. A load that fails is noted.
@@ -369,6 +395,7 @@ impl Engine {
             });
         }
         let headed = take_id(&words);
-        self.meet(headed.id, read_asked(headed.rest), shelf, steps)
+        let answer = self.meet(headed.id, read_asked(headed.rest), shelf, steps)?;
+        Ok(answer)
     }
 }

@@ -4,6 +4,7 @@
 mod command;
 mod end;
 mod engine;
+mod laws;
 mod loading;
 mod moves;
 mod playing;
@@ -17,3 +18,4 @@ mod words;
 
 pub use end::GtpEnd;
 pub use engine::{Answer, Engine};
+pub use laws::session_laws;

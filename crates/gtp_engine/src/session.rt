@@ -1,14 +1,15 @@
 //! A session over lines.
 
-ghost use Rattle.std.specs.Prelude.{◌≡◌, ◌≤◌, List, ℕ, Some, length};
+ghost use Rattle.std.specs.Prelude.{◌≡◌, ◌≤◌, ◌<◌, ◌++◌, List, ℕ, [], Some, length};
 ghost use Rattle.desk_io.specs.Lines.{UsesLines};
-ghost use Rattle.desk_io.specs.Outside.{Rose};
+ghost use Rattle.desk_io.specs.Outside.{Appends, HasCause, Rose};
 ghost use Rattle.gtp_engine.specs.declared.end.GtpEnd.TheVariants.{ReadFault, WriteFault};
+ghost use Rattle.gtp_engine.specs.Taking.{IsSomeNoted, LineTaken};
 ghost use Rattle.gtp_engine.specs.Written.{IsRun, RoseBy, unused};
 
 use crate::end::GtpEnd;
 use crate::engine::Engine;
-use desk_io::{LineReader, Shelf, Sink, Source};
+use desk_io::{Failed, LineReader, Shelf, Sink, Source};
 use local_play::Steps;
 use std::sync::ledger::Ledger;
 
@@ -17,6 +18,17 @@ const MOST_LINES: usize = 10_000;
 
 /// The most bytes of a line.
 const MOST_BYTES: usize = 1_024;
+
+/// Writes a reply, where there is one.
+fn say<K: Sink>(out: &mut K, reply: &[u8]) -> Result<(), Failed>
+    ensures bytes { Appends (K.holds out.old) (K.holds out.new) result reply.now }
+    ensures cause { HasCause (K.faults out.old) (K.faults out.new) result }
+{
+    if reply.is_empty() {
+        return Ok(());
+    }
+    out.write(reply)
+}
 
 impl Engine {
     /// Reads and answers one line. The end of the session, if it is one.
@@ -27,7 +39,20 @@ impl Engine {
         lines: &mut S,
         out: &mut K,
         steps: &mut Steps<L>,
-    ) -> Option<GtpEnd> {
+    ) -> Option<GtpEnd>
+        requires few { self.old.loads < 1000000 }
+        ensures taken { (bytes : List ℕ) → S.left lines.old ≡ Some bytes → (rest : List ℕ) × (S.left lines.new ≡ Some rest) × LineTaken (H.files shelf.old) (H.faults shelf.old) (H.faults shelf.new) self.old (reader.old ++ bytes) (K.holds out.old) (K.holds out.new) result self.new (reader.new ++ rest) }
+        ensures noted { IsSomeNoted (H.faults shelf.old) (H.faults shelf.new) self.old self.new }
+        ensures limits { self.new.limits ≡ self.old.limits }
+        ensures read_fault { result ≡ Some ReadFault → Rose (S.faults lines.old) (S.faults lines.new) }
+        ensures write_fault { result ≡ Some WriteFault → Rose (K.faults out.old) (K.faults out.new) }
+        ensures used { UsesLines 1024 0 1 reader.old (S.left lines.old) reader.new (S.left lines.new) }
+        ensures few_held { length reader.new ≤ 1024 }
+        ensures same_files { H.files shelf.new ≡ H.files shelf.old }
+        ensures later_loads { H.faults shelf.old ≤ H.faults shelf.new }
+        ensures later_reads { S.faults lines.old ≤ S.faults lines.new }
+        ensures later_writes { K.faults out.old ≤ K.faults out.new }
+    {
         let found = match reader.find_line(lines) {
             Ok(Some(found)) => found,
             Ok(None) => return Some(GtpEnd::InputEnded),
@@ -37,9 +62,9 @@ impl Engine {
             return Some(GtpEnd::Memory);
         };
         reader.drop_front(found.taken);
-        let reply = answer.reply.as_slice();
-        if !reply.is_empty() && out.write(reply).is_err() {
-            return Some(GtpEnd::WriteFault);
+        match say(out, answer.reply.as_slice()) {
+            Ok(()) => {}
+            Err(_) => return Some(GtpEnd::WriteFault),
         }
         if answer.quit {
             return Some(GtpEnd::Quit);
@@ -67,7 +92,7 @@ impl Engine {
         ensures later_writes { K.faults out.old ≤ K.faults out.new }
     {
         let mut reader: LineReader<MOST_BYTES> = LineReader::new();
-        'session: for _ in 0..MOST_LINES {
+        'session: for _read in 0..MOST_LINES {
             if let Some(end) = self.take_line(&mut reader, shelf, lines, out, steps) {
                 return end;
             }

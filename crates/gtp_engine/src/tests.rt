@@ -20,37 +20,66 @@ const LIMITS: Limits = Limits {
     tax: false,
 };
 
-/// The end of a session over these things, whose steps a new ledger counts.
+/// What a session comes to: its end, how many loads there were, those that failed, and what was written.
+#[derive(Drop)]
+struct Outcome {
+    end: GtpEnd,
+    loads: u32,
+    failed: Vec<u32>,
+    written: Vec<u8>,
+}
+
+/// What a session over these things comes to. A new ledger counts its steps.
 fn counted<L: Ledger>(
     alloc: Global,
     shelf: &mut MemoryShelf,
     lines: &mut MemorySource,
     out: &mut MemorySink,
     blank: Blank,
-) -> Result<GtpEnd, AllocError>
+) -> Result<Outcome, AllocError>
     requires name { blank.name ≡ L.name }
     requires parts { blank.parts ≡ L.parts }
     requires some { 0 < blank.parts }
 {
     let mut engine = Engine::new(alloc, LIMITS)?;
-    Ok(engine.run(shelf, lines, out, &mut Steps::<L>::new(blank)))
+    let end = engine.run(shelf, lines, out, &mut Steps::<L>::new(blank));
+    Ok(Outcome {
+        end,
+        loads: engine.loads(),
+        failed: engine.failed_loads().to_vec(alloc)?,
+        written: out.written().to_vec(alloc)?,
+    })
 }
 
-/// The end of a session over lines in pieces of a size, and what it has written.
+/// Which calls fail, counted from 0; there is no call of the last number.
+#[derive(Clone, Copy)]
+struct Failing {
+    load: u64,
+    read: u64,
+    write: u64,
+}
+
+const NONE: Failing = Failing {
+    load: u64::MAX,
+    read: u64::MAX,
+    write: u64::MAX,
+};
+
+/// What a session over lines in pieces of a size comes to.
 fn session(
     alloc: Global,
     text: &[u8],
     piece: usize,
-    failing: u64,
-) -> Result<(GtpEnd, Vec<u8>), AllocError>
+    failing: Failing,
+) -> Result<Outcome, AllocError>
     requires { 1 ≤ piece }
 {
     let mut shelf = MemoryShelf::new(alloc);
     shelf.add("c", ONE_POINT.to_vec(alloc)?)?;
-    let mut lines = MemorySource::new(text.to_vec(alloc)?, piece, vec![in alloc; failing]?);
-    let mut out = MemorySink::with_room(alloc, 5_000, Vec::new(alloc))?;
-    let end = counted::<Brand>(alloc, &mut shelf, &mut lines, &mut out, Blank::new(1))?;
-    Ok((end, out.written().to_vec(alloc)?))
+    shelf.fail_at(failing.load)?;
+    let mut lines = MemorySource::new(text.to_vec(alloc)?, piece, vec![in alloc; failing.read]?);
+    let mut out = MemorySink::with_room(alloc, 5_000, vec![in alloc; failing.write]?)?;
+    counted::<Brand>(alloc, &mut shelf, &mut lines, &mut out, Blank::new(1))
 }
 
 #[test]
@@ -70,12 +99,17 @@ fn answers_lines(rt: HostRuntime) -> Result<(), Fail> {
             b"? cannot solve\n\n? unacceptable size\n\n? cannot load file\n\n? unknown command\n\n? syntax error\n\n= false\n\n",
         ),
         (
-            b"name x\nversion x\nprotocol_version x\nlist_commands x\nclear_board x\nquit x\nknown_command\nknown_command a b\n\
-            boardsize\nboardsize 9 9\nkomi 1 2\nplay b\nplay b a1 a1\ngenmove\ngenmove b b\nloadsgf\nloadsgf c 1 1\nloadsgf c 0\n",
+            b"known_command\nboardsize\nkomi\nplay\nplay b\ngenmove\nloadsgf\nprotocol_version x\nname x\nversion x\n\
+            known_command a b\nlist_commands x\nboardsize 9 9\nclear_board x\nkomi 1 2\nplay b a1 a1\ngenmove b b\n\
+            loadsgf c 1 1\nquit x\nboardsize x\nkomi x\nplay x a1\nplay b i1\nplay b a01\nplay b a26\ngenmove x\n\
+            loadsgf c x\nloadsgf c 0\n",
             GtpEnd::InputEnded,
-            b"? syntax error\n\n? syntax error\n\n? syntax error\n\n? syntax error\n\n? syntax error\n\n? syntax error\n\n\
-            ? syntax error\n\n? syntax error\n\n? syntax error\n\n? syntax error\n\n? syntax error\n\n? syntax error\n\n\
-            ? syntax error\n\n? syntax error\n\n? syntax error\n\n? syntax error\n\n? syntax error\n\n? syntax error\n\n",
+            b"? syntax error\n\n? syntax error\n\n? syntax error\n\n? syntax error\n\n? syntax error\n\n\
+            ? syntax error\n\n? syntax error\n\n? syntax error\n\n? syntax error\n\n? syntax error\n\n\
+            ? syntax error\n\n? syntax error\n\n? syntax error\n\n? syntax error\n\n? syntax error\n\n\
+            ? syntax error\n\n? syntax error\n\n? syntax error\n\n? syntax error\n\n? syntax error\n\n\
+            ? syntax error\n\n? syntax error\n\n? syntax error\n\n? syntax error\n\n? syntax error\n\n\
+            ? syntax error\n\n? syntax error\n\n? syntax error\n\n",
         ),
         (
             b"loadsgf c 1000001\n\t \n# name\n7\n12345678901 name\n007\tna\x01me # x\nboardsize 00000000002\nplay b z25\nkomi .5\n\
@@ -87,19 +121,51 @@ fn answers_lines(rt: HostRuntime) -> Result<(), Fail> {
     ];
     for piece in [1, 7, 5_000] {
         for (text, end, wants) in rows {
-            let (ended, written) = session(alloc, text, piece, u64::MAX)?;
-            assert!(rt; ended == end);
-            assert_eq!(rt; written.as_slice(), wants);
+            let outcome = session(alloc, text, piece, NONE)?;
+            assert!(rt; outcome.end == end);
+            assert_eq!(rt; outcome.written.as_slice(), wants);
         }
     }
     Ok(())
 }
 
 #[test]
-fn ends_at_a_failing_read(rt: HostRuntime) -> Result<(), Fail> {
+fn ends_at_faults(rt: HostRuntime) -> Result<(), Fail> {
     let alloc = rt.alloc();
-    let (end, written) = session(alloc, b"name\nname\n", 5, 1)?;
-    assert!(rt; end == GtpEnd::ReadFault);
-    assert!(rt; written.as_slice() == b"= gdsolve\n\n".as_slice());
+    let read = Failing { read: 1, ..NONE };
+    let write = Failing { write: 1, ..NONE };
+    let rows: [(Failing, GtpEnd); 2] = [(read, GtpEnd::ReadFault), (write, GtpEnd::WriteFault)];
+    for (failing, end) in rows {
+        let outcome = session(alloc, b"name\nname\n", 5, failing)?;
+        assert!(rt; outcome.end == end);
+        assert!(rt; outcome.written.as_slice() == b"= gdsolve\n\n".as_slice());
+    }
+    Ok(())
+}
+
+#[test]
+fn notes_failed_loads(rt: HostRuntime) -> Result<(), Fail> {
+    let alloc = rt.alloc();
+    let failing = Failing { load: 1, ..NONE };
+    let text = b"loadsgf c\nloadsgf c 1\ngenmove w\nloadsgf c\nloadsgf \xff\n";
+    let outcome = session(alloc, text.as_slice(), 64, failing)?;
+    assert!(rt; outcome.end == GtpEnd::InputEnded);
+    assert_eq!(rt; outcome.loads, 3);
+    assert_eq!(rt; outcome.failed.as_slice(), [1_u32].as_slice());
+    let wants = b"= \n\n? cannot load file\n\n= E2\n\n= \n\n? cannot load file\n\n";
+    assert!(rt; outcome.written.as_slice() == wants.as_slice());
+    Ok(())
+}
+
+#[test]
+fn ends_after_ten_thousand_lines(rt: HostRuntime) -> Result<(), Fail> {
+    let alloc = rt.alloc();
+    let rows: [(usize, GtpEnd); 2] = [(9_999, GtpEnd::InputEnded), (10_000, GtpEnd::TooManyLines)];
+    for (count, end) in rows {
+        let text = vec![in alloc; b'\n'; count]?;
+        let outcome = session(alloc, text.as_slice(), 4_096, NONE)?;
+        assert!(rt; outcome.end == end);
+        assert!(rt; outcome.written.is_empty());
+    }
     Ok(())
 }

@@ -1,0 +1,11 @@
+use Rattle.std.proofs.Common.{subst}
+use Rattle.desk_io.specs.Files.{told_file}
+use Rattle.gtp_engine.specs.Loading.{IsLoaded}
+use Rattle.gtp_engine.proofs.Answering.{loads_obeyed}
+use Rattle.gtp_engine.proofs.engine.Engine.load_file.Goals as goal
+
+pub returns-clause-loaded : goal.returns-clause-loaded
+returns-clause-loaded g c =
+    let files = g.H.Shelf.files c.args.shelf.now in let before = g.H.Shelf.faults c.args.shelf.now in let now = g.H.Shelf.faults c.load.new.shelf in
+    loads_obeyed files before now c.args.id.now c.args.file.now c.args.after c.args.self.now c.note.new.self c.in_ok-loading.loading c.note.result c.in-Ok.ensures.cases.1
+    (subst (λ name. IsLoaded (told_file files name) c.args.after before now c.in_ok-loading.loading) c.in-Ok.ensures.cases.0 c.in_ok-loading.ensures.loaded) c.note.ensures.noted

@@ -1,0 +1,14 @@
+use Rattle.std.proofs.Common.{◌≡◌, ◌≤◌, [], length}
+use Rattle.desk_io.specs.Lines.{UsesLines}
+use Rattle.gtp_engine.specs.Written.{RoseBy}
+use Rattle.gtp_engine.proofs.Going.{Going}
+use Rattle.gtp_engine.proofs.Numbering.{AreBelow}
+use Rattle.gtp_engine.proofs.engine.Engine.run.Given as goal
+
+abbrev pub invariant-session : goal.invariant-session
+invariant-session g l = Going l.fn.self.limits (g.H.Shelf.files l.fn.shelf) (g.S.Source.left l.fn.lines) (g.K.Sink.holds l.fn.out) l.self l._read l.reader (g.S.Source.left l.lines) (g.K.Sink.holds l.out)
+    × (l.self.limits ≡ l.fn.self.limits) × AreBelow l.self.loads l.self.failed_loads × (l.self.loads ≤ l._read)
+    × RoseBy (length l.self.failed_loads) (g.H.Shelf.faults l.fn.shelf) (g.H.Shelf.faults l.shelf)
+    × (g.H.Shelf.files l.shelf ≡ g.H.Shelf.files l.fn.shelf) × (g.H.Shelf.faults l.fn.shelf ≤ g.H.Shelf.faults l.shelf)
+    × (g.S.Source.faults l.fn.lines ≤ g.S.Source.faults l.lines) × (g.K.Sink.faults l.fn.out ≤ g.K.Sink.faults l.out)
+    × UsesLines 1024 0 l._read [] (g.S.Source.left l.fn.lines) l.reader (g.S.Source.left l.lines) × (length l.reader ≤ 1024) × (l._read ≤ 10000)
