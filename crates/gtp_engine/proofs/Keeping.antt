@@ -7,7 +7,7 @@ use Rattle.std.proofs.lemmas.List.Elements.{Contains-get_or, Contains-push_cases
 use Rattle.go_grid.specs.declared.grid.Colour.{Colour}
 use Rattle.sgf_go.specs.declared.settings.Setup.{Setup}
 use Rattle.gtp_engine.specs.Kept.{AreLoads}
-use Rattle.gtp_engine.specs.Loading.{CanBegin}
+use Rattle.sgf_go.specs.Position.{IsFit}
 use Rattle.gtp_engine.specs.Session.{turned}
 
 -- one more load, which gave its answer
@@ -37,5 +37,5 @@ loads_failed n failed now is h = subst (AreLoads (n + 1)) (sym is) (record {
 })
 
 -- the side to move doesn't matter
-pub turned_fit : (setup other : Setup) (c : Colour) → other ≡ turned setup c → CanBegin setup → CanBegin other
-turned_fit setup other c is fit = subst CanBegin (sym is) (record { settled = fit.settled; black = fit.black; white = fit.white; komi = fit.komi })
+pub turned_fit : (setup other : Setup) (c : Colour) → other ≡ turned setup c → IsFit setup → IsFit other
+turned_fit setup other c is fit = subst IsFit (sym is) (record { settled = fit.settled; black = fit.black; white = fit.white; komi = fit.komi })

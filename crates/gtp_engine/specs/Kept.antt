@@ -6,7 +6,7 @@ use Rattle.sgf_go.specs.declared.settings.Setup.{Setup}
 use Rattle.whole_rules.specs.WholeGame.{State}
 use Rattle.endgame_solver.specs.declared.limits.Limits.{Limits}
 use Rattle.endgame_solver.specs.Solved.{SolvedGame}
-use Rattle.gtp_engine.specs.Loading.{CanBegin}
+use Rattle.sgf_go.specs.Position.{IsFit}
 
 -- the state of the game
 abbrev pub state_in : Option SolvedGame → Option State
@@ -24,5 +24,5 @@ pub record AreLoads (loads : ℕ) (failed : List ℕ) : Type 0 where
 
 pub record IsKept (limits : Limits) (setup : Setup) (loads : ℕ) (failed : List ℕ) : Type 0 where
   pub limits_fit : AreModest limits
-  pub setup_fit : CanBegin setup
+  pub setup_fit : IsFit setup
   pub numbered : AreLoads loads failed

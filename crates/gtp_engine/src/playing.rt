@@ -5,7 +5,7 @@ ghost use Rattle.endgame_solver.specs.Solved.{Chooses, HasMove};
 ghost use Rattle.endgame_solver.specs.Faults.{most_steps};
 ghost use Rattle.go_grid.specs.Region.{Shape};
 ghost use Rattle.region_cut.specs.Cut.{AreRegionsOfPlay};
-ghost use Rattle.gtp_engine.specs.Loading.{CanBegin};
+ghost use Rattle.sgf_go.specs.Position.{IsFit};
 ghost use Rattle.gtp_engine.specs.Playing.{IsActed, IsFault, IsOpened};
 
 use crate::moves::{Wanted, find_move, write_move};
@@ -45,7 +45,7 @@ pub(crate) fn open<L: Ledger>(
     limits: &Limits,
     steps: &mut Steps<L>,
 ) -> Result<Option<Solved>, AllocError>
-    requires fit { CanBegin setup.now }
+    requires fit { IsFit setup.now }
     requires positions { limits.now.positions ≤ 1000000 }
     ensures opened { IfOk result (IsOpened limits.now setup.now) }
     ensures steps { (regions : List Shape) → AreRegionsOfPlay setup.now.board regions → steps.new ≤ steps.old + most_steps limits.now regions }
