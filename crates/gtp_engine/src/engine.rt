@@ -140,7 +140,8 @@ impl Engine {
 
     /// A fresh empty board of so many columns and rows with the present komi.
     fn resize(&mut self, id: &[u8], number: u64) -> Result<Text, AllocError>
-        ensures resized { IfOk result (λ reply. IsDone (boardsize number) id.now self.old reply self.new) }
+        ensures resized { IfOk result (λ reply. IsDone
+            (boardsize number) id.now self.old reply self.new) }
         ensures same { OnErr result (self.new ≡ self.old) }
     {
         if number < 1 || number > 25 {
@@ -186,7 +187,8 @@ impl Engine {
     /// A turn of the colour in the running game.
     fn go_on(&mut self, id: &[u8], colour: Colour, action: Action) -> Result<Text, AllocError>
         requires { IsRunning self.old }
-        ensures taken { IfOk result (λ reply. IsTurnTaken colour action id.now self.old reply self.new) }
+        ensures taken { IfOk result
+            (λ reply. IsTurnTaken colour action id.now self.old reply self.new) }
         ensures same { OnErr result (self.new ≡ self.old) }
     {
         let alloc = self.setup.board.allocator();
@@ -212,9 +214,11 @@ impl Engine {
         steps: &mut Steps<L>,
     ) -> Result<Text, AllocError>
         requires { IsFresh self.old }
-        ensures taken { IfOk result (λ reply. IsTurnTaken colour action id.now self.old reply self.new) }
+        ensures taken { IfOk result
+            (λ reply. IsTurnTaken colour action id.now self.old reply self.new) }
         ensures same { OnErr result (self.new ≡ self.old) }
-        ensures steps { (regions : List Shape) → AreRegionsOfPlay self.old.table.setup.board regions → steps.new ≤ steps.old + most_steps self.old.limits regions }
+        ensures steps { (regions : List Shape) → AreRegionsOfPlay self.old.table.setup.board regions
+            → steps.new ≤ steps.old + most_steps self.old.limits regions }
     {
         let alloc = self.setup.board.allocator();
         let setup = turned(&self.setup, colour)?;
@@ -236,9 +240,11 @@ impl Engine {
         action: Action,
         steps: &mut Steps<L>,
     ) -> Result<Text, AllocError>
-        ensures taken { IfOk result (λ reply. IsTurnTaken colour action id.now self.old reply self.new) }
+        ensures taken { IfOk result
+            (λ reply. IsTurnTaken colour action id.now self.old reply self.new) }
         ensures same { OnErr result (self.new ≡ self.old) }
-        ensures steps { (regions : List Shape) → AreRegionsOfPlay self.old.table.setup.board regions → steps.new ≤ steps.old + most_steps self.old.limits regions }
+        ensures steps { (regions : List Shape) → AreRegionsOfPlay self.old.table.setup.board regions
+            → steps.new ≤ steps.old + most_steps self.old.limits regions }
     {
         if self.is_running() {
             return self.go_on(id, colour, action);
@@ -284,7 +290,8 @@ impl Engine {
         shelf: &mut H,
     ) -> Result<Text, AllocError>
         requires few { self.old.loads < 1000000 }
-        ensures loaded { IfOk result (λ reply. IsObeyed (H.files shelf.old) (H.faults shelf.old) (H.faults shelf.new) id.now (loadsgf file.now after) self.old reply self.new) }
+        ensures loaded { IfOk result (λ reply. IsObeyed (H.files shelf.old) (H.faults shelf.old)
+            (H.faults shelf.new) id.now (loadsgf file.now after) self.old reply self.new) }
         ensures same { OnErr result (self.new ≡ self.old) }
         ensures same_files { H.files shelf.new ≡ H.files shelf.old }
         ensures later { H.faults shelf.old ≤ H.faults shelf.new }
@@ -308,11 +315,13 @@ impl Engine {
     ) -> Result<Text, AllocError>
         requires few { self.old.loads < 1000000 }
         requires komi { HasKomiInRange (order_of request) }
-        ensures obeyed { IfOk result (λ reply. IsObeyed (H.files shelf.old) (H.faults shelf.old) (H.faults shelf.new) id.now (order_of request.entry) self.old reply self.new) }
+        ensures obeyed { IfOk result (λ reply. IsObeyed (H.files shelf.old) (H.faults shelf.old)
+            (H.faults shelf.new) id.now (order_of request.entry) self.old reply self.new) }
         ensures same { OnErr result (self.new ≡ self.old) }
         ensures same_files { H.files shelf.new ≡ H.files shelf.old }
         ensures later { H.faults shelf.old ≤ H.faults shelf.new }
-        ensures steps { (regions : List Shape) → AreRegionsOfPlay self.old.table.setup.board regions → steps.new ≤ steps.old + most_steps self.old.limits regions }
+        ensures steps { (regions : List Shape) → AreRegionsOfPlay self.old.table.setup.board regions
+            → steps.new ≤ steps.old + most_steps self.old.limits regions }
     {
         let alloc = self.setup.board.allocator();
         match request {
@@ -346,12 +355,14 @@ impl Engine {
     ) -> Result<Answer, AllocError>
         requires few { self.old.loads < 1000000 }
         requires komi { AsksInRange (asked_of asked) }
-        ensures met { IfOk result (λ answer. IsMet (H.files shelf.old) (H.faults shelf.old) (H.faults shelf.new) id.now (asked_of asked.entry) self.old answer.reply self.new) }
+        ensures met { IfOk result (λ answer. IsMet (H.files shelf.old) (H.faults shelf.old)
+            (H.faults shelf.new) id.now (asked_of asked.entry) self.old answer.reply self.new) }
         ensures quit { IfOk result (λ answer. answer.quit ≡ is_last (asked_of asked.entry)) }
         ensures same { OnErr result (self.new ≡ self.old) }
         ensures same_files { H.files shelf.new ≡ H.files shelf.old }
         ensures later { H.faults shelf.old ≤ H.faults shelf.new }
-        ensures steps { (regions : List Shape) → AreRegionsOfPlay self.old.table.setup.board regions → steps.new ≤ steps.old + most_steps self.old.limits regions }
+        ensures steps { (regions : List Shape) → AreRegionsOfPlay self.old.table.setup.board regions
+            → steps.new ≤ steps.old + most_steps self.old.limits regions }
     {
         let alloc = self.setup.board.allocator();
         match asked {
@@ -379,11 +390,14 @@ impl Engine {
         steps: &mut Steps<L>,
     ) -> Result<Answer, AllocError>
         requires few { self.old.loads < 1000000 }
-        ensures answered { IfOk result (λ answer. IsAnswered (H.files shelf.old) (H.faults shelf.old) (H.faults shelf.new) line.now self.old answer.reply self.new answer.quit) }
+        ensures answered { IfOk result (λ answer. IsAnswered (H.files shelf.old)
+            (H.faults shelf.old)
+            (H.faults shelf.new) line.now self.old answer.reply self.new answer.quit) }
         ensures same { OnErr result (self.new ≡ self.old) }
         ensures same_files { H.files shelf.new ≡ H.files shelf.old }
         ensures later_loads { H.faults shelf.old ≤ H.faults shelf.new }
-        ensures steps { (regions : List Shape) → AreRegionsOfPlay self.old.table.setup.board regions → steps.new ≤ steps.old + most_steps self.old.limits regions }
+        ensures steps { (regions : List Shape) → AreRegionsOfPlay self.old.table.setup.board regions
+            → steps.new ≤ steps.old + most_steps self.old.limits regions }
     {
         let alloc = self.setup.board.allocator();
         let text = clean(alloc, line)?;

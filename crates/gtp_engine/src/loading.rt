@@ -72,7 +72,8 @@ pub(crate) fn load<H: Shelf>(
     name: &str,
     after: Option<u32>,
 ) -> Result<Loading, AllocError>
-    ensures loaded { IfOk result (IsLoaded (told_file (H.files shelf.old) name.now) after (H.faults shelf.old) (H.faults shelf.new)) }
+    ensures loaded { IfOk result (IsLoaded (told_file (H.files shelf.old) name.now) after
+        (H.faults shelf.old) (H.faults shelf.new)) }
     ensures same_files { H.files shelf.new ≡ H.files shelf.old }
     ensures asked { H.asks shelf.old name.now shelf.new }
     ensures later { H.faults shelf.old ≤ H.faults shelf.new }

@@ -53,8 +53,10 @@ pub(crate) fn read_colour(word: &[u8]) -> Option<Colour>
 
 /// The number of a column's letter, in either case.
 fn read_column(letter: u8) -> Option<u8>
-    ensures some { IfSome result (λ column. (column < 25) × (to_ascii_lowercase letter ≡ column_letter column)) }
-    ensures none { IfNone result ((column : ℕ) → column < 25 → ¬ (to_ascii_lowercase letter ≡ column_letter column)) }
+    ensures some { IfSome result (λ column. (column < 25)
+        × (to_ascii_lowercase letter ≡ column_letter column)) }
+    ensures none { IfNone result ((column : ℕ) → column < 25
+        → ¬ (to_ascii_lowercase letter ≡ column_letter column)) }
 {
     let number = letter.to_ascii_lowercase().checked_sub(b'a')?;
     if number < 8 {
@@ -156,7 +158,8 @@ fn letter_of(column: u16) -> u8
 /// The text of a point of a board of the size.
 fn point_text(alloc: Global, size: Size, point: Point) -> Result<String, AllocError>
     requires { point < size.columns * size.rows }
-    ensures { IfOk result (λ text. string_bytes text ≡ move_text size.columns size.rows (Stone point)) }
+    ensures { IfOk result (λ text. string_bytes text ≡ move_text size.columns size.rows
+        (Stone point)) }
 {
     let columns = u16::from(size.columns);
     let letter = char::from(letter_of(point.0 % columns));

@@ -48,7 +48,8 @@ pub(crate) fn open<L: Ledger>(
     requires fit { IsFit setup.now }
     requires positions { limits.now.positions ≤ 1000000 }
     ensures opened { IfOk result (IsOpened limits.now setup.now) }
-    ensures steps { (regions : List Shape) → AreRegionsOfPlay setup.now.board regions → steps.new ≤ steps.old + most_steps limits.now regions }
+    ensures steps { (regions : List Shape) → AreRegionsOfPlay setup.now.board regions
+        → steps.new ≤ steps.old + most_steps limits.now regions }
 {
     match Solved::begin(alloc, setup, limits, steps) {
         Ok(solved) => Ok(Some(solved)),
@@ -61,7 +62,8 @@ pub(crate) fn open<L: Ledger>(
 
 /// The first winning move, or the first move where no move wins.
 fn choose(solved: &mut Solved) -> Option<Move>
-    ensures choice { MatchOption result (¬ HasMove solved.old.state) (λ m. Chooses solved.old.state m) }
+    ensures choice { MatchOption result (¬ HasMove solved.old.state)
+        (λ m. Chooses solved.old.state m) }
     ensures same { solved.new ≡ solved.old }
 {
     let first = match solved.whole().first_move() {
@@ -76,7 +78,8 @@ fn choose(solved: &mut Solved) -> Option<Move>
 
 /// Plays a move, where it is legal.
 fn play(alloc: Global, id: &[u8], solved: &mut Solved, wanted: Wanted) -> Result<Text, AllocError>
-    ensures acted { IfOk result (λ reply. IsActed (Action.Play wanted) id.now solved.old.state reply solved.new.state) }
+    ensures acted { IfOk result (λ reply. IsActed
+        (Action.Play wanted) id.now solved.old.state reply solved.new.state) }
     ensures same { OnErr result (solved.new ≡ solved.old) }
 {
     let played = accept(alloc, id, b"")?;
@@ -92,7 +95,8 @@ fn play(alloc: Global, id: &[u8], solved: &mut Solved, wanted: Wanted) -> Result
 
 /// Plays the engine's move, where the side to move has one.
 fn generate(alloc: Global, id: &[u8], solved: &mut Solved) -> Result<Text, AllocError>
-    ensures acted { IfOk result (λ reply. IsActed Action.Generate id.now solved.old.state reply solved.new.state) }
+    ensures acted { IfOk result
+        (λ reply. IsActed Action.Generate id.now solved.old.state reply solved.new.state) }
     ensures same { OnErr result (solved.new ≡ solved.old) }
 {
     let chosen = match choose(solved) {
@@ -117,7 +121,8 @@ pub(crate) fn act(
     solved: &mut Solved,
     action: Action,
 ) -> Result<Text, AllocError>
-    ensures acted { IfOk result (λ reply. IsActed action id.now solved.old.state reply solved.new.state) }
+    ensures acted { IfOk result
+        (λ reply. IsActed action id.now solved.old.state reply solved.new.state) }
     ensures same { OnErr result (solved.new ≡ solved.old) }
 {
     match action {

@@ -39,7 +39,8 @@ impl Refusal {
 /// A reply with a sign, an id and a text.
 #[tactic(auto, using(std::proofs::Common::append_assoc))]
 fn compose(alloc: Global, sign: &[u8], id: &[u8], text: &[u8]) -> Result<Text, AllocError>
-    ensures { IfOk result (λ reply. reply ≡ sign.now ++ (id.now ++ (codes " " ++ (text.now ++ codes "\n\n")))) }
+    ensures { IfOk result (λ reply. reply ≡ sign.now ++
+        (id.now ++ (codes " " ++ (text.now ++ codes "\n\n")))) }
 {
     let mut reply = Text::from_slice(alloc, sign)?;
     reply.extend_from_slice(id)?;

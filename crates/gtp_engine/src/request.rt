@@ -77,7 +77,8 @@ fn with_one<'a>(command: Command, word: &'a [u8]) -> Option<Request<'a>>
 /// How many moves come before the move of a number.
 fn read_moves(word: &[u8]) -> Option<u32>
     ensures some { IfSome result (λ moves. IsNumber word.now (moves + 1) × (moves + 1 ≤ 1000000)) }
-    ensures none { IfNone result ((moves : ℕ) → IsNumber word.now (moves + 1) → ¬ (moves + 1 ≤ 1000000)) }
+    ensures none { IfNone result ((moves : ℕ) → IsNumber word.now (moves + 1)
+        → ¬ (moves + 1 ≤ 1000000)) }
 {
     let number = read_number(word)?;
     if number < 1 || number > LAST_MOVE {
@@ -88,7 +89,8 @@ fn read_moves(word: &[u8]) -> Option<u32>
 
 /// The request of a command with two arguments.
 fn with_two<'a>(command: Command, first: &'a [u8], second: &[u8]) -> Option<Request<'a>>
-    ensures some { IfSome result (λ request. FitsTwo command first.now second.now (order_of request)) }
+    ensures some { IfSome result (λ request. FitsTwo command first.now second.now
+        (order_of request)) }
     ensures none { IfNone result ((order : Order) → ¬ FitsTwo command first.now second.now order) }
 {
     match command {
@@ -103,8 +105,10 @@ fn with_two<'a>(command: Command, first: &'a [u8], second: &[u8]) -> Option<Requ
 
 /// The request of a command with arguments.
 fn fit<'a>(command: Command, arguments: &[&'a [u8]]) -> Option<Request<'a>>
-    ensures some { IfSome result (λ request. Fits command (map (λ w. w.now) arguments.now) (order_of request)) }
-    ensures none { IfNone result ((order : Order) → ¬ Fits command (map (λ w. w.now) arguments.now) order) }
+    ensures some { IfSome result (λ request. Fits command (map (λ w. w.now) arguments.now)
+        (order_of request)) }
+    ensures none { IfNone result ((order : Order)
+        → ¬ Fits command (map (λ w. w.now) arguments.now) order) }
 {
     match arguments {
         [] => alone(command),

@@ -41,12 +41,18 @@ impl Engine {
         steps: &mut Steps<L>,
     ) -> Option<GtpEnd>
         requires few { self.old.loads < 1000000 }
-        ensures taken { (bytes : List ℕ) → S.left lines.old ≡ Some bytes → (rest : List ℕ) × (S.left lines.new ≡ Some rest) × LineTaken (H.files shelf.old) (H.faults shelf.old) (H.faults shelf.new) self.old (reader.old ++ bytes) (K.holds out.old) (K.holds out.new) result self.new (reader.new ++ rest) }
+        ensures taken { (bytes : List ℕ) → S.left lines.old ≡ Some bytes → (rest : List ℕ)
+            × (S.left lines.new ≡ Some rest) × LineTaken (H.files shelf.old) (H.faults shelf.old)
+            (H.faults shelf.new) self.old (reader.old ++ bytes) (K.holds out.old)
+            (K.holds out.new) result self.new (reader.new ++ rest) }
         ensures noted { IsSomeNoted (H.faults shelf.old) (H.faults shelf.new) self.old self.new }
         ensures limits { self.new.limits ≡ self.old.limits }
-        ensures read_fault { result ≡ Some ReadFault → Rose (S.faults lines.old) (S.faults lines.new) }
-        ensures write_fault { result ≡ Some WriteFault → Rose (K.faults out.old) (K.faults out.new) }
-        ensures used { UsesLines 1024 0 1 reader.old (S.left lines.old) reader.new (S.left lines.new) }
+        ensures read_fault { result ≡ Some ReadFault
+            → Rose (S.faults lines.old) (S.faults lines.new) }
+        ensures write_fault { result ≡ Some WriteFault
+            → Rose (K.faults out.old) (K.faults out.new) }
+        ensures used { UsesLines 1024 0 1 reader.old (S.left lines.old) reader.new
+            (S.left lines.new) }
         ensures few_held { length reader.new ≤ 1024 }
         ensures same_files { H.files shelf.new ≡ H.files shelf.old }
         ensures later_loads { H.faults shelf.old ≤ H.faults shelf.new }
@@ -81,11 +87,15 @@ impl Engine {
         steps: &mut Steps<L>,
     ) -> GtpEnd
         requires first { self.old ≡ unused self.old.limits }
-        ensures text { (bytes : List ℕ) → S.left lines.old ≡ Some bytes → IsRun self.old.limits (H.files shelf.old) self.new.failed_loads bytes (K.holds out.old) (K.holds out.new) result }
-        ensures counted { RoseBy (length self.new.failed_loads) (H.faults shelf.old) (H.faults shelf.new) }
+        ensures text { (bytes : List ℕ) → S.left lines.old ≡ Some bytes
+            → IsRun self.old.limits (H.files shelf.old) self.new.failed_loads bytes
+            (K.holds out.old) (K.holds out.new) result }
+        ensures counted { RoseBy (length self.new.failed_loads) (H.faults shelf.old)
+            (H.faults shelf.new) }
         ensures read_fault { result ≡ ReadFault → Rose (S.faults lines.old) (S.faults lines.new) }
         ensures write_fault { result ≡ WriteFault → Rose (K.faults out.old) (K.faults out.new) }
-        ensures used { (held : List ℕ) × (length held ≤ 1024) × UsesLines 1024 0 10000 [] (S.left lines.old) held (S.left lines.new) }
+        ensures used { (held : List ℕ) × (length held ≤ 1024)
+            × UsesLines 1024 0 10000 [] (S.left lines.old) held (S.left lines.new) }
         ensures same_files { H.files shelf.new ≡ H.files shelf.old }
         ensures later_loads { H.faults shelf.old ≤ H.faults shelf.new }
         ensures later_reads { S.faults lines.old ≤ S.faults lines.new }

@@ -10,7 +10,8 @@ use std::alloc::{AllocError, Global};
 
 /// An empty board of the size: no prisoners, and Black to move.
 pub(crate) fn fresh(alloc: Global, size: Size, komi_halves: i64) -> Result<Setup, AllocError>
-    ensures setup { IfOk result (λ setup. setup ≡ (fresh size.columns size.rows komi_halves).setup) }
+    ensures setup { IfOk result (λ setup. setup ≡
+        (fresh size.columns size.rows komi_halves).setup) }
     ensures settled { IfOk result (λ setup. IsSettled setup.board) }
 {
     let board = Board::empty(alloc, size)?;
