@@ -1,9 +1,8 @@
 -- What is said of a move.
-use Rattle.std.proofs.Common.{◌≡◌, ℕ, List, [], ap, arith, inl, inr, refl, sym, ◌∙◌, subst, Option, Some, None, Ok, Err, Result}
+use Rattle.std.proofs.Common.{◌≡◌, ℕ, List, [], ap, arith, inl, inr, refl, sym, ◌∙◌, subst, Option, Some, None, Err}
 use Rattle.std.specs.Prelude.{codes}
 use Rattle.std.proofs.lemmas.List.Elements.{Contains-get_or}
 use Rattle.go_grid.specs.Region.{Shape}
-use Rattle.region_cut.specs.Cut.{AreRegionsOfPlay}
 use Rattle.sgf_go.specs.declared.settings.Setup.{Setup}
 use Rattle.whole_rules.specs.declared.states.Move.{Move}
 use Rattle.whole_rules.specs.declared.states.MoveError.{MoveError}
@@ -11,7 +10,7 @@ use Rattle.whole_rules.specs.WholeGame.{State, Applies, IsLegal, IsMove}
 use Rattle.endgame_solver.specs.declared.limits.Limits.{Limits}
 use Rattle.endgame_solver.specs.declared.faults.SolveError.{SolveError}
 use Rattle.endgame_solver.specs.declared.faults.SolveError.TheVariants.{Points, Positions, Cycle, Form, Memory}
-use Rattle.endgame_solver.specs.Faults.{AreRefused, AreSound, IsFaultOf, IsFirstFault, IsFirstLarge, IsSound}
+use Rattle.endgame_solver.specs.Faults.{AreSound, IsFaultOf, IsFirstFault, IsFirstLarge, IsSound}
 use Rattle.endgame_solver.specs.Regions.{no_region, region_at}
 use Rattle.endgame_solver.specs.Solved.{Begun, Chooses, HasMove}
 use Rattle.gtp_engine.specs.declared.moves.Wanted.{Wanted}
@@ -19,7 +18,7 @@ use Rattle.gtp_engine.specs.declared.playing.Action.TheVariants.{Play, Generate}
 use Rattle.gtp_engine.specs.declared.reply.Refusal.TheVariants.{IllegalMove}
 use Rattle.gtp_engine.specs.Moves.{move_for, move_text}
 use Rattle.gtp_engine.specs.Playing.{IsActed, IsFault}
-use Rattle.gtp_engine.specs.Session.{CannotOpen, PlaysMove, Said, done, refused, reply_text}
+use Rattle.gtp_engine.specs.Session.{CannotOpen, PlaysMove, done, refused, reply_text}
 
 module _ (wanted : Wanted) (s : State) (id reply : List ℕ) (found : Option Move) (is : found ≡ move_for s.board.columns s.board.rows wanted) where
   -- a point off the board

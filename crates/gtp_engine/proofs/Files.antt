@@ -1,10 +1,10 @@
 -- What files give.
 use Rattle.std.proofs.Common.{◌≡◌, ℕ, List, inl, inr, refl, subst, Option, Some, None, Ok, Err, Result}
 use Rattle.desk_io.specs.Files.{Loads}
-use Rattle.desk_io.specs.declared.shelf.Loaded.TheVariants.{Longer, Whole}
+use Rattle.desk_io.specs.declared.shelf.Loaded.TheVariants.{Longer}
 use Rattle.sgf_tree.specs.Grammar.{PropertyText}
 use Rattle.sgf_tree.specs.Reading.{IsAnswer}
-use Rattle.sgf_tree.specs.Reading.Answer.{line, no_tree, bad_byte, cut_short, too_deep}
+use Rattle.sgf_tree.specs.Reading.Answer.{line}
 use Rattle.sgf_tree.specs.declared.fault.SgfError.{SgfError}
 use Rattle.sgf_tree.specs.declared.fault.SgfError.TheVariants as sgf
 use Rattle.sgf_tree.specs.Reading.{Answers}
@@ -13,11 +13,11 @@ use Rattle.sgf_tree.specs.declared.fault.TreeFault.{TreeFault}
 use Rattle.sgf_tree.specs.declared.fault.TreeFault.TheVariants.{NoTree, BadByte, CutShort, TooDeep}
 use Rattle.sgf_go.specs.declared.fault.FileFault.TheVariants as fault
 use Rattle.sgf_go.specs.declared.settings.Settings.{Settings}
-use Rattle.sgf_go.specs.File.{IsTooLong, Reads}
+use Rattle.sgf_go.specs.File.{Reads}
 use Rattle.gtp_engine.specs.declared.loading.Loading.{Loading}
 use Rattle.gtp_engine.specs.declared.loading.Loading.TheVariants.{Position, Nothing, Failed}
 use Rattle.gtp_engine.specs.Loading.{IsFoundIn, IsFoundOn}
-use Rattle.gtp_engine.specs.Session.{GivesNone, settings_after}
+use Rattle.gtp_engine.specs.Session.{GivesNone}
 
 -- what is on the main line is in the file
 pub found_in : (file : List ℕ) (after : Option ℕ) (l : List (List PropertyText)) (found : Loading) → IsAnswer file (line l) → IsFoundOn l after found → IsFoundIn file after found

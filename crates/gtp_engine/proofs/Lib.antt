@@ -3,6 +3,7 @@ pub mod Numbers
 pub mod Cleaning
 pub mod Splitting
 pub mod Acting
+pub mod Keeping
 pub mod Files
 pub mod Doing
 pub mod Answering

@@ -1,9 +1,8 @@
 -- What a load of a position comes to.
-use Rattle.std.specs.Prelude.{◌≡◌, ◌≤◌, ◌<◌, ◌^◌, ℕ, List, Option, Some, None, Result, Ok, Err}
+use Rattle.std.specs.Prelude.{◌≤◌, ◌<◌, ◌^◌, ℕ, List, Option, Ok, Err, unsigned_abs}
 use Rattle.desk_io.specs.Outside.{Rose}
 use Rattle.go_grid.specs.Chain.{IsSettled}
 use Rattle.sgf_tree.specs.Grammar.{PropertyText}
-use Rattle.sgf_go.specs.Komi.{IsInRange}
 use Rattle.sgf_go.specs.Setup.{Gives}
 use Rattle.sgf_go.specs.File.{Reads}
 use Rattle.sgf_go.specs.declared.fault.FileFault.{FileFault}
@@ -18,7 +17,7 @@ pub record CanBegin (setup : Setup) : Type 0 where
   pub settled : IsSettled setup.board
   pub black : setup.black_prisoners < 2 ^ 40
   pub white : setup.white_prisoners < 2 ^ 40
-  pub komi : IsInRange setup.komi_halves
+  pub komi : unsigned_abs setup.komi_halves ≤ 2000000
 
 -- the position of a main line, or that it has a fault
 abbrev pub IsFoundOn : List (List PropertyText) → Option ℕ → Loading → Type 0
@@ -37,3 +36,9 @@ abbrev pub IsLoaded : Option (Option (List ℕ)) → Option ℕ → ℕ → ℕ 
 IsLoaded told after before now (Position setup) = GivesSetup told after setup × CanBegin setup
 IsLoaded told after before now Nothing = GivesNone told after
 IsLoaded told after before now Failed = Rose before now
+
+-- what a load comes to can be taken over: a position can be solved
+abbrev pub CanKeep : Loading → Type 0
+CanKeep (Position setup) = CanBegin setup
+CanKeep Nothing = Unit {0}
+CanKeep Failed = Unit {0}

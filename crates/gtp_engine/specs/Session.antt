@@ -1,5 +1,5 @@
 -- A session: what each line is answered, and where the session stands after it.
-use Rattle.std.specs.Prelude.{Bool, true, false, ◌≡◌, ◌≢◌, ◌⊎◌, ◌≤◌, ◌<◌, ◌+◌, ◌*◌, ◌++◌, ◌∷◌, ℕ, zero, suc, ℤ, pos, List, [], codes, replicate, Option, Some, None, Result, Ok, Err, Contains}
+use Rattle.std.specs.Prelude.{Bool, true, false, ◌≡◌, ◌≢◌, ◌⊎◌, ◌≤◌, ◌<◌, ◌+◌, ◌*◌, ◌++◌, ◌∷◌, ℕ, zero, suc, ℤ, pos, List, [], codes, replicate, Option, Some, None, Ok, Err, Contains}
 use Rattle.std.specs.Str.{IsUtf8}
 use Rattle.desk_io.specs.Files.{Files, told_file}
 use Rattle.desk_io.specs.Lines.{IsLine}

@@ -1,5 +1,4 @@
 -- What contracts see of requests.
-use Rattle.std.specs.Prelude.{ℕ}
 use Rattle.gtp_engine.specs.declared.request.Request.{Request}
 use Rattle.gtp_engine.specs.declared.request.Request.TheVariants as request
 use Rattle.gtp_engine.specs.declared.request.Asked.{Asked as AskedRequest}

@@ -4,6 +4,7 @@ ghost use Rattle.std.specs.Prelude.{◌≡◌, ◌↔◌, ◌≤◌, ◌<◌, �
 ghost use Rattle.endgame_solver.specs.Faults.{most_steps};
 ghost use Rattle.go_grid.specs.Region.{Shape};
 ghost use Rattle.region_cut.specs.Cut.{AreRegionsOfPlay};
+ghost use Rattle.gtp_engine.specs.Loading.{CanKeep};
 ghost use Rattle.sgf_go.specs.Komi.{IsInRange};
 ghost use Rattle.gtp_engine.specs.Doing.{AsksInRange, HasKomiInRange, IsDone, IsFresh, IsLoadNoted, IsRunning, IsTurnTaken};
 ghost use Rattle.gtp_engine.specs.Viewed.{asked_of, order_of};
@@ -248,6 +249,7 @@ impl Engine {
     /// Notes what a load comes to.
     fn note(&mut self, id: &[u8], loading: Loading) -> Result<Text, AllocError>
         requires few { self.old.loads < 1000000 }
+        requires fit { CanKeep loading }
         ensures noted { IfOk result (λ reply. IsLoadNoted id.now loading self.old reply self.new) }
         ensures same { OnErr result (self.new ≡ self.old) }
     {

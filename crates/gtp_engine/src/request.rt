@@ -1,10 +1,9 @@
 //! What the words of a line ask for.
 
-ghost use Rattle.std.specs.Prelude.{◌≡◌, ◌≤◌, ◌+◌, ◌<◌, ◌^◌, ℕ, map, IfSome, IfNone};
+ghost use Rattle.std.specs.Prelude.{◌≤◌, ◌+◌, ℕ, map, IfSome, IfNone};
 ghost use Rattle.gtp_engine.specs.Request.{Asks, Fits, FitsAlone, FitsOne, FitsTwo, Order};
 ghost use Rattle.gtp_engine.specs.Viewed.{asked_of, order_of};
 ghost use Rattle.gtp_engine.specs.Words.{IsNumber};
-ghost use Rattle.sgf_go.specs.Komi.{IsInRange};
 
 use crate::command::{Command, read_command};
 use crate::moves::{Wanted, read_colour, read_wanted};

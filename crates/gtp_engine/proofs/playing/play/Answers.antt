@@ -1,6 +1,4 @@
-use Rattle.std.proofs.Common.{◌≡◌, sym, ap, ◌∙◌, subst, Err, None}
-use Rattle.go_grid.specs.Grid.{Grid}
-use Rattle.whole_rules.specs.WholeGame.{Applies, IsMove}
+use Rattle.std.proofs.Common.{ap, ◌∙◌}
 use Rattle.gtp_engine.specs.Moves.{move_for}
 use Rattle.gtp_engine.proofs.Acting.{acted_none, acted_played, acted_refused}
 use Rattle.gtp_engine.proofs.playing.play.Goals as goal

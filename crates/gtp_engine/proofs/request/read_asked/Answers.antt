@@ -1,4 +1,4 @@
-use Rattle.std.proofs.Common.{◌≡◌, ◌∷◌, ◌-◌, ap, ◌∙◌, map, take, drop, length}
+use Rattle.std.proofs.Common.{◌∷◌, ◌-◌, ap, ◌∙◌, map, take, drop, length}
 use Rattle.gtp_engine.proofs.Splitting.{first_of}
 use Rattle.gtp_engine.proofs.request.read_asked.Goals as goal
 

@@ -1,0 +1,14 @@
+use Rattle.std.proofs.Common.{ap, to_z, of_z, w64}
+use Rattle.std.proofs.lemmas.Int.{to_z-of_z}
+use Rattle.gtp_engine.specs.Doing.{with_table}
+use Rattle.gtp_engine.proofs.Doing.{komi_refused, komi_taken}
+use Rattle.gtp_engine.proofs.engine.Engine.set_komi.Goals as goal
+
+pub returns-then-is_running-clause-set : goal.returns-then-is_running-clause-set
+returns-then-is_running-clause-set c = komi_refused c.args.self.now c.args.halves c.args.id.now c.in_ok-reply.reply (c.is_running.ensures.running c.if-is_running.true) c.in_ok-reply.ensures
+
+pub returns-clause-set : goal.returns-clause-set
+returns-clause-set c =
+    let kept = to_z w64 (of_z w64 c.args.halves) in
+    komi_taken c.args.self.now _ c.args.halves kept c.args.id.now c.in_ok-reply-2.reply (c.is_running.ensures.fresh c.if-is_running.false) (to_z-of_z w64 c.args.halves c.ranges.halves)
+    (ap (λ a. with_table a (record { setup = record a.table.setup { komi_halves = kept }; game = a.table.game })) c.self.view_is) c.in_ok-reply-2.ensures
