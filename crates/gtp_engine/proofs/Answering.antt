@@ -1,5 +1,5 @@
 -- What an engine answers.
-use Rattle.std.proofs.Common.{Bool, true, false, ◌==◌, length, map, ◌≡◌, ◌≢◌, ◌+◌, ◌++◌, ◌∷◌, ℕ, List, [], inl, inr, refl, sym, ap, ◌∙◌, subst, Option, Some, None, Ok, Err, Result, IfOk}
+use Rattle.std.proofs.Common.{Bool, false, ◌==◌, length, map, ◌≡◌, ◌≢◌, ◌∷◌, ℕ, List, [], inl, inr, refl, sym, ap, ◌∙◌, subst, Option, Ok, Err, Result, IfOk}
 use Rattle.std.proofs.lemmas.Bool.{false≢true}
 use Rattle.std.specs.Str.{IsUtf8}
 use Rattle.desk_io.specs.Files.{Files, told_file}
@@ -9,15 +9,21 @@ use Rattle.gtp_engine.specs.declared.reply.Refusal.TheVariants.{CannotLoadFile, 
 use Rattle.go_grid.specs.declared.grid.Colour.{Colour}
 use Rattle.gtp_engine.specs.declared.playing.Action.{Action}
 use Rattle.gtp_engine.specs.Playing.{Acts}
-use Rattle.gtp_engine.specs.Doing.{IsDone, IsLoadNoted, IsTurnTaken}
-use Rattle.gtp_engine.specs.Loading.{IsLoaded}
+use Rattle.gtp_engine.specs.Doing.{IsLoadNoted, IsTurnTaken}
+use Rattle.gtp_engine.specs.Loading.{CanKeep, IsLoaded}
 use Rattle.gtp_engine.specs.Request.{Asked, Asks, Order}
 use Rattle.gtp_engine.specs.Request.Asked.{something, unknown, misfit}
 use Rattle.gtp_engine.specs.Request.Order.{clear_board, loadsgf}
-use Rattle.gtp_engine.specs.Session.{AnswersWords, Does, Obeys, Said, Table, TakesTurn, done, fresh, is_last, refused, reply_text}
+use Rattle.gtp_engine.specs.Session.{AnswersWords, Obeys, Said, Table, TakesTurn, done, fresh, is_last, refused, reply_text}
 use Rattle.gtp_engine.specs.Session.Fate.{made, failed, no_load}
 use Rattle.gtp_engine.specs.Words.{AreWords, HasId, cleaned}
 use Rattle.gtp_engine.specs.Written.{EngineView, IsAnswered, IsMet, IsObeyed}
+
+-- what was loaded can be taken over
+pub loaded_fits : (told : Option (Option (List ℕ))) (after : Option ℕ) (before now : ℕ) (loading : Loading) → IsLoaded told after before now loading → CanKeep loading
+loaded_fits told after before now (Position setup) l = l.1
+loaded_fits told after before now Nothing l = tt
+loaded_fits told after before now Failed l = tt
 
 -- a load that was noted
 load_obeyed : (files : Option Files) (before now : ℕ) (id file : List ℕ) (after : Option ℕ) (a b : EngineView) (loading : Loading) (reply : List ℕ)

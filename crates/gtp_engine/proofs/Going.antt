@@ -1,12 +1,12 @@
 -- A session as far as it was answered.
-use Rattle.std.proofs.Common.{Bool, true, false, ◌≡◌, ◌≢◌, ◌<◌, ◌≤◌, ◌+◌, ◌++◌, ℕ, zero, suc, List, [], length, refl, sym, ap, ◌∙◌, subst, arith, append-nil, Option, Some, None}
+use Rattle.std.proofs.Common.{Bool, true, false, ◌≡◌, ◌<◌, ◌+◌, ◌++◌, ℕ, suc, List, [], refl, sym, ap, ◌∙◌, subst, append-nil, Option, Some, None}
 use Rattle.std.specs.Io.KnownBytes.{append_known}
 use Rattle.desk_io.specs.Files.{Files}
 use Rattle.endgame_solver.specs.declared.limits.Limits.{Limits}
 use Rattle.gtp_engine.specs.declared.end.GtpEnd.{GtpEnd}
 use Rattle.gtp_engine.specs.declared.end.GtpEnd.TheVariants.{Quit, InputEnded, ReadFault, WriteFault, TooManyLines, Memory}
 use Rattle.gtp_engine.specs.Session.{AnswersLine, Standing, TakesLine, Turns, beginning}
-use Rattle.gtp_engine.specs.Taking.{LineTaken, Replies}
+use Rattle.gtp_engine.specs.Taking.{Replies}
 use Rattle.gtp_engine.specs.Written.{EngineView, IsRun, unused}
 use Rattle.gtp_engine.proofs.Numbering.{Agrees, AreBelow, agrees_itself, noted_agrees, noted_numbered}
 use Rattle.gtp_engine.proofs.Taking.{Taken, append_none, append_twice}

@@ -1,5 +1,5 @@
 -- A komi that is asked for is in range.
-use Rattle.std.proofs.Common.{◌≡◌, ◌≤◌, ◌+◌, ◌*◌, ℕ, ℤ, pos, ◌≤ℤ◌, List, [], ◌∷◌, arith, sym, subst}
+use Rattle.std.proofs.Common.{◌≤◌, ℕ, ℤ, List, [], ◌∷◌, arith, sym, subst}
 use Rattle.std.proofs.lemmas.Int.{ints}
 use Rattle.sgf_go.specs.Komi.{IsKomi, unsigned, positive, negative, IsHalves, halves, IsFraction, nothing, zeros, half, IsInRange}
 use Rattle.gtp_engine.specs.declared.command.Command.{Command}
@@ -7,7 +7,6 @@ use Rattle.gtp_engine.specs.declared.command.Command.TheVariants.{ProtocolVersio
 use Rattle.gtp_engine.specs.Doing.{AsksInRange, HasKomiInRange}
 use Rattle.gtp_engine.specs.Request.{Asked, Asks, Fits, FitsAlone, FitsOne, FitsTwo, Order}
 use Rattle.gtp_engine.specs.Request.Asked.{something, unknown, misfit}
-use Rattle.gtp_engine.specs.Request.Order.{komi}
 
 at_most_one : (bytes : List ℕ) (digits more : ℕ) → IsFraction bytes digits more → more ≤ 1
 at_most_one _ _ _ nothing = omega arith

@@ -1,5 +1,5 @@
 -- What single orders leave behind.
-use Rattle.std.specs.Prelude.{◌≡◌, ◌+◌, ◌++◌, ◌∷◌, [], ℕ, List, Option, Some, None}
+use Rattle.std.specs.Prelude.{◌≡◌, ◌+◌, ◌++◌, ◌∷◌, [], ℕ, List, Some, None}
 use Rattle.go_grid.specs.declared.grid.Colour.{Colour}
 use Rattle.whole_rules.specs.WholeGame.{State}
 use Rattle.gtp_engine.specs.declared.loading.Loading.{Loading}

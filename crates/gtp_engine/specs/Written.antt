@@ -1,5 +1,5 @@
 -- What the parts of a session leave behind, and what a run of it has written.
-use Rattle.std.specs.Prelude.{pos, ◌≡◌, ◌≢◌, ◌⊎◌, ◌≤◌, ◌<◌, ◌+◌, ◌-◌, ◌^◌, ◌++◌, ◌∷◌, ℕ, min, List, [], length, Bool, Option, Some, None, Result, Ok, Err, Contains}
+use Rattle.std.specs.Prelude.{pos, ◌≡◌, ◌≤◌, ◌+◌, ◌-◌, ◌^◌, ◌++◌, ◌∷◌, ℕ, min, List, [], Bool, Option}
 use Rattle.std.specs.Io.KnownBytes.{append_known}
 use Rattle.desk_io.specs.Files.{Files}
 use Rattle.desk_io.specs.Outside.{Rose}
@@ -7,7 +7,7 @@ use Rattle.endgame_solver.specs.declared.limits.Limits.{Limits}
 use Rattle.gtp_engine.specs.declared.end.GtpEnd.{GtpEnd}
 use Rattle.gtp_engine.specs.declared.end.GtpEnd.TheVariants.{ReadFault, WriteFault, Memory}
 use Rattle.gtp_engine.specs.Request.{Order, Asked}
-use Rattle.gtp_engine.specs.Session.{Table, Said, Fate, no_load, made, failed, Standing, Obeys, Meets, AnswersLine, AnswersWords, reply_text, fresh, beginning, IsSession, Waits, BreaksOff}
+use Rattle.gtp_engine.specs.Session.{Table, Said, Fate, no_load, made, failed, Standing, Obeys, Meets, AnswersLine, reply_text, fresh, beginning, IsSession, Waits, BreaksOff}
 
 -- what an engine keeps: its limits, its table, how many loads there were, and the numbers of those that failed
 pub record EngineView : Type 0 where

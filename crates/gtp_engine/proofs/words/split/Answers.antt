@@ -1,4 +1,3 @@
-use Rattle.std.proofs.Common.{rules}
 use Rattle.gtp_engine.proofs.Splitting.{split_all}
 use Rattle.gtp_engine.proofs.words.split.Goals as goal
 

@@ -1,8 +1,13 @@
 use Rattle.std.proofs.Common.{subst}
 use Rattle.desk_io.specs.Files.{told_file}
 use Rattle.gtp_engine.specs.Loading.{IsLoaded}
-use Rattle.gtp_engine.proofs.Answering.{loads_obeyed}
+use Rattle.gtp_engine.proofs.Answering.{loaded_fits, loads_obeyed}
 use Rattle.gtp_engine.proofs.engine.Engine.load_file.Goals as goal
+
+pub note-requires-clause-fit : goal.note-requires-clause-fit
+note-requires-clause-fit g c =
+    let files = g.H.Shelf.files c.args.shelf.now in
+    loaded_fits (told_file files c.in-Ok.name.now) c.args.after (g.H.Shelf.faults c.args.shelf.now) (g.H.Shelf.faults c.load.new.shelf) c.in_ok-loading.loading c.in_ok-loading.ensures.loaded
 
 pub returns-clause-loaded : goal.returns-clause-loaded
 returns-clause-loaded g c =
