@@ -7,6 +7,9 @@ use Rattle.sgf_go.specs.declared.settings.Settings.{Settings}
 use Rattle.sgf_go.specs.declared.settings.Setup.{Setup}
 use Rattle.game_calc.specs.declared.errors.CalcFault.{CalcFault}
 use Rattle.gd_words.specs.Job.{IsOnlyJob, JobView}
+use Rattle.gd_words.specs.Task.{Task}
+use Rattle.gd_words.specs.Task.Task.{gtp, trial, calc}
+use Rattle.endgame_solver.specs.declared.limits.Limits.{Limits}
 use Rattle.sgf_go.specs.declared.fault.FileFault.{FileFault}
 use Rattle.endgame_run.specs.declared.status.Status.{Status}
 use Rattle.endgame_run.specs.declared.status.Status.TheVariants.{CannotRead, CannotWrite, Done, Memory, TooManyLines}
@@ -14,7 +17,9 @@ use Rattle.endgame_run.specs.declared.status.Status.TheVariants as status
 use Rattle.endgame_run.specs.declared.question.Question.{Question}
 use Rattle.endgame_run.specs.declared.question.Question.TheVariants as question
 use Rattle.endgame_run.specs.Calc.{IsCalc}
-use Rattle.endgame_run.specs.Complete.{AreAnswerable, IsAnswerable, IsAnswered, IsComplete, IsWithinLimits}
+use Rattle.endgame_run.specs.Complete.{AreAnswerable, IsAnswerable, IsAnswered, IsComplete, IsEngineDone, IsWithinLimits}
+use Rattle.endgame_run.specs.Engine.{AreForEngine, AskForEngine, IsEngineRun}
+use Rattle.endgame_run.specs.Output.{IsCaused}
 use Rattle.sgf_go.specs.File.{IsShort, IsTold, IsTooLong}
 use Rattle.endgame_run.specs.File.{Outside, count_of, dash, told_of}
 use Rattle.endgame_run.specs.Game.{IsGameRun}
@@ -24,7 +29,7 @@ use Rattle.endgame_run.proofs.GameWins.{map_told}
 use Rattle.sgf_go.proofs.OneReading.{not_both, one_setup}
 use Rattle.endgame_run.proofs.OneStatus.{file_or_position, safe_is_done, shows_shown, solves_sound}
 use Rattle.endgame_run.proofs.OutputLaws.{pose_said}
-use Rattle.endgame_run.proofs.PoseLaws.{alone_unposed, calc_unposed, one_pose, trial_unposed}
+use Rattle.endgame_run.proofs.PoseLaws.{alone_unposed, calc_unposed, engine_unposed, one_pose, trial_unposed}
 
 -- neither count has risen, and so not that of the object that holds the file
 count_stays : (word : List ℕ) (a b c d : ℕ) → ¬ Rose a b → ¬ Rose c d → ¬ Rose (count_of a c word) (count_of b d word)
@@ -134,9 +139,50 @@ answerable_done words o kb kn before now result (inr (limit, expression, (own, o
     (λ f text t. unrefused.0 f (subst (λ l. IsCalc l expression (status.BadExpression f) text) (sym same) (subst (λ k. IsTextAlone own.parts k (status.BadExpression f) text) is t)).0)
     (λ text t. unrefused.1 (subst (λ l. IsCalc l expression status.CalcLimit text) (sym same) (subst (λ k. IsTextAlone own.parts k status.CalcLimit text) is t)).0) calm rose h
 
-pub complete : (words : List (List ℕ)) (o : Outside) (kb kn : ℕ) (before now : Option (List ℕ)) (result : Status) → (result ≡ CannotWrite → Rose kb kn)
-    → HasCause words o result ⊎ IsGameRun words o before now result → IsComplete words o kb kn result
-complete words o kb kn before now result rose h = (
+-- a job that the words have is that of the engine
+engine_task : (words : List (List ℕ)) (limits : Limits) (other : JobView) → AreForEngine words limits → IsOnlyJob words other → other.task ≡ gtp
+engine_task words limits other (own, only, is, same) its = ap (λ j. j.task) (only.only other its.said) ∙ is
+
+engine_alone : (words : List (List ℕ)) (limits : Limits) → AreForEngine words limits → AreAnswerable words → ⊥
+engine_alone words limits a (inl (number, (other, its, is))) = let k : Path Task (trial number) gtp = sym is ∙ engine_task words limits other a its in absurd cc
+engine_alone words limits a (inr (limit, expression, (other, its, is, same), u)) = let k : Path Task (calc expression) gtp = sym is ∙ engine_task words limits other a its in absurd cc
+
+-- words that ask for the engine, and of which another status holds
+unengaged_done : (words : List (List ℕ)) (o : Outside) (kb kn : ℕ) (before now : Option (List ℕ)) (result : Status) → AskForEngine words → ¬ Rose kb kn
+    → (result ≡ CannotWrite → Rose kb kn) → HasCause words o result ⊎ IsGameRun words o before now result → IsEngineDone words o result
+unengaged_done words o kb kn before now result (limits, (own, only, is, same)) calm rose h =
+    go (alone_answered words o kb kn before now result own only (λ job q word a. engine_unposed words limits job q word (own, only, is, same) a)
+    (λ f text t. subst (λ k. IsTextAlone own.parts k (status.BadExpression f) text) is t) (λ text t. subst (λ k. IsTextAlone own.parts k status.CalcLimit text) is t) calm rose h)
+  where
+    go : (result ≡ Done) ⊎ (result ≡ Memory) → IsEngineDone words o result
+    go (inl e) = inl e
+    go (inr e) = inr (inl e)
+
+-- a session that no read and no write broke off
+engine_done : (words : List (List ℕ)) (o : Outside) (kb kn : ℕ) (before now : Option (List ℕ)) (result : Status) → IsEngineRun words o before now result → ¬ Rose o.lines_before o.lines_now → ¬ Rose kb kn
+    → (result ≡ CannotWrite → Rose kb kn) → IsEngineDone words o result
+engine_done words o kb kn before now Done e read calm rose = inl refl
+engine_done words o kb kn before now Memory e read calm rose = inr (inl refl)
+engine_done words o kb kn before now TooManyLines e read calm rose = inr (inr (refl, (e.0, e.2.failing, e.1, e.2.failed, map_told _ _ o.left (λ bytes h. (h.0, h.2.0)) e.2.written)))
+engine_done words o kb kn before now CannotRead e read calm rose = absurd (read (e.2.read refl))
+engine_done words o kb kn before now CannotWrite e read calm rose = absurd (calm (rose refl))
+engine_done words o kb kn before now status.Usage e read calm rose = absurd e.2.ends
+engine_done words o kb kn before now status.Cycle e read calm rose = absurd e.2.ends
+engine_done words o kb kn before now status.RegionLimit e read calm rose = absurd e.2.ends
+engine_done words o kb kn before now status.FormLimit e read calm rose = absurd e.2.ends
+engine_done words o kb kn before now status.TooLong e read calm rose = absurd e.2.ends
+engine_done words o kb kn before now (status.BadFile f) e read calm rose = absurd e.2.ends
+engine_done words o kb kn before now (status.BadExpression f) e read calm rose = absurd e.2.ends
+engine_done words o kb kn before now status.CalcLimit e read calm rose = absurd e.2.ends
+
+pub complete : (words : List (List ℕ)) (o : Outside) (kb kn : ℕ) (before now : Option (List ℕ)) (result : Status) → (result ≡ CannotWrite → Rose kb kn) → IsCaused words o before now result → IsComplete words o kb kn result
+complete words o kb kn before now result rose (inl h) = (
   λ a. answered words o kb kn a before now result rose h,
   λ (a, calm). answerable_done words o kb kn before now result a calm rose h,
+  λ (a, read, calm). unengaged_done words o kb kn before now result a calm rose h,
+)
+complete words o kb kn before now result rose (inr e) = (
+  λ a. absurd (engine_unposed words e.0 a.job a.question a.word e.1 a.asks),
+  λ (a, calm). absurd (engine_alone words e.0 e.1 a),
+  λ (a, read, calm). engine_done words o kb kn before now result e read calm rose,
 )

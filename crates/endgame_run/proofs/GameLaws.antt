@@ -3,7 +3,7 @@ use Rattle.std.proofs.Common.{◌≡◌, ◌≢◌, ◌≤◌, ◌⊎◌, ℕ, i
 use Rattle.std.specs.Prelude.{Option}
 use Rattle.go_grid.specs.declared.grid.Colour.{Colour}
 use Rattle.gd_words.specs.Job.{IsJob, JobView}
-use Rattle.gd_words.specs.Task.{AreFor, Task}
+use Rattle.gd_words.specs.Task.{BeginWith, Task}
 use Rattle.gd_words.specs.Task.Task.{solve, safe, play, values}
 use Rattle.endgame_solver.specs.declared.limits.Limits.{Limits}
 use Rattle.endgame_run.specs.declared.status.Status.{Status}
@@ -30,7 +30,7 @@ only_play words job other question.Safe word w a b =
 
 -- the source can't be played
 pub played_apart : (words : List (List ℕ)) (job : JobView) (word : List ℕ) → IsJob words job → job.task ≡ play word → word ≢ dash
-played_apart words job word said is = (subst (λ t. AreFor said.word said.argument t) is said.task).3
+played_apart words job word said is = (subst (λ t. BeginWith t words said.rest) is said.task).3.3
 
 pub game_modest : (job : JobView) (limits : Limits) → limits ≡ limits_of job → job.positions ≤ 1000000 → limits.positions ≤ 1000000
 game_modest job limits e few = subst (λ l. l.positions ≤ 1000000) (sym e) few

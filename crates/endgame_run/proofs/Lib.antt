@@ -1,5 +1,7 @@
 mod CalcLaws
 mod CompleteLaws
+mod EngineLaws
+mod EngineRuns
 mod GameLaws
 mod GameWins
 mod OneGame

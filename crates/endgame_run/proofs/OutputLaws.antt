@@ -9,12 +9,12 @@ use Rattle.endgame_run.specs.declared.status.Status.TheVariants as status
 use Rattle.endgame_run.specs.declared.question.Question.{Question}
 use Rattle.endgame_run.specs.File.{Outside}
 use Rattle.endgame_run.specs.Game.{IsGameRun}
-use Rattle.endgame_run.specs.Output.{IsPartOutput}
+use Rattle.endgame_run.specs.Output.{IsPartOfDecided}
 use Rattle.endgame_run.specs.Verdict.{HasCause, IsWritten, Pose}
 use Rattle.endgame_run.proofs.GameWins.{map_told}
 
 pub part_output : (words : List (List ℕ)) (o : Outside) (before now : Option (List ℕ)) (result : Status) → IsWritten words o before now result ⊎ IsGameRun words o before now result
-    → result ≢ Done → IsPartOutput words o before now result
+    → result ≢ Done → IsPartOfDecided words o before now result
 part_output words o before now Done h ne = absurd (ne refl)
 part_output words o before now Memory (inl w) ne = w
 part_output words o before now CannotWrite (inl w) ne = inl w

@@ -3,11 +3,12 @@ use Rattle.std.proofs.Common.{◌≡◌, ◌⊎◌, ℕ, inl, inr, refl, sym, ap
 use Rattle.std.specs.Prelude.{Option}
 use Rattle.gd_words.specs.Job.{IsOnlyJob, JobView}
 use Rattle.gd_words.specs.Task.{Task}
-use Rattle.gd_words.specs.Task.Task.{solve, safe, values, play, trial, calc}
+use Rattle.gd_words.specs.Task.Task.{solve, safe, values, play, trial, calc, gtp}
 use Rattle.endgame_solver.specs.declared.limits.Limits.{Limits}
 use Rattle.endgame_run.specs.declared.question.Question.{Question}
 use Rattle.endgame_run.specs.declared.question.Question.TheVariants as question
 use Rattle.endgame_run.specs.declared.status.Status.{Status}
+use Rattle.endgame_run.specs.Engine.{AreForEngine}
 use Rattle.endgame_run.specs.Verdict.{AreToCalc, AreToTrial, AskAbout, IsDecidedAlone, IsTextAlone, Pose, limits_of}
 use Rattle.endgame_run.proofs.OutputLaws.{pose_said}
 
@@ -19,6 +20,7 @@ question_of limits (safe word) = Some (question.Safe, word)
 question_of limits (play word) = Some (question.Solve limits, word)
 question_of limits (trial number) = None
 question_of limits (calc expression) = None
+question_of limits gtp = None
 
 pose_is : (words : List (List ℕ)) (job : JobView) (q : Question) (word : List ℕ) → Pose words job q word → question_of (limits_of job) job.task ≡ Some (q, word)
 pose_is words job (question.Solve limits) word (inl a) = ap (question_of (limits_of job)) a.1.0 ∙ ap (λ l. Some (question.Solve l, word)) (sym a.1.1)
@@ -49,6 +51,9 @@ trial_unposed words number job q word (own, only, is) a = unposed words own job 
 pub calc_unposed : (words : List (List ℕ)) (limit : ℕ) (expression : List ℕ) (job : JobView) (q : Question) (word : List ℕ) → AreToCalc words limit expression → Pose words job q word → ⊥
 calc_unposed words limit expression job q word (own, only, is, same) a = unposed words own job q word only (ap (question_of (limits_of own)) is) a
 
+pub engine_unposed : (words : List (List ℕ)) (limits : Limits) (job : JobView) (q : Question) (word : List ℕ) → AreForEngine words limits → Pose words job q word → ⊥
+engine_unposed words limits job q word (own, only, is, same) a = unposed words own job q word only (ap (question_of (limits_of own)) is) a
+
 -- a task that depends on its words alone has no file
 alone_fileless : (limits : Limits) (limit : ℕ) (task : Task) (s : Status) (text : List ℕ) → IsTextAlone limit task s text → question_of limits task ≡ None
 alone_fileless limits limit (solve word) s text h = absurd h
@@ -57,6 +62,7 @@ alone_fileless limits limit (values word) s text h = absurd h
 alone_fileless limits limit (play word) s text h = absurd h
 alone_fileless limits limit (trial number) s text h = refl
 alone_fileless limits limit (calc expression) s text h = refl
+alone_fileless limits limit gtp s text h = absurd h
 
 pub alone_unposed : (words : List (List ℕ)) (s : Status) (text : List ℕ) (job : JobView) (q : Question) (word : List ℕ) → IsDecidedAlone words s text → Pose words job q word → ⊥
 alone_unposed words s text job q word (own, only, is) a = unposed words own job q word only (alone_fileless (limits_of own) own.parts own.task s text is) a

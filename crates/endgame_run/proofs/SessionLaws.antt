@@ -48,7 +48,7 @@ is_over final (inr (inl e)) = subst IsOver (sym e) tt
 is_over final (inr (inr e)) = subst IsOver (sym e) tt
 
 -- what a source tells is written
-told_written : (P : List ℕ → Type 0) (left : Option (List ℕ)) → ((bytes : List ℕ) → left ≡ Some bytes → P bytes) → IfSome left P
+pub told_written : (P : List ℕ → Type 0) (left : Option (List ℕ)) → ((bytes : List ℕ) → left ≡ Some bytes → P bytes) → IfSome left P
 told_written P None h = tt
 told_written P (Some bytes) h = h bytes refl
 
@@ -77,7 +77,7 @@ write_run engine session left reads reads_now writes writes_now before now e ros
 }
 
 -- a line behind a text
-behind : (before : Option (List ℕ)) (text line : List ℕ) → append_known (append_known before text) line ≡ append_known before (text ++ line)
+pub behind : (before : Option (List ℕ)) (text line : List ℕ) → append_known (append_known before text) line ≡ append_known before (text ++ line)
 behind None text line = refl
 behind (Some b) text line = ap Some (append_assoc b text line)
 
@@ -97,7 +97,7 @@ stopped_whole engine s bytes before now (status.BadFile f) text line h e = absur
 stopped_whole engine s bytes before now (status.BadExpression f) text line h e = absurd h
 stopped_whole engine s bytes before now status.CalcLimit text line h e = absurd h
 
-rose_later : (a b c : ℕ) → a ≤ b → Rose b c → Rose a c
+pub rose_later : (a b c : ℕ) → a ≤ b → Rose b c → Rose a c
 rose_later a b c le rose = omega (arith, le, rose)
 
 -- the line of a fault was written behind the session, or a front part of it

@@ -7,7 +7,7 @@ use Rattle.board_gen.specs.Trial.{IsTrialBoard}
 use Rattle.board_gen.proofs.OneBoard.{one_board}
 use Rattle.gd_words.specs.Job.{IsOnlyJob, JobView}
 use Rattle.gd_words.specs.Task.{Task}
-use Rattle.gd_words.specs.Task.Task.{solve, safe, values, play, trial, calc}
+use Rattle.gd_words.specs.Task.Task.{solve, safe, values, play, trial, calc, gtp}
 use Rattle.endgame_solver.specs.declared.limits.Limits.{Limits}
 use Rattle.endgame_solver.specs.Faults.{most_steps}
 use Rattle.region_cut.specs.Cut.{AreRegionsOfPlay}
@@ -40,6 +40,7 @@ file_of (values word) = Some word
 file_of (play word) = Some word
 file_of (trial number) = None
 file_of (calc expression) = None
+file_of gtp = None
 
 -- the file and the limits of words that need regions of play
 posed : (words : List (List ℕ)) (job : JobView) (q : Question) (limits : Limits) (word : List ℕ) → Pose words job q word → HasLimits q limits

@@ -12,12 +12,14 @@ use Rattle.region_cut.specs.Cut.{AreRegionsOfPlay}
 use Rattle.endgame_solver.specs.Regions.{region_at}
 use Rattle.report.specs.Values.{HasShownValue}
 use Rattle.play_session.specs.declared.end.SessionEnd.TheVariants as end
+use Rattle.gtp_engine.specs.declared.end.GtpEnd.TheVariants as gtp_end
 use Rattle.endgame_run.specs.declared.status.Status.{Status}
 use Rattle.endgame_run.specs.declared.status.Status.TheVariants.{Done, Memory, TooManyLines}
 use Rattle.endgame_run.specs.declared.question.Question.{Question}
 use Rattle.endgame_run.specs.declared.question.Question.TheVariants.{Solve, Values, Safe}
 use Rattle.sgf_go.specs.File.{IsShort}
 use Rattle.endgame_run.specs.File.{Outside, told_of}
+use Rattle.endgame_run.specs.Engine.{AskForEngine, InEngine, IsEngineSession}
 use Rattle.endgame_run.specs.Game.{IsSessionOf}
 use Rattle.endgame_run.specs.Output.{InGame}
 use Rattle.sgf_go.specs.File.{Reads}
@@ -64,7 +66,18 @@ AreAnswerable words = ((number : ℕ) × AreToTrial words number)
 abbrev pub IsAnswerableAlone : List (List ℕ) → ℕ → ℕ → Type 0
 IsAnswerableAlone words writes writes_now = AreAnswerable words × ¬ Rose writes writes_now
 
--- where nothing keeps the run from its text, it is answered; what depends on the words alone is done, or memory was wanted
+-- the words ask for the engine, and no read and no write has failed
+abbrev pub IsUnhindered : List (List ℕ) → Outside → ℕ → ℕ → Type 0
+IsUnhindered words o writes writes_now = AskForEngine words × (¬ Rose o.lines_before o.lines_now) × (¬ Rose writes writes_now)
+
+-- the engine is done, or memory was wanted, or 10,000 lines were read, where the session over the bytes ends so
+abbrev pub IsEngineDone : List (List ℕ) → Outside → Status → Type 0
+IsEngineDone words o status = (status ≡ Done) ⊎ ((status ≡ Memory)
+    ⊎ ((status ≡ TooManyLines) × InEngine words o (λ limits failing bytes. (text : List ℕ) × IsEngineSession limits o.files failing bytes gtp_end.TooManyLines text)))
+
+-- Where nothing keeps the run from its text, it is answered; what depends on the words alone is done, or memory was wanted. A load that
+-- fails keeps the engine from nothing.
 abbrev pub IsComplete : List (List ℕ) → Outside → ℕ → ℕ → Status → Type 0
 IsComplete words o writes writes_now status = (IsAnswerable words o writes writes_now → IsAnswered words o status)
     × (IsAnswerableAlone words writes writes_now → (status ≡ Done) ⊎ (status ≡ Memory))
+    × (IsUnhindered words o writes writes_now → IsEngineDone words o status)

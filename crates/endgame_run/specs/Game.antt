@@ -20,6 +20,7 @@ use Rattle.play_session.specs.Laws.{IsLineIn, KeepsWin}
 use Rattle.play_session.specs.Session.{Standing, Turns, IsSession, Waits, BreaksOff}
 use Rattle.endgame_run.specs.declared.status.Status.{Status}
 use Rattle.endgame_run.specs.declared.status.Status.TheVariants.{Done, CannotRead, CannotWrite, TooManyLines}
+use Rattle.endgame_run.specs.Engine.{IsKeptRun}
 use Rattle.endgame_run.specs.File.{Outside, told_of}
 use Rattle.endgame_run.specs.Found.{IsPositionOf}
 use Rattle.endgame_solver.specs.Solved.{IsPlayable}
@@ -107,6 +108,6 @@ abbrev pub PlaysWon : List (List ℕ) → Outside → Option (List ℕ) → Opti
 PlaysWon words o before now = (engine : Colour) × (s : State) × IsGame words o engine s
     × (IsWinner s engine → IfSome o.left (λ bytes. IsWonGame engine s bytes before now))
 
--- what was written is the text of the decided status, or that of a game in which the engine keeps what it has won
+-- what was written is the text of the decided status, or that of a game or a session in which the engine keeps what it has won
 abbrev pub EngineKeepsWin : List (List ℕ) → Outside → Option (List ℕ) → Option (List ℕ) → Status → Type 0
-EngineKeepsWin words o before now status = IsWritten words o before now status ⊎ PlaysWon words o before now
+EngineKeepsWin words o before now status = (IsWritten words o before now status ⊎ PlaysWon words o before now) ⊎ IsKeptRun words o before now status

@@ -9,6 +9,7 @@ pub mod Trial
 pub mod Calc
 pub mod Verdict
 pub mod Game
+pub mod Engine
 pub mod Top
 pub mod Laws
 pub mod Output

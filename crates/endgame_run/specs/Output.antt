@@ -6,17 +6,18 @@ use Rattle.whole_rules.specs.WholeGame.{State}
 use Rattle.play_session.specs.declared.end.SessionEnd.TheVariants as end
 use Rattle.endgame_run.specs.declared.status.Status.{Status}
 use Rattle.endgame_run.specs.declared.status.Status.TheVariants.{CannotRead, CannotWrite, Memory, TooManyLines}
+use Rattle.endgame_run.specs.Engine.{IsEngineRun}
 use Rattle.endgame_run.specs.File.{Outside}
 use Rattle.endgame_run.specs.Game.{IsGame, IsGameRun, IsGameWritten, IsSessionOf, WaitsAfter}
 use Rattle.endgame_run.specs.Verdict.{HasCause, IsDecided, IsWritten}
 
--- the status was decided with its cause, or it is that of a game that has begun
+-- the status was decided with its cause, or it is that of a game that has begun, or of a session of the engine
 abbrev pub IsCaused : List (List ℕ) → Outside → Option (List ℕ) → Option (List ℕ) → Status → Type 0
-IsCaused words o before now status = HasCause words o status ⊎ IsGameRun words o before now status
+IsCaused words o before now status = (HasCause words o status ⊎ IsGameRun words o before now status) ⊎ IsEngineRun words o before now status
 
--- the text of the decided status was written, or that of a game that has begun
+-- the text of the decided status was written, or that of a game that has begun, or of a session of the engine
 abbrev pub IsOutput : List (List ℕ) → Outside → Option (List ℕ) → Option (List ℕ) → Status → Type 0
-IsOutput words o before now status = IsWritten words o before now status ⊎ IsGameRun words o before now status
+IsOutput words o before now status = (IsWritten words o before now status ⊎ IsGameRun words o before now status) ⊎ IsEngineRun words o before now status
 
 -- the line of the status was written, and nothing else
 abbrev pub IsLineWritten : List (List ℕ) → Outside → Option (List ℕ) → Option (List ℕ) → Status → Type 0
@@ -33,11 +34,15 @@ InGame words o holds = (engine : Colour) × (s : State) × IsGame words o engine
 -- Nothing for want of memory. Where a write failed, a front part of what was to be written: of a text, or of a session and the line of
 -- a fault. Else the line of a fault, in a game behind the session: all turns up to the one whose line can't be read, or whose line
 -- would be one too many.
-abbrev pub IsPartOutput : List (List ℕ) → Outside → Option (List ℕ) → Option (List ℕ) → Status → Type 0
-IsPartOutput words o before now Memory = now ≡ before
-IsPartOutput words o before now CannotWrite = IsFrontWritten words o before now ⊎ InGame words o (λ engine s bytes. IsGameWritten engine s bytes before now CannotWrite)
-IsPartOutput words o before now CannotRead = IsLineWritten words o before now CannotRead
+abbrev pub IsPartOfDecided : List (List ℕ) → Outside → Option (List ℕ) → Option (List ℕ) → Status → Type 0
+IsPartOfDecided words o before now Memory = now ≡ before
+IsPartOfDecided words o before now CannotWrite = IsFrontWritten words o before now ⊎ InGame words o (λ engine s bytes. IsGameWritten engine s bytes before now CannotWrite)
+IsPartOfDecided words o before now CannotRead = IsLineWritten words o before now CannotRead
     ⊎ InGame words o (λ engine s bytes. (text : List ℕ) × WaitsAfter engine s bytes text × (now ≡ append_known before (text ++ codes "fault cannot read\n")))
-IsPartOutput words o before now TooManyLines =
+IsPartOfDecided words o before now TooManyLines =
     InGame words o (λ engine s bytes. (text : List ℕ) × IsSessionOf engine s bytes end.TooManyLines text × (now ≡ append_known before (text ++ codes "fault lines\n")))
-IsPartOutput words o before now status = IsLineWritten words o before now status
+IsPartOfDecided words o before now status = IsLineWritten words o before now status
+
+-- the same, or what a session of the engine has written: replies, and the line of a fault behind them
+abbrev pub IsPartOutput : List (List ℕ) → Outside → Option (List ℕ) → Option (List ℕ) → Status → Type 0
+IsPartOutput words o before now status = IsPartOfDecided words o before now status ⊎ IsEngineRun words o before now status

@@ -1,26 +1,29 @@
 -- What the parts of the top call answer.
-use Rattle.std.specs.Prelude.{◌≡◌, ◌≢◌, ◌≤◌, ◌⊎◌, take, ℕ, [], List, Option, Ok, IfSome}
+use Rattle.std.specs.Prelude.{◌≡◌, ◌≢◌, ◌≤◌, ◌⊎◌, take, codes, ℕ, [], List, Option, Ok, IfSome}
 use Rattle.std.specs.Io.KnownBytes.{append_known}
 use Rattle.desk_io.specs.Outside.{Rose}
 use Rattle.go_grid.specs.declared.grid.Colour.{Colour}
 use Rattle.sgf_go.specs.declared.settings.Settings.{Settings}
 use Rattle.sgf_go.specs.declared.settings.Setup.{Setup}
 use Rattle.gd_words.specs.Job.{JobView}
-use Rattle.gd_words.specs.Task.Task.{play, trial, calc}
+use Rattle.gd_words.specs.Task.Task.{play, trial, calc, gtp}
 use Rattle.whole_rules.specs.WholeGame.{State}
 use Rattle.endgame_solver.specs.declared.limits.Limits.{Limits}
 use Rattle.endgame_run.specs.declared.status.Status.{Status}
-use Rattle.endgame_run.specs.declared.status.Status.TheVariants.{CannotRead, CannotWrite, Done, FormLimit, Memory}
+use Rattle.endgame_run.specs.declared.status.Status.TheVariants.{CannotRead, CannotWrite, Done, FormLimit, Memory, TooManyLines}
 use Rattle.endgame_run.specs.declared.question.Asked.{Asked}
 use Rattle.endgame_run.specs.declared.question.Asked.TheVariants as asked
 use Rattle.endgame_run.specs.declared.question.Opened.{Opened}
 use Rattle.endgame_run.specs.declared.question.Opened.TheVariants.{Game, Fault}
 use Rattle.endgame_run.specs.declared.question.Question.{Question}
 use Rattle.endgame_run.specs.declared.question.Question.TheVariants.{Solve, Values, Safe}
+use Rattle.gtp_engine.specs.declared.end.GtpEnd.{GtpEnd}
+use Rattle.gtp_engine.specs.declared.end.GtpEnd.TheVariants as end
 use Rattle.sgf_go.specs.File.{IsTold}
 use Rattle.endgame_run.specs.File.{Outside, told_of, count_of}
 use Rattle.endgame_run.specs.Found.{IsPositionOf}
 use Rattle.endgame_solver.specs.Solved.{IsPlayable}
+use Rattle.endgame_run.specs.Engine.{engine_limits}
 use Rattle.endgame_run.specs.Game.{IsEngine, IsGameWritten, IsSessionStatus}
 use Rattle.sgf_go.specs.File.{Reads}
 use Rattle.endgame_run.specs.Refusal.{form_line}
@@ -42,13 +45,14 @@ IsModest (Solve limits) = limits.positions ≤ 1000000
 IsModest (Values limits) = limits.positions ≤ 1000000
 IsModest Safe = Unit {0}
 
--- the job asks a question, or for a game within its limits, with its colour for the engine, for the board of a number, or for the answer
--- to an expression within its limit of parts
+-- the job asks a question, or for a game within its limits, with its colour for the engine, for the board of a number, for the answer to
+-- an expression within its limit of parts, or for the engine within its limits
 abbrev pub IsAsked : JobView → Asked → Type 0
 IsAsked job (asked.Answer inquiry) = Asks job inquiry.question inquiry.word.now
 IsAsked job (asked.Game game) = (job.task ≡ play game.word.now) × (game.limits ≡ limits_of job) × (game.engine ≡ job.engine)
 IsAsked job (asked.Trial number) = job.task ≡ trial number
 IsAsked job (asked.Calc line) = (job.task ≡ calc line.expression.now) × (line.parts ≡ job.parts)
+IsAsked job (asked.Gtp limits) = (job.task ≡ gtp) × (limits ≡ engine_limits job)
 
 -- what a run of a question about the file of a word comes to: nothing for want of memory, and else an answer that was written
 abbrev pub IsFileRun : Question → Settings → List ℕ → Outside → ℕ → ℕ → Option (List ℕ) → Option (List ℕ) → Status → Type 0
@@ -67,6 +71,15 @@ IsTrialRun number kb kn before now result =
 abbrev pub IsCalcRun : ℕ → List ℕ → ℕ → ℕ → Option (List ℕ) → Option (List ℕ) → Status → Type 0
 IsCalcRun limit expression kb kn before now result =
     ((result ≡ Memory) × (now ≡ before)) ⊎ ((s : Status) × (text : List ℕ) × IsCalc limit expression s text × IsFinished s text kb kn before now result)
+
+-- what is written behind a session of the engine, by its end, and the status: the line of a fault, or nothing
+abbrev pub IsClosed : GtpEnd → ℕ → ℕ → Option (List ℕ) → Option (List ℕ) → Status → Type 0
+IsClosed end.Quit kb kn before now result = (result ≡ Done) × (now ≡ before)
+IsClosed end.InputEnded kb kn before now result = (result ≡ Done) × (now ≡ before)
+IsClosed end.ReadFault kb kn before now result = IsFinished CannotRead (codes "fault cannot read\n") kb kn before now result
+IsClosed end.WriteFault kb kn before now result = (result ≡ CannotWrite) × (now ≡ before)
+IsClosed end.TooManyLines kb kn before now result = IsFinished TooManyLines (codes "fault lines\n") kb kn before now result
+IsClosed end.Memory kb kn before now result = (result ≡ Memory) × (now ≡ before)
 
 -- the report on the values of a solved game
 abbrev pub IsValuesReport : SolvedGame → Status → List ℕ → Type 0

@@ -3,6 +3,7 @@
 
 mod calc;
 mod ending;
+mod engine;
 mod faults;
 mod file;
 mod finding;
@@ -26,6 +27,8 @@ pub use top::run;
 mod calc_tests;
 #[cfg(test)]
 mod device_tests;
+#[cfg(test)]
+mod gtp_tests;
 #[cfg(test)]
 mod outside_tests;
 #[cfg(test)]

@@ -108,7 +108,7 @@ fn plays_over_the_lines(rt: HostRuntime) -> Result<(), Fail> {
 }
 
 /// `count` times the text.
-fn repeated(alloc: Global, text: &[u8], count: usize) -> Result<Vec<u8>, AllocError> {
+pub(crate) fn repeated(alloc: Global, text: &[u8], count: usize) -> Result<Vec<u8>, AllocError> {
     let mut bytes = Vec::new(alloc);
     for _ in 0..count {
         bytes.extend_from_slice(text)?;

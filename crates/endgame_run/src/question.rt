@@ -49,6 +49,8 @@ pub(crate) enum Asked<'a> {
     Trial(u32),
     /// The answer to an expression.
     Calc(Line<'a>),
+    /// The engine, within limits.
+    Gtp(Limits),
 }
 
 /// A status and its text.

@@ -8,7 +8,7 @@ use sgf_go::FileFault;
 /// What a run ends with.
 #[derive(Clone, Copy, Debug, PartialEq, Eq)]
 pub enum Status {
-    /// The text of the command was written, or the game was played to its end or to that of the input.
+    /// The text of the command was written, or the game or session went to its end or to that of the input.
     Done,
     /// The words are outside the grammar of the command line.
     Usage,
@@ -26,7 +26,7 @@ pub enum Status {
     FormLimit,
     /// Memory was refused.
     Memory,
-    /// In a game the opponent was to move, and 10,000 lines were read.
+    /// 10,000 lines were read, and the opponent was to move in a game, or none of them ended the engine's session.
     TooManyLines,
     /// The file has more than 1,048,576 bytes.
     TooLong,

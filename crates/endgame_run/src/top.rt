@@ -11,6 +11,7 @@ ghost use Rattle.endgame_solver.specs.declared.limits.Limits.{Limits};
 ghost use Rattle.endgame_solver.specs.Faults.{most_steps};
 ghost use Rattle.region_cut.specs.Cut.{AreRegionsOfPlay};
 ghost use Rattle.endgame_run.specs.Complete.{IsComplete};
+ghost use Rattle.endgame_run.specs.Engine.{AskForEngine, engine_limits};
 ghost use Rattle.endgame_run.specs.File.{TakesAtMost, count_of, dash, outside, told_of};
 ghost use Rattle.endgame_run.specs.Found.{HasRanges};
 ghost use Rattle.endgame_run.specs.Game.{EngineKeepsWin, IsGameRun};
@@ -20,6 +21,7 @@ ghost use Rattle.endgame_run.specs.Verdict.{AreNeededRegions, AreSteps, AreSteps
 
 use crate::calc::run_calc;
 use crate::ending::finish;
+use crate::engine::run_gtp;
 use crate::finding::find_position;
 use crate::game::run_game;
 use crate::question::{Asked, Found, Inquiry, Line, Match, Question, Report};
@@ -133,6 +135,16 @@ fn limits(job: &Job<'_>) -> Limits
     }
 }
 
+/// The limits of an engine, where there is no tax.
+fn limits_of_engine(job: &Job<'_>) -> Limits
+    ensures { result ≡ engine_limits (viewed job.now) }
+{
+    Limits {
+        tax: false,
+        ..limits(job)
+    }
+}
+
 /// What a job asks for.
 fn asked<'a>(job: &Job<'a>) -> Asked<'a>
     ensures { IsAsked (viewed job.now) result }
@@ -160,6 +172,7 @@ fn asked<'a>(job: &Job<'a>) -> Asked<'a>
             expression,
             parts: job.parts,
         }),
+        Command::Gtp => Asked::Gtp(limits_of_engine(job)),
     }
 }
 
@@ -209,29 +222,34 @@ pub fn run<H: Shelf, S: Source, K: Sink, L: Ledger>(
     ensures steps { (limits : Limits) (setup : Position) (regions : List Shape)
         → AreNeededRegions (texts words.now) (H.files shelf.old) (S.left lines.old) limits setup
         → AreRegionsOfPlay setup.board regions → steps.new ≤ steps.old + most_steps limits regions }
-    ensures few_steps { AreSteps (texts words.now) (H.files shelf.old) (S.left lines.old)
-        steps.old steps.new }
-    ensures no_steps { ¬ NeedRegions (texts words.now) → steps.new ≡ steps.old }
+    ensures few_steps { ¬ AskForEngine (texts words.now)
+        → AreSteps (texts words.now) (H.files shelf.old) (S.left lines.old) steps.old steps.new }
+    ensures no_steps { ¬ NeedRegions (texts words.now) → ¬ AskForEngine (texts words.now)
+        → steps.new ≡ steps.old }
     ensures at_end { result ≡ Status.Done → ReadSource (texts words.now)
         → S.left lines.new ≡ ended (S.left lines.old) }
     ensures lines_unread { ¬ ReadSource (texts words.now) → ¬ AskToPlay (texts words.now)
-        → lines.new ≡ lines.old }
-    ensures lines_unplayed { ¬ ReadSource (texts words.now) → (lines.new ≡ lines.old)
+        → ¬ AskForEngine (texts words.now) → lines.new ≡ lines.old }
+    ensures lines_unplayed { ¬ ReadSource (texts words.now) → ¬ AskForEngine (texts words.now)
+        → (lines.new ≡ lines.old)
         ⊎ IsGameRun (texts words.now)
         (outside (H.files shelf.old) (S.left lines.old) (H.faults shelf.old)
         (H.faults shelf.new) (S.faults lines.old) (S.faults lines.new))
         (K.holds out.old) (K.holds out.new) result }
-    ensures file_taken { ¬ AskToPlay (texts words.now)
+    ensures file_taken { ¬ AskToPlay (texts words.now) → ¬ AskForEngine (texts words.now)
         → TakesAtMost 1048577 (S.left lines.old) (S.left lines.new) }
     ensures lines_taken { AskToPlay (texts words.now)
         → TakesAtMost 2560256 (S.left lines.old) (S.left lines.new) }
-    ensures asked { (shelf.new ≡ shelf.old)
+    ensures session_taken { AskForEngine (texts words.now)
+        → TakesAtMost 10241024 (S.left lines.old) (S.left lines.new) }
+    ensures asked { ¬ AskForEngine (texts words.now) → (shelf.new ≡ shelf.old)
         ⊎ AskShelf (texts words.now) (λ word. H.asks shelf.old word shelf.new) }
     ensures same_files { H.files shelf.new ≡ H.files shelf.old }
     ensures later_loads { H.faults shelf.old ≤ H.faults shelf.new }
     ensures later_reads { S.faults lines.old ≤ S.faults lines.new }
     ensures later_writes { K.faults out.old ≤ K.faults out.new }
-    ensures shelf_unread { ¬ ReadShelf (texts words.now) → shelf.new ≡ shelf.old }
+    ensures shelf_unread { ¬ ReadShelf (texts words.now) → ¬ AskForEngine (texts words.now)
+        → shelf.new ≡ shelf.old }
 {
     let Ok(job) = gd_words::read(words) else {
         return finish(out, Status::Usage, b"fault usage\n");
@@ -243,5 +261,6 @@ pub fn run<H: Shelf, S: Source, K: Sink, L: Ledger>(
         Asked::Game(game) => run_game(alloc, &game, &job.settings, shelf, lines, out, steps),
         Asked::Trial(number) => run_trial(alloc, number, out, steps),
         Asked::Calc(line) => run_calc(alloc, &line, out),
+        Asked::Gtp(limits) => run_gtp(alloc, limits, shelf, lines, out, steps),
     }
 }

@@ -1,6 +1,6 @@
 -- Words say at most one job.
-use Rattle.std.proofs.Common.{◌≡◌, ◌≢◌, ◌<◌, ◌⊎◌, ◌∷◌, ℕ, List, Some, None, inl, inr, get_or, refl, sym, ap, ap₂, ◌∙◌, subst}
-use Rattle.std.specs.Prelude.{Option}
+use Rattle.std.proofs.Common.{◌≡◌, ◌≢◌, ◌<◌, ◌⊎◌, ◌∷◌, [], ℕ, List, Some, None, inl, inr, get_or, refl, sym, ap, ap₂, ◌∙◌, subst}
+use Rattle.std.specs.Prelude.{Option, codes, IfSome, IfNone}
 use Rattle.std.specs.List.{AllPairs, Contains}
 use Rattle.std.proofs.lemmas.Bool.{cases_order}
 use Rattle.std.proofs.lemmas.List.{get_or_default}
@@ -8,8 +8,9 @@ use Rattle.gd_words.specs.declared.choice.Choice.{Choice}
 use Rattle.gd_words.specs.declared.choice.Choice.TheVariants.{Komi, Turn, After, BlackPrisoners, WhitePrisoners, Positions, Parts, Engine, Tax}
 use Rattle.gd_words.specs.declared.chosen.Chosen.{Chosen}
 use Rattle.gd_words.specs.Choice.{name_of}
-use Rattle.gd_words.specs.Task.{Task, solve, safe, values, play, trial, calc, AreFor}
+use Rattle.gd_words.specs.Task.{Task, solve, safe, values, play, trial, calc, gtp, AreFor, BeginWith}
 use Rattle.gd_words.specs.Job.{Gives, Say, AreChoices, JobView, job_of, IsJob, IsOnlyJob}
+use Rattle.gd_words.specs.Reading.{IsJobOf}
 use Rattle.gd_words.proofs.Names.{apart}
 use Rattle.gd_words.proofs.Unique.{one_number}
 use Rattle.gd_words.proofs.Listing.{one_spelling}
@@ -21,6 +22,8 @@ one_task word argument (values f) (values g) a b = ap values (sym a.1 ∙ b.1)
 one_task word argument (play f) (play g) a b = ap play (sym a.1 ∙ b.1)
 one_task word argument (trial n) (trial m) a b = ap trial (one_number 0 4294967295 argument n m a.1 b.1)
 one_task word argument (calc e) (calc f) a b = ap calc (sym a.1 ∙ b.1)
+one_task word argument gtp u a b = absurd a
+one_task word argument t gtp a b = absurd b
 one_task word argument t u a b = absurd (apart (sym a.0 ∙ b.0) refl refl)
 
 abbrev AreOnce : List Choice → Type 0
@@ -63,29 +66,100 @@ one_choices task words o p a b =
     let same = one_spelling words b.choices a.choices b.spelt a.spelt in
     one_say a.choices o p a.once a.said (subst (λ xs. Say xs p) same b.said)
 
--- how words of two and more are a job's
-parted : (words rest : List (List ℕ)) (word argument : List ℕ) (job : JobView) (a : IsJob words job) → words ≡ word ∷ argument ∷ rest → AreFor word argument job.task × AreChoices job.task rest a.chosen
-parted words rest word argument job a w =
-    let same = sym a.whole ∙ w in
-    let first : a.word ≡ word = cc in
-    let second : a.argument ≡ argument = cc in
-    let others : a.rest ≡ rest = cc in
-    (subst (λ x. AreFor x argument job.task) first (subst (λ x. AreFor a.word x job.task) second a.task), subst (λ x. AreChoices job.task x a.chosen) others a.options)
+-- no two words ask for the engine
+not_engine : (word argument : List ℕ) (t : Task) → AreFor word argument t → word ≡ codes "gtp" → ⊥
+not_engine word argument gtp a e = a
+not_engine word argument t a e = absurd (apart (sym a.0 ∙ e) refl refl)
+
+-- the words of a task that has two
+abbrev BeginWithTwo : Task → List (List ℕ) → List (List ℕ) → Type 0
+BeginWithTwo task words rest = (word : List ℕ) × (argument : List ℕ) × (words ≡ word ∷ argument ∷ rest) × AreFor word argument task
+
+-- a task has one word, or two
+by_words : (P : Type 0) (task : Task) (words rest : List (List ℕ)) → BeginWith task words rest → (task ≡ gtp → words ≡ codes "gtp" ∷ rest → P) → (BeginWithTwo task words rest → P) → P
+by_words P gtp words rest b one two = one refl b
+by_words P (solve f) words rest b one two = two b
+by_words P (safe f) words rest b one two = two b
+by_words P (values f) words rest b one two = two b
+by_words P (play f) words rest b one two = two b
+by_words P (trial n) words rest b one two = two b
+by_words P (calc e) words rest b one two = two b
+
+pub with_two : (task : Task) (words rest : List (List ℕ)) (word argument : List ℕ) → words ≡ word ∷ argument ∷ rest → AreFor word argument task → BeginWith task words rest
+with_two gtp words rest word argument e a = absurd a
+with_two (solve f) words rest word argument e a = (word, argument, e, a)
+with_two (safe f) words rest word argument e a = (word, argument, e, a)
+with_two (values f) words rest word argument e a = (word, argument, e, a)
+with_two (play f) words rest word argument e a = (word, argument, e, a)
+with_two (trial n) words rest word argument e a = (word, argument, e, a)
+with_two (calc f) words rest word argument e a = (word, argument, e, a)
+
+one_or_two : (words rest more : List (List ℕ)) (u : Task) → words ≡ codes "gtp" ∷ rest → BeginWithTwo u words more → ⊥
+one_or_two words rest more u e (word, argument, d, a) =
+    let k : Path (List (List ℕ)) (word ∷ argument ∷ more) (codes "gtp" ∷ rest) = sym d ∙ e in
+    not_engine word argument u a cc
+
+two_and_two : (words rest more : List (List ℕ)) (t u : Task) → BeginWithTwo t words rest → BeginWithTwo u words more → (t ≡ u) × (rest ≡ more)
+two_and_two words rest more t u (word, argument, e, a) (other, second, d, b) =
+    let k : Path (List (List ℕ)) (other ∷ second ∷ more) (word ∷ argument ∷ rest) = sym d ∙ e in
+    let first : other ≡ word = cc in
+    let then : second ≡ argument = cc in
+    (one_task word argument t u a (subst (λ x. AreFor x argument u) first (subst (λ x. AreFor other x u) then b)), cc)
+
+-- words begin with those of one task
+one_beginning : (words rest more : List (List ℕ)) (t u : Task) → BeginWith t words rest → BeginWith u words more → (t ≡ u) × (rest ≡ more)
+one_beginning words rest more t u a b =
+    by_words _ t words rest a
+    (λ e w. by_words _ u words more b (λ d v. let k : Path (List (List ℕ)) (codes "gtp" ∷ rest) (codes "gtp" ∷ more) = sym w ∙ v in (e ∙ sym d, cc)) (λ two. absurd (one_or_two words rest more u w two)))
+    (λ two. by_words _ u words more b (λ d v. absurd (one_or_two words more rest t v two)) (λ more_two. two_and_two words rest more t u two more_two))
 
 pub one_job : (words : List (List ℕ)) (v w : JobView) → IsJob words v → IsJob words w → v ≡ w
 one_job words v w a b =
-    let p = parted words b.rest b.word b.argument v a b.whole in
-    let task = one_task b.word b.argument v.task w.task p.0 b.task in
-    let o = one_choices w.task b.rest a.chosen b.chosen (subst (λ t. AreChoices t b.rest a.chosen) task p.1) b.options in
-    a.says ∙ ap₂ job_of task o ∙ sym b.says
+    let p = one_beginning words a.rest b.rest v.task w.task a.task b.task in
+    let own = subst (λ r. AreChoices w.task r a.chosen) p.1 (subst (λ t. AreChoices t a.rest a.chosen) p.0 a.options) in
+    a.says ∙ ap₂ job_of p.0 (one_choices w.task b.rest a.chosen b.chosen own b.options) ∙ sym b.says
 
-pub job_made : (words rest : List (List ℕ)) (word argument : List ℕ) (task : Task) (o : Chosen) (job : JobView) → words ≡ word ∷ argument ∷ rest → AreFor word argument task → AreChoices task rest o
-    → job ≡ job_of task o → IsOnlyJob words job
-job_made words rest word argument task o job w t a j =
-    let said : IsJob words (job_of task o) = record { word = word; argument = argument; rest = rest; whole = w; task = t; chosen = o; options = a; says = refl } in
+pub job_made : (words rest : List (List ℕ)) (task : Task) (job : JobView) → BeginWith task words rest → IsJobOf task rest job → IsOnlyJob words job
+job_made words rest task job t (o, a, j) =
+    let said : IsJob words (job_of task o) = record { rest = rest; task = t; chosen = o; options = a; says = refl } in
     subst (IsOnlyJob words) (sym j) (record { said = said; only = λ other h. one_job words other (job_of task o) h said })
 
-pub no_choices : (words rest : List (List ℕ)) (word argument : List ℕ) (task : Task) (job : JobView) → words ≡ word ∷ argument ∷ rest → AreFor word argument task → ((o : Chosen) → ¬ AreChoices task rest o) → ¬ IsJob words job
-no_choices words rest word argument task job w t none a =
-    let p = parted words rest word argument job a w in
-    none a.chosen (subst (λ u. AreChoices u rest a.chosen) (one_task word argument job.task task p.0 t) p.1)
+pub no_choices : (words rest : List (List ℕ)) (task : Task) (job : JobView) → BeginWith task words rest → ((o : Chosen) → ¬ AreChoices task rest o) → ¬ IsJob words job
+no_choices words rest task job t none a =
+    let p = one_beginning words a.rest rest job.task task a.task t in
+    none a.chosen (subst (λ r. AreChoices task r a.chosen) p.1 (subst (λ u. AreChoices u a.rest a.chosen) p.0 a.options))
+
+-- words that begin with those of no task
+pub no_task : (words rest : List (List ℕ)) (word argument : List ℕ) (job : JobView) → words ≡ word ∷ argument ∷ rest → word ≢ codes "gtp" → ((task : Task) → ¬ AreFor word argument task) → ¬ IsJob words job
+no_task words rest word argument job e apart_from none a =
+    by_words _ job.task words a.rest a.task
+    (λ d w. let k : Path (List (List ℕ)) (codes "gtp" ∷ a.rest) (word ∷ argument ∷ rest) = sym w ∙ e in apart_from cc)
+    (λ (other, second, d, b). let k : Path (List (List ℕ)) (other ∷ second ∷ a.rest) (word ∷ argument ∷ rest) = sym d ∙ e in
+    let first : other ≡ word = cc in
+    let then : second ≡ argument = cc in
+    none job.task (subst (λ x. AreFor x argument job.task) first (subst (λ x. AreFor other x job.task) then b)))
+
+pub begins_with_engine : (words rest : List (List ℕ)) (word : List ℕ) → words ≡ word ∷ rest → word ≡ codes "gtp" → BeginWith gtp words rest
+begins_with_engine words rest word e is = e ∙ ap (λ x. x ∷ rest) is
+
+-- words of which none is left behind the first one
+pub lone_word : (words : List (List ℕ)) (word : List ℕ) (job : JobView) → words ≡ word ∷ [] → word ≢ codes "gtp" → ¬ IsJob words job
+lone_word words word job e apart_from a =
+    by_words _ job.task words a.rest a.task
+    (λ d w. let k : Path (List (List ℕ)) (codes "gtp" ∷ a.rest) (word ∷ []) = sym w ∙ e in apart_from cc)
+    (λ (other, second, d, b). let k : Path (List (List ℕ)) (other ∷ second ∷ a.rest) (word ∷ []) = sym d ∙ e in absurd cc)
+
+pub no_words : (words : List (List ℕ)) (job : JobView) → words ≡ [] → ¬ IsJob words job
+no_words words job e a =
+    by_words _ job.task words a.rest a.task
+    (λ d w. let k : Path (List (List ℕ)) (codes "gtp" ∷ a.rest) [] = sym w ∙ e in absurd cc)
+    (λ (other, second, d, b). let k : Path (List (List ℕ)) (other ∷ second ∷ a.rest) [] = sym d ∙ e in absurd cc)
+
+-- what holds of a value where there is one, and what where there is none
+pub map_some : {A : Type 0} (P Q : A → Type 0) (r : Option A) → ((x : A) → P x → Q x) → IfSome r P → IfSome r Q
+map_some P Q None f h = tt
+map_some P Q (Some x) f h = f x h
+
+pub map_none : {A : Type 0} (P Q : Type 0) (r : Option A) → (P → Q) → IfNone r P → IfNone r Q
+map_none P Q None f h = f h
+map_none P Q (Some x) f h = tt

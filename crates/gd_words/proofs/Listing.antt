@@ -121,6 +121,20 @@ two_first [] d e h = absurd (omega (arith, h))
 two_first (a ∷ []) d e h = absurd (omega (arith, h))
 two_first (a ∷ b ∷ left) d e h = ap (λ words. a.now ∷ b.now ∷ texts words) (sym (take_all (length (a ∷ b ∷ left) - 2) left (omega arith)))
 
+pub one_first : (left : List (Bor (List ℕ))) (d : Bor (List ℕ)) → 1 ≤ length left → texts left ≡ (get_or left 0 d).now ∷ texts (take (length left - 1) (drop 1 left))
+one_first [] d h = absurd (omega (arith, h))
+one_first (a ∷ left) d h = ap (λ words. a.now ∷ texts words) (sym (take_all (length (a ∷ left) - 1) left (omega arith)))
+
+-- two words, one behind the other
+pub two_words : (left : List (Bor (List ℕ))) (d e : Bor (List ℕ)) → 1 ≤ length left → 1 ≤ length (take (length left - 1) (drop 1 left))
+    → texts left ≡ (get_or left 0 d).now ∷ (get_or (take (length left - 1) (drop 1 left)) 0 e).now
+    ∷ texts (take (length (take (length left - 1) (drop 1 left)) - 1) (drop 1 (take (length left - 1) (drop 1 left))))
+two_words left d e h k = one_first left d h ∙ ap (λ words. (get_or left 0 d).now ∷ words) (one_first (take (length left - 1) (drop 1 left)) e k)
+
+pub none_there : (left : List (Bor (List ℕ))) → length left < 1 → texts left ≡ []
+none_there [] h = refl
+none_there (a ∷ left) h = absurd (omega (arith, h))
+
 pub read_two : (task : Task) (whole : List (List ℕ)) (left : List (Bor (List ℕ))) (d e : Bor (List ℕ)) (o p : Chosen) (x : Choice) → 2 ≤ length left → IsRead task whole (texts left) o
     → IsChoice (get_or left 0 d).now (get_or left 1 e).now x → GoesWith task x → IsWith o x p → IsRead task whole (texts (take (length left - 2) (drop 2 left))) p
 read_two task whole left d e o p x h r c g w = read_more task whole (texts (take (length left - 2) (drop 2 left))) (get_or left 0 d).now (get_or left 1 e).now o p x (subst (λ words. IsRead task whole words o) (two_first left d e h) r) c g w

@@ -1,5 +1,5 @@
 -- The grammar of the command line, and the job that its words say:
---     words = ( "solve" | "safe" | "values" | "play" ) file { name value } | "trial" number | "calc" expression { name value }
+--     words = ( "solve" | "safe" | "values" | "play" ) file { name value } | "trial" number | "calc" expression { name value } | "gtp" { name value }
 use Rattle.std.specs.Prelude.{◌≡◌, ◌≢◌, ◌∷◌, [], ⊤, ℕ, List, Bool, false, Option, Some, None}
 use Rattle.std.specs.List.{All, AllPairs, Contains}
 use Rattle.std.specs.Option.{unwrap_or}
@@ -9,7 +9,7 @@ use Rattle.gd_words.specs.declared.choice.Choice.{Choice}
 use Rattle.gd_words.specs.declared.choice.Choice.TheVariants.{Komi, Turn, After, BlackPrisoners, WhitePrisoners, Positions, Parts, Engine, Tax}
 use Rattle.gd_words.specs.declared.chosen.Chosen.{Chosen}
 use Rattle.gd_words.specs.Choice.{IsChoice, name_of}
-use Rattle.gd_words.specs.Task.{Task, AreFor, GoesWith}
+use Rattle.gd_words.specs.Task.{Task, BeginWith, GoesWith}
 
 -- the words are the names and values of the options, one after the other
 abbrev pub Spell : List (List ℕ) → List Choice → Type 0
@@ -68,13 +68,10 @@ job_of task chosen = record {
   tax = unwrap_or chosen.tax false;
 }
 
--- the words say the job: two words for the task, and then its options
+-- the words say the job: those of the task, and then its options
 pub record IsJob (words : List (List ℕ)) (job : JobView) : Type 0 where
-  pub word : List ℕ
-  pub argument : List ℕ
   pub rest : List (List ℕ)
-  pub whole : words ≡ word ∷ argument ∷ rest
-  pub task : AreFor word argument job.task
+  pub task : BeginWith job.task words rest
   pub chosen : Chosen
   pub options : AreChoices job.task rest chosen
   pub says : job ≡ job_of job.task chosen

@@ -1,8 +1,10 @@
--- One option more.
-use Rattle.std.specs.Prelude.{◌≡◌, Some, None}
+-- One option more, and the job that a task and its options make.
+use Rattle.std.specs.Prelude.{◌≡◌, ℕ, List, Some, None}
 use Rattle.gd_words.specs.declared.choice.Choice.{Choice}
 use Rattle.gd_words.specs.declared.choice.Choice.TheVariants.{Komi, Turn, After, BlackPrisoners, WhitePrisoners, Positions, Parts, Engine, Tax}
 use Rattle.gd_words.specs.declared.chosen.Chosen.{Chosen}
+use Rattle.gd_words.specs.Task.{Task}
+use Rattle.gd_words.specs.Job.{AreChoices, JobView, job_of}
 
 -- `more` says the option besides, which `o` doesn't say
 abbrev pub IsWith : Chosen → Choice → Chosen → Type 0
@@ -15,3 +17,7 @@ IsWith o (Positions n) more = (o.positions ≡ None) × (more ≡ record o { pos
 IsWith o (Parts n) more = (o.parts ≡ None) × (more ≡ record o { parts = Some n })
 IsWith o (Engine colour) more = (o.engine ≡ None) × (more ≡ record o { engine = Some colour })
 IsWith o (Tax taxed) more = (o.tax ≡ None) × (more ≡ record o { tax = Some taxed })
+
+-- the words are options of the task, and the job is that of the task with them
+abbrev pub IsJobOf : Task → List (List ℕ) → JobView → Type 0
+IsJobOf task words job = (chosen : Chosen) × AreChoices task words chosen × (job ≡ job_of task chosen)

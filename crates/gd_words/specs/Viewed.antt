@@ -3,7 +3,7 @@ use Rattle.std.specs.Prelude.{ℕ, List, map}
 use Rattle.gd_words.specs.declared.job.Command.{Command}
 use Rattle.gd_words.specs.declared.job.Command.TheVariants as command
 use Rattle.gd_words.specs.declared.job.Job.{Job}
-use Rattle.gd_words.specs.Task.{Task, solve, safe, values, play, trial, calc}
+use Rattle.gd_words.specs.Task.{Task, solve, safe, values, play, trial, calc, gtp}
 use Rattle.gd_words.specs.Job.{JobView}
 use denote.Ref.{Bor}
 
@@ -17,6 +17,7 @@ task_of (command.Values file) = values file.now
 task_of (command.Play file) = play file.now
 task_of (command.Trial n) = trial n
 task_of (command.Calc expression) = calc expression.now
+task_of command.Gtp = gtp
 
 abbrev pub viewed : Job → JobView
 viewed job = record {

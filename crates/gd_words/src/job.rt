@@ -9,7 +9,8 @@ use crate::value::read_number;
 use go_grid::Colour;
 use sgf_go::Settings;
 
-/// A command with its file, the number of its board, or its expression. The file `-` is the source, which `Play` never has.
+/// A command with its file, the number of its board, or its expression. The file `-` is the source, which `Play` never has. `Gtp`
+/// has none of these.
 #[derive(Clone, Copy, PartialEq, Eq)]
 pub enum Command<'a> {
     Solve(&'a str),
@@ -18,6 +19,7 @@ pub enum Command<'a> {
     Play(&'a str),
     Trial(u32),
     Calc(&'a str),
+    Gtp,
 }
 
 /// A command and what its options set.
@@ -36,7 +38,7 @@ pub struct Job<'a> {
     pub tax: bool,
 }
 
-/// The command that the first two words ask for.
+/// The command that two words ask for.
 pub fn read_command<'a>(word: &str, argument: &'a str) -> Option<Command<'a>>
     ensures some { IfSome result (λ command. AreFor word.now argument.now (task_of command)) }
     ensures none { IfNone result ((task : Task) → ¬ AreFor word.now argument.now task) }
@@ -67,6 +69,7 @@ impl Command<'_> {
             Command::Play(_) => true,
             Command::Trial(_) => false,
             Command::Calc(_) => matches!(choice, Choice::Parts(_)),
+            Command::Gtp => matches!(choice, Choice::Positions(_) | Choice::Parts(_)),
         }
     }
 }

@@ -28,7 +28,7 @@ const fn of(command: Command<'static>) -> Job<'static> {
 
 #[test]
 fn jobs(rt: HostRuntime) -> Result<(), Fail> {
-    let table: [(&[&str], Job<'static>); 14] = [
+    let table: [(&[&str], Job<'static>); 16] = [
         (&["solve", "c"], PLAIN),
         (&["solve", "-"], of(Command::Solve("-"))),
         (&["safe", "--komi"], of(Command::Safe("--komi"))),
@@ -102,6 +102,15 @@ fn jobs(rt: HostRuntime) -> Result<(), Fail> {
         ),
         (&["solve", "c", "--tax", "yes"], Job { tax: true, ..PLAIN }),
         (&["values", "c", "--tax", "no"], of(Command::Values("c"))),
+        (&["gtp"], of(Command::Gtp)),
+        (
+            &["gtp", "--parts", "1", "--positions", "2"],
+            Job {
+                positions: 2,
+                parts: 1,
+                ..of(Command::Gtp)
+            },
+        ),
     ];
     for (words, job) in table {
         assert!(rt; read(words) == Ok(job));
@@ -111,7 +120,7 @@ fn jobs(rt: HostRuntime) -> Result<(), Fail> {
 
 #[test]
 fn faulty_words(rt: HostRuntime) -> Result<(), Fail> {
-    let table: [&[&str]; 42] = [
+    let table: [&[&str]; 46] = [
         &[],
         &["solve"],
         &["solve", ""],
@@ -151,6 +160,10 @@ fn faulty_words(rt: HostRuntime) -> Result<(), Fail> {
         &["calc"],
         &["calc", ""],
         &["calc", "0", "--positions", "5"],
+        &["gtp", "c"],
+        &["gtp", "c", "--parts", "5"],
+        &["gtp", "--tax", "no"],
+        &["gtp", "--as", "black"],
         &["mend", "c"],
         &["--help"],
         &["--version"],

@@ -1,12 +1,14 @@
 //! The grammar of the command line.
 
-ghost use Rattle.std.specs.Prelude.{◌≡◌, IfOk, IfSome, IfNone, OnErr};
+ghost use Rattle.std.specs.Prelude.{◌≡◌, ◌↔◌, true, codes, IfOk, IfSome, IfNone, OnErr};
 ghost use Rattle.gd_words.specs.Bounds.{IsWithin};
-ghost use Rattle.gd_words.specs.Job.{JobView, IsJob, IsOnlyJob};
-ghost use Rattle.gd_words.specs.Viewed.{texts, viewed};
+ghost use Rattle.gd_words.specs.Job.{AreChoices, JobView, IsJob, IsOnlyJob};
+ghost use Rattle.gd_words.specs.Reading.{IsJobOf};
+ghost use Rattle.gd_words.specs.Viewed.{task_of, texts, viewed};
+ghost use Rattle.gd_words.specs.declared.chosen.Chosen.{Chosen};
 
 use crate::chosen::read_choices;
-use crate::job::{Job, read_command};
+use crate::job::{Command, Job, read_command};
 use thiserror::Error;
 
 /// The words are none of the command line's grammar.
@@ -14,21 +16,43 @@ use thiserror::Error;
 #[error("usage")]
 pub struct Usage;
 
+/// Whether a word asks for the engine.
+fn is_engine(word: &str) -> bool
+    ensures { (result ≡ true) ↔ (word.now ≡ codes "gtp") }
+{
+    word == "gtp"
+}
+
+/// The job of a command whose options the words are.
+fn read_options<'a>(command: Command<'a>, words: &[&str]) -> Option<Job<'a>>
+    ensures job { IfSome result (λ job. IsJobOf (task_of command.entry) (texts words.now) (viewed job)) }
+    ensures none { IfNone result ((chosen : Chosen) → ¬ AreChoices (task_of command.entry) (texts words.now) chosen) }
+{
+    let chosen = read_choices(&command, words)?;
+    Some(chosen.job(command))
+}
+
 fn read_job<'a>(words: &[&'a str]) -> Option<Job<'a>>
     ensures job { IfSome result (λ job. IsOnlyJob (texts words.now) (viewed job)) }
     ensures bounds { IfSome result (λ job. IsWithin (viewed job)) }
     ensures none { IfNone result ((job : JobView) → ¬ IsJob (texts words.now) job) }
 {
-    let [word, argument, rest @ ..] = words else {
+    let [word, behind @ ..] = words else {
+        return None;
+    };
+    if is_engine(word) {
+        return read_options(Command::Gtp, behind);
+    }
+    let [argument, rest @ ..] = behind else {
         return None;
     };
     let command = read_command(word, argument)?;
-    let chosen = read_choices(&command, rest)?;
-    Some(chosen.job(command))
+    read_options(command, rest)
 }
 
 /// The job that the words of a command line say: `solve`, `safe`, `values` or `play` with a file and options, each a
-/// name and a value, `trial` with a number, or `calc` with an expression and options. `Usage` comes exactly where the words have no such form.
+/// name and a value, `trial` with a number, `calc` with an expression and options, or `gtp` with options. `Usage` comes exactly where
+/// the words have no such form.
 pub fn read<'a>(words: &[&'a str]) -> Result<Job<'a>, Usage>
     ensures job { IfOk result (λ job. IsOnlyJob (texts words.now) (viewed job)) }
     ensures bounds { IfOk result (λ job. IsWithin (viewed job)) }

@@ -1,0 +1,98 @@
+-- A session of the engine over the lines of the source: when there is one, which loads may fail, how it ends, and what it writes.
+use Rattle.std.specs.Prelude.{◌≡◌, ◌⊎◌, ◌++◌, ℕ, List, length, codes, take, false, Option, IfSome}
+use Rattle.std.specs.List.Sorted.{IsStrictlyIncreasing}
+use Rattle.std.specs.Io.KnownBytes.{append_known}
+use Rattle.desk_io.specs.Files.{Files}
+use Rattle.desk_io.specs.Outside.{Rose}
+use Rattle.gd_words.specs.Job.{IsOnlyJob, JobView}
+use Rattle.gd_words.specs.Task.Task.{gtp}
+use Rattle.endgame_solver.specs.declared.limits.Limits.{Limits}
+use Rattle.gtp_engine.specs.declared.end.GtpEnd.{GtpEnd}
+use Rattle.gtp_engine.specs.declared.end.GtpEnd.TheVariants as end
+use Rattle.gtp_engine.specs.Laws.{WinIsKept}
+use Rattle.gtp_engine.specs.Session.{Standing, IsSession, Waits, BreaksOff, beginning}
+use Rattle.gtp_engine.specs.Written.{RoseBy}
+use Rattle.endgame_run.specs.declared.status.Status.{Status}
+use Rattle.endgame_run.specs.declared.status.Status.TheVariants.{Done, CannotRead, CannotWrite, Memory, TooManyLines}
+use Rattle.endgame_run.specs.File.{Outside}
+
+-- the limits of an engine, where there is no tax
+abbrev pub engine_limits : JobView → Limits
+engine_limits job = record { positions = job.positions; parts = job.parts; tax = false }
+
+-- the words are the job of the engine within these limits
+abbrev pub AreForEngine : List (List ℕ) → Limits → Type 0
+AreForEngine words limits = (job : JobView) × IsOnlyJob words job × (job.task ≡ gtp) × (limits ≡ engine_limits job)
+
+-- the words ask for the engine
+abbrev pub AskForEngine : List (List ℕ) → Type 0
+AskForEngine words = (limits : Limits) × AreForEngine words limits
+
+-- The numbers of loads that failed while the count of faults went from `before` to `now`: ascending, and no more of them than the number
+-- by which the count rose. Where it stands at its last value there may be any number of them.
+pub record AreFailedLoads (before now : ℕ) (failing : List ℕ) : Type 0 where
+  pub ascending : IsStrictlyIncreasing failing
+  pub counted : RoseBy (length failing) before now
+
+-- a whole session over the bytes, with its end and its text
+abbrev pub IsEngineSession : Limits → Option Files → List ℕ → List ℕ → GtpEnd → List ℕ → Type 0
+IsEngineSession limits files failing bytes final text = (b : Standing) × IsSession limits files failing (beginning bytes) text b final
+
+-- the replies to all lines up to one that is still to be answered
+abbrev pub AreRepliesSoFar : Limits → Option Files → List ℕ → List ℕ → List ℕ → Type 0
+AreRepliesSoFar limits files failing bytes text = (b : Standing) × Waits limits files failing (beginning bytes) text b
+
+-- the ends of a session that is done
+abbrev pub IsSessionOver : GtpEnd → Type 0
+IsSessionOver end.Quit = Unit {0}
+IsSessionOver end.InputEnded = Unit {0}
+IsSessionOver final = ⊥
+
+-- the statuses with which a run of the engine ends
+abbrev pub IsEngineStatus : Status → Type 0
+IsEngineStatus Done = Unit {0}
+IsEngineStatus CannotRead = Unit {0}
+IsEngineStatus CannotWrite = Unit {0}
+IsEngineStatus TooManyLines = Unit {0}
+IsEngineStatus Memory = Unit {0}
+IsEngineStatus s = ⊥
+
+-- the replies up to a fault, and the line of the fault: a read failed, or 10,000 lines were read and none of them ended the session
+abbrev pub IsEngineStopped : Limits → Option Files → List ℕ → List ℕ → Status → List ℕ → List ℕ → Type 0
+IsEngineStopped limits files failing bytes CannotRead text line = AreRepliesSoFar limits files failing bytes text × (line ≡ codes "fault cannot read\n")
+IsEngineStopped limits files failing bytes TooManyLines text line = IsEngineSession limits files failing bytes end.TooManyLines text × (line ≡ codes "fault lines\n")
+IsEngineStopped limits files failing bytes status text line = ⊥
+
+-- What the engine has written in answer to the bytes, by its status: the session, and the line of a fault behind it. For want of memory
+-- it is whole replies. Where a write failed it is replies and a front part of the next one, or a front part of the fault's line.
+abbrev pub IsEngineWritten : Limits → Option Files → List ℕ → List ℕ → Option (List ℕ) → Option (List ℕ) → Status → Type 0
+IsEngineWritten limits files failing bytes before now Done = (final : GtpEnd) × (text : List ℕ) × IsSessionOver final
+    × IsEngineSession limits files failing bytes final text × (now ≡ append_known before text)
+IsEngineWritten limits files failing bytes before now Memory = (text : List ℕ) × AreRepliesSoFar limits files failing bytes text × (now ≡ append_known before text)
+IsEngineWritten limits files failing bytes before now CannotWrite =
+    ((text : List ℕ) × BreaksOff limits files failing (beginning bytes) text × (now ≡ append_known before text))
+    ⊎ ((fault : Status) × (text line : List ℕ) × (n : ℕ) × IsEngineStopped limits files failing bytes fault text line × (now ≡ append_known before (text ++ take n line)))
+IsEngineWritten limits files failing bytes before now status =
+    (text line : List ℕ) × IsEngineStopped limits files failing bytes status text line × (now ≡ append_known before (text ++ line))
+
+-- A session of the engine within the limits: its status, and its text where the source tells its bytes, for some loads that failed. A read
+-- that failed was counted.
+pub record IsEnginePlay (limits : Limits) (o : Outside) (before now : Option (List ℕ)) (status : Status) : Type 0 where
+  pub failing : List ℕ
+  pub failed : AreFailedLoads o.shelf_before o.shelf_now failing
+  pub ends : IsEngineStatus status
+  pub read : status ≡ CannotRead → Rose o.lines_before o.lines_now
+  pub written : IfSome o.left (λ bytes. IsEngineWritten limits o.files failing bytes before now status)
+
+-- the same, for the words that ask for it
+abbrev pub IsEngineRun : List (List ℕ) → Outside → Option (List ℕ) → Option (List ℕ) → Status → Type 0
+IsEngineRun words o before now status = (limits : Limits) × AreForEngine words limits × IsEnginePlay limits o before now status
+
+-- a session of the engine, and in each session the engine keeps what it has won
+abbrev pub IsKeptRun : List (List ℕ) → Outside → Option (List ℕ) → Option (List ℕ) → Status → Type 0
+IsKeptRun words o before now status = IsEngineRun words o before now status × WinIsKept
+
+-- the words ask for the engine, and where the source tells its bytes this holds of the limits, of some loads that failed and of the bytes
+abbrev pub InEngine : List (List ℕ) → Outside → (Limits → List ℕ → List ℕ → Type 0) → Type 0
+InEngine words o holds = (limits : Limits) × (failing : List ℕ) × AreForEngine words limits × AreFailedLoads o.shelf_before o.shelf_now failing
+    × IfSome o.left (λ bytes. holds limits failing bytes)
