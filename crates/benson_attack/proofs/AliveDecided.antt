@@ -3,7 +3,7 @@ use Rattle.std.proofs.Common.{◌≡◌, ℕ, zero, suc, ◌<◌, ◌-◌, ◌�
 use Rattle.std.specs.List.{Contains}
 use Rattle.std.proofs.lemmas.Bool.{cases_eq}
 use Rattle.go_grid.specs.declared.grid.Colour.{Colour}
-use Rattle.go_grid.specs.Grid.{Grid, HasStone, other}
+use Rattle.go_grid.specs.Board.{Board, HasStone, other}
 use Rattle.go_grid.specs.Chain.{InChain, IsLiberty, IsSettled}
 use Rattle.go_play.specs.Place.{IsPlaced, IsSuicide, Placings, Stands}
 use Rattle.benson_life.specs.Life.{HasTwoEyes, IsAlive}
@@ -16,31 +16,31 @@ use Rattle.benson_attack.proofs.PlacingDecided.{has_or_not, liberty_or_not, plac
 use Rattle.benson_attack.proofs.ReachLemmas.{placings_more, reached_first, reached_next, reached_over, reached_under, refused_eyes}
 use Rattle.benson_attack.proofs.RunLemmas.{eyes_wider, healthy_all, two_listed}
 
-module _ (g : Grid) (d : Colour) where
+module _ (g : Board) (d : Colour) where
   -- `m` is reached by placings and has more stones of the colour than `h`
-  abbrev Further : Grid → (ℕ → Type 0) → Grid → Type 0
+  abbrev Further : Board → (ℕ → Type 0) → Board → Type 0
   Further h Under m = IsReached g d Under m × ((ps : List ℕ) × Placings d g ps m) × (number_of d h < number_of d m)
 
-  abbrev Eyes : Grid → ℕ → Type 0
+  abbrev Eyes : Board → ℕ → Type 0
   Eyes h v = HasTwoEyes g (other d) (HasStone h (other d)) v
 
-  abbrev Room : Grid → ℕ → Type 0
+  abbrev Room : Board → ℕ → Type 0
   Room h k = length h.cells - number_of d h < k
 
   -- a placing at one of the liberties below n, or each is refused
-  press : (h : Grid) (v n : ℕ) → ((p : ℕ) × IsLiberty h (other d) v p × ((m : Grid) × IsPlaced h p d m))
+  press : (h : Board) (v n : ℕ) → ((p : ℕ) × IsLiberty h (other d) v p × ((m : Board) × IsPlaced h p d m))
       ⊎ ((p : ℕ) → p < n → IsLiberty h (other d) v p → IsSuicide h p d)
   press h v zero = inr (λ p lt l. absurd (omega (arith, lt)))
-  press h v (suc n) = elim (press h v n) as (λ _. ((p : ℕ) × IsLiberty h (other d) v p × ((m : Grid) × IsPlaced h p d m))
+  press h v (suc n) = elim (press h v n) as (λ _. ((p : ℕ) × IsLiberty h (other d) v p × ((m : Board) × IsPlaced h p d m))
       ⊎ ((p : ℕ) → p < suc n → IsLiberty h (other d) v p → IsSuicide h p d)) [
         | inl w ↦ inl w
-        | inr below ↦ elim (liberty_or_not h (other d) v n) as (λ _. ((p : ℕ) × IsLiberty h (other d) v p × ((m : Grid) × IsPlaced h p d m))
+        | inr below ↦ elim (liberty_or_not h (other d) v n) as (λ _. ((p : ℕ) × IsLiberty h (other d) v p × ((m : Board) × IsPlaced h p d m))
             ⊎ ((p : ℕ) → p < suc n → IsLiberty h (other d) v p → IsSuicide h p d)) [
               | inr not ↦ inr (λ p lt l. elim (cases_eq p n) as (λ _. IsSuicide h p d) [
                 | inl e ↦ absurd (not (subst (IsLiberty h (other d) v) e l))
                 | inr ne ↦ below p (omega (arith, lt, ne)) l
               ])
-              | inl at ↦ elim (placed_or_not h n d at.0) as (λ _. ((p : ℕ) × IsLiberty h (other d) v p × ((m : Grid) × IsPlaced h p d m))
+              | inl at ↦ elim (placed_or_not h n d at.0) as (λ _. ((p : ℕ) × IsLiberty h (other d) v p × ((m : Board) × IsPlaced h p d m))
                   ⊎ ((p : ℕ) → p < suc n → IsLiberty h (other d) v p → IsSuicide h p d)) [
                     | inl placed ↦ inl (n, at, placed)
                     | inr suicide ↦ inr (λ p lt l. elim (cases_eq p n) as (λ _. IsSuicide h p d) [
@@ -52,10 +52,10 @@ module _ (g : Grid) (d : Colour) where
       ]
 
   -- the chain is taken, or it has two eyes among the stones that stand
-  capture : (k : ℕ) (h : Grid) (v : ℕ) → IsReached g d (InChain g (other d) v) h → ((ps : List ℕ) × Placings d g ps h) → HasStone h (other d) v
-      → Room h k → ((m : Grid) × Further h (λ _. ⊥) m) ⊎ Eyes h v
+  capture : (k : ℕ) (h : Board) (v : ℕ) → IsReached g d (InChain g (other d) v) h → ((ps : List ℕ) × Placings d g ps h) → HasStone h (other d) v
+      → Room h k → ((m : Board) × Further h (λ _. ⊥) m) ⊎ Eyes h v
   capture zero h v w run s room = absurd (omega (arith, room))
-  capture (suc k) h v w run s room = elim (press h v (length h.cells)) as (λ _. ((m : Grid) × Further h (λ _. ⊥) m) ⊎ Eyes h v) [
+  capture (suc k) h v w run s room = elim (press h v (length h.cells)) as (λ _. ((m : Board) × Further h (λ _. ⊥) m) ⊎ Eyes h v) [
     | inr refused ↦
         let (points, each) = points_of (IsLiberty h (other d) v) (liberty_or_not h (other d) v) (length h.cells) in
         let r = two_listed h d v (λ p l. refused p l.0.0 l) (w.breathes v s) points (λ p. (λ at. ((each p).0 at).1, λ l. (each p).1 (l.0.0, l))) in
@@ -65,9 +65,9 @@ module _ (g : Grid) (d : Colour) where
         let more : (ps : List ℕ) × Placings d g ps m = (run.0 ++ p ∷ [], placings_more d g run.0 h p m run.1 placed) in
         let up = rises h d p m placed in
         let less = falls d h m (long h d p m placed.free placed.without) up in
-        elim (has_or_not m (other d) v) as (λ _. ((m : Grid) × Further h (λ _. ⊥) m) ⊎ Eyes h v) [
+        elim (has_or_not m (other d) v) as (λ _. ((m : Board) × Further h (λ _. ⊥) m) ⊎ Eyes h v) [
           | inr gone ↦ inl (m, (reached_over g d v m next gone, more, up))
-          | inl stands ↦ elim (capture k m v next more stands (omega (arith, room, less))) as (λ _. ((m : Grid) × Further h (λ _. ⊥) m) ⊎ Eyes h v) [
+          | inl stands ↦ elim (capture k m v next more stands (omega (arith, room, less))) as (λ _. ((m : Board) × Further h (λ _. ⊥) m) ⊎ Eyes h v) [
             | inl (n, (rest, placings, far)) ↦ inl (n, (rest, placings, omega (arith, far, up)))
             | inr eyes ↦ inr (eyes_wider g (other d) (HasStone m (other d)) (HasStone h (other d)) (stood_earlier h d p m placed) v eyes)
           ]
@@ -75,20 +75,20 @@ module _ (g : Grid) (d : Colour) where
   ]
 
   -- some chain is taken, or each stone below n that stands has two eyes
-  advance : (h : Grid) → IsReached g d (λ _. ⊥) h → ((ps : List ℕ) × Placings d g ps h) → (n : ℕ)
-      → ((m : Grid) × Further h (λ _. ⊥) m) ⊎ ((v : ℕ) → v < n → HasStone h (other d) v → Eyes h v)
+  advance : (h : Board) → IsReached g d (λ _. ⊥) h → ((ps : List ℕ) × Placings d g ps h) → (n : ℕ)
+      → ((m : Board) × Further h (λ _. ⊥) m) ⊎ ((v : ℕ) → v < n → HasStone h (other d) v → Eyes h v)
   advance h w run zero = inr (λ v lt s. absurd (omega (arith, lt)))
   advance h w run (suc n) = elim (advance h w run n)
-      as (λ _. ((m : Grid) × Further h (λ _. ⊥) m) ⊎ ((v : ℕ) → v < suc n → HasStone h (other d) v → Eyes h v)) [
+      as (λ _. ((m : Board) × Further h (λ _. ⊥) m) ⊎ ((v : ℕ) → v < suc n → HasStone h (other d) v → Eyes h v)) [
         | inl found ↦ inl found
         | inr below ↦ elim (has_or_not h (other d) n)
-            as (λ _. ((m : Grid) × Further h (λ _. ⊥) m) ⊎ ((v : ℕ) → v < suc n → HasStone h (other d) v → Eyes h v)) [
+            as (λ _. ((m : Board) × Further h (λ _. ⊥) m) ⊎ ((v : ℕ) → v < suc n → HasStone h (other d) v → Eyes h v)) [
               | inr not ↦ inr (λ v lt s. elim (cases_eq v n) as (λ _. Eyes h v) [
                 | inl e ↦ absurd (not (subst (HasStone h (other d)) e s))
                 | inr ne ↦ below v (omega (arith, lt, ne)) s
               ])
               | inl at ↦ elim (capture (suc (length h.cells - number_of d h)) h n (reached_under g d h (InChain g (other d) n) w) run at (omega arith))
-                  as (λ _. ((m : Grid) × Further h (λ _. ⊥) m) ⊎ ((v : ℕ) → v < suc n → HasStone h (other d) v → Eyes h v)) [
+                  as (λ _. ((m : Board) × Further h (λ _. ⊥) m) ⊎ ((v : ℕ) → v < suc n → HasStone h (other d) v → Eyes h v)) [
                     | inl found ↦ inl found
                     | inr eyes ↦ inr (λ v lt s. elim (cases_eq v n) as (λ _. Eyes h v) [
                       | inl e ↦ subst (Eyes h) (sym e) eyes
@@ -99,10 +99,10 @@ module _ (g : Grid) (d : Colour) where
       ]
 
   -- a board on which each stone that stands has two eyes
-  finish : (k : ℕ) (h : Grid) → IsReached g d (λ _. ⊥) h → ((ps : List ℕ) × Placings d g ps h) → Room h k
-      → (m : Grid) × IsReached g d (λ _. ⊥) m × ((ps : List ℕ) × Placings d g ps m) × ((v : ℕ) → HasStone m (other d) v → Eyes m v)
+  finish : (k : ℕ) (h : Board) → IsReached g d (λ _. ⊥) h → ((ps : List ℕ) × Placings d g ps h) → Room h k
+      → (m : Board) × IsReached g d (λ _. ⊥) m × ((ps : List ℕ) × Placings d g ps m) × ((v : ℕ) → HasStone m (other d) v → Eyes m v)
   finish zero h w run room = absurd (omega (arith, room))
-  finish (suc k) h w run room = elim (advance h w run (length h.cells)) as (λ _. (m : Grid) × IsReached g d (λ _. ⊥) m
+  finish (suc k) h w run room = elim (advance h w run (length h.cells)) as (λ _. (m : Board) × IsReached g d (λ _. ⊥) m
       × ((ps : List ℕ) × Placings d g ps m) × ((v : ℕ) → HasStone m (other d) v → Eyes m v)) [
         | inl (m, (next, more, up)) ↦
             let same : length m.cells ≡ length h.cells = next.long ∙ sym w.long in
@@ -112,10 +112,10 @@ module _ (g : Grid) (d : Colour) where
       ]
 
   pub alive_or_taken : IsSettled g → (s : ℕ) → HasStone g (other d) s
-      → IsAlive g (other d) s ⊎ ((ps : List ℕ) × (h : Grid) × Placings d g ps h × (HasStone h (other d) s → ⊥))
+      → IsAlive g (other d) s ⊎ ((ps : List ℕ) × (h : Board) × Placings d g ps h × (HasStone h (other d) s → ⊥))
   alive_or_taken settled s at =
       let (m, w, (ps, run), eyes) = finish (suc (length g.cells - number_of d g)) g (reached_first g d settled) ([], refl) (omega arith) in
-      elim (has_or_not m (other d) s) as (λ _. IsAlive g (other d) s ⊎ ((ps : List ℕ) × (h : Grid) × Placings d g ps h × (HasStone h (other d) s → ⊥))) [
+      elim (has_or_not m (other d) s) as (λ _. IsAlive g (other d) s ⊎ ((ps : List ℕ) × (h : Board) × Placings d g ps h × (HasStone h (other d) s → ⊥))) [
         | inr gone ↦ inr (ps, m, run, gone)
         | inl stands ↦
             let (points, each) = points_of (HasStone m (other d)) (has_or_not m (other d)) (length m.cells) in
@@ -124,7 +124,7 @@ module _ (g : Grid) (d : Colour) where
       ]
 
 -- a stone is alive exactly where it stands against every list of placings
-pub alive_stands : (g : Grid) (c : Colour) (s : ℕ) → IsSettled g → HasStone g c s → IsAlive g c s ↔ Stands g c s
+pub alive_stands : (g : Board) (c : Colour) (s : ℕ) → IsSettled g → HasStone g c s → IsAlive g c s ↔ Stands g c s
 alive_stands g c s settled at = (
   λ alive. healthy_stands g c alive.0 settled alive.1 s alive.2,
   λ stands. elim (alive_or_taken g (other c) settled s (subst (λ x. HasStone g x s) (sym (twice c)) at)) as (λ _. IsAlive g c s) [

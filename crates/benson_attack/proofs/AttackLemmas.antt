@@ -3,8 +3,8 @@ use Rattle.std.proofs.Common.{◌≡◌, ℕ, List, refl, subst}
 use Rattle.go_grid.specs.declared.grid.Colour.{Colour}
 use Rattle.go_grid.specs.declared.grid.Colour.TheVariants as colour
 use Rattle.go_grid.specs.Chain.{IsSettled}
-use Rattle.go_grid.specs.Grid.{Grid, HasStone, other}
-use Rattle.go_grid.proofs.GridLemmas.{one_colour}
+use Rattle.go_grid.specs.Board.{Board, HasStone, other}
+use Rattle.go_grid.proofs.BoardLemmas.{one_colour}
 use Rattle.go_play.specs.Place.{Placings}
 use Rattle.benson_life.specs.Life.{IsAlive}
 use Rattle.benson_life.proofs.StandLemmas.{healthy_stands}
@@ -14,7 +14,7 @@ pub twice : (c : Colour) → other (other c) ≡ c
 twice colour.Black = refl
 twice colour.White = refl
 
-attack_of : (g : Grid) (c : Colour) (s : ℕ) (ps : List ℕ) → HasStone g c s → Takes g (other c) s ps → IsAttack g c s ps
+attack_of : (g : Board) (c : Colour) (s : ℕ) (ps : List ℕ) → HasStone g c s → Takes g (other c) s ps → IsAttack g c s ps
 attack_of g c s ps at t =
     let gone : ¬ HasStone t.0 c s = subst (λ x. ¬ HasStone t.0 x s) (twice c) t.3 in record {
       short = t.2;
@@ -24,13 +24,13 @@ attack_of g c s ps at t =
       gone = gone;
     }
 
-pub attack_on : (g : Grid) (c d : Colour) (s : ℕ) (ps : List ℕ) → d ≡ other c → HasStone g c s → Takes g d s ps
+pub attack_on : (g : Board) (c d : Colour) (s : ℕ) (ps : List ℕ) → d ≡ other c → HasStone g c s → Takes g d s ps
     → (b : Colour) → HasStone g b s → IsAttack g b s ps
 attack_on g c d s ps e at t b there =
     subst (λ x. IsAttack g x s ps) (one_colour g c b s at there)
     (attack_of g c s ps at (subst (λ x. Takes g x s ps) e t))
 
-pub not_alive : (g : Grid) (c d : Colour) (s : ℕ) (ps : List ℕ) → IsSettled g → d ≡ other c → HasStone g c s → Takes g d s ps
+pub not_alive : (g : Board) (c d : Colour) (s : ℕ) (ps : List ℕ) → IsSettled g → d ≡ other c → HasStone g c s → Takes g d s ps
     → (b : Colour) → ¬ IsAlive g b s
 not_alive g c d s ps settled e at t b alive =
     let there = alive.1.stones s alive.2 in

@@ -7,7 +7,7 @@ use Rattle.go_grid.specs.declared.grid.Cell.{Cell}
 use Rattle.go_grid.specs.declared.grid.Cell.TheVariants as cell
 use Rattle.go_grid.specs.declared.grid.Colour.{Colour}
 use Rattle.go_grid.specs.declared.grid.Colour.TheVariants as colour
-use Rattle.go_grid.specs.Grid.{Grid, stone, cell_at}
+use Rattle.go_grid.specs.Board.{Board, stone, cell_at}
 use Rattle.go_play.specs.Place.{with_stone, IsPlaced}
 use Rattle.benson_life.proofs.StandLemmas.{not_both}
 use Rattle.benson_attack.specs.Reached.{is_of, number_of}
@@ -46,7 +46,7 @@ empty_isn't : (d : Colour) → is_of d cell.Empty ≡ false
 empty_isn't colour.Black = refl
 empty_isn't colour.White = refl
 
-pub rises : (h : Grid) (d : Colour) (p : ℕ) (m : Grid) → IsPlaced h p d m → number_of d h < number_of d m
+pub rises : (h : Board) (d : Colour) (p : ℕ) (m : Board) → IsPlaced h p d m → number_of d h < number_of d m
 rises h d p m placed =
     let once = sum_by-set (λ y. cond (is_of d y) 1 0) h.cells p (stone d) cell.Empty placed.free.0 in
     let was : is_of d (cell_at h p) ≡ false = ap (is_of d) placed.free.1 ∙ empty_isn't d in
@@ -57,6 +57,6 @@ rises h d p m placed =
     omega (arith, more, stays)
 
 -- so fewer points are without one
-pub falls : (d : Colour) (g h : Grid) → length h.cells ≡ length g.cells → number_of d g < number_of d h
+pub falls : (d : Colour) (g h : Board) → length h.cells ≡ length g.cells → number_of d g < number_of d h
     → length h.cells - number_of d h < length g.cells - number_of d g
 falls d g h long more = omega (arith, long, more, count_by-le-length (is_of d) h.cells)

@@ -4,7 +4,7 @@ use Rattle.std.proofs.lemmas.Bool.{cases_eq}
 use Rattle.std.proofs.lemmas.List.{length-set, get_or-set_same, get_or-set_other}
 use Rattle.go_grid.specs.declared.grid.Cell.TheVariants as cell
 use Rattle.go_grid.specs.declared.grid.Colour.{Colour}
-use Rattle.go_grid.specs.Grid.{Grid, HasStone, IsEmpty, Lacks, cell_at, stone, other}
+use Rattle.go_grid.specs.Board.{Board, HasStone, IsEmpty, Lacks, cell_at, stone, other}
 use Rattle.go_grid.specs.Chain.{InChain, IsLiberty, HasLiberty}
 use Rattle.go_grid.proofs.NearLemmas.{next_back}
 use Rattle.go_grid.proofs.WalkLemmas.{joined_here, joined_step, joined_start, joined_join, joined_back, joined_more, carried}
@@ -13,7 +13,7 @@ use Rattle.benson_life.specs.Life.{InRegion}
 use Rattle.benson_life.proofs.StandLemmas.{empty_or_other, empty_not_stone, not_both}
 
 -- the board with a stone of `d` more at the empty point `p`, and `m` is that board without what the stone takes
-module _ (h : Grid) (d : Colour) (p : ℕ) (m : Grid) (free : IsEmpty h p)
+module _ (h : Board) (d : Colour) (p : ℕ) (m : Board) (free : IsEmpty h p)
     (without : IsWithout (with_stone h p d) (IsTaken (with_stone h p d) p (other d)) m) where
   pub long : length m.cells ≡ length h.cells
   long = without.long ∙ length-set h.cells p (stone d)
@@ -110,11 +110,11 @@ module _ (h : Grid) (d : Colour) (p : ℕ) (m : Grid) (free : IsEmpty h p)
       )
 
 -- what stands after a placing wasn't taken, and stood before
-pub still : (h : Grid) (d : Colour) (p : ℕ) (m : Grid) → IsPlaced h p d m → (x : ℕ) → HasStone m (other d) x
+pub still : (h : Board) (d : Colour) (p : ℕ) (m : Board) → IsPlaced h p d m → (x : ℕ) → HasStone m (other d) x
     → ¬ IsTaken (with_stone h p d) p (other d) x
 still h d p m placed x s t = empty_not_stone (other d) (sym (placed.without.gone x t) ∙ s.1)
 
-pub stood_earlier : (h : Grid) (d : Colour) (p : ℕ) (m : Grid) → IsPlaced h p d m → (x : ℕ) → HasStone m (other d) x → HasStone h (other d) x
+pub stood_earlier : (h : Board) (d : Colour) (p : ℕ) (m : Board) → IsPlaced h p d m → (x : ℕ) → HasStone m (other d) x → HasStone h (other d) x
 stood_earlier h d p m placed x s =
     let same = placed.without.kept x (still h d p m placed x s) in
     let on : x < length h.cells = rw (placed.without.long ∙ length-set h.cells p (stone d)) at s.0 in

@@ -5,7 +5,7 @@ use Rattle.std.proofs.lemmas.Bool.{cases_eq, cases_lt}
 use Rattle.go_grid.specs.declared.grid.Cell.{Cell}
 use Rattle.go_grid.specs.declared.grid.Cell.TheVariants as cell
 use Rattle.go_grid.specs.declared.grid.Colour.{Colour}
-use Rattle.go_grid.specs.Grid.{Grid, DifferByOne, NextTo, HasStone, IsEmpty, cell_at, other}
+use Rattle.go_grid.specs.Board.{Board, DifferByOne, NextTo, HasStone, IsEmpty, cell_at, other}
 use Rattle.go_grid.specs.Chain.{InChain, IsLiberty, HasLiberty}
 use Rattle.go_grid.proofs.Decided.{Decided, alike, both, either, leads_or_not, some_below}
 use Rattle.go_grid.proofs.WalkLemmas.{joined_end}
@@ -65,27 +65,27 @@ next_or_not c p q =
     either _ _ (both _ _ (cases_eq (p / c) (q / c)) (differ_or_not (p % c) (q % c)))
     (both _ _ (cases_eq (p % c) (q % c)) (differ_or_not (p / c) (q / c)))
 
-pub has_or_not : (g : Grid) (c : Colour) (p : ℕ) → Decided (HasStone g c p)
+pub has_or_not : (g : Board) (c : Colour) (p : ℕ) → Decided (HasStone g c p)
 has_or_not g c p = both _ _ (lt_or_not p (length g.cells)) (stone_or_not (cell_at g p) c)
 
-chain_or_not : (g : Grid) (c : Colour) (s q : ℕ) → Decided (InChain g c s q)
+chain_or_not : (g : Board) (c : Colour) (s q : ℕ) → Decided (InChain g c s q)
 chain_or_not g c = leads_or_not (NextTo g.columns) (HasStone g c) (length g.cells) (λ i h. h.0) (next_or_not g.columns) (has_or_not g c)
 
-reaches_or_not : (g : Grid) (c : Colour) (s p : ℕ) → Decided ((q : ℕ) × InChain g c s q × NextTo g.columns q p)
+reaches_or_not : (g : Board) (c : Colour) (s p : ℕ) → Decided ((q : ℕ) × InChain g c s q × NextTo g.columns q p)
 reaches_or_not g c s p =
     alike ((q : ℕ) × (InChain g c s q × NextTo g.columns q p)) ((q : ℕ) × InChain g c s q × NextTo g.columns q p)
     (λ w. (w.0, w.1.0, w.1.1)) (λ w. (w.0, (w.1, w.2)))
     (some_or_not (length g.cells) (λ q. InChain g c s q × NextTo g.columns q p) (λ q w. (joined_end g.columns (HasStone g c) s q w.0).0)
     (λ q. both _ _ (chain_or_not g c s q) (next_or_not g.columns q p)))
 
-pub liberty_or_not : (g : Grid) (c : Colour) (s p : ℕ) → Decided (IsLiberty g c s p)
+pub liberty_or_not : (g : Board) (c : Colour) (s p : ℕ) → Decided (IsLiberty g c s p)
 liberty_or_not g c s p =
     both _ _ (both _ _ (lt_or_not p (length g.cells)) (empty_cell (cell_at g p))) (reaches_or_not g c s p)
 
-breath_or_not : (g : Grid) (c : Colour) (s : ℕ) → Decided (HasLiberty g c s)
+breath_or_not : (g : Board) (c : Colour) (s : ℕ) → Decided (HasLiberty g c s)
 breath_or_not g c s = some_or_not (length g.cells) (IsLiberty g c s) (λ p l. l.0.0) (liberty_or_not g c s)
 
-taken_or_not : (g : Grid) (p : ℕ) (d : Colour) (q : ℕ) → Decided (IsTaken g p d q)
+taken_or_not : (g : Board) (p : ℕ) (d : Colour) (q : ℕ) → Decided (IsTaken g p d q)
 taken_or_not g p d q = elim (has_or_not g d q) as (λ _. Decided (IsTaken g p d q)) [
   | inr not ↦ inr (λ t. not t.0)
   | inl at ↦ elim (reaches_or_not g d q p) as (λ _. Decided (IsTaken g p d q)) [
@@ -131,11 +131,11 @@ cleared_kept Gone gone (x ∷ xs) zero not = emptied_kept (Gone zero) (gone zero
 cleared_kept Gone gone (x ∷ xs) (suc q) not = cleared_kept (λ q. Gone (suc q)) (λ q. gone (suc q)) xs q not
 
 -- a placing at an empty point is legal, or it is suicide
-pub placed_or_not : (g : Grid) (p : ℕ) (d : Colour) → IsEmpty g p → ((m : Grid) × IsPlaced g p d m) ⊎ IsSuicide g p d
+pub placed_or_not : (g : Board) (p : ℕ) (d : Colour) → IsEmpty g p → ((m : Board) × IsPlaced g p d m) ⊎ IsSuicide g p d
 placed_or_not g p d free =
     let b = with_stone g p d in
     let gone : (q : ℕ) → Decided (IsTaken b p (other d) q) = taken_or_not b p (other d) in
-    let m : Grid = record { columns = b.columns; rows = b.rows; cells = cleared (IsTaken b p (other d)) gone b.cells } in
+    let m : Board = record { columns = b.columns; rows = b.rows; cells = cleared (IsTaken b p (other d)) gone b.cells } in
     let without : IsWithout b (IsTaken b p (other d)) m = record {
       columns = refl;
       rows = refl;
@@ -143,7 +143,7 @@ placed_or_not g p d free =
       gone = cleared_gone (IsTaken b p (other d)) gone b.cells;
       kept = cleared_kept (IsTaken b p (other d)) gone b.cells;
     } in
-    elim (breath_or_not m d p) as (λ _. ((m : Grid) × IsPlaced g p d m) ⊎ IsSuicide g p d) [
+    elim (breath_or_not m d p) as (λ _. ((m : Board) × IsPlaced g p d m) ⊎ IsSuicide g p d) [
       | inl l ↦ inl (m, record { free = free; without = without; breathes = l })
       | inr n ↦ inr (m, without, n)
     ]

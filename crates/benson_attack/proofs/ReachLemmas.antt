@@ -4,7 +4,7 @@ use Rattle.std.proofs.lemmas.Bool.{cases_eq}
 use Rattle.std.proofs.lemmas.List.{length-set, get_or-set_other}
 use Rattle.go_grid.specs.declared.grid.Cell.TheVariants as cell
 use Rattle.go_grid.specs.declared.grid.Colour.{Colour}
-use Rattle.go_grid.specs.Grid.{Grid, NextTo, HasStone, IsEmpty, Lacks, cell_at, stone, other}
+use Rattle.go_grid.specs.Board.{Board, NextTo, HasStone, IsEmpty, Lacks, cell_at, stone, other}
 use Rattle.go_grid.specs.Walk.{Joined}
 use Rattle.go_grid.specs.Chain.{InChain, IsLiberty, HasLiberty, IsSettled}
 use Rattle.go_grid.proofs.NearLemmas.{next_back}
@@ -15,7 +15,7 @@ use Rattle.benson_life.proofs.StandLemmas.{stone_or_not, empty_or_other, empty_n
 use Rattle.benson_attack.specs.Reached.{IsReached}
 use Rattle.benson_attack.proofs.LegalLemmas.{room, stays_empty, with_other, had_liberty, still, stood_earlier}
 
-module _ (g : Grid) (d : Colour) (Under : ℕ → Type 0) (h : Grid) (w : IsReached g d Under h) where
+module _ (g : Board) (d : Colour) (Under : ℕ → Type 0) (h : Board) (w : IsReached g d Under h) where
   -- a chain was the same stones or more
   pub chain_before : (s q : ℕ) → InChain h (other d) s q → InChain g (other d) s q
   chain_before s q j =
@@ -42,7 +42,7 @@ module _ (g : Grid) (d : Colour) (Under : ℕ → Type 0) (h : Grid) (w : IsReac
       (joined_more g.columns (Lacks g (other d)) (Lacks h (other d)) lacks_more r x j)
 
 -- a region that is vital to a stone under attack was an eye of it from the first
-module _ (g : Grid) (d : Colour) (v : ℕ) (h : Grid) (w : IsReached g d (InChain g (other d) v) h) (r : ℕ)
+module _ (g : Board) (d : Colour) (v : ℕ) (h : Board) (w : IsReached g d (InChain g (other d) v) h) (r : ℕ)
     (vital : IsVital h (other d) r v) where
   none_taken : (x : ℕ) → InRegion h (other d) r x → ¬ HasStone g (other d) x
   none_taken x j at =
@@ -85,14 +85,14 @@ module _ (g : Grid) (d : Colour) (v : ℕ) (h : Grid) (w : IsReached g d (InChai
   }
 
 -- an empty point where a placing is refused, and which is a liberty, is the only empty point of its region
-vital_alone : (h : Grid) (d : Colour) (v p : ℕ) → IsLiberty h (other d) v p → IsSuicide h p d → IsVital h (other d) p v
+vital_alone : (h : Board) (d : Colour) (v p : ℕ) → IsLiberty h (other d) v p → IsSuicide h p d → IsVital h (other d) p v
 vital_alone h d v p l refused e at empty = elim (cases_eq e p) as (λ _. IsLiberty h (other d) v e) [
   | inl k ↦ rw k l
   | inr ne ↦ absurd (refused.2 (room h d p refused.0 l.0 refused.1 e at empty ne))
 ]
 
 -- two liberties at which placings are refused are two eyes
-pub refused_eyes : (g : Grid) (d : Colour) (v : ℕ) (h : Grid) → IsReached g d (InChain g (other d) v) h → (p q : ℕ) → p ≢ q
+pub refused_eyes : (g : Board) (d : Colour) (v : ℕ) (h : Board) → IsReached g d (InChain g (other d) v) h → (p q : ℕ) → p ≢ q
     → IsLiberty h (other d) v p → IsSuicide h p d → IsLiberty h (other d) v q → IsSuicide h q d
     → HasTwoEyes g (other d) (HasStone h (other d)) v
 refused_eyes g d v h w p q ne lp sp lq sq = (
@@ -107,7 +107,7 @@ refused_eyes g d v h w p q ne lp sp lq sq = (
 )
 
 -- the first board, and a chain that comes under attack
-pub reached_first : (g : Grid) (d : Colour) → IsSettled g → IsReached g d (λ _. ⊥) g
+pub reached_first : (g : Board) (d : Colour) → IsSettled g → IsReached g d (λ _. ⊥) g
 reached_first g d settled = record {
   columns = refl;
   long = refl;
@@ -118,7 +118,7 @@ reached_first g d settled = record {
   filled = λ q e s. absurd (empty_not_stone d (sym e.1 ∙ s.1));
 }
 
-pub reached_under : (g : Grid) (d : Colour) (h : Grid) (Under : ℕ → Type 0) → IsReached g d (λ _. ⊥) h → IsReached g d Under h
+pub reached_under : (g : Board) (d : Colour) (h : Board) (Under : ℕ → Type 0) → IsReached g d (λ _. ⊥) h → IsReached g d Under h
 reached_under g d h Under w = record {
   columns = w.columns;
   long = w.long;
@@ -130,7 +130,7 @@ reached_under g d h Under w = record {
 }
 
 -- the chain under attack is taken
-pub reached_over : (g : Grid) (d : Colour) (v : ℕ) (h : Grid) → IsReached g d (InChain g (other d) v) h → ¬ HasStone h (other d) v
+pub reached_over : (g : Board) (d : Colour) (v : ℕ) (h : Board) → IsReached g d (InChain g (other d) v) h → ¬ HasStone h (other d) v
     → IsReached g d (λ _. ⊥) h
 reached_over g d v h w gone = record {
   columns = w.columns;
@@ -145,8 +145,8 @@ reached_over g d v h w gone = record {
 }
 
 -- one placing at a liberty of the chain under attack
-module _ (g : Grid) (d : Colour) (v : ℕ) (h : Grid) (w : IsReached g d (InChain g (other d) v) h) (p : ℕ)
-    (liberty : IsLiberty h (other d) v p) (m : Grid) (placed : IsPlaced h p d m) where
+module _ (g : Board) (d : Colour) (v : ℕ) (h : Board) (w : IsReached g d (InChain g (other d) v) h) (p : ℕ)
+    (liberty : IsLiberty h (other d) v p) (m : Board) (placed : IsPlaced h p d m) where
   columns : m.columns ≡ g.columns
   columns = placed.without.columns ∙ w.columns
 
@@ -258,7 +258,7 @@ module _ (g : Grid) (d : Colour) (v : ℕ) (h : Grid) (w : IsReached g d (InChai
     filled = filled;
   }
 
-pub placings_more : (d : Colour) (g : Grid) (ps : List ℕ) (h : Grid) (p : ℕ) (m : Grid) → Placings d g ps h → IsPlaced h p d m
+pub placings_more : (d : Colour) (g : Board) (ps : List ℕ) (h : Board) (p : ℕ) (m : Board) → Placings d g ps h → IsPlaced h p d m
     → Placings d g (ps ++ p ∷ []) m
 placings_more d g [] h p m run placed = (m, subst (λ x. IsPlaced x p d m) (sym run) placed, refl)
 placings_more d g (q ∷ ps) h p m run placed = (run.0, run.1, placings_more d run.0 ps h p m run.2 placed)

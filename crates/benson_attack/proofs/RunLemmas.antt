@@ -4,7 +4,7 @@ use Rattle.std.specs.List.{Contains}
 use Rattle.std.proofs.lemmas.Bool.{cases_eq}
 use Rattle.std.proofs.lemmas.List.{length-append}
 use Rattle.go_grid.specs.declared.grid.Colour.{Colour}
-use Rattle.go_grid.specs.Grid.{Grid, HasStone, other}
+use Rattle.go_grid.specs.Board.{Board, HasStone, other}
 use Rattle.go_grid.specs.Chain.{InChain, IsLiberty, HasLiberty, IsSettled}
 use Rattle.go_grid.specs.Marks.{Marks}
 use Rattle.go_grid.proofs.PointsLemmas.{some_list}
@@ -40,7 +40,7 @@ same_or_apart p (x ∷ xs) = elim (cases_eq p x)
     ]
 
 -- where each placing at a liberty is refused, there are two
-pub two_listed : (h : Grid) (d : Colour) (v : ℕ) → ((p : ℕ) → IsLiberty h (other d) v p → IsSuicide h p d) → ¬ ¬ HasLiberty h (other d) v
+pub two_listed : (h : Board) (d : Colour) (v : ℕ) → ((p : ℕ) → IsLiberty h (other d) v p → IsSuicide h p d) → ¬ ¬ HasLiberty h (other d) v
     → (points : List ℕ) → ((p : ℕ) → Contains points p ↔ IsLiberty h (other d) v p) → HasRefusals h d v
 two_listed h d v refused some [] each = absurd (some (λ l. omega (arith, ((each l.0).1 l.1).1)))
 two_listed h d v refused some (p ∷ points) each =
@@ -65,7 +65,7 @@ two_listed h d v refused some (p ∷ points) each =
           }
     ]
 
-pub two_refused : (h : Grid) (d : Colour) (v : ℕ) (liberties : List Bool) → Marks liberties (IsLiberty h (other d) v)
+pub two_refused : (h : Board) (d : Colour) (v : ℕ) (liberties : List Bool) → Marks liberties (IsLiberty h (other d) v)
     → ((p : ℕ) → IsLiberty h (other d) v p → IsSuicide h p d) → ¬ ¬ HasLiberty h (other d) v → HasRefusals h d v
 two_refused h d v liberties is refused some =
     let (points, listed) = some_list liberties in
@@ -111,7 +111,7 @@ pressed_taken d v old now w gone = record {
   more = elim w.more as (λ _. number_of d old.board < number_of d now.board) [ inl s ↦ absurd (gone s) | inr lt ↦ lt ];
 }
 
-pub eyes_wider : (g : Grid) (c : Colour) (In More : ℕ → Type 0) → ((q : ℕ) → In q → More q) → (s : ℕ) → HasTwoEyes g c In s
+pub eyes_wider : (g : Board) (c : Colour) (In More : ℕ → Type 0) → ((q : ℕ) → In q → More q) → (s : ℕ) → HasTwoEyes g c In s
     → HasTwoEyes g c More s
 eyes_wider g c In More wider s two = (two.0, two.1, eye two.0 two.2, eye two.1 two.3, two.4)
   where
@@ -121,7 +121,7 @@ eyes_wider g c In More wider s two = (two.0, two.1, eye two.0 two.2, eye two.1 t
 -- or with two eyes that can't be filled
 pub pressed_held : (d : Colour) (v : ℕ) (old now : Run) → IsPressed d v old now → HasStone now.board (other d) v
     → (¬ ¬ HasLiberty now.board (other d) v → HasRefusals now.board d v)
-    → (g : Grid) → IsAtRest g d old → HasTwoEyes g (other d) (HasStone old.board (other d)) v
+    → (g : Board) → IsAtRest g d old → HasTwoEyes g (other d) (HasStone old.board (other d)) v
 pressed_held d v old now w s refused g rest =
     let run = w.goes g rest in
     let r = refused (run.0.breathes v s) in
@@ -129,7 +129,7 @@ pressed_held d v old now w s refused g rest =
     (refused_eyes g d v now.board run.0 r.one r.two r.apart r.one_liberty r.one_refused r.two_liberty r.two_refused)
 
 -- the same from a copy of the run
-rest_of_copy : (g : Grid) (d : Colour) (run copy : Run) → copy.board ≡ run.board → copy.placings.items ≡ run.placings.items
+rest_of_copy : (g : Board) (d : Colour) (run copy : Run) → copy.board ≡ run.board → copy.placings.items ≡ run.placings.items
     → IsAtRest g d run → IsAtRest g d copy
 rest_of_copy g d run copy same items rest = (
   subst (IsReached g d (λ _. ⊥)) (sym same) rest.0,
@@ -148,13 +148,13 @@ follows_copy d run copy new same items w = record {
 -- an attack that failed from a copy
 pub failed_copy : (d : Colour) (v : ℕ) (run copy new : Run) (b : Bool) → copy.board ≡ run.board
     → copy.placings.items ≡ run.placings.items → Captures d v copy new b → b ≡ false
-    → (g : Grid) → IsAtRest g d run → HasTwoEyes g (other d) (HasStone run.board (other d)) v
+    → (g : Board) → IsAtRest g d run → HasTwoEyes g (other d) (HasStone run.board (other d)) v
 failed_copy d v run copy new true same items w e g rest = cc
 failed_copy d v run copy new false same items w e g rest =
     subst (λ b. HasTwoEyes g (other d) (HasStone b (other d)) v) same (w g (rest_of_copy g d run copy same items rest))
 
 -- stones that all have two eyes are a healthy list
-pub healthy_all : (g : Grid) (d : Colour) (h : Grid) → IsReached g d (λ _. ⊥) h
+pub healthy_all : (g : Board) (d : Colour) (h : Board) → IsReached g d (λ _. ⊥) h
     → ((v : ℕ) → HasStone h (other d) v → HasTwoEyes g (other d) (HasStone h (other d)) v)
     → (points : List ℕ) → ((p : ℕ) → Contains points p ↔ HasStone h (other d) p) → IsHealthy g (other d) points
 healthy_all g d h w eyes points each = record {
@@ -172,14 +172,14 @@ alive_all d alive run victims is eyes g settled marks rest q s =
     (points, healthy_all g d run.board rest.0 (λ v k. eyes v k g settled marks rest) points each, (each q).1 s)
 
 -- the run before any placing
-pub rest_first : (g : Grid) (d : Colour) (run : Run) → IsSettled g → run.board ≡ g → run.placings.items ≡ [] → IsAtRest g d run
+pub rest_first : (g : Board) (d : Colour) (run : Run) → IsSettled g → run.board ≡ g → run.placings.items ≡ [] → IsAtRest g d run
 rest_first g d run settled same none = (
   subst (IsReached g d (λ _. ⊥)) (sym same) (reached_first g d settled),
   subst (λ ps. Placings d g ps run.board) (sym none) (sym same),
 )
 
 -- the liberties below a number
-pub refused_more : (h : Grid) (d : Colour) (v n : ℕ) → ((p : ℕ) → p < n → IsLiberty h (other d) v p → IsSuicide h p d)
+pub refused_more : (h : Board) (d : Colour) (v n : ℕ) → ((p : ℕ) → p < n → IsLiberty h (other d) v p → IsSuicide h p d)
     → (IsLiberty h (other d) v n → IsSuicide h n d) → (p : ℕ) → p < n + 1 → IsLiberty h (other d) v p → IsSuicide h p d
 refused_more h d v n below now p lt = elim (cases_eq p n) as (λ _. IsLiberty h (other d) v p → IsSuicide h p d) [
   | inl e ↦ subst (λ x. IsLiberty h (other d) v x → IsSuicide h x d) (sym e) now

@@ -4,7 +4,7 @@ use Rattle.std.specs.List.{Contains}
 use Rattle.std.specs.Prelude.{slice_index_or}
 use Rattle.std.proofs.lemmas.Bool.{cases_Bool, cases_eq, both_ways}
 use Rattle.go_grid.specs.declared.grid.Colour.{Colour}
-use Rattle.go_grid.specs.Grid.{Grid, HasStone, other}
+use Rattle.go_grid.specs.Board.{Board, HasStone, other}
 use Rattle.go_grid.specs.Chain.{InChain, IsLiberty}
 use Rattle.go_grid.specs.Marks.{IsMarked, Marks}
 use Rattle.go_grid.proofs.WalkLemmas.{joined_join, joined_back}
@@ -24,7 +24,7 @@ marked_or_not marks p = elim (cases_Bool (slice_index_or marks p false)) as (λ 
 ]
 
 -- the stones of a chain have the same eyes
-eyes_along : (g : Grid) (c : Colour) (In : ℕ → Type 0) (v q : ℕ) → InChain g c v q → HasTwoEyes g c In v → HasTwoEyes g c In q
+eyes_along : (g : Board) (c : Colour) (In : ℕ → Type 0) (v q : ℕ) → InChain g c v q → HasTwoEyes g c In v → HasTwoEyes g c In q
 eyes_along g c In v q j two = (two.0, two.1, eye two.0 two.2, eye two.1 two.3, two.4)
   where
     eye : (r : ℕ) → IsEye g c In v r → IsEye g c In q r

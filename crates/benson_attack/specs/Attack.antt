@@ -1,17 +1,17 @@
 -- Attacks: placings of the other colour, none of them answered, that take a stone off the board.
 use Rattle.std.specs.Prelude.{◌≢◌, ◌≤◌, ℕ, List, [], length}
 use Rattle.go_grid.specs.declared.grid.Colour.{Colour}
-use Rattle.go_grid.specs.Grid.{Grid, HasStone, other}
+use Rattle.go_grid.specs.Board.{Board, HasStone, other}
 use Rattle.go_play.specs.Place.{Placings}
 
 -- legal placings of the other colour, no more than the board has points, after which the point holds no stone of the colour
-pub record IsAttack (g : Grid) (c : Colour) (s : ℕ) (placings : List ℕ) : Type 0 where
+pub record IsAttack (g : Board) (c : Colour) (s : ℕ) (placings : List ℕ) : Type 0 where
   pub some : placings ≢ []
   pub short : length placings ≤ length g.cells
-  pub left : Grid
+  pub left : Board
   pub legal : Placings (other c) g placings left
   pub gone : ¬ HasStone left c s
 
 -- legal placings of the colour, no more than the board has points, after which the point holds no stone of the other colour
-abbrev pub Takes : Grid → Colour → ℕ → List ℕ → Type 0
-Takes g d s placings = (h : Grid) × Placings d g placings h × (length placings ≤ length g.cells) × ¬ HasStone h (other d) s
+abbrev pub Takes : Board → Colour → ℕ → List ℕ → Type 0
+Takes g d s placings = (h : Board) × Placings d g placings h × (length placings ≤ length g.cells) × ¬ HasStone h (other d) s

@@ -3,7 +3,7 @@
 ghost use Rattle.std.specs.Prelude.{◌≡◌, ℕ, IfOk, Err};
 ghost use Rattle.go_grid.specs.declared.grid.Colour.{Colour};
 ghost use Rattle.go_grid.specs.Chain.{IsSettled, StoneAt};
-ghost use Rattle.go_grid.specs.Grid.{HasStone, other};
+ghost use Rattle.go_grid.specs.Board.{HasStone, other};
 ghost use Rattle.benson_life.specs.Life.{IsAlive};
 ghost use Rattle.benson_life.specs.Territory.{IsTerritory};
 ghost use Rattle.benson_attack.specs.Attack.{IsAttack};

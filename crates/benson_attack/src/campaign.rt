@@ -2,7 +2,7 @@
 
 ghost use Rattle.std.specs.Prelude.{◌≡◌, ℕ, IfOk, Err, MatchOption};
 ghost use Rattle.go_grid.specs.Chain.{IsSettled};
-ghost use Rattle.go_grid.specs.Grid.{HasStone, other};
+ghost use Rattle.go_grid.specs.Board.{HasStone, other};
 ghost use Rattle.go_grid.specs.Marks.{Marks};
 ghost use Rattle.benson_life.specs.Life.{IsAlive};
 ghost use Rattle.benson_attack.specs.Attack.{Takes};

@@ -2,7 +2,7 @@
 
 ghost use Rattle.std.specs.Prelude.{◌≡◌, ℕ, ◌<◌, ◌↔◌, [], true, length, IfOk, MatchOption};
 ghost use Rattle.std.specs.Bool.{OnFalse, OnTrue};
-ghost use Rattle.go_grid.specs.Grid.{HasStone, IsEmpty, other};
+ghost use Rattle.go_grid.specs.Board.{HasStone, IsEmpty, other};
 ghost use Rattle.go_play.specs.Place.{IsPlaced, IsSuicide};
 ghost use Rattle.benson_attack.specs.Reached.{AllAlive, Captures, Follows, Presses};
 

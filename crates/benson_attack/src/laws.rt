@@ -3,13 +3,13 @@
 ghost use Rattle.std.specs.Prelude.{◌↔◌, ℕ};
 ghost use Rattle.go_grid.specs.declared.grid.Colour.{Colour};
 ghost use Rattle.go_grid.specs.Chain.{IsSettled};
-ghost use Rattle.go_grid.specs.Grid.{Grid, HasStone};
+ghost use Rattle.go_grid.specs.Board.{Board, HasStone};
 ghost use Rattle.go_play.specs.Place.{Stands};
 ghost use Rattle.benson_life.specs.Life.{IsAlive};
 
 /// On a settled board a stone is alive exactly where it still stands after every list of legal and unanswered
 /// placings of the other colour (Benson 1976).
 pub fn alive_law()
-    ensures { (g : Grid) (c : Colour) (s : ℕ) → IsSettled g → HasStone g c s
+    ensures { (g : Board) (c : Colour) (s : ℕ) → IsSettled g → HasStone g c s
         → IsAlive g c s ↔ Stands g c s }
 {}

@@ -5,7 +5,7 @@ use Rattle.std.proofs.lemmas.List.{get_or_default, length-set, get_or-set_same, 
 use Rattle.std.specs.List.{All}
 use Rattle.std.proofs.lemmas.List.Elements.{Contains-get_or}
 use Rattle.go_grid.specs.declared.grid.Colour.{Colour}
-use Rattle.go_grid.specs.Grid.{Grid}
+use Rattle.go_grid.specs.Board.{Board}
 use Rattle.go_grid.specs.Marks.{IsMarked, Marks}
 use Rattle.go_grid.specs.Parts.{label}
 use Rattle.benson_life.specs.declared.eyes.Eye.{Eye}
@@ -21,7 +21,7 @@ pub eye_item : (eyes : List Eye) (j : ℕ) (e : Eye) → j < length eyes → e �
 eye_item eyes j e lt is = is ∙ get_or_default eyes j e (record { region = 0; chain = 0 }) lt
 
 -- the names of listed eyes are points of the board
-pub eyes_inside : (g : Grid) (c : Colour) (s : Survey) (eyes : List Eye) → AreEyes g c s eyes → length g.cells ≤ 625
+pub eyes_inside : (g : Board) (c : Colour) (s : Survey) (eyes : List Eye) → AreEyes g c s eyes → length g.cells ≤ 625
     → All (λ e. (e.region < 625) × (e.chain < 625)) eyes
 eyes_inside g c s eyes are small k d lt =
     let pair = (are (get_or eyes k d)).0 (Contains-get_or eyes k d lt) in

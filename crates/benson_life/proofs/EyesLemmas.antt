@@ -6,7 +6,7 @@ use Rattle.std.proofs.lemmas.List.{get_or_default}
 use Rattle.std.proofs.lemmas.List.Elements.{Contains-push, Contains-push_cases, Contains-append_left}
 use Rattle.go_grid.specs.declared.grid.Colour.{Colour}
 use Rattle.go_grid.specs.Chain.{IsSettled}
-use Rattle.go_grid.specs.Grid.{Grid, AreAround, HasStone, IsEmpty, Lacks}
+use Rattle.go_grid.specs.Board.{Board, AreAround, HasStone, IsEmpty, Lacks}
 use Rattle.go_grid.specs.Marks.{IsMarked, Marks}
 use Rattle.go_grid.specs.Parts.{label}
 use Rattle.go_grid.proofs.WalkLemmas.{joined_back}
@@ -20,11 +20,11 @@ use Rattle.benson_life.proofs.PartsLemmas.{label_in, label_own}
 use Rattle.benson_life.proofs.SurveyLemmas.{empty_lacks, region_of, vital_at, liberty_is}
 
 -- the lists differ by the pairs of the region of `p` and the chains of the first `n` points
-abbrev pub AddsBelow : Grid → Colour → Survey → List Eye → List Eye → ℕ → List ℕ → ℕ → Type 0
+abbrev pub AddsBelow : Board → Colour → Survey → List Eye → List Eye → ℕ → List ℕ → ℕ → Type 0
 AddsBelow g c s old new p near n = (e : Eye)
     → Contains new e ↔ (Contains old e ⊎ ((i : ℕ) × (i < n) × IsPairOf g c s p (get_or near i 0) e))
 
-module _ (g : Grid) (c : Colour) (s : Survey) (is : IsSurvey g c s) where
+module _ (g : Board) (c : Colour) (s : Survey) (is : IsSurvey g c s) where
   -- an eye is listed under the names of its region and of the stone's chain
   module _ (eyes : List Eye) (are : AreEyes g c s eyes) (breached : List Bool) (In : ℕ → Type 0)
       (walls : (r : ℕ) → Lacks g c r → (¬ IsMarked breached (label s.regions r)) ↔ IsWalledBy g c In r) where
@@ -174,7 +174,7 @@ module _ (g : Grid) (c : Colour) (s : Survey) (is : IsSurvey g c s) where
             ),
           ))
 
-module _ (g : Grid) (c : Colour) (s : Survey) where
+module _ (g : Board) (c : Colour) (s : Survey) where
   -- the eyes of the regions that are seen, which are those of the empty points below `n`
   pub record Gathering (eyes : List Eye) (seen : List Bool) (n : ℕ) : Type 0 where
     pub exact : (e : Eye) → Contains eyes e ↔ (IsVitalPair g c s e × IsMarked seen e.region)

@@ -1,7 +1,7 @@
 -- Groups are the parts of the set of alive stones and counted points.
 use Rattle.std.proofs.Common.{◌↔◌, ◌≡◌, ℕ, ◌≤◌, ◌⊎◌, inl, inr, List, Bool}
 use Rattle.go_grid.specs.declared.grid.Colour.{Colour}
-use Rattle.go_grid.specs.Grid.{Grid, NextTo, HasStone, Lacks}
+use Rattle.go_grid.specs.Board.{Board, NextTo, HasStone, Lacks}
 use Rattle.go_grid.specs.Marks.{IsMarked, Marks}
 use Rattle.go_grid.specs.Parts.{AreParts, label}
 use Rattle.go_grid.specs.Walk.{Joined}
@@ -16,7 +16,7 @@ use Rattle.benson_life.proofs.StandLemmas.{joined_along}
 use Rattle.benson_life.proofs.StrikingLemmas.{alive_stone, alive_whole}
 use Rattle.benson_life.proofs.WallLemmas.{counted_region}
 
-module _ (g : Grid) (c : Colour) where
+module _ (g : Board) (c : Colour) where
   -- an alive stone or a counted point
   abbrev IsSafe : ℕ → Type 0
   IsSafe p = IsAlive g c p ⊎ IsCounted g c p

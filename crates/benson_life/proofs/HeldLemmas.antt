@@ -10,7 +10,7 @@ use Rattle.go_grid.specs.declared.grid.Cell.{Cell}
 use Rattle.go_grid.specs.declared.grid.Cell.TheVariants as cell
 use Rattle.go_grid.specs.declared.grid.Colour.{Colour}
 use Rattle.go_grid.specs.declared.grid.Colour.TheVariants as colour
-use Rattle.go_grid.specs.Grid.{Grid, HasStone, IsEmpty, cell_at, other, stone}
+use Rattle.go_grid.specs.Board.{Board, HasStone, IsEmpty, cell_at, other, stone}
 use Rattle.go_grid.specs.Marks.{Lists}
 use Rattle.benson_life.specs.Held.{worth, cell_worth, IsHeld}
 use Rattle.benson_life.specs.Life.{IsCounted}
@@ -38,7 +38,7 @@ cell_worth_le colour.Black cell.Black = omega arith
 cell_worth_le colour.White cell.Black = omega arith
 cell_worth_le colour.White cell.White = omega arith
 
-pub worth_le : (g : Grid) (c : Colour) (points : List ℕ) → sum_by (worth g c) points ≤ 2 * length points
+pub worth_le : (g : Board) (c : Colour) (points : List ℕ) → sum_by (worth g c) points ≤ 2 * length points
 worth_le g c points =
     omega (arith, sum_by-le (worth g c) 2 points (λ k d lt. cell_worth_le c (cell_at g (get_or points k d))))
 
@@ -75,7 +75,7 @@ worth_parts colour.Black cell.Black = refl
 worth_parts colour.White cell.Black = refl
 worth_parts colour.White cell.White = refl
 
-sum_parts : (g : Grid) (c : Colour) (points : List ℕ)
+sum_parts : (g : Board) (c : Colour) (points : List ℕ)
     → sum_by (worth g c) points ≡ count_by (λ p. is_empty (cell_at g p)) points + 2 * count_by (λ p. is_captive c (cell_at g p)) points
 sum_parts g c [] = refl
 sum_parts g c (p ∷ ps) =
@@ -119,7 +119,7 @@ lists_filter points P Q test l is = record {
   );
 }
 
-pub held_is : (g : Grid) (c : Colour) (points : List ℕ) (n : ℕ) → n ≡ sum_by (worth g c) points → Lists points (IsCounted g c) → IsHeld g c n
+pub held_is : (g : Board) (c : Colour) (points : List ℕ) (n : ℕ) → n ≡ sum_by (worth g c) points → Lists points (IsCounted g c) → IsHeld g c n
 held_is g c points n e l = record {
   empty = count_by (λ p. is_empty (cell_at g p)) points;
   captive = count_by (λ p. is_captive c (cell_at g p)) points;

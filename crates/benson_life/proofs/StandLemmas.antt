@@ -7,7 +7,7 @@ use Rattle.go_grid.specs.declared.grid.Cell.{Cell}
 use Rattle.go_grid.specs.declared.grid.Cell.TheVariants as cell
 use Rattle.go_grid.specs.declared.grid.Colour.{Colour}
 use Rattle.go_grid.specs.declared.grid.Colour.TheVariants as colour
-use Rattle.go_grid.specs.Grid.{Grid, NextTo, HasStone, IsEmpty, Lacks, cell_at, stone, other}
+use Rattle.go_grid.specs.Board.{Board, NextTo, HasStone, IsEmpty, Lacks, cell_at, stone, other}
 use Rattle.go_grid.specs.Walk.{Joined}
 use Rattle.go_grid.specs.Chain.{HasLiberty, IsSettled}
 use Rattle.go_grid.proofs.WalkLemmas.{joined_here, joined_step, joined_start, joined_end, joined_join, joined_back, carried}
@@ -48,7 +48,7 @@ joined_along c In More p q wider j =
     both.1
 
 -- each region of a settled board has an empty point
-first_empty : (g : Grid) (d : Colour) (r : ℕ) → IsSettled g → Lacks g (other d) r → (e : ℕ) × InRegion g (other d) r e × IsEmpty g e
+first_empty : (g : Board) (d : Colour) (r : ℕ) → IsSettled g → Lacks g (other d) r → (e : ℕ) × InRegion g (other d) r e × IsEmpty g e
 first_empty g d r settled lacks =
     elim (empty_or_other (cell_at g r) d lacks.1) as (λ _. (e : ℕ) × InRegion g (other d) r e × IsEmpty g e) [
       | inl k ↦ (r, joined_here g.columns (Lacks g (other d)) r lacks, (lacks.0, k))
@@ -64,14 +64,14 @@ first_empty g d r settled lacks =
           )
     ]
 
-pub region_empty : (g : Grid) (c : Colour) (r : ℕ) → IsSettled g → Lacks g c r → (e : ℕ) × InRegion g c r e × IsEmpty g e
+pub region_empty : (g : Board) (c : Colour) (r : ℕ) → IsSettled g → Lacks g c r → (e : ℕ) × InRegion g c r e × IsEmpty g e
 region_empty g colour.Black r settled lacks = first_empty g colour.White r settled lacks
 region_empty g colour.White r settled lacks = first_empty g colour.Black r settled lacks
 
 -- the attacker's colour is d, and the stones are of the other colour
-module _ (g : Grid) (d : Colour) (S : List ℕ) (healthy : IsHealthy g (other d) S) where
+module _ (g : Board) (d : Colour) (S : List ℕ) (healthy : IsHealthy g (other d) S) where
   -- what each list of placings keeps
-  pub record Holds (h : Grid) : Type 0 where
+  pub record Holds (h : Board) : Type 0 where
     pub columns : h.columns ≡ g.columns
     pub long : length h.cells ≡ length g.cells
     pub stones : (s : ℕ) → Contains S s → HasStone h (other d) s
@@ -80,14 +80,14 @@ module _ (g : Grid) (d : Colour) (S : List ℕ) (healthy : IsHealthy g (other d)
         → (e : ℕ) × InRegion g (other d) r e × IsEmpty h e
 
   -- an empty point of a region was empty from the first
-  was_empty : (h : Grid) → Holds h → (e : ℕ) → Lacks g (other d) e → IsEmpty h e → IsEmpty g e
+  was_empty : (h : Board) → Holds h → (e : ℕ) → Lacks g (other d) e → IsEmpty h e → IsEmpty g e
   was_empty h w e lacks now = elim (empty_or_other (cell_at g e) d lacks.1) as (λ _. IsEmpty g e) [
     | inl k ↦ (lacks.0, k)
     | inr k ↦ let there = w.others e (lacks.0, k) in absurd (empty_not_stone d (sym now.1 ∙ there.1))
   ]
 
   -- a walk over stones of a board whose stones of S stand, from a point of a region that S walls, stays in the region
-  stays : (h : Grid) → h.columns ≡ g.columns → length h.cells ≡ length g.cells
+  stays : (h : Board) → h.columns ≡ g.columns → length h.cells ≡ length g.cells
       → ((s : ℕ) → Contains S s → HasStone h (other d) s)
       → (r : ℕ) → IsWalledBy g (other d) (Contains S) r → (x y : ℕ) → InRegion g (other d) r x
       → NextTo g.columns x y → y < length h.cells → cell_at h y ≢ stone (other d) → InRegion g (other d) r y
@@ -98,7 +98,7 @@ module _ (g : Grid) (d : Colour) (S : List ℕ) (healthy : IsHealthy g (other d)
       ]
 
   -- an empty point of a region vital to `s`, other than `p`, is a liberty of `s` on the board with a stone at `p`
-  keeps_liberty : (h : Grid) → Holds h → (p s r e : ℕ) → IsEmpty h p → Contains S s → IsEye g (other d) (Contains S) s r
+  keeps_liberty : (h : Board) → Holds h → (p s r e : ℕ) → IsEmpty h p → Contains S s → IsEye g (other d) (Contains S) s r
       → InRegion g (other d) r e → IsEmpty h e → e ≢ p → HasLiberty (with_stone h p d) (other d) s
   keeps_liberty h w p s r e free in' eye at empty ne =
       let lacks = joined_end g.columns (Lacks g (other d)) r e at in
@@ -120,7 +120,7 @@ module _ (g : Grid) (d : Colour) (S : List ℕ) (healthy : IsHealthy g (other d)
       )
 
   -- each stone of S has a liberty on the board with a stone more
-  not_choked : (h : Grid) → Holds h → (p s : ℕ) → IsEmpty h p → Contains S s → HasLiberty (with_stone h p d) (other d) s
+  not_choked : (h : Board) → Holds h → (p s : ℕ) → IsEmpty h p → Contains S s → HasLiberty (with_stone h p d) (other d) s
   not_choked h w p s free in' =
       let two = healthy.eyes s in' in
       let a = two.2 in let b = two.3 in
@@ -138,7 +138,7 @@ module _ (g : Grid) (d : Colour) (S : List ℕ) (healthy : IsHealthy g (other d)
       ]
 
   -- one legal placing
-  holds_next : (h : Grid) → Holds h → (p : ℕ) (m : Grid) → IsPlaced h p d m → Holds m
+  holds_next : (h : Board) → Holds h → (p : ℕ) (m : Board) → IsPlaced h p d m → Holds m
   holds_next h w p m placed =
       record { columns = columns; long = long; stones = stand; others = others; open' = opens }
     where
@@ -199,12 +199,12 @@ module _ (g : Grid) (d : Colour) (S : List ℕ) (healthy : IsHealthy g (other d)
     open' = λ r lacks _. first_empty g d r settled lacks;
   }
 
-  holds_all : (ps : List ℕ) (h m : Grid) → Holds h → Placings d h ps m → Holds m
+  holds_all : (ps : List ℕ) (h m : Board) → Holds h → Placings d h ps m → Holds m
   holds_all [] h m w e = subst Holds e w
   holds_all (p ∷ ps) h m w run = holds_all ps run.0 m (holds_next h w p run.0 run.1) run.2
 
 -- the law
-pub healthy_stands : (g : Grid) (c : Colour) (S : List ℕ) → IsSettled g → IsHealthy g c S → (s : ℕ) → Contains S s → Stands g c s
+pub healthy_stands : (g : Board) (c : Colour) (S : List ℕ) → IsSettled g → IsHealthy g c S → (s : ℕ) → Contains S s → Stands g c s
 healthy_stands g colour.Black S settled healthy s in' ps h run =
     (holds_all g colour.White S healthy ps g h (holds_first g colour.White S healthy settled) run).stones s in'
 healthy_stands g colour.White S settled healthy s in' ps h run =

@@ -3,13 +3,13 @@ use Rattle.std.proofs.Common.{ℕ, ◌↔◌, List, Bool}
 use Rattle.std.specs.List.{Contains}
 use Rattle.go_grid.specs.declared.grid.Colour.{Colour}
 use Rattle.go_grid.specs.Chain.{InChain}
-use Rattle.go_grid.specs.Grid.{Grid, HasStone, Lacks}
+use Rattle.go_grid.specs.Board.{Board, HasStone, Lacks}
 use Rattle.go_grid.specs.Marks.{IsMarked, Marks, Lists}
 use Rattle.go_grid.proofs.WalkLemmas.{joined_back, joined_join, joined_end}
 use Rattle.benson_life.specs.Life.{IsEye, HasTwoEyes, IsHealthy, IsLargestHealthy, IsAlive, IsCounted}
 
 -- more stones for walls
-eye_more : (g : Grid) (c : Colour) (In More : ℕ → Type 0) → ((s : ℕ) → In s → More s) → (s r : ℕ)
+eye_more : (g : Board) (c : Colour) (In More : ℕ → Type 0) → ((s : ℕ) → In s → More s) → (s r : ℕ)
     → IsEye g c In s r → IsEye g c More s r
 eye_more g c In More wider s r eye = record {
   lacks = eye.lacks;
@@ -17,13 +17,13 @@ eye_more g c In More wider s r eye = record {
   walled = λ p t at n stone. wider t (eye.walled p t at n stone);
 }
 
-eyes_more : (g : Grid) (c : Colour) (In More : ℕ → Type 0) → ((s : ℕ) → In s → More s) → (s : ℕ)
+eyes_more : (g : Board) (c : Colour) (In More : ℕ → Type 0) → ((s : ℕ) → In s → More s) → (s : ℕ)
     → HasTwoEyes g c In s → HasTwoEyes g c More s
 eyes_more g c In More wider s two =
     (two.0, two.1, eye_more g c In More wider s two.0 two.2, eye_more g c In More wider s two.1 two.3, two.4)
 
 -- the stones of one chain have the same eyes
-eye_chain : (g : Grid) (c : Colour) (In : ℕ → Type 0) (s t r : ℕ) → InChain g c s t → IsEye g c In s r → IsEye g c In t r
+eye_chain : (g : Board) (c : Colour) (In : ℕ → Type 0) (s t r : ℕ) → InChain g c s t → IsEye g c In s r → IsEye g c In t r
 eye_chain g c In s t r j eye = record {
   lacks = eye.lacks;
   vital = λ p at empty. let l = eye.vital p at empty in
@@ -32,19 +32,19 @@ eye_chain g c In s t r j eye = record {
 }
 
 -- only stones that cannot be alive have been struck out
-pub record MayBeAlive (g : Grid) (c : Colour) (kept : List Bool) : Type 0 where
+pub record MayBeAlive (g : Board) (c : Colour) (kept : List Bool) : Type 0 where
   pub stones : (s : ℕ) → IsMarked kept s → HasStone g c s
   pub eyed : (s : ℕ) → HasStone g c s → HasTwoEyes g c (IsMarked kept) s → IsMarked kept s
   pub healthy : (T : List ℕ) → IsHealthy g c T → (s : ℕ) → Contains T s → IsMarked kept s
 
-pub may_start : (g : Grid) (c : Colour) (kept : List Bool) → Marks kept (HasStone g c) → MayBeAlive g c kept
+pub may_start : (g : Board) (c : Colour) (kept : List Bool) → Marks kept (HasStone g c) → MayBeAlive g c kept
 may_start g c kept is = record {
   stones = λ s. (is s).0;
   eyed = λ s stone _. (is s).1 stone;
   healthy = λ T good s in'. (is s).1 (good.stones s in');
 }
 
-pub may_next : (g : Grid) (c : Colour) (kept left : List Bool) → MayBeAlive g c kept
+pub may_next : (g : Board) (c : Colour) (kept left : List Bool) → MayBeAlive g c kept
     → Marks left (λ s. IsMarked kept s × HasTwoEyes g c (IsMarked kept) s) → MayBeAlive g c left
 may_next g c kept left w is =
     let wider = λ (s : ℕ) (m : IsMarked left s). ((is s).0 m).0 in
@@ -56,7 +56,7 @@ may_next g c kept left w is =
     }
 
 -- when nothing more is struck out, what is kept is alive
-pub kept_alive : (g : Grid) (c : Colour) (kept left : List Bool) → MayBeAlive g c kept
+pub kept_alive : (g : Board) (c : Colour) (kept left : List Bool) → MayBeAlive g c kept
     → Marks left (λ s. IsMarked kept s × HasTwoEyes g c (IsMarked kept) s) → ((p : ℕ) → IsMarked kept p → IsMarked left p)
     → (S : List ℕ) → ((s : ℕ) → Contains S s ↔ IsMarked kept s) → Marks kept (IsAlive g c)
 kept_alive g c kept left w is all S lists s = (λ m. (S, healthy, (lists s).1 m), λ a. w.healthy a.0 a.1 s a.2)
@@ -79,14 +79,14 @@ kept_alive g c kept left w is all S lists s = (λ m. (S, healthy, (lists s).1 m)
       eyes = λ s in'. eyes_more g c (IsMarked kept) (Contains S) (λ x. (lists x).1) s (eyes s ((lists s).0 in'));
     }
 
-pub alive_stone : (g : Grid) (c : Colour) (s : ℕ) → IsAlive g c s → HasStone g c s
+pub alive_stone : (g : Board) (c : Colour) (s : ℕ) → IsAlive g c s → HasStone g c s
 alive_stone g c s a = a.1.stones s a.2
 
-pub alive_whole : (g : Grid) (c : Colour) (s t : ℕ) → IsAlive g c s → InChain g c s t → IsAlive g c t
+pub alive_whole : (g : Board) (c : Colour) (s t : ℕ) → IsAlive g c s → InChain g c s t → IsAlive g c t
 alive_whole g c s t a j = (a.0, a.1, a.1.whole s t a.2 j)
 
 -- all that is alive is the largest healthy list
-pub alive_largest : (g : Grid) (c : Colour) (S : List ℕ) → Lists S (IsAlive g c) → IsLargestHealthy g c S
+pub alive_largest : (g : Board) (c : Colour) (S : List ℕ) → Lists S (IsAlive g c) → IsLargestHealthy g c S
 alive_largest g c S lists = record {
   healthy = record {
     stones = λ s in'. alive_stone g c s ((lists.exact s).0 in');
@@ -99,7 +99,7 @@ alive_largest g c S lists = record {
 }
 
 -- the points of walled eyes of alive stones are the counted ones
-pub counted_same : (g : Grid) (c : Colour) (alive found : List Bool) → Marks alive (IsAlive g c)
+pub counted_same : (g : Board) (c : Colour) (alive found : List Bool) → Marks alive (IsAlive g c)
     → Marks found (λ p. Lacks g c p × ((s : ℕ) × IsMarked alive s × IsEye g c (IsMarked alive) s p))
     → Marks found (IsCounted g c)
 counted_same g c alive found isa isf p = (

@@ -3,7 +3,7 @@ use Rattle.std.proofs.Common.{◌↔◌, ◌≡◌, ℕ, inl, inr, List, Bool, f
 use Rattle.std.proofs.lemmas.Bool.{cases_Bool, both_ways}
 use Rattle.go_grid.specs.declared.grid.Colour.{Colour}
 use Rattle.go_grid.specs.Chain.{InChain, IsLiberty}
-use Rattle.go_grid.specs.Grid.{Grid, NextTo, HasStone, IsEmpty, Lacks}
+use Rattle.go_grid.specs.Board.{Board, NextTo, HasStone, IsEmpty, Lacks}
 use Rattle.go_grid.specs.Marks.{IsMarked, Marks, Touches}
 use Rattle.go_grid.specs.Parts.{label}
 use Rattle.go_grid.proofs.NearLemmas.{next_back}
@@ -19,7 +19,7 @@ use Rattle.benson_life.proofs.StandLemmas.{empty_not_stone}
 abbrev pub HasOfChain : ℕ → Survey → ℕ → ℕ → Type 0
 HasOfChain columns s k p = (q : ℕ) × NextTo columns p q × IsOfChain s k q
 
-module _ (g : Grid) (c : Colour) (s : Survey) (is : IsSurvey g c s) where
+module _ (g : Board) (c : Colour) (s : Survey) (is : IsSurvey g c s) where
   -- points of one region have one label, and the other way
   pub region_of : (p q : ℕ) → Lacks g c p → Lacks g c q → label s.regions p ≡ label s.regions q → InRegion g c p q
   region_of p q hp hq e = one_part g.columns (Lacks g c) s.regions p q is.regions hp hq e
@@ -73,5 +73,5 @@ module _ (g : Grid) (c : Colour) (s : Survey) (is : IsSurvey g c s) where
   pub walled_at : (In : ℕ → Type 0) (r t : ℕ) → InRegion g c r t → IsWalledBy g c In r → IsWalledBy g c In t
   walled_at In r t at walled p u there = walled p u (joined_join g.columns (Lacks g c) r t p at there)
 
-pub empty_lacks : (g : Grid) (c : Colour) (p : ℕ) → IsEmpty g p → Lacks g c p
+pub empty_lacks : (g : Board) (c : Colour) (p : ℕ) → IsEmpty g p → Lacks g c p
 empty_lacks g c p e = (e.0, λ k. empty_not_stone c (sym e.1 ∙ k))

@@ -11,7 +11,7 @@ use Rattle.std.proofs.lemmas.Map.Made.{length-le_from_is_member}
 use Rattle.std.proofs.lemmas.Map.Views.{Contains-from_any, list_any-from_Contains}
 use Rattle.go_grid.specs.declared.grid.Colour.{Colour}
 use Rattle.go_grid.specs.Chain.{IsLiberty, IsSettled}
-use Rattle.go_grid.specs.Grid.{Grid, HasStone, Lacks}
+use Rattle.go_grid.specs.Board.{Board, HasStone, Lacks}
 use Rattle.go_grid.proofs.PathLemmas.{leads_here, leads_step}
 use Rattle.go_grid.proofs.NearLemmas.{next_back}
 use Rattle.go_grid.proofs.WalkLemmas.{joined_back, joined_here, joined_join}
@@ -75,7 +75,7 @@ module _ (xs ys : List ℕ) (R : ℕ → ℕ → Type 0) (up : IsStrictlyIncreas
       list_any-from_Contains nat_eq_equiv q ys (among (get_or xs j 0) q (Contains-get_or xs j 0 lt) r)) in
       omega (arith, fit, w.long)
 
-module _ (g : Grid) (c : Colour) (settled : IsSettled g) where
+module _ (g : Board) (c : Colour) (settled : IsSettled g) where
   -- a counted point that is a liberty of the stone's chain
   abbrev IsOwn : ℕ → ℕ → Type 0
   IsOwn s a = IsCounted g c a × IsLiberty g c s a

@@ -2,7 +2,7 @@
 use Rattle.std.proofs.Common.{ℕ, ◌<◌, sym, ◌∙◌, subst, List}
 use Rattle.std.specs.List.{Contains}
 use Rattle.go_grid.specs.declared.grid.Colour.{Colour}
-use Rattle.go_grid.specs.Grid.{Grid, NextTo, HasStone, Lacks}
+use Rattle.go_grid.specs.Board.{Board, NextTo, HasStone, Lacks}
 use Rattle.go_grid.specs.Walk.{Joined}
 use Rattle.go_grid.specs.Chain.{IsLiberty, IsSettled}
 use Rattle.go_grid.proofs.WalkLemmas.{joined_end, joined_join}
@@ -11,7 +11,7 @@ use Rattle.benson_life.specs.Walls.{WallsStand, WallsBreathe}
 use Rattle.benson_life.proofs.StandLemmas.{joined_along, region_empty}
 
 -- a point of the region of a counted point is counted
-pub counted_region : (g : Grid) (c : Colour) (p q : ℕ) → IsCounted g c p → InRegion g c p q → IsCounted g c q
+pub counted_region : (g : Board) (c : Colour) (p q : ℕ) → IsCounted g c p → InRegion g c p q → IsCounted g c q
 counted_region g c p q w j = (
   w.0,
   w.1,
@@ -23,7 +23,7 @@ counted_region g c p q w j = (
 )
 
 -- an eye of an alive stone has a counted point that is a liberty of the stone's chain
-pub eye_point : (g : Grid) (c : Colour) (s r : ℕ) (S : List ℕ) → IsSettled g → IsHealthy g c S → Contains S s → IsEye g c (Contains S) s r
+pub eye_point : (g : Board) (c : Colour) (s r : ℕ) (S : List ℕ) → IsSettled g → IsHealthy g c S → Contains S s → IsEye g c (Contains S) s r
     → (p : ℕ) × InRegion g c r p × IsCounted g c p × IsLiberty g c s p
 eye_point g c s r S settled healthy among eye =
     let (p, at, empty) = region_empty g c r settled eye.lacks in
@@ -37,7 +37,7 @@ eye_point g c s r S settled healthy among eye =
       },
     ) in (p, at, counted_region g c r p counted at, eye.vital p at empty)
 
-pub walls_breathe : (g : Grid) → IsSettled g → (h : Grid) → WallsStand g h → WallsBreathe g h
+pub walls_breathe : (g : Board) → IsSettled g → (h : Board) → WallsStand g h → WallsBreathe g h
 walls_breathe g settled h walls c s (S, healthy, among) =
     let (r, _, eye, _, _) = healthy.eyes s among in
     let (p, _, here, (on, (t, chain, next))) = eye_point g c s r S settled healthy among eye in

@@ -1,7 +1,7 @@
 -- Eyes: a region and a chain to which it is vital, each named by its lowest point.
 use Rattle.std.specs.Prelude.{◌≡◌, ◌≢◌, ◌↔◌, ℕ, List, Bool, Contains}
 use Rattle.go_grid.specs.declared.grid.Colour.{Colour}
-use Rattle.go_grid.specs.Grid.{Grid, HasStone, Lacks}
+use Rattle.go_grid.specs.Board.{Board, HasStone, Lacks}
 use Rattle.go_grid.specs.Marks.{IsMarked}
 use Rattle.go_grid.specs.Parts.{label}
 use Rattle.benson_life.specs.declared.surveys.Survey.{Survey}
@@ -9,7 +9,7 @@ use Rattle.benson_life.specs.declared.eyes.Eye.{Eye}
 use Rattle.benson_life.specs.Life.{IsVital}
 
 -- the region is vital to the chain, and the two points name them
-pub record IsVitalPair (g : Grid) (c : Colour) (s : Survey) (e : Eye) : Type 0 where
+pub record IsVitalPair (g : Board) (c : Colour) (s : Survey) (e : Eye) : Type 0 where
   pub lacks : Lacks g c e.region
   pub stone : HasStone g c e.chain
   pub region : label s.regions e.region ≡ e.region
@@ -17,7 +17,7 @@ pub record IsVitalPair (g : Grid) (c : Colour) (s : Survey) (e : Eye) : Type 0 w
   pub vital : IsVital g c e.region e.chain
 
 -- the list has exactly these pairs
-abbrev pub AreEyes : Grid → Colour → Survey → List Eye → Type 0
+abbrev pub AreEyes : Board → Colour → Survey → List Eye → Type 0
 AreEyes g c s eyes = (e : Eye) → Contains eyes e ↔ IsVitalPair g c s e
 
 -- the point is a stone of the chain that `k` names
@@ -25,7 +25,7 @@ abbrev pub IsOfChain : Survey → ℕ → ℕ → Type 0
 IsOfChain s k q = IsMarked s.stones q × (label s.chains q ≡ k)
 
 -- the pair is of the region of `p` and the chain of the stone `q`
-abbrev pub IsPairOf : Grid → Colour → Survey → ℕ → ℕ → Eye → Type 0
+abbrev pub IsPairOf : Board → Colour → Survey → ℕ → ℕ → Eye → Type 0
 IsPairOf g c s p q e = IsVitalPair g c s e × (e.region ≡ label s.regions p) × IsOfChain s e.chain q
 
 -- the region is listed for the chain, and its wall isn't breached

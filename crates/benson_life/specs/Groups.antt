@@ -1,28 +1,28 @@
 -- Groups of alive stones.
 use Rattle.std.specs.Prelude.{ℕ, ◌≤◌, ◌⊎◌}
 use Rattle.go_grid.specs.declared.grid.Colour.{Colour}
-use Rattle.go_grid.specs.Grid.{Grid, NextTo}
+use Rattle.go_grid.specs.Board.{Board, NextTo}
 use Rattle.go_grid.specs.Path.{Leads}
 use Rattle.go_grid.specs.Chain.{InChain}
 use Rattle.benson_life.specs.Life.{InRegion, IsAlive, IsCounted}
 use Rattle.benson_life.specs.Held.{IsNumberOf}
 
 -- each of the two is next to a point of one region whose points are counted
-abbrev pub ShareCounted : Grid → Colour → ℕ → ℕ → Type 0
+abbrev pub ShareCounted : Board → Colour → ℕ → ℕ → Type 0
 ShareCounted g c s t = (p q : ℕ) × IsCounted g c p × InRegion g c p q × NextTo g.columns p s × NextTo g.columns q t
 
 -- two alive stones are linked when they are of one chain, or share a counted region
-abbrev pub IsLinked : Grid → Colour → ℕ → ℕ → Type 0
+abbrev pub IsLinked : Board → Colour → ℕ → ℕ → Type 0
 IsLinked g c s t = InChain g c s t ⊎ ShareCounted g c s t
 
 -- a list of links over alive stones joins the two
-abbrev pub InGroup : Grid → Colour → ℕ → ℕ → Type 0
+abbrev pub InGroup : Board → Colour → ℕ → ℕ → Type 0
 InGroup g c s t = Leads (IsLinked g c) (IsAlive g c) s t
 
 -- the lowest stone of its group, of which each group has one
-abbrev pub IsLeader : Grid → Colour → ℕ → Type 0
+abbrev pub IsLeader : Board → Colour → ℕ → Type 0
 IsLeader g c s = IsAlive g c s × ((t : ℕ) → InGroup g c s t → s ≤ t)
 
 -- the colour has `n` groups
-abbrev pub IsNumberOfGroups : Grid → Colour → ℕ → Type 0
+abbrev pub IsNumberOfGroups : Board → Colour → ℕ → Type 0
 IsNumberOfGroups g c n = IsNumberOf (IsLeader g c) n

@@ -4,7 +4,7 @@ use Rattle.go_grid.specs.declared.grid.Cell.{Cell}
 use Rattle.go_grid.specs.declared.grid.Cell.TheVariants as cell
 use Rattle.go_grid.specs.declared.grid.Colour.{Colour}
 use Rattle.go_grid.specs.declared.grid.Colour.TheVariants as colour
-use Rattle.go_grid.specs.Grid.{Grid, HasStone, IsEmpty, cell_at, other}
+use Rattle.go_grid.specs.Board.{Board, HasStone, IsEmpty, cell_at, other}
 use Rattle.go_grid.specs.Marks.{Lists}
 use Rattle.benson_life.specs.Life.{IsCounted}
 
@@ -17,7 +17,7 @@ cell_worth colour.White cell.Black = 2
 cell_worth colour.White cell.White = 0
 
 -- what the cell at a point is worth
-abbrev pub worth : Grid → Colour → ℕ → ℕ
+abbrev pub worth : Board → Colour → ℕ → ℕ
 worth g c p = cell_worth c (cell_at g p)
 
 -- there are `n` points of `P`
@@ -25,7 +25,7 @@ abbrev pub IsNumberOf : (ℕ → Type 0) → ℕ → Type 0
 IsNumberOf P n = (points : List ℕ) × Lists points P × (length points ≡ n)
 
 -- the number of empty points counted for the colour, and twice the number of the other colour's stones on such points
-pub record IsHeld (g : Grid) (c : Colour) (n : ℕ) : Type 0 where
+pub record IsHeld (g : Board) (c : Colour) (n : ℕ) : Type 0 where
   pub empty : ℕ
   pub captive : ℕ
   pub empties : IsNumberOf (λ p. IsCounted g c p × IsEmpty g p) empty

@@ -1,11 +1,11 @@
 -- What the life of one colour is read from: its chains and regions, each named by its lowest point.
 use Rattle.go_grid.specs.declared.grid.Colour.{Colour}
-use Rattle.go_grid.specs.Grid.{Grid, HasStone, IsEmpty, Lacks}
+use Rattle.go_grid.specs.Board.{Board, HasStone, IsEmpty, Lacks}
 use Rattle.go_grid.specs.Marks.{Marks}
 use Rattle.go_grid.specs.Parts.{AreParts}
 use Rattle.benson_life.specs.declared.surveys.Survey.{Survey}
 
-pub record IsSurvey (g : Grid) (c : Colour) (s : Survey) : Type 0 where
+pub record IsSurvey (g : Board) (c : Colour) (s : Survey) : Type 0 where
   pub stones : Marks s.stones (HasStone g c)
   pub lacking : Marks s.lacking (Lacks g c)
   pub empties : Marks s.empties (IsEmpty g)

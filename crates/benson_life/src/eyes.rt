@@ -2,7 +2,7 @@
 
 ghost use Rattle.std.specs.Prelude.{◌≡◌, ℕ, ◌<◌, ◌↔◌, ◌⊎◌, true, IfOk, OnOk, Contains};
 ghost use Rattle.go_grid.specs.Chain.{IsLiberty, IsSettled};
-ghost use Rattle.go_grid.specs.Grid.{HasStone, IsEmpty, Lacks};
+ghost use Rattle.go_grid.specs.Board.{HasStone, IsEmpty, Lacks};
 ghost use Rattle.go_grid.specs.Parts.{label};
 ghost use Rattle.benson_life.specs.Eyes.{AreEyes, IsOfChain, IsPairOf, IsVitalPair};
 ghost use Rattle.benson_life.specs.Life.{IsVital};

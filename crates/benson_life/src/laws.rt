@@ -3,7 +3,7 @@
 ghost use Rattle.std.specs.Prelude.{ℕ, ◌*◌, ◌≤◌, List, Contains};
 ghost use Rattle.go_grid.specs.declared.grid.Colour.{Colour};
 ghost use Rattle.go_grid.specs.Chain.{IsSettled};
-ghost use Rattle.go_grid.specs.Grid.{Grid};
+ghost use Rattle.go_grid.specs.Board.{Board};
 ghost use Rattle.go_play.specs.Place.{Stands};
 ghost use Rattle.benson_life.specs.Groups.{IsNumberOfGroups};
 ghost use Rattle.benson_life.specs.Held.{IsHeld};
@@ -12,13 +12,13 @@ ghost use Rattle.benson_life.specs.Life.{IsHealthy};
 /// On a settled board each stone of a healthy list still stands after every list of legal and unanswered placings
 /// of the other colour (Benson 1976).
 pub fn benson_law()
-    ensures { (g : Grid) (c : Colour) (S : List ℕ) → IsSettled g → IsHealthy g c S
+    ensures { (g : Board) (c : Colour) (S : List ℕ) → IsSettled g → IsHealthy g c S
         → (s : ℕ) → Contains S s → Stands g c s }
 {}
 
 /// On a settled board each colour holds two points or more for each of its groups: a group has two counted regions of its
 /// own, with an empty point in each.
 pub fn tax_law()
-    ensures { (g : Grid) (c : Colour) (held groups : ℕ) → IsSettled g → IsHeld g c held → IsNumberOfGroups g c groups
+    ensures { (g : Board) (c : Colour) (held groups : ℕ) → IsSettled g → IsHeld g c held → IsNumberOfGroups g c groups
         → 2 * groups ≤ held }
 {}

@@ -2,7 +2,7 @@
 
 ghost use Rattle.std.specs.Prelude.{ℕ, ◌<◌, All, count_by};
 ghost use Rattle.std.specs.Bool.{OnFalse, OnTrue};
-ghost use Rattle.go_grid.specs.Grid.{HasStone};
+ghost use Rattle.go_grid.specs.Board.{HasStone};
 ghost use Rattle.go_grid.specs.Marks.{IsMarked, Marks};
 ghost use Rattle.go_grid.specs.Parts.{label};
 ghost use Rattle.benson_life.specs.Eyes.{AreEyes, HasWalledEye, HasTwoWalledEyes};

@@ -1,7 +1,7 @@
 //! The walls of regions.
 
 ghost use Rattle.std.specs.Prelude.{◌≡◌, ℕ, ◌*◌, ◌<◌, ◌↔◌};
-ghost use Rattle.go_grid.specs.Grid.{Lacks};
+ghost use Rattle.go_grid.specs.Board.{Lacks};
 ghost use Rattle.go_grid.specs.Marks.{IsMarked, IsWithin, Marks, Touches};
 ghost use Rattle.go_grid.specs.Parts.{label};
 ghost use Rattle.benson_life.specs.Life.{IsWalledBy};

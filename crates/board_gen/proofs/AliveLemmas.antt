@@ -8,7 +8,7 @@ use Rattle.go_grid.specs.declared.grid.Cell.{Cell}
 use Rattle.go_grid.specs.declared.grid.Cell.TheVariants as cell
 use Rattle.go_grid.specs.declared.grid.Colour.{Colour}
 use Rattle.go_grid.specs.declared.grid.Colour.TheVariants as colour
-use Rattle.go_grid.specs.Grid.{Grid, NextTo, HasStone, IsEmpty, Lacks, cell_at, stone}
+use Rattle.go_grid.specs.Board.{Board, NextTo, HasStone, IsEmpty, Lacks, cell_at, stone}
 use Rattle.go_grid.specs.Walk.{Joined}
 use Rattle.go_grid.proofs.NearLemmas.{next_down}
 use Rattle.go_grid.proofs.PointsLemmas.{ListsBelow, lists_push, lists_skip}
@@ -91,7 +91,7 @@ holes_of colour.White x lt own = record {
 }
 
 -- a stone of the colour, or none
-stone_or_none : (g : Grid) (c : Colour) (p : ℕ) → HasStone g c p ⊎ ¬ HasStone g c p
+stone_or_none : (g : Board) (c : Colour) (p : ℕ) → HasStone g c p ⊎ ¬ HasStone g c p
 stone_or_none g c p = elim (cases_lt p (length g.cells)) [
   | inl lt ↦ at c (cell_at g p) refl lt
   | inr le ↦ inr (λ h. omega (arith, le, h.0))
@@ -105,7 +105,7 @@ stone_or_none g c p = elim (cases_lt p (length g.cells)) [
     at colour.White cell.Black e lt = inr (λ h. let w = sym e ∙ h.1 in cc)
     at colour.White cell.Empty e lt = inr (λ h. let w = sym e ∙ h.1 in cc)
 
-stones_below : (g : Grid) (c : Colour) (n : ℕ) → (points : List ℕ) × ListsBelow points (HasStone g c) n
+stones_below : (g : Board) (c : Colour) (n : ℕ) → (points : List ℕ) × ListsBelow points (HasStone g c) n
 stones_below g c zero =
     ([], record { ascending = λ k lt. absurd (omega arith); listed = λ p h. absurd (omega (arith, h.1)); all = λ p lt. absurd (omega arith) })
 stones_below g c (suc n) =
@@ -117,12 +117,12 @@ stones_below g c (suc n) =
     ]
 
 -- the list of all stones of a colour
-stones_of : (g : Grid) (c : Colour) → (points : List ℕ) × ((p : ℕ) → Contains points p ↔ HasStone g c p)
+stones_of : (g : Board) (c : Colour) → (points : List ℕ) × ((p : ℕ) → Contains points p ↔ HasStone g c p)
 stones_of g c =
     let (points, s) = stones_below g c (length g.cells) in
     (points, λ p. (λ h. (s.listed p h).1, λ h. s.all p h.0 h))
 
-module _ (number : ℕ) (g : Grid) (board : IsTrialBoard number g) where
+module _ (number : ℕ) (g : Board) (board : IsTrialBoard number g) where
   -- what a point of the last row holds, by its letter
   pub last_stone : (c : Colour) (q : ℕ) → q < 625 → q / 25 ≡ 24 → slice_index last_row (q % 25) ≡ ink c → HasStone g c q
   last_stone c q lt row e = (

@@ -8,7 +8,7 @@ use Rattle.go_grid.specs.declared.grid.Cell.TheVariants as cell
 use Rattle.go_grid.specs.declared.grid.Colour.{Colour}
 use Rattle.go_grid.specs.declared.grid.Colour.TheVariants as colour
 use Rattle.go_grid.specs.declared.region.Touch.{Touch}
-use Rattle.go_grid.specs.Grid.{other}
+use Rattle.go_grid.specs.Board.{other}
 use Rattle.game_store.specs.Tree.{Tree, node, none, Has}
 use Rattle.game_store.specs.Order.{◌≤ᵍ◌, ◌≡ᵍ◌}
 use Rattle.game_store.specs.Sum.{◌+ᵍ◌}

@@ -10,14 +10,14 @@ use Rattle.std.proofs.lemmas.List.Elements.{Contains-get_or}
 use Rattle.std.proofs.lemmas.Nat.{mod_below, div-add-mod'}
 use Rattle.go_grid.specs.declared.grid.Colour.{Colour}
 use Rattle.go_grid.specs.declared.grid.Colour.TheVariants as colour
-use Rattle.go_grid.specs.Grid.{Grid, NextTo, HasStone, IsEmpty}
+use Rattle.go_grid.specs.Board.{Board, NextTo, HasStone, IsEmpty}
 use Rattle.board_gen.specs.Trial.{draw, IsOwner, IsCorridorColumn, IsCorridorOwner, IsInCorridor, IsInSomeCorridor, IsTrialBoard, corridor_length, last_row}
 use Rattle.board_gen.proofs.AliveLemmas.{ink, last_stone}
 use Rattle.board_gen.proofs.SettledLemmas.{owner_of, row_stone}
 
 -- Columns from `first` up to `end`, which is not one of them, of a row. Stones of one colour stand in the rows above and below, and
 -- no empty point is beside them.
-pub record IsGap (g : Grid) (c : Colour) (row first end : ℕ) : Type 0 where
+pub record IsGap (g : Board) (c : Colour) (row first end : ℕ) : Type 0 where
   pub narrow : end ≤ first + 3
   pub above : 1 ≤ row
   pub stones_above : (x : ℕ) → first ≤ x → x < end → HasStone g c ((row - 1) * 25 + x)
@@ -32,7 +32,7 @@ pub record IsInGap (row first end p : ℕ) : Type 0 where
   pub below : p % 25 < end
 
 -- an empty point next to a point of the gap is in it
-pub next_in_gap : (g : Grid) (c : Colour) (row first end p q : ℕ) → IsGap g c row first end → IsInGap row first end p → NextTo 25 p q
+pub next_in_gap : (g : Board) (c : Colour) (row first end p q : ℕ) → IsGap g c row first end → IsInGap row first end p → NextTo 25 p q
     → IsEmpty g q → IsInGap row first end q
 next_in_gap g c row first end p q gap i (inl (same, inl right)) empty = record {
   row_is = sym same ∙ i.row_is;
@@ -195,7 +195,7 @@ alone x lt empty apart other =
       ]
     ]
 
-module _ (number : ℕ) (g : Grid) (board : IsTrialBoard number g) where
+module _ (number : ℕ) (g : Board) (board : IsTrialBoard number g) where
   not_empty : (c : Colour) (q : ℕ) → HasStone g c q → ¬ IsEmpty g q
   not_empty colour.Black q h e = let w = sym h.1 ∙ e.1 in cc
   not_empty colour.White q h e = let w = sym h.1 ∙ e.1 in cc

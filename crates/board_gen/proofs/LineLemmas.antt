@@ -1,7 +1,7 @@
 -- Walks along a line of points.
 use Rattle.std.proofs.Common.{ℕ, zero, suc, ◌+◌, ◌-◌, ◌*◌, ◌%◌, ◌<◌, ◌≤◌, ◌≡◌, subst, arith}
 use Rattle.std.proofs.lemmas.Nat.{mod-mul-add}
-use Rattle.go_grid.specs.Grid.{NextTo}
+use Rattle.go_grid.specs.Board.{NextTo}
 use Rattle.go_grid.specs.Walk.{Joined}
 use Rattle.go_grid.proofs.WalkLemmas.{joined_here, joined_step}
 use Rattle.go_grid.proofs.NearLemmas.{next_right, next_down}

@@ -6,7 +6,7 @@ use Rattle.std.proofs.lemmas.Nat.{div_below}
 use Rattle.std.specs.Prelude.{slice_index}
 use Rattle.go_grid.specs.declared.grid.Cell.{Cell}
 use Rattle.go_grid.specs.declared.grid.Cell.TheVariants as cell
-use Rattle.go_grid.specs.Grid.{Grid, cell_at}
+use Rattle.go_grid.specs.Board.{Board, cell_at}
 use Rattle.sgf_go.proofs.Areas.{cell_stable}
 use Rattle.board_gen.specs.Trial.{IsDrawnBy, IsInSomeCorridor, IsTrialBoard, IsTrialCell, last_row}
 use Rattle.board_gen.proofs.SettledLemmas.{owner_of}
@@ -38,7 +38,7 @@ one_cell number p x y inside a b = elim (cases_lt (p / 25) 24) [
       )
 ]
 
-pub one_board : (number : ℕ) (g h : Grid) → IsTrialBoard number g → IsTrialBoard number h → g ≡ h
+pub one_board : (number : ℕ) (g h : Board) → IsTrialBoard number g → IsTrialBoard number h → g ≡ h
 one_board number g h a b =
     let columns = a.columns ∙ sym b.columns in
     let rows = a.rows ∙ sym b.rows in

@@ -7,7 +7,7 @@ use Rattle.go_grid.specs.declared.grid.Cell.TheVariants as cell
 use Rattle.go_grid.specs.declared.grid.Colour.{Colour}
 use Rattle.go_grid.specs.declared.grid.Colour.TheVariants as colour
 use Rattle.go_grid.specs.declared.region.Touch.{Touch}
-use Rattle.go_grid.specs.Grid.{stone, other}
+use Rattle.go_grid.specs.Board.{stone, other}
 use Rattle.local_play.specs.LocalPlay.{Holds, IsLocalMove, IsNumberTaken, held_at, is_stone}
 use Rattle.board_gen.proofs.NoReturn.{AreWalled, all_stay, owner_stays, placed}
 

@@ -9,8 +9,8 @@ use Rattle.go_grid.specs.declared.grid.Cell.{Cell}
 use Rattle.go_grid.specs.declared.grid.Cell.TheVariants as cell
 use Rattle.go_grid.specs.declared.grid.Colour.{Colour}
 use Rattle.go_grid.specs.declared.grid.Colour.TheVariants as colour
-use Rattle.go_grid.specs.Grid.{Grid, NextTo, IsEmpty, cell_at}
-use Rattle.go_grid.specs.Region.{Shape, IsBeside as IsBesideTouch, touch_at}
+use Rattle.go_grid.specs.Board.{Board, NextTo, IsEmpty, cell_at}
+use Rattle.go_grid.specs.Region.{Region, IsBeside as IsBesideTouch, touch_at}
 use Rattle.go_grid.specs.Walk.{Joined}
 use Rattle.go_grid.proofs.NearLemmas.{next_up}
 use Rattle.go_grid.proofs.WalkLemmas.{carried, joined_end}
@@ -28,11 +28,11 @@ use Rattle.board_gen.proofs.Forms.{few_parts, small_numbers}
 use Rattle.board_gen.proofs.NoReturn.{AreWalled, no_cycle, plays_long}
 
 -- the two ways to say that an alive stone is next to a place
-beside_same : (c : Colour) (r : Shape) (i : ℕ) → IsBesideTouch c (touch_at r.touch i) → IsBeside r.touch c i
+beside_same : (c : Colour) (r : Region) (i : ℕ) → IsBesideTouch c (touch_at r.touch i) → IsBeside r.touch c i
 beside_same colour.Black r i h = h
 beside_same colour.White r i h = h
 
-module _ (number : ℕ) (g : Grid) (board : IsTrialBoard number g) where
+module _ (number : ℕ) (g : Board) (board : IsTrialBoard number g) where
   contested_empty : (p : ℕ) → IsContested g p → IsEmpty g p
   contested_empty p (inside, black, white, _, _) = (inside, at (cell_at g p) refl)
     where
@@ -41,7 +41,7 @@ module _ (number : ℕ) (g : Grid) (board : IsTrialBoard number g) where
       at cell.Black e = absurd (black (all_alive number g board colour.Black p (inside, e)))
       at cell.White e = absurd (white (all_alive number g board colour.White p (inside, e)))
 
-  module _ (r : Shape) (is : IsRegionOfPlay g r) where
+  module _ (r : Region) (is : IsRegionOfPlay g r) where
     first_empty : IsEmpty g (lowest r)
     first_empty =
         let here = (is.points (lowest r)).0 (Contains-get_or r.points 0 0 is.proper.some) in

@@ -9,9 +9,9 @@ use Rattle.go_grid.specs.declared.grid.Cell.TheVariants as cell
 use Rattle.go_grid.specs.declared.grid.Colour.{Colour}
 use Rattle.go_grid.specs.declared.grid.Colour.TheVariants as colour
 use Rattle.go_grid.specs.Chain.{IsSettled}
-use Rattle.go_grid.specs.Grid.{Grid, NextTo, HasStone, IsEmpty, cell_at, stone}
+use Rattle.go_grid.specs.Board.{Board, NextTo, HasStone, IsEmpty, cell_at, stone}
 use Rattle.go_grid.specs.Walk.{Joined}
-use Rattle.go_grid.proofs.GridLemmas.{same_stone}
+use Rattle.go_grid.proofs.BoardLemmas.{same_stone}
 use Rattle.go_grid.proofs.NearLemmas.{next_up, next_down}
 use Rattle.go_grid.proofs.WalkLemmas.{joined_back, joined_here, joined_join, joined_step}
 use Rattle.board_gen.specs.Trial.{draw, IsOwner, IsCorridorColumn, IsInCorridor, IsInSomeCorridor, IsDrawnBy, IsTrialBoard, corridor_length, last_row}
@@ -115,7 +115,7 @@ spine_of colour.White x lt own = (
   ],
 )
 
-module _ (number : ℕ) (g : Grid) (board : IsTrialBoard number g) where
+module _ (number : ℕ) (g : Board) (board : IsTrialBoard number g) where
   -- a stone is its column's owner's
   pub stone_owner : (c : Colour) (p : ℕ) → HasStone g c p → IsOwner (p % 25) c
   stone_owner c p h =

@@ -1,8 +1,8 @@
 -- Regions that are quickly played out.
 use Rattle.std.specs.Prelude.{◌≤◌, List, length, Contains}
 use Rattle.go_grid.specs.declared.grid.Cell.{Cell}
-use Rattle.go_grid.specs.Grid.{Grid}
-use Rattle.go_grid.specs.Region.{Shape}
+use Rattle.go_grid.specs.Board.{Board}
+use Rattle.go_grid.specs.Region.{Region}
 use Rattle.local_graph.specs.FiniteLocalPlay.{HasNoCycle}
 use Rattle.local_graph.specs.LocalGraph.{IsReachable, MoreThan}
 use Rattle.game_store.specs.Tree.{Tree}
@@ -13,7 +13,7 @@ use Rattle.region_cut.specs.Cut.{AreRegionsOfPlay}
 
 -- the region has at most 3 points, at most 27 reachable positions and no cycle, and the value of each of these has at most 500
 -- parts and numbers within the bounds of a Dyadic
-pub record IsShort (r : Shape) : Type 0 where
+pub record IsShort (r : Region) : Type 0 where
   pub points : length r.points ≤ 3
   pub positions : ¬ MoreThan r.touch r.cells 27
   pub no_cycle : HasNoCycle r.touch r.cells
@@ -21,5 +21,5 @@ pub record IsShort (r : Shape) : Type 0 where
   pub bounds : (cells : List Cell) (V : Tree) → IsReachable r.touch r.cells cells → IsValueOf r.touch cells V → ¬ HasNumberPastBounds V
 
 -- each region of play of the board is such
-abbrev pub HasShortRegions : Grid → Type 0
-HasShortRegions g = (regions : List Shape) → AreRegionsOfPlay g regions → (r : Shape) → Contains regions r → IsShort r
+abbrev pub HasShortRegions : Board → Type 0
+HasShortRegions g = (regions : List Region) → AreRegionsOfPlay g regions → (r : Region) → Contains regions r → IsShort r

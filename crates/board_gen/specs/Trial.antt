@@ -4,7 +4,7 @@ use Rattle.go_grid.specs.declared.grid.Cell.{Cell}
 use Rattle.go_grid.specs.declared.grid.Cell.TheVariants as cell
 use Rattle.go_grid.specs.declared.grid.Colour.{Colour}
 use Rattle.go_grid.specs.declared.grid.Colour.TheVariants as colour
-use Rattle.go_grid.specs.Grid.{Grid, cell_at, stone}
+use Rattle.go_grid.specs.Board.{Board, cell_at, stone}
 
 -- the numbers that a number draws, each from the one before
 abbrev pub draw : ℕ → ℕ → ℕ
@@ -61,7 +61,7 @@ pub record IsTrialCell (number p : ℕ) (held : Cell) : Type 0 where
   pub wall : (c : Colour) → p / 25 < 24 → ¬ IsInSomeCorridor number p → IsOwner (p % 25) c → held ≡ stone c
 
 -- the board that the number draws
-pub record IsTrialBoard (number : ℕ) (g : Grid) : Type 0 where
+pub record IsTrialBoard (number : ℕ) (g : Board) : Type 0 where
   pub columns : g.columns ≡ 25
   pub rows : g.rows ≡ 25
   pub full : length g.cells ≡ 625

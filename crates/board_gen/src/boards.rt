@@ -4,7 +4,7 @@ ghost use Rattle.std.specs.Prelude.{◌≡◌, ℕ, ◌<◌, IfOk, pos};
 ghost use Rattle.go_grid.specs.declared.grid.Colour.{Colour};
 ghost use Rattle.go_grid.specs.declared.grid.Colour.TheVariants.{Black};
 ghost use Rattle.go_grid.specs.Chain.{IsSettled};
-ghost use Rattle.go_grid.specs.Grid.{Grid, stone};
+ghost use Rattle.go_grid.specs.Board.{Board, stone};
 ghost use Rattle.board_gen.specs.Corridor.{AreCorridors};
 ghost use Rattle.board_gen.specs.Short.{HasShortRegions};
 ghost use Rattle.board_gen.specs.Trial.{IsDrawnBy, IsOwner, IsTrialBoard, IsTrialCell};
@@ -73,7 +73,7 @@ fn board_of(alloc: Global, number: u32) -> Result<Board, AllocError>
 /// corridor.
 pub fn make(alloc: Global, number: u32) -> Result<Setup, AllocError>
     ensures board { IfOk result (λ setup. IsTrialBoard number setup.board) }
-    ensures only { IfOk result (λ setup. (g : Grid) → IsTrialBoard number g → g ≡ setup.board) }
+    ensures only { IfOk result (λ setup. (g : Board) → IsTrialBoard number g → g ≡ setup.board) }
     ensures settled { IfOk result (λ setup. IsSettled setup.board) }
     ensures short { IfOk result (λ setup. HasShortRegions setup.board) }
     ensures plain { IfOk result (λ setup. (setup.side ≡ Black) × (setup.komi_halves ≡ pos 0)

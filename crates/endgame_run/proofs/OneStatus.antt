@@ -4,7 +4,7 @@ use Rattle.std.specs.Prelude.{Option}
 use Rattle.std.specs.List.{Contains}
 use Rattle.std.proofs.lemmas.Bool.{cases_order}
 use Rattle.std.proofs.lemmas.List.Elements.{Contains-get_or}
-use Rattle.go_grid.specs.Region.{Shape}
+use Rattle.go_grid.specs.Region.{Region}
 use Rattle.sgf_tree.specs.Grammar.{PropertyText}
 use Rattle.sgf_tree.specs.Reading.{Answer, IsAnswer as IsTreeAnswer}
 use Rattle.sgf_tree.specs.Reading.Answer.{line, no_tree, bad_byte, cut_short, too_deep}
@@ -38,7 +38,7 @@ use Rattle.report.proofs.ValuesLaws.{shown_at}
 use Rattle.endgame_solver.proofs.OneRegions.{one_regions}
 
 -- a sound region has no fault
-sound_has_none : (limits : Limits) (r : Shape) (f : SolveError) → IsSound limits r → IsFaultOf limits r f → ⊥
+sound_has_none : (limits : Limits) (r : Region) (f : SolveError) → IsSound limits r → IsFaultOf limits r f → ⊥
 sound_has_none limits r (Points p n) s h = h
 sound_has_none limits r (Positions p) s h = s.positions h.1
 sound_has_none limits r (Cycle p names back) s h = s.no_cycle h.2.0 back h.2.1
@@ -46,7 +46,7 @@ sound_has_none limits r (Form p) s h = s.forms h.3
 sound_has_none limits r (Memory e) s h = h
 
 -- the faults of a region have one status
-region_status : (limits : Limits) (r : Shape) (f g : SolveError) (s t : Status) → IsFaultOf limits r f → IsFaultOf limits r g → HasStatus f s → HasStatus g t → s ≡ t
+region_status : (limits : Limits) (r : Region) (f g : SolveError) (s t : Status) → IsFaultOf limits r f → IsFaultOf limits r g → HasStatus f s → HasStatus g t → s ≡ t
 region_status limits r (Points p n) g s t a b x y = absurd a
 region_status limits r (Memory e) g s t a b x y = absurd a
 region_status limits r f (Points p n) s t a b x y = absurd b
@@ -62,10 +62,10 @@ region_status limits r (Form p) (Cycle q names back) s t a b x y = absurd (a.2 b
 region_status limits r (Form p) (Form q) s t a b x y = x ∙ sym y
 
 -- a region of more than 32 points, or else the first fault of a region
-abbrev HasLarge : List Shape → Type 0
-HasLarge rs = (r : Shape) × Contains rs r × (32 < length r.points)
+abbrev HasLarge : List Region → Type 0
+HasLarge rs = (r : Region) × Contains rs r × (32 < length r.points)
 
-by_size : (limits : Limits) (rs : List Shape) (f : SolveError) (s : Status) → AreRefused limits rs f → HasStatus f s
+by_size : (limits : Limits) (rs : List Region) (f : SolveError) (s : Status) → AreRefused limits rs f → HasStatus f s
     → (HasLarge rs × (s ≡ status.RegionLimit)) ⊎ (AreSmall rs × IsFirstFault limits rs f)
 by_size limits rs (Points p n) s h x = let many : 32 < length (region_at rs h.0).points = omega (arith, h.3, h.4) in inl ((region_at rs h.0, Contains-get_or rs h.0 no_region h.1, many), x)
 by_size limits rs (Positions p) s h x = inr h
@@ -73,17 +73,17 @@ by_size limits rs (Cycle p names back) s h x = inr h
 by_size limits rs (Form p) s h x = inr h
 by_size limits rs (Memory e) s h x = absurd x
 
-large_or_small : (rs : List Shape) → HasLarge rs → AreSmall rs → ⊥
+large_or_small : (rs : List Region) → HasLarge rs → AreSmall rs → ⊥
 large_or_small rs (r, among, large) small = let few = small r among in absurd (omega (arith, few, large))
 
-first_status : (limits : Limits) (rs : List Shape) (f g : SolveError) (s t : Status) → IsFirstFault limits rs f → IsFirstFault limits rs g → HasStatus f s → HasStatus g t → s ≡ t
+first_status : (limits : Limits) (rs : List Region) (f g : SolveError) (s t : Status) → IsFirstFault limits rs f → IsFirstFault limits rs g → HasStatus f s → HasStatus g t → s ≡ t
 first_status limits rs f g s t (k, lt, a, before) (j, lt', b, earlier) x y = elim (cases_order k j) as (λ _. s ≡ t) [
   | inl e ↦ region_status limits (region_at rs j) f g s t (subst (λ i. IsFaultOf limits (region_at rs i) f) e a) b x y
   | inr (inl less) ↦ absurd (sound_has_none limits (region_at rs k) f (earlier k less) a)
   | inr (inr more) ↦ absurd (sound_has_none limits (region_at rs j) g (before j more) b)
 ]
 
-refusals : (limits : Limits) (rs : List Shape) (f g : SolveError) (s t : Status) → AreRefused limits rs f → AreRefused limits rs g → HasStatus f s → HasStatus g t → s ≡ t
+refusals : (limits : Limits) (rs : List Region) (f g : SolveError) (s t : Status) → AreRefused limits rs f → AreRefused limits rs g → HasStatus f s → HasStatus g t → s ≡ t
 refusals limits rs f g s t a b x y = go (by_size limits rs f s a x) (by_size limits rs g t b y) where
   go : (HasLarge rs × (s ≡ status.RegionLimit)) ⊎ (AreSmall rs × IsFirstFault limits rs f) → (HasLarge rs × (t ≡ status.RegionLimit)) ⊎ (AreSmall rs × IsFirstFault limits rs g) → s ≡ t
   go (inl l) (inl m) = l.1 ∙ sym m.1
@@ -91,7 +91,7 @@ refusals limits rs f g s t a b x y = go (by_size limits rs f s a x) (by_size lim
   go (inr l) (inl m) = absurd (large_or_small rs m.0 l.0)
   go (inr l) (inr m) = first_status limits rs f g s t l.1 m.1 x y
 
-sound_or_refused : (limits : Limits) (rs : List Shape) (f : SolveError) (s : Status) → AreSound limits rs → AreRefused limits rs f → HasStatus f s → ⊥
+sound_or_refused : (limits : Limits) (rs : List Region) (f : SolveError) (s : Status) → AreSound limits rs → AreRefused limits rs f → HasStatus f s → ⊥
 sound_or_refused limits rs f s sound a x = go (by_size limits rs f s a x) where
   go : (HasLarge rs × (s ≡ status.RegionLimit)) ⊎ (AreSmall rs × IsFirstFault limits rs f) → ⊥
   go (inl l) = large_or_small rs l.0 (λ r h. (sound r h).points)
@@ -114,7 +114,7 @@ solved_or_refused limits p (status.BadExpression f) a h = absurd h
 solved_or_refused limits p status.CalcLimit a h = absurd h
 
 -- sound regions aren't refused
-sound_clash : (limits : Limits) (p : Setup) (s : Status) (b : List ℕ) (regions : List Shape) → AreRegionsOfPlay p.board regions → AreSound limits regions → IsRefused limits p s b → ⊥
+sound_clash : (limits : Limits) (p : Setup) (s : Status) (b : List ℕ) (regions : List Region) → AreRegionsOfPlay p.board regions → AreSound limits regions → IsRefused limits p s b → ⊥
 sound_clash limits p s b regions are sound w =
     sound_or_refused limits w.regions w.fault s (subst (AreSound limits) (one_regions p.board regions w.regions are w.are_regions) sound) w.refused w.status
 
@@ -147,7 +147,7 @@ valued_or_not limits p (status.BadExpression f) a h = absurd h
 valued_or_not limits p status.CalcLimit a h = absurd h
 
 -- of regions all of whose values are shown none isn't
-shown_clash : (regions others : List Shape) (p : ℕ) → others ≡ regions → ((k : ℕ) → k < length regions → HasShownValue (region_at regions k)) → IsFirstUnshown others p → ⊥
+shown_clash : (regions others : List Region) (p : ℕ) → others ≡ regions → ((k : ℕ) → k < length regions → HasShownValue (region_at regions k)) → IsFirstUnshown others p → ⊥
 shown_clash regions others p same shown first =
     let u = subst (λ rs. IsFirstUnshown rs p) same first in
     let r = region_at regions u.place in
@@ -173,12 +173,12 @@ refuses_unshown limits p regions point s a are sound first h = go (valued_or_not
   go (inr (inr w)) = w.status
 
 -- what is refused for a fault of a region, against an answer
-against : (limits : Limits) (p : Setup) (regions : List Shape) (f : SolveError) (s t : Status) (a : List ℕ) → AreRegionsOfPlay p.board regions → AreRefused limits regions f → HasStatus f t
+against : (limits : Limits) (p : Setup) (regions : List Region) (f : SolveError) (s t : Status) (a : List ℕ) → AreRegionsOfPlay p.board regions → AreRefused limits regions f → HasStatus f t
     → IsRefused limits p s a → s ≡ t
 against limits p regions f s t a are refused x w =
     refusals limits regions w.fault f s t (subst (λ l. AreRefused limits l w.fault) (one_regions p.board w.regions regions w.are_regions are) w.refused) refused w.status x
 
-never_sound : (limits : Limits) (p : Setup) (regions others : List Shape) (f : SolveError) (t : Status) → AreRegionsOfPlay p.board regions → AreRefused limits regions f → HasStatus f t
+never_sound : (limits : Limits) (p : Setup) (regions others : List Region) (f : SolveError) (t : Status) → AreRegionsOfPlay p.board regions → AreRefused limits regions f → HasStatus f t
     → AreRegionsOfPlay p.board others → AreSound limits others → ⊥
 never_sound limits p regions others f t are refused x too sound =
     sound_or_refused limits regions f t (subst (AreSound limits) (one_regions p.board others regions too are) sound) refused x

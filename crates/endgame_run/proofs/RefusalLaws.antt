@@ -5,8 +5,8 @@ use Rattle.std.proofs.lemmas.List.{take-append-drop}
 use Rattle.std.proofs.lemmas.List.Elements.{All-map, Contains-get_or}
 use Rattle.go_grid.specs.declared.grid.Cell.{Cell}
 use Rattle.go_grid.specs.declared.region.Touch.{Touch}
-use Rattle.go_grid.specs.Grid.{Grid}
-use Rattle.go_grid.specs.Region.{Shape}
+use Rattle.go_grid.specs.Board.{Board}
+use Rattle.go_grid.specs.Region.{Region}
 use Rattle.go_grid.proofs.WalkLemmas.{joined_end}
 use Rattle.benson_life.specs.Region.{IsContested}
 use Rattle.region_cut.specs.Cut.{lowest, AreRegionsOfPlay}
@@ -54,7 +54,7 @@ cycle_inside touch opening ms back c =
     let whole = plays_join touch opening c.returns_to c.returns_to (take back ms) (drop back ms) c.there c.again in
     plays_inside touch opening c.returns_to ms (subst (λ l. Plays touch opening l c.returns_to) (take-append-drop back ms) whole)
 
-module _ (g : Grid) (regions : List Shape) (are : AreRegionsOfPlay g regions) (k : ℕ) (lt : k < length regions) where
+module _ (g : Board) (regions : List Region) (are : AreRegionsOfPlay g regions) (k : ℕ) (lt : k < length regions) where
   here : Contains regions (region_at regions k)
   here = Contains-get_or regions k no_region lt
 

@@ -6,7 +6,7 @@ use Rattle.go_grid.specs.declared.grid.Cell.{Cell}
 use Rattle.go_grid.specs.declared.grid.Cell.TheVariants as cell
 use Rattle.go_grid.specs.declared.grid.Colour.{Colour}
 use Rattle.go_grid.specs.declared.grid.Colour.TheVariants as colour
-use Rattle.go_grid.specs.Grid.{Grid, stone}
+use Rattle.go_grid.specs.Board.{Board, stone}
 use Rattle.go_play.specs.Place.{Answers}
 use Rattle.go_play.specs.declared.placing.PlaceError.{PlaceError}
 use Rattle.go_play.specs.declared.placing.PlaceError.TheVariants as place
@@ -21,15 +21,15 @@ use Rattle.sgf_go.specs.Setup.{Part, ◌then◌, GoesOn, Skips, For, Sets, SetsV
 use Rattle.endgame_run.specs.Position.{IsOnLine}
 use Rattle.sgf_go.specs.Setup.Choice.{pass, stone_at, nothing}
 
-record SameSize (g h : Grid) : Type 0 where
+record SameSize (g h : Board) : Type 0 where
   columns : h.columns ≡ g.columns
   rows : h.rows ≡ g.rows
   long : length h.cells ≡ length g.cells
 
-same_here : (g : Grid) → SameSize g g
+same_here : (g : Board) → SameSize g g
 same_here g = record { columns = refl; rows = refl; long = refl }
 
-same_along : (g h k : Grid) → SameSize g h → SameSize h k → SameSize g k
+same_along : (g h k : Board) → SameSize g h → SameSize h k → SameSize g k
 same_along g h k a b = record { columns = b.columns ∙ a.columns; rows = b.rows ∙ a.rows; long = b.long ∙ a.long }
 
 -- behind a part the board has the size that it had; a part has no fault of the end of the line
@@ -103,7 +103,7 @@ taken_board : (c : Colour) (n : ℕ) (s : Replay) → (with_taken c n s).board �
 taken_board colour.Black n s = refl
 taken_board colour.White n s = refl
 
-keeps_placed : (node : ℕ) (c : Colour) (p : ℕ) (s : Replay) (h : Grid) (answer : Result ℕ PlaceError) → Answers s.board p c h answer → Fine s (placed node c s h answer)
+keeps_placed : (node : ℕ) (c : Colour) (p : ℕ) (s : Replay) (h : Board) (answer : Result ℕ PlaceError) → Answers s.board p c h answer → Fine s (placed node c s h answer)
 keeps_placed node c p s h (Ok n) a =
     let w = a.0.without in
     subst (λ b. SameSize s.board b) (sym (taken_board c n (record s { board = h })))

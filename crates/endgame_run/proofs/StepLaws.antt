@@ -1,7 +1,7 @@
 -- How many steps a run takes.
 use Rattle.std.proofs.Common.{◌≡◌, ℕ, ◌≤◌, ◌+◌, ◌⊎◌, inl, inr, refl, sym, ap, subst, ◌∙◌, arith, List, Some, None, Ok}
 use Rattle.std.specs.Prelude.{Option}
-use Rattle.go_grid.specs.Region.{Shape}
+use Rattle.go_grid.specs.Region.{Region}
 use Rattle.sgf_go.specs.declared.settings.Setup.{Setup}
 use Rattle.board_gen.specs.Trial.{IsTrialBoard}
 use Rattle.board_gen.proofs.OneBoard.{one_board}
@@ -63,7 +63,7 @@ one_file words job other q r limits most word w a h b k =
 
 -- a question has limits, or takes no steps
 with_limits : (q : Question) (setup : Setup) (before now : ℕ) → AreStepsFor q setup before now
-    → (now ≡ before) ⊎ ((limits : Limits) × HasLimits q limits × ((regions : List Shape) → AreRegionsOfPlay setup.board regions → now ≤ before + most_steps limits regions))
+    → (now ≡ before) ⊎ ((limits : Limits) × HasLimits q limits × ((regions : List Region) → AreRegionsOfPlay setup.board regions → now ≤ before + most_steps limits regions))
 with_limits question.Safe setup before now s = inl s
 with_limits (question.Solve limits) setup before now s = inr (limits, refl, s)
 with_limits (question.Values limits) setup before now s = inr (limits, refl, s)
@@ -73,12 +73,12 @@ pub no_steps : (words : List (List ℕ)) (files : Option Files) (left : Option (
 no_steps words files left before now (inl e) none = e
 no_steps words files left before now (inr (inr (number, a, s))) none = absurd (none (inr (number, a)))
 no_steps words files left before now (inr (inl (job, q, word, file, setup, a, told, reads, s))) none = go (with_limits q setup before now s) where
-  go : (now ≡ before) ⊎ ((limits : Limits) × HasLimits q limits × ((regions : List Shape) → AreRegionsOfPlay setup.board regions → now ≤ before + most_steps limits regions)) → now ≡ before
+  go : (now ≡ before) ⊎ ((limits : Limits) × HasLimits q limits × ((regions : List Region) → AreRegionsOfPlay setup.board regions → now ≤ before + most_steps limits regions)) → now ≡ before
   go (inl e) = e
   go (inr (limits, h, few)) = absurd (none (inl (job, q, word, a, subst (HasLimits q) (posed words job q limits word a h).2 h)))
 
 -- the steps for a position, of a file that is told or of a number
-pub steps_told : (words : List (List ℕ)) (files : Option Files) (left : Option (List ℕ)) (before now : ℕ) → AreSteps words files left before now → (limits : Limits) (setup : Setup) (regions : List Shape)
+pub steps_told : (words : List (List ℕ)) (files : Option Files) (left : Option (List ℕ)) (before now : ℕ) → AreSteps words files left before now → (limits : Limits) (setup : Setup) (regions : List Region)
     → AreNeededRegions words files left limits setup
     → AreRegionsOfPlay setup.board regions → now ≤ before + most_steps limits regions
 steps_told words files left before now (inl e) limits setup regions t are = omega (arith, e)
@@ -90,7 +90,7 @@ steps_told words files left before now (inr (inr (number, a, inr (position, draw
     let board = one_board number position.board setup.board drawn.board (subst (λ n. IsTrialBoard n setup.board) (one_number words other number b a) here.board) in
     subst (λ l. now ≤ before + most_steps l regions) (sym default) (few regions (subst (λ g. AreRegionsOfPlay g regions) (sym board) are))
 steps_told words files left before now (inr (inl (job, q, word, file, position, a, told, reads, s))) limits setup regions (inl t) are = go (with_limits q position before now s) where
-  go : (now ≡ before) ⊎ ((most : Limits) × HasLimits q most × ((rs : List Shape) → AreRegionsOfPlay position.board rs → now ≤ before + most_steps most rs)) → now ≤ before + most_steps limits regions
+  go : (now ≡ before) ⊎ ((most : Limits) × HasLimits q most × ((rs : List Region) → AreRegionsOfPlay position.board rs → now ≤ before + most_steps most rs)) → now ≤ before + most_steps limits regions
   go (inl e) = omega (arith, e)
   go (inr (most, h, few)) =
       let one = one_file words t.job job t.question q limits most t.word word t.asks t.limited a h in

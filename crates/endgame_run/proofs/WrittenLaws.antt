@@ -4,7 +4,7 @@ use Rattle.std.specs.Prelude.{Option, codes, decimal, sum}
 use Rattle.std.proofs.lemmas.List.{append-nil}
 use Rattle.std.specs.Io.KnownBytes.{append_known}
 use Rattle.go_grid.specs.declared.grid.Colour.{Colour}
-use Rattle.go_grid.specs.Region.{Shape}
+use Rattle.go_grid.specs.Region.{Region}
 use Rattle.sgf_go.specs.declared.settings.Setup.{Setup}
 use Rattle.whole_rules.specs.declared.states.Move.{Move}
 use Rattle.whole_rules.specs.WholeGame.{State}
@@ -29,7 +29,7 @@ front_pieces : (a b c d e f n r : List ℕ) → a ++ ((b ++ (c ++ (d ++ (e ++ (f
 front_pieces a b c d e f n r = simp append_assoc
 
 -- the line `winner` and the line `move` of the text
-winner_stands : (before : Option (List ℕ)) (s : State) (regions : List Shape) (numbers : List ℕ) (winner : Colour) (move : Option Move)
+winner_stands : (before : Option (List ℕ)) (s : State) (regions : List Region) (numbers : List ℕ) (winner : Colour) (move : Option Move)
     → HasLine before (append_known before (solve_text s regions numbers winner move)) (winner_line winner)
 unfolding count_line
 winner_stands before s regions numbers winner move = (
@@ -42,7 +42,7 @@ winner_stands before s regions numbers winner move = (
 pieces : (a b c d e f g : List ℕ) → a ++ (b ++ ((c ++ (d ++ (e ++ f))) ++ g)) ≡ ((a ++ (b ++ (c ++ (d ++ e)))) ++ f) ++ (g ++ [])
 pieces a b c d e f g = simp (append_assoc, append-nil)
 
-move_stands : (before : Option (List ℕ)) (s : State) (regions : List Shape) (numbers : List ℕ) (winner : Colour) (move : Option Move)
+move_stands : (before : Option (List ℕ)) (s : State) (regions : List Region) (numbers : List ℕ) (winner : Colour) (move : Option Move)
     → HasLine before (append_known before (solve_text s regions numbers winner move)) (move_line s.board.columns move)
 unfolding word_line
 move_stands before s regions numbers winner move = (
@@ -55,7 +55,7 @@ move_stands before s regions numbers winner move = (
 pub record Posed (words : List (List ℕ)) (o : Outside) (before now : Option (List ℕ)) : Type 0 where
   pub setup : Setup
   pub state : State
-  pub regions : List Shape
+  pub regions : List Region
   pub numbers : List ℕ
   pub winner : Colour
   pub move : Option Move

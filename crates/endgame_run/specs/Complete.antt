@@ -1,6 +1,6 @@
 -- When a run is answered: nothing keeps it from its text but want of memory.
 use Rattle.std.specs.Prelude.{◌≡◌, ◌⊎◌, ◌<◌, ℕ, List, length, ⊤, Some, Ok}
-use Rattle.go_grid.specs.Region.{Shape}
+use Rattle.go_grid.specs.Region.{Region}
 use Rattle.desk_io.specs.Outside.{Rose}
 use Rattle.sgf_go.specs.declared.settings.Setup.{Setup}
 use Rattle.game_calc.specs.Answer.{IsCalcRefusal}
@@ -27,8 +27,8 @@ use Rattle.endgame_run.specs.Verdict.{AreToCalc, AreToTrial, Pose}
 
 -- the regions of play that the question asks about are all sound within its limits, and the values that it asks for can all be shown
 abbrev pub IsWithinLimits : Question → Setup → Type 0
-IsWithinLimits (Solve limits) setup = (regions : List Shape) × AreRegionsOfPlay setup.board regions × AreSound limits regions
-IsWithinLimits (Values limits) setup = (regions : List Shape) × AreRegionsOfPlay setup.board regions × AreSound limits regions
+IsWithinLimits (Solve limits) setup = (regions : List Region) × AreRegionsOfPlay setup.board regions × AreSound limits regions
+IsWithinLimits (Values limits) setup = (regions : List Region) × AreRegionsOfPlay setup.board regions × AreSound limits regions
     × ((k : ℕ) → k < length regions → HasShownValue (region_at regions k))
 IsWithinLimits Safe setup = ⊤
 

@@ -1,7 +1,7 @@
 -- The laws of the verdict.
 use Rattle.std.specs.Prelude.{◌≡◌, ◌⊎◌, ◌≤◌, ◌<◌, ℕ, List, length, Option}
 use Rattle.go_grid.specs.declared.grid.Colour.{Colour}
-use Rattle.go_grid.specs.Region.{Shape}
+use Rattle.go_grid.specs.Region.{Region}
 use Rattle.sgf_go.specs.declared.settings.Settings.{Settings}
 use Rattle.sgf_go.specs.declared.settings.Setup.{Setup}
 use Rattle.endgame_solver.specs.declared.limits.Limits.{Limits}
@@ -31,22 +31,22 @@ HasOneOutcome = (limit : ℕ) (expression : List ℕ) (s t : Status) (a b : List
 
 -- a position whose regions are all sound is solved
 abbrev pub SolvesSound : Type 0
-SolvesSound = (limits : Limits) (setup : Setup) (regions : List Shape) (s : Status) (text : List ℕ)
+SolvesSound = (limits : Limits) (setup : Setup) (regions : List Region) (s : Status) (text : List ℕ)
     → AreRegionsOfPlay setup.board regions → AreSound limits regions → IsPositionAnswer (Solve limits) setup s text → s ≡ Done
 
 -- a position whose regions are all sound has its values shown, where each can be
 abbrev pub ShowsShown : Type 0
-ShowsShown = (limits : Limits) (setup : Setup) (regions : List Shape) (s : Status) (text : List ℕ) → AreRegionsOfPlay setup.board regions → AreSound limits regions
+ShowsShown = (limits : Limits) (setup : Setup) (regions : List Region) (s : Status) (text : List ℕ) → AreRegionsOfPlay setup.board regions → AreSound limits regions
     → ((k : ℕ) → k < length regions → HasShownValue (region_at regions k)) → IsPositionAnswer (Values limits) setup s text → s ≡ Done
 
 -- and is else refused for the first that can't
 abbrev pub RefusesUnshown : Type 0
-RefusesUnshown = (limits : Limits) (setup : Setup) (regions : List Shape) (p : ℕ) (s : Status) (text : List ℕ) → AreRegionsOfPlay setup.board regions → AreSound limits regions
+RefusesUnshown = (limits : Limits) (setup : Setup) (regions : List Region) (p : ℕ) (s : Status) (text : List ℕ) → AreRegionsOfPlay setup.board regions → AreSound limits regions
     → IsFirstUnshown regions p → IsPositionAnswer (Values limits) setup s text → s ≡ FormLimit
 
 -- a position whose regions have a fault is refused with the status of that fault
 abbrev pub RefusesFaults : Type 0
-RefusesFaults = (question : Question) (limits : Limits) (setup : Setup) (regions : List Shape) (fault : SolveError) (s t : Status) (text : List ℕ)
+RefusesFaults = (question : Question) (limits : Limits) (setup : Setup) (regions : List Region) (fault : SolveError) (s t : Status) (text : List ℕ)
     → HasLimits question limits → AreRegionsOfPlay setup.board regions → AreRefused limits regions fault → HasStatus fault t → IsPositionAnswer question setup s text → s ≡ t
 
 -- a game over these bytes that no read and no write broke off has one status and one text

@@ -4,7 +4,7 @@ use Rattle.std.specs.Io.KnownBytes.{append_known}
 use Rattle.desk_io.specs.Files.{Files}
 use Rattle.desk_io.specs.Outside.{Rose}
 use Rattle.go_grid.specs.declared.grid.Colour.{Colour}
-use Rattle.go_grid.specs.Region.{Shape}
+use Rattle.go_grid.specs.Region.{Region}
 use Rattle.sgf_go.specs.declared.settings.Settings.{Settings}
 use Rattle.sgf_go.specs.declared.settings.Setup.{Setup}
 use Rattle.gd_words.specs.Job.{JobView, IsJob, IsOnlyJob}
@@ -36,7 +36,7 @@ use Rattle.endgame_run.specs.declared.question.Question.TheVariants.{Solve, Valu
 
 -- the regions of play of a position, all sound within the limits, the number of positions of each, and the solution, in its text
 pub record IsSolved (limits : Limits) (setup : Setup) (text : List ℕ) : Type 0 where
-  pub regions : List Shape
+  pub regions : List Region
   pub numbers : List ℕ
   pub state : State
   pub winner : Colour
@@ -49,7 +49,7 @@ pub record IsSolved (limits : Limits) (setup : Setup) (text : List ℕ) : Type 0
 
 -- the regions of play of a position and a fault that keeps it from being solved within the limits, with its status and its line
 pub record IsRefused (limits : Limits) (setup : Setup) (s : Status) (text : List ℕ) : Type 0 where
-  pub regions : List Shape
+  pub regions : List Region
   pub fault : SolveError
   pub are_regions : AreRegionsOfPlay setup.board regions
   pub refused : AreRefused limits regions fault
@@ -58,14 +58,14 @@ pub record IsRefused (limits : Limits) (setup : Setup) (s : Status) (text : List
 
 -- the regions of play of a position, all sound within the limits, and the text of the values of their openings
 pub record IsValued (limits : Limits) (setup : Setup) (text : List ℕ) : Type 0 where
-  pub regions : List Shape
+  pub regions : List Region
   pub are_regions : AreRegionsOfPlay setup.board regions
   pub sound : AreSound limits regions
   pub is : IsValuesText setup.board.columns regions text
 
 -- the same regions where the value of an opening isn't shown, with the status and the line of the first of them
 pub record AreUnshown (limits : Limits) (setup : Setup) (s : Status) (text : List ℕ) : Type 0 where
-  pub regions : List Shape
+  pub regions : List Region
   pub point : ℕ
   pub are_regions : AreRegionsOfPlay setup.board regions
   pub sound : AreSound limits regions
@@ -255,8 +255,8 @@ AreNeededRegions words files left limits setup = IsToldRegions words files left 
 
 -- how many steps a question about a position takes at most: none but about its regions of play, and then for each the limit, or 3 to its points
 abbrev pub AreStepsFor : Question → Setup → ℕ → ℕ → Type 0
-AreStepsFor (Solve limits) setup before now = (regions : List Shape) → AreRegionsOfPlay setup.board regions → now ≤ before + most_steps limits regions
-AreStepsFor (Values limits) setup before now = (regions : List Shape) → AreRegionsOfPlay setup.board regions → now ≤ before + most_steps limits regions
+AreStepsFor (Solve limits) setup before now = (regions : List Region) → AreRegionsOfPlay setup.board regions → now ≤ before + most_steps limits regions
+AreStepsFor (Values limits) setup before now = (regions : List Region) → AreRegionsOfPlay setup.board regions → now ≤ before + most_steps limits regions
 AreStepsFor Safe setup before now = now ≡ before
 
 -- steps are taken for the position of the number

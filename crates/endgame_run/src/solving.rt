@@ -1,7 +1,7 @@
 //! Positions whose regions are solved.
 
 ghost use Rattle.std.specs.Prelude.{◌≡◌, ◌<◌, ◌≤◌, ◌+◌, ◌*◌, ◌^◌, List, IfOk};
-ghost use Rattle.go_grid.specs.Region.{Shape};
+ghost use Rattle.go_grid.specs.Region.{Region};
 ghost use Rattle.sgf_go.specs.Position.{IsFit};
 ghost use Rattle.endgame_solver.specs.Faults.{most_steps};
 ghost use Rattle.region_cut.specs.Cut.{AreRegionsOfPlay};
@@ -66,7 +66,7 @@ pub(crate) fn solve<L: Ledger>(
     requires fit { IsFit setup.now }
     requires positions { limits.now.positions ≤ 1000000 }
     ensures answer { IfOk result (λ report. IsPositionAnswer (Question.Solve limits.now) setup.now report.status report.text) }
-    ensures steps { (regions : List Shape) → AreRegionsOfPlay setup.now.board regions → steps.new ≤ steps.old + most_steps limits.now regions }
+    ensures steps { (regions : List Region) → AreRegionsOfPlay setup.now.board regions → steps.new ≤ steps.old + most_steps limits.now regions }
 {
     match Solved::begin(alloc, setup, limits, steps) {
         Ok(mut solved) => {
@@ -126,7 +126,7 @@ pub(crate) fn value<L: Ledger>(
     requires fit { IsFit setup.now }
     requires positions { limits.now.positions ≤ 1000000 }
     ensures answer { IfOk result (λ report. IsPositionAnswer (Question.Values limits.now) setup.now report.status report.text) }
-    ensures steps { (regions : List Shape) → AreRegionsOfPlay setup.now.board regions → steps.new ≤ steps.old + most_steps limits.now regions }
+    ensures steps { (regions : List Region) → AreRegionsOfPlay setup.now.board regions → steps.new ≤ steps.old + most_steps limits.now regions }
 {
     match Solved::begin(alloc, setup, limits, steps) {
         Ok(solved) => {
@@ -151,7 +151,7 @@ pub(crate) fn begin<L: Ledger>(
     requires fit { IsFit setup.now }
     requires positions { limits.now.positions ≤ 1000000 }
     ensures begun { IfOk result (IsBegun limits.now engine setup.now) }
-    ensures steps { (regions : List Shape) → AreRegionsOfPlay setup.now.board regions → steps.new ≤ steps.old + most_steps limits.now regions }
+    ensures steps { (regions : List Region) → AreRegionsOfPlay setup.now.board regions → steps.new ≤ steps.old + most_steps limits.now regions }
 {
     match Solved::begin(alloc, setup, limits, steps) {
         Ok(solved) => Ok(Opened::Game(Session::new(solved, engine.unwrap_or(setup.side)))),

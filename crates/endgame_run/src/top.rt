@@ -1,7 +1,7 @@
 //! The top call.
 
 ghost use Rattle.std.specs.Prelude.{◌≡◌, ◌≢◌, ◌<◌, ◌^◌, ◌≤◌, ◌+◌, ◌⊎◌, List, IfOk};
-ghost use Rattle.go_grid.specs.Region.{Shape};
+ghost use Rattle.go_grid.specs.Region.{Region};
 ghost use Rattle.desk_io.specs.Outside.{Rose, ended};
 ghost use Rattle.sgf_go.specs.declared.settings.Setup.{Setup as Position};
 ghost use Rattle.sgf_go.specs.Position.{IsFit};
@@ -219,7 +219,7 @@ pub fn run<H: Shelf, S: Source, K: Sink, L: Ledger>(
         (outside (H.files shelf.old) (S.left lines.old) (H.faults shelf.old)
         (H.faults shelf.new) (S.faults lines.old) (S.faults lines.new))
         (K.holds out.old) (K.holds out.new) }
-    ensures steps { (limits : Limits) (setup : Position) (regions : List Shape)
+    ensures steps { (limits : Limits) (setup : Position) (regions : List Region)
         → AreNeededRegions (texts words.now) (H.files shelf.old) (S.left lines.old) limits setup
         → AreRegionsOfPlay setup.board regions → steps.new ≤ steps.old + most_steps limits regions }
     ensures few_steps { ¬ AskForEngine (texts words.now)

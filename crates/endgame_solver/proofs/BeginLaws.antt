@@ -10,12 +10,12 @@ use Rattle.std.proofs.lemmas.Map.Steps.{length-le_from_distinct_below}
 use Rattle.std.proofs.lemmas.Map.Views.{Contains-from_any}
 use Rattle.go_grid.specs.declared.grid.Cell.{Cell}
 use Rattle.go_grid.specs.declared.region.Touch.{Touch}
-use Rattle.go_grid.specs.Region.{Shape}
+use Rattle.go_grid.specs.Region.{Region}
 use Rattle.local_play.specs.Packed.{pack}
 use Rattle.local_graph.specs.declared.cycle.CycleMove.{CycleMove}
 use Rattle.local_graph.specs.declared.graph.Edge.{Edge}
 use Rattle.local_graph.specs.LocalGraph.{IsCycle, IsGraph, IsOrder, MoreThan, Plays}
-use Rattle.local_graph.specs.Nodes.{Nodes}
+use Rattle.local_graph.specs.Graph.{Graph}
 use Rattle.local_graph.proofs.BuildLemmas.{all_positions}
 use Rattle.local_graph.proofs.PlayLemmas.{plays_both}
 use Rattle.game_store.specs.Tree.{Tree}
@@ -55,7 +55,7 @@ one_value touch cells V W v w =
     let same = same-trans V v.tree W (same-sym v.tree V v.same) (same-trans v.tree w.tree W trees w.same) in
     canonical-same V W v.canonical w.canonical same.0 same.1
 
-module _ (r : Shape) (g : Nodes) (of : IsGraphOf r g) where
+module _ (r : Region) (g : Graph) (of : IsGraphOf r g) where
   -- no value of a reachable position is too large where none of the graph is
   pub no_large_form : (Ts : List Tree) (ids : List ℕ) (limit : ℕ) → AreValues r g Ts ids
       → ((i : ℕ) → i < length ids → HasMoreParts (tree_at Ts (get_or ids i 0)) limit → ⊥)
@@ -107,7 +107,7 @@ plays_places touch from to (m ∷ ms) (next, move, rest) =
     All-cons (λ n. n.place < length from) m ms move.place
     (All-weaker (λ n. n.place < length next) (λ n. n.place < length from) (λ n lt. omega (arith, lt, move.long)) ms (plays_places touch next to ms rest))
 
-pub cycle_places : (r : Shape) (ms : List CycleMove) (back : ℕ) → IsCycle r.touch r.cells ms back → length r.cells ≡ length r.points
+pub cycle_places : (r : Region) (ms : List CycleMove) (back : ℕ) → IsCycle r.touch r.cells ms back → length r.cells ≡ length r.points
     → All (λ m. m.place < length r.points) ms
 cycle_places r ms back c full =
     let plays = plays_both r.touch r.cells c.returns_to c.returns_to (take back ms) (drop back ms) c.there c.again in

@@ -1,14 +1,14 @@
 -- The openings of the regions, and a depth that is enough for each.
 use Rattle.std.proofs.Common.{ℕ, ◌^◌, ◌<◌, ◌≤◌, refl, arith, List, [], length}
 use Rattle.std.proofs.Math.Nat.{pow-le-pow_right}
-use Rattle.go_grid.specs.Grid.{Grid}
-use Rattle.go_grid.specs.Region.{Shape}
-use Rattle.local_graph.specs.Nodes.{Nodes}
+use Rattle.go_grid.specs.Board.{Board}
+use Rattle.go_grid.specs.Region.{Region}
+use Rattle.local_graph.specs.Graph.{Graph}
 use Rattle.region_cut.proofs.ApartLemmas.{holds_start}
 use Rattle.endgame_solver.specs.Regions.{region_at, AreGraphs, IsShown}
 use Rattle.endgame_solver.proofs.RegionPlayLaws.{region_in}
 
-module _ (g : Grid) (regions : List Shape) (graphs : List Nodes) (are : AreGraphs g regions graphs) where
+module _ (g : Board) (regions : List Region) (graphs : List Graph) (are : AreGraphs g regions graphs) where
   pub opening_shown : (k : ℕ) → k < length regions → IsShown g regions graphs g k (record { region = k; place = 0 })
   opening_shown k lt =
       let r = region_at regions k in

@@ -7,7 +7,7 @@ use Rattle.std.proofs.lemmas.List.Elements.{Contains-append_cases, Contains-appe
 use Rattle.go_grid.specs.declared.grid.Cell.{Cell}
 use Rattle.go_grid.specs.declared.grid.Colour.{Colour}
 use Rattle.go_grid.specs.declared.grid.Colour.TheVariants.{Black, White}
-use Rattle.go_grid.specs.Region.{Shape}
+use Rattle.go_grid.specs.Region.{Region}
 use Rattle.local_play.specs.declared.local_move.LocalMove.{LocalMove}
 use Rattle.local_play.specs.LocalPlay.{IsLocalMove, IsNumberTaken}
 use Rattle.local_play.specs.Moves.{IsMoveFrom, ListsMoves}
@@ -16,7 +16,7 @@ use Rattle.local_play.proofs.PackLemmas.{pack_same}
 use Rattle.local_graph.specs.declared.graph.Edge.{Edge}
 use Rattle.local_graph.specs.FiniteLocalPlay.{HasNoCycle}
 use Rattle.local_graph.specs.LocalGraph.{AreEdges, HasMoves, IsEdgeOf, IsGraph, IsReachable}
-use Rattle.local_graph.specs.Nodes.{Nodes, edges_at, no_edge}
+use Rattle.local_graph.specs.Graph.{Graph, edges_at, no_edge}
 use Rattle.local_graph.proofs.EdgeListLemmas.{node_inside}
 use Rattle.local_graph.proofs.OrderLemmas.{same_place}
 use Rattle.local_graph.proofs.PlayLemmas.{one_after, plays_long}
@@ -81,7 +81,7 @@ only {X} x y h = elim (contains-cases X x y [] h) [
   | inr k ↦ absurd (omega (arith, k.1))
 ]
 
-module _ (q r : Shape) (h : Nodes) (Paired : ℕ → ℕ → Type 0) (v : View) (opening : Matched q.touch r.touch Paired v.colours q.cells r.cells)
+module _ (q r : Region) (h : Graph) (Paired : ℕ → ℕ → Type 0) (v : View) (opening : Matched q.touch r.touch Paired v.colours q.cells r.cells)
     (of : IsGraphOf q h) (few : length r.cells ≤ 32) (partner : (j i : ℕ) → Paired j i → get_or v.places j 0 ≡ i) where
   abbrev Back : ℕ → ℕ → Type 0
   Back i j = Paired j i
@@ -301,7 +301,7 @@ module _ (q r : Shape) (h : Nodes) (Paired : ℕ → ℕ → Type 0) (v : View) 
   unfolding edges
   edges_of = lists_all.2
 
-  pub graph : Nodes
+  pub graph : Graph
   graph = record { positions = positions; edges = edges; order = h.order }
 
   graph_is : IsGraph r.touch r.cells positions edges

@@ -2,9 +2,9 @@
 use Rattle.std.proofs.Common.{◌≡◌, ℕ, ◌^◌, ◌<◌, ◌≤◌, inl, sym, ◌∙◌, subst, arith, List, length, get_or, Bool, true, false}
 use Rattle.go_grid.specs.declared.grid.Cell.{Cell}
 use Rattle.go_grid.specs.declared.region.Touch.{Touch}
-use Rattle.go_grid.specs.Region.{Shape}
+use Rattle.go_grid.specs.Region.{Region}
 use Rattle.local_graph.specs.LocalGraph.{IsReachable}
-use Rattle.local_graph.specs.Nodes.{Nodes}
+use Rattle.local_graph.specs.Graph.{Graph}
 use Rattle.local_graph.proofs.BuildLemmas.{not_more}
 use Rattle.local_graph.proofs.PlayLemmas.{plays_long}
 use Rattle.game_store.specs.Forms.{HaveForms}
@@ -51,14 +51,14 @@ value_matched touch touch' Paired colours a b (linked, linked', (s, h)) long V W
           (same-trans (game_after colours value.tree) (game_after colours V) W (after-same colours value.tree V value.same) (k.under, k.over));
     }
 
-module _ (limits : Limits) (q r : Shape) (h : Nodes) (Paired : ℕ → ℕ → Type 0) (v : View)
+module _ (limits : Limits) (q r : Region) (h : Graph) (Paired : ℕ → ℕ → Type 0) (v : View)
     (opening : Matched q.touch r.touch Paired v.colours q.cells r.cells) (long : length r.cells ≡ length q.cells) (few : length r.points ≤ 32)
     (full : length r.cells ≡ length r.points) (partner : (j i : ℕ) → Paired j i → get_or v.places j 0 ≡ i)
     (Ts : List Tree) (forms : HaveForms Ts) (ids turned : List ℕ) (s : IsSolvedBy limits q h Ts ids) (t : AreTurnedValues v.colours Ts ids turned) where
   small : length r.cells ≤ 32
   small = omega (arith, few, full)
 
-  pub turned_graph : Nodes
+  pub turned_graph : Graph
   turned_graph = graph q r h Paired v opening s.graph.graph small partner
 
   within : IsGraphWithin limits.positions r turned_graph

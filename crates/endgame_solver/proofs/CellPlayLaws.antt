@@ -10,8 +10,8 @@ use Rattle.benson_life.specs.Walls.{WallsStand}
 use Rattle.go_grid.specs.declared.grid.Cell.{Cell}
 use Rattle.go_grid.specs.declared.grid.Colour.{Colour}
 use Rattle.go_grid.specs.Chain.{IsSettled}
-use Rattle.go_grid.specs.Grid.{Grid, stone}
-use Rattle.go_grid.specs.Region.{Shape}
+use Rattle.go_grid.specs.Board.{Board, stone}
+use Rattle.go_grid.specs.Region.{Region}
 use Rattle.go_play.specs.Place.{IsPlaced, IsNumberTaken}
 use Rattle.game_store.specs.Tree.{Tree}
 use Rattle.game_store.specs.Order.{◌≡ᵍ◌}
@@ -43,13 +43,13 @@ abbrev pub position_in : ℕ → List Cell → Position
 position_in k cells = record { region = k; cells = cells }
 
 -- as many points as any region has
-pub largest : (rs : List Shape) → (b : ℕ) × ((r : Shape) → Contains rs r → length r.cells ≤ b)
+pub largest : (rs : List Region) → (b : ℕ) × ((r : Region) → Contains rs r → length r.cells ≤ b)
 largest [] = (0, λ r h. absurd (omega (arith, h.1)))
 largest (r ∷ rs) =
     let (b, all) = largest rs in
     (length r.cells + b, within b all)
   where
-    within : (b : ℕ) → ((s : Shape) → Contains rs s → length s.cells ≤ b) → (s : Shape) → Contains (r ∷ rs) s → length s.cells ≤ length r.cells + b
+    within : (b : ℕ) → ((s : Region) → Contains rs s → length s.cells ≤ b) → (s : Region) → Contains (r ∷ rs) s → length s.cells ≤ length r.cells + b
     within b all s (zero, lt, e) = let same = ap (λ z. length z.cells) e in omega (arith, same)
     within b all s (suc k, lt, e) = let less = all s (k, omega (arith, lt), e) in omega (arith, less)
 
@@ -69,18 +69,18 @@ unfolding limited
 limited-in b n (inl lt) xs x h = absurd (omega (arith, h.1))
 limited-in b n (inr le) xs x h = (le, h)
 
-pub moves_of : List Shape → ℕ → Colour → Position → List (Step Position)
+pub moves_of : List Region → ℕ → Colour → Position → List (Step Position)
 moves_of regions b c q =
     limited b (length q.cells) (cases_lt b (length q.cells)) (steps (region_at regions q.region).touch q.cells c Position (position_in q.region))
 
 -- the board holds the position, which is one of the region's
-pub record IsHeld (g : Grid) (regions : List Shape) (h : Grid) (k : ℕ) (q : Position) : Type 0 where
+pub record IsHeld (g : Board) (regions : List Region) (h : Board) (k : ℕ) (q : Position) : Type 0 where
   pub region : q.region ≡ k
   pub known : k < length regions
   pub reachable : IsReachable (region_at regions k).touch (region_at regions k).cells q.cells
   pub holds : HoldsPosition g (region_at regions k) q.cells h
 
-module _ (g : Grid) (settled : IsSettled g) (regions : List Shape) (are : AreRegionsOfPlay g regions) where
+module _ (g : Board) (settled : IsSettled g) (regions : List Region) (are : AreRegionsOfPlay g regions) where
   abbrev pub moves : Colour → Position → List (Step Position)
   moves = moves_of regions (largest regions).0
 
@@ -92,7 +92,7 @@ module _ (g : Grid) (settled : IsSettled g) (regions : List Shape) (are : AreReg
   region_in : (k : ℕ) → k < length regions → Contains regions (region_at regions k)
   region_in k lt = Contains-get_or regions k no_region lt
 
-  held_long : (h : Grid) (k : ℕ) (q : Position) → IsHeld g regions h k q → length q.cells ≤ (largest regions).0
+  held_long : (h : Board) (k : ℕ) (q : Position) → IsHeld g regions h k q → length q.cells ≤ (largest regions).0
   held_long h k q s =
       let r = region_at regions k in
       let most = (largest regions).1 r (region_in k s.known) in
@@ -102,7 +102,7 @@ module _ (g : Grid) (settled : IsSettled g) (regions : List Shape) (are : AreReg
   position_is k q e = λ i. record { region = sym e i; cells = q.cells }
 
   -- the board after a local move of one region holds the next position there, and the same elsewhere
-  held_after : (h after : Grid) (k : ℕ) (q : Position) (next : List Cell) (c : Colour) (i p : ℕ) → IsHeld g regions h k q
+  held_after : (h after : Board) (k : ℕ) (q : Position) (next : List Cell) (c : Colour) (i p : ℕ) → IsHeld g regions h k q
       → IsPlaced h p c after → IsLocalMove (region_at regions k).touch q.cells c i next → IsLocal (region_at regions k) h after q.cells next
       → IsHeld g regions after k (position_in k next) × OthersStay Position moves (InRegion regions) (IsHeld g regions) k h after
   held_after h after k q next c i p s placed move local =
@@ -130,7 +130,7 @@ module _ (g : Grid) (settled : IsSettled g) (regions : List Shape) (are : AreReg
             },
       )
 
-  played : (h after : Grid) (c : Colour) (p n k : ℕ) (q : Position) → WallsStand g h → k < length regions → InRegion regions k p → IsHeld g regions h k q
+  played : (h after : Board) (c : Colour) (p n k : ℕ) (q : Position) → WallsStand g h → k < length regions → InRegion regions k p → IsHeld g regions h k q
       → IsPlaced h p c after → IsNumberTaken h after n → IsPlayedIn Position moves (InRegion regions) (IsHeld g regions) h c after n k q
   played h after c p n k q walls lt (i, short, at) s placed number =
       let r = region_at regions k in
@@ -149,7 +149,7 @@ module _ (g : Grid) (settled : IsSettled g) (regions : List Shape) (are : AreReg
         held.1,
       )
 
-  playable : (h : Grid) (c : Colour) (k : ℕ) (q : Position) (x : Step Position) → WallsStand g h → k < length regions → IsHeld g regions h k q
+  playable : (h : Board) (c : Colour) (k : ℕ) (q : Position) (x : Step Position) → WallsStand g h → k < length regions → IsHeld g regions h k q
       → Contains (moves c q) x → IsPlayableIn Position moves (InRegion regions) (IsHeld g regions) h c k x
   playable h c k q x walls lt s among =
       let r = region_at regions k in
@@ -194,27 +194,27 @@ module _ (g : Grid) (settled : IsSettled g) (regions : List Shape) (are : AreReg
   abbrev pub depth : ℕ
   depth = 3 ^ (largest regions).0
 
-  module _ (none : (r : Shape) → Contains regions r → HasNoCycle r.touch r.cells) where
-    short : (h : Grid) (k : ℕ) (q : Position) → IsHeld g regions h k q
+  module _ (none : (r : Region) → Contains regions r → HasNoCycle r.touch r.cells) where
+    short : (h : Board) (k : ℕ) (q : Position) → IsHeld g regions h k q
         → PlaysAreShort (List Cell) (MovesTo (region_at regions k).touch) (3 ^ length (region_at regions k).cells) q.cells
     short h k q s =
         let r = region_at regions k in
         short_plays r.touch r.cells (none r (region_in k s.known)) q.cells s.reachable
 
-    deep : (h : Grid) (k : ℕ) (q : Position) → IsHeld g regions h k q → PlaysAreShort (List Cell) (MovesTo (region_at regions k).touch) depth q.cells
+    deep : (h : Board) (k : ℕ) (q : Position) → IsHeld g regions h k q → PlaysAreShort (List Cell) (MovesTo (region_at regions k).touch) depth q.cells
     deep h k q s qs w =
         let r = region_at regions k in
         let three : 0 < 3 = omega arith in
         let most = pow-le-pow_right {n = 3} three ((largest regions).1 r (region_in k s.known)) in
         omega (arith, short h k q s qs w, most)
 
-    pub held_ends : (h : Grid) (k : ℕ) (q : Position) → IsHeld g regions h k q → EndsWithin Position (StepsTo Position moves) depth q
+    pub held_ends : (h : Board) (k : ℕ) (q : Position) → IsHeld g regions h k q → EndsWithin Position (StepsTo Position moves) depth q
     held_ends h k q s =
         subst (EndsWithin Position (StepsTo Position moves) depth) (position_is k q s.region)
         (cells_end Position (region_at regions k).touch (largest regions).0 (position_in k) moves (moves-are k) depth q.cells (held_long h k q s) (deep h k q s))
 
     -- a tree of the position is as good as that over the listed moves
-    pub held_tree : (h : Grid) (k : ℕ) (q : Position) (G : Tree) → IsHeld g regions h k q
+    pub held_tree : (h : Board) (k : ℕ) (q : Position) (G : Tree) → IsHeld g regions h k q
         → IsTreeOf (region_at regions k).touch (3 ^ length q.cells) q.cells G → G ≡ᵍ tree_within Position moves depth q
     held_tree h k q G s tree =
         let r = region_at regions k in

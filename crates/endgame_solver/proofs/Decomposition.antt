@@ -1,7 +1,7 @@
 -- Who loses the whole game is the sign of the sum of the parts' trees, the purses and the token.
 use Rattle.std.proofs.Common.{ℕ, ◌+◌, ◌≡◌, inl, inr, refl, sym, ap, subst, List, arith}
 use Rattle.go_grid.specs.declared.grid.Colour.{Colour}
-use Rattle.go_grid.specs.Grid.{other}
+use Rattle.go_grid.specs.Board.{other}
 use Rattle.game_store.specs.Tree.{Tree, Has}
 use Rattle.game_store.specs.Order.{◌≡ᵍ◌}
 use Rattle.game_store.specs.Sum.{◌+ᵍ◌}

@@ -6,8 +6,8 @@ use Rattle.std.proofs.lemmas.List.Elements.{Contains-get_or}
 use Rattle.go_grid.specs.declared.grid.Cell.{Cell}
 use Rattle.go_grid.specs.declared.grid.Colour.{Colour}
 use Rattle.go_grid.specs.Chain.{IsSettled}
-use Rattle.go_grid.specs.Grid.{Grid, cell_at}
-use Rattle.go_grid.specs.Region.{Shape}
+use Rattle.go_grid.specs.Board.{Board, cell_at}
+use Rattle.go_grid.specs.Region.{Region}
 use Rattle.go_play.specs.Place.{IsPlaced}
 use Rattle.go_grid.specs.declared.grid.Colour.TheVariants.{Black, White}
 use Rattle.benson_life.specs.Life.{IsAlive}
@@ -28,12 +28,12 @@ use Rattle.region_cut.proofs.ApartLemmas.{HoldPositions, holds_start, only_regio
 use Rattle.endgame_solver.specs.Bookkeeping.{AreMovesIn, RegionsFollow}
 use Rattle.endgame_solver.specs.Regions.{no_region, region_at}
 
-module _ (g : Grid) (settled : IsSettled g) (regions : List Shape) (cut : AreRegionsOfPlay g regions) where
-  abbrev Held : List (List Cell) → Grid → Type 0
+module _ (g : Board) (settled : IsSettled g) (regions : List Region) (cut : AreRegionsOfPlay g regions) where
+  abbrev Held : List (List Cell) → Board → Type 0
   Held positions h = HoldPositions g regions cut positions h
 
   -- what a region does from a position on
-  record FollowsFrom (r : Shape) (from : List Cell) (c : Colour) (ms : List Move) (h : Grid) : Type 0 where
+  record FollowsFrom (r : Region) (from : List Cell) (c : Colour) (ms : List Move) (h : Board) : Type 0 where
     moves : List CycleMove
     are : AreMovesIn r c ms moves
     cells : List Cell
@@ -41,7 +41,7 @@ module _ (g : Grid) (settled : IsSettled g) (regions : List Shape) (cut : AreReg
     holds : HoldsPosition g r cells h
 
   -- a placing in one region
-  record PlacedIn (positions : List (List Cell)) (h after : Grid) (c : Colour) (p : ℕ) : Type 0 where
+  record PlacedIn (positions : List (List Cell)) (h after : Board) (c : Colour) (p : ℕ) : Type 0 where
     region : ℕ
     known : region < length regions
     place : ℕ
@@ -52,7 +52,7 @@ module _ (g : Grid) (settled : IsSettled g) (regions : List Shape) (cut : AreReg
     held : Held (set positions region next) after
     alone : (l : ℕ) → l < length regions → Contains (region_at regions l).points p → l ≡ region
 
-  placed_in : (positions : List (List Cell)) (h after : Grid) (c : Colour) (p : ℕ) → Held positions h → IsContested g p → IsPlaced h p c after
+  placed_in : (positions : List (List Cell)) (h after : Board) (c : Colour) (p : ℕ) → Held positions h → IsContested g p → IsPlaced h p c after
       → PlacedIn positions h after c p
   placed_in positions h after c p held contested placed =
       let w = only_region g regions cut p no_region contested in
@@ -122,22 +122,22 @@ module _ (g : Grid) (settled : IsSettled g) (regions : List Shape) (cut : AreReg
       ]
 
 -- the regions' own cells
-openings : List Shape → List (List Cell)
+openings : List Region → List (List Cell)
 openings [] = []
 openings (r ∷ rs) = r.cells ∷ openings rs
 
-openings_long : (rs : List Shape) → length (openings rs) ≡ length rs
+openings_long : (rs : List Region) → length (openings rs) ≡ length rs
 unfolding openings
 openings_long [] = refl
 openings_long (r ∷ rs) = ap suc (openings_long rs)
 
-opening_at : (rs : List Shape) (k : ℕ) (d : Shape) → k < length rs → get_or (openings rs) k [] ≡ (get_or rs k d).cells
+opening_at : (rs : List Region) (k : ℕ) (d : Region) → k < length rs → get_or (openings rs) k [] ≡ (get_or rs k d).cells
 unfolding openings
 opening_at [] k d lt = absurd (omega (arith, lt))
 opening_at (r ∷ rs) zero d lt = refl
 opening_at (r ∷ rs) (suc k) d lt = opening_at rs k d (omega (arith, lt))
 
-held_start : (g : Grid) (regions : List Shape) (cut : AreRegionsOfPlay g regions) → HoldPositions g regions cut (openings regions) g
+held_start : (g : Board) (regions : List Region) (cut : AreRegionsOfPlay g regions) → HoldPositions g regions cut (openings regions) g
 held_start g regions cut = record {
   many = openings_long regions;
   each = λ k d lt. let r = get_or regions k d in let among = Contains-get_or regions k d lt in
@@ -145,7 +145,7 @@ held_start g regions cut = record {
 }
 
 -- a point that isn't contested is an alive stone or counted, and those never change
-others_stay : (g h : Grid) → WallsStand g h → (p : ℕ) → p < length g.cells → ¬ IsContested g p → cell_at h p ≡ cell_at g p
+others_stay : (g h : Board) → WallsStand g h → (p : ℕ) → p < length g.cells → ¬ IsContested g p → cell_at h p ≡ cell_at g p
 others_stay g h walls p lt not = elim (same_or_not (cell_at h p) (cell_at g p)) [
   | inl e ↦ e
   | inr ne ↦

@@ -4,11 +4,11 @@ use Rattle.std.proofs.lemmas.Int.{ints}
 use Rattle.std.proofs.lemmas.List.{ext_get_or}
 use Rattle.go_grid.specs.declared.grid.Cell.{Cell}
 use Rattle.go_grid.specs.declared.grid.Cell.TheVariants.{Empty}
-use Rattle.go_grid.specs.Grid.{Grid}
-use Rattle.go_grid.specs.Region.{Shape}
+use Rattle.go_grid.specs.Board.{Board}
+use Rattle.go_grid.specs.Region.{Region}
 use Rattle.whole_rules.specs.PlainRecursion.{MoverWins, MoverLoses}
 use Rattle.whole_rules.specs.WholeGame as whole
-use Rattle.local_graph.specs.Nodes.{Nodes}
+use Rattle.local_graph.specs.Graph.{Graph}
 use Rattle.region_cut.specs.LocalBoard.{HoldsPosition}
 use Rattle.game_store.specs.Tree.{Tree}
 use Rattle.game_store.specs.Number.{num}
@@ -54,11 +54,11 @@ num-scaled (suc d) e m =
     twice : (m : ℤ) (n : ℕ) → m *ℤ pos (n + n) ≡ (m *ℤ pos n) +ℤ (m *ℤ pos n)
     twice m n = grind (arith, ints)
 
-module _ (g : Grid) (regions : List Shape) (graphs : List Nodes) (are : AreGraphs g regions graphs) where
-  abbrev Shown : Grid → ℕ → Spot → Type 0
+module _ (g : Board) (regions : List Region) (graphs : List Graph) (are : AreGraphs g regions graphs) where
+  abbrev Shown : Board → ℕ → Spot → Type 0
   Shown h k q = IsShown g regions graphs h k q
 
-  all_shown : (h : Grid) (k : ℕ) (is : List ℕ) → ((j : ℕ) → j < length is → Shown h (k + j) (spot_in (k + j) (place_at is j)))
+  all_shown : (h : Board) (k : ℕ) (is : List ℕ) → ((j : ℕ) → j < length is → Shown h (k + j) (spot_in (k + j) (place_at is j)))
       → AllShown Spot (moves_at graphs) (InRegion regions) Shown h k (spots k is)
   unfolding spots
   all_shown h k [] w = tt
@@ -82,7 +82,7 @@ module _ (g : Grid) (regions : List Shape) (graphs : List Nodes) (are : AreGraph
     valued Ts (suc k) is ids (omega (arith, e)) (λ j lt. subst (λ z. Worth Ts z (place_at is j) (get_or ids j 0)) (omega arith) (w (suc j) (omega (arith, lt)))),
   )
 
-module _ (g : Grid) (regions : List Shape) (graphs : List Nodes) (values : List (List ℕ)) (Ts : List Tree) (are : AreSolved g regions graphs values Ts) where
+module _ (g : Board) (regions : List Region) (graphs : List Graph) (values : List (List ℕ)) (Ts : List Tree) (are : AreSolved g regions graphs values Ts) where
   abbrev seen_as : (s : whole.State) (places : List ℕ) → State Spot
   seen_as s places = record { parts = spots 0 places; purses = s.purses; side = s.side }
 
@@ -126,5 +126,5 @@ module _ (g : Grid) (regions : List Shape) (graphs : List Nodes) (values : List 
       let same = one_cells (region_at regions j) here.0 shown.0 s.board here.1 shown.2 in
       (shown.0, shown.1, subst (λ x. IsValueOf (region_at regions j).touch x (tree_at Ts (get_or ids j 0))) same here.2.1))
     where
-      one_cells : (r : Shape) (a b : List Cell) (h : Grid) → HoldsCells h r a → HoldsPosition g r b h → a ≡ b
+      one_cells : (r : Region) (a b : List Cell) (h : Board) → HoldsCells h r a → HoldsPosition g r b h → a ≡ b
       one_cells r a b h x y = ext_get_or Empty a b (x.0 ∙ sym y.long) (λ i lt. let short : i < length r.points = omega (arith, lt, x.0) in sym (x.1 i short) ∙ y.local i short)

@@ -5,13 +5,13 @@ use Rattle.std.proofs.lemmas.List.{get_or-map, get_or-replicate, get_or_default,
 use Rattle.std.proofs.lemmas.List.Elements.{Contains-get_or}
 use Rattle.go_grid.specs.declared.grid.Colour.{Colour}
 use Rattle.go_grid.specs.Chain.{IsSettled}
-use Rattle.go_grid.specs.Grid.{Grid}
-use Rattle.go_grid.specs.Region.{Shape}
+use Rattle.go_grid.specs.Board.{Board}
+use Rattle.go_grid.specs.Region.{Region}
 use Rattle.benson_life.proofs.HeldLemmas.{short}
 use Rattle.whole_rules.specs.Opening.{IsOpening}
 use Rattle.whole_rules.specs.WholeGame.{State}
 use Rattle.whole_rules.proofs.WallLaws.{keeps_start}
-use Rattle.local_graph.specs.Nodes.{Nodes}
+use Rattle.local_graph.specs.Graph.{Graph}
 use Rattle.region_cut.specs.Cut.{lowest, AreRegionsOfPlay}
 use Rattle.region_cut.specs.LocalBoard.{PlaysLocally}
 use Rattle.game_store.specs.Tree.{Tree}
@@ -26,7 +26,7 @@ use Rattle.endgame_solver.proofs.OneCut.{increases, lows_ascend, low_contested}
 use Rattle.endgame_solver.proofs.RoomAtStart.{purse_few, room_at_start}
 
 -- a board has no more regions than points
-few_regions : (g : Grid) (regions : List Shape) → AreRegionsOfPlay g regions → length g.cells ≤ 625 → length regions ≤ 625
+few_regions : (g : Board) (regions : List Region) → AreRegionsOfPlay g regions → length g.cells ≤ 625 → length regions ≤ 625
 few_regions g regions are few =
     let bound = short (map lowest regions) (length g.cells) (increases (map lowest regions) (lows_ascend g regions are)) inside in
     omega (arith, bound, few, length-map regions lowest)
@@ -37,8 +37,8 @@ few_regions g regions are few =
         let w = (low_contested g regions are (region_at regions k) (Contains-get_or regions k no_region known)).0 in
         omega (arith, w, get_or-map lowest regions k no_region d known)
 
-module _ (limits : Limits) (g : Grid) (regions : List Shape) (graphs : List Nodes) (values : List (List ℕ)) (Ts : List Tree) (settled : IsSettled g)
-    (are : AreRegionsOfPlay g regions) (local : (r : Shape) → Contains regions r → PlaysLocally g r) (few : length g.cells ≤ 625)
+module _ (limits : Limits) (g : Board) (regions : List Region) (graphs : List Graph) (values : List (List ℕ)) (Ts : List Tree) (settled : IsSettled g)
+    (are : AreRegionsOfPlay g regions) (local : (r : Region) → Contains regions r → PlaysLocally g r) (few : length g.cells ≤ 625)
     (limit : limits.positions ≤ 1000000) (done : AreSolvedBelow limits regions graphs values Ts (length regions)) where
   are_graphs : AreGraphs g regions graphs
   are_graphs = record {

@@ -2,28 +2,28 @@
 use Rattle.std.proofs.Common.{ℕ, ◌≡◌, ◌^◌, ◌<◌, refl, sym, subst, arith, List, get_or, set, Result, Ok, Err}
 use Rattle.go_grid.specs.declared.grid.Colour.{Colour}
 use Rattle.go_grid.specs.declared.grid.Colour.TheVariants.{Black, White}
-use Rattle.go_grid.specs.Region.{Shape}
+use Rattle.go_grid.specs.Region.{Region}
 use Rattle.whole_rules.specs.declared.states.Move.{Move}
 use Rattle.whole_rules.specs.declared.states.Move.TheVariants.{Stone, Spend, Half}
 use Rattle.whole_rules.specs.declared.states.MoveError.{MoveError}
 use Rattle.whole_rules.specs.WholeGame.{State, IsMove, Applies}
 use Rattle.local_graph.specs.declared.graph.Edge.{Edge}
-use Rattle.local_graph.specs.Nodes.{Nodes}
+use Rattle.local_graph.specs.Graph.{Graph}
 use Rattle.game_store.specs.Tree.{Tree}
 use Rattle.endgame_solver.specs.Held.{IsKept, IsStoneEdge, ids_at}
 use Rattle.endgame_solver.proofs.StoneLaws.{stone_edge, stone_leads, spend_leads, half_leads, stone_room, spend_room, half_room}
 use Rattle.endgame_solver.proofs.WinningLaws.{summed_set}
 
 -- the same edge of lists that are equal
-pub edge_seen : (rs rs' : List Shape) (gs gs' : List Nodes) (ps ps' : List ℕ) (c c' : Colour) (p k : ℕ) (e : Edge) → rs ≡ rs' → gs ≡ gs' → ps ≡ ps' → c ≡ c'
+pub edge_seen : (rs rs' : List Region) (gs gs' : List Graph) (ps ps' : List ℕ) (c c' : Colour) (p k : ℕ) (e : Edge) → rs ≡ rs' → gs ≡ gs' → ps ≡ ps' → c ≡ c'
     → IsStoneEdge rs gs ps c p k e → IsStoneEdge rs' gs' ps' c' p k e
 edge_seen rs rs' gs gs' ps ps' c c' p k e r g l d x = subst (λ T. T) (λ i. IsStoneEdge (r i) (g i) (l i) (d i) p k e) x
 
-pub none_seen : (rs rs' : List Shape) (gs gs' : List Nodes) (ps ps' : List ℕ) (c c' : Colour) (p : ℕ) → rs ≡ rs' → gs ≡ gs' → ps ≡ ps' → c ≡ c'
+pub none_seen : (rs rs' : List Region) (gs gs' : List Graph) (ps ps' : List ℕ) (c c' : Colour) (p : ℕ) → rs ≡ rs' → gs ≡ gs' → ps ≡ ps' → c ≡ c'
     → ((k : ℕ) (e : Edge) → ¬ IsStoneEdge rs gs ps c p k e) → (k : ℕ) (e : Edge) → ¬ IsStoneEdge rs' gs' ps' c' p k e
 none_seen rs rs' gs gs' ps ps' c c' p r g l d none k e x = none k e (edge_seen rs' rs gs' gs ps' ps c' c p k e (sym r) (sym g) (sym l) (sym d) x)
 
-module _ (regions : List Shape) (graphs : List Nodes) (values : List (List ℕ)) (places ids : List ℕ) (Ts : List Tree) (s : State)
+module _ (regions : List Region) (graphs : List Graph) (values : List (List ℕ)) (places ids : List ℕ) (Ts : List Tree) (s : State)
     (kept : IsKept regions graphs values places ids Ts s) where
   pub few_black : s.purses.black < 2 ^ 62
   few_black = omega (arith, kept.room.room Black)

@@ -2,7 +2,7 @@
 use Rattle.std.proofs.Common.{ℕ, ◌≡◌, ◌+◌, ◌≤◌, refl, ap, ◌∙◌, subst, arith, List, [], ◌∷◌}
 use Rattle.go_grid.specs.declared.grid.Colour.{Colour}
 use Rattle.go_grid.specs.declared.grid.Colour.TheVariants.{Black, White}
-use Rattle.go_grid.specs.Grid.{other}
+use Rattle.go_grid.specs.Board.{other}
 use Rattle.go_play.specs.Place.{IsNumberTaken}
 use Rattle.whole_rules.specs.declared.money.Purses.{Purses}
 use Rattle.whole_rules.specs.declared.money.Token.{Token}

@@ -6,8 +6,8 @@ use Rattle.std.proofs.lemmas.List.{ext_get_or, get_or-map, get_or_default, lengt
 use Rattle.std.proofs.lemmas.List.Elements.{Contains-get_or}
 use Rattle.std.proofs.lemmas.List.Sums.{sum_by-cons}
 use Rattle.std.proofs.lemmas.Map.Keys.{sorted_from_strictly_increasing, below_from_sorted}
-use Rattle.go_grid.specs.Grid.{Grid}
-use Rattle.go_grid.specs.Region.{Shape}
+use Rattle.go_grid.specs.Board.{Board}
+use Rattle.go_grid.specs.Region.{Region}
 use Rattle.go_grid.proofs.WalkLemmas.{joined_back, joined_end}
 use Rattle.benson_life.specs.Region.{IsContested, InRegionOfPlay}
 use Rattle.region_cut.specs.Cut.{lowest, AreRegionsOfPlay}
@@ -53,12 +53,12 @@ one_list (x ∷ xs) (y ∷ ys) a b f g =
     later z zs p (zero, short, at) less = absurd (omega (arith, at, less))
     later z zs p (suc k, short, at) less = (k, omega (arith, short), at)
 
-module _ (g : Grid) (rs : List Shape) (are : AreRegionsOfPlay g rs) where
-  pub low_in : (r : Shape) → Contains rs r → Contains r.points (lowest r)
+module _ (g : Board) (rs : List Region) (are : AreRegionsOfPlay g rs) where
+  pub low_in : (r : Region) → Contains rs r → Contains r.points (lowest r)
   low_in r h = Contains-get_or r.points 0 0 (are.each r h).proper.some
 
   -- the lowest point of a region is contested
-  pub low_contested : (r : Shape) → Contains rs r → IsContested g (lowest r)
+  pub low_contested : (r : Region) → Contains rs r → IsContested g (lowest r)
   low_contested r h = joined_end g.columns (IsContested g) (lowest r) (lowest r) (((are.each r h).points (lowest r)).0 (low_in r h))
 
   pub lows_ascend : IsAscending (map lowest rs)
@@ -69,8 +69,8 @@ module _ (g : Grid) (rs : List Shape) (are : AreRegionsOfPlay g rs) where
       omega (arith, less, get_or-map lowest rs i no_region 0 before, get_or-map lowest rs j no_region 0 inside)
 
 -- the lowest points of one list are among those of the other
-module _ (g : Grid) (rs ss : List Shape) (a : AreRegionsOfPlay g rs) (b : AreRegionsOfPlay g ss) where
-  low_of : (r : Shape) → Contains rs r → (s : Shape) × Contains ss s × (lowest s ≡ lowest r)
+module _ (g : Board) (rs ss : List Region) (a : AreRegionsOfPlay g rs) (b : AreRegionsOfPlay g ss) where
+  low_of : (r : Region) → Contains rs r → (s : Region) × Contains ss s × (lowest s ≡ lowest r)
   low_of r h =
       let p = lowest r in
       let (s, among, inside) = b.every p (low_contested g rs a r h) in
@@ -88,7 +88,7 @@ module _ (g : Grid) (rs ss : List Shape) (a : AreRegionsOfPlay g rs) (b : AreReg
       let there : get_or (map lowest ss) j p ≡ p = get_or-map lowest ss j s p known ∙ ap lowest here ∙ same ∙ sym is in
       (j, omega (arith, known, length-map ss lowest), there)
 
-module _ (g : Grid) (rs ss : List Shape) (a : AreRegionsOfPlay g rs) (b : AreRegionsOfPlay g ss) where
+module _ (g : Board) (rs ss : List Region) (a : AreRegionsOfPlay g rs) (b : AreRegionsOfPlay g ss) where
   same_lows : map lowest rs ≡ map lowest ss
   same_lows = one_list (map lowest rs) (map lowest ss) (lows_ascend g rs a) (lows_ascend g ss b) (lows_among g rs ss a b) (lows_among g ss rs b a)
 
@@ -115,7 +115,7 @@ module _ (g : Grid) (rs ss : List Shape) (a : AreRegionsOfPlay g rs) (b : AreReg
       let inside' : k < length ss = omega (arith, inside, same_count) in
       get_or-map (λ r. r.points) rs k no_region [] inside ∙ same_points k inside ∙ sym (get_or-map (λ r. r.points) ss k no_region [] inside'))
 
-  sum_points : (f : List ℕ → ℕ) (ts : List Shape) → sum_by (λ r. f r.points) ts ≡ sum_by f (map (λ r. r.points) ts)
+  sum_points : (f : List ℕ → ℕ) (ts : List Region) → sum_by (λ r. f r.points) ts ≡ sum_by f (map (λ r. r.points) ts)
   sum_points f [] = refl
   sum_points f (t ∷ ts) = sum_by-cons (λ r. f r.points) t ts ∙ ap (λ n. f t.points + n) (sum_points f ts) ∙ sym (sum_by-cons f t.points (map (λ r. r.points) ts))
 

@@ -11,9 +11,9 @@ use Rattle.go_grid.specs.declared.grid.Cell.TheVariants.{Empty}
 use Rattle.go_grid.specs.declared.grid.Colour.TheVariants.{Black, White}
 use Rattle.go_grid.specs.declared.region.Touch.{Touch}
 use Rattle.go_grid.specs.declared.grid.Colour.{Colour}
-use Rattle.go_grid.specs.Grid.{Grid, NextTo, cell_at}
+use Rattle.go_grid.specs.Board.{Board, NextTo, cell_at}
 use Rattle.benson_life.specs.Life.{IsAlive}
-use Rattle.go_grid.specs.Region.{AreLinks, IsBeside, IsLink, IsRegion, Shape, nothing_near, touch_at}
+use Rattle.go_grid.specs.Region.{AreLinks, IsBeside, IsLink, IsRegion, Region, nothing_near, touch_at}
 use Rattle.region_cut.specs.Cut.{IsRegionOfPlay, AreRegionsOfPlay}
 use Rattle.endgame_solver.specs.Regions.{no_region, region_at}
 use Rattle.endgame_solver.proofs.OneCut.{regions_unique}
@@ -55,7 +55,7 @@ one_touch c points p B W t u up a b tb ub tw uw =
     λ i. record { black = black i; white = white i; up = above i; left = before i; right = after i; down = below i }
 
 -- a region of play is given by its points
-one_shape : (g : Grid) (r s : Shape) → IsRegionOfPlay g r → IsRegionOfPlay g s → IsRegion r.columns r.rows r.points r.cells r.touch → IsRegion s.columns s.rows s.points s.cells s.touch
+one_shape : (g : Board) (r s : Region) → IsRegionOfPlay g r → IsRegionOfPlay g s → IsRegion r.columns r.rows r.points r.cells r.touch → IsRegion s.columns s.rows s.points s.cells s.touch
     → r.points ≡ s.points → r ≡ s
 one_shape g r s a b m n points =
     let columns = a.columns ∙ sym b.columns in
@@ -76,7 +76,7 @@ one_shape g r s a b m n points =
     (a.walls k Black here) (there_too Black k there) (a.walls k White here) (there_too White k there)) in
     λ i. record { columns = columns i; rows = rows i; points = points i; cells = cells i; touch = touch i }
 
-pub one_regions : (g : Grid) (rs ss : List Shape) → AreRegionsOfPlay g rs → AreRegionsOfPlay g ss → rs ≡ ss
+pub one_regions : (g : Board) (rs ss : List Region) → AreRegionsOfPlay g rs → AreRegionsOfPlay g ss → rs ≡ ss
 one_regions g rs ss a b =
     let same = regions_unique g rs ss a b in
     let many : length rs ≡ length ss = sym (length-map rs (λ r. r.points)) ∙ ap length same ∙ length-map ss (λ r. r.points) in

@@ -4,14 +4,14 @@ use Rattle.std.proofs.lemmas.List.{get_or_default}
 use Rattle.std.proofs.lemmas.List.Elements.{Contains-get_or}
 use Rattle.go_grid.specs.declared.grid.Cell.{Cell}
 use Rattle.go_grid.specs.declared.grid.Colour.{Colour}
-use Rattle.go_grid.specs.Grid.{Grid, stone}
-use Rattle.go_grid.specs.Region.{Shape}
+use Rattle.go_grid.specs.Board.{Board, stone}
+use Rattle.go_grid.specs.Region.{Region}
 use Rattle.go_play.specs.Place.{IsPlaced, IsNumberTaken}
 use Rattle.benson_life.specs.Region.{IsContested}
 use Rattle.benson_life.specs.Walls.{WallsStand}
 use Rattle.local_play.specs.LocalPlay.{IsLocalMove}
 use Rattle.local_graph.specs.declared.graph.Edge.{Edge}
-use Rattle.local_graph.specs.Nodes.{Nodes, edges_at}
+use Rattle.local_graph.specs.Graph.{Graph, edges_at}
 use Rattle.go_grid.proofs.WalkLemmas.{joined_end}
 use Rattle.region_cut.specs.Cut.{lowest}
 use Rattle.region_cut.specs.LocalBoard.{HoldsPosition, IsLocal}
@@ -24,12 +24,12 @@ use Rattle.local_value.specs.GraphMoves.{step_of}
 use Rattle.local_value.proofs.GraphLaws.{IsEdgeFor, edge_of, move_of, next_place}
 use Rattle.local_value.proofs.StepLaws.{steps-out, steps-in}
 
-module _ (g : Grid) (regions : List Shape) (graphs : List Nodes) (are : AreGraphs g regions graphs) where
+module _ (g : Board) (regions : List Region) (graphs : List Graph) (are : AreGraphs g regions graphs) where
   pub region_in : (k : ℕ) → k < length regions → Contains regions (region_at regions k)
   region_in k lt = Contains-get_or regions k no_region lt
 
   -- the board after a local move of one region holds the next position there, and the same elsewhere
-  pub shown_after : (h after : Grid) (k : ℕ) (q : Spot) (cells next : List Cell) (c : Colour) (i p n : ℕ) (e : Edge) → HasCells regions graphs k q cells
+  pub shown_after : (h after : Board) (k : ℕ) (q : Spot) (cells next : List Cell) (c : Colour) (i p n : ℕ) (e : Edge) → HasCells regions graphs k q cells
       → HoldsPosition g (region_at regions k) cells h → IsPlaced h p c after → IsLocalMove (region_at regions k).touch cells c i next
       → IsLocal (region_at regions k) h after cells next → IsEdgeFor (graph_at graphs k).positions cells next c i n e
       → IsShown g regions graphs after k (record { region = k; place = e.next }) × OthersStay Spot (moves_at graphs) (InRegion regions) (IsShown g regions graphs) k h after
@@ -52,7 +52,7 @@ module _ (g : Grid) (regions : List Shape) (graphs : List Nodes) (are : AreGraph
             ),
       )
 
-  pub played : (h after : Grid) (c : Colour) (p n k : ℕ) (q : Spot) → WallsStand g h → k < length regions → InRegion regions k p → IsShown g regions graphs h k q
+  pub played : (h after : Board) (c : Colour) (p n k : ℕ) (q : Spot) → WallsStand g h → k < length regions → InRegion regions k p → IsShown g regions graphs h k q
       → IsPlaced h p c after → IsNumberTaken h after n → IsPlayedIn Spot (moves_at graphs) (InRegion regions) (IsShown g regions graphs) h c after n k q
   played h after c p n k q walls lt (i, short, at) (cells, has, holds) placed number =
       let r = region_at regions k in
@@ -71,7 +71,7 @@ module _ (g : Grid) (regions : List Shape) (graphs : List Nodes) (are : AreGraph
         shown.1,
       )
 
-  playable : (h : Grid) (c : Colour) (k : ℕ) (q : Spot) (x : Step Spot) → WallsStand g h → k < length regions → IsShown g regions graphs h k q
+  playable : (h : Board) (c : Colour) (k : ℕ) (q : Spot) (x : Step Spot) → WallsStand g h → k < length regions → IsShown g regions graphs h k q
       → Contains (moves_at graphs c q) x → IsPlayableIn Spot (moves_at graphs) (InRegion regions) (IsShown g regions graphs) h c k x
   playable h c k q x walls lt (cells, has, holds) among =
       let r = region_at regions k in

@@ -3,9 +3,9 @@ use Rattle.std.proofs.Common.{ℕ, ◌≡◌, ◌^◌, ◌<◌, ◌≤◌, inl, 
 use Rattle.std.proofs.lemmas.Bool.{cases_lt}
 use Rattle.std.proofs.lemmas.List.{get_or_past}
 use Rattle.go_grid.specs.declared.grid.Cell.{Cell}
-use Rattle.go_grid.specs.Grid.{Grid}
-use Rattle.go_grid.specs.Region.{Shape}
-use Rattle.local_graph.specs.Nodes.{Nodes, edges_at}
+use Rattle.go_grid.specs.Board.{Board}
+use Rattle.go_grid.specs.Region.{Region}
+use Rattle.local_graph.specs.Graph.{Graph, edges_at}
 use Rattle.local_graph.proofs.EdgeListLemmas.{node_inside}
 use Rattle.game_store.specs.Tree.{Tree}
 use Rattle.game_store.specs.Order.{◌≡ᵍ◌}
@@ -17,7 +17,7 @@ use Rattle.local_value.proofs.GraphTreeLaws as graph
 use Rattle.local_value.proofs.StepLaws.{steps-out}
 use Rattle.endgame_solver.specs.Regions.{Spot, region_at, graph_at, no_graph, AreGraphs, spot_in, moves_at, HasCells}
 
-module _ (g : Grid) (regions : List Shape) (graphs : List Nodes) (are : AreGraphs g regions graphs) where
+module _ (g : Board) (regions : List Region) (graphs : List Graph) (are : AreGraphs g regions graphs) where
   -- a region's place by its number
   spot_is : (k : ℕ) (q : Spot) → q.region ≡ k → spot_in k q.place ≡ q
   spot_is k q e = λ i. record { region = sym e i; place = q.place }

@@ -2,12 +2,12 @@
 use Rattle.std.proofs.Common.{ℕ, ◌<◌, refl, sym, subst, arith, List, [], length, get_or}
 use Rattle.std.specs.List.{Contains}
 use Rattle.std.proofs.lemmas.List.Elements.{Contains-get_or}
-use Rattle.go_grid.specs.Region.{Shape}
+use Rattle.go_grid.specs.Region.{Region}
 use Rattle.go_grid.proofs.WalkLemmas.{joined_end}
 use Rattle.benson_life.specs.Region.{IsContested}
 use Rattle.region_cut.specs.Cut.{lowest}
 use Rattle.whole_rules.specs.WholeGame.{State}
-use Rattle.local_graph.specs.Nodes.{Nodes}
+use Rattle.local_graph.specs.Graph.{Graph}
 use Rattle.local_graph.proofs.BuildLemmas.{all_positions}
 use Rattle.game_store.specs.Tree.{Tree}
 use Rattle.game_store.specs.Meaning.{tree_at}
@@ -17,7 +17,7 @@ use Rattle.endgame_solver.specs.Held.{IsKept, ids_at, place_at}
 use Rattle.endgame_solver.specs.Solved.{IsPresent, IsNumberOfPositions, IsValueId}
 use Rattle.endgame_solver.proofs.WinningLaws.{place_inside}
 
-module _ (regions : List Shape) (graphs : List Nodes) (values : List (List ℕ)) (places ids : List ℕ) (Ts : List Tree) (s : State)
+module _ (regions : List Region) (graphs : List Graph) (values : List (List ℕ)) (places ids : List ℕ) (Ts : List Tree) (s : State)
     (kept : IsKept regions graphs values places ids Ts s) where
   pub present_is : (k : ℕ) → k < length regions → IsPresent (record { regions = regions; trees = Ts; state = s }) k (get_or ids k 0)
   present_is k lt =

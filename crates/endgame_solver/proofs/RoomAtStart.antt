@@ -6,7 +6,7 @@ use Rattle.std.proofs.lemmas.List.Elements.{Contains-get_or}
 use Rattle.std.proofs.lemmas.List.Sums.{sum_by-le}
 use Rattle.go_grid.specs.declared.grid.Colour.{Colour}
 use Rattle.go_grid.specs.declared.grid.Colour.TheVariants.{Black, White}
-use Rattle.go_grid.specs.Grid.{Grid}
+use Rattle.go_grid.specs.Board.{Board}
 use Rattle.benson_life.specs.Held.{IsHeld, IsNumberOf}
 use Rattle.benson_life.proofs.HeldLemmas.{short}
 use Rattle.whole_rules.specs.declared.money.Token.{Token}
@@ -14,7 +14,7 @@ use Rattle.whole_rules.specs.declared.money.Token.TheVariants as token
 use Rattle.whole_rules.specs.Opening.{IsOpening, IsStart, komi_points}
 use Rattle.whole_rules.specs.Purses.{purse}
 use Rattle.whole_rules.specs.WholeGame.{State}
-use Rattle.local_graph.specs.Nodes.{Nodes}
+use Rattle.local_graph.specs.Graph.{Graph}
 use Rattle.endgame_solver.specs.Held.{HasRoom, place_at, token_left}
 use Rattle.endgame_solver.specs.Regions.{graph_at}
 use Rattle.game_canon.proofs.NegationLaws.{chosen}
@@ -25,13 +25,13 @@ number_few P n most inside (points, lists, long) =
     let few = short points most lists.ascending (λ k d lt. inside (get_or points k d) ((lists.exact (get_or points k d)).0 (Contains-get_or points k d lt))) in
     omega (arith, few, long)
 
-held_few : (g : Grid) (c : Colour) (n : ℕ) → length g.cells ≤ 625 → IsHeld g c n → n ≤ 1875
+held_few : (g : Board) (c : Colour) (n : ℕ) → length g.cells ≤ 625 → IsHeld g c n → n ≤ 1875
 held_few g c n few h =
     let free = number_few _ h.empty (length g.cells) (λ p w. w.1.0) h.empties in
     let taken = number_few _ h.captive (length g.cells) (λ p w. w.1.0) h.captives in
     omega (arith, few, free, taken, h.sum)
 
-start_few : (g : Grid) (c : Colour) (tax : Bool) (n : ℕ) → length g.cells ≤ 625 → IsStart g c tax n → n ≤ 1875
+start_few : (g : Board) (c : Colour) (tax : Bool) (n : ℕ) → length g.cells ≤ 625 → IsStart g c tax n → n ≤ 1875
 start_few g c false n few held = held_few g c n few held
 start_few g c true n few (groups, _, held) = omega (arith, held_few g c (n + 2 * groups) few held)
 
@@ -41,7 +41,7 @@ komi_few Black (negsuc n) h = omega (arith, h)
 komi_few White (negsuc n) h = omega arith
 komi_few Black (pos n) h = omega arith
 
-pub purse_few : (g : Grid) (black white : ℕ) (komi : ℤ) (side : Colour) (tax : Bool) (s : State) → length g.cells ≤ 625 → IsOpening g black white komi side tax s
+pub purse_few : (g : Board) (black white : ℕ) (komi : ℤ) (side : Colour) (tax : Bool) (s : State) → length g.cells ≤ 625 → IsOpening g black white komi side tax s
     → black < 2 ^ 40 → white < 2 ^ 40 → unsigned_abs komi ≤ 2000000 → (c : Colour) → purse c s.purses ≤ 2 ^ 40 + 1001875
 purse_few g black white komi side tax s few o small small' half Black =
     let (n, start, is) = o.black in
@@ -56,7 +56,7 @@ token_few token.Black = omega arith
 token_few token.White = omega arith
 
 -- places stand somewhere in the orders of at most 625 graphs of at most 1,000,000 positions
-pub room_at_start : (graphs : List Nodes) (places : List ℕ) (s : State) → length places ≤ 625 → ((k : ℕ) → k < length places → Contains (graph_at graphs k).order (place_at places k))
+pub room_at_start : (graphs : List Graph) (places : List ℕ) (s : State) → length places ≤ 625 → ((k : ℕ) → k < length places → Contains (graph_at graphs k).order (place_at places k))
     → ((k : ℕ) → k < length places → length (graph_at graphs k).order ≤ 1000000) → ((c : Colour) → purse c s.purses ≤ 2 ^ 40 + 1001875) → HasRoom graphs places s
 room_at_start graphs places s many among short few = record {
   ranks = ranks.0;

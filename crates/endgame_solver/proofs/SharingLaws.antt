@@ -3,9 +3,9 @@ use Rattle.std.proofs.Common.{◌≡◌, ◌≢◌, ℕ, zero, suc, ◌+◌, ◌
 use Rattle.std.proofs.lemmas.Bool.{cases_eq, cases_lt}
 use Rattle.std.proofs.lemmas.List.{get_or_append_left, get_or_default, get_or_past, get_or_push, length-append, length_push}
 use Rattle.std.proofs.lemmas.List.Elements.{Contains-get_or}
-use Rattle.go_grid.specs.Region.{Shape, AreLinks, IsLink, IsRegion, nothing_near, touch_at}
+use Rattle.go_grid.specs.Region.{Region, AreLinks, IsLink, IsRegion, nothing_near, touch_at}
 use Rattle.local_graph.specs.declared.graph.Edge.{Edge}
-use Rattle.local_graph.specs.Nodes.{Nodes, edges_at}
+use Rattle.local_graph.specs.Graph.{Graph, edges_at}
 use Rattle.local_value.proofs.GraphLaws.{cells_at, move_of}
 use Rattle.local_graph.proofs.PlayLemmas.{plays_long}
 use Rattle.game_store.specs.Forms.{HaveForms}
@@ -42,7 +42,7 @@ link_inside : (points : List ℕ) (Near : ℕ → Type 0) (o : Option ℕ) (k : 
 link_inside points Near o k l is = (subst (IsLink points Near) is l).0
 
 -- each link of a region leads to a place of it
-pub region_linked : (r : Shape) → IsRegion r.columns r.rows r.points r.cells r.touch → AreLinked r.touch r.cells
+pub region_linked : (r : Region) → IsRegion r.columns r.rows r.points r.cells r.touch → AreLinked r.touch r.cells
 region_linked r of = record {
   full = of.full ∙ sym of.beside;
   inside = λ i k d is. elim (cases_lt i (length r.points)) as (λ _. k < length r.touch) [
@@ -64,7 +64,7 @@ region_linked r of = record {
     none down k e = cc
 
 -- the later region's shape pairs its places with the first one's
-pub some_partner : (q r : Shape) (x y : List Spot) (t s : Turn) → IsShape q q.cells x t → IsShape r r.cells y s → x ≡ y
+pub some_partner : (q r : Region) (x y : List Spot) (t s : Turn) → IsShape q q.cells x t → IsShape r r.cells y s → x ≡ y
     → (j : ℕ) → j < length r.points → (i : ℕ) × (i < length r.points) × (get_or s.places i 0 ≡ get_or t.places j 0)
 some_partner q r x y t s a b e j lt =
     let (turn, c) = pairs_places q q.cells x t r r.cells y s a b e in
@@ -73,10 +73,10 @@ some_partner q r x y t s a b e j lt =
     (i, meets.1, meets.2)
 
 -- the later region is solved by what it sees of the first one's graph and values
-pub seen_solved : (limits : Limits) (q r : Shape) (h : Nodes) (x : List Spot) (kind : Kind) (s : Turn) (place : ℕ) (before after : List (List ℕ)) (Ts : List Tree) (v : View)
+pub seen_solved : (limits : Limits) (q r : Region) (h : Graph) (x : List Spot) (kind : Kind) (s : Turn) (place : ℕ) (before after : List (List ℕ)) (Ts : List Tree) (v : View)
     → IsShape q q.cells kind.shape.spots.items kind.turn → IsShape r r.cells x s → kind.shape.spots.items ≡ x → length r.points ≤ 32
     → IsViewFor (length r.points) place s kind before after Ts v → HaveForms Ts → IsSolvedBy limits q h Ts (ids_at before kind.values)
-    → (g : Nodes) × IsSolvedBy limits r g Ts (ids_at after v.values) × Serves v h g
+    → (g : Graph) × IsSolvedBy limits r g Ts (ids_at after v.values) × Serves v h g
 seen_solved limits q r h x kind s place before after Ts v a b e few see forms solved =
     let (turn, c) = pairs_places q q.cells kind.shape.spots.items kind.turn r r.cells x s a b e in
     let Paired = Meet q kind.turn r s in
@@ -106,7 +106,7 @@ same_values Ts ids known canonical = record {
 }
 
 -- a region sees its own graph as it is
-pub own_seen : (r : Shape) (g : Nodes) (v : View) → IsGraphOf r g → v.colours ≡ false → ((i : ℕ) → i < 32 → get_or v.places i 0 ≡ i) → Serves v g g
+pub own_seen : (r : Region) (g : Graph) (v : View) → IsGraphOf r g → v.colours ≡ false → ((i : ℕ) → i < 32 → get_or v.places i 0 ≡ i) → Serves v g g
 own_seen r g v of none places = record {
   as_many = refl;
   inside = inside;
@@ -137,13 +137,13 @@ item_at (x ∷ xs) zero lt = (x, refl)
 item_at (x ∷ xs) (suc j) lt = item_at xs j (omega (arith, lt))
 
 -- the region is the first of the kind at the place
-record IsFirst (regions : List Shape) (kinds : List Kind) (j k : ℕ) : Type 0 where
+record IsFirst (regions : List Region) (kinds : List Kind) (j k : ℕ) : Type 0 where
   known : k < length regions
   shape : (kind : Kind) → get_or kinds j kind ≡ kind → IsShape (region_at regions k) (region_at regions k).cells kind.shape.spots.items kind.turn
 
-module _ (limits : Limits) (regions : List Shape) where
+module _ (limits : Limits) (regions : List Region) where
   -- the store and the lists of values grow
-  pub shares_later : (shared : List Nodes) (held more : List (List ℕ)) (views : List View) (kinds : List Kind) (Ts Us : List Tree) (n : ℕ)
+  pub shares_later : (shared : List Graph) (held more : List (List ℕ)) (views : List View) (kinds : List Kind) (Ts Us : List Tree) (n : ℕ)
       → Extends Ts Us → SharesBelow limits regions shared held views kinds Ts n → SharesBelow limits regions shared (held ++ more) views kinds Us n
   shares_later shared held more views kinds Ts Us n e s = record {
     graphs = s.graphs;
@@ -178,7 +178,7 @@ module _ (limits : Limits) (regions : List Shape) where
   }
 
   -- one graph and one kind more, whose region is the next one
-  with_kind : (shared : List Nodes) (held : List (List ℕ)) (kinds : List Kind) (Ts : List Tree) (n : ℕ) (g : Nodes) (kind : Kind)
+  with_kind : (shared : List Graph) (held : List (List ℕ)) (kinds : List Kind) (Ts : List Tree) (n : ℕ) (g : Graph) (kind : Kind)
       → AreKinds limits regions shared held kinds Ts n → IsKind limits regions g held Ts (n + 1) kind
       → ((k : Kind) → Contains kinds k → k.shape.spots.items ≢ kind.shape.spots.items)
       → IsShape (region_at regions n) (region_at regions n).cells kind.shape.spots.items kind.turn
@@ -218,7 +218,7 @@ module _ (limits : Limits) (regions : List Shape) where
   }
 
   -- the next region has the shape of a kind
-  same_kinds : (shared : List Nodes) (held : List (List ℕ)) (kinds : List Kind) (Ts : List Tree) (n j : ℕ) (x : List Spot) (t : Turn)
+  same_kinds : (shared : List Graph) (held : List (List ℕ)) (kinds : List Kind) (Ts : List Tree) (n j : ℕ) (x : List Spot) (t : Turn)
       → AreKinds limits regions shared held kinds Ts n → j < length kinds
       → ((kind : Kind) → get_or kinds j kind ≡ kind → kind.shape.spots.items ≡ x) → IsShape (region_at regions n) (region_at regions n).cells x t
       → AreKinds limits regions shared held kinds Ts (n + 1)
@@ -242,7 +242,7 @@ module _ (limits : Limits) (regions : List Shape) where
   }
 
   -- and one region more
-  with_view : (shared : List Nodes) (held : List (List ℕ)) (views : List View) (graphs : List Nodes) (values : List (List ℕ)) (n : ℕ) (v : View) (g : Nodes) (ids : List ℕ)
+  with_view : (shared : List Graph) (held : List (List ℕ)) (views : List View) (graphs : List Graph) (values : List (List ℕ)) (n : ℕ) (v : View) (g : Graph) (ids : List ℕ)
       → AreViews shared held views graphs values n → length graphs ≡ n → length values ≡ n → IsView shared held v g ids
       → AreViews shared held (views ++ v ∷ []) (graphs ++ g ∷ []) (values ++ ids ∷ []) (n + 1)
   with_view shared held views graphs values n v g ids s many many' new = record {
@@ -259,7 +259,7 @@ module _ (limits : Limits) (regions : List Shape) where
     ];
   }
 
-  pub shares_seen : (shared : List Nodes) (held : List (List ℕ)) (views : List View) (kinds : List Kind) (Ts : List Tree) (n j : ℕ) (x : List Spot) (t : Turn) (v : View) (g : Nodes)
+  pub shares_seen : (shared : List Graph) (held : List (List ℕ)) (views : List View) (kinds : List Kind) (Ts : List Tree) (n j : ℕ) (x : List Spot) (t : Turn) (v : View) (g : Graph)
       → SharesBelow limits regions shared held views kinds Ts n → j < length kinds → ((kind : Kind) → get_or kinds j kind ≡ kind → kind.shape.spots.items ≡ x)
       → IsShape (region_at regions n) (region_at regions n).cells x t → v.graph ≡ j → v.values < length held → Serves v (graph_at shared j) g
       → IsSolvedBy limits (region_at regions n) g Ts (ids_at held v.values) → SharesBelow limits regions shared held (views ++ v ∷ []) kinds Ts (n + 1)
@@ -276,7 +276,7 @@ module _ (limits : Limits) (regions : List Shape) where
     kinds_are = same_kinds shared held kinds Ts n j x t s.kinds_are short is shape;
   }
 
-  pub shares_new : (shared : List Nodes) (held : List (List ℕ)) (views : List View) (kinds : List Kind) (Ts Us : List Tree) (n : ℕ) (g : Nodes) (ids : List ℕ) (v : View) (kind : Kind)
+  pub shares_new : (shared : List Graph) (held : List (List ℕ)) (views : List View) (kinds : List Kind) (Ts Us : List Tree) (n : ℕ) (g : Graph) (ids : List ℕ) (v : View) (kind : Kind)
       → Extends Ts Us → SharesBelow limits regions shared held views kinds Ts n → IsSolvedBy limits (region_at regions n) g Us ids
       → IsShape (region_at regions n) (region_at regions n).cells kind.shape.spots.items kind.turn → ((k : Kind) → Contains kinds k → k.shape.spots.items ≢ kind.shape.spots.items)
       → kind.values ≡ length held → v.graph ≡ length shared → v.values ≡ length held → v.colours ≡ false → ((i : ℕ) → i < 32 → get_or v.places i 0 ≡ i)
@@ -307,7 +307,7 @@ module _ (limits : Limits) (regions : List Shape) where
         } apart shape;
       }
     where
-      more_graphs : (shared : List Nodes) (held : List (List ℕ)) (views : List View) (graphs : List Nodes) (values : List (List ℕ)) (n : ℕ) (g : Nodes)
+      more_graphs : (shared : List Graph) (held : List (List ℕ)) (views : List View) (graphs : List Graph) (values : List (List ℕ)) (n : ℕ) (g : Graph)
           → AreViews shared held views graphs values n → AreViews (shared ++ g ∷ []) held views graphs values n
       more_graphs shared held views graphs values n g s = record {
         many = s.many;
@@ -319,11 +319,11 @@ module _ (limits : Limits) (regions : List Shape) where
         };
       }
 
-  small_region : AreSmall regions → (n : ℕ) → n < length regions → (r : Shape) → r ≡ region_at regions n → length r.points ≤ 32
+  small_region : AreSmall regions → (n : ℕ) → n < length regions → (r : Region) → r ≡ region_at regions n → length r.points ≤ 32
   small_region small n lt r at = subst (λ q. length q.points ≤ 32) (sym at) (small (region_at regions n) (Contains-get_or regions n no_region lt))
 
   -- the same in the words of the code
-  pub partner_for : (shared : List Nodes) (held : List (List ℕ)) (views : List View) (kinds lent : List Kind) (Ts : List Tree) (n : ℕ) (r : Shape) (j : ℕ) (kind : Kind) (x : List Spot) (t : Turn)
+  pub partner_for : (shared : List Graph) (held : List (List ℕ)) (views : List View) (kinds lent : List Kind) (Ts : List Tree) (n : ℕ) (r : Region) (j : ℕ) (kind : Kind) (x : List Spot) (t : Turn)
       → lent ≡ kinds → SharesBelow limits regions shared held views kinds Ts n
       → (j < length lent) × ((k : Kind) → get_or lent j k ≡ k → k.shape.spots.items ≡ x) → get_or kinds j kind ≡ kind → IsShape r r.cells x t
       → (i : ℕ) → i < length r.points → (m : ℕ) × (m < length r.points) × (get_or t.places m 0 ≡ get_or kind.turn.places i 0)
@@ -332,7 +332,7 @@ module _ (limits : Limits) (regions : List Shape) where
       let k = s.kinds_are.each j kind short is in
       some_partner (region_at regions k.region) r kind.shape.spots.items x kind.turn t k.shape shape (found.1 kind (ap (λ ks. get_or ks j kind) e ∙ is))
 
-  pub next_seen : (shared : List Nodes) (held held' : List (List ℕ)) (views views' : List View) (kinds lent : List Kind) (Ts Us : List Tree) (n : ℕ) (r : Shape) (j : ℕ) (kind : Kind)
+  pub next_seen : (shared : List Graph) (held held' : List (List ℕ)) (views views' : List View) (kinds lent : List Kind) (Ts Us : List Tree) (n : ℕ) (r : Region) (j : ℕ) (kind : Kind)
       (x : List Spot) (t : Turn) (v : View) → lent ≡ kinds → SharesBelow limits regions shared held views kinds Ts n → n < length regions → AreSmall regions → r ≡ region_at regions n
       → (j < length lent) × ((k : Kind) → get_or lent j k ≡ k → k.shape.spots.items ≡ x) → get_or kinds j kind ≡ kind → IsShape r r.cells x t
       → IsViewFor (length r.points) j t kind held held' Us v → (more : List (List ℕ)) × (held' ≡ held ++ more) → Extends Ts Us → HaveForms Us → views' ≡ views ++ v ∷ []
@@ -359,7 +359,7 @@ module _ (limits : Limits) (regions : List Shape) where
   }
 
   -- the kinds are as many as the shapes
-  shapes_of : (shared : List Nodes) (held : List (List ℕ)) (kinds : List Kind) (Ts : List Tree) → AreKinds limits regions shared held kinds Ts (length regions)
+  shapes_of : (shared : List Graph) (held : List (List ℕ)) (kinds : List Kind) (Ts : List Tree) → AreKinds limits regions shared held kinds Ts (length regions)
       → IsNumberOfShapes regions (length shared)
   shapes_of shared held kinds Ts s = record {
     firsts = firsts.0;

@@ -1,7 +1,7 @@
 -- Plain recursion over a game whose states have trees, such that the moves of a state lead to its tree's options.
 use Rattle.std.proofs.Common.{ℕ, zero, suc, ◌≡◌, inl, inr, sym, subst}
 use Rattle.go_grid.specs.declared.grid.Colour.{Colour}
-use Rattle.go_grid.specs.Grid.{other}
+use Rattle.go_grid.specs.Board.{other}
 use Rattle.game_store.specs.Tree.{Tree, Has}
 use Rattle.game_store.specs.Order.{◌≡ᵍ◌}
 use Rattle.whole_rules.specs.PlainRecursion.{WinsWithin, LosesWithin}

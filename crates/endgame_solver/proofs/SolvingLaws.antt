@@ -3,8 +3,8 @@ use Rattle.std.proofs.Common.{ℕ, ◌+◌, ◌^◌, ◌<◌, ◌≤◌, inl, in
 use Rattle.std.proofs.lemmas.Bool.{cases_eq}
 use Rattle.std.proofs.lemmas.List.{get_or_append_left, get_or_push, length_push}
 use Rattle.std.proofs.lemmas.List.Sums.{sum_by_more, sum_by_more_le}
-use Rattle.go_grid.specs.Region.{Shape}
-use Rattle.local_graph.specs.Nodes.{Nodes}
+use Rattle.go_grid.specs.Region.{Region}
+use Rattle.local_graph.specs.Graph.{Graph}
 use Rattle.game_store.specs.Tree.{Tree}
 use Rattle.game_store.specs.Meaning.{Extends}
 use Rattle.game_canon.specs.Outcomes.{AreWithin}
@@ -18,7 +18,7 @@ use Rattle.endgame_solver.specs.declared.faults.SolveError.{SolveError}
 use Rattle.endgame_solver.specs.declared.faults.SolveError.TheVariants.{Points, Positions, Cycle, Form, Memory}
 
 -- the values stay as they are while the store grows
-pub solved_later : (limits : Limits) (r : Shape) (g : Nodes) (Ts Us : List Tree) (ids : List ℕ) → Extends Ts Us → IsSolvedBy limits r g Ts ids → IsSolvedBy limits r g Us ids
+pub solved_later : (limits : Limits) (r : Region) (g : Graph) (Ts Us : List Tree) (ids : List ℕ) → Extends Ts Us → IsSolvedBy limits r g Ts ids → IsSolvedBy limits r g Us ids
 solved_later limits r g Ts Us ids e s = record {
   sound = s.sound;
   graph = s.graph;
@@ -32,9 +32,9 @@ solved_later limits r g Ts Us ids e s = record {
   within = λ i lt. subst (AreWithin most_units) (sym (e.same (get_or ids i 0) (s.values.known i lt))) (s.within i lt);
 }
 
-module _ (limits : Limits) (regions : List Shape) where
+module _ (limits : Limits) (regions : List Region) where
   -- one region more is solved
-  pub solved_next : (graphs : List Nodes) (values : List (List ℕ)) (Ts : List Tree) (n : ℕ) (g : Nodes) (ids : List ℕ)
+  pub solved_next : (graphs : List Graph) (values : List (List ℕ)) (Ts : List Tree) (n : ℕ) (g : Graph) (ids : List ℕ)
       → AreSolvedBelow limits regions graphs values Ts n → IsSolvedBy limits (region_at regions n) g Ts ids
       → AreSolvedBelow limits regions (graphs ++ g ∷ []) (values ++ ids ∷ []) Ts (n + 1)
   solved_next graphs values Ts n g ids s solved = record {
@@ -64,7 +64,7 @@ module _ (limits : Limits) (regions : List Shape) where
   steps_before start now next n lt few more = omega (arith, few, more, sum_by_more_le (λ r. min limits.positions (3 ^ length r.points)) regions n no_region lt)
 
   -- the fault of a region before which all are sound is the refusal
-  pub refused_at : (graphs : List Nodes) (values : List (List ℕ)) (Ts : List Tree) (n : ℕ) → n < length regions → AreSmall regions
+  pub refused_at : (graphs : List Graph) (values : List (List ℕ)) (Ts : List Tree) (n : ℕ) → n < length regions → AreSmall regions
       → AreSolvedBelow limits regions graphs values Ts n → (e : SolveError) → IsRefusalOf limits (region_at regions n) e → AreRefused limits regions e
   refused_at graphs values Ts n lt small s (Points p m) h = absurd h
   refused_at graphs values Ts n lt small s (Positions p) h = (small, (n, lt, h, λ j less. (s.each j less).sound))

@@ -8,8 +8,8 @@ use Rattle.std.proofs.lemmas.List.Sums.{sum_by-set}
 use Rattle.go_grid.specs.declared.grid.Cell.{Cell}
 use Rattle.go_grid.specs.declared.grid.Colour.{Colour}
 use Rattle.go_grid.specs.declared.grid.Colour.TheVariants.{Black, White}
-use Rattle.go_grid.specs.Grid.{Grid, other}
-use Rattle.go_grid.specs.Region.{Shape}
+use Rattle.go_grid.specs.Board.{Board, other}
+use Rattle.go_grid.specs.Region.{Region}
 use Rattle.go_play.specs.Place.{IsPlaced}
 use Rattle.whole_rules.specs.declared.money.Purses.{Purses}
 use Rattle.whole_rules.specs.declared.money.Token.{Token}
@@ -20,7 +20,7 @@ use Rattle.whole_rules.specs.WholeGame.{State, IsMove, IsLegal, after}
 use Rattle.whole_rules.proofs.WallLaws.{Keeps, keeps_move}
 use Rattle.local_play.specs.LocalPlay.{IsLocalMove, IsNumberTaken as IsLocalNumberTaken}
 use Rattle.local_graph.specs.declared.graph.Edge.{Edge}
-use Rattle.local_graph.specs.Nodes.{Nodes, edges_at}
+use Rattle.local_graph.specs.Graph.{Graph, edges_at}
 use Rattle.region_cut.specs.LocalBoard.{HoldsPosition}
 use Rattle.game_store.specs.Tree.{Tree}
 use Rattle.local_value.proofs.GraphLaws.{IsEdgeFor, edge_of, move_of, taken_less}
@@ -35,7 +35,7 @@ place-set_same places k i lt = get_or-set_same places k i 0 lt
 place-set_other : (places : List ℕ) (j k i : ℕ) → j ≢ k → place_at (set places k i) j ≡ place_at places j
 place-set_other places j k i ne = get_or-set_other places k j i 0 ne
 
-module _ (g : Grid) (regions : List Shape) (graphs : List Nodes) (values : List (List ℕ)) (Ts : List Tree) (are : AreSolved g regions graphs values Ts)
+module _ (g : Board) (regions : List Region) (graphs : List Graph) (values : List (List ℕ)) (Ts : List Tree) (are : AreSolved g regions graphs values Ts)
     (s : State) (places : List ℕ) (at : IsAt g regions graphs places s) where
   keeps : Keeps g s
   keeps = record { walls = at.walls; contested = at.contested }

@@ -4,28 +4,28 @@ use Rattle.std.proofs.lemmas.Bool.{cases_eq, cases_lt}
 use Rattle.std.proofs.lemmas.List.{get_or_default}
 use Rattle.go_grid.specs.declared.grid.Colour.{Colour}
 use Rattle.go_grid.specs.Marks.{IsMarked}
-use Rattle.go_grid.specs.Region.{Shape}
+use Rattle.go_grid.specs.Region.{Region}
 use Rattle.whole_rules.specs.declared.states.Move.{Move}
 use Rattle.whole_rules.specs.declared.states.Move.TheVariants.{Stone, Spend, Half}
 use Rattle.whole_rules.specs.FirstWinningMove.{IsWinning, IsFirstWinning}
 use Rattle.whole_rules.specs.WholeGame.{State, rank}
 use Rattle.local_graph.specs.declared.graph.Edge.{Edge}
-use Rattle.local_graph.specs.Nodes.{Nodes, no_edge}
+use Rattle.local_graph.specs.Graph.{Graph, no_edge}
 use Rattle.endgame_solver.specs.Held.{IsStoneAt, IsStoneEdge, IsFirstStone}
 use Rattle.endgame_solver.specs.Views.{ShowsAll, own}
 use Rattle.endgame_solver.specs.declared.sharing.Book.{Book}
 use Rattle.endgame_solver.specs.declared.views.View.{View}
 
 -- none of the first n edges stands for a move of the stone
-abbrev pub NoneBefore : Shape → View → List Edge → Colour → ℕ → ℕ → Type 0
+abbrev pub NoneBefore : Region → View → List Edge → Colour → ℕ → ℕ → Type 0
 NoneBefore r v edges c p n = (j : ℕ) (f : Edge) → j < n → j < length edges → get_or edges j f ≡ f → ¬ IsStoneAt r c p (own v f)
 
 -- no edge of the first n regions is the stone's
-abbrev pub NoneIn : List Shape → Book → List ℕ → Colour → ℕ → ℕ → Type 0
-NoneIn regions book places c p n = (graphs : List Nodes) (values : List (List ℕ)) → ShowsAll book graphs values (length regions)
+abbrev pub NoneIn : List Region → Book → List ℕ → Colour → ℕ → ℕ → Type 0
+NoneIn regions book places c p n = (graphs : List Graph) (values : List (List ℕ)) → ShowsAll book graphs values (length regions)
     → (k : ℕ) (e : Edge) → k < n → ¬ IsStoneEdge regions graphs places c p k e
 
-pub none_before_more : (r : Shape) (v : View) (edges : List Edge) (c : Colour) (p n : ℕ) → ¬ IsStoneAt r c p (own v (get_or edges n no_edge))
+pub none_before_more : (r : Region) (v : View) (edges : List Edge) (c : Colour) (p n : ℕ) → ¬ IsStoneAt r c p (own v (get_or edges n no_edge))
     → NoneBefore r v edges c p n → NoneBefore r v edges c p (n + 1)
 none_before_more r v edges c p n none before j f less short at stone = elim (cases_eq j n) as (λ _. ⊥) [
   | inl same ↦ none (subst (λ x. IsStoneAt r c p (own v x)) (sym at ∙ get_or_default edges j f no_edge short ∙ ap (λ m. get_or edges m no_edge) same) stone)

@@ -2,12 +2,12 @@
 use Rattle.std.proofs.Common.{ℕ, suc, ◌⊎◌, ◌↔◌, ◌^◌, ◌<◌, ◌≤◌, sym, subst, List, [], ◌∷◌, length}
 use Rattle.go_grid.specs.declared.grid.Cell.{Cell}
 use Rattle.go_grid.specs.Chain.{IsSettled}
-use Rattle.go_grid.specs.Grid.{Grid}
-use Rattle.go_grid.specs.Region.{Shape}
+use Rattle.go_grid.specs.Board.{Board}
+use Rattle.go_grid.specs.Region.{Region}
 use Rattle.whole_rules.specs.PlainRecursion.{MoverWins, MoverLoses}
 use Rattle.whole_rules.specs.WholeGame as whole
 use Rattle.whole_rules.proofs.WallLaws.{Keeps}
-use Rattle.local_graph.specs.Nodes.{Nodes}
+use Rattle.local_graph.specs.Graph.{Graph}
 use Rattle.game_store.specs.Tree.{Tree, node, none}
 use Rattle.game_store.specs.Order.{◌≡ᵍ◌}
 use Rattle.game_store.specs.Sum.{◌+ᵍ◌, total}
@@ -26,7 +26,7 @@ use Rattle.endgame_solver.proofs.RegionPlayLaws.{region_play}
 use Rattle.endgame_solver.proofs.RegionTreeLaws.{few_taken, spot_ends, tree_same}
 use Rattle.endgame_solver.proofs.WholeLaws.{whole_decomposes}
 
-module _ (g : Grid) (regions : List Shape) (graphs : List Nodes) (are : AreGraphs g regions graphs) (Ts : List Tree)
+module _ (g : Board) (regions : List Region) (graphs : List Graph) (are : AreGraphs g regions graphs) (Ts : List Tree)
     (n : ℕ) (deep : (k : ℕ) → k < length regions → 3 ^ length (region_at regions k).cells ≤ n) where
   value_same : (k : ℕ) (q : Spot) (cells : List Cell) (V : Tree) → HasCells regions graphs k q cells → IsValueOf (region_at regions k).touch cells V
       → V ≡ᵍ tree_within Spot (moves_at graphs) n q

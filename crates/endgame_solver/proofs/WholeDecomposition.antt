@@ -6,8 +6,8 @@ use Rattle.go_grid.specs.declared.grid.Cell.{Cell}
 use Rattle.go_grid.specs.declared.grid.Cell.TheVariants.{Empty}
 use Rattle.go_grid.specs.declared.grid.Colour.{Colour}
 use Rattle.go_grid.specs.Chain.{IsSettled}
-use Rattle.go_grid.specs.Grid.{Grid}
-use Rattle.go_grid.specs.Region.{Shape}
+use Rattle.go_grid.specs.Board.{Board}
+use Rattle.go_grid.specs.Region.{Region}
 use Rattle.whole_rules.specs.declared.states.Move.{Move}
 use Rattle.whole_rules.specs.Opening.{IsOpening}
 use Rattle.whole_rules.specs.Walls.{Plays}
@@ -35,17 +35,17 @@ use Rattle.endgame_solver.specs.Regions.{no_region, region_at, InRegion}
 use Rattle.endgame_solver.proofs.CellPlayLaws.{Position, position_in, largest, moves, IsHeld, cell_play, few_cells, depth, held_ends, held_tree}
 
 -- the openings of so many regions, from the one at `k` on
-openings : List Shape → ℕ → ℕ → List Position
+openings : List Region → ℕ → ℕ → List Position
 openings regions k zero = []
 openings regions k (suc n) = position_in k (region_at regions k).cells ∷ openings regions (suc k) n
 
-openings-long : (regions : List Shape) (k n : ℕ) → length (openings regions k n) ≡ n
+openings-long : (regions : List Region) (k n : ℕ) → length (openings regions k n) ≡ n
 unfolding openings
 openings-long regions k zero = refl
 openings-long regions k (suc n) = ap suc (openings-long regions (suc k) n)
 
 -- the board holds one position in a region
-one_position : (g : Grid) (r : Shape) (a b : List Cell) (h : Grid) → HoldsPosition g r a h → HoldsPosition g r b h → a ≡ b
+one_position : (g : Board) (r : Region) (a b : List Cell) (h : Board) → HoldsPosition g r a h → HoldsPosition g r b h → a ≡ b
 one_position g r a b h x y =
     ext_get_or Empty a b (x.long ∙ sym y.long) (λ i lt. let short : i < length r.points = omega (arith, lt, x.long) in sym (x.local i short) ∙ y.local i short)
 
@@ -55,7 +55,7 @@ money_same m =
     same-plus _ _ _ _ (num-plus_le 0 (credit Black m.black) (credit White m.white), num-le_plus 0 (credit Black m.black) (credit White m.white))
     (same-refl (token_tree m.token))
 
-module _ (g : Grid) (settled : IsSettled g) (regions : List Shape) (are : AreRegionsOfPlay g regions) where
+module _ (g : Board) (settled : IsSettled g) (regions : List Region) (are : AreRegionsOfPlay g regions) where
   abbrev Moves : Colour → Position → List (Step Position)
   Moves = moves g settled regions are
 
@@ -92,7 +92,7 @@ module _ (g : Grid) (settled : IsSettled g) (regions : List Shape) (are : AreReg
       let v = (bookkeeping Position Moves (InRegion regions) (IsHeld g regions) g settled (length regions) (cell_play g settled regions are)).forth s r u w (m, move) in
       seen_plays r t ms v.0 v.2 rest
 
-  module _ (calm : (r : Shape) → Contains regions r → HasNoCycle r.touch r.cells) (h : Grid) where
+  module _ (calm : (r : Region) → Contains regions r → HasNoCycle r.touch r.cells) (h : Board) where
     abbrev Depth : ℕ
     Depth = depth g settled regions are
 
@@ -102,7 +102,7 @@ module _ (g : Grid) (settled : IsSettled g) (regions : List Shape) (are : AreReg
     all_end k (q ∷ qs) (held, shown) = (held_ends g settled regions are calm h k q held, all_end (suc k) qs shown)
 
     -- the trees of the positions on the board are as good as those of the parts
-    trees_total : (k : ℕ) (rs : List Shape) (trees : Trees) (qs : List Position) → ((j : ℕ) → j < length rs → region_at regions (k + j) ≡ get_or rs j no_region)
+    trees_total : (k : ℕ) (rs : List Region) (trees : Trees) (qs : List Position) → ((j : ℕ) → j < length rs → region_at regions (k + j) ≡ get_or rs j no_region)
         → AreTreesOn g h rs trees → length qs ≡ length rs → AllShown Position Moves (InRegion regions) (IsHeld g regions) h k qs
         → total trees ≡ᵍ parts_tree Position Moves Depth qs
     unfolding total parts_tree

@@ -2,7 +2,7 @@
 use Rattle.std.proofs.Common.{ℕ, suc, ◌≡◌, ◌⊎◌, ◌↔◌, ◌+◌, ◌<◌, ◌≤◌, arith, inl, inr, refl, sym, ap, ◌∙◌, subst, List, [], ◌∷◌, length}
 use Rattle.std.proofs.lemmas.Bool.{cases_eq}
 use Rattle.go_grid.specs.declared.grid.Colour.{Colour}
-use Rattle.go_grid.specs.Grid.{Grid, other}
+use Rattle.go_grid.specs.Board.{Board, other}
 use Rattle.go_grid.specs.Chain.{IsSettled}
 use Rattle.go_play.specs.Place.{IsPlaced, IsNumberTaken}
 use Rattle.whole_rules.specs.declared.states.Move.TheVariants.{Stone, Spend, Half}
@@ -18,14 +18,14 @@ use Rattle.endgame_solver.specs.SumGame.{State, Leads, StepIn, AllEnd, state_tre
 use Rattle.endgame_solver.specs.WholeParts.{OthersStay, IsLocalPlay, AllShown, IsSeenAs}
 use Rattle.endgame_solver.proofs.Decomposition.{decomposes}
 
-module _ (P : Type 0) (moves : Colour → P → List (Step P)) (InPart : ℕ → ℕ → Type 0) (Shown : Grid → ℕ → P → Type 0) where
+module _ (P : Type 0) (moves : Colour → P → List (Step P)) (InPart : ℕ → ℕ → Type 0) (Shown : Board → ℕ → P → Type 0) where
   -- parts past the one that is played in stay
-  later_stay : (h k : Grid) (j i : ℕ) (qs : List P) → j < i → OthersStay P moves InPart Shown j h k → AllShown P moves InPart Shown h i qs → AllShown P moves InPart Shown k i qs
+  later_stay : (h k : Board) (j i : ℕ) (qs : List P) → j < i → OthersStay P moves InPart Shown j h k → AllShown P moves InPart Shown h i qs → AllShown P moves InPart Shown k i qs
   later_stay h k j i [] lt stay w = tt
   later_stay h k j i (q ∷ qs) lt stay w = (stay i q (λ e. omega (arith, lt, e)) w.0, later_stay h k j (suc i) qs (omega (arith, lt)) stay w.1)
 
-  module _ (g : Grid) (parts : ℕ) (play : IsLocalPlay P moves InPart Shown g parts) (h : Grid) (walls : WallsStand g h) (c : Colour) where
-    step_forth : (k : Grid) (p n j i : ℕ) (qs : List P) → AllShown P moves InPart Shown h i qs → i ≤ j → j < i + length qs → i + length qs ≤ parts → InPart j p → IsPlaced h p c k → IsNumberTaken h k n
+  module _ (g : Board) (parts : ℕ) (play : IsLocalPlay P moves InPart Shown g parts) (h : Board) (walls : WallsStand g h) (c : Colour) where
+    step_forth : (k : Board) (p n j i : ℕ) (qs : List P) → AllShown P moves InPart Shown h i qs → i ≤ j → j < i + length qs → i + length qs ≤ parts → InPart j p → IsPlaced h p c k → IsNumberTaken h k n
         → (rs : List P) × StepIn P moves c qs rs n × AllShown P moves InPart Shown k i rs × (length rs ≡ length qs) × OthersStay P moves InPart Shown j h k
     step_forth k p n j i [] w le lt most at placed number = absurd (omega (arith, le, lt))
     step_forth k p n j i (q ∷ qs) w le lt most at placed number = elim (cases_eq j i) [
@@ -38,7 +38,7 @@ module _ (P : Type 0) (moves : Colour → P → List (Step P)) (InPart : ℕ →
     ]
 
     step_back : (n i : ℕ) (qs rs : List P) → AllShown P moves InPart Shown h i qs → i + length qs ≤ parts → StepIn P moves c qs rs n
-        → (j : ℕ) × ((p : ℕ) × ((k : Grid) × (i ≤ j) × (j < parts) × InPart j p × IsPlaced h p c k × IsNumberTaken h k n × AllShown P moves InPart Shown k i rs × (length rs ≡ length qs) × OthersStay P moves InPart Shown j h k))
+        → (j : ℕ) × ((p : ℕ) × ((k : Board) × (i ≤ j) × (j < parts) × InPart j p × IsPlaced h p c k × IsNumberTaken h k n × AllShown P moves InPart Shown k i rs × (length rs ≡ length qs) × OthersStay P moves InPart Shown j h k))
     step_back n i [] rs w most m = absurd m
     step_back n i (q ∷ qs) [] w most m = absurd m
     step_back n i (q ∷ qs) (r ∷ rs) w most (inl (m, e)) =
@@ -81,7 +81,7 @@ module _ (P : Type 0) (moves : Colour → P → List (Step P)) (InPart : ℕ →
           ),
         )
 
-  module _ (g : Grid) (settled : IsSettled g) (parts : ℕ) (play : IsLocalPlay P moves InPart Shown g parts) where
+  module _ (g : Board) (settled : IsSettled g) (parts : ℕ) (play : IsLocalPlay P moves InPart Shown g parts) where
     -- a state of the whole game, seen as its parts
     abbrev pub Sees : whole.State → State P → Type 0
     Sees s u = Keeps g s × IsSeenAs P moves InPart Shown parts s u

@@ -2,8 +2,8 @@
 use Rattle.std.proofs.Common.{ℕ, ℤ, zero, suc, Option, Some, None, ◌≡◌, ◌↔◌, ◌^◌, ◌∙◌, inl, inr, refl, sym, ap, subst, List, Bool, IsTrue, pos, ◌*ℤ◌}
 use Rattle.go_grid.specs.declared.grid.Colour.{Colour}
 use Rattle.go_grid.specs.declared.grid.Colour.TheVariants.{Black, White}
-use Rattle.go_grid.specs.Grid.{other}
-use Rattle.go_grid.specs.Region.{Shape}
+use Rattle.go_grid.specs.Board.{other}
+use Rattle.go_grid.specs.Region.{Region}
 use Rattle.whole_rules.specs.declared.money.Purses.{Purses}
 use Rattle.whole_rules.specs.declared.states.Move.{Move}
 use Rattle.whole_rules.specs.declared.states.Move.TheVariants.{Stone, Spend, Half}
@@ -11,7 +11,7 @@ use Rattle.whole_rules.specs.PlainRecursion.{WinsWithin, MoverLoses}
 use Rattle.whole_rules.specs.FirstWinningMove.{IsWinner, IsWinning, IsFirstWinning}
 use Rattle.whole_rules.specs.WholeGame.{State, Leads}
 use Rattle.whole_rules.proofs.OutcomeLaws.{wins-not_loses}
-use Rattle.local_graph.specs.Nodes.{Nodes}
+use Rattle.local_graph.specs.Graph.{Graph}
 use Rattle.game_store.specs.Tree.{Tree}
 use Rattle.game_canon.specs.Players.{LosesGame}
 use Rattle.sum_outcome.specs.Sums.{sum_tree}
@@ -32,7 +32,7 @@ pub not_other : (c : Colour) → c ≡ other c → ⊥
 not_other Black e = cc
 not_other White e = cc
 
-module _ (regions : List Shape) (graphs : List Nodes) (values : List (List ℕ)) (places ids : List ℕ) (Ts : List Tree) (s : State)
+module _ (regions : List Region) (graphs : List Graph) (values : List (List ℕ)) (places ids : List ℕ) (Ts : List Tree) (s : State)
     (kept : IsKept regions graphs values places ids Ts s) where
   -- the player to move loses the sum of the present values and the balance
   abbrev pub LosesSum : Type 0

@@ -4,8 +4,8 @@ use Rattle.std.proofs.lemmas.Bool.{cases_eq}
 use Rattle.std.proofs.lemmas.List.{get_or-set_same, get_or-set_other, length-set}
 use Rattle.go_grid.specs.declared.grid.Colour.{Colour}
 use Rattle.go_grid.specs.declared.grid.Colour.TheVariants.{Black, White}
-use Rattle.go_grid.specs.Grid.{Grid, other}
-use Rattle.go_grid.specs.Region.{Shape}
+use Rattle.go_grid.specs.Board.{Board, other}
+use Rattle.go_grid.specs.Region.{Region}
 use Rattle.whole_rules.specs.declared.money.Purses.{Purses}
 use Rattle.whole_rules.specs.declared.states.Move.TheVariants.{Stone, Spend}
 use Rattle.whole_rules.specs.Purses.{purse, paid_in, paid_out}
@@ -13,7 +13,7 @@ use Rattle.whole_rules.specs.WholeGame.{State, IsMove, Leads, after}
 use Rattle.whole_rules.specs.PlainRecursion.{MoverLoses}
 use Rattle.whole_rules.specs.FirstWinningMove.{IsWinning}
 use Rattle.local_graph.specs.declared.graph.Edge.{Edge}
-use Rattle.local_graph.specs.Nodes.{Nodes}
+use Rattle.local_graph.specs.Graph.{Graph}
 use Rattle.game_store.specs.Tree.{Tree}
 use Rattle.game_store.specs.Meaning.{pick, tree_at, AreIds}
 use Rattle.game_canon.specs.Outcomes.{AreWithin}
@@ -34,7 +34,7 @@ pub record Fits (Ts : List Tree) (ids : List ℕ) : Type 0 where
   pub known : AreIds Ts ids
   pub bounds : (m : Purses) → AreModest m → IsBounded (pick Ts ids) (balance m *ℤ pos (2 ^ 59))
 
-module _ (g : Grid) (regions : List Shape) (graphs : List Nodes) (values : List (List ℕ)) (Ts : List Tree) (are : AreSolved g regions graphs values Ts) where
+module _ (g : Board) (regions : List Region) (graphs : List Graph) (values : List (List ℕ)) (Ts : List Tree) (are : AreSolved g regions graphs values Ts) where
   pub place_inside : (s : State) (places : List ℕ) (k : ℕ) → IsAt g regions graphs places s → k < length regions → place_at places k < length (ids_at values k)
   place_inside s places k at lt = omega (arith, (at.shown k lt).1.at.inside, (are.valued k lt).long)
 
@@ -51,7 +51,7 @@ module _ (g : Grid) (regions : List Shape) (graphs : List Nodes) (values : List 
   }
 
 -- the sum with another place of a region
-pub summed_set : (regions : List Shape) (values : List (List ℕ)) (places ids : List ℕ) (k i : ℕ) → length places ≡ length regions → k < length regions
+pub summed_set : (regions : List Region) (values : List (List ℕ)) (places ids : List ℕ) (k i : ℕ) → length places ≡ length regions → k < length regions
     → AreSummed regions values places ids → AreSummed regions values (set places k i) (set ids k (get_or (ids_at values k) i 0))
 summed_set regions values places ids k i many known summed = record {
   many = length-set ids k (get_or (ids_at values k) i 0) ∙ summed.many;
@@ -65,18 +65,18 @@ summed_set regions values places ids k i many known summed = record {
 }
 
 -- purses of at most 2 ^ 41 stay modest
-pub modest_now : (graphs : List Nodes) (places : List ℕ) (s : State) → HasRoom graphs places s → AreModest s.purses
+pub modest_now : (graphs : List Graph) (places : List ℕ) (s : State) → HasRoom graphs places s → AreModest s.purses
 modest_now graphs places s room = record { black = omega (arith, room.room Black); white = omega (arith, room.room White) }
 
-pub modest_paid : (graphs : List Nodes) (places : List ℕ) (s : State) (c : Colour) (n : ℕ) → n < 256 → HasRoom graphs places s → AreModest (paid_in c n s.purses)
+pub modest_paid : (graphs : List Graph) (places : List ℕ) (s : State) (c : Colour) (n : ℕ) → n < 256 → HasRoom graphs places s → AreModest (paid_in c n s.purses)
 modest_paid graphs places s Black n few room = record { black = omega (arith, few, room.room Black); white = omega (arith, room.room White) }
 modest_paid graphs places s White n few room = record { black = omega (arith, room.room Black); white = omega (arith, few, room.room White) }
 
-pub modest_spent : (graphs : List Nodes) (places : List ℕ) (s : State) (c : Colour) → HasRoom graphs places s → AreModest (paid_out c s.purses)
+pub modest_spent : (graphs : List Graph) (places : List ℕ) (s : State) (c : Colour) → HasRoom graphs places s → AreModest (paid_out c s.purses)
 modest_spent graphs places s Black room = record { black = omega (arith, room.room Black); white = omega (arith, room.room White) }
 modest_spent graphs places s White room = record { black = omega (arith, room.room Black); white = omega (arith, room.room White) }
 
-module _ (regions : List Shape) (graphs : List Nodes) (values : List (List ℕ)) (places ids : List ℕ) (Ts : List Tree) (s : State)
+module _ (regions : List Region) (graphs : List Graph) (values : List (List ℕ)) (places ids : List ℕ) (Ts : List Tree) (s : State)
     (kept : IsKept regions graphs values places ids Ts s) where
   pub are_places : ArePlaces regions graphs places
   are_places = record { many_graphs = kept.solved.cut.many; many_places = kept.at.many; inside = λ k lt. (kept.at.shown k lt).1.at.inside }

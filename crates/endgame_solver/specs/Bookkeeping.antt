@@ -4,8 +4,8 @@ use Rattle.go_grid.specs.declared.grid.Cell.{Cell}
 use Rattle.go_grid.specs.declared.grid.Colour.{Colour}
 use Rattle.go_grid.specs.declared.grid.Colour.TheVariants.{Black, White}
 use Rattle.go_grid.specs.Chain.{IsSettled}
-use Rattle.go_grid.specs.Grid.{Grid, cell_at, other}
-use Rattle.go_grid.specs.Region.{Shape}
+use Rattle.go_grid.specs.Board.{Board, cell_at, other}
+use Rattle.go_grid.specs.Region.{Region}
 use Rattle.go_play.specs.Place.{IsNumberTaken}
 use Rattle.benson_life.specs.Region.{IsContested}
 use Rattle.whole_rules.specs.declared.money.Token.{Token}
@@ -22,7 +22,7 @@ use Rattle.region_cut.specs.Cut.{AreRegionsOfPlay}
 use Rattle.region_cut.specs.LocalBoard.{HoldsPosition}
 
 -- The moves of the list that fall into the region, in their order, as local moves, where the player is the first to move.
-abbrev pub AreMovesIn : Shape → Colour → List Move → List CycleMove → Type 0
+abbrev pub AreMovesIn : Region → Colour → List Move → List CycleMove → Type 0
 AreMovesIn r c [] local = local ≡ []
 AreMovesIn r c (Stone p ∷ ms) local =
     (¬ Contains r.points p × AreMovesIn r (other c) ms local)
@@ -32,7 +32,7 @@ AreMovesIn r c (Spend ∷ ms) local = AreMovesIn r (other c) ms local
 AreMovesIn r c (Half ∷ ms) local = AreMovesIn r (other c) ms local
 
 -- the region's cells after the moves are those of local play after its own moves
-pub record RegionFollows (g : Grid) (r : Shape) (c : Colour) (ms : List Move) (h : Grid) : Type 0 where
+pub record RegionFollows (g : Board) (r : Region) (c : Colour) (ms : List Move) (h : Board) : Type 0 where
   pub local : List CycleMove
   pub moves : AreMovesIn r c ms local
   pub cells : List Cell
@@ -90,6 +90,6 @@ PursesFollow = (c : Colour) (s t : State) (ms : List Move) (ns : List ℕ) → P
 
 -- After any moves from the opening each region follows its own moves, and all points that aren't contested are as at the opening.
 abbrev pub RegionsFollow : Type 0
-RegionsFollow = (g : Grid) (regions : List Shape) (black white : ℕ) (komi : ℤ) (side : Colour) (tax : Bool) (s t : State) (ms : List Move) → IsSettled g
+RegionsFollow = (g : Board) (regions : List Region) (black white : ℕ) (komi : ℤ) (side : Colour) (tax : Bool) (s t : State) (ms : List Move) → IsSettled g
     → AreRegionsOfPlay g regions → IsOpening g black white komi side tax s → Plays s ms t
-    → ((r : Shape) → Contains regions r → RegionFollows g r side ms t.board) × ((p : ℕ) → p < length g.cells → ¬ IsContested g p → cell_at t.board p ≡ cell_at g p)
+    → ((r : Region) → Contains regions r → RegionFollows g r side ms t.board) × ((p : ℕ) → p < length g.cells → ¬ IsContested g p → cell_at t.board p ≡ cell_at g p)

@@ -6,8 +6,8 @@ use Rattle.go_grid.specs.declared.grid.Cell.TheVariants as cell
 use Rattle.go_grid.specs.declared.grid.Colour.{Colour}
 use Rattle.go_grid.specs.declared.grid.Colour.TheVariants as colour
 use Rattle.go_grid.specs.declared.region.Touch.{Touch}
-use Rattle.go_grid.specs.Grid.{Grid}
-use Rattle.go_grid.specs.Region.{Shape}
+use Rattle.go_grid.specs.Board.{Board}
+use Rattle.go_grid.specs.Region.{Region}
 use Rattle.whole_rules.specs.declared.money.Purses.{Purses}
 use Rattle.whole_rules.specs.declared.money.Token.{Token}
 use Rattle.whole_rules.specs.declared.money.Token.TheVariants as token
@@ -74,14 +74,14 @@ touch_code =
     (λ t. (t.black, (t.white, (t.up, (t.left, (t.right, t.down))))))
     (λ p. record { black = p.0; white = p.1.0; up = p.1.1.0; left = p.1.1.1.0; right = p.1.1.1.1.0; down = p.1.1.1.1.1 }) (λ _. refl)
 
-abbrev shape_code : Coded Shape
+abbrev shape_code : Coded Region
 shape_code =
     code_by (ℕ × (ℕ × (List ℕ × (List Cell × List Touch))))
     (coded× coded_ℕ (coded× coded_ℕ (coded× (coded_list coded_ℕ) (coded× (coded_list cell_code) (coded_list touch_code)))))
     (λ r. (r.columns, (r.rows, (r.points, (r.cells, r.touch)))))
     (λ p. record { columns = p.0; rows = p.1.0; points = p.1.1.0; cells = p.1.1.1.0; touch = p.1.1.1.1 }) (λ _. refl)
 
-abbrev grid_code : Coded Grid
+abbrev grid_code : Coded Board
 grid_code =
     code_by (ℕ × (ℕ × List Cell)) (coded× coded_ℕ (coded× coded_ℕ (coded_list cell_code)))
     (λ g. (g.columns, (g.rows, g.cells))) (λ p. record { columns = p.0; rows = p.1.0; cells = p.1.1 }) (λ _. refl)
@@ -93,10 +93,10 @@ purses_code =
 
 abbrev state_code : Coded State
 state_code =
-    code_by (Grid × (List Bool × (Purses × Colour))) (coded× grid_code (coded× (coded_list coded_bool) (coded× purses_code colour_code)))
+    code_by (Board × (List Bool × (Purses × Colour))) (coded× grid_code (coded× (coded_list coded_bool) (coded× purses_code colour_code)))
     (λ s. (s.board, (s.contested, (s.purses, s.side)))) (λ p. record { board = p.0; contested = p.1.0; purses = p.1.1.0; side = p.1.1.1 }) (λ _. refl)
 
 abbrev pub solved_code : Coded SolvedGame
 solved_code =
-    code_by (List Shape × (List Tree × State)) (coded× (coded_list shape_code) (coded× (coded_list tree_code) state_code))
+    code_by (List Region × (List Tree × State)) (coded× (coded_list shape_code) (coded× (coded_list tree_code) state_code))
     (λ s. (s.regions, (s.trees, s.state))) (λ p. record { regions = p.0; trees = p.1.0; state = p.1.1 }) (λ _. refl)

@@ -4,8 +4,8 @@ use Rattle.go_grid.specs.declared.grid.Cell.{Cell}
 use Rattle.go_grid.specs.declared.grid.Colour.{Colour}
 use Rattle.go_grid.specs.declared.grid.Colour.TheVariants.{Black, White}
 use Rattle.go_grid.specs.Chain.{IsSettled}
-use Rattle.go_grid.specs.Grid.{Grid}
-use Rattle.go_grid.specs.Region.{Shape}
+use Rattle.go_grid.specs.Board.{Board}
+use Rattle.go_grid.specs.Region.{Region}
 use Rattle.whole_rules.specs.declared.money.Purses.{Purses}
 use Rattle.whole_rules.specs.declared.states.Move.{Move}
 use Rattle.whole_rules.specs.Opening.{IsOpening}
@@ -23,7 +23,7 @@ use Rattle.local_value.specs.PositionTree.{IsTreeOf}
 use Rattle.endgame_solver.specs.SumGame.{token_tree}
 
 -- the trees of the positions that the board holds in the regions
-abbrev pub AreTreesOn : Grid → Grid → List Shape → Trees → Type 0
+abbrev pub AreTreesOn : Board → Board → List Region → Trees → Type 0
 AreTreesOn g h [] none = Unit {0}
 AreTreesOn g h (r ∷ rs) (more G Gs) = ((cells : List Cell) × HoldsPosition g r cells h × IsTreeOf r.touch (3 ^ length cells) cells G) × AreTreesOn g h rs Gs
 AreTreesOn g h _ _ = ⊥
@@ -35,8 +35,8 @@ money_tree m = num 0 (credit Black m.black +ℤ credit White m.white) +ᵍ token
 -- Where no region of a settled board has a cycle, each state that moves reach from the opening has a winner. And the player to
 -- move loses exactly where the sum of trees of the regions' positions and the money is at most 0 for Black, at least 0 for White.
 abbrev pub WholeDecomposes : Type 0
-WholeDecomposes = (g : Grid) (regions : List Shape) (black white : ℕ) (komi : ℤ) (side : Colour) (tax : Bool) (s t : whole.State) (ms : List Move)
-    → IsSettled g → AreRegionsOfPlay g regions → ((r : Shape) → Contains regions r → HasNoCycle r.touch r.cells)
+WholeDecomposes = (g : Board) (regions : List Region) (black white : ℕ) (komi : ℤ) (side : Colour) (tax : Bool) (s t : whole.State) (ms : List Move)
+    → IsSettled g → AreRegionsOfPlay g regions → ((r : Region) → Contains regions r → HasNoCycle r.touch r.cells)
     → IsOpening g black white komi side tax s → Plays s ms t
     → (MoverWins whole.State whole.Leads t ⊎ MoverLoses whole.State whole.Leads t)
     × ((trees : Trees) → AreTreesOn g t.board regions trees

@@ -2,9 +2,9 @@
 use Rattle.std.specs.Prelude.{◌≡◌, ℕ, ◌+◌, ◌*◌, ◌^◌, ◌<◌, ◌≤◌, List, [], length, slice_index, slice_index_or, Contains, sum_by, Option, Some, None}
 use Rattle.go_grid.specs.declared.grid.Colour.{Colour}
 use Rattle.go_grid.specs.Chain.{IsSettled}
-use Rattle.go_grid.specs.Grid.{Grid}
+use Rattle.go_grid.specs.Board.{Board}
 use Rattle.go_grid.specs.Marks.{Marks}
-use Rattle.go_grid.specs.Region.{Shape, IsRegion}
+use Rattle.go_grid.specs.Region.{Region, IsRegion}
 use Rattle.benson_life.specs.Region.{IsContested}
 use Rattle.benson_life.specs.Walls.{WallsStand}
 use Rattle.whole_rules.specs.declared.money.Purses.{Purses}
@@ -15,7 +15,7 @@ use Rattle.whole_rules.specs.declared.states.Move.TheVariants.{Stone}
 use Rattle.whole_rules.specs.FirstWinningMove.{IsWinning}
 use Rattle.whole_rules.specs.WholeGame.{State}
 use Rattle.local_graph.specs.declared.graph.Edge.{Edge}
-use Rattle.local_graph.specs.Nodes.{Nodes, edges_at}
+use Rattle.local_graph.specs.Graph.{Graph, edges_at}
 use Rattle.game_store.specs.Tree.{Tree}
 use Rattle.game_store.specs.Meaning.{tree_at}
 use Rattle.game_canon.specs.Outcomes.{AreWithin}
@@ -35,9 +35,9 @@ abbrev pub most_units : ℕ
 most_units = 32000000 * 2 ^ 60
 
 -- the regions of play of the board, each with its graph and the values of its positions
-pub record AreSolved (g : Grid) (regions : List Shape) (graphs : List Nodes) (values : List (List ℕ)) (Ts : List Tree) : Type 0 where
+pub record AreSolved (g : Board) (regions : List Region) (graphs : List Graph) (values : List (List ℕ)) (Ts : List Tree) : Type 0 where
   pub settled : IsSettled g
-  pub proper : (r : Shape) → Contains regions r → IsRegion r.columns r.rows r.points r.cells r.touch
+  pub proper : (r : Region) → Contains regions r → IsRegion r.columns r.rows r.points r.cells r.touch
   pub cut : AreGraphs g regions graphs
   pub few : length regions ≤ 625
   pub short : (k : ℕ) → k < length regions → length (graph_at graphs k).order ≤ 1000000
@@ -46,14 +46,14 @@ pub record AreSolved (g : Grid) (regions : List Shape) (graphs : List Nodes) (va
   pub within : (k i : ℕ) → k < length regions → i < length (ids_at values k) → AreWithin most_units (tree_at Ts (slice_index (ids_at values k) i))
 
 -- the present state has the walls and the contested points of the board, and holds in each region the position of its place
-pub record IsAt (g : Grid) (regions : List Shape) (graphs : List Nodes) (places : List ℕ) (s : State) : Type 0 where
+pub record IsAt (g : Board) (regions : List Region) (graphs : List Graph) (places : List ℕ) (s : State) : Type 0 where
   pub many : length places ≡ length regions
   pub walls : WallsStand g s.board
   pub contested : Marks s.contested (IsContested g)
   pub shown : (k : ℕ) → k < length regions → IsShown g regions graphs s.board k (spot_in k (place_at places k))
 
 -- the ids of the present positions
-pub record AreSummed (regions : List Shape) (values : List (List ℕ)) (places ids : List ℕ) : Type 0 where
+pub record AreSummed (regions : List Region) (values : List (List ℕ)) (places ids : List ℕ) : Type 0 where
   pub many : length ids ≡ length regions
   pub each : (k : ℕ) → k < length regions → slice_index ids k ≡ slice_index (ids_at values k) (place_at places k)
 
@@ -65,38 +65,38 @@ token_left token.White = 1
 
 -- Neither purse passes 2 ^ 41 in any play: each move in a region goes to a place that stands earlier in the graph's order, and takes
 -- at most 33 stones.
-pub record HasRoom (graphs : List Nodes) (places : List ℕ) (s : State) : Type 0 where
+pub record HasRoom (graphs : List Graph) (places : List ℕ) (s : State) : Type 0 where
   pub ranks : List ℕ
   pub many : length ranks ≡ length places
   pub each : (k : ℕ) → k < length places → (slice_index ranks k < length (graph_at graphs k).order) × (slice_index (graph_at graphs k).order (slice_index ranks k) ≡ place_at places k)
   pub room : (c : Colour) → purse c s.purses + 33 * sum_by (λ n. n) ranks + token_left s.purses.token ≤ 2 ^ 41
 
 -- all of this
-pub record IsKept (regions : List Shape) (graphs : List Nodes) (values : List (List ℕ)) (places ids : List ℕ) (Ts : List Tree) (s : State) : Type 0 where
-  pub board : Grid
+pub record IsKept (regions : List Region) (graphs : List Graph) (values : List (List ℕ)) (places ids : List ℕ) (Ts : List Tree) (s : State) : Type 0 where
+  pub board : Board
   pub solved : AreSolved board regions graphs values Ts
   pub at : IsAt board regions graphs places s
   pub summed : AreSummed regions values places ids
   pub room : HasRoom graphs places s
 
 -- the edge is the player's, and its place is that of the point
-pub record IsStoneAt (r : Shape) (c : Colour) (p : ℕ) (e : Edge) : Type 0 where
+pub record IsStoneAt (r : Region) (c : Colour) (p : ℕ) (e : Edge) : Type 0 where
   pub inside : e.place < length r.points
   pub point : slice_index r.points e.place ≡ p
   pub colour : e.colour ≡ c
 
 -- and it is one of these
-pub record IsEdgeTo (r : Shape) (edges : List Edge) (c : Colour) (p : ℕ) (e : Edge) : Type 0 where
+pub record IsEdgeTo (r : Region) (edges : List Edge) (c : Colour) (p : ℕ) (e : Edge) : Type 0 where
   pub stone : IsStoneAt r c p e
   pub among : Contains edges e
 
 -- the edge of a stone at a point: a local move of the region's present position
-pub record IsStoneEdge (regions : List Shape) (graphs : List Nodes) (places : List ℕ) (c : Colour) (p k : ℕ) (e : Edge) : Type 0 where
+pub record IsStoneEdge (regions : List Region) (graphs : List Graph) (places : List ℕ) (c : Colour) (p k : ℕ) (e : Edge) : Type 0 where
   pub known : k < length regions
   pub edge : IsEdgeTo (region_at regions k) (edges_at (graph_at graphs k).edges (place_at places k)) c p e
 
 -- a graph and a place of it for each region
-pub record ArePlaces (regions : List Shape) (graphs : List Nodes) (places : List ℕ) : Type 0 where
+pub record ArePlaces (regions : List Region) (graphs : List Graph) (places : List ℕ) : Type 0 where
   pub many_graphs : length graphs ≡ length regions
   pub many_places : length places ≡ length regions
   pub inside : (k : ℕ) → k < length regions → place_at places k < length (graph_at graphs k).positions

@@ -1,8 +1,8 @@
 -- What regions of one shape share: the graph and the values of the first of them serve the others.
 use Rattle.std.specs.Prelude.{◌≡◌, ◌≢◌, ℕ, ◌<◌, List, Bool, true, Option, Some, None, length, slice_index, slice_index_or}
 use Rattle.std.specs.List.{AllPairs}
-use Rattle.go_grid.specs.Region.{Shape}
-use Rattle.local_graph.specs.Nodes.{Nodes}
+use Rattle.go_grid.specs.Region.{Region}
+use Rattle.local_graph.specs.Graph.{Graph}
 use Rattle.game_store.specs.Tree.{Tree}
 use Rattle.game_store.specs.Meaning.{tree_at}
 use Rattle.game_store.specs.Parts.{HasMoreParts}
@@ -38,7 +38,7 @@ abbrev pub AreNegatives : List Tree → List (Option ℕ) → Type 0
 AreNegatives Ts known = (id turned : ℕ) → slice_index_or known id None ≡ Some turned → (id < length Ts) × IsTurnedValue true Ts id turned
 
 -- a kind of the region: one of the first n has the shape, and the graph and the values are that region's
-pub record IsKind (limits : Limits) (regions : List Shape) (g : Nodes) (held : List (List ℕ)) (Ts : List Tree) (n : ℕ) (kind : Kind) : Type 0 where
+pub record IsKind (limits : Limits) (regions : List Region) (g : Graph) (held : List (List ℕ)) (Ts : List Tree) (n : ℕ) (kind : Kind) : Type 0 where
   pub region : ℕ
   pub before : region < n
   pub shape : IsShape (region_at regions region) (region_at regions region).cells kind.shape.spots.items kind.turn
@@ -46,7 +46,7 @@ pub record IsKind (limits : Limits) (regions : List Shape) (g : Nodes) (held : L
   pub solved : IsSolvedBy limits (region_at regions region) g Ts (ids_at held kind.values)
 
 -- the kinds have different shapes, and each of the first n regions has the shape of one of them
-pub record AreKinds (limits : Limits) (regions : List Shape) (shared : List Nodes) (held : List (List ℕ)) (kinds : List Kind) (Ts : List Tree)
+pub record AreKinds (limits : Limits) (regions : List Region) (shared : List Graph) (held : List (List ℕ)) (kinds : List Kind) (Ts : List Tree)
     (n : ℕ) : Type 0 where
   pub many : length kinds ≡ length shared
   pub each : (j : ℕ) (kind : Kind) → j < length kinds → slice_index_or kinds j kind ≡ kind → IsKind limits regions (graph_at shared j) held Ts n kind
@@ -55,17 +55,17 @@ pub record AreKinds (limits : Limits) (regions : List Shape) (shared : List Node
       × ((kind : Kind) → slice_index_or kinds j kind ≡ kind → (t : Turn) × IsShape (region_at regions k) (region_at regions k).cells kind.shape.spots.items t)
 
 -- the first n regions are solved, each by the graph and the values that its view shows
-pub record SharesBelow (limits : Limits) (regions : List Shape) (shared : List Nodes) (held : List (List ℕ)) (views : List View) (kinds : List Kind)
+pub record SharesBelow (limits : Limits) (regions : List Region) (shared : List Graph) (held : List (List ℕ)) (views : List View) (kinds : List Kind)
     (Ts : List Tree) (n : ℕ) : Type 0 where
-  pub graphs : List Nodes
+  pub graphs : List Graph
   pub values : List (List ℕ)
   pub solved : AreSolvedBelow limits regions graphs values Ts n
   pub views_are : AreViews shared held views graphs values n
   pub kinds_are : AreKinds limits regions shared held kinds Ts n
 
 -- the book solves all regions, and has a graph for each shape
-pub record AreSharedBy (limits : Limits) (regions : List Shape) (book : Book) (Ts : List Tree) : Type 0 where
-  pub graphs : List Nodes
+pub record AreSharedBy (limits : Limits) (regions : List Region) (book : Book) (Ts : List Tree) : Type 0 where
+  pub graphs : List Graph
   pub values : List (List ℕ)
   pub solved : AreSolvedBelow limits regions graphs values Ts (length regions)
   pub views_are : AreViews book.graphs.items book.values.items book.views.items graphs values (length regions)

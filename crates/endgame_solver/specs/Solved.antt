@@ -2,8 +2,8 @@
 use Rattle.std.specs.Prelude.{◌≡◌, ◌≢◌, ◌⊎◌, ℕ, ◌<◌, ◌↔◌, List, length, slice_index, Contains, Result, Ok, Err, ℤ, pos, ◌*ℤ◌, ◌^◌, Bool, Some, None}
 use Rattle.std.specs.List.{AllPairs}
 use Rattle.go_grid.specs.declared.grid.Cell.{Cell}
-use Rattle.go_grid.specs.Grid.{Grid, cell_at}
-use Rattle.go_grid.specs.Region.{Shape}
+use Rattle.go_grid.specs.Board.{Board, cell_at}
+use Rattle.go_grid.specs.Region.{Region}
 use Rattle.sgf_go.specs.declared.settings.Setup.{Setup}
 use Rattle.local_play.specs.LocalPlay.{held_at}
 use Rattle.local_graph.specs.LocalGraph.{IsReachable}
@@ -26,7 +26,7 @@ use Rattle.endgame_solver.specs.declared.solved.RegionReport.{RegionReport}
 
 -- the regions of play, the trees of the store, and the present state
 pub record SolvedGame : Type 0 where
-  pub regions : List Shape
+  pub regions : List Region
   pub trees : List Tree
   pub state : State
 
@@ -36,7 +36,7 @@ OpensAs setup tax s = IsOpening setup.board setup.black_prisoners setup.white_pr
 
 -- the regions of play of a position are all sound within the limits, and the state opens it
 pub record IsPlayable (limits : Limits) (setup : Setup) (s : State) : Type 0 where
-  pub regions : List Shape
+  pub regions : List Region
   pub are_regions : AreRegionsOfPlay setup.board regions
   pub sound : AreSound limits regions
   pub opening : OpensAs setup limits.tax s
@@ -45,7 +45,7 @@ pub record IsPlayable (limits : Limits) (setup : Setup) (s : State) : Type 0 whe
 abbrev pub Begun : Setup → Limits → Result SolvedGame SolveError → Type 0
 Begun setup limits (Ok game) = OpensAs setup limits.tax game.state × AreRegionsOfPlay setup.board game.regions × AreSound limits game.regions
 Begun setup limits (Err (Memory e)) = Unit {0}
-Begun setup limits (Err fault) = (regions : List Shape) × AreRegionsOfPlay setup.board regions × AreRefused limits regions fault
+Begun setup limits (Err fault) = (regions : List Region) × AreRegionsOfPlay setup.board regions × AreRefused limits regions fault
 
 -- the side to move has a move
 abbrev pub HasMove : State → Type 0
@@ -56,11 +56,11 @@ abbrev pub Chooses : State → Move → Type 0
 Chooses s m = IsFirstWinning s (Some m) ⊎ (IsFirstWinning s None × IsFirstMove s (Some m))
 
 -- the board holds the cells in the region
-abbrev pub HoldsCells : Grid → Shape → List Cell → Type 0
+abbrev pub HoldsCells : Board → Region → List Cell → Type 0
 HoldsCells h r cells = (length cells ≡ length r.points) × ((i : ℕ) → i < length r.points → cell_at h (slice_index r.points i) ≡ held_at cells i)
 
 -- the id is that of the value of the cells
-abbrev pub IsValueId : List Tree → Shape → List Cell → ℕ → Type 0
+abbrev pub IsValueId : List Tree → Region → List Cell → ℕ → Type 0
 IsValueId Ts r cells id = (id < length Ts) × IsValueOf r.touch cells (tree_at Ts id)
 
 -- the id is that of the value of the region's present position
@@ -74,24 +74,24 @@ pub record ArePresent (game : SolvedGame) (ids : List ℕ) : Type 0 where
   pub each : (k : ℕ) → k < length game.regions → IsPresent game k (slice_index ids k)
 
 -- exactly so many positions are reachable
-abbrev pub IsNumberOfPositions : Shape → ℕ → Type 0
+abbrev pub IsNumberOfPositions : Region → ℕ → Type 0
 IsNumberOfPositions r n = (found : List (List Cell)) × AllPairs (λ a b. a ≢ b) found
     × ((cells : List Cell) → Contains found cells ↔ IsReachable r.touch r.cells cells) × (length found ≡ n)
 
 -- the report of a region: its lowest point, its points, its reachable positions and the value of its opening
-pub record IsReport (Ts : List Tree) (r : Shape) (report : RegionReport) : Type 0 where
+pub record IsReport (Ts : List Tree) (r : Region) (report : RegionReport) : Type 0 where
   pub lowest_point : report.lowest ≡ lowest r
   pub points : report.points ≡ length r.points
   pub positions : IsNumberOfPositions r report.positions
   pub value : IsValueId Ts r r.cells report.value
 
 -- the openings of the two regions have one shape
-abbrev pub HaveShape : List Shape → ℕ → ℕ → Type 0
+abbrev pub HaveShape : List Region → ℕ → ℕ → Type 0
 HaveShape regions i k =
     HaveOneShape (region_at regions i).touch (region_at regions i).cells (region_at regions k).touch (region_at regions k).cells
 
 -- The openings have so many different shapes: no two of as many regions have one shape, and each region has that of one of them.
-pub record IsNumberOfShapes (regions : List Shape) (n : ℕ) : Type 0 where
+pub record IsNumberOfShapes (regions : List Region) (n : ℕ) : Type 0 where
   pub firsts : List ℕ
   pub many : length firsts ≡ n
   pub known : (j : ℕ) → j < n → slice_index firsts j < length regions

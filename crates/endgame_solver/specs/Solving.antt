@@ -1,8 +1,8 @@
 -- What solving a region gives, and solving one region after the other.
 use Rattle.std.specs.Prelude.{◌≡◌, ℕ, ◌<◌, ◌≤◌, List, length, slice_index, Option, Some, None}
-use Rattle.go_grid.specs.Region.{Shape}
+use Rattle.go_grid.specs.Region.{Region}
 use Rattle.local_graph.specs.LocalGraph.{MoreThan}
-use Rattle.local_graph.specs.Nodes.{Nodes}
+use Rattle.local_graph.specs.Graph.{Graph}
 use Rattle.game_store.specs.Tree.{Tree}
 use Rattle.game_store.specs.Meaning.{tree_at}
 use Rattle.game_canon.specs.Outcomes.{AreWithin}
@@ -15,30 +15,30 @@ use Rattle.endgame_solver.specs.declared.faults.SolveError.{SolveError}
 use Rattle.endgame_solver.specs.declared.faults.SolveError.TheVariants.{Memory}
 
 -- the first region with more than 32 points, by its lowest point and its number of points, where there is one
-abbrev pub FindsLarge : List Shape → Option (ℕ × ℕ) → Type 0
+abbrev pub FindsLarge : List Region → Option (ℕ × ℕ) → Type 0
 FindsLarge regions (Some x) = IsFirstLarge regions x.0 x.1
 FindsLarge regions None = AreSmall regions
 
 -- the region's graph, which has at most so many positions
-pub record IsGraphWithin (limit : ℕ) (r : Shape) (g : Nodes) : Type 0 where
+pub record IsGraphWithin (limit : ℕ) (r : Region) (g : Graph) : Type 0 where
   pub graph : IsGraphOf r g
   pub few : length g.positions ≤ limit
   pub positions : ¬ MoreThan r.touch r.cells limit
 
 -- the region is sound, and these are its graph and the ids of its values
-pub record IsSolvedBy (limits : Limits) (r : Shape) (g : Nodes) (Ts : List Tree) (ids : List ℕ) : Type 0 where
+pub record IsSolvedBy (limits : Limits) (r : Region) (g : Graph) (Ts : List Tree) (ids : List ℕ) : Type 0 where
   pub sound : IsSound limits r
   pub graph : IsGraphWithin limits.positions r g
   pub values : AreValues r g Ts ids
   pub within : (i : ℕ) → i < length ids → AreWithin most_units (tree_at Ts (slice_index ids i))
 
 -- the region's fault, or want of memory
-abbrev pub IsRefusalOf : Limits → Shape → SolveError → Type 0
+abbrev pub IsRefusalOf : Limits → Region → SolveError → Type 0
 IsRefusalOf limits r (Memory e) = Unit {0}
 IsRefusalOf limits r fault = IsFaultOf limits r fault
 
 -- a graph and values for each of the first n regions, by which it is solved
-pub record AreSolvedBelow (limits : Limits) (regions : List Shape) (graphs : List Nodes) (values : List (List ℕ)) (Ts : List Tree) (n : ℕ) : Type 0 where
+pub record AreSolvedBelow (limits : Limits) (regions : List Region) (graphs : List Graph) (values : List (List ℕ)) (Ts : List Tree) (n : ℕ) : Type 0 where
   pub as_many_graphs : length graphs ≡ n
   pub as_many_values : length values ≡ n
   pub each : (k : ℕ) → k < n → IsSolvedBy limits (region_at regions k) (graph_at graphs k) Ts (ids_at values k)

@@ -1,15 +1,15 @@
 -- Values in the places of positions.
 use Rattle.std.specs.Prelude.{ℕ, suc, List, [], ◌∷◌}
 use Rattle.go_grid.specs.declared.grid.Cell.{Cell}
-use Rattle.go_grid.specs.Region.{Shape}
-use Rattle.local_graph.specs.Nodes.{Nodes}
+use Rattle.go_grid.specs.Region.{Region}
+use Rattle.local_graph.specs.Graph.{Graph}
 use Rattle.game_store.specs.Tree.{Tree}
 use Rattle.game_store.specs.Meaning.{tree_at}
 use Rattle.local_value.specs.PositionTree.{IsValueOf}
 use Rattle.endgame_solver.specs.Regions.{Spot, region_at, HasCells}
 
 -- the ids are those of the values of the positions, in regions from `k` on
-abbrev pub AreValued : List Shape → List Nodes → List Tree → ℕ → List Spot → List ℕ → Type 0
+abbrev pub AreValued : List Region → List Graph → List Tree → ℕ → List Spot → List ℕ → Type 0
 AreValued regions graphs Ts k [] [] = Unit {0}
 AreValued regions graphs Ts k (q ∷ qs) (id ∷ ids) =
     ((cells : List Cell) × HasCells regions graphs k q cells × IsValueOf (region_at regions k).touch cells (tree_at Ts id))

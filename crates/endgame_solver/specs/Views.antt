@@ -1,10 +1,10 @@
 -- How the graph of one region serves another region of the same shape.
 use Rattle.std.specs.Prelude.{◌≡◌, ℕ, ◌<◌, ◌↔◌, List, [], length, slice_index, slice_index_or, Contains, false}
-use Rattle.go_grid.specs.Region.{Shape}
+use Rattle.go_grid.specs.Region.{Region}
 use Rattle.whole_rules.specs.WholeGame.{State}
 use Rattle.game_store.specs.Tree.{Tree}
 use Rattle.local_graph.specs.declared.graph.Edge.{Edge}
-use Rattle.local_graph.specs.Nodes.{Nodes, edges_at}
+use Rattle.local_graph.specs.Graph.{Graph, edges_at}
 use Rattle.region_book.specs.Shape.{colour_after}
 use Rattle.endgame_solver.specs.Held.{ArePlaces, IsKept, ids_at}
 use Rattle.endgame_solver.specs.Regions.{graph_at}
@@ -18,7 +18,7 @@ abbrev pub own : View → Edge → Edge
 own v e = record { next = e.next; colour = colour_after v.colours e.colour; place = slice_index v.places e.place; taken = e.taken }
 
 -- The region's graph has the places of the shared one, and exactly the moves that the shared one's edges stand for.
-pub record Serves (v : View) (shared g : Nodes) : Type 0 where
+pub record Serves (v : View) (shared g : Graph) : Type 0 where
   pub as_many : length g.positions ≡ length shared.positions
   pub inside : (i : ℕ) (e : Edge) → Contains (edges_at shared.edges i) e → e.place < 32
   pub moves : (i : ℕ) (e : Edge) → Contains (edges_at g.edges i) e ↔ ((f : Edge) × Contains (edges_at shared.edges i) f × (e ≡ own v f))
@@ -30,31 +30,31 @@ abbrev pub view_at : List View → ℕ → View
 view_at views k = slice_index_or views k no_view
 
 -- a region's graph and values are those that its view shows
-pub record IsView (shared : List Nodes) (held : List (List ℕ)) (v : View) (g : Nodes) (ids : List ℕ) : Type 0 where
+pub record IsView (shared : List Graph) (held : List (List ℕ)) (v : View) (g : Graph) (ids : List ℕ) : Type 0 where
   pub graph : v.graph < length shared
   pub values : v.values < length held
   pub seen : Serves v (graph_at shared v.graph) g
   pub same : ids_at held v.values ≡ ids
 
 -- the same for each of the first n regions
-pub record AreViews (shared : List Nodes) (held : List (List ℕ)) (views : List View) (graphs : List Nodes) (values : List (List ℕ)) (n : ℕ) : Type 0 where
+pub record AreViews (shared : List Graph) (held : List (List ℕ)) (views : List View) (graphs : List Graph) (values : List (List ℕ)) (n : ℕ) : Type 0 where
   pub many : length views ≡ n
   pub each : (k : ℕ) → k < n → IsView shared held (view_at views k) (graph_at graphs k) (ids_at values k)
 
 -- the graph that a region sees, and the ids of its values
-abbrev pub seen_graph : Book → ℕ → Nodes
+abbrev pub seen_graph : Book → ℕ → Graph
 seen_graph book k = graph_at book.graphs.items (view_at book.views.items k).graph
 
 abbrev pub seen_ids : Book → ℕ → List ℕ
 seen_ids book k = ids_at book.values.items (view_at book.views.items k).values
 
 -- the book shows these graphs and values, one for each region
-abbrev pub ShowsAll : Book → List Nodes → List (List ℕ) → ℕ → Type 0
+abbrev pub ShowsAll : Book → List Graph → List (List ℕ) → ℕ → Type 0
 ShowsAll book graphs values n = AreViews book.graphs.items book.values.items book.views.items graphs values n
 
 -- the book shows a graph and values for each region, of which all of this is kept
-pub record IsHeld (regions : List Shape) (book : Book) (places ids : List ℕ) (Ts : List Tree) (s : State) : Type 0 where
-  pub graphs : List Nodes
+pub record IsHeld (regions : List Region) (book : Book) (places ids : List ℕ) (Ts : List Tree) (s : State) : Type 0 where
+  pub graphs : List Graph
   pub values : List (List ℕ)
   pub views_are : ShowsAll book graphs values (length regions)
   pub shapes : IsNumberOfShapes regions (length book.graphs.items)
@@ -65,8 +65,8 @@ abbrev pub IsSeen : Present → List ℕ → Type 0
 IsSeen present ids = IsHeld present.regions.now present.book.now present.places.now ids present.store.now present.whole.now
 
 -- the book shows graphs with the places, one for each region
-pub record ShowsPlaces (regions : List Shape) (book : Book) (places : List ℕ) : Type 0 where
-  pub graphs : List Nodes
+pub record ShowsPlaces (regions : List Region) (book : Book) (places : List ℕ) : Type 0 where
+  pub graphs : List Graph
   pub values : List (List ℕ)
   pub views_are : ShowsAll book graphs values (length regions)
   pub places_are : ArePlaces regions graphs places

@@ -2,7 +2,7 @@
 
 ghost use Rattle.std.specs.Prelude.{◌≡◌, ℕ, ◌<◌, ◌≤◌, Contains, IfOk, length, replicate, slice_index};
 ghost use Rattle.go_grid.specs.Chain.{IsSettled};
-ghost use Rattle.go_grid.specs.Region.{Shape};
+ghost use Rattle.go_grid.specs.Region.{Region};
 ghost use Rattle.benson_life.specs.Territory.{IsTerritory};
 ghost use Rattle.region_cut.specs.LocalBoard.{PlaysLocally};
 ghost use Rattle.region_cut.specs.Cut.{AreRegionsOfPlay};
@@ -29,7 +29,7 @@ pub(crate) fn regions_of_play(
     requires settled { IsSettled board.now }
     requires territory { IsTerritory board.now territory.now }
     ensures regions { IfOk result (λ regions. AreRegionsOfPlay board.now regions.items) }
-    ensures local { IfOk result (λ regions. (r : Shape) → Contains regions.items r → PlaysLocally board.now r) }
+    ensures local { IfOk result (λ regions. (r : Region) → Contains regions.items r → PlaysLocally board.now r) }
 {
     cut_territory(alloc, board, territory)
 }

@@ -1,8 +1,8 @@
 //! Solved games.
 
 ghost use Rattle.std.specs.Prelude.{◌≡◌, ℕ, ◌+◌, ◌<◌, ◌≤◌, ◌↔◌, List, length, None};
-ghost use Rattle.go_grid.specs.Region.{Shape};
-ghost use Rattle.go_grid.specs.Grid.{other};
+ghost use Rattle.go_grid.specs.Region.{Region};
+ghost use Rattle.go_grid.specs.Board.{other};
 ghost use Rattle.whole_rules.specs.FirstWinningMove.{IsFirstWinning, IsWinner};
 ghost use Rattle.whole_rules.specs.PlainRecursion.{MoverLoses};
 ghost use Rattle.whole_rules.specs.WholeGame.{State, Leads, Applies};
@@ -92,7 +92,7 @@ impl Solved {
         requires fit { IsFit setup.now }
         requires positions { limits.now.positions ≤ 1000000 }
         ensures begun { Begun setup.now limits.now result }
-        ensures steps { (regions : List Shape) → AreRegionsOfPlay setup.now.board regions
+        ensures steps { (regions : List Region) → AreRegionsOfPlay setup.now.board regions
             → steps.new ≤ steps.old + most_steps limits.now regions }
     {
         let board = &setup.board;

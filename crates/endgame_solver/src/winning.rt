@@ -11,7 +11,7 @@ ghost use Rattle.sum_outcome.specs.Memo.{Fits};
 ghost use Rattle.endgame_solver.specs.SumGame.{balance, halves};
 ghost use Rattle.endgame_solver.specs.Held.{IsStoneAt, IsStoneEdge, IsFirstStone, AreModest};
 ghost use Rattle.endgame_solver.specs.Views.{IsSeen, ShowsAll, ShowsPlaces, own, seen_graph, seen_ids, view_at};
-ghost use Rattle.local_graph.specs.Nodes.{Nodes, edges_at};
+ghost use Rattle.local_graph.specs.Graph.{Graph, edges_at};
 
 use crate::sharing::Book;
 use crate::views::View;
@@ -158,7 +158,7 @@ pub(crate) fn stone_edge(
 ) -> Option<(usize, Edge)>
     requires { ShowsPlaces regions.now book.now places.now }
     ensures known { IfSome result (λ x. x.0 < length regions.now) }
-    ensures edges { (graphs : List Nodes) (values : List (List ℕ)) → ShowsAll book.now graphs values (length regions.now)
+    ensures edges { (graphs : List Graph) (values : List (List ℕ)) → ShowsAll book.now graphs values (length regions.now)
         → MatchOption result ((k : ℕ) (e : Edge) → ¬ IsStoneEdge regions.now graphs places.now colour point k e)
         (λ x. IsStoneEdge regions.now graphs places.now colour point x.0 x.1) }
 {

@@ -6,7 +6,7 @@ use Rattle.std.proofs.lemmas.List.Elements.{Contains-get_or}
 use Rattle.std.proofs.lemmas.Bool.{cases_eq}
 use Rattle.std.proofs.lemmas.List.{get_or-set_same, get_or-set_other}
 use Rattle.go_grid.specs.declared.filling.Work.{Work}
-use Rattle.go_grid.specs.Grid.{NextTo}
+use Rattle.go_grid.specs.Board.{NextTo}
 use Rattle.go_grid.specs.Walk.{Joined}
 use Rattle.go_grid.specs.Marks.{IsMarked, Touches, IsClosed, Marks}
 use Rattle.go_grid.specs.Work.{IsListed, IsFilled, IsFilling}

@@ -4,7 +4,7 @@ pub mod WalkLemmas
 pub mod PointsLemmas
 pub mod FillLemmas
 pub mod PartsLemmas
-pub mod GridLemmas
+pub mod BoardLemmas
 pub mod ChainLemmas
 pub mod NameLemmas
 mod Instances

@@ -4,7 +4,7 @@ use Rattle.std.specs.List.{Contains}
 use Rattle.std.proofs.lemmas.List.Elements.{Contains-push, Contains-push_cases, Contains-append_left}
 use Rattle.std.proofs.lemmas.Nat.{same_from_place, mod_below, div-add-mod', mul-add-lt, div_below}
 use Rattle.std.specs.Option.{SomeIff}
-use Rattle.go_grid.specs.Grid.{NextTo, IsAbove, IsLeftOf, IsThe, AreNear}
+use Rattle.go_grid.specs.Board.{NextTo, IsAbove, IsLeftOf, IsThe, AreNear}
 
 -- one row further
 pub below_place : (c p q : ℕ) → 0 < c → p + c ≡ q → (p / c + 1 ≡ q / c) × (p % c ≡ q % c)

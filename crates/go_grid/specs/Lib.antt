@@ -1,4 +1,4 @@
-pub mod Grid
+pub mod Board
 pub mod Path
 pub mod Walk
 pub mod Chain

@@ -1,7 +1,7 @@
 -- Sets of points, as a list of marks.
 use Rattle.std.specs.Prelude.{◌≡◌, ℕ, ◌<◌, ◌↔◌, List, Bool, true, false, slice_index_or, Contains}
 use Rattle.std.specs.List.Sorted.{IsStrictlyIncreasing}
-use Rattle.go_grid.specs.Grid.{NextTo}
+use Rattle.go_grid.specs.Board.{NextTo}
 
 abbrev pub IsMarked : List Bool → ℕ → Type 0
 IsMarked marks p = slice_index_or marks p false ≡ true

@@ -5,11 +5,11 @@ use Rattle.go_grid.specs.declared.grid.Cell.{Cell}
 use Rattle.go_grid.specs.declared.grid.Colour.{Colour}
 use Rattle.go_grid.specs.declared.grid.Colour.TheVariants.{Black, White}
 use Rattle.go_grid.specs.declared.region.Touch.{Touch}
-use Rattle.go_grid.specs.Grid.{IsAbove, IsLeftOf}
+use Rattle.go_grid.specs.Board.{IsAbove, IsLeftOf}
 use Rattle.go_grid.specs.Walk.{Joined}
 
 -- what a contract sees of a region
-pub record Shape : Type 0 where
+pub record Region : Type 0 where
   pub columns : ℕ
   pub rows : ℕ
   pub points : List ℕ

@@ -2,7 +2,7 @@
 use Rattle.std.specs.Prelude.{◌≡◌, ℕ, ◌<◌, ◌≤◌, ◌⊎◌, List, Bool, Some, slice_index, count_by}
 use Rattle.go_grid.specs.declared.filling.Work.{Work}
 use Rattle.go_grid.specs.declared.nearby.Near.{Near}
-use Rattle.go_grid.specs.Grid.{NextTo}
+use Rattle.go_grid.specs.Board.{NextTo}
 use Rattle.go_grid.specs.Walk.{Joined}
 use Rattle.go_grid.specs.Marks.{IsMarked, IsClosed}
 

@@ -14,10 +14,10 @@ pub struct Board {
 }
 
 impl Model for Board {
-    ghost use Rattle.go_grid.specs.Grid.{Grid, IsGrid};
+    ghost use Rattle.go_grid.specs.Board.{Board, IsBoard};
     ghost use Rattle.std.specs.Prelude.{◌≡◌, ◌*◌, length};
 
-    ghost Value = { Grid };
+    ghost Value = { Board };
 
     ghost view = { λ b. record { columns = b.size.columns; rows = b.size.rows; cells = b.cells.items } };
 
@@ -25,7 +25,7 @@ impl Model for Board {
 }
 
 impl Board {
-    ghost use Rattle.go_grid.specs.Grid.{Grid, IsGrid, cell_at};
+    ghost use Rattle.go_grid.specs.Board.{Board, IsBoard, cell_at};
     ghost use Rattle.go_grid.specs.declared.grid.Cell.TheVariants.{Empty};
 
     /// A board of the size without stones.
@@ -51,11 +51,11 @@ impl Board {
     }
 
     /// The board's size.
-    #[tactic(auto, using(crate::proofs::GridLemmas::area_most))]
+    #[tactic(auto, using(crate::proofs::BoardLemmas::area_most))]
     pub fn size(&self) -> Size
         ensures columns { result.columns ≡ self.now.columns }
         ensures rows { result.rows ≡ self.now.rows }
-        ensures grid { IsGrid self.now }
+        ensures grid { IsBoard self.now }
         ensures area { result.columns * result.rows ≡ length self.now.cells }
         ensures most { length self.now.cells ≤ 625 }
     {

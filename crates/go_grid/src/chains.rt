@@ -13,7 +13,7 @@ impl Board {
     ghost use Rattle.go_grid.specs.declared.grid.Colour.{Colour};
     ghost use Rattle.go_grid.specs.declared.grid.Colour.TheVariants.{Black, White};
     ghost use Rattle.std.specs.Bool.{OnTrue, OnFalse};
-    ghost use Rattle.go_grid.specs.Grid.{HasStone, IsEmpty, Lacks, stone};
+    ghost use Rattle.go_grid.specs.Board.{HasStone, IsEmpty, Lacks, stone};
     ghost use Rattle.go_grid.specs.Chain.{InChain, IsLiberty, HasLiberty, IsSettled, StoneAt, IsChoked, IsFirstChoked};
     ghost use Rattle.go_grid.specs.Marks.{Marks, Lists};
 

@@ -28,7 +28,7 @@ fn has(points: &Points, point: Option<Point>) -> bool
 }
 
 /// Whether some neighbour of the point is in the set.
-#[tactic(auto, using(crate::proofs::GridLemmas::area_most))]
+#[tactic(auto, using(crate::proofs::BoardLemmas::area_most))]
 pub fn touches(size: Size, points: &Points, point: Point) -> bool
     requires on_board { point < size.columns * size.rows }
     requires inside { IsWithin (size.columns * size.rows) points.now }
@@ -125,7 +125,7 @@ fn meet_around(within: &Points, work: &mut Work, near: Near)
 }
 
 /// Meets all points that walks over `within` join to `start`, each of them once.
-#[tactic(auto, using(crate::proofs::GridLemmas::area_most))]
+#[tactic(auto, using(crate::proofs::BoardLemmas::area_most))]
 pub(crate) fn spread(size: Size, within: &Points, work: &mut Work, start: Point)
     requires within { IsWithin (size.columns * size.rows) within.now }
     requires starts { IsMarked within.now start }

@@ -72,7 +72,7 @@ impl Point {
 }
 
 impl Colour {
-    ghost use Rattle.go_grid.specs.Grid.{other};
+    ghost use Rattle.go_grid.specs.Board.{other};
 
     /// The opponent's colour.
     pub fn other(self) -> Colour

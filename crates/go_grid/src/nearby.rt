@@ -1,7 +1,7 @@
 //! The neighbours of a point.
 
 ghost use Rattle.std.specs.Prelude.{◌≡◌, ◌+◌, ◌-◌, ◌*◌, ◌%◌, ◌<◌, ◌≤◌, ◌↔◌, All, IfSome};
-ghost use Rattle.go_grid.specs.Grid.{AreAround, AreNear};
+ghost use Rattle.go_grid.specs.Board.{AreAround, AreNear};
 ghost use Rattle.std.specs.Option.{SomeIff};
 
 use crate::grid::{Point, Size};

@@ -1,7 +1,7 @@
 //! Sets of points of a board.
 
 ghost use Rattle.std.specs.Prelude.{◌≡◌, ◌*◌, ◌<◌, length};
-ghost use Rattle.go_grid.specs.Grid.{cell_at};
+ghost use Rattle.go_grid.specs.Board.{cell_at};
 ghost use Rattle.go_grid.specs.Marks.{IsMarked, Touches, IsWithin, Marks};
 
 use crate::boards::Board;

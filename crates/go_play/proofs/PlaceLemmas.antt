@@ -7,7 +7,7 @@ use Rattle.go_grid.specs.declared.grid.Cell.{Cell}
 use Rattle.go_grid.specs.declared.grid.Cell.TheVariants as cell
 use Rattle.go_grid.specs.declared.grid.Colour.{Colour}
 use Rattle.go_grid.specs.declared.grid.Colour.TheVariants as colour
-use Rattle.go_grid.specs.Grid.{Grid, NextTo, AreAround, HasStone, IsEmpty, cell_at, stone, other}
+use Rattle.go_grid.specs.Board.{Board, NextTo, AreAround, HasStone, IsEmpty, cell_at, stone, other}
 use Rattle.go_grid.specs.Walk.{Joined}
 use Rattle.go_grid.specs.Marks.{IsMarked, Marks, Touches}
 use Rattle.go_grid.specs.Chain.{InChain, HasLiberty}
@@ -36,7 +36,7 @@ stone_or_not cell.White colour.Black = inr (λ e. cc)
 stone_or_not cell.White colour.White = inl refl
 
 -- a chain of the other colour is taken, or it isn't
-pub lost_chain : (b : Grid) (d : Colour) (s : ℕ) (theirs chain old new : List Bool)
+pub lost_chain : (b : Board) (d : Colour) (s : ℕ) (theirs chain old new : List Bool)
     → Marks theirs (HasStone b d) → IsMarked theirs s → ¬ HasLiberty b d s
     → Marks chain (Joined b.columns (IsMarked theirs) s) → Marks new (λ q. IsMarked old q ⊎ IsMarked chain q)
     → Marks new (λ q. IsMarked old q ⊎ IsLost b d s q)
@@ -54,7 +54,7 @@ lost_chain b d s theirs chain old new ist on choked isc both q = (
     all : Marks chain (InChain b d s)
     all = marks_joined b.columns s theirs chain (HasStone b d) ist isc
 
-pub none_lost : (b : Grid) (d : Colour) (s : ℕ) (old : List Bool) → (HasStone b d s → ¬ ¬ HasLiberty b d s)
+pub none_lost : (b : Board) (d : Colour) (s : ℕ) (old : List Bool) → (HasStone b d s → ¬ ¬ HasLiberty b d s)
     → Marks old (λ q. IsMarked old q ⊎ IsLost b d s q)
 none_lost b d s old not q = (
   λ m. inl m,
@@ -62,12 +62,12 @@ none_lost b d s old not q = (
 )
 
 -- what is lost next to the new stone is taken, and the other way round
-lost_taken : (b : Grid) (d : Colour) (p s q : ℕ) → NextTo b.columns p s → IsLost b d s q → IsTaken b p d q
+lost_taken : (b : Board) (d : Colour) (p s q : ℕ) → NextTo b.columns p s → IsLost b d s q → IsTaken b p d q
 lost_taken b d p s q next l =
     let back = joined_back b.columns (HasStone b d) s q l.2 in
     (joined_end b.columns (HasStone b d) s q l.2, (s, back, next_back b.columns p s next), λ h. l.1 (same_liberty b d s q l.2 h))
 
-taken_lost : (b : Grid) (d : Colour) (p q : ℕ) (t : IsTaken b p d q) → IsLost b d t.1.0 q
+taken_lost : (b : Board) (d : Colour) (p q : ℕ) (t : IsTaken b p d q) → IsLost b d t.1.0 q
 taken_lost b d p q t =
     let r = t.1.0 in (
       joined_end b.columns (HasStone b d) q r t.1.1,
@@ -76,10 +76,10 @@ taken_lost b d p q t =
     )
 
 -- what the chain of each point of a list adds
-abbrev pub Loses : Grid → Colour → List ℕ → ℕ → ℕ → Type 0
+abbrev pub Loses : Board → Colour → List ℕ → ℕ → ℕ → Type 0
 Loses b d points i = IsLost b d (get_or points i 0)
 
-pub taken_all : (b : Grid) (d : Colour) (area p n : ℕ) (points : List ℕ) (taken : List Bool) → Marks taken (Noted (Loses b d points) n)
+pub taken_all : (b : Board) (d : Colour) (area p n : ℕ) (points : List ℕ) (taken : List Bool) → Marks taken (Noted (Loses b d points) n)
     → n ≤ length points → length points ≤ n → length b.cells ≡ area → AreAround b.columns area p points → Marks taken (IsTaken b p d)
 taken_all b d area p n points taken is most all long around q = (
   λ m.
@@ -92,7 +92,7 @@ taken_all b d area p n points taken is most all long around q = (
 )
 
 -- the new stone's colour and the empty points on the board without the taken stones
-own_without : (b : Grid) (p : ℕ) (c : Colour) (h : Grid) → IsWithout b (IsTaken b p (other c)) h
+own_without : (b : Board) (p : ℕ) (c : Colour) (h : Board) → IsWithout b (IsTaken b p (other c)) h
     → (q : ℕ) → HasStone b c q ↔ HasStone h c q
 own_without b p c h w q = (
   λ s. (rw w.long s.0, w.kept q (λ t. not_other c (sym s.1 ∙ t.0.1)) ∙ s.1),
@@ -102,7 +102,7 @@ own_without b p c h w q = (
   ],
 )
 
-empty_without : (b : Grid) (p : ℕ) (c : Colour) (h : Grid) (taken : List Bool) → Marks taken (IsTaken b p (other c))
+empty_without : (b : Board) (p : ℕ) (c : Colour) (h : Board) (taken : List Bool) → Marks taken (IsTaken b p (other c))
     → IsWithout b (IsTaken b p (other c)) h → (q : ℕ) → (IsEmpty b q ⊎ IsMarked taken q) ↔ IsEmpty h q
 empty_without b p c h taken is w q = (
   λ s. elim s as (λ _. IsEmpty h q) [
@@ -115,7 +115,7 @@ empty_without b p c h taken is w q = (
   ],
 )
 
-pub stands_by : (b : Grid) (p : ℕ) (c : Colour) (h : Grid) (own empty taken free : List Bool) → Marks own (HasStone b c)
+pub stands_by : (b : Board) (p : ℕ) (c : Colour) (h : Board) (own empty taken free : List Bool) → Marks own (HasStone b c)
     → Marks empty (IsEmpty b) → Marks taken (IsTaken b p (other c)) → Marks free (λ q. IsMarked empty q ⊎ IsMarked taken q)
     → IsWithout b (IsTaken b p (other c)) h
     → ((q : ℕ) × Joined b.columns (IsMarked own) p q × Touches b.columns free q) ↔ HasLiberty h c p
@@ -135,6 +135,6 @@ stands_by b p c h own empty taken free iso ise ist isf w =
     )))
 
 -- a refusal leaves the board as it was
-pub refused : (g : Grid) (p : ℕ) (c : Colour) (e : PlaceError) → Judges g p c (Err e) → Answers g p c g (Err e)
+pub refused : (g : Board) (p : ℕ) (c : Colour) (e : PlaceError) → Judges g p c (Err e) → Answers g p c g (Err e)
 refused g p c Occupied j = (refl, j)
 refused g p c Suicide j = (refl, j.0, j.1)

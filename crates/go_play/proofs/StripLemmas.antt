@@ -8,7 +8,7 @@ use Rattle.go_grid.specs.declared.grid.Cell.{Cell}
 use Rattle.go_grid.specs.declared.grid.Cell.TheVariants as cell
 use Rattle.go_grid.specs.declared.grid.Colour.{Colour}
 use Rattle.go_grid.specs.declared.grid.Colour.TheVariants as colour
-use Rattle.go_grid.specs.Grid.{Grid, IsEmpty, cell_at, stone, other}
+use Rattle.go_grid.specs.Board.{Board, IsEmpty, cell_at, stone, other}
 use Rattle.go_grid.specs.Marks.{IsMarked, Marks}
 use Rattle.go_grid.proofs.PointsLemmas.{no_mark}
 use Rattle.go_play.specs.Place.{with_stone, IsTaken, IsWithout, is_stone, IsNumberTaken}
@@ -56,10 +56,10 @@ counted-strip (false ∷ ms) (x ∷ xs) all =
     omega (arith, rest, counted-cons is_stone x (strip ms xs), counted-cons (λ m. m) false ms, counted-cons is_stone x xs)
 
 -- the board without what is marked
-abbrev pub stripped : Grid → List Bool → Grid
+abbrev pub stripped : Board → List Bool → Board
 stripped b ms = record b { cells = strip ms b.cells }
 
-pub without_stripped : (b : Grid) (P : ℕ → Type 0) (ms : List Bool) → Marks ms P → IsWithout b P (stripped b ms)
+pub without_stripped : (b : Board) (P : ℕ → Type 0) (ms : List Bool) → Marks ms P → IsWithout b P (stripped b ms)
 without_stripped b P ms is = record {
   columns = refl;
   rows = refl;
@@ -71,7 +71,7 @@ without_stripped b P ms is = record {
 }
 
 -- there is only one such board
-only_stripped : (b : Grid) (P : ℕ → Type 0) (ms : List Bool) (h : Grid) → Marks ms P → IsWithout b P h → h.cells ≡ strip ms b.cells
+only_stripped : (b : Board) (P : ℕ → Type 0) (ms : List Bool) (h : Board) → Marks ms P → IsWithout b P h → h.cells ≡ strip ms b.cells
 only_stripped b P ms h is w =
     let s = without_stripped b P ms is in
     ext_get_or cell.Empty h.cells (strip ms b.cells) (w.long ∙ sym s.long) (λ q _.
@@ -84,7 +84,7 @@ stone_is : (c : Colour) → is_stone (stone c) ≡ true
 stone_is colour.Black = refl
 stone_is colour.White = refl
 
-pub number_taken : (g : Grid) (p : ℕ) (c : Colour) (h : Grid) (taken : List Bool) → IsEmpty g p
+pub number_taken : (g : Board) (p : ℕ) (c : Colour) (h : Board) (taken : List Bool) → IsEmpty g p
     → Marks taken (IsTaken (with_stone g p c) p (other c)) → IsWithout (with_stone g p c) (IsTaken (with_stone g p c) p (other c)) h
     → IsNumberTaken g h (count_by (λ m. m) taken)
 number_taken g p c h taken free is w =
@@ -98,7 +98,7 @@ number_taken g p c h taken free is w =
     rw same (omega (arith, all, more))
 
 -- the same points by another name
-pub without_marked : (b : Grid) (P : ℕ → Type 0) (ms : List Bool) (h : Grid) → Marks ms P → IsWithout b (IsMarked ms) h → IsWithout b P h
+pub without_marked : (b : Board) (P : ℕ → Type 0) (ms : List Bool) (h : Board) → Marks ms P → IsWithout b (IsMarked ms) h → IsWithout b P h
 without_marked b P ms h is w = record {
   columns = w.columns;
   rows = w.rows;

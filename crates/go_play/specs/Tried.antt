@@ -1,7 +1,7 @@
 -- A new stone on the board before any is taken off, and what is found out about it.
 use Rattle.std.specs.Prelude.{ℕ, List, Bool, Result, Ok, Err}
 use Rattle.go_grid.specs.declared.grid.Colour.{Colour}
-use Rattle.go_grid.specs.Grid.{Grid, HasStone, IsEmpty, other}
+use Rattle.go_grid.specs.Board.{Board, HasStone, IsEmpty, other}
 use Rattle.go_grid.specs.Chain.{InChain, HasLiberty}
 use Rattle.go_grid.specs.Marks.{Marks}
 use Rattle.go_play.specs.declared.placing.PlaceError.{PlaceError}
@@ -10,18 +10,18 @@ use Rattle.go_play.specs.declared.placing.Tried.{Tried}
 use Rattle.go_play.specs.Place.{with_stone, IsTaken, IsWithout, IsSuicide}
 
 -- the sets are the stones of each colour and the empty points of the board with the new stone
-pub record IsTried (g : Grid) (p : ℕ) (c : Colour) (t : Tried) : Type 0 where
+pub record IsTried (g : Board) (p : ℕ) (c : Colour) (t : Tried) : Type 0 where
   pub own : Marks t.own (HasStone (with_stone g p c) c)
   pub theirs : Marks t.theirs (HasStone (with_stone g p c) (other c))
   pub empty : Marks t.empty (IsEmpty (with_stone g p c))
 
 -- `q` is of the chain of `s`, a stone of the colour without a liberty
-abbrev pub IsLost : Grid → Colour → ℕ → ℕ → Type 0
+abbrev pub IsLost : Board → Colour → ℕ → ℕ → Type 0
 IsLost b d s q = HasStone b d s × ¬ HasLiberty b d s × InChain b d s q
 
 -- the stones taken, where the placing is legal
-abbrev pub Judges : Grid → ℕ → Colour → Result (List Bool) PlaceError → Type 0
+abbrev pub Judges : Board → ℕ → Colour → Result (List Bool) PlaceError → Type 0
 Judges g p c (Ok taken) = IsEmpty g p × Marks taken (IsTaken (with_stone g p c) p (other c))
-    × ((h : Grid) → IsWithout (with_stone g p c) (IsTaken (with_stone g p c) p (other c)) h → HasLiberty h c p)
+    × ((h : Board) → IsWithout (with_stone g p c) (IsTaken (with_stone g p c) p (other c)) h → HasLiberty h c p)
 Judges g p c (Err Occupied) = ¬ IsEmpty g p
 Judges g p c (Err Suicide) = IsEmpty g p × IsSuicide g p c

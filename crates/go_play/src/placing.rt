@@ -1,7 +1,7 @@
 //! Placing a stone, with what it takes off the board.
 
 ghost use Rattle.std.specs.Prelude.{◌≡◌, ℕ, ◌<◌, ◌↔◌, ◌⊎◌, true, length};
-ghost use Rattle.go_grid.specs.Grid.{Grid, IsEmpty, other, stone};
+ghost use Rattle.go_grid.specs.Board.{Board, IsEmpty, other, stone};
 ghost use Rattle.go_grid.specs.Marks.{IsMarked, Marks};
 ghost use Rattle.go_grid.specs.Chain.{HasLiberty};
 ghost use Rattle.go_play.specs.Place.{with_stone, IsTaken, IsWithout, Answers};
@@ -85,7 +85,7 @@ fn stands(board: &Board, point: Point, colour: Colour, tried: &Tried, taken: &Po
     requires empty { IsEmpty board.now point }
     requires tried { IsTried board.now point colour tried.now }
     requires taken { Marks taken.now (IsTaken (with_stone board.now point colour) point (other colour)) }
-    ensures { (h : Grid) → IsWithout (with_stone board.now point colour)
+    ensures { (h : Board) → IsWithout (with_stone board.now point colour)
         (IsTaken (with_stone board.now point colour) point (other colour)) h
         → (result ≡ true) ↔ HasLiberty h colour point }
 {
@@ -138,7 +138,7 @@ pub fn place(board: &mut Board, point: Point, colour: Colour) -> Result<u16, Pla
 /// What `place` would answer; the board stays as it is.
 pub fn allowed(board: &Board, point: Point, colour: Colour) -> Result<u16, PlaceError>
     requires { point < length board.now.cells }
-    ensures { (h : Grid) × Answers board.now point colour h result }
+    ensures { (h : Board) × Answers board.now point colour h result }
 {
     let taken = judge(board, point, colour)?;
     Ok(taken.len())

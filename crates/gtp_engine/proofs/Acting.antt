@@ -2,7 +2,7 @@
 use Rattle.std.proofs.Common.{◌≡◌, ℕ, List, [], ap, arith, inl, inr, refl, sym, ◌∙◌, subst, Option, Some, None, Err}
 use Rattle.std.specs.Prelude.{codes}
 use Rattle.std.proofs.lemmas.List.Elements.{Contains-get_or}
-use Rattle.go_grid.specs.Region.{Shape}
+use Rattle.go_grid.specs.Region.{Region}
 use Rattle.sgf_go.specs.declared.settings.Setup.{Setup}
 use Rattle.whole_rules.specs.declared.states.Move.{Move}
 use Rattle.whole_rules.specs.declared.states.MoveError.{MoveError}
@@ -34,17 +34,17 @@ module _ (wanted : Wanted) (s : State) (id reply : List ℕ) (found : Option Mov
   acted_refused m t e some applies said = (refused IllegalMove, subst (λ x. PlaysMove x s (refused IllegalMove) t) (sym some ∙ is) (inr (e, applies, refl)), said)
 
 -- a sound region has no fault
-sound_has_none : (limits : Limits) (r : Shape) (f : SolveError) → IsSound limits r → IsFaultOf limits r f → ⊥
+sound_has_none : (limits : Limits) (r : Region) (f : SolveError) → IsSound limits r → IsFaultOf limits r f → ⊥
 sound_has_none limits r (Points p n) s h = h
 sound_has_none limits r (Positions p) s h = s.positions h.1
 sound_has_none limits r (Cycle p names back) s h = s.no_cycle h.2.0 back h.2.1
 sound_has_none limits r (Form p) s h = s.forms h.3
 sound_has_none limits r (Memory e) s h = h
 
-first_unsound : (limits : Limits) (regions : List Shape) (f : SolveError) → IsFirstFault limits regions f → ¬ AreSound limits regions
+first_unsound : (limits : Limits) (regions : List Region) (f : SolveError) → IsFirstFault limits regions f → ¬ AreSound limits regions
 first_unsound limits regions f h sound = sound_has_none limits (region_at regions h.0) f (sound (region_at regions h.0) (Contains-get_or regions h.0 no_region h.1)) h.2
 
-large_unsound : (limits : Limits) (regions : List Shape) (p n : ℕ) → IsFirstLarge regions p n → ¬ AreSound limits regions
+large_unsound : (limits : Limits) (regions : List Region) (p n : ℕ) → IsFirstLarge regions p n → ¬ AreSound limits regions
 large_unsound limits regions p n h sound =
     let few = (sound (region_at regions h.0) (Contains-get_or regions h.0 no_region h.1)).points in
     omega (arith, few, h.3, h.4)

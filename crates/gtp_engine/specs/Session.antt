@@ -6,7 +6,7 @@ use Rattle.desk_io.specs.Lines.{IsLine}
 use Rattle.go_grid.specs.declared.grid.Cell.TheVariants as cell
 use Rattle.go_grid.specs.declared.grid.Colour.{Colour}
 use Rattle.go_grid.specs.declared.grid.Colour.TheVariants as colour
-use Rattle.go_grid.specs.Region.{Shape}
+use Rattle.go_grid.specs.Region.{Region}
 use Rattle.sgf_go.specs.declared.fault.FileFault.{FileFault}
 use Rattle.sgf_go.specs.declared.settings.Settings.{Settings}
 use Rattle.sgf_go.specs.declared.settings.Setup.{Setup}
@@ -114,7 +114,7 @@ turned setup c = record setup { side = c }
 
 -- the regions of play aren't all sound within the limits
 abbrev pub CannotOpen : Limits → Setup → Type 0
-CannotOpen limits setup = (regions : List Shape) × AreRegionsOfPlay setup.board regions × ¬ AreSound limits regions
+CannotOpen limits setup = (regions : List Region) × AreRegionsOfPlay setup.board regions × ¬ AreSound limits regions
 
 -- A turn of the colour in a running game, or in that which a fresh setup opens with the colour to move.
 abbrev pub TakesTurn : Limits → Colour → (State → Said → State → Type 0) → Table → Said → Table → Type 0

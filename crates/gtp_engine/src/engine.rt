@@ -2,7 +2,7 @@
 
 ghost use Rattle.std.specs.Prelude.{◌≡◌, ◌↔◌, ◌≤◌, ◌<◌, ◌+◌, List, ℕ, [], true, false, IfOk, OnErr};
 ghost use Rattle.endgame_solver.specs.Faults.{most_steps};
-ghost use Rattle.go_grid.specs.Region.{Shape};
+ghost use Rattle.go_grid.specs.Region.{Region};
 ghost use Rattle.region_cut.specs.Cut.{AreRegionsOfPlay};
 ghost use Rattle.gtp_engine.specs.Loading.{CanKeep};
 ghost use Rattle.sgf_go.specs.Komi.{IsInRange};
@@ -217,7 +217,7 @@ impl Engine {
         ensures taken { IfOk result
             (λ reply. IsTurnTaken colour action id.now self.old reply self.new) }
         ensures same { OnErr result (self.new ≡ self.old) }
-        ensures steps { (regions : List Shape) → AreRegionsOfPlay self.old.table.setup.board regions
+        ensures steps { (regions : List Region) → AreRegionsOfPlay self.old.table.setup.board regions
             → steps.new ≤ steps.old + most_steps self.old.limits regions }
     {
         let alloc = self.setup.board.allocator();
@@ -243,7 +243,7 @@ impl Engine {
         ensures taken { IfOk result
             (λ reply. IsTurnTaken colour action id.now self.old reply self.new) }
         ensures same { OnErr result (self.new ≡ self.old) }
-        ensures steps { (regions : List Shape) → AreRegionsOfPlay self.old.table.setup.board regions
+        ensures steps { (regions : List Region) → AreRegionsOfPlay self.old.table.setup.board regions
             → steps.new ≤ steps.old + most_steps self.old.limits regions }
     {
         if self.is_running() {
@@ -320,7 +320,7 @@ impl Engine {
         ensures same { OnErr result (self.new ≡ self.old) }
         ensures same_files { H.files shelf.new ≡ H.files shelf.old }
         ensures later { H.faults shelf.old ≤ H.faults shelf.new }
-        ensures steps { (regions : List Shape) → AreRegionsOfPlay self.old.table.setup.board regions
+        ensures steps { (regions : List Region) → AreRegionsOfPlay self.old.table.setup.board regions
             → steps.new ≤ steps.old + most_steps self.old.limits regions }
     {
         let alloc = self.setup.board.allocator();
@@ -361,7 +361,7 @@ impl Engine {
         ensures same { OnErr result (self.new ≡ self.old) }
         ensures same_files { H.files shelf.new ≡ H.files shelf.old }
         ensures later { H.faults shelf.old ≤ H.faults shelf.new }
-        ensures steps { (regions : List Shape) → AreRegionsOfPlay self.old.table.setup.board regions
+        ensures steps { (regions : List Region) → AreRegionsOfPlay self.old.table.setup.board regions
             → steps.new ≤ steps.old + most_steps self.old.limits regions }
     {
         let alloc = self.setup.board.allocator();
@@ -396,7 +396,7 @@ impl Engine {
         ensures same { OnErr result (self.new ≡ self.old) }
         ensures same_files { H.files shelf.new ≡ H.files shelf.old }
         ensures later_loads { H.faults shelf.old ≤ H.faults shelf.new }
-        ensures steps { (regions : List Shape) → AreRegionsOfPlay self.old.table.setup.board regions
+        ensures steps { (regions : List Region) → AreRegionsOfPlay self.old.table.setup.board regions
             → steps.new ≤ steps.old + most_steps self.old.limits regions }
     {
         let alloc = self.setup.board.allocator();

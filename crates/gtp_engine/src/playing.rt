@@ -3,7 +3,7 @@
 ghost use Rattle.std.specs.Prelude.{◌≡◌, ◌^◌, ◌<◌, ◌≤◌, ◌+◌, List, ℕ, IfOk, IfSome, IfNone, OnErr, MatchOption};
 ghost use Rattle.endgame_solver.specs.Solved.{Chooses, HasMove};
 ghost use Rattle.endgame_solver.specs.Faults.{most_steps};
-ghost use Rattle.go_grid.specs.Region.{Shape};
+ghost use Rattle.go_grid.specs.Region.{Region};
 ghost use Rattle.region_cut.specs.Cut.{AreRegionsOfPlay};
 ghost use Rattle.sgf_go.specs.Position.{IsFit};
 ghost use Rattle.gtp_engine.specs.Playing.{IsActed, IsFault, IsOpened};
@@ -48,7 +48,7 @@ pub(crate) fn open<L: Ledger>(
     requires fit { IsFit setup.now }
     requires positions { limits.now.positions ≤ 1000000 }
     ensures opened { IfOk result (IsOpened limits.now setup.now) }
-    ensures steps { (regions : List Shape) → AreRegionsOfPlay setup.now.board regions
+    ensures steps { (regions : List Region) → AreRegionsOfPlay setup.now.board regions
         → steps.new ≤ steps.old + most_steps limits.now regions }
 {
     match Solved::begin(alloc, setup, limits, steps) {

@@ -6,7 +6,7 @@ use Rattle.std.proofs.lemmas.Bool.{cases_eq, cases_lt}
 use Rattle.std.proofs.lemmas.List.{get_or_append_left, get_or_default, get_or_push}
 use Rattle.go_grid.specs.declared.grid.Cell.{Cell}
 use Rattle.go_grid.specs.declared.region.Touch.{Touch}
-use Rattle.go_grid.specs.Grid.{AreNear, IsThe}
+use Rattle.go_grid.specs.Board.{AreNear, IsThe}
 use Rattle.go_grid.specs.Region.{AreLinks, IsLink, IsRegion, nothing_near, touch_at}
 use Rattle.go_grid.specs.Walk.{Joined}
 use Rattle.go_grid.proofs.NearLemmas.{next_back, next_left, next_up}

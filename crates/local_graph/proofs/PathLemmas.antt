@@ -11,7 +11,7 @@ use Rattle.local_graph.specs.declared.search.Frame.{Frame}
 use Rattle.local_graph.specs.declared.search.Visit.{Visit}
 use Rattle.local_graph.specs.declared.search.Visit.TheVariants.{Placed}
 use Rattle.local_graph.specs.Built.{Follows, ComesBack, IsEdgeAt, IsRooted, move_of}
-use Rattle.local_graph.specs.Nodes.{edges_at, no_edge, edge_at}
+use Rattle.local_graph.specs.Graph.{edges_at, no_edge, edge_at}
 use Rattle.local_graph.specs.Searching.{visit_at, nodes_of, Trail, IsPath, Returns}
 
 push_some : (fs : List Frame) (f : Frame) → fs ++ f ∷ [] ≡ [] → ⊥

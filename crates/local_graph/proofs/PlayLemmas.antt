@@ -6,7 +6,7 @@ use Rattle.go_grid.specs.declared.grid.Cell.TheVariants as cell
 use Rattle.go_grid.specs.declared.grid.Colour.{Colour}
 use Rattle.go_grid.specs.declared.region.Touch.{Touch}
 use Rattle.local_play.specs.LocalPlay.{held_at, IsLocalMove, IsRemoved, with_stone}
-use Rattle.go_grid.specs.Grid.{other}
+use Rattle.go_grid.specs.Board.{other}
 use Rattle.local_graph.specs.declared.cycle.CycleMove.{CycleMove}
 use Rattle.local_graph.specs.LocalGraph.{Plays}
 

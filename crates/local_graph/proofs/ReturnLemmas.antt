@@ -7,7 +7,7 @@ use Rattle.std.proofs.lemmas.List.Quantifiers.{all_pairs_push}
 use Rattle.local_graph.specs.declared.graph.Edge.{Edge}
 use Rattle.local_graph.specs.declared.search.Frame.{Frame}
 use Rattle.local_graph.specs.Built.{IsRooted}
-use Rattle.local_graph.specs.Nodes.{edges_at, edge_at}
+use Rattle.local_graph.specs.Graph.{edges_at, edge_at}
 use Rattle.local_graph.specs.Searching.{nodes_of, Trail}
 use Rattle.local_graph.proofs.PathLemmas.{trail_push, next_inside}
 

@@ -15,7 +15,7 @@ use Rattle.local_graph.specs.declared.search.Visit.{Visit}
 use Rattle.local_graph.specs.declared.search.Visit.TheVariants.{New, OnPath, Placed}
 use Rattle.local_graph.specs.LocalGraph.{IsOrder}
 use Rattle.local_graph.specs.Built.{IsRooted, Follows}
-use Rattle.local_graph.specs.Nodes.{edges_at, no_edge, edge_at}
+use Rattle.local_graph.specs.Graph.{edges_at, no_edge, edge_at}
 use Rattle.local_graph.specs.Searching.{visit_at, nodes_of, Trail, IsPath, Searching, Returns, is_new, work_left}
 use Rattle.local_graph.proofs.PathLemmas.{last_frame, path_end, path_trail, trail_push}
 

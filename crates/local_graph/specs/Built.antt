@@ -1,16 +1,16 @@
 -- What building a graph gives, and when it is refused.
 use Rattle.std.specs.Prelude.{◌≡◌, ◌≢◌, ℕ, ◌<◌, ◌≤◌, List, [], ◌∷◌, length, take, drop, map, slice_index_or, Contains, Result, Ok, Err}
-use Rattle.go_grid.specs.Region.{Shape}
+use Rattle.go_grid.specs.Region.{Region}
 use Rattle.local_graph.specs.declared.building.GraphError.{GraphError}
 use Rattle.local_graph.specs.declared.building.GraphError.TheVariants.{Points, Positions, Cycle, Memory}
 use Rattle.local_graph.specs.declared.cycle.CycleMove.{CycleMove}
 use Rattle.local_graph.specs.declared.graph.Edge.{Edge}
-use Rattle.local_graph.specs.Nodes.{Nodes}
+use Rattle.local_graph.specs.Graph.{Graph}
 use Rattle.local_graph.specs.LocalGraph.{IsGraph, IsOrder, IsCycle, AreDifferent, MoreThan}
 use Rattle.local_graph.specs.FiniteLocalPlay.{HasNoCycle}
 
 -- The graph, or why there is none: more than 32 points, else more positions than the limit, else a cycle.
-abbrev pub Built : Shape → ℕ → Result Nodes GraphError → Type 0
+abbrev pub Built : Region → ℕ → Result Graph GraphError → Type 0
 Built r limit (Ok g) = (length r.points ≤ 32) × ¬ MoreThan r.touch r.cells limit × HasNoCycle r.touch r.cells
     × IsGraph r.touch r.cells g.positions g.edges × IsOrder g.edges g.order
 Built r limit (Err (Points n)) = (32 < length r.points) × (n ≡ length r.points)

@@ -3,7 +3,7 @@ use Rattle.std.specs.Prelude.{◌≡◌, ◌<◌, ◌≤◌, List, length}
 use Rattle.std.specs.List.{All}
 use Rattle.local_graph.specs.declared.components.Components.{Components}
 use Rattle.local_graph.specs.declared.graph.Edge.{Edge}
-use Rattle.local_graph.specs.Nodes.{edges_at}
+use Rattle.local_graph.specs.Graph.{edges_at}
 
 -- all that it names are nodes, and each list by node has a place for each of them
 pub record IsUnderWay (edges : List (List Edge)) (c : Components) : Type 0 where

@@ -1,6 +1,6 @@
 pub mod LocalGraph
 pub mod FiniteLocalPlay
-pub mod Nodes
+pub mod Graph
 pub mod Found
 pub mod Built
 pub mod SearchedFor

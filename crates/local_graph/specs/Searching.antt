@@ -7,7 +7,7 @@ use Rattle.local_graph.specs.declared.search.Visit.{Visit}
 use Rattle.local_graph.specs.declared.search.Visit.TheVariants.{New, OnPath, Placed}
 use Rattle.local_graph.specs.declared.search.Progress.{Progress}
 use Rattle.local_graph.specs.declared.search.Progress.TheVariants.{Forward, Back, Done}
-use Rattle.local_graph.specs.Nodes.{edges_at, edge_at}
+use Rattle.local_graph.specs.Graph.{edges_at, edge_at}
 
 -- what is known of a node, where past the last nothing is
 abbrev pub visit_at : List Visit → ℕ → Visit

@@ -2,7 +2,7 @@
 
 ghost use Rattle.std.specs.Prelude.{◌≡◌, ◌<◌, ◌≤◌, length, IfOk, OnOk};
 ghost use Rattle.local_graph.specs.Built.{IsRooted};
-ghost use Rattle.local_graph.specs.Nodes.{edges_at};
+ghost use Rattle.local_graph.specs.Graph.{edges_at};
 ghost use Rattle.local_graph.specs.Components.{IsUnderWay};
 
 use crate::edge_lists::EdgeLists;

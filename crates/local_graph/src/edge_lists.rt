@@ -1,7 +1,7 @@
 //! Lists of edges, one behind another in one vector.
 
 ghost use Rattle.std.specs.Prelude.{◌≡◌, ◌<◌, [], ◌∷◌, ◌++◌, length, OnOk, OnErr};
-ghost use Rattle.local_graph.specs.Nodes.{edges_at, edge_at};
+ghost use Rattle.local_graph.specs.Graph.{edges_at, edge_at};
 
 use crate::graph::Edge;
 use std::alloc::{AllocError, Global};
@@ -24,7 +24,7 @@ pub struct EdgeLists {
 impl Model for EdgeLists {
     ghost use Rattle.std.specs.Prelude.{List, length};
     ghost use Rattle.local_graph.specs.declared.graph.Edge.{Edge};
-    ghost use Rattle.local_graph.specs.Nodes.{lists_of, AreWithin};
+    ghost use Rattle.local_graph.specs.Graph.{lists_of, AreWithin};
 
     ghost Value = { List (List Edge) };
 

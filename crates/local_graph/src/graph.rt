@@ -26,9 +26,9 @@ pub struct Graph {
 
 impl Model for Graph {
     ghost use Rattle.std.specs.Prelude.{◌≡◌, length};
-    ghost use Rattle.local_graph.specs.Nodes.{Nodes};
+    ghost use Rattle.local_graph.specs.Graph.{Graph};
 
-    ghost Value = { Nodes };
+    ghost Value = { Graph };
 
     ghost view = { λ g. record { positions = g.positions.items; edges = g.edges; order = g.order.items } };
 
@@ -36,7 +36,7 @@ impl Model for Graph {
 }
 
 impl Graph {
-    ghost use Rattle.local_graph.specs.Nodes.{Nodes};
+    ghost use Rattle.local_graph.specs.Graph.{Graph};
 
     /// A graph of positions, their edges and an order of them.
     pub(crate) fn new(positions: Vec<u64>, edges: EdgeLists, order: Vec<usize>) -> Graph

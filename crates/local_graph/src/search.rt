@@ -4,7 +4,7 @@ ghost use Rattle.std.specs.Prelude.{◌≡◌, ◌^◌, ◌<◌, [], ◌∷◌, 
 ghost use Rattle.local_graph.specs.Built.{IsRooted, move_of};
 ghost use Rattle.local_graph.specs.SearchedFor.{IsSearched};
 ghost use Rattle.local_graph.specs.Searching.{Searching, Returns, Stepped, Trail, EndsIn, work_left, nodes_of};
-ghost use Rattle.local_graph.specs.Nodes.{edges_at, edge_at};
+ghost use Rattle.local_graph.specs.Graph.{edges_at, edge_at};
 ghost use Rattle.local_graph.specs.declared.search.Visit.TheVariants.{OnPath, Placed};
 
 use crate::cycle::{CycleList, CycleMove};

@@ -7,7 +7,7 @@ use Rattle.go_grid.specs.declared.grid.Cell.TheVariants as cell
 use Rattle.go_grid.specs.declared.grid.Colour.{Colour}
 use Rattle.go_grid.specs.declared.grid.Colour.TheVariants as colour
 use Rattle.go_grid.specs.declared.region.Touch.{Touch}
-use Rattle.go_grid.specs.Grid.{stone, other}
+use Rattle.go_grid.specs.Board.{stone, other}
 use Rattle.local_play.specs.LocalPlay.{held_at, Holds, IsLinked, IsBeside, InLocalChain, IsFree, IsRemoved, IsLocalMove, with_stone, is_stone}
 use Rattle.local_play.specs.Links.{LinksWithin}
 use Rattle.local_play.specs.Lasting.{IsLiberty, Lasts, Takes, Stands}

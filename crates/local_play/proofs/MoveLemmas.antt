@@ -5,7 +5,7 @@ use Rattle.std.proofs.lemmas.List.Sums.{sum_by-set}
 use Rattle.go_grid.specs.declared.grid.Cell.{Cell}
 use Rattle.go_grid.specs.declared.grid.Cell.TheVariants as cell
 use Rattle.go_grid.specs.declared.region.Touch.{Touch}
-use Rattle.go_grid.specs.Grid.{stone, other}
+use Rattle.go_grid.specs.Board.{stone, other}
 use Rattle.local_play.specs.LocalPlay.{held_at, Holds, IsLinked, IsRemoved, IsLocalMove, with_stone, is_stone}
 use Rattle.local_play.specs.Packed.{pack, cleared}
 use Rattle.local_play.specs.Moves.{IsMoveFrom}

@@ -10,7 +10,7 @@ use Rattle.go_grid.specs.declared.grid.Cell.{Cell}
 use Rattle.go_grid.specs.declared.grid.Cell.TheVariants as cell
 use Rattle.go_grid.specs.declared.grid.Colour.{Colour}
 use Rattle.go_grid.specs.declared.grid.Colour.TheVariants as colour
-use Rattle.go_grid.specs.Grid.{stone}
+use Rattle.go_grid.specs.Board.{stone}
 use Rattle.local_play.specs.LocalPlay.{held_at, Holds, with_stone}
 use Rattle.local_play.specs.Packed.{code, pack, cleared}
 use Rattle.local_play.specs.declared.places.Places.{Places}

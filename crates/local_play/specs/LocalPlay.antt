@@ -8,7 +8,7 @@ use Rattle.go_grid.specs.declared.grid.Cell.TheVariants as cell
 use Rattle.go_grid.specs.declared.grid.Colour.{Colour}
 use Rattle.go_grid.specs.declared.grid.Colour.TheVariants as colour
 use Rattle.go_grid.specs.declared.region.Touch.{Touch}
-use Rattle.go_grid.specs.Grid.{stone, other}
+use Rattle.go_grid.specs.Board.{stone, other}
 use Rattle.go_grid.specs.Region.{touch_at}
 use Rattle.go_grid.specs.Path.{Leads}
 

@@ -4,7 +4,7 @@ ghost use Rattle.std.specs.Prelude.{◌≡◌, ℕ, ◌<◌, ◌⊎◌, ◌↔�
 ghost use Rattle.go_grid.specs.declared.grid.Cell.{Cell};
 ghost use Rattle.go_grid.specs.declared.region.Touch.{Touch};
 ghost use Rattle.go_grid.specs.declared.grid.Colour.TheVariants.{Black};
-ghost use Rattle.go_grid.specs.Grid.{other};
+ghost use Rattle.go_grid.specs.Board.{other};
 ghost use Rattle.local_play.specs.Packed.{pack};
 ghost use Rattle.local_play.specs.Places.{Has};
 ghost use Rattle.local_play.specs.Links.{IsTable};

@@ -8,16 +8,16 @@ use Rattle.go_grid.specs.declared.grid.Cell.{Cell}
 use Rattle.go_grid.specs.declared.grid.Cell.TheVariants as cell
 use Rattle.go_grid.specs.declared.grid.Colour.{Colour}
 use Rattle.go_grid.specs.declared.grid.Colour.TheVariants.{Black, White}
-use Rattle.go_grid.specs.Grid.{stone}
+use Rattle.go_grid.specs.Board.{stone}
 use Rattle.go_grid.specs.Path.{Path}
-use Rattle.go_grid.specs.Region.{Shape}
+use Rattle.go_grid.specs.Region.{Region}
 use Rattle.local_play.specs.declared.local_move.LocalMove.{LocalMove}
 use Rattle.local_play.specs.LocalPlay.{held_at, Holds, is_stone, IsLocalMove, IsNumberTaken}
 use Rattle.local_play.specs.Packed.{pack}
 use Rattle.local_graph.specs.declared.cycle.CycleMove.{CycleMove}
 use Rattle.local_graph.specs.declared.graph.Edge.{Edge}
 use Rattle.local_graph.specs.LocalGraph.{HasMoves}
-use Rattle.local_graph.specs.Nodes.{Nodes, edges_at}
+use Rattle.local_graph.specs.Graph.{Graph, edges_at}
 use Rattle.local_graph.proofs.EdgeListLemmas.{node_inside}
 use Rattle.local_graph.proofs.PlayLemmas.{plays_more, plays_long, one_after}
 use Rattle.local_value.specs.Values.{IsGraphOf, IsPlaceOf}
@@ -56,7 +56,7 @@ path_start : (Next : ℕ → ℕ → Type 0) (In : ℕ → Type 0) (p q : ℕ) (
 path_start Next In p q [] w = w.0
 path_start Next In p q (s ∷ rest) w = w.0
 
-module _ (r : Shape) (g : Nodes) (of : IsGraphOf r g) where
+module _ (r : Region) (g : Graph) (of : IsGraphOf r g) where
   moves_of : (i : ℕ) (cells : List Cell) → IsPlaceOf r g i cells → HasMoves r.touch cells g.positions (edges_at g.edges i)
   moves_of i cells h = of.graph.moves i cells h.inside h.reachable h.packed
 

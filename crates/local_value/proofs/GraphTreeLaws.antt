@@ -2,9 +2,9 @@
 use Rattle.std.proofs.Common.{ℕ, zero, suc, ◌≡◌, ◌^◌, ◌≤◌, refl, sym, ap, ◌∙◌, subst, arith, List, [], ◌∷◌, length, Contains}
 use Rattle.go_grid.specs.declared.grid.Cell.{Cell}
 use Rattle.go_grid.specs.declared.grid.Colour.{Colour}
-use Rattle.go_grid.specs.Region.{Shape}
+use Rattle.go_grid.specs.Region.{Region}
 use Rattle.local_play.specs.LocalPlay.{IsLocalMove, IsNumberTaken}
-use Rattle.local_graph.specs.Nodes.{Nodes, edges_at}
+use Rattle.local_graph.specs.Graph.{Graph, edges_at}
 use Rattle.local_graph.proofs.PlayLemmas.{plays_long}
 use Rattle.game_store.specs.Tree.{Tree, Has}
 use Rattle.game_store.specs.Order.{◌≡ᵍ◌}
@@ -23,7 +23,7 @@ use Rattle.local_value.proofs.PositionLaws.{short-ends}
 use Rattle.local_value.proofs.ShortLaws.{short_plays}
 use Rattle.local_value.proofs.StepLaws.{steps-out, steps-in}
 
-module _ (P : Type 0) (to : ℕ → P) (moves : Colour → P → List (Step P)) (r : Shape) (g : Nodes) (of : IsGraphOf r g)
+module _ (P : Type 0) (to : ℕ → P) (moves : Colour → P → List (Step P)) (r : Region) (g : Graph) (of : IsGraphOf r g)
     (are : (c : Colour) (i : ℕ) → moves c (to i) ≡ steps_of P to c (edges_at g.edges i)) where
   -- a step of a place is a local move of its position
   pub record IsStepFrom (cells : List Cell) (c : Colour) (x : Step P) : Type 0 where

@@ -9,7 +9,7 @@ use Rattle.go_grid.specs.declared.grid.Cell.TheVariants as cell
 use Rattle.go_grid.specs.declared.grid.Colour.{Colour}
 use Rattle.go_grid.specs.declared.grid.Colour.TheVariants.{Black, White}
 use Rattle.go_grid.specs.declared.region.Touch.{Touch}
-use Rattle.go_grid.specs.Grid.{other, stone}
+use Rattle.go_grid.specs.Board.{other, stone}
 use Rattle.go_grid.specs.Region.{touch_at}
 use Rattle.go_grid.proofs.PathLemmas.{leads_end}
 use Rattle.local_play.specs.LocalPlay.{held_at, is_beside, is_stone, with_stone, Holds, InLocalChain, IsBeside, IsFree, IsLinked, IsLocalMove, IsNumberTaken, IsOpen, IsRemoved}

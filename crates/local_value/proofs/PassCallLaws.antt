@@ -1,9 +1,9 @@
 -- A step of the pass, with the lists as the program lends them.
 use Rattle.std.proofs.Common.{ℕ, ◌+◌, ◌-◌, ◌*◌, ◌^◌, ◌≡◌, ◌<◌, ◌≤◌, sym, ap, ◌∙◌, subst, arith, List, length, get_or, set, Contains}
 use Rattle.std.proofs.Math.Nat.{mul-le-mul_right}
-use Rattle.go_grid.specs.Region.{Shape}
+use Rattle.go_grid.specs.Region.{Region}
 use Rattle.local_graph.specs.declared.graph.Edge.{Edge}
-use Rattle.local_graph.specs.Nodes.{Nodes, edges_at}
+use Rattle.local_graph.specs.Graph.{Graph, edges_at}
 use Rattle.game_store.specs.Tree.{Tree}
 use Rattle.game_store.specs.Meaning.{tree_at, Extends}
 use Rattle.game_store.specs.Parts.{HasMoreParts}
@@ -15,7 +15,7 @@ use Rattle.local_value.specs.Valuing.{IsNoted, AreWithinAfter, HasEdges}
 use Rattle.local_value.proofs.PassLaws.{place, IsPass, order_short, edges_noted, edges_within, pass-step}
 use Rattle.local_value.proofs.PassEndLaws.{pass-refused}
 
-module _ (r : Shape) (g : Nodes) (of : IsGraphOf r g) (limit : ℕ) (Ts : List Tree) (ids : List ℕ) (k : ℕ) (pass : IsPass r g limit Ts ids k)
+module _ (r : Region) (g : Graph) (of : IsGraphOf r g) (limit : ℕ) (Ts : List Tree) (ids : List ℕ) (k : ℕ) (pass : IsPass r g limit Ts ids k)
     (order : List ℕ) (es : List Edge) (vs : List ℕ) (o : order ≡ g.order) (s : es ≡ edges_at g.edges (get_or order k 0)) (v : vs ≡ ids) (lt : k < length order) where
   among : k < length g.order
   among = subst (λ z. k < length z) o lt
@@ -49,5 +49,5 @@ module _ (r : Shape) (g : Nodes) (of : IsGraphOf r g) (limit : ℕ) (Ts : List T
   call-refused e cause = pass-refused r g of limit Ts ids k e pass among
       (subst (λ z. (G : Tree) → HasEdges Ts ids z G → IsCause G limit e) same (subst (λ (z : List ℕ). (G : Tree) → HasEdges Ts z es G → IsCause G limit e) v cause))
 
-pub call-done : (g : Nodes) (k : ℕ) (order : List ℕ) → order ≡ g.order → length order ≤ k → length g.order ≤ k
+pub call-done : (g : Graph) (k : ℕ) (order : List ℕ) → order ≡ g.order → length order ≤ k → length g.order ≤ k
 call-done g k order o le = subst (λ z. length z ≤ k) o le

@@ -3,8 +3,8 @@ use Rattle.std.proofs.Common.{ℕ, suc, ◌*◌, ◌^◌, ◌≡◌, ◌<◌, �
 use Rattle.std.proofs.Math.Nat.{mul-le-mul_right}
 use Rattle.std.proofs.lemmas.List.{get_or_default}
 use Rattle.go_grid.specs.declared.grid.Cell.{Cell}
-use Rattle.go_grid.specs.Region.{Shape}
-use Rattle.local_graph.specs.Nodes.{Nodes, edges_at}
+use Rattle.go_grid.specs.Region.{Region}
+use Rattle.local_graph.specs.Graph.{Graph, edges_at}
 use Rattle.local_graph.proofs.PlayLemmas.{plays_long}
 use Rattle.game_store.specs.Tree.{Tree}
 use Rattle.game_store.specs.Order.{◌≤ᵍ◌}
@@ -26,7 +26,7 @@ use Rattle.local_value.proofs.GraphTreeLaws.{place_tree}
 use Rattle.local_value.proofs.OptionsLaws.{number-as}
 use Rattle.local_value.proofs.PassLaws.{edge_steps, graph_tree, place, IsValued, IsPass, place_inside, order_short, has_edges}
 
-module _ (r : Shape) (g : Nodes) (of : IsGraphOf r g) (limit : ℕ) where
+module _ (r : Region) (g : Graph) (of : IsGraphOf r g) (limit : ℕ) where
   deep : (i : ℕ) (cells : List Cell) → IsPlaceOf r g i cells → 3 ^ length r.cells ≤ 3 ^ length cells
   deep i cells has =
       let long : length r.cells ≡ length cells = sym (plays_long r.touch r.cells cells has.reachable.0 has.reachable.1) in

@@ -6,9 +6,9 @@ use Rattle.std.proofs.lemmas.Bool.{cases_lt}
 use Rattle.std.proofs.lemmas.Int.{ints}
 use Rattle.std.proofs.lemmas.List.{get_or-set_same, get_or-set_other, length-set}
 use Rattle.go_grid.specs.declared.grid.Colour.{Colour}
-use Rattle.go_grid.specs.Region.{Shape}
+use Rattle.go_grid.specs.Region.{Region}
 use Rattle.local_graph.specs.declared.graph.Edge.{Edge}
-use Rattle.local_graph.specs.Nodes.{Nodes, edges_at}
+use Rattle.local_graph.specs.Graph.{Graph, edges_at}
 use Rattle.game_store.specs.Tree.{Tree, node, none, Has}
 use Rattle.game_store.specs.Order.{◌≡ᵍ◌}
 use Rattle.game_store.specs.Sum.{◌+ᵍ◌}
@@ -35,39 +35,39 @@ use Rattle.local_value.proofs.OptionsLaws.{no-edges}
 use Rattle.local_value.proofs.StepLaws.{steps-in, steps-out}
 
 -- the edges of a place as steps, and the tree of the place, cut off after n moves
-abbrev pub edge_steps : Nodes → Colour → ℕ → List (Step ℕ)
+abbrev pub edge_steps : Graph → Colour → ℕ → List (Step ℕ)
 edge_steps g c i = steps_of ℕ (λ j. j) c (edges_at g.edges i)
 
-abbrev pub graph_tree : Nodes → ℕ → ℕ → Tree
+abbrev pub graph_tree : Graph → ℕ → ℕ → Tree
 graph_tree g n i = tree_within ℕ (edge_steps g) n i
 
-abbrev pub place : Nodes → ℕ → ℕ
+abbrev pub place : Graph → ℕ → ℕ
 place g k = get_or g.order k 0
 
 -- so large are the numbers of the value of the k-th place at most
-abbrev pub most : Shape → ℕ → ℕ
+abbrev pub most : Region → ℕ → ℕ
 most r k = (suc k * length r.cells) * 2 ^ 60
 
 -- the id that is noted for the k-th place is that of its value
-pub record IsValued (r : Shape) (g : Nodes) (limit : ℕ) (Ts : List Tree) (ids : List ℕ) (k : ℕ) : Type 0 where
+pub record IsValued (r : Region) (g : Graph) (limit : ℕ) (Ts : List Tree) (ids : List ℕ) (k : ℕ) : Type 0 where
   pub known : get_or ids (place g k) 0 < length Ts
   pub canonical : (n : ℕ) → 3 ^ length r.cells ≤ n → IsCanonicalFor (graph_tree g n (place g k)) (noted Ts ids (place g k))
   pub sizes : AreWithin (most r k) (noted Ts ids (place g k))
   pub parts : HasMoreParts (noted Ts ids (place g k)) limit → ⊥
 
 -- the pass over the first k places
-pub record IsPass (r : Shape) (g : Nodes) (limit : ℕ) (Ts : List Tree) (ids : List ℕ) (k : ℕ) : Type 0 where
+pub record IsPass (r : Region) (g : Graph) (limit : ℕ) (Ts : List Tree) (ids : List ℕ) (k : ℕ) : Type 0 where
   pub long : length ids ≡ length g.positions
   pub each : (j : ℕ) → j < k → IsValued r g limit Ts ids j
 
-pub pass-start : (r : Shape) (g : Nodes) (limit : ℕ) (Ts : List Tree) (ids : List ℕ) → length ids ≡ length g.positions → IsPass r g limit Ts ids 0
+pub pass-start : (r : Region) (g : Graph) (limit : ℕ) (Ts : List Tree) (ids : List ℕ) → length ids ≡ length g.positions → IsPass r g limit Ts ids 0
 pass-start r g limit Ts ids e = record { long = e; each = λ j lt. absurd (omega (arith, lt)) }
 
 -- sums of sizes
 room : (j k c t x : ℕ) → j < k → t < c → x ≤ (suc j * c) * 2 ^ 60 → x + t * 2 ^ 60 ≤ (k * c + (c - 1)) * 2 ^ 60
 room j k c t x lt less le = let m : suc j * c ≤ k * c = mul-le-mul_right c (omega (arith, lt)) in omega (arith, m, le, less)
 
-module _ (r : Shape) (g : Nodes) (of : IsGraphOf r g) (limit : ℕ) where
+module _ (r : Region) (g : Graph) (of : IsGraphOf r g) (limit : ℕ) where
   pub place_inside : (k : ℕ) → k < length g.order → place g k < length g.positions
   place_inside k lt = omega (arith, of.order.inside k lt, of.graph.beside)
 

@@ -1,8 +1,8 @@
 -- Why a graph has no values.
 use Rattle.std.specs.Prelude.{ℕ, List}
 use Rattle.go_grid.specs.declared.grid.Cell.{Cell}
-use Rattle.go_grid.specs.Region.{Shape}
-use Rattle.local_graph.specs.Nodes.{Nodes}
+use Rattle.go_grid.specs.Region.{Region}
+use Rattle.local_graph.specs.Graph.{Graph}
 use Rattle.game_store.specs.Tree.{Tree}
 use Rattle.game_store.specs.Number.{IsNumberTree}
 use Rattle.game_store.specs.Parts.{HasMoreParts}
@@ -13,13 +13,13 @@ use Rattle.local_value.specs.PositionTree.{IsValueOf}
 use Rattle.local_value.specs.Values.{IsPlaceOf}
 
 -- V is the value of the position at the place
-pub record IsValueAt (r : Shape) (g : Nodes) (i : ℕ) (V : Tree) : Type 0 where
+pub record IsValueAt (r : Region) (g : Graph) (i : ℕ) (V : Tree) : Type 0 where
   pub cells : List Cell
   pub place : IsPlaceOf r g i cells
   pub value : IsValueOf r.touch cells V
 
 -- the value of some position is no number and has more parts than the limit, or has a number past the bounds
-abbrev pub IsValueRefusal : Shape → Nodes → ℕ → FormError → Type 0
+abbrev pub IsValueRefusal : Region → Graph → ℕ → FormError → Type 0
 IsValueRefusal r g limit Parts = (i : ℕ) × (V : Tree) × IsValueAt r g i V × (IsNumberTree V → ⊥) × HasMoreParts V limit
 IsValueRefusal r g limit Bounds = (i : ℕ) × (V : Tree) × IsValueAt r g i V × HasNumberPastBounds V
 IsValueRefusal r g limit (Memory cause) = Unit {0}

@@ -1,30 +1,30 @@
 -- The values of the positions of a graph, as ids of a store.
 use Rattle.std.specs.Prelude.{ℕ, ◌≡◌, ◌<◌, ◌≤◌, List, length, slice_index}
 use Rattle.go_grid.specs.declared.grid.Cell.{Cell}
-use Rattle.go_grid.specs.Region.{Shape}
+use Rattle.go_grid.specs.Region.{Region}
 use Rattle.local_play.specs.Packed.{pack}
 use Rattle.local_graph.specs.LocalGraph.{IsGraph, IsOrder, IsReachable}
 use Rattle.local_graph.specs.FiniteLocalPlay.{HasNoCycle}
-use Rattle.local_graph.specs.Nodes.{Nodes}
+use Rattle.local_graph.specs.Graph.{Graph}
 use Rattle.game_store.specs.Tree.{Tree}
 use Rattle.game_store.specs.Meaning.{tree_at}
 use Rattle.local_value.specs.PositionTree.{IsValueOf}
 
 -- the graph has exactly the reachable positions of the region and their moves, and no cycle
-pub record IsGraphOf (r : Shape) (g : Nodes) : Type 0 where
+pub record IsGraphOf (r : Region) (g : Graph) : Type 0 where
   pub few : length r.cells ≤ 32
   pub graph : IsGraph r.touch r.cells g.positions g.edges
   pub order : IsOrder g.edges g.order
   pub no_cycle : HasNoCycle r.touch r.cells
 
 -- the place is that of these cells
-pub record IsPlaceOf (r : Shape) (g : Nodes) (i : ℕ) (cells : List Cell) : Type 0 where
+pub record IsPlaceOf (r : Region) (g : Graph) (i : ℕ) (cells : List Cell) : Type 0 where
   pub inside : i < length g.positions
   pub reachable : IsReachable r.touch r.cells cells
   pub packed : slice_index g.positions i ≡ pack cells
 
 -- an id for each place, that of the value of its position
-pub record AreValues (r : Shape) (g : Nodes) (Ts : List Tree) (ids : List ℕ) : Type 0 where
+pub record AreValues (r : Region) (g : Graph) (Ts : List Tree) (ids : List ℕ) : Type 0 where
   pub long : length ids ≡ length g.positions
   pub known : (i : ℕ) → i < length ids → slice_index ids i < length Ts
   pub each : (i : ℕ) (cells : List Cell) → IsPlaceOf r g i cells → IsValueOf r.touch cells (tree_at Ts (slice_index ids i))

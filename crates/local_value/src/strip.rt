@@ -1,7 +1,7 @@
 //! Regions for tests: a row of empty points.
 
 ghost use Rattle.std.specs.Prelude.{◌≡◌, ℕ, ◌*◌, ◌<◌, ◌≤◌, IfOk, length, slice_index};
-ghost use Rattle.go_grid.specs.Grid.{AreNear};
+ghost use Rattle.go_grid.specs.Board.{AreNear};
 ghost use Rattle.go_grid.specs.Region.{touch_at};
 
 use go_grid::{Cell, Point, Region, Size, Touch, neighbours};

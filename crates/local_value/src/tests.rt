@@ -1,7 +1,7 @@
 //! Values of worked regions.
 
 ghost use Rattle.std.specs.Prelude.{◌≡◌, ◌<◌, ◌≤◌, IfSome, length};
-ghost use Rattle.go_grid.specs.Region.{Shape};
+ghost use Rattle.go_grid.specs.Region.{Region};
 ghost use Rattle.local_value.specs.Values.{IsGraphOf};
 
 use crate::strip::{Strip, region};
@@ -35,7 +35,7 @@ fn graph_of<L: Ledger>(alloc: Global, blank: Blank, region: &Region) -> Option<G
     requires name { blank.name ≡ L.name }
     requires parts { blank.parts ≡ L.parts }
     requires some { 0 < blank.parts }
-    ensures graph { IfSome result (λ g. (r : Shape) × IsGraphOf r g) }
+    ensures graph { IfSome result (λ g. (r : Region) × IsGraphOf r g) }
     ensures few { IfSome result (λ g. length g.positions ≤ 1000000) }
 {
     let _size = region.size;

@@ -1,7 +1,7 @@
 //! The values of all positions of a graph.
 
 ghost use Rattle.std.specs.Prelude.{ℕ, ◌≡◌, ◌↔◌, ◌<◌, ◌≤◌, ◌+◌, ◌-◌, ◌*◌, ◌^◌, unsigned_abs, List, length, slice_index, IfOk, IfErr, OnOk, Contains, true};
-ghost use Rattle.go_grid.specs.Region.{Shape};
+ghost use Rattle.go_grid.specs.Region.{Region};
 ghost use Rattle.game_store.specs.Tree.{Tree};
 ghost use Rattle.game_store.specs.Meaning.{tree_at, Extends};
 ghost use Rattle.game_store.specs.Parts.{HasMoreParts};
@@ -175,13 +175,13 @@ pub fn value_all(
     store: &mut Store,
     parts_limit: u32,
 ) -> Result<Values, FormError>
-    requires graph { (r : Shape) × IsGraphOf r graph.now }
+    requires graph { (r : Region) × IsGraphOf r graph.now }
     requires few { length graph.now.positions ≤ 1000000 }
-    ensures values { IfOk result (λ values. (r : Shape) → IsGraphOf r graph.now → AreValues r graph.now store.new values) }
-    ensures sizes { IfOk result (λ values. (r : Shape) → IsGraphOf r graph.now → (i : ℕ) → i < length values → AreWithin ((length graph.now.positions * length r.cells) * 2 ^ 60) (tree_at store.new (slice_index values i))) }
+    ensures values { IfOk result (λ values. (r : Region) → IsGraphOf r graph.now → AreValues r graph.now store.new values) }
+    ensures sizes { IfOk result (λ values. (r : Region) → IsGraphOf r graph.now → (i : ℕ) → i < length values → AreWithin ((length graph.now.positions * length r.cells) * 2 ^ 60) (tree_at store.new (slice_index values i))) }
     ensures parts { IfOk result (λ values. (i : ℕ) → i < length values → HasMoreParts (tree_at store.new (slice_index values i)) parts_limit → ⊥) }
     ensures bounds { IfOk result (λ values. (i : ℕ) → i < length values → HasNumberPastBounds (tree_at store.new (slice_index values i)) → ⊥) }
-    ensures refusal { IfErr result (λ error. (r : Shape) → IsGraphOf r graph.now → IsValueRefusal r graph.now parts_limit error) }
+    ensures refusal { IfErr result (λ error. (r : Region) → IsGraphOf r graph.now → IsValueRefusal r graph.now parts_limit error) }
     ensures kept { Extends store.old store.new }
 {
     let mut ids = vec![in alloc; 0; graph.len()]?;

@@ -4,7 +4,7 @@ use Rattle.std.specs.Prelude.{codes, Option, ◌==◌, if◌then◌else◌}
 use Rattle.std.proofs.lemmas.Bool.{ne_eqb}
 use Rattle.go_grid.specs.declared.grid.Colour.{Colour}
 use Rattle.go_grid.specs.declared.grid.Colour.TheVariants as colour
-use Rattle.go_grid.specs.Grid.{Grid, other}
+use Rattle.go_grid.specs.Board.{Board, other}
 use Rattle.report.specs.Lines.{word_line}
 use Rattle.report.specs.Solution.{move_word, winner_line}
 use Rattle.whole_rules.specs.WholeGame.{State}
@@ -91,11 +91,11 @@ move_calm columns (Stone p) = named (p % columns) (p / columns)
 move_calm columns Spend = (refl, refl)
 move_calm columns Half = (refl, refl)
 
-engine_calm : (g : Grid) (m : Move) → IsCalm true (engine_line g m)
+engine_calm : (g : Board) (m : Move) → IsCalm true (engine_line g m)
 unfolding word_line
 engine_calm g m = move_calm g.columns m
 
-played_calm : (g : Grid) (m : Move) → IsCalm true (played_line g m)
+played_calm : (g : Board) (m : Move) → IsCalm true (played_line g m)
 unfolding word_line
 played_calm g m = move_calm g.columns m
 

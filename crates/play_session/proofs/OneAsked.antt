@@ -1,7 +1,7 @@
 -- A line names one move.
 use Rattle.std.proofs.Common.{◌≡◌, ℕ, ◌+◌, ◌*◌, ◌/◌, ◌%◌, List, length, get_or, refl, sym, ap, ◌∙◌, arith, Option, Some, None}
 use Rattle.std.proofs.lemmas.Nat.{div-add-mod'}
-use Rattle.go_grid.specs.Grid.{Grid}
+use Rattle.go_grid.specs.Board.{Board}
 use Rattle.report.specs.Solution.{move_word}
 use Rattle.whole_rules.specs.declared.states.Move.{Move}
 use Rattle.whole_rules.specs.declared.states.Move.TheVariants.{Stone, Spend, Half}
@@ -30,7 +30,7 @@ move_of c Half (Stone q) e = absurd (omega (arith, ap length e))
 move_of c Half Spend e = absurd (omega (arith, ap length e))
 move_of c Half Half e = refl
 
-pub one_asked : (g : Grid) (line : List ℕ) (a b : Option Move) → Asks g line a → Asks g line b → a ≡ b
+pub one_asked : (g : Board) (line : List ℕ) (a b : Option Move) → Asks g line a → Asks g line b → a ≡ b
 one_asked g line None None a b = refl
 one_asked g line None (Some k) a b = absurd (a k b)
 one_asked g line (Some m) None a b = absurd (b m a)

@@ -1,7 +1,7 @@
 -- A line has one word without white space at its ends.
 use Rattle.std.proofs.Common.{◌≡◌, ℕ, zero, suc, List, [], ◌∷◌, ◌++◌, refl, sym, ap, ◌∙◌, subst, arith, Option, Some, None}
 use Rattle.std.specs.List.{All}
-use Rattle.go_grid.specs.Grid.{Grid}
+use Rattle.go_grid.specs.Board.{Board}
 use Rattle.report.specs.Solution.{move_word}
 use Rattle.whole_rules.specs.declared.states.Move.{Move}
 use Rattle.play_session.specs.Words.{Asks, IsNamed, IsSpace, IsTrimmed}
@@ -62,6 +62,6 @@ word_same (x ∷ f) [] w (y ∷ v) a b sf sg wb vb we ve sa sb e = let heads : x
 pub one_word : (line w v : List ℕ) → IsTrimmed line w → IsTrimmed line v → w ≡ v
 one_word line w v a b = word_same a.front b.front w v a.back b.back a.front_space b.front_space a.first b.first a.last b.last a.back_space b.back_space (sym a.whole ∙ b.whole)
 
-pub asks_named : (g : Grid) (line word : List ℕ) (asked : Option Move) → IsTrimmed line word → IsNamed g.columns g.rows word asked → Asks g line asked
+pub asks_named : (g : Board) (line word : List ℕ) (asked : Option Move) → IsTrimmed line word → IsNamed g.columns g.rows word asked → Asks g line asked
 asks_named g line word (Some m) trimmed named = (named.0, subst (IsTrimmed line) named.1 trimmed)
 asks_named g line word None trimmed none = λ m names. none m names.0 (one_word line word (move_word g.columns (Some m)) trimmed names.1)

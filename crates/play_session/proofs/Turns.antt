@@ -4,7 +4,7 @@ use Rattle.std.specs.Prelude.{IsErrOf}
 use Rattle.std.specs.Io.KnownBytes.{append_known}
 use Rattle.desk_io.specs.Outside.{Appends}
 use Rattle.go_grid.specs.declared.grid.Colour.{Colour}
-use Rattle.go_grid.specs.Grid.{other}
+use Rattle.go_grid.specs.Board.{other}
 use Rattle.report.specs.Solution.{winner_line}
 use Rattle.whole_rules.specs.WholeGame.{State}
 use Rattle.whole_rules.specs.declared.states.Move.{Move}

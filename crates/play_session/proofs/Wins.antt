@@ -2,7 +2,7 @@
 use Rattle.std.proofs.Common.{◌≡◌, ◌≢◌, ◌⊎◌, ℕ, zero, suc, List, [], inl, inr, sym, ap, ◌∙◌, subst, arith, Option, Some, None, Ok, Err, Result, IfOk, get_or}
 use Rattle.go_grid.specs.declared.grid.Colour.{Colour}
 use Rattle.go_grid.specs.declared.grid.Colour.TheVariants as colour
-use Rattle.go_grid.specs.Grid.{other}
+use Rattle.go_grid.specs.Board.{other}
 use Rattle.report.specs.Lines.{word_line}
 use Rattle.report.specs.Solution.{winner_line}
 use Rattle.whole_rules.specs.FirstWinningMove.{IsWinner}

@@ -1,7 +1,7 @@
 -- A session has one text, and an engine that has won keeps its win.
 use Rattle.std.specs.Prelude.{◌≡◌, ◌≢◌, ◌⊎◌, ℕ, ◌≤◌, List, [], ◌++◌, codes, length}
 use Rattle.go_grid.specs.declared.grid.Colour.{Colour}
-use Rattle.go_grid.specs.Grid.{other}
+use Rattle.go_grid.specs.Board.{other}
 use Rattle.report.specs.Solution.{winner_line}
 use Rattle.whole_rules.specs.FirstWinningMove.{IsWinner}
 use Rattle.whole_rules.specs.PlainRecursion.{MoverLoses}

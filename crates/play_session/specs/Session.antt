@@ -1,7 +1,7 @@
 -- The session of a game: what each turn writes, and where the session stands after it.
 use Rattle.std.specs.Prelude.{◌≡◌, ◌≢◌, ◌⊎◌, ℕ, zero, suc, ◌+◌, ◌<◌, List, [], ◌++◌, codes, Result, Ok, Err, Option, Some, None}
 use Rattle.go_grid.specs.declared.grid.Colour.{Colour}
-use Rattle.go_grid.specs.Grid.{Grid, other}
+use Rattle.go_grid.specs.Board.{Board, other}
 use Rattle.report.specs.Lines.{word_line}
 use Rattle.report.specs.Solution.{move_word, winner_line}
 use Rattle.endgame_solver.specs.Solved.{HasMove, Chooses}
@@ -21,11 +21,11 @@ pub record Standing : Type 0 where
   pub left : List ℕ
 
 -- the line of the engine's move
-abbrev pub engine_line : Grid → Move → List ℕ
+abbrev pub engine_line : Board → Move → List ℕ
 engine_line g m = word_line (codes "engine") (move_word g.columns (Some m))
 
 -- the lines that answer the opponent
-abbrev pub played_line : Grid → Move → List ℕ
+abbrev pub played_line : Board → Move → List ℕ
 played_line g m = word_line (codes "played") (move_word g.columns (Some m))
 
 abbrev pub refused_line : List ℕ → List ℕ
@@ -42,7 +42,7 @@ abbrev pub input_line : List ℕ
 input_line = word_line (codes "input") (codes "ended")
 
 -- the line that answers a move
-abbrev pub answer_line : Grid → Move → Result Unit MoveError → List ℕ
+abbrev pub answer_line : Board → Move → Result Unit MoveError → List ℕ
 answer_line g m (Ok _) = played_line g m
 answer_line g m (Err e) = refused_line (refusal_word e)
 

@@ -1,6 +1,6 @@
 -- What a line asks for.
 use Rattle.std.specs.Prelude.{◌≡◌, ◌≤◌, ◌⊎◌, ℕ, List, [], ◌∷◌, ◌++◌, All, Option, Some, None}
-use Rattle.go_grid.specs.Grid.{Grid}
+use Rattle.go_grid.specs.Board.{Board}
 use Rattle.whole_rules.specs.declared.states.Move.{Move}
 use Rattle.report.specs.Solution.{IsMoveOnBoard, move_word}
 
@@ -19,7 +19,7 @@ pub record IsTrimmed (line word : List ℕ) : Type 0 where
   pub last : (b : ℕ) (more : List ℕ) → word ≡ more ++ b ∷ [] → ¬ IsSpace b
 
 -- a stone's point is on the board
-abbrev pub IsOnBoard : Grid → Move → Type 0
+abbrev pub IsOnBoard : Board → Move → Type 0
 IsOnBoard g m = IsMoveOnBoard g.columns g.rows m
 
 -- the word is that of the move, whose point is on the board
@@ -28,10 +28,10 @@ IsNamed columns rows word (Some m) = IsMoveOnBoard columns rows m × (word ≡ m
 IsNamed columns rows word None = (m : Move) → IsMoveOnBoard columns rows m → ¬ (word ≡ move_word columns (Some m))
 
 -- the line has the word of the move, whose point is on the board
-abbrev pub Names : Grid → List ℕ → Move → Type 0
+abbrev pub Names : Board → List ℕ → Move → Type 0
 Names g line m = IsOnBoard g m × IsTrimmed line (move_word g.columns (Some m))
 
 -- the move that the line asks for, if it names one
-abbrev pub Asks : Grid → List ℕ → Option Move → Type 0
+abbrev pub Asks : Board → List ℕ → Option Move → Type 0
 Asks g line (Some m) = Names g line m
 Asks g line None = (m : Move) → ¬ Names g line m

@@ -2,7 +2,7 @@
 use Rattle.std.specs.Prelude.{◌≡◌, ◌≢◌, ◌⊎◌, ℕ, ◌+◌, ◌*◌, ◌-◌, ◌≤◌, ◌<◌, List, [], ◌++◌, Result, Ok, Err, Option, Some, None, IsErrOf, IfSome}
 use Rattle.std.specs.Io.KnownBytes.{append_known}
 use Rattle.desk_io.specs.Outside.{Rose}
-use Rattle.go_grid.specs.Grid.{Grid}
+use Rattle.go_grid.specs.Board.{Board}
 use Rattle.go_grid.specs.declared.grid.Colour.{Colour}
 use Rattle.go_grid.specs.declared.grid.Colour.TheVariants.{Black, White}
 use Rattle.whole_rules.specs.WholeGame.{State, Leads}
@@ -98,12 +98,12 @@ abbrev pub turns_left : SessionState → ℕ → ℕ
 turns_left session read = 2 * (10000 - read) + engine_turn session.engine session.state.side
 
 -- the line that these bytes begin with was taken, or there is none
-abbrev pub IsRequested : Grid → List ℕ → Request → List ℕ → Option (List ℕ) → Type 0
+abbrev pub IsRequested : Board → List ℕ → Request → List ℕ → Option (List ℕ) → Type 0
 IsRequested g bytes Ended held left = (bytes ≡ []) × (held ≡ []) × (left ≡ Some [])
 IsRequested g bytes (Line asked) held left = (rest line : List ℕ) × (left ≡ Some rest) × (bytes ≢ []) × IsLine bytes line (held ++ rest) × Asks g line asked
 
 -- a move that is asked for is on the board
-abbrev pub IsPossible : Grid → Request → Type 0
+abbrev pub IsPossible : Board → Request → Type 0
 IsPossible g Ended = Unit {0}
 IsPossible g (Line asked) = IfSome asked (IsOnBoard g)
 

@@ -2,7 +2,7 @@
 
 ghost use Rattle.std.specs.Prelude.{◌≡◌, ◌≢◌, ◌↔◌, ◌⊎◌, ◌+◌, ◌≤◌, ◌<◌, ◌++◌, List, ℕ, [], true, codes, length, IfOk, OnErr, IfSome, IsErrOf, Ok, Some, None};
 ghost use Rattle.desk_io.specs.Outside.{Appends, HasCause, Rose};
-ghost use Rattle.go_grid.specs.Grid.{other};
+ghost use Rattle.go_grid.specs.Board.{other};
 ghost use Rattle.report.specs.Solution.{winner_line};
 ghost use Rattle.whole_rules.specs.FirstWinningMove.{IsWinner};
 ghost use Rattle.whole_rules.specs.WholeGame.{IsFirstMove};

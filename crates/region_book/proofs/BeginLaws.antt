@@ -1,16 +1,16 @@
 -- Where a region begins, as far as its places were looked at.
 use Rattle.std.proofs.Common.{◌≡◌, ℕ, ◌+◌, ◌<◌, ◌≤◌, ◌⊎◌, inl, inr, sym, ◌∙◌, arith, length, below_more}
-use Rattle.go_grid.specs.Region.{Shape}
+use Rattle.go_grid.specs.Region.{Region}
 use Rattle.region_book.specs.Image.{BeginsAt, column_of, row_of}
 use Rattle.region_book.specs.declared.symmetry.Symmetry.{Symmetry}
 
-pub record Beginning (r : Shape) (s : Symmetry) (n west north : ℕ) : Type 0 where
+pub record Beginning (r : Region) (s : Symmetry) (n west north : ℕ) : Type 0 where
   pub columns : (i : ℕ) → i < n → west ≤ column_of r s i
   pub some_column : (i : ℕ) × (i < n) × (column_of r s i ≡ west)
   pub rows : (i : ℕ) → i < n → north ≤ row_of r s i
   pub some_row : (i : ℕ) × (i < n) × (row_of r s i ≡ north)
 
-pub beginning_more : (r : Shape) (s : Symmetry) (n west north column row west' north' : ℕ) → Beginning r s n west north
+pub beginning_more : (r : Region) (s : Symmetry) (n west north column row west' north' : ℕ) → Beginning r s n west north
     → column ≡ column_of r s n → row ≡ row_of r s n → (west' ≡ west) ⊎ (west' ≡ column) → west' ≤ west → west' ≤ column
     → (north' ≡ north) ⊎ (north' ≡ row) → north' ≤ north → north' ≤ row → Beginning r s (n + 1) west' north'
 beginning_more r s n west north column row west' north' b c e one first second one' first' second' = record {
@@ -26,7 +26,7 @@ beginning_more r s n west north column row west' north' b c e one first second o
   ];
 }
 
-pub beginning_first : (r : Shape) (s : Symmetry) (column row : ℕ) → column ≡ column_of r s 0 → row ≡ row_of r s 0
+pub beginning_first : (r : Region) (s : Symmetry) (column row : ℕ) → column ≡ column_of r s 0 → row ≡ row_of r s 0
     → Beginning r s 1 column row
 beginning_first r s column row c e = record {
   columns = below_more (λ i. column ≤ column_of r s i) 0 (λ i lt. absurd (omega (arith, lt))) (omega (arith, c));
@@ -35,7 +35,7 @@ beginning_first r s column row c e = record {
   some_row = (0, omega arith, sym e);
 }
 
-pub beginning_end : (r : Shape) (s : Symmetry) (n west north : ℕ) → Beginning r s n west north → n ≡ length r.points → BeginsAt r s west north
+pub beginning_end : (r : Region) (s : Symmetry) (n west north : ℕ) → Beginning r s n west north → n ≡ length r.points → BeginsAt r s west north
 beginning_end r s n west north b e = record {
   columns = λ i lt. b.columns i (omega (arith, lt, e));
   some_column = let (i, lt, is) = b.some_column in (i, omega (arith, lt, e), is);

@@ -4,7 +4,7 @@ use Rattle.go_grid.specs.declared.grid.Cell.{Cell}
 use Rattle.go_grid.specs.declared.grid.Colour.{Colour}
 use Rattle.go_grid.specs.declared.grid.Colour.TheVariants.{Black, White}
 use Rattle.go_grid.specs.declared.region.Touch.{Touch}
-use Rattle.go_grid.specs.Region.{Shape, touch_at}
+use Rattle.go_grid.specs.Region.{Region, touch_at}
 use Rattle.local_play.specs.LocalPlay.{held_at, is_beside}
 use Rattle.region_book.specs.Shape.{Direction, up, left, right, down, turned, link, Carries, cell_after, colour_after}
 use Rattle.region_book.specs.Image.{IsOnBoard, column_of, row_of, BeginsAt, IsImage, is_stone, spot_of}
@@ -56,7 +56,7 @@ step_apart left a r b q a' r' b' q' a0 r0 b0 q0 h k e = (omega (arith, h.1, k.1,
 step_apart right a r b q a' r' b' q' a0 r0 b0 q0 h k e = (omega (arith, h.1, k.1, e.0), omega (arith, h.0, k.0, e.1))
 step_apart down a r b q a' r' b' q' a0 r0 b0 q0 h k e = (omega (arith, h.1, k.1, e.0), omega (arith, h.0, k.0, e.1))
 
-module _ (r : Shape) (cells : List Cell) (q : Shape) (cells' : List Cell) (at : IsOnBoard r) (at' : IsOnBoard q)
+module _ (r : Region) (cells : List Cell) (q : Region) (cells' : List Cell) (at : IsOnBoard r) (at' : IsOnBoard q)
     (Paired : ℕ → ℕ → Type 0) (s : Symmetry) (e : Bool) (h : Carries r.touch cells q.touch cells' Paired s e) where
   here : (i j : ℕ) → Paired i j → i < length r.points
   here i j p = let w = h.inside i j p in omega (arith, w.0, at.region.beside)

@@ -6,7 +6,7 @@ use Rattle.std.specs.List.{Contains}
 use Rattle.std.specs.Prelude.{IfNone, IfSome}
 use Rattle.go_grid.specs.declared.grid.Cell.{Cell}
 use Rattle.go_grid.specs.declared.region.Touch.{Touch}
-use Rattle.go_grid.specs.Grid.{AreNear, IsAbove, IsLeftOf, IsThe, NextTo}
+use Rattle.go_grid.specs.Board.{AreNear, IsAbove, IsLeftOf, IsThe, NextTo}
 use Rattle.go_grid.specs.Marks.{IsMarked, IsWithin, Lists}
 use Rattle.go_grid.specs.Region.{AreLinks, IsLink, IsRegion, nothing_near, touch_at}
 use Rattle.go_grid.specs.Walk.{Joined}

@@ -12,7 +12,7 @@ use Rattle.std.proofs.lemmas.List.Sorted.{Contains-permutation, IsPermutation-sy
 use Rattle.std.proofs.lemmas.Map.Keys.{IsDistinct-from_apart, IsDistinct-IsPermutation}
 use Rattle.go_grid.specs.declared.grid.Cell.{Cell}
 use Rattle.go_grid.specs.declared.grid.Colour.TheVariants.{Black, White}
-use Rattle.go_grid.specs.Region.{Shape, touch_at}
+use Rattle.go_grid.specs.Region.{Region, touch_at}
 use Rattle.local_play.specs.LocalPlay.{held_at, is_beside}
 use Rattle.region_book.specs.Shape.{cell_after, colour_after}
 use Rattle.region_book.specs.Image.{IsOnBoard, AtMost, BeginsAt, IsImage, IsShape, Places, column_of, row_of, is_stone, spot_cmp, spot_of}
@@ -32,7 +32,7 @@ at_most_else x y Equal e f = absurd (true≢false f)
 at_most_else x y Greater e f = ap is_gt (spots_total.antisymm y x ∙ ap ordering_reverse (sym e))
 
 -- a symmetry makes one image
-one_beginning : (r : Shape) (s : Symmetry) (w n w' n' : ℕ) → BeginsAt r s w n → BeginsAt r s w' n' → (w ≡ w') × (n ≡ n')
+one_beginning : (r : Region) (s : Symmetry) (w n w' n' : ℕ) → BeginsAt r s w n → BeginsAt r s w' n' → (w ≡ w') × (n ≡ n')
 one_beginning r s w n w' n' b b' =
     let (i, lt, e) = b.some_column in
     let (i', lt', e') = b'.some_column in
@@ -42,7 +42,7 @@ one_beginning r s w n w' n' b b' =
       omega (arith, b.rows k' less', b'.rows k less, f, f'),
     )
 
-pub one_image : (r : Shape) (cells : List Cell) (s : Symmetry) (c : Bool) (w n w' n' : ℕ) (x y : List Spot) → IsImage r cells s c w n x
+pub one_image : (r : Region) (cells : List Cell) (s : Symmetry) (c : Bool) (w n w' n' : ℕ) (x y : List Spot) → IsImage r cells s c w n x
     → IsImage r cells s c w' n' y → x ≡ y
 one_image r cells s c w n w' n' x y a b' =
     let same = one_beginning r s w n w' n' a.begins b'.begins in
@@ -50,7 +50,7 @@ one_image r cells s c w n w' n' x y a b' =
     one_list x y a.ascending b.ascending (λ p h. (b.exact p).1 ((a.exact p).0 h)) (λ p h. (a.exact p).1 ((b.exact p).0 h))
 
 -- one more place
-pub spots_push : (r : Shape) (cells : List Cell) (s : Symmetry) (c : Bool) (w n k : ℕ) (xs : List Spot) (x : Spot) → length xs ≡ k
+pub spots_push : (r : Region) (cells : List Cell) (s : Symmetry) (c : Bool) (w n k : ℕ) (xs : List Spot) (x : Spot) → length xs ≡ k
     → ((i : ℕ) (d : Spot) → i < k → get_or xs i d ≡ spot_of r cells s c w n i) → x ≡ spot_of r cells s c w n k
     → (i : ℕ) (d : Spot) → i < k + 1 → get_or (xs ++ x ∷ []) i d ≡ spot_of r cells s c w n i
 spots_push r cells s c w n k xs x long old new i d lt =
@@ -59,7 +59,7 @@ spots_push r cells s c w n k xs x long old new i d lt =
     (get_or_push xs x d k long ∙ new) i lt
 
 -- the places in order are the image
-pub sorted_image : (r : Shape) (cells : List Cell) (s : Symmetry) (c : Bool) (w n : ℕ) (xs ys : List Spot) → IsOnBoard r → BeginsAt r s w n
+pub sorted_image : (r : Region) (cells : List Cell) (s : Symmetry) (c : Bool) (w n : ℕ) (xs ys : List Spot) → IsOnBoard r → BeginsAt r s w n
     → Spots r cells s c w n xs → IsPermutation xs ys → IsSorted spot_cmp ys → IsImage r cells s c w n ys
 sorted_image r cells s c w n xs ys at begins spots moved sorted = record {
   begins = begins;
@@ -88,7 +88,7 @@ sorted_image r cells s c w n xs ys at begins spots moved sorted = record {
     ]
 
 -- the lesser of two images is the least among all that the two are least among
-pub least_of_two : (r : Shape) (cells : List Cell) (P Q R : Symmetry → Bool → Type 0) (a b m : Image) → IsLeastAmong r cells P a
+pub least_of_two : (r : Region) (cells : List Cell) (P Q R : Symmetry → Bool → Type 0) (a b m : Image) → IsLeastAmong r cells P a
     → IsLeastAmong r cells Q b → ((s : Symmetry) (c : Bool) → R s c → P s c ⊎ Q s c) → (m ≡ a) ⊎ (m ≡ b)
     → AtMost m.spots.items a.spots.items → AtMost m.spots.items b.spots.items → IsLeastAmong r cells R m
 least_of_two r cells P Q R a b m p q either one first second = record {
@@ -108,7 +108,7 @@ least_of_two r cells P Q R a b m p q either one first second = record {
 }
 
 -- the one image that a symmetry makes
-pub least_of_one : (r : Shape) (cells : List Cell) (m : Image) → IsImage r cells m.symmetry m.colours m.begin.column m.begin.row m.spots.items
+pub least_of_one : (r : Region) (cells : List Cell) (m : Image) → IsImage r cells m.symmetry m.colours m.begin.column m.begin.row m.spots.items
     → length m.spots.items ≡ length r.points → IsOnBoard r → IsLeastAmong r cells (λ s c. (s ≡ m.symmetry) × (c ≡ m.colours)) m
 least_of_one r cells m is long board = record {
   board = board;
@@ -121,7 +121,7 @@ least_of_one r cells m is long board = record {
 }
 
 -- what the places hold decides the images
-held_spot : (r : Shape) (a b : List Cell) (s : Symmetry) (c : Bool) (w n i : ℕ) → ((i : ℕ) → held_at a i ≡ held_at b i)
+held_spot : (r : Region) (a b : List Cell) (s : Symmetry) (c : Bool) (w n i : ℕ) → ((i : ℕ) → held_at a i ≡ held_at b i)
     → spot_of r a s c w n i ≡ spot_of r b s c w n i
 held_spot r a b s c w n i same =
     λ j. record {
@@ -133,7 +133,7 @@ held_spot r a b s c w n i same =
       beside_white = is_beside (touch_at r.touch i) (colour_after c White);
     }
 
-held_image : (r : Shape) (a b : List Cell) (s : Symmetry) (c : Bool) (w n : ℕ) (x : List Spot) → ((i : ℕ) → held_at a i ≡ held_at b i)
+held_image : (r : Region) (a b : List Cell) (s : Symmetry) (c : Bool) (w n : ℕ) (x : List Spot) → ((i : ℕ) → held_at a i ≡ held_at b i)
     → IsImage r a s c w n x → IsImage r b s c w n x
 held_image r a b s c w n x same is = record {
   begins = is.begins;
@@ -144,7 +144,7 @@ held_image r a b s c w n x same is = record {
   );
 }
 
-pub shape_end : (r : Shape) (a b : List Cell) (m : Image) (places : List ℕ) → ((i : ℕ) → held_at a i ≡ held_at b i)
+pub shape_end : (r : Region) (a b : List Cell) (m : Image) (places : List ℕ) → ((i : ℕ) → held_at a i ≡ held_at b i)
     → IsLeastAmong r a (λ s c. Unit {0}) m
     → Places r a m.symmetry m.colours m.begin.column m.begin.row m.spots.items places
     → ((i : ℕ) → length r.points ≤ i → i < 32 → get_or places i 0 ≡ 0)

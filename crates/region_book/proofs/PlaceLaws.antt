@@ -7,8 +7,8 @@ use Rattle.std.proofs.lemmas.List.Elements.{Contains-get_or}
 use Rattle.std.proofs.lemmas.List.{get_or_default}
 use Rattle.std.proofs.lemmas.Map.Keys.{sorted_from_strictly_increasing, below_from_sorted}
 use Rattle.std.proofs.lemmas.Nat.{div-add-mod', mod_below, div_below}
-use Rattle.go_grid.specs.Grid.{NextTo}
-use Rattle.go_grid.specs.Region.{Shape, IsLink, touch_at}
+use Rattle.go_grid.specs.Board.{NextTo}
+use Rattle.go_grid.specs.Region.{Region, IsLink, touch_at}
 use Rattle.go_grid.proofs.WalkLemmas.{carried}
 use Rattle.region_book.specs.Shape.{Direction, up, left, right, down, exchanged, columns_over, rows_over, turned, link}
 use Rattle.region_book.specs.Image.{IsOnBoard, side, one_of, column_of, row_of}
@@ -106,7 +106,7 @@ one_step c left p q s a b = same_point c q s (a.0 ∙ sym b.0) (omega (arith, a.
 one_step c right p q s a b = same_point c q s (sym a.0 ∙ b.0) (sym a.1 ∙ b.1)
 one_step c down p q s a b = same_point c q s (sym a.0 ∙ b.0) (sym a.1 ∙ b.1)
 
-module _ (r : Shape) (at : IsOnBoard r) where
+module _ (r : Region) (at : IsOnBoard r) where
   pub on_board : (i : ℕ) → i < length r.points → (get_or r.points i 0 % r.columns ≤ 24) × (get_or r.points i 0 / r.columns ≤ 24)
   on_board i lt =
       let p = get_or r.points i 0 in

@@ -9,7 +9,7 @@ use Rattle.std.proofs.lemmas.List.Elements.{Contains-get_or}
 use Rattle.go_grid.specs.declared.grid.Cell.{Cell}
 use Rattle.go_grid.specs.declared.grid.Colour.{Colour}
 use Rattle.go_grid.specs.declared.grid.Colour.TheVariants.{Black, White}
-use Rattle.go_grid.specs.Region.{Shape, touch_at}
+use Rattle.go_grid.specs.Region.{Region, touch_at}
 use Rattle.local_play.specs.LocalPlay.{held_at, is_beside}
 use Rattle.region_book.specs.Shape.{Direction, up, left, right, down, turned, link, Carries, HaveOneShape, IsPartner, cell_after, colour_after}
 use Rattle.region_book.specs.Image.{IsOnBoard, AtMost, Makes, column_of, row_of, spot_cmp, spot_of}
@@ -65,7 +65,7 @@ steps_same down a r a' r' b q b' q' w w' n n' e f = (
 )
 
 -- the place that is turned to a place of the image
-reached : (r : Shape) (cells : List Cell) (x : List Spot) (t : Turn) → (m : Makes r cells t x) → (k : ℕ) → k < length x
+reached : (r : Region) (cells : List Cell) (x : List Spot) (t : Turn) → (m : Makes r cells t x) → (k : ℕ) → k < length x
     → (i : ℕ) × (i < length r.points) × (get_or t.places i 0 ≡ k)
 reached r cells x t m k lt =
     let d = spot_of r cells m.symmetry t.colours m.left m.top 0 in
@@ -74,14 +74,14 @@ reached r cells x t m k lt =
     (i, here, one_spot_at x (get_or t.places i 0) k d m.image_is.ascending w.0 lt (w.1 d ∙ sym is))
 
 -- places that are turned to one place are the same
-turned_once : (r : Shape) (cells : List Cell) (x : List Spot) (t : Turn) → IsOnBoard r → (m : Makes r cells t x) → (i k : ℕ)
+turned_once : (r : Region) (cells : List Cell) (x : List Spot) (t : Turn) → IsOnBoard r → (m : Makes r cells t x) → (i k : ℕ)
     → i < length r.points → k < length r.points → get_or t.places i 0 ≡ get_or t.places k 0 → i ≡ k
 turned_once r cells x t at m i k lt lt' e =
     let d = spot_of r cells m.symmetry t.colours m.left m.top i in
     one_spot r cells at m.symmetry t.colours m.left m.top m.image_is.begins i k lt lt'
     (sym ((m.places i lt).1 d) ∙ ap (λ p. get_or x p d) e ∙ (m.places k lt').1 d)
 
-module _ (r : Shape) (cells : List Cell) (q : Shape) (cells' : List Cell) (at : IsOnBoard r) (at' : IsOnBoard q)
+module _ (r : Region) (cells : List Cell) (q : Region) (cells' : List Cell) (at : IsOnBoard r) (at' : IsOnBoard q)
     (x : List Spot) (s t : Turn) (m : Makes r cells s x) (n : Makes q cells' t x) where
   -- what is known of places that meet
   meet_spot : (i j : ℕ) → Meet r s q t i j → spot_of r cells m.symmetry s.colours m.left m.top i ≡ spot_of q cells' n.symmetry t.colours n.left n.top j
@@ -156,7 +156,7 @@ module _ (r : Shape) (cells : List Cell) (q : Shape) (cells' : List Cell) (at : 
   }
 
 -- a pairing as a list
-listed_pairing : (r : Shape) (cells : List Cell) (q : Shape) (cells' : List Cell) (P : ℕ → ℕ → Type 0) (s : Symmetry) (e : Bool)
+listed_pairing : (r : Region) (cells : List Cell) (q : Region) (cells' : List Cell) (P : ℕ → ℕ → Type 0) (s : Symmetry) (e : Bool)
     → Carries r.touch cells q.touch cells' P s e → HaveOneShape r.touch cells q.touch cells'
 listed_pairing r cells q cells' P s e h =
     let (partners, long, each) = chosen P (length r.touch) h.first in
@@ -165,7 +165,7 @@ listed_pairing r cells q cells' P s e h =
     let of_list : (i j : ℕ) → IsPartner partners i j → P i j = λ i j w. subst (P i) w.1 (each i (omega (arith, w.0, long))) in
     (partners, s, e, carries_same r.touch cells q.touch cells' P (IsPartner partners) s e to of_list h)
 
-pub pairs_places : (r : Shape) (cells : List Cell) (x : List Spot) (s : Turn) (q : Shape) (cells' : List Cell) (y : List Spot) (t : Turn)
+pub pairs_places : (r : Region) (cells : List Cell) (x : List Spot) (s : Turn) (q : Region) (cells' : List Cell) (y : List Spot) (t : Turn)
     → PairsPlaces r cells x s q cells' y t
 pairs_places r cells x s q cells' y t a b e =
     let at = a.board in
@@ -173,7 +173,7 @@ pairs_places r cells x s q cells' y t a b e =
     let n : Makes q cells' t x = subst (Makes q cells' t) (sym e) b.made in
     (turn r cells q cells' at at' x s t a.made n, meeting_carries r cells q cells' at at' x s t a.made n)
 
-pub tells_shapes : (r : Shape) (cells : List Cell) (x : List Spot) (s : Turn) (q : Shape) (cells' : List Cell) (y : List Spot) (t : Turn)
+pub tells_shapes : (r : Region) (cells : List Cell) (x : List Spot) (s : Turn) (q : Region) (cells' : List Cell) (y : List Spot) (t : Turn)
     → TellsShapes r cells x s q cells' y t
 tells_shapes r cells x s q cells' y t a b = (there, here)
   where

@@ -18,7 +18,7 @@ use Rattle.std.specs.declared.cmp.Ordering.{Ordering}
 use Rattle.go_grid.specs.declared.grid.Cell.{Cell}
 use Rattle.go_grid.specs.declared.grid.Cell.TheVariants as cell
 use Rattle.go_grid.specs.declared.grid.Colour.TheVariants.{Black, White}
-use Rattle.go_grid.specs.Region.{Shape, touch_at}
+use Rattle.go_grid.specs.Region.{Region, touch_at}
 use Rattle.local_play.specs.LocalPlay.{held_at, is_beside}
 use Rattle.region_book.specs.Shape.{cell_after, colour_after}
 use Rattle.region_book.specs.Image.{IsOnBoard, BeginsAt, column_of, row_of, is_stone, spot_cmp, spot_of}
@@ -39,16 +39,16 @@ same_cell cell.White cell.Black b w = cc
 same_cell cell.White cell.White b w = refl
 
 -- what is known of two places is the same
-pub record SameSpot (r : Shape) (cells : List Cell) (s : Symmetry) (e : Bool) (left top i : ℕ)
-    (q : Shape) (cells' : List Cell) (t : Symmetry) (e' : Bool) (left' top' j : ℕ) : Type 0 where
+pub record SameSpot (r : Region) (cells : List Cell) (s : Symmetry) (e : Bool) (left top i : ℕ)
+    (q : Region) (cells' : List Cell) (t : Symmetry) (e' : Bool) (left' top' j : ℕ) : Type 0 where
   pub columns : column_of r s i - left ≡ column_of q t j - left'
   pub rows : row_of r s i - top ≡ row_of q t j - top'
   pub held : cell_after e (held_at cells i) ≡ cell_after e' (held_at cells' j)
   pub black : is_beside (touch_at r.touch i) (colour_after e Black) ≡ is_beside (touch_at q.touch j) (colour_after e' Black)
   pub white : is_beside (touch_at r.touch i) (colour_after e White) ≡ is_beside (touch_at q.touch j) (colour_after e' White)
 
-pub same_parts : (r : Shape) (cells : List Cell) (s : Symmetry) (e : Bool) (left top i : ℕ)
-    (q : Shape) (cells' : List Cell) (t : Symmetry) (e' : Bool) (left' top' j : ℕ)
+pub same_parts : (r : Region) (cells : List Cell) (s : Symmetry) (e : Bool) (left top i : ℕ)
+    (q : Region) (cells' : List Cell) (t : Symmetry) (e' : Bool) (left' top' j : ℕ)
     → spot_of r cells s e left top i ≡ spot_of q cells' t e' left' top' j → SameSpot r cells s e left top i q cells' t e' left' top' j
 same_parts r cells s e left top i q cells' t e' left' top' j is = record {
   columns = ap (λ x. x.column) is;
@@ -59,7 +59,7 @@ same_parts r cells s e left top i q cells' t e' left' top' j is = record {
 }
 
 -- places of which the same is known are the same
-pub one_spot : (r : Shape) (cells : List Cell) → IsOnBoard r → (s : Symmetry) (e : Bool) (west north : ℕ) → BeginsAt r s west north
+pub one_spot : (r : Region) (cells : List Cell) → IsOnBoard r → (s : Symmetry) (e : Bool) (west north : ℕ) → BeginsAt r s west north
     → (i k : ℕ) → i < length r.points → k < length r.points
     → spot_of r cells s e west north i ≡ spot_of r cells s e west north k → i ≡ k
 one_spot r cells at s e west north begins i k lt lt' is =

@@ -6,7 +6,7 @@ use Rattle.go_grid.specs.declared.grid.Cell.{Cell}
 use Rattle.go_grid.specs.declared.grid.Cell.TheVariants as cell
 use Rattle.go_grid.specs.declared.grid.Colour.{Colour}
 use Rattle.go_grid.specs.declared.region.Touch.{Touch}
-use Rattle.go_grid.specs.Grid.{other}
+use Rattle.go_grid.specs.Board.{other}
 use Rattle.go_grid.specs.Region.{touch_at}
 use Rattle.local_play.specs.LocalPlay.{held_at, is_beside}
 use Rattle.region_book.specs.declared.symmetry.Symmetry.{Symmetry}

@@ -6,8 +6,8 @@ use Rattle.std.proofs.lemmas.List.{get_or_default, get_or-set_same, get_or-set_o
 use Rattle.std.proofs.lemmas.List.Elements.{Contains-get_or}
 use Rattle.go_grid.specs.declared.grid.Cell.{Cell}
 use Rattle.go_grid.specs.declared.grid.Colour.{Colour}
-use Rattle.go_grid.specs.Grid.{Grid, cell_at, stone}
-use Rattle.go_grid.specs.Region.{Shape}
+use Rattle.go_grid.specs.Board.{Board, cell_at, stone}
+use Rattle.go_grid.specs.Region.{Region}
 use Rattle.go_grid.proofs.WalkLemmas.{joined_back, joined_join}
 use Rattle.go_play.specs.Place.{IsPlaced}
 use Rattle.benson_life.specs.Region.{IsContested}
@@ -16,7 +16,7 @@ use Rattle.region_cut.specs.LocalBoard.{HoldsPosition, IsLocal}
 use Rattle.region_cut.proofs.LocalBoardLemmas.{holds_after}
 
 -- a region that shares a point with another begins no later
-not_later : (g : Grid) (r s : Shape) (p : ℕ) → IsRegionOfPlay g r → IsRegionOfPlay g s → Contains r.points p → Contains s.points p
+not_later : (g : Board) (r s : Region) (p : ℕ) → IsRegionOfPlay g r → IsRegionOfPlay g s → Contains r.points p → Contains s.points p
     → ¬ (lowest s < lowest r)
 not_later g r s p a b in' of' lt =
     let there = (a.points p).0 in' in
@@ -25,16 +25,16 @@ not_later g r s p a b in' of' lt =
     absurd (omega (arith, least, lt))
 
 -- the board as it was when it was cut holds the cells of the region
-pub holds_start : (g : Grid) (r : Shape) → IsRegionOfPlay g r → length r.cells ≡ length r.points → HoldsPosition g r r.cells g
+pub holds_start : (g : Board) (r : Region) → IsRegionOfPlay g r → length r.cells ≡ length r.points → HoldsPosition g r r.cells g
 holds_start g r play full = record {
   walls = record { columns = refl; long = refl; stones = λ c s a. a.1.stones s a.2; counted = λ c p w. refl };
   long = full;
   local = λ i lt. sym (play.cells i lt);
 }
 
-module _ (g : Grid) (regions : List Shape) (are : AreRegionsOfPlay g regions) where
+module _ (g : Board) (regions : List Region) (are : AreRegionsOfPlay g regions) where
   -- a point is in one region at most
-  pub one_region : (k l p : ℕ) (d : Shape) → k < length regions → l < length regions
+  pub one_region : (k l p : ℕ) (d : Region) → k < length regions → l < length regions
       → Contains (get_or regions k d).points p → Contains (get_or regions l d).points p → k ≡ l
   one_region k l p d lk ll in' of' =
       let r = get_or regions k d in
@@ -50,7 +50,7 @@ module _ (g : Grid) (regions : List Shape) (are : AreRegionsOfPlay g regions) wh
       ]
 
   -- and each contested point in exactly one
-  pub only_region : (p : ℕ) (d : Shape) → IsContested g p → (k : ℕ) × (k < length regions) × Contains (get_or regions k d).points p
+  pub only_region : (p : ℕ) (d : Region) → IsContested g p → (k : ℕ) × (k < length regions) × Contains (get_or regions k d).points p
       × ((l : ℕ) → l < length regions → Contains (get_or regions l d).points p → l ≡ k)
   only_region p d contested =
       let (r, (k, lt, e), among) = are.every p contested in
@@ -59,17 +59,17 @@ module _ (g : Grid) (regions : List Shape) (are : AreRegionsOfPlay g regions) wh
       (k, lt, among', λ l ll of'. one_region l k p d ll lt of' among')
 
   -- what is local to one region leaves the points of the others as they were
-  pub other_kept : (k l : ℕ) (d : Shape) (h after : Grid) (cells next : List Cell) → k < length regions → l < length regions → l ≢ k
+  pub other_kept : (k l : ℕ) (d : Region) (h after : Board) (cells next : List Cell) → k < length regions → l < length regions → l ≢ k
       → IsLocal (get_or regions k d) h after cells next → (p : ℕ) → Contains (get_or regions l d).points p → cell_at after p ≡ cell_at h p
   other_kept k l d h after cells next lk ll ne local p of' = local.outside p (λ in'. ne (one_region l k p d ll lk of' in'))
 
   -- the board holds in each region a position of its own
-  pub record HoldPositions (positions : List (List Cell)) (h : Grid) : Type 0 where
+  pub record HoldPositions (positions : List (List Cell)) (h : Board) : Type 0 where
     pub many : length positions ≡ length regions
-    pub each : (k : ℕ) (d : Shape) → k < length regions → HoldsPosition g (get_or regions k d) (get_or positions k []) h
+    pub each : (k : ℕ) (d : Region) → k < length regions → HoldsPosition g (get_or regions k d) (get_or positions k []) h
 
   -- after a placing in one region it has the next one there, and the same elsewhere
-  pub positions_after : (positions : List (List Cell)) (next : List Cell) (h after : Grid) (k p : ℕ) (c : Colour) (d : Shape)
+  pub positions_after : (positions : List (List Cell)) (next : List Cell) (h after : Board) (k p : ℕ) (c : Colour) (d : Region)
       → HoldPositions positions h → k < length regions → IsPlaced h p c after → length next ≡ length (get_or positions k [])
       → IsLocal (get_or regions k d) h after (get_or positions k []) next → HoldPositions (set positions k next) after
   positions_after positions next h after k p c d all lk placed long local = record {

@@ -10,11 +10,11 @@ use Rattle.go_grid.specs.declared.grid.Cell.{Cell}
 use Rattle.go_grid.specs.declared.grid.Colour.{Colour}
 use Rattle.go_grid.specs.declared.grid.Colour.TheVariants as colour
 use Rattle.go_grid.specs.declared.region.Touch.{Touch}
-use Rattle.go_grid.specs.Grid.{Grid, NextTo, HasStone, cell_at}
-use Rattle.go_grid.specs.Region.{Shape, IsBeside, touch_at}
+use Rattle.go_grid.specs.Board.{Board, NextTo, HasStone, cell_at}
+use Rattle.go_grid.specs.Region.{Region, IsBeside, touch_at}
 use Rattle.go_grid.specs.Chain.{InChain, HasLiberty, IsSettled}
 use Rattle.go_grid.proofs.ChainLemmas.{same_liberty}
-use Rattle.go_grid.proofs.GridLemmas.{same_stone}
+use Rattle.go_grid.proofs.BoardLemmas.{same_stone}
 use Rattle.go_grid.proofs.NearLemmas.{next_back}
 use Rattle.go_grid.proofs.WalkLemmas.{joined_back, joined_here, joined_step, joined_end, carried as along}
 use Rattle.go_play.specs.Place.{IsTaken}
@@ -45,10 +45,10 @@ beside_stable : (touch : List Touch) (c : Colour) (i : ℕ) → ¬ ¬ IsBeside c
 beside_stable touch colour.Black i = true_stable (touch_at touch i).black
 beside_stable touch colour.White i = true_stable (touch_at touch i).white
 
-pub point_contested : (g : Grid) (r : Shape) → IsRegionOfPlay g r → (q : ℕ) → Contains r.points q → IsContested g q
+pub point_contested : (g : Board) (r : Region) → IsRegionOfPlay g r → (q : ℕ) → Contains r.points q → IsContested g q
 point_contested g r play q h = joined_end g.columns (IsContested g) (lowest r) q ((play.points q).0 h)
 
-module _ (g : Grid) (r : Shape) (settled : IsSettled g) (play : IsRegionOfPlay g r) (cells : List Cell) (h : Grid) (holds : HoldsPosition g r cells h) where
+module _ (g : Board) (r : Region) (settled : IsSettled g) (play : IsRegionOfPlay g r) (cells : List Cell) (h : Board) (holds : HoldsPosition g r cells h) where
   abbrev at : ℕ → ℕ
   at i = get_or r.points i 0
 

@@ -4,13 +4,13 @@ use Rattle.std.specs.List.Sorted.{IsStrictlyIncreasing}
 use Rattle.std.proofs.lemmas.Bool.{cases_lt}
 use Rattle.std.proofs.lemmas.List.Elements.{Contains-get_or}
 use Rattle.std.proofs.lemmas.List.Kept.{AllPairs-from_increasing}
-use Rattle.go_grid.specs.Grid.{NextTo, IsAbove, IsLeftOf}
-use Rattle.go_grid.specs.Region.{Shape, IsRegion, IsLink, touch_at}
+use Rattle.go_grid.specs.Board.{NextTo, IsAbove, IsLeftOf}
+use Rattle.go_grid.specs.Region.{Region, IsRegion, IsLink, touch_at}
 use Rattle.local_play.specs.LocalPlay.{IsLinked}
 use Rattle.region_cut.proofs.PlaceLemmas.{same_point}
 
 -- the links of the region are exactly its points' being next to each other
-abbrev pub LinksAreNext : Shape → Type 0
+abbrev pub LinksAreNext : Region → Type 0
 LinksAreNext r = (i j : ℕ) → i < length r.points → IsLinked r.touch i j
     ↔ ((j < length r.points) × NextTo r.columns (get_or r.points i 0) (get_or r.points j 0))
 
@@ -38,7 +38,7 @@ link_at : (points : List ℕ) (Near : ℕ → Type 0) (o : Option ℕ) (j : ℕ)
     → (j < length points) × Near (get_or points j 0)
 link_at points Near o j link e = subst (IsLink points Near) e link
 
-pub links_are_next : (r : Shape) → IsRegion r.columns r.rows r.points r.cells r.touch → LinksAreNext r
+pub links_are_next : (r : Region) → IsRegion r.columns r.rows r.points r.cells r.touch → LinksAreNext r
 links_are_next r reg i j lt = (there, back)
   where
     there : IsLinked r.touch i j → (j < length r.points) × NextTo r.columns (get_or r.points i 0) (get_or r.points j 0)

@@ -9,8 +9,8 @@ use Rattle.go_grid.specs.declared.grid.Cell.TheVariants as cell
 use Rattle.go_grid.specs.declared.grid.Colour.{Colour}
 use Rattle.go_grid.specs.declared.region.Touch.{Touch}
 use Rattle.go_grid.specs.Chain.{IsSettled}
-use Rattle.go_grid.specs.Grid.{Grid, HasStone, cell_at, stone, other}
-use Rattle.go_grid.specs.Region.{Shape}
+use Rattle.go_grid.specs.Board.{Board, HasStone, cell_at, stone, other}
+use Rattle.go_grid.specs.Region.{Region}
 use Rattle.go_grid.proofs.WalkLemmas.{joined_start}
 use Rattle.go_play.specs.Place.{with_stone, is_stone, IsPlaced, IsTaken}
 use Rattle.local_play.specs.LocalPlay.{held_at, IsRemoved, IsLocalMove, with_stone as with_local_stone, is_stone as is_local_stone}
@@ -31,7 +31,7 @@ stones_same xs = ap (λ f. count_by f xs) (λ i x. each x i)
     each cell.White = refl
 
 -- a board holds a local position where it has as much outside the region as one that does
-pub holds_after : (g : Grid) (r : Shape) (cells next : List Cell) (h after : Grid) → IsRegionOfPlay g r → HoldsPosition g r cells h
+pub holds_after : (g : Board) (r : Region) (cells next : List Cell) (h after : Board) → IsRegionOfPlay g r → HoldsPosition g r cells h
     → after.columns ≡ h.columns → length after.cells ≡ length h.cells → length next ≡ length cells
     → ((i : ℕ) → i < length r.points → cell_at after (get_or r.points i 0) ≡ held_at next i)
     → ((p : ℕ) → ¬ Contains r.points p → cell_at after p ≡ cell_at h p) → HoldsPosition g r next after
@@ -48,12 +48,12 @@ holds_after g r cells next h after play holds columns full long within outside =
   local = within;
 }
 
-module _ (g : Grid) (r : Shape) (settled : IsSettled g) (play : IsRegionOfPlay g r) (cells : List Cell) (h : Grid) (holds : HoldsPosition g r cells h) where
+module _ (g : Board) (r : Region) (settled : IsSettled g) (play : IsRegionOfPlay g r) (cells : List Cell) (h : Board) (holds : HoldsPosition g r cells h) where
   abbrev at : ℕ → ℕ
   at i = get_or r.points i 0
 
   -- the number taken on the board is the local one
-  is_local : (after : Grid) (next : List Cell) → length after.cells ≡ length h.cells → length next ≡ length cells
+  is_local : (after : Board) (next : List Cell) → length after.cells ≡ length h.cells → length next ≡ length cells
       → ((i : ℕ) → i < length r.points → cell_at after (at i) ≡ held_at next i)
       → ((p : ℕ) → ¬ Contains r.points p → cell_at after p ≡ cell_at h p) → IsLocal r h after cells next
   is_local after next full long within outside = record {
@@ -99,7 +99,7 @@ module _ (g : Grid) (r : Shape) (settled : IsSettled g) (play : IsRegionOfPlay g
           )
 
   module _ (i : ℕ) (lt : i < length r.points) (c : Colour) where
-    abbrev b : Grid
+    abbrev b : Board
     b = with_stone h (at i) c
 
     abbrev more : List Cell
@@ -142,7 +142,7 @@ module _ (g : Grid) (r : Shape) (settled : IsSettled g) (play : IsRegionOfPlay g
     down_at j l t = let w = down (at j) t in subst (λ z. Removed z) (one_place r.points w.0 j play.proper.ascending w.1 l w.2) w.3
 
     -- a placing is a local move
-    pub placing_is_local : (after : Grid) → IsPlaced h (at i) c after
+    pub placing_is_local : (after : Board) → IsPlaced h (at i) c after
         → (next : List Cell) × IsLocalMove r.touch cells c i next × IsLocal r h after cells next
     placing_is_local after placed = (next, move, is_local after next full long within outside)
       where
@@ -188,13 +188,13 @@ module _ (g : Grid) (r : Shape) (settled : IsSettled g) (play : IsRegionOfPlay g
 
     -- a local move is a placing
     pub local_is_placing : (next : List Cell) → IsLocalMove r.touch cells c i next
-        → (after : Grid) × IsPlaced h (at i) c after
+        → (after : Board) × IsPlaced h (at i) c after
     local_is_placing next move = (after, placed)
       where
         n : ℕ
         n = length r.points
 
-        after : Grid
+        after : Board
         after = record h { cells = written r.points play.proper.ascending h.cells next n }
 
         full : length after.cells ≡ length h.cells
@@ -243,7 +243,7 @@ one_move touch cells a b c p m n =
           m.kept j stays ∙ sym (n.kept j stays)
     ])
 
-pub plays_locally : (g : Grid) (r : Shape) → IsSettled g → IsRegionOfPlay g r → PlaysLocally g r
+pub plays_locally : (g : Board) (r : Region) → IsSettled g → IsRegionOfPlay g r → PlaysLocally g r
 plays_locally g r settled play = record {
   legal = λ cells h c i holds lt. (
     λ (after, placed). let w = placing_is_local g r settled play cells h holds i lt c after placed in (w.0, w.1),

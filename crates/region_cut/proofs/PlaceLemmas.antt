@@ -4,7 +4,7 @@ use Rattle.std.specs.List.{Contains}
 use Rattle.std.proofs.lemmas.Nat.{div-add-mod'}
 use Rattle.std.proofs.lemmas.List.{get_or_append_left, get_or_push}
 use Rattle.go_grid.specs.declared.region.Touch.{Touch}
-use Rattle.go_grid.specs.Grid.{IsAbove, IsLeftOf, IsThe, AreNear}
+use Rattle.go_grid.specs.Board.{IsAbove, IsLeftOf, IsThe, AreNear}
 use Rattle.go_grid.specs.Region.{IsLink, AreLinks}
 use Rattle.region_cut.specs.Places.{IsPlace}
 

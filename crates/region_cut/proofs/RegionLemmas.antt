@@ -11,9 +11,9 @@ use Rattle.go_grid.specs.declared.grid.Cell.TheVariants.{Empty}
 use Rattle.go_grid.specs.declared.grid.Colour.{Colour}
 use Rattle.go_grid.specs.declared.grid.Colour.TheVariants.{Black, White}
 use Rattle.go_grid.specs.declared.region.Touch.{Touch}
-use Rattle.go_grid.specs.Grid.{Grid, NextTo, cell_at}
+use Rattle.go_grid.specs.Board.{Board, NextTo, cell_at}
 use Rattle.go_grid.specs.Marks.{IsMarked, Marks, Lists}
-use Rattle.go_grid.specs.Region.{Shape, IsRegion, IsBeside, touch_at}
+use Rattle.go_grid.specs.Region.{Region, IsRegion, IsBeside, touch_at}
 use Rattle.go_grid.specs.Walk.{Joined}
 use Rattle.go_grid.proofs.PointsLemmas.{lists_same}
 use Rattle.go_grid.proofs.WalkLemmas.{carried, joined_here, joined_step, joined_back, joined_join, joined_end, marks_joined}
@@ -36,7 +36,7 @@ first_is points start rising (k, lt, e) least =
       | inr none ↦ let z : k ≡ 0 = omega arith in subst (λ n. get_or points n 0 ≡ start) z at
     ]
 
-is_region : (g : Grid) (start : ℕ) (points : List ℕ) (cells : List Cell) (touch : List Touch) (black white : List Bool)
+is_region : (g : Board) (start : ℕ) (points : List ℕ) (cells : List Cell) (touch : List Touch) (black white : List Bool)
     → length g.cells ≡ g.columns * g.rows → IsContested g start → Lists points (InRegionOfPlay g start)
     → length cells ≡ length points → length touch ≡ length points
     → ((i : ℕ) → i < length points → IsTouch g.columns points black white (get_or points i 0) (touch_at touch i))
@@ -63,7 +63,7 @@ is_region g start points cells touch black white area contested lists lc lt each
         ((lists.exact y).1 (joined_step c (IsContested g) start x y ((lists.exact x).0 here) next h))
 
 -- what the type of a region keeps
-pub keeps_region : (g : Grid) (k r start : ℕ) (points : List ℕ) (cells : List Cell) (touch : List Touch) (black white : List Bool)
+pub keeps_region : (g : Board) (k r start : ℕ) (points : List ℕ) (cells : List Cell) (touch : List Touch) (black white : List Bool)
     → k ≡ g.columns → r ≡ g.rows → length g.cells ≡ g.columns * g.rows → IsContested g start → Lists points (InRegionOfPlay g start)
     → length cells ≡ length points → length touch ≡ length points
     → ((i : ℕ) → i < length points → IsTouch k points black white (get_or points i 0) (touch_at touch i))
@@ -75,26 +75,26 @@ keeps_region g k r start points cells touch black white ek er area contested lis
     (subst (λ n. (i : ℕ) → i < length points → IsTouch n points black white (get_or points i 0) (touch_at touch i)) ek each)))
 
 -- the listed points are those of the region
-pub region_lists : (g : Grid) (k start : ℕ) (within part : List Bool) (points : List ℕ) → k ≡ g.columns → Marks within (IsContested g)
+pub region_lists : (g : Board) (k start : ℕ) (within part : List Bool) (points : List ℕ) → k ≡ g.columns → Marks within (IsContested g)
     → Marks part (Joined k (IsMarked within) start) → Lists points (IsMarked part) → Lists points (InRegionOfPlay g start)
 region_lists g k start within part points e is filled lists =
     lists_same points (IsMarked part) (InRegionOfPlay g start) lists
     (subst (λ n. Marks part (Joined n (IsContested g) start)) e (marks_joined k start within part (IsContested g) is filled))
 
 -- each of them is on the board
-pub region_inside : (g : Grid) (start : ℕ) (points : List ℕ) → Lists points (InRegionOfPlay g start) → (k d : ℕ) → k < length points
+pub region_inside : (g : Board) (start : ℕ) (points : List ℕ) → Lists points (InRegionOfPlay g start) → (k d : ℕ) → k < length points
     → get_or points k d < length g.cells
 region_inside g start points lists k d lt =
     (joined_end g.columns (IsContested g) start (get_or points k d) ((lists.exact _).0 (Contains-get_or points k d lt))).0
 
 -- the lowest of them stands first
-pub region_first : (g : Grid) (start : ℕ) (points : List ℕ) → IsContested g start → ((p : ℕ) → InRegionOfPlay g start p → start ≤ p)
+pub region_first : (g : Board) (start : ℕ) (points : List ℕ) → IsContested g start → ((p : ℕ) → InRegionOfPlay g start p → start ≤ p)
     → Lists points (InRegionOfPlay g start) → get_or points 0 0 ≡ start
 region_first g start points contested least lists =
     first_is points start lists.ascending ((lists.exact start).1 (joined_here g.columns (IsContested g) start contested))
     (λ p h. least p ((lists.exact p).0 h))
 
-walls_of : (g : Grid) (points : List ℕ) (black white : List Bool) (p : ℕ) (t : Touch) (c : Colour)
+walls_of : (g : Board) (points : List ℕ) (black white : List Bool) (p : ℕ) (t : Touch) (c : Colour)
     → Marks black (IsAlive g Black) → Marks white (IsAlive g White) → IsTouch g.columns points black white p t
     → IsBeside c t ↔ ((s : ℕ) × NextTo g.columns p s × IsAlive g c s)
 walls_of g points black white p t Black isb isw touch = (
@@ -107,7 +107,7 @@ walls_of g points black white p t White isb isw touch = (
 )
 
 -- the region of a contested point that is its lowest
-pub is_region_of_play : (g : Grid) (k r start : ℕ) (points : List ℕ) (cells : List Cell) (touch : List Touch) (black white : List Bool)
+pub is_region_of_play : (g : Board) (k r start : ℕ) (points : List ℕ) (cells : List Cell) (touch : List Touch) (black white : List Bool)
     → k ≡ g.columns → r ≡ g.rows → IsRegion k r points cells touch → get_or points 0 0 ≡ start
     → ((p : ℕ) → InRegionOfPlay g start p → start ≤ p)
     → Lists points (InRegionOfPlay g start) → ((i : ℕ) → i < length points → get_or cells i Empty ≡ cell_at g (get_or points i 0))
@@ -133,7 +133,7 @@ pub true_stable : (b : Bool) → ¬ ¬ (b ≡ true) → b ≡ true
 true_stable b never = elim (true_or_not b) [ inl e ↦ e | inr off ↦ absurd (never off) ]
 
 -- what stands next to the region and outside it can't but be an alive stone
-pub never_open : (g : Grid) (r : Shape) → IsRegionOfPlay g r → (p q : ℕ) → Contains r.points p → NextTo g.columns p q
+pub never_open : (g : Board) (r : Region) → IsRegionOfPlay g r → (p q : ℕ) → Contains r.points p → NextTo g.columns p q
     → q < length g.cells → ¬ Contains r.points q → ¬ ((c : Colour) → ¬ IsAlive g c q)
 never_open g r play p q h next lt out dead =
     let start = lowest r in
@@ -149,7 +149,7 @@ never_open g r play p q h next lt out dead =
     out ((play.points q).1 (joined_step g.columns (IsContested g) start p q from next contested))
 
 -- it is one, which marks of the alive stones tell
-pub walled_in : (g : Grid) (r : Shape) (black white : List Bool) → Marks black (IsAlive g Black) → Marks white (IsAlive g White)
+pub walled_in : (g : Board) (r : Region) (black white : List Bool) → Marks black (IsAlive g Black) → Marks white (IsAlive g White)
     → IsRegionOfPlay g r → IsWalledIn g r
 walled_in g r black white isb isw play p q h next lt out =
     elim (true_or_not (get_or black q false)) as (λ _. IsAlive g Black q ⊎ IsAlive g White q) [

@@ -4,7 +4,7 @@ use Rattle.go_grid.specs.declared.grid.Cell.{Cell}
 use Rattle.go_grid.specs.declared.grid.Cell.TheVariants as cell
 use Rattle.go_grid.specs.declared.grid.Colour.{Colour}
 use Rattle.go_grid.specs.declared.grid.Colour.TheVariants as colour
-use Rattle.go_grid.specs.Grid.{Grid, NextTo, Lacks, cell_at, stone}
+use Rattle.go_grid.specs.Board.{Board, NextTo, Lacks, cell_at, stone}
 use Rattle.go_grid.proofs.NearLemmas.{next_back}
 use Rattle.go_grid.proofs.WalkLemmas.{joined_here, joined_step}
 use Rattle.benson_life.proofs.WallLemmas.{counted_region}
@@ -22,16 +22,16 @@ same_or_not cell.White cell.Empty = inr (λ e. cc)
 same_or_not cell.White cell.Black = inr (λ e. cc)
 same_or_not cell.White cell.White = inl refl
 
-pub not_alive : (g : Grid) (c : Colour) (p : ℕ) → IsContested g p → ¬ IsAlive g c p
+pub not_alive : (g : Board) (c : Colour) (p : ℕ) → IsContested g p → ¬ IsAlive g c p
 not_alive g colour.Black p h = h.1
 not_alive g colour.White p h = h.2
 
-pub not_counted : (g : Grid) (c : Colour) (p : ℕ) → IsContested g p → ¬ IsCounted g c p
+pub not_counted : (g : Board) (c : Colour) (p : ℕ) → IsContested g p → ¬ IsCounted g c p
 not_counted g colour.Black p h = h.3
 not_counted g colour.White p h = h.4
 
 -- no point next to a contested one is counted
-pub never_next_to_counted : (g : Grid) (c : Colour) (p q : ℕ) → IsContested g p → NextTo g.columns p q → ¬ IsCounted g c q
+pub never_next_to_counted : (g : Board) (c : Colour) (p q : ℕ) → IsContested g p → NextTo g.columns p q → ¬ IsCounted g c q
 never_next_to_counted g c p q contested next counted =
     let eye = counted.2 in
     let here = joined_here g.columns (Lacks g c) q eye.lacks in

@@ -4,9 +4,9 @@ ghost use Rattle.std.specs.Prelude.{◌≡◌, ℕ, ◌*◌, ◌<◌, ◌≤◌,
 ghost use Rattle.go_grid.specs.declared.grid.Cell.TheVariants.{Empty};
 ghost use Rattle.go_grid.specs.declared.grid.Colour.TheVariants.{Black, White};
 ghost use Rattle.go_grid.specs.Chain.{IsSettled};
-ghost use Rattle.go_grid.specs.Grid.{cell_at};
+ghost use Rattle.go_grid.specs.Board.{cell_at};
 ghost use Rattle.go_grid.specs.Marks.{Lists, Marks};
-ghost use Rattle.go_grid.specs.Region.{Shape};
+ghost use Rattle.go_grid.specs.Region.{Region};
 ghost use Rattle.benson_life.specs.Life.{IsAlive, IsCounted, IsLargestHealthy};
 ghost use Rattle.benson_life.specs.Territory.{IsTerritory};
 ghost use Rattle.benson_life.specs.Region.{IsContested, InRegionOfPlay};
@@ -77,8 +77,8 @@ fn cut_sets(
     requires black { Marks black.now (IsAlive board.now Black) }
     requires white { Marks white.now (IsAlive board.now White) }
     ensures regions { IfOk result (λ regions. AreRegionsOfPlay board.now regions.items) }
-    ensures walled { IfOk result (λ regions. (r : Shape) → Contains regions.items r → IsWalledIn board.now r) }
-    ensures local { IfOk result (λ regions. (r : Shape) → Contains regions.items r → PlaysLocally board.now r) }
+    ensures walled { IfOk result (λ regions. (r : Region) → Contains regions.items r → IsWalledIn board.now r) }
+    ensures local { IfOk result (λ regions. (r : Region) → Contains regions.items r → PlaysLocally board.now r) }
 {
     let size = board.size();
     let parts = components(size, within);
@@ -109,8 +109,8 @@ pub fn cut(
     requires black_counted { Lists black_counted.now (IsCounted board.now Black) }
     requires white_counted { Lists white_counted.now (IsCounted board.now White) }
     ensures regions { IfOk result (λ regions. AreRegionsOfPlay board.now regions.items) }
-    ensures walled { IfOk result (λ regions. (r : Shape) → Contains regions.items r → IsWalledIn board.now r) }
-    ensures local { IfOk result (λ regions. (r : Shape) → Contains regions.items r → PlaysLocally board.now r) }
+    ensures walled { IfOk result (λ regions. (r : Region) → Contains regions.items r → IsWalledIn board.now r) }
+    ensures local { IfOk result (λ regions. (r : Region) → Contains regions.items r → PlaysLocally board.now r) }
 {
     let within = contested(
         board,
@@ -133,8 +133,8 @@ pub fn cut_territory(
     requires settled { IsSettled board.now }
     requires territory { IsTerritory board.now territory.now }
     ensures regions { IfOk result (λ regions. AreRegionsOfPlay board.now regions.items) }
-    ensures walled { IfOk result (λ regions. (r : Shape) → Contains regions.items r → IsWalledIn board.now r) }
-    ensures local { IfOk result (λ regions. (r : Shape) → Contains regions.items r → PlaysLocally board.now r) }
+    ensures walled { IfOk result (λ regions. (r : Region) → Contains regions.items r → IsWalledIn board.now r) }
+    ensures local { IfOk result (λ regions. (r : Region) → Contains regions.items r → PlaysLocally board.now r) }
 {
     let within = territory.contested(board);
     cut_sets(

@@ -8,7 +8,7 @@ use Rattle.std.proofs.lemmas.List.Elements.{Contains-get_or}
 use Rattle.std.proofs.lemmas.Map.Keys.{sorted_from_strictly_increasing, below_from_sorted}
 use Rattle.go_grid.specs.declared.grid.Colour.{Colour}
 use Rattle.go_grid.specs.declared.grid.Colour.TheVariants.{Black, White}
-use Rattle.go_grid.specs.Grid.{Grid, Lacks}
+use Rattle.go_grid.specs.Board.{Board, Lacks}
 use Rattle.go_grid.specs.Walk.{Joined}
 use Rattle.go_grid.proofs.PointsLemmas.{lists_same}
 use Rattle.go_grid.proofs.WalkLemmas.{joined_end, joined_here, marks_joined}
@@ -16,7 +16,7 @@ use Rattle.go_grid.specs.Marks.{IsMarked, Marks, Lists}
 use Rattle.benson_life.specs.Groups.{IsNumberOfGroups}
 use Rattle.benson_life.specs.Held.{worth}
 use Rattle.benson_life.specs.Life.{InRegion, IsCounted}
-use Rattle.go_grid.specs.Region.{Shape}
+use Rattle.go_grid.specs.Region.{Region}
 use Rattle.region_cut.specs.Cut.{AreRegionsOfPlay}
 use Rattle.report.proofs.TextLaws.{three_pieces}
 use Rattle.report.specs.declared.chains.ChainLine.{ChainLine}
@@ -49,33 +49,33 @@ one_key White White p q e = (refl, omega (arith, e))
 one_key Black White p q e = absurd (omega (arith, e))
 one_key White Black p q e = absurd (omega (arith, e))
 
-key_is : (g : Grid) (c : Colour) (p : ℕ) → IsCountedKey g (2 * p + turn c) → IsLowestCounted g c p
+key_is : (g : Board) (c : Colour) (p : ℕ) → IsCountedKey g (2 * p + turn c) → IsLowestCounted g c p
 key_is g c p (d, q, e, w) =
     let k = one_key c d p q e in
     subst (λ x. IsLowestCounted g x p) (sym k.0) (subst (λ x. IsLowestCounted g d x) (sym k.1) w)
 
 -- the region of a counted point
-pub region_lists : (g : Grid) (c : Colour) (k p : ℕ) (within filled : List Bool) (points : List ℕ) → k ≡ g.columns → Marks within (Lacks g c)
+pub region_lists : (g : Board) (c : Colour) (k p : ℕ) (within filled : List Bool) (points : List ℕ) → k ≡ g.columns → Marks within (Lacks g c)
     → Marks filled (Joined k (IsMarked within) p) → Lists points (IsMarked filled) → Lists points (InRegion g c p)
 region_lists g c k p within filled points e is f lists =
     let joined = subst (λ n. Marks filled (Joined n (IsMarked within) p)) e f in
     lists_same points (IsMarked filled) (InRegion g c p) lists (marks_joined g.columns p within filled (Lacks g c) is joined)
 
-pub region_has_first : (g : Grid) (c : Colour) (p : ℕ) (points : List ℕ) → IsCounted g c p → Lists points (InRegion g c p) → 0 < length points
+pub region_has_first : (g : Board) (c : Colour) (p : ℕ) (points : List ℕ) → IsCounted g c p → Lists points (InRegion g c p) → 0 < length points
 region_has_first g c p points h lists = has_first points p ((lists.exact p).1 (joined_here g.columns (Lacks g c) p h.2.lacks))
 
-pub region_on_board : (g : Grid) (c : Colour) (p : ℕ) (points : List ℕ) → Lists points (InRegion g c p) → (k d : ℕ) → k < length points → get_or points k d < length g.cells
+pub region_on_board : (g : Board) (c : Colour) (p : ℕ) (points : List ℕ) → Lists points (InRegion g c p) → (k d : ℕ) → k < length points → get_or points k d < length g.cells
 region_on_board g c p points lists k d lt = (joined_end g.columns (Lacks g c) p (get_or points k d) ((lists.exact _).0 (Contains-get_or points k d lt))).0
 
-pub no_key_unmarked : (g : Grid) (c : Colour) (p : ℕ) (marks : List Bool) → Marks marks (IsCounted g c) → ¬ IsMarked marks p → ¬ IsCountedKey g (2 * p + turn c)
+pub no_key_unmarked : (g : Board) (c : Colour) (p : ℕ) (marks : List Bool) → Marks marks (IsCounted g c) → ¬ IsMarked marks p → ¬ IsCountedKey g (2 * p + turn c)
 no_key_unmarked g c p marks is un w = un ((is p).1 (key_is g c p w).0)
 
-pub no_key_from : (g : Grid) (c : Colour) (p : ℕ) (points : List ℕ) → IsCounted g c p → Lists points (InRegion g c p) → get_or points 0 0 ≢ p
+pub no_key_from : (g : Board) (c : Colour) (p : ℕ) (points : List ℕ) → IsCounted g c p → Lists points (InRegion g c p) → get_or points 0 0 ≢ p
     → ¬ IsCountedKey g (2 * p + turn c)
 no_key_from g c p points h lists other w =
     other (is_first points p lists.ascending ((lists.exact p).1 (joined_here g.columns (Lacks g c) p h.2.lacks)) (λ q i. (key_is g c p w).1 q ((lists.exact q).0 i)))
 
-pub counted_line_is : (g : Grid) (c : Colour) (p n held : ℕ) (points : List ℕ) → IsCounted g c p → Lists points (InRegion g c p)
+pub counted_line_is : (g : Board) (c : Colour) (p n held : ℕ) (points : List ℕ) → IsCounted g c p → Lists points (InRegion g c p)
     → get_or points 0 0 ≡ p → length points ≡ n → held ≡ sum_by (worth g c) points → IsCountedLine g (record { lowest = p; colour = c; points = n; held = held })
 counted_line_is g c p n held points h lists first long e = record {
   lowest = (h, λ q i. subst (λ x. x ≤ q) first (first_least points q lists.ascending ((lists.exact q).1 i)));
@@ -86,11 +86,11 @@ counted_line_is g c p n held points h lists first long e = record {
 }
 
 -- the lines name points of the board
-pub counted_on_board : (g : Grid) (ls : List CountedLine) → AreCountedLines g ls → (k : ℕ) (d : CountedLine) → k < length ls → (get_or ls k d).lowest < length g.cells
+pub counted_on_board : (g : Board) (ls : List CountedLine) → AreCountedLines g ls → (k : ℕ) (d : CountedLine) → k < length ls → (get_or ls k d).lowest < length g.cells
 counted_on_board g ls are k d lt = (are.each (get_or ls k d) (Contains-get_or ls k d lt)).0.lowest.0.2.lacks.0
 
 -- the text of the lines of a board
-pub safe_text_is : (g : Grid) (k : ℕ) (chains : List ChainLine) (counted : List CountedLine) (black white : ℕ) (regions : List Shape) (t u v x y w text : List ℕ)
+pub safe_text_is : (g : Board) (k : ℕ) (chains : List ChainLine) (counted : List CountedLine) (black white : ℕ) (regions : List Region) (t u v x y w text : List ℕ)
     → k ≡ g.columns → AreChainLines g chains → AreCountedLines g counted → IsNumberOfGroups g Black black → IsNumberOfGroups g White white → AreRegionsOfPlay g regions → t ≡ [] → u ≡ t ++ flat_map (chain_lines k) chains
     → v ≡ u ++ flat_map (counted_line k) counted → x ≡ v ++ groups_line Black black → y ≡ x ++ groups_line White white → w ≡ y ++ flat_map (shape_line k) regions
     → text ≡ w → IsSafeText g text
@@ -114,5 +114,5 @@ safe_text_is g k chains counted black white regions t u v x y w text e a b m n r
     }
 
 -- the regions are on the board
-pub regions_on_board : (g : Grid) (rs : List Shape) → AreRegionsOfPlay g rs → (k : ℕ) (d : Shape) → k < length rs → ((get_or rs k d).columns ≡ g.columns) × ((get_or rs k d).rows ≡ g.rows)
+pub regions_on_board : (g : Board) (rs : List Region) → AreRegionsOfPlay g rs → (k : ℕ) (d : Region) → k < length rs → ((get_or rs k d).columns ≡ g.columns) × ((get_or rs k d).rows ≡ g.rows)
 regions_on_board g rs are k d lt = let r = are.each (get_or rs k d) (Contains-get_or rs k d lt) in (r.columns, r.rows)

@@ -3,20 +3,20 @@ use Rattle.std.proofs.Common.{◌≡◌, ℕ, ◌+◌, ◌<◌, ◌++◌, ◌∷
 use Rattle.std.specs.Prelude.{sum, codes}
 use Rattle.std.proofs.lemmas.List.{append-nil, take_more}
 use Rattle.std.proofs.lemmas.List.Sums.{sum_by-append}
-use Rattle.go_grid.specs.Region.{Shape}
+use Rattle.go_grid.specs.Region.{Region}
 use Rattle.region_cut.specs.Cut.{lowest}
 use Rattle.endgame_solver.specs.Regions.{region_at, no_region}
 use Rattle.endgame_solver.specs.Solved.{SolvedGame, IsNumberOfPositions}
 use Rattle.report.specs.Solution.{AreNumbers, HasLines, HasOutcome, HasRegions, IsSolveText, count_line, move_line, region_lines, regions_text, solved_line, state_lines, winner_line}
 use Rattle.report.proofs.TextLaws.{three_more, three_pieces}
 
-pub numbers_more : (rs : List Shape) (ns : List ℕ) (r : Shape) (n : ℕ) → AreNumbers rs ns → IsNumberOfPositions r n → AreNumbers (rs ++ r ∷ []) (ns ++ n ∷ [])
+pub numbers_more : (rs : List Region) (ns : List ℕ) (r : Region) (n : ℕ) → AreNumbers rs ns → IsNumberOfPositions r n → AreNumbers (rs ++ r ∷ []) (ns ++ n ∷ [])
 numbers_more [] [] r n h k = (k, tt)
 numbers_more [] (m ∷ ns) r n h k = absurd h
 numbers_more (q ∷ rs) [] r n h k = absurd h
 numbers_more (q ∷ rs) (m ∷ ns) r n h k = (h.0, numbers_more rs ns r n h.1 k)
 
-pub lines_more : (c : ℕ) (rs : List Shape) (ns : List ℕ) (r : Shape) (n : ℕ) → AreNumbers rs ns
+pub lines_more : (c : ℕ) (rs : List Region) (ns : List ℕ) (r : Region) (n : ℕ) → AreNumbers rs ns
     → region_lines c (rs ++ r ∷ []) (ns ++ n ∷ []) ≡ region_lines c rs ns ++ solved_line c (lowest r) (length r.points) n
 lines_more c [] [] r n h = append-nil (solved_line c (lowest r) (length r.points) n)
 lines_more c [] (m ∷ ns) r n h = absurd h
@@ -25,14 +25,14 @@ lines_more c (q ∷ rs) (m ∷ ns) r n h =
     ap (λ t. solved_line c (lowest q) (length q.points) m ++ t) (lines_more c rs ns r n h.1)
     ∙ sym (append_assoc (solved_line c (lowest q) (length q.points) m) (region_lines c rs ns) (solved_line c (lowest r) (length r.points) n))
 
-pub lines_start : (c : ℕ) (rs : List Shape) (text : List ℕ) → HasLines c (take 0 rs) text text 0
+pub lines_start : (c : ℕ) (rs : List Region) (text : List ℕ) → HasLines c (take 0 rs) text text 0
 lines_start c rs text = record { numbers = []; counted = tt; lines = sym (append-nil text); whole = refl }
 
 pub sum_more : (ns : List ℕ) (n : ℕ) → sum ns + n ≡ sum (ns ++ n ∷ [])
 sum_more ns n = let e = sum_by-append (λ x. x) ns (n ∷ []) in omega (arith, e)
 
 -- one region more
-pub lines_step : (c : ℕ) (rs : List Shape) (i : ℕ) (before now after : List ℕ) (total n p points : ℕ) → HasLines c (take i rs) before now total → i < length rs
+pub lines_step : (c : ℕ) (rs : List Region) (i : ℕ) (before now after : List ℕ) (total n p points : ℕ) → HasLines c (take i rs) before now total → i < length rs
     → IsNumberOfPositions (region_at rs i) n → p ≡ lowest (region_at rs i) → points ≡ length (region_at rs i).points → after ≡ now ++ solved_line c p points n
     → HasLines c (take (i + 1) rs) before after (total + n)
 lines_step c rs i before now after total n p points h lt number low many text =
@@ -49,7 +49,7 @@ lines_step c rs i before now after total n p points h lt number low many text =
     subst (λ xs. HasLines c xs before after (total + n)) (sym (take_more rs i no_region lt)) more
 
 -- the text of the regions, piece by piece
-pub regions_is : (c : ℕ) (rs : List Shape) (a b d e : List ℕ) (total : ℕ) → b ≡ a ++ count_line (codes "regions") (length rs) → HasLines c rs b d total
+pub regions_is : (c : ℕ) (rs : List Region) (a b d e : List ℕ) (total : ℕ) → b ≡ a ++ count_line (codes "regions") (length rs) → HasLines c rs b d total
     → e ≡ d ++ count_line (codes "positions") total → HasRegions c rs a e
 regions_is c rs a b d e total first lines last = record {
   numbers = lines.numbers;

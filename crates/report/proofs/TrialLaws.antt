@@ -1,7 +1,7 @@
 -- The text of `trial`.
 use Rattle.std.proofs.Common.{◌≡◌, ◌∙◌, ◌++◌, ◌+◌, ◌<◌, ℕ, List, [], ◌∷◌, length, sum, take, ap, sym, subst, codes, append_assoc}
 use Rattle.std.proofs.lemmas.List.{take_more}
-use Rattle.go_grid.specs.Region.{Shape}
+use Rattle.go_grid.specs.Region.{Region}
 use Rattle.endgame_solver.specs.Regions.{no_region, region_at}
 use Rattle.endgame_solver.specs.Solved.{SolvedGame, IsNumberOfPositions, IsNumberOfShapes}
 use Rattle.report.specs.Solution.{HasOutcome, count_line, move_line, winner_line}
@@ -10,7 +10,7 @@ use Rattle.report.proofs.SolutionLaws.{numbers_more, sum_more}
 use Rattle.report.proofs.TextLaws.{three_more}
 
 -- one region more
-pub together_more : (rs : List Shape) (i total n : ℕ) → AreTogether (take i rs) total → i < length rs → IsNumberOfPositions (region_at rs i) n
+pub together_more : (rs : List Region) (i total n : ℕ) → AreTogether (take i rs) total → i < length rs → IsNumberOfPositions (region_at rs i) n
     → AreTogether (take (i + 1) rs) (total + n)
 together_more rs i total n (numbers, counted, whole) lt number =
     let r = region_at rs i in
@@ -18,7 +18,7 @@ together_more rs i total n (numbers, counted, whole) lt number =
     (numbers ++ n ∷ [], numbers_more (take i rs) numbers r n counted number, ap (λ t. t + n) whole ∙ sum_more numbers n)
 
 -- the counts, line by line
-pub counts_are : (number : ℕ) (rs : List Shape) (a b c d e : List ℕ) (total shapes : ℕ) → AreTogether rs total → IsNumberOfShapes rs shapes
+pub counts_are : (number : ℕ) (rs : List Region) (a b c d e : List ℕ) (total shapes : ℕ) → AreTogether rs total → IsNumberOfShapes rs shapes
     → b ≡ a ++ count_line (codes "trial") number → c ≡ b ++ count_line (codes "regions") (length rs) → d ≡ c ++ count_line (codes "positions") total
     → e ≡ d ++ count_line (codes "shapes") shapes → HasCounts number rs a e
 counts_are number rs a b c d e total shapes (numbers, counted, whole) are first second third last = record {

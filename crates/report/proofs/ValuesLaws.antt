@@ -3,7 +3,7 @@ use Rattle.std.proofs.Common.{◌≡◌, ℕ, zero, suc, ◌+◌, ◌<◌, ◌++
 use Rattle.std.specs.Prelude.{codes}
 use Rattle.std.proofs.lemmas.List.{append-nil, take_more}
 use Rattle.std.proofs.lemmas.List.Concat.{flat_map-append}
-use Rattle.go_grid.specs.Region.{Shape}
+use Rattle.go_grid.specs.Region.{Region}
 use Rattle.region_cut.specs.Cut.{lowest}
 use Rattle.game_store.specs.Tree.{Tree}
 use Rattle.game_store.specs.Meaning.{tree_at}
@@ -17,17 +17,17 @@ use Rattle.report.specs.declared.values.ValuesError.{ValuesError}
 use Rattle.report.specs.declared.values.ValuesError.TheVariants.{Form, Memory}
 use Rattle.report.specs.Values.{IsRefusal, AreEntries, Entry, HasEntries, HasEntry, HasShownValue, IsEntry, IsFirstUnshown, IsUnshown, IsValuesText, entry_lines}
 
-entries_more : (rs : List Shape) (es : List Entry) (r : Shape) (e : Entry) → AreEntries rs es → e.region ≡ r → IsEntry e → AreEntries (rs ++ r ∷ []) (es ++ e ∷ [])
+entries_more : (rs : List Region) (es : List Entry) (r : Region) (e : Entry) → AreEntries rs es → e.region ≡ r → IsEntry e → AreEntries (rs ++ r ∷ []) (es ++ e ∷ [])
 entries_more [] [] r e h at is = (at, is, tt)
 entries_more [] (d ∷ es) r e h at is = absurd h
 entries_more (q ∷ rs) [] r e h at is = absurd h
 entries_more (q ∷ rs) (d ∷ es) r e h at is = (h.0, h.1, entries_more rs es r e h.2 at is)
 
-pub entries_start : (c : ℕ) (rs : List Shape) (text : List ℕ) → HasEntries c (take 0 rs) text text
+pub entries_start : (c : ℕ) (rs : List Region) (text : List ℕ) → HasEntries c (take 0 rs) text text
 entries_start c rs text = record { entries = []; are = tt; lines = sym (append-nil text) }
 
 -- one region more
-pub entries_step : (c : ℕ) (Ts : List Tree) (rs : List Shape) (i : ℕ) (report : RegionReport) (before now after : List ℕ) → HasEntries c (take i rs) before now → i < length rs
+pub entries_step : (c : ℕ) (Ts : List Tree) (rs : List Region) (i : ℕ) (report : RegionReport) (before now after : List ℕ) → HasEntries c (take i rs) before now → i < length rs
     → IsReport Ts (region_at rs i) report → HasEntry c Ts report now after → HasEntries c (take (i + 1) rs) before after
 entries_step c Ts rs i report before now after h lt is more =
     let r = region_at rs i in
@@ -49,13 +49,13 @@ entries_step c Ts rs i report before now after h lt is more =
     subst (λ xs. HasEntries c xs before after) (sym (take_more rs i no_region lt)) made
 
 -- the value of each region with an entry is shown
-pub shown_at : (rs : List Shape) (es : List Entry) → AreEntries rs es → (j : ℕ) → j < length rs → HasShownValue (region_at rs j)
+pub shown_at : (rs : List Region) (es : List Entry) → AreEntries rs es → (j : ℕ) → j < length rs → HasShownValue (region_at rs j)
 shown_at [] es h j lt = absurd (omega (arith, lt))
 shown_at (r ∷ rs) [] h j lt = absurd h
 shown_at (r ∷ rs) (e ∷ es) h zero lt = subst HasShownValue h.0 (e.value, h.1.is_value, h.1.shown)
 shown_at (r ∷ rs) (e ∷ es) h (suc j) lt = shown_at rs es h.2 j (omega (arith, lt))
 
-region_taken : (rs : List Shape) (i j : ℕ) → j < i → i < length rs → (region_at (take i rs) j ≡ region_at rs j) × (j < length (take i rs))
+region_taken : (rs : List Region) (i j : ℕ) → j < i → i < length rs → (region_at (take i rs) j ≡ region_at rs j) × (j < length (take i rs))
 region_taken [] i j before inside = absurd (omega (arith, inside))
 region_taken (r ∷ rs) zero j before inside = absurd (omega (arith, before))
 region_taken (r ∷ rs) (suc i) zero before inside = (refl, omega arith)
@@ -64,7 +64,7 @@ region_taken (r ∷ rs) (suc i) (suc j) before inside =
     (at.0, omega (arith, at.1))
 
 -- the first region without an entry, whose value isn't shown
-pub first_unshown : (c : ℕ) (Ts : List Tree) (rs : List Shape) (i p : ℕ) (report : RegionReport) (before now : List ℕ) → HasEntries c (take i rs) before now → i < length rs
+pub first_unshown : (c : ℕ) (Ts : List Tree) (rs : List Region) (i p : ℕ) (report : RegionReport) (before now : List ℕ) → HasEntries c (take i rs) before now → i < length rs
     → IsReport Ts (region_at rs i) report → p ≡ report.lowest → IsUnshown (tree_at Ts report.value) → IsFirstUnshown rs p
 first_unshown c Ts rs i p report before now h lt is at unshown = record {
   place = i;
@@ -75,7 +75,7 @@ first_unshown c Ts rs i p report before now h lt is at unshown = record {
 }
 
 -- the text, piece by piece
-pub values_is : (c : ℕ) (rs : List Shape) (a b : List ℕ) → a ≡ count_line (codes "regions") (length rs) → HasEntries c rs a b → IsValuesText c rs b
+pub values_is : (c : ℕ) (rs : List Region) (a b : List ℕ) → a ≡ count_line (codes "regions") (length rs) → HasEntries c rs a b → IsValuesText c rs b
 values_is c rs a b first lines = record { entries = lines.entries; are = lines.are; is = lines.lines ∙ ap (λ t. t ++ flat_map (entry_lines c) lines.entries) first }
 
 -- the lines on a value, behind those of its region

@@ -2,7 +2,7 @@
 use Rattle.std.specs.Prelude.{◌≡◌, ◌↔◌, ◌++◌, ◌≤◌, ◌⊎◌, ℕ, List, [], Bool, true, false, length, codes, decimal, flat_map}
 use Rattle.go_grid.specs.declared.grid.Colour.{Colour}
 use Rattle.go_grid.specs.Chain.{InChain}
-use Rattle.go_grid.specs.Grid.{Grid, HasStone}
+use Rattle.go_grid.specs.Board.{Board, HasStone}
 use Rattle.benson_attack.specs.Attack.{IsAttack}
 use Rattle.benson_life.specs.Held.{IsNumberOf}
 use Rattle.benson_life.specs.Life.{IsAlive}
@@ -11,26 +11,26 @@ use Rattle.report.specs.Lines.{colour_word, point_name}
 use Rattle.report.specs.Listing.{ListsBelow}
 
 -- the stone is the lowest of its chain
-abbrev pub IsLowestStone : Grid → Colour → ℕ → Type 0
+abbrev pub IsLowestStone : Board → Colour → ℕ → Type 0
 IsLowestStone g c s = HasStone g c s × ((q : ℕ) → InChain g c s q → s ≤ q)
 
 -- what is said of a chain by its lowest stone: how many stones it has, and whether it is alive, with an attack where it isn't
-pub record IsChainLine (g : Grid) (l : ChainLine) : Type 0 where
+pub record IsChainLine (g : Board) (l : ChainLine) : Type 0 where
   pub lowest : IsLowestStone g l.colour l.lowest
   pub stones : IsNumberOf (InChain g l.colour l.lowest) l.stones
   pub alive : (l.alive ≡ true) ↔ IsAlive g l.colour l.lowest
   pub attack : l.alive ≡ false → IsAttack g l.colour l.lowest l.attack.items
 
 -- a line for each chain whose lowest stone is below `n`, by its lowest stone
-abbrev pub AreChainsBelow : Grid → ℕ → List ChainLine → Type 0
+abbrev pub AreChainsBelow : Board → ℕ → List ChainLine → Type 0
 AreChainsBelow g n ls = ListsBelow ChainLine (λ l. l.lowest) (IsChainLine g) (λ p. (c : Colour) × IsLowestStone g c p) n ls
 
 -- a line for each chain, by its lowest stone
-abbrev pub AreChainLines : Grid → List ChainLine → Type 0
+abbrev pub AreChainLines : Board → List ChainLine → Type 0
 AreChainLines g ls = AreChainsBelow g (length g.cells) ls
 
 -- placings that take the stone, or none where it is alive
-abbrev pub IsAttackIfAny : Grid → Colour → ℕ → List ℕ → Type 0
+abbrev pub IsAttackIfAny : Board → Colour → ℕ → List ℕ → Type 0
 IsAttackIfAny g c s placings = (IsAlive g c s × (placings ≡ [])) ⊎ ((¬ IsAlive g c s) × IsAttack g c s placings)
 
 abbrev pub life_word : Bool → List ℕ

@@ -2,9 +2,9 @@
 use Rattle.std.specs.Prelude.{◌≡◌, ◌++◌, ◌+◌, ◌*◌, ◌≤◌, ℕ, List, length, codes, decimal, flat_map, sum_by}
 use Rattle.go_grid.specs.declared.grid.Colour.{Colour}
 use Rattle.go_grid.specs.declared.grid.Colour.TheVariants.{Black, White}
-use Rattle.go_grid.specs.Grid.{Grid}
+use Rattle.go_grid.specs.Board.{Board}
 use Rattle.go_grid.specs.Marks.{Lists}
-use Rattle.go_grid.specs.Region.{Shape}
+use Rattle.go_grid.specs.Region.{Region}
 use Rattle.benson_life.specs.Groups.{IsNumberOfGroups}
 use Rattle.benson_life.specs.Held.{worth}
 use Rattle.benson_life.specs.Life.{InRegion, IsCounted}
@@ -16,11 +16,11 @@ use Rattle.report.specs.Lines.{colour_word, point_name}
 use Rattle.report.specs.Listing.{ListsBelow}
 
 -- the point is the lowest of a counted region of the colour
-abbrev pub IsLowestCounted : Grid → Colour → ℕ → Type 0
+abbrev pub IsLowestCounted : Board → Colour → ℕ → Type 0
 IsLowestCounted g c p = IsCounted g c p × ((q : ℕ) → InRegion g c p q → p ≤ q)
 
 -- what is said of a counted region by its lowest point: how many points it has, and what they are worth
-pub record IsCountedLine (g : Grid) (l : CountedLine) : Type 0 where
+pub record IsCountedLine (g : Board) (l : CountedLine) : Type 0 where
   pub lowest : IsLowestCounted g l.colour l.lowest
   pub within : List ℕ
   pub lists : Lists within (InRegion g l.colour l.lowest)
@@ -36,15 +36,15 @@ abbrev pub counted_key : CountedLine → ℕ
 counted_key l = 2 * l.lowest + turn l.colour
 
 -- the point and the colour of a key
-abbrev pub IsCountedKey : Grid → ℕ → Type 0
+abbrev pub IsCountedKey : Board → ℕ → Type 0
 IsCountedKey g k = (c : Colour) × (p : ℕ) × (k ≡ 2 * p + turn c) × IsLowestCounted g c p
 
 -- a line for each counted region whose key is below `n`, in the order of their keys
-abbrev pub AreCountedBelow : Grid → ℕ → List CountedLine → Type 0
+abbrev pub AreCountedBelow : Board → ℕ → List CountedLine → Type 0
 AreCountedBelow g n ls = ListsBelow CountedLine counted_key (IsCountedLine g) (IsCountedKey g) n ls
 
 -- a line for each counted region, by its lowest point
-abbrev pub AreCountedLines : Grid → List CountedLine → Type 0
+abbrev pub AreCountedLines : Board → List CountedLine → Type 0
 AreCountedLines g ls = AreCountedBelow g (2 * length g.cells) ls
 
 unfoldable pub counted_line : ℕ → CountedLine → List ℕ
@@ -58,17 +58,17 @@ groups_line c n = codes "groups " ++ (colour_word c ++ (codes " " ++ (decimal n 
 unfoldable pub region_line : ℕ → ℕ → ℕ → List ℕ
 region_line columns p n = codes "region " ++ (point_name columns p ++ (codes " points " ++ (decimal n ++ codes "\n")))
 
-abbrev pub shape_line : ℕ → Shape → List ℕ
+abbrev pub shape_line : ℕ → Region → List ℕ
 shape_line columns r = region_line columns (lowest r) (length r.points)
 
 -- A text of `safe` for a board: its chains, with an attack on each that is open, its counted regions, the numbers of groups and
 -- its regions of play. Which attacks are written is free.
-pub record IsSafeText (g : Grid) (text : List ℕ) : Type 0 where
+pub record IsSafeText (g : Board) (text : List ℕ) : Type 0 where
   pub chains : List ChainLine
   pub counted : List CountedLine
   pub black_groups : ℕ
   pub white_groups : ℕ
-  pub regions : List Shape
+  pub regions : List Region
   pub are_chains : AreChainLines g chains
   pub are_counted : AreCountedLines g counted
   pub are_black : IsNumberOfGroups g Black black_groups

@@ -8,7 +8,7 @@ use Rattle.whole_rules.specs.declared.states.Move.{Move}
 use Rattle.whole_rules.specs.declared.states.Move.TheVariants.{Stone, Spend, Half}
 use Rattle.whole_rules.specs.FirstWinningMove.{IsFirstWinning, IsWinner}
 use Rattle.whole_rules.specs.WholeGame.{State}
-use Rattle.go_grid.specs.Region.{Shape}
+use Rattle.go_grid.specs.Region.{Region}
 use Rattle.region_cut.specs.Cut.{lowest}
 use Rattle.endgame_solver.specs.Solved.{SolvedGame, IsNumberOfPositions}
 use Rattle.report.specs.Lines.{colour_word, point_name, word_line}
@@ -51,20 +51,20 @@ unfoldable pub solved_line : ℕ → ℕ → ℕ → ℕ → List ℕ
 solved_line columns p n positions = codes "region " ++ (point_name columns p ++ (codes " points " ++ (decimal n ++ (codes " positions " ++ (decimal positions ++ codes "\n")))))
 
 -- a line for each region with the number of its positions
-abbrev pub region_lines : ℕ → List Shape → List ℕ → List ℕ
+abbrev pub region_lines : ℕ → List Region → List ℕ → List ℕ
 region_lines columns (r ∷ regions) (n ∷ numbers) = solved_line columns (lowest r) (length r.points) n ++ region_lines columns regions numbers
 region_lines columns regions numbers = []
 
 -- how many regions there are, a line for each, and how many positions they have together
-abbrev pub regions_text : ℕ → List Shape → List ℕ → List ℕ
+abbrev pub regions_text : ℕ → List Region → List ℕ → List ℕ
 regions_text columns regions numbers = count_line (codes "regions") (length regions) ++ (region_lines columns regions numbers ++ count_line (codes "positions") (sum numbers))
 
 -- the text of `solve` for a state, its regions of play with the numbers of their positions, its winner and its first winning move
-abbrev pub solve_text : State → List Shape → List ℕ → Colour → Option Move → List ℕ
+abbrev pub solve_text : State → List Region → List ℕ → Colour → Option Move → List ℕ
 solve_text s regions numbers winner move = state_lines s ++ (regions_text s.board.columns regions numbers ++ (winner_line winner ++ move_line s.board.columns move))
 
 -- the numbers of the reachable positions of the regions, one for each
-abbrev pub AreNumbers : List Shape → List ℕ → Type 0
+abbrev pub AreNumbers : List Region → List ℕ → Type 0
 AreNumbers [] [] = ⊤
 AreNumbers (r ∷ regions) (n ∷ numbers) = IsNumberOfPositions r n × AreNumbers regions numbers
 AreNumbers regions numbers = ⊥
@@ -80,14 +80,14 @@ pub record IsSolveText (game : SolvedGame) (text : List ℕ) : Type 0 where
   pub is : text ≡ solve_text game.state game.regions numbers winner move
 
 -- behind the text stand the lines of the regions, and this is how many positions they have together
-pub record HasLines (columns : ℕ) (regions : List Shape) (before now : List ℕ) (total : ℕ) : Type 0 where
+pub record HasLines (columns : ℕ) (regions : List Region) (before now : List ℕ) (total : ℕ) : Type 0 where
   pub numbers : List ℕ
   pub counted : AreNumbers regions numbers
   pub lines : now ≡ before ++ region_lines columns regions numbers
   pub whole : total ≡ sum numbers
 
 -- behind the text stands what is said of the regions
-pub record HasRegions (columns : ℕ) (regions : List Shape) (before now : List ℕ) : Type 0 where
+pub record HasRegions (columns : ℕ) (regions : List Region) (before now : List ℕ) : Type 0 where
   pub numbers : List ℕ
   pub counted : AreNumbers regions numbers
   pub text : now ≡ before ++ regions_text columns regions numbers

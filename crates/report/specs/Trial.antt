@@ -1,14 +1,14 @@
 -- The text of `trial`.
 use Rattle.std.specs.Prelude.{◌≡◌, ◌++◌, ℕ, List, length, sum, codes, Option}
 use Rattle.go_grid.specs.declared.grid.Colour.{Colour}
-use Rattle.go_grid.specs.Region.{Shape}
+use Rattle.go_grid.specs.Region.{Region}
 use Rattle.whole_rules.specs.declared.states.Move.{Move}
 use Rattle.whole_rules.specs.FirstWinningMove.{IsFirstWinning, IsWinner}
 use Rattle.endgame_solver.specs.Solved.{SolvedGame, IsNumberOfShapes}
 use Rattle.report.specs.Solution.{AreNumbers, count_line, move_line, winner_line}
 
 -- the number, how many regions there are, how many positions they have together, and of how many different shapes they are
-abbrev pub counts_text : ℕ → List Shape → List ℕ → ℕ → List ℕ
+abbrev pub counts_text : ℕ → List Region → List ℕ → ℕ → List ℕ
 counts_text number regions numbers shapes =
     count_line (codes "trial") number ++ (count_line (codes "regions") (length regions) ++ (count_line (codes "positions") (sum numbers)
     ++ count_line (codes "shapes") shapes))
@@ -26,11 +26,11 @@ pub record IsTrialText (number : ℕ) (game : SolvedGame) (text : List ℕ) : Ty
   pub is : text ≡ counts_text number game.regions numbers shapes ++ (winner_line winner ++ move_line game.state.board.columns move)
 
 -- so many positions do the regions have together
-abbrev pub AreTogether : List Shape → ℕ → Type 0
+abbrev pub AreTogether : List Region → ℕ → Type 0
 AreTogether regions total = (numbers : List ℕ) × AreNumbers regions numbers × (total ≡ sum numbers)
 
 -- behind the text stand the counts
-pub record HasCounts (number : ℕ) (regions : List Shape) (before now : List ℕ) : Type 0 where
+pub record HasCounts (number : ℕ) (regions : List Region) (before now : List ℕ) : Type 0 where
   pub numbers : List ℕ
   pub shapes : ℕ
   pub counted : AreNumbers regions numbers

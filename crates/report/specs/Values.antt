@@ -1,6 +1,6 @@
 -- The text of `values`: the value of each region's opening, with its stops and its thermograph.
 use Rattle.std.specs.Prelude.{◌≡◌, ◌<◌, ⊤, ◌++◌, [], ◌∷◌, ℕ, List, length, flat_map, codes}
-use Rattle.go_grid.specs.Region.{Shape}
+use Rattle.go_grid.specs.Region.{Region}
 use Rattle.region_cut.specs.Cut.{lowest}
 use Rattle.game_store.specs.Tree.{Tree}
 use Rattle.game_store.specs.Meaning.{tree_at}
@@ -18,14 +18,14 @@ use Rattle.game_lines.specs.Showings.{game_lines}
 pub use Rattle.game_lines.specs.Showings.{IsUnshown}
 
 -- the value of the region's opening is shown, or isn't
-abbrev pub HasShownValue : Shape → Type 0
+abbrev pub HasShownValue : Region → Type 0
 HasShownValue r = (G : Tree) × IsValueOf r.touch r.cells G × (IsUnshown G → ⊥)
 
-abbrev pub HasUnshownValue : Shape → Type 0
+abbrev pub HasUnshownValue : Region → Type 0
 HasUnshownValue r = (G : Tree) × IsValueOf r.touch r.cells G × IsUnshown G
 
 -- the point is the lowest of the first region whose value isn't shown
-pub record IsFirstUnshown (regions : List Shape) (p : ℕ) : Type 0 where
+pub record IsFirstUnshown (regions : List Region) (p : ℕ) : Type 0 where
   pub place : ℕ
   pub inside : place < length regions
   pub lowest_point : p ≡ lowest (region_at regions place)
@@ -34,7 +34,7 @@ pub record IsFirstUnshown (regions : List Shape) (p : ℕ) : Type 0 where
 
 -- what is shown of a region: how many positions are reachable, the value of its opening, and what is drawn of the value
 pub record Entry : Type 0 where
-  pub region : Shape
+  pub region : Region
   pub positions : ℕ
   pub value : Tree
   pub picture : Picture
@@ -49,13 +49,13 @@ abbrev pub entry_lines : ℕ → Entry → List ℕ
 entry_lines columns e = solved_line columns (lowest e.region) (length e.region.points) e.positions ++ game_lines (named_text e.value) e.picture
 
 -- an entry for each region
-abbrev pub AreEntries : List Shape → List Entry → Type 0
+abbrev pub AreEntries : List Region → List Entry → Type 0
 AreEntries [] [] = ⊤
 AreEntries (r ∷ regions) (e ∷ entries) = (e.region ≡ r) × IsEntry e × AreEntries regions entries
 AreEntries regions entries = ⊥
 
 -- the text of `values` for the regions of play of a board with so many columns
-pub record IsValuesText (columns : ℕ) (regions : List Shape) (text : List ℕ) : Type 0 where
+pub record IsValuesText (columns : ℕ) (regions : List Region) (text : List ℕ) : Type 0 where
   pub entries : List Entry
   pub are : AreEntries regions entries
   pub is : text ≡ count_line (codes "regions") (length regions) ++ flat_map (entry_lines columns) entries
@@ -73,7 +73,7 @@ pub record HasEntry (columns : ℕ) (Ts : List Tree) (report : RegionReport) (be
   pub lines : now ≡ before ++ (solved_line columns report.lowest report.points report.positions ++ game_lines (named_text (tree_at Ts report.value)) picture)
 
 -- behind the text stand the lines of the regions
-pub record HasEntries (columns : ℕ) (regions : List Shape) (before now : List ℕ) : Type 0 where
+pub record HasEntries (columns : ℕ) (regions : List Region) (before now : List ℕ) : Type 0 where
   pub entries : List Entry
   pub are : AreEntries regions entries
   pub lines : now ≡ before ++ flat_map (entry_lines columns) entries

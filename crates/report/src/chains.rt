@@ -3,7 +3,7 @@
 ghost use Rattle.std.specs.Prelude.{◌≡◌, ◌↔◌, ◌++◌, ◌+◌, ◌*◌, ◌<◌, [], ℕ, true, false, All, OnOk, IfOk, flat_map, length, string_bytes};
 ghost use Rattle.go_grid.specs.declared.grid.Colour.{Colour};
 ghost use Rattle.go_grid.specs.Chain.{IsSettled, StoneAt};
-ghost use Rattle.go_grid.specs.Grid.{HasStone};
+ghost use Rattle.go_grid.specs.Board.{HasStone};
 ghost use Rattle.benson_attack.specs.Attacks.{AreAttacks};
 ghost use Rattle.report.specs.Chains.{AreChainLines, AreChainsBelow, IsAttackIfAny, attack_line, chain_line, chain_lines, life_word, placing};
 

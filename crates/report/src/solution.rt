@@ -1,7 +1,7 @@
 //! The text of `solve`.
 
 ghost use Rattle.std.specs.Prelude.{◌≡◌, ◌<◌, ◌*◌, ◌++◌, OnOk, IfOk, IfSome, MatchOption, string_bytes, Some};
-ghost use Rattle.go_grid.specs.Grid.{other};
+ghost use Rattle.go_grid.specs.Board.{other};
 ghost use Rattle.report.specs.Solution.{HasLines, HasOutcome, HasRegions, IsMoveOnBoard, IsSolveText, count_line, move_line, purse_line, solved_line, state_lines, token_word, winner_line};
 
 use crate::lines::{colour_word, write_name, write_point};

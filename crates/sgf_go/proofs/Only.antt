@@ -7,7 +7,7 @@ use Rattle.std.proofs.lemmas.Nat.{div-add-mod'}
 use Rattle.go_grid.specs.declared.grid.Colour.{Colour}
 use Rattle.go_grid.specs.declared.grid.Cell.{Cell}
 use Rattle.go_grid.specs.declared.grid.Cell.TheVariants.{Empty}
-use Rattle.go_grid.specs.Grid.{Grid, cell_at, other}
+use Rattle.go_grid.specs.Board.{Board, cell_at, other}
 use Rattle.go_grid.specs.Chain.{HasLiberty, IsSettled, IsFirstChoked}
 use Rattle.go_play.specs.Place.{with_stone, IsTaken, IsWithout, IsPlaced, IsSuicide, Answers, is_stone}
 use Rattle.go_play.specs.declared.placing.PlaceError.{PlaceError}
@@ -26,25 +26,25 @@ use Rattle.sgf_go.proofs.Points.{point_not_corners}
 use Rattle.sgf_go.proofs.Sizes.{square_only, sides_only, side_lacks, joint_within, at_joint, in_front}
 
 -- two boards of one size with the same cells
-same_board : (h k : Grid) → h.columns ≡ k.columns → h.rows ≡ k.rows → length h.cells ≡ length k.cells → ((q : ℕ) → q < length h.cells → ¬ ¬ (cell_at h q ≡ cell_at k q)) → h ≡ k
+same_board : (h k : Board) → h.columns ≡ k.columns → h.rows ≡ k.rows → length h.cells ≡ length k.cells → ((q : ℕ) → q < length h.cells → ¬ ¬ (cell_at h q ≡ cell_at k q)) → h ≡ k
 same_board h k c r l s =
     let cells : h.cells ≡ k.cells = ext_get_or Empty h.cells k.cells l (λ q b. cell_stable (cell_at h q) (cell_at k q) (s q b)) in
     λ i. record { columns = c i; rows = r i; cells = cells i }
 
-one_set : (g h k : Grid) (In : ℕ → Type 0) (c : Cell) → IsSet g In c h → IsSet g In c k → h ≡ k
+one_set : (g h k : Board) (In : ℕ → Type 0) (c : Cell) → IsSet g In c h → IsSet g In c k → h ≡ k
 one_set g h k In c a b = same_board h k (a.columns ∙ sym b.columns) (a.rows ∙ sym b.rows) (a.long ∙ sym b.long) (λ q l differ.
     let out : ¬ In q = λ i. differ (a.set q (omega (arith, l, a.long)) i ∙ sym (b.set q (omega (arith, l, a.long)) i)) in
     differ (a.kept q out ∙ sym (b.kept q out)))
 
-one_without : (g h k : Grid) (Gone : ℕ → Type 0) → IsWithout g Gone h → IsWithout g Gone k → h ≡ k
+one_without : (g h k : Board) (Gone : ℕ → Type 0) → IsWithout g Gone h → IsWithout g Gone k → h ≡ k
 one_without g h k Gone a b = same_board h k (a.columns ∙ sym b.columns) (a.rows ∙ sym b.rows) (a.long ∙ sym b.long) (λ q l differ.
     let out : ¬ Gone q = λ i. differ (a.gone q i ∙ sym (b.gone q i)) in
     differ (a.kept q out ∙ sym (b.kept q out)))
 
-suicide_not_placed : (g h : Grid) (p : ℕ) (c : Colour) → IsSuicide g p c → ¬ IsPlaced g p c h
+suicide_not_placed : (g h : Board) (p : ℕ) (c : Colour) → IsSuicide g p c → ¬ IsPlaced g p c h
 suicide_not_placed g h p c s d = s.2 (subst (λ k. HasLiberty k c p) (one_without (with_stone g p c) h s.0 (IsTaken (with_stone g p c) p (other c)) d.without s.1) d.breathes)
 
-one_placing : (node : ℕ) (c : Colour) (s : Replay) (p : ℕ) (h k : Grid) (x y : Result ℕ PlaceError) → Answers s.board p c h x → Answers s.board p c k y → placed node c s h x ≡ placed node c s k y
+one_placing : (node : ℕ) (c : Colour) (s : Replay) (p : ℕ) (h k : Board) (x y : Result ℕ PlaceError) → Answers s.board p c h x → Answers s.board p c k y → placed node c s h x ≡ placed node c s k y
 one_placing node c s p h k (Ok n) (Ok m) a b =
     let board = one_without (with_stone s.board p c) h k (IsTaken (with_stone s.board p c) p (other c)) a.0.without b.0.without in
     let taken : n ≡ m = omega (arith, a.1, b.1, ap (λ g. count_by is_stone g.cells) board) in
@@ -124,7 +124,7 @@ chooses_one node c pass s r q a b = a ∙ sym b
 chooses_one node c nothing s r q a b = a ∙ sym b
 chooses_one node c (stone_at p) s r q (h, x, a, e) (k, y, b, f) = e ∙ one_placing node c s p h k x y a b ∙ sym f
 
-one_choice : (g : Grid) (text : List ℕ) (x y : Choice) → IsChoice g text x → IsChoice g text y → x ≡ y
+one_choice : (g : Board) (text : List ℕ) (x y : Choice) → IsChoice g text x → IsChoice g text y → x ≡ y
 one_choice g text pass pass a b = refl
 one_choice g text nothing nothing a b = refl
 one_choice g text (stone_at p) (stone_at q) a b = ap stone_at (one_point g.columns g.rows text p q a.1 b.1)
@@ -152,7 +152,7 @@ line_one after turn node (ps ∷ line) = λ s. unless_one (ends_before after ps 
     unless_one true P d = skips_one
     unless_one false P d = d
 
-one_choked : (g : Grid) (p q : ℕ) → IsFirstChoked g p → IsFirstChoked g q → p ≡ q
+one_choked : (g : Board) (p q : ℕ) → IsFirstChoked g p → IsFirstChoked g q → p ≡ q
 one_choked g p q a b = elim (cases_lt p q) [
   | inl l ↦ absurd (b.lowest p l a.choked)
   | inr l ↦ elim (cases_lt q p) [
@@ -161,7 +161,7 @@ one_choked g p q a b = elim (cases_lt p q) [
   ]
 ]
 
-settled_not_choked : (g : Grid) (p : ℕ) → IsSettled g → ¬ IsFirstChoked g p
+settled_not_choked : (g : Board) (p : ℕ) → IsSettled g → ¬ IsFirstChoked g p
 settled_not_choked g p s f = f.choked.2 (s f.choked.0 p f.choked.1)
 
 ends_one : (settings : Settings) (komi : ℤ) (m : Result Replay SetupFault) (a b : Result Setup SetupFault) → Ends settings komi m a → Ends settings komi m b → a ≡ b

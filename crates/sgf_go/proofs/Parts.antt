@@ -5,7 +5,7 @@ use Rattle.std.specs.Option.{option_map}
 use Rattle.std.proofs.lemmas.List.{drop_more, drop_all}
 use Rattle.std.proofs.lemmas.Result.{err_from_is_err_and}
 use Rattle.std.proofs.lemmas.List.Sums.{count_by-le-length}
-use Rattle.go_grid.specs.Grid.{Grid}
+use Rattle.go_grid.specs.Board.{Board}
 use Rattle.go_grid.specs.declared.grid.Colour.{Colour}
 use Rattle.go_grid.specs.declared.grid.Colour.TheVariants as colour
 use Rattle.go_grid.specs.declared.grid.Cell.{Cell}
@@ -24,7 +24,7 @@ use Rattle.sgf_go.specs.declared.fault.SetupFault.TheVariants.{BadPoint}
 pub sets_nothing : (node : ℕ) (c : Cell) (text : List ℕ) (s : Replay) → text ≡ [] → SetsValue node c text s (Ok s)
 sets_nothing node c text s e = subst (λ x. SetsValue node c x s (Ok s)) (sym e) refl
 
-pub sets_area : (node : ℕ) (c : Cell) (text : List ℕ) (s : Replay) (area : Area) (h : Grid) → text ≢ [] → Says (IsArea s.board.columns s.board.rows text) (option_map rectangle (Some area))
+pub sets_area : (node : ℕ) (c : Cell) (text : List ℕ) (s : Replay) (area : Area) (h : Board) → text ≢ [] → Says (IsArea s.board.columns s.board.rows text) (option_map rectangle (Some area))
     → IsSet s.board (IsIn s.board.columns (rectangle area)) c h → SetsValue node c text s (Ok (record s { board = h }))
 sets_area node c [] s area h n e i = absurd (n refl)
 sets_area node c (b ∷ bs) s area h n e i = (Some (rectangle area), e, (h, i, refl))
@@ -33,7 +33,7 @@ pub sets_fault : (node : ℕ) (c : Cell) (text : List ℕ) (s : Replay) → text
 sets_fault node c [] s n e = absurd (n refl)
 sets_fault node c (b ∷ bs) s n e = (None, e, refl)
 
-pub counts_move : (c : Colour) (n : ℕ) (s : Replay) (g h : Grid) → Counts s → length g.cells ≤ 625 → IsNumberTaken g h n → Counts (moved c (with_taken c n (record s { board = h })))
+pub counts_move : (c : Colour) (n : ℕ) (s : Replay) (g h : Board) → Counts s → length g.cells ≤ 625 → IsNumberTaken g h n → Counts (moved c (with_taken c n (record s { board = h })))
 counts_move colour.Black n s g h k l t =
     let few = count_by-le-length is_stone g.cells in
     record { black = omega (arith, k.black, l, t, few); white = omega (arith, k.white) }

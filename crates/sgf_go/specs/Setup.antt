@@ -8,7 +8,7 @@ use Rattle.go_grid.specs.declared.grid.Colour.{Colour}
 use Rattle.go_grid.specs.declared.grid.Colour.TheVariants as colour
 use Rattle.go_grid.specs.declared.grid.Cell.{Cell}
 use Rattle.go_grid.specs.declared.grid.Cell.TheVariants as cell
-use Rattle.go_grid.specs.Grid.{Grid, cell_at, other}
+use Rattle.go_grid.specs.Board.{Board, cell_at, other}
 use Rattle.go_grid.specs.Chain.{IsSettled, IsFirstChoked}
 use Rattle.go_play.specs.Place.{Answers}
 use Rattle.go_play.specs.declared.placing.PlaceError.{PlaceError}
@@ -70,7 +70,7 @@ value_of name [] = None
 value_of name (p ∷ ps) = if is_named p name then Some (first_value p) else value_of name ps
 
 -- `h` is `g` with each point of `In` set to the cell
-pub record IsSet (g : Grid) (In : ℕ → Type 0) (c : Cell) (h : Grid) : Type 0 where
+pub record IsSet (g : Board) (In : ℕ → Type 0) (c : Cell) (h : Board) : Type 0 where
   pub columns : h.columns ≡ g.columns
   pub rows : h.rows ≡ g.rows
   pub long : length h.cells ≡ length g.cells
@@ -80,7 +80,7 @@ pub record IsSet (g : Grid) (In : ℕ → Type 0) (c : Cell) (h : Grid) : Type 0
 -- sets a rectangle
 abbrev pub Sets : ℕ → Cell → Option Rectangle → Part
 Sets node c None s r = r ≡ Err (BadPoint node)
-Sets node c (Some area) s r = (h : Grid) × IsSet s.board (IsIn s.board.columns area) c h × (r ≡ Ok (record s { board = h }))
+Sets node c (Some area) s r = (h : Board) × IsSet s.board (IsIn s.board.columns area) c h × (r ≡ Ok (record s { board = h }))
 
 -- a value of AB, AW or AE
 abbrev pub SetsValue : ℕ → Cell → List ℕ → Part
@@ -127,7 +127,7 @@ abbrev pub moved : Colour → Replay → Replay
 moved c s = record s { side = other c; played = s.played + 1 }
 
 -- how things stand behind a move at a point, by what placing its stone answers
-abbrev pub placed : ℕ → Colour → Replay → Grid → Result ℕ PlaceError → Result Replay SetupFault
+abbrev pub placed : ℕ → Colour → Replay → Board → Result ℕ PlaceError → Result Replay SetupFault
 placed node c s h (Ok taken) = Ok (moved c (with_taken c taken (record s { board = h })))
 placed node c s h (Err place.Occupied) = Err (Occupied node)
 placed node c s h (Err place.Suicide) = Err (Suicide node)
@@ -139,12 +139,12 @@ pub data Choice : Type 0 where
   nothing : Choice
 
 -- a pass is an empty text, or `tt` where the board has at most 19 columns and rows
-abbrev pub is_pass : Grid → List ℕ → Bool
+abbrev pub is_pass : Board → List ℕ → Bool
 is_pass g [] = true
 is_pass g (b ∷ bs) = bytes_eq (b ∷ bs) (codes "tt") && (nat_le g.columns 19 && nat_le g.rows 19)
 
 -- what a text says as a move on a board
-abbrev pub IsChoice : Grid → List ℕ → Choice → Type 0
+abbrev pub IsChoice : Board → List ℕ → Choice → Type 0
 IsChoice g text pass = is_pass g text ≡ true
 IsChoice g text (stone_at p) = (is_pass g text ≡ false) × IsPoint g.columns g.rows text p
 IsChoice g text nothing = (is_pass g text ≡ false) × ((p : ℕ) → ¬ IsPoint g.columns g.rows text p)
@@ -152,7 +152,7 @@ IsChoice g text nothing = (is_pass g text ≡ false) × ((p : ℕ) → ¬ IsPoin
 abbrev pub Chooses : ℕ → Colour → Choice → Part
 Chooses node c pass s r = r ≡ Ok (moved c s)
 Chooses node c nothing s r = r ≡ Err (BadPoint node)
-Chooses node c (stone_at p) s r = (h : Grid) × (answer : Result ℕ PlaceError) × Answers s.board p c h answer × (r ≡ placed node c s h answer)
+Chooses node c (stone_at p) s r = (h : Board) × (answer : Result ℕ PlaceError) × Answers s.board p c h answer × (r ≡ placed node c s h answer)
 
 -- who moves by a property
 abbrev pub mover : PropertyText → Option Colour

@@ -2,7 +2,7 @@
 use Rattle.std.proofs.Common.{ℕ, ℤ, zero, suc, ◌≡◌, ◌<◌, ◌⊎◌, ◌↔◌, ◌∙◌, inl, inr, refl, arith, sym, subst, List, length, get_or, set}
 use Rattle.go_grid.specs.declared.grid.Colour.{Colour}
 use Rattle.go_grid.specs.declared.grid.Colour.TheVariants.{Black, White}
-use Rattle.go_grid.specs.Grid.{other}
+use Rattle.go_grid.specs.Board.{other}
 use Rattle.game_store.specs.Tree.{Tree, Trees, none, more, Has}
 use Rattle.game_store.specs.Order.{◌≡ᵍ◌}
 use Rattle.game_store.specs.Sum.{◌+ᵍ◌, total}

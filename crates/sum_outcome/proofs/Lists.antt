@@ -5,7 +5,7 @@ use Rattle.std.proofs.lemmas.List.{get_or-set_same, get_or-set_other, length-set
 use Rattle.std.proofs.lemmas.List.Sums.{sum_by-set}
 use Rattle.go_grid.specs.declared.grid.Colour.{Colour}
 use Rattle.go_grid.specs.declared.grid.Colour.TheVariants.{Black, White}
-use Rattle.go_grid.specs.Grid.{other}
+use Rattle.go_grid.specs.Board.{other}
 use Rattle.game_store.specs.Tree.{Tree, Trees, none, more, Has}
 use Rattle.game_store.specs.Sum.{◌+ᵍ◌, total}
 use Rattle.game_store.specs.Number.{IsNumberTree}

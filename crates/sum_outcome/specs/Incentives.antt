@@ -8,7 +8,7 @@ use Rattle.game_store.specs.Order.{◌≤ᵍ◌}
 use Rattle.game_store.specs.Meaning.{tree_at, pick, number_tree}
 use Rattle.game_store.specs.Sum.{◌+ᵍ◌, total}
 use Rattle.game_canon.specs.Players.{LosesGame}
-use Rattle.go_grid.specs.Grid.{other}
+use Rattle.go_grid.specs.Board.{other}
 use Rattle.game_canon.specs.Laws.{incentive}
 use Rattle.game_canon.specs.SumComparisons.{AreComparisonsRight}
 use Rattle.sum_outcome.specs.Search.{IsMove, put}

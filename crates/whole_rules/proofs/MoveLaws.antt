@@ -4,7 +4,7 @@ use Rattle.std.proofs.lemmas.Bool.{cases_eq, cases_lt}
 use Rattle.std.specs.List.{Contains}
 use Rattle.std.proofs.lemmas.List.Elements.{Contains-get_or, Contains-push, Contains-push_cases, Contains-append_left}
 use Rattle.std.proofs.lemmas.List.{length_push, get_or_append_left, get_or_push}
-use Rattle.go_grid.specs.Grid.{Grid}
+use Rattle.go_grid.specs.Board.{Board}
 use Rattle.go_grid.specs.Marks.{IsMarked}
 use Rattle.std.specs.Prelude.{Err}
 use Rattle.go_play.specs.Place.{IsPlaced, IsNumberTaken, Answers}
@@ -84,7 +84,7 @@ moves_all s ms le w = record {
     below Spend h = omega arith
     below Half h = omega arith
 
-pub legal_stone : (s : State) (p : ℕ) → IsMarked s.contested p → (h : Grid) (n : ℕ) → IsPlaced s.board p s.side h → IsNumberTaken s.board h n → IsLegal s (Stone p)
+pub legal_stone : (s : State) (p : ℕ) → IsMarked s.contested p → (h : Board) (n : ℕ) → IsPlaced s.board p s.side h → IsNumberTaken s.board h n → IsLegal s (Stone p)
 legal_stone s p m h n d t = (after h (paid_in s.side n s.purses) s, (m, (h, (n, d, t, refl))))
 
 -- no move ranks below n
@@ -160,6 +160,6 @@ refused_not_legal s Half Suicide r l = r
 refused_not_legal s Half EmptyPurse r l = r
 
 -- where no stone may be placed
-pub refused_stone : (s : State) (p : ℕ) (h : Grid) (e : PlaceError) → Answers s.board p s.side h (Err e) → ¬ IsLegal s (Stone p)
+pub refused_stone : (s : State) (p : ℕ) (h : Board) (e : PlaceError) → Answers s.board p s.side h (Err e) → ¬ IsLegal s (Stone p)
 refused_stone s p h placing.Occupied a l = a.1 l.1.1.1.1.free
 refused_stone s p h placing.Suicide a l = suicide_not_placed s.board l.1.1.0 p s.side a.2 l.1.1.1.1

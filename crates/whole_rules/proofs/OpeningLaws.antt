@@ -2,7 +2,7 @@
 use Rattle.std.proofs.Common.{◌≡◌, ℕ, ◌+◌, ◌-◌, ◌*◌, ◌≤◌, sym, ap, subst, ◌∙◌, List, Bool, true, ℤ, arith}
 use Rattle.go_grid.specs.declared.grid.Colour.{Colour}
 use Rattle.go_grid.specs.declared.grid.Colour.TheVariants.{Black, White}
-use Rattle.go_grid.specs.Grid.{Grid}
+use Rattle.go_grid.specs.Board.{Board}
 use Rattle.go_grid.specs.Marks.{Marks}
 use Rattle.benson_life.specs.Groups.{IsNumberOfGroups}
 use Rattle.benson_life.specs.Held.{IsHeld}
@@ -12,12 +12,12 @@ use Rattle.whole_rules.specs.WholeGame.{State}
 use Rattle.whole_rules.specs.Opening.{komi_points, komi_token, IsOpening, IsStart}
 
 -- what is held pays for groups
-pub starts : (g : Grid) (c : Colour) (held groups : ℕ) → IsNumberOfGroups g c groups → IsHeld g c held → 2 * groups ≤ held
+pub starts : (g : Board) (c : Colour) (held groups : ℕ) → IsNumberOfGroups g c groups → IsHeld g c held → 2 * groups ≤ held
     → IsStart g c true (held - 2 * groups)
 starts g c held groups n h pays =
     let same : held ≡ held - 2 * groups + 2 * groups = omega (arith, pays) in (groups, n, subst (IsHeld g c) same h)
 
-pub opens : (g b : Grid) (marks : List Bool) (m : Purses) (c : Colour) (s : State) (x y bp wp : ℕ) (k : ℤ) (tax : Bool)
+pub opens : (g b : Board) (marks : List Bool) (m : Purses) (c : Colour) (s : State) (x y bp wp : ℕ) (k : ℤ) (tax : Bool)
     → s ≡ record { board = b; contested = marks; purses = m; side = c } → b ≡ g → Marks marks (IsContested g)
     → m ≡ record { black = x + bp + komi_points Black k; white = y + wp + komi_points White k; token = komi_token k }
     → IsStart g Black tax x → IsStart g White tax y → IsOpening g bp wp k c tax s

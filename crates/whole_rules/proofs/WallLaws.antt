@@ -2,11 +2,11 @@
 use Rattle.std.proofs.Common.{◌≡◌, ◌≢◌, ℕ, ◌<◌, List, [], ◌∷◌, Bool, refl, sym, ap, ◌∙◌, subst, ℤ}
 use Rattle.go_grid.specs.declared.grid.Colour.{Colour}
 use Rattle.go_grid.specs.declared.grid.Colour.TheVariants as colour
-use Rattle.go_grid.specs.Grid.{Grid, NextTo, HasStone, IsEmpty, Lacks, cell_at, stone, other}
+use Rattle.go_grid.specs.Board.{Board, NextTo, HasStone, IsEmpty, Lacks, cell_at, stone, other}
 use Rattle.go_grid.specs.Walk.{Joined}
 use Rattle.go_grid.specs.Marks.{Marks}
 use Rattle.go_grid.specs.Chain.{InChain, HasLiberty, IsLiberty, IsSettled}
-use Rattle.go_grid.proofs.GridLemmas.{same_stone}
+use Rattle.go_grid.proofs.BoardLemmas.{same_stone}
 use Rattle.go_grid.proofs.WalkLemmas.{joined_step, joined_end, joined_more}
 use Rattle.benson_life.specs.Life.{InRegion, IsAlive, IsCounted}
 use Rattle.benson_life.specs.Region.{IsContested}
@@ -22,13 +22,13 @@ use Rattle.whole_rules.specs.Opening.{IsOpening}
 use Rattle.whole_rules.specs.Walls.{Plays, WallsLast}
 
 -- an empty point, and a stone of another colour, lacks the colour
-empty_lacks : (g : Grid) (c : Colour) (p : ℕ) → IsEmpty g p → Lacks g c p
+empty_lacks : (g : Board) (c : Colour) (p : ℕ) → IsEmpty g p → Lacks g c p
 empty_lacks g c p e = (e.0, λ h. empty_not_stone c (sym e.1 ∙ h))
 
-stone_lacks : (g : Grid) (c d : Colour) (p : ℕ) → d ≢ c → HasStone g d p → Lacks g c p
+stone_lacks : (g : Board) (c d : Colour) (p : ℕ) → d ≢ c → HasStone g d p → Lacks g c p
 stone_lacks g c d p ne h = (h.0, λ e. ne (same_stone d c (sym h.1 ∙ e)))
 
-module _ (g : Grid) where
+module _ (g : Board) where
   alive_stone : (c : Colour) (s : ℕ) → IsAlive g c s → HasStone g c s
   alive_stone c s a = a.1.stones s a.2
 
@@ -40,9 +40,9 @@ module _ (g : Grid) where
       (l.0, joined_step g.columns (Lacks g c) q t.0 l.0 walk t.2 (empty_lacks g c l.0 l.1.0), l.1)
 
   module _ (settled : IsSettled g) where
-    module _ (h : Grid) (walls : WallsStand g h) where
-      module _ (p : ℕ) (c : Colour) (k : Grid) (contested : IsContested g p) (placed : IsPlaced h p c k) where
-        abbrev b : Grid
+    module _ (h : Board) (walls : WallsStand g h) where
+      module _ (p : ℕ) (c : Colour) (k : Board) (contested : IsContested g p) (placed : IsPlaced h p c k) where
+        abbrev b : Board
         b = with_stone h p c
 
         counted_elsewhere : (d : Colour) (q : ℕ) → IsCounted g d q → q ≢ p
@@ -103,17 +103,17 @@ module _ (g : Grid) where
         }
 
 -- what each play keeps
-pub record Keeps (g : Grid) (s : State) : Type 0 where
+pub record Keeps (g : Board) (s : State) : Type 0 where
   pub walls : WallsStand g s.board
   pub contested : Marks s.contested (IsContested g)
 
-pub keeps_start : (g : Grid) (black white : ℕ) (komi : ℤ) (side : Colour) (tax : Bool) (s : State) → IsOpening g black white komi side tax s → Keeps g s
+pub keeps_start : (g : Board) (black white : ℕ) (komi : ℤ) (side : Colour) (tax : Bool) (s : State) → IsOpening g black white komi side tax s → Keeps g s
 keeps_start g black white komi side tax s o = record {
   walls = subst (λ b. WallsStand g b) (sym o.board) record { columns = refl; long = refl; stones = λ c t a. alive_stone g c t a; counted = λ c p w. refl };
   contested = o.contested;
 }
 
-pub keeps_move : (g : Grid) → IsSettled g → (s t : State) (m : Move) → Keeps g s → IsMove s m t → Keeps g t
+pub keeps_move : (g : Board) → IsSettled g → (s t : State) (m : Move) → Keeps g s → IsMove s m t → Keeps g t
 keeps_move g settled s t (Stone p) w m = record {
   walls = subst (λ z. WallsStand g z.board) (sym m.1.1.3) (walls_step g settled s.board w.walls p s.side m.1.0 ((w.contested p).0 m.0) m.1.1.1);
   contested = subst (λ z. Marks z.contested (IsContested g)) (sym m.1.1.3) w.contested;
@@ -127,7 +127,7 @@ keeps_move g settled s t Half w m = record {
   contested = subst (λ z. Marks z.contested (IsContested g)) (sym m.1) w.contested;
 }
 
-pub keeps_plays : (g : Grid) → IsSettled g → (s t : State) (ms : List Move) → Keeps g s → Plays s ms t → Keeps g t
+pub keeps_plays : (g : Board) → IsSettled g → (s t : State) (ms : List Move) → Keeps g s → Plays s ms t → Keeps g t
 keeps_plays g settled s t [] w e = subst (Keeps g) e w
 keeps_plays g settled s t (m ∷ ms) w e = keeps_plays g settled e.0 t ms (keeps_move g settled s e.0 m w e.1) e.2
 

@@ -1,7 +1,7 @@
 -- The winner of a state and its first winning move, and the laws that no state has two outcomes or two winners.
 use Rattle.std.specs.Prelude.{ℕ, ◌≡◌, ◌≤◌, ◌⊎◌, Option, Some, None}
 use Rattle.go_grid.specs.declared.grid.Colour.{Colour}
-use Rattle.go_grid.specs.Grid.{other}
+use Rattle.go_grid.specs.Board.{other}
 use Rattle.whole_rules.specs.declared.states.Move.{Move}
 use Rattle.whole_rules.specs.PlainRecursion.{WinsWithin, LosesWithin, MoverWins, MoverLoses}
 use Rattle.whole_rules.specs.WholeGame.{State, Leads, IsMove, rank}

@@ -2,7 +2,7 @@
 use Rattle.std.specs.Prelude.{ℕ, suc, ◌≡◌, ◌+◌, ◌*◌, ◌/◌, ◌%◌, ℤ, pos, negsuc, cond, nat_eq, Bool, true, false}
 use Rattle.go_grid.specs.declared.grid.Colour.{Colour}
 use Rattle.go_grid.specs.declared.grid.Colour.TheVariants.{Black, White}
-use Rattle.go_grid.specs.Grid.{Grid}
+use Rattle.go_grid.specs.Board.{Board}
 use Rattle.go_grid.specs.Marks.{Marks}
 use Rattle.benson_life.specs.Groups.{IsNumberOfGroups}
 use Rattle.benson_life.specs.Held.{IsHeld}
@@ -24,12 +24,12 @@ komi_token (pos n) = cond (nat_eq (n % 2) 0) token.Nobody token.White
 komi_token (negsuc n) = cond (nat_eq (suc n % 2) 0) token.Nobody token.Black
 
 -- the points that the board gives a player at the start: what it holds, less two for each of its groups where there is a tax
-abbrev pub IsStart : Grid → Colour → Bool → ℕ → Type 0
+abbrev pub IsStart : Board → Colour → Bool → ℕ → Type 0
 IsStart g c false n = IsHeld g c n
 IsStart g c true n = (groups : ℕ) × IsNumberOfGroups g c groups × IsHeld g c (n + 2 * groups)
 
 -- The state opens the board before any move: what it gives each side, with or without a tax, its prisoners and its part of the komi.
-pub record IsOpening (g : Grid) (black_prisoners white_prisoners : ℕ) (komi : ℤ) (side : Colour) (tax : Bool) (s : State) : Type 0 where
+pub record IsOpening (g : Board) (black_prisoners white_prisoners : ℕ) (komi : ℤ) (side : Colour) (tax : Bool) (s : State) : Type 0 where
   pub board : s.board ≡ g
   pub contested : Marks s.contested (IsContested g)
   pub black : (n : ℕ) × IsStart g Black tax n × (s.purses.black ≡ n + black_prisoners + komi_points Black komi)

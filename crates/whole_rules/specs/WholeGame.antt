@@ -1,7 +1,7 @@
 -- States of the whole game and their moves.
 use Rattle.std.specs.Prelude.{ℕ, ◌≡◌, ◌≢◌, ◌<◌, ◌≤◌, ◌↔◌, List, Bool, length, slice_index_or, Contains, Result, Ok, Err, Option, Some, None}
 use Rattle.go_grid.specs.declared.grid.Colour.{Colour}
-use Rattle.go_grid.specs.Grid.{Grid, IsEmpty, other}
+use Rattle.go_grid.specs.Board.{Board, IsEmpty, other}
 use Rattle.go_grid.specs.Marks.{IsMarked}
 use Rattle.go_play.specs.Place.{IsPlaced, IsNumberTaken, IsSuicide}
 use Rattle.whole_rules.specs.declared.money.Purses.{Purses}
@@ -14,19 +14,19 @@ use Rattle.whole_rules.specs.Purses.{purse, paid_in, paid_out, halved}
 
 -- a state of the whole game
 pub record State : Type 0 where
-  pub board : Grid
+  pub board : Board
   -- a mark for each contested point
   pub contested : List Bool
   pub purses : Purses
   pub side : Colour
 
 -- the board and the purses after a move, and the other side to move
-abbrev pub after : Grid → Purses → State → State
+abbrev pub after : Board → Purses → State → State
 after h m s = record s { board = h; purses = m; side = other s.side }
 
 -- the move leads from the one state to the other
 abbrev pub IsMove : State → Move → State → Type 0
-IsMove s (Stone p) t = IsMarked s.contested p × ((h : Grid) × ((n : ℕ) × IsPlaced s.board p s.side h × IsNumberTaken s.board h n × (t ≡ after h (paid_in s.side n s.purses) s)))
+IsMove s (Stone p) t = IsMarked s.contested p × ((h : Board) × ((n : ℕ) × IsPlaced s.board p s.side h × IsNumberTaken s.board h n × (t ≡ after h (paid_in s.side n s.purses) s)))
 IsMove s Spend t = (1 ≤ purse s.side s.purses) × (t ≡ after s.board (paid_out s.side s.purses) s)
 IsMove s Half t = (s.purses.token ≢ Nobody) × (t ≡ after s.board (halved s.side s.purses) s)
 

@@ -1,7 +1,7 @@
 use Rattle.std.proofs.Common.{◌+◌, subst, sym, arith}
 use Rattle.std.proofs.lemmas.Bool.{both_ways}
 use Rattle.go_grid.specs.Chain.{InChain}
-use Rattle.go_grid.specs.Grid.{HasStone}
+use Rattle.go_grid.specs.Board.{HasStone}
 use Rattle.go_grid.specs.Marks.{Marks}
 use Rattle.benson_attack.specs.Reached.{AreTriedBelow}
 use Rattle.benson_attack.proofs.RunLemmas.{failed_copy}

@@ -1,6 +1,6 @@
 use Rattle.std.proofs.Common.{sym, subst}
 use Rattle.std.proofs.lemmas.Bool.{both_ways}
-use Rattle.go_grid.specs.Grid.{HasStone, other}
+use Rattle.go_grid.specs.Board.{HasStone, other}
 use Rattle.benson_attack.proofs.CountLemmas.{rises, falls}
 use Rattle.benson_attack.proofs.LegalLemmas.{long}
 use Rattle.benson_attack.proofs.RunLemmas.{pressed_next, pressed_taken, pressed_held}

@@ -1,6 +1,6 @@
 use Rattle.std.proofs.Common.{◌≡◌, ℕ, ◌<◌}
 use Rattle.go_grid.specs.Chain.{IsLiberty}
-use Rattle.go_grid.specs.Grid.{other}
+use Rattle.go_grid.specs.Board.{other}
 use Rattle.go_play.specs.Place.{IsSuicide}
 use Rattle.benson_attack.proofs.captures.press.Given as goal
 

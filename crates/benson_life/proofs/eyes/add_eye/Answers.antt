@@ -1,5 +1,5 @@
 use Rattle.std.proofs.lemmas.Bool.{both_ways}
-use Rattle.go_grid.specs.Grid.{HasStone, Lacks}
+use Rattle.go_grid.specs.Board.{HasStone, Lacks}
 use Rattle.benson_life.proofs.PartsLemmas.{label_in, label_own}
 use Rattle.benson_life.proofs.SurveyLemmas.{empty_lacks}
 use Rattle.benson_life.proofs.EyesLemmas.{one_eye, no_eye}

@@ -1,4 +1,4 @@
-use Rattle.go_grid.specs.Grid.{HasStone, Lacks}
+use Rattle.go_grid.specs.Board.{HasStone, Lacks}
 use Rattle.go_grid.specs.Marks.{IsMarked}
 use Rattle.benson_life.proofs.PartsLemmas.{parts_over}
 use Rattle.benson_life.proofs.surveys.survey_of.Goals as goal

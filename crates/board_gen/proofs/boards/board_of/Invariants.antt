@@ -1,5 +1,5 @@
 use Rattle.std.proofs.Common.{◌≡◌, ℕ, ◌<◌, length}
-use Rattle.go_grid.specs.Grid.{cell_at}
+use Rattle.go_grid.specs.Board.{cell_at}
 use Rattle.board_gen.specs.Trial.{IsTrialCell}
 use Rattle.board_gen.proofs.boards.board_of.Given as goal
 

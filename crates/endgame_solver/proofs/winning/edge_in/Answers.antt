@@ -1,6 +1,6 @@
 use Rattle.std.proofs.Common.{sym, subst}
 use Rattle.std.proofs.lemmas.List.Elements.{Contains-get_or}
-use Rattle.local_graph.specs.Nodes.{no_edge}
+use Rattle.local_graph.specs.Graph.{no_edge}
 use Rattle.endgame_solver.specs.Held.{IsStoneAt}
 use Rattle.endgame_solver.proofs.StoneSearch.{none_before_more}
 use Rattle.endgame_solver.proofs.WinningLaws.{differ}

@@ -1,5 +1,5 @@
 use Rattle.std.proofs.Common.{ℕ, suc, zero, ◌≤◌, ◌≡◌, ◌↔◌, ◌∙◌, ◌*ℤ◌, ◌^◌, pos, refl, sym, subst, ap, arith, IsTrue}
-use Rattle.go_grid.specs.Grid.{other}
+use Rattle.go_grid.specs.Board.{other}
 use Rattle.whole_rules.specs.Purses.{purse, paid_out}
 use Rattle.game_store.specs.Meaning.{pick}
 use Rattle.game_canon.specs.Players.{LosesGame}

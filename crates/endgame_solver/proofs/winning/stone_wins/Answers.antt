@@ -1,5 +1,5 @@
 use Rattle.std.proofs.Common.{ℕ, ◌<◌, ◌≡◌, ◌↔◌, ◌∙◌, ◌*ℤ◌, ◌^◌, pos, sym, subst, ap, arith, IsTrue, get_or, set, length}
-use Rattle.go_grid.specs.Grid.{other}
+use Rattle.go_grid.specs.Board.{other}
 use Rattle.local_graph.specs.declared.graph.Edge.{Edge}
 use Rattle.whole_rules.specs.Purses.{paid_in}
 use Rattle.game_store.specs.Meaning.{pick, AreIds}

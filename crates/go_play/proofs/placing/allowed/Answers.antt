@@ -1,5 +1,5 @@
 use Rattle.std.proofs.lemmas.Result.{err_from_is_err_and}
-use Rattle.go_grid.specs.Grid.{other}
+use Rattle.go_grid.specs.Board.{other}
 use Rattle.go_play.specs.Place.{with_stone, IsTaken}
 use Rattle.go_play.proofs.PlaceLemmas.{refused}
 use Rattle.go_play.proofs.StripLemmas.{stripped, without_stripped, number_taken}

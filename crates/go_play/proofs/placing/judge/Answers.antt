@@ -1,5 +1,5 @@
 use Rattle.std.proofs.Common.{sym, ◌∙◌}
-use Rattle.go_grid.specs.Grid.{other}
+use Rattle.go_grid.specs.Board.{other}
 use Rattle.std.proofs.lemmas.Bool.{both_ways}
 use Rattle.go_play.specs.Place.{with_stone, IsTaken}
 use Rattle.go_play.proofs.StripLemmas.{stripped, without_stripped}

@@ -1,4 +1,4 @@
-use Rattle.go_grid.specs.Grid.{other}
+use Rattle.go_grid.specs.Board.{other}
 use Rattle.go_play.specs.Place.{with_stone, IsTaken}
 use Rattle.go_play.proofs.StripLemmas.{without_marked, number_taken}
 use Rattle.go_play.proofs.placing.place.Goals as goal

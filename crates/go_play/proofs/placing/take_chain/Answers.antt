@@ -1,5 +1,5 @@
 use Rattle.std.proofs.lemmas.Bool.{both_ways}
-use Rattle.go_grid.specs.Grid.{other}
+use Rattle.go_grid.specs.Board.{other}
 use Rattle.go_grid.proofs.ChainLemmas.{liberty_marks}
 use Rattle.go_play.specs.Place.{with_stone}
 use Rattle.go_play.proofs.PlaceLemmas.{lost_chain, none_lost}

@@ -1,6 +1,6 @@
 use Rattle.std.proofs.Common.{◌⊎◌, sym, subst, ◌∙◌}
 use Rattle.std.proofs.lemmas.List.{length-set}
-use Rattle.go_grid.specs.Grid.{other, stone}
+use Rattle.go_grid.specs.Board.{other, stone}
 use Rattle.go_grid.specs.Marks.{IsMarked, Marks}
 use Rattle.go_grid.proofs.PointsLemmas.{item_is, noted_next}
 use Rattle.go_play.specs.Place.{with_stone}

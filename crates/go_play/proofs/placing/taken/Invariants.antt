@@ -1,4 +1,4 @@
-use Rattle.go_grid.specs.Grid.{other}
+use Rattle.go_grid.specs.Board.{other}
 use Rattle.go_grid.specs.Marks.{Marks}
 use Rattle.go_grid.proofs.PointsLemmas.{Noted}
 use Rattle.go_play.specs.Place.{with_stone}

@@ -1,5 +1,5 @@
 use Rattle.std.proofs.Common.{◌≡◌, ℕ, ◌*◌, ◌<◌, length}
-use Rattle.go_grid.specs.Grid.{AreNear}
+use Rattle.go_grid.specs.Board.{AreNear}
 use Rattle.go_grid.specs.Region.{touch_at}
 use Rattle.local_graph.proofs.drawn.touches_of.Given as goal
 

@@ -1,5 +1,5 @@
 use Rattle.std.proofs.Common.{ap, ◌∙◌}
-use Rattle.go_grid.specs.Grid.{other}
+use Rattle.go_grid.specs.Board.{other}
 use Rattle.local_play.proofs.ListLemmas.{all_moves}
 use Rattle.local_play.proofs.expanding.list_moves.Goals as goal
 

@@ -1,6 +1,6 @@
 use Rattle.std.proofs.Common.{arith, refl}
 use Rattle.std.proofs.lemmas.Result.{err_from_is_err_and}
-use Rattle.go_grid.specs.Region.{Shape}
+use Rattle.go_grid.specs.Region.{Region}
 use Rattle.game_canon.proofs.ChangeSteps.{passed-on}
 use Rattle.game_canon.proofs.NumberParts.{within-bounds}
 use Rattle.local_value.specs.Refusals.{IsValueRefusal}
@@ -35,7 +35,7 @@ valuing-preserved c = record {
 }
 
 pub returns-in_err-id-clause-refusal : goal.returns-in_err-id-clause-refusal
-returns-in_err-id-clause-refusal c = passed-on c.from_residual-in_err-id.result _ (λ e. (r : Shape) → IsGraphOf r c.args.graph.now → IsValueRefusal r c.args.graph.now c.args.parts_limit e)
+returns-in_err-id-clause-refusal c = passed-on c.from_residual-in_err-id.result _ (λ e. (r : Region) → IsGraphOf r c.args.graph.now → IsValueRefusal r c.args.graph.now c.args.parts_limit e)
     (err_from_is_err_and c.from_residual-in_err-id.result c.from_residual-in_err-id.ensures.1)
     (λ r of. call-refused r c.args.graph.now of c.args.parts_limit c.valuing.store c.valuing.ids.items c.valuing.place-index (c.valuing.invariant.pass r of) c.order-place-items.result.now c.edges-edges.result.now c.deref.result.now
     c.order-place-items.ensures c.edges-edges.ensures c.deref.ensures.value c.valuing-test.true _ c.in_err-id.ensures.refusal)

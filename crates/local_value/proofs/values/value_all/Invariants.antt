@@ -1,4 +1,4 @@
-use Rattle.go_grid.specs.Region.{Shape}
+use Rattle.go_grid.specs.Region.{Region}
 use Rattle.game_store.specs.Meaning.{Extends}
 use Rattle.local_value.specs.Memo.{IsMemoRight}
 use Rattle.local_value.specs.Values.{IsGraphOf}
@@ -8,6 +8,6 @@ use Rattle.local_value.proofs.values.value_all.Given as goal
 abbrev pub invariant-valuing : goal.invariant-valuing
 invariant-valuing l = record {
   kept : Extends l.fn.store l.store;
-  pass : (r : Shape) → IsGraphOf r l.graph → IsPass r l.graph l.parts_limit l.store l.ids.items l.place-index;
+  pass : (r : Region) → IsGraphOf r l.graph → IsPass r l.graph l.parts_limit l.store l.ids.items l.place-index;
   memo : IsMemoRight l.store l.parts_limit l.memo;
 }

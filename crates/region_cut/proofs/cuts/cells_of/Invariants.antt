@@ -1,6 +1,6 @@
 use Rattle.std.proofs.Common.{◌≡◌, ℕ, ◌<◌, get_or, length}
 use Rattle.go_grid.specs.declared.grid.Cell.TheVariants.{Empty}
-use Rattle.go_grid.specs.Grid.{cell_at}
+use Rattle.go_grid.specs.Board.{cell_at}
 use Rattle.region_cut.proofs.cuts.cells_of.Given as goal
 
 abbrev pub invariant-reading : goal.invariant-reading

@@ -1,6 +1,6 @@
 use Rattle.std.proofs.Common.{◌≡◌, ◌<◌, ℕ, arith, ap, ◌∙◌, get_or, length, subst}
 use Rattle.go_grid.specs.declared.grid.Cell.TheVariants.{Empty}
-use Rattle.go_grid.specs.Grid.{cell_at}
+use Rattle.go_grid.specs.Board.{cell_at}
 use Rattle.go_grid.specs.Region.{touch_at}
 use Rattle.benson_life.proofs.HeldLemmas.{short}
 use Rattle.region_cut.specs.Places.{IsTouch}

@@ -1,6 +1,6 @@
 use Rattle.std.proofs.Common.{◌≡◌, ◌∙◌, suc, refl, inl, inr, ap, string_bytes, subst, ◌++◌, Option, Some, None, MatchOption}
 use Rattle.go_grid.specs.declared.grid.Colour.{Colour}
-use Rattle.go_grid.specs.Grid.{other}
+use Rattle.go_grid.specs.Board.{other}
 use Rattle.report.specs.Solution.{winner_line, move_line}
 use Rattle.whole_rules.specs.declared.states.Move.{Move}
 use Rattle.whole_rules.specs.FirstWinningMove.{IsFirstWinning, IsWinner}

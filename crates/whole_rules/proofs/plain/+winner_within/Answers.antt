@@ -1,5 +1,5 @@
 use Rattle.std.proofs.Common.{arith, sym, inl, inr, ap, ◌∙◌, subst, ◌<◌, ◌≡◌, ◌≢◌, ◌-◌, length, None}
-use Rattle.go_grid.specs.Grid.{other}
+use Rattle.go_grid.specs.Board.{other}
 use Rattle.std.proofs.lemmas.Bool.{both_ways}
 use Rattle.std.proofs.lemmas.List.{get_or_default}
 use Rattle.whole_rules.specs.PlainRecursion.{LosesWithin}

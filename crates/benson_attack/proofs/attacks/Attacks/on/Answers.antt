@@ -2,7 +2,7 @@ use Rattle.std.proofs.Common.{subst}
 use Rattle.std.proofs.lemmas.Result.{IfOk-weaker}
 use Rattle.go_grid.specs.declared.grid.Colour.{Colour}
 use Rattle.go_grid.specs.declared.grid.Colour.TheVariants.{Black, White}
-use Rattle.go_grid.specs.Grid.{HasStone}
+use Rattle.go_grid.specs.Board.{HasStone}
 use Rattle.benson_life.specs.Life.{IsAlive}
 use Rattle.benson_attack.specs.Attack.{Takes}
 use Rattle.benson_attack.proofs.AttackLemmas.{not_alive}

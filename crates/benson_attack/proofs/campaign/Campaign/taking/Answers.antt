@@ -2,7 +2,7 @@ use Rattle.std.proofs.Common.{false, refl, ◌≡◌, ◌∙◌, ◌<◌, length
 use Rattle.std.proofs.lemmas.Bool.{both_ways}
 use Rattle.std.proofs.lemmas.List.{get_or_default}
 use Rattle.std.proofs.lemmas.List.Elements.{Contains-get_or}
-use Rattle.go_grid.specs.Grid.{HasStone, other}
+use Rattle.go_grid.specs.Board.{HasStone, other}
 use Rattle.benson_attack.specs.declared.captures.Run.{Run}
 use Rattle.benson_attack.proofs.CampaignLemmas.{run_takes}
 use Rattle.benson_attack.proofs.campaign.Campaign.taking.Goals as goal

@@ -1,5 +1,5 @@
 use Rattle.std.proofs.Common.{ℕ, ◌<◌, get_or}
-use Rattle.go_grid.specs.Grid.{HasStone, other}
+use Rattle.go_grid.specs.Board.{HasStone, other}
 use Rattle.benson_attack.specs.declared.captures.Run.{Run}
 use Rattle.benson_attack.proofs.campaign.Campaign.taking.Given as goal
 

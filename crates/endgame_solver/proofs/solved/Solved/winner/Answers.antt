@@ -1,5 +1,5 @@
 use Rattle.std.proofs.Common.{ℕ, List, ◌≡◌, ◌↔◌, ◌∙◌, sym, subst, ap}
-use Rattle.go_grid.specs.Grid.{other}
+use Rattle.go_grid.specs.Board.{other}
 use Rattle.whole_rules.specs.FirstWinningMove.{IsWinner}
 use Rattle.game_store.specs.Meaning.{pick}
 use Rattle.game_canon.specs.Players.{LosesGame}

@@ -1,4 +1,4 @@
-use Rattle.go_grid.specs.Grid.{HasStone}
+use Rattle.go_grid.specs.Board.{HasStone}
 use Rattle.go_grid.proofs.WalkLemmas.{marks_joined}
 use Rattle.go_grid.proofs.boards.Board.chain.Goals as goal
 

@@ -1,10 +1,10 @@
 use Rattle.std.proofs.Common.{subst}
 use Rattle.std.proofs.lemmas.Result.{IfOk-weaker}
 use Rattle.go_grid.specs.declared.grid.Colour.{Colour}
-use Rattle.go_grid.specs.Grid.{HasStone}
+use Rattle.go_grid.specs.Board.{HasStone}
 use Rattle.go_grid.specs.Chain.{InChain}
 use Rattle.go_grid.specs.Marks.{IsMarked, Lists}
-use Rattle.go_grid.proofs.GridLemmas.{one_colour}
+use Rattle.go_grid.proofs.BoardLemmas.{one_colour}
 use Rattle.go_grid.proofs.PointsLemmas.{lists_same}
 use Rattle.go_grid.proofs.boards.Board.chain_of.Goals as goal
 

@@ -1,5 +1,5 @@
 use Rattle.std.proofs.Common.{arith}
-use Rattle.go_grid.specs.Grid.{HasStone}
+use Rattle.go_grid.specs.Board.{HasStone}
 use Rattle.go_grid.proofs.WalkLemmas.{joined_end}
 use Rattle.go_grid.proofs.boards.Board.liberties.Goals as goal
 

@@ -1,6 +1,6 @@
 use Rattle.std.proofs.Common.{ℕ, ◌<◌}
 use Rattle.go_grid.specs.declared.grid.Colour.{Colour}
-use Rattle.go_grid.specs.Grid.{HasStone}
+use Rattle.go_grid.specs.Board.{HasStone}
 use Rattle.go_grid.specs.Chain.{HasLiberty}
 use Rattle.go_grid.proofs.boards.Board.unsettled.Given as goal
 

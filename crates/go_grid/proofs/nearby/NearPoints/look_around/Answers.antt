@@ -1,6 +1,6 @@
 use Rattle.std.proofs.Common.{arith}
 use Rattle.std.proofs.lemmas.List.Elements.{Contains-get_or}
-use Rattle.go_grid.proofs.GridLemmas.{area_most}
+use Rattle.go_grid.proofs.BoardLemmas.{area_most}
 use Rattle.go_grid.proofs.NearLemmas.{four_added}
 use Rattle.go_grid.proofs.nearby.NearPoints.look_around.Goals as goal
 

@@ -5,13 +5,13 @@ use Rattle.go_grid.specs.declared.grid.Cell.TheVariants as cell
 use Rattle.go_grid.specs.declared.grid.Colour.{Colour}
 use Rattle.go_grid.specs.declared.grid.Colour.TheVariants as colour
 
-pub record Grid : Type 0 where
+pub record Board : Type 0 where
   pub columns : ℕ
   pub rows : ℕ
   pub cells : List Cell
 
 -- 1 to 25 columns and rows, and a cell for each point
-pub record IsGrid (g : Grid) : Type 0 where
+pub record IsBoard (g : Board) : Type 0 where
   pub some_columns : 1 ≤ g.columns
   pub most_columns : g.columns ≤ 25
   pub some_rows : 1 ≤ g.rows
@@ -54,7 +54,7 @@ pub record AreNear (columns area p : ℕ) (up left right down : Option ℕ) : Ty
 abbrev pub AreAround : ℕ → ℕ → ℕ → List ℕ → Type 0
 AreAround columns area p points = (q : ℕ) → Contains points q ↔ ((q < area) × NextTo columns p q)
 
-abbrev pub cell_at : Grid → ℕ → Cell
+abbrev pub cell_at : Board → ℕ → Cell
 cell_at g p = slice_index_or g.cells p cell.Empty
 
 abbrev pub stone : Colour → Cell
@@ -65,12 +65,12 @@ abbrev pub other : Colour → Colour
 other colour.Black = colour.White
 other colour.White = colour.Black
 
-abbrev pub HasStone : Grid → Colour → ℕ → Type 0
+abbrev pub HasStone : Board → Colour → ℕ → Type 0
 HasStone g c p = (p < length g.cells) × (cell_at g p ≡ stone c)
 
-abbrev pub IsEmpty : Grid → ℕ → Type 0
+abbrev pub IsEmpty : Board → ℕ → Type 0
 IsEmpty g p = (p < length g.cells) × (cell_at g p ≡ cell.Empty)
 
 -- a point of the board with no stone of the colour
-abbrev pub Lacks : Grid → Colour → ℕ → Type 0
+abbrev pub Lacks : Board → Colour → ℕ → Type 0
 Lacks g c p = (p < length g.cells) × (cell_at g p ≢ stone c)

@@ -5,7 +5,7 @@ use Rattle.go_grid.specs.declared.grid.Colour.TheVariants.{Black}
 use Rattle.local_graph.specs.declared.graph.Edge.{Edge}
 use Rattle.local_graph.specs.declared.edge_lists.Span.{Span}
 
-pub record Nodes : Type 0 where
+pub record Graph : Type 0 where
   pub positions : List ℕ
   pub edges : List (List Edge)
   pub order : List ℕ
