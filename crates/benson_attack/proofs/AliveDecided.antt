@@ -64,7 +64,7 @@ module _ (g : Board) (d : Colour) where
         let next : IsReached g d (InChain g (other d) v) m = reached_next g d v h w p l m placed in
         let more : (ps : List ℕ) × Placings d g ps m = (run.0 ++ p ∷ [], placings_more d g run.0 h p m run.1 placed) in
         let up = rises h d p m placed in
-        let less = falls d h m (long h d p m placed.free placed.without) up in
+        let less = falls d h m (long h d p m (placed.1.place, placed.1.free) placed.0 placed.1.without) up in
         elim (has_or_not m (other d) v) as (λ _. ((m : Board) × Further h (λ _. ⊥) m) ⊎ Eyes h v) [
           | inr gone ↦ inl (m, (reached_over g d v m next gone, more, up))
           | inl stands ↦ elim (capture k m v next more stands (omega (arith, room, less))) as (λ _. ((m : Board) × Further h (λ _. ⊥) m) ⊎ Eyes h v) [

@@ -9,8 +9,9 @@ use Rattle.go_grid.specs.declared.grid.Colour.{Colour}
 use Rattle.go_grid.specs.declared.grid.Colour.TheVariants as colour
 use Rattle.go_grid.specs.Board.{Board, stone, cell_at}
 use Rattle.go_play.specs.Place.{with_stone, IsPlaced}
-use Rattle.benson_life.proofs.StandLemmas.{not_both}
 use Rattle.benson_attack.specs.Reached.{is_of, number_of}
+use Rattle.go_grid.proofs.BoardLemmas.{not_other}
+use Rattle.go_play.proofs.BoardPlay.{taken_stone}
 
 counted : (f : Cell → Bool) (x : Cell) (xs : List Cell) (b : Bool) → f x ≡ b → count_by f (x ∷ xs) ≡ cond b 1 0 + count_by f xs
 counted f x xs b e = sum_by-cons (λ z. cond (f z) 1 0) x xs ∙ ap (λ b. cond b 1 0 + count_by f xs) e
@@ -48,12 +49,12 @@ empty_isn't colour.White = refl
 
 pub rises : (h : Board) (d : Colour) (p : ℕ) (m : Board) → IsPlaced h p d m → number_of d h < number_of d m
 rises h d p m placed =
-    let once = sum_by-set (λ y. cond (is_of d y) 1 0) h.cells p (stone d) cell.Empty placed.free.0 in
-    let was : is_of d (cell_at h p) ≡ false = ap (is_of d) placed.free.1 ∙ empty_isn't d in
+    let once = sum_by-set (λ y. cond (is_of d y) 1 0) h.cells p (stone d) cell.Empty placed.1.place in
+    let was : is_of d (cell_at h p) ≡ false = ap (is_of d) placed.1.free ∙ empty_isn't d in
     let more : count_by (is_of d) (set h.cells p (stone d)) ≡ count_by (is_of d) h.cells + 1 =
     omega (arith, rw (was, is_own d) at once) in
-    let stays = more_there (is_of d) (set h.cells p (stone d)) m.cells (sym placed.without.long) (λ q on.
-    ap (is_of d) (placed.without.kept q (λ t. not_both d (sym (own_is d (cell_at (with_stone h p d) q) on) ∙ t.0.1))) ∙ on) in
+    let stays = more_there (is_of d) (set h.cells p (stone d)) m.cells (sym placed.1.without.long) (λ q on.
+    ap (is_of d) (placed.1.without.kept q (λ t. not_other d (sym (own_is d (cell_at (with_stone h p d) q) on) ∙ (taken_stone h p d q t).1))) ∙ on) in
     omega (arith, more, stays)
 
 -- so fewer points are without one

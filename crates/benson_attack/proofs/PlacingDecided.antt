@@ -1,25 +1,23 @@
 -- Which points are liberties, which stones a placing takes and whether it is legal are decided by the cells.
-use Rattle.std.proofs.Common.{◌≡◌, ℕ, zero, suc, ◌<◌, ◌⊎◌, ◌↔◌, inl, inr, List, [], ◌∷◌, length, get_or, refl, sym, ap, arith, subst, ◌+◌, ◌/◌, ◌%◌}
+use Rattle.std.proofs.Common.{◌≡◌, ℕ, zero, suc, ◌<◌, ◌⊎◌, ◌↔◌, inl, inr, List, [], ◌∷◌, length, get_or, refl, sym, ap, ◌∙◌, arith, subst, ◌+◌, ◌/◌, ◌%◌}
 use Rattle.std.specs.List.{Contains}
 use Rattle.std.proofs.lemmas.Bool.{cases_eq, cases_lt}
 use Rattle.go_grid.specs.declared.grid.Cell.{Cell}
 use Rattle.go_grid.specs.declared.grid.Cell.TheVariants as cell
 use Rattle.go_grid.specs.declared.grid.Colour.{Colour}
-use Rattle.go_grid.specs.Board.{Board, DifferByOne, NextTo, HasStone, IsEmpty, cell_at, other}
+use Rattle.go_grid.specs.Board.{Board, DifferByOne, NextTo, HasStone, IsEmpty, cell_at, other, stone}
 use Rattle.go_grid.specs.Chain.{InChain, IsLiberty, HasLiberty}
 use Rattle.go_grid.proofs.Decided.{Decided, alike, both, either, leads_or_not, some_below}
-use Rattle.go_grid.proofs.WalkLemmas.{joined_end}
-use Rattle.go_play.specs.Place.{with_stone, IsPlaced, IsSuicide, IsTaken, IsWithout}
-use Rattle.benson_life.proofs.StandLemmas.{stone_or_not}
+use Rattle.go_grid.proofs.WalkLemmas.{joined_end, joined_back}
+use Rattle.go_play.specs.Place.{with_stone, IsPlaced, IsSuicide, IsTaken, IsCleared}
 use Rattle.benson_attack.proofs.RunLemmas.{in_either, in_first, in_more}
+use Rattle.go_grid.proofs.BoardLemmas.{same_or_not}
+use Rattle.go_play.proofs.BoardPlay.{breathes_from, breathes_to, taken_choked, taken_near, takes_by}
+use Rattle.go_grid.proofs.NearLemmas.{next_back}
+use Rattle.std.proofs.lemmas.List.{length-set}
 
 lt_or_not : (p n : ℕ) → Decided (p < n)
 lt_or_not p n = elim (cases_lt p n) [ inl l ↦ inl l | inr g ↦ inr (λ l. absurd (omega (arith, g, l))) ]
-
-empty_cell : (x : Cell) → Decided (x ≡ cell.Empty)
-empty_cell cell.Empty = inl refl
-empty_cell cell.Black = inr (λ e. cc)
-empty_cell cell.White = inr (λ e. cc)
 
 -- what holds of some point and of points of the board alone holds of one of them, or of none
 some_or_not : (n : ℕ) (P : ℕ → Type 0) → ((p : ℕ) → P p → p < n) → ((p : ℕ) → Decided (P p)) → Decided ((p : ℕ) × P p)
@@ -66,7 +64,7 @@ next_or_not c p q =
     (both _ _ (cases_eq (p % c) (q % c)) (differ_or_not (p / c) (q / c)))
 
 pub has_or_not : (g : Board) (c : Colour) (p : ℕ) → Decided (HasStone g c p)
-has_or_not g c p = both _ _ (lt_or_not p (length g.cells)) (stone_or_not (cell_at g p) c)
+has_or_not g c p = both _ _ (lt_or_not p (length g.cells)) (same_or_not (cell_at g p) (stone c))
 
 chain_or_not : (g : Board) (c : Colour) (s q : ℕ) → Decided (InChain g c s q)
 chain_or_not g c = leads_or_not (NextTo g.columns) (HasStone g c) (length g.cells) (λ i h. h.0) (next_or_not g.columns) (has_or_not g c)
@@ -80,22 +78,23 @@ reaches_or_not g c s p =
 
 pub liberty_or_not : (g : Board) (c : Colour) (s p : ℕ) → Decided (IsLiberty g c s p)
 liberty_or_not g c s p =
-    both _ _ (both _ _ (lt_or_not p (length g.cells)) (empty_cell (cell_at g p))) (reaches_or_not g c s p)
+    both _ _ (both _ _ (lt_or_not p (length g.cells)) (same_or_not (cell_at g p) cell.Empty)) (reaches_or_not g c s p)
 
 breath_or_not : (g : Board) (c : Colour) (s : ℕ) → Decided (HasLiberty g c s)
 breath_or_not g c s = some_or_not (length g.cells) (IsLiberty g c s) (λ p l. l.0.0) (liberty_or_not g c s)
 
-taken_or_not : (g : Board) (p : ℕ) (d : Colour) (q : ℕ) → Decided (IsTaken g p d q)
-taken_or_not g p d q = elim (has_or_not g d q) as (λ _. Decided (IsTaken g p d q)) [
-  | inr not ↦ inr (λ t. not t.0)
-  | inl at ↦ elim (reaches_or_not g d q p) as (λ _. Decided (IsTaken g p d q)) [
-    | inr not ↦ inr (λ t. not t.1)
-    | inl near ↦ elim (breath_or_not g d q) as (λ _. Decided (IsTaken g p d q)) [
-      | inl breath ↦ inr (λ t. t.2 breath)
-      | inr choked ↦ inl (at, near, choked)
+taken_or_not : (g : Board) (p : ℕ) (c : Colour) (q : ℕ) → Decided (IsTaken g p c q)
+taken_or_not g p c q =
+    let b = with_stone g p c in
+    elim (reaches_or_not b (other c) q p) as (λ _. Decided (IsTaken g p c q)) [
+      | inr not ↦ inr (λ t.
+          let (r, next, chain) = taken_near g p c q t in
+          not (r, joined_back b.columns (HasStone b (other c)) r q chain, next_back b.columns p r next))
+      | inl (r, chain, next) ↦ elim (breath_or_not b (other c) q) as (λ _. Decided (IsTaken g p c q)) [
+        | inl breath ↦ inr (λ t. taken_choked g p c q t breath)
+        | inr choked ↦ inl (takes_by g p c q r chain next choked)
+      ]
     ]
-  ]
-]
 
 -- the cell, or no stone where the condition holds
 abbrev emptied : (P : Type 0) → Decided P → Cell → Cell
@@ -134,16 +133,21 @@ cleared_kept Gone gone (x ∷ xs) (suc q) not = cleared_kept (λ q. Gone (suc q)
 pub placed_or_not : (g : Board) (p : ℕ) (d : Colour) → IsEmpty g p → ((m : Board) × IsPlaced g p d m) ⊎ IsSuicide g p d
 placed_or_not g p d free =
     let b = with_stone g p d in
-    let gone : (q : ℕ) → Decided (IsTaken b p (other d) q) = taken_or_not b p (other d) in
-    let m : Board = record { columns = b.columns; rows = b.rows; cells = cleared (IsTaken b p (other d)) gone b.cells } in
-    let without : IsWithout b (IsTaken b p (other d)) m = record {
-      columns = refl;
-      rows = refl;
-      long = cleared_long (IsTaken b p (other d)) gone b.cells;
-      gone = cleared_gone (IsTaken b p (other d)) gone b.cells;
-      kept = cleared_kept (IsTaken b p (other d)) gone b.cells;
+    let gone : (q : ℕ) → Decided (IsTaken g p d q) = taken_or_not g p d in
+    let m : Board = record g { cells = cleared (IsTaken g p d) gone b.cells } in
+    let without : IsCleared g p d m.cells = record {
+      long = cleared_long (IsTaken g p d) gone b.cells;
+      gone = cleared_gone (IsTaken g p d) gone b.cells;
+      kept = cleared_kept (IsTaken g p d) gone b.cells;
     } in
+    let long : length m.cells ≡ length g.cells = without.long ∙ length-set g.cells p (stone d) in
     elim (breath_or_not m d p) as (λ _. ((m : Board) × IsPlaced g p d m) ⊎ IsSuicide g p d) [
-      | inl l ↦ inl (m, record { free = free; without = without; breathes = l })
-      | inr n ↦ inr (m, without, n)
+      | inl l ↦ inl (
+        m,
+        (
+          record { columns = refl; rows = refl },
+          record { place = free.0; free = free.1; without = without; stands = breathes_from g m.cells long d p l },
+        ),
+      )
+      | inr n ↦ inr (m.cells, without, λ f. n (breathes_to g m.cells long d p f))
     ]

@@ -1,7 +1,7 @@
 -- What placings at liberties of chains under attack keep, and why two of them that are refused are two eyes.
 use Rattle.std.proofs.Common.{◌≡◌, ◌≢◌, ℕ, ◌<◌, inl, inr, List, [], ◌∷◌, ◌++◌, length, refl, sym, ◌∙◌, subst}
 use Rattle.std.proofs.lemmas.Bool.{cases_eq}
-use Rattle.std.proofs.lemmas.List.{length-set, get_or-set_other}
+use Rattle.std.proofs.lemmas.List.{get_or-set_other}
 use Rattle.go_grid.specs.declared.grid.Cell.TheVariants as cell
 use Rattle.go_grid.specs.declared.grid.Colour.{Colour}
 use Rattle.go_grid.specs.Board.{Board, NextTo, HasStone, IsEmpty, Lacks, cell_at, stone, other}
@@ -11,9 +11,12 @@ use Rattle.go_grid.proofs.NearLemmas.{next_back}
 use Rattle.go_grid.proofs.WalkLemmas.{joined_here, joined_step, joined_start, joined_end, joined_join, joined_back, joined_more}
 use Rattle.go_play.specs.Place.{with_stone, IsPlaced, IsTaken, IsSuicide, Placings}
 use Rattle.benson_life.specs.Life.{InRegion, IsVital, IsEye, HasTwoEyes}
-use Rattle.benson_life.proofs.StandLemmas.{stone_or_not, empty_or_other, empty_not_stone, joined_along}
+use Rattle.benson_life.proofs.StandLemmas.{empty_or_other, joined_along}
 use Rattle.benson_attack.specs.Reached.{IsReached}
-use Rattle.benson_attack.proofs.LegalLemmas.{room, stays_empty, with_other, had_liberty, still, stood_earlier}
+use Rattle.benson_attack.proofs.LegalLemmas.{room, stays_empty, with_other, had_liberty, still, stood_earlier, not_suicide}
+use Rattle.go_grid.proofs.BoardLemmas.{empty_not_stone, same_or_not}
+use Rattle.go_play.proofs.BoardPlay.{placed_long, taken_choked, taken_near, takes, takes_by}
+use Rattle.go_grid.proofs.ChainLemmas.{same_liberty}
 
 module _ (g : Board) (d : Colour) (Under : ℕ → Type 0) (h : Board) (w : IsReached g d Under h) where
   -- a chain was the same stones or more
@@ -57,7 +60,7 @@ module _ (g : Board) (d : Colour) (v : ℕ) (h : Board) (w : IsReached g d (InCh
 
   -- a stone next to the region that stood stands
   wall_stands : (p s : ℕ) → InRegion g (other d) r p → NextTo g.columns p s → HasStone g (other d) s → HasStone h (other d) s
-  wall_stands p s j n at = elim (stone_or_not (cell_at h s) (other d)) as (λ _. HasStone h (other d) s) [
+  wall_stands p s j n at = elim (same_or_not (cell_at h s) (stone (other d))) as (λ _. HasStone h (other d) s) [
     | inl e ↦ (rw w.long at.0, e)
     | inr ne ↦
         let lacks : Lacks h (other d) s = (rw w.long at.0, ne) in
@@ -88,7 +91,7 @@ module _ (g : Board) (d : Colour) (v : ℕ) (h : Board) (w : IsReached g d (InCh
 vital_alone : (h : Board) (d : Colour) (v p : ℕ) → IsLiberty h (other d) v p → IsSuicide h p d → IsVital h (other d) p v
 vital_alone h d v p l refused e at empty = elim (cases_eq e p) as (λ _. IsLiberty h (other d) v e) [
   | inl k ↦ rw k l
-  | inr ne ↦ absurd (refused.2 (room h d p refused.0 l.0 refused.1 e at empty ne))
+  | inr ne ↦ absurd (not_suicide h d p refused (room h d p (record h { cells = refused.0 }) l.0 (record { columns = refl; rows = refl }) refused.1 e at empty ne))
 ]
 
 -- two liberties at which placings are refused are two eyes
@@ -102,7 +105,7 @@ refused_eyes g d v h w p q ne lp sp lq sq = (
   eye_before g d v h w q (vital_alone h d v q lq sq) (lq.0.0, λ e. empty_not_stone (other d) (sym lq.0.1 ∙ e)),
   λ j. elim (cases_eq q p) [
     | inl k ↦ ne (sym k)
-    | inr ne' ↦ sp.2 (room h d p sp.0 lp.0 sp.1 q (region_now g d (InChain g (other d) v) h w p q j) lq.0 ne')
+    | inr ne' ↦ not_suicide h d p sp (room h d p (record h { cells = sp.0 }) lp.0 (record { columns = refl; rows = refl }) sp.1 q (region_now g d (InChain g (other d) v) h w p q j) lq.0 ne')
   ],
 )
 
@@ -148,12 +151,12 @@ reached_over g d v h w gone = record {
 module _ (g : Board) (d : Colour) (v : ℕ) (h : Board) (w : IsReached g d (InChain g (other d) v) h) (p : ℕ)
     (liberty : IsLiberty h (other d) v p) (m : Board) (placed : IsPlaced h p d m) where
   columns : m.columns ≡ g.columns
-  columns = placed.without.columns ∙ w.columns
+  columns = placed.0.columns ∙ w.columns
 
   long : length m.cells ≡ length g.cells
-  long = placed.without.long ∙ length-set h.cells p (stone d) ∙ w.long
+  long = placed_long h p d m placed ∙ w.long
 
-  not_gone : (x : ℕ) → HasStone m (other d) x → ¬ IsTaken (with_stone h p d) p (other d) x
+  not_gone : (x : ℕ) → HasStone m (other d) x → ¬ IsTaken h p d x
   not_gone x s = still h d p m placed x s
 
   stood_before : (x : ℕ) → HasStone m (other d) x → HasStone h (other d) x
@@ -162,13 +165,13 @@ module _ (g : Board) (d : Colour) (v : ℕ) (h : Board) (w : IsReached g d (InCh
   -- a stone that stood and no longer stands is an empty point
   emptied : (x : ℕ) → HasStone h (other d) x → ¬ HasStone m (other d) x → IsEmpty m x
   emptied x s n =
-      let on : x < length m.cells = rw (placed.without.long, length-set h.cells p (stone d)) s.0 in
+      let on : x < length m.cells = rw (placed_long h p d m placed) s.0 in
       elim (empty_or_other (cell_at m x) d (λ e. n (on, e))) as (λ _. IsEmpty m x) [
         | inl e ↦ (on, e)
         | inr e ↦ absurd (n (
           on,
-          placed.without.kept x (λ t. empty_not_stone d (sym (placed.without.gone x t) ∙ e))
-              ∙ (with_other h d p m placed.free placed.without x s).1,
+          placed.1.without.kept x (λ t. empty_not_stone d (sym (placed.1.without.gone x t) ∙ e))
+              ∙ (with_other h d p m (placed.1.place, placed.1.free) placed.0 placed.1.without x s).1,
         ))
       ]
 
@@ -177,17 +180,16 @@ module _ (g : Board) (d : Colour) (v : ℕ) (h : Board) (w : IsReached g d (InCh
   whole q r j s =
       let b = with_stone h p d in
       let was = w.whole q r j (stood_before q s) in
-      let with' : (x : ℕ) → HasStone h (other d) x → HasStone b (other d) x = with_other h d p m placed.free placed.without in
+      let with' : (x : ℕ) → HasStone h (other d) x → HasStone b (other d) x = with_other h d p m (placed.1.place, placed.1.free) placed.0 placed.1.without in
       let along : InChain b (other d) q r = subst (λ k. Joined k (HasStone b (other d)) q r) (sym w.columns)
       (joined_along g.columns (HasStone g (other d)) (HasStone b (other d)) q r (λ x k. with' x (w.whole q x k (stood_before q s))) j) in
       let back = joined_back b.columns (HasStone b (other d)) q r along in
-      elim (stone_or_not (cell_at m r) (other d)) as (λ _. HasStone m (other d) r) [
-        | inl e ↦ (rw (placed.without.long, length-set h.cells p (stone d)) was.0, e)
-        | inr ne ↦ absurd (ne (placed.without.kept r (λ t. not_gone q s (
-          with' q (stood_before q s),
-          (t.1.0, joined_join b.columns (HasStone b (other d)) q r t.1.0 along t.1.1, t.1.2),
-          λ l. t.2 (l.0, (l.1.0, (l.1.1.0, joined_join b.columns (HasStone b (other d)) r q l.1.1.0 back l.1.1.1, l.1.1.2))),
-        )) ∙ (with' r was).1))
+      elim (same_or_not (cell_at m r) (stone (other d))) as (λ _. HasStone m (other d) r) [
+        | inl e ↦ (rw (placed_long h p d m placed) was.0, e)
+        | inr ne ↦ absurd (ne (placed.1.without.kept r (λ t.
+            let near = taken_near h p d r t in
+            not_gone q s (takes h p d near.0 q near.1 (joined_join b.columns (HasStone b (other d)) near.0 r q near.2 back)
+            (λ l. taken_choked h p d r t (same_liberty b (other d) r near.0 (joined_back b.columns (HasStone b (other d)) near.0 r near.2) l)))) ∙ (with' r was).1))
       ]
 
   -- a liberty that isn't filled stays one
@@ -195,13 +197,13 @@ module _ (g : Board) (d : Colour) (v : ℕ) (h : Board) (w : IsReached g d (InCh
   keeps_liberty s e there l ne = (
     e,
     (
-      stays_empty h d p m placed.free placed.without e ne l.0,
+      stays_empty h d p m (placed.1.place, placed.1.free) placed.0 placed.1.without e ne l.0,
       (
         l.1.0,
-        subst (λ k. Joined k (HasStone m (other d)) s l.1.0) (sym placed.without.columns)
+        subst (λ k. Joined k (HasStone m (other d)) s l.1.0) (sym placed.0.columns)
             (joined_along h.columns (HasStone h (other d)) (HasStone m (other d)) s l.1.0
             (λ x j. whole s x (chain_before g d (InChain g (other d) v) h w s x j) there) l.1.1),
-        subst (λ k. NextTo k l.1.0 e) (sym placed.without.columns) l.1.2,
+        subst (λ k. NextTo k l.1.0 e) (sym placed.0.columns) l.1.2,
       ),
     ),
   )
@@ -210,21 +212,19 @@ module _ (g : Board) (d : Colour) (v : ℕ) (h : Board) (w : IsReached g d (InCh
   breathes s there n = w.breathes s (stood_before s there) (λ l. elim (cases_eq l.0 p) [
     | inl k ↦
         let b = with_stone h p d in
-        let with' : (x : ℕ) → HasStone h (other d) x → HasStone b (other d) x = with_other h d p m placed.free placed.without in
-        not_gone s there (
-          with' s (stood_before s there),
-          (l.1.1.0, joined_more h.columns (HasStone h (other d)) (HasStone b (other d)) with' s l.1.1.0 l.1.1.1, subst (λ x. NextTo h.columns l.1.1.0 x) k l.1.1.2),
-          λ f. let had = had_liberty h d p m placed.free placed.without s f.0 f.1 in n (keeps_liberty s f.0 there had.0 had.1),
-        )
+        let with' : (x : ℕ) → HasStone h (other d) x → HasStone b (other d) x = with_other h d p m (placed.1.place, placed.1.free) placed.0 placed.1.without in
+        not_gone s there (takes_by h p d s l.1.1.0
+        (joined_more h.columns (HasStone h (other d)) (HasStone b (other d)) with' s l.1.1.0 l.1.1.1) (subst (λ x. NextTo h.columns l.1.1.0 x) k l.1.1.2)
+        (λ f. let had = had_liberty h d p m (placed.1.place, placed.1.free) placed.0 placed.1.without s f.0 f.1 in n (keeps_liberty s f.0 there had.0 had.1)))
     | inr ne ↦ n (keeps_liberty s l.0 there l.1 ne)
   ])
 
   taken : (q : ℕ) → HasStone g (other d) q → ¬ HasStone m (other d) q → IsEmpty m q
-  taken q s n = elim (stone_or_not (cell_at h q) (other d)) as (λ _. IsEmpty m q) [
+  taken q s n = elim (same_or_not (cell_at h q) (stone (other d))) as (λ _. IsEmpty m q) [
     | inl e ↦ emptied q (rw w.long s.0, e) n
     | inr ne ↦
         let empty = w.taken q s (λ k. ne k.1) in
-        stays_empty h d p m placed.free placed.without q
+        stays_empty h d p m (placed.1.place, placed.1.free) placed.0 placed.1.without q
         (λ k. no_old_stone g d (InChain g (other d) v) h w v p liberty (subst (HasStone g (other d)) k s)) empty
   ]
 
@@ -242,7 +242,7 @@ module _ (g : Board) (d : Colour) (v : ℕ) (h : Board) (w : IsReached g d (InCh
               λ _. j,
             )
         | inr ne ↦
-            let same = placed.without.kept q (λ t. empty_not_stone d (sym (placed.without.gone q t) ∙ s.1)) in
+            let same = placed.1.without.kept q (λ t. empty_not_stone d (sym (placed.1.without.gone q t) ∙ s.1)) in
             let f = w.filled q e (rw w.long e.0, sym (get_or-set_other h.cells p q (stone d) cell.Empty ne) ∙ sym same ∙ s.1) in
             (f.0, f.1, f.2, λ k. f.3 (stood_before f.0 k))
       ]

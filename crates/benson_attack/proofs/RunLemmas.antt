@@ -12,7 +12,7 @@ use Rattle.go_play.specs.Place.{IsPlaced, IsSuicide, Placings}
 use Rattle.benson_life.specs.Life.{HasTwoEyes, IsEye, IsHealthy}
 use Rattle.benson_attack.specs.declared.captures.Run.{Run}
 use Rattle.benson_attack.specs.Reached.{IsReached, IsAtRest, HasRefusals, Follows, Captures, IsPressed, AllAlive, HasEyes, number_of}
-use Rattle.benson_attack.proofs.LegalLemmas.{captures, long, stood_earlier}
+use Rattle.benson_attack.proofs.LegalLemmas.{captures, long, stood_earlier, not_suicide}
 use Rattle.benson_attack.proofs.ReachLemmas.{refused_eyes, reached_first, reached_under, reached_over, reached_next, placings_more}
 use Rattle.benson_attack.proofs.CountLemmas.{rises}
 
@@ -48,7 +48,7 @@ two_listed h d v refused some (p ∷ points) each =
     elim (same_or_apart p points) as (λ _. HasRefusals h d v) [
       | inl all ↦
           let r = refused p l in
-          absurd (r.2 (captures h d p r.0 l.0 r.1 v l (λ q k. elim (in_either p points q ((each q).1 k)) as (λ _. q ≡ p) [
+          absurd (not_suicide h d p r (captures h d p (record h { cells = r.0 }) l.0 (record { columns = refl; rows = refl }) r.1 v l (λ q k. elim (in_either p points q ((each q).1 k)) as (λ _. q ≡ p) [
             | inl e ↦ e
             | inr at ↦ all q at
           ])))
@@ -91,7 +91,7 @@ pressed_next d v old now new p w l placed items =
           let one_more : length new.placings.items ≡ length now.placings.items + 1 = ap length items ∙ length-append now.placings.items (p ∷ []) in
           let few = w.short k in
           omega (arith, up, one_more, few);
-      long = long now.board d p new.board placed.free placed.without ∙ w.long;
+      long = long now.board d p new.board (placed.1.place, placed.1.free) placed.0 placed.1.without ∙ w.long;
       goes = λ g rest. let run = w.goes g rest in (
         reached_next g d v now.board run.0 p l new.board placed,
         subst (λ ps. Placings d g ps new.board) (sym items)

@@ -13,15 +13,8 @@ use Rattle.go_grid.specs.Chain.{HasLiberty, IsSettled}
 use Rattle.go_grid.proofs.WalkLemmas.{joined_here, joined_step, joined_start, joined_end, joined_join, joined_back, carried}
 use Rattle.benson_life.specs.Life.{InRegion, IsWalledBy, IsEye, IsHealthy}
 use Rattle.go_play.specs.Place.{with_stone, IsPlaced, Placings, Stands}
-
--- cells
-pub stone_or_not : (x : Cell) (c : Colour) → (x ≡ stone c) ⊎ (x ≢ stone c)
-stone_or_not cell.Empty colour.Black = inr (λ e. cc)
-stone_or_not cell.Empty colour.White = inr (λ e. cc)
-stone_or_not cell.Black colour.Black = inl refl
-stone_or_not cell.Black colour.White = inr (λ e. cc)
-stone_or_not cell.White colour.Black = inr (λ e. cc)
-stone_or_not cell.White colour.White = inl refl
+use Rattle.go_grid.proofs.BoardLemmas.{empty_not_stone, not_other, same_or_not}
+use Rattle.go_play.proofs.BoardPlay.{breathes, placed_long, taken_choked, taken_stone}
 
 -- what holds no stone of one colour is empty or holds one of the other
 pub empty_or_other : (x : Cell) (d : Colour) → x ≢ stone (other d) → (x ≡ cell.Empty) ⊎ (x ≡ stone d)
@@ -30,14 +23,6 @@ empty_or_other cell.Black colour.Black ne = inr refl
 empty_or_other cell.Black colour.White ne = absurd (ne refl)
 empty_or_other cell.White colour.White ne = inr refl
 empty_or_other cell.White colour.Black ne = absurd (ne refl)
-
-pub empty_not_stone : (c : Colour) → cell.Empty ≢ stone c
-empty_not_stone colour.Black e = cc
-empty_not_stone colour.White e = cc
-
-pub not_both : (d : Colour) → stone d ≢ stone (other d)
-not_both colour.Black e = cc
-not_both colour.White e = cc
 
 -- more points to walk over, where all points that are joined to the start are among them
 pub joined_along : (c : ℕ) (In More : ℕ → Type 0) (p q : ℕ) → ((x : ℕ) → Joined c In p x → More x) → Joined c In p q → Joined c More p q
@@ -55,7 +40,7 @@ first_empty g d r settled lacks =
       | inr k ↦
           let liberty = settled d r (lacks.0, k) in
           let at = carried g.columns (HasStone g d) (InRegion g (other d) r)
-          (λ x y in' n j. joined_step g.columns (Lacks g (other d)) r x y in' n (j.0, λ q. not_both d (sym j.1 ∙ q)))
+          (λ x y in' n j. joined_step g.columns (Lacks g (other d)) r x y in' n (j.0, λ q. not_other d (sym j.1 ∙ q)))
           r liberty.1.1.0 (joined_here g.columns (Lacks g (other d)) r lacks) liberty.1.1.1 in (
             liberty.0,
             joined_step g.columns (Lacks g (other d)) r liberty.1.1.0 liberty.0 at liberty.1.1.2
@@ -92,7 +77,7 @@ module _ (g : Board) (d : Colour) (S : List ℕ) (healthy : IsHealthy g (other d
       → (r : ℕ) → IsWalledBy g (other d) (Contains S) r → (x y : ℕ) → InRegion g (other d) r x
       → NextTo g.columns x y → y < length h.cells → cell_at h y ≢ stone (other d) → InRegion g (other d) r y
   stays h columns long stand r walled x y at n lt ne =
-      elim (stone_or_not (cell_at g y) (other d)) as (λ _. InRegion g (other d) r y) [
+      elim (same_or_not (cell_at g y) (stone (other d))) as (λ _. InRegion g (other d) r y) [
         | inl k ↦ absurd (ne (stand y (walled x y at n (rw long at lt, k))).1)
         | inr k ↦ joined_step g.columns (Lacks g (other d)) r x y at n (rw long at lt, k)
       ]
@@ -143,10 +128,10 @@ module _ (g : Board) (d : Colour) (S : List ℕ) (healthy : IsHealthy g (other d
       record { columns = columns; long = long; stones = stand; others = others; open' = opens }
     where
       columns : m.columns ≡ g.columns
-      columns = placed.without.columns ∙ w.columns
+      columns = placed.0.columns ∙ w.columns
 
       long : length m.cells ≡ length g.cells
-      long = placed.without.long ∙ length-set h.cells p (stone d) ∙ w.long
+      long = placed_long h p d m placed ∙ w.long
 
       on_board : (x : ℕ) → x < length h.cells → x < length m.cells
       on_board x lt = rw (long, ← w.long) lt
@@ -154,22 +139,22 @@ module _ (g : Board) (d : Colour) (S : List ℕ) (healthy : IsHealthy g (other d
       -- a cell that is no stone of the owner stays as it was
       stays_as : (x : ℕ) → x ≢ p → cell_at h x ≢ stone (other d) → cell_at m x ≡ cell_at h x
       stays_as x ne not = let same = get_or-set_other h.cells p x (stone d) cell.Empty ne in
-          placed.without.kept x (λ t. not (sym same ∙ t.0.1)) ∙ same
+          placed.1.without.kept x (λ t. not (sym same ∙ (taken_stone h p d x t).1)) ∙ same
 
       stand : (s : ℕ) → Contains S s → HasStone m (other d) s
       stand s in' =
           let there = w.stones s in' in
-          let apart : s ≢ p = λ k. empty_not_stone (other d) (sym placed.free.1 ∙ ap (cell_at h) (sym k) ∙ there.1) in (
+          let apart : s ≢ p = λ k. empty_not_stone (other d) (sym placed.1.free ∙ ap (cell_at h) (sym k) ∙ there.1) in (
             on_board s there.0,
-            placed.without.kept s (λ t. t.2 (not_choked h w p s placed.free in'))
+            placed.1.without.kept s (λ t. taken_choked h p d s t (not_choked h w p s (placed.1.place, placed.1.free) in'))
                 ∙ get_or-set_other h.cells p s (stone d) cell.Empty apart ∙ there.1,
           )
 
       others : (q : ℕ) → HasStone g d q → HasStone m d q
       others q at =
           let there = w.others q at in
-          let apart : q ≢ p = λ k. empty_not_stone d (sym placed.free.1 ∙ ap (cell_at h) (sym k) ∙ there.1) in
-          (on_board q there.0, stays_as q apart (λ k. not_both d (sym there.1 ∙ k)) ∙ there.1)
+          let apart : q ≢ p = λ k. empty_not_stone d (sym placed.1.free ∙ ap (cell_at h) (sym k) ∙ there.1) in
+          (on_board q there.0, stays_as q apart (λ k. not_other d (sym there.1 ∙ k)) ∙ there.1)
 
       opens : (r : ℕ) → Lacks g (other d) r → IsWalledBy g (other d) (Contains S) r
           → (e : ℕ) × InRegion g (other d) r e × IsEmpty m e
@@ -177,12 +162,13 @@ module _ (g : Board) (d : Colour) (S : List ℕ) (healthy : IsHealthy g (other d
           let e = w.open' r lacks walled in
           elim (cases_eq e.0 p) [
             | inl k ↦
-                let liberty = placed.breathes in
+                let liberty = breathes h p d m placed in
                 let at = carried m.columns (HasStone m d) (InRegion g (other d) r)
-                (λ x y in' n j. stays m columns long stand r walled x y in' (rw columns at n) j.0 (λ q. not_both d (sym j.1 ∙ q)))
+                (λ x y in' n j. stays m columns long stand r walled x y in' (rw columns at n) j.0 (λ q. not_other d (sym j.1 ∙ q)))
                 p liberty.1.1.0 (subst (λ x. InRegion g (other d) r x) k e.1) liberty.1.1.1 in (
                   liberty.0,
-                  stays m columns long stand r walled liberty.1.1.0 liberty.0 at (rw columns at liberty.1.1.2) liberty.1.0.0
+                  stays m columns long stand r walled liberty.1.1.0 liberty.0 at (subst (λ n. NextTo n liberty.1.1.0 liberty.0) columns liberty.1.1.2)
+                      liberty.1.0.0
                       (λ q. empty_not_stone (other d) (sym liberty.1.0.1 ∙ q)),
                   liberty.1.0,
                 )

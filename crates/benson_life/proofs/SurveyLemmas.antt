@@ -13,7 +13,7 @@ use Rattle.benson_life.specs.Eyes.{IsOfChain}
 use Rattle.benson_life.specs.Life.{InRegion, IsVital, IsWalledBy}
 use Rattle.benson_life.specs.Survey.{IsSurvey}
 use Rattle.benson_life.proofs.PartsLemmas.{one_part}
-use Rattle.benson_life.proofs.StandLemmas.{empty_not_stone}
+use Rattle.go_grid.proofs.BoardLemmas.{empty_not_stone}
 
 -- a stone of the chain that `k` names is next to `p`
 abbrev pub HasOfChain : ℕ → Survey → ℕ → ℕ → Type 0

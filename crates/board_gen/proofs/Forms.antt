@@ -37,6 +37,7 @@ use Rattle.local_value.proofs.ShortLaws.{short_plays}
 use Rattle.board_gen.proofs.Heights.{IsLow, canonical_low, from_option, low_follower, low_gain, low_more, low_number, low_plus}
 use Rattle.board_gen.proofs.NoReturn.{AreWalled, no_cycle, same_or_other}
 use Rattle.board_gen.proofs.Owners.{counted, owners, owners_most}
+use Rattle.go_grid.proofs.PlayLemmas.{long_after}
 
 -- the tree of so many stones taken, as a number in parts of 2 ^ -60
 gain_number : (c : Colour) (n : ℕ) → gain c n ≡ number_tree (credit c n *ℤ pos (2 ^ 60))
@@ -122,7 +123,7 @@ module _ (touch : List Touch) (n : ℕ) (c : Colour) (walled : AreWalled touch n
   spent d cells next p taken x long step =
       let w = counted touch n c d walled cells x.to step.0 x.taken long step.1 step.2 in
       let most = owners_most c x.to in
-      let same : length x.to ≡ n = step.1.long ∙ long in (
+      let same : length x.to ≡ n = long_after step.1 ∙ long in (
         elim (same_or_other c d) [
           | inl own ↦ omega (arith, w.own own, w.few, most, same, long, narrow)
           | inr o ↦ omega (arith, w.none o, w.kept)

@@ -13,6 +13,7 @@ use Rattle.local_play.specs.LocalPlay.{Holds, IsBeside, IsLocalMove, IsRemoved, 
 use Rattle.local_graph.specs.declared.cycle.CycleMove.{CycleMove}
 use Rattle.local_graph.specs.LocalGraph.{Plays}
 use Rattle.local_graph.specs.FiniteLocalPlay.{HasNoCycle}
+use Rattle.go_grid.proofs.PlayLemmas.{long_after}
 
 no_stone : (c : Colour) → cell.Empty ≡ stone c → ⊥
 no_stone colour.Black e = cc
@@ -51,7 +52,7 @@ stone_elsewhere cells p i c d empty h =
 
 pub plays_long : (touch : List Touch) (ms : List CycleMove) (from to : List Cell) → Plays touch from ms to → length to ≡ length from
 plays_long touch [] from to same = ap length (sym same)
-plays_long touch (m ∷ ms) from to (next, move, rest) = plays_long touch ms next to rest ∙ move.long
+plays_long touch (m ∷ ms) from to (next, move, rest) = plays_long touch ms next to rest ∙ long_after move
 
 module _ (touch : List Touch) (n : ℕ) (c : Colour) (walled : AreWalled touch n c) where
   -- no stone of the colour is removed
@@ -73,14 +74,14 @@ module _ (touch : List Touch) (n : ℕ) (c : Colour) (walled : AreWalled touch n
   pub placed : (cells after : List Cell) (d : Colour) (p : ℕ) → IsLocalMove touch cells d p after → Holds after d p
   placed cells after d p m =
       let there = stone_there cells p d m.place in
-      m.kept p (none_own (with_stone cells p d) p p d there) ∙ there
+      m.without.kept p (none_own (with_stone cells p d) p p d there) ∙ there
 
   -- the colour's stones stay
   pub owner_stays : (cells after : List Cell) (d : Colour) (p i : ℕ) → length cells ≡ n → IsLocalMove touch cells d p after
       → Holds cells c i → Holds after c i
   owner_stays cells after d p i long m h =
       let there = stone_elsewhere cells p i c d m.free h in
-      m.kept i (elim (same_or_other c d) [
+      m.without.kept i (elim (same_or_other c d) [
         | inl same ↦ none_own (with_stone cells p d) p i d (subst (λ k. Holds (with_stone cells p d) k i) (sym same) there)
         | inr o ↦ (λ r. none_removed (with_stone cells p d) p i (with_long cells p d long)
             (subst (λ k. IsRemoved touch (with_stone cells p d) p k i) (sym o) r))
@@ -91,31 +92,31 @@ module _ (touch : List Touch) (n : ℕ) (c : Colour) (walled : AreWalled touch n
       → Holds cells e i → Holds after e i
   all_stay cells after d e p i long o m h =
       let there = stone_elsewhere cells p i e d m.free h in
-      m.kept i (λ r. none_removed (with_stone cells p d) p i (with_long cells p d long)
+      m.without.kept i (λ r. none_removed (with_stone cells p d) p i (with_long cells p d long)
       (subst (λ k. IsRemoved touch (with_stone cells p d) p k i) (sym o) r)) ∙ there
 
   owner_stays_along : (ms : List CycleMove) (from to : List Cell) (i : ℕ) → length from ≡ n → Plays touch from ms to
       → Holds from c i → Holds to c i
   owner_stays_along [] from to i long same h = subst (λ x. Holds x c i) same h
   owner_stays_along (m ∷ ms) from to i long (next, move, rest) h =
-      owner_stays_along ms next to i (move.long ∙ long) rest (owner_stays from next m.colour m.place i long move h)
+      owner_stays_along ms next to i (long_after move ∙ long) rest (owner_stays from next m.colour m.place i long move h)
 
   -- a stone of the other colour where `to` has none isn't gone at the end, if the colour's stones of `to` are there already
   not_back : (ms : List CycleMove) (from to : List Cell) (p : ℕ) → length from ≡ n → Plays touch from ms to
       → ((i : ℕ) → Holds to c i → Holds from c i) → Holds from (other c) p → held_at to p ≡ cell.Empty → ⊥
   not_back [] from to p long same had h empty = no_stone (other c) (sym empty ∙ subst (λ x. Holds x (other c) p) same h)
   not_back (m ∷ ms) from to p long (next, move, rest) had h empty = elim (same_or_other c m.colour) [
-    | inl same ↦ no_stone c (sym move.free ∙ had m.place (owner_stays_along ms next to m.place (move.long ∙ long) rest
+    | inl same ↦ no_stone c (sym move.free ∙ had m.place (owner_stays_along ms next to m.place (long_after move ∙ long) rest
         (subst (λ k. Holds next k m.place) same (placed from next m.colour m.place move))))
-    | inr o ↦ not_back ms next to p (move.long ∙ long) rest (λ i held. owner_stays from next m.colour m.place i long move (had i held))
+    | inr o ↦ not_back ms next to p (long_after move ∙ long) rest (λ i held. owner_stays from next m.colour m.place i long move (had i held))
         (all_stay from next m.colour (other c) m.place p long o move h) empty
   ]
 
   no_return : (m : CycleMove) (ms : List CycleMove) (cells : List Cell) → length cells ≡ n → Plays touch cells (m ∷ ms) cells → ⊥
   no_return m ms cells long (next, move, rest) = elim (same_or_other c m.colour) [
-    | inl same ↦ no_stone c (sym move.free ∙ owner_stays_along ms next cells m.place (move.long ∙ long) rest
+    | inl same ↦ no_stone c (sym move.free ∙ owner_stays_along ms next cells m.place (long_after move ∙ long) rest
         (subst (λ k. Holds next k m.place) same (placed cells next m.colour m.place move)))
-    | inr o ↦ not_back ms next cells m.place (move.long ∙ long) rest (λ i held. owner_stays cells next m.colour m.place i long move held)
+    | inr o ↦ not_back ms next cells m.place (long_after move ∙ long) rest (λ i held. owner_stays cells next m.colour m.place i long move held)
         (subst (λ k. Holds next k m.place) (turn c m.colour o) (placed cells next m.colour m.place move)) move.free
   ]
 

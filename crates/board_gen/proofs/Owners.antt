@@ -10,6 +10,7 @@ use Rattle.go_grid.specs.declared.region.Touch.{Touch}
 use Rattle.go_grid.specs.Board.{stone, other}
 use Rattle.local_play.specs.LocalPlay.{Holds, IsLocalMove, IsNumberTaken, held_at, is_stone}
 use Rattle.board_gen.proofs.NoReturn.{AreWalled, all_stay, owner_stays, placed}
+use Rattle.go_grid.proofs.PlayLemmas.{long_after}
 
 abbrev one_if : Bool → ℕ
 one_if b = cond b 1 0
@@ -137,11 +138,11 @@ pub counted : (touch : List Touch) (n : ℕ) (c d : Colour) (walled : AreWalled 
     → length before ≡ n → IsLocalMove touch before d p after → IsNumberTaken before after taken → IsCounted c d before after taken
 counted touch n c d walled before after p taken long move number =
     let stays : (i : ℕ) → Holds before c i → Holds after c i = λ i h. owner_stays touch n c walled before after d p i long move h in record {
-      own = λ same. owners_come c before after p move.long move.place stays move.free
+      own = λ same. owners_come c before after p (long_after move) move.place stays move.free
           (subst (λ k. Holds after k p) same (placed touch n c walled before after d p move));
-      kept = owners_stay c before after move.long stays;
+      kept = owners_stay c before after (long_after move) stays;
       few = omega (arith, number, count_by-le-length is_stone before);
-      none = λ o. (let more = none_taken before after p move.long move.place
+      none = λ o. (let more = none_taken before after p (long_after move) move.place
           (λ e i h. all_stay touch n c walled before after d e p i long o move h) move.free d (placed touch n c walled before after d p move) in
           omega (arith, number, more));
     }

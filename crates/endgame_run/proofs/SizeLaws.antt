@@ -105,9 +105,8 @@ taken_board colour.White n s = refl
 
 keeps_placed : (node : ℕ) (c : Colour) (p : ℕ) (s : Replay) (h : Board) (answer : Result ℕ PlaceError) → Answers s.board p c h answer → Fine s (placed node c s h answer)
 keeps_placed node c p s h (Ok n) a =
-    let w = a.0.without in
     subst (λ b. SameSize s.board b) (sym (taken_board c n (record s { board = h })))
-    (record { columns = w.columns; rows = w.rows; long = w.long ∙ length-set s.board.cells p (stone c) })
+    (record { columns = a.0.0.columns; rows = a.0.0.rows; long = a.0.1.without.long ∙ length-set s.board.cells p (stone c) })
 keeps_placed node c p s h (Err place.Occupied) a = tt
 keeps_placed node c p s h (Err place.Suicide) a = tt
 

@@ -28,6 +28,7 @@ use Rattle.local_value.specs.PositionTree.{IsStep, IsValueOf}
 use Rattle.local_value.specs.Values.{IsGraphOf, IsPlaceOf, AreValues}
 use Rattle.local_value.proofs.PositionLaws.{trees-same}
 use Rattle.endgame_solver.specs.Faults.{HasLargeForm}
+use Rattle.go_grid.proofs.PlayLemmas.{long_after}
 
 -- one item more, which stands in the relation to each before it
 pub pairs_push : {X : Type 0} (R : X → X → Type 0) (xs : List X) (y : X) → AllPairs R xs → ((x : X) → Contains xs x → R x y) → AllPairs R (xs ++ y ∷ [])
@@ -105,7 +106,7 @@ plays_places : (touch : List Touch) (from to : List Cell) (ms : List CycleMove) 
 plays_places touch from to [] p = All-nil (λ m. m.place < length from)
 plays_places touch from to (m ∷ ms) (next, move, rest) =
     All-cons (λ n. n.place < length from) m ms move.place
-    (All-weaker (λ n. n.place < length next) (λ n. n.place < length from) (λ n lt. omega (arith, lt, move.long)) ms (plays_places touch next to ms rest))
+    (All-weaker (λ n. n.place < length next) (λ n. n.place < length from) (λ n lt. omega (arith, lt, long_after move)) ms (plays_places touch next to ms rest))
 
 pub cycle_places : (r : Region) (ms : List CycleMove) (back : ℕ) → IsCycle r.touch r.cells ms back → length r.cells ≡ length r.points
     → All (λ m. m.place < length r.points) ms

@@ -20,6 +20,7 @@ use Rattle.region_book.specs.Shape.Direction.{up, left, right, down}
 use Rattle.region_book.proofs.CarryLaws.{carries_back}
 use Rattle.region_book.proofs.SymmetryLaws.{back, colour_back}
 use Rattle.endgame_solver.specs.ShapeValues.{AreLinked}
+use Rattle.go_grid.proofs.PlayLemmas.{long_after}
 
 stone_after : (colours : Bool) (c : Colour) → cell_after colours (stone c) ≡ stone (colour_after colours c)
 stone_after false c = refl
@@ -241,7 +242,7 @@ module _ (touch touch' : List Touch) (Paired : ℕ → ℕ → Type 0) (s : Symm
         let placed = placed_over cells cells' c p q m.place lq at h in
         let full : AreLinked touch (with_stone cells p c) = record { full = length-set cells p (stone c) ∙ linked.full; inside = linked.inside } in
         let full' : AreLinked touch' (with_stone cells' q c') = record { full = length-set cells' q (stone c') ∙ linked'.full; inside = linked'.inside } in
-        let linked_after : AreLinked touch after = record { full = m.long ∙ linked.full; inside = linked.inside } in
+        let linked_after : AreLinked touch after = record { full = long_after m ∙ linked.full; inside = linked.inside } in
         let taken_back = λ (j l : ℕ) (r : Paired j l) (gone : IsRemoved touch' (with_stone cells' q c') q (other c') l).
         subst (λ d. IsRemoved touch (with_stone cells p c) p d j) (ap (colour_after colours) (sym (other_after colours c)) ∙ colour_back colours (other c))
         (removed_over touch' (with_stone cells' q c') touch (with_stone cells p c) (λ a b. Paired b a) (back s) colours full' full
@@ -249,22 +250,24 @@ module _ (touch touch' : List Touch) (Paired : ℕ → ℕ → Type 0) (s : Symm
         record {
           place = lq;
           free = h.held p q at ∙ ap (cell_after colours) m.free ∙ empty_after colours;
-          long = length-image after;
-          gone = λ l gone. elim (cases_lt l (length touch')) as (λ _. held_at (image after) l ≡ cell.Empty) [
-            | inl lt ↦ (let (j, r) = h.second l lt in held-image after j l r ∙ ap (cell_after colours) (m.gone j (taken_back j l r gone)) ∙ empty_after colours)
-            | inr le ↦ get_or_past (image after) l cell.Empty (omega (arith, le, length-image after, linked'.full))
-          ];
-          kept = λ l stays. elim (cases_lt l (length touch')) as (λ _. held_at (image after) l ≡ held_at (with_stone cells' q c') l) [
-            | inl lt ↦
-                let (j, r) = h.second l lt in
-                let still : ¬ IsRemoved touch (with_stone cells p c) p (other c) j = λ gone. stays
-                (subst (λ d. IsRemoved touch' (with_stone cells' q c') q d l) (other_after colours c)
-                (removed_over touch (with_stone cells p c) touch' (with_stone cells' q c') Paired s colours full full' placed (other c) p q j l at r gone)) in
-                held-image after j l r ∙ ap (cell_after colours) (m.kept j still) ∙ sym (placed.held j l r)
-            | inr le ↦
-                get_or_past (image after) l cell.Empty (omega (arith, le, length-image after, linked'.full))
-                ∙ sym (get_or_past (with_stone cells' q c') l cell.Empty (omega (arith, le, length-set cells' q (stone c'), linked'.full)))
-          ];
+          without = record {
+            long = length-image after ∙ sym (length-set cells' q (stone c'));
+            gone = λ l gone. elim (cases_lt l (length touch')) as (λ _. held_at (image after) l ≡ cell.Empty) [
+              | inl lt ↦ (let (j, r) = h.second l lt in held-image after j l r ∙ ap (cell_after colours) (m.without.gone j (taken_back j l r gone)) ∙ empty_after colours)
+              | inr le ↦ get_or_past (image after) l cell.Empty (omega (arith, le, length-image after, linked'.full))
+            ];
+            kept = λ l stays. elim (cases_lt l (length touch')) as (λ _. held_at (image after) l ≡ held_at (with_stone cells' q c') l) [
+              | inl lt ↦
+                  let (j, r) = h.second l lt in
+                  let still : ¬ IsRemoved touch (with_stone cells p c) p (other c) j = λ gone. stays
+                  (subst (λ d. IsRemoved touch' (with_stone cells' q c') q d l) (other_after colours c)
+                  (removed_over touch (with_stone cells p c) touch' (with_stone cells' q c') Paired s colours full full' placed (other c) p q j l at r gone)) in
+                  held-image after j l r ∙ ap (cell_after colours) (m.without.kept j still) ∙ sym (placed.held j l r)
+              | inr le ↦
+                  get_or_past (image after) l cell.Empty (omega (arith, le, length-image after, linked'.full))
+                  ∙ sym (get_or_past (with_stone cells' q c') l cell.Empty (omega (arith, le, length-set cells' q (stone c'), linked'.full)))
+            ];
+          };
           stands = free_over touch after touch' (image after) Paired s colours linked_after (image_over after) c p q at m.stands;
         }
 

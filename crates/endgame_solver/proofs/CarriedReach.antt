@@ -16,6 +16,7 @@ use Rattle.region_book.proofs.CarryLaws.{carries_back}
 use Rattle.region_book.proofs.SymmetryLaws.{back}
 use Rattle.endgame_solver.specs.ShapeValues.{AreLinked}
 use Rattle.endgame_solver.proofs.CarriedPlay.{image, image_linked, image_over, move_over, number_over}
+use Rattle.go_grid.proofs.PlayLemmas.{long_after}
 
 -- the pairing carries the one position onto the other
 abbrev pub Matched : List Touch → List Touch → (ℕ → ℕ → Type 0) → Bool → List Cell → List Cell → Type 0
@@ -52,11 +53,11 @@ module _ (touch touch' : List Touch) (Paired : ℕ → ℕ → Type 0) (colours 
         next = image touch touch' Paired s colours a b linked linked' h after;
         move = move_over touch touch' Paired s colours a b linked linked' h c p q after at move;
         matched = (
-          record { full = move.long ∙ linked.full; inside = linked.inside },
+          record { full = long_after move ∙ linked.full; inside = linked.inside },
           image_linked touch touch' Paired s colours a b linked linked' h after,
           (s, image_over touch touch' Paired s colours a b linked linked' h after),
         );
-        number = λ n number. number_over touch touch' Paired s colours a b linked linked' h after n move.long number;
+        number = λ n number. number_over touch touch' Paired s colours a b linked linked' h after n (long_after move) number;
       }
 
   -- as many moves from the second position

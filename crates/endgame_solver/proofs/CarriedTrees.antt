@@ -22,6 +22,7 @@ use Rattle.region_book.proofs.CarryLaws.{carries_back}
 use Rattle.region_book.proofs.SymmetryLaws.{back, colour_back}
 use Rattle.endgame_solver.specs.ShapeValues.{AreLinked, ShapesKeepValues, game_after}
 use Rattle.endgame_solver.proofs.CarriedPlay.{image, image_linked, image_over, move_over, number_over}
+use Rattle.go_grid.proofs.PlayLemmas.{long_after}
 
 after-options : (colours : Bool) (c : Colour) (H Z : Tree) → Has (options (colour_after colours c) H) Z → Has (options c (game_after colours H)) (game_after colours Z)
 after-options false c H Z h = h
@@ -59,9 +60,9 @@ step_over touch cells touch' cells' Paired s colours linked linked' h c m (p, mo
       (
         q,
         move_over touch touch' Paired s colours cells cells' linked linked' h c p q m.to at move,
-        number_over touch touch' Paired s colours cells cells' linked linked' h m.to m.taken move.long number,
+        number_over touch touch' Paired s colours cells cells' linked linked' h m.to m.taken (long_after move) number,
       ),
-      record { full = move.long ∙ linked.full; inside = linked.inside },
+      record { full = long_after move ∙ linked.full; inside = linked.inside },
       image_linked touch touch' Paired s colours cells cells' linked linked' h m.to,
       (s, image_over touch touch' Paired s colours cells cells' linked linked' h m.to),
     )

@@ -33,6 +33,7 @@ use Rattle.region_cut.proofs.LocalBoardLemmas.{holds_after, plays_locally}
 use Rattle.region_cut.proofs.FreedomLemmas.{point_contested}
 use Rattle.endgame_solver.specs.Regions.{no_region, region_at, InRegion}
 use Rattle.endgame_solver.specs.WholeParts.{OthersStay, IsPlayedIn, IsPlayableIn, IsLocalPlay}
+use Rattle.go_grid.proofs.PlayLemmas.{long_after}
 
 -- which region, and a local position of it
 pub record Position : Type 0 where
@@ -107,8 +108,8 @@ module _ (g : Board) (settled : IsSettled g) (regions : List Region) (are : AreR
       → IsHeld g regions after k (position_in k next) × OthersStay Position moves (InRegion regions) (IsHeld g regions) k h after
   held_after h after k q next c i p s placed move local =
       let r = region_at regions k in
-      let own = holds_after g r q.cells next h after (are.each r (region_in k s.known)) s.holds placed.without.columns
-      (placed.without.long ∙ length-set h.cells p (stone c)) move.long local.inside local.outside in (
+      let own = holds_after g r q.cells next h after (are.each r (region_in k s.known)) s.holds placed.0.columns
+      (placed.1.without.long ∙ length-set h.cells p (stone c)) (long_after move) local.inside local.outside in (
         record {
           region = refl;
           known = s.known;

@@ -20,13 +20,14 @@ use Rattle.whole_rules.specs.WholeGame.{State}
 use Rattle.whole_rules.proofs.WallLaws.{Keeps, keeps_move, keeps_start, keeps_plays}
 use Rattle.local_graph.specs.declared.cycle.CycleMove.{CycleMove}
 use Rattle.local_graph.specs.LocalGraph.{Plays as LocalPlays}
-use Rattle.region_cut.proofs.WallLemmas.{same_or_not}
+use Rattle.go_grid.proofs.BoardLemmas.{same_or_not}
 use Rattle.region_cut.specs.Cut.{AreRegionsOfPlay}
 use Rattle.region_cut.specs.LocalBoard.{HoldsPosition}
 use Rattle.region_cut.proofs.LocalBoardLemmas.{plays_locally}
 use Rattle.region_cut.proofs.ApartLemmas.{HoldPositions, holds_start, only_region, positions_after}
 use Rattle.endgame_solver.specs.Bookkeeping.{AreMovesIn, RegionsFollow}
 use Rattle.endgame_solver.specs.Regions.{no_region, region_at}
+use Rattle.go_grid.proofs.PlayLemmas.{long_after}
 
 module _ (g : Board) (settled : IsSettled g) (regions : List Region) (cut : AreRegionsOfPlay g regions) where
   abbrev Held : List (List Cell) → Board → Type 0
@@ -74,7 +75,7 @@ module _ (g : Board) (settled : IsSettled g) (regions : List Region) (cut : AreR
         at = there;
         next = m.0;
         moves = (m.0, m.1, refl);
-        held = positions_after g regions cut positions m.0 h after l p c no_region held w.1 placed m.1.long is;
+        held = positions_after g regions cut positions m.0 h after l p c no_region held w.1 placed (long_after m.1) is;
         alone = w.3;
       }
 

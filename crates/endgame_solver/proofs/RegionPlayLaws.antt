@@ -23,6 +23,7 @@ use Rattle.endgame_solver.specs.WholeParts.{OthersStay, IsPlayedIn, IsPlayableIn
 use Rattle.local_value.specs.GraphMoves.{step_of}
 use Rattle.local_value.proofs.GraphLaws.{IsEdgeFor, edge_of, move_of, next_place}
 use Rattle.local_value.proofs.StepLaws.{steps-out, steps-in}
+use Rattle.go_grid.proofs.PlayLemmas.{long_after}
 
 module _ (g : Board) (regions : List Region) (graphs : List Graph) (are : AreGraphs g regions graphs) where
   pub region_in : (k : ℕ) → k < length regions → Contains regions (region_at regions k)
@@ -35,8 +36,8 @@ module _ (g : Board) (regions : List Region) (graphs : List Graph) (are : AreGra
       → IsShown g regions graphs after k (record { region = k; place = e.next }) × OthersStay Spot (moves_at graphs) (InRegion regions) (IsShown g regions graphs) k h after
   shown_after h after k q cells next c i p n e has holds placed move local edge =
       let r = region_at regions k in
-      let own = holds_after g r cells next h after (are.cut.each r (region_in k has.known)) holds placed.without.columns
-      (placed.without.long ∙ length-set h.cells p (stone c)) move.long local.inside local.outside in (
+      let own = holds_after g r cells next h after (are.cut.each r (region_in k has.known)) holds placed.0.columns
+      (placed.1.without.long ∙ length-set h.cells p (stone c)) (long_after move) local.inside local.outside in (
         (next, record { region = refl; known = has.known; at = next_place (region_at regions k) (graph_at graphs k) (are.each k has.known) q.place cells next c i n e has.at move edge }, own),
         λ l q' ne (cells', has', holds').
             let s = region_at regions l in (

@@ -1,8 +1,7 @@
 -- One fill: a point is met, a point's neighbours are met, and what is met when none waits.
-use Rattle.std.proofs.Common.{◌≡◌, ◌≢◌, ℕ, ◌+◌, ◌<◌, ◌≤◌, ◌⊎◌, inl, inr, arith, refl, List, Bool, Option, Some, None, length, get_or, ◌∙◌, set, below_more, sym, subst}
-use Rattle.std.specs.List.{Contains, count_by}
+use Rattle.std.proofs.Common.{◌≡◌, ◌≢◌, ℕ, ◌+◌, ◌<◌, ◌≤◌, ◌⊎◌, inl, inr, arith, refl, List, Bool, Option, Some, None, length, get_or, ◌∙◌, set, below_more, sym}
+use Rattle.std.specs.List.{count_by}
 use Rattle.std.specs.Option.{IfSome}
-use Rattle.std.proofs.lemmas.List.Elements.{Contains-get_or}
 use Rattle.std.proofs.lemmas.Bool.{cases_eq}
 use Rattle.std.proofs.lemmas.List.{get_or-set_same, get_or-set_other}
 use Rattle.go_grid.specs.declared.filling.Work.{Work}

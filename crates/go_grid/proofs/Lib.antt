@@ -6,6 +6,8 @@ pub mod FillLemmas
 pub mod PartsLemmas
 pub mod BoardLemmas
 pub mod ChainLemmas
+pub mod PlayLemmas
+pub mod LinkLemmas
 pub mod NameLemmas
 mod Instances
 pub mod Decided

@@ -34,12 +34,17 @@ leads_start Next In p q (r ∷ rest, w) = w.0
 pub leads_end : (Next : ℕ → ℕ → Type 0) (In : ℕ → Type 0) (p q : ℕ) → Leads Next In p q → In q
 leads_end Next In p q j = carried Next In In (λ p q _ _ h. h) p q (leads_start Next In p q j) j
 
--- more places to go over
+-- more places and more steps to go over
+pub leads_over : (Next More : ℕ → ℕ → Type 0) (In Wider : ℕ → Type 0) → ((p : ℕ) → In p → Wider p)
+    → ((p q : ℕ) → Next p q → In q → More p q) → (p q : ℕ) → Leads Next In p q → Leads More Wider p q
+leads_over Next More In Wider wider more p q j =
+    carried Next In (Leads More Wider p) (λ x y k n h. leads_step More Wider p x y k (more x y n h) (wider y h)) p q
+    (leads_here More Wider p (wider p (leads_start Next In p q j))) j
+
+-- more places
 pub leads_more : (Next : ℕ → ℕ → Type 0) (In More : ℕ → Type 0) → ((p : ℕ) → In p → More p) → (p q : ℕ)
     → Leads Next In p q → Leads Next More p q
-leads_more Next In More wider p q j =
-    carried Next In (Leads Next More p) (λ x y k n h. leads_step Next More p x y k n (wider y h)) p q
-    (leads_here Next More p (wider p (leads_start Next In p q j))) j
+leads_more Next In More wider = leads_over Next Next In More wider (λ p q n h. n)
 
 -- one path and then another
 pub leads_join : (Next : ℕ → ℕ → Type 0) (In : ℕ → Type 0) (p q r : ℕ) → Leads Next In p q → Leads Next In q r → Leads Next In p r

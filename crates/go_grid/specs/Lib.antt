@@ -1,5 +1,6 @@
 pub mod Board
 pub mod Path
+pub mod Play
 pub mod Walk
 pub mod Chain
 pub mod Marks

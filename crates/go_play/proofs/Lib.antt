@@ -1,2 +1,3 @@
+pub mod BoardPlay
 pub mod PlaceLemmas
 pub mod StripLemmas

@@ -1,8 +1,7 @@
 -- A board without the stones of a set, and how many there are.
-use Rattle.std.proofs.Common.{◌≡◌, ℕ, ◌+◌, ◌<◌, inl, inr, List, [], ◌∷◌, suc, zero, Bool, true, false, length, get_or, set, refl, sym, ap, ◌∙◌, arith, cond}
+use Rattle.std.proofs.Common.{◌≡◌, ℕ, ◌+◌, ◌<◌, List, [], ◌∷◌, suc, zero, Bool, true, false, length, get_or, set, refl, ap, ◌∙◌, arith, cond}
 use Rattle.std.specs.List.{count_by}
-use Rattle.std.proofs.lemmas.Bool.{cases_Bool, both_ways, false_from_ne_true}
-use Rattle.std.proofs.lemmas.List.{ext_get_or}
+use Rattle.std.proofs.lemmas.Bool.{false_from_ne_true}
 use Rattle.std.proofs.lemmas.List.Sums.{sum_by-set, sum_by-cons}
 use Rattle.go_grid.specs.declared.grid.Cell.{Cell}
 use Rattle.go_grid.specs.declared.grid.Cell.TheVariants as cell
@@ -11,7 +10,11 @@ use Rattle.go_grid.specs.declared.grid.Colour.TheVariants as colour
 use Rattle.go_grid.specs.Board.{Board, IsEmpty, cell_at, stone, other}
 use Rattle.go_grid.specs.Marks.{IsMarked, Marks}
 use Rattle.go_grid.proofs.PointsLemmas.{no_mark}
-use Rattle.go_play.specs.Place.{with_stone, IsTaken, IsWithout, is_stone, IsNumberTaken}
+use Rattle.go_grid.specs.Play.{is_stone, IsWithout}
+use Rattle.go_grid.specs.Play as play
+use Rattle.go_grid.proofs.PlayLemmas.{one_without}
+use Rattle.go_play.specs.Place.{IsCleared, IsTaken}
+use Rattle.go_play.proofs.BoardPlay.{taken_stone}
 
 -- the cells, without those that are marked
 abbrev pub strip : List Bool → List Cell → List Cell
@@ -55,53 +58,36 @@ counted-strip (false ∷ ms) (x ∷ xs) all =
     let rest = counted-strip ms xs (λ q m. let w = all (suc q) m in (omega (arith, w.0), w.1)) in
     omega (arith, rest, counted-cons is_stone x (strip ms xs), counted-cons (λ m. m) false ms, counted-cons is_stone x xs)
 
--- the board without what is marked
-abbrev pub stripped : Board → List Bool → Board
-stripped b ms = record b { cells = strip ms b.cells }
-
-pub without_stripped : (b : Board) (P : ℕ → Type 0) (ms : List Bool) → Marks ms P → IsWithout b P (stripped b ms)
-without_stripped b P ms is = record {
-  columns = refl;
-  rows = refl;
-  long = length-strip ms b.cells;
-  gone = λ q t. let on = (is q).1 t in get-strip ms b.cells q ∙ ap (λ m. cond m cell.Empty (cell_at b q)) on;
+pub without_stripped : (cells : List Cell) (P : ℕ → Type 0) (ms : List Bool) → Marks ms P → IsWithout cells P (strip ms cells)
+without_stripped cells P ms is = record {
+  long = length-strip ms cells;
+  gone = λ q t. let on = (is q).1 t in get-strip ms cells q ∙ ap (λ m. cond m cell.Empty (get_or cells q cell.Empty)) on;
   kept = λ q n.
       let off = false_from_ne_true (get_or ms q false) (λ m. n ((is q).0 m)) in
-      get-strip ms b.cells q ∙ ap (λ m. cond m cell.Empty (cell_at b q)) off;
+      get-strip ms cells q ∙ ap (λ m. cond m cell.Empty (get_or cells q cell.Empty)) off;
 }
-
--- there is only one such board
-only_stripped : (b : Board) (P : ℕ → Type 0) (ms : List Bool) (h : Board) → Marks ms P → IsWithout b P h → h.cells ≡ strip ms b.cells
-only_stripped b P ms h is w =
-    let s = without_stripped b P ms is in
-    ext_get_or cell.Empty h.cells (strip ms b.cells) (w.long ∙ sym s.long) (λ q _.
-    elim (cases_Bool (get_or ms q false)) as (λ _. cell_at h q ≡ get_or (strip ms b.cells) q cell.Empty) [
-      | inl on ↦ let t = (is q).0 on in w.gone q t ∙ sym (s.gone q t)
-      | inr off ↦ let n = λ (t : P q). both_ways _ off ((is q).1 t) in w.kept q n ∙ sym (s.kept q n)
-    ])
 
 stone_is : (c : Colour) → is_stone (stone c) ≡ true
 stone_is colour.Black = refl
 stone_is colour.White = refl
 
-pub number_taken : (g : Board) (p : ℕ) (c : Colour) (h : Board) (taken : List Bool) → IsEmpty g p
-    → Marks taken (IsTaken (with_stone g p c) p (other c)) → IsWithout (with_stone g p c) (IsTaken (with_stone g p c) p (other c)) h
-    → IsNumberTaken g h (count_by (λ m. m) taken)
-number_taken g p c h taken free is w =
-    let same = only_stripped (with_stone g p c) (IsTaken (with_stone g p c) p (other c)) taken h is w in
-    let all = counted-strip taken (set g.cells p (stone c)) (λ q m. let t = (is q).0 m in
-    (t.0.0, ap is_stone t.0.1 ∙ stone_is (other c))) in
+pub number_taken : (g : Board) (p : ℕ) (c : Colour) (cells : List Cell) (taken : List Bool) → IsEmpty g p → Marks taken (IsTaken g p c)
+    → IsCleared g p c cells → play.IsNumberTaken g.cells cells (count_by (λ m. m) taken)
+number_taken g p c cells taken free is w =
+    let b = set g.cells p (stone c) in
+    let same = one_without b (IsTaken g p c) cells (strip taken b) w (without_stripped b (IsTaken g p c) taken is) in
+    let all = counted-strip taken b (λ q m. let t = taken_stone g p c q ((is q).0 m) in
+    (t.0, ap is_stone t.1 ∙ stone_is (other c))) in
     let rise = sum_by-set (λ y. cond (is_stone y) 1 0) g.cells p (stone c) cell.Empty free.0 in
     let was : is_stone (cell_at g p) ≡ false = ap is_stone free.1 in
-    let more : count_by is_stone (set g.cells p (stone c)) ≡ count_by is_stone g.cells + 1 =
+    let more : count_by is_stone b ≡ count_by is_stone g.cells + 1 =
     omega (arith, rw (was, stone_is c) at rise) in
     rw same (omega (arith, all, more))
 
--- the same points by another name
-pub without_marked : (b : Board) (P : ℕ → Type 0) (ms : List Bool) (h : Board) → Marks ms P → IsWithout b (IsMarked ms) h → IsWithout b P h
-without_marked b P ms h is w = record {
-  columns = w.columns;
-  rows = w.rows;
+-- the same places by another name
+pub without_marked : (cells : List Cell) (P : ℕ → Type 0) (ms : List Bool) (after : List Cell) → Marks ms P
+    → IsWithout cells (IsMarked ms) after → IsWithout cells P after
+without_marked cells P ms after is w = record {
   long = w.long;
   gone = λ q t. w.gone q ((is q).1 t);
   kept = λ q n. w.kept q (λ m. n ((is q).0 m));

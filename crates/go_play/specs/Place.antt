@@ -1,43 +1,48 @@
--- Placing a stone, and lists of placings that nobody answers.
-use Rattle.std.specs.Prelude.{◌≡◌, ◌+◌, ℕ, List, [], ◌∷◌, Bool, true, false, slice_set, length, count_by, Result, Ok, Err}
+-- Placing a stone on a board, and lists of placings that nobody answers.
+use Rattle.std.specs.Prelude.{◌≡◌, ◌<◌, ℕ, List, [], ◌∷◌, length, Result, Ok, Err}
 use Rattle.go_grid.specs.declared.grid.Cell.{Cell}
-use Rattle.go_grid.specs.declared.grid.Cell.TheVariants.{Empty, Black, White}
 use Rattle.go_grid.specs.declared.grid.Colour.{Colour}
-use Rattle.go_grid.specs.Board.{Board, NextTo, HasStone, IsEmpty, cell_at, stone, other}
-use Rattle.go_grid.specs.Chain.{InChain, HasLiberty}
+use Rattle.go_grid.specs.Board.{Board, NextTo, HasStone, IsEmpty, other}
+use Rattle.go_grid.specs.Play as play
 use Rattle.go_play.specs.declared.placing.PlaceError.{PlaceError}
 use Rattle.go_play.specs.declared.placing.PlaceError.TheVariants.{Occupied, Suicide}
 
+-- `q` is a point of the board next to `p`
+abbrev pub IsBy : Board → ℕ → ℕ → Type 0
+IsBy g p q = (q < length g.cells) × NextTo g.columns p q
+
+-- no stone of a board is free by itself: a chain is free where it has a liberty
+abbrev pub Never : Colour → ℕ → Type 0
+Never c p = ⊥
+
 -- the board with a stone more
 abbrev pub with_stone : Board → ℕ → Colour → Board
-with_stone g p c = record g { cells = slice_set g.cells p (stone c) }
+with_stone g p c = record g { cells = play.with_stone g.cells p c }
 
--- a stone of the colour, in a chain that is next to `p` and has no liberty
+-- a stone of the colour at `p` takes what stands at `q`: a stone of the other colour, in a chain that is next to `p` and then has no liberty
 abbrev pub IsTaken : Board → ℕ → Colour → ℕ → Type 0
-IsTaken g p d q = HasStone g d q × ((r : ℕ) × InChain g d q r × NextTo g.columns r p) × ¬ HasLiberty g d q
+IsTaken g p c q = play.IsTaken (IsBy g) Never (play.with_stone g.cells p c) p (other c) q
 
--- `h` is `g` without the stones of `Gone`
-pub record IsWithout (g : Board) (Gone : ℕ → Type 0) (h : Board) : Type 0 where
+-- the cells of a board after a stone at `p`, without what it takes
+abbrev pub IsCleared : Board → ℕ → Colour → List Cell → Type 0
+IsCleared g p c cells = play.IsWithout (play.with_stone g.cells p c) (IsTaken g p c) cells
+
+-- the chain of `p` has a liberty, where the board holds these cells
+abbrev pub Breathes : Board → List Cell → Colour → ℕ → Type 0
+Breathes g cells c p = play.IsFree (IsBy g) Never cells c p
+
+-- two boards are of one size
+pub record IsSameSize (g h : Board) : Type 0 where
   pub columns : h.columns ≡ g.columns
   pub rows : h.rows ≡ g.rows
-  pub long : length h.cells ≡ length g.cells
-  pub gone : (q : ℕ) → Gone q → cell_at h q ≡ Empty
-  pub kept : (q : ℕ) → ¬ Gone q → cell_at h q ≡ cell_at g q
 
 -- `h` is `g` after a stone of the colour at `p`, with what it takes off the board
-pub record IsPlaced (g : Board) (p : ℕ) (c : Colour) (h : Board) : Type 0 where
-  pub free : IsEmpty g p
-  pub without : IsWithout (with_stone g p c) (IsTaken (with_stone g p c) p (other c)) h
-  pub breathes : HasLiberty h c p
-
-abbrev pub is_stone : Cell → Bool
-is_stone Empty = false
-is_stone Black = true
-is_stone White = true
+abbrev pub IsPlaced : Board → ℕ → Colour → Board → Type 0
+IsPlaced g p c h = IsSameSize g h × play.IsPlaced (IsBy g) Never g.cells p c h.cells
 
 -- how many stones the second board lacks of the first with its new stone
 abbrev pub IsNumberTaken : Board → Board → ℕ → Type 0
-IsNumberTaken g h n = count_by is_stone h.cells + n ≡ count_by is_stone g.cells + 1
+IsNumberTaken g h n = play.IsNumberTaken g.cells h.cells n
 
 -- placings of one colour, one after the other, each legal on the board that the earlier ones leave
 abbrev pub Placings : Colour → Board → List ℕ → Board → Type 0
@@ -48,9 +53,9 @@ Placings c g (p ∷ ps) h = (m : Board) × IsPlaced g p c m × Placings c m ps h
 abbrev pub Stands : Board → Colour → ℕ → Type 0
 Stands g c s = (ps : List ℕ) (h : Board) → Placings (other c) g ps h → HasStone h c s
 
--- there is a board without what the new stone takes, and on it the new stone's chain has no liberty
+-- what the new stone takes can be cleared away, and then the new stone's chain has no liberty
 abbrev pub IsSuicide : Board → ℕ → Colour → Type 0
-IsSuicide g p c = (h : Board) × IsWithout (with_stone g p c) (IsTaken (with_stone g p c) p (other c)) h × ¬ HasLiberty h c p
+IsSuicide g p c = (cells : List Cell) × IsCleared g p c cells × ¬ Breathes g cells c p
 
 -- what a placing answers: the stones taken, or why it is refused
 abbrev pub Answers : Board → ℕ → Colour → Board → Result ℕ PlaceError → Type 0

@@ -1,5 +1,6 @@
 -- A new stone on the board before any is taken off, and what is found out about it.
 use Rattle.std.specs.Prelude.{ℕ, List, Bool, Result, Ok, Err}
+use Rattle.go_grid.specs.declared.grid.Cell.{Cell}
 use Rattle.go_grid.specs.declared.grid.Colour.{Colour}
 use Rattle.go_grid.specs.Board.{Board, HasStone, IsEmpty, other}
 use Rattle.go_grid.specs.Chain.{InChain, HasLiberty}
@@ -7,7 +8,7 @@ use Rattle.go_grid.specs.Marks.{Marks}
 use Rattle.go_play.specs.declared.placing.PlaceError.{PlaceError}
 use Rattle.go_play.specs.declared.placing.PlaceError.TheVariants.{Occupied, Suicide}
 use Rattle.go_play.specs.declared.placing.Tried.{Tried}
-use Rattle.go_play.specs.Place.{with_stone, IsTaken, IsWithout, IsSuicide}
+use Rattle.go_play.specs.Place.{with_stone, IsTaken, IsCleared, Breathes, IsSuicide}
 
 -- the sets are the stones of each colour and the empty points of the board with the new stone
 pub record IsTried (g : Board) (p : ℕ) (c : Colour) (t : Tried) : Type 0 where
@@ -21,7 +22,7 @@ IsLost b d s q = HasStone b d s × ¬ HasLiberty b d s × InChain b d s q
 
 -- the stones taken, where the placing is legal
 abbrev pub Judges : Board → ℕ → Colour → Result (List Bool) PlaceError → Type 0
-Judges g p c (Ok taken) = IsEmpty g p × Marks taken (IsTaken (with_stone g p c) p (other c))
-    × ((h : Board) → IsWithout (with_stone g p c) (IsTaken (with_stone g p c) p (other c)) h → HasLiberty h c p)
+Judges g p c (Ok taken) = IsEmpty g p × Marks taken (IsTaken g p c)
+    × ((cells : List Cell) → IsCleared g p c cells → Breathes g cells c p)
 Judges g p c (Err Occupied) = ¬ IsEmpty g p
 Judges g p c (Err Suicide) = IsEmpty g p × IsSuicide g p c

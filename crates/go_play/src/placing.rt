@@ -1,10 +1,11 @@
 //! Placing a stone, with what it takes off the board.
 
-ghost use Rattle.std.specs.Prelude.{◌≡◌, ℕ, ◌<◌, ◌↔◌, ◌⊎◌, true, length};
+ghost use Rattle.std.specs.Prelude.{◌≡◌, ◌<◌, ◌↔◌, ◌⊎◌, List, true, length};
 ghost use Rattle.go_grid.specs.Board.{Board, IsEmpty, other, stone};
 ghost use Rattle.go_grid.specs.Marks.{IsMarked, Marks};
-ghost use Rattle.go_grid.specs.Chain.{HasLiberty};
-ghost use Rattle.go_play.specs.Place.{with_stone, IsTaken, IsWithout, Answers};
+ghost use Rattle.go_grid.specs.declared.grid.Cell.{Cell};
+ghost use Rattle.go_grid.specs.Play.{IsWithout};
+ghost use Rattle.go_play.specs.Place.{with_stone, Answers, Breathes, IsCleared, IsSameSize, IsTaken};
 ghost use Rattle.go_play.specs.Tried.{IsTried, IsLost, Judges};
 
 use go_grid::{Board, Cell, Colour, NearPoints, Point, Points, fill, part_touches};
@@ -69,7 +70,7 @@ fn take_chain(
 fn taken(board: &Board, point: Point, colour: Colour, tried: &Tried) -> Points
     requires point { point < length board.now.cells }
     requires tried { IsTried board.now point colour tried.now }
-    ensures { Marks result (IsTaken (with_stone board.now point colour) point (other colour)) }
+    ensures { Marks result (IsTaken board.now point colour) }
 {
     let mut around = NearPoints::new();
     around.look_around(board.size(), point);
@@ -84,10 +85,9 @@ fn taken(board: &Board, point: Point, colour: Colour, tried: &Tried) -> Points
 fn stands(board: &Board, point: Point, colour: Colour, tried: &Tried, taken: &Points) -> bool
     requires empty { IsEmpty board.now point }
     requires tried { IsTried board.now point colour tried.now }
-    requires taken { Marks taken.now (IsTaken (with_stone board.now point colour) point (other colour)) }
-    ensures { (h : Board) → IsWithout (with_stone board.now point colour)
-        (IsTaken (with_stone board.now point colour) point (other colour)) h
-        → (result ≡ true) ↔ HasLiberty h colour point }
+    requires taken { Marks taken.now (IsTaken board.now point colour) }
+    ensures { (cells : List Cell) → IsCleared board.now point colour cells
+        → (result ≡ true) ↔ Breathes board.now cells colour point }
 {
     part_touches(board.size(), &tried.own, point, &tried.empty.union(taken))
 }
@@ -111,7 +111,8 @@ fn judge(board: &Board, point: Point, colour: Colour) -> Result<Points, PlaceErr
 
 /// Empties the points of a set.
 fn take_off(board: &mut Board, points: &Points)
-    ensures { IsWithout board.old (IsMarked points.now) board.new }
+    ensures size { IsSameSize board.old board.new }
+    ensures cells { IsWithout board.old.cells (IsMarked points.now) board.new.cells }
 {
     for number in 0..board.size().area() {
         let point = Point(number);

@@ -195,7 +195,7 @@ module _ (touch : List Touch) (cells : List Cell) (p : ℕ) (c : Colour) (links 
   ]
     where
       same : (q : ℕ) → held_at after q ≡ held_at (with_stone cells p c) q
-      same q = m.kept q (λ r. let w = removed_is q r in takes (w.0, w.1, w.2, w.3))
+      same q = m.without.kept q (λ r. let w = removed_is q r in takes (w.0, w.1, w.2, w.3))
 
       Near : ℕ → Type 0
       Near x = (x ≡ p) ⊎ ((i : ℕ) × IsLinked touch p i × InLocalChain touch cells c i x)

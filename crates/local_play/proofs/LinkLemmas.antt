@@ -1,16 +1,13 @@
 -- The links of a region as sets, and floods along them.
-use Rattle.std.proofs.Common.{◌≡◌, ℕ, ◌+◌, ◌*◌, ◌/◌, ◌%◌, ◌<◌, ◌≤◌, ◌⊎◌, ◌↔◌, inl, inr, arith, refl, sym, ap, ◌∙◌, List, true, length, get_or, set, replicate, Option, Some, None, subst}
-use Rattle.std.specs.List.Sorted.{IsStrictlyIncreasing}
+use Rattle.std.proofs.Common.{◌≡◌, ℕ, ◌+◌, ◌<◌, ◌≤◌, ◌⊎◌, ◌↔◌, inl, inr, arith, refl, sym, ap, ◌∙◌, List, true, length, get_or, set, replicate, Option, Some, None, subst}
 use Rattle.std.proofs.lemmas.Bool.{cases_eq, cases_lt}
 use Rattle.std.proofs.lemmas.List.{get_or-set_same, get_or-set_other, get_or_past, length-set, length-replicate, get_or-replicate}
-use Rattle.std.proofs.lemmas.List.Elements.{Contains-get_or}
-use Rattle.std.proofs.lemmas.List.Kept.{AllPairs-from_increasing}
-use Rattle.std.proofs.lemmas.Nat.{div-add-mod'}
 use Rattle.go_grid.specs.declared.grid.Cell.{Cell}
 use Rattle.go_grid.specs.declared.grid.Colour.TheVariants as colour
 use Rattle.go_grid.specs.declared.region.Touch.{Touch}
-use Rattle.go_grid.specs.Region.{nothing_near, touch_at, IsRegion, IsLink}
+use Rattle.go_grid.specs.Region.{nothing_near, touch_at, IsRegion}
 use Rattle.go_grid.specs.Path.{Leads}
+use Rattle.go_grid.proofs.LinkLemmas.{link_at, linked_to, same_point}
 use Rattle.go_grid.proofs.PathLemmas.{carried, leads_here, leads_step}
 use Rattle.local_play.specs.LocalPlay.{IsLinked, IsBeside}
 use Rattle.local_play.specs.declared.places.Places.{Places}
@@ -33,34 +30,6 @@ linked_place touch p q link = elim (cases_lt p (length touch)) as (λ _. p < len
   where
     no_link : (o : Option ℕ) (q : ℕ) → o ≡ None → o ≡ Some q → ⊥
     no_link o q none some = cc
-
--- ascending points have one place each
-one_place : (points : List ℕ) (i j : ℕ) → IsStrictlyIncreasing points → i < length points → j < length points
-    → get_or points i 0 ≡ get_or points j 0 → i ≡ j
-one_place points i j rising li lj e =
-    let less = AllPairs-from_increasing points rising in
-    elim (cases_lt i j) as (λ _. i ≡ j) [
-      | inl lt ↦ absurd (omega (arith, less i j 0 lt lj, e))
-      | inr le ↦ elim (cases_lt j i) as (λ _. i ≡ j) [
-        | inl lt ↦ absurd (omega (arith, less j i 0 lt li, e))
-        | inr le' ↦ omega arith
-      ]
-    ]
-
--- the link is the place of the one point that is near
-linked_to : (points : List ℕ) (Near : ℕ → Type 0) (o : Option ℕ) (j : ℕ) → IsStrictlyIncreasing points → IsLink points Near o
-    → ((q s : ℕ) → Near q → Near s → q ≡ s) → j < length points → Near (get_or points j 0) → o ≡ Some j
-linked_to points Near None j rising link one lt near = absurd (link (get_or points j 0) (Contains-get_or points j 0 lt) near)
-linked_to points Near (Some k) j rising link one lt near =
-    ap (λ n. Some n) (one_place points k j rising link.0 lt (one (get_or points k 0) (get_or points j 0) link.1 near))
-
-link_at : (points : List ℕ) (Near : ℕ → Type 0) (o : Option ℕ) (j : ℕ) → IsLink points Near o → o ≡ Some j
-    → (j < length points) × Near (get_or points j 0)
-link_at points Near o j link e = subst (IsLink points Near) e link
-
-same_point : (c q s : ℕ) → q / c ≡ s / c → q % c ≡ s % c → q ≡ s
-same_point c q s row column =
-    sym (div-add-mod' q c) ∙ ap (λ m. m * c + q % c) row ∙ ap (λ m. s / c * c + m) column ∙ div-add-mod' s c
 
 -- the links of a region lead to other places of it, and back
 pub links_within : (columns rows : ℕ) (points : List ℕ) (cells : List Cell) (touch : List Touch)

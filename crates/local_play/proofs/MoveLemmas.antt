@@ -1,6 +1,5 @@
 -- The move of a stone, by sets.
 use Rattle.std.proofs.Common.{◌≡◌, ℕ, ◌+◌, ◌<◌, ◌↔◌, inl, inr, arith, refl, sym, ap, ◌∙◌, List, length, cond, subst, count_by}
-use Rattle.std.proofs.lemmas.List.{length-set}
 use Rattle.std.proofs.lemmas.List.Sums.{sum_by-set}
 use Rattle.go_grid.specs.declared.grid.Cell.{Cell}
 use Rattle.go_grid.specs.declared.grid.Cell.TheVariants as cell
@@ -85,9 +84,7 @@ module _ (touch : List Touch) (cells : List Cell) (links : Links) (t : Turn) (p 
         (subst (λ x. IsLocalMove touch cells t.colour x (with_stone cells p t.colour)) (sym ep) record {
           place = place;
           free = empty;
-          long = length-set cells p (stone t.colour);
-          gone = λ q r. absurd (removed_none q r);
-          kept = λ q _. refl;
+          without = record { long = refl; gone = λ q r. absurd (removed_none q r); kept = λ q _. refl };
           stands = stands_free touch cells p t.colour table.within place empty (with_stone cells p t.colour)
               (λ q r. absurd (removed_none q r)) (λ q _. refl) (inl (can_stand can));
         });
@@ -131,9 +128,7 @@ module _ (touch : List Touch) (cells : List Cell) (links : Links) (t : Turn) (p 
             (subst (λ x. IsLocalMove touch cells t.colour x after) (sym ep) record {
               place = place;
               free = empty;
-              long = length-cleared r.places.0 (with_stone cells p t.colour) ∙ length-set cells p (stone t.colour);
-              gone = gone;
-              kept = kept;
+              without = record { long = length-cleared r.places.0 (with_stone cells p t.colour); gone = gone; kept = kept };
               stands = stands_free touch cells p t.colour table.within place empty after gone kept (inr (one, (taken_weak one some).0, (taken_weak one some).1, (taken_weak one some).2));
             });
         next = en;

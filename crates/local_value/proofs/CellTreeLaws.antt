@@ -15,6 +15,7 @@ use Rattle.local_value.proofs.DepthLaws.{depths-agree}
 use Rattle.local_value.proofs.LocalLaws.{after-has, has-after, options-step}
 use Rattle.local_value.proofs.MoveList.{steps, step_in, step_out}
 use Rattle.local_value.proofs.PositionLaws.{short-ends}
+use Rattle.go_grid.proofs.PlayLemmas.{long_after}
 
 -- `to` makes a position of the game of a local position of at most so many places
 module _ (P : Type 0) (touch : List Touch) (most : ℕ) (to : List Cell → P) (moves : Colour → P → List (Step P))
@@ -24,7 +25,7 @@ module _ (P : Type 0) (touch : List Touch) (most : ℕ) (to : List Cell → P) (
       → (y : Step (List Cell)) × IsStep touch c cells y × (to y.to ≡ x.to) × (y.taken ≡ x.taken) × (length y.to ≤ most)
   step_from cells c x le among =
       let s = step_out touch cells c P to x (subst (λ xs. Contains xs x) (are c cells le) among) in
-      (s.0, s.1, s.2, s.3, omega (arith, le, s.1.1.long))
+      (s.0, s.1, s.2, s.3, omega (arith, le, long_after s.1.1))
 
   pub from_step : (cells : List Cell) (c : Colour) (y : Step (List Cell)) → length cells ≤ most → IsStep touch c cells y
       → Contains (moves c (to cells)) (record { to = to y.to; taken = y.taken })
@@ -48,7 +49,7 @@ module _ (P : Type 0) (touch : List Touch) (most : ℕ) (to : List Cell → P) (
     λ y m.
         (let tree = tree_within P moves n (to y.to) in (
           tree,
-          tree_is n y.to (omega (arith, le, m.1.long)),
+          tree_is n y.to (omega (arith, le, long_after m.1)),
           rw (options-step P moves c n (to cells))
               (has-after P moves (λ z. tree_within P moves n z) c (moves c (to cells)) (record { to = to y.to; taken = y.taken }) (from_step cells c y le m)),
         )),

@@ -21,6 +21,7 @@ use Rattle.local_graph.specs.Graph.{Graph, edges_at}
 use Rattle.local_graph.proofs.EdgeListLemmas.{node_inside}
 use Rattle.local_graph.proofs.PlayLemmas.{plays_more, plays_long, one_after}
 use Rattle.local_value.specs.Values.{IsGraphOf, IsPlaceOf}
+use Rattle.go_grid.proofs.PlayLemmas.{long_after}
 
 -- the edge of a local move, or the move of an edge
 pub record IsEdgeFor (positions : List ℕ) (cells next : List Cell) (c : Colour) (i n : ℕ) (e : Edge) : Type 0 where
@@ -139,5 +140,5 @@ module _ (r : Region) (g : Graph) (of : IsGraphOf r g) where
       let move = m.1 in
       let long = plays_long r.touch r.cells cells has.reachable.0 has.reachable.1 in
       let free = count_free cells e.place move.place move.free in
-      let stone = count_stone m.0 e.colour e.place (omega (arith, move.place, move.long)) (path_start _ _ e.place move.stands.0 move.stands.1.0 move.stands.1.1) in
+      let stone = count_stone m.0 e.colour e.place (omega (arith, move.place, long_after move)) (path_start _ _ e.place move.stands.0 move.stands.1.0 move.stands.1.1) in
       omega (arith, m.2.number, free, stone, long)

@@ -17,6 +17,7 @@ use Rattle.local_value.specs.LocalGame.{Step}
 use Rattle.local_value.specs.PositionTree.{IsStep}
 use Rattle.go_grid.proofs.Decided.{Decided, alike, both, denied, either, leads_or_not, some_below}
 use Rattle.local_value.proofs.LocalLaws.{contains-cases, contains-head, contains-tail}
+use Rattle.go_grid.proofs.PlayLemmas.{long_after}
 
 pub same_or_not : (a b : Cell) → Decided (a ≡ b)
 same_or_not cell.Empty cell.Empty = inl refl
@@ -192,19 +193,17 @@ module _ (touch : List Touch) where
     legal_move p l = record {
       place = l.place;
       free = l.free;
-      long = length-next p;
-      gone = gone p;
-      kept = kept p;
+      without = record { long = length-next p ∙ sym (placed_long p); gone = gone p; kept = kept p };
       stands = l.stands;
     }
 
     -- each local move is one of these
     move_is : (p : ℕ) (after : List Cell) → IsLocalMove touch cells c p after → IsLegal p × (after ≡ next p)
     move_is p after m =
-        let same : after ≡ next p = ext_get_or cell.Empty after (next p) (m.long ∙ sym (length-next p)) (λ i _.
+        let same : after ≡ next p = ext_get_or cell.Empty after (next p) (long_after m ∙ sym (length-next p)) (λ i _.
         elim (removed_or_not (with_stone cells p c) p (other c) i) [
-          | inl h ↦ m.gone i h ∙ sym (gone p i h)
-          | inr f ↦ m.kept i f ∙ sym (kept p i f)
+          | inl h ↦ m.without.gone i h ∙ sym (gone p i h)
+          | inr f ↦ m.without.kept i f ∙ sym (kept p i f)
         ]) in
         (record { place = m.place; free = m.free; stands = subst (λ x. IsFree touch x c p) same m.stands }, same)
 

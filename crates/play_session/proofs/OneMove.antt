@@ -14,7 +14,7 @@ use Rattle.play_session.specs.Session.{EngineMoves, Answers, answer_line, engine
 
 -- moves leave the board's size
 pub cells_kept : (s t : State) (m : Move) → IsMove s m t → length t.board.cells ≡ length s.board.cells
-cells_kept s t (Stone p) h = ap (λ x. length x.board.cells) h.1.1.3 ∙ h.1.1.1.without.long ∙ as_long s.board p s.side
+cells_kept s t (Stone p) h = ap (λ x. length x.board.cells) h.1.1.3 ∙ h.1.1.1.1.without.long ∙ as_long s.board p s.side
 cells_kept s t Spend h = ap (λ x. length x.board.cells) h.1
 cells_kept s t Half h = ap (λ x. length x.board.cells) h.1
 

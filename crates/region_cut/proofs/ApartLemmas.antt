@@ -6,7 +6,7 @@ use Rattle.std.proofs.lemmas.List.{get_or_default, get_or-set_same, get_or-set_o
 use Rattle.std.proofs.lemmas.List.Elements.{Contains-get_or}
 use Rattle.go_grid.specs.declared.grid.Cell.{Cell}
 use Rattle.go_grid.specs.declared.grid.Colour.{Colour}
-use Rattle.go_grid.specs.Board.{Board, cell_at, stone}
+use Rattle.go_grid.specs.Board.{Board, cell_at}
 use Rattle.go_grid.specs.Region.{Region}
 use Rattle.go_grid.proofs.WalkLemmas.{joined_back, joined_join}
 use Rattle.go_play.specs.Place.{IsPlaced}
@@ -14,6 +14,7 @@ use Rattle.benson_life.specs.Region.{IsContested}
 use Rattle.region_cut.specs.Cut.{AreRegionsOfPlay, IsRegionOfPlay, lowest}
 use Rattle.region_cut.specs.LocalBoard.{HoldsPosition, IsLocal}
 use Rattle.region_cut.proofs.LocalBoardLemmas.{holds_after}
+use Rattle.go_play.proofs.BoardPlay.{placed_long}
 
 -- a region that shares a point with another begins no later
 not_later : (g : Board) (r s : Region) (p : ℕ) → IsRegionOfPlay g r → IsRegionOfPlay g s → Contains r.points p → Contains s.points p
@@ -81,7 +82,7 @@ module _ (g : Board) (regions : List Region) (are : AreRegionsOfPlay g regions) 
       own =
           let r = get_or regions k d in
           holds_after g r (get_or positions k []) next h after (are.each r (Contains-get_or regions k d lk)) (all.each k d lk)
-          placed.without.columns (placed.without.long ∙ length-set h.cells p (stone c)) long local.inside local.outside
+          placed.0.columns (placed_long h p c after placed) long local.inside local.outside
 
       kept : (l : ℕ) → l < length regions → l ≢ k → HoldsPosition g (get_or regions l d) (get_or positions l []) after
       kept l ll ne =

@@ -1,42 +1,14 @@
 -- The links of a region are exactly its points' being next to each other.
-use Rattle.std.proofs.Common.{◌≡◌, ℕ, ◌<◌, ◌↔◌, inl, inr, sym, ap, subst, ◌∙◌, List, length, get_or, arith, Option, Some, None}
-use Rattle.std.specs.List.Sorted.{IsStrictlyIncreasing}
-use Rattle.std.proofs.lemmas.Bool.{cases_lt}
-use Rattle.std.proofs.lemmas.List.Elements.{Contains-get_or}
-use Rattle.std.proofs.lemmas.List.Kept.{AllPairs-from_increasing}
+use Rattle.std.proofs.Common.{ℕ, ◌<◌, ◌↔◌, inl, inr, sym, ◌∙◌, length, get_or, arith}
 use Rattle.go_grid.specs.Board.{NextTo, IsAbove, IsLeftOf}
-use Rattle.go_grid.specs.Region.{Region, IsRegion, IsLink, touch_at}
+use Rattle.go_grid.specs.Region.{Region, IsRegion, touch_at}
 use Rattle.local_play.specs.LocalPlay.{IsLinked}
-use Rattle.region_cut.proofs.PlaceLemmas.{same_point}
+use Rattle.go_grid.proofs.LinkLemmas.{link_at, linked_to, same_point}
 
 -- the links of the region are exactly its points' being next to each other
 abbrev pub LinksAreNext : Region → Type 0
 LinksAreNext r = (i j : ℕ) → i < length r.points → IsLinked r.touch i j
     ↔ ((j < length r.points) × NextTo r.columns (get_or r.points i 0) (get_or r.points j 0))
-
--- ascending points have one place each
-pub one_place : (points : List ℕ) (i j : ℕ) → IsStrictlyIncreasing points → i < length points → j < length points
-    → get_or points i 0 ≡ get_or points j 0 → i ≡ j
-one_place points i j rising li lj e =
-    let less = AllPairs-from_increasing points rising in
-    elim (cases_lt i j) as (λ _. i ≡ j) [
-      | inl lt ↦ absurd (omega (arith, less i j 0 lt lj, e))
-      | inr le ↦ elim (cases_lt j i) as (λ _. i ≡ j) [
-        | inl lt ↦ absurd (omega (arith, less j i 0 lt li, e))
-        | inr le' ↦ omega arith
-      ]
-    ]
-
--- the link is the place of the one point that is near
-linked_to : (points : List ℕ) (Near : ℕ → Type 0) (o : Option ℕ) (j : ℕ) → IsStrictlyIncreasing points → IsLink points Near o
-    → ((q s : ℕ) → Near q → Near s → q ≡ s) → j < length points → Near (get_or points j 0) → o ≡ Some j
-linked_to points Near None j rising link one lt near = absurd (link (get_or points j 0) (Contains-get_or points j 0 lt) near)
-linked_to points Near (Some k) j rising link one lt near =
-    ap (λ n. Some n) (one_place points k j rising link.0 lt (one (get_or points k 0) (get_or points j 0) link.1 near))
-
-link_at : (points : List ℕ) (Near : ℕ → Type 0) (o : Option ℕ) (j : ℕ) → IsLink points Near o → o ≡ Some j
-    → (j < length points) × Near (get_or points j 0)
-link_at points Near o j link e = subst (IsLink points Near) e link
 
 pub links_are_next : (r : Region) → IsRegion r.columns r.rows r.points r.cells r.touch → LinksAreNext r
 links_are_next r reg i j lt = (there, back)

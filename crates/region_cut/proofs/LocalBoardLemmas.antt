@@ -7,28 +7,21 @@ use Rattle.std.proofs.lemmas.List.Elements.{Contains-get_or}
 use Rattle.go_grid.specs.declared.grid.Cell.{Cell}
 use Rattle.go_grid.specs.declared.grid.Cell.TheVariants as cell
 use Rattle.go_grid.specs.declared.grid.Colour.{Colour}
-use Rattle.go_grid.specs.declared.region.Touch.{Touch}
 use Rattle.go_grid.specs.Chain.{IsSettled}
-use Rattle.go_grid.specs.Board.{Board, HasStone, cell_at, stone, other}
+use Rattle.go_grid.specs.Board.{Board, cell_at, stone, other}
 use Rattle.go_grid.specs.Region.{Region}
-use Rattle.go_grid.proofs.WalkLemmas.{joined_start}
-use Rattle.go_play.specs.Place.{with_stone, is_stone, IsPlaced, IsTaken}
-use Rattle.local_play.specs.LocalPlay.{held_at, IsRemoved, IsLocalMove, with_stone as with_local_stone, is_stone as is_local_stone}
+use Rattle.go_grid.specs.Play.{held_at, is_stone, with_stone as with_cell}
+use Rattle.go_play.specs.Place.{with_stone, IsPlaced, IsSameSize, IsTaken}
+use Rattle.go_play.proofs.BoardPlay.{placed_long}
+use Rattle.local_play.specs.LocalPlay.{IsRemoved, IsLocalMove}
 use Rattle.region_cut.specs.Cut.{IsRegionOfPlay}
 use Rattle.region_cut.specs.LocalBoard.{HoldsPosition, IsLocal, PlaysLocally}
 use Rattle.region_cut.proofs.FreedomLemmas.{among_or_not, free_down, free_up, inside, point_contested, removed_up, taken_down}
-use Rattle.region_cut.proofs.LinkLemmas.{one_place}
-use Rattle.region_cut.proofs.WallLemmas.{not_alive, not_counted, same_or_not}
+use Rattle.go_grid.proofs.LinkLemmas.{one_place}
+use Rattle.go_grid.proofs.PlayLemmas.{long_after, one_outcome}
+use Rattle.go_grid.proofs.PathLemmas.{leads_start}
+use Rattle.region_cut.proofs.WallLemmas.{not_alive, not_counted}
 use Rattle.region_cut.proofs.WrittenLemmas.{written, length-written, written_at, written_outside, count_written}
-
--- a stone is a stone, on the board and in a local position
-stones_same : (xs : List Cell) → count_by is_stone xs ≡ count_by is_local_stone xs
-stones_same xs = ap (λ f. count_by f xs) (λ i x. each x i)
-  where
-    each : (x : Cell) → is_stone x ≡ is_local_stone x
-    each cell.Empty = refl
-    each cell.Black = refl
-    each cell.White = refl
 
 -- a board holds a local position where it has as much outside the region as one that does
 pub holds_after : (g : Board) (r : Region) (cells next : List Cell) (h after : Board) → IsRegionOfPlay g r → HoldsPosition g r cells h
@@ -47,6 +40,9 @@ holds_after g r cells next h after play holds columns full long within outside =
   long = long ∙ holds.long;
   local = within;
 }
+
+same_size : (h : Board) {cells : List Cell} → IsSameSize h (record h { cells = cells })
+same_size h = record { columns = refl; rows = refl }
 
 module _ (g : Board) (r : Region) (settled : IsSettled g) (play : IsRegionOfPlay g r) (cells : List Cell) (h : Board) (holds : HoldsPosition g r cells h) where
   abbrev at : ℕ → ℕ
@@ -73,7 +69,7 @@ module _ (g : Board) (r : Region) (settled : IsSettled g) (play : IsRegionOfPlay
         | inl (j, lt, e) ↦
             let here = get_or_default r.points j 0 q lt ∙ e in
             subst (λ z. get_or after.cells z cell.Empty ≡ get_or more z cell.Empty) here
-            (within j lt ∙ sym (written_at r.points play.proper.ascending h.cells next (inside g r settled play cells h holds) n j (omega arith) lt))
+            (within j lt ∙ sym (written_at r.points play.proper.ascending h.cells next (inside g r settled play cells h holds h (same_size h) refl) n j (omega arith) lt))
         | inr out ↦
             outside q out ∙ sym (written_outside r.points play.proper.ascending h.cells next n q
             (λ i lt e. out (subst (Contains r.points) e (Contains-get_or r.points i 0 lt))))
@@ -85,17 +81,15 @@ module _ (g : Board) (r : Region) (settled : IsSettled g) (play : IsRegionOfPlay
       ln : length next ≡ n
       ln = long ∙ holds.long
 
-      count : count_by is_stone after.cells + count_by is_local_stone cells ≡ count_by is_stone h.cells + count_by is_local_stone next
+      count : count_by is_stone after.cells + count_by is_stone cells ≡ count_by is_stone h.cells + count_by is_stone next
       count =
-          let w = count_written r.points play.proper.ascending h.cells next (inside g r settled play cells h holds) is_stone cells ln holds.long (λ i lt. holds.local i lt) n (omega arith) in
+          let w = count_written r.points play.proper.ascending h.cells next (inside g r settled play cells h holds h (same_size h) refl) is_stone cells ln holds.long (λ i lt. holds.local i lt) n (omega arith) in
           omega (
             arith,
             w,
             ap (count_by is_stone) equal,
             ap (count_by is_stone) (take_all n cells (omega (arith, holds.long))),
             ap (count_by is_stone) (take_all n next (omega (arith, ln))),
-            stones_same cells,
-            stones_same next,
           )
 
   module _ (i : ℕ) (lt : i < length r.points) (c : Colour) where
@@ -103,7 +97,7 @@ module _ (g : Board) (r : Region) (settled : IsSettled g) (play : IsRegionOfPlay
     b = with_stone h (at i) c
 
     abbrev more : List Cell
-    more = with_local_stone cells i c
+    more = with_cell cells i c
 
     short : i < length cells
     short = omega (arith, lt, holds.long)
@@ -118,7 +112,7 @@ module _ (g : Board) (r : Region) (settled : IsSettled g) (play : IsRegionOfPlay
         (λ j l. elim (cases_eq j i) as (λ _. cell_at b (at j) ≡ held_at more j) [
           | inl e ↦
               subst (λ z. cell_at b (at z) ≡ held_at more z) (sym e)
-              (get_or-set_same h.cells (at i) (stone c) cell.Empty (inside g r settled play cells h holds i lt)
+              (get_or-set_same h.cells (at i) (stone c) cell.Empty (inside g r settled play cells h holds h (same_size h) refl i lt)
               ∙ sym (get_or-set_same cells i (stone c) cell.Empty short))
           | inr ne ↦
               elsewhere (at j) (λ e. ne (one_place r.points j i play.proper.ascending l lt e)) ∙ holds.local j l
@@ -127,16 +121,16 @@ module _ (g : Board) (r : Region) (settled : IsSettled g) (play : IsRegionOfPlay
         (λ q out. elsewhere q (λ e. out (subst (Contains r.points) (sym e) (Contains-get_or r.points i 0 lt))))
 
     abbrev Taken : ℕ → Type 0
-    Taken q = IsTaken b (at i) (other c) q
+    Taken q = IsTaken h (at i) c q
 
     abbrev Removed : ℕ → Type 0
     Removed j = IsRemoved r.touch more i (other c) j
 
     up : (j : ℕ) → Removed j → (j < length r.points) × Taken (at j)
-    up j t = removed_up g r settled play more b holds_more (other c) i j lt t
+    up j t = removed_up g r settled play more b holds_more h (same_size h) (length-set h.cells (at i) (stone c)) (other c) i j lt t
 
     down : (q : ℕ) → Taken q → (j : ℕ) × (j < length r.points) × (at j ≡ q) × Removed j
-    down q t = taken_down g r settled play more b holds_more (other c) i q lt t
+    down q t = taken_down g r settled play more b holds_more h (same_size h) (length-set h.cells (at i) (stone c)) (other c) i q lt t
 
     down_at : (j : ℕ) → j < length r.points → Taken (at j) → Removed j
     down_at j l t = let w = down (at j) t in subst (λ z. Removed z) (one_place r.points w.0 j play.proper.ascending w.1 l w.2) w.3
@@ -153,37 +147,36 @@ module _ (g : Board) (r : Region) (settled : IsSettled g) (play : IsRegionOfPlay
         long = length-map r.points (cell_at after) ∙ sym holds.long
 
         full : length after.cells ≡ length h.cells
-        full = placed.without.long ∙ length-set h.cells (at i) (stone c)
+        full = placed_long h (at i) c after placed
 
         within : (j : ℕ) → j < length r.points → cell_at after (at j) ≡ held_at next j
         within j l = sym (get_or-map (cell_at after) r.points j 0 cell.Empty l)
 
         outside : (q : ℕ) → ¬ Contains r.points q → cell_at after q ≡ cell_at h q
         outside q out =
-            placed.without.kept q (λ t. (let w = down q t in out (subst (Contains r.points) w.2 (Contains-get_or r.points w.0 0 w.1))))
+            placed.1.without.kept q (λ t. (let w = down q t in out (subst (Contains r.points) w.2 (Contains-get_or r.points w.0 0 w.1))))
             ∙ elsewhere q (λ e. out (subst (Contains r.points) (sym e) (Contains-get_or r.points i 0 lt)))
 
         kept : (j : ℕ) → ¬ Removed j → held_at next j ≡ held_at more j
         kept j out = elim (cases_lt j (length r.points)) as (λ _. held_at next j ≡ held_at more j) [
-          | inl l ↦ sym (within j l) ∙ placed.without.kept (at j) (λ t. out (down_at j l t)) ∙ holds_more.local j l
+          | inl l ↦ sym (within j l) ∙ placed.1.without.kept (at j) (λ t. out (down_at j l t)) ∙ holds_more.local j l
           | inr past ↦
               get_or_past next j cell.Empty (omega (arith, past, long, holds.long))
               ∙ sym (get_or_past more j cell.Empty (omega (arith, past, holds_more.long)))
         ]
 
-        own : HasStone after c (at i)
-        own = joined_start after.columns (HasStone after c) (at i) placed.breathes.1.1.0 placed.breathes.1.1.1
-
         move : IsLocalMove r.touch cells c i next
         move = record {
           place = short;
-          free = sym (holds.local i lt) ∙ placed.free.1;
-          long = long;
-          gone = λ j t. (let w = up j t in sym (within j w.0) ∙ placed.without.gone (at j) w.1);
-          kept = kept;
+          free = sym (holds.local i lt) ∙ placed.1.free;
+          without = record {
+            long = long ∙ sym (length-set cells i (stone c));
+            gone = λ j t. (let w = up j t in sym (within j w.0) ∙ placed.1.without.gone (at j) w.1);
+            kept = kept;
+          };
           stands = free_down g r settled play next after
-              (holds_after g r cells next h after play holds placed.without.columns full long within outside) c i lt
-              (sym (within i lt) ∙ own.1) placed.breathes;
+              (holds_after g r cells next h after play holds placed.0.columns full long within outside) h placed.0 full c i lt
+              (sym (within i lt) ∙ leads_start _ _ (at i) placed.1.stands.0 placed.1.stands.1) placed.1.stands;
         }
 
     -- a local move is a placing
@@ -201,7 +194,7 @@ module _ (g : Board) (r : Region) (settled : IsSettled g) (play : IsRegionOfPlay
         full = length-written r.points play.proper.ascending h.cells next n
 
         within : (j : ℕ) → j < length r.points → cell_at after (at j) ≡ held_at next j
-        within j l = written_at r.points play.proper.ascending h.cells next (inside g r settled play cells h holds) n j (omega arith) l
+        within j l = written_at r.points play.proper.ascending h.cells next (inside g r settled play cells h holds h (same_size h) refl) n j (omega arith) l
 
         outside : (q : ℕ) → ¬ Contains r.points q → cell_at after q ≡ cell_at h q
         outside q out =
@@ -213,35 +206,26 @@ module _ (g : Board) (r : Region) (settled : IsSettled g) (play : IsRegionOfPlay
           | inl (j, l, e) ↦
               let here = get_or_default r.points j 0 q l ∙ e in
               let stays : ¬ Removed j = λ t. out (subst (λ z. Taken z) here (up j t).1) in
-              subst (λ z. cell_at after z ≡ cell_at b z) here (within j l ∙ move.kept j stays ∙ sym (holds_more.local j l))
+              subst (λ z. cell_at after z ≡ cell_at b z) here (within j l ∙ move.without.kept j stays ∙ sym (holds_more.local j l))
           | inr none ↦
               outside q none ∙ sym (elsewhere q (λ e. none (subst (Contains r.points) (sym e) (Contains-get_or r.points i 0 lt))))
         ]
 
         placed : IsPlaced h (at i) c after
-        placed = record {
-          free = (inside g r settled play cells h holds i lt, holds.local i lt ∙ move.free);
-          without = record {
-            columns = refl;
-            rows = refl;
-            long = full ∙ sym (length-set h.cells (at i) (stone c));
-            gone = λ q t. (let w = down q t in subst (λ z. cell_at after z ≡ cell.Empty) w.2 (within w.0 w.1 ∙ move.gone w.0 w.3));
-            kept = kept;
-          };
-          breathes = free_up g r settled play next after
-              (holds_after g r cells next h after play holds refl full move.long within outside) c i lt move.stands;
-        }
-
--- a local move leads to one position
-pub one_move : (touch : List Touch) (cells a b : List Cell) (c : Colour) (p : ℕ) → IsLocalMove touch cells c p a
-    → IsLocalMove touch cells c p b → a ≡ b
-one_move touch cells a b c p m n =
-    ext_get_or cell.Empty a b (m.long ∙ sym n.long) (λ j _. elim (same_or_not (held_at a j) (held_at b j)) [
-      | inl e ↦ e
-      | inr ne ↦
-          let stays : ¬ IsRemoved touch (with_local_stone cells p c) p (other c) j = λ t. ne (m.gone j t ∙ sym (n.gone j t)) in
-          m.kept j stays ∙ sym (n.kept j stays)
-    ])
+        placed = (
+          same_size h,
+          record {
+            place = inside g r settled play cells h holds h (same_size h) refl i lt;
+            free = holds.local i lt ∙ move.free;
+            without = record {
+              long = full ∙ sym (length-set h.cells (at i) (stone c));
+              gone = λ q t. (let w = down q t in subst (λ z. cell_at after z ≡ cell.Empty) w.2 (within w.0 w.1 ∙ move.without.gone w.0 w.3));
+              kept = kept;
+            };
+            stands = free_up g r settled play next after
+                (holds_after g r cells next h after play holds refl full (long_after move) within outside) h (same_size h) full c i lt move.stands;
+          },
+        )
 
 pub plays_locally : (g : Board) (r : Region) → IsSettled g → IsRegionOfPlay g r → PlaysLocally g r
 plays_locally g r settled play = record {
@@ -251,5 +235,5 @@ plays_locally g r settled play = record {
   );
   local = λ cells next h after c i holds lt placed move.
       let (next', move', local) = placing_is_local g r settled play cells h holds i lt c after placed in
-      subst (λ x. IsLocal r h after cells x) (one_move r.touch cells next' next c i move' move) local;
+      subst (λ x. IsLocal r h after cells x) (one_outcome move' move) local;
 }

@@ -1,11 +1,11 @@
 -- Places of points, and lists that are made item by item.
-use Rattle.std.proofs.Common.{◌≡◌, ℕ, ◌+◌, ◌*◌, ◌/◌, ◌%◌, ◌<◌, ap, sym, ◌∙◌, arith, refl, subst, List, [], ◌∷◌, ◌++◌, length, get_or, Option, None, Some, below_more}
+use Rattle.std.proofs.Common.{◌≡◌, ℕ, ◌+◌, ◌<◌, sym, ◌∙◌, arith, refl, subst, List, [], ◌∷◌, ◌++◌, length, get_or, Option, None, Some, below_more}
 use Rattle.std.specs.List.{Contains}
-use Rattle.std.proofs.lemmas.Nat.{div-add-mod'}
 use Rattle.std.proofs.lemmas.List.{get_or_append_left, get_or_push}
 use Rattle.go_grid.specs.declared.region.Touch.{Touch}
 use Rattle.go_grid.specs.Board.{IsAbove, IsLeftOf, IsThe, AreNear}
 use Rattle.go_grid.specs.Region.{IsLink, AreLinks}
+use Rattle.go_grid.proofs.LinkLemmas.{same_point}
 use Rattle.region_cut.specs.Places.{IsPlace}
 
 -- one more item that fits
@@ -15,12 +15,6 @@ push_more xs x d n Fits long old new =
     below_more (λ i. Fits i (get_or (xs ++ x ∷ []) i d)) n
     (λ i lt. let short : i < length xs = omega arith in rw (get_or_append_left xs (x ∷ []) d i short) (old i lt))
     (rw (get_or_push xs x d n long) new)
-
--- a point is its row and column
-pub same_point : (c p q : ℕ) → p / c ≡ q / c → p % c ≡ q % c → p ≡ q
-same_point c p q row column =
-    let r : p / c * c ≡ q / c * c = ap (λ n. n * c) row in
-    omega (arith, div-add-mod' p c, div-add-mod' q c)
 
 link_from : (area : ℕ) (points : List ℕ) (Near : ℕ → Type 0) (o r : Option ℕ) → ((p : ℕ) → Contains points p → p < area)
     → ((q s : ℕ) → Near q → Near s → q ≡ s) → IsThe area Near o → IsPlace points o r → IsLink points Near r

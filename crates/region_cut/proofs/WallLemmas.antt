@@ -1,7 +1,5 @@
 -- What stands next to a contested point.
-use Rattle.std.proofs.Common.{◌≡◌, ◌≢◌, ℕ, ◌⊎◌, inl, inr, refl}
-use Rattle.go_grid.specs.declared.grid.Cell.{Cell}
-use Rattle.go_grid.specs.declared.grid.Cell.TheVariants as cell
+use Rattle.std.proofs.Common.{ℕ, inl, inr}
 use Rattle.go_grid.specs.declared.grid.Colour.{Colour}
 use Rattle.go_grid.specs.declared.grid.Colour.TheVariants as colour
 use Rattle.go_grid.specs.Board.{Board, NextTo, Lacks, cell_at, stone}
@@ -10,17 +8,7 @@ use Rattle.go_grid.proofs.WalkLemmas.{joined_here, joined_step}
 use Rattle.benson_life.proofs.WallLemmas.{counted_region}
 use Rattle.benson_life.specs.Life.{IsAlive, IsCounted}
 use Rattle.benson_life.specs.Region.{IsContested}
-
-pub same_or_not : (a b : Cell) → (a ≡ b) ⊎ (a ≢ b)
-same_or_not cell.Empty cell.Empty = inl refl
-same_or_not cell.Empty cell.Black = inr (λ e. cc)
-same_or_not cell.Empty cell.White = inr (λ e. cc)
-same_or_not cell.Black cell.Empty = inr (λ e. cc)
-same_or_not cell.Black cell.Black = inl refl
-same_or_not cell.Black cell.White = inr (λ e. cc)
-same_or_not cell.White cell.Empty = inr (λ e. cc)
-same_or_not cell.White cell.Black = inr (λ e. cc)
-same_or_not cell.White cell.White = inl refl
+use Rattle.go_grid.proofs.BoardLemmas.{same_or_not}
 
 pub not_alive : (g : Board) (c : Colour) (p : ℕ) → IsContested g p → ¬ IsAlive g c p
 not_alive g colour.Black p h = h.1

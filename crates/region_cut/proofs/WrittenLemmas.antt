@@ -7,7 +7,7 @@ use Rattle.std.proofs.lemmas.List.{get_or-set_same, get_or-set_other, length-set
 use Rattle.std.proofs.lemmas.List.Sums.{sum_by-set, sum_by_more}
 use Rattle.go_grid.specs.declared.grid.Cell.{Cell}
 use Rattle.go_grid.specs.declared.grid.Cell.TheVariants.{Empty}
-use Rattle.region_cut.proofs.LinkLemmas.{one_place}
+use Rattle.go_grid.proofs.LinkLemmas.{one_place}
 
 one_more : (f : Cell → ℕ) (zs : List Cell) (n : ℕ) → n < length zs → sum_by f (take (suc n) zs) ≡ sum_by f (take n zs) + f (get_or zs n Empty)
 one_more f zs n lt =

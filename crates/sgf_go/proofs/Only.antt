@@ -7,9 +7,10 @@ use Rattle.std.proofs.lemmas.Nat.{div-add-mod'}
 use Rattle.go_grid.specs.declared.grid.Colour.{Colour}
 use Rattle.go_grid.specs.declared.grid.Cell.{Cell}
 use Rattle.go_grid.specs.declared.grid.Cell.TheVariants.{Empty}
-use Rattle.go_grid.specs.Board.{Board, cell_at, other}
-use Rattle.go_grid.specs.Chain.{HasLiberty, IsSettled, IsFirstChoked}
-use Rattle.go_play.specs.Place.{with_stone, IsTaken, IsWithout, IsPlaced, IsSuicide, Answers, is_stone}
+use Rattle.go_grid.specs.Board.{Board, cell_at}
+use Rattle.go_grid.specs.Chain.{IsSettled, IsFirstChoked}
+use Rattle.go_play.specs.Place.{Answers}
+use Rattle.go_grid.specs.Play.{is_stone}
 use Rattle.go_play.specs.declared.placing.PlaceError.{PlaceError}
 use Rattle.go_play.specs.declared.placing.PlaceError.TheVariants as place
 use Rattle.sgf_tree.specs.Grammar.{PropertyText}
@@ -24,6 +25,7 @@ use Rattle.sgf_go.proofs.Komis.{one_komi}
 use Rattle.sgf_go.proofs.Areas.{cell_stable}
 use Rattle.sgf_go.proofs.Points.{point_not_corners}
 use Rattle.sgf_go.proofs.Sizes.{square_only, sides_only, side_lacks, joint_within, at_joint, in_front}
+use Rattle.go_play.proofs.BoardPlay.{placed_same, suicide_not_placed}
 
 -- two boards of one size with the same cells
 same_board : (h k : Board) → h.columns ≡ k.columns → h.rows ≡ k.rows → length h.cells ≡ length k.cells → ((q : ℕ) → q < length h.cells → ¬ ¬ (cell_at h q ≡ cell_at k q)) → h ≡ k
@@ -36,22 +38,14 @@ one_set g h k In c a b = same_board h k (a.columns ∙ sym b.columns) (a.rows �
     let out : ¬ In q = λ i. differ (a.set q (omega (arith, l, a.long)) i ∙ sym (b.set q (omega (arith, l, a.long)) i)) in
     differ (a.kept q out ∙ sym (b.kept q out)))
 
-one_without : (g h k : Board) (Gone : ℕ → Type 0) → IsWithout g Gone h → IsWithout g Gone k → h ≡ k
-one_without g h k Gone a b = same_board h k (a.columns ∙ sym b.columns) (a.rows ∙ sym b.rows) (a.long ∙ sym b.long) (λ q l differ.
-    let out : ¬ Gone q = λ i. differ (a.gone q i ∙ sym (b.gone q i)) in
-    differ (a.kept q out ∙ sym (b.kept q out)))
-
-suicide_not_placed : (g h : Board) (p : ℕ) (c : Colour) → IsSuicide g p c → ¬ IsPlaced g p c h
-suicide_not_placed g h p c s d = s.2 (subst (λ k. HasLiberty k c p) (one_without (with_stone g p c) h s.0 (IsTaken (with_stone g p c) p (other c)) d.without s.1) d.breathes)
-
 one_placing : (node : ℕ) (c : Colour) (s : Replay) (p : ℕ) (h k : Board) (x y : Result ℕ PlaceError) → Answers s.board p c h x → Answers s.board p c k y → placed node c s h x ≡ placed node c s k y
 one_placing node c s p h k (Ok n) (Ok m) a b =
-    let board = one_without (with_stone s.board p c) h k (IsTaken (with_stone s.board p c) p (other c)) a.0.without b.0.without in
+    let board = placed_same s.board p c h k a.0 b.0 in
     let taken : n ≡ m = omega (arith, a.1, b.1, ap (λ g. count_by is_stone g.cells) board) in
     ap₂ (λ g t. Ok (moved c (with_taken c t (record s { board = g })))) board taken
-one_placing node c s p h k (Ok n) (Err place.Occupied) a b = absurd (b.1 a.0.free)
+one_placing node c s p h k (Ok n) (Err place.Occupied) a b = absurd (b.1 (a.0.1.place, a.0.1.free))
 one_placing node c s p h k (Ok n) (Err place.Suicide) a b = absurd (suicide_not_placed s.board h p c b.2 a.0)
-one_placing node c s p h k (Err place.Occupied) (Ok m) a b = absurd (a.1 b.0.free)
+one_placing node c s p h k (Err place.Occupied) (Ok m) a b = absurd (a.1 (b.0.1.place, b.0.1.free))
 one_placing node c s p h k (Err place.Occupied) (Err place.Occupied) a b = refl
 one_placing node c s p h k (Err place.Occupied) (Err place.Suicide) a b = absurd (a.1 b.1)
 one_placing node c s p h k (Err place.Suicide) (Ok m) a b = absurd (suicide_not_placed s.board k p c a.2 b.0)

@@ -9,7 +9,8 @@ use Rattle.go_grid.specs.Board.{Board}
 use Rattle.go_grid.specs.declared.grid.Colour.{Colour}
 use Rattle.go_grid.specs.declared.grid.Colour.TheVariants as colour
 use Rattle.go_grid.specs.declared.grid.Cell.{Cell}
-use Rattle.go_play.specs.Place.{IsNumberTaken, is_stone}
+use Rattle.go_grid.specs.Play.{is_stone}
+use Rattle.go_play.specs.Place.{IsNumberTaken}
 use Rattle.sgf_go.specs.Values.{IsIn, Rectangle, Says, IsArea, IsPoint, trimmed}
 use Rattle.sgf_go.specs.Reading.{rectangle}
 use Rattle.sgf_tree.specs.Reading.{property_text, node_text}

@@ -15,7 +15,7 @@ use Rattle.whole_rules.specs.declared.states.Move.{Move}
 use Rattle.whole_rules.specs.declared.states.Move.TheVariants.{Stone, Spend, Half}
 use Rattle.whole_rules.specs.declared.states.MoveError.{MoveError}
 use Rattle.whole_rules.specs.declared.states.MoveError.TheVariants.{NotContested, Occupied, Suicide, EmptyPurse, NoHalf}
-use Rattle.whole_rules.proofs.PlacingLaws.{suicide_not_placed}
+use Rattle.go_play.proofs.BoardPlay.{suicide_not_placed}
 use Rattle.whole_rules.specs.WholeGame.{State, after, IsLegal, Refuses, rank, ListsMoves, MovesBelow, IsFirstMove}
 
 pub moves_skip : (s : State) (n k : ℕ) (ms : List Move) → n ≤ k → MovesBelow s n ms → ((m : Move) → n ≤ rank m → rank m < k → ¬ IsLegal s m) → MovesBelow s k ms
@@ -59,17 +59,17 @@ stone_only p Half lt e = absurd (omega (arith, e))
 
 -- a stone that may be placed is on the board
 pub legal_short : (s : State) (k : Move) → IsLegal s k → length s.board.cells ≤ 625 → rank k < 625 → rank k < length s.board.cells
-legal_short s (Stone p) h le lt = h.1.1.1.1.free.0
+legal_short s (Stone p) h le lt = h.1.1.1.1.1.place
 legal_short s Spend h le lt = absurd (omega arith)
 legal_short s Half h le lt = absurd (omega arith)
 
 pub spend_only : (s : State) (k : Move) → length s.board.cells ≤ 625 → rank k ≡ 625 → IsLegal s k → Spend ≡ k
-spend_only s (Stone p) le e h = absurd (omega (arith, e, h.1.1.1.1.free.0))
+spend_only s (Stone p) le e h = absurd (omega (arith, e, h.1.1.1.1.1.place))
 spend_only s Spend le e h = refl
 spend_only s Half le e h = absurd (omega (arith, e))
 
 pub half_only : (s : State) (k : Move) → length s.board.cells ≤ 625 → rank k ≡ 626 → IsLegal s k → Half ≡ k
-half_only s (Stone p) le e h = absurd (omega (arith, e, h.1.1.1.1.free.0))
+half_only s (Stone p) le e h = absurd (omega (arith, e, h.1.1.1.1.1.place))
 half_only s Spend le e h = absurd (omega (arith, e))
 half_only s Half le e h = refl
 
@@ -80,7 +80,7 @@ moves_all s ms le w = record {
 }
   where
     below : (m : Move) → IsLegal s m → rank m < 627
-    below (Stone p) h = omega (arith, h.1.1.1.1.free.0, le)
+    below (Stone p) h = omega (arith, h.1.1.1.1.1.place, le)
     below Spend h = omega arith
     below Half h = omega arith
 
@@ -112,7 +112,7 @@ first_is s m w h = (h, λ k l. elim (cases_lt (rank k) (rank m)) [ inl lt ↦ ab
 
 pub first_none : (s : State) (n : ℕ) → length s.board.cells ≤ n → length s.board.cells ≤ 625 → NoneBelow s n → ¬ IsLegal s Spend → ¬ IsLegal s Half → IsFirstMove s None
 unfolding NoneBelow
-first_none s n le most w spend half (Stone p) h = w (Stone p) (omega (arith, le, h.1.1.1.1.free.0)) h
+first_none s n le most w spend half (Stone p) h = w (Stone p) (omega (arith, le, h.1.1.1.1.1.place)) h
 first_none s n le most w spend half Spend h = spend h
 first_none s n le most w spend half Half h = half h
 
@@ -143,8 +143,8 @@ moves_no_half s ms w most none = moves_all s ms most (moves_skip s 626 627 ms (o
 
 -- a move that is refused isn't legal
 pub refused_not_legal : (s : State) (m : Move) (e : MoveError) → Refuses s m e → ¬ IsLegal s m
-refused_not_legal s (Stone p) NotContested r l = r (l.1.1.1.1.free.0, l.1.0)
-refused_not_legal s (Stone p) Occupied r l = r.1 l.1.1.1.1.free
+refused_not_legal s (Stone p) NotContested r l = r (l.1.1.1.1.1.place, l.1.0)
+refused_not_legal s (Stone p) Occupied r l = r.1 (l.1.1.1.1.1.place, l.1.1.1.1.1.free)
 refused_not_legal s (Stone p) Suicide r l = suicide_not_placed s.board l.1.1.0 p s.side r.2 l.1.1.1.1
 refused_not_legal s (Stone p) EmptyPurse r l = r
 refused_not_legal s (Stone p) NoHalf r l = r
@@ -161,5 +161,5 @@ refused_not_legal s Half EmptyPurse r l = r
 
 -- where no stone may be placed
 pub refused_stone : (s : State) (p : ℕ) (h : Board) (e : PlaceError) → Answers s.board p s.side h (Err e) → ¬ IsLegal s (Stone p)
-refused_stone s p h placing.Occupied a l = a.1 l.1.1.1.1.free
+refused_stone s p h placing.Occupied a l = a.1 (l.1.1.1.1.1.place, l.1.1.1.1.1.free)
 refused_stone s p h placing.Suicide a l = suicide_not_placed s.board l.1.1.0 p s.side a.2 l.1.1.1.1

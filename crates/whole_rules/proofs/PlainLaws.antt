@@ -8,7 +8,7 @@ use Rattle.std.proofs.lemmas.List.Elements.{Contains-get_or}
 use Rattle.go_grid.specs.declared.grid.Colour.{Colour}
 use Rattle.go_grid.specs.declared.grid.Colour.TheVariants as colour
 use Rattle.go_grid.specs.Board.{other}
-use Rattle.go_play.specs.Place.{is_stone}
+use Rattle.go_grid.specs.Play.{is_stone}
 use Rattle.whole_rules.specs.declared.money.Purses.{Purses}
 use Rattle.whole_rules.specs.declared.money.Token.{Token}
 use Rattle.whole_rules.specs.declared.money.Token.TheVariants as token
@@ -19,7 +19,7 @@ use Rattle.whole_rules.specs.PlainRecursion.{WinsWithin, LosesWithin}
 use Rattle.whole_rules.specs.PlainWinner.{IsOutcome}
 use Rattle.whole_rules.specs.WholeGame.{State, IsMove, Leads, after, IsLegal, ListsMoves}
 use Rattle.whole_rules.proofs.OutcomeLaws.{wins-not_loses}
-use Rattle.whole_rules.proofs.PlacingLaws.{placed_same}
+use Rattle.go_play.proofs.BoardPlay.{placed_same}
 use Rattle.whole_rules.specs.FirstWinningMove.{HasOneWinner}
 
 pub move_same : (s t u : State) (m : Move) → IsMove s m t → IsMove s m u → t ≡ u

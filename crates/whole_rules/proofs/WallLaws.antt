@@ -6,12 +6,12 @@ use Rattle.go_grid.specs.Board.{Board, NextTo, HasStone, IsEmpty, Lacks, cell_at
 use Rattle.go_grid.specs.Walk.{Joined}
 use Rattle.go_grid.specs.Marks.{Marks}
 use Rattle.go_grid.specs.Chain.{InChain, HasLiberty, IsLiberty, IsSettled}
-use Rattle.go_grid.proofs.BoardLemmas.{same_stone}
+use Rattle.go_grid.proofs.BoardLemmas.{same_stone, empty_not_stone}
 use Rattle.go_grid.proofs.WalkLemmas.{joined_step, joined_end, joined_more}
 use Rattle.benson_life.specs.Life.{InRegion, IsAlive, IsCounted}
 use Rattle.benson_life.specs.Region.{IsContested}
 use Rattle.benson_life.specs.Walls.{WallsStand}
-use Rattle.benson_life.proofs.StandLemmas.{empty_not_stone, joined_along}
+use Rattle.benson_life.proofs.StandLemmas.{joined_along}
 use Rattle.benson_life.proofs.WallLemmas.{counted_region, walls_breathe}
 use Rattle.go_play.specs.Place.{with_stone, IsPlaced, IsTaken}
 use Rattle.whole_rules.proofs.PlacingLaws.{elsewhere, as_long}
@@ -20,6 +20,7 @@ use Rattle.whole_rules.specs.declared.states.Move.TheVariants.{Stone, Spend, Hal
 use Rattle.whole_rules.specs.WholeGame.{State, IsMove}
 use Rattle.whole_rules.specs.Opening.{IsOpening}
 use Rattle.whole_rules.specs.Walls.{Plays, WallsLast}
+use Rattle.go_play.proofs.BoardPlay.{placed_long, taken_choked, taken_stone}
 
 -- an empty point, and a stone of another colour, lacks the colour
 empty_lacks : (g : Board) (c : Colour) (p : ℕ) → IsEmpty g p → Lacks g c p
@@ -63,20 +64,20 @@ module _ (g : Board) where
         still_breathes : (d : Colour) (s q : ℕ) → q ≢ p → IsLiberty h d s q → HasLiberty b d s
         still_breathes d s q ne l =
             let t = l.1 in
-            (q, (empty_on q ne l.0, (t.0, joined_more h.columns (HasStone h d) (HasStone b d) (λ x w. stone_on d x (λ e. empty_not_stone d (sym placed.free.1 ∙ subst (λ y. cell_at h y ≡ stone d) e w.1)) w) s t.0 t.1, t.2)))
+            (q, (empty_on q ne l.0, (t.0, joined_more h.columns (HasStone h d) (HasStone b d) (λ x w. stone_on d x (λ e. empty_not_stone d (sym placed.1.free ∙ subst (λ y. cell_at h y ≡ stone d) e w.1)) w) s t.0 t.1, t.2)))
 
-        alive_kept : (d : Colour) (s : ℕ) → IsAlive g d s → IsTaken b p (other c) s → ⊥
+        alive_kept : (d : Colour) (s : ℕ) → IsAlive g d s → IsTaken h p c s → ⊥
         alive_kept d s a t =
             let on = stone_on d s (alive_elsewhere d s a) (walls.stones d s a) in
-            let e : d ≡ other c = same_stone d (other c) (sym on.1 ∙ t.0.1) in
+            let e : d ≡ other c = same_stone d (other c) (sym on.1 ∙ (taken_stone h p c s t).1) in
             let l = walls_breathe g settled h walls d s a in
-            t.2 (subst (λ z. HasLiberty b z s) e (still_breathes d s l.0 (counted_elsewhere d l.0 l.1) l.2))
+            taken_choked h p c s t (subst (λ z. HasLiberty b z s) e (still_breathes d s l.0 (counted_elsewhere d l.0 l.1) l.2))
 
-        counted_kept : (d : Colour) (q : ℕ) → IsCounted g d q → IsTaken b p (other c) q → ⊥
+        counted_kept : (d : Colour) (q : ℕ) → IsCounted g d q → IsTaken h p c q → ⊥
         counted_kept d q w t =
             let o = other c in
             let same : cell_at b q ≡ cell_at g q = elsewhere h p q c (counted_elsewhere d q w) ∙ walls.counted d q w in
-            let stood : HasStone g o q = (w.2.lacks.0, sym same ∙ t.0.1) in
+            let stood : HasStone g o q = (w.2.lacks.0, sym same ∙ (taken_stone h p c q t).1) in
             let ne : o ≢ d = λ e. w.2.lacks.1 (stood.1 ∙ ap stone e) in
             let l = chain_liberty d o q ne stood (settled o q stood) in
             let in_chain : (x : ℕ) → InChain g o q x → HasStone h o x = λ x j.
@@ -89,17 +90,17 @@ module _ (g : Board) where
               (subst (λ n. l.0 < n) (sym walls.long) l.2.0.0, walls.counted d l.0 wl ∙ l.2.0.1),
               (r.0, subst (λ n. Joined n (HasStone h o) q r.0) (sym walls.columns) (joined_along g.columns (HasStone g o) (HasStone h o) q r.0 in_chain r.1), subst (λ n. NextTo n r.0 l.0) (sym walls.columns) r.2),
             ) in
-            t.2 (still_breathes o q l.0 (counted_elsewhere d l.0 wl) liberty)
+            taken_choked h p c q t (still_breathes o q l.0 (counted_elsewhere d l.0 wl) liberty)
 
         pub walls_step : WallsStand g k
         walls_step = record {
-          columns = placed.without.columns ∙ walls.columns;
-          long = placed.without.long ∙ as_long h p c ∙ walls.long;
+          columns = placed.0.columns ∙ walls.columns;
+          long = placed_long h p c k placed ∙ walls.long;
           stones = λ d s a.
               let on = stone_on d s (alive_elsewhere d s a) (walls.stones d s a) in
-              (subst (λ n. s < n) (sym placed.without.long) on.0, placed.without.kept s (alive_kept d s a) ∙ on.1);
+              (subst (λ n. s < n) (sym placed.1.without.long) on.0, placed.1.without.kept s (alive_kept d s a) ∙ on.1);
           counted = λ d q w.
-              placed.without.kept q (counted_kept d q w) ∙ elsewhere h p q c (counted_elsewhere d q w) ∙ walls.counted d q w;
+              placed.1.without.kept q (counted_kept d q w) ∙ elsewhere h p q c (counted_elsewhere d q w) ∙ walls.counted d q w;
         }
 
 -- what each play keeps

@@ -13,7 +13,7 @@ pressing-smaller c =
     let p = c.in-Some.point in
     let m = c.press.new.board in
     let placed = c.in-Some.ensures.1 in
-    falls d h m (long h d p m placed.free placed.without) (rises h d p m placed)
+    falls d h m (long h d p m (placed.1.place, placed.1.free) placed.0 placed.1.without) (rises h d p m placed)
 
 pub pressing-preserved : goal.pressing-preserved
 pressing-preserved c =

@@ -1,4 +1,3 @@
-use Rattle.std.proofs.Common.{sym, refl}
 use Rattle.go_grid.proofs.filling.meet.Goals as goal
 
 pub returns-in-Some-clause-under_way : goal.returns-in-Some-clause-under_way

@@ -1,8 +1,8 @@
+use Rattle.std.proofs.Common.{refl}
 use Rattle.std.proofs.lemmas.Result.{err_from_is_err_and}
-use Rattle.go_grid.specs.Board.{other}
 use Rattle.go_play.specs.Place.{with_stone, IsTaken}
 use Rattle.go_play.proofs.PlaceLemmas.{refused}
-use Rattle.go_play.proofs.StripLemmas.{stripped, without_stripped, number_taken}
+use Rattle.go_play.proofs.StripLemmas.{strip, without_stripped, number_taken}
 use Rattle.go_play.proofs.placing.allowed.Goals as goal
 
 pub returns-in_err-taken : goal.returns-in_err-taken
@@ -15,10 +15,10 @@ returns c =
     let g = c.args.board.now in
     let b = with_stone g c.args.point c.args.colour in
     let j = c.in_ok-taken.ensures in
-    let w = without_stripped b (IsTaken b c.args.point (other c.args.colour)) c.in_ok-taken.taken j.1 in (
-      stripped b c.in_ok-taken.taken,
+    let w = without_stripped b.cells (IsTaken g c.args.point c.args.colour) c.in_ok-taken.taken j.1 in (
+      record g { cells = strip c.in_ok-taken.taken b.cells },
       (
-        record { free = j.0; without = w; breathes = j.2 _ w },
+        (record { columns = refl; rows = refl }, record { place = j.0.0; free = j.0.1; without = w; stands = j.2 _ w }),
         rw c.len.ensures (number_taken g c.args.point c.args.colour _ c.in_ok-taken.taken j.0 j.1 w),
       ),
     )
