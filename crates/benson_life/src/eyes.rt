@@ -9,7 +9,7 @@ ghost use Rattle.benson_life.specs.Life.{IsVital};
 ghost use Rattle.benson_life.specs.Survey.{IsSurvey};
 
 use crate::surveys::Survey;
-use go_grid::{Board, Colour, NearPoints, Point, Points, label_of};
+use go_grid::{Board, Colour, MOST_POINTS, NearPoints, Point, Points, label_of};
 use std::alloc::{AllocError, Global};
 
 /// A region that is vital to a chain. Each is named by its lowest point.
@@ -21,7 +21,7 @@ pub(crate) struct Eye {
 
 /// Whether a point is a stone of the chain.
 fn is_of_chain(survey: &Survey, chain: Point, point: Point) -> bool
-    requires { point < 625 }
+    requires { point < MOST_POINTS }
     ensures { (result ≡ true) ↔ IsOfChain survey.now chain point }
 {
     survey.stones.contains(point) && label_of(&survey.chains, point).is(chain)
@@ -78,7 +78,7 @@ fn add_eye(
 ) -> Result<(), AllocError>
     requires survey { IsSurvey board.now colour survey.now }
     requires point { IsEmpty board.now point }
-    requires near { near < 625 }
+    requires near { near < MOST_POINTS }
     ensures { OnOk result ((e : Eye) → Contains eyes.new.items e
         ↔ (Contains eyes.old.items e ⊎ IsPairOf board.now colour survey.now point near e)) }
 {

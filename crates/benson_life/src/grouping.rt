@@ -7,13 +7,13 @@ ghost use Rattle.benson_life.specs.Groups.{IsLeader, IsNumberOfGroups};
 ghost use Rattle.benson_life.specs.Life.{IsAlive, IsCounted, IsLargestHealthy};
 
 use crate::territory::{alive_set, counted_set};
-use go_grid::{Board, Colour, Labels, Point, Points, Size, components, label_of};
+use go_grid::{Board, Colour, Labels, MOST_POINTS, Point, Points, Size, components, label_of};
 use std::alloc::{AllocError, Global};
 
 /// The lowest point of a set with each label.
 fn firsts(size: Size, of: &Points, labels: &Labels) -> Points
     requires within { IsWithin (size.columns * size.rows) of.now }
-    requires labels { (p : ℕ) → IsMarked of.now p → label labels.now p < 625 }
+    requires labels { (p : ℕ) → IsMarked of.now p → label labels.now p < MOST_POINTS }
     ensures { Marks result (λ p. IsMarked of.now p
         × ((q : ℕ) → IsMarked of.now q → label labels.now q ≡ label labels.now p → p ≤ q)) }
 {

@@ -12,7 +12,7 @@ ghost use Rattle.benson_life.specs.Survey.{IsSurvey};
 use crate::eyes::Eye;
 use crate::surveys::Survey;
 use crate::walls::{breached, labelled};
-use go_grid::{Board, Colour, Labels, Point, Points, label_of};
+use go_grid::{Board, Colour, Labels, MOST_POINTS, Point, Points, label_of};
 
 /// Whether a point of the first set is missing from the second, which lies within it.
 fn lost_some(of: &Points, left: &Points) -> bool
@@ -25,11 +25,11 @@ fn lost_some(of: &Points, left: &Points) -> bool
 
 /// For each chain with a walled eye the region of one of them.
 fn some_eyes(eyes: &[Eye], breached: &Points) -> Labels
-    requires { All (λ e. (e.region < 625) × (e.chain < 625)) eyes.now }
+    requires { All (λ e. (e.region < MOST_POINTS) × (e.chain < MOST_POINTS)) eyes.now }
     ensures { (k r : ℕ) → HasWalledEye eyes.now breached.now k r
         → HasWalledEye eyes.now breached.now k (label result k) }
 {
-    let mut regions = [Point(0); 625];
+    let mut regions = [Point(0); MOST_POINTS];
     for eye in eyes {
         if !breached.contains(eye.region) {
             let chain = eye.chain;
@@ -41,7 +41,7 @@ fn some_eyes(eyes: &[Eye], breached: &Points) -> Labels
 
 /// The chains with two walled eyes.
 fn two_eyed(eyes: &[Eye], breached: &Points) -> Points
-    requires { All (λ e. (e.region < 625) × (e.chain < 625)) eyes.now }
+    requires { All (λ e. (e.region < MOST_POINTS) × (e.chain < MOST_POINTS)) eyes.now }
     ensures { Marks result (HasTwoWalledEyes eyes.now breached.now) }
 {
     let one = some_eyes(eyes, breached);

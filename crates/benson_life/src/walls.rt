@@ -8,7 +8,7 @@ ghost use Rattle.benson_life.specs.Life.{IsWalledBy};
 ghost use Rattle.benson_life.specs.Survey.{IsSurvey};
 
 use crate::surveys::Survey;
-use go_grid::{Board, Colour, Labels, Point, Points, Size, label_of, touches};
+use go_grid::{Board, Colour, Labels, MOST_POINTS, Point, Points, Size, label_of, touches};
 
 /// The points of a set whose label is in the second set.
 pub(crate) fn labelled(size: Size, within: &Points, labels: &Labels, chosen: &Points) -> Points
@@ -23,7 +23,7 @@ pub(crate) fn labelled(size: Size, within: &Points, labels: &Labels, chosen: &Po
 /// The labels of the points of a set that are next to a point of another.
 fn labels_beside(size: Size, within: &Points, labels: &Labels, points: &Points) -> Points
     requires within { IsWithin (size.columns * size.rows) within.now }
-    requires labels { (p : ℕ) → IsMarked within.now p → label labels.now p < 625 }
+    requires labels { (p : ℕ) → IsMarked within.now p → label labels.now p < MOST_POINTS }
     requires points { IsWithin (size.columns * size.rows) points.now }
     ensures { Marks result (λ r. (p : ℕ) × IsMarked within.now p × (label labels.now p ≡ r)
         × Touches size.columns points.now p) }

@@ -11,8 +11,11 @@ use std::marker::Model;
 #[cfg(test)]
 mod tests;
 
+/// The exponent of the least parts: each number is a whole number of parts of 2^-60.
+pub const EXPONENT: u8 = 60;
+
 /// The first size past the bounds, 2^60, in parts of 2^-60.
-const LIMIT: i128 = 1 << 120;
+pub const LIMIT: i128 = 1 << 120;
 
 /// A fraction by a power of two, of a size below 2^60 and with a denominator of at most 2^60. Contracts see it as the
 /// whole number of its parts of 2^-60.
@@ -45,10 +48,10 @@ fn half_of(n: i128) -> Option<i128>
 impl Dyadic {
     /// A whole number.
     pub fn whole(n: i32) -> Dyadic
-        ensures { result ≡ n *ℤ pos (2 ^ 60) }
+        ensures { result ≡ n *ℤ pos (2 ^ EXPONENT) }
     {
         Dyadic {
-            units: n as i128 * (1 << 60),
+            units: n as i128 * (1 << EXPONENT),
         }
     }
 
@@ -58,8 +61,8 @@ impl Dyadic {
     {
         let mut units = numerator;
         let mut at = exponent;
-        'scaling: while at != 60 {
-            if at > 60 {
+        'scaling: while at != EXPONENT {
+            if at > EXPONENT {
                 units = half_of(units)?;
                 at -= 1;
             } else {
@@ -75,7 +78,7 @@ impl Dyadic {
         ensures lowest { IsLowest self result.0 result.1 }
     {
         let mut numerator = self.units;
-        let mut exponent = 60;
+        let mut exponent = EXPONENT;
         'halving: while exponent > 0 {
             let Some(half) = half_of(numerator) else {
                 return (numerator, exponent);
@@ -97,7 +100,7 @@ impl Dyadic {
     /// The exponent of the denominator in lowest terms, at most 60: the number is `numerator / 2^exponent`.
     pub fn exponent(self) -> u8
         ensures lowest { (n : ℤ) × IsLowest self n result }
-        ensures most { result ≤ 60 }
+        ensures most { result ≤ EXPONENT }
     {
         let (_numerator, exponent) = self.lowest_terms();
         exponent
@@ -155,7 +158,7 @@ impl Dyadic {
 
 /// The same for bounds of at least 0: the multiple after `low` of the greatest power of two of which one lies between.
 fn simplest_above(low: u128, high: u128, exponent: u32) -> u128
-    requires exponent { exponent ≤ 61 }
+    requires exponent { exponent ≤ EXPONENT + 1 }
     requires room { low + 1 < high }
     requires high { high ≤ 2 ^ 122 }
     ensures { IsSimplest exponent (λ u. IsInside (pos low) (pos high) u) (pos result) }
@@ -169,7 +172,7 @@ fn simplest_above(low: u128, high: u128, exponent: u32) -> u128
 
 /// The simplest number above `low` and below `high`, all three in parts of 2^-`exponent`.
 pub fn simplest_inside(low: i128, high: i128, exponent: u32) -> i128
-    requires exponent { exponent ≤ 61 }
+    requires exponent { exponent ≤ EXPONENT + 1 }
     requires room { (low +ℤ pos 1) <ℤ high }
     requires low_size { unsigned_abs low ≤ 2 ^ 122 }
     requires high_size { unsigned_abs high ≤ 2 ^ 122 }
@@ -218,6 +221,6 @@ pub fn simplest_between(low: Option<Dyadic>, high: Option<Dyadic>) -> Option<Dya
         return None;
     }
     Some(Dyadic {
-        units: simplest_inside(low, high, 60),
+        units: simplest_inside(low, high, EXPONENT as u32),
     })
 }

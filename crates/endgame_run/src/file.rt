@@ -8,11 +8,9 @@ ghost use Rattle.endgame_run.specs.File.{IsWhole, TakesAtMost, count_of, dash, t
 ghost use Rattle.endgame_run.specs.declared.file.FileError.TheVariants.{CannotRead, Memory};
 
 use desk_io::{Failed, LoadError, Loaded, Shelf, Source};
+use sgf_tree::MOST_BYTES;
 use std::alloc::{AllocError, Global};
 use thiserror::Error;
-
-/// The most bytes that a file may have.
-const MAX_LEN: usize = 1_048_576;
 
 /// Why a file wasn't read to its end. `CannotRead` is also that of a file that the shelf tells to be absent.
 #[derive(Debug, Drop, Error)]
@@ -52,8 +50,8 @@ fn read_source<S: Source>(alloc: Global, lines: &mut S) -> Result<Vec<u8>, FileE
 {
     let mut file = Vec::new(alloc);
     let mut piece = [0u8; 4096];
-    while file.len() <= MAX_LEN {
-        let room = (MAX_LEN + 1 - file.len()).min(piece.len());
+    while file.len() <= MOST_BYTES {
+        let room = (MOST_BYTES + 1 - file.len()).min(piece.len());
         let count = lines.read(&mut piece[..room])?;
         if count == 0 {
             return Ok(file);
@@ -75,7 +73,7 @@ fn load_file<H: Shelf>(alloc: Global, shelf: &mut H, name: &str) -> Result<Vec<u
     ensures later { H.faults shelf.old ≤ H.faults shelf.new }
 {
     let mut file = Vec::new(alloc);
-    match shelf.load(name, MAX_LEN, &mut file) {
+    match shelf.load(name, MOST_BYTES, &mut file) {
         Ok(Loaded::Whole) => Ok(file),
         Ok(Loaded::Longer) => Err(FileError::TooLong),
         Err(LoadError::Absent | LoadError::Failed) => Err(FileError::CannotRead),

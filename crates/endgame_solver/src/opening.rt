@@ -14,11 +14,9 @@ use crate::winning::value_seen;
 use benson_life::Territory;
 use game_store::GameId;
 use go_grid::{Board, Point, Region};
+use local_play::MOST_PLACES;
 use region_cut::cut_territory;
 use std::alloc::{AllocError, Global};
-
-/// How many points a region may have.
-const MOST_POINTS: usize = 32;
 
 /// The regions of play of a settled board, by lowest point.
 pub(crate) fn regions_of_play(
@@ -40,7 +38,7 @@ pub(crate) fn first_large(regions: &[Region]) -> Option<(Point, u16)>
 {
     'regions: for region in regions {
         let points = &region.points;
-        if points.len() > MOST_POINTS {
+        if points.len() > MOST_PLACES {
             return Some((points[0], points.len() as u16));
         }
     }

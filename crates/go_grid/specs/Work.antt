@@ -1,5 +1,6 @@
 -- The work of a fill: the points that it has met, marked and in a list.
 use Rattle.std.specs.Prelude.{◌≡◌, ℕ, ◌<◌, ◌≤◌, ◌⊎◌, List, Bool, Some, slice_index, count_by}
+use Rattle.go_grid.specs.declared.grid.TheConstants.{MOST_POINTS}
 use Rattle.go_grid.specs.declared.filling.Work.{Work}
 use Rattle.go_grid.specs.declared.nearby.Near.{Near}
 use Rattle.go_grid.specs.Board.{NextTo}
@@ -15,7 +16,7 @@ pub record IsFilled (columns : ℕ) (within : List Bool) (w : Work) : Type 0 whe
   pub inside : (p : ℕ) → IsMarked w.marks p → IsMarked within p
   pub listed : (i : ℕ) → i < w.count → IsMarked w.marks (slice_index w.points i)
   pub counted : count_by (λ m. m) w.marks ≡ w.count
-  pub most : w.count ≤ 625
+  pub most : w.count ≤ MOST_POINTS
   pub closed : IsClosed columns within w.marks
 
 -- A fill from `start` is under way: `before` was met when it began with place `from` of the list, and the points from place `done` on wait for a look at their neighbours.
@@ -23,7 +24,7 @@ pub record IsFilling (columns : ℕ) (within before : List Bool) (start from don
   pub inside : (p : ℕ) → IsMarked w.marks p → IsMarked within p
   pub listed : (i : ℕ) → i < w.count → IsMarked w.marks (slice_index w.points i)
   pub counted : count_by (λ m. m) w.marks ≡ w.count
-  pub most : w.count ≤ 625
+  pub most : w.count ≤ MOST_POINTS
   pub kept : (p : ℕ) → IsMarked before p → IsMarked w.marks p
   pub met : (p : ℕ) → IsMarked w.marks p → IsMarked before p ⊎ (Joined columns (IsMarked within) start p × IsListed from w p)
   pub earlier : (i : ℕ) → from ≤ i → i < w.count → Joined columns (IsMarked within) start (slice_index w.points i)

@@ -2,7 +2,7 @@
 
 ghost use Rattle.std.specs.Prelude.{◌≡◌, ◌-◌, ◌*◌, ◌<◌, ◌≤◌, length, IfOk, slice_set, replicate};
 
-use crate::grid::{Cell, Point, Size};
+use crate::grid::{Cell, MOST_POINTS, Point, Size};
 use std::alloc::{AllocError, Global};
 use std::marker::Model;
 
@@ -57,7 +57,7 @@ impl Board {
         ensures rows { result.rows ≡ self.now.rows }
         ensures grid { IsBoard self.now }
         ensures area { result.columns * result.rows ≡ length self.now.cells }
-        ensures most { length self.now.cells ≤ 625 }
+        ensures most { length self.now.cells ≤ MOST_POINTS }
     {
         self.size
     }

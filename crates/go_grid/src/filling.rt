@@ -5,20 +5,20 @@ ghost use Rattle.go_grid.specs.Walk.{Joined};
 ghost use Rattle.go_grid.specs.Marks.{IsMarked, Touches, IsWithin, Marks};
 ghost use Rattle.go_grid.specs.Work.{IsListed, IsFilled, IsFilling, IsNear};
 
-use crate::grid::{Point, Size};
+use crate::grid::{MOST_POINTS, Point, Size};
 use crate::nearby::{Near, neighbours};
 use crate::points::Points;
 
 /// Point 0 for each point of the largest board.
-pub(crate) fn zeroes() -> [Point; 625]
-    ensures { result ≡ replicate 625 0 }
+pub(crate) fn zeroes() -> [Point; MOST_POINTS]
+    ensures { result ≡ replicate MOST_POINTS 0 }
 {
-    [Point(0); 625]
+    [Point(0); MOST_POINTS]
 }
 
 /// Whether the point is there, and in the set.
 fn has(points: &Points, point: Option<Point>) -> bool
-    requires { IfSome point (λ p. p < 625) }
+    requires { IfSome point (λ p. p < MOST_POINTS) }
     ensures { (result ≡ true) ↔ ((p : ℕ) × (point ≡ Some p) × IsMarked points.now p) }
 {
     match point {
@@ -45,7 +45,7 @@ pub fn touches(size: Size, points: &Points, point: Point) -> bool
 #[derive(Drop)]
 pub(crate) struct Work {
     pub marks: Points,
-    pub points: [Point; 625],
+    pub points: [Point; MOST_POINTS],
     pub count: u16,
 }
 
@@ -64,7 +64,7 @@ pub(crate) fn idle() -> Work
 
 /// Meets a point, if the set has it and it wasn't met.
 fn enter(within: &Points, work: &mut Work, point: Point)
-    requires inside { point < 625 }
+    requires inside { point < MOST_POINTS }
     requires counted { count_by (λ m. m) work.old.marks ≡ work.old.count }
     ensures met { IsMarked within.now point → IsMarked work.new.marks point }
     ensures kept { (p : ℕ) → IsMarked work.old.marks p → IsMarked work.new.marks p }
@@ -86,7 +86,7 @@ fn enter(within: &Points, work: &mut Work, point: Point)
 
 /// Meets the point, if it is there, the set has it and it wasn't met.
 fn meet(within: &Points, work: &mut Work, point: Option<Point>)
-    requires inside { IfSome point (λ p. p < 625) }
+    requires inside { IfSome point (λ p. p < MOST_POINTS) }
     requires counted { count_by (λ m. m) work.old.marks ≡ work.old.count }
     ensures met { (p : ℕ) → point ≡ Some p → IsMarked within.now p → IsMarked work.new.marks p }
     ensures kept { (p : ℕ) → IsMarked work.old.marks p → IsMarked work.new.marks p }
@@ -106,7 +106,7 @@ fn meet(within: &Points, work: &mut Work, point: Option<Point>)
 
 /// Meets the points next to a point.
 fn meet_around(within: &Points, work: &mut Work, near: Near)
-    requires inside { (q : ℕ) → IsNear near q → q < 625 }
+    requires inside { (q : ℕ) → IsNear near q → q < MOST_POINTS }
     requires counted { count_by (λ m. m) work.old.marks ≡ work.old.count }
     ensures met { (p : ℕ) → IsNear near p → IsMarked within.now p → IsMarked work.new.marks p }
     ensures kept { (p : ℕ) → IsMarked work.old.marks p → IsMarked work.new.marks p }
@@ -151,7 +151,7 @@ fn part(size: Size, within: &Points, start: Point) -> Work
     ensures marks { Marks result.marks (Joined size.columns (IsMarked within.now) start) }
     ensures listed { (p : ℕ) → Joined size.columns (IsMarked within.now) start p ↔ IsListed 0 result p }
     ensures inside { (i : ℕ) → i < result.count → slice_index result.points i < size.columns * size.rows }
-    ensures most { result.count ≤ 625 }
+    ensures most { result.count ≤ MOST_POINTS }
 {
     let mut work = idle();
     spread(size, within, &mut work, start);

@@ -4,6 +4,9 @@ ghost use Rattle.std.specs.Prelude.{◌≡◌, ℕ, ◌-◌, ◌*◌, ◌<◌, �
 
 use std::marker::Model;
 
+/// The number of points of the largest board.
+pub const MOST_POINTS: usize = 625;
+
 /// A point of a board, by its number: `row * columns + column`, both from 0 at the top left.
 #[derive(Clone, Copy, PartialEq, Eq, Debug)]
 pub struct Point(pub u16);
@@ -56,7 +59,7 @@ impl Size {
     pub fn area(self) -> u16
         ensures value { result ≡ self.columns * self.rows }
         ensures least { 0 < result }
-        ensures most { result ≤ 625 }
+        ensures most { result ≤ MOST_POINTS }
     {
         u16::from(self.columns) * u16::from(self.rows)
     }

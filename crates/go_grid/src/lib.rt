@@ -14,7 +14,7 @@ pub mod sets;
 
 pub use boards::Board;
 pub use filling::{fill, fill_all, part_touches, touches};
-pub use grid::{Cell, Colour, Point, Size};
+pub use grid::{Cell, Colour, MOST_POINTS, Point, Size};
 pub use names::{name, point_of};
 pub use nearby::{Near, NearPoints, neighbours};
 pub use parts::{Labels, components, label_of};

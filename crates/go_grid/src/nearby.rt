@@ -4,7 +4,7 @@ ghost use Rattle.std.specs.Prelude.{◌≡◌, ◌+◌, ◌-◌, ◌*◌, ◌%�
 ghost use Rattle.go_grid.specs.Board.{AreAround, AreNear};
 ghost use Rattle.std.specs.Option.{SomeIff};
 
-use crate::grid::{Point, Size};
+use crate::grid::{MOST_POINTS, Point, Size};
 use std::marker::Model;
 
 /// The points directly above, left, right and below a point, where the board has them.
@@ -101,7 +101,7 @@ impl NearPoints {
         requires { point < size.columns * size.rows }
         ensures around { AreAround size.columns (size.columns * size.rows) point self.new }
         ensures on_board { All (λ q. q < size.columns * size.rows) self.new }
-        ensures inside { All (λ q. q < 625) self.new }
+        ensures inside { All (λ q. q < MOST_POINTS) self.new }
     {
         let near = neighbours(size, point);
         self.clear();

@@ -6,15 +6,15 @@ ghost use Rattle.go_grid.specs.Work.{IsListed};
 ghost use Rattle.go_grid.specs.Parts.{AreParts, label};
 
 use crate::filling::{Work, idle, spread, zeroes};
-use crate::grid::{Point, Size};
+use crate::grid::{MOST_POINTS, Point, Size};
 use crate::points::Points;
 
 /// A label for each point of the largest board.
-pub type Labels = [Point; 625];
+pub type Labels = [Point; MOST_POINTS];
 
 /// The label of a point.
 pub fn label_of(labels: &Labels, point: Point) -> Point
-    requires { point < 625 }
+    requires { point < MOST_POINTS }
     ensures { result ≡ label labels.now point }
 {
     labels[usize::from(point.0)]
@@ -40,8 +40,8 @@ pub fn components(size: Size, within: &Points) -> Labels
 
 /// Labels the points that a fill has met from a place of its list on.
 fn put_label(work: &Work, from: u16, part: Point, labels: &mut Labels)
-    requires most { work.now.count ≤ 625 }
-    requires inside { (i : ℕ) → i < work.now.count → slice_index work.now.points i < 625 }
+    requires most { work.now.count ≤ MOST_POINTS }
+    requires inside { (i : ℕ) → i < work.now.count → slice_index work.now.points i < MOST_POINTS }
     ensures put { (p : ℕ) → IsListed from work.now p → label labels.new p ≡ part }
     ensures other { (p : ℕ) → ¬ IsListed from work.now p → label labels.new p ≡ label labels.old p }
 {

@@ -4,14 +4,14 @@ ghost use Rattle.std.specs.Prelude.{◌≡◌, ℕ, ◌*◌, ◌<◌, ◌≤◌,
 ghost use Rattle.std.specs.Bool.{OnFalse, OnTrue};
 ghost use Rattle.go_grid.specs.Marks.{AreChosen, IsMarked, Lists, Marks};
 
-use crate::grid::{Point, Size};
+use crate::grid::{MOST_POINTS, Point, Size};
 use std::alloc::{AllocError, Global};
 use std::marker::Model;
 
 /// A set of points: a mark for each point of the largest board.
 #[derive(Clone, Copy)]
 pub struct Points {
-    marks: [bool; 625],
+    marks: [bool; MOST_POINTS],
 }
 
 impl Model for Points {
@@ -34,7 +34,7 @@ impl Points {
 
     /// The points of a list.
     pub fn of(list: &[Point]) -> Points
-        requires { All (λ p. p < 625) list.now }
+        requires { All (λ p. p < MOST_POINTS) list.now }
         ensures { Marks result (Contains list.now) }
     {
         let mut points = Points::new();
@@ -49,22 +49,22 @@ impl Points {
         ensures { (result ≡ true) ↔ IsMarked self.now point }
     {
         let place = usize::from(point.0);
-        place < 625 && self.marks[place]
+        place < MOST_POINTS && self.marks[place]
     }
 
     /// Adds a point.
     pub fn insert(&mut self, point: Point)
-        requires { point < 625 }
+        requires { point < MOST_POINTS }
         ensures marks { Marks self.new (λ q. IsMarked self.old q ⊎ (q ≡ point)) }
         ensures number { ¬ IsMarked self.old point → count_by (λ m. m) self.new ≡ count_by (λ m. m) self.old + 1 }
-        ensures most { count_by (λ m. m) self.new ≤ 625 }
+        ensures most { count_by (λ m. m) self.new ≤ MOST_POINTS }
     {
         self.marks[usize::from(point.0)] = true;
     }
 
     /// Takes a point out.
     pub fn remove(&mut self, point: Point)
-        requires { point < 625 }
+        requires { point < MOST_POINTS }
         ensures { Marks self.new (λ q. IsMarked self.old q × (q ≡ point → ⊥)) }
     {
         self.marks[usize::from(point.0)] = false;
@@ -72,7 +72,7 @@ impl Points {
 
     /// The points below a number for which the test holds.
     pub fn chosen<F: Fn(Point) -> bool>(number: u16, test: F) -> Points
-        requires number { number ≤ 625 }
+        requires number { number ≤ MOST_POINTS }
         requires test { (p : ℕ) → p < number → F.pre test p }
         ensures { AreChosen number (F.post test) result }
     {
@@ -90,7 +90,7 @@ impl Points {
         ensures { Marks result (λ q. IsMarked self.now q ⊎ IsMarked other.now q) }
     {
         let (mine, theirs) = (&self.marks, &other.marks);
-        Points::chosen(625, |point| {
+        Points::chosen(MOST_POINTS as u16, |point| {
             let place = usize::from(point.0);
             mine[place] || theirs[place]
         })
@@ -101,7 +101,7 @@ impl Points {
         ensures { Marks result (λ q. IsMarked self.now q × ¬ IsMarked other.now q) }
     {
         let (mine, theirs) = (&self.marks, &other.marks);
-        Points::chosen(625, |point| {
+        Points::chosen(MOST_POINTS as u16, |point| {
             let place = usize::from(point.0);
             mine[place] && !theirs[place]
         })
@@ -119,7 +119,7 @@ impl Points {
         ensures { IfOk result (λ points. Lists points.items (IsMarked self.now)) }
     {
         let mut points = Vec::new(alloc);
-        for number in 0..625u16 {
+        for number in 0..MOST_POINTS as u16 {
             if self.marks[usize::from(number)] {
                 points.push(Point(number))?;
             }
@@ -149,8 +149,8 @@ impl Points {
 }
 
 /// No mark.
-fn blank() -> [bool; 625]
-    ensures { result ≡ replicate 625 false }
+fn blank() -> [bool; MOST_POINTS]
+    ensures { result ≡ replicate MOST_POINTS false }
 {
-    [false; 625]
+    [false; MOST_POINTS]
 }

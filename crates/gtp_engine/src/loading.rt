@@ -8,11 +8,8 @@ ghost use Rattle.gtp_engine.specs.Session.{settings_after};
 
 use desk_io::{LoadError, Loaded, Shelf};
 use sgf_go::{GoError, Settings, Setup, position};
-use sgf_tree::{SgfError, Tree};
+use sgf_tree::{MOST_BYTES, SgfError, Tree};
 use std::alloc::{AllocError, Global};
-
-/// The most bytes that a file may have.
-const MAX_LEN: usize = 1_048_576;
 
 /// What a load comes to.
 #[derive(Drop)]
@@ -79,7 +76,7 @@ pub(crate) fn load<H: Shelf>(
     ensures later { H.faults shelf.old ≤ H.faults shelf.new }
 {
     let mut file = Vec::new(alloc);
-    match shelf.load(name, MAX_LEN, &mut file) {
+    match shelf.load(name, MOST_BYTES, &mut file) {
         Ok(Loaded::Whole) => {
             let found = find_in(alloc, &file, after)?;
             Ok(found)

@@ -9,10 +9,11 @@ use Rattle.local_play.specs.declared.links.Links.{Links}
 use Rattle.local_play.specs.declared.links.Reached.{Reached}
 use Rattle.local_play.specs.LocalPlay.{IsLinked, IsBeside}
 use Rattle.local_play.specs.Places.{Has}
+use Rattle.local_play.specs.declared.places.TheConstants.{MOST_PLACES}
 
 -- at most 32 places, each link leads to another of them, and there is one back
 pub record LinksWithin (touch : List Touch) : Type 0 where
-  pub few : length touch ≤ 32
+  pub few : length touch ≤ MOST_PLACES
   pub inside : (i j : ℕ) → IsLinked touch i j → j < length touch
   pub apart : (i : ℕ) → ¬ IsLinked touch i i
   pub back : (i j : ℕ) → IsLinked touch i j → IsLinked touch j i
@@ -32,8 +33,8 @@ beside_of links colour.White = links.white
 
 -- the sets say what the touches of the places below `n` say
 pub record IsTableBelow (touch : List Touch) (links : Links) (n : ℕ) : Type 0 where
-  pub long : length links.near ≡ 32
-  pub near : (i j : ℕ) → i < 32 → Has (near_at links i) j ↔ ((i < n) × IsLinked touch i j)
+  pub long : length links.near ≡ MOST_PLACES
+  pub near : (i j : ℕ) → i < MOST_PLACES → Has (near_at links i) j ↔ ((i < n) × IsLinked touch i j)
   pub all : (i : ℕ) → Has links.all i ↔ (i < n)
   pub black : (i : ℕ) → Has links.black i ↔ ((i < n) × IsBeside touch colour.Black i)
   pub white : (i : ℕ) → Has links.white i ↔ ((i < n) × IsBeside touch colour.White i)

@@ -2,6 +2,7 @@
 use Rattle.std.specs.Prelude.{◌≡◌, ◌≢◌, ℕ, ◌+◌, ◌*◌, ◌<◌, ◌↔◌, Bool, true, false, Option, None, Some, count_ones}
 use Rattle.std.specs.Int.{bit_at}
 use Rattle.local_play.specs.declared.places.Places.{Places}
+use Rattle.local_play.specs.declared.places.TheConstants.{MOST_PLACES}
 
 -- the number has the bit of the place
 unfoldable pub HasBit : ℕ → ℕ → Type 0
@@ -19,7 +20,7 @@ pub record IsAlone (set : Places) (alone : ℕ) : Type 0 where
 -- the lowest place, or that there is none
 abbrev pub IsFirst : Places → Option ℕ → Type 0
 IsFirst set None = (q : ℕ) → ¬ Has set q
-IsFirst set (Some p) = (p < 32) × Has set p × ((q : ℕ) → q < p → ¬ Has set q)
+IsFirst set (Some p) = (p < MOST_PLACES) × Has set p × ((q : ℕ) → q < p → ¬ Has set q)
 
 -- two different places are in the set
 pub record HasTwo (set : Places) : Type 0 where

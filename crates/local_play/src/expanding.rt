@@ -11,7 +11,7 @@ ghost use Rattle.local_play.specs.Lasting.{IsTurn, AddsMoves};
 use crate::links::Links;
 use crate::local::Local;
 use crate::local_move::{LocalMove, Turn};
-use crate::places::Places;
+use crate::places::{MOST_PLACES, Places};
 use crate::steps::Steps;
 use go_grid::Region;
 use std::alloc::{AllocError, Global};
@@ -62,7 +62,7 @@ pub fn expand<L: Ledger>(
     from: Local,
     steps: &mut Steps<L>,
 ) -> Result<Vec<LocalMove>, AllocError>
-    requires few { length region.now.points ≤ 32 }
+    requires few { length region.now.points ≤ MOST_PLACES }
     requires from { IsPosition (length region.now.points) from }
     ensures moves { (cells : List Cell) → length cells ≡ length region.now.points → from ≡ pack cells
         → IfOk result (λ moves. ListsMoves region.now.touch cells moves.items) }

@@ -14,5 +14,5 @@ pub use expanding::{expand, list_moves};
 pub use links::Links;
 pub use local::{Local, start};
 pub use local_move::LocalMove;
-pub use places::Cells;
+pub use places::{Cells, MOST_PLACES};
 pub use steps::Steps;

@@ -6,14 +6,14 @@ ghost use Rattle.go_grid.specs.Region.{touch_at};
 ghost use Rattle.local_play.specs.Places.{Has};
 ghost use Rattle.local_play.specs.Links.{IsTable, IsTableBelow, IsLinkOf, IsReached, near_at, beside_of};
 
-use crate::places::Places;
+use crate::places::{MOST_PLACES, Places};
 use go_grid::{Colour, Region, Touch};
 
 /// Which places of a region are linked, and next to which of them alive stones stand, as sets of places.
 #[derive(Clone, Copy)]
 pub struct Links {
     /// By place the places that it is linked to.
-    near: [Places; 32],
+    near: [Places; MOST_PLACES],
     /// All places of the region.
     all: Places,
     /// The places next to an alive stone of Black.
@@ -31,7 +31,7 @@ pub struct Reached {
 
 /// The place that a link leads to, if there is one.
 fn linked(link: Option<u16>) -> Places
-    requires { (j : ℕ) → link ≡ Some j → j < 32 }
+    requires { (j : ℕ) → link ≡ Some j → j < MOST_PLACES }
     ensures { (q : ℕ) → Has result q ↔ (link ≡ Some q) }
 {
     match link {
@@ -42,7 +42,7 @@ fn linked(link: Option<u16>) -> Places
 
 /// The places that a place is linked to.
 fn near(touch: Touch) -> Places
-    requires { (j : ℕ) → IsLinkOf touch j → j < 32 }
+    requires { (j : ℕ) → IsLinkOf touch j → j < MOST_PLACES }
     ensures { (q : ℕ) → Has result q ↔ IsLinkOf touch q }
 {
     let up = linked(touch.up);
@@ -54,7 +54,7 @@ fn near(touch: Touch) -> Places
 
 /// The set with a place more, where it belongs to it.
 fn with(set: Places, place: usize, belongs: bool) -> Places
-    requires { place < 32 }
+    requires { place < MOST_PLACES }
     ensures { (q : ℕ) → Has result q ↔ (Has set q ⊎ ((q ≡ place) × (belongs ≡ true))) }
 {
     if belongs {
@@ -70,7 +70,7 @@ impl Links {
         ensures { (touch : List Touch) → IsTableBelow touch result 0 }
     {
         Links {
-            near: [Places::none(); 32],
+            near: [Places::none(); MOST_PLACES],
             all: Places::none(),
             black: Places::none(),
             white: Places::none(),
@@ -79,8 +79,8 @@ impl Links {
 
     /// Adds a place.
     fn add(&mut self, place: usize, touch: Touch)
-        requires place { place < 32 }
-        requires within { (j : ℕ) → IsLinkOf touch j → j < 32 }
+        requires place { place < MOST_PLACES }
+        requires within { (j : ℕ) → IsLinkOf touch j → j < MOST_PLACES }
         ensures { (touches : List Touch) → touch ≡ touch_at touches place
             → IsTableBelow touches self.old place → IsTableBelow touches self.new (place + 1) }
     {
@@ -92,7 +92,7 @@ impl Links {
 
     /// The links of a region, which has at most 32 points.
     pub fn of(region: &Region) -> Links
-        requires { length region.now.points ≤ 32 }
+        requires { length region.now.points ≤ MOST_PLACES }
         ensures table { IsTable region.now.touch result }
         ensures full { length region.now.touch ≡ length region.now.points }
     {
@@ -113,7 +113,7 @@ impl Links {
 
     /// The places that a place is linked to.
     pub(crate) fn near(&self, place: usize) -> Places
-        requires { place < 32 }
+        requires { place < MOST_PLACES }
         ensures { result ≡ near_at self.now place }
     {
         self.near[place]

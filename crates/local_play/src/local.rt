@@ -7,7 +7,7 @@ ghost use Rattle.local_play.specs.LocalPlay.{Holds, held_at, with_stone};
 ghost use Rattle.local_play.specs.Packed.{code, pack, IsUnpacked, cleared};
 ghost use Rattle.local_play.specs.Places.{Has};
 
-use crate::places::{Cells, Places};
+use crate::places::{Cells, MOST_PLACES, Places};
 use go_grid::{Cell, Colour, Region};
 use std::hash::Hash;
 use std::marker::Model;
@@ -50,7 +50,7 @@ fn decoded(digit: u64) -> Cell
 
 /// The number of the position that a list of cells is.
 fn pack(cells: &[Cell]) -> u64
-    requires { length cells.now ≤ 32 }
+    requires { length cells.now ≤ MOST_PLACES }
     ensures { result ≡ pack cells.now }
 {
     let mut number = 0;
@@ -63,7 +63,7 @@ fn pack(cells: &[Cell]) -> u64
 impl Local {
     /// The position that holds the listed cells.
     pub fn of(cells: &[Cell]) -> Local
-        requires { length cells.now ≤ 32 }
+        requires { length cells.now ≤ MOST_PLACES }
         ensures { result ≡ pack cells.now }
     {
         Local(pack(cells))
@@ -82,7 +82,7 @@ impl Local {
 
     /// The position with a stone more.
     pub(crate) fn with_stone(self, place: usize, colour: Colour) -> Local
-        requires { place < 32 }
+        requires { place < MOST_PLACES }
         ensures { (cells : List Cell) → self ≡ pack cells → place < length cells
             → held_at cells place ≡ Empty → result ≡ pack (with_stone cells place colour) }
     {
@@ -105,11 +105,11 @@ impl Local {
 
     /// What each place holds. Places past the region's are empty.
     pub fn cells(self) -> Cells
-        ensures { (cells : List Cell) → length cells ≤ 32 → self ≡ pack cells → IsUnpacked cells result }
+        ensures { (cells : List Cell) → length cells ≤ MOST_PLACES → self ≡ pack cells → IsUnpacked cells result }
     {
-        let mut cells = [Cell::Empty; 32];
+        let mut cells = [Cell::Empty; MOST_PLACES];
         let mut rest = self.0;
-        for place in 0..32usize {
+        for place in 0..MOST_PLACES {
             cells[place] = decoded(rest % 4);
             rest /= 4;
         }
@@ -119,7 +119,7 @@ impl Local {
 
 /// The position in which each point of the region, which has at most 32, holds what the region says.
 pub fn start(region: &Region) -> Local
-    requires { length region.now.points ≤ 32 }
+    requires { length region.now.points ≤ MOST_PLACES }
     ensures packed { result ≡ pack region.now.cells }
     ensures full { length region.now.cells ≡ length region.now.points }
 {

@@ -12,7 +12,7 @@ ghost use Rattle.local_play.specs.Lasting.{CanStand, IsTurn, IsTried};
 
 use crate::links::Links;
 use crate::local::Local;
-use crate::places::Places;
+use crate::places::{MOST_PLACES, Places};
 use crate::sides::Side;
 use go_grid::Colour;
 
@@ -71,7 +71,7 @@ impl Turn {
 
     /// Whether a stone at an empty place that takes nothing has a liberty, or joins a chain that lasts.
     fn stands(&self, near: Places, place: usize) -> bool
-        requires { place < 32 }
+        requires { place < MOST_PLACES }
         ensures { (result ≡ true) ↔ CanStand self.now near place }
     {
         let support = self.empty.union(self.own.lasting);
@@ -83,7 +83,7 @@ impl Turn {
 
     /// The move at an empty place, where it is legal.
     pub fn try_stone(&self, links: &Links, place: usize) -> Option<LocalMove>
-        requires small { place < 32 }
+        requires small { place < MOST_PLACES }
         ensures { (touch : List Touch) (cells : List Cell) → IsTable touch links.now
             → IsTurn touch cells self.now → Has self.now.empty place → IsTried touch cells place self.now.colour result }
     {

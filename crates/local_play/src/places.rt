@@ -5,8 +5,11 @@ ghost use Rattle.local_play.specs.Places.{Has, IsAlone, IsFirst, TellsEmpty, Tel
 
 use go_grid::Cell;
 
+/// The number of places of the largest region that is solved.
+pub const MOST_PLACES: usize = 32;
+
 /// What the places hold. Those past the region's are empty.
-pub type Cells = [Cell; 32];
+pub type Cells = [Cell; MOST_PLACES];
 
 /// The bits of all places.
 const ALL: u64 = 0x5555_5555_5555_5555;
@@ -26,7 +29,7 @@ impl Places {
 
     /// One place.
     pub fn of(place: usize) -> Places
-        requires { place < 32 }
+        requires { place < MOST_PLACES }
         ensures { (q : ℕ) → Has result q ↔ (q ≡ place) }
     {
         Places(1 << (2 * place))

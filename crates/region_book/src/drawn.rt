@@ -5,7 +5,7 @@ ghost use Rattle.go_grid.specs.Marks.{IsMarked, IsWithin, Lists};
 ghost use Rattle.go_grid.specs.Region.{AreLinks, touch_at};
 ghost use Rattle.go_grid.specs.Walk.{Joined};
 
-use go_grid::{Cell, Point, Points, Region, Size, Touch, fill, neighbours};
+use go_grid::{Cell, MOST_POINTS, Point, Points, Region, Size, Touch, fill, neighbours};
 use std::alloc::{AllocError, Global};
 
 /// A region on a board of four columns and rows: its points in ascending order, what they hold, and next to which of them
@@ -73,7 +73,7 @@ fn cells_of(alloc: Global, count: usize, drawn: Drawing<'_>) -> Result<Vec<Cell>
 
 /// The place of a point in a list, if there is a point and the list has it.
 fn place_of(points: &[Point], point: Option<Point>) -> Option<u16>
-    requires { length points.now ≤ 625 }
+    requires { length points.now ≤ MOST_POINTS }
     ensures some { IfSome result (λ j. (j < length points.now) × (point ≡ Some (slice_index points.now j))) }
     ensures none { IfNone result ((p : ℕ) → point ≡ Some p → ¬ Contains points.now p) }
 {
@@ -90,7 +90,7 @@ fn place_of(points: &[Point], point: Option<Point>) -> Option<u16>
 
 /// What is next to a place.
 fn touch_of(size: Size, points: &[Point], place: usize, drawn: Drawing<'_>) -> Touch
-    requires short { length points.now ≤ 625 }
+    requires short { length points.now ≤ MOST_POINTS }
     requires place { place < length points.now }
     requires inside { (p : ℕ) → Contains points.now p → p < size.columns * size.rows }
     ensures { AreLinks size.columns points.now (slice_index points.now place) result }
@@ -113,7 +113,7 @@ fn touches_of(
     points: &[Point],
     drawn: Drawing<'_>,
 ) -> Result<Vec<Touch>, AllocError>
-    requires short { length points.now ≤ 625 }
+    requires short { length points.now ≤ MOST_POINTS }
     requires inside { (p : ℕ) → Contains points.now p → p < size.columns * size.rows }
     ensures long { IfOk result (λ ts. length ts.items ≡ length points.now) }
     ensures links { IfOk result (λ ts. (i : ℕ) → i < length points.now

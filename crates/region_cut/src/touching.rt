@@ -5,12 +5,12 @@ ghost use Rattle.go_grid.specs.Marks.{IsWithin};
 ghost use Rattle.go_grid.specs.Region.{touch_at};
 ghost use Rattle.region_cut.specs.Places.{IsPlace, IsTouch};
 
-use go_grid::{Point, Points, Size, Touch, neighbours, touches};
+use go_grid::{MOST_POINTS, Point, Points, Size, Touch, neighbours, touches};
 use std::alloc::{AllocError, Global};
 
 /// The place of a point in a list, if there is a point and the list has it.
 fn place_of(points: &[Point], point: Option<Point>) -> Option<u16>
-    requires { length points.now ≤ 625 }
+    requires { length points.now ≤ MOST_POINTS }
     ensures { IsPlace points.now point result }
 {
     let wanted = point?;
@@ -26,7 +26,7 @@ fn place_of(points: &[Point], point: Option<Point>) -> Option<u16>
 
 /// What is next to a point: whether marked stones of each colour are, and which places of the list.
 fn touch_of(size: Size, points: &[Point], black: &Points, white: &Points, point: Point) -> Touch
-    requires short { length points.now ≤ 625 }
+    requires short { length points.now ≤ MOST_POINTS }
     requires points { All (λ p. p < size.columns * size.rows) points.now }
     requires black { IsWithin (size.columns * size.rows) black.now }
     requires white { IsWithin (size.columns * size.rows) white.now }
@@ -52,7 +52,7 @@ pub(crate) fn touches_of(
     black: &Points,
     white: &Points,
 ) -> Result<Vec<Touch>, AllocError>
-    requires short { length points.now ≤ 625 }
+    requires short { length points.now ≤ MOST_POINTS }
     requires points { All (λ p. p < size.columns * size.rows) points.now }
     requires black { IsWithin (size.columns * size.rows) black.now }
     requires white { IsWithin (size.columns * size.rows) white.now }

@@ -10,6 +10,9 @@ use crate::tree::{Node, Property, Tree};
 use std::alloc::{AllocError, Global};
 use std::mem;
 
+/// The greatest length of a file that is read, in bytes.
+pub const MOST_BYTES: usize = 1_048_576;
+
 /// The most trees that may be open at once.
 const MOST_OPEN: u32 = 1000;
 
@@ -211,7 +214,7 @@ fn find_start(bytes: &[u8]) -> Option<usize>
 
 /// The main line of the tree that begins the bytes, which stand in the file from `start` on.
 fn read_tree(alloc: Global, bytes: &[u8], start: usize) -> Result<Tree, SgfError>
-    requires { start + length bytes.now ≤ 1048576 }
+    requires { start + length bytes.now ≤ MOST_BYTES }
     ensures { Gives (verdict begin 0 bytes.now) start result }
 {
     let mut reader = Reader::new(alloc);
@@ -236,15 +239,15 @@ fn read_tree(alloc: Global, bytes: &[u8], start: usize) -> Result<Tree, SgfError
 /// of SGF gives it.
 #[tactic(auto, using(crate::proofs::Sizes::counts_of))]
 pub fn read(alloc: Global, bytes: &[u8]) -> Result<Tree, SgfError>
-    requires { length bytes.now ≤ 1048576 }
+    requires { length bytes.now ≤ MOST_BYTES }
     ensures answer { Answers bytes.now result }
-    ensures few { IfOk result (λ t. (length t.line.items ≤ 1048576) × (sum_by (λ n. length n.properties.items) t.line.items ≤ 1048576)) }
+    ensures few { IfOk result (λ t. (length t.line.items ≤ MOST_BYTES) × (sum_by (λ n. length n.properties.items) t.line.items ≤ MOST_BYTES)) }
 {
     read_main_line(alloc, bytes)
 }
 
 fn read_main_line(alloc: Global, bytes: &[u8]) -> Result<Tree, SgfError>
-    requires { length bytes.now ≤ 1048576 }
+    requires { length bytes.now ≤ MOST_BYTES }
     ensures { Answers bytes.now result }
 {
     match find_start(bytes) {
