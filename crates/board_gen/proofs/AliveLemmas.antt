@@ -17,6 +17,7 @@ use Rattle.benson_life.specs.Life.{InRegion, IsAlive, IsEye, HasTwoEyes}
 use Rattle.board_gen.specs.Trial.{IsOwner, IsDrawnBy, IsTrialBoard, last_row}
 use Rattle.board_gen.proofs.LineLemmas.{along_row}
 use Rattle.board_gen.proofs.SettledLemmas.{OwnsBetween, drawn_empty, from_row, reaches_row, row_stone, spine_of, stone_owner}
+use Rattle.go_grid.proofs.BoardLemmas.{empty_not_stone}
 
 -- the letter of a stone
 abbrev pub ink : Colour → ℕ
@@ -165,11 +166,7 @@ module _ (number : ℕ) (g : Board) (board : IsTrialBoard number g) where
       )
 
   hole_lacks : (c : Colour) (x : ℕ) → IsHole c x → Lacks g c (24 * 25 + x)
-  hole_lacks c x h = let e = hole_empty c x h in (e.0, λ s. no_stone c (sym e.1 ∙ s))
-    where
-      no_stone : (c : Colour) → cell.Empty ≡ stone c → ⊥
-      no_stone colour.Black e = cc
-      no_stone colour.White e = cc
+  hole_lacks c x h = let e = hole_empty c x h in (e.0, λ s. empty_not_stone c (sym e.1 ∙ s))
 
   -- a hole that the chain of a stone reaches is an eye of it, where all stones are in the list
   eye : (c : Colour) (s x : ℕ) (In : ℕ → Type 0) → IsHole c x → ((q : ℕ) → HasStone g c q → In q)

@@ -14,10 +14,7 @@ use Rattle.local_graph.specs.declared.cycle.CycleMove.{CycleMove}
 use Rattle.local_graph.specs.LocalGraph.{Plays}
 use Rattle.local_graph.specs.FiniteLocalPlay.{HasNoCycle}
 use Rattle.go_grid.proofs.PlayLemmas.{long_after}
-
-no_stone : (c : Colour) → cell.Empty ≡ stone c → ⊥
-no_stone colour.Black e = cc
-no_stone colour.White e = cc
+use Rattle.go_grid.proofs.BoardLemmas.{empty_not_stone, not_other}
 
 -- one colour or the other
 pub same_or_other : (c d : Colour) → (d ≡ c) ⊎ (c ≡ other d)
@@ -25,10 +22,6 @@ same_or_other colour.Black colour.Black = inl refl
 same_or_other colour.White colour.White = inl refl
 same_or_other colour.Black colour.White = inr refl
 same_or_other colour.White colour.Black = inr refl
-
-not_other : (d : Colour) → stone d ≡ stone (other d) → ⊥
-not_other colour.Black e = cc
-not_other colour.White e = cc
 
 turn : (c d : Colour) → c ≡ other d → d ≡ other c
 turn colour.Black colour.Black e = absurd cc
@@ -48,7 +41,7 @@ stone_there cells p d lt = get_or-set_same cells p (stone d) cell.Empty lt
 stone_elsewhere : (cells : List Cell) (p i : ℕ) (c d : Colour) → held_at cells p ≡ cell.Empty → Holds cells c i
     → Holds (with_stone cells p d) c i
 stone_elsewhere cells p i c d empty h =
-    get_or-set_other cells p i (stone d) cell.Empty (λ e. no_stone c (sym empty ∙ subst (λ k. held_at cells k ≡ stone c) e h)) ∙ h
+    get_or-set_other cells p i (stone d) cell.Empty (λ e. empty_not_stone c (sym empty ∙ subst (λ k. held_at cells k ≡ stone c) e h)) ∙ h
 
 pub plays_long : (touch : List Touch) (ms : List CycleMove) (from to : List Cell) → Plays touch from ms to → length to ≡ length from
 plays_long touch [] from to same = ap length (sym same)
@@ -61,7 +54,7 @@ module _ (touch : List Touch) (n : ℕ) (c : Colour) (walled : AreWalled touch n
       let held = leads_start _ _ i j chain in
       elim (cases_lt i n) [
         | inl lt ↦ choked (i, leads_here _ _ i held, inr (walled i lt))
-        | inr past ↦ no_stone c (sym (get_or_past cells i cell.Empty (omega (arith, past, long))) ∙ held)
+        | inr past ↦ empty_not_stone c (sym (get_or_past cells i cell.Empty (omega (arith, past, long))) ∙ held)
       ]
 
   -- a stone of the other colour is removed by none of that colour's moves, and the new stone stands
@@ -104,9 +97,9 @@ module _ (touch : List Touch) (n : ℕ) (c : Colour) (walled : AreWalled touch n
   -- a stone of the other colour where `to` has none isn't gone at the end, if the colour's stones of `to` are there already
   not_back : (ms : List CycleMove) (from to : List Cell) (p : ℕ) → length from ≡ n → Plays touch from ms to
       → ((i : ℕ) → Holds to c i → Holds from c i) → Holds from (other c) p → held_at to p ≡ cell.Empty → ⊥
-  not_back [] from to p long same had h empty = no_stone (other c) (sym empty ∙ subst (λ x. Holds x (other c) p) same h)
+  not_back [] from to p long same had h empty = empty_not_stone (other c) (sym empty ∙ subst (λ x. Holds x (other c) p) same h)
   not_back (m ∷ ms) from to p long (next, move, rest) had h empty = elim (same_or_other c m.colour) [
-    | inl same ↦ no_stone c (sym move.free ∙ had m.place (owner_stays_along ms next to m.place (long_after move ∙ long) rest
+    | inl same ↦ empty_not_stone c (sym move.free ∙ had m.place (owner_stays_along ms next to m.place (long_after move ∙ long) rest
         (subst (λ k. Holds next k m.place) same (placed from next m.colour m.place move))))
     | inr o ↦ not_back ms next to p (long_after move ∙ long) rest (λ i held. owner_stays from next m.colour m.place i long move (had i held))
         (all_stay from next m.colour (other c) m.place p long o move h) empty
@@ -114,7 +107,7 @@ module _ (touch : List Touch) (n : ℕ) (c : Colour) (walled : AreWalled touch n
 
   no_return : (m : CycleMove) (ms : List CycleMove) (cells : List Cell) → length cells ≡ n → Plays touch cells (m ∷ ms) cells → ⊥
   no_return m ms cells long (next, move, rest) = elim (same_or_other c m.colour) [
-    | inl same ↦ no_stone c (sym move.free ∙ owner_stays_along ms next cells m.place (long_after move ∙ long) rest
+    | inl same ↦ empty_not_stone c (sym move.free ∙ owner_stays_along ms next cells m.place (long_after move ∙ long) rest
         (subst (λ k. Holds next k m.place) same (placed cells next m.colour m.place move)))
     | inr o ↦ not_back ms next cells m.place (long_after move ∙ long) rest (λ i held. owner_stays cells next m.colour m.place i long move held)
         (subst (λ k. Holds next k m.place) (turn c m.colour o) (placed cells next m.colour m.place move)) move.free

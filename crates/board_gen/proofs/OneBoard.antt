@@ -7,9 +7,9 @@ use Rattle.std.specs.Prelude.{slice_index}
 use Rattle.go_grid.specs.declared.grid.Cell.{Cell}
 use Rattle.go_grid.specs.declared.grid.Cell.TheVariants as cell
 use Rattle.go_grid.specs.Board.{Board, cell_at}
-use Rattle.sgf_go.proofs.Areas.{cell_stable}
 use Rattle.board_gen.specs.Trial.{IsDrawnBy, IsInSomeCorridor, IsTrialBoard, IsTrialCell, last_row}
 use Rattle.board_gen.proofs.SettledLemmas.{owner_of}
+use Rattle.go_grid.proofs.BoardLemmas.{cell_stable}
 
 -- a letter draws one cell
 one_drawn : (letter : ℕ) (x y : Cell) → IsDrawnBy letter x → IsDrawnBy letter y → x ≡ y

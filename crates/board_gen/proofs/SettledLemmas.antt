@@ -11,7 +11,7 @@ use Rattle.go_grid.specs.declared.grid.Colour.TheVariants as colour
 use Rattle.go_grid.specs.Chain.{IsSettled}
 use Rattle.go_grid.specs.Board.{Board, NextTo, HasStone, IsEmpty, cell_at, stone}
 use Rattle.go_grid.specs.Walk.{Joined}
-use Rattle.go_grid.proofs.BoardLemmas.{same_stone}
+use Rattle.go_grid.proofs.BoardLemmas.{same_stone, empty_not_stone}
 use Rattle.go_grid.proofs.NearLemmas.{next_up, next_down}
 use Rattle.go_grid.proofs.WalkLemmas.{joined_back, joined_here, joined_join, joined_step}
 use Rattle.board_gen.specs.Trial.{draw, IsOwner, IsCorridorColumn, IsInCorridor, IsInSomeCorridor, IsDrawnBy, IsTrialBoard, corridor_length, last_row}
@@ -123,7 +123,7 @@ module _ (number : ℕ) (g : Board) (board : IsTrialBoard number g) where
       let is = board.each p inside in
       elim (cases_lt (p / 25) 24) [
         | inl low ↦
-            let out : ¬ IsInSomeCorridor number p = λ i. no_stone c (sym (is.corridor low i) ∙ h.1) in
+            let out : ¬ IsInSomeCorridor number p = λ i. empty_not_stone c (sym (is.corridor low i) ∙ h.1) in
             let own = owner_of (p % 25) in
             subst (IsOwner (p % 25)) (same_stone own.0 c (sym (is.wall own.0 low out own.1) ∙ h.1)) own.1
         | inr high ↦
@@ -131,10 +131,6 @@ module _ (number : ℕ) (g : Board) (board : IsTrialBoard number g) where
             drawn_owner c (slice_index last_row (p % 25)) (p % 25) (fits_each (p % 25) (mod_below p 25 (omega arith)))
             (subst (IsDrawnBy (slice_index last_row (p % 25))) h.1 (is.last row))
       ]
-    where
-      no_stone : (c : Colour) → cell.Empty ≡ stone c → ⊥
-      no_stone colour.Black e = cc
-      no_stone colour.White e = cc
 
   -- a point of an owner's column that is in no corridor
   pub wall_stone : (c : Colour) (r x : ℕ) → r < 24 → x < 25 → IsOwner x c → ¬ IsInSomeCorridor number (r * 25 + x) → HasStone g c (r * 25 + x)

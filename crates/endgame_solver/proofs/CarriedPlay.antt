@@ -13,14 +13,14 @@ use Rattle.go_grid.specs.Board.{other, stone}
 use Rattle.go_grid.specs.Region.{touch_at}
 use Rattle.go_grid.proofs.PathLemmas.{carried, leads_here, leads_start, leads_step}
 use Rattle.local_play.specs.LocalPlay.{held_at, is_stone, with_stone, Holds, InLocalChain, IsFree, IsLinked, IsLocalMove, IsNumberTaken, IsRemoved}
-use Rattle.local_value.proofs.MoveList.{length-made, made, made-at, not_empty}
+use Rattle.local_value.proofs.MoveList.{length-made, made, made-at}
 use Rattle.region_book.specs.declared.symmetry.Symmetry.{Symmetry}
 use Rattle.region_book.specs.Shape.{Carries, Direction, cell_after, colour_after, link, turned}
 use Rattle.region_book.specs.Shape.Direction.{up, left, right, down}
 use Rattle.region_book.proofs.CarryLaws.{carries_back}
 use Rattle.region_book.proofs.SymmetryLaws.{back, colour_back}
 use Rattle.endgame_solver.specs.ShapeValues.{AreLinked}
-use Rattle.go_grid.proofs.PlayLemmas.{long_after}
+use Rattle.go_grid.proofs.PlayLemmas.{long_after, held_inside}
 
 stone_after : (colours : Bool) (c : Colour) → cell_after colours (stone c) ≡ stone (colour_after colours c)
 stone_after false c = refl
@@ -54,12 +54,6 @@ direction_of touch i k (inr (inl e)) = (left, e)
 direction_of touch i k (inr (inr (inl e))) = (right, e)
 direction_of touch i k (inr (inr (inr e))) = (down, e)
 
-pub within_cells : (cells : List Cell) (c : Colour) (i : ℕ) → Holds cells c i → i < length cells
-within_cells cells c i holds = elim (cases_lt i (length cells)) as (λ _. i < length cells) [
-  | inl lt ↦ lt
-  | inr le ↦ absurd (not_empty c (sym (get_or_past cells i cell.Empty le) ∙ holds))
-]
-
 module _ (touch : List Touch) (cells : List Cell) (touch' : List Touch) (cells' : List Cell) (Paired : ℕ → ℕ → Type 0) (s : Symmetry)
     (colours : Bool) (linked : AreLinked touch cells) (h : Carries touch cells touch' cells' Paired s colours) where
   linked_over : (i j k l : ℕ) → Paired i j → Paired k l → IsLinked touch i k → IsLinked touch' j l
@@ -71,7 +65,7 @@ module _ (touch : List Touch) (cells : List Cell) (touch' : List Touch) (cells' 
   holds_over c i j p own = h.held i j p ∙ ap (cell_after colours) own ∙ stone_after colours c
 
   partner : (c : Colour) (i : ℕ) → Holds cells c i → (j : ℕ) × Paired i j
-  partner c i own = h.first i (let lt = within_cells cells c i own in omega (arith, lt, linked.full))
+  partner c i own = h.first i (let lt = held_inside cells c i own in omega (arith, lt, linked.full))
 
   chain_over : (c : Colour) (i j k : ℕ) → Paired i j → InLocalChain touch cells c i k
       → (l : ℕ) × Paired k l × InLocalChain touch' cells' (colour_after colours c) j l

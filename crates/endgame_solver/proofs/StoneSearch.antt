@@ -42,7 +42,7 @@ NoStone s n = (q : ℕ) → q < n → ¬ IsWinning s (Stone q)
 
 -- a stone that wins is on the board
 pub no_stone_end : (s : State) (n : ℕ) → length s.board.cells ≤ n → NoStone s n → IsFirstStone s None
-no_stone_end s n le none q (t, (mark, (h, (k, placed, number, is))), lost) = none q (omega (arith, placed.free.0, le)) (t, (mark, (h, (k, placed, number, is))), lost)
+no_stone_end s n le none q (t, (mark, (h, (k, placed, number, is))), lost) = none q (omega (arith, placed.1.place, le)) (t, (mark, (h, (k, placed, number, is))), lost)
 
 -- the first winning move, by the stones, the point spent and the half
 pub first_stone : (s : State) (p : ℕ) → IsFirstStone s (Some p) → IsFirstWinning s (Some (Stone p))

@@ -12,14 +12,7 @@ use Rattle.local_play.specs.LocalPlay.{held_at, Holds, IsLinked, IsBeside, InLoc
 use Rattle.local_play.specs.Links.{LinksWithin}
 use Rattle.local_play.specs.Lasting.{IsLiberty, Lasts, Takes, Stands}
 use Rattle.go_grid.proofs.PathLemmas.{carried, leads_here, leads_step, leads_start, leads_end, leads_more, leads_join}
-
-pub apart : (c : Colour) → stone c ≡ stone (other c) → ⊥
-apart colour.Black e = cc
-apart colour.White e = cc
-
-pub empty_apart : (c : Colour) → cell.Empty ≡ stone c → ⊥
-empty_apart colour.Black e = cc
-empty_apart colour.White e = cc
+use Rattle.go_grid.proofs.BoardLemmas.{empty_not_stone, not_other}
 
 pub stone_stands : (c : Colour) → is_stone (stone c) ≡ true
 stone_stands colour.Black = refl
@@ -60,13 +53,13 @@ module _ (touch : List Touch) (cells : List Cell) (p : ℕ) (c : Colour) (links 
 
   to_other : (i : ℕ) → Holds (with_stone cells p c) (other c) i → Holds cells (other c) i
   to_other i h = elim (cases_eq i p) [
-    | inl e ↦ absurd (apart c (sym own ∙ subst (λ x. Holds (with_stone cells p c) (other c) x) e h))
+    | inl e ↦ absurd (not_other c (sym own ∙ subst (λ x. Holds (with_stone cells p c) (other c) x) e h))
     | inr ne ↦ sym (elsewhere i ne) ∙ h
   ]
 
   from_other : (i : ℕ) → Holds cells (other c) i → Holds (with_stone cells p c) (other c) i
   from_other i h = elim (cases_eq i p) [
-    | inl e ↦ absurd (empty_apart (other c) (sym empty ∙ subst (λ x. Holds cells (other c) x) e h))
+    | inl e ↦ absurd (empty_not_stone (other c) (sym empty ∙ subst (λ x. Holds cells (other c) x) e h))
     | inr ne ↦ elsewhere i ne ∙ h
   ]
 
@@ -78,7 +71,7 @@ module _ (touch : List Touch) (cells : List Cell) (p : ℕ) (c : Colour) (links 
 
   open_elsewhere : (k : ℕ) → held_at (with_stone cells p c) k ≡ cell.Empty → (k ≢ p) × (held_at cells k ≡ cell.Empty)
   open_elsewhere k bare = elim (cases_eq k p) [
-    | inl e ↦ absurd (empty_apart c (sym (subst (λ x. held_at (with_stone cells p c) x ≡ cell.Empty) e bare) ∙ own))
+    | inl e ↦ absurd (empty_not_stone c (sym (subst (λ x. held_at (with_stone cells p c) x ≡ cell.Empty) e bare) ∙ own))
     | inr ne ↦ (ne, sym (elsewhere k ne) ∙ bare)
   ]
 
@@ -151,14 +144,14 @@ module _ (touch : List Touch) (cells : List Cell) (p : ℕ) (c : Colour) (links 
     where
       keeps_own : (q : ℕ) → Holds cells c q → Holds after c q
       keeps_own q h =
-          let ne : q ≢ p = λ e. empty_apart c (sym empty ∙ subst (λ x. Holds cells c x) e h) in
-          kept q (λ r. apart c (sym h ∙ removed_holds q r)) ∙ elsewhere q ne ∙ h
+          let ne : q ≢ p = λ e. empty_not_stone c (sym empty ∙ subst (λ x. Holds cells c x) e h) in
+          kept q (λ r. not_other c (sym h ∙ removed_holds q r)) ∙ elsewhere q ne ∙ h
 
       keeps_open : (k : ℕ) → k ≢ p → held_at cells k ≡ cell.Empty → held_at after k ≡ cell.Empty
-      keeps_open k ne bare = kept k (λ r. empty_apart (other c) (sym bare ∙ removed_holds k r)) ∙ elsewhere k ne ∙ bare
+      keeps_open k ne bare = kept k (λ r. empty_not_stone (other c) (sym bare ∙ removed_holds k r)) ∙ elsewhere k ne ∙ bare
 
       here : InLocalChain touch after c p p
-      here = leads_here (IsLinked touch) (Holds after c) p (kept p (λ r. empty_apart (other c) (sym empty ∙ removed_holds p r)) ∙ own)
+      here = leads_here (IsLinked touch) (Holds after c) p (kept p (λ r. empty_not_stone (other c) (sym empty ∙ removed_holds p r)) ∙ own)
 
       reach : (i j : ℕ) → IsLinked touch p i → Holds cells c i → InLocalChain touch cells c i j → InLocalChain touch after c p j
       reach i j link holds chain =

@@ -17,26 +17,12 @@ use Rattle.local_value.specs.LocalGame.{Step}
 use Rattle.local_value.specs.PositionTree.{IsStep}
 use Rattle.go_grid.proofs.Decided.{Decided, alike, both, denied, either, leads_or_not, some_below}
 use Rattle.local_value.proofs.LocalLaws.{contains-cases, contains-head, contains-tail}
-use Rattle.go_grid.proofs.PlayLemmas.{long_after}
-
-pub same_or_not : (a b : Cell) → Decided (a ≡ b)
-same_or_not cell.Empty cell.Empty = inl refl
-same_or_not cell.Empty cell.Black = inr (λ e. cc)
-same_or_not cell.Empty cell.White = inr (λ e. cc)
-same_or_not cell.Black cell.Empty = inr (λ e. cc)
-same_or_not cell.Black cell.Black = inl refl
-same_or_not cell.Black cell.White = inr (λ e. cc)
-same_or_not cell.White cell.Empty = inr (λ e. cc)
-same_or_not cell.White cell.Black = inr (λ e. cc)
-same_or_not cell.White cell.White = inl refl
+use Rattle.go_grid.proofs.PlayLemmas.{long_after, held_inside}
+use Rattle.go_grid.proofs.BoardLemmas.{same_or_not}
 
 true_or_not : (b : Bool) → Decided (b ≡ true)
 true_or_not true = inl refl
 true_or_not false = inr (λ e. cc)
-
-pub not_empty : (c : Colour) → cell.Empty ≡ stone c → ⊥
-not_empty Black e = cc
-not_empty White e = cc
 
 some_at : (o : Option ℕ) (P : ℕ → Type 0) → ((j : ℕ) → Decided (P j)) → Decided ((j : ℕ) × (o ≡ Some j) × P j)
 some_at None P d = inr (λ (j, e, p). cc)
@@ -103,18 +89,12 @@ module _ (touch : List Touch) where
   linked_or_not i j = alike _ _ (λ (k, link, e). subst (IsLinked touch i) e link) (λ link. (j, link, refl)) (some_linked i (λ k. k ≡ j) (λ k. cases_eq k j))
 
   module _ (cells : List Cell) where
-    within : (c : Colour) (i : ℕ) → Holds cells c i → i < length cells
-    within c i holds = elim (cases_lt i (length cells)) as (λ _. i < length cells) [
-      | inl lt ↦ lt
-      | inr le ↦ absurd (not_empty c (sym (get_or_past cells i cell.Empty le) ∙ holds))
-    ]
-
     chain_or_not : (c : Colour) (i j : ℕ) → Decided (InLocalChain touch cells c i j)
     chain_or_not c i j =
-        leads_or_not (IsLinked touch) (Holds cells c) (length cells) (within c) linked_or_not (λ k. same_or_not (held_at cells k) (stone c)) i j
+        leads_or_not (IsLinked touch) (Holds cells c) (length cells) (held_inside cells c) linked_or_not (λ k. same_or_not (held_at cells k) (stone c)) i j
 
     chain_within : (c : Colour) (i j : ℕ) → InLocalChain touch cells c i j → j < length cells
-    chain_within c i j chain = within c j (leads_end (IsLinked touch) (Holds cells c) i j chain)
+    chain_within c i j chain = held_inside cells c j (leads_end (IsLinked touch) (Holds cells c) i j chain)
 
     free_or_not : (c : Colour) (i : ℕ) → Decided (IsFree touch cells c i)
     free_or_not c i =

@@ -20,7 +20,7 @@ cells_kept s t Half h = ap (λ x. length x.board.cells) h.1
 
 -- legal moves of one rank are the same
 same_rank : (s : State) (m k : Move) → length s.board.cells ≤ 625 → IsLegal s m → IsLegal s k → rank m ≡ rank k → m ≡ k
-same_rank s (Stone p) k le a b e = stone_only p k (omega (arith, le, a.1.1.1.1.free.0)) (sym e)
+same_rank s (Stone p) k le a b e = stone_only p k (omega (arith, le, a.1.1.1.1.1.place)) (sym e)
 same_rank s Spend k le a b e = spend_only s k le (sym e) b
 same_rank s Half k le a b e = half_only s k le (sym e) b
 

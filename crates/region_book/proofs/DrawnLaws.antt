@@ -11,7 +11,7 @@ use Rattle.go_grid.specs.Marks.{IsMarked, IsWithin, Lists}
 use Rattle.go_grid.specs.Region.{AreLinks, IsLink, IsRegion, nothing_near, touch_at}
 use Rattle.go_grid.specs.Walk.{Joined}
 use Rattle.go_grid.proofs.WalkLemmas.{carried, joined_here, joined_step, joined_back, joined_join, joined_end}
-use Rattle.region_book.proofs.PlaceLaws.{same_point}
+use Rattle.go_grid.proofs.LinkLemmas.{same_point}
 
 -- the place of a neighbour is the link
 link_from : (area : ℕ) (points : List ℕ) (Near : ℕ → Type 0) (o r : Option ℕ) → ((p : ℕ) → Contains points p → p < area)

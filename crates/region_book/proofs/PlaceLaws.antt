@@ -1,18 +1,17 @@
 -- Links and where places stand: a link in a direction is a step of one column or row, and links join all places.
-use Rattle.std.proofs.Common.{◌≡◌, ℕ, ◌+◌, ◌*◌, ◌/◌, ◌%◌, ◌<◌, ◌≤◌, ◌↔◌, inl, inr, sym, ap, subst, ◌∙◌, refl, arith, List, length, get_or, Option, Some, None, Bool, true, false}
+use Rattle.std.proofs.Common.{◌≡◌, ℕ, ◌+◌, ◌*◌, ◌/◌, ◌%◌, ◌<◌, ◌≤◌, ◌↔◌, inl, inr, sym, ap, subst, ◌∙◌, refl, arith, length, get_or, Some, Bool, true, false}
 use Rattle.std.specs.List.{Contains}
-use Rattle.std.specs.List.Sorted.{IsStrictlyIncreasing}
 use Rattle.std.proofs.lemmas.Bool.{cases_order}
 use Rattle.std.proofs.lemmas.List.Elements.{Contains-get_or}
 use Rattle.std.proofs.lemmas.List.{get_or_default}
-use Rattle.std.proofs.lemmas.Map.Keys.{sorted_from_strictly_increasing, below_from_sorted}
-use Rattle.std.proofs.lemmas.Nat.{div-add-mod', mod_below, div_below}
+use Rattle.std.proofs.lemmas.Nat.{mod_below, div_below}
 use Rattle.go_grid.specs.Board.{NextTo}
 use Rattle.go_grid.specs.Region.{Region, IsLink, touch_at}
 use Rattle.go_grid.proofs.WalkLemmas.{carried}
 use Rattle.region_book.specs.Shape.{Direction, up, left, right, down, exchanged, columns_over, rows_over, turned, link}
 use Rattle.region_book.specs.Image.{IsOnBoard, side, one_of, column_of, row_of}
 use Rattle.region_book.specs.declared.symmetry.Symmetry.{Symmetry}
+use Rattle.go_grid.proofs.LinkLemmas.{link_at, linked_to, one_place, same_point}
 
 -- from one column and row to the next in a direction
 abbrev pub Steps : Direction → ℕ → ℕ → ℕ → ℕ → Type 0
@@ -73,28 +72,6 @@ steps_turned s d c r c' r' hc hr hc' hr' =
     let third = rows_steps s.rows (columns_over s.columns (exchanged e d)) (side s.columns (one_of e c r)) (one_of e r c)
     (side s.columns (one_of e c' r')) (one_of e r' c') (one_of_small e r c hr hc) (one_of_small e r' c' hr' hc') in
     (λ h. third.0 (second.0 (first.0 h)), λ h. first.1 (second.1 (third.1 h)))
-
--- ascending points have one place each
-pub one_place : (points : List ℕ) (i j : ℕ) → IsStrictlyIncreasing points → i < length points → j < length points
-    → get_or points i 0 ≡ get_or points j 0 → i ≡ j
-one_place points i j rising li lj e = elim (cases_order i j) as (λ _. i ≡ j) [
-  | inl same ↦ same
-  | inr (inl less) ↦ absurd (let w = below_from_sorted points i j 0 (sorted_from_strictly_increasing points rising) less lj in omega (arith, w, e))
-  | inr (inr more) ↦ absurd (let w = below_from_sorted points j i 0 (sorted_from_strictly_increasing points rising) more li in omega (arith, w, e))
-]
-
-pub same_point : (c p q : ℕ) → p / c ≡ q / c → p % c ≡ q % c → p ≡ q
-same_point c p q rows columns = sym (div-add-mod' p c) ∙ ap (λ n. n * c + p % c) rows ∙ ap (λ n. q / c * c + n) columns ∙ div-add-mod' q c
-
-linked_to : (points : List ℕ) (Near : ℕ → Type 0) (o : Option ℕ) (j : ℕ) → IsStrictlyIncreasing points → IsLink points Near o
-    → ((q s : ℕ) → Near q → Near s → q ≡ s) → j < length points → Near (get_or points j 0) → o ≡ Some j
-linked_to points Near None j rising is one lt near = absurd (is (get_or points j 0) (Contains-get_or points j 0 lt) near)
-linked_to points Near (Some k) j rising is one lt near =
-    ap (λ n. Some n) (one_place points k j rising is.0 lt (one (get_or points k 0) (get_or points j 0) is.1 near))
-
-link_at : (points : List ℕ) (Near : ℕ → Type 0) (o : Option ℕ) (j : ℕ) → IsLink points Near o → o ≡ Some j
-    → (j < length points) × Near (get_or points j 0)
-link_at points Near o j is e = subst (IsLink points Near) e is
 
 -- the step from one point to another
 abbrev pub PointSteps : ℕ → Direction → ℕ → ℕ → Type 0

@@ -9,7 +9,7 @@ use Rattle.go_grid.specs.declared.grid.Colour.TheVariants.{Black, White}
 use Rattle.go_grid.specs.Chain.{InChain}
 use Rattle.go_grid.specs.Board.{Board, HasStone, IsEmpty, stone, other}
 use Rattle.go_grid.specs.Marks.{Lists}
-use Rattle.go_grid.proofs.BoardLemmas.{one_colour}
+use Rattle.go_grid.proofs.BoardLemmas.{one_colour, empty_not_stone}
 use Rattle.go_grid.proofs.WalkLemmas.{joined_here}
 use Rattle.go_play.specs.Place.{Placings}
 use Rattle.benson_attack.specs.Attack.{IsAttack}
@@ -20,11 +20,7 @@ use Rattle.report.proofs.SafetyLaws.{first_least, has_first, is_first}
 
 -- no chain has its lowest stone where no stone is, or where another stone of the chain is lower
 pub no_chain_at : (g : Board) (p : ℕ) → IsEmpty g p → ¬ ((c : Colour) × IsLowestStone g c p)
-no_chain_at g p e (c, w) = not_both c (sym e.1 ∙ w.0.1)
-  where
-    not_both : (c : Colour) → ¬ (cell.Empty ≡ stone c)
-    not_both Black e = absurd cc
-    not_both White e = absurd cc
+no_chain_at g p e (c, w) = empty_not_stone c (sym e.1 ∙ w.0.1)
 
 pub no_chain_from : (g : Board) (c : Colour) (p : ℕ) (points : List ℕ) → HasStone g c p → Lists points (InChain g c p) → get_or points 0 0 ≢ p
     → ¬ ((d : Colour) × IsLowestStone g d p)
@@ -59,7 +55,7 @@ chains_on_board g ls are k d lt = (are.each (get_or ls k d) (Contains-get_or ls 
 -- so do the attacks
 placings_on_board : (d : Colour) (g : Board) (ps : List ℕ) (h : Board) → Placings d g ps h → (k e : ℕ) → k < length ps → get_or ps k e < length g.cells
 placings_on_board d g [] h run k e lt = absurd (omega (arith, lt))
-placings_on_board d g (p ∷ ps) h run zero e lt = run.1.free.0
+placings_on_board d g (p ∷ ps) h run zero e lt = run.1.1.place
 placings_on_board d g (p ∷ ps) h run (suc k) e lt =
     subst (λ n. get_or ps k e < n) (run.1.1.without.long ∙ length-set g.cells p (stone d)) (placings_on_board d run.0 ps h run.2 k e (omega (arith, lt)))
 

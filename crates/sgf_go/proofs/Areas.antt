@@ -5,20 +5,10 @@ use Rattle.std.proofs.lemmas.List.{get_or-set_same, get_or-set_other, length-set
 use Rattle.std.proofs.lemmas.Nat.{mul-add-lt, div-add-mod', mod-mul-add, div-mul-add}
 use Rattle.go_grid.specs.Board.{Board, cell_at}
 use Rattle.go_grid.specs.declared.grid.Cell.{Cell}
-use Rattle.go_grid.specs.declared.grid.Cell.TheVariants.{Empty, Black, White}
+use Rattle.go_grid.specs.declared.grid.Cell.TheVariants.{Empty}
 use Rattle.sgf_go.specs.Values.{Rectangle, IsIn, IsInRow}
 use Rattle.sgf_go.specs.Setup.{IsSet}
-
-pub cell_stable : (x y : Cell) → ¬ ¬ (x ≡ y) → x ≡ y
-cell_stable Empty Empty h = refl
-cell_stable Black Black h = refl
-cell_stable White White h = refl
-cell_stable Empty Black h = absurd (h (λ e. cc))
-cell_stable Empty White h = absurd (h (λ e. cc))
-cell_stable Black Empty h = absurd (h (λ e. cc))
-cell_stable Black White h = absurd (h (λ e. cc))
-cell_stable White Empty h = absurd (h (λ e. cc))
-cell_stable White Black h = absurd (h (λ e. cc))
+use Rattle.go_grid.proofs.BoardLemmas.{cell_stable}
 
 set_none : (g : Board) (In : ℕ → Type 0) (c : Cell) → ((q : ℕ) → ¬ In q) → IsSet g In c g
 set_none g In c f = record { columns = refl; rows = refl; long = refl; set = λ q l i. absurd (f q i); kept = λ q _. refl }

@@ -22,10 +22,10 @@ use Rattle.sgf_go.specs.declared.settings.Setup.{Setup}
 use Rattle.sgf_go.specs.declared.fault.SetupFault.{SetupFault}
 use Rattle.sgf_go.specs.declared.fault.SetupFault.TheVariants.{NoLiberty}
 use Rattle.sgf_go.proofs.Komis.{one_komi}
-use Rattle.sgf_go.proofs.Areas.{cell_stable}
 use Rattle.sgf_go.proofs.Points.{point_not_corners}
 use Rattle.sgf_go.proofs.Sizes.{square_only, sides_only, side_lacks, joint_within, at_joint, in_front}
 use Rattle.go_play.proofs.BoardPlay.{placed_same, suicide_not_placed}
+use Rattle.go_grid.proofs.BoardLemmas.{cell_stable}
 
 -- two boards of one size with the same cells
 same_board : (h k : Board) → h.columns ≡ k.columns → h.rows ≡ k.rows → length h.cells ≡ length k.cells → ((q : ℕ) → q < length h.cells → ¬ ¬ (cell_at h q ≡ cell_at k q)) → h ≡ k
