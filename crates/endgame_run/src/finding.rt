@@ -69,7 +69,8 @@ pub(crate) fn find_position<H: Shelf, S: Source>(
     ensures same_files { H.files shelf.new ≡ H.files shelf.old }
     ensures later_loads { H.faults shelf.old ≤ H.faults shelf.new }
     ensures later_reads { S.faults lines.old ≤ S.faults lines.new }
-    ensures at_end { IfOk result (λ found. (setup : Position) → found ≡ Found.Position setup → word.now ≡ dash → S.left lines.new ≡ ended (S.left lines.old)) }
+    ensures at_end { IfOk result (λ found. (setup : Position) → found ≡ Found.Position setup
+        → word.now ≡ dash → S.left lines.new ≡ ended (S.left lines.old)) }
     ensures lines_unread { word.now ≢ dash → lines.new ≡ lines.old }
     ensures shelf_unread { word.now ≡ dash → shelf.new ≡ shelf.old }
 {

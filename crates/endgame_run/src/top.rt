@@ -46,7 +46,8 @@ fn report_on_position<L: Ledger>(
 ) -> Result<Report, AllocError>
     requires fit { IsFit setup.now }
     requires modest { IsModest question }
-    ensures answer { IfOk result (λ report. IsPositionAnswer question setup.now report.status report.text) }
+    ensures answer { IfOk result
+        (λ report. IsPositionAnswer question setup.now report.status report.text) }
     ensures steps { AreStepsFor question setup.now steps.old steps.new }
 {
     match question {
@@ -70,16 +71,20 @@ fn answer<H: Shelf, S: Source, L: Ledger>(
 ) -> Result<Report, AllocError>
     requires ranges { HasRanges settings.now }
     requires modest { IsModest inquiry.now.question }
-    ensures answer { IfOk result (λ report. IsAnswer inquiry.now.question (told_of (H.files shelf.old) (S.left lines.old) inquiry.now.word.now)
+    ensures answer { IfOk result (λ report. IsAnswer inquiry.now.question
+        (told_of (H.files shelf.old) (S.left lines.old) inquiry.now.word.now)
         (count_of (H.faults shelf.old) (S.faults lines.old) inquiry.now.word.now) (count_of (H.faults shelf.new) (S.faults lines.new) inquiry.now.word.now)
         settings.now report.status report.text) }
-    ensures steps { AreToldSteps inquiry.now.question (told_of (H.files shelf.old) (S.left lines.old) inquiry.now.word.now) settings.now steps.old steps.new }
+    ensures steps { AreToldSteps inquiry.now.question
+        (told_of (H.files shelf.old)
+        (S.left lines.old) inquiry.now.word.now) settings.now steps.old steps.new }
     ensures takes { TakesAtMost 1048577 (S.left lines.old) (S.left lines.new) }
     ensures asked { inquiry.now.word.now ≢ dash → H.asks shelf.old inquiry.now.word.now shelf.new }
     ensures same_files { H.files shelf.new ≡ H.files shelf.old }
     ensures later_loads { H.faults shelf.old ≤ H.faults shelf.new }
     ensures later_reads { S.faults lines.old ≤ S.faults lines.new }
-    ensures at_end { IfOk result (λ report. report.status ≡ Status.Done → inquiry.now.word.now ≡ dash → S.left lines.new ≡ ended (S.left lines.old)) }
+    ensures at_end { IfOk result (λ report. report.status ≡ Status.Done
+        → inquiry.now.word.now ≡ dash → S.left lines.new ≡ ended (S.left lines.old)) }
     ensures lines_unread { inquiry.now.word.now ≢ dash → lines.new ≡ lines.old }
     ensures shelf_unread { inquiry.now.word.now ≡ dash → shelf.new ≡ shelf.old }
 {
@@ -104,17 +109,21 @@ fn run_file<H: Shelf, S: Source, K: Sink, L: Ledger>(
 ) -> Status
     requires ranges { HasRanges settings.now }
     requires modest { IsModest inquiry.now.question }
-    ensures answered { IsFileRun inquiry.now.question settings.now inquiry.now.word.now (outside (H.files shelf.old) (S.left lines.old)
+    ensures answered { IsFileRun inquiry.now.question settings.now inquiry.now.word.now
+        (outside (H.files shelf.old) (S.left lines.old)
         (H.faults shelf.old) (H.faults shelf.new) (S.faults lines.old) (S.faults lines.new))
         (K.faults out.old) (K.faults out.new) (K.holds out.old) (K.holds out.new) result }
-    ensures steps { AreToldSteps inquiry.now.question (told_of (H.files shelf.old) (S.left lines.old) inquiry.now.word.now) settings.now steps.old steps.new }
+    ensures steps { AreToldSteps inquiry.now.question
+        (told_of (H.files shelf.old)
+        (S.left lines.old) inquiry.now.word.now) settings.now steps.old steps.new }
     ensures takes { TakesAtMost 1048577 (S.left lines.old) (S.left lines.new) }
     ensures asked { inquiry.now.word.now ≢ dash → H.asks shelf.old inquiry.now.word.now shelf.new }
     ensures same_files { H.files shelf.new ≡ H.files shelf.old }
     ensures later_loads { H.faults shelf.old ≤ H.faults shelf.new }
     ensures later_reads { S.faults lines.old ≤ S.faults lines.new }
     ensures later_writes { K.faults out.old ≤ K.faults out.new }
-    ensures at_end { result ≡ Status.Done → inquiry.now.word.now ≡ dash → S.left lines.new ≡ ended (S.left lines.old) }
+    ensures at_end { result ≡ Status.Done → inquiry.now.word.now ≡ dash
+        → S.left lines.new ≡ ended (S.left lines.old) }
     ensures lines_unread { inquiry.now.word.now ≢ dash → lines.new ≡ lines.old }
     ensures shelf_unread { inquiry.now.word.now ≡ dash → shelf.new ≡ shelf.old }
 {

@@ -65,8 +65,10 @@ pub(crate) struct Source<'a> {
 /// Where the first term of a sum is due, behind its sign.
 fn sum_start(text: &[u8], at: usize) -> Step
     requires { at ≤ length text.now }
-    ensures place { result.place ≡ due.Term (record { before = None; sign = first_sign (kind (drop at text.now)) }) }
-    ensures bytes { drop result.at text.now ≡ first_bytes (kind (drop at text.now)) (drop at text.now) }
+    ensures place { result.place ≡ due.Term (record { before = None; sign = first_sign
+        (kind (drop at text.now)) }) }
+    ensures bytes { drop result.at text.now ≡ first_bytes (kind (drop at text.now))
+        (drop at text.now) }
     ensures forward { at ≤ result.at }
     ensures within { result.at ≤ length text.now }
 {
@@ -92,8 +94,10 @@ fn sum_start(text: &[u8], at: usize) -> Step
 /// Why a line is refused whose token names no game.
 fn refusal_of(source: &Source<'_>, word: Token, error: ReadError) -> CalcError
     requires within { (word.start ≤ word.end) × (word.end ≤ length source.now.text.now) }
-    requires refusal { IsReadRefusal source.now.parts_limit (slice_range source.now.text.now word.start word.end) error }
-    ensures { (at : ℕ) → IsTokenAt source.now.text.now at word → word.kind ≡ the_kind.Game → IsGameRefusal source.now.parts_limit source.now.text.now at result }
+    requires refusal { IsReadRefusal source.now.parts_limit
+        (slice_range source.now.text.now word.start word.end) error }
+    ensures { (at : ℕ) → IsTokenAt source.now.text.now at word → word.kind ≡ the_kind.Game
+        → IsGameRefusal source.now.parts_limit source.now.text.now at result }
 {
     match error {
         ReadError::BadByte(place) => CalcError::Fault(CalcFault::Byte(word.start + place)),
@@ -121,7 +125,9 @@ fn read_game(
 ) -> Result<GameId, CalcError>
     requires word { IsTokenAt source.now.text.now at word }
     requires game { word.kind ≡ the_kind.Game }
-    ensures named { IfOk result (λ id. (G : Tree) × ReadsText source.now.parts_limit (token (next (drop at source.now.text.now))) (Ok G) × IsCanonicalId store.new G id) }
+    ensures named { IfOk result (λ id. (G : Tree)
+        × ReadsText source.now.parts_limit (token (next (drop at source.now.text.now))) (Ok G)
+        × IsCanonicalId store.new G id) }
     ensures refusal { IfErr result (IsGameRefusal source.now.parts_limit source.now.text.now at) }
     ensures kept { Extends store.old store.new }
 {
@@ -142,11 +148,14 @@ fn read_named(
     word: Token,
     opening: Opening,
 ) -> Result<Turn, CalcError>
-    requires reading { IsReading store.old source.now.parts_limit source.now.text.now at (due.Term opening) pending.now.opens.items pending.now.first }
+    requires reading { IsReading store.old source.now.parts_limit source.now.text.now at
+        (due.Term opening) pending.now.opens.items pending.now.first }
     requires word { IsTokenAt source.now.text.now at word }
     requires some { word.start < word.end }
     requires game { word.kind ≡ the_kind.Game }
-    ensures turn { IfOk result (λ turn. IsTurn store.new source.now.parts_limit source.now.text.now at turn pending.now.opens.items pending.now.first) }
+    ensures turn { IfOk result
+        (λ turn. IsTurn store.new source.now.parts_limit source.now.text.now at turn
+        pending.now.opens.items pending.now.first) }
     ensures refusal { IfErr result (IsLineRefusal source.now.parts_limit source.now.text.now) }
     ensures kept { Extends store.old store.new }
 {
@@ -167,11 +176,14 @@ fn open_group(
     word: Token,
     opening: Opening,
 ) -> Result<Turn, CalcError>
-    requires reading { IsReading store.now source.now.parts_limit source.now.text.now at (due.Term opening) pending.old.opens.items pending.old.first }
+    requires reading { IsReading store.now source.now.parts_limit source.now.text.now at
+        (due.Term opening) pending.old.opens.items pending.old.first }
     requires word { IsTokenAt source.now.text.now at word }
     requires some { word.start < word.end }
     requires open { word.kind ≡ the_kind.Open }
-    ensures turn { IfOk result (λ turn. IsTurn store.now source.now.parts_limit source.now.text.now at turn pending.new.opens.items pending.new.first) }
+    ensures turn { IfOk result
+        (λ turn. IsTurn store.now source.now.parts_limit source.now.text.now at turn
+        pending.new.opens.items pending.new.first) }
     ensures refusal { IfErr result (IsLineRefusal source.now.parts_limit source.now.text.now) }
 {
     if pending.opens.len() >= MOST_OPEN {
@@ -191,8 +203,11 @@ fn read_term(
     at: usize,
     opening: Opening,
 ) -> Result<Turn, CalcError>
-    requires reading { IsReading store.old source.now.parts_limit source.now.text.now at (due.Term opening) pending.old.opens.items pending.old.first }
-    ensures turn { IfOk result (λ turn. IsTurn store.new source.now.parts_limit source.now.text.now at turn pending.new.opens.items pending.new.first) }
+    requires reading { IsReading store.old source.now.parts_limit source.now.text.now at
+        (due.Term opening) pending.old.opens.items pending.old.first }
+    ensures turn { IfOk result
+        (λ turn. IsTurn store.new source.now.parts_limit source.now.text.now at turn
+        pending.new.opens.items pending.new.first) }
     ensures refusal { IfErr result (IsLineRefusal source.now.parts_limit source.now.text.now) }
     ensures kept { Extends store.old store.new }
 {
@@ -218,11 +233,14 @@ fn close_group(
     word: Token,
     amount: Amount,
 ) -> Result<Turn, CalcError>
-    requires reading { IsReading store.old source.now.parts_limit source.now.text.now at (due.Behind amount) pending.old.opens.items pending.old.first }
+    requires reading { IsReading store.old source.now.parts_limit source.now.text.now at
+        (due.Behind amount) pending.old.opens.items pending.old.first }
     requires word { IsTokenAt source.now.text.now at word }
     requires some { word.start < word.end }
     requires close { word.kind ≡ the_kind.Close }
-    ensures turn { IfOk result (λ turn. IsTurn store.new source.now.parts_limit source.now.text.now at turn pending.new.opens.items pending.new.first) }
+    ensures turn { IfOk result
+        (λ turn. IsTurn store.new source.now.parts_limit source.now.text.now at turn
+        pending.new.opens.items pending.new.first) }
     ensures refusal { IfErr result (IsLineRefusal source.now.parts_limit source.now.text.now) }
     ensures kept { Extends store.old store.new }
 {
@@ -245,11 +263,14 @@ fn second_sum(
     word: Token,
     amount: Amount,
 ) -> Result<Turn, CalcError>
-    requires reading { IsReading store.now source.now.parts_limit source.now.text.now at (due.Behind amount) pending.old.opens.items pending.old.first }
+    requires reading { IsReading store.now source.now.parts_limit source.now.text.now at
+        (due.Behind amount) pending.old.opens.items pending.old.first }
     requires word { IsTokenAt source.now.text.now at word }
     requires some { word.start < word.end }
     requires query { word.kind ≡ the_kind.Query }
-    ensures turn { IfOk result (λ turn. IsTurn store.now source.now.parts_limit source.now.text.now at turn pending.new.opens.items pending.new.first) }
+    ensures turn { IfOk result
+        (λ turn. IsTurn store.now source.now.parts_limit source.now.text.now at turn
+        pending.new.opens.items pending.new.first) }
     ensures refusal { IfErr result (IsLineRefusal source.now.parts_limit source.now.text.now) }
 {
     if !pending.opens.is_empty() {
@@ -272,9 +293,12 @@ fn whole(
     at: usize,
     amount: Amount,
 ) -> Result<Turn, CalcError>
-    requires reading { IsReading store.now source.now.parts_limit source.now.text.now at (due.Behind amount) pending.now.opens.items pending.now.first }
+    requires reading { IsReading store.now source.now.parts_limit source.now.text.now at
+        (due.Behind amount) pending.now.opens.items pending.now.first }
     requires end { kind (drop at source.now.text.now) ≡ the_kind.End }
-    ensures turn { IfOk result (λ turn. IsTurn store.now source.now.parts_limit source.now.text.now at turn pending.now.opens.items pending.now.first) }
+    ensures turn { IfOk result
+        (λ turn. IsTurn store.now source.now.parts_limit source.now.text.now at turn
+        pending.now.opens.items pending.now.first) }
     ensures refusal { IfErr result (IsLineRefusal source.now.parts_limit source.now.text.now) }
 {
     if !pending.opens.is_empty() {
@@ -295,8 +319,11 @@ fn read_behind(
     at: usize,
     amount: Amount,
 ) -> Result<Turn, CalcError>
-    requires reading { IsReading store.old source.now.parts_limit source.now.text.now at (due.Behind amount) pending.old.opens.items pending.old.first }
-    ensures turn { IfOk result (λ turn. IsTurn store.new source.now.parts_limit source.now.text.now at turn pending.new.opens.items pending.new.first) }
+    requires reading { IsReading store.old source.now.parts_limit source.now.text.now at
+        (due.Behind amount) pending.old.opens.items pending.old.first }
+    ensures turn { IfOk result
+        (λ turn. IsTurn store.new source.now.parts_limit source.now.text.now at turn
+        pending.new.opens.items pending.new.first) }
     ensures refusal { IfErr result (IsLineRefusal source.now.parts_limit source.now.text.now) }
     ensures kept { Extends store.old store.new }
 {
@@ -332,8 +359,11 @@ fn read_turn(
     source: &Source<'_>,
     step: Step,
 ) -> Result<Turn, CalcError>
-    requires reading { IsReading store.old source.now.parts_limit source.now.text.now step.at step.place pending.old.opens.items pending.old.first }
-    ensures turn { IfOk result (λ turn. IsTurn store.new source.now.parts_limit source.now.text.now step.at turn pending.new.opens.items pending.new.first) }
+    requires reading { IsReading store.old source.now.parts_limit source.now.text.now step.at
+        step.place pending.old.opens.items pending.old.first }
+    ensures turn { IfOk result
+        (λ turn. IsTurn store.new source.now.parts_limit source.now.text.now step.at turn
+        pending.new.opens.items pending.new.first) }
     ensures refusal { IfErr result (IsLineRefusal source.now.parts_limit source.now.text.now) }
     ensures kept { Extends store.old store.new }
 {
@@ -351,7 +381,8 @@ pub(crate) fn read_line(
     text: &[u8],
     parts_limit: u32,
 ) -> Result<Asked, CalcError>
-    ensures asked { IfOk result (λ asked. (line : Line) × ReadsLine parts_limit text.now (Ok line) × IsAsked store.new parts_limit line asked) }
+    ensures asked { IfOk result (λ asked. (line : Line) × ReadsLine parts_limit text.now (Ok line)
+        × IsAsked store.new parts_limit line asked) }
     ensures refusal { IfErr result (IsLineRefusal parts_limit text.now) }
     ensures kept { Extends store.old store.new }
 {

@@ -82,7 +82,8 @@ pub(crate) fn run_end(text: &[u8], first: usize) -> usize
 
 /// Whether the byte ends the options that are read of the innermost open form.
 fn ends_side(pending: &Pending, byte: u8) -> bool
-    ensures { (below : List Opening) (top : Opening) → pending.now.opens.items ≡ below ++ top ∷ [] → IsTrue result ↔ (byte ≡ mark_at top) }
+    ensures { (below : List Opening) (top : Opening) → pending.now.opens.items ≡ below ++ top ∷ []
+        → IsTrue result ↔ (byte ≡ mark_at top) }
 {
     match pending.opens.last() {
         Some(top) => match top.middle {
@@ -95,7 +96,8 @@ fn ends_side(pending: &Pending, byte: u8) -> bool
 
 /// Takes a game that was read among the options.
 fn take_game(pending: &mut Pending, id: GameId) -> Result<Place, ReadError>
-    ensures options { IfOk result (λ place. pending.new.options.items ≡ pending.old.options.items ++ id ∷ []) }
+    ensures options { IfOk result
+        (λ place. pending.new.options.items ≡ pending.old.options.items ++ id ∷ []) }
     ensures opens { IfOk result (λ place. pending.new.opens.items ≡ pending.old.opens.items) }
     ensures place { IfOk result (λ place. place ≡ place_after pending.old.opens.items) }
     ensures refusal { IfErr result (λ e. IsWantOfMemory e) }
@@ -116,11 +118,15 @@ fn read_number(
     source: &Source<'_>,
     at: usize,
 ) -> Result<Step, ReadError>
-    requires reading { IsReading store.old source.now.parts_limit source.now.text.now at Game pending.old.options.items pending.old.opens.items }
+    requires reading { IsReading store.old source.now.parts_limit source.now.text.now at Game
+        pending.old.options.items pending.old.opens.items }
     requires here { at < length source.now.text.now }
     requires byte { IsNumberByte (slice_index source.now.text.now at) }
-    ensures next { IfOk result (λ step. IsNext store.new source.now.parts_limit source.now.text.now at step pending.new.options.items pending.new.opens.items) }
-    ensures refusal { IfErr result (λ e. IsReadRefusal source.now.parts_limit source.now.text.now e) }
+    ensures next { IfOk result
+        (λ step. IsNext store.new source.now.parts_limit source.now.text.now at step
+        pending.new.options.items pending.new.opens.items) }
+    ensures refusal { IfErr result
+        (λ e. IsReadRefusal source.now.parts_limit source.now.text.now e) }
     ensures kept { Extends store.old store.new }
 {
     let end = run_end(source.text, at);
@@ -148,8 +154,13 @@ fn named_game(
 ) -> Result<Found, ReadError>
     requires here { at < length source.now.text.now }
     requires byte { IsNameByte (slice_index source.now.text.now at) }
-    ensures found { IfOk result (λ found. IsFoundBy (ReadsName (slice_index source.now.text.now at)) store.new source.now.parts_limit source.now.text.now (at + 1) found) }
-    ensures refusal { IfErr result (λ e. IsRefusedBy (ReadsName (slice_index source.now.text.now at)) source.now.parts_limit source.now.text.now (at + 1) e) }
+    ensures found { IfOk result (λ found. IsFoundBy
+        (ReadsName
+        (slice_index source.now.text.now at)) store.new source.now.parts_limit source.now.text.now
+        (at + 1) found) }
+    ensures refusal { IfErr result (λ e. IsRefusedBy
+        (ReadsName (slice_index source.now.text.now at)) source.now.parts_limit source.now.text.now
+        (at + 1) e) }
     ensures kept { Extends store.old store.new }
 {
     let byte = source.text[at];
@@ -176,11 +187,15 @@ fn read_name(
     source: &Source<'_>,
     at: usize,
 ) -> Result<Step, ReadError>
-    requires reading { IsReading store.old source.now.parts_limit source.now.text.now at Game pending.old.options.items pending.old.opens.items }
+    requires reading { IsReading store.old source.now.parts_limit source.now.text.now at Game
+        pending.old.options.items pending.old.opens.items }
     requires here { at < length source.now.text.now }
     requires byte { IsNameByte (slice_index source.now.text.now at) }
-    ensures next { IfOk result (λ step. IsNext store.new source.now.parts_limit source.now.text.now at step pending.new.options.items pending.new.opens.items) }
-    ensures refusal { IfErr result (λ e. IsReadRefusal source.now.parts_limit source.now.text.now e) }
+    ensures next { IfOk result
+        (λ step. IsNext store.new source.now.parts_limit source.now.text.now at step
+        pending.new.options.items pending.new.opens.items) }
+    ensures refusal { IfErr result
+        (λ e. IsReadRefusal source.now.parts_limit source.now.text.now e) }
     ensures kept { Extends store.old store.new }
 {
     let found = named_game(alloc, store, source, at)?;
@@ -193,7 +208,8 @@ fn read_name(
 
 /// Opens a form.
 fn open_form(pending: &mut Pending) -> Result<(), ReadError>
-    ensures opens { OnOk result (pending.new.opens.items ≡ pending.old.opens.items ++ opening_at (length pending.old.options.items) None ∷ []) }
+    ensures opens { OnOk result (pending.new.opens.items ≡ pending.old.opens.items ++ opening_at
+        (length pending.old.options.items) None ∷ []) }
     ensures options { OnOk result (pending.new.options.items ≡ pending.old.options.items) }
     ensures few { OnOk result (length pending.old.opens.items < most_open) }
     ensures refusal { IfErr result (λ e. IsOpeningRefusal (length pending.old.opens.items) e) }
@@ -217,10 +233,14 @@ fn read_game(
     source: &Source<'_>,
     at: usize,
 ) -> Result<Step, ReadError>
-    requires reading { IsReading store.old source.now.parts_limit source.now.text.now at Game pending.old.options.items pending.old.opens.items }
+    requires reading { IsReading store.old source.now.parts_limit source.now.text.now at Game
+        pending.old.options.items pending.old.opens.items }
     requires here { at < length source.now.text.now }
-    ensures next { IfOk result (λ step. IsNext store.new source.now.parts_limit source.now.text.now at step pending.new.options.items pending.new.opens.items) }
-    ensures refusal { IfErr result (λ e. IsReadRefusal source.now.parts_limit source.now.text.now e) }
+    ensures next { IfOk result
+        (λ step. IsNext store.new source.now.parts_limit source.now.text.now at step
+        pending.new.options.items pending.new.opens.items) }
+    ensures refusal { IfErr result
+        (λ e. IsReadRefusal source.now.parts_limit source.now.text.now e) }
     ensures kept { Extends store.old store.new }
 {
     let byte = source.text[at];
@@ -253,10 +273,14 @@ fn close(
     requires middle { middle ≤ length pending.old.options.items }
     requires left { AreIds store.old (slice_range pending.old.options.items start middle) }
     requires right { AreIds store.old (drop middle pending.old.options.items) }
-    ensures value { IfOk result (λ place. IsFormTaken store.old store.new parts_limit (slice_range pending.old.options.items start middle) (drop middle pending.old.options.items) (take start pending.old.options.items) pending.new.options.items) }
+    ensures value { IfOk result (λ place. IsFormTaken store.old store.new parts_limit
+        (slice_range pending.old.options.items start middle) (drop middle pending.old.options.items)
+        (take start pending.old.options.items) pending.new.options.items) }
     ensures opens { IfOk result (λ place. pending.new.opens.items ≡ pending.old.opens.items) }
     ensures place { IfOk result (λ place. place ≡ place_after pending.old.opens.items) }
-    ensures refusal { IfErr result (λ e. IsFormRefusal (listed store.old (slice_range pending.old.options.items start middle) (drop middle pending.old.options.items)) parts_limit e) }
+    ensures refusal { IfErr result (λ e. IsFormRefusal
+        (listed store.old (slice_range pending.old.options.items start middle)
+        (drop middle pending.old.options.items)) parts_limit e) }
     ensures kept { Extends store.old store.new }
 {
     let left = &pending.options[start..middle];
@@ -274,11 +298,15 @@ fn end_side(
     source: &Source<'_>,
     at: usize,
 ) -> Result<Step, ReadError>
-    requires reading { IsReading store.old source.now.parts_limit source.now.text.now at First pending.old.options.items pending.old.opens.items }
+    requires reading { IsReading store.old source.now.parts_limit source.now.text.now at First
+        pending.old.options.items pending.old.opens.items }
     requires here { at < length source.now.text.now }
     requires mark { IsMarkOfInnermost pending.old.opens.items (slice_index source.now.text.now at) }
-    ensures next { IfOk result (λ step. IsNext store.new source.now.parts_limit source.now.text.now at step pending.new.options.items pending.new.opens.items) }
-    ensures refusal { IfErr result (λ e. IsReadRefusal source.now.parts_limit source.now.text.now e) }
+    ensures next { IfOk result
+        (λ step. IsNext store.new source.now.parts_limit source.now.text.now at step
+        pending.new.options.items pending.new.opens.items) }
+    ensures refusal { IfErr result
+        (λ e. IsReadRefusal source.now.parts_limit source.now.text.now e) }
     ensures kept { Extends store.old store.new }
 {
     let Some(top) = pending.opens.pop() else {
@@ -307,10 +335,14 @@ fn read_step(
     source: &Source<'_>,
     step: Step,
 ) -> Result<Step, ReadError>
-    requires reading { IsReading store.old source.now.parts_limit source.now.text.now step.at step.place pending.old.options.items pending.old.opens.items }
+    requires reading { IsReading store.old source.now.parts_limit source.now.text.now step.at
+        step.place pending.old.options.items pending.old.opens.items }
     requires here { step.at < length source.now.text.now }
-    ensures next { IfOk result (λ after. IsNext store.new source.now.parts_limit source.now.text.now step.at after pending.new.options.items pending.new.opens.items) }
-    ensures refusal { IfErr result (λ e. IsReadRefusal source.now.parts_limit source.now.text.now e) }
+    ensures next { IfOk result
+        (λ after. IsNext store.new source.now.parts_limit source.now.text.now step.at after
+        pending.new.options.items pending.new.opens.items) }
+    ensures refusal { IfErr result
+        (λ e. IsReadRefusal source.now.parts_limit source.now.text.now e) }
     ensures kept { Extends store.old store.new }
 {
     let at = step.at;
@@ -366,7 +398,8 @@ pub fn read(
     text: &[u8],
     parts_limit: u32,
 ) -> Result<GameId, ReadError>
-    ensures named { IfOk result (λ id. (G : Tree) × Names parts_limit text.now G × IsCanonicalId store.new G id) }
+    ensures named { IfOk result (λ id. (G : Tree) × Names parts_limit text.now G
+        × IsCanonicalId store.new G id) }
     ensures refusal { IfErr result (λ e. IsReadRefusal parts_limit text.now e) }
     ensures kept { Extends store.old store.new }
 {
