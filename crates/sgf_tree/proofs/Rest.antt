@@ -41,11 +41,11 @@ SomeValues = SomeItems IsValue
 abbrev Properties : List ℕ → Type 0
 Properties = Items IsProperty
 
-abbrev Graph : List ℕ → Type 0
-Graph = Items IsNode
+abbrev Nodes : List ℕ → Type 0
+Nodes = Items IsNode
 
-abbrev SomeGraph : List ℕ → Type 0
-SomeGraph = SomeItems IsNode
+abbrev SomeNodes : List ℕ → Type 0
+SomeNodes = SomeItems IsNode
 
 -- to the end of a value
 abbrev Inside : List ℕ → Type 0
@@ -67,13 +67,13 @@ Up (suc d) bs = Then Ending (Up d) bs
 abbrev pub Rest : Place → ℕ → List ℕ → Type 0
 Rest at.Start zero = λ bs. ⊥
 Rest at.Start (suc d) = Then IsSomeTree (Up d)
-Rest at.Opened d = Then SomeGraph (Up d)
-Rest at.InNode d = Then Properties (Then Graph (Up d))
-Rest at.InIdent d = Then AreLetters (Then SomeValues (Then Properties (Then Graph (Up d))))
-Rest at.AfterIdent d = Then SomeValues (Then Properties (Then Graph (Up d)))
-Rest at.InValue d = Then Inside (Then Values (Then Properties (Then Graph (Up d))))
-Rest at.AfterBackslash d = Then Escaped (Then Values (Then Properties (Then Graph (Up d))))
-Rest at.AfterValue d = Then Values (Then Properties (Then Graph (Up d)))
+Rest at.Opened d = Then SomeNodes (Up d)
+Rest at.InNode d = Then Properties (Then Nodes (Up d))
+Rest at.InIdent d = Then AreLetters (Then SomeValues (Then Properties (Then Nodes (Up d))))
+Rest at.AfterIdent d = Then SomeValues (Then Properties (Then Nodes (Up d)))
+Rest at.InValue d = Then Inside (Then Values (Then Properties (Then Nodes (Up d))))
+Rest at.AfterBackslash d = Then Escaped (Then Values (Then Properties (Then Nodes (Up d))))
+Rest at.AfterValue d = Then Values (Then Properties (Then Nodes (Up d)))
 Rest at.AfterTree d = Up d
 Rest at.Done d = Up d
 
@@ -125,25 +125,25 @@ ending_white b _ white _ w (trees before first others line dropped bf t ts) ws =
 up_white : (d b : ℕ) (bs : List ℕ) → is_white b ≡ true → Up (suc d) bs → Up (suc d) (b ∷ bs)
 up_white d b bs w u = front Ending Ending (Up d) b bs (λ a p. subst (λ x. Ending (b ∷ x)) (sym p.3) (ending_white b p.0 p.1 p.2 w p.4 p.5)) u
 
-nodes_white : (d b : ℕ) (bs : List ℕ) → is_white b ≡ true → Then Graph (Up (suc d)) bs → Then Graph (Up (suc d)) (b ∷ bs)
+nodes_white : (d b : ℕ) (bs : List ℕ) → is_white b ≡ true → Then Nodes (Up (suc d)) bs → Then Nodes (Up (suc d)) (b ∷ bs)
 nodes_white d b bs w t = white_then IsNode (Up (suc d)) b bs w (λ c. up_white d b c w) t
 
-properties_white : (d b : ℕ) (bs : List ℕ) → is_white b ≡ true → Then Properties (Then Graph (Up (suc d))) bs → Then Properties (Then Graph (Up (suc d))) (b ∷ bs)
-properties_white d b bs w t = white_then IsProperty (Then Graph (Up (suc d))) b bs w (λ c. nodes_white d b c w) t
+properties_white : (d b : ℕ) (bs : List ℕ) → is_white b ≡ true → Then Properties (Then Nodes (Up (suc d))) bs → Then Properties (Then Nodes (Up (suc d))) (b ∷ bs)
+properties_white d b bs w t = white_then IsProperty (Then Nodes (Up (suc d))) b bs w (λ c. nodes_white d b c w) t
 
 values_white : (d b : ℕ) (bs : List ℕ) → is_white b ≡ true → Rest at.AfterValue (suc d) bs → Rest at.AfterValue (suc d) (b ∷ bs)
-values_white d b bs w t = white_then IsValue (Then Properties (Then Graph (Up (suc d)))) b bs w (λ c. properties_white d b c w) t
+values_white d b bs w t = white_then IsValue (Then Properties (Then Nodes (Up (suc d)))) b bs w (λ c. properties_white d b c w) t
 
 -- pieces in front
 
-no_properties : (d : ℕ) (bs : List ℕ) → Then Graph (Up d) bs → Rest at.InNode d bs
-no_properties d bs t = skip Properties (Then Graph (Up d)) bs ([], none) t
+no_properties : (d : ℕ) (bs : List ℕ) → Then Nodes (Up d) bs → Rest at.InNode d bs
+no_properties d bs t = skip Properties (Then Nodes (Up d)) bs ([], none) t
 
 no_values : (d : ℕ) (bs : List ℕ) → Rest at.InNode d bs → Rest at.AfterValue d bs
-no_values d bs t = skip Values (Then Properties (Then Graph (Up d))) bs ([], none) t
+no_values d bs t = skip Values (Then Properties (Then Nodes (Up d))) bs ([], none) t
 
-no_nodes : (d : ℕ) (bs : List ℕ) → Up d bs → Then Graph (Up d) bs
-no_nodes d bs u = skip Graph (Up d) bs ([], none) u
+no_nodes : (d : ℕ) (bs : List ℕ) → Up d bs → Then Nodes (Up d) bs
+no_nodes d bs u = skip Nodes (Up d) bs ([], none) u
 
 -- some items are items
 items : {A : Type 0} (Is : List ℕ → A → Type 0) (Q : List ℕ → Type 0) (bs : List ℕ) → Then (SomeItems Is) Q bs → Then (Items Is) Q bs
@@ -152,37 +152,37 @@ items Is Q bs (a, c, e, p, q) = (a, c, e, (p.0 ∷ p.1, p.2), q)
 close_back : (d : ℕ) (bs : List ℕ) → Up d bs → Up (suc d) (closing ∷ bs)
 close_back d bs u = (closing ∷ [], bs, refl, ([], [], [], refl, no_trees, tt), u)
 
-nodes_end : (a c : List ℕ) → SomeGraph a → Ending c → IsSomeTree (opening ∷ (a ++ c))
+nodes_end : (a c : List ℕ) → SomeNodes a → Ending c → IsSomeTree (opening ∷ (a ++ c))
 nodes_end a c n e = ((n.0 ∷ n.1) ++ e.2, subst (λ x. IsTree (opening ∷ (a ++ x)) ((n.0 ∷ n.1) ++ e.2)) (sym e.3) (tree a e.0 e.1 n.0 n.1 e.2 n.2 e.4 e.5))
 
-open_back : (d : ℕ) (bs : List ℕ) → Then SomeGraph (Up (suc d)) bs → Then IsSomeTree (Up d) (opening ∷ bs)
-open_back d bs t = front (λ a. IsSomeTree (opening ∷ a)) IsSomeTree (Up d) opening bs (λ a p. p) (join SomeGraph Ending (λ a. IsSomeTree (opening ∷ a)) (Up d) bs nodes_end t)
+open_back : (d : ℕ) (bs : List ℕ) → Then SomeNodes (Up (suc d)) bs → Then IsSomeTree (Up d) (opening ∷ bs)
+open_back d bs t = front (λ a. IsSomeTree (opening ∷ a)) IsSomeTree (Up d) opening bs (λ a p. p) (join SomeNodes Ending (λ a. IsSomeTree (opening ∷ a)) (Up d) bs nodes_end t)
 
 tree_end : (a c : List ℕ) → IsSomeTree a → Ending c → Ending (a ++ c)
 tree_end a c t e = (a ++ e.0, e.1, t.0, ap (λ x. a ++ x) e.3 ∙ sym (append_assoc a e.0 (e.1 ++ (closing ∷ []))), trees [] a e.0 t.0 e.2 tt t.1 e.4, e.5)
 
-inner_back : (d : ℕ) (bs : List ℕ) → Then SomeGraph (Up (suc d + 1)) bs → Up (suc d) (opening ∷ bs)
+inner_back : (d : ℕ) (bs : List ℕ) → Then SomeNodes (Up (suc d + 1)) bs → Up (suc d) (opening ∷ bs)
 inner_back d bs t =
     let same : suc d + 1 ≡ suc (suc d) = omega arith in
-    join IsSomeTree Ending Ending (Up d) (opening ∷ bs) tree_end (open_back (suc d) bs (subst (λ n. Then SomeGraph (Up n) bs) same t))
+    join IsSomeTree Ending Ending (Up d) (opening ∷ bs) tree_end (open_back (suc d) bs (subst (λ n. Then SomeNodes (Up n) bs) same t))
 
-node_back : (d : ℕ) (bs : List ℕ) → Rest at.InNode d bs → Then SomeGraph (Up d) (semicolon ∷ bs)
-node_back d bs t = front (λ a. SomeGraph (semicolon ∷ a)) SomeGraph (Up d) semicolon bs (λ a p. p)
-    (join Properties Graph (λ a. SomeGraph (semicolon ∷ a)) (Up d) bs (λ a c p n. (p.0, n.0, more [] (semicolon ∷ a) c p.0 n.0 tt (node a p.0 p.1) n.1)) t)
+node_back : (d : ℕ) (bs : List ℕ) → Rest at.InNode d bs → Then SomeNodes (Up d) (semicolon ∷ bs)
+node_back d bs t = front (λ a. SomeNodes (semicolon ∷ a)) SomeNodes (Up d) semicolon bs (λ a p. p)
+    (join Properties Nodes (λ a. SomeNodes (semicolon ∷ a)) (Up d) bs (λ a c p n. (p.0, n.0, more [] (semicolon ∷ a) c p.0 n.0 tt (node a p.0 p.1) n.1)) t)
 
 abbrev IsSomeProperty : List ℕ → Type 0
 IsSomeProperty a = (x : PropertyText) × IsProperty a x
 
 letter_back : (d b : ℕ) (bs : List ℕ) → is_letter b ≡ true → Rest at.InIdent d bs → Rest at.InNode d (b ∷ bs)
-letter_back d b bs l t = front (λ a. Properties (b ∷ a)) Properties (Then Graph (Up d)) b bs (λ a p. p)
-    (join (λ a. IsSomeProperty (b ∷ a)) Properties (λ a. Properties (b ∷ a)) (Then Graph (Up d)) bs
+letter_back d b bs l t = front (λ a. Properties (b ∷ a)) Properties (Then Nodes (Up d)) b bs (λ a p. p)
+    (join (λ a. IsSomeProperty (b ∷ a)) Properties (λ a. Properties (b ∷ a)) (Then Nodes (Up d)) bs
     (λ a c p ps. (p.0 ∷ ps.0, more [] (b ∷ a) c p.0 ps.0 tt p.1 ps.1))
-    (join AreLetters SomeValues (λ a. IsSomeProperty (b ∷ a)) (Then Properties (Then Graph (Up d))) bs
+    (join AreLetters SomeValues (λ a. IsSomeProperty (b ∷ a)) (Then Properties (Then Nodes (Up d))) bs
     (λ a c ls v. (record { name = capitals (b ∷ a); values = v.0 ∷ v.1 }, property b a c v.0 v.1 (l, ls) v.2)) t))
 
 bracket_back : (d : ℕ) (bs : List ℕ) → Rest at.InValue d bs → Rest at.AfterIdent d (bracket ∷ bs)
-bracket_back d bs t = front (λ a. SomeValues (bracket ∷ a)) SomeValues (Then Properties (Then Graph (Up d))) bracket bs (λ a p. p)
-    (join Inside Values (λ a. SomeValues (bracket ∷ a)) (Then Properties (Then Graph (Up d))) bs
+bracket_back d bs t = front (λ a. SomeValues (bracket ∷ a)) SomeValues (Then Properties (Then Nodes (Up d))) bracket bs (λ a p. p)
+    (join Inside Values (λ a. SomeValues (bracket ∷ a)) (Then Properties (Then Nodes (Up d))) bs
     (λ a c i v. (i.1, v.0, more [] (bracket ∷ a) c i.1 v.0 tt (subst (λ x. IsValue (bracket ∷ x) i.1) (sym i.2) (value i.0 i.1 i.3)) v.1)) t)
 
 -- the bytes that are left after a token, if there is one
@@ -202,7 +202,7 @@ closing_back d bs r =
 semicolon_in_node : (d : ℕ) (bs : List ℕ) → Rest at.InNode (suc d) bs → Rest at.InNode (suc d) (semicolon ∷ bs)
 semicolon_in_node d bs r = (no_properties (suc d) (semicolon ∷ bs) (items IsNode (Up (suc d)) (semicolon ∷ bs) (node_back (suc d) bs r)))
 
-opening_in_node : (d : ℕ) (bs : List ℕ) → Then SomeGraph (Up (suc d + 1)) bs → Rest at.InNode (suc d) (opening ∷ bs)
+opening_in_node : (d : ℕ) (bs : List ℕ) → Then SomeNodes (Up (suc d + 1)) bs → Rest at.InNode (suc d) (opening ∷ bs)
 opening_in_node d bs r = (no_properties (suc d) (opening ∷ bs) (no_nodes (suc d) (opening ∷ bs) (inner_back d bs r)))
 
 closing_in_node : (d : ℕ) (bs : List ℕ) → Rest (if suc d == 1 then at.Done else at.AfterTree) (suc d - 1) bs → Rest at.InNode (suc d) (closing ∷ bs)
@@ -217,14 +217,14 @@ outside_back at.InNode kind.Letter d b bs s r = letter_back (suc d) b bs s r
 outside_back at.InNode kind.Semicolon d b bs s r = subst (λ x. Rest at.InNode (suc d) (x ∷ bs)) (sym s) (semicolon_in_node d bs r)
 outside_back at.InNode kind.Opening d b bs s r = subst (λ x. Rest at.InNode (suc d) (x ∷ bs)) (sym s) (opening_in_node d bs r)
 outside_back at.InNode kind.Closing d b bs s r = subst (λ x. Rest at.InNode (suc d) (x ∷ bs)) (sym s) (closing_in_node d bs r)
-outside_back at.InIdent kind.White d b bs s r = skip AreLetters (Rest at.AfterIdent (suc d)) (b ∷ bs) tt (white_some IsValue (Then Properties (Then Graph (Up (suc d)))) b bs s r)
+outside_back at.InIdent kind.White d b bs s r = skip AreLetters (Rest at.AfterIdent (suc d)) (b ∷ bs) tt (white_some IsValue (Then Properties (Then Nodes (Up (suc d)))) b bs s r)
 outside_back at.InIdent kind.Letter d b bs s r = front AreLetters AreLetters (Rest at.AfterIdent (suc d)) b bs (λ a p. (s, p)) r
 outside_back at.InIdent kind.Bracket d b bs s r = skip AreLetters (Rest at.AfterIdent (suc d)) (b ∷ bs) tt (subst (λ x. Rest at.AfterIdent (suc d) (x ∷ bs)) (sym s) (bracket_back (suc d) bs r))
-outside_back at.AfterIdent kind.White d b bs s r = white_some IsValue (Then Properties (Then Graph (Up (suc d)))) b bs s r
+outside_back at.AfterIdent kind.White d b bs s r = white_some IsValue (Then Properties (Then Nodes (Up (suc d)))) b bs s r
 outside_back at.AfterIdent kind.Bracket d b bs s r = subst (λ x. Rest at.AfterIdent (suc d) (x ∷ bs)) (sym s) (bracket_back (suc d) bs r)
 outside_back at.AfterValue kind.White d b bs s r = values_white d b bs s r
 outside_back at.AfterValue kind.Letter d b bs s r = no_values (suc d) (b ∷ bs) (letter_back (suc d) b bs s r)
-outside_back at.AfterValue kind.Bracket d b bs s r = subst (λ x. Rest at.AfterValue (suc d) (x ∷ bs)) (sym s) (items IsValue (Then Properties (Then Graph (Up (suc d)))) (bracket ∷ bs) (bracket_back (suc d) bs r))
+outside_back at.AfterValue kind.Bracket d b bs s r = subst (λ x. Rest at.AfterValue (suc d) (x ∷ bs)) (sym s) (items IsValue (Then Properties (Then Nodes (Up (suc d)))) (bracket ∷ bs) (bracket_back (suc d) bs r))
 outside_back at.AfterValue kind.Semicolon d b bs s r = no_values (suc d) (b ∷ bs) (subst (λ x. Rest at.InNode (suc d) (x ∷ bs)) (sym s) (semicolon_in_node d bs r))
 outside_back at.AfterValue kind.Opening d b bs s r = no_values (suc d) (b ∷ bs) (subst (λ x. Rest at.InNode (suc d) (x ∷ bs)) (sym s) (opening_in_node d bs r))
 outside_back at.AfterValue kind.Closing d b bs s r = no_values (suc d) (b ∷ bs) (subst (λ x. Rest at.InNode (suc d) (x ∷ bs)) (sym s) (closing_in_node d bs r))
