@@ -10,7 +10,8 @@ ghost use Rattle.game_calc.specs.Expression.Line.{order, value};
 
 use crate::amounts::Amount;
 use crate::errors::CalcError;
-use crate::reading::{Asked, read_line};
+use crate::pending::Asked;
+use crate::reading::read_line;
 use game_canon::{Order, compare};
 use game_lines::{ShowError, show, write_showing, write_words};
 use game_store::{GameId, Store};

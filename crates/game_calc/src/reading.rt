@@ -7,11 +7,12 @@ ghost use Rattle.game_text.specs.Reading.{IsReadRefusal, ReadsText};
 ghost use Rattle.game_canon.specs.Outcomes.{IsCanonicalId};
 ghost use Rattle.game_calc.specs.Expression.{Line, ReadsLine, first_bytes, first_sign, kind, next, token};
 ghost use Rattle.game_calc.specs.Machine.{IsAsked, IsGameRefusal, IsLineRefusal, IsReading, IsTokenAt, IsTurn};
-ghost use Rattle.game_calc.specs.declared.reading.Place.TheVariants as due;
+ghost use Rattle.game_calc.specs.declared.pending.Place.TheVariants as due;
 ghost use Rattle.game_calc.specs.declared.tokens.Kind.TheVariants as the_kind;
 
 use crate::amounts::{Amount, Opening, Sign, with_term};
 use crate::errors::{CalcError, CalcFault};
+use crate::pending::{Asked, Pending, Place, Source, Step, Turn};
 use crate::tokens::{Kind, Token, next_token};
 use game_store::{GameId, Store};
 use game_text::{ReadError, read};
@@ -19,48 +20,6 @@ use std::alloc::Global;
 
 /// The most parentheses that may be open at once.
 const MOST_OPEN: usize = 1000;
-
-/// What a line asks for: the value of a sum, or the order of two.
-#[derive(Clone, Copy)]
-pub(crate) enum Asked {
-    Value(Amount),
-    Order(Amount, Amount),
-}
-
-/// What is due: a term, or what may stand behind one.
-#[derive(Clone, Copy)]
-pub(crate) enum Place {
-    Term(Opening),
-    Behind(Amount),
-}
-
-/// A place of the line, and what is due there.
-#[derive(Clone, Copy)]
-pub(crate) struct Step {
-    at: usize,
-    place: Place,
-}
-
-/// What a token leads to: the next step, or what the whole line asks for.
-#[derive(Clone, Copy)]
-pub(crate) enum Turn {
-    Next(Step),
-    Whole(Asked),
-}
-
-/// What stands before each parenthesis that is open, the innermost last; and the first sum, once its `?` was read.
-#[derive(Drop)]
-pub(crate) struct Pending {
-    opens: Vec<Opening>,
-    first: Option<Amount>,
-}
-
-/// A line, and how many parts a form may have.
-#[derive(Clone, Copy)]
-pub(crate) struct Source<'a> {
-    text: &'a [u8],
-    parts_limit: u32,
-}
 
 /// Where the first term of a sum is due, behind its sign.
 fn sum_start(text: &[u8], at: usize) -> Step

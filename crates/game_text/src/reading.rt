@@ -8,55 +8,18 @@ ghost use Rattle.game_text.specs.Reading.{IsNameByte, IsNumberByte, IsReadRefusa
 ghost use Rattle.game_text.specs.Machine.{IsReading, EndsRunAt, IsNext, IsMarkOfInnermost, IsFormTaken, IsFoundBy, IsRefusedBy, IsEnded, mark_at, opening_at, place_after};
 ghost use Rattle.game_text.specs.Depth.{most_open};
 ghost use Rattle.game_text.specs.Refusals.{IsWantOfMemory, IsOpeningRefusal, IsFormRefusal};
-ghost use Rattle.game_text.specs.declared.reading.Opening.{Opening};
-ghost use Rattle.game_text.specs.declared.reading.Place.TheVariants.{First, Game, Whole};
+ghost use Rattle.game_text.specs.declared.pending.Opening.{Opening};
+ghost use Rattle.game_text.specs.declared.pending.Place.TheVariants.{First, Game, Whole};
 ghost use Rattle.game_text.specs.declared.errors.ReadError.TheVariants.{CutShort};
 
 use crate::errors::ReadError;
 use crate::named_games::{Found, read_nimber, read_switch, taken_down, taken_up};
 use crate::numbers::number_of_text;
+use crate::pending::{Opening, Pending, Place, Source, Step};
 use crate::writing::MOST_OPEN;
 use game_canon::canonical;
 use game_store::{GameId, Store};
 use std::alloc::Global;
-
-/// What is read next: the first option of a side or the side's end, a game, what is behind an option, or the end of the
-/// text behind the whole game.
-#[derive(Clone, Copy)]
-pub(crate) enum Place {
-    First,
-    Game,
-    Behind,
-    Whole,
-}
-
-/// An open form: where its options begin among those that were read, and where its Right options do, once its bar was.
-#[derive(Clone, Copy)]
-pub(crate) struct Opening {
-    start: usize,
-    middle: Option<usize>,
-}
-
-/// The forms that are open, the innermost last, and the options that were read in them.
-#[derive(Drop)]
-struct Pending {
-    options: Vec<GameId>,
-    opens: Vec<Opening>,
-}
-
-/// A text, and how many parts each of its forms may have.
-#[derive(Clone, Copy)]
-struct Source<'a> {
-    text: &'a [u8],
-    parts_limit: u32,
-}
-
-/// A place of the text, and what is read there.
-#[derive(Clone, Copy)]
-struct Step {
-    at: usize,
-    place: Place,
-}
 
 /// Whether the byte is one of numbers.
 pub(crate) fn is_number_byte(byte: u8) -> bool
