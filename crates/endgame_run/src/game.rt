@@ -4,7 +4,7 @@ ghost use Rattle.std.specs.Prelude.{◌≡◌, ◌≢◌, ◌≤◌, ◌⊎◌, 
 ghost use Rattle.sgf_go.specs.declared.settings.Setup.{Setup as Position};
 ghost use Rattle.endgame_solver.specs.declared.limits.Limits.{Limits};
 ghost use Rattle.endgame_run.specs.declared.question.Question.TheVariants.{Solve};
-ghost use Rattle.endgame_run.specs.File.{TakesAtMost, count_of, dash, outside, told_of};
+ghost use Rattle.endgame_run.specs.File.{TakesAtMost, count_of, dash, faults, outside, told_of, world};
 ghost use Rattle.endgame_run.specs.Found.{HasRanges};
 ghost use Rattle.endgame_run.specs.Top.{AreToldSteps, IsGameOutcome, IsOpened, IsPlayRun, IsPlayedGame};
 
@@ -32,11 +32,12 @@ fn open_game<H: Shelf, S: Source, L: Ledger>(
     requires ranges { HasRanges settings.now }
     requires modest { game.now.limits.positions ≤ 1000000 }
     ensures opened { IfOk result (IsOpened game.now.limits game.now.engine
-        (told_of (H.files shelf.old) (S.left lines.old) game.now.word.now)
-        (count_of (H.faults shelf.old) (S.faults lines.old) game.now.word.now) (count_of (H.faults shelf.new) (S.faults lines.new) game.now.word.now) settings.now) }
+        (told_of (world (H.files shelf.old) (S.left lines.old)) game.now.word.now)
+        (count_of (H.faults shelf.old) (S.faults lines.old) game.now.word.now)
+        (count_of (H.faults shelf.new) (S.faults lines.new) game.now.word.now) settings.now) }
     ensures steps { AreToldSteps (Solve game.now.limits)
-        (told_of (H.files shelf.old)
-        (S.left lines.old) game.now.word.now) settings.now steps.old steps.new }
+        (told_of (world (H.files shelf.old) (S.left lines.old)) game.now.word.now)
+        settings.now steps.old steps.new }
     ensures asked { game.now.word.now ≢ dash → H.asks shelf.old game.now.word.now shelf.new }
     ensures same_files { H.files shelf.new ≡ H.files shelf.old }
     ensures later_loads { H.faults shelf.old ≤ H.faults shelf.new }
@@ -83,12 +84,13 @@ pub(crate) fn run_game<H: Shelf, S: Source, K: Sink, L: Ledger>(
     requires modest { game.now.limits.positions ≤ 1000000 }
     requires apart { game.now.word.now ≢ dash }
     ensures outcome { IsGameOutcome game.now.limits game.now.engine settings.now game.now.word.now
-        (outside (H.files shelf.old) (S.left lines.old)
-        (H.faults shelf.old) (H.faults shelf.new) (S.faults lines.old) (S.faults lines.new))
+        (outside (world (H.files shelf.old) (S.left lines.old))
+        (faults (H.faults shelf.old) (H.faults shelf.new))
+        (faults (S.faults lines.old) (S.faults lines.new)))
         (K.faults out.old) (K.faults out.new) (K.holds out.old) (K.holds out.new) result }
     ensures steps { AreToldSteps (Solve game.now.limits)
-        (told_of (H.files shelf.old)
-        (S.left lines.old) game.now.word.now) settings.now steps.old steps.new }
+        (told_of (world (H.files shelf.old) (S.left lines.old)) game.now.word.now)
+        settings.now steps.old steps.new }
     ensures takes { TakesAtMost 2560256 (S.left lines.old) (S.left lines.new) }
     ensures asked { H.asks shelf.old game.now.word.now shelf.new }
     ensures same_files { H.files shelf.new ≡ H.files shelf.old }
@@ -97,7 +99,9 @@ pub(crate) fn run_game<H: Shelf, S: Source, K: Sink, L: Ledger>(
     ensures later_writes { K.faults out.old ≤ K.faults out.new }
     ensures lines_unplayed { (lines.new ≡ lines.old)
         ⊎ IsPlayedGame game.now.limits game.now.engine settings.now game.now.word.now
-        (outside (H.files shelf.old) (S.left lines.old) (H.faults shelf.old) (H.faults shelf.new) (S.faults lines.old) (S.faults lines.new))
+        (outside (world (H.files shelf.old) (S.left lines.old))
+        (faults (H.faults shelf.old) (H.faults shelf.new))
+        (faults (S.faults lines.old) (S.faults lines.new)))
         (K.faults out.old) (K.faults out.new) (K.holds out.old) (K.holds out.new) result }
 {
     match open_game(alloc, game, settings, shelf, lines, steps) {

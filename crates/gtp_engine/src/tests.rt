@@ -14,8 +14,8 @@ use std::test::Fail;
 /// `.X.X.O.O.` / `XXXXXOOOO`, with one contested point.
 const ONE_POINT: &[u8] = b"(;SZ[9:2]AB[ba][da][ab:eb]AW[fa][ha][fb:ib])";
 
-/// `.X.XOO.` / `XX.XO.O` / `.XXXOOO`, with two contested points between the players.
-const TWO_POINTS: &[u8] = b"(;SZ[7:3])";
+/// `.X.X..O.O.` / `XXXXXOOOOO`, with two contested points.
+const TWO_POINTS: &[u8] = b"(;SZ[10:2]AB[ba][da][ab:eb]AW[ga][ia][fb:jb])";
 
 const LIMITS: Limits = Limits {
     positions: 100_000,
@@ -183,10 +183,10 @@ fn with_line(alloc: Global, lines: &[u8], parts: [&[u8]; 3]) -> Result<Vec<u8>, 
     Ok(all)
 }
 
-/// Every move of a board of 9 columns and 3 rows.
-const MOVES: [&[u8]; 29] = [
-    b"a1", b"b1", b"c1", b"d1", b"e1", b"f1", b"g1", b"h1", b"j1", b"a2", b"b2", b"c2", b"d2", b"e2", b"f2", b"g2", b"h2",
-    b"j2", b"a3", b"b3", b"c3", b"d3", b"e3", b"f3", b"g3", b"h3", b"j3", b"pass", b"half",
+/// Every move of a board of 10 columns and 2 rows.
+const MOVES: [&[u8]; 22] = [
+    b"a1", b"b1", b"c1", b"d1", b"e1", b"f1", b"g1", b"h1", b"j1", b"k1", b"a2", b"b2", b"c2", b"d2", b"e2", b"f2", b"g2",
+    b"h2", b"j2", b"k2", b"pass", b"half",
 ];
 
 #[test]
