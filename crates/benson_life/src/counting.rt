@@ -16,7 +16,8 @@ use go_grid::{Board, Cell, Colour, MOST_POINTS, Point, Points};
 /// The regions that are walled eyes of a kept chain.
 fn eyes_of(eyes: &[Eye], breached: &Points, kept: &Points) -> Points
     requires { All (λ e. (e.region < MOST_POINTS) × (e.chain < MOST_POINTS)) eyes.now }
-    ensures { Marks result (λ r. (k : ℕ) × HasWalledEye eyes.now breached.now k r × IsMarked kept.now k) }
+    ensures { Marks result (λ r. (k : ℕ) × HasWalledEye eyes.now breached.now k r
+        × IsMarked kept.now k) }
 {
     let mut found = Points::new();
     for eye in eyes {

@@ -19,6 +19,7 @@ pub fn benson_law()
 /// On a settled board each colour holds two points or more for each of its groups: a group has two counted regions of its
 /// own, with an empty point in each.
 pub fn tax_law()
-    ensures { (g : Board) (c : Colour) (held groups : ℕ) → IsSettled g → IsHeld g c held → IsNumberOfGroups g c groups
+    ensures { (g : Board) (c : Colour) (held groups : ℕ) → IsSettled g → IsHeld g c held
+        → IsNumberOfGroups g c groups
         → 2 * groups ≤ held }
 {}

@@ -65,7 +65,8 @@ fn with_two_eyes(
     requires survey { IsSurvey board.now colour survey.now }
     requires eyes { AreEyes board.now colour survey.now eyes.now }
     requires kept { (s : ℕ) → IsMarked kept.now s → HasStone board.now colour s }
-    ensures { Marks result (λ s. IsMarked kept.now s × HasTwoEyes board.now colour (IsMarked kept.now) s) }
+    ensures { Marks result (λ s. IsMarked kept.now s
+        × HasTwoEyes board.now colour (IsMarked kept.now) s) }
 {
     let size = board.size();
     let breached = breached(board, colour, survey, kept);

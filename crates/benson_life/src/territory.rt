@@ -117,7 +117,8 @@ pub fn alive(alloc: Global, board: &Board, colour: Colour) -> Result<Vec<Point>,
     requires { IsSettled board.now }
     ensures ascending { IfOk result (λ stones. IsStrictlyIncreasing stones.items) }
     ensures largest { IfOk result (λ stones. IsLargestHealthy board.now colour stones.items) }
-    ensures stand { IfOk result (λ stones. (s : ℕ) → Contains stones.items s → Stands board.now colour s) }
+    ensures stand { IfOk result (λ stones. (s : ℕ) → Contains stones.items s
+        → Stands board.now colour s) }
 {
     let survey = survey_of(board, colour);
     let eyes = all_eyes(alloc, board, colour, &survey)?;

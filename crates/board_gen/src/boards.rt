@@ -41,7 +41,8 @@ fn wall(column: u16) -> Cell
 /// What a point of the board holds.
 fn cell_of(corridors: &[Corridor], point: u16) -> Cell
     requires { point < 625 }
-    ensures { (number : ℕ) → AreCorridors number 16 corridors.now → IsTrialCell number point result }
+    ensures { (number : ℕ) → AreCorridors number 16 corridors.now
+        → IsTrialCell number point result }
 {
     let column = point % COLUMNS;
     if point / COLUMNS == 24 {

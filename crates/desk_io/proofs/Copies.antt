@@ -1,7 +1,6 @@
 -- A source that is copied to its end, or up to a limit.
 use Rattle.std.proofs.Common.{◌≡◌, ◌+◌, ◌<◌, ◌++◌, ℕ, List, [], take, length, refl, sym, ◌∙◌, ap, subst, arith, append_assoc, append-nil, length-append, Some, None}
 use Rattle.std.specs.Prelude.{Ok, Err}
-use Rattle.std.specs.Option.{option_map}
 use Rattle.std.specs.Io.{StartsWith}
 use Rattle.std.specs.Io.KnownBytes.{prepend_known}
 use Rattle.std.specs.declared.option.Option.{Option}
@@ -9,7 +8,7 @@ use Rattle.std.proofs.KnownBytes.{prepend_known-nil}
 use Rattle.std.proofs.Math.Seq.{take-append_seam, take-append-add}
 use Rattle.std.proofs.lemmas.List.{take-append-le, length-take-le}
 use Rattle.std.specs.declared.alloc.AllocError.{AllocError}
-use Rattle.desk_io.specs.Files.{Loads}
+use Rattle.desk_io.specs.Files.{Loads, told_source}
 use Rattle.desk_io.specs.Outside.{ended}
 use Rattle.desk_io.specs.declared.shelf.Loaded.TheVariants.{Whole, Longer}
 use Rattle.desk_io.specs.declared.shelf.LoadError.TheVariants.{Failed, Memory}
@@ -41,32 +40,32 @@ starts : (old new piece : List ℕ) → new ≡ old ++ piece → StartsWith new 
 starts old new piece e = ap (take (length old)) e ∙ take-append_seam old piece
 
 pub copied_whole : (before now next : Option (List ℕ)) (limit left : ℕ) (old new : List ℕ) → Copied before now limit left old new
-    → next ≡ ended now → now ≡ prepend_known [] next → Loads (option_map Some before) limit old new (Ok Whole)
+    → next ≡ ended now → now ≡ prepend_known [] next → Loads (told_source before) limit old new (Ok Whole)
 copied_whole before None next limit left old new c e f =
-    subst (λ b. Loads (option_map Some b) limit old new (Ok Whole)) (sym c.told) (starts old new c.piece c.same, omega (arith, c.room, ap length c.same, length-append old c.piece))
+    subst (λ b. Loads (told_source b) limit old new (Ok Whole)) (sym c.told) (starts old new c.piece c.same, omega (arith, c.room, ap length c.same, length-append old c.piece))
 copied_whole before (Some xs) next limit left old new c e f =
     let all : before ≡ Some c.piece = c.told ∙ ap (prepend_known c.piece) (f ∙ ap (prepend_known []) e) ∙ ap Some (append-nil c.piece) in
-    subst (λ b. Loads (option_map Some b) limit old new (Ok Whole)) (sym all) (omega (arith, c.room), c.same)
+    subst (λ b. Loads (told_source b) limit old new (Ok Whole)) (sym all) (omega (arith, c.room), c.same)
 
 pub copied_longer : (before now next : Option (List ℕ)) (limit left : ℕ) (old new front : List ℕ) → Copied before now limit left old new
-    → now ≡ prepend_known front next → left < length front → Loads (option_map Some before) limit old (new ++ take left front) (Ok Longer)
+    → now ≡ prepend_known front next → left < length front → Loads (told_source before) limit old (new ++ take left front) (Ok Longer)
 copied_longer before now None limit left old new front c e l =
     let same = ap (λ x. x ++ take left front) c.same ∙ append_assoc old c.piece (take left front) in
     let size = length-take-le left front (omega (arith, l)) in
-    subst (λ b. Loads (option_map Some b) limit old (new ++ take left front) (Ok Longer)) (sym (c.told ∙ ap (prepend_known c.piece) e))
+    subst (λ b. Loads (told_source b) limit old (new ++ take left front) (Ok Longer)) (sym (c.told ∙ ap (prepend_known c.piece) e))
     (starts old (new ++ take left front) (c.piece ++ take left front) same, omega (arith, ap length same, c.room, size, length-append old (c.piece ++ take left front), length-append c.piece (take left front)))
 copied_longer before now (Some xs) limit left old new front c e l =
     let cut : take limit (c.piece ++ (front ++ xs)) ≡ c.piece ++ take left front = ap (λ n. take n (c.piece ++ (front ++ xs))) (sym c.room) ∙ take-append-add c.piece (front ++ xs) left ∙ ap (λ x. c.piece ++ x) (take-append-le left front xs (omega (arith, l))) in
     let same = ap (λ x. x ++ take left front) c.same ∙ append_assoc old c.piece (take left front) ∙ ap (λ x. old ++ x) (sym cut) in
-    subst (λ b. Loads (option_map Some b) limit old (new ++ take left front) (Ok Longer)) (sym (c.told ∙ ap (prepend_known c.piece) e))
+    subst (λ b. Loads (told_source b) limit old (new ++ take left front) (Ok Longer)) (sym (c.told ∙ ap (prepend_known c.piece) e))
     (omega (arith, c.room, l, length-append c.piece (front ++ xs), length-append front xs), same)
 
 -- a front part stands at a fault, and where memory ran out
 pub copied_part : (before now : Option (List ℕ)) (limit left : ℕ) (old new : List ℕ) → Copied before now limit left old new
-    → Loads (option_map Some before) limit old new (Err Failed) × ((cause : AllocError) → Loads (option_map Some before) limit old new (Err (Memory cause)))
-copied_part before now limit left old new c = subst (λ b. Loads (option_map Some b) limit old new (Err Failed) × ((cause : AllocError) → Loads (option_map Some b) limit old new (Err (Memory cause)))) (sym c.told) (part now)
+    → Loads (told_source before) limit old new (Err Failed) × ((cause : AllocError) → Loads (told_source before) limit old new (Err (Memory cause)))
+copied_part before now limit left old new c = subst (λ b. Loads (told_source b) limit old new (Err Failed) × ((cause : AllocError) → Loads (told_source b) limit old new (Err (Memory cause)))) (sym c.told) (part now)
   where
-    part : (o : Option (List ℕ)) → Loads (option_map Some (prepend_known c.piece o)) limit old new (Err Failed) × ((cause : AllocError) → Loads (option_map Some (prepend_known c.piece o)) limit old new (Err (Memory cause)))
+    part : (o : Option (List ℕ)) → Loads (told_source (prepend_known c.piece o)) limit old new (Err Failed) × ((cause : AllocError) → Loads (told_source (prepend_known c.piece o)) limit old new (Err (Memory cause)))
     part None = let p = starts old new c.piece c.same in (p, λ cause. p)
     part (Some xs) =
         let n = length c.piece in

@@ -33,7 +33,8 @@ impl<R: Read + Drop> Source for StdSource<R> {
         ensures bytes { Takes None None result buf.new }
         ensures count { self.new.faults ≡ faults_after self.old.faults (is_err result) }
         // What the reader tells goes through.
-        ensures through { ReadConsumes (R.remaining self.old.reader) (R.remaining self.new.reader) result buf.new }
+        ensures through { ReadConsumes (R.remaining self.old.reader)
+            (R.remaining self.new.reader) result buf.new }
     {
         for _ in 0..u64::MAX {
             match self.reader.read(buf) {
@@ -73,7 +74,8 @@ impl<W: Write + Drop> Sink for StdSink<W> {
         ensures bytes { Appends None None result bytes.now }
         ensures count { self.new.faults ≡ faults_after self.old.faults (is_err result) }
         // What the writer tells is what it was given.
-        ensures through { PassedOn (W.contents self.old.writer) (W.contents self.new.writer) result bytes.now }
+        ensures through { PassedOn (W.contents self.old.writer)
+            (W.contents self.new.writer) result bytes.now }
     {
         let mut sent = 0;
         for _ in 0..u64::MAX {

@@ -1,7 +1,7 @@
 // The real shelf, over files. It tells no content.
 ghost use Rattle.std.specs.Prelude.{◌≡◌, Bool, None, Some};
-ghost use Rattle.std.specs.Option.{option_map};
-ghost use Rattle.desk_io.specs.Files.{FailsByCount, Loads, has_failed};
+ghost use Rattle.desk_io.specs.Files.{FailsByCount, Loads, has_failed, told_source};
+ghost use Rattle.desk_io.specs.Files.Told.{untold};
 ghost use Rattle.desk_io.specs.Outside.{faults_after};
 
 use crate::{LoadError, Loaded, Shelf, Source, StdSource};
@@ -32,7 +32,7 @@ impl<R: Files> Shelf for FileShelf<'_, R> {
     ghost asks = { λ s name t. (failed : Bool) × (t.faults ≡ faults_after s.faults failed) };
 
     fn load(&mut self, name: &str, limit: usize, out: &mut Vec<u8>) -> Result<Loaded, LoadError>
-        ensures bytes { Loads None limit out.old.items out.new.items result }
+        ensures bytes { Loads untold limit out.old.items out.new.items result }
         ensures cause { FailsByCount self.old.faults self.new.faults result }
         ensures count { self.new.faults ≡ faults_after self.old.faults (has_failed result) }
         ensures asked { (failed : Bool) × (self.new.faults ≡ faults_after self.old.faults failed) }
@@ -47,7 +47,7 @@ impl<R: Files> Shelf for FileShelf<'_, R> {
 
 // Appends a file, or the first `limit` bytes of it.
 fn copy<R: Files>(rt: &R, name: &str, limit: usize, out: &mut Vec<u8>) -> Result<Loaded, LoadError>
-    ensures { Loads None limit out.old.items out.new.items result }
+    ensures { Loads untold limit out.old.items out.new.items result }
 {
     let Ok(file) = fs::open(rt, name) else {
         return Err(LoadError::Failed);
@@ -57,7 +57,7 @@ fn copy<R: Files>(rt: &R, name: &str, limit: usize, out: &mut Vec<u8>) -> Result
 
 // Appends what a source has left, or the first `limit` bytes of it.
 fn append<S: Source>(source: &mut S, limit: usize, out: &mut Vec<u8>) -> Result<Loaded, LoadError>
-    ensures { Loads (option_map Some (S.left source.old)) limit out.old.items out.new.items result }
+    ensures { Loads (told_source (S.left source.old)) limit out.old.items out.new.items result }
 {
     let mut piece = [0u8; 4096];
     let mut left = limit;

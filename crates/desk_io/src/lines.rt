@@ -80,7 +80,8 @@ impl<const MOST: usize> LineReader<MOST> {
     fn read_more<S: Source>(&mut self, lines: &mut S) -> Result<usize, Failed>
         requires { length self.old < MOST }
         ensures same { IsSameInput self.old (S.left lines.old) self.new (S.left lines.new) }
-        ensures more { IfOk result (λ n. (piece : List ℕ) × (self.new ≡ self.old ++ piece) × (length piece ≡ n)) }
+        ensures more { IfOk result (λ n. (piece : List ℕ) × (self.new ≡ self.old ++ piece)
+            × (length piece ≡ n)) }
         ensures end { IfOk result (λ n. n ≡ 0 → S.left lines.new ≡ ended (S.left lines.new)) }
         ensures failed { OnErr result (self.new ≡ self.old) }
         ensures few { length self.new ≤ MOST }

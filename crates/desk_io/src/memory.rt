@@ -31,7 +31,8 @@ impl MemorySource {
     /// Gives `bytes` in pieces of at most `piece` bytes. The calls in `failing` fail, counted from 0.
     pub fn new(bytes: Vec<u8>, piece: usize, failing: Vec<u64>) -> Self
         requires { 1 ≤ piece }
-        ensures { result ≡ record { left = bytes.items; piece = piece; calls = uncalled failing.items } }
+        ensures { result ≡ record { left = bytes.items; piece = piece; calls = uncalled
+            failing.items } }
     {
         MemorySource {
             bytes,
@@ -92,7 +93,8 @@ impl Model for MemorySink {
 impl MemorySink {
     /// Has room for `room` bytes in all. The calls in `failing` fail and take nothing, counted from 0.
     pub fn with_room(alloc: Global, room: usize, failing: Vec<u64>) -> Result<Self, AllocError>
-        ensures { IfOk result (λ s. s ≡ record { bytes = []; room = room; calls = uncalled failing.items }) }
+        ensures { IfOk result
+            (λ s. s ≡ record { bytes = []; room = room; calls = uncalled failing.items }) }
     {
         Ok(MemorySink {
             bytes: Vec::with_capacity(alloc, room)?,
@@ -117,7 +119,8 @@ impl Sink for MemorySink {
     ghost faults = { λ s. s.calls.faults };
 
     fn write(&mut self, bytes: &[u8]) -> Result<(), Failed>
-        ensures refused { is_err result ≡ (fails_next self.old.calls || nat_lt self.old.room (length bytes.now)) }
+        ensures refused { is_err result ≡ (fails_next self.old.calls || nat_lt self.old.room
+            (length bytes.now)) }
         ensures after { self.new ≡ written self.old bytes.now (is_err result) }
     {
         let call = self.calls;

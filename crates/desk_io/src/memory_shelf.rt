@@ -43,7 +43,9 @@ impl MemoryShelf {
     /// Puts a file on the shelf, in the place of an earlier one of that name. At an error the shelf is as before.
     #[tactic(auto, using(crate::proofs::Kept::files_after, crate::proofs::Kept::files_same))]
     pub fn add(&mut self, name: &str, bytes: Vec<u8>) -> Result<(), AllocError>
-        ensures ok { OnOk result (self.new ≡ record self.old { files = map.insert self.old.files name.now bytes.items }) }
+        ensures ok { OnOk result
+            (self.new ≡ record self.old { files = map.insert self.old.files name.now bytes.items })
+            }
         ensures err { OnErr result (self.new ≡ self.old) }
     {
         let name = String::from_str(*self.failing.allocator(), name)?;
@@ -53,7 +55,9 @@ impl MemoryShelf {
 
     /// The load of this number fails, counted from 0. At an error the shelf is as before.
     pub fn fail_at(&mut self, call: u64) -> Result<(), AllocError>
-        ensures ok { OnOk result (self.new ≡ record self.old { calls = record self.old.calls { failing = self.old.calls.failing ++ call ∷ [] } }) }
+        ensures ok { OnOk result
+            (self.new ≡ record self.old { calls = record self.old.calls { failing =
+            self.old.calls.failing ++ call ∷ [] } }) }
         ensures err { OnErr result (self.new ≡ self.old) }
     {
         Ok(self.failing.push(call)?)
@@ -70,11 +74,13 @@ impl Shelf for MemoryShelf {
     #[tactic(auto, using(crate::proofs::Kept::file_in))]
     fn load(&mut self, name: &str, limit: usize, out: &mut Vec<u8>) -> Result<Loaded, LoadError>
         ensures same { self.new.files ≡ self.old.files }
-        ensures bytes { Loads (told_file (Some self.old.files) name.now) limit out.old.items out.new.items result }
+        ensures bytes { Loads (told_file
+            (Some self.old.files) name.now) limit out.old.items out.new.items result }
         ensures cause { FailsByCount self.old.calls.faults self.new.calls.faults result }
         ensures named { has_failed result ≡ fails_next self.old.calls }
         ensures calls { self.new.calls ≡ counted self.old.calls (has_failed result) }
-        ensures asked { self.new ≡ record self.old { calls = counted self.old.calls (fails_next self.old.calls) } }
+        ensures asked { self.new ≡ record self.old { calls = counted self.old.calls
+            (fails_next self.old.calls) } }
     {
         let call = self.calls;
         self.calls = call.saturating_add(1);

@@ -48,7 +48,8 @@ pub trait Shelf {
     /// part of them was appended.
     fn load(&mut self, name: &str, limit: usize, out: &mut Vec<u8>) -> Result<Loaded, LoadError>
         ensures same { files self.new ≡ files self.old }
-        ensures bytes { Loads (told_file (files self.old) name.now) limit out.old.items out.new.items result }
+        ensures bytes { Loads (told_file
+            (files self.old) name.now) limit out.old.items out.new.items result }
         ensures cause { FailsByCount (faults self.old) (faults self.new) result }
         ensures asked { asks self.old name.now self.new };
 }

@@ -1,5 +1,6 @@
 -- A file that is told, read and within all limits is answered.
 use Rattle.std.proofs.Common.{◌≡◌, ◌⊎◌, ℕ, Bool, true, false, inl, inr, refl, sym, ap, subst, ◌∙◌, arith, List, length, Some, None, Ok, Err}
+use Rattle.desk_io.specs.Files.Told.{absent, holding}
 use Rattle.std.specs.Prelude.{Option, if◌then◌else◌}
 use Rattle.std.specs.Str.{bytes_eq}
 use Rattle.desk_io.specs.Outside.{Rose}
@@ -20,11 +21,12 @@ use Rattle.endgame_run.specs.Calc.{IsCalc}
 use Rattle.endgame_run.specs.Complete.{AreAnswerable, IsAnswerable, IsAnswered, IsComplete, IsEngineDone, IsWithinLimits}
 use Rattle.endgame_run.specs.Engine.{AreForEngine, AskForEngine, IsEngineRun}
 use Rattle.endgame_run.specs.Output.{IsCaused}
-use Rattle.sgf_go.specs.File.{IsShort, IsTold, IsTooLong}
+use Rattle.desk_io.specs.Files.{Told, IsLonger, IsTold}
+use Rattle.sgf_go.specs.File.{IsShort}
 use Rattle.endgame_run.specs.File.{Outside, count_of, dash, told_of}
 use Rattle.endgame_run.specs.Game.{IsGameRun}
 use Rattle.sgf_go.specs.File.{Reads}
-use Rattle.endgame_run.specs.Verdict.{HasCause, IsAnswer, IsFileAnswer, IsPositionAnswer, IsTextAlone, Pose, limits_of}
+use Rattle.endgame_run.specs.Verdict.{IsAnswerOn, HasCause, IsAnswer, IsFileAnswer, IsPositionAnswer, IsTextAlone, Pose, limits_of}
 use Rattle.endgame_run.proofs.GameWins.{map_told}
 use Rattle.sgf_go.proofs.OneReading.{not_both, one_setup}
 use Rattle.endgame_run.proofs.OneStatus.{file_or_position, safe_is_done, shows_shown, solves_sound}
@@ -52,40 +54,38 @@ file_done q file settings setup s text reads within h = go (file_or_position q f
 
 module _ (words : List (List ℕ)) (o : Outside) (kb kn : ℕ) (a : IsAnswerable words o kb kn) where
   abbrev Answer : Status → List ℕ → Type 0
-  Answer s text = IsAnswer a.question (told_of o.files o.left a.word) (count_of o.shelf_before o.lines_before a.word) (count_of o.shelf_now o.lines_now a.word) a.job.settings s text
+  Answer s text = IsAnswerOn a.question o a.word a.job.settings s text
 
   -- what is decided about the words' own question
   own : (job : JobView) (q : Question) (word : List ℕ) (s : Status) (text : List ℕ) → Pose words job q word
-      → IsAnswer q (told_of o.files o.left word) (count_of o.shelf_before o.lines_before word) (count_of o.shelf_now o.lines_now word) job.settings s text → Answer s text
+      → IsAnswerOn q o word job.settings s text → Answer s text
   own job q word s text b h =
       let one = one_pose words a.job job a.question q a.word word a.asks b in
-      subst (λ j. IsAnswer a.question (told_of o.files o.left a.word) (count_of o.shelf_before o.lines_before a.word) (count_of o.shelf_now o.lines_now a.word) j.settings s text) one.0
-      (subst (λ p. IsAnswer p.0 (told_of o.files o.left p.1) (count_of o.shelf_before o.lines_before p.1) (count_of o.shelf_now o.lines_now p.1) job.settings s text) one.1 h)
+      subst (λ j. IsAnswerOn a.question o a.word j.settings s text) one.0
+      (subst (λ p. IsAnswerOn p.0 o p.1 job.settings s text) one.1 h)
 
-  told_file : (file : List ℕ) → IsTold (told_of o.files o.left a.word) file → file ≡ a.file
-  told_file file t = let k : IsTold (Some (Some a.file)) file = subst (λ x. IsTold x file) a.told t in let e : Path (Option (List ℕ)) (Some a.file) (Some file) = k in cc
+  told_file : (file : List ℕ) → IsTold (told_of o.world a.word) file → file ≡ a.file
+  told_file file t = let k : IsTold (holding a.file) file = subst (λ x. IsTold x file) a.told t in sym k
 
-  by_file : (s : Status) (text : List ℕ) → (file : List ℕ) × IsTold (told_of o.files o.left a.word) file × IsShort file × IsFileAnswer a.question file a.job.settings s text → s ≡ Done
+  by_file : (s : Status) (text : List ℕ) → (file : List ℕ) × IsTold (told_of o.world a.word) file × IsShort file × IsFileAnswer a.question file a.job.settings s text → s ≡ Done
   by_file s text (file, told, short, h) = file_done a.question a.file a.job.settings a.setup s text a.reads a.within (subst (λ f. IsFileAnswer a.question f a.job.settings s text) (told_file file told) h)
 
-  unread : (told : Option (Option (List ℕ))) → told ≡ Some (Some a.file) → told ≡ Some None → ⊥
-  unread told e d = let k : Path (Option (Option (List ℕ))) (Some (Some a.file)) (Some None) = sym e ∙ d in cc
+  unread : (told : Told) → told ≡ holding a.file → told ≡ absent → ⊥
+  unread told e d = let k : Path Told (holding a.file) absent = sym e ∙ d in cc
 
-  too_long : IsTooLong (told_of o.files o.left a.word) → ⊥
+  too_long : IsLonger 1048576 (told_of o.world a.word) → ⊥
   too_long h =
-      let k : IsTooLong (Some (Some a.file)) = subst IsTooLong a.told h in
-      let e : Path (Option (List ℕ)) (Some a.file) (Some k.0) = k.1 in
-      let same : a.file ≡ k.0 = cc in omega (arith, a.short, ap length same, k.2)
+      let k : IsLonger 1048576 (holding a.file) = subst (IsLonger 1048576) a.told h in omega (arith, a.short, k)
 
-  not_read : (told_of o.files o.left a.word ≡ Some None) ⊎ Rose (count_of o.shelf_before o.lines_before a.word) (count_of o.shelf_now o.lines_now a.word) → ⊥
-  not_read (inl none) = unread (told_of o.files o.left a.word) a.told none
-  not_read (inr rose) = count_stays a.word o.shelf_before o.shelf_now o.lines_before o.lines_now a.no_load_failed a.no_read_failed rose
+  not_read : (told_of o.world a.word ≡ absent) ⊎ Rose (count_of o.loads.before o.reads.before a.word) (count_of o.loads.now o.reads.now a.word) → ⊥
+  not_read (inl none) = unread (told_of o.world a.word) a.told none
+  not_read (inr rose) = count_stays a.word o.loads.before o.loads.now o.reads.before o.reads.now a.no_load_failed a.no_read_failed rose
 
   answered : (before now : Option (List ℕ)) (result : Status) → (result ≡ CannotWrite → Rose kb kn) → HasCause words o result ⊎ IsGameRun words o before now result → IsAnswered words o result
   answered before now Done rose h = inl refl
   answered before now Memory rose h = inr (inl refl)
   answered before now CannotWrite rose h = absurd (a.no_write_failed (rose refl))
-  answered before now TooManyLines rose (inr g) = inr (inr (refl, (g.engine, g.state, g.game, map_told _ _ o.left (λ bytes h. (h.0, h.2.0)) g.written)))
+  answered before now TooManyLines rose (inr g) = inr (inr (refl, (g.engine, g.state, g.game, map_told _ _ o.world.left (λ bytes h. (h.0, h.2.0)) g.written)))
   answered before now TooManyLines rose (inl h) = absurd h.1.4.3.2
   answered before now CannotRead rose (inr g) = absurd (a.no_read_failed (g.read refl))
   answered before now CannotRead rose (inl h) = absurd (not_read (own h.1.0 h.1.1 h.1.2 CannotRead h.0 h.1.3 h.1.4).0)
@@ -159,11 +159,11 @@ unengaged_done words o kb kn before now result (limits, (own, only, is, same)) c
     go (inr e) = inr (inl e)
 
 -- a session that no read and no write broke off
-engine_done : (words : List (List ℕ)) (o : Outside) (kb kn : ℕ) (before now : Option (List ℕ)) (result : Status) → IsEngineRun words o before now result → ¬ Rose o.lines_before o.lines_now → ¬ Rose kb kn
+engine_done : (words : List (List ℕ)) (o : Outside) (kb kn : ℕ) (before now : Option (List ℕ)) (result : Status) → IsEngineRun words o before now result → ¬ Rose o.reads.before o.reads.now → ¬ Rose kb kn
     → (result ≡ CannotWrite → Rose kb kn) → IsEngineDone words o result
 engine_done words o kb kn before now Done e read calm rose = inl refl
 engine_done words o kb kn before now Memory e read calm rose = inr (inl refl)
-engine_done words o kb kn before now TooManyLines e read calm rose = inr (inr (refl, (e.0, e.2.failing, e.1, e.2.failed, map_told _ _ o.left (λ bytes h. (h.0, h.2.0)) e.2.written)))
+engine_done words o kb kn before now TooManyLines e read calm rose = inr (inr (refl, (e.0, e.2.failing, e.1, e.2.failed, map_told _ _ o.world.left (λ bytes h. (h.0, h.2.0)) e.2.written)))
 engine_done words o kb kn before now CannotRead e read calm rose = absurd (read (e.2.read refl))
 engine_done words o kb kn before now CannotWrite e read calm rose = absurd (calm (rose refl))
 engine_done words o kb kn before now status.Usage e read calm rose = absurd e.2.ends

@@ -29,13 +29,13 @@ no_loads : (count : ℕ) → AreFailedLoads count count []
 no_loads count = record { ascending = search rules; counted = omega arith }
 
 -- no memory for an engine
-pub engine_refused : (limits : Limits) (o : Outside) (before : Option (List ℕ)) → o.shelf_now ≡ o.shelf_before → IsEnginePlay limits o before before Memory
+pub engine_refused : (limits : Limits) (o : Outside) (before : Option (List ℕ)) → o.loads.now ≡ o.loads.before → IsEnginePlay limits o before before Memory
 engine_refused limits o before same = record {
   failing = [];
-  failed = subst (λ n. AreFailedLoads o.shelf_before n []) (sym same) (no_loads o.shelf_before);
+  failed = subst (λ n. AreFailedLoads o.loads.before n []) (sym same) (no_loads o.loads.before);
   ends = tt;
   read = λ e. absurd cc;
-  written = told_written _ o.left (λ bytes is. ([], (beginning bytes, (0, (refl, refl), omega arith)), nothing_behind before));
+  written = told_written _ o.world.left (λ bytes is. ([], (beginning bytes, (0, (refl, refl), omega arith)), nothing_behind before));
 }
 
 stopped_whole : (limits : Limits) (files : Option Files) (failing bytes : List ℕ) (before now : Option (List ℕ)) (fault : Status) (text line : List ℕ) → IsEngineStopped limits files failing bytes fault text line
@@ -54,42 +54,42 @@ stopped_whole limits files failing bytes before now (status.BadFile f) text line
 stopped_whole limits files failing bytes before now (status.BadExpression f) text line h e = absurd h
 stopped_whole limits files failing bytes before now status.CalcLimit text line h e = absurd h
 
-module _ (limits : Limits) (o : Outside) (failing : List ℕ) (failed : AreFailedLoads o.shelf_before o.shelf_now failing) (before mid now : Option (List ℕ)) (result : Status) where
+module _ (limits : Limits) (o : Outside) (failing : List ℕ) (failed : AreFailedLoads o.loads.before o.loads.now failing) (before mid now : Option (List ℕ)) (result : Status) where
   -- a status that stands behind a session without a line of its own
-  pub ended : (own : Status) → IsEngineStatus own → own ≢ CannotRead → result ≡ own → now ≡ mid → ((bytes : List ℕ) → o.left ≡ Some bytes → IsEngineWritten limits o.files failing bytes before mid own)
+  pub ended : (own : Status) → IsEngineStatus own → own ≢ CannotRead → result ≡ own → now ≡ mid → ((bytes : List ℕ) → o.world.left ≡ Some bytes → IsEngineWritten limits o.world.files failing bytes before mid own)
       → IsEnginePlay limits o before now result
   ended own ends unread is same p = record {
     failing = failing;
     failed = failed;
     ends = subst IsEngineStatus (sym is) ends;
     read = λ e. absurd (unread (sym is ∙ e));
-    written = told_written _ o.left (λ bytes told. subst (λ r. IsEngineWritten limits o.files failing bytes before now r) (sym is)
-        (subst (λ x. IsEngineWritten limits o.files failing bytes before x own) (sym same) (p bytes told)));
+    written = told_written _ o.world.left (λ bytes told. subst (λ r. IsEngineWritten limits o.world.files failing bytes before now r) (sym is)
+        (subst (λ x. IsEngineWritten limits o.world.files failing bytes before x own) (sym same) (p bytes told)));
   }
 
   -- the line of a fault was written behind the replies, or a front part of it
-  pub stopped : (fault : Status) (line : List ℕ) (km kn : ℕ) → IsEngineStatus fault → (fault ≡ CannotRead → Rose o.lines_before o.lines_now)
-      → ((bytes : List ℕ) → o.left ≡ Some bytes → (text : List ℕ) × IsEngineStopped limits o.files failing bytes fault text line × (mid ≡ append_known before text))
+  pub stopped : (fault : Status) (line : List ℕ) (km kn : ℕ) → IsEngineStatus fault → (fault ≡ CannotRead → Rose o.reads.before o.reads.now)
+      → ((bytes : List ℕ) → o.world.left ≡ Some bytes → (text : List ℕ) × IsEngineStopped limits o.world.files failing bytes fault text line × (mid ≡ append_known before text))
       → IsFinished fault line km kn mid now result → IsEnginePlay limits o before now result
   stopped fault line km kn ends rose p (inl w) = record {
     failing = failing;
     failed = failed;
     ends = subst IsEngineStatus (sym w.0) ends;
     read = λ e. rose (sym w.0 ∙ e);
-    written = told_written _ o.left (λ bytes told. let h = p bytes told in subst (λ r. IsEngineWritten limits o.files failing bytes before now r) (sym w.0)
-        (stopped_whole limits o.files failing bytes before now fault h.0 line h.1 (w.1 ∙ ap (λ m. append_known m line) h.2 ∙ behind before h.0 line)));
+    written = told_written _ o.world.left (λ bytes told. let h = p bytes told in subst (λ r. IsEngineWritten limits o.world.files failing bytes before now r) (sym w.0)
+        (stopped_whole limits o.world.files failing bytes before now fault h.0 line h.1 (w.1 ∙ ap (λ m. append_known m line) h.2 ∙ behind before h.0 line)));
   }
   stopped fault line km kn ends rose p (inr w) = record {
     failing = failing;
     failed = failed;
     ends = subst IsEngineStatus (sym w.0) tt;
     read = λ e. absurd (let k : Path Status CannotWrite CannotRead = sym w.0 ∙ e in cc);
-    written = told_written _ o.left (λ bytes told. let h = p bytes told in subst (λ r. IsEngineWritten limits o.files failing bytes before now r) (sym w.0)
+    written = told_written _ o.world.left (λ bytes told. let h = p bytes told in subst (λ r. IsEngineWritten limits o.world.files failing bytes before now r) (sym w.0)
         (inr (fault, h.0, line, w.2.0, h.1, w.2.1 ∙ ap (λ m. append_known m (take w.2.0 line)) h.2 ∙ behind before h.0 (take w.2.0 line))));
   }
 
   -- the run of an engine, by the end of its session
-  pub engine_play : (final : GtpEnd) (km kn : ℕ) → ((bytes : List ℕ) → o.left ≡ Some bytes → IsRun limits o.files failing bytes before mid final) → (final ≡ end.ReadFault → Rose o.lines_before o.lines_now)
+  pub engine_play : (final : GtpEnd) (km kn : ℕ) → ((bytes : List ℕ) → o.world.left ≡ Some bytes → IsRun limits o.world.files failing bytes before mid final) → (final ≡ end.ReadFault → Rose o.reads.before o.reads.now)
       → IsClosed final km kn mid now result → IsEnginePlay limits o before now result
   engine_play end.Quit km kn p rose c = ended Done tt (λ e. absurd cc) c.0 c.1 (λ bytes told. let h = p bytes told in (end.Quit, h.1, tt, (h.0, h.2), h.3))
   engine_play end.InputEnded km kn p rose c = ended Done tt (λ e. absurd cc) c.0 c.1 (λ bytes told. let h = p bytes told in (end.InputEnded, h.1, tt, (h.0, h.2), h.3))
@@ -100,11 +100,11 @@ module _ (limits : Limits) (o : Outside) (failing : List ℕ) (failed : AreFaile
 
 -- the same of an engine that had answered nothing
 pub engine_ran : (limits : Limits) (o : Outside) (start over : EngineView) (before mid now : Option (List ℕ)) (result : Status) (final : GtpEnd) (km kn : ℕ) → start ≡ unused limits → AreLoads over.loads over.failed_loads
-    → RoseBy (length over.failed_loads) o.shelf_before o.shelf_now → ((bytes : List ℕ) → o.left ≡ Some bytes → IsRun start.limits o.files over.failed_loads bytes before mid final)
-    → (final ≡ end.ReadFault → Rose o.lines_before o.lines_now) → IsClosed final km kn mid now result → IsEnginePlay limits o before now result
+    → RoseBy (length over.failed_loads) o.loads.before o.loads.now → ((bytes : List ℕ) → o.world.left ≡ Some bytes → IsRun start.limits o.world.files over.failed_loads bytes before mid final)
+    → (final ≡ end.ReadFault → Rose o.reads.before o.reads.now) → IsClosed final km kn mid now result → IsEnginePlay limits o before now result
 engine_ran limits o start over before mid now result final km kn is numbered counted p rose c =
     engine_play limits o over.failed_loads (record { ascending = numbered.ascending; counted = counted }) before mid now result final km kn
-    (λ bytes told. subst (λ l. IsRun l o.files over.failed_loads bytes before mid final) (ap (λ e. e.limits) is) (p bytes told)) rose c
+    (λ bytes told. subst (λ l. IsRun l o.world.files over.failed_loads bytes before mid final) (ap (λ e. e.limits) is) (p bytes told)) rose c
 
 -- what a session took of its source
 pub session_taken : (before now : Option (List ℕ)) → (held : List ℕ) × (length held ≤ 1024) × UsesLines 1024 0 10000 [] before held now → TakesAtMost 10241024 before now

@@ -37,10 +37,10 @@ game_modest job limits e few = subst (λ l. l.positions ≤ 1000000) (sym e) few
 
 -- a game that was opened, and its run
 pub opened_game : (limits : Limits) (given : Option Colour) (settings : Settings) (word : List ℕ) (o : Outside) (b n kb kn : ℕ) (before now : Option (List ℕ)) (result : Status) (opened : Opened) (session : SessionState)
-    → opened ≡ Game session → IsOpened limits given (told_of o.files o.left word) b n settings opened → IsPlayRun session.engine session.state o.left o.lines_before o.lines_now kb kn before now result
+    → opened ≡ Game session → IsOpened limits given (told_of o.world word) b n settings opened → IsPlayRun session.engine session.state o.world.left o.reads.before o.reads.now kb kn before now result
     → IsPlayedGame limits given settings word o kb kn before now result
 opened_game limits given settings word o b n kb kn before now result opened session e h run =
-    let k : IsOpened limits given (told_of o.files o.left word) b n settings (Game session) = subst (λ x. IsOpened limits given (told_of o.files o.left word) b n settings x) e h in
+    let k : IsOpened limits given (told_of o.world word) b n settings (Game session) = subst (λ x. IsOpened limits given (told_of o.world word) b n settings x) e h in
     (k.0, session.engine, session.state, k.1, k.2, k.3, run)
 
 -- what a game comes to, by the job

@@ -87,7 +87,7 @@ module _ (engine : Colour) (s : State) (bytes : List ℕ) (before now : Option (
   won_game status.CalcLimit begun h = absurd begun
 
 pub plays_won : (words : List (List ℕ)) (o : Outside) (before now : Option (List ℕ)) (result : Status) → IsWritten words o before now result ⊎ IsGameRun words o before now result
-    → IsWritten words o before now result ⊎ PlaysWon words o before now
+    → IsWritten words o before now result ⊎ PlaysWon words o.world before now
 plays_won words o before now result (inl w) = inl w
 plays_won words o before now result (inr g) =
-    inr (g.engine, g.state, g.game, λ wins. map_told _ _ o.left (λ bytes h. won_game g.engine g.state bytes before now wins result g.begun h) g.written)
+    inr (g.engine, g.state, g.game, λ wins. map_told _ _ o.world.left (λ bytes h. won_game g.engine g.state bytes before now wins result g.begun h) g.written)

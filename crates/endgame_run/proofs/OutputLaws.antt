@@ -21,10 +21,10 @@ part_output words o before now CannotWrite (inl w) ne = inl w
 part_output words o before now CannotWrite (inr g) ne = inr (g.engine, g.state, g.game, g.written)
 part_output words o before now CannotRead (inl w) ne = inl w
 part_output words o before now CannotRead (inr g) ne =
-    inr (g.engine, g.state, g.game, map_told _ _ o.left (λ bytes h. (h.0, h.2.0, h.3 ∙ ap (λ l. append_known before (h.0 ++ l)) h.2.1)) g.written)
+    inr (g.engine, g.state, g.game, map_told _ _ o.world.left (λ bytes h. (h.0, h.2.0, h.3 ∙ ap (λ l. append_known before (h.0 ++ l)) h.2.1)) g.written)
 part_output words o before now TooManyLines (inl w) ne = absurd w.1.4.3.2
 part_output words o before now TooManyLines (inr g) ne =
-    (g.engine, g.state, g.game, map_told _ _ o.left (λ bytes h. (h.0, h.2.0, h.3 ∙ ap (λ l. append_known before (h.0 ++ l)) h.2.1)) g.written)
+    (g.engine, g.state, g.game, map_told _ _ o.world.left (λ bytes h. (h.0, h.2.0, h.3 ∙ ap (λ l. append_known before (h.0 ++ l)) h.2.1)) g.written)
 part_output words o before now status.Usage (inl w) ne = w
 part_output words o before now status.Cycle (inl w) ne = w
 part_output words o before now status.RegionLimit (inl w) ne = w

@@ -1,5 +1,6 @@
 -- How many steps a run takes.
 use Rattle.std.proofs.Common.{◌≡◌, ℕ, ◌≤◌, ◌+◌, ◌⊎◌, inl, inr, refl, sym, ap, subst, ◌∙◌, arith, List, Some, None, Ok}
+use Rattle.desk_io.specs.Files.Told.{holding}
 use Rattle.std.specs.Prelude.{Option}
 use Rattle.go_grid.specs.Region.{Region}
 use Rattle.sgf_go.specs.declared.settings.Setup.{Setup}
@@ -13,7 +14,7 @@ use Rattle.endgame_solver.specs.Faults.{most_steps}
 use Rattle.region_cut.specs.Cut.{AreRegionsOfPlay}
 use Rattle.endgame_run.specs.declared.question.Question.{Question}
 use Rattle.endgame_run.specs.declared.question.Question.TheVariants as question
-use Rattle.sgf_go.specs.File.{IsTold}
+use Rattle.desk_io.specs.Files.{IsTold}
 use Rattle.endgame_run.specs.File.{told_of}
 use Rattle.desk_io.specs.Files.{Files}
 use Rattle.sgf_go.specs.File.{Reads}
@@ -28,9 +29,9 @@ modest job (question.Solve limits) word a few = subst (λ l. l.positions ≤ 100
 modest job (question.Values limits) word a few = subst (λ l. l.positions ≤ 1000000) (sym a.1) few
 modest job question.Safe word a few = tt
 
-pub run_steps : (words : List (List ℕ)) (files : Option Files) (left : Option (List ℕ)) (job : JobView) (q : Question) (word : List ℕ) (before now : ℕ) → Pose words job q word → AreToldSteps q (told_of files left word) job.settings before now → AreSteps words files left before now
-run_steps words files left job q word before now a (inl e) = inl e
-run_steps words files left job q word before now a (inr h) = inr (inl (job, q, word, h.0, h.1, a, h.2, h.3, h.4))
+pub run_steps : (words : List (List ℕ)) (w : World) (job : JobView) (q : Question) (word : List ℕ) (before now : ℕ) → Pose words job q word → AreToldSteps q (told_of w word) job.settings before now → AreSteps words w before now
+run_steps words w job q word before now a (inl e) = inl e
+run_steps words w job q word before now a (inr h) = inr (inl (job, q, word, h.0, h.1, a, h.2, h.3, h.4))
 
 -- the file that a task is about
 abbrev file_of : Task → Option (List ℕ)
@@ -69,32 +70,32 @@ with_limits (question.Solve limits) setup before now s = inr (limits, refl, s)
 with_limits (question.Values limits) setup before now s = inr (limits, refl, s)
 
 -- no steps where no regions are needed
-pub no_steps : (words : List (List ℕ)) (files : Option Files) (left : Option (List ℕ)) (before now : ℕ) → AreSteps words files left before now → ¬ NeedRegions words → now ≡ before
-no_steps words files left before now (inl e) none = e
-no_steps words files left before now (inr (inr (number, a, s))) none = absurd (none (inr (number, a)))
-no_steps words files left before now (inr (inl (job, q, word, file, setup, a, told, reads, s))) none = go (with_limits q setup before now s) where
+pub no_steps : (words : List (List ℕ)) (w : World) (before now : ℕ) → AreSteps words w before now → ¬ NeedRegions words → now ≡ before
+no_steps words w before now (inl e) none = e
+no_steps words w before now (inr (inr (number, a, s))) none = absurd (none (inr (number, a)))
+no_steps words w before now (inr (inl (job, q, word, file, setup, a, told, reads, s))) none = go (with_limits q setup before now s) where
   go : (now ≡ before) ⊎ ((limits : Limits) × HasLimits q limits × ((regions : List Region) → AreRegionsOfPlay setup.board regions → now ≤ before + most_steps limits regions)) → now ≡ before
   go (inl e) = e
   go (inr (limits, h, few)) = absurd (none (inl (job, q, word, a, subst (HasLimits q) (posed words job q limits word a h).2 h)))
 
 -- the steps for a position, of a file that is told or of a number
-pub steps_told : (words : List (List ℕ)) (files : Option Files) (left : Option (List ℕ)) (before now : ℕ) → AreSteps words files left before now → (limits : Limits) (setup : Setup) (regions : List Region)
-    → AreNeededRegions words files left limits setup
+pub steps_told : (words : List (List ℕ)) (w : World) (before now : ℕ) → AreSteps words w before now → (limits : Limits) (setup : Setup) (regions : List Region)
+    → AreNeededRegions words w limits setup
     → AreRegionsOfPlay setup.board regions → now ≤ before + most_steps limits regions
-steps_told words files left before now (inl e) limits setup regions t are = omega (arith, e)
-steps_told words files left before now (inr (inl (job, q, word, file, position, a, told, reads, s))) limits setup regions (inr (number, b, here, default)) are =
+steps_told words w before now (inl e) limits setup regions t are = omega (arith, e)
+steps_told words w before now (inr (inl (job, q, word, file, position, a, told, reads, s))) limits setup regions (inr (number, b, here, default)) are =
     absurd (trial_unposed words number job q word b a)
-steps_told words files left before now (inr (inr (number, a, s))) limits setup regions (inl t) are = absurd (trial_unposed words number t.job t.question t.word a t.asks)
-steps_told words files left before now (inr (inr (number, a, inl e))) limits setup regions (inr w) are = omega (arith, e)
-steps_told words files left before now (inr (inr (number, a, inr (position, drawn, few)))) limits setup regions (inr (other, b, here, default)) are =
+steps_told words w before now (inr (inr (number, a, s))) limits setup regions (inl t) are = absurd (trial_unposed words number t.job t.question t.word a t.asks)
+steps_told words w before now (inr (inr (number, a, inl e))) limits setup regions (inr w) are = omega (arith, e)
+steps_told words w before now (inr (inr (number, a, inr (position, drawn, few)))) limits setup regions (inr (other, b, here, default)) are =
     let board = one_board number position.board setup.board drawn.board (subst (λ n. IsTrialBoard n setup.board) (one_number words other number b a) here.board) in
     subst (λ l. now ≤ before + most_steps l regions) (sym default) (few regions (subst (λ g. AreRegionsOfPlay g regions) (sym board) are))
-steps_told words files left before now (inr (inl (job, q, word, file, position, a, told, reads, s))) limits setup regions (inl t) are = go (with_limits q position before now s) where
+steps_told words w before now (inr (inl (job, q, word, file, position, a, told, reads, s))) limits setup regions (inl t) are = go (with_limits q position before now s) where
   go : (now ≡ before) ⊎ ((most : Limits) × HasLimits q most × ((rs : List Region) → AreRegionsOfPlay position.board rs → now ≤ before + most_steps most rs)) → now ≤ before + most_steps limits regions
   go (inl e) = omega (arith, e)
   go (inr (most, h, few)) =
       let one = one_file words t.job job t.question q limits most t.word word t.asks t.limited a h in
-      let known : IsTold (Some (Some t.file)) file = subst (λ x. IsTold x file) (ap (told_of files left) one.1 ∙ t.told) told in
+      let known : IsTold (holding t.file) file = subst (λ x. IsTold x file) (ap (told_of w) one.1 ∙ t.told) told in
       let file_is : t.file ≡ file = cc in
       let read : Reads t.file t.job.settings (Ok position) = subst (λ f. Reads f t.job.settings (Ok position)) (sym file_is) (subst (λ j. Reads file j.settings (Ok position)) one.0 reads) in
       let position_is : position ≡ setup = one_setup t.file t.job.settings position setup read t.reads in

@@ -13,8 +13,8 @@ use Rattle.endgame_run.specs.declared.status.Status.{Status}
 use Rattle.endgame_run.specs.declared.status.Status.TheVariants.{Done, Usage, CannotRead, CannotWrite, BadFile, Memory, TooManyLines, TooLong}
 use Rattle.endgame_run.specs.declared.status.Status.TheVariants as status
 use Rattle.gd_words.specs.Job.{JobView}
-use Rattle.sgf_go.specs.File.{IsTold}
-use Rattle.endgame_run.specs.File.{Outside, IsWhole, dash, told_source, told_of, count_of}
+use Rattle.desk_io.specs.Files.{Told, IsTold, told_source}
+use Rattle.endgame_run.specs.File.{Outside, IsWhole, dash, told_of, count_of}
 use Rattle.endgame_run.specs.declared.question.Question.{Question}
 use Rattle.endgame_run.specs.declared.question.Question.TheVariants.{Solve}
 use Rattle.endgame_solver.specs.declared.limits.Limits.{Limits}
@@ -32,10 +32,10 @@ use Rattle.std.proofs.Common.{Bool, true, false, ◌≢◌}
 use Rattle.std.specs.Str.{bytes_eq}
 use Rattle.std.proofs.lemmas.Slice.Eq.{bytes_eq-Decides}
 use Rattle.endgame_run.specs.Top.{IsBegun, IsFileRun, IsFinished, IsOpened}
-use Rattle.endgame_run.specs.Verdict.{IsPositionAnswer, IsRefusalOf, IsRefused, IsAnswer, AreToPlay, AskAbout, IsDecided, HasCause, IsWritten, limits_of}
+use Rattle.endgame_run.specs.Verdict.{IsAnswerOn, IsPositionAnswer, IsRefusalOf, IsRefused, IsAnswer, AreToPlay, AskAbout, IsDecided, HasCause, IsWritten, limits_of}
 
 -- a position's status is an answer about its file
-pub position_answer : (q : Question) (told : Option (Option (List ℕ))) (before now : ℕ) (settings : Settings) (setup : Setup) (s : Status) (text : List ℕ)
+pub position_answer : (q : Question) (told : Told) (before now : ℕ) (settings : Settings) (setup : Setup) (s : Status) (text : List ℕ)
     → IsPositionOf told settings setup → IsPositionAnswer q setup s text → IsAnswer q told before now settings s text
 position_answer q told before now settings setup Done text p h = (p.file, p.told_so, p.short, (setup, p.reads, h))
 position_answer q told before now settings setup status.Cycle text p h = (p.file, p.told_so, p.short, (setup, p.reads, h))
@@ -51,12 +51,12 @@ position_answer q told before now settings setup (BadFile f) text p h = absurd h
 position_answer q told before now settings setup (status.BadExpression f) text p h = absurd h
 position_answer q told before now settings setup status.CalcLimit text p h = absurd h
 
-pub found_position : (told : Option (Option (List ℕ))) (before now : ℕ) (settings : Settings) (found : Found) (setup : Setup) → found ≡ Position setup
+pub found_position : (told : Told) (before now : ℕ) (settings : Settings) (found : Found) (setup : Setup) → found ≡ Position setup
     → IsFound told before now settings found → IsPositionOf told settings setup
 found_position told before now settings found setup e h = (subst (λ f. IsFound told before now settings f) e h).0
 
 -- a fault of a file is the answer to each question about it, which isn't answered
-pub fault_answer : (q : Question) (told : Option (Option (List ℕ))) (before now : ℕ) (settings : Settings) (s : Status) (text : List ℕ)
+pub fault_answer : (q : Question) (told : Told) (before now : ℕ) (settings : Settings) (s : Status) (text : List ℕ)
     → IsFileFault told before now settings s text → IsAnswer q told before now settings s text
 fault_answer q told before now settings CannotRead text h = h
 fault_answer q told before now settings TooLong text h = h
@@ -72,7 +72,7 @@ fault_answer q told before now settings Memory text h = absurd h
 fault_answer q told before now settings (status.BadExpression f) text h = absurd h
 fault_answer q told before now settings status.CalcLimit text h = absurd h
 
-pub fault_undone : (told : Option (Option (List ℕ))) (before now : ℕ) (settings : Settings) (s : Status) (text : List ℕ) → IsFileFault told before now settings s text → s ≢ Done
+pub fault_undone : (told : Told) (before now : ℕ) (settings : Settings) (s : Status) (text : List ℕ) → IsFileFault told before now settings s text → s ≢ Done
 fault_undone told before now settings s text h e = subst (λ x. IsFileFault told before now settings x text) e h
 
 -- a position that isn't solved is the answer to that question, which isn't answered
@@ -98,7 +98,7 @@ pub refused_answer : (limits : Limits) (setup : Setup) (s : Status) (text : List
 refused_answer limits setup s text r = refused_question (Solve limits) limits setup s text (λ t x. x) r
 
 -- a position that was begun, or refused, of a file
-pub begun_opened : (limits : Limits) (given : Option Colour) (told : Option (Option (List ℕ))) (before now : ℕ) (settings : Settings) (setup : Setup) (opened : Opened)
+pub begun_opened : (limits : Limits) (given : Option Colour) (told : Told) (before now : ℕ) (settings : Settings) (setup : Setup) (opened : Opened)
     → IsPositionOf told settings setup → IsBegun limits given setup opened → IsOpened limits given told before now settings opened
 begun_opened limits given told before now settings setup (opened.Game session) p h = (setup, p, h.0, h.1, h.2)
 begun_opened limits given told before now settings setup (opened.Fault report) p r =
@@ -108,7 +108,7 @@ pub told_is : (before now : Option (List ℕ)) (file : List ℕ) → IsWhole bef
 told_is None now file w = tt
 told_is (Some bytes) now file w = let e : now ≡ Some [] = w.end in
     let f : Path (Option (List ℕ)) (Some bytes) (Some (file ++ [])) = w.all ∙ ap (prepend_known file) e in
-    let g : bytes ≡ file ++ [] = cc in ap Some (g ∙ append-nil file)
+    let g : bytes ≡ file ++ [] = cc in g ∙ append-nil file
 
 -- a decided status with its text, written
 written_whole : (words : List (List ℕ)) (o : Outside) (before now : Option (List ℕ)) (s : Status) (text : List ℕ) → IsDecided words o s text → now ≡ append_known before text → IsWritten words o before now s
@@ -153,7 +153,7 @@ caused words o kb kn before now s text result d (inr f) = subst (λ r. HasCause 
 
 -- an answer to words that ask about a file
 pub decided : (words : List (List ℕ)) (o : Outside) (job : JobView) (q : Question) (word : List ℕ) (s : Status) (text : List ℕ) → AskAbout words job q word
-    → IsAnswer q (told_of o.files o.left word) (count_of o.shelf_before o.lines_before word) (count_of o.shelf_now o.lines_now word) job.settings s text → IsDecided words o s text
+    → IsAnswerOn q o word job.settings s text → IsDecided words o s text
 decided words o job q word Done text a h = inl (job, q, word, a, h)
 decided words o job q word status.Cycle text a h = (job, q, word, inl a, h)
 decided words o job q word status.RegionLimit text a h = (job, q, word, inl a, h)
@@ -170,7 +170,7 @@ decided words o job q word status.CalcLimit text a h = absurd h.3.2
 
 -- what keeps a file from being solved keeps it from being played
 pub undone : (words : List (List ℕ)) (o : Outside) (job : JobView) (word : List ℕ) (s : Status) (text : List ℕ) → AreToPlay words job word → s ≢ Done
-    → IsAnswer (Solve (limits_of job)) (told_of o.files o.left word) (count_of o.shelf_before o.lines_before word) (count_of o.shelf_now o.lines_now word) job.settings s text
+    → IsAnswerOn (Solve (limits_of job)) o word job.settings s text
     → IsDecided words o s text
 undone words o job word Done text a n h = absurd (n refl)
 undone words o job word status.Cycle text a n h = (job, Solve (limits_of job), word, inr (a, refl), h)

@@ -21,7 +21,7 @@ use Rattle.endgame_run.specs.declared.question.Question.TheVariants as question
 use Rattle.endgame_run.specs.File.{Outside, told_of, count_of}
 use Rattle.endgame_run.specs.Solution.{IsSolution}
 use Rattle.endgame_run.specs.Top.{IsFileRun, IsFinished}
-use Rattle.endgame_run.specs.Verdict.{IsPosed, IsAnswer, AreToSolve, AskAbout, AskToSolve, IsDecided, IsDecidedAlone, HasLine, WritesWinner, WritesMove, limits_of}
+use Rattle.endgame_run.specs.Verdict.{IsAnswerOn, IsPosed, IsAnswer, AreToSolve, AskAbout, AskToSolve, IsDecided, IsDecidedAlone, HasLine, WritesWinner, WritesMove, limits_of}
 use Rattle.endgame_run.proofs.PoseLaws.{alone_unposed}
 use Rattle.endgame_run.proofs.TopLaws.{decided, done_text}
 
@@ -59,7 +59,7 @@ pub record Posed (words : List (List ℕ)) (o : Outside) (before now : Option (L
   pub numbers : List ℕ
   pub winner : Colour
   pub move : Option Move
-  pub posed : IsPosed words o setup state
+  pub posed : IsPosed words o.world setup state
   pub solution : IsSolution setup posed.job.tax state winner move
   pub text : now ≡ append_known before (solve_text state regions numbers winner move)
 
@@ -74,7 +74,7 @@ one_question words job other question.Safe word w a b =
     let k : Path Task (solve w) (safe word) = sym b.1.0 ∙ ap (λ j. j.task) same ∙ a.1 in absurd cc
 
 solution_from : (words : List (List ℕ)) (o : Outside) (job : JobView) (limits : Limits) (word : List ℕ) (before now : Option (List ℕ)) (text : List ℕ) → AskAbout words job (question.Solve limits) word
-    → IsAnswer (question.Solve limits) (told_of o.files o.left word) (count_of o.shelf_before o.lines_before word) (count_of o.shelf_now o.lines_now word) job.settings Done text
+    → IsAnswerOn (question.Solve limits) o word job.settings Done text
     → now ≡ append_known before text → Posed words o before now
 solution_from words o job limits word before now text a h e =
     let t = h.3 in let v = t.2 in
@@ -99,14 +99,14 @@ posed_done words o before now text (inr d) e asked = absurd (file_asked words te
 posed_done words o before now text (inl h) e asked =
     let q = one_question words h.0 asked.0 h.1 h.2 asked.1 h.3 asked.2 in
     solution_from words o h.0 q.0 h.2 before now text (subst (λ k. AskAbout words h.0 k h.2) q.1 h.3)
-    (subst (λ k. IsAnswer k (told_of o.files o.left h.2) (count_of o.shelf_before o.lines_before h.2) (count_of o.shelf_now o.lines_now h.2) h.0.settings Done text) q.1 h.4) e
+    (subst (λ k. IsAnswerOn k o h.2 h.0.settings Done text) q.1 h.4) e
 
 posed_by : (words : List (List ℕ)) (o : Outside) (kb kn : ℕ) (before now : Option (List ℕ)) (s : Status) (text : List ℕ) (result : Status)
     → IsDecided words o s text → IsFinished s text kb kn before now result → result ≡ Done → AskToSolve words → Posed words o before now
 posed_by words o kb kn before now s text result a f e asked =
     let d = done_text words o kb kn before now s text result a f e in posed_done words o before now text d.0 d.1 asked
 
-winner_of : (words : List (List ℕ)) (o : Outside) (before now : Option (List ℕ)) → Posed words o before now → WritesWinner words o before now
+winner_of : (words : List (List ℕ)) (o : Outside) (before now : Option (List ℕ)) → Posed words o before now → WritesWinner words o.world before now
 winner_of words o before now p = (
   p.setup,
   p.state,
@@ -116,7 +116,7 @@ winner_of words o before now p = (
   subst (λ n. HasLine before n (winner_line p.winner)) (sym p.text) (winner_stands before p.state p.regions p.numbers p.winner p.move),
 )
 
-move_of : (words : List (List ℕ)) (o : Outside) (before now : Option (List ℕ)) → Posed words o before now → WritesMove words o before now
+move_of : (words : List (List ℕ)) (o : Outside) (before now : Option (List ℕ)) → Posed words o before now → WritesMove words o.world before now
 move_of words o before now p = (
   p.setup,
   p.state,
@@ -132,9 +132,9 @@ run_posed words o job q word kb kn before now result a (inl m) e asked = absurd 
 run_posed words o job q word kb kn before now result a (inr h) e asked = posed_by words o kb kn before now h.0 h.1 result (decided words o job q word h.0 h.1 a h.2) h.3 e asked
 
 pub run_winner : (words : List (List ℕ)) (o : Outside) (job : JobView) (q : Question) (word : List ℕ) (kb kn : ℕ) (before now : Option (List ℕ)) (result : Status)
-    → AskAbout words job q word → IsFileRun q job.settings word o kb kn before now result → result ≡ Done → AskToSolve words → WritesWinner words o before now
+    → AskAbout words job q word → IsFileRun q job.settings word o kb kn before now result → result ≡ Done → AskToSolve words → WritesWinner words o.world before now
 run_winner words o job q word kb kn before now result a h e asked = winner_of words o before now (run_posed words o job q word kb kn before now result a h e asked)
 
 pub run_move : (words : List (List ℕ)) (o : Outside) (job : JobView) (q : Question) (word : List ℕ) (kb kn : ℕ) (before now : Option (List ℕ)) (result : Status)
-    → AskAbout words job q word → IsFileRun q job.settings word o kb kn before now result → result ≡ Done → AskToSolve words → WritesMove words o before now
+    → AskAbout words job q word → IsFileRun q job.settings word o kb kn before now result → result ≡ Done → AskToSolve words → WritesMove words o.world before now
 run_move words o job q word kb kn before now result a h e asked = move_of words o before now (run_posed words o job q word kb kn before now result a h e asked)

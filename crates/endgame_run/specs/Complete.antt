@@ -1,5 +1,6 @@
 -- When a run is answered: nothing keeps it from its text but want of memory.
 use Rattle.std.specs.Prelude.{◌≡◌, ◌⊎◌, ◌<◌, ℕ, List, length, ⊤, Some, Ok}
+use Rattle.desk_io.specs.Files.Told.{holding}
 use Rattle.go_grid.specs.Region.{Region}
 use Rattle.desk_io.specs.Outside.{Rose}
 use Rattle.sgf_go.specs.declared.settings.Setup.{Setup}
@@ -40,18 +41,18 @@ pub record IsAnswerable (words : List (List ℕ)) (o : Outside) (writes writes_n
   pub file : List ℕ
   pub setup : Setup
   pub asks : Pose words job question word
-  pub told : told_of o.files o.left word ≡ Some (Some file)
+  pub told : told_of o.world word ≡ holding file
   pub short : IsShort file
   pub reads : Reads file job.settings (Ok setup)
   pub within : IsWithinLimits question setup
-  pub no_load_failed : ¬ Rose o.shelf_before o.shelf_now
-  pub no_read_failed : ¬ Rose o.lines_before o.lines_now
+  pub no_load_failed : ¬ Rose o.loads.before o.loads.now
+  pub no_read_failed : ¬ Rose o.reads.before o.reads.now
   pub no_write_failed : ¬ Rose writes writes_now
 
 -- the run is done, or memory was wanted; a game may also have come to 10,000 lines, where the session over the bytes ends so
 abbrev pub IsAnswered : List (List ℕ) → Outside → Status → Type 0
 IsAnswered words o status = (status ≡ Done) ⊎ ((status ≡ Memory)
-    ⊎ ((status ≡ TooManyLines) × InGame words o (λ engine s bytes. (text : List ℕ) × IsSessionOf engine s bytes end.TooManyLines text)))
+    ⊎ ((status ≡ TooManyLines) × InGame words o.world (λ engine s bytes. (text : List ℕ) × IsSessionOf engine s bytes end.TooManyLines text)))
 
 -- no refusal meets the expression within the limit of parts
 abbrev pub IsUnrefused : ℕ → List ℕ → Type 0
@@ -68,12 +69,12 @@ IsAnswerableAlone words writes writes_now = AreAnswerable words × ¬ Rose write
 
 -- the words ask for the engine, and no read and no write has failed
 abbrev pub IsUnhindered : List (List ℕ) → Outside → ℕ → ℕ → Type 0
-IsUnhindered words o writes writes_now = AskForEngine words × (¬ Rose o.lines_before o.lines_now) × (¬ Rose writes writes_now)
+IsUnhindered words o writes writes_now = AskForEngine words × (¬ Rose o.reads.before o.reads.now) × (¬ Rose writes writes_now)
 
 -- the engine is done, or memory was wanted, or 10,000 lines were read, where the session over the bytes ends so
 abbrev pub IsEngineDone : List (List ℕ) → Outside → Status → Type 0
 IsEngineDone words o status = (status ≡ Done) ⊎ ((status ≡ Memory)
-    ⊎ ((status ≡ TooManyLines) × InEngine words o (λ limits failing bytes. (text : List ℕ) × IsEngineSession limits o.files failing bytes gtp_end.TooManyLines text)))
+    ⊎ ((status ≡ TooManyLines) × InEngine words o (λ limits failing bytes. (text : List ℕ) × IsEngineSession limits o.world.files failing bytes gtp_end.TooManyLines text)))
 
 -- Where nothing keeps the run from its text, it is answered; what depends on the words alone is done, or memory was wanted. A load that
 -- fails keeps the engine from nothing.

@@ -79,10 +79,10 @@ IsEngineWritten limits files failing bytes before now status =
 -- that failed was counted.
 pub record IsEnginePlay (limits : Limits) (o : Outside) (before now : Option (List ℕ)) (status : Status) : Type 0 where
   pub failing : List ℕ
-  pub failed : AreFailedLoads o.shelf_before o.shelf_now failing
+  pub failed : AreFailedLoads o.loads.before o.loads.now failing
   pub ends : IsEngineStatus status
-  pub read : status ≡ CannotRead → Rose o.lines_before o.lines_now
-  pub written : IfSome o.left (λ bytes. IsEngineWritten limits o.files failing bytes before now status)
+  pub read : status ≡ CannotRead → Rose o.reads.before o.reads.now
+  pub written : IfSome o.world.left (λ bytes. IsEngineWritten limits o.world.files failing bytes before now status)
 
 -- the same, for the words that ask for it
 abbrev pub IsEngineRun : List (List ℕ) → Outside → Option (List ℕ) → Option (List ℕ) → Status → Type 0
@@ -94,5 +94,5 @@ IsKeptRun words o before now status = IsEngineRun words o before now status × W
 
 -- the words ask for the engine, and where the source tells its bytes this holds of the limits, of some loads that failed and of the bytes
 abbrev pub InEngine : List (List ℕ) → Outside → (Limits → List ℕ → List ℕ → Type 0) → Type 0
-InEngine words o holds = (limits : Limits) × (failing : List ℕ) × AreForEngine words limits × AreFailedLoads o.shelf_before o.shelf_now failing
-    × IfSome o.left (λ bytes. holds limits failing bytes)
+InEngine words o holds = (limits : Limits) × (failing : List ℕ) × AreForEngine words limits × AreFailedLoads o.loads.before o.loads.now failing
+    × IfSome o.world.left (λ bytes. holds limits failing bytes)

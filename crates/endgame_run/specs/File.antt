@@ -1,9 +1,8 @@
 -- A file that is read to its end: from the source where its word is `-`, and else from the shelf.
 use Rattle.std.specs.Prelude.{◌≡◌, ◌≤◌, ◌++◌, ℕ, List, length, codes, Option, Some, if◌then◌else◌}
-use Rattle.std.specs.Option.{option_map}
 use Rattle.std.specs.Str.{bytes_eq}
 use Rattle.std.specs.Io.KnownBytes.{prepend_known}
-use Rattle.desk_io.specs.Files.{Files, told_file}
+use Rattle.desk_io.specs.Files.{Files, Told, told_file, told_source}
 use Rattle.desk_io.specs.Outside.{ended}
 use Rattle.sgf_go.specs.File.{IsShort}
 
@@ -21,32 +20,34 @@ TakesAtMost most before now = (bytes : List ℕ) → before ≡ Some bytes → (
 abbrev pub dash : List ℕ
 dash = codes "-"
 
--- what the two objects tell and how often each has failed, before a run and now
-pub record Outside : Type 0 where
+-- what the world tells: the files of the shelf, and the bytes that the source has left
+pub record World : Type 0 where
   pub files : Option Files
   pub left : Option (List ℕ)
-  pub shelf_before : ℕ
-  pub shelf_now : ℕ
-  pub lines_before : ℕ
-  pub lines_now : ℕ
 
-abbrev pub outside : Option Files → Option (List ℕ) → ℕ → ℕ → ℕ → ℕ → Outside
-outside files left shelf_before shelf_now lines_before lines_now = record {
-  files = files;
-  left = left;
-  shelf_before = shelf_before;
-  shelf_now = shelf_now;
-  lines_before = lines_before;
-  lines_now = lines_now;
-}
+-- how often an object had failed before a run, and how often it has now
+pub record Faults : Type 0 where
+  pub before : ℕ
+  pub now : ℕ
 
--- what a source tells of the file that it has left
-abbrev pub told_source : Option (List ℕ) → Option (Option (List ℕ))
-told_source left = option_map (λ bytes. Some bytes) left
+-- what the world tells, and how often the shelf and the source have failed
+pub record Outside : Type 0 where
+  pub world : World
+  pub loads : Faults
+  pub reads : Faults
 
--- what is told of the file of a word: nothing, that there is none, or its bytes
-abbrev pub told_of : Option Files → Option (List ℕ) → List ℕ → Option (Option (List ℕ))
-told_of files left word = if bytes_eq word dash then told_source left else told_file files word
+abbrev pub world : Option Files → Option (List ℕ) → World
+world files left = record { files = files; left = left }
+
+abbrev pub faults : ℕ → ℕ → Faults
+faults before now = record { before = before; now = now }
+
+abbrev pub outside : World → Faults → Faults → Outside
+outside world loads reads = record { world = world; loads = loads; reads = reads }
+
+-- what is told of the file of a word
+abbrev pub told_of : World → List ℕ → Told
+told_of w word = if bytes_eq word dash then told_source w.left else told_file w.files word
 
 -- the count of the object that holds the file of a word
 abbrev pub count_of : ℕ → ℕ → List ℕ → ℕ

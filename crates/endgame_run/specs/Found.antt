@@ -1,5 +1,6 @@
 -- The position that a file gives, or what is wrong with the file.
 use Rattle.std.specs.Prelude.{◌≡◌, ◌≤◌, ◌⊎◌, ℕ, List, codes, Option, Some, None, Ok, Err, IfSome}
+use Rattle.desk_io.specs.Files.Told.{absent}
 use Rattle.desk_io.specs.Outside.{Rose}
 use Rattle.sgf_tree.specs.Grammar.{PropertyText}
 use Rattle.sgf_go.specs.Komi.{IsInRange}
@@ -14,7 +15,8 @@ use Rattle.endgame_run.specs.declared.status.Status.{Status}
 use Rattle.endgame_run.specs.declared.status.Status.TheVariants.{BadFile, CannotRead, TooLong}
 use Rattle.endgame_run.specs.declared.question.Found.{Found}
 use Rattle.endgame_run.specs.declared.question.Found.TheVariants.{Position, Fault}
-use Rattle.sgf_go.specs.File.{IsShort, IsTold, IsTooLong}
+use Rattle.desk_io.specs.Files.{Told, IsLonger, IsTold}
+use Rattle.sgf_go.specs.File.{IsShort}
 use Rattle.sgf_go.specs.File.{Reads}
 use Rattle.endgame_run.specs.Position.{IsFaultText, IsSetupFaultText}
 
@@ -35,20 +37,20 @@ IsFileFound file settings (Position setup) = Reads file settings (Ok setup) × I
 IsFileFound file settings (Fault report) = (f : FileFault) × (report.status ≡ BadFile f) × Reads file settings (Err f) × IsFaultText file f report.text
 
 -- what is wrong with the file of which this is told, by the counts of faults of the object that holds it: its status and its text
-abbrev pub IsFileFault : Option (Option (List ℕ)) → ℕ → ℕ → Settings → Status → List ℕ → Type 0
-IsFileFault told before now settings CannotRead text = ((told ≡ Some None) ⊎ Rose before now) × (text ≡ codes "fault cannot read\n")
-IsFileFault told before now settings TooLong text = IsTooLong told × (text ≡ codes "fault too long\n")
+abbrev pub IsFileFault : Told → ℕ → ℕ → Settings → Status → List ℕ → Type 0
+IsFileFault told before now settings CannotRead text = ((told ≡ absent) ⊎ Rose before now) × (text ≡ codes "fault cannot read\n")
+IsFileFault told before now settings TooLong text = IsLonger 1048576 told × (text ≡ codes "fault too long\n")
 IsFileFault told before now settings (BadFile f) text = (file : List ℕ) × IsTold told file × IsShort file × Reads file settings (Err f) × IsFaultText file f text
 IsFileFault told before now settings s text = ⊥
 
 -- the position of the file of which this is told
-pub record IsPositionOf (told : Option (Option (List ℕ))) (settings : Settings) (setup : Setup) : Type 0 where
+pub record IsPositionOf (told : Told) (settings : Settings) (setup : Setup) : Type 0 where
   pub file : List ℕ
   pub told_so : IsTold told file
   pub short : IsShort file
   pub reads : Reads file settings (Ok setup)
 
 -- the same, or what is wrong with the file
-abbrev pub IsFound : Option (Option (List ℕ)) → ℕ → ℕ → Settings → Found → Type 0
+abbrev pub IsFound : Told → ℕ → ℕ → Settings → Found → Type 0
 IsFound told before now settings (Position setup) = IsPositionOf told settings setup × IsFit setup
 IsFound told before now settings (Fault report) = IsFileFault told before now settings report.status report.text

@@ -21,7 +21,7 @@ use Rattle.play_session.specs.Session.{Standing, Turns, IsSession, Waits, Breaks
 use Rattle.endgame_run.specs.declared.status.Status.{Status}
 use Rattle.endgame_run.specs.declared.status.Status.TheVariants.{Done, CannotRead, CannotWrite, TooManyLines}
 use Rattle.endgame_run.specs.Engine.{IsKeptRun}
-use Rattle.endgame_run.specs.File.{Outside, told_of}
+use Rattle.endgame_run.specs.File.{Outside, World, told_of}
 use Rattle.endgame_run.specs.Found.{IsPositionOf}
 use Rattle.endgame_solver.specs.Solved.{IsPlayable}
 use Rattle.endgame_run.specs.Verdict.{AreToPlay, IsWritten, limits_of}
@@ -31,12 +31,12 @@ abbrev pub IsEngine : Option Colour → Setup → Colour → Type 0
 IsEngine given setup engine = engine ≡ unwrap_or given setup.side
 
 -- the words ask to play a file, the state opens its position by their settings, which can be played within their limits, and this is the engine's colour
-pub record IsGame (words : List (List ℕ)) (o : Outside) (engine : Colour) (s : State) : Type 0 where
+pub record IsGame (words : List (List ℕ)) (w : World) (engine : Colour) (s : State) : Type 0 where
   pub job : JobView
   pub word : List ℕ
   pub setup : Setup
   pub asks : AreToPlay words job word
-  pub position : IsPositionOf (told_of o.files o.left word) job.settings setup
+  pub position : IsPositionOf (told_of w word) job.settings setup
   pub playable : IsPlayable (limits_of job) setup s
   pub colour : IsEngine job.engine setup engine
 
@@ -86,10 +86,10 @@ IsGameWritten engine s bytes before now status = (text line : List ℕ) × IsSto
 pub record IsGameRun (words : List (List ℕ)) (o : Outside) (before now : Option (List ℕ)) (status : Status) : Type 0 where
   pub engine : Colour
   pub state : State
-  pub game : IsGame words o engine state
+  pub game : IsGame words o.world engine state
   pub begun : IsSessionStatus status
-  pub read : status ≡ CannotRead → Rose o.lines_before o.lines_now
-  pub written : IfSome o.left (λ bytes. IsGameWritten engine state bytes before now status)
+  pub read : status ≡ CannotRead → Rose o.reads.before o.reads.now
+  pub written : IfSome o.world.left (λ bytes. IsGameWritten engine state bytes before now status)
 
 -- What was written of a game that the engine wins at its opening: turns, and what stands behind them. Wherever the turns lead the
 -- engine wins, so that after each of its moves the opponent is to move and loses, and no line names the opponent as the winner.
@@ -104,10 +104,10 @@ pub record IsWonGame (engine : Colour) (s : State) (bytes : List ℕ) (before no
   pub unnamed : ¬ IsLineIn (winner_line (other engine)) (first ++ last)
 
 -- a game was played over bytes that are told, and where the engine wins at its opening it keeps its win
-abbrev pub PlaysWon : List (List ℕ) → Outside → Option (List ℕ) → Option (List ℕ) → Type 0
-PlaysWon words o before now = (engine : Colour) × (s : State) × IsGame words o engine s
-    × (IsWinner s engine → IfSome o.left (λ bytes. IsWonGame engine s bytes before now))
+abbrev pub PlaysWon : List (List ℕ) → World → Option (List ℕ) → Option (List ℕ) → Type 0
+PlaysWon words w before now = (engine : Colour) × (s : State) × IsGame words w engine s
+    × (IsWinner s engine → IfSome w.left (λ bytes. IsWonGame engine s bytes before now))
 
 -- what was written is the text of the decided status, or that of a game or a session in which the engine keeps what it has won
 abbrev pub EngineKeepsWin : List (List ℕ) → Outside → Option (List ℕ) → Option (List ℕ) → Status → Type 0
-EngineKeepsWin words o before now status = (IsWritten words o before now status ⊎ PlaysWon words o before now) ⊎ IsKeptRun words o before now status
+EngineKeepsWin words o before now status = (IsWritten words o before now status ⊎ PlaysWon words o.world before now) ⊎ IsKeptRun words o before now status

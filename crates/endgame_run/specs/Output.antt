@@ -7,7 +7,7 @@ use Rattle.play_session.specs.declared.end.SessionEnd.TheVariants as end
 use Rattle.endgame_run.specs.declared.status.Status.{Status}
 use Rattle.endgame_run.specs.declared.status.Status.TheVariants.{CannotRead, CannotWrite, Memory, TooManyLines}
 use Rattle.endgame_run.specs.Engine.{IsEngineRun}
-use Rattle.endgame_run.specs.File.{Outside}
+use Rattle.endgame_run.specs.File.{Outside, World}
 use Rattle.endgame_run.specs.Game.{IsGame, IsGameRun, IsGameWritten, IsSessionOf, WaitsAfter}
 use Rattle.endgame_run.specs.Verdict.{HasCause, IsDecided, IsWritten}
 
@@ -28,19 +28,19 @@ abbrev pub IsFrontWritten : List (List ℕ) → Outside → Option (List ℕ) �
 IsFrontWritten words o before now = (status : Status) × (text : List ℕ) × (n : ℕ) × IsDecided words o status text × (now ≡ append_known before (take n text))
 
 -- a game was played, and where the source tells its bytes this holds of the engine's colour, the opening and the bytes
-abbrev pub InGame : List (List ℕ) → Outside → (Colour → State → List ℕ → Type 0) → Type 0
-InGame words o holds = (engine : Colour) × (s : State) × IsGame words o engine s × IfSome o.left (λ bytes. holds engine s bytes)
+abbrev pub InGame : List (List ℕ) → World → (Colour → State → List ℕ → Type 0) → Type 0
+InGame words w holds = (engine : Colour) × (s : State) × IsGame words w engine s × IfSome w.left (λ bytes. holds engine s bytes)
 
 -- Nothing for want of memory. Where a write failed, a front part of what was to be written: of a text, or of a session and the line of
 -- a fault. Else the line of a fault, in a game behind the session: all turns up to the one whose line can't be read, or whose line
 -- would be one too many.
 abbrev pub IsPartOfDecided : List (List ℕ) → Outside → Option (List ℕ) → Option (List ℕ) → Status → Type 0
 IsPartOfDecided words o before now Memory = now ≡ before
-IsPartOfDecided words o before now CannotWrite = IsFrontWritten words o before now ⊎ InGame words o (λ engine s bytes. IsGameWritten engine s bytes before now CannotWrite)
+IsPartOfDecided words o before now CannotWrite = IsFrontWritten words o before now ⊎ InGame words o.world (λ engine s bytes. IsGameWritten engine s bytes before now CannotWrite)
 IsPartOfDecided words o before now CannotRead = IsLineWritten words o before now CannotRead
-    ⊎ InGame words o (λ engine s bytes. (text : List ℕ) × WaitsAfter engine s bytes text × (now ≡ append_known before (text ++ codes "fault cannot read\n")))
+    ⊎ InGame words o.world (λ engine s bytes. (text : List ℕ) × WaitsAfter engine s bytes text × (now ≡ append_known before (text ++ codes "fault cannot read\n")))
 IsPartOfDecided words o before now TooManyLines =
-    InGame words o (λ engine s bytes. (text : List ℕ) × IsSessionOf engine s bytes end.TooManyLines text × (now ≡ append_known before (text ++ codes "fault lines\n")))
+    InGame words o.world (λ engine s bytes. (text : List ℕ) × IsSessionOf engine s bytes end.TooManyLines text × (now ≡ append_known before (text ++ codes "fault lines\n")))
 IsPartOfDecided words o before now status = IsLineWritten words o before now status
 
 -- the same, or what a session of the engine has written: replies, and the line of a fault behind them

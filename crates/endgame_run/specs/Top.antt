@@ -19,7 +19,7 @@ use Rattle.endgame_run.specs.declared.question.Question.{Question}
 use Rattle.endgame_run.specs.declared.question.Question.TheVariants.{Solve, Values, Safe}
 use Rattle.gtp_engine.specs.declared.end.GtpEnd.{GtpEnd}
 use Rattle.gtp_engine.specs.declared.end.GtpEnd.TheVariants as end
-use Rattle.sgf_go.specs.File.{IsTold}
+use Rattle.desk_io.specs.Files.{Told, IsTold}
 use Rattle.endgame_run.specs.File.{Outside, told_of, count_of}
 use Rattle.endgame_run.specs.Found.{IsPositionOf}
 use Rattle.endgame_solver.specs.Solved.{IsPlayable}
@@ -31,7 +31,7 @@ use Rattle.endgame_solver.specs.Solved.{SolvedGame}
 use Rattle.report.specs.Values.{IsFirstUnshown, IsValuesText}
 use Rattle.endgame_run.specs.Calc.{IsCalc}
 use Rattle.endgame_run.specs.Trial.{IsTrial}
-use Rattle.endgame_run.specs.Verdict.{AreStepsFor, Asks, IsAnswer, IsRefused, limits_of}
+use Rattle.endgame_run.specs.Verdict.{IsAnswerOn, AreStepsFor, Asks, IsAnswer, IsRefused, limits_of}
 
 -- a text written whole, with its status, or a front part of it, as a write failed
 abbrev pub IsFinished : Status → List ℕ → ℕ → ℕ → Option (List ℕ) → Option (List ℕ) → Status → Type 0
@@ -59,7 +59,7 @@ abbrev pub IsFileRun : Question → Settings → List ℕ → Outside → ℕ �
 IsFileRun question settings word o kb kn before now result =
     ((result ≡ Memory) × (now ≡ before))
     ⊎ ((s : Status) × (text : List ℕ)
-    × IsAnswer question (told_of o.files o.left word) (count_of o.shelf_before o.lines_before word) (count_of o.shelf_now o.lines_now word) settings s text
+    × IsAnswerOn question o word settings s text
     × IsFinished s text kb kn before now result)
 
 -- what a run of the board of a number comes to: nothing for want of memory, and else its text, which was written
@@ -93,7 +93,7 @@ IsBegun limits given setup (Game session) = IsPlayable limits setup session.stat
 IsBegun limits given setup (Fault report) = IsRefused limits setup report.status report.text
 
 -- the same of the file of which this is told
-abbrev pub IsOpened : Limits → Option Colour → Option (Option (List ℕ)) → ℕ → ℕ → Settings → Opened → Type 0
+abbrev pub IsOpened : Limits → Option Colour → Told → ℕ → ℕ → Settings → Opened → Type 0
 IsOpened limits given told before now settings (Game session) = (setup : Setup) × IsPositionOf told settings setup
     × IsPlayable limits setup session.state × IsEngine given setup session.engine × (session.held ≡ [])
 IsOpened limits given told before now settings (Fault report) = IsAnswer (Solve limits) told before now settings report.status report.text × (report.status ≢ Done)
@@ -108,19 +108,19 @@ pub record IsPlayRun (engine : Colour) (s : State) (left : Option (List ℕ)) (r
 -- a game of the file of a word, which was begun and played
 abbrev pub IsPlayedGame : Limits → Option Colour → Settings → List ℕ → Outside → ℕ → ℕ → Option (List ℕ) → Option (List ℕ) → Status → Type 0
 IsPlayedGame limits given settings word o kb kn before now result = (setup : Setup) × (engine : Colour) × (s : State)
-    × IsPositionOf (told_of o.files o.left word) settings setup × IsPlayable limits setup s × IsEngine given setup engine
-    × IsPlayRun engine s o.left o.lines_before o.lines_now kb kn before now result
+    × IsPositionOf (told_of o.world word) settings setup × IsPlayable limits setup s × IsEngine given setup engine
+    × IsPlayRun engine s o.world.left o.reads.before o.reads.now kb kn before now result
 
 -- what a game of the file of a word comes to: nothing for want of memory, the fault that keeps the file from being solved, or a session
 abbrev pub IsGameOutcome : Limits → Option Colour → Settings → List ℕ → Outside → ℕ → ℕ → Option (List ℕ) → Option (List ℕ) → Status → Type 0
 IsGameOutcome limits given settings word o kb kn before now result =
     ((result ≡ Memory) × (now ≡ before))
     ⊎ (((s : Status) × (text : List ℕ)
-    × (IsAnswer (Solve limits) (told_of o.files o.left word) (count_of o.shelf_before o.lines_before word) (count_of o.shelf_now o.lines_now word) settings s text × (s ≢ Done))
+    × (IsAnswerOn (Solve limits) o word settings s text × (s ≢ Done))
     × IsFinished s text kb kn before now result)
     ⊎ IsPlayedGame limits given settings word o kb kn before now result)
 
 -- the steps of a question about the file of which this is told
-abbrev pub AreToldSteps : Question → Option (Option (List ℕ)) → Settings → ℕ → ℕ → Type 0
+abbrev pub AreToldSteps : Question → Told → Settings → ℕ → ℕ → Type 0
 AreToldSteps question told settings before now = (now ≡ before)
     ⊎ ((file : List ℕ) × (setup : Setup) × IsTold told file × Reads file settings (Ok setup) × AreStepsFor question setup before now)

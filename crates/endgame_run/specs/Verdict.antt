@@ -1,7 +1,8 @@
 -- Which status the words, the file and the counts of faults have, and what is written then.
 use Rattle.std.specs.Prelude.{◌≡◌, ◌≢◌, ◌+◌, ◌≤◌, ◌⊎◌, ◌++◌, ℕ, List, codes, take, ⊤, Option, Some, None, Ok, Err}
+use Rattle.desk_io.specs.Files.Told.{absent, holding}
 use Rattle.std.specs.Io.KnownBytes.{append_known}
-use Rattle.desk_io.specs.Files.{Files}
+use Rattle.desk_io.specs.Files.{Told, Files}
 use Rattle.desk_io.specs.Outside.{Rose}
 use Rattle.go_grid.specs.declared.grid.Colour.{Colour}
 use Rattle.go_grid.specs.Region.{Region}
@@ -19,8 +20,9 @@ use Rattle.endgame_solver.specs.declared.limits.Limits.{Limits}
 use Rattle.endgame_solver.specs.declared.faults.SolveError.{SolveError}
 use Rattle.endgame_solver.specs.Faults.{AreSound, AreRefused, most_steps}
 use Rattle.region_cut.specs.Cut.{AreRegionsOfPlay}
-use Rattle.sgf_go.specs.File.{IsShort, IsTold, IsTooLong}
-use Rattle.endgame_run.specs.File.{Outside, told_of, count_of, dash}
+use Rattle.desk_io.specs.Files.{IsLonger, IsTold}
+use Rattle.sgf_go.specs.File.{IsShort}
+use Rattle.endgame_run.specs.File.{Outside, World, count_of, dash, told_of}
 use Rattle.sgf_go.specs.File.{Reads}
 use Rattle.endgame_run.specs.Position.{IsFaultText}
 use Rattle.endgame_solver.specs.Solved.{OpensAs}
@@ -99,10 +101,15 @@ IsFileAnswer question file settings (BadFile f) text = Reads file settings (Err 
 IsFileAnswer question file settings s text = (setup : Setup) × Reads file settings (Ok setup) × IsPositionAnswer question setup s text
 
 -- The status by what is told of the file and by the counts of faults of the object that holds it, and its text.
-abbrev pub IsAnswer : Question → Option (Option (List ℕ)) → ℕ → ℕ → Settings → Status → List ℕ → Type 0
-IsAnswer question told before now settings CannotRead text = ((told ≡ Some None) ⊎ Rose before now) × (text ≡ codes "fault cannot read\n")
-IsAnswer question told before now settings TooLong text = IsTooLong told × (text ≡ codes "fault too long\n")
+abbrev pub IsAnswer : Question → Told → ℕ → ℕ → Settings → Status → List ℕ → Type 0
+IsAnswer question told before now settings CannotRead text = ((told ≡ absent) ⊎ Rose before now) × (text ≡ codes "fault cannot read\n")
+IsAnswer question told before now settings TooLong text = IsLonger 1048576 told × (text ≡ codes "fault too long\n")
 IsAnswer question told before now settings s text = (file : List ℕ) × IsTold told file × IsShort file × IsFileAnswer question file settings s text
+
+-- The status of a question about the file of a word, by what the world tells of it and by how often its object has failed, and its text.
+abbrev pub IsAnswerOn : Question → Outside → List ℕ → Settings → Status → List ℕ → Type 0
+IsAnswerOn question o word settings s text = IsAnswer question (told_of o.world word)
+    (count_of o.loads.before o.reads.before word) (count_of o.loads.now o.reads.now word) settings s text
 
 -- the limits of a job, and whether there is a tax
 abbrev pub limits_of : JobView → Limits
@@ -175,7 +182,7 @@ IsDecidedAlone words s text = (job : JobView) × IsOnlyJob words job × IsTextAl
 -- a question about a file is asked, and this is its text
 abbrev pub IsDecidedByFile : List (List ℕ) → Outside → List ℕ → Type 0
 IsDecidedByFile words o text = (job : JobView) × (question : Question) × (word : List ℕ) × AskAbout words job question word
-    × IsAnswer question (told_of o.files o.left word) (count_of o.shelf_before o.lines_before word) (count_of o.shelf_now o.lines_now word) job.settings Done text
+    × IsAnswerOn question o word job.settings Done text
 
 -- The status that was decided, with its cause, and its text: `Usage` exactly where the words are outside the grammar. What keeps
 -- a file from being solved keeps it from being played. What depends on the words alone is done; an expression may be refused.
@@ -185,7 +192,7 @@ IsDecided words o Done text = IsDecidedByFile words o text ⊎ IsDecidedAlone wo
 IsDecided words o (BadExpression f) text = IsDecidedAlone words (BadExpression f) text
 IsDecided words o CalcLimit text = IsDecidedAlone words CalcLimit text
 IsDecided words o s text = (job : JobView) × (question : Question) × (word : List ℕ) × Pose words job question word
-    × IsAnswer question (told_of o.files o.left word) (count_of o.shelf_before o.lines_before word) (count_of o.shelf_now o.lines_now word) job.settings s text
+    × IsAnswerOn question o word job.settings s text
 
 -- The cause of a status. A failed write has one of its own, and want of memory never comes with words outside the grammar.
 abbrev pub HasCause : List (List ℕ) → Outside → Status → Type 0
@@ -204,24 +211,24 @@ abbrev pub HasLine : Option (List ℕ) → Option (List ℕ) → List ℕ → Ty
 HasLine before now line = (front : List ℕ) × (back : List ℕ) × (now ≡ append_known before ((front ++ codes "\n") ++ (line ++ back)))
 
 -- the words ask to solve a file, this is its position by their settings, and the state opens it
-pub record IsPosed (words : List (List ℕ)) (o : Outside) (setup : Setup) (s : State) : Type 0 where
+pub record IsPosed (words : List (List ℕ)) (w : World) (setup : Setup) (s : State) : Type 0 where
   pub job : JobView
   pub word : List ℕ
   pub file : List ℕ
   pub asks : AreToSolve words job word
-  pub told : IsTold (told_of o.files o.left word) file
+  pub told : IsTold (told_of w word) file
   pub reads : Reads file job.settings (Ok setup)
   pub opening : OpensAs setup job.tax s
 
 -- the line `winner` names the winner of the opening
-abbrev pub WritesWinner : List (List ℕ) → Outside → Option (List ℕ) → Option (List ℕ) → Type 0
-WritesWinner words o before now = (setup : Setup) × (s : State) × (winner : Colour)
-    × IsPosed words o setup s × IsWinner s winner × HasLine before now (winner_line winner)
+abbrev pub WritesWinner : List (List ℕ) → World → Option (List ℕ) → Option (List ℕ) → Type 0
+WritesWinner words w before now = (setup : Setup) × (s : State) × (winner : Colour)
+    × IsPosed words w setup s × IsWinner s winner × HasLine before now (winner_line winner)
 
 -- the line `move` names the first winning move of the opening, or `none` where there is none
-abbrev pub WritesMove : List (List ℕ) → Outside → Option (List ℕ) → Option (List ℕ) → Type 0
-WritesMove words o before now = (setup : Setup) × (s : State) × (move : Option Move)
-    × IsPosed words o setup s × IsFirstWinning s move × HasLine before now (move_line s.board.columns move)
+abbrev pub WritesMove : List (List ℕ) → World → Option (List ℕ) → Option (List ℕ) → Type 0
+WritesMove words w before now = (setup : Setup) × (s : State) × (move : Option Move)
+    × IsPosed words w setup s × IsFirstWinning s move × HasLine before now (move_line s.board.columns move)
 
 -- the words ask about a file of the source, or ask about or to play one of the shelf
 abbrev pub ReadSource : List (List ℕ) → Type 0
@@ -235,14 +242,14 @@ abbrev pub AskShelf : List (List ℕ) → (List ℕ → Type 0) → Type 0
 AskShelf words is = (job : JobView) × (question : Question) × (word : List ℕ) × Pose words job question word × (word ≢ dash) × is word
 
 -- the words need the regions of play of a file that is told, within these limits, and this is its position
-pub record IsToldRegions (words : List (List ℕ)) (files : Option Files) (left : Option (List ℕ)) (limits : Limits) (setup : Setup) : Type 0 where
+pub record IsToldRegions (words : List (List ℕ)) (w : World) (limits : Limits) (setup : Setup) : Type 0 where
   pub job : JobView
   pub word : List ℕ
   pub file : List ℕ
   pub question : Question
   pub asks : Pose words job question word
   pub limited : HasLimits question limits
-  pub told : told_of files left word ≡ Some (Some file)
+  pub told : told_of w word ≡ holding file
   pub reads : Reads file job.settings (Ok setup)
 
 -- the words ask for the board of a number, and this is its position; these are the limits of all such boards
@@ -250,8 +257,8 @@ abbrev pub IsTrialRegions : List (List ℕ) → Limits → Setup → Type 0
 IsTrialRegions words limits setup = (number : ℕ) × AreToTrial words number × IsTrialPosition number setup × (limits ≡ trial_limits)
 
 -- the words need the regions of play of this position within these limits: it is that of a file that is told, or of a number
-abbrev pub AreNeededRegions : List (List ℕ) → Option Files → Option (List ℕ) → Limits → Setup → Type 0
-AreNeededRegions words files left limits setup = IsToldRegions words files left limits setup ⊎ IsTrialRegions words limits setup
+abbrev pub AreNeededRegions : List (List ℕ) → World → Limits → Setup → Type 0
+AreNeededRegions words w limits setup = IsToldRegions words w limits setup ⊎ IsTrialRegions words limits setup
 
 -- how many steps a question about a position takes at most: none but about its regions of play, and then for each the limit, or 3 to its points
 abbrev pub AreStepsFor : Question → Setup → ℕ → ℕ → Type 0
@@ -264,8 +271,8 @@ abbrev pub AreTrialSteps : ℕ → ℕ → ℕ → Type 0
 AreTrialSteps number before now = (now ≡ before) ⊎ ((setup : Setup) × IsTrialPosition number setup × AreStepsFor (Solve trial_limits) setup before now)
 
 -- steps are taken only for the position of a file that has all that is told of the one asked about, or for that of a number
-abbrev pub AreSteps : List (List ℕ) → Option Files → Option (List ℕ) → ℕ → ℕ → Type 0
-AreSteps words files left before now = (now ≡ before)
+abbrev pub AreSteps : List (List ℕ) → World → ℕ → ℕ → Type 0
+AreSteps words w before now = (now ≡ before)
     ⊎ (((job : JobView) × (question : Question) × (word : List ℕ) × (file : List ℕ) × (setup : Setup) × Pose words job question word
-    × IsTold (told_of files left word) file × Reads file job.settings (Ok setup) × AreStepsFor question setup before now)
+    × IsTold (told_of w word) file × Reads file job.settings (Ok setup) × AreStepsFor question setup before now)
     ⊎ ((number : ℕ) × AreToTrial words number × AreTrialSteps number before now))

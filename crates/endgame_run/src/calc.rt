@@ -42,7 +42,8 @@ fn expression_fault(alloc: Global, fault: CalcFault) -> Result<String, AllocErro
 
 /// The report on an expression.
 fn calculate(alloc: Global, line: &Line<'_>) -> Result<Report, AllocError>
-    ensures { IfOk result (λ report. IsCalc line.now.parts line.now.expression.now report.status report.text) }
+    ensures { IfOk result
+        (λ report. IsCalc line.now.parts line.now.expression.now report.status report.text) }
 {
     match game_calc::answer(alloc, line.expression.as_bytes(), line.parts) {
         Ok(text) => Ok(Report {
@@ -63,7 +64,8 @@ fn calculate(alloc: Global, line: &Line<'_>) -> Result<Report, AllocError>
 
 /// Writes the answer to an expression, or why there is none.
 pub(crate) fn run_calc<K: Sink>(alloc: Global, line: &Line<'_>, out: &mut K) -> Status
-    ensures answered { IsCalcRun line.now.parts line.now.expression.now (K.faults out.old) (K.faults out.new) (K.holds out.old) (K.holds out.new) result }
+    ensures answered { IsCalcRun line.now.parts line.now.expression.now (K.faults out.old)
+        (K.faults out.new) (K.holds out.old) (K.holds out.new) result }
     ensures later_writes { K.faults out.old ≤ K.faults out.new }
 {
     match calculate(alloc, line) {

@@ -9,7 +9,8 @@ use desk_io::Sink;
 /// Writes the text of a status at once.
 pub(crate) fn finish<K: Sink>(out: &mut K, status: Status, text: &[u8]) -> Status
     ensures later { K.faults out.old ≤ K.faults out.new }
-    ensures written { IsFinished status text.now (K.faults out.old) (K.faults out.new) (K.holds out.old) (K.holds out.new) result }
+    ensures written { IsFinished status text.now (K.faults out.old) (K.faults out.new)
+        (K.holds out.old) (K.holds out.new) result }
 {
     match out.write(text) {
         Ok(()) => status,

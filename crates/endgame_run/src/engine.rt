@@ -3,7 +3,7 @@
 ghost use Rattle.std.specs.Prelude.{◌≡◌, ◌≤◌, false};
 ghost use Rattle.desk_io.specs.Outside.{Rose};
 ghost use Rattle.endgame_run.specs.Engine.{IsEnginePlay};
-ghost use Rattle.endgame_run.specs.File.{TakesAtMost, outside};
+ghost use Rattle.endgame_run.specs.File.{TakesAtMost, faults, outside, world};
 ghost use Rattle.endgame_run.specs.Top.{IsClosed};
 
 use crate::ending::finish;
@@ -17,7 +17,8 @@ use std::sync::ledger::Ledger;
 
 /// Writes the line of a fault behind a session that ended so.
 fn close<K: Sink>(end: GtpEnd, out: &mut K) -> Status
-    ensures closed { IsClosed end (K.faults out.old) (K.faults out.new) (K.holds out.old) (K.holds out.new) result }
+    ensures closed { IsClosed end (K.faults out.old) (K.faults out.new) (K.holds out.old)
+        (K.holds out.new) result }
     ensures later_writes { K.faults out.old ≤ K.faults out.new }
 {
     match end {
@@ -41,9 +42,12 @@ pub(crate) fn run_gtp<H: Shelf, S: Source, K: Sink, L: Ledger>(
     requires modest { limits.positions ≤ 1000000 }
     requires no_tax { limits.tax ≡ false }
     ensures played { IsEnginePlay limits
-        (outside (H.files shelf.old) (S.left lines.old) (H.faults shelf.old) (H.faults shelf.new) (S.faults lines.old) (S.faults lines.new))
+        (outside (world (H.files shelf.old) (S.left lines.old))
+        (faults (H.faults shelf.old) (H.faults shelf.new))
+        (faults (S.faults lines.old) (S.faults lines.new)))
         (K.holds out.old) (K.holds out.new) result }
-    ensures cannot_write { result ≡ Status.CannotWrite → Rose (K.faults out.old) (K.faults out.new) }
+    ensures cannot_write { result ≡ Status.CannotWrite
+        → Rose (K.faults out.old) (K.faults out.new) }
     ensures takes { TakesAtMost 10241024 (S.left lines.old) (S.left lines.new) }
     ensures same_files { H.files shelf.new ≡ H.files shelf.old }
     ensures later_loads { H.faults shelf.old ≤ H.faults shelf.new }

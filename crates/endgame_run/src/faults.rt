@@ -48,7 +48,8 @@ fn fault_line_at(alloc: Global, what: &str, number: u32) -> Result<String, Alloc
 /// The line of a point without a liberty, named by the size of the record's board.
 fn no_liberty_text(alloc: Global, tree: &Tree, point: Point) -> Result<String, AllocError>
     requires { IsOnLine (line_text tree.now) point }
-    ensures { IfOk result (λ text. IsSetupFaultText (line_text tree.now) (SetupFault.NoLiberty point) (string_bytes text)) }
+    ensures { IfOk result (λ text. IsSetupFaultText (line_text tree.now)
+        (SetupFault.NoLiberty point) (string_bytes text)) }
 {
     let Some(size) = size_of_board(tree) else {
         unreachable!()
@@ -76,7 +77,8 @@ pub(crate) fn setup_fault_text(
     fault: SetupFault,
 ) -> Result<String, AllocError>
     requires { (settings : Settings) × Gives settings (line_text tree.now) (Err fault) }
-    ensures { IfOk result (λ text. IsSetupFaultText (line_text tree.now) fault (string_bytes text)) }
+    ensures { IfOk result (λ text. IsSetupFaultText (line_text tree.now) fault
+        (string_bytes text)) }
 {
     match fault {
         SetupFault::WrongGame => fault_line(alloc, "wrong game"),

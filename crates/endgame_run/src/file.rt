@@ -1,10 +1,12 @@
 //! A file that is read to its end.
 
 ghost use Rattle.std.specs.Prelude.{◌≡◌, ◌≢◌, ◌≤◌, ◌⊎◌, Some, None, IfOk, IsErrOf};
-ghost use Rattle.desk_io.specs.Files.{told_file};
+ghost use Rattle.desk_io.specs.Files.Told.{absent};
+ghost use Rattle.desk_io.specs.Files.{told_file, told_source};
 ghost use Rattle.desk_io.specs.Outside.{Rose, ended};
-ghost use Rattle.sgf_go.specs.File.{IsShort, IsTold, IsTooLong};
-ghost use Rattle.endgame_run.specs.File.{IsWhole, TakesAtMost, count_of, dash, told_of, told_source};
+ghost use Rattle.desk_io.specs.Files.{IsLonger, IsTold};
+ghost use Rattle.sgf_go.specs.File.{IsShort};
+ghost use Rattle.endgame_run.specs.File.{IsWhole, TakesAtMost, count_of, dash, told_of, world};
 ghost use Rattle.endgame_run.specs.declared.file.FileError.TheVariants.{CannotRead, Memory};
 
 use desk_io::{Failed, LoadError, Loaded, Shelf, Source};
@@ -42,7 +44,8 @@ impl From<AllocError> for FileError {
 /// Reads all that a source has left, of at most 1,048,576 bytes.
 fn read_source<S: Source>(alloc: Global, lines: &mut S) -> Result<Vec<u8>, FileError>
     ensures whole { IfOk result (λ file. IsWhole (S.left lines.old) (S.left lines.new) file.items) }
-    ensures too_long { IsErrOf result FileError.TooLong → IsTooLong (told_source (S.left lines.old)) }
+    ensures too_long { IsErrOf result FileError.TooLong
+        → IsLonger 1048576 (told_source (S.left lines.old)) }
     ensures cannot_read { IsErrOf result FileError.CannotRead
         → Rose (S.faults lines.old) (S.faults lines.new) }
     ensures takes { TakesAtMost 1048577 (S.left lines.old) (S.left lines.new) }
@@ -64,9 +67,12 @@ fn read_source<S: Source>(alloc: Global, lines: &mut S) -> Result<Vec<u8>, FileE
 /// Loads a file of a shelf, of at most 1,048,576 bytes.
 fn load_file<H: Shelf>(alloc: Global, shelf: &mut H, name: &str) -> Result<Vec<u8>, FileError>
     ensures short { IfOk result (λ file. IsShort file.items) }
-    ensures told { IfOk result (λ file. IsTold (told_file (H.files shelf.old) name.now) file.items) }
-    ensures too_long { IsErrOf result FileError.TooLong → IsTooLong (told_file (H.files shelf.old) name.now) }
-    ensures cannot_read { IsErrOf result FileError.CannotRead → (told_file (H.files shelf.old) name.now ≡ Some None)
+    ensures told { IfOk result (λ file. IsTold
+        (told_file (H.files shelf.old) name.now) file.items) }
+    ensures too_long { IsErrOf result FileError.TooLong
+        → IsLonger 1048576 (told_file (H.files shelf.old) name.now) }
+    ensures cannot_read { IsErrOf result FileError.CannotRead
+        → (told_file (H.files shelf.old) name.now ≡ absent)
         ⊎ Rose (H.faults shelf.old) (H.faults shelf.new) }
     ensures asked { H.asks shelf.old name.now shelf.new }
     ensures same_files { H.files shelf.new ≡ H.files shelf.old }
@@ -89,16 +95,21 @@ pub(crate) fn read_file<H: Shelf, S: Source>(
     word: &str,
 ) -> Result<Vec<u8>, FileError>
     ensures short { IfOk result (λ file. IsShort file.items) }
-    ensures told { IfOk result (λ file. IsTold (told_of (H.files shelf.old) (S.left lines.old) word.now) file.items) }
-    ensures too_long { IsErrOf result FileError.TooLong → IsTooLong (told_of (H.files shelf.old) (S.left lines.old) word.now) }
-    ensures cannot_read { IsErrOf result FileError.CannotRead → (told_of (H.files shelf.old) (S.left lines.old) word.now ≡ Some None)
-        ⊎ Rose (count_of (H.faults shelf.old) (S.faults lines.old) word.now) (count_of (H.faults shelf.new) (S.faults lines.new) word.now) }
+    ensures told { IfOk result (λ file. IsTold
+        (told_of (world (H.files shelf.old) (S.left lines.old)) word.now) file.items) }
+    ensures too_long { IsErrOf result FileError.TooLong
+        → IsLonger 1048576 (told_of (world (H.files shelf.old) (S.left lines.old)) word.now) }
+    ensures cannot_read { IsErrOf result FileError.CannotRead
+        → (told_of (world (H.files shelf.old) (S.left lines.old)) word.now ≡ absent)
+        ⊎ Rose (count_of (H.faults shelf.old) (S.faults lines.old) word.now)
+        (count_of (H.faults shelf.new) (S.faults lines.new) word.now) }
     ensures takes { TakesAtMost 1048577 (S.left lines.old) (S.left lines.new) }
     ensures asked { word.now ≢ dash → H.asks shelf.old word.now shelf.new }
     ensures same_files { H.files shelf.new ≡ H.files shelf.old }
     ensures later_loads { H.faults shelf.old ≤ H.faults shelf.new }
     ensures later_reads { S.faults lines.old ≤ S.faults lines.new }
-    ensures at_end { IfOk result (λ file. word.now ≡ dash → S.left lines.new ≡ ended (S.left lines.old)) }
+    ensures at_end { IfOk result (λ file. word.now ≡ dash
+        → S.left lines.new ≡ ended (S.left lines.old)) }
     ensures lines_unread { word.now ≢ dash → lines.new ≡ lines.old }
     ensures shelf_unread { word.now ≡ dash → shelf.new ≡ shelf.old }
 {

@@ -4,7 +4,7 @@ ghost use Rattle.std.specs.Prelude.{◌≡◌, ◌≢◌, ◌≤◌, ◌⊎◌, 
 ghost use Rattle.sgf_go.specs.declared.settings.Setup.{Setup as Position};
 ghost use Rattle.endgame_solver.specs.declared.limits.Limits.{Limits};
 ghost use Rattle.endgame_run.specs.declared.question.Question.TheVariants.{Solve};
-ghost use Rattle.endgame_run.specs.File.{TakesAtMost, count_of, dash, outside, told_of};
+ghost use Rattle.endgame_run.specs.File.{TakesAtMost, count_of, dash, faults, outside, told_of, world};
 ghost use Rattle.endgame_run.specs.Found.{HasRanges};
 ghost use Rattle.endgame_run.specs.Top.{AreToldSteps, IsGameOutcome, IsOpened, IsPlayRun, IsPlayedGame};
 
@@ -31,9 +31,13 @@ fn open_game<H: Shelf, S: Source, L: Ledger>(
 ) -> Result<Opened, AllocError>
     requires ranges { HasRanges settings.now }
     requires modest { game.now.limits.positions ≤ 1000000 }
-    ensures opened { IfOk result (IsOpened game.now.limits game.now.engine (told_of (H.files shelf.old) (S.left lines.old) game.now.word.now)
-        (count_of (H.faults shelf.old) (S.faults lines.old) game.now.word.now) (count_of (H.faults shelf.new) (S.faults lines.new) game.now.word.now) settings.now) }
-    ensures steps { AreToldSteps (Solve game.now.limits) (told_of (H.files shelf.old) (S.left lines.old) game.now.word.now) settings.now steps.old steps.new }
+    ensures opened { IfOk result (IsOpened game.now.limits game.now.engine
+        (told_of (world (H.files shelf.old) (S.left lines.old)) game.now.word.now)
+        (count_of (H.faults shelf.old) (S.faults lines.old) game.now.word.now)
+        (count_of (H.faults shelf.new) (S.faults lines.new) game.now.word.now) settings.now) }
+    ensures steps { AreToldSteps (Solve game.now.limits)
+        (told_of (world (H.files shelf.old) (S.left lines.old)) game.now.word.now)
+        settings.now steps.old steps.new }
     ensures asked { game.now.word.now ≢ dash → H.asks shelf.old game.now.word.now shelf.new }
     ensures same_files { H.files shelf.new ≡ H.files shelf.old }
     ensures later_loads { H.faults shelf.old ≤ H.faults shelf.new }
@@ -54,7 +58,8 @@ fn play<S: Source, K: Sink>(session: &mut Session, lines: &mut S, out: &mut K) -
     ensures takes { TakesAtMost 2560256 (S.left lines.old) (S.left lines.new) }
     ensures later_reads { S.faults lines.old ≤ S.faults lines.new }
     ensures later_writes { K.faults out.old ≤ K.faults out.new }
-    ensures played { IsPlayRun session.old.engine session.old.state (S.left lines.old) (S.faults lines.old) (S.faults lines.new)
+    ensures played { IsPlayRun session.old.engine session.old.state (S.left lines.old)
+        (S.faults lines.old) (S.faults lines.new)
         (K.faults out.old) (K.faults out.new) (K.holds out.old) (K.holds out.new) result }
 {
     match session.run(lines, out) {
@@ -78,18 +83,25 @@ pub(crate) fn run_game<H: Shelf, S: Source, K: Sink, L: Ledger>(
     requires ranges { HasRanges settings.now }
     requires modest { game.now.limits.positions ≤ 1000000 }
     requires apart { game.now.word.now ≢ dash }
-    ensures outcome { IsGameOutcome game.now.limits game.now.engine settings.now game.now.word.now (outside (H.files shelf.old) (S.left lines.old)
-        (H.faults shelf.old) (H.faults shelf.new) (S.faults lines.old) (S.faults lines.new))
+    ensures outcome { IsGameOutcome game.now.limits game.now.engine settings.now game.now.word.now
+        (outside (world (H.files shelf.old) (S.left lines.old))
+        (faults (H.faults shelf.old) (H.faults shelf.new))
+        (faults (S.faults lines.old) (S.faults lines.new)))
         (K.faults out.old) (K.faults out.new) (K.holds out.old) (K.holds out.new) result }
-    ensures steps { AreToldSteps (Solve game.now.limits) (told_of (H.files shelf.old) (S.left lines.old) game.now.word.now) settings.now steps.old steps.new }
+    ensures steps { AreToldSteps (Solve game.now.limits)
+        (told_of (world (H.files shelf.old) (S.left lines.old)) game.now.word.now)
+        settings.now steps.old steps.new }
     ensures takes { TakesAtMost 2560256 (S.left lines.old) (S.left lines.new) }
     ensures asked { H.asks shelf.old game.now.word.now shelf.new }
     ensures same_files { H.files shelf.new ≡ H.files shelf.old }
     ensures later_loads { H.faults shelf.old ≤ H.faults shelf.new }
     ensures later_reads { S.faults lines.old ≤ S.faults lines.new }
     ensures later_writes { K.faults out.old ≤ K.faults out.new }
-    ensures lines_unplayed { (lines.new ≡ lines.old) ⊎ IsPlayedGame game.now.limits game.now.engine settings.now game.now.word.now
-        (outside (H.files shelf.old) (S.left lines.old) (H.faults shelf.old) (H.faults shelf.new) (S.faults lines.old) (S.faults lines.new))
+    ensures lines_unplayed { (lines.new ≡ lines.old)
+        ⊎ IsPlayedGame game.now.limits game.now.engine settings.now game.now.word.now
+        (outside (world (H.files shelf.old) (S.left lines.old))
+        (faults (H.faults shelf.old) (H.faults shelf.new))
+        (faults (S.faults lines.old) (S.faults lines.new)))
         (K.faults out.old) (K.faults out.new) (K.holds out.old) (K.holds out.new) result }
 {
     match open_game(alloc, game, settings, shelf, lines, steps) {

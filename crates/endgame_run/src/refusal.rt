@@ -45,7 +45,8 @@ pub(crate) fn positions_text(
 #[tactic(auto, using(std::proofs::Common::append_assoc), unfolding(crate::specs::Refusal::cycle_move))]
 fn write_move(text: &mut String, size: Size, colour: Colour, point: Point) -> Result<(), AllocError>
     requires { point < size.columns * size.rows }
-    ensures { OnOk result (string_bytes text.new ≡ string_bytes text.old ++ cycle_move size.columns (colour, point)) }
+    ensures { OnOk result (string_bytes text.new ≡ string_bytes text.old ++ cycle_move size.columns
+        (colour, point)) }
 {
     text.push_str(" ")?;
     text.push_str(colour_word(colour))?;
@@ -57,7 +58,8 @@ fn write_move(text: &mut String, size: Size, colour: Colour, point: Point) -> Re
 #[tactic(auto, using(std::proofs::Common::append_assoc))]
 fn write_moves(text: &mut String, size: Size, moves: &[(Colour, Point)]) -> Result<(), AllocError>
     requires { All (λ m. m.1 < size.columns * size.rows) moves.now }
-    ensures { OnOk result (string_bytes text.new ≡ string_bytes text.old ++ flat_map (cycle_move size.columns) moves.now) }
+    ensures { OnOk result (string_bytes text.new ≡ string_bytes text.old ++ flat_map
+        (cycle_move size.columns) moves.now) }
 {
     'writing: for step in moves {
         write_move(text, size, step.0, step.1)?;
@@ -75,7 +77,8 @@ pub(crate) fn cycle_text(
 ) -> Result<String, AllocError>
     requires lowest { lowest < size.columns * size.rows }
     requires moves { All (λ m. m.1 < size.columns * size.rows) moves.now }
-    ensures { IfOk result (λ text. string_bytes text ≡ cycle_line size.columns lowest back moves.now) }
+    ensures { IfOk result
+        (λ text. string_bytes text ≡ cycle_line size.columns lowest back moves.now) }
 {
     let mut text = String::new(alloc);
     text.push_str("fault cycle ")?;

@@ -33,7 +33,8 @@ fn refused(
 ) -> Result<Report, AllocError>
     requires { NamesPoints (size.columns * size.rows) fault }
     ensures status { IfOk result (λ report. HasStatus fault report.status) }
-    ensures text { IfOk result (λ report. report.text ≡ refusal_line limits.now size.columns fault) }
+    ensures text { IfOk result
+        (λ report. report.text ≡ refusal_line limits.now size.columns fault) }
 {
     match fault {
         SolveError::Points(lowest, points) => Ok(Report {
@@ -65,8 +66,10 @@ pub(crate) fn solve<L: Ledger>(
 ) -> Result<Report, AllocError>
     requires fit { IsFit setup.now }
     requires positions { limits.now.positions ≤ 1000000 }
-    ensures answer { IfOk result (λ report. IsPositionAnswer (Question.Solve limits.now) setup.now report.status report.text) }
-    ensures steps { (regions : List Region) → AreRegionsOfPlay setup.now.board regions → steps.new ≤ steps.old + most_steps limits.now regions }
+    ensures answer { IfOk result (λ report. IsPositionAnswer
+        (Question.Solve limits.now) setup.now report.status report.text) }
+    ensures steps { (regions : List Region) → AreRegionsOfPlay setup.now.board regions
+        → steps.new ≤ steps.old + most_steps limits.now regions }
 {
     match Solved::begin(alloc, setup, limits, steps) {
         Ok(mut solved) => {
@@ -87,7 +90,8 @@ pub(crate) fn solve<L: Ledger>(
 fn unshown(alloc: Global, size: Size, fault: ValuesError) -> Result<Report, AllocError>
     requires { IsRefusal (λ p. p < size.columns * size.rows) fault }
     ensures status { IfOk result (λ report. report.status ≡ Status.FormLimit) }
-    ensures text { IfOk result (λ report. IsRefusal (λ p. report.text ≡ form_line size.columns p) fault) }
+    ensures text { IfOk result (λ report. IsRefusal
+        (λ p. report.text ≡ form_line size.columns p) fault) }
     ensures named { IfOk result (λ _. NamesRegion fault) }
 {
     match fault {
@@ -125,8 +129,10 @@ pub(crate) fn value<L: Ledger>(
 ) -> Result<Report, AllocError>
     requires fit { IsFit setup.now }
     requires positions { limits.now.positions ≤ 1000000 }
-    ensures answer { IfOk result (λ report. IsPositionAnswer (Question.Values limits.now) setup.now report.status report.text) }
-    ensures steps { (regions : List Region) → AreRegionsOfPlay setup.now.board regions → steps.new ≤ steps.old + most_steps limits.now regions }
+    ensures answer { IfOk result (λ report. IsPositionAnswer
+        (Question.Values limits.now) setup.now report.status report.text) }
+    ensures steps { (regions : List Region) → AreRegionsOfPlay setup.now.board regions
+        → steps.new ≤ steps.old + most_steps limits.now regions }
 {
     match Solved::begin(alloc, setup, limits, steps) {
         Ok(solved) => {
@@ -151,7 +157,8 @@ pub(crate) fn begin<L: Ledger>(
     requires fit { IsFit setup.now }
     requires positions { limits.now.positions ≤ 1000000 }
     ensures begun { IfOk result (IsBegun limits.now engine setup.now) }
-    ensures steps { (regions : List Region) → AreRegionsOfPlay setup.now.board regions → steps.new ≤ steps.old + most_steps limits.now regions }
+    ensures steps { (regions : List Region) → AreRegionsOfPlay setup.now.board regions
+        → steps.new ≤ steps.old + most_steps limits.now regions }
 {
     match Solved::begin(alloc, setup, limits, steps) {
         Ok(solved) => Ok(Opened::Game(Session::new(solved, engine.unwrap_or(setup.side)))),

@@ -12,7 +12,7 @@ ghost use Rattle.endgame_solver.specs.Faults.{most_steps};
 ghost use Rattle.region_cut.specs.Cut.{AreRegionsOfPlay};
 ghost use Rattle.endgame_run.specs.Complete.{IsComplete};
 ghost use Rattle.endgame_run.specs.Engine.{AskForEngine, engine_limits};
-ghost use Rattle.endgame_run.specs.File.{TakesAtMost, count_of, dash, outside, told_of};
+ghost use Rattle.endgame_run.specs.File.{TakesAtMost, count_of, dash, faults, outside, told_of, world};
 ghost use Rattle.endgame_run.specs.Found.{HasRanges};
 ghost use Rattle.endgame_run.specs.Game.{EngineKeepsWin, IsGameRun};
 ghost use Rattle.endgame_run.specs.Output.{IsCaused, IsOutput, IsPartOutput};
@@ -46,7 +46,8 @@ fn report_on_position<L: Ledger>(
 ) -> Result<Report, AllocError>
     requires fit { IsFit setup.now }
     requires modest { IsModest question }
-    ensures answer { IfOk result (λ report. IsPositionAnswer question setup.now report.status report.text) }
+    ensures answer { IfOk result
+        (λ report. IsPositionAnswer question setup.now report.status report.text) }
     ensures steps { AreStepsFor question setup.now steps.old steps.new }
 {
     match question {
@@ -70,16 +71,21 @@ fn answer<H: Shelf, S: Source, L: Ledger>(
 ) -> Result<Report, AllocError>
     requires ranges { HasRanges settings.now }
     requires modest { IsModest inquiry.now.question }
-    ensures answer { IfOk result (λ report. IsAnswer inquiry.now.question (told_of (H.files shelf.old) (S.left lines.old) inquiry.now.word.now)
-        (count_of (H.faults shelf.old) (S.faults lines.old) inquiry.now.word.now) (count_of (H.faults shelf.new) (S.faults lines.new) inquiry.now.word.now)
+    ensures answer { IfOk result (λ report. IsAnswer inquiry.now.question
+        (told_of (world (H.files shelf.old) (S.left lines.old)) inquiry.now.word.now)
+        (count_of (H.faults shelf.old) (S.faults lines.old) inquiry.now.word.now)
+        (count_of (H.faults shelf.new) (S.faults lines.new) inquiry.now.word.now)
         settings.now report.status report.text) }
-    ensures steps { AreToldSteps inquiry.now.question (told_of (H.files shelf.old) (S.left lines.old) inquiry.now.word.now) settings.now steps.old steps.new }
+    ensures steps { AreToldSteps inquiry.now.question
+        (told_of (world (H.files shelf.old) (S.left lines.old)) inquiry.now.word.now)
+        settings.now steps.old steps.new }
     ensures takes { TakesAtMost 1048577 (S.left lines.old) (S.left lines.new) }
     ensures asked { inquiry.now.word.now ≢ dash → H.asks shelf.old inquiry.now.word.now shelf.new }
     ensures same_files { H.files shelf.new ≡ H.files shelf.old }
     ensures later_loads { H.faults shelf.old ≤ H.faults shelf.new }
     ensures later_reads { S.faults lines.old ≤ S.faults lines.new }
-    ensures at_end { IfOk result (λ report. report.status ≡ Status.Done → inquiry.now.word.now ≡ dash → S.left lines.new ≡ ended (S.left lines.old)) }
+    ensures at_end { IfOk result (λ report. report.status ≡ Status.Done
+        → inquiry.now.word.now ≡ dash → S.left lines.new ≡ ended (S.left lines.old)) }
     ensures lines_unread { inquiry.now.word.now ≢ dash → lines.new ≡ lines.old }
     ensures shelf_unread { inquiry.now.word.now ≡ dash → shelf.new ≡ shelf.old }
 {
@@ -104,17 +110,22 @@ fn run_file<H: Shelf, S: Source, K: Sink, L: Ledger>(
 ) -> Status
     requires ranges { HasRanges settings.now }
     requires modest { IsModest inquiry.now.question }
-    ensures answered { IsFileRun inquiry.now.question settings.now inquiry.now.word.now (outside (H.files shelf.old) (S.left lines.old)
-        (H.faults shelf.old) (H.faults shelf.new) (S.faults lines.old) (S.faults lines.new))
+    ensures answered { IsFileRun inquiry.now.question settings.now inquiry.now.word.now
+        (outside (world (H.files shelf.old) (S.left lines.old))
+        (faults (H.faults shelf.old) (H.faults shelf.new))
+        (faults (S.faults lines.old) (S.faults lines.new)))
         (K.faults out.old) (K.faults out.new) (K.holds out.old) (K.holds out.new) result }
-    ensures steps { AreToldSteps inquiry.now.question (told_of (H.files shelf.old) (S.left lines.old) inquiry.now.word.now) settings.now steps.old steps.new }
+    ensures steps { AreToldSteps inquiry.now.question
+        (told_of (world (H.files shelf.old) (S.left lines.old)) inquiry.now.word.now)
+        settings.now steps.old steps.new }
     ensures takes { TakesAtMost 1048577 (S.left lines.old) (S.left lines.new) }
     ensures asked { inquiry.now.word.now ≢ dash → H.asks shelf.old inquiry.now.word.now shelf.new }
     ensures same_files { H.files shelf.new ≡ H.files shelf.old }
     ensures later_loads { H.faults shelf.old ≤ H.faults shelf.new }
     ensures later_reads { S.faults lines.old ≤ S.faults lines.new }
     ensures later_writes { K.faults out.old ≤ K.faults out.new }
-    ensures at_end { result ≡ Status.Done → inquiry.now.word.now ≡ dash → S.left lines.new ≡ ended (S.left lines.old) }
+    ensures at_end { result ≡ Status.Done → inquiry.now.word.now ≡ dash
+        → S.left lines.new ≡ ended (S.left lines.old) }
     ensures lines_unread { inquiry.now.word.now ≢ dash → lines.new ≡ lines.old }
     ensures shelf_unread { inquiry.now.word.now ≡ dash → shelf.new ≡ shelf.old }
 {
@@ -186,44 +197,49 @@ pub fn run<H: Shelf, S: Source, K: Sink, L: Ledger>(
     steps: &mut Steps<L>,
 ) -> Status
     ensures cause { IsCaused (texts words.now)
-        (outside (H.files shelf.old) (S.left lines.old) (H.faults shelf.old)
-        (H.faults shelf.new) (S.faults lines.old) (S.faults lines.new))
+        (outside (world (H.files shelf.old) (S.left lines.old))
+        (faults (H.faults shelf.old) (H.faults shelf.new))
+        (faults (S.faults lines.old) (S.faults lines.new)))
         (K.holds out.old) (K.holds out.new) result }
     ensures cannot_write { result ≡ Status.CannotWrite
         → Rose (K.faults out.old) (K.faults out.new) }
     ensures text { IsOutput (texts words.now)
-        (outside (H.files shelf.old) (S.left lines.old) (H.faults shelf.old)
-        (H.faults shelf.new) (S.faults lines.old) (S.faults lines.new))
+        (outside (world (H.files shelf.old) (S.left lines.old))
+        (faults (H.faults shelf.old) (H.faults shelf.new))
+        (faults (S.faults lines.old) (S.faults lines.new)))
         (K.holds out.old) (K.holds out.new) result }
     ensures partial_output { result ≢ Status.Done → IsPartOutput (texts words.now)
-        (outside (H.files shelf.old) (S.left lines.old) (H.faults shelf.old)
-        (H.faults shelf.new) (S.faults lines.old) (S.faults lines.new))
+        (outside (world (H.files shelf.old) (S.left lines.old))
+        (faults (H.faults shelf.old) (H.faults shelf.new))
+        (faults (S.faults lines.old) (S.faults lines.new)))
         (K.holds out.old) (K.holds out.new) result }
     ensures outside_grammar { ((job : JobView) → ¬ IsJob (texts words.now) job)
         → (result ≡ Status.Usage) ⊎ (result ≡ Status.CannotWrite) }
     ensures complete { IsComplete (texts words.now)
-        (outside (H.files shelf.old) (S.left lines.old) (H.faults shelf.old)
-        (H.faults shelf.new) (S.faults lines.old) (S.faults lines.new))
+        (outside (world (H.files shelf.old) (S.left lines.old))
+        (faults (H.faults shelf.old) (H.faults shelf.new))
+        (faults (S.faults lines.old) (S.faults lines.new)))
         (K.faults out.old) (K.faults out.new) result }
     ensures engine_keeps_win { EngineKeepsWin (texts words.now)
-        (outside (H.files shelf.old) (S.left lines.old) (H.faults shelf.old)
-        (H.faults shelf.new) (S.faults lines.old) (S.faults lines.new))
+        (outside (world (H.files shelf.old) (S.left lines.old))
+        (faults (H.faults shelf.old) (H.faults shelf.new))
+        (faults (S.faults lines.old) (S.faults lines.new)))
         (K.holds out.old) (K.holds out.new) result }
     ensures winner { result ≡ Status.Done → AskToSolve (texts words.now)
         → WritesWinner (texts words.now)
-        (outside (H.files shelf.old) (S.left lines.old) (H.faults shelf.old)
-        (H.faults shelf.new) (S.faults lines.old) (S.faults lines.new))
+        (world (H.files shelf.old) (S.left lines.old))
         (K.holds out.old) (K.holds out.new) }
     ensures first_winning_move { result ≡ Status.Done → AskToSolve (texts words.now)
         → WritesMove (texts words.now)
-        (outside (H.files shelf.old) (S.left lines.old) (H.faults shelf.old)
-        (H.faults shelf.new) (S.faults lines.old) (S.faults lines.new))
+        (world (H.files shelf.old) (S.left lines.old))
         (K.holds out.old) (K.holds out.new) }
     ensures steps { (limits : Limits) (setup : Position) (regions : List Region)
-        → AreNeededRegions (texts words.now) (H.files shelf.old) (S.left lines.old) limits setup
+        → AreNeededRegions (texts words.now)
+        (world (H.files shelf.old) (S.left lines.old)) limits setup
         → AreRegionsOfPlay setup.board regions → steps.new ≤ steps.old + most_steps limits regions }
     ensures few_steps { ¬ AskForEngine (texts words.now)
-        → AreSteps (texts words.now) (H.files shelf.old) (S.left lines.old) steps.old steps.new }
+        → AreSteps (texts words.now)
+        (world (H.files shelf.old) (S.left lines.old)) steps.old steps.new }
     ensures no_steps { ¬ NeedRegions (texts words.now) → ¬ AskForEngine (texts words.now)
         → steps.new ≡ steps.old }
     ensures at_end { result ≡ Status.Done → ReadSource (texts words.now)
@@ -233,8 +249,9 @@ pub fn run<H: Shelf, S: Source, K: Sink, L: Ledger>(
     ensures lines_unplayed { ¬ ReadSource (texts words.now) → ¬ AskForEngine (texts words.now)
         → (lines.new ≡ lines.old)
         ⊎ IsGameRun (texts words.now)
-        (outside (H.files shelf.old) (S.left lines.old) (H.faults shelf.old)
-        (H.faults shelf.new) (S.faults lines.old) (S.faults lines.new))
+        (outside (world (H.files shelf.old) (S.left lines.old))
+        (faults (H.faults shelf.old) (H.faults shelf.new))
+        (faults (S.faults lines.old) (S.faults lines.new)))
         (K.holds out.old) (K.holds out.new) result }
     ensures file_taken { ¬ AskToPlay (texts words.now) → ¬ AskForEngine (texts words.now)
         → TakesAtMost 1048577 (S.left lines.old) (S.left lines.new) }

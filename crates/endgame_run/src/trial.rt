@@ -57,7 +57,8 @@ pub(crate) fn run_trial<K: Sink, L: Ledger>(
     out: &mut K,
     steps: &mut Steps<L>,
 ) -> Status
-    ensures answered { IsTrialRun number (K.faults out.old) (K.faults out.new) (K.holds out.old) (K.holds out.new) result }
+    ensures answered { IsTrialRun number (K.faults out.old) (K.faults out.new) (K.holds out.old)
+        (K.holds out.new) result }
     ensures steps { AreTrialSteps number steps.old steps.new }
     ensures later_writes { K.faults out.old ≤ K.faults out.new }
 {

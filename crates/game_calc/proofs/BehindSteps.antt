@@ -14,10 +14,10 @@ use Rattle.game_calc.specs.Machine.State.{a_term, behind_term}
 use Rattle.game_calc.specs.declared.amounts.Amount.{Amount}
 use Rattle.game_calc.specs.declared.amounts.Opening.{Opening}
 use Rattle.game_calc.specs.declared.amounts.Sign.{Sign}
-use Rattle.game_calc.specs.declared.reading.Asked.{Asked}
-use Rattle.game_calc.specs.declared.reading.Asked.TheVariants as asked
-use Rattle.game_calc.specs.declared.reading.Place.{Place}
-use Rattle.game_calc.specs.declared.reading.Place.TheVariants as due
+use Rattle.game_calc.specs.declared.pending.Asked.{Asked}
+use Rattle.game_calc.specs.declared.pending.Asked.TheVariants as asked
+use Rattle.game_calc.specs.declared.pending.Place.{Place}
+use Rattle.game_calc.specs.declared.pending.Place.TheVariants as due
 use Rattle.game_calc.specs.declared.tokens.Kind.{Kind}
 use Rattle.game_calc.specs.declared.tokens.Kind.TheVariants.{End, Plus, Minus, Open, Close, Query, Game}
 use Rattle.game_calc.specs.declared.tokens.Token.{Token}

@@ -20,8 +20,8 @@ use Rattle.game_calc.specs.declared.amounts.Amount.{Amount}
 use Rattle.game_calc.specs.declared.amounts.Amount.TheVariants.{Known, TooLarge}
 use Rattle.game_calc.specs.declared.amounts.Opening.{Opening}
 use Rattle.game_calc.specs.declared.amounts.Sign.{Sign}
-use Rattle.game_calc.specs.declared.reading.Place.{Place}
-use Rattle.game_calc.specs.declared.reading.Place.TheVariants as due
+use Rattle.game_calc.specs.declared.pending.Place.{Place}
+use Rattle.game_calc.specs.declared.pending.Place.TheVariants as due
 use Rattle.game_calc.specs.declared.tokens.Kind.{Kind}
 use Rattle.game_calc.specs.declared.tokens.Kind.TheVariants.{End, Plus, Minus, Open, Close, Query, Game}
 use Rattle.game_calc.specs.declared.tokens.Token.{Token}

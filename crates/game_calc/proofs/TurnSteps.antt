@@ -25,9 +25,9 @@ use Rattle.game_calc.specs.declared.amounts.Opening.{Opening}
 use Rattle.game_calc.specs.declared.errors.CalcError.{CalcError}
 use Rattle.game_calc.specs.declared.errors.CalcError.TheVariants as calc
 use Rattle.game_calc.specs.declared.errors.CalcFault.TheVariants as fault
-use Rattle.game_calc.specs.declared.reading.Place.{Place}
-use Rattle.game_calc.specs.declared.reading.Place.TheVariants as due
-use Rattle.game_calc.specs.declared.reading.Turn.TheVariants as turn
+use Rattle.game_calc.specs.declared.pending.Place.{Place}
+use Rattle.game_calc.specs.declared.pending.Place.TheVariants as due
+use Rattle.game_calc.specs.declared.pending.Turn.TheVariants as turn
 use Rattle.game_calc.specs.declared.tokens.Kind.{Kind}
 use Rattle.game_calc.specs.declared.tokens.Kind.TheVariants.{End, Plus, Minus, Open, Close, Query, Game}
 use Rattle.game_calc.specs.declared.tokens.Token.{Token}

@@ -36,7 +36,8 @@ pub(crate) struct Opening {
 /// The opposite: one with as many parts, and numbers of the same sizes.
 fn opposite(alloc: Global, store: &mut Store, amount: Amount) -> Result<Amount, AllocError>
     requires { IsHeld store.old amount }
-    ensures amount { IfOk result (λ after. (limit : ℕ) (E : Expression) → IsAmount store.old limit E amount → IsAmount store.new limit (opposite E) after) }
+    ensures amount { IfOk result (λ after. (limit : ℕ) (E : Expression)
+        → IsAmount store.old limit E amount → IsAmount store.new limit (opposite E) after) }
     ensures held { IfOk result (λ after. IsHeld store.new after) }
     ensures kept { Extends store.old store.new }
 {
@@ -54,7 +55,8 @@ fn signed(
     amount: Amount,
 ) -> Result<Amount, AllocError>
     requires { IsHeld store.old amount }
-    ensures amount { IfOk result (λ after. (limit : ℕ) (E : Expression) → IsAmount store.old limit E amount → IsAmount store.new limit (signed sign E) after) }
+    ensures amount { IfOk result (λ after. (limit : ℕ) (E : Expression)
+        → IsAmount store.old limit E amount → IsAmount store.new limit (signed sign E) after) }
     ensures held { IfOk result (λ after. IsHeld store.new after) }
     ensures kept { Extends store.old store.new }
 {
@@ -74,7 +76,9 @@ fn known_sum(
 ) -> Result<Amount, AllocError>
     requires a { a < length store.old }
     requires b { b < length store.old }
-    ensures amount { IfOk result (λ after. (E F : Expression) → IsAmount store.old parts_limit E (Known a) → IsAmount store.old parts_limit F (Known b) → IsAmount store.new parts_limit (sum E F) after) }
+    ensures amount { IfOk result (λ after. (E F : Expression)
+        → IsAmount store.old parts_limit E (Known a) → IsAmount store.old parts_limit F (Known b)
+        → IsAmount store.new parts_limit (sum E F) after) }
     ensures held { IfOk result (λ after. IsHeld store.new after) }
     ensures kept { Extends store.old store.new }
 {
@@ -96,7 +100,9 @@ fn sum_of(
 ) -> Result<Amount, AllocError>
     requires first { IsHeld store.old first }
     requires second { IsHeld store.old second }
-    ensures amount { IfOk result (λ after. (E F : Expression) → IsAmount store.old parts_limit E first → IsAmount store.old parts_limit F second → IsAmount store.new parts_limit (sum E F) after) }
+    ensures amount { IfOk result (λ after. (E F : Expression)
+        → IsAmount store.old parts_limit E first → IsAmount store.old parts_limit F second
+        → IsAmount store.new parts_limit (sum E F) after) }
     ensures held { IfOk result (λ after. IsHeld store.new after) }
     ensures kept { Extends store.old store.new }
 {
@@ -119,7 +125,9 @@ pub(crate) fn with_term(
 ) -> Result<Amount, AllocError>
     requires before { IsHeldBefore store.old opening.before }
     requires term { IsHeld store.old term }
-    ensures amount { IfOk result (λ after. (o : Option Expression) (F : Expression) → IsBefore store.old parts_limit o opening.before → IsAmount store.old parts_limit F term → IsAmount store.new parts_limit (with_term o opening.sign F) after) }
+    ensures amount { IfOk result (λ after. (o : Option Expression) (F : Expression)
+        → IsBefore store.old parts_limit o opening.before → IsAmount store.old parts_limit F term
+        → IsAmount store.new parts_limit (with_term o opening.sign F) after) }
     ensures held { IfOk result (λ after. IsHeld store.new after) }
     ensures kept { Extends store.old store.new }
 {

@@ -10,7 +10,8 @@ ghost use Rattle.game_calc.specs.Expression.Line.{order, value};
 
 use crate::amounts::Amount;
 use crate::errors::CalcError;
-use crate::reading::{Asked, read_line};
+use crate::pending::Asked;
+use crate::reading::read_line;
 use game_canon::{Order, compare};
 use game_lines::{ShowError, show, write_showing, write_words};
 use game_store::{GameId, Store};
@@ -49,8 +50,11 @@ fn game_text(alloc: Global, store: &Store, id: GameId) -> Result<Text, CalcError
 /// The answer to a line that asks for the value of a sum.
 fn value_answer(alloc: Global, store: &Store, amount: Amount) -> Result<Text, CalcError>
     requires { IsHeld store.now amount }
-    ensures text { IfOk result (λ text. (limit : ℕ) (E : Expression) → IsAmount store.now limit E amount → (IsPastLimit limit (value E) → ⊥) × IsAnswer (value E) text) }
-    ensures refusal { IfErr result (λ error. (limit : ℕ) (E : Expression) → IsAmount store.now limit E amount → IsUnanswered limit (value E) error) }
+    ensures text { IfOk result (λ text. (limit : ℕ) (E : Expression)
+        → IsAmount store.now limit E amount → (IsPastLimit limit (value E) → ⊥)
+        × IsAnswer (value E) text) }
+    ensures refusal { IfErr result (λ error. (limit : ℕ) (E : Expression)
+        → IsAmount store.now limit E amount → IsUnanswered limit (value E) error) }
 {
     match amount {
         Amount::Known(id) => game_text(alloc, store, id),
@@ -79,8 +83,12 @@ fn order_answer(
 ) -> Result<Text, CalcError>
     requires first { IsHeld store.now first }
     requires second { IsHeld store.now second }
-    ensures text { IfOk result (λ text. (limit : ℕ) (E F : Expression) → IsAmount store.now limit E first → IsAmount store.now limit F second → (IsPastLimit limit (order E F) → ⊥) × IsAnswer (order E F) text) }
-    ensures refusal { IfErr result (λ error. (limit : ℕ) (E F : Expression) → IsAmount store.now limit E first → IsAmount store.now limit F second → IsUnanswered limit (order E F) error) }
+    ensures text { IfOk result (λ text. (limit : ℕ) (E F : Expression)
+        → IsAmount store.now limit E first → IsAmount store.now limit F second
+        → (IsPastLimit limit (order E F) → ⊥) × IsAnswer (order E F) text) }
+    ensures refusal { IfErr result (λ error. (limit : ℕ) (E F : Expression)
+        → IsAmount store.now limit E first → IsAmount store.now limit F second
+        → IsUnanswered limit (order E F) error) }
 {
     match first {
         Amount::TooLarge => Err(CalcError::Limit),
@@ -94,8 +102,10 @@ fn order_answer(
 /// The answer to what a line asks for.
 fn answer_asked(alloc: Global, store: &Store, asked: Asked) -> Result<Text, CalcError>
     requires { IsAskedHeld store.now asked }
-    ensures text { IfOk result (λ text. (limit : ℕ) (line : Line) → IsAsked store.now limit line asked → (IsPastLimit limit line → ⊥) × IsAnswer line text) }
-    ensures refusal { IfErr result (λ error. (limit : ℕ) (line : Line) → IsAsked store.now limit line asked → IsUnanswered limit line error) }
+    ensures text { IfOk result (λ text. (limit : ℕ) (line : Line)
+        → IsAsked store.now limit line asked → (IsPastLimit limit line → ⊥) × IsAnswer line text) }
+    ensures refusal { IfErr result (λ error. (limit : ℕ) (line : Line)
+        → IsAsked store.now limit line asked → IsUnanswered limit line error) }
 {
     match asked {
         Asked::Value(amount) => value_answer(alloc, store, amount),

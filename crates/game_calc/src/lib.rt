@@ -6,6 +6,7 @@ mod answering;
 mod errors;
 mod laws;
 mod pair;
+mod pending;
 mod reading;
 mod sums;
 mod table;

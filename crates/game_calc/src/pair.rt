@@ -33,7 +33,8 @@ fn add_sums(
     found: &mut Vec<GameId>,
 ) -> Result<(), AllocError>
     requires { AreKnown (beside (noted sums.now) summand other) ids.now }
-    ensures { OnOk result (AddsSums (beside (noted sums.now) summand other) ids.now found.old.items found.new.items) }
+    ensures { OnOk result
+        (AddsSums (beside (noted sums.now) summand other) ids.now found.old.items found.new.items) }
 {
     'adding: for id in ids {
         match noted_sum(sums, summand, *id, other) {
@@ -55,7 +56,9 @@ fn add_moves(
 ) -> Result<(), AllocError>
     requires moved { moved < length store.now }
     requires known { AreMovesKnown store.now (beside (noted sums.now) summand other) moved }
-    ensures { OnOk result (AddsMoves store.now (beside (noted sums.now) summand other) moved options.old.left.items options.old.right.items options.new.left.items options.new.right.items) }
+    ensures { OnOk result (AddsMoves store.now
+        (beside (noted sums.now) summand other) moved options.old.left.items
+        options.old.right.items options.new.left.items options.new.right.items) }
 {
     match store.node(moved) {
         Form::Number(_) => Ok(()),
@@ -70,7 +73,8 @@ fn add_moves(
 /// The number that a form is.
 fn number_of(store: &Store, id: GameId) -> Option<Dyadic>
     requires { id < length store.now }
-    ensures { MatchOption result (IsNumberTree (tree_at store.now id) → ⊥) (λ x. tree_at store.now id ≡ number_tree x) }
+    ensures { MatchOption result (IsNumberTree (tree_at store.now id) → ⊥)
+        (λ x. tree_at store.now id ≡ number_tree x) }
 {
     match store.node(id) {
         Form::Number(x) => Some(x),
@@ -82,7 +86,9 @@ fn number_of(store: &Store, id: GameId) -> Option<Dyadic>
 fn both_numbers(store: &Store, a: GameId, b: GameId) -> Option<(Dyadic, Dyadic)>
     requires a { a < length store.now }
     requires b { b < length store.now }
-    ensures { MatchOption result (IsNumberTree (tree_at store.now a) → IsNumberTree (tree_at store.now b) → ⊥) (λ p. (tree_at store.now a ≡ number_tree p.0) × (tree_at store.now b ≡ number_tree p.1)) }
+    ensures { MatchOption result (IsNumberTree (tree_at store.now a)
+        → IsNumberTree (tree_at store.now b) → ⊥)
+        (λ p. (tree_at store.now a ≡ number_tree p.0) × (tree_at store.now b ≡ number_tree p.1)) }
 {
     let x = number_of(store, a)?;
     let y = number_of(store, b)?;
@@ -96,9 +102,11 @@ fn number_sum(
     y: Dyadic,
     parts_limit: u32,
 ) -> Result<GameId, FormError>
-    ensures value { IfOk result (λ id. IsCanonicalId store.new (number_tree x +ᵍ number_tree y) id) }
+    ensures value { IfOk result (λ id. IsCanonicalId store.new
+        (number_tree x +ᵍ number_tree y) id) }
     ensures parts { IfOk result (λ id. HasMoreParts (tree_at store.new id) parts_limit → ⊥) }
-    ensures refusal { IfErr result (λ error. IsPairRefusal (number_tree x +ᵍ number_tree y) parts_limit error) }
+    ensures refusal { IfErr result (λ error. IsPairRefusal
+        (number_tree x +ᵍ number_tree y) parts_limit error) }
     ensures kept { Extends store.old store.new }
 {
     let Some(sum) = x.add(y) else {
@@ -125,9 +133,11 @@ pub(crate) fn pair_sum(
     requires second { AreMovesKnown store.old (λ i. noted sums.now a i) b }
     requires right { AreRight store.old parts_limit (noted sums.now) }
     requires comparisons { AreFormComparisonsRight store.old comparisons.old }
-    ensures value { IfOk result (λ id. IsCanonicalId store.new (tree_at store.old a +ᵍ tree_at store.old b) id) }
+    ensures value { IfOk result (λ id. IsCanonicalId store.new
+        (tree_at store.old a +ᵍ tree_at store.old b) id) }
     ensures parts { IfOk result (λ id. HasMoreParts (tree_at store.new id) parts_limit → ⊥) }
-    ensures refusal { IfErr result (λ error. IsPairRefusal (tree_at store.old a +ᵍ tree_at store.old b) parts_limit error) }
+    ensures refusal { IfErr result (λ error. IsPairRefusal
+        (tree_at store.old a +ᵍ tree_at store.old b) parts_limit error) }
     ensures comparisons { AreFormComparisonsRight store.new comparisons.new }
     ensures kept { Extends store.old store.new }
 {

@@ -7,11 +7,12 @@ ghost use Rattle.game_text.specs.Reading.{IsReadRefusal, ReadsText};
 ghost use Rattle.game_canon.specs.Outcomes.{IsCanonicalId};
 ghost use Rattle.game_calc.specs.Expression.{Line, ReadsLine, first_bytes, first_sign, kind, next, token};
 ghost use Rattle.game_calc.specs.Machine.{IsAsked, IsGameRefusal, IsLineRefusal, IsReading, IsTokenAt, IsTurn};
-ghost use Rattle.game_calc.specs.declared.reading.Place.TheVariants as due;
+ghost use Rattle.game_calc.specs.declared.pending.Place.TheVariants as due;
 ghost use Rattle.game_calc.specs.declared.tokens.Kind.TheVariants as the_kind;
 
 use crate::amounts::{Amount, Opening, Sign, with_term};
 use crate::errors::{CalcError, CalcFault};
+use crate::pending::{Asked, Pending, Place, Source, Step, Turn};
 use crate::tokens::{Kind, Token, next_token};
 use game_store::{GameId, Store};
 use game_text::{ReadError, read};
@@ -20,53 +21,13 @@ use std::alloc::Global;
 /// The most parentheses that may be open at once.
 const MOST_OPEN: usize = 1000;
 
-/// What a line asks for: the value of a sum, or the order of two.
-#[derive(Clone, Copy)]
-pub(crate) enum Asked {
-    Value(Amount),
-    Order(Amount, Amount),
-}
-
-/// What is due: a term, or what may stand behind one.
-#[derive(Clone, Copy)]
-pub(crate) enum Place {
-    Term(Opening),
-    Behind(Amount),
-}
-
-/// A place of the line, and what is due there.
-#[derive(Clone, Copy)]
-pub(crate) struct Step {
-    at: usize,
-    place: Place,
-}
-
-/// What a token leads to: the next step, or what the whole line asks for.
-#[derive(Clone, Copy)]
-pub(crate) enum Turn {
-    Next(Step),
-    Whole(Asked),
-}
-
-/// What stands before each parenthesis that is open, the innermost last; and the first sum, once its `?` was read.
-#[derive(Drop)]
-pub(crate) struct Pending {
-    opens: Vec<Opening>,
-    first: Option<Amount>,
-}
-
-/// A line, and how many parts a form may have.
-#[derive(Clone, Copy)]
-pub(crate) struct Source<'a> {
-    text: &'a [u8],
-    parts_limit: u32,
-}
-
 /// Where the first term of a sum is due, behind its sign.
 fn sum_start(text: &[u8], at: usize) -> Step
     requires { at ≤ length text.now }
-    ensures place { result.place ≡ due.Term (record { before = None; sign = first_sign (kind (drop at text.now)) }) }
-    ensures bytes { drop result.at text.now ≡ first_bytes (kind (drop at text.now)) (drop at text.now) }
+    ensures place { result.place ≡ due.Term (record { before = None; sign = first_sign
+        (kind (drop at text.now)) }) }
+    ensures bytes { drop result.at text.now ≡ first_bytes (kind (drop at text.now))
+        (drop at text.now) }
     ensures forward { at ≤ result.at }
     ensures within { result.at ≤ length text.now }
 {
@@ -92,8 +53,10 @@ fn sum_start(text: &[u8], at: usize) -> Step
 /// Why a line is refused whose token names no game.
 fn refusal_of(source: &Source<'_>, word: Token, error: ReadError) -> CalcError
     requires within { (word.start ≤ word.end) × (word.end ≤ length source.now.text.now) }
-    requires refusal { IsReadRefusal source.now.parts_limit (slice_range source.now.text.now word.start word.end) error }
-    ensures { (at : ℕ) → IsTokenAt source.now.text.now at word → word.kind ≡ the_kind.Game → IsGameRefusal source.now.parts_limit source.now.text.now at result }
+    requires refusal { IsReadRefusal source.now.parts_limit
+        (slice_range source.now.text.now word.start word.end) error }
+    ensures { (at : ℕ) → IsTokenAt source.now.text.now at word → word.kind ≡ the_kind.Game
+        → IsGameRefusal source.now.parts_limit source.now.text.now at result }
 {
     match error {
         ReadError::BadByte(place) => CalcError::Fault(CalcFault::Byte(word.start + place)),
@@ -121,7 +84,9 @@ fn read_game(
 ) -> Result<GameId, CalcError>
     requires word { IsTokenAt source.now.text.now at word }
     requires game { word.kind ≡ the_kind.Game }
-    ensures named { IfOk result (λ id. (G : Tree) × ReadsText source.now.parts_limit (token (next (drop at source.now.text.now))) (Ok G) × IsCanonicalId store.new G id) }
+    ensures named { IfOk result (λ id. (G : Tree)
+        × ReadsText source.now.parts_limit (token (next (drop at source.now.text.now))) (Ok G)
+        × IsCanonicalId store.new G id) }
     ensures refusal { IfErr result (IsGameRefusal source.now.parts_limit source.now.text.now at) }
     ensures kept { Extends store.old store.new }
 {
@@ -142,11 +107,14 @@ fn read_named(
     word: Token,
     opening: Opening,
 ) -> Result<Turn, CalcError>
-    requires reading { IsReading store.old source.now.parts_limit source.now.text.now at (due.Term opening) pending.now.opens.items pending.now.first }
+    requires reading { IsReading store.old source.now.parts_limit source.now.text.now at
+        (due.Term opening) pending.now.opens.items pending.now.first }
     requires word { IsTokenAt source.now.text.now at word }
     requires some { word.start < word.end }
     requires game { word.kind ≡ the_kind.Game }
-    ensures turn { IfOk result (λ turn. IsTurn store.new source.now.parts_limit source.now.text.now at turn pending.now.opens.items pending.now.first) }
+    ensures turn { IfOk result
+        (λ turn. IsTurn store.new source.now.parts_limit source.now.text.now at turn
+        pending.now.opens.items pending.now.first) }
     ensures refusal { IfErr result (IsLineRefusal source.now.parts_limit source.now.text.now) }
     ensures kept { Extends store.old store.new }
 {
@@ -167,11 +135,14 @@ fn open_group(
     word: Token,
     opening: Opening,
 ) -> Result<Turn, CalcError>
-    requires reading { IsReading store.now source.now.parts_limit source.now.text.now at (due.Term opening) pending.old.opens.items pending.old.first }
+    requires reading { IsReading store.now source.now.parts_limit source.now.text.now at
+        (due.Term opening) pending.old.opens.items pending.old.first }
     requires word { IsTokenAt source.now.text.now at word }
     requires some { word.start < word.end }
     requires open { word.kind ≡ the_kind.Open }
-    ensures turn { IfOk result (λ turn. IsTurn store.now source.now.parts_limit source.now.text.now at turn pending.new.opens.items pending.new.first) }
+    ensures turn { IfOk result
+        (λ turn. IsTurn store.now source.now.parts_limit source.now.text.now at turn
+        pending.new.opens.items pending.new.first) }
     ensures refusal { IfErr result (IsLineRefusal source.now.parts_limit source.now.text.now) }
 {
     if pending.opens.len() >= MOST_OPEN {
@@ -191,8 +162,11 @@ fn read_term(
     at: usize,
     opening: Opening,
 ) -> Result<Turn, CalcError>
-    requires reading { IsReading store.old source.now.parts_limit source.now.text.now at (due.Term opening) pending.old.opens.items pending.old.first }
-    ensures turn { IfOk result (λ turn. IsTurn store.new source.now.parts_limit source.now.text.now at turn pending.new.opens.items pending.new.first) }
+    requires reading { IsReading store.old source.now.parts_limit source.now.text.now at
+        (due.Term opening) pending.old.opens.items pending.old.first }
+    ensures turn { IfOk result
+        (λ turn. IsTurn store.new source.now.parts_limit source.now.text.now at turn
+        pending.new.opens.items pending.new.first) }
     ensures refusal { IfErr result (IsLineRefusal source.now.parts_limit source.now.text.now) }
     ensures kept { Extends store.old store.new }
 {
@@ -218,11 +192,14 @@ fn close_group(
     word: Token,
     amount: Amount,
 ) -> Result<Turn, CalcError>
-    requires reading { IsReading store.old source.now.parts_limit source.now.text.now at (due.Behind amount) pending.old.opens.items pending.old.first }
+    requires reading { IsReading store.old source.now.parts_limit source.now.text.now at
+        (due.Behind amount) pending.old.opens.items pending.old.first }
     requires word { IsTokenAt source.now.text.now at word }
     requires some { word.start < word.end }
     requires close { word.kind ≡ the_kind.Close }
-    ensures turn { IfOk result (λ turn. IsTurn store.new source.now.parts_limit source.now.text.now at turn pending.new.opens.items pending.new.first) }
+    ensures turn { IfOk result
+        (λ turn. IsTurn store.new source.now.parts_limit source.now.text.now at turn
+        pending.new.opens.items pending.new.first) }
     ensures refusal { IfErr result (IsLineRefusal source.now.parts_limit source.now.text.now) }
     ensures kept { Extends store.old store.new }
 {
@@ -245,11 +222,14 @@ fn second_sum(
     word: Token,
     amount: Amount,
 ) -> Result<Turn, CalcError>
-    requires reading { IsReading store.now source.now.parts_limit source.now.text.now at (due.Behind amount) pending.old.opens.items pending.old.first }
+    requires reading { IsReading store.now source.now.parts_limit source.now.text.now at
+        (due.Behind amount) pending.old.opens.items pending.old.first }
     requires word { IsTokenAt source.now.text.now at word }
     requires some { word.start < word.end }
     requires query { word.kind ≡ the_kind.Query }
-    ensures turn { IfOk result (λ turn. IsTurn store.now source.now.parts_limit source.now.text.now at turn pending.new.opens.items pending.new.first) }
+    ensures turn { IfOk result
+        (λ turn. IsTurn store.now source.now.parts_limit source.now.text.now at turn
+        pending.new.opens.items pending.new.first) }
     ensures refusal { IfErr result (IsLineRefusal source.now.parts_limit source.now.text.now) }
 {
     if !pending.opens.is_empty() {
@@ -272,9 +252,12 @@ fn whole(
     at: usize,
     amount: Amount,
 ) -> Result<Turn, CalcError>
-    requires reading { IsReading store.now source.now.parts_limit source.now.text.now at (due.Behind amount) pending.now.opens.items pending.now.first }
+    requires reading { IsReading store.now source.now.parts_limit source.now.text.now at
+        (due.Behind amount) pending.now.opens.items pending.now.first }
     requires end { kind (drop at source.now.text.now) ≡ the_kind.End }
-    ensures turn { IfOk result (λ turn. IsTurn store.now source.now.parts_limit source.now.text.now at turn pending.now.opens.items pending.now.first) }
+    ensures turn { IfOk result
+        (λ turn. IsTurn store.now source.now.parts_limit source.now.text.now at turn
+        pending.now.opens.items pending.now.first) }
     ensures refusal { IfErr result (IsLineRefusal source.now.parts_limit source.now.text.now) }
 {
     if !pending.opens.is_empty() {
@@ -295,8 +278,11 @@ fn read_behind(
     at: usize,
     amount: Amount,
 ) -> Result<Turn, CalcError>
-    requires reading { IsReading store.old source.now.parts_limit source.now.text.now at (due.Behind amount) pending.old.opens.items pending.old.first }
-    ensures turn { IfOk result (λ turn. IsTurn store.new source.now.parts_limit source.now.text.now at turn pending.new.opens.items pending.new.first) }
+    requires reading { IsReading store.old source.now.parts_limit source.now.text.now at
+        (due.Behind amount) pending.old.opens.items pending.old.first }
+    ensures turn { IfOk result
+        (λ turn. IsTurn store.new source.now.parts_limit source.now.text.now at turn
+        pending.new.opens.items pending.new.first) }
     ensures refusal { IfErr result (IsLineRefusal source.now.parts_limit source.now.text.now) }
     ensures kept { Extends store.old store.new }
 {
@@ -332,8 +318,11 @@ fn read_turn(
     source: &Source<'_>,
     step: Step,
 ) -> Result<Turn, CalcError>
-    requires reading { IsReading store.old source.now.parts_limit source.now.text.now step.at step.place pending.old.opens.items pending.old.first }
-    ensures turn { IfOk result (λ turn. IsTurn store.new source.now.parts_limit source.now.text.now step.at turn pending.new.opens.items pending.new.first) }
+    requires reading { IsReading store.old source.now.parts_limit source.now.text.now step.at
+        step.place pending.old.opens.items pending.old.first }
+    ensures turn { IfOk result
+        (λ turn. IsTurn store.new source.now.parts_limit source.now.text.now step.at turn
+        pending.new.opens.items pending.new.first) }
     ensures refusal { IfErr result (IsLineRefusal source.now.parts_limit source.now.text.now) }
     ensures kept { Extends store.old store.new }
 {
@@ -351,7 +340,8 @@ pub(crate) fn read_line(
     text: &[u8],
     parts_limit: u32,
 ) -> Result<Asked, CalcError>
-    ensures asked { IfOk result (λ asked. (line : Line) × ReadsLine parts_limit text.now (Ok line) × IsAsked store.new parts_limit line asked) }
+    ensures asked { IfOk result (λ asked. (line : Line) × ReadsLine parts_limit text.now (Ok line)
+        × IsAsked store.new parts_limit line asked) }
     ensures refusal { IfErr result (IsLineRefusal parts_limit text.now) }
     ensures kept { Extends store.old store.new }
 {

@@ -35,7 +35,9 @@ fn add_row(
     ensures right { OnOk result (AreRight store.new parts_limit (noted sums.new)) }
     ensures comparisons { OnOk result (AreFormComparisonsRight store.new comparisons.new) }
     ensures grows { OnOk result (Grows (noted sums.old) (noted sums.new)) }
-    ensures refusal { IfErr result (λ error. (j : ℕ) × (j < length places.now) × IsPairRefusal (tree_at store.old a +ᵍ tree_at store.old (slice_index places.now j)) parts_limit error) }
+    ensures refusal { IfErr result (λ error. (j : ℕ) × (j < length places.now)
+        × IsPairRefusal (tree_at store.old a +ᵍ tree_at store.old
+        (slice_index places.now j)) parts_limit error) }
     ensures kept { Extends store.old store.new }
 {
     let _count = store.len();
@@ -60,10 +62,14 @@ fn add_all(
     requires second { AreClosed store.old second.now }
     requires right { AreRight store.old parts_limit (noted sums.old) }
     requires comparisons { AreFormComparisonsRight store.old comparisons.old }
-    ensures known { OnOk result (AreRowsKnown (noted sums.new) first.now second.now (length first.now)) }
+    ensures known { OnOk result (AreRowsKnown (noted sums.new) first.now second.now
+        (length first.now)) }
     ensures right { OnOk result (AreRight store.new parts_limit (noted sums.new)) }
     ensures comparisons { OnOk result (AreFormComparisonsRight store.new comparisons.new) }
-    ensures refusal { IfErr result (λ error. (i j : ℕ) × (i < length first.now) × (j < length second.now) × IsPairRefusal (tree_at store.old (slice_index first.now i) +ᵍ tree_at store.old (slice_index second.now j)) parts_limit error) }
+    ensures refusal { IfErr result (λ error. (i j : ℕ) × (i < length first.now)
+        × (j < length second.now) × IsPairRefusal
+        (tree_at store.old (slice_index first.now i) +ᵍ tree_at store.old
+        (slice_index second.now j)) parts_limit error) }
     ensures kept { Extends store.old store.new }
 {
     let _count = store.len();
@@ -85,9 +91,12 @@ pub fn add(
 ) -> Result<GameId, FormError>
     requires a { a < length store.old }
     requires b { b < length store.old }
-    ensures value { IfOk result (λ id. IsCanonicalId store.new (tree_at store.old a +ᵍ tree_at store.old b) id) }
-    ensures within { IfOk result (λ _. IsOutOfLimits parts_limit (tree_at store.old a) (tree_at store.old b) → ⊥) }
-    ensures refusal { IfErr result (λ error. IsStepRefusal parts_limit (tree_at store.old a) (tree_at store.old b) error) }
+    ensures value { IfOk result (λ id. IsCanonicalId store.new
+        (tree_at store.old a +ᵍ tree_at store.old b) id) }
+    ensures within { IfOk result (λ _. IsOutOfLimits parts_limit (tree_at store.old a)
+        (tree_at store.old b) → ⊥) }
+    ensures refusal { IfErr result (λ error. IsStepRefusal parts_limit (tree_at store.old a)
+        (tree_at store.old b) error) }
     ensures kept { Extends store.old store.new }
 {
     let _count = store.len();

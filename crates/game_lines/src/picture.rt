@@ -43,7 +43,8 @@ fn write_number_line(
     label: &str,
     x: Dyadic,
 ) -> Result<(), AllocError>
-    ensures { OnOk result (string_bytes text.new ≡ string_bytes text.old ++ word_line label.now (number x)) }
+    ensures { OnOk result (string_bytes text.new ≡ string_bytes text.old ++ word_line label.now
+        (number x)) }
 {
     text.push_str(label)?;
     text.push_str(" ")?;
@@ -57,7 +58,8 @@ fn write_temperature(
     text: &mut String,
     temperature: Option<Dyadic>,
 ) -> Result<(), AllocError>
-    ensures { OnOk result (string_bytes text.new ≡ string_bytes text.old ++ word_line (codes "temperature") (temperature_word temperature)) }
+    ensures { OnOk result (string_bytes text.new ≡ string_bytes text.old ++ word_line
+        (codes "temperature") (temperature_word temperature)) }
 {
     match temperature {
         Some(temperature) => write_number_line(alloc, text, "temperature", temperature),
@@ -83,7 +85,8 @@ fn write_breaks(
     text: &mut String,
     wall: &[(Dyadic, Dyadic)],
 ) -> Result<(), AllocError>
-    ensures { OnOk result (string_bytes text.new ≡ string_bytes text.old ++ flat_map break_point wall.now) }
+    ensures { OnOk result
+        (string_bytes text.new ≡ string_bytes text.old ++ flat_map break_point wall.now) }
 {
     'writing: for point in wall {
         write_break(alloc, text, *point)?;
@@ -94,7 +97,8 @@ fn write_breaks(
 /// Appends the line of a wall.
 #[tactic(auto, using(std::proofs::Common::append_assoc), unfolding(crate::specs::Pictures::wall_line))]
 fn write_wall(alloc: Global, text: &mut String, label: &str, wall: &Wall) -> Result<(), AllocError>
-    ensures { OnOk result (string_bytes text.new ≡ string_bytes text.old ++ wall_line label.now wall.now) }
+    ensures { OnOk result
+        (string_bytes text.new ≡ string_bytes text.old ++ wall_line label.now wall.now) }
 {
     text.push_str(label)?;
     write_breaks(alloc, text, wall.as_slice())?;
@@ -109,7 +113,8 @@ pub(crate) fn write_picture(
     stops: (Dyadic, Dyadic),
     drawn: &Thermograph,
 ) -> Result<(), AllocError>
-    ensures { OnOk result (string_bytes text.new ≡ string_bytes text.old ++ picture_lines (record { left_stop = stops.0; right_stop = stops.1; thermograph = drawn.now })) }
+    ensures { OnOk result (string_bytes text.new ≡ string_bytes text.old ++ picture_lines
+        (record { left_stop = stops.0; right_stop = stops.1; thermograph = drawn.now })) }
 {
     write_stops(alloc, text, stops.0, stops.1)?;
     write_number_line(alloc, text, "mean", drawn.mean)?;

@@ -49,7 +49,8 @@ pub struct Showing {
 fn shown_text(alloc: Global, store: &Store, id: GameId) -> Result<Text, ShowError>
     requires { id < length store.now }
     ensures text { IfOk result (λ t. t ≡ named_text (tree_at store.now id)) }
-    ensures within { IfOk result (λ t. (length t ≤ 65536) × (named_depth (tree_at store.now id) ≤ 1000)) }
+    ensures within { IfOk result (λ t. (length t ≤ 65536)
+        × (named_depth (tree_at store.now id) ≤ 1000)) }
     ensures refusal { IfErr result (IsShowRefusal (tree_at store.now id)) }
 {
     match write(alloc, store, id, 65_536) {
@@ -93,7 +94,8 @@ pub fn show(alloc: Global, store: &Store, id: GameId) -> Result<Showing, ShowErr
 
 /// The lines behind the text of a game.
 fn picture_text(alloc: Global, showing: &Showing) -> Result<String, AllocError>
-    ensures { IfOk result (λ t. string_bytes t ≡ codes "\n" ++ picture_lines (picture showing.now)) }
+    ensures { IfOk result (λ t. string_bytes t ≡ codes "\n" ++ picture_lines
+        (picture showing.now)) }
 {
     let mut lines = String::new(alloc);
     lines.push_str("\n")?;
@@ -108,7 +110,8 @@ fn picture_text(alloc: Global, showing: &Showing) -> Result<String, AllocError>
 
 /// Appends the lines that show a game: `value`, `stops`, `mean`, `temperature`, `left` and `right`.
 pub fn write_showing(alloc: Global, text: &mut Text, showing: &Showing) -> Result<(), AllocError>
-    ensures { OnOk result (text.new ≡ text.old ++ game_lines showing.now.text (picture showing.now)) }
+    ensures { OnOk result (text.new ≡ text.old ++ game_lines showing.now.text
+        (picture showing.now)) }
 {
     text.extend_from_slice(b"value ")?;
     text.extend_from_slice(showing.text.as_slice())?;

@@ -9,8 +9,8 @@ use Rattle.game_text.specs.Machine.{IsFormTaken}
 use Rattle.std.specs.Prelude.{Result, Ok, Err, IfErr, IfOk, Option, Some, None, MatchOption, slice_range}
 use Rattle.game_text.specs.declared.errors.ReadError.{ReadError}
 use Rattle.game_text.specs.declared.errors.ReadError.TheVariants as reading
-use Rattle.game_text.specs.declared.reading.Place.{Place}
-use Rattle.game_text.specs.declared.reading.Place.TheVariants as place
+use Rattle.game_text.specs.declared.pending.Place.{Place}
+use Rattle.game_text.specs.declared.pending.Place.TheVariants as place
 use Rattle.game_text.specs.Depth.{most_open}
 use Rattle.game_text.specs.Reading.{Names, Refuses, IsReadRefusal}
 use Rattle.game_text.specs.Reading.Fault.{too_deep, cut_short}

@@ -21,9 +21,9 @@ use Rattle.game_text.specs.Depth.{most_open}
 use Rattle.game_text.specs.Reading.{IsNumberByte, IsNameByte, ReadsName, IsClosed, IsReadRefusal, AreNumberBytes, EndsNumber, IsRun, IsNumberText, mark_of, BeginsOtherwise, ReadsText, Names, Refuses, RefusesAt}
 use Rattle.game_text.specs.Reading.Fault.{bad_byte, bad_number, cut_short, too_deep}
 use Rattle.game_text.specs.Machine.{Answer, Frame, on_left, side_in, State, first_option, a_game, other_options, all_read, Rest, opening_at, AreOpen, Keeps, IsReading, place_after, mark_at, EndsRunAt, IsEnded}
-use Rattle.game_text.specs.declared.reading.Opening.{Opening}
-use Rattle.game_text.specs.declared.reading.Place.{Place}
-use Rattle.game_text.specs.declared.reading.Place.TheVariants as place
+use Rattle.game_text.specs.declared.pending.Opening.{Opening}
+use Rattle.game_text.specs.declared.pending.Place.{Place}
+use Rattle.game_text.specs.declared.pending.Place.TheVariants as place
 use Rattle.game_text.proofs.MachineSteps.{state_after, first-game, comma-game, mark-behind, brace-open, number-read, bad-number, deep-open, stray-game, name-read, name-closed, name-refused, stray-behind, cut, start}
 use Rattle.game_text.proofs.ReadingSteps.{byte-drop, mark-is, frames-many, open-kept, game-taken}
 

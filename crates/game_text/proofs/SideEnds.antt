@@ -13,9 +13,9 @@ use Rattle.game_text.specs.Refusals.{IsFormRefusal}
 use Rattle.game_text.specs.Machine.{Answer, Frame, on_left, on_right, State, first_option, a_game, other_options, all_read, Rest, AreNamed, opening_at, AreOpen, Keeps, IsReading, IsMarkOfInnermost, place_after, mark_at, IsFormTaken}
 use Rattle.game_text.specs.declared.errors.ReadError.{ReadError}
 use Rattle.game_text.specs.declared.errors.ReadError.TheVariants as reading
-use Rattle.game_text.specs.declared.reading.Opening.{Opening}
-use Rattle.game_text.specs.declared.reading.Place.{Place}
-use Rattle.game_text.specs.declared.reading.Place.TheVariants as place
+use Rattle.game_text.specs.declared.pending.Opening.{Opening}
+use Rattle.game_text.specs.declared.pending.Place.{Place}
+use Rattle.game_text.specs.declared.pending.Place.TheVariants as place
 use Rattle.game_text.proofs.MachineSteps.{state_after, bar-right, brace-closed, closed-refused, after-game}
 use Rattle.game_text.proofs.NamedForms.{named-ids, canonical-node, closed-taken, closed-many, closed-far}
 use Rattle.game_text.proofs.ReadingSteps.{byte-drop, last-of, open-kept, game-taken}

@@ -13,10 +13,10 @@ use Rattle.game_text.specs.declared.errors.ReadError.{ReadError}
 use Rattle.game_text.specs.declared.errors.ReadError.TheVariants as error
 use Rattle.game_canon.specs.declared.errors.FormError.TheVariants as form
 use Rattle.game_text.specs.Reading.Outcome.{reads, refused}
-use Rattle.game_text.specs.declared.reading.Opening.{Opening}
-use Rattle.game_text.specs.declared.reading.Step.{Step}
-use Rattle.game_text.specs.declared.reading.Place.{Place}
-use Rattle.game_text.specs.declared.reading.Place.TheVariants as place
+use Rattle.game_text.specs.declared.pending.Opening.{Opening}
+use Rattle.game_text.specs.declared.pending.Step.{Step}
+use Rattle.game_text.specs.declared.pending.Place.{Place}
+use Rattle.game_text.specs.declared.pending.Place.TheVariants as place
 
 abbrev pub Answer : Type 0
 Answer = Result Tree Fault

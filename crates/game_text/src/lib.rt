@@ -6,6 +6,7 @@ mod laws;
 mod named_games;
 mod names;
 mod numbers;
+mod pending;
 mod reading;
 #[cfg(test)]
 mod tests;

@@ -63,7 +63,8 @@ fn are_digits_of(alloc: Global, digits: &[u8], number: u64) -> Result<bool, Allo
 
 /// The number of which the digits name the nimber.
 fn nimber_number(alloc: Global, digits: &[u8]) -> Result<Option<u64>, AllocError>
-    ensures { IfOk result (λ found. MatchOption found ((n : ℕ) → IsNimberDigits n digits.now → ⊥) (λ n. IsNimberDigits n digits.now)) }
+    ensures { IfOk result (λ found. MatchOption found ((n : ℕ) → IsNimberDigits n digits.now → ⊥)
+        (λ n. IsNimberDigits n digits.now)) }
 {
     let Some(number) = parsed_count(digits) else {
         return Ok(None);
@@ -139,8 +140,10 @@ fn taken_choice(
 ) -> Result<GameId, ReadError>
     requires left { left < length store.old }
     requires right { right < length store.old }
-    ensures taken { IfOk result (λ id. IsTaken store.new parts_limit (choice (tree_at store.old left) (tree_at store.old right)) id) }
-    ensures refusal { IfErr result (λ e. IsFormRefusal (choice (tree_at store.old left) (tree_at store.old right)) parts_limit e) }
+    ensures taken { IfOk result (λ id. IsTaken store.new parts_limit
+        (choice (tree_at store.old left) (tree_at store.old right)) id) }
+    ensures refusal { IfErr result (λ e. IsFormRefusal
+        (choice (tree_at store.old left) (tree_at store.old right)) parts_limit e) }
     ensures kept { Extends store.old store.new }
 {
     Ok(canonical(alloc, store, &[left], &[right], parts_limit)?)
@@ -196,8 +199,10 @@ fn taken_switch(
 fn star_number(alloc: Global, text: &[u8], start: usize, end: usize) -> Result<u64, ReadError>
     requires { EndsDigitsAt text.now start end }
     ensures some { IfOk result (λ n. 0 < n) }
-    ensures number { IfOk result (λ n. ReadsNimber (drop start text.now) (reads (nimber n) (drop end text.now))) }
-    ensures refusal { IfErr result (λ e. (parts_limit : ℕ) → IsRefusedBy ReadsNimber parts_limit text.now start e) }
+    ensures number { IfOk result (λ n. ReadsNimber (drop start text.now)
+        (reads (nimber n) (drop end text.now))) }
+    ensures refusal { IfErr result (λ e. (parts_limit : ℕ)
+        → IsRefusedBy ReadsNimber parts_limit text.now start e) }
 {
     if end == start {
         return Ok(1);
@@ -217,7 +222,8 @@ pub(crate) fn read_nimber(
     parts_limit: u32,
 ) -> Result<Found, ReadError>
     requires { start ≤ length text.now }
-    ensures found { IfOk result (λ found. IsFoundBy ReadsNimber store.new parts_limit text.now start found) }
+    ensures found { IfOk result
+        (λ found. IsFoundBy ReadsNimber store.new parts_limit text.now start found) }
     ensures refusal { IfErr result (λ e. IsRefusedBy ReadsNimber parts_limit text.now start e) }
     ensures kept { Extends store.old store.new }
 {
@@ -243,7 +249,8 @@ pub(crate) fn read_switch(
     parts_limit: u32,
 ) -> Result<Found, ReadError>
     requires { start ≤ length text.now }
-    ensures found { IfOk result (λ found. IsFoundBy ReadsSwitch store.new parts_limit text.now start found) }
+    ensures found { IfOk result
+        (λ found. IsFoundBy ReadsSwitch store.new parts_limit text.now start found) }
     ensures refusal { IfErr result (λ e. IsRefusedBy ReadsSwitch parts_limit text.now start e) }
     ensures kept { Extends store.old store.new }
 {

@@ -67,7 +67,8 @@ pub(crate) fn nimbers_of(
 
 /// Whether the id is that of the nimber of this number.
 fn is_nimber(nimbers: &[GameId], id: GameId, number: usize) -> bool
-    ensures { IsTrue result ↔ ((number < length nimbers.now) × (slice_index nimbers.now number ≡ id)) }
+    ensures { IsTrue result ↔ ((number < length nimbers.now)
+        × (slice_index nimbers.now number ≡ id)) }
 {
     number < nimbers.len() && nimbers[number] == id
 }
@@ -88,7 +89,8 @@ fn nimber_text(alloc: Global, number: usize) -> Result<Vec<u8>, AllocError>
 /// The number of a form that is one.
 fn number_at(store: &Store, id: GameId) -> Option<Dyadic>
     requires { id < length store.now }
-    ensures { MatchOption result (IsNumberTree (tree_at store.now id) → ⊥) (λ u. tree_at store.now id ≡ number_tree u) }
+    ensures { MatchOption result (IsNumberTree (tree_at store.now id) → ⊥)
+        (λ u. tree_at store.now id ≡ number_tree u) }
 {
     match store.node(id) {
         Form::Number(x) => Some(x),
@@ -112,7 +114,9 @@ fn switch_name(
 ) -> Result<Option<Vec<u8>>, AllocError>
     requires left { left < length store.now }
     requires right { right < length store.now }
-    ensures { IfOk result (λ found. MatchOption found (IsSwitchPair (tree_at store.now left) (tree_at store.now right) → ⊥) (λ t. IsSwitchName (tree_at store.now left) (tree_at store.now right) t.items)) }
+    ensures { IfOk result (λ found. MatchOption found
+        (IsSwitchPair (tree_at store.now left) (tree_at store.now right) → ⊥)
+        (λ t. IsSwitchName (tree_at store.now left) (tree_at store.now right) t.items)) }
 {
     let Some(x) = number_at(store, left) else {
         return Ok(None);
@@ -134,7 +138,9 @@ fn switch_name(
 fn are_texts(texts: &Texts, left: GameId, right: GameId, first: &[u8], second: &[u8]) -> bool
     requires left { IsWithin texts.now.bytes.items (get nat_eq texts.now.spans left) }
     requires right { IsWithin texts.now.bytes.items (get nat_eq texts.now.spans right) }
-    ensures { IsTrue result ↔ ((text_at texts.now.bytes.items (get nat_eq texts.now.spans left) ≡ first.now) × (text_at texts.now.bytes.items (get nat_eq texts.now.spans right) ≡ second.now)) }
+    ensures { IsTrue result ↔ ((text_at texts.now.bytes.items
+        (get nat_eq texts.now.spans left) ≡ first.now)
+        × (text_at texts.now.bytes.items (get nat_eq texts.now.spans right) ≡ second.now)) }
 {
     text_of(texts, left) == first && text_of(texts, right) == second
 }
@@ -150,8 +156,11 @@ fn pair_name(
     requires left { left < length store.now }
     requires right { right < length store.now }
     requires left_text { HasText store.now texts.now.bytes.items (get nat_eq texts.now.spans) left }
-    requires right_text { HasText store.now texts.now.bytes.items (get nat_eq texts.now.spans) right }
-    ensures { IfOk result (λ found. MatchOption found (IsNamedPair (tree_at store.now left) (tree_at store.now right) → ⊥) (λ t. IsPairName (tree_at store.now left) (tree_at store.now right) t.items)) }
+    requires right_text { HasText store.now texts.now.bytes.items
+        (get nat_eq texts.now.spans) right }
+    ensures { IfOk result (λ found. MatchOption found
+        (IsNamedPair (tree_at store.now left) (tree_at store.now right) → ⊥)
+        (λ t. IsPairName (tree_at store.now left) (tree_at store.now right) t.items)) }
 {
     let _count = store.len();
     if are_texts(texts, left, right, b"0", b"*") {
@@ -176,10 +185,12 @@ pub(crate) fn form_name(
     requires id { id < length store.now }
     requires distinct { AreDistinct store.now }
     requires form { IsOptions store.now id left.now right.now }
-    requires options { HasOptionTexts store.now texts.now.bytes.items (get nat_eq texts.now.spans) id }
+    requires options { HasOptionTexts store.now texts.now.bytes.items
+        (get nat_eq texts.now.spans) id }
     requires nimbers { AreNimbers store.now nimbers.now }
     requires among { IsAmong store.now nimbers.now id }
-    ensures { IfOk result (λ found. MatchOption found (name (tree_at store.now id) ≡ None) (λ t. name (tree_at store.now id) ≡ Some t.items)) }
+    ensures { IfOk result (λ found. MatchOption found (name (tree_at store.now id) ≡ None)
+        (λ t. name (tree_at store.now id) ≡ Some t.items)) }
 {
     let count = left.len();
     if is_nimber(nimbers, id, count) {

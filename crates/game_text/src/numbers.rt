@@ -73,7 +73,8 @@ fn parsed_exponent(digits: &[u8]) -> Option<u8>
 
 /// Where the first slash stands.
 fn first_slash(run: &[u8]) -> Option<usize>
-    ensures { MatchOption result (HasNoSlash run.now (length run.now)) (λ i. IsFirstSlash run.now i) }
+    ensures { MatchOption result (HasNoSlash run.now (length run.now))
+        (λ i. IsFirstSlash run.now i) }
 {
     let mut at = 0;
     'looking: while at < run.len() {
@@ -101,7 +102,8 @@ fn parsed(run: &[u8]) -> Option<Dyadic>
 
 /// The number that a text is the text of.
 pub(crate) fn number_of_text(alloc: Global, run: &[u8]) -> Result<Option<Dyadic>, AllocError>
-    ensures { IfOk result (λ found. MatchOption found ((u : ℤ) → IsNumberText u run.now → ⊥) (λ u. IsNumberText u run.now)) }
+    ensures { IfOk result (λ found. MatchOption found ((u : ℤ) → IsNumberText u run.now → ⊥)
+        (λ u. IsNumberText u run.now)) }
 {
     let Some(x) = parsed(run) else {
         return Ok(None);

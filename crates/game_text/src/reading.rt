@@ -8,55 +8,18 @@ ghost use Rattle.game_text.specs.Reading.{IsNameByte, IsNumberByte, IsReadRefusa
 ghost use Rattle.game_text.specs.Machine.{IsReading, EndsRunAt, IsNext, IsMarkOfInnermost, IsFormTaken, IsFoundBy, IsRefusedBy, IsEnded, mark_at, opening_at, place_after};
 ghost use Rattle.game_text.specs.Depth.{most_open};
 ghost use Rattle.game_text.specs.Refusals.{IsWantOfMemory, IsOpeningRefusal, IsFormRefusal};
-ghost use Rattle.game_text.specs.declared.reading.Opening.{Opening};
-ghost use Rattle.game_text.specs.declared.reading.Place.TheVariants.{First, Game, Whole};
+ghost use Rattle.game_text.specs.declared.pending.Opening.{Opening};
+ghost use Rattle.game_text.specs.declared.pending.Place.TheVariants.{First, Game, Whole};
 ghost use Rattle.game_text.specs.declared.errors.ReadError.TheVariants.{CutShort};
 
 use crate::errors::ReadError;
 use crate::named_games::{Found, read_nimber, read_switch, taken_down, taken_up};
 use crate::numbers::number_of_text;
+use crate::pending::{Opening, Pending, Place, Source, Step};
 use crate::writing::MOST_OPEN;
 use game_canon::canonical;
 use game_store::{GameId, Store};
 use std::alloc::Global;
-
-/// What is read next: the first option of a side or the side's end, a game, what is behind an option, or the end of the
-/// text behind the whole game.
-#[derive(Clone, Copy)]
-pub(crate) enum Place {
-    First,
-    Game,
-    Behind,
-    Whole,
-}
-
-/// An open form: where its options begin among those that were read, and where its Right options do, once its bar was.
-#[derive(Clone, Copy)]
-pub(crate) struct Opening {
-    start: usize,
-    middle: Option<usize>,
-}
-
-/// The forms that are open, the innermost last, and the options that were read in them.
-#[derive(Drop)]
-struct Pending {
-    options: Vec<GameId>,
-    opens: Vec<Opening>,
-}
-
-/// A text, and how many parts each of its forms may have.
-#[derive(Clone, Copy)]
-struct Source<'a> {
-    text: &'a [u8],
-    parts_limit: u32,
-}
-
-/// A place of the text, and what is read there.
-#[derive(Clone, Copy)]
-struct Step {
-    at: usize,
-    place: Place,
-}
 
 /// Whether the byte is one of numbers.
 pub(crate) fn is_number_byte(byte: u8) -> bool
@@ -82,7 +45,8 @@ pub(crate) fn run_end(text: &[u8], first: usize) -> usize
 
 /// Whether the byte ends the options that are read of the innermost open form.
 fn ends_side(pending: &Pending, byte: u8) -> bool
-    ensures { (below : List Opening) (top : Opening) → pending.now.opens.items ≡ below ++ top ∷ [] → IsTrue result ↔ (byte ≡ mark_at top) }
+    ensures { (below : List Opening) (top : Opening) → pending.now.opens.items ≡ below ++ top ∷ []
+        → IsTrue result ↔ (byte ≡ mark_at top) }
 {
     match pending.opens.last() {
         Some(top) => match top.middle {
@@ -95,7 +59,8 @@ fn ends_side(pending: &Pending, byte: u8) -> bool
 
 /// Takes a game that was read among the options.
 fn take_game(pending: &mut Pending, id: GameId) -> Result<Place, ReadError>
-    ensures options { IfOk result (λ place. pending.new.options.items ≡ pending.old.options.items ++ id ∷ []) }
+    ensures options { IfOk result
+        (λ place. pending.new.options.items ≡ pending.old.options.items ++ id ∷ []) }
     ensures opens { IfOk result (λ place. pending.new.opens.items ≡ pending.old.opens.items) }
     ensures place { IfOk result (λ place. place ≡ place_after pending.old.opens.items) }
     ensures refusal { IfErr result (λ e. IsWantOfMemory e) }
@@ -116,11 +81,15 @@ fn read_number(
     source: &Source<'_>,
     at: usize,
 ) -> Result<Step, ReadError>
-    requires reading { IsReading store.old source.now.parts_limit source.now.text.now at Game pending.old.options.items pending.old.opens.items }
+    requires reading { IsReading store.old source.now.parts_limit source.now.text.now at Game
+        pending.old.options.items pending.old.opens.items }
     requires here { at < length source.now.text.now }
     requires byte { IsNumberByte (slice_index source.now.text.now at) }
-    ensures next { IfOk result (λ step. IsNext store.new source.now.parts_limit source.now.text.now at step pending.new.options.items pending.new.opens.items) }
-    ensures refusal { IfErr result (λ e. IsReadRefusal source.now.parts_limit source.now.text.now e) }
+    ensures next { IfOk result
+        (λ step. IsNext store.new source.now.parts_limit source.now.text.now at step
+        pending.new.options.items pending.new.opens.items) }
+    ensures refusal { IfErr result
+        (λ e. IsReadRefusal source.now.parts_limit source.now.text.now e) }
     ensures kept { Extends store.old store.new }
 {
     let end = run_end(source.text, at);
@@ -148,8 +117,13 @@ fn named_game(
 ) -> Result<Found, ReadError>
     requires here { at < length source.now.text.now }
     requires byte { IsNameByte (slice_index source.now.text.now at) }
-    ensures found { IfOk result (λ found. IsFoundBy (ReadsName (slice_index source.now.text.now at)) store.new source.now.parts_limit source.now.text.now (at + 1) found) }
-    ensures refusal { IfErr result (λ e. IsRefusedBy (ReadsName (slice_index source.now.text.now at)) source.now.parts_limit source.now.text.now (at + 1) e) }
+    ensures found { IfOk result (λ found. IsFoundBy
+        (ReadsName
+        (slice_index source.now.text.now at)) store.new source.now.parts_limit source.now.text.now
+        (at + 1) found) }
+    ensures refusal { IfErr result (λ e. IsRefusedBy
+        (ReadsName (slice_index source.now.text.now at)) source.now.parts_limit source.now.text.now
+        (at + 1) e) }
     ensures kept { Extends store.old store.new }
 {
     let byte = source.text[at];
@@ -176,11 +150,15 @@ fn read_name(
     source: &Source<'_>,
     at: usize,
 ) -> Result<Step, ReadError>
-    requires reading { IsReading store.old source.now.parts_limit source.now.text.now at Game pending.old.options.items pending.old.opens.items }
+    requires reading { IsReading store.old source.now.parts_limit source.now.text.now at Game
+        pending.old.options.items pending.old.opens.items }
     requires here { at < length source.now.text.now }
     requires byte { IsNameByte (slice_index source.now.text.now at) }
-    ensures next { IfOk result (λ step. IsNext store.new source.now.parts_limit source.now.text.now at step pending.new.options.items pending.new.opens.items) }
-    ensures refusal { IfErr result (λ e. IsReadRefusal source.now.parts_limit source.now.text.now e) }
+    ensures next { IfOk result
+        (λ step. IsNext store.new source.now.parts_limit source.now.text.now at step
+        pending.new.options.items pending.new.opens.items) }
+    ensures refusal { IfErr result
+        (λ e. IsReadRefusal source.now.parts_limit source.now.text.now e) }
     ensures kept { Extends store.old store.new }
 {
     let found = named_game(alloc, store, source, at)?;
@@ -193,7 +171,8 @@ fn read_name(
 
 /// Opens a form.
 fn open_form(pending: &mut Pending) -> Result<(), ReadError>
-    ensures opens { OnOk result (pending.new.opens.items ≡ pending.old.opens.items ++ opening_at (length pending.old.options.items) None ∷ []) }
+    ensures opens { OnOk result (pending.new.opens.items ≡ pending.old.opens.items ++ opening_at
+        (length pending.old.options.items) None ∷ []) }
     ensures options { OnOk result (pending.new.options.items ≡ pending.old.options.items) }
     ensures few { OnOk result (length pending.old.opens.items < most_open) }
     ensures refusal { IfErr result (λ e. IsOpeningRefusal (length pending.old.opens.items) e) }
@@ -217,10 +196,14 @@ fn read_game(
     source: &Source<'_>,
     at: usize,
 ) -> Result<Step, ReadError>
-    requires reading { IsReading store.old source.now.parts_limit source.now.text.now at Game pending.old.options.items pending.old.opens.items }
+    requires reading { IsReading store.old source.now.parts_limit source.now.text.now at Game
+        pending.old.options.items pending.old.opens.items }
     requires here { at < length source.now.text.now }
-    ensures next { IfOk result (λ step. IsNext store.new source.now.parts_limit source.now.text.now at step pending.new.options.items pending.new.opens.items) }
-    ensures refusal { IfErr result (λ e. IsReadRefusal source.now.parts_limit source.now.text.now e) }
+    ensures next { IfOk result
+        (λ step. IsNext store.new source.now.parts_limit source.now.text.now at step
+        pending.new.options.items pending.new.opens.items) }
+    ensures refusal { IfErr result
+        (λ e. IsReadRefusal source.now.parts_limit source.now.text.now e) }
     ensures kept { Extends store.old store.new }
 {
     let byte = source.text[at];
@@ -253,10 +236,14 @@ fn close(
     requires middle { middle ≤ length pending.old.options.items }
     requires left { AreIds store.old (slice_range pending.old.options.items start middle) }
     requires right { AreIds store.old (drop middle pending.old.options.items) }
-    ensures value { IfOk result (λ place. IsFormTaken store.old store.new parts_limit (slice_range pending.old.options.items start middle) (drop middle pending.old.options.items) (take start pending.old.options.items) pending.new.options.items) }
+    ensures value { IfOk result (λ place. IsFormTaken store.old store.new parts_limit
+        (slice_range pending.old.options.items start middle) (drop middle pending.old.options.items)
+        (take start pending.old.options.items) pending.new.options.items) }
     ensures opens { IfOk result (λ place. pending.new.opens.items ≡ pending.old.opens.items) }
     ensures place { IfOk result (λ place. place ≡ place_after pending.old.opens.items) }
-    ensures refusal { IfErr result (λ e. IsFormRefusal (listed store.old (slice_range pending.old.options.items start middle) (drop middle pending.old.options.items)) parts_limit e) }
+    ensures refusal { IfErr result (λ e. IsFormRefusal
+        (listed store.old (slice_range pending.old.options.items start middle)
+        (drop middle pending.old.options.items)) parts_limit e) }
     ensures kept { Extends store.old store.new }
 {
     let left = &pending.options[start..middle];
@@ -274,11 +261,15 @@ fn end_side(
     source: &Source<'_>,
     at: usize,
 ) -> Result<Step, ReadError>
-    requires reading { IsReading store.old source.now.parts_limit source.now.text.now at First pending.old.options.items pending.old.opens.items }
+    requires reading { IsReading store.old source.now.parts_limit source.now.text.now at First
+        pending.old.options.items pending.old.opens.items }
     requires here { at < length source.now.text.now }
     requires mark { IsMarkOfInnermost pending.old.opens.items (slice_index source.now.text.now at) }
-    ensures next { IfOk result (λ step. IsNext store.new source.now.parts_limit source.now.text.now at step pending.new.options.items pending.new.opens.items) }
-    ensures refusal { IfErr result (λ e. IsReadRefusal source.now.parts_limit source.now.text.now e) }
+    ensures next { IfOk result
+        (λ step. IsNext store.new source.now.parts_limit source.now.text.now at step
+        pending.new.options.items pending.new.opens.items) }
+    ensures refusal { IfErr result
+        (λ e. IsReadRefusal source.now.parts_limit source.now.text.now e) }
     ensures kept { Extends store.old store.new }
 {
     let Some(top) = pending.opens.pop() else {
@@ -307,10 +298,14 @@ fn read_step(
     source: &Source<'_>,
     step: Step,
 ) -> Result<Step, ReadError>
-    requires reading { IsReading store.old source.now.parts_limit source.now.text.now step.at step.place pending.old.options.items pending.old.opens.items }
+    requires reading { IsReading store.old source.now.parts_limit source.now.text.now step.at
+        step.place pending.old.options.items pending.old.opens.items }
     requires here { step.at < length source.now.text.now }
-    ensures next { IfOk result (λ after. IsNext store.new source.now.parts_limit source.now.text.now step.at after pending.new.options.items pending.new.opens.items) }
-    ensures refusal { IfErr result (λ e. IsReadRefusal source.now.parts_limit source.now.text.now e) }
+    ensures next { IfOk result
+        (λ after. IsNext store.new source.now.parts_limit source.now.text.now step.at after
+        pending.new.options.items pending.new.opens.items) }
+    ensures refusal { IfErr result
+        (λ e. IsReadRefusal source.now.parts_limit source.now.text.now e) }
     ensures kept { Extends store.old store.new }
 {
     let at = step.at;
@@ -366,7 +361,8 @@ pub fn read(
     text: &[u8],
     parts_limit: u32,
 ) -> Result<GameId, ReadError>
-    ensures named { IfOk result (λ id. (G : Tree) × Names parts_limit text.now G × IsCanonicalId store.new G id) }
+    ensures named { IfOk result (λ id. (G : Tree) × Names parts_limit text.now G
+        × IsCanonicalId store.new G id) }
     ensures refusal { IfErr result (λ e. IsReadRefusal parts_limit text.now e) }
     ensures kept { Extends store.old store.new }
 {

@@ -43,7 +43,9 @@ fn sorted_texts<'a>(
     ids: &[GameId],
 ) -> Result<Vec<&'a [u8]>, AllocError>
     requires { AreKept texts.now.bytes.items (get nat_eq texts.now.spans) ids.now }
-    ensures permutation { IfOk result (λ v. IsPermutation (map (λ id. text_at texts.now.bytes.items (get nat_eq texts.now.spans id)) ids.now) (map (λ t. t.now) v.items)) }
+    ensures permutation { IfOk result (λ v. IsPermutation
+        (map (λ id. text_at texts.now.bytes.items (get nat_eq texts.now.spans id)) ids.now)
+        (map (λ t. t.now) v.items)) }
     ensures sorted { IfOk result (λ v. IsSortedBy lesser_text (map (λ t. t.now) v.items)) }
 {
     let mut found = Vec::new(alloc);
@@ -77,7 +79,8 @@ fn push_side(
     ids: &[GameId],
 ) -> Result<(), AllocError>
     requires { AreKept texts.now.bytes.items (get nat_eq texts.now.spans) ids.now }
-    ensures { OnOk result ((t : List ℕ) × IsSideText texts.now.bytes.items (get nat_eq texts.now.spans) ids.now t × (text.new.items ≡ text.old.items ++ t)) }
+    ensures { OnOk result ((t : List ℕ) × IsSideText texts.now.bytes.items
+        (get nat_eq texts.now.spans) ids.now t × (text.new.items ≡ text.old.items ++ t)) }
 {
     let parts = sorted_texts(alloc, texts, ids)?;
     push_joined(text, &parts)?;
@@ -93,7 +96,8 @@ pub(crate) fn braces(
 ) -> Result<Vec<u8>, AllocError>
     requires left { AreKept texts.now.bytes.items (get nat_eq texts.now.spans) left.now }
     requires right { AreKept texts.now.bytes.items (get nat_eq texts.now.spans) right.now }
-    ensures { IfOk result (λ t. IsBracesText texts.now.bytes.items (get nat_eq texts.now.spans) left.now right.now t.items) }
+    ensures { IfOk result (λ t. IsBracesText texts.now.bytes.items
+        (get nat_eq texts.now.spans) left.now right.now t.items) }
 {
     let mut text = Vec::new(alloc);
     text.push(b'{')?;
@@ -106,7 +110,9 @@ pub(crate) fn braces(
 
 /// Keeps the text of an id behind the others.
 pub(crate) fn keep(texts: &mut Texts, id: GameId, text: &[u8]) -> Result<(), AllocError>
-    ensures { OnOk result (IsAppended texts.old.bytes.items (get nat_eq texts.old.spans) id text.now texts.new.bytes.items (get nat_eq texts.new.spans)) }
+    ensures { OnOk result (IsAppended texts.old.bytes.items
+        (get nat_eq texts.old.spans) id text.now texts.new.bytes.items
+        (get nat_eq texts.new.spans)) }
 {
     let start = texts.bytes.len();
     texts.bytes.extend_from_slice(text)?;

@@ -38,7 +38,8 @@ fn options_text(
     requires id { id < length store.now }
     requires distinct { AreDistinct store.now }
     requires form { IsOptions store.now id left.now right.now }
-    requires options { HasOptionTexts store.now texts.now.bytes.items (get nat_eq texts.now.spans) id }
+    requires options { HasOptionTexts store.now texts.now.bytes.items
+        (get nat_eq texts.now.spans) id }
     requires nimbers { AreNimbers store.now nimbers.now }
     requires among { IsAmong store.now nimbers.now id }
     ensures text { IfOk result (λ t. t.items ≡ named_text (tree_at store.now id)) }
@@ -65,7 +66,8 @@ fn form_text(
     limit: usize,
 ) -> Result<Vec<u8>, WriteError>
     requires id { id < length store.now }
-    requires options { HasOptionTexts store.now texts.now.bytes.items (get nat_eq texts.now.spans) id }
+    requires options { HasOptionTexts store.now texts.now.bytes.items
+        (get nat_eq texts.now.spans) id }
     requires nimbers { AreNimbers store.now nimbers.now }
     requires among { IsAmong store.now nimbers.now id }
     ensures text { IfOk result (λ t. t.items ≡ named_text (tree_at store.now id)) }
@@ -89,10 +91,12 @@ fn write_form(
     limit: usize,
 ) -> Result<(), WriteError>
     requires id { id < length store.now }
-    requires options { HasOptionTexts store.now texts.old.bytes.items (get nat_eq texts.old.spans) id }
+    requires options { HasOptionTexts store.now texts.old.bytes.items
+        (get nat_eq texts.old.spans) id }
     requires nimbers { AreNimbers store.now nimbers.now }
     requires among { IsAmong store.now nimbers.now id }
-    ensures added { OnOk result (IsAdded store.now id texts.old.bytes.items (get nat_eq texts.old.spans) texts.new.bytes.items (get nat_eq texts.new.spans)) }
+    ensures added { OnOk result (IsAdded store.now id texts.old.bytes.items
+        (get nat_eq texts.old.spans) texts.new.bytes.items (get nat_eq texts.new.spans)) }
     ensures refusal { IfErr result (λ e. IsTooLong (tree_at store.now id) limit e) }
 {
     let text = form_text(alloc, store, texts, nimbers, id, limit)?;
@@ -112,8 +116,10 @@ fn write_all(
     requires distinct { AreDistinct store.now }
     requires closed { AreClosed store.now ids.now }
     requires found { AreFound store.now ids.now (length ids.now) nimbers.now }
-    ensures written { OnOk result (AreWritten store.now ids.now (length ids.now) texts.new.bytes.items (get nat_eq texts.new.spans)) }
-    ensures refusal { IfErr result (λ e. (j : ℕ) × (j < length ids.now) × IsTooLong (tree_at store.now (slice_index ids.now j)) limit e) }
+    ensures written { OnOk result (AreWritten store.now ids.now
+        (length ids.now) texts.new.bytes.items (get nat_eq texts.new.spans)) }
+    ensures refusal { IfErr result (λ e. (j : ℕ) × (j < length ids.now)
+        × IsTooLong (tree_at store.now (slice_index ids.now j)) limit e) }
 {
     for id in ids {
         write_form(alloc, store, texts, nimbers, *id, limit)?;
@@ -154,7 +160,8 @@ fn nesting(text: &[u8]) -> usize
 pub fn write(alloc: Global, store: &Store, id: GameId, limit: usize) -> Result<Text, WriteError>
     requires { id < length store.now }
     ensures text { IfOk result (λ t. t ≡ named_text (tree_at store.now id)) }
-    ensures within { IfOk result (λ t. (length t ≤ limit) × (named_depth (tree_at store.now id) ≤ 1000)) }
+    ensures within { IfOk result (λ t. (length t ≤ limit)
+        × (named_depth (tree_at store.now id) ≤ 1000)) }
     ensures refusal { IfErr result (λ e. IsWriteRefusal (tree_at store.now id) limit e) }
 {
     let _count = store.len();

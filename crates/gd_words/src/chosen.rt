@@ -77,8 +77,10 @@ impl Chosen {
 
 /// The options of a command that the words behind its first two give.
 pub fn read_choices(command: &Command<'_>, words: &[&str]) -> Option<Chosen>
-    ensures some { IfSome result (λ chosen. AreChoices (task_of command.now) (texts words.now) chosen) }
-    ensures none { IfNone result ((chosen : Chosen) → ¬ AreChoices (task_of command.now) (texts words.now) chosen) }
+    ensures some { IfSome result (λ chosen. AreChoices (task_of command.now)
+        (texts words.now) chosen) }
+    ensures none { IfNone result ((chosen : Chosen)
+        → ¬ AreChoices (task_of command.now) (texts words.now) chosen) }
 {
     let mut chosen = Chosen::default();
     let mut left = words;

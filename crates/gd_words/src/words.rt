@@ -25,8 +25,10 @@ fn is_engine(word: &str) -> bool
 
 /// The job of a command whose options the words are.
 fn read_options<'a>(command: Command<'a>, words: &[&str]) -> Option<Job<'a>>
-    ensures job { IfSome result (λ job. IsJobOf (task_of command.entry) (texts words.now) (viewed job)) }
-    ensures none { IfNone result ((chosen : Chosen) → ¬ AreChoices (task_of command.entry) (texts words.now) chosen) }
+    ensures job { IfSome result (λ job. IsJobOf (task_of command.entry) (texts words.now)
+        (viewed job)) }
+    ensures none { IfNone result ((chosen : Chosen)
+        → ¬ AreChoices (task_of command.entry) (texts words.now) chosen) }
 {
     let chosen = read_choices(&command, words)?;
     Some(chosen.job(command))

@@ -2,7 +2,7 @@
 use Rattle.std.proofs.Common.{Bool, false, ◌==◌, length, map, ◌≡◌, ◌≢◌, ◌∷◌, ℕ, List, [], inl, inr, refl, sym, ap, ◌∙◌, subst, Option, Ok, Err, Result, IfOk}
 use Rattle.std.proofs.lemmas.Bool.{false≢true}
 use Rattle.std.specs.Str.{IsUtf8}
-use Rattle.desk_io.specs.Files.{Files, told_file}
+use Rattle.desk_io.specs.Files.{Told, Files, told_file}
 use Rattle.gtp_engine.specs.declared.loading.Loading.{Loading}
 use Rattle.gtp_engine.specs.declared.loading.Loading.TheVariants.{Position, Nothing, Failed}
 use Rattle.gtp_engine.specs.declared.reply.Refusal.TheVariants.{CannotLoadFile, SyntaxError, UnknownCommand}
@@ -20,7 +20,7 @@ use Rattle.gtp_engine.specs.Words.{AreWords, HasId, cleaned}
 use Rattle.gtp_engine.specs.Written.{EngineView, IsAnswered, IsMet, IsObeyed}
 
 -- what was loaded can be taken over
-pub loaded_fits : (told : Option (Option (List ℕ))) (after : Option ℕ) (before now : ℕ) (loading : Loading) → IsLoaded told after before now loading → CanKeep loading
+pub loaded_fits : (told : Told) (after : Option ℕ) (before now : ℕ) (loading : Loading) → IsLoaded told after before now loading → CanKeep loading
 loaded_fits told after before now (Position setup) l = l.1
 loaded_fits told after before now Nothing l = tt
 loaded_fits told after before now Failed l = tt

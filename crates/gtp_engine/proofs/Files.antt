@@ -1,6 +1,7 @@
 -- What files give.
 use Rattle.std.proofs.Common.{◌≡◌, ℕ, List, inl, inr, refl, subst, Option, Some, None, Ok, Err, Result}
-use Rattle.desk_io.specs.Files.{Loads}
+use Rattle.desk_io.specs.Files.{Told, Loads}
+use Rattle.desk_io.specs.Files.Told.{untold, absent, holding}
 use Rattle.desk_io.specs.declared.shelf.Loaded.TheVariants.{Longer}
 use Rattle.sgf_tree.specs.Grammar.{PropertyText}
 use Rattle.sgf_tree.specs.Reading.{IsAnswer}
@@ -33,7 +34,7 @@ tree_fault file settings CutShort r e a = subst (Answers file) e a
 tree_fault file settings TooDeep r e a = subst (Answers file) e a
 
 -- a file that is longer
-pub too_long : (told : Option (Option (List ℕ))) (after : Option ℕ) (old new : List ℕ) → Loads told 1048576 old new (Ok Longer) → GivesNone told after
-too_long None after old new h = inr (inl tt)
-too_long (Some None) after old new h = absurd h
-too_long (Some (Some file)) after old new h = inr (inl (file, refl, h.0))
+pub too_long : (told : Told) (after : Option ℕ) (old new : List ℕ) → Loads told 1048576 old new (Ok Longer) → GivesNone told after
+too_long untold after old new h = inr (inl tt)
+too_long absent after old new h = absurd h
+too_long (holding file) after old new h = inr (inl h.0)

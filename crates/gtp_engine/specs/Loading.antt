@@ -1,5 +1,6 @@
 -- What a load of a position comes to.
 use Rattle.std.specs.Prelude.{ℕ, List, Option, Ok, Err}
+use Rattle.desk_io.specs.Files.{Told}
 use Rattle.desk_io.specs.Outside.{Rose}
 use Rattle.sgf_tree.specs.Grammar.{PropertyText}
 use Rattle.sgf_go.specs.Position.{IsFit}
@@ -25,7 +26,7 @@ IsFoundIn file after Nothing = (fault : FileFault) × Reads file (settings_after
 IsFoundIn file after Failed = ⊥
 
 -- the position of the file of which this is told, or that it gives none, or that the load failed, and the count of faults rose
-abbrev pub IsLoaded : Option (Option (List ℕ)) → Option ℕ → ℕ → ℕ → Loading → Type 0
+abbrev pub IsLoaded : Told → Option ℕ → ℕ → ℕ → Loading → Type 0
 IsLoaded told after before now (Position setup) = GivesSetup told after setup × IsFit setup
 IsLoaded told after before now Nothing = GivesNone told after
 IsLoaded told after before now Failed = Rose before now

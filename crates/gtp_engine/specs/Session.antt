@@ -1,7 +1,8 @@
 -- A session: what each line is answered, and where the session stands after it.
 use Rattle.std.specs.Prelude.{Bool, true, false, ◌≡◌, ◌≢◌, ◌⊎◌, ◌≤◌, ◌<◌, ◌+◌, ◌*◌, ◌++◌, ◌∷◌, ℕ, zero, suc, ℤ, pos, List, [], codes, replicate, Option, Some, None, Ok, Err, Contains}
+use Rattle.desk_io.specs.Files.Told.{absent}
 use Rattle.std.specs.Str.{IsUtf8}
-use Rattle.desk_io.specs.Files.{Files, told_file}
+use Rattle.desk_io.specs.Files.{Told, Files, told_file}
 use Rattle.desk_io.specs.Lines.{IsLine}
 use Rattle.go_grid.specs.declared.grid.Cell.TheVariants as cell
 use Rattle.go_grid.specs.declared.grid.Colour.{Colour}
@@ -10,7 +11,8 @@ use Rattle.go_grid.specs.Region.{Region}
 use Rattle.sgf_go.specs.declared.fault.FileFault.{FileFault}
 use Rattle.sgf_go.specs.declared.settings.Settings.{Settings}
 use Rattle.sgf_go.specs.declared.settings.Setup.{Setup}
-use Rattle.sgf_go.specs.File.{IsShort, IsTold, IsTooLong, Reads}
+use Rattle.desk_io.specs.Files.{IsLonger, IsTold}
+use Rattle.sgf_go.specs.File.{IsShort, Reads}
 use Rattle.whole_rules.specs.declared.states.Move.{Move}
 use Rattle.whole_rules.specs.declared.states.MoveError.{MoveError}
 use Rattle.whole_rules.specs.WholeGame.{State, Applies, IsMove}
@@ -135,13 +137,13 @@ abbrev pub settings_after : Option ℕ → Settings
 settings_after after = record { after = after; komi = None; turn = None; black_prisoners = 0; white_prisoners = 0 }
 
 -- the file gives the position
-abbrev pub GivesSetup : Option (Option (List ℕ)) → Option ℕ → Setup → Type 0
+abbrev pub GivesSetup : Told → Option ℕ → Setup → Type 0
 GivesSetup told after setup = (file : List ℕ) × IsTold told file × IsShort file × Reads file (settings_after after) (Ok setup)
 
 -- the shelf doesn't hold the file, or it is too long, or it gives no position
-abbrev pub GivesNone : Option (Option (List ℕ)) → Option ℕ → Type 0
-GivesNone told after = (told ≡ Some None)
-    ⊎ (IsTooLong told
+abbrev pub GivesNone : Told → Option ℕ → Type 0
+GivesNone told after = (told ≡ absent)
+    ⊎ (IsLonger 1048576 told
     ⊎ ((file : List ℕ) × (fault : FileFault) × IsTold told file × IsShort file × Reads file (settings_after after) (Err fault)))
 
 -- a file of the shelf is loaded; a name that isn't UTF-8 isn't asked for

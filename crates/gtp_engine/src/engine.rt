@@ -1,6 +1,6 @@
 //! The engine.
 
-ghost use Rattle.std.specs.Prelude.{◌≡◌, ◌↔◌, ◌≤◌, ◌<◌, ◌+◌, List, ℕ, [], true, false, IfOk, OnErr};
+ghost use Rattle.std.specs.Prelude.{◌≡◌, ◌≤◌, ◌<◌, ◌+◌, List, ℕ, [], true, false, IfOk, OnErr};
 ghost use Rattle.endgame_solver.specs.Faults.{most_steps};
 ghost use Rattle.go_grid.specs.Region.{Region};
 ghost use Rattle.region_cut.specs.Cut.{AreRegionsOfPlay};
@@ -16,15 +16,15 @@ ghost use Rattle.gtp_engine.specs.Written.{IsAnswered, IsMet, IsObeyed, unused};
 
 use crate::command::read_command;
 use crate::loading::{Loading, load};
-use crate::playing::{Action, act, open};
+use crate::playing::Action;
 use crate::reply::{Refusal, accept, refuse};
 use crate::request::{Asked, Request, read_asked};
-use crate::setups::{fresh, turned};
+use crate::setups::fresh;
 use crate::words::{clean, split, take_id};
 use desk_io::Shelf;
 use endgame_solver::{Limits, Solved};
 use game_text::Text;
-use go_grid::{Colour, Size};
+use go_grid::Size;
 use local_play::Steps;
 use sgf_go::Setup;
 use std::alloc::{AllocError, Global};
@@ -42,9 +42,9 @@ pub struct Answer {
 /// A setup, and the game that runs after it, if one does; and the loads so far. Contracts see these and the limits.
 #[derive(Drop)]
 pub struct Engine {
-    limits: Limits,
-    setup: Setup,
-    game: Option<Solved>,
+    pub(crate) limits: Limits,
+    pub(crate) setup: Setup,
+    pub(crate) game: Option<Solved>,
     loads: u32,
     failed: Vec<u32>,
 }
@@ -80,13 +80,6 @@ fn is_quit(request: &Request<'_>) -> bool
     ensures { result ≡ is_last (something (order_of request.now)) }
 {
     matches!(request, Request::Quit)
-}
-
-/// Whether the two are the same.
-fn is_same(a: Colour, b: Colour) -> bool
-    ensures { (result ≡ true) ↔ (a ≡ b) }
-{
-    a == b
 }
 
 impl Engine {
@@ -158,7 +151,7 @@ impl Engine {
     }
 
     /// Whether a game runs.
-    fn is_running(&self) -> bool
+    pub(crate) fn is_running(&self) -> bool
         ensures running { result ≡ true → IsRunning self.now }
         ensures fresh { result ≡ false → IsFresh self.now }
     {
@@ -182,74 +175,6 @@ impl Engine {
         let reply = accept(alloc, id, b"")?;
         self.setup.komi_halves = halves;
         Ok(reply)
-    }
-
-    /// A turn of the colour in the running game.
-    fn go_on(&mut self, id: &[u8], colour: Colour, action: Action) -> Result<Text, AllocError>
-        requires { IsRunning self.old }
-        ensures taken { IfOk result
-            (λ reply. IsTurnTaken colour action id.now self.old reply self.new) }
-        ensures same { OnErr result (self.new ≡ self.old) }
-    {
-        let alloc = self.setup.board.allocator();
-        match &mut self.game {
-            Some(solved) => {
-                if !is_same(solved.whole().side(), colour) {
-                    let reply = refuse(alloc, id, Refusal::NotInTurn)?;
-                    return Ok(reply);
-                }
-                let reply = act(alloc, id, solved, action)?;
-                Ok(reply)
-            }
-            None => unreachable!(),
-        }
-    }
-
-    /// A turn of the colour in the game that the fresh setup opens.
-    fn set_out<L: Ledger>(
-        &mut self,
-        id: &[u8],
-        colour: Colour,
-        action: Action,
-        steps: &mut Steps<L>,
-    ) -> Result<Text, AllocError>
-        requires { IsFresh self.old }
-        ensures taken { IfOk result
-            (λ reply. IsTurnTaken colour action id.now self.old reply self.new) }
-        ensures same { OnErr result (self.new ≡ self.old) }
-        ensures steps { (regions : List Region) → AreRegionsOfPlay self.old.table.setup.board regions
-            → steps.new ≤ steps.old + most_steps self.old.limits regions }
-    {
-        let alloc = self.setup.board.allocator();
-        let setup = turned(&self.setup, colour)?;
-        let Some(mut solved) = open(alloc, &setup, &self.limits, steps)? else {
-            let reply = refuse(alloc, id, Refusal::CannotSolve)?;
-            return Ok(reply);
-        };
-        let reply = act(alloc, id, &mut solved, action)?;
-        self.setup = setup;
-        self.game = Some(solved);
-        Ok(reply)
-    }
-
-    /// A turn of the colour.
-    fn take_turn<L: Ledger>(
-        &mut self,
-        id: &[u8],
-        colour: Colour,
-        action: Action,
-        steps: &mut Steps<L>,
-    ) -> Result<Text, AllocError>
-        ensures taken { IfOk result
-            (λ reply. IsTurnTaken colour action id.now self.old reply self.new) }
-        ensures same { OnErr result (self.new ≡ self.old) }
-        ensures steps { (regions : List Region) → AreRegionsOfPlay self.old.table.setup.board regions
-            → steps.new ≤ steps.old + most_steps self.old.limits regions }
-    {
-        if self.is_running() {
-            return self.go_on(id, colour, action);
-        }
-        self.set_out(id, colour, action, steps)
     }
 
     /// Notes what a load comes to.
@@ -320,7 +245,8 @@ impl Engine {
         ensures same { OnErr result (self.new ≡ self.old) }
         ensures same_files { H.files shelf.new ≡ H.files shelf.old }
         ensures later { H.faults shelf.old ≤ H.faults shelf.new }
-        ensures steps { (regions : List Region) → AreRegionsOfPlay self.old.table.setup.board regions
+        ensures steps { (regions : List Region)
+            → AreRegionsOfPlay self.old.table.setup.board regions
             → steps.new ≤ steps.old + most_steps self.old.limits regions }
     {
         let alloc = self.setup.board.allocator();
@@ -361,7 +287,8 @@ impl Engine {
         ensures same { OnErr result (self.new ≡ self.old) }
         ensures same_files { H.files shelf.new ≡ H.files shelf.old }
         ensures later { H.faults shelf.old ≤ H.faults shelf.new }
-        ensures steps { (regions : List Region) → AreRegionsOfPlay self.old.table.setup.board regions
+        ensures steps { (regions : List Region)
+            → AreRegionsOfPlay self.old.table.setup.board regions
             → steps.new ≤ steps.old + most_steps self.old.limits regions }
     {
         let alloc = self.setup.board.allocator();
@@ -396,7 +323,8 @@ impl Engine {
         ensures same { OnErr result (self.new ≡ self.old) }
         ensures same_files { H.files shelf.new ≡ H.files shelf.old }
         ensures later_loads { H.faults shelf.old ≤ H.faults shelf.new }
-        ensures steps { (regions : List Region) → AreRegionsOfPlay self.old.table.setup.board regions
+        ensures steps { (regions : List Region)
+            → AreRegionsOfPlay self.old.table.setup.board regions
             → steps.new ≤ steps.old + most_steps self.old.limits regions }
     {
         let alloc = self.setup.board.allocator();

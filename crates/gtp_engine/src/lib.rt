@@ -14,6 +14,7 @@ mod session;
 mod setups;
 #[cfg(test)]
 mod tests;
+mod turns;
 mod words;
 
 pub use end::GtpEnd;

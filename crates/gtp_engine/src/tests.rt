@@ -14,6 +14,9 @@ use std::test::Fail;
 /// `.X.X.O.O.` / `XXXXXOOOO`, with one contested point.
 const ONE_POINT: &[u8] = b"(;SZ[9:2]AB[ba][da][ab:eb]AW[fa][ha][fb:ib])";
 
+/// `.X.X..O.O.` / `XXXXXOOOOO`, with two contested points.
+const TWO_POINTS: &[u8] = b"(;SZ[10:2]AB[ba][da][ab:eb]AW[ga][ia][fb:jb])";
+
 const LIMITS: Limits = Limits {
     positions: 100_000,
     parts: 500,
@@ -76,6 +79,7 @@ fn session(
 {
     let mut shelf = MemoryShelf::new(alloc);
     shelf.add("c", ONE_POINT.to_vec(alloc)?)?;
+    shelf.add("d", TWO_POINTS.to_vec(alloc)?)?;
     shelf.fail_at(failing.load)?;
     let mut lines = MemorySource::new(text.to_vec(alloc)?, piece, vec![in alloc; failing.read]?);
     let mut out = MemorySink::with_room(alloc, 5_000, vec![in alloc; failing.write]?)?;
@@ -94,7 +98,7 @@ fn answers_lines(rt: HostRuntime) -> Result<(), Fail> {
             = resign\n\n= \n\n",
         ),
         (
-            b"genmove b\nboardsize 26\nloadsgf d\nfrob\nkomi\nknown_command half",
+            b"genmove b\nboardsize 26\nloadsgf e\nfrob\nkomi\nknown_command half",
             GtpEnd::InputEnded,
             b"? cannot solve\n\n? unacceptable size\n\n? cannot load file\n\n? unknown command\n\n? syntax error\n\n= false\n\n",
         ),
@@ -166,6 +170,51 @@ fn ends_after_ten_thousand_lines(rt: HostRuntime) -> Result<(), Fail> {
         let outcome = session(alloc, text.as_slice(), 4_096, NONE)?;
         assert!(rt; outcome.end == end);
         assert!(rt; outcome.written.is_empty());
+    }
+    Ok(())
+}
+
+/// A session's lines with one more.
+fn with_line(alloc: Global, lines: &[u8], parts: [&[u8]; 3]) -> Result<Vec<u8>, AllocError> {
+    let mut all = lines.to_vec(alloc)?;
+    for part in parts {
+        all.extend_from_slice(part)?;
+    }
+    Ok(all)
+}
+
+/// Every move of a board of 10 columns and 2 rows.
+const MOVES: [&[u8]; 22] = [
+    b"a1", b"b1", b"c1", b"d1", b"e1", b"f1", b"g1", b"h1", b"j1", b"k1", b"a2", b"b2", b"c2", b"d2", b"e2", b"f2", b"g2",
+    b"h2", b"j2", b"k2", b"pass", b"half",
+];
+
+#[test]
+fn wins_against_every_line(rt: HostRuntime) -> Result<(), Fail> {
+    let alloc = rt.alloc();
+    let rows: [&[u8]; 2] = [b"loadsgf c\n", b"loadsgf d\n"];
+    for load in rows {
+        let mut open = vec![in alloc; load.to_vec(alloc)?]?;
+        let mut games = 0_usize;
+        for _ in 0..10_000 {
+            let Some(lines) = open.pop() else { break };
+            let turn = with_line(alloc, &lines, [b"genmove ", b"b", b"\n"])?;
+            let won = session(alloc, &turn, 500, NONE)?;
+            assert!(rt; !won.written.ends_with(b"resign\n\n"));
+            let before = open.len();
+            for word in MOVES {
+                let answer = with_line(alloc, &turn, [b"play w ", word, b"\n"])?;
+                let outcome = session(alloc, &answer, 500, NONE)?;
+                if outcome.written.ends_with(b"\n\n= \n\n") {
+                    open.push(answer)?;
+                }
+            }
+            if open.len() == before {
+                games += 1;
+            }
+        }
+        assert!(rt; open.is_empty());
+        assert!(rt; games > 1);
     }
     Ok(())
 }

@@ -49,7 +49,8 @@ pub(crate) fn allocate<A: Allocator>(
     room: usize,
 ) -> Result<(Base, Places, Deed<A>), AllocError>
     requires { room * 8 < 2 ^ 63 }
-    ensures { IfOk result (λ r. (r.1.at ≡ r.0.ptr) × (r.1.room ≡ room) × (r.1.items ≡ []) × (r.2.at ≡ r.0.ptr) × (r.2.room ≡ room) × (r.2.alloc ≡ alloc.now)) }
+    ensures { IfOk result (λ r. (r.1.at ≡ r.0.ptr) × (r.1.room ≡ room) × (r.1.items ≡ [])
+        × (r.2.at ≡ r.0.ptr) × (r.2.room ≡ room) × (r.2.alloc ≡ alloc.now)) }
 {
     match alloc.allocate(room * size_of::<u64>(), align_of::<u64>()) {
         Ok(block) => {
@@ -70,7 +71,8 @@ pub(crate) fn deallocate<A: Allocator>(
     places: Places,
     deed: Deed<A>,
 )
-    requires { (places.at ≡ base.ptr) × (places.room ≡ room) × (deed.at ≡ base.ptr) × (deed.room ≡ room) × (deed.alloc ≡ alloc.now) }
+    requires { (places.at ≡ base.ptr) × (places.room ≡ room) × (deed.at ≡ base.ptr)
+        × (deed.room ≡ room) × (deed.alloc ≡ alloc.now) }
 {
     let Places {} = places;
     let Deed { mark: _ } = deed;
@@ -86,8 +88,10 @@ pub(crate) fn deallocate<A: Allocator>(
 impl Places {
     /// Fills the first empty place, which is the one at `index`.
     pub(crate) fn write(&mut self, base: Base, index: usize, item: u64)
-        requires { (base.ptr ≡ self.old.at) × (index ≡ length self.old.items) × (index < self.old.room) }
-        ensures { (self.new.at ≡ self.old.at) × (self.new.room ≡ self.old.room) × (self.new.items ≡ self.old.items ++ item ∷ []) }
+        requires { (base.ptr ≡ self.old.at) × (index ≡ length self.old.items)
+            × (index < self.old.room) }
+        ensures { (self.new.at ≡ self.old.at) × (self.new.room ≡ self.old.room)
+            × (self.new.items ≡ self.old.items ++ item ∷ []) }
     {
         unsafe { base.ptr.add(index).write(item) }
     }

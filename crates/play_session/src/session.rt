@@ -67,7 +67,8 @@ fn end_game<K: Sink>(
     out: &mut K,
 ) -> Result<Option<SessionEnd>, Fault>
     ensures bytes { Appends (K.holds out.old) (K.holds out.new) result (winner_line winner) }
-    ensures end { IfOk result (λ end. ((end ≡ Some Won) × (winner ≡ engine)) ⊎ ((end ≡ Some Lost) × (winner ≡ other engine))) }
+    ensures end { IfOk result (λ end. ((end ≡ Some Won) × (winner ≡ engine))
+        ⊎ ((end ≡ Some Lost) × (winner ≡ other engine))) }
     ensures cause { WriteCauses (K.faults out.old) (K.faults out.new) result }
 {
     match say(out, &word_line("winner", colour_word(winner).as_bytes())) {
@@ -108,7 +109,8 @@ fn choose(solved: &mut Solved, first: Move) -> Move
 /// Makes the engine's move and writes it.
 fn move_engine<K: Sink>(solved: &mut Solved, first: Move, out: &mut K) -> Result<(), Fault>
     requires { IsFirstMove solved.old.state (Some first) }
-    ensures moved { (text : List ℕ) × EngineMoves solved.old.state text solved.new.state × Appends (K.holds out.old) (K.holds out.new) result text }
+    ensures moved { (text : List ℕ) × EngineMoves solved.old.state text solved.new.state
+        × Appends (K.holds out.old) (K.holds out.new) result text }
     ensures cause { WriteCauses (K.faults out.old) (K.faults out.new) result }
 {
     let chosen = choose(solved, first);
@@ -122,7 +124,8 @@ fn move_engine<K: Sink>(solved: &mut Solved, first: Move, out: &mut K) -> Result
 /// Answers what a line asks for.
 fn answer<K: Sink>(solved: &mut Solved, asked: Option<Move>, out: &mut K) -> Result<(), Fault>
     requires { IfSome asked (IsOnBoard solved.old.state.board) }
-    ensures answered { (text : List ℕ) × Answers solved.old.state asked text solved.new.state × Appends (K.holds out.old) (K.holds out.new) result text }
+    ensures answered { (text : List ℕ) × Answers solved.old.state asked text solved.new.state
+        × Appends (K.holds out.old) (K.holds out.new) result text }
     ensures cause { WriteCauses (K.faults out.old) (K.faults out.new) result }
 {
     let Some(chosen) = asked else {
@@ -141,9 +144,12 @@ pub(crate) fn take_request<S: Source>(
     board: &Board,
     lines: &mut S,
 ) -> Result<Request, Failed>
-    ensures requested { (bytes : List ℕ) → S.left lines.old ≡ Some bytes → IfOk result (λ request. IsRequested board.now (input.old ++ bytes) request input.new (S.left lines.new)) }
+    ensures requested { (bytes : List ℕ) → S.left lines.old ≡ Some bytes
+        → IfOk result (λ request. IsRequested board.now (input.old ++ bytes) request input.new
+        (S.left lines.new)) }
     ensures on_board { IfOk result (IsPossible board.now) }
-    ensures same { OnErr result (IsSameInput input.old (S.left lines.old) input.new (S.left lines.new)) }
+    ensures same { OnErr result (IsSameInput input.old (S.left lines.old) input.new
+        (S.left lines.new)) }
     ensures used { UsesLines 0 1 input.old (S.left lines.old) input.new (S.left lines.new) }
     ensures few { length input.new ≤ 256 }
     ensures cause { HasCause (S.faults lines.old) (S.faults lines.new) result }
@@ -199,15 +205,19 @@ impl Session {
         requires few { read.old ≤ 10000 }
         requires few_held { length self.old.held ≤ 256 }
         ensures engine { self.new.engine ≡ self.old.engine }
-        ensures written { (bytes : List ℕ) → S.left lines.old ≡ Some bytes → TurnWritten self.old.engine (standing self.old read.old bytes) (K.holds out.old) (K.holds out.new) result self.new read.new (S.left lines.new) }
-        ensures used { UsesLines read.old read.new self.old.held (S.left lines.old) self.new.held (S.left lines.new) }
+        ensures written { (bytes : List ℕ) → S.left lines.old ≡ Some bytes
+            → TurnWritten self.old.engine (standing self.old read.old bytes) (K.holds out.old)
+            (K.holds out.new) result self.new read.new (S.left lines.new) }
+        ensures used { UsesLines read.old read.new self.old.held (S.left lines.old) self.new.held
+            (S.left lines.new) }
         ensures few_held { length self.new.held ≤ 256 }
         ensures few_read { read.new ≤ 10000 }
         ensures stepped { IsStep self.old.state self.new.state }
         ensures counted { result ≡ Ok None → (read.old < 10000) × (read.new ≡ read.old + 1) }
         ensures never_lost { result ≢ Ok (Some Lost) }
         ensures natural { IfOk result (λ end. IfSome end IsNatural) }
-        ensures cause { Causes (S.faults lines.old) (S.faults lines.new) (K.faults out.old) (K.faults out.new) result }
+        ensures cause { Causes (S.faults lines.old) (S.faults lines.new) (K.faults out.old)
+            (K.faults out.new) result }
     {
         if *read == MOST_LINES {
             return Ok(Some(SessionEnd::TooManyLines));
@@ -234,14 +244,20 @@ impl Session {
     ) -> Result<Option<SessionEnd>, Fault>
         requires few { read.old ≤ 10000 }
         ensures engine { self.new.engine ≡ self.old.engine }
-        ensures written { (bytes : List ℕ) → S.left lines.old ≡ Some bytes → TurnWritten self.old.engine (standing self.old read.old bytes) (K.holds out.old) (K.holds out.new) result self.new read.new (S.left lines.new) }
-        ensures used { UsesLines read.old read.new self.old.held (S.left lines.old) self.new.held (S.left lines.new) }
+        ensures written { (bytes : List ℕ) → S.left lines.old ≡ Some bytes
+            → TurnWritten self.old.engine (standing self.old read.old bytes) (K.holds out.old)
+            (K.holds out.new) result self.new read.new (S.left lines.new) }
+        ensures used { UsesLines read.old read.new self.old.held (S.left lines.old) self.new.held
+            (S.left lines.new) }
         ensures few_held { length self.new.held ≤ 256 }
         ensures few_read { read.new ≤ 10000 }
-        ensures keeps { IsWinner self.old.state self.old.engine → IsWinner self.new.state self.old.engine × (result ≢ Ok (Some Lost)) }
-        ensures fewer { result ≡ Ok None → (turns_left self.new read.new < turns_left self.old read.old) }
+        ensures keeps { IsWinner self.old.state self.old.engine
+            → IsWinner self.new.state self.old.engine × (result ≢ Ok (Some Lost)) }
+        ensures fewer { result ≡ Ok None
+            → (turns_left self.new read.new < turns_left self.old read.old) }
         ensures natural { IfOk result (λ end. IfSome end IsNatural) }
-        ensures cause { Causes (S.faults lines.old) (S.faults lines.new) (K.faults out.old) (K.faults out.new) result }
+        ensures cause { Causes (S.faults lines.old) (S.faults lines.new) (K.faults out.old)
+            (K.faults out.new) result }
     {
         let side = self.solved.whole().side();
         let first = match self.solved.whole().first_move() {
@@ -261,12 +277,16 @@ impl Session {
     /// Plays turn by turn.
     fn turns<S: Source, K: Sink>(&mut self, lines: &mut S, out: &mut K) -> Result<SessionEnd, Fault>
         ensures engine { self.new.engine ≡ self.old.engine }
-        ensures written { (bytes : List ℕ) → S.left lines.old ≡ Some bytes → IsPlayedTo self.old.engine (standing self.old 0 bytes) (K.holds out.old) (K.holds out.new) result self.new (S.left lines.new) }
-        ensures used { UsesLines 0 10000 self.old.held (S.left lines.old) self.new.held (S.left lines.new) }
+        ensures written { (bytes : List ℕ) → S.left lines.old ≡ Some bytes
+            → IsPlayedTo self.old.engine (standing self.old 0 bytes) (K.holds out.old)
+            (K.holds out.new) result self.new (S.left lines.new) }
+        ensures used { UsesLines 0 10000 self.old.held (S.left lines.old) self.new.held
+            (S.left lines.new) }
         ensures few_held { length self.new.held ≤ 256 }
         ensures keeps { IsWinner self.old.state self.old.engine → result ≢ Ok Lost }
         ensures natural { IfOk result IsNatural }
-        ensures cause { Causes (S.faults lines.old) (S.faults lines.new) (K.faults out.old) (K.faults out.new) result }
+        ensures cause { Causes (S.faults lines.old) (S.faults lines.new) (K.faults out.old)
+            (K.faults out.new) result }
     {
         let mut read = 0;
         'turns: loop {
@@ -283,8 +303,11 @@ impl Session {
     /// source tells its bytes, the text of the session was written. Where a read failed it is all turns up to the one whose
     /// line was to be read, and where a write failed all turns before that line and a front part of it.
     pub fn run<S: Source, K: Sink>(&mut self, lines: &mut S, out: &mut K) -> SessionEnd
-        ensures text { (bytes : List ℕ) → S.left lines.old ≡ Some bytes → Played self.old.engine (standing self.old 0 bytes) (K.holds out.old) (K.holds out.new) result self.new (S.left lines.new) }
-        ensures used { UsesLines 0 10000 self.old.held (S.left lines.old) self.new.held (S.left lines.new) }
+        ensures text { (bytes : List ℕ) → S.left lines.old ≡ Some bytes
+            → Played self.old.engine (standing self.old 0 bytes) (K.holds out.old)
+            (K.holds out.new) result self.new (S.left lines.new) }
+        ensures used { UsesLines 0 10000 self.old.held (S.left lines.old) self.new.held
+            (S.left lines.new) }
         ensures few_held { length self.new.held ≤ 256 }
         ensures read_fault { result ≡ ReadFault → Rose (S.faults lines.old) (S.faults lines.new) }
         ensures write_fault { result ≡ WriteFault → Rose (K.faults out.old) (K.faults out.new) }

@@ -54,7 +54,9 @@ fn trimmed(line: &[u8]) -> &[u8]
 
 /// The point of the board that a word names, if it names one.
 fn named_point(size: Size, word: &[u8]) -> Option<Point>
-    ensures { MatchOption result ((p : ℕ) → p < size.columns * size.rows → ¬ (word.now ≡ point_name size.columns p)) (λ p. (p < size.columns * size.rows) × (word.now ≡ point_name size.columns p)) }
+    ensures { MatchOption result ((p : ℕ) → p < size.columns * size.rows
+        → ¬ (word.now ≡ point_name size.columns p))
+        (λ p. (p < size.columns * size.rows) × (word.now ≡ point_name size.columns p)) }
 {
     let [column, row] = word else {
         return None;

@@ -34,7 +34,8 @@ fn attack_on(
     requires settled { IsSettled board.now }
     requires stone { StoneAt board.now point }
     requires attacks { AreAttacks board.now attacks.now }
-    ensures { IfOk result (λ attack. (c : Colour) → HasStone board.now c point → IsAttackIfAny board.now c point attack.items) }
+    ensures { IfOk result (λ attack. (c : Colour) → HasStone board.now c point
+        → IsAttackIfAny board.now c point attack.items) }
 {
     match attacks.on(alloc, board, point) {
         Ok(attack) => Ok(attack),
@@ -113,7 +114,8 @@ fn life_word(alive: bool) -> &'static str
 #[tactic(auto, using(std::proofs::Common::append_assoc), unfolding(crate::specs::Chains::chain_line))]
 fn write_chain(text: &mut String, size: Size, line: &ChainLine) -> Result<(), AllocError>
     requires { line.now.lowest < size.columns * size.rows }
-    ensures { OnOk result (string_bytes text.new ≡ string_bytes text.old ++ chain_line size.columns line.now) }
+    ensures { OnOk result
+        (string_bytes text.new ≡ string_bytes text.old ++ chain_line size.columns line.now) }
 {
     text.push_str("chain ")?;
     write_name(text, size, line.lowest)?;
@@ -127,7 +129,8 @@ fn write_chain(text: &mut String, size: Size, line: &ChainLine) -> Result<(), Al
 #[tactic(auto, using(std::proofs::Common::append_assoc), unfolding(crate::specs::Chains::placing))]
 fn write_placing(text: &mut String, size: Size, point: Point) -> Result<(), AllocError>
     requires { point < size.columns * size.rows }
-    ensures { OnOk result (string_bytes text.new ≡ string_bytes text.old ++ placing size.columns point) }
+    ensures { OnOk result
+        (string_bytes text.new ≡ string_bytes text.old ++ placing size.columns point) }
 {
     text.push_str(" ")?;
     write_name(text, size, point)
@@ -137,7 +140,8 @@ fn write_placing(text: &mut String, size: Size, point: Point) -> Result<(), Allo
 #[tactic(auto, using(std::proofs::Common::append_assoc))]
 fn write_placings(text: &mut String, size: Size, attack: &[Point]) -> Result<(), AllocError>
     requires { All (λ p. p < size.columns * size.rows) attack.now }
-    ensures { OnOk result (string_bytes text.new ≡ string_bytes text.old ++ flat_map (placing size.columns) attack.now) }
+    ensures { OnOk result (string_bytes text.new ≡ string_bytes text.old ++ flat_map
+        (placing size.columns) attack.now) }
 {
     'placing: for point in attack {
         write_placing(text, size, *point)?;
@@ -149,7 +153,8 @@ fn write_placings(text: &mut String, size: Size, attack: &[Point]) -> Result<(),
 #[tactic(auto, using(std::proofs::Common::append_assoc), unfolding(crate::specs::Chains::attack_line))]
 fn write_attack(text: &mut String, size: Size, attack: &[Point]) -> Result<(), AllocError>
     requires { All (λ p. p < size.columns * size.rows) attack.now }
-    ensures { OnOk result (string_bytes text.new ≡ string_bytes text.old ++ attack_line size.columns attack.now) }
+    ensures { OnOk result
+        (string_bytes text.new ≡ string_bytes text.old ++ attack_line size.columns attack.now) }
 {
     text.push_str("attack")?;
     write_placings(text, size, attack)?;
@@ -160,8 +165,10 @@ fn write_attack(text: &mut String, size: Size, attack: &[Point]) -> Result<(), A
 #[tactic(auto, using(std::proofs::Common::append_assoc))]
 fn write_life(text: &mut String, size: Size, line: &ChainLine) -> Result<(), AllocError>
     requires lowest { line.now.lowest < size.columns * size.rows }
-    requires attack { line.now.alive ≡ false → All (λ p. p < size.columns * size.rows) line.now.attack.items }
-    ensures { OnOk result (string_bytes text.new ≡ string_bytes text.old ++ chain_lines size.columns line.now) }
+    requires attack { line.now.alive ≡ false → All
+        (λ p. p < size.columns * size.rows) line.now.attack.items }
+    ensures { OnOk result
+        (string_bytes text.new ≡ string_bytes text.old ++ chain_lines size.columns line.now) }
 {
     write_chain(text, size, line)?;
     if !line.alive {
@@ -178,8 +185,10 @@ pub(crate) fn write_chains(
     lines: &[ChainLine],
 ) -> Result<(), AllocError>
     requires lowest { All (λ l. l.lowest < size.columns * size.rows) lines.now }
-    requires attacks { All (λ l. l.alive ≡ false → All (λ p. p < size.columns * size.rows) l.attack.items) lines.now }
-    ensures { OnOk result (string_bytes text.new ≡ string_bytes text.old ++ flat_map (chain_lines size.columns) lines.now) }
+    requires attacks { All (λ l. l.alive ≡ false
+        → All (λ p. p < size.columns * size.rows) l.attack.items) lines.now }
+    ensures { OnOk result (string_bytes text.new ≡ string_bytes text.old ++ flat_map
+        (chain_lines size.columns) lines.now) }
 {
     'writing: for line in lines {
         write_life(text, size, line)?;

@@ -20,7 +20,8 @@ pub fn colour_word(colour: Colour) -> &'static str
 #[tactic(auto, using(std::proofs::Common::append_assoc))]
 pub fn write_name(text: &mut String, size: Size, point: Point) -> Result<(), AllocError>
     requires { point < size.columns * size.rows }
-    ensures { OnOk result (string_bytes text.new ≡ string_bytes text.old ++ point_name size.columns point) }
+    ensures { OnOk result
+        (string_bytes text.new ≡ string_bytes text.old ++ point_name size.columns point) }
 {
     let [column, row] = name(size, point);
     text.push(char::from(column))?;
@@ -36,7 +37,8 @@ pub fn write_point(
     point: Point,
 ) -> Result<(), AllocError>
     requires { point < size.columns * size.rows }
-    ensures { OnOk result (string_bytes text.new ≡ string_bytes text.old ++ point_line label.now size.columns point) }
+    ensures { OnOk result
+        (string_bytes text.new ≡ string_bytes text.old ++ point_line label.now size.columns point) }
 {
     text.push_str(label)?;
     text.push_str(" ")?;

@@ -67,7 +67,8 @@ fn add_counted(
     requires on_board { point < length board.now.cells }
     requires counted { Marks counted.now (IsCounted board.now colour) }
     requires below { AreCountedBelow board.now (2 * point + turn colour) lines.old.items }
-    ensures { OnOk result (AreCountedBelow board.now (2 * point + turn colour + 1) lines.new.items) }
+    ensures { OnOk result (AreCountedBelow board.now
+        (2 * point + turn colour + 1) lines.new.items) }
 {
     let _size = board.size();
     if !counted.contains(point) {
@@ -123,7 +124,8 @@ fn counted_lines(
 #[tactic(auto, using(std::proofs::Common::append_assoc), unfolding(crate::specs::Safety::counted_line))]
 fn write_counted(text: &mut String, size: Size, line: &CountedLine) -> Result<(), AllocError>
     requires { line.now.lowest < size.columns * size.rows }
-    ensures { OnOk result (string_bytes text.new ≡ string_bytes text.old ++ counted_line size.columns line.now) }
+    ensures { OnOk result
+        (string_bytes text.new ≡ string_bytes text.old ++ counted_line size.columns line.now) }
 {
     text.push_str("counted ")?;
     write_name(text, size, line.lowest)?;
@@ -137,7 +139,8 @@ fn write_counted(text: &mut String, size: Size, line: &CountedLine) -> Result<()
 #[tactic(auto, using(std::proofs::Common::append_assoc))]
 fn write_all_counted(text: &mut String, size: Size, lines: &[CountedLine]) -> Result<(), AllocError>
     requires { All (λ l. l.lowest < size.columns * size.rows) lines.now }
-    ensures { OnOk result (string_bytes text.new ≡ string_bytes text.old ++ flat_map (counted_line size.columns) lines.now) }
+    ensures { OnOk result (string_bytes text.new ≡ string_bytes text.old ++ flat_map
+        (counted_line size.columns) lines.now) }
 {
     'writing: for line in lines {
         write_counted(text, size, line)?;
@@ -148,7 +151,8 @@ fn write_all_counted(text: &mut String, size: Size, lines: &[CountedLine]) -> Re
 /// Appends the line of the number of groups of a colour.
 #[tactic(auto, using(std::proofs::Common::append_assoc), unfolding(crate::specs::Safety::groups_line))]
 fn write_groups(text: &mut String, colour: Colour, groups: u32) -> Result<(), AllocError>
-    ensures { OnOk result (string_bytes text.new ≡ string_bytes text.old ++ groups_line colour groups) }
+    ensures { OnOk result
+        (string_bytes text.new ≡ string_bytes text.old ++ groups_line colour groups) }
 {
     let colour = colour_word(colour);
     writeln!(text, "groups {colour} {groups}")
@@ -177,7 +181,8 @@ fn write_region(
     points: usize,
 ) -> Result<(), AllocError>
     requires { lowest < size.columns * size.rows }
-    ensures { OnOk result (string_bytes text.new ≡ string_bytes text.old ++ region_line size.columns lowest points) }
+    ensures { OnOk result
+        (string_bytes text.new ≡ string_bytes text.old ++ region_line size.columns lowest points) }
 {
     text.push_str("region ")?;
     write_name(text, size, lowest)?;
@@ -189,7 +194,8 @@ fn write_region(
 #[tactic(auto, using(std::proofs::Common::append_assoc))]
 fn write_regions(text: &mut String, size: Size, regions: &[Region]) -> Result<(), AllocError>
     requires { All (λ r. (r.columns ≡ size.columns) × (r.rows ≡ size.rows)) regions.now }
-    ensures { OnOk result (string_bytes text.new ≡ string_bytes text.old ++ flat_map (shape_line size.columns) regions.now) }
+    ensures { OnOk result (string_bytes text.new ≡ string_bytes text.old ++ flat_map
+        (shape_line size.columns) regions.now) }
 {
     'writing: for region in regions {
         write_region(text, size, lowest_of(region), count_of(region))?;

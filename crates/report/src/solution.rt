@@ -25,7 +25,8 @@ fn token_word(token: Token) -> &'static str
 /// Appends the line of a purse, in points.
 #[tactic(auto, unfolding(crate::specs::Solution::purse_line))]
 fn write_purse(text: &mut String, colour: Colour, purse: u64) -> Result<(), AllocError>
-    ensures { OnOk result (string_bytes text.new ≡ string_bytes text.old ++ purse_line colour purse) }
+    ensures { OnOk result
+        (string_bytes text.new ≡ string_bytes text.old ++ purse_line colour purse) }
 {
     let owner = colour_word(colour);
     writeln!(text, "purse {owner} {purse}")
@@ -46,7 +47,8 @@ fn write_state(text: &mut String, state: &Whole) -> Result<(), AllocError>
 #[tactic(auto, using(std::proofs::Common::append_assoc), unfolding(game_lines::specs::Words::word_line, crate::specs::Lines::point_line))]
 fn write_move(text: &mut String, size: Size, chosen: Move) -> Result<(), AllocError>
     requires { IsMoveOnBoard size.columns size.rows chosen }
-    ensures { OnOk result (string_bytes text.new ≡ string_bytes text.old ++ move_line size.columns (Some chosen)) }
+    ensures { OnOk result (string_bytes text.new ≡ string_bytes text.old ++ move_line size.columns
+        (Some chosen)) }
 {
     match chosen {
         Move::Stone(point) => write_point(text, "move", size, point),
@@ -64,7 +66,8 @@ fn write_outcome(
     chosen: Option<Move>,
 ) -> Result<(), AllocError>
     requires { IfSome chosen (IsMoveOnBoard size.columns size.rows) }
-    ensures { OnOk result (string_bytes text.new ≡ string_bytes text.old ++ (winner_line winner ++ move_line size.columns chosen)) }
+    ensures { OnOk result (string_bytes text.new ≡ string_bytes text.old ++
+        (winner_line winner ++ move_line size.columns chosen)) }
 {
     write_words(text, "winner", colour_word(winner))?;
     match chosen {
@@ -85,7 +88,8 @@ fn winner_with(side: Colour, chosen: &Option<Move>) -> Colour
 
 /// Appends the lines on the winner and the first winning move of the present state.
 pub(crate) fn write_solution(text: &mut String, solved: &mut Solved) -> Result<(), AllocError>
-    ensures outcome { OnOk result (HasOutcome solved.old.state (string_bytes text.old) (string_bytes text.new)) }
+    ensures outcome { OnOk result (HasOutcome solved.old.state (string_bytes text.old)
+        (string_bytes text.new)) }
     ensures same { solved.new ≡ solved.old }
 {
     let size = solved.whole().board().size();
@@ -99,7 +103,8 @@ pub(crate) fn write_solution(text: &mut String, solved: &mut Solved) -> Result<(
 /// Appends the line of a number.
 #[tactic(auto, unfolding(crate::specs::Solution::count_line))]
 pub(crate) fn write_count(text: &mut String, label: &str, count: u128) -> Result<(), AllocError>
-    ensures { OnOk result (string_bytes text.new ≡ string_bytes text.old ++ count_line label.now count) }
+    ensures { OnOk result
+        (string_bytes text.new ≡ string_bytes text.old ++ count_line label.now count) }
 {
     writeln!(text, "{label} {count}")
 }
@@ -113,7 +118,9 @@ pub(crate) fn write_region(
     positions: u64,
 ) -> Result<(), AllocError>
     requires { lowest < size.columns * size.rows }
-    ensures { OnOk result (string_bytes text.new ≡ string_bytes text.old ++ solved_line size.columns lowest points positions) }
+    ensures { OnOk result
+        (string_bytes text.new ≡ string_bytes text.old ++ solved_line size.columns lowest points
+        positions) }
 {
     text.push_str("region ")?;
     write_name(text, size, lowest)?;
@@ -123,7 +130,8 @@ pub(crate) fn write_region(
 
 /// Appends a line for each region of play, and answers how many positions they have together.
 fn write_lines(text: &mut String, solved: &Solved) -> Result<u128, AllocError>
-    ensures { IfOk result (λ total. HasLines solved.now.state.board.columns solved.now.regions (string_bytes text.old) (string_bytes text.new) total) }
+    ensures { IfOk result (λ total. HasLines solved.now.state.board.columns solved.now.regions
+        (string_bytes text.old) (string_bytes text.new) total) }
 {
     let size = solved.whole().board().size();
     let mut total = 0;
@@ -137,7 +145,8 @@ fn write_lines(text: &mut String, solved: &Solved) -> Result<u128, AllocError>
 
 /// Appends the lines on the regions of play.
 fn write_regions(text: &mut String, solved: &Solved) -> Result<(), AllocError>
-    ensures { OnOk result (HasRegions solved.now.state.board.columns solved.now.regions (string_bytes text.old) (string_bytes text.new)) }
+    ensures { OnOk result (HasRegions solved.now.state.board.columns solved.now.regions
+        (string_bytes text.old) (string_bytes text.new)) }
 {
     write_count(text, "regions", solved.regions() as u128)?;
     let total = write_lines(text, solved)?;

@@ -21,7 +21,8 @@ fn positions(solved: &Solved) -> u128
 
 /// Appends the lines on the number, the regions, their positions and their shapes.
 fn write_counts(text: &mut String, number: u32, solved: &Solved) -> Result<(), AllocError>
-    ensures { OnOk result (HasCounts number solved.now.regions (string_bytes text.old) (string_bytes text.new)) }
+    ensures { OnOk result (HasCounts number solved.now.regions (string_bytes text.old)
+        (string_bytes text.new)) }
 {
     write_count(text, "trial", u128::from(number))?;
     write_count(text, "regions", solved.regions() as u128)?;

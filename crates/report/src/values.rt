@@ -43,7 +43,8 @@ fn show_value(
 ) -> Result<Showing, ValuesError>
     requires { value < length store.now }
     ensures shown { IfOk result (IsShowing (tree_at store.now value)) }
-    ensures refusal { IfErr result (IsRefusal (λ p. (p ≡ point) × IsUnshown (tree_at store.now value))) }
+    ensures refusal { IfErr result (IsRefusal (λ p. (p ≡ point)
+        × IsUnshown (tree_at store.now value))) }
 {
     match show(alloc, store, value) {
         Ok(showing) => Ok(showing),
@@ -55,7 +56,9 @@ fn show_value(
 /// The line of a region.
 fn region_line(alloc: Global, size: Size, report: RegionReport) -> Result<String, AllocError>
     requires { report.lowest < size.columns * size.rows }
-    ensures { IfOk result (λ t. string_bytes t ≡ solved_line size.columns report.lowest report.points report.positions) }
+    ensures { IfOk result
+        (λ t. string_bytes t ≡ solved_line size.columns report.lowest report.points
+        report.positions) }
 {
     let mut line = String::new(alloc);
     write_region(
@@ -79,7 +82,8 @@ fn write_entry(
     requires value { report.value < length store.now }
     requires point { report.lowest < size.columns * size.rows }
     ensures entry { OnOk result (HasEntry size.columns store.now report text.old text.new) }
-    ensures refusal { IfErr result (IsRefusal (λ p. (p ≡ report.lowest) × IsUnshown (tree_at store.now report.value))) }
+    ensures refusal { IfErr result (IsRefusal (λ p. (p ≡ report.lowest)
+        × IsUnshown (tree_at store.now report.value))) }
 {
     let showing = show_value(alloc, store, report.value, report.lowest)?;
     text.extend_from_slice(region_line(alloc, size, report)?.as_bytes())?;
@@ -89,7 +93,8 @@ fn write_entry(
 
 /// Appends the lines of each region of play and of its value.
 fn write_entries(alloc: Global, text: &mut Text, solved: &Solved) -> Result<(), ValuesError>
-    ensures entries { OnOk result (HasEntries solved.now.state.board.columns solved.now.regions text.old text.new) }
+    ensures entries { OnOk result
+        (HasEntries solved.now.state.board.columns solved.now.regions text.old text.new) }
     ensures refusal { IfErr result (IsRefusal (IsFirstUnshown solved.now.regions)) }
     ensures on_board { IfErr result (IsRefusal (λ p. p < length solved.now.state.board.cells)) }
 {

@@ -1,5 +1,5 @@
 -- A file of at most 1,048,576 bytes, and the position that it gives under settings, or what is wrong with it.
-use Rattle.std.specs.Prelude.{◌≡◌, ◌<◌, ◌≤◌, ℕ, List, length, IfSome, Option, Some, Result, Ok, Err}
+use Rattle.std.specs.Prelude.{◌≤◌, ℕ, List, length, Result, Ok, Err}
 use Rattle.sgf_tree.specs.Grammar.{PropertyText}
 use Rattle.sgf_tree.specs.Reading.{IsAnswer}
 use Rattle.sgf_tree.specs.Reading.Answer.{line, no_tree, bad_byte, cut_short, too_deep}
@@ -13,14 +13,6 @@ use Rattle.sgf_go.specs.declared.fault.FileFault.TheVariants as fault
 -- at most 1,048,576 bytes
 abbrev pub IsShort : List ℕ → Type 0
 IsShort file = length file ≤ 1048576
-
--- the bytes are the file, where that is told; of a file that is told to be absent none are
-abbrev pub IsTold : Option (Option (List ℕ)) → List ℕ → Type 0
-IsTold told file = IfSome told (λ t. t ≡ Some file)
-
--- the file is told to be longer than a file may be
-abbrev pub IsTooLong : Option (Option (List ℕ)) → Type 0
-IsTooLong told = IfSome told (λ t. (file : List ℕ) × (t ≡ Some file) × (1048576 < length file))
 
 -- the file's main line gives the position by the settings, or this fault
 abbrev pub Reads : List ℕ → Settings → Result Setup FileFault → Type 0

@@ -58,7 +58,8 @@ pub(crate) fn first_of(property: &Property) -> &[u8]
 /// The first value of the first property of a name, trimmed.
 #[tactic(auto, using(crate::proofs::FirstValues::value_here, crate::proofs::FirstValues::value_on, crate::proofs::FirstValues::value_none))]
 pub(crate) fn value_of<'a>(properties: &'a [Property], name: &[u8]) -> Option<&'a [u8]>
-    ensures { option_map (λ t. t.now) result ≡ value_of name.now (map property_text properties.now) }
+    ensures { option_map (λ t. t.now) result ≡ value_of name.now
+        (map property_text properties.now) }
 {
     for at in 0..properties.len() {
         if is_named(&properties[at], name) {

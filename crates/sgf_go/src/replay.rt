@@ -27,8 +27,10 @@ pub struct Replay {
 
 /// An area that a text names on a board.
 fn area_on(board: &Board, text: &[u8]) -> Option<Area>
-    ensures value { Says (IsArea board.now.columns board.now.rows text.now) (option_map rectangle result) }
-    ensures within { IfSome result (λ a. (a.right < board.now.columns) × (a.bottom < board.now.rows)) }
+    ensures value { Says (IsArea board.now.columns board.now.rows text.now)
+        (option_map rectangle result) }
+    ensures within { IfSome result (λ a. (a.right < board.now.columns)
+        × (a.bottom < board.now.rows)) }
 {
     read_area(board.size(), text)
 }
@@ -72,7 +74,8 @@ impl Replay {
     /// A value of AB, AW or AE.
     #[tactic(auto, using(crate::proofs::Parts::sets_nothing, crate::proofs::Parts::sets_area, crate::proofs::Parts::sets_fault))]
     fn set_value(&mut self, node: u32, cell: Cell, value: &[u8]) -> Result<(), SetupFault>
-        ensures follows { Follows (SetsValue node cell (trimmed value.now)) self.old self.new result }
+        ensures follows { Follows (SetsValue node cell
+            (trimmed value.now)) self.old self.new result }
         ensures played { self.new.played ≡ self.old.played }
         ensures black { self.new.black ≡ self.old.black }
         ensures white { self.new.white ≡ self.old.white }
@@ -93,7 +96,8 @@ impl Replay {
     /// The values of AB, AW or AE, in order.
     #[tactic(auto, using(crate::proofs::Parts::goes_step, crate::proofs::Parts::goes_fault, crate::proofs::Parts::goes_end))]
     fn set_values(&mut self, node: u32, cell: Cell, values: &[Vec<u8>]) -> Result<(), SetupFault>
-        ensures follows { Follows (For (λ v. SetsValue node cell (trimmed v.items)) values.now) self.old self.new result }
+        ensures follows { Follows (For (λ v. SetsValue node cell
+            (trimmed v.items)) values.now) self.old self.new result }
         ensures played { self.new.played ≡ self.old.played }
         ensures black { self.new.black ≡ self.old.black }
         ensures white { self.new.white ≡ self.old.white }
@@ -150,7 +154,8 @@ impl Replay {
     /// A property that sets points, or any other.
     #[tactic(auto, using(crate::proofs::Parts::follows_values, crate::proofs::Parts::follows_nothing))]
     fn set_property(&mut self, node: u32, property: &Property) -> Result<(), SetupFault>
-        ensures follows { Follows (SetsProperty node (property_text property.now)) self.old self.new result }
+        ensures follows { Follows (SetsProperty node
+            (property_text property.now)) self.old self.new result }
         ensures played { self.new.played ≡ self.old.played }
         ensures black { self.new.black ≡ self.old.black }
         ensures white { self.new.white ≡ self.old.white }
@@ -164,7 +169,8 @@ impl Replay {
     /// The properties of a node that set points.
     #[tactic(auto, using(crate::proofs::Parts::goes_step, crate::proofs::Parts::goes_fault, crate::proofs::Parts::goes_end))]
     fn set_properties(&mut self, node: u32, properties: &[Property]) -> Result<(), SetupFault>
-        ensures follows { Follows (For (λ p. SetsProperty node (property_text p)) properties.now) self.old self.new result }
+        ensures follows { Follows (For (λ p. SetsProperty node
+            (property_text p)) properties.now) self.old self.new result }
         ensures played { OnOk result (self.new.played ≡ self.old.played) }
         ensures black { OnOk result (self.new.black ≡ self.old.black) }
         ensures white { OnOk result (self.new.white ≡ self.old.white) }
@@ -180,7 +186,8 @@ impl Replay {
     fn move_property(&mut self, node: u32, property: &Property) -> Result<(), SetupFault>
         requires counts { Counts self.old }
         requires few { self.old.played < 1048576 }
-        ensures follows { Follows (MovesProperty node (property_text property.now)) self.old self.new result }
+        ensures follows { Follows (MovesProperty node
+            (property_text property.now)) self.old self.new result }
         ensures counts { OnOk result (Counts self.new) }
         ensures played { OnOk result (self.new.played ≤ self.old.played + 1) }
     {
@@ -195,7 +202,8 @@ impl Replay {
     fn move_properties(&mut self, node: u32, properties: &[Property]) -> Result<(), SetupFault>
         requires counts { Counts self.old }
         requires few { self.old.played + length properties.now ≤ 1048576 }
-        ensures follows { Follows (For (λ p. MovesProperty node (property_text p)) properties.now) self.old self.new result }
+        ensures follows { Follows (For (λ p. MovesProperty node
+            (property_text p)) properties.now) self.old self.new result }
         ensures counts { OnOk result (Counts self.new) }
         ensures played { OnOk result (self.new.played ≤ self.old.played + length properties.now) }
     {
@@ -207,7 +215,8 @@ impl Replay {
 
     /// PL, where the settings give no turn.
     fn set_side(&mut self, turn: Option<Colour>, properties: &[Property]) -> Result<(), SetupFault>
-        ensures follows { Follows (Side turn (map property_text properties.now)) self.old self.new result }
+        ensures follows { Follows (Side turn
+            (map property_text properties.now)) self.old self.new result }
         ensures played { self.new.played ≡ self.old.played }
         ensures black { self.new.black ≡ self.old.black }
         ensures white { self.new.white ≡ self.old.white }
@@ -237,7 +246,8 @@ impl Replay {
     ) -> Result<(), SetupFault>
         requires counts { Counts self.old }
         requires few { self.old.played + length properties.now ≤ 1048576 }
-        ensures follows { Follows (NodePart turn node (map property_text properties.now)) self.old self.new result }
+        ensures follows { Follows (NodePart turn node
+            (map property_text properties.now)) self.old self.new result }
         ensures counts { OnOk result (Counts self.new) }
         ensures played { OnOk result (self.new.played ≤ self.old.played + length properties.now) }
     {
@@ -258,7 +268,8 @@ impl Replay {
         requires counts { Counts self.old }
         requires nodes { length line.now ≤ 1048576 }
         requires few { sum_by (λ n. length n.properties.items) line.now ≤ 1048576 }
-        ensures follows { Follows (LinePart after turn 0 (map node_text line.now)) self.old self.new result }
+        ensures follows { Follows (LinePart after turn 0
+            (map node_text line.now)) self.old self.new result }
         ensures counts { OnOk result (Counts self.new) }
         ensures played { OnOk result (self.new.played ≤ 1048576) }
     {
@@ -277,7 +288,8 @@ impl Replay {
     fn play(&mut self, node: u32, colour: Colour, value: &[u8]) -> Result<(), SetupFault>
         requires counts { Counts self.old }
         requires few { self.old.played < 1048576 }
-        ensures follows { Follows (Moves node (Some colour) (trimmed value.now)) self.old self.new result }
+        ensures follows { Follows (Moves node (Some colour)
+            (trimmed value.now)) self.old self.new result }
         ensures counts { OnOk result (Counts self.new) }
         ensures played { OnOk result (self.new.played ≡ self.old.played + 1) }
     {

@@ -82,7 +82,8 @@ fn root(line: &[Node]) -> &[Property]
 fn find_komi(given: Option<i64>, properties: &[Property]) -> Option<i64>
     requires { IfSome given IsInRange }
     ensures range { IfSome result IsInRange }
-    ensures value { Says (IsKomiFor given (value_of (codes "KM") (map property_text properties.now))) result }
+    ensures value { Says (IsKomiFor given (value_of (codes "KM")
+        (map property_text properties.now))) result }
 {
     if given.is_some() {
         return given;
@@ -139,7 +140,8 @@ fn finish(replay: Replay, settings: &Settings, komi: i64) -> Result<Setup, GoErr
 
 /// The place of the first `:`.
 fn find_colon(text: &[u8]) -> Option<usize>
-    ensures found { IfSome result (λ at. (at < length text.now) × (get_or text.now at 0 ≡ colon) × LacksColon text.now at) }
+    ensures found { IfSome result (λ at. (at < length text.now) × (get_or text.now at 0 ≡ colon)
+        × LacksColon text.now at) }
     ensures none { IfNone result (LacksColon text.now (length text.now)) }
 {
     for at in 0..text.len() {
@@ -178,7 +180,8 @@ fn read_size(text: &[u8]) -> Option<Size>
 
 /// The size of the board, if it is one.
 fn find_size(properties: &[Property]) -> Option<Size>
-    ensures { Says (IsBoardSize (value_of (codes "SZ") (map property_text properties.now))) (option_map extent result) }
+    ensures { Says (IsBoardSize (value_of (codes "SZ") (map property_text properties.now)))
+        (option_map extent result) }
 {
     match value_of(properties, b"SZ") {
         None => Size::new(19, 19),
@@ -188,7 +191,8 @@ fn find_size(properties: &[Property]) -> Option<Size>
 
 /// The size of the board that a record names by SZ of node 0, or none where that isn't a size.
 pub fn size_of_board(tree: &Tree) -> Option<Size>
-    ensures { Says (IsBoardSize (value_of (codes "SZ") (root (line_text tree.now)))) (option_map extent result) }
+    ensures { Says (IsBoardSize (value_of (codes "SZ") (root (line_text tree.now))))
+        (option_map extent result) }
 {
     find_size(root(&tree.line))
 }

@@ -96,7 +96,8 @@ impl Draft {
 
     /// Takes a byte of the main line.
     fn take(&mut self, place: Place, token: Token, byte: u8) -> Result<(), AllocError>
-        ensures { OnOk result (parts_of self.new ≡ parts_after place token byte (parts_of self.old)) }
+        ensures { OnOk result (parts_of self.new ≡ parts_after place token byte
+            (parts_of self.old)) }
     {
         match token {
             Token::Open | Token::Close | Token::Node => self.leave_node(place),
@@ -241,7 +242,8 @@ fn read_tree(alloc: Global, bytes: &[u8], start: usize) -> Result<Tree, SgfError
 pub fn read(alloc: Global, bytes: &[u8]) -> Result<Tree, SgfError>
     requires { length bytes.now ≤ MOST_BYTES }
     ensures answer { Answers bytes.now result }
-    ensures few { IfOk result (λ t. (length t.line.items ≤ MOST_BYTES) × (sum_by (λ n. length n.properties.items) t.line.items ≤ MOST_BYTES)) }
+    ensures few { IfOk result (λ t. (length t.line.items ≤ MOST_BYTES)
+        × (sum_by (λ n. length n.properties.items) t.line.items ≤ MOST_BYTES)) }
 {
     read_main_line(alloc, bytes)
 }

@@ -52,7 +52,8 @@ fn join(alloc: Global, left: &Scaffold<'_>, right: &Scaffold<'_>) -> Result<Draw
     requires right_side { right.now.side ≡ the_side.Right }
     requires stays { Stays (line left.now) (line right.now) }
     ensures drawn { IfOk result (λ g. IsJoined (line left.now) (line right.now) g) }
-    ensures bounds { IfErr result (λ e. e ≡ the_error.Bounds → Jumps (line left.now) (line right.now)) }
+    ensures bounds { IfErr result (λ e. e ≡ the_error.Bounds
+        → Jumps (line left.now) (line right.now)) }
 {
     let meeting = first_meeting(left, right);
     let mean = left.at(meeting);
@@ -102,7 +103,8 @@ pub(crate) fn draw_form(
     requires id { id < length store.now }
     requires known { AreDrawnBelow store.now id walls.now.left.items walls.now.right.items }
     ensures drawn { IfOk result (λ g. IsDrawing (tree_at store.now id) g) }
-    ensures bounds { IfErr result (λ e. e ≡ the_error.Bounds → HasTemperatureBetween 60 (tree_at store.now id)) }
+    ensures bounds { IfErr result (λ e. e ≡ the_error.Bounds
+        → HasTemperatureBetween 60 (tree_at store.now id)) }
 {
     let _count = store.len();
     match store.node(id) {

@@ -37,7 +37,8 @@ fn both_move(left: &Scaffold<'_>, right: &Scaffold<'_>, place: u128, next: u128)
     requires right { IsKnown right.now }
     requires place { place ≤ 2 ^ 120 }
     requires next { next ≤ 2 ^ 120 }
-    ensures { result ≡ true ↔ ((line left.now next <ℤ line left.now place) × (line right.now place <ℤ line right.now next)) }
+    ensures { result ≡ true ↔ ((line left.now next <ℤ line left.now place)
+        × (line right.now place <ℤ line right.now next)) }
 {
     left.at(next) < left.at(place) && right.at(place) < right.at(next)
 }

@@ -48,8 +48,10 @@ fn draw_below(
 ) -> Result<Walls, ThermoError>
     requires id { id < length store.now }
     requires marks { AreFollowers store.now id 0 marks.now }
-    ensures drawn { IfOk result (λ walls. AreDrawn store.now marks.now id walls.left.items walls.right.items) }
-    ensures bounds { IfErr result (λ e. e ≡ the_error.Bounds → IsDrawnPastBounds (tree_at store.now id)) }
+    ensures drawn { IfOk result
+        (λ walls. AreDrawn store.now marks.now id walls.left.items walls.right.items) }
+    ensures bounds { IfErr result (λ e. e ≡ the_error.Bounds
+        → IsDrawnPastBounds (tree_at store.now id)) }
 {
     let mut walls = Walls {
         left: Vec::new(alloc),
@@ -74,11 +76,16 @@ fn draw_below(
 /// `Bounds` exactly where a break point of the game or of one of its parts is past the bounds of a `Dyadic`.
 pub fn draw(alloc: Global, store: &Store, id: GameId) -> Result<Thermograph, ThermoError>
     requires { id < length store.now }
-    ensures walls { IfOk result (λ g. DrawWalls (tree_at store.now id) (breaks g.left) (breaks g.right)) }
-    ensures temperature { IfOk result (λ g. IsTemperature (tree_at store.now id) (wall_at (breaks g.left)) (wall_at (breaks g.right)) g.temperature g.mean) }
-    ensures left_breaks { IfOk result (λ g. IsFromZero g.left × AreBreaks (breaks g.left) (end_of g.temperature)) }
-    ensures right_breaks { IfOk result (λ g. IsFromZero g.right × AreBreaks (breaks g.right) (end_of g.temperature)) }
-    ensures bounds { IfErr result (λ e. e ≡ the_error.Bounds → IsDrawnPastBounds (tree_at store.now id)) }
+    ensures walls { IfOk result (λ g. DrawWalls (tree_at store.now id) (breaks g.left)
+        (breaks g.right)) }
+    ensures temperature { IfOk result (λ g. IsTemperature (tree_at store.now id)
+        (wall_at (breaks g.left)) (wall_at (breaks g.right)) g.temperature g.mean) }
+    ensures left_breaks { IfOk result (λ g. IsFromZero g.left
+        × AreBreaks (breaks g.left) (end_of g.temperature)) }
+    ensures right_breaks { IfOk result (λ g. IsFromZero g.right
+        × AreBreaks (breaks g.right) (end_of g.temperature)) }
+    ensures bounds { IfErr result (λ e. e ≡ the_error.Bounds
+        → IsDrawnPastBounds (tree_at store.now id)) }
     ensures within { IfOk result (λ g. IsDrawnPastBounds (tree_at store.now id) → ⊥) }
 {
     let _count = store.len();

@@ -78,7 +78,8 @@ impl Scaffold<'_> {
         requires order { start < end }
         ensures after { start < result }
         ensures within { result ≤ end }
-        ensures clear { EachWall (IsClear start result) (picked self.now.walls.now self.now.ids.now) }
+        ensures clear { EachWall (IsClear start result)
+            (picked self.now.walls.now self.now.ids.now) }
     {
         let mut next = end;
         for id in self.ids {

@@ -45,7 +45,8 @@ fn expected<'a>(
 
 /// Whether all the ids are the store's.
 fn are_ids(store: &Store, ids: &[GameId]) -> bool
-    ensures { IsTrue result → (j : ℕ) → j < length ids.now → slice_index ids.now j < length store.now }
+    ensures { IsTrue result → (j : ℕ) → j < length ids.now
+        → slice_index ids.now j < length store.now }
 {
     for id in ids {
         if *id >= store.len() {

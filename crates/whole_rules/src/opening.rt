@@ -106,7 +106,8 @@ impl Whole {
         requires settled { IsSettled board.now }
         requires black { black_prisoners < 2 ^ 40 }
         requires white { white_prisoners < 2 ^ 40 }
-        ensures { IfOk result (λ w. IsOpening board.now black_prisoners white_prisoners komi_halves side tax w) }
+        ensures { IfOk result
+            (λ w. IsOpening board.now black_prisoners white_prisoners komi_halves side tax w) }
     {
         let territory = Territory::of(alloc, board)?;
         Whole::opening_with(
@@ -136,7 +137,8 @@ impl Whole {
         requires territory { IsTerritory board.now territory.now }
         requires black { black_prisoners < 2 ^ 40 }
         requires white { white_prisoners < 2 ^ 40 }
-        ensures { IfOk result (λ w. IsOpening board.now black_prisoners white_prisoners komi_halves side tax w) }
+        ensures { IfOk result
+            (λ w. IsOpening board.now black_prisoners white_prisoners komi_halves side tax w) }
     {
         let black = start_points(alloc, board, &territory.black, Colour::Black, tax)?;
         let white = start_points(alloc, board, &territory.white, Colour::White, tax)?;

@@ -1,0 +1,96 @@
+//! Turns: of a running game, and of one that a setup opens.
+
+ghost use Rattle.std.specs.Prelude.{◌≡◌, ◌↔◌, ◌≤◌, ◌+◌, List, true, IfOk, OnErr};
+ghost use Rattle.endgame_solver.specs.Faults.{most_steps};
+ghost use Rattle.go_grid.specs.Region.{Region};
+ghost use Rattle.region_cut.specs.Cut.{AreRegionsOfPlay};
+ghost use Rattle.gtp_engine.specs.Doing.{IsFresh, IsRunning, IsTurnTaken};
+
+use crate::engine::Engine;
+use crate::playing::{Action, act, open};
+use crate::reply::{Refusal, refuse};
+use crate::setups::turned;
+use game_text::Text;
+use go_grid::Colour;
+use local_play::Steps;
+use std::alloc::AllocError;
+use std::sync::ledger::Ledger;
+
+/// Whether the two are the same.
+fn is_same(a: Colour, b: Colour) -> bool
+    ensures { (result ≡ true) ↔ (a ≡ b) }
+{
+    a == b
+}
+
+impl Engine {
+    /// A turn of the colour in the running game.
+    fn go_on(&mut self, id: &[u8], colour: Colour, action: Action) -> Result<Text, AllocError>
+        requires { IsRunning self.old }
+        ensures taken { IfOk result
+            (λ reply. IsTurnTaken colour action id.now self.old reply self.new) }
+        ensures same { OnErr result (self.new ≡ self.old) }
+    {
+        let alloc = self.setup.board.allocator();
+        match &mut self.game {
+            Some(solved) => {
+                if !is_same(solved.whole().side(), colour) {
+                    let reply = refuse(alloc, id, Refusal::NotInTurn)?;
+                    return Ok(reply);
+                }
+                let reply = act(alloc, id, solved, action)?;
+                Ok(reply)
+            }
+            None => unreachable!(),
+        }
+    }
+
+    /// A turn of the colour in the game that the fresh setup opens.
+    fn set_out<L: Ledger>(
+        &mut self,
+        id: &[u8],
+        colour: Colour,
+        action: Action,
+        steps: &mut Steps<L>,
+    ) -> Result<Text, AllocError>
+        requires { IsFresh self.old }
+        ensures taken { IfOk result
+            (λ reply. IsTurnTaken colour action id.now self.old reply self.new) }
+        ensures same { OnErr result (self.new ≡ self.old) }
+        ensures steps { (regions : List Region)
+            → AreRegionsOfPlay self.old.table.setup.board regions
+            → steps.new ≤ steps.old + most_steps self.old.limits regions }
+    {
+        let alloc = self.setup.board.allocator();
+        let setup = turned(&self.setup, colour)?;
+        let Some(mut solved) = open(alloc, &setup, &self.limits, steps)? else {
+            let reply = refuse(alloc, id, Refusal::CannotSolve)?;
+            return Ok(reply);
+        };
+        let reply = act(alloc, id, &mut solved, action)?;
+        self.setup = setup;
+        self.game = Some(solved);
+        Ok(reply)
+    }
+
+    /// A turn of the colour.
+    pub(crate) fn take_turn<L: Ledger>(
+        &mut self,
+        id: &[u8],
+        colour: Colour,
+        action: Action,
+        steps: &mut Steps<L>,
+    ) -> Result<Text, AllocError>
+        ensures taken { IfOk result
+            (λ reply. IsTurnTaken colour action id.now self.old reply self.new) }
+        ensures same { OnErr result (self.new ≡ self.old) }
+        ensures steps { (regions : List Region)
+            → AreRegionsOfPlay self.old.table.setup.board regions
+            → steps.new ≤ steps.old + most_steps self.old.limits regions }
+    {
+        if self.is_running() {
+            return self.go_on(id, colour, action);
+        }
+        self.set_out(id, colour, action, steps)
+    }
+}
