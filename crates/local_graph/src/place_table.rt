@@ -97,14 +97,15 @@ impl PlaceTable {
         Ok(())
     }
 
-    /// Makes the table anew with twice as many slots.
+    /// Makes the table anew with four times as many slots.
     fn grow(&mut self, alloc: Global) -> Result<(), AllocError>
         requires table { IsTable self.old }
+        requires full { length self.old.latest.items ≤ length self.old.positions.items }
         requires few { length self.old.positions.items < 2 ^ 32 }
         ensures table { OnOk result (IsTable self.new) }
         ensures positions { self.new.positions.items ≡ self.old.positions.items }
     {
-        let slots = 2 * self.latest.len();
+        let slots = 4 * self.latest.len();
         self.latest = vec![in alloc; 0; slots]?;
         self.before.clear();
         'entering: for _place in 0..self.positions.len() {
