@@ -1,8 +1,8 @@
 -- Lists of edges, one behind another in one list.
-use Rattle.std.proofs.Common.{◌≡◌, ℕ, ◌+◌, ◌-◌, ◌<◌, ◌≤◌, inl, inr, arith, refl, ap, ◌∙◌, List, [], ◌∷◌, ◌++◌, length, take, drop, length-drop}
+use Rattle.std.proofs.Common.{◌≡◌, ℕ, ◌+◌, ◌-◌, ◌<◌, ◌≤◌, inl, inr, arith, refl, ap, ◌∙◌, List, [], ◌∷◌, ◌++◌, length, take, drop, set, length-drop}
 use Rattle.std.proofs.lemmas.Bool.{cases_lt}
 use Rattle.std.proofs.Math.Seq.{drop-append_seam}
-use Rattle.std.proofs.lemmas.List.{map-append, take_all, take-append-le, drop-append-le, get_or_past}
+use Rattle.std.proofs.lemmas.List.{map-append, map-set, take_all, take-append-le, drop-append-le, get_or_past}
 use Rattle.std.proofs.lemmas.List.Elements.{All-head, All-tail}
 use Rattle.local_graph.specs.declared.graph.Edge.{Edge}
 use Rattle.local_graph.specs.declared.edge_lists.Span.{Span}
@@ -34,6 +34,16 @@ lists_push edges more spans s within at to =
     map-append (part (edges ++ more)) spans (s ∷ []) ∙ ap (λ l. l ++ part (edges ++ more) s ∷ []) (lists_more edges more spans within)
     ∙ ap (λ l. lists_of edges spans ++ l ∷ []) here
 
+-- a list in place of another
+lists_set : (edges more : List Edge) (spans : List Span) (s : Span) (k : ℕ) → AreWithin (length edges) spans → s.start ≡ length edges
+    → s.end ≡ length edges + length more → lists_of (edges ++ more) (set spans k s) ≡ set (lists_of edges spans) k more
+lists_set edges more spans s k within at to =
+    let here : part (edges ++ more) s ≡ more =
+    ap (λ n. take (s.end - s.start) (drop n (edges ++ more))) at ∙ ap (take (s.end - s.start)) (drop-append_seam edges more)
+    ∙ take_all (s.end - s.start) more (omega arith) in
+    map-set (part (edges ++ more)) spans k s ∙ ap (λ l. set l k (part (edges ++ more) s)) (lists_more edges more spans within)
+    ∙ ap (set (lists_of edges spans) k) here
+
 -- a node with edges is one
 pub node_inside : (edges : List (List Edge)) (i k : ℕ) → k < length (edges_at edges i) → i < length edges
 node_inside edges i k lt = elim (cases_lt i (length edges)) as (λ _. i < length edges) [
@@ -50,3 +60,8 @@ pub lists_pushed : (edges more all : List Edge) (spans spans' : List Span) (s : 
     → spans' ≡ spans ++ s ∷ [] → s.start ≡ length edges → s.end ≡ length edges + length more
     → lists_of all spans' ≡ lists_of edges spans ++ more ∷ []
 lists_pushed edges more all spans spans' s within e pushed at to = rw (e, pushed) (lists_push edges more spans s within at to)
+
+pub lists_put : (edges more all : List Edge) (spans spans' : List Span) (s : Span) (k : ℕ) → AreWithin (length edges) spans → all ≡ edges ++ more
+    → spans' ≡ set spans k s → s.start ≡ length edges → s.end ≡ length edges + length more
+    → lists_of all spans' ≡ set (lists_of edges spans) k more
+lists_put edges more all spans spans' s k within e put at to = rw (e, put) (lists_set edges more spans s k within at to)

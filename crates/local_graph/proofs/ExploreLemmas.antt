@@ -1,23 +1,22 @@
 -- Exploring the reachable positions.
-use Rattle.std.proofs.Common.{◌≡◌, ◌≢◌, ℕ, ◌^◌, ◌<◌, ◌≤◌, inl, inr, suc, zero, arith, refl, sym, ap, ◌∙◌, List, [], ◌∷◌, ◌++◌, map, length, get_or, subst, length-append, Ok, Err, Some, None, slice_get}
-use Rattle.std.proofs.lemmas.Option.{slice_get_within, get_or_from_slice_get, slice_get-get_or}
+use Rattle.std.proofs.Common.{◌≡◌, ◌≢◌, ℕ, ◌+◌, ◌^◌, ◌<◌, ◌≤◌, inl, inr, suc, zero, arith, refl, sym, ap, ◌∙◌, List, [], ◌∷◌, ◌++◌, map, length, get_or, set, subst, length-append, Ok, Err}
 use Rattle.std.specs.List.{AllPairs, Contains}
 use Rattle.std.proofs.lemmas.Bool.{cases_eq, cases_lt}
-use Rattle.std.proofs.lemmas.List.{get_or_append_left, get_or_push, length_push, get_or_default, length-map, get_or-map}
-use Rattle.std.proofs.lemmas.List.Elements.{Contains-get_or, Contains-push_cases}
+use Rattle.std.proofs.lemmas.List.{get_or_append_left, get_or-set_same, get_or-set_other, length-set, get_or_default, length-map, get_or-map}
+use Rattle.std.proofs.lemmas.List.Elements.{Contains-get_or, Contains-push, Contains-push_cases, Contains-append_left}
 use Rattle.go_grid.specs.declared.grid.Cell.{Cell}
 use Rattle.go_grid.specs.declared.region.Touch.{Touch}
 use Rattle.local_play.specs.declared.local_move.LocalMove.{LocalMove}
 use Rattle.local_play.specs.LocalPlay.{IsLocalMove}
 use Rattle.local_play.specs.Packed.{pack}
-use Rattle.local_play.specs.Moves.{ListsMoves, IsPosition}
+use Rattle.local_play.specs.Moves.{ListsMoves}
 use Rattle.local_play.proofs.PackLemmas.{pack_same}
 use Rattle.local_graph.specs.declared.building.GraphError.{GraphError}
 use Rattle.local_graph.specs.declared.building.GraphError.TheVariants.{Points, Positions, Cycle, Memory}
 use Rattle.local_graph.specs.declared.cycle.CycleMove.{CycleMove}
 use Rattle.local_graph.specs.declared.graph.Edge.{Edge}
 use Rattle.local_graph.specs.LocalGraph.{Plays, IsReachable, AreEdges, HasMoves, IsGraph, MoreThan}
-use Rattle.local_graph.specs.Found.{Grows, Extends, EdgesFor, Explored, Placed}
+use Rattle.local_graph.specs.Found.{Grows, Extends, EdgesFor, Explored, Placed, AreAwaited}
 use Rattle.local_graph.proofs.FoundLemmas.{edge_more}
 use Rattle.local_graph.proofs.FiniteLemmas.{few_positions}
 use Rattle.local_graph.proofs.PlayLemmas.{plays_long, plays_more, one_after}
@@ -26,15 +25,16 @@ use Rattle.local_graph.proofs.PlayLemmas.{plays_long, plays_more, one_after}
 abbrev pub AreReachable : List Touch → List Cell → List ℕ → Type 0
 AreReachable touch opening ns = (n : ℕ) → Contains ns n → (cells : List Cell) × IsReachable touch opening cells × (n ≡ pack cells)
 
--- the positions so far, the first of them with their edges
-pub record Exploring (touch : List Touch) (opening : List Cell) (limit : ℕ) (positions : List ℕ) (edges : List (List Edge)) : Type 0 where
+-- the positions so far, each with its edges or waiting
+pub record Exploring (touch : List Touch) (opening : List Cell) (limit : ℕ) (positions : List ℕ) (edges : List (List Edge)) (waiting : List ℕ) : Type 0 where
   pub some : 0 < length positions
   pub first : get_or positions 0 0 ≡ pack opening
   pub once : AllPairs (λ a b. a ≢ b) positions
   pub few : length positions ≤ limit
   pub reachable : AreReachable touch opening positions
-  pub beside : length edges ≤ length positions
-  pub moves : (i : ℕ) (cells : List Cell) → i < length edges → IsReachable touch opening cells
+  pub beside : length edges ≡ length positions
+  pub inside : (i : ℕ) → Contains waiting i → i < length positions
+  pub moves : (i : ℕ) (cells : List Cell) → i < length positions → ¬ Contains waiting i → IsReachable touch opening cells
       → get_or positions i 0 ≡ pack cells → HasMoves touch cells positions (get_or edges i [])
 
 contains_nil : (n : ℕ) → Contains [] n → ⊥
@@ -48,21 +48,12 @@ only_opening touch opening start positions (inr (is, new)) e n h = elim (Contain
   | inr same ↦ (opening, ([], refl), sym same ∙ e)
 ]
 
-pub explore_start : (touch : List Touch) (opening : List Cell) (limit start place : ℕ) (positions : List ℕ) → Grows [] start positions
-    → place < length positions → get_or positions place 0 ≡ start → length positions ≤ limit → start ≡ pack opening
-    → Exploring touch opening limit positions []
-explore_start touch opening limit start place positions g inside at few e = go g
+pub explore_start : (touch : List Touch) (opening : List Cell) (limit start place : ℕ) (positions : List ℕ) (all : List (List Edge))
+    (waiting : List ℕ) → Grows [] start positions → place < length positions → get_or positions place 0 ≡ start → length positions ≤ limit
+    → start ≡ pack opening → AreAwaited [] [] (length positions) all waiting → Exploring touch opening limit positions all waiting
+explore_start touch opening limit start place positions all waiting g inside at few e w = go g
   where
-    one : (x : ℕ) → Contains positions x → x ≡ start
-    one x h = elim g as (λ _. x ≡ start) [
-      | inl none ↦ absurd (contains_nil x (subst (λ l. Contains l x) none h))
-      | inr (is, new) ↦ elim (Contains-push_cases [] start x (subst (λ l. Contains l x) is h)) [
-        | inl old ↦ absurd (contains_nil x old)
-        | inr same ↦ sym same
-      ]
-    ]
-
-    go : Grows [] start positions → Exploring touch opening limit positions []
+    go : Grows [] start positions → Exploring touch opening limit positions all waiting
     go (inl none) = absurd (let l = ap length none in omega arith)
     go (inr (is, new)) = record {
       some = omega arith;
@@ -70,8 +61,9 @@ explore_start touch opening limit start place positions g inside at few e = go g
       once = subst (AllPairs (λ a b. a ≢ b)) (sym is) (λ i j d lt short. absurd (omega arith));
       few = few;
       reachable = only_opening touch opening start positions g e;
-      beside = omega arith;
-      moves = λ i cells lt. absurd (omega arith);
+      beside = w.long;
+      inside = λ i h. elim (w.only i h) [ inl old ↦ absurd (contains_nil i old) | inr lt ↦ lt ];
+      moves = λ i cells lt apart. absurd (apart (w.new i (omega arith) lt));
     }
 
 -- what was found keeps its place and its moves
@@ -91,38 +83,64 @@ reachable_more touch opening before after cells moves all x here lists n h = eli
       (move.after, (here.0 ++ step ∷ [], plays_more touch opening cells move.after here.0 step here.1 move.move), sym is ∙ move.next)
 ]
 
-pub explore_step : (touch : List Touch) (opening : List Cell) (limit : ℕ) (positions after : List ℕ) (edges : List (List Edge))
-    (cells : List Cell) (moves : List LocalMove) (es : List Edge) → Exploring touch opening limit positions edges
-    → length edges < length positions → IsReachable touch opening cells → get_or positions (length edges) 0 ≡ pack cells
-    → ListsMoves touch cells moves → Extends positions moves after → AreEdges after moves es → length after ≤ limit
-    → Exploring touch opening limit after (edges ++ es ∷ [])
-explore_step touch opening limit positions after edges cells moves es s lt here at lists x linked few =
-    let longer = ap length x.appended in
-    let sum = length-append positions x.more in
-    record {
-      some = omega (arith, s.some);
-      first = ap (λ l. get_or l 0 0) x.appended ∙ get_or_append_left positions x.more 0 0 s.some ∙ s.first;
-      once = x.once;
-      few = few;
-      reachable = reachable_more touch opening positions after cells moves s.reachable x here lists;
-      beside = omega (arith, length_push edges es);
-      moves = λ i there less reach is. elim (cases_eq i (length edges)) [
-        | inl e ↦
-            let number : pack there ≡ pack cells =
-            sym is ∙ ap (λ l. get_or l i 0) x.appended ∙ get_or_append_left positions x.more 0 i (omega arith)
-            ∙ ap (λ j. get_or positions j 0) e ∙ at in
-            let long : length there ≡ length cells =
-            plays_long touch opening there reach.0 reach.1 ∙ sym (plays_long touch opening cells here.0 here.1) in
-            let same = pack_same there cells long number in
-            subst (λ y. HasMoves touch y after (get_or (edges ++ es ∷ []) i [])) (sym same)
-            (subst (HasMoves touch cells after) (sym (get_or_push edges es [] i (sym e))) (moves, lists, linked))
-        | inr ne ↦
-            let old : i < length edges = omega (arith, length_push edges es) in
-            let is' = sym (get_or_append_left positions x.more 0 i (omega (arith, s.beside))) ∙ ap (λ l. get_or l i 0) (sym x.appended) ∙ is in
-            subst (HasMoves touch there after) (sym (get_or_append_left edges (es ∷ []) [] i old))
-            (has_moves_more touch there positions x.more after (get_or edges i []) x.appended (s.moves i there old reach is'))
-      ];
-    }
+-- the last of those that wait is explored
+pub explore_step : (touch : List Touch) (opening : List Cell) (limit : ℕ) (positions after : List ℕ) (edges all : List (List Edge))
+    (front waiting : List ℕ) (place : ℕ) (cells : List Cell) (moves : List LocalMove) (es : List Edge)
+    → Exploring touch opening limit positions edges (front ++ place ∷ []) → IsReachable touch opening cells
+    → get_or positions place 0 ≡ pack cells → ListsMoves touch cells moves → Extends positions moves after → AreEdges after moves es
+    → length after ≤ limit → AreAwaited (set edges place es) front (length after) all waiting → Exploring touch opening limit after all waiting
+explore_step touch opening limit positions after edges all front waiting place cells moves es s here at lists x linked few w = record {
+  some = omega (arith, s.some, longer, sum);
+  first = ap (λ l. get_or l 0 0) x.appended ∙ get_or_append_left positions x.more 0 0 s.some ∙ s.first;
+  once = x.once;
+  few = few;
+  reachable = reachable_more touch opening positions after cells moves s.reachable x here lists;
+  beside = w.long;
+  inside = λ i h. elim (w.only i h) [
+    | inl old ↦ let lt = s.inside i (Contains-append_left front (place ∷ []) i old) in omega (arith, lt, longer, sum)
+    | inr lt ↦ lt
+  ];
+  moves = λ i there less apart reach is. elim (cases_eq i place) [
+    | inl e ↦
+        let number : pack there ≡ pack cells =
+        sym is ∙ ap (λ l. get_or l i 0) x.appended ∙ get_or_append_left positions x.more 0 i (omega (arith, e, inside_place))
+        ∙ ap (λ j. get_or positions j 0) e ∙ at in
+        let long : length there ≡ length cells =
+        plays_long touch opening there reach.0 reach.1 ∙ sym (plays_long touch opening cells here.0 here.1) in
+        let same = pack_same there cells long number in
+        let its : get_or all i [] ≡ es =
+        w.lists i ∙ ap (λ j. get_or (set edges place es) j []) e ∙ get_or-set_same edges place es [] (omega (arith, inside_place, s.beside)) in
+        subst (λ y. HasMoves touch y after (get_or all i [])) (sym same)
+        (subst (HasMoves touch cells after) (sym its) (moves, lists, linked))
+    | inr ne ↦ elim (cases_lt i (length positions)) [
+      | inr late ↦ absurd (apart (w.new i (omega (arith, late, length-set edges place es, s.beside)) less))
+      | inl old ↦
+          let is' = sym (get_or_append_left positions x.more 0 i old) ∙ ap (λ l. get_or l i 0) (sym x.appended) ∙ is in
+          let its : get_or all i [] ≡ get_or edges i [] = w.lists i ∙ get_or-set_other' i ne in
+          let was = s.moves i there old (before i ne apart) reach is' in
+          subst (HasMoves touch there after) (sym its)
+          (has_moves_more touch there positions x.more after (get_or edges i []) x.appended was)
+    ]
+  ];
+}
+  where
+    longer : length after ≡ length (positions ++ x.more)
+    longer = ap length x.appended
+
+    sum : length (positions ++ x.more) ≡ length positions + length x.more
+    sum = length-append positions x.more
+
+    inside_place : place < length positions
+    inside_place = s.inside place (Contains-push front place)
+
+    get_or-set_other' : (i : ℕ) → i ≢ place → get_or (set edges place es) i [] ≡ get_or edges i []
+    get_or-set_other' i ne = rw get_or-set_other refl
+
+    before : (i : ℕ) → i ≢ place → ¬ Contains waiting i → ¬ Contains (front ++ place ∷ []) i
+    before i ne apart h = elim (Contains-push_cases front place i h) [
+      | inl old ↦ apart (w.old i old)
+      | inr e ↦ ne (sym e)
+    ]
 
 -- the positions of a list of numbers
 pub unpacked : (touch : List Touch) (opening : List Cell) (ns : List ℕ) → AreReachable touch opening ns
@@ -161,16 +179,16 @@ too_many touch opening limit ns all once many =
       many = omega arith;
     }
 
-pub explore_err : (touch : List Touch) (opening : List Cell) (limit : ℕ) (positions after : List ℕ) (edges : List (List Edge))
-    (cells : List Cell) (moves : List LocalMove) (es : List Edge) (e : GraphError) → Exploring touch opening limit positions edges
+pub explore_err : (touch : List Touch) (opening : List Cell) (limit : ℕ) (positions after : List ℕ)
+    (cells : List Cell) (moves : List LocalMove) (es : List Edge) (e : GraphError) → AreReachable touch opening positions
     → IsReachable touch opening cells → ListsMoves touch cells moves → EdgesFor positions moves limit after es (Err e)
     → Explored touch opening limit after (Err e)
-explore_err touch opening limit positions after edges cells moves es Positions s here lists x =
+explore_err touch opening limit positions after cells moves es Positions s here lists x =
     too_many touch opening limit after
-    (reachable_more touch opening positions after cells moves s.reachable x.0 here lists) x.0.once x.1
-explore_err touch opening limit positions after edges cells moves es (Points n) s here lists x = absurd x
-explore_err touch opening limit positions after edges cells moves es (Cycle ms back) s here lists x = absurd x
-explore_err touch opening limit positions after edges cells moves es (Memory e) s here lists x = tt
+    (reachable_more touch opening positions after cells moves s x.0 here lists) x.0.once x.1
+explore_err touch opening limit positions after cells moves es (Points n) s here lists x = absurd x
+explore_err touch opening limit positions after cells moves es (Cycle ms back) s here lists x = absurd x
+explore_err touch opening limit positions after cells moves es (Memory e) s here lists x = tt
 
 pub start_err : (touch : List Touch) (opening : List Cell) (limit start : ℕ) (after : List ℕ) (e : GraphError) → start ≡ pack opening
     → Placed [] start limit after (Err e) → Explored touch opening limit after (Err e)
@@ -185,20 +203,20 @@ start_err touch opening limit start after (Cycle ms back) is x = absurd x
 start_err touch opening limit start after (Memory e) is x = tt
 
 -- with the moves of each position there is no other position
-pub explore_end : (touch : List Touch) (opening : List Cell) (limit : ℕ) (positions : List ℕ) (edges : List (List Edge))
-    → Exploring touch opening limit positions edges → length positions ≤ length edges → IsGraph touch opening positions edges
-explore_end touch opening limit positions edges s all = record {
+pub explore_end : (touch : List Touch) (opening : List Cell) (limit : ℕ) (positions : List ℕ) (edges : List (List Edge)) (waiting : List ℕ)
+    → Exploring touch opening limit positions edges waiting → length waiting ≡ 0 → IsGraph touch opening positions edges
+explore_end touch opening limit positions edges waiting s none = record {
   some = s.some;
   first = s.first;
   once = s.once;
   reachable = s.reachable;
   all = λ cells r. reach opening r.0 cells ([], refl) opening_there r.1;
-  beside = full;
-  moves = λ i cells lt. s.moves i cells (omega arith);
+  beside = s.beside;
+  moves = λ i cells lt. s.moves i cells lt (none_waits i);
 }
   where
-    full : length edges ≡ length positions
-    full = omega (arith, s.beside)
+    none_waits : (i : ℕ) → ¬ Contains waiting i
+    none_waits i (k, lt, at) = omega (arith, none)
 
     opening_there : Contains positions (pack opening)
     opening_there = subst (Contains positions) s.first (Contains-get_or positions 0 0 s.some)
@@ -216,7 +234,7 @@ explore_end touch opening limit positions edges s all = record {
         → IsLocalMove touch from m.colour m.place next → Contains positions (pack next)
     step from next m reach (i, lt, at) move =
         let is = get_or_default positions i 0 (pack from) lt ∙ at in
-        let h = s.moves i from (omega arith) reach is in
+        let h = s.moves i from lt (none_waits i) reach is in
         let found = h.1.all m.colour m.place next move in
         let legal = h.1.legal found.0 found.1 in
         let move' = subst (λ p. IsLocalMove touch from m.colour p next) (sym found.3)
@@ -237,13 +255,15 @@ pub start_fails : (touch : List Touch) (opening : List Cell) (limit start : ℕ)
 start_fails touch opening limit start before after e none is p =
     start_err touch opening limit start after e is (subst (λ l. Placed l start limit after (Err e)) none p)
 
-pub start_found : (touch : List Touch) (opening : List Cell) (limit start place : ℕ) (before positions : List ℕ) (all : List (List Edge))
-    → before ≡ [] → start ≡ pack opening → all ≡ [] → Placed before start limit positions (Ok place)
-    → Exploring touch opening limit positions all
-start_found touch opening limit start place before positions all none is empty p =
-    let p' = subst (λ l. Placed l start limit positions (Ok place)) none p in
-    subst (Exploring touch opening limit positions) (sym empty)
-    (explore_start touch opening limit start place positions p'.0 p'.1 p'.2 p'.3 is)
+pub start_found : (touch : List Touch) (opening : List Cell) (limit start place count : ℕ) (before positions : List ℕ)
+    (none all : List (List Edge)) (nothing waiting : List ℕ) → before ≡ [] → start ≡ pack opening → none ≡ [] → nothing ≡ []
+    → Placed before start limit positions (Ok place) → count ≡ length positions → AreAwaited none nothing count all waiting
+    → Exploring touch opening limit positions all waiting
+start_found touch opening limit start place count before positions none all nothing waiting first is empty empty' p full w =
+    let p' = subst (λ l. Placed l start limit positions (Ok place)) first p in
+    let w' = subst (λ n. AreAwaited [] [] n all waiting) full
+    (subst (λ l. AreAwaited [] l count all waiting) empty' (subst (λ l. AreAwaited l nothing count all waiting) empty w)) in
+    explore_start touch opening limit start place positions all waiting p'.0 p'.1 p'.2 p'.3 is w'
 
 -- the position whose moves come next
 pub record IsNext (touch : List Touch) (opening : List Cell) (positions : List ℕ) (i n : ℕ) : Type 0 where
@@ -254,51 +274,44 @@ pub record IsNext (touch : List Touch) (opening : List Cell) (positions : List �
   pub reach : IsReachable touch opening cells
   pub packed : n ≡ pack cells
 
-pub next_position : (touch : List Touch) (opening : List Cell) (limit : ℕ) (positions : List ℕ) (edges : List (List Edge)) (i n : ℕ)
-    → Exploring touch opening limit positions edges → slice_get positions i ≡ Some n → IsNext touch opening positions i n
-next_position touch opening limit positions edges i n s e =
-    let inside = slice_get_within positions i n e in
-    let at = get_or_from_slice_get positions i n 0 e in
-    let w = s.reachable n (subst (Contains positions) at (Contains-get_or positions i 0 inside)) in
+pub next_position : (touch : List Touch) (opening : List Cell) (positions : List ℕ) (i n : ℕ) → AreReachable touch opening positions
+    → i < length positions → n ≡ get_or positions i n → IsNext touch opening positions i n
+next_position touch opening positions i n all inside e =
+    let at = get_or_default positions i 0 n inside ∙ sym e in
+    let w = all n (subst (Contains positions) at (Contains-get_or positions i 0 inside)) in
     record { inside = inside; at = at; cells = w.0; long = plays_long touch opening w.0 w.1.0 w.1.1; reach = w.1; packed = w.2 }
 
-pub next_valid : (touch : List Touch) (opening : List Cell) (positions : List ℕ) (i n places : ℕ) → IsNext touch opening positions i n
-    → length opening ≡ places → IsPosition places n
-next_valid touch opening positions i n places w long =
-    (w.cells, w.long ∙ long, w.packed)
+pub explored_more : (touch : List Touch) (opening : List Cell) (limit : ℕ) (positions after : List ℕ) (all put all' : List (List Edge))
+    (waiting front still : List ℕ) (i n count : ℕ) (moves : List LocalMove) (es : List Edge) (done : Unit {0})
+    → Exploring touch opening limit positions all waiting → waiting ≡ front ++ i ∷ [] → (w : IsNext touch opening positions i n)
+    → ListsMoves touch w.cells moves → EdgesFor positions moves limit after es (Ok done) → put ≡ set all i es → count ≡ length after
+    → AreAwaited put front count all' still → Exploring touch opening limit after all' still
+explored_more touch opening limit positions after all put all' waiting front still i n count moves es done s ends w lists x is full a =
+    explore_step touch opening limit positions after all all' front still i w.cells moves es
+    (subst (Exploring touch opening limit positions all) ends s) w.reach (w.at ∙ w.packed) lists x.0 x.1 x.2
+    (subst (λ m. AreAwaited (set all i es) front m all' still) full (subst (λ l. AreAwaited l front count all' still) is a))
 
-pub explored_more : (touch : List Touch) (opening : List Cell) (limit : ℕ) (positions after : List ℕ) (all all' : List (List Edge))
-    (i n : ℕ) (moves : List LocalMove) (es edges : List Edge) (done : Unit {0}) → Exploring touch opening limit positions all
-    → i ≡ length all → (w : IsNext touch opening positions i n) → ListsMoves touch w.cells moves
-    → EdgesFor positions moves limit after es (Ok done) → edges ≡ es → all' ≡ all ++ edges ∷ [] → Exploring touch opening limit after all'
-explored_more touch opening limit positions after all all' i n moves es edges done s at w lists x same is =
-    let here : get_or positions (length all) 0 ≡ pack w.cells = ap (λ k. get_or positions k 0) (sym at) ∙ w.at ∙ w.packed in
-    let step = explore_step touch opening limit positions after all w.cells moves es s (omega (arith, w.inside)) w.reach here
-    lists x.0 x.1 x.2 in
-    subst (Exploring touch opening limit after) (sym (is ∙ ap (λ l. all ++ l ∷ []) same)) step
+-- the last of those that wait is a place
+pub last_waiting : (touch : List Touch) (opening : List Cell) (limit : ℕ) (positions : List ℕ) (all : List (List Edge)) (waiting front : List ℕ)
+    (i : ℕ) → Exploring touch opening limit positions all waiting → waiting ≡ front ++ i ∷ [] → i < length positions
+last_waiting touch opening limit positions all waiting front i s ends = s.inside i (subst (λ l. Contains l i) (sym ends) (Contains-push front i))
 
-pub explored_fails : (touch : List Touch) (opening : List Cell) (limit : ℕ) (positions after : List ℕ) (all : List (List Edge))
-    (i n : ℕ) (moves : List LocalMove) (es : List Edge) (e : GraphError) → Exploring touch opening limit positions all
+pub explored_fails : (touch : List Touch) (opening : List Cell) (limit : ℕ) (positions after : List ℕ)
+    (i n : ℕ) (moves : List LocalMove) (es : List Edge) (e : GraphError) → AreReachable touch opening positions
     → (w : IsNext touch opening positions i n) → ListsMoves touch w.cells moves
     → EdgesFor positions moves limit after es (Err e) → Explored touch opening limit after (Err e)
-explored_fails touch opening limit positions after all i n moves es e s w lists x =
-    explore_err touch opening limit positions after all w.cells moves es e s w.reach lists x
+explored_fails touch opening limit positions after i n moves es e s w lists x =
+    explore_err touch opening limit positions after w.cells moves es e s w.reach lists x
 
-pub explored_all : (touch : List Touch) (opening : List Cell) (limit : ℕ) (positions : List ℕ) (all : List (List Edge))
-    → Exploring touch opening limit positions all → length positions ≤ length all
-    → IsGraph touch opening positions all × (length positions ≤ limit)
-explored_all touch opening limit positions all s le = (explore_end touch opening limit positions all s le, s.few)
-
-pub none_left : (positions : List ℕ) (i : ℕ) → None ≡ slice_get positions i → length positions ≤ i
-none_left positions i e = elim (cases_lt i (length positions)) as (λ _. length positions ≤ i) [
-  | inl lt ↦ let some = slice_get-get_or positions i 0 lt in cc
-  | inr le ↦ le
-]
+pub explored_all : (touch : List Touch) (opening : List Cell) (limit : ℕ) (positions : List ℕ) (all : List (List Edge)) (waiting : List ℕ)
+    → Exploring touch opening limit positions all waiting → length waiting ≡ 0 → IsGraph touch opening positions all × (length positions ≤ limit)
+explored_all touch opening limit positions all waiting s none =
+    (explore_end touch opening limit positions all waiting s none, s.few)
 
 -- there are at most 3 to the number of places
 pub few_numbers : (touch : List Touch) (opening : List Cell) (limit places : ℕ) (positions : List ℕ) (edges : List (List Edge))
-    → Exploring touch opening limit positions edges → length opening ≡ places → length positions ≤ 3 ^ places
-few_numbers touch opening limit places positions edges s e =
+    (waiting : List ℕ) → Exploring touch opening limit positions edges waiting → length opening ≡ places → length positions ≤ 3 ^ places
+few_numbers touch opening limit places positions edges waiting s e =
     let w = unpacked touch opening positions s.reachable in
     let long : length w.0 ≡ length positions = sym (length-map w.0 pack) ∙ ap length w.1 in
     let few = few_positions touch opening w.0 (apart w.0 positions w.1 s.once) w.2 in

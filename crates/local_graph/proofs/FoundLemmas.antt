@@ -2,16 +2,16 @@
 use Rattle.std.proofs.Common.{◌≡◌, ◌≢◌, ℕ, ◌+◌, ◌<◌, ◌≤◌, ◌⊎◌, inl, inr, arith, refl, sym, ap, ◌∙◌, List, [], ◌∷◌, ◌++◌, Bool, true, false, length, get_or, if◌then◌else◌, nat_eq, subst, append_assoc, append-nil, length-append, Err}
 use Rattle.std.specs.List.{AllPairs, Contains, list_any}
 use Rattle.std.proofs.lemmas.Bool.{cases_eq, cases_lt, both_ways, eq-eqb}
-use Rattle.std.proofs.lemmas.List.{get_or_default, get_or_append_left, get_or_push, length_push}
+use Rattle.std.proofs.lemmas.List.{get_or_default, get_or_append_left, get_or_push, get_or_past, length_push}
 use Rattle.std.proofs.lemmas.List.Folds.{list_any_at}
-use Rattle.std.proofs.lemmas.List.Elements.{Contains-push_cases, Contains-get_or}
+use Rattle.std.proofs.lemmas.List.Elements.{Contains-push, Contains-push_cases, Contains-append_left, Contains-get_or}
 use Rattle.std.proofs.lemmas.List.Quantifiers.{all_pairs_push}
 use Rattle.local_play.specs.declared.local_move.LocalMove.{LocalMove}
 use Rattle.local_graph.specs.declared.graph.Edge.{Edge}
 use Rattle.local_graph.specs.LocalGraph.{IsEdgeOf, AreEdges}
 use Rattle.local_graph.specs.declared.building.GraphError.{GraphError}
 use Rattle.local_graph.specs.declared.building.GraphError.TheVariants.{Points, Positions, Cycle, Memory}
-use Rattle.local_graph.specs.Found.{Grows, Extends, Placed, EdgesFor}
+use Rattle.local_graph.specs.Found.{Grows, Extends, Placed, EdgesFor, AreAwaited}
 
 absent : (n : ℕ) (ns : List ℕ) → list_any (nat_eq n) ns ≡ false → ¬ Contains ns n
 absent n ns none (k, lt, at) = both_ways _ none (list_any_at (nat_eq n) ns k n lt (eq-eqb n (get_or ns k n) (sym at)))
@@ -153,3 +153,48 @@ linking_err before between after moves limit i edges m Positions s lt at p =
 linking_err before between after moves limit i edges m (Points n) s lt at p = absurd p
 linking_err before between after moves limit i edges m (Cycle ms back) s lt at p = absurd p
 linking_err before between after moves limit i edges m (Memory e) s lt at p = tt
+
+-- nothing more waits
+pub awaited_none : (all : List (List Edge)) (waiting : List ℕ) → AreAwaited all waiting (length all) all waiting
+awaited_none all waiting = record {
+  long = refl;
+  lists = λ i. refl;
+  old = λ i h. h;
+  new = λ i le lt. absurd (omega (arith, le, lt));
+  only = λ i h. inl h;
+  many = refl;
+}
+
+-- one place more waits
+pub awaited_push : (all after : List (List Edge)) (waiting still : List ℕ) (after' : List (List Edge)) (still' : List ℕ) (place : ℕ)
+    → AreAwaited all waiting (length after) after still → place ≡ length after → still' ≡ still ++ place ∷ []
+    → after' ≡ after ++ [] ∷ [] → AreAwaited all waiting (length after') after' still'
+awaited_push all after waiting still after' still' place s at es ea = rw (es, ea) record {
+  long = refl;
+  lists = λ i. empty i ∙ s.lists i;
+  old = λ i h. Contains-append_left still (place ∷ []) i (s.old i h);
+  new = λ i low lt. elim (cases_eq i (length after)) [
+    | inl e ↦ subst (Contains (still ++ place ∷ [])) (at ∙ sym e) (Contains-push still place)
+    | inr ne ↦ Contains-append_left still (place ∷ []) i (s.new i low (omega (arith, lt, ne, long)))
+  ];
+  only = λ i h. elim (Contains-push_cases still place i h) [
+    | inl old ↦ elim (s.only i old) [ inl w ↦ inl w | inr lt ↦ inr (omega (arith, lt, long)) ]
+    | inr e ↦ inr (omega (arith, sym e, at, long))
+  ];
+  many = omega (arith, s.many, long, length_push still place);
+}
+  where
+    long : length (after ++ [] ∷ []) ≡ length after + 1
+    long = length_push after []
+
+    empty : (i : ℕ) → get_or (after ++ [] ∷ []) i [] ≡ get_or after i []
+    empty i = elim (cases_lt i (length after)) [
+      | inl lt ↦ get_or_append_left after ([] ∷ []) [] i lt
+      | inr low ↦ elim (cases_eq i (length after)) [
+        | inl e ↦ get_or_push after [] [] i (sym e) ∙ sym (get_or_past after i [] low)
+        | inr ne ↦ get_or_past (after ++ [] ∷ []) i [] (omega (arith, low, ne, long)) ∙ sym (get_or_past after i [] low)
+      ]
+    ]
+
+pub awaited_more : (after after' : List (List Edge)) (count : ℕ) → after' ≡ after ++ [] ∷ [] → length after < count → length after' ≤ count
+awaited_more after after' count e less = omega (arith, ap length e, length_push after [], less)

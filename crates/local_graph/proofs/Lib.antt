@@ -1,4 +1,5 @@
 pub mod FoundLemmas
+pub mod TableLemmas
 pub mod PlayLemmas
 pub mod FiniteLemmas
 pub mod ExploreLemmas

@@ -1,5 +1,5 @@
 -- What exploring keeps: the positions found so far, as numbers, and their edges.
-use Rattle.std.specs.Prelude.{◌≡◌, ◌≢◌, ℕ, ◌<◌, ◌≤◌, ◌⊎◌, List, [], ◌∷◌, ◌++◌, length, slice_index, Contains, Result, Ok, Err}
+use Rattle.std.specs.Prelude.{◌≡◌, ◌≢◌, ℕ, ◌+◌, ◌<◌, ◌≤◌, ◌⊎◌, List, [], ◌∷◌, ◌++◌, length, slice_index, slice_index_or, Contains, Result, Ok, Err}
 use Rattle.std.specs.List.{AllPairs}
 use Rattle.go_grid.specs.declared.grid.Cell.{Cell}
 use Rattle.go_grid.specs.declared.region.Touch.{Touch}
@@ -36,6 +36,15 @@ EdgesFor before moves limit after edges (Err Positions) = Extends before moves a
 EdgesFor before moves limit after edges (Err (Points p)) = ⊥
 EdgesFor before moves limit after edges (Err (Cycle ms back)) = ⊥
 EdgesFor before moves limit after edges (Err (Memory e)) = Unit {0}
+
+-- each place from the number of lists on waits behind those that wait, with an empty list
+pub record AreAwaited (all : List (List Edge)) (waiting : List ℕ) (count : ℕ) (after : List (List Edge)) (still : List ℕ) : Type 0 where
+  pub long : length after ≡ count
+  pub lists : (i : ℕ) → slice_index_or after i [] ≡ slice_index_or all i []
+  pub old : (i : ℕ) → Contains waiting i → Contains still i
+  pub new : (i : ℕ) → length all ≤ i → i < count → Contains still i
+  pub only : (i : ℕ) → Contains still i → Contains waiting i ⊎ (i < count)
+  pub many : length still + length all ≡ length waiting + count
 
 -- the whole graph, or that more positions are reachable than the limit
 abbrev pub Explored : List Touch → List Cell → ℕ → List ℕ → Result (List (List Edge)) GraphError → Type 0

@@ -2,6 +2,7 @@ pub mod LocalGraph
 pub mod FiniteLocalPlay
 pub mod Graph
 pub mod Found
+pub mod PlaceTable
 pub mod Built
 pub mod SearchedFor
 pub mod Searching

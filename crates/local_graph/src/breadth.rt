@@ -28,6 +28,18 @@ struct Found {
     moves: usize,
 }
 
+/// Whether a position has a mark.
+fn is_marked(marks: &[bool], node: usize) -> bool {
+    marks.get(node) == Some(&true)
+}
+
+/// Sets the mark of a position.
+fn set_mark(marks: &mut [bool], node: usize, mark: bool) {
+    if let Some(place) = marks.get_mut(node) {
+        *place = mark;
+    }
+}
+
 /// A search by breadth.
 #[derive(Drop)]
 pub(crate) struct Breadth {
@@ -62,15 +74,15 @@ impl Breadth {
         Ok(())
     }
 
-    /// Follows the moves of the position at a place, but those to positions up to the lowest. The number
-    /// of the first that leads to the target.
+    /// Follows the moves of the position at a place, but those to positions that are left out. The number
+    /// of the first that leads to a target.
     #[tactic(auto, using(crate::proofs::PathLemmas::next_inside))]
     fn follow(
         &mut self,
         edges: &EdgeLists,
         at: usize,
-        lowest: usize,
-        target: Option<usize>,
+        left_out: &[bool],
+        targets: &[bool],
     ) -> Result<Option<usize>, AllocError>
         requires rooted { IsRooted edges.now }
         requires inside { at < length self.old.steps.items }
@@ -79,10 +91,10 @@ impl Breadth {
     {
         let step = self.steps[at];
         'following: for (number, edge) in edges.at(step.node).iter().enumerate() {
-            if target == Some(edge.next) {
+            if is_marked(targets, edge.next) {
                 return Ok(Some(number));
             }
-            if edge.next > lowest {
+            if !is_marked(left_out, edge.next) {
                 let next = Step {
                     node: edge.next,
                     from: at,
@@ -95,13 +107,14 @@ impl Breadth {
         Ok(None)
     }
 
-    /// Meets the positions that at most so many moves lead to from one, past it in the order in which they
-    /// were found, until one is met from which a move leads to the target.
+    /// Meets the positions that at most so many moves lead to from one, without those that are left out, until
+    /// one is met from which a move leads to a target.
     fn spread(
         &mut self,
         edges: &EdgeLists,
         from: usize,
-        target: Option<usize>,
+        left_out: &[bool],
+        targets: &[bool],
         most: usize,
     ) -> Result<Option<Found>, AllocError>
         requires rooted { IsRooted edges.now }
@@ -111,12 +124,13 @@ impl Breadth {
     {
         self.steps.clear();
         self.round = self.round.saturating_add(1);
-        self.steps.push(Step {
+        let first = Step {
             node: from,
             from: 0,
             edge: 0,
             moves: 0,
-        })?;
+        };
+        self.meet(edges, first)?;
         'spreading: for at in 0..usize::MAX {
             let Some(step) = self.steps.get(at).copied() else {
                 break;
@@ -124,7 +138,7 @@ impl Breadth {
             if step.moves >= most {
                 break;
             }
-            if let Some(edge) = self.follow(edges, at, from, target)? {
+            if let Some(edge) = self.follow(edges, at, left_out, targets)? {
                 return Ok(Some(Found {
                     at,
                     last: Frame {
@@ -144,11 +158,10 @@ impl Breadth {
         requires ready { IsReady edges.now self.old }
         ensures { OnOk result (IsReady edges.now self.new) }
     {
-        let first = on_cycle.iter().position(|mark| *mark);
-        if first == Some(0) {
+        if is_marked(on_cycle, 0) {
             return Ok(0);
         }
-        match self.spread(edges, 0, first, usize::MAX)? {
+        match self.spread(edges, 0, &[], on_cycle, usize::MAX)? {
             Some(found) => Ok(found.moves),
             None => Ok(0),
         }
@@ -161,6 +174,7 @@ impl Breadth {
         edges: &EdgeLists,
         opening: &[Step],
         at: usize,
+        marks: &mut Marks,
         best: &mut RoundTrip,
     ) -> Result<(), AllocError>
         requires rooted { IsRooted edges.now }
@@ -174,7 +188,10 @@ impl Breadth {
             Some(fewer) => fewer.saturating_sub(step.moves),
             None => usize::MAX,
         };
-        let Some(found) = self.spread(edges, step.node, Some(step.node), most)? else {
+        set_mark(&mut marks.targets, step.node, true);
+        let found = self.spread(edges, step.node, &marks.left_out, &marks.targets, most)?;
+        set_mark(&mut marks.targets, step.node, false);
+        let Some(found) = found else {
             return Ok(());
         };
         best.path.clear();
@@ -216,6 +233,13 @@ fn add_way(
     Ok(())
 }
 
+/// Marks by position: which are left out of a search, and which it looks for.
+#[derive(Drop)]
+pub(crate) struct Marks {
+    left_out: Vec<bool>,
+    targets: Vec<bool>,
+}
+
 /// A path from the opening that returns to one of its positions.
 #[derive(Drop)]
 pub(crate) struct RoundTrip {
@@ -225,23 +249,28 @@ pub(crate) struct RoundTrip {
 }
 
 /// Of the paths that return, one with the fewest moves before the position that returns, and of those one with
-/// the fewest moves. It is looked for and not proved to be one: who shows it checks that it returns.
+/// the fewest moves: a position that was tried is left out from then on. It is looked for and not proved to be one: who shows it checks that it returns.
 pub(crate) fn soonest_return(alloc: Global, edges: &EdgeLists) -> Result<RoundTrip, AllocError>
     requires { IsRooted edges.now }
 {
     let on_cycle = on_cycles(alloc, edges)?;
     let mut breadth = Breadth::new(alloc, edges)?;
     let moves = breadth.moves_to_first(edges, &on_cycle)?;
-    breadth.spread(edges, 0, None, moves)?;
+    breadth.spread(edges, 0, &[], &[], moves)?;
     let mut around = Breadth::new(alloc, edges)?;
+    let mut marks = Marks {
+        left_out: vec![in alloc; false; edges.len()]?,
+        targets: vec![in alloc; false; edges.len()]?,
+    };
     let mut best = RoundTrip {
         path: Vec::new(alloc),
         node: 0,
     };
     'returning: for (at, step) in breadth.steps.iter().enumerate() {
         if step.moves == moves && on_cycle[step.node] {
-            around.return_to(alloc, edges, &breadth.steps, at, &mut best)?;
+            around.return_to(alloc, edges, &breadth.steps, at, &mut marks, &mut best)?;
         }
+        set_mark(&mut marks.left_out, step.node, true);
     }
     Ok(best)
 }

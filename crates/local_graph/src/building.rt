@@ -1,17 +1,18 @@
 //! Building a graph: the positions are explored in the order in which they are found, and then put in an order.
 
-ghost use Rattle.std.specs.Prelude.{◌≡◌, ◌≢◌, ◌+◌, ◌*◌, ◌^◌, ◌<◌, ◌≤◌, List, [], length, IfOk, MatchResult, alloc_error};
+ghost use Rattle.std.specs.Prelude.{◌≡◌, ◌≢◌, ◌+◌, ◌*◌, ◌^◌, ◌<◌, ◌≤◌, List, [], length, IfOk, OnOk, MatchResult, alloc_error};
 ghost use Rattle.local_graph.specs.declared.building.GraphError.TheVariants.{Memory};
 ghost use Rattle.std.specs.List.{AllPairs};
 ghost use Rattle.local_graph.specs.Built.{Built};
-ghost use Rattle.local_graph.specs.Found.{Placed, EdgesFor, Explored};
+ghost use Rattle.local_graph.specs.Found.{Placed, EdgesFor, Explored, AreAwaited};
+ghost use Rattle.local_graph.specs.PlaceTable.{IsTable};
 
 use crate::cycle::CycleList;
 use crate::edge_lists::EdgeLists;
 use crate::graph::{Edge, Graph};
+use crate::place_table::PlaceTable;
 use crate::search::{Searched, search_from_opening};
 use go_grid::Region;
-use indexmap::IndexSet;
 use local_play::{Links, Local, LocalMove, Steps, list_moves, start};
 use std::alloc::{AllocError, AllocFailed, Global};
 use std::sync::ledger::Ledger;
@@ -49,37 +50,47 @@ impl<T: Drop> From<AllocFailed<T>> for GraphError {
     }
 }
 
-/// The position's place among those found, which it joins where it is new.
-fn place_of(positions: &mut IndexSet<u64>, position: Local, limit: u32) -> Result<usize, GraphError>
-    requires { length positions.old.keys ≤ limit }
-    ensures { Placed positions.old.keys position limit positions.new.keys result }
+/// The position's place among those found, which it joins where it is new. So does one that is too many.
+fn place_of(
+    alloc: Global,
+    table: &mut PlaceTable,
+    position: Local,
+    limit: u32,
+) -> Result<usize, GraphError>
+    requires table { IsTable table.old }
+    requires few { length table.old.positions.items ≤ limit }
+    ensures placed { Placed table.old.positions.items position limit table.new.positions.items result }
+    ensures table { OnOk result (IsTable table.new) }
 {
-    match positions.insert_full(position.0) {
-        Err(_) => Err(GraphError::Memory(AllocError)),
-        Ok((place, _)) => {
-            if place < limit as usize {
-                Ok(place)
-            } else {
-                Err(GraphError::Positions)
-            }
-        }
+    if let Some(place) = table.find(position.0) {
+        return Ok(place);
     }
+    let place = table.positions.len();
+    if place < limit as usize {
+        table.add(alloc, position.0)?;
+        return Ok(place);
+    }
+    table.positions.push(position.0)?;
+    Err(GraphError::Positions)
 }
 
 /// Makes the list that of the edges of a position's moves.
 fn list_edges(
-    positions: &mut IndexSet<u64>,
+    alloc: Global,
+    table: &mut PlaceTable,
     moves: &[LocalMove],
     limit: u32,
     edges: &mut Vec<Edge>,
 ) -> Result<(), GraphError>
-    requires once { AllPairs (λ a b. a ≢ b) positions.old.keys }
-    requires few { length positions.old.keys ≤ limit }
-    ensures { EdgesFor positions.old.keys moves.now limit positions.new.keys edges.new.items result }
+    requires table { IsTable table.old }
+    requires once { AllPairs (λ a b. a ≢ b) table.old.positions.items }
+    requires few { length table.old.positions.items ≤ limit }
+    ensures edges { EdgesFor table.old.positions.items moves.now limit table.new.positions.items edges.new.items result }
+    ensures table { OnOk result (IsTable table.new) }
 {
     edges.clear();
     for step in moves {
-        let next = place_of(positions, step.next, limit)?;
+        let next = place_of(alloc, table, step.next, limit)?;
         edges.push(Edge {
             colour: step.colour,
             place: step.place,
@@ -90,40 +101,56 @@ fn list_edges(
     Ok(())
 }
 
-/// All positions that are reachable, and their moves.
+/// Puts the places from the number of lists on behind those that wait, and an empty list for each.
+fn await_new(all: &mut EdgeLists, waiting: &mut Vec<usize>, count: usize) -> Result<(), AllocError>
+    requires { length all.old ≤ count }
+    ensures { OnOk result (AreAwaited all.old waiting.old.items count all.new waiting.new.items) }
+{
+    'awaiting: while all.len() < count {
+        waiting.push(all.len())?;
+        all.push(&[])?;
+    }
+    Ok(())
+}
+
+/// All positions that are reachable, and their moves. The position that was found last comes next, so that what stands
+/// side by side is used one after the other by the passes to come.
 pub(crate) fn explore<L: Ledger>(
     alloc: Global,
     region: &Region,
     limit: u32,
-    positions: &mut IndexSet<u64>,
+    table: &mut PlaceTable,
     steps: &mut Steps<L>,
 ) -> Result<EdgeLists, GraphError>
     requires points { length region.now.points ≤ 32 }
-    requires none { positions.old.keys ≡ [] }
-    ensures graph { Explored region.now.touch region.now.cells limit positions.new.keys result }
+    requires table { IsTable table.old }
+    requires none { table.old.positions.items ≡ [] }
+    ensures graph { Explored region.now.touch region.now.cells limit table.new.positions.items result }
     ensures limited { steps.new ≤ steps.old + limit }
     ensures finite { steps.new ≤ steps.old + 3 ^ length region.now.points }
 {
     let mut all = EdgeLists::new(alloc);
-    place_of(positions, start(region), limit)?;
+    let mut waiting = Vec::new(alloc);
+    place_of(alloc, table, start(region), limit)?;
+    await_new(&mut all, &mut waiting, table.positions.len())?;
     let links = Links::of(region);
     let mut moves = Vec::new(alloc);
     let mut edges = Vec::new(alloc);
-    'exploring: while let Some(position) = positions.get_index(all.len()) {
-        list_moves(&links, Local(*position), steps, &mut moves)?;
-        list_edges(positions, &moves, limit, &mut edges)?;
-        all.push(&edges)?;
+    'exploring: while let Some(place) = waiting.pop() {
+        let position = table.positions[place];
+        list_moves(&links, Local(position), steps, &mut moves)?;
+        list_edges(alloc, table, &moves, limit, &mut edges)?;
+        all.put(place, &edges)?;
+        await_new(&mut all, &mut waiting, table.positions.len())?;
     }
     Ok(all)
 }
 
 /// The positions found, as a list alone: what finds their places is given back.
-fn list_of(alloc: Global, found: IndexSet<u64>) -> Result<Vec<u64>, AllocError>
-    ensures { IfOk result (λ positions. positions.items ≡ found.keys) }
+fn positions_of(table: PlaceTable) -> Vec<u64>
+    ensures { result.items ≡ table.positions.items }
 {
-    let mut positions = Vec::new(alloc);
-    positions.extend_from_slice(found.as_slice())?;
-    Ok(positions)
+    table.positions
 }
 
 /// The graph of exactly the positions that local play reaches from the region's cells, each with exactly its moves. It takes at
@@ -143,9 +170,9 @@ pub fn build<L: Ledger>(
     if points > 32 {
         return Err(GraphError::Points(points as u16));
     }
-    let mut found = IndexSet::new(alloc);
+    let mut found = PlaceTable::new(alloc)?;
     let edges = explore(alloc, region, limit, &mut found, steps)?;
-    let positions = list_of(alloc, found)?;
+    let positions = positions_of(found);
     match search_from_opening(alloc, &edges)? {
         Searched::Order(order) => Ok(Graph::new(positions, edges, order)),
         Searched::Cycle(moves, start) => Err(GraphError::Cycle(moves, start)),

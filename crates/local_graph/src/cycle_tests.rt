@@ -5,9 +5,9 @@ ghost use Rattle.std.specs.Prelude.{◌≡◌, ◌<◌};
 use crate::building::explore;
 use crate::drawn::{Drawing, region};
 use crate::edge_lists::EdgeLists;
+use crate::place_table::PlaceTable;
 use crate::{GraphError, build};
 use go_grid::Region;
-use indexmap::IndexSet;
 use local_play::Steps;
 use std::alloc::{AllocError, Global};
 use std::marker::Brand;
@@ -105,12 +105,12 @@ fn edges_of<L: Ledger>(
     if region.points.len() > 32 {
         return Ok(EdgeLists::new(alloc));
     }
-    let mut positions = IndexSet::new(alloc);
+    let mut table = PlaceTable::new(alloc)?;
     explore(
         alloc,
         region,
         1_000,
-        &mut positions,
+        &mut table,
         &mut Steps::<L>::new(blank),
     )
 }

@@ -1,6 +1,6 @@
 //! Lists of edges, one behind another in one vector.
 
-ghost use Rattle.std.specs.Prelude.{◌≡◌, ◌<◌, [], ◌∷◌, ◌++◌, length, OnOk, OnErr};
+ghost use Rattle.std.specs.Prelude.{◌≡◌, ◌<◌, [], ◌∷◌, ◌++◌, length, slice_set, OnOk, OnErr};
 ghost use Rattle.local_graph.specs.Graph.{edges_at, edge_at};
 
 use crate::graph::Edge;
@@ -77,6 +77,19 @@ impl EdgeLists {
         self.edges.extend_from_slice(edges)?;
         let end = self.edges.len();
         self.spans.push(Span { start, end })?;
+        Ok(())
+    }
+
+    /// Puts a list in place of another.
+    pub fn put(&mut self, place: usize, edges: &[Edge]) -> Result<(), AllocError>
+        requires { place < length self.old }
+        ensures ok { OnOk result (self.new ≡ slice_set self.old place edges.now) }
+        ensures err { OnErr result (self.new ≡ self.old) }
+    {
+        let start = self.edges.len();
+        self.edges.extend_from_slice(edges)?;
+        let end = self.edges.len();
+        self.spans[place] = Span { start, end };
         Ok(())
     }
 }

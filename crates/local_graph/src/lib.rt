@@ -15,6 +15,7 @@ mod edge_lists;
 mod expand_tests;
 mod graph;
 mod laws;
+mod place_table;
 mod returning;
 mod search;
 #[cfg(test)]

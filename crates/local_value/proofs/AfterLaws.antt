@@ -1,7 +1,7 @@
 -- The ids after the edges of a place, as the store grows.
-use Rattle.std.proofs.Common.{ℕ, ◌+◌, ◌≡◌, ◌<◌, ◌≤◌, ◌⊎◌, inl, inr, refl, sym, ap, ◌∙◌, subst, arith, List, [], ◌∷◌, ◌++◌, length, get_or, take, Contains}
+use Rattle.std.proofs.Common.{ℕ, ◌+◌, ◌≡◌, ◌<◌, ◌≤◌, ◌⊎◌, ◌↔◌, inl, inr, refl, sym, ap, ◌∙◌, subst, arith, List, [], ◌∷◌, ◌++◌, length, get_or, take, Contains}
 use Rattle.std.proofs.lemmas.Bool.{cases_lt}
-use Rattle.std.proofs.lemmas.List.{length-append, get_or_append_left, get_or_push, take_all, take_more}
+use Rattle.std.proofs.lemmas.List.{get_or_default, length-append, get_or_append_left, get_or_push, take_all, take_more}
 use Rattle.std.proofs.lemmas.List.Elements.{Contains-append_left, Contains-get_or, Contains-push, Contains-push_cases}
 use Rattle.go_grid.specs.declared.grid.Colour.{Colour}
 use Rattle.go_grid.specs.declared.grid.Colour.TheVariants.{Black, White}
@@ -153,3 +153,26 @@ listing-add Ts Us ids es n before among l r Vs id White now same x noted a added
 
 pub listing-done : (Ts Us : List Tree) (ids : List ℕ) (es : List Edge) (n : ℕ) (ls rs : List ℕ) → length es ≤ n → IsListing Ts Us ids Black es n ls → IsListing Ts Us ids White es n rs → AreBothAfter Ts Us ids es ls rs
 listing-done Ts Us ids es n ls rs le l r = record { left = listing-end Ts Us ids Black es n ls le l; right = listing-end Ts Us ids White es n rs le r }
+
+-- what is said of the ids after a player's edges is said of the same ids in another order
+pub after-same : (Ts Us : List Tree) (ids : List ℕ) (c : Colour) (es : List Edge) (afters others : List ℕ) → ((i : ℕ) → Contains others i ↔ Contains afters i)
+    → AreAfter Ts Us ids c es afters → AreAfter Ts Us ids c es others
+after-same Ts Us ids c es afters others same w = record {
+  from = λ j lt.
+      let at = (same (get_or others j 0)).0 (Contains-get_or others j 0 lt) in
+      let is : get_or afters at.0 0 ≡ get_or others j 0 = get_or_default afters at.0 0 (get_or others j 0) at.1 ∙ at.2 in
+      let e = w.from at.0 at.1 in
+      (e.0, e.1, e.2, subst (IsAfter Ts Us ids e.0) is e.3);
+  to = λ e among colour.
+      let j = w.to e among colour in
+      let at = (same (get_or afters j.0 0)).1 (Contains-get_or afters j.0 0 j.1) in
+      let is : get_or others at.0 0 ≡ get_or afters j.0 0 = get_or_default others at.0 0 (get_or afters j.0 0) at.1 ∙ at.2 in
+      (at.0, at.1, subst (IsAfter Ts Us ids e) (sym is) j.2);
+}
+
+pub both-same : (Ts Us : List Tree) (ids : List ℕ) (es : List Edge) (ls rs ls' rs' : List ℕ) → ((i : ℕ) → Contains ls' i ↔ Contains ls i)
+    → ((i : ℕ) → Contains rs' i ↔ Contains rs i) → AreBothAfter Ts Us ids es ls rs → AreBothAfter Ts Us ids es ls' rs'
+both-same Ts Us ids es ls rs ls' rs' left right w = record {
+  left = after-same Ts Us ids Black es ls ls' left w.left;
+  right = after-same Ts Us ids White es rs rs' right w.right;
+}

@@ -116,7 +116,14 @@ fn add_option(options: &mut Options, player: Colour, id: GameId) -> Result<(), A
     Ok(())
 }
 
-/// Puts the values after the edges into `options`, by player.
+/// Puts ids in ascending order.
+fn put_in_order(ids: &mut Vec<GameId>)
+    ensures { (i : ℕ) → Contains ids.new.items i ↔ Contains ids.old.items i }
+{
+    ids.sort_unstable();
+}
+
+/// Puts the values after the edges into `options`, by player in ascending order: so fewer different options come up.
 fn list_options(
     alloc: Global,
     store: &mut Store,
@@ -138,6 +145,8 @@ fn list_options(
         let after = value_after(alloc, store, sums, ids, edge)?;
         add_option(options, edge.colour, after)?;
     }
+    put_in_order(&mut options.left);
+    put_in_order(&mut options.right);
     Ok(())
 }
 

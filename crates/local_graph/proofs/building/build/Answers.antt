@@ -15,9 +15,9 @@ search_from_opening-requires g c = rooted _ _ _ _ c.in_ok-edges.ensures.graph.0
 pub returns-in-Order-clause-built : goal.returns-in-Order-clause-built
 returns-in-Order-clause-built g c =
     let few : length c.args.region.now.points ≤ 32 = omega (arith, c.if-points-gt32.false, c.len-points.ensures, ap (λ s. length s.points) c.shape.view_is) in
-    let new = c.new.ensures in
+    let new = c.new-in-Order.ensures in
     built _ _ _ (length c.args.region.now.points) _ _ _ _ _ _ c.in_ok-edges.ensures.graph few (rw c.in-Order.is at c.in_ok-order.ensures)
-    (ap (λ n. n.positions) new ∙ c.in_ok-positions.ensures) (ap (λ n. n.edges) new) (ap (λ n. n.order) new)
+    (ap (λ n. n.positions) new ∙ c.positions_of-positions.ensures) (ap (λ n. n.edges) new) (ap (λ n. n.order) new)
 
 pub returns-in-Cycle-clause-built : goal.returns-in-Cycle-clause-built
 returns-in-Cycle-clause-built g c =

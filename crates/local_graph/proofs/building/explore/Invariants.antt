@@ -1,13 +1,15 @@
 use Rattle.std.proofs.Common.{◌≡◌, ◌+◌, ◌-◌, length, ◌≤◌, ◌^◌}
+use Rattle.local_graph.specs.PlaceTable.{IsTable}
 use Rattle.local_graph.proofs.ExploreLemmas.{Exploring}
 use Rattle.local_graph.proofs.building.explore.Given as goal
 
 abbrev pub invariant-exploring : goal.invariant-exploring
 invariant-exploring g l = record {
-  so_far : Exploring l.region.touch l.region.cells l.fn.limit l.positions.keys l.all;
-  fewer : length l.positions.keys ≤ 3 ^ length l.region.points;
-  counted : l.steps ≡ l.initial.steps + length l.all;
+  table : IsTable l.table;
+  so_far : Exploring l.region.touch l.region.cells l.fn.limit l.table.positions.items l.all l.waiting.items;
+  fewer : length l.table.positions.items ≤ 3 ^ length l.region.points;
+  counted : l.steps + length l.waiting.items ≡ l.initial.steps + length l.table.positions.items;
 }
 
 abbrev pub decreases-exploring : goal.decreases-exploring
-decreases-exploring g l = l.fn.limit - length l.all
+decreases-exploring g l = l.fn.limit + length l.waiting.items - length l.table.positions.items

@@ -1,6 +1,6 @@
 use Rattle.std.proofs.Common.{◌^◌, ◌-◌, refl}
 use Rattle.go_grid.specs.declared.grid.Colour.TheVariants.{Black, White}
-use Rattle.local_value.proofs.AfterLaws.{listing-start, listing-add, listing-done, step-noted, step-within}
+use Rattle.local_value.proofs.AfterLaws.{listing-start, listing-add, listing-done, both-same, step-noted, step-within}
 use Rattle.local_value.proofs.values.list_options.Goals as goal
 
 pub loop-edge-init : goal.loop-edge-init
@@ -27,7 +27,7 @@ loop-edge-preserved c =
 
 pub returns : goal.returns
 returns c = record {
-  options = listing-done c.args.store.now c.loop-edge.store c.args.ids.now c.args.edges.now c.loop-edge.edge-index c.loop-edge.options.left.items c.loop-edge.options.right.items c.loop-edge-test.false c.loop-edge.invariant.left c.loop-edge.invariant.right;
+  options = both-same _ _ _ _ _ _ _ _ c.put_in_order.ensures c.put_in_order-2.ensures (listing-done c.args.store.now c.loop-edge.store c.args.ids.now c.args.edges.now c.loop-edge.edge-index c.loop-edge.options.left.items c.loop-edge.options.right.items c.loop-edge-test.false c.loop-edge.invariant.left c.loop-edge.invariant.right);
   sums = c.loop-edge.invariant.sums;
   kept = c.loop-edge.invariant.left.kept;
 }

@@ -1,0 +1,10 @@
+use Rattle.std.proofs.Common.{◌≡◌, length}
+use Rattle.local_graph.specs.PlaceTable.{AreEntered}
+use Rattle.local_graph.proofs.place_table.PlaceTable.grow.Given as goal
+
+abbrev pub invariant-entering : goal.invariant-entering
+invariant-entering l = record {
+  entered : AreEntered l.self.positions.items l.self.latest.items l.self.before.items;
+  count : length l.self.before.items ≡ l._place;
+  positions : l.self.positions.items ≡ l.fn.self.positions.items;
+}

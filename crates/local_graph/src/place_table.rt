@@ -1,0 +1,130 @@
+//! The positions found so far, and a table that tells their places.
+
+ghost use Rattle.std.specs.Prelude.{◌≡◌, ℕ, ◌+◌, ◌-◌, ◌^◌, ◌<◌, ◌≤◌, [], ◌∷◌, ◌++◌, length, slice_index, Contains, IfOk, OnOk, IfSome, IfNone};
+ghost use Rattle.local_graph.specs.PlaceTable.{folded, threes, slot_of, AreEntered, IsTable};
+
+use std::alloc::{AllocError, Global};
+
+/// How many slots a table begins with. Their number is a power of 2.
+const FEWEST_SLOTS: usize = 256;
+
+/// Positions in the order in which they were found, and where to look for each. A link is one more than the place of a position,
+/// or 0 for none.
+#[derive(Drop)]
+pub(crate) struct PlaceTable {
+    pub(crate) positions: Vec<u64>,
+    /// By slot the link to the position that was entered there last.
+    latest: Vec<u32>,
+    /// By place the link to the position that was entered before it in the same slot.
+    before: Vec<u32>,
+}
+
+/// The number with the upper half of each group of bits counted so many times less.
+fn folded(number: u64, shift: u32, groups: u64, less: u64) -> u64
+    requires { shift < 64 }
+    ensures { result ≡ folded number shift groups less }
+{
+    number.wrapping_sub(((number >> shift) & groups).wrapping_mul(less))
+}
+
+/// The number whose digits in base 3 are the codes of a position's places.
+#[tactic(auto, unfolding(crate::specs::PlaceTable::threes))]
+fn threes(position: u64) -> u64
+    ensures { result ≡ threes position }
+{
+    let pairs = folded(position, 2, 0x3333_3333_3333_3333, 1);
+    let fours = folded(pairs, 4, 0x0F0F_0F0F_0F0F_0F0F, 7);
+    let eights = folded(fours, 8, 0x00FF_00FF_00FF_00FF, 175);
+    let halves = folded(eights, 16, 0x0000_FFFF_0000_FFFF, 58_975);
+    folded(halves, 32, 0xFFFF_FFFF, 4_251_920_575)
+}
+
+/// The slot of a position, of so many.
+#[tactic(auto, unfolding(crate::specs::PlaceTable::slot_of))]
+fn slot_of(position: u64, slots: usize) -> usize
+    requires { 0 < slots }
+    ensures is { result ≡ slot_of position slots }
+    ensures inside { result < slots }
+{
+    threes(position) as usize & (slots - 1)
+}
+
+impl PlaceTable {
+    /// No positions.
+    pub(crate) fn new(alloc: Global) -> Result<PlaceTable, AllocError>
+        ensures table { IfOk result IsTable }
+        ensures none { IfOk result (λ table. table.positions.items ≡ []) }
+    {
+        Ok(PlaceTable {
+            positions: Vec::new(alloc),
+            latest: vec![in alloc; 0; FEWEST_SLOTS]?,
+            before: Vec::new(alloc),
+        })
+    }
+
+    /// The place of a position, if it was found.
+    pub(crate) fn find(&self, position: u64) -> Option<usize>
+        requires { IsTable self.now }
+        ensures found { IfSome result (λ place. (place < length self.now.positions.items)
+            × (slice_index self.now.positions.items place ≡ position)) }
+        ensures absent { IfNone result (¬ Contains self.now.positions.items position) }
+    {
+        let mut link = self.latest[slot_of(position, self.latest.len())];
+        'looking: while link > 0 {
+            let place = (link - 1) as usize;
+            if self.positions[place] == position {
+                return Some(place);
+            }
+            link = self.before[place];
+        }
+        None
+    }
+
+    /// Enters the first position that isn't in the table.
+    fn enter(&mut self) -> Result<(), AllocError>
+        requires entered { AreEntered self.old.positions.items self.old.latest.items self.old.before.items }
+        requires more { length self.old.before.items < length self.old.positions.items }
+        requires few { length self.old.positions.items < 2 ^ 32 }
+        ensures entered { OnOk result (AreEntered self.new.positions.items self.new.latest.items self.new.before.items) }
+        ensures one { OnOk result (length self.new.before.items ≡ length self.old.before.items + 1) }
+        ensures positions { self.new.positions.items ≡ self.old.positions.items }
+        ensures slots { length self.new.latest.items ≡ length self.old.latest.items }
+    {
+        let place = self.before.len();
+        let slot = slot_of(self.positions[place], self.latest.len());
+        self.before.push(self.latest[slot])?;
+        self.latest[slot] = place as u32 + 1;
+        Ok(())
+    }
+
+    /// Makes the table anew with four times as many slots.
+    fn grow(&mut self, alloc: Global) -> Result<(), AllocError>
+        requires table { IsTable self.old }
+        requires full { length self.old.latest.items ≤ length self.old.positions.items }
+        requires few { length self.old.positions.items < 2 ^ 32 }
+        ensures table { OnOk result (IsTable self.new) }
+        ensures positions { self.new.positions.items ≡ self.old.positions.items }
+    {
+        let slots = 4 * self.latest.len();
+        self.latest = vec![in alloc; 0; slots]?;
+        self.before.clear();
+        'entering: for _place in 0..self.positions.len() {
+            self.enter()?;
+        }
+        Ok(())
+    }
+
+    /// Puts a new position behind the others.
+    pub(crate) fn add(&mut self, alloc: Global, position: u64) -> Result<(), AllocError>
+        requires table { IsTable self.old }
+        requires few { length self.old.positions.items + 1 < 2 ^ 32 }
+        ensures table { OnOk result (IsTable self.new) }
+        ensures positions { OnOk result (self.new.positions.items ≡ self.old.positions.items ++ position ∷ []) }
+    {
+        if self.positions.len() >= self.latest.len() {
+            self.grow(alloc)?;
+        }
+        self.positions.push(position)?;
+        self.enter()
+    }
+}
