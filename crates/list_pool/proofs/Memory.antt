@@ -25,7 +25,7 @@ use denote.Shadow.{shadow, makes_shadow}
 use denote.Signature.{Slot, plain}
 use denote.Slice.{elements_shared}
 use denote.Steps.{nothing}
-use denote.Struct.Struct.{Region, Struct, within}
+use denote.Struct.Struct.{Shape, Struct, within}
 use denote.Struct.Declared as Declared
 use denote.Struct.Tuple.{Tuple, tuple_type}
 use Rattle.std.specs.Prelude.{Option, Some, None, slice_range}
@@ -46,7 +46,7 @@ then_runs {𝓤 = 𝓤} 𝓛 C Λ E b q = any_q (after_seq 𝓤 𝓛.H (Wp 𝓤 
 abbrev pub out_of_block : {M : Type 1} {𝓤 : Ura M} (𝓛 : Logic 𝓤) → Post 𝓤 𝓛.H → Post 𝓤 𝓛.H
 out_of_block {𝓤 = 𝓤} 𝓛 q = any_q (after_block 𝓤 𝓛.H (post 𝓤 𝓛.H q))
 
-abbrev one_field : Region
+abbrev one_field : Shape
 one_field = record { name = []; args = []; types = []; fields = RawPtr ∷ [] }
 
 abbrev pub Word : RattleType
