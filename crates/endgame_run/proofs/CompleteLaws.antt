@@ -20,10 +20,9 @@ use Rattle.endgame_run.specs.Calc.{IsCalc}
 use Rattle.endgame_run.specs.Complete.{AreAnswerable, IsAnswerable, IsAnswered, IsComplete, IsEngineDone, IsWithinLimits}
 use Rattle.endgame_run.specs.Engine.{AreForEngine, AskForEngine, IsEngineRun}
 use Rattle.endgame_run.specs.Output.{IsCaused}
-use Rattle.sgf_go.specs.File.{IsShort, IsTold, IsTooLong}
+use Rattle.sgf_go.specs.File.{IsShort, IsTold, IsTooLong, Reads}
 use Rattle.endgame_run.specs.File.{Outside, count_of, dash, told_of}
 use Rattle.endgame_run.specs.Game.{IsGameRun}
-use Rattle.sgf_go.specs.File.{Reads}
 use Rattle.endgame_run.specs.Verdict.{HasCause, IsAnswer, IsFileAnswer, IsPositionAnswer, IsTextAlone, Pose, limits_of}
 use Rattle.endgame_run.proofs.GameWins.{map_told}
 use Rattle.sgf_go.proofs.OneReading.{not_both, one_setup}

@@ -14,8 +14,7 @@ use Rattle.endgame_run.specs.declared.status.Status.{Status}
 use Rattle.endgame_run.specs.declared.status.Status.TheVariants.{BadFile, CannotRead, TooLong}
 use Rattle.endgame_run.specs.declared.question.Found.{Found}
 use Rattle.endgame_run.specs.declared.question.Found.TheVariants.{Position, Fault}
-use Rattle.sgf_go.specs.File.{IsShort, IsTold, IsTooLong}
-use Rattle.sgf_go.specs.File.{Reads}
+use Rattle.sgf_go.specs.File.{IsShort, IsTold, IsTooLong, Reads}
 use Rattle.endgame_run.specs.Position.{IsFaultText, IsSetupFaultText}
 
 -- the ranges of settings: prisoners in points, a komi in half-points

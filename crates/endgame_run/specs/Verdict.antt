@@ -19,9 +19,8 @@ use Rattle.endgame_solver.specs.declared.limits.Limits.{Limits}
 use Rattle.endgame_solver.specs.declared.faults.SolveError.{SolveError}
 use Rattle.endgame_solver.specs.Faults.{AreSound, AreRefused, most_steps}
 use Rattle.region_cut.specs.Cut.{AreRegionsOfPlay}
-use Rattle.sgf_go.specs.File.{IsShort, IsTold, IsTooLong}
+use Rattle.sgf_go.specs.File.{IsShort, IsTold, IsTooLong, Reads}
 use Rattle.endgame_run.specs.File.{Outside, told_of, count_of, dash}
-use Rattle.sgf_go.specs.File.{Reads}
 use Rattle.endgame_run.specs.Position.{IsFaultText}
 use Rattle.endgame_solver.specs.Solved.{OpensAs}
 use Rattle.endgame_run.specs.Solution.{IsSolution}

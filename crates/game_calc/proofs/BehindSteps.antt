@@ -2,7 +2,7 @@
 use Rattle.std.proofs.Common.{ℕ, suc, ◌+◌, ◌<◌, ◌≤◌, ◌≡◌, ◌++◌, ◌∷◌, [], List, length, drop, arith, ap, refl, sym, subst, ◌∙◌, Some, None}
 use Rattle.std.specs.Prelude.{Option, Result, Ok, Err}
 use Rattle.std.proofs.lemmas.List.{length-append, same_from_push}
-use Rattle.game_store.specs.Tree.{Tree}
+use Rattle.short_games.specs.Tree.{Tree}
 use Rattle.game_store.specs.Meaning.{Extends}
 use Rattle.game_calc.specs.Amounts.{IsAmount, IsBefore}
 use Rattle.game_calc.specs.Expression.{Expression, Line, Fault, Outcome, ReadsTerms, ReadsLine, AfterFirst, ended, closed_by, kind, next, rest, sign_of, with_term, first_sign, first_bytes}

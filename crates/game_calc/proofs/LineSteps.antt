@@ -2,9 +2,9 @@
 use Rattle.std.proofs.Common.{ℕ, suc, ◌+◌, ◌<◌, ◌≤◌, ◌≡◌, ◌⊎◌, ◌++◌, ◌∷◌, [], List, length, drop, arith, inl, inr, ap, refl, sym, subst, ◌∙◌, Some, None}
 use Rattle.std.specs.Prelude.{Option, Result, Ok, Err}
 use Rattle.std.proofs.lemmas.List.{length-append}
-use Rattle.game_store.specs.Tree.{Tree}
-use Rattle.game_store.specs.TextOrder.{IsCanonicalFor}
-use Rattle.game_store.specs.Meaning.{tree_at, Extends}
+use Rattle.short_games.specs.Tree.{Tree, tree_at}
+use Rattle.short_games.specs.TextOrder.{IsCanonicalFor}
+use Rattle.game_store.specs.Meaning.{Extends}
 use Rattle.game_text.specs.Reading.{ReadsText}
 use Rattle.game_calc.specs.Amounts.{IsAmount, IsBefore, IsHeld, IsHeldBefore}
 use Rattle.game_calc.specs.Expression.{Expression, Line, Fault, Outcome, tree_of, ReadsTerm, ReadsTerms, ReadsLine, closed, kind, next, token, rest, sign_of, signed, with_term, first_sign, first_bytes, most_open}

@@ -1,25 +1,24 @@
 -- A canonical form that is no number is changed option by option.
 use Rattle.std.proofs.Common.{◌+◌, ◌≡◌, sym, ◌∙◌, ap, subst, ℤ, pos, ◌+ℤ◌, neg_ℤ, arith}
 use Rattle.std.proofs.lemmas.Int.{ints}
-use Rattle.game_store.specs.Tree.{Tree, Trees, node, none, left, right, Has, neg}
-use Rattle.game_store.specs.Order.{◌≤ᵍ◌}
-use Rattle.game_store.specs.Sum.{◌+ᵍ◌, each_plus}
-use Rattle.game_store.specs.Number.{num, IsNumber, IsNumberTree}
-use Rattle.game_store.specs.Canonical.{IsReduced}
-use Rattle.game_store.specs.TextOrder.{TextBefore, sorted, IsCanonicalTree, IsCanonicalFor}
-use Rattle.game_store.specs.Reduction.{IsFreeLeft, KeepsLeft, KeepsRight}
-use Rattle.game_store.specs.Meaning.{number_tree}
-use Rattle.game_store.proofs.OrderLaws.{le-refl, le-trans}
-use Rattle.game_store.proofs.SumLaws.{plus-le, plus-le_both, plus-cancel, plus-assoc, plus-nought, each_plus-has, has-each_plus, has-neg_each, neg_each-has, neg-left, neg-right, neg-neg, neg-le, not_le_left, not_right_le}
-use Rattle.game_store.proofs.NumberLaws.{neg-num, num-plus_le, num-le_plus, num-zero}
-use Rattle.game_store.proofs.ThresholdLaws.{scaled}
-use Rattle.game_store.proofs.CanonicalLaws.{not-le, canonical-left, canonical-right}
-use Rattle.game_store.proofs.CanonicalLaws as laws
-use Rattle.game_store.proofs.CanonicalLaws.Witness.{by_left, by_right}
-use Rattle.game_store.proofs.FormLaws.{by_better, translation}
-use Rattle.game_store.proofs.AvoidanceLaws.{cheap_left, cheap_right}
-use Rattle.game_store.proofs.TextOrderLaws.{text-order}
-use Rattle.game_store.proofs.ReductionLaws.{form-canonical, number-kept_left, number-kept_right, canonical-number, canonical-same}
+use Rattle.short_games.specs.Tree.{Tree, Trees, node, none, left, right, Has, neg}
+use Rattle.short_games.specs.Order.{◌≤ᵍ◌}
+use Rattle.short_games.specs.Sum.{◌+ᵍ◌, each_plus}
+use Rattle.short_games.specs.Number.{num, IsNumber, IsNumberTree, number_tree}
+use Rattle.short_games.specs.Canonical.{IsReduced}
+use Rattle.short_games.specs.TextOrder.{TextBefore, sorted, IsCanonicalTree, IsCanonicalFor}
+use Rattle.short_games.specs.Reduction.{IsFreeLeft, KeepsLeft, KeepsRight}
+use Rattle.short_games.proofs.OrderLaws.{le-refl, le-trans}
+use Rattle.short_games.proofs.SumLaws.{plus-le, plus-le_both, plus-cancel, plus-assoc, plus-nought, each_plus-has, has-each_plus, has-neg_each, neg_each-has, neg-left, neg-right, neg-neg, neg-le, not_le_left, not_right_le}
+use Rattle.short_games.proofs.NumberLaws.{neg-num, num-plus_le, num-le_plus, num-zero}
+use Rattle.short_games.proofs.ThresholdLaws.{scaled}
+use Rattle.short_games.proofs.CanonicalLaws.{not-le, canonical-left, canonical-right}
+use Rattle.short_games.proofs.CanonicalLaws as laws
+use Rattle.short_games.proofs.CanonicalLaws.Witness.{by_left, by_right}
+use Rattle.short_games.proofs.FormLaws.{by_better, translation}
+use Rattle.short_games.proofs.AvoidanceLaws.{cheap_left, cheap_right}
+use Rattle.short_games.proofs.TextOrderLaws.{text-order}
+use Rattle.short_games.proofs.ReductionLaws.{form-canonical, number-kept_left, number-kept_right, canonical-number, canonical-same}
 use Rattle.game_canon.specs.declared.change.Change.{Change}
 use Rattle.game_canon.specs.declared.change.Change.TheVariants.{Negate, Add}
 use Rattle.game_canon.specs.Changes.{target, lefts, rights, shifted}

@@ -10,7 +10,6 @@ pub mod ThresholdSteps
 pub mod SimplestNumber
 pub mod Waiting
 pub mod Undecided
-pub mod Avoidance
 pub mod Examples
 pub mod PlayerLaws
 pub mod ChangeLaws
@@ -18,7 +17,6 @@ pub mod ChangeSteps
 pub mod NumberParts
 pub mod NegationLaws
 pub mod ReachableLaws
-pub mod IncentiveLaws
 pub mod SumMoves
 pub mod SumBounds
 pub mod SumWaiting

@@ -1,42 +1,20 @@
 -- Sums and their options, by the player who moves, and gains in purses.
-use Rattle.std.proofs.Common.{ℕ, zero, suc, ◌≡◌, ◌⊎◌, ◌+◌, ◌-◌, ◌≤◌, arith, inl, inr, refl, subst, ◌+ℤ◌}
+use Rattle.std.proofs.Common.{ℕ, zero, suc, ◌≡◌, ◌⊎◌, ◌+◌, ◌-◌, ◌≤◌, arith, inl, inr, refl, ◌+ℤ◌}
 use Rattle.std.proofs.lemmas.Int.{ints}
 use Rattle.go_grid.specs.declared.grid.Colour.{Colour}
 use Rattle.go_grid.specs.declared.grid.Colour.TheVariants.{Black, White}
 use Rattle.go_grid.specs.Board.{other}
-use Rattle.game_store.specs.Tree.{Tree, Has, neg}
-use Rattle.game_store.specs.Order.{le, ◌≡ᵍ◌}
-use Rattle.game_store.specs.Sum.{◌+ᵍ◌}
-use Rattle.game_store.specs.Number.{num, whole, count_tree}
+use Rattle.short_games.specs.Tree.{Tree, Has, neg}
+use Rattle.short_games.specs.Order.{le, ◌≡ᵍ◌}
+use Rattle.short_games.specs.Sum.{◌+ᵍ◌}
+use Rattle.short_games.specs.Number.{num, whole, count_tree}
 use Rattle.std.proofs.lemmas.Bool.{both_ways, cases_Bool}
-use Rattle.game_store.proofs.CanonicalLaws.{not-le}
-use Rattle.game_store.proofs.CanonicalLaws.Witness.{by_left, by_right}
-use Rattle.game_store.proofs.OrderLaws.{le-out, le-refl, le-trans}
-use Rattle.game_store.proofs.SumLaws.{InSum, nought, left_of_sum, right_of_sum, left_in_first, left_in_second, right_in_first, right_in_second, plus-le_both, plus-comm, plus-assoc}
-use Rattle.game_store.proofs.NumberLaws.{num-plus_le, num-le_plus}
+use Rattle.short_games.proofs.CanonicalLaws.{not-le}
+use Rattle.short_games.proofs.CanonicalLaws.Witness.{by_left, by_right}
+use Rattle.short_games.proofs.OrderLaws.{le-out, le-trans}
+use Rattle.short_games.proofs.SumLaws.{InSum, nought, left_of_sum, right_of_sum, left_in_first, left_in_second, right_in_first, right_in_second}
+use Rattle.short_games.proofs.NumberLaws.{num-plus_le, num-le_plus}
 use Rattle.game_canon.specs.Players.{options, credit, gain, LosesGame}
-
-pub same-refl : (G : Tree) → G ≡ᵍ G
-same-refl G = (le-refl G, le-refl G)
-
-pub same-path : (G H : Tree) → G ≡ H → G ≡ᵍ H
-same-path G H e = subst (λ t. G ≡ᵍ t) e (same-refl G)
-
-pub same-sym : (G H : Tree) → G ≡ᵍ H → H ≡ᵍ G
-same-sym G H e = (e.1, e.0)
-
-pub same-trans : (G H K : Tree) → G ≡ᵍ H → H ≡ᵍ K → G ≡ᵍ K
-same-trans G H K e f = (le-trans G H K e.0 f.0, le-trans K H G f.1 e.1)
-
-pub same-plus : (G H K M : Tree) → G ≡ᵍ H → K ≡ᵍ M → (G +ᵍ K) ≡ᵍ (H +ᵍ M)
-same-plus G H K M e f = (plus-le_both G H K M e.0 f.0, plus-le_both H G M K e.1 f.1)
-
-pub same-comm : (G H : Tree) → (G +ᵍ H) ≡ᵍ (H +ᵍ G)
-same-comm G H = (plus-comm G H, plus-comm H G)
-
--- the last of three to the middle
-pub same-swap : (G H K : Tree) → ((G +ᵍ H) +ᵍ K) ≡ᵍ ((G +ᵍ K) +ᵍ H)
-same-swap G H K = rw (plus-assoc G H K, plus-assoc G K H) (same-plus G G (H +ᵍ K) (K +ᵍ H) (same-refl G) (same-comm H K))
 
 pub option_of_sum : (c : Colour) (G H X : Tree) → Has (options c (G +ᵍ H)) X → InSum G H (options c G) (options c H) X
 option_of_sum Black G H X h = left_of_sum G H X h

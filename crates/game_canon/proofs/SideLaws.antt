@@ -1,12 +1,12 @@
 -- Laws that hold of both sides, and of lists of ids.
 use Rattle.std.proofs.Common.{ℕ, zero, suc, ◌+◌, ◌<◌, ◌≡◌, ◌⊎◌, List, [], ◌∷◌, ◌++◌, length, get_or, arith, refl, sym, ◌∙◌, inl, inr, ap, subst}
 use Rattle.std.proofs.lemmas.Bool.{cases_Bool}
-use Rattle.game_store.specs.Tree.{Tree, Trees, more, Has, no_one, ◌then◌, size, sizes}
-use Rattle.game_store.specs.Order.{le}
-use Rattle.game_store.proofs.OrderLaws.{le-refl, le-trans, no_one-has}
-use Rattle.game_store.proofs.SumLaws.{then-has, has-then_left, has-then_right}
-use Rattle.game_store.proofs.CanonicalLaws.{some_one}
-use Rattle.game_store.specs.Meaning.{tree_at, pick, AreIds}
+use Rattle.short_games.specs.Tree.{Tree, Trees, more, Has, no_one, ◌then◌, size, sizes, tree_at}
+use Rattle.short_games.specs.Order.{le}
+use Rattle.short_games.proofs.OrderLaws.{le-refl, le-trans, no_one-has}
+use Rattle.short_games.proofs.SumLaws.{then-has, has-then_left, has-then_right}
+use Rattle.short_games.proofs.CanonicalLaws.{some_one}
+use Rattle.game_store.specs.Meaning.{pick, AreIds}
 use Rattle.game_store.specs.Forms.{IsOptions}
 use Rattle.game_canon.specs.declared.side.Side.{Side}
 use Rattle.game_canon.specs.declared.side.Side.TheVariants.{Left, Right}

@@ -2,9 +2,9 @@
 use Rattle.std.specs.Prelude.{ℕ, ℤ, pos, neg_ℤ}
 use Rattle.go_grid.specs.declared.grid.Colour.{Colour}
 use Rattle.go_grid.specs.declared.grid.Colour.TheVariants.{Black, White}
-use Rattle.game_store.specs.Tree.{Tree, Trees, left, right, node, none}
-use Rattle.game_store.specs.Order.{◌≤ᵍ◌}
-use Rattle.game_store.specs.Number.{num}
+use Rattle.short_games.specs.Tree.{Tree, Trees, left, right, node, none}
+use Rattle.short_games.specs.Order.{◌≤ᵍ◌}
+use Rattle.short_games.specs.Number.{num}
 
 -- the options of a player
 abbrev pub options : Colour → Tree → Trees

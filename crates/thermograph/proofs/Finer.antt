@@ -2,15 +2,15 @@
 use Rattle.std.proofs.Common.{ℕ, zero, suc, ◌+◌, ◌-◌, ◌*◌, ◌^◌, ◌<◌, ◌≡◌, ◌⊎◌, inl, inr, arith, refl, sym, ◌∙◌, ap, ap₂, subst, ℤ, pos, ◌+ℤ◌, ◌*ℤ◌, List, [], ◌∷◌}
 use Rattle.std.proofs.lemmas.Int.{ints, by_lt_z}
 use Rattle.std.proofs.lemmas.Bool.{cases_lt}
-use Rattle.game_store.specs.Tree.{Tree}
+use Rattle.short_games.specs.Tree.{Tree}
 use Rattle.thermograph.specs.declared.breaks.Break.{Break}
 use Rattle.thermograph.specs.Breaks.{toward, from, wall_at, Reaches, IsPath}
 use Rattle.thermograph.specs.Drawings.{DrawWalls, in_parts}
-use Rattle.thermograph.specs.Walls.{HasWalls, finer}
+use Rattle.short_games.specs.Walls.{HasWalls, finer}
 use Rattle.thermograph.proofs.BreakLists.{at-before, at-after, toward-up, toward-down, toward-same, toward-none}
-use Rattle.thermograph.proofs.Lines.{Doubles, finer-doubles, parity, Parity, below-or_at}
-use Rattle.thermograph.proofs.Lines.Parity.{even, odd}
-use Rattle.thermograph.proofs.Solutions.{has_walls-finer}
+use Rattle.short_games.proofs.WallLines.{Doubles, finer-doubles, parity, Parity, below-or_at}
+use Rattle.short_games.proofs.WallLines.Parity.{even, odd}
+use Rattle.short_games.proofs.WallSolutions.{has_walls-finer}
 
 abbrev twice : Break → Break
 twice b = record { at = b.at + b.at; value = b.value +ℤ b.value }

@@ -2,13 +2,12 @@
 use Rattle.std.specs.declared.alloc.Global.{Global}
 use Rattle.std.specs.Prelude.{ℕ, ◌+◌, ◌-◌, ◌*◌, ◌^◌, ◌≡◌, ◌<◌, ◌↔◌, length, map, ℤ, pos, unsigned_abs, ◌*ℤ◌, ◌<ℤ◌, Bool, List, Vec, Option, Some, None}
 use Rattle.std.specs.List.{slice_index_or}
-use Rattle.game_store.specs.Tree.{Tree}
-use Rattle.game_store.specs.Number.{IsNumberTree}
-use Rattle.game_store.specs.Meaning.{tree_at, number_tree}
+use Rattle.short_games.specs.Tree.{Tree, tree_at}
+use Rattle.short_games.specs.Number.{IsNumberTree, number_tree}
 use Rattle.thermograph.specs.declared.breaks.Break.{Break}
 use Rattle.thermograph.specs.declared.drawing.Drawing.{Drawing}
-use Rattle.thermograph.specs.Walls.{HasWalls, IsMeeting}
-use Rattle.thermograph.specs.Breaks.{wall_at, IsLevel, IsPath, IsBreakAt, Bends}
+use Rattle.short_games.specs.Walls.{HasWalls, IsMeeting, Bends}
+use Rattle.thermograph.specs.Breaks.{wall_at, IsLevel, IsPath, IsBreakAt}
 use Rattle.thermograph.specs.Scaffolds.{wall_of, AreApart, IsTraced}
 use Rattle.thermograph.specs.Marks.{IsMarked, IsInner}
 

@@ -1,7 +1,7 @@
 //! Thermographs of the games of a store.
 
 ghost use Rattle.std.specs.Prelude.{◌≡◌, ◌<◌, ◌≤◌, [], ◌∷◌, ◌++◌, length, IfOk, IfErr, OnOk};
-ghost use Rattle.game_store.specs.Meaning.{tree_at};
+ghost use Rattle.short_games.specs.Tree.{tree_at};
 ghost use Rattle.thermograph.specs.Breaks.{wall_at};
 ghost use Rattle.thermograph.specs.Marks.{AreFollowers};
 ghost use Rattle.thermograph.specs.Drawings.{DrawWalls, IsTemperature, AreBreaks, end_of, IsDrawing, AreDrawn};

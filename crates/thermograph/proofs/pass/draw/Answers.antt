@@ -1,7 +1,7 @@
 use Rattle.std.proofs.lemmas.Result.{err_from_is_err_and}
-use Rattle.game_store.specs.Parts.IsFollower.{itself}
+use Rattle.short_games.specs.Parts.IsFollower.{itself}
 use Rattle.std.proofs.Common.{◌≡◌, sym, ◌∙◌, ap, subst, List}
-use Rattle.game_store.specs.Meaning.{tree_at}
+use Rattle.short_games.specs.Tree.{tree_at}
 use Rattle.thermograph.specs.declared.breaks.Break.{Break}
 use Rattle.thermograph.specs.Breaks.{wall_at}
 use Rattle.thermograph.specs.Drawings.{DrawWalls, IsTemperature, AreBreaks, end_of}

@@ -1,0 +1,11 @@
+use Rattle.short_games.proofs.OrderLaws.{le-out, le-in, le-refl, le-trans}
+use Rattle.short_games.proofs.order_laws.Goals as goal
+
+pub returns-clause-is : goal.returns-clause-is
+returns-clause-is c = λ G H. (le-out G H, le-in G H)
+
+pub returns-clause-reflexive : goal.returns-clause-reflexive
+returns-clause-reflexive c = le-refl
+
+pub returns-clause-transitive : goal.returns-clause-transitive
+returns-clause-transitive c = le-trans

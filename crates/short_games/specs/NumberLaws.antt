@@ -1,0 +1,27 @@
+-- The laws of numbers beside other games.
+use Rattle.std.specs.Prelude.{ℕ, ℤ}
+use Rattle.short_games.specs.Tree.{Tree, Trees, node, none, left, right, Has}
+use Rattle.short_games.specs.Order.{◌≤ᵍ◌, ◌≡ᵍ◌}
+use Rattle.short_games.specs.Sum.{◌+ᵍ◌, each_plus, total}
+use Rattle.short_games.specs.Number.{num, IsNumberTree}
+use Rattle.short_games.specs.Moves.{LeftMoves, RightMoves, LeftWins, RightWins}
+use Rattle.short_games.specs.TextOrder.{IsCanonicalTree}
+
+-- canonical trees that are no numbers, at least one
+pub record AreHot (Gs : Trees) : Type 0 where
+  pub some : (G : Tree) × Has Gs G
+  pub canonical : (G : Tree) → Has Gs G → IsCanonicalTree G
+  pub no_numbers : (G : Tree) → Has Gs G → IsNumberTree G → ⊥
+
+-- Where a player who moves first wins the sum of such trees and a number, a move in one of the trees wins it: after it
+-- the sum is at least 0 for Left, or at most 0 for Right
+abbrev pub LeftAvoidsNumbers : Type 0
+LeftAvoidsNumbers = (Gs : Trees) (e : ℕ) (m : ℤ) → AreHot Gs → LeftWins (total Gs +ᵍ num e m) → (Hs : Trees) × LeftMoves Gs Hs × (node none none ≤ᵍ total Hs +ᵍ num e m)
+
+abbrev pub RightAvoidsNumbers : Type 0
+RightAvoidsNumbers = (Gs : Trees) (e : ℕ) (m : ℤ) → AreHot Gs → RightWins (total Gs +ᵍ num e m) → (Hs : Trees) × RightMoves Gs Hs × (total Hs +ᵍ num e m ≤ᵍ node none none)
+
+-- A canonical tree that is no number and a number add up to the tree whose options are the game's, each with the number added
+abbrev pub NumbersTranslate : Type 0
+NumbersTranslate = (G : Tree) (e : ℕ) (m : ℤ) → IsCanonicalTree G → (IsNumberTree G → ⊥)
+    → (G +ᵍ num e m) ≡ᵍ node (each_plus (left G) (num e m)) (each_plus (right G) (num e m))
