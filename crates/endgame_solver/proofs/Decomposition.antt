@@ -8,14 +8,14 @@ use Rattle.short_games.specs.Sum.{◌+ᵍ◌}
 use Rattle.short_games.proofs.SumLaws.{InSum, plus-assoc, same-plus, same-swap}
 use Rattle.short_games.proofs.SumLaws.InSum.{in_first, in_second}
 use Rattle.whole_rules.proofs.OutcomeLaws.{wins-not_loses}
-use Rattle.game_canon.specs.Players.{options, gain}
+use Rattle.sum_outcome.specs.Players.{options, gain}
 use Rattle.local_value.specs.LocalGame.{Step, TakesAtMost}
 use Rattle.endgame_solver.specs.SumGame.{State, Leads, parts_tree, purses_tree, state_tree, AllEnd, IsDecidedBy}
 use Rattle.whole_rules.specs.Purses.{paid_in}
 use Rattle.endgame_solver.proofs.SignLaws.{Mirrors, Decided, decided}
 use Rattle.endgame_solver.proofs.SignLaws.Decided.{lost, won}
 use Rattle.short_games.proofs.OrderLaws.{same-refl, same-path, same-trans}
-use Rattle.game_canon.proofs.PlayerLaws.{option_of_sum, option_in_first, option_in_second}
+use Rattle.sum_outcome.proofs.PlayerLaws.{option_of_sum, option_in_first, option_in_second}
 use Rattle.endgame_solver.proofs.PursesLaws.{purses-plus, purses-moved, purses-met, funds}
 use Rattle.endgame_solver.proofs.PartsLaws.{parts-moved, parts-met, all_end-step}
 use Rattle.endgame_solver.proofs.PlayLaws.{all_end-lasts, ends, yields}

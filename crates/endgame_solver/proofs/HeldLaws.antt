@@ -15,7 +15,7 @@ use Rattle.short_games.specs.Number.{num}
 use Rattle.short_games.specs.Sum.{◌+ᵍ◌, total}
 use Rattle.game_store.specs.Meaning.{pick}
 use Rattle.short_games.proofs.NumberLaws.{num-double}
-use Rattle.game_canon.specs.Players.{LosesGame}
+use Rattle.sum_outcome.specs.Players.{LosesGame}
 use Rattle.local_value.specs.PositionTree.{IsValueOf}
 use Rattle.sum_outcome.specs.Sums.{sum_tree}
 use Rattle.endgame_solver.specs.Regions.{Spot, region_at, AreGraphs, spot_in, moves_at, InRegion, HasCells, IsShown}

@@ -9,11 +9,11 @@ use Rattle.short_games.proofs.SumLaws.{InSum, plus-assoc, same-plus, same-swap}
 use Rattle.short_games.proofs.SumLaws.InSum.{in_first, in_second}
 use Rattle.local_value.specs.Ending.{EndsWithin}
 use Rattle.endgame_solver.proofs.MatchLaws.{ends-more}
-use Rattle.game_canon.specs.Players.{options, gain}
+use Rattle.sum_outcome.specs.Players.{options, gain}
 use Rattle.local_value.specs.LocalGame.{Step, StepsTo, tree_within}
 use Rattle.endgame_solver.specs.SumGame.{StepIn, parts_tree, AllEnd}
 use Rattle.short_games.proofs.OrderLaws.{same-refl, same-path, same-trans}
-use Rattle.game_canon.proofs.PlayerLaws.{option_of_sum, option_in_first, option_in_second}
+use Rattle.sum_outcome.proofs.PlayerLaws.{option_of_sum, option_in_first, option_in_second}
 use Rattle.local_value.proofs.LocalLaws.{move-option, option-move}
 
 pub no_option : (c : Colour) (X : Tree) → Has (options c (node none none)) X → ⊥

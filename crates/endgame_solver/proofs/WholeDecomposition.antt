@@ -18,10 +18,10 @@ use Rattle.region_cut.proofs.ApartLemmas.{holds_start}
 use Rattle.short_games.specs.Tree.{Trees, node, none, more}
 use Rattle.short_games.specs.Order.{◌≡ᵍ◌}
 use Rattle.short_games.specs.Sum.{◌+ᵍ◌, total}
-use Rattle.game_canon.specs.Players.{credit}
+use Rattle.sum_outcome.specs.Players.{credit}
 use Rattle.short_games.proofs.OrderLaws.{same-refl, same-sym}
 use Rattle.short_games.proofs.SumLaws.{same-plus}
-use Rattle.game_canon.proofs.PlayerLaws.{loses-same}
+use Rattle.sum_outcome.proofs.PlayerLaws.{loses-same}
 use Rattle.local_value.specs.LocalGame.{Step}
 use Rattle.local_value.specs.PositionTree.{IsTreeOf}
 use Rattle.endgame_solver.specs.Decomposition.{AreTreesOn, money_tree, WholeDecomposes}

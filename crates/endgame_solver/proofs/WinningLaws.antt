@@ -17,7 +17,7 @@ use Rattle.local_graph.specs.Graph.{Graph}
 use Rattle.short_games.specs.Tree.{Tree, tree_at}
 use Rattle.game_store.specs.Meaning.{pick, AreIds}
 use Rattle.game_canon.specs.Outcomes.{AreWithin}
-use Rattle.game_canon.specs.Players.{LosesGame}
+use Rattle.sum_outcome.specs.Players.{LosesGame}
 use Rattle.sum_outcome.specs.Sums.{sum_tree, IsBounded}
 use Rattle.endgame_solver.specs.SumGame.{balance}
 use Rattle.endgame_solver.specs.Held.{AreSolved, IsAt, AreSummed, HasRoom, IsKept, IsStoneEdge, AreModest, ArePlaces, ids_at, place_at, most_units}

@@ -12,7 +12,7 @@ use Rattle.local_value.specs.Ending.{EndsWithin}
 use Rattle.short_games.specs.Tree.{Tree, node, none}
 use Rattle.short_games.specs.Sum.{◌+ᵍ◌}
 use Rattle.short_games.specs.Number.{num}
-use Rattle.game_canon.specs.Players.{credit, gain, LosesGame}
+use Rattle.sum_outcome.specs.Players.{credit, gain, LosesGame}
 use Rattle.local_value.specs.LocalGame.{Step, StepsTo, tree_within}
 
 -- half a unit for the owner

@@ -11,7 +11,6 @@ pub mod SimplestNumber
 pub mod Waiting
 pub mod Undecided
 pub mod Examples
-pub mod PlayerLaws
 pub mod ChangeLaws
 pub mod ChangeSteps
 pub mod NumberParts

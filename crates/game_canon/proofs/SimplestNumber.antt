@@ -9,7 +9,8 @@ use Rattle.dyadic_num.specs.Units.{IsAbove, IsBelow, IsMultiple, IsSimplest, IsI
 use Rattle.short_games.specs.Tree.{Tree, none, more, left, right, Has, neg}
 use Rattle.short_games.specs.Number.{num, IsNumber, whole, count_tree, half, is_even}
 use Rattle.short_games.specs.Order.{◌≤ᵍ◌}
-use Rattle.short_games.specs.Threshold.{IsCell, FitsForm, IsFloor, IsCeiling}
+use Rattle.short_games.specs.Threshold.{IsCell, IsFloor, IsCeiling}
+use Rattle.short_games.specs.Simplest.{FitsForm}
 use Rattle.short_games.proofs.OrderLaws.{le-trans}
 use Rattle.short_games.proofs.NumberLaws.{num-even, num-odd, num-double, num-lt, half-even, half-odd}
 use Rattle.short_games.proofs.ThresholdLaws.{cell, half-cell, simplest-is, equal-fits}

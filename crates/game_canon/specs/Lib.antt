@@ -7,7 +7,6 @@ pub mod Sides
 pub mod Outcomes
 pub mod Followers
 pub mod Bounds
-pub mod Players
 pub mod Changes
 pub mod Reachable
 pub mod SumComparisons

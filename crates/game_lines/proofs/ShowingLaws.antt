@@ -1,5 +1,5 @@
 -- The pieces of what is shown.
-use Rattle.std.proofs.Common.{◌≡◌, ℕ, ◌<◌, ◌≤◌, inl, inr, ◌++◌, List, length, ap, sym, ◌∙◌, arith, append_assoc}
+use Rattle.std.proofs.Common.{◌≡◌, ℕ, ◌≤◌, inl, inr, ◌++◌, List, length, ap, sym, ◌∙◌, arith, append_assoc}
 use Rattle.std.specs.Prelude.{codes}
 use Rattle.short_games.specs.Tree.{Tree}
 use Rattle.game_text.specs.NamedText.{named_text, named_depth}

@@ -13,7 +13,7 @@ use Rattle.short_games.specs.TextOrder.{IsCanonicalFor}
 use Rattle.game_store.specs.Meaning.{AreIds, Extends}
 use Rattle.short_games.specs.Parts.{IsNumberOf}
 use Rattle.game_canon.specs.Outcomes.{AreWithin}
-use Rattle.game_canon.specs.Players.{gain}
+use Rattle.sum_outcome.specs.Players.{gain}
 use Rattle.local_value.specs.declared.memo.Options.{Options}
 use Rattle.local_value.specs.Valuing.{noted, IsNoted, tree_after, IsWithinAfter, AreWithinAfter, IsAfter, AreAfter, AreBothAfter, IsAdded}
 

@@ -6,7 +6,7 @@ use Rattle.go_grid.specs.declared.region.Touch.{Touch}
 use Rattle.short_games.specs.Tree.{Tree}
 use Rattle.short_games.specs.Order.{◌≡ᵍ◌}
 use Rattle.short_games.specs.Sum.{◌+ᵍ◌}
-use Rattle.game_canon.specs.Players.{gain}
+use Rattle.sum_outcome.specs.Players.{gain}
 use Rattle.local_value.specs.Ending.{EndsWithin}
 use Rattle.local_value.specs.Laws.{MovesTo, TreesExist}
 use Rattle.local_value.specs.LocalGame.{Step, StepsTo, tree_within}

@@ -16,7 +16,7 @@ use Rattle.short_games.proofs.StopLaws.{num-scaled}
 use Rattle.game_canon.specs.declared.errors.FormError.TheVariants.{Bounds}
 use Rattle.game_canon.specs.Changes.{IsSumRefusal}
 use Rattle.game_canon.specs.Outcomes.{IsCanonicalId}
-use Rattle.game_canon.specs.Players.{credit, gain}
+use Rattle.sum_outcome.specs.Players.{credit, gain}
 use Rattle.game_canon.proofs.NumberParts.{sum-fits, same-sum}
 use Rattle.local_value.specs.Memo.{stones_units, IsStonesSum}
 use Rattle.local_value.specs.Valuing.{noted, IsWithinAfter, IsAfter}

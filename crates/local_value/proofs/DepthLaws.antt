@@ -5,7 +5,7 @@ use Rattle.short_games.specs.Tree.{Tree, Has, left, right}
 use Rattle.go_grid.specs.declared.grid.Colour.TheVariants.{Black, White}
 use Rattle.short_games.specs.Order.{◌≡ᵍ◌}
 use Rattle.short_games.specs.Sum.{◌+ᵍ◌}
-use Rattle.game_canon.specs.Players.{options, gain}
+use Rattle.sum_outcome.specs.Players.{options, gain}
 use Rattle.local_value.specs.LocalGame.{Step}
 use Rattle.local_value.specs.PositionTree.{IsTree, PlaysAreShort}
 use Rattle.short_games.proofs.OrderLaws.{same-refl, same-path, same-sym, same-trans}

@@ -9,7 +9,7 @@ use Rattle.local_graph.proofs.PlayLemmas.{plays_long}
 use Rattle.short_games.specs.Tree.{Tree, Has}
 use Rattle.short_games.specs.Order.{◌≡ᵍ◌}
 use Rattle.short_games.specs.Sum.{◌+ᵍ◌}
-use Rattle.game_canon.specs.Players.{gain}
+use Rattle.sum_outcome.specs.Players.{gain}
 use Rattle.local_value.specs.Ending.{EndsWithin}
 use Rattle.local_value.specs.GraphMoves.{step_of, steps_of}
 use Rattle.local_value.specs.Laws.{MovesTo}

@@ -6,7 +6,7 @@ use Rattle.go_grid.specs.declared.grid.Colour.TheVariants.{Black, White}
 use Rattle.short_games.specs.Tree.{Tree, node, none, more, Has}
 use Rattle.short_games.specs.Sum.{◌+ᵍ◌}
 use Rattle.local_value.specs.Ending.{EndsWithin}
-use Rattle.game_canon.specs.Players.{options, gain}
+use Rattle.sum_outcome.specs.Players.{options, gain}
 use Rattle.local_value.specs.LocalGame.{Step, after, tree_within, StepsTo}
 
 pub contains-head : (P : Type 0) (x : P) (xs : List P) → Contains (x ∷ xs) x

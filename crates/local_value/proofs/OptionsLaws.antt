@@ -14,7 +14,7 @@ use Rattle.game_store.proofs.Values.{has-pick, pick-has}
 use Rattle.game_canon.specs.declared.errors.FormError.{FormError}
 use Rattle.game_canon.specs.declared.errors.FormError.TheVariants.{Parts, Bounds, Memory}
 use Rattle.game_canon.specs.Outcomes.{IsCanonicalId, IsCause, AreWithin, AreOptionsWithin}
-use Rattle.game_canon.specs.Players.{options}
+use Rattle.sum_outcome.specs.Players.{options}
 use Rattle.local_value.specs.Memo.{IsFormOf}
 use Rattle.local_value.specs.Valuing.{tree_after, AreWithinAfter, IsAfter, AreAfter, AreBothAfter, HasEdges}
 use Rattle.local_value.proofs.AfterLaws.{after-ids}

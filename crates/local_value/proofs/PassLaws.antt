@@ -19,7 +19,7 @@ use Rattle.short_games.specs.Parts.{HasMoreParts, IsNumberOf}
 use Rattle.short_games.proofs.NumberLaws.{num-zero}
 use Rattle.short_games.proofs.ReductionLaws.{number-canonical, same-canonical}
 use Rattle.game_canon.specs.Outcomes.{IsCanonicalId, AreWithin}
-use Rattle.game_canon.specs.Players.{options, gain}
+use Rattle.sum_outcome.specs.Players.{options, gain}
 use Rattle.game_canon.proofs.PartLaws.{fewer}
 use Rattle.short_games.proofs.OrderLaws.{same-path, same-refl, same-trans}
 use Rattle.short_games.proofs.SumLaws.{same-plus}

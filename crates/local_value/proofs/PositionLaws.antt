@@ -8,7 +8,7 @@ use Rattle.short_games.specs.Order.{◌≡ᵍ◌}
 use Rattle.short_games.specs.Sum.{◌+ᵍ◌}
 use Rattle.short_games.proofs.FormLaws.{by_better}
 use Rattle.local_value.specs.Ending.{EndsWithin}
-use Rattle.game_canon.specs.Players.{options, gain}
+use Rattle.sum_outcome.specs.Players.{options, gain}
 use Rattle.local_value.specs.LocalGame.{Step, tree_within}
 use Rattle.local_value.specs.PositionTree.{IsTree, PlaysAreShort}
 use Rattle.short_games.proofs.OrderLaws.{same-refl, same-path, same-sym, same-trans}

@@ -7,7 +7,7 @@ ghost use Rattle.game_store.specs.Meaning.{Extends};
 ghost use Rattle.short_games.specs.Parts.{HasMoreParts};
 ghost use Rattle.game_canon.specs.Changes.{HasNumberPastBounds};
 ghost use Rattle.game_canon.specs.Outcomes.{IsCanonicalId, IsCause, AreWithin};
-ghost use Rattle.game_canon.specs.Players.{credit};
+ghost use Rattle.sum_outcome.specs.Players.{credit};
 ghost use Rattle.local_value.specs.Memo.{recalled_sum, AreSumsRight, IsMemoRight};
 ghost use Rattle.local_value.specs.Refusals.{IsValueRefusal};
 ghost use Rattle.local_value.specs.Values.{IsGraphOf, AreValues};

@@ -2,16 +2,15 @@
 use Rattle.std.proofs.Common.{ℕ, zero, suc, ◌≤◌, ◌≡◌, arith, refl, inl, inr, sym, ◌∙◌, ap, subst, ℤ, pos, negsuc, ◌+ℤ◌, ◌<ℤ◌, ◌≤ℤ◌, neg_ℤ}
 use Rattle.std.proofs.lemmas.Int.{ints, by_lt_z}
 use Rattle.std.proofs.lemmas.Bool.{cases_Bool, true≢false}
-use Rattle.short_games.specs.Tree.{Tree, Trees, none, more, left, right, Has, no_one, size, neg}
-use Rattle.short_games.specs.Order.{le, ◌≤ᵍ◌}
+use Rattle.short_games.specs.Tree.{Tree, Trees, none, more, left, right, Has, size, neg}
+use Rattle.short_games.specs.Order.{◌≤ᵍ◌}
 use Rattle.short_games.specs.Sum.{◌+ᵍ◌, total}
 use Rattle.short_games.specs.Number.{num, whole, count_tree, IsNumber}
 use Rattle.short_games.specs.Moves.{LeftMoves, RightMoves}
-use Rattle.short_games.proofs.OrderLaws.{le-in, le-trans, le-refl, size-left, size-right, size-pos, no_one-has}
+use Rattle.short_games.proofs.OrderLaws.{le-in, le-trans, le-refl, size-left, size-right, size-pos, none-or_some, le-or_not}
 use Rattle.short_games.proofs.SumLaws.{plus-le, plus-le_both, plus-comm, plus-assoc, left_of_sum, right_of_sum, InSum, nought}
 use Rattle.short_games.proofs.SumLaws.InSum.{in_first, in_second}
 use Rattle.short_games.proofs.NumberLaws.{num-left, num-right, num-le, num-lt, num-plus_le, num-le_plus, avoid-le, avoid-ge}
-use Rattle.short_games.proofs.CanonicalLaws.{some_one}
 use Rattle.short_games.proofs.ThresholdLaws.{scaled}
 
 -- each game lies between two integers
@@ -61,16 +60,16 @@ module _ (e : ℕ) (G : Tree) where
 
   search_up : (n : ℕ) (k : ℤ) → (G ≤ᵍ num e k → ⊥) → G ≤ᵍ num e (k +ℤ pos n) → Least
   search_up zero k a b = absurd (a (subst (λ z. G ≤ᵍ num e z) (omega (arith, ints)) b))
-  search_up (suc n) k a b = elim (cases_Bool (le G (num e (k +ℤ pos 1)))) [
+  search_up (suc n) k a b = elim (le-or_not G (num e (k +ℤ pos 1))) [
     | inl t ↦ record { at = k; over = t; not_over = a }
-    | inr f ↦ search_up n (k +ℤ pos 1) (λ y. true≢false (sym y ∙ f)) (subst (λ z. G ≤ᵍ num e z) (omega (arith, ints)) b)
+    | inr f ↦ search_up n (k +ℤ pos 1) f (subst (λ z. G ≤ᵍ num e z) (omega (arith, ints)) b)
   ]
 
   search_down : (n : ℕ) (k : ℤ) → num e k ≤ᵍ G → (num e (k +ℤ pos n) ≤ᵍ G → ⊥) → Greatest
   search_down zero k a b = absurd (b (subst (λ z. num e z ≤ᵍ G) (omega (arith, ints)) a))
-  search_down (suc n) k a b = elim (cases_Bool (le (num e (k +ℤ pos 1)) G)) [
+  search_down (suc n) k a b = elim (le-or_not (num e (k +ℤ pos 1)) G) [
     | inl t ↦ search_down n (k +ℤ pos 1) t (subst (λ z. num e z ≤ᵍ G → ⊥) (omega (arith, ints)) b)
-    | inr f ↦ record { at = k; under = a; not_under = λ y. true≢false (sym y ∙ f) }
+    | inr f ↦ record { at = k; under = a; not_under = f }
   ]
 
   -- so far apart
@@ -105,10 +104,10 @@ module _ (e : ℕ) (G : Tree) where
 
 -- a game that is no number loses next to nothing by some move
 pub cheap_left : (G : Tree) → (IsNumber G → ⊥) → (e : ℕ) (d : ℤ) → pos 0 <ℤ d → (L : Tree) × Has (left G) L × (G ≤ᵍ L +ᵍ num e d)
-cheap_left G no_number e d p = elim (cases_Bool (no_one (λ L. le (num e b.at) L) (left G))) [
-  | inl t ↦ absurd (b.not_over (avoid-le G no_number e b.at (λ L l y. no_one-has _ (left G) t L l y)))
+cheap_left G no_number e d p = elim (none-or_some (λ L. num e b.at ≤ᵍ L) (λ L. le-or_not (num e b.at) L) (left G)) [
+  | inl t ↦ absurd (b.not_over (avoid-le G no_number e b.at t))
   | inr f ↦ (
-      let r = some_one (λ L. le (num e b.at) L) (left G) f in (
+      let r = f in (
         r.0,
         r.1,
         le-trans _ _ _ b.over (le-trans _ _ _ (num-le_plus e b.at (pos 1)) (plus-le_both (num e b.at) r.0 (num e (pos 1)) (num e d) r.2 (num-le e (pos 1) d (omega (arith, ints, p))))),
@@ -120,10 +119,10 @@ cheap_left G no_number e d p = elim (cases_Bool (no_one (λ L. le (num e b.at) L
     b = least e G
 
 pub cheap_right : (G : Tree) → (IsNumber G → ⊥) → (e : ℕ) (d : ℤ) → pos 0 <ℤ d → (R : Tree) × Has (right G) R × (R ≤ᵍ G +ᵍ num e d)
-cheap_right G no_number e d p = elim (cases_Bool (no_one (λ R. le R (num e (b.at +ℤ pos 1))) (right G))) [
-  | inl t ↦ absurd (b.not_under (avoid-ge G no_number e (b.at +ℤ pos 1) (λ R r y. no_one-has _ (right G) t R r y)))
+cheap_right G no_number e d p = elim (none-or_some (λ R. R ≤ᵍ num e (b.at +ℤ pos 1)) (λ R. le-or_not R (num e (b.at +ℤ pos 1))) (right G)) [
+  | inl t ↦ absurd (b.not_under (avoid-ge G no_number e (b.at +ℤ pos 1) t))
   | inr f ↦ (
-      let r = some_one (λ R. le R (num e (b.at +ℤ pos 1))) (right G) f in (
+      let r = f in (
         r.0,
         r.1,
         le-trans _ _ _ r.2 (le-trans _ _ _ (num-le_plus e b.at (pos 1)) (plus-le_both (num e b.at) G (num e (pos 1)) (num e d) b.under (num-le e (pos 1) d (omega (arith, ints, p))))),

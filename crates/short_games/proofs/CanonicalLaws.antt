@@ -1,30 +1,11 @@
 -- Two canonical trees that are equal as games are one tree.
 use Rattle.std.proofs.Common.{ℕ, zero, suc, ◌+◌, ◌<◌, ◌≡◌, arith, refl, inl, inr, sym, ◌∙◌, ap₂, subst, Bool, true, false}
 use Rattle.std.proofs.lemmas.Bool.{true≢false, and_cases, false_from_ne_true, not-false}
-use Rattle.short_games.specs.Tree.{Tree, Trees, node, none, more, left, right, Has, size, no_one}
-use Rattle.short_games.specs.Order.{le, ◌≤ᵍ◌}
+use Rattle.short_games.specs.Tree.{Tree, Trees, node, none, more, left, right, Has, size}
+use Rattle.short_games.specs.Order.{◌≤ᵍ◌, by_left, by_right}
 use Rattle.short_games.specs.Canonical.{Ascends, IsReduced, IsCanonical, AreCanonical}
-use Rattle.short_games.proofs.OrderLaws.{le-out, le-trans, le-step, size-left, size-right}
+use Rattle.short_games.proofs.OrderLaws.{le-out, le-trans, not-le, size-left, size-right}
 use Rattle.short_games.proofs.SumLaws.{tree-same}
-
--- some tree of a list passes a test that not none passes
-pub some_one : (p : Tree → Bool) (Gs : Trees) → no_one p Gs ≡ false → (G : Tree) × Has Gs G × (p G ≡ true)
-some_one p none e = absurd (true≢false e)
-some_one p (more G Gs) e = elim (and_cases _ _ e) [
-  | inl f ↦ (G, inl refl, not-false (p G) f)
-  | inr f ↦ (let r = some_one p Gs f in (r.0, inr r.1, r.2))
-]
-
--- where G is not at most H, an option shows it
-pub data Witness (G H : Tree) : Type 0 where
-  by_left : (L : Tree) → Has (left G) L → H ≤ᵍ L → Witness G H
-  by_right : (R : Tree) → Has (right H) R → R ≤ᵍ G → Witness G H
-
-pub not-le : (G H : Tree) → (G ≤ᵍ H → ⊥) → Witness G H
-not-le G H h = elim (and_cases (no_one (λ L. le H L) (left G)) (no_one (λ R. le R G) (right H)) (sym (le-step G H) ∙ false_from_ne_true (le G H) h)) [
-  | inl f ↦ (let r = some_one (λ L. le H L) (left G) f in by_left r.0 r.1 r.2)
-  | inr f ↦ (let r = some_one (λ R. le R G) (right H) f in by_right r.0 r.1 r.2)
-]
 
 module _ (Before : Tree → Tree → Type 0) (irreflexive : (G : Tree) → Before G G → ⊥) (transitive : (G H K : Tree) → Before G H → Before H K → Before G K) where
   pub canonical-at : (Gs : Trees) (G : Tree) → AreCanonical Before Gs → Has Gs G → IsCanonical Before G

@@ -1,66 +1,62 @@
--- Small canonical trees.
-use Rattle.std.proofs.Common.{◌≡◌, inl, inr, refl, sym, ◌∙◌, subst, pos, arith}
+-- Small games: canonical by the test, and which of them are numbers.
+use Rattle.std.proofs.Common.{ℕ, ◌≡◌, inl, inr, refl, sym, ◌∙◌, subst, ℤ, pos, arith}
 use Rattle.std.proofs.lemmas.Int.{ints}
-use Rattle.std.proofs.lemmas.Bool.{false≢true}
 use Rattle.short_games.specs.Tree.{Tree, node, none, more, left, right, Has, size}
-use Rattle.short_games.specs.Order.{le, le_within, ◌≤ᵍ◌}
-use Rattle.short_games.specs.Number.{num, whole, count_tree, IsNumberTree}
-use Rattle.short_games.specs.TextOrder.{IsCanonicalTree}
+use Rattle.short_games.specs.Order.{◌≤ᵍ◌}
+use Rattle.short_games.specs.Number.{num, whole, count_tree, half, is_even, IsNumberTree}
+use Rattle.short_games.specs.NumberText.{same, guess, number_of, number_text, digits_within}
+use Rattle.short_games.specs.Text.{text}
+use Rattle.short_games.specs.TextOrder.{tree_text, lesser_text, text_before, IsCanonicalTree}
+use Rattle.short_games.specs.Examples.{choice, zero, one, two, minus_two, star, up, switch, tiny, star_two}
 use Rattle.short_games.proofs.NumberLaws.{num-left, num-right, num-lt, num-zero}
-use Rattle.short_games.proofs.ReductionLaws.{number-canonical}
-use Rattle.short_games.specs.Examples.{choice, star}
+use Rattle.short_games.proofs.OrderLaws.{no_one, le, le_within, from-test}
+use Rattle.short_games.proofs.CanonicalTest.{canonical_test, reduced_test, kept_test, ascends_test, free_test, by_canonical_test}
 
--- a choice is canonical where no option can be answered
-choice-canonical : (L R : Tree) → IsCanonicalTree L → IsCanonicalTree R → ((X : Tree) → Has (right L) X → X ≤ᵍ choice L R → ⊥) → ((X : Tree) → Has (left R) X → choice L R ≤ᵍ X → ⊥) → IsCanonicalTree (choice L R)
-choice-canonical L R c d f g = (
-  record {
-    left_free = λ A B a b _. one L A a ∙ sym (one L B b);
-    right_free = λ A B a b _. one R A a ∙ sym (one R B b);
-    left_kept = λ A X a x y. f X (subst (λ t. Has (right t) X) (one L A a) x) y;
-    right_kept = λ A X a x y. g X (subst (λ t. Has (left t) X) (one R A a) x) y;
-    left_ascends = tt;
-    right_ascends = tt;
-  },
-  (c, tt),
-  (d, tt),
-)
-  where
-    one : (G A : Tree) → Has (more G none) A → A ≡ G
-    one G A (inl e) = e
-    one G A (inr h) = absurd h
-
--- a choice whose Right option is at most the Left one is no number
-choice-no_number : (L R : Tree) → R ≤ᵍ L → IsNumberTree (choice L R) → ⊥
-choice-no_number L R y n =
-    let l = num-left n.0 n.1 L (subst (λ t. Has (left t) L) n.2 (inl refl)) in
-    let r = num-right n.0 n.1 R (subst (λ t. Has (right t) R) n.2 (inl refl)) in
+-- a tree with a Right option that is at most a Left one is no number's
+pub option-no_number : (G L R : Tree) → Has (left G) L → Has (right G) R → R ≤ᵍ L → IsNumberTree G → ⊥
+option-no_number G L R a b y n =
+    let l = num-left n.0 n.1 L (subst (λ t. Has (left t) L) n.2 a) in
+    let r = num-right n.0 n.1 R (subst (λ t. Has (right t) R) n.2 b) in
     num-lt n.0 l.0 r.0 (omega (arith, ints, l.1, r.1)) (subst (λ t. t ≤ᵍ num n.0 l.0) r.2 (subst (λ t. R ≤ᵍ t) l.2 y))
 
-choice-right : (L R : Tree) → (IsNumberTree R → ⊥) → IsNumberTree (choice L R) → ⊥
-choice-right L R f n = let r = num-right n.0 n.1 R (subst (λ t. Has (right t) R) n.2 (inl refl)) in f (n.0, r.0, r.2)
+-- and so is one with an option that is no number's
+pub right-no_number : (G R : Tree) → Has (right G) R → (IsNumberTree R → ⊥) → IsNumberTree G → ⊥
+right-no_number G R b f n = let r = num-right n.0 n.1 R (subst (λ t. Has (right t) R) n.2 b) in f (n.0, r.0, r.2)
 
 pub star-canonical : IsCanonicalTree star
-unfolding num whole count_tree
-star-canonical = choice-canonical (node none none) (node none none) (number-canonical 0 (pos 0)) (number-canonical 0 (pos 0)) (λ X h. absurd h) (λ X h. absurd h)
+unfolding canonical_test reduced_test kept_test ascends_test free_test le le_within size same text_before lesser_text tree_text text number_of guess num whole count_tree digits_within
+star-canonical = by_canonical_test star refl
 
 pub star-no_number : IsNumberTree star → ⊥
 unfolding le le_within size
-star-no_number = choice-no_number (node none none) (node none none) refl
+star-no_number = option-no_number star zero zero (inl refl) (inl refl) (from-test zero zero refl)
 
 pub up-canonical : IsCanonicalTree (choice (num 0 (pos 0)) star)
-unfolding num whole count_tree le le_within size
-up-canonical = choice-canonical (num 0 (pos 0)) star (number-canonical 0 (pos 0)) star-canonical (λ X h. absurd h) (λ X h y. elim h [ inl e ↦ false≢true (subst (λ t. choice (num 0 (pos 0)) star ≤ᵍ t) e y) | inr a ↦ absurd a ])
+unfolding canonical_test reduced_test kept_test ascends_test free_test le le_within size same text_before lesser_text tree_text text number_of guess num whole count_tree digits_within
+up-canonical = by_canonical_test up refl
 
 pub up-no_number : IsNumberTree (choice (num 0 (pos 0)) star) → ⊥
-up-no_number = choice-right (num 0 (pos 0)) star star-no_number
+up-no_number = right-no_number (choice (num 0 (pos 0)) star) star (inl refl) star-no_number
 
 pub one_or_star-canonical : IsCanonicalTree (choice (num 0 (pos 1)) star)
-unfolding num whole count_tree le le_within size
-one_or_star-canonical = choice-canonical (num 0 (pos 1)) star (number-canonical 0 (pos 1)) star-canonical (λ X h. absurd h) (λ X h y. elim h [ inl e ↦ false≢true (subst (λ t. choice (num 0 (pos 1)) star ≤ᵍ t) e y) | inr a ↦ absurd a ])
+unfolding canonical_test reduced_test kept_test ascends_test free_test le le_within size same text_before lesser_text tree_text text number_of guess num whole count_tree digits_within
+one_or_star-canonical = by_canonical_test (choice one star) refl
 
 pub one_or_star-no_number : IsNumberTree (choice (num 0 (pos 1)) star) → ⊥
 unfolding num whole count_tree le le_within size
-one_or_star-no_number = choice-no_number (num 0 (pos 1)) star refl
+one_or_star-no_number = option-no_number (choice (num 0 (pos 1)) star) (num 0 (pos 1)) star (inl refl) (inl refl) (from-test star one refl)
+
+pub switch-canonical : IsCanonicalTree switch
+unfolding canonical_test reduced_test kept_test ascends_test free_test le le_within size same text_before lesser_text tree_text text number_of guess num whole count_tree digits_within
+switch-canonical = by_canonical_test switch refl
+
+pub tiny-canonical : IsCanonicalTree tiny
+unfolding canonical_test reduced_test kept_test ascends_test free_test le le_within size same text_before lesser_text tree_text text number_of guess num whole count_tree digits_within
+tiny-canonical = by_canonical_test tiny refl
+
+pub star_two-canonical : IsCanonicalTree star_two
+unfolding canonical_test reduced_test kept_test ascends_test free_test le le_within size same text_before lesser_text tree_text text number_of guess num whole count_tree digits_within
+star_two-canonical = by_canonical_test star_two refl
 
 pub zero-tree : (T : Tree) → T ≡ num 0 (pos 0) → T ≡ node none none
 zero-tree T e = e ∙ num-zero 0

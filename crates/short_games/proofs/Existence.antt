@@ -1,14 +1,14 @@
 -- Each tree has a canonical tree that is equal to it, where the order of texts is total.
 use Rattle.std.proofs.Common.{ℕ, zero, suc, ◌+◌, ◌<◌, ◌≤◌, ◌≡◌, ◌⊎◌, arith, refl, inl, inr, sym, cond, ◌∙◌, subst, true, false, Bool}
 use Rattle.std.proofs.lemmas.Bool.{cases_Bool, true≢false}
-use Rattle.short_games.specs.Tree.{Tree, Trees, node, none, more, left, right, Has, size, sizes, no_one, ◌then◌}
-use Rattle.short_games.specs.Order.{le, ◌≤ᵍ◌}
+use Rattle.short_games.specs.Tree.{Tree, Trees, node, none, more, left, right, Has, size, sizes, ◌then◌}
+use Rattle.short_games.specs.Order.{◌≤ᵍ◌}
 use Rattle.short_games.specs.Canonical.{Ascends, IsCanonical, AreCanonical}
 use Rattle.short_games.specs.Parts.{IsFollower, IsOption}
 use Rattle.short_games.specs.Parts.IsFollower.{itself, further}
-use Rattle.short_games.proofs.OrderLaws.{le-out, le-in, le-refl, le-trans, size-left, size-right, size-node, no_one-has}
+use Rattle.short_games.proofs.OrderLaws.{no_one, no_one-has, some_one, le, from-test, to-test, le-out, le-in, le-refl, le-trans, size-left, size-right, size-node}
 use Rattle.short_games.proofs.SumLaws.{not_le_left, not_right_le, then-has, has-then_left, has-then_right}
-use Rattle.short_games.proofs.CanonicalLaws.{some_one}
+use Rattle.short_games.proofs.PartLaws.{follower-trans}
 use Rattle.short_games.proofs.FormLaws.{by_better, all-canonical}
 
 -- for one side: `near` has a side's options, `far` the other side's, and ans G R says that R is a good enough answer in G
@@ -232,16 +232,16 @@ module _ (Before : Tree → Tree → Type 0) (total : (G H : Tree) → Before G 
     le-in (node Ms rs) (node ls rs) record { from_left = λ X x y. at' X (b.from X x) y; from_right = λ X x y. not_right_le (node Ms rs) X x y },
   )
     where
-      at : (X : Tree) → Has Ms X ⊎ ((R : Tree) × Has (right X) R × (R ≤ᵍ node ls rs) × ((Y : Tree) → Has (left R) Y → Has Ms Y)) → node Ms rs ≤ᵍ X → ⊥
+      at : (X : Tree) → Has Ms X ⊎ ((R : Tree) × Has (right X) R × (le R (node ls rs) ≡ true) × ((Y : Tree) → Has (left R) Y → Has Ms Y)) → node Ms rs ≤ᵍ X → ⊥
       at X (inl h) y = not_le_left (node Ms rs) X h y
       at X (inr w) y = (le-out (node Ms rs) X y).from_right w.0 w.1 (le-in w.0 (node Ms rs) record {
         from_left = λ Y h z. not_le_left (node Ms rs) Y (w.3 Y h) z;
-        from_right = λ Y h z. not_right_le (node ls rs) Y h (le-trans Y w.0 (node ls rs) z w.2);
+        from_right = λ Y h z. not_right_le (node ls rs) Y h (le-trans Y w.0 (node ls rs) z (from-test w.0 (node ls rs) w.2));
       })
 
-      at' : (X : Tree) → Has ls X ⊎ ((R : Tree) × (R ≤ᵍ node ls rs) × Has (left R) X) → node ls rs ≤ᵍ X → ⊥
+      at' : (X : Tree) → Has ls X ⊎ ((R : Tree) × (le R (node ls rs) ≡ true) × Has (left R) X) → node ls rs ≤ᵍ X → ⊥
       at' X (inl h) y = not_le_left (node ls rs) X h y
-      at' X (inr w) y = not_le_left w.0 X w.2 (le-trans w.0 (node ls rs) X w.1 y)
+      at' X (inr w) y = not_le_left w.0 X w.2 (le-trans w.0 (node ls rs) X (from-test w.0 (node ls rs) w.1) y)
 
   bypass-equal_right : (ls rs Ms : Trees) → ByRight (node ls rs) rs Ms → (node ls rs ≤ᵍ node ls Ms) × (node ls Ms ≤ᵍ node ls rs)
   bypass-equal_right ls rs Ms b = (
@@ -249,16 +249,16 @@ module _ (Before : Tree → Tree → Type 0) (total : (G H : Tree) → Before G 
     le-in (node ls Ms) (node ls rs) record { from_left = λ X x y. not_le_left (node ls rs) X x y; from_right = λ X x y. at X (b.kept X x) y },
   )
     where
-      at : (X : Tree) → Has Ms X ⊎ ((L : Tree) × Has (left X) L × (node ls rs ≤ᵍ L) × ((Y : Tree) → Has (right L) Y → Has Ms Y)) → X ≤ᵍ node ls Ms → ⊥
+      at : (X : Tree) → Has Ms X ⊎ ((L : Tree) × Has (left X) L × (le (node ls rs) L ≡ true) × ((Y : Tree) → Has (right L) Y → Has Ms Y)) → X ≤ᵍ node ls Ms → ⊥
       at X (inl h) y = not_right_le (node ls Ms) X h y
       at X (inr w) y = (le-out X (node ls Ms) y).from_left w.0 w.1 (le-in (node ls Ms) w.0 record {
-        from_left = λ Y h z. not_le_left (node ls rs) Y h (le-trans (node ls rs) w.0 Y w.2 z);
+        from_left = λ Y h z. not_le_left (node ls rs) Y h (le-trans (node ls rs) w.0 Y (from-test (node ls rs) w.0 w.2) z);
         from_right = λ Y h z. not_right_le (node ls Ms) Y (w.3 Y h) z;
       })
 
-      at' : (X : Tree) → Has rs X ⊎ ((L : Tree) × (node ls rs ≤ᵍ L) × Has (right L) X) → X ≤ᵍ node ls rs → ⊥
+      at' : (X : Tree) → Has rs X ⊎ ((L : Tree) × (le (node ls rs) L ≡ true) × Has (right L) X) → X ≤ᵍ node ls rs → ⊥
       at' X (inl h) y = not_right_le (node ls rs) X h y
-      at' X (inr w) y = not_right_le w.0 X w.2 (le-trans X (node ls rs) w.0 y w.1)
+      at' X (inr w) y = not_right_le w.0 X w.2 (le-trans X (node ls rs) w.0 y (from-test (node ls rs) w.0 w.1))
 
   -- a canonical tree that is equal to G
   pub record Canon (G : Tree) : Type 0 where
@@ -276,21 +276,24 @@ module _ (Before : Tree → Tree → Type 0) (total : (G H : Tree) → Before G 
     pub canon : Canon G
     pub below : AreBelow G canon.tree
 
-  -- where no option can be answered: the greatest Left options and the least Right ones, sorted
-  above-left : Tree → Tree → Bool
-  above-left A B = le A B
+  test-refl : (G : Tree) → le G G ≡ true
+  test-refl G = to-test G G (le-refl G)
 
+  test-trans : (G H K : Tree) → le G H ≡ true → le H K ≡ true → le G K ≡ true
+  test-trans G H K p q = to-test G K (le-trans G H K (from-test G H p) (from-test H K q))
+
+  -- where no option can be answered: the greatest Left options and the least Right ones, sorted
   finish : (ls rs : Trees) → AreCanonical Before ls → AreCanonical Before rs → ((X R : Tree) → Has ls X → Has (right X) R → R ≤ᵍ node ls rs → ⊥) → ((X L : Tree) → Has rs X → Has (left X) L → node ls rs ≤ᵍ L → ⊥) → CanonBelow (node ls rs)
   finish ls rs c d no_left no_right = record {
     canon = record { tree = node lefts.0 rights.0; canonical = canonical; under = under; over = over };
     below = λ X h. (X, elim h [ inl l ↦ inl (most.1.among X (lefts.1.to X l)) | inr r ↦ inr (least.1.among X (rights.1.to X r)) ], itself X);
   }
     where
-      most : (Ms : Trees) × Greatest le le-refl le-trans ls Ms
-      most = greatest le le-refl le-trans ls
+      most : (Ms : Trees) × Greatest le test-refl test-trans ls Ms
+      most = greatest le test-refl test-trans ls
 
-      least : (Ms : Trees) × Greatest (λ A B. le B A) le-refl (λ A B C p q. le-trans C B A q p) rs Ms
-      least = greatest (λ A B. le B A) le-refl (λ A B C p q. le-trans C B A q p) rs
+      least : (Ms : Trees) × Greatest (λ A B. le B A) test-refl (λ A B C p q. test-trans C B A q p) rs Ms
+      least = greatest (λ A B. le B A) test-refl (λ A B C p q. test-trans C B A q p) rs
 
       lefts : (Hs : Trees) × Sorted most.0 Hs
       lefts = sort most.0
@@ -300,19 +303,19 @@ module _ (Before : Tree → Tree → Type 0) (total : (G H : Tree) → Before G 
 
       under : node ls rs ≤ᵍ node lefts.0 rights.0
       under = by_better (node ls rs) (node lefts.0 rights.0)
-          (λ L l. (let y = most.1.covers L l in (y.0, lefts.1.from y.0 y.1, y.2)))
+          (λ L l. (let y = most.1.covers L l in (y.0, lefts.1.from y.0 y.1, from-test L y.0 y.2)))
           (λ S s. (S, least.1.among S (rights.1.to S s), le-refl S))
 
       over : node lefts.0 rights.0 ≤ᵍ node ls rs
       over = by_better (node lefts.0 rights.0) (node ls rs)
           (λ L l. (L, most.1.among L (lefts.1.to L l), le-refl L))
-          (λ S s. (let y = least.1.covers S s in (y.0, rights.1.from y.0 y.1, y.2)))
+          (λ S s. (let y = least.1.covers S s in (y.0, rights.1.from y.0 y.1, from-test y.0 S y.2)))
 
       canonical : IsCanonical Before (node lefts.0 rights.0)
       canonical = (
         record {
-          left_free = λ A B a b l. most.1.free A B (lefts.1.to A a) (lefts.1.to B b) l;
-          right_free = λ A B a b l. sym (least.1.free B A (rights.1.to B b) (rights.1.to A a) l);
+          left_free = λ A B a b l. most.1.free A B (lefts.1.to A a) (lefts.1.to B b) (to-test A B l);
+          right_free = λ A B a b l. sym (least.1.free B A (rights.1.to B b) (rights.1.to A a) (to-test A B l));
           left_kept = λ L R l r y. no_left L R (most.1.among L (lefts.1.to L l)) r (le-trans R (node lefts.0 rights.0) (node ls rs) y over);
           right_kept = λ R L r l y. no_right R L (least.1.among R (rights.1.to R r)) l (le-trans (node ls rs) (node lefts.0 rights.0) L under y);
           left_ascends = lefts.1.ascends;
@@ -325,16 +328,11 @@ module _ (Before : Tree → Tree → Type 0) (total : (G H : Tree) → Before G 
   along : (G H : Tree) → (G ≤ᵍ H) × (H ≤ᵍ G) → Canon H → Canon G
   along G H e c = record { tree = c.tree; canonical = c.canonical; under = le-trans G H c.tree e.0 c.under; over = le-trans c.tree H G c.over e.1 }
 
-  -- a follower of a follower
-  deeper : (L M X : Tree) → IsFollower L M → IsFollower M X → IsFollower L X
-  deeper L M X (itself _) g = g
-  deeper L M X (further _ H _ o f) g = further L H X o (deeper H M X f g)
-
   along_below : (G H : Tree) → (G ≤ᵍ H) × (H ≤ᵍ G) → AreBelow G H → CanonBelow H → CanonBelow G
   unfolding along
   along_below G H e b c = record {
     canon = along G H e c.canon;
-    below = λ X h. let w = c.below X h in let v = b w.0 w.1 in (v.0, v.1, deeper v.0 w.0 X v.2 w.2);
+    below = λ X h. let w = c.below X h in let v = b w.0 w.1 in (v.0, v.1, follower-trans v.0 w.0 X v.2 w.2);
   }
 
   Canons : ℕ → Type 0
@@ -350,7 +348,7 @@ module _ (Before : Tree → Tree → Type 0) (total : (G H : Tree) → Before G 
         | inl l ↦ along_below _ _ (bypass-equal_right ls rs r.0 r.1)
             (λ X h. elim h [ inl x ↦ (X, inl x, itself X) | inr y ↦ (let w = r.1.under X y in (w.0, inr w.1, w.2)) ])
             (ih ls r.0 (omega (arith, l, a)) c r.1.canonical)
-        | inr g ↦ finish ls rs c d f (λ X L x l y. g X x (L, l, y))
+        | inr g ↦ finish ls rs c d f (λ X L x l y. g X x (L, l, to-test (node ls rs) L y))
       ]
 
       by_left : (Ms : Trees) × ByLeft (node ls rs) ls Ms → CanonBelow (node ls rs)
@@ -358,7 +356,7 @@ module _ (Before : Tree → Tree → Type 0) (total : (G H : Tree) → Before G 
         | inl l ↦ along_below _ _ (bypass-equal ls rs r.0 r.1)
             (λ X h. elim h [ inl x ↦ (let w = r.1.under X x in (w.0, inl w.1, w.2)) | inr y ↦ (X, inr y, itself X) ])
             (ih r.0 rs (omega (arith, l, a)) r.1.canonical d)
-        | inr f ↦ by_right (λ X R x r y. f X x (R, r, y)) (bypass Before right left (λ G L. le G L) right-size size-left right-canonical (λ G L c h. at-canonical (left G) L (left-canonical G c) h) (λ G X h. inr h) (λ G X h. inl h) (node ls rs) rs d)
+        | inr f ↦ by_right (λ X R x r y. f X x (R, r, to-test R (node ls rs) y)) (bypass Before right left (λ G L. le G L) right-size size-left right-canonical (λ G L c h. at-canonical (left G) L (left-canonical G c) h) (λ G X h. inr h) (λ G X h. inl h) (node ls rs) rs d)
       ]
 
   rounds : (n : ℕ) → Canons n

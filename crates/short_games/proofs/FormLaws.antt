@@ -3,16 +3,15 @@ use Rattle.std.proofs.Common.{ℕ, zero, suc, ◌<◌, ◌≡◌, ◌⊎◌, ari
 use Rattle.std.proofs.lemmas.Int.{ints}
 use Rattle.std.proofs.lemmas.Bool.{cases_Bool, true≢false}
 use Rattle.short_games.specs.Tree.{Tree, Trees, node, none, more, left, right, Has, size, neg, neg_each}
-use Rattle.short_games.specs.Order.{le, ◌≤ᵍ◌}
+use Rattle.short_games.specs.Order.{◌≤ᵍ◌, by_left, by_right}
 use Rattle.short_games.specs.Sum.{◌+ᵍ◌, each_plus}
 use Rattle.short_games.specs.Number.{num, IsNumber, half, is_even, whole, count_tree}
 use Rattle.short_games.specs.Canonical.{Ascends, IsReduced, IsCanonical, AreCanonical}
-use Rattle.short_games.proofs.OrderLaws.{le-out, le-in, le-refl, le-trans, size-left, size-right}
+use Rattle.short_games.proofs.OrderLaws.{le-out, le-in, le-refl, le-trans, size-left, size-right, not-le, le-or_not}
 use Rattle.short_games.proofs.SumLaws.{plus-le, plus-le_both, plus-comm, plus-assoc, plus-cancel, left_of_sum, right_of_sum, left_in_first, right_in_first, InSum, nought, has-each_plus, each_plus-has, plus-neg, plus-nought, nought-plus, not_le_left, not_right_le, neg-neg, neg-left, neg-right, has-neg_each}
 use Rattle.short_games.proofs.SumLaws.InSum.{in_first, in_second}
 use Rattle.short_games.proofs.NumberLaws.{num-left, num-right, num-le, num-lt, num-double, num-even, num-odd, num-plus_le, half-even, half-odd, neg-num}
-use Rattle.short_games.proofs.CanonicalLaws.{canonical-unique, not-le}
-use Rattle.short_games.proofs.CanonicalLaws.Witness.{by_left, by_right}
+use Rattle.short_games.proofs.CanonicalLaws.{canonical-unique}
 
 -- a game whose Left options are each at most one of another's, and the other way round on the right
 pub by_better : (G H : Tree) → ((L : Tree) → Has (left G) L → (M : Tree) × Has (left H) M × (L ≤ᵍ M)) → ((S : Tree) → Has (right H) S → (R : Tree) × Has (right G) R × (R ≤ᵍ S)) → G ≤ᵍ H
@@ -54,7 +53,7 @@ reversed-left G H L R v = (
 -- a game with a number between its options is a number
 number_step : (n : ℕ) (G : Tree) → ((e : ℕ) (z : ℤ) → size (num e z) < n → ((L : Tree) → Has (left G) L → num e z ≤ᵍ L → ⊥) → ((R : Tree) → Has (right G) R → R ≤ᵍ num e z → ⊥) → IsNumber G)
     → (e : ℕ) (z : ℤ) → size (num e z) < suc n → ((L : Tree) → Has (left G) L → num e z ≤ᵍ L → ⊥) → ((R : Tree) → Has (right G) R → R ≤ᵍ num e z → ⊥) → IsNumber G
-number_step n G ih e z a f g = by_tests (le G (num e z)) refl (le (num e z) G) refl
+number_step n G ih e z a f g = by_tests (le-or_not G (num e z)) (le-or_not (num e z) G)
   where
     higher : (G ≤ᵍ num e z → ⊥) → IsNumber G
     higher h = elim (not-le G (num e z) h) [
@@ -74,10 +73,10 @@ number_step n G ih e z a f g = by_tests (le G (num e z)) refl (le (num e z) G) r
       | by_right R r y ↦ absurd (g R r y)
     ]
 
-    by_tests : (b : Bool) → le G (num e z) ≡ b → (c : Bool) → le (num e z) G ≡ c → IsNumber G
-    by_tests true p true q = (e, z, p, q)
-    by_tests false p c q = higher (λ h. true≢false (sym h ∙ p))
-    by_tests true p false q = lower (λ h. true≢false (sym h ∙ q))
+    by_tests : (G ≤ᵍ num e z) ⊎ (G ≤ᵍ num e z → ⊥) → (num e z ≤ᵍ G) ⊎ (num e z ≤ᵍ G → ⊥) → IsNumber G
+    by_tests (inl p) (inl q) = (e, z, p, q)
+    by_tests (inr h) c = higher h
+    by_tests (inl p) (inr h) = lower h
 
 number_within : (n : ℕ) (G : Tree) (e : ℕ) (z : ℤ) → size (num e z) < n → ((L : Tree) → Has (left G) L → num e z ≤ᵍ L → ⊥) → ((R : Tree) → Has (right G) R → R ≤ᵍ num e z → ⊥) → IsNumber G
 number_within zero G e z a f g = absurd (omega arith)

@@ -12,9 +12,12 @@ pub mod TextOrderLaws
 pub mod ReductionLaws
 pub mod StopLaws
 pub mod AvoidanceLaws
+pub mod SimplestLaws
 pub mod Avoidance
 pub mod IncentiveLaws
+pub mod CanonicalTest
 pub mod Examples
+pub mod KnownLaws
 pub mod WallLines
 pub mod WallGreatest
 pub mod WallNumbers
@@ -26,3 +29,4 @@ pub mod WallBeginnings
 pub mod WallExistence
 pub mod WallMeetings
 pub mod WallBetween
+pub mod WallRule

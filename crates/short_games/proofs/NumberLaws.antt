@@ -1,3 +1,4 @@
+-- Numbers: their options, their order, their sums, and games that are none.
 use Rattle.std.proofs.Common.{ℕ, zero, suc, ◌+◌, ◌<◌, ◌≡◌, arith, refl, inl, inr, sym, ◌∙◌, ap, ℤ, pos, negsuc, ◌+ℤ◌, ◌≤ℤ◌, ◌<ℤ◌, neg_ℤ, true, false}
 use Rattle.std.proofs.lemmas.Bool.{eqb-true, eqb-false, true_from_ne_false, false_from_ne_true, cases_Bool}
 use Rattle.short_games.specs.Tree.{Tree, node, none, more, left, right, Has, size, neg}

@@ -1,8 +1,8 @@
--- The order is as its definition tells, reflexive and transitive.
-use Rattle.std.proofs.Common.{ℕ, zero, suc, ◌+◌, ◌<◌, ◌≤◌, ◌≡◌, Bool, true, ◌&&◌, arith, refl, inl, inr, sym, ◌∙◌, ap₂, subst}
-use Rattle.std.proofs.lemmas.Bool.{and_parts, and_from, both_ways, not-true, not_from_false, false_from_ne_true}
-use Rattle.short_games.specs.Tree.{Tree, Trees, node, none, more, left, right, Has, no_one, size, sizes}
-use Rattle.short_games.specs.Order.{◌≡ᵍ◌, le, le_within, ◌≤ᵍ◌, NoneBeats}
+-- The order has a test, is as the book tells, reflexive and transitive.
+use Rattle.std.proofs.Common.{ℕ, zero, suc, ◌+◌, ◌<◌, ◌≤◌, ◌≡◌, ◌⊎◌, Bool, true, false, ◌&&◌, not, arith, refl, inl, inr, sym, ◌∙◌, ap₂, subst}
+use Rattle.std.proofs.lemmas.Bool.{and_parts, and_cases, both_ways, cases_Bool, not-true, not-false, false_from_ne_true, true≢false}
+use Rattle.short_games.specs.Tree.{Tree, Trees, node, none, more, left, right, Has, size, sizes}
+use Rattle.short_games.specs.Order.{◌≤ᵍ◌, ◌⧏ᵍ◌, ◌≡ᵍ◌, at_most, by_left, by_right, NoneBeats}
 
 pub size-node : (ls rs : Trees) → size (node ls rs) ≡ suc (sizes ls + sizes rs)
 unfolding size
@@ -20,10 +20,13 @@ size-left (node ls rs) GL h = omega (arith, size-node ls rs, sizes-has ls GL h)
 pub size-right : (G GR : Tree) → Has (right G) GR → size GR < size G
 size-right (node ls rs) GR h = omega (arith, size-node ls rs, sizes-has rs GR h)
 
--- tests that agree on the list
-pub no_one-same : (p q : Tree → Bool) (Gs : Trees) → ((G : Tree) → Has Gs G → p G ≡ q G) → no_one p Gs ≡ no_one q Gs
-no_one-same p q none h = refl
-no_one-same p q (more G Gs) h = rw (h G (inl refl), no_one-same p q Gs (λ K k. h K (inr k)))
+pub size-pos : (G : Tree) → 0 < size G
+size-pos (node ls rs) = omega (arith, size-node ls rs)
+
+-- no tree of the list passes the test
+abbrev pub no_one : (Tree → Bool) → Trees → Bool
+no_one test none = true
+no_one test (more H Hs) = not (test H) && no_one test Hs
 
 -- no tree of the list passes the test, as a test and as a fact
 pub no_one-has : (p : Tree → Bool) (Gs : Trees) → no_one p Gs ≡ true → (G : Tree) → Has Gs G → p G ≡ true → ⊥
@@ -31,40 +34,84 @@ no_one-has p none e G h = elim h [ ]
 no_one-has p (more H Hs) e G (inl i) = λ y. both_ways _ (not-true _ (and_parts _ _ e).0) (rw i at y)
 no_one-has p (more H Hs) e G (inr h) = no_one-has p Hs (and_parts _ _ e).1 G h
 
-pub no_one-from : (p : Tree → Bool) (Gs : Trees) → ((G : Tree) → Has Gs G → p G ≡ true → ⊥) → no_one p Gs ≡ true
-no_one-from p none h = refl
-no_one-from p (more G Gs) h = and_from _ _ (not_from_false _ (false_from_ne_true _ (h G (inl refl)))) (no_one-from p Gs (λ K k. h K (inr k)))
+pub none-passes : (p : Tree → Bool) (Gs : Trees) → no_one p Gs ≡ true → (G : Tree) → Has Gs G → p G ≡ false
+none-passes p Gs e G h = false_from_ne_true (p G) (no_one-has p Gs e G h)
 
-pub size-pos : (G : Tree) → 0 < size G
-size-pos (node ls rs) = omega (arith, size-node ls rs)
+-- some tree of a list passes a test that not none passes
+pub some_one : (p : Tree → Bool) (Gs : Trees) → no_one p Gs ≡ false → (G : Tree) × Has Gs G × (p G ≡ true)
+some_one p none e = absurd (true≢false e)
+some_one p (more G Gs) e = elim (and_cases _ _ e) [
+  | inl f ↦ (G, inl refl, not-false (p G) f)
+  | inr f ↦ (let r = some_one p Gs f in (r.0, inr r.1, r.2))
+]
 
--- enough steps are as good as more
-pub le_within-more : (n m : ℕ) (G H : Tree) → size G + size H ≤ n → size G + size H ≤ m → le_within n G H ≡ le_within m G H
-unfolding le_within
-le_within-more zero m G H a b = absurd (omega (arith, size-pos G))
-le_within-more (suc n) zero G H a b = absurd (omega (arith, size-pos G))
-le_within-more (suc n) (suc m) G H a b = ap₂ ◌&&◌
-    (no_one-same _ _ (left G) (λ K k. le_within-more n m H K (omega (arith, size-left G K k)) (omega (arith, size-left G K k))))
-    (no_one-same _ _ (right H) (λ K k. le_within-more n m K G (omega (arith, size-right H K k)) (omega (arith, size-right H K k))))
+-- A test for the order. Each step goes to an option of one of the two, so as many steps as the two have nodes are enough
+unfoldable pub le_within : ℕ → Tree → Tree → Bool
+le_within zero G H = true
+le_within (suc n) G H = no_one (λ GL. le_within n H GL) (left G) && no_one (λ HR. le_within n HR G) (right H)
 
--- the order by its own values at the options
-pub le-step : (G H : Tree) → le G H ≡ (no_one (λ GL. le H GL) (left G) && no_one (λ HR. le HR G) (right H))
-unfolding le le_within
-le-step G H = le_within-more (size G + size H) (suc (size G + size H)) G H (omega arith) (omega arith) ∙ step
-  where
-    step : le_within (suc (size G + size H)) G H ≡ (no_one (λ GL. le H GL) (left G) && no_one (λ HR. le HR G) (right H))
-    step = ap₂ ◌&&◌
-        (no_one-same _ _ (left G) (λ K k. le_within-more (size G + size H) (size H + size K) H K (omega (arith, size-left G K k)) (omega arith)))
-        (no_one-same _ _ (right H) (λ K k. le_within-more (size G + size H) (size K + size G) K G (omega (arith, size-right H K k)) (omega arith)))
+unfoldable pub le : Tree → Tree → Bool
+le G H = le_within (size G + size H) G H
+
+mutual
+  unfolding le_within
+  true_within : (n : ℕ) (G H : Tree) → size G + size H ≤ n → le_within n G H ≡ true → G ≤ᵍ H
+  true_within zero G H a e = absurd (omega (arith, a, size-pos G))
+  true_within (suc n) G H a e = let both = and_parts _ _ e in
+      at_most (λ L l. false_within n H L (omega (arith, a, size-left G L l)) (none-passes (λ GL. le_within n H GL) (left G) both.0 L l)) (λ R r. false_within n R G (omega (arith, a, size-right H R r)) (none-passes (λ HR. le_within n HR G) (right H) both.1 R r))
+
+  false_within : (n : ℕ) (G H : Tree) → size G + size H ≤ n → le_within n G H ≡ false → H ⧏ᵍ G
+  false_within zero G H a e = absurd (true≢false e)
+  false_within (suc n) G H a e = elim (and_cases _ _ e) [
+    | inl f ↦ (let r = some_one (λ GL. le_within n H GL) (left G) f in by_left r.0 r.1 (true_within n H r.0 (omega (arith, a, size-left G r.0 r.1)) r.2))
+    | inr f ↦ (let r = some_one (λ HR. le_within n HR G) (right H) f in by_right r.0 r.1 (true_within n r.0 G (omega (arith, a, size-right H r.0 r.1)) r.2))
+  ]
+
+-- a game that is less or confused isn't at least
+apart_within : (n : ℕ) (G H : Tree) → size G + size H ≤ n → G ≤ᵍ H → H ⧏ᵍ G → ⊥
+apart_within zero G H a p q = absurd (omega (arith, a, size-pos G))
+apart_within (suc n) G H a (at_most f g) (by_left L l q) = apart_within n H L (omega (arith, a, size-left G L l)) q (f L l)
+apart_within (suc n) G H a (at_most f g) (by_right R r q) = apart_within n R G (omega (arith, a, size-right H R r)) q (g R r)
+
+pub not-both : (G H : Tree) → G ≤ᵍ H → H ⧏ᵍ G → ⊥
+not-both G H = apart_within (size G + size H) G H (omega arith)
+
+-- the test tells the order
+pub from-test : (G H : Tree) → le G H ≡ true → G ≤ᵍ H
+unfolding le
+from-test G H = true_within (size G + size H) G H (omega arith)
+
+pub by_test : (G H : Tree) → (G ≤ᵍ H) ⊎ (H ⧏ᵍ G)
+unfolding le
+by_test G H = elim (cases_Bool (le G H)) [ inl t ↦ inl (from-test G H t) | inr f ↦ inr (false_within (size G + size H) G H (omega arith) f) ]
+
+pub to-test : (G H : Tree) → G ≤ᵍ H → le G H ≡ true
+unfolding le
+to-test G H p = elim (cases_Bool (le G H)) [ inl t ↦ t | inr f ↦ absurd (not-both G H p (false_within (size G + size H) G H (omega arith) f)) ]
+
+-- where G is not at most H, an option shows it
+pub not-le : (G H : Tree) → (G ≤ᵍ H → ⊥) → H ⧏ᵍ G
+not-le G H h = elim (by_test G H) [ inl p ↦ absurd (h p) | inr q ↦ q ]
+
+pub le-or_not : (G H : Tree) → (G ≤ᵍ H) ⊎ (G ≤ᵍ H → ⊥)
+le-or_not G H = elim (by_test G H) [ inl p ↦ inl p | inr q ↦ inr (λ p. not-both G H p q) ]
+
+-- what can be asked of each tree holds of none of a list, or of some
+pub none-or_some : (P : Tree → Type 0) → ((G : Tree) → P G ⊎ (P G → ⊥)) → (Gs : Trees) → ((G : Tree) → Has Gs G → P G → ⊥) ⊎ ((G : Tree) × Has Gs G × P G)
+none-or_some P ask none = inl (λ G h. absurd h)
+none-or_some P ask (more G Gs) = elim (ask G) [
+  | inl p ↦ inr (G, inl refl, p)
+  | inr f ↦ elim (none-or_some P ask Gs) [
+    | inl g ↦ inl (λ K h p. elim h [ inl e ↦ f (subst P e p) | inr k ↦ g K k p ])
+    | inr s ↦ inr (s.0, inr s.1, s.2)
+  ]
+]
 
 pub le-out : (G H : Tree) → G ≤ᵍ H → NoneBeats G H
-le-out G H e = record { from_left = λ K k. no_one-has _ (left G) both.0 K k; from_right = λ K k. no_one-has _ (right H) both.1 K k }
-  where
-    both : (no_one (λ GL. le H GL) (left G) ≡ true) × (no_one (λ HR. le HR G) (right H) ≡ true)
-    both = and_parts _ _ (sym (le-step G H) ∙ e)
+le-out G H (at_most f g) = record { from_left = λ L l p. not-both H L p (f L l); from_right = λ R r p. not-both R G p (g R r) }
 
 pub le-in : (G H : Tree) → NoneBeats G H → G ≤ᵍ H
-le-in G H b = le-step G H ∙ and_from _ _ (no_one-from _ (left G) b.from_left) (no_one-from _ (right H) b.from_right)
+le-in G H b = at_most (λ L l. not-le H L (b.from_left L l)) (λ R r. not-le R G (b.from_right R r))
 
 -- a game is at most itself
 refl_within : (n : ℕ) (G : Tree) → size G < n → G ≤ᵍ G

@@ -2,16 +2,16 @@
 use Rattle.std.proofs.Common.{ℕ, ◌≡◌, ◌⊎◌, inl, inr, sym, subst, ℤ, arith}
 use Rattle.std.proofs.lemmas.Int.{ints}
 use Rattle.std.proofs.lemmas.Bool.{cases_Bool}
-use Rattle.short_games.specs.Tree.{Tree, Trees, node, none, more, left, right, Has, no_one}
-use Rattle.short_games.specs.Order.{le, ◌≤ᵍ◌}
+use Rattle.short_games.specs.Tree.{Tree, Trees, node, none, more, left, right, Has}
+use Rattle.short_games.specs.Order.{◌≤ᵍ◌}
 use Rattle.short_games.specs.Number.{num, IsNumber}
 use Rattle.short_games.specs.Canonical.{IsCanonical, AreCanonical}
 use Rattle.short_games.specs.TextOrder.{TextBefore, sorted, IsCanonicalTree, IsCanonicalFor}
 use Rattle.short_games.specs.Reduction.{DropsLeft, DropsRight, BypassesLeft, BypassesRight, IsFreeLeft, KeepsLeft, KeepsRight}
-use Rattle.short_games.proofs.OrderLaws.{le-out, le-in, le-refl, le-trans, no_one-has}
+use Rattle.short_games.proofs.OrderLaws.{le-out, le-in, le-refl, le-trans, none-or_some, le-or_not}
 use Rattle.short_games.proofs.SumLaws.{not_le_left, not_right_le}
 use Rattle.short_games.proofs.NumberLaws.{num-left, num-right, num-le}
-use Rattle.short_games.proofs.CanonicalLaws.{some_one, canonical-unique}
+use Rattle.short_games.proofs.CanonicalLaws.{canonical-unique}
 use Rattle.short_games.proofs.FormLaws.{by_better, number_between, all-canonical, num-canonical}
 use Rattle.short_games.proofs.TextOrderLaws.{text-order, sorted-has, has-sorted, sorted-ascends}
 
@@ -69,15 +69,15 @@ bypasses-right G H R L v = (
 
 -- where a game that is no number is at least a number, one of its Left options is too
 pub option-over : (G : Tree) → (IsNumber G → ⊥) → (e : ℕ) (m : ℤ) → num e m ≤ᵍ G → (Y : Tree) × Has (left G) Y × (num e m ≤ᵍ Y)
-option-over G no_number e m p = elim (cases_Bool (no_one (λ K. le (num e m) K) (left G))) [
-  | inl t ↦ absurd (no_number (number_between G e m (λ L l y. no_one-has _ (left G) t L l y) (λ R r y. not_right_le G R r (le-trans R (num e m) G y p))))
-  | inr f ↦ some_one (λ K. le (num e m) K) (left G) f
+option-over G no_number e m p = elim (none-or_some (λ K. num e m ≤ᵍ K) (λ K. le-or_not (num e m) K) (left G)) [
+  | inl t ↦ absurd (no_number (number_between G e m (t) (λ R r y. not_right_le G R r (le-trans R (num e m) G y p))))
+  | inr f ↦ f
 ]
 
 pub option-under : (G : Tree) → (IsNumber G → ⊥) → (e : ℕ) (m : ℤ) → G ≤ᵍ num e m → (Y : Tree) × Has (right G) Y × (Y ≤ᵍ num e m)
-option-under G no_number e m p = elim (cases_Bool (no_one (λ K. le K (num e m)) (right G))) [
-  | inl t ↦ absurd (no_number (number_between G e m (λ L l y. not_le_left G L l (le-trans G (num e m) L p y)) (λ R r y. no_one-has _ (right G) t R r y)))
-  | inr f ↦ some_one (λ K. le K (num e m)) (right G) f
+option-under G no_number e m p = elim (none-or_some (λ K. K ≤ᵍ num e m) (λ K. le-or_not K (num e m)) (right G)) [
+  | inl t ↦ absurd (no_number (number_between G e m (λ L l y. not_le_left G L l (le-trans G (num e m) L p y)) (t)))
+  | inr f ↦ f
 ]
 
 -- a number that is an option isn't reversible where no option is dominated

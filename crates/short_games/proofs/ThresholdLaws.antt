@@ -1,14 +1,15 @@
 -- Floors and ceilings: which form is a number, and which number it is.
-use Rattle.std.proofs.Common.{ℕ, zero, suc, ◌+◌, ◌≡◌, ◌↔◌, arith, refl, inl, inr, sym, ◌∙◌, ap, subst, ℤ, pos, negsuc, ◌+ℤ◌, ◌<ℤ◌, ◌≤ℤ◌, true, false, Bool}
+use Rattle.std.proofs.Common.{ℕ, zero, suc, ◌+◌, ◌≡◌, ◌↔◌, arith, refl, inl, inr, sym, ◌∙◌, ap, subst, ℤ, pos, negsuc, ◌+ℤ◌, ◌<ℤ◌, ◌≤ℤ◌, true, false, Bool, ◌⊎◌}
 use Rattle.std.proofs.lemmas.Int.{ints, by_lt_z}
 use Rattle.std.proofs.lemmas.Bool.{cases_Bool, true≢false}
 use Rattle.short_games.specs.Tree.{Tree, left, right, Has}
-use Rattle.short_games.specs.Order.{le, ◌≤ᵍ◌}
+use Rattle.short_games.specs.Order.{◌≤ᵍ◌}
 use Rattle.short_games.specs.Number.{num, IsNumber, half, is_even}
-use Rattle.short_games.specs.Threshold.{IsCell, IsFloor, IsCeiling, FitsForm}
-use Rattle.short_games.proofs.OrderLaws.{le-out, le-in, le-refl, le-trans}
+use Rattle.short_games.specs.Threshold.{IsCell, IsFloor, IsCeiling}
+use Rattle.short_games.proofs.OrderLaws.{le-out, le-in, le-refl, le-trans, le-or_not}
 use Rattle.short_games.proofs.SumLaws.{not_le_left, not_right_le}
 use Rattle.short_games.proofs.NumberLaws.{num-left, num-right, num-le, num-lt, num-double, num-even, half-odd, avoid-le, avoid-ge}
+use Rattle.short_games.specs.Simplest.{FitsForm}
 
 -- a number over a power of two that is greater by d
 pub scaled : (d e : ℕ) (z : ℤ) → (w : ℤ) × (num (d + e) w ≡ num e z)
@@ -44,7 +45,7 @@ num-total d e m z h = let w = scaled d e z in subst (λ t. num (d + e) m ≤ᵍ 
     (num-le (d + e) m w.0 (by_lt_z w.0 m (λ l. absurd (h (subst (λ t. t ≤ᵍ num (d + e) m) w.1 (num-le (d + e) w.0 m (omega (arith, ints, l)))))) (λ l. l)))
 
 cell-of : (d e : ℕ) (m : ℤ) → (h : ℤ) × IsCell e (num (d + e) m) h
-cell-of d e m = by_test (le (num (d + e) m) (num e u.part)) refl
+cell-of d e m = by_cases (le-or_not (num (d + e) m) (num e u.part))
   where
     u : Under e (num (d + e) m)
     u = under-of d e m
@@ -52,19 +53,19 @@ cell-of d e m = by_test (le (num (d + e) m) (num e u.part)) refl
     below : (z : ℤ) → num e z ≤ᵍ num (d + e) m → z ≤ℤ u.part
     below z y = by_lt_z u.part z (λ l. absurd (u.last (le-trans _ _ _ (num-le e (u.part +ℤ pos 1) z (omega (arith, ints, l))) y))) (λ l. l)
 
-    by_test : (b : Bool) → le (num (d + e) m) (num e u.part) ≡ b → (h : ℤ) × IsCell e (num (d + e) m) h
-    by_test true p = (
+    by_cases : (num (d + e) m ≤ᵍ num e u.part) ⊎ (num (d + e) m ≤ᵍ num e u.part → ⊥) → (h : ℤ) × IsCell e (num (d + e) m) h
+    by_cases (inl p) = (
       u.part +ℤ u.part,
       record {
         under = λ z. (λ y. (let l = le-num e u.part z (le-trans _ _ _ u.under y) in omega (arith, ints, l)), λ l. le-trans _ _ _ p (num-le e u.part z (omega (arith, ints, l))));
         over = λ z. (λ y. (let l = below z y in omega (arith, ints, l)), λ l. le-trans _ _ _ (num-le e z u.part (omega (arith, ints, l))) u.under);
       },
     )
-    by_test false p = (
+    by_cases (inr p) = (
       u.part +ℤ u.part +ℤ pos 1,
       record {
         under = λ z. (
-          λ y. by_lt_z u.part z (λ l. omega (arith, ints, l)) (λ l. absurd (true≢false (sym (le-trans (num (d + e) m) (num e z) (num e u.part) y (num-le e z u.part l)) ∙ p))),
+          λ y. by_lt_z u.part z (λ l. omega (arith, ints, l)) (λ l. absurd (p (le-trans (num (d + e) m) (num e z) (num e u.part) y (num-le e z u.part l)))),
           λ l. le-trans _ _ _ (num-total d e m (u.part +ℤ pos 1) u.last) (num-le e (u.part +ℤ pos 1) z (omega (arith, ints, l))),
         );
         over = λ z. (λ y. (let l = below z y in omega (arith, ints, l)), λ l. le-trans _ _ _ (num-le e z u.part (omega (arith, ints, l))) u.under);

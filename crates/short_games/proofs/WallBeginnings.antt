@@ -7,9 +7,9 @@ use Rattle.short_games.specs.Number.{num, IsNumberTree}
 use Rattle.short_games.specs.Stops.{IsLeftStop, IsRightStop, IsGreatestRight, IsLeastLeft}
 use Rattle.short_games.proofs.OrderLaws.{size-left, size-right}
 use Rattle.short_games.proofs.StopLaws.{number-left_stop, number-right_stop}
-use Rattle.short_games.specs.Walls.{IsGreatest, IsLeast, Follow, WallsAre, AllWallsAre}
-use Rattle.short_games.specs.Walls.Follow.{apart, met}
-use Rattle.short_games.specs.Walls.WallsAre.{of_number, of_game}
+use Rattle.short_games.specs.WallGrids.{IsGreatest, IsLeast, Follow, WallsAre, AllWallsAre}
+use Rattle.short_games.specs.WallGrids.Follow.{apart, met}
+use Rattle.short_games.specs.WallGrids.WallsAre.{of_number, of_game}
 use Rattle.short_games.proofs.WallGreatest.{IsFilled, filled, greatest-one, greatest-more, least-one, least-more}
 use Rattle.short_games.proofs.WallLines.{greatest-same, least-same}
 use Rattle.short_games.proofs.WallSolutions.{all-here, all-left, all-right}

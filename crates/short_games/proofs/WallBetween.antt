@@ -3,7 +3,7 @@ use Rattle.std.proofs.Common.{ℕ, suc, ◌+◌, ◌-◌, ◌≡◌, arith, refl
 use Rattle.std.proofs.lemmas.Int.{ints}
 use Rattle.short_games.specs.Tree.{Tree}
 use Rattle.short_games.specs.Parts.{IsFollower}
-use Rattle.short_games.specs.Walls.{AllWallsAre, HasWalls, HasTemperatureBetween, finer, Bends}
+use Rattle.short_games.specs.WallGrids.{AllWallsAre, HasWalls, HasTemperatureBetween, finer, Bends}
 use Rattle.short_games.proofs.PartLaws.{follower-trans}
 use Rattle.short_games.proofs.WallLines.{Doubles, finer-doubles}
 use Rattle.short_games.proofs.WallSolutions.{IsSteady, walls-steady, has_walls-finer, has_walls-unique}

@@ -9,8 +9,8 @@ use Rattle.short_games.proofs.WallOver.{IsFine, fine-left, fine-right, over-more
 use Rattle.short_games.proofs.WallBeginnings.{walls-zero, left_at_zero, right_at_zero}
 use Rattle.short_games.specs.TextOrder.{IsCanonicalTree}
 use Rattle.short_games.proofs.StopLaws.{stops-ordered}
-use Rattle.short_games.specs.Walls.{WallsAre, AllWallsAre, IsMeeting, finer}
-use Rattle.short_games.specs.Walls.WallsAre.{of_number, of_game}
+use Rattle.short_games.specs.WallGrids.{WallsAre, AllWallsAre, IsMeeting, finer}
+use Rattle.short_games.specs.WallGrids.WallsAre.{of_number, of_game}
 use Rattle.short_games.proofs.WallLines.{Doubles, finer-doubles, greatest-same, least-same}
 use Rattle.short_games.proofs.WallSolutions.{all-from, walls-unique, walls-steady, walls-finer, IsSteady, left_scaffold-falls, right_scaffold-rises, left_scaffold-doubles, right_scaffold-doubles}
 use Rattle.short_games.proofs.WallSteps.{solution-drawn, jump-middle, follow-meeting}

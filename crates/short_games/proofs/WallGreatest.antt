@@ -3,7 +3,7 @@ use Rattle.std.proofs.Common.{◌≡◌, arith, refl, inl, inr, sym, subst, ℤ,
 use Rattle.std.specs.Int.{int_max, int_min}
 use Rattle.std.proofs.lemmas.Int.{ints, clamps, by_lt_z}
 use Rattle.short_games.specs.Tree.{Tree, Trees, none, more, Has}
-use Rattle.short_games.specs.Walls.{IsGreatest, IsLeast}
+use Rattle.short_games.specs.WallGrids.{IsGreatest, IsLeast}
 
 -- a list that has a tree
 abbrev pub IsFilled : Trees → Type 0

@@ -2,9 +2,9 @@
 use Rattle.std.proofs.Common.{ℕ, zero, suc, ◌+◌, ◌/◌, ◌<◌, ◌≤◌, ◌≡◌, ◌⊎◌, arith, refl, inl, inr, sym, ◌∙◌, ap, ap₂, subst, ℤ, pos, ◌+ℤ◌, ◌<ℤ◌, ◌≤ℤ◌}
 use Rattle.std.proofs.lemmas.Int.{ints, by_lt_z}
 use Rattle.short_games.specs.Tree.{Tree, Trees, Has}
-use Rattle.short_games.specs.Walls.{IsGreatest, IsLeast, Follow, finer}
+use Rattle.short_games.specs.WallGrids.{IsGreatest, IsLeast, Follow, finer}
 use Rattle.short_games.specs.Lines.{Rises, Falls}
-use Rattle.short_games.specs.Walls.Follow.{apart, met}
+use Rattle.short_games.specs.WallGrids.Follow.{apart, met}
 
 -- what f' is where its argument counts half steps of that of f
 pub record Doubles (f f' : ℕ → ℤ) : Type 0 where

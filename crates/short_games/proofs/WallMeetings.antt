@@ -5,9 +5,9 @@ use Rattle.short_games.specs.Tree.{Tree, Trees, node, none, more, Has}
 use Rattle.short_games.specs.Parts.{IsOption}
 use Rattle.short_games.specs.Number.{IsNumberTree}
 use Rattle.short_games.proofs.WallNumbers.{numerator, numerator-num}
-use Rattle.short_games.specs.Walls.{Follow, WallsAre, AllWallsAre, HasWalls, IsMeeting}
-use Rattle.short_games.specs.Walls.Follow.{apart, met}
-use Rattle.short_games.specs.Walls.WallsAre.{of_number, of_game}
+use Rattle.short_games.specs.WallGrids.{Follow, WallsAre, AllWallsAre, HasWalls, IsMeeting}
+use Rattle.short_games.specs.WallGrids.Follow.{apart, met}
+use Rattle.short_games.specs.WallGrids.WallsAre.{of_number, of_game}
 use Rattle.short_games.proofs.WallSolutions.{all-here, all-left, all-right}
 use Rattle.short_games.proofs.WallSteps.{IsBounded, walls-within, follow-meeting}
 

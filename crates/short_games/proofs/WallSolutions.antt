@@ -8,8 +8,8 @@ use Rattle.short_games.proofs.PartLaws.{follower-of}
 use Rattle.short_games.proofs.OrderLaws.{size-left, size-right}
 use Rattle.short_games.proofs.NumberLaws.{num-double}
 use Rattle.short_games.proofs.WallNumbers.{num-one_to_one}
-use Rattle.short_games.specs.Walls.{IsGreatest, IsLeast, WallsAre, AllWallsAre, HasWalls, finer}
-use Rattle.short_games.specs.Walls.WallsAre.{of_number, of_game}
+use Rattle.short_games.specs.WallGrids.{IsGreatest, IsLeast, WallsAre, AllWallsAre, HasWalls, finer}
+use Rattle.short_games.specs.WallGrids.WallsAre.{of_number, of_game}
 use Rattle.short_games.specs.Lines.{Rises, Falls}
 use Rattle.short_games.proofs.WallLines.{Doubles, finer-doubles, greatest-same, least-same, greatest-rises, least-falls, greatest-doubles, least-doubles, follow-same, left-falls, right-rises, walls-ordered, doubled}
 

@@ -5,11 +5,11 @@ use Rattle.std.proofs.lemmas.Bool.{cases_lt}
 use Rattle.short_games.specs.Tree.{Tree, left, right, Has, size}
 use Rattle.short_games.specs.Number.{num, IsNumberTree}
 use Rattle.short_games.proofs.OrderLaws.{size-left, size-right}
-use Rattle.short_games.specs.Walls.{IsGreatest, IsLeast, Follow, WallsAre, AllWallsAre, IsMeeting}
+use Rattle.short_games.specs.WallGrids.{IsGreatest, IsLeast, Follow, WallsAre, AllWallsAre, IsMeeting}
 use Rattle.short_games.proofs.WallGreatest.{IsFilled, filled}
 use Rattle.short_games.specs.Lines.{Rises, Falls}
-use Rattle.short_games.specs.Walls.Follow.{apart, met}
-use Rattle.short_games.specs.Walls.WallsAre.{of_number, of_game}
+use Rattle.short_games.specs.WallGrids.Follow.{apart, met}
+use Rattle.short_games.specs.WallGrids.WallsAre.{of_number, of_game}
 use Rattle.short_games.proofs.WallLines.{Doubles, greatest-same, least-same, follow-same, parity, Parity}
 use Rattle.short_games.proofs.WallLines.Parity.{even, odd}
 use Rattle.short_games.proofs.WallSolutions.{all-here, all-left, all-right, all-from, walls-unique, walls-steady, IsSteady}

@@ -6,11 +6,11 @@ use Rattle.std.proofs.lemmas.Bool.{both_ways}
 use Rattle.short_games.specs.Tree.{Tree, Trees, node, none, more, left, right}
 use Rattle.short_games.specs.Number.{num, IsNumberTree}
 use Rattle.short_games.proofs.WallNumbers.{number_at, NumberAt, number-cases}
-use Rattle.short_games.specs.Walls.{IsGreatest, IsLeast, Follow, WallsAre}
+use Rattle.short_games.specs.WallGrids.{IsGreatest, IsLeast, Follow, WallsAre}
 use Rattle.short_games.proofs.WallNumbers.NumberAt.{is_number, is_none}
 use Rattle.short_games.proofs.WallGreatest.{IsFilled, greatest-one, greatest-more, least-one, least-more}
-use Rattle.short_games.specs.Walls.Follow.{apart, met}
-use Rattle.short_games.specs.Walls.WallsAre.{of_number, of_game}
+use Rattle.short_games.specs.WallGrids.Follow.{apart, met}
+use Rattle.short_games.specs.WallGrids.WallsAre.{of_number, of_game}
 use Rattle.short_games.specs.Lines.{Rises, Falls}
 use Rattle.short_games.proofs.WallLines.{Doubles, parity, Parity, below-or_at}
 use Rattle.short_games.proofs.WallLines.Parity.{even, odd}

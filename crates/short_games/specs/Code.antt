@@ -45,5 +45,6 @@ tree_of ts = read (run ts [])
 pub tree_of-tokens : (G : Tree) → tree_of (tokens G) ≡ G
 tree_of-tokens G = λ i. read (run-postfix G [] [] i)
 
+-- a code for trees, as contracts want it of what a value holds
 abbrev pub tree_code : Coded Tree
 tree_code = code_by (List ℕ) (coded_list coded_ℕ) tokens tree_of tree_of-tokens

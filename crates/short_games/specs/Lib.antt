@@ -6,6 +6,7 @@ pub mod Sum
 pub mod SumLaws
 pub mod Moves
 pub mod Number
+pub mod Simplest
 pub mod Threshold
 pub mod Stops
 pub mod Canonical
@@ -20,5 +21,7 @@ pub mod StopLaws
 pub mod Parts
 pub mod Lines
 pub mod Walls
+pub mod WallGrids
 pub mod WallLaws
 pub mod Examples
+pub mod KnownValues

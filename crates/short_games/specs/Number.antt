@@ -8,6 +8,7 @@ abbrev pub half : ℤ → ℤ
 half (pos n) = pos (n / 2)
 half (negsuc n) = negsuc (n / 2)
 
+-- twice some integer
 abbrev pub is_even : ℤ → Bool
 is_even (pos n) = nat_eq (n % 2) 0
 is_even (negsuc n) = nat_eq (n % 2) 1

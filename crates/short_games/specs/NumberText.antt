@@ -43,6 +43,7 @@ unfoldable pub digits_within : ℕ → ℕ → List ℕ → List ℕ
 digits_within zero n s = s
 digits_within (suc steps) n s = cond (nat_lt n 10) ((48 + n) ∷ s) (digits_within steps (n / 10) ((48 + n % 10) ∷ s))
 
+-- the decimal digits of n with a text behind them
 abbrev pub digits : ℕ → List ℕ → List ℕ
 digits n s = digits_within (suc n) n s
 
@@ -56,9 +57,11 @@ abbrev pub denominator_text : ℕ → List ℕ
 denominator_text zero = []
 denominator_text (suc e) = 47 ∷ digits (2 ^ suc e) []
 
+-- the text of a number: its numerator, and its denominator but for an integer
 abbrev pub fraction_text : Fraction → List ℕ
 fraction_text x = integer_text x.numerator (denominator_text x.exponent)
 
+-- the text of a number, where there is one
 abbrev pub text_of_number : Option Fraction → Option (List ℕ)
 text_of_number (Some x) = Some (fraction_text x)
 text_of_number None = None

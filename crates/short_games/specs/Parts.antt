@@ -3,6 +3,7 @@ use Rattle.std.specs.Prelude.{ℕ, ◌≡◌, ◌<◌, ◌⊎◌, List, length, 
 use Rattle.short_games.specs.Tree.{Tree, left, right, Has, tree_at, AreDistinct}
 use Rattle.short_games.specs.Number.{IsNumberTree, number_tree}
 
+-- X is a Left or a Right option of G
 abbrev pub IsOption : Tree → Tree → Type 0
 IsOption G X = Has (left G) X ⊎ Has (right G) X
 
@@ -20,10 +21,11 @@ pub record AreParts (G : Tree) (Xs : List Tree) : Type 0 where
   pub each : (j : ℕ) → j < length Xs → IsPart G (tree_at Xs j)
   pub different : AreDistinct Xs
 
--- G has exactly n parts, and more than n
+-- G has exactly n parts
 abbrev pub HasParts : Tree → ℕ → Type 0
 HasParts G n = (Xs : List Tree) × AreParts G Xs × ((X : Tree) → IsPart G X → (j : ℕ) × (j < length Xs) × (tree_at Xs j ≡ X)) × (length Xs ≡ n)
 
+-- G has more than n parts
 abbrev pub HasMoreParts : Tree → ℕ → Type 0
 HasMoreParts G n = (Xs : List Tree) × AreParts G Xs × (n < length Xs)
 

@@ -9,6 +9,7 @@ pub record DropsLeft (G H : Tree) : Type 0 where
   pub covered : (X : Tree) → Has (left G) X → (Y : Tree) × Has (left H) Y × (X ≤ᵍ Y)
   pub others : right H ≡ right G
 
+-- H is G with some Right options fewer, each of them at least one that is left
 pub record DropsRight (G H : Tree) : Type 0 where
   pub from : (X : Tree) → Has (right H) X → Has (right G) X
   pub covered : (X : Tree) → Has (right G) X → (Y : Tree) × Has (right H) Y × (Y ≤ᵍ X)
@@ -24,6 +25,7 @@ pub record BypassesLeft (G H L R : Tree) : Type 0 where
   pub from : (X : Tree) → Has (left H) X → Has (left G) X ⊎ Has (left R) X
   pub others : right H ≡ right G
 
+-- H is G with the Right option R, which L reverses, replaced by Right options that are as good as those of L
 pub record BypassesRight (G H R L : Tree) : Type 0 where
   pub option : Has (right G) R
   pub answer : Has (left R) L
@@ -37,9 +39,10 @@ pub record BypassesRight (G H R L : Tree) : Type 0 where
 abbrev pub IsFreeLeft : Trees → Type 0
 IsFreeLeft Ls = (A B : Tree) → Has Ls A → Has Ls B → A ≤ᵍ B → A ≡ B
 
--- no Left option can be answered by a move to where Left is no better off, and likewise for Right
+-- the Left option L cannot be answered by a move to where Left is no better off
 abbrev pub KeepsLeft : Tree → Tree → Type 0
 KeepsLeft G L = (R : Tree) → Has (right L) R → R ≤ᵍ G → ⊥
 
+-- the Right option R cannot be answered by a move to where Right is no better off
 abbrev pub KeepsRight : Tree → Tree → Type 0
 KeepsRight G R = (L : Tree) → Has (left R) L → G ≤ᵍ L → ⊥

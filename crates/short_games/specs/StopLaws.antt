@@ -6,14 +6,16 @@ use Rattle.short_games.specs.Number.{num}
 use Rattle.short_games.specs.Stops.{IsLeftStop, IsRightStop}
 use Rattle.short_games.specs.TextOrder.{IsCanonicalTree}
 
--- A canonical tree is at most its left stop and any y above 0, and at least its right stop less any such y. Here y is
--- over 2 ^ (d + e), and a stop x over 2 ^ e is x * 2 ^ d over it
+-- A canonical tree is at most its left stop and any y above 0. Here y is over 2 ^ (d + e), and the stop x, over 2 ^ e, is
+-- x * 2 ^ d over 2 ^ (d + e)
 abbrev pub IsUnderLeftStop : Type 0
 IsUnderLeftStop = (e : ℕ) (G : Tree) (x : ℤ) → IsCanonicalTree G → IsLeftStop e G x → (d : ℕ) (y : ℤ) → pos 0 <ℤ y → G ≤ᵍ num (d + e) ((x *ℤ pos (2 ^ d)) +ℤ y)
 
+-- a canonical tree is at least its right stop less any y above 0
 abbrev pub IsOverRightStop : Type 0
 IsOverRightStop = (e : ℕ) (G : Tree) (x : ℤ) → IsCanonicalTree G → IsRightStop e G x → (d : ℕ) (y : ℤ) → pos 0 <ℤ y → num (d + e) ((x *ℤ pos (2 ^ d)) -ℤ y) ≤ᵍ G
 
+-- the right stop of a canonical tree is at most its left stop
 abbrev pub StopsAreOrdered : Type 0
 StopsAreOrdered = (e : ℕ) (G : Tree) (l r : ℤ) → IsCanonicalTree G → IsLeftStop e G l → IsRightStop e G r → r ≤ℤ l
 

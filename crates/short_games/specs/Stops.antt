@@ -30,9 +30,10 @@ module _ (e : ℕ) where
 abbrev pub IsHalf : ℤ → ℤ → Type 0
 IsHalf x k = ((x +ℤ x) ≤ℤ k) × (k ≤ℤ (x +ℤ x +ℤ pos 1))
 
--- k is what the tree's ceiling is beside its left stop, and its floor beside its right stop
+-- k is what the tree's ceiling is beside its left stop
 abbrev pub GoesWithLeftStop : ℕ → Tree → ℤ → Type 0
 GoesWithLeftStop e G k = (x : ℤ) × IsLeftStop e G x × IsHalf x k
 
+-- k is what the tree's floor is beside its right stop
 abbrev pub GoesWithRightStop : ℕ → Tree → ℤ → Type 0
 GoesWithRightStop e G k = (x : ℤ) × IsRightStop e G x × IsHalf x (k +ℤ pos 1)

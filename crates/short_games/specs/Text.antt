@@ -2,19 +2,23 @@
 use Rattle.std.specs.Prelude.{ℕ, List, ◌∷◌, ◌++◌, Option, Some, None}
 use Rattle.short_games.specs.Tree.{Tree, Trees, node, none, more}
 
--- the bytes `{`, `|`, `}` and `,`
+-- the byte `{`
 abbrev pub open_brace : ℕ
 open_brace = 123
 
+-- the byte `|`
 abbrev pub bar : ℕ
 bar = 124
 
+-- the byte `}`
 abbrev pub close_brace : ℕ
 close_brace = 125
 
+-- the byte `,`
 abbrev pub comma : ℕ
 comma = 44
 
+-- the number's text, with s behind it, where there is one; else the text with braces
 abbrev pub text_or : Option (List ℕ) → List ℕ → List ℕ → List ℕ
 text_or (Some t) braces s = t ++ s
 text_or None braces s = braces

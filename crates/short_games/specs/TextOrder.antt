@@ -16,6 +16,7 @@ lesser_text [] (y ∷ ys) = true
 lesser_text (x ∷ xs) [] = false
 lesser_text (x ∷ xs) (y ∷ ys) = cond (nat_eq x y) (lesser_text xs ys) (nat_lt x y)
 
+-- the text of G is before that of H
 unfoldable pub text_before : Tree → Tree → Bool
 text_before G H = lesser_text (tree_text G) (tree_text H)
 
@@ -29,12 +30,14 @@ unfoldable pub sorted : Trees → Trees
 sorted none = none
 sorted (more G Gs) = insert G (sorted Gs)
 
+-- the same as a relation
 abbrev pub TextBefore : Tree → Tree → Type 0
 TextBefore G H = IsTrue (text_before G H)
 
--- a canonical tree, and the canonical tree of a game, with options in the order of their texts
+-- a canonical tree, with options in the order of their texts
 abbrev pub IsCanonicalTree : Tree → Type 0
 IsCanonicalTree G = IsCanonical TextBefore G
 
+-- C is the canonical tree of G
 abbrev pub IsCanonicalFor : Tree → Tree → Type 0
 IsCanonicalFor G C = IsCanonicalOf TextBefore G C

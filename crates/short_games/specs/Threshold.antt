@@ -1,6 +1,6 @@
 -- Where a game stands among the numbers: floors and ceilings, over half parts of a power of two.
 use Rattle.std.specs.Prelude.{ℕ, ◌↔◌, ℤ, ◌+ℤ◌, ◌≤ℤ◌}
-use Rattle.short_games.specs.Tree.{Tree, left, right, Has}
+use Rattle.short_games.specs.Tree.{Tree}
 use Rattle.short_games.specs.Order.{◌≤ᵍ◌}
 use Rattle.short_games.specs.Number.{num}
 
@@ -9,14 +9,10 @@ pub record IsCell (e : ℕ) (X : Tree) (h : ℤ) : Type 0 where
   pub under : (z : ℤ) → (X ≤ᵍ num e z) ↔ (h ≤ℤ (z +ℤ z))
   pub over : (z : ℤ) → (num e z ≤ᵍ X) ↔ ((z +ℤ z) ≤ℤ h)
 
--- the numbers at most G are those up to the floor; the numbers at least G are those from the ceiling on
+-- the numbers at most G are those up to the floor
 abbrev pub IsFloor : ℕ → Tree → ℤ → Type 0
 IsFloor e G k = (f : ℕ) (m h : ℤ) → IsCell e (num f m) h → (num f m ≤ᵍ G) ↔ (h ≤ℤ k)
 
+-- the numbers at least G are those from the ceiling on
 abbrev pub IsCeiling : ℕ → Tree → ℤ → Type 0
 IsCeiling e G k = (f : ℕ) (m h : ℤ) → IsCell e (num f m) h → (G ≤ᵍ num f m) ↔ (k ≤ℤ h)
-
--- a number fits a form where it is neither at most a Left option nor at least a Right one
-pub record FitsForm (G X : Tree) : Type 0 where
-  pub over_left : (L : Tree) → Has (left G) L → X ≤ᵍ L → ⊥
-  pub under_right : (R : Tree) → Has (right G) R → R ≤ᵍ X → ⊥

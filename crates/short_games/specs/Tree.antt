@@ -1,5 +1,5 @@
 -- Game trees: a tree is two lists of trees, its Left and its Right options.
-use Rattle.std.specs.Prelude.{ℕ, suc, ◌+◌, ◌<◌, Bool, true, not, ◌&&◌, ◌≡◌, ◌⊎◌, List, length}
+use Rattle.std.specs.Prelude.{ℕ, suc, ◌+◌, ◌<◌, ◌≡◌, ◌⊎◌, List, length}
 use Rattle.std.specs.List.{slice_index_or}
 
 mutual
@@ -10,10 +10,11 @@ mutual
     none : Trees
     more : Tree → Trees → Trees
 
--- the Left and the Right options
+-- the Left options
 abbrev pub left : Tree → Trees
 left (node ls rs) = ls
 
+-- the Right options
 abbrev pub right : Tree → Trees
 right (node ls rs) = rs
 
@@ -21,11 +22,6 @@ right (node ls rs) = rs
 abbrev pub Has : Trees → Tree → Type 0
 Has none G = ⊥
 Has (more H Hs) G = (G ≡ H) ⊎ Has Hs G
-
--- no tree of the list passes the test
-abbrev pub no_one : (Tree → Bool) → Trees → Bool
-no_one test none = true
-no_one test (more H Hs) = not (test H) && no_one test Hs
 
 -- the two lists in a row
 abbrev pub ◌then◌ : Trees → Trees → Trees

@@ -1,11 +1,12 @@
 -- The laws of walls.
-use Rattle.std.specs.Prelude.{ℕ, suc, ◌+◌, ◌≡◌, ◌≤◌, ℤ}
+use Rattle.std.specs.Prelude.{ℕ, suc, ◌+◌, ◌≡◌, ◌≤◌, ◌↔◌, ℤ}
 use Rattle.short_games.specs.Tree.{Tree}
 use Rattle.short_games.specs.Number.{IsNumberTree}
 use Rattle.short_games.specs.TextOrder.{IsCanonicalTree}
 use Rattle.short_games.specs.Parts.{IsFollower}
 use Rattle.short_games.specs.Stops.{IsLeftStop, IsRightStop}
-use Rattle.short_games.specs.Walls.{Bends, HasWalls, finer, IsMeeting, HasTemperatureBetween}
+use Rattle.short_games.specs.Walls.{IsLeftWall, IsRightWall}
+use Rattle.short_games.specs.WallGrids.{Bends, HasWalls, finer, IsMeeting, HasTemperatureBetween}
 
 -- a canonical tree has walls on each grid that is fine enough
 abbrev pub WallsExist : Type 0
@@ -34,3 +35,7 @@ NoneBetween = (k : ℕ) (G P : Tree) (l r : ℕ → ℤ) → HasWalls k G l r �
 -- there its walls on the next finer grid bend at no place between two of it
 abbrev pub NoneBendsBetween : Type 0
 NoneBendsBetween = (k : ℕ) (G : Tree) (l r l' r' : ℕ → ℤ) → HasWalls k G l r → HasWalls (suc k) G l' r' → (t : ℕ) → (Bends l' (suc (t + t)) → ⊥) × (Bends r' (suc (t + t)) → ⊥)
+
+-- Where a tree has walls on a grid, its walls by their rule are these at each place of the grid
+abbrev pub WallsAreOnGrids : Type 0
+WallsAreOnGrids = (k : ℕ) (G : Tree) (l r : ℕ → ℤ) → HasWalls k G l r → (t : ℕ) (x : ℤ) → (IsLeftWall G k t x ↔ (x ≡ l t)) × (IsRightWall G k t x ↔ (x ≡ r t))

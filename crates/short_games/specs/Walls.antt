@@ -1,62 +1,31 @@
--- Walls, over one power of two: t stands for t / 2 ^ k and x for x / 2 ^ k.
-use Rattle.std.specs.Prelude.{ℕ, suc, ◌/◌, ◌+◌, ◌-◌, ◌≡◌, ◌<◌, ◌≤◌, ℤ, pos, ◌+ℤ◌, ◌-ℤ◌, ◌<ℤ◌, ◌≤ℤ◌}
-use Rattle.short_games.specs.Tree.{Tree, Trees, left, right, Has}
+-- Walls: what stops become when each move costs t. Here t stands for t / 2 ^ k and x for x / 2 ^ k, so that t and x are any
+-- fractions whose denominators are powers of two.
+use Rattle.std.specs.Prelude.{ℕ, ◌+◌, ◌*◌, ◌^◌, ◌≡◌, ◌≤◌, ◌⊎◌, ℤ, pos, ◌+ℤ◌, ◌-ℤ◌, ◌*ℤ◌, ◌<ℤ◌, ◌≤ℤ◌}
+use Rattle.short_games.specs.Tree.{Tree, Trees, node, none, more}
 use Rattle.short_games.specs.Number.{num, IsNumberTree}
-use Rattle.short_games.specs.Parts.{IsFollower}
 
--- x is the greatest of what f gives for the trees of the list, or the least
-pub record IsGreatest (f : Tree → ℤ) (Gs : Trees) (x : ℤ) : Type 0 where
-  pub bound : (G : Tree) → Has Gs G → f G ≤ℤ x
-  pub reached : (G : Tree) × Has Gs G × (f G ≡ x)
+unfoldable mutual
+  -- Both walls of a number are the number. Another tree has a left scaffold, the greatest right wall of a Left option, less
+  -- t, and a right one, the least left wall of a Right option, and t. Its walls are the scaffolds, where the left one is
+  -- greater; else they are the number at which the scaffolds meet, at some u / 2 ^ (d + k) up to t
+  pub IsLeftWall : Tree → (k t : ℕ) → ℤ → Type 0
+  IsLeftWall (node ls rs) k t x = (node ls rs ≡ num k x) ⊎ ((IsNumberTree (node ls rs) → ⊥) × (
+      (IsGreatestRightWall ls k t (x +ℤ pos t) × ((y : ℤ) × IsLeastLeftWall rs k t (y -ℤ pos t) × (y <ℤ x)))
+      ⊎ ((d u : ℕ) × (u ≤ t * 2 ^ d) × IsGreatestRightWall ls (d + k) u ((x *ℤ pos (2 ^ d)) +ℤ pos u) × IsLeastLeftWall rs (d + k) u ((x *ℤ pos (2 ^ d)) -ℤ pos u))))
 
-pub record IsLeast (f : Tree → ℤ) (Gs : Trees) (x : ℤ) : Type 0 where
-  pub bound : (G : Tree) → Has Gs G → x ≤ℤ f G
-  pub reached : (G : Tree) × Has Gs G × (f G ≡ x)
+  pub IsRightWall : Tree → (k t : ℕ) → ℤ → Type 0
+  IsRightWall (node ls rs) k t x = (node ls rs ≡ num k x) ⊎ ((IsNumberTree (node ls rs) → ⊥) × (
+      (IsLeastLeftWall rs k t (x -ℤ pos t) × ((y : ℤ) × IsGreatestRightWall ls k t (y +ℤ pos t) × (x <ℤ y)))
+      ⊎ ((d u : ℕ) × (u ≤ t * 2 ^ d) × IsGreatestRightWall ls (d + k) u ((x *ℤ pos (2 ^ d)) +ℤ pos u) × IsLeastLeftWall rs (d + k) u ((x *ℤ pos (2 ^ d)) -ℤ pos u))))
 
--- the walls at t where L and R are the scaffolds: these, as long as the left one is greater, and from their first
--- meeting on what both are there
-pub data Follow (L R : ℕ → ℤ) (t : ℕ) (l r : ℤ) : Type 0 where
-  apart : ((v : ℕ) → v ≤ t → R v <ℤ L v) → l ≡ L t → r ≡ R t → Follow L R t l r
-  met : (u : ℕ) → u ≤ t → L u ≡ R u → ((v : ℕ) → v < u → R v <ℤ L v) → l ≡ L u → r ≡ R u → Follow L R t l r
+  -- the greatest right wall of the listed trees
+  pub IsGreatestRightWall : Trees → (k t : ℕ) → ℤ → Type 0
+  IsGreatestRightWall none k t x = ⊥
+  IsGreatestRightWall (more G none) k t x = IsRightWall G k t x
+  IsGreatestRightWall (more G (more H Hs)) k t x = (y : ℤ) × ((z : ℤ) × IsRightWall G k t y × IsGreatestRightWall (more H Hs) k t z × (y ≤ℤ x) × (z ≤ℤ x) × ((y ≡ x) ⊎ (z ≡ x)))
 
--- the walls of G, where lw and rw give those of its options. Of a number both are the number; else the left scaffold is
--- the greatest right wall of a Left option, less t, and the right scaffold the least left wall of a Right option, and t
-pub data WallsAre (k : ℕ) (lw rw : Tree → ℕ → ℤ) (G : Tree) : Type 0 where
-  of_number : (x : ℤ) → G ≡ num k x → ((t : ℕ) → lw G t ≡ x) → ((t : ℕ) → rw G t ≡ x) → WallsAre k lw rw G
-  of_game : (IsNumberTree G → ⊥) → (L R : ℕ → ℤ) → ((t : ℕ) → IsGreatest (λ X. rw X t) (left G) (L t +ℤ pos t)) → ((t : ℕ) → IsLeast (λ X. lw X t) (right G) (R t -ℤ pos t))
-      → ((t : ℕ) → Follow L R t (lw G t) (rw G t)) → WallsAre k lw rw G
-
--- the same of each follower
-abbrev pub AllWallsAre : (k : ℕ) (lw rw : Tree → ℕ → ℤ) → Tree → Type 0
-AllWallsAre k lw rw G = (P : Tree) → IsFollower G P → WallsAre k lw rw P
-
--- l and r are the walls of G at all multiples of 2 ^ -k
-pub record HasWalls (k : ℕ) (G : Tree) (l r : ℕ → ℤ) : Type 0 where
-  pub lw : Tree → ℕ → ℤ
-  pub rw : Tree → ℕ → ℤ
-  pub all : AllWallsAre k lw rw G
-  pub left_is : (t : ℕ) → lw G t ≡ l t
-  pub right_is : (t : ℕ) → rw G t ≡ r t
-
--- the same wall at the multiples of half the distance: straight between two neighbours
-abbrev pub finer : (ℕ → ℤ) → ℕ → ℤ
-finer f t = f (t / 2) +ℤ f (suc t / 2)
-
--- the temperature and the mean of a game whose walls are l and r: where they first meet
-pub record IsMeeting (l r : ℕ → ℤ) (u : ℕ) (x : ℤ) : Type 0 where
-  pub left_at : l u ≡ x
-  pub right_at : r u ≡ x
-  pub before : (v : ℕ) → v < u → r v <ℤ l v
-
--- the temperature of G lies in the middle of two neighbouring multiples of 2 ^ -k
-pub record HasTemperatureBetween (k : ℕ) (G : Tree) : Type 0 where
-  pub left : ℕ → ℤ
-  pub right : ℕ → ℤ
-  pub place : ℕ
-  pub mean : ℤ
-  pub walls : HasWalls (suc k) G left right
-  pub meets : IsMeeting left right (suc (place + place)) mean
-
--- the slope of the line changes at t
-abbrev pub Bends : (ℕ → ℤ) → ℕ → Type 0
-Bends f t = (f (t - 1) +ℤ f (t + 1) ≡ f t +ℤ f t → ⊥)
+  -- the least left wall of the listed trees
+  pub IsLeastLeftWall : Trees → (k t : ℕ) → ℤ → Type 0
+  IsLeastLeftWall none k t x = ⊥
+  IsLeastLeftWall (more G none) k t x = IsLeftWall G k t x
+  IsLeastLeftWall (more G (more H Hs)) k t x = (y : ℤ) × ((z : ℤ) × IsLeftWall G k t y × IsLeastLeftWall (more H Hs) k t z × (x ≤ℤ y) × (x ≤ℤ z) × ((y ≡ x) ⊎ (z ≡ x)))

@@ -3,17 +3,20 @@
 //! that does nothing.
 #![tactic(auto)]
 
-ghost use Rattle.short_games.specs.OrderLaws.{OrderIs, IsReflexive, IsTransitive};
+ghost use Rattle.short_games.specs.OrderLaws.{OrderIs, ConfusedIs, IsReflexive, IsTransitive};
 ghost use Rattle.short_games.specs.SumLaws.{SumsKeepOrder, CancelsNegative, IncentiveDominates, IncentiveDominatesBack};
 ghost use Rattle.short_games.specs.NumberLaws.{LeftAvoidsNumbers, RightAvoidsNumbers, NumbersTranslate};
+ghost use Rattle.short_games.specs.NumberLaws.{SimplestIsValue, FittingHaveSimplest, NumbersFit};
 ghost use Rattle.short_games.specs.StopLaws.{IsUnderLeftStop, IsOverRightStop, StopsAreOrdered, StopsExist};
 ghost use Rattle.short_games.specs.TextLaws.{TextsAreOneToOne, TextsTellGames};
 ghost use Rattle.short_games.specs.CanonicalLaws.{EachHasCanonical, OptionsAreFollowers};
-ghost use Rattle.short_games.specs.WallLaws.{WallsExist, WallsAreUnique, WallsGoOn, WallsBeginAtStops, TemperaturesExist, NoneBetween, NoneBendsBetween};
+ghost use Rattle.short_games.specs.KnownValues.{KnownNumbers, KnownOrder, KnownSums, KnownCanonical, KnownStops, KnownWalls};
+ghost use Rattle.short_games.specs.WallLaws.{WallsExist, WallsAreUnique, WallsGoOn, WallsBeginAtStops, TemperaturesExist, NoneBetween, NoneBendsBetween, WallsAreOnGrids};
 
-/// The order of games is a preorder (Conway).
+/// The order of games is a preorder, and what is less or confused is what is not at least (Conway).
 pub fn order_laws()
     ensures is { OrderIs }
+    ensures confused { ConfusedIs }
     ensures reflexive { IsReflexive }
     ensures transitive { IsTransitive }
 {}
@@ -29,11 +32,15 @@ pub fn sum_laws()
 {}
 
 /// Number avoidance: beside games that are no numbers, moves in numbers aren't needed. Number translation: to add a number
-/// to a canonical game that is no number is to add it to each option (Conway).
+/// to a canonical game that is no number is to add it to each option. Where a number fits between the options of a game, the
+/// game is the simplest such number, and between those of a number a number fits (Conway).
 pub fn number_laws()
     ensures left { LeftAvoidsNumbers }
     ensures right { RightAvoidsNumbers }
     ensures translation { NumbersTranslate }
+    ensures simplest { SimplestIsValue }
+    ensures fitting { FittingHaveSimplest }
+    ensures fit { NumbersFit }
 {}
 
 /// Canonical games have stops, which bound them, and the left stop is at least the right one (Siegel).
@@ -66,4 +73,15 @@ pub fn wall_laws()
     ensures temperature { TemperaturesExist }
     ensures between { NoneBetween }
     ensures bends { NoneBendsBetween }
+    ensures rule { WallsAreOnGrids }
+{}
+
+/// Values that every book has (0, 1/2, star, up, {2|0}, a tiny, the nimber of 2) as instances of the definitions.
+pub fn known_values()
+    ensures numbers { KnownNumbers }
+    ensures order { KnownOrder }
+    ensures sums { KnownSums }
+    ensures canonical { KnownCanonical }
+    ensures stops { KnownStops }
+    ensures walls { KnownWalls }
 {}

@@ -12,7 +12,7 @@ use Rattle.short_games.proofs.OrderLaws.{le-refl, same-refl, same-path, same-sym
 use Rattle.short_games.proofs.SumLaws.{plus-assoc, same-plus, same-comm, same-swap}
 use Rattle.game_store.proofs.Values.{has-pick}
 use Rattle.short_games.specs.SumLaws.{incentive}
-use Rattle.game_canon.specs.Players.{options, LosesGame}
+use Rattle.sum_outcome.specs.Players.{options, LosesGame}
 use Rattle.short_games.proofs.IncentiveLaws.{incentive-dominates, incentive-dominates_back}
 use Rattle.sum_outcome.specs.Sums.{sum_tree}
 use Rattle.sum_outcome.specs.Search.{put, IsMove, WinsAt}

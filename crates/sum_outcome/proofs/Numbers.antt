@@ -5,7 +5,7 @@ use Rattle.go_grid.specs.declared.grid.Colour.TheVariants.{Black, White}
 use Rattle.short_games.specs.Order.{◌≤ᵍ◌}
 use Rattle.short_games.specs.Number.{num, number_tree}
 use Rattle.short_games.proofs.NumberLaws.{num-le, num-lt, num-zero}
-use Rattle.game_canon.specs.Players.{LosesGame}
+use Rattle.sum_outcome.specs.Players.{LosesGame}
 
 -- a player to move loses a number that is no gain
 pub lost_black : (y : ℤ) → (y ≤ℤ pos 0) ↔ LosesGame Black (number_tree y)

@@ -12,9 +12,9 @@ use Rattle.short_games.proofs.OrderLaws.{le-trans, same-refl, same-path, same-sy
 use Rattle.short_games.proofs.SumLaws.{nought, nought-plus, plus-nought, plus-neg, plus-assoc, same-plus, same-comm}
 use Rattle.short_games.proofs.NumberLaws.{num-zero}
 use Rattle.short_games.specs.SumLaws.{incentive}
-use Rattle.game_canon.specs.Players.{LosesGame}
+use Rattle.sum_outcome.specs.Players.{LosesGame}
 use Rattle.short_games.proofs.IncentiveLaws.{incentive-dominates}
-use Rattle.game_canon.proofs.PlayerLaws.{loses-same}
+use Rattle.sum_outcome.proofs.PlayerLaws.{loses-same}
 use Rattle.game_canon.proofs.Sizes.{own-number}
 use Rattle.sum_outcome.specs.Sums.{sum_tree, AreBounds, IsBounded}
 use Rattle.sum_outcome.specs.Search.{put}

@@ -6,7 +6,7 @@ use Rattle.short_games.specs.Tree.{Tree, node, none, neg, tree_at}
 use Rattle.short_games.specs.Order.{◌≡ᵍ◌}
 use Rattle.short_games.specs.Sum.{◌+ᵍ◌}
 use Rattle.short_games.specs.Number.{number_tree}
-use Rattle.game_canon.specs.Players.{LosesGame}
+use Rattle.sum_outcome.specs.Players.{LosesGame}
 use Rattle.sum_outcome.specs.declared.opposites.Opposites.{Opposites}
 
 -- two games cancel where they add up to 0

@@ -5,7 +5,7 @@ use Rattle.thermograph.specs.declared.breaks.Break.{Break}
 use Rattle.thermograph.specs.declared.side.Side.{Side}
 use Rattle.thermograph.specs.declared.side.Side.TheVariants as side
 use Rattle.thermograph.specs.Breaks.{toward}
-use Rattle.short_games.specs.Walls.{Bends}
+use Rattle.short_games.specs.WallGrids.{Bends}
 use Rattle.thermograph.specs.Scaffolds.{turned, rise_at, scaffold_at, IsAlong, IsStraight}
 use Rattle.thermograph.proofs.BreakLists.{toward-up, toward-down, toward-same, toward-none}
 use Rattle.short_games.specs.Lines.{Rises}

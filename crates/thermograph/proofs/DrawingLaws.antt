@@ -10,8 +10,8 @@ use Rattle.game_store.specs.Forms.{IsOptions, HaveForms}
 use Rattle.thermograph.specs.declared.breaks.Break.{Break}
 use Rattle.thermograph.specs.declared.drawing.Drawing.{Drawing}
 use Rattle.thermograph.specs.declared.side.Side.TheVariants as side
-use Rattle.short_games.specs.Walls.{IsGreatest, IsLeast, WallsAre, AllWallsAre, HasWalls, IsMeeting, HasTemperatureBetween, Bends}
-use Rattle.short_games.specs.Walls.WallsAre.{of_number, of_game}
+use Rattle.short_games.specs.WallGrids.{IsGreatest, IsLeast, WallsAre, AllWallsAre, HasWalls, IsMeeting, HasTemperatureBetween, Bends}
+use Rattle.short_games.specs.WallGrids.WallsAre.{of_number, of_game}
 use Rattle.thermograph.specs.Breaks.{wall_at, from, IsLevel, IsPath}
 use Rattle.thermograph.specs.Scaffolds.{picked, scaffold_at, IsTraced}
 use Rattle.thermograph.specs.Drawings.{AreBreaks, IsTemperature, end_of, IsDrawing, IsJoined, Jumps, AreDrawnBelow}

@@ -12,7 +12,7 @@ use Rattle.short_games.proofs.TextOrderLaws.{sorted-has, has-sorted}
 use Rattle.thermograph.specs.declared.breaks.Break.{Break}
 use Rattle.thermograph.specs.declared.side.Side.TheVariants as side
 use Rattle.short_games.specs.Lines.{Rises, Falls}
-use Rattle.short_games.specs.Walls.{IsGreatest, IsLeast, AllWallsAre, HasWalls}
+use Rattle.short_games.specs.WallGrids.{IsGreatest, IsLeast, AllWallsAre, HasWalls}
 use Rattle.thermograph.specs.Breaks.{IsLevel}
 use Rattle.thermograph.specs.Scaffolds.{wall_of, picked, turned_wall, greatest, rise_at, scaffold_at, AreLevel, AreSteady, IsSteadyLine, Stays}
 use Rattle.thermograph.specs.Drawings.{IsDrawn, AreDrawnBelow}

@@ -4,7 +4,7 @@ use Rattle.std.proofs.Common.{ℕ, zero, suc, ◌+◌, ◌<◌, ◌≡◌, ◌�
 use Rattle.std.proofs.lemmas.List.{length-append}
 use Rattle.short_games.specs.Tree.{Tree, tree_at}
 use Rattle.thermograph.specs.declared.breaks.Break.{Break}
-use Rattle.short_games.specs.Walls.{HasTemperatureBetween}
+use Rattle.short_games.specs.WallGrids.{HasTemperatureBetween}
 use Rattle.thermograph.specs.Scaffolds.{wall_of}
 use Rattle.thermograph.specs.Marks.{IsMarked, AreFollowers}
 use Rattle.thermograph.specs.Drawings.{IsDrawn, AreDrawnBelow, AreDrawn}

@@ -11,9 +11,9 @@ use Rattle.short_games.specs.Number.{IsNumberTree}
 use Rattle.short_games.specs.Parts.{IsFollower, IsOption, IsPart}
 use Rattle.short_games.specs.Parts.IsFollower.{itself, further}
 use Rattle.game_store.specs.Forms.{HaveForms}
-use Rattle.short_games.specs.Walls.{Follow, HasWalls, HasTemperatureBetween, IsMeeting, WallsAre, finer, Bends}
-use Rattle.short_games.specs.Walls.Follow.{apart, met}
-use Rattle.short_games.specs.Walls.WallsAre.{of_number, of_game}
+use Rattle.short_games.specs.WallGrids.{Follow, HasWalls, HasTemperatureBetween, IsMeeting, WallsAre, finer, Bends}
+use Rattle.short_games.specs.WallGrids.Follow.{apart, met}
+use Rattle.short_games.specs.WallGrids.WallsAre.{of_number, of_game}
 use Rattle.thermograph.specs.PastBounds.{IsBreak, IsWithin, HasBreakPast, IsDrawnPastBounds}
 use Rattle.short_games.proofs.PartLaws.{follower-trans}
 use Rattle.short_games.proofs.WallBetween.{none-bends, none-between}

@@ -2,7 +2,7 @@
 use Rattle.std.specs.Prelude.{ℕ, ◌≡◌, ◌<◌, ◌^◌, ◌⊎◌, ℤ, pos, ◌*ℤ◌, unsigned_abs}
 use Rattle.short_games.specs.Tree.{Tree}
 use Rattle.short_games.specs.Parts.{IsPart}
-use Rattle.short_games.specs.Walls.{Bends, HasWalls, IsMeeting}
+use Rattle.short_games.specs.WallGrids.{Bends, HasWalls, IsMeeting}
 
 -- n / 2 ^ k is within the bounds of a Dyadic: some u / 2 ^ 60 with u below 2 ^ 120 in size
 abbrev pub IsWithin : ℕ → ℤ → Type 0

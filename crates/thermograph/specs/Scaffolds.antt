@@ -10,7 +10,7 @@ use Rattle.thermograph.specs.declared.side.Side.{Side}
 use Rattle.thermograph.specs.declared.side.Side.TheVariants as side
 use Rattle.short_games.specs.Lines.{Rises}
 use Rattle.thermograph.specs.Breaks.{wall_at, toward, IsLevel, IsPath, IsBreakAt}
-use Rattle.short_games.specs.Walls.{Bends}
+use Rattle.short_games.specs.WallGrids.{Bends}
 
 -- the wall of an id
 abbrev pub wall_of : List (Vec Break Global) → ℕ → List Break

@@ -8,6 +8,7 @@ use Rattle.short_games.proofs.WallBeginnings.{walls-zero}
 use Rattle.short_games.proofs.WallExistence.{walls-exist}
 use Rattle.short_games.proofs.WallMeetings.{meeting-exists}
 use Rattle.short_games.proofs.WallBetween.{none-between, none-bends}
+use Rattle.short_games.proofs.WallRule.{rule-is}
 use Rattle.short_games.proofs.wall_laws.Goals as goal
 
 pub returns-clause-exist : goal.returns-clause-exist
@@ -33,3 +34,6 @@ returns-clause-between c = none-between
 
 pub returns-clause-bends : goal.returns-clause-bends
 returns-clause-bends c = none-bends
+
+pub returns-clause-rule : goal.returns-clause-rule
+returns-clause-rule c = rule-is

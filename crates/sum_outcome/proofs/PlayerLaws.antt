@@ -5,16 +5,13 @@ use Rattle.go_grid.specs.declared.grid.Colour.{Colour}
 use Rattle.go_grid.specs.declared.grid.Colour.TheVariants.{Black, White}
 use Rattle.go_grid.specs.Board.{other}
 use Rattle.short_games.specs.Tree.{Tree, Has, neg}
-use Rattle.short_games.specs.Order.{le, ◌≡ᵍ◌}
+use Rattle.short_games.proofs.OrderLaws.{not-le, le-out, le-trans, le-or_not}
+use Rattle.short_games.specs.Order.{◌≡ᵍ◌, by_left, by_right}
 use Rattle.short_games.specs.Sum.{◌+ᵍ◌}
 use Rattle.short_games.specs.Number.{num, whole, count_tree}
-use Rattle.std.proofs.lemmas.Bool.{both_ways, cases_Bool}
-use Rattle.short_games.proofs.CanonicalLaws.{not-le}
-use Rattle.short_games.proofs.CanonicalLaws.Witness.{by_left, by_right}
-use Rattle.short_games.proofs.OrderLaws.{le-out, le-trans}
 use Rattle.short_games.proofs.SumLaws.{InSum, nought, left_of_sum, right_of_sum, left_in_first, left_in_second, right_in_first, right_in_second}
 use Rattle.short_games.proofs.NumberLaws.{num-plus_le, num-le_plus}
-use Rattle.game_canon.specs.Players.{options, credit, gain, LosesGame}
+use Rattle.sum_outcome.specs.Players.{options, credit, gain, LosesGame}
 
 pub option_of_sum : (c : Colour) (G H X : Tree) → Has (options c (G +ᵍ H)) X → InSum G H (options c G) (options c H) X
 option_of_sum Black G H X h = left_of_sum G H X h
@@ -88,5 +85,5 @@ wins-option White G l = elim (not-le nought G l) [
 ]
 
 pub loses-or_not : (c : Colour) (G : Tree) → LosesGame c G ⊎ (LosesGame c G → ⊥)
-loses-or_not Black G = elim (cases_Bool (le G nought)) [ inl t ↦ inl t | inr f ↦ inr (λ e. both_ways _ f e) ]
-loses-or_not White G = elim (cases_Bool (le nought G)) [ inl t ↦ inl t | inr f ↦ inr (λ e. both_ways _ f e) ]
+loses-or_not Black G = le-or_not G nought
+loses-or_not White G = le-or_not nought G
