@@ -1,10 +1,8 @@
 -- Amounts of opposites and sums.
-use Rattle.std.proofs.Common.{ℕ, ◌≡◌, ◌⊎◌, List, inl, inr, refl, sym, subst, Some, None}
+use Rattle.std.proofs.Common.{ℕ, ◌≡◌, List, inl, inr, refl, subst, Some, None}
 use Rattle.std.specs.Prelude.{Option}
 use Rattle.short_games.specs.Tree.{Tree, neg, tree_at}
-use Rattle.short_games.specs.Order.{◌≡ᵍ◌}
 use Rattle.short_games.specs.Sum.{◌+ᵍ◌}
-use Rattle.short_games.specs.TextOrder.{IsCanonicalFor}
 use Rattle.short_games.proofs.SumLaws.{neg-le, plus-le_both}
 use Rattle.game_canon.specs.Outcomes.{IsCanonicalId}
 use Rattle.short_games.proofs.ReductionLaws.{same-canonical}

@@ -10,7 +10,7 @@ use Rattle.short_games.proofs.ReductionLaws.{same-canonical}
 use Rattle.game_lines.specs.Showings.{IsUnshown}
 use Rattle.game_calc.specs.Amounts.{IsAmount}
 use Rattle.game_calc.specs.Answer.{IsAnswer, IsOrderText, IsPastLimit, IsShownRefusal, IsUnanswered}
-use Rattle.game_calc.specs.Expression.{Expression, tree_of, HasStepOutOfLimits}
+use Rattle.game_calc.specs.Expression.{Expression, tree_of}
 use Rattle.game_calc.specs.Expression.Line.{value, order}
 use Rattle.game_calc.specs.declared.amounts.Amount.{Amount}
 use Rattle.game_calc.specs.declared.amounts.Amount.TheVariants.{Known}

@@ -1,5 +1,5 @@
 -- The places of a form among the ids that it is made of, and what the whole table says of a step.
-use Rattle.std.proofs.Common.{ℕ, ◌<◌, ◌≡◌, ◌⊎◌, List, length, get_or, inl, inr, refl, sym, subst, ◌∙◌, ap, Some}
+use Rattle.std.proofs.Common.{ℕ, ◌<◌, ◌≡◌, List, length, get_or, inl, inr, sym, subst, ◌∙◌, ap, Some}
 use Rattle.std.specs.Prelude.{Option}
 use Rattle.short_games.specs.Tree.{Tree, tree_at, AreDistinct}
 use Rattle.short_games.specs.Sum.{◌+ᵍ◌}
@@ -8,7 +8,7 @@ use Rattle.short_games.specs.TextOrder.{IsCanonicalFor}
 use Rattle.game_store.specs.Meaning.{Extends, Wanted}
 use Rattle.game_store.specs.Meaning.Wanted.{number, options}
 use Rattle.game_store.specs.Forms.{HaveForms, IsMeaning}
-use Rattle.short_games.specs.Parts.{IsFollower, IsOption, IsPart, IsReached}
+use Rattle.short_games.specs.Parts.{IsFollower, IsOption, IsReached}
 use Rattle.short_games.specs.Parts.IsFollower.{itself, further}
 use Rattle.short_games.proofs.PartLaws.{number-follower, follower-more}
 use Rattle.game_canon.specs.declared.errors.FormError.{FormError}

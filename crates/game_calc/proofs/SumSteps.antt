@@ -1,5 +1,5 @@
 -- The options of a sum, up to the order of games, and the form that is made of them.
-use Rattle.std.proofs.Common.{ℕ, zero, suc, ◌+◌, ◌<◌, ◌≤◌, ◌≡◌, ◌⊎◌, ◌++◌, ◌∷◌, [], List, length, get_or, inl, inr, arith, ap, refl, sym, subst, ◌∙◌, ℤ, ◌+ℤ◌, Some}
+use Rattle.std.proofs.Common.{ℕ, zero, suc, ◌<◌, ◌≡◌, ◌++◌, ◌∷◌, [], List, length, inl, inr, arith, ap, refl, sym, subst, ◌∙◌, ℤ, ◌+ℤ◌, Some}
 use Rattle.std.specs.Prelude.{Option}
 use Rattle.dyadic_num.specs.Units.{IsInBounds}
 use Rattle.short_games.specs.Tree.{Tree, Trees, node, left, right, Has, ◌then◌, tree_at}
@@ -24,7 +24,7 @@ use Rattle.game_canon.proofs.GameLaws.{has-left, left-has, has-right, right-has}
 use Rattle.game_canon.proofs.Sizes.{number-same}
 use Rattle.game_canon.proofs.SideLaws.{pick-append}
 use Rattle.game_calc.specs.Steps.{IsPairRefusal}
-use Rattle.game_calc.specs.Table.{AreNoted, AddsSums, AddsMoves, AreRight}
+use Rattle.game_calc.specs.Table.{AreNoted, AddsMoves, AreRight}
 
 -- each tree of the one list is equal as a game to one of the other
 pub record AreAlike (As Bs : Trees) : Type 0 where

@@ -1,5 +1,5 @@
 -- How the table of sums is filled, row by row.
-use Rattle.std.proofs.Common.{ℕ, zero, suc, ◌+◌, ◌<◌, ◌≤◌, ◌≡◌, ◌⊎◌, ◌++◌, ◌∷◌, [], List, length, get_or, inl, inr, arith, ap, refl, sym, subst, ◌∙◌, Some, None, take, append_assoc}
+use Rattle.std.proofs.Common.{ℕ, ◌+◌, ◌<◌, ◌≡◌, ◌⊎◌, ◌++◌, ◌∷◌, [], List, length, get_or, inl, inr, arith, ap, refl, sym, subst, ◌∙◌, Some, None, take, append_assoc}
 use Rattle.std.specs.Prelude.{Option, cond, nat_eq, ◌&&◌}
 use Rattle.std.proofs.lemmas.Bool.{cases_lt, cases_Bool, and_parts, eqb-true, eq-eqb}
 use Rattle.std.proofs.lemmas.List.{append-nil, take_more}
@@ -12,7 +12,6 @@ use Rattle.game_store.specs.Forms.{IsOptions}
 use Rattle.short_games.specs.Parts.{HasMoreParts, IsInner}
 use Rattle.game_store.proofs.Values.{pick-has, pick-same}
 use Rattle.game_canon.specs.Changes.{AreClosed, AreKnown}
-use Rattle.game_canon.specs.Followers.{IsIn}
 use Rattle.game_canon.specs.Outcomes.{IsCanonicalId}
 use Rattle.game_canon.proofs.ChangeSteps.{extends-on}
 use Rattle.game_canon.proofs.GameLaws.{left-has, right-has}

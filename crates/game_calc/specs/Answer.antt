@@ -1,5 +1,5 @@
 -- The answer to a line, and why there is none.
-use Rattle.std.specs.Prelude.{ℕ, ◌≡◌, ◌+◌, ◌⊎◌, List, length, codes, Result, Ok, Err}
+use Rattle.std.specs.Prelude.{ℕ, ◌≡◌, ◌+◌, ◌⊎◌, List, length, codes, Ok, Err}
 use Rattle.short_games.specs.Tree.{Tree}
 use Rattle.short_games.specs.TextOrder.{IsCanonicalFor}
 use Rattle.game_text.specs.NamedText.{named_text}

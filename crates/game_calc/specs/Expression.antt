@@ -1,7 +1,7 @@
 -- What a line of the calculator says, and why it is refused: the grammar, read from the front.
 --     line = sum [ "?" sum ]      sum = [ "-" ] term { ( "+" | "-" ) term }      term = game | "(" sum ")"
 -- A token is a longest run of bytes other than a blank.
-use Rattle.std.specs.Prelude.{ℕ, suc, ◌≡◌, ◌+◌, ◌<◌, ◌≤◌, ◌⊎◌, List, [], ◌∷◌, ◌++◌, length, cond, nat_eq, Option, Some, None, Result, Ok, Err}
+use Rattle.std.specs.Prelude.{ℕ, suc, ◌≡◌, ◌<◌, ◌≤◌, ◌⊎◌, List, [], ◌∷◌, ◌++◌, cond, nat_eq, Option, Some, None, Result, Ok, Err}
 use Rattle.short_games.specs.Tree.{Tree, neg}
 use Rattle.short_games.specs.Sum.{◌+ᵍ◌}
 use Rattle.short_games.specs.TextOrder.{IsCanonicalFor}

@@ -1,5 +1,5 @@
 -- Where the reader stands in a line: the parentheses that are open, and what the rest of the line then comes to.
-use Rattle.std.specs.Prelude.{ℕ, suc, ◌≡◌, ◌+◌, ◌<◌, ◌≤◌, ◌⊎◌, List, [], ◌∷◌, ◌++◌, length, drop, slice_range, Option, Some, None, Result, Ok, Err}
+use Rattle.std.specs.Prelude.{ℕ, ◌≡◌, ◌+◌, ◌<◌, ◌≤◌, ◌⊎◌, List, [], ◌∷◌, ◌++◌, length, drop, slice_range, Option, Some, None, Result, Ok, Err}
 use Rattle.short_games.specs.Tree.{Tree}
 use Rattle.game_calc.specs.Amounts.{IsAmount, IsBefore, IsHeld}
 use Rattle.game_calc.specs.Expression.{Expression, Line, Fault, Outcome, ReadsTerm, ReadsTerms, ReadsLine, BehindFirst, BehindSecond, closed, kind, next, token, rest, sign_of, with_term}
@@ -18,7 +18,6 @@ use Rattle.game_calc.specs.declared.reading.Place.{Place}
 use Rattle.game_calc.specs.declared.reading.Place.TheVariants as due
 use Rattle.game_calc.specs.declared.reading.Turn.{Turn}
 use Rattle.game_calc.specs.declared.reading.Turn.TheVariants as turn
-use Rattle.game_calc.specs.declared.tokens.Kind.{Kind}
 use Rattle.game_calc.specs.declared.tokens.Kind.TheVariants.{Game}
 use Rattle.game_calc.specs.declared.tokens.Token.{Token}
 

@@ -1,7 +1,5 @@
-use Rattle.std.proofs.Common.{sym, ◌∙◌, subst, ◌≡◌, refl}
+use Rattle.std.proofs.Common.{◌∙◌, refl}
 use Rattle.std.specs.Prelude.{slice_range}
-use Rattle.game_calc.specs.Expression.{kind_of}
-use Rattle.game_calc.specs.declared.tokens.Kind.TheVariants.{End}
 use Rattle.game_calc.proofs.TokenSteps.{some-bytes}
 use Rattle.game_calc.proofs.tokens.next_token.Goals as goal
 
