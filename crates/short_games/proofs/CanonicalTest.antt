@@ -1,10 +1,10 @@
 -- A test for canonical trees.
-use Rattle.std.proofs.Common.{◌≡◌, ◌&&◌, Bool, true, false, not, refl, inl, inr, sym, ◌∙◌, ap}
-use Rattle.std.proofs.lemmas.Bool.{and_parts, cases_Bool, true≢false}
+use Rattle.std.proofs.Common.{◌≡◌, ◌&&◌, Bool, true, not, inl, inr, ap}
+use Rattle.std.proofs.lemmas.Bool.{and_parts, cases_Bool}
 use Rattle.short_games.specs.Tree.{Tree, Trees, node, none, more, left, right, Has}
 use Rattle.short_games.specs.Order.{◌≤ᵍ◌}
 use Rattle.short_games.specs.NumberText.{same}
-use Rattle.short_games.specs.Canonical.{Ascends, IsReduced, IsCanonical, AreCanonical}
+use Rattle.short_games.specs.Canonical.{Ascends, IsReduced, AreCanonical}
 use Rattle.short_games.specs.TextOrder.{text_before, TextBefore, IsCanonicalTree}
 use Rattle.short_games.proofs.NumberTextLaws.{same-is}
 use Rattle.short_games.proofs.OrderLaws.{no_one, no_one-has, le, to-test}
@@ -72,6 +72,7 @@ reduced G e =
 
 mutual
   unfolding canonical_test
+
   pub by_canonical_test : (G : Tree) → canonical_test G ≡ true → IsCanonicalTree G
   by_canonical_test (node ls rs) e = let p = and_parts _ _ e in let q = and_parts _ _ p.1 in (reduced (node ls rs) p.0, each ls q.0, each rs q.1)
 

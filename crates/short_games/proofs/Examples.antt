@@ -1,15 +1,15 @@
 -- Small games: canonical by the test, and which of them are numbers.
-use Rattle.std.proofs.Common.{ℕ, ◌≡◌, inl, inr, refl, sym, ◌∙◌, subst, ℤ, pos, arith}
+use Rattle.std.proofs.Common.{◌≡◌, inl, refl, ◌∙◌, subst, pos, arith}
 use Rattle.std.proofs.lemmas.Int.{ints}
-use Rattle.short_games.specs.Tree.{Tree, node, none, more, left, right, Has, size}
+use Rattle.short_games.specs.Tree.{Tree, node, none, left, right, Has, size}
 use Rattle.short_games.specs.Order.{◌≤ᵍ◌}
-use Rattle.short_games.specs.Number.{num, whole, count_tree, half, is_even, IsNumberTree}
-use Rattle.short_games.specs.NumberText.{same, guess, number_of, number_text, digits_within}
+use Rattle.short_games.specs.Number.{num, whole, count_tree, IsNumberTree}
+use Rattle.short_games.specs.NumberText.{same, guess, number_of, digits_within}
 use Rattle.short_games.specs.Text.{text}
 use Rattle.short_games.specs.TextOrder.{tree_text, lesser_text, text_before, IsCanonicalTree}
-use Rattle.short_games.specs.Examples.{choice, zero, one, two, minus_two, star, up, switch, tiny, star_two}
+use Rattle.short_games.specs.Examples.{choice, zero, one, star, up, switch, tiny, star_two}
 use Rattle.short_games.proofs.NumberLaws.{num-left, num-right, num-lt, num-zero}
-use Rattle.short_games.proofs.OrderLaws.{no_one, le, le_within, from-test}
+use Rattle.short_games.proofs.OrderLaws.{le, le_within, from-test}
 use Rattle.short_games.proofs.CanonicalTest.{canonical_test, reduced_test, kept_test, ascends_test, free_test, by_canonical_test}
 
 -- a tree with a Right option that is at most a Left one is no number's

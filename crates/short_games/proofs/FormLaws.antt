@@ -1,7 +1,7 @@
 -- What may be done to a form: options exchanged for better ones, reversible options replaced, numbers found, numbers added.
-use Rattle.std.proofs.Common.{ℕ, zero, suc, ◌<◌, ◌≡◌, ◌⊎◌, arith, refl, inl, inr, sym, ◌∙◌, ap, subst, ℤ, pos, negsuc, ◌+ℤ◌, ◌<ℤ◌, neg_ℤ, true, false, Bool}
+use Rattle.std.proofs.Common.{ℕ, zero, suc, ◌<◌, ◌≡◌, ◌⊎◌, arith, refl, inl, inr, sym, ◌∙◌, ap, subst, ℤ, pos, negsuc, ◌+ℤ◌, ◌<ℤ◌, neg_ℤ, false}
 use Rattle.std.proofs.lemmas.Int.{ints}
-use Rattle.std.proofs.lemmas.Bool.{cases_Bool, true≢false}
+use Rattle.std.proofs.lemmas.Bool.{cases_Bool}
 use Rattle.short_games.specs.Tree.{Tree, Trees, node, none, more, left, right, Has, size, neg, neg_each}
 use Rattle.short_games.specs.Order.{◌≤ᵍ◌, by_left, by_right}
 use Rattle.short_games.specs.Sum.{◌+ᵍ◌, each_plus}

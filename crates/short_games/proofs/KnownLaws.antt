@@ -1,17 +1,14 @@
 -- Values that every book has.
-use Rattle.std.proofs.Common.{ℕ, zero as nought, ◌+◌, ◌*◌, ◌^◌, ◌≤◌, ◌≡◌, Bool, true, false, inl, inr, refl, sym, ◌∙◌, subst, ℤ, pos, negsuc, ◌+ℤ◌, ◌-ℤ◌, ◌*ℤ◌, ◌<ℤ◌, arith}
+use Rattle.std.proofs.Common.{ℕ, ◌+◌, ◌*◌, ◌^◌, ◌≤◌, ◌≡◌, true, false, inl, inr, refl, sym, ◌∙◌, subst, pos, negsuc, arith}
 use Rattle.std.proofs.lemmas.Int.{ints}
 use Rattle.std.proofs.lemmas.Bool.{false≢true}
-use Rattle.short_games.specs.Tree.{Tree, node, none, more, left, right, Has, size, neg}
+use Rattle.short_games.specs.Tree.{Tree, none, more, size, neg}
 use Rattle.short_games.specs.Order.{◌≤ᵍ◌, ◌⧏ᵍ◌, ◌≡ᵍ◌}
 use Rattle.short_games.specs.Sum.{◌+ᵍ◌}
-use Rattle.short_games.specs.Number.{num, whole, count_tree, half as half_down, is_even, IsNumber, IsNumberTree}
-use Rattle.short_games.specs.Simplest.{IsSimplestFor}
+use Rattle.short_games.specs.Number.{num, whole, count_tree, IsNumber, IsNumberTree}
 use Rattle.short_games.specs.Stops.{IsLeftStop, IsRightStop}
 use Rattle.short_games.specs.Walls.{IsLeftWall, IsRightWall, IsGreatestRightWall, IsLeastLeftWall}
-use Rattle.short_games.specs.NumberText.{same, guess, number_of, number_text, digits_within}
-use Rattle.short_games.specs.Text.{text}
-use Rattle.short_games.specs.TextOrder.{tree_text, lesser_text, text_before, IsCanonicalTree, IsCanonicalFor}
+use Rattle.short_games.specs.TextOrder.{IsCanonicalTree}
 use Rattle.short_games.specs.Examples.{choice, zero, one, two, minus_two, half, star, up, switch, tiny, star_two}
 use Rattle.short_games.specs.KnownValues.{IsLess, AreConfused, IsUpright, KnownNumbers, KnownOrder, KnownSums, KnownCanonical, KnownStops, KnownWalls}
 use Rattle.short_games.proofs.NumberLaws.{num-zero}

@@ -1,5 +1,5 @@
 -- The order has a test, is as the book tells, reflexive and transitive.
-use Rattle.std.proofs.Common.{ℕ, zero, suc, ◌+◌, ◌<◌, ◌≤◌, ◌≡◌, ◌⊎◌, Bool, true, false, ◌&&◌, not, arith, refl, inl, inr, sym, ◌∙◌, ap₂, subst}
+use Rattle.std.proofs.Common.{ℕ, zero, suc, ◌+◌, ◌<◌, ◌≤◌, ◌≡◌, ◌⊎◌, Bool, true, false, ◌&&◌, not, arith, refl, inl, inr, subst}
 use Rattle.std.proofs.lemmas.Bool.{and_parts, and_cases, both_ways, cases_Bool, not-true, not-false, false_from_ne_true, true≢false}
 use Rattle.short_games.specs.Tree.{Tree, Trees, node, none, more, left, right, Has, size, sizes}
 use Rattle.short_games.specs.Order.{◌≤ᵍ◌, ◌⧏ᵍ◌, ◌≡ᵍ◌, at_most, by_left, by_right, NoneBeats}
@@ -55,6 +55,7 @@ le G H = le_within (size G + size H) G H
 
 mutual
   unfolding le_within
+
   true_within : (n : ℕ) (G H : Tree) → size G + size H ≤ n → le_within n G H ≡ true → G ≤ᵍ H
   true_within zero G H a e = absurd (omega (arith, a, size-pos G))
   true_within (suc n) G H a e = let both = and_parts _ _ e in

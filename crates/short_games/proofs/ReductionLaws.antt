@@ -1,7 +1,6 @@
 -- What is left of a form when nothing more can be dropped or bypassed is canonical, but for the order.
 use Rattle.std.proofs.Common.{ℕ, ◌≡◌, ◌⊎◌, inl, inr, sym, subst, ℤ, arith}
 use Rattle.std.proofs.lemmas.Int.{ints}
-use Rattle.std.proofs.lemmas.Bool.{cases_Bool}
 use Rattle.short_games.specs.Tree.{Tree, Trees, node, none, more, left, right, Has}
 use Rattle.short_games.specs.Order.{◌≤ᵍ◌}
 use Rattle.short_games.specs.Number.{num, IsNumber}

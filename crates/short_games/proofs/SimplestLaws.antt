@@ -1,6 +1,6 @@
 -- A game that a number fits is the simplest such number.
 use Rattle.std.proofs.Common.{ℕ, zero, suc, ◌<◌, ◌≡◌, ◌⊎◌, arith, inl, inr, refl, sym, subst}
-use Rattle.short_games.specs.Tree.{Tree, left, right, Has, size}
+use Rattle.short_games.specs.Tree.{Tree, left, right, size}
 use Rattle.short_games.specs.Order.{◌≤ᵍ◌, ◌≡ᵍ◌}
 use Rattle.short_games.specs.Number.{num, IsNumber, IsNumberTree}
 use Rattle.short_games.specs.Simplest.{FitsForm, IsSimplestFor}
@@ -38,7 +38,7 @@ simplest-value G X s = at X s s.number
   where
     at : (X : Tree) → IsSimplestFor G X → IsNumberTree X → G ≡ᵍ X
     at X s i = subst (λ z. G ≡ᵍ z) (sym i.2) (
-      let t = subst (IsSimplestFor G) i.2 s in simplest-is G i.0 i.1 t.fits t.no_left t.no_right)
+        let t = subst (IsSimplestFor G) i.2 s in simplest-is G i.0 i.1 t.fits t.no_left t.no_right)
 
 number-tree_canonical : (X : Tree) → IsNumberTree X → IsCanonicalTree X
 number-tree_canonical X i = subst IsCanonicalTree (sym i.2) (number-canonical i.0 i.1)

@@ -1,7 +1,7 @@
 -- Walls by their rule are the walls on each grid.
 use Rattle.std.proofs.Math.Nat.{pow-suc}
 use Rattle.std.proofs.Math.IntN.{pos-*ℤ-pos, negsuc-*ℤ-pos}
-use Rattle.std.proofs.Common.{ℕ, zero, suc, ◌+◌, ◌-◌, ◌*◌, ◌^◌, ◌<◌, ◌≤◌, ◌≡◌, ◌⊎◌, ◌↔◌, arith, refl, inl, inr, sym, ◌∙◌, ap, ap₂, subst, ℤ, pos, negsuc, neg_ℤ, ◌+ℤ◌, ◌-ℤ◌, ◌*ℤ◌, ◌<ℤ◌, ◌≤ℤ◌}
+use Rattle.std.proofs.Common.{ℕ, zero, suc, ◌+◌, ◌-◌, ◌*◌, ◌^◌, ◌<◌, ◌≤◌, ◌≡◌, ◌⊎◌, ◌↔◌, arith, refl, inl, inr, sym, ◌∙◌, ap, subst, ℤ, pos, negsuc, neg_ℤ, ◌+ℤ◌, ◌-ℤ◌, ◌*ℤ◌, ◌<ℤ◌, ◌≤ℤ◌}
 use Rattle.std.specs.Int.{int_max, int_min}
 use Rattle.std.proofs.lemmas.Int.{ints, clamps, by_lt_z}
 use Rattle.std.proofs.lemmas.Bool.{cases_lt}
@@ -15,8 +15,8 @@ use Rattle.short_games.specs.WallGrids.WallsAre.{of_number, of_game}
 use Rattle.short_games.proofs.OrderLaws.{size-left, size-right}
 use Rattle.short_games.proofs.WallNumbers.{num-one_to_one}
 use Rattle.short_games.proofs.WallGreatest.{IsFilled, filled, greatest-one, greatest-more, least-one, least-more}
-use Rattle.short_games.proofs.WallLines.{Doubles, finer-doubles, greatest-same, least-same}
-use Rattle.short_games.proofs.WallSolutions.{IsSteady, all-here, all-left, all-right, walls-steady, walls-finer, left_scaffold-falls, right_scaffold-rises}
+use Rattle.short_games.proofs.WallLines.{finer-doubles, greatest-same, least-same}
+use Rattle.short_games.proofs.WallSolutions.{all-here, all-left, all-right, walls-steady, walls-finer, left_scaffold-falls, right_scaffold-rises}
 
 -- where f gives the walls at t, the greatest that f gives is the greatest wall
 greatest_wall : (k t : ℕ) (f : Tree → ℤ) (Gs : Trees) → ((X : Tree) → Has Gs X → IsRightWall X k t (f X)) → IsFilled Gs → (x : ℤ) × IsGreatestRightWall Gs k t x × IsGreatest f Gs x

@@ -1,6 +1,6 @@
 -- Values that every book has, as instances of the definitions.
 use Rattle.std.specs.Prelude.{ℕ, ◌≡◌, ◌≤◌, ℤ, pos, negsuc}
-use Rattle.short_games.specs.Tree.{Tree, none, more}
+use Rattle.short_games.specs.Tree.{Tree}
 use Rattle.short_games.specs.Order.{◌≤ᵍ◌, ◌⧏ᵍ◌, ◌≡ᵍ◌}
 use Rattle.short_games.specs.Sum.{◌+ᵍ◌}
 use Rattle.short_games.specs.Number.{num, IsNumber}
@@ -15,7 +15,7 @@ abbrev pub KnownNumbers : Type 0
 KnownNumbers = (num 0 (pos 0) ≡ zero) × (num 0 (pos 2) ≡ two) × (num 0 (negsuc 1) ≡ minus_two) × (num 1 (pos 1) ≡ half) × IsSimplestFor (choice minus_two two) zero
     × (IsNumber star → ⊥) × (IsNumber up → ⊥) × (IsNumber switch → ⊥) × (IsNumber tiny → ⊥) × (IsNumber star_two → ⊥)
 
--- one game is less than another, confused with it
+-- G is less than H: at most H, and not at least
 abbrev pub IsLess : Tree → Tree → Type 0
 IsLess G H = (G ≤ᵍ H) × (G ⧏ᵍ H)
 
@@ -23,7 +23,7 @@ IsLess G H = (G ≤ᵍ H) × (G ⧏ᵍ H)
 abbrev pub AreConfused : Tree → Tree → Type 0
 AreConfused G H = (G ⧏ᵍ H) × (H ⧏ᵍ G)
 
--- 0 < 1/2 < 1 and 0 < tiny < up < 1/2; star and its like are confused with 0 or what is near
+-- 0 < 1/2 < 1 and 0 < tiny < up < 1/2; the nimbers are confused with 0 and with one another, up with star, and {2|0} with 1
 abbrev pub KnownOrder : Type 0
 KnownOrder = IsLess zero half × IsLess half one × IsLess zero tiny × IsLess tiny up × IsLess up half
     × AreConfused zero star × AreConfused up star × AreConfused zero star_two × AreConfused star star_two × AreConfused one switch

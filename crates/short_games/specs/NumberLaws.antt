@@ -9,7 +9,7 @@ use Rattle.short_games.specs.Moves.{LeftMoves, RightMoves, LeftWins, RightWins}
 use Rattle.short_games.specs.TextOrder.{IsCanonicalTree}
 
 -- canonical trees that are no numbers, at least one
-pub record AreHot (Gs : Trees) : Type 0 where
+pub record AreNoNumbers (Gs : Trees) : Type 0 where
   pub some : (G : Tree) × Has Gs G
   pub canonical : (G : Tree) → Has Gs G → IsCanonicalTree G
   pub no_numbers : (G : Tree) → Has Gs G → IsNumberTree G → ⊥
@@ -17,11 +17,11 @@ pub record AreHot (Gs : Trees) : Type 0 where
 -- Where a player who moves first wins the sum of such trees and a number, a move in one of the trees wins it: after it
 -- the sum is at least 0 for Left, or at most 0 for Right
 abbrev pub LeftAvoidsNumbers : Type 0
-LeftAvoidsNumbers = (Gs : Trees) (e : ℕ) (m : ℤ) → AreHot Gs → LeftWins (total Gs +ᵍ num e m) → (Hs : Trees) × LeftMoves Gs Hs × (node none none ≤ᵍ total Hs +ᵍ num e m)
+LeftAvoidsNumbers = (Gs : Trees) (e : ℕ) (m : ℤ) → AreNoNumbers Gs → LeftWins (total Gs +ᵍ num e m) → (Hs : Trees) × LeftMoves Gs Hs × (node none none ≤ᵍ total Hs +ᵍ num e m)
 
 -- the same of Right
 abbrev pub RightAvoidsNumbers : Type 0
-RightAvoidsNumbers = (Gs : Trees) (e : ℕ) (m : ℤ) → AreHot Gs → RightWins (total Gs +ᵍ num e m) → (Hs : Trees) × RightMoves Gs Hs × (total Hs +ᵍ num e m ≤ᵍ node none none)
+RightAvoidsNumbers = (Gs : Trees) (e : ℕ) (m : ℤ) → AreNoNumbers Gs → RightWins (total Gs +ᵍ num e m) → (Hs : Trees) × RightMoves Gs Hs × (total Hs +ᵍ num e m ≤ᵍ node none none)
 
 -- A canonical tree that is no number and a number add up to the tree whose options are the game's, each with the number added
 abbrev pub NumbersTranslate : Type 0

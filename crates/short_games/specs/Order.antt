@@ -14,13 +14,11 @@ mutual
 
 infix 40 ◌≤ᵍ◌
 infix 40 ◌⧏ᵍ◌
-
 -- G and H are equal as games
 abbrev pub ◌≡ᵍ◌ : Tree → Tree → Type 0
 G ≡ᵍ H = (G ≤ᵍ H) × (H ≤ᵍ G)
 
 infix 40 ◌≡ᵍ◌
-
 -- no Left option of G is at least H, and no Right option of H is at most G
 pub record NoneBeats (G H : Tree) : Type 0 where
   pub from_left : (GL : Tree) → Has (left G) GL → H ≤ᵍ GL → ⊥

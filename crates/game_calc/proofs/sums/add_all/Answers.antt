@@ -25,7 +25,7 @@ returns-in_err-add_row-clause-refusal c =
     let n = c.adding.place-index in
     let r = c.in_err-add_row.ensures.refusal in
     let same : tree_at c.adding.store (get_or c.args.first.now n 0) +ᵍ tree_at c.adding.store (get_or c.args.second.now r.0 0) ≡ tree_at Ts (get_or c.args.first.now n 0) +ᵍ tree_at Ts (get_or c.args.second.now r.0 0) =
-        ap₂ ◌+ᵍ◌ (kept.same (get_or c.args.first.now n 0) (c.requires.first.ids n c.adding-test.true)) (kept.same (get_or c.args.second.now r.0 0) (c.requires.second.ids r.0 r.1)) in
+    ap₂ ◌+ᵍ◌ (kept.same (get_or c.args.first.now n 0) (c.requires.first.ids n c.adding-test.true)) (kept.same (get_or c.args.second.now r.0 0) (c.requires.second.ids r.0 r.1)) in
     passed-on c.from_residual.result _ (λ error. (i j : ℕ) × (i < length c.args.first.now) × (j < length c.args.second.now) × IsPairRefusal (tree_at Ts (get_or c.args.first.now i 0) +ᵍ tree_at Ts (get_or c.args.second.now j 0)) c.args.parts_limit error)
     (err_from_is_err_and c.from_residual.result c.from_residual.ensures.1)
     (n, r.0, c.adding-test.true, r.1, subst (λ (t : Tree). IsPairRefusal t c.args.parts_limit c.in_err-add_row.field-0.0) same r.2)
