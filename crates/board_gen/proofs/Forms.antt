@@ -9,23 +9,23 @@ use Rattle.go_grid.specs.declared.grid.Colour.{Colour}
 use Rattle.go_grid.specs.declared.grid.Colour.TheVariants as colour
 use Rattle.go_grid.specs.declared.region.Touch.{Touch}
 use Rattle.go_grid.specs.Board.{other}
-use Rattle.game_store.specs.Tree.{Tree, node, none, Has}
-use Rattle.game_store.specs.Order.{◌≤ᵍ◌, ◌≡ᵍ◌}
-use Rattle.game_store.specs.Sum.{◌+ᵍ◌}
-use Rattle.game_store.specs.Number.{num, IsNumberTree}
-use Rattle.game_store.specs.Meaning.{number_tree, tree_at}
-use Rattle.game_store.specs.Parts.{HasMoreParts, IsFollower, IsOption, IsPart}
-use Rattle.game_store.specs.Parts.IsFollower.{itself, further}
-use Rattle.game_store.specs.TextOrder.{IsCanonicalFor, TextBefore}
-use Rattle.game_store.proofs.Existence.{canon}
-use Rattle.game_store.proofs.NumberLaws.{num-le_plus, num-plus_le, num-zero}
-use Rattle.game_store.proofs.OrderLaws.{le-refl, le-trans}
-use Rattle.game_store.proofs.StopLaws.{num-scaled}
-use Rattle.game_store.proofs.SumLaws.{plus-assoc, plus-le, plus-le_both, plus-nought}
-use Rattle.game_store.proofs.TextOrderLaws.{text-order}
+use Rattle.short_games.specs.Tree.{Tree, node, none, Has, tree_at}
+use Rattle.short_games.specs.Order.{◌≤ᵍ◌, ◌≡ᵍ◌}
+use Rattle.short_games.specs.Sum.{◌+ᵍ◌}
+use Rattle.short_games.specs.Number.{num, IsNumberTree, number_tree}
+use Rattle.short_games.specs.Parts.{HasMoreParts, IsFollower, IsOption, IsPart}
+use Rattle.short_games.specs.Parts.IsFollower.{itself, further}
+use Rattle.short_games.specs.TextOrder.{IsCanonicalFor, TextBefore}
+use Rattle.short_games.proofs.Existence.{canon}
+use Rattle.short_games.proofs.NumberLaws.{num-le_plus, num-plus_le, num-zero}
+use Rattle.short_games.proofs.OrderLaws.{le-refl, le-trans}
+use Rattle.short_games.proofs.StopLaws.{num-scaled}
+use Rattle.short_games.proofs.SumLaws.{plus-assoc, plus-le, plus-le_both, plus-nought}
+use Rattle.short_games.proofs.TextOrderLaws.{text-order}
 use Rattle.game_canon.specs.Changes.{HasNumberPastBounds}
-use Rattle.game_canon.specs.Players.{credit, gain, options}
-use Rattle.game_canon.proofs.NumberParts.{same-canonical, sum-parts}
+use Rattle.sum_outcome.specs.Players.{credit, gain, options}
+use Rattle.short_games.proofs.ReductionLaws.{same-canonical}
+use Rattle.game_canon.proofs.NumberParts.{sum-parts}
 use Rattle.game_canon.proofs.PartLaws.{fewer}
 use Rattle.local_value.specs.LocalGame.{Step}
 use Rattle.local_value.specs.Laws.{MovesTo}

@@ -7,24 +7,23 @@ use Rattle.std.proofs.lemmas.Int.{ints, unsigned_abs-mul}
 use Rattle.dyadic_num.specs.Units.{IsInBounds}
 use Rattle.go_grid.specs.declared.grid.Colour.{Colour}
 use Rattle.go_grid.specs.declared.grid.Colour.TheVariants as colour
-use Rattle.game_store.specs.Tree.{Tree, Trees, node, none, more, left, right, neg, Has}
-use Rattle.game_store.specs.Order.{◌≤ᵍ◌}
-use Rattle.game_store.specs.Sum.{◌+ᵍ◌}
-use Rattle.game_store.specs.Number.{count_tree, num, whole, half, is_even, IsNumberTree}
-use Rattle.game_store.specs.Meaning.{number_tree}
-use Rattle.game_store.specs.Parts.{IsFollower, IsOption}
-use Rattle.game_store.specs.Parts.IsFollower.{itself, further}
-use Rattle.game_store.specs.TextOrder.{IsCanonicalFor, IsCanonicalTree, TextBefore}
-use Rattle.game_store.proofs.CanonicalLaws.{canonical-unique}
-use Rattle.game_store.proofs.Existence.{canon, canon_below}
-use Rattle.game_store.proofs.FormLaws.{all-canonical, by_better}
-use Rattle.game_store.proofs.NumberLaws.{half-even, half-odd, num-even, num-odd, whole-has_left, whole-has_right}
-use Rattle.game_store.proofs.OrderLaws.{le-trans}
-use Rattle.game_store.proofs.StopLaws.{num-scaled}
-use Rattle.game_store.proofs.SumLaws.{InSum, left_of_sum, neg-left, neg-right, neg_each-has, right_of_sum}
-use Rattle.game_store.proofs.SumLaws.InSum.{in_first, in_second}
-use Rattle.game_store.proofs.TextOrderLaws.{text-order}
-use Rattle.game_canon.specs.Players.{gain}
+use Rattle.short_games.specs.Tree.{Tree, Trees, node, none, more, left, right, neg, Has}
+use Rattle.short_games.specs.Order.{◌≤ᵍ◌}
+use Rattle.short_games.specs.Sum.{◌+ᵍ◌}
+use Rattle.short_games.specs.Number.{count_tree, num, whole, half, is_even, IsNumberTree, number_tree}
+use Rattle.short_games.specs.Parts.{IsFollower, IsOption}
+use Rattle.short_games.specs.Parts.IsFollower.{itself, further}
+use Rattle.short_games.specs.TextOrder.{IsCanonicalFor, IsCanonicalTree, TextBefore}
+use Rattle.short_games.proofs.CanonicalLaws.{canonical-unique}
+use Rattle.short_games.proofs.Existence.{canon, canon_below}
+use Rattle.short_games.proofs.FormLaws.{all-canonical, by_better}
+use Rattle.short_games.proofs.NumberLaws.{half-even, half-odd, num-even, num-odd, whole-has_left, whole-has_right}
+use Rattle.short_games.proofs.OrderLaws.{le-trans}
+use Rattle.short_games.proofs.StopLaws.{num-scaled}
+use Rattle.short_games.proofs.SumLaws.{InSum, left_of_sum, neg-left, neg-right, neg_each-has, right_of_sum}
+use Rattle.short_games.proofs.SumLaws.InSum.{in_first, in_second}
+use Rattle.short_games.proofs.TextOrderLaws.{text-order}
+use Rattle.sum_outcome.specs.Players.{gain}
 
 -- no more than `n` moves, by either player in any order, can be made in the game
 abbrev pub IsLow : ℕ → Tree → Type 0

@@ -5,8 +5,8 @@ use Rattle.go_grid.specs.Board.{Board}
 use Rattle.go_grid.specs.Region.{Region}
 use Rattle.local_graph.specs.FiniteLocalPlay.{HasNoCycle}
 use Rattle.local_graph.specs.LocalGraph.{IsReachable, MoreThan}
-use Rattle.game_store.specs.Tree.{Tree}
-use Rattle.game_store.specs.Parts.{HasMoreParts}
+use Rattle.short_games.specs.Tree.{Tree}
+use Rattle.short_games.specs.Parts.{HasMoreParts}
 use Rattle.game_canon.specs.Changes.{HasNumberPastBounds}
 use Rattle.local_value.specs.PositionTree.{IsValueOf}
 use Rattle.region_cut.specs.Cut.{AreRegionsOfPlay}

@@ -22,10 +22,9 @@ use Rattle.endgame_run.specs.Complete.{AreAnswerable, IsAnswerable, IsAnswered, 
 use Rattle.endgame_run.specs.Engine.{AreForEngine, AskForEngine, IsEngineRun}
 use Rattle.endgame_run.specs.Output.{IsCaused}
 use Rattle.desk_io.specs.Files.{Told, IsLonger, IsTold}
-use Rattle.sgf_go.specs.File.{IsShort}
+use Rattle.sgf_go.specs.File.{IsShort, Reads}
 use Rattle.endgame_run.specs.File.{Outside, count_of, dash, told_of}
 use Rattle.endgame_run.specs.Game.{IsGameRun}
-use Rattle.sgf_go.specs.File.{Reads}
 use Rattle.endgame_run.specs.Verdict.{IsAnswerOn, HasCause, IsAnswer, IsFileAnswer, IsPositionAnswer, IsTextAlone, Pose, limits_of}
 use Rattle.endgame_run.proofs.GameWins.{map_told}
 use Rattle.sgf_go.proofs.OneReading.{not_both, one_setup}

@@ -15,9 +15,9 @@ use Rattle.region_cut.specs.Cut.{AreRegionsOfPlay}
 use Rattle.endgame_run.specs.declared.question.Question.{Question}
 use Rattle.endgame_run.specs.declared.question.Question.TheVariants as question
 use Rattle.desk_io.specs.Files.{IsTold}
+use Rattle.sgf_go.specs.File.{Reads}
 use Rattle.endgame_run.specs.File.{told_of}
 use Rattle.desk_io.specs.Files.{Files}
-use Rattle.sgf_go.specs.File.{Reads}
 use Rattle.endgame_run.specs.Top.{AreToldSteps, IsModest}
 use Rattle.sgf_go.proofs.OneReading.{one_setup}
 use Rattle.endgame_run.proofs.PoseLaws.{one_number, trial_unposed}

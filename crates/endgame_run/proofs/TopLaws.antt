@@ -1,11 +1,9 @@
 -- How the parts of the top call make its clauses.
-use Rattle.std.proofs.Common.{◌≡◌, ℕ, ◌<◌, ◌⊎◌, inl, inr, refl, sym, ap, subst, ◌∙◌, List, [], ◌++◌, Some, None}
-use Rattle.std.specs.Prelude.{Option}
+use Rattle.std.proofs.Common.{◌≡◌, ℕ, ◌<◌, ◌⊎◌, inl, inr, refl, sym, ap, subst, ◌∙◌, List, [], ◌++◌, Some, None, ℤ, pos, negsuc, to_z, of_z, w64, arith, ◌≤◌, ◌^◌, Bool, true, false, ◌≢◌}
+use Rattle.std.specs.Prelude.{Option, unsigned_abs}
 use Rattle.std.proofs.lemmas.List.{append-nil}
 use Rattle.std.specs.Io.KnownBytes.{append_known, prepend_known}
-use Rattle.std.proofs.Common.{ℤ, pos, negsuc, to_z, of_z, w64, arith, ◌≤◌, ◌^◌}
 use Rattle.std.proofs.lemmas.Int.{to_z-of_z, fits_signed_from_abs, ints}
-use Rattle.std.specs.Prelude.{unsigned_abs}
 use Rattle.sgf_go.specs.Komi.{IsInRange}
 use Rattle.sgf_go.specs.declared.settings.Settings.{Settings}
 use Rattle.sgf_go.specs.declared.settings.Setup.{Setup}
@@ -28,7 +26,6 @@ use Rattle.endgame_run.specs.declared.question.Opened.{Opened}
 use Rattle.endgame_run.specs.declared.question.Opened.TheVariants as opened
 use Rattle.endgame_run.specs.Found.{IsFileFault, IsFound, IsPositionOf}
 use Rattle.endgame_run.specs.Refusal.{HasStatus}
-use Rattle.std.proofs.Common.{Bool, true, false, ◌≢◌}
 use Rattle.std.specs.Str.{bytes_eq}
 use Rattle.std.proofs.lemmas.Slice.Eq.{bytes_eq-Decides}
 use Rattle.endgame_run.specs.Top.{IsBegun, IsFileRun, IsFinished, IsOpened}

@@ -18,12 +18,11 @@ use Rattle.endgame_run.specs.declared.status.Status.{Status}
 use Rattle.endgame_run.specs.declared.status.Status.TheVariants.{Done, Memory, TooManyLines}
 use Rattle.endgame_run.specs.declared.question.Question.{Question}
 use Rattle.endgame_run.specs.declared.question.Question.TheVariants.{Solve, Values, Safe}
-use Rattle.sgf_go.specs.File.{IsShort}
+use Rattle.sgf_go.specs.File.{IsShort, Reads}
 use Rattle.endgame_run.specs.File.{Outside, told_of}
 use Rattle.endgame_run.specs.Engine.{AskForEngine, InEngine, IsEngineSession}
 use Rattle.endgame_run.specs.Game.{IsSessionOf}
 use Rattle.endgame_run.specs.Output.{InGame}
-use Rattle.sgf_go.specs.File.{Reads}
 use Rattle.endgame_run.specs.Verdict.{AreToCalc, AreToTrial, Pose}
 
 -- the regions of play that the question asks about are all sound within its limits, and the values that it asks for can all be shown

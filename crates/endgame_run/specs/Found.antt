@@ -16,8 +16,7 @@ use Rattle.endgame_run.specs.declared.status.Status.TheVariants.{BadFile, Cannot
 use Rattle.endgame_run.specs.declared.question.Found.{Found}
 use Rattle.endgame_run.specs.declared.question.Found.TheVariants.{Position, Fault}
 use Rattle.desk_io.specs.Files.{Told, IsLonger, IsTold}
-use Rattle.sgf_go.specs.File.{IsShort}
-use Rattle.sgf_go.specs.File.{Reads}
+use Rattle.sgf_go.specs.File.{IsShort, Reads}
 use Rattle.endgame_run.specs.Position.{IsFaultText, IsSetupFaultText}
 
 -- the ranges of settings: prisoners in points, a komi in half-points

@@ -20,14 +20,13 @@ use Rattle.endgame_run.specs.declared.question.Question.TheVariants.{Solve, Valu
 use Rattle.gtp_engine.specs.declared.end.GtpEnd.{GtpEnd}
 use Rattle.gtp_engine.specs.declared.end.GtpEnd.TheVariants as end
 use Rattle.desk_io.specs.Files.{Told, IsTold}
+use Rattle.sgf_go.specs.File.{Reads}
 use Rattle.endgame_run.specs.File.{Outside, told_of, count_of}
 use Rattle.endgame_run.specs.Found.{IsPositionOf}
-use Rattle.endgame_solver.specs.Solved.{IsPlayable}
+use Rattle.endgame_solver.specs.Solved.{IsPlayable, SolvedGame}
 use Rattle.endgame_run.specs.Engine.{engine_limits}
 use Rattle.endgame_run.specs.Game.{IsEngine, IsGameWritten, IsSessionStatus}
-use Rattle.sgf_go.specs.File.{Reads}
 use Rattle.endgame_run.specs.Refusal.{form_line}
-use Rattle.endgame_solver.specs.Solved.{SolvedGame}
 use Rattle.report.specs.Values.{IsFirstUnshown, IsValuesText}
 use Rattle.endgame_run.specs.Calc.{IsCalc}
 use Rattle.endgame_run.specs.Trial.{IsTrial}

@@ -6,10 +6,9 @@ use Rattle.sgf_go.specs.declared.settings.Setup.{Setup}
 use Rattle.endgame_solver.specs.declared.faults.SolveError.{SolveError}
 use Rattle.endgame_solver.specs.declared.faults.SolveError.TheVariants.{Memory}
 use Rattle.endgame_solver.specs.declared.limits.Limits.{Limits}
-use Rattle.endgame_solver.specs.Solved.{SolvedGame}
+use Rattle.endgame_solver.specs.Solved.{SolvedGame, OpensAs}
 use Rattle.region_cut.specs.Cut.{AreRegionsOfPlay}
 use Rattle.report.specs.Trial.{IsTrialText}
-use Rattle.endgame_solver.specs.Solved.{OpensAs}
 
 -- the limits of a trial, which are those of a file without options
 abbrev pub trial_limits : Limits

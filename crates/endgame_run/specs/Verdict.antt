@@ -21,9 +21,8 @@ use Rattle.endgame_solver.specs.declared.faults.SolveError.{SolveError}
 use Rattle.endgame_solver.specs.Faults.{AreSound, AreRefused, most_steps}
 use Rattle.region_cut.specs.Cut.{AreRegionsOfPlay}
 use Rattle.desk_io.specs.Files.{IsLonger, IsTold}
-use Rattle.sgf_go.specs.File.{IsShort}
-use Rattle.endgame_run.specs.File.{Outside, World, count_of, dash, told_of}
-use Rattle.sgf_go.specs.File.{Reads}
+use Rattle.sgf_go.specs.File.{IsShort, Reads}
+use Rattle.endgame_run.specs.File.{Outside, World, told_of, count_of, dash}
 use Rattle.endgame_run.specs.Position.{IsFaultText}
 use Rattle.endgame_solver.specs.Solved.{OpensAs}
 use Rattle.endgame_run.specs.Solution.{IsSolution}

@@ -18,12 +18,11 @@ use Rattle.local_graph.specs.LocalGraph.{IsCycle, IsGraph, IsOrder, MoreThan, Pl
 use Rattle.local_graph.specs.Graph.{Graph}
 use Rattle.local_graph.proofs.BuildLemmas.{all_positions}
 use Rattle.local_graph.proofs.PlayLemmas.{plays_both}
-use Rattle.game_store.specs.Tree.{Tree}
-use Rattle.game_store.specs.Meaning.{tree_at}
-use Rattle.game_store.specs.Parts.{HasMoreParts}
-use Rattle.game_store.proofs.ReductionLaws.{canonical-same}
+use Rattle.short_games.specs.Tree.{Tree, tree_at}
+use Rattle.short_games.specs.Parts.{HasMoreParts}
+use Rattle.short_games.proofs.ReductionLaws.{canonical-same}
 use Rattle.game_canon.specs.Changes.{HasNumberPastBounds}
-use Rattle.game_canon.proofs.PlayerLaws.{same-sym, same-trans}
+use Rattle.short_games.proofs.OrderLaws.{same-sym, same-trans}
 use Rattle.local_value.specs.PositionTree.{IsStep, IsValueOf}
 use Rattle.local_value.specs.Values.{IsGraphOf, IsPlaceOf, AreValues}
 use Rattle.local_value.proofs.PositionLaws.{trees-same}

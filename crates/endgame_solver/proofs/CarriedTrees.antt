@@ -5,14 +5,14 @@ use Rattle.go_grid.specs.declared.grid.Cell.{Cell}
 use Rattle.go_grid.specs.declared.grid.Colour.{Colour}
 use Rattle.go_grid.specs.declared.grid.Colour.TheVariants.{Black, White}
 use Rattle.go_grid.specs.declared.region.Touch.{Touch}
-use Rattle.game_store.specs.Tree.{Tree, node, none, left, right, Has, neg}
-use Rattle.game_store.specs.Number.{num}
-use Rattle.game_store.specs.Order.{◌≡ᵍ◌}
-use Rattle.game_store.specs.Sum.{◌+ᵍ◌}
-use Rattle.game_store.proofs.NumberLaws.{neg-num}
-use Rattle.game_store.proofs.SumLaws.{has-neg_each, neg_each-has, neg-left, neg-right, neg-plus}
-use Rattle.game_canon.specs.Players.{gain, options}
-use Rattle.game_canon.proofs.PlayerLaws.{same-path, same-plus, same-refl, same-sym, same-trans}
+use Rattle.short_games.specs.Tree.{Tree, node, none, left, right, Has, neg}
+use Rattle.short_games.specs.Number.{num}
+use Rattle.short_games.specs.Order.{◌≡ᵍ◌}
+use Rattle.short_games.specs.Sum.{◌+ᵍ◌}
+use Rattle.short_games.proofs.NumberLaws.{neg-num}
+use Rattle.short_games.proofs.SumLaws.{has-neg_each, neg_each-has, neg-left, neg-right, neg-plus, same-plus}
+use Rattle.sum_outcome.specs.Players.{gain, options}
+use Rattle.short_games.proofs.OrderLaws.{same-path, same-refl, same-sym, same-trans}
 use Rattle.local_value.specs.LocalGame.{Step}
 use Rattle.local_value.specs.PositionTree.{IsStep, IsTreeOf}
 use Rattle.local_value.proofs.PositionLaws.{same_options}

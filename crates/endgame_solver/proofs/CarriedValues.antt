@@ -8,13 +8,12 @@ use Rattle.local_graph.specs.Graph.{Graph}
 use Rattle.local_graph.proofs.BuildLemmas.{not_more}
 use Rattle.local_graph.proofs.PlayLemmas.{plays_long}
 use Rattle.game_store.specs.Forms.{HaveForms}
-use Rattle.game_store.specs.Meaning.{tree_at}
-use Rattle.game_store.specs.Order.{◌≡ᵍ◌}
-use Rattle.game_store.specs.TextOrder.{IsCanonicalFor}
-use Rattle.game_store.specs.Tree.{Tree}
-use Rattle.game_store.proofs.SumLaws.{neg-le}
+use Rattle.short_games.specs.Tree.{tree_at, Tree}
+use Rattle.short_games.specs.Order.{◌≡ᵍ◌}
+use Rattle.short_games.specs.TextOrder.{IsCanonicalFor}
+use Rattle.short_games.proofs.SumLaws.{neg-le}
 use Rattle.game_canon.proofs.NumberParts.{within-bounds}
-use Rattle.game_canon.proofs.PlayerLaws.{same-trans}
+use Rattle.short_games.proofs.OrderLaws.{same-trans}
 use Rattle.local_value.specs.PositionTree.{IsTreeOf, IsValueOf}
 use Rattle.local_value.specs.Values.{AreValues}
 use Rattle.local_value.proofs.CellTreeLaws.{trees-exist}

@@ -13,8 +13,8 @@ use Rattle.go_grid.specs.Chain.{IsSettled}
 use Rattle.go_grid.specs.Board.{Board, stone}
 use Rattle.go_grid.specs.Region.{Region}
 use Rattle.go_play.specs.Place.{IsPlaced, IsNumberTaken}
-use Rattle.game_store.specs.Tree.{Tree}
-use Rattle.game_store.specs.Order.{◌≡ᵍ◌}
+use Rattle.short_games.specs.Tree.{Tree}
+use Rattle.short_games.specs.Order.{◌≡ᵍ◌}
 use Rattle.local_play.specs.LocalPlay.{is_stone, IsLocalMove}
 use Rattle.local_graph.specs.FiniteLocalPlay.{HasNoCycle}
 use Rattle.local_graph.specs.LocalGraph.{IsReachable}

@@ -2,19 +2,20 @@
 use Rattle.std.proofs.Common.{ℕ, ◌+◌, ◌≡◌, inl, inr, refl, sym, ap, subst, List, arith}
 use Rattle.go_grid.specs.declared.grid.Colour.{Colour}
 use Rattle.go_grid.specs.Board.{other}
-use Rattle.game_store.specs.Tree.{Tree, Has}
-use Rattle.game_store.specs.Order.{◌≡ᵍ◌}
-use Rattle.game_store.specs.Sum.{◌+ᵍ◌}
-use Rattle.game_store.proofs.SumLaws.{InSum, plus-assoc}
-use Rattle.game_store.proofs.SumLaws.InSum.{in_first, in_second}
+use Rattle.short_games.specs.Tree.{Tree, Has}
+use Rattle.short_games.specs.Order.{◌≡ᵍ◌}
+use Rattle.short_games.specs.Sum.{◌+ᵍ◌}
+use Rattle.short_games.proofs.SumLaws.{InSum, plus-assoc, same-plus, same-swap}
+use Rattle.short_games.proofs.SumLaws.InSum.{in_first, in_second}
 use Rattle.whole_rules.proofs.OutcomeLaws.{wins-not_loses}
-use Rattle.game_canon.specs.Players.{options, gain}
+use Rattle.sum_outcome.specs.Players.{options, gain}
 use Rattle.local_value.specs.LocalGame.{Step, TakesAtMost}
 use Rattle.endgame_solver.specs.SumGame.{State, Leads, parts_tree, purses_tree, state_tree, AllEnd, IsDecidedBy}
 use Rattle.whole_rules.specs.Purses.{paid_in}
 use Rattle.endgame_solver.proofs.SignLaws.{Mirrors, Decided, decided}
 use Rattle.endgame_solver.proofs.SignLaws.Decided.{lost, won}
-use Rattle.game_canon.proofs.PlayerLaws.{same-refl, same-path, same-trans, same-plus, same-swap, option_of_sum, option_in_first, option_in_second}
+use Rattle.short_games.proofs.OrderLaws.{same-refl, same-path, same-trans}
+use Rattle.sum_outcome.proofs.PlayerLaws.{option_of_sum, option_in_first, option_in_second}
 use Rattle.endgame_solver.proofs.PursesLaws.{purses-plus, purses-moved, purses-met, funds}
 use Rattle.endgame_solver.proofs.PartsLaws.{parts-moved, parts-met, all_end-step}
 use Rattle.endgame_solver.proofs.PlayLaws.{all_end-lasts, ends, yields}

@@ -10,12 +10,12 @@ use Rattle.whole_rules.specs.PlainRecursion.{MoverWins, MoverLoses}
 use Rattle.whole_rules.specs.WholeGame as whole
 use Rattle.local_graph.specs.Graph.{Graph}
 use Rattle.region_cut.specs.LocalBoard.{HoldsPosition}
-use Rattle.game_store.specs.Tree.{Tree}
-use Rattle.game_store.specs.Number.{num}
-use Rattle.game_store.specs.Sum.{◌+ᵍ◌, total}
-use Rattle.game_store.specs.Meaning.{pick, tree_at}
-use Rattle.game_store.proofs.NumberLaws.{num-double}
-use Rattle.game_canon.specs.Players.{LosesGame}
+use Rattle.short_games.specs.Tree.{Tree, tree_at}
+use Rattle.short_games.specs.Number.{num}
+use Rattle.short_games.specs.Sum.{◌+ᵍ◌, total}
+use Rattle.game_store.specs.Meaning.{pick}
+use Rattle.short_games.proofs.NumberLaws.{num-double}
+use Rattle.sum_outcome.specs.Players.{LosesGame}
 use Rattle.local_value.specs.PositionTree.{IsValueOf}
 use Rattle.sum_outcome.specs.Sums.{sum_tree}
 use Rattle.endgame_solver.specs.Regions.{Spot, region_at, AreGraphs, spot_in, moves_at, InRegion, HasCells, IsShown}

@@ -14,7 +14,7 @@ use Rattle.whole_rules.proofs.WallLaws.{keeps_start}
 use Rattle.local_graph.specs.Graph.{Graph}
 use Rattle.region_cut.specs.Cut.{lowest, AreRegionsOfPlay}
 use Rattle.region_cut.specs.LocalBoard.{PlaysLocally}
-use Rattle.game_store.specs.Tree.{Tree}
+use Rattle.short_games.specs.Tree.{Tree}
 use Rattle.endgame_solver.specs.Faults.{AreSound, IsSound}
 use Rattle.endgame_solver.specs.Held.{AreSolved, AreSummed, IsAt, IsKept, ids_at, place_at}
 use Rattle.endgame_solver.specs.Regions.{AreGraphs, IsShown, graph_at, no_region, region_at, spot_in}

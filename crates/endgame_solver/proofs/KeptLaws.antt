@@ -9,7 +9,7 @@ use Rattle.whole_rules.specs.declared.states.MoveError.{MoveError}
 use Rattle.whole_rules.specs.WholeGame.{State, IsMove, Applies}
 use Rattle.local_graph.specs.declared.graph.Edge.{Edge}
 use Rattle.local_graph.specs.Graph.{Graph}
-use Rattle.game_store.specs.Tree.{Tree}
+use Rattle.short_games.specs.Tree.{Tree}
 use Rattle.endgame_solver.specs.Held.{IsKept, IsStoneEdge, ids_at}
 use Rattle.endgame_solver.proofs.StoneLaws.{stone_edge, stone_leads, spend_leads, half_leads, stone_room, spend_room, half_room}
 use Rattle.endgame_solver.proofs.WinningLaws.{summed_set}

@@ -3,10 +3,10 @@ use Rattle.std.proofs.Common.{◌≡◌, ◌≢◌, ℕ, ◌+◌, ◌<◌, ◌�
 use Rattle.std.proofs.lemmas.Bool.{cases_eq}
 use Rattle.std.proofs.lemmas.List.{get_or_append_left, get_or_push, get_or-set_other, get_or-set_same, length_push, length-replicate, length-set, take-append-le}
 use Rattle.std.proofs.Math.Seq.{take-length}
-use Rattle.game_store.specs.Meaning.{AreIds, Extends, tree_at}
-use Rattle.game_store.specs.Parts.{HasMoreParts}
-use Rattle.game_store.specs.TextOrder.{IsCanonicalFor}
-use Rattle.game_store.specs.Tree.{Tree, neg}
+use Rattle.game_store.specs.Meaning.{AreIds, Extends}
+use Rattle.short_games.specs.Tree.{tree_at, Tree, neg}
+use Rattle.short_games.specs.Parts.{HasMoreParts}
+use Rattle.short_games.specs.TextOrder.{IsCanonicalFor}
 use Rattle.game_canon.specs.Outcomes.{AreWithin, IsCanonicalId}
 use Rattle.game_canon.proofs.ChangeSteps.{extends-on}
 use Rattle.endgame_solver.specs.ShapeValues.{game_after}

@@ -2,17 +2,18 @@
 use Rattle.std.proofs.Common.{ℕ, zero, suc, ◌≡◌, arith, inl, inr, refl, sym, ap, subst, List, [], ◌∷◌}
 use Rattle.go_grid.specs.declared.grid.Colour.{Colour}
 use Rattle.go_grid.specs.declared.grid.Colour.TheVariants.{Black, White}
-use Rattle.game_store.specs.Tree.{Tree, node, none, Has}
-use Rattle.game_store.specs.Order.{◌≡ᵍ◌}
-use Rattle.game_store.specs.Sum.{◌+ᵍ◌}
-use Rattle.game_store.proofs.SumLaws.{InSum, plus-assoc}
-use Rattle.game_store.proofs.SumLaws.InSum.{in_first, in_second}
+use Rattle.short_games.specs.Tree.{Tree, node, none, Has}
+use Rattle.short_games.specs.Order.{◌≡ᵍ◌}
+use Rattle.short_games.specs.Sum.{◌+ᵍ◌}
+use Rattle.short_games.proofs.SumLaws.{InSum, plus-assoc, same-plus, same-swap}
+use Rattle.short_games.proofs.SumLaws.InSum.{in_first, in_second}
 use Rattle.local_value.specs.Ending.{EndsWithin}
 use Rattle.endgame_solver.proofs.MatchLaws.{ends-more}
-use Rattle.game_canon.specs.Players.{options, gain}
+use Rattle.sum_outcome.specs.Players.{options, gain}
 use Rattle.local_value.specs.LocalGame.{Step, StepsTo, tree_within}
 use Rattle.endgame_solver.specs.SumGame.{StepIn, parts_tree, AllEnd}
-use Rattle.game_canon.proofs.PlayerLaws.{same-refl, same-path, same-trans, same-plus, same-swap, option_of_sum, option_in_first, option_in_second}
+use Rattle.short_games.proofs.OrderLaws.{same-refl, same-path, same-trans}
+use Rattle.sum_outcome.proofs.PlayerLaws.{option_of_sum, option_in_first, option_in_second}
 use Rattle.local_value.proofs.LocalLaws.{move-option, option-move}
 
 pub no_option : (c : Colour) (X : Tree) → Has (options c (node none none)) X → ⊥

@@ -4,18 +4,19 @@ use Rattle.go_grid.specs.declared.grid.Colour.{Colour}
 use Rattle.go_grid.specs.declared.grid.Colour.TheVariants.{Black, White}
 use Rattle.whole_rules.specs.declared.money.Token.{Token}
 use Rattle.whole_rules.specs.declared.money.Token.TheVariants as token
-use Rattle.game_store.specs.Tree.{Tree, Has, neg}
-use Rattle.game_store.specs.Order.{◌≡ᵍ◌}
-use Rattle.game_store.specs.Sum.{◌+ᵍ◌}
-use Rattle.game_store.specs.Number.{num, whole, count_tree}
-use Rattle.game_store.proofs.SumLaws.{InSum, plus-nought, plus-assoc}
-use Rattle.game_store.proofs.SumLaws.InSum.{in_first, in_second}
-use Rattle.game_store.proofs.NumberLaws.{num-zero, num-double, num-plus_le, num-le_plus}
-use Rattle.game_canon.specs.Players.{options, credit, gain}
+use Rattle.short_games.specs.Tree.{Tree, Has, neg}
+use Rattle.short_games.specs.Order.{◌≡ᵍ◌}
+use Rattle.short_games.specs.Sum.{◌+ᵍ◌}
+use Rattle.short_games.specs.Number.{num, whole, count_tree}
+use Rattle.short_games.proofs.SumLaws.{InSum, plus-nought, plus-assoc, same-plus, same-swap}
+use Rattle.short_games.proofs.SumLaws.InSum.{in_first, in_second}
+use Rattle.short_games.proofs.NumberLaws.{num-zero, num-double, num-plus_le, num-le_plus}
+use Rattle.sum_outcome.specs.Players.{options, credit, gain}
 use Rattle.endgame_solver.specs.SumGame.{token_tree, purses_tree, halves, balance}
 use Rattle.whole_rules.specs.Purses.{purse, paid_in, paid_out, halved}
 use Rattle.whole_rules.specs.declared.money.Purses.{Purses}
-use Rattle.game_canon.proofs.PlayerLaws.{same-refl, same-path, same-sym, same-trans, same-plus, same-swap, option_of_sum, option_in_first, option_in_second, gain-plus, gain-option, gain-has, gain-no_other}
+use Rattle.short_games.proofs.OrderLaws.{same-refl, same-path, same-sym, same-trans}
+use Rattle.sum_outcome.proofs.PlayerLaws.{option_of_sum, option_in_first, option_in_second, gain-plus, gain-option, gain-has, gain-no_other}
 
 -- a unit paid in is a gain
 pub pair-plus : (c : Colour) (a b k : ℕ) → ((gain Black a +ᵍ gain White b) +ᵍ gain c k) ≡ᵍ (let m = paid_in c k (record { black = a; white = b; token = token.Nobody }) in gain Black m.black +ᵍ gain White m.white)

@@ -7,8 +7,8 @@ use Rattle.go_grid.specs.Board.{Board}
 use Rattle.go_grid.specs.Region.{Region}
 use Rattle.local_graph.specs.Graph.{Graph, edges_at}
 use Rattle.local_graph.proofs.EdgeListLemmas.{node_inside}
-use Rattle.game_store.specs.Tree.{Tree}
-use Rattle.game_store.specs.Order.{◌≡ᵍ◌}
+use Rattle.short_games.specs.Tree.{Tree}
+use Rattle.short_games.specs.Order.{◌≡ᵍ◌}
 use Rattle.local_value.specs.Ending.{EndsWithin}
 use Rattle.local_value.specs.LocalGame.{StepsTo, TakesAtMost, tree_within}
 use Rattle.local_value.specs.PositionTree.{IsTreeOf}

@@ -9,8 +9,7 @@ use Rattle.region_cut.specs.Cut.{lowest}
 use Rattle.whole_rules.specs.WholeGame.{State}
 use Rattle.local_graph.specs.Graph.{Graph}
 use Rattle.local_graph.proofs.BuildLemmas.{all_positions}
-use Rattle.game_store.specs.Tree.{Tree}
-use Rattle.game_store.specs.Meaning.{tree_at}
+use Rattle.short_games.specs.Tree.{Tree, tree_at}
 use Rattle.local_value.specs.PositionTree.{IsValueOf}
 use Rattle.endgame_solver.specs.Regions.{region_at, graph_at, no_region}
 use Rattle.endgame_solver.specs.Held.{IsKept, ids_at, place_at}

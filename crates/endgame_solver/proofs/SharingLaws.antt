@@ -10,8 +10,8 @@ use Rattle.local_value.proofs.GraphLaws.{cells_at, move_of}
 use Rattle.local_graph.proofs.PlayLemmas.{plays_long}
 use Rattle.game_store.specs.Forms.{HaveForms}
 use Rattle.game_store.specs.Meaning.{AreCanonical, AreIds, Extends}
-use Rattle.game_store.specs.Tree.{Tree}
-use Rattle.game_store.proofs.OrderLaws.{le-refl}
+use Rattle.short_games.specs.Tree.{Tree}
+use Rattle.short_games.proofs.OrderLaws.{le-refl}
 use Rattle.local_value.specs.Values.{IsGraphOf}
 use Rattle.region_book.specs.Image.{IsShape}
 use Rattle.region_book.specs.Law.{Meet}

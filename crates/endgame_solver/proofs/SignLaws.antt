@@ -2,12 +2,12 @@
 use Rattle.std.proofs.Common.{ℕ, zero, suc, ◌≡◌, inl, inr, sym, subst}
 use Rattle.go_grid.specs.declared.grid.Colour.{Colour}
 use Rattle.go_grid.specs.Board.{other}
-use Rattle.game_store.specs.Tree.{Tree, Has}
-use Rattle.game_store.specs.Order.{◌≡ᵍ◌}
+use Rattle.short_games.specs.Tree.{Tree, Has}
+use Rattle.short_games.specs.Order.{◌≡ᵍ◌}
 use Rattle.whole_rules.specs.PlainRecursion.{WinsWithin, LosesWithin}
 use Rattle.local_value.specs.Ending.{EndsWithin}
-use Rattle.game_canon.specs.Players.{options, LosesGame}
-use Rattle.game_canon.proofs.PlayerLaws.{loses-same, loses-out, wins-option, loses-or_not}
+use Rattle.sum_outcome.specs.Players.{options, LosesGame}
+use Rattle.sum_outcome.proofs.PlayerLaws.{loses-same, loses-out, wins-option, loses-or_not}
 
 module _ (S : Type 0) (Leads : S → S → Type 0) (side : S → Colour) (value : S → Tree) (Fine : S → Type 0) where
   pub record Mirrors : Type 0 where

@@ -22,7 +22,7 @@ use Rattle.local_play.specs.LocalPlay.{IsLocalMove, IsNumberTaken as IsLocalNumb
 use Rattle.local_graph.specs.declared.graph.Edge.{Edge}
 use Rattle.local_graph.specs.Graph.{Graph, edges_at}
 use Rattle.region_cut.specs.LocalBoard.{HoldsPosition}
-use Rattle.game_store.specs.Tree.{Tree}
+use Rattle.short_games.specs.Tree.{Tree}
 use Rattle.local_value.proofs.GraphLaws.{IsEdgeFor, edge_of, move_of, taken_less}
 use Rattle.endgame_solver.specs.Regions.{region_at, graph_at, spot_in, HasCells, IsShown}
 use Rattle.endgame_solver.specs.Held.{AreSolved, IsAt, HasRoom, IsStoneEdge, place_at, token_left}

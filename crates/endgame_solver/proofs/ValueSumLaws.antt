@@ -8,13 +8,15 @@ use Rattle.whole_rules.specs.PlainRecursion.{MoverWins, MoverLoses}
 use Rattle.whole_rules.specs.WholeGame as whole
 use Rattle.whole_rules.proofs.WallLaws.{Keeps}
 use Rattle.local_graph.specs.Graph.{Graph}
-use Rattle.game_store.specs.Tree.{Tree, node, none}
-use Rattle.game_store.specs.Order.{◌≡ᵍ◌}
-use Rattle.game_store.specs.Sum.{◌+ᵍ◌, total}
-use Rattle.game_store.specs.Number.{num}
+use Rattle.short_games.specs.Tree.{Tree, node, none}
+use Rattle.short_games.specs.Order.{◌≡ᵍ◌}
+use Rattle.short_games.specs.Sum.{◌+ᵍ◌, total}
+use Rattle.short_games.specs.Number.{num}
 use Rattle.game_store.specs.Meaning.{pick}
-use Rattle.game_canon.specs.Players.{LosesGame}
-use Rattle.game_canon.proofs.PlayerLaws.{same-refl, same-sym, same-trans, same-plus, loses-same}
+use Rattle.sum_outcome.specs.Players.{LosesGame}
+use Rattle.short_games.proofs.OrderLaws.{same-refl, same-sym, same-trans}
+use Rattle.short_games.proofs.SumLaws.{same-plus}
+use Rattle.sum_outcome.proofs.PlayerLaws.{loses-same}
 use Rattle.local_value.specs.LocalGame.{tree_within}
 use Rattle.local_value.specs.PositionTree.{IsValueOf}
 use Rattle.endgame_solver.specs.Regions.{Spot, region_at, AreGraphs, moves_at, InRegion, HasCells, IsShown}

@@ -7,7 +7,7 @@ use Rattle.go_grid.specs.Region.{Region}
 use Rattle.whole_rules.specs.WholeGame.{State}
 use Rattle.local_graph.specs.declared.graph.Edge.{Edge}
 use Rattle.local_graph.specs.Graph.{Graph, edges_at}
-use Rattle.game_store.specs.Tree.{Tree}
+use Rattle.short_games.specs.Tree.{Tree}
 use Rattle.endgame_solver.specs.Held.{IsKept, IsStoneAt, IsStoneEdge, ids_at, place_at}
 use Rattle.endgame_solver.specs.Regions.{region_at}
 use Rattle.endgame_solver.specs.Sharing.{AreSharedBy}

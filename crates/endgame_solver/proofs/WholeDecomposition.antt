@@ -15,15 +15,17 @@ use Rattle.whole_rules.specs.WholeGame as whole
 use Rattle.whole_rules.proofs.WallLaws.{keeps_start}
 use Rattle.region_cut.specs.LocalBoard.{HoldsPosition}
 use Rattle.region_cut.proofs.ApartLemmas.{holds_start}
-use Rattle.game_store.specs.Tree.{Trees, node, none, more}
-use Rattle.game_store.specs.Order.{◌≡ᵍ◌}
-use Rattle.game_store.specs.Sum.{◌+ᵍ◌, total}
-use Rattle.game_canon.specs.Players.{credit}
-use Rattle.game_canon.proofs.PlayerLaws.{same-refl, same-sym, same-plus, loses-same}
+use Rattle.short_games.specs.Tree.{Trees, node, none, more}
+use Rattle.short_games.specs.Order.{◌≡ᵍ◌}
+use Rattle.short_games.specs.Sum.{◌+ᵍ◌, total}
+use Rattle.sum_outcome.specs.Players.{credit}
+use Rattle.short_games.proofs.OrderLaws.{same-refl, same-sym}
+use Rattle.short_games.proofs.SumLaws.{same-plus}
+use Rattle.sum_outcome.proofs.PlayerLaws.{loses-same}
 use Rattle.local_value.specs.LocalGame.{Step}
 use Rattle.local_value.specs.PositionTree.{IsTreeOf}
 use Rattle.endgame_solver.specs.Decomposition.{AreTreesOn, money_tree, WholeDecomposes}
-use Rattle.game_store.proofs.NumberLaws.{num-plus_le, num-le_plus}
+use Rattle.short_games.proofs.NumberLaws.{num-plus_le, num-le_plus}
 use Rattle.go_grid.specs.declared.grid.Colour.TheVariants.{Black, White}
 use Rattle.whole_rules.specs.declared.money.Purses.{Purses}
 use Rattle.endgame_solver.specs.SumGame.{State, AllEnd, parts_tree, purses_tree, state_tree, token_tree}

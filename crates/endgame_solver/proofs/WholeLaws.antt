@@ -12,7 +12,7 @@ use Rattle.whole_rules.specs.WholeGame as whole
 use Rattle.benson_life.specs.Walls.{WallsStand}
 use Rattle.endgame_solver.proofs.MatchLaws.{Matches, wins-back, loses-forth, loses-back}
 use Rattle.whole_rules.proofs.WallLaws.{Keeps, keeps_move}
-use Rattle.game_canon.specs.Players.{LosesGame}
+use Rattle.sum_outcome.specs.Players.{LosesGame}
 use Rattle.local_value.specs.LocalGame.{Step, TakesAtMost}
 use Rattle.endgame_solver.specs.SumGame.{State, Leads, StepIn, AllEnd, state_tree}
 use Rattle.endgame_solver.specs.WholeParts.{OthersStay, IsLocalPlay, AllShown, IsSeenAs}

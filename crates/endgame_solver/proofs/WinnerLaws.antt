@@ -12,8 +12,8 @@ use Rattle.whole_rules.specs.FirstWinningMove.{IsWinner, IsWinning, IsFirstWinni
 use Rattle.whole_rules.specs.WholeGame.{State, Leads}
 use Rattle.whole_rules.proofs.OutcomeLaws.{wins-not_loses}
 use Rattle.local_graph.specs.Graph.{Graph}
-use Rattle.game_store.specs.Tree.{Tree}
-use Rattle.game_canon.specs.Players.{LosesGame}
+use Rattle.short_games.specs.Tree.{Tree}
+use Rattle.sum_outcome.specs.Players.{LosesGame}
 use Rattle.sum_outcome.specs.Sums.{sum_tree}
 use Rattle.endgame_solver.specs.SumGame.{balance}
 use Rattle.endgame_solver.specs.Held.{IsKept, IsFirstStone}

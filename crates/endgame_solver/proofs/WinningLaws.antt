@@ -14,10 +14,10 @@ use Rattle.whole_rules.specs.PlainRecursion.{MoverLoses}
 use Rattle.whole_rules.specs.FirstWinningMove.{IsWinning}
 use Rattle.local_graph.specs.declared.graph.Edge.{Edge}
 use Rattle.local_graph.specs.Graph.{Graph}
-use Rattle.game_store.specs.Tree.{Tree}
-use Rattle.game_store.specs.Meaning.{pick, tree_at, AreIds}
+use Rattle.short_games.specs.Tree.{Tree, tree_at}
+use Rattle.game_store.specs.Meaning.{pick, AreIds}
 use Rattle.game_canon.specs.Outcomes.{AreWithin}
-use Rattle.game_canon.specs.Players.{LosesGame}
+use Rattle.sum_outcome.specs.Players.{LosesGame}
 use Rattle.sum_outcome.specs.Sums.{sum_tree, IsBounded}
 use Rattle.endgame_solver.specs.SumGame.{balance}
 use Rattle.endgame_solver.specs.Held.{AreSolved, IsAt, AreSummed, HasRoom, IsKept, IsStoneEdge, AreModest, ArePlaces, ids_at, place_at, most_units}

@@ -12,8 +12,8 @@ use Rattle.whole_rules.specs.declared.money.Purses.{Purses}
 use Rattle.whole_rules.specs.declared.money.Token.{Token}
 use Rattle.whole_rules.specs.declared.money.Token.TheVariants as token
 use Rattle.whole_rules.specs.WholeGame.{State}
-use Rattle.game_store.specs.Tree.{Tree}
-use Rattle.game_store.specs.Code.{tree_code}
+use Rattle.short_games.specs.Tree.{Tree}
+use Rattle.short_games.specs.Code.{tree_code}
 use Rattle.endgame_solver.specs.Solved.{SolvedGame}
 
 abbrev cell_number : Cell → ℕ

@@ -15,10 +15,10 @@ use Rattle.whole_rules.specs.WholeGame as whole
 use Rattle.local_graph.specs.FiniteLocalPlay.{HasNoCycle}
 use Rattle.region_cut.specs.Cut.{AreRegionsOfPlay}
 use Rattle.region_cut.specs.LocalBoard.{HoldsPosition}
-use Rattle.game_store.specs.Tree.{Tree, Trees, none, more}
-use Rattle.game_store.specs.Number.{num}
-use Rattle.game_store.specs.Sum.{◌+ᵍ◌, total}
-use Rattle.game_canon.specs.Players.{credit, LosesGame}
+use Rattle.short_games.specs.Tree.{Tree, Trees, none, more}
+use Rattle.short_games.specs.Number.{num}
+use Rattle.short_games.specs.Sum.{◌+ᵍ◌, total}
+use Rattle.sum_outcome.specs.Players.{credit, LosesGame}
 use Rattle.local_value.specs.PositionTree.{IsTreeOf}
 use Rattle.endgame_solver.specs.SumGame.{token_tree}
 

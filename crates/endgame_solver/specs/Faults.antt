@@ -8,8 +8,8 @@ use Rattle.local_graph.specs.declared.cycle.CycleMove.{CycleMove}
 use Rattle.local_graph.specs.FiniteLocalPlay.{HasNoCycle}
 use Rattle.local_graph.specs.LocalGraph.{IsReachable, IsCycle, AreDifferent, MoreThan}
 use Rattle.region_cut.specs.Cut.{lowest}
-use Rattle.game_store.specs.Tree.{Tree}
-use Rattle.game_store.specs.Parts.{HasMoreParts}
+use Rattle.short_games.specs.Tree.{Tree}
+use Rattle.short_games.specs.Parts.{HasMoreParts}
 use Rattle.game_canon.specs.Changes.{HasNumberPastBounds}
 use Rattle.local_value.specs.PositionTree.{IsValueOf}
 use Rattle.endgame_solver.specs.Regions.{region_at}

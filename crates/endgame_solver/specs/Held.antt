@@ -16,8 +16,7 @@ use Rattle.whole_rules.specs.FirstWinningMove.{IsWinning}
 use Rattle.whole_rules.specs.WholeGame.{State}
 use Rattle.local_graph.specs.declared.graph.Edge.{Edge}
 use Rattle.local_graph.specs.Graph.{Graph, edges_at}
-use Rattle.game_store.specs.Tree.{Tree}
-use Rattle.game_store.specs.Meaning.{tree_at}
+use Rattle.short_games.specs.Tree.{Tree, tree_at}
 use Rattle.game_canon.specs.Outcomes.{AreWithin}
 use Rattle.local_value.specs.Values.{AreValues}
 use Rattle.endgame_solver.specs.Regions.{region_at, graph_at, AreGraphs, spot_in, IsShown}

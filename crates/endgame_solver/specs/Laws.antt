@@ -1,8 +1,8 @@
 -- The decomposition law for a game of numbered parts.
 use Rattle.std.specs.Prelude.{ℕ, List}
 use Rattle.go_grid.specs.declared.grid.Colour.{Colour}
-use Rattle.game_store.specs.Order.{◌≡ᵍ◌}
-use Rattle.game_store.specs.Number.{num}
+use Rattle.short_games.specs.Order.{◌≡ᵍ◌}
+use Rattle.short_games.specs.Number.{num}
 use Rattle.local_value.specs.LocalGame.{Step, TakesAtMost}
 use Rattle.endgame_solver.specs.SumGame.{State, AllEnd, IsDecidedBy, state_tree, purses_tree, balance}
 use Rattle.whole_rules.specs.declared.money.Purses.{Purses}

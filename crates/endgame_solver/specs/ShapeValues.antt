@@ -3,8 +3,8 @@ use Rattle.std.specs.Prelude.{◌≡◌, ℕ, ◌<◌, Bool, true, false, Some, 
 use Rattle.go_grid.specs.declared.grid.Cell.{Cell}
 use Rattle.go_grid.specs.declared.region.Touch.{Touch}
 use Rattle.go_grid.specs.Region.{touch_at}
-use Rattle.game_store.specs.Tree.{Tree, neg}
-use Rattle.game_store.specs.Order.{◌≡ᵍ◌}
+use Rattle.short_games.specs.Tree.{Tree, neg}
+use Rattle.short_games.specs.Order.{◌≡ᵍ◌}
 use Rattle.local_value.specs.PositionTree.{IsTreeOf}
 use Rattle.region_book.specs.declared.symmetry.Symmetry.{Symmetry}
 use Rattle.region_book.specs.Shape.{Carries, Direction, IsPartner, link}

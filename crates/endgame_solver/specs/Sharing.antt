@@ -3,10 +3,9 @@ use Rattle.std.specs.Prelude.{◌≡◌, ◌≢◌, ℕ, ◌<◌, List, Bool, tr
 use Rattle.std.specs.List.{AllPairs}
 use Rattle.go_grid.specs.Region.{Region}
 use Rattle.local_graph.specs.Graph.{Graph}
-use Rattle.game_store.specs.Tree.{Tree}
-use Rattle.game_store.specs.Meaning.{tree_at}
-use Rattle.game_store.specs.Parts.{HasMoreParts}
-use Rattle.game_store.specs.TextOrder.{IsCanonicalFor}
+use Rattle.short_games.specs.Tree.{Tree, tree_at}
+use Rattle.short_games.specs.Parts.{HasMoreParts}
+use Rattle.short_games.specs.TextOrder.{IsCanonicalFor}
 use Rattle.game_canon.specs.Outcomes.{AreWithin}
 use Rattle.region_book.specs.Image.{IsShape}
 use Rattle.region_book.specs.Law.{differ}

@@ -13,8 +13,7 @@ use Rattle.whole_rules.specs.Opening.{IsOpening}
 use Rattle.whole_rules.specs.WholeGame.{State, IsLegal, IsFirstMove}
 use Rattle.whole_rules.specs.FirstWinningMove.{IsFirstWinning}
 use Rattle.whole_rules.specs.declared.states.Move.{Move}
-use Rattle.game_store.specs.Tree.{Tree}
-use Rattle.game_store.specs.Meaning.{tree_at}
+use Rattle.short_games.specs.Tree.{Tree, tree_at}
 use Rattle.local_value.specs.PositionTree.{IsValueOf}
 use Rattle.endgame_solver.specs.Regions.{region_at}
 use Rattle.endgame_solver.specs.SumGame.{balance}

@@ -3,8 +3,7 @@ use Rattle.std.specs.Prelude.{◌≡◌, ℕ, ◌<◌, ◌≤◌, List, length, 
 use Rattle.go_grid.specs.Region.{Region}
 use Rattle.local_graph.specs.LocalGraph.{MoreThan}
 use Rattle.local_graph.specs.Graph.{Graph}
-use Rattle.game_store.specs.Tree.{Tree}
-use Rattle.game_store.specs.Meaning.{tree_at}
+use Rattle.short_games.specs.Tree.{Tree, tree_at}
 use Rattle.game_canon.specs.Outcomes.{AreWithin}
 use Rattle.local_value.specs.Values.{IsGraphOf, AreValues}
 use Rattle.endgame_solver.specs.Regions.{region_at, graph_at}

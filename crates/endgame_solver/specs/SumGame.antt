@@ -9,10 +9,10 @@ use Rattle.whole_rules.specs.declared.money.Token.{Token}
 use Rattle.whole_rules.specs.declared.money.Token.TheVariants as token
 use Rattle.whole_rules.specs.PlainRecursion.{MoverWins, MoverLoses}
 use Rattle.local_value.specs.Ending.{EndsWithin}
-use Rattle.game_store.specs.Tree.{Tree, node, none}
-use Rattle.game_store.specs.Sum.{◌+ᵍ◌}
-use Rattle.game_store.specs.Number.{num}
-use Rattle.game_canon.specs.Players.{credit, gain, LosesGame}
+use Rattle.short_games.specs.Tree.{Tree, node, none}
+use Rattle.short_games.specs.Sum.{◌+ᵍ◌}
+use Rattle.short_games.specs.Number.{num}
+use Rattle.sum_outcome.specs.Players.{credit, gain, LosesGame}
 use Rattle.local_value.specs.LocalGame.{Step, StepsTo, tree_within}
 
 -- half a unit for the owner

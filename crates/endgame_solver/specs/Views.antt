@@ -2,7 +2,7 @@
 use Rattle.std.specs.Prelude.{◌≡◌, ℕ, ◌<◌, ◌↔◌, List, [], length, slice_index, slice_index_or, Contains, false}
 use Rattle.go_grid.specs.Region.{Region}
 use Rattle.whole_rules.specs.WholeGame.{State}
-use Rattle.game_store.specs.Tree.{Tree}
+use Rattle.short_games.specs.Tree.{Tree}
 use Rattle.local_graph.specs.declared.graph.Edge.{Edge}
 use Rattle.local_graph.specs.Graph.{Graph, edges_at}
 use Rattle.region_book.specs.Shape.{colour_after}

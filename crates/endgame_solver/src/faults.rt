@@ -1,8 +1,7 @@
 //! Why a position isn't solved.
 
-ghost use Rattle.std.specs.Prelude.{◌≡◌};
+ghost use Rattle.std.specs.Prelude.{◌≡◌, alloc_error};
 ghost use Rattle.endgame_solver.specs.declared.faults.SolveError.TheVariants.{Memory};
-ghost use Rattle.std.specs.Prelude.{alloc_error};
 
 use crate::cycle_names::CycleNames;
 use go_grid::Point;

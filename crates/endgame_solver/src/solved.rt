@@ -6,7 +6,7 @@ ghost use Rattle.go_grid.specs.Board.{other};
 ghost use Rattle.whole_rules.specs.FirstWinningMove.{IsFirstWinning, IsWinner};
 ghost use Rattle.whole_rules.specs.PlainRecursion.{MoverLoses};
 ghost use Rattle.whole_rules.specs.WholeGame.{State, Leads, Applies};
-ghost use Rattle.game_canon.specs.Players.{LosesGame};
+ghost use Rattle.sum_outcome.specs.Players.{LosesGame};
 ghost use Rattle.sum_outcome.specs.Sums.{sum_tree};
 ghost use Rattle.endgame_solver.specs.Regions.{region_at};
 ghost use Rattle.endgame_solver.specs.Faults.{most_steps};

@@ -1,14 +1,11 @@
 -- Amounts of opposites and sums.
-use Rattle.std.proofs.Common.{ℕ, ◌≡◌, ◌⊎◌, List, inl, inr, refl, sym, subst, Some, None}
+use Rattle.std.proofs.Common.{ℕ, ◌≡◌, List, inl, inr, refl, subst, Some, None}
 use Rattle.std.specs.Prelude.{Option}
-use Rattle.game_store.specs.Tree.{Tree, neg}
-use Rattle.game_store.specs.Order.{◌≡ᵍ◌}
-use Rattle.game_store.specs.Sum.{◌+ᵍ◌}
-use Rattle.game_store.specs.TextOrder.{IsCanonicalFor}
-use Rattle.game_store.specs.Meaning.{tree_at}
-use Rattle.game_store.proofs.SumLaws.{neg-le, plus-le_both}
+use Rattle.short_games.specs.Tree.{Tree, neg, tree_at}
+use Rattle.short_games.specs.Sum.{◌+ᵍ◌}
+use Rattle.short_games.proofs.SumLaws.{neg-le, plus-le_both}
 use Rattle.game_canon.specs.Outcomes.{IsCanonicalId}
-use Rattle.game_canon.proofs.NumberParts.{same-canonical}
+use Rattle.short_games.proofs.ReductionLaws.{same-canonical}
 use Rattle.game_calc.specs.Amounts.{IsAmount, IsBefore}
 use Rattle.game_calc.specs.Expression.{Expression, tree_of, HasStepOutOfLimits}
 use Rattle.game_calc.specs.Expression.Expression.{game, opposite, sum}

@@ -1,17 +1,16 @@
 -- The answer to what a line asks for.
 use Rattle.std.proofs.Common.{ℕ, ◌≡◌, List, inl, inr, subst}
-use Rattle.game_store.specs.Tree.{Tree}
-use Rattle.game_store.specs.Order.{◌≤ᵍ◌, ◌≡ᵍ◌}
-use Rattle.game_store.specs.Meaning.{tree_at}
-use Rattle.game_store.proofs.OrderLaws.{le-trans}
+use Rattle.short_games.specs.Tree.{Tree, tree_at}
+use Rattle.short_games.specs.Order.{◌≤ᵍ◌, ◌≡ᵍ◌}
+use Rattle.short_games.proofs.OrderLaws.{le-trans}
 use Rattle.game_canon.specs.Orders.{IsOrder}
 use Rattle.game_canon.specs.declared.order.Order.{Order}
 use Rattle.game_canon.specs.declared.order.Order.TheVariants.{Less, Equal, Greater, Confused}
-use Rattle.game_canon.proofs.NumberParts.{same-canonical}
+use Rattle.short_games.proofs.ReductionLaws.{same-canonical}
 use Rattle.game_lines.specs.Showings.{IsUnshown}
 use Rattle.game_calc.specs.Amounts.{IsAmount}
 use Rattle.game_calc.specs.Answer.{IsAnswer, IsOrderText, IsPastLimit, IsShownRefusal, IsUnanswered}
-use Rattle.game_calc.specs.Expression.{Expression, tree_of, HasStepOutOfLimits}
+use Rattle.game_calc.specs.Expression.{Expression, tree_of}
 use Rattle.game_calc.specs.Expression.Line.{value, order}
 use Rattle.game_calc.specs.declared.amounts.Amount.{Amount}
 use Rattle.game_calc.specs.declared.amounts.Amount.TheVariants.{Known}

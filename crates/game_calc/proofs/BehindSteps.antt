@@ -1,20 +1,19 @@
 -- How a line is read behind a term.
-use Rattle.std.proofs.Common.{ℕ, suc, ◌+◌, ◌<◌, ◌≤◌, ◌≡◌, ◌++◌, ◌∷◌, [], List, length, drop, arith, ap, refl, sym, subst, ◌∙◌, Some, None}
-use Rattle.std.specs.Prelude.{Option, Result, Ok, Err}
+use Rattle.std.proofs.Common.{ℕ, ◌<◌, ◌≤◌, ◌≡◌, ◌++◌, ◌∷◌, [], List, length, drop, arith, ap, refl, sym, subst, ◌∙◌, Some, None}
+use Rattle.std.specs.Prelude.{Option, Ok, Err}
 use Rattle.std.proofs.lemmas.List.{length-append, same_from_push}
-use Rattle.game_store.specs.Tree.{Tree}
+use Rattle.short_games.specs.Tree.{Tree}
 use Rattle.game_store.specs.Meaning.{Extends}
 use Rattle.game_calc.specs.Amounts.{IsAmount, IsBefore}
-use Rattle.game_calc.specs.Expression.{Expression, Line, Fault, Outcome, ReadsTerms, ReadsLine, AfterFirst, ended, closed_by, kind, next, rest, sign_of, with_term, first_sign, first_bytes}
+use Rattle.game_calc.specs.Expression.{Expression, Line, ReadsTerms, ReadsLine, AfterFirst, ended, closed_by, kind, next, rest, sign_of, with_term, first_sign, first_bytes}
 use Rattle.game_calc.specs.Expression.Line.{value, order}
 use Rattle.game_calc.specs.Expression.Fault.{stray, unfinished}
-use Rattle.game_calc.specs.Expression.Outcome.{reads, refused}
+use Rattle.game_calc.specs.Expression.Outcome.{reads}
 use Rattle.game_calc.specs.Machine.{Frame, Answer, AfterTerm, BehindTerm, BehindSum, Rest, IsOpening, IsState, AreOpen, IsReading, IsTokenAt, IsAsked}
 use Rattle.game_calc.specs.Machine.State.{a_term, behind_term}
 use Rattle.game_calc.specs.declared.amounts.Amount.{Amount}
 use Rattle.game_calc.specs.declared.amounts.Opening.{Opening}
 use Rattle.game_calc.specs.declared.amounts.Sign.{Sign}
-use Rattle.game_calc.specs.declared.pending.Asked.{Asked}
 use Rattle.game_calc.specs.declared.pending.Asked.TheVariants as asked
 use Rattle.game_calc.specs.declared.pending.Place.{Place}
 use Rattle.game_calc.specs.declared.pending.Place.TheVariants as due

@@ -1,20 +1,18 @@
 -- How a line is read: each token leads to where the rest comes to the same.
-use Rattle.std.proofs.Common.{ℕ, suc, ◌+◌, ◌<◌, ◌≤◌, ◌≡◌, ◌⊎◌, ◌++◌, ◌∷◌, [], List, length, drop, arith, inl, inr, ap, refl, sym, subst, ◌∙◌, Some, None}
-use Rattle.std.specs.Prelude.{Option, Result, Ok, Err}
+use Rattle.std.proofs.Common.{ℕ, suc, ◌<◌, ◌≤◌, ◌≡◌, ◌++◌, ◌∷◌, [], List, length, drop, arith, ap, refl, sym, subst, ◌∙◌, Some, None}
+use Rattle.std.specs.Prelude.{Option, Ok, Err}
 use Rattle.std.proofs.lemmas.List.{length-append}
-use Rattle.game_store.specs.Tree.{Tree}
-use Rattle.game_store.specs.TextOrder.{IsCanonicalFor}
-use Rattle.game_store.specs.Meaning.{tree_at, Extends}
+use Rattle.short_games.specs.Tree.{Tree}
+use Rattle.short_games.specs.TextOrder.{IsCanonicalFor}
+use Rattle.game_store.specs.Meaning.{Extends}
 use Rattle.game_text.specs.Reading.{ReadsText}
 use Rattle.game_calc.specs.Amounts.{IsAmount, IsBefore, IsHeld, IsHeldBefore}
-use Rattle.game_calc.specs.Expression.{Expression, Line, Fault, Outcome, tree_of, ReadsTerm, ReadsTerms, ReadsLine, closed, kind, next, token, rest, sign_of, signed, with_term, first_sign, first_bytes, most_open}
+use Rattle.game_calc.specs.Expression.{Expression, Fault, Outcome, tree_of, ReadsTerm, ReadsTerms, ReadsLine, closed, kind, next, token, rest, sign_of, with_term, first_sign, first_bytes, most_open}
 use Rattle.game_calc.specs.Expression.Expression.{game}
-use Rattle.game_calc.specs.Expression.Line.{value, order}
-use Rattle.game_calc.specs.Expression.Fault.{stray, unfinished, deep}
 use Rattle.game_calc.specs.Expression.Outcome.{reads, refused}
 use Rattle.game_calc.specs.Expression.ReadsTerm.{a_game, a_group}
 use Rattle.game_calc.specs.Expression.ReadsTerms.{last, one_more, no_more}
-use Rattle.game_calc.specs.Machine.{Frame, State, Answer, AfterTerm, BehindTerm, BehindLine, BehindSum, Rest, IsOpening, IsState, AreOpen, IsReading, IsTokenAt, IsAsked}
+use Rattle.game_calc.specs.Machine.{Frame, State, Answer, AfterTerm, BehindTerm, BehindSum, Rest, IsOpening, IsState, AreOpen, IsReading, IsTokenAt}
 use Rattle.game_calc.specs.Machine.State.{a_term, behind_term}
 use Rattle.game_calc.specs.declared.amounts.Amount.{Amount}
 use Rattle.game_calc.specs.declared.amounts.Amount.TheVariants.{Known, TooLarge}
@@ -22,8 +20,7 @@ use Rattle.game_calc.specs.declared.amounts.Opening.{Opening}
 use Rattle.game_calc.specs.declared.amounts.Sign.{Sign}
 use Rattle.game_calc.specs.declared.pending.Place.{Place}
 use Rattle.game_calc.specs.declared.pending.Place.TheVariants as due
-use Rattle.game_calc.specs.declared.tokens.Kind.{Kind}
-use Rattle.game_calc.specs.declared.tokens.Kind.TheVariants.{End, Plus, Minus, Open, Close, Query, Game}
+use Rattle.game_calc.specs.declared.tokens.Kind.TheVariants.{Open, Game}
 use Rattle.game_calc.specs.declared.tokens.Token.{Token}
 
 -- more trees in the store

@@ -1,11 +1,9 @@
 -- A line comes to one thing.
-use Rattle.std.proofs.Common.{ℕ, suc, ◌<◌, ◌≤◌, ◌≡◌, List, [], drop, arith, ap, refl, sym, subst, ◌∙◌, Some, None}
-use Rattle.std.specs.Prelude.{Option, Result, Ok, Err}
+use Rattle.std.proofs.Common.{ℕ, suc, ◌≡◌, List, [], arith, ap, refl, sym, subst, ◌∙◌, Some, None}
+use Rattle.std.specs.Prelude.{Option, Result}
 use Rattle.game_text.proofs.OneReading.{one-reading}
-use Rattle.game_calc.specs.Expression.{Expression, Line, Fault, Outcome, ReadsTerm, ReadsTerms, ReadsLine, BehindFirst, BehindSecond, AfterFirst, outcome_of, closed, kind, next, token, rest, sign_of, with_term, BeginsNoTerm}
-use Rattle.game_calc.specs.Expression.Expression.{game}
+use Rattle.game_calc.specs.Expression.{Expression, Line, Fault, Outcome, ReadsTerm, ReadsTerms, ReadsLine, BehindFirst, BehindSecond, AfterFirst, outcome_of, closed, kind, next, token, rest, sign_of, with_term}
 use Rattle.game_calc.specs.Expression.Outcome.{reads, refused}
-use Rattle.game_calc.specs.Expression.Fault.{unfinished}
 use Rattle.game_calc.specs.Expression.ReadsTerm.{a_game, a_group, one_too_deep, none_left, no_term}
 use Rattle.game_calc.specs.Expression.ReadsTerms.{last, one_more, no_more}
 use Rattle.game_calc.specs.declared.amounts.Sign.{Sign}

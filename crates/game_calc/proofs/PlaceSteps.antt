@@ -1,23 +1,22 @@
 -- The places of a form among the ids that it is made of, and what the whole table says of a step.
-use Rattle.std.proofs.Common.{ℕ, ◌<◌, ◌≡◌, ◌⊎◌, List, length, get_or, inl, inr, refl, sym, subst, ◌∙◌, ap, Some}
+use Rattle.std.proofs.Common.{ℕ, ◌<◌, ◌≡◌, List, length, get_or, inl, inr, sym, subst, ◌∙◌, ap, Some}
 use Rattle.std.specs.Prelude.{Option}
-use Rattle.game_store.specs.Tree.{Tree}
-use Rattle.game_store.specs.Sum.{◌+ᵍ◌}
-use Rattle.game_store.specs.Number.{IsNumberTree}
-use Rattle.game_store.specs.TextOrder.{IsCanonicalFor}
-use Rattle.game_store.specs.Meaning.{tree_at, AreDistinct, Extends, Wanted}
+use Rattle.short_games.specs.Tree.{Tree, tree_at, AreDistinct}
+use Rattle.short_games.specs.Sum.{◌+ᵍ◌}
+use Rattle.short_games.specs.Number.{IsNumberTree}
+use Rattle.short_games.specs.TextOrder.{IsCanonicalFor}
+use Rattle.game_store.specs.Meaning.{Extends, Wanted}
 use Rattle.game_store.specs.Meaning.Wanted.{number, options}
 use Rattle.game_store.specs.Forms.{HaveForms, IsMeaning}
-use Rattle.game_store.specs.Parts.{IsFollower, IsOption, IsPart}
-use Rattle.game_store.specs.Parts.IsFollower.{itself, further}
-use Rattle.game_store.proofs.PartLaws.{number-follower}
+use Rattle.short_games.specs.Parts.{IsFollower, IsOption, IsReached}
+use Rattle.short_games.specs.Parts.IsFollower.{itself, further}
+use Rattle.short_games.proofs.PartLaws.{number-follower, follower-more}
 use Rattle.game_canon.specs.declared.errors.FormError.{FormError}
 use Rattle.game_canon.specs.declared.errors.FormError.TheVariants.{Parts, Bounds, Memory}
 use Rattle.game_canon.specs.Followers.{IsIn}
 use Rattle.game_canon.specs.Outcomes.{IsCanonicalId}
-use Rattle.game_canon.specs.Reachable.{IsReached, AreReachable}
+use Rattle.game_canon.specs.Reachable.{AreReachable}
 use Rattle.game_canon.proofs.NumberParts.{within-bounds}
-use Rattle.game_canon.proofs.PartLaws.{follower-more}
 use Rattle.game_calc.specs.Steps.{IsPlace, IsOutOfLimits, IsPairRefusal, IsStepRefusal}
 use Rattle.game_calc.specs.Table.{AreRight, AreRowsKnown}
 

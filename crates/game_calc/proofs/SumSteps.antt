@@ -1,31 +1,30 @@
 -- The options of a sum, up to the order of games, and the form that is made of them.
-use Rattle.std.proofs.Common.{ℕ, zero, suc, ◌+◌, ◌<◌, ◌≤◌, ◌≡◌, ◌⊎◌, ◌++◌, ◌∷◌, [], List, length, get_or, inl, inr, arith, ap, refl, sym, subst, ◌∙◌, ℤ, ◌+ℤ◌, Some}
+use Rattle.std.proofs.Common.{ℕ, zero, suc, ◌<◌, ◌≡◌, ◌++◌, ◌∷◌, [], List, length, inl, inr, arith, ap, refl, sym, subst, ◌∙◌, ℤ, ◌+ℤ◌, Some}
 use Rattle.std.specs.Prelude.{Option}
 use Rattle.dyadic_num.specs.Units.{IsInBounds}
-use Rattle.game_store.specs.Tree.{Tree, Trees, node, left, right, Has, ◌then◌}
-use Rattle.game_store.specs.Order.{◌≤ᵍ◌, ◌≡ᵍ◌}
-use Rattle.game_store.specs.Sum.{◌+ᵍ◌, each_plus, plus_each}
-use Rattle.game_store.specs.Number.{num, IsNumber, IsNumberTree}
-use Rattle.game_store.specs.TextOrder.{IsCanonicalTree, IsCanonicalFor}
-use Rattle.game_store.specs.Meaning.{tree_at, pick, listed, number_tree, AreIds, AreBelow, AreCanonical, IsIdOf}
+use Rattle.short_games.specs.Tree.{Tree, Trees, node, left, right, Has, ◌then◌, tree_at}
+use Rattle.short_games.specs.Order.{◌≤ᵍ◌, ◌≡ᵍ◌}
+use Rattle.short_games.specs.Sum.{◌+ᵍ◌, each_plus, plus_each}
+use Rattle.short_games.specs.Number.{num, IsNumber, IsNumberTree, number_tree}
+use Rattle.short_games.specs.TextOrder.{IsCanonicalTree, IsCanonicalFor}
+use Rattle.game_store.specs.Meaning.{pick, listed, AreIds, AreBelow, AreCanonical, IsIdOf}
 use Rattle.game_store.specs.Forms.{IsOptions}
-use Rattle.game_store.proofs.AvoidanceLaws.{cheap_left, cheap_right}
-use Rattle.game_store.proofs.FormLaws.{by_better, translation}
-use Rattle.game_store.proofs.NumberLaws.{num-plus_le, num-le_plus}
-use Rattle.game_store.proofs.OrderLaws.{le-trans}
-use Rattle.game_store.proofs.ReductionLaws.{number-canonical}
-use Rattle.game_store.proofs.SumLaws.{plus-left, plus-right, plus-comm, then-has, has-then_left, has-then_right, each_plus-has, has-each_plus, plus_each-has, has-plus_each}
+use Rattle.short_games.proofs.AvoidanceLaws.{cheap_left, cheap_right}
+use Rattle.short_games.proofs.FormLaws.{by_better, translation}
+use Rattle.short_games.proofs.NumberLaws.{num-plus_le, num-le_plus}
+use Rattle.short_games.proofs.OrderLaws.{le-trans}
+use Rattle.short_games.proofs.ReductionLaws.{number-canonical, same-canonical}
+use Rattle.short_games.proofs.SumLaws.{plus-left, plus-right, plus-comm, then-has, has-then_left, has-then_right, each_plus-has, has-each_plus, plus_each-has, has-plus_each}
 use Rattle.game_canon.specs.declared.errors.FormError.{FormError}
 use Rattle.game_canon.specs.declared.errors.FormError.TheVariants.{Parts, Bounds, Memory}
 use Rattle.game_canon.specs.Changes.{HasNumberPastBounds}
 use Rattle.game_canon.specs.Outcomes.{IsCanonicalId, IsCause}
 use Rattle.game_canon.proofs.ChangeLaws.{tree-number}
 use Rattle.game_canon.proofs.GameLaws.{has-left, left-has, has-right, right-has}
-use Rattle.game_canon.proofs.NumberParts.{same-canonical}
 use Rattle.game_canon.proofs.Sizes.{number-same}
 use Rattle.game_canon.proofs.SideLaws.{pick-append}
 use Rattle.game_calc.specs.Steps.{IsPairRefusal}
-use Rattle.game_calc.specs.Table.{AreNoted, AddsSums, AddsMoves, AreRight}
+use Rattle.game_calc.specs.Table.{AreNoted, AddsMoves, AreRight}
 
 -- each tree of the one list is equal as a game to one of the other
 pub record AreAlike (As Bs : Trees) : Type 0 where

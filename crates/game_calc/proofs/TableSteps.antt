@@ -1,21 +1,18 @@
 -- How the table of sums is filled, row by row.
-use Rattle.std.proofs.Common.{ℕ, zero, suc, ◌+◌, ◌<◌, ◌≤◌, ◌≡◌, ◌⊎◌, ◌++◌, ◌∷◌, [], List, length, get_or, inl, inr, arith, ap, refl, sym, subst, ◌∙◌, Some, None, take}
+use Rattle.std.proofs.Common.{ℕ, ◌+◌, ◌<◌, ◌≡◌, ◌⊎◌, ◌++◌, ◌∷◌, [], List, length, get_or, inl, inr, arith, ap, refl, sym, subst, ◌∙◌, Some, None, take, append_assoc}
 use Rattle.std.specs.Prelude.{Option, cond, nat_eq, ◌&&◌}
 use Rattle.std.proofs.lemmas.Bool.{cases_lt, cases_Bool, and_parts, eqb-true, eq-eqb}
 use Rattle.std.proofs.lemmas.List.{append-nil, take_more}
-use Rattle.std.proofs.Common.{append_assoc}
-use Rattle.game_store.specs.Tree.{Tree, node}
-use Rattle.game_store.specs.Number.{IsNumberTree}
-use Rattle.game_store.specs.TextOrder.{sorted, IsCanonicalFor}
-use Rattle.game_store.specs.Sum.{◌+ᵍ◌}
-use Rattle.game_store.specs.Meaning.{tree_at, pick, AreBelow, AreDistinct, Extends}
+use Rattle.short_games.specs.Tree.{Tree, node, tree_at, AreDistinct}
+use Rattle.short_games.specs.Number.{IsNumberTree}
+use Rattle.short_games.specs.TextOrder.{sorted, IsCanonicalFor}
+use Rattle.short_games.specs.Sum.{◌+ᵍ◌}
+use Rattle.game_store.specs.Meaning.{pick, AreBelow, Extends}
 use Rattle.game_store.specs.Forms.{IsOptions}
-use Rattle.game_store.specs.Parts.{HasMoreParts}
+use Rattle.short_games.specs.Parts.{HasMoreParts, IsInner}
 use Rattle.game_store.proofs.Values.{pick-has, pick-same}
 use Rattle.game_canon.specs.Changes.{AreClosed, AreKnown}
-use Rattle.game_canon.specs.Followers.{IsIn}
 use Rattle.game_canon.specs.Outcomes.{IsCanonicalId}
-use Rattle.game_canon.specs.Reachable.{IsInner}
 use Rattle.game_canon.proofs.ChangeSteps.{extends-on}
 use Rattle.game_canon.proofs.GameLaws.{left-has, right-has}
 use Rattle.game_calc.specs.Table.{AreNoted, AddsSums, AreRight, IsRightSum, Grows, AreRowsKnown, AreInnerKnown, AreMovesKnown, same_pair, with_sum}

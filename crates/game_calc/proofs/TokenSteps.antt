@@ -1,9 +1,9 @@
 -- Where tokens begin and end.
-use Rattle.std.proofs.Common.{ℕ, zero, suc, ◌+◌, ◌-◌, ◌<◌, ◌≤◌, ◌≡◌, ◌⊎◌, ◌∷◌, [], List, length, get_or, take, drop, arith, inl, inr, ap, refl, sym, subst, ◌∙◌, cond, nat_eq}
+use Rattle.std.proofs.Common.{ℕ, zero, suc, ◌+◌, ◌-◌, ◌<◌, ◌≤◌, ◌≡◌, ◌⊎◌, ◌∷◌, [], List, length, get_or, take, drop, arith, inl, inr, ap, refl, sym, subst, ◌∙◌, cond}
 use Rattle.std.specs.Prelude.{slice_range}
 use Rattle.std.proofs.lemmas.Bool.{cases_lt, ne_eqb, eq-eqb}
 use Rattle.std.proofs.lemmas.List.{drop-drop, drop_more, drop_all, get_or-drop, length-drop}
-use Rattle.game_calc.specs.Expression.{blank, next, token, behind, kind_of}
+use Rattle.game_calc.specs.Expression.{next, token, behind, kind_of}
 use Rattle.game_calc.specs.declared.tokens.Kind.TheVariants.{End}
 
 -- from a blank on, from another byte on, and at the end

@@ -1,10 +1,10 @@
 -- What each token of a line leads to, and how faults are told.
-use Rattle.std.proofs.Common.{ℕ, ◌+◌, ◌-◌, ◌<◌, ◌≤◌, ◌≡◌, ◌⊎◌, ◌++◌, ◌∷◌, [], List, length, drop, arith, inl, inr, ap, refl, sym, subst, ◌∙◌, Some, None}
+use Rattle.std.proofs.Common.{ℕ, ◌+◌, ◌<◌, ◌≤◌, ◌≡◌, ◌++◌, ◌∷◌, [], List, length, drop, arith, inl, inr, ap, refl, sym, subst, ◌∙◌, Some, None}
 use Rattle.std.specs.Prelude.{Option, Result, Ok, Err, IfErr, slice_range, Bool, true, false, nat_eq}
 use Rattle.std.proofs.lemmas.Bool.{cases_lt, eqb-true, eq-eqb, true≢false}
 use Rattle.std.proofs.lemmas.List.{length-append, length-drop}
 use Rattle.std.proofs.lemmas.List.Folds.{drop_split}
-use Rattle.game_store.specs.Tree.{Tree}
+use Rattle.short_games.specs.Tree.{Tree}
 use Rattle.game_store.specs.Meaning.{Extends}
 use Rattle.game_text.specs.Reading.{ReadsText, Refuses, IsReadRefusal, Fault as NameFault}
 use Rattle.game_text.specs.declared.errors.ReadError.{ReadError}
@@ -12,10 +12,10 @@ use Rattle.game_text.specs.Reading.Fault.{bad_byte, bad_number, cut_short}
 use Rattle.game_canon.specs.Outcomes.{IsCanonicalId}
 use Rattle.game_canon.proofs.ChangeSteps.{extends-on}
 use Rattle.game_calc.specs.Amounts.{IsAmount, IsBefore, IsHeldBefore}
-use Rattle.game_calc.specs.Expression.{Expression, Line, Fault, Outcome, ReadsTerm, ReadsTerms, ReadsLine, BeginsNoTerm, fault_of, kind, next, token, rest, with_term, first_sign, first_bytes, most_open}
+use Rattle.game_calc.specs.Expression.{Expression, ReadsTerm, ReadsTerms, ReadsLine, BeginsNoTerm, fault_of, kind, next, token, rest, with_term, first_sign, first_bytes, most_open}
 use Rattle.game_calc.specs.Expression.Expression.{game}
 use Rattle.game_calc.specs.Expression.Fault.{stray, unfinished, deep}
-use Rattle.game_calc.specs.Expression.Outcome.{reads, refused}
+use Rattle.game_calc.specs.Expression.Outcome.{refused}
 use Rattle.game_calc.specs.Expression.ReadsTerm.{a_game, one_too_deep, none_left, no_term}
 use Rattle.game_calc.specs.Machine.{IsReading, IsState, IsTokenAt, IsTurn, IsTold, IsLineRefusal, IsGameRefusal}
 use Rattle.game_calc.specs.Machine.State.{a_term}
@@ -29,10 +29,10 @@ use Rattle.game_calc.specs.declared.pending.Place.{Place}
 use Rattle.game_calc.specs.declared.pending.Place.TheVariants as due
 use Rattle.game_calc.specs.declared.pending.Turn.TheVariants as turn
 use Rattle.game_calc.specs.declared.tokens.Kind.{Kind}
-use Rattle.game_calc.specs.declared.tokens.Kind.TheVariants.{End, Plus, Minus, Open, Close, Query, Game}
+use Rattle.game_calc.specs.declared.tokens.Kind.TheVariants.{End, Open, Close, Query, Game}
 use Rattle.game_calc.specs.declared.tokens.Token.{Token}
 use Rattle.game_calc.proofs.AmountSteps.{game-known}
-use Rattle.game_calc.proofs.LineSteps.{IsTermDue, IsBehindTerm, term-due, term-behind, named-turn, group-turn, term-refused, before-kept, amount-kept, before-held, open-length}
+use Rattle.game_calc.proofs.LineSteps.{IsTermDue, IsBehindTerm, term-due, term-behind, named-turn, group-turn, term-refused, before-kept, before-held, open-length}
 use Rattle.game_calc.proofs.BehindSteps.{IsClosing, closing, closed-turn, query-turn}
 
 -- what the exit of a `?` says of the error that it passes on

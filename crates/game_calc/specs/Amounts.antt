@@ -1,6 +1,6 @@
 -- What is known of the sums of a line.
 use Rattle.std.specs.Prelude.{ℕ, ◌<◌, List, length, Option, Some, None}
-use Rattle.game_store.specs.Tree.{Tree}
+use Rattle.short_games.specs.Tree.{Tree}
 use Rattle.game_canon.specs.Outcomes.{IsCanonicalId}
 use Rattle.game_calc.specs.Expression.{Expression, tree_of, HasStepOutOfLimits}
 use Rattle.game_calc.specs.declared.amounts.Amount.{Amount}

@@ -1,7 +1,7 @@
 -- The answer to a line, and why there is none.
-use Rattle.std.specs.Prelude.{ℕ, ◌≡◌, ◌+◌, ◌⊎◌, List, length, codes, Result, Ok, Err}
-use Rattle.game_store.specs.Tree.{Tree}
-use Rattle.game_store.specs.TextOrder.{IsCanonicalFor}
+use Rattle.std.specs.Prelude.{ℕ, ◌≡◌, ◌+◌, ◌⊎◌, List, length, codes, Ok, Err}
+use Rattle.short_games.specs.Tree.{Tree}
+use Rattle.short_games.specs.TextOrder.{IsCanonicalFor}
 use Rattle.game_text.specs.NamedText.{named_text}
 use Rattle.game_canon.specs.Orders.{IsOrder}
 use Rattle.game_canon.specs.declared.order.Order.{Order}

@@ -1,10 +1,10 @@
 -- What a line of the calculator says, and why it is refused: the grammar, read from the front.
 --     line = sum [ "?" sum ]      sum = [ "-" ] term { ( "+" | "-" ) term }      term = game | "(" sum ")"
 -- A token is a longest run of bytes other than a blank.
-use Rattle.std.specs.Prelude.{ℕ, suc, ◌≡◌, ◌+◌, ◌<◌, ◌≤◌, ◌⊎◌, List, [], ◌∷◌, ◌++◌, length, cond, nat_eq, Option, Some, None, Result, Ok, Err}
-use Rattle.game_store.specs.Tree.{Tree, neg}
-use Rattle.game_store.specs.Sum.{◌+ᵍ◌}
-use Rattle.game_store.specs.TextOrder.{IsCanonicalFor}
+use Rattle.std.specs.Prelude.{ℕ, suc, ◌≡◌, ◌<◌, ◌≤◌, ◌⊎◌, List, [], ◌∷◌, ◌++◌, cond, nat_eq, Option, Some, None, Result, Ok, Err}
+use Rattle.short_games.specs.Tree.{Tree, neg}
+use Rattle.short_games.specs.Sum.{◌+ᵍ◌}
+use Rattle.short_games.specs.TextOrder.{IsCanonicalFor}
 use Rattle.game_text.specs.Reading.{ReadsText, Fault as NameFault}
 use Rattle.game_text.specs.Reading.Fault.{bad_byte, bad_number, cut_short, too_deep, too_many_parts, past_bounds}
 use Rattle.game_calc.specs.Steps.{IsOutOfLimits}

@@ -1,6 +1,6 @@
 -- Where the reader stands in a line: the parentheses that are open, and what the rest of the line then comes to.
-use Rattle.std.specs.Prelude.{ℕ, suc, ◌≡◌, ◌+◌, ◌<◌, ◌≤◌, ◌⊎◌, List, [], ◌∷◌, ◌++◌, length, drop, slice_range, Option, Some, None, Result, Ok, Err}
-use Rattle.game_store.specs.Tree.{Tree}
+use Rattle.std.specs.Prelude.{ℕ, ◌≡◌, ◌+◌, ◌<◌, ◌≤◌, ◌⊎◌, List, [], ◌∷◌, ◌++◌, length, drop, slice_range, Option, Some, None, Result, Ok, Err}
+use Rattle.short_games.specs.Tree.{Tree}
 use Rattle.game_calc.specs.Amounts.{IsAmount, IsBefore, IsHeld}
 use Rattle.game_calc.specs.Expression.{Expression, Line, Fault, Outcome, ReadsTerm, ReadsTerms, ReadsLine, BehindFirst, BehindSecond, closed, kind, next, token, rest, sign_of, with_term}
 use Rattle.game_calc.specs.Expression.Line.{value, order}
@@ -18,7 +18,6 @@ use Rattle.game_calc.specs.declared.pending.Place.{Place}
 use Rattle.game_calc.specs.declared.pending.Place.TheVariants as due
 use Rattle.game_calc.specs.declared.pending.Turn.{Turn}
 use Rattle.game_calc.specs.declared.pending.Turn.TheVariants as turn
-use Rattle.game_calc.specs.declared.tokens.Kind.{Kind}
 use Rattle.game_calc.specs.declared.tokens.Kind.TheVariants.{Game}
 use Rattle.game_calc.specs.declared.tokens.Token.{Token}
 

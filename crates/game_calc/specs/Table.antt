@@ -2,12 +2,11 @@
 use Rattle.std.specs.Prelude.{ℕ, ◌≡◌, ◌<◌, ◌⊎◌, List, [], ◌∷◌, ◌++◌, length, Bool, nat_eq, ◌&&◌, Option, Some, cond}
 use Rattle.std.specs.List.{slice_index_or}
 use Rattle.indexmap.specs.IndexMap.{IndexMap, get}
-use Rattle.game_store.specs.Tree.{Tree}
-use Rattle.game_store.specs.Sum.{◌+ᵍ◌}
-use Rattle.game_store.specs.Number.{IsNumberTree}
-use Rattle.game_store.specs.Meaning.{tree_at}
+use Rattle.short_games.specs.Tree.{Tree, tree_at}
+use Rattle.short_games.specs.Sum.{◌+ᵍ◌}
+use Rattle.short_games.specs.Number.{IsNumberTree}
 use Rattle.game_store.specs.Forms.{IsOptions}
-use Rattle.game_store.specs.Parts.{HasMoreParts}
+use Rattle.short_games.specs.Parts.{HasMoreParts}
 use Rattle.game_canon.specs.Changes.{AreKnown}
 use Rattle.game_canon.specs.Outcomes.{IsCanonicalId}
 use Rattle.game_calc.specs.declared.table.Summand.{Summand}

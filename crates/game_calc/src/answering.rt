@@ -1,7 +1,7 @@
 //! The answer to a line.
 
 ghost use Rattle.std.specs.Prelude.{◌≡◌, ◌<◌, ℕ, IfOk, IfErr, length};
-ghost use Rattle.game_store.specs.Meaning.{tree_at};
+ghost use Rattle.short_games.specs.Tree.{tree_at};
 ghost use Rattle.game_calc.specs.Amounts.{IsAmount, IsHeld};
 ghost use Rattle.game_calc.specs.Answer.{IsAnswer, IsAnswered, IsCalcRefusal, IsOrderText, IsPastLimit, IsShown, IsShownRefusal, IsUnanswered, order_word};
 ghost use Rattle.game_calc.specs.Expression.{Expression, Line};

@@ -1,10 +1,11 @@
 //! The sum of a pair of places, where the sums after each move are noted.
 
 ghost use Rattle.std.specs.Prelude.{◌≡◌, ◌<◌, ℕ, List, length, IfOk, IfErr, OnOk, MatchOption};
-ghost use Rattle.game_store.specs.Number.{IsNumberTree};
-ghost use Rattle.game_store.specs.Sum.{◌+ᵍ◌};
-ghost use Rattle.game_store.specs.Meaning.{tree_at, number_tree, Extends};
-ghost use Rattle.game_store.specs.Parts.{HasMoreParts};
+ghost use Rattle.short_games.specs.Number.{IsNumberTree, number_tree};
+ghost use Rattle.short_games.specs.Sum.{◌+ᵍ◌};
+ghost use Rattle.short_games.specs.Tree.{tree_at};
+ghost use Rattle.game_store.specs.Meaning.{Extends};
+ghost use Rattle.short_games.specs.Parts.{HasMoreParts};
 ghost use Rattle.game_canon.specs.Changes.{AreKnown};
 ghost use Rattle.game_canon.specs.FormComparisons.{AreFormComparisonsRight};
 ghost use Rattle.game_canon.specs.Outcomes.{IsCanonicalId};

@@ -1,7 +1,7 @@
 //! Reading a line.
 
 ghost use Rattle.std.specs.Prelude.{◌≡◌, ◌<◌, ◌≤◌, ℕ, IfOk, IfErr, Ok, None, length, drop, slice_range};
-ghost use Rattle.game_store.specs.Tree.{Tree};
+ghost use Rattle.short_games.specs.Tree.{Tree};
 ghost use Rattle.game_store.specs.Meaning.{Extends};
 ghost use Rattle.game_text.specs.Reading.{IsReadRefusal, ReadsText};
 ghost use Rattle.game_canon.specs.Outcomes.{IsCanonicalId};

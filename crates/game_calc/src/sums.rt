@@ -1,8 +1,9 @@
 //! The sum of two canonical forms.
 
 ghost use Rattle.std.specs.Prelude.{◌≡◌, ◌<◌, ℕ, Some, length, slice_index, IfOk, IfErr, OnOk};
-ghost use Rattle.game_store.specs.Sum.{◌+ᵍ◌};
-ghost use Rattle.game_store.specs.Meaning.{tree_at, Extends};
+ghost use Rattle.short_games.specs.Sum.{◌+ᵍ◌};
+ghost use Rattle.short_games.specs.Tree.{tree_at};
+ghost use Rattle.game_store.specs.Meaning.{Extends};
 ghost use Rattle.game_canon.specs.Changes.{AreClosed, AreKnown};
 ghost use Rattle.game_canon.specs.FormComparisons.{AreFormComparisonsRight};
 ghost use Rattle.game_canon.specs.Outcomes.{IsCanonicalId};

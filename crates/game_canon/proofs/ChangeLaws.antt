@@ -1,25 +1,23 @@
 -- A canonical form that is no number is changed option by option.
 use Rattle.std.proofs.Common.{◌+◌, ◌≡◌, sym, ◌∙◌, ap, subst, ℤ, pos, ◌+ℤ◌, neg_ℤ, arith}
 use Rattle.std.proofs.lemmas.Int.{ints}
-use Rattle.game_store.specs.Tree.{Tree, Trees, node, none, left, right, Has, neg}
-use Rattle.game_store.specs.Order.{◌≤ᵍ◌}
-use Rattle.game_store.specs.Sum.{◌+ᵍ◌, each_plus}
-use Rattle.game_store.specs.Number.{num, IsNumber, IsNumberTree}
-use Rattle.game_store.specs.Canonical.{IsReduced}
-use Rattle.game_store.specs.TextOrder.{TextBefore, sorted, IsCanonicalTree, IsCanonicalFor}
-use Rattle.game_store.specs.Reduction.{IsFreeLeft, KeepsLeft, KeepsRight}
-use Rattle.game_store.specs.Meaning.{number_tree}
-use Rattle.game_store.proofs.OrderLaws.{le-refl, le-trans}
-use Rattle.game_store.proofs.SumLaws.{plus-le, plus-le_both, plus-cancel, plus-assoc, plus-nought, each_plus-has, has-each_plus, has-neg_each, neg_each-has, neg-left, neg-right, neg-neg, neg-le, not_le_left, not_right_le}
-use Rattle.game_store.proofs.NumberLaws.{neg-num, num-plus_le, num-le_plus, num-zero}
-use Rattle.game_store.proofs.ThresholdLaws.{scaled}
-use Rattle.game_store.proofs.CanonicalLaws.{not-le, canonical-left, canonical-right}
-use Rattle.game_store.proofs.CanonicalLaws as laws
-use Rattle.game_store.proofs.CanonicalLaws.Witness.{by_left, by_right}
-use Rattle.game_store.proofs.FormLaws.{by_better, translation}
-use Rattle.game_store.proofs.AvoidanceLaws.{cheap_left, cheap_right}
-use Rattle.game_store.proofs.TextOrderLaws.{text-order}
-use Rattle.game_store.proofs.ReductionLaws.{form-canonical, number-kept_left, number-kept_right, canonical-number, canonical-same}
+use Rattle.short_games.specs.Tree.{Tree, Trees, node, none, left, right, Has, neg}
+use Rattle.short_games.specs.Order.{◌≤ᵍ◌, ◌⧏ᵍ◌, by_left, by_right}
+use Rattle.short_games.specs.Sum.{◌+ᵍ◌, each_plus}
+use Rattle.short_games.specs.Number.{num, IsNumber, IsNumberTree, number_tree}
+use Rattle.short_games.specs.Canonical.{IsReduced}
+use Rattle.short_games.specs.TextOrder.{TextBefore, sorted, IsCanonicalTree, IsCanonicalFor}
+use Rattle.short_games.specs.Reduction.{IsFreeLeft, KeepsLeft, KeepsRight}
+use Rattle.short_games.proofs.OrderLaws.{le-refl, le-trans, not-le}
+use Rattle.short_games.proofs.SumLaws.{plus-le, plus-le_both, plus-cancel, plus-assoc, plus-nought, each_plus-has, has-each_plus, has-neg_each, neg_each-has, neg-left, neg-right, neg-neg, neg-le, not_le_left, not_right_le}
+use Rattle.short_games.proofs.NumberLaws.{neg-num, num-plus_le, num-le_plus, num-zero}
+use Rattle.short_games.proofs.ThresholdLaws.{scaled}
+use Rattle.short_games.proofs.CanonicalLaws.{canonical-left, canonical-right}
+use Rattle.short_games.proofs.CanonicalLaws as laws
+use Rattle.short_games.proofs.FormLaws.{by_better, translation}
+use Rattle.short_games.proofs.AvoidanceLaws.{cheap_left, cheap_right}
+use Rattle.short_games.proofs.TextOrderLaws.{text-order}
+use Rattle.short_games.proofs.ReductionLaws.{form-canonical, number-kept_left, number-kept_right, canonical-number, canonical-same}
 use Rattle.game_canon.specs.declared.change.Change.{Change}
 use Rattle.game_canon.specs.declared.change.Change.TheVariants.{Negate, Add}
 use Rattle.game_canon.specs.Changes.{target, lefts, rights, shifted}
@@ -212,7 +210,7 @@ module _ (c : Change) (G : Tree) (ms ns : Trees) (canonical : IsCanonicalTree G)
       above : R ≤ᵍ image c X → ⊥
       above z = not_right_le A R r (le-trans R (image c X) A z (le-trans _ (target c X) A i.1 f.2.under))
 
-      by_witness : laws.Witness R (image c X) → ⊥
+      by_witness : image c X ⧏ᵍ R → ⊥
       by_witness (by_left Z z w) = (reduced A f.2.canonical).right_kept R Z r z (le-trans A (target c X) Z f.2.over (le-trans _ (image c X) Z i.0 w))
       by_witness (by_right S s w) = let q = image-right c X S s in
           lefts-kept c G canonical X q.0 f.1 q.1 (order-out c q.0 G (le-trans _ (node ms ns) _ (le-trans _ R _ (subst (λ t. t ≤ᵍ R) q.2 w) y) as-target.0))
@@ -235,7 +233,7 @@ module _ (c : Change) (G : Tree) (ms ns : Trees) (canonical : IsCanonicalTree G)
       below : image c X ≤ᵍ L → ⊥
       below z = not_le_left A L l (le-trans A (target c X) L f.2.over (le-trans _ (image c X) L i.0 z))
 
-      by_witness : laws.Witness (image c X) L → ⊥
+      by_witness : L ⧏ᵍ image c X → ⊥
       by_witness (by_left Z z w) = let q = image-left c X Z z in
           rights-kept c G canonical X q.0 f.1 q.1 (order-out c G q.0 (le-trans _ (node ms ns) _ as-target.1 (le-trans _ L _ y (subst (λ t. L ≤ᵍ t) q.2 w))))
       by_witness (by_right S s w) = (reduced A f.2.canonical).left_kept L S l s (le-trans S (image c X) A w (le-trans _ (target c X) A i.1 f.2.under))

@@ -4,20 +4,20 @@ use Rattle.std.specs.Prelude.{Option, is_some, Result, Err, IfErr}
 use Rattle.std.proofs.lemmas.Bool.{cases_lt, eq-eqb, ne_eqb, true≢false}
 use Rattle.std.proofs.lemmas.List.{length-append, get_or_append_left}
 use Rattle.std.proofs.Math.Seq.{get_or-append_seam}
-use Rattle.game_store.specs.Tree.{Tree, Trees, Has}
-use Rattle.game_store.specs.Number.{IsNumberTree}
-use Rattle.game_store.specs.TextOrder.{IsCanonicalTree, IsCanonicalFor}
-use Rattle.game_store.specs.Meaning.{tree_at, pick, form, number_tree, AreIds, AreBelow, AreDistinct, Extends, IsIdOf}
+use Rattle.short_games.specs.Tree.{Tree, Trees, Has, tree_at, AreDistinct}
+use Rattle.short_games.specs.Number.{IsNumberTree, number_tree}
+use Rattle.short_games.specs.TextOrder.{IsCanonicalTree, IsCanonicalFor}
+use Rattle.game_store.specs.Meaning.{pick, form, AreIds, AreBelow, Extends, IsIdOf}
 use Rattle.game_store.specs.Forms.{IsOptions}
-use Rattle.game_store.specs.Parts.{IsOption, IsNumberOf}
+use Rattle.short_games.specs.Parts.{IsOption, IsNumberOf, IsInner, IsReached}
 use Rattle.game_store.proofs.Values.{has-pick, pick-has}
-use Rattle.game_store.proofs.ReductionLaws.{number-canonical}
+use Rattle.short_games.proofs.ReductionLaws.{number-canonical}
 use Rattle.game_canon.specs.declared.change.Change.{Change}
 use Rattle.game_canon.specs.declared.change.Change.TheVariants.{Negate, Add}
 use Rattle.game_canon.specs.declared.errors.FormError.{FormError}
 use Rattle.game_canon.specs.declared.errors.FormError.TheVariants.{Parts, Bounds, Memory}
 use Rattle.game_canon.specs.Ids.{IsInOrder}
-use Rattle.game_canon.specs.Reachable.{IsInner, IsReached, AreReachable}
+use Rattle.game_canon.specs.Reachable.{AreReachable}
 use Rattle.game_canon.specs.Changes.{target, lefts, rights, left_list, right_list, shifted, IsChanged, AreKnown, IsMapped, AreNoted, AreClosed, AreDone, IsRefusedAt, IsRefused}
 use Rattle.game_canon.proofs.GameLaws.{has-left, left-has, has-right, right-has}
 use Rattle.game_canon.proofs.ChangeLaws.{number-shifted, AreImages, changed-form, changed-no_number}

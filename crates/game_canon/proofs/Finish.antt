@@ -1,26 +1,23 @@
 -- A reduced form in the order of its ids is the canonical tree.
-use Rattle.std.proofs.Common.{ℕ, zero, suc, ◌+◌, ◌<◌, ◌≤◌, ◌≡◌, List, [], length, arith, refl, sym, ap, ◌∙◌, inl, inr, subst, ℤ}
+use Rattle.std.proofs.Common.{ℕ, zero, suc, ◌+◌, ◌<◌, ◌≤◌, ◌≡◌, List, [], length, arith, refl, sym, ap, ◌∙◌, inl, inr, subst, ℤ, pos, negsuc}
 use Rattle.std.proofs.lemmas.Bool.{cases_lt}
-use Rattle.game_store.specs.Tree.{Tree, left, right, Has}
-use Rattle.game_store.specs.Order.{◌≤ᵍ◌, ◌≡ᵍ◌}
-use Rattle.game_store.specs.Number.{IsNumberTree, num, IsNumber}
-use Rattle.game_store.specs.TextOrder.{IsCanonicalTree, IsCanonicalFor}
-use Rattle.game_store.specs.Reduction.{KeepsLeft, KeepsRight}
-use Rattle.std.proofs.Common.{pos, negsuc}
+use Rattle.short_games.specs.Tree.{Tree, left, right, Has, neg, size, tree_at, AreDistinct}
+use Rattle.short_games.specs.Order.{◌≤ᵍ◌, ◌≡ᵍ◌}
+use Rattle.short_games.specs.Number.{IsNumberTree, num, IsNumber, whole, count_tree, number_tree}
+use Rattle.short_games.specs.TextOrder.{IsCanonicalTree, IsCanonicalFor}
+use Rattle.short_games.specs.Reduction.{KeepsLeft, KeepsRight}
 use Rattle.std.specs.Prelude.{Option, Some, None, Bool, IsTrue, ◌↔◌, unsigned_abs, ◌^◌}
-use Rattle.game_store.specs.Threshold.{IsFloor, IsCeiling}
+use Rattle.short_games.specs.Threshold.{IsFloor, IsCeiling}
 use Rattle.std.proofs.lemmas.Int.{ints}
-use Rattle.game_store.specs.Tree.{neg, size}
-use Rattle.game_store.specs.Number.{whole, count_tree}
-use Rattle.game_store.proofs.NumberLaws.{num-lt}
-use Rattle.game_store.proofs.TextOrderLaws.{sorted-has, has-sorted}
-use Rattle.game_store.proofs.OrderLaws.{le-trans, le-refl, le-in, size-left, size-right, size-pos}
-use Rattle.game_store.proofs.FormLaws.{by_better, number_between}
-use Rattle.game_store.proofs.ReductionLaws.{form-canonical, number-kept_left, number-kept_right, number-canonical, canonical-same}
-use Rattle.game_store.specs.Meaning.{tree_at, pick, listed, form, AreIds, AreCanonical, AreDistinct, IsAscending, number_tree, IsIdOf, Extends}
+use Rattle.short_games.proofs.NumberLaws.{num-lt}
+use Rattle.short_games.proofs.TextOrderLaws.{sorted-has, has-sorted}
+use Rattle.short_games.proofs.OrderLaws.{le-trans, le-refl, le-in, size-left, size-right, size-pos}
+use Rattle.short_games.proofs.FormLaws.{by_better, number_between}
+use Rattle.short_games.proofs.ReductionLaws.{form-canonical, number-kept_left, number-kept_right, number-canonical, canonical-same}
+use Rattle.game_store.specs.Meaning.{pick, listed, form, AreIds, AreCanonical, IsAscending, IsIdOf, Extends}
 use Rattle.game_store.proofs.Values.{has-pick}
 use Rattle.game_canon.specs.declared.side.Side.TheVariants.{Left, Right}
-use Rattle.game_canon.specs.Sides.{IsReducedForm, IsStart, AreBest}
+use Rattle.game_canon.specs.Sides.{IsReducedForm, IsStart, AreBest, Comes}
 use Rattle.game_canon.specs.declared.games.Unstored.{Unstored}
 use Rattle.game_canon.specs.declared.games.Games.{Games}
 use Rattle.game_canon.specs.Games.{with_unstored, beside, IsUnstored, IsBeside, IsKnown}
@@ -28,11 +25,8 @@ use Rattle.std.specs.Map.{lookup}
 use Rattle.indexmap.specs.IndexMap.{IndexMap}
 use Rattle.game_canon.specs.Comparisons.{same_pair, recalled, AreRight}
 use Rattle.dyadic_num.specs.Units.{IsInBounds}
-use Rattle.game_store.specs.Parts.{HasMoreParts}
-use Rattle.game_canon.specs.Outcomes.{IsCanonicalId}
-use Rattle.game_store.specs.Parts.{IsOption, IsNumberOf}
-use Rattle.game_canon.specs.Sides.{Comes}
-use Rattle.game_canon.specs.Outcomes.{AreOptionsWithin}
+use Rattle.short_games.specs.Parts.{HasMoreParts, IsOption, IsNumberOf}
+use Rattle.game_canon.specs.Outcomes.{IsCanonicalId, AreOptionsWithin}
 use Rattle.game_canon.specs.Bounds.{IsNear}
 use Rattle.game_canon.proofs.Sizes.{form-number, own-number}
 use Rattle.game_canon.proofs.PartLaws.{number-no_more, listed-option, option-listed}

@@ -2,14 +2,14 @@
 use Rattle.std.proofs.Common.{ℕ, ◌+◌, ◌<◌, ◌≤◌, ◌≡◌, List, [], ◌∷◌, ◌++◌, length, get_or, arith, refl, sym, ◌∙◌, ap, ap₂, subst, Some, None}
 use Rattle.std.specs.Prelude.{Option}
 use Rattle.std.proofs.lemmas.List.{length-append}
-use Rattle.game_store.specs.Tree.{Tree, node, left, right, Has}
-use Rattle.game_store.specs.Number.{IsNumber, IsNumberTree}
-use Rattle.game_store.specs.Order.{◌≤ᵍ◌}
-use Rattle.game_store.specs.TextOrder.{sorted}
-use Rattle.game_store.specs.Meaning.{tree_at, pick, form, AreBelow, AreDistinct, Extends}
+use Rattle.short_games.specs.Tree.{Tree, node, left, right, Has, tree_at, AreDistinct}
+use Rattle.short_games.specs.Number.{IsNumber, IsNumberTree}
+use Rattle.short_games.specs.Order.{◌≤ᵍ◌}
+use Rattle.short_games.specs.TextOrder.{sorted}
+use Rattle.game_store.specs.Meaning.{pick, form, AreBelow, Extends}
 use Rattle.game_store.specs.Forms.{IsOptions}
-use Rattle.game_store.proofs.TextOrderLaws.{sorted-has, has-sorted}
-use Rattle.game_store.proofs.OrderLaws.{le-refl}
+use Rattle.short_games.proofs.TextOrderLaws.{sorted-has, has-sorted}
+use Rattle.short_games.proofs.OrderLaws.{le-refl}
 use Rattle.game_store.proofs.Values.{has-pick, pick-same, pick-one_to_one, extends-same, extends-push, last-value}
 use Rattle.game_canon.specs.declared.games.Unstored.{Unstored}
 use Rattle.game_canon.specs.Games.{with_unstored, IsUnstored, IsBeside}

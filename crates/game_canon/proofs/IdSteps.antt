@@ -5,8 +5,8 @@ use Rattle.std.specs.List.Sorted.{IsStrictlyIncreasing}
 use Rattle.std.proofs.lemmas.List.Sums.{sum_by-cons}
 use Rattle.std.proofs.lemmas.List.Kept.{AllPairs-from_increasing}
 use Rattle.std.proofs.lemmas.List.Elements.{Contains-get_or, at_from_Contains}
-use Rattle.game_store.specs.Tree.{Tree, Has, size, sizes}
-use Rattle.game_store.specs.Meaning.{tree_at, pick, AreIds}
+use Rattle.short_games.specs.Tree.{Tree, Has, size, sizes, tree_at}
+use Rattle.game_store.specs.Meaning.{pick, AreIds}
 use Rattle.game_store.proofs.Values.{has-pick, pick-has}
 use Rattle.game_canon.specs.Ids.{IsInOrder}
 

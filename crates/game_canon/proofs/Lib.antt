@@ -10,15 +10,12 @@ pub mod ThresholdSteps
 pub mod SimplestNumber
 pub mod Waiting
 pub mod Undecided
-pub mod Avoidance
 pub mod Examples
-pub mod PlayerLaws
 pub mod ChangeLaws
 pub mod ChangeSteps
 pub mod NumberParts
 pub mod NegationLaws
 pub mod ReachableLaws
-pub mod IncentiveLaws
 pub mod SumMoves
 pub mod SumBounds
 pub mod SumWaiting

@@ -1,15 +1,15 @@
 -- The negative of a canonical form has as many parts, and numbers of the same sizes.
-use Rattle.std.proofs.Common.{◌≡◌, ℕ, zero, suc, ◌<◌, ◌≤◌, refl, sym, ◌∙◌, ap, subst, arith, List, [], ◌∷◌, length, get_or, unsigned_abs, neg_ℤ}
+use Rattle.std.proofs.Common.{◌≡◌, ℕ, zero, suc, ◌<◌, refl, subst, arith, List, [], ◌∷◌, length, get_or, neg_ℤ}
 use Rattle.std.proofs.lemmas.Int.{ints}
-use Rattle.game_store.specs.Tree.{Tree, node, none, neg}
-use Rattle.game_store.specs.Meaning.{tree_at}
-use Rattle.game_store.specs.TextOrder.{IsCanonicalTree, IsCanonicalFor}
-use Rattle.game_store.specs.Parts.{IsPart, HasMoreParts}
+use Rattle.short_games.specs.Tree.{Tree, node, none, neg, tree_at}
+use Rattle.short_games.specs.TextOrder.{IsCanonicalTree, IsCanonicalFor}
+use Rattle.short_games.specs.Parts.{IsPart, HasMoreParts}
 use Rattle.game_canon.specs.declared.change.Change.TheVariants.{Negate}
 use Rattle.game_canon.specs.Outcomes.{AreWithin}
-use Rattle.game_store.proofs.OrderLaws.{le-trans}
+use Rattle.short_games.proofs.OrderLaws.{le-trans}
 use Rattle.game_canon.proofs.ChangeLaws.{target-back, target-same}
-use Rattle.game_canon.proofs.NumberParts.{numbers-out, parts-out, same-canonical}
+use Rattle.game_canon.proofs.NumberParts.{numbers-out, parts-out}
+use Rattle.short_games.proofs.ReductionLaws.{same-canonical}
 
 -- a value for each number below n, in a list
 pub chosen : {X : Type 0} (d : X) (P : ℕ → X → Type 0) (n : ℕ) → ((k : ℕ) → k < n → (x : X) × P k x)

@@ -2,29 +2,28 @@
 use Rattle.std.proofs.Common.{ℕ, List, length, get_or, ◌<◌, ◌≡◌, ◌↔◌, refl, sym, ◌∙◌, inl, inr, ap, subst, ℤ, pos, ◌+ℤ◌, neg_ℤ, arith}
 use Rattle.std.proofs.lemmas.Int.{ints, by_lt_z}
 use Rattle.dyadic_num.specs.Units.{IsInBounds}
-use Rattle.game_store.specs.Tree.{Tree, Trees, node, none, more, left, right, Has}
-use Rattle.game_store.specs.Order.{◌≤ᵍ◌}
-use Rattle.game_store.specs.Number.{num, IsNumberTree}
-use Rattle.game_store.specs.TextOrder.{TextBefore, sorted, IsCanonicalTree, IsCanonicalFor}
-use Rattle.game_store.specs.Sum.{◌+ᵍ◌}
-use Rattle.game_store.specs.Meaning.{tree_at, pick, number_tree, AreBelow, Wanted}
+use Rattle.short_games.specs.Tree.{Tree, Trees, node, none, more, left, right, Has, tree_at}
+use Rattle.short_games.specs.Order.{◌≤ᵍ◌}
+use Rattle.short_games.specs.Number.{num, IsNumberTree, number_tree}
+use Rattle.short_games.specs.TextOrder.{TextBefore, sorted, IsCanonicalTree, IsCanonicalFor}
+use Rattle.short_games.specs.Sum.{◌+ᵍ◌}
+use Rattle.game_store.specs.Meaning.{pick, AreBelow, Wanted}
 use Rattle.game_store.specs.Meaning.Wanted.{number, options}
 use Rattle.game_store.specs.Forms.{IsMeaning, IsWithinBounds, HaveForms}
-use Rattle.game_store.specs.Parts.{IsOption, IsFollower, IsPart, IsNumberOf}
-use Rattle.game_store.specs.Parts.IsFollower.{itself, further}
-use Rattle.game_store.proofs.OrderLaws.{le-trans, le-refl}
-use Rattle.game_store.proofs.SumLaws.{plus-nought}
-use Rattle.game_store.proofs.NumberLaws.{num-lt, num-zero}
+use Rattle.short_games.specs.Parts.{IsOption, IsFollower, IsPart, IsNumberOf, IsReached}
+use Rattle.short_games.specs.Parts.IsFollower.{itself, further}
+use Rattle.short_games.proofs.OrderLaws.{le-trans, le-refl}
+use Rattle.short_games.proofs.SumLaws.{plus-nought}
+use Rattle.short_games.proofs.NumberLaws.{num-lt, num-zero}
 use Rattle.game_store.proofs.Values.{has-pick}
-use Rattle.game_store.proofs.Existence.{canon}
-use Rattle.game_store.proofs.TextOrderLaws.{text-order, sorted-has, has-sorted}
-use Rattle.game_store.proofs.ReductionLaws.{number-canonical, canonical-same}
+use Rattle.short_games.proofs.Existence.{canon}
+use Rattle.short_games.proofs.TextOrderLaws.{text-order, sorted-has, has-sorted}
+use Rattle.short_games.proofs.ReductionLaws.{number-canonical, canonical-same, same-canonical}
 use Rattle.game_canon.specs.declared.change.Change.{Change}
 use Rattle.game_canon.specs.declared.change.Change.TheVariants.{Negate, Add}
 use Rattle.game_canon.specs.declared.errors.FormError.{FormError}
 use Rattle.game_canon.specs.declared.errors.FormError.TheVariants.{Parts, Bounds, Memory}
 use Rattle.game_canon.specs.Outcomes.{IsCanonicalId}
-use Rattle.game_canon.specs.Reachable.{IsReached}
 use Rattle.game_canon.specs.Changes.{target, lefts, rights, shifted, HasNumberPastBounds, IsRefused, IsSumRefusal}
 use Rattle.game_canon.proofs.GameLaws.{has-left, has-right}
 use Rattle.game_canon.proofs.ReachableLaws.{hot-before}
@@ -52,9 +51,6 @@ from-changed c (more Z Zs) Y (inr h) = let r = from-changed c Zs Y h in (r.0, in
 
 images : (c : Change) (Xs : Trees) → AreImages c Xs (changed_each c Xs)
 images c Xs = record { to = to-changed c Xs; from = from-changed c Xs }
-
-pub same-canonical : (G C D : Tree) → IsCanonicalFor G C → IsCanonicalFor G D → C ≡ D
-same-canonical G C D k l = canonical-same C D k.canonical l.canonical (le-trans C G D k.over l.under) (le-trans D G C l.over k.under)
 
 -- the options of the canonical tree are the canonical trees of the changed options
 module _ (c : Change) (G C : Tree) (canonical : IsCanonicalTree G) (no_number : IsNumberTree G → ⊥) (k : IsCanonicalFor (target c G) C) where

@@ -1,5 +1,5 @@
 -- How the parts of forms are gathered, and how many they are.
-use Rattle.game_store.proofs.PartLaws.{number-option, number-follower}
+use Rattle.short_games.proofs.PartLaws.{follower-more, number-option, number-follower}
 use Rattle.std.proofs.Common.{ℕ, zero, suc, ◌+◌, ◌<◌, ◌≤◌, ◌≡◌, ◌⊎◌, List, [], ◌∷◌, ◌++◌, length, get_or, map, arith, refl, sym, ◌∙◌, inl, inr, ap, subst, Bool, true, false, nat_eq}
 use Rattle.std.specs.Prelude.{if◌then◌else◌}
 use Rattle.std.specs.List.{list_any, IsDistinct, Contains}
@@ -12,22 +12,18 @@ use Rattle.std.proofs.lemmas.List.{length-append, length-map, get_or-map, get_or
 use Rattle.std.proofs.lemmas.List.Elements.{at_from_Contains}
 use Rattle.std.proofs.lemmas.Map.Keys.{apart_from_distinct}
 use Rattle.std.proofs.Math.Seq.{get_or-append_seam}
-use Rattle.game_store.specs.Tree.{Tree, node, none, Has, size}
-use Rattle.game_store.specs.Number.{IsNumberTree}
-use Rattle.game_store.specs.Meaning.{tree_at, pick, listed, form, AreIds, AreDistinct}
-use Rattle.game_store.specs.Parts.{IsOption, IsFollower, IsPart, AreParts, HasParts, HasMoreParts}
-use Rattle.game_store.specs.Parts.IsFollower.{itself, further}
-use Rattle.game_store.proofs.OrderLaws.{size-left, size-right}
-use Rattle.game_store.proofs.TextOrderLaws.{sorted-has, has-sorted}
+use Rattle.short_games.specs.Tree.{Tree, node, none, Has, size, tree_at, AreDistinct}
+use Rattle.short_games.specs.Number.{IsNumberTree}
+use Rattle.game_store.specs.Meaning.{pick, listed, form, AreIds}
+use Rattle.short_games.specs.Parts.{IsOption, IsFollower, IsPart, AreParts, HasParts, HasMoreParts}
+use Rattle.short_games.specs.Parts.IsFollower.{itself, further}
+use Rattle.short_games.proofs.OrderLaws.{size-left, size-right}
+use Rattle.short_games.proofs.TextOrderLaws.{sorted-has, has-sorted}
 use Rattle.game_canon.specs.Followers.{IsIn, IsGrown, IsBelow, AreBelow, HasBelow, HasMoreBelow}
 use Rattle.game_canon.proofs.SideLaws.{append-has, has-append_left, has-append_right, one}
 
 pub number-no_more : (G : Tree) (limit : ℕ) → IsNumberTree G → HasMoreParts G limit → ⊥
 number-no_more G limit n h = let p = h.1.each 0 (omega (arith, h.2)) in p.1 (number-follower G _ p.0 n)
-
-pub follower-more : (G X Y : Tree) → IsFollower G X → IsOption X Y → IsFollower G Y
-follower-more _ _ Y (itself G) o = further G Y Y o (itself Y)
-follower-more _ _ Y (further G H X p f) o = further G H Y p (follower-more H X Y f o)
 
 -- numbers in no greater number
 pub fewer : (n m : ℕ) (R : ℕ → ℕ → Type 0) → ((j : ℕ) → j < n → (i : ℕ) × (i < m) × R j i) → ((i j k : ℕ) → i < n → j < n → R i k → R j k → i ≡ j) → n ≤ m

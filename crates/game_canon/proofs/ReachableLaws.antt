@@ -9,16 +9,16 @@ use Rattle.std.proofs.lemmas.Bool.Decides.{Decides-eqb}
 use Rattle.std.proofs.lemmas.List.{length-append, get_or_append_left}
 use Rattle.std.proofs.lemmas.List.Elements.{at_from_Contains}
 use Rattle.std.proofs.Math.Seq.{get_or-append_seam}
-use Rattle.game_store.specs.Tree.{Tree, Has}
-use Rattle.game_store.specs.Number.{IsNumberTree}
-use Rattle.game_store.specs.Meaning.{tree_at, pick, AreIds}
-use Rattle.game_store.specs.Parts.{IsOption, IsFollower, IsPart}
-use Rattle.game_store.specs.Parts.IsFollower.{itself, further}
+use Rattle.short_games.specs.Tree.{Tree, Has, tree_at}
+use Rattle.short_games.specs.Number.{IsNumberTree}
+use Rattle.game_store.specs.Meaning.{pick, AreIds}
+use Rattle.short_games.specs.Parts.{IsFollower, IsPart, IsInner, IsReached}
+use Rattle.short_games.specs.Parts.IsFollower.{itself, further}
 use Rattle.game_canon.specs.Ids.{IsInOrder}
 use Rattle.game_canon.specs.Followers.{IsIn}
-use Rattle.game_canon.specs.Reachable.{IsInner, IsReached, IsWidened, AreReachable}
+use Rattle.game_canon.specs.Reachable.{IsWidened, AreReachable}
 use Rattle.game_canon.proofs.IdSteps.{ordered-ids}
-use Rattle.game_store.proofs.PartLaws.{number-option}
+use Rattle.short_games.proofs.PartLaws.{follower-more, number-option}
 use Rattle.game_canon.proofs.SideLaws.{append-has, has-append_left, has-append_right, one}
 
 pub widened-none : (Ts : List Tree) (P : Tree → Type 0) (ks : List ℕ) → ((X : Tree) → P X → ⊥) → IsWidened Ts P ks ks
@@ -73,10 +73,6 @@ inserted Ts us vs y l e = at (list_any (nat_eq y) us) refl
 pub widened-insert : (Ts : List Tree) (xs ks us vs : List ℕ) (y : ℕ) → y < length Ts → vs ≡ insert_key nat_eq us y → IsWidened Ts (Has (pick Ts xs)) ks us → IsWidened Ts (Has (pick Ts (xs ++ y ∷ []))) ks vs
 widened-insert Ts xs ks us vs y l e g = widened-both Ts (Has (pick Ts xs)) (Has (pick Ts (y ∷ []))) (Has (pick Ts (xs ++ y ∷ []))) ks us vs g (inserted Ts us vs y l e)
     (λ X h. has-append_left Ts xs (y ∷ []) X h) (λ X h. has-append_right Ts xs (y ∷ []) X h) (λ X h. append-has Ts xs (y ∷ []) X h)
-
-follower-more : (G X Y : Tree) → IsFollower G X → IsOption X Y → IsFollower G Y
-follower-more _ _ Y (itself G) o = further G Y Y o (itself Y)
-follower-more _ _ Y (further G H X p f) o = further G H Y p (follower-more H X Y f o)
 
 -- what is reached, and its options
 reached-part : (G X : Tree) → IsReached G X → (IsNumberTree X → ⊥) → IsPart G X

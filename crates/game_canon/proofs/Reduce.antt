@@ -1,24 +1,22 @@
 -- One step of the reduction of a form: an option replaced, then the best ones kept.
-use Rattle.std.proofs.Common.{ℕ, suc, ◌+◌, ◌<◌, ◌≡◌, ◌⊎◌, List, [], ◌∷◌, ◌++◌, length, get_or, take, drop, arith, refl, sym, ◌∙◌, inl, inr, ap, subst}
+use Rattle.std.proofs.Common.{ℕ, suc, ◌+◌, ◌<◌, ◌≡◌, ◌⊎◌, List, [], ◌∷◌, ◌++◌, length, get_or, take, drop, arith, refl, sym, ◌∙◌, inl, inr, ap, subst, Bool, true, false, cond}
 use Rattle.std.specs.Prelude.{Option, Some, None, MatchOption}
 use Rattle.std.proofs.Math.Seq.{drop-cons}
 use Rattle.std.proofs.lemmas.List.{take-append-drop, length-drop, length-take, get_or-take, get_or-drop}
-use Rattle.std.proofs.Common.{Bool, true, false, cond}
 use Rattle.std.proofs.lemmas.Bool.{true≢false}
-use Rattle.game_store.specs.TextOrder.{insert, sorted, text_before}
-use Rattle.game_store.proofs.TextOrderLaws.{text-order, sorted-has}
-use Rattle.game_store.specs.Meaning.{AreDistinct, AreBelow, IsAscending}
-use Rattle.game_store.specs.Tree.{Tree, Trees, node, none, more, left, right, Has, size, sizes}
-use Rattle.game_store.specs.Order.{◌≤ᵍ◌, ◌≡ᵍ◌}
-use Rattle.game_store.specs.Number.{IsNumberTree, IsNumber}
-use Rattle.game_store.proofs.OrderLaws.{le-refl, le-trans, size-left, size-right, size-node}
-use Rattle.game_store.proofs.ReductionLaws.{drops-left, drops-right, bypasses-left, bypasses-right, number-answers_left, number-answers_right}
-use Rattle.game_store.specs.Meaning.{tree_at, pick, listed, AreIds}
+use Rattle.short_games.specs.TextOrder.{insert, sorted, text_before}
+use Rattle.short_games.proofs.TextOrderLaws.{text-order, sorted-has}
+use Rattle.short_games.specs.Tree.{AreDistinct, Tree, Trees, node, none, more, left, right, Has, size, sizes, tree_at}
+use Rattle.game_store.specs.Meaning.{AreBelow, IsAscending, pick, listed, AreIds}
+use Rattle.short_games.specs.Order.{◌≤ᵍ◌, ◌≡ᵍ◌}
+use Rattle.short_games.specs.Number.{IsNumberTree, IsNumber}
+use Rattle.short_games.proofs.OrderLaws.{le-refl, le-trans, size-left, size-right, size-node}
+use Rattle.short_games.proofs.ReductionLaws.{drops-left, drops-right, bypasses-left, bypasses-right, number-answers_left, number-answers_right}
 use Rattle.game_store.specs.Forms.{IsOptions}
 use Rattle.game_store.proofs.Values.{has-pick, pick-has}
 use Rattle.game_canon.specs.declared.side.Side.{Side}
 use Rattle.game_canon.specs.declared.side.Side.TheVariants.{Left, Right}
-use Rattle.game_store.specs.Parts.{IsOption}
+use Rattle.short_games.specs.Parts.{IsOption}
 use Rattle.game_canon.proofs.Sizes.{come-further}
 use Rattle.game_canon.specs.Sides.{Comes, near, far, Covers, with_near, near_list, far_list, AreFree, AreBest, IsReplaced, IsAnswer, IsKept, IsDone, IsSmaller, IsReducedForm}
 use Rattle.game_canon.proofs.SideLaws.{append-has, has-append_left, has-append_right, sizes-append, ids-append, has-far, far-has, FarUncovered}

@@ -1,12 +1,9 @@
 -- Laws that hold of both sides, and of lists of ids.
 use Rattle.std.proofs.Common.{ℕ, zero, suc, ◌+◌, ◌<◌, ◌≡◌, ◌⊎◌, List, [], ◌∷◌, ◌++◌, length, get_or, arith, refl, sym, ◌∙◌, inl, inr, ap, subst}
-use Rattle.std.proofs.lemmas.Bool.{cases_Bool}
-use Rattle.game_store.specs.Tree.{Tree, Trees, more, Has, no_one, ◌then◌, size, sizes}
-use Rattle.game_store.specs.Order.{le}
-use Rattle.game_store.proofs.OrderLaws.{le-refl, le-trans, no_one-has}
-use Rattle.game_store.proofs.SumLaws.{then-has, has-then_left, has-then_right}
-use Rattle.game_store.proofs.CanonicalLaws.{some_one}
-use Rattle.game_store.specs.Meaning.{tree_at, pick, AreIds}
+use Rattle.short_games.specs.Tree.{Tree, Trees, more, Has, ◌then◌, size, sizes, tree_at}
+use Rattle.short_games.proofs.OrderLaws.{le-refl, le-trans, none-or_some, le-or_not}
+use Rattle.short_games.proofs.SumLaws.{then-has, has-then_left, has-then_right}
+use Rattle.game_store.specs.Meaning.{pick, AreIds}
 use Rattle.game_store.specs.Forms.{IsOptions}
 use Rattle.game_canon.specs.declared.side.Side.{Side}
 use Rattle.game_canon.specs.declared.side.Side.TheVariants.{Left, Right}
@@ -14,6 +11,7 @@ use Rattle.game_canon.specs.Sides.{near, far, Covers, near_list, far_list, AreBe
 use Rattle.game_canon.proofs.GameLaws.{has-left, left-has, has-right, right-has}
 use Rattle.game_canon.proofs.IdSteps.{sizes-order, in-order, out-order, ordered-ids}
 use Rattle.game_canon.specs.Ids.{IsInOrder}
+use Rattle.short_games.specs.Order.{◌≤ᵍ◌}
 
 pub covers-refl : (s : Side) (G : Tree) → Covers s G G
 covers-refl Left G = le-refl G
@@ -25,8 +23,8 @@ covers-trans Right A B C p q = le-trans C B A q p
 
 -- a list in which not none covers X has one that does
 pub some-covers : (s : Side) (Gs : Trees) (X : Tree) → (((Y : Tree) → Has Gs Y → Covers s X Y → ⊥) → ⊥) → (Y : Tree) × Has Gs Y × Covers s X Y
-some-covers Left Gs X h = elim (cases_Bool (no_one (λ Y. le X Y) Gs)) [ inl t ↦ absurd (h (λ Y y c. no_one-has _ Gs t Y y c)) | inr f ↦ some_one (λ Y. le X Y) Gs f ]
-some-covers Right Gs X h = elim (cases_Bool (no_one (λ Y. le Y X) Gs)) [ inl t ↦ absurd (h (λ Y y c. no_one-has _ Gs t Y y c)) | inr f ↦ some_one (λ Y. le Y X) Gs f ]
+some-covers Left Gs X h = elim (none-or_some (λ Y. X ≤ᵍ Y) (λ Y. le-or_not X Y) Gs) [ inl t ↦ absurd (h t) | inr f ↦ f ]
+some-covers Right Gs X h = elim (none-or_some (λ Y. Y ≤ᵍ X) (λ Y. le-or_not Y X) Gs) [ inl t ↦ absurd (h t) | inr f ↦ f ]
 
 -- lists of ids in a row
 pub pick-append : (Ts : List Tree) (xs ys : List ℕ) → pick Ts (xs ++ ys) ≡ pick Ts xs then pick Ts ys

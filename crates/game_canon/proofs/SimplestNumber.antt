@@ -6,16 +6,16 @@ use Rattle.std.proofs.lemmas.Bool.{cases_Bool}
 use Rattle.std.proofs.lemmas.Nat.{pow-add}
 use Rattle.std.proofs.Math.Nat.{mul_assoc}
 use Rattle.dyadic_num.specs.Units.{IsAbove, IsBelow, IsMultiple, IsSimplest, IsInside}
-use Rattle.game_store.specs.Tree.{Tree, none, more, left, right, Has, neg}
-use Rattle.game_store.specs.Number.{num, IsNumber, whole, count_tree, half, is_even}
-use Rattle.game_store.specs.Order.{◌≤ᵍ◌}
-use Rattle.game_store.specs.Threshold.{IsCell, FitsForm}
-use Rattle.game_store.proofs.OrderLaws.{le-trans}
-use Rattle.game_store.proofs.NumberLaws.{num-even, num-odd, num-double, num-lt, half-even, half-odd}
-use Rattle.game_store.proofs.ThresholdLaws.{cell, half-cell, simplest-is, equal-fits}
+use Rattle.short_games.specs.Tree.{Tree, none, more, left, right, Has, neg}
+use Rattle.short_games.specs.Number.{num, IsNumber, whole, count_tree, half, is_even}
+use Rattle.short_games.specs.Order.{◌≤ᵍ◌}
+use Rattle.short_games.specs.Threshold.{IsCell, IsFloor, IsCeiling}
+use Rattle.short_games.specs.Simplest.{FitsForm}
+use Rattle.short_games.proofs.OrderLaws.{le-trans}
+use Rattle.short_games.proofs.NumberLaws.{num-even, num-odd, num-double, num-lt, half-even, half-odd}
+use Rattle.short_games.proofs.ThresholdLaws.{cell, half-cell, simplest-is, equal-fits}
 use Rattle.game_store.specs.Meaning.{listed}
 use Rattle.game_store.proofs.Values.{has-pick, pick-has}
-use Rattle.game_store.specs.Threshold.{IsFloor, IsCeiling}
 use Rattle.game_canon.specs.Outcomes.{AreOptionsWithin}
 use Rattle.game_canon.proofs.Sizes.{simplest-within}
 use Rattle.game_canon.proofs.ThresholdSteps.{form-floor, form-ceiling, lower-near, upper-near}

@@ -1,25 +1,22 @@
 -- How large the numbers of forms are.
 use Rattle.std.proofs.Common.{ℕ, zero, suc, ◌+◌, ◌-◌, ◌*◌, ◌/◌, ◌^◌, ◌<◌, ◌≤◌, ◌≡◌, arith, refl, sym, ◌∙◌, inl, inr, ap, subst, ℤ, pos, negsuc, ◌+ℤ◌, ◌≤ℤ◌, ◌<ℤ◌}
-use Rattle.std.specs.Prelude.{unsigned_abs}
+use Rattle.std.specs.Prelude.{unsigned_abs, neg_ℤ}
 use Rattle.std.proofs.lemmas.Int.{ints, by_lt_z}
 use Rattle.std.proofs.lemmas.Nat.{pow-add, div-add-mod', mod_below}
 use Rattle.dyadic_num.specs.Units.{IsSimplest, IsInside}
-use Rattle.std.specs.Prelude.{neg_ℤ}
 use Rattle.std.proofs.Math.Nat.{mul_assoc}
-use Rattle.game_store.specs.Order.{◌≤ᵍ◌}
-use Rattle.game_store.specs.Tree.{Tree, size}
-use Rattle.game_store.specs.Number.{IsNumberTree}
-use Rattle.game_store.specs.Stops.{IsLeftStop, IsRightStop, IsHalf}
-use Rattle.game_store.specs.Meaning.{number_tree}
-use Rattle.game_store.specs.Parts.{IsOption, IsFollower, IsNumberOf}
-use Rattle.game_store.specs.Parts.IsFollower.{itself, further}
-use Rattle.game_store.proofs.OrderLaws.{size-left, size-right, le-refl}
-use Rattle.game_store.proofs.NumberLaws.{num-lt}
-use Rattle.game_store.proofs.StopLaws.{left_stop-is, right_stop-is}
-use Rattle.game_store.proofs.StopLaws.StopIs.{of_number, of_game}
+use Rattle.short_games.specs.Order.{◌≤ᵍ◌}
+use Rattle.short_games.specs.Tree.{Tree, size}
+use Rattle.short_games.specs.Number.{IsNumberTree, number_tree}
+use Rattle.short_games.specs.Stops.{IsLeftStop, IsRightStop, IsHalf}
+use Rattle.short_games.specs.Parts.{IsOption, IsFollower, IsNumberOf}
+use Rattle.short_games.specs.Parts.IsFollower.{itself, further}
+use Rattle.short_games.proofs.OrderLaws.{size-left, size-right, le-refl}
+use Rattle.short_games.proofs.NumberLaws.{num-lt}
+use Rattle.short_games.proofs.StopLaws.{left_stop-is, right_stop-is}
+use Rattle.short_games.proofs.StopLaws.StopIs.{of_number, of_game}
 use Rattle.game_canon.specs.Sides.{Comes}
-use Rattle.game_canon.proofs.PartLaws.{follower-more}
-use Rattle.game_store.proofs.PartLaws.{number-follower}
+use Rattle.short_games.proofs.PartLaws.{follower-more, follower-trans, number-follower}
 
 pub number-same : (x y : ℤ) → number_tree x ≡ number_tree y → x ≡ y
 number-same x y e = by_lt_z x y (λ l. absurd (num-lt 60 x y l (subst (λ t. t ≤ᵍ number_tree x) e (le-refl (number_tree x)))))
@@ -86,11 +83,6 @@ simplest-within low high u a p q s = at u refl
 
     at : (v : ℤ) → v ≡ u → unsigned_abs u ≤ a + 2 ^ 61
     at v e = omega (arith, ints, above, below)
-
--- followers of followers
-pub follower-trans : (G H X : Tree) → IsFollower G H → IsFollower H X → IsFollower G X
-follower-trans _ _ X (itself G) f = f
-follower-trans _ _ X (further G K H o g) f = further G K X o (follower-trans K H X g f)
 
 -- what is an option of a part of a listed game has its numbers from there
 pub comes-number : (G X : Tree) (x : ℤ) → Comes G X → X ≡ number_tree x → (L : Tree) × IsOption G L × IsNumberOf L x

@@ -2,16 +2,16 @@
 use Rattle.std.proofs.Common.{ℕ, ◌+◌, ◌-◌, ◌<◌, ◌≡◌, ◌↔◌, List, length, get_or, arith, sym, ◌∙◌, inl, inr, ap, subst, ℤ, ◌+ℤ◌, ◌≤ℤ◌, cond}
 use Rattle.std.proofs.lemmas.Int.{ints}
 use Rattle.std.proofs.lemmas.Bool.{cases_lt, lt-ltb, le-ltb}
-use Rattle.game_store.specs.Tree.{Tree, left, right, Has}
-use Rattle.game_store.specs.Number.{num}
-use Rattle.game_store.specs.Order.{◌≤ᵍ◌}
-use Rattle.game_store.specs.Threshold.{IsCell, IsFloor, IsCeiling}
-use Rattle.game_store.proofs.OrderLaws.{le-out, le-in, le-trans}
-use Rattle.game_store.proofs.NumberLaws.{num-double}
-use Rattle.game_store.proofs.TextOrderLaws.{sorted-has, has-sorted}
-use Rattle.game_store.proofs.ThresholdLaws.{number-floor, number-ceiling, half-cell}
-use Rattle.game_store.proofs.StopLaws.{one-floor, one-ceiling}
-use Rattle.game_store.specs.Meaning.{tree_at, pick, number_tree, AreDistinct}
+use Rattle.short_games.specs.Tree.{Tree, left, right, Has, tree_at, AreDistinct}
+use Rattle.short_games.specs.Number.{num, number_tree}
+use Rattle.short_games.specs.Order.{◌≤ᵍ◌}
+use Rattle.short_games.specs.Threshold.{IsCell, IsFloor, IsCeiling}
+use Rattle.short_games.proofs.OrderLaws.{le-out, le-in, le-trans}
+use Rattle.short_games.proofs.NumberLaws.{num-double}
+use Rattle.short_games.proofs.TextOrderLaws.{sorted-has, has-sorted}
+use Rattle.short_games.proofs.ThresholdLaws.{number-floor, number-ceiling, half-cell}
+use Rattle.short_games.proofs.StopLaws.{one-floor, one-ceiling}
+use Rattle.game_store.specs.Meaning.{pick}
 use Rattle.game_store.specs.Forms.{IsOptions}
 use Rattle.game_store.proofs.Values.{has-pick, pick-has}
 use Rattle.std.specs.Prelude.{Option}

@@ -2,18 +2,18 @@
 use Rattle.std.proofs.Common.{◌≡◌, List, inl, inr, arith, sym, ◌∙◌, ap₂, subst, ℤ, ◌+ℤ◌, ◌≤ℤ◌, ◌<◌, ◌≤◌, ◌^◌, unsigned_abs, to_z, of_z}
 use Rattle.std.specs.Int.{w128}
 use Rattle.std.proofs.lemmas.Int.{ints, by_lt_z, to_z-of_z, fits_signed_from_abs}
-use Rattle.game_store.specs.Tree.{Tree}
-use Rattle.game_store.specs.Order.{◌≤ᵍ◌}
-use Rattle.game_store.specs.Sum.{◌+ᵍ◌}
-use Rattle.game_store.specs.Number.{num, IsNumberTree}
-use Rattle.game_store.specs.Threshold.{IsFloor, IsCeiling, IsFloorRange, IsCeilingRange}
-use Rattle.game_store.specs.Meaning.{tree_at}
+use Rattle.short_games.specs.Tree.{Tree, tree_at}
+use Rattle.short_games.specs.Order.{◌≤ᵍ◌}
+use Rattle.short_games.specs.Sum.{◌+ᵍ◌}
+use Rattle.short_games.specs.Number.{num, IsNumberTree}
+use Rattle.short_games.specs.Threshold.{IsFloor, IsCeiling}
+use Rattle.game_store.specs.Places.{IsFloorRange, IsCeilingRange}
 use Rattle.game_canon.specs.declared.sums.SumPair.{SumPair}
 use Rattle.game_canon.specs.SumComparisons.{IsSumWithin, AreSameSums, AreFloors, AreCeilings, AreNumbers}
-use Rattle.game_store.proofs.OrderLaws.{le-refl, le-trans}
-use Rattle.game_store.proofs.SumLaws.{plus-le_both, plus-comm}
-use Rattle.game_store.proofs.NumberLaws.{num-le, num-lt, num-plus_le, num-le_plus}
-use Rattle.game_store.proofs.ThresholdLaws.{cell, half-cell}
+use Rattle.short_games.proofs.OrderLaws.{le-refl, le-trans}
+use Rattle.short_games.proofs.SumLaws.{plus-le_both, plus-comm}
+use Rattle.short_games.proofs.NumberLaws.{num-le, num-lt, num-plus_le, num-le_plus}
+use Rattle.short_games.proofs.ThresholdLaws.{cell, half-cell}
 
 over-floor : (G : Tree) (k : ℤ) → IsFloor 60 G k → num 61 k ≤ᵍ G
 over-floor G k f = (f 61 k k (half-cell 60 k)).1 (omega (arith, ints))

@@ -1,11 +1,10 @@
 -- A game that stands in both sums matters nothing to their order.
 use Rattle.std.proofs.Common.{◌≡◌, ◌↔◌, arith, subst}
-use Rattle.game_store.specs.Tree.{Tree}
-use Rattle.game_store.specs.Order.{◌≤ᵍ◌}
-use Rattle.game_store.specs.Sum.{◌+ᵍ◌}
-use Rattle.game_store.specs.Meaning.{tree_at}
-use Rattle.game_store.proofs.OrderLaws.{le-refl, le-trans}
-use Rattle.game_store.proofs.SumLaws.{plus-le, plus-le_both, plus-cancel, plus-comm}
+use Rattle.short_games.specs.Tree.{Tree, tree_at}
+use Rattle.short_games.specs.Order.{◌≤ᵍ◌}
+use Rattle.short_games.specs.Sum.{◌+ᵍ◌}
+use Rattle.short_games.proofs.OrderLaws.{le-refl, le-trans}
+use Rattle.short_games.proofs.SumLaws.{plus-le, plus-le_both, plus-cancel, plus-comm}
 use Rattle.game_canon.specs.declared.sums.SumPair.{SumPair}
 use Rattle.game_canon.specs.SumComparisons.{IsCancelled}
 

@@ -2,27 +2,26 @@
 use Rattle.std.proofs.Common.{ℕ, zero, suc, ◌<◌, ◌≡◌, ◌↔◌, ◌∙◌, List, length, get_or, arith, inl, inr, refl, sym, ap, subst, ℤ, pos, ◌+ℤ◌, ◌<ℤ◌, neg_ℤ}
 use Rattle.std.proofs.lemmas.Bool.{cases_lt}
 use Rattle.std.proofs.lemmas.Int.{ints}
-use Rattle.game_store.specs.Tree.{Tree, Trees, left, right, Has}
-use Rattle.game_store.specs.Order.{◌≤ᵍ◌}
-use Rattle.game_store.specs.Sum.{◌+ᵍ◌}
-use Rattle.game_store.specs.Number.{num, IsNumber, IsNumberTree}
-use Rattle.game_store.specs.TextOrder.{IsCanonicalTree, sorted}
-use Rattle.game_store.specs.Meaning.{tree_at, pick, AreBelow, AreCanonical, AreDistinct, IsAscending}
-use Rattle.game_store.proofs.OrderLaws.{le-out, le-in, le-refl, le-trans}
-use Rattle.game_store.proofs.SumLaws.{InSum, left_of_sum, right_of_sum, left_in_first, left_in_second, right_in_first, right_in_second, plus-le, plus-le_both, plus-cancel, plus-assoc}
-use Rattle.game_store.proofs.SumLaws.InSum.{in_first, in_second}
-use Rattle.game_store.proofs.NumberLaws.{num-left, num-right, num-le, num-plus_le}
-use Rattle.game_store.proofs.ReductionLaws.{canonical-number}
-use Rattle.game_store.proofs.AvoidanceLaws.{cheap_left, cheap_right}
+use Rattle.short_games.specs.Tree.{Tree, Trees, left, right, Has, tree_at, AreDistinct}
+use Rattle.short_games.specs.Order.{◌≤ᵍ◌}
+use Rattle.short_games.specs.Sum.{◌+ᵍ◌}
+use Rattle.short_games.specs.Number.{num, IsNumber, IsNumberTree}
+use Rattle.short_games.specs.TextOrder.{IsCanonicalTree, sorted}
+use Rattle.game_store.specs.Meaning.{pick, AreBelow, AreCanonical, IsAscending}
+use Rattle.short_games.proofs.OrderLaws.{le-out, le-in, le-refl, le-trans}
+use Rattle.short_games.proofs.SumLaws.{InSum, left_of_sum, right_of_sum, left_in_first, left_in_second, right_in_first, right_in_second, plus-le, plus-le_both, plus-cancel, plus-assoc, same-swap}
+use Rattle.short_games.proofs.SumLaws.InSum.{in_first, in_second}
+use Rattle.short_games.proofs.NumberLaws.{num-left, num-right, num-le, num-plus_le}
+use Rattle.short_games.proofs.ReductionLaws.{canonical-number}
+use Rattle.short_games.proofs.AvoidanceLaws.{cheap_left, cheap_right}
 use Rattle.game_store.proofs.Values.{pick-has, has-pick}
-use Rattle.game_store.proofs.TextOrderLaws.{sorted-has, has-sorted}
+use Rattle.short_games.proofs.TextOrderLaws.{sorted-has, has-sorted}
 use Rattle.game_canon.specs.declared.sums.SumPair.{SumPair}
 use Rattle.game_canon.specs.declared.sums.Place.{Place}
 use Rattle.game_canon.specs.declared.sums.Place.TheVariants.{First, Second, Third, Fourth}
 use Rattle.game_canon.specs.declared.sums_at_most.SumQuestion.{SumQuestion}
 use Rattle.game_canon.specs.SumComparisons.{IsSumWithin, AreStored, AreNumbers, game_at, options_at, IsMoveIn, AreMoves, counter_by, Counters, Resists, rank, HasResisted, weight}
 use Rattle.game_canon.proofs.GameLaws.{none-list}
-use Rattle.game_canon.proofs.PlayerLaws.{same-swap}
 
 -- a player who moves in a number loses by it
 number_left : (G L : Tree) → IsNumberTree G → Has (left G) L → (e : ℕ) × (d : ℤ) × (pos 0 <ℤ d) × (L +ᵍ num e d ≤ᵍ G)

@@ -4,15 +4,16 @@ use Rattle.std.specs.Prelude.{Option, IfNone, ◌^◌}
 use Rattle.std.proofs.lemmas.Int.{ints, by_lt_z}
 use Rattle.std.proofs.lemmas.Bool.{cases_lt}
 use Rattle.dyadic_num.specs.Units.{IsAbove, IsBelow}
-use Rattle.game_store.specs.Tree.{Tree}
-use Rattle.game_store.specs.Number.{num, IsNumber}
-use Rattle.game_store.specs.Order.{◌≤ᵍ◌}
-use Rattle.game_store.specs.Threshold.{IsFloor, IsCeiling, IsFloorRange, IsCeilingRange}
-use Rattle.game_store.proofs.ThresholdLaws.{game-floor, game-ceiling}
-use Rattle.game_store.specs.Meaning.{tree_at, listed}
+use Rattle.short_games.specs.Tree.{Tree, tree_at}
+use Rattle.short_games.specs.Number.{num, IsNumber}
+use Rattle.short_games.specs.Order.{◌≤ᵍ◌}
+use Rattle.short_games.specs.Threshold.{IsFloor, IsCeiling}
+use Rattle.game_store.specs.Places.{IsFloorRange, IsCeilingRange}
+use Rattle.short_games.proofs.ThresholdLaws.{game-floor, game-ceiling}
+use Rattle.game_store.specs.Meaning.{listed}
 use Rattle.game_canon.specs.Bounds.{AreAllWithin, HasCeilingFrom, HasFloorUpTo, AreAllFrom, AreAllUpTo, AreFloorRange, AreCeilingRange, lower, upper}
 use Rattle.game_store.proofs.Values.{pick-has}
-use Rattle.game_store.specs.Stops.{GoesWithLeftStop, GoesWithRightStop}
+use Rattle.short_games.specs.Stops.{GoesWithLeftStop, GoesWithRightStop}
 use Rattle.game_canon.proofs.Sizes.{floor-within, ceiling-within}
 use Rattle.game_canon.proofs.GameLaws.{none-list}
 

@@ -4,7 +4,7 @@ use Rattle.std.specs.Prelude.{Option}
 use Rattle.std.proofs.lemmas.Bool.{cases_Bool, cases_lt, and_parts, eqb-true, eq-eqb}
 use Rattle.std.proofs.lemmas.List.{length-append, get_or_append_left}
 use Rattle.std.proofs.Math.Seq.{get_or-append_seam}
-use Rattle.game_store.specs.Tree.{Tree}
+use Rattle.short_games.specs.Tree.{Tree}
 use Rattle.game_canon.specs.declared.at_most.Question.{Question}
 use Rattle.game_canon.specs.declared.at_most.Step.TheVariants.{Ask}
 use Rattle.game_canon.specs.Comparisons.{same_pair, with_answer, Says, AreRight, IsOpen, NoneCounters, IsStep}

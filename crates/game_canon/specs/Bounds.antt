@@ -2,11 +2,11 @@
 use Rattle.std.specs.Prelude.{ℕ, ◌≡◌, ◌<◌, ◌≤◌, ◌↔◌, ◌^◌, List, ℤ, ◌<ℤ◌, ◌+◌, ◌+ℤ◌, pos, negsuc, unsigned_abs, Option, Some, None}
 use Rattle.std.specs.List.{slice_index_or}
 use Rattle.dyadic_num.specs.Units.{IsAbove, IsBelow, IsInBounds}
-use Rattle.game_store.specs.Tree.{Tree}
-use Rattle.game_store.specs.Order.{◌≤ᵍ◌}
-use Rattle.game_store.specs.Number.{num, IsNumber}
-use Rattle.game_store.specs.Threshold.{IsCell, IsFloor, IsCeiling, IsFloorRange, IsCeilingRange}
-use Rattle.game_store.specs.Meaning.{tree_at, number_tree}
+use Rattle.short_games.specs.Tree.{Tree, tree_at}
+use Rattle.short_games.specs.Order.{◌≤ᵍ◌}
+use Rattle.short_games.specs.Number.{num, IsNumber, number_tree}
+use Rattle.short_games.specs.Threshold.{IsCell, IsFloor, IsCeiling}
+use Rattle.game_store.specs.Places.{IsFloorRange, IsCeilingRange}
 use Rattle.game_canon.specs.Outcomes.{IsPastBounds, AreWithin, AreOptionsWithin}
 use Rattle.game_canon.specs.declared.thresholds.Value.{Value}
 use Rattle.game_canon.specs.declared.thresholds.Value.TheVariants.{Number, PastBounds, NoNumber}

@@ -2,15 +2,14 @@
 use Rattle.std.specs.Prelude.{ℕ, ◌≡◌, ◌<◌, List, length, ℤ, ◌+ℤ◌, neg_ℤ, Option, Some}
 use Rattle.std.specs.List.{slice_index_or}
 use Rattle.dyadic_num.specs.Units.{IsInBounds}
-use Rattle.game_store.specs.Tree.{Tree, Trees, left, right, neg}
-use Rattle.game_store.specs.Sum.{◌+ᵍ◌}
-use Rattle.game_store.specs.Number.{IsNumberTree}
-use Rattle.game_store.specs.TextOrder.{IsCanonicalFor}
-use Rattle.game_store.specs.Meaning.{tree_at, number_tree, AreIds, IsAscending}
-use Rattle.game_store.specs.Parts.{IsNumberOf}
+use Rattle.short_games.specs.Tree.{Tree, Trees, left, right, neg, tree_at}
+use Rattle.short_games.specs.Sum.{◌+ᵍ◌}
+use Rattle.short_games.specs.Number.{IsNumberTree, number_tree}
+use Rattle.short_games.specs.TextOrder.{IsCanonicalFor}
+use Rattle.game_store.specs.Meaning.{AreIds, IsAscending}
+use Rattle.short_games.specs.Parts.{IsNumberOf, IsInner, IsReached}
 use Rattle.game_canon.specs.Followers.{IsIn}
 use Rattle.game_canon.specs.Outcomes.{IsCanonicalId}
-use Rattle.game_canon.specs.Reachable.{IsInner, IsReached}
 use Rattle.game_canon.specs.declared.change.Change.{Change}
 use Rattle.game_canon.specs.declared.change.Change.TheVariants.{Negate, Add}
 use Rattle.game_canon.specs.declared.errors.FormError.{FormError}

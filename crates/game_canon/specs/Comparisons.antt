@@ -2,10 +2,9 @@
 use Rattle.std.specs.Prelude.{ℕ, ◌+◌, ◌-◌, ◌≡◌, ◌<◌, ◌↔◌, List, length, Bool, IsTrue, nat_eq, nat_lt, ◌&&◌, Option, Some, None, cond}
 use Rattle.std.specs.List.{slice_index_or}
 use Rattle.indexmap.specs.IndexMap.{IndexMap, get}
-use Rattle.game_store.specs.Tree.{Tree}
-use Rattle.game_store.specs.Number.{IsNumberTree}
-use Rattle.game_store.specs.Order.{◌≤ᵍ◌}
-use Rattle.game_store.specs.Meaning.{tree_at}
+use Rattle.short_games.specs.Tree.{Tree, tree_at}
+use Rattle.short_games.specs.Number.{IsNumberTree}
+use Rattle.short_games.specs.Order.{◌≤ᵍ◌}
 use Rattle.game_store.specs.Forms.{IsOptions}
 use Rattle.game_canon.specs.declared.at_most.Step.{Step}
 use Rattle.game_canon.specs.declared.at_most.Step.TheVariants.{Answer, Ask}

@@ -1,10 +1,9 @@
 -- How the parts of forms are gathered.
 use Rattle.std.specs.Prelude.{ℕ, ◌≡◌, ◌<◌, ◌≤◌, ◌⊎◌, List, length}
 use Rattle.std.specs.List.{slice_index_or}
-use Rattle.game_store.specs.Tree.{Tree}
-use Rattle.game_store.specs.Number.{IsNumberTree}
-use Rattle.game_store.specs.Meaning.{tree_at, AreDistinct}
-use Rattle.game_store.specs.Parts.{IsOption, IsPart}
+use Rattle.short_games.specs.Tree.{Tree, tree_at, AreDistinct}
+use Rattle.short_games.specs.Number.{IsNumberTree}
+use Rattle.short_games.specs.Parts.{IsOption, IsPart}
 
 -- X is the tree of one of the ids
 abbrev pub IsIn : List Tree → List ℕ → Tree → Type 0

@@ -1,7 +1,7 @@
 -- Comparisons of forms that are remembered from form to form.
 use Rattle.std.specs.Prelude.{ℕ, List, Bool}
 use Rattle.std.specs.Map.{lookup}
-use Rattle.game_store.specs.Tree.{Tree}
+use Rattle.short_games.specs.Tree.{Tree}
 use Rattle.game_canon.specs.Comparisons.{same_pair, AreRight}
 
 -- pairs of forms that are remembered, each with whether the first is at most the second

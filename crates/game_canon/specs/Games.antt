@@ -1,9 +1,9 @@
 -- The games that are compared: those of a store, and of a form beside it.
 use Rattle.std.specs.Prelude.{ℕ, ◌≡◌, ◌<◌, List, [], ◌∷◌, ◌++◌, length, Bool, Option, Some, None}
-use Rattle.game_store.specs.Tree.{Tree}
-use Rattle.game_store.specs.Number.{IsNumber}
-use Rattle.game_store.specs.Threshold.{IsFloor, IsCeiling}
-use Rattle.game_store.specs.Meaning.{tree_at, form, AreIds, AreDistinct, IsAscending}
+use Rattle.short_games.specs.Tree.{Tree, tree_at, AreDistinct}
+use Rattle.short_games.specs.Number.{IsNumber}
+use Rattle.short_games.specs.Threshold.{IsFloor, IsCeiling}
+use Rattle.game_store.specs.Meaning.{form, AreIds, IsAscending}
 use Rattle.game_canon.specs.Comparisons.{recalled, AreRight}
 use Rattle.game_canon.specs.declared.games.Games.{Games}
 use Rattle.game_canon.specs.declared.games.Unstored.{Unstored}

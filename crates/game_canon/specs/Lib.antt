@@ -7,9 +7,6 @@ pub mod Sides
 pub mod Outcomes
 pub mod Followers
 pub mod Bounds
-pub mod Laws
-pub mod Examples
-pub mod Players
 pub mod Changes
 pub mod Reachable
 pub mod SumComparisons

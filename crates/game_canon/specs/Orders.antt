@@ -1,6 +1,6 @@
 -- The order of two games, as an answer names it.
-use Rattle.game_store.specs.Tree.{Tree}
-use Rattle.game_store.specs.Order.{◌≤ᵍ◌}
+use Rattle.short_games.specs.Tree.{Tree}
+use Rattle.short_games.specs.Order.{◌≤ᵍ◌}
 use Rattle.game_canon.specs.declared.order.Order.{Order}
 use Rattle.game_canon.specs.declared.order.Order.TheVariants.{Less, Equal, Greater, Confused}
 

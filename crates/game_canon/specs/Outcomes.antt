@@ -1,12 +1,11 @@
 -- What canonical forms are, and why there is none.
 use Rattle.std.specs.Prelude.{ℕ, ◌<◌, ◌≤◌, List, length, ℤ, unsigned_abs}
 use Rattle.dyadic_num.specs.Units.{IsInBounds}
-use Rattle.game_store.specs.Tree.{Tree}
-use Rattle.game_store.specs.Order.{◌≤ᵍ◌}
-use Rattle.game_store.specs.Number.{IsNumber}
-use Rattle.game_store.specs.TextOrder.{IsCanonicalFor}
-use Rattle.game_store.specs.Meaning.{tree_at, number_tree}
-use Rattle.game_store.specs.Parts.{IsOption, HasMoreParts, IsNumberOf}
+use Rattle.short_games.specs.Tree.{Tree, tree_at}
+use Rattle.short_games.specs.Order.{◌≤ᵍ◌}
+use Rattle.short_games.specs.Number.{IsNumber, number_tree}
+use Rattle.short_games.specs.TextOrder.{IsCanonicalFor}
+use Rattle.short_games.specs.Parts.{IsOption, HasMoreParts, IsNumberOf}
 use Rattle.game_canon.specs.declared.errors.FormError.{FormError}
 use Rattle.game_canon.specs.declared.errors.FormError.TheVariants.{Parts, Bounds, Memory}
 

@@ -1,19 +1,10 @@
 -- What a form is made of.
-use Rattle.std.specs.Prelude.{ℕ, ◌≡◌, ◌<◌, ◌≤◌, ◌⊎◌, List, length}
+use Rattle.std.specs.Prelude.{ℕ, ◌≡◌, ◌<◌, ◌≤◌, List, length}
 use Rattle.std.specs.List.{slice_index_or}
-use Rattle.game_store.specs.Tree.{Tree}
-use Rattle.game_store.specs.Number.{IsNumberTree}
-use Rattle.game_store.specs.Meaning.{tree_at, AreIds, IsAscending}
-use Rattle.game_store.specs.Parts.{IsOption, IsPart}
+use Rattle.short_games.specs.Tree.{Tree, tree_at}
+use Rattle.game_store.specs.Meaning.{AreIds, IsAscending}
+use Rattle.short_games.specs.Parts.{IsInner, IsReached}
 use Rattle.game_canon.specs.Followers.{IsIn}
-
--- X is an option of G, which is no number's tree
-abbrev pub IsInner : Tree → Tree → Type 0
-IsInner G X = (IsNumberTree G → ⊥) × IsOption G X
-
--- X is G, or an option of a part of G
-abbrev pub IsReached : Tree → Tree → Type 0
-IsReached G X = (X ≡ G) ⊎ ((P : Tree) × IsPart G P × IsOption P X)
 
 -- the ids ks, and behind them ids of trees that pass, so that all of these are among them
 pub record IsWidened (Ts : List Tree) (Passes : Tree → Type 0) (ks us : List ℕ) : Type 0 where

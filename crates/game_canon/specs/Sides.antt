@@ -1,11 +1,11 @@
 -- Both sides of a game said once.
 use Rattle.std.specs.Prelude.{ℕ, ◌≡◌, ◌<◌, ◌≤◌, ◌⊎◌, List, length}
 use Rattle.std.specs.List.{slice_index_or}
-use Rattle.game_store.specs.Tree.{Tree, Trees, left, right, Has, sizes}
-use Rattle.game_store.specs.Number.{IsNumberTree}
-use Rattle.game_store.specs.Order.{◌≤ᵍ◌, ◌≡ᵍ◌}
-use Rattle.game_store.specs.Parts.{IsOption, IsPart}
-use Rattle.game_store.specs.Meaning.{tree_at, pick, listed, AreIds, IsAscending}
+use Rattle.short_games.specs.Tree.{Tree, Trees, left, right, Has, sizes, tree_at}
+use Rattle.short_games.specs.Number.{IsNumberTree}
+use Rattle.short_games.specs.Order.{◌≤ᵍ◌, ◌≡ᵍ◌}
+use Rattle.short_games.specs.Parts.{IsOption, IsPart}
+use Rattle.game_store.specs.Meaning.{pick, listed, AreIds, IsAscending}
 use Rattle.game_canon.specs.declared.side.Side.{Side}
 use Rattle.game_canon.specs.declared.side.Side.TheVariants.{Left, Right}
 

@@ -2,12 +2,12 @@
 use Rattle.std.specs.Prelude.{ℕ, ◌+◌, ◌≡◌, ◌⊎◌, ◌<◌, ◌≤◌, ◌↔◌, List, length, Bool, IsTrue, nat_eq, ◌&&◌, Option, Some, None, cond, ℤ, ◌+ℤ◌}
 use Rattle.std.specs.Map.{lookup}
 use Rattle.indexmap.specs.IndexMap.{IndexMap}
-use Rattle.game_store.specs.Tree.{Tree, Trees, left, right, Has}
-use Rattle.game_store.specs.Number.{IsNumberTree}
-use Rattle.game_store.specs.Order.{◌≤ᵍ◌}
-use Rattle.game_store.specs.Sum.{◌+ᵍ◌}
-use Rattle.game_store.specs.Threshold.{IsFloor, IsCeiling}
-use Rattle.game_store.specs.Meaning.{tree_at, pick, AreBelow, IsAscending, Extends}
+use Rattle.short_games.specs.Tree.{Tree, Trees, left, right, Has, tree_at}
+use Rattle.short_games.specs.Number.{IsNumberTree}
+use Rattle.short_games.specs.Order.{◌≤ᵍ◌}
+use Rattle.short_games.specs.Sum.{◌+ᵍ◌}
+use Rattle.short_games.specs.Threshold.{IsFloor, IsCeiling}
+use Rattle.game_store.specs.Meaning.{pick, AreBelow, IsAscending, Extends}
 use Rattle.game_canon.specs.declared.sums.SumPair.{SumPair}
 use Rattle.game_canon.specs.declared.sums.Place.{Place}
 use Rattle.game_canon.specs.declared.sums.Place.TheVariants.{First, Second, Third, Fourth}

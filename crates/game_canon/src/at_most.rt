@@ -1,9 +1,9 @@
 //! Whether a game is at most another, with no recursion: comparisons that wait for others stand in a list.
 
 ghost use Rattle.std.specs.Prelude.{◌≡◌, ◌↔◌, ◌≤ℤ◌, ◌<◌, ◌≤◌, ◌+◌, ℕ, ℤ, List, length, Bool, false, IfOk, IfSome, IfNone, IsTrue};
-ghost use Rattle.game_store.specs.Number.{IsNumberTree};
+ghost use Rattle.short_games.specs.Number.{IsNumberTree};
 ghost use Rattle.game_canon.specs.Games.{trees, AreGames};
-ghost use Rattle.game_store.specs.Meaning.{tree_at};
+ghost use Rattle.short_games.specs.Tree.{tree_at};
 ghost use Rattle.game_canon.specs.Comparisons.{recalled, Says, AreRight, IsOpen, counter, NoneCounters, IsStep};
 
 use crate::comparisons::{Comparisons, recall, remember};

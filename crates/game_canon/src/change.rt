@@ -2,8 +2,10 @@
 
 ghost use Rattle.std.specs.Prelude.{◌≡◌, ◌<◌, ℕ, nat_eq, cond, Some, length, slice_index, IfOk, IfErr, OnOk, MatchOption};
 ghost use Rattle.indexmap.specs.IndexMap.{get};
-ghost use Rattle.game_store.specs.TextOrder.{IsCanonicalTree};
-ghost use Rattle.game_store.specs.Meaning.{tree_at, number_tree, Extends};
+ghost use Rattle.short_games.specs.TextOrder.{IsCanonicalTree};
+ghost use Rattle.short_games.specs.Tree.{tree_at};
+ghost use Rattle.short_games.specs.Number.{number_tree};
+ghost use Rattle.game_store.specs.Meaning.{Extends};
 ghost use Rattle.game_canon.specs.Changes.{IsPastShift, shifted, left_list, right_list, IsChanged, AreNoted, AreKnown, IsMapped, AreClosed, AreDone, IsRefusedAt, IsRefused};
 
 use crate::errors::FormError;

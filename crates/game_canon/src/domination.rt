@@ -1,7 +1,8 @@
 //! Options that aren't dominated.
 
 ghost use Rattle.std.specs.Prelude.{ℕ, ◌≡◌, ◌<◌, ◌↔◌, length, slice_index, IfOk, IsTrue};
-ghost use Rattle.game_store.specs.Meaning.{tree_at, AreIds, IsAscending};
+ghost use Rattle.short_games.specs.Tree.{tree_at};
+ghost use Rattle.game_store.specs.Meaning.{AreIds, IsAscending};
 ghost use Rattle.game_canon.specs.Comparisons.{recalled};
 ghost use Rattle.game_canon.specs.Games.{IsKnown};
 ghost use Rattle.game_canon.specs.Sides.{Covers, AreBest, IsWithout};

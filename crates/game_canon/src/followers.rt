@@ -1,10 +1,10 @@
 //! The parts of a form.
 
 ghost use Rattle.std.specs.Prelude.{◌≡◌, ◌<◌, ◌+◌, [], ◌∷◌, length, false, ◌^◌, IfOk, IfNone, OnOk, IsTrue, MatchOption};
-ghost use Rattle.game_store.specs.Tree.{Has};
-ghost use Rattle.game_store.specs.Number.{IsNumberTree};
-ghost use Rattle.game_store.specs.Meaning.{tree_at, pick, listed, form, AreIds};
-ghost use Rattle.game_store.specs.Parts.{IsOption, HasParts, HasMoreParts};
+ghost use Rattle.short_games.specs.Tree.{Has, tree_at};
+ghost use Rattle.short_games.specs.Number.{IsNumberTree};
+ghost use Rattle.game_store.specs.Meaning.{pick, listed, form, AreIds};
+ghost use Rattle.short_games.specs.Parts.{IsOption, HasParts, HasMoreParts};
 ghost use Rattle.game_canon.specs.Followers.{IsGrown, HasBelow, HasMoreBelow};
 
 use game_store::{Form, GameId, Store};

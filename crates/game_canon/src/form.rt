@@ -1,10 +1,11 @@
 //! The canonical form of a form.
 
 ghost use Rattle.std.specs.Prelude.{ℕ, ◌≡◌, ◌<◌, ◌+◌, ◌^◌, length, IfOk, IfErr};
-ghost use Rattle.game_store.specs.Number.{IsNumber};
-ghost use Rattle.game_store.specs.Threshold.{IsFloor, IsCeiling};
-ghost use Rattle.game_store.specs.Meaning.{tree_at, listed, AreIds, Extends};
-ghost use Rattle.game_store.specs.Parts.{HasMoreParts};
+ghost use Rattle.short_games.specs.Number.{IsNumber};
+ghost use Rattle.short_games.specs.Threshold.{IsFloor, IsCeiling};
+ghost use Rattle.short_games.specs.Tree.{tree_at};
+ghost use Rattle.game_store.specs.Meaning.{listed, AreIds, Extends};
+ghost use Rattle.short_games.specs.Parts.{HasMoreParts};
 ghost use Rattle.game_canon.specs.FormComparisons.{AreFormComparisonsRight};
 ghost use Rattle.game_canon.specs.Outcomes.{IsCanonicalId, AreWithin, AreOptionsWithin, IsPastBounds, IsCause};
 

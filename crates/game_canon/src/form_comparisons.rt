@@ -1,7 +1,7 @@
 //! Comparisons of forms that are remembered from form to form.
 
 ghost use Rattle.std.specs.Prelude.{◌≡◌, List, []};
-ghost use Rattle.game_store.specs.Tree.{Tree};
+ghost use Rattle.short_games.specs.Tree.{Tree};
 ghost use Rattle.game_canon.specs.FormComparisons.{AreFormComparisonsRight};
 
 use crate::comparisons::Comparisons;

@@ -1,9 +1,9 @@
 //! The games that are compared: those of a store and, while a form is reduced, that form beside them.
 
 ghost use Rattle.std.specs.Prelude.{◌≡◌, ◌<◌, ℕ, ℤ, List, false, IfSome, IfNone, Some, length, IsTrue};
-ghost use Rattle.game_store.specs.Number.{IsNumberTree};
-ghost use Rattle.game_store.specs.Threshold.{IsFloor, IsCeiling};
-ghost use Rattle.game_store.specs.Meaning.{tree_at, number_tree};
+ghost use Rattle.short_games.specs.Number.{IsNumberTree, number_tree};
+ghost use Rattle.short_games.specs.Threshold.{IsFloor, IsCeiling};
+ghost use Rattle.short_games.specs.Tree.{tree_at};
 ghost use Rattle.game_store.specs.Forms.{IsOptions};
 ghost use Rattle.game_canon.specs.Comparisons.{recalled, AreRight};
 ghost use Rattle.game_canon.specs.Games.{trees, AreGames};

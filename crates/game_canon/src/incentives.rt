@@ -1,9 +1,9 @@
 //! The order of incentives.
 
 ghost use Rattle.std.specs.Prelude.{◌<◌, ◌↔◌, length, IfOk, IsTrue};
-ghost use Rattle.game_store.specs.Order.{◌≤ᵍ◌};
-ghost use Rattle.game_store.specs.Meaning.{tree_at};
-ghost use Rattle.game_canon.specs.Laws.{incentive};
+ghost use Rattle.short_games.specs.Order.{◌≤ᵍ◌};
+ghost use Rattle.short_games.specs.Tree.{tree_at};
+ghost use Rattle.short_games.specs.SumLaws.{incentive};
 ghost use Rattle.game_canon.specs.SumComparisons.{AreComparisonsRight};
 
 use crate::sum_comparisons::SumComparisons;

@@ -1,4 +1,4 @@
-//! The order of games, canonical forms, and the laws of games.
+//! The order of games and their canonical forms, over ids of a store.
 #![tactic(auto)]
 
 mod at_most;
@@ -16,7 +16,6 @@ mod ids;
 #[cfg(test)]
 mod incentive_tests;
 mod incentives;
-mod laws;
 mod negation;
 mod order;
 mod reach;
@@ -38,7 +37,6 @@ pub use followers::parts;
 pub use form::{canonical, canonical_with};
 pub use form_comparisons::FormComparisons;
 pub use incentives::{compare_incentives, incentive_at_least};
-pub use laws::{canonical_law, incentive_law, number_avoidance, order_laws, stop_laws, text_law};
 pub use negation::negate;
 pub use order::{Order, compare};
 pub use reach::reachable;

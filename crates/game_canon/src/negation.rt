@@ -1,9 +1,9 @@
 //! The negative of a form.
 
 ghost use Rattle.std.specs.Prelude.{ℕ, ◌<◌, ◌↔◌, length, IfOk};
-ghost use Rattle.game_store.specs.Tree.{neg};
-ghost use Rattle.game_store.specs.Meaning.{tree_at, Extends};
-ghost use Rattle.game_store.specs.Parts.{HasMoreParts};
+ghost use Rattle.short_games.specs.Tree.{neg, tree_at};
+ghost use Rattle.game_store.specs.Meaning.{Extends};
+ghost use Rattle.short_games.specs.Parts.{HasMoreParts};
 ghost use Rattle.game_canon.specs.Outcomes.{AreWithin, IsCanonicalId};
 
 use crate::change::{Change, change_form};

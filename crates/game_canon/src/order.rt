@@ -1,9 +1,8 @@
 //! The order of two games of a store.
 
 ghost use Rattle.std.specs.Prelude.{◌<◌, ◌↔◌, length, IfOk, IsTrue};
-ghost use Rattle.game_store.specs.Tree.{Tree};
-ghost use Rattle.game_store.specs.Order.{◌≤ᵍ◌};
-ghost use Rattle.game_store.specs.Meaning.{tree_at};
+ghost use Rattle.short_games.specs.Tree.{Tree, tree_at};
+ghost use Rattle.short_games.specs.Order.{◌≤ᵍ◌};
 ghost use Rattle.game_canon.specs.Orders.{IsOrder};
 
 use crate::at_most::at_most;

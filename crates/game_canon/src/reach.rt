@@ -1,9 +1,10 @@
 //! The forms that a form is made of.
 
 ghost use Rattle.std.specs.Prelude.{◌<◌, length, IfOk, OnOk};
-ghost use Rattle.game_store.specs.Tree.{Has};
-ghost use Rattle.game_store.specs.Meaning.{tree_at, pick, AreIds};
-ghost use Rattle.game_canon.specs.Reachable.{IsInner, IsWidened, AreReachable};
+ghost use Rattle.short_games.specs.Tree.{Has, tree_at};
+ghost use Rattle.game_store.specs.Meaning.{pick, AreIds};
+ghost use Rattle.short_games.specs.Parts.{IsInner};
+ghost use Rattle.game_canon.specs.Reachable.{IsWidened, AreReachable};
 
 use crate::ids::in_order;
 use game_store::{Form, GameId, Store};

@@ -2,8 +2,8 @@
 //! (Conway).
 
 ghost use Rattle.std.specs.Prelude.{ℕ, IfOk};
-ghost use Rattle.game_store.specs.Number.{IsNumber};
-ghost use Rattle.game_store.specs.Threshold.{IsFloor, IsCeiling};
+ghost use Rattle.short_games.specs.Number.{IsNumber};
+ghost use Rattle.short_games.specs.Threshold.{IsFloor, IsCeiling};
 ghost use Rattle.game_store.specs.Meaning.{listed, AreIds};
 ghost use Rattle.game_canon.specs.Comparisons.{recalled, AreRight};
 ghost use Rattle.game_canon.specs.Games.{beside, IsFormBeside, IsKnown};

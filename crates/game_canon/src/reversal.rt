@@ -1,9 +1,9 @@
 //! Options that are reversible through an answer.
 
 ghost use Rattle.std.specs.Prelude.{ℕ, ◌≡◌, ◌<◌, ◌⊎◌, length, slice_index, IfOk, MatchOption};
-ghost use Rattle.game_store.specs.Tree.{Has};
-ghost use Rattle.game_store.specs.Number.{IsNumberTree};
-ghost use Rattle.game_store.specs.Meaning.{tree_at, pick, AreIds};
+ghost use Rattle.short_games.specs.Tree.{Has, tree_at};
+ghost use Rattle.short_games.specs.Number.{IsNumberTree};
+ghost use Rattle.game_store.specs.Meaning.{pick, AreIds};
 ghost use Rattle.game_canon.specs.Comparisons.{recalled};
 ghost use Rattle.game_canon.specs.Games.{beside, HasForm, IsKnown};
 ghost use Rattle.game_canon.specs.Sides.{Covers, IsReplaced, IsAnswer, IsKept, IsDone, IsSmaller};

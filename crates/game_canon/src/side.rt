@@ -1,7 +1,7 @@
 //! Both sides of a game in one.
 
 ghost use Rattle.std.specs.Prelude.{◌≡◌, ◌<◌, ◌↔◌, length, IfOk, IsTrue};
-ghost use Rattle.game_store.specs.Meaning.{tree_at};
+ghost use Rattle.short_games.specs.Tree.{tree_at};
 ghost use Rattle.game_canon.specs.Comparisons.{recalled};
 ghost use Rattle.game_canon.specs.Games.{beside, HasForm, IsKnown};
 ghost use Rattle.game_canon.specs.Sides.{Covers, near_list, far_list};

@@ -1,7 +1,7 @@
 //! Comparisons of sums of two games: which rest on which, and what is remembered of them.
 
 ghost use Rattle.std.specs.Prelude.{◌≡◌, ◌<◌, suc, List, length, OnOk, MatchOption};
-ghost use Rattle.game_store.specs.Tree.{Tree, left, right};
+ghost use Rattle.short_games.specs.Tree.{Tree, left, right};
 ghost use Rattle.game_canon.specs.SumComparisons.{recalled_sums, with_sums, Tells, AreSumsRight, AreStored, AreMoves, game_at, options_at, rank, counter_by, IsCancelled};
 ghost use Rattle.game_canon.specs.declared.sums.SumPair.{SumPair};
 

@@ -1,8 +1,7 @@
 //! Whether a sum of two games is at most another, with no recursion: comparisons that wait for others stand in a list.
 
 ghost use Rattle.std.specs.Prelude.{◌≡◌, ◌<◌, List, length, IfOk, IfSome, IfNone, IsTrue, MatchOption};
-ghost use Rattle.game_store.specs.Tree.{Tree};
-ghost use Rattle.game_store.specs.Meaning.{AreDistinct};
+ghost use Rattle.short_games.specs.Tree.{Tree, AreDistinct};
 ghost use Rattle.game_canon.specs.SumComparisons.{recalled_sums, Tells, AreSameSums, AreSumsRight, AreStored, AreFloors, AreCeilings, AreNumbers, AreOpen, Resists, HasResisted, IsSumStep};
 
 use crate::at_most::is_within;

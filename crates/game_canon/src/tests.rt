@@ -1,9 +1,9 @@
 //! The order of small games.
 
 ghost use Rattle.std.specs.Prelude.{◌<◌, length, IfOk, pos, ◌^◌};
-ghost use Rattle.game_store.specs.Number.{num};
+ghost use Rattle.short_games.specs.Number.{num};
 ghost use Rattle.game_store.specs.Meaning.{IsIdOf, Extends};
-ghost use Rattle.game_canon.specs.Examples.{choice, star as the_star};
+ghost use Rattle.short_games.specs.Examples.{choice, star as the_star};
 
 use crate::{Order, compare};
 use dyadic_num::Dyadic;

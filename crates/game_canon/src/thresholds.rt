@@ -1,7 +1,7 @@
 //! Which number a form is, where it is one.
 
 ghost use Rattle.std.specs.Prelude.{ℕ, ◌↔◌, ◌<ℤ◌, ◌≡◌, ◌<◌, ◌≤◌, ℤ, length, IfNone, unsigned_abs, ◌^◌};
-ghost use Rattle.game_store.specs.Threshold.{IsFloorRange, IsCeilingRange};
+ghost use Rattle.game_store.specs.Places.{IsFloorRange, IsCeilingRange};
 ghost use Rattle.game_store.specs.Meaning.{listed, AreIds};
 ghost use Rattle.dyadic_num.specs.Units.{IsAbove, IsBelow};
 ghost use Rattle.game_canon.specs.Bounds.{AreAllFrom, AreAllUpTo, AreAllWithin, HasCeilingFrom, HasFloorUpTo, AreFloorRange, AreCeilingRange, IsValue, IsWorth, lower, upper};

@@ -1,9 +1,11 @@
 //! The sum of a form and a number.
 
 ghost use Rattle.std.specs.Prelude.{◌<◌, ◌≡◌, ◌↔◌, ◌+ℤ◌, ℤ, pos, length, IsTrue, IfOk, IfErr};
-ghost use Rattle.game_store.specs.Sum.{◌+ᵍ◌};
-ghost use Rattle.game_store.specs.Meaning.{tree_at, number_tree, Extends};
-ghost use Rattle.game_store.specs.Parts.{IsNumberOf};
+ghost use Rattle.short_games.specs.Sum.{◌+ᵍ◌};
+ghost use Rattle.short_games.specs.Tree.{tree_at};
+ghost use Rattle.short_games.specs.Number.{number_tree};
+ghost use Rattle.game_store.specs.Meaning.{Extends};
+ghost use Rattle.short_games.specs.Parts.{IsNumberOf};
 ghost use Rattle.game_canon.specs.Outcomes.{IsCanonicalId};
 ghost use Rattle.game_canon.specs.Changes.{HasNumberPastBounds, IsSumRefusal};
 

@@ -1,7 +1,7 @@
 -- The pieces of what is shown.
-use Rattle.std.proofs.Common.{◌≡◌, ℕ, ◌<◌, ◌≤◌, inl, inr, ◌++◌, List, length, ap, sym, ◌∙◌, arith, append_assoc}
+use Rattle.std.proofs.Common.{◌≡◌, ℕ, ◌≤◌, inl, inr, ◌++◌, List, length, ap, sym, ◌∙◌, arith, append_assoc}
 use Rattle.std.specs.Prelude.{codes}
-use Rattle.game_store.specs.Tree.{Tree}
+use Rattle.short_games.specs.Tree.{Tree}
 use Rattle.game_text.specs.NamedText.{named_text, named_depth}
 use Rattle.thermograph.specs.PastBounds.{IsDrawnPastBounds}
 use Rattle.game_lines.specs.Words.{word_line}

@@ -1,9 +1,9 @@
 -- The lines on the stops and the thermograph of a game. Numbers are in parts of 2 ^ -60.
 use Rattle.std.specs.Prelude.{ℕ, ℤ, List, ◌++◌, codes, flat_map, Option, Some, None}
-use Rattle.game_store.specs.Tree.{Tree}
-use Rattle.game_store.specs.Meaning.{number_tree}
-use Rattle.game_store.specs.Stops.{IsLeftStop, IsRightStop}
-use Rattle.game_store.specs.TextOrder.{tree_text}
+use Rattle.short_games.specs.Tree.{Tree}
+use Rattle.short_games.specs.Number.{number_tree}
+use Rattle.short_games.specs.Stops.{IsLeftStop, IsRightStop}
+use Rattle.short_games.specs.TextOrder.{tree_text}
 use Rattle.thermograph.specs.Thermographs.{breaks, IsFromZero}
 use Rattle.thermograph.specs.declared.pass.Thermograph.{Thermograph}
 use Rattle.thermograph.specs.Breaks.{wall_at}

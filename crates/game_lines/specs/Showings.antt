@@ -1,6 +1,6 @@
 -- What is shown of a game: its text, its stops and its thermograph.
 use Rattle.std.specs.Prelude.{◌≡◌, ◌<◌, ◌⊎◌, ◌++◌, ℕ, List, length, codes}
-use Rattle.game_store.specs.Tree.{Tree}
+use Rattle.short_games.specs.Tree.{Tree}
 use Rattle.game_text.specs.NamedText.{named_text, named_depth}
 use Rattle.thermograph.specs.PastBounds.{IsDrawnPastBounds}
 use Rattle.game_lines.specs.Words.{word_line}

@@ -1,7 +1,7 @@
 //! What is shown of a game.
 
 ghost use Rattle.std.specs.Prelude.{◌≡◌, ◌<◌, ◌≤◌, ◌++◌, codes, length, IfOk, IfErr, OnOk, string_bytes};
-ghost use Rattle.game_store.specs.Meaning.{tree_at};
+ghost use Rattle.short_games.specs.Tree.{tree_at};
 ghost use Rattle.game_text.specs.NamedText.{named_depth, named_text};
 ghost use Rattle.thermograph.specs.PastBounds.{IsDrawnPastBounds};
 ghost use Rattle.game_lines.specs.Pictures.{IsThermograph, picture_lines};

@@ -3,8 +3,8 @@
 #![tactic(auto)]
 
 ghost use Rattle.std.specs.Prelude.{◌≡◌, ◌<◌, ◌≤◌, ◌^◌, length, unsigned_abs};
-ghost use Rattle.game_store.specs.Meaning.{tree_at};
-ghost use Rattle.game_store.specs.Stops.{IsLeftStop, IsRightStop, IsHalf};
+ghost use Rattle.short_games.specs.Tree.{tree_at};
+ghost use Rattle.short_games.specs.Stops.{IsLeftStop, IsRightStop, IsHalf};
 
 use dyadic_num::Dyadic;
 use game_store::{GameId, Store};

@@ -2,18 +2,18 @@
 use Rattle.std.proofs.Common.{ℕ, ◌<◌, length, List, ℤ, ◌+ℤ◌, refl, subst, arith}
 use Rattle.std.proofs.lemmas.Int.{ints}
 use Rattle.dyadic_num.specs.Units.{IsInBounds}
-use Rattle.game_store.specs.Tree.{Tree}
-use Rattle.game_store.specs.Number.{num}
-use Rattle.game_store.specs.Threshold.{IsCell}
-use Rattle.game_store.specs.Meaning.{number_tree, values, entry_at, held, Wanted, IsKept}
+use Rattle.short_games.specs.Tree.{Tree}
+use Rattle.short_games.specs.Number.{num, number_tree}
+use Rattle.short_games.specs.Threshold.{IsCell}
+use Rattle.game_store.specs.Meaning.{values, entry_at, held, Wanted, IsKept}
 use Rattle.game_store.specs.Meaning.Wanted.{number, options}
 use Rattle.game_store.specs.Forms.{IsMeaning, IsWithinBounds, HaveForms}
 use Rattle.game_store.specs.Chain.{entries_of}
 use Rattle.game_store.specs.Places.{IsPlaced, ArePlaced, floor_at, ceiling_at}
 use Rattle.game_store.specs.declared.Slot.{Slot}
-use Rattle.game_store.proofs.OrderLaws.{le-refl}
-use Rattle.game_store.proofs.NumberLaws.{num-double}
-use Rattle.game_store.proofs.ThresholdLaws.{half-cell}
+use Rattle.short_games.proofs.OrderLaws.{le-refl}
+use Rattle.short_games.proofs.NumberLaws.{num-double}
+use Rattle.short_games.proofs.ThresholdLaws.{half-cell}
 use Rattle.game_store.proofs.Values.{length-values}
 use Rattle.game_store.proofs.Chains.{length-entries}
 use Rattle.game_store.proofs.Interned.{means}

@@ -7,17 +7,17 @@ use mir.Syntax.{w128}
 use Rattle.std.proofs.lemmas.Bool.{cases_lt}
 use Rattle.game_store.specs.declared.Slot.{Slot}
 use Rattle.dyadic_num.specs.Units.{IsInBounds}
-use Rattle.game_store.specs.Tree.{Tree, Has}
-use Rattle.game_store.specs.Number.{num, IsNumber, IsNumberTree}
-use Rattle.game_store.specs.TextOrder.{sorted, IsCanonicalTree}
-use Rattle.game_store.specs.Threshold.{IsFloor, IsCeiling, IsFloorRange, IsCeilingRange}
-use Rattle.game_store.specs.Stops.{IsLeftStop, IsRightStop}
-use Rattle.game_store.specs.Meaning.{tree_at, pick, form, number_tree, AreIds}
-use Rattle.game_store.specs.Places.{IsPlaced, ArePlaced, floor_at, ceiling_at, IsGreatestFloor, IsLeastCeiling}
-use Rattle.game_store.proofs.TextOrderLaws.{sorted-has, has-sorted}
-use Rattle.game_store.proofs.ReductionLaws.{canonical-number}
-use Rattle.game_store.proofs.ThresholdLaws.{number-floor, number-ceiling}
-use Rattle.game_store.proofs.StopLaws.{IsGreatest, IsLeast, ceiling-by, floor-by, number-left_stop, number-right_stop, game-left_stop, game-right_stop}
+use Rattle.short_games.specs.Tree.{Tree, Has, tree_at}
+use Rattle.short_games.specs.Number.{num, IsNumber, IsNumberTree, number_tree}
+use Rattle.short_games.specs.TextOrder.{sorted, IsCanonicalTree}
+use Rattle.short_games.specs.Threshold.{IsFloor, IsCeiling}
+use Rattle.game_store.specs.Places.{IsFloorRange, IsCeilingRange, IsPlaced, ArePlaced, floor_at, ceiling_at, IsGreatestFloor, IsLeastCeiling}
+use Rattle.short_games.specs.Stops.{IsLeftStop, IsRightStop}
+use Rattle.game_store.specs.Meaning.{pick, form, AreIds}
+use Rattle.short_games.proofs.TextOrderLaws.{sorted-has, has-sorted}
+use Rattle.short_games.proofs.ReductionLaws.{canonical-number}
+use Rattle.short_games.proofs.ThresholdLaws.{number-floor, number-ceiling}
+use Rattle.short_games.proofs.StopLaws.{IsGreatest, IsLeast, ceiling-by, floor-by, number-left_stop, number-right_stop, game-left_stop, game-right_stop}
 use Rattle.game_store.proofs.Values.{has-pick, pick-has}
 
 -- the bounds so far

@@ -1,17 +1,16 @@
 -- What holds of a store's fields as a form is added.
 use Rattle.std.proofs.Common.{ℕ, ◌<◌, ◌≡◌, inl, inr, pos, get_or, ◌+ℤ◌, ◌-ℤ◌, List, [], ◌∷◌, ◌++◌, length, arith, sym, ◌∙◌, ap, ap₂, subst, ℤ, cond, nat_eq, Some}
 use Rattle.std.specs.Prelude.{Option, take, drop}
-use Rattle.game_store.specs.Tree.{Tree, node, none}
-use Rattle.game_store.proofs.ReductionLaws.{number-canonical}
+use Rattle.short_games.specs.Tree.{Tree, node, none, tree_at}
+use Rattle.short_games.proofs.ReductionLaws.{number-canonical}
 use Rattle.game_store.specs.declared.Entry.{Entry}
 use Rattle.game_store.specs.declared.Entry.TheVariants.{Number, Options}
 use Rattle.game_store.specs.declared.Slot.{Slot}
-use Rattle.game_store.specs.Meaning.{values, form, IsKept, AreIds, AreBelow, IsAscending, entry_at, held, meaning, Wanted, Fits, AreOptions, list_at, tree_at, AllFit, IsNoNumber}
+use Rattle.game_store.specs.Meaning.{values, form, IsKept, AreIds, AreBelow, IsAscending, entry_at, held, meaning, Wanted, Fits, AreOptions, list_at, AllFit, IsNoNumber}
 use Rattle.game_store.specs.Meaning.Wanted.{number, options}
 use Rattle.game_store.specs.Forms.{IsMeaning}
 use Rattle.game_store.specs.Chain.{entries_of, slot_at, IsChained, fingerprint}
-use Rattle.game_store.specs.Places.{IsPlaced, ArePlaced, floor_at, ceiling_at, IsGreatestFloor, IsLeastCeiling}
-use Rattle.game_store.specs.Threshold.{IsFloorRange, IsCeilingRange}
+use Rattle.game_store.specs.Places.{IsPlaced, ArePlaced, floor_at, ceiling_at, IsGreatestFloor, IsLeastCeiling, IsFloorRange, IsCeilingRange}
 use Rattle.game_store.proofs.FormSteps.{form-placed, below-is, above-is}
 use mir.Val.{to_z, of_z}
 use mir.Syntax.{w128}

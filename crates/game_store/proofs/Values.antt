@@ -1,23 +1,21 @@
 -- What a store's entries mean.
 use Rattle.std.proofs.Common.{ℕ, zero, suc, ◌+◌, ◌-◌, ◌<◌, ◌≤◌, ◌≡◌, List, [], ◌∷◌, ◌++◌, length, get_or, take, drop, arith, refl, sym, ◌∙◌, ap, ap₂, subst, ℤ, pos, inl, inr}
 use Rattle.std.proofs.lemmas.Bool.{cases_lt}
-use Rattle.std.proofs.lemmas.List.{length-drop, take-append-le, drop-append-le}
-use Rattle.std.proofs.lemmas.List.{length-append, length-take, get_or-take, get_or-drop, get_or_append_left}
+use Rattle.std.proofs.lemmas.List.{length-drop, take-append-le, drop-append-le, length-append, length-take, get_or-take, get_or-drop, get_or_append_left}
 use Rattle.std.specs.Prelude.{slice_range}
 use Rattle.std.proofs.Math.Seq.{get_or-append_seam, get_or-append_right, take-append_seam, drop-append_seam, take-length}
 use native.Mathlib.Nat.{add-zero, zero-add}
-use Rattle.game_store.specs.Tree.{Tree, Trees, node, none, more, left, right}
-use Rattle.game_store.specs.Number.{num, IsNumberTree}
+use Rattle.short_games.specs.Tree.{Tree, Trees, node, none, more, left, right, tree_at, AreDistinct, Has}
+use Rattle.short_games.specs.Number.{num, IsNumberTree, number_tree}
 use Rattle.game_store.specs.declared.Entry.{Entry}
 use Rattle.game_store.specs.declared.Entry.TheVariants.{Number, Options}
-use Rattle.game_store.specs.Meaning.{tree_at, pick, form, value_of, values_after, values, entry_at, Fits, AllFit, AreDistinct, AreIds, AreBelow, AreOptions, list_at, Extends, IsKept, AreCanonical, IsAscending, IsNoNumber, number_tree, Wanted, meaning, held}
+use Rattle.game_store.specs.Meaning.{pick, form, value_of, values_after, values, entry_at, Fits, AllFit, AreIds, AreBelow, AreOptions, list_at, Extends, IsKept, AreCanonical, IsAscending, IsNoNumber, Wanted, meaning, held}
 use Rattle.game_store.specs.Meaning.Wanted.{number, options}
-use Rattle.game_store.specs.TextOrder.{sorted, IsCanonicalTree}
-use Rattle.game_store.specs.Tree.{Has}
-use Rattle.game_store.proofs.TextOrderLaws.{sorted-has, has-sorted}
-use Rattle.game_store.proofs.NumberLaws.{num-lt}
-use Rattle.game_store.specs.Order.{◌≤ᵍ◌}
-use Rattle.game_store.proofs.OrderLaws.{le-refl}
+use Rattle.short_games.specs.TextOrder.{sorted, IsCanonicalTree}
+use Rattle.short_games.proofs.TextOrderLaws.{sorted-has, has-sorted}
+use Rattle.short_games.proofs.NumberLaws.{num-lt}
+use Rattle.short_games.specs.Order.{◌≤ᵍ◌}
+use Rattle.short_games.proofs.OrderLaws.{le-refl}
 use Rattle.std.proofs.lemmas.Int.{ints, by_lt_z}
 
 pub values_after-push : (lists : List (List ℕ)) (Ts : List Tree) (es : List Entry) (e : Entry) → values_after lists Ts (es ++ e ∷ []) ≡ values_after lists Ts es ++ value_of lists (values_after lists Ts es) e ∷ []

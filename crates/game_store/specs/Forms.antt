@@ -1,9 +1,9 @@
 -- What a form that a store lends says of its id.
 use Rattle.std.specs.Prelude.{ℕ, ◌≡◌, ◌<◌, List, length}
 use Rattle.dyadic_num.specs.Units.{IsInBounds}
-use Rattle.game_store.specs.Tree.{Tree}
-use Rattle.game_store.specs.Number.{IsNumberTree}
-use Rattle.game_store.specs.Meaning.{tree_at, form, number_tree, AreBelow, IsAscending, Wanted}
+use Rattle.short_games.specs.Tree.{Tree, tree_at}
+use Rattle.short_games.specs.Number.{IsNumberTree, number_tree}
+use Rattle.game_store.specs.Meaning.{form, AreBelow, IsAscending, Wanted}
 use Rattle.game_store.specs.Meaning.Wanted.{number, options}
 use Rattle.game_store.specs.declared.Form.{Form}
 use Rattle.game_store.specs.declared.Form.TheVariants.{Number, Options}

@@ -1,15 +1,11 @@
 -- What the entries of a store mean: a list of trees, one for each id.
 use Rattle.std.specs.Prelude.{ℕ, ◌≡◌, ◌<◌, ◌≤◌, List, [], ◌∷◌, ◌++◌, length, take, drop, ℤ, pos}
 use Rattle.std.specs.List.{slice_index_or}
-use Rattle.game_store.specs.Tree.{Tree, Trees, node, none, more}
-use Rattle.game_store.specs.Number.{num, IsNumberTree}
-use Rattle.game_store.specs.TextOrder.{sorted, IsCanonicalTree}
+use Rattle.short_games.specs.Tree.{Tree, Trees, node, none, more, tree_at, AreDistinct}
+use Rattle.short_games.specs.Number.{IsNumberTree, number_tree}
+use Rattle.short_games.specs.TextOrder.{sorted, IsCanonicalTree}
 use Rattle.game_store.specs.declared.Entry.{Entry}
 use Rattle.game_store.specs.declared.Entry.TheVariants.{Number, Options}
-
--- the tree of an id
-abbrev pub tree_at : List Tree → ℕ → Tree
-tree_at Ts i = slice_index_or Ts i (node none none)
 
 -- the trees of a list of ids
 abbrev pub pick : List Tree → List ℕ → Trees
@@ -23,10 +19,6 @@ listed Ts ls rs = node (pick Ts ls) (pick Ts rs)
 -- the same with the options in the order of their texts
 abbrev pub form : List Tree → List ℕ → List ℕ → Tree
 form Ts ls rs = node (sorted (pick Ts ls)) (sorted (pick Ts rs))
-
--- the tree of a number
-abbrev pub number_tree : ℤ → Tree
-number_tree x = num 60 x
 
 -- what is to be found or kept: a number, or lists of ids
 pub data Wanted : Type 0 where
@@ -84,10 +76,6 @@ Fits lists k (Options place left_count) = (place < length lists) × AreOptions k
 
 abbrev pub AllFit : List (List ℕ) → List Entry → Type 0
 AllFit lists es = (k : ℕ) → k < length es → Fits lists k (entry_at es k)
-
--- ids are equal where their trees are
-abbrev pub AreDistinct : List Tree → Type 0
-AreDistinct Ts = (i j : ℕ) → i < length Ts → j < length Ts → tree_at Ts i ≡ tree_at Ts j → i ≡ j
 
 -- each tree is canonical
 abbrev pub AreCanonical : List Tree → Type 0

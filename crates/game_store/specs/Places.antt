@@ -1,12 +1,18 @@
 -- Where the forms of a store stand among the numbers, as its slots keep it.
-use Rattle.std.specs.Prelude.{ℕ, ◌≡◌, ◌<◌, List, length, ℤ, ◌≤ℤ◌}
+use Rattle.std.specs.Prelude.{ℕ, ◌-◌, ◌^◌, ◌≡◌, ◌<◌, List, length, ℤ, pos, negsuc, ◌≤ℤ◌}
 use Rattle.std.specs.List.{slice_index_or}
-use Rattle.game_store.specs.Tree.{Tree}
-use Rattle.game_store.specs.Threshold.{IsFloor, IsCeiling, IsFloorRange, IsCeilingRange}
-use Rattle.game_store.specs.Stops.{IsLeftStop, IsRightStop}
-use Rattle.game_store.specs.Meaning.{tree_at}
+use Rattle.short_games.specs.Tree.{Tree, tree_at}
+use Rattle.short_games.specs.Threshold.{IsFloor, IsCeiling}
+use Rattle.short_games.specs.Stops.{IsLeftStop, IsRightStop}
 use Rattle.game_store.specs.Chain.{slot_at}
 use Rattle.game_store.specs.declared.Slot.{Slot}
+
+-- what floors and ceilings can be, in half parts of 2 ^ -60, where each number is within the bounds of a Dyadic
+abbrev pub IsFloorRange : ℤ → Type 0
+IsFloorRange k = (negsuc (2 ^ 121 - 2) ≤ℤ k) × (k ≤ℤ pos (2 ^ 121 - 2))
+
+abbrev pub IsCeilingRange : ℤ → Type 0
+IsCeilingRange k = (negsuc (2 ^ 121 - 3) ≤ℤ k) × (k ≤ℤ pos (2 ^ 121 - 1))
 
 -- the tree's floor and ceiling; and it has stops
 pub record IsPlaced (G : Tree) (floor ceiling : ℤ) : Type 0 where

@@ -1,13 +1,14 @@
-//! Games as trees, their order, their stops and their canonical forms, as definitions; and a store of canonical forms,
-//! each kept once under an id.
+//! A store of canonical forms, each kept once under an id.
 #![tactic(auto)]
 
 ghost use Rattle.std.specs.Prelude.{◌≡◌, ◌<◌, ◌++◌, length, IfOk, OnErr};
-ghost use Rattle.game_store.specs.Number.{IsNumberTree};
-ghost use Rattle.game_store.specs.TextOrder.{IsCanonicalTree};
-ghost use Rattle.game_store.specs.Threshold.{IsFloor, IsCeiling, IsFloorRange, IsCeilingRange};
-ghost use Rattle.game_store.specs.Stops.{GoesWithLeftStop, GoesWithRightStop};
-ghost use Rattle.game_store.specs.Meaning.{tree_at, form, number_tree, held, AreIds, IsAscending, AreDistinct, AreCanonical, Extends, IsWithin, IsIdOf};
+ghost use Rattle.short_games.specs.Number.{IsNumberTree, number_tree};
+ghost use Rattle.short_games.specs.TextOrder.{IsCanonicalTree};
+ghost use Rattle.short_games.specs.Threshold.{IsFloor, IsCeiling};
+ghost use Rattle.game_store.specs.Places.{IsFloorRange, IsCeilingRange};
+ghost use Rattle.short_games.specs.Stops.{GoesWithLeftStop, GoesWithRightStop};
+ghost use Rattle.short_games.specs.Tree.{tree_at, AreDistinct};
+ghost use Rattle.game_store.specs.Meaning.{form, held, AreIds, IsAscending, AreCanonical, Extends, IsWithin, IsIdOf};
 ghost use Rattle.game_store.specs.Forms.{wanted, IsFormOf, HaveForms};
 
 mod bounds;
@@ -62,8 +63,8 @@ pub struct Store {
 impl Model for Store {
     ghost use Rattle.std.specs.Prelude.{List};
     ghost use Rattle.std.specs.Coded.{coded_list};
-    ghost use Rattle.game_store.specs.Tree.{Tree};
-    ghost use Rattle.game_store.specs.Code.{tree_code};
+    ghost use Rattle.short_games.specs.Tree.{Tree};
+    ghost use Rattle.short_games.specs.Code.{tree_code};
 
     ghost Value = { List Tree };
 

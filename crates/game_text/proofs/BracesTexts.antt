@@ -1,12 +1,12 @@
 -- What stands behind a text is behind it.
-use Rattle.std.proofs.Common.{ℕ, ◌<◌, ◌≡◌, List, [], ◌∷◌, ◌++◌, length, arith, refl, sym, ◌∙◌, ap, subst, Some, None, append_assoc}
+use Rattle.std.proofs.Common.{ℕ, ◌≡◌, List, [], ◌∷◌, ◌++◌, refl, sym, ◌∙◌, ap, Some, None, append_assoc}
 use Rattle.std.specs.Prelude.{Option}
-use Rattle.game_store.specs.Tree.{Tree, Trees, node, none, more}
-use Rattle.game_store.specs.Number.{IsNumberTree}
-use Rattle.game_store.specs.NumberText.{Fraction, number_of, number_text, text_of_number}
-use Rattle.game_store.specs.Text.{text, texts, texts_rest, text_or, open_brace, bar, close_brace, comma}
-use Rattle.game_store.specs.TextOrder.{tree_text, sorted}
-use Rattle.game_store.proofs.NumberTextLaws.{number_of-is}
+use Rattle.short_games.specs.Tree.{Tree, Trees, node, none, more}
+use Rattle.short_games.specs.Number.{IsNumberTree}
+use Rattle.short_games.specs.NumberText.{Fraction, number_of, number_text, text_of_number}
+use Rattle.short_games.specs.Text.{text, texts, texts_rest, text_or, open_brace, bar, close_brace, comma}
+use Rattle.short_games.specs.TextOrder.{tree_text}
+use Rattle.short_games.proofs.NumberTextLaws.{number_of-is}
 
 pub no-number_text : (G : Tree) → (IsNumberTree G → ⊥) → number_text G ≡ None
 no-number_text G f = ap text_of_number (at (number_of G) refl)

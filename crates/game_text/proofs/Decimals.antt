@@ -9,9 +9,9 @@ use Rattle.std.proofs.lemmas.Nat.{pow_below}
 use Rattle.std.proofs.lemmas.Bool.{ltb-true, ltb-false}
 use Rattle.std.proofs.lemmas.Fmt.{decimal_digit, decimal_step_wide}
 use Rattle.dyadic_num.specs.Units.{IsLowest}
-use Rattle.game_store.specs.NumberText.{digits_within, digits, integer_text, denominator_text}
-use Rattle.game_store.specs.TextOrder.{tree_text}
-use Rattle.game_store.specs.Meaning.{number_tree}
+use Rattle.short_games.specs.NumberText.{digits_within, digits, integer_text, denominator_text}
+use Rattle.short_games.specs.TextOrder.{tree_text}
+use Rattle.short_games.specs.Number.{number_tree}
 use Rattle.game_text.proofs.NumberTexts.{lowest-text, lowest-both}
 
 pub digits-decimal : (steps n : ℕ) (s : List ℕ) → n < steps → n < 10 ^ 64 → digits_within steps n s ≡ decimal n ++ s

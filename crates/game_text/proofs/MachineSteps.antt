@@ -1,9 +1,9 @@
 -- What is left of a text comes to what is left behind its first byte, or its first number.
 use Rattle.std.proofs.Common.{ℕ, suc, ◌<◌, ◌≤◌, ◌≡◌, List, [], ◌∷◌, length, refl, sym, ap, subst, ℤ}
 use Rattle.std.specs.Prelude.{Err}
-use Rattle.game_store.specs.Tree.{Tree, Trees, node, none, more, ◌then◌}
-use Rattle.game_store.specs.Text.{open_brace, bar, close_brace, comma}
-use Rattle.game_store.specs.Meaning.{number_tree}
+use Rattle.short_games.specs.Tree.{Tree, Trees, node, none, more, ◌then◌}
+use Rattle.short_games.specs.Text.{open_brace, bar, close_brace, comma}
+use Rattle.short_games.specs.Number.{number_tree}
 use Rattle.game_text.specs.Depth.{most_open}
 use Rattle.game_text.specs.Reading.{IsNumberByte, IsNameByte, ReadsName, IsRun, IsNumberText, Fault, Outcome, behind, left_side, right_side, mark_of, BeginsOtherwise, IsClosed, ReadsMore, ReadsText}
 use Rattle.game_text.specs.Reading.Fault.{bad_byte, bad_number, cut_short, too_deep}

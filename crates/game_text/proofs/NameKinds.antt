@@ -1,16 +1,15 @@
 -- What a name says of its tree.
-use Rattle.std.proofs.Common.{ℕ, zero, suc, ◌<◌, ◌≡◌, ◌⊎◌, List, [], ◌∷◌, ◌++◌, arith, refl, inl, inr, sym, ◌∙◌, ap, ap₂, subst, Some, None, ℤ, pos, negsuc, Bool, true, false, cond}
-use Rattle.std.specs.Prelude.{Option, nat_lt, neg_ℤ, ◌&&◌, ◌/◌, ◌%◌, ◌+◌, ◌^◌}
+use Rattle.std.proofs.Common.{ℕ, zero, suc, ◌<◌, ◌≡◌, ◌⊎◌, List, [], ◌∷◌, arith, refl, inl, inr, sym, ◌∙◌, ap, subst, Some, None, ℤ, pos, negsuc, Bool, true, false, cond}
+use Rattle.std.specs.Prelude.{Option, nat_lt, ◌&&◌, ◌/◌, ◌%◌, ◌+◌, ◌^◌}
 use Rattle.std.proofs.lemmas.Bool.{ltb-true, ltb-false, and_parts}
-use Rattle.std.proofs.lemmas.Int.{ints}
-use Rattle.game_store.specs.Tree.{Tree, Trees, node, none, more, left, right, Has}
-use Rattle.game_store.specs.Number.{num, IsNumberTree}
-use Rattle.game_store.specs.NumberText.{same, Fraction, guess, number_of, digits_within, digits, integer_text, denominator_text, fraction_text, text_of_number, number_text}
-use Rattle.game_store.specs.TextOrder.{sorted}
-use Rattle.game_store.proofs.NumberLaws.{num-zero}
-use Rattle.game_store.proofs.NumberTextLaws.{same-is, number_of-is, number_text-bytes, number_text-some, number_text-one_to_one, digits-one_to_one, fraction-one_to_one}
-use Rattle.game_store.proofs.TextLaws.{IsDigit, AreDigits, IsMore, head-is, tail-is}
-use Rattle.game_text.specs.NamedText.{nimbers_below, nimber, up, down, switch, count, nimber_of, is_positive, first_of, switch_of, nimber_name, nimber_text, switch_text, text_where, first_text, name}
+use Rattle.short_games.specs.Tree.{Tree, left}
+use Rattle.short_games.specs.Number.{num}
+use Rattle.short_games.specs.NumberText.{same, Fraction, guess, number_of, digits_within, digits, integer_text, denominator_text, fraction_text, text_of_number, number_text}
+use Rattle.short_games.specs.TextOrder.{sorted}
+use Rattle.short_games.proofs.NumberLaws.{num-zero}
+use Rattle.short_games.proofs.NumberTextLaws.{same-is, number_text-bytes, number_text-some, number_text-one_to_one, digits-one_to_one, fraction-one_to_one}
+use Rattle.short_games.proofs.TextLaws.{IsDigit, AreDigits, IsMore, head-is, tail-is}
+use Rattle.game_text.specs.NamedText.{nimbers_below, nimber, up, down, switch, count, nimber_of, is_positive, first_of, nimber_name, nimber_text, switch_text, text_where, first_text, name}
 use Rattle.game_text.proofs.NumberTexts.{number_of-num}
 use Rattle.game_text.proofs.Spelled.{ArePlain}
 

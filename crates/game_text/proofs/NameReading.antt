@@ -1,18 +1,16 @@
 -- How names are read.
-use Rattle.std.proofs.Common.{ℕ, zero, suc, ◌+◌, ◌-◌, ◌<◌, ◌≤◌, ◌≡◌, ◌⊎◌, List, [], ◌∷◌, ◌++◌, length, get_or, take, drop, arith, refl, inl, inr, sym, ◌∙◌, ap, ap₂, subst, ℤ, pos, neg_ℤ, ◌*ℤ◌, ◌<ℤ◌, length-append, length-drop}
-use Rattle.std.specs.Prelude.{◌^◌}
+use Rattle.std.proofs.Common.{ℕ, zero, suc, ◌+◌, ◌-◌, ◌<◌, ◌≤◌, ◌≡◌, ◌⊎◌, List, [], ◌∷◌, ◌++◌, length, get_or, take, drop, arith, inl, inr, sym, ◌∙◌, ap, ap₂, subst, ℤ, pos, ◌*ℤ◌, ◌<ℤ◌, length-append, length-drop}
+use Rattle.std.specs.Prelude.{◌^◌, Result, Ok, Err, IfOk, IfErr}
 use Rattle.std.proofs.lemmas.Bool.{cases_lt}
 use Rattle.std.proofs.lemmas.Int.{ints}
 use Rattle.std.proofs.lemmas.List.{drop_all, take_all, take-append-drop, get_or-drop, drop-drop, length-take-le, get_or_append_left, get_or_push}
-use Rattle.game_store.specs.Tree.{Tree, node, left, Has}
-use Rattle.game_store.specs.Number.{IsNumberTree}
-use Rattle.game_store.specs.TextOrder.{sorted, IsCanonicalTree, IsCanonicalFor}
-use Rattle.game_store.specs.Meaning.{tree_at, pick, form, number_tree, AreIds, IsAscending, AreDistinct, Extends, IsIdOf}
+use Rattle.short_games.specs.Tree.{Tree, node, left, Has, tree_at, AreDistinct}
+use Rattle.short_games.specs.Number.{IsNumberTree, number_tree}
+use Rattle.short_games.specs.TextOrder.{sorted, IsCanonicalTree, IsCanonicalFor}
+use Rattle.game_store.specs.Meaning.{pick, form, Extends, IsIdOf}
 use Rattle.game_store.specs.Forms.{HaveForms}
-use Rattle.game_store.specs.Parts.{HasMoreParts}
-use Rattle.game_store.proofs.OrderLaws.{le-refl}
-use Rattle.game_canon.specs.Examples.{choice}
-use Rattle.game_canon.specs.Outcomes.{IsCanonicalId}
+use Rattle.short_games.specs.Parts.{HasMoreParts}
+use Rattle.short_games.proofs.OrderLaws.{le-refl}
 use Rattle.game_text.specs.NamedText.{nimbers_below, nimber}
 use Rattle.game_text.specs.Reading.{IsDigitByte, AreDigitBytes, EndsDigits, IsDigitRun, IsNimberDigits, IsNumberByte, IsNameByte, IsNumberText, Outcome, ReadsNimber, ReadsSwitch, switch_below}
 use Rattle.game_text.specs.Reading.Fault.{bad_byte, bad_number, cut_short}
@@ -22,11 +20,10 @@ use Rattle.game_text.specs.Reading.ReadsSwitch.{of_negative, of_other, no_number
 use Rattle.game_text.specs.Refusals.{IsFormRefusal}
 use Rattle.game_text.specs.declared.errors.ReadError.{ReadError}
 use Rattle.game_text.specs.declared.errors.ReadError.TheVariants as error
-use Rattle.game_store.proofs.TextOrderLaws.{tree_text-one_to_one}
+use Rattle.short_games.proofs.TextOrderLaws.{tree_text-one_to_one}
 use Rattle.game_canon.proofs.Sizes.{number-same}
 use Rattle.game_text.proofs.ReadingSteps.{byte-drop}
 use Rattle.game_text.proofs.ReadingPlaces.{run-is}
-use Rattle.std.specs.Prelude.{Result, Ok, Err, IfOk, IfErr}
 use Rattle.game_text.specs.declared.named_games.Found.{Found}
 use Rattle.game_text.specs.Machine.{IsTaken, IsFoundBy, IsRefusedBy, EndsRunAt, EndsDigitsAt}
 use Rattle.game_text.specs.Written.{AreNimbers}

@@ -1,14 +1,14 @@
 -- A form of canonical options is equal as a game to the form of the options that they stand for.
 use Rattle.std.proofs.Common.{ℕ, zero, suc, ◌≡◌, List, [], ◌∷◌, ◌++◌, arith, refl, inl, inr, sym, subst}
-use Rattle.game_store.specs.Tree.{Tree, Trees, node, none, more, Has, ◌then◌}
-use Rattle.game_store.specs.Number.{num, IsNumber}
-use Rattle.game_store.specs.Order.{◌≤ᵍ◌}
-use Rattle.game_store.specs.TextOrder.{IsCanonicalFor}
-use Rattle.game_store.specs.Meaning.{tree_at, pick, listed, number_tree, AreIds, Extends}
-use Rattle.game_store.specs.Parts.{HasMoreParts}
-use Rattle.game_store.proofs.OrderLaws.{le-trans}
-use Rattle.game_store.proofs.FormLaws.{by_better}
-use Rattle.game_store.proofs.ReductionLaws.{canonical-same}
+use Rattle.short_games.specs.Tree.{Tree, Trees, node, none, more, Has, ◌then◌, tree_at}
+use Rattle.short_games.specs.Number.{num, IsNumber, number_tree}
+use Rattle.short_games.specs.Order.{◌≤ᵍ◌}
+use Rattle.short_games.specs.TextOrder.{IsCanonicalFor}
+use Rattle.game_store.specs.Meaning.{pick, listed, AreIds, Extends}
+use Rattle.short_games.specs.Parts.{HasMoreParts}
+use Rattle.short_games.proofs.OrderLaws.{le-trans}
+use Rattle.short_games.proofs.FormLaws.{by_better}
+use Rattle.short_games.proofs.ReductionLaws.{canonical-same}
 use Rattle.game_canon.specs.Outcomes.{IsCanonicalId, IsPastBounds, IsCause}
 use Rattle.game_canon.specs.declared.errors.FormError.TheVariants.{Parts}
 use Rattle.game_text.specs.Reading.{IsClosed}

@@ -1,19 +1,18 @@
 -- Canonical trees of one named text are one tree.
-use Rattle.std.proofs.Common.{ℕ, zero, suc, ◌+◌, ◌<◌, ◌≤◌, ◌≡◌, ◌⊎◌, List, [], ◌∷◌, ◌++◌, arith, refl, inl, inr, sym, ◌∙◌, ap, ap₂, subst, Some, None, Bool, true, false, cond, append-nil}
+use Rattle.std.proofs.Common.{ℕ, zero, suc, ◌+◌, ◌<◌, ◌≡◌, ◌⊎◌, List, [], ◌∷◌, ◌++◌, arith, refl, inl, inr, sym, ◌∙◌, ap, subst, Some, None, append-nil}
 use Rattle.std.specs.Prelude.{Option, ◌↔◌}
-use Rattle.std.proofs.lemmas.Bool.{true≢false}
-use Rattle.game_store.specs.Tree.{Tree, Trees, node, none, more, left, right, Has, size}
-use Rattle.game_store.specs.Order.{◌≤ᵍ◌, ◌≡ᵍ◌}
-use Rattle.game_store.specs.Text.{bar, close_brace}
-use Rattle.game_store.specs.TextOrder.{lesser_text, TextBefore, IsCanonicalTree}
-use Rattle.game_store.proofs.OrderLaws.{le-refl, size-left, size-right}
-use Rattle.game_store.proofs.FormLaws.{by_better}
-use Rattle.game_store.proofs.CanonicalLaws.{canonical-left, canonical-right}
-use Rattle.game_store.proofs.ReductionLaws.{canonical-same}
-use Rattle.game_store.proofs.TextOrderLaws.{text-order}
-use Rattle.game_text.specs.NamedText.{name, insert_text, in_braces, joined, name_or, named_text, named_texts}
+use Rattle.short_games.specs.Tree.{Tree, Trees, node, none, more, left, right, Has, size}
+use Rattle.short_games.specs.Order.{◌≤ᵍ◌, ◌≡ᵍ◌}
+use Rattle.short_games.specs.Text.{bar, close_brace}
+use Rattle.short_games.specs.TextOrder.{TextBefore, IsCanonicalTree}
+use Rattle.short_games.proofs.OrderLaws.{le-refl, size-left, size-right}
+use Rattle.short_games.proofs.FormLaws.{by_better}
+use Rattle.short_games.proofs.CanonicalLaws.{canonical-left, canonical-right}
+use Rattle.short_games.proofs.ReductionLaws.{canonical-same}
+use Rattle.short_games.proofs.TextOrderLaws.{text-order}
+use Rattle.game_text.specs.NamedText.{name, in_braces, joined, name_or, named_text, named_texts}
 use Rattle.game_text.proofs.Spelled.{IsSpelled, plain, braced, AreSpelled, no_texts, spelled-insert, plain-brace, braces-apart}
-use Rattle.game_text.proofs.NameKinds.{IsNamed, is-named, one-named, named-plain}
+use Rattle.game_text.proofs.NameKinds.{is-named, one-named, named-plain}
 use Rattle.game_text.proofs.TextLists.{In, insert-in, in-insert_new, in-insert_old}
 
 -- the text of a tree with a name, and of one without

@@ -1,47 +1,46 @@
 -- The named text of a canonical tree names a game whose canonical tree it is.
-use Rattle.std.proofs.Common.{ℕ, zero, suc, ◌+◌, ◌-◌, ◌/◌, ◌%◌, ◌^◌, ◌<◌, ◌≤◌, ◌≡◌, ◌⊎◌, List, [], ◌∷◌, ◌++◌, length, arith, refl, inl, inr, sym, ◌∙◌, ap, ap₂, subst, ℤ, pos, negsuc, neg_ℤ, ◌+ℤ◌, ◌*ℤ◌, ◌<ℤ◌, Some, None, Bool, true, false, cond, append-nil}
+use Rattle.std.proofs.Common.{ℕ, zero, suc, ◌+◌, ◌/◌, ◌%◌, ◌^◌, ◌<◌, ◌≤◌, ◌≡◌, List, [], ◌∷◌, ◌++◌, length, arith, refl, inl, inr, sym, ◌∙◌, ap, ap₂, subst, ℤ, pos, negsuc, neg_ℤ, ◌*ℤ◌, ◌<ℤ◌, Some, None, Bool, true, false, cond, append-nil}
 use Rattle.std.specs.Prelude.{Option, max, nat_lt, Result, Ok}
 use Rattle.std.proofs.lemmas.Bool.{cases_lt, ltb-true, ltb-false, true≢false}
 use Rattle.std.proofs.lemmas.Int.{ints, by_lt_z}
-use Rattle.game_store.specs.Tree.{Tree, Trees, node, none, more, left, right, Has, neg, size}
-use Rattle.game_store.specs.Order.{◌≤ᵍ◌, ◌≡ᵍ◌}
-use Rattle.game_store.specs.Number.{is_even, num, IsNumber, IsNumberTree}
-use Rattle.game_store.specs.NumberText.{Fraction, guess, number_of, digits_within, digits, integer_text, denominator_text, fraction_text, text_of_number, number_text}
-use Rattle.game_store.specs.Text.{open_brace, bar, close_brace, comma}
-use Rattle.game_store.specs.TextOrder.{tree_text, TextBefore, IsCanonicalTree, IsCanonicalFor}
-use Rattle.game_store.specs.Meaning.{tree_at, number_tree, AreDistinct, Extends}
-use Rattle.game_store.specs.Parts.{IsOption, HasMoreParts}
-use Rattle.game_store.specs.Parts.IsFollower.{itself}
-use Rattle.game_store.proofs.FormLaws.{by_better}
-use Rattle.game_store.proofs.NumberLaws.{odd-neg, num-left, num-right, num-le, num-lt, neg-num, num-zero}
-use Rattle.game_store.proofs.NumberTextLaws.{number_of-is}
-use Rattle.game_store.proofs.OrderLaws.{le-refl, le-trans, size-left, size-right}
-use Rattle.game_store.proofs.ReductionLaws.{canonical-number, canonical-same}
-use Rattle.game_store.proofs.CanonicalLaws.{canonical-left, canonical-right}
-use Rattle.game_store.proofs.TextOrderLaws.{text-order}
+use Rattle.short_games.specs.Tree.{Tree, Trees, node, none, more, left, right, Has, neg, size, tree_at, AreDistinct}
+use Rattle.short_games.specs.Order.{◌≤ᵍ◌, ◌≡ᵍ◌}
+use Rattle.short_games.specs.Number.{num, IsNumberTree, number_tree}
+use Rattle.short_games.specs.NumberText.{Fraction, guess, digits_within, digits, fraction_text, text_of_number, number_text}
+use Rattle.short_games.specs.Text.{open_brace, bar, close_brace, comma}
+use Rattle.short_games.specs.TextOrder.{tree_text, TextBefore, IsCanonicalTree, IsCanonicalFor}
+use Rattle.game_store.specs.Meaning.{Extends}
+use Rattle.short_games.specs.Parts.{IsOption, HasMoreParts}
+use Rattle.short_games.specs.Parts.IsFollower.{itself}
+use Rattle.short_games.proofs.FormLaws.{by_better}
+use Rattle.short_games.proofs.NumberLaws.{odd-neg, num-left, num-right, num-le, num-lt, neg-num, num-zero}
+use Rattle.short_games.proofs.NumberTextLaws.{number_of-is}
+use Rattle.short_games.proofs.OrderLaws.{le-refl, le-trans, size-left, size-right}
+use Rattle.short_games.proofs.ReductionLaws.{canonical-number, canonical-same}
+use Rattle.short_games.proofs.CanonicalLaws.{canonical-left, canonical-right}
+use Rattle.short_games.proofs.TextOrderLaws.{text-order}
 use Rattle.game_canon.specs.Outcomes.{IsCanonicalId}
 use Rattle.game_text.specs.Depth.{most_open}
-use Rattle.game_text.specs.NamedText.{nimber, up, down, switch, is_positive, nimber_name, name, in_braces, named_text, named_texts, named_depth_or, named_depth, named_depths}
+use Rattle.game_text.specs.NamedText.{nimber, up, down, switch, is_positive, nimber_name, name, named_text, named_texts, named_depth_or, named_depth, named_depths}
 use Rattle.game_text.specs.Laws.{HasNumbersWithinBounds, IsReadableByName}
-use Rattle.game_text.specs.Reading.{IsNumberByte, AreNumberBytes, IsDigitByte, AreDigitBytes, EndsDigits, EndsNumber, IsNumberText, Fault, Side, left_side, right_side, mark_of, switch_below, most_nimber, BeginsOtherwise, IsClosed, ReadsGame, ReadsOptions, ReadsMore, Names}
+use Rattle.game_text.specs.Reading.{IsNumberByte, AreNumberBytes, AreDigitBytes, EndsDigits, EndsNumber, Fault, Side, left_side, right_side, mark_of, switch_below, most_nimber, BeginsOtherwise, IsClosed, ReadsGame, ReadsOptions, ReadsMore, Names}
 use Rattle.game_text.specs.Reading.Outcome.{reads}
 use Rattle.game_text.specs.Reading.IsClosed.{taken}
 use Rattle.game_text.specs.Reading.ReadsNimber.{of_one, of_number}
 use Rattle.game_text.specs.Reading.ReadsSwitch.{of_negative}
 use Rattle.game_text.specs.Reading.ReadsName.{a_nimber as nimber_name_is, an_up as up_is, a_down as down_is, a_switch as switch_is}
-use Rattle.game_text.specs.Reading.ReadsGame.{number, form}
-use Rattle.game_text.specs.Reading.ReadsGame.{name as named}
+use Rattle.game_text.specs.Reading.ReadsGame.{number, form, name as named}
 use Rattle.game_text.specs.Reading.ReadsOptions.{no_option, first}
 use Rattle.game_text.specs.Reading.ReadsMore.{no_more, next}
 use Rattle.game_text.specs.Reading.ReadsText.{whole_text}
 use Rattle.game_text.proofs.NumberTexts.{IsReduced, guess-num, number_of-num, no_spare, once, text-number}
 use Rattle.game_text.proofs.Nimbers.{nimber-no_number}
 use Rattle.game_text.proofs.NimberParts.{many-parts}
-use Rattle.game_text.proofs.Spelled.{IsSpelled, plain, braced, ArePlain, IsPlain, behind_commas, row, braces-row}
+use Rattle.game_text.proofs.Spelled.{IsSpelled, plain, braced, IsPlain, behind_commas, row, braces-row}
 use Rattle.game_text.proofs.TextLists.{In}
 use Rattle.game_text.proofs.NameKinds.{IsNamed, a_number, a_nimber, an_up, a_down, a_switch, is-named}
 use Rattle.game_text.proofs.NamedLaws.{text-named, text-unnamed, in-named, named-in, spelled-text, named-one_to_one}
-use Rattle.game_text.proofs.NamesFound.{name-number, up-no_number, down-no_number}
+use Rattle.game_text.proofs.NamesFound.{up-no_number, down-no_number}
 use Rattle.game_text.proofs.WritingSteps.{named-num}
 use Rattle.game_text.proofs.Spelling.{number-bytes}
 use Rattle.game_text.proofs.OneReading.{one-reading}

@@ -1,25 +1,24 @@
 -- A nimber, up, down and a switch have their names, and a tree that is none of these and no number has none.
-use Rattle.std.proofs.Common.{ℕ, zero, suc, ◌<◌, ◌≡◌, ◌⊎◌, List, [], ◌∷◌, ◌++◌, arith, refl, inl, inr, sym, ◌∙◌, ap, ap₂, subst, Some, None, ℤ, pos, negsuc, ◌*ℤ◌, ◌<ℤ◌, Bool, true, false, cond, append-nil}
-use Rattle.std.specs.Prelude.{Option, ◌^◌, nat_lt, neg_ℤ, ◌&&◌}
+use Rattle.std.proofs.Common.{ℕ, zero, suc, ◌<◌, ◌≡◌, List, [], ◌∷◌, arith, refl, inl, inr, sym, ◌∙◌, ap, ap₂, subst, Some, None, ℤ, pos, negsuc, ◌<ℤ◌, true, false, cond, append-nil}
+use Rattle.std.specs.Prelude.{Option, neg_ℤ, ◌&&◌}
 use Rattle.std.proofs.lemmas.Bool.{true≢false, cases_Bool, lt-ltb}
 use Rattle.std.proofs.lemmas.Int.{ints, by_lt_z}
-use Rattle.game_store.specs.Order.{◌≤ᵍ◌}
-use Rattle.game_store.specs.Tree.{Tree, Trees, node, none, more, left, right, Has, neg}
-use Rattle.game_store.specs.Number.{num, IsNumberTree}
-use Rattle.game_store.specs.NumberText.{same, Fraction, guess, number_of, fraction_text, text_of_number, number_text}
-use Rattle.game_store.specs.TextOrder.{tree_text, sorted}
-use Rattle.game_store.specs.Meaning.{number_tree}
-use Rattle.game_store.proofs.NumberLaws.{num-left, num-right, num-le, num-lt, num-zero, neg-num}
-use Rattle.game_store.proofs.NumberTextLaws.{same-is, number_of-is}
-use Rattle.game_store.proofs.OrderLaws.{le-refl}
-use Rattle.game_store.proofs.PartLaws.{number-option}
-use Rattle.game_canon.specs.Examples.{choice}
-use Rattle.game_text.specs.NamedText.{nimbers_below, nimber, up, down, switch, count, nimber_of, is_positive, first_of, switch_of, nimber_name, nimber_text, switch_text, text_where, first_text, name}
-use Rattle.game_text.proofs.NumberTexts.{IsReduced, guess-num, number_of-num, same-refl, text-number}
+use Rattle.short_games.specs.Order.{◌≤ᵍ◌}
+use Rattle.short_games.specs.Tree.{Tree, left, right, Has, neg}
+use Rattle.short_games.specs.Number.{num, IsNumberTree, number_tree}
+use Rattle.short_games.specs.NumberText.{same, Fraction, guess, number_of, fraction_text, text_of_number, number_text}
+use Rattle.short_games.specs.TextOrder.{tree_text, sorted}
+use Rattle.short_games.proofs.NumberLaws.{num-left, num-right, num-le, num-lt, num-zero, neg-num}
+use Rattle.short_games.proofs.NumberTextLaws.{same-is, number_of-is}
+use Rattle.short_games.proofs.OrderLaws.{le-refl}
+use Rattle.short_games.proofs.PartLaws.{number-option}
+use Rattle.short_games.specs.Examples.{choice}
+use Rattle.game_text.specs.NamedText.{nimbers_below, nimber, up, down, switch, count, nimber_of, is_positive, switch_of, nimber_name, nimber_text, switch_text, text_where, first_text, name}
+use Rattle.game_text.proofs.NumberTexts.{guess-num, same-refl, text-number}
 use Rattle.game_text.proofs.BracesTexts.{no-number_text}
-use Rattle.game_store.proofs.StopLaws.{num-scaled}
+use Rattle.short_games.proofs.StopLaws.{num-scaled}
 use Rattle.game_canon.proofs.Sizes.{number-same}
-use Rattle.game_text.proofs.Nimbers.{option-nimber, nimber-option, nimber-same, both-sides, nimber-no_number, nimber-count}
+use Rattle.game_text.proofs.Nimbers.{option-nimber, nimber-option, nimber-same, nimber-no_number, nimber-count}
 use Rattle.game_text.proofs.NameKinds.{IsNamed, a_number, a_nimber, an_up, a_down, a_switch, is-named}
 
 same-as : (G H : Tree) → G ≡ H → same G H ≡ true

@@ -1,14 +1,14 @@
 -- How deep the braces of a tree's named text nest is the tree's depth.
-use Rattle.std.proofs.Common.{ℕ, suc, ◌+◌, ◌-◌, ◌<◌, ◌≤◌, ◌≡◌, ◌⊎◌, List, [], ◌∷◌, ◌++◌, length, get_or, drop, arith, refl, inl, inr, sym, ◌∙◌, ap, ap₂, subst, Some, None, Bool, true, false, append-nil}
+use Rattle.std.proofs.Common.{ℕ, suc, ◌+◌, ◌-◌, ◌<◌, ◌≤◌, ◌≡◌, List, [], ◌∷◌, ◌++◌, length, get_or, drop, arith, refl, inl, inr, sym, ◌∙◌, ap, ap₂, subst, Some, None, Bool, true, false, append-nil}
 use Rattle.std.specs.Prelude.{Option, max, cond}
 use Rattle.std.specs.Ordering.{ord_max, nat_cmp}
 use Rattle.std.proofs.lemmas.Bool.{ne_eqb, true≢false}
 use Rattle.std.proofs.lemmas.Bool.Decides.{nat_tests}
 use Rattle.std.proofs.lemmas.List.{drop_all}
 use Rattle.std.proofs.Math.Seq.{drop-cons}
-use Rattle.game_store.specs.Tree.{Tree, Trees, node, none, more}
-use Rattle.game_store.specs.Text.{open_brace, bar, close_brace, comma}
-use Rattle.game_store.specs.TextOrder.{lesser_text}
+use Rattle.short_games.specs.Tree.{Tree, Trees, node, none, more}
+use Rattle.short_games.specs.Text.{open_brace, bar, close_brace}
+use Rattle.short_games.specs.TextOrder.{lesser_text}
 use Rattle.game_text.specs.NamedText.{name, insert_text, in_braces, name_or, named_text, named_texts, named_depth_or, named_depth, named_depths}
 use Rattle.game_text.specs.Nesting.{braces_after}
 use Rattle.game_text.proofs.Spelled.{IsPlain, ArePlain, behind_commas, row, braces-row}

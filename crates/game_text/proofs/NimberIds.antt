@@ -1,40 +1,34 @@
 -- The ids of nimbers, and the names of forms.
-use Rattle.std.proofs.Common.{ℕ, zero, suc, ◌+◌, ◌<◌, ◌≤◌, ◌≡◌, ◌⊎◌, List, [], ◌∷◌, ◌++◌, length, get_or, take, arith, refl, inl, inr, sym, ◌∙◌, ap, ap₂, subst, Some, None, ℤ, pos, ◌<ℤ◌, length-append, cond, Bool, false}
+use Rattle.std.proofs.Common.{ℕ, suc, ◌+◌, ◌<◌, ◌≤◌, ◌≡◌, ◌⊎◌, List, [], ◌∷◌, ◌++◌, length, get_or, take, arith, refl, inl, inr, sym, ◌∙◌, ap, ap₂, subst, Some, None, ℤ, pos, ◌<ℤ◌, length-append, cond, false}
 use Rattle.std.specs.Prelude.{Option, neg_ℤ, MatchOption, nat_lt, ◌^◌, ◌↔◌, Result, Ok, Err, IfOk}
 use Rattle.std.proofs.lemmas.Bool.{cases_lt, cases_order, cases_Bool, ltb-true}
 use Rattle.std.proofs.lemmas.List.{take_all, length-take-le, get_or-take, get_or_append_left, get_or_push}
-use Rattle.game_store.specs.Tree.{Tree, Trees, node, none, more, left, right, Has}
-use Rattle.game_store.specs.Canonical.{Ascends}
-use Rattle.game_store.specs.Number.{IsNumberTree}
-use Rattle.game_store.specs.NumberText.{Fraction, number_text}
-use Rattle.game_store.specs.TextOrder.{tree_text, TextBefore, insert, sorted, IsCanonicalTree}
-use Rattle.game_store.specs.Meaning.{tree_at, pick, form, number_tree, AreIds, AreBelow, IsAscending, AreDistinct, AreCanonical}
-use Rattle.game_store.specs.Forms.{IsOptions}
-use Rattle.game_store.proofs.CanonicalLaws.{ascends-rest}
-use Rattle.game_store.proofs.TextOrderLaws.{text-order, sorted-ascends, sorted-has, has-sorted}
+use Rattle.short_games.specs.Tree.{Tree, Trees, node, none, more, left, right, Has, tree_at, AreDistinct}
+use Rattle.short_games.specs.Canonical.{Ascends}
+use Rattle.short_games.specs.Number.{IsNumberTree, number_tree, num, whole, count_tree}
+use Rattle.short_games.specs.NumberText.{number_text, number_of, guess, same, digits_within, digits}
+use Rattle.short_games.specs.TextOrder.{tree_text, TextBefore, insert, sorted, IsCanonicalTree}
+use Rattle.game_store.specs.Meaning.{pick, form, AreIds, IsAscending, Wanted}
+use Rattle.game_store.specs.Forms.{IsOptions, HaveForms, IsMeaning}
+use Rattle.short_games.proofs.CanonicalLaws.{ascends-rest}
+use Rattle.short_games.proofs.TextOrderLaws.{text-order, sorted-ascends, sorted-has, has-sorted}
 use Rattle.game_store.proofs.Values.{has-pick, pick-has, pick-one_to_one}
-use Rattle.game_canon.specs.Examples.{choice}
+use Rattle.short_games.specs.Examples.{choice}
 use Rattle.game_canon.specs.Changes.{AreClosed}
-use Rattle.game_canon.specs.Followers.{IsIn}
 use Rattle.game_text.specs.NamedText.{nimbers_below, nimber, nimber_name, name, named_text}
 use Rattle.game_text.proofs.Decimals.{digits-are}
 use Rattle.std.specs.Fmt.{decimal}
-use Rattle.game_text.specs.Written.{AreNimbers, IsAmong, AreFound, IsUpPair, IsDownPair, IsSwitchPair, IsNamedPair, IsSwitchName, IsPairName}
+use Rattle.game_text.specs.Written.{AreNimbers, IsAmong, AreFound, IsUpPair, IsDownPair, IsSwitchPair, IsNamedPair, IsPairName}
 use Rattle.game_text.proofs.Nimbers.{option-nimber, nimber-option, nimber-same, nimber-no_number, nimber-canonical}
 use Rattle.game_text.proofs.NamedLaws.{text-named, named-one_to_one}
 use Rattle.game_text.proofs.NamesFound.{number-text, zero-tree, name-number, name-nimber, up-named, down-named, down-not_up, no-name, name-switch, switch-numbers, lefts-same, rights-same}
 use Rattle.game_text.proofs.WritingSteps.{before}
-use Rattle.game_canon.specs.Reachable.{IsInner}
+use Rattle.short_games.specs.Parts.{IsInner, IsOption}
 use Rattle.game_canon.proofs.GameLaws.{has-left, has-right}
 use Rattle.game_canon.proofs.Sizes.{number-same}
-use Rattle.game_store.specs.Meaning.{Wanted}
 use Rattle.game_store.specs.Meaning.Wanted.{number, options}
-use Rattle.game_store.specs.Forms.{HaveForms, IsMeaning}
-use Rattle.game_store.specs.Parts.{IsOption}
-use Rattle.game_store.specs.Text.{text}
-use Rattle.game_store.proofs.NumberLaws.{num-zero}
-use Rattle.game_store.specs.Number.{num, whole, count_tree}
-use Rattle.game_store.specs.NumberText.{number_of, guess, same, digits_within, digits}
+use Rattle.short_games.specs.Text.{text}
+use Rattle.short_games.proofs.NumberLaws.{num-zero}
 
 -- zero and star
 zero-number : number_text (nimber 0) ≡ Some (tree_text (number_tree (pos 0)))

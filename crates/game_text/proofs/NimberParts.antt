@@ -1,14 +1,12 @@
 -- The nimber of n has exactly n parts.
-use Rattle.std.proofs.Common.{ℕ, zero, suc, ◌+◌, ◌-◌, ◌<◌, ◌≤◌, ◌≡◌, List, [], ◌∷◌, length, arith, refl, inl, inr, sym, ◌∙◌, ap, subst, ℤ, pos}
+use Rattle.std.proofs.Common.{ℕ, zero, suc, ◌-◌, ◌<◌, ◌≤◌, ◌≡◌, List, [], ◌∷◌, length, arith, refl, inl, inr, sym, ◌∙◌, ap, subst, pos}
 use Rattle.std.specs.Prelude.{◌⊎◌}
 use Rattle.std.proofs.lemmas.Bool.{cases_lt}
-use Rattle.game_store.specs.Tree.{Tree}
-use Rattle.game_store.specs.Number.{IsNumber, IsNumberTree}
-use Rattle.game_store.specs.TextOrder.{IsCanonicalFor}
-use Rattle.game_store.specs.Meaning.{tree_at}
-use Rattle.game_store.specs.Parts.{IsOption, IsFollower, IsPart, AreParts, HasMoreParts}
-use Rattle.game_store.specs.Parts.IsFollower.{itself, further}
-use Rattle.game_store.proofs.ReductionLaws.{canonical-number, canonical-same}
+use Rattle.short_games.specs.Tree.{Tree, tree_at}
+use Rattle.short_games.specs.Number.{IsNumber}
+use Rattle.short_games.specs.Parts.{IsOption, IsFollower, IsPart, HasMoreParts}
+use Rattle.short_games.specs.Parts.IsFollower.{itself, further}
+use Rattle.short_games.proofs.ReductionLaws.{canonical-number, canonical-same}
 use Rattle.game_canon.specs.Outcomes.{IsPastBounds, IsCause}
 use Rattle.game_canon.specs.declared.errors.FormError.TheVariants.{Parts}
 use Rattle.game_canon.proofs.PartLaws.{fewer}

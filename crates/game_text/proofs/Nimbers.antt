@@ -1,16 +1,16 @@
 -- Nimbers: no one is at most another, each is canonical, and none but that of 0 is a number.
-use Rattle.std.proofs.Common.{ℕ, zero, suc, ◌+◌, ◌<◌, ◌≡◌, arith, refl, inl, inr, sym, ◌∙◌, ap, subst, ℤ, Bool, true, false, cond}
+use Rattle.std.proofs.Common.{ℕ, zero, suc, ◌<◌, ◌≡◌, arith, refl, inl, inr, sym, ◌∙◌, ap, subst, Bool, true, false, cond}
 use Rattle.std.proofs.lemmas.Bool.{cases_lt, cases_order, true≢false}
 use Rattle.std.proofs.lemmas.Int.{ints}
-use Rattle.game_store.specs.Tree.{Tree, Trees, node, none, more, left, right, Has}
-use Rattle.game_store.specs.Order.{◌≤ᵍ◌}
-use Rattle.game_store.specs.Number.{num, IsNumberTree}
-use Rattle.game_store.specs.TextOrder.{text_before, insert, sorted, IsCanonicalTree}
-use Rattle.game_store.specs.Reduction.{IsFreeLeft, KeepsLeft, KeepsRight}
-use Rattle.game_store.proofs.OrderLaws.{le-out, le-refl}
-use Rattle.game_store.proofs.NumberLaws.{num-left, num-right, num-lt}
-use Rattle.game_store.proofs.ReductionLaws.{form-canonical}
-use Rattle.game_store.proofs.TextOrderLaws.{text-order, sorted-has, has-sorted}
+use Rattle.short_games.specs.Tree.{Tree, Trees, node, none, more, left, right, Has}
+use Rattle.short_games.specs.Order.{◌≤ᵍ◌}
+use Rattle.short_games.specs.Number.{num, IsNumberTree}
+use Rattle.short_games.specs.TextOrder.{text_before, insert, sorted, IsCanonicalTree}
+use Rattle.short_games.specs.Reduction.{IsFreeLeft, KeepsLeft, KeepsRight}
+use Rattle.short_games.proofs.OrderLaws.{le-out, le-refl}
+use Rattle.short_games.proofs.NumberLaws.{num-left, num-right, num-lt}
+use Rattle.short_games.proofs.ReductionLaws.{form-canonical}
+use Rattle.short_games.proofs.TextOrderLaws.{text-order, sorted-has, has-sorted}
 use Rattle.game_text.specs.NamedText.{nimbers_below, nimber, count}
 
 pub below-has : (n k : ℕ) → k < n → Has (nimbers_below n) (nimber k)

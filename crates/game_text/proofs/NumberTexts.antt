@@ -5,14 +5,13 @@ use Rattle.std.proofs.lemmas.Bool.{true≢false, cases_Bool, false_from_ne_true}
 use Rattle.std.proofs.lemmas.Int.{ints}
 use Rattle.dyadic_num.specs.Units.{IsLowest}
 use Rattle.dyadic_num.proofs.Fractions.{lowest}
-use Rattle.game_store.specs.Tree.{Tree, Trees, node, none, more, neg}
-use Rattle.game_store.specs.Number.{half, is_even, count_tree, whole, num}
-use Rattle.game_store.specs.NumberText.{same, same_each, Fraction, over, between, guess, number_of, fraction_text, text_of_number, number_text}
-use Rattle.game_store.specs.Text.{text, texts, text_or, open_brace, bar, close_brace}
-use Rattle.game_store.specs.TextOrder.{tree_text}
-use Rattle.game_store.specs.Meaning.{number_tree}
-use Rattle.game_store.proofs.NumberLaws.{half-even, half-odd, is_even-double, num-even, num-odd}
-use Rattle.game_store.proofs.StopLaws.{num-scaled}
+use Rattle.short_games.specs.Tree.{Tree, Trees, node, none, more, neg}
+use Rattle.short_games.specs.Number.{half, is_even, count_tree, whole, num, number_tree}
+use Rattle.short_games.specs.NumberText.{same, same_each, Fraction, over, between, guess, number_of, fraction_text, text_of_number, number_text}
+use Rattle.short_games.specs.Text.{text, texts, text_or, open_brace, bar, close_brace}
+use Rattle.short_games.specs.TextOrder.{tree_text}
+use Rattle.short_games.proofs.NumberLaws.{half-even, half-odd, is_even-double, num-even, num-odd}
+use Rattle.short_games.proofs.StopLaws.{num-scaled}
 
 abbrev pub fraction : ℕ → ℤ → Fraction
 fraction e n = record { exponent = e; numerator = n }

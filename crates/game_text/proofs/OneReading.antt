@@ -1,26 +1,24 @@
 -- Reading a text comes to one thing.
 use Rattle.std.proofs.Common.{ℕ, suc, ◌<◌, ◌≤◌, ◌≡◌, List, [], ◌∷◌, length, arith, refl, inl, inr, sym, ◌∙◌, ap, ap₂, subst, ℤ}
 use Rattle.std.specs.Prelude.{Result, Ok, Err}
-use Rattle.game_store.specs.Tree.{Tree, Trees, node, none}
-use Rattle.game_store.specs.Text.{open_brace, comma}
-use Rattle.game_store.specs.TextOrder.{TextBefore, IsCanonicalFor}
-use Rattle.game_store.specs.Meaning.{number_tree}
-use Rattle.game_store.proofs.TextLaws.{head-is, tail-is, IsMore}
-use Rattle.game_store.proofs.TextOrderLaws.{tree_text-one_to_one, text-order}
-use Rattle.game_store.proofs.Existence.{canon}
+use Rattle.short_games.specs.Tree.{Tree, Trees, node, none}
+use Rattle.short_games.specs.Text.{open_brace, comma}
+use Rattle.short_games.specs.TextOrder.{TextBefore, IsCanonicalFor}
+use Rattle.short_games.specs.Number.{number_tree}
+use Rattle.short_games.proofs.TextLaws.{head-is, tail-is, IsMore}
+use Rattle.short_games.proofs.TextOrderLaws.{tree_text-one_to_one, text-order}
+use Rattle.short_games.proofs.Existence.{canon}
 use Rattle.game_text.proofs.Runs.{one-run, one-digits, more-length, run-first, run-some}
 use Rattle.game_text.proofs.NameKinds.{digits-bytes}
-use Rattle.game_store.specs.NumberText.{digits}
-use Rattle.game_store.proofs.NumberTextLaws.{digits-one_to_one}
+use Rattle.short_games.specs.NumberText.{digits}
+use Rattle.short_games.proofs.NumberTextLaws.{digits-one_to_one}
 use Rattle.game_canon.proofs.Sizes.{number-same}
 use Rattle.game_text.specs.NamedText.{nimber}
-use Rattle.game_text.specs.Reading.{IsDigitRun, EndsDigits, switch_below}
+use Rattle.game_text.specs.Reading.{IsDigitRun, EndsDigits, switch_below, IsNumberByte, IsNameByte, ReadsNimber, ReadsSwitch, ReadsName, IsNimberDigits, IsRun, IsNumberText, Fault, Outcome, behind, Side, left_side, right_side, mark_of, BeginsOtherwise, IsClosed, ReadsGame, ReadsOptions, ReadsMore, ReadsText}
 use Rattle.game_text.specs.Reading.ReadsNimber.{of_one, of_number, of_none}
-use Rattle.game_text.specs.Reading.ReadsSwitch.{of_negative, of_other, ends}
-use Rattle.game_text.specs.Reading.ReadsSwitch.{no_number as no_switch}
+use Rattle.game_text.specs.Reading.ReadsSwitch.{of_negative, of_other, ends, no_number as no_switch}
 use Rattle.game_text.specs.Reading.ReadsName.{a_nimber, an_up, a_down, a_switch}
 use Rattle.game_text.specs.Depth.{most_open}
-use Rattle.game_text.specs.Reading.{IsNumberByte, IsNameByte, ReadsNimber, ReadsSwitch, ReadsName, IsNimberDigits, IsRun, IsNumberText, Fault, Outcome, behind, Side, left_side, right_side, mark_of, BeginsOtherwise, IsClosed, ReadsGame, ReadsOptions, ReadsMore, ReadsText}
 use Rattle.game_text.specs.Reading.Fault.{bad_byte, bad_number, cut_short, too_deep}
 use Rattle.game_text.specs.Reading.Outcome.{reads, refused}
 use Rattle.game_text.specs.Reading.IsClosed.{taken, with_many_parts, far}

@@ -1,9 +1,9 @@
 -- What the reader's exits say.
 use Rattle.std.proofs.Common.{ℕ, ◌-◌, ◌≤◌, ◌≡◌, List, [], ◌∷◌, ◌++◌, length, take, drop, sym, ◌∙◌, ap, ap₂, subst}
 use Rattle.std.proofs.lemmas.List.{take_rest}
-use Rattle.game_store.specs.Tree.{Tree}
-use Rattle.game_store.specs.Meaning.{tree_at, listed}
-use Rattle.game_store.specs.Parts.{HasMoreParts}
+use Rattle.short_games.specs.Tree.{Tree, tree_at}
+use Rattle.game_store.specs.Meaning.{listed}
+use Rattle.short_games.specs.Parts.{HasMoreParts}
 use Rattle.game_canon.specs.Outcomes.{IsCanonicalId, IsPastBounds}
 use Rattle.game_text.specs.Machine.{IsFormTaken}
 use Rattle.std.specs.Prelude.{Result, Ok, Err, IfErr, IfOk, Option, Some, None, MatchOption, slice_range}

@@ -3,24 +3,23 @@ use Rattle.std.proofs.Common.{ℕ, zero, suc, ◌+◌, ◌-◌, ◌<◌, ◌≤�
 use Rattle.std.specs.Prelude.{None, Ok, Err}
 use Rattle.std.proofs.lemmas.List.{take-append-drop, get_or-drop, drop_all, length-take-le, drop-drop}
 use Rattle.std.proofs.lemmas.Bool.{cases_lt}
-use Rattle.game_store.specs.Tree.{Tree, none}
-use Rattle.game_store.specs.Text.{open_brace, comma}
-use Rattle.game_store.specs.TextOrder.{IsCanonicalFor}
-use Rattle.game_store.specs.Meaning.{tree_at, number_tree, Extends, IsIdOf}
-use Rattle.game_store.specs.Parts.{HasMoreParts}
-use Rattle.game_store.proofs.OrderLaws.{le-refl, le-trans}
-use Rattle.game_store.proofs.ReductionLaws.{number-canonical, canonical-same}
-use Rattle.game_text.specs.Reading.{Fault, Outcome}
+use Rattle.short_games.specs.Tree.{Tree, none, tree_at}
+use Rattle.short_games.specs.Text.{open_brace, comma}
+use Rattle.short_games.specs.TextOrder.{IsCanonicalFor}
+use Rattle.short_games.specs.Number.{number_tree}
+use Rattle.game_store.specs.Meaning.{Extends, IsIdOf}
+use Rattle.short_games.specs.Parts.{HasMoreParts}
+use Rattle.short_games.proofs.OrderLaws.{le-refl, le-trans}
+use Rattle.short_games.proofs.ReductionLaws.{number-canonical, canonical-same}
+use Rattle.game_text.specs.Reading.{Fault, Outcome, IsNumberByte, IsNameByte, ReadsName, IsClosed, IsReadRefusal, AreNumberBytes, EndsNumber, IsRun, IsNumberText, mark_of, BeginsOtherwise, ReadsText, Names, Refuses, RefusesAt}
 use Rattle.game_text.specs.Reading.Outcome.{reads, refused}
 use Rattle.game_text.specs.Reading.IsClosed.{taken, with_many_parts, far}
-use Rattle.game_text.specs.Machine.{IsTaken, IsRefusedBy}
+use Rattle.game_text.specs.Machine.{IsTaken, IsRefusedBy, Answer, Frame, on_left, side_in, State, first_option, a_game, other_options, all_read, Rest, opening_at, AreOpen, Keeps, IsReading, place_after, mark_at, EndsRunAt, IsEnded}
 use Rattle.game_text.specs.declared.errors.ReadError.{ReadError}
 use Rattle.game_text.specs.declared.errors.ReadError.TheVariants as error
 use Rattle.game_canon.specs.Outcomes.{IsCanonicalId}
 use Rattle.game_text.specs.Depth.{most_open}
-use Rattle.game_text.specs.Reading.{IsNumberByte, IsNameByte, ReadsName, IsClosed, IsReadRefusal, AreNumberBytes, EndsNumber, IsRun, IsNumberText, mark_of, BeginsOtherwise, ReadsText, Names, Refuses, RefusesAt}
 use Rattle.game_text.specs.Reading.Fault.{bad_byte, bad_number, cut_short, too_deep}
-use Rattle.game_text.specs.Machine.{Answer, Frame, on_left, side_in, State, first_option, a_game, other_options, all_read, Rest, opening_at, AreOpen, Keeps, IsReading, place_after, mark_at, EndsRunAt, IsEnded}
 use Rattle.game_text.specs.declared.pending.Opening.{Opening}
 use Rattle.game_text.specs.declared.pending.Place.{Place}
 use Rattle.game_text.specs.declared.pending.Place.TheVariants as place

@@ -1,7 +1,7 @@
 -- How the reader goes on along a text.
 use Rattle.std.proofs.Common.{ℕ, suc, ◌+◌, ◌<◌, ◌≡◌, List, [], ◌∷◌, ◌++◌, length, get_or, drop, arith, refl, ◌∙◌, ap, ap₂, append_assoc, length-append}
 use Rattle.std.proofs.Math.Seq.{drop-cons}
-use Rattle.game_store.specs.Tree.{Tree}
+use Rattle.short_games.specs.Tree.{Tree}
 use Rattle.game_store.specs.Meaning.{Extends}
 use Rattle.game_canon.specs.Outcomes.{IsCanonicalId}
 use Rattle.game_text.specs.Reading.{mark_of}

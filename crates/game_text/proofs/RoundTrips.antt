@@ -2,18 +2,17 @@
 use Rattle.std.proofs.Common.{ℕ, suc, ◌+◌, ◌<◌, ◌≤◌, ◌≡◌, List, [], ◌∷◌, ◌++◌, length, arith, refl, inl, inr, sym, ◌∙◌, ap, subst, ℤ, Some, None}
 use Rattle.std.specs.Prelude.{Option, max}
 use Rattle.dyadic_num.specs.Units.{IsInBounds}
-use Rattle.game_store.specs.Tree.{Tree, Trees, node, none, more, Has}
-use Rattle.game_store.specs.Number.{IsNumberTree}
-use Rattle.game_store.specs.NumberText.{Fraction, number_of, number_text, text_of_number}
-use Rattle.game_store.specs.Text.{text, texts, texts_rest, open_brace, bar, close_brace, comma}
-use Rattle.game_store.specs.TextOrder.{tree_text, TextBefore, IsCanonicalTree}
-use Rattle.game_store.specs.Meaning.{number_tree}
-use Rattle.game_store.specs.Parts.{IsOption, HasMoreParts}
-use Rattle.game_store.specs.Parts.IsFollower.{itself, further}
-use Rattle.game_store.proofs.NumberTextLaws.{number_of-is}
-use Rattle.game_store.proofs.TextOrderLaws.{text-order}
-use Rattle.game_store.proofs.CanonicalLaws.{canonical-left, canonical-right}
-use Rattle.game_store.proofs.ReductionLaws.{canonical-number, canonical-same}
+use Rattle.short_games.specs.Tree.{Tree, Trees, node, none, more, Has}
+use Rattle.short_games.specs.Number.{IsNumberTree, number_tree}
+use Rattle.short_games.specs.NumberText.{Fraction, number_of, number_text, text_of_number}
+use Rattle.short_games.specs.Text.{text, texts, texts_rest, open_brace, bar, close_brace, comma}
+use Rattle.short_games.specs.TextOrder.{tree_text, TextBefore, IsCanonicalTree}
+use Rattle.short_games.specs.Parts.{IsOption, HasMoreParts}
+use Rattle.short_games.specs.Parts.IsFollower.{itself, further}
+use Rattle.short_games.proofs.NumberTextLaws.{number_of-is}
+use Rattle.short_games.proofs.TextOrderLaws.{text-order}
+use Rattle.short_games.proofs.CanonicalLaws.{canonical-left, canonical-right}
+use Rattle.short_games.proofs.ReductionLaws.{canonical-number, canonical-same}
 use Rattle.game_text.specs.Depth.{depth, depths, depth_or, most_open}
 use Rattle.game_text.specs.Laws.{HasNumbersWithinBounds, IsReadable}
 use Rattle.game_text.specs.Reading.{IsNumberByte, AreNumberBytes, EndsNumber, Side, left_side, right_side, mark_of, BeginsOtherwise, IsClosed, ReadsGame, ReadsOptions, ReadsMore, Names}

@@ -1,6 +1,6 @@
 -- The longest run of bytes of numbers in front of bytes.
 use Rattle.std.proofs.Common.{ℕ, ◌<◌, ◌≡◌, List, [], ◌∷◌, ◌++◌, length, arith, refl, sym, ◌∙◌, ap₂, subst}
-use Rattle.game_store.proofs.TextLaws.{head-is, tail-is, IsMore}
+use Rattle.short_games.proofs.TextLaws.{head-is, tail-is, IsMore}
 use Rattle.game_text.specs.Reading.{IsNumberByte, AreNumberBytes, EndsNumber, IsRun, IsDigitByte, AreDigitBytes, EndsDigits, IsDigitRun}
 
 -- there is one longest run

@@ -2,9 +2,9 @@
 use Rattle.std.proofs.Common.{ℕ, ◌+◌, ◌-◌, ◌<◌, ◌≤◌, ◌≡◌, List, [], ◌∷◌, ◌++◌, length, get_or, take, drop, arith, refl, sym, ◌∙◌, ap, ap₂, subst, append_assoc, append-nil, length-append}
 use Rattle.std.specs.Prelude.{Option, Some, None, Err, slice_range}
 use Rattle.std.proofs.Math.Seq.{drop-append_seam}
-use Rattle.game_store.specs.Tree.{Tree, Trees, node, none}
-use Rattle.game_store.specs.Text.{close_brace}
-use Rattle.game_store.specs.Meaning.{tree_at, listed, AreIds, Extends}
+use Rattle.short_games.specs.Tree.{Tree, Trees, node, none, tree_at}
+use Rattle.short_games.specs.Text.{close_brace}
+use Rattle.game_store.specs.Meaning.{listed, AreIds, Extends}
 use Rattle.game_canon.specs.Outcomes.{IsCanonicalId, IsPastBounds}
 use Rattle.game_text.specs.Reading.{ReadsText, IsReadRefusal}
 use Rattle.game_text.specs.Reading.Fault.{too_many_parts, past_bounds}

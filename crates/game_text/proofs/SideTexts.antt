@@ -1,15 +1,15 @@
 -- The texts of options, sorted and joined, are what stands in the braces.
-use Rattle.std.proofs.Common.{ℕ, zero, suc, ◌<◌, ◌≡◌, ◌⊎◌, List, [], ◌∷◌, length, get_or, map, arith, refl, inl, inr, sym, ◌∙◌, ap, ap₂, subst, Some, None, Bool, true, false}
+use Rattle.std.proofs.Common.{ℕ, suc, ◌<◌, ◌≡◌, List, [], ◌∷◌, length, get_or, map, arith, refl, inl, inr, sym, ◌∙◌, ap, ap₂, subst, None, Bool, true, false}
 use Rattle.std.specs.Prelude.{Option, not, ◌&&◌}
 use Rattle.std.specs.List.{IsDistinct, AllByRecursion}
-use Rattle.std.specs.List.Sorted.{IsPermutation, IsSortedBy, ties}
+use Rattle.std.specs.List.Sorted.{IsPermutation, ties}
 use Rattle.std.proofs.lemmas.List.Sorted.{IsPermutation-sym}
 use Rattle.std.proofs.lemmas.Map.Keys.{IsDistinct-IsPermutation}
-use Rattle.game_store.specs.Tree.{Tree, Trees, none, more, Has}
-use Rattle.game_store.specs.TextOrder.{lesser_text, sorted}
-use Rattle.game_store.specs.Meaning.{tree_at, pick, form, AreIds, IsAscending, AreDistinct, AreCanonical}
+use Rattle.short_games.specs.Tree.{Tree, Trees, none, more, Has, tree_at, AreDistinct}
+use Rattle.short_games.specs.TextOrder.{lesser_text, sorted}
+use Rattle.game_store.specs.Meaning.{pick, AreIds, IsAscending, AreCanonical}
 use Rattle.game_store.specs.Forms.{IsOptions}
-use Rattle.game_store.proofs.TextOrderLaws.{sorted-has, has-sorted}
+use Rattle.short_games.proofs.TextOrderLaws.{sorted-has, has-sorted}
 use Rattle.game_text.specs.declared.texts.Span.{Span}
 use Rattle.game_text.specs.NamedText.{name, in_braces, named_text, named_texts}
 use Rattle.game_text.specs.Written.{text_at, HaveTexts, AreSideTexts, IsBracesText}

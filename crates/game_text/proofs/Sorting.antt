@@ -8,7 +8,7 @@ use Rattle.std.proofs.lemmas.Bool.{ltb-true, eqb-true}
 use Rattle.std.proofs.lemmas.List.{take_all, get_or-map, length-map}
 use Rattle.std.proofs.lemmas.List.Sorted.{IsPermutation-map}
 use denote.Bor.{Bor}
-use Rattle.game_store.specs.TextOrder.{lesser_text}
+use Rattle.short_games.specs.TextOrder.{lesser_text}
 
 lesser-step : (x y : ℕ) (xs ys : List ℕ) → lesser_text (x ∷ xs) (y ∷ ys) ≡ cond (nat_eq x y) (lesser_text xs ys) (nat_lt x y)
 unfolding lesser_text

@@ -1,10 +1,10 @@
 -- A named text ends where it ends: what stands in braces is known by its bytes.
-use Rattle.std.proofs.Common.{ℕ, suc, ◌<◌, ◌≡◌, ◌⊎◌, List, [], ◌∷◌, ◌++◌, arith, refl, inl, inr, sym, ◌∙◌, ap, ap₂, subst, Bool, true, false, cond, append_assoc, append-nil}
+use Rattle.std.proofs.Common.{ℕ, ◌<◌, ◌≡◌, ◌⊎◌, List, [], ◌∷◌, ◌++◌, arith, refl, inl, inr, sym, ◌∙◌, ap, ap₂, subst, Bool, true, false, cond, append_assoc}
 use Rattle.std.specs.List.{flat_map}
 use Rattle.std.proofs.lemmas.List.Concat.{flat_map-cons}
-use Rattle.game_store.specs.Text.{open_brace, bar, close_brace, comma}
-use Rattle.game_store.specs.TextOrder.{lesser_text}
-use Rattle.game_store.proofs.TextLaws.{head-is, tail-is, IsMore}
+use Rattle.short_games.specs.Text.{open_brace, bar, close_brace, comma}
+use Rattle.short_games.specs.TextOrder.{lesser_text}
+use Rattle.short_games.proofs.TextLaws.{head-is, tail-is, IsMore}
 use Rattle.game_text.specs.NamedText.{insert_text, joined, in_braces}
 
 -- the bytes of names: none of `,`, `{`, `|` and `}`

@@ -12,8 +12,8 @@ use Rattle.std.proofs.Math.Nat.{le-mul_of_pos_right}
 use Rattle.std.proofs.Math.Pow.{pow_pos}
 use Rattle.std.proofs.Math.Seq.{get_or-append_seam}
 use Rattle.dyadic_num.specs.Units.{IsInBounds, IsFraction, IsLowest}
-use Rattle.game_store.specs.TextOrder.{tree_text}
-use Rattle.game_store.specs.Meaning.{number_tree}
+use Rattle.short_games.specs.TextOrder.{tree_text}
+use Rattle.short_games.specs.Number.{number_tree}
 use Rattle.game_text.specs.Reading.{AreNumberBytes, IsNumberText}
 use Rattle.game_text.specs.Slashes.{HasNoSlash, IsFirstSlash}
 use Rattle.game_text.proofs.NumberTexts.{number_of-num, reduced-lowest}

@@ -2,16 +2,16 @@
 use Rattle.std.proofs.Common.{ℕ, ◌<◌, ◌≡◌, List, length, arith, refl, inl, inr, sym, ◌∙◌, subst, ℤ}
 use Rattle.std.specs.Prelude.{Result, Ok}
 use Rattle.dyadic_num.specs.Units.{IsInBounds}
-use Rattle.game_store.specs.Tree.{Tree}
-use Rattle.game_store.specs.Number.{IsNumberTree}
-use Rattle.game_store.specs.TextOrder.{tree_text}
-use Rattle.game_store.specs.Meaning.{Wanted, tree_at, number_tree, AreDistinct, Extends}
+use Rattle.short_games.specs.Tree.{Tree, tree_at, AreDistinct}
+use Rattle.short_games.specs.Number.{IsNumberTree, number_tree}
+use Rattle.short_games.specs.TextOrder.{tree_text}
+use Rattle.game_store.specs.Meaning.{Wanted, Extends}
 use Rattle.game_store.specs.Meaning.Wanted.{number, options}
 use Rattle.game_store.specs.Forms.{HaveForms, IsMeaning, IsWithinBounds}
-use Rattle.game_store.specs.Parts.{IsOption, IsFollower}
-use Rattle.game_store.specs.Parts.IsFollower.{itself, further}
+use Rattle.short_games.specs.Parts.{IsOption, IsFollower}
+use Rattle.short_games.specs.Parts.IsFollower.{itself, further}
 use Rattle.game_store.proofs.Values.{has-pick}
-use Rattle.game_store.proofs.ReductionLaws.{canonical-same}
+use Rattle.short_games.proofs.ReductionLaws.{canonical-same}
 use Rattle.game_canon.specs.Outcomes.{IsCanonicalId}
 use Rattle.game_canon.proofs.GameLaws.{has-left, has-right}
 use Rattle.game_canon.proofs.ReachableLaws.{hot-before}

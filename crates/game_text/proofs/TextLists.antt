@@ -9,7 +9,7 @@ use Rattle.std.specs.Cmp.Lexicographic.{slice_cmp, nat_list_cmp_total}
 use Rattle.std.specs.FinSet.{slice_cmp-IsAntisymmetric, nat_cmp-IsAntisymmetric}
 use Rattle.std.proofs.lemmas.Bool.{true≢false}
 use Rattle.std.proofs.lemmas.List.Sorted.{Contains-permutation}
-use Rattle.game_store.specs.TextOrder.{lesser_text}
+use Rattle.short_games.specs.TextOrder.{lesser_text}
 use Rattle.game_text.specs.NamedText.{insert_text}
 use Rattle.game_text.proofs.Sorting.{order-is}
 

@@ -2,20 +2,19 @@
 use Rattle.std.proofs.Common.{ℕ, ◌+◌, ◌<◌, ◌≤◌, ◌≡◌, List, [], ◌∷◌, ◌++◌, length, get_or, arith, refl, inl, inr, sym, ◌∙◌, ap, subst, Some, None, Bool, true, false, cond, nat_eq, length-append, append-nil, zero, suc, ℤ, pos}
 use Rattle.std.specs.Prelude.{Option, Result, Err, IfErr}
 use Rattle.std.proofs.lemmas.Bool.{cases_lt, eqb-true, eq-eqb}
-use Rattle.game_store.specs.Tree.{Tree, Trees, node, none, more, Has}
-use Rattle.game_store.specs.Number.{num}
-use Rattle.game_store.specs.NumberText.{fraction_text, text_of_number, number_text}
-use Rattle.game_store.specs.Text.{bar, close_brace}
-use Rattle.game_store.proofs.NumberTextLaws.{number_of-is}
-use Rattle.game_store.proofs.PartLaws.{number-option}
+use Rattle.short_games.specs.Tree.{Tree, node, tree_at, AreDistinct}
+use Rattle.short_games.specs.Number.{num}
+use Rattle.short_games.specs.NumberText.{fraction_text, text_of_number, number_text}
+use Rattle.short_games.specs.Text.{bar, close_brace}
+use Rattle.short_games.proofs.NumberTextLaws.{number_of-is}
+use Rattle.short_games.proofs.PartLaws.{number-option}
 use Rattle.game_text.specs.NamedText.{nimber, name, in_braces, named_text, named_texts}
-use Rattle.game_store.specs.Meaning.{tree_at, AreDistinct}
 use Rattle.game_store.specs.Forms.{IsOptions}
-use Rattle.game_store.specs.Parts.{IsOption, IsFollower}
-use Rattle.game_store.specs.Parts.IsFollower.{itself, further}
+use Rattle.short_games.specs.Parts.{IsOption, IsFollower, IsReached}
+use Rattle.short_games.specs.Parts.IsFollower.{itself, further}
 use Rattle.game_store.proofs.Values.{pick-has, range-more, last-range}
 use Rattle.game_canon.specs.Changes.{AreClosed}
-use Rattle.game_canon.specs.Reachable.{IsReached, AreReachable}
+use Rattle.game_canon.specs.Reachable.{AreReachable}
 use Rattle.game_canon.proofs.GameLaws.{left-has, right-has}
 use Rattle.game_text.specs.declared.texts.Span.{Span}
 use Rattle.game_text.specs.declared.errors.WriteError.{WriteError}

@@ -1,7 +1,7 @@
 -- How deep the braces of a tree's text nest.
 use Rattle.std.specs.Prelude.{ℕ, suc, max, Option, Some, None}
-use Rattle.game_store.specs.Tree.{Tree, Trees, node, none, more}
-use Rattle.game_store.specs.NumberText.{Fraction, number_of}
+use Rattle.short_games.specs.Tree.{Tree, Trees, node, none, more}
+use Rattle.short_games.specs.NumberText.{Fraction, number_of}
 
 -- the most braces that may be open at once
 abbrev pub most_open : ℕ

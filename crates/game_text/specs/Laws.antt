@@ -1,15 +1,14 @@
 -- The laws of texts.
 use Rattle.std.specs.Prelude.{ℕ, ◌≡◌, ◌↔◌, ◌<◌, ◌≤◌, ℤ, List, length, Result}
 use Rattle.dyadic_num.specs.Units.{IsInBounds}
-use Rattle.game_store.specs.Tree.{Tree}
-use Rattle.game_store.specs.Order.{◌≡ᵍ◌}
-use Rattle.game_store.specs.Number.{IsNumberTree}
-use Rattle.game_store.specs.TextOrder.{tree_text, IsCanonicalTree, IsCanonicalFor}
-use Rattle.game_store.specs.Meaning.{tree_at, number_tree, AreDistinct, Extends}
+use Rattle.short_games.specs.Tree.{Tree, tree_at, AreDistinct}
+use Rattle.short_games.specs.Order.{◌≡ᵍ◌}
+use Rattle.short_games.specs.Number.{IsNumberTree, number_tree}
+use Rattle.short_games.specs.TextOrder.{tree_text, IsCanonicalTree, IsCanonicalFor}
+use Rattle.game_store.specs.Meaning.{Extends}
 use Rattle.game_store.specs.Forms.{HaveForms}
-use Rattle.game_store.specs.Parts.{HasMoreParts}
+use Rattle.short_games.specs.Parts.{HasMoreParts, IsReached}
 use Rattle.game_canon.specs.Outcomes.{IsCanonicalId}
-use Rattle.game_canon.specs.Reachable.{IsReached}
 use Rattle.game_text.specs.Depth.{depth, most_open}
 use Rattle.game_text.specs.NamedText.{named_text, named_depth}
 use Rattle.game_text.specs.Reading.{Fault, most_nimber, ReadsText, Names}

@@ -1,13 +1,12 @@
 -- Where the reader stands in a text: the forms that are open, and what the rest of the text then comes to.
 use Rattle.std.specs.Prelude.{ℕ, suc, ◌≡◌, ◌+◌, ◌<◌, ◌≤◌, List, [], ◌∷◌, ◌++◌, length, drop, Option, Some, None, Result, Ok, Err}
 use Rattle.std.specs.List.{slice_index_or}
-use Rattle.game_store.specs.Tree.{Tree, Trees, node, none, more, ◌then◌}
-use Rattle.game_store.specs.Meaning.{tree_at, listed}
-use Rattle.game_store.specs.Parts.{HasMoreParts}
+use Rattle.short_games.specs.Tree.{Tree, Trees, node, none, more, ◌then◌, tree_at}
+use Rattle.game_store.specs.Meaning.{listed}
+use Rattle.short_games.specs.Parts.{HasMoreParts}
 use Rattle.game_canon.specs.Outcomes.{IsCanonicalId, IsPastBounds, IsCause}
-use Rattle.game_text.specs.Reading.{Fault, Outcome, Side, left_side, right_side, mark_of, IsNumberByte, EndsNumber, IsClosed, ReadsGame, ReadsOptions, ReadsMore, ReadsText}
+use Rattle.game_text.specs.Reading.{Fault, Outcome, Side, left_side, right_side, mark_of, IsNumberByte, EndsNumber, IsClosed, ReadsGame, ReadsOptions, ReadsMore, ReadsText, IsDigitByte, EndsDigits}
 use Rattle.game_text.specs.Reading.Fault.{bad_byte, bad_number, cut_short}
-use Rattle.game_text.specs.Reading.{IsDigitByte, EndsDigits}
 use Rattle.game_text.specs.declared.named_games.Found.{Found}
 use Rattle.game_text.specs.declared.errors.ReadError.{ReadError}
 use Rattle.game_text.specs.declared.errors.ReadError.TheVariants as error

@@ -1,12 +1,12 @@
 -- The named text of a tree: small games by their usual names (Siegel), all others as `{`, `|` and `}` with named texts.
 use Rattle.std.specs.Prelude.{ℕ, zero, suc, Bool, false, cond, nat_lt, max, ◌&&◌, ℤ, pos, negsuc, neg_ℤ, List, [], ◌∷◌, ◌++◌, Option, Some, None}
 use Rattle.std.specs.List.{flat_map}
-use Rattle.game_store.specs.Tree.{Tree, Trees, node, none, more, left}
-use Rattle.game_store.specs.Number.{num}
-use Rattle.game_store.specs.NumberText.{same, Fraction, guess, digits, fraction_text, number_text}
-use Rattle.game_store.specs.Text.{open_brace, bar, close_brace, comma}
-use Rattle.game_store.specs.TextOrder.{lesser_text, sorted}
-use Rattle.game_canon.specs.Examples.{choice}
+use Rattle.short_games.specs.Tree.{Tree, Trees, node, none, more, left}
+use Rattle.short_games.specs.Number.{num}
+use Rattle.short_games.specs.NumberText.{same, Fraction, guess, digits, fraction_text, number_text}
+use Rattle.short_games.specs.Text.{open_brace, bar, close_brace, comma}
+use Rattle.short_games.specs.TextOrder.{lesser_text, sorted}
+use Rattle.short_games.specs.Examples.{choice}
 
 -- the nimbers of the numbers below n
 unfoldable pub nimbers_below : ℕ → Trees

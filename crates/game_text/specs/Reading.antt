@@ -3,14 +3,14 @@
 --     options = [ game { "," game } ]
 use Rattle.std.specs.Prelude.{ℕ, suc, ◌≡◌, ◌+◌, ◌<◌, ◌≤◌, ◌⊎◌, ℤ, pos, neg_ℤ, ◌<ℤ◌, List, [], ◌∷◌, ◌++◌, length, Result, Ok, Err}
 use Rattle.dyadic_num.specs.Units.{IsInBounds}
-use Rattle.game_store.specs.Tree.{Tree, Trees, node, none, more}
-use Rattle.game_store.specs.Text.{open_brace, bar, close_brace, comma}
-use Rattle.game_store.specs.TextOrder.{tree_text, IsCanonicalFor}
-use Rattle.game_store.specs.Meaning.{number_tree}
-use Rattle.game_store.specs.NumberText.{digits}
-use Rattle.game_canon.specs.Examples.{choice}
+use Rattle.short_games.specs.Tree.{Tree, Trees, node, none, more}
+use Rattle.short_games.specs.Text.{open_brace, bar, close_brace, comma}
+use Rattle.short_games.specs.TextOrder.{tree_text, IsCanonicalFor}
+use Rattle.short_games.specs.Number.{number_tree}
+use Rattle.short_games.specs.NumberText.{digits}
+use Rattle.short_games.specs.Examples.{choice}
 use Rattle.game_text.specs.NamedText.{nimber, up, down}
-use Rattle.game_store.specs.Parts.{HasMoreParts}
+use Rattle.short_games.specs.Parts.{HasMoreParts}
 use Rattle.game_canon.specs.Outcomes.{IsPastBounds, IsCause}
 use Rattle.game_canon.specs.declared.errors.FormError.TheVariants.{Parts}
 use Rattle.game_text.specs.Depth.{most_open}

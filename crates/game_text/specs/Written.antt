@@ -2,12 +2,12 @@
 use Rattle.std.specs.Prelude.{ℕ, ◌≡◌, ◌<◌, ◌≤◌, ℤ, pos, neg_ℤ, ◌<ℤ◌, ◌⊎◌, true, List, [], ◌∷◌, ◌++◌, length, map, slice_range, Option, Some, None, cond, nat_eq}
 use Rattle.std.specs.List.{slice_index_or}
 use Rattle.std.specs.List.Sorted.{IsPermutation, IsSortedBy}
-use Rattle.game_store.specs.Tree.{Tree}
-use Rattle.game_store.specs.Number.{num}
-use Rattle.game_store.specs.NumberText.{Fraction}
-use Rattle.game_store.specs.TextOrder.{tree_text, lesser_text}
-use Rattle.game_store.specs.Meaning.{tree_at, number_tree, AreIds, IsAscending}
-use Rattle.game_canon.specs.Reachable.{IsInner}
+use Rattle.short_games.specs.Tree.{Tree, tree_at}
+use Rattle.short_games.specs.Number.{num, number_tree}
+use Rattle.short_games.specs.NumberText.{Fraction}
+use Rattle.short_games.specs.TextOrder.{tree_text, lesser_text}
+use Rattle.game_store.specs.Meaning.{AreIds, IsAscending}
+use Rattle.short_games.specs.Parts.{IsInner}
 use Rattle.game_text.specs.NamedText.{nimber, is_positive, joined, in_braces, name, named_text}
 use Rattle.game_text.specs.declared.texts.Span.{Span}
 use Rattle.game_text.specs.declared.errors.WriteError.{WriteError}

@@ -1,12 +1,10 @@
 //! Laws of texts, each the contract of a function that does nothing.
 
-ghost use Rattle.game_text.specs.Laws.{OneReading, RoundTrip, StoresKeepBounds, IdsComeBack};
-ghost use Rattle.game_text.specs.Laws.{NamedTextsTellTrees, NamedTextsTellGames};
-ghost use Rattle.game_text.specs.Laws.{NamedRoundTrip, NamedIdsComeBack};
+ghost use Rattle.game_text.specs.Laws.{OneReading, RoundTrip, StoresKeepBounds, IdsComeBack, NamedTextsTellTrees, NamedTextsTellGames, NamedRoundTrip, NamedIdsComeBack};
 
 /// A text names at most one form, or is refused for one reason; the text of a canonical form that can be read back names
-/// it; and what is written of an id is read back as the id. Trees of equal texts are equal: that is `text_law` of
-/// `game_canon`.
+/// it; and what is written of an id is read back as the id. Trees of equal texts are equal: that is `text_laws` of
+/// `short_games`.
 pub fn text_laws()
     ensures one_reading { OneReading }
     ensures round_trip { RoundTrip }
@@ -14,8 +12,8 @@ pub fn text_laws()
     ensures ids { IdsComeBack }
 {}
 
-/// A canonical form is known by its named text, and so is its game; what is written of an id is read back as the id. For texts without names that is `text_law` of
-/// `game_canon`.
+/// A canonical form is known by its named text, and so is its game; what is written of an id is read back as the id. For texts without names that is `text_laws` of
+/// `short_games`.
 pub fn named_text_law()
     ensures trees { NamedTextsTellTrees }
     ensures games { NamedTextsTellGames }

@@ -1,10 +1,11 @@
 //! Games that are read by their names.
 
-ghost use Rattle.std.specs.Prelude.{◌≡◌, ◌<◌, ◌≤◌, ◌↔◌, ◌+◌, ◌-◌, ◌<ℤ◌, ◌^◌, ℕ, ℤ, pos, neg_ℤ, length, take, drop};
-ghost use Rattle.std.specs.Prelude.{IfOk, IfErr, OnOk, IsTrue, MatchOption, slice_index};
+ghost use Rattle.std.specs.Prelude.{◌≡◌, ◌<◌, ◌≤◌, ◌↔◌, ◌+◌, ◌-◌, ◌<ℤ◌, ◌^◌, ℕ, ℤ, pos, neg_ℤ, length, take, drop, IfOk, IfErr, OnOk, IsTrue, MatchOption, slice_index};
 ghost use Rattle.std.specs.Fmt.{decimal};
-ghost use Rattle.game_store.specs.Meaning.{number_tree, tree_at, Extends, IsIdOf};
-ghost use Rattle.game_canon.specs.Examples.{choice};
+ghost use Rattle.short_games.specs.Number.{number_tree};
+ghost use Rattle.short_games.specs.Tree.{tree_at};
+ghost use Rattle.game_store.specs.Meaning.{Extends, IsIdOf};
+ghost use Rattle.short_games.specs.Examples.{choice};
 ghost use Rattle.game_text.specs.NamedText.{down, nimber, up};
 ghost use Rattle.game_text.specs.Reading.{IsDigitByte, IsNimberDigits, ReadsNimber, ReadsSwitch, switch_below};
 ghost use Rattle.game_text.specs.Reading.Outcome.{reads};

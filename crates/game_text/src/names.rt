@@ -1,16 +1,13 @@
 //! The names of small games (Siegel, Combinatorial Game Theory).
 
-ghost use Rattle.std.specs.Prelude.{◌≡◌, ◌<◌, ◌∷◌, ◌↔◌, [], ℕ, List, cond, nat_eq, nat_lt, neg_ℤ, ◌<ℤ◌, pos};
-ghost use Rattle.std.specs.Prelude.{length, slice_index, IfOk, IsTrue, MatchOption, None, Some};
+ghost use Rattle.std.specs.Prelude.{◌≡◌, ◌<◌, ◌∷◌, ◌↔◌, [], ℕ, List, cond, nat_eq, nat_lt, neg_ℤ, ◌<ℤ◌, pos, length, slice_index, IfOk, IsTrue, MatchOption, None, Some};
 ghost use Rattle.indexmap.specs.IndexMap.{get};
-ghost use Rattle.game_store.specs.Number.{IsNumberTree};
-ghost use Rattle.game_store.specs.Meaning.{number_tree, tree_at, AreDistinct};
+ghost use Rattle.short_games.specs.Number.{IsNumberTree, number_tree};
+ghost use Rattle.short_games.specs.Tree.{tree_at, AreDistinct};
 ghost use Rattle.game_store.specs.Forms.{IsOptions};
 ghost use Rattle.game_canon.specs.Changes.{AreClosed};
 ghost use Rattle.game_text.specs.NamedText.{name, nimber, nimber_name};
-ghost use Rattle.game_text.specs.Written.{text_at, AreFound, AreNimbers, HasOptionTexts, HasText};
-ghost use Rattle.game_text.specs.Written.{IsAmong, IsNamedPair, IsPairName, IsSwitchName};
-ghost use Rattle.game_text.specs.Written.{IsSwitchPair, IsWithin};
+ghost use Rattle.game_text.specs.Written.{text_at, AreFound, AreNimbers, HasOptionTexts, HasText, IsAmong, IsNamedPair, IsPairName, IsSwitchName, IsSwitchPair, IsWithin};
 
 use crate::numbers::number_text;
 use crate::texts::{Texts, text_of};

@@ -2,8 +2,8 @@
 
 ghost use Rattle.std.specs.Prelude.{◌≡◌, ◌<◌, ◌≤◌, ◌^◌, ℕ, ℤ, pos, unsigned_abs, Some, length, slice_index, IsTrue, ◌↔◌, IfOk, MatchOption, string_bytes};
 ghost use Rattle.std.specs.Fmt.{decimal, signed_decimal};
-ghost use Rattle.game_store.specs.TextOrder.{tree_text};
-ghost use Rattle.game_store.specs.Meaning.{number_tree};
+ghost use Rattle.short_games.specs.TextOrder.{tree_text};
+ghost use Rattle.short_games.specs.Number.{number_tree};
 ghost use Rattle.game_text.specs.Reading.{IsNumberText};
 ghost use Rattle.game_text.specs.Slashes.{HasNoSlash, IsFirstSlash};
 

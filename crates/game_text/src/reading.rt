@@ -1,7 +1,7 @@
 //! Reading.
 
 ghost use Rattle.std.specs.Prelude.{◌≡◌, ◌<◌, ◌≤◌, ◌+◌, ◌++◌, ◌∷◌, [], ◌↔◌, List, length, slice_index, slice_range, take, drop, None, IsTrue, IfOk, IfErr, OnOk};
-ghost use Rattle.game_store.specs.Tree.{Tree};
+ghost use Rattle.short_games.specs.Tree.{Tree};
 ghost use Rattle.game_store.specs.Meaning.{listed, AreIds, Extends};
 ghost use Rattle.game_canon.specs.Outcomes.{IsCanonicalId};
 ghost use Rattle.game_text.specs.Reading.{IsNameByte, IsNumberByte, IsReadRefusal, Names, ReadsName};

@@ -3,7 +3,7 @@
 ghost use Rattle.std.specs.Prelude.{◌≡◌, ◌++◌, ℕ, List, nat_eq, map, IfOk, OnOk};
 ghost use Rattle.std.specs.List.Sorted.{IsPermutation, IsSortedBy};
 ghost use Rattle.indexmap.specs.IndexMap.{get};
-ghost use Rattle.game_store.specs.TextOrder.{lesser_text};
+ghost use Rattle.short_games.specs.TextOrder.{lesser_text};
 ghost use Rattle.game_text.specs.Written.{IsAppended, IsWithin, AreKept, IsSideText, IsBracesText, text_at};
 ghost use Rattle.game_text.specs.NamedText.{joined};
 

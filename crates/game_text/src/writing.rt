@@ -2,8 +2,7 @@
 
 ghost use Rattle.std.specs.Prelude.{◌≡◌, ◌<◌, ◌≤◌, ◌^◌, ℕ, List, nat_eq, length, slice_index, IfOk, IfErr, OnOk};
 ghost use Rattle.indexmap.specs.IndexMap.{get};
-ghost use Rattle.game_store.specs.Tree.{Tree};
-ghost use Rattle.game_store.specs.Meaning.{tree_at, AreDistinct};
+ghost use Rattle.short_games.specs.Tree.{Tree, tree_at, AreDistinct};
 ghost use Rattle.game_store.specs.Forms.{IsOptions};
 ghost use Rattle.game_canon.specs.Changes.{AreClosed};
 ghost use Rattle.game_text.specs.NamedText.{named_depth, named_text};

@@ -4,11 +4,10 @@ use Rattle.desk_io.specs.Files.{Told, Loads}
 use Rattle.desk_io.specs.Files.Told.{untold, absent, holding}
 use Rattle.desk_io.specs.declared.shelf.Loaded.TheVariants.{Longer}
 use Rattle.sgf_tree.specs.Grammar.{PropertyText}
-use Rattle.sgf_tree.specs.Reading.{IsAnswer}
+use Rattle.sgf_tree.specs.Reading.{IsAnswer, Answers}
 use Rattle.sgf_tree.specs.Reading.Answer.{line}
 use Rattle.sgf_tree.specs.declared.fault.SgfError.{SgfError}
 use Rattle.sgf_tree.specs.declared.fault.SgfError.TheVariants as sgf
-use Rattle.sgf_tree.specs.Reading.{Answers}
 use Rattle.sgf_tree.specs.declared.tree.Tree.{Tree}
 use Rattle.sgf_tree.specs.declared.fault.TreeFault.{TreeFault}
 use Rattle.sgf_tree.specs.declared.fault.TreeFault.TheVariants.{NoTree, BadByte, CutShort, TooDeep}

@@ -7,13 +7,13 @@ use Rattle.go_grid.specs.declared.grid.Colour.{Colour}
 use Rattle.go_grid.specs.declared.grid.Colour.TheVariants.{Black, White}
 use Rattle.local_graph.specs.declared.graph.Edge.{Edge}
 use Rattle.local_graph.specs.Graph.{no_edge}
-use Rattle.game_store.specs.Tree.{Tree}
-use Rattle.game_store.specs.Sum.{◌+ᵍ◌}
-use Rattle.game_store.specs.TextOrder.{IsCanonicalFor}
-use Rattle.game_store.specs.Meaning.{tree_at, AreIds, Extends}
-use Rattle.game_store.specs.Parts.{IsNumberOf}
+use Rattle.short_games.specs.Tree.{Tree, tree_at}
+use Rattle.short_games.specs.Sum.{◌+ᵍ◌}
+use Rattle.short_games.specs.TextOrder.{IsCanonicalFor}
+use Rattle.game_store.specs.Meaning.{AreIds, Extends}
+use Rattle.short_games.specs.Parts.{IsNumberOf}
 use Rattle.game_canon.specs.Outcomes.{AreWithin}
-use Rattle.game_canon.specs.Players.{gain}
+use Rattle.sum_outcome.specs.Players.{gain}
 use Rattle.local_value.specs.declared.memo.Options.{Options}
 use Rattle.local_value.specs.Valuing.{noted, IsNoted, tree_after, IsWithinAfter, AreWithinAfter, IsAfter, AreAfter, AreBothAfter, IsAdded}
 

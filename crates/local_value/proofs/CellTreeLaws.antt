@@ -3,10 +3,10 @@ use Rattle.std.proofs.Common.{ℕ, zero, suc, ◌≡◌, ◌≤◌, refl, sym, a
 use Rattle.go_grid.specs.declared.grid.Cell.{Cell}
 use Rattle.go_grid.specs.declared.grid.Colour.{Colour}
 use Rattle.go_grid.specs.declared.region.Touch.{Touch}
-use Rattle.game_store.specs.Tree.{Tree}
-use Rattle.game_store.specs.Order.{◌≡ᵍ◌}
-use Rattle.game_store.specs.Sum.{◌+ᵍ◌}
-use Rattle.game_canon.specs.Players.{gain}
+use Rattle.short_games.specs.Tree.{Tree}
+use Rattle.short_games.specs.Order.{◌≡ᵍ◌}
+use Rattle.short_games.specs.Sum.{◌+ᵍ◌}
+use Rattle.sum_outcome.specs.Players.{gain}
 use Rattle.local_value.specs.Ending.{EndsWithin}
 use Rattle.local_value.specs.Laws.{MovesTo, TreesExist}
 use Rattle.local_value.specs.LocalGame.{Step, StepsTo, tree_within}

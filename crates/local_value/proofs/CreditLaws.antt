@@ -5,17 +5,18 @@ use Rattle.std.proofs.lemmas.Int.{ints}
 use Rattle.go_grid.specs.declared.grid.Colour.{Colour}
 use Rattle.go_grid.specs.declared.grid.Colour.TheVariants.{Black, White}
 use Rattle.local_graph.specs.declared.graph.Edge.{Edge}
-use Rattle.game_store.specs.Tree.{Tree}
-use Rattle.game_store.specs.Sum.{◌+ᵍ◌}
-use Rattle.game_store.specs.TextOrder.{IsCanonicalFor}
-use Rattle.game_store.specs.Meaning.{tree_at, number_tree, AreCanonical, Extends}
+use Rattle.short_games.specs.Tree.{Tree, tree_at}
+use Rattle.short_games.specs.Sum.{◌+ᵍ◌}
+use Rattle.short_games.specs.TextOrder.{IsCanonicalFor}
+use Rattle.short_games.specs.Number.{number_tree}
+use Rattle.game_store.specs.Meaning.{AreCanonical, Extends}
 use Rattle.game_store.specs.Forms.{HaveForms}
-use Rattle.game_store.specs.Parts.{IsNumberOf}
-use Rattle.game_store.proofs.StopLaws.{num-scaled}
+use Rattle.short_games.specs.Parts.{IsNumberOf}
+use Rattle.short_games.proofs.StopLaws.{num-scaled}
 use Rattle.game_canon.specs.declared.errors.FormError.TheVariants.{Bounds}
 use Rattle.game_canon.specs.Changes.{IsSumRefusal}
 use Rattle.game_canon.specs.Outcomes.{IsCanonicalId}
-use Rattle.game_canon.specs.Players.{credit, gain}
+use Rattle.sum_outcome.specs.Players.{credit, gain}
 use Rattle.game_canon.proofs.NumberParts.{sum-fits, same-sum}
 use Rattle.local_value.specs.Memo.{stones_units, IsStonesSum}
 use Rattle.local_value.specs.Valuing.{noted, IsWithinAfter, IsAfter}

@@ -1,14 +1,15 @@
 -- A depth that no play is longer than is as good as a greater one, where local moves are a relation.
 use Rattle.std.proofs.Common.{ℕ, zero, suc, [], ◌∷◌, subst, arith}
 use Rattle.go_grid.specs.declared.grid.Colour.{Colour}
-use Rattle.game_store.specs.Tree.{Tree, Has, left, right}
+use Rattle.short_games.specs.Tree.{Tree, Has, left, right}
 use Rattle.go_grid.specs.declared.grid.Colour.TheVariants.{Black, White}
-use Rattle.game_store.specs.Order.{◌≡ᵍ◌}
-use Rattle.game_store.specs.Sum.{◌+ᵍ◌}
-use Rattle.game_canon.specs.Players.{options, gain}
+use Rattle.short_games.specs.Order.{◌≡ᵍ◌}
+use Rattle.short_games.specs.Sum.{◌+ᵍ◌}
+use Rattle.sum_outcome.specs.Players.{options, gain}
 use Rattle.local_value.specs.LocalGame.{Step}
 use Rattle.local_value.specs.PositionTree.{IsTree, PlaysAreShort}
-use Rattle.game_canon.proofs.PlayerLaws.{same-refl, same-path, same-sym, same-trans, same-plus}
+use Rattle.short_games.proofs.OrderLaws.{same-refl, same-path, same-sym, same-trans}
+use Rattle.short_games.proofs.SumLaws.{same-plus}
 use Rattle.local_value.proofs.PositionLaws.{same_options}
 
 module _ (P : Type 0) (IsMove : Colour → P → Step P → Type 0) where

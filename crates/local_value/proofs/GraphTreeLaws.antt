@@ -6,10 +6,10 @@ use Rattle.go_grid.specs.Region.{Region}
 use Rattle.local_play.specs.LocalPlay.{IsLocalMove, IsNumberTaken}
 use Rattle.local_graph.specs.Graph.{Graph, edges_at}
 use Rattle.local_graph.proofs.PlayLemmas.{plays_long}
-use Rattle.game_store.specs.Tree.{Tree, Has}
-use Rattle.game_store.specs.Order.{◌≡ᵍ◌}
-use Rattle.game_store.specs.Sum.{◌+ᵍ◌}
-use Rattle.game_canon.specs.Players.{gain}
+use Rattle.short_games.specs.Tree.{Tree, Has}
+use Rattle.short_games.specs.Order.{◌≡ᵍ◌}
+use Rattle.short_games.specs.Sum.{◌+ᵍ◌}
+use Rattle.sum_outcome.specs.Players.{gain}
 use Rattle.local_value.specs.Ending.{EndsWithin}
 use Rattle.local_value.specs.GraphMoves.{step_of, steps_of}
 use Rattle.local_value.specs.Laws.{MovesTo}

@@ -3,10 +3,10 @@ use Rattle.std.proofs.Common.{ℕ, zero, suc, ◌≡◌, ◌⊎◌, ◌≤◌, a
 use Rattle.std.specs.Prelude.{Contains}
 use Rattle.go_grid.specs.declared.grid.Colour.{Colour}
 use Rattle.go_grid.specs.declared.grid.Colour.TheVariants.{Black, White}
-use Rattle.game_store.specs.Tree.{Tree, node, none, more, Has}
-use Rattle.game_store.specs.Sum.{◌+ᵍ◌}
+use Rattle.short_games.specs.Tree.{Tree, node, none, more, Has}
+use Rattle.short_games.specs.Sum.{◌+ᵍ◌}
 use Rattle.local_value.specs.Ending.{EndsWithin}
-use Rattle.game_canon.specs.Players.{options, gain}
+use Rattle.sum_outcome.specs.Players.{options, gain}
 use Rattle.local_value.specs.LocalGame.{Step, after, tree_within, StepsTo}
 
 pub contains-head : (P : Type 0) (x : P) (xs : List P) → Contains (x ∷ xs) x

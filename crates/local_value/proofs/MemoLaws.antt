@@ -9,11 +9,12 @@ use Rattle.std.proofs.lemmas.Slice.Eq.{bytes_eq-Decides}
 use Rattle.std.specs.Prelude.{unsigned_abs}
 use Rattle.std.proofs.lemmas.Int.{to_z-of_z, fits_signed_from_abs, ints}
 use Rattle.indexmap.specs.IndexMap.{IndexMap, IsUnchanged, Updates}
-use Rattle.game_store.specs.Tree.{Tree, more, node}
-use Rattle.game_store.specs.Sum.{◌+ᵍ◌}
-use Rattle.game_store.specs.TextOrder.{IsCanonicalFor}
-use Rattle.game_store.specs.Meaning.{tree_at, pick, listed, number_tree, AreIds, Extends}
-use Rattle.game_store.specs.Parts.{HasMoreParts, IsNumberOf}
+use Rattle.short_games.specs.Tree.{Tree, more, node, tree_at}
+use Rattle.short_games.specs.Sum.{◌+ᵍ◌}
+use Rattle.short_games.specs.TextOrder.{IsCanonicalFor}
+use Rattle.game_store.specs.Meaning.{pick, listed, AreIds, Extends}
+use Rattle.short_games.specs.Number.{number_tree}
+use Rattle.short_games.specs.Parts.{HasMoreParts, IsNumberOf}
 use Rattle.game_canon.specs.Outcomes.{IsCanonicalId, AreWithin, AreOptionsWithin}
 use Rattle.local_value.specs.declared.memo.Options.{Options}
 use Rattle.local_value.specs.Memo.{stones_units, same_sum, recalled_sum, IsStonesSum, AreSumsRight, same_options, recalled_form, IsFormOf, AreFormsRight}

@@ -3,19 +3,18 @@ use Rattle.std.proofs.Common.{ℕ, ◌+◌, ◌^◌, ◌<◌, ◌≡◌, inl, in
 use Rattle.go_grid.specs.declared.grid.Colour.{Colour}
 use Rattle.go_grid.specs.declared.grid.Colour.TheVariants.{Black, White}
 use Rattle.local_graph.specs.declared.graph.Edge.{Edge}
-use Rattle.game_store.specs.Tree.{Tree, node, none, Has}
-use Rattle.game_store.specs.Order.{◌≡ᵍ◌}
-use Rattle.game_store.specs.Number.{IsNumber}
-use Rattle.game_store.specs.TextOrder.{IsCanonicalFor}
-use Rattle.game_store.specs.Meaning.{tree_at, listed, AreIds, Extends}
-use Rattle.game_store.specs.Parts.{IsOption}
-use Rattle.game_store.proofs.OrderLaws.{le-trans}
+use Rattle.short_games.specs.Tree.{Tree, node, none, Has, tree_at}
+use Rattle.short_games.specs.Order.{◌≡ᵍ◌}
+use Rattle.short_games.specs.Number.{IsNumber}
+use Rattle.short_games.specs.TextOrder.{IsCanonicalFor}
+use Rattle.game_store.specs.Meaning.{listed, AreIds, Extends}
+use Rattle.short_games.specs.Parts.{IsOption}
+use Rattle.short_games.proofs.OrderLaws.{le-trans, same-path, same-sym, same-trans}
 use Rattle.game_store.proofs.Values.{has-pick, pick-has}
 use Rattle.game_canon.specs.declared.errors.FormError.{FormError}
 use Rattle.game_canon.specs.declared.errors.FormError.TheVariants.{Parts, Bounds, Memory}
 use Rattle.game_canon.specs.Outcomes.{IsCanonicalId, IsCause, AreWithin, AreOptionsWithin}
-use Rattle.game_canon.specs.Players.{options}
-use Rattle.game_canon.proofs.PlayerLaws.{same-path, same-sym, same-trans}
+use Rattle.sum_outcome.specs.Players.{options}
 use Rattle.local_value.specs.Memo.{IsFormOf}
 use Rattle.local_value.specs.Valuing.{tree_after, AreWithinAfter, IsAfter, AreAfter, AreBothAfter, HasEdges}
 use Rattle.local_value.proofs.AfterLaws.{after-ids}

@@ -4,9 +4,9 @@ use Rattle.std.proofs.Math.Nat.{mul-le-mul_right}
 use Rattle.go_grid.specs.Region.{Region}
 use Rattle.local_graph.specs.declared.graph.Edge.{Edge}
 use Rattle.local_graph.specs.Graph.{Graph, edges_at}
-use Rattle.game_store.specs.Tree.{Tree}
-use Rattle.game_store.specs.Meaning.{tree_at, Extends}
-use Rattle.game_store.specs.Parts.{HasMoreParts}
+use Rattle.short_games.specs.Tree.{Tree, tree_at}
+use Rattle.game_store.specs.Meaning.{Extends}
+use Rattle.short_games.specs.Parts.{HasMoreParts}
 use Rattle.game_canon.specs.declared.errors.FormError.{FormError}
 use Rattle.game_canon.specs.Outcomes.{IsCanonicalId, IsCause, AreWithin}
 use Rattle.local_value.specs.Refusals.{IsValueRefusal}

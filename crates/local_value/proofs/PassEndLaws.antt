@@ -6,12 +6,12 @@ use Rattle.go_grid.specs.declared.grid.Cell.{Cell}
 use Rattle.go_grid.specs.Region.{Region}
 use Rattle.local_graph.specs.Graph.{Graph, edges_at}
 use Rattle.local_graph.proofs.PlayLemmas.{plays_long}
-use Rattle.game_store.specs.Tree.{Tree}
-use Rattle.game_store.specs.Order.{◌≤ᵍ◌}
-use Rattle.game_store.specs.TextOrder.{TextBefore, IsCanonicalFor}
-use Rattle.game_store.specs.Parts.{HasMoreParts, IsNumberOf}
-use Rattle.game_store.proofs.Existence.{canon}
-use Rattle.game_store.proofs.TextOrderLaws.{text-order}
+use Rattle.short_games.specs.Tree.{Tree}
+use Rattle.short_games.specs.Order.{◌≤ᵍ◌}
+use Rattle.short_games.specs.TextOrder.{TextBefore, IsCanonicalFor}
+use Rattle.short_games.specs.Parts.{HasMoreParts, IsNumberOf}
+use Rattle.short_games.proofs.Existence.{canon}
+use Rattle.short_games.proofs.TextOrderLaws.{text-order}
 use Rattle.game_canon.specs.declared.errors.FormError.{FormError}
 use Rattle.game_canon.specs.declared.errors.FormError.TheVariants.{Parts, Bounds, Memory}
 use Rattle.game_canon.specs.Outcomes.{IsCause, AreWithin}

@@ -9,19 +9,20 @@ use Rattle.go_grid.specs.declared.grid.Colour.{Colour}
 use Rattle.go_grid.specs.Region.{Region}
 use Rattle.local_graph.specs.declared.graph.Edge.{Edge}
 use Rattle.local_graph.specs.Graph.{Graph, edges_at}
-use Rattle.game_store.specs.Tree.{Tree, node, none, Has}
-use Rattle.game_store.specs.Order.{◌≡ᵍ◌}
-use Rattle.game_store.specs.Sum.{◌+ᵍ◌}
-use Rattle.game_store.specs.TextOrder.{IsCanonicalFor}
-use Rattle.game_store.specs.Meaning.{tree_at, number_tree, Extends}
-use Rattle.game_store.specs.Parts.{HasMoreParts, IsNumberOf}
-use Rattle.game_store.proofs.NumberLaws.{num-zero}
-use Rattle.game_store.proofs.ReductionLaws.{number-canonical}
+use Rattle.short_games.specs.Tree.{Tree, node, none, Has, tree_at}
+use Rattle.short_games.specs.Order.{◌≡ᵍ◌}
+use Rattle.short_games.specs.Sum.{◌+ᵍ◌}
+use Rattle.short_games.specs.TextOrder.{IsCanonicalFor}
+use Rattle.short_games.specs.Number.{number_tree}
+use Rattle.game_store.specs.Meaning.{Extends}
+use Rattle.short_games.specs.Parts.{HasMoreParts, IsNumberOf}
+use Rattle.short_games.proofs.NumberLaws.{num-zero}
+use Rattle.short_games.proofs.ReductionLaws.{number-canonical, same-canonical}
 use Rattle.game_canon.specs.Outcomes.{IsCanonicalId, AreWithin}
-use Rattle.game_canon.specs.Players.{options, gain}
-use Rattle.game_canon.proofs.NumberParts.{same-canonical}
+use Rattle.sum_outcome.specs.Players.{options, gain}
 use Rattle.game_canon.proofs.PartLaws.{fewer}
-use Rattle.game_canon.proofs.PlayerLaws.{same-path, same-plus, same-refl, same-trans}
+use Rattle.short_games.proofs.OrderLaws.{same-path, same-refl, same-trans}
+use Rattle.short_games.proofs.SumLaws.{same-plus}
 use Rattle.game_canon.proofs.Sizes.{own-number}
 use Rattle.local_value.specs.Ending.{EndsWithin}
 use Rattle.local_value.specs.GraphMoves.{step_of, steps_of}

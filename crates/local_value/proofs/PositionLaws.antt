@@ -3,15 +3,16 @@ use Rattle.std.proofs.Common.{ℕ, zero, suc, arith, refl, List, [], ◌∷◌}
 use Rattle.std.specs.Prelude.{Contains}
 use Rattle.go_grid.specs.declared.grid.Colour.{Colour}
 use Rattle.go_grid.specs.declared.grid.Colour.TheVariants.{Black, White}
-use Rattle.game_store.specs.Tree.{Tree, Has}
-use Rattle.game_store.specs.Order.{◌≡ᵍ◌}
-use Rattle.game_store.specs.Sum.{◌+ᵍ◌}
-use Rattle.game_store.proofs.FormLaws.{by_better}
+use Rattle.short_games.specs.Tree.{Tree, Has}
+use Rattle.short_games.specs.Order.{◌≡ᵍ◌}
+use Rattle.short_games.specs.Sum.{◌+ᵍ◌}
+use Rattle.short_games.proofs.FormLaws.{by_better}
 use Rattle.local_value.specs.Ending.{EndsWithin}
-use Rattle.game_canon.specs.Players.{options, gain}
+use Rattle.sum_outcome.specs.Players.{options, gain}
 use Rattle.local_value.specs.LocalGame.{Step, tree_within}
 use Rattle.local_value.specs.PositionTree.{IsTree, PlaysAreShort}
-use Rattle.game_canon.proofs.PlayerLaws.{same-refl, same-path, same-sym, same-trans, same-plus}
+use Rattle.short_games.proofs.OrderLaws.{same-refl, same-path, same-sym, same-trans}
+use Rattle.short_games.proofs.SumLaws.{same-plus}
 use Rattle.local_value.proofs.LocalLaws.{after-has, has-after, options-step}
 
 -- games whose options are equal are equal

@@ -2,9 +2,9 @@
 use Rattle.std.specs.Prelude.{ℕ, zero, suc, ◌≡◌, ◌≤◌, List, [], ◌∷◌, Contains}
 use Rattle.go_grid.specs.declared.grid.Colour.{Colour}
 use Rattle.go_grid.specs.declared.grid.Colour.TheVariants.{Black, White}
-use Rattle.game_store.specs.Tree.{Tree, Trees, node, none, more}
-use Rattle.game_store.specs.Sum.{◌+ᵍ◌}
-use Rattle.game_canon.specs.Players.{gain}
+use Rattle.short_games.specs.Tree.{Tree, Trees, node, none, more}
+use Rattle.short_games.specs.Sum.{◌+ᵍ◌}
+use Rattle.sum_outcome.specs.Players.{gain}
 
 -- where a local move leads, and how many stones it takes
 pub record Step (P : Type 0) : Type 0 where

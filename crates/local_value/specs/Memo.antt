@@ -3,10 +3,11 @@ use Rattle.std.specs.Prelude.{ℕ, ◌+◌, ◌^◌, ◌≡◌, ◌<◌, ◌↔�
 use Rattle.std.specs.Ordering.{int_eq}
 use Rattle.std.specs.Str.{bytes_eq}
 use Rattle.indexmap.specs.IndexMap.{IndexMap, get}
-use Rattle.game_store.specs.Tree.{Tree}
-use Rattle.game_store.specs.Sum.{◌+ᵍ◌}
-use Rattle.game_store.specs.Meaning.{tree_at, number_tree, listed, AreIds}
-use Rattle.game_store.specs.Parts.{HasMoreParts, IsNumberOf}
+use Rattle.short_games.specs.Tree.{Tree, tree_at}
+use Rattle.short_games.specs.Sum.{◌+ᵍ◌}
+use Rattle.short_games.specs.Number.{number_tree}
+use Rattle.game_store.specs.Meaning.{listed, AreIds}
+use Rattle.short_games.specs.Parts.{HasMoreParts, IsNumberOf}
 use Rattle.game_canon.specs.Outcomes.{IsCanonicalId, AreWithin, AreOptionsWithin}
 use Rattle.local_value.specs.declared.memo.Options.{Options}
 use Rattle.local_value.specs.declared.memo.Memo.{Memo}

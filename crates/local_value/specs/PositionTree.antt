@@ -3,12 +3,12 @@ use Rattle.std.specs.Prelude.{ℕ, zero, suc, ◌^◌, ◌≡◌, ◌≤◌, Lis
 use Rattle.go_grid.specs.declared.grid.Cell.{Cell}
 use Rattle.go_grid.specs.declared.region.Touch.{Touch}
 use Rattle.local_play.specs.LocalPlay.{IsLocalMove, IsNumberTaken}
-use Rattle.game_store.specs.Order.{◌≡ᵍ◌}
-use Rattle.game_store.specs.TextOrder.{IsCanonicalTree}
+use Rattle.short_games.specs.Order.{◌≡ᵍ◌}
+use Rattle.short_games.specs.TextOrder.{IsCanonicalTree}
 use Rattle.go_grid.specs.declared.grid.Colour.{Colour}
-use Rattle.game_store.specs.Tree.{Tree, node, none, Has}
-use Rattle.game_store.specs.Sum.{◌+ᵍ◌}
-use Rattle.game_canon.specs.Players.{options, gain}
+use Rattle.short_games.specs.Tree.{Tree, node, none, Has}
+use Rattle.short_games.specs.Sum.{◌+ᵍ◌}
+use Rattle.sum_outcome.specs.Players.{options, gain}
 use Rattle.local_value.specs.LocalGame.{Step}
 
 module _ (P : Type 0) (IsMove : Colour → P → Step P → Type 0) where

@@ -6,8 +6,7 @@ use Rattle.local_play.specs.Packed.{pack}
 use Rattle.local_graph.specs.LocalGraph.{IsGraph, IsOrder, IsReachable}
 use Rattle.local_graph.specs.FiniteLocalPlay.{HasNoCycle}
 use Rattle.local_graph.specs.Graph.{Graph}
-use Rattle.game_store.specs.Tree.{Tree}
-use Rattle.game_store.specs.Meaning.{tree_at}
+use Rattle.short_games.specs.Tree.{Tree, tree_at}
 use Rattle.local_value.specs.PositionTree.{IsValueOf}
 
 -- the graph has exactly the reachable positions of the region and their moves, and no cycle

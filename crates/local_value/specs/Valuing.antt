@@ -4,14 +4,13 @@ use Rattle.go_grid.specs.declared.grid.Colour.{Colour}
 use Rattle.go_grid.specs.declared.grid.Colour.TheVariants.{Black, White}
 use Rattle.local_graph.specs.declared.graph.Edge.{Edge}
 use Rattle.local_value.specs.declared.memo.Options.{Options}
-use Rattle.game_store.specs.Tree.{Tree, Has}
-use Rattle.game_store.specs.Order.{◌≡ᵍ◌}
-use Rattle.game_store.specs.Sum.{◌+ᵍ◌}
-use Rattle.game_store.specs.TextOrder.{IsCanonicalFor}
-use Rattle.game_store.specs.Meaning.{tree_at}
-use Rattle.game_store.specs.Parts.{IsNumberOf}
+use Rattle.short_games.specs.Tree.{Tree, Has, tree_at}
+use Rattle.short_games.specs.Order.{◌≡ᵍ◌}
+use Rattle.short_games.specs.Sum.{◌+ᵍ◌}
+use Rattle.short_games.specs.TextOrder.{IsCanonicalFor}
+use Rattle.short_games.specs.Parts.{IsNumberOf}
 use Rattle.game_canon.specs.Outcomes.{AreWithin}
-use Rattle.game_canon.specs.Players.{options, gain}
+use Rattle.sum_outcome.specs.Players.{options, gain}
 
 -- the tree that is noted for a place
 abbrev pub noted : List Tree → List ℕ → ℕ → Tree

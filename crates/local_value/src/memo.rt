@@ -1,9 +1,10 @@
 //! What earlier positions of a graph needed: sums of games and stones, and the canonical forms of options.
 
 ghost use Rattle.std.specs.Prelude.{ℕ, ◌≡◌, ◌<◌, List, Some, length, IfOk, IfErr, OnOk};
-ghost use Rattle.game_store.specs.Tree.{Tree};
-ghost use Rattle.game_store.specs.Sum.{◌+ᵍ◌};
-ghost use Rattle.game_store.specs.Meaning.{tree_at, number_tree, listed, AreIds, Extends};
+ghost use Rattle.short_games.specs.Tree.{Tree, tree_at};
+ghost use Rattle.short_games.specs.Sum.{◌+ᵍ◌};
+ghost use Rattle.short_games.specs.Number.{number_tree};
+ghost use Rattle.game_store.specs.Meaning.{listed, AreIds, Extends};
 ghost use Rattle.game_canon.specs.Changes.{IsSumRefusal};
 ghost use Rattle.game_canon.specs.Outcomes.{IsCause};
 ghost use Rattle.local_value.specs.Memo.{stones_units, recalled_sum, IsStonesSum, AreSumsRight, recalled_form, IsFormOf, AreFormsRight, IsMemoRight};

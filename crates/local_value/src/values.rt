@@ -2,12 +2,12 @@
 
 ghost use Rattle.std.specs.Prelude.{ℕ, ◌≡◌, ◌↔◌, ◌<◌, ◌≤◌, ◌+◌, ◌-◌, ◌*◌, ◌^◌, unsigned_abs, List, length, slice_index, IfOk, IfErr, OnOk, Contains, true};
 ghost use Rattle.go_grid.specs.Region.{Region};
-ghost use Rattle.game_store.specs.Tree.{Tree};
-ghost use Rattle.game_store.specs.Meaning.{tree_at, Extends};
-ghost use Rattle.game_store.specs.Parts.{HasMoreParts};
+ghost use Rattle.short_games.specs.Tree.{Tree, tree_at};
+ghost use Rattle.game_store.specs.Meaning.{Extends};
+ghost use Rattle.short_games.specs.Parts.{HasMoreParts};
 ghost use Rattle.game_canon.specs.Changes.{HasNumberPastBounds};
 ghost use Rattle.game_canon.specs.Outcomes.{IsCanonicalId, IsCause, AreWithin};
-ghost use Rattle.game_canon.specs.Players.{credit};
+ghost use Rattle.sum_outcome.specs.Players.{credit};
 ghost use Rattle.local_value.specs.Memo.{recalled_sum, AreSumsRight, IsMemoRight};
 ghost use Rattle.local_value.specs.Refusals.{IsValueRefusal};
 ghost use Rattle.local_value.specs.Values.{IsGraphOf, AreValues};

@@ -1,7 +1,7 @@
 //! The text of `values`.
 
 ghost use Rattle.std.specs.Prelude.{◌≡◌, ◌<◌, ◌*◌, length, IfOk, IfErr, OnOk, string_bytes};
-ghost use Rattle.game_store.specs.Meaning.{tree_at};
+ghost use Rattle.short_games.specs.Tree.{tree_at};
 ghost use Rattle.game_lines.specs.Showings.{IsShowing, IsUnshown};
 ghost use Rattle.report.specs.Solution.{solved_line};
 ghost use Rattle.report.specs.Values.{HasEntries, HasEntry, IsFirstUnshown, IsRefusal, IsValuesText};

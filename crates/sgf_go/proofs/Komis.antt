@@ -2,8 +2,7 @@
 use Rattle.std.proofs.Common.{ℕ, ◌+◌, ◌*◌, ◌≤◌, ◌≡◌, ◌⊎◌, List, [], ◌∷◌, ◌++◌, length, arith, refl, inl, inr, sym, ◌∙◌, ap, ap₂, subst, Bool, true, false, ◌==◌, Some, None, if◌then◌else◌, ℤ, pos}
 use Rattle.std.specs.Prelude.{Option, nat_le, neg_ℤ}
 use Rattle.std.specs.Option.{option_map}
-use Rattle.std.specs.Char.{is_ascii_digit}
-use Rattle.std.specs.Char.{digit_value}
+use Rattle.std.specs.Char.{is_ascii_digit, digit_value}
 use Rattle.std.specs.Str.Parse.{digits_value_after}
 use Rattle.sgf_go.specs.Komi.{IsKomi, unsigned, positive, negative, IsHalves, halves, IsFraction, nothing, zeros, half, AreDigits, AreZeros, plus, minus, dot, digit_0, digit_5}
 use Rattle.sgf_go.specs.Scan.{all_zeros, fraction, scan, scan_signed}

@@ -2,8 +2,7 @@
 use Rattle.std.proofs.Common.{ℕ, ◌+◌, ◌-◌, ◌*◌, ◌<◌, ◌≤◌, ◌≡◌, ◌≢◌, List, ◌∷◌, length, drop, get_or, arith, ◌∙◌, ap, ap₂, Bool, true, false, ◌==◌, Some, None, if◌then◌else◌}
 use Rattle.std.specs.Prelude.{Option, nat_le}
 use Rattle.std.specs.Option.{option_map}
-use Rattle.std.specs.Char.{is_ascii_digit}
-use Rattle.std.specs.Char.{digit_value}
+use Rattle.std.specs.Char.{is_ascii_digit, digit_value}
 use Rattle.std.proofs.lemmas.List.{drop_more, drop_all}
 use Rattle.sgf_go.specs.Komi.{digit_0, dot}
 use Rattle.sgf_go.specs.Scan.{all_zeros, fraction, scan}

@@ -1,8 +1,7 @@
 -- How a komi is read, one byte after the other. Nothing that a caller sees speaks of it.
 use Rattle.std.specs.Prelude.{ℕ, ◌+◌, ◌*◌, List, [], ◌∷◌, Bool, true, false, ◌==◌, nat_le, Option, Some, None, if◌then◌else◌, ℤ, pos, neg_ℤ}
 use Rattle.std.specs.Option.{option_map}
-use Rattle.std.specs.Char.{is_ascii_digit}
-use Rattle.std.specs.Char.{digit_value}
+use Rattle.std.specs.Char.{is_ascii_digit, digit_value}
 use Rattle.sgf_go.specs.Komi.{plus, minus, dot, digit_0, digit_5}
 
 unfoldable pub all_zeros : List ℕ → Bool

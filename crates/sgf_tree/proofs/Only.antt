@@ -3,8 +3,7 @@ use Rattle.std.proofs.Common.{ℕ, suc, ◌+◌, ◌-◌, ◌<◌, ◌≤◌, �
 use Rattle.std.proofs.Math.Seq.{take-add}
 use Rattle.std.proofs.lemmas.List.{take_all}
 use Rattle.sgf_tree.specs.Grammar.{PropertyText, IsTree}
-use Rattle.sgf_tree.specs.Reading.{IsSomeTree, IsLive, HasDepth, IsStart, most_open, IsRead, IsBadByte, IsCutShort, IsTooDeep}
-use Rattle.sgf_tree.specs.Reading.{line, no_tree, bad_byte, cut_short, too_deep, OneAnswer}
+use Rattle.sgf_tree.specs.Reading.{IsSomeTree, IsLive, HasDepth, IsStart, most_open, IsRead, IsBadByte, IsCutShort, IsTooDeep, line, no_tree, bad_byte, cut_short, too_deep, OneAnswer}
 use Rattle.sgf_tree.specs.declared.machine.Place.TheVariants as at
 use Rattle.sgf_tree.specs.Machine.{begin, State, Parts}
 use Rattle.sgf_tree.proofs.Runs.{run, run-append, run-none, some-is, none-some, tree_run, off}

@@ -1,8 +1,7 @@
 -- What the grammar writes, the machine reads.
 use Rattle.std.proofs.Common.{ℕ, ◌+◌, ◌-◌, ◌≤◌, ◌≡◌, ◌≢◌, List, [], ◌∷◌, ◌++◌, arith, refl, sym, ◌∙◌, ap, ap₂, subst, Bool, true, false, ◌&&◌, ◌==◌, Some, None, append_assoc, append-nil, if◌then◌else◌}
 use Rattle.std.specs.Prelude.{Option}
-use Rattle.sgf_tree.specs.Grammar.{PropertyText, opening, closing, semicolon, bracket, backslash, end_bracket, is_white, is_capital, is_letter, AreWhite, AreLetters, capitals, IsInside, end, plain, escaped, Each, none, more, IsValue, value, IsProperty, property, IsNode, node}
-use Rattle.sgf_tree.specs.Grammar.{IsTree, tree, AreTrees, no_trees, trees}
+use Rattle.sgf_tree.specs.Grammar.{PropertyText, opening, closing, semicolon, bracket, backslash, end_bracket, is_white, is_capital, is_letter, AreWhite, AreLetters, capitals, IsInside, end, plain, escaped, Each, none, more, IsValue, value, IsProperty, property, IsNode, node, IsTree, tree, AreTrees, no_trees, trees}
 use Rattle.sgf_tree.specs.declared.machine.Kind.{Kind}
 use Rattle.sgf_tree.specs.declared.machine.Kind.TheVariants as kind
 use Rattle.sgf_tree.specs.declared.machine.Place.{Place}

@@ -4,19 +4,18 @@ use Rattle.std.proofs.lemmas.Int.{ints}
 use Rattle.go_grid.specs.declared.grid.Colour.{Colour}
 use Rattle.go_grid.specs.declared.grid.Colour.TheVariants.{Black, White}
 use Rattle.go_grid.specs.Board.{other}
-use Rattle.game_store.specs.Tree.{Tree, Trees, node, none, more, Has}
-use Rattle.game_store.specs.Order.{◌≤ᵍ◌, ◌≡ᵍ◌}
-use Rattle.game_store.specs.Sum.{◌+ᵍ◌, total}
-use Rattle.game_store.specs.Number.{num, IsNumber}
-use Rattle.game_store.specs.Meaning.{number_tree}
-use Rattle.game_store.proofs.OrderLaws.{le-refl, le-trans}
-use Rattle.game_store.proofs.SumLaws.{InSum, plus-le, plus-le_both, plus-cancel, plus-assoc, plus-nought, nought}
-use Rattle.game_store.proofs.SumLaws.InSum.{in_first, in_second}
-use Rattle.game_store.proofs.NumberLaws.{num-left, num-right, num-zero, num-plus_le, num-le_plus}
-use Rattle.game_store.proofs.ReductionLaws.{canonical-number}
-use Rattle.game_store.proofs.AvoidanceLaws.{cheap_left, cheap_right}
-use Rattle.game_canon.specs.Players.{options, credit, LosesGame}
-use Rattle.game_canon.proofs.PlayerLaws.{same-refl, same-path, same-sym, same-trans, same-plus, same-comm, same-swap, option_of_sum, option_in_first, option_in_second, loses-out, wins-option, loses-or_not}
+use Rattle.short_games.specs.Tree.{Tree, Trees, node, none, more, Has}
+use Rattle.short_games.specs.Order.{◌≤ᵍ◌, ◌≡ᵍ◌}
+use Rattle.short_games.specs.Sum.{◌+ᵍ◌, total}
+use Rattle.short_games.specs.Number.{num, IsNumber, number_tree}
+use Rattle.short_games.proofs.OrderLaws.{le-refl, le-trans, same-refl, same-path, same-sym, same-trans}
+use Rattle.short_games.proofs.SumLaws.{InSum, plus-le, plus-le_both, plus-cancel, plus-assoc, plus-nought, nought, same-plus, same-comm, same-swap}
+use Rattle.short_games.proofs.SumLaws.InSum.{in_first, in_second}
+use Rattle.short_games.proofs.NumberLaws.{num-left, num-right, num-zero, num-plus_le, num-le_plus}
+use Rattle.short_games.proofs.ReductionLaws.{canonical-number}
+use Rattle.short_games.proofs.AvoidanceLaws.{cheap_left, cheap_right}
+use Rattle.sum_outcome.specs.Players.{options, credit, LosesGame}
+use Rattle.sum_outcome.proofs.PlayerLaws.{option_of_sum, option_in_first, option_in_second, loses-out, wins-option, loses-or_not}
 use Rattle.sum_outcome.specs.Search.{IsNonNumber, IsMove, put}
 
 -- the game at a place

@@ -3,17 +3,17 @@ use Rattle.std.proofs.Common.{ℕ, ℤ, zero, suc, ◌≡◌, ◌<◌, ◌⊎◌
 use Rattle.go_grid.specs.declared.grid.Colour.{Colour}
 use Rattle.go_grid.specs.declared.grid.Colour.TheVariants.{Black, White}
 use Rattle.go_grid.specs.Board.{other}
-use Rattle.game_store.specs.Tree.{Tree, Trees, none, more, Has}
-use Rattle.game_store.specs.Order.{◌≡ᵍ◌}
-use Rattle.game_store.specs.Sum.{◌+ᵍ◌, total}
-use Rattle.game_store.specs.Meaning.{tree_at, pick, number_tree}
-use Rattle.game_store.proofs.OrderLaws.{le-refl}
-use Rattle.game_store.proofs.SumLaws.{plus-assoc}
+use Rattle.short_games.specs.Tree.{Tree, Trees, none, more, Has, tree_at}
+use Rattle.short_games.specs.Order.{◌≡ᵍ◌}
+use Rattle.short_games.specs.Sum.{◌+ᵍ◌, total}
+use Rattle.game_store.specs.Meaning.{pick}
+use Rattle.short_games.specs.Number.{number_tree}
+use Rattle.short_games.proofs.OrderLaws.{le-refl, same-refl, same-path, same-sym, same-trans}
+use Rattle.short_games.proofs.SumLaws.{plus-assoc, same-plus, same-comm, same-swap}
 use Rattle.game_store.proofs.Values.{has-pick}
-use Rattle.game_canon.specs.Laws.{incentive}
-use Rattle.game_canon.specs.Players.{options, LosesGame}
-use Rattle.game_canon.proofs.PlayerLaws.{same-refl, same-path, same-sym, same-trans, same-plus, same-comm, same-swap}
-use Rattle.game_canon.proofs.IncentiveLaws.{incentive-dominates, incentive-dominates_back}
+use Rattle.short_games.specs.SumLaws.{incentive}
+use Rattle.sum_outcome.specs.Players.{options, LosesGame}
+use Rattle.short_games.proofs.IncentiveLaws.{incentive-dominates, incentive-dominates_back}
 use Rattle.sum_outcome.specs.Sums.{sum_tree}
 use Rattle.sum_outcome.specs.Search.{put, IsMove, WinsAt}
 use Rattle.sum_outcome.specs.Incentives.{IsGood, HasPreferred, IsDominated, IsSettled}

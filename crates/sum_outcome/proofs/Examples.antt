@@ -5,17 +5,18 @@ use Rattle.std.proofs.lemmas.Int.{ints, by_lt_z, unsigned_abs-mul}
 use Rattle.std.proofs.lemmas.List.{length_push}
 use Rattle.std.proofs.lemmas.List.Sums.{sum_by-cons}
 use Rattle.dyadic_num.specs.Units.{IsFraction}
-use Rattle.game_store.specs.Tree.{Tree, node, none}
-use Rattle.game_store.specs.Order.{◌≤ᵍ◌}
-use Rattle.game_store.specs.Number.{num, IsNumberTree}
-use Rattle.game_store.specs.Parts.{IsOption, IsNumberOf}
-use Rattle.game_store.specs.Meaning.{listed, tree_at, form, pick, number_tree, AreIds, Extends, IsIdOf}
-use Rattle.game_store.proofs.OrderLaws.{le-refl}
-use Rattle.game_store.proofs.NumberLaws.{num-lt, num-zero}
-use Rattle.game_store.proofs.StopLaws.{num-scaled}
-use Rattle.game_store.proofs.PartLaws.{follower-of, number-follower}
-use Rattle.game_canon.specs.Examples.{choice, star}
-use Rattle.game_canon.proofs.Examples.{form-choice, star-no_number, one_or_star-no_number}
+use Rattle.short_games.specs.Tree.{Tree, node, none, tree_at}
+use Rattle.short_games.specs.Order.{◌≤ᵍ◌}
+use Rattle.short_games.specs.Number.{num, IsNumberTree, number_tree}
+use Rattle.short_games.specs.Parts.{IsOption, IsNumberOf}
+use Rattle.game_store.specs.Meaning.{listed, form, pick, AreIds, Extends, IsIdOf}
+use Rattle.short_games.proofs.OrderLaws.{le-refl}
+use Rattle.short_games.proofs.NumberLaws.{num-lt, num-zero}
+use Rattle.short_games.proofs.StopLaws.{num-scaled}
+use Rattle.short_games.proofs.PartLaws.{follower-of, number-follower}
+use Rattle.short_games.specs.Examples.{choice, star}
+use Rattle.game_canon.proofs.Examples.{form-choice}
+use Rattle.short_games.proofs.Examples.{star-no_number, one_or_star-no_number}
 use Rattle.sum_outcome.specs.Sums.{IsBound, AreBounds, IsBounded}
 use Rattle.game_canon.specs.Outcomes.{AreOptionsWithin}
 use Rattle.sum_outcome.specs.Examples.{IsSmall, AreSmall, IsSmallId}

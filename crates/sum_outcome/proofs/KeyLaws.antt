@@ -9,12 +9,13 @@ use Rattle.std.proofs.lemmas.List.Sorted.{IsPermutation-keeps}
 use Rattle.std.proofs.lemmas.List.Sums.{sum_by-cons}
 use mir.Val.{SFits}
 use mir.Syntax.{w128}
-use Rattle.game_store.specs.Tree.{Tree, Trees, more}
-use Rattle.game_store.specs.Order.{◌≡ᵍ◌}
-use Rattle.game_store.specs.Sum.{◌+ᵍ◌, total}
-use Rattle.game_store.specs.Meaning.{tree_at, pick, number_tree, AreIds}
-use Rattle.game_store.proofs.SumLaws.{plus-assoc, plus-cancel, nought-plus, plus-nought}
-use Rattle.game_canon.proofs.PlayerLaws.{same-refl, same-path, same-trans, same-plus}
+use Rattle.short_games.specs.Tree.{Tree, Trees, more, tree_at}
+use Rattle.short_games.specs.Order.{◌≡ᵍ◌}
+use Rattle.short_games.specs.Sum.{◌+ᵍ◌, total}
+use Rattle.game_store.specs.Meaning.{pick, AreIds}
+use Rattle.short_games.specs.Number.{number_tree}
+use Rattle.short_games.proofs.SumLaws.{plus-assoc, plus-cancel, nought-plus, plus-nought, same-plus}
+use Rattle.short_games.proofs.OrderLaws.{same-refl, same-path, same-trans}
 use Rattle.go_grid.specs.declared.grid.Colour.{Colour}
 use Rattle.sum_outcome.specs.Sums.{sum_tree, IsBounded}
 use Rattle.sum_outcome.specs.Memo.{mover, IsKeyOf}

@@ -1,3 +1,4 @@
+pub mod PlayerLaws
 pub mod CheapMoves
 pub mod Lists
 pub mod Numbers

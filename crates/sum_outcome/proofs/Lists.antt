@@ -6,16 +6,16 @@ use Rattle.std.proofs.lemmas.List.Sums.{sum_by-set}
 use Rattle.go_grid.specs.declared.grid.Colour.{Colour}
 use Rattle.go_grid.specs.declared.grid.Colour.TheVariants.{Black, White}
 use Rattle.go_grid.specs.Board.{other}
-use Rattle.game_store.specs.Tree.{Tree, Trees, none, more, Has}
-use Rattle.game_store.specs.Sum.{◌+ᵍ◌, total}
-use Rattle.game_store.specs.Number.{IsNumberTree}
-use Rattle.game_store.specs.Parts.{IsOption}
-use Rattle.game_store.specs.TextOrder.{sorted}
-use Rattle.game_store.specs.Meaning.{tree_at, pick, number_tree, AreIds}
+use Rattle.short_games.specs.Tree.{Tree, Trees, none, more, Has, tree_at}
+use Rattle.short_games.specs.Sum.{◌+ᵍ◌, total}
+use Rattle.short_games.specs.Number.{IsNumberTree, number_tree}
+use Rattle.short_games.specs.Parts.{IsOption}
+use Rattle.short_games.specs.TextOrder.{sorted}
+use Rattle.game_store.specs.Meaning.{pick, AreIds}
 use Rattle.game_store.proofs.Values.{pick-has}
-use Rattle.game_store.proofs.TextOrderLaws.{sorted-has, has-sorted}
-use Rattle.game_store.proofs.PartLaws.{option-numbers}
-use Rattle.game_canon.specs.Players.{options, LosesGame}
+use Rattle.short_games.proofs.TextOrderLaws.{sorted-has, has-sorted}
+use Rattle.short_games.proofs.PartLaws.{option-numbers}
+use Rattle.sum_outcome.specs.Players.{options, LosesGame}
 use Rattle.sum_outcome.specs.Sums.{sum_tree, AreBounds, IsBounded}
 use Rattle.sum_outcome.specs.Search.{HasNonNumber, IsMove, put, WinsAt}
 use Rattle.sum_outcome.proofs.CheapMoves.{IsAt, loses-by_games, wins-by_move}

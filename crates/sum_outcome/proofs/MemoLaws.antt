@@ -9,20 +9,21 @@ use Rattle.std.specs.Str.{bytes_eq}
 use Rattle.std.specs.Ordering.{int_eq}
 use Rattle.std.specs.Cmp.{booleans_Decides}
 use Rattle.std.proofs.Math.Bool.{beq}
-use Rattle.std.proofs.lemmas.Bool.Decides.{Decides-eqb}
-use Rattle.std.proofs.lemmas.Bool.Decides.{Decides-int_eq}
+use Rattle.std.proofs.lemmas.Bool.Decides.{Decides-eqb, Decides-int_eq}
 use Rattle.std.proofs.lemmas.Slice.Eq.{bytes_eq-Decides}
 use Rattle.lru.specs.LruCache.{LruCache, lru_cache, put_entries, promoted}
 use Rattle.lru.proofs.CallerLemmas.{Contains-lookup, Contains-put_entries, Contains-promoted}
 use Rattle.go_grid.specs.declared.grid.Colour.{Colour}
 use Rattle.go_grid.specs.declared.grid.Colour.TheVariants.{Black, White}
-use Rattle.game_store.specs.Tree.{Tree, more}
-use Rattle.game_store.specs.Order.{◌≤ᵍ◌}
-use Rattle.game_store.specs.Sum.{◌+ᵍ◌, total}
-use Rattle.game_canon.specs.Laws.{incentive}
-use Rattle.game_store.specs.Meaning.{pick, number_tree, AreIds, Extends}
-use Rattle.game_canon.specs.Players.{LosesGame}
-use Rattle.game_canon.proofs.PlayerLaws.{loses-same, same-sym}
+use Rattle.short_games.specs.Tree.{Tree, more}
+use Rattle.short_games.specs.Order.{◌≤ᵍ◌}
+use Rattle.short_games.specs.Sum.{◌+ᵍ◌, total}
+use Rattle.short_games.specs.SumLaws.{incentive}
+use Rattle.game_store.specs.Meaning.{pick, AreIds, Extends}
+use Rattle.short_games.specs.Number.{number_tree}
+use Rattle.sum_outcome.specs.Players.{LosesGame}
+use Rattle.sum_outcome.proofs.PlayerLaws.{loses-same}
+use Rattle.short_games.proofs.OrderLaws.{same-sym}
 use Rattle.game_canon.proofs.SumWaiting.{right_grown}
 use Rattle.sum_outcome.specs.Sums.{sum_tree}
 use Rattle.sum_outcome.specs.Incentives as pairs

@@ -2,11 +2,10 @@
 use Rattle.std.proofs.Common.{◌↔◌, sym, subst, ℤ, pos, ◌≤ℤ◌}
 use Rattle.std.proofs.lemmas.Int.{by_lt_z}
 use Rattle.go_grid.specs.declared.grid.Colour.TheVariants.{Black, White}
-use Rattle.game_store.specs.Order.{◌≤ᵍ◌}
-use Rattle.game_store.specs.Number.{num}
-use Rattle.game_store.specs.Meaning.{number_tree}
-use Rattle.game_store.proofs.NumberLaws.{num-le, num-lt, num-zero}
-use Rattle.game_canon.specs.Players.{LosesGame}
+use Rattle.short_games.specs.Order.{◌≤ᵍ◌}
+use Rattle.short_games.specs.Number.{num, number_tree}
+use Rattle.short_games.proofs.NumberLaws.{num-le, num-lt, num-zero}
+use Rattle.sum_outcome.specs.Players.{LosesGame}
 
 -- a player to move loses a number that is no gain
 pub lost_black : (y : ℤ) → (y ≤ℤ pos 0) ↔ LosesGame Black (number_tree y)

@@ -3,17 +3,18 @@ use Rattle.std.proofs.Common.{ℕ, zero, suc, ◌≡◌, ◌≢◌, ◌↔◌, �
 use Rattle.std.proofs.lemmas.Int.{ints}
 use Rattle.std.proofs.lemmas.List.{get_or-set_other, length-set}
 use Rattle.go_grid.specs.declared.grid.Colour.{Colour}
-use Rattle.game_store.specs.Tree.{Tree, Trees, none, more, neg}
-use Rattle.game_store.specs.Order.{◌≤ᵍ◌, ◌≡ᵍ◌}
-use Rattle.game_store.specs.Sum.{◌+ᵍ◌, total}
-use Rattle.game_store.specs.Meaning.{tree_at, pick, number_tree, AreIds}
-use Rattle.game_store.proofs.OrderLaws.{le-trans}
-use Rattle.game_store.proofs.SumLaws.{nought, nought-plus, plus-nought, plus-neg, plus-assoc}
-use Rattle.game_store.proofs.NumberLaws.{num-zero}
-use Rattle.game_canon.specs.Laws.{incentive}
-use Rattle.game_canon.specs.Players.{LosesGame}
-use Rattle.game_canon.proofs.IncentiveLaws.{incentive-dominates}
-use Rattle.game_canon.proofs.PlayerLaws.{same-refl, same-path, same-sym, same-trans, same-plus, same-comm, loses-same}
+use Rattle.short_games.specs.Tree.{Tree, Trees, none, more, neg, tree_at}
+use Rattle.short_games.specs.Order.{◌≤ᵍ◌, ◌≡ᵍ◌}
+use Rattle.short_games.specs.Sum.{◌+ᵍ◌, total}
+use Rattle.game_store.specs.Meaning.{pick, AreIds}
+use Rattle.short_games.specs.Number.{number_tree}
+use Rattle.short_games.proofs.OrderLaws.{le-trans, same-refl, same-path, same-sym, same-trans}
+use Rattle.short_games.proofs.SumLaws.{nought, nought-plus, plus-nought, plus-neg, plus-assoc, same-plus, same-comm}
+use Rattle.short_games.proofs.NumberLaws.{num-zero}
+use Rattle.short_games.specs.SumLaws.{incentive}
+use Rattle.sum_outcome.specs.Players.{LosesGame}
+use Rattle.short_games.proofs.IncentiveLaws.{incentive-dominates}
+use Rattle.sum_outcome.proofs.PlayerLaws.{loses-same}
 use Rattle.game_canon.proofs.Sizes.{own-number}
 use Rattle.sum_outcome.specs.Sums.{sum_tree, AreBounds, IsBounded}
 use Rattle.sum_outcome.specs.Search.{put}

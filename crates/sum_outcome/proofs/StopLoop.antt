@@ -8,19 +8,18 @@ use mir.Syntax.{w128}
 use Rattle.std.proofs.lemmas.List.{drop_more, drop_all}
 use Rattle.std.proofs.lemmas.List.Sums.{sum_by-cons}
 use Rattle.std.specs.declared.cmp.Ordering.TheVariants.{Less, Equal, Greater}
-use Rattle.game_store.specs.Tree.{Tree, Trees, more}
-use Rattle.game_store.specs.Order.{◌≤ᵍ◌, ◌≡ᵍ◌}
-use Rattle.game_store.specs.Sum.{◌+ᵍ◌, total}
-use Rattle.game_store.specs.Number.{IsNumberTree}
-use Rattle.game_store.specs.Parts.{IsNumberOf}
-use Rattle.game_store.specs.Stops.{IsLeftStop, IsRightStop}
-use Rattle.game_store.specs.TextOrder.{IsCanonicalTree}
-use Rattle.game_store.specs.Meaning.{tree_at, pick, number_tree}
-use Rattle.game_store.proofs.OrderLaws.{le-trans}
-use Rattle.game_store.proofs.SumLaws.{nought, plus-assoc, nought-plus}
-use Rattle.game_store.proofs.NumberLaws.{num-le, num-zero}
-use Rattle.game_store.proofs.StopLaws.{over-right_stop, under-left_stop}
-use Rattle.game_canon.proofs.PlayerLaws.{same-refl, same-path, same-sym, same-trans, same-plus, same-comm}
+use Rattle.short_games.specs.Tree.{Tree, Trees, more, tree_at}
+use Rattle.short_games.specs.Order.{◌≤ᵍ◌, ◌≡ᵍ◌}
+use Rattle.short_games.specs.Sum.{◌+ᵍ◌, total}
+use Rattle.short_games.specs.Number.{IsNumberTree, number_tree}
+use Rattle.short_games.specs.Parts.{IsNumberOf}
+use Rattle.short_games.specs.Stops.{IsLeftStop, IsRightStop}
+use Rattle.short_games.specs.TextOrder.{IsCanonicalTree}
+use Rattle.game_store.specs.Meaning.{pick}
+use Rattle.short_games.proofs.OrderLaws.{le-trans, same-refl, same-path, same-sym, same-trans}
+use Rattle.short_games.proofs.SumLaws.{nought, plus-assoc, nought-plus, same-plus, same-comm}
+use Rattle.short_games.proofs.NumberLaws.{num-le, num-zero}
+use Rattle.short_games.proofs.StopLaws.{over-right_stop, under-left_stop}
 use Rattle.sum_outcome.specs.Sums.{sum_tree, IsBounded}
 use Rattle.sum_outcome.specs.Search.{HasNonNumber, IsSign}
 use Rattle.sum_outcome.proofs.CheapMoves.{num-sum}

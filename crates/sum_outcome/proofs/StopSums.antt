@@ -3,19 +3,18 @@ use Rattle.std.proofs.Common.{ℕ, zero, suc, ◌≡◌, ◌+◌, ◌<◌, ◌^�
 use Rattle.std.proofs.Math.Nat.{pow-suc}
 use Rattle.std.proofs.lemmas.Int.{ints}
 use Rattle.std.specs.declared.cmp.Ordering.TheVariants.{Less, Greater}
-use Rattle.game_store.specs.Tree.{Tree, left, right, size}
-use Rattle.game_store.specs.Order.{◌≤ᵍ◌}
-use Rattle.game_store.specs.Sum.{◌+ᵍ◌}
-use Rattle.game_store.specs.Number.{num, IsNumberTree}
-use Rattle.game_store.specs.Parts.{IsOption, IsNumberOf}
-use Rattle.game_store.specs.Stops.{IsLeftStop, IsRightStop}
-use Rattle.game_store.specs.Meaning.{number_tree}
-use Rattle.game_store.proofs.OrderLaws.{le-trans, size-left, size-right}
-use Rattle.game_store.proofs.SumLaws.{nought, plus-le_both}
-use Rattle.game_store.proofs.NumberLaws.{num-le, num-lt, num-zero, num-double, num-plus_le, num-le_plus}
-use Rattle.game_store.proofs.PartLaws.{option-numbers}
-use Rattle.game_store.proofs.StopLaws.{StopIs, IsGreatest, IsLeast, left_stop-is, right_stop-is, num-scaled}
-use Rattle.game_store.proofs.StopLaws.StopIs.{of_number, of_game}
+use Rattle.short_games.specs.Tree.{Tree, left, right, size}
+use Rattle.short_games.specs.Order.{◌≤ᵍ◌}
+use Rattle.short_games.specs.Sum.{◌+ᵍ◌}
+use Rattle.short_games.specs.Number.{num, IsNumberTree, number_tree}
+use Rattle.short_games.specs.Parts.{IsOption, IsNumberOf}
+use Rattle.short_games.specs.Stops.{IsLeftStop, IsRightStop}
+use Rattle.short_games.proofs.OrderLaws.{le-trans, size-left, size-right}
+use Rattle.short_games.proofs.SumLaws.{nought, plus-le_both}
+use Rattle.short_games.proofs.NumberLaws.{num-le, num-lt, num-zero, num-double, num-plus_le, num-le_plus}
+use Rattle.short_games.proofs.PartLaws.{option-numbers}
+use Rattle.short_games.proofs.StopLaws.{StopIs, IsGreatest, IsLeast, left_stop-is, right_stop-is, num-scaled}
+use Rattle.short_games.proofs.StopLaws.StopIs.{of_number, of_game}
 use Rattle.sum_outcome.specs.Search.{IsSign}
 
 -- G is at least each number below l parts of 2 ^ -60, and at most each number above h

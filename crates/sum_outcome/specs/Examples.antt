@@ -1,10 +1,9 @@
 -- Sums of small games.
 use Rattle.std.specs.Prelude.{ℕ, ◌≡◌, ◌<◌, ◌^◌, ◌⊎◌, List, [], ◌∷◌, length, pos}
-use Rattle.game_store.specs.Tree.{Tree}
-use Rattle.game_store.specs.Number.{num}
-use Rattle.game_store.specs.Meaning.{tree_at}
+use Rattle.short_games.specs.Tree.{Tree, tree_at}
+use Rattle.short_games.specs.Number.{num}
 use Rattle.sum_outcome.specs.Sums.{IsBound}
-use Rattle.game_canon.specs.Examples.{choice, star}
+use Rattle.short_games.specs.Examples.{choice, star}
 
 -- {0|0} or {1|{0|0}}, or a game whose numbers have a size of at most 16
 abbrev pub IsSmall : Tree → Type 0

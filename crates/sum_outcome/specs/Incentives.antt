@@ -3,13 +3,14 @@ use Rattle.std.specs.Prelude.{ℕ, ◌<◌, List, length, Contains, Bool, IsTrue
 use Rattle.std.specs.List.{slice_index_or}
 use Rattle.go_grid.specs.declared.grid.Colour.{Colour}
 use Rattle.go_grid.specs.declared.grid.Colour.TheVariants.{Black, White}
-use Rattle.game_store.specs.Tree.{Tree}
-use Rattle.game_store.specs.Order.{◌≤ᵍ◌}
-use Rattle.game_store.specs.Meaning.{tree_at, pick, number_tree}
-use Rattle.game_store.specs.Sum.{◌+ᵍ◌, total}
-use Rattle.game_canon.specs.Players.{LosesGame}
+use Rattle.short_games.specs.Tree.{Tree, tree_at}
+use Rattle.short_games.specs.Order.{◌≤ᵍ◌}
+use Rattle.game_store.specs.Meaning.{pick}
+use Rattle.short_games.specs.Number.{number_tree}
+use Rattle.short_games.specs.Sum.{◌+ᵍ◌, total}
+use Rattle.sum_outcome.specs.Players.{LosesGame}
 use Rattle.go_grid.specs.Board.{other}
-use Rattle.game_canon.specs.Laws.{incentive}
+use Rattle.short_games.specs.SumLaws.{incentive}
 use Rattle.game_canon.specs.SumComparisons.{AreComparisonsRight}
 use Rattle.sum_outcome.specs.Search.{IsMove, put}
 use Rattle.sum_outcome.specs.declared.incentives.MovePair.{MovePair}

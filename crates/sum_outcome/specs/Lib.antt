@@ -1,3 +1,4 @@
+pub mod Players
 pub mod Sums
 pub mod Search
 pub mod Examples

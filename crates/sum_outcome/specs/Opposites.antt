@@ -2,11 +2,11 @@
 use Rattle.std.specs.Prelude.{ℕ, ◌≡◌, ◌<◌, ◌↔◌, List, length, Option, Some, None, pos}
 use Rattle.std.specs.List.{slice_index_or}
 use Rattle.go_grid.specs.declared.grid.Colour.{Colour}
-use Rattle.game_store.specs.Tree.{Tree, node, none, neg}
-use Rattle.game_store.specs.Order.{◌≡ᵍ◌}
-use Rattle.game_store.specs.Sum.{◌+ᵍ◌}
-use Rattle.game_store.specs.Meaning.{tree_at, number_tree}
-use Rattle.game_canon.specs.Players.{LosesGame}
+use Rattle.short_games.specs.Tree.{Tree, node, none, neg, tree_at}
+use Rattle.short_games.specs.Order.{◌≡ᵍ◌}
+use Rattle.short_games.specs.Sum.{◌+ᵍ◌}
+use Rattle.short_games.specs.Number.{number_tree}
+use Rattle.sum_outcome.specs.Players.{LosesGame}
 use Rattle.sum_outcome.specs.declared.opposites.Opposites.{Opposites}
 
 -- two games cancel where they add up to 0

@@ -5,13 +5,13 @@ use Rattle.go_grid.specs.declared.grid.Colour.{Colour}
 use Rattle.go_grid.specs.Board.{other}
 use Rattle.std.specs.declared.cmp.Ordering.{Ordering}
 use Rattle.std.specs.declared.cmp.Ordering.TheVariants.{Less, Equal, Greater}
-use Rattle.game_store.specs.Tree.{Tree, Trees, node, none, more, Has}
-use Rattle.game_store.specs.Order.{◌≤ᵍ◌, ◌≡ᵍ◌}
-use Rattle.game_store.specs.Sum.{◌+ᵍ◌, total}
-use Rattle.game_store.specs.Number.{IsNumberTree}
-use Rattle.game_store.specs.TextOrder.{IsCanonicalTree}
-use Rattle.game_store.specs.Meaning.{tree_at, pick, number_tree}
-use Rattle.game_canon.specs.Players.{options, LosesGame}
+use Rattle.short_games.specs.Tree.{Tree, Trees, node, none, more, Has, tree_at}
+use Rattle.short_games.specs.Order.{◌≤ᵍ◌, ◌≡ᵍ◌}
+use Rattle.short_games.specs.Sum.{◌+ᵍ◌, total}
+use Rattle.short_games.specs.Number.{IsNumberTree, number_tree}
+use Rattle.short_games.specs.TextOrder.{IsCanonicalTree}
+use Rattle.game_store.specs.Meaning.{pick}
+use Rattle.sum_outcome.specs.Players.{options, LosesGame}
 
 -- a canonical tree that is no number's
 abbrev pub IsNonNumber : Tree → Type 0

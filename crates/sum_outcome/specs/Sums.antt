@@ -1,9 +1,10 @@
 -- Sums of listed games and a number, and bounds of their numbers.
 use Rattle.std.specs.Prelude.{ℕ, ◌+◌, ◌^◌, ◌<◌, ◌≤◌, List, [], ◌∷◌, sum, ℤ, unsigned_abs}
-use Rattle.game_store.specs.Tree.{Tree, Trees, none, more}
-use Rattle.game_store.specs.Sum.{◌+ᵍ◌, total}
-use Rattle.game_store.specs.Parts.{IsNumberOf}
-use Rattle.game_store.specs.Meaning.{pick, number_tree}
+use Rattle.short_games.specs.Tree.{Tree, Trees, none, more}
+use Rattle.short_games.specs.Sum.{◌+ᵍ◌, total}
+use Rattle.short_games.specs.Parts.{IsNumberOf}
+use Rattle.game_store.specs.Meaning.{pick}
+use Rattle.short_games.specs.Number.{number_tree}
 
 -- the sum of the games of the ids and the number
 abbrev pub sum_tree : List Tree → List ℕ → ℤ → Tree

@@ -1,8 +1,8 @@
 //! Which moves in a sum need not be tried, since one in another game is better, or as good and in an earlier one.
 
 ghost use Rattle.std.specs.Prelude.{◌≡◌, ◌<◌, ◌↔◌, length, Contains, IsTrue, IfSome, ◌⊎◌};
-ghost use Rattle.game_store.specs.Tree.{Tree, Has};
-ghost use Rattle.game_store.specs.Meaning.{tree_at, pick, AreIds, AreBelow};
+ghost use Rattle.short_games.specs.Tree.{Tree, Has, tree_at};
+ghost use Rattle.game_store.specs.Meaning.{pick, AreIds, AreBelow};
 ghost use Rattle.sum_outcome.specs.Search.{IsMove, StoodBefore};
 ghost use Rattle.sum_outcome.specs.Incentives.{IsKnownRight, AreMoves, turned, IsAtLeast, IsAsGood, HasPreferred, IsDominated};
 ghost use Rattle.sum_outcome.specs.Memo.{AreKept, NoneIsNew};

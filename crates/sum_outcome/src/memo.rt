@@ -2,7 +2,7 @@
 
 ghost use Rattle.std.specs.Prelude.{◌≡◌, List, IfOk, IfSome};
 ghost use Rattle.std.specs.NonZero.{non_zero_usize_get};
-ghost use Rattle.game_store.specs.Tree.{Tree};
+ghost use Rattle.short_games.specs.Tree.{Tree};
 ghost use Rattle.sum_outcome.specs.Memo.{remembered, blank, AreSame, IsAmong, AreKept, NoneIsNew, IsRight, StaysRight, IsRecalled, Learns};
 
 use crate::incentives::Incentives;

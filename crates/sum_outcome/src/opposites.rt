@@ -1,7 +1,9 @@
 //! Games of a sum that cancel. 0 may stand for both.
 
 ghost use Rattle.std.specs.Prelude.{◌≡◌, ◌<◌, length, IfSome, Some, IsTrue, slice_index};
-ghost use Rattle.game_store.specs.Meaning.{tree_at, number_tree, AreIds};
+ghost use Rattle.short_games.specs.Tree.{tree_at};
+ghost use Rattle.short_games.specs.Number.{number_tree};
+ghost use Rattle.game_store.specs.Meaning.{AreIds};
 ghost use Rattle.sum_outcome.specs.Incentives.{IsKnownRight};
 ghost use Rattle.sum_outcome.specs.Memo.{IsRight, StaysRight};
 ghost use Rattle.sum_outcome.specs.Opposites.{Cancel, IsZero, AreOpposite, MayCancel, MayBeTakenOut};

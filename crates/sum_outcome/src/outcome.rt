@@ -4,11 +4,11 @@
 
 ghost use Rattle.std.specs.Prelude.{◌≡◌, ◌<◌, ◌↔◌, length, IsTrue, MatchOption};
 ghost use Rattle.std.specs.Bool.{OnFalse};
-ghost use Rattle.game_store.specs.Tree.{Tree, Has};
-ghost use Rattle.game_store.specs.Number.{IsNumberTree};
-ghost use Rattle.game_store.specs.TextOrder.{IsCanonicalTree};
-ghost use Rattle.game_store.specs.Meaning.{tree_at, pick, AreIds};
-ghost use Rattle.game_canon.specs.Players.{LosesGame};
+ghost use Rattle.short_games.specs.Tree.{Tree, Has, tree_at};
+ghost use Rattle.short_games.specs.Number.{IsNumberTree};
+ghost use Rattle.short_games.specs.TextOrder.{IsCanonicalTree};
+ghost use Rattle.game_store.specs.Meaning.{pick, AreIds};
+ghost use Rattle.sum_outcome.specs.Players.{LosesGame};
 ghost use Rattle.sum_outcome.specs.Sums.{sum_tree, IsBounded};
 ghost use Rattle.sum_outcome.specs.Memo.{IsRight, StaysRight};
 ghost use Rattle.sum_outcome.specs.Incentives.{IsSettled};

@@ -1,9 +1,10 @@
 //! Who loses sums of small games.
 
 ghost use Rattle.std.specs.Prelude.{◌≡◌, ◌<◌, ◌≤◌, ◌^◌, pos, length, unsigned_abs, IfOk, IfSome};
-ghost use Rattle.game_store.specs.Number.{num};
-ghost use Rattle.game_store.specs.Meaning.{tree_at, IsIdOf, Extends};
-ghost use Rattle.game_canon.specs.Examples.{choice, star as the_star};
+ghost use Rattle.short_games.specs.Number.{num};
+ghost use Rattle.short_games.specs.Tree.{tree_at};
+ghost use Rattle.game_store.specs.Meaning.{IsIdOf, Extends};
+ghost use Rattle.short_games.specs.Examples.{choice, star as the_star};
 ghost use Rattle.sum_outcome.specs.Memo.{Fits};
 ghost use Rattle.sum_outcome.specs.Examples.{IsSmall, AreSmall};
 

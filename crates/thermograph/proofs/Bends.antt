@@ -4,11 +4,12 @@ use Rattle.std.proofs.lemmas.Int.{ints, by_lt_z}
 use Rattle.thermograph.specs.declared.breaks.Break.{Break}
 use Rattle.thermograph.specs.declared.side.Side.{Side}
 use Rattle.thermograph.specs.declared.side.Side.TheVariants as side
-use Rattle.thermograph.specs.Breaks.{toward, Bends}
+use Rattle.thermograph.specs.Breaks.{toward}
+use Rattle.short_games.specs.WallGrids.{Bends}
 use Rattle.thermograph.specs.Scaffolds.{turned, rise_at, scaffold_at, IsAlong, IsStraight}
 use Rattle.thermograph.proofs.BreakLists.{toward-up, toward-down, toward-same, toward-none}
-use Rattle.thermograph.specs.Lines.{Rises}
-use Rattle.thermograph.proofs.Lines.{below-or_at}
+use Rattle.short_games.specs.Lines.{Rises}
+use Rattle.short_games.proofs.WallLines.{below-or_at}
 
 module _ (f : ℕ → ℤ) (rises : Rises f) where
   pub rises-far : (u v : ℕ) → u ≤ v → f u ≤ℤ f v

@@ -3,7 +3,8 @@ use Rattle.std.proofs.Common.{ℕ, zero, suc, ◌+◌, ◌-◌, ◌<◌, ◌≤�
 use Rattle.std.proofs.lemmas.Bool.{cases_lt, lt-ltb, le-ltb}
 use Rattle.std.proofs.lemmas.Int.{ints, by_lt_z}
 use Rattle.thermograph.specs.declared.breaks.Break.{Break}
-use Rattle.thermograph.specs.Breaks.{toward, from, wall_at, Reaches, IsBreakAt, Bends}
+use Rattle.thermograph.specs.Breaks.{toward, from, wall_at, Reaches, IsBreakAt}
+use Rattle.short_games.specs.WallGrids.{Bends}
 use Rattle.thermograph.specs.Scaffolds.{IsStraight, IsTraced}
 
 pub at-before : (t n : ℕ) (x y : ℤ) → t < n → cond (nat_lt t n) x y ≡ x

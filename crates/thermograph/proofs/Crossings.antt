@@ -10,7 +10,7 @@ use Rattle.thermograph.specs.Scaffolds.{rise, line, picked, scaffold_at, turned,
 use Rattle.thermograph.proofs.BreakLists.{toward-up, toward-down, toward-same, toward-none}
 use Rattle.thermograph.proofs.Bends.{rises-slow}
 use Rattle.thermograph.proofs.Ranges.{rise-range, left_end, right_end}
-use Rattle.thermograph.proofs.Lines.{below-or_at}
+use Rattle.short_games.proofs.WallLines.{below-or_at}
 
 module _ (f : ℕ → ℤ) (u v : ℕ) (straight : IsStraight f u v) where
   falling : f v <ℤ f u → (t : ℕ) → u ≤ t → t ≤ v → f t ≡ f u -ℤ pos (t - u)

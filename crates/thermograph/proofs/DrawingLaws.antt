@@ -3,24 +3,23 @@ use Rattle.std.specs.declared.alloc.Global.{Global}
 use Rattle.std.proofs.Common.{ℕ, suc, ◌+◌, ◌-◌, ◌^◌, ◌<◌, ◌≡◌, arith, refl, sym, ◌∙◌, ap, subst, ℤ, pos, List, [], ◌∷◌, length, Vec, None}
 use Rattle.std.proofs.lemmas.Int.{ints}
 use Rattle.dyadic_num.specs.Units.{IsInBounds}
-use Rattle.game_store.specs.Tree.{Tree, left, right}
-use Rattle.game_store.specs.Number.{num}
-use Rattle.game_store.specs.TextOrder.{IsCanonicalTree}
-use Rattle.game_store.specs.Meaning.{tree_at, number_tree}
+use Rattle.short_games.specs.Tree.{Tree, left, right, tree_at}
+use Rattle.short_games.specs.Number.{num, number_tree}
+use Rattle.short_games.specs.TextOrder.{IsCanonicalTree}
 use Rattle.game_store.specs.Forms.{IsOptions, HaveForms}
 use Rattle.thermograph.specs.declared.breaks.Break.{Break}
 use Rattle.thermograph.specs.declared.drawing.Drawing.{Drawing}
 use Rattle.thermograph.specs.declared.side.Side.TheVariants as side
-use Rattle.thermograph.specs.Walls.{IsGreatest, IsLeast, WallsAre, AllWallsAre, HasWalls, IsMeeting, HasTemperatureBetween}
-use Rattle.thermograph.specs.Walls.WallsAre.{of_number, of_game}
-use Rattle.thermograph.specs.Breaks.{wall_at, from, IsLevel, IsPath, Bends}
+use Rattle.short_games.specs.WallGrids.{IsGreatest, IsLeast, WallsAre, AllWallsAre, HasWalls, IsMeeting, HasTemperatureBetween, Bends}
+use Rattle.short_games.specs.WallGrids.WallsAre.{of_number, of_game}
+use Rattle.thermograph.specs.Breaks.{wall_at, from, IsLevel, IsPath}
 use Rattle.thermograph.specs.Scaffolds.{picked, scaffold_at, IsTraced}
 use Rattle.thermograph.specs.Drawings.{AreBreaks, IsTemperature, end_of, IsDrawing, IsJoined, Jumps, AreDrawnBelow}
-use Rattle.thermograph.proofs.Numbers.{num-one_to_one}
-use Rattle.thermograph.proofs.Over.{over-more}
-use Rattle.thermograph.proofs.Drawn.{left_wall, right_wall, left_scaffold, left_scaffold-is, right_scaffold-is, walls-at}
-use Rattle.thermograph.proofs.Steps.{join-drawn, walls-within}
-use Rattle.thermograph.proofs.Existence.{jump-odd}
+use Rattle.short_games.proofs.WallNumbers.{num-one_to_one}
+use Rattle.short_games.proofs.WallOver.{over-more}
+use Rattle.short_games.proofs.WallsDrawn.{left_wall, right_wall, left_scaffold, left_scaffold-is, right_scaffold-is, walls-at}
+use Rattle.short_games.proofs.WallSteps.{join-drawn, walls-within}
+use Rattle.short_games.proofs.WallExistence.{jump-odd}
 use Rattle.thermograph.proofs.StoreTrees.{number-over, store-over, store-bounded, IsStored}
 use Rattle.thermograph.proofs.OptionWalls.{lefts-all, rights-all, left_filled, right_filled, left-is, right-is}
 

@@ -2,15 +2,16 @@
 use Rattle.std.proofs.Common.{ℕ, zero, suc, ◌+◌, ◌-◌, ◌*◌, ◌^◌, ◌<◌, ◌≡◌, ◌⊎◌, inl, inr, arith, refl, sym, ◌∙◌, ap, ap₂, subst, ℤ, pos, ◌+ℤ◌, ◌*ℤ◌, List, [], ◌∷◌}
 use Rattle.std.proofs.lemmas.Int.{ints, by_lt_z}
 use Rattle.std.proofs.lemmas.Bool.{cases_lt}
-use Rattle.game_store.specs.Tree.{Tree}
+use Rattle.short_games.specs.Tree.{Tree}
 use Rattle.thermograph.specs.declared.breaks.Break.{Break}
 use Rattle.thermograph.specs.Breaks.{toward, from, wall_at, Reaches, IsPath}
-use Rattle.thermograph.specs.Drawings.{DrawWalls, in_parts}
-use Rattle.thermograph.specs.Walls.{HasWalls, finer}
+use Rattle.thermograph.specs.Drawings.{DrawWalls, DrawOnGrids, in_parts}
+use Rattle.short_games.specs.WallGrids.{HasWalls, finer}
 use Rattle.thermograph.proofs.BreakLists.{at-before, at-after, toward-up, toward-down, toward-same, toward-none}
-use Rattle.thermograph.proofs.Lines.{Doubles, finer-doubles, parity, Parity, below-or_at}
-use Rattle.thermograph.proofs.Lines.Parity.{even, odd}
-use Rattle.thermograph.proofs.Solutions.{has_walls-finer}
+use Rattle.short_games.proofs.WallLines.{Doubles, finer-doubles, parity, Parity, below-or_at}
+use Rattle.short_games.proofs.WallLines.Parity.{even, odd}
+use Rattle.short_games.proofs.WallRule.{rule-is}
+use Rattle.short_games.proofs.WallSolutions.{has_walls-finer}
 
 abbrev twice : Break → Break
 twice b = record { at = b.at + b.at; value = b.value +ℤ b.value }
@@ -106,10 +107,14 @@ module _ (G : Tree) (l r : List Break) (left_path : IsPath l) (right_path : IsPa
   next k l r p q w = let f = has_walls-finer k G (wall_at l) (wall_at r) w in
       record { lw = f.lw; rw = f.rw; all = f.all; left_is = λ t. f.left_is t ∙ wall-finer l p t; right_is = λ t. f.right_is t ∙ wall-finer r q t }
 
-  pub draw-all : HasWalls 60 G (wall_at l) (wall_at r) → DrawWalls G l r
-  draw-all w zero = subst (λ xs. HasWalls 60 G (wall_at xs) (wall_at (in_parts 0 r))) (sym (parts-none l)) (subst (λ ys. HasWalls 60 G (wall_at l) (wall_at ys)) (sym (parts-none r)) w)
-  draw-all w (suc j) = subst (λ xs. HasWalls (60 + suc j) G (wall_at xs) (wall_at (in_parts (suc j) r))) (sym (parts-next j l))
+  pub draw-grids : HasWalls 60 G (wall_at l) (wall_at r) → DrawOnGrids G l r
+  draw-grids w zero = subst (λ xs. HasWalls 60 G (wall_at xs) (wall_at (in_parts 0 r))) (sym (parts-none l)) (subst (λ ys. HasWalls 60 G (wall_at l) (wall_at ys)) (sym (parts-none r)) w)
+  draw-grids w (suc j) = subst (λ xs. HasWalls (60 + suc j) G (wall_at xs) (wall_at (in_parts (suc j) r))) (sym (parts-next j l))
       (subst (λ ys. HasWalls (60 + suc j) G (wall_at (doubled (in_parts j l))) (wall_at ys)) (sym (parts-next j r))
       (let e : suc (60 + j) ≡ 60 + suc j = omega arith in
       subst (λ k. HasWalls k G (wall_at (doubled (in_parts j l))) (wall_at (doubled (in_parts j r)))) e
-      (next (60 + j) (in_parts j l) (in_parts j r) (path-in_parts l left_path j) (path-in_parts r right_path j) (draw-all w j))))
+      (next (60 + j) (in_parts j l) (in_parts j r) (path-in_parts l left_path j) (path-in_parts r right_path j) (draw-grids w j))))
+
+  -- so they draw them at each place
+  pub draw-all : HasWalls 60 G (wall_at l) (wall_at r) → DrawWalls G l r
+  draw-all w j t = let s = rule-is (60 + j) G (wall_at (in_parts j l)) (wall_at (in_parts j r)) (draw-grids w j) t in ((s (wall_at (in_parts j l) t)).0.1 refl, (s (wall_at (in_parts j r) t)).1.1 refl)

@@ -1,14 +1,3 @@
-pub mod Greatest
-pub mod Numbers
-pub mod Over
-pub mod Lines
-pub mod Solutions
-pub mod Drawn
-pub mod Steps
-pub mod Beginnings
-pub mod Existence
-pub mod Meetings
-pub mod Between
 pub mod BreakLists
 pub mod Heights
 pub mod Ranges

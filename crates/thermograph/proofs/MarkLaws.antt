@@ -3,16 +3,16 @@ use Rattle.std.proofs.Common.{ℕ, ◌+◌, ◌<◌, ◌≤◌, ◌≡◌, ◌�
 use Rattle.std.proofs.lemmas.Bool.{cases_eq, cases_lt, true≢false}
 use Rattle.std.proofs.Math.Seq.{take-append_seam}
 use Rattle.std.proofs.lemmas.List.{length-set, get_or-set_same, get_or-set_other, get_or-replicate, length-replicate, get_or_past, get_or_default}
-use Rattle.game_store.specs.Tree.{Tree, left, right, Has}
-use Rattle.game_store.specs.Number.{IsNumberTree}
-use Rattle.game_store.specs.Meaning.{tree_at, pick, AreDistinct}
-use Rattle.game_store.specs.Parts.{IsFollower}
-use Rattle.game_store.specs.Parts.IsFollower.{itself, further}
+use Rattle.short_games.specs.Tree.{Tree, left, right, Has, tree_at, AreDistinct}
+use Rattle.short_games.specs.Number.{IsNumberTree}
+use Rattle.game_store.specs.Meaning.{pick}
+use Rattle.short_games.specs.Parts.{IsFollower}
+use Rattle.short_games.specs.Parts.IsFollower.{itself, further}
 use Rattle.game_store.specs.Forms.{IsOptions}
 use Rattle.game_store.proofs.Values.{has-pick, pick-has}
-use Rattle.game_store.proofs.TextOrderLaws.{sorted-has, has-sorted}
+use Rattle.short_games.proofs.TextOrderLaws.{sorted-has, has-sorted}
 use Rattle.thermograph.specs.Marks.{IsMarked, AreAdded, IsAmong, IsInner, AreFollowers}
-use Rattle.thermograph.proofs.Between.{follower-trans}
+use Rattle.short_games.proofs.PartLaws.{follower-trans}
 
 pub added-none : (In : ℕ → Type 0) (xs : List Bool) → ((i : ℕ) → In i → ⊥) → AreAdded In xs xs
 added-none In xs n = record { size = refl; marked = λ i h. (λ m. inl m, λ m. elim m [ inl a ↦ a | inr b ↦ absurd (n i b) ]) }

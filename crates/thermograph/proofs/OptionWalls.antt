@@ -4,23 +4,23 @@ use Rattle.std.proofs.Common.{ℕ, suc, ◌<◌, ◌≡◌, arith, refl, sym, �
 use Rattle.std.specs.Int.{int_max}
 use Rattle.std.proofs.lemmas.Int.{ints}
 use Rattle.std.proofs.lemmas.List.{length-map}
-use Rattle.game_store.specs.Tree.{Tree, Trees, none, more, left, right, Has}
-use Rattle.game_store.specs.TextOrder.{sorted}
-use Rattle.game_store.specs.Meaning.{tree_at, pick}
+use Rattle.short_games.specs.Tree.{Tree, Trees, none, more, left, right, Has, tree_at}
+use Rattle.short_games.specs.TextOrder.{sorted}
+use Rattle.game_store.specs.Meaning.{pick}
 use Rattle.game_store.specs.Forms.{IsOptions}
-use Rattle.game_store.proofs.TextOrderLaws.{sorted-has, has-sorted}
+use Rattle.short_games.proofs.TextOrderLaws.{sorted-has, has-sorted}
 use Rattle.thermograph.specs.declared.breaks.Break.{Break}
 use Rattle.thermograph.specs.declared.side.Side.TheVariants as side
-use Rattle.thermograph.specs.Lines.{Rises, Falls}
-use Rattle.thermograph.specs.Walls.{IsGreatest, IsLeast, AllWallsAre, HasWalls}
+use Rattle.short_games.specs.Lines.{Rises, Falls}
+use Rattle.short_games.specs.WallGrids.{IsGreatest, IsLeast, AllWallsAre, HasWalls}
 use Rattle.thermograph.specs.Breaks.{IsLevel}
 use Rattle.thermograph.specs.Scaffolds.{wall_of, picked, turned_wall, greatest, rise_at, scaffold_at, AreLevel, AreSteady, IsSteadyLine, Stays}
 use Rattle.thermograph.specs.Drawings.{IsDrawn, AreDrawnBelow}
-use Rattle.thermograph.proofs.Greatest.{IsFilled, filled, greatest-one, greatest-more}
-use Rattle.thermograph.proofs.Lines.{greatest-same, least-same}
-use Rattle.thermograph.proofs.Solutions.{walls-unique, walls-steady, left_scaffold-falls, right_scaffold-rises}
-use Rattle.thermograph.proofs.Drawn.{left_wall, right_wall, left_scaffold, right_scaffold, left_scaffold-is, right_scaffold-is}
-use Rattle.thermograph.proofs.Steps.{solution-drawn}
+use Rattle.short_games.proofs.WallGreatest.{IsFilled, filled, greatest-one, greatest-more}
+use Rattle.short_games.proofs.WallLines.{greatest-same, least-same}
+use Rattle.short_games.proofs.WallSolutions.{walls-unique, walls-steady, left_scaffold-falls, right_scaffold-rises}
+use Rattle.short_games.proofs.WallsDrawn.{left_wall, right_wall, left_scaffold, right_scaffold, left_scaffold-is, right_scaffold-is}
+use Rattle.short_games.proofs.WallSteps.{solution-drawn}
 use Rattle.thermograph.proofs.Heights.{pick-read}
 use Rattle.thermograph.proofs.MarkLaws.{left-inner, right-inner}
 use Rattle.thermograph.proofs.StoreTrees.{left-listed, right-listed}

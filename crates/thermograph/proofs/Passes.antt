@@ -2,15 +2,14 @@
 use Rattle.std.specs.declared.alloc.Global.{Global}
 use Rattle.std.proofs.Common.{ℕ, zero, suc, ◌+◌, ◌<◌, ◌≡◌, ◌⊎◌, arith, refl, inl, inr, sym, ◌∙◌, ap, subst, List, [], ◌∷◌, ◌++◌, length, Bool, Vec}
 use Rattle.std.proofs.lemmas.List.{length-append}
-use Rattle.game_store.specs.Tree.{Tree}
-use Rattle.game_store.specs.Meaning.{tree_at}
+use Rattle.short_games.specs.Tree.{Tree, tree_at}
 use Rattle.thermograph.specs.declared.breaks.Break.{Break}
-use Rattle.thermograph.specs.Walls.{HasTemperatureBetween}
+use Rattle.short_games.specs.WallGrids.{HasTemperatureBetween}
 use Rattle.thermograph.specs.Scaffolds.{wall_of}
 use Rattle.thermograph.specs.Marks.{IsMarked, AreFollowers}
 use Rattle.thermograph.specs.Drawings.{IsDrawn, AreDrawnBelow, AreDrawn}
 use Rattle.thermograph.specs.PastBounds.{IsDrawnPastBounds}
-use Rattle.thermograph.proofs.Lines.{below-or_at}
+use Rattle.short_games.proofs.WallLines.{below-or_at}
 use Rattle.thermograph.proofs.PastBounds.{past-bounds_of}
 
 module _ (Ts : List Tree) (marks : List Bool) where

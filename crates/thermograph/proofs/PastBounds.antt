@@ -6,23 +6,22 @@ use Rattle.std.proofs.lemmas.Int.{ints}
 use Rattle.std.proofs.lemmas.Nat.{pow-add}
 use Rattle.std.proofs.Math.IntN.{*ℤ_comm, *ℤ-zero, pos-*ℤ-pos, suc_ℤ-*ℤ}
 use Rattle.std.proofs.Math.Nat.{pow-suc}
-use Rattle.game_store.specs.Tree.{Tree}
-use Rattle.game_store.specs.Number.{IsNumberTree}
-use Rattle.game_store.specs.Parts.{IsFollower, IsOption, IsPart}
-use Rattle.game_store.specs.Parts.IsFollower.{itself, further}
-use Rattle.game_store.specs.Meaning.{tree_at}
+use Rattle.short_games.specs.Tree.{Tree, tree_at}
+use Rattle.short_games.specs.Number.{IsNumberTree}
+use Rattle.short_games.specs.Parts.{IsFollower, IsOption, IsPart}
+use Rattle.short_games.specs.Parts.IsFollower.{itself, further}
 use Rattle.game_store.specs.Forms.{HaveForms}
-use Rattle.thermograph.specs.Walls.{Follow, HasWalls, HasTemperatureBetween, IsMeeting, WallsAre, finer}
-use Rattle.thermograph.specs.Walls.Follow.{apart, met}
-use Rattle.thermograph.specs.Walls.WallsAre.{of_number, of_game}
-use Rattle.thermograph.specs.Breaks.{Bends}
+use Rattle.short_games.specs.WallGrids.{Follow, HasWalls, HasTemperatureBetween, IsMeeting, WallsAre, finer, Bends}
+use Rattle.short_games.specs.WallGrids.Follow.{apart, met}
+use Rattle.short_games.specs.WallGrids.WallsAre.{of_number, of_game}
 use Rattle.thermograph.specs.PastBounds.{IsBreak, IsWithin, HasBreakPast, IsDrawnPastBounds}
-use Rattle.thermograph.proofs.Between.{follower-trans, none-bends, none-between}
-use Rattle.thermograph.proofs.Lines.{finer-doubles, Parity, parity}
-use Rattle.thermograph.proofs.Lines.Parity.{even, odd}
-use Rattle.thermograph.proofs.Meetings.{meeting-exists}
-use Rattle.thermograph.proofs.Solutions.{all-left, all-right, has_walls-finer, has_walls-unique}
-use Rattle.thermograph.proofs.Steps.{IsBounded, walls-within}
+use Rattle.short_games.proofs.PartLaws.{follower-trans}
+use Rattle.short_games.proofs.WallBetween.{none-bends, none-between}
+use Rattle.short_games.proofs.WallLines.{finer-doubles, Parity, parity}
+use Rattle.short_games.proofs.WallLines.Parity.{even, odd}
+use Rattle.short_games.proofs.WallMeetings.{meeting-exists}
+use Rattle.short_games.proofs.WallSolutions.{all-left, all-right, has_walls-finer, has_walls-unique}
+use Rattle.short_games.proofs.WallSteps.{IsBounded, walls-within}
 use Rattle.thermograph.proofs.StoreTrees.{IsStored, number-over, store-bounded}
 
 -- the walls of a game with numbers of at most `most` meet at most there

@@ -1,20 +1,20 @@
 -- The numbers in the trees of a store: parts of 2 ^ -60 within the bounds.
 use Rattle.std.proofs.Common.{ℕ, zero, suc, ◌-◌, ◌<◌, ◌^◌, ◌≡◌, ◌⊎◌, arith, inl, inr, sym, ◌∙◌, subst, List, length, get_or, ℤ, pos, neg_ℤ, ◌≤ℤ◌}
 use Rattle.std.proofs.lemmas.Int.{ints}
-use Rattle.game_store.specs.Tree.{Tree, left, right, Has}
-use Rattle.game_store.specs.Number.{num, IsNumberTree}
-use Rattle.game_store.specs.Meaning.{tree_at, pick, Wanted}
+use Rattle.short_games.specs.Tree.{Tree, left, right, Has, tree_at}
+use Rattle.short_games.specs.Number.{num, IsNumberTree}
+use Rattle.game_store.specs.Meaning.{pick, Wanted}
 use Rattle.game_store.specs.Meaning.Wanted.{number, options}
 use Rattle.game_store.specs.Forms.{IsOptions, IsMeaning, IsWithinBounds, HaveForms}
-use Rattle.game_store.specs.Parts.{IsOption, IsFollower}
-use Rattle.game_store.specs.Parts.IsFollower.{itself, further}
-use Rattle.game_store.proofs.NumberLaws.{num-left, num-right}
-use Rattle.game_store.proofs.PartLaws.{follower-of}
-use Rattle.game_store.proofs.TextOrderLaws.{sorted-has}
+use Rattle.short_games.specs.Parts.{IsOption, IsFollower}
+use Rattle.short_games.specs.Parts.IsFollower.{itself, further}
+use Rattle.short_games.proofs.NumberLaws.{num-left, num-right}
+use Rattle.short_games.proofs.PartLaws.{follower-of}
+use Rattle.short_games.proofs.TextOrderLaws.{sorted-has}
 use Rattle.game_store.proofs.Values.{has-pick}
-use Rattle.thermograph.proofs.Numbers.{num-one_to_one}
-use Rattle.thermograph.proofs.Over.{IsOver}
-use Rattle.thermograph.proofs.Steps.{IsBounded}
+use Rattle.short_games.proofs.WallNumbers.{num-one_to_one}
+use Rattle.short_games.proofs.WallOver.{IsOver}
+use Rattle.short_games.proofs.WallSteps.{IsBounded}
 
 -- the followers of a number are numbers over the same power of two
 pub number-over : (e : ℕ) (x : ℤ) (G P : Tree) → G ≡ num e x → IsFollower G P → (n : ℤ) × (P ≡ num e n)

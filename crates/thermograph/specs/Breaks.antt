@@ -1,5 +1,5 @@
 -- What a list of break points draws.
-use Rattle.std.specs.Prelude.{ℕ, ◌-◌, ◌+◌, ◌^◌, ◌≡◌, ◌<◌, ◌⊎◌, ℤ, pos, negsuc, ◌+ℤ◌, ◌-ℤ◌, ◌≤ℤ◌, int_lt, nat_lt, cond, List, [], ◌∷◌}
+use Rattle.std.specs.Prelude.{ℕ, ◌-◌, ◌^◌, ◌≡◌, ◌<◌, ◌⊎◌, ℤ, pos, negsuc, ◌+ℤ◌, ◌-ℤ◌, ◌≤ℤ◌, int_lt, nat_lt, cond, List, [], ◌∷◌}
 use Rattle.thermograph.specs.declared.breaks.Break.{Break}
 
 -- the number d away from x on the way to y
@@ -36,7 +36,3 @@ IsPath (b ∷ bs) = Reaches b bs
 abbrev pub IsBreakAt : List Break → ℕ → Type 0
 IsBreakAt [] t = ⊥
 IsBreakAt (b ∷ bs) t = (b.at ≡ t) ⊎ IsBreakAt bs t
-
--- the slope of the line changes at t
-abbrev pub Bends : (ℕ → ℤ) → ℕ → Type 0
-Bends f t = (f (t - 1) +ℤ f (t + 1) ≡ f t +ℤ f t → ⊥)

@@ -2,13 +2,13 @@
 use Rattle.std.specs.declared.alloc.Global.{Global}
 use Rattle.std.specs.Prelude.{ℕ, ◌+◌, ◌-◌, ◌*◌, ◌^◌, ◌≡◌, ◌<◌, ◌↔◌, length, map, ℤ, pos, unsigned_abs, ◌*ℤ◌, ◌<ℤ◌, Bool, List, Vec, Option, Some, None}
 use Rattle.std.specs.List.{slice_index_or}
-use Rattle.game_store.specs.Tree.{Tree}
-use Rattle.game_store.specs.Number.{IsNumberTree}
-use Rattle.game_store.specs.Meaning.{tree_at, number_tree}
+use Rattle.short_games.specs.Tree.{Tree, tree_at}
+use Rattle.short_games.specs.Number.{IsNumberTree, number_tree}
 use Rattle.thermograph.specs.declared.breaks.Break.{Break}
 use Rattle.thermograph.specs.declared.drawing.Drawing.{Drawing}
-use Rattle.thermograph.specs.Walls.{HasWalls, IsMeeting}
-use Rattle.thermograph.specs.Breaks.{wall_at, IsLevel, IsPath, IsBreakAt, Bends}
+use Rattle.short_games.specs.Walls.{IsLeftWall, IsRightWall}
+use Rattle.short_games.specs.WallGrids.{HasWalls, IsMeeting, Bends}
+use Rattle.thermograph.specs.Breaks.{wall_at, IsLevel, IsPath, IsBreakAt}
 use Rattle.thermograph.specs.Scaffolds.{wall_of, AreApart, IsTraced}
 use Rattle.thermograph.specs.Marks.{IsMarked, IsInner}
 
@@ -24,9 +24,13 @@ pub record AreBreaks (bs : List Break) (end : ℕ) : Type 0 where
 abbrev pub in_parts : ℕ → List Break → List Break
 in_parts j bs = map (λ b. record { at = b.at * 2 ^ j; value = b.value *ℤ pos (2 ^ j) }) bs
 
--- the lists of break points draw the walls of G at each dyadic t: at the multiples of 2 ^ -(60 + j), for every j
+-- the lists of break points draw the walls of G: at each t that is a fraction, as t / 2 ^ (60 + j)
 abbrev pub DrawWalls : Tree → List Break → List Break → Type 0
-DrawWalls G l r = (j : ℕ) → HasWalls (60 + j) G (wall_at (in_parts j l)) (wall_at (in_parts j r))
+DrawWalls G l r = (j t : ℕ) → IsLeftWall G (60 + j) t (wall_at (in_parts j l) t) × IsRightWall G (60 + j) t (wall_at (in_parts j r) t)
+
+-- and these are the walls of G on each of the grids
+abbrev pub DrawOnGrids : Tree → List Break → List Break → Type 0
+DrawOnGrids G l r = (j : ℕ) → HasWalls (60 + j) G (wall_at (in_parts j l)) (wall_at (in_parts j r))
 
 -- where l and r are the walls: a number has no temperature, and its mean is the number; the temperature of another game
 -- is where the walls meet, and its mean is where they meet

@@ -1,6 +1,3 @@
-pub mod Lines
-pub mod Walls
-pub mod Laws
 pub mod Breaks
 pub mod Scaffolds
 pub mod Marks

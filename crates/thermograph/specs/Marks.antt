@@ -1,10 +1,9 @@
 -- Marks on the ids of a store.
 use Rattle.std.specs.Prelude.{ℕ, ◌+◌, ◌≡◌, ◌<◌, ◌≤◌, ◌⊎◌, ◌↔◌, Bool, true, false, List, length}
 use Rattle.std.specs.List.{slice_index_or}
-use Rattle.game_store.specs.Tree.{Tree}
-use Rattle.game_store.specs.Number.{IsNumberTree}
-use Rattle.game_store.specs.Meaning.{tree_at}
-use Rattle.game_store.specs.Parts.{IsOption, IsFollower}
+use Rattle.short_games.specs.Tree.{Tree, tree_at}
+use Rattle.short_games.specs.Number.{IsNumberTree}
+use Rattle.short_games.specs.Parts.{IsOption, IsFollower}
 
 abbrev pub IsMarked : List Bool → ℕ → Type 0
 IsMarked marks i = slice_index_or marks i false ≡ true

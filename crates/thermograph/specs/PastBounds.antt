@@ -1,9 +1,8 @@
 -- Break points past the bounds of a Dyadic.
 use Rattle.std.specs.Prelude.{ℕ, ◌≡◌, ◌<◌, ◌^◌, ◌⊎◌, ℤ, pos, ◌*ℤ◌, unsigned_abs}
-use Rattle.game_store.specs.Tree.{Tree}
-use Rattle.game_store.specs.Parts.{IsPart}
-use Rattle.thermograph.specs.Breaks.{Bends}
-use Rattle.thermograph.specs.Walls.{HasWalls, IsMeeting}
+use Rattle.short_games.specs.Tree.{Tree}
+use Rattle.short_games.specs.Parts.{IsPart}
+use Rattle.short_games.specs.WallGrids.{Bends, HasWalls, IsMeeting}
 
 -- n / 2 ^ k is within the bounds of a Dyadic: some u / 2 ^ 60 with u below 2 ^ 120 in size
 abbrev pub IsWithin : ℕ → ℤ → Type 0

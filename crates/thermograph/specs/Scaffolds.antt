@@ -8,8 +8,9 @@ use Rattle.game_store.specs.Meaning.{AreBelow}
 use Rattle.thermograph.specs.declared.scaffold.Scaffold.{Scaffold}
 use Rattle.thermograph.specs.declared.side.Side.{Side}
 use Rattle.thermograph.specs.declared.side.Side.TheVariants as side
-use Rattle.thermograph.specs.Lines.{Rises}
-use Rattle.thermograph.specs.Breaks.{wall_at, toward, IsLevel, IsPath, IsBreakAt, Bends}
+use Rattle.short_games.specs.Lines.{Rises}
+use Rattle.thermograph.specs.Breaks.{wall_at, toward, IsLevel, IsPath, IsBreakAt}
+use Rattle.short_games.specs.WallGrids.{Bends}
 
 -- the wall of an id
 abbrev pub wall_of : List (Vec Break Global) → ℕ → List Break

@@ -1,8 +1,9 @@
 //! The walls of a game from those of its options.
 
 ghost use Rattle.std.specs.Prelude.{◌≡◌, ◌<◌, ◌≤◌, ◌^◌, ◌∷◌, [], length, unsigned_abs, IfOk, IfErr};
-ghost use Rattle.game_store.specs.Meaning.{tree_at, number_tree};
-ghost use Rattle.thermograph.specs.Walls.{HasTemperatureBetween};
+ghost use Rattle.short_games.specs.Tree.{tree_at};
+ghost use Rattle.short_games.specs.Number.{number_tree};
+ghost use Rattle.short_games.specs.WallGrids.{HasTemperatureBetween};
 ghost use Rattle.thermograph.specs.Scaffolds.{line, IsKnown, Stays};
 ghost use Rattle.thermograph.specs.Drawings.{IsJoined, Jumps, IsDrawing, AreDrawnBelow};
 ghost use Rattle.thermograph.specs.declared.error.ThermoError.TheVariants as the_error;

@@ -6,7 +6,6 @@ mod breaks;
 mod drawing;
 mod error;
 mod followers;
-mod laws;
 mod meeting;
 mod pass;
 mod scaffold;
@@ -16,6 +15,5 @@ mod tests;
 mod wall;
 
 pub use error::ThermoError;
-pub use laws::wall_laws;
 pub use pass::{Thermograph, draw};
 pub use wall::Wall;

@@ -1,10 +1,10 @@
 //! Thermographs of the games of a store.
 
 ghost use Rattle.std.specs.Prelude.{◌≡◌, ◌<◌, ◌≤◌, [], ◌∷◌, ◌++◌, length, IfOk, IfErr, OnOk};
-ghost use Rattle.game_store.specs.Meaning.{tree_at};
+ghost use Rattle.short_games.specs.Tree.{tree_at};
 ghost use Rattle.thermograph.specs.Breaks.{wall_at};
 ghost use Rattle.thermograph.specs.Marks.{AreFollowers};
-ghost use Rattle.thermograph.specs.Drawings.{DrawWalls, IsTemperature, AreBreaks, end_of, IsDrawing, AreDrawn};
+ghost use Rattle.thermograph.specs.Drawings.{DrawWalls, DrawOnGrids, IsTemperature, AreBreaks, end_of, IsDrawing, AreDrawn};
 ghost use Rattle.thermograph.specs.PastBounds.{IsDrawnPastBounds};
 ghost use Rattle.thermograph.specs.Thermographs.{breaks, IsFromZero};
 ghost use Rattle.thermograph.specs.declared.error.ThermoError.TheVariants as the_error;
@@ -77,6 +77,8 @@ fn draw_below(
 pub fn draw(alloc: Global, store: &Store, id: GameId) -> Result<Thermograph, ThermoError>
     requires { id < length store.now }
     ensures walls { IfOk result (λ g. DrawWalls (tree_at store.now id) (breaks g.left)
+        (breaks g.right)) }
+    ensures grids { IfOk result (λ g. DrawOnGrids (tree_at store.now id) (breaks g.left)
         (breaks g.right)) }
     ensures temperature { IfOk result (λ g. IsTemperature (tree_at store.now id)
         (wall_at (breaks g.left)) (wall_at (breaks g.right)) g.temperature g.mean) }

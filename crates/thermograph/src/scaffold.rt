@@ -2,7 +2,8 @@
 
 ghost use Rattle.std.specs.Prelude.{true, cond, ◌≡◌, ◌+◌, ◌^◌, ◌<◌, ◌≤◌, ◌↔◌, ℕ, pos, neg_ℤ, ◌+ℤ◌, ◌-ℤ◌, ◌≤ℤ◌, IfOk};
 ghost use Rattle.std.specs.Int.{int_max};
-ghost use Rattle.thermograph.specs.Breaks.{IsInRange, Bends};
+ghost use Rattle.thermograph.specs.Breaks.{IsInRange};
+ghost use Rattle.short_games.specs.WallGrids.{Bends};
 ghost use Rattle.thermograph.specs.Scaffolds.{rise, line, picked, IsKnown, EachWall, IsClear, IsAlong, IsStraight, IsTraced};
 
 use crate::breaks::{Break, break_after, value};

@@ -2,7 +2,7 @@ use Rattle.std.proofs.Common.{ℕ, suc, zero, ◌≤◌, ◌≡◌, ◌↔◌, �
 use Rattle.go_grid.specs.Board.{other}
 use Rattle.whole_rules.specs.Purses.{purse, paid_out}
 use Rattle.game_store.specs.Meaning.{pick}
-use Rattle.game_canon.specs.Players.{LosesGame}
+use Rattle.sum_outcome.specs.Players.{LosesGame}
 use Rattle.sum_outcome.specs.Sums.{IsBounded, sum_tree}
 use Rattle.endgame_solver.specs.Held.{AreModest}
 use Rattle.endgame_solver.specs.SumGame.{balance}

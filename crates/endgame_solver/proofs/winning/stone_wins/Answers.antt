@@ -3,7 +3,7 @@ use Rattle.go_grid.specs.Board.{other}
 use Rattle.local_graph.specs.declared.graph.Edge.{Edge}
 use Rattle.whole_rules.specs.Purses.{paid_in}
 use Rattle.game_store.specs.Meaning.{pick, AreIds}
-use Rattle.game_canon.specs.Players.{LosesGame}
+use Rattle.sum_outcome.specs.Players.{LosesGame}
 use Rattle.sum_outcome.specs.Sums.{IsBounded, sum_tree}
 use Rattle.sum_outcome.proofs.Lists.{put_back}
 use Rattle.endgame_solver.specs.Held.{AreModest, IsStoneEdge, ids_at}

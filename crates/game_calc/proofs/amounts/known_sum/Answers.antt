@@ -1,5 +1,5 @@
 use Rattle.std.proofs.Common.{subst}
-use Rattle.game_store.specs.Meaning.{tree_at}
+use Rattle.short_games.specs.Tree.{tree_at}
 use Rattle.game_calc.specs.Steps.{IsStepRefusal}
 use Rattle.game_calc.proofs.AmountSteps.{sum-known, sum-refused}
 use Rattle.game_calc.proofs.amounts.known_sum.Goals as goal

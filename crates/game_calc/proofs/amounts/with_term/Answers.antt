@@ -1,4 +1,4 @@
-use Rattle.std.proofs.Common.{subst, sym, Some}
+use Rattle.std.proofs.Common.{subst, sym}
 use Rattle.std.specs.Prelude.{Option}
 use Rattle.std.proofs.lemmas.Result.{IfOk-weaker}
 use Rattle.game_calc.specs.Amounts.{IsAmount, IsBefore}

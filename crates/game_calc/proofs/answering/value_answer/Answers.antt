@@ -1,6 +1,6 @@
 use Rattle.std.proofs.Common.{ℕ}
 use Rattle.std.proofs.lemmas.Result.{IfErr-weaker}
-use Rattle.game_store.specs.Meaning.{tree_at}
+use Rattle.short_games.specs.Tree.{tree_at}
 use Rattle.game_calc.specs.Amounts.{IsAmount}
 use Rattle.game_calc.specs.Answer.{IsShownRefusal, IsUnanswered}
 use Rattle.game_calc.specs.Expression.{Expression}

@@ -1,9 +1,10 @@
 use Rattle.std.proofs.lemmas.Result.{IfErr-weaker, IfOk-weaker}
 use Rattle.std.proofs.Common.{sym, ◌∙◌}
-use Rattle.game_store.specs.Sum.{◌+ᵍ◌}
-use Rattle.game_store.specs.Meaning.{tree_at, listed}
+use Rattle.short_games.specs.Sum.{◌+ᵍ◌}
+use Rattle.short_games.specs.Tree.{tree_at}
+use Rattle.game_store.specs.Meaning.{listed}
 use Rattle.game_canon.specs.Outcomes.{IsCanonicalId, IsCause}
-use Rattle.game_store.proofs.SumLaws.{plus-comm}
+use Rattle.short_games.proofs.SumLaws.{plus-comm}
 use Rattle.game_calc.specs.Steps.{IsPairRefusal}
 use Rattle.game_calc.specs.Table.{noted}
 use Rattle.game_calc.proofs.SumSteps.{IsPairForm, pair-form, id-as, refusal-as}

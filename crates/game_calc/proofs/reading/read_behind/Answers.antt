@@ -1,4 +1,4 @@
-use Rattle.std.proofs.Common.{sym, ◌∙◌, ap, arith, refl}
+use Rattle.std.proofs.Common.{sym, ◌∙◌, ap, arith}
 use Rattle.game_calc.specs.Expression.{sign_of}
 use Rattle.game_calc.specs.declared.amounts.Sign.TheVariants as sign
 use Rattle.game_calc.specs.declared.tokens.Kind.TheVariants.{Plus, Minus}

@@ -1,6 +1,6 @@
 use Rattle.std.proofs.Common.{sym, ◌∙◌, subst}
 use Rattle.std.proofs.lemmas.Result.{err_from_is_err_and}
-use Rattle.game_store.specs.Meaning.{tree_at}
+use Rattle.short_games.specs.Tree.{tree_at}
 use Rattle.game_canon.specs.Reachable.{AreReachable}
 use Rattle.game_canon.proofs.ChangeSteps.{passed-on, reachable-closed}
 use Rattle.game_calc.specs.Steps.{IsStepRefusal}

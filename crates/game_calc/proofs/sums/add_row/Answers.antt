@@ -1,7 +1,7 @@
 use Rattle.std.proofs.Common.{ℕ, ◌<◌, length, get_or}
 use Rattle.std.proofs.lemmas.Result.{err_from_is_err_and}
-use Rattle.game_store.specs.Sum.{◌+ᵍ◌}
-use Rattle.game_store.specs.Meaning.{tree_at}
+use Rattle.short_games.specs.Sum.{◌+ᵍ◌}
+use Rattle.short_games.specs.Tree.{tree_at}
 use Rattle.game_canon.proofs.ChangeSteps.{passed-on}
 use Rattle.game_calc.specs.Steps.{IsPairRefusal}
 use Rattle.game_calc.specs.Table.{noted}

@@ -1,5 +1,5 @@
 use Rattle.std.proofs.Common.{◌∙◌, arith}
-use Rattle.game_calc.proofs.TokenSteps.{passing-start, passing-step, next-other, next-end}
+use Rattle.game_calc.proofs.TokenSteps.{passing-step, next-other, next-end}
 use Rattle.game_calc.proofs.tokens.token_start.Goals as goal
 
 pub passing-preserved : goal.passing-preserved

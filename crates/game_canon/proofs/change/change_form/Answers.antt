@@ -1,7 +1,7 @@
 use Rattle.std.proofs.Common.{◌∙◌, sym, subst, nat_eq}
 use Rattle.std.proofs.lemmas.Result.{err_from_is_err_and}
 use Rattle.indexmap.specs.IndexMap.{get}
-use Rattle.game_store.specs.Meaning.{tree_at}
+use Rattle.short_games.specs.Tree.{tree_at}
 use Rattle.game_canon.specs.Reachable.{AreReachable}
 use Rattle.game_canon.specs.Changes.{IsRefused}
 use Rattle.game_canon.proofs.ChangeSteps.{passed-on, not-none, reachable-closed, root-noted, root-is, all-refused}

@@ -1,5 +1,5 @@
 use Rattle.std.proofs.Common.{ℕ, ◌<◌, get_or}
-use Rattle.game_store.specs.Meaning.{tree_at}
+use Rattle.short_games.specs.Tree.{tree_at}
 use Rattle.game_canon.specs.Comparisons.{recalled}
 use Rattle.game_canon.specs.Games.{IsKnown}
 use Rattle.game_canon.specs.Sides.{Covers}

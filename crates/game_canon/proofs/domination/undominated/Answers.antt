@@ -1,7 +1,7 @@
 use Rattle.std.proofs.Common.{get_or, take, ◌++◌, [], ◌∷◌, List, ℕ, sym, subst}
 use Rattle.std.proofs.lemmas.List.{take_more}
 use Rattle.std.proofs.lemmas.Bool.{both_ways}
-use Rattle.game_store.specs.Meaning.{tree_at}
+use Rattle.short_games.specs.Tree.{tree_at}
 use Rattle.game_store.proofs.Values.{pick-has}
 use Rattle.game_canon.specs.Sides.{AreBest, Covers}
 use Rattle.game_canon.proofs.GameLaws.{none-list}

@@ -1,7 +1,7 @@
 use Rattle.std.proofs.Common.{inl, inr}
-use Rattle.game_store.specs.Tree.{Has}
-use Rattle.game_store.specs.Meaning.{tree_at, pick}
-use Rattle.game_store.specs.Parts.{IsOption}
+use Rattle.short_games.specs.Tree.{Has, tree_at}
+use Rattle.game_store.specs.Meaning.{pick}
+use Rattle.short_games.specs.Parts.{IsOption}
 use Rattle.game_canon.proofs.GameLaws.{has-left, left-has, has-right, right-has}
 use Rattle.game_canon.proofs.PartLaws.{grown-number, grown-both}
 use Rattle.game_canon.proofs.followers.add_options.Goals as goal

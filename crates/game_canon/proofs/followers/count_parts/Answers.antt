@@ -1,6 +1,6 @@
 use Rattle.std.proofs.Common.{◌≡◌, ◌<◌, ◌≤◌, List, ℕ, length, get_or, arith, sym, subst, [], ap}
 use Rattle.std.proofs.lemmas.List.{nil_from_length}
-use Rattle.game_store.specs.Tree.{Has}
+use Rattle.short_games.specs.Tree.{Has}
 use Rattle.game_store.specs.Meaning.{pick, listed}
 use Rattle.game_canon.specs.Followers.{IsGrown}
 use Rattle.game_canon.proofs.PartLaws.{follow-start, follow-step, follow-end, follow-over, ids-few}

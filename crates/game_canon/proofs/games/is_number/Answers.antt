@@ -1,6 +1,5 @@
 use Rattle.std.proofs.Common.{ℤ, ◌≡◌}
-use Rattle.game_store.specs.Number.{IsNumberTree}
-use Rattle.game_store.specs.Meaning.{number_tree}
+use Rattle.short_games.specs.Number.{IsNumberTree, number_tree}
 use Rattle.game_canon.proofs.GameLaws.{no-number_beside, of-stored}
 use Rattle.game_canon.proofs.games.is_number.Goals as goal
 

@@ -1,5 +1,5 @@
-use Rattle.game_store.specs.Meaning.{tree_at}
-use Rattle.game_canon.proofs.IncentiveLaws.{incentive-dominates, incentive-dominates_back}
+use Rattle.short_games.specs.Tree.{tree_at}
+use Rattle.short_games.proofs.IncentiveLaws.{incentive-dominates, incentive-dominates_back}
 use Rattle.game_canon.proofs.Steps.{through}
 use Rattle.game_canon.proofs.incentives.compare_incentives.Goals as goal
 

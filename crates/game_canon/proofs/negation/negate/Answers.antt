@@ -1,5 +1,5 @@
 use Rattle.game_canon.proofs.NegationLaws.{more_parts, negative_back, within_negative}
-use Rattle.game_store.specs.Meaning.{tree_at}
+use Rattle.short_games.specs.Tree.{tree_at}
 use Rattle.game_canon.proofs.negation.negate.Goals as goal
 
 pub returns-in-Ok-clause-parts : goal.returns-in-Ok-clause-parts

@@ -1,6 +1,6 @@
 use Rattle.std.proofs.Common.{List, ℕ, sym, subst}
 use Rattle.std.proofs.lemmas.List.{take_more}
-use Rattle.game_store.specs.Tree.{Has}
+use Rattle.short_games.specs.Tree.{Has}
 use Rattle.game_store.specs.Meaning.{pick}
 use Rattle.game_canon.specs.Reachable.{IsWidened}
 use Rattle.game_canon.proofs.ReachableLaws.{widened-none, widened-insert}

@@ -1,5 +1,5 @@
 use Rattle.std.proofs.Common.{take}
-use Rattle.game_store.specs.Tree.{Has}
+use Rattle.short_games.specs.Tree.{Has}
 use Rattle.game_store.specs.Meaning.{pick}
 use Rattle.game_canon.specs.Reachable.{IsWidened}
 use Rattle.game_canon.proofs.reach.add_ids.Given as goal

@@ -1,7 +1,7 @@
 use Rattle.std.proofs.Common.{inl, inr}
-use Rattle.game_store.specs.Tree.{Has}
-use Rattle.game_store.specs.Meaning.{tree_at, pick}
-use Rattle.game_canon.specs.Reachable.{IsInner}
+use Rattle.short_games.specs.Tree.{Has, tree_at}
+use Rattle.game_store.specs.Meaning.{pick}
+use Rattle.short_games.specs.Parts.{IsInner}
 use Rattle.game_canon.proofs.GameLaws.{has-left, left-has, has-right, right-has}
 use Rattle.game_canon.proofs.ReachableLaws.{widened-none, widened-both}
 use Rattle.game_canon.proofs.reach.add_inner.Goals as goal

@@ -1,7 +1,7 @@
 use Rattle.std.proofs.Common.{◌≡◌, ◌<◌, ◌≤◌, List, ℕ, length, get_or, arith, sym, subst, [], ◌∷◌, ap}
 use Rattle.std.proofs.lemmas.List.{nil_from_length}
-use Rattle.game_store.specs.Tree.{Has}
-use Rattle.game_store.specs.Meaning.{pick, tree_at}
+use Rattle.short_games.specs.Tree.{Has, tree_at}
+use Rattle.game_store.specs.Meaning.{pick}
 use Rattle.game_canon.specs.Ids.{IsInOrder}
 use Rattle.game_canon.specs.Reachable.{IsWidened}
 use Rattle.game_canon.proofs.PartLaws.{ids-few}

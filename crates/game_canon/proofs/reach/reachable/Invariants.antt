@@ -1,5 +1,5 @@
 use Rattle.std.proofs.Common.{◌-◌, length}
-use Rattle.game_store.specs.Meaning.{tree_at}
+use Rattle.short_games.specs.Tree.{tree_at}
 use Rattle.game_canon.proofs.ReachableLaws.{IsReaching}
 use Rattle.game_canon.proofs.reach.reachable.Given as goal
 

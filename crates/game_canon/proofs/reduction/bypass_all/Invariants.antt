@@ -1,5 +1,5 @@
 use Rattle.std.proofs.Common.{◌+◌}
-use Rattle.game_store.specs.Tree.{sizes}
+use Rattle.short_games.specs.Tree.{sizes}
 use Rattle.game_store.specs.Meaning.{pick}
 use Rattle.game_canon.specs.Comparisons.{recalled}
 use Rattle.game_canon.specs.Games.{beside, IsKnown}

@@ -1,6 +1,7 @@
 use Rattle.std.proofs.Common.{◌∙◌, arith, sym, subst}
 use Rattle.std.proofs.lemmas.Int.{ints}
-use Rattle.game_store.specs.Meaning.{AreIds, AreDistinct}
+use Rattle.game_store.specs.Meaning.{AreIds}
+use Rattle.short_games.specs.Tree.{AreDistinct}
 use Rattle.game_canon.specs.Comparisons.{recalled, AreRight}
 use Rattle.game_canon.proofs.Finish.{starts, start-as, known-beside, reduced-beside, right-empty}
 use Rattle.game_canon.proofs.reduction.reduced.Goals as goal

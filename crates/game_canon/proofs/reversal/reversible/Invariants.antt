@@ -1,6 +1,6 @@
 use Rattle.std.proofs.Common.{ℕ, ◌<◌, ◌⊎◌, get_or}
-use Rattle.game_store.specs.Number.{IsNumberTree}
-use Rattle.game_store.specs.Meaning.{tree_at}
+use Rattle.short_games.specs.Number.{IsNumberTree}
+use Rattle.short_games.specs.Tree.{tree_at}
 use Rattle.game_canon.specs.Comparisons.{recalled}
 use Rattle.game_canon.specs.Games.{beside, IsKnown}
 use Rattle.game_canon.specs.Sides.{IsKept}

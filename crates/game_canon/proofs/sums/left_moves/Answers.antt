@@ -1,5 +1,5 @@
 use Rattle.std.proofs.Common.{ap}
-use Rattle.game_store.specs.Tree.{left}
+use Rattle.short_games.specs.Tree.{left}
 use Rattle.game_canon.proofs.SumMoves.{listed-moves}
 use Rattle.game_canon.proofs.sums.left_moves.Goals as goal
 

@@ -1,8 +1,10 @@
 use Rattle.std.proofs.Common.{IfOk, ◌≡◌, pos, sym, subst}
-use Rattle.game_store.specs.Number.{num, IsNumberTree}
-use Rattle.game_store.specs.TextOrder.{IsCanonicalTree}
-use Rattle.game_store.specs.Meaning.{IsIdOf, tree_at}
-use Rattle.game_canon.proofs.Examples.{form-choice, whole-tree, kept-tree, one_or_star-canonical, one_or_star-no_number}
+use Rattle.short_games.specs.Number.{num, IsNumberTree}
+use Rattle.short_games.specs.TextOrder.{IsCanonicalTree}
+use Rattle.game_store.specs.Meaning.{IsIdOf}
+use Rattle.short_games.specs.Tree.{tree_at}
+use Rattle.game_canon.proofs.Examples.{form-choice, whole-tree, kept-tree}
+use Rattle.short_games.proofs.Examples.{one_or_star-canonical, one_or_star-no_number}
 use Rattle.game_canon.proofs.tests.one_or_star.Goals as goal
 
 pub intern-requires-clause-canonical : goal.intern-requires-clause-canonical

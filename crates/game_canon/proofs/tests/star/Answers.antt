@@ -1,9 +1,10 @@
 use Rattle.std.proofs.Common.{IfOk, ◌≡◌, pos, sym, subst}
-use Rattle.game_store.specs.Tree.{node, none}
-use Rattle.game_store.specs.Number.{IsNumberTree}
-use Rattle.game_store.specs.TextOrder.{IsCanonicalTree}
-use Rattle.game_store.specs.Meaning.{IsIdOf, tree_at}
-use Rattle.game_canon.proofs.Examples.{form-choice, whole-tree, zero-tree, star-canonical, star-no_number}
+use Rattle.short_games.specs.Tree.{node, none, tree_at}
+use Rattle.short_games.specs.Number.{IsNumberTree}
+use Rattle.short_games.specs.TextOrder.{IsCanonicalTree}
+use Rattle.game_store.specs.Meaning.{IsIdOf}
+use Rattle.game_canon.proofs.Examples.{form-choice, whole-tree}
+use Rattle.short_games.proofs.Examples.{zero-tree, star-canonical, star-no_number}
 use Rattle.game_canon.proofs.tests.star.Goals as goal
 
 pub intern-requires-clause-canonical : goal.intern-requires-clause-canonical

@@ -1,7 +1,7 @@
 use Rattle.std.proofs.Common.{◌≡◌, arith, subst}
 use Rattle.std.proofs.lemmas.Int.{ints}
 use Rattle.dyadic_num.proofs.Simplest.{along}
-use Rattle.game_store.specs.Threshold.{IsFloor, IsCeiling}
+use Rattle.short_games.specs.Threshold.{IsFloor, IsCeiling}
 use Rattle.game_store.specs.Meaning.{listed}
 use Rattle.game_canon.specs.Bounds.{lower, upper}
 use Rattle.game_canon.proofs.ThresholdSteps.{lower-range, upper-range}

@@ -1,6 +1,7 @@
 use Rattle.std.proofs.lemmas.Result.{err_from_is_err_and}
-use Rattle.game_store.specs.Sum.{◌+ᵍ◌}
-use Rattle.game_store.specs.Meaning.{tree_at, number_tree}
+use Rattle.short_games.specs.Sum.{◌+ᵍ◌}
+use Rattle.short_games.specs.Tree.{tree_at}
+use Rattle.short_games.specs.Number.{number_tree}
 use Rattle.game_canon.proofs.ChangeSteps.{passed-on}
 use Rattle.game_canon.specs.Changes.{IsSumRefusal}
 use Rattle.game_canon.proofs.NumberParts.{sum-refused, sum-numbers, same-sum, within-bounds}

@@ -1,4 +1,4 @@
-use Rattle.game_store.specs.Meaning.{tree_at}
+use Rattle.short_games.specs.Tree.{tree_at}
 use Rattle.game_lines.proofs.ShowingLaws.{none_unshown}
 use Rattle.game_lines.proofs.showing.show.Goals as goal
 

@@ -1,12 +1,13 @@
 use Rattle.std.proofs.Common.{to_z, of_z, ◌<◌, ◌≡◌, length, arith, sym, ◌∙◌, ap, subst}
 use Rattle.std.specs.Int.{w128}
 use Rattle.std.proofs.lemmas.Int.{ints}
-use Rattle.game_store.specs.TextOrder.{IsCanonicalTree}
-use Rattle.game_store.specs.Meaning.{values, tree_at}
+use Rattle.short_games.specs.TextOrder.{IsCanonicalTree}
+use Rattle.game_store.specs.Meaning.{values}
+use Rattle.short_games.specs.Tree.{tree_at}
 use Rattle.game_store.specs.Chain.{entries_of}
 use Rattle.game_store.specs.Places.{IsPlaced, floor_at, ceiling_at}
 use Rattle.game_store.proofs.Interned.{in_range}
-use Rattle.game_store.proofs.StopLaws.{goes_with-right}
+use Rattle.short_games.proofs.StopLaws.{goes_with-right}
 use Rattle.game_store.proofs.Store.floor.Goals as goal
 
 below : (c : goal.After-deref) → c.args.id < length c.self.inside.slots.items

@@ -1,7 +1,8 @@
 use Rattle.std.proofs.Common.{rules, ◌≡◌, ◌<◌, length, [], ◌∷◌, ◌++◌, arith, refl, ◌∙◌, ap, nat_eq, cond, Some}
 use Rattle.std.specs.HashMap.{get}
 use Rattle.std.specs.Map.{lookup}
-use Rattle.game_store.specs.Meaning.{number_tree, entry_at, held}
+use Rattle.short_games.specs.Number.{number_tree}
+use Rattle.game_store.specs.Meaning.{entry_at, held}
 use Rattle.game_store.specs.Meaning.Wanted.{number}
 use Rattle.game_store.specs.Chain.{entries_of}
 use Rattle.game_store.proofs.Values.{held-from, length-values, extends-push, last-value}

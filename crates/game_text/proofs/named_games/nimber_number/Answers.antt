@@ -1,4 +1,4 @@
-use Rattle.std.proofs.Common.{ℕ, ◌≡◌, arith, refl, sym, ◌∙◌, ap}
+use Rattle.std.proofs.Common.{ℕ, arith, sym, ◌∙◌, ap}
 use Rattle.std.proofs.lemmas.Bool.{true≢false}
 use Rattle.std.specs.Fmt.{decimal}
 use Rattle.game_text.proofs.Decimals.{digits-are}

@@ -1,7 +1,7 @@
 use Rattle.std.proofs.Common.{◌∙◌, ap, sym, refl, Some, nat_eq}
 use Rattle.std.proofs.lemmas.Bool.{true≢false}
 use Rattle.indexmap.specs.IndexMap.{get}
-use Rattle.game_store.specs.Meaning.{tree_at}
+use Rattle.short_games.specs.Tree.{tree_at}
 use Rattle.game_text.proofs.NamesFound.{nimber-named}
 use Rattle.game_text.proofs.NimberIds.{among-count, is-pair, pair-named, pair-unnamed, many-unnamed, on-found}
 use Rattle.game_text.proofs.WritingSteps.{left-texts, right-texts}

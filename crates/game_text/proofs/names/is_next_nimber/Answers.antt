@@ -1,4 +1,3 @@
-use Rattle.std.proofs.Common.{length}
 use Rattle.game_text.proofs.NimberIds.{number-next, next-number, next-nimber, next-options}
 use Rattle.game_text.proofs.names.is_next_nimber.Goals as goal
 

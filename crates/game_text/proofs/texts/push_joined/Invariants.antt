@@ -1,6 +1,6 @@
 use Rattle.std.proofs.Common.{◌≡◌, ◌++◌, ◌∷◌, map, take}
 use Rattle.std.specs.List.{flat_map}
-use Rattle.game_store.specs.Text.{comma}
+use Rattle.short_games.specs.Text.{comma}
 use Rattle.game_text.proofs.texts.push_joined.Given as goal
 
 abbrev pub invariant-loop-part : goal.invariant-loop-part

@@ -1,5 +1,5 @@
 use Rattle.std.proofs.Common.{◌∙◌, ap, sym}
-use Rattle.game_store.specs.Meaning.{tree_at}
+use Rattle.short_games.specs.Tree.{tree_at}
 use Rattle.game_text.proofs.NimberIds.{number-is-named}
 use Rattle.game_text.proofs.writing.form_text.Goals as goal
 

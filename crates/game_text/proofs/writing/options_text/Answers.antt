@@ -1,6 +1,6 @@
 use Rattle.std.proofs.Common.{nat_eq, sym, arith, subst, length, ◌<◌}
 use Rattle.indexmap.specs.IndexMap.{get}
-use Rattle.game_store.specs.Meaning.{tree_at}
+use Rattle.short_games.specs.Tree.{tree_at}
 use Rattle.game_text.proofs.NamedLaws.{text-named}
 use Rattle.game_text.proofs.SideTexts.{braces-is}
 use Rattle.game_text.proofs.WritingSteps.{left-texts, right-texts, are-kept}

@@ -1,6 +1,5 @@
-use Rattle.desk_io.specs.Files.{told_file}
+use Rattle.desk_io.specs.Files.{told_file, Loads}
 use Rattle.std.proofs.Common.{subst, ◌∙◌, ap, Ok}
-use Rattle.desk_io.specs.Files.{Loads}
 use Rattle.gtp_engine.proofs.Files.{too_long}
 use Rattle.gtp_engine.proofs.loading.load.Goals as goal
 

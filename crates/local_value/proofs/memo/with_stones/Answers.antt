@@ -1,8 +1,9 @@
 use Rattle.std.proofs.Common.{ℤ, ◌≡◌, ◌↔◌, ◌+ℤ◌, ap, sym, subst, ◌∙◌, Some, to_z, of_z, w32}
 use Rattle.std.proofs.lemmas.Int.{to_z-of_z}
-use Rattle.game_store.specs.Sum.{◌+ᵍ◌}
-use Rattle.game_store.specs.Meaning.{tree_at, number_tree}
-use Rattle.game_store.specs.Parts.{IsNumberOf}
+use Rattle.short_games.specs.Sum.{◌+ᵍ◌}
+use Rattle.short_games.specs.Tree.{tree_at}
+use Rattle.short_games.specs.Number.{number_tree}
+use Rattle.short_games.specs.Parts.{IsNumberOf}
 use Rattle.game_canon.specs.Outcomes.{IsCanonicalId}
 use Rattle.local_value.specs.Memo.{stones_units, recalled_sum, IsStonesSum}
 use Rattle.local_value.proofs.MemoLaws.{sum-made, sums-grown}

@@ -1,7 +1,7 @@
 use Rattle.std.proofs.Common.{ℕ, ◌+◌, ◌^◌}
 use Rattle.std.proofs.lemmas.Result.{IfErr-weaker, IfOk-weaker}
-use Rattle.game_store.specs.Tree.{Tree}
-use Rattle.game_store.specs.Meaning.{tree_at, listed}
+use Rattle.short_games.specs.Tree.{Tree, tree_at}
+use Rattle.game_store.specs.Meaning.{listed}
 use Rattle.game_canon.specs.Outcomes.{IsCanonicalId, IsCause, AreWithin}
 use Rattle.local_value.specs.Memo.{IsFormOf, recalled_form, recalled_sum}
 use Rattle.local_value.specs.Valuing.{AreWithinAfter, HasEdges}

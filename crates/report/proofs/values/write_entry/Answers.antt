@@ -1,5 +1,5 @@
 use Rattle.std.proofs.Common.{◌∙◌, ap}
-use Rattle.game_store.specs.Meaning.{tree_at}
+use Rattle.short_games.specs.Tree.{tree_at}
 use Rattle.game_text.specs.NamedText.{named_text}
 use Rattle.report.specs.Solution.{solved_line}
 use Rattle.game_lines.specs.Showings.{game_lines, picture}

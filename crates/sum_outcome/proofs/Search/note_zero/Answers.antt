@@ -1,6 +1,7 @@
 use Rattle.std.proofs.Common.{◌≡◌, arith, pos, sym, subst}
 use Rattle.std.proofs.lemmas.Int.{ints}
-use Rattle.game_store.specs.Meaning.{IsIdOf, number_tree}
+use Rattle.game_store.specs.Meaning.{IsIdOf}
+use Rattle.short_games.specs.Number.{number_tree}
 use Rattle.sum_outcome.specs.Memo.{Fits, remembered}
 use Rattle.sum_outcome.proofs.MemoLaws.{fits_grown}
 use Rattle.sum_outcome.proofs.Search.note_zero.Goals as goal

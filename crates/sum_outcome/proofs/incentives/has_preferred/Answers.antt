@@ -1,5 +1,5 @@
 use Rattle.std.proofs.Common.{get_or}
-use Rattle.game_store.specs.Meaning.{tree_at}
+use Rattle.short_games.specs.Tree.{tree_at}
 use Rattle.game_store.proofs.Values.{pick-has}
 use Rattle.sum_outcome.proofs.incentives.has_preferred.Goals as goal
 

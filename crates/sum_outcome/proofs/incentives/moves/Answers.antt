@@ -1,7 +1,6 @@
 use Rattle.std.proofs.Common.{ap}
 use Rattle.go_grid.specs.declared.grid.Colour.TheVariants.{Black, White}
-use Rattle.game_store.specs.Tree.{left, right}
-use Rattle.game_store.specs.Meaning.{tree_at}
+use Rattle.short_games.specs.Tree.{left, right, tree_at}
 use Rattle.sum_outcome.proofs.Lists.{listed-moves}
 use Rattle.sum_outcome.proofs.incentives.moves.Goals as goal
 

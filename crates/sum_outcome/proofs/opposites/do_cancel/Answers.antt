@@ -1,5 +1,5 @@
 use Rattle.std.proofs.Common.{rules}
-use Rattle.game_store.specs.Meaning.{tree_at}
+use Rattle.short_games.specs.Tree.{tree_at}
 use Rattle.sum_outcome.proofs.OppositeLaws.{cancel_both}
 use Rattle.sum_outcome.proofs.opposites.do_cancel.Goals as goal
 

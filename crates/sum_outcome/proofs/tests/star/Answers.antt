@@ -1,8 +1,8 @@
 use Rattle.std.proofs.Common.{IfOk, sym, subst}
-use Rattle.game_store.specs.Number.{IsNumberTree}
-use Rattle.game_store.specs.TextOrder.{IsCanonicalTree}
+use Rattle.short_games.specs.Number.{IsNumberTree}
+use Rattle.short_games.specs.TextOrder.{IsCanonicalTree}
 use Rattle.game_store.specs.Meaning.{IsIdOf}
-use Rattle.game_canon.proofs.Examples.{star-canonical, star-no_number}
+use Rattle.short_games.proofs.Examples.{star-canonical, star-no_number}
 use Rattle.sum_outcome.proofs.Examples.{star-form}
 use Rattle.sum_outcome.proofs.tests.star.Goals as goal
 

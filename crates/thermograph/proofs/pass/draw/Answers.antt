@@ -1,13 +1,13 @@
 use Rattle.std.proofs.lemmas.Result.{err_from_is_err_and}
-use Rattle.game_store.specs.Parts.IsFollower.{itself}
+use Rattle.short_games.specs.Parts.IsFollower.{itself}
 use Rattle.std.proofs.Common.{◌≡◌, sym, ◌∙◌, ap, subst, List}
-use Rattle.game_store.specs.Meaning.{tree_at}
+use Rattle.short_games.specs.Tree.{tree_at}
 use Rattle.thermograph.specs.declared.breaks.Break.{Break}
 use Rattle.thermograph.specs.Breaks.{wall_at}
-use Rattle.thermograph.specs.Drawings.{DrawWalls, IsTemperature, AreBreaks, end_of}
+use Rattle.thermograph.specs.Drawings.{DrawWalls, DrawOnGrids, IsTemperature, AreBreaks, end_of}
 use Rattle.thermograph.specs.Thermographs.{breaks, IsFromZero, AreInBounds}
 use Rattle.thermograph.proofs.PastBounds.{none-past_bounds, past-bounds_of}
-use Rattle.thermograph.proofs.Finer.{draw-all}
+use Rattle.thermograph.proofs.Finer.{draw-all, draw-grids}
 use Rattle.thermograph.proofs.Points.{points-in_bounds, breaks-points, points-from_zero}
 use Rattle.thermograph.proofs.pass.draw.Goals as goal
 use Rattle.thermograph.proofs.pass.draw.Goals.{After-drop-marks-2}
@@ -31,6 +31,12 @@ returns-clause-walls c = let G = tree_at c.args.store.now c.args.id in
     let d = c.in_ok-drawing.ensures.drawn in
     subst (λ (l : List Break). DrawWalls G l (breaks c.in_ok-right.right)) (sym (left_is c))
     (subst (λ (r : List Break). DrawWalls G c.in_ok-drawing.drawing.left.items r) (sym (right_is c)) (draw-all G c.in_ok-drawing.drawing.left.items c.in_ok-drawing.drawing.right.items d.left_breaks.path d.right_breaks.path d.drawn.walls))
+
+pub returns-clause-grids : goal.returns-clause-grids
+returns-clause-grids c = let G = tree_at c.args.store.now c.args.id in
+    let d = c.in_ok-drawing.ensures.drawn in
+    subst (λ (l : List Break). DrawOnGrids G l (breaks c.in_ok-right.right)) (sym (left_is c))
+    (subst (λ (r : List Break). DrawOnGrids G c.in_ok-drawing.drawing.left.items r) (sym (right_is c)) (draw-grids G c.in_ok-drawing.drawing.left.items c.in_ok-drawing.drawing.right.items d.left_breaks.path d.right_breaks.path d.drawn.walls))
 
 pub returns-clause-temperature : goal.returns-clause-temperature
 returns-clause-temperature c = let G = tree_at c.args.store.now c.args.id in

@@ -1,0 +1,250 @@
+-- What may be done to a form: options exchanged for better ones, reversible options replaced, numbers found, numbers added.
+use Rattle.std.proofs.Common.{ℕ, zero, suc, ◌<◌, ◌≡◌, ◌⊎◌, arith, refl, inl, inr, sym, ◌∙◌, ap, subst, ℤ, pos, negsuc, ◌+ℤ◌, ◌<ℤ◌, neg_ℤ, false}
+use Rattle.std.proofs.lemmas.Int.{ints}
+use Rattle.std.proofs.lemmas.Bool.{cases_Bool}
+use Rattle.short_games.specs.Tree.{Tree, Trees, node, none, more, left, right, Has, size, neg, neg_each}
+use Rattle.short_games.specs.Order.{◌≤ᵍ◌, by_left, by_right}
+use Rattle.short_games.specs.Sum.{◌+ᵍ◌, each_plus}
+use Rattle.short_games.specs.Number.{num, IsNumber, half, is_even, whole, count_tree}
+use Rattle.short_games.specs.Canonical.{Ascends, IsReduced, IsCanonical, AreCanonical}
+use Rattle.short_games.proofs.OrderLaws.{le-out, le-in, le-refl, le-trans, size-left, size-right, not-le, le-or_not}
+use Rattle.short_games.proofs.SumLaws.{plus-le, plus-le_both, plus-comm, plus-assoc, plus-cancel, left_of_sum, right_of_sum, left_in_first, right_in_first, InSum, nought, has-each_plus, each_plus-has, plus-neg, plus-nought, nought-plus, not_le_left, not_right_le, neg-neg, neg-left, neg-right, has-neg_each}
+use Rattle.short_games.proofs.SumLaws.InSum.{in_first, in_second}
+use Rattle.short_games.proofs.NumberLaws.{num-left, num-right, num-le, num-lt, num-double, num-even, num-odd, num-plus_le, half-even, half-odd, neg-num}
+use Rattle.short_games.proofs.CanonicalLaws.{canonical-unique}
+
+-- a game whose Left options are each at most one of another's, and the other way round on the right
+pub by_better : (G H : Tree) → ((L : Tree) → Has (left G) L → (M : Tree) × Has (left H) M × (L ≤ᵍ M)) → ((S : Tree) → Has (right H) S → (R : Tree) × Has (right G) R × (R ≤ᵍ S)) → G ≤ᵍ H
+by_better G H f g = le-in G H record {
+  from_left = λ L l y. (let m = f L l in not_le_left H m.0 m.1 (le-trans H L m.0 y m.2));
+  from_right = λ S s y. (let r = g S s in not_right_le G r.0 r.1 (le-trans r.0 S G r.2 y));
+}
+
+-- H is G with the Left option L, which R reverses, replaced by the Left options of R
+pub record ReversesLeft (G H L R : Tree) : Type 0 where
+  pub option : Has (left G) L
+  pub answer : Has (right L) R
+  pub reverses : R ≤ᵍ G
+  pub kept : (X : Tree) → Has (left G) X → (X ≡ L) ⊎ Has (left H) X
+  pub added : (X : Tree) → Has (left R) X → Has (left H) X
+  pub from : (X : Tree) → Has (left H) X → Has (left G) X ⊎ Has (left R) X
+  pub others : right H ≡ right G
+
+pub reversed-left : (G H L R : Tree) → ReversesLeft G H L R → (G ≤ᵍ H) × (H ≤ᵍ G)
+reversed-left G H L R v = (
+  le-in G H record { from_left = λ X x y. at X (v.kept X x) y; from_right = λ X x y. not_right_le G X (subst (λ t. Has t X) v.others x) y },
+  le-in H G record { from_left = λ X x y. at' X (v.from X x) y; from_right = λ X x y. not_right_le H X (subst (λ t. Has t X) (sym v.others) x) y },
+)
+  where
+    back : R ≤ᵍ H
+    back = le-in R H record {
+      from_left = λ X x y. not_le_left H X (v.added X x) y;
+      from_right = λ X x y. not_right_le G X (subst (λ t. Has t X) v.others x) (le-trans X R G y v.reverses);
+    }
+
+    at : (X : Tree) → (X ≡ L) ⊎ Has (left H) X → H ≤ᵍ X → ⊥
+    at X (inl e) y = (le-out H L (subst (λ t. H ≤ᵍ t) e y)).from_right R v.answer back
+    at X (inr h) y = not_le_left H X h y
+
+    at' : (X : Tree) → Has (left G) X ⊎ Has (left R) X → G ≤ᵍ X → ⊥
+    at' X (inl h) y = not_le_left G X h y
+    at' X (inr h) y = not_le_left R X h (le-trans R G X v.reverses y)
+
+-- a game with a number between its options is a number
+number_step : (n : ℕ) (G : Tree) → ((e : ℕ) (z : ℤ) → size (num e z) < n → ((L : Tree) → Has (left G) L → num e z ≤ᵍ L → ⊥) → ((R : Tree) → Has (right G) R → R ≤ᵍ num e z → ⊥) → IsNumber G)
+    → (e : ℕ) (z : ℤ) → size (num e z) < suc n → ((L : Tree) → Has (left G) L → num e z ≤ᵍ L → ⊥) → ((R : Tree) → Has (right G) R → R ≤ᵍ num e z → ⊥) → IsNumber G
+number_step n G ih e z a f g = by_tests (le-or_not G (num e z)) (le-or_not (num e z) G)
+  where
+    higher : (G ≤ᵍ num e z → ⊥) → IsNumber G
+    higher h = elim (not-le G (num e z) h) [
+      | by_left L l y ↦ absurd (f L l y)
+      | by_right X x y ↦ (let r = num-right e z X x in
+          ih e r.0 (omega (arith, size-right (num e z) X x, ap size r.2, a))
+          (λ L l w. f L l (le-trans _ _ _ (num-le e z r.0 (omega (arith, ints, r.1))) w))
+          (λ R k w. not_right_le G R k (le-trans R (num e r.0) G w (subst (λ t. t ≤ᵍ G) r.2 y))))
+    ]
+
+    lower : (num e z ≤ᵍ G → ⊥) → IsNumber G
+    lower h = elim (not-le (num e z) G h) [
+      | by_left X x y ↦ (let r = num-left e z X x in
+          ih e r.0 (omega (arith, size-left (num e z) X x, ap size r.2, a))
+          (λ L l w. not_le_left G L l (le-trans G (num e r.0) L (subst (λ t. G ≤ᵍ t) r.2 y) w))
+          (λ R k w. g R k (le-trans _ _ _ w (num-le e r.0 z (omega (arith, ints, r.1))))))
+      | by_right R r y ↦ absurd (g R r y)
+    ]
+
+    by_tests : (G ≤ᵍ num e z) ⊎ (G ≤ᵍ num e z → ⊥) → (num e z ≤ᵍ G) ⊎ (num e z ≤ᵍ G → ⊥) → IsNumber G
+    by_tests (inl p) (inl q) = (e, z, p, q)
+    by_tests (inr h) c = higher h
+    by_tests (inl p) (inr h) = lower h
+
+number_within : (n : ℕ) (G : Tree) (e : ℕ) (z : ℤ) → size (num e z) < n → ((L : Tree) → Has (left G) L → num e z ≤ᵍ L → ⊥) → ((R : Tree) → Has (right G) R → R ≤ᵍ num e z → ⊥) → IsNumber G
+number_within zero G e z a f g = absurd (omega arith)
+number_within (suc n) G e z a f g = number_step n G (number_within n G) e z a f g
+
+pub number_between : (G : Tree) (e : ℕ) (z : ℤ) → ((L : Tree) → Has (left G) L → num e z ≤ᵍ L → ⊥) → ((R : Tree) → Has (right G) R → R ≤ᵍ num e z → ⊥) → IsNumber G
+number_between G e z = number_within (suc (size (num e z))) G e z (omega arith)
+
+-- a number has at most one option on each side, and an answer to it goes past the number
+one_left : (e : ℕ) (m : ℤ) (A B : Tree) → Has (left (num e m)) A → Has (left (num e m)) B → A ≡ B
+unfolding num whole count_tree neg
+one_left zero (pos zero) A B a b = absurd a
+one_left zero (pos (suc n)) A B (inl a) (inl b) = a ∙ sym b
+one_left zero (pos (suc n)) A B (inl a) (inr b) = absurd b
+one_left zero (pos (suc n)) A B (inr a) b = absurd a
+one_left zero (negsuc n) A B a b = absurd a
+one_left (suc e) m A B a b = elim (cases_Bool (is_even m)) [
+  | inl t ↦ one_left e (half m) A B (rw (num-even e m t) at a) (rw (num-even e m t) at b)
+  | inr f ↦ only (half m) (rw (num-odd e m f) at a) (rw (num-odd e m f) at b)
+]
+  where
+    only : (k : ℤ) → Has (more (num e k) none) A → Has (more (num e k) none) B → A ≡ B
+    only k (inl a) (inl b) = a ∙ sym b
+    only k (inl a) (inr b) = absurd b
+    only k (inr a) b = absurd a
+
+answer_left : (e : ℕ) (m : ℤ) (L R : Tree) → Has (left (num e m)) L → Has (right L) R → (k : ℤ) × (m <ℤ k) × (R ≡ num e k)
+unfolding num whole count_tree neg
+answer_left zero (pos zero) L R l r = absurd l
+answer_left zero (pos (suc n)) L R (inl l) r = absurd (no_right n (subst (λ t. Has (right t) R) l r))
+  where
+    no_right : (n : ℕ) → Has (right (count_tree n)) R → ⊥
+    no_right zero h = h
+    no_right (suc n) h = h
+answer_left zero (pos (suc n)) L R (inr l) r = absurd l
+answer_left zero (negsuc n) L R l r = absurd l
+answer_left (suc e) m L R l r = elim (cases_Bool (is_even m)) [
+  | inl t ↦ (let k = answer_left e (half m) L R (rw (num-even e m t) at l) r in (k.0 +ℤ k.0, omega (arith, ints, half-even m t, k.1), k.2 ∙ sym (num-double e k.0)))
+  | inr f ↦ odd f (rw (num-odd e m f) at l)
+]
+  where
+    odd : is_even m ≡ false → Has (more (num e (half m)) none) L → (k : ℤ) × (m <ℤ k) × (R ≡ num (suc e) k)
+    odd f (inl i) = let k = num-right e (half m) R (subst (λ t. Has (right t) R) i r) in (k.0 +ℤ k.0, omega (arith, ints, half-odd m f, k.1), k.2 ∙ sym (num-double e k.0))
+    odd f (inr i) = absurd i
+
+one_right : (e : ℕ) (m : ℤ) (A B : Tree) → Has (right (num e m)) A → Has (right (num e m)) B → A ≡ B
+one_right e m A B a b = ap-neg (one_left e (neg_ℤ m) (neg A) (neg B) (turned A a) (turned B b))
+  where
+    turned : (X : Tree) → Has (right (num e m)) X → Has (left (num e (neg_ℤ m))) (neg X)
+    turned X x = subst (λ t. Has (left t) (neg X)) (neg-num e m) (subst (λ t. Has t (neg X)) (sym (neg-left (num e m))) (has-neg_each (right (num e m)) X x))
+
+    ap-neg : neg A ≡ neg B → A ≡ B
+    ap-neg p = sym (neg-neg A) ∙ ap neg p ∙ neg-neg B
+
+answer_right : (e : ℕ) (m : ℤ) (R L : Tree) → Has (right (num e m)) R → Has (left R) L → (k : ℤ) × (k <ℤ m) × (L ≡ num e k)
+answer_right e m R L r l = let k = answer_left e (neg_ℤ m) (neg R) (neg L) turned turned' in (neg_ℤ k.0, omega (arith, ints, k.1), sym (neg-neg L) ∙ ap neg k.2 ∙ neg-num e k.0)
+  where
+    turned : Has (left (num e (neg_ℤ m))) (neg R)
+    turned = subst (λ t. Has (left t) (neg R)) (neg-num e m) (subst (λ t. Has t (neg R)) (sym (neg-left (num e m))) (has-neg_each (right (num e m)) R r))
+
+    turned' : Has (right (neg R)) (neg L)
+    turned' = subst (λ t. Has t (neg L)) (sym (neg-right R)) (has-neg_each (left R) L l)
+
+abbrev IsShort : Trees → Type 0
+IsShort none = Unit {0}
+IsShort (more G none) = Unit {0}
+IsShort (more G (more H Hs)) = ⊥
+
+short_left : (e : ℕ) (m : ℤ) → IsShort (left (num e m))
+unfolding num whole count_tree neg
+short_left zero (pos zero) = tt
+short_left zero (pos (suc n)) = tt
+short_left zero (negsuc n) = tt
+short_left (suc e) m = elim (cases_Bool (is_even m)) [
+  | inl t ↦ rw (num-even e m t) (short_left e (half m))
+  | inr f ↦ rw (num-odd e m f) tt
+]
+
+short-neg : (Gs : Trees) → IsShort Gs → IsShort (neg_each Gs)
+unfolding neg
+short-neg none s = tt
+short-neg (more G none) s = tt
+short-neg (more G (more H Hs)) s = absurd s
+
+short_right : (e : ℕ) (m : ℤ) → IsShort (right (num e m))
+short_right e m = subst IsShort (sym (neg-right (num e (neg_ℤ m))) ∙ ap right (neg-num e (neg_ℤ m) ∙ ap (num e) back)) (short-neg (left (num e (neg_ℤ m))) (short_left e (neg_ℤ m)))
+  where
+    back : neg_ℤ (neg_ℤ m) ≡ m
+    back = omega (arith, ints)
+
+module _ (Before : Tree → Tree → Type 0) where
+  num-reduced : (e : ℕ) (m : ℤ) → Ascends Before (left (num e m)) → Ascends Before (right (num e m)) → IsReduced Before (num e m)
+  num-reduced e m la ra = record {
+    left_free = λ A B a b _. one_left e m A B a b;
+    right_free = λ A B a b _. one_right e m A B a b;
+    left_kept = λ L R l r y. (let k = answer_left e m L R l r in num-lt e m k.0 k.1 (subst (λ t. t ≤ᵍ num e m) k.2 y));
+    right_kept = λ R L r l y. (let k = answer_right e m R L r l in num-lt e k.0 m k.1 (subst (λ t. num e m ≤ᵍ t) k.2 y));
+    left_ascends = la;
+    right_ascends = ra;
+  }
+
+  short-ascends : (Gs : Trees) → IsShort Gs → Ascends Before Gs
+  short-ascends none s = tt
+  short-ascends (more G none) s = tt
+  short-ascends (more G (more H Hs)) s = absurd s
+
+  pub canonical-from : (G : Tree) → IsReduced Before G → AreCanonical Before (left G) → AreCanonical Before (right G) → IsCanonical Before G
+  canonical-from (node ls rs) r a b = (r, a, b)
+
+  pub all-canonical : (Gs : Trees) → ((X : Tree) → Has Gs X → IsCanonical Before X) → AreCanonical Before Gs
+  all-canonical none f = tt
+  all-canonical (more G Gs) f = (f G (inl refl), all-canonical Gs (λ X x. f X (inr x)))
+
+  num_within : (n e : ℕ) (m : ℤ) → size (num e m) < n → IsCanonical Before (num e m)
+  num_within zero e m a = absurd (omega arith)
+  num_within (suc n) e m a = canonical-from (num e m) (num-reduced e m (short-ascends _ (short_left e m)) (short-ascends _ (short_right e m)))
+      (all-canonical _ (λ X x. (let k = num-left e m X x in subst (IsCanonical Before) (sym k.2) (num_within n e k.0 (omega (arith, a, size-left (num e m) X x, ap size k.2))))))
+      (all-canonical _ (λ X x. (let k = num-right e m X x in subst (IsCanonical Before) (sym k.2) (num_within n e k.0 (omega (arith, a, size-right (num e m) X x, ap size k.2))))))
+
+  pub num-canonical : (e : ℕ) (m : ℤ) → IsCanonical Before (num e m)
+  num-canonical e m = num_within (suc (size (num e m))) e m (omega arith)
+
+  -- a canonical tree that is equal to a number is the number's tree
+  pub number_tree : (irreflexive : (G : Tree) → Before G G → ⊥) (transitive : (G H K : Tree) → Before G H → Before H K → Before G K) (G : Tree) → IsCanonical Before G → ((e : ℕ) (m : ℤ) → G ≡ num e m → ⊥) → IsNumber G → ⊥
+  number_tree irreflexive transitive G c f n = f n.0 n.1 (canonical-unique Before irreflexive transitive G (num n.0 n.1) c (num-canonical n.0 n.1) n.2 n.3)
+
+-- Translation: what is asked is that a number's moves lose a little more than some move in the game
+pub translation : (e : ℕ) (G : Tree) (m : ℤ) → ((d : ℤ) → pos 0 <ℤ d → (L : Tree) × Has (left G) L × (G ≤ᵍ L +ᵍ num e d)) → ((d : ℤ) → pos 0 <ℤ d → (R : Tree) × Has (right G) R × (R ≤ᵍ G +ᵍ num e d))
+    → (G +ᵍ num e m ≤ᵍ node (each_plus (left G) (num e m)) (each_plus (right G) (num e m))) × (node (each_plus (left G) (num e m)) (each_plus (right G) (num e m)) ≤ᵍ G +ᵍ num e m)
+translation e G m cheap cheap' = (
+  by_better _ _ (λ L l. lefts L (left_of_sum G (num e m) L l)) (λ S s. (let r = each_plus-has (right G) (num e m) S s in (S, subst (λ t. Has (right (G +ᵍ num e m)) t) (sym r.2) (right_in_first G (num e m) r.0 r.1), le-refl S))),
+  by_better _ _ (λ L l. (let r = each_plus-has (left G) (num e m) L l in (L, subst (λ t. Has (left (G +ᵍ num e m)) t) (sym r.2) (left_in_first G (num e m) r.0 r.1), le-refl L))) (λ S s. rights S (right_of_sum G (num e m) S s)),
+)
+  where
+    lefts : (L : Tree) → InSum G (num e m) (left G) (left (num e m)) L → (M : Tree) × Has (each_plus (left G) (num e m)) M × (L ≤ᵍ M)
+    lefts L (in_first K k) = (K +ᵍ num e m, has-each_plus (left G) (num e m) K k, le-refl (K +ᵍ num e m))
+    lefts L (in_second K k) = let r = num-left e m K k in
+        let c = cheap (m +ℤ neg_ℤ r.0) (omega (arith, ints, r.1)) in (
+          c.0 +ᵍ num e m,
+          has-each_plus (left G) (num e m) c.0 c.1,
+          le-trans _ _ _ (plus-le G (c.0 +ᵍ num e (m +ℤ neg_ℤ r.0)) K c.2)
+              (subst (λ t. t ≤ᵍ c.0 +ᵍ num e m) (sym (plus-assoc c.0 (num e (m +ℤ neg_ℤ r.0)) K))
+              (plus-le_both c.0 c.0 _ _ (le-refl c.0) (subst (λ t. num e (m +ℤ neg_ℤ r.0) +ᵍ t ≤ᵍ num e m) (sym r.2) (le-trans _ _ _ (num-plus_le e (m +ℤ neg_ℤ r.0) r.0) (num-le e ((m +ℤ neg_ℤ r.0) +ℤ r.0) m (omega (arith, ints))))))),
+        )
+
+    rights : (S : Tree) → InSum G (num e m) (right G) (right (num e m)) S → (R : Tree) × Has (each_plus (right G) (num e m)) R × (R ≤ᵍ S)
+    rights S (in_first K k) = (K +ᵍ num e m, has-each_plus (right G) (num e m) K k, le-refl (K +ᵍ num e m))
+    rights S (in_second K k) = let r = num-right e m K k in
+        let c = cheap' (r.0 +ℤ neg_ℤ m) (omega (arith, ints, r.1)) in (
+          c.0 +ᵍ num e m,
+          has-each_plus (right G) (num e m) c.0 c.1,
+          le-trans _ _ _ (plus-le c.0 (G +ᵍ num e (r.0 +ℤ neg_ℤ m)) (num e m) c.2)
+              (subst (λ t. t ≤ᵍ G +ᵍ K) (sym (plus-assoc G (num e (r.0 +ℤ neg_ℤ m)) (num e m)))
+              (plus-le_both G G _ _ (le-refl G) (subst (λ t. num e (r.0 +ℤ neg_ℤ m) +ᵍ num e m ≤ᵍ t) (sym r.2) (le-trans _ _ _ (num-plus_le e (r.0 +ℤ neg_ℤ m) m) (num-le e ((r.0 +ℤ neg_ℤ m) +ℤ m) r.0 (omega (arith, ints))))))),
+        )
+
+-- Incentives: G' - G >= H' - H gives G' + H >= G + H'
+pub incentives : (G G' H H' : Tree) → H' +ᵍ neg H ≤ᵍ G' +ᵍ neg G → G +ᵍ H' ≤ᵍ G' +ᵍ H
+incentives G G' H H' p = plus-cancel (G +ᵍ H') (G' +ᵍ H) (neg H +ᵍ neg G) (le-trans _ _ _ low (le-trans _ _ _ p high))
+  where
+    low : (G +ᵍ H') +ᵍ (neg H +ᵍ neg G) ≤ᵍ H' +ᵍ neg H
+    low = subst (λ t. t ≤ᵍ H' +ᵍ neg H) (ap (λ t. G +ᵍ t) (plus-assoc H' (neg H) (neg G)) ∙ sym (plus-assoc G H' (neg H +ᵍ neg G)))
+        (le-trans _ _ _ (plus-comm G ((H' +ᵍ neg H) +ᵍ neg G))
+        (subst (λ t. t ≤ᵍ H' +ᵍ neg H) (sym (plus-assoc (H' +ᵍ neg H) (neg G) G))
+        (subst (λ t. (H' +ᵍ neg H) +ᵍ (neg G +ᵍ G) ≤ᵍ t) (plus-nought (H' +ᵍ neg H))
+        (plus-le_both (H' +ᵍ neg H) (H' +ᵍ neg H) _ _ (le-refl (H' +ᵍ neg H)) (le-trans _ _ _ (plus-comm (neg G) G) (plus-neg G).0)))))
+
+    high : G' +ᵍ neg G ≤ᵍ (G' +ᵍ H) +ᵍ (neg H +ᵍ neg G)
+    high = subst (λ t. G' +ᵍ neg G ≤ᵍ t) (ap (λ t. G' +ᵍ t) (plus-assoc H (neg H) (neg G)) ∙ sym (plus-assoc G' H (neg H +ᵍ neg G)))
+        (plus-le_both G' G' (neg G) ((H +ᵍ neg H) +ᵍ neg G) (le-refl G')
+        (subst (λ t. t ≤ᵍ (H +ᵍ neg H) +ᵍ neg G) (nought-plus (neg G)) (plus-le nought (H +ᵍ neg H) (neg G) (plus-neg H).1)))

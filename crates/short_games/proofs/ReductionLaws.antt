@@ -1,0 +1,154 @@
+-- What is left of a form when nothing more can be dropped or bypassed is canonical, but for the order.
+use Rattle.std.proofs.Common.{ℕ, ◌≡◌, ◌⊎◌, inl, inr, sym, subst, ℤ, arith}
+use Rattle.std.proofs.lemmas.Int.{ints}
+use Rattle.short_games.specs.Tree.{Tree, Trees, node, none, more, left, right, Has}
+use Rattle.short_games.specs.Order.{◌≤ᵍ◌}
+use Rattle.short_games.specs.Number.{num, IsNumber}
+use Rattle.short_games.specs.Canonical.{IsCanonical, AreCanonical}
+use Rattle.short_games.specs.TextOrder.{TextBefore, sorted, IsCanonicalTree, IsCanonicalFor}
+use Rattle.short_games.specs.Reduction.{DropsLeft, DropsRight, BypassesLeft, BypassesRight, IsFreeLeft, KeepsLeft, KeepsRight}
+use Rattle.short_games.proofs.OrderLaws.{le-out, le-in, le-refl, le-trans, none-or_some, le-or_not}
+use Rattle.short_games.proofs.SumLaws.{not_le_left, not_right_le}
+use Rattle.short_games.proofs.NumberLaws.{num-left, num-right, num-le}
+use Rattle.short_games.proofs.CanonicalLaws.{canonical-unique}
+use Rattle.short_games.proofs.FormLaws.{by_better, number_between, all-canonical, num-canonical}
+use Rattle.short_games.proofs.TextOrderLaws.{text-order, sorted-has, has-sorted, sorted-ascends}
+
+pub drops-left : (G H : Tree) → DropsLeft G H → (G ≤ᵍ H) × (H ≤ᵍ G)
+drops-left G H d = (
+  by_better G H d.covered (λ S s. (S, subst (λ t. Has t S) d.others s, le-refl S)),
+  by_better H G (λ L l. (L, d.from L l, le-refl L)) (λ S s. (S, subst (λ t. Has t S) (sym d.others) s, le-refl S)),
+)
+
+pub drops-right : (G H : Tree) → DropsRight G H → (G ≤ᵍ H) × (H ≤ᵍ G)
+drops-right G H d = (
+  by_better G H (λ L l. (L, subst (λ t. Has t L) (sym d.others) l, le-refl L)) (λ S s. (S, d.from S s, le-refl S)),
+  by_better H G (λ L l. (L, subst (λ t. Has t L) d.others l, le-refl L)) d.covered,
+)
+
+pub bypasses-left : (G H L R : Tree) → BypassesLeft G H L R → (G ≤ᵍ H) × (H ≤ᵍ G)
+bypasses-left G H L R v = (
+  le-in G H record { from_left = λ X x y. at X (v.kept X x) y; from_right = λ X x y. not_right_le G X (subst (λ t. Has t X) v.others x) y },
+  le-in H G record { from_left = λ X x y. at' X (v.from X x) y; from_right = λ X x y. not_right_le H X (subst (λ t. Has t X) (sym v.others) x) y },
+)
+  where
+    back : R ≤ᵍ H
+    back = le-in R H record {
+      from_left = λ X x y. (let a = v.added X x in not_le_left H a.0 a.1 (le-trans H X a.0 y a.2));
+      from_right = λ X x y. not_right_le G X (subst (λ t. Has t X) v.others x) (le-trans X R G y v.reverses);
+    }
+
+    at : (X : Tree) → (X ≡ L) ⊎ Has (left H) X → H ≤ᵍ X → ⊥
+    at X (inl e) y = (le-out H L (subst (λ t. H ≤ᵍ t) e y)).from_right R v.answer back
+    at X (inr h) y = not_le_left H X h y
+
+    at' : (X : Tree) → Has (left G) X ⊎ Has (left R) X → G ≤ᵍ X → ⊥
+    at' X (inl h) y = not_le_left G X h y
+    at' X (inr h) y = not_le_left R X h (le-trans R G X v.reverses y)
+
+pub bypasses-right : (G H R L : Tree) → BypassesRight G H R L → (G ≤ᵍ H) × (H ≤ᵍ G)
+bypasses-right G H R L v = (
+  le-in G H record { from_left = λ X x y. not_le_left H X (subst (λ t. Has t X) (sym v.others) x) y; from_right = λ X x y. at' X (v.from X x) y },
+  le-in H G record { from_left = λ X x y. not_le_left G X (subst (λ t. Has t X) v.others x) y; from_right = λ X x y. at X (v.kept X x) y },
+)
+  where
+    back : H ≤ᵍ L
+    back = le-in H L record {
+      from_left = λ X x y. not_le_left G X (subst (λ t. Has t X) v.others x) (le-trans G L X v.reverses y);
+      from_right = λ X x y. (let a = v.added X x in not_right_le H a.0 a.1 (le-trans a.0 X H a.2 y));
+    }
+
+    at : (X : Tree) → (X ≡ R) ⊎ Has (right H) X → X ≤ᵍ H → ⊥
+    at X (inl e) y = (le-out R H (subst (λ t. t ≤ᵍ H) e y)).from_left L v.answer back
+    at X (inr h) y = not_right_le H X h y
+
+    at' : (X : Tree) → Has (right G) X ⊎ Has (right L) X → X ≤ᵍ G → ⊥
+    at' X (inl h) y = not_right_le G X h y
+    at' X (inr h) y = not_right_le L X h (le-trans X G L y v.reverses)
+
+-- where a game that is no number is at least a number, one of its Left options is too
+pub option-over : (G : Tree) → (IsNumber G → ⊥) → (e : ℕ) (m : ℤ) → num e m ≤ᵍ G → (Y : Tree) × Has (left G) Y × (num e m ≤ᵍ Y)
+option-over G no_number e m p = elim (none-or_some (λ K. num e m ≤ᵍ K) (λ K. le-or_not (num e m) K) (left G)) [
+  | inl t ↦ absurd (no_number (number_between G e m (t) (λ R r y. not_right_le G R r (le-trans R (num e m) G y p))))
+  | inr f ↦ f
+]
+
+pub option-under : (G : Tree) → (IsNumber G → ⊥) → (e : ℕ) (m : ℤ) → G ≤ᵍ num e m → (Y : Tree) × Has (right G) Y × (Y ≤ᵍ num e m)
+option-under G no_number e m p = elim (none-or_some (λ K. K ≤ᵍ num e m) (λ K. le-or_not K (num e m)) (right G)) [
+  | inl t ↦ absurd (no_number (number_between G e m (λ L l y. not_le_left G L l (le-trans G (num e m) L p y)) (t)))
+  | inr f ↦ f
+]
+
+-- a number that is an option isn't reversible where no option is dominated
+pub number-kept_left : (G : Tree) → (IsNumber G → ⊥) → IsFreeLeft (left G) → (e : ℕ) (m : ℤ) → Has (left G) (num e m) → KeepsLeft G (num e m)
+number-kept_left G no_number free e m h R r p =
+    let k = num-right e m R r in
+    let y = option-over G no_number e k.0 (subst (λ t. t ≤ᵍ G) k.2 p) in
+    let under = le-trans (num e m) (num e k.0) y.0 (num-le e m k.0 (omega (arith, ints, k.1))) y.2 in
+    let same = free (num e m) y.0 h y.1 under in
+    not_right_le (num e m) R r (subst (λ t. t ≤ᵍ num e m) (sym k.2) (subst (λ t. num e k.0 ≤ᵍ t) (sym same) y.2))
+
+pub number-kept_right : (G : Tree) → (IsNumber G → ⊥) → IsFreeLeft (right G) → (e : ℕ) (m : ℤ) → Has (right G) (num e m) → KeepsRight G (num e m)
+number-kept_right G no_number free e m h L l p =
+    let k = num-left e m L l in
+    let y = option-under G no_number e k.0 (subst (λ t. G ≤ᵍ t) k.2 p) in
+    let under = le-trans y.0 (num e k.0) (num e m) y.2 (num-le e k.0 m (omega (arith, ints, k.1))) in
+    let same = free y.0 (num e m) y.1 h under in
+    not_le_left (num e m) L l (subst (λ t. num e m ≤ᵍ t) (sym k.2) (subst (λ t. t ≤ᵍ num e k.0) same y.2))
+
+-- a Left option that a number reverses can go: what stands for it is another option
+pub number-answers_left : (G : Tree) → (IsNumber G → ⊥) → (L : Tree) (e : ℕ) (m : ℤ) → Has (right L) (num e m) → num e m ≤ᵍ G → (X : Tree) → Has (left (num e m)) X → (Y : Tree) × Has (left G) Y × (Y ≡ L → ⊥) × (X ≤ᵍ Y)
+number-answers_left G no_number L e m r p X x =
+    let y = option-over G no_number e m p in
+    let k = num-left e m X x in
+    (y.0, y.1, λ i. not_right_le L (num e m) r (subst (λ t. num e m ≤ᵍ t) i y.2), le-trans X (num e m) y.0 (subst (λ t. t ≤ᵍ num e m) (sym k.2) (num-le e k.0 m (omega (arith, ints, k.1)))) y.2)
+
+pub number-answers_right : (G : Tree) → (IsNumber G → ⊥) → (R : Tree) (e : ℕ) (m : ℤ) → Has (left R) (num e m) → G ≤ᵍ num e m → (X : Tree) → Has (right (num e m)) X → (Y : Tree) × Has (right G) Y × (Y ≡ R → ⊥) × (Y ≤ᵍ X)
+number-answers_right G no_number R e m l p X x =
+    let y = option-under G no_number e m p in
+    let k = num-right e m X x in
+    (y.0, y.1, λ i. not_le_left R (num e m) l (subst (λ t. t ≤ᵍ num e m) i y.2), le-trans y.0 (num e m) X y.2 (subst (λ t. num e m ≤ᵍ t) (sym k.2) (num-le e m k.0 (omega (arith, ints, k.1)))))
+
+at-canonical : (Gs : Trees) (X : Tree) → AreCanonical TextBefore Gs → Has Gs X → IsCanonicalTree X
+at-canonical none X c h = absurd h
+at-canonical (more K Ks) X c (inl e) = subst (IsCanonical TextBefore) (sym e) c.0
+at-canonical (more K Ks) X c (inr h) = at-canonical Ks X c.1 h
+
+-- a form of which nothing can be dropped or bypassed, put in order, is the canonical tree
+pub form-canonical : (ls rs : Trees) → ((X : Tree) → Has ls X → IsCanonicalTree X) → ((X : Tree) → Has rs X → IsCanonicalTree X) → IsFreeLeft ls → IsFreeLeft rs → ((L : Tree) → Has ls L → KeepsLeft (node ls rs) L) → ((R : Tree) → Has rs R → KeepsRight (node ls rs) R)
+    → IsCanonicalFor (node ls rs) (node (sorted ls) (sorted rs))
+form-canonical ls rs c d free free' kept kept' = record { canonical = canonical; under = under; over = over }
+  where
+    under : node ls rs ≤ᵍ node (sorted ls) (sorted rs)
+    under = by_better (node ls rs) (node (sorted ls) (sorted rs)) (λ L l. (L, has-sorted ls L l, le-refl L)) (λ S s. (S, sorted-has rs S s, le-refl S))
+
+    over : node (sorted ls) (sorted rs) ≤ᵍ node ls rs
+    over = by_better (node (sorted ls) (sorted rs)) (node ls rs) (λ L l. (L, sorted-has ls L l, le-refl L)) (λ S s. (S, has-sorted rs S s, le-refl S))
+
+    canonical : IsCanonicalTree (node (sorted ls) (sorted rs))
+    canonical = (
+      record {
+        left_free = λ A B a b l. free A B (sorted-has ls A a) (sorted-has ls B b) l;
+        right_free = λ A B a b l. free' A B (sorted-has rs A a) (sorted-has rs B b) l;
+        left_kept = λ L R l r y. kept L (sorted-has ls L l) R r (le-trans R (node (sorted ls) (sorted rs)) (node ls rs) y over);
+        right_kept = λ R L r l y. kept' R (sorted-has rs R r) L l (le-trans (node ls rs) (node (sorted ls) (sorted rs)) L under y);
+        left_ascends = sorted-ascends ls;
+        right_ascends = sorted-ascends rs;
+      },
+      all-canonical TextBefore (sorted ls) (λ X x. c X (sorted-has ls X x)),
+      all-canonical TextBefore (sorted rs) (λ X x. d X (sorted-has rs X x)),
+    )
+
+-- numbers are canonical, and a canonical tree that is none is no number as a game
+pub number-canonical : (e : ℕ) (m : ℤ) → IsCanonicalTree (num e m)
+number-canonical e m = num-canonical TextBefore e m
+
+pub canonical-number : (G : Tree) → IsCanonicalTree G → (n : IsNumber G) → G ≡ num n.0 n.1
+canonical-number G c n = canonical-unique TextBefore text-order.irreflexive text-order.transitive G (num n.0 n.1) c (number-canonical n.0 n.1) n.2 n.3
+
+pub canonical-same : (G H : Tree) → IsCanonicalTree G → IsCanonicalTree H → G ≤ᵍ H → H ≤ᵍ G → G ≡ H
+canonical-same = canonical-unique TextBefore text-order.irreflexive text-order.transitive
+
+-- a tree has one canonical tree
+pub same-canonical : (G C D : Tree) → IsCanonicalFor G C → IsCanonicalFor G D → C ≡ D
+same-canonical G C D k l = canonical-same C D k.canonical l.canonical (le-trans C G D k.over l.under) (le-trans D G C l.over k.under)

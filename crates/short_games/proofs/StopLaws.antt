@@ -1,0 +1,289 @@
+-- How stops, floors and ceilings follow from those of the options.
+use Rattle.std.proofs.Math.Nat.{pow-suc}
+use Rattle.std.proofs.Common.{ap₂, ◌<ℤ◌, ◌+◌, ◌*ℤ◌, ◌-ℤ◌, ◌^◌, ◌∙◌, ℕ, zero, suc, ◌<◌, ◌≡◌, ◌⊎◌, arith, refl, inl, inr, sym, subst, ℤ, pos, negsuc, ◌+ℤ◌, ◌≤ℤ◌}
+use Rattle.std.proofs.lemmas.Int.{ints, by_lt_z}
+use Rattle.short_games.specs.Tree.{Tree, Trees, node, none, more, left, right, Has, size}
+use Rattle.short_games.specs.Order.{◌≤ᵍ◌}
+use Rattle.short_games.specs.Number.{num, IsNumber, IsNumberTree}
+use Rattle.short_games.specs.TextOrder.{IsCanonicalTree, TextBefore}
+use Rattle.short_games.specs.Threshold.{IsFloor, IsCeiling}
+use Rattle.short_games.specs.Stops.{IsLeftStop, IsRightStop, IsGreatestRight, IsLeastLeft, IsHalf, GoesWithLeftStop, GoesWithRightStop}
+use Rattle.short_games.proofs.NumberLaws.{num-double, num-lt}
+use Rattle.short_games.proofs.OrderLaws.{le-trans, size-left, size-right}
+use Rattle.short_games.proofs.CanonicalLaws.{canonical-left, canonical-right}
+use Rattle.short_games.proofs.TextOrderLaws.{text-order}
+use Rattle.short_games.proofs.ReductionLaws.{canonical-number}
+use Rattle.short_games.proofs.ThresholdLaws.{cell, number-floor, number-ceiling, game-floor, game-ceiling, half-cell}
+
+-- the greatest and the least of what the trees of a list have
+pub record IsGreatest (P : Tree → ℤ → Type 0) (Gs : Trees) (x : ℤ) : Type 0 where
+  pub bound : (G : Tree) → Has Gs G → (y : ℤ) × P G y × (y ≤ℤ x)
+  pub reached : (G : Tree) × Has Gs G × P G x
+
+pub record IsLeast (P : Tree → ℤ → Type 0) (Gs : Trees) (x : ℤ) : Type 0 where
+  pub bound : (G : Tree) → Has Gs G → (y : ℤ) × P G y × (x ≤ℤ y)
+  pub reached : (G : Tree) × Has Gs G × P G x
+
+module _ (P : Tree → ℤ → Type 0) where
+  greatest-one : (G : Tree) (x : ℤ) → P G x → IsGreatest P (more G none) x
+  greatest-one G x p = record { bound = λ H h. elim h [ inl i ↦ (x, subst (λ t. P t x) (sym i) p, omega (arith, ints)) | inr a ↦ absurd a ]; reached = (G, inl refl, p) }
+
+  greatest-more : (G : Tree) (Gs : Trees) (y z : ℤ) → P G y → IsGreatest P Gs z → (x : ℤ) × IsGreatest P (more G Gs) x × (y ≤ℤ x) × (z ≤ℤ x) × ((y ≡ x) ⊎ (z ≡ x))
+  greatest-more G Gs y z p g = by_lt_z y z
+      (λ l. (
+        z,
+        record { bound = λ H h. elim h [ inl i ↦ (y, subst (λ t. P t y) (sym i) p, omega (arith, ints, l)) | inr a ↦ g.bound H a ]; reached = (g.reached.0, inr g.reached.1, g.reached.2) },
+        omega (arith, ints, l),
+        omega (arith, ints),
+        inr refl,
+      ))
+      (λ l. (
+        y,
+        record {
+          bound = λ H h. elim h [ inl i ↦ (y, subst (λ t. P t y) (sym i) p, omega (arith, ints)) | inr a ↦ (let b = g.bound H a in (b.0, b.1, omega (arith, ints, b.2, l))) ];
+          reached = (G, inl refl, p);
+        },
+        omega (arith, ints),
+        l,
+        inl refl,
+      ))
+
+  pub greatest : (Gs : Trees) → ((G : Tree) → Has Gs G → (x : ℤ) × P G x) → (G : Tree) → Has Gs G → (x : ℤ) × IsGreatest P Gs x
+  greatest none f K k = absurd k
+  greatest (more G none) f K k = let r = f G (inl refl) in (r.0, greatest-one G r.0 r.1)
+  greatest (more G (more H Hs)) f K k =
+      let r = f G (inl refl) in
+      let s = greatest (more H Hs) (λ X x. f X (inr x)) H (inl refl) in
+      let t = greatest-more G (more H Hs) r.0 s.0 r.1 s.1 in
+      (t.0, t.1)
+
+  least-one : (G : Tree) (x : ℤ) → P G x → IsLeast P (more G none) x
+  least-one G x p = record { bound = λ H h. elim h [ inl i ↦ (x, subst (λ t. P t x) (sym i) p, omega (arith, ints)) | inr a ↦ absurd a ]; reached = (G, inl refl, p) }
+
+  least-more : (G : Tree) (Gs : Trees) (y z : ℤ) → P G y → IsLeast P Gs z → (x : ℤ) × IsLeast P (more G Gs) x × (x ≤ℤ y) × (x ≤ℤ z) × ((y ≡ x) ⊎ (z ≡ x))
+  least-more G Gs y z p g = by_lt_z z y
+      (λ l. (
+        z,
+        record { bound = λ H h. elim h [ inl i ↦ (y, subst (λ t. P t y) (sym i) p, omega (arith, ints, l)) | inr a ↦ g.bound H a ]; reached = (g.reached.0, inr g.reached.1, g.reached.2) },
+        omega (arith, ints, l),
+        omega (arith, ints),
+        inr refl,
+      ))
+      (λ l. (
+        y,
+        record {
+          bound = λ H h. elim h [ inl i ↦ (y, subst (λ t. P t y) (sym i) p, omega (arith, ints)) | inr a ↦ (let b = g.bound H a in (b.0, b.1, omega (arith, ints, b.2, l))) ];
+          reached = (G, inl refl, p);
+        },
+        omega (arith, ints),
+        l,
+        inl refl,
+      ))
+
+  pub least : (Gs : Trees) → ((G : Tree) → Has Gs G → (x : ℤ) × P G x) → (G : Tree) → Has Gs G → (x : ℤ) × IsLeast P Gs x
+  least none f K k = absurd k
+  least (more G none) f K k = let r = f G (inl refl) in (r.0, least-one G r.0 r.1)
+  least (more G (more H Hs)) f K k =
+      let r = f G (inl refl) in
+      let s = least (more H Hs) (λ X x. f X (inr x)) H (inl refl) in
+      let t = least-more G (more H Hs) r.0 s.0 r.1 s.1 in
+      (t.0, t.1)
+
+-- the ceiling of a game that is no number is one above the greatest floor of its Left options
+pub ceiling-by : (e : ℕ) (G : Tree) (k : ℤ) → (IsNumber G → ⊥) → IsGreatest (IsFloor e) (left G) k → IsCeiling e G (k +ℤ pos 1)
+ceiling-by e G k no_number g = game-ceiling e G k no_number (λ f m h c. (
+  λ all. by_lt_z k h (λ l. l) (λ l. absurd (all g.reached.0 g.reached.1 ((g.reached.2 f m h c).1 l))),
+  λ l L i y. (let b = g.bound L i in let n : h ≤ℤ b.0 = (b.1 f m h c).0 y in omega (arith, ints, l, n, b.2)),
+))
+
+pub floor-by : (e : ℕ) (G : Tree) (k : ℤ) → (IsNumber G → ⊥) → IsLeast (IsCeiling e) (right G) k → IsFloor e G (k +ℤ negsuc 0)
+floor-by e G k no_number g = game-floor e G k no_number (λ f m h c. (
+  λ all. by_lt_z h k (λ l. l) (λ l. absurd (all g.reached.0 g.reached.1 ((g.reached.2 f m h c).1 l))),
+  λ l R i y. (let b = g.bound R i in let n : b.0 ≤ℤ h = (b.1 f m h c).0 y in omega (arith, ints, l, n, b.2)),
+))
+
+-- a game has one floor and one ceiling
+pub one-floor : (e : ℕ) (G : Tree) (j k : ℤ) → IsFloor e G j → IsFloor e G k → j ≡ k
+one-floor e G j k a b =
+    let p : j ≤ℤ k = (b (suc e) j j (half-cell e j)).0 ((a (suc e) j j (half-cell e j)).1 (omega (arith, ints))) in
+    let q : k ≤ℤ j = (a (suc e) k k (half-cell e k)).0 ((b (suc e) k k (half-cell e k)).1 (omega (arith, ints))) in
+    omega (arith, ints, p, q)
+
+pub one-ceiling : (e : ℕ) (G : Tree) (j k : ℤ) → IsCeiling e G j → IsCeiling e G k → j ≡ k
+one-ceiling e G j k a b =
+    let p : k ≤ℤ j = (b (suc e) j j (half-cell e j)).0 ((a (suc e) j j (half-cell e j)).1 (omega (arith, ints))) in
+    let q : j ≤ℤ k = (a (suc e) k k (half-cell e k)).0 ((b (suc e) k k (half-cell e k)).1 (omega (arith, ints))) in
+    omega (arith, ints, p, q)
+
+-- the tree of a number has the number as its stops
+pub number-left_stop : (e : ℕ) (G : Tree) (x : ℤ) → G ≡ num e x → IsLeftStop e G x
+unfolding IsLeftStop
+number-left_stop e (node ls rs) x i = inl i
+
+pub number-right_stop : (e : ℕ) (G : Tree) (x : ℤ) → G ≡ num e x → IsRightStop e G x
+unfolding IsLeftStop
+number-right_stop e (node ls rs) x i = inl i
+
+-- another tree has stops where its options have them
+pub has-greatest_right : (e : ℕ) (Gs : Trees) → ((G : Tree) → Has Gs G → (x : ℤ) × IsRightStop e G x) → (G : Tree) → Has Gs G → (x : ℤ) × IsGreatestRight e Gs x
+unfolding IsLeftStop
+has-greatest_right e none f K k = absurd k
+has-greatest_right e (more G none) f K k = f G (inl refl)
+has-greatest_right e (more G (more H Hs)) f K k =
+    let r = f G (inl refl) in
+    let s = has-greatest_right e (more H Hs) (λ X x. f X (inr x)) H (inl refl) in
+    by_lt_z r.0 s.0 (λ l. (s.0, (r.0, (s.0, r.1, s.1, omega (arith, ints, l), omega (arith, ints), inr refl)))) (λ l. (r.0, (r.0, (s.0, r.1, s.1, omega (arith, ints), l, inl refl))))
+
+pub has-least_left : (e : ℕ) (Gs : Trees) → ((G : Tree) → Has Gs G → (x : ℤ) × IsLeftStop e G x) → (G : Tree) → Has Gs G → (x : ℤ) × IsLeastLeft e Gs x
+unfolding IsLeftStop
+has-least_left e none f K k = absurd k
+has-least_left e (more G none) f K k = f G (inl refl)
+has-least_left e (more G (more H Hs)) f K k =
+    let r = f G (inl refl) in
+    let s = has-least_left e (more H Hs) (λ X x. f X (inr x)) H (inl refl) in
+    by_lt_z s.0 r.0 (λ l. (s.0, (r.0, (s.0, r.1, s.1, omega (arith, ints, l), omega (arith, ints), inr refl)))) (λ l. (r.0, (r.0, (s.0, r.1, s.1, omega (arith, ints), l, inl refl))))
+
+pub game-left_stop : (e : ℕ) (G : Tree) → (IsNumberTree G → ⊥) → ((L : Tree) → Has (left G) L → (x : ℤ) × IsRightStop e L x) → (L : Tree) → Has (left G) L → (x : ℤ) × IsLeftStop e G x
+unfolding IsLeftStop
+game-left_stop e (node ls rs) n f L l = let r = has-greatest_right e ls f L l in (r.0, inr (n, r.1))
+
+pub game-right_stop : (e : ℕ) (G : Tree) → (IsNumberTree G → ⊥) → ((R : Tree) → Has (right G) R → (x : ℤ) × IsLeftStop e R x) → (R : Tree) → Has (right G) R → (x : ℤ) × IsRightStop e G x
+unfolding IsLeftStop
+game-right_stop e (node ls rs) n f R r = let s = has-least_left e rs f R r in (s.0, inr (n, s.1))
+
+-- and the other way round
+greatest_right-is : (e : ℕ) (Gs : Trees) (x : ℤ) → IsGreatestRight e Gs x → IsGreatest (IsRightStop e) Gs x
+unfolding IsLeftStop
+greatest_right-is e none x h = absurd h
+greatest_right-is e (more G none) x h = greatest-one (IsRightStop e) G x h
+greatest_right-is e (more G (more H Hs)) x h =
+    let g = greatest_right-is e (more H Hs) h.1.0 h.1.2 in record {
+      bound = λ K k. elim k [ inl i ↦ (h.0, subst (λ t. IsRightStop e t h.0) (sym i) h.1.1, h.1.3) | inr j ↦ (let w = g.bound K j in (w.0, w.1, omega (arith, ints, w.2, h.1.4))) ];
+      reached = elim h.1.5 [ inl i ↦ (G, inl refl, subst (IsRightStop e G) i h.1.1) | inr i ↦ (g.reached.0, inr g.reached.1, subst (IsRightStop e g.reached.0) i g.reached.2) ];
+    }
+
+least_left-is : (e : ℕ) (Gs : Trees) (x : ℤ) → IsLeastLeft e Gs x → IsLeast (IsLeftStop e) Gs x
+unfolding IsLeftStop
+least_left-is e none x h = absurd h
+least_left-is e (more G none) x h = least-one (IsLeftStop e) G x h
+least_left-is e (more G (more H Hs)) x h =
+    let g = least_left-is e (more H Hs) h.1.0 h.1.2 in record {
+      bound = λ K k. elim k [ inl i ↦ (h.0, subst (λ t. IsLeftStop e t h.0) (sym i) h.1.1, h.1.3) | inr j ↦ (let w = g.bound K j in (w.0, w.1, omega (arith, ints, w.2, h.1.4))) ];
+      reached = elim h.1.5 [ inl i ↦ (G, inl refl, subst (IsLeftStop e G) i h.1.1) | inr i ↦ (g.reached.0, inr g.reached.1, subst (IsLeftStop e g.reached.0) i g.reached.2) ];
+    }
+
+-- what a stop is
+pub data StopIs (e : ℕ) (G : Tree) (x : ℤ) (Is : Type 0) : Type 0 where
+  of_number : G ≡ num e x → StopIs e G x Is
+  of_game : (IsNumberTree G → ⊥) → Is → StopIs e G x Is
+
+pub left_stop-is : (e : ℕ) (G : Tree) (x : ℤ) → IsLeftStop e G x → StopIs e G x (IsGreatest (IsRightStop e) (left G) x)
+unfolding IsLeftStop
+left_stop-is e (node ls rs) x (inl i) = of_number i
+left_stop-is e (node ls rs) x (inr h) = of_game h.0 (greatest_right-is e ls x h.1)
+
+pub right_stop-is : (e : ℕ) (G : Tree) (x : ℤ) → IsRightStop e G x → StopIs e G x (IsLeast (IsLeftStop e) (right G) x)
+unfolding IsLeftStop
+right_stop-is e (node ls rs) x (inl i) = of_number i
+right_stop-is e (node ls rs) x (inr h) = of_game h.0 (least_left-is e rs x h.1)
+
+-- the ceiling goes with the left stop, and the floor with the right one
+abbrev pub CeilingBy : ℕ → Tree → ℤ → Type 0
+CeilingBy e G x = (k : ℤ) × IsCeiling e G k × IsHalf x k
+
+abbrev pub FloorBy : ℕ → Tree → ℤ → Type 0
+FloorBy e G x = (k : ℤ) × IsFloor e G k × IsHalf x (k +ℤ pos 1)
+
+ceiling_step : (e : ℕ) (G : Tree) (x : ℤ) → (IsNumber G → ⊥) → IsGreatest (IsRightStop e) (left G) x → ((L : Tree) → Has (left G) L → (y : ℤ) → IsRightStop e L y → FloorBy e L y) → CeilingBy e G x
+ceiling_step e G x n g f =
+    let h = greatest (IsFloor e) (left G) (λ L l. (let b = g.bound L l in let w = f L l b.0 b.1 in (w.0, w.1))) g.reached.0 g.reached.1 in
+    let b = g.bound h.1.reached.0 h.1.reached.1 in
+    let v = f h.1.reached.0 h.1.reached.1 b.0 b.1 in
+    let w = f g.reached.0 g.reached.1 x g.reached.2 in
+    let j = h.1.bound g.reached.0 g.reached.1 in
+    let p : v.0 ≡ h.0 = one-floor e h.1.reached.0 v.0 h.0 v.1 h.1.reached.2 in
+    let q : w.0 ≡ j.0 = one-floor e g.reached.0 w.0 j.0 w.1 j.1 in
+    (h.0 +ℤ pos 1, ceiling-by e G h.0 n h.1, (omega (arith, ints, w.2.0, q, j.2), omega (arith, ints, v.2.1, p, b.2)))
+
+floor_step : (e : ℕ) (G : Tree) (x : ℤ) → (IsNumber G → ⊥) → IsLeast (IsLeftStop e) (right G) x → ((R : Tree) → Has (right G) R → (y : ℤ) → IsLeftStop e R y → CeilingBy e R y) → FloorBy e G x
+floor_step e G x n g f =
+    let h = least (IsCeiling e) (right G) (λ R r. (let b = g.bound R r in let w = f R r b.0 b.1 in (w.0, w.1))) g.reached.0 g.reached.1 in
+    let b = g.bound h.1.reached.0 h.1.reached.1 in
+    let v = f h.1.reached.0 h.1.reached.1 b.0 b.1 in
+    let w = f g.reached.0 g.reached.1 x g.reached.2 in
+    let j = h.1.bound g.reached.0 g.reached.1 in
+    let p : v.0 ≡ h.0 = one-ceiling e h.1.reached.0 v.0 h.0 v.1 h.1.reached.2 in
+    let q : w.0 ≡ j.0 = one-ceiling e g.reached.0 w.0 j.0 w.1 j.1 in
+    (h.0 +ℤ negsuc 0, floor-by e G h.0 n h.1, (omega (arith, ints, v.2.0, p, b.2), omega (arith, ints, w.2.1, q, j.2)))
+
+module _ (e : ℕ) where
+  record Both (G : Tree) : Type 0 where
+    ceiling : (x : ℤ) → IsLeftStop e G x → CeilingBy e G x
+    floor : (x : ℤ) → IsRightStop e G x → FloorBy e G x
+
+  both_step : (G : Tree) → IsCanonicalTree G → ((L : Tree) → Has (left G) L → Both L) → ((R : Tree) → Has (right G) R → Both R) → Both G
+  both_step G c f g = record { ceiling = λ x s. at_left x (left_stop-is e G x s); floor = λ x s. at_right x (right_stop-is e G x s) }
+    where
+      no_number : (IsNumberTree G → ⊥) → IsNumber G → ⊥
+      no_number n i = n (i.0, i.1, canonical-number G c i)
+
+      at_left : (x : ℤ) → StopIs e G x (IsGreatest (IsRightStop e) (left G) x) → CeilingBy e G x
+      at_left x (of_number i) = (x +ℤ x, subst (λ t. IsCeiling e t (x +ℤ x)) (sym i) (number-ceiling e x), (omega (arith, ints), omega (arith, ints)))
+      at_left x (of_game n h) = ceiling_step e G x (no_number n) h (λ L l. (f L l).floor)
+
+      at_right : (x : ℤ) → StopIs e G x (IsLeast (IsLeftStop e) (right G) x) → FloorBy e G x
+      at_right x (of_number i) = (x +ℤ x, subst (λ t. IsFloor e t (x +ℤ x)) (sym i) (number-floor e x), (omega (arith, ints), omega (arith, ints)))
+      at_right x (of_game n h) = floor_step e G x (no_number n) h (λ R r. (g R r).ceiling)
+
+  both_within : (n : ℕ) (G : Tree) → size G < n → IsCanonicalTree G → Both G
+  both_within zero G a c = absurd (omega arith)
+  both_within (suc n) G a c = both_step G c
+      (λ L l. both_within n L (omega (arith, size-left G L l)) (canonical-left TextBefore text-order.irreflexive text-order.transitive G L c l))
+      (λ R r. both_within n R (omega (arith, size-right G R r)) (canonical-right TextBefore text-order.irreflexive text-order.transitive G R c r))
+
+  pub ceiling-of : (G : Tree) → IsCanonicalTree G → (x : ℤ) → IsLeftStop e G x → CeilingBy e G x
+  ceiling-of G c = (both_within (suc (size G)) G (omega arith) c).ceiling
+
+  pub floor-of : (G : Tree) → IsCanonicalTree G → (x : ℤ) → IsRightStop e G x → FloorBy e G x
+  floor-of G c = (both_within (suc (size G)) G (omega arith) c).floor
+
+  pub goes_with-left : (G : Tree) (k : ℤ) → IsCanonicalTree G → IsCeiling e G k → (x : ℤ) × IsLeftStop e G x → GoesWithLeftStop e G k
+  goes_with-left G k c h s = let r = ceiling-of G c s.0 s.1 in (s.0, s.1, rw (one-ceiling e G k r.0 h r.1) r.2)
+
+  pub goes_with-right : (G : Tree) (k : ℤ) → IsCanonicalTree G → IsFloor e G k → (x : ℤ) × IsRightStop e G x → GoesWithRightStop e G k
+  goes_with-right G k c h s = let r = floor-of G c s.0 s.1 in (s.0, s.1, rw (one-floor e G k r.0 h r.1) r.2)
+
+twice : (m : ℤ) (a b : ℕ) → b ≡ a + a → m *ℤ pos b ≡ (m *ℤ pos a) +ℤ (m *ℤ pos a)
+twice m a b e = grind (arith, ints)
+
+-- a number over a power of two that is greater by d
+pub num-scaled : (d e : ℕ) (m : ℤ) → num (d + e) (m *ℤ pos (2 ^ d)) ≡ num e m
+num-scaled zero e m = ap₂ num (omega arith) (grind (arith, ints))
+num-scaled (suc d) e m = ap₂ num (omega arith) (twice m (2 ^ d) (2 ^ suc d) (omega (arith, pow-suc 2 d))) ∙ num-double (d + e) (m *ℤ pos (2 ^ d)) ∙ num-scaled d e m
+
+-- a game is at most each number above its left stop, and at least each number below its right stop
+pub under-left_stop : (e : ℕ) (G : Tree) (x : ℤ) → IsCanonicalTree G → IsLeftStop e G x → (d : ℕ) (y : ℤ) → pos 0 <ℤ y → G ≤ᵍ num (d + e) ((x *ℤ pos (2 ^ d)) +ℤ y)
+under-left_stop e G x c s d y p =
+    let k = ceiling-of e G c x s in
+    let h = cell e (d + e) ((x *ℤ pos (2 ^ d)) +ℤ y) in
+    (k.1 (d + e) ((x *ℤ pos (2 ^ d)) +ℤ y) h.0 h.1).1 (by_lt_z (x +ℤ x) h.0
+    (λ l. omega (arith, ints, l, k.2.1))
+    (λ l. absurd (num-lt (d + e) (x *ℤ pos (2 ^ d)) ((x *ℤ pos (2 ^ d)) +ℤ y) (omega (arith, ints, p)) (subst (λ t. num (d + e) ((x *ℤ pos (2 ^ d)) +ℤ y) ≤ᵍ t) (sym (num-scaled d e x)) ((h.1.under x).1 l)))))
+
+pub over-right_stop : (e : ℕ) (G : Tree) (x : ℤ) → IsCanonicalTree G → IsRightStop e G x → (d : ℕ) (y : ℤ) → pos 0 <ℤ y → num (d + e) ((x *ℤ pos (2 ^ d)) -ℤ y) ≤ᵍ G
+over-right_stop e G x c s d y p =
+    let k = floor-of e G c x s in
+    let h = cell e (d + e) ((x *ℤ pos (2 ^ d)) -ℤ y) in
+    (k.1 (d + e) ((x *ℤ pos (2 ^ d)) -ℤ y) h.0 h.1).1 (by_lt_z h.0 (x +ℤ x)
+    (λ l. omega (arith, ints, l, k.2.0))
+    (λ l. absurd (num-lt (d + e) ((x *ℤ pos (2 ^ d)) -ℤ y) (x *ℤ pos (2 ^ d)) (omega (arith, ints, p)) (subst (λ t. t ≤ᵍ num (d + e) ((x *ℤ pos (2 ^ d)) -ℤ y)) (sym (num-scaled d e x)) ((h.1.over x).1 l)))))
+
+-- so the left stop is at least the right one
+pub stops-ordered : (e : ℕ) (G : Tree) (l r : ℤ) → IsCanonicalTree G → IsLeftStop e G l → IsRightStop e G r → r ≤ℤ l
+stops-ordered e G l r c p q = by_lt_z l r
+    (λ b. (
+    let high = under-left_stop e G l c p 2 (pos 1) (omega (arith, ints)) in
+    let low = over-right_stop e G r c q 2 (pos 1) (omega (arith, ints)) in
+    absurd (num-lt (2 + e) ((l *ℤ pos (2 ^ 2)) +ℤ pos 1) ((r *ℤ pos (2 ^ 2)) -ℤ pos 1) (omega (arith, ints, b)) (le-trans _ G _ low high))
+    ))
+    (λ b. b)

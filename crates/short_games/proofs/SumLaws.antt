@@ -1,0 +1,376 @@
+-- Sums: their options, and that they keep the order.
+use Rattle.std.proofs.Common.{ℕ, zero, suc, ◌+◌, ◌<◌, ◌≡◌, ◌⊎◌, arith, refl, inl, inr, ◌∙◌, ap, ap₂}
+use Rattle.short_games.specs.Tree.{Tree, Trees, node, none, more, left, right, Has, size, sizes, ◌then◌, neg, neg_each}
+use Rattle.short_games.specs.Order.{◌≡ᵍ◌, ◌≤ᵍ◌}
+use Rattle.short_games.specs.Sum.{◌+ᵍ◌, each_plus, plus_each, sum_of_each}
+use Rattle.short_games.proofs.OrderLaws.{le-out, le-in, le-refl, le-trans, same-refl, size-left, size-right}
+
+pub each-is : (ls rs Ms : Trees) → sum_of_each (λ K. each_plus ls K) (λ K. each_plus rs K) Ms ≡ plus_each (node ls rs) Ms
+unfolding ◌+ᵍ◌ plus_each
+each-is ls rs none = refl
+each-is ls rs (more M Ms) = ap (more (node ls rs +ᵍ M)) (each-is ls rs Ms)
+
+pub plus-left : (G H : Tree) → left (G +ᵍ H) ≡ each_plus (left G) H then plus_each G (left H)
+unfolding ◌+ᵍ◌
+plus-left (node ls rs) (node ms ns) = ap (λ z. each_plus ls (node ms ns) then z) (each-is ls rs ms)
+
+pub plus-right : (G H : Tree) → right (G +ᵍ H) ≡ each_plus (right G) H then plus_each G (right H)
+unfolding ◌+ᵍ◌
+plus-right (node ls rs) (node ms ns) = ap (λ z. each_plus rs (node ms ns) then z) (each-is ls rs ns)
+
+pub then-has : (As Bs : Trees) (X : Tree) → Has (As then Bs) X → Has As X ⊎ Has Bs X
+then-has none Bs X h = inr h
+then-has (more A As) Bs X (inl e) = inl (inl e)
+then-has (more A As) Bs X (inr h) = elim (then-has As Bs X h) [ inl a ↦ inl (inr a) | inr b ↦ inr b ]
+
+pub has-then_left : (As Bs : Trees) (X : Tree) → Has As X → Has (As then Bs) X
+has-then_left none Bs X h = elim h [ ]
+has-then_left (more A As) Bs X (inl e) = inl e
+has-then_left (more A As) Bs X (inr h) = inr (has-then_left As Bs X h)
+
+pub has-then_right : (As Bs : Trees) (X : Tree) → Has Bs X → Has (As then Bs) X
+has-then_right none Bs X h = h
+has-then_right (more A As) Bs X h = inr (has-then_right As Bs X h)
+
+pub each_plus-has : (Gs : Trees) (H X : Tree) → Has (each_plus Gs H) X → (G : Tree) × Has Gs G × (X ≡ G +ᵍ H)
+unfolding ◌+ᵍ◌
+each_plus-has none H X h = elim h [ ]
+each_plus-has (more G Gs) H X (inl e) = (G, inl refl, e)
+each_plus-has (more G Gs) H X (inr h) = let r = each_plus-has Gs H X h in (r.0, inr r.1, r.2)
+
+pub has-each_plus : (Gs : Trees) (H G : Tree) → Has Gs G → Has (each_plus Gs H) (G +ᵍ H)
+unfolding ◌+ᵍ◌
+has-each_plus none H G h = elim h [ ]
+has-each_plus (more K Ks) H G (inl e) = inl (ap (λ z. z +ᵍ H) e)
+has-each_plus (more K Ks) H G (inr h) = inr (has-each_plus Ks H G h)
+
+pub plus_each-has : (G : Tree) (Hs : Trees) (X : Tree) → Has (plus_each G Hs) X → (H : Tree) × Has Hs H × (X ≡ G +ᵍ H)
+unfolding plus_each
+plus_each-has G none X h = elim h [ ]
+plus_each-has G (more H Hs) X (inl e) = (H, inl refl, e)
+plus_each-has G (more H Hs) X (inr h) = let r = plus_each-has G Hs X h in (r.0, inr r.1, r.2)
+
+pub has-plus_each : (G : Tree) (Hs : Trees) (H : Tree) → Has Hs H → Has (plus_each G Hs) (G +ᵍ H)
+unfolding plus_each
+has-plus_each G none H h = elim h [ ]
+has-plus_each G (more K Ks) H (inl e) = inl (ap (λ z. G +ᵍ z) e)
+has-plus_each G (more K Ks) H (inr h) = inr (has-plus_each G Ks H h)
+
+-- an option of a sum is a move in the first game, or one in the second
+pub data InSum (G H : Tree) (Gs Hs : Trees) : Tree → Type 0 where
+  in_first : (K : Tree) → Has Gs K → InSum G H Gs Hs (K +ᵍ H)
+  in_second : (K : Tree) → Has Hs K → InSum G H Gs Hs (G +ᵍ K)
+
+pub left_of_sum : (G H X : Tree) → Has (left (G +ᵍ H)) X → InSum G H (left G) (left H) X
+left_of_sum G H X h = elim (then-has _ _ X (rw (plus-left G H) at h)) [
+  | inl a ↦ (let r = each_plus-has (left G) H X a in rw r.2 (in_first r.0 r.1))
+  | inr b ↦ (let r = plus_each-has G (left H) X b in rw r.2 (in_second r.0 r.1))
+]
+
+pub right_of_sum : (G H X : Tree) → Has (right (G +ᵍ H)) X → InSum G H (right G) (right H) X
+right_of_sum G H X h = elim (then-has _ _ X (rw (plus-right G H) at h)) [
+  | inl a ↦ (let r = each_plus-has (right G) H X a in rw r.2 (in_first r.0 r.1))
+  | inr b ↦ (let r = plus_each-has G (right H) X b in rw r.2 (in_second r.0 r.1))
+]
+
+pub left_in_first : (G H K : Tree) → Has (left G) K → Has (left (G +ᵍ H)) (K +ᵍ H)
+left_in_first G H K h = rw (plus-left G H) (has-then_left _ _ _ (has-each_plus (left G) H K h))
+
+pub left_in_second : (G H K : Tree) → Has (left H) K → Has (left (G +ᵍ H)) (G +ᵍ K)
+left_in_second G H K h = rw (plus-left G H) (has-then_right _ _ _ (has-plus_each G (left H) K h))
+
+pub right_in_first : (G H K : Tree) → Has (right G) K → Has (right (G +ᵍ H)) (K +ᵍ H)
+right_in_first G H K h = rw (plus-right G H) (has-then_left _ _ _ (has-each_plus (right G) H K h))
+
+pub right_in_second : (G H K : Tree) → Has (right H) K → Has (right (G +ᵍ H)) (G +ᵍ K)
+right_in_second G H K h = rw (plus-right G H) (has-then_right _ _ _ (has-plus_each G (right H) K h))
+
+-- a game is not at or above its Right options, nor at or below its Left ones
+pub not_le_left : (G L : Tree) → Has (left G) L → G ≤ᵍ L → ⊥
+not_le_left G L h = λ e. (le-out G G (le-refl G)).from_left L h e
+
+pub not_right_le : (G R : Tree) → Has (right G) R → R ≤ᵍ G → ⊥
+not_right_le G R h = λ e. (le-out G G (le-refl G)).from_right R h e
+
+-- the order of two games is the order of their sums with a third
+pub SameOrder : (G H K : Tree) → Type 0
+SameOrder G H K = (G ≤ᵍ H → G +ᵍ K ≤ᵍ H +ᵍ K) × (G +ᵍ K ≤ᵍ H +ᵍ K → G ≤ᵍ H)
+
+-- what holds of every three games with fewer nodes than these, holds of these
+plus_step : (n : ℕ) → ((G H K : Tree) → size G + size H + size K < n → SameOrder G H K) → (G H K : Tree) → size G + size H + size K < suc n → SameOrder G H K
+unfolding SameOrder
+plus_step n ih G H K a = (
+  λ p. le-in _ _ record {
+    from_left = λ X h e. from_left_of p X (left_of_sum G K X h) e;
+    from_right = λ X h e. from_right_of p X (right_of_sum H K X h) e;
+  },
+  λ p. le-in _ _ record {
+    from_left = λ L l e. (le-out _ _ p).from_left (L +ᵍ K) (left_in_first G K L l) ((ih H L K (omega (arith, size-left G L l))).0 e);
+    from_right = λ R r e. (le-out _ _ p).from_right (R +ᵍ K) (right_in_first H K R r) ((ih R G K (omega (arith, size-right H R r))).0 e);
+  },
+)
+  where
+    from_left_of : G ≤ᵍ H → (X : Tree) → InSum G K (left G) (left K) X → H +ᵍ K ≤ᵍ X → ⊥
+    from_left_of p X (in_first L l) e = (le-out G H p).from_left L l ((ih H L K (omega (arith, size-left G L l))).1 e)
+    from_left_of p X (in_second L l) e = not_le_left (H +ᵍ K) (H +ᵍ L) (left_in_second H K L l) (le-trans _ _ _ e ((ih G H L (omega (arith, size-left K L l))).0 p))
+
+    from_right_of : G ≤ᵍ H → (X : Tree) → InSum H K (right H) (right K) X → X ≤ᵍ G +ᵍ K → ⊥
+    from_right_of p X (in_first R r) e = (le-out G H p).from_right R r ((ih R G K (omega (arith, size-right H R r))).1 e)
+    from_right_of p X (in_second R r) e = not_right_le (G +ᵍ K) (G +ᵍ R) (right_in_second G K R r) (le-trans _ _ _ ((ih G H R (omega (arith, size-right K R r))).0 p) e)
+
+plus_within : (n : ℕ) (G H K : Tree) → size G + size H + size K < n → SameOrder G H K
+plus_within zero G H K a = absurd (omega arith)
+plus_within (suc n) G H K a = plus_step n (plus_within n) G H K a
+
+pub same_order : (G H K : Tree) → SameOrder G H K
+same_order G H K = plus_within (suc (size G + size H + size K)) G H K (omega arith)
+
+pub plus-le : (G H K : Tree) → G ≤ᵍ H → G +ᵍ K ≤ᵍ H +ᵍ K
+unfolding SameOrder
+plus-le G H K = (same_order G H K).0
+
+pub plus-cancel : (G H K : Tree) → G +ᵍ K ≤ᵍ H +ᵍ K → G ≤ᵍ H
+unfolding SameOrder
+plus-cancel G H K = (same_order G H K).1
+
+comm_step : (n : ℕ) → ((G H : Tree) → size G + size H < n → G +ᵍ H ≤ᵍ H +ᵍ G) → (G H : Tree) → size G + size H < suc n → G +ᵍ H ≤ᵍ H +ᵍ G
+comm_step n ih G H a = le-in _ _ record {
+  from_left = λ X h e. from_left_of X (left_of_sum G H X h) e;
+  from_right = λ X h e. from_right_of X (right_of_sum H G X h) e;
+}
+  where
+    from_left_of : (X : Tree) → InSum G H (left G) (left H) X → H +ᵍ G ≤ᵍ X → ⊥
+    from_left_of X (in_first L l) e = not_le_left _ (H +ᵍ L) (left_in_second H G L l) (le-trans _ _ _ e (ih L H (omega (arith, size-left G L l))))
+    from_left_of X (in_second L l) e = not_le_left _ (L +ᵍ G) (left_in_first H G L l) (le-trans _ _ _ e (ih G L (omega (arith, size-left H L l))))
+
+    from_right_of : (X : Tree) → InSum H G (right H) (right G) X → X ≤ᵍ G +ᵍ H → ⊥
+    from_right_of X (in_first R r) e = not_right_le _ (G +ᵍ R) (right_in_second G H R r) (le-trans _ _ _ (ih G R (omega (arith, size-right H R r))) e)
+    from_right_of X (in_second R r) e = not_right_le _ (R +ᵍ H) (right_in_first G H R r) (le-trans _ _ _ (ih R H (omega (arith, size-right G R r))) e)
+
+comm_within : (n : ℕ) (G H : Tree) → size G + size H < n → G +ᵍ H ≤ᵍ H +ᵍ G
+comm_within zero G H a = absurd (omega arith)
+comm_within (suc n) G H a = comm_step n (comm_within n) G H a
+
+pub plus-comm : (G H : Tree) → G +ᵍ H ≤ᵍ H +ᵍ G
+plus-comm G H = comm_within (suc (size G + size H)) G H (omega arith)
+
+pub plus-le_both : (G H K M : Tree) → G ≤ᵍ H → K ≤ᵍ M → G +ᵍ K ≤ᵍ H +ᵍ M
+plus-le_both G H K M p q = le-trans _ _ _ (plus-le G H K p) (le-trans _ _ _ (plus-comm H K) (le-trans _ _ _ (plus-le K M H q) (plus-comm M H)))
+
+-- `neg` and the options
+pub has-neg_each : (Gs : Trees) (G : Tree) → Has Gs G → Has (neg_each Gs) (neg G)
+unfolding neg
+has-neg_each none G h = elim h [ ]
+has-neg_each (more K Ks) G (inl e) = inl (ap neg e)
+has-neg_each (more K Ks) G (inr h) = inr (has-neg_each Ks G h)
+
+pub neg_each-has : (Gs : Trees) (X : Tree) → Has (neg_each Gs) X → (G : Tree) × Has Gs G × (X ≡ neg G)
+unfolding neg
+neg_each-has none X h = elim h [ ]
+neg_each-has (more K Ks) X (inl e) = (K, inl refl, e)
+neg_each-has (more K Ks) X (inr h) = let r = neg_each-has Ks X h in (r.0, inr r.1, r.2)
+
+pub neg-left : (G : Tree) → left (neg G) ≡ neg_each (right G)
+unfolding neg
+neg-left (node ls rs) = refl
+
+pub neg-right : (G : Tree) → right (neg G) ≡ neg_each (left G)
+unfolding neg
+neg-right (node ls rs) = refl
+
+-- the game without options
+abbrev pub nought : Tree
+nought = node none none
+
+minus_step : (n : ℕ) → ((G : Tree) → size G < n → (G +ᵍ neg G ≤ᵍ nought) × (nought ≤ᵍ G +ᵍ neg G)) → (G : Tree) → size G < suc n → (G +ᵍ neg G ≤ᵍ nought) × (nought ≤ᵍ G +ᵍ neg G)
+minus_step n ih G a = (
+  le-in _ _ record { from_left = λ X h e. from_left_of X (left_of_sum G (neg G) X h) e; from_right = λ X h e. elim h [ ] },
+  le-in _ _ record { from_left = λ X h e. elim h [ ]; from_right = λ X h e. from_right_of X (right_of_sum G (neg G) X h) e },
+)
+  where
+    from_left_of : (X : Tree) → InSum G (neg G) (left G) (left (neg G)) X → nought ≤ᵍ X → ⊥
+    from_left_of X (in_first L l) e = (le-out _ _ e).from_right (L +ᵍ neg L) (right_in_second L (neg G) (neg L) (rw (neg-right G) (has-neg_each (left G) L l))) (ih L (omega (arith, size-left G L l))).0
+    from_left_of X (in_second N h) e = let r = neg_each-has (right G) N (rw (neg-left G) at h) in
+        (le-out _ _ (rw r.2 at e)).from_right (r.0 +ᵍ neg r.0) (right_in_first G (neg r.0) r.0 r.1) (ih r.0 (omega (arith, size-right G r.0 r.1))).0
+
+    from_right_of : (X : Tree) → InSum G (neg G) (right G) (right (neg G)) X → X ≤ᵍ nought → ⊥
+    from_right_of X (in_first R r) e = (le-out _ _ e).from_left (R +ᵍ neg R) (left_in_second R (neg G) (neg R) (rw (neg-left G) (has-neg_each (right G) R r))) (ih R (omega (arith, size-right G R r))).1
+    from_right_of X (in_second N h) e = let r = neg_each-has (left G) N (rw (neg-right G) at h) in
+        (le-out _ _ (rw r.2 at e)).from_left (r.0 +ᵍ neg r.0) (left_in_first G (neg r.0) r.0 r.1) (ih r.0 (omega (arith, size-left G r.0 r.1))).1
+
+minus_within : (n : ℕ) (G : Tree) → size G < n → (G +ᵍ neg G ≤ᵍ nought) × (nought ≤ᵍ G +ᵍ neg G)
+minus_within zero G a = absurd (omega arith)
+minus_within (suc n) G a = minus_step n (minus_within n) G a
+
+pub plus-neg : (G : Tree) → (G +ᵍ neg G ≤ᵍ nought) × (nought ≤ᵍ G +ᵍ neg G)
+plus-neg G = minus_within (suc (size G)) G (omega arith)
+
+-- lists of options
+then-none : (As : Trees) → As then none ≡ As
+then-none none = refl
+then-none (more A As) = ap (more A) (then-none As)
+
+pub then-assoc : (As Bs Cs : Trees) → (As then Bs) then Cs ≡ As then (Bs then Cs)
+then-assoc none Bs Cs = refl
+then-assoc (more A As) Bs Cs = ap (more A) (then-assoc As Bs Cs)
+
+pub tree-same : (G H : Tree) → left G ≡ left H → right G ≡ right H → G ≡ H
+tree-same (node ls rs) (node ms ns) p q = ap₂ node p q
+
+-- a game and nothing is that very tree
+mutual
+  unfolding ◌+ᵍ◌ plus_each
+
+  pub plus-nought : (G : Tree) → G +ᵍ nought ≡ G
+  plus-nought (node ls rs) = ap₂ node (then-none _ ∙ each-nought ls) (then-none _ ∙ each-nought rs)
+
+  pub each-nought : (Gs : Trees) → each_plus Gs nought ≡ Gs
+  each-nought none = refl
+  each-nought (more G Gs) = ap₂ more (plus-nought G) (each-nought Gs)
+
+mutual
+  unfolding ◌+ᵍ◌ plus_each
+
+  pub nought-plus : (G : Tree) → nought +ᵍ G ≡ G
+  nought-plus (node ls rs) = ap₂ node (each-is none none ls ∙ nought-each ls) (each-is none none rs ∙ nought-each rs)
+
+  pub nought-each : (Gs : Trees) → plus_each nought Gs ≡ Gs
+  nought-each none = refl
+  nought-each (more G Gs) = ap₂ more (nought-plus G) (nought-each Gs)
+
+mutual
+  unfolding neg
+
+  pub neg-neg : (G : Tree) → neg (neg G) ≡ G
+  neg-neg (node ls rs) = ap₂ node (neg_each-twice ls) (neg_each-twice rs)
+
+  pub neg_each-twice : (Gs : Trees) → neg_each (neg_each Gs) ≡ Gs
+  neg_each-twice none = refl
+  neg_each-twice (more G Gs) = ap₂ more (neg-neg G) (neg_each-twice Gs)
+
+mutual
+  unfolding neg size
+
+  pub size-neg : (G : Tree) → size (neg G) ≡ size G
+  size-neg (node ls rs) = omega (arith, sizes-neg ls, sizes-neg rs)
+
+  pub sizes-neg : (Gs : Trees) → sizes (neg_each Gs) ≡ sizes Gs
+  sizes-neg none = refl
+  sizes-neg (more G Gs) = omega (arith, size-neg G, sizes-neg Gs)
+
+neg_step : (n : ℕ) → ((G H : Tree) → size G + size H < n → G ≤ᵍ H → neg H ≤ᵍ neg G) → (G H : Tree) → size G + size H < suc n → G ≤ᵍ H → neg H ≤ᵍ neg G
+neg_step n ih G H a p = le-in _ _ record {
+  from_left = λ X h e. (let r = neg_each-has (right H) X (rw (neg-left H) at h) in
+      (le-out G H p).from_right r.0 r.1 (back G r.0 (omega (arith, size-right H r.0 r.1)) (rw r.2 at e)));
+  from_right = λ X h e. (let r = neg_each-has (left G) X (rw (neg-right G) at h) in
+      (le-out G H p).from_left r.0 r.1 (back r.0 H (omega (arith, size-left G r.0 r.1)) (rw r.2 at e)));
+}
+  where
+    back : (A B : Tree) → size A + size B < n → neg A ≤ᵍ neg B → B ≤ᵍ A
+    back A B b e = rw (neg-neg A, neg-neg B) at (ih (neg A) (neg B) (omega (arith, size-neg A, size-neg B)) e)
+
+neg_within : (n : ℕ) (G H : Tree) → size G + size H < n → G ≤ᵍ H → neg H ≤ᵍ neg G
+neg_within zero G H a p = absurd (omega arith)
+neg_within (suc n) G H a p = neg_step n (neg_within n) G H a p
+
+pub neg-le : (G H : Tree) → G ≤ᵍ H → neg H ≤ᵍ neg G
+neg-le G H = neg_within (suc (size G + size H)) G H (omega arith)
+
+pub each_plus-then : (As Bs : Trees) (H : Tree) → each_plus (As then Bs) H ≡ each_plus As H then each_plus Bs H
+unfolding ◌+ᵍ◌
+each_plus-then none Bs H = refl
+each_plus-then (more A As) Bs H = ap (more (A +ᵍ H)) (each_plus-then As Bs H)
+
+pub plus_each-then : (G : Tree) (As Bs : Trees) → plus_each G (As then Bs) ≡ plus_each G As then plus_each G Bs
+unfolding plus_each
+plus_each-then G none Bs = refl
+plus_each-then G (more A As) Bs = ap (more (G +ᵍ A)) (plus_each-then G As Bs)
+
+assoc_first : (Gs : Trees) (H K : Tree) → ((G : Tree) → Has Gs G → (G +ᵍ H) +ᵍ K ≡ G +ᵍ (H +ᵍ K)) → each_plus (each_plus Gs H) K ≡ each_plus Gs (H +ᵍ K)
+unfolding ◌+ᵍ◌
+assoc_first none H K e = refl
+assoc_first (more G Gs) H K e = ap₂ more (e G (inl refl)) (assoc_first Gs H K (λ X x. e X (inr x)))
+
+assoc_second : (G : Tree) (Hs : Trees) (K : Tree) → ((H : Tree) → Has Hs H → (G +ᵍ H) +ᵍ K ≡ G +ᵍ (H +ᵍ K)) → each_plus (plus_each G Hs) K ≡ plus_each G (each_plus Hs K)
+unfolding ◌+ᵍ◌ plus_each
+assoc_second G none K e = refl
+assoc_second G (more H Hs) K e = ap₂ more (e H (inl refl)) (assoc_second G Hs K (λ X x. e X (inr x)))
+
+assoc_third : (G H : Tree) (Ks : Trees) → ((K : Tree) → Has Ks K → (G +ᵍ H) +ᵍ K ≡ G +ᵍ (H +ᵍ K)) → plus_each (G +ᵍ H) Ks ≡ plus_each G (plus_each H Ks)
+unfolding plus_each
+assoc_third G H none e = refl
+assoc_third G H (more K Ks) e = ap₂ more (e K (inl refl)) (assoc_third G H Ks (λ X x. e X (inr x)))
+
+-- sums brought in another order of brackets are the same tree
+assoc_step : (n : ℕ) → ((G H K : Tree) → size G + size H + size K < n → (G +ᵍ H) +ᵍ K ≡ G +ᵍ (H +ᵍ K)) → (G H K : Tree) → size G + size H + size K < suc n → (G +ᵍ H) +ᵍ K ≡ G +ᵍ (H +ᵍ K)
+assoc_step n ih G H K a = tree-same _ _ (options left plus-left size-left) (options right plus-right size-right)
+  where
+    options : (side : Tree → Trees) → ((G H : Tree) → side (G +ᵍ H) ≡ each_plus (side G) H then plus_each G (side H)) → ((G X : Tree) → Has (side G) X → size X < size G) → side ((G +ᵍ H) +ᵍ K) ≡ side (G +ᵍ (H +ᵍ K))
+    options side is small = simp (
+      is,
+      each_plus-then,
+      plus_each-then,
+      then-assoc,
+      assoc_first (side G) H K (λ X x. ih X H K (omega (arith, small G X x))),
+      assoc_second G (side H) K (λ X x. ih G X K (omega (arith, small H X x))),
+      assoc_third G H (side K) (λ X x. ih G H X (omega (arith, small K X x))),
+    )
+
+assoc_within : (n : ℕ) (G H K : Tree) → size G + size H + size K < n → (G +ᵍ H) +ᵍ K ≡ G +ᵍ (H +ᵍ K)
+assoc_within zero G H K a = absurd (omega arith)
+assoc_within (suc n) G H K a = assoc_step n (assoc_within n) G H K a
+
+pub plus-assoc : (G H K : Tree) → (G +ᵍ H) +ᵍ K ≡ G +ᵍ (H +ᵍ K)
+plus-assoc G H K = assoc_within (suc (size G + size H + size K)) G H K (omega arith)
+
+pub neg-then : (As Bs : Trees) → neg_each (As then Bs) ≡ neg_each As then neg_each Bs
+unfolding neg
+neg-then none Bs = refl
+neg-then (more A As) Bs = ap (more (neg A)) (neg-then As Bs)
+
+neg-each_plus : (Gs : Trees) (H : Tree) → ((G : Tree) → Has Gs G → neg (G +ᵍ H) ≡ neg G +ᵍ neg H) → neg_each (each_plus Gs H) ≡ each_plus (neg_each Gs) (neg H)
+unfolding neg ◌+ᵍ◌
+neg-each_plus none H e = refl
+neg-each_plus (more G Gs) H e = ap₂ more (e G (inl refl)) (neg-each_plus Gs H (λ X x. e X (inr x)))
+
+neg-plus_each : (G : Tree) (Hs : Trees) → ((H : Tree) → Has Hs H → neg (G +ᵍ H) ≡ neg G +ᵍ neg H) → neg_each (plus_each G Hs) ≡ plus_each (neg G) (neg_each Hs)
+unfolding neg plus_each
+neg-plus_each G none e = refl
+neg-plus_each G (more H Hs) e = ap₂ more (e H (inl refl)) (neg-plus_each G Hs (λ X x. e X (inr x)))
+
+neg_plus_step : (n : ℕ) → ((G H : Tree) → size G + size H < n → neg (G +ᵍ H) ≡ neg G +ᵍ neg H) → (G H : Tree) → size G + size H < suc n → neg (G +ᵍ H) ≡ neg G +ᵍ neg H
+neg_plus_step n ih G H a = tree-same _ _
+    (simp (
+      neg-left,
+      plus-left,
+      plus-right,
+      neg-then,
+      neg-each_plus (right G) H (λ X x. ih X H (omega (arith, size-right G X x))),
+      neg-plus_each G (right H) (λ X x. ih G X (omega (arith, size-right H X x))),
+    ))
+    (simp (
+      neg-right,
+      plus-left,
+      plus-right,
+      neg-then,
+      neg-each_plus (left G) H (λ X x. ih X H (omega (arith, size-left G X x))),
+      neg-plus_each G (left H) (λ X x. ih G X (omega (arith, size-left H X x))),
+    ))
+
+neg_plus_within : (n : ℕ) (G H : Tree) → size G + size H < n → neg (G +ᵍ H) ≡ neg G +ᵍ neg H
+neg_plus_within zero G H a = absurd (omega arith)
+neg_plus_within (suc n) G H a = neg_plus_step n (neg_plus_within n) G H a
+
+pub neg-plus : (G H : Tree) → neg (G +ᵍ H) ≡ neg G +ᵍ neg H
+neg-plus G H = neg_plus_within (suc (size G + size H)) G H (omega arith)
+
+-- sums of equal games
+pub same-plus : (G H K M : Tree) → G ≡ᵍ H → K ≡ᵍ M → (G +ᵍ K) ≡ᵍ (H +ᵍ M)
+same-plus G H K M e f = (plus-le_both G H K M e.0 f.0, plus-le_both H G M K e.1 f.1)
+
+pub same-comm : (G H : Tree) → (G +ᵍ H) ≡ᵍ (H +ᵍ G)
+same-comm G H = (plus-comm G H, plus-comm H G)
+
+-- the last of three to the middle
+pub same-swap : (G H K : Tree) → ((G +ᵍ H) +ᵍ K) ≡ᵍ ((G +ᵍ K) +ᵍ H)
+same-swap G H K = rw (plus-assoc G H K, plus-assoc G K H) (same-plus G G (H +ᵍ K) (K +ᵍ H) (same-refl G) (same-comm H K))

@@ -1,0 +1,132 @@
+-- Floors and ceilings: which form is a number, and which number it is.
+use Rattle.std.proofs.Common.{ℕ, zero, suc, ◌+◌, ◌≡◌, ◌↔◌, arith, inl, inr, sym, ◌∙◌, ap, subst, ℤ, pos, negsuc, ◌+ℤ◌, ◌<ℤ◌, ◌≤ℤ◌, ◌⊎◌}
+use Rattle.std.proofs.lemmas.Int.{ints, by_lt_z}
+use Rattle.std.proofs.lemmas.Bool.{cases_Bool}
+use Rattle.short_games.specs.Tree.{Tree, left, right, Has}
+use Rattle.short_games.specs.Order.{◌≤ᵍ◌}
+use Rattle.short_games.specs.Number.{num, IsNumber, half, is_even}
+use Rattle.short_games.specs.Threshold.{IsCell, IsFloor, IsCeiling}
+use Rattle.short_games.proofs.OrderLaws.{le-out, le-in, le-refl, le-trans, le-or_not}
+use Rattle.short_games.proofs.SumLaws.{not_le_left, not_right_le}
+use Rattle.short_games.proofs.NumberLaws.{num-left, num-right, num-le, num-lt, num-double, num-even, half-odd, avoid-le, avoid-ge}
+use Rattle.short_games.specs.Simplest.{FitsForm}
+
+-- a number over a power of two that is greater by d
+pub scaled : (d e : ℕ) (z : ℤ) → (w : ℤ) × (num (d + e) w ≡ num e z)
+scaled zero e z = (z, ap (λ n. num n z) (omega arith))
+scaled (suc d) e z = let r = scaled d e z in (r.0 +ℤ r.0, ap (λ n. num n (r.0 +ℤ r.0)) (omega arith) ∙ num-double (d + e) r.0 ∙ r.1)
+
+-- the greatest number over 2 ^ e that is at most num (d + e) m
+record Under (e : ℕ) (X : Tree) : Type 0 where
+  part : ℤ
+  under : num e part ≤ᵍ X
+  last : num e (part +ℤ pos 1) ≤ᵍ X → ⊥
+
+-- of two numbers over one power of two
+le-num : (e : ℕ) (m n : ℤ) → num e m ≤ᵍ num e n → m ≤ℤ n
+le-num e m n h = by_lt_z n m (λ l. absurd (num-lt e n m l h)) (λ l. l)
+
+under-of : (d e : ℕ) (m : ℤ) → Under e (num (d + e) m)
+under-of zero e m = subst (Under e) (ap (λ n. num n m) (omega arith)) (record { part = m; under = le-refl (num e m); last = λ y. omega (arith, ints, le-num e (m +ℤ pos 1) m y) })
+under-of (suc d) e m = subst (λ n. Under e (num n m)) (omega arith) (elim (cases_Bool (is_even m)) [
+  | inl t ↦ subst (Under e) (sym (num-even (d + e) m t)) (under-of d e (half m))
+  | inr f ↦ (let r = under-of d e (half m) in record {
+    part = r.part;
+    under = le-trans _ _ _ r.under (subst (λ t. t ≤ᵍ num (suc (d + e)) m) (num-double (d + e) (half m)) (num-le (suc (d + e)) (half m +ℤ half m) m (omega (arith, ints, half-odd m f))));
+    last = λ y. (let w = scaled d e (r.part +ℤ pos 1) in
+        let low = le-num (suc (d + e)) (w.0 +ℤ w.0) m (subst (λ t. t ≤ᵍ num (suc (d + e)) m) (sym (num-double (d + e) w.0 ∙ w.1)) y) in
+        r.last (subst (λ t. t ≤ᵍ num (d + e) (half m)) w.1 (num-le (d + e) w.0 (half m) (omega (arith, ints, half-odd m f, low)))));
+  })
+])
+
+-- numbers over different powers of two can be compared
+num-total : (d e : ℕ) (m z : ℤ) → (num e z ≤ᵍ num (d + e) m → ⊥) → num (d + e) m ≤ᵍ num e z
+num-total d e m z h = let w = scaled d e z in subst (λ t. num (d + e) m ≤ᵍ t) w.1
+    (num-le (d + e) m w.0 (by_lt_z w.0 m (λ l. absurd (h (subst (λ t. t ≤ᵍ num (d + e) m) w.1 (num-le (d + e) w.0 m (omega (arith, ints, l)))))) (λ l. l)))
+
+cell-of : (d e : ℕ) (m : ℤ) → (h : ℤ) × IsCell e (num (d + e) m) h
+cell-of d e m = by_cases (le-or_not (num (d + e) m) (num e u.part))
+  where
+    u : Under e (num (d + e) m)
+    u = under-of d e m
+
+    below : (z : ℤ) → num e z ≤ᵍ num (d + e) m → z ≤ℤ u.part
+    below z y = by_lt_z u.part z (λ l. absurd (u.last (le-trans _ _ _ (num-le e (u.part +ℤ pos 1) z (omega (arith, ints, l))) y))) (λ l. l)
+
+    by_cases : (num (d + e) m ≤ᵍ num e u.part) ⊎ (num (d + e) m ≤ᵍ num e u.part → ⊥) → (h : ℤ) × IsCell e (num (d + e) m) h
+    by_cases (inl p) = (
+      u.part +ℤ u.part,
+      record {
+        under = λ z. (λ y. (let l = le-num e u.part z (le-trans _ _ _ u.under y) in omega (arith, ints, l)), λ l. le-trans _ _ _ p (num-le e u.part z (omega (arith, ints, l))));
+        over = λ z. (λ y. (let l = below z y in omega (arith, ints, l)), λ l. le-trans _ _ _ (num-le e z u.part (omega (arith, ints, l))) u.under);
+      },
+    )
+    by_cases (inr p) = (
+      u.part +ℤ u.part +ℤ pos 1,
+      record {
+        under = λ z. (
+          λ y. by_lt_z u.part z (λ l. omega (arith, ints, l)) (λ l. absurd (p (le-trans (num (d + e) m) (num e z) (num e u.part) y (num-le e z u.part l)))),
+          λ l. le-trans _ _ _ (num-total d e m (u.part +ℤ pos 1) u.last) (num-le e (u.part +ℤ pos 1) z (omega (arith, ints, l))),
+        );
+        over = λ z. (λ y. (let l = below z y in omega (arith, ints, l)), λ l. le-trans _ _ _ (num-le e z u.part (omega (arith, ints, l))) u.under);
+      },
+    )
+
+-- every number has a cell, and a half part is its own
+pub cell : (e f : ℕ) (m : ℤ) → (h : ℤ) × IsCell e (num f m) h
+cell e f m = let w = scaled e f m in let c = cell-of f e w.0 in (c.0, subst (λ t. IsCell e t c.0) (ap (λ n. num n w.0) (omega arith) ∙ w.1) c.1)
+
+pub half-cell : (e : ℕ) (k : ℤ) → IsCell e (num (suc e) k) k
+half-cell e k = record {
+  under = λ z. (
+    λ y. le-num (suc e) k (z +ℤ z) (subst (λ t. num (suc e) k ≤ᵍ t) (sym (num-double e z)) y),
+    λ l. subst (λ t. num (suc e) k ≤ᵍ t) (num-double e z) (num-le (suc e) k (z +ℤ z) l),
+  );
+  over = λ z. (
+    λ y. le-num (suc e) (z +ℤ z) k (subst (λ t. t ≤ᵍ num (suc e) k) (sym (num-double e z)) y),
+    λ l. subst (λ t. t ≤ᵍ num (suc e) k) (num-double e z) (num-le (suc e) (z +ℤ z) k l),
+  );
+}
+
+-- of a number, floor and ceiling are itself
+pub number-floor : (e : ℕ) (z : ℤ) → IsFloor e (num e z) (z +ℤ z)
+number-floor e z = λ f m h c. c.under z
+
+pub number-ceiling : (e : ℕ) (z : ℤ) → IsCeiling e (num e z) (z +ℤ z)
+number-ceiling e z = λ f m h c. c.over z
+
+-- of another game the floor goes by the Right options, and the ceiling by the Left ones
+pub game-floor : (e : ℕ) (G : Tree) (k : ℤ) → (IsNumber G → ⊥) → ((f : ℕ) (m h : ℤ) → IsCell e (num f m) h → ((R : Tree) → Has (right G) R → R ≤ᵍ num f m → ⊥) ↔ (h <ℤ k)) → IsFloor e G (k +ℤ negsuc 0)
+game-floor e G k no_number b = λ f m h c. (
+  λ y. (let l = (b f m h c).0 (le-out _ _ y).from_right in omega (arith, ints, l)),
+  λ l. avoid-ge G no_number f m ((b f m h c).1 (omega (arith, ints, l))),
+)
+
+pub game-ceiling : (e : ℕ) (G : Tree) (k : ℤ) → (IsNumber G → ⊥) → ((f : ℕ) (m h : ℤ) → IsCell e (num f m) h → ((L : Tree) → Has (left G) L → num f m ≤ᵍ L → ⊥) ↔ (k <ℤ h)) → IsCeiling e G (k +ℤ pos 1)
+game-ceiling e G k no_number b = λ f m h c. (
+  λ y. (let l = (b f m h c).0 (le-out _ _ y).from_left in omega (arith, ints, l)),
+  λ l. avoid-le G no_number f m ((b f m h c).1 (omega (arith, ints, l))),
+)
+
+-- a form that a number fits is the simplest such number: no option of that number fits
+pub simplest-is : (G : Tree) (e : ℕ) (u : ℤ) → FitsForm G (num e u) → ((X : Tree) → Has (left (num e u)) X → FitsForm G X → ⊥) → ((X : Tree) → Has (right (num e u)) X → FitsForm G X → ⊥) → (G ≤ᵍ num e u) × (num e u ≤ᵍ G)
+simplest-is G e u f no_left no_right = (
+  le-in G (num e u) record {
+    from_left = f.over_left;
+    from_right = λ X x y. (let r = num-right e u X x in no_right X x record {
+      over_left = λ L l z. f.over_left L l (le-trans _ X _ (subst (λ t. num e u ≤ᵍ t) (sym r.2) (num-le e u r.0 (omega (arith, ints, r.1)))) z);
+      under_right = λ R k z. not_right_le G R k (le-trans R X G z y);
+    });
+  },
+  le-in (num e u) G record {
+    from_left = λ X x y. (let r = num-left e u X x in no_left X x record {
+      over_left = λ L l z. not_le_left G L l (le-trans G X L y z);
+      under_right = λ R k z. f.under_right R k (le-trans _ X _ z (subst (λ t. t ≤ᵍ num e u) (sym r.2) (num-le e r.0 u (omega (arith, ints, r.1)))));
+    });
+    from_right = f.under_right;
+  },
+)
+
+-- a number that is equal to a form fits it
+pub equal-fits : (G X : Tree) → G ≤ᵍ X → X ≤ᵍ G → FitsForm G X
+equal-fits G X p q = record { over_left = λ L l y. not_le_left G L l (le-trans G X L p y); under_right = λ R r y. not_right_le G R r (le-trans R X G y q) }

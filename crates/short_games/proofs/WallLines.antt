@@ -1,0 +1,216 @@
+-- Lines that rise or fall by at most 1 a step, the greatest of several, and the first meeting of two.
+use Rattle.std.proofs.Common.{ℕ, zero, suc, ◌+◌, ◌/◌, ◌<◌, ◌≤◌, ◌≡◌, ◌⊎◌, arith, refl, inl, inr, sym, ◌∙◌, ap, ap₂, subst, ℤ, pos, ◌+ℤ◌, ◌<ℤ◌, ◌≤ℤ◌}
+use Rattle.std.proofs.lemmas.Int.{ints, by_lt_z}
+use Rattle.short_games.specs.Tree.{Tree, Trees, Has}
+use Rattle.short_games.specs.WallGrids.{IsGreatest, IsLeast, Follow, finer}
+use Rattle.short_games.specs.Lines.{Rises, Falls}
+use Rattle.short_games.specs.WallGrids.Follow.{apart, met}
+
+-- what f' is where its argument counts half steps of that of f
+pub record Doubles (f f' : ℕ → ℤ) : Type 0 where
+  pub at_even : (t : ℕ) → f' (t + t) ≡ f t +ℤ f t
+  pub at_odd : (t : ℕ) → f' (suc (t + t)) ≡ f t +ℤ f (suc t)
+
+pub finer-doubles : (f : ℕ → ℤ) → Doubles f (finer f)
+finer-doubles f = record {
+  at_even = λ t. ap₂ (λ a b. f a +ℤ f b) (half_even t) (half_odd t);
+  at_odd = λ t. ap₂ (λ a b. f a +ℤ f b) (half_odd t) (half_next t);
+}
+  where
+    half_even : (t : ℕ) → (t + t) / 2 ≡ t
+    half_even t = omega arith
+
+    half_odd : (t : ℕ) → suc (t + t) / 2 ≡ t
+    half_odd t = omega arith
+
+    half_next : (t : ℕ) → suc (suc (t + t)) / 2 ≡ suc t
+    half_next t = omega arith
+
+-- up to a number is below it or at it
+pub below-or_at : (m n : ℕ) → m ≤ n → (m < n) ⊎ (m ≡ n)
+below-or_at zero zero h = inr refl
+below-or_at zero (suc n) h = inl (omega arith)
+below-or_at (suc m) zero h = absurd (omega (arith, h))
+below-or_at (suc m) (suc n) h = elim (below-or_at m n (omega (arith, h))) [
+  | inl l ↦ inl (omega (arith, l))
+  | inr e ↦ inr (ap suc e)
+]
+
+-- a number of half steps is even or odd
+pub data Parity : ℕ → Type 0 where
+  even : (t : ℕ) → Parity (t + t)
+  odd : (t : ℕ) → Parity (suc (t + t))
+
+pub parity : (n : ℕ) → Parity n
+parity zero = even zero
+parity (suc n) = next n (parity n)
+  where
+    next : (n : ℕ) → Parity n → Parity (suc n)
+    next _ (even t) = odd t
+    next _ (odd t) = subst Parity (omega arith) (even (suc t))
+
+-- the greatest or least is one number
+pub greatest-same : (f g : Tree → ℤ) (Gs : Trees) (x y : ℤ) → ((X : Tree) → Has Gs X → f X ≡ g X) → IsGreatest f Gs x → IsGreatest g Gs y → x ≡ y
+greatest-same f g Gs x y s a b = omega (arith, ints, a.reached.2, b.reached.2, a.bound b.reached.0 b.reached.1, b.bound a.reached.0 a.reached.1, s a.reached.0 a.reached.1, s b.reached.0 b.reached.1)
+
+pub least-same : (f g : Tree → ℤ) (Gs : Trees) (x y : ℤ) → ((X : Tree) → Has Gs X → f X ≡ g X) → IsLeast f Gs x → IsLeast g Gs y → x ≡ y
+least-same f g Gs x y s a b = omega (arith, ints, a.reached.2, b.reached.2, a.bound b.reached.0 b.reached.1, b.bound a.reached.0 a.reached.1, s a.reached.0 a.reached.1, s b.reached.0 b.reached.1)
+
+-- the greatest of lines that rise rises, and the least of lines that fall falls
+module _ (f : Tree → ℕ → ℤ) (Gs : Trees) (g : ℕ → ℤ) where
+  pub greatest-rises : ((X : Tree) → Has Gs X → Rises (f X)) → ((t : ℕ) → IsGreatest (λ X. f X t) Gs (g t)) → Rises g
+  greatest-rises r i = record {
+    no_fall = λ t. (let a = (i t).reached in omega (arith, ints, a.2, (i (suc t)).bound a.0 a.1, (r a.0 a.1).no_fall t));
+    by_one = λ t. (let a = (i (suc t)).reached in omega (arith, ints, a.2, (i t).bound a.0 a.1, (r a.0 a.1).by_one t));
+  }
+
+  pub least-falls : ((X : Tree) → Has Gs X → Falls (f X)) → ((t : ℕ) → IsLeast (λ X. f X t) Gs (g t)) → Falls g
+  least-falls r i = record {
+    no_rise = λ t. (let a = (i t).reached in omega (arith, ints, a.2, (i (suc t)).bound a.0 a.1, (r a.0 a.1).no_rise t));
+    by_one = λ t. (let a = (i (suc t)).reached in omega (arith, ints, a.2, (i t).bound a.0 a.1, (r a.0 a.1).by_one t));
+  }
+
+  -- between two neighbours the greatest is straight, since no two lines cross there
+  pub greatest-doubles : (f' : Tree → ℕ → ℤ) (g' : ℕ → ℤ) → ((X : Tree) → Has Gs X → Rises (f X)) → ((X : Tree) → Has Gs X → Doubles (f X) (f' X)) → Doubles g g' → ((t : ℕ) → IsGreatest (λ X. f X t) Gs (g t))
+      → (t : ℕ) → IsGreatest (λ X. f' X t) Gs (g' t)
+  greatest-doubles f' g' r d e i t = at t (parity t)
+    where
+      reached : (t : ℕ) → (X : Tree) × Has Gs X × (f' X (suc (t + t)) ≡ g' (suc (t + t)))
+      reached t = let a = (i t).reached in
+          let b = (i (suc t)).reached in
+          by_lt_z (g t) (g (suc t))
+          (λ l. (b.0, b.1, omega (arith, ints, l, b.2, (r b.0 b.1).by_one t, (i t).bound b.0 b.1, (greatest-rises r i).by_one t, (d b.0 b.1).at_odd t, e.at_odd t)))
+          (λ l. (a.0, a.1, omega (arith, ints, l, a.2, (r a.0 a.1).no_fall t, (i (suc t)).bound a.0 a.1, (greatest-rises r i).no_fall t, (d a.0 a.1).at_odd t, e.at_odd t)))
+
+      at : (t : ℕ) → Parity t → IsGreatest (λ X. f' X t) Gs (g' t)
+      at _ (even t) = record {
+        bound = λ X x. omega (arith, ints, (i t).bound X x, (d X x).at_even t, e.at_even t);
+        reached = (let a = (i t).reached in (a.0, a.1, omega (arith, ints, a.2, (d a.0 a.1).at_even t, e.at_even t)));
+      }
+      at _ (odd t) = record { bound = λ X x. omega (arith, ints, (i t).bound X x, (i (suc t)).bound X x, (d X x).at_odd t, e.at_odd t); reached = reached t }
+
+  pub least-doubles : (f' : Tree → ℕ → ℤ) (g' : ℕ → ℤ) → ((X : Tree) → Has Gs X → Falls (f X)) → ((X : Tree) → Has Gs X → Doubles (f X) (f' X)) → Doubles g g' → ((t : ℕ) → IsLeast (λ X. f X t) Gs (g t))
+      → (t : ℕ) → IsLeast (λ X. f' X t) Gs (g' t)
+  least-doubles f' g' r d e i t = at t (parity t)
+    where
+      reached : (t : ℕ) → (X : Tree) × Has Gs X × (f' X (suc (t + t)) ≡ g' (suc (t + t)))
+      reached t = let a = (i t).reached in
+          let b = (i (suc t)).reached in
+          by_lt_z (g (suc t)) (g t)
+          (λ l. (b.0, b.1, omega (arith, ints, l, b.2, (r b.0 b.1).by_one t, (i t).bound b.0 b.1, (least-falls r i).by_one t, (d b.0 b.1).at_odd t, e.at_odd t)))
+          (λ l. (a.0, a.1, omega (arith, ints, l, a.2, (r a.0 a.1).no_rise t, (i (suc t)).bound a.0 a.1, (least-falls r i).no_rise t, (d a.0 a.1).at_odd t, e.at_odd t)))
+
+      at : (t : ℕ) → Parity t → IsLeast (λ X. f' X t) Gs (g' t)
+      at _ (even t) = record {
+        bound = λ X x. omega (arith, ints, (i t).bound X x, (d X x).at_even t, e.at_even t);
+        reached = (let a = (i t).reached in (a.0, a.1, omega (arith, ints, a.2, (d a.0 a.1).at_even t, e.at_even t)));
+      }
+      at _ (odd t) = record { bound = λ X x. omega (arith, ints, (i t).bound X x, (i (suc t)).bound X x, (d X x).at_odd t, e.at_odd t); reached = reached t }
+
+-- the same scaffolds give the same walls
+pub follow-same : (L R L' R' : ℕ → ℤ) (t : ℕ) (l r l' r' : ℤ) → ((v : ℕ) → L v ≡ L' v) → ((v : ℕ) → R v ≡ R' v) → Follow L R t l r → Follow L' R' t l' r' → (l ≡ l') × (r ≡ r')
+follow-same L R L' R' t l r l' r' p q (apart a x y) (apart b z w) = (x ∙ p t ∙ sym z, y ∙ q t ∙ sym w)
+follow-same L R L' R' t l r l' r' p q (apart a x y) (met u h e b z w) = absurd (omega (arith, ints, a u h, p u, q u, e))
+follow-same L R L' R' t l r l' r' p q (met u h e a x y) (apart b z w) = absurd (omega (arith, ints, b u h, p u, q u, e))
+follow-same L R L' R' t l r l' r' p q (met u h e a x y) (met v k d b z w) = (x ∙ ap L same ∙ p v ∙ sym z, y ∙ ap R same ∙ q v ∙ sym w)
+  where
+    early : u < v → ⊥
+    early l = omega (arith, ints, b u l, p u, q u, e)
+
+    late : v < u → ⊥
+    late l = omega (arith, ints, a v l, p v, q v, d)
+
+    same : u ≡ v
+    same = omega (arith, early, late)
+
+-- walls that follow two scaffolds, the left one falling and the right one rising
+module _ (L R l r : ℕ → ℤ) (falls : Falls L) (rises : Rises R) (follows : (t : ℕ) → Follow L R t (l t) (r t)) where
+  -- from a step to the next both go on, or both stay
+  pub data Step (t : ℕ) : Type 0 where
+    goes : ((v : ℕ) → v ≤ t → R v <ℤ L v) → l t ≡ L t → l (suc t) ≡ L (suc t) → r t ≡ R t → r (suc t) ≡ R (suc t) → R (suc t) ≤ℤ L (suc t) → Step t
+    stays : (u : ℕ) → u ≤ t → L u ≡ R u → ((v : ℕ) → v < u → R v <ℤ L v) → l t ≡ L u → l (suc t) ≡ L u → r t ≡ R u → r (suc t) ≡ R u → Step t
+
+  pub step : (t : ℕ) → Step t
+  step t = at (follows t) (follows (suc t))
+    where
+      at : Follow L R t (l t) (r t) → Follow L R (suc t) (l (suc t)) (r (suc t)) → Step t
+      at (apart a x y) (apart b z w) = goes a x z y w (omega (arith, ints, b (suc t) (omega arith)))
+      at (apart a x y) (met u h e b z w) = let late : u ≤ t → ⊥ = λ k. omega (arith, ints, a u k, e) in
+          let same : u ≡ suc t = omega (arith, late) in
+          goes a x (z ∙ ap L same) y (w ∙ ap R same) (subst (λ v. R v ≤ℤ L v) same (omega (arith, ints, e)))
+      at (met u h e a x y) f = (let s = follow-same L R L R (suc t) _ _ (L u) (R u) (λ v. refl) (λ v. refl) f (met u (omega (arith, h)) e a refl refl) in stays u h e a x s.0 y s.1)
+
+  pub left-falls : Falls l
+  left-falls = record { no_rise = λ t. down t (step t); by_one = λ t. one t (step t) }
+    where
+      down : (t : ℕ) → Step t → l (suc t) ≤ℤ l t
+      down t (goes a x z y w k) = omega (arith, ints, x, z, falls.no_rise t)
+      down t (stays u h e a x z y w) = omega (arith, ints, x, z)
+
+      one : (t : ℕ) → Step t → l t ≤ℤ (l (suc t) +ℤ pos 1)
+      one t (goes a x z y w k) = omega (arith, ints, x, z, falls.by_one t)
+      one t (stays u h e a x z y w) = omega (arith, ints, x, z)
+
+  pub right-rises : Rises r
+  right-rises = record { no_fall = λ t. up t (step t); by_one = λ t. one t (step t) }
+    where
+      up : (t : ℕ) → Step t → r t ≤ℤ r (suc t)
+      up t (goes a x z y w k) = omega (arith, ints, y, w, rises.no_fall t)
+      up t (stays u h e a x z y w) = omega (arith, ints, y, w)
+
+      one : (t : ℕ) → Step t → r (suc t) ≤ℤ (r t +ℤ pos 1)
+      one t (goes a x z y w k) = omega (arith, ints, y, w, rises.by_one t)
+      one t (stays u h e a x z y w) = omega (arith, ints, y, w)
+
+  pub walls-ordered : (t : ℕ) → r t ≤ℤ l t
+  walls-ordered t = at (follows t)
+    where
+      at : Follow L R t (l t) (r t) → r t ≤ℤ l t
+      at (apart a x y) = omega (arith, ints, a t (omega arith), x, y)
+      at (met u h e a x y) = omega (arith, ints, x, y, e)
+
+  -- the scaffolds and walls at half steps
+  module _ (L' R' l' r' : ℕ → ℤ) (dL : Doubles L L') (dR : Doubles R R') (dl : Doubles l l') (dr : Doubles r r') where
+    apart-below : (n : ℕ) → ((v : ℕ) → v < n → R v <ℤ L v) → R n ≤ℤ L n → (v : ℕ) → v < n + n → R' v <ℤ L' v
+    apart-below n a k v h = at v (parity v) h
+      where
+        at : (v : ℕ) → Parity v → v < n + n → R' v <ℤ L' v
+        at _ (even t) h = omega (arith, ints, dL.at_even t, dR.at_even t, a t (omega (arith, h)))
+        at _ (odd t) h = elim (next t h) [
+          | inl s ↦ omega (arith, ints, dL.at_odd t, dR.at_odd t, a t (omega (arith, h)), a (suc t) s)
+          | inr s ↦ omega (arith, ints, dL.at_odd t, dR.at_odd t, a t (omega (arith, h)), subst (λ m. R m ≤ℤ L m) (sym s) k)
+        ]
+          where
+            next : (t : ℕ) → suc (t + t) < n + n → (suc t < n) ⊎ (suc t ≡ n)
+            next t h = below-or_at (suc t) n (omega (arith, h))
+
+    pub doubled : (t : ℕ) → Follow L' R' t (l' t) (r' t)
+    doubled t = at t (parity t)
+      where
+        even_at : (t : ℕ) → Follow L R t (l t) (r t) → Follow L' R' (t + t) (l' (t + t)) (r' (t + t))
+        even_at t (apart a x y) = apart
+            (λ v h. (elim (last v h) [
+              | inl s ↦ apart-below t (λ w k. a w (omega (arith, k))) (omega (arith, ints, a t (omega arith))) v s
+              | inr s ↦ subst (λ w. R' w <ℤ L' w) (sym s) (omega (arith, ints, dL.at_even t, dR.at_even t, a t (omega arith)))
+            ]))
+            (omega (arith, ints, dL.at_even t, dl.at_even t, x))
+            (omega (arith, ints, dR.at_even t, dr.at_even t, y))
+          where
+            last : (v : ℕ) → v ≤ t + t → (v < t + t) ⊎ (v ≡ t + t)
+            last v h = below-or_at v (t + t) h
+        even_at t (met u h e a x y) = met (u + u) (omega (arith, h)) (omega (arith, ints, dL.at_even u, dR.at_even u, e)) (apart-below u a (omega (arith, ints, e)))
+            (omega (arith, ints, dL.at_even u, dl.at_even t, x))
+            (omega (arith, ints, dR.at_even u, dr.at_even t, y))
+
+        odd_at : (t : ℕ) → Step t → Follow L' R' (suc (t + t)) (l' (suc (t + t))) (r' (suc (t + t)))
+        odd_at t (goes a x z y w k) = apart
+            (λ v h. apart-below (suc t) (λ w j. a w (omega (arith, j))) k v (omega (arith, h)))
+            (omega (arith, ints, dL.at_odd t, dl.at_odd t, x, z))
+            (omega (arith, ints, dR.at_odd t, dr.at_odd t, y, w))
+        odd_at t (stays u h e a x z y w) = met (u + u) (omega (arith, h)) (omega (arith, ints, dL.at_even u, dR.at_even u, e)) (apart-below u a (omega (arith, ints, e)))
+            (omega (arith, ints, dL.at_even u, dl.at_odd t, x, z))
+            (omega (arith, ints, dR.at_even u, dr.at_odd t, y, w))
+
+        at : (t : ℕ) → Parity t → Follow L' R' t (l' t) (r' t)
+        at _ (even t) = even_at t (follows t)
+        at _ (odd t) = odd_at t (step t)

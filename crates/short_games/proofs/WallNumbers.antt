@@ -1,0 +1,120 @@
+-- A test for the numbers over one power of two, and that a number's tree gives the number back.
+use Rattle.std.proofs.Common.{ℕ, zero, suc, ◌+◌, ◌^◌, ◌<◌, ◌≡◌, arith, refl, inl, inr, sym, ◌∙◌, ap, ap₂, subst, ℤ, pos, negsuc, ◌+ℤ◌, ◌-ℤ◌, true, false, Bool, ◌&&◌, cond, Option, Some, None}
+use Rattle.std.proofs.lemmas.Bool.{and_parts, and_from, cases_Bool, true≢false}
+use Rattle.std.proofs.lemmas.Int.{ints}
+use Rattle.short_games.specs.Tree.{Tree, Trees, node, none, more, size, neg}
+use Rattle.short_games.specs.Number.{num, half, is_even, whole, count_tree}
+use Rattle.short_games.proofs.OrderLaws.{size-left, size-right}
+use Rattle.short_games.proofs.NumberLaws.{num-even, num-odd, num-double, half-even, half-odd, half-double}
+
+unfoldable mutual
+  pub same : Tree → Tree → Bool
+  same (node ls rs) (node ms ns) = same_each ls ms && same_each rs ns
+
+  pub same_each : Trees → Trees → Bool
+  same_each none none = true
+  same_each none (more H Hs) = false
+  same_each (more G Gs) none = false
+  same_each (more G Gs) (more H Hs) = same G H && same_each Gs Hs
+
+-- of the tree of m / 2 ^ e this is m, of another tree it is some integer
+unfoldable pub numerator : ℕ → Tree → ℤ
+numerator e (node none none) = pos 0
+numerator e (node (more L Ls) none) = numerator e L +ℤ pos (2 ^ e)
+numerator e (node none (more R Rs)) = numerator e R -ℤ pos (2 ^ e)
+numerator e (node (more L Ls) (more R Rs)) = half (numerator e L +ℤ numerator e R)
+
+-- the m for which the tree is that of m / 2 ^ e, where there is one
+unfoldable pub number_at : ℕ → Tree → Option ℤ
+number_at e G = cond (same (num e (numerator e G)) G) (Some (numerator e G)) None
+
+mutual
+  unfolding same
+
+  same-refl : (G : Tree) → same G G ≡ true
+  same-refl (node ls rs) = and_from _ _ (same_each-refl ls) (same_each-refl rs)
+
+  same_each-refl : (Gs : Trees) → same_each Gs Gs ≡ true
+  same_each-refl none = refl
+  same_each-refl (more G Gs) = and_from _ _ (same-refl G) (same_each-refl Gs)
+
+mutual
+  unfolding same
+
+  same-is : (G H : Tree) → same G H ≡ true → G ≡ H
+  same-is (node ls rs) (node ms ns) e = ap₂ node (same_each-is ls ms (and_parts _ _ e).0) (same_each-is rs ns (and_parts _ _ e).1)
+
+  same_each-is : (Gs Hs : Trees) → same_each Gs Hs ≡ true → Gs ≡ Hs
+  same_each-is none none e = refl
+  same_each-is none (more H Hs) e = absurd (true≢false (sym e))
+  same_each-is (more G Gs) none e = absurd (true≢false (sym e))
+  same_each-is (more G Gs) (more H Hs) e = ap₂ more (same-is G H (and_parts _ _ e).0) (same_each-is Gs Hs (and_parts _ _ e).1)
+
+-- the four forms of a number
+data NumForm (e : ℕ) (m : ℤ) : Type 0 where
+  nought : m ≡ pos 0 → num e m ≡ node none none → NumForm e m
+  up : (k : ℤ) → m ≡ k +ℤ pos (2 ^ e) → num e m ≡ node (more (num e k) none) none → NumForm e m
+  down : (k : ℤ) → m ≡ k -ℤ pos (2 ^ e) → num e m ≡ node none (more (num e k) none) → NumForm e m
+  middle : (k j : ℤ) → k +ℤ j ≡ m +ℤ m → num e m ≡ node (more (num e k) none) (more (num e j) none) → NumForm e m
+
+whole_form : (m : ℤ) → NumForm 0 m
+unfolding num whole count_tree neg
+whole_form (pos zero) = nought refl refl
+whole_form (pos (suc n)) = up (pos n) (omega (arith, ints)) refl
+whole_form (negsuc zero) = down (pos 0) (omega (arith, ints)) refl
+whole_form (negsuc (suc n)) = down (negsuc n) (omega (arith, ints)) refl
+
+num_form : (e : ℕ) (m : ℤ) → NumForm e m
+num_form zero m = whole_form m
+num_form (suc e) m = elim (cases_Bool (is_even m)) [
+  | inl t ↦ even (num_form e (half m)) t
+  | inr f ↦ middle (half m +ℤ half m) ((half m +ℤ pos 1) +ℤ (half m +ℤ pos 1)) (omega (arith, ints, half-odd m f))
+      (num-odd e m f ∙ ap₂ (λ a b. node (more a none) (more b none)) (sym (num-double e (half m))) (sym (num-double e (half m +ℤ pos 1))))
+]
+  where
+    power : 2 ^ suc e ≡ 2 ^ e + 2 ^ e
+    power = omega arith
+
+    even : NumForm e (half m) → is_even m ≡ true → NumForm (suc e) m
+    even (nought i n) t = nought (omega (arith, ints, half-even m t, i)) (num-even e m t ∙ n)
+    even (up k i n) t = up (k +ℤ k) (omega (arith, ints, half-even m t, i, power)) (num-even e m t ∙ n ∙ ap (λ a. node (more a none) none) (sym (num-double e k)))
+    even (down k i n) t = down (k +ℤ k) (omega (arith, ints, half-even m t, i, power)) (num-even e m t ∙ n ∙ ap (λ a. node none (more a none)) (sym (num-double e k)))
+    even (middle k j i n) t = middle (k +ℤ k) (j +ℤ j) (omega (arith, ints, half-even m t, i)) (num-even e m t ∙ n ∙ ap₂ (λ a b. node (more a none) (more b none)) (sym (num-double e k)) (sym (num-double e j)))
+
+first_left : (G H : Tree) (Gs Ks : Trees) → G ≡ node (more H Gs) Ks → size H < size G
+first_left G H Gs Ks i = subst (λ t. size H < size t) (sym i) (size-left (node (more H Gs) Ks) H (inl refl))
+
+first_right : (G H : Tree) (Gs Ks : Trees) → G ≡ node Ks (more H Gs) → size H < size G
+first_right G H Gs Ks i = subst (λ t. size H < size t) (sym i) (size-right (node Ks (more H Gs)) H (inl refl))
+
+numerator_step : (n e : ℕ) (m : ℤ) → ((k : ℤ) → size (num e k) < n → numerator e (num e k) ≡ k) → size (num e m) < suc n → NumForm e m → numerator e (num e m) ≡ m
+unfolding numerator
+numerator_step n e m ih a (nought i f) = ap (numerator e) f ∙ sym i
+numerator_step n e m ih a (up k i f) = ap (numerator e) f ∙ ap (λ x. x +ℤ pos (2 ^ e)) (ih k (omega (arith, a, first_left _ _ _ _ f))) ∙ sym i
+numerator_step n e m ih a (down k i f) = ap (numerator e) f ∙ ap (λ x. x -ℤ pos (2 ^ e)) (ih k (omega (arith, a, first_right _ _ _ _ f))) ∙ sym i
+numerator_step n e m ih a (middle k j i f) = ap (numerator e) f
+    ∙ ap₂ (λ x y. half (x +ℤ y)) (ih k (omega (arith, a, first_left _ _ _ _ f))) (ih j (omega (arith, a, first_right _ _ _ _ f)))
+    ∙ ap half i ∙ half-double m
+
+numerator_within : (n e : ℕ) (m : ℤ) → size (num e m) < n → numerator e (num e m) ≡ m
+numerator_within zero e m a = absurd (omega arith)
+numerator_within (suc n) e m a = numerator_step n e m (λ k. numerator_within n e k) a (num_form e m)
+
+pub numerator-num : (e : ℕ) (m : ℤ) → numerator e (num e m) ≡ m
+numerator-num e m = numerator_within (suc (size (num e m))) e m (omega arith)
+
+pub num-one_to_one : (e : ℕ) (m n : ℤ) → num e m ≡ num e n → m ≡ n
+num-one_to_one e m n i = sym (numerator-num e m) ∙ ap (numerator e) i ∙ numerator-num e n
+
+-- what the test answers
+pub data NumberAt (e : ℕ) (G : Tree) : Type 0 where
+  is_number : (x : ℤ) → G ≡ num e x → number_at e G ≡ Some x → NumberAt e G
+  is_none : ((x : ℤ) → G ≡ num e x → ⊥) → number_at e G ≡ None → NumberAt e G
+
+pub number-cases : (e : ℕ) (G : Tree) → NumberAt e G
+unfolding number_at
+number-cases e G = by (same (num e (numerator e G)) G) refl
+  where
+    by : (b : Bool) → same (num e (numerator e G)) G ≡ b → NumberAt e G
+    by true i = is_number (numerator e G) (sym (same-is _ _ i)) (rw i refl)
+    by false i = is_none (λ x g. true≢false (sym (subst (λ t. same t G ≡ true) (sym (ap (num e) (ap (numerator e) g ∙ numerator-num e x))) (subst (λ t. same t G ≡ true) g (same-refl G))) ∙ i)) (rw i refl)

@@ -1,0 +1,293 @@
+-- Walls by their rule are the walls on each grid.
+use Rattle.std.proofs.Math.Nat.{pow-suc}
+use Rattle.std.proofs.Math.IntN.{pos-*ℤ-pos, negsuc-*ℤ-pos}
+use Rattle.std.proofs.Common.{ℕ, zero, suc, ◌+◌, ◌-◌, ◌*◌, ◌^◌, ◌<◌, ◌≤◌, ◌≡◌, ◌⊎◌, ◌↔◌, arith, refl, inl, inr, sym, ◌∙◌, ap, subst, ℤ, pos, negsuc, neg_ℤ, ◌+ℤ◌, ◌-ℤ◌, ◌*ℤ◌, ◌<ℤ◌, ◌≤ℤ◌}
+use Rattle.std.specs.Int.{int_max, int_min}
+use Rattle.std.proofs.lemmas.Int.{ints, clamps, by_lt_z}
+use Rattle.std.proofs.lemmas.Bool.{cases_lt}
+use Rattle.short_games.specs.Tree.{Tree, Trees, node, none, more, left, right, Has, size}
+use Rattle.short_games.specs.Number.{num, IsNumberTree}
+use Rattle.short_games.specs.Lines.{Rises, Falls}
+use Rattle.short_games.specs.Walls.{IsLeftWall, IsRightWall, IsGreatestRightWall, IsLeastLeftWall}
+use Rattle.short_games.specs.WallGrids.{IsGreatest, IsLeast, Follow, WallsAre, AllWallsAre, HasWalls, finer}
+use Rattle.short_games.specs.WallGrids.Follow.{apart, met}
+use Rattle.short_games.specs.WallGrids.WallsAre.{of_number, of_game}
+use Rattle.short_games.proofs.OrderLaws.{size-left, size-right}
+use Rattle.short_games.proofs.WallNumbers.{num-one_to_one}
+use Rattle.short_games.proofs.WallGreatest.{IsFilled, filled, greatest-one, greatest-more, least-one, least-more}
+use Rattle.short_games.proofs.WallLines.{finer-doubles, greatest-same, least-same}
+use Rattle.short_games.proofs.WallSolutions.{all-here, all-left, all-right, walls-steady, walls-finer, left_scaffold-falls, right_scaffold-rises}
+
+-- where f gives the walls at t, the greatest that f gives is the greatest wall
+greatest_wall : (k t : ℕ) (f : Tree → ℤ) (Gs : Trees) → ((X : Tree) → Has Gs X → IsRightWall X k t (f X)) → IsFilled Gs → (x : ℤ) × IsGreatestRightWall Gs k t x × IsGreatest f Gs x
+unfolding IsLeftWall
+greatest_wall k t f none s h = absurd h
+greatest_wall k t f (more G none) s h = (f G, s G (inl refl), greatest-one f G)
+greatest_wall k t f (more G (more H Hs)) s h =
+    let r = greatest_wall k t f (more H Hs) (λ X x. s X (inr x)) tt in
+    (int_max (f G) r.0, (f G, (r.0, s G (inl refl), r.1, omega (arith, ints, clamps), omega (arith, ints, clamps), one (f G) r.0)), greatest-more f G (more H Hs) r.0 r.2)
+  where
+    one : (y z : ℤ) → (y ≡ int_max y z) ⊎ (z ≡ int_max y z)
+    one y z = by_lt_z y z (λ l. inr (omega (arith, ints, clamps, l))) (λ l. inl (omega (arith, ints, clamps, l)))
+
+least_wall : (k t : ℕ) (f : Tree → ℤ) (Gs : Trees) → ((X : Tree) → Has Gs X → IsLeftWall X k t (f X)) → IsFilled Gs → (x : ℤ) × IsLeastLeftWall Gs k t x × IsLeast f Gs x
+unfolding IsLeftWall
+least_wall k t f none s h = absurd h
+least_wall k t f (more G none) s h = (f G, s G (inl refl), least-one f G)
+least_wall k t f (more G (more H Hs)) s h =
+    let r = least_wall k t f (more H Hs) (λ X x. s X (inr x)) tt in
+    (int_min (f G) r.0, (f G, (r.0, s G (inl refl), r.1, omega (arith, ints, clamps), omega (arith, ints, clamps), one (f G) r.0)), least-more f G (more H Hs) r.0 r.2)
+  where
+    one : (y z : ℤ) → (y ≡ int_min y z) ⊎ (z ≡ int_min y z)
+    one y z = by_lt_z y z (λ l. inl (omega (arith, ints, clamps, l))) (λ l. inr (omega (arith, ints, clamps, l)))
+
+to_greatest : (k t : ℕ) (f : Tree → ℤ) (Gs : Trees) (x : ℤ) → ((X : Tree) → Has Gs X → IsRightWall X k t (f X)) → IsGreatest f Gs x → IsGreatestRightWall Gs k t x
+to_greatest k t f Gs x s g = let r = greatest_wall k t f Gs s (filled Gs g.reached.0 g.reached.1) in
+    subst (IsGreatestRightWall Gs k t) (greatest-same f f Gs r.0 x (λ X h. refl) r.2 g) r.1
+
+to_least : (k t : ℕ) (f : Tree → ℤ) (Gs : Trees) (x : ℤ) → ((X : Tree) → Has Gs X → IsLeftWall X k t (f X)) → IsLeast f Gs x → IsLeastLeftWall Gs k t x
+to_least k t f Gs x s g = let r = least_wall k t f Gs s (filled Gs g.reached.0 g.reached.1) in
+    subst (IsLeastLeftWall Gs k t) (least-same f f Gs r.0 x (λ X h. refl) r.2 g) r.1
+
+-- and the greatest wall is the greatest that f gives
+from_greatest : (k t : ℕ) (f : Tree → ℤ) (Gs : Trees) (x : ℤ) → ((X : Tree) → Has Gs X → (y : ℤ) → IsRightWall X k t y → y ≡ f X) → IsGreatestRightWall Gs k t x → IsGreatest f Gs x
+unfolding IsLeftWall
+from_greatest k t f none x s g = absurd g
+from_greatest k t f (more G none) x s g = subst (IsGreatest f (more G none)) (sym (s G (inl refl) x g)) (greatest-one f G)
+from_greatest k t f (more G (more H Hs)) x s g =
+    let r = from_greatest k t f (more H Hs) g.1.0 (λ X h. s X (inr h)) g.1.2 in
+    let e = s G (inl refl) g.0 g.1.1 in
+    subst (IsGreatest f (more G (more H Hs))) (elim g.1.5 [ inl i ↦ omega (arith, ints, clamps, e, i, g.1.3, g.1.4) | inr i ↦ omega (arith, ints, clamps, e, i, g.1.3, g.1.4) ]) (greatest-more f G (more H Hs) g.1.0 r)
+
+from_least : (k t : ℕ) (f : Tree → ℤ) (Gs : Trees) (x : ℤ) → ((X : Tree) → Has Gs X → (y : ℤ) → IsLeftWall X k t y → y ≡ f X) → IsLeastLeftWall Gs k t x → IsLeast f Gs x
+unfolding IsLeftWall
+from_least k t f none x s g = absurd g
+from_least k t f (more G none) x s g = subst (IsLeast f (more G none)) (sym (s G (inl refl) x g)) (least-one f G)
+from_least k t f (more G (more H Hs)) x s g =
+    let r = from_least k t f (more H Hs) g.1.0 (λ X h. s X (inr h)) g.1.2 in
+    let e = s G (inl refl) g.0 g.1.1 in
+    subst (IsLeast f (more G (more H Hs))) (elim g.1.5 [ inl i ↦ omega (arith, ints, clamps, e, i, g.1.3, g.1.4) | inr i ↦ omega (arith, ints, clamps, e, i, g.1.3, g.1.4) ]) (least-more f G (more H Hs) g.1.0 r)
+
+-- a number by one power of two and the next
+once : (x : ℤ) → (x *ℤ pos (2 ^ 0)) ≡ x
+once x = grind (arith, ints)
+
+twice_ℕ : (m a b : ℕ) → b ≡ a + a → m * b ≡ (m + m) * a
+twice_ℕ m a b e = grind arith
+
+twice : (m : ℤ) (a b : ℕ) → b ≡ a + a → m *ℤ pos b ≡ (m +ℤ m) *ℤ pos a
+twice (pos m) a b e = let i : pos (m + m) ≡ pos m +ℤ pos m = omega (arith, ints) in
+    pos-*ℤ-pos m b ∙ ap pos (twice_ℕ m a b e) ∙ sym (pos-*ℤ-pos (m + m) a) ∙ ap (λ z. z *ℤ pos a) i
+twice (negsuc m) a b e =
+    let i : negsuc (m + suc m) ≡ negsuc m +ℤ negsuc m = omega (arith, ints) in
+    let j : suc m + suc m ≡ suc (m + suc m) = omega arith in
+    negsuc-*ℤ-pos m b ∙ ap (λ n. neg_ℤ (pos n)) (twice_ℕ (suc m) a b e ∙ ap (λ n. n * a) j) ∙ sym (negsuc-*ℤ-pos (m + suc m) a) ∙ ap (λ z. z *ℤ pos a) i
+
+doubled : (d : ℕ) → 2 ^ suc d ≡ 2 ^ d + 2 ^ d
+doubled d = omega (arith, pow-suc 2 d)
+
+same_part : (d : ℕ) (x y : ℤ) → x *ℤ pos (2 ^ d) ≡ y *ℤ pos (2 ^ d) → x ≡ y
+same_part zero x y e = sym (once x) ∙ e ∙ once y
+same_part (suc d) x y e = let s = same_part d (x +ℤ x) (y +ℤ y) (sym (twice x (2 ^ d) (2 ^ suc d) (doubled d)) ∙ e ∙ twice y (2 ^ d) (2 ^ suc d) (doubled d)) in omega (arith, ints, s)
+
+-- a wall on the grid that is finer by d
+abbrev refined : ℕ → (ℕ → ℤ) → ℕ → ℤ
+refined zero f = f
+refined (suc d) f = refined d (finer f)
+
+refined-at : (d : ℕ) (f : ℕ → ℤ) (t : ℕ) → refined d f (t * 2 ^ d) ≡ f t *ℤ pos (2 ^ d)
+refined-at zero f t = ap f (grind arith) ∙ sym (once (f t))
+refined-at (suc d) f t = ap (refined d (finer f)) (twice_ℕ t (2 ^ d) (2 ^ suc d) (doubled d)) ∙ refined-at d (finer f) (t + t)
+    ∙ ap (λ z. z *ℤ pos (2 ^ d)) ((finer-doubles f).at_even t) ∙ sym (twice (f t) (2 ^ d) (2 ^ suc d) (doubled d))
+
+refined-walls : (d k : ℕ) (lw rw : Tree → ℕ → ℤ) (G : Tree) → AllWallsAre k lw rw G → AllWallsAre (d + k) (λ X. refined d (lw X)) (λ X. refined d (rw X)) G
+refined-walls zero k lw rw G a = subst (λ j. AllWallsAre j lw rw G) (omega arith) a
+refined-walls (suc d) k lw rw G a = subst (λ j. AllWallsAre j (λ X. refined d (finer (lw X))) (λ X. refined d (finer (rw X))) G) (omega arith)
+    (refined-walls d (suc k) (λ X. finer (lw X)) (λ X. finer (rw X)) G (walls-finer k lw rw G a))
+
+falls-from : (f : ℕ → ℤ) → Falls f → (n u t : ℕ) → t ≡ n + u → f t ≤ℤ f u
+falls-from f s zero u t e = let i : t ≡ u = omega (arith, e) in subst (λ z. f z ≤ℤ f u) (sym i) (omega (arith, ints))
+falls-from f s (suc n) u t e = let i : t ≡ suc (n + u) = omega (arith, e) in subst (λ z. f z ≤ℤ f u) (sym i) (omega (arith, ints, s.no_rise (n + u), falls-from f s n u (n + u) refl))
+
+rises-from : (f : ℕ → ℤ) → Rises f → (n u t : ℕ) → t ≡ n + u → f u ≤ℤ f t
+rises-from f s zero u t e = let i : t ≡ u = omega (arith, e) in subst (λ z. f u ≤ℤ f z) (sym i) (omega (arith, ints))
+rises-from f s (suc n) u t e = let i : t ≡ suc (n + u) = omega (arith, e) in subst (λ z. f u ≤ℤ f z) (sym i) (omega (arith, ints, s.no_fall (n + u), rises-from f s n u (n + u) refl))
+
+-- where the scaffolds are the same at u, both walls are that number from there on
+module _ (L R : ℕ → ℤ) (falls : Falls L) (rises : Rises R) where
+  later : (x : ℤ) (u t : ℕ) → u ≤ t → L u ≡ x → R u ≡ x → (l r : ℤ) → Follow L R t l r → (l ≡ x) × (r ≡ x)
+  later x u t a p q l r (apart c i j) = absurd (omega (arith, ints, p, q, c u a))
+  later x u t a p q l r (met v b e c i j) =
+      let before : v ≤ u = by_le u v (λ m. absurd (omega (arith, ints, p, q, c u m))) (λ m. m) in
+      let down = falls-from L falls (u - v) v u (omega (arith, before)) in
+      let up = rises-from R rises (u - v) v u (omega (arith, before)) in
+      (omega (arith, ints, p, q, e, down, up, i), omega (arith, ints, p, q, e, down, up, j))
+    where
+      by_le : {A : Type 0} → (m n : ℕ) → (m < n → A) → (n ≤ m → A) → A
+      by_le m n f g = elim (cases_lt m n) [ inl l ↦ f l | inr l ↦ g l ]
+
+  -- and they are the scaffolds where the left one is greater
+  ahead : (t : ℕ) → R t <ℤ L t → (l r : ℤ) → Follow L R t l r → (l ≡ L t) × (r ≡ R t)
+  ahead t lt l r (apart c i j) = (i, j)
+  ahead t lt l r (met u b e c i j) =
+      let down = falls-from L falls (t - u) u t (omega (arith, b)) in
+      let up = rises-from R rises (t - u) u t (omega (arith, b)) in
+      absurd (omega (arith, ints, e, lt, down, up))
+
+-- the rule, for a tree whose lists aren't at hand
+abbrev Mast : Tree → (k t : ℕ) → ℤ → Type 0
+Mast G k t x = (d u : ℕ) × (u ≤ t * 2 ^ d) × IsGreatestRightWall (left G) (d + k) u ((x *ℤ pos (2 ^ d)) +ℤ pos u) × IsLeastLeftWall (right G) (d + k) u ((x *ℤ pos (2 ^ d)) -ℤ pos u)
+
+abbrev LeftRule : Tree → (k t : ℕ) → ℤ → Type 0
+LeftRule G k t x = (G ≡ num k x) ⊎ ((IsNumberTree G → ⊥) × ((IsGreatestRightWall (left G) k t (x +ℤ pos t) × ((y : ℤ) × IsLeastLeftWall (right G) k t (y -ℤ pos t) × (y <ℤ x))) ⊎ Mast G k t x))
+
+abbrev RightRule : Tree → (k t : ℕ) → ℤ → Type 0
+RightRule G k t x = (G ≡ num k x) ⊎ ((IsNumberTree G → ⊥) × ((IsLeastLeftWall (right G) k t (x -ℤ pos t) × ((y : ℤ) × IsGreatestRightWall (left G) k t (y +ℤ pos t) × (x <ℤ y))) ⊎ Mast G k t x))
+
+to_left : (G : Tree) (k t : ℕ) (x : ℤ) → LeftRule G k t x → IsLeftWall G k t x
+unfolding IsLeftWall
+to_left (node ls rs) k t x h = h
+
+to_right : (G : Tree) (k t : ℕ) (x : ℤ) → RightRule G k t x → IsRightWall G k t x
+unfolding IsLeftWall
+to_right (node ls rs) k t x h = h
+
+from_left : (G : Tree) (k t : ℕ) (x : ℤ) → IsLeftWall G k t x → LeftRule G k t x
+unfolding IsLeftWall
+from_left (node ls rs) k t x h = h
+
+from_right : (G : Tree) (k t : ℕ) (x : ℤ) → IsRightWall G k t x → RightRule G k t x
+unfolding IsLeftWall
+from_right (node ls rs) k t x h = h
+
+-- the walls on a grid follow the rule
+module _ (k : ℕ) (lw rw : Tree → ℕ → ℤ) where
+  Follows : Tree → Type 0
+  Follows G = (t : ℕ) → IsLeftWall G k t (lw G t) × IsRightWall G k t (rw G t)
+
+  follows_at : (G : Tree) → ((X : Tree) → Has (left G) X → Follows X) → ((X : Tree) → Has (right G) X → Follows X) → WallsAre k lw rw G → Follows G
+  unfolding Follows
+  follows_at G f g (of_number x i p q) t = (to_left G k t (lw G t) (inl (i ∙ ap (num k) (sym (p t)))), to_right G k t (rw G t) (inl (i ∙ ap (num k) (sym (q t)))))
+  follows_at G f g (of_game n L R h h' w) t = at (w t)
+    where
+      lefts : (u : ℕ) (x : ℤ) → L u ≡ x → IsGreatestRightWall (left G) k u (x +ℤ pos u)
+      lefts u x e = subst (λ z. IsGreatestRightWall (left G) k u (z +ℤ pos u)) e (to_greatest k u (λ X. rw X u) (left G) (L u +ℤ pos u) (λ X x. (f X x u).1) (h u))
+
+      rights : (u : ℕ) (x : ℤ) → R u ≡ x → IsLeastLeftWall (right G) k u (x -ℤ pos u)
+      rights u x e = subst (λ z. IsLeastLeftWall (right G) k u (z -ℤ pos u)) e (to_least k u (λ X. lw X u) (right G) (R u -ℤ pos u) (λ X x. (g X x u).0) (h' u))
+
+      same_grid : k ≡ 0 + k
+      same_grid = omega arith
+
+      mast : (u : ℕ) (x : ℤ) → u ≤ t → L u ≡ x → R u ≡ x → Mast G k t x
+      mast u x b d e = (
+        0,
+        u,
+        grind (arith, b),
+        subst (λ j. IsGreatestRightWall (left G) j u ((x *ℤ pos (2 ^ 0)) +ℤ pos u)) same_grid (lefts u (x *ℤ pos (2 ^ 0)) (d ∙ sym (once x))),
+        subst (λ j. IsLeastLeftWall (right G) j u ((x *ℤ pos (2 ^ 0)) -ℤ pos u)) same_grid (rights u (x *ℤ pos (2 ^ 0)) (e ∙ sym (once x))),
+      )
+
+      at : Follow L R t (lw G t) (rw G t) → IsLeftWall G k t (lw G t) × IsRightWall G k t (rw G t)
+      at (apart c x y) = (
+        to_left G k t (lw G t) (inr (n, inl (lefts t (lw G t) (sym x), (R t, rights t (R t) refl, subst (λ z. R t <ℤ z) (sym x) (c t (omega arith)))))),
+        to_right G k t (rw G t) (inr (n, inl (rights t (rw G t) (sym y), (L t, lefts t (L t) refl, subst (λ z. z <ℤ L t) (sym y) (c t (omega arith)))))),
+      )
+      at (met u b e c x y) = (
+        to_left G k t (lw G t) (inr (n, inr (mast u (lw G t) b (sym x) (sym e ∙ sym x)))),
+        to_right G k t (rw G t) (inr (n, inr (mast u (rw G t) b (e ∙ sym y) (sym y)))),
+      )
+
+  follows_within : (n : ℕ) (G : Tree) → size G < n → AllWallsAre k lw rw G → Follows G
+  follows_within zero G a w = absurd (omega (arith, a))
+  follows_within (suc n) G a w = follows_at G
+      (λ X x. follows_within n X (omega (arith, a, size-left G X x)) (all-left k lw rw G X w x))
+      (λ X x. follows_within n X (omega (arith, a, size-right G X x)) (all-right k lw rw G X w x))
+      (all-here k lw rw G w)
+
+  pub walls-follow : (G : Tree) → AllWallsAre k lw rw G → (t : ℕ) → IsLeftWall G k t (lw G t) × IsRightWall G k t (rw G t)
+  unfolding Follows
+  walls-follow G w = follows_within (suc (size G)) G (omega arith) w
+
+-- and the rule gives nothing else
+abbrev Gives : (k : ℕ) (lw rw : Tree → ℕ → ℤ) → Tree → Type 0
+Gives k lw rw G = (t : ℕ) (x : ℤ) → (IsLeftWall G k t x → x ≡ lw G t) × (IsRightWall G k t x → x ≡ rw G t)
+
+abbrev OptionsGive : Tree → Type 0
+OptionsGive G = (k : ℕ) (lw rw : Tree → ℕ → ℤ) (X : Tree) → Has (left G) X ⊎ Has (right G) X → AllWallsAre k lw rw X → Gives k lw rw X
+
+module _ (k : ℕ) (lw rw : Tree → ℕ → ℤ) (G : Tree) (all : AllWallsAre k lw rw G) (give : OptionsGive G) where
+  record Scaffolds : Type 0 where
+    L : ℕ → ℤ
+    R : ℕ → ℤ
+    falls : Falls L
+    rises : Rises R
+    left_is : (t : ℕ) (x : ℤ) → IsGreatestRightWall (left G) k t (x +ℤ pos t) → L t ≡ x
+    right_is : (t : ℕ) (x : ℤ) → IsLeastLeftWall (right G) k t (x -ℤ pos t) → R t ≡ x
+    follow : (t : ℕ) → Follow L R t (lw G t) (rw G t)
+
+  scaffolds : (IsNumberTree G → ⊥) → WallsAre k lw rw G → Scaffolds
+  scaffolds n (of_number x i p q) = absurd (n (k, x, i))
+  scaffolds _ (of_game n l r h h' w) = record {
+    L = l;
+    R = r;
+    falls = left_scaffold-falls k lw rw (left G) l (λ X x. walls-steady k lw rw X (all-left k lw rw G X all x)) h;
+    rises = right_scaffold-rises k lw rw (right G) r (λ X x. walls-steady k lw rw X (all-right k lw rw G X all x)) h';
+    left_is = λ t x g. (
+        let e = greatest-same (λ X. rw X t) (λ X. rw X t) (left G) (x +ℤ pos t) (l t +ℤ pos t) (λ X y. refl) (from_greatest k t (λ X. rw X t) (left G) (x +ℤ pos t) (λ X y z. (give k lw rw X (inl y) (all-left k lw rw G X all y) t z).1) g) (h t) in
+        omega (arith, ints, e)
+        );
+    right_is = λ t x g. (
+        let e = least-same (λ X. lw X t) (λ X. lw X t) (right G) (x -ℤ pos t) (r t -ℤ pos t) (λ X y. refl) (from_least k t (λ X. lw X t) (right G) (x -ℤ pos t) (λ X y z. (give k lw rw X (inr y) (all-right k lw rw G X all y) t z).0) g) (h' t) in
+        omega (arith, ints, e)
+        );
+    follow = w;
+  }
+
+value_at : (k : ℕ) (lw rw : Tree → ℕ → ℤ) (G : Tree) → AllWallsAre k lw rw G → OptionsGive G → Gives k lw rw G
+value_at k lw rw G all give t x = (λ h. left_at (from_left G k t x h), λ h. right_at (from_right G k t x h))
+  where
+    here : WallsAre k lw rw G
+    here = all-here k lw rw G all
+
+    number_walls : (z : ℤ) → G ≡ num k z → WallsAre k lw rw G → (z ≡ lw G t) × (z ≡ rw G t)
+    number_walls z e (of_number y i p q) = let s = num-one_to_one k z y (sym e ∙ i) in (s ∙ sym (p t), s ∙ sym (q t))
+    number_walls z e (of_game n L R h h' w) = absurd (n (k, z, e))
+
+    mast_walls : (IsNumberTree G → ⊥) → Mast G k t x → (x ≡ lw G t) × (x ≡ rw G t)
+    mast_walls n (d, u, b, g, h) =
+        let fine = refined-walls d k lw rw G all in
+        let s = scaffolds (d + k) (λ X. refined d (lw X)) (λ X. refined d (rw X)) G fine give n (all-here (d + k) (λ X. refined d (lw X)) (λ X. refined d (rw X)) G fine) in
+        let v = later s.L s.R s.falls s.rises (x *ℤ pos (2 ^ d)) u (t * 2 ^ d) b (s.left_is u (x *ℤ pos (2 ^ d)) g) (s.right_is u (x *ℤ pos (2 ^ d)) h) _ _ (s.follow (t * 2 ^ d)) in
+        (same_part d x (lw G t) (sym v.0 ∙ refined-at d (lw G) t), same_part d x (rw G t) (sym v.1 ∙ refined-at d (rw G) t))
+
+    left_at : LeftRule G k t x → x ≡ lw G t
+    left_at (inl e) = (number_walls x e here).0
+    left_at (inr (n, inl (g, (y, h, l)))) =
+        let s = scaffolds k lw rw G all give n here in
+        let a = s.left_is t x g in
+        let b = s.right_is t y h in
+        sym a ∙ sym (ahead s.L s.R s.falls s.rises t (omega (arith, ints, a, b, l)) _ _ (s.follow t)).0
+    left_at (inr (n, inr m)) = (mast_walls n m).0
+
+    right_at : RightRule G k t x → x ≡ rw G t
+    right_at (inl e) = (number_walls x e here).1
+    right_at (inr (n, inl (g, (y, h, l)))) =
+        let s = scaffolds k lw rw G all give n here in
+        let a = s.right_is t x g in
+        let b = s.left_is t y h in
+        sym a ∙ sym (ahead s.L s.R s.falls s.rises t (omega (arith, ints, a, b, l)) _ _ (s.follow t)).1
+    right_at (inr (n, inr m)) = (mast_walls n m).1
+
+value_within : (n : ℕ) (k : ℕ) (lw rw : Tree → ℕ → ℤ) (G : Tree) → size G < n → AllWallsAre k lw rw G → Gives k lw rw G
+value_within zero k lw rw G a all = absurd (omega (arith, a))
+value_within (suc n) k lw rw G a all = value_at k lw rw G all (λ j lw' rw' X h all'. value_within n j lw' rw' X (elim h [ inl l ↦ omega (arith, a, size-left G X l) | inr r ↦ omega (arith, a, size-right G X r) ]) all')
+
+-- the two definitions of walls are one
+pub rule-is : (k : ℕ) (G : Tree) (l r : ℕ → ℤ) → HasWalls k G l r → (t : ℕ) (x : ℤ) → (IsLeftWall G k t x ↔ (x ≡ l t)) × (IsRightWall G k t x ↔ (x ≡ r t))
+rule-is k G l r h t x =
+    let to = walls-follow k h.lw h.rw G h.all t in
+    let from = value_within (suc (size G)) k h.lw h.rw G (omega arith) h.all t x in (
+      (λ w. from.0 w ∙ h.left_is t, λ e. subst (IsLeftWall G k t) (h.left_is t ∙ sym e) to.0),
+      (λ w. from.1 w ∙ h.right_is t, λ e. subst (IsRightWall G k t) (h.right_is t ∙ sym e) to.1),
+    )

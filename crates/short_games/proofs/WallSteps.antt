@@ -1,0 +1,195 @@
+-- One step of drawing: from the walls of the options to those of the tree.
+use Rattle.std.proofs.Common.{ℕ, zero, suc, ◌+◌, ◌<◌, ◌≤◌, ◌≡◌, arith, refl, inl, inr, sym, ◌∙◌, ap, subst, ℤ, pos, neg_ℤ, ◌+ℤ◌, ◌-ℤ◌, ◌<ℤ◌, ◌≤ℤ◌}
+use Rattle.std.proofs.lemmas.Int.{ints}
+use Rattle.std.proofs.lemmas.Bool.{cases_lt}
+use Rattle.short_games.specs.Tree.{Tree, left, right, Has, size}
+use Rattle.short_games.specs.Number.{num, IsNumberTree}
+use Rattle.short_games.proofs.OrderLaws.{size-left, size-right}
+use Rattle.short_games.specs.WallGrids.{IsGreatest, IsLeast, Follow, WallsAre, AllWallsAre, IsMeeting}
+use Rattle.short_games.proofs.WallGreatest.{IsFilled, filled}
+use Rattle.short_games.specs.Lines.{Rises, Falls}
+use Rattle.short_games.specs.WallGrids.Follow.{apart, met}
+use Rattle.short_games.specs.WallGrids.WallsAre.{of_number, of_game}
+use Rattle.short_games.proofs.WallLines.{Doubles, greatest-same, least-same, follow-same, parity, Parity}
+use Rattle.short_games.proofs.WallLines.Parity.{even, odd}
+use Rattle.short_games.proofs.WallSolutions.{all-here, all-left, all-right, all-from, walls-unique, walls-steady, IsSteady}
+use Rattle.short_games.proofs.WallsDrawn.{left_wall, right_wall, left_scaffold, right_scaffold, left_scaffold-is, right_scaffold-is, NoJump, walls-at}
+
+no_jump-from : (L R l r : ℕ → ℤ) → ((t : ℕ) → Follow L R t (l t) (r t)) → NoJump L R
+unfolding NoJump
+no_jump-from L R l r w u h = at (w u)
+  where
+    at : Follow L R u (l u) (r u) → R u ≤ℤ L u
+    at (apart a x y) = omega (arith, ints, a u (omega arith))
+    at (met v k e a x y) = elim (cases_lt v u) [
+      | inl i ↦ absurd (omega (arith, ints, h v i, e))
+      | inr i ↦ (let s : v ≡ u = omega (arith, k, i) in subst (λ n. R n ≤ℤ L n) s (omega (arith, ints, e)))
+    ]
+
+no_jump-same : (L R L' R' : ℕ → ℤ) → ((t : ℕ) → L t ≡ L' t) → ((t : ℕ) → R t ≡ R' t) → NoJump L R → NoJump L' R'
+unfolding NoJump
+no_jump-same L R L' R' p q n u h = omega (arith, ints, p u, q u, n u (λ v k. omega (arith, ints, p v, q v, h v k)))
+
+-- where the scaffolds first meet at u they don't jump
+no_jump-met : (L R : ℕ → ℤ) (u : ℕ) → L u ≡ R u → ((v : ℕ) → v < u → R v <ℤ L v) → NoJump L R
+unfolding NoJump
+no_jump-met L R u e a v h = elim (cases_lt v u) [
+  | inl k ↦ omega (arith, ints, a v k)
+  | inr k ↦ elim (cases_lt u v) [
+    | inl i ↦ absurd (omega (arith, ints, h u i, e))
+    | inr i ↦ (let s : u ≡ v = omega (arith, i, k) in subst (λ n. R n ≤ℤ L n) s (omega (arith, ints, e)))
+  ]
+]
+
+module _ (k : ℕ) where
+  AllDrawn : Tree → Type 0
+  AllDrawn G = AllWallsAre k (left_wall k) (right_wall k) G
+
+  -- any solution is the drawn one
+  solved_at : (lw rw : Tree → ℕ → ℤ) (G : Tree) → AllWallsAre k lw rw G → ((X : Tree) → Has (left G) X → AllDrawn X) → ((X : Tree) → Has (right G) X → AllDrawn X) → WallsAre k lw rw G → WallsAre k (left_wall k) (right_wall k) G
+  unfolding AllDrawn
+  solved_at lw rw G all f g (of_number x i p q) = walls-at k G (λ n. absurd (n x i))
+  solved_at lw rw G all f g (of_game n L R h h' w) = walls-at k G (λ _. record { no_number = n; left_filled = lefts; right_filled = rights; no_jump = no_jump-same L R _ _ left_same right_same (no_jump-from L R (lw G) (rw G) w) })
+    where
+      lefts : IsFilled (left G)
+      lefts = filled (left G) (h 0).reached.0 (h 0).reached.1
+
+      rights : IsFilled (right G)
+      rights = filled (right G) (h' 0).reached.0 (h' 0).reached.1
+
+      left_same : (t : ℕ) → L t ≡ left_scaffold k G t
+      left_same t = omega (arith, ints, greatest-same (λ X. rw X t) (λ X. right_wall k X t) (left G) _ _ (λ X x. (walls-unique k lw rw (left_wall k) (right_wall k) X (all-left k lw rw G X all x) (f X x) t).1) (h t) (left_scaffold-is k G lefts t))
+
+      right_same : (t : ℕ) → R t ≡ right_scaffold k G t
+      right_same t = omega (arith, ints, least-same (λ X. lw X t) (λ X. left_wall k X t) (right G) _ _ (λ X x. (walls-unique k lw rw (left_wall k) (right_wall k) X (all-right k lw rw G X all x) (g X x) t).0) (h' t) (right_scaffold-is k G rights t))
+
+  solved_within : (n : ℕ) (lw rw : Tree → ℕ → ℤ) (G : Tree) → size G < n → AllWallsAre k lw rw G → AllDrawn G
+  unfolding AllDrawn
+  solved_within zero lw rw G a w = absurd (omega arith)
+  solved_within (suc n) lw rw G a w = all-from k (left_wall k) (right_wall k) G
+      (solved_at lw rw G w (λ X x. solved_within n lw rw X (omega (arith, size-left G X x)) (all-left k lw rw G X w x)) (λ X x. solved_within n lw rw X (omega (arith, size-right G X x)) (all-right k lw rw G X w x)) (all-here k lw rw G w))
+      (λ X x. solved_within n lw rw X (omega (arith, size-left G X x)) (all-left k lw rw G X w x))
+      (λ X x. solved_within n lw rw X (omega (arith, size-right G X x)) (all-right k lw rw G X w x))
+
+  pub solution-drawn : (lw rw : Tree → ℕ → ℤ) (G : Tree) → AllWallsAre k lw rw G → AllWallsAre k (left_wall k) (right_wall k) G
+  unfolding AllDrawn
+  solution-drawn lw rw G = solved_within (suc (size G)) lw rw G (omega arith)
+
+  -- two scaffolds that first meet at u, and walls that go along them until there
+  pub record IsJoin (G : Tree) (L R l r : ℕ → ℤ) : Type 0 where
+    pub no_number : IsNumberTree G → ⊥
+    pub left_is : (t : ℕ) → IsGreatest (λ X. right_wall k X t) (left G) (L t +ℤ pos t)
+    pub right_is : (t : ℕ) → IsLeast (λ X. left_wall k X t) (right G) (R t -ℤ pos t)
+    pub meeting : ℕ
+    pub meets : L meeting ≡ R meeting
+    pub before : (v : ℕ) → v < meeting → R v <ℤ L v
+    pub left_along : (t : ℕ) → t ≤ meeting → l t ≡ L t
+    pub left_after : (t : ℕ) → meeting ≤ t → l t ≡ L meeting
+    pub right_along : (t : ℕ) → t ≤ meeting → r t ≡ R t
+    pub right_after : (t : ℕ) → meeting ≤ t → r t ≡ R meeting
+
+  -- then the tree has these walls
+  pub join-drawn : (G : Tree) (L R l r : ℕ → ℤ) → IsJoin G L R l r → ((X : Tree) → Has (left G) X → AllWallsAre k (left_wall k) (right_wall k) X) → ((X : Tree) → Has (right G) X → AllWallsAre k (left_wall k) (right_wall k) X)
+      → AllWallsAre k (left_wall k) (right_wall k) G × ((t : ℕ) → (left_wall k G t ≡ l t) × (right_wall k G t ≡ r t))
+  join-drawn G L R l r j f g = (all-from k (left_wall k) (right_wall k) G here f g, λ t. same t here)
+    where
+      lefts : IsFilled (left G)
+      lefts = filled (left G) (j.left_is 0).reached.0 (j.left_is 0).reached.1
+
+      rights : IsFilled (right G)
+      rights = filled (right G) (j.right_is 0).reached.0 (j.right_is 0).reached.1
+
+      left_same : (t : ℕ) → L t ≡ left_scaffold k G t
+      left_same t = omega (arith, ints, greatest-same (λ X. right_wall k X t) (λ X. right_wall k X t) (left G) _ _ (λ X x. refl) (j.left_is t) (left_scaffold-is k G lefts t))
+
+      right_same : (t : ℕ) → R t ≡ right_scaffold k G t
+      right_same t = omega (arith, ints, least-same (λ X. left_wall k X t) (λ X. left_wall k X t) (right G) _ _ (λ X x. refl) (j.right_is t) (right_scaffold-is k G rights t))
+
+      here : WallsAre k (left_wall k) (right_wall k) G
+      here = walls-at k G (λ _. record { no_number = j.no_number; left_filled = lefts; right_filled = rights; no_jump = no_jump-same L R _ _ left_same right_same (no_jump-met L R j.meeting j.meets j.before) })
+
+      follows : (t : ℕ) → Follow L R t (l t) (r t)
+      follows t = elim (cases_lt t j.meeting) [
+        | inl h ↦ apart (λ v i. j.before v (omega (arith, h, i))) (j.left_along t (omega (arith, h))) (j.right_along t (omega (arith, h)))
+        | inr h ↦ met j.meeting h j.meets j.before (j.left_after t h) (j.right_after t h)
+      ]
+
+      same : (t : ℕ) → WallsAre k (left_wall k) (right_wall k) G → (left_wall k G t ≡ l t) × (right_wall k G t ≡ r t)
+      same t (of_number x i p q) = absurd (j.no_number (k, x, i))
+      same t (of_game n M S h h' w) = follow-same M S L R t _ _ _ _
+          (λ v. omega (arith, ints, greatest-same (λ X. right_wall k X v) (λ X. right_wall k X v) (left G) _ _ (λ X x. refl) (h v) (j.left_is v)))
+          (λ v. omega (arith, ints, least-same (λ X. left_wall k X v) (λ X. left_wall k X v) (right G) _ _ (λ X x. refl) (h' v) (j.right_is v)))
+          (w t) (follows t)
+
+-- where the right scaffold comes to be greater without a meeting, the two meet in the middle of the last step
+pub jump-middle : (L R L' R' : ℕ → ℤ) (u : ℕ) → Falls L → Rises R → Doubles L L' → Doubles R R' → R 0 ≤ℤ L 0 → L u <ℤ R u → ((v : ℕ) → v < u → R v <ℤ L v)
+    → (w : ℕ) × (u ≡ suc w) × (L' (suc (w + w)) ≡ R' (suc (w + w))) × ((v : ℕ) → v < suc (w + w) → R' v <ℤ L' v)
+jump-middle L R L' R' zero f r d e z p a = absurd (omega (arith, ints, z, p))
+jump-middle L R L' R' (suc w) f r d e z p a = (w, refl, omega (arith, ints, p, a w (omega arith), f.by_one w, r.by_one w, d.at_odd w, e.at_odd w), λ v h. at v (parity v) h)
+  where
+    at : (v : ℕ) → Parity v → v < suc (w + w) → R' v <ℤ L' v
+    at _ (even t) h = omega (arith, ints, d.at_even t, e.at_even t, a t (omega (arith, h)))
+    at _ (odd t) h = omega (arith, ints, d.at_odd t, e.at_odd t, a t (omega (arith, h)), a (suc t) (omega (arith, h)))
+
+-- walls that follow scaffolds meet where these do
+pub follow-meeting : (L R l r : ℕ → ℤ) (m : ℕ) → ((t : ℕ) → Follow L R t (l t) (r t)) → L m ≡ R m → ((v : ℕ) → v < m → R v <ℤ L v) → IsMeeting l r m (L m)
+follow-meeting L R l r m w e a = record { left_at = (at (w m)).0; right_at = (at (w m)).1; before = λ v h. below v h (w v) }
+  where
+    at : Follow L R m (l m) (r m) → (l m ≡ L m) × (r m ≡ L m)
+    at (apart b x y) = absurd (omega (arith, ints, b m (omega arith), e))
+    at (met u h i b x y) = elim (cases_lt u m) [
+      | inl k ↦ absurd (omega (arith, ints, a u k, i))
+      | inr k ↦ (let s : u ≡ m = omega (arith, h, k) in (x ∙ ap L s, y ∙ ap R s ∙ sym e))
+    ]
+
+    below : (v : ℕ) → v < m → Follow L R v (l v) (r v) → r v <ℤ l v
+    below v h (apart b x y) = omega (arith, ints, a v h, x, y)
+    below v h (met u k i b x y) = absurd (omega (arith, ints, a u (omega (arith, h, k)), i))
+
+-- trees whose numbers are within a bound, and so are the options of those that are no numbers
+pub record IsBounded (k : ℕ) (bound : ℤ) (In : Tree → Type 0) : Type 0 where
+  pub number : (G : Tree) (x : ℤ) → In G → G ≡ num k x → (neg_ℤ bound ≤ℤ x) × (x ≤ℤ bound)
+  pub left_in : (G X : Tree) → (IsNumberTree G → ⊥) → In G → Has (left G) X → In X
+  pub right_in : (G X : Tree) → (IsNumberTree G → ⊥) → In G → Has (right G) X → In X
+
+InBounds : (bound : ℤ) (l r : ℕ → ℤ) → Type 0
+InBounds bound l r = (t : ℕ) → (neg_ℤ bound ≤ℤ r t) × (r t ≤ℤ l t) × (l t ≤ℤ bound)
+
+falls-far : (f : ℕ → ℤ) → Falls f → (t : ℕ) → f t ≤ℤ f 0
+falls-far f h zero = omega (arith, ints)
+falls-far f h (suc t) = omega (arith, ints, falls-far f h t, h.no_rise t)
+
+rises-far : (f : ℕ → ℤ) → Rises f → (t : ℕ) → f 0 ≤ℤ f t
+rises-far f h zero = omega (arith, ints)
+rises-far f h (suc t) = omega (arith, ints, rises-far f h t, h.no_fall t)
+
+bounds_at : (k : ℕ) (bound : ℤ) (In : Tree → Type 0) (lw rw : Tree → ℕ → ℤ) (G : Tree) → IsSteady (lw G) (rw G) → IsBounded k bound In → In G → ((IsNumberTree G → ⊥) → (X : Tree) → Has (left G) X → InBounds bound (lw X) (rw X)) → ((IsNumberTree G → ⊥) → (X : Tree) → Has (right G) X → InBounds bound (lw X) (rw X)) → WallsAre k lw rw G → InBounds bound (lw G) (rw G)
+unfolding InBounds
+bounds_at k bound In lw rw G s b m f g (of_number x i p q) t = let c = b.number G x m i in (omega (arith, ints, c.0, q t), s.ordered t, omega (arith, ints, c.1, p t))
+bounds_at k bound In lw rw G s b m f g (of_game n L R h h' w) t = (omega (arith, ints, rises-far (rw G) s.rises t, right_zero (w 0)), s.ordered t, omega (arith, ints, falls-far (lw G) s.falls t, left_zero (w 0)))
+  where
+    left_top : L 0 ≤ℤ bound
+    left_top = let a = (h 0).reached in let c = f n a.0 a.1 0 in omega (arith, ints, a.2, c.1, c.2)
+
+    right_top : neg_ℤ bound ≤ℤ R 0
+    right_top = let a = (h' 0).reached in let c = g n a.0 a.1 0 in omega (arith, ints, a.2, c.0, c.1)
+
+    left_zero : Follow L R 0 (lw G 0) (rw G 0) → lw G 0 ≤ℤ bound
+    left_zero (apart c x y) = omega (arith, ints, x, left_top)
+    left_zero (met u c d e x y) = let z : u ≡ 0 = omega (arith, c) in let l : L u ≡ L 0 = ap L z in omega (arith, ints, x, l, left_top)
+
+    right_zero : Follow L R 0 (lw G 0) (rw G 0) → neg_ℤ bound ≤ℤ rw G 0
+    right_zero (apart c x y) = omega (arith, ints, y, right_top)
+    right_zero (met u c d e x y) = let z : u ≡ 0 = omega (arith, c) in let l : R u ≡ R 0 = ap R z in omega (arith, ints, y, l, right_top)
+
+bounds_within : (n k : ℕ) (bound : ℤ) (In : Tree → Type 0) (lw rw : Tree → ℕ → ℤ) (G : Tree) → size G < n → IsBounded k bound In → In G → AllWallsAre k lw rw G → InBounds bound (lw G) (rw G)
+bounds_within zero k bound In lw rw G a b m w = absurd (omega arith)
+bounds_within (suc n) k bound In lw rw G a b m w = bounds_at k bound In lw rw G (walls-steady k lw rw G w) b m
+    (λ h X x. bounds_within n k bound In lw rw X (omega (arith, size-left G X x)) b (b.left_in G X h m x) (all-left k lw rw G X w x))
+    (λ h X x. bounds_within n k bound In lw rw X (omega (arith, size-right G X x)) b (b.right_in G X h m x) (all-right k lw rw G X w x))
+    (all-here k lw rw G w)
+
+-- walls are past no bound of the numbers
+pub walls-within : (k : ℕ) (bound : ℤ) (In : Tree → Type 0) (lw rw : Tree → ℕ → ℤ) (G : Tree) → IsBounded k bound In → In G → AllWallsAre k lw rw G → (t : ℕ) → (neg_ℤ bound ≤ℤ rw G t) × (rw G t ≤ℤ lw G t) × (lw G t ≤ℤ bound)
+unfolding InBounds
+walls-within k bound In lw rw G = bounds_within (suc (size G)) k bound In lw rw G (omega arith)

@@ -1,0 +1,20 @@
+use Rattle.short_games.proofs.KnownLaws.{known-numbers, known-order, known-sums, known-canonical, known-stops, known-walls}
+use Rattle.short_games.proofs.known_values.Goals as goal
+
+pub returns-clause-numbers : goal.returns-clause-numbers
+returns-clause-numbers c = known-numbers
+
+pub returns-clause-order : goal.returns-clause-order
+returns-clause-order c = known-order
+
+pub returns-clause-sums : goal.returns-clause-sums
+returns-clause-sums c = known-sums
+
+pub returns-clause-canonical : goal.returns-clause-canonical
+returns-clause-canonical c = known-canonical
+
+pub returns-clause-stops : goal.returns-clause-stops
+returns-clause-stops c = known-stops
+
+pub returns-clause-walls : goal.returns-clause-walls
+returns-clause-walls c = known-walls

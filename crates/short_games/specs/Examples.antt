@@ -1,0 +1,46 @@
+-- Small games.
+use Rattle.short_games.specs.Tree.{Tree, node, none, more}
+
+-- one option on each side
+abbrev pub choice : Tree → Tree → Tree
+choice L R = node (more L none) (more R none)
+
+-- 0 is {|}
+abbrev pub zero : Tree
+zero = node none none
+
+-- 1 is {0|}
+abbrev pub one : Tree
+one = node (more zero none) none
+
+-- 2 is {1|}
+abbrev pub two : Tree
+two = node (more one none) none
+
+-- -2 is {|-1}
+abbrev pub minus_two : Tree
+minus_two = node none (more (node none (more zero none)) none)
+
+-- 1/2 is {0|1}
+abbrev pub half : Tree
+half = choice zero one
+
+-- star is {0|0}
+abbrev pub star : Tree
+star = choice zero zero
+
+-- up is {0|star}
+abbrev pub up : Tree
+up = choice zero star
+
+-- {2|0}, with a move of 1 for each side
+abbrev pub switch : Tree
+switch = choice two zero
+
+-- tiny-two is {0||0|-2}
+abbrev pub tiny : Tree
+tiny = choice zero (choice zero minus_two)
+
+-- the nimber of 2 is {0,star|0,star}
+abbrev pub star_two : Tree
+star_two = node (more zero (more star none)) (more zero (more star none))

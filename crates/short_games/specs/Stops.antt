@@ -1,0 +1,39 @@
+-- Stops: the numbers that a game comes to when the two sides move in turn and stop at the first number. Here x stands
+-- for x / 2 ^ e.
+use Rattle.std.specs.Prelude.{ℕ, ◌≡◌, ◌⊎◌, ℤ, pos, ◌+ℤ◌, ◌≤ℤ◌}
+use Rattle.short_games.specs.Tree.{Tree, Trees, node, none, more}
+use Rattle.short_games.specs.Number.{num, IsNumberTree}
+
+module _ (e : ℕ) where
+  unfoldable mutual
+    -- both stops of a number are the number; the left stop of another tree is the greatest right stop of a Left option,
+    -- and its right stop the least left stop of a Right option
+    pub IsLeftStop : Tree → ℤ → Type 0
+    IsLeftStop (node ls rs) x = (node ls rs ≡ num e x) ⊎ ((IsNumberTree (node ls rs) → ⊥) × IsGreatestRight ls x)
+
+    pub IsRightStop : Tree → ℤ → Type 0
+    IsRightStop (node ls rs) x = (node ls rs ≡ num e x) ⊎ ((IsNumberTree (node ls rs) → ⊥) × IsLeastLeft rs x)
+
+    -- the greatest right stop of the listed trees
+    pub IsGreatestRight : Trees → ℤ → Type 0
+    IsGreatestRight none x = ⊥
+    IsGreatestRight (more G none) x = IsRightStop G x
+    IsGreatestRight (more G (more H Hs)) x = (y : ℤ) × ((z : ℤ) × IsRightStop G y × IsGreatestRight (more H Hs) z × (y ≤ℤ x) × (z ≤ℤ x) × ((y ≡ x) ⊎ (z ≡ x)))
+
+    -- the least left stop of the listed trees
+    pub IsLeastLeft : Trees → ℤ → Type 0
+    IsLeastLeft none x = ⊥
+    IsLeastLeft (more G none) x = IsLeftStop G x
+    IsLeastLeft (more G (more H Hs)) x = (y : ℤ) × ((z : ℤ) × IsLeftStop G y × IsLeastLeft (more H Hs) z × (x ≤ℤ y) × (x ≤ℤ z) × ((y ≡ x) ⊎ (z ≡ x)))
+
+-- x is half of k, rounded down
+abbrev pub IsHalf : ℤ → ℤ → Type 0
+IsHalf x k = ((x +ℤ x) ≤ℤ k) × (k ≤ℤ (x +ℤ x +ℤ pos 1))
+
+-- k is what the tree's ceiling is beside its left stop
+abbrev pub GoesWithLeftStop : ℕ → Tree → ℤ → Type 0
+GoesWithLeftStop e G k = (x : ℤ) × IsLeftStop e G x × IsHalf x k
+
+-- k is what the tree's floor is beside its right stop
+abbrev pub GoesWithRightStop : ℕ → Tree → ℤ → Type 0
+GoesWithRightStop e G k = (x : ℤ) × IsRightStop e G x × IsHalf x (k +ℤ pos 1)

@@ -1,0 +1,41 @@
+-- The laws of walls.
+use Rattle.std.specs.Prelude.{ℕ, suc, ◌+◌, ◌≡◌, ◌≤◌, ◌↔◌, ℤ}
+use Rattle.short_games.specs.Tree.{Tree}
+use Rattle.short_games.specs.Number.{IsNumberTree}
+use Rattle.short_games.specs.TextOrder.{IsCanonicalTree}
+use Rattle.short_games.specs.Parts.{IsFollower}
+use Rattle.short_games.specs.Stops.{IsLeftStop, IsRightStop}
+use Rattle.short_games.specs.Walls.{IsLeftWall, IsRightWall}
+use Rattle.short_games.specs.WallGrids.{Bends, HasWalls, finer, IsMeeting, HasTemperatureBetween}
+
+-- a canonical tree has walls on each grid that is fine enough
+abbrev pub WallsExist : Type 0
+WallsExist = (G : Tree) → IsCanonicalTree G → (e : ℕ) × ((k : ℕ) → e ≤ k → (l : ℕ → ℤ) × (r : ℕ → ℤ) × HasWalls k G l r)
+
+-- on no grid it has others
+abbrev pub WallsAreUnique : Type 0
+WallsAreUnique = (k : ℕ) (G : Tree) (l r l' r' : ℕ → ℤ) → HasWalls k G l r → HasWalls k G l' r' → (t : ℕ) → (l t ≡ l' t) × (r t ≡ r' t)
+
+-- where it has walls on a grid it has them on the next finer one, and there they are straight between two neighbours
+abbrev pub WallsGoOn : Type 0
+WallsGoOn = (k : ℕ) (G : Tree) (l r : ℕ → ℤ) → HasWalls k G l r → HasWalls (suc k) G (finer l) (finer r)
+
+-- at 0 the walls are the stops
+abbrev pub WallsBeginAtStops : Type 0
+WallsBeginAtStops = (k : ℕ) (G : Tree) (l r : ℕ → ℤ) → HasWalls k G l r → IsLeftStop k G (l 0) × IsRightStop k G (r 0)
+
+-- a game with walls that is no number has a temperature and a mean
+abbrev pub TemperaturesExist : Type 0
+TemperaturesExist = (k : ℕ) (G : Tree) (l r : ℕ → ℤ) → HasWalls k G l r → (IsNumberTree G → ⊥) → (u : ℕ) × (x : ℤ) × IsMeeting l r u x
+
+-- where a game has walls on a grid, the temperature of no follower lies between two places of it
+abbrev pub NoneBetween : Type 0
+NoneBetween = (k : ℕ) (G P : Tree) (l r : ℕ → ℤ) → HasWalls k G l r → IsFollower G P → HasTemperatureBetween k P → ⊥
+
+-- there its walls on the next finer grid bend at no place between two of it
+abbrev pub NoneBendsBetween : Type 0
+NoneBendsBetween = (k : ℕ) (G : Tree) (l r l' r' : ℕ → ℤ) → HasWalls k G l r → HasWalls (suc k) G l' r' → (t : ℕ) → (Bends l' (suc (t + t)) → ⊥) × (Bends r' (suc (t + t)) → ⊥)
+
+-- Where a tree has walls on a grid, its walls by their rule are these at each place of the grid
+abbrev pub WallsAreOnGrids : Type 0
+WallsAreOnGrids = (k : ℕ) (G : Tree) (l r : ℕ → ℤ) → HasWalls k G l r → (t : ℕ) (x : ℤ) → (IsLeftWall G k t x ↔ (x ≡ l t)) × (IsRightWall G k t x ↔ (x ≡ r t))

@@ -1,0 +1,31 @@
+-- Walls: what stops become when each move costs t. Here t stands for t / 2 ^ k and x for x / 2 ^ k, so that t and x are any
+-- fractions whose denominators are powers of two.
+use Rattle.std.specs.Prelude.{ℕ, ◌+◌, ◌*◌, ◌^◌, ◌≡◌, ◌≤◌, ◌⊎◌, ℤ, pos, ◌+ℤ◌, ◌-ℤ◌, ◌*ℤ◌, ◌<ℤ◌, ◌≤ℤ◌}
+use Rattle.short_games.specs.Tree.{Tree, Trees, node, none, more}
+use Rattle.short_games.specs.Number.{num, IsNumberTree}
+
+unfoldable mutual
+  -- Both walls of a number are the number. Another tree has a left scaffold, the greatest right wall of a Left option, less
+  -- t, and a right one, the least left wall of a Right option, and t. Its walls are the scaffolds, where the left one is
+  -- greater; else they are the number at which the scaffolds meet, at some u / 2 ^ (d + k) up to t
+  pub IsLeftWall : Tree → (k t : ℕ) → ℤ → Type 0
+  IsLeftWall (node ls rs) k t x = (node ls rs ≡ num k x) ⊎ ((IsNumberTree (node ls rs) → ⊥) × (
+      (IsGreatestRightWall ls k t (x +ℤ pos t) × ((y : ℤ) × IsLeastLeftWall rs k t (y -ℤ pos t) × (y <ℤ x)))
+      ⊎ ((d u : ℕ) × (u ≤ t * 2 ^ d) × IsGreatestRightWall ls (d + k) u ((x *ℤ pos (2 ^ d)) +ℤ pos u) × IsLeastLeftWall rs (d + k) u ((x *ℤ pos (2 ^ d)) -ℤ pos u))))
+
+  pub IsRightWall : Tree → (k t : ℕ) → ℤ → Type 0
+  IsRightWall (node ls rs) k t x = (node ls rs ≡ num k x) ⊎ ((IsNumberTree (node ls rs) → ⊥) × (
+      (IsLeastLeftWall rs k t (x -ℤ pos t) × ((y : ℤ) × IsGreatestRightWall ls k t (y +ℤ pos t) × (x <ℤ y)))
+      ⊎ ((d u : ℕ) × (u ≤ t * 2 ^ d) × IsGreatestRightWall ls (d + k) u ((x *ℤ pos (2 ^ d)) +ℤ pos u) × IsLeastLeftWall rs (d + k) u ((x *ℤ pos (2 ^ d)) -ℤ pos u))))
+
+  -- the greatest right wall of the listed trees
+  pub IsGreatestRightWall : Trees → (k t : ℕ) → ℤ → Type 0
+  IsGreatestRightWall none k t x = ⊥
+  IsGreatestRightWall (more G none) k t x = IsRightWall G k t x
+  IsGreatestRightWall (more G (more H Hs)) k t x = (y : ℤ) × ((z : ℤ) × IsRightWall G k t y × IsGreatestRightWall (more H Hs) k t z × (y ≤ℤ x) × (z ≤ℤ x) × ((y ≡ x) ⊎ (z ≡ x)))
+
+  -- the least left wall of the listed trees
+  pub IsLeastLeftWall : Trees → (k t : ℕ) → ℤ → Type 0
+  IsLeastLeftWall none k t x = ⊥
+  IsLeastLeftWall (more G none) k t x = IsLeftWall G k t x
+  IsLeastLeftWall (more G (more H Hs)) k t x = (y : ℤ) × ((z : ℤ) × IsLeftWall G k t y × IsLeastLeftWall (more H Hs) k t z × (x ≤ℤ y) × (x ≤ℤ z) × ((y ≡ x) ⊎ (z ≡ x)))

@@ -1,0 +1,87 @@
+//! Short games (Conway, On Numbers and Games; Siegel, Combinatorial Game Theory) as definitions over trees: their order,
+//! sums, numbers, stops, canonical trees, texts, parts and walls. There is no code: each law is the contract of a function
+//! that does nothing.
+#![tactic(auto)]
+
+ghost use Rattle.short_games.specs.OrderLaws.{OrderIs, ConfusedIs, IsReflexive, IsTransitive};
+ghost use Rattle.short_games.specs.SumLaws.{SumsKeepOrder, CancelsNegative, IncentiveDominates, IncentiveDominatesBack};
+ghost use Rattle.short_games.specs.NumberLaws.{LeftAvoidsNumbers, RightAvoidsNumbers, NumbersTranslate};
+ghost use Rattle.short_games.specs.NumberLaws.{SimplestIsValue, FittingHaveSimplest, NumbersFit};
+ghost use Rattle.short_games.specs.StopLaws.{IsUnderLeftStop, IsOverRightStop, StopsAreOrdered, StopsExist};
+ghost use Rattle.short_games.specs.TextLaws.{TextsAreOneToOne, TextsTellGames};
+ghost use Rattle.short_games.specs.CanonicalLaws.{EachHasCanonical, OptionsAreFollowers};
+ghost use Rattle.short_games.specs.KnownValues.{KnownNumbers, KnownOrder, KnownSums, KnownCanonical, KnownStops, KnownWalls};
+ghost use Rattle.short_games.specs.WallLaws.{WallsExist, WallsAreUnique, WallsGoOn, WallsBeginAtStops, TemperaturesExist, NoneBetween, NoneBendsBetween, WallsAreOnGrids};
+
+/// The order of games is a preorder, and what is less or confused is what is not at least (Conway).
+pub fn order_laws()
+    ensures is { OrderIs }
+    ensures confused { ConfusedIs }
+    ensures reflexive { IsReflexive }
+    ensures transitive { IsTransitive }
+{}
+
+/// Sums keep the order, and each game cancels its negative (Conway). The incentive of one game's option is at least that of
+/// another game's option exactly where to move to the one and leave the other game is at least as good as the other way
+/// round.
+pub fn sum_laws()
+    ensures sums { SumsKeepOrder }
+    ensures negative { CancelsNegative }
+    ensures dominated { IncentiveDominates }
+    ensures back { IncentiveDominatesBack }
+{}
+
+/// Number avoidance: beside games that are no numbers, moves in numbers aren't needed. Number translation: to add a number
+/// to a canonical game that is no number is to add it to each option. Where a number fits between the options of a game, the
+/// game is the simplest such number, and between those of a number a number fits (Conway).
+pub fn number_laws()
+    ensures left { LeftAvoidsNumbers }
+    ensures right { RightAvoidsNumbers }
+    ensures translation { NumbersTranslate }
+    ensures simplest { SimplestIsValue }
+    ensures fitting { FittingHaveSimplest }
+    ensures fit { NumbersFit }
+{}
+
+/// Canonical games have stops, which bound them, and the left stop is at least the right one (Siegel).
+pub fn stop_laws()
+    ensures exist { StopsExist }
+    ensures under { IsUnderLeftStop }
+    ensures over { IsOverRightStop }
+    ensures ordered { StopsAreOrdered }
+{}
+
+/// A tree is known by its text, and a game by the text of its canonical form.
+pub fn text_laws()
+    ensures trees { TextsAreOneToOne }
+    ensures games { TextsTellGames }
+{}
+
+/// Each game has exactly one canonical form (Conway). It is made of followers of the options' canonical forms.
+pub fn canonical_laws()
+    ensures one { EachHasCanonical }
+    ensures followers { OptionsAreFollowers }
+{}
+
+/// A canonical game has exactly one left and one right wall, on each fine grid of places; they begin at its stops, go
+/// straight from one place of such a grid to the next, and of a game that is no number they meet at one of the places.
+pub fn wall_laws()
+    ensures exist { WallsExist }
+    ensures unique { WallsAreUnique }
+    ensures go_on { WallsGoOn }
+    ensures begin { WallsBeginAtStops }
+    ensures temperature { TemperaturesExist }
+    ensures between { NoneBetween }
+    ensures bends { NoneBendsBetween }
+    ensures rule { WallsAreOnGrids }
+{}
+
+/// Values that every book has (0, 1/2, star, up, {2|0}, a tiny, the nimber of 2) as instances of the definitions.
+pub fn known_values()
+    ensures numbers { KnownNumbers }
+    ensures order { KnownOrder }
+    ensures sums { KnownSums }
+    ensures canonical { KnownCanonical }
+    ensures stops { KnownStops }
+    ensures walls { KnownWalls }
+{}
