@@ -10,7 +10,7 @@ use Rattle.go_grid.specs.Marks.{IsMarked, Marks}
 use Rattle.go_grid.specs.Parts.{label}
 use Rattle.benson_life.specs.declared.eyes.Eye.{Eye}
 use Rattle.benson_life.specs.declared.surveys.Survey.{Survey}
-use Rattle.benson_life.specs.Eyes.{AreEyes, HasTwoWalledEyes, HasWalledEye}
+use Rattle.benson_life.specs.inner.Eyes.{AreEyes, HasTwoWalledEyes, HasWalledEye}
 use Rattle.go_grid.proofs.PointsLemmas.{Noted}
 
 -- the eye at a place of the list

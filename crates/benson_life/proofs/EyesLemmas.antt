@@ -12,9 +12,9 @@ use Rattle.go_grid.specs.Parts.{label}
 use Rattle.go_grid.proofs.WalkLemmas.{joined_back}
 use Rattle.benson_life.specs.declared.eyes.Eye.{Eye}
 use Rattle.benson_life.specs.declared.surveys.Survey.{Survey}
-use Rattle.benson_life.specs.Eyes.{AreEyes, HasTwoWalledEyes, HasWalledEye, IsOfChain, IsPairOf, IsVitalPair}
+use Rattle.benson_life.specs.inner.Eyes.{AreEyes, HasTwoWalledEyes, HasWalledEye, IsOfChain, IsPairOf, IsVitalPair}
 use Rattle.benson_life.specs.Life.{HasTwoEyes, IsEye, IsWalledBy, IsVital}
-use Rattle.benson_life.specs.Survey.{IsSurvey}
+use Rattle.benson_life.specs.inner.Survey.{IsSurvey}
 use Rattle.benson_life.proofs.StandLemmas.{region_empty}
 use Rattle.benson_life.proofs.PartsLemmas.{label_in, label_own}
 use Rattle.benson_life.proofs.SurveyLemmas.{empty_lacks, region_of, vital_at, liberty_is}

@@ -9,9 +9,9 @@ use Rattle.go_grid.specs.Parts.{label}
 use Rattle.go_grid.proofs.NearLemmas.{next_back}
 use Rattle.go_grid.proofs.WalkLemmas.{joined_back, joined_end, joined_join}
 use Rattle.benson_life.specs.declared.surveys.Survey.{Survey}
-use Rattle.benson_life.specs.Eyes.{IsOfChain}
+use Rattle.benson_life.specs.inner.Eyes.{IsOfChain}
 use Rattle.benson_life.specs.Life.{InRegion, IsVital, IsWalledBy}
-use Rattle.benson_life.specs.Survey.{IsSurvey}
+use Rattle.benson_life.specs.inner.Survey.{IsSurvey}
 use Rattle.benson_life.proofs.PartsLemmas.{one_part}
 use Rattle.go_grid.proofs.BoardLemmas.{empty_not_stone}
 

@@ -3,10 +3,10 @@
 ghost use Rattle.std.specs.Prelude.{◌≡◌, ℕ, ◌<◌, length, All, sum_by};
 ghost use Rattle.std.specs.List.Sorted.{IsStrictlyIncreasing};
 ghost use Rattle.go_grid.specs.Marks.{IsMarked, Lists, Marks};
-ghost use Rattle.benson_life.specs.Eyes.{AreEyes, HasWalledEye};
+ghost use Rattle.benson_life.specs.inner.Eyes.{AreEyes, HasWalledEye};
 ghost use Rattle.benson_life.specs.Held.{IsHeld, worth};
 ghost use Rattle.benson_life.specs.Life.{IsAlive, IsCounted};
-ghost use Rattle.benson_life.specs.Survey.{IsSurvey};
+ghost use Rattle.benson_life.specs.inner.Survey.{IsSurvey};
 
 use crate::eyes::Eye;
 use crate::surveys::Survey;

@@ -4,9 +4,9 @@ ghost use Rattle.std.specs.Prelude.{◌≡◌, ℕ, ◌<◌, ◌↔◌, ◌⊎�
 ghost use Rattle.go_grid.specs.Chain.{IsLiberty, IsSettled};
 ghost use Rattle.go_grid.specs.Board.{HasStone, IsEmpty, Lacks};
 ghost use Rattle.go_grid.specs.Parts.{label};
-ghost use Rattle.benson_life.specs.Eyes.{AreEyes, IsOfChain, IsPairOf, IsVitalPair};
+ghost use Rattle.benson_life.specs.inner.Eyes.{AreEyes, IsOfChain, IsPairOf, IsVitalPair};
 ghost use Rattle.benson_life.specs.Life.{IsVital};
-ghost use Rattle.benson_life.specs.Survey.{IsSurvey};
+ghost use Rattle.benson_life.specs.inner.Survey.{IsSurvey};
 
 use crate::surveys::Survey;
 use go_grid::{Board, Colour, MOST_POINTS, NearPoints, Point, Points, label_of};

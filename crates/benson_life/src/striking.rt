@@ -5,9 +5,9 @@ ghost use Rattle.std.specs.Bool.{OnFalse, OnTrue};
 ghost use Rattle.go_grid.specs.Board.{HasStone};
 ghost use Rattle.go_grid.specs.Marks.{IsMarked, Marks};
 ghost use Rattle.go_grid.specs.Parts.{label};
-ghost use Rattle.benson_life.specs.Eyes.{AreEyes, HasWalledEye, HasTwoWalledEyes};
+ghost use Rattle.benson_life.specs.inner.Eyes.{AreEyes, HasWalledEye, HasTwoWalledEyes};
 ghost use Rattle.benson_life.specs.Life.{HasTwoEyes, IsAlive};
-ghost use Rattle.benson_life.specs.Survey.{IsSurvey};
+ghost use Rattle.benson_life.specs.inner.Survey.{IsSurvey};
 
 use crate::eyes::Eye;
 use crate::surveys::Survey;

@@ -1,7 +1,7 @@
 //! The chains and regions of one colour.
 
 ghost use Rattle.std.specs.Prelude.{◌*◌};
-ghost use Rattle.benson_life.specs.Survey.{IsSurvey};
+ghost use Rattle.benson_life.specs.inner.Survey.{IsSurvey};
 
 use go_grid::{Board, Colour, Labels, Points, components};
 

@@ -5,7 +5,7 @@ ghost use Rattle.go_grid.specs.Board.{Lacks};
 ghost use Rattle.go_grid.specs.Marks.{IsMarked, IsWithin, Marks, Touches};
 ghost use Rattle.go_grid.specs.Parts.{label};
 ghost use Rattle.benson_life.specs.Life.{IsWalledBy};
-ghost use Rattle.benson_life.specs.Survey.{IsSurvey};
+ghost use Rattle.benson_life.specs.inner.Survey.{IsSurvey};
 
 use crate::surveys::Survey;
 use go_grid::{Board, Colour, Labels, MOST_POINTS, Point, Points, Size, label_of, touches};

@@ -31,8 +31,12 @@ impl MemorySource {
     /// Gives `bytes` in pieces of at most `piece` bytes. The calls in `failing` fail, counted from 0.
     pub fn new(bytes: Vec<u8>, piece: usize, failing: Vec<u64>) -> Self
         requires { 1 ≤ piece }
-        ensures { result ≡ record { left = bytes.items; piece = piece; calls = uncalled
-            failing.items } }
+        ensures { result ≡ record {
+          left = bytes.items;
+          piece = piece;
+          calls = uncalled
+              failing.items;
+        } }
     {
         MemorySource {
             bytes,

@@ -44,8 +44,7 @@ impl MemoryShelf {
     #[tactic(auto, using(crate::proofs::Kept::files_after, crate::proofs::Kept::files_same))]
     pub fn add(&mut self, name: &str, bytes: Vec<u8>) -> Result<(), AllocError>
         ensures ok { OnOk result
-            (self.new ≡ record self.old { files = map.insert self.old.files name.now bytes.items })
-            }
+            (self.new ≡ record self.old { files = map.insert self.old.files name.now bytes.items }) }
         ensures err { OnErr result (self.new ≡ self.old) }
     {
         let name = String::from_str(*self.failing.allocator(), name)?;
@@ -56,8 +55,12 @@ impl MemoryShelf {
     /// The load of this number fails, counted from 0. At an error the shelf is as before.
     pub fn fail_at(&mut self, call: u64) -> Result<(), AllocError>
         ensures ok { OnOk result
-            (self.new ≡ record self.old { calls = record self.old.calls { failing =
-            self.old.calls.failing ++ call ∷ [] } }) }
+            (self.new ≡ record self.old {
+              calls = record self.old.calls {
+                failing =
+                    self.old.calls.failing ++ call ∷ [];
+              };
+            }) }
         ensures err { OnErr result (self.new ≡ self.old) }
     {
         Ok(self.failing.push(call)?)
@@ -79,8 +82,10 @@ impl Shelf for MemoryShelf {
         ensures cause { FailsByCount self.old.calls.faults self.new.calls.faults result }
         ensures named { has_failed result ≡ fails_next self.old.calls }
         ensures calls { self.new.calls ≡ counted self.old.calls (has_failed result) }
-        ensures asked { self.new ≡ record self.old { calls = counted self.old.calls
-            (fails_next self.old.calls) } }
+        ensures asked { self.new ≡ record self.old {
+          calls = counted self.old.calls
+              (fails_next self.old.calls);
+        } }
     {
         let call = self.calls;
         self.calls = call.saturating_add(1);

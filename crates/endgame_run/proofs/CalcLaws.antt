@@ -15,7 +15,7 @@ use Rattle.endgame_run.specs.declared.status.Status.TheVariants as status
 use Rattle.endgame_run.specs.Calc.{IsCalc}
 use Rattle.endgame_run.specs.File.{Outside}
 use Rattle.endgame_run.specs.Laws.{HasOneOutcome}
-use Rattle.endgame_run.specs.Top.{IsCalcRun}
+use Rattle.endgame_run.specs.inner.Top.{IsCalcRun}
 use Rattle.endgame_run.specs.Verdict.{HasCause, IsDecided, IsTextAlone, IsWritten}
 use Rattle.endgame_run.proofs.TopLaws.{caused, written}
 

@@ -17,7 +17,7 @@ use Rattle.endgame_run.specs.declared.status.Status.TheVariants.{CannotRead, Can
 use Rattle.endgame_run.specs.declared.status.Status.TheVariants as status
 use Rattle.endgame_run.specs.Engine.{AreFailedLoads, IsEnginePlay, IsEngineStatus, IsEngineStopped, IsEngineWritten}
 use Rattle.endgame_run.specs.File.{Outside, TakesAtMost}
-use Rattle.endgame_run.specs.Top.{IsClosed, IsFinished}
+use Rattle.endgame_run.specs.inner.Top.{IsClosed, IsFinished}
 use Rattle.endgame_run.proofs.SessionLaws.{behind, rose_later, told_written}
 
 -- nothing is written for an empty text

@@ -15,7 +15,7 @@ use Rattle.endgame_run.specs.declared.question.Opened.{Opened}
 use Rattle.endgame_run.specs.declared.question.Opened.TheVariants.{Game}
 use Rattle.endgame_run.specs.File.{Outside, dash, told_of}
 use Rattle.endgame_run.specs.Game.{IsGameRun}
-use Rattle.endgame_run.specs.Top.{IsGameOutcome, IsOpened, IsPlayedGame, IsPlayRun}
+use Rattle.endgame_run.specs.inner.Top.{IsGameOutcome, IsOpened, IsPlayedGame, IsPlayRun}
 use Rattle.endgame_run.specs.Verdict.{AreToPlay, AskAbout, HasCause, IsWritten, limits_of}
 use Rattle.endgame_run.proofs.TopLaws.{caused, undone, written}
 

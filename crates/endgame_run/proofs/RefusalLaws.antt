@@ -27,7 +27,7 @@ use Rattle.endgame_run.specs.declared.status.Status.{Status}
 use Rattle.endgame_run.specs.declared.status.Status.TheVariants as status
 use Rattle.endgame_run.specs.declared.question.Question.TheVariants as question
 use Rattle.endgame_run.specs.Refusal.{HasStatus, NamesPoints, NamesRegion, form_line, refusal_line}
-use Rattle.endgame_run.specs.Top.{IsValuesReport}
+use Rattle.endgame_run.specs.inner.Top.{IsValuesReport}
 use Rattle.endgame_run.specs.Verdict.{IsPositionAnswer, IsRefused}
 use Rattle.endgame_run.proofs.TopLaws.{refused_answer, refused_question}
 

@@ -15,7 +15,7 @@ use Rattle.endgame_run.specs.declared.status.Status.TheVariants.{CannotRead, Can
 use Rattle.endgame_run.specs.declared.status.Status.TheVariants as status
 use Rattle.endgame_run.specs.Game.{IsGameWritten, IsOver, IsSessionOf, IsSessionStatus, IsStopped, beginning}
 use Rattle.endgame_run.specs.File.{TakesAtMost}
-use Rattle.endgame_run.specs.Top.{IsFinished, IsPlayRun}
+use Rattle.endgame_run.specs.inner.Top.{IsFinished, IsPlayRun}
 use Rattle.play_session.specs.Lines.{UsesLines}
 
 -- a session that holds nothing begins with the bytes of the source

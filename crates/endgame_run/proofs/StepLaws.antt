@@ -18,7 +18,7 @@ use Rattle.desk_io.specs.Files.{IsTold}
 use Rattle.sgf_go.specs.File.{Reads}
 use Rattle.endgame_run.specs.File.{told_of}
 use Rattle.desk_io.specs.Files.{Files}
-use Rattle.endgame_run.specs.Top.{AreToldSteps, IsModest}
+use Rattle.endgame_run.specs.inner.Top.{AreToldSteps, IsModest}
 use Rattle.sgf_go.proofs.OneReading.{one_setup}
 use Rattle.endgame_run.proofs.PoseLaws.{one_number, trial_unposed}
 use Rattle.endgame_run.specs.Verdict.{AreNeededRegions, AreSteps, AreStepsFor, Asks, HasLimits, NeedRegions, Pose, limits_of}

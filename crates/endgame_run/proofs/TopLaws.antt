@@ -28,7 +28,7 @@ use Rattle.endgame_run.specs.Found.{IsFileFault, IsFound, IsPositionOf}
 use Rattle.endgame_run.specs.Refusal.{HasStatus}
 use Rattle.std.specs.Str.{bytes_eq}
 use Rattle.std.proofs.lemmas.Slice.Eq.{bytes_eq-Decides}
-use Rattle.endgame_run.specs.Top.{IsBegun, IsFileRun, IsFinished, IsOpened}
+use Rattle.endgame_run.specs.inner.Top.{IsBegun, IsFileRun, IsFinished, IsOpened}
 use Rattle.endgame_run.specs.Verdict.{IsAnswerOn, IsPositionAnswer, IsRefusalOf, IsRefused, IsAnswer, AreToPlay, AskAbout, IsDecided, HasCause, IsWritten, limits_of}
 
 -- a position's status is an answer about its file

@@ -17,7 +17,7 @@ use Rattle.report.specs.Trial.{IsTrialText}
 use Rattle.endgame_run.specs.declared.status.Status.{Status}
 use Rattle.endgame_run.specs.declared.status.Status.TheVariants.{Done}
 use Rattle.endgame_run.specs.File.{Outside}
-use Rattle.endgame_run.specs.Top.{IsTrialRun}
+use Rattle.endgame_run.specs.inner.Top.{IsTrialRun}
 use Rattle.endgame_run.specs.Trial.{IsTrial, IsTrialPosition, IsWantOfMemory, trial_limits}
 use Rattle.endgame_run.specs.Verdict.{HasCause, IsDecided, IsTextAlone, IsWritten}
 use Rattle.endgame_run.proofs.TopLaws.{caused, written}

@@ -10,7 +10,7 @@ pub mod Calc
 pub mod Verdict
 pub mod Game
 pub mod Engine
-pub mod Top
 pub mod Laws
 pub mod Output
 pub mod Complete
+pub mod inner

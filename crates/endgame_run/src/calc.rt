@@ -2,7 +2,7 @@
 
 ghost use Rattle.std.specs.Prelude.{◌≡◌, ◌≤◌, IfOk, string_bytes};
 ghost use Rattle.endgame_run.specs.Calc.{IsCalc, expression_fault, expression_line, expression_line_at};
-ghost use Rattle.endgame_run.specs.Top.{IsCalcRun};
+ghost use Rattle.endgame_run.specs.inner.Top.{IsCalcRun};
 
 use crate::ending::finish;
 use crate::question::{Line, Report};

@@ -1,7 +1,7 @@
 //! The end of a run.
 
 ghost use Rattle.std.specs.Prelude.{◌≤◌};
-ghost use Rattle.endgame_run.specs.Top.{IsFinished};
+ghost use Rattle.endgame_run.specs.inner.Top.{IsFinished};
 
 use crate::status::Status;
 use desk_io::Sink;

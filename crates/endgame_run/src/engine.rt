@@ -4,7 +4,7 @@ ghost use Rattle.std.specs.Prelude.{◌≡◌, ◌≤◌, false};
 ghost use Rattle.desk_io.specs.Outside.{Rose};
 ghost use Rattle.endgame_run.specs.Engine.{IsEnginePlay};
 ghost use Rattle.endgame_run.specs.File.{TakesAtMost, faults, outside, world};
-ghost use Rattle.endgame_run.specs.Top.{IsClosed};
+ghost use Rattle.endgame_run.specs.inner.Top.{IsClosed};
 
 use crate::ending::finish;
 use crate::status::Status;

@@ -6,7 +6,7 @@ ghost use Rattle.endgame_solver.specs.declared.limits.Limits.{Limits};
 ghost use Rattle.endgame_run.specs.declared.question.Question.TheVariants.{Solve};
 ghost use Rattle.endgame_run.specs.File.{TakesAtMost, count_of, dash, faults, outside, told_of, world};
 ghost use Rattle.endgame_run.specs.Found.{HasRanges};
-ghost use Rattle.endgame_run.specs.Top.{AreToldSteps, IsGameOutcome, IsOpened, IsPlayRun, IsPlayedGame};
+ghost use Rattle.endgame_run.specs.inner.Top.{AreToldSteps, IsGameOutcome, IsOpened, IsPlayRun, IsPlayedGame};
 
 use crate::ending::finish;
 use crate::finding::find_position;

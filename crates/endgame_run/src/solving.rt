@@ -7,7 +7,7 @@ ghost use Rattle.endgame_solver.specs.Faults.{most_steps};
 ghost use Rattle.region_cut.specs.Cut.{AreRegionsOfPlay};
 ghost use Rattle.report.specs.Values.{IsRefusal};
 ghost use Rattle.endgame_run.specs.Refusal.{HasStatus, NamesPoints, NamesRegion, form_line, refusal_line};
-ghost use Rattle.endgame_run.specs.Top.{IsBegun, IsValuesReport};
+ghost use Rattle.endgame_run.specs.inner.Top.{IsBegun, IsValuesReport};
 ghost use Rattle.endgame_run.specs.Verdict.{IsPositionAnswer};
 
 use crate::faults::point_text;

@@ -16,7 +16,7 @@ ghost use Rattle.endgame_run.specs.File.{TakesAtMost, count_of, dash, faults, ou
 ghost use Rattle.endgame_run.specs.Found.{HasRanges};
 ghost use Rattle.endgame_run.specs.Game.{EngineKeepsWin, IsGameRun};
 ghost use Rattle.endgame_run.specs.Output.{IsCaused, IsOutput, IsPartOutput};
-ghost use Rattle.endgame_run.specs.Top.{AreToldSteps, IsAsked, IsFileRun, IsModest};
+ghost use Rattle.endgame_run.specs.inner.Top.{AreToldSteps, IsAsked, IsFileRun, IsModest};
 ghost use Rattle.endgame_run.specs.Verdict.{AreNeededRegions, AreSteps, AreStepsFor, AskShelf, AskToPlay, AskToSolve, IsAnswer, IsPositionAnswer, NeedRegions, ReadShelf, ReadSource, WritesMove, WritesWinner, limits_of};
 
 use crate::calc::run_calc;

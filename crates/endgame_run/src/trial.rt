@@ -2,7 +2,7 @@
 
 ghost use Rattle.std.specs.Prelude.{◌≤◌, IfOk};
 ghost use Rattle.endgame_run.specs.Trial.{IsTrial, IsWantOfMemory};
-ghost use Rattle.endgame_run.specs.Top.{IsTrialRun};
+ghost use Rattle.endgame_run.specs.inner.Top.{IsTrialRun};
 ghost use Rattle.endgame_run.specs.Verdict.{AreTrialSteps};
 
 use crate::ending::finish;

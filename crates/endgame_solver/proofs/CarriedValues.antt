@@ -21,8 +21,8 @@ use Rattle.local_value.proofs.GraphLaws.{position_at}
 use Rattle.region_book.proofs.CarryLaws.{carries_back}
 use Rattle.region_book.proofs.SymmetryLaws.{back}
 use Rattle.endgame_solver.specs.ShapeValues.{game_after}
-use Rattle.endgame_solver.specs.Sharing.{AreTurnedValues}
-use Rattle.endgame_solver.specs.Solving.{IsGraphWithin, IsSolvedBy}
+use Rattle.endgame_solver.specs.inner.Sharing.{AreTurnedValues}
+use Rattle.endgame_solver.specs.inner.Solving.{IsGraphWithin, IsSolvedBy}
 use Rattle.endgame_solver.specs.Views.{Serves}
 use Rattle.endgame_solver.specs.declared.limits.Limits.{Limits}
 use Rattle.endgame_solver.specs.declared.views.View.{View}

@@ -20,8 +20,8 @@ use Rattle.local_value.specs.PositionTree.{IsValueOf}
 use Rattle.sum_outcome.specs.Sums.{sum_tree}
 use Rattle.endgame_solver.specs.Regions.{Spot, region_at, AreGraphs, spot_in, moves_at, InRegion, HasCells, IsShown}
 use Rattle.endgame_solver.specs.SumGame.{State, balance}
-use Rattle.endgame_solver.specs.Valued.{AreValued}
-use Rattle.endgame_solver.specs.WholeParts.{AllShown, IsSeenAs}
+use Rattle.endgame_solver.specs.inner.Valued.{AreValued}
+use Rattle.endgame_solver.specs.inner.WholeParts.{AllShown, IsSeenAs}
 use Rattle.endgame_solver.specs.Held.{AreSolved, IsAt, AreSummed, place_at}
 use Rattle.endgame_solver.specs.Solved.{ArePresent, HoldsCells, balance_units}
 use Rattle.endgame_solver.proofs.BoardLaws.{enough}

@@ -18,7 +18,7 @@ use Rattle.short_games.specs.Tree.{Tree}
 use Rattle.endgame_solver.specs.Faults.{AreSound, IsSound}
 use Rattle.endgame_solver.specs.Held.{AreSolved, AreSummed, IsAt, IsKept, ids_at, place_at}
 use Rattle.endgame_solver.specs.Regions.{AreGraphs, IsShown, graph_at, no_region, region_at, spot_in}
-use Rattle.endgame_solver.specs.Solving.{AreSolvedBelow}
+use Rattle.endgame_solver.specs.inner.Solving.{AreSolvedBelow}
 use Rattle.endgame_solver.specs.declared.limits.Limits.{Limits}
 use Rattle.endgame_solver.proofs.BeginLaws.{order_short}
 use Rattle.endgame_solver.proofs.BoardLaws.{opening_shown}

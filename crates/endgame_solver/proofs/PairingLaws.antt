@@ -10,7 +10,7 @@ use Rattle.short_games.specs.TextOrder.{IsCanonicalFor}
 use Rattle.game_canon.specs.Outcomes.{AreWithin, IsCanonicalId}
 use Rattle.game_canon.proofs.ChangeSteps.{extends-on}
 use Rattle.endgame_solver.specs.ShapeValues.{game_after}
-use Rattle.endgame_solver.specs.Sharing.{AreNegatives, IsTurnedValue}
+use Rattle.endgame_solver.specs.inner.Sharing.{AreNegatives, IsTurnedValue}
 
 -- each of the first n places holds what it is to hold
 pub record Filled (Is : ℕ → ℕ → Type 0) (n : ℕ) (places : List ℕ) : Type 0 where

@@ -19,8 +19,8 @@ use Rattle.region_cut.proofs.ApartLemmas.{only_region, other_kept}
 use Rattle.region_cut.proofs.LocalBoardLemmas.{holds_after}
 use Rattle.local_value.specs.LocalGame.{Step}
 use Rattle.endgame_solver.specs.Regions.{Spot, no_region, region_at, graph_at, AreGraphs, spot_in, moves_at, InRegion, HasCells, IsShown}
-use Rattle.endgame_solver.specs.WholeParts.{OthersStay, IsPlayedIn, IsPlayableIn, IsLocalPlay}
-use Rattle.local_value.specs.GraphMoves.{step_of}
+use Rattle.endgame_solver.specs.inner.WholeParts.{OthersStay, IsPlayedIn, IsPlayableIn, IsLocalPlay}
+use Rattle.local_value.specs.inner.GraphMoves.{step_of}
 use Rattle.local_value.proofs.GraphLaws.{IsEdgeFor, edge_of, move_of, next_place}
 use Rattle.local_value.proofs.StepLaws.{steps-out, steps-in}
 use Rattle.go_grid.proofs.PlayLemmas.{long_after}

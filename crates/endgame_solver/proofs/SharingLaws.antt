@@ -24,9 +24,9 @@ use Rattle.endgame_solver.specs.Faults.{AreSmall}
 use Rattle.endgame_solver.specs.Held.{ids_at}
 use Rattle.endgame_solver.specs.Regions.{graph_at, no_graph, no_region, region_at}
 use Rattle.endgame_solver.specs.ShapeValues.{AreLinked}
-use Rattle.endgame_solver.specs.Sharing.{AreKinds, AreSharedBy, AreTurnedValues, IsKind, IsViewFor, SharesBelow}
+use Rattle.endgame_solver.specs.inner.Sharing.{AreKinds, AreSharedBy, AreTurnedValues, IsKind, IsViewFor, SharesBelow}
 use Rattle.endgame_solver.specs.Solved.{IsNumberOfShapes}
-use Rattle.endgame_solver.specs.Solving.{IsSolvedBy}
+use Rattle.endgame_solver.specs.inner.Solving.{IsSolvedBy}
 use Rattle.endgame_solver.specs.Views.{AreViews, Serves, IsView, no_view, own, view_at}
 use Rattle.endgame_solver.specs.declared.limits.Limits.{Limits}
 use Rattle.endgame_solver.specs.declared.sharing.Book.{Book}

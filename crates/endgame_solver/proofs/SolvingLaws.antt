@@ -12,7 +12,7 @@ use Rattle.local_value.specs.PositionTree.{IsValueOf}
 use Rattle.endgame_solver.specs.Faults.{AreRefused, AreSmall, most_steps}
 use Rattle.endgame_solver.specs.Held.{ids_at, most_units}
 use Rattle.endgame_solver.specs.Regions.{no_graph, no_region, region_at, graph_at}
-use Rattle.endgame_solver.specs.Solving.{AreSolvedBelow, IsRefusalOf, IsSolvedBy}
+use Rattle.endgame_solver.specs.inner.Solving.{AreSolvedBelow, IsRefusalOf, IsSolvedBy}
 use Rattle.endgame_solver.specs.declared.limits.Limits.{Limits}
 use Rattle.endgame_solver.specs.declared.faults.SolveError.{SolveError}
 use Rattle.endgame_solver.specs.declared.faults.SolveError.TheVariants.{Points, Positions, Cycle, Form, Memory}

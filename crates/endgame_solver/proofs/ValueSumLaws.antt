@@ -21,8 +21,8 @@ use Rattle.local_value.specs.LocalGame.{tree_within}
 use Rattle.local_value.specs.PositionTree.{IsValueOf}
 use Rattle.endgame_solver.specs.Regions.{Spot, region_at, AreGraphs, moves_at, InRegion, HasCells, IsShown}
 use Rattle.endgame_solver.specs.SumGame.{State, AllEnd, parts_tree, purses_tree, state_tree, balance}
-use Rattle.endgame_solver.specs.Valued.{AreValued}
-use Rattle.endgame_solver.specs.WholeParts.{IsSeenAs}
+use Rattle.endgame_solver.specs.inner.Valued.{AreValued}
+use Rattle.endgame_solver.specs.inner.WholeParts.{IsSeenAs}
 use Rattle.endgame_solver.proofs.PursesLaws.{purses-balance}
 use Rattle.endgame_solver.proofs.RegionPlayLaws.{region_play}
 use Rattle.endgame_solver.proofs.RegionTreeLaws.{few_taken, spot_ends, tree_same}

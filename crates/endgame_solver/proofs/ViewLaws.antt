@@ -10,7 +10,7 @@ use Rattle.local_graph.specs.Graph.{Graph, edges_at}
 use Rattle.short_games.specs.Tree.{Tree}
 use Rattle.endgame_solver.specs.Held.{IsKept, IsStoneAt, IsStoneEdge, ids_at, place_at}
 use Rattle.endgame_solver.specs.Regions.{region_at}
-use Rattle.endgame_solver.specs.Sharing.{AreSharedBy}
+use Rattle.endgame_solver.specs.inner.Sharing.{AreSharedBy}
 use Rattle.endgame_solver.specs.Views.{IsHeld, ShowsAll, ShowsPlaces, own, seen_graph, seen_ids, view_at}
 use Rattle.endgame_solver.specs.declared.limits.Limits.{Limits}
 use Rattle.endgame_solver.specs.declared.sharing.Book.{Book}

@@ -29,7 +29,7 @@ use Rattle.short_games.proofs.NumberLaws.{num-plus_le, num-le_plus}
 use Rattle.go_grid.specs.declared.grid.Colour.TheVariants.{Black, White}
 use Rattle.whole_rules.specs.declared.money.Purses.{Purses}
 use Rattle.endgame_solver.specs.SumGame.{State, AllEnd, parts_tree, purses_tree, state_tree, token_tree}
-use Rattle.endgame_solver.specs.WholeParts.{AllShown}
+use Rattle.endgame_solver.specs.inner.WholeParts.{AllShown}
 use Rattle.endgame_solver.proofs.WholeLaws.{Sees, bookkeeping, whole_decomposes}
 use Rattle.local_graph.specs.FiniteLocalPlay.{HasNoCycle}
 use Rattle.region_cut.specs.Cut.{AreRegionsOfPlay}

@@ -15,7 +15,7 @@ use Rattle.whole_rules.proofs.WallLaws.{Keeps, keeps_move}
 use Rattle.sum_outcome.specs.Players.{LosesGame}
 use Rattle.local_value.specs.LocalGame.{Step, TakesAtMost}
 use Rattle.endgame_solver.specs.SumGame.{State, Leads, StepIn, AllEnd, state_tree}
-use Rattle.endgame_solver.specs.WholeParts.{OthersStay, IsLocalPlay, AllShown, IsSeenAs}
+use Rattle.endgame_solver.specs.inner.WholeParts.{OthersStay, IsLocalPlay, AllShown, IsSeenAs}
 use Rattle.endgame_solver.proofs.Decomposition.{decomposes}
 
 module _ (P : Type 0) (moves : Colour → P → List (Step P)) (InPart : ℕ → ℕ → Type 0) (Shown : Board → ℕ → P → Type 0) where

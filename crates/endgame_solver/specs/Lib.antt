@@ -1,8 +1,6 @@
 pub mod SumGame
 pub mod Laws
-pub mod WholeParts
 pub mod Regions
-pub mod Valued
 pub mod Decomposition
 pub mod ShapeValues
 pub mod Bookkeeping
@@ -10,6 +8,5 @@ pub mod Faults
 pub mod Solved
 pub mod Held
 pub mod Code
-pub mod Solving
 pub mod Views
-pub mod Sharing
+pub mod inner

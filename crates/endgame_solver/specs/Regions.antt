@@ -8,7 +8,7 @@ use Rattle.local_graph.specs.Graph.{Graph, edges_at}
 use Rattle.region_cut.specs.Cut.{AreRegionsOfPlay}
 use Rattle.region_cut.specs.LocalBoard.{HoldsPosition, PlaysLocally}
 use Rattle.local_value.specs.LocalGame.{Step}
-use Rattle.local_value.specs.GraphMoves.{steps_of}
+use Rattle.local_value.specs.inner.GraphMoves.{steps_of}
 use Rattle.local_value.specs.Values.{IsGraphOf, IsPlaceOf}
 
 -- which region, and which place of its graph

@@ -6,7 +6,7 @@ ghost use Rattle.go_grid.specs.Region.{Region};
 ghost use Rattle.benson_life.specs.Territory.{IsTerritory};
 ghost use Rattle.region_cut.specs.LocalBoard.{PlaysLocally};
 ghost use Rattle.region_cut.specs.Cut.{AreRegionsOfPlay};
-ghost use Rattle.endgame_solver.specs.Solving.{FindsLarge};
+ghost use Rattle.endgame_solver.specs.inner.Solving.{FindsLarge};
 ghost use Rattle.endgame_solver.specs.Views.{seen_ids, view_at};
 
 use crate::sharing::Book;

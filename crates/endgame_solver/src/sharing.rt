@@ -6,7 +6,7 @@ ghost use Rattle.game_store.specs.Meaning.{AreIds, Extends};
 ghost use Rattle.region_book.specs.Law.{differ};
 ghost use Rattle.endgame_solver.specs.declared.sharing.Kind.{Kind};
 ghost use Rattle.endgame_solver.specs.Held.{ids_at};
-ghost use Rattle.endgame_solver.specs.Sharing.{AreNegatives, AreTurnedValues, IsTurnedValue, IsViewFor, PairsWith};
+ghost use Rattle.endgame_solver.specs.inner.Sharing.{AreNegatives, AreTurnedValues, IsTurnedValue, IsViewFor, PairsWith};
 
 use crate::views::View;
 use game_canon::negate;

@@ -4,8 +4,8 @@ ghost use Rattle.std.specs.Prelude.{◌≡◌, ℕ, ◌+◌, ◌^◌, ◌<◌, �
 ghost use Rattle.game_store.specs.Meaning.{Extends};
 ghost use Rattle.endgame_solver.specs.Faults.{named, AreRefused, AreSmall, most_steps};
 ghost use Rattle.endgame_solver.specs.Regions.{region_at};
-ghost use Rattle.endgame_solver.specs.Sharing.{AreSharedBy, SharesBelow};
-ghost use Rattle.endgame_solver.specs.Solving.{IsGraphWithin, IsRefusalOf, IsSolvedBy};
+ghost use Rattle.endgame_solver.specs.inner.Sharing.{AreSharedBy, SharesBelow};
+ghost use Rattle.endgame_solver.specs.inner.Solving.{IsGraphWithin, IsRefusalOf, IsSolvedBy};
 
 use crate::cycle_names::CycleNames;
 use crate::faults::SolveError;

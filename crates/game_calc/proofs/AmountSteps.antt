@@ -6,7 +6,7 @@ use Rattle.short_games.specs.Sum.{◌+ᵍ◌}
 use Rattle.short_games.proofs.SumLaws.{neg-le, plus-le_both}
 use Rattle.game_canon.specs.Outcomes.{IsCanonicalId}
 use Rattle.short_games.proofs.ReductionLaws.{same-canonical}
-use Rattle.game_calc.specs.Amounts.{IsAmount, IsBefore}
+use Rattle.game_calc.specs.inner.Amounts.{IsAmount, IsBefore}
 use Rattle.game_calc.specs.Expression.{Expression, tree_of, HasStepOutOfLimits}
 use Rattle.game_calc.specs.Expression.Expression.{game, opposite, sum}
 use Rattle.game_calc.specs.Steps.{IsOutOfLimits}

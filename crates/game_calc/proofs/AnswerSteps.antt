@@ -8,7 +8,7 @@ use Rattle.game_canon.specs.declared.order.Order.{Order}
 use Rattle.game_canon.specs.declared.order.Order.TheVariants.{Less, Equal, Greater, Confused}
 use Rattle.short_games.proofs.ReductionLaws.{same-canonical}
 use Rattle.game_lines.specs.Showings.{IsUnshown}
-use Rattle.game_calc.specs.Amounts.{IsAmount}
+use Rattle.game_calc.specs.inner.Amounts.{IsAmount}
 use Rattle.game_calc.specs.Answer.{IsAnswer, IsOrderText, IsPastLimit, IsShownRefusal, IsUnanswered}
 use Rattle.game_calc.specs.Expression.{Expression, tree_of}
 use Rattle.game_calc.specs.Expression.Line.{value, order}

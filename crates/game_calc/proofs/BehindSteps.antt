@@ -4,13 +4,13 @@ use Rattle.std.specs.Prelude.{Option, Ok, Err}
 use Rattle.std.proofs.lemmas.List.{length-append, same_from_push}
 use Rattle.short_games.specs.Tree.{Tree}
 use Rattle.game_store.specs.Meaning.{Extends}
-use Rattle.game_calc.specs.Amounts.{IsAmount, IsBefore}
+use Rattle.game_calc.specs.inner.Amounts.{IsAmount, IsBefore}
 use Rattle.game_calc.specs.Expression.{Expression, Line, ReadsTerms, ReadsLine, AfterFirst, ended, closed_by, kind, next, rest, sign_of, with_term, first_sign, first_bytes}
 use Rattle.game_calc.specs.Expression.Line.{value, order}
 use Rattle.game_calc.specs.Expression.Fault.{stray, unfinished}
 use Rattle.game_calc.specs.Expression.Outcome.{reads}
-use Rattle.game_calc.specs.Machine.{Frame, Answer, AfterTerm, BehindTerm, BehindSum, Rest, IsOpening, IsState, AreOpen, IsReading, IsTokenAt, IsAsked}
-use Rattle.game_calc.specs.Machine.State.{a_term, behind_term}
+use Rattle.game_calc.specs.inner.Machine.{Frame, Answer, AfterTerm, BehindTerm, BehindSum, Rest, IsOpening, IsState, AreOpen, IsReading, IsTokenAt, IsAsked}
+use Rattle.game_calc.specs.inner.Machine.State.{a_term, behind_term}
 use Rattle.game_calc.specs.declared.amounts.Amount.{Amount}
 use Rattle.game_calc.specs.declared.amounts.Opening.{Opening}
 use Rattle.game_calc.specs.declared.amounts.Sign.{Sign}

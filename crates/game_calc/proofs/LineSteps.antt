@@ -6,14 +6,14 @@ use Rattle.short_games.specs.Tree.{Tree}
 use Rattle.short_games.specs.TextOrder.{IsCanonicalFor}
 use Rattle.game_store.specs.Meaning.{Extends}
 use Rattle.game_text.specs.Reading.{ReadsText}
-use Rattle.game_calc.specs.Amounts.{IsAmount, IsBefore, IsHeld, IsHeldBefore}
+use Rattle.game_calc.specs.inner.Amounts.{IsAmount, IsBefore, IsHeld, IsHeldBefore}
 use Rattle.game_calc.specs.Expression.{Expression, Fault, Outcome, tree_of, ReadsTerm, ReadsTerms, ReadsLine, closed, kind, next, token, rest, sign_of, with_term, first_sign, first_bytes, most_open}
 use Rattle.game_calc.specs.Expression.Expression.{game}
 use Rattle.game_calc.specs.Expression.Outcome.{reads, refused}
 use Rattle.game_calc.specs.Expression.ReadsTerm.{a_game, a_group}
 use Rattle.game_calc.specs.Expression.ReadsTerms.{last, one_more, no_more}
-use Rattle.game_calc.specs.Machine.{Frame, State, Answer, AfterTerm, BehindTerm, BehindSum, Rest, IsOpening, IsState, AreOpen, IsReading, IsTokenAt}
-use Rattle.game_calc.specs.Machine.State.{a_term, behind_term}
+use Rattle.game_calc.specs.inner.Machine.{Frame, State, Answer, AfterTerm, BehindTerm, BehindSum, Rest, IsOpening, IsState, AreOpen, IsReading, IsTokenAt}
+use Rattle.game_calc.specs.inner.Machine.State.{a_term, behind_term}
 use Rattle.game_calc.specs.declared.amounts.Amount.{Amount}
 use Rattle.game_calc.specs.declared.amounts.Amount.TheVariants.{Known, TooLarge}
 use Rattle.game_calc.specs.declared.amounts.Opening.{Opening}

@@ -18,7 +18,7 @@ use Rattle.game_canon.specs.Outcomes.{IsCanonicalId}
 use Rattle.game_canon.specs.Reachable.{AreReachable}
 use Rattle.game_canon.proofs.NumberParts.{within-bounds}
 use Rattle.game_calc.specs.Steps.{IsPlace, IsOutOfLimits, IsPairRefusal, IsStepRefusal}
-use Rattle.game_calc.specs.Table.{AreRight, AreRowsKnown}
+use Rattle.game_calc.specs.inner.Table.{AreRight, AreRowsKnown}
 
 -- what a form is made of are its places
 place-of : (Ts : List Tree) → HaveForms Ts → (G : Tree) (id : ℕ) → id < length Ts → IsReached G (tree_at Ts id) → IsPlace G (tree_at Ts id)

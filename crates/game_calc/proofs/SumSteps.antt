@@ -24,7 +24,7 @@ use Rattle.game_canon.proofs.GameLaws.{has-left, left-has, has-right, right-has}
 use Rattle.game_canon.proofs.Sizes.{number-same}
 use Rattle.game_canon.proofs.SideLaws.{pick-append}
 use Rattle.game_calc.specs.Steps.{IsPairRefusal}
-use Rattle.game_calc.specs.Table.{AreNoted, AddsMoves, AreRight}
+use Rattle.game_calc.specs.inner.Table.{AreNoted, AddsMoves, AreRight}
 
 -- each tree of the one list is equal as a game to one of the other
 pub record AreAlike (As Bs : Trees) : Type 0 where

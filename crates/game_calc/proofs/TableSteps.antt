@@ -15,7 +15,7 @@ use Rattle.game_canon.specs.Changes.{AreClosed, AreKnown}
 use Rattle.game_canon.specs.Outcomes.{IsCanonicalId}
 use Rattle.game_canon.proofs.ChangeSteps.{extends-on}
 use Rattle.game_canon.proofs.GameLaws.{left-has, right-has}
-use Rattle.game_calc.specs.Table.{AreNoted, AddsSums, AreRight, IsRightSum, Grows, AreRowsKnown, AreInnerKnown, AreMovesKnown, same_pair, with_sum}
+use Rattle.game_calc.specs.inner.Table.{AreNoted, AddsSums, AreRight, IsRightSum, Grows, AreRowsKnown, AreInnerKnown, AreMovesKnown, same_pair, with_sum}
 
 -- the loop over the options of one side
 noted-push : (note : ℕ → Option ℕ) (is vs : List ℕ) (i v : ℕ) → AreNoted note is vs → note i ≡ Some v → AreNoted note (is ++ i ∷ []) (vs ++ v ∷ [])

@@ -11,14 +11,14 @@ use Rattle.game_text.specs.declared.errors.ReadError.{ReadError}
 use Rattle.game_text.specs.Reading.Fault.{bad_byte, bad_number, cut_short}
 use Rattle.game_canon.specs.Outcomes.{IsCanonicalId}
 use Rattle.game_canon.proofs.ChangeSteps.{extends-on}
-use Rattle.game_calc.specs.Amounts.{IsAmount, IsBefore, IsHeldBefore}
+use Rattle.game_calc.specs.inner.Amounts.{IsAmount, IsBefore, IsHeldBefore}
 use Rattle.game_calc.specs.Expression.{Expression, ReadsTerm, ReadsTerms, ReadsLine, BeginsNoTerm, fault_of, kind, next, token, rest, with_term, first_sign, first_bytes, most_open}
 use Rattle.game_calc.specs.Expression.Expression.{game}
 use Rattle.game_calc.specs.Expression.Fault.{stray, unfinished, deep}
 use Rattle.game_calc.specs.Expression.Outcome.{refused}
 use Rattle.game_calc.specs.Expression.ReadsTerm.{a_game, one_too_deep, none_left, no_term}
-use Rattle.game_calc.specs.Machine.{IsReading, IsState, IsTokenAt, IsTurn, IsTold, IsLineRefusal, IsGameRefusal}
-use Rattle.game_calc.specs.Machine.State.{a_term}
+use Rattle.game_calc.specs.inner.Machine.{IsReading, IsState, IsTokenAt, IsTurn, IsTold, IsLineRefusal, IsGameRefusal}
+use Rattle.game_calc.specs.inner.Machine.State.{a_term}
 use Rattle.game_calc.specs.declared.amounts.Amount.{Amount}
 use Rattle.game_calc.specs.declared.amounts.Amount.TheVariants.{Known}
 use Rattle.game_calc.specs.declared.amounts.Opening.{Opening}

@@ -4,7 +4,7 @@ ghost use Rattle.std.specs.Prelude.{◌<◌, ℕ, IfOk, Option, length};
 ghost use Rattle.game_store.specs.Meaning.{Extends};
 ghost use Rattle.game_calc.specs.Expression.{Expression, signed, with_term};
 ghost use Rattle.game_calc.specs.Expression.Expression.{opposite, sum};
-ghost use Rattle.game_calc.specs.Amounts.{IsAmount, IsBefore, IsHeld, IsHeldBefore};
+ghost use Rattle.game_calc.specs.inner.Amounts.{IsAmount, IsBefore, IsHeld, IsHeldBefore};
 ghost use Rattle.game_calc.specs.declared.amounts.Amount.TheVariants.{Known};
 
 use crate::sums::add;

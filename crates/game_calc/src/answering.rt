@@ -2,10 +2,10 @@
 
 ghost use Rattle.std.specs.Prelude.{◌≡◌, ◌<◌, ℕ, IfOk, IfErr, length};
 ghost use Rattle.short_games.specs.Tree.{tree_at};
-ghost use Rattle.game_calc.specs.Amounts.{IsAmount, IsHeld};
+ghost use Rattle.game_calc.specs.inner.Amounts.{IsAmount, IsHeld};
 ghost use Rattle.game_calc.specs.Answer.{IsAnswer, IsAnswered, IsCalcRefusal, IsOrderText, IsPastLimit, IsShown, IsShownRefusal, IsUnanswered, order_word};
 ghost use Rattle.game_calc.specs.Expression.{Expression, Line};
-ghost use Rattle.game_calc.specs.Machine.{IsAsked, IsAskedHeld};
+ghost use Rattle.game_calc.specs.inner.Machine.{IsAsked, IsAskedHeld};
 ghost use Rattle.game_calc.specs.Expression.Line.{order, value};
 
 use crate::amounts::Amount;

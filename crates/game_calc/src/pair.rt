@@ -10,7 +10,7 @@ ghost use Rattle.game_canon.specs.Changes.{AreKnown};
 ghost use Rattle.game_canon.specs.FormComparisons.{AreFormComparisonsRight};
 ghost use Rattle.game_canon.specs.Outcomes.{IsCanonicalId};
 ghost use Rattle.game_calc.specs.Steps.{IsPairRefusal};
-ghost use Rattle.game_calc.specs.Table.{noted, beside, AreNoted, AddsSums, AddsMoves, AreMovesKnown, AreRight};
+ghost use Rattle.game_calc.specs.inner.Table.{noted, beside, AreNoted, AddsSums, AddsMoves, AreMovesKnown, AreRight};
 
 use crate::table::{Summand, Sums, noted_sum};
 use dyadic_num::Dyadic;

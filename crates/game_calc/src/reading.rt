@@ -6,7 +6,7 @@ ghost use Rattle.game_store.specs.Meaning.{Extends};
 ghost use Rattle.game_text.specs.Reading.{IsReadRefusal, ReadsText};
 ghost use Rattle.game_canon.specs.Outcomes.{IsCanonicalId};
 ghost use Rattle.game_calc.specs.Expression.{Line, ReadsLine, first_bytes, first_sign, kind, next, token};
-ghost use Rattle.game_calc.specs.Machine.{IsAsked, IsGameRefusal, IsLineRefusal, IsReading, IsTokenAt, IsTurn};
+ghost use Rattle.game_calc.specs.inner.Machine.{IsAsked, IsGameRefusal, IsLineRefusal, IsReading, IsTokenAt, IsTurn};
 ghost use Rattle.game_calc.specs.declared.pending.Place.TheVariants as due;
 ghost use Rattle.game_calc.specs.declared.tokens.Kind.TheVariants as the_kind;
 
@@ -24,8 +24,11 @@ const MOST_OPEN: usize = 1000;
 /// Where the first term of a sum is due, behind its sign.
 fn sum_start(text: &[u8], at: usize) -> Step
     requires { at ≤ length text.now }
-    ensures place { result.place ≡ due.Term (record { before = None; sign = first_sign
-        (kind (drop at text.now)) }) }
+    ensures place { result.place ≡ due.Term (record {
+      before = None;
+      sign = first_sign
+          (kind (drop at text.now));
+    }) }
     ensures bytes { drop result.at text.now ≡ first_bytes (kind (drop at text.now))
         (drop at text.now) }
     ensures forward { at ≤ result.at }

@@ -8,7 +8,7 @@ ghost use Rattle.game_canon.specs.Changes.{AreClosed, AreKnown};
 ghost use Rattle.game_canon.specs.FormComparisons.{AreFormComparisonsRight};
 ghost use Rattle.game_canon.specs.Outcomes.{IsCanonicalId};
 ghost use Rattle.game_calc.specs.Steps.{IsOutOfLimits, IsPairRefusal, IsStepRefusal};
-ghost use Rattle.game_calc.specs.Table.{noted, Grows, AreRight, AreRowsKnown, AreInnerKnown};
+ghost use Rattle.game_calc.specs.inner.Table.{noted, Grows, AreRight, AreRowsKnown, AreInnerKnown};
 
 use crate::pair::pair_sum;
 use crate::table::{Sums, note_sum};

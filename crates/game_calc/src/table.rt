@@ -1,7 +1,7 @@
 //! The table of sums: for pairs of ids, the id of the canonical form of their sum.
 
 ghost use Rattle.std.specs.Prelude.{◌≡◌, ℕ, OnOk};
-ghost use Rattle.game_calc.specs.Table.{noted, beside, with_sum};
+ghost use Rattle.game_calc.specs.inner.Table.{noted, beside, with_sum};
 
 use game_store::GameId;
 use indexmap::IndexMap;

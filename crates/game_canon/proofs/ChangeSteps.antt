@@ -16,7 +16,7 @@ use Rattle.game_canon.specs.declared.change.Change.{Change}
 use Rattle.game_canon.specs.declared.change.Change.TheVariants.{Negate, Add}
 use Rattle.game_canon.specs.declared.errors.FormError.{FormError}
 use Rattle.game_canon.specs.declared.errors.FormError.TheVariants.{Parts, Bounds, Memory}
-use Rattle.game_canon.specs.Ids.{IsInOrder}
+use Rattle.game_canon.specs.inner.Ids.{IsInOrder}
 use Rattle.game_canon.specs.Reachable.{AreReachable}
 use Rattle.game_canon.specs.Changes.{target, lefts, rights, left_list, right_list, shifted, IsChanged, AreKnown, IsMapped, AreNoted, AreClosed, AreDone, IsRefusedAt, IsRefused}
 use Rattle.game_canon.proofs.GameLaws.{has-left, left-has, has-right, right-has}

@@ -17,17 +17,17 @@ use Rattle.short_games.proofs.ReductionLaws.{form-canonical, number-kept_left, n
 use Rattle.game_store.specs.Meaning.{pick, listed, form, AreIds, AreCanonical, IsAscending, IsIdOf, Extends}
 use Rattle.game_store.proofs.Values.{has-pick}
 use Rattle.game_canon.specs.declared.side.Side.TheVariants.{Left, Right}
-use Rattle.game_canon.specs.Sides.{IsReducedForm, IsStart, AreBest, Comes}
+use Rattle.game_canon.specs.inner.Sides.{IsReducedForm, IsStart, AreBest, Comes}
 use Rattle.game_canon.specs.declared.games.Unstored.{Unstored}
 use Rattle.game_canon.specs.declared.games.Games.{Games}
-use Rattle.game_canon.specs.Games.{with_unstored, beside, IsUnstored, IsBeside, IsKnown}
+use Rattle.game_canon.specs.inner.Games.{with_unstored, beside, IsUnstored, IsBeside, IsKnown}
 use Rattle.std.specs.Map.{lookup}
 use Rattle.indexmap.specs.IndexMap.{IndexMap}
 use Rattle.game_canon.specs.Comparisons.{same_pair, recalled, AreRight}
 use Rattle.dyadic_num.specs.Units.{IsInBounds}
 use Rattle.short_games.specs.Parts.{HasMoreParts, IsOption, IsNumberOf}
 use Rattle.game_canon.specs.Outcomes.{IsCanonicalId, AreOptionsWithin}
-use Rattle.game_canon.specs.Bounds.{IsNear}
+use Rattle.game_canon.specs.inner.Bounds.{IsNear}
 use Rattle.game_canon.proofs.Sizes.{form-number, own-number}
 use Rattle.game_canon.proofs.PartLaws.{number-no_more, listed-option, option-listed}
 use Rattle.game_canon.proofs.GameLaws.{trees-extend, of-beside}

@@ -12,7 +12,7 @@ use Rattle.short_games.proofs.TextOrderLaws.{sorted-has, has-sorted}
 use Rattle.short_games.proofs.OrderLaws.{le-refl}
 use Rattle.game_store.proofs.Values.{has-pick, pick-same, pick-one_to_one, extends-same, extends-push, last-value}
 use Rattle.game_canon.specs.declared.games.Unstored.{Unstored}
-use Rattle.game_canon.specs.Games.{with_unstored, IsUnstored, IsBeside}
+use Rattle.game_canon.specs.inner.Games.{with_unstored, IsUnstored, IsBeside}
 
 pub number-as_game : (G : Tree) → IsNumberTree G → IsNumber G
 number-as_game G n = (n.0, n.1, subst (λ t. G ≤ᵍ t) n.2 (le-refl G), subst (λ t. t ≤ᵍ G) n.2 (le-refl G))

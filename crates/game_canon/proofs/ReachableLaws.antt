@@ -14,7 +14,7 @@ use Rattle.short_games.specs.Number.{IsNumberTree}
 use Rattle.game_store.specs.Meaning.{pick, AreIds}
 use Rattle.short_games.specs.Parts.{IsFollower, IsPart, IsInner, IsReached}
 use Rattle.short_games.specs.Parts.IsFollower.{itself, further}
-use Rattle.game_canon.specs.Ids.{IsInOrder}
+use Rattle.game_canon.specs.inner.Ids.{IsInOrder}
 use Rattle.game_canon.specs.Followers.{IsIn}
 use Rattle.game_canon.specs.Reachable.{IsWidened, AreReachable}
 use Rattle.game_canon.proofs.IdSteps.{ordered-ids}

@@ -18,7 +18,7 @@ use Rattle.game_canon.specs.declared.side.Side.{Side}
 use Rattle.game_canon.specs.declared.side.Side.TheVariants.{Left, Right}
 use Rattle.short_games.specs.Parts.{IsOption}
 use Rattle.game_canon.proofs.Sizes.{come-further}
-use Rattle.game_canon.specs.Sides.{Comes, near, far, Covers, with_near, near_list, far_list, AreFree, AreBest, IsReplaced, IsAnswer, IsKept, IsDone, IsSmaller, IsReducedForm}
+use Rattle.game_canon.specs.inner.Sides.{Comes, near, far, Covers, with_near, near_list, far_list, AreFree, AreBest, IsReplaced, IsAnswer, IsKept, IsDone, IsSmaller, IsReducedForm}
 use Rattle.game_canon.proofs.SideLaws.{append-has, has-append_left, has-append_right, sizes-append, ids-append, has-far, far-has, FarUncovered}
 use Rattle.game_canon.proofs.GameLaws.{none-list}
 

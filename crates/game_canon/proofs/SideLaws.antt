@@ -7,10 +7,10 @@ use Rattle.game_store.specs.Meaning.{pick, AreIds}
 use Rattle.game_store.specs.Forms.{IsOptions}
 use Rattle.game_canon.specs.declared.side.Side.{Side}
 use Rattle.game_canon.specs.declared.side.Side.TheVariants.{Left, Right}
-use Rattle.game_canon.specs.Sides.{near, far, Covers, near_list, far_list, AreBest, IsWithout}
+use Rattle.game_canon.specs.inner.Sides.{near, far, Covers, near_list, far_list, AreBest, IsWithout}
 use Rattle.game_canon.proofs.GameLaws.{has-left, left-has, has-right, right-has}
 use Rattle.game_canon.proofs.IdSteps.{sizes-order, in-order, out-order, ordered-ids}
-use Rattle.game_canon.specs.Ids.{IsInOrder}
+use Rattle.game_canon.specs.inner.Ids.{IsInOrder}
 use Rattle.short_games.specs.Order.{◌≤ᵍ◌}
 
 pub covers-refl : (s : Side) (G : Tree) → Covers s G G

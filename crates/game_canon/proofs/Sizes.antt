@@ -15,7 +15,7 @@ use Rattle.short_games.proofs.OrderLaws.{size-left, size-right, le-refl}
 use Rattle.short_games.proofs.NumberLaws.{num-lt}
 use Rattle.short_games.proofs.StopLaws.{left_stop-is, right_stop-is}
 use Rattle.short_games.proofs.StopLaws.StopIs.{of_number, of_game}
-use Rattle.game_canon.specs.Sides.{Comes}
+use Rattle.game_canon.specs.inner.Sides.{Comes}
 use Rattle.short_games.proofs.PartLaws.{follower-more, follower-trans, number-follower}
 
 pub number-same : (x y : ℤ) → number_tree x ≡ number_tree y → x ≡ y

@@ -16,7 +16,7 @@ use Rattle.game_store.specs.Forms.{IsOptions}
 use Rattle.game_store.proofs.Values.{has-pick, pick-has}
 use Rattle.std.specs.Prelude.{Option}
 use Rattle.game_canon.specs.declared.games.Unstored.{Unstored}
-use Rattle.game_canon.specs.Games.{with_unstored}
+use Rattle.game_canon.specs.inner.Games.{with_unstored}
 use Rattle.game_canon.proofs.GameLaws.{lefts-same, rights-same}
 use Rattle.game_canon.specs.Comparisons.{counter, IsCountered, NoneCounters}
 

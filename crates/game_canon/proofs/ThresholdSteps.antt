@@ -11,7 +11,7 @@ use Rattle.short_games.specs.Threshold.{IsFloor, IsCeiling}
 use Rattle.game_store.specs.Places.{IsFloorRange, IsCeilingRange}
 use Rattle.short_games.proofs.ThresholdLaws.{game-floor, game-ceiling}
 use Rattle.game_store.specs.Meaning.{listed}
-use Rattle.game_canon.specs.Bounds.{AreAllWithin, HasCeilingFrom, HasFloorUpTo, AreAllFrom, AreAllUpTo, AreFloorRange, AreCeilingRange, lower, upper}
+use Rattle.game_canon.specs.inner.Bounds.{AreAllWithin, HasCeilingFrom, HasFloorUpTo, AreAllFrom, AreAllUpTo, AreFloorRange, AreCeilingRange, lower, upper}
 use Rattle.game_store.proofs.Values.{pick-has}
 use Rattle.short_games.specs.Stops.{GoesWithLeftStop, GoesWithRightStop}
 use Rattle.game_canon.proofs.Sizes.{floor-within, ceiling-within}

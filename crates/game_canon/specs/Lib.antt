@@ -1,12 +1,9 @@
-pub mod Games
 pub mod Comparisons
 pub mod FormComparisons
 pub mod Orders
-pub mod Ids
-pub mod Sides
 pub mod Outcomes
 pub mod Followers
-pub mod Bounds
 pub mod Changes
 pub mod Reachable
 pub mod SumComparisons
+pub mod inner

@@ -2,7 +2,7 @@
 
 ghost use Rattle.std.specs.Prelude.{◌≡◌, ◌↔◌, ◌≤ℤ◌, ◌<◌, ◌≤◌, ◌+◌, ℕ, ℤ, List, length, Bool, false, IfOk, IfSome, IfNone, IsTrue};
 ghost use Rattle.short_games.specs.Number.{IsNumberTree};
-ghost use Rattle.game_canon.specs.Games.{trees, AreGames};
+ghost use Rattle.game_canon.specs.inner.Games.{trees, AreGames};
 ghost use Rattle.short_games.specs.Tree.{tree_at};
 ghost use Rattle.game_canon.specs.Comparisons.{recalled, Says, AreRight, IsOpen, counter, NoneCounters, IsStep};
 

@@ -4,8 +4,8 @@ ghost use Rattle.std.specs.Prelude.{ℕ, ◌≡◌, ◌<◌, ◌↔◌, length, 
 ghost use Rattle.short_games.specs.Tree.{tree_at};
 ghost use Rattle.game_store.specs.Meaning.{AreIds, IsAscending};
 ghost use Rattle.game_canon.specs.Comparisons.{recalled};
-ghost use Rattle.game_canon.specs.Games.{IsKnown};
-ghost use Rattle.game_canon.specs.Sides.{Covers, AreBest, IsWithout};
+ghost use Rattle.game_canon.specs.inner.Games.{IsKnown};
+ghost use Rattle.game_canon.specs.inner.Sides.{Covers, AreBest, IsWithout};
 
 use crate::comparisons::Comparisons;
 use crate::games::Games;

@@ -6,7 +6,7 @@ ghost use Rattle.short_games.specs.Threshold.{IsFloor, IsCeiling};
 ghost use Rattle.short_games.specs.Tree.{tree_at};
 ghost use Rattle.game_store.specs.Forms.{IsOptions};
 ghost use Rattle.game_canon.specs.Comparisons.{recalled, AreRight};
-ghost use Rattle.game_canon.specs.Games.{trees, AreGames};
+ghost use Rattle.game_canon.specs.inner.Games.{trees, AreGames};
 ghost use Rattle.game_canon.specs.declared.games.Unstored.{Unstored};
 
 use crate::comparisons::Comparisons;

@@ -1,7 +1,7 @@
 //! Short lists of ids.
 
 ghost use Rattle.std.specs.Prelude.{IfOk};
-ghost use Rattle.game_canon.specs.Ids.{IsInOrder};
+ghost use Rattle.game_canon.specs.inner.Ids.{IsInOrder};
 
 use game_store::GameId;
 use smallvec::SmallVec;

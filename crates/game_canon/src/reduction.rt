@@ -6,8 +6,8 @@ ghost use Rattle.short_games.specs.Number.{IsNumber};
 ghost use Rattle.short_games.specs.Threshold.{IsFloor, IsCeiling};
 ghost use Rattle.game_store.specs.Meaning.{listed, AreIds};
 ghost use Rattle.game_canon.specs.Comparisons.{recalled, AreRight};
-ghost use Rattle.game_canon.specs.Games.{beside, IsFormBeside, IsKnown};
-ghost use Rattle.game_canon.specs.Sides.{IsStart, IsReducedForm};
+ghost use Rattle.game_canon.specs.inner.Games.{beside, IsFormBeside, IsKnown};
+ghost use Rattle.game_canon.specs.inner.Sides.{IsStart, IsReducedForm};
 
 use crate::comparisons::Comparisons;
 use crate::domination::best;

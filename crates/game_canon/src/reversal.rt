@@ -5,8 +5,8 @@ ghost use Rattle.short_games.specs.Tree.{Has, tree_at};
 ghost use Rattle.short_games.specs.Number.{IsNumberTree};
 ghost use Rattle.game_store.specs.Meaning.{pick, AreIds};
 ghost use Rattle.game_canon.specs.Comparisons.{recalled};
-ghost use Rattle.game_canon.specs.Games.{beside, HasForm, IsKnown};
-ghost use Rattle.game_canon.specs.Sides.{Covers, IsReplaced, IsAnswer, IsKept, IsDone, IsSmaller};
+ghost use Rattle.game_canon.specs.inner.Games.{beside, HasForm, IsKnown};
+ghost use Rattle.game_canon.specs.inner.Sides.{Covers, IsReplaced, IsAnswer, IsKept, IsDone, IsSmaller};
 
 use crate::comparisons::Comparisons;
 use crate::domination::best;

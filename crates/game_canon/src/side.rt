@@ -3,8 +3,8 @@
 ghost use Rattle.std.specs.Prelude.{◌≡◌, ◌<◌, ◌↔◌, length, IfOk, IsTrue};
 ghost use Rattle.short_games.specs.Tree.{tree_at};
 ghost use Rattle.game_canon.specs.Comparisons.{recalled};
-ghost use Rattle.game_canon.specs.Games.{beside, HasForm, IsKnown};
-ghost use Rattle.game_canon.specs.Sides.{Covers, near_list, far_list};
+ghost use Rattle.game_canon.specs.inner.Games.{beside, HasForm, IsKnown};
+ghost use Rattle.game_canon.specs.inner.Sides.{Covers, near_list, far_list};
 
 use crate::at_most::at_most;
 use crate::comparisons::Comparisons;

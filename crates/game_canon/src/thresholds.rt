@@ -4,7 +4,7 @@ ghost use Rattle.std.specs.Prelude.{ℕ, ◌↔◌, ◌<ℤ◌, ◌≡◌, ◌<�
 ghost use Rattle.game_store.specs.Places.{IsFloorRange, IsCeilingRange};
 ghost use Rattle.game_store.specs.Meaning.{listed, AreIds};
 ghost use Rattle.dyadic_num.specs.Units.{IsAbove, IsBelow};
-ghost use Rattle.game_canon.specs.Bounds.{AreAllFrom, AreAllUpTo, AreAllWithin, HasCeilingFrom, HasFloorUpTo, AreFloorRange, AreCeilingRange, IsValue, IsWorth, lower, upper};
+ghost use Rattle.game_canon.specs.inner.Bounds.{AreAllFrom, AreAllUpTo, AreAllWithin, HasCeilingFrom, HasFloorUpTo, AreFloorRange, AreCeilingRange, IsValue, IsWorth, lower, upper};
 
 use dyadic_num::{Dyadic, simplest_inside};
 use game_store::{GameId, Store};

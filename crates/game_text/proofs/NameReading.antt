@@ -25,8 +25,8 @@ use Rattle.game_canon.proofs.Sizes.{number-same}
 use Rattle.game_text.proofs.ReadingSteps.{byte-drop}
 use Rattle.game_text.proofs.ReadingPlaces.{run-is}
 use Rattle.game_text.specs.declared.named_games.Found.{Found}
-use Rattle.game_text.specs.Machine.{IsTaken, IsFoundBy, IsRefusedBy, EndsRunAt, EndsDigitsAt}
-use Rattle.game_text.specs.Written.{AreNimbers}
+use Rattle.game_text.specs.inner.Machine.{IsTaken, IsFoundBy, IsRefusedBy, EndsRunAt, EndsDigitsAt}
+use Rattle.game_text.specs.inner.Written.{AreNimbers}
 use Rattle.game_text.proofs.Nimbers.{nimber-option, nimber-canonical, nimber-no_number}
 use Rattle.game_text.proofs.NamesFound.{zero-tree}
 use Rattle.game_text.proofs.NimberIds.{first-nimbers, option-below}

@@ -15,7 +15,7 @@ use Rattle.game_text.specs.Reading.{IsClosed}
 use Rattle.game_text.specs.Reading.Outcome.{reads, refused}
 use Rattle.game_text.specs.Reading.Fault.{too_many_parts, past_bounds}
 use Rattle.game_text.specs.Reading.IsClosed.{taken, with_many_parts, far}
-use Rattle.game_text.specs.Machine.{AreNamed}
+use Rattle.game_text.specs.inner.Machine.{AreNamed}
 
 -- the canonical tree of an option, and the option of a canonical tree
 named-to : (Ts : List Tree) (Gs : Trees) (is : List ℕ) → AreNamed Ts Gs is → (X : Tree) → Has Gs X → (Y : Tree) × Has (pick Ts is) Y × (X ≤ᵍ Y) × (Y ≤ᵍ X)

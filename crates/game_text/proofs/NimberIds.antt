@@ -18,7 +18,7 @@ use Rattle.game_canon.specs.Changes.{AreClosed}
 use Rattle.game_text.specs.NamedText.{nimbers_below, nimber, nimber_name, name, named_text}
 use Rattle.game_text.proofs.Decimals.{digits-are}
 use Rattle.std.specs.Fmt.{decimal}
-use Rattle.game_text.specs.Written.{AreNimbers, IsAmong, AreFound, IsUpPair, IsDownPair, IsSwitchPair, IsNamedPair, IsPairName}
+use Rattle.game_text.specs.inner.Written.{AreNimbers, IsAmong, AreFound, IsUpPair, IsDownPair, IsSwitchPair, IsNamedPair, IsPairName}
 use Rattle.game_text.proofs.Nimbers.{option-nimber, nimber-option, nimber-same, nimber-no_number, nimber-canonical}
 use Rattle.game_text.proofs.NamedLaws.{text-named, named-one_to_one}
 use Rattle.game_text.proofs.NamesFound.{number-text, zero-tree, name-number, name-nimber, up-named, down-named, down-not_up, no-name, name-switch, switch-numbers, lefts-same, rights-same}

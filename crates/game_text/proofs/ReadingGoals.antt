@@ -5,7 +5,7 @@ use Rattle.short_games.specs.Tree.{Tree, tree_at}
 use Rattle.game_store.specs.Meaning.{listed}
 use Rattle.short_games.specs.Parts.{HasMoreParts}
 use Rattle.game_canon.specs.Outcomes.{IsCanonicalId, IsPastBounds}
-use Rattle.game_text.specs.Machine.{IsFormTaken}
+use Rattle.game_text.specs.inner.Machine.{IsFormTaken}
 use Rattle.std.specs.Prelude.{Result, Ok, Err, IfErr, IfOk, Option, Some, None, MatchOption, slice_range}
 use Rattle.game_text.specs.declared.errors.ReadError.{ReadError}
 use Rattle.game_text.specs.declared.errors.ReadError.TheVariants as reading

@@ -14,7 +14,7 @@ use Rattle.short_games.proofs.ReductionLaws.{number-canonical, canonical-same}
 use Rattle.game_text.specs.Reading.{Fault, Outcome, IsNumberByte, IsNameByte, ReadsName, IsClosed, IsReadRefusal, AreNumberBytes, EndsNumber, IsRun, IsNumberText, mark_of, BeginsOtherwise, ReadsText, Names, Refuses, RefusesAt}
 use Rattle.game_text.specs.Reading.Outcome.{reads, refused}
 use Rattle.game_text.specs.Reading.IsClosed.{taken, with_many_parts, far}
-use Rattle.game_text.specs.Machine.{IsTaken, IsRefusedBy, Answer, Frame, on_left, side_in, State, first_option, a_game, other_options, all_read, Rest, opening_at, AreOpen, Keeps, IsReading, place_after, mark_at, EndsRunAt, IsEnded}
+use Rattle.game_text.specs.inner.Machine.{IsTaken, IsRefusedBy, Answer, Frame, on_left, side_in, State, first_option, a_game, other_options, all_read, Rest, opening_at, AreOpen, Keeps, IsReading, place_after, mark_at, EndsRunAt, IsEnded}
 use Rattle.game_text.specs.declared.errors.ReadError.{ReadError}
 use Rattle.game_text.specs.declared.errors.ReadError.TheVariants as error
 use Rattle.game_canon.specs.Outcomes.{IsCanonicalId}

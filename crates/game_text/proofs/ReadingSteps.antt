@@ -5,7 +5,7 @@ use Rattle.short_games.specs.Tree.{Tree}
 use Rattle.game_store.specs.Meaning.{Extends}
 use Rattle.game_canon.specs.Outcomes.{IsCanonicalId}
 use Rattle.game_text.specs.Reading.{mark_of}
-use Rattle.game_text.specs.Machine.{Frame, on_left, on_right, side_in, with_option, IsOpening, AreOpen, Keeps, place_after, mark_at}
+use Rattle.game_text.specs.inner.Machine.{Frame, on_left, on_right, side_in, with_option, IsOpening, AreOpen, Keeps, place_after, mark_at}
 use Rattle.game_text.specs.declared.pending.Opening.{Opening}
 use Rattle.game_text.specs.declared.pending.Place.TheVariants as place
 use Rattle.game_text.proofs.MachineSteps.{state_after}

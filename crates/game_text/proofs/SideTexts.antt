@@ -12,7 +12,7 @@ use Rattle.game_store.specs.Forms.{IsOptions}
 use Rattle.short_games.proofs.TextOrderLaws.{sorted-has, has-sorted}
 use Rattle.game_text.specs.declared.texts.Span.{Span}
 use Rattle.game_text.specs.NamedText.{name, in_braces, named_text, named_texts}
-use Rattle.game_text.specs.Written.{text_at, HaveTexts, AreSideTexts, IsBracesText}
+use Rattle.game_text.specs.inner.Written.{text_at, HaveTexts, AreSideTexts, IsBracesText}
 use Rattle.game_text.proofs.TextLists.{total, In, in-permuted, Rises, same_texts, rises-from, insert-rises}
 use Rattle.game_text.proofs.NamedLaws.{text-unnamed, in-named, named-in, named-one_to_one}
 

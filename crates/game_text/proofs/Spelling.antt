@@ -15,7 +15,7 @@ use Rattle.dyadic_num.specs.Units.{IsInBounds, IsFraction, IsLowest}
 use Rattle.short_games.specs.TextOrder.{tree_text}
 use Rattle.short_games.specs.Number.{number_tree}
 use Rattle.game_text.specs.Reading.{AreNumberBytes, IsNumberText}
-use Rattle.game_text.specs.Slashes.{HasNoSlash, IsFirstSlash}
+use Rattle.game_text.specs.inner.Slashes.{HasNoSlash, IsFirstSlash}
 use Rattle.game_text.proofs.NumberTexts.{number_of-num, reduced-lowest}
 use Rattle.game_text.proofs.Decimals.{whole-text, part-text}
 use Rattle.game_text.proofs.Parsing.{power-wide}

@@ -20,7 +20,7 @@ use Rattle.game_text.specs.declared.texts.Span.{Span}
 use Rattle.game_text.specs.declared.errors.WriteError.{WriteError}
 use Rattle.game_text.specs.declared.errors.WriteError.TheVariants.{Long, Deep, Memory}
 use Rattle.game_text.specs.Refusals.{IsWriteRefusal}
-use Rattle.game_text.specs.Written.{IsWithin, text_at, HasText, AreKept, HaveTexts, span_of, IsAppended, HasOptionTexts, IsAdded, IsTooLong, AreWritten}
+use Rattle.game_text.specs.inner.Written.{IsWithin, text_at, HasText, AreKept, HaveTexts, span_of, IsAppended, HasOptionTexts, IsAdded, IsTooLong, AreWritten}
 use Rattle.game_text.proofs.NumberTexts.{number_of-num}
 use Rattle.game_text.proofs.Nimbers.{option-nimber}
 use Rattle.game_text.proofs.Spelled.{behind_commas, row, braces-row}

@@ -2,8 +2,5 @@ pub mod Depth
 pub mod NamedText
 pub mod Refusals
 pub mod Reading
-pub mod Written
-pub mod Nesting
-pub mod Slashes
-pub mod Machine
 pub mod Laws
+pub mod inner

@@ -9,9 +9,9 @@ ghost use Rattle.short_games.specs.Examples.{choice};
 ghost use Rattle.game_text.specs.NamedText.{down, nimber, up};
 ghost use Rattle.game_text.specs.Reading.{IsDigitByte, IsNimberDigits, ReadsNimber, ReadsSwitch, switch_below};
 ghost use Rattle.game_text.specs.Reading.Outcome.{reads};
-ghost use Rattle.game_text.specs.Machine.{EndsDigitsAt, IsFoundBy, IsRefusedBy, IsTaken};
+ghost use Rattle.game_text.specs.inner.Machine.{EndsDigitsAt, IsFoundBy, IsRefusedBy, IsTaken};
 ghost use Rattle.game_text.specs.Refusals.{IsFormRefusal};
-ghost use Rattle.game_text.specs.Written.{AreNimbers};
+ghost use Rattle.game_text.specs.inner.Written.{AreNimbers};
 
 use crate::errors::ReadError;
 use crate::numbers::{number_of_text, parsed_count};

@@ -5,7 +5,7 @@ ghost use Rattle.std.specs.Fmt.{decimal, signed_decimal};
 ghost use Rattle.short_games.specs.TextOrder.{tree_text};
 ghost use Rattle.short_games.specs.Number.{number_tree};
 ghost use Rattle.game_text.specs.Reading.{IsNumberText};
-ghost use Rattle.game_text.specs.Slashes.{HasNoSlash, IsFirstSlash};
+ghost use Rattle.game_text.specs.inner.Slashes.{HasNoSlash, IsFirstSlash};
 
 use dyadic_num::Dyadic;
 use std::alloc::{AllocError, Global};

@@ -4,7 +4,7 @@ ghost use Rattle.std.specs.Prelude.{◌≡◌, ◌++◌, ℕ, List, nat_eq, map,
 ghost use Rattle.std.specs.List.Sorted.{IsPermutation, IsSortedBy};
 ghost use Rattle.indexmap.specs.IndexMap.{get};
 ghost use Rattle.short_games.specs.TextOrder.{lesser_text};
-ghost use Rattle.game_text.specs.Written.{IsAppended, IsWithin, AreKept, IsSideText, IsBracesText, text_at};
+ghost use Rattle.game_text.specs.inner.Written.{IsAppended, IsWithin, AreKept, IsSideText, IsBracesText, text_at};
 ghost use Rattle.game_text.specs.NamedText.{joined};
 
 use game_store::GameId;

@@ -6,9 +6,9 @@ ghost use Rattle.short_games.specs.Tree.{Tree, tree_at, AreDistinct};
 ghost use Rattle.game_store.specs.Forms.{IsOptions};
 ghost use Rattle.game_canon.specs.Changes.{AreClosed};
 ghost use Rattle.game_text.specs.NamedText.{named_depth, named_text};
-ghost use Rattle.game_text.specs.Nesting.{braces_after};
+ghost use Rattle.game_text.specs.inner.Nesting.{braces_after};
 ghost use Rattle.game_text.specs.Refusals.{IsWriteRefusal};
-ghost use Rattle.game_text.specs.Written.{AreFound, AreNimbers, AreWritten, HasOptionTexts, IsAdded, IsAmong, IsTooLong};
+ghost use Rattle.game_text.specs.inner.Written.{AreFound, AreNimbers, AreWritten, HasOptionTexts, IsAdded, IsAmong, IsTooLong};
 
 use crate::errors::WriteError;
 use crate::names::{form_name, nimbers_of};

@@ -8,7 +8,7 @@ use Rattle.go_grid.specs.declared.filling.Work.{Work}
 use Rattle.go_grid.specs.Board.{NextTo}
 use Rattle.go_grid.specs.Walk.{Joined}
 use Rattle.go_grid.specs.Marks.{IsMarked, Touches, IsClosed, Marks}
-use Rattle.go_grid.specs.Work.{IsListed, IsFilled, IsFilling}
+use Rattle.go_grid.specs.inner.Work.{IsListed, IsFilled, IsFilling}
 use Rattle.go_grid.proofs.NearLemmas.{next_back}
 use Rattle.go_grid.proofs.PointsLemmas.{no_mark}
 use Rattle.go_grid.proofs.WalkLemmas.{joined_here, joined_back, carried}

@@ -4,7 +4,7 @@ use Rattle.std.proofs.lemmas.Bool.{cases_lt}
 use Rattle.go_grid.specs.declared.filling.Work.{Work}
 use Rattle.go_grid.specs.Walk.{Joined}
 use Rattle.go_grid.specs.Marks.{IsMarked, Marks}
-use Rattle.go_grid.specs.Work.{IsListed, IsFilled}
+use Rattle.go_grid.specs.inner.Work.{IsListed, IsFilled}
 use Rattle.go_grid.specs.Parts.{AreParts, label}
 use Rattle.go_grid.proofs.FillLemmas.{closed_all}
 use Rattle.go_grid.proofs.WalkLemmas.{joined_here, joined_back, joined_join, joined_start, joined_end}

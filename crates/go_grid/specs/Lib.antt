@@ -5,6 +5,6 @@ pub mod Walk
 pub mod Chain
 pub mod Marks
 pub mod Name
-pub mod Work
 pub mod Parts
 pub mod Region
+pub mod inner

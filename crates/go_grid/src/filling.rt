@@ -3,7 +3,7 @@
 ghost use Rattle.std.specs.Prelude.{◌≡◌, ℕ, ◌+◌, ◌-◌, ◌*◌, ◌<◌, ◌≤◌, ◌↔◌, ◌⊎◌, Bool, true, false, IfSome, Some, count_by, replicate, List, slice_index};
 ghost use Rattle.go_grid.specs.Walk.{Joined};
 ghost use Rattle.go_grid.specs.Marks.{IsMarked, Touches, IsWithin, Marks};
-ghost use Rattle.go_grid.specs.Work.{IsListed, IsFilled, IsFilling, IsNear};
+ghost use Rattle.go_grid.specs.inner.Work.{IsListed, IsFilled, IsFilling, IsNear};
 
 use crate::grid::{MOST_POINTS, Point, Size};
 use crate::nearby::{Near, neighbours};

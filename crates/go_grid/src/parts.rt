@@ -2,7 +2,7 @@
 
 ghost use Rattle.std.specs.Prelude.{◌≡◌, ℕ, ◌*◌, ◌<◌, ◌≤◌, slice_index};
 ghost use Rattle.go_grid.specs.Marks.{IsMarked, IsWithin};
-ghost use Rattle.go_grid.specs.Work.{IsListed};
+ghost use Rattle.go_grid.specs.inner.Work.{IsListed};
 ghost use Rattle.go_grid.specs.Parts.{AreParts, label};
 
 use crate::filling::{Work, idle, spread, zeroes};

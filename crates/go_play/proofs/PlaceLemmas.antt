@@ -16,7 +16,7 @@ use Rattle.go_grid.proofs.ChainLemmas.{liberty_marks}
 use Rattle.go_play.specs.declared.placing.PlaceError.{PlaceError}
 use Rattle.go_play.specs.declared.placing.PlaceError.TheVariants.{Occupied, Suicide}
 use Rattle.go_play.specs.Place.{with_stone, IsTaken, IsCleared, Breathes, Answers}
-use Rattle.go_play.specs.Tried.{IsLost, Judges}
+use Rattle.go_play.specs.inner.Tried.{IsLost, Judges}
 use Rattle.go_play.proofs.BoardPlay.{breathes_from, breathes_to, chain_to, taken_stone, takes}
 
 -- a chain of the other colour is taken, or it isn't

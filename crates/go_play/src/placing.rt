@@ -6,7 +6,7 @@ ghost use Rattle.go_grid.specs.Marks.{IsMarked, Marks};
 ghost use Rattle.go_grid.specs.declared.grid.Cell.{Cell};
 ghost use Rattle.go_grid.specs.Play.{IsWithout};
 ghost use Rattle.go_play.specs.Place.{with_stone, Answers, Breathes, IsCleared, IsSameSize, IsTaken};
-ghost use Rattle.go_play.specs.Tried.{IsTried, IsLost, Judges};
+ghost use Rattle.go_play.specs.inner.Tried.{IsTried, IsLost, Judges};
 
 use go_grid::{Board, Cell, Colour, NearPoints, Point, Points, fill, part_touches};
 use thiserror::Error;

@@ -185,8 +185,8 @@ fn with_line(alloc: Global, lines: &[u8], parts: [&[u8]; 3]) -> Result<Vec<u8>, 
 
 /// Every move of a board of 10 columns and 2 rows.
 const MOVES: [&[u8]; 22] = [
-    b"a1", b"b1", b"c1", b"d1", b"e1", b"f1", b"g1", b"h1", b"j1", b"k1", b"a2", b"b2", b"c2", b"d2", b"e2", b"f2", b"g2",
-    b"h2", b"j2", b"k2", b"pass", b"half",
+    b"a1", b"b1", b"c1", b"d1", b"e1", b"f1", b"g1", b"h1", b"j1", b"k1", b"a2", b"b2", b"c2",
+    b"d2", b"e2", b"f2", b"g2", b"h2", b"j2", b"k2", b"pass", b"half",
 ];
 
 #[test]

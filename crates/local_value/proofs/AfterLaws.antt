@@ -15,7 +15,7 @@ use Rattle.short_games.specs.Parts.{IsNumberOf}
 use Rattle.game_canon.specs.Outcomes.{AreWithin}
 use Rattle.sum_outcome.specs.Players.{gain}
 use Rattle.local_value.specs.declared.memo.Options.{Options}
-use Rattle.local_value.specs.Valuing.{noted, IsNoted, tree_after, IsWithinAfter, AreWithinAfter, IsAfter, AreAfter, AreBothAfter, IsAdded}
+use Rattle.local_value.specs.inner.Valuing.{noted, IsNoted, tree_after, IsWithinAfter, AreWithinAfter, IsAfter, AreAfter, AreBothAfter, IsAdded}
 
 pub extends-both : (Ts Us Vs : List Tree) → Extends Ts Us → Extends Us Vs → Extends Ts Vs
 extends-both Ts Us Vs a b = record { longer = omega (arith, a.longer, b.longer); same = λ i l. b.same i (omega (arith, l, a.longer)) ∙ a.same i l }

@@ -18,8 +18,8 @@ use Rattle.game_canon.specs.Changes.{IsSumRefusal}
 use Rattle.game_canon.specs.Outcomes.{IsCanonicalId}
 use Rattle.sum_outcome.specs.Players.{credit, gain}
 use Rattle.game_canon.proofs.NumberParts.{sum-fits, same-sum}
-use Rattle.local_value.specs.Memo.{stones_units, IsStonesSum}
-use Rattle.local_value.specs.Valuing.{noted, IsWithinAfter, IsAfter}
+use Rattle.local_value.specs.inner.Memo.{stones_units, IsStonesSum}
+use Rattle.local_value.specs.inner.Valuing.{noted, IsWithinAfter, IsAfter}
 
 credit-tree : (c : Colour) (n : ℕ) (x : ℤ) → x ≡ credit c n *ℤ pos (2 ^ 60) → number_tree x ≡ gain c n
 credit-tree c n x e = ap number_tree e ∙ num-scaled 60 0 (credit c n)

@@ -11,7 +11,7 @@ use Rattle.short_games.specs.Order.{◌≡ᵍ◌}
 use Rattle.short_games.specs.Sum.{◌+ᵍ◌}
 use Rattle.sum_outcome.specs.Players.{gain}
 use Rattle.local_value.specs.Ending.{EndsWithin}
-use Rattle.local_value.specs.GraphMoves.{step_of, steps_of}
+use Rattle.local_value.specs.inner.GraphMoves.{step_of, steps_of}
 use Rattle.local_value.specs.Laws.{MovesTo}
 use Rattle.local_value.specs.LocalGame.{Step, StepsTo, after, tree_within}
 use Rattle.local_value.specs.PositionTree.{IsPlay, IsStep, IsTreeOf, PlaysAreShort}

@@ -17,7 +17,7 @@ use Rattle.short_games.specs.Number.{number_tree}
 use Rattle.short_games.specs.Parts.{HasMoreParts, IsNumberOf}
 use Rattle.game_canon.specs.Outcomes.{IsCanonicalId, AreWithin, AreOptionsWithin}
 use Rattle.local_value.specs.declared.memo.Options.{Options}
-use Rattle.local_value.specs.Memo.{stones_units, same_sum, recalled_sum, IsStonesSum, AreSumsRight, same_options, recalled_form, IsFormOf, AreFormsRight}
+use Rattle.local_value.specs.inner.Memo.{stones_units, same_sum, recalled_sum, IsStonesSum, AreSumsRight, same_options, recalled_form, IsFormOf, AreFormsRight}
 
 -- more forms change nothing
 pick-grown : (Ts Us : List Tree) (is : List ℕ) → Extends Ts Us → AreIds Ts is → pick Us is ≡ pick Ts is

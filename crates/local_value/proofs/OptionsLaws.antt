@@ -15,8 +15,8 @@ use Rattle.game_canon.specs.declared.errors.FormError.{FormError}
 use Rattle.game_canon.specs.declared.errors.FormError.TheVariants.{Parts, Bounds, Memory}
 use Rattle.game_canon.specs.Outcomes.{IsCanonicalId, IsCause, AreWithin, AreOptionsWithin}
 use Rattle.sum_outcome.specs.Players.{options}
-use Rattle.local_value.specs.Memo.{IsFormOf}
-use Rattle.local_value.specs.Valuing.{tree_after, AreWithinAfter, IsAfter, AreAfter, AreBothAfter, HasEdges}
+use Rattle.local_value.specs.inner.Memo.{IsFormOf}
+use Rattle.local_value.specs.inner.Valuing.{tree_after, AreWithinAfter, IsAfter, AreAfter, AreBothAfter, HasEdges}
 use Rattle.local_value.proofs.AfterLaws.{after-ids}
 use Rattle.local_value.proofs.MemoLaws.{listed-grown}
 use Rattle.local_value.proofs.PositionLaws.{same_options}

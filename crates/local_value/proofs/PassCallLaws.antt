@@ -11,7 +11,7 @@ use Rattle.game_canon.specs.declared.errors.FormError.{FormError}
 use Rattle.game_canon.specs.Outcomes.{IsCanonicalId, IsCause, AreWithin}
 use Rattle.local_value.specs.Refusals.{IsValueRefusal}
 use Rattle.local_value.specs.Values.{IsGraphOf}
-use Rattle.local_value.specs.Valuing.{IsNoted, AreWithinAfter, HasEdges}
+use Rattle.local_value.specs.inner.Valuing.{IsNoted, AreWithinAfter, HasEdges}
 use Rattle.local_value.proofs.PassLaws.{place, IsPass, order_short, edges_noted, edges_within, pass-step}
 use Rattle.local_value.proofs.PassEndLaws.{pass-refused}
 

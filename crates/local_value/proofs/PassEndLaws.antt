@@ -20,7 +20,7 @@ use Rattle.game_canon.proofs.Finish.{made-no_number}
 use Rattle.local_value.specs.PositionTree.{IsValueOf}
 use Rattle.local_value.specs.Refusals.{IsValueAt, IsValueRefusal}
 use Rattle.local_value.specs.Values.{IsGraphOf, IsPlaceOf, AreValues}
-use Rattle.local_value.specs.Valuing.{noted, HasEdges}
+use Rattle.local_value.specs.inner.Valuing.{noted, HasEdges}
 use Rattle.local_value.proofs.GraphLaws.{position_at}
 use Rattle.local_value.proofs.GraphTreeLaws.{place_tree}
 use Rattle.local_value.proofs.OptionsLaws.{number-as}

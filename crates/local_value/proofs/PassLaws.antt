@@ -25,10 +25,10 @@ use Rattle.short_games.proofs.OrderLaws.{same-path, same-refl, same-trans}
 use Rattle.short_games.proofs.SumLaws.{same-plus}
 use Rattle.game_canon.proofs.Sizes.{own-number}
 use Rattle.local_value.specs.Ending.{EndsWithin}
-use Rattle.local_value.specs.GraphMoves.{step_of, steps_of}
+use Rattle.local_value.specs.inner.GraphMoves.{step_of, steps_of}
 use Rattle.local_value.specs.LocalGame.{Step, StepsTo, tree_within}
 use Rattle.local_value.specs.Values.{IsGraphOf}
-use Rattle.local_value.specs.Valuing.{noted, IsNoted, tree_after, AreWithinAfter, HasEdges}
+use Rattle.local_value.specs.inner.Valuing.{noted, IsNoted, tree_after, AreWithinAfter, HasEdges}
 use Rattle.local_value.proofs.GraphLaws.{position_at, taken_less}
 use Rattle.local_value.proofs.GraphTreeLaws.{place_ends}
 use Rattle.local_value.proofs.LocalLaws.{move-option, option-move}

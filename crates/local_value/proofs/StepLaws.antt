@@ -3,7 +3,7 @@ use Rattle.std.proofs.Common.{ℕ, ◌≡◌, ◌⊎◌, inl, inr, refl, sym, ap
 use Rattle.go_grid.specs.declared.grid.Colour.{Colour}
 use Rattle.go_grid.specs.declared.grid.Colour.TheVariants.{Black, White}
 use Rattle.local_graph.specs.declared.graph.Edge.{Edge}
-use Rattle.local_value.specs.GraphMoves.{step_of, step_for, steps_of}
+use Rattle.local_value.specs.inner.GraphMoves.{step_of, step_for, steps_of}
 use Rattle.local_value.specs.LocalGame.{Step}
 use Rattle.local_value.proofs.LocalLaws.{contains-head, contains-tail, contains-cases}
 

@@ -3,7 +3,5 @@ pub mod LocalGame
 pub mod PositionTree
 pub mod Laws
 pub mod Values
-pub mod GraphMoves
 pub mod Refusals
-pub mod Valuing
-pub mod Memo
+pub mod inner

@@ -7,7 +7,7 @@ ghost use Rattle.short_games.specs.Number.{number_tree};
 ghost use Rattle.game_store.specs.Meaning.{listed, AreIds, Extends};
 ghost use Rattle.game_canon.specs.Changes.{IsSumRefusal};
 ghost use Rattle.game_canon.specs.Outcomes.{IsCause};
-ghost use Rattle.local_value.specs.Memo.{stones_units, recalled_sum, IsStonesSum, AreSumsRight, recalled_form, IsFormOf, AreFormsRight, IsMemoRight};
+ghost use Rattle.local_value.specs.inner.Memo.{stones_units, recalled_sum, IsStonesSum, AreSumsRight, recalled_form, IsFormOf, AreFormsRight, IsMemoRight};
 
 use dyadic_num::Dyadic;
 use game_canon::{FormError, add_number, canonical};

@@ -8,10 +8,10 @@ ghost use Rattle.short_games.specs.Parts.{HasMoreParts};
 ghost use Rattle.game_canon.specs.Changes.{HasNumberPastBounds};
 ghost use Rattle.game_canon.specs.Outcomes.{IsCanonicalId, IsCause, AreWithin};
 ghost use Rattle.sum_outcome.specs.Players.{credit};
-ghost use Rattle.local_value.specs.Memo.{recalled_sum, AreSumsRight, IsMemoRight};
+ghost use Rattle.local_value.specs.inner.Memo.{recalled_sum, AreSumsRight, IsMemoRight};
 ghost use Rattle.local_value.specs.Refusals.{IsValueRefusal};
 ghost use Rattle.local_value.specs.Values.{IsGraphOf, AreValues};
-ghost use Rattle.local_value.specs.Valuing.{IsNoted, IsWithinAfter, AreWithinAfter, IsAfter, AreBothAfter, IsAdded, HasEdges};
+ghost use Rattle.local_value.specs.inner.Valuing.{IsNoted, IsWithinAfter, AreWithinAfter, IsAfter, AreBothAfter, IsAdded, HasEdges};
 
 use crate::memo::{Memo, Options, Sums, form_of, with_stones};
 use game_canon::FormError;

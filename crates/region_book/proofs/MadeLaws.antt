@@ -16,7 +16,7 @@ use Rattle.go_grid.specs.Region.{Region, touch_at}
 use Rattle.local_play.specs.LocalPlay.{held_at, is_beside}
 use Rattle.region_book.specs.Shape.{cell_after, colour_after}
 use Rattle.region_book.specs.Image.{IsOnBoard, AtMost, BeginsAt, IsImage, IsShape, Places, column_of, row_of, is_stone, spot_cmp, spot_of}
-use Rattle.region_book.specs.Made.{IsLeastAmong, Spots}
+use Rattle.region_book.specs.inner.Made.{IsLeastAmong, Spots}
 use Rattle.region_book.specs.declared.spots.Spot.{Spot}
 use Rattle.region_book.specs.declared.symmetry.Symmetry.{Symmetry}
 use Rattle.region_book.specs.declared.images.Image.{Image}

@@ -1,4 +1,4 @@
 pub mod Shape
 pub mod Image
 pub mod Law
-pub mod Made
+pub mod inner

@@ -6,7 +6,7 @@ ghost use Rattle.local_play.specs.LocalPlay.{held_at, is_beside};
 ghost use Rattle.region_book.specs.Shape.{cell_after, colour_after};
 ghost use Rattle.region_book.specs.Image.{AtMost, BeginsAt, is_stone, spot_of};
 ghost use Rattle.region_book.specs.declared.spots.Spot.{Spot};
-ghost use Rattle.region_book.specs.Made.{AreImagePlaces, IsImageOf, IsLeastAmong, Spots};
+ghost use Rattle.region_book.specs.inner.Made.{AreImagePlaces, IsImageOf, IsLeastAmong, Spots};
 
 use crate::spots::Spot;
 use crate::symmetry::{Stand, Symmetry, begin, places, turned};

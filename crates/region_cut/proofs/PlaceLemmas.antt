@@ -6,7 +6,7 @@ use Rattle.go_grid.specs.declared.region.Touch.{Touch}
 use Rattle.go_grid.specs.Board.{IsAbove, IsLeftOf, IsThe, AreNear}
 use Rattle.go_grid.specs.Region.{IsLink, AreLinks}
 use Rattle.go_grid.proofs.LinkLemmas.{same_point}
-use Rattle.region_cut.specs.Places.{IsPlace}
+use Rattle.region_cut.specs.inner.Places.{IsPlace}
 
 -- one more item that fits
 pub push_more : {X : Type 0} (xs : List X) (x d : X) (n : ℕ) (Fits : ℕ → X → Type 0) → length xs ≡ n

@@ -20,7 +20,7 @@ use Rattle.go_grid.proofs.WalkLemmas.{carried, joined_here, joined_step, joined_
 use Rattle.benson_life.specs.Life.{IsAlive}
 use Rattle.benson_life.specs.Region.{IsContested, InRegionOfPlay}
 use Rattle.region_cut.specs.Cut.{IsRegionOfPlay, IsWalledIn, lowest}
-use Rattle.region_cut.specs.Places.{IsTouch}
+use Rattle.region_cut.specs.inner.Places.{IsTouch}
 use Rattle.region_cut.proofs.WallLemmas.{never_next_to_counted}
 
 -- the lowest of ascending points stands first

@@ -1,3 +1,3 @@
 pub mod Cut
 pub mod LocalBoard
-pub mod Places
+pub mod inner

@@ -3,7 +3,7 @@
 ghost use Rattle.std.specs.Prelude.{◌≡◌, ℕ, ◌*◌, ◌<◌, ◌≤◌, All, IfOk, length, slice_index};
 ghost use Rattle.go_grid.specs.Marks.{IsWithin};
 ghost use Rattle.go_grid.specs.Region.{touch_at};
-ghost use Rattle.region_cut.specs.Places.{IsPlace, IsTouch};
+ghost use Rattle.region_cut.specs.inner.Places.{IsPlace, IsTouch};
 
 use go_grid::{MOST_POINTS, Point, Points, Size, Touch, neighbours, touches};
 use std::alloc::{AllocError, Global};

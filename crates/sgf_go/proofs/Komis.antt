@@ -5,7 +5,7 @@ use Rattle.std.specs.Option.{option_map}
 use Rattle.std.specs.Char.{is_ascii_digit, digit_value}
 use Rattle.std.specs.Str.Parse.{digits_value_after}
 use Rattle.sgf_go.specs.Komi.{IsKomi, unsigned, positive, negative, IsHalves, halves, IsFraction, nothing, zeros, half, AreDigits, AreZeros, plus, minus, dot, digit_0, digit_5}
-use Rattle.sgf_go.specs.Scan.{all_zeros, fraction, scan, scan_signed}
+use Rattle.sgf_go.specs.inner.Scan.{all_zeros, fraction, scan, scan_signed}
 
 some-is : {A : Type 0} {x y : A} → Some x ≡ Some y → x ≡ y
 some-is {A} {x} {y} e = ap (λ o. elim o as (λ _. A) [ None ↦ x | Some z ↦ z ]) e

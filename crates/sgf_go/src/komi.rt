@@ -2,7 +2,7 @@
 
 ghost use Rattle.std.specs.Prelude.{false, ◌≡◌, ◌≤◌, ◌+◌, ◌*◌, ℤ, true, length, drop, IfSome, IfNone};
 ghost use Rattle.sgf_go.specs.Komi.{IsKomi, IsInRange};
-ghost use Rattle.sgf_go.specs.Scan.{all_zeros, fraction, scan, scan_signed};
+ghost use Rattle.sgf_go.specs.inner.Scan.{all_zeros, fraction, scan, scan_signed};
 
 /// The most that the digits before the point may say.
 const MOST_WHOLE: u32 = 999_999;

@@ -16,7 +16,7 @@ use Rattle.short_games.proofs.ReductionLaws.{canonical-number}
 use Rattle.short_games.proofs.AvoidanceLaws.{cheap_left, cheap_right}
 use Rattle.sum_outcome.specs.Players.{options, credit, LosesGame}
 use Rattle.sum_outcome.proofs.PlayerLaws.{option_of_sum, option_in_first, option_in_second, loses-out, wins-option, loses-or_not}
-use Rattle.sum_outcome.specs.Search.{IsNonNumber, IsMove, put}
+use Rattle.sum_outcome.specs.inner.Search.{IsNonNumber, IsMove, put}
 
 -- the game at a place
 abbrev pub IsAt : Trees → ℕ → Tree → Type 0

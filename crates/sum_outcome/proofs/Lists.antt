@@ -17,7 +17,7 @@ use Rattle.short_games.proofs.TextOrderLaws.{sorted-has, has-sorted}
 use Rattle.short_games.proofs.PartLaws.{option-numbers}
 use Rattle.sum_outcome.specs.Players.{options, LosesGame}
 use Rattle.sum_outcome.specs.Sums.{sum_tree, AreBounds, IsBounded}
-use Rattle.sum_outcome.specs.Search.{HasNonNumber, IsMove, put, WinsAt}
+use Rattle.sum_outcome.specs.inner.Search.{HasNonNumber, IsMove, put, WinsAt}
 use Rattle.sum_outcome.proofs.CheapMoves.{IsAt, loses-by_games, wins-by_move}
 
 -- the options listed are the moves

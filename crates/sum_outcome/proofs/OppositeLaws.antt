@@ -17,7 +17,7 @@ use Rattle.short_games.proofs.IncentiveLaws.{incentive-dominates}
 use Rattle.sum_outcome.proofs.PlayerLaws.{loses-same}
 use Rattle.game_canon.proofs.Sizes.{own-number}
 use Rattle.sum_outcome.specs.Sums.{sum_tree, AreBounds, IsBounded}
-use Rattle.sum_outcome.specs.Search.{put}
+use Rattle.sum_outcome.specs.inner.Search.{put}
 use Rattle.sum_outcome.specs.Opposites.{Cancel, MayBeTakenOut, IsZero, AreOpposite}
 use Rattle.sum_outcome.proofs.CheapMoves.{put-total}
 use Rattle.sum_outcome.proofs.Lists.{pick-at, pick-put, put_back, falls_put, ids_put}

@@ -21,7 +21,7 @@ use Rattle.short_games.proofs.SumLaws.{nought, plus-assoc, nought-plus, same-plu
 use Rattle.short_games.proofs.NumberLaws.{num-le, num-zero}
 use Rattle.short_games.proofs.StopLaws.{over-right_stop, under-left_stop}
 use Rattle.sum_outcome.specs.Sums.{sum_tree, IsBounded}
-use Rattle.sum_outcome.specs.Search.{HasNonNumber, IsSign}
+use Rattle.sum_outcome.specs.inner.Search.{HasNonNumber, IsSign}
 use Rattle.sum_outcome.proofs.CheapMoves.{num-sum}
 use Rattle.sum_outcome.proofs.StopSums.{IsOver, IsUnder, over-plus, under-plus, over-number, under-number, over-sign, under-sign, left_stop-number, right_stop-number, left_stop-same, right_stop-same}
 

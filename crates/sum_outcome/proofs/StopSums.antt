@@ -15,7 +15,7 @@ use Rattle.short_games.proofs.NumberLaws.{num-le, num-lt, num-zero, num-double, 
 use Rattle.short_games.proofs.PartLaws.{option-numbers}
 use Rattle.short_games.proofs.StopLaws.{StopIs, IsGreatest, IsLeast, left_stop-is, right_stop-is, num-scaled}
 use Rattle.short_games.proofs.StopLaws.StopIs.{of_number, of_game}
-use Rattle.sum_outcome.specs.Search.{IsSign}
+use Rattle.sum_outcome.specs.inner.Search.{IsSign}
 
 -- G is at least each number below l parts of 2 ^ -60, and at most each number above h
 abbrev pub IsOver : Tree → ℤ → Type 0

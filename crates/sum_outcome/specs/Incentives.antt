@@ -12,7 +12,7 @@ use Rattle.sum_outcome.specs.Players.{LosesGame}
 use Rattle.go_grid.specs.Board.{other}
 use Rattle.short_games.specs.SumLaws.{incentive}
 use Rattle.game_canon.specs.SumComparisons.{AreComparisonsRight}
-use Rattle.sum_outcome.specs.Search.{IsMove, put}
+use Rattle.sum_outcome.specs.inner.Search.{IsMove, put}
 use Rattle.sum_outcome.specs.declared.incentives.MovePair.{MovePair}
 use Rattle.sum_outcome.specs.declared.incentives.Incentives.{Incentives}
 

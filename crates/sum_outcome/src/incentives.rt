@@ -3,7 +3,7 @@
 ghost use Rattle.std.specs.Prelude.{◌≡◌, ◌<◌, ◌↔◌, length, Contains, IsTrue, IfSome, ◌⊎◌};
 ghost use Rattle.short_games.specs.Tree.{Tree, Has, tree_at};
 ghost use Rattle.game_store.specs.Meaning.{pick, AreIds, AreBelow};
-ghost use Rattle.sum_outcome.specs.Search.{IsMove, StoodBefore};
+ghost use Rattle.sum_outcome.specs.inner.Search.{IsMove, StoodBefore};
 ghost use Rattle.sum_outcome.specs.Incentives.{IsKnownRight, AreMoves, turned, IsAtLeast, IsAsGood, HasPreferred, IsDominated};
 ghost use Rattle.sum_outcome.specs.Memo.{AreKept, NoneIsNew};
 ghost use Rattle.sum_outcome.specs.declared.incentives.MovePair.{MovePair};

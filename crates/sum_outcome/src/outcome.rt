@@ -13,7 +13,7 @@ ghost use Rattle.sum_outcome.specs.Sums.{sum_tree, IsBounded};
 ghost use Rattle.sum_outcome.specs.Memo.{IsRight, StaysRight};
 ghost use Rattle.sum_outcome.specs.Incentives.{IsSettled};
 ghost use Rattle.sum_outcome.specs.Opposites.{MayCancel};
-ghost use Rattle.sum_outcome.specs.Search.{HasNonNumber, IsSign, WinsAt};
+ghost use Rattle.sum_outcome.specs.inner.Search.{HasNonNumber, IsSign, WinsAt};
 
 use crate::incentives::{is_dominated, is_repeated, moves};
 use crate::key::key_of;

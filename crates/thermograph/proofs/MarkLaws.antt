@@ -11,7 +11,7 @@ use Rattle.short_games.specs.Parts.IsFollower.{itself, further}
 use Rattle.game_store.specs.Forms.{IsOptions}
 use Rattle.game_store.proofs.Values.{has-pick, pick-has}
 use Rattle.short_games.proofs.TextOrderLaws.{sorted-has, has-sorted}
-use Rattle.thermograph.specs.Marks.{IsMarked, AreAdded, IsAmong, IsInner, AreFollowers}
+use Rattle.thermograph.specs.inner.Marks.{IsMarked, AreAdded, IsAmong, IsInner, AreFollowers}
 use Rattle.short_games.proofs.PartLaws.{follower-trans}
 
 pub added-none : (In : ℕ → Type 0) (xs : List Bool) → ((i : ℕ) → In i → ⊥) → AreAdded In xs xs

@@ -6,7 +6,7 @@ use Rattle.short_games.specs.Tree.{Tree, tree_at}
 use Rattle.thermograph.specs.declared.breaks.Break.{Break}
 use Rattle.short_games.specs.WallGrids.{HasTemperatureBetween}
 use Rattle.thermograph.specs.Scaffolds.{wall_of}
-use Rattle.thermograph.specs.Marks.{IsMarked, AreFollowers}
+use Rattle.thermograph.specs.inner.Marks.{IsMarked, AreFollowers}
 use Rattle.thermograph.specs.Drawings.{IsDrawn, AreDrawnBelow, AreDrawn}
 use Rattle.thermograph.specs.PastBounds.{IsDrawnPastBounds}
 use Rattle.short_games.proofs.WallLines.{below-or_at}

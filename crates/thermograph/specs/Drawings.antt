@@ -10,7 +10,7 @@ use Rattle.short_games.specs.Walls.{IsLeftWall, IsRightWall}
 use Rattle.short_games.specs.WallGrids.{HasWalls, IsMeeting, Bends}
 use Rattle.thermograph.specs.Breaks.{wall_at, IsLevel, IsPath, IsBreakAt}
 use Rattle.thermograph.specs.Scaffolds.{wall_of, AreApart, IsTraced}
-use Rattle.thermograph.specs.Marks.{IsMarked, IsInner}
+use Rattle.thermograph.specs.inner.Marks.{IsMarked, IsInner}
 
 -- the break points of a wall up to its end: the first is at 0, the last at the end, and between the two there is one
 -- exactly where the slope changes; from each the wall goes straight to the next

@@ -1,6 +1,6 @@
 pub mod Breaks
 pub mod Scaffolds
-pub mod Marks
 pub mod Drawings
 pub mod PastBounds
 pub mod Thermographs
+pub mod inner

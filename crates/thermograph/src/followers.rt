@@ -2,7 +2,7 @@
 
 ghost use Rattle.std.specs.Prelude.{◌<◌, ◌≤◌, length, IfOk};
 ghost use Rattle.game_store.specs.Meaning.{AreBelow};
-ghost use Rattle.thermograph.specs.Marks.{AreAdded, IsAmong, IsInner, AreFollowers};
+ghost use Rattle.thermograph.specs.inner.Marks.{AreAdded, IsAmong, IsInner, AreFollowers};
 
 use game_store::{Form, GameId, Store};
 use std::alloc::{AllocError, Global};

@@ -3,7 +3,7 @@
 ghost use Rattle.std.specs.Prelude.{◌≡◌, ◌<◌, ◌≤◌, [], ◌∷◌, ◌++◌, length, IfOk, IfErr, OnOk};
 ghost use Rattle.short_games.specs.Tree.{tree_at};
 ghost use Rattle.thermograph.specs.Breaks.{wall_at};
-ghost use Rattle.thermograph.specs.Marks.{AreFollowers};
+ghost use Rattle.thermograph.specs.inner.Marks.{AreFollowers};
 ghost use Rattle.thermograph.specs.Drawings.{DrawWalls, DrawOnGrids, IsTemperature, AreBreaks, end_of, IsDrawing, AreDrawn};
 ghost use Rattle.thermograph.specs.PastBounds.{IsDrawnPastBounds};
 ghost use Rattle.thermograph.specs.Thermographs.{breaks, IsFromZero};

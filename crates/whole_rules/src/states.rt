@@ -67,8 +67,13 @@ impl Whole {
 
     /// A state of these parts.
     pub(crate) fn new(board: Board, contested: Points, purses: Purses, side: Colour) -> Whole
-        ensures { result ≡ record { board = board; contested = contested; purses = purses; side =
-            side } }
+        ensures { result ≡ record {
+          board = board;
+          contested = contested;
+          purses = purses;
+          side =
+              side;
+        } }
     {
         Whole {
             board,

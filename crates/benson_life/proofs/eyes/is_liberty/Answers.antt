@@ -1,5 +1,5 @@
 use Rattle.std.proofs.Common.{arith, refl, sym}
-use Rattle.benson_life.specs.Eyes.{IsOfChain}
+use Rattle.benson_life.specs.inner.Eyes.{IsOfChain}
 use Rattle.go_grid.proofs.PointsLemmas.{each_item}
 use Rattle.benson_life.proofs.SurveyLemmas.{liberty_is}
 use Rattle.benson_life.proofs.eyes.is_liberty.Goals as goal

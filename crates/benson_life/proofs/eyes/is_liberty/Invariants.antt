@@ -1,5 +1,5 @@
 use Rattle.std.proofs.Common.{ℕ, ◌<◌, get_or}
-use Rattle.benson_life.specs.Eyes.{IsOfChain}
+use Rattle.benson_life.specs.inner.Eyes.{IsOfChain}
 use Rattle.benson_life.proofs.eyes.is_liberty.Given as goal
 
 abbrev pub invariant-loop-near : goal.invariant-loop-near

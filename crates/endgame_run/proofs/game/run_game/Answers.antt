@@ -1,6 +1,6 @@
 use Rattle.std.proofs.Common.{subst, inr}
 use Rattle.endgame_run.specs.File.{outside}
-use Rattle.endgame_run.specs.Top.{IsPlayRun}
+use Rattle.endgame_run.specs.inner.Top.{IsPlayRun}
 use Rattle.endgame_run.proofs.GameLaws.{opened_game}
 use Rattle.endgame_run.proofs.game.run_game.Goals as goal
 

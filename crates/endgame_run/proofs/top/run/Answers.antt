@@ -3,7 +3,7 @@ use Rattle.gd_words.specs.Viewed.{texts, viewed}
 use Rattle.endgame_run.specs.declared.question.Question.TheVariants.{Solve}
 use Rattle.endgame_run.specs.Engine.{AreForEngine}
 use Rattle.endgame_run.specs.File.{outside}
-use Rattle.endgame_run.specs.Top.{IsAsked}
+use Rattle.endgame_run.specs.inner.Top.{IsAsked}
 use Rattle.endgame_run.specs.Verdict.{AreToPlay, AskAbout, Pose, limits_of}
 use Rattle.endgame_run.proofs.GameLaws.{game_caused, game_written, only_play, own_outcome, unplayed, played_apart}
 use Rattle.endgame_run.proofs.CompleteLaws.{complete}

@@ -1,5 +1,5 @@
 use Rattle.std.proofs.Common.{◌≡◌, ◌∙◌, refl, sym, ap, subst, length}
-use Rattle.endgame_solver.specs.Sharing.{AreNegatives}
+use Rattle.endgame_solver.specs.inner.Sharing.{AreNegatives}
 use Rattle.endgame_solver.proofs.PairingLaws.{lent_back, turned_step}
 use Rattle.endgame_solver.proofs.sharing.negatives.Goals as goal
 

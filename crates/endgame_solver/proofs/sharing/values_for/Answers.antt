@@ -1,6 +1,6 @@
 use Rattle.std.proofs.Common.{sym, subst}
 use Rattle.endgame_solver.specs.Held.{ids_at}
-use Rattle.endgame_solver.specs.Sharing.{AreTurnedValues}
+use Rattle.endgame_solver.specs.inner.Sharing.{AreTurnedValues}
 use Rattle.endgame_solver.proofs.SharingLaws.{same_values}
 use Rattle.endgame_solver.proofs.sharing.values_for.Goals as goal
 

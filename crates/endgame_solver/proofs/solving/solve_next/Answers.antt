@@ -3,7 +3,7 @@ use Rattle.std.proofs.lemmas.List.{get_or_read}
 use Rattle.std.proofs.lemmas.Result.{err_from_is_err_and}
 use Rattle.region_book.specs.Image.{IsShape}
 use Rattle.endgame_solver.specs.Regions.{no_region}
-use Rattle.endgame_solver.specs.Solving.{IsRefusalOf, IsSolvedBy}
+use Rattle.endgame_solver.specs.inner.Solving.{IsRefusalOf, IsSolvedBy}
 use Rattle.endgame_solver.specs.declared.sharing.Kind.{Kind}
 use Rattle.endgame_solver.proofs.SharingLaws.{next_seen, partner_for, shares_new}
 use Rattle.endgame_solver.proofs.SolvingLaws.{refused_at}

@@ -1,7 +1,7 @@
 use Rattle.std.proofs.Common.{◌+◌, ◌≤◌, take}
 use Rattle.game_store.specs.Meaning.{Extends}
 use Rattle.endgame_solver.specs.Faults.{most_steps}
-use Rattle.endgame_solver.specs.Sharing.{SharesBelow}
+use Rattle.endgame_solver.specs.inner.Sharing.{SharesBelow}
 use Rattle.endgame_solver.proofs.solving.solve_regions.Given as goal
 
 abbrev pub invariant-regions : goal.invariant-regions

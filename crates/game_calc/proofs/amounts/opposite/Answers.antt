@@ -1,5 +1,5 @@
 use Rattle.std.proofs.Common.{subst}
-use Rattle.game_calc.specs.Amounts.{IsAmount}
+use Rattle.game_calc.specs.inner.Amounts.{IsAmount}
 use Rattle.game_calc.proofs.AmountSteps.{opposite-known, opposite-large}
 use Rattle.game_calc.proofs.amounts.opposite.Goals as goal
 

@@ -1,5 +1,5 @@
 use Rattle.std.proofs.Common.{subst}
-use Rattle.game_calc.specs.Amounts.{IsAmount}
+use Rattle.game_calc.specs.inner.Amounts.{IsAmount}
 use Rattle.game_calc.proofs.AmountSteps.{first-large, second-large}
 use Rattle.game_calc.proofs.amounts.sum_of.Goals as goal
 

@@ -1,7 +1,7 @@
 use Rattle.std.proofs.Common.{subst, sym}
 use Rattle.std.specs.Prelude.{Option}
 use Rattle.std.proofs.lemmas.Result.{IfOk-weaker}
-use Rattle.game_calc.specs.Amounts.{IsAmount, IsBefore}
+use Rattle.game_calc.specs.inner.Amounts.{IsAmount, IsBefore}
 use Rattle.game_calc.specs.Expression.{Expression, signed, with_term}
 use Rattle.game_calc.specs.Expression.Expression.{sum}
 use Rattle.game_calc.proofs.AmountSteps.{none-before, some-before}

@@ -1,7 +1,7 @@
 use Rattle.std.proofs.Common.{ℕ}
 use Rattle.std.proofs.lemmas.Result.{IfErr-weaker}
 use Rattle.short_games.specs.Tree.{tree_at}
-use Rattle.game_calc.specs.Amounts.{IsAmount}
+use Rattle.game_calc.specs.inner.Amounts.{IsAmount}
 use Rattle.game_calc.specs.Answer.{IsShownRefusal, IsUnanswered}
 use Rattle.game_calc.specs.Expression.{Expression}
 use Rattle.game_calc.specs.Expression.Line.{value}

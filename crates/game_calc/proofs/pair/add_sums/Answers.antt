@@ -1,5 +1,5 @@
 use Rattle.std.proofs.Common.{sym, ◌∙◌, get_or}
-use Rattle.game_calc.specs.Table.{noted, beside}
+use Rattle.game_calc.specs.inner.Table.{noted, beside}
 use Rattle.game_calc.proofs.TableSteps.{adds-start, adds-step, not-none}
 use Rattle.game_calc.proofs.pair.add_sums.Goals as goal
 

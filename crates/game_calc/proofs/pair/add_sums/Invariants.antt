@@ -1,5 +1,5 @@
 use Rattle.std.proofs.Common.{take}
-use Rattle.game_calc.specs.Table.{noted, beside, AddsSums}
+use Rattle.game_calc.specs.inner.Table.{noted, beside, AddsSums}
 use Rattle.game_calc.proofs.pair.add_sums.Given as goal
 
 abbrev pub invariant-adding : goal.invariant-adding

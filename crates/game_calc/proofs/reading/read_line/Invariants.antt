@@ -1,5 +1,5 @@
 use Rattle.std.proofs.Common.{◌-◌, length}
-use Rattle.game_calc.specs.Machine.{IsReading}
+use Rattle.game_calc.specs.inner.Machine.{IsReading}
 use Rattle.game_store.specs.Meaning.{Extends}
 use Rattle.game_calc.proofs.reading.read_line.Given as goal
 

@@ -1,5 +1,5 @@
 use Rattle.std.proofs.lemmas.Result.{err_from_is_err_and}
-use Rattle.game_calc.specs.Machine.{IsLineRefusal}
+use Rattle.game_calc.specs.inner.Machine.{IsLineRefusal}
 use Rattle.game_calc.proofs.TurnSteps.{passed, term-held, game-refused, game-taken}
 use Rattle.game_calc.proofs.reading.read_named.Goals as goal
 

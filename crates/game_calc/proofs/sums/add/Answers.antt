@@ -4,7 +4,7 @@ use Rattle.short_games.specs.Tree.{tree_at}
 use Rattle.game_canon.specs.Reachable.{AreReachable}
 use Rattle.game_canon.proofs.ChangeSteps.{passed-on, reachable-closed}
 use Rattle.game_calc.specs.Steps.{IsStepRefusal}
-use Rattle.game_calc.specs.Table.{noted}
+use Rattle.game_calc.specs.inner.Table.{noted}
 use Rattle.game_calc.proofs.TableSteps.{not-none}
 use Rattle.game_calc.proofs.PlaceSteps.{root-known, root-sum, all-within, one-refused}
 use Rattle.game_calc.proofs.sums.add.Goals as goal

@@ -1,5 +1,5 @@
 use Rattle.game_canon.specs.FormComparisons.{AreFormComparisonsRight}
-use Rattle.game_calc.specs.Table.{noted}
+use Rattle.game_calc.specs.inner.Table.{noted}
 use Rattle.game_calc.proofs.TableSteps.{AreRows}
 use Rattle.game_calc.proofs.sums.add_all.Given as goal
 

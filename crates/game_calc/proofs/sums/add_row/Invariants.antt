@@ -1,5 +1,5 @@
 use Rattle.game_canon.specs.FormComparisons.{AreFormComparisonsRight}
-use Rattle.game_calc.specs.Table.{noted}
+use Rattle.game_calc.specs.inner.Table.{noted}
 use Rattle.game_calc.proofs.TableSteps.{IsRow}
 use Rattle.game_calc.proofs.sums.add_row.Given as goal
 

@@ -1,5 +1,5 @@
 use Rattle.std.proofs.Common.{ℕ, ◌<◌, ◌+◌, ◌-◌, length}
-use Rattle.game_canon.specs.Games.{trees}
+use Rattle.game_canon.specs.inner.Games.{trees}
 use Rattle.game_canon.specs.Comparisons.{counter, IsCountered}
 use Rattle.game_canon.proofs.at_most.go_on.Given as goal
 

@@ -3,7 +3,7 @@ use Rattle.std.proofs.lemmas.Int.{ints}
 use Rattle.short_games.specs.Order.{◌≤ᵍ◌}
 use Rattle.short_games.specs.Tree.{tree_at}
 use Rattle.short_games.proofs.OrderLaws.{le-refl}
-use Rattle.game_canon.specs.Games.{trees}
+use Rattle.game_canon.specs.inner.Games.{trees}
 use Rattle.game_canon.proofs.Steps.{first_number, second_number, through}
 use Rattle.game_canon.proofs.at_most.settled.Goals as goal
 

@@ -1,8 +1,8 @@
 use Rattle.std.proofs.Common.{ℕ, ◌<◌, get_or}
 use Rattle.short_games.specs.Tree.{tree_at}
 use Rattle.game_canon.specs.Comparisons.{recalled}
-use Rattle.game_canon.specs.Games.{IsKnown}
-use Rattle.game_canon.specs.Sides.{Covers}
+use Rattle.game_canon.specs.inner.Games.{IsKnown}
+use Rattle.game_canon.specs.inner.Sides.{Covers}
 use Rattle.game_canon.proofs.domination.none_covers.Given as goal
 
 abbrev pub invariant-loop-other : goal.invariant-loop-other

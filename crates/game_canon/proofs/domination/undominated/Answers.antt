@@ -3,7 +3,7 @@ use Rattle.std.proofs.lemmas.List.{take_more}
 use Rattle.std.proofs.lemmas.Bool.{both_ways}
 use Rattle.short_games.specs.Tree.{tree_at}
 use Rattle.game_store.proofs.Values.{pick-has}
-use Rattle.game_canon.specs.Sides.{AreBest, Covers}
+use Rattle.game_canon.specs.inner.Sides.{AreBest, Covers}
 use Rattle.game_canon.proofs.GameLaws.{none-list}
 use Rattle.game_canon.proofs.SideLaws.{best-skip, best-push, NearUncovered}
 use Rattle.game_canon.proofs.domination.undominated.Goals as goal

@@ -1,7 +1,7 @@
 use Rattle.std.proofs.Common.{get_or, take, ◌++◌, [], ◌∷◌, List, ℕ, sym, subst}
 use Rattle.std.proofs.lemmas.List.{take_more}
 use Rattle.std.proofs.lemmas.Bool.{both_ways}
-use Rattle.game_canon.specs.Sides.{IsWithout}
+use Rattle.game_canon.specs.inner.Sides.{IsWithout}
 use Rattle.game_canon.proofs.SideLaws.{without-skip, without-push}
 use Rattle.game_canon.proofs.domination.without_covered.Goals as goal
 

@@ -2,7 +2,7 @@ use Rattle.std.proofs.Common.{◌≡◌, ◌<◌, ◌≤◌, List, ℕ, length, 
 use Rattle.std.proofs.lemmas.List.{nil_from_length}
 use Rattle.short_games.specs.Tree.{Has, tree_at}
 use Rattle.game_store.specs.Meaning.{pick}
-use Rattle.game_canon.specs.Ids.{IsInOrder}
+use Rattle.game_canon.specs.inner.Ids.{IsInOrder}
 use Rattle.game_canon.specs.Reachable.{IsWidened}
 use Rattle.game_canon.proofs.PartLaws.{ids-few}
 use Rattle.game_canon.proofs.ReachableLaws.{reaching-start, reaching-step, reaching-end}

@@ -1,8 +1,8 @@
 use Rattle.std.proofs.Common.{ℕ, ◌<◌, get_or}
 use Rattle.short_games.specs.Tree.{tree_at}
 use Rattle.game_canon.specs.Comparisons.{recalled}
-use Rattle.game_canon.specs.Games.{beside, IsKnown}
-use Rattle.game_canon.specs.Sides.{Covers}
+use Rattle.game_canon.specs.inner.Games.{beside, IsKnown}
+use Rattle.game_canon.specs.inner.Sides.{Covers}
 use Rattle.game_canon.proofs.reversal.first_covered.Given as goal
 
 abbrev pub invariant-loop-id : goal.invariant-loop-id

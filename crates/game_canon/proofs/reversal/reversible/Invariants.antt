@@ -2,8 +2,8 @@ use Rattle.std.proofs.Common.{ℕ, ◌<◌, ◌⊎◌, get_or}
 use Rattle.short_games.specs.Number.{IsNumberTree}
 use Rattle.short_games.specs.Tree.{tree_at}
 use Rattle.game_canon.specs.Comparisons.{recalled}
-use Rattle.game_canon.specs.Games.{beside, IsKnown}
-use Rattle.game_canon.specs.Sides.{IsKept}
+use Rattle.game_canon.specs.inner.Games.{beside, IsKnown}
+use Rattle.game_canon.specs.inner.Sides.{IsKept}
 use Rattle.game_canon.proofs.reversal.reversible.Given as goal
 
 abbrev pub invariant-loop-place : goal.invariant-loop-place

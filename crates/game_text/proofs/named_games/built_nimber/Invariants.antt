@@ -1,6 +1,6 @@
 use Rattle.std.proofs.Common.{◌+◌, ◌-◌, ◌<◌, ◌≤◌, length}
 use Rattle.game_store.specs.Meaning.{Extends}
-use Rattle.game_text.specs.Written.{AreNimbers}
+use Rattle.game_text.specs.inner.Written.{AreNimbers}
 use Rattle.game_text.proofs.named_games.built_nimber.Given as goal
 
 abbrev pub invariant-building : goal.invariant-building

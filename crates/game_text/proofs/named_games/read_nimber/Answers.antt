@@ -1,6 +1,6 @@
 use Rattle.std.proofs.lemmas.Result.{err_from_is_err_and}
 use Rattle.game_text.specs.Reading.{ReadsNimber}
-use Rattle.game_text.specs.Machine.{IsRefusedBy}
+use Rattle.game_text.specs.inner.Machine.{IsRefusedBy}
 use Rattle.game_text.proofs.ReadingGoals.{read-passed_on}
 use Rattle.game_text.proofs.NameReading.{taken-refused}
 use Rattle.game_text.proofs.named_games.read_nimber.Goals as goal

@@ -2,7 +2,7 @@ use Rattle.std.proofs.Common.{arith, refl, sym}
 use Rattle.std.proofs.lemmas.Bool.{true≢false}
 use Rattle.std.proofs.lemmas.Result.{err_from_is_err_and}
 use Rattle.game_text.specs.Reading.{ReadsSwitch}
-use Rattle.game_text.specs.Machine.{IsRefusedBy}
+use Rattle.game_text.specs.inner.Machine.{IsRefusedBy}
 use Rattle.game_text.proofs.ReadingGoals.{read-passed_on, at-none, at-some}
 use Rattle.game_text.proofs.NameReading.{cut-plus, stray-plus, bad-plus, above-plus, switch-plus, taken-refused}
 use Rattle.game_text.proofs.named_games.read_switch.Goals as goal

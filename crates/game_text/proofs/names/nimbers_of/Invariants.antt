@@ -1,4 +1,4 @@
-use Rattle.game_text.specs.Written.{AreFound}
+use Rattle.game_text.specs.inner.Written.{AreFound}
 use Rattle.game_text.proofs.names.nimbers_of.Given as goal
 
 abbrev pub invariant-loop-id : goal.invariant-loop-id

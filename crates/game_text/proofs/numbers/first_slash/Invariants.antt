@@ -1,5 +1,5 @@
 use Rattle.std.proofs.Common.{◌-◌, length}
-use Rattle.game_text.specs.Slashes.{HasNoSlash}
+use Rattle.game_text.specs.inner.Slashes.{HasNoSlash}
 use Rattle.game_text.proofs.numbers.first_slash.Given as goal
 
 abbrev pub invariant-looking : goal.invariant-looking

@@ -1,7 +1,7 @@
 use Rattle.std.proofs.Common.{◌∷◌, [], ◌++◌, arith, ◌∙◌, ap, refl}
 use Rattle.std.specs.Prelude.{Some}
 use Rattle.std.proofs.lemmas.Result.{err_from_is_err_and}
-use Rattle.game_text.specs.Machine.{opening_at}
+use Rattle.game_text.specs.inner.Machine.{opening_at}
 use Rattle.game_text.specs.Reading.{IsReadRefusal}
 use Rattle.game_text.proofs.SideEnds.{mark-top, bar-next, left-ids, right-ids, brace-next, brace-refused}
 use Rattle.game_text.proofs.ReadingGoals.{read-passed_on}

@@ -1,6 +1,6 @@
 use Rattle.std.proofs.Common.{◌-◌, length}
 use Rattle.game_store.specs.Meaning.{Extends}
-use Rattle.game_text.specs.Machine.{IsReading}
+use Rattle.game_text.specs.inner.Machine.{IsReading}
 use Rattle.game_text.proofs.reading.read.Given as goal
 
 abbrev pub invariant-reading : goal.invariant-reading

@@ -1,6 +1,6 @@
 use Rattle.std.proofs.Common.{nat_eq, arith}
 use Rattle.indexmap.specs.IndexMap.{get}
-use Rattle.game_text.specs.Written.{text_at}
+use Rattle.game_text.specs.inner.Written.{text_at}
 use Rattle.game_text.proofs.Sorting.{map-sorted, texts-sorted}
 use Rattle.game_text.proofs.texts.sorted_texts.Goals as goal
 

@@ -1,6 +1,6 @@
 use Rattle.std.proofs.Common.{◌≡◌, map, take, nat_eq}
 use Rattle.indexmap.specs.IndexMap.{get}
-use Rattle.game_text.specs.Written.{text_at}
+use Rattle.game_text.specs.inner.Written.{text_at}
 use Rattle.game_text.proofs.texts.sorted_texts.Given as goal
 
 abbrev pub invariant-loop-id : goal.invariant-loop-id

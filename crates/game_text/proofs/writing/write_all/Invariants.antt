@@ -1,6 +1,6 @@
 use Rattle.std.proofs.Common.{nat_eq}
 use Rattle.indexmap.specs.IndexMap.{get}
-use Rattle.game_text.specs.Written.{AreWritten}
+use Rattle.game_text.specs.inner.Written.{AreWritten}
 use Rattle.game_text.proofs.writing.write_all.Given as goal
 
 abbrev pub invariant-loop-id : goal.invariant-loop-id

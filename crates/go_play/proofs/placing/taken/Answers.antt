@@ -4,7 +4,7 @@ use Rattle.go_grid.specs.Board.{other, stone}
 use Rattle.go_grid.specs.Marks.{IsMarked, Marks}
 use Rattle.go_grid.proofs.PointsLemmas.{item_is, noted_next}
 use Rattle.go_play.specs.Place.{with_stone}
-use Rattle.go_play.specs.Tried.{IsLost}
+use Rattle.go_play.specs.inner.Tried.{IsLost}
 use Rattle.go_play.proofs.PlaceLemmas.{Loses, taken_all}
 use Rattle.go_play.proofs.placing.taken.Goals as goal
 

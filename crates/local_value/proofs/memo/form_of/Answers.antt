@@ -1,5 +1,5 @@
 use Rattle.std.proofs.Common.{sym, ◌∙◌}
-use Rattle.local_value.specs.Memo.{recalled_form, IsFormOf}
+use Rattle.local_value.specs.inner.Memo.{recalled_form, IsFormOf}
 use Rattle.local_value.proofs.MemoLaws.{form-made, forms-grown}
 use Rattle.local_value.proofs.memo.form_of.Goals as goal
 

@@ -5,7 +5,7 @@ use Rattle.short_games.specs.Tree.{tree_at}
 use Rattle.short_games.specs.Number.{number_tree}
 use Rattle.short_games.specs.Parts.{IsNumberOf}
 use Rattle.game_canon.specs.Outcomes.{IsCanonicalId}
-use Rattle.local_value.specs.Memo.{stones_units, recalled_sum, IsStonesSum}
+use Rattle.local_value.specs.inner.Memo.{stones_units, recalled_sum, IsStonesSum}
 use Rattle.local_value.proofs.MemoLaws.{sum-made, sums-grown}
 use Rattle.local_value.proofs.memo.with_stones.Goals as goal
 

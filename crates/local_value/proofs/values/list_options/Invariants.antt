@@ -1,5 +1,5 @@
 use Rattle.go_grid.specs.declared.grid.Colour.TheVariants.{Black, White}
-use Rattle.local_value.specs.Memo.{recalled_sum, AreSumsRight}
+use Rattle.local_value.specs.inner.Memo.{recalled_sum, AreSumsRight}
 use Rattle.local_value.proofs.AfterLaws.{IsListing}
 use Rattle.local_value.proofs.values.list_options.Given as goal
 

@@ -3,8 +3,8 @@ use Rattle.std.proofs.lemmas.Result.{IfErr-weaker, IfOk-weaker}
 use Rattle.short_games.specs.Tree.{Tree, tree_at}
 use Rattle.game_store.specs.Meaning.{listed}
 use Rattle.game_canon.specs.Outcomes.{IsCanonicalId, IsCause, AreWithin}
-use Rattle.local_value.specs.Memo.{IsFormOf, recalled_form, recalled_sum}
-use Rattle.local_value.specs.Valuing.{AreWithinAfter, HasEdges}
+use Rattle.local_value.specs.inner.Memo.{IsFormOf, recalled_form, recalled_sum}
+use Rattle.local_value.specs.inner.Valuing.{AreWithinAfter, HasEdges}
 use Rattle.local_value.proofs.MemoLaws.{sums-grown, forms-grown, on-ok}
 use Rattle.local_value.proofs.OptionsLaws.{left-ids, right-ids, cause-as, edges-same, form-valued, form-within}
 use Rattle.local_value.proofs.values.value_of.Goals as goal

@@ -3,7 +3,7 @@ use Rattle.go_grid.specs.declared.grid.Cell.TheVariants.{Empty}
 use Rattle.go_grid.specs.Board.{cell_at}
 use Rattle.go_grid.specs.Region.{touch_at}
 use Rattle.benson_life.proofs.HeldLemmas.{short}
-use Rattle.region_cut.specs.Places.{IsTouch}
+use Rattle.region_cut.specs.inner.Places.{IsTouch}
 use Rattle.region_cut.proofs.RegionLemmas.{keeps_region, region_lists, region_inside, region_first, is_region_of_play, walled_in}
 use Rattle.region_cut.proofs.cuts.region_of.Goals as goal
 

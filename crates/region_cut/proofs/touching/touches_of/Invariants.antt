@@ -1,6 +1,6 @@
 use Rattle.std.proofs.Common.{◌≡◌, ℕ, ◌<◌, get_or, length}
 use Rattle.go_grid.specs.Region.{touch_at}
-use Rattle.region_cut.specs.Places.{IsTouch}
+use Rattle.region_cut.specs.inner.Places.{IsTouch}
 use Rattle.region_cut.proofs.touching.touches_of.Given as goal
 
 abbrev pub invariant-touching : goal.invariant-touching

@@ -1,5 +1,5 @@
 use Rattle.std.proofs.Common.{◌<◌, ◌≤◌, ◌+◌, sym, ◌-◌, length, arith, ap, refl, true, set, subst, List, Bool}
-use Rattle.thermograph.specs.Marks.{AreAdded, IsInner, AreFollowers}
+use Rattle.thermograph.specs.inner.Marks.{AreAdded, IsInner, AreFollowers}
 use Rattle.thermograph.proofs.MarkLaws.{following-start, following-step, written, marked-read}
 use Rattle.thermograph.proofs.followers.followers.Goals as goal
 

@@ -1,5 +1,5 @@
 use Rattle.std.proofs.Common.{◌≤◌, length}
-use Rattle.thermograph.specs.Marks.{AreFollowers}
+use Rattle.thermograph.specs.inner.Marks.{AreFollowers}
 use Rattle.thermograph.proofs.followers.followers.Given as goal
 
 abbrev pub invariant-marking : goal.invariant-marking

@@ -1,5 +1,5 @@
 use Rattle.std.proofs.Common.{◌<◌, ◌≡◌, ℕ, get_or}
-use Rattle.thermograph.specs.Marks.{AreAdded}
+use Rattle.thermograph.specs.inner.Marks.{AreAdded}
 use Rattle.thermograph.proofs.followers.mark_ids.Given as goal
 
 abbrev pub invariant-loop-id : goal.invariant-loop-id

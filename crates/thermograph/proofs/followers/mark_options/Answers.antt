@@ -1,5 +1,5 @@
 use Rattle.std.proofs.Common.{inl, inr, arith}
-use Rattle.thermograph.specs.Marks.{IsInner, IsAmong}
+use Rattle.thermograph.specs.inner.Marks.{IsInner, IsAmong}
 use Rattle.thermograph.proofs.MarkLaws.{added-both, left-inner, right-inner, inner-listed}
 use Rattle.thermograph.proofs.followers.mark_options.Goals as goal
 

@@ -4,7 +4,7 @@ use Rattle.whole_rules.specs.Opening.{IsOpening}
 use Rattle.sum_outcome.proofs.MemoLaws.{fits_grown}
 use Rattle.endgame_solver.specs.Faults.{AreRefused, most_steps}
 use Rattle.endgame_solver.proofs.BegunLaws.{komi_held, refusal_begun, steps_within}
-use Rattle.endgame_solver.specs.Sharing.{AreSharedBy}
+use Rattle.endgame_solver.specs.inner.Sharing.{AreSharedBy}
 use Rattle.endgame_solver.proofs.ViewLaws.{openings_known, sum_is}
 use Rattle.endgame_solver.proofs.KeptAtStart.{is_kept, are_sound}
 use Rattle.endgame_solver.proofs.solved.Solved.begin.Goals as goal

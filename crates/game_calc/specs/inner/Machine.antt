@@ -1,7 +1,7 @@
 -- Where the reader stands in a line: the parentheses that are open, and what the rest of the line then comes to.
 use Rattle.std.specs.Prelude.{ℕ, ◌≡◌, ◌+◌, ◌<◌, ◌≤◌, ◌⊎◌, List, [], ◌∷◌, ◌++◌, length, drop, slice_range, Option, Some, None, Result, Ok, Err}
 use Rattle.short_games.specs.Tree.{Tree}
-use Rattle.game_calc.specs.Amounts.{IsAmount, IsBefore, IsHeld}
+use Rattle.game_calc.specs.inner.Amounts.{IsAmount, IsBefore, IsHeld}
 use Rattle.game_calc.specs.Expression.{Expression, Line, Fault, Outcome, ReadsTerm, ReadsTerms, ReadsLine, BehindFirst, BehindSecond, closed, kind, next, token, rest, sign_of, with_term}
 use Rattle.game_calc.specs.Expression.Line.{value, order}
 use Rattle.game_calc.specs.Expression.Fault.{stray, no_number, unfinished, deep, large}

@@ -14,7 +14,7 @@ use Rattle.endgame_solver.specs.Held.{ids_at}
 use Rattle.endgame_solver.specs.Regions.{region_at, graph_at}
 use Rattle.endgame_solver.specs.ShapeValues.{game_after}
 use Rattle.endgame_solver.specs.Solved.{IsNumberOfShapes}
-use Rattle.endgame_solver.specs.Solving.{AreSolvedBelow, IsSolvedBy}
+use Rattle.endgame_solver.specs.inner.Solving.{AreSolvedBelow, IsSolvedBy}
 use Rattle.endgame_solver.specs.Views.{AreViews}
 use Rattle.endgame_solver.specs.declared.limits.Limits.{Limits}
 use Rattle.endgame_solver.specs.declared.sharing.Book.{Book}

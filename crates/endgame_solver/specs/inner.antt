@@ -1,0 +1,5 @@
+-- What loops and private calls keep; no public clause cites it.
+pub mod Sharing
+pub mod Solving
+pub mod Valued
+pub mod WholeParts
