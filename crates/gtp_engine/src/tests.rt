@@ -14,8 +14,13 @@ use std::test::Fail;
 /// `.X.X.O.O.` / `XXXXXOOOO`, with one contested point.
 const ONE_POINT: &[u8] = b"(;SZ[9:2]AB[ba][da][ab:eb]AW[fa][ha][fb:ib])";
 
-/// `.X.X..O.O.` / `XXXXXOOOOO`, with two contested points.
-const TWO_POINTS: &[u8] = b"(;SZ[10:2]AB[ba][da][ab:eb]AW[ga][ia][fb:jb])";
+/// A corridor of two points, where White gets half a point and moves.
+const CORRIDOR: &[u8] =
+    b"(;SZ[10:3]KM[0.5]PL[W]AB[ba][da:fa][ab:db][ac:fc]AW[ga][ia][gb:jb][gc:jc])";
+
+/// Two stones of Black's and one of White's in atari, where Black gets half a point and moves.
+const ATARI: &[u8] = b"(;SZ[10:5]KM[-0.5]AB[ba][da:fa][ab:db][ac:fc][ad:fd][hd:id][ae:fe]\
+    AW[ga][ia][eb][gb:jb][gc:jc][jd][ge:je])";
 
 const LIMITS: Limits = Limits {
     positions: 100_000,
@@ -79,7 +84,8 @@ fn session(
 {
     let mut shelf = MemoryShelf::new(alloc);
     shelf.add("c", ONE_POINT.to_vec(alloc)?)?;
-    shelf.add("d", TWO_POINTS.to_vec(alloc)?)?;
+    shelf.add("corridor", CORRIDOR.to_vec(alloc)?)?;
+    shelf.add("atari", ATARI.to_vec(alloc)?)?;
     shelf.fail_at(failing.load)?;
     let mut lines = MemorySource::new(text.to_vec(alloc)?, piece, vec![in alloc; failing.read]?);
     let mut out = MemorySink::with_room(alloc, 5_000, vec![in alloc; failing.write]?)?;
@@ -174,47 +180,62 @@ fn ends_after_ten_thousand_lines(rt: HostRuntime) -> Result<(), Fail> {
     Ok(())
 }
 
-/// A session's lines with one more.
-fn with_line(alloc: Global, lines: &[u8], parts: [&[u8]; 3]) -> Result<Vec<u8>, AllocError> {
+/// The lines of a session with one more, made of parts.
+fn with_line(alloc: Global, lines: &[u8], parts: &[&[u8]]) -> Result<Vec<u8>, AllocError> {
     let mut all = lines.to_vec(alloc)?;
     for part in parts {
         all.extend_from_slice(part)?;
     }
+    all.extend_from_slice(b"\n")?;
     Ok(all)
 }
 
-/// Every move of a board of 10 columns and 2 rows.
-const MOVES: [&[u8]; 22] = [
-    b"a1", b"b1", b"c1", b"d1", b"e1", b"f1", b"g1", b"h1", b"j1", b"k1", b"a2", b"b2", b"c2",
-    b"d2", b"e2", b"f2", b"g2", b"h2", b"j2", b"k2", b"pass", b"half",
-];
+/// Adds the lines with a move of the opponent's behind them, where the engine takes it.
+fn add_answer(
+    alloc: Global,
+    lines: &[u8],
+    parts: &[&[u8]],
+    open: &mut Vec<Vec<u8>>,
+) -> Result<(), AllocError> {
+    let answer = with_line(alloc, lines, parts)?;
+    let outcome = session(alloc, &answer, 500, NONE)?;
+    if outcome.written.ends_with(b"\n\n= \n\n") {
+        open.push(answer)?;
+    }
+    Ok(())
+}
 
 #[test]
 fn wins_against_every_line(rt: HostRuntime) -> Result<(), Fail> {
     let alloc = rt.alloc();
-    let rows: [&[u8]; 2] = [b"loadsgf c\n", b"loadsgf d\n"];
-    for load in rows {
+    let rows: [(&[u8], &[u8], &[u8]); 2] = [
+        (b"loadsgf corridor\n", b"genmove w", b"play b "),
+        (b"loadsgf atari\n", b"genmove b", b"play w "),
+    ];
+    let columns: [&[u8]; 10] = [b"a", b"b", b"c", b"d", b"e", b"f", b"g", b"h", b"j", b"k"];
+    let numbers: [&[u8]; 5] = [b"1", b"2", b"3", b"4", b"5"];
+    for (load, generate, play) in rows {
         let mut open = vec![in alloc; load.to_vec(alloc)?]?;
         let mut games = 0_usize;
-        for _ in 0..10_000 {
+        for _ in 0..100 {
             let Some(lines) = open.pop() else { break };
-            let turn = with_line(alloc, &lines, [b"genmove ", b"b", b"\n"])?;
+            let turn = with_line(alloc, &lines, &[generate])?;
             let won = session(alloc, &turn, 500, NONE)?;
             assert!(rt; !won.written.ends_with(b"resign\n\n"));
             let before = open.len();
-            for word in MOVES {
-                let answer = with_line(alloc, &turn, [b"play w ", word, b"\n"])?;
-                let outcome = session(alloc, &answer, 500, NONE)?;
-                if outcome.written.ends_with(b"\n\n= \n\n") {
-                    open.push(answer)?;
+            for number in numbers {
+                for column in columns {
+                    add_answer(alloc, &turn, &[play, column, number], &mut open)?;
                 }
             }
+            add_answer(alloc, &turn, &[play, b"pass"], &mut open)?;
+            add_answer(alloc, &turn, &[play, b"half"], &mut open)?;
             if open.len() == before {
-                games += 1;
+                games = games.saturating_add(1);
             }
         }
         assert!(rt; open.is_empty());
-        assert!(rt; games > 1);
+        assert_eq!(rt; games, 4);
     }
     Ok(())
 }
