@@ -13,7 +13,7 @@ use Rattle.endgame_run.specs.declared.status.Status.TheVariants.{CannotWrite, Do
 use Rattle.endgame_run.specs.declared.status.Status.TheVariants as status
 use Rattle.endgame_run.specs.declared.question.Question.TheVariants.{Solve}
 use Rattle.endgame_run.specs.Engine.{AreForEngine}
-use Rattle.endgame_run.specs.File.{Outside}
+use Rattle.endgame_run.specs.File.{Outside, World}
 use Rattle.endgame_run.specs.Game.{EngineKeepsWin}
 use Rattle.endgame_run.specs.Output.{IsCaused, IsOutput, IsPartOutput}
 use Rattle.endgame_run.specs.Verdict.{AreNeededRegions, AskToPlay, limits_of}
@@ -22,9 +22,9 @@ use Rattle.endgame_run.proofs.OutputLaws.{no_job, part_output}
 use Rattle.endgame_run.proofs.PoseLaws.{engine_unposed}
 
 -- the words of the engine need no regions of a file or of a number
-pub engine_regions : (words : List (List ℕ)) (files : Option Files) (left : Option (List ℕ)) (limits most : Limits) (setup : Setup) → AreForEngine words limits → AreNeededRegions words files left most setup → ⊥
-engine_regions words files left limits most setup a (inl t) = engine_unposed words limits t.job t.question t.word a t.asks
-engine_regions words files left limits most setup (own, only, is, same) (inr (number, (other, its, trial_is), here, default)) =
+pub engine_regions : (words : List (List ℕ)) (w : World) (limits most : Limits) (setup : Setup) → AreForEngine words limits → AreNeededRegions words w most setup → ⊥
+engine_regions words w limits most setup a (inl t) = engine_unposed words limits t.job t.question t.word a t.asks
+engine_regions words w limits most setup (own, only, is, same) (inr (number, (other, its, trial_is), here, default)) =
     let k : Path Task (trial number) gtp = sym trial_is ∙ ap (λ j. j.task) (only.only other its.said) ∙ is in absurd cc
 
 pub engine_unplayed : (words : List (List ℕ)) (limits : Limits) → AreForEngine words limits → AskToPlay words → ⊥

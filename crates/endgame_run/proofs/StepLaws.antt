@@ -16,7 +16,7 @@ use Rattle.endgame_run.specs.declared.question.Question.{Question}
 use Rattle.endgame_run.specs.declared.question.Question.TheVariants as question
 use Rattle.desk_io.specs.Files.{IsTold}
 use Rattle.sgf_go.specs.File.{Reads}
-use Rattle.endgame_run.specs.File.{told_of}
+use Rattle.endgame_run.specs.File.{World, told_of}
 use Rattle.desk_io.specs.Files.{Files}
 use Rattle.endgame_run.specs.inner.Top.{AreToldSteps, IsModest}
 use Rattle.sgf_go.proofs.OneReading.{one_setup}

@@ -2,7 +2,7 @@ use Rattle.std.proofs.Common.{rules, inl, inr, refl, ap, subst}
 use Rattle.gd_words.specs.Viewed.{texts, viewed}
 use Rattle.endgame_run.specs.declared.question.Question.TheVariants.{Solve}
 use Rattle.endgame_run.specs.Engine.{AreForEngine}
-use Rattle.endgame_run.specs.File.{outside}
+use Rattle.endgame_run.specs.File.{faults, outside, world}
 use Rattle.endgame_run.specs.inner.Top.{IsAsked}
 use Rattle.endgame_run.specs.Verdict.{AreToPlay, AskAbout, Pose, limits_of}
 use Rattle.endgame_run.proofs.GameLaws.{game_caused, game_written, only_play, own_outcome, unplayed, played_apart}
@@ -45,13 +45,13 @@ returns-in-Answer-clause-first_winning_move g c =
 pub returns-in-Answer-clause-few_steps : goal.returns-in-Answer-clause-few_steps
 returns-in-Answer-clause-few_steps g c _ =
     let asks : AskAbout (texts c.args.words.now) (viewed c.in-Ok.job) c.in-Answer.inquiry.question c.in-Answer.inquiry.word.now = (c.in-Ok.ensures.job, (subst (IsAsked (viewed c.in-Ok.job)) c.in-Answer.is c.asked.ensures)) in
-    run_steps (texts c.args.words.now) (g.H.Shelf.files c.args.shelf.now) (g.S.Source.left c.args.lines.now) (viewed c.in-Ok.job) c.in-Answer.inquiry.question c.in-Answer.inquiry.word.now c.args.steps.now c.run_file.new.steps (inl asks) c.run_file.ensures.steps
+    run_steps (texts c.args.words.now) (world (g.H.Shelf.files c.args.shelf.now) (g.S.Source.left c.args.lines.now)) (viewed c.in-Ok.job) c.in-Answer.inquiry.question c.in-Answer.inquiry.word.now c.args.steps.now c.run_file.new.steps (inl asks) c.run_file.ensures.steps
 
 pub returns-in-Answer-clause-steps : goal.returns-in-Answer-clause-steps
 returns-in-Answer-clause-steps g c =
     let asks : AskAbout (texts c.args.words.now) (viewed c.in-Ok.job) c.in-Answer.inquiry.question c.in-Answer.inquiry.word.now = (c.in-Ok.ensures.job, (subst (IsAsked (viewed c.in-Ok.job)) c.in-Answer.is c.asked.ensures)) in
-    steps_told (texts c.args.words.now) (g.H.Shelf.files c.args.shelf.now) (g.S.Source.left c.args.lines.now) c.args.steps.now c.run_file.new.steps
-    (run_steps (texts c.args.words.now) (g.H.Shelf.files c.args.shelf.now) (g.S.Source.left c.args.lines.now) (viewed c.in-Ok.job) c.in-Answer.inquiry.question c.in-Answer.inquiry.word.now c.args.steps.now c.run_file.new.steps (inl asks) c.run_file.ensures.steps)
+    steps_told (texts c.args.words.now) (world (g.H.Shelf.files c.args.shelf.now) (g.S.Source.left c.args.lines.now)) c.args.steps.now c.run_file.new.steps
+    (run_steps (texts c.args.words.now) (world (g.H.Shelf.files c.args.shelf.now) (g.S.Source.left c.args.lines.now)) (viewed c.in-Ok.job) c.in-Answer.inquiry.question c.in-Answer.inquiry.word.now c.args.steps.now c.run_file.new.steps (inl asks) c.run_file.ensures.steps)
 
 pub returns-in-Answer-clause-shelf_unread : goal.returns-in-Answer-clause-shelf_unread
 returns-in-Answer-clause-shelf_unread g c other _ =
@@ -83,13 +83,13 @@ returns-in-Game-clause-at_end g c done (job, question, ask) =
 pub returns-in-Game-clause-few_steps : goal.returns-in-Game-clause-few_steps
 returns-in-Game-clause-few_steps g c _ =
     let asks : Pose (texts c.args.words.now) (viewed c.in-Ok.job) (Solve c.in-Game.game.limits) c.in-Game.game.word.now = inr ((c.in-Ok.ensures.job, (subst (IsAsked (viewed c.in-Ok.job)) c.in-Game.is c.asked.ensures).0), ap Solve (subst (IsAsked (viewed c.in-Ok.job)) c.in-Game.is c.asked.ensures).1) in
-    run_steps (texts c.args.words.now) (g.H.Shelf.files c.args.shelf.now) (g.S.Source.left c.args.lines.now) (viewed c.in-Ok.job) (Solve c.in-Game.game.limits) c.in-Game.game.word.now c.args.steps.now c.run_game.new.steps asks c.run_game.ensures.steps
+    run_steps (texts c.args.words.now) (world (g.H.Shelf.files c.args.shelf.now) (g.S.Source.left c.args.lines.now)) (viewed c.in-Ok.job) (Solve c.in-Game.game.limits) c.in-Game.game.word.now c.args.steps.now c.run_game.new.steps asks c.run_game.ensures.steps
 
 pub returns-in-Game-clause-steps : goal.returns-in-Game-clause-steps
 returns-in-Game-clause-steps g c =
     let asks : Pose (texts c.args.words.now) (viewed c.in-Ok.job) (Solve c.in-Game.game.limits) c.in-Game.game.word.now = inr ((c.in-Ok.ensures.job, (subst (IsAsked (viewed c.in-Ok.job)) c.in-Game.is c.asked.ensures).0), ap Solve (subst (IsAsked (viewed c.in-Ok.job)) c.in-Game.is c.asked.ensures).1) in
-    steps_told (texts c.args.words.now) (g.H.Shelf.files c.args.shelf.now) (g.S.Source.left c.args.lines.now) c.args.steps.now c.run_game.new.steps
-    (run_steps (texts c.args.words.now) (g.H.Shelf.files c.args.shelf.now) (g.S.Source.left c.args.lines.now) (viewed c.in-Ok.job) (Solve c.in-Game.game.limits) c.in-Game.game.word.now c.args.steps.now c.run_game.new.steps asks c.run_game.ensures.steps)
+    steps_told (texts c.args.words.now) (world (g.H.Shelf.files c.args.shelf.now) (g.S.Source.left c.args.lines.now)) c.args.steps.now c.run_game.new.steps
+    (run_steps (texts c.args.words.now) (world (g.H.Shelf.files c.args.shelf.now) (g.S.Source.left c.args.lines.now)) (viewed c.in-Ok.job) (Solve c.in-Game.game.limits) c.in-Game.game.word.now c.args.steps.now c.run_game.new.steps asks c.run_game.ensures.steps)
 
 pub returns-in-Game-clause-shelf_unread : goal.returns-in-Game-clause-shelf_unread
 returns-in-Game-clause-shelf_unread g c other _ =
@@ -106,11 +106,11 @@ returns-in-Game-clause-lines_unread g c read play _ = absurd (play (viewed c.in-
 
 pub returns-in-Answer-clause-no_steps : goal.returns-in-Answer-clause-no_steps
 returns-in-Answer-clause-no_steps g c none other =
-    no_steps (texts c.args.words.now) (g.H.Shelf.files c.args.shelf.now) (g.S.Source.left c.args.lines.now) c.args.steps.now c.run_file.new.steps (returns-in-Answer-clause-few_steps g c other) none
+    no_steps (texts c.args.words.now) (world (g.H.Shelf.files c.args.shelf.now) (g.S.Source.left c.args.lines.now)) c.args.steps.now c.run_file.new.steps (returns-in-Answer-clause-few_steps g c other) none
 
 pub returns-in-Game-clause-no_steps : goal.returns-in-Game-clause-no_steps
 returns-in-Game-clause-no_steps g c none other =
-    no_steps (texts c.args.words.now) (g.H.Shelf.files c.args.shelf.now) (g.S.Source.left c.args.lines.now) c.args.steps.now c.run_game.new.steps (returns-in-Game-clause-few_steps g c other) none
+    no_steps (texts c.args.words.now) (world (g.H.Shelf.files c.args.shelf.now) (g.S.Source.left c.args.lines.now)) c.args.steps.now c.run_game.new.steps (returns-in-Game-clause-few_steps g c other) none
 
 pub returns-in_default-clause-partial_output : goal.returns-in_default-clause-partial_output
 returns-in_default-clause-partial_output g c = run_part (texts c.args.words.now) _ _ _ c.finish.result (returns-in_default-clause-text g c)
@@ -160,7 +160,7 @@ returns-in-Game-clause-complete g c = complete (texts c.args.words.now) _ _ _ _ 
 pub returns-in-Game-clause-lines_unplayed : goal.returns-in-Game-clause-lines_unplayed
 returns-in-Game-clause-lines_unplayed g c _ _ =
     let asks : AreToPlay (texts c.args.words.now) (viewed c.in-Ok.job) c.in-Game.game.word.now = (c.in-Ok.ensures.job, (subst (IsAsked (viewed c.in-Ok.job)) c.in-Game.is c.asked.ensures).0) in
-    let o = outside (g.H.Shelf.files c.args.shelf.now) (g.S.Source.left c.args.lines.now) (g.H.Shelf.faults c.args.shelf.now) (g.H.Shelf.faults c.run_game.new.shelf) (g.S.Source.faults c.args.lines.now) (g.S.Source.faults c.run_game.new.lines) in
+    let o = outside (world (g.H.Shelf.files c.args.shelf.now) (g.S.Source.left c.args.lines.now)) (faults (g.H.Shelf.faults c.args.shelf.now) (g.H.Shelf.faults c.run_game.new.shelf)) (faults (g.S.Source.faults c.args.lines.now) (g.S.Source.faults c.run_game.new.lines)) in
     unplayed (texts c.args.words.now) o (viewed c.in-Ok.job) c.in-Game.game.limits c.in-Game.game.engine c.in-Game.game.word.now _ _ _ _ c.run_game.result _ asks
     (subst (IsAsked (viewed c.in-Ok.job)) c.in-Game.is c.asked.ensures).1 (subst (IsAsked (viewed c.in-Ok.job)) c.in-Game.is c.asked.ensures).2 c.run_game.ensures.lines_unplayed
 
@@ -223,11 +223,11 @@ returns-in-Trial-clause-few_steps g c _ =
 
 pub returns-in-Trial-clause-steps : goal.returns-in-Trial-clause-steps
 returns-in-Trial-clause-steps g c =
-    steps_told (texts c.args.words.now) (g.H.Shelf.files c.args.shelf.now) (g.S.Source.left c.args.lines.now) c.args.steps.now c.run_trial.new.steps (inr (inr (c.in-Trial.number, (viewed c.in-Ok.job, c.in-Ok.ensures.job, (subst (IsAsked (viewed c.in-Ok.job)) c.in-Trial.is c.asked.ensures)), c.run_trial.ensures.steps)))
+    steps_told (texts c.args.words.now) (world (g.H.Shelf.files c.args.shelf.now) (g.S.Source.left c.args.lines.now)) c.args.steps.now c.run_trial.new.steps (inr (inr (c.in-Trial.number, (viewed c.in-Ok.job, c.in-Ok.ensures.job, (subst (IsAsked (viewed c.in-Ok.job)) c.in-Trial.is c.asked.ensures)), c.run_trial.ensures.steps)))
 
 pub returns-in-Trial-clause-no_steps : goal.returns-in-Trial-clause-no_steps
 returns-in-Trial-clause-no_steps g c none other =
-    no_steps (texts c.args.words.now) (g.H.Shelf.files c.args.shelf.now) (g.S.Source.left c.args.lines.now) c.args.steps.now c.run_trial.new.steps (returns-in-Trial-clause-few_steps g c other) none
+    no_steps (texts c.args.words.now) (world (g.H.Shelf.files c.args.shelf.now) (g.S.Source.left c.args.lines.now)) c.args.steps.now c.run_trial.new.steps (returns-in-Trial-clause-few_steps g c other) none
 
 pub returns-in-Calc-clause-cause : goal.returns-in-Calc-clause-cause
 returns-in-Calc-clause-cause g c =
@@ -313,7 +313,7 @@ returns-in-Gtp-clause-at_end g c done (job, question, ask) =
 pub returns-in-Gtp-clause-steps : goal.returns-in-Gtp-clause-steps
 returns-in-Gtp-clause-steps g c limits setup regions needed are =
     let asks : AreForEngine (texts c.args.words.now) c.in-Gtp.limits = (viewed c.in-Ok.job, c.in-Ok.ensures.job, (subst (IsAsked (viewed c.in-Ok.job)) c.in-Gtp.is c.asked.ensures).0, (subst (IsAsked (viewed c.in-Ok.job)) c.in-Gtp.is c.asked.ensures).1) in
-    absurd (engine_regions (texts c.args.words.now) _ _ c.in-Gtp.limits limits setup asks needed)
+    absurd (engine_regions (texts c.args.words.now) _ c.in-Gtp.limits limits setup asks needed)
 
 pub returns-in-Gtp-clause-few_steps : goal.returns-in-Gtp-clause-few_steps
 returns-in-Gtp-clause-few_steps g c other =
