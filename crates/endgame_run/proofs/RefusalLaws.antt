@@ -3,6 +3,7 @@ use Rattle.std.proofs.Common.{◌≡◌, ℕ, zero, suc, ◌<◌, ◌++◌, inl,
 use Rattle.std.specs.List.{All, Contains}
 use Rattle.std.proofs.lemmas.List.{take-append-drop}
 use Rattle.std.proofs.lemmas.List.Elements.{All-map, Contains-get_or}
+use Rattle.go_grid.proofs.PlayLemmas.{long_after}
 use Rattle.go_grid.specs.declared.grid.Cell.{Cell}
 use Rattle.go_grid.specs.declared.region.Touch.{Touch}
 use Rattle.go_grid.specs.Board.{Board}
@@ -47,7 +48,7 @@ plays_join touch from mid to (m ∷ ms) ns p q = (p.0, p.1, plays_join touch p.0
 plays_inside : (touch : List Touch) (from to : List Cell) (ms : List CycleMove) → Plays touch from ms to → All (λ m. m.place < length from) ms
 plays_inside touch from to [] p k d lt = absurd (omega arith)
 plays_inside touch from to (m ∷ ms) p zero d lt = p.1.place
-plays_inside touch from to (m ∷ ms) p (suc k) d lt = let rest = plays_inside touch p.0 to ms p.2 k d (omega arith) in omega (arith, rest, p.1.without.long)
+plays_inside touch from to (m ∷ ms) p (suc k) d lt = let rest = plays_inside touch p.0 to ms p.2 k d (omega arith) in omega (arith, rest, long_after p.1)
 
 cycle_inside : (touch : List Touch) (opening : List Cell) (ms : List CycleMove) (back : ℕ) → IsCycle touch opening ms back → All (λ m. m.place < length opening) ms
 cycle_inside touch opening ms back c =

@@ -86,7 +86,7 @@ steps_told words w before now (inl e) limits setup regions t are = omega (arith,
 steps_told words w before now (inr (inl (job, q, word, file, position, a, told, reads, s))) limits setup regions (inr (number, b, here, default)) are =
     absurd (trial_unposed words number job q word b a)
 steps_told words w before now (inr (inr (number, a, s))) limits setup regions (inl t) are = absurd (trial_unposed words number t.job t.question t.word a t.asks)
-steps_told words w before now (inr (inr (number, a, inl e))) limits setup regions (inr w) are = omega (arith, e)
+steps_told words w before now (inr (inr (number, a, inl e))) limits setup regions (inr t) are = omega (arith, e)
 steps_told words w before now (inr (inr (number, a, inr (position, drawn, few)))) limits setup regions (inr (other, b, here, default)) are =
     let board = one_board number position.board setup.board drawn.board (subst (λ n. IsTrialBoard n setup.board) (one_number words other number b a) here.board) in
     subst (λ l. now ≤ before + most_steps l regions) (sym default) (few regions (subst (λ g. AreRegionsOfPlay g regions) (sym board) are))
@@ -96,7 +96,7 @@ steps_told words w before now (inr (inl (job, q, word, file, position, a, told, 
   go (inr (most, h, few)) =
       let one = one_file words t.job job t.question q limits most t.word word t.asks t.limited a h in
       let known : IsTold (holding t.file) file = subst (λ x. IsTold x file) (ap (told_of w) one.1 ∙ t.told) told in
-      let file_is : t.file ≡ file = cc in
+      let file_is : t.file ≡ file = known in
       let read : Reads t.file t.job.settings (Ok position) = subst (λ f. Reads f t.job.settings (Ok position)) (sym file_is) (subst (λ j. Reads file j.settings (Ok position)) one.0 reads) in
       let position_is : position ≡ setup = one_setup t.file t.job.settings position setup read t.reads in
       subst (λ m. now ≤ before + most_steps m regions) one.2 (few regions (subst (λ z. AreRegionsOfPlay z.board regions) (sym position_is) are))
