@@ -8,7 +8,8 @@ use Rattle.go_grid.proofs.BoardLemmas.{one_colour}
 use Rattle.go_play.specs.Place.{Placings}
 use Rattle.benson_life.specs.Life.{IsAlive}
 use Rattle.benson_life.proofs.StandLemmas.{healthy_stands}
-use Rattle.benson_attack.specs.Attack.{IsAttack, Takes}
+use Rattle.benson_attack.specs.Attack.{IsAttack}
+use Rattle.benson_attack.specs.inner.Attack.{Takes}
 
 pub twice : (c : Colour) → other (other c) ≡ c
 twice colour.Black = refl

@@ -8,32 +8,34 @@ use Rattle.go_grid.specs.Board.{Board, HasStone, other}
 use Rattle.go_grid.specs.Chain.{IsSettled}
 use Rattle.go_grid.specs.Marks.{Marks}
 use Rattle.benson_life.specs.Life.{IsAlive}
-use Rattle.benson_attack.specs.Attack.{Takes}
+use Rattle.benson_attack.specs.inner.Attack.{Takes}
 use Rattle.benson_attack.specs.declared.captures.Run.{Run}
 use Rattle.benson_attack.specs.declared.campaign.Campaign.{Campaign}
 use Rattle.benson_attack.specs.Attacks.{AreRuns, IsCampaign}
-use Rattle.benson_attack.specs.Reached.{AllAlive, Captures, Follows, IsAtRest, IsShort, is_of}
+use Rattle.benson_attack.specs.Reached.{IsAtRest, HasFewPlacings}
+use Rattle.benson_attack.specs.inner.Reached.{AllAlive, Captures, Follows}
+use Rattle.go_grid.specs.Stones.{is_of}
 use Rattle.benson_attack.proofs.RunLemmas.{rest_first}
 
 pub no_runs : (g : Board) (d : Colour) (runs : List Run) → runs ≡ [] → AreRuns g d runs
 no_runs g d runs e run at = absurd (omega (arith, subst (λ rs. at.0 < length rs) e at.1))
 
 pub more_runs : (g : Board) (d : Colour) (runs more : List Run) (run : Run) → more ≡ runs ++ run ∷ [] → AreRuns g d runs
-    → IsAtRest g d run → IsShort d run → AreRuns g d more
+    → IsAtRest g d run → HasFewPlacings d run → AreRuns g d more
 more_runs g d runs more run e are rest short r at =
-    elim (Contains-push_cases runs run r (subst (λ rs. Contains rs r) e at)) as (λ _. IsAtRest g d r × IsShort d r) [
+    elim (Contains-push_cases runs run r (subst (λ rs. Contains rs r) e at)) as (λ _. IsAtRest g d r × HasFewPlacings d r) [
       | inl in' ↦ are r in'
-      | inr k ↦ subst (λ x. IsAtRest g d x × IsShort d x) k (rest, short)
+      | inr k ↦ subst (λ x. IsAtRest g d x × HasFewPlacings d x) k (rest, short)
     ]
 
-pub begun : (g : Board) (d : Colour) (run : Run) → IsSettled g → run.board ≡ g → run.placings.items ≡ [] → IsAtRest g d run × IsShort d run
+pub begun : (g : Board) (d : Colour) (run : Run) → IsSettled g → run.board ≡ g → run.placings.items ≡ [] → IsAtRest g d run × HasFewPlacings d run
 begun g d run settled same none = (rest_first g d run settled same none, rw none (omega arith))
 
-pub goes_on : (g : Board) (d : Colour) (run next : Run) → Follows d run next → IsAtRest g d run → IsShort d run → IsAtRest g d next × IsShort d next
+pub goes_on : (g : Board) (d : Colour) (run next : Run) → Follows d run next → IsAtRest g d run → HasFewPlacings d run → IsAtRest g d next × HasFewPlacings d next
 goes_on g d run next f rest short = (f.goes g rest, f.short short)
 
 pub campaign_is : (g : Board) (d : Colour) (alive : List Bool) (c : Campaign) (runs : List Run) (run : Run) → IsSettled g → Marks alive (IsAlive g (other d))
-    → c.by ≡ d → c.runs.items ≡ runs ++ run ∷ [] → AreRuns g d runs → IsAtRest g d run → IsShort d run → AllAlive d alive run → IsCampaign g c
+    → c.by ≡ d → c.runs.items ≡ runs ++ run ∷ [] → AreRuns g d runs → IsAtRest g d run → HasFewPlacings d run → AllAlive d alive run → IsCampaign g c
 campaign_is g d alive c runs run settled marks by items are rest short all = record {
   each = subst (λ x. AreRuns g x c.runs.items) (sym by) (more_runs g d runs c.runs.items run items are rest short);
   alive = subst (λ x. (s : ℕ) → HasStone g (other x) s
@@ -42,7 +44,7 @@ campaign_is g d alive c runs run settled marks by items are rest short all = rec
 }
 
 -- a run on whose board the stone is gone takes it
-pub run_takes : (g : Board) (d : Colour) (s : ℕ) (run : Run) → IsAtRest g d run → IsShort d run → (HasStone run.board (other d) s → ⊥)
+pub run_takes : (g : Board) (d : Colour) (s : ℕ) (run : Run) → IsAtRest g d run → HasFewPlacings d run → (HasStone run.board (other d) s → ⊥)
     → Takes g d s run.placings.items
 run_takes g d s run rest short gone = (
   run.board,

@@ -8,8 +8,10 @@ use Rattle.go_grid.specs.declared.grid.Cell.TheVariants as cell
 use Rattle.go_grid.specs.declared.grid.Colour.{Colour}
 use Rattle.go_grid.specs.declared.grid.Colour.TheVariants as colour
 use Rattle.go_grid.specs.Board.{Board, stone, cell_at}
-use Rattle.go_play.specs.Place.{with_stone, IsPlaced}
-use Rattle.benson_attack.specs.Reached.{is_of, number_of}
+use Rattle.go_play.specs.Place.{IsPlaced}
+use Rattle.go_play.specs.inner.Place.{with_stone}
+use Rattle.benson_attack.specs.Reached.{number_of}
+use Rattle.go_grid.specs.Stones.{is_of}
 use Rattle.go_grid.proofs.BoardLemmas.{not_other}
 use Rattle.go_play.proofs.BoardPlay.{taken_stone}
 

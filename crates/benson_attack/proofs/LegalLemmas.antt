@@ -8,7 +8,8 @@ use Rattle.go_grid.specs.Board.{Board, HasStone, IsEmpty, Lacks, cell_at, stone,
 use Rattle.go_grid.specs.Chain.{InChain, IsLiberty, HasLiberty}
 use Rattle.go_grid.proofs.NearLemmas.{next_back}
 use Rattle.go_grid.proofs.WalkLemmas.{joined_here, joined_step, joined_start, joined_join, joined_back, joined_more, carried}
-use Rattle.go_play.specs.Place.{with_stone, IsPlaced, IsTaken, IsCleared, IsSameSize, IsSuicide}
+use Rattle.go_play.specs.Place.{IsPlaced, IsTaken, IsCleared, IsSameSize, IsSuicide}
+use Rattle.go_play.specs.inner.Place.{with_stone}
 use Rattle.benson_life.specs.Life.{InRegion}
 use Rattle.benson_life.proofs.StandLemmas.{empty_or_other}
 use Rattle.go_grid.proofs.BoardLemmas.{empty_not_stone, not_other}

@@ -9,7 +9,8 @@ use Rattle.go_grid.specs.Board.{Board, DifferByOne, NextTo, HasStone, IsEmpty, c
 use Rattle.go_grid.specs.Chain.{InChain, IsLiberty, HasLiberty}
 use Rattle.go_grid.proofs.Decided.{Decided, alike, both, either, leads_or_not, some_below}
 use Rattle.go_grid.proofs.WalkLemmas.{joined_end, joined_back}
-use Rattle.go_play.specs.Place.{with_stone, IsPlaced, IsSuicide, IsTaken, IsCleared}
+use Rattle.go_play.specs.Place.{IsPlaced, IsSuicide, IsTaken, IsCleared}
+use Rattle.go_play.specs.inner.Place.{with_stone}
 use Rattle.benson_attack.proofs.RunLemmas.{in_either, in_first, in_more}
 use Rattle.go_grid.proofs.BoardLemmas.{same_or_not}
 use Rattle.go_play.proofs.BoardPlay.{breathes_from, breathes_to, taken_choked, taken_near, takes_by}

@@ -9,7 +9,8 @@ use Rattle.go_grid.specs.Walk.{Joined}
 use Rattle.go_grid.specs.Chain.{InChain, IsLiberty, HasLiberty, IsSettled}
 use Rattle.go_grid.proofs.NearLemmas.{next_back}
 use Rattle.go_grid.proofs.WalkLemmas.{joined_here, joined_step, joined_start, joined_end, joined_join, joined_back, joined_more}
-use Rattle.go_play.specs.Place.{with_stone, IsPlaced, IsTaken, IsSuicide, Placings}
+use Rattle.go_play.specs.Place.{IsPlaced, IsTaken, IsSuicide, Placings}
+use Rattle.go_play.specs.inner.Place.{with_stone}
 use Rattle.benson_life.specs.Life.{InRegion, IsVital, IsEye, HasTwoEyes}
 use Rattle.benson_life.proofs.StandLemmas.{empty_or_other, joined_along}
 use Rattle.benson_attack.specs.Reached.{IsReached}

@@ -1,19 +1,20 @@
 -- Runs: what an attack on one stone keeps, and how it ends.
-use Rattle.std.proofs.Common.{◌≡◌, ◌≢◌, ℕ, ◌<◌, ◌≤◌, ◌+◌, ◌⊎◌, ◌↔◌, inl, inr, suc, zero, List, [], ◌∷◌, ◌++◌, Bool, true, false, length, refl, sym, ap, ◌∙◌, subst, arith}
+use Rattle.std.proofs.Common.{◌≡◌, ◌≢◌, ℕ, ◌<◌, ◌+◌, ◌⊎◌, ◌↔◌, inl, inr, suc, zero, List, [], ◌∷◌, ◌++◌, Bool, true, false, length, refl, sym, ap, ◌∙◌, subst, arith}
 use Rattle.std.specs.List.{Contains}
 use Rattle.std.proofs.lemmas.Bool.{cases_eq}
 use Rattle.std.proofs.lemmas.List.{length-append}
 use Rattle.go_grid.specs.declared.grid.Colour.{Colour}
 use Rattle.go_grid.specs.Board.{Board, HasStone, other}
-use Rattle.go_grid.specs.Chain.{InChain, IsLiberty, HasLiberty, IsSettled}
+use Rattle.go_grid.specs.Chain.{IsLiberty, HasLiberty, IsSettled}
 use Rattle.go_grid.specs.Marks.{Marks}
 use Rattle.go_grid.proofs.PointsLemmas.{some_list}
 use Rattle.go_play.specs.Place.{IsPlaced, IsSuicide, Placings}
 use Rattle.benson_life.specs.Life.{HasTwoEyes, IsEye, IsHealthy}
 use Rattle.benson_attack.specs.declared.captures.Run.{Run}
-use Rattle.benson_attack.specs.Reached.{IsReached, IsAtRest, HasRefusals, Follows, Captures, IsPressed, AllAlive, HasEyes, number_of}
+use Rattle.benson_attack.specs.Reached.{IsReached, IsAtRest, number_of}
+use Rattle.benson_attack.specs.inner.Reached.{HasRefusals, Follows, Captures, IsPressed, AllAlive, HasEyes}
 use Rattle.benson_attack.proofs.LegalLemmas.{captures, long, stood_earlier, not_suicide}
-use Rattle.benson_attack.proofs.ReachLemmas.{refused_eyes, reached_first, reached_under, reached_over, reached_next, placings_more}
+use Rattle.benson_attack.proofs.ReachLemmas.{refused_eyes, reached_first, reached_over, reached_next, placings_more}
 use Rattle.benson_attack.proofs.CountLemmas.{rises}
 
 pub in_first : (x : ℕ) (xs : List ℕ) → Contains (x ∷ xs) x
@@ -71,17 +72,6 @@ two_refused h d v liberties is refused some =
     let (points, listed) = some_list liberties in
     two_listed h d v refused some points (λ p. (λ at. (is p).0 ((listed p).0 at), λ l. (listed p).1 ((is p).1 l)))
 
--- the attack begins
-pub pressed_first : (d : Colour) (v : ℕ) (run : Run) → HasStone run.board (other d) v → IsPressed d v run run
-pressed_first d v run s = record {
-  short = λ k. k;
-  long = refl;
-  goes = λ g w. (reached_under g d run.board (InChain g (other d) v) w.0, w.1);
-  fewer = λ q k. k;
-  least = omega arith;
-  more = inl s;
-}
-
 -- one placing more
 pub pressed_next : (d : Colour) (v : ℕ) (old now new : Run) (p : ℕ) → IsPressed d v old now → IsLiberty now.board (other d) v p
     → IsPlaced now.board p d new.board → new.placings.items ≡ now.placings.items ++ p ∷ [] → IsPressed d v old new
@@ -135,15 +125,6 @@ rest_of_copy g d run copy same items rest = (
   subst (IsReached g d (λ _. ⊥)) (sym same) rest.0,
   subst (λ b. Placings d g copy.placings.items b) (sym same) (subst (λ ps. Placings d g ps run.board) (sym items) rest.1),
 )
-
-pub follows_copy : (d : Colour) (run copy new : Run) → copy.board ≡ run.board → copy.placings.items ≡ run.placings.items
-    → Follows d copy new → Follows d run new
-follows_copy d run copy new same items w = record {
-  short = λ k. w.short (subst (λ b. length copy.placings.items ≤ number_of d b) (sym same) (subst (λ ps. length ps ≤ number_of d run.board) (sym items) k));
-  long = w.long ∙ ap (λ b. length b.cells) same;
-  goes = λ g rest. w.goes g (rest_of_copy g d run copy same items rest);
-  more = subst (λ b. number_of d b < number_of d new.board) same w.more;
-}
 
 -- an attack that failed from a copy
 pub failed_copy : (d : Colour) (v : ℕ) (run copy new : Run) (b : Bool) → copy.board ≡ run.board

@@ -12,7 +12,7 @@ use Rattle.go_play.specs.Place.{Placings, Stands}
 use Rattle.benson_life.specs.Life.{HasTwoEyes, IsEye}
 use Rattle.benson_life.proofs.StandLemmas.{healthy_stands}
 use Rattle.benson_attack.specs.declared.captures.Run.{Run}
-use Rattle.benson_attack.specs.Reached.{AllAlive, AreTriedBelow, HasEyes}
+use Rattle.benson_attack.specs.inner.Reached.{AllAlive, AreTriedBelow, HasEyes}
 use Rattle.benson_attack.proofs.AttackLemmas.{twice}
 use Rattle.benson_attack.proofs.ReachLemmas.{chain_before}
 use Rattle.benson_attack.proofs.RunLemmas.{alive_all, eyes_wider}

@@ -11,7 +11,3 @@ pub record IsAttack (g : Board) (c : Colour) (s : ℕ) (placings : List ℕ) : T
   pub left : Board
   pub legal : Placings (other c) g placings left
   pub gone : ¬ HasStone left c s
-
--- legal placings of the colour, no more than the board has points, after which the point holds no stone of the other colour
-abbrev pub Takes : Board → Colour → ℕ → List ℕ → Type 0
-Takes g d s placings = (h : Board) × Placings d g placings h × (length placings ≤ length g.cells) × ¬ HasStone h (other d) s

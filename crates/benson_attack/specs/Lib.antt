@@ -1,3 +1,4 @@
 pub mod Attack
 pub mod Reached
 pub mod Attacks
+pub mod inner

@@ -17,7 +17,7 @@ use go_grid::{Board, Colour, Point};
 use std::alloc::{AllocError, Global};
 
 /// How the stones of a board that aren't alive are taken by placings that nobody answers.
-#[derive(Drop)]
+#[derive(Debug, Drop)]
 pub struct Attacks {
     on_black: Campaign,
     on_white: Campaign,
@@ -52,6 +52,7 @@ impl Attacks {
         match board.colour_at(stone) {
             Some(Colour::Black) => self.on_black.on(alloc, board, stone),
             Some(Colour::White) => self.on_white.on(alloc, board, stone),
+            // The caller asks of a stone only.
             None => unreachable!(),
         }
     }

@@ -5,8 +5,9 @@ ghost use Rattle.go_grid.specs.Chain.{IsSettled};
 ghost use Rattle.go_grid.specs.Board.{HasStone, other};
 ghost use Rattle.go_grid.specs.Marks.{Marks};
 ghost use Rattle.benson_life.specs.Life.{IsAlive};
-ghost use Rattle.benson_attack.specs.Attack.{Takes};
-ghost use Rattle.benson_attack.specs.Attacks.{IsCampaign, IsTakenBy};
+ghost use Rattle.benson_attack.specs.inner.Attack.{Takes};
+ghost use Rattle.benson_attack.specs.Attacks.{IsCampaign};
+ghost use Rattle.benson_attack.specs.inner.Attacks.{IsTakenBy};
 ghost use Rattle.benson_attack.specs.declared.errors.AttackError.TheVariants.{Alive};
 
 use crate::captures::{Run, advance, capture, holds};
@@ -16,7 +17,7 @@ use std::alloc::{AllocError, Global};
 
 /// The boards that captures by one colour reach one after the other, until each stone of the other colour that
 /// stands is alive.
-#[derive(Drop)]
+#[derive(Debug, Drop)]
 pub(crate) struct Campaign {
     /// The colour that places.
     pub(crate) by: Colour,

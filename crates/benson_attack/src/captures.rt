@@ -4,14 +4,14 @@ ghost use Rattle.std.specs.Prelude.{◌≡◌, ℕ, ◌<◌, ◌↔◌, [], true
 ghost use Rattle.std.specs.Bool.{OnFalse, OnTrue};
 ghost use Rattle.go_grid.specs.Board.{HasStone, IsEmpty, other};
 ghost use Rattle.go_play.specs.Place.{IsPlaced, IsSuicide};
-ghost use Rattle.benson_attack.specs.Reached.{AllAlive, Captures, Follows, Presses};
+ghost use Rattle.benson_attack.specs.inner.Reached.{AllAlive, Captures, Follows, Presses};
 
 use go_grid::{Board, Cell, Colour, Point, Points};
 use go_play::place;
 use std::alloc::{AllocError, Global};
 
 /// A board that unanswered placings of one colour reach, with the placings.
-#[derive(Drop)]
+#[derive(Debug, Drop)]
 pub(crate) struct Run {
     pub(crate) board: Board,
     pub(crate) placings: Vec<Point>,

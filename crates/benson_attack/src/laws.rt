@@ -9,7 +9,7 @@ ghost use Rattle.benson_life.specs.Life.{IsAlive};
 
 /// On a settled board a stone is alive exactly where it still stands after every list of legal and unanswered
 /// placings of the other colour (Benson 1976).
-pub fn alive_law()
+pub fn alive_laws()
     ensures { (g : Board) (c : Colour) (s : ℕ) → IsSettled g → HasStone g c s
         → IsAlive g c s ↔ Stands g c s }
 {}

@@ -7,9 +7,7 @@ mod campaign;
 mod captures;
 mod errors;
 mod laws;
-#[cfg(test)]
-mod tests;
 
 pub use attacks::{Attacks, attack};
 pub use errors::AttackError;
-pub use laws::alive_law;
+pub use laws::alive_laws;

@@ -1,9 +1,8 @@
 -- The lowest points with each label.
-use Rattle.std.proofs.Common.{◌≡◌, ℕ, ◌+◌, ◌<◌, ◌≤◌, ◌⊎◌, inl, inr, List, Bool, refl, sym, subst, arith}
-use Rattle.std.proofs.lemmas.Bool.{cases_lt}
+use Rattle.std.proofs.Common.{◌≡◌, ℕ, ◌+◌, ◌<◌, ◌⊎◌, inl, inr, List, Bool, refl, sym, subst}
 use Rattle.go_grid.specs.Marks.{IsMarked, Marks}
 use Rattle.go_grid.specs.Parts.{label}
-use Rattle.go_grid.proofs.PointsLemmas.{Noted, noted_next, noted_one, noted_skip, noted_start}
+use Rattle.go_grid.proofs.PointsLemmas.{Noted, noted_next, noted_one, noted_skip}
 
 module _ (of' : List Bool) (labels : List ℕ) where
   abbrev HasLabel : ℕ → ℕ → Type 0
@@ -17,9 +16,6 @@ module _ (of' : List Bool) (labels : List ℕ) where
   pub record AreFirsts (n : ℕ) (labelled lowest : List Bool) : Type 0 where
     pub seen : Marks labelled (Noted HasLabel n)
     pub found : Marks lowest (Noted IsFirst n)
-
-  pub firsts_start : (seen found : List Bool) → Marks seen (λ _. ⊥) → Marks found (λ _. ⊥) → AreFirsts 0 seen found
-  firsts_start seen found s f = record { seen = noted_start HasLabel seen s; found = noted_start IsFirst found f }
 
   pub firsts_skip : (n : ℕ) (seen found : List Bool) → AreFirsts n seen found
       → (IsMarked of' n → IsMarked seen (label labels n)) → AreFirsts (n + 1) seen found
@@ -40,15 +36,3 @@ module _ (of' : List Bool) (labels : List ℕ) where
     found = noted_one IsFirst n n found found' w.found
         (refl, m, λ q lt h e. none ((w.seen (label labels n)).1 (q, lt, (h, e)))) (λ k r. r.0) more';
   }
-
-  pub firsts_end : (n : ℕ) (seen found : List Bool) → ((p : ℕ) → IsMarked of' p → p < n) → AreFirsts n seen found
-      → Marks found (λ p. IsMarked of' p × ((q : ℕ) → IsMarked of' q → label labels q ≡ label labels p → p ≤ q))
-  firsts_end n seen found inside w p = (
-    λ h.
-        let (j, lt, r) = (w.found p).0 h in
-        let at = subst (λ x. IsFirst x p) (sym r.0) r in (
-          at.1,
-          λ q m e. elim (cases_lt q p) as (λ _. p ≤ q) [ inl l ↦ absurd (at.2 q l m e) | inr le ↦ le ],
-        ),
-    λ h. (w.found p).1 (p, inside p h.0, (refl, h.0, λ q lt m e. omega (arith, h.1 q m e, lt))),
-  )

@@ -12,7 +12,8 @@ use Rattle.go_grid.specs.Walk.{Joined}
 use Rattle.go_grid.specs.Chain.{HasLiberty, IsSettled}
 use Rattle.go_grid.proofs.WalkLemmas.{joined_here, joined_step, joined_start, joined_end, joined_join, joined_back, carried}
 use Rattle.benson_life.specs.Life.{InRegion, IsWalledBy, IsEye, IsHealthy}
-use Rattle.go_play.specs.Place.{with_stone, IsPlaced, Placings, Stands}
+use Rattle.go_play.specs.Place.{IsPlaced, Placings, Stands}
+use Rattle.go_play.specs.inner.Place.{with_stone}
 use Rattle.go_grid.proofs.BoardLemmas.{empty_not_stone, not_other, same_or_not}
 use Rattle.go_play.proofs.BoardPlay.{breathes, placed_long, taken_choked, taken_stone}
 

@@ -37,13 +37,6 @@ pub record MayBeAlive (g : Board) (c : Colour) (kept : List Bool) : Type 0 where
   pub eyed : (s : ℕ) → HasStone g c s → HasTwoEyes g c (IsMarked kept) s → IsMarked kept s
   pub healthy : (T : List ℕ) → IsHealthy g c T → (s : ℕ) → Contains T s → IsMarked kept s
 
-pub may_start : (g : Board) (c : Colour) (kept : List Bool) → Marks kept (HasStone g c) → MayBeAlive g c kept
-may_start g c kept is = record {
-  stones = λ s. (is s).0;
-  eyed = λ s stone _. (is s).1 stone;
-  healthy = λ T good s in'. (is s).1 (good.stones s in');
-}
-
 pub may_next : (g : Board) (c : Colour) (kept left : List Bool) → MayBeAlive g c kept
     → Marks left (λ s. IsMarked kept s × HasTwoEyes g c (IsMarked kept) s) → MayBeAlive g c left
 may_next g c kept left w is =

@@ -7,7 +7,7 @@ use Rattle.go_grid.specs.Chain.{InChain}
 use Rattle.benson_life.specs.Life.{InRegion, IsAlive, IsCounted}
 use Rattle.benson_life.specs.Held.{IsNumberOf}
 
--- each of the two is next to a point of one region whose points are counted
+-- `s` is next to a point that is counted for the colour, and `t` to a point of that point's region
 abbrev pub ShareCounted : Board → Colour → ℕ → ℕ → Type 0
 ShareCounted g c s t = (p q : ℕ) × IsCounted g c p × InRegion g c p q × NextTo g.columns p s × NextTo g.columns q t
 
@@ -15,7 +15,7 @@ ShareCounted g c s t = (p q : ℕ) × IsCounted g c p × InRegion g c p q × Nex
 abbrev pub IsLinked : Board → Colour → ℕ → ℕ → Type 0
 IsLinked g c s t = InChain g c s t ⊎ ShareCounted g c s t
 
--- a list of links over alive stones joins the two
+-- `s` and `t` are of one group: links lead from the one to the other, over alive stones of the colour
 abbrev pub InGroup : Board → Colour → ℕ → ℕ → Type 0
 InGroup g c s t = Leads (IsLinked g c) (IsAlive g c) s t
 

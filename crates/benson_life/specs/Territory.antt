@@ -12,6 +12,7 @@ pub record IsLife (g : Board) (c : Colour) (l : Life) : Type 0 where
   pub alive : Marks l.alive (IsAlive g c)
   pub counted : Marks l.counted (IsCounted g c)
 
+-- the territory of the board: for each colour its alive stones and the points counted for it
 pub record IsTerritory (g : Board) (t : Territory) : Type 0 where
   pub black : IsLife g Black t.black
   pub white : IsLife g White t.white

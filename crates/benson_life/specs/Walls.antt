@@ -12,6 +12,6 @@ pub record WallsStand (g h : Board) : Type 0 where
   pub stones : (c : Colour) (s : ℕ) → IsAlive g c s → HasStone h c s
   pub counted : (c : Colour) (p : ℕ) → IsCounted g c p → cell_at h p ≡ cell_at g p
 
--- each alive stone's chain has a liberty among the counted points
+-- on `h` the chain of each stone that is alive on `g` has a liberty among the points counted on `g` for its colour
 abbrev pub WallsBreathe : Board → Board → Type 0
 WallsBreathe g h = (c : Colour) (s : ℕ) → IsAlive g c s → (p : ℕ) × IsCounted g c p × IsLiberty h c s p

@@ -11,14 +11,14 @@ ghost use Rattle.benson_life.specs.Life.{IsHealthy};
 
 /// On a settled board each stone of a healthy list still stands after every list of legal and unanswered placings
 /// of the other colour (Benson 1976).
-pub fn benson_law()
+pub fn benson_laws()
     ensures { (g : Board) (c : Colour) (S : List ℕ) → IsSettled g → IsHealthy g c S
         → (s : ℕ) → Contains S s → Stands g c s }
 {}
 
 /// On a settled board each colour holds two points or more for each of its groups: a group has two counted regions of its
 /// own, with an empty point in each.
-pub fn tax_law()
+pub fn tax_laws()
     ensures { (g : Board) (c : Colour) (held groups : ℕ) → IsSettled g → IsHeld g c held
         → IsNumberOfGroups g c groups
         → 2 * groups ≤ held }

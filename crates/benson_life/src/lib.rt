@@ -2,20 +2,16 @@
 //! they count, and the points that stay contested.
 #![tactic(auto)]
 
-mod counting;
+mod chain_groups;
+mod counted_points;
 mod eyes;
-#[cfg(test)]
-mod group_tests;
-mod grouping;
 mod laws;
-mod striking;
+mod living_chains;
 mod surveys;
 mod territory;
-#[cfg(test)]
-mod tests;
 mod walls;
 
-pub use counting::held;
-pub use grouping::groups;
-pub use laws::{benson_law, tax_law};
+pub use chain_groups::groups;
+pub use counted_points::held;
+pub use laws::{benson_laws, tax_laws};
 pub use territory::{Life, Territory, alive, alive_set, contested, counted};

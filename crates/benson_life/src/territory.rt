@@ -12,23 +12,23 @@ ghost use Rattle.benson_life.specs.Life.{IsAlive, IsCounted, IsLargestHealthy};
 ghost use Rattle.benson_life.specs.Region.{IsContested};
 ghost use Rattle.benson_life.specs.Territory.{IsLife, IsTerritory};
 
-use crate::counting::{counted_points, held};
+use crate::chain_groups::number_of_groups;
+use crate::counted_points::{counted_points, held};
 use crate::eyes::all_eyes;
-use crate::grouping::number_of_groups;
-use crate::striking::living;
+use crate::living_chains::living;
 use crate::surveys::survey_of;
 use go_grid::{Board, Colour, Point, Points};
 use std::alloc::{AllocError, Global};
 
 /// What lives without answers of one colour (Benson 1976), and the points that are counted for it.
-#[derive(Drop)]
+#[derive(Debug, Drop)]
 pub struct Life {
     pub alive: Points,
     pub counted: Points,
 }
 
 /// What lives without answers on a board.
-#[derive(Drop)]
+#[derive(Debug, Drop)]
 pub struct Territory {
     pub black: Life,
     pub white: Life,

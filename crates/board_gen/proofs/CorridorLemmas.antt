@@ -4,7 +4,7 @@ use Rattle.std.specs.List.{HoldsAt, AllWithin}
 use Rattle.std.proofs.lemmas.List.{get_or_append_left, get_or_push, length_push}
 use Rattle.board_gen.specs.declared.corridors.Corridor.{Corridor}
 use Rattle.board_gen.specs.Trial.{draw, IsInCorridor, IsInSomeCorridor}
-use Rattle.board_gen.specs.Corridor.{AreCorridors, Covers, IsCorridor, no_corridor}
+use Rattle.board_gen.specs.inner.Corridor.{AreCorridors, Covers, IsCorridor, no_corridor}
 
 -- one corridor more
 pub corridors_more : (number i next drawn x : ℕ) (before after : List Corridor) (c : Corridor) → next ≡ suc i → drawn ≡ draw number i

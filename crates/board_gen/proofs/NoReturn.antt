@@ -9,7 +9,8 @@ use Rattle.go_grid.specs.declared.grid.Colour.{Colour}
 use Rattle.go_grid.specs.declared.grid.Colour.TheVariants as colour
 use Rattle.go_grid.specs.declared.region.Touch.{Touch}
 use Rattle.go_grid.specs.Board.{stone, other}
-use Rattle.local_play.specs.LocalPlay.{Holds, IsBeside, IsLocalMove, IsRemoved, held_at, with_stone}
+use Rattle.local_play.specs.LocalPlay.{Holds, IsBeside, IsLocalMove, held_at, with_stone}
+use Rattle.local_play.specs.inner.LocalPlay.{IsRemoved}
 use Rattle.local_graph.specs.declared.cycle.CycleMove.{CycleMove}
 use Rattle.local_graph.specs.LocalGraph.{Plays}
 use Rattle.local_graph.specs.FiniteLocalPlay.{HasNoCycle}

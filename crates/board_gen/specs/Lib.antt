@@ -1,3 +1,3 @@
 pub mod Trial
-pub mod Corridor
 pub mod Short
+pub mod inner

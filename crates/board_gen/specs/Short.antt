@@ -20,6 +20,6 @@ pub record IsShort (r : Region) : Type 0 where
   pub parts : (cells : List Cell) (V : Tree) → IsReachable r.touch r.cells cells → IsValueOf r.touch cells V → ¬ HasMoreParts V 500
   pub bounds : (cells : List Cell) (V : Tree) → IsReachable r.touch r.cells cells → IsValueOf r.touch cells V → ¬ HasNumberPastBounds V
 
--- each region of play of the board is such
+-- each region of play of the board has few points and positions, no cycle, and values with few parts and numbers within bounds
 abbrev pub HasShortRegions : Board → Type 0
 HasShortRegions g = (regions : List Region) → AreRegionsOfPlay g regions → (r : Region) → Contains regions r → IsShort r

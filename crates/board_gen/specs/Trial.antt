@@ -1,5 +1,6 @@
 -- The boards that numbers draw, of 25 columns and 25 rows. Columns and rows count from 0.
 use Rattle.std.specs.Prelude.{◌≡◌, ◌≢◌, ℕ, zero, suc, ◌+◌, ◌-◌, ◌*◌, ◌/◌, ◌%◌, ◌<◌, ◌≤◌, ◌⊎◌, List, length, slice_index, codes}
+use Rattle.go_grid.specs.declared.grid.TheConstants.{MOST_POINTS}
 use Rattle.go_grid.specs.declared.grid.Cell.{Cell}
 use Rattle.go_grid.specs.declared.grid.Cell.TheVariants as cell
 use Rattle.go_grid.specs.declared.grid.Colour.{Colour}
@@ -21,7 +22,7 @@ abbrev pub IsCorridorOwner : ℕ → Colour → Type 0
 IsCorridorOwner x colour.Black = x % 8 < 4
 IsCorridorOwner x colour.White = 4 ≤ x % 8
 
--- the number of its points
+-- the number of points of a corridor for which `x` was drawn
 abbrev pub corridor_length : ℕ → ℕ
 corridor_length x = x % 8 % 4
 
@@ -50,7 +51,7 @@ IsDrawnBy letter cell.Empty = (letter ≢ 88) × (letter ≢ 79)
 IsDrawnBy letter cell.Black = letter ≡ 88
 IsDrawnBy letter cell.White = letter ≡ 79
 
--- row 24 of each board
+-- the letters that draw row 24 of each board
 abbrev pub last_row : List ℕ
 last_row = codes ".X.XXXXXO..O.O.OX.X.XXXXX"
 
@@ -64,5 +65,5 @@ pub record IsTrialCell (number p : ℕ) (held : Cell) : Type 0 where
 pub record IsTrialBoard (number : ℕ) (g : Board) : Type 0 where
   pub columns : g.columns ≡ 25
   pub rows : g.rows ≡ 25
-  pub full : length g.cells ≡ 625
-  pub each : (p : ℕ) → p < 625 → IsTrialCell number p (cell_at g p)
+  pub full : length g.cells ≡ MOST_POINTS
+  pub each : (p : ℕ) → p < MOST_POINTS → IsTrialCell number p (cell_at g p)

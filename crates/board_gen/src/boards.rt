@@ -5,12 +5,12 @@ ghost use Rattle.go_grid.specs.declared.grid.Colour.{Colour};
 ghost use Rattle.go_grid.specs.declared.grid.Colour.TheVariants.{Black};
 ghost use Rattle.go_grid.specs.Chain.{IsSettled};
 ghost use Rattle.go_grid.specs.Board.{Board, stone};
-ghost use Rattle.board_gen.specs.Corridor.{AreCorridors};
+ghost use Rattle.board_gen.specs.inner.Corridor.{AreCorridors};
 ghost use Rattle.board_gen.specs.Short.{HasShortRegions};
 ghost use Rattle.board_gen.specs.Trial.{IsDrawnBy, IsOwner, IsTrialBoard, IsTrialCell};
 
 use crate::corridors::{COLUMNS, Corridor, corridors_of, is_in_corridor};
-use go_grid::{Board, Cell, Colour, Point, Size};
+use go_grid::{Board, Cell, Colour, MOST_POINTS, Point, Size};
 use sgf_go::Setup;
 use std::alloc::{AllocError, Global};
 
@@ -40,7 +40,7 @@ fn wall(column: u16) -> Cell
 
 /// What a point of the board holds.
 fn cell_of(corridors: &[Corridor], point: u16) -> Cell
-    requires { point < 625 }
+    requires { point < MOST_POINTS }
     ensures { (number : ℕ) → AreCorridors number 16 corridors.now
         → IsTrialCell number point result }
 {

@@ -2,7 +2,7 @@
 
 ghost use Rattle.std.specs.Prelude.{◌≡◌, ℕ, ◌+◌, ◌*◌, ◌%◌, ◌<◌, ◌≤◌, ◌↔◌, true, IfOk};
 ghost use Rattle.board_gen.specs.Trial.{IsInSomeCorridor};
-ghost use Rattle.board_gen.specs.Corridor.{AreCorridors, Covers, IsCorridor};
+ghost use Rattle.board_gen.specs.inner.Corridor.{AreCorridors, Covers, IsCorridor};
 
 use std::alloc::{AllocError, Global};
 

@@ -3,7 +3,5 @@
 
 mod boards;
 mod corridors;
-#[cfg(test)]
-mod tests;
 
 pub use boards::make;

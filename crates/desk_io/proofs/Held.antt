@@ -1,13 +1,14 @@
 -- Bytes that are held in an array, and those that a source has left.
-use Rattle.std.proofs.Common.{◌≡◌, ◌≢◌, ◌⊎◌, ℕ, ◌+◌, ◌-◌, ◌≤◌, ◌<◌, List, [], ◌∷◌, ◌++◌, length, take, drop, get_or, inl, inr, refl, sym, ap, ◌∙◌, arith, append_assoc, append-nil, length-append, below_more, Option, Some, None}
+use Rattle.std.proofs.Common.{◌≡◌, ◌≢◌, ◌⊎◌, ℕ, ◌+◌, ◌-◌, ◌≤◌, ◌<◌, List, [], ◌++◌, length, take, drop, get_or, inl, inr, refl, sym, ap, ◌∙◌, arith, append_assoc, append-nil, below_more, Option, Some, None}
 use Rattle.std.specs.List.{copy_within, All}
 use Rattle.std.specs.Io.KnownBytes.{prepend_known}
-use Rattle.std.proofs.lemmas.List.{take_at, take_all, take-append-le, drop-take, length-take-le, length-drop, take-append-drop, get_or-take, drop_more, drop_all, get_or_append_left, get_or_default}
+use Rattle.std.proofs.lemmas.List.{take_at, take_all, take-append-le, drop-take, length-take-le, length-drop, get_or-take, drop_all, get_or_default}
 use Rattle.std.proofs.lemmas.Bool.{cases_eq}
 use borrow.Rule.Slice.PartMut.{put_mid, post_of}
 use Rattle.std.proofs.Math.Seq.{take-append-add}
 use Rattle.desk_io.specs.Outside.{ended}
-use Rattle.desk_io.specs.Lines.{IsCut, IsSameInput, IsFeed, IsFound}
+use Rattle.desk_io.specs.Lines.{IsCut, IsSameInput, IsFound}
+use Rattle.desk_io.specs.inner.Lines.{IsFeed}
 
 -- what stands at the front after the first bytes were moved away
 pub dropped : (xs : List ℕ) (count len : ℕ) → count ≤ len → len ≤ length xs → take (len - count) (copy_within xs count len 0) ≡ drop count (take len xs)
@@ -33,9 +34,6 @@ pub input_more : (held piece : List ℕ) (before now : Option (List ℕ)) → be
 input_more held piece before None e = λ bytes h. absurd (cc (sym h ∙ e))
 input_more held piece before (Some rest) e = λ bytes h. (rest, refl, ap (λ l. held ++ l) (cc (sym h ∙ e)) ∙ sym (append_assoc held piece rest))
 
-pub input_then : (a b c : List ℕ) (before mid now : Option (List ℕ)) → IsSameInput a before b mid → IsSameInput b mid c now → IsSameInput a before c now
-input_then a b c before mid now first second = λ bytes e. let x = first bytes e in let y = second x.0 x.1 in (y.0, y.1, x.2 ∙ y.2)
-
 -- the places before this one were looked at, and are held
 pub record Looked (start held : List ℕ) (before now : Option (List ℕ)) (at : ℕ) : Type 0 where
   pub same : IsSameInput start before held now
@@ -45,14 +43,6 @@ pub record Looked (start held : List ℕ) (before now : Option (List ℕ)) (at :
 module _ (start held : List ℕ) (before now : Option (List ℕ)) where
   pub looked_start : Looked start start before before 0
   looked_start = record { same = input_same start before; within = omega arith; plain = λ k lt. absurd (omega (arith, lt)) }
-
-  -- more was read
-  pub looked_read : (at : ℕ) (piece next : List ℕ) (later : Option (List ℕ)) → Looked start held before now at → next ≡ held ++ piece → IsSameInput held now next later → Looked start next before later at
-  looked_read at piece next later w e same = record {
-    same = input_then start held next before now later w.same same;
-    within = omega (arith, w.within, ap length e, length-append held piece);
-    plain = λ k lt feed. w.plain k lt (sym (get_or_append_left held piece 0 k (omega (arith, lt, w.within))) ∙ ap (λ l. get_or l k 0) (sym e) ∙ feed);
-  }
 
   -- no line feed stands there
   pub looked_more : (at : ℕ) → Looked start held before now at → at < length held → get_or held at 0 ≢ 10 → Looked start held before now (at + 1)
@@ -66,30 +56,10 @@ module _ (start held : List ℕ) (before now : Option (List ℕ)) where
 pub looked_all : (most : ℕ) (start held : List ℕ) (before now : Option (List ℕ)) (at : ℕ) → Looked start held before now at → length held ≤ most → most ≤ at → IsFeed most held now None
 looked_all most start held before now at w few all = ((λ k lt. w.plain k (omega (arith, lt, few, all))), inl (omega (arith, few, all, w.within)))
 
--- all that is held was looked at, and the source is at its end
-pub looked_end : (most : ℕ) (start held : List ℕ) (before now : Option (List ℕ)) (at : ℕ) → Looked start held before now at → length held ≤ at → now ≡ ended now → IsFeed most held now None
-looked_end most start held before now at w all end = ((λ k lt. w.plain k (omega (arith, lt, all))), inr end)
-
 plain_front : (held : List ℕ) (n : ℕ) → n ≤ length held → ((k : ℕ) → k < n → get_or held k 0 ≢ 10) → All (λ b. b ≢ 10) (take n held)
 plain_front held n le plain k d lt e =
     let short : k < n = omega (arith, lt, length-take-le n held le) in
     plain k short (get_or_default held k 0 d (omega (arith, short, le)) ∙ sym (get_or-take n held k d short) ∙ e)
-
--- up to a line feed
-pub found_feed : (most : ℕ) (held : List ℕ) (left : Option (List ℕ)) (at : ℕ) → at < most → IsFeed most held left (Some at) → IsFound most held left (Some (record { line = at; taken = at + 1 }))
-found_feed most held left at lt feed =
-    let long : length (take at held) ≡ at = length-take-le at held (omega (arith, feed.0)) in (
-      omega (arith, feed.0),
-      omega (arith, feed.0),
-      omega (arith, feed.0),
-      λ rest e. record {
-        plain = plain_front held at (omega (arith, feed.0)) feed.2;
-        cut = inl (
-          omega (arith, long, lt),
-          ap (λ l. l ++ rest) (sym (take-append-drop at held) ∙ ap (λ l. take at held ++ l) (drop_more held at 0 feed.0 ∙ ap (λ b. b ∷ drop (at + 1) held) feed.1)) ∙ append_assoc (take at held) (10 ∷ drop (at + 1) held) rest,
-        );
-      },
-    )
 
 -- all that is held
 pub found_all : (most : ℕ) (held : List ℕ) (left : Option (List ℕ)) (len : ℕ) → len ≡ length held → 0 < len → len ≤ most → IsFeed most held left None → IsFound most held left (Some (record { line = len; taken = len }))
@@ -116,7 +86,3 @@ found_all most held left len long some few feed =
             ap (λ l. l ++ rest) none ∙ over,
           ))
     ]
-
-pub found_none : (most : ℕ) (held : List ℕ) (left : Option (List ℕ)) → 1 ≤ most → length held ≡ 0 → IsFeed most held left None → IsFound most held left None
-found_none most [] left some none feed = elim feed.1 [ inl full ↦ absurd (omega (arith, full, some)) | inr end ↦ (refl, end) ]
-found_none most (b ∷ more) left some none feed = absurd (omega (arith, none))

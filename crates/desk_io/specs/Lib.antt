@@ -2,3 +2,4 @@ pub mod Outside
 pub mod Files
 pub mod Memory
 pub mod Lines
+pub mod inner

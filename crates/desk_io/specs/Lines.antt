@@ -1,5 +1,5 @@
 -- Lines out of a source that is read in pieces.
-use Rattle.std.specs.Prelude.{◌≡◌, ◌≢◌, ◌⊎◌, ℕ, ◌+◌, ◌*◌, ◌<◌, ◌≤◌, List, [], ◌∷◌, ◌++◌, length, take, drop, slice_index, All, Option, Some, None}
+use Rattle.std.specs.Prelude.{◌≡◌, ◌≢◌, ◌⊎◌, ℕ, ◌+◌, ◌*◌, ◌<◌, ◌≤◌, List, [], ◌∷◌, ◌++◌, length, take, drop, All, Option, Some, None}
 use Rattle.desk_io.specs.Outside.{ended}
 use Rattle.desk_io.specs.declared.lines.FoundLine.{FoundLine}
 
@@ -15,19 +15,15 @@ pub record IsLine (most : ℕ) (bytes line rest : List ℕ) : Type 0 where
   pub plain : All (λ b. b ≢ 10) line
   pub cut : IsCut most bytes line rest
 
--- what counts is the same: the bytes that are held, and then those that the source has left
+-- the bytes held, followed by those that the source has left, are the same before and after, where what is left is told
 abbrev pub IsSameInput : List ℕ → Option (List ℕ) → List ℕ → Option (List ℕ) → Type 0
 IsSameInput held before held' now = (bytes : List ℕ) → before ≡ Some bytes → (rest : List ℕ) × (now ≡ Some rest) × (held ++ bytes ≡ held' ++ rest)
 
--- of the bytes that count the lines between the two numbers were used, of at most so many bytes each; what is left is held, or is in the source
+-- of the bytes held and those left in the source no more were used than the lines between the two numbers can have, of at
+-- most so many bytes each; the others are still held or left
 abbrev pub UsesLines : ℕ → ℕ → ℕ → List ℕ → Option (List ℕ) → List ℕ → Option (List ℕ) → Type 0
 UsesLines most from to held before held' now = (bytes : List ℕ) → before ≡ Some bytes
     → (used rest : List ℕ) × (now ≡ Some rest) × (held ++ bytes ≡ used ++ (held' ++ rest)) × (length used + most * from ≤ most * to)
-
--- the place of the first line feed, where one is held; else the most bytes of a line are held, or the source is at its end
-abbrev pub IsFeed : ℕ → List ℕ → Option (List ℕ) → Option ℕ → Type 0
-IsFeed most held left (Some at) = (at < length held) × (slice_index held at ≡ 10) × ((k : ℕ) → k < at → slice_index held k ≢ 10)
-IsFeed most held left None = ((k : ℕ) → k < length held → slice_index held k ≢ 10) × ((length held ≡ most) ⊎ (left ≡ ended left))
 
 -- the line that is held whole and how many bytes it takes with its line feed, or nothing where nothing is left
 abbrev pub IsFound : ℕ → List ℕ → Option (List ℕ) → Option FoundLine → Type 0

@@ -11,7 +11,7 @@ mod shelf;
 
 pub use adapters::{StdSink, StdSource};
 pub use file_shelf::FileShelf;
-pub use lines::{FoundLine, LineReader};
+pub use lines::{FoundLine, LineReader, MOST_LINES};
 pub use memory::{MemorySink, MemorySource};
 pub use memory_shelf::MemoryShelf;
 pub use outside::{Failed, Sink, Source};

@@ -1,14 +1,18 @@
 //! Lines out of a source that is read in pieces.
 
 ghost use Rattle.std.specs.Prelude.{◌≡◌, ◌+◌, ◌<◌, ◌≤◌, ◌++◌, ◌↔◌, true, List, ℕ, [], length, take, drop, IfOk, OnErr, slice_index};
-ghost use Rattle.desk_io.specs.Lines.{IsFeed, IsFound, IsSameInput};
+ghost use Rattle.desk_io.specs.Lines.{IsFound, IsSameInput};
+ghost use Rattle.desk_io.specs.inner.Lines.{IsFeed};
 ghost use Rattle.desk_io.specs.Outside.{HasCause, ended};
 
 use crate::{Failed, Source};
 use std::marker::Model;
 
+/// The most lines that a session reads.
+pub const MOST_LINES: usize = 10_000;
+
 /// How long a line is, and how many bytes it takes with its line feed.
-#[derive(Clone, Copy)]
+#[derive(Clone, Copy, Debug)]
 pub struct FoundLine {
     pub line: usize,
     pub taken: usize,
@@ -16,7 +20,7 @@ pub struct FoundLine {
 
 /// Takes a source apart into lines of at most `MOST` bytes. It holds the bytes that were read and not yet used, at most
 /// `MOST`. Contracts see the list of them.
-#[derive(Drop)]
+#[derive(Debug, Drop)]
 pub struct LineReader<const MOST: usize> {
     bytes: [u8; MOST],
     len: usize,

@@ -2,14 +2,14 @@
 ghost use Rattle.std.specs.Prelude.{◌≡◌, ◌≤◌, ◌+◌, ◌||◌, [], length, drop, nat_lt, vec_len, vec_capacity, is_err, IfOk, Some};
 ghost use Rattle.std.specs.Io.{ReadsAtMost};
 ghost use Rattle.desk_io.specs.Outside.{Appends, HasCause, Takes};
-ghost use Rattle.desk_io.specs.Memory.{Given, Held, counted, fails_next, uncalled, written};
+ghost use Rattle.desk_io.specs.Memory.{MemorySource, MemorySink, counted, fails_next, uncalled, written};
 
 use crate::{Failed, Sink, Source};
 use std::alloc::{AllocError, Global};
 use std::marker::Model;
 
 /// A source that tells its text. Reads fail only where they are told to.
-#[derive(Drop)]
+#[derive(Debug, Drop)]
 pub struct MemorySource {
     bytes: Vec<u8>,
     at: usize,
@@ -20,7 +20,7 @@ pub struct MemorySource {
 }
 
 impl Model for MemorySource {
-    ghost Value = { Given };
+    ghost Value = { MemorySource };
 
     ghost view = { λ s. record { left = drop s.at s.bytes.items; piece = s.piece; calls = record { next = s.calls; failing = s.failing.items; faults = s.faults } } };
 
@@ -77,7 +77,7 @@ impl Source for MemorySource {
 }
 
 /// A sink that tells what it has got. Writes fail where they are told to, and where a piece doesn't fit.
-#[derive(Drop)]
+#[derive(Debug, Drop)]
 pub struct MemorySink {
     bytes: Vec<u8>,
     room: usize,
@@ -87,7 +87,7 @@ pub struct MemorySink {
 }
 
 impl Model for MemorySink {
-    ghost Value = { Held };
+    ghost Value = { MemorySink };
 
     ghost view = { λ s. record { bytes = s.bytes.items; room = s.room; calls = record { next = s.calls; failing = s.failing.items; faults = s.faults } } };
 

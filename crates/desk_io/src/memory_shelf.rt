@@ -2,7 +2,8 @@
 ghost use Rattle.std.specs.Prelude.{◌≡◌, [], ◌∷◌, ◌++◌, Some, OnOk, OnErr};
 ghost use Rattle.std.specs.FinMap as map;
 ghost use Rattle.desk_io.specs.Files.{FailsByCount, Loads, has_failed, told_file};
-ghost use Rattle.desk_io.specs.Memory.{Stored, counted, fails_next, files_in, stored_code, uncalled};
+ghost use Rattle.desk_io.specs.Memory.{MemoryShelf, counted, fails_next, shelf_code, uncalled};
+ghost use Rattle.desk_io.specs.inner.Memory.{files_in};
 
 use crate::{LoadError, Loaded, Shelf};
 use std::alloc::{AllocError, Global};
@@ -10,7 +11,7 @@ use std::collections::BTreeMap;
 use std::marker::Model;
 
 /// A shelf that tells its files. Loads fail only where `fail_at` names them.
-#[derive(Drop)]
+#[derive(Debug, Drop)]
 pub struct MemoryShelf {
     files: BTreeMap<String, Vec<u8>>,
     failing: Vec<u64>,
@@ -19,16 +20,16 @@ pub struct MemoryShelf {
 }
 
 impl Model for MemoryShelf {
-    ghost Value = { Stored };
+    ghost Value = { MemoryShelf };
 
-    ghost coded = { stored_code };
+    ghost coded = { shelf_code };
 
     ghost view = { λ s. record { files = files_in s.files; calls = record { next = s.calls; failing = s.failing.items; faults = s.faults } } };
 }
 
 impl MemoryShelf {
     /// Holds no file.
-    #[tactic(auto, unfolding(crate::specs::Memory::files_in))]
+    #[tactic(auto, unfolding(crate::specs::inner::Memory::files_in))]
     pub fn new(alloc: Global) -> Self
         ensures { result ≡ record { files = map.empty; calls = uncalled [] } }
     {

@@ -1,5 +1,5 @@
 -- Fractions: to halve or to double both parts of one changes nothing.
-use Rattle.std.proofs.Common.{ℕ, suc, ◌+◌, ◌-◌, ◌*◌, ◌^◌, ◌<◌, ◌≤◌, ◌≡◌, ◌⊎◌, inl, inr, arith, refl, sym, ◌∙◌, ap, subst, ℤ, pos, negsuc, ◌+ℤ◌, ◌*ℤ◌}
+use Rattle.std.proofs.Common.{ℕ, suc, ◌+◌, ◌-◌, ◌*◌, ◌^◌, ◌<◌, ◌≤◌, ◌≡◌, ◌⊎◌, inl, inr, arith, sym, ◌∙◌, ap, subst, ℤ, pos, negsuc, ◌+ℤ◌, ◌*ℤ◌}
 use Rattle.std.specs.Prelude.{unsigned_abs, neg_ℤ}
 use Rattle.std.proofs.lemmas.Int.{ints, unsigned_abs-mul}
 use Rattle.std.proofs.lemmas.Bool.{cases_lt}
@@ -62,9 +62,6 @@ pub record Scaled (n : ℤ) (e : ℕ) (units : ℤ) (at : ℕ) : Type 0 where
   pub from : (u : ℤ) → IsFraction u n e → IsFraction u units at
   pub back : (u : ℤ) → IsFraction u units at → IsFraction u n e
 
-pub scaled-start : (n : ℤ) (e : ℕ) → Scaled n e n e
-scaled-start n e = record { from = λ u f. f; back = λ u f. f }
-
 pub scaled-halved : (n : ℤ) (e : ℕ) (units half : ℤ) (at next : ℕ) → half +ℤ half ≡ units → suc next ≡ at → Scaled n e units at → Scaled n e half next
 scaled-halved n e units half at next p q s = record {
   from = λ u f. halving u units half at next p q (s.from u f);
@@ -96,12 +93,6 @@ shorter at l = elim (cases_lt at 60) [
 -- so is one of size 2 ^ 120 over at most 2 ^ 60
 pub too_great : (n : ℤ) (e : ℕ) (units : ℤ) (at : ℕ) → at ≤ 60 → (IsInBounds units → ⊥) → Scaled n e units at → (u : ℤ) → IsInBounds u → IsFraction u n e → ⊥
 too_great n e units at l big s u b f = big (let p = mul-le-mul_left (unsigned_abs u) (shorter at l) in omega (arith, sizes u units at (s.from u f), p, b))
-
-pub scaled-end : (n : ℤ) (e : ℕ) (units : ℤ) → Scaled n e units 60 → (u : ℤ) → IsFraction u n e → u ≡ units
-scaled-end n e units s u f = omega (arith, ints, s.from u f)
-
-pub scaled-whole : (n : ℤ) (e : ℕ) (units : ℤ) → Scaled n e units 60 → IsFraction units n e
-scaled-whole n e units s = s.back units refl
 
 pub scaled-along : (n n' : ℤ) (e : ℕ) (units : ℤ) (at : ℕ) → n ≡ n' → Scaled n e units at → Scaled n' e units at
 scaled-along n n' e units at p s = subst (λ x. Scaled x e units at) p s

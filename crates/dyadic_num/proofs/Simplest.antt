@@ -1,5 +1,5 @@
 -- The search for the simplest number between two: the coarsest step of which a multiple lies between.
-use Rattle.std.proofs.Common.{ℕ, ◌+◌, ◌-◌, ◌*◌, ◌/◌, ◌%◌, ◌^◌, ◌<◌, ◌≤◌, ◌≡◌, arith, inl, inr, sym, ◌∙◌, ap, subst, ℤ, pos, ◌<ℤ◌}
+use Rattle.std.proofs.Common.{ℕ, ◌+◌, ◌-◌, ◌*◌, ◌/◌, ◌%◌, ◌^◌, ◌<◌, ◌≤◌, ◌≡◌, arith, inl, inr, sym, ◌∙◌, ap, subst, ℤ, pos}
 use Rattle.std.specs.Prelude.{unsigned_abs, neg_ℤ}
 use Rattle.std.proofs.lemmas.Int.{ints}
 use Rattle.std.proofs.lemmas.Bool.{cases_lt}
@@ -7,7 +7,8 @@ use Rattle.std.proofs.lemmas.Nat.{pow-add, pow_pos}
 use Rattle.std.proofs.Math.Pow.{pow-lt}
 use Rattle.std.proofs.Math.Nat.{lt-div-mul-add, div-lt_iff_lt-mul, mul-le-mul_right, mul_assoc, mod-eq_of_lt}
 use Rattle.std.specs.Prelude.{Option, Some, None}
-use Rattle.dyadic_num.specs.Units.{IsInside, IsSimplest, IsBetween, low_end, high_end, IsSmall}
+use Rattle.dyadic_num.specs.Units.{IsInside, IsSimplest, IsBetween}
+use Rattle.dyadic_num.specs.inner.Units.{low_end, high_end, IsSmall}
 
 -- no multiple of a step past this shift lies between
 pub record Searched (low high exponent shift : ℕ) : Type 0 where
@@ -55,14 +56,6 @@ mirrored e low high low' high' u p q s = record {
   passes = (omega (arith, ints, s.passes.0, s.passes.1), omega (arith, ints, s.passes.0, s.passes.1));
   least_exponent = λ v i k b m. (let r = s.least_exponent (neg_ℤ v) (omega (arith, ints, i.0, i.1), omega (arith, ints, i.0, i.1)) k b (m.0, negated v ∙ m.1) in (r.0, negated u ∙ r.1));
   least_size = λ v i f. (let l = s.least_size (neg_ℤ v) (omega (arith, ints, i.0, i.1), omega (arith, ints, i.0, i.1)) (λ k b m. (let r = f k b (m.0, negated u ∙ m.1) in (r.0, negated v ∙ r.1))) in omega (arith, negated u, negated v, l));
-}
-
--- nothing is simpler than nought
-pub nought-simplest : (e : ℕ) (low high : ℤ) → low <ℤ pos 0 → pos 0 <ℤ high → IsSimplest e (λ u. IsInside low high u) (pos 0)
-nought-simplest e low high p q = record {
-  passes = (p, q);
-  least_exponent = λ v i k b m. (0, omega arith);
-  least_size = λ v i f. omega arith;
 }
 
 pub along : (e : ℕ) (a b u a' b' u' : ℤ) → a ≡ a' → b ≡ b' → u ≡ u' → IsSimplest e (λ u. IsInside a b u) u → IsSimplest e (λ u. IsInside a' b' u) u'

@@ -1,15 +1,20 @@
 -- A dyadic number, as a whole number of parts of 2 ^ -60.
-use Rattle.std.specs.Prelude.{ℕ, negsuc, ◌-◌, ◌^◌, ◌<◌, ◌≡◌, ◌*◌, ◌≤◌, ℤ, pos, ◌*ℤ◌, ◌<ℤ◌, unsigned_abs, Option, Some, None}
+use Rattle.std.specs.Prelude.{ℕ, ◌^◌, ◌<◌, ◌≡◌, ◌*◌, ◌≤◌, ℤ, pos, ◌*ℤ◌, ◌<ℤ◌, unsigned_abs, Option, Some, None}
+use Rattle.dyadic_num.specs.declared.TheConstants.{EXPONENT, LIMIT}
 use Rattle.std.specs.declared.cmp.Ordering.{Ordering}
 use Rattle.std.specs.declared.cmp.Ordering.TheVariants.{Less, Equal, Greater}
 
 -- the numbers of a size below 2 ^ 60 whose denominator is at most 2 ^ 60
 abbrev pub IsInBounds : ℤ → Type 0
-IsInBounds u = unsigned_abs u < 2 ^ 120
+IsInBounds u = unsigned_abs u < unsigned_abs LIMIT
+
+-- the ends between which a simplest number is looked for: of at most four times the size of the bounds
+abbrev pub IsInReach : ℤ → Type 0
+IsInReach k = unsigned_abs k ≤ 4 * unsigned_abs LIMIT
 
 -- u is n / 2 ^ e
 abbrev pub IsFraction : ℤ → ℤ → ℕ → Type 0
-IsFraction u n e = u *ℤ pos (2 ^ e) ≡ n *ℤ pos (2 ^ 60)
+IsFraction u n e = u *ℤ pos (2 ^ e) ≡ n *ℤ pos (2 ^ EXPONENT)
 
 -- u is a fraction over 2 ^ e: its exponent is at most e
 abbrev pub IsOver : ℕ → ℤ → Type 0
@@ -24,11 +29,12 @@ pub record IsLowest (u n : ℤ) (e : ℕ) : Type 0 where
   pub fraction : IsFraction u n e
   pub lowest : (m : ℤ) (d : ℕ) → IsFraction u m d → e ≤ d
 
--- above and below bounds that may be absent
+-- u is above the bound, where there is one
 abbrev pub IsAbove : Option ℤ → ℤ → Type 0
 IsAbove None u = Unit {0}
 IsAbove (Some low) u = low <ℤ u
 
+-- u is below the bound, where there is one
 abbrev pub IsBelow : Option ℤ → ℤ → Type 0
 IsBelow None u = Unit {0}
 IsBelow (Some high) u = u <ℤ high
@@ -40,34 +46,23 @@ pub record IsSimplest (e : ℕ) (Passes : ℤ → Type 0) (u : ℤ) : Type 0 whe
   pub least_exponent : (v : ℤ) → Passes v → (k : ℕ) → k ≤ e → IsMultiple (2 ^ k) v → IsMultiple (2 ^ k) u
   pub least_size : (v : ℤ) → Passes v → ((k : ℕ) → k ≤ e → IsMultiple (2 ^ k) u → IsMultiple (2 ^ k) v) → unsigned_abs u ≤ unsigned_abs v
 
--- within the bounds of a Dyadic and strictly between the two
+-- u is within the bounds of a Dyadic and strictly between two others, of which each may be absent
 abbrev pub IsBetween : Option ℤ → Option ℤ → ℤ → Type 0
 IsBetween low high u = IsInBounds u × IsAbove low u × IsBelow high u
 
--- u is the simplest number strictly between the two: the least exponent goes first, and then the least size
+-- u is the simplest number strictly between two bounds that may be absent: the least exponent goes first, and then the
+-- least size
 pub record IsSimplestBetween (low high : Option ℤ) (u : ℤ) : Type 0 where
   pub between : IsBetween low high u
   pub least_exponent : (v : ℤ) → IsBetween low high v → (e : ℕ) → IsOver e v → IsOver e u
   pub least_size : (v : ℤ) → IsBetween low high v → ((e : ℕ) → IsOver e u → IsOver e v) → unsigned_abs u ≤ unsigned_abs v
 
--- strictly between two
+-- u is strictly between the two
 abbrev pub IsInside : ℤ → ℤ → ℤ → Type 0
 IsInside low high u = (low <ℤ u) × (u <ℤ high)
 
+-- x stands to y as the ordering says
 abbrev pub IsOrdered : Ordering → ℤ → ℤ → Type 0
 IsOrdered Less x y = x <ℤ y
 IsOrdered Equal x y = x ≡ y
 IsOrdered Greater x y = y <ℤ x
-
--- the ends that stand for bounds that may be absent
-abbrev pub low_end : Option ℤ → ℤ
-low_end None = negsuc (2 ^ 120 - 1)
-low_end (Some low) = low
-
-abbrev pub high_end : Option ℤ → ℤ
-high_end None = pos (2 ^ 120)
-high_end (Some high) = high
-
-abbrev pub IsSmall : Option ℤ → Type 0
-IsSmall None = Unit {0}
-IsSmall (Some x) = IsInBounds x

@@ -3,23 +3,21 @@
 #![tactic(auto)]
 
 ghost use Rattle.std.specs.Prelude.{◌≡◌, ◌+◌, ◌^◌, ◌<◌, ℕ, ℤ, pos, ◌+ℤ◌, ◌*ℤ◌, ◌<ℤ◌, ◌≤◌, unsigned_abs, neg_ℤ, MatchOption};
-ghost use Rattle.dyadic_num.specs.Units.{IsInBounds, IsFraction, IsLowest, IsBetween, IsInside, IsSimplest, IsSimplestBetween, IsOrdered, low_end, high_end, IsSmall};
+ghost use Rattle.dyadic_num.specs.Units.{IsInBounds, IsInReach, IsFraction, IsLowest, IsBetween, IsInside, IsSimplest, IsSimplestBetween, IsOrdered};
+ghost use Rattle.dyadic_num.specs.inner.Units.{low_end, high_end, IsSmall};
 
 use std::cmp::Ordering;
 use std::marker::Model;
-
-#[cfg(test)]
-mod tests;
 
 /// The exponent of the least parts: each number is a whole number of parts of 2^-60.
 pub const EXPONENT: u8 = 60;
 
 /// The first size past the bounds, 2^60, in parts of 2^-60.
-pub const LIMIT: i128 = 1 << 120;
+pub const LIMIT: i128 = 1 << (2 * EXPONENT);
 
 /// A fraction by a power of two, of a size below 2^60 and with a denominator of at most 2^60. Contracts see it as the
 /// whole number of its parts of 2^-60.
-#[derive(Clone, Copy, PartialEq, Eq)]
+#[derive(Clone, Copy, Debug, PartialEq, Eq)]
 pub struct Dyadic {
     units: i128,
 }
@@ -57,7 +55,8 @@ impl Dyadic {
 
     /// The fraction `numerator / 2^exponent`. None exactly where it is past the bounds.
     pub fn part(numerator: i128, exponent: u8) -> Option<Dyadic>
-        ensures { MatchOption result ((u : ℤ) → IsInBounds u → IsFraction u numerator exponent → ⊥) (λ u. IsFraction u numerator exponent) }
+        ensures { MatchOption result ((u : ℤ) → IsInBounds u → IsFraction u numerator exponent → ⊥)
+            (λ u. IsFraction u numerator exponent) }
     {
         let mut units = numerator;
         let mut at = exponent;
@@ -125,6 +124,14 @@ impl Dyadic {
         }
     }
 
+    /// The number that so many parts of 2^-60 make, which are within the bounds.
+    pub fn from_units(units: i128) -> Dyadic
+        requires { IsInBounds units }
+        ensures { result ≡ units }
+    {
+        Dyadic { units }
+    }
+
     /// The sum. None exactly where it is past the bounds.
     pub fn add(self, other: Dyadic) -> Option<Dyadic>
         ensures { MatchOption result (IsInBounds (self +ℤ other) → ⊥) (λ sum. sum ≡ self +ℤ other) }
@@ -160,7 +167,7 @@ impl Dyadic {
 fn simplest_above(low: u128, high: u128, exponent: u32) -> u128
     requires exponent { exponent ≤ EXPONENT + 1 }
     requires room { low + 1 < high }
-    requires high { high ≤ 2 ^ 122 }
+    requires reach { IsInReach (pos high) }
     ensures { IsSimplest exponent (λ u. IsInside (pos low) (pos high) u) (pos result) }
 {
     let mut shift = exponent;
@@ -174,8 +181,8 @@ fn simplest_above(low: u128, high: u128, exponent: u32) -> u128
 pub fn simplest_inside(low: i128, high: i128, exponent: u32) -> i128
     requires exponent { exponent ≤ EXPONENT + 1 }
     requires room { (low +ℤ pos 1) <ℤ high }
-    requires low_size { unsigned_abs low ≤ 2 ^ 122 }
-    requires high_size { unsigned_abs high ≤ 2 ^ 122 }
+    requires low_reach { IsInReach low }
+    requires high_reach { IsInReach high }
     ensures { IsSimplest exponent (λ u. IsInside low high u) result }
 {
     if low >= 0 {
@@ -213,7 +220,8 @@ fn high_end(high: Option<Dyadic>) -> i128
 /// of this type that lie strictly between, the least exponent goes first and then the least size. None exactly where no
 /// such number lies between.
 pub fn simplest_between(low: Option<Dyadic>, high: Option<Dyadic>) -> Option<Dyadic>
-    ensures { MatchOption result ((u : ℤ) → IsBetween low high u → ⊥) (λ u. IsSimplestBetween low high u) }
+    ensures { MatchOption result ((u : ℤ) → IsBetween low high u → ⊥)
+        (λ u. IsSimplestBetween low high u) }
 {
     let low = low_end(low);
     let high = high_end(high);

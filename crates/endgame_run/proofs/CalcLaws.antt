@@ -8,7 +8,7 @@ use Rattle.game_calc.specs.declared.errors.CalcError.TheVariants as calc
 use Rattle.game_calc.specs.declared.errors.CalcFault.{CalcFault}
 use Rattle.game_calc.specs.declared.errors.CalcFault.TheVariants as fault
 use Rattle.game_calc.proofs.OneLine.{one-line}
-use Rattle.gd_words.specs.Job.{IsOnlyJob, JobView}
+use Rattle.gd_words.specs.Job.{IsOnlyJob, Job}
 use Rattle.gd_words.specs.Task.Task.{calc as calculate}
 use Rattle.endgame_run.specs.declared.status.Status.{Status}
 use Rattle.endgame_run.specs.declared.status.Status.TheVariants as status
@@ -20,7 +20,7 @@ use Rattle.endgame_run.specs.Verdict.{HasCause, IsDecided, IsTextAlone, IsWritte
 use Rattle.endgame_run.proofs.TopLaws.{caused, written}
 
 -- the status of an expression, for the words that ask for it
-calc_decided : (words : List (List ℕ)) (o : Outside) (job : JobView) (expression : List ℕ) (s : Status) (text : List ℕ) → IsOnlyJob words job → job.task ≡ calculate expression → IsCalc job.parts expression s text → IsDecided words o s text
+calc_decided : (words : List (List ℕ)) (o : Outside) (job : Job) (expression : List ℕ) (s : Status) (text : List ℕ) → IsOnlyJob words job → job.task ≡ calculate expression → IsCalc job.parts expression s text → IsDecided words o s text
 calc_decided words o job expression status.Done text only is h = inr (job, only, subst (λ k. IsTextAlone job.parts k status.Done text) (sym is) h)
 calc_decided words o job expression (status.BadExpression f) text only is h = (job, only, subst (λ k. IsTextAlone job.parts k (status.BadExpression f) text) (sym is) h)
 calc_decided words o job expression status.CalcLimit text only is h = (job, only, subst (λ k. IsTextAlone job.parts k status.CalcLimit text) (sym is) h)
@@ -35,7 +35,7 @@ calc_decided words o job expression status.Memory text only is h = absurd h
 calc_decided words o job expression status.TooManyLines text only is h = absurd h
 calc_decided words o job expression status.TooLong text only is h = absurd h
 
-module _ (words : List (List ℕ)) (o : Outside) (job : JobView) (limit : ℕ) (expression : List ℕ) (kb kn : ℕ) (before now : Option (List ℕ)) (result : Status) (only : IsOnlyJob words job)
+module _ (words : List (List ℕ)) (o : Outside) (job : Job) (limit : ℕ) (expression : List ℕ) (kb kn : ℕ) (before now : Option (List ℕ)) (result : Status) (only : IsOnlyJob words job)
     (is : job.task ≡ calculate expression) (same : limit ≡ job.parts) where
   own : (s : Status) (text : List ℕ) → IsCalc limit expression s text → IsDecided words o s text
   own s text h = calc_decided words o job expression s text only is (subst (λ l. IsCalc l expression s text) same h)

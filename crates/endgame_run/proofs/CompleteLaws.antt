@@ -1,5 +1,6 @@
 -- A file that is told, read and within all limits is answered.
 use Rattle.std.proofs.Common.{◌≡◌, ◌⊎◌, ℕ, Bool, true, false, inl, inr, refl, sym, ap, subst, ◌∙◌, arith, List, length, Some, None, Ok, Err}
+use Rattle.sgf_tree.specs.declared.reader.TheConstants.{MOST_BYTES}
 use Rattle.desk_io.specs.Files.Told.{absent, holding}
 use Rattle.std.specs.Prelude.{Option, if◌then◌else◌}
 use Rattle.std.specs.Str.{bytes_eq}
@@ -7,7 +8,7 @@ use Rattle.desk_io.specs.Outside.{Rose}
 use Rattle.sgf_go.specs.declared.settings.Settings.{Settings}
 use Rattle.sgf_go.specs.declared.settings.Setup.{Setup}
 use Rattle.game_calc.specs.declared.errors.CalcFault.{CalcFault}
-use Rattle.gd_words.specs.Job.{IsOnlyJob, JobView}
+use Rattle.gd_words.specs.Job.{IsOnlyJob, Job}
 use Rattle.gd_words.specs.Task.{Task}
 use Rattle.gd_words.specs.Task.Task.{gtp, trial, calc}
 use Rattle.endgame_solver.specs.declared.limits.Limits.{Limits}
@@ -22,7 +23,7 @@ use Rattle.endgame_run.specs.Complete.{AreAnswerable, IsAnswerable, IsAnswered, 
 use Rattle.endgame_run.specs.Engine.{AreForEngine, AskForEngine, IsEngineRun}
 use Rattle.endgame_run.specs.Output.{IsCaused}
 use Rattle.desk_io.specs.Files.{Told, IsLonger, IsTold}
-use Rattle.sgf_go.specs.File.{IsShort, Reads}
+use Rattle.sgf_go.specs.File.{HasFewBytes, Reads}
 use Rattle.endgame_run.specs.File.{Outside, count_of, dash, told_of}
 use Rattle.endgame_run.specs.Game.{IsGameRun}
 use Rattle.endgame_run.specs.Verdict.{IsAnswerOn, HasCause, IsAnswer, IsFileAnswer, IsPositionAnswer, IsTextAlone, Pose, limits_of}
@@ -56,7 +57,7 @@ module _ (words : List (List ℕ)) (o : Outside) (kb kn : ℕ) (a : IsAnswerable
   Answer s text = IsAnswerOn a.question o a.word a.job.settings s text
 
   -- what is decided about the words' own question
-  own : (job : JobView) (q : Question) (word : List ℕ) (s : Status) (text : List ℕ) → Pose words job q word
+  own : (job : Job) (q : Question) (word : List ℕ) (s : Status) (text : List ℕ) → Pose words job q word
       → IsAnswerOn q o word job.settings s text → Answer s text
   own job q word s text b h =
       let one = one_pose words a.job job a.question q a.word word a.asks b in
@@ -66,15 +67,15 @@ module _ (words : List (List ℕ)) (o : Outside) (kb kn : ℕ) (a : IsAnswerable
   told_file : (file : List ℕ) → IsTold (told_of o.world a.word) file → file ≡ a.file
   told_file file t = let k : IsTold (holding a.file) file = subst (λ x. IsTold x file) a.told t in sym k
 
-  by_file : (s : Status) (text : List ℕ) → (file : List ℕ) × IsTold (told_of o.world a.word) file × IsShort file × IsFileAnswer a.question file a.job.settings s text → s ≡ Done
+  by_file : (s : Status) (text : List ℕ) → (file : List ℕ) × IsTold (told_of o.world a.word) file × HasFewBytes file × IsFileAnswer a.question file a.job.settings s text → s ≡ Done
   by_file s text (file, told, short, h) = file_done a.question a.file a.job.settings a.setup s text a.reads a.within (subst (λ f. IsFileAnswer a.question f a.job.settings s text) (told_file file told) h)
 
   unread : (told : Told) → told ≡ holding a.file → told ≡ absent → ⊥
   unread told e d = let k : Path Told (holding a.file) absent = sym e ∙ d in cc
 
-  too_long : IsLonger 1048576 (told_of o.world a.word) → ⊥
+  too_long : IsLonger MOST_BYTES (told_of o.world a.word) → ⊥
   too_long h =
-      let k : IsLonger 1048576 (holding a.file) = subst (IsLonger 1048576) a.told h in omega (arith, a.short, k)
+      let k : IsLonger MOST_BYTES (holding a.file) = subst (IsLonger MOST_BYTES) a.told h in omega (arith, a.short, k)
 
   not_read : (told_of o.world a.word ≡ absent) ⊎ Rose (count_of o.loads.before o.reads.before a.word) (count_of o.loads.now o.reads.now a.word) → ⊥
   not_read (inl none) = unread (told_of o.world a.word) a.told none
@@ -106,8 +107,8 @@ module _ (words : List (List ℕ)) (o : Outside) (kb kn : ℕ) (a : IsAnswerable
   answered before now status.CalcLimit rose (inr g) = absurd g.begun
 
 -- words that pose no question, and whose task is not refused, are done, where no write failed
-alone_answered : (words : List (List ℕ)) (o : Outside) (kb kn : ℕ) (before now : Option (List ℕ)) (result : Status) (own : JobView) → IsOnlyJob words own
-    → ((job : JobView) (q : Question) (word : List ℕ) → ¬ Pose words job q word) → ((f : CalcFault) (text : List ℕ) → ¬ IsTextAlone own.parts own.task (status.BadExpression f) text)
+alone_answered : (words : List (List ℕ)) (o : Outside) (kb kn : ℕ) (before now : Option (List ℕ)) (result : Status) (own : Job) → IsOnlyJob words own
+    → ((job : Job) (q : Question) (word : List ℕ) → ¬ Pose words job q word) → ((f : CalcFault) (text : List ℕ) → ¬ IsTextAlone own.parts own.task (status.BadExpression f) text)
     → ((text : List ℕ) → ¬ IsTextAlone own.parts own.task status.CalcLimit text) → ¬ Rose kb kn
     → (result ≡ CannotWrite → Rose kb kn) → HasCause words o result ⊎ IsGameRun words o before now result → (result ≡ Done) ⊎ (result ≡ Memory)
 alone_answered words o kb kn before now result own only none bad large calm rose (inr g) = absurd (none g.game.job (question.Solve (limits_of g.game.job)) g.game.word (inr (g.game.asks, refl)))
@@ -139,7 +140,7 @@ answerable_done words o kb kn before now result (inr (limit, expression, (own, o
     (λ text t. unrefused.1 (subst (λ l. IsCalc l expression status.CalcLimit text) (sym same) (subst (λ k. IsTextAlone own.parts k status.CalcLimit text) is t)).0) calm rose h
 
 -- a job that the words have is that of the engine
-engine_task : (words : List (List ℕ)) (limits : Limits) (other : JobView) → AreForEngine words limits → IsOnlyJob words other → other.task ≡ gtp
+engine_task : (words : List (List ℕ)) (limits : Limits) (other : Job) → AreForEngine words limits → IsOnlyJob words other → other.task ≡ gtp
 engine_task words limits other (own, only, is, same) its = ap (λ j. j.task) (only.only other its.said) ∙ is
 
 engine_alone : (words : List (List ℕ)) (limits : Limits) → AreForEngine words limits → AreAnswerable words → ⊥

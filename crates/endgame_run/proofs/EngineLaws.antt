@@ -10,7 +10,7 @@ use Rattle.endgame_solver.specs.declared.limits.Limits.{Limits}
 use Rattle.gtp_engine.specs.declared.end.GtpEnd.{GtpEnd}
 use Rattle.gtp_engine.specs.declared.end.GtpEnd.TheVariants as end
 use Rattle.gtp_engine.specs.Kept.{AreLoads}
-use Rattle.gtp_engine.specs.Written.{EngineView, IsRun, RoseBy, unused}
+use Rattle.gtp_engine.specs.Written.{Engine, IsRun, RoseBy, unused}
 use Rattle.gtp_engine.specs.Session.{beginning}
 use Rattle.endgame_run.specs.declared.status.Status.{Status}
 use Rattle.endgame_run.specs.declared.status.Status.TheVariants.{CannotRead, CannotWrite, Done, Memory, TooManyLines}
@@ -99,7 +99,7 @@ module _ (limits : Limits) (o : Outside) (failing : List ℕ) (failed : AreFaile
   engine_play end.TooManyLines km kn p rose c = stopped TooManyLines (codes "fault lines\n") km kn tt (λ e. absurd cc) (λ bytes told. let h = p bytes told in (h.1, ((h.0, h.2), refl), h.3)) c
 
 -- the same of an engine that had answered nothing
-pub engine_ran : (limits : Limits) (o : Outside) (start over : EngineView) (before mid now : Option (List ℕ)) (result : Status) (final : GtpEnd) (km kn : ℕ) → start ≡ unused limits → AreLoads over.loads over.failed_loads
+pub engine_ran : (limits : Limits) (o : Outside) (start over : Engine) (before mid now : Option (List ℕ)) (result : Status) (final : GtpEnd) (km kn : ℕ) → start ≡ unused limits → AreLoads over.loads over.failed_loads
     → RoseBy (length over.failed_loads) o.loads.before o.loads.now → ((bytes : List ℕ) → o.world.left ≡ Some bytes → IsRun start.limits o.world.files over.failed_loads bytes before mid final)
     → (final ≡ end.ReadFault → Rose o.reads.before o.reads.now) → IsClosed final km kn mid now result → IsEnginePlay limits o before now result
 engine_ran limits o start over before mid now result final km kn is numbered counted p rose c =

@@ -3,7 +3,7 @@ use Rattle.std.proofs.Common.{◌≡◌, ◌≢◌, ◌⊎◌, ℕ, inl, inr, re
 use Rattle.std.specs.Prelude.{Option}
 use Rattle.desk_io.specs.Files.{Files}
 use Rattle.sgf_go.specs.declared.settings.Setup.{Setup}
-use Rattle.gd_words.specs.Job.{IsJob, JobView}
+use Rattle.gd_words.specs.Job.{SayNoJob}
 use Rattle.gd_words.specs.Task.{Task}
 use Rattle.gd_words.specs.Task.Task.{gtp, trial}
 use Rattle.endgame_solver.specs.declared.limits.Limits.{Limits}
@@ -31,7 +31,7 @@ pub engine_unplayed : (words : List (List ℕ)) (limits : Limits) → AreForEngi
 engine_unplayed words limits a (job, word, play) = engine_unposed words limits job (Solve (limits_of job)) word a (inr (play, refl))
 
 module _ (words : List (List ℕ)) (o : Outside) (before now : Option (List ℕ)) (result : Status) where
-  pub run_outside : IsCaused words o before now result → ((job : JobView) → ¬ IsJob words job) → (result ≡ status.Usage) ⊎ (result ≡ CannotWrite)
+  pub run_outside : IsCaused words o before now result → SayNoJob words → (result ≡ status.Usage) ⊎ (result ≡ CannotWrite)
   run_outside (inl h) none = no_job words o before now result h none
   run_outside (inr (limits, (job, only, is, same), play)) none = absurd (none job only.said)
 

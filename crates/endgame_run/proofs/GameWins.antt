@@ -3,7 +3,7 @@ use Rattle.std.proofs.Common.{◌≡◌, ◌⊎◌, ◌++◌, ℕ, inl, inr, ref
 use Rattle.std.specs.Prelude.{Option, IfSome, codes, take}
 use Rattle.std.specs.Io.KnownBytes.{append_known}
 use Rattle.go_grid.specs.declared.grid.Colour.{Colour}
-use Rattle.whole_rules.specs.WholeGame.{State}
+use Rattle.whole_rules.specs.WholeGame.{Whole}
 use Rattle.whole_rules.specs.FirstWinningMove.{IsWinner}
 use Rattle.play_session.specs.declared.end.SessionEnd.TheVariants as end
 use Rattle.play_session.specs.Session.{Standing, Turns, IsSession}
@@ -20,7 +20,7 @@ pub map_told : (P Q : List ℕ → Type 0) (left : Option (List ℕ)) → ((byte
 map_told P Q None f h = tt
 map_told P Q (Some bytes) f h = f bytes h
 
-module _ (engine : Colour) (s : State) (bytes : List ℕ) (before now : Option (List ℕ)) (wins : IsWinner s engine) where
+module _ (engine : Colour) (s : Whole) (bytes : List ℕ) (before now : Option (List ℕ)) (wins : IsWinner s engine) where
   -- turns, and what stands behind them
   won : (n : ℕ) (b : Standing) (first last : List ℕ) → Turns engine n (beginning s bytes) first b → IsUnnamed engine last → now ≡ append_known before (first ++ last) → IsWonGame engine s bytes before now
   won n b first last turns unnamed is = record {

@@ -6,7 +6,7 @@ use Rattle.std.proofs.lemmas.Bool.{cases_order}
 use Rattle.std.proofs.lemmas.List.Elements.{Contains-get_or}
 use Rattle.go_grid.specs.Region.{Region}
 use Rattle.sgf_tree.specs.Grammar.{PropertyText}
-use Rattle.sgf_tree.specs.Reading.{Answer, IsAnswer as IsTreeAnswer}
+use Rattle.sgf_tree.specs.Reading.{Answer, IsTreeAnswer}
 use Rattle.sgf_tree.specs.Reading.Answer.{line, no_tree, bad_byte, cut_short, too_deep}
 use Rattle.sgf_tree.specs.declared.fault.TreeFault.{TreeFault}
 use Rattle.sgf_tree.specs.declared.fault.TreeFault.TheVariants.{NoTree, BadByte, CutShort, TooDeep}

@@ -2,7 +2,7 @@
 use Rattle.std.proofs.Common.{◌≡◌, ◌≢◌, ◌⊎◌, ◌++◌, ℕ, inl, inr, refl, ap, ◌∙◌, List}
 use Rattle.std.specs.Prelude.{Option}
 use Rattle.std.specs.Io.KnownBytes.{append_known}
-use Rattle.gd_words.specs.Job.{IsJob, JobView}
+use Rattle.gd_words.specs.Job.{IsJob, Job, SayNoJob}
 use Rattle.endgame_run.specs.declared.status.Status.{Status}
 use Rattle.endgame_run.specs.declared.status.Status.TheVariants.{CannotRead, CannotWrite, Done, Memory, TooManyLines}
 use Rattle.endgame_run.specs.declared.status.Status.TheVariants as status
@@ -44,13 +44,13 @@ part_output words o before now (status.BadExpression f) (inr g) ne = absurd g.be
 part_output words o before now status.CalcLimit (inr g) ne = absurd g.begun
 
 -- words that pose a question are a job
-pub pose_said : (words : List (List ℕ)) (job : JobView) (q : Question) (word : List ℕ) → Pose words job q word → IsJob words job
+pub pose_said : (words : List (List ℕ)) (job : Job) (q : Question) (word : List ℕ) → Pose words job q word → IsJob words job
 pose_said words job q word (inl a) = a.0.said
 pose_said words job q word (inr a) = a.0.0.said
 
 -- words outside the grammar
 pub no_job : (words : List (List ℕ)) (o : Outside) (before now : Option (List ℕ)) (result : Status) → HasCause words o result ⊎ IsGameRun words o before now result
-    → ((job : JobView) → ¬ IsJob words job) → (result ≡ status.Usage) ⊎ (result ≡ CannotWrite)
+    → SayNoJob words → (result ≡ status.Usage) ⊎ (result ≡ CannotWrite)
 no_job words o before now result (inr g) none = absurd (none g.game.job g.game.asks.0.said)
 no_job words o before now status.Usage (inl h) none = inl refl
 no_job words o before now CannotWrite (inl h) none = inr refl

@@ -19,18 +19,18 @@ use Rattle.endgame_solver.specs.declared.faults.SolveError.{SolveError}
 use Rattle.endgame_solver.specs.declared.faults.SolveError.TheVariants.{Points, Positions, Cycle, Form, Memory}
 use Rattle.endgame_solver.specs.Faults.{named}
 use Rattle.endgame_solver.specs.Regions.{region_at, no_region}
-use Rattle.endgame_solver.specs.Solved.{Begun, SolvedGame}
-use Rattle.report.specs.Solution.{IsSolveText}
+use Rattle.endgame_solver.specs.Solved.{Begun, Solved}
 use Rattle.report.specs.declared.values.ValuesError.{ValuesError}
 use Rattle.report.specs.declared.values.ValuesError.TheVariants as values
-use Rattle.report.specs.Values.{IsFirstUnshown, IsRefusal, IsValuesText}
+use Rattle.report.specs.Values.{IsValuesText}
 use Rattle.endgame_run.specs.declared.status.Status.{Status}
 use Rattle.endgame_run.specs.declared.status.Status.TheVariants as status
 use Rattle.endgame_run.specs.declared.question.Question.TheVariants as question
-use Rattle.endgame_run.specs.Refusal.{HasStatus, NamesPoints, NamesRegion, form_line, refusal_line}
+use Rattle.endgame_run.specs.Refusal.{HasStatus, form_line, refusal_line}
+use Rattle.endgame_run.specs.inner.Refusal.{NamesPoints}
 use Rattle.endgame_run.specs.inner.Top.{IsValuesReport}
 use Rattle.endgame_run.specs.Verdict.{IsPositionAnswer, IsRefused}
-use Rattle.endgame_run.proofs.TopLaws.{refused_answer, refused_question}
+use Rattle.endgame_run.proofs.TopLaws.{refused_question}
 
 -- five pieces of a text
 pub five_pieces : (t u v w x y a b c d e : List ℕ) → t ≡ [] → u ≡ t ++ a → v ≡ u ++ b → w ≡ v ++ c → x ≡ w ++ d → y ≡ x ++ e → y ≡ a ++ (b ++ (c ++ (d ++ e)))
@@ -97,16 +97,12 @@ is_refused setup limits (Cycle p names back) s text (regions, are, r) e t =
 is_refused setup limits (Form p) s text (regions, are, r) e t = record { regions = regions; fault = Form p; are_regions = are; refused = r; status = e; is = t }
 is_refused setup limits (Memory m) s text b e t = absurd e
 
-pub refused_is : (setup : Setup) (limits : Limits) (fault : SolveError) (s : Status) (text : List ℕ) → Begun setup limits (Err fault) → HasStatus fault s
-    → text ≡ refusal_line limits setup.board.columns fault → IsPositionAnswer (question.Solve limits) setup s text
-refused_is setup limits fault s text b e t = (refused_answer limits setup s text (is_refused setup limits fault s text b e t)).0
-
 pub refused_values : (setup : Setup) (limits : Limits) (fault : SolveError) (s : Status) (text : List ℕ) → Begun setup limits (Err fault) → HasStatus fault s
     → text ≡ refusal_line limits setup.board.columns fault → IsPositionAnswer (question.Values limits) setup s text
 refused_values setup limits fault s text b e t = (refused_question (question.Values limits) limits setup s text (λ t x. inl x) (is_refused setup limits fault s text b e t)).0
 
 -- the values of a solved game are the answer to that question
-pub values_are : (setup : Setup) (limits : Limits) (game : SolvedGame) (s : Status) (text : List ℕ) → Begun setup limits (Ok game) → IsValuesReport game s text
+pub values_are : (setup : Setup) (limits : Limits) (game : Solved) (s : Status) (text : List ℕ) → Begun setup limits (Ok game) → IsValuesReport game s text
     → IsPositionAnswer (question.Values limits) setup s text
 values_are setup limits game status.Done text (opening, are, sound) t =
     record { regions = game.regions; are_regions = are; sound = sound; is = subst (λ g. IsValuesText g.columns game.regions text) opening.board t }
@@ -123,25 +119,3 @@ values_are setup limits game status.TooLong text b t = absurd t
 values_are setup limits game status.TooManyLines text b t = absurd t
 values_are setup limits game (status.BadExpression f) text b t = absurd t
 values_are setup limits game status.CalcLimit text b t = absurd t
-
--- a value that isn't shown is the report on the values of its game
-pub unshown_is : (game : SolvedGame) (fault : ValuesError) (s : Status) (text : List ℕ) → IsRefusal (IsFirstUnshown game.regions) fault → s ≡ status.FormLimit
-    → IsRefusal (λ p. text ≡ form_line game.state.board.columns p) fault → NamesRegion fault → IsValuesReport game s text
-unshown_is game (values.Form p) s text first is line named = subst (λ t. IsValuesReport game t text) (sym is) (p, first, line)
-unshown_is game (values.Memory e) s text first is line named = absurd named
-
--- a solved game is the answer of its text
-pub solved_is : (setup : Setup) (limits : Limits) (game : SolvedGame) (text : List ℕ) → Begun setup limits (Ok game) → IsSolveText game text
-    → IsPositionAnswer (question.Solve limits) setup status.Done text
-solved_is setup limits game text (opening, are, sound) t = record {
-  regions = game.regions;
-  numbers = t.numbers;
-  state = game.state;
-  winner = t.winner;
-  move = t.move;
-  are_regions = are;
-  sound = sound;
-  counted = t.counted;
-  solution = record { opening = opening; wins = t.wins; first = t.first };
-  is = t.is;
-}

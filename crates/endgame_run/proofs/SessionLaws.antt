@@ -4,12 +4,12 @@ use Rattle.std.specs.Prelude.{Option, IfSome, take, codes}
 use Rattle.std.specs.Io.KnownBytes.{append_known}
 use Rattle.desk_io.specs.Outside.{Rose}
 use Rattle.go_grid.specs.declared.grid.Colour.{Colour}
-use Rattle.whole_rules.specs.WholeGame.{State}
+use Rattle.whole_rules.specs.WholeGame.{Whole}
 use Rattle.whole_rules.specs.FirstWinningMove.{IsWinner}
 use Rattle.play_session.specs.declared.end.SessionEnd.{SessionEnd}
 use Rattle.play_session.specs.declared.end.SessionEnd.TheVariants as end
-use Rattle.play_session.specs.Session.{BreaksOff, IsSession, Waits}
-use Rattle.play_session.specs.Written.{IsCutOff, IsPlayed, IsUnread, Played, SessionState, standing}
+use Rattle.play_session.specs.Session.{IsSession, Waits}
+use Rattle.play_session.specs.Written.{IsPlayed, IsUnread, Played, Session, standing}
 use Rattle.endgame_run.specs.declared.status.Status.{Status}
 use Rattle.endgame_run.specs.declared.status.Status.TheVariants.{CannotRead, CannotWrite, Done, Memory, TooManyLines}
 use Rattle.endgame_run.specs.declared.status.Status.TheVariants as status
@@ -19,21 +19,21 @@ use Rattle.endgame_run.specs.inner.Top.{IsFinished, IsPlayRun}
 use Rattle.play_session.specs.Lines.{UsesLines}
 
 -- a session that holds nothing begins with the bytes of the source
-begins_here : (session : SessionState) (bytes : List ℕ) → session.held ≡ [] → standing session 0 bytes ≡ beginning session.state bytes
+begins_here : (session : Session) (bytes : List ℕ) → session.held ≡ [] → standing session 0 bytes ≡ beginning session.state bytes
 begins_here session bytes e = ap (λ held. record { state = session.state; read = 0; left = held ++ bytes }) e
 
 -- a session that ended by itself
-session_of : (engine : Colour) (session new : SessionState) (bytes : List ℕ) (before now left : Option (List ℕ)) (final : SessionEnd) → session.held ≡ []
+session_of : (engine : Colour) (session new : Session) (bytes : List ℕ) (before now left : Option (List ℕ)) (final : SessionEnd) → session.held ≡ []
     → IsPlayed engine (standing session 0 bytes) before now final new left → (text : List ℕ) × IsSessionOf engine session.state bytes final text × (now ≡ append_known before text)
 session_of engine session new bytes before now left final e p =
     (p.text, (standing new p.read p.rest, subst (λ a. IsSession engine a p.text (standing new p.read p.rest) final) (begins_here session bytes e) p.played), p.written)
 
-pub over_written : (engine : Colour) (session new : SessionState) (bytes : List ℕ) (before now left : Option (List ℕ)) (final : SessionEnd) → session.held ≡ [] → IsOver final
+pub over_written : (engine : Colour) (session new : Session) (bytes : List ℕ) (before now left : Option (List ℕ)) (final : SessionEnd) → session.held ≡ [] → IsOver final
     → (IsWinner session.state engine → final ≢ end.Lost) → IsPlayed engine (standing session 0 bytes) before now final new left → IsGameWritten engine session.state bytes before now Done
 over_written engine session new bytes before now left final e over kept p =
     let h = session_of engine session new bytes before now left final e p in (final, h.0, over, kept, h.1, h.2)
 
-played_is : (engine : Colour) (session new : SessionState) (bytes : List ℕ) (before now left : Option (List ℕ)) (final : SessionEnd) → IsOver final
+played_is : (engine : Colour) (session new : Session) (bytes : List ℕ) (before now left : Option (List ℕ)) (final : SessionEnd) → IsOver final
     → Played engine (standing session 0 bytes) before now final new left → IsPlayed engine (standing session 0 bytes) before now final new left
 played_is engine session new bytes before now left end.Won over p = p
 played_is engine session new bytes before now left end.Lost over p = p
@@ -52,7 +52,7 @@ pub told_written : (P : List ℕ → Type 0) (left : Option (List ℕ)) → ((by
 told_written P None h = tt
 told_written P (Some bytes) h = h bytes refl
 
-pub over_run : (engine : Colour) (session new : SessionState) (left rest : Option (List ℕ)) (reads reads_now writes writes_now : ℕ) (before now : Option (List ℕ)) (final : SessionEnd) → session.held ≡ [] → IsOver final
+pub over_run : (engine : Colour) (session new : Session) (left rest : Option (List ℕ)) (reads reads_now writes writes_now : ℕ) (before now : Option (List ℕ)) (final : SessionEnd) → session.held ≡ [] → IsOver final
     → (IsWinner session.state engine → final ≢ end.Lost) → ((bytes : List ℕ) → left ≡ Some bytes → Played engine (standing session 0 bytes) before now final new rest)
     → IsPlayRun engine session.state left reads reads_now writes writes_now before now Done
 over_run engine session new left rest reads reads_now writes writes_now before now final e over kept p = record {
@@ -62,26 +62,12 @@ over_run engine session new left rest reads reads_now writes writes_now before n
   written = told_written _ left (λ bytes is. over_written engine session new bytes before now rest final e over kept (played_is engine session new bytes before now rest final over (p bytes is)));
 }
 
--- a session that a failing write broke off
-cut_here : (engine : Colour) (session : SessionState) (bytes : List ℕ) (before now : Option (List ℕ)) → session.held ≡ [] → IsCutOff engine (standing session 0 bytes) before now
-    → (text : List ℕ) × BreaksOff engine (beginning session.state bytes) text × (now ≡ append_known before text)
-cut_here engine session bytes before now e p = (p.0, subst (λ a. BreaksOff engine a p.0) (begins_here session bytes e) p.1, p.2)
-
-pub write_run : (engine : Colour) (session : SessionState) (left : Option (List ℕ)) (reads reads_now writes writes_now : ℕ) (before now : Option (List ℕ)) → session.held ≡ [] → Rose writes writes_now
-    → ((bytes : List ℕ) → left ≡ Some bytes → IsCutOff engine (standing session 0 bytes) before now) → IsPlayRun engine session.state left reads reads_now writes writes_now before now CannotWrite
-write_run engine session left reads reads_now writes writes_now before now e rose p = record {
-  begun = tt;
-  read = λ d. absurd cc;
-  write = λ d. rose;
-  written = told_written _ left (λ bytes is. inl (cut_here engine session bytes before now e (p bytes is)));
-}
-
 -- a line behind a text
 pub behind : (before : Option (List ℕ)) (text line : List ℕ) → append_known (append_known before text) line ≡ append_known before (text ++ line)
 behind None text line = refl
 behind (Some b) text line = ap Some (append_assoc b text line)
 
-stopped_whole : (engine : Colour) (s : State) (bytes : List ℕ) (before now : Option (List ℕ)) (fault : Status) (text line : List ℕ) → IsStopped engine s bytes fault text line
+stopped_whole : (engine : Colour) (s : Whole) (bytes : List ℕ) (before now : Option (List ℕ)) (fault : Status) (text line : List ℕ) → IsStopped engine s bytes fault text line
     → now ≡ append_known before (text ++ line) → IsGameWritten engine s bytes before now fault
 stopped_whole engine s bytes before now CannotRead text line h e = (text, line, h, e)
 stopped_whole engine s bytes before now TooManyLines text line h e = (text, line, h, e)
@@ -101,7 +87,7 @@ pub rose_later : (a b c : ℕ) → a ≤ b → Rose b c → Rose a c
 rose_later a b c le rose = omega (arith, le, rose)
 
 -- the line of a fault was written behind the session, or a front part of it
-pub stopped_run : (engine : Colour) (s : State) (left : Option (List ℕ)) (reads reads_now writes writes_mid writes_now : ℕ) (before mid now : Option (List ℕ)) (fault result : Status) (line : List ℕ)
+pub stopped_run : (engine : Colour) (s : Whole) (left : Option (List ℕ)) (reads reads_now writes writes_mid writes_now : ℕ) (before mid now : Option (List ℕ)) (fault result : Status) (line : List ℕ)
     → IsSessionStatus fault → fault ≢ CannotWrite → (fault ≡ CannotRead → Rose reads reads_now) → writes ≤ writes_mid
     → ((bytes : List ℕ) → left ≡ Some bytes → (text : List ℕ) × IsStopped engine s bytes fault text line × (mid ≡ append_known before text))
     → IsFinished fault line writes_mid writes_now mid now result → IsPlayRun engine s left reads reads_now writes writes_now before now result
@@ -120,7 +106,7 @@ stopped_run engine s left reads reads_now writes writes_mid writes_now before mi
       (inr (fault, h.0, line, w.2.0, h.1, w.2.1 ∙ ap (λ m. append_known m (take w.2.0 line)) h.2 ∙ behind before h.0 (take w.2.0 line))));
 }
 
-pub read_stops : (engine : Colour) (session new : SessionState) (left rest : Option (List ℕ)) (before mid : Option (List ℕ)) → session.held ≡ []
+pub read_stops : (engine : Colour) (session new : Session) (left rest : Option (List ℕ)) (before mid : Option (List ℕ)) → session.held ≡ []
     → ((bytes : List ℕ) → left ≡ Some bytes → IsUnread engine (standing session 0 bytes) before mid new rest)
     → (bytes : List ℕ) → left ≡ Some bytes → (text : List ℕ) × IsStopped engine session.state bytes CannotRead text (codes "fault cannot read\n") × (mid ≡ append_known before text)
 read_stops engine session new left rest before mid e p bytes is =
@@ -128,13 +114,13 @@ read_stops engine session new left rest before mid e p bytes is =
     let b = standing new h.read h.rest in
     (h.text, ((b, subst (λ a. Waits engine a h.text b) (begins_here session bytes e) h.waits), refl), h.written)
 
-pub lines_stop : (engine : Colour) (session new : SessionState) (left rest : Option (List ℕ)) (before mid : Option (List ℕ)) → session.held ≡ []
+pub lines_stop : (engine : Colour) (session new : Session) (left rest : Option (List ℕ)) (before mid : Option (List ℕ)) → session.held ≡ []
     → ((bytes : List ℕ) → left ≡ Some bytes → IsPlayed engine (standing session 0 bytes) before mid end.TooManyLines new rest)
     → (bytes : List ℕ) → left ≡ Some bytes → (text : List ℕ) × IsStopped engine session.state bytes TooManyLines text (codes "fault lines\n") × (mid ≡ append_known before text)
 lines_stop engine session new left rest before mid e p bytes is = let h = session_of engine session new bytes before mid rest end.TooManyLines e (p bytes is) in (h.0, (h.1, refl), h.2)
 
 -- what a session took of its source
-pub lines_taken : (session : SessionState) (held : List ℕ) (before now : Option (List ℕ)) → session.held ≡ [] → UsesLines 0 10000 session.held before held now → length held ≤ 256 → TakesAtMost 2560256 before now
+pub lines_taken : (session : Session) (held : List ℕ) (before now : Option (List ℕ)) → session.held ≡ [] → UsesLines 0 10000 session.held before held now → length held ≤ 256 → TakesAtMost 2560256 before now
 lines_taken session held before now none used few = λ bytes e.
     let u = used bytes e in
     (u.0 ++ held, u.1, u.2, ap (λ l. l ++ bytes) (sym none) ∙ u.3 ∙ sym (append_assoc u.0 held u.1), omega (arith, u.4, few, length-append u.0 held))

@@ -8,8 +8,8 @@ use Rattle.go_grid.specs.declared.grid.Colour.{Colour}
 use Rattle.go_grid.specs.declared.grid.Colour.TheVariants as colour
 use Rattle.go_grid.specs.Board.{Board, stone}
 use Rattle.go_play.specs.Place.{Answers}
-use Rattle.go_play.specs.declared.placing.PlaceError.{PlaceError}
-use Rattle.go_play.specs.declared.placing.PlaceError.TheVariants as place
+use Rattle.go_play.specs.declared.placements.PlaceError.{PlaceError}
+use Rattle.go_play.specs.declared.placements.PlaceError.TheVariants as place
 use Rattle.sgf_tree.specs.Grammar.{PropertyText}
 use Rattle.sgf_go.specs.declared.replay.Replay.{Replay}
 use Rattle.sgf_go.specs.declared.settings.Settings.{Settings}
@@ -18,7 +18,7 @@ use Rattle.sgf_go.specs.declared.fault.SetupFault.{SetupFault}
 use Rattle.sgf_go.specs.declared.fault.SetupFault.TheVariants.{WrongGame, BadSize, BadKomi, BadPoint, BadSide, Occupied, Suicide, NoLiberty}
 use Rattle.sgf_go.specs.Values.{Rectangle, Extent, Says, trimmed}
 use Rattle.sgf_go.specs.Setup.{Part, ◌then◌, GoesOn, Skips, For, Sets, SetsValue, SetsValues, SetsProperty, cell_set, Turns, TurnsTo, side_of, Side, Choice, Chooses, moved, with_taken, placed, Moves, MovesProperty, mover, first_value, NodePart, Unless, LinePart, ends_before, value_of, root, is_go, IsBoardSize, empty_board, Ends, FromKomi, FromSize, FromGame, Gives}
-use Rattle.endgame_run.specs.Position.{IsOnLine}
+use Rattle.endgame_run.specs.inner.Position.{IsOnLine}
 use Rattle.sgf_go.specs.Setup.Choice.{pass, stone_at, nothing}
 
 record SameSize (g h : Board) : Type 0 where

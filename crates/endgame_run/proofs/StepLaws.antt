@@ -1,12 +1,13 @@
 -- How many steps a run takes.
 use Rattle.std.proofs.Common.{◌≡◌, ℕ, ◌≤◌, ◌+◌, ◌⊎◌, inl, inr, refl, sym, ap, subst, ◌∙◌, arith, List, Some, None, Ok}
+use Rattle.local_graph.specs.declared.graph.TheConstants.{MOST_POSITIONS}
 use Rattle.desk_io.specs.Files.Told.{holding}
 use Rattle.std.specs.Prelude.{Option}
 use Rattle.go_grid.specs.Region.{Region}
 use Rattle.sgf_go.specs.declared.settings.Setup.{Setup}
 use Rattle.board_gen.specs.Trial.{IsTrialBoard}
 use Rattle.board_gen.proofs.OneBoard.{one_board}
-use Rattle.gd_words.specs.Job.{IsOnlyJob, JobView}
+use Rattle.gd_words.specs.Job.{IsOnlyJob, Job}
 use Rattle.gd_words.specs.Task.{Task}
 use Rattle.gd_words.specs.Task.Task.{solve, safe, values, play, trial, calc, gtp}
 use Rattle.endgame_solver.specs.declared.limits.Limits.{Limits}
@@ -24,12 +25,12 @@ use Rattle.endgame_run.proofs.PoseLaws.{one_number, trial_unposed}
 use Rattle.endgame_run.specs.Verdict.{AreNeededRegions, AreSteps, AreStepsFor, Asks, HasLimits, NeedRegions, Pose, limits_of}
 
 -- a job's limits are such as a search asks for
-pub modest : (job : JobView) (q : Question) (word : List ℕ) → Asks job q word → job.positions ≤ 1000000 → IsModest q
-modest job (question.Solve limits) word a few = subst (λ l. l.positions ≤ 1000000) (sym a.1) few
-modest job (question.Values limits) word a few = subst (λ l. l.positions ≤ 1000000) (sym a.1) few
+pub modest : (job : Job) (q : Question) (word : List ℕ) → Asks job q word → job.positions ≤ MOST_POSITIONS → IsModest q
+modest job (question.Solve limits) word a few = subst (λ l. l.positions ≤ MOST_POSITIONS) (sym a.1) few
+modest job (question.Values limits) word a few = subst (λ l. l.positions ≤ MOST_POSITIONS) (sym a.1) few
 modest job question.Safe word a few = tt
 
-pub run_steps : (words : List (List ℕ)) (w : World) (job : JobView) (q : Question) (word : List ℕ) (before now : ℕ) → Pose words job q word → AreToldSteps q (told_of w word) job.settings before now → AreSteps words w before now
+pub run_steps : (words : List (List ℕ)) (w : World) (job : Job) (q : Question) (word : List ℕ) (before now : ℕ) → Pose words job q word → AreToldSteps q (told_of w word) job.settings before now → AreSteps words w before now
 run_steps words w job q word before now a (inl e) = inl e
 run_steps words w job q word before now a (inr h) = inr (inl (job, q, word, h.0, h.1, a, h.2, h.3, h.4))
 
@@ -44,7 +45,7 @@ file_of (calc expression) = None
 file_of gtp = None
 
 -- the file and the limits of words that need regions of play
-posed : (words : List (List ℕ)) (job : JobView) (q : Question) (limits : Limits) (word : List ℕ) → Pose words job q word → HasLimits q limits
+posed : (words : List (List ℕ)) (job : Job) (q : Question) (limits : Limits) (word : List ℕ) → Pose words job q word → HasLimits q limits
     → IsOnlyJob words job × (file_of job.task ≡ Some word) × (limits ≡ limits_of job)
 posed words job (question.Solve most) limits word (inl a) h = (a.0, ap file_of a.1.0, sym h ∙ a.1.1)
 posed words job (question.Values most) limits word (inl a) h = (a.0, ap file_of a.1.0, sym h ∙ a.1.1)
@@ -53,7 +54,7 @@ posed words job (question.Values most) limits word (inr a) h = absurd cc
 posed words job question.Safe limits word a h = absurd h
 
 -- words need the regions of one file, within one pair of limits
-one_file : (words : List (List ℕ)) (job other : JobView) (q r : Question) (limits most : Limits) (word w : List ℕ) → Pose words job q word → HasLimits q limits
+one_file : (words : List (List ℕ)) (job other : Job) (q r : Question) (limits most : Limits) (word w : List ℕ) → Pose words job q word → HasLimits q limits
     → Pose words other r w → HasLimits r most → (other ≡ job) × (w ≡ word) × (most ≡ limits)
 one_file words job other q r limits most word w a h b k =
     let mine = posed words job q limits word a h in

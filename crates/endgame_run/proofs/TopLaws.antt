@@ -1,18 +1,17 @@
 -- How the parts of the top call make its clauses.
-use Rattle.std.proofs.Common.{◌≡◌, ℕ, ◌<◌, ◌⊎◌, inl, inr, refl, sym, ap, subst, ◌∙◌, List, [], ◌++◌, Some, None, ℤ, pos, negsuc, to_z, of_z, w64, arith, ◌≤◌, ◌^◌, Bool, true, false, ◌≢◌}
-use Rattle.std.specs.Prelude.{Option, unsigned_abs}
+use Rattle.std.proofs.Common.{◌≡◌, ℕ, ◌⊎◌, inl, inr, refl, sym, ap, subst, ◌∙◌, List, [], ◌++◌, Some, None, Bool, true, false, ◌≢◌}
+use Rattle.std.specs.Prelude.{Option}
 use Rattle.std.proofs.lemmas.List.{append-nil}
 use Rattle.std.specs.Io.KnownBytes.{append_known, prepend_known}
-use Rattle.std.proofs.lemmas.Int.{to_z-of_z, fits_signed_from_abs, ints}
-use Rattle.sgf_go.specs.Komi.{IsInRange}
 use Rattle.sgf_go.specs.declared.settings.Settings.{Settings}
 use Rattle.sgf_go.specs.declared.settings.Setup.{Setup}
 use Rattle.endgame_run.specs.declared.status.Status.{Status}
 use Rattle.endgame_run.specs.declared.status.Status.TheVariants.{Done, Usage, CannotRead, CannotWrite, BadFile, Memory, TooManyLines, TooLong}
 use Rattle.endgame_run.specs.declared.status.Status.TheVariants as status
-use Rattle.gd_words.specs.Job.{JobView}
+use Rattle.gd_words.specs.Job.{Job}
 use Rattle.desk_io.specs.Files.{Told, IsTold, told_source}
-use Rattle.endgame_run.specs.File.{Outside, IsWhole, dash, told_of, count_of}
+use Rattle.endgame_run.specs.File.{Outside, dash}
+use Rattle.endgame_run.specs.inner.File.{IsWhole}
 use Rattle.endgame_run.specs.declared.question.Question.{Question}
 use Rattle.endgame_run.specs.declared.question.Question.TheVariants.{Solve}
 use Rattle.endgame_solver.specs.declared.limits.Limits.{Limits}
@@ -24,7 +23,8 @@ use Rattle.endgame_run.specs.declared.question.Found.{Found}
 use Rattle.endgame_run.specs.declared.question.Found.TheVariants.{Position}
 use Rattle.endgame_run.specs.declared.question.Opened.{Opened}
 use Rattle.endgame_run.specs.declared.question.Opened.TheVariants as opened
-use Rattle.endgame_run.specs.Found.{IsFileFault, IsFound, IsPositionOf}
+use Rattle.endgame_run.specs.Found.{IsPositionOf}
+use Rattle.endgame_run.specs.inner.Found.{IsFound}
 use Rattle.endgame_run.specs.Refusal.{HasStatus}
 use Rattle.std.specs.Str.{bytes_eq}
 use Rattle.std.proofs.lemmas.Slice.Eq.{bytes_eq-Decides}
@@ -51,26 +51,6 @@ position_answer q told before now settings setup status.CalcLimit text p h = abs
 pub found_position : (told : Told) (before now : ℕ) (settings : Settings) (found : Found) (setup : Setup) → found ≡ Position setup
     → IsFound told before now settings found → IsPositionOf told settings setup
 found_position told before now settings found setup e h = (subst (λ f. IsFound told before now settings f) e h).0
-
--- a fault of a file is the answer to each question about it, which isn't answered
-pub fault_answer : (q : Question) (told : Told) (before now : ℕ) (settings : Settings) (s : Status) (text : List ℕ)
-    → IsFileFault told before now settings s text → IsAnswer q told before now settings s text
-fault_answer q told before now settings CannotRead text h = h
-fault_answer q told before now settings TooLong text h = h
-fault_answer q told before now settings (BadFile f) text h = (h.0, h.1, h.2, (h.3, h.4))
-fault_answer q told before now settings Done text h = absurd h
-fault_answer q told before now settings status.Cycle text h = absurd h
-fault_answer q told before now settings status.RegionLimit text h = absurd h
-fault_answer q told before now settings status.FormLimit text h = absurd h
-fault_answer q told before now settings Usage text h = absurd h
-fault_answer q told before now settings CannotWrite text h = absurd h
-fault_answer q told before now settings TooManyLines text h = absurd h
-fault_answer q told before now settings Memory text h = absurd h
-fault_answer q told before now settings (status.BadExpression f) text h = absurd h
-fault_answer q told before now settings status.CalcLimit text h = absurd h
-
-pub fault_undone : (told : Told) (before now : ℕ) (settings : Settings) (s : Status) (text : List ℕ) → IsFileFault told before now settings s text → s ≢ Done
-fault_undone told before now settings s text h e = subst (λ x. IsFileFault told before now settings x text) e h
 
 -- a position that isn't solved is the answer to that question, which isn't answered
 is_refusal : (f : SolveError) (s : Status) → HasStatus f s → (s ≡ status.RegionLimit) ⊎ ((s ≡ status.Cycle) ⊎ (s ≡ status.FormLimit))
@@ -149,7 +129,7 @@ caused words o kb kn before now s text result d (inl w) = subst (λ r. HasCause 
 caused words o kb kn before now s text result d (inr f) = subst (λ r. HasCause words o r) (sym f.0) tt
 
 -- an answer to words that ask about a file
-pub decided : (words : List (List ℕ)) (o : Outside) (job : JobView) (q : Question) (word : List ℕ) (s : Status) (text : List ℕ) → AskAbout words job q word
+pub decided : (words : List (List ℕ)) (o : Outside) (job : Job) (q : Question) (word : List ℕ) (s : Status) (text : List ℕ) → AskAbout words job q word
     → IsAnswerOn q o word job.settings s text → IsDecided words o s text
 decided words o job q word Done text a h = inl (job, q, word, a, h)
 decided words o job q word status.Cycle text a h = (job, q, word, inl a, h)
@@ -166,7 +146,7 @@ decided words o job q word (status.BadExpression f) text a h = absurd h.3.2
 decided words o job q word status.CalcLimit text a h = absurd h.3.2
 
 -- what keeps a file from being solved keeps it from being played
-pub undone : (words : List (List ℕ)) (o : Outside) (job : JobView) (word : List ℕ) (s : Status) (text : List ℕ) → AreToPlay words job word → s ≢ Done
+pub undone : (words : List (List ℕ)) (o : Outside) (job : Job) (word : List ℕ) (s : Status) (text : List ℕ) → AreToPlay words job word → s ≢ Done
     → IsAnswerOn (Solve (limits_of job)) o word job.settings s text
     → IsDecided words o s text
 undone words o job word Done text a n h = absurd (n refl)
@@ -196,12 +176,12 @@ by_word P word here there = go (bytes_eq word dash) refl where
   go false e = there (λ k. let t = (bytes_eq-Decides word dash).1 k in cc)
 
 -- what a run comes to, for the words that ask about a file
-pub run_caused : (words : List (List ℕ)) (o : Outside) (job : JobView) (q : Question) (word : List ℕ) (kb kn : ℕ) (before now : Option (List ℕ)) (result : Status)
+pub run_caused : (words : List (List ℕ)) (o : Outside) (job : Job) (q : Question) (word : List ℕ) (kb kn : ℕ) (before now : Option (List ℕ)) (result : Status)
     → AskAbout words job q word → IsFileRun q job.settings word o kb kn before now result → HasCause words o result
 run_caused words o job q word kb kn before now result a (inl m) = subst (λ r. HasCause words o r) (sym m.0) (job, a.0.said)
 run_caused words o job q word kb kn before now result a (inr h) = caused words o kb kn before now h.0 h.1 result (decided words o job q word h.0 h.1 a h.2) h.3
 
-pub run_written : (words : List (List ℕ)) (o : Outside) (job : JobView) (q : Question) (word : List ℕ) (kb kn : ℕ) (before now : Option (List ℕ)) (result : Status)
+pub run_written : (words : List (List ℕ)) (o : Outside) (job : Job) (q : Question) (word : List ℕ) (kb kn : ℕ) (before now : Option (List ℕ)) (result : Status)
     → AskAbout words job q word → IsFileRun q job.settings word o kb kn before now result → IsWritten words o before now result
 run_written words o job q word kb kn before now result a (inl m) = subst (λ r. IsWritten words o before now r) (sym m.0) m.1
 run_written words o job q word kb kn before now result a (inr h) = written words o kb kn before now h.0 h.1 result (decided words o job q word h.0 h.1 a h.2) h.3

@@ -1,5 +1,5 @@
 -- The board of a number: what keeps it from being solved, and how its run makes the clauses of the top call.
-use Rattle.std.proofs.Common.{◌≡◌, ◌≤◌, ℕ, inl, inr, sym, subst, arith, List, Ok, Err}
+use Rattle.std.proofs.Common.{◌≡◌, ◌≤◌, ℕ, inl, inr, sym, subst, arith, List, Err}
 use Rattle.std.specs.Prelude.{Option}
 use Rattle.std.proofs.lemmas.List.Elements.{Contains-get_or}
 use Rattle.go_grid.specs.declared.grid.Cell.{Cell}
@@ -10,15 +10,15 @@ use Rattle.board_gen.specs.Short.{HasShortRegions}
 use Rattle.endgame_solver.specs.declared.faults.SolveError.{SolveError}
 use Rattle.endgame_solver.specs.declared.faults.SolveError.TheVariants.{Points, Positions, Cycle, Form, Memory}
 use Rattle.endgame_solver.specs.Regions.{no_region}
-use Rattle.endgame_solver.specs.Solved.{SolvedGame, Begun}
-use Rattle.gd_words.specs.Job.{IsOnlyJob, JobView}
+use Rattle.endgame_solver.specs.Solved.{Begun}
+use Rattle.gd_words.specs.Job.{IsOnlyJob, Job}
 use Rattle.gd_words.specs.Task.Task.{trial}
-use Rattle.report.specs.Trial.{IsTrialText}
 use Rattle.endgame_run.specs.declared.status.Status.{Status}
 use Rattle.endgame_run.specs.declared.status.Status.TheVariants.{Done}
 use Rattle.endgame_run.specs.File.{Outside}
 use Rattle.endgame_run.specs.inner.Top.{IsTrialRun}
-use Rattle.endgame_run.specs.Trial.{IsTrial, IsTrialPosition, IsWantOfMemory, trial_limits}
+use Rattle.endgame_run.specs.Trial.{IsTrial, trial_limits}
+use Rattle.endgame_run.specs.inner.Trial.{IsWantOfMemory}
 use Rattle.endgame_run.specs.Verdict.{HasCause, IsDecided, IsTextAlone, IsWritten}
 use Rattle.endgame_run.proofs.TopLaws.{caused, written}
 
@@ -39,21 +39,16 @@ only_memory setup (Form p) short (regions, are, (small, (k, lt, (low, few, ends,
 only_memory setup (Form p) short (regions, are, (small, (k, lt, (low, few, ends, (cells, reached, (V, value, inr past))), before))) =
     let s = short regions are _ (Contains-get_or regions k no_region lt) in absurd (s.bounds cells V reached value past)
 
--- the text of the solved board
-pub trial_of : (number : ℕ) (setup : Setup) (game : SolvedGame) (text : List ℕ) → IsTrialPosition number setup → Begun setup trial_limits (Ok game) → IsTrialText number game text → IsTrial number text
-trial_of number setup game text position (opening, are, sound) is =
-    record { setup = setup; game = game; position = position; are_regions = are; opening = opening; is = is }
-
-trial_decided : (words : List (List ℕ)) (o : Outside) (job : JobView) (number : ℕ) (text : List ℕ) → IsOnlyJob words job → job.task ≡ trial number → IsTrial number text → IsDecided words o Done text
+trial_decided : (words : List (List ℕ)) (o : Outside) (job : Job) (number : ℕ) (text : List ℕ) → IsOnlyJob words job → job.task ≡ trial number → IsTrial number text → IsDecided words o Done text
 trial_decided words o job number text only is t = inr (job, only, subst (λ k. IsTextAlone job.parts k Done text) (sym is) t)
 
 -- what its run comes to, for the words that ask for it
-pub trial_caused : (words : List (List ℕ)) (o : Outside) (job : JobView) (number kb kn : ℕ) (before now : Option (List ℕ)) (result : Status)
+pub trial_caused : (words : List (List ℕ)) (o : Outside) (job : Job) (number kb kn : ℕ) (before now : Option (List ℕ)) (result : Status)
     → IsOnlyJob words job → job.task ≡ trial number → IsTrialRun number kb kn before now result → HasCause words o result
 trial_caused words o job number kb kn before now result only is (inl m) = subst (λ r. HasCause words o r) (sym m.0) (job, only.said)
 trial_caused words o job number kb kn before now result only is (inr (text, t, f)) = caused words o kb kn before now Done text result (trial_decided words o job number text only is t) f
 
-pub trial_written : (words : List (List ℕ)) (o : Outside) (job : JobView) (number kb kn : ℕ) (before now : Option (List ℕ)) (result : Status)
+pub trial_written : (words : List (List ℕ)) (o : Outside) (job : Job) (number kb kn : ℕ) (before now : Option (List ℕ)) (result : Status)
     → IsOnlyJob words job → job.task ≡ trial number → IsTrialRun number kb kn before now result → IsWritten words o before now result
 trial_written words o job number kb kn before now result only is (inl m) = subst (λ r. IsWritten words o before now r) (sym m.0) m.1
 trial_written words o job number kb kn before now result only is (inr (text, t, f)) = written words o kb kn before now Done text result (trial_decided words o job number text only is t) f

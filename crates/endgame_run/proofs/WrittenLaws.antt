@@ -7,12 +7,12 @@ use Rattle.go_grid.specs.declared.grid.Colour.{Colour}
 use Rattle.go_grid.specs.Region.{Region}
 use Rattle.sgf_go.specs.declared.settings.Setup.{Setup}
 use Rattle.whole_rules.specs.declared.states.Move.{Move}
-use Rattle.whole_rules.specs.WholeGame.{State}
-use Rattle.gd_words.specs.Job.{JobView}
+use Rattle.whole_rules.specs.WholeGame.{Whole}
+use Rattle.gd_words.specs.Job.{Job}
 use Rattle.gd_words.specs.Task.{Task}
 use Rattle.gd_words.specs.Task.Task.{solve, safe, values}
-use Rattle.report.specs.Lines.{colour_word, word_line}
-use Rattle.report.specs.Solution.{count_line, move_line, region_lines, regions_text, solve_text, state_lines, winner_line}
+use Rattle.report.specs.Solution.{count_line, move_line, solved_lines, regions_text, solve_text, state_lines}
+use Rattle.board_words.specs.Words.{winner_line, word_line, colour_word}
 use Rattle.endgame_solver.specs.declared.limits.Limits.{Limits}
 use Rattle.endgame_run.specs.declared.status.Status.{Status}
 use Rattle.endgame_run.specs.declared.status.Status.TheVariants.{Done}
@@ -29,20 +29,20 @@ front_pieces : (a b c d e f n r : List ℕ) → a ++ ((b ++ (c ++ (d ++ (e ++ (f
 front_pieces a b c d e f n r = simp append_assoc
 
 -- the line `winner` and the line `move` of the text
-winner_stands : (before : Option (List ℕ)) (s : State) (regions : List Region) (numbers : List ℕ) (winner : Colour) (move : Option Move)
+winner_stands : (before : Option (List ℕ)) (s : Whole) (regions : List Region) (numbers : List ℕ) (winner : Colour) (move : Option Move)
     → HasLine before (append_known before (solve_text s regions numbers winner move)) (winner_line winner)
 unfolding count_line
 winner_stands before s regions numbers winner move = (
-  state_lines s ++ (count_line (codes "regions") (length regions) ++ (region_lines s.board.columns regions numbers ++ (codes "positions" ++ (codes " " ++ decimal (sum numbers))))),
+  state_lines s ++ (count_line (codes "regions") (length regions) ++ (solved_lines s.board.columns regions numbers ++ (codes "positions" ++ (codes " " ++ decimal (sum numbers))))),
   move_line s.board.columns move,
-  ap (append_known before) (front_pieces (state_lines s) (count_line (codes "regions") (length regions)) (region_lines s.board.columns regions numbers)
+  ap (append_known before) (front_pieces (state_lines s) (count_line (codes "regions") (length regions)) (solved_lines s.board.columns regions numbers)
       (codes "positions") (codes " ") (decimal (sum numbers)) (codes "\n") (winner_line winner ++ move_line s.board.columns move)),
 )
 
 pieces : (a b c d e f g : List ℕ) → a ++ (b ++ ((c ++ (d ++ (e ++ f))) ++ g)) ≡ ((a ++ (b ++ (c ++ (d ++ e)))) ++ f) ++ (g ++ [])
 pieces a b c d e f g = simp (append_assoc, append-nil)
 
-move_stands : (before : Option (List ℕ)) (s : State) (regions : List Region) (numbers : List ℕ) (winner : Colour) (move : Option Move)
+move_stands : (before : Option (List ℕ)) (s : Whole) (regions : List Region) (numbers : List ℕ) (winner : Colour) (move : Option Move)
     → HasLine before (append_known before (solve_text s regions numbers winner move)) (move_line s.board.columns move)
 unfolding word_line
 move_stands before s regions numbers winner move = (
@@ -54,7 +54,7 @@ move_stands before s regions numbers winner move = (
 -- a run that ends with `Done` on words that ask to solve a file has written a solution
 pub record Posed (words : List (List ℕ)) (o : Outside) (before now : Option (List ℕ)) : Type 0 where
   pub setup : Setup
-  pub state : State
+  pub state : Whole
   pub regions : List Region
   pub numbers : List ℕ
   pub winner : Colour
@@ -64,7 +64,7 @@ pub record Posed (words : List (List ℕ)) (o : Outside) (before now : Option (L
   pub text : now ≡ append_known before (solve_text state regions numbers winner move)
 
 -- words ask one question
-one_question : (words : List (List ℕ)) (job other : JobView) (q : Question) (word w : List ℕ) → AskAbout words job q word → AreToSolve words other w → (limits : Limits) × (q ≡ question.Solve limits)
+one_question : (words : List (List ℕ)) (job other : Job) (q : Question) (word w : List ℕ) → AskAbout words job q word → AreToSolve words other w → (limits : Limits) × (q ≡ question.Solve limits)
 one_question words job other (question.Solve limits) word w a b = (limits, refl)
 one_question words job other (question.Values limits) word w a b =
     let same = a.0.only other b.0.said in
@@ -73,7 +73,7 @@ one_question words job other question.Safe word w a b =
     let same = a.0.only other b.0.said in
     let k : Path Task (solve w) (safe word) = sym b.1.0 ∙ ap (λ j. j.task) same ∙ a.1 in absurd cc
 
-solution_from : (words : List (List ℕ)) (o : Outside) (job : JobView) (limits : Limits) (word : List ℕ) (before now : Option (List ℕ)) (text : List ℕ) → AskAbout words job (question.Solve limits) word
+solution_from : (words : List (List ℕ)) (o : Outside) (job : Job) (limits : Limits) (word : List ℕ) (before now : Option (List ℕ)) (text : List ℕ) → AskAbout words job (question.Solve limits) word
     → IsAnswerOn (question.Solve limits) o word job.settings Done text
     → now ≡ append_known before text → Posed words o before now
 solution_from words o job limits word before now text a h e =
@@ -126,15 +126,15 @@ move_of words o before now p = (
   subst (λ n. HasLine before n (move_line p.state.board.columns p.move)) (sym p.text) (move_stands before p.state p.regions p.numbers p.winner p.move),
 )
 
-run_posed : (words : List (List ℕ)) (o : Outside) (job : JobView) (q : Question) (word : List ℕ) (kb kn : ℕ) (before now : Option (List ℕ)) (result : Status)
+run_posed : (words : List (List ℕ)) (o : Outside) (job : Job) (q : Question) (word : List ℕ) (kb kn : ℕ) (before now : Option (List ℕ)) (result : Status)
     → AskAbout words job q word → IsFileRun q job.settings word o kb kn before now result → result ≡ Done → AskToSolve words → Posed words o before now
 run_posed words o job q word kb kn before now result a (inl m) e asked = absurd cc
 run_posed words o job q word kb kn before now result a (inr h) e asked = posed_by words o kb kn before now h.0 h.1 result (decided words o job q word h.0 h.1 a h.2) h.3 e asked
 
-pub run_winner : (words : List (List ℕ)) (o : Outside) (job : JobView) (q : Question) (word : List ℕ) (kb kn : ℕ) (before now : Option (List ℕ)) (result : Status)
+pub run_winner : (words : List (List ℕ)) (o : Outside) (job : Job) (q : Question) (word : List ℕ) (kb kn : ℕ) (before now : Option (List ℕ)) (result : Status)
     → AskAbout words job q word → IsFileRun q job.settings word o kb kn before now result → result ≡ Done → AskToSolve words → WritesWinner words o.world before now
 run_winner words o job q word kb kn before now result a h e asked = winner_of words o before now (run_posed words o job q word kb kn before now result a h e asked)
 
-pub run_move : (words : List (List ℕ)) (o : Outside) (job : JobView) (q : Question) (word : List ℕ) (kb kn : ℕ) (before now : Option (List ℕ)) (result : Status)
+pub run_move : (words : List (List ℕ)) (o : Outside) (job : Job) (q : Question) (word : List ℕ) (kb kn : ℕ) (before now : Option (List ℕ)) (result : Status)
     → AskAbout words job q word → IsFileRun q job.settings word o kb kn before now result → result ≡ Done → AskToSolve words → WritesMove words o.world before now
 run_move words o job q word kb kn before now result a h e asked = move_of words o before now (run_posed words o job q word kb kn before now result a h e asked)

@@ -7,13 +7,15 @@ use Rattle.game_calc.specs.declared.errors.CalcFault.TheVariants as fault
 use Rattle.endgame_run.specs.declared.status.Status.{Status}
 use Rattle.endgame_run.specs.declared.status.Status.TheVariants.{Done, BadExpression, CalcLimit}
 
--- what is wrong with an expression, alone and with a place behind it
+-- the line of what is wrong with an expression
 unfoldable pub expression_line : List ℕ → List ℕ
 expression_line what = codes "fault expression " ++ (what ++ codes "\n")
 
+-- the line of what is wrong with an expression at a place
 unfoldable pub expression_line_at : List ℕ → ℕ → List ℕ
 expression_line_at what place = codes "fault expression " ++ (what ++ (codes " " ++ (decimal place ++ codes "\n")))
 
+-- the line of a fault of an expression
 abbrev pub expression_fault : CalcFault → List ℕ
 expression_fault (fault.Byte place) = expression_line_at (codes "bad byte") place
 expression_fault (fault.Number place) = expression_line_at (codes "bad number") place

@@ -3,6 +3,7 @@ use Rattle.std.specs.Prelude.{ℕ}
 use Rattle.endgame_run.specs.declared.status.Status.{Status}
 use Rattle.endgame_run.specs.declared.status.Status.TheVariants.{Done, Usage, CannotRead, CannotWrite, BadFile, Cycle, RegionLimit, FormLimit, Memory, TooManyLines, TooLong, BadExpression, CalcLimit}
 
+-- the number of a status, with which the program ends
 abbrev pub code_of : Status → ℕ
 code_of Done = 0
 code_of Usage = 1

@@ -7,7 +7,7 @@ use Rattle.sgf_go.specs.declared.settings.Setup.{Setup}
 use Rattle.game_calc.specs.Answer.{IsCalcRefusal}
 use Rattle.game_calc.specs.declared.errors.CalcError.TheVariants as calc
 use Rattle.game_calc.specs.declared.errors.CalcFault.{CalcFault}
-use Rattle.gd_words.specs.Job.{JobView}
+use Rattle.gd_words.specs.Job.{Job}
 use Rattle.endgame_solver.specs.Faults.{AreSound}
 use Rattle.region_cut.specs.Cut.{AreRegionsOfPlay}
 use Rattle.endgame_solver.specs.Regions.{region_at}
@@ -18,7 +18,7 @@ use Rattle.endgame_run.specs.declared.status.Status.{Status}
 use Rattle.endgame_run.specs.declared.status.Status.TheVariants.{Done, Memory, TooManyLines}
 use Rattle.endgame_run.specs.declared.question.Question.{Question}
 use Rattle.endgame_run.specs.declared.question.Question.TheVariants.{Solve, Values, Safe}
-use Rattle.sgf_go.specs.File.{IsShort, Reads}
+use Rattle.sgf_go.specs.File.{HasFewBytes, Reads}
 use Rattle.endgame_run.specs.File.{Outside, told_of}
 use Rattle.endgame_run.specs.Engine.{AskForEngine, InEngine, IsEngineSession}
 use Rattle.endgame_run.specs.Game.{IsSessionOf}
@@ -34,14 +34,14 @@ IsWithinLimits Safe setup = ⊤
 
 -- the words pose a question on a file that is told, the file is read, all is within its limits, and no count of faults has risen
 pub record IsAnswerable (words : List (List ℕ)) (o : Outside) (writes writes_now : ℕ) : Type 0 where
-  pub job : JobView
+  pub job : Job
   pub question : Question
   pub word : List ℕ
   pub file : List ℕ
   pub setup : Setup
   pub asks : Pose words job question word
   pub told : told_of o.world word ≡ holding file
-  pub short : IsShort file
+  pub short : HasFewBytes file
   pub reads : Reads file job.settings (Ok setup)
   pub within : IsWithinLimits question setup
   pub no_load_failed : ¬ Rose o.loads.before o.loads.now
@@ -62,7 +62,7 @@ abbrev pub AreAnswerable : List (List ℕ) → Type 0
 AreAnswerable words = ((number : ℕ) × AreToTrial words number)
     ⊎ ((limit : ℕ) × (expression : List ℕ) × AreToCalc words limit expression × IsUnrefused limit expression)
 
--- the same, and no write has failed
+-- the words ask for the board of a number or the answer to an expression that no refusal meets, and no write has failed
 abbrev pub IsAnswerableAlone : List (List ℕ) → ℕ → ℕ → Type 0
 IsAnswerableAlone words writes writes_now = AreAnswerable words × ¬ Rose writes writes_now
 

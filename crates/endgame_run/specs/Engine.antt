@@ -4,7 +4,7 @@ use Rattle.std.specs.List.Sorted.{IsStrictlyIncreasing}
 use Rattle.std.specs.Io.KnownBytes.{append_known}
 use Rattle.desk_io.specs.Files.{Files}
 use Rattle.desk_io.specs.Outside.{Rose}
-use Rattle.gd_words.specs.Job.{IsOnlyJob, JobView}
+use Rattle.gd_words.specs.Job.{IsOnlyJob, Job}
 use Rattle.gd_words.specs.Task.Task.{gtp}
 use Rattle.endgame_solver.specs.declared.limits.Limits.{Limits}
 use Rattle.gtp_engine.specs.declared.end.GtpEnd.{GtpEnd}
@@ -17,12 +17,12 @@ use Rattle.endgame_run.specs.declared.status.Status.TheVariants.{Done, CannotRea
 use Rattle.endgame_run.specs.File.{Outside}
 
 -- the limits of an engine, where there is no tax
-abbrev pub engine_limits : JobView → Limits
+abbrev pub engine_limits : Job → Limits
 engine_limits job = record { positions = job.positions; parts = job.parts; tax = false }
 
 -- the words are the job of the engine within these limits
 abbrev pub AreForEngine : List (List ℕ) → Limits → Type 0
-AreForEngine words limits = (job : JobView) × IsOnlyJob words job × (job.task ≡ gtp) × (limits ≡ engine_limits job)
+AreForEngine words limits = (job : Job) × IsOnlyJob words job × (job.task ≡ gtp) × (limits ≡ engine_limits job)
 
 -- the words ask for the engine
 abbrev pub AskForEngine : List (List ℕ) → Type 0
@@ -84,7 +84,7 @@ pub record IsEnginePlay (limits : Limits) (o : Outside) (before now : Option (Li
   pub read : status ≡ CannotRead → Rose o.reads.before o.reads.now
   pub written : IfSome o.world.left (λ bytes. IsEngineWritten limits o.world.files failing bytes before now status)
 
--- the same, for the words that ask for it
+-- the words ask for the engine, and this is a session of it within their limits, by its status
 abbrev pub IsEngineRun : List (List ℕ) → Outside → Option (List ℕ) → Option (List ℕ) → Status → Type 0
 IsEngineRun words o before now status = (limits : Limits) × AreForEngine words limits × IsEnginePlay limits o before now status
 
@@ -92,7 +92,8 @@ IsEngineRun words o before now status = (limits : Limits) × AreForEngine words 
 abbrev pub IsKeptRun : List (List ℕ) → Outside → Option (List ℕ) → Option (List ℕ) → Status → Type 0
 IsKeptRun words o before now status = IsEngineRun words o before now status × WinIsKept
 
--- the words ask for the engine, and where the source tells its bytes this holds of the limits, of some loads that failed and of the bytes
+-- the words ask for the engine, and where the source tells its bytes `holds` is true of the limits, of some loads that failed
+-- and of the bytes
 abbrev pub InEngine : List (List ℕ) → Outside → (Limits → List ℕ → List ℕ → Type 0) → Type 0
 InEngine words o holds = (limits : Limits) × (failing : List ℕ) × AreForEngine words limits × AreFailedLoads o.loads.before o.loads.now failing
     × IfSome o.world.left (λ bytes. holds limits failing bytes)

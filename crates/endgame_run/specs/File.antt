@@ -1,16 +1,7 @@
 -- A file that is read to its end: from the source where its word is `-`, and else from the shelf.
 use Rattle.std.specs.Prelude.{◌≡◌, ◌≤◌, ◌++◌, ℕ, List, length, codes, Option, Some, if◌then◌else◌}
 use Rattle.std.specs.Str.{bytes_eq}
-use Rattle.std.specs.Io.KnownBytes.{prepend_known}
 use Rattle.desk_io.specs.Files.{Files, Told, told_file, told_source}
-use Rattle.desk_io.specs.Outside.{ended}
-use Rattle.sgf_go.specs.File.{IsShort}
-
--- the file is all that was left, and nothing is left now
-pub record IsWhole (before now : Option (List ℕ)) (file : List ℕ) : Type 0 where
-  pub all : before ≡ prepend_known file now
-  pub end : now ≡ ended before
-  pub short : IsShort file
 
 -- of the bytes that a source tells at most so many were taken
 abbrev pub TakesAtMost : ℕ → Option (List ℕ) → Option (List ℕ) → Type 0
@@ -36,12 +27,15 @@ pub record Outside : Type 0 where
   pub loads : Faults
   pub reads : Faults
 
+-- the world of the files that the shelf tells and the bytes that the source has left
 abbrev pub world : Option Files → Option (List ℕ) → World
 world files left = record { files = files; left = left }
 
+-- the counts of how often an object had failed before a run, and how often it has now
 abbrev pub faults : ℕ → ℕ → Faults
 faults before now = record { before = before; now = now }
 
+-- what the world tells, with how often the shelf and the source have failed
 abbrev pub outside : World → Faults → Faults → Outside
 outside world loads reads = record { world = world; loads = loads; reads = reads }
 

@@ -6,11 +6,11 @@ use Rattle.desk_io.specs.Outside.{Rose}
 use Rattle.go_grid.specs.declared.grid.Colour.{Colour}
 use Rattle.go_grid.specs.Board.{other}
 use Rattle.go_grid.specs.Region.{Region}
-use Rattle.report.specs.Solution.{winner_line}
+use Rattle.board_words.specs.Words.{winner_line}
 use Rattle.sgf_go.specs.declared.settings.Setup.{Setup}
-use Rattle.whole_rules.specs.WholeGame.{State}
+use Rattle.whole_rules.specs.WholeGame.{Whole}
 use Rattle.whole_rules.specs.FirstWinningMove.{IsWinner}
-use Rattle.gd_words.specs.Job.{JobView}
+use Rattle.gd_words.specs.Job.{Job}
 use Rattle.endgame_solver.specs.declared.limits.Limits.{Limits}
 use Rattle.endgame_solver.specs.Faults.{AreSound}
 use Rattle.region_cut.specs.Cut.{AreRegionsOfPlay}
@@ -30,9 +30,10 @@ use Rattle.endgame_run.specs.Verdict.{AreToPlay, IsWritten, limits_of}
 abbrev pub IsEngine : Option Colour → Setup → Colour → Type 0
 IsEngine given setup engine = engine ≡ unwrap_or given setup.side
 
--- the words ask to play a file, the state opens its position by their settings, which can be played within their limits, and this is the engine's colour
-pub record IsGame (words : List (List ℕ)) (w : World) (engine : Colour) (s : State) : Type 0 where
-  pub job : JobView
+-- the words ask to play a file, the state opens its position by their settings, which can be played within their limits, and
+-- this is the engine's colour
+pub record IsGame (words : List (List ℕ)) (w : World) (engine : Colour) (s : Whole) : Type 0 where
+  pub job : Job
   pub word : List ℕ
   pub setup : Setup
   pub asks : AreToPlay words job word
@@ -40,16 +41,16 @@ pub record IsGame (words : List (List ℕ)) (w : World) (engine : Colour) (s : S
   pub playable : IsPlayable (limits_of job) setup s
   pub colour : IsEngine job.engine setup engine
 
--- where a session begins: no line was read
-abbrev pub beginning : State → List ℕ → Standing
+-- where a session begins: the state opens the game, and no line was read
+abbrev pub beginning : Whole → List ℕ → Standing
 beginning s bytes = record { state = s; read = 0; left = bytes }
 
 -- a whole session over the bytes, with its end
-abbrev pub IsSessionOf : Colour → State → List ℕ → SessionEnd → List ℕ → Type 0
+abbrev pub IsSessionOf : Colour → Whole → List ℕ → SessionEnd → List ℕ → Type 0
 IsSessionOf engine s bytes final text = (b : Standing) × IsSession engine (beginning s bytes) text b final
 
 -- all turns of the session up to one of the opponent's, whose line is still to be read
-abbrev pub WaitsAfter : Colour → State → List ℕ → List ℕ → Type 0
+abbrev pub WaitsAfter : Colour → Whole → List ℕ → List ℕ → Type 0
 WaitsAfter engine s bytes text = (b : Standing) × Waits engine (beginning s bytes) text b
 
 -- the ends of a game that is done
@@ -68,14 +69,14 @@ IsSessionStatus TooManyLines = Unit {0}
 IsSessionStatus s = ⊥
 
 -- the text of a session up to a fault, and the line of the fault: a read failed, or the opponent was to move and 10,000 lines were read
-abbrev pub IsStopped : Colour → State → List ℕ → Status → List ℕ → List ℕ → Type 0
+abbrev pub IsStopped : Colour → Whole → List ℕ → Status → List ℕ → List ℕ → Type 0
 IsStopped engine s bytes CannotRead text line = WaitsAfter engine s bytes text × (line ≡ codes "fault cannot read\n")
 IsStopped engine s bytes TooManyLines text line = IsSessionOf engine s bytes end.TooManyLines text × (line ≡ codes "fault lines\n")
 IsStopped engine s bytes status text line = ⊥
 
 -- What a game over the bytes has written, by its status: the session, and the line of a fault behind it. Where a write failed it is
 -- turns and a front part of the line after them, or a front part of the fault's line. What the engine has won isn't lost.
-abbrev pub IsGameWritten : Colour → State → List ℕ → Option (List ℕ) → Option (List ℕ) → Status → Type 0
+abbrev pub IsGameWritten : Colour → Whole → List ℕ → Option (List ℕ) → Option (List ℕ) → Status → Type 0
 IsGameWritten engine s bytes before now Done = (final : SessionEnd) × (text : List ℕ) × IsOver final × (IsWinner s engine → final ≢ end.Lost)
     × IsSessionOf engine s bytes final text × (now ≡ append_known before text)
 IsGameWritten engine s bytes before now CannotWrite = ((text : List ℕ) × BreaksOff engine (beginning s bytes) text × (now ≡ append_known before text))
@@ -85,7 +86,7 @@ IsGameWritten engine s bytes before now status = (text line : List ℕ) × IsSto
 -- A game that has begun: its status, and its text where the source tells its bytes. A read that failed was counted.
 pub record IsGameRun (words : List (List ℕ)) (o : Outside) (before now : Option (List ℕ)) (status : Status) : Type 0 where
   pub engine : Colour
-  pub state : State
+  pub state : Whole
   pub game : IsGame words o.world engine state
   pub begun : IsSessionStatus status
   pub read : status ≡ CannotRead → Rose o.reads.before o.reads.now
@@ -93,7 +94,7 @@ pub record IsGameRun (words : List (List ℕ)) (o : Outside) (before now : Optio
 
 -- What was written of a game that the engine wins at its opening: turns, and what stands behind them. Wherever the turns lead the
 -- engine wins, so that after each of its moves the opponent is to move and loses, and no line names the opponent as the winner.
-pub record IsWonGame (engine : Colour) (s : State) (bytes : List ℕ) (before now : Option (List ℕ)) : Type 0 where
+pub record IsWonGame (engine : Colour) (s : Whole) (bytes : List ℕ) (before now : Option (List ℕ)) : Type 0 where
   pub number : ℕ
   pub reached : Standing
   pub first : List ℕ
@@ -105,7 +106,7 @@ pub record IsWonGame (engine : Colour) (s : State) (bytes : List ℕ) (before no
 
 -- a game was played over bytes that are told, and where the engine wins at its opening it keeps its win
 abbrev pub PlaysWon : List (List ℕ) → World → Option (List ℕ) → Option (List ℕ) → Type 0
-PlaysWon words w before now = (engine : Colour) × (s : State) × IsGame words w engine s
+PlaysWon words w before now = (engine : Colour) × (s : Whole) × IsGame words w engine s
     × (IsWinner s engine → IfSome w.left (λ bytes. IsWonGame engine s bytes before now))
 
 -- what was written is the text of the decided status, or that of a game or a session in which the engine keeps what it has won

@@ -1,5 +1,6 @@
 -- The laws of the verdict.
 use Rattle.std.specs.Prelude.{◌≡◌, ◌⊎◌, ◌≤◌, ◌<◌, ℕ, List, length, Option}
+use Rattle.go_grid.specs.declared.grid.TheConstants.{MOST_POINTS}
 use Rattle.go_grid.specs.declared.grid.Colour.{Colour}
 use Rattle.go_grid.specs.Region.{Region}
 use Rattle.sgf_go.specs.declared.settings.Settings.{Settings}
@@ -9,7 +10,7 @@ use Rattle.endgame_solver.specs.declared.faults.SolveError.{SolveError}
 use Rattle.endgame_solver.specs.Faults.{AreRefused, AreSound}
 use Rattle.region_cut.specs.Cut.{AreRegionsOfPlay}
 use Rattle.endgame_run.specs.declared.status.Status.{Status}
-use Rattle.whole_rules.specs.WholeGame.{State}
+use Rattle.whole_rules.specs.WholeGame.{Whole}
 use Rattle.endgame_run.specs.declared.status.Status.TheVariants.{Done, FormLimit, TooManyLines}
 use Rattle.endgame_run.specs.declared.question.Question.{Question}
 use Rattle.endgame_run.specs.declared.question.Question.TheVariants.{Solve, Values}
@@ -39,7 +40,7 @@ abbrev pub ShowsShown : Type 0
 ShowsShown = (limits : Limits) (setup : Setup) (regions : List Region) (s : Status) (text : List ℕ) → AreRegionsOfPlay setup.board regions → AreSound limits regions
     → ((k : ℕ) → k < length regions → HasShownValue (region_at regions k)) → IsPositionAnswer (Values limits) setup s text → s ≡ Done
 
--- and is else refused for the first that can't
+-- a position whose regions are all sound is refused for the first of them whose value can't be shown
 abbrev pub RefusesUnshown : Type 0
 RefusesUnshown = (limits : Limits) (setup : Setup) (regions : List Region) (p : ℕ) (s : Status) (text : List ℕ) → AreRegionsOfPlay setup.board regions → AreSound limits regions
     → IsFirstUnshown regions p → IsPositionAnswer (Values limits) setup s text → s ≡ FormLimit
@@ -51,6 +52,6 @@ RefusesFaults = (question : Question) (limits : Limits) (setup : Setup) (regions
 
 -- a game over these bytes that no read and no write broke off has one status and one text
 abbrev pub HasOneGame : Type 0
-HasOneGame = (engine : Colour) (s : State) (bytes : List ℕ) (p q : Status) (before now new : Option (List ℕ)) → length s.board.cells ≤ 625
+HasOneGame = (engine : Colour) (s : Whole) (bytes : List ℕ) (p q : Status) (before now new : Option (List ℕ)) → length s.board.cells ≤ MOST_POINTS
     → (p ≡ Done) ⊎ (p ≡ TooManyLines) → (q ≡ Done) ⊎ (q ≡ TooManyLines)
     → IsGameWritten engine s bytes before now p → IsGameWritten engine s bytes before new q → (p ≡ q) × (now ≡ new)

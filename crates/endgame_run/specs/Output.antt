@@ -2,7 +2,7 @@
 use Rattle.std.specs.Prelude.{◌≡◌, ◌⊎◌, ◌++◌, ℕ, List, codes, take, Option, IfSome}
 use Rattle.std.specs.Io.KnownBytes.{append_known}
 use Rattle.go_grid.specs.declared.grid.Colour.{Colour}
-use Rattle.whole_rules.specs.WholeGame.{State}
+use Rattle.whole_rules.specs.WholeGame.{Whole}
 use Rattle.play_session.specs.declared.end.SessionEnd.TheVariants as end
 use Rattle.endgame_run.specs.declared.status.Status.{Status}
 use Rattle.endgame_run.specs.declared.status.Status.TheVariants.{CannotRead, CannotWrite, Memory, TooManyLines}
@@ -27,9 +27,9 @@ IsLineWritten words o before now status = (line : List ℕ) × IsDecided words o
 abbrev pub IsFrontWritten : List (List ℕ) → Outside → Option (List ℕ) → Option (List ℕ) → Type 0
 IsFrontWritten words o before now = (status : Status) × (text : List ℕ) × (n : ℕ) × IsDecided words o status text × (now ≡ append_known before (take n text))
 
--- a game was played, and where the source tells its bytes this holds of the engine's colour, the opening and the bytes
-abbrev pub InGame : List (List ℕ) → World → (Colour → State → List ℕ → Type 0) → Type 0
-InGame words w holds = (engine : Colour) × (s : State) × IsGame words w engine s × IfSome w.left (λ bytes. holds engine s bytes)
+-- a game was played, and where the source tells its bytes `holds` is true of the engine's colour, the opening and the bytes
+abbrev pub InGame : List (List ℕ) → World → (Colour → Whole → List ℕ → Type 0) → Type 0
+InGame words w holds = (engine : Colour) × (s : Whole) × IsGame words w engine s × IfSome w.left (λ bytes. holds engine s bytes)
 
 -- Nothing for want of memory. Where a write failed, a front part of what was to be written: of a text, or of a session and the line of
 -- a fault. Else the line of a fault, in a game behind the session: all turns up to the one whose line can't be read, or whose line
@@ -43,6 +43,7 @@ IsPartOfDecided words o before now TooManyLines =
     InGame words o.world (λ engine s bytes. (text : List ℕ) × IsSessionOf engine s bytes end.TooManyLines text × (now ≡ append_known before (text ++ codes "fault lines\n")))
 IsPartOfDecided words o before now status = IsLineWritten words o before now status
 
--- the same, or what a session of the engine has written: replies, and the line of a fault behind them
+-- what a run has written, by its status: the text of the decided status or of a game, or a part of it; or what a session of
+-- the engine has written
 abbrev pub IsPartOutput : List (List ℕ) → Outside → Option (List ℕ) → Option (List ℕ) → Status → Type 0
 IsPartOutput words o before now status = IsPartOfDecided words o before now status ⊎ IsEngineRun words o before now status

@@ -1,19 +1,19 @@
 -- The position that a file gives under settings, or what is wrong with it.
-use Rattle.std.specs.Prelude.{◌≡◌, ◌<◌, ◌*◌, ℕ, List, codes, Result, Ok, Err}
+use Rattle.std.specs.Prelude.{◌≡◌, ℕ, List, codes}
 use Rattle.sgf_tree.specs.Grammar.{PropertyText}
-use Rattle.sgf_tree.specs.Reading.{IsAnswer}
-use Rattle.sgf_tree.specs.Reading.Answer.{line, no_tree, bad_byte, cut_short, too_deep}
+use Rattle.sgf_tree.specs.Reading.{IsTreeAnswer}
+use Rattle.sgf_tree.specs.Reading.Answer.{line}
 use Rattle.sgf_tree.specs.declared.fault.TreeFault.{TreeFault}
 use Rattle.sgf_tree.specs.declared.fault.TreeFault.TheVariants.{NoTree, BadByte, CutShort, TooDeep}
-use Rattle.sgf_go.specs.Setup.{Gives, IsBoardSize, value_of, root}
+use Rattle.sgf_go.specs.Setup.{IsBoardSize, value_of, root}
 use Rattle.sgf_go.specs.Values.{Extent}
-use Rattle.sgf_go.specs.declared.settings.Settings.{Settings}
 use Rattle.sgf_go.specs.declared.settings.Setup.{Setup}
 use Rattle.sgf_go.specs.declared.fault.SetupFault.{SetupFault}
 use Rattle.sgf_go.specs.declared.fault.SetupFault.TheVariants.{WrongGame, BadSize, BadKomi, BadPoint, BadSide, Occupied, Suicide, NoLiberty}
 use Rattle.sgf_go.specs.declared.fault.FileFault.{FileFault}
 use Rattle.sgf_go.specs.declared.fault.FileFault.TheVariants as fault
-use Rattle.report.specs.Lines.{point_line}
+use Rattle.go_grid.specs.Name.{point_name}
+use Rattle.board_words.specs.Words.{word_line}
 use Rattle.endgame_run.specs.Texts.{fault_line, fault_line_at}
 
 -- the line of a fault of a tree
@@ -32,13 +32,9 @@ IsSetupFaultText l (BadPoint node) text = text ≡ fault_line_at (codes "bad poi
 IsSetupFaultText l BadSide text = text ≡ fault_line (codes "bad side")
 IsSetupFaultText l (Occupied node) text = text ≡ fault_line_at (codes "occupied at node") node
 IsSetupFaultText l (Suicide node) text = text ≡ fault_line_at (codes "suicide at node") node
-IsSetupFaultText l (NoLiberty p) text = (e : Extent) × IsBoardSize (value_of (codes "SZ") (root l)) e × (text ≡ point_line (codes "fault file no liberty at") e.columns p)
+IsSetupFaultText l (NoLiberty p) text = (e : Extent) × IsBoardSize (value_of (codes "SZ") (root l)) e × (text ≡ word_line (codes "fault file no liberty at") (point_name e.columns p))
 
 -- the line of a fault of a file
 abbrev pub IsFaultText : List ℕ → FileFault → List ℕ → Type 0
 IsFaultText file (fault.Tree f) text = IsTreeFaultText f text
-IsFaultText file (fault.Setup f) text = (l : List (List PropertyText)) × IsAnswer file (line l) × IsSetupFaultText l f text
-
--- the point lies on a board of the size that the main line gives
-abbrev pub IsOnLine : List (List PropertyText) → ℕ → Type 0
-IsOnLine l p = (e : Extent) × IsBoardSize (value_of (codes "SZ") (root l)) e × (p < e.columns * e.rows)
+IsFaultText file (fault.Setup f) text = (l : List (List PropertyText)) × IsTreeAnswer file (line l) × IsSetupFaultText l f text

@@ -1,12 +1,11 @@
 -- Faults of regions: their statuses and their lines.
-use Rattle.std.specs.Prelude.{◌≡◌, ◌<◌, ℕ, List, [], ◌++◌, All, flat_map, codes, decimal}
+use Rattle.std.specs.Prelude.{◌≡◌, ℕ, List, [], ◌++◌, flat_map, codes, decimal}
 use Rattle.go_grid.specs.declared.grid.Colour.{Colour}
-use Rattle.report.specs.Lines.{colour_word, point_line, point_name}
+use Rattle.go_grid.specs.Name.{point_name}
+use Rattle.board_words.specs.Words.{word_line, colour_word}
 use Rattle.endgame_solver.specs.declared.limits.Limits.{Limits}
 use Rattle.endgame_solver.specs.declared.faults.SolveError.{SolveError}
 use Rattle.endgame_solver.specs.declared.faults.SolveError.TheVariants.{Points, Positions, Cycle, Form, Memory}
-use Rattle.report.specs.declared.values.ValuesError.{ValuesError}
-use Rattle.report.specs.declared.values.ValuesError.TheVariants as values
 use Rattle.endgame_run.specs.declared.status.Status.{Status}
 use Rattle.endgame_run.specs.declared.status.Status.TheVariants as status
 
@@ -36,7 +35,7 @@ cycle_line columns p back moves = codes "fault cycle " ++ (point_name columns p 
 
 -- a region with a value that has no form within the limit
 abbrev pub form_line : ℕ → ℕ → List ℕ
-form_line columns p = point_line (codes "fault form") columns p
+form_line columns p = word_line (codes "fault form") (point_name columns p)
 
 -- the line of a fault on a board of so many columns
 abbrev pub refusal_line : Limits → ℕ → SolveError → List ℕ
@@ -45,16 +44,3 @@ refusal_line limits columns (Positions p) = positions_line columns p limits.posi
 refusal_line limits columns (Cycle p names back) = cycle_line columns p back names
 refusal_line limits columns (Form p) = form_line columns p
 refusal_line limits columns (Memory e) = []
-
--- the points that the fault names are below the number
-abbrev pub NamesPoints : ℕ → SolveError → Type 0
-NamesPoints area (Points p n) = p < area
-NamesPoints area (Positions p) = p < area
-NamesPoints area (Cycle p names back) = (p < area) × All (λ m. m.1 < area) names
-NamesPoints area (Form p) = p < area
-NamesPoints area (Memory e) = Unit {0}
-
--- the fault names a region whose value isn't shown
-abbrev pub NamesRegion : ValuesError → Type 0
-NamesRegion (values.Form p) = Unit {0}
-NamesRegion (values.Memory e) = ⊥

@@ -3,10 +3,8 @@ use Rattle.std.specs.Prelude.{◌≡◌, ℕ, List, false, pos}
 use Rattle.go_grid.specs.declared.grid.Colour.TheVariants.{Black}
 use Rattle.board_gen.specs.Trial.{IsTrialBoard}
 use Rattle.sgf_go.specs.declared.settings.Setup.{Setup}
-use Rattle.endgame_solver.specs.declared.faults.SolveError.{SolveError}
-use Rattle.endgame_solver.specs.declared.faults.SolveError.TheVariants.{Memory}
 use Rattle.endgame_solver.specs.declared.limits.Limits.{Limits}
-use Rattle.endgame_solver.specs.Solved.{SolvedGame, OpensAs}
+use Rattle.endgame_solver.specs.Solved.{Solved, OpensAs}
 use Rattle.region_cut.specs.Cut.{AreRegionsOfPlay}
 use Rattle.report.specs.Trial.{IsTrialText}
 
@@ -25,13 +23,8 @@ pub record IsTrialPosition (number : ℕ) (setup : Setup) : Type 0 where
 -- the number's position, its regions of play and the state that opens it, and the text of `trial` about them
 pub record IsTrial (number : ℕ) (text : List ℕ) : Type 0 where
   pub setup : Setup
-  pub game : SolvedGame
+  pub game : Solved
   pub position : IsTrialPosition number setup
   pub are_regions : AreRegionsOfPlay setup.board game.regions
   pub opening : OpensAs setup false game.state
   pub is : IsTrialText number game text
-
--- the fault is want of memory
-abbrev pub IsWantOfMemory : SolveError → Type 0
-IsWantOfMemory (Memory e) = Unit {0}
-IsWantOfMemory fault = ⊥

@@ -1,5 +1,6 @@
 -- Which status the words, the file and the counts of faults have, and what is written then.
 use Rattle.std.specs.Prelude.{◌≡◌, ◌≢◌, ◌+◌, ◌≤◌, ◌⊎◌, ◌++◌, ℕ, List, codes, take, ⊤, Option, Some, None, Ok, Err}
+use Rattle.sgf_tree.specs.declared.reader.TheConstants.{MOST_BYTES}
 use Rattle.desk_io.specs.Files.Told.{absent, holding}
 use Rattle.std.specs.Io.KnownBytes.{append_known}
 use Rattle.desk_io.specs.Files.{Told, Files}
@@ -8,11 +9,11 @@ use Rattle.go_grid.specs.declared.grid.Colour.{Colour}
 use Rattle.go_grid.specs.Region.{Region}
 use Rattle.sgf_go.specs.declared.settings.Settings.{Settings}
 use Rattle.sgf_go.specs.declared.settings.Setup.{Setup}
-use Rattle.gd_words.specs.Job.{JobView, IsJob, IsOnlyJob}
+use Rattle.gd_words.specs.Job.{Job, IsJob, IsOnlyJob, SayNoJob}
 use Rattle.gd_words.specs.Task.{Task}
 use Rattle.gd_words.specs.Task.Task.{solve, safe, values, play, trial, calc}
 use Rattle.whole_rules.specs.declared.states.Move.{Move}
-use Rattle.whole_rules.specs.WholeGame.{State}
+use Rattle.whole_rules.specs.WholeGame.{Whole}
 use Rattle.whole_rules.specs.FirstWinningMove.{IsFirstWinning, IsWinner}
 use Rattle.endgame_run.specs.declared.status.Status.{Status}
 use Rattle.endgame_run.specs.declared.status.Status.TheVariants.{Done, Usage, CannotRead, CannotWrite, BadFile, Cycle, RegionLimit, FormLimit, Memory, TooLong, BadExpression, CalcLimit}
@@ -21,7 +22,7 @@ use Rattle.endgame_solver.specs.declared.faults.SolveError.{SolveError}
 use Rattle.endgame_solver.specs.Faults.{AreSound, AreRefused, most_steps}
 use Rattle.region_cut.specs.Cut.{AreRegionsOfPlay}
 use Rattle.desk_io.specs.Files.{IsLonger, IsTold}
-use Rattle.sgf_go.specs.File.{IsShort, Reads}
+use Rattle.sgf_go.specs.File.{HasFewBytes, Reads}
 use Rattle.endgame_run.specs.File.{Outside, World, told_of, count_of, dash}
 use Rattle.endgame_run.specs.Position.{IsFaultText}
 use Rattle.endgame_solver.specs.Solved.{OpensAs}
@@ -31,7 +32,8 @@ use Rattle.report.specs.Values.{IsFirstUnshown, IsValuesText}
 use Rattle.endgame_run.specs.Calc.{IsCalc}
 use Rattle.endgame_run.specs.Trial.{IsTrial, IsTrialPosition, trial_limits}
 use Rattle.endgame_run.specs.Refusal.{HasStatus, form_line, refusal_line}
-use Rattle.report.specs.Solution.{AreNumbers, solve_text, winner_line, move_line}
+use Rattle.report.specs.Solution.{AreNumbers, solve_text, move_line}
+use Rattle.board_words.specs.Words.{winner_line}
 use Rattle.endgame_run.specs.declared.question.Question.{Question}
 use Rattle.endgame_run.specs.declared.question.Question.TheVariants.{Solve, Values, Safe}
 
@@ -39,7 +41,7 @@ use Rattle.endgame_run.specs.declared.question.Question.TheVariants.{Solve, Valu
 pub record IsSolved (limits : Limits) (setup : Setup) (text : List ℕ) : Type 0 where
   pub regions : List Region
   pub numbers : List ℕ
-  pub state : State
+  pub state : Whole
   pub winner : Colour
   pub move : Option Move
   pub are_regions : AreRegionsOfPlay setup.board regions
@@ -64,7 +66,8 @@ pub record IsValued (limits : Limits) (setup : Setup) (text : List ℕ) : Type 0
   pub sound : AreSound limits regions
   pub is : IsValuesText setup.board.columns regions text
 
--- the same regions where the value of an opening isn't shown, with the status and the line of the first of them
+-- the regions of play of a position, all sound within the limits, where the value of an opening can't be shown, with the
+-- status and the line of the first of them
 pub record AreUnshown (limits : Limits) (setup : Setup) (s : Status) (text : List ℕ) : Type 0 where
   pub regions : List Region
   pub point : ℕ
@@ -102,8 +105,8 @@ IsFileAnswer question file settings s text = (setup : Setup) × Reads file setti
 -- The status by what is told of the file and by the counts of faults of the object that holds it, and its text.
 abbrev pub IsAnswer : Question → Told → ℕ → ℕ → Settings → Status → List ℕ → Type 0
 IsAnswer question told before now settings CannotRead text = ((told ≡ absent) ⊎ Rose before now) × (text ≡ codes "fault cannot read\n")
-IsAnswer question told before now settings TooLong text = IsLonger 1048576 told × (text ≡ codes "fault too long\n")
-IsAnswer question told before now settings s text = (file : List ℕ) × IsTold told file × IsShort file × IsFileAnswer question file settings s text
+IsAnswer question told before now settings TooLong text = IsLonger MOST_BYTES told × (text ≡ codes "fault too long\n")
+IsAnswer question told before now settings s text = (file : List ℕ) × IsTold told file × HasFewBytes file × IsFileAnswer question file settings s text
 
 -- The status of a question about the file of a word, by what the world tells of it and by how often its object has failed, and its text.
 abbrev pub IsAnswerOn : Question → Outside → List ℕ → Settings → Status → List ℕ → Type 0
@@ -111,37 +114,37 @@ IsAnswerOn question o word settings s text = IsAnswer question (told_of o.world 
     (count_of o.loads.before o.reads.before word) (count_of o.loads.now o.reads.now word) settings s text
 
 -- the limits of a job, and whether there is a tax
-abbrev pub limits_of : JobView → Limits
+abbrev pub limits_of : Job → Limits
 limits_of job = record { positions = job.positions; parts = job.parts; tax = job.tax }
 
 -- the job asks this about the file of this word, within its limits
-abbrev pub Asks : JobView → Question → List ℕ → Type 0
+abbrev pub Asks : Job → Question → List ℕ → Type 0
 Asks job (Solve limits) word = (job.task ≡ solve word) × (limits ≡ limits_of job)
 Asks job (Values limits) word = (job.task ≡ values word) × (limits ≡ limits_of job)
 Asks job Safe word = job.task ≡ safe word
 
 -- the words ask this about the file of this word, under the job's settings and within its limits
-abbrev pub AskAbout : List (List ℕ) → JobView → Question → List ℕ → Type 0
+abbrev pub AskAbout : List (List ℕ) → Job → Question → List ℕ → Type 0
 AskAbout words job question word = IsOnlyJob words job × Asks job question word
 
 -- the words are the job of solving the file of this word
-abbrev pub AreToSolve : List (List ℕ) → JobView → List ℕ → Type 0
+abbrev pub AreToSolve : List (List ℕ) → Job → List ℕ → Type 0
 AreToSolve words job word = AskAbout words job (Solve (limits_of job)) word
 
 -- the words ask to solve a file
 abbrev pub AskToSolve : List (List ℕ) → Type 0
-AskToSolve words = (job : JobView) × (word : List ℕ) × AreToSolve words job word
+AskToSolve words = (job : Job) × (word : List ℕ) × AreToSolve words job word
 
 -- the words are the job of playing the file of this word
-abbrev pub AreToPlay : List (List ℕ) → JobView → List ℕ → Type 0
+abbrev pub AreToPlay : List (List ℕ) → Job → List ℕ → Type 0
 AreToPlay words job word = IsOnlyJob words job × (job.task ≡ play word)
 
 -- the words ask to play a file
 abbrev pub AskToPlay : List (List ℕ) → Type 0
-AskToPlay words = (job : JobView) × (word : List ℕ) × AreToPlay words job word
+AskToPlay words = (job : Job) × (word : List ℕ) × AreToPlay words job word
 
 -- the words pose this question on the file of this word: they ask it, or ask to play the file, which is to be solved for that
-abbrev pub Pose : List (List ℕ) → JobView → Question → List ℕ → Type 0
+abbrev pub Pose : List (List ℕ) → Job → Question → List ℕ → Type 0
 Pose words job question word = AskAbout words job question word ⊎ (AreToPlay words job word × (question ≡ Solve (limits_of job)))
 
 -- the question is about the regions of play, within these limits
@@ -152,16 +155,16 @@ HasLimits Safe limits = ⊥
 
 -- the words are the job of the board that this number draws
 abbrev pub AreToTrial : List (List ℕ) → ℕ → Type 0
-AreToTrial words number = (job : JobView) × IsOnlyJob words job × (job.task ≡ trial number)
+AreToTrial words number = (job : Job) × IsOnlyJob words job × (job.task ≡ trial number)
 
 -- the words need the regions of play of a file, or those of a number's board
 abbrev pub NeedRegions : List (List ℕ) → Type 0
-NeedRegions words = ((job : JobView) × (question : Question) × (word : List ℕ) × Pose words job question word × HasLimits question (limits_of job))
+NeedRegions words = ((job : Job) × (question : Question) × (word : List ℕ) × Pose words job question word × HasLimits question (limits_of job))
     ⊎ ((number : ℕ) × AreToTrial words number)
 
 -- the words are the job of the expression, within this limit of parts
 abbrev pub AreToCalc : List (List ℕ) → ℕ → List ℕ → Type 0
-AreToCalc words limit expression = (job : JobView) × IsOnlyJob words job × (job.task ≡ calc expression) × (limit ≡ job.parts)
+AreToCalc words limit expression = (job : Job) × IsOnlyJob words job × (job.task ≡ calc expression) × (limit ≡ job.parts)
 
 -- the status of the board of a number, and its text
 abbrev pub IsTrialAnswer : ℕ → Status → List ℕ → Type 0
@@ -176,30 +179,31 @@ IsTextAlone limit task s text = ⊥
 
 -- the words ask for what depends on them alone, and this is its status and its text
 abbrev pub IsDecidedAlone : List (List ℕ) → Status → List ℕ → Type 0
-IsDecidedAlone words s text = (job : JobView) × IsOnlyJob words job × IsTextAlone job.parts job.task s text
+IsDecidedAlone words s text = (job : Job) × IsOnlyJob words job × IsTextAlone job.parts job.task s text
 
 -- a question about a file is asked, and this is its text
 abbrev pub IsDecidedByFile : List (List ℕ) → Outside → List ℕ → Type 0
-IsDecidedByFile words o text = (job : JobView) × (question : Question) × (word : List ℕ) × AskAbout words job question word
+IsDecidedByFile words o text = (job : Job) × (question : Question) × (word : List ℕ) × AskAbout words job question word
     × IsAnswerOn question o word job.settings Done text
 
 -- The status that was decided, with its cause, and its text: `Usage` exactly where the words are outside the grammar. What keeps
 -- a file from being solved keeps it from being played. What depends on the words alone is done; an expression may be refused.
 abbrev pub IsDecided : List (List ℕ) → Outside → Status → List ℕ → Type 0
-IsDecided words o Usage text = ((job : JobView) → ¬ IsJob words job) × (text ≡ codes "fault usage\n")
+IsDecided words o Usage text = SayNoJob words × (text ≡ codes "fault usage\n")
 IsDecided words o Done text = IsDecidedByFile words o text ⊎ IsDecidedAlone words Done text
 IsDecided words o (BadExpression f) text = IsDecidedAlone words (BadExpression f) text
 IsDecided words o CalcLimit text = IsDecidedAlone words CalcLimit text
-IsDecided words o s text = (job : JobView) × (question : Question) × (word : List ℕ) × Pose words job question word
+IsDecided words o s text = (job : Job) × (question : Question) × (word : List ℕ) × Pose words job question word
     × IsAnswerOn question o word job.settings s text
 
 -- The cause of a status. A failed write has one of its own, and want of memory never comes with words outside the grammar.
 abbrev pub HasCause : List (List ℕ) → Outside → Status → Type 0
 HasCause words o CannotWrite = ⊤
-HasCause words o Memory = (job : JobView) × IsJob words job
+HasCause words o Memory = (job : Job) × IsJob words job
 HasCause words o s = (text : List ℕ) × IsDecided words o s text
 
--- What was written: nothing for want of memory, and else the whole text of the status, or a front part of the decided one's where a write failed.
+-- What was written: nothing for want of memory, and else the whole text of the status, or a front part of the decided one's where
+-- a write failed.
 abbrev pub IsWritten : List (List ℕ) → Outside → Option (List ℕ) → Option (List ℕ) → Status → Type 0
 IsWritten words o before now Memory = now ≡ before
 IsWritten words o before now CannotWrite = (s : Status) × (text : List ℕ) × (n : ℕ) × IsDecided words o s text × (now ≡ append_known before (take n text))
@@ -210,8 +214,8 @@ abbrev pub HasLine : Option (List ℕ) → Option (List ℕ) → List ℕ → Ty
 HasLine before now line = (front : List ℕ) × (back : List ℕ) × (now ≡ append_known before ((front ++ codes "\n") ++ (line ++ back)))
 
 -- the words ask to solve a file, this is its position by their settings, and the state opens it
-pub record IsPosed (words : List (List ℕ)) (w : World) (setup : Setup) (s : State) : Type 0 where
-  pub job : JobView
+pub record IsPosed (words : List (List ℕ)) (w : World) (setup : Setup) (s : Whole) : Type 0 where
+  pub job : Job
   pub word : List ℕ
   pub file : List ℕ
   pub asks : AreToSolve words job word
@@ -221,28 +225,29 @@ pub record IsPosed (words : List (List ℕ)) (w : World) (setup : Setup) (s : St
 
 -- the line `winner` names the winner of the opening
 abbrev pub WritesWinner : List (List ℕ) → World → Option (List ℕ) → Option (List ℕ) → Type 0
-WritesWinner words w before now = (setup : Setup) × (s : State) × (winner : Colour)
+WritesWinner words w before now = (setup : Setup) × (s : Whole) × (winner : Colour)
     × IsPosed words w setup s × IsWinner s winner × HasLine before now (winner_line winner)
 
 -- the line `move` names the first winning move of the opening, or `none` where there is none
 abbrev pub WritesMove : List (List ℕ) → World → Option (List ℕ) → Option (List ℕ) → Type 0
-WritesMove words w before now = (setup : Setup) × (s : State) × (move : Option Move)
+WritesMove words w before now = (setup : Setup) × (s : Whole) × (move : Option Move)
     × IsPosed words w setup s × IsFirstWinning s move × HasLine before now (move_line s.board.columns move)
 
--- the words ask about a file of the source, or ask about or to play one of the shelf
+-- the words ask about the file of the source
 abbrev pub ReadSource : List (List ℕ) → Type 0
-ReadSource words = (job : JobView) × (question : Question) × AskAbout words job question dash
+ReadSource words = (job : Job) × (question : Question) × AskAbout words job question dash
 
+-- the words ask about a file of the shelf, or ask to play one
 abbrev pub ReadShelf : List (List ℕ) → Type 0
-ReadShelf words = (job : JobView) × (question : Question) × (word : List ℕ) × Pose words job question word × (word ≢ dash)
+ReadShelf words = (job : Job) × (question : Question) × (word : List ℕ) × Pose words job question word × (word ≢ dash)
 
--- the words ask for a file of the shelf, by this word
+-- the words ask about or ask to play a file of the shelf, of whose word `is` holds
 abbrev pub AskShelf : List (List ℕ) → (List ℕ → Type 0) → Type 0
-AskShelf words is = (job : JobView) × (question : Question) × (word : List ℕ) × Pose words job question word × (word ≢ dash) × is word
+AskShelf words is = (job : Job) × (question : Question) × (word : List ℕ) × Pose words job question word × (word ≢ dash) × is word
 
 -- the words need the regions of play of a file that is told, within these limits, and this is its position
 pub record IsToldRegions (words : List (List ℕ)) (w : World) (limits : Limits) (setup : Setup) : Type 0 where
-  pub job : JobView
+  pub job : Job
   pub word : List ℕ
   pub file : List ℕ
   pub question : Question
@@ -251,7 +256,7 @@ pub record IsToldRegions (words : List (List ℕ)) (w : World) (limits : Limits)
   pub told : told_of w word ≡ holding file
   pub reads : Reads file job.settings (Ok setup)
 
--- the words ask for the board of a number, and this is its position; these are the limits of all such boards
+-- the words ask for the board of a number, this is its position, and these are the limits of every trial
 abbrev pub IsTrialRegions : List (List ℕ) → Limits → Setup → Type 0
 IsTrialRegions words limits setup = (number : ℕ) × AreToTrial words number × IsTrialPosition number setup × (limits ≡ trial_limits)
 
@@ -259,7 +264,8 @@ IsTrialRegions words limits setup = (number : ℕ) × AreToTrial words number ×
 abbrev pub AreNeededRegions : List (List ℕ) → World → Limits → Setup → Type 0
 AreNeededRegions words w limits setup = IsToldRegions words w limits setup ⊎ IsTrialRegions words limits setup
 
--- how many steps a question about a position takes at most: none but about its regions of play, and then for each the limit, or 3 to its points
+-- how many steps a question about a position takes at most: none but about its regions of play, and then for each the limit, or
+-- 3 to its points where that is less
 abbrev pub AreStepsFor : Question → Setup → ℕ → ℕ → Type 0
 AreStepsFor (Solve limits) setup before now = (regions : List Region) → AreRegionsOfPlay setup.board regions → now ≤ before + most_steps limits regions
 AreStepsFor (Values limits) setup before now = (regions : List Region) → AreRegionsOfPlay setup.board regions → now ≤ before + most_steps limits regions
@@ -272,6 +278,6 @@ AreTrialSteps number before now = (now ≡ before) ⊎ ((setup : Setup) × IsTri
 -- steps are taken only for the position of a file that has all that is told of the one asked about, or for that of a number
 abbrev pub AreSteps : List (List ℕ) → World → ℕ → ℕ → Type 0
 AreSteps words w before now = (now ≡ before)
-    ⊎ (((job : JobView) × (question : Question) × (word : List ℕ) × (file : List ℕ) × (setup : Setup) × Pose words job question word
+    ⊎ (((job : Job) × (question : Question) × (word : List ℕ) × (file : List ℕ) × (setup : Setup) × Pose words job question word
     × IsTold (told_of w word) file × Reads file job.settings (Ok setup) × AreStepsFor question setup before now)
     ⊎ ((number : ℕ) × AreToTrial words number × AreTrialSteps number before now))

@@ -11,6 +11,7 @@ use crate::status::Status;
 use desk_io::{Shelf, Sink, Source};
 use endgame_solver::Limits;
 use gtp_engine::{Engine, GtpEnd};
+use local_graph::MOST_POSITIONS;
 use local_play::Steps;
 use std::alloc::Global;
 use std::sync::ledger::Ledger;
@@ -39,7 +40,7 @@ pub(crate) fn run_gtp<H: Shelf, S: Source, K: Sink, L: Ledger>(
     out: &mut K,
     steps: &mut Steps<L>,
 ) -> Status
-    requires modest { limits.positions ≤ 1000000 }
+    requires modest { limits.positions ≤ MOST_POSITIONS }
     requires no_tax { limits.tax ≡ false }
     ensures played { IsEnginePlay limits
         (outside (world (H.files shelf.old) (S.left lines.old))

@@ -1,15 +1,17 @@
 //! The lines of faults.
 
 ghost use Rattle.std.specs.Prelude.{◌≡◌, ◌<◌, ◌*◌, IfOk, string_bytes, Err};
-ghost use Rattle.report.specs.Lines.{point_line};
+ghost use Rattle.go_grid.specs.Name.{point_name};
+ghost use Rattle.board_words.specs.Words.{word_line};
 ghost use Rattle.endgame_run.specs.Texts.{fault_line, fault_line_at};
-ghost use Rattle.endgame_run.specs.Position.{IsOnLine, IsSetupFaultText, IsTreeFaultText};
+ghost use Rattle.endgame_run.specs.Position.{IsSetupFaultText, IsTreeFaultText};
+ghost use Rattle.endgame_run.specs.inner.Position.{IsOnLine};
 ghost use Rattle.sgf_go.specs.Setup.{Gives};
 ghost use Rattle.sgf_go.specs.declared.settings.Settings.{Settings};
 ghost use Rattle.sgf_tree.specs.Reading.{line_text};
 
+use board_words::write_point;
 use go_grid::{Point, Size};
-use report::write_point;
 use sgf_go::{SetupFault, size_of_board};
 use sgf_tree::{Tree, TreeFault};
 use std::alloc::{AllocError, Global};
@@ -22,7 +24,8 @@ pub(crate) fn point_text(
     point: Point,
 ) -> Result<String, AllocError>
     requires { point < size.columns * size.rows }
-    ensures { IfOk result (λ text. string_bytes text ≡ point_line label.now size.columns point) }
+    ensures { IfOk result (λ text. string_bytes text ≡ word_line label.now
+        (point_name size.columns point)) }
 {
     let mut text = String::new(alloc);
     write_point(&mut text, label, size, point)?;
@@ -52,6 +55,7 @@ fn no_liberty_text(alloc: Global, tree: &Tree, point: Point) -> Result<String, A
         (SetupFault.NoLiberty point) (string_bytes text)) }
 {
     let Some(size) = size_of_board(tree) else {
+        // A point was named by the size of the same record.
         unreachable!()
     };
     let text = point_text(alloc, "fault file no liberty at", size, point)?;

@@ -5,8 +5,9 @@ ghost use Rattle.desk_io.specs.Files.Told.{absent};
 ghost use Rattle.desk_io.specs.Files.{told_file, told_source};
 ghost use Rattle.desk_io.specs.Outside.{Rose, ended};
 ghost use Rattle.desk_io.specs.Files.{IsLonger, IsTold};
-ghost use Rattle.sgf_go.specs.File.{IsShort};
-ghost use Rattle.endgame_run.specs.File.{IsWhole, TakesAtMost, count_of, dash, told_of, world};
+ghost use Rattle.sgf_go.specs.File.{HasFewBytes};
+ghost use Rattle.endgame_run.specs.File.{TakesAtMost, count_of, dash, told_of, world};
+ghost use Rattle.endgame_run.specs.inner.File.{IsWhole};
 ghost use Rattle.endgame_run.specs.declared.file.FileError.TheVariants.{CannotRead, Memory};
 
 use desk_io::{Failed, LoadError, Loaded, Shelf, Source};
@@ -45,7 +46,7 @@ impl From<AllocError> for FileError {
 fn read_source<S: Source>(alloc: Global, lines: &mut S) -> Result<Vec<u8>, FileError>
     ensures whole { IfOk result (λ file. IsWhole (S.left lines.old) (S.left lines.new) file.items) }
     ensures too_long { IsErrOf result FileError.TooLong
-        → IsLonger 1048576 (told_source (S.left lines.old)) }
+        → IsLonger MOST_BYTES (told_source (S.left lines.old)) }
     ensures cannot_read { IsErrOf result FileError.CannotRead
         → Rose (S.faults lines.old) (S.faults lines.new) }
     ensures takes { TakesAtMost 1048577 (S.left lines.old) (S.left lines.new) }
@@ -66,11 +67,11 @@ fn read_source<S: Source>(alloc: Global, lines: &mut S) -> Result<Vec<u8>, FileE
 
 /// Loads a file of a shelf, of at most 1,048,576 bytes.
 fn load_file<H: Shelf>(alloc: Global, shelf: &mut H, name: &str) -> Result<Vec<u8>, FileError>
-    ensures short { IfOk result (λ file. IsShort file.items) }
+    ensures short { IfOk result (λ file. HasFewBytes file.items) }
     ensures told { IfOk result (λ file. IsTold
         (told_file (H.files shelf.old) name.now) file.items) }
     ensures too_long { IsErrOf result FileError.TooLong
-        → IsLonger 1048576 (told_file (H.files shelf.old) name.now) }
+        → IsLonger MOST_BYTES (told_file (H.files shelf.old) name.now) }
     ensures cannot_read { IsErrOf result FileError.CannotRead
         → (told_file (H.files shelf.old) name.now ≡ absent)
         ⊎ Rose (H.faults shelf.old) (H.faults shelf.new) }
@@ -94,11 +95,11 @@ pub(crate) fn read_file<H: Shelf, S: Source>(
     lines: &mut S,
     word: &str,
 ) -> Result<Vec<u8>, FileError>
-    ensures short { IfOk result (λ file. IsShort file.items) }
+    ensures short { IfOk result (λ file. HasFewBytes file.items) }
     ensures told { IfOk result (λ file. IsTold
         (told_of (world (H.files shelf.old) (S.left lines.old)) word.now) file.items) }
     ensures too_long { IsErrOf result FileError.TooLong
-        → IsLonger 1048576 (told_of (world (H.files shelf.old) (S.left lines.old)) word.now) }
+        → IsLonger MOST_BYTES (told_of (world (H.files shelf.old) (S.left lines.old)) word.now) }
     ensures cannot_read { IsErrOf result FileError.CannotRead
         → (told_of (world (H.files shelf.old) (S.left lines.old)) word.now ≡ absent)
         ⊎ Rose (count_of (H.faults shelf.old) (S.faults lines.old) word.now)

@@ -5,7 +5,7 @@ ghost use Rattle.desk_io.specs.Outside.{ended};
 ghost use Rattle.sgf_go.specs.declared.settings.Setup.{Setup as Position};
 ghost use Rattle.sgf_tree.specs.Reading.{line_text};
 ghost use Rattle.endgame_run.specs.File.{TakesAtMost, count_of, dash, told_of, world};
-ghost use Rattle.endgame_run.specs.Found.{HasRanges, IsFileFound, IsFound, IsLineFound};
+ghost use Rattle.endgame_run.specs.inner.Found.{HasRanges, IsFileFound, IsFound, IsLineFound};
 
 use crate::faults::{setup_fault_text, tree_fault_text};
 use crate::file::{FileError, read_file};
@@ -14,13 +14,13 @@ use crate::status::Status;
 use desk_io::{Shelf, Source};
 use game_text::Text;
 use sgf_go::{FileFault, GoError, Settings, position};
-use sgf_tree::{SgfError, Tree};
+use sgf_tree::{MOST_BYTES, SgfError, Tree};
 use std::alloc::{AllocError, Global};
 
 /// The position of the main line of a file.
 fn find_on_line(alloc: Global, tree: &Tree, settings: &Settings) -> Result<Found, AllocError>
-    requires nodes { length tree.now.line.items ≤ 1048576 }
-    requires properties { sum_by (λ n. length n.properties.items) tree.now.line.items ≤ 1048576 }
+    requires nodes { length tree.now.line.items ≤ MOST_BYTES }
+    requires properties { sum_by (λ n. length n.properties.items) tree.now.line.items ≤ MOST_BYTES }
     requires ranges { HasRanges settings.now }
     ensures { IfOk result (IsLineFound (line_text tree.now) settings.now) }
 {
@@ -36,7 +36,7 @@ fn find_on_line(alloc: Global, tree: &Tree, settings: &Settings) -> Result<Found
 
 /// The position of a file that was read to its end.
 fn find_on(alloc: Global, file: &[u8], settings: &Settings) -> Result<Found, AllocError>
-    requires short { length file.now ≤ 1048576 }
+    requires short { length file.now ≤ MOST_BYTES }
     requires ranges { HasRanges settings.now }
     ensures { IfOk result (IsFileFound file.now settings.now) }
 {

@@ -5,7 +5,7 @@ ghost use Rattle.sgf_go.specs.declared.settings.Setup.{Setup as Position};
 ghost use Rattle.endgame_solver.specs.declared.limits.Limits.{Limits};
 ghost use Rattle.endgame_run.specs.declared.question.Question.TheVariants.{Solve};
 ghost use Rattle.endgame_run.specs.File.{TakesAtMost, count_of, dash, faults, outside, told_of, world};
-ghost use Rattle.endgame_run.specs.Found.{HasRanges};
+ghost use Rattle.endgame_run.specs.inner.Found.{HasRanges};
 ghost use Rattle.endgame_run.specs.inner.Top.{AreToldSteps, IsGameOutcome, IsOpened, IsPlayRun, IsPlayedGame};
 
 use crate::ending::finish;
@@ -14,6 +14,7 @@ use crate::question::{Found, Match, Opened};
 use crate::solving::begin;
 use crate::status::Status;
 use desk_io::{Shelf, Sink, Source};
+use local_graph::MOST_POSITIONS;
 use local_play::Steps;
 use play_session::{Session, SessionEnd};
 use sgf_go::Settings;
@@ -30,7 +31,7 @@ fn open_game<H: Shelf, S: Source, L: Ledger>(
     steps: &mut Steps<L>,
 ) -> Result<Opened, AllocError>
     requires ranges { HasRanges settings.now }
-    requires modest { game.now.limits.positions ≤ 1000000 }
+    requires modest { game.now.limits.positions ≤ MOST_POSITIONS }
     ensures opened { IfOk result (IsOpened game.now.limits game.now.engine
         (told_of (world (H.files shelf.old) (S.left lines.old)) game.now.word.now)
         (count_of (H.faults shelf.old) (S.faults lines.old) game.now.word.now)
@@ -81,7 +82,7 @@ pub(crate) fn run_game<H: Shelf, S: Source, K: Sink, L: Ledger>(
     steps: &mut Steps<L>,
 ) -> Status
     requires ranges { HasRanges settings.now }
-    requires modest { game.now.limits.positions ≤ 1000000 }
+    requires modest { game.now.limits.positions ≤ MOST_POSITIONS }
     requires apart { game.now.word.now ≢ dash }
     ensures outcome { IsGameOutcome game.now.limits game.now.engine settings.now game.now.word.now
         (outside (world (H.files shelf.old) (S.left lines.old))

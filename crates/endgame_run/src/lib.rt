@@ -17,29 +17,8 @@ mod status;
 mod top;
 mod trial;
 
-pub use laws::verdict_law;
+pub use laws::verdict_laws;
 pub use program::{code_of_run, start};
 pub use sgf_go::FileFault;
 pub use status::Status;
 pub use top::run;
-
-#[cfg(test)]
-mod calc_tests;
-#[cfg(test)]
-mod device_tests;
-#[cfg(test)]
-mod gtp_tests;
-#[cfg(test)]
-mod outside_tests;
-#[cfg(test)]
-mod plain_tests;
-#[cfg(test)]
-mod play_tests;
-#[cfg(test)]
-mod source_tests;
-#[cfg(test)]
-mod tax_tests;
-#[cfg(test)]
-mod tests;
-#[cfg(test)]
-mod values_tests;

@@ -3,8 +3,8 @@
 ghost use Rattle.std.specs.Prelude.{◌≡◌, ◌<◌, ◌*◌, ◌++◌, All, IfOk, OnOk, flat_map, string_bytes};
 ghost use Rattle.endgame_run.specs.Refusal.{cycle_line, cycle_move, points_line, positions_line};
 
+use board_words::{colour_word, write_name};
 use go_grid::{Colour, Point, Size};
-use report::{colour_word, write_name};
 use std::alloc::{AllocError, Global};
 
 /// The line of a region of too many points.

@@ -6,7 +6,8 @@ ghost use Rattle.sgf_go.specs.Position.{IsFit};
 ghost use Rattle.endgame_solver.specs.Faults.{most_steps};
 ghost use Rattle.region_cut.specs.Cut.{AreRegionsOfPlay};
 ghost use Rattle.report.specs.Values.{IsRefusal};
-ghost use Rattle.endgame_run.specs.Refusal.{HasStatus, NamesPoints, NamesRegion, form_line, refusal_line};
+ghost use Rattle.endgame_run.specs.Refusal.{HasStatus, form_line, refusal_line};
+ghost use Rattle.endgame_run.specs.inner.Refusal.{NamesPoints, NamesRegion};
 ghost use Rattle.endgame_run.specs.inner.Top.{IsBegun, IsValuesReport};
 ghost use Rattle.endgame_run.specs.Verdict.{IsPositionAnswer};
 
@@ -17,6 +18,7 @@ use crate::status::Status;
 use endgame_solver::{Limits, SolveError, Solved};
 use game_text::Text;
 use go_grid::{Colour, Size};
+use local_graph::MOST_POSITIONS;
 use local_play::Steps;
 use play_session::Session;
 use report::{ValuesError, solve_text, values_text};
@@ -65,7 +67,7 @@ pub(crate) fn solve<L: Ledger>(
     steps: &mut Steps<L>,
 ) -> Result<Report, AllocError>
     requires fit { IsFit setup.now }
-    requires positions { limits.now.positions ≤ 1000000 }
+    requires positions { limits.now.positions ≤ MOST_POSITIONS }
     ensures answer { IfOk result (λ report. IsPositionAnswer
         (Question.Solve limits.now) setup.now report.status report.text) }
     ensures steps { (regions : List Region) → AreRegionsOfPlay setup.now.board regions
@@ -128,7 +130,7 @@ pub(crate) fn value<L: Ledger>(
     steps: &mut Steps<L>,
 ) -> Result<Report, AllocError>
     requires fit { IsFit setup.now }
-    requires positions { limits.now.positions ≤ 1000000 }
+    requires positions { limits.now.positions ≤ MOST_POSITIONS }
     ensures answer { IfOk result (λ report. IsPositionAnswer
         (Question.Values limits.now) setup.now report.status report.text) }
     ensures steps { (regions : List Region) → AreRegionsOfPlay setup.now.board regions
@@ -155,7 +157,7 @@ pub(crate) fn begin<L: Ledger>(
     steps: &mut Steps<L>,
 ) -> Result<Opened, AllocError>
     requires fit { IsFit setup.now }
-    requires positions { limits.now.positions ≤ 1000000 }
+    requires positions { limits.now.positions ≤ MOST_POSITIONS }
     ensures begun { IfOk result (IsBegun limits.now engine setup.now) }
     ensures steps { (regions : List Region) → AreRegionsOfPlay setup.now.board regions
         → steps.new ≤ steps.old + most_steps limits.now regions }

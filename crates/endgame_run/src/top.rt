@@ -5,7 +5,7 @@ ghost use Rattle.go_grid.specs.Region.{Region};
 ghost use Rattle.desk_io.specs.Outside.{Rose, ended};
 ghost use Rattle.sgf_go.specs.declared.settings.Setup.{Setup as Position};
 ghost use Rattle.sgf_go.specs.Position.{IsFit};
-ghost use Rattle.gd_words.specs.Job.{IsJob, JobView};
+ghost use Rattle.gd_words.specs.Job.{SayNoJob};
 ghost use Rattle.gd_words.specs.Viewed.{texts, viewed};
 ghost use Rattle.endgame_solver.specs.declared.limits.Limits.{Limits};
 ghost use Rattle.endgame_solver.specs.Faults.{most_steps};
@@ -13,7 +13,7 @@ ghost use Rattle.region_cut.specs.Cut.{AreRegionsOfPlay};
 ghost use Rattle.endgame_run.specs.Complete.{IsComplete};
 ghost use Rattle.endgame_run.specs.Engine.{AskForEngine, engine_limits};
 ghost use Rattle.endgame_run.specs.File.{TakesAtMost, count_of, dash, faults, outside, told_of, world};
-ghost use Rattle.endgame_run.specs.Found.{HasRanges};
+ghost use Rattle.endgame_run.specs.inner.Found.{HasRanges};
 ghost use Rattle.endgame_run.specs.Game.{EngineKeepsWin, IsGameRun};
 ghost use Rattle.endgame_run.specs.Output.{IsCaused, IsOutput, IsPartOutput};
 ghost use Rattle.endgame_run.specs.inner.Top.{AreToldSteps, IsAsked, IsFileRun, IsModest};
@@ -213,7 +213,7 @@ pub fn run<H: Shelf, S: Source, K: Sink, L: Ledger>(
         (faults (H.faults shelf.old) (H.faults shelf.new))
         (faults (S.faults lines.old) (S.faults lines.new)))
         (K.holds out.old) (K.holds out.new) result }
-    ensures outside_grammar { ((job : JobView) → ¬ IsJob (texts words.now) job)
+    ensures outside_grammar { SayNoJob (texts words.now)
         → (result ≡ Status.Usage) ⊎ (result ≡ Status.CannotWrite) }
     ensures complete { IsComplete (texts words.now)
         (outside (world (H.files shelf.old) (S.left lines.old))

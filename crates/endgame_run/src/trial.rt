@@ -1,7 +1,8 @@
 //! The boards of `trial`.
 
 ghost use Rattle.std.specs.Prelude.{◌≤◌, IfOk};
-ghost use Rattle.endgame_run.specs.Trial.{IsTrial, IsWantOfMemory};
+ghost use Rattle.endgame_run.specs.Trial.{IsTrial};
+ghost use Rattle.endgame_run.specs.inner.Trial.{IsWantOfMemory};
 ghost use Rattle.endgame_run.specs.inner.Top.{IsTrialRun};
 ghost use Rattle.endgame_run.specs.Verdict.{AreTrialSteps};
 
@@ -28,6 +29,7 @@ fn want_of_memory(fault: SolveError) -> AllocError
 {
     match fault {
         SolveError::Memory(cause) => cause,
+        // The caller has told all other faults: they end the trial by a line of their own.
         SolveError::Points(_, _) => unreachable!(),
         SolveError::Positions(_) => unreachable!(),
         SolveError::Cycle(_, _, _) => unreachable!(),

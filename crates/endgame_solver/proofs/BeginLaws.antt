@@ -1,5 +1,6 @@
 -- What a region's graph and values say of it: how many positions it has, that no form is too large, and where its moves are.
 use Rattle.std.proofs.Common.{◌≡◌, ℕ, ◌*◌, ◌^◌, ◌<◌, ◌≤◌, inl, inr, sym, ◌∙◌, subst, arith, List, [], ◌∷◌, ◌++◌, length, get_or, take, drop, true, false, nat_eq}
+use Rattle.local_graph.specs.declared.graph.TheConstants.{MOST_POSITIONS}
 use Rattle.std.specs.List.{All, AllPairs, Contains, list_any}
 use Rattle.std.proofs.Math.Nat.{mul-le-mul}
 use Rattle.std.proofs.lemmas.Bool.{cases_Bool, cases_lt, eqb-true}
@@ -40,9 +41,9 @@ pairs_push R xs y pairs new j k d lt short = elim (cases_lt k (length xs)) as (�
 ]
 
 -- a product of a million and 32 is as much as the sizes of values may be
-pub few_units : (positions cells scale : ℕ) → positions ≤ 1000000 → cells ≤ 32 → (positions * cells) * scale ≤ 32000000 * scale
+pub few_units : (positions cells scale : ℕ) → positions ≤ MOST_POSITIONS → cells ≤ 32 → (positions * cells) * scale ≤ 32000000 * scale
 few_units positions cells scale few small =
-    let area : positions * cells ≤ 1000000 * 32 = mul-le-mul {n₂ = 1000000} {m₂ = 32} few small in
+    let area : positions * cells ≤ MOST_POSITIONS * 32 = mul-le-mul {n₂ = MOST_POSITIONS} {m₂ = 32} few small in
     times (positions * cells) 32000000 scale (omega (arith, area))
   where
     times : (a b c : ℕ) → a ≤ b → a * c ≤ b * c

@@ -16,7 +16,8 @@ use Rattle.local_play.proofs.PackLemmas.{pack_same}
 use Rattle.local_graph.specs.declared.graph.Edge.{Edge}
 use Rattle.local_graph.specs.FiniteLocalPlay.{HasNoCycle}
 use Rattle.local_graph.specs.LocalGraph.{AreEdges, HasMoves, IsEdgeOf, IsGraph, IsReachable}
-use Rattle.local_graph.specs.Graph.{Graph, edges_at, no_edge}
+use Rattle.local_graph.specs.Graph.{Graph}
+use Rattle.local_graph.specs.inner.Graph.{edges_at, no_edge}
 use Rattle.local_graph.proofs.EdgeListLemmas.{node_inside}
 use Rattle.local_graph.proofs.OrderLemmas.{same_place}
 use Rattle.local_graph.proofs.PlayLemmas.{one_after, plays_long}
@@ -26,7 +27,7 @@ use Rattle.local_value.proofs.GraphLaws.{cells_at, move_of, next_place, position
 use Rattle.local_value.proofs.LocalLaws.{contains-cases, contains-head, contains-tail}
 use Rattle.region_book.specs.Shape.{colour_after}
 use Rattle.region_book.proofs.SymmetryLaws.{colour_back}
-use Rattle.endgame_solver.specs.Views.{Serves, own}
+use Rattle.endgame_solver.specs.inner.Views.{Serves, own}
 use Rattle.endgame_solver.specs.declared.views.View.{View}
 use Rattle.game_canon.proofs.NegationLaws.{chosen}
 use Rattle.endgame_solver.proofs.BeginLaws.{pairs_push}

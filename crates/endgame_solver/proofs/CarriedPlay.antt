@@ -12,7 +12,8 @@ use Rattle.go_grid.specs.declared.region.Touch.{Touch}
 use Rattle.go_grid.specs.Board.{other, stone}
 use Rattle.go_grid.specs.Region.{touch_at}
 use Rattle.go_grid.proofs.PathLemmas.{carried, leads_here, leads_start, leads_step}
-use Rattle.local_play.specs.LocalPlay.{held_at, is_stone, with_stone, Holds, InLocalChain, IsFree, IsLinked, IsLocalMove, IsNumberTaken, IsRemoved}
+use Rattle.local_play.specs.LocalPlay.{held_at, is_stone, with_stone, Holds, IsLinked, IsLocalMove, IsNumberTaken}
+use Rattle.local_play.specs.inner.LocalPlay.{InLocalChain, IsFree, IsRemoved}
 use Rattle.local_value.proofs.MoveList.{length-made, made, made-at}
 use Rattle.region_book.specs.declared.symmetry.Symmetry.{Symmetry}
 use Rattle.region_book.specs.Shape.{Carries, Direction, cell_after, colour_after, link, turned}

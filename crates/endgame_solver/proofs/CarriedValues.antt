@@ -23,7 +23,7 @@ use Rattle.region_book.proofs.SymmetryLaws.{back}
 use Rattle.endgame_solver.specs.ShapeValues.{game_after}
 use Rattle.endgame_solver.specs.inner.Sharing.{AreTurnedValues}
 use Rattle.endgame_solver.specs.inner.Solving.{IsGraphWithin, IsSolvedBy}
-use Rattle.endgame_solver.specs.Views.{Serves}
+use Rattle.endgame_solver.specs.inner.Views.{Serves}
 use Rattle.endgame_solver.specs.declared.limits.Limits.{Limits}
 use Rattle.endgame_solver.specs.declared.views.View.{View}
 use Rattle.endgame_solver.proofs.BeginLaws.{no_large_form}

@@ -31,7 +31,8 @@ use Rattle.region_cut.specs.LocalBoard.{HoldsPosition, IsLocal}
 use Rattle.region_cut.proofs.ApartLemmas.{only_region, other_kept}
 use Rattle.region_cut.proofs.LocalBoardLemmas.{holds_after, plays_locally}
 use Rattle.region_cut.proofs.FreedomLemmas.{point_contested}
-use Rattle.endgame_solver.specs.Regions.{no_region, region_at, InRegion}
+use Rattle.endgame_solver.specs.Regions.{no_region, region_at}
+use Rattle.endgame_solver.specs.inner.Regions.{InRegion}
 use Rattle.endgame_solver.specs.inner.WholeParts.{OthersStay, IsPlayedIn, IsPlayableIn, IsLocalPlay}
 use Rattle.go_grid.proofs.PlayLemmas.{long_after}
 

@@ -16,7 +16,7 @@ use Rattle.benson_life.specs.Region.{IsContested}
 use Rattle.whole_rules.specs.declared.states.Move.{Move}
 use Rattle.whole_rules.specs.declared.states.Move.TheVariants.{Stone, Spend, Half}
 use Rattle.whole_rules.specs.Walls.{Plays}
-use Rattle.whole_rules.specs.WholeGame.{State}
+use Rattle.whole_rules.specs.WholeGame.{Whole}
 use Rattle.whole_rules.proofs.WallLaws.{Keeps, keeps_move, keeps_start, keeps_plays}
 use Rattle.local_graph.specs.declared.cycle.CycleMove.{CycleMove}
 use Rattle.local_graph.specs.LocalGraph.{Plays as LocalPlays}
@@ -79,7 +79,7 @@ module _ (g : Board) (settled : IsSettled g) (regions : List Region) (cut : AreR
         alone = w.3;
       }
 
-  follows : (s t : State) (ms : List Move) (positions : List (List Cell)) (k : ℕ) → Keeps g s → Held positions s.board → Plays s ms t → k < length regions
+  follows : (s t : Whole) (ms : List Move) (positions : List (List Cell)) (k : ℕ) → Keeps g s → Held positions s.board → Plays s ms t → k < length regions
       → FollowsFrom (region_at regions k) (get_or positions k []) s.side ms t.board
   follows s t [] positions k keeps held e lt =
       record { moves = []; are = refl; cells = get_or positions k []; plays = refl; holds = subst (λ z. HoldsPosition g (region_at regions k) (get_or positions k []) z.board) e (held.each k no_region lt) }

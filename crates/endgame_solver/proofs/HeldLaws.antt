@@ -7,6 +7,7 @@ use Rattle.go_grid.specs.declared.grid.Cell.TheVariants.{Empty}
 use Rattle.go_grid.specs.Board.{Board}
 use Rattle.go_grid.specs.Region.{Region}
 use Rattle.whole_rules.specs.PlainRecursion.{MoverWins, MoverLoses}
+use Rattle.whole_rules.specs.WholeGame.{Whole}
 use Rattle.whole_rules.specs.WholeGame as whole
 use Rattle.local_graph.specs.Graph.{Graph}
 use Rattle.region_cut.specs.LocalBoard.{HoldsPosition}
@@ -18,11 +19,12 @@ use Rattle.short_games.proofs.NumberLaws.{num-double}
 use Rattle.sum_outcome.specs.Players.{LosesGame}
 use Rattle.local_value.specs.PositionTree.{IsValueOf}
 use Rattle.sum_outcome.specs.Sums.{sum_tree}
-use Rattle.endgame_solver.specs.Regions.{Spot, region_at, AreGraphs, spot_in, moves_at, InRegion, HasCells, IsShown}
+use Rattle.endgame_solver.specs.Regions.{region_at}
+use Rattle.endgame_solver.specs.inner.Regions.{Spot, AreGraphs, spot_in, moves_at, InRegion, HasCells, IsShown}
 use Rattle.endgame_solver.specs.SumGame.{State, balance}
 use Rattle.endgame_solver.specs.inner.Valued.{AreValued}
 use Rattle.endgame_solver.specs.inner.WholeParts.{AllShown, IsSeenAs}
-use Rattle.endgame_solver.specs.Held.{AreSolved, IsAt, AreSummed, place_at}
+use Rattle.endgame_solver.specs.inner.Held.{AreSolved, IsAt, AreSummed, place_at}
 use Rattle.endgame_solver.specs.Solved.{ArePresent, HoldsCells, balance_units}
 use Rattle.endgame_solver.proofs.BoardLaws.{enough}
 use Rattle.endgame_solver.proofs.ValueSumLaws.{decided_by_values}
@@ -83,14 +85,14 @@ module _ (g : Board) (regions : List Region) (graphs : List Graph) (are : AreGra
   )
 
 module _ (g : Board) (regions : List Region) (graphs : List Graph) (values : List (List ℕ)) (Ts : List Tree) (are : AreSolved g regions graphs values Ts) where
-  abbrev seen_as : (s : whole.State) (places : List ℕ) → State Spot
+  abbrev seen_as : (s : Whole) (places : List ℕ) → State Spot
   seen_as s places = record { parts = spots 0 places; purses = s.purses; side = s.side }
 
   -- Who loses is the sign of the sum of the values and of the balance.
-  decided : (s : whole.State) (places ids : List ℕ) → IsAt g regions graphs places s → length ids ≡ length places
+  decided : (s : Whole) (places ids : List ℕ) → IsAt g regions graphs places s → length ids ≡ length places
       → ((j : ℕ) → j < length places → Worth g regions graphs are.cut Ts j (place_at places j) (get_or ids j 0))
-      → (MoverWins whole.State whole.Leads s ⊎ MoverLoses whole.State whole.Leads s)
-      × (MoverLoses whole.State whole.Leads s ↔ LosesGame s.side (sum_tree Ts ids (balance_units s)))
+      → (MoverWins Whole whole.Leads s ⊎ MoverLoses Whole whole.Leads s)
+      × (MoverLoses Whole whole.Leads s ↔ LosesGame s.side (sum_tree Ts ids (balance_units s)))
   decided s places ids at e w =
       let n = enough g regions graphs are.cut in
       let seen : IsSeenAs Spot (moves_at graphs) (InRegion regions) (IsShown g regions graphs) (length regions) s (seen_as s places) = record {
@@ -107,18 +109,18 @@ module _ (g : Board) (regions : List Region) (graphs : List Graph) (values : Lis
       )
 
   -- the same of the ids that are kept
-  pub decided_now : (s : whole.State) (places ids : List ℕ) → IsAt g regions graphs places s → AreSummed regions values places ids
-      → (MoverWins whole.State whole.Leads s ⊎ MoverLoses whole.State whole.Leads s)
-      × (MoverLoses whole.State whole.Leads s ↔ LosesGame s.side (sum_tree Ts ids (balance_units s)))
+  pub decided_now : (s : Whole) (places ids : List ℕ) → IsAt g regions graphs places s → AreSummed regions values places ids
+      → (MoverWins Whole whole.Leads s ⊎ MoverLoses Whole whole.Leads s)
+      × (MoverLoses Whole whole.Leads s ↔ LosesGame s.side (sum_tree Ts ids (balance_units s)))
   decided_now s places ids at summed = decided s places ids at (summed.many ∙ sym at.many) (λ j lt.
       let known : j < length regions = omega (arith, lt, at.many) in
       let shown = at.shown j known in
       (shown.0, shown.1, subst (λ z. IsValueOf (region_at regions j).touch shown.0 (tree_at Ts z)) (sym (summed.each j known)) ((are.valued j known).each (place_at places j) shown.0 shown.1.at)))
 
   -- and of any ids of the present values
-  pub decided_present : (s : whole.State) (places ids : List ℕ) → IsAt g regions graphs places s → ArePresent (record { regions = regions; trees = Ts; state = s }) ids
-      → (MoverWins whole.State whole.Leads s ⊎ MoverLoses whole.State whole.Leads s)
-      × (MoverLoses whole.State whole.Leads s ↔ LosesGame s.side (sum_tree Ts ids (balance_units s)))
+  pub decided_present : (s : Whole) (places ids : List ℕ) → IsAt g regions graphs places s → ArePresent (record { regions = regions; trees = Ts; state = s }) ids
+      → (MoverWins Whole whole.Leads s ⊎ MoverLoses Whole whole.Leads s)
+      × (MoverLoses Whole whole.Leads s ↔ LosesGame s.side (sum_tree Ts ids (balance_units s)))
   decided_present s places ids at present = decided s places ids at (present.many ∙ sym at.many) (λ j lt.
       let known : j < length regions = omega (arith, lt, at.many) in
       let shown = at.shown j known in

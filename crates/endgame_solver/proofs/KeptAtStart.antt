@@ -1,5 +1,6 @@
 -- What a solved game keeps, at the opening.
 use Rattle.std.proofs.Common.{◌≡◌, ℕ, ◌^◌, ◌<◌, ◌≤◌, sym, ap, ◌∙◌, subst, arith, List, [], length, get_or, map, replicate, ℤ, unsigned_abs, Bool}
+use Rattle.local_graph.specs.declared.graph.TheConstants.{MOST_POSITIONS}
 use Rattle.std.specs.List.{All, Contains}
 use Rattle.std.proofs.lemmas.List.{get_or-map, get_or-replicate, get_or_default, length-map, length-replicate}
 use Rattle.std.proofs.lemmas.List.Elements.{Contains-get_or}
@@ -9,15 +10,16 @@ use Rattle.go_grid.specs.Board.{Board}
 use Rattle.go_grid.specs.Region.{Region}
 use Rattle.benson_life.proofs.HeldLemmas.{short}
 use Rattle.whole_rules.specs.Opening.{IsOpening}
-use Rattle.whole_rules.specs.WholeGame.{State}
+use Rattle.whole_rules.specs.WholeGame.{Whole}
 use Rattle.whole_rules.proofs.WallLaws.{keeps_start}
 use Rattle.local_graph.specs.Graph.{Graph}
 use Rattle.region_cut.specs.Cut.{lowest, AreRegionsOfPlay}
 use Rattle.region_cut.specs.LocalBoard.{PlaysLocally}
 use Rattle.short_games.specs.Tree.{Tree}
 use Rattle.endgame_solver.specs.Faults.{AreSound, IsSound}
-use Rattle.endgame_solver.specs.Held.{AreSolved, AreSummed, IsAt, IsKept, ids_at, place_at}
-use Rattle.endgame_solver.specs.Regions.{AreGraphs, IsShown, graph_at, no_region, region_at, spot_in}
+use Rattle.endgame_solver.specs.inner.Held.{AreSolved, AreSummed, IsAt, IsKept, ids_at, place_at}
+use Rattle.endgame_solver.specs.Regions.{no_region, region_at}
+use Rattle.endgame_solver.specs.inner.Regions.{AreGraphs, IsShown, graph_at, spot_in}
 use Rattle.endgame_solver.specs.inner.Solving.{AreSolvedBelow}
 use Rattle.endgame_solver.specs.declared.limits.Limits.{Limits}
 use Rattle.endgame_solver.proofs.BeginLaws.{order_short}
@@ -39,7 +41,7 @@ few_regions g regions are few =
 
 module _ (limits : Limits) (g : Board) (regions : List Region) (graphs : List Graph) (values : List (List ℕ)) (Ts : List Tree) (settled : IsSettled g)
     (are : AreRegionsOfPlay g regions) (local : (r : Region) → Contains regions r → PlaysLocally g r) (few : length g.cells ≤ 625)
-    (limit : limits.positions ≤ 1000000) (done : AreSolvedBelow limits regions graphs values Ts (length regions)) where
+    (limit : limits.positions ≤ MOST_POSITIONS) (done : AreSolvedBelow limits regions graphs values Ts (length regions)) where
   are_graphs : AreGraphs g regions graphs
   are_graphs = record {
     cut = are;
@@ -49,7 +51,7 @@ module _ (limits : Limits) (g : Board) (regions : List Region) (graphs : List Gr
     each = λ k lt. (done.each k lt).graph.graph;
   }
 
-  short_order : (k : ℕ) → k < length regions → length (graph_at graphs k).order ≤ 1000000
+  short_order : (k : ℕ) → k < length regions → length (graph_at graphs k).order ≤ MOST_POSITIONS
   short_order k lt =
       let of = (done.each k lt).graph in
       omega (arith, order_short (graph_at graphs k).edges (graph_at graphs k).order of.graph.order, of.graph.graph.beside, of.few, limit)
@@ -69,7 +71,7 @@ module _ (limits : Limits) (g : Board) (regions : List Region) (graphs : List Gr
   pub are_sound : AreSound limits regions
   are_sound r (k, lt, at) = subst (IsSound limits) (get_or_default regions k no_region r lt ∙ at) (done.each k lt).sound
 
-  module _ (black white : ℕ) (komi : ℤ) (side : Colour) (tax : Bool) (s : State) (opening : IsOpening g black white komi side tax s) (places sum : List ℕ)
+  module _ (black white : ℕ) (komi : ℤ) (side : Colour) (tax : Bool) (s : Whole) (opening : IsOpening g black white komi side tax s) (places sum : List ℕ)
       (first : places ≡ replicate (length regions) 0) (ids : sum ≡ map (λ xs. get_or xs 0 0) values) where
     many_places : length places ≡ length regions
     many_places = ap length first ∙ length-replicate (length regions) 0

@@ -10,7 +10,7 @@ use Rattle.whole_rules.specs.declared.money.Token.TheVariants as token
 use Rattle.whole_rules.specs.declared.states.Move.{Move}
 use Rattle.whole_rules.specs.declared.states.Move.TheVariants.{Stone, Spend, Half}
 use Rattle.whole_rules.specs.Purses.{purse, paid_in, paid_out, halved}
-use Rattle.whole_rules.specs.WholeGame.{State}
+use Rattle.whole_rules.specs.WholeGame.{Whole}
 use Rattle.endgame_solver.specs.Bookkeeping.{own, gains, spends, reward, rewards, PursesFollow}
 
 paid-in : (c d : Colour) (n : ℕ) (m : Purses) → purse c (paid_in d n m) ≡ purse c m + own c d n
@@ -68,7 +68,7 @@ own-none Black White = refl
 own-none White Black = refl
 
 -- what follows from a state whose purses and side are known
-from_after : (c d : Colour) (u t : State) (ms : List Move) (ns : List ℕ) (m : Purses) → u.purses ≡ m → u.side ≡ d
+from_after : (c d : Colour) (u t : Whole) (ms : List Move) (ns : List ℕ) (m : Purses) → u.purses ≡ m → u.side ≡ d
     → purse c t.purses + spends c u.side ms ≡ purse c u.purses + gains c u.side ns + rewards c u.side u.purses.token ms
     → purse c t.purses + spends c d ms ≡ purse c m + gains c d ns + rewards c d m.token ms
 from_after c d u t ms ns m e side h =

@@ -1,7 +1,7 @@
 -- An array of 32 places that is filled place by place, and the negatives of values one after the other.
-use Rattle.std.proofs.Common.{◌≡◌, ◌≢◌, ℕ, ◌+◌, ◌<◌, ◌↔◌, inl, inr, sym, ap, ◌∙◌, subst, arith, List, [], ◌∷◌, ◌++◌, length, get_or, set, take, drop, replicate, below_more, Bool, true, Option, Some, None}
+use Rattle.std.proofs.Common.{◌≡◌, ◌≢◌, ℕ, ◌+◌, ◌<◌, ◌↔◌, inl, inr, sym, ap, ◌∙◌, subst, arith, List, [], ◌∷◌, ◌++◌, length, get_or, set, take, drop, below_more, Bool, true, Option, Some, None}
 use Rattle.std.proofs.lemmas.Bool.{cases_eq}
-use Rattle.std.proofs.lemmas.List.{get_or_append_left, get_or_push, get_or-set_other, get_or-set_same, length_push, length-replicate, length-set, take-append-le}
+use Rattle.std.proofs.lemmas.List.{get_or_append_left, get_or_push, get_or-set_other, get_or-set_same, length_push, length-set, take-append-le}
 use Rattle.std.proofs.Math.Seq.{take-length}
 use Rattle.game_store.specs.Meaning.{AreIds, Extends}
 use Rattle.short_games.specs.Tree.{tree_at, Tree, neg}
@@ -16,9 +16,6 @@ use Rattle.endgame_solver.specs.inner.Sharing.{AreNegatives, IsTurnedValue}
 pub record Filled (Is : ℕ → ℕ → Type 0) (n : ℕ) (places : List ℕ) : Type 0 where
   pub long : length places ≡ 32
   pub placed : (i : ℕ) → i < n → Is i (get_or places i 0)
-
-pub filled_none : (Is : ℕ → ℕ → Type 0) (places : List ℕ) → places ≡ replicate 32 0 → Filled Is 0 places
-filled_none Is places e = record { long = ap length e ∙ length-replicate {A = ℕ} 32 0; placed = λ i lt. absurd (omega (arith, lt)) }
 
 pub filled_more : (Is : ℕ → ℕ → Type 0) (n : ℕ) (places : List ℕ) (x : ℕ) → Filled Is n places → n < 32 → Is n x → Filled Is (n + 1) (set places n x)
 filled_more Is n places x f few is = record {

@@ -11,14 +11,16 @@ use Rattle.benson_life.specs.Region.{IsContested}
 use Rattle.benson_life.specs.Walls.{WallsStand}
 use Rattle.local_play.specs.LocalPlay.{IsLocalMove}
 use Rattle.local_graph.specs.declared.graph.Edge.{Edge}
-use Rattle.local_graph.specs.Graph.{Graph, edges_at}
+use Rattle.local_graph.specs.Graph.{Graph}
+use Rattle.local_graph.specs.inner.Graph.{edges_at}
 use Rattle.go_grid.proofs.WalkLemmas.{joined_end}
 use Rattle.region_cut.specs.Cut.{lowest}
 use Rattle.region_cut.specs.LocalBoard.{HoldsPosition, IsLocal}
 use Rattle.region_cut.proofs.ApartLemmas.{only_region, other_kept}
 use Rattle.region_cut.proofs.LocalBoardLemmas.{holds_after}
 use Rattle.local_value.specs.LocalGame.{Step}
-use Rattle.endgame_solver.specs.Regions.{Spot, no_region, region_at, graph_at, AreGraphs, spot_in, moves_at, InRegion, HasCells, IsShown}
+use Rattle.endgame_solver.specs.Regions.{no_region, region_at}
+use Rattle.endgame_solver.specs.inner.Regions.{Spot, graph_at, AreGraphs, spot_in, moves_at, InRegion, HasCells, IsShown}
 use Rattle.endgame_solver.specs.inner.WholeParts.{OthersStay, IsPlayedIn, IsPlayableIn, IsLocalPlay}
 use Rattle.local_value.specs.inner.GraphMoves.{step_of}
 use Rattle.local_value.proofs.GraphLaws.{IsEdgeFor, edge_of, move_of, next_place}

@@ -5,7 +5,8 @@ use Rattle.std.proofs.lemmas.List.{get_or_past}
 use Rattle.go_grid.specs.declared.grid.Cell.{Cell}
 use Rattle.go_grid.specs.Board.{Board}
 use Rattle.go_grid.specs.Region.{Region}
-use Rattle.local_graph.specs.Graph.{Graph, edges_at}
+use Rattle.local_graph.specs.Graph.{Graph}
+use Rattle.local_graph.specs.inner.Graph.{edges_at}
 use Rattle.local_graph.proofs.EdgeListLemmas.{node_inside}
 use Rattle.short_games.specs.Tree.{Tree}
 use Rattle.short_games.specs.Order.{◌≡ᵍ◌}
@@ -15,7 +16,8 @@ use Rattle.local_value.specs.PositionTree.{IsTreeOf}
 use Rattle.local_value.proofs.GraphLaws.{taken_less}
 use Rattle.local_value.proofs.GraphTreeLaws as graph
 use Rattle.local_value.proofs.StepLaws.{steps-out}
-use Rattle.endgame_solver.specs.Regions.{Spot, region_at, graph_at, no_graph, AreGraphs, spot_in, moves_at, HasCells}
+use Rattle.endgame_solver.specs.Regions.{region_at}
+use Rattle.endgame_solver.specs.inner.Regions.{Spot, graph_at, no_graph, AreGraphs, spot_in, moves_at, HasCells}
 
 module _ (g : Board) (regions : List Region) (graphs : List Graph) (are : AreGraphs g regions graphs) where
   -- a region's place by its number

@@ -10,7 +10,7 @@ use Rattle.game_store.specs.Meaning.{pick}
 use Rattle.game_canon.specs.Outcomes.{AreWithin}
 use Rattle.sum_outcome.specs.Sums.{AreBounds, IsBounded}
 use Rattle.endgame_solver.specs.SumGame.{balance, halves}
-use Rattle.endgame_solver.specs.Held.{AreModest, most_units}
+use Rattle.endgame_solver.specs.inner.Held.{AreModest, most_units}
 
 pub small_balance : (m : Purses) → AreModest m → unsigned_abs (balance m) ≤ 2 ^ 45
 small_balance m few = size m.black m.white (halves m.token) few.black few.white (half m.token)

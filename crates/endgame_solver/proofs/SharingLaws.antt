@@ -5,7 +5,8 @@ use Rattle.std.proofs.lemmas.List.{get_or_append_left, get_or_default, get_or_pa
 use Rattle.std.proofs.lemmas.List.Elements.{Contains-get_or}
 use Rattle.go_grid.specs.Region.{Region, AreLinks, IsLink, IsRegion, nothing_near, touch_at}
 use Rattle.local_graph.specs.declared.graph.Edge.{Edge}
-use Rattle.local_graph.specs.Graph.{Graph, edges_at}
+use Rattle.local_graph.specs.Graph.{Graph}
+use Rattle.local_graph.specs.inner.Graph.{edges_at}
 use Rattle.local_value.proofs.GraphLaws.{cells_at, move_of}
 use Rattle.local_graph.proofs.PlayLemmas.{plays_long}
 use Rattle.game_store.specs.Forms.{HaveForms}
@@ -21,16 +22,17 @@ use Rattle.region_book.specs.declared.shapes.Turn.{Turn}
 use Rattle.region_book.specs.declared.spots.Spot.{Spot}
 use Rattle.region_book.proofs.ShapeLaws.{pairs_places, tells_shapes}
 use Rattle.endgame_solver.specs.Faults.{AreSmall}
-use Rattle.endgame_solver.specs.Held.{ids_at}
-use Rattle.endgame_solver.specs.Regions.{graph_at, no_graph, no_region, region_at}
+use Rattle.endgame_solver.specs.inner.Held.{ids_at}
+use Rattle.endgame_solver.specs.Regions.{no_region, region_at}
+use Rattle.endgame_solver.specs.inner.Regions.{graph_at, no_graph}
 use Rattle.endgame_solver.specs.ShapeValues.{AreLinked}
 use Rattle.endgame_solver.specs.inner.Sharing.{AreKinds, AreSharedBy, AreTurnedValues, IsKind, IsViewFor, SharesBelow}
 use Rattle.endgame_solver.specs.Solved.{IsNumberOfShapes}
 use Rattle.endgame_solver.specs.inner.Solving.{IsSolvedBy}
-use Rattle.endgame_solver.specs.Views.{AreViews, Serves, IsView, no_view, own, view_at}
+use Rattle.endgame_solver.specs.inner.Views.{AreViews, Serves, IsView, no_view, own, view_at}
 use Rattle.endgame_solver.specs.declared.limits.Limits.{Limits}
-use Rattle.endgame_solver.specs.declared.sharing.Book.{Book}
-use Rattle.endgame_solver.specs.declared.sharing.Kind.{Kind}
+use Rattle.endgame_solver.specs.declared.view_book.Book.{Book}
+use Rattle.endgame_solver.specs.declared.view_book.Kind.{Kind}
 use Rattle.endgame_solver.specs.declared.views.View.{View}
 use Rattle.game_canon.proofs.NegationLaws.{chosen}
 use Rattle.endgame_solver.proofs.BeginLaws.{pairs_push}
@@ -348,15 +350,6 @@ module _ (limits : Limits) (regions : List Region) where
       subst (λ vs. SharesBelow limits regions shared held' vs kinds Us (n + 1)) (sym pushed)
       (shares_seen shared held' views kinds Us n j x t v g later short has (subst (λ z. IsShape z z.cells x t) at shape) view.graph view.values see
       (subst (λ z. IsSolvedBy limits z g Us (ids_at held' v.values)) at here))
-
-  pub shares_none : (Ts : List Tree) → SharesBelow limits regions [] [] [] [] Ts 0
-  shares_none Ts = record {
-    graphs = [];
-    values = [];
-    solved = record { as_many_graphs = refl; as_many_values = refl; each = λ k lt. absurd (omega (arith, lt)) };
-    views_are = record { many = refl; each = λ k lt. absurd (omega (arith, lt)) };
-    kinds_are = record { many = refl; each = λ j kind lt. absurd (omega (arith, lt)); apart = λ j k d lt short. absurd (omega (arith, short)); every = λ k lt. absurd (omega (arith, lt)) };
-  }
 
   -- the kinds are as many as the shapes
   shapes_of : (shared : List Graph) (held : List (List ℕ)) (kinds : List Kind) (Ts : List Tree) → AreKinds limits regions shared held kinds Ts (length regions)

@@ -10,8 +10,9 @@ use Rattle.game_store.specs.Meaning.{Extends}
 use Rattle.game_canon.specs.Outcomes.{AreWithin}
 use Rattle.local_value.specs.PositionTree.{IsValueOf}
 use Rattle.endgame_solver.specs.Faults.{AreRefused, AreSmall, most_steps}
-use Rattle.endgame_solver.specs.Held.{ids_at, most_units}
-use Rattle.endgame_solver.specs.Regions.{no_graph, no_region, region_at, graph_at}
+use Rattle.endgame_solver.specs.inner.Held.{ids_at, most_units}
+use Rattle.endgame_solver.specs.Regions.{no_region, region_at}
+use Rattle.endgame_solver.specs.inner.Regions.{no_graph, graph_at}
 use Rattle.endgame_solver.specs.inner.Solving.{AreSolvedBelow, IsRefusalOf, IsSolvedBy}
 use Rattle.endgame_solver.specs.declared.limits.Limits.{Limits}
 use Rattle.endgame_solver.specs.declared.faults.SolveError.{SolveError}

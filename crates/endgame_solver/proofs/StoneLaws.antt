@@ -16,16 +16,18 @@ use Rattle.whole_rules.specs.declared.money.Token.{Token}
 use Rattle.whole_rules.specs.declared.money.Token.TheVariants as token
 use Rattle.whole_rules.specs.declared.states.Move.TheVariants.{Stone, Spend, Half}
 use Rattle.whole_rules.specs.Purses.{purse, paid_in, paid_out, halved}
-use Rattle.whole_rules.specs.WholeGame.{State, IsMove, IsLegal, after}
+use Rattle.whole_rules.specs.WholeGame.{Whole, IsMove, IsLegal, after}
 use Rattle.whole_rules.proofs.WallLaws.{Keeps, keeps_move}
 use Rattle.local_play.specs.LocalPlay.{IsLocalMove, IsNumberTaken as IsLocalNumberTaken}
 use Rattle.local_graph.specs.declared.graph.Edge.{Edge}
-use Rattle.local_graph.specs.Graph.{Graph, edges_at}
+use Rattle.local_graph.specs.Graph.{Graph}
+use Rattle.local_graph.specs.inner.Graph.{edges_at}
 use Rattle.region_cut.specs.LocalBoard.{HoldsPosition}
 use Rattle.short_games.specs.Tree.{Tree}
 use Rattle.local_value.proofs.GraphLaws.{IsEdgeFor, edge_of, move_of, taken_less}
-use Rattle.endgame_solver.specs.Regions.{region_at, graph_at, spot_in, HasCells, IsShown}
-use Rattle.endgame_solver.specs.Held.{AreSolved, IsAt, HasRoom, IsStoneEdge, place_at, token_left}
+use Rattle.endgame_solver.specs.Regions.{region_at}
+use Rattle.endgame_solver.specs.inner.Regions.{graph_at, spot_in, HasCells, IsShown}
+use Rattle.endgame_solver.specs.inner.Held.{AreSolved, IsAt, HasRoom, IsStoneEdge, place_at, token_left}
 use Rattle.endgame_solver.proofs.RegionPlayLaws.{region_in, region_play, shown_after}
 
 -- a set place is the new one, and the others are as they were
@@ -36,7 +38,7 @@ place-set_other : (places : List ℕ) (j k i : ℕ) → j ≢ k → place_at (se
 place-set_other places j k i ne = get_or-set_other places k j i 0 ne
 
 module _ (g : Board) (regions : List Region) (graphs : List Graph) (values : List (List ℕ)) (Ts : List Tree) (are : AreSolved g regions graphs values Ts)
-    (s : State) (places : List ℕ) (at : IsAt g regions graphs places s) where
+    (s : Whole) (places : List ℕ) (at : IsAt g regions graphs places s) where
   keeps : Keeps g s
   keeps = record { walls = at.walls; contested = at.contested }
 
@@ -90,7 +92,7 @@ module _ (g : Board) (regions : List Region) (graphs : List Graph) (values : Lis
       )
 
   -- a stone is an edge
-  pub stone_edge : (t : State) (p : ℕ) → IsMove s (Stone p) t → (k : ℕ) × ((e : Edge) × IsStoneEdge regions graphs places s.side p k e)
+  pub stone_edge : (t : Whole) (p : ℕ) → IsMove s (Stone p) t → (k : ℕ) × ((e : Edge) × IsStoneEdge regions graphs places s.side p k e)
   stone_edge t p (mark, (h, (n, placed, number, is))) =
       let (k, known, (i, short, there)) = (region_play g regions graphs are.cut).covers p ((at.contested p).0 mark) in
       let r = region_at regions k in
@@ -115,12 +117,12 @@ module _ (g : Board) (regions : List Region) (graphs : List Graph) (values : Lis
       )
 
   -- what a stone leads to
-  pub record StoneLeads (t : State) (k : ℕ) (e : Edge) : Type 0 where
+  pub record StoneLeads (t : Whole) (k : ℕ) (e : Edge) : Type 0 where
     pub held : IsAt g regions graphs (set places k e.next) t
     pub purses : t.purses ≡ paid_in s.side e.taken s.purses
     pub turn : t.side ≡ other s.side
 
-  pub stone_leads : (t : State) (p k : ℕ) (e : Edge) → IsStoneEdge regions graphs places s.side p k e → IsMove s (Stone p) t → StoneLeads t k e
+  pub stone_leads : (t : Whole) (p k : ℕ) (e : Edge) → IsStoneEdge regions graphs places s.side p k e → IsMove s (Stone p) t → StoneLeads t k e
   stone_leads t p k e x m =
       let h = m.1.0 in
       let n = m.1.1.0 in
@@ -152,18 +154,18 @@ module _ (g : Board) (regions : List Region) (graphs : List Graph) (values : Lis
         turn = ap (λ z. z.side) is;
       }
 
-  pub spend_leads : (t : State) → IsMove s Spend t → IsAt g regions graphs places t
+  pub spend_leads : (t : Whole) → IsMove s Spend t → IsAt g regions graphs places t
   spend_leads t m =
       let kept = keeps_move g are.settled s t Spend keeps m in
       record { many = at.many; walls = kept.walls; contested = kept.contested; shown = λ j lt. subst (λ z. IsShown g regions graphs z.board j (spot_in j (place_at places j))) (sym m.1) (at.shown j lt) }
 
-  pub half_leads : (t : State) → IsMove s Half t → IsAt g regions graphs places t
+  pub half_leads : (t : Whole) → IsMove s Half t → IsAt g regions graphs places t
   half_leads t m =
       let kept = keeps_move g are.settled s t Half keeps m in
       record { many = at.many; walls = kept.walls; contested = kept.contested; shown = λ j lt. subst (λ z. IsShown g regions graphs z.board j (spot_in j (place_at places j))) (sym m.1) (at.shown j lt) }
 
   -- the purses stay below their bound
-  pub stone_room : HasRoom graphs places s → (t : State) (p k : ℕ) (e : Edge) → IsStoneEdge regions graphs places s.side p k e → StoneLeads t k e
+  pub stone_room : HasRoom graphs places s → (t : Whole) (p k : ℕ) (e : Edge) → IsStoneEdge regions graphs places s.side p k e → StoneLeads t k e
       → HasRoom graphs (set places k e.next) t
   stone_room room t p k e x leads =
       let short : k < length places = omega (arith, x.known, at.many) in
@@ -199,7 +201,7 @@ module _ (g : Board) (regions : List Region) (graphs : List Graph) (values : Lis
       paid Black White m n old new few less le = omega (arith, few, less, le)
       paid White Black m n old new few less le = omega (arith, few, less, le)
 
-  pub spend_room : HasRoom graphs places s → (t : State) → IsMove s Spend t → HasRoom graphs places t
+  pub spend_room : HasRoom graphs places s → (t : Whole) → IsMove s Spend t → HasRoom graphs places t
   spend_room room t m = record {
     ranks = room.ranks;
     many = room.many;
@@ -214,7 +216,7 @@ module _ (g : Board) (regions : List Region) (graphs : List Graph) (values : Lis
       spent Black White m n le = omega (arith, le)
       spent White Black m n le = omega (arith, le)
 
-  pub half_room : HasRoom graphs places s → (t : State) → IsMove s Half t → HasRoom graphs places t
+  pub half_room : HasRoom graphs places s → (t : Whole) → IsMove s Half t → HasRoom graphs places t
   half_room room t m = record {
     ranks = room.ranks;
     many = room.many;

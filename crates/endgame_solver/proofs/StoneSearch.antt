@@ -8,12 +8,13 @@ use Rattle.go_grid.specs.Region.{Region}
 use Rattle.whole_rules.specs.declared.states.Move.{Move}
 use Rattle.whole_rules.specs.declared.states.Move.TheVariants.{Stone, Spend, Half}
 use Rattle.whole_rules.specs.FirstWinningMove.{IsWinning, IsFirstWinning}
-use Rattle.whole_rules.specs.WholeGame.{State, rank}
+use Rattle.whole_rules.specs.WholeGame.{Whole, rank}
 use Rattle.local_graph.specs.declared.graph.Edge.{Edge}
-use Rattle.local_graph.specs.Graph.{Graph, no_edge}
-use Rattle.endgame_solver.specs.Held.{IsStoneAt, IsStoneEdge, IsFirstStone}
-use Rattle.endgame_solver.specs.Views.{ShowsAll, own}
-use Rattle.endgame_solver.specs.declared.sharing.Book.{Book}
+use Rattle.local_graph.specs.Graph.{Graph}
+use Rattle.local_graph.specs.inner.Graph.{no_edge}
+use Rattle.endgame_solver.specs.inner.Held.{IsStoneAt, IsStoneEdge, IsFirstStone}
+use Rattle.endgame_solver.specs.inner.Views.{ShowsAll, own}
+use Rattle.endgame_solver.specs.declared.view_book.Book.{Book}
 use Rattle.endgame_solver.specs.declared.views.View.{View}
 
 -- none of the first n edges stands for a move of the stone
@@ -33,19 +34,19 @@ none_before_more r v edges c p n none before j f less short at stone = elim (cas
 ]
 
 -- a stone that wins is at a contested point
-pub contested-winning : (s : State) (p : ℕ) → IsWinning s (Stone p) → IsMarked s.contested p
+pub contested-winning : (s : Whole) (p : ℕ) → IsWinning s (Stone p) → IsMarked s.contested p
 contested-winning s p w = w.1.0
 
 -- no stone below n wins
-abbrev pub NoStone : State → ℕ → Type 0
+abbrev pub NoStone : Whole → ℕ → Type 0
 NoStone s n = (q : ℕ) → q < n → ¬ IsWinning s (Stone q)
 
 -- a stone that wins is on the board
-pub no_stone_end : (s : State) (n : ℕ) → length s.board.cells ≤ n → NoStone s n → IsFirstStone s None
+pub no_stone_end : (s : Whole) (n : ℕ) → length s.board.cells ≤ n → NoStone s n → IsFirstStone s None
 no_stone_end s n le none q (t, (mark, (h, (k, placed, number, is))), lost) = none q (omega (arith, placed.1.place, le)) (t, (mark, (h, (k, placed, number, is))), lost)
 
 -- the first winning move, by the stones, the point spent and the half
-pub first_stone : (s : State) (p : ℕ) → IsFirstStone s (Some p) → IsFirstWinning s (Some (Stone p))
+pub first_stone : (s : Whole) (p : ℕ) → IsFirstStone s (Some p) → IsFirstWinning s (Some (Stone p))
 first_stone s p w = (w.1, λ m x. least m x)
   where
     least : (m : Move) → IsWinning s m → p ≤ rank m
@@ -56,7 +57,7 @@ first_stone s p w = (w.1, λ m x. least m x)
     least Spend x = omega (arith, w.0)
     least Half x = omega (arith, w.0)
 
-pub first_spend : (s : State) → IsFirstStone s None → IsWinning s Spend → IsFirstWinning s (Some Spend)
+pub first_spend : (s : Whole) → IsFirstStone s None → IsWinning s Spend → IsFirstWinning s (Some Spend)
 first_spend s none w = (w, λ m x. least m x)
   where
     least : (m : Move) → IsWinning s m → 625 ≤ rank m
@@ -64,7 +65,7 @@ first_spend s none w = (w, λ m x. least m x)
     least Spend x = omega arith
     least Half x = omega arith
 
-pub first_half : (s : State) → IsFirstStone s None → ¬ IsWinning s Spend → IsWinning s Half → IsFirstWinning s (Some Half)
+pub first_half : (s : Whole) → IsFirstStone s None → ¬ IsWinning s Spend → IsWinning s Half → IsFirstWinning s (Some Half)
 first_half s none not w = (w, λ m x. least m x)
   where
     least : (m : Move) → IsWinning s m → 626 ≤ rank m

@@ -5,6 +5,7 @@ use Rattle.go_grid.specs.Chain.{IsSettled}
 use Rattle.go_grid.specs.Board.{Board}
 use Rattle.go_grid.specs.Region.{Region}
 use Rattle.whole_rules.specs.PlainRecursion.{MoverWins, MoverLoses}
+use Rattle.whole_rules.specs.WholeGame.{Whole}
 use Rattle.whole_rules.specs.WholeGame as whole
 use Rattle.whole_rules.proofs.WallLaws.{Keeps}
 use Rattle.local_graph.specs.Graph.{Graph}
@@ -19,7 +20,8 @@ use Rattle.short_games.proofs.SumLaws.{same-plus}
 use Rattle.sum_outcome.proofs.PlayerLaws.{loses-same}
 use Rattle.local_value.specs.LocalGame.{tree_within}
 use Rattle.local_value.specs.PositionTree.{IsValueOf}
-use Rattle.endgame_solver.specs.Regions.{Spot, region_at, AreGraphs, moves_at, InRegion, HasCells, IsShown}
+use Rattle.endgame_solver.specs.Regions.{region_at}
+use Rattle.endgame_solver.specs.inner.Regions.{Spot, AreGraphs, moves_at, InRegion, HasCells, IsShown}
 use Rattle.endgame_solver.specs.SumGame.{State, AllEnd, parts_tree, purses_tree, state_tree, balance}
 use Rattle.endgame_solver.specs.inner.Valued.{AreValued}
 use Rattle.endgame_solver.specs.inner.WholeParts.{IsSeenAs}
@@ -51,10 +53,10 @@ module _ (g : Board) (regions : List Region) (graphs : List Graph) (are : AreGra
       (spot_ends g regions graphs are n k q cells has (deep k has.known), all_end (suc k) qs ids w)
 
   -- The state has a winner, and who loses is the sign of the sum of the values, of the balance of the purses and of the token.
-  pub decided_by_values : IsSettled g → (s : whole.State) (u : State Spot) (ids : List ℕ) → Keeps g s
+  pub decided_by_values : IsSettled g → (s : Whole) (u : State Spot) (ids : List ℕ) → Keeps g s
       → IsSeenAs Spot (moves_at graphs) (InRegion regions) (IsShown g regions graphs) (length regions) s u → AreValued regions graphs Ts 0 u.parts ids
-      → (MoverWins whole.State whole.Leads s ⊎ MoverLoses whole.State whole.Leads s)
-      × (MoverLoses whole.State whole.Leads s ↔ LosesGame s.side (total (pick Ts ids) +ᵍ num 1 (balance s.purses)))
+      → (MoverWins Whole whole.Leads s ⊎ MoverLoses Whole whole.Leads s)
+      × (MoverLoses Whole whole.Leads s ↔ LosesGame s.side (total (pick Ts ids) +ᵍ num 1 (balance s.purses)))
   decided_by_values settled s u ids keeps seen valued =
       let d = whole_decomposes Spot (moves_at graphs) (InRegion regions) (IsShown g regions graphs) g settled (length regions) (region_play g regions graphs are)
       33 n s u (few_taken g regions graphs are) (all_end 0 u.parts ids valued) (keeps, seen) in

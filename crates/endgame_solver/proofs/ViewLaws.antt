@@ -4,16 +4,17 @@ use Rattle.std.proofs.lemmas.Bool.{cases_eq}
 use Rattle.std.proofs.lemmas.List.{ext_get_or, get_or-map, length-map}
 use Rattle.go_grid.specs.declared.grid.Colour.{Colour}
 use Rattle.go_grid.specs.Region.{Region}
-use Rattle.whole_rules.specs.WholeGame.{State}
+use Rattle.whole_rules.specs.WholeGame.{Whole}
 use Rattle.local_graph.specs.declared.graph.Edge.{Edge}
-use Rattle.local_graph.specs.Graph.{Graph, edges_at}
+use Rattle.local_graph.specs.Graph.{Graph}
+use Rattle.local_graph.specs.inner.Graph.{edges_at}
 use Rattle.short_games.specs.Tree.{Tree}
-use Rattle.endgame_solver.specs.Held.{IsKept, IsStoneAt, IsStoneEdge, ids_at, place_at}
+use Rattle.endgame_solver.specs.inner.Held.{IsKept, IsStoneAt, IsStoneEdge, ids_at, place_at}
 use Rattle.endgame_solver.specs.Regions.{region_at}
 use Rattle.endgame_solver.specs.inner.Sharing.{AreSharedBy}
-use Rattle.endgame_solver.specs.Views.{IsHeld, ShowsAll, ShowsPlaces, own, seen_graph, seen_ids, view_at}
+use Rattle.endgame_solver.specs.inner.Views.{IsHeld, ShowsAll, ShowsPlaces, own, seen_graph, seen_ids, view_at}
 use Rattle.endgame_solver.specs.declared.limits.Limits.{Limits}
-use Rattle.endgame_solver.specs.declared.sharing.Book.{Book}
+use Rattle.endgame_solver.specs.declared.view_book.Book.{Book}
 use Rattle.endgame_solver.specs.declared.views.View.{View}
 use Rattle.endgame_solver.proofs.StoneSearch.{NoneIn}
 use Rattle.endgame_solver.proofs.WinningLaws.{are_places}
@@ -51,9 +52,9 @@ sum_is book graphs values n sum shows many long each = ext_get_or 0 sum (map (λ
     each k (omega (arith, lt, long)) ∙ ap (λ ids. get_or ids 0 0) (shows.each k short).same
     ∙ sym (get_or-map (λ ids. get_or ids 0 0) values k [] 0 (omega (arith, short, many))))
 
-module _ (regions : List Region) (book : Book) (places ids : List ℕ) (Ts : List Tree) (s : State) (held : IsHeld regions book places ids Ts s) where
+module _ (regions : List Region) (book : Book) (places ids : List ℕ) (Ts : List Tree) (s : Whole) (held : IsHeld regions book places ids Ts s) where
   -- another state that keeps as much
-  pub held_as : (places' ids' : List ℕ) (t : State) → IsKept regions held.graphs held.values places' ids' Ts t → IsHeld regions book places' ids' Ts t
+  pub held_as : (places' ids' : List ℕ) (t : Whole) → IsKept regions held.graphs held.values places' ids' Ts t → IsHeld regions book places' ids' Ts t
   held_as places' ids' t kept = record { graphs = held.graphs; values = held.values; views_are = held.views_are; shapes = held.shapes; kept = kept }
 
   pub shows_places : ShowsPlaces regions book places
@@ -112,6 +113,3 @@ module _ (regions : List Region) (book : Book) (places : List ℕ) (shows : Show
 
   pub asks_small : (i : ℕ) (edges : List Edge) → edges ≡ edges_at (seen_graph book k).edges i → (f : Edge) → Contains edges f → f.place < 32
   asks_small i edges e f among = (shows.views_are.each k lt).seen.inside i f (subst (λ es. Contains es f) e among)
-
-  pub asks_graph : (k < length book.views.items) × ((view_at book.views.items k).graph < length book.graphs.items)
-  asks_graph = (omega (arith, lt, shows.views_are.many), (shows.views_are.each k lt).graph)

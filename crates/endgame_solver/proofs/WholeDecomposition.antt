@@ -11,6 +11,7 @@ use Rattle.go_grid.specs.Region.{Region}
 use Rattle.whole_rules.specs.declared.states.Move.{Move}
 use Rattle.whole_rules.specs.Opening.{IsOpening}
 use Rattle.whole_rules.specs.Walls.{Plays}
+use Rattle.whole_rules.specs.WholeGame.{Whole}
 use Rattle.whole_rules.specs.WholeGame as whole
 use Rattle.whole_rules.proofs.WallLaws.{keeps_start}
 use Rattle.region_cut.specs.LocalBoard.{HoldsPosition}
@@ -33,7 +34,8 @@ use Rattle.endgame_solver.specs.inner.WholeParts.{AllShown}
 use Rattle.endgame_solver.proofs.WholeLaws.{Sees, bookkeeping, whole_decomposes}
 use Rattle.local_graph.specs.FiniteLocalPlay.{HasNoCycle}
 use Rattle.region_cut.specs.Cut.{AreRegionsOfPlay}
-use Rattle.endgame_solver.specs.Regions.{no_region, region_at, InRegion}
+use Rattle.endgame_solver.specs.Regions.{no_region, region_at}
+use Rattle.endgame_solver.specs.inner.Regions.{InRegion}
 use Rattle.endgame_solver.proofs.CellPlayLaws.{Position, position_in, largest, moves, IsHeld, cell_play, few_cells, depth, held_ends, held_tree}
 
 -- the openings of so many regions, from the one at `k` on
@@ -61,7 +63,7 @@ module _ (g : Board) (settled : IsSettled g) (regions : List Region) (are : AreR
   abbrev Moves : Colour → Position → List (Step Position)
   Moves = moves g settled regions are
 
-  abbrev SeenAs : whole.State → State Position → Type 0
+  abbrev SeenAs : Whole → State Position → Type 0
   SeenAs s u = Sees Position Moves (InRegion regions) (IsHeld g regions) g settled (length regions) (cell_play g settled regions are) s u
 
   openings_held : (k n : ℕ) → k + n ≤ length regions → AllShown Position Moves (InRegion regions) (IsHeld g regions) g k (openings regions k n)
@@ -74,7 +76,7 @@ module _ (g : Board) (settled : IsSettled g) (regions : List Region) (are : AreR
         openings_held (suc k) n (omega (arith, le)),
       )
 
-  seen_start : (black white : ℕ) (komi : ℤ) (side : Colour) (tax : Bool) (s : whole.State) → IsOpening g black white komi side tax s → (u : State Position) × SeenAs s u
+  seen_start : (black white : ℕ) (komi : ℤ) (side : Colour) (tax : Bool) (s : Whole) → IsOpening g black white komi side tax s → (u : State Position) × SeenAs s u
   seen_start black white komi side tax s o = (
     record { parts = openings regions 0 (length regions); purses = s.purses; side = s.side },
     (
@@ -88,7 +90,7 @@ module _ (g : Board) (settled : IsSettled g) (regions : List Region) (are : AreR
     ),
   )
 
-  seen_plays : (s t : whole.State) (ms : List Move) (u : State Position) → SeenAs s u → Plays s ms t → (v : State Position) × SeenAs t v
+  seen_plays : (s t : Whole) (ms : List Move) (u : State Position) → SeenAs s u → Plays s ms t → (v : State Position) × SeenAs t v
   seen_plays s t [] u w e = (u, subst (λ z. SeenAs z u) e w)
   seen_plays s t (m ∷ ms) u w (r, move, rest) =
       let v = (bookkeeping Position Moves (InRegion regions) (IsHeld g regions) g settled (length regions) (cell_play g settled regions are)).forth s r u w (m, move) in

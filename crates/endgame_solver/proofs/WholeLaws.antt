@@ -8,6 +8,7 @@ use Rattle.go_play.specs.Place.{IsPlaced, IsNumberTaken}
 use Rattle.whole_rules.specs.declared.states.Move.TheVariants.{Stone, Spend, Half}
 use Rattle.whole_rules.specs.Purses.{purse, paid_in, paid_out, halved}
 use Rattle.whole_rules.specs.PlainRecursion.{MoverWins, MoverLoses}
+use Rattle.whole_rules.specs.WholeGame.{Whole}
 use Rattle.whole_rules.specs.WholeGame as whole
 use Rattle.benson_life.specs.Walls.{WallsStand}
 use Rattle.endgame_solver.proofs.MatchLaws.{Matches, wins-back, loses-forth, loses-back}
@@ -83,10 +84,10 @@ module _ (P : Type 0) (moves : Colour → P → List (Step P)) (InPart : ℕ →
 
   module _ (g : Board) (settled : IsSettled g) (parts : ℕ) (play : IsLocalPlay P moves InPart Shown g parts) where
     -- a state of the whole game, seen as its parts
-    abbrev pub Sees : whole.State → State P → Type 0
+    abbrev pub Sees : Whole → State P → Type 0
     Sees s u = Keeps g s × IsSeenAs P moves InPart Shown parts s u
 
-    seen_forth : (s r : whole.State) (u : State P) → Sees s u → whole.Leads s r → (v : State P) × Leads P moves u v × Sees r v
+    seen_forth : (s r : Whole) (u : State P) → Sees s u → whole.Leads s r → (v : State P) × Leads P moves u v × Sees r v
     seen_forth s r u w (Stone p, m) =
         let h = m.1.0 in
         let n = m.1.1.0 in
@@ -135,13 +136,13 @@ module _ (P : Type 0) (moves : Colour → P → List (Step P)) (InPart : ℕ →
           ),
         )
 
-    seen_back : (s : whole.State) (u v : State P) → Sees s u → Leads P moves u v → (r : whole.State) × whole.Leads s r × Sees r v
+    seen_back : (s : Whole) (u v : State P) → Sees s u → Leads P moves u v → (r : Whole) × whole.Leads s r × Sees r v
     seen_back s u v w l = elim l.move [
       | inl m ↦
           let b = step_back g parts play s.board w.0.walls s.side m.0 0 u.parts v.parts w.1.shown (omega (arith, w.1.count)) (subst (λ z. StepIn P moves z u.parts v.parts m.0) (sym w.1.turn) m.1) in
           let p = b.1.0 in
           let k = b.1.1.0 in
-          let r : whole.State = whole.after k (paid_in s.side m.0 s.purses) s in
+          let r : Whole = whole.after k (paid_in s.side m.0 s.purses) s in
           let move : whole.IsMove s (Stone p) r = ((w.0.contested p).1 (play.within b.0 p b.1.1.2 b.1.1.3), (k, (m.0, b.1.1.4, b.1.1.5, refl))) in (
             r,
             (Stone p, move),
@@ -156,7 +157,7 @@ module _ (P : Type 0) (moves : Colour → P → List (Step P)) (InPart : ℕ →
             ),
           )
       | inr (inl m) ↦
-          let r : whole.State = whole.after s.board (paid_out s.side s.purses) s in
+          let r : Whole = whole.after s.board (paid_out s.side s.purses) s in
           let move : whole.IsMove s Spend r = (spendable m.0, refl) in (
             r,
             (Spend, move),
@@ -171,7 +172,7 @@ module _ (P : Type 0) (moves : Colour → P → List (Step P)) (InPart : ℕ →
             ),
           )
       | inr (inr m) ↦
-          let r : whole.State = whole.after s.board (halved s.side s.purses) s in
+          let r : Whole = whole.after s.board (halved s.side s.purses) s in
           let move : whole.IsMove s Half r = (λ z. m.0 (sym (ap (λ y. y.token) w.1.purses) ∙ z), refl) in (
             r,
             (Half, move),
@@ -190,12 +191,12 @@ module _ (P : Type 0) (moves : Colour → P → List (Step P)) (InPart : ℕ →
         spendable : 1 ≤ purse u.side u.purses → 1 ≤ purse s.side s.purses
         spendable h = subst (λ n. 1 ≤ n) (λ i. purse (sym w.1.turn i) (sym w.1.purses i)) h
 
-    pub bookkeeping : Matches whole.State (State P) whole.Leads (Leads P moves) Sees
+    pub bookkeeping : Matches Whole (State P) whole.Leads (Leads P moves) Sees
     bookkeeping = record { forth = seen_forth; back = seen_back }
 
     -- a state of the whole game has a winner, and who loses is the sign of the sum
-    pub whole_decomposes : (most n : ℕ) (s : whole.State) (u : State P) → TakesAtMost P moves most → AllEnd P moves n u.parts → Sees s u
-        → (MoverWins whole.State whole.Leads s ⊎ MoverLoses whole.State whole.Leads s) × (MoverLoses whole.State whole.Leads s ↔ LosesGame s.side (state_tree P moves n u))
+    pub whole_decomposes : (most n : ℕ) (s : Whole) (u : State P) → TakesAtMost P moves most → AllEnd P moves n u.parts → Sees s u
+        → (MoverWins Whole whole.Leads s ⊎ MoverLoses Whole whole.Leads s) × (MoverLoses Whole whole.Leads s ↔ LosesGame s.side (state_tree P moves n u))
     whole_decomposes most n s u few end w =
         let d = decomposes P moves n most u few end in (
           elim d.has_winner [

@@ -9,22 +9,22 @@ use Rattle.whole_rules.specs.declared.states.Move.{Move}
 use Rattle.whole_rules.specs.declared.states.Move.TheVariants.{Stone, Spend, Half}
 use Rattle.whole_rules.specs.PlainRecursion.{WinsWithin, MoverLoses}
 use Rattle.whole_rules.specs.FirstWinningMove.{IsWinner, IsWinning, IsFirstWinning}
-use Rattle.whole_rules.specs.WholeGame.{State, Leads}
+use Rattle.whole_rules.specs.WholeGame.{Whole, Leads}
 use Rattle.whole_rules.proofs.OutcomeLaws.{wins-not_loses}
 use Rattle.local_graph.specs.Graph.{Graph}
 use Rattle.short_games.specs.Tree.{Tree}
 use Rattle.sum_outcome.specs.Players.{LosesGame}
 use Rattle.sum_outcome.specs.Sums.{sum_tree}
 use Rattle.endgame_solver.specs.SumGame.{balance}
-use Rattle.endgame_solver.specs.Held.{IsKept, IsFirstStone}
+use Rattle.endgame_solver.specs.inner.Held.{IsKept, IsFirstStone}
 use Rattle.endgame_solver.specs.Solved.{ArePresent, balance_units}
 use Rattle.endgame_solver.proofs.HeldLaws.{decided_now, decided_present}
 
 -- where the player to move loses no move wins
-pub loses_none : (s : State) → MoverLoses State Leads s → IsFirstWinning s None
-loses_none s loses m w = wins-not_loses State Leads (suc w.2.0) loses.0 s (w.0, (m, w.1), w.2.1) loses.1
+pub loses_none : (s : Whole) → MoverLoses Whole Leads s → IsFirstWinning s None
+loses_none s loses m w = wins-not_loses Whole Leads (suc w.2.0) loses.0 s (w.0, (m, w.1), w.2.1) loses.1
 
-wins_none : (s : State) (n : ℕ) → WinsWithin State Leads n s → ((m : Move) → ¬ IsWinning s m) → ⊥
+wins_none : (s : Whole) (n : ℕ) → WinsWithin Whole Leads n s → ((m : Move) → ¬ IsWinning s m) → ⊥
 wins_none s zero w none = w
 wins_none s (suc n) (t, (m, move), loses) none = none m (t, move, (n, loses))
 
@@ -32,7 +32,7 @@ pub not_other : (c : Colour) → c ≡ other c → ⊥
 not_other Black e = cc
 not_other White e = cc
 
-module _ (regions : List Region) (graphs : List Graph) (values : List (List ℕ)) (places ids : List ℕ) (Ts : List Tree) (s : State)
+module _ (regions : List Region) (graphs : List Graph) (values : List (List ℕ)) (places ids : List ℕ) (Ts : List Tree) (s : Whole)
     (kept : IsKept regions graphs values places ids Ts s) where
   -- the player to move loses the sum of the present values and the balance
   abbrev pub LosesSum : Type 0
@@ -45,10 +45,10 @@ module _ (regions : List Region) (graphs : List Graph) (values : List (List ℕ)
       let number' : x ≡ balance_units s = number ∙ ap (λ z. balance z *ℤ pos (2 ^ 59)) purses in
       subst (λ T. IsTrue b ↔ T) (λ i. LosesGame (side i) (sum_tree Ts (same i) (number' i))) answer
 
-  pub loses_state : LosesSum → MoverLoses State Leads s
+  pub loses_state : LosesSum → MoverLoses Whole Leads s
   loses_state h = (decided_now kept.board regions graphs values Ts kept.solved s places ids kept.at kept.summed).1.1 h
 
-  pub loses_sum : MoverLoses State Leads s → LosesSum
+  pub loses_sum : MoverLoses Whole Leads s → LosesSum
   loses_sum h = (decided_now kept.board regions graphs values Ts kept.solved s places ids kept.at kept.summed).1.0 h
 
   pub other_wins : LosesSum → IsWinner s (other s.side)
@@ -79,7 +79,7 @@ module _ (regions : List Region) (graphs : List Graph) (values : List (List ℕ)
   )
 
   -- no move wins exactly where the player to move loses
-  pub none_loses : (m : Option Move) → IsFirstWinning s m → (m ≡ None) ↔ MoverLoses State Leads s
+  pub none_loses : (m : Option Move) → IsFirstWinning s m → (m ≡ None) ↔ MoverLoses Whole Leads s
   none_loses None first = (
     λ _. elim (decided_now kept.board regions graphs values Ts kept.solved s places ids kept.at kept.summed).0 [
       | inl wins ↦ absurd (wins_none s wins.0 wins.1 first)
@@ -90,7 +90,7 @@ module _ (regions : List Region) (graphs : List Graph) (values : List (List ℕ)
   none_loses (Some m) first = (λ e. absurd (cc), λ loses. absurd (loses_none s loses m first.0))
 
   -- where the player to move wins by no other move, the half wins: it may be moved exactly where there is a token
-  pub last_wins : ¬ MoverLoses State Leads s → IsFirstStone s None → ¬ IsWinning s Spend → IsWinning s Half
+  pub last_wins : ¬ MoverLoses Whole Leads s → IsFirstStone s None → ¬ IsWinning s Spend → IsWinning s Half
   last_wins not none spend = elim (decided_now kept.board regions graphs values Ts kept.solved s places ids kept.at kept.summed).0 [
     | inl wins ↦ by wins.0 wins.1
     | inr loses ↦ absurd (not loses)
@@ -101,6 +101,6 @@ module _ (regions : List Region) (graphs : List Graph) (values : List (List ℕ)
       half Spend w = absurd (spend w)
       half Half w = w
 
-      by : (n : ℕ) → WinsWithin State Leads n s → IsWinning s Half
+      by : (n : ℕ) → WinsWithin Whole Leads n s → IsWinning s Half
       by zero w = absurd w
       by (suc n) (t, (m, move), loses) = half m (t, move, (n, loses))

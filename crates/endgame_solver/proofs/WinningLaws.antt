@@ -9,7 +9,7 @@ use Rattle.go_grid.specs.Region.{Region}
 use Rattle.whole_rules.specs.declared.money.Purses.{Purses}
 use Rattle.whole_rules.specs.declared.states.Move.TheVariants.{Stone, Spend}
 use Rattle.whole_rules.specs.Purses.{purse, paid_in, paid_out}
-use Rattle.whole_rules.specs.WholeGame.{State, IsMove, Leads, after}
+use Rattle.whole_rules.specs.WholeGame.{Whole, IsMove, Leads, after}
 use Rattle.whole_rules.specs.PlainRecursion.{MoverLoses}
 use Rattle.whole_rules.specs.FirstWinningMove.{IsWinning}
 use Rattle.local_graph.specs.declared.graph.Edge.{Edge}
@@ -20,7 +20,7 @@ use Rattle.game_canon.specs.Outcomes.{AreWithin}
 use Rattle.sum_outcome.specs.Players.{LosesGame}
 use Rattle.sum_outcome.specs.Sums.{sum_tree, IsBounded}
 use Rattle.endgame_solver.specs.SumGame.{balance}
-use Rattle.endgame_solver.specs.Held.{AreSolved, IsAt, AreSummed, HasRoom, IsKept, IsStoneEdge, AreModest, ArePlaces, ids_at, place_at, most_units}
+use Rattle.endgame_solver.specs.inner.Held.{AreSolved, IsAt, AreSummed, HasRoom, IsKept, IsStoneEdge, AreModest, ArePlaces, ids_at, place_at, most_units}
 use Rattle.endgame_solver.specs.Solved.{balance_units}
 use Rattle.endgame_solver.proofs.HeldLaws.{decided_now}
 use Rattle.endgame_solver.proofs.RoomLaws.{bounded, small_units}
@@ -35,10 +35,10 @@ pub record Fits (Ts : List Tree) (ids : List ℕ) : Type 0 where
   pub bounds : (m : Purses) → AreModest m → IsBounded (pick Ts ids) (balance m *ℤ pos (2 ^ 59))
 
 module _ (g : Board) (regions : List Region) (graphs : List Graph) (values : List (List ℕ)) (Ts : List Tree) (are : AreSolved g regions graphs values Ts) where
-  pub place_inside : (s : State) (places : List ℕ) (k : ℕ) → IsAt g regions graphs places s → k < length regions → place_at places k < length (ids_at values k)
+  pub place_inside : (s : Whole) (places : List ℕ) (k : ℕ) → IsAt g regions graphs places s → k < length regions → place_at places k < length (ids_at values k)
   place_inside s places k at lt = omega (arith, (at.shown k lt).1.at.inside, (are.valued k lt).long)
 
-  pub fits : (s : State) (places ids : List ℕ) → IsAt g regions graphs places s → AreSummed regions values places ids → Fits Ts ids
+  pub fits : (s : Whole) (places ids : List ℕ) → IsAt g regions graphs places s → AreSummed regions values places ids → Fits Ts ids
   fits s places ids at summed = record {
     known = λ j lt.
         let known : j < length regions = omega (arith, lt, summed.many) in
@@ -65,26 +65,26 @@ summed_set regions values places ids k i many known summed = record {
 }
 
 -- purses of at most 2 ^ 41 stay modest
-pub modest_now : (graphs : List Graph) (places : List ℕ) (s : State) → HasRoom graphs places s → AreModest s.purses
+pub modest_now : (graphs : List Graph) (places : List ℕ) (s : Whole) → HasRoom graphs places s → AreModest s.purses
 modest_now graphs places s room = record { black = omega (arith, room.room Black); white = omega (arith, room.room White) }
 
-pub modest_paid : (graphs : List Graph) (places : List ℕ) (s : State) (c : Colour) (n : ℕ) → n < 256 → HasRoom graphs places s → AreModest (paid_in c n s.purses)
+pub modest_paid : (graphs : List Graph) (places : List ℕ) (s : Whole) (c : Colour) (n : ℕ) → n < 256 → HasRoom graphs places s → AreModest (paid_in c n s.purses)
 modest_paid graphs places s Black n few room = record { black = omega (arith, few, room.room Black); white = omega (arith, room.room White) }
 modest_paid graphs places s White n few room = record { black = omega (arith, room.room Black); white = omega (arith, few, room.room White) }
 
-pub modest_spent : (graphs : List Graph) (places : List ℕ) (s : State) (c : Colour) → HasRoom graphs places s → AreModest (paid_out c s.purses)
+pub modest_spent : (graphs : List Graph) (places : List ℕ) (s : Whole) (c : Colour) → HasRoom graphs places s → AreModest (paid_out c s.purses)
 modest_spent graphs places s Black room = record { black = omega (arith, room.room Black); white = omega (arith, room.room White) }
 modest_spent graphs places s White room = record { black = omega (arith, room.room Black); white = omega (arith, room.room White) }
 
-module _ (regions : List Region) (graphs : List Graph) (values : List (List ℕ)) (places ids : List ℕ) (Ts : List Tree) (s : State)
+module _ (regions : List Region) (graphs : List Graph) (values : List (List ℕ)) (places ids : List ℕ) (Ts : List Tree) (s : Whole)
     (kept : IsKept regions graphs values places ids Ts s) where
   pub are_places : ArePlaces regions graphs places
   are_places = record { many_graphs = kept.solved.cut.many; many_places = kept.at.many; inside = λ k lt. (kept.at.shown k lt).1.at.inside }
 
   -- the state after a move is lost exactly where its sum is
-  loses_after : (t : State) (places' ids' : List ℕ) (m : Purses) → IsAt kept.board regions graphs places' t → AreSummed regions values places' ids'
+  loses_after : (t : Whole) (places' ids' : List ℕ) (m : Purses) → IsAt kept.board regions graphs places' t → AreSummed regions values places' ids'
       → t.purses ≡ m → t.side ≡ other s.side
-      → MoverLoses State Leads t ↔ LosesGame (other s.side) (sum_tree Ts ids' (balance m *ℤ pos (2 ^ 59)))
+      → MoverLoses Whole Leads t ↔ LosesGame (other s.side) (sum_tree Ts ids' (balance m *ℤ pos (2 ^ 59)))
   loses_after t places' ids' m at summed purses turn =
       let d = (decided_now kept.board regions graphs values Ts kept.solved t places' ids' at summed).1 in
       let same : LosesGame t.side (sum_tree Ts ids' (balance_units t)) ≡ LosesGame (other s.side) (sum_tree Ts ids' (balance m *ℤ pos (2 ^ 59))) =
@@ -104,9 +104,9 @@ module _ (regions : List Region) (graphs : List Graph) (values : List (List ℕ)
   pub asks_stone : (p k : ℕ) (e : Edge) → IsStoneEdge regions graphs places s.side p k e → AsksStone p k e
   asks_stone p k e x =
       let (t, m) = stone_legal kept.board regions graphs values Ts kept.solved s places kept.at p k e x in
-      let leads : (u : State) → IsMove s (Stone p) u → StoneLeads kept.board regions graphs values Ts kept.solved s places kept.at u k e = λ u. stone_leads kept.board regions graphs values Ts kept.solved s places kept.at u p k e x in
+      let leads : (u : Whole) → IsMove s (Stone p) u → StoneLeads kept.board regions graphs values Ts kept.solved s places kept.at u k e = λ u. stone_leads kept.board regions graphs values Ts kept.solved s places kept.at u p k e x in
       let summed = summed_set regions values places ids k e.next kept.at.many x.known kept.summed in
-      let lost : (u : State) → IsMove s (Stone p) u → MoverLoses State Leads u ↔ LosesGame (other s.side) (sum_tree Ts (set ids k (get_or (ids_at values k) e.next 0)) (balance (paid_in s.side e.taken s.purses) *ℤ pos (2 ^ 59))) =
+      let lost : (u : Whole) → IsMove s (Stone p) u → MoverLoses Whole Leads u ↔ LosesGame (other s.side) (sum_tree Ts (set ids k (get_or (ids_at values k) e.next 0)) (balance (paid_in s.side e.taken s.purses) *ℤ pos (2 ^ 59))) =
       λ u w. loses_after u (set places k e.next) (set ids k (get_or (ids_at values k) e.next 0)) (paid_in s.side e.taken s.purses) (leads u w).held summed (leads u w).purses (leads u w).turn in
       record {
         place = omega (arith, x.known, kept.summed.many);
@@ -131,7 +131,7 @@ module _ (regions : List Region) (graphs : List Graph) (values : List (List ℕ)
       → IsTrue b ↔ IsWinning s Spend
   spend_wins b some w =
       let t = after s.board (paid_out s.side s.purses) s in
-      let lost : (u : State) → IsMove s Spend u → MoverLoses State Leads u ↔ LosesGame (other s.side) (sum_tree Ts ids (balance (paid_out s.side s.purses) *ℤ pos (2 ^ 59))) =
+      let lost : (u : Whole) → IsMove s Spend u → MoverLoses Whole Leads u ↔ LosesGame (other s.side) (sum_tree Ts ids (balance (paid_out s.side s.purses) *ℤ pos (2 ^ 59))) =
       λ u m. loses_after u places ids (paid_out s.side s.purses)
       (spend_leads kept.board regions graphs values Ts kept.solved s places kept.at u m) kept.summed (ap (λ z. z.purses) m.1) (ap (λ z. z.side) m.1) in
       (λ h. (t, (some, refl), (lost t (some, refl)).1 (w.0 h)), λ h. w.1 ((lost h.0 h.1).0 h.2))

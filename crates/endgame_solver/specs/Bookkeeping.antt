@@ -13,7 +13,7 @@ use Rattle.whole_rules.specs.declared.money.Token.TheVariants as token
 use Rattle.whole_rules.specs.declared.states.Move.{Move}
 use Rattle.whole_rules.specs.declared.states.Move.TheVariants.{Stone, Spend, Half}
 use Rattle.whole_rules.specs.Purses.{purse}
-use Rattle.whole_rules.specs.WholeGame.{State, IsMove}
+use Rattle.whole_rules.specs.WholeGame.{Whole, IsMove}
 use Rattle.local_graph.specs.declared.cycle.CycleMove.{CycleMove}
 use Rattle.local_graph.specs.LocalGraph.{Plays as LocalPlays}
 use Rattle.whole_rules.specs.Opening.{IsOpening}
@@ -40,42 +40,44 @@ pub record RegionFollows (g : Board) (r : Region) (c : Colour) (ms : List Move) 
   pub holds : HoldsPosition g r cells h
 
 -- how many stones the move takes
-abbrev pub Takes : State → Move → State → ℕ → Type 0
+abbrev pub Takes : Whole → Move → Whole → ℕ → Type 0
 Takes s (Stone p) t n = IsNumberTaken s.board t.board n
 Takes s Spend t n = n ≡ 0
 Takes s Half t n = n ≡ 0
 
 -- the moves lead from the one state to the other, and take so many stones each
-abbrev pub PlaysTaking : State → List Move → List ℕ → State → Type 0
+abbrev pub PlaysTaking : Whole → List Move → List ℕ → Whole → Type 0
 PlaysTaking s [] [] t = s ≡ t
-PlaysTaking s (m ∷ ms) (n ∷ ns) t = (u : State) × IsMove s m u × Takes s m u n × PlaysTaking u ms ns t
+PlaysTaking s (m ∷ ms) (n ∷ ns) t = (u : Whole) × IsMove s m u × Takes s m u n × PlaysTaking u ms ns t
 PlaysTaking s _ _ t = ⊥
 
--- n, where the player is the one who moves
+-- n where the player is the one who moves, and 0 where it is the other
 abbrev pub own : Colour → Colour → ℕ → ℕ
 own Black Black n = n
 own White White n = n
 own Black White n = 0
 own White Black n = 0
 
--- what the player's stones take; the second player is the first to move
+-- how many stones a player takes, where the moves take so many each and the second player is the first to move
 abbrev pub gains : Colour → Colour → List ℕ → ℕ
 gains c d [] = 0
 gains c d (n ∷ ns) = own c d n + gains c (other d) ns
 
--- what the player spends
+-- how many points a player spends by the moves, where the second player is the first to move
 abbrev pub spends : Colour → Colour → List Move → ℕ
 spends c d [] = 0
 spends c d (Spend ∷ ms) = own c d 1 + spends c (other d) ms
 spends c d (Stone p ∷ ms) = spends c (other d) ms
 spends c d (Half ∷ ms) = spends c (other d) ms
 
--- one for the owner of a token that the opponent removes
+-- 1 for a player who owns a token that the second player, the opponent, removes; else 0
 abbrev pub reward : Colour → Colour → Token → ℕ
 reward Black White token.Black = 1
 reward White Black token.White = 1
 reward c d owner = 0
 
+-- 1 for a player who owns a token that the opponent removes by one of the moves, where the second player is the first to move;
+-- else 0
 abbrev pub rewards : Colour → Colour → Token → List Move → ℕ
 rewards c d owner [] = 0
 rewards c d owner (Half ∷ ms) = reward c d owner
@@ -85,11 +87,11 @@ rewards c d owner (Spend ∷ ms) = rewards c (other d) owner ms
 -- Each purse is what it was and what its owner's stones took, and one more where the opponent removed the owner's token, less
 -- what its owner spent.
 abbrev pub PursesFollow : Type 0
-PursesFollow = (c : Colour) (s t : State) (ms : List Move) (ns : List ℕ) → PlaysTaking s ms ns t
+PursesFollow = (c : Colour) (s t : Whole) (ms : List Move) (ns : List ℕ) → PlaysTaking s ms ns t
     → purse c t.purses + spends c s.side ms ≡ purse c s.purses + gains c s.side ns + rewards c s.side s.purses.token ms
 
 -- After any moves from the opening each region follows its own moves, and all points that aren't contested are as at the opening.
 abbrev pub RegionsFollow : Type 0
-RegionsFollow = (g : Board) (regions : List Region) (black white : ℕ) (komi : ℤ) (side : Colour) (tax : Bool) (s t : State) (ms : List Move) → IsSettled g
+RegionsFollow = (g : Board) (regions : List Region) (black white : ℕ) (komi : ℤ) (side : Colour) (tax : Bool) (s t : Whole) (ms : List Move) → IsSettled g
     → AreRegionsOfPlay g regions → IsOpening g black white komi side tax s → Plays s ms t
     → ((r : Region) → Contains regions r → RegionFollows g r side ms t.board) × ((p : ℕ) → p < length g.cells → ¬ IsContested g p → cell_at t.board p ≡ cell_at g p)

@@ -11,6 +11,7 @@ use Rattle.whole_rules.specs.declared.states.Move.{Move}
 use Rattle.whole_rules.specs.Opening.{IsOpening}
 use Rattle.whole_rules.specs.PlainRecursion.{MoverWins, MoverLoses}
 use Rattle.whole_rules.specs.Walls.{Plays}
+use Rattle.whole_rules.specs.WholeGame.{Whole}
 use Rattle.whole_rules.specs.WholeGame as whole
 use Rattle.local_graph.specs.FiniteLocalPlay.{HasNoCycle}
 use Rattle.region_cut.specs.Cut.{AreRegionsOfPlay}
@@ -35,9 +36,9 @@ money_tree m = num 0 (credit Black m.black +ℤ credit White m.white) +ᵍ token
 -- Where no region of a settled board has a cycle, each state that moves reach from the opening has a winner. And the player to
 -- move loses exactly where the sum of trees of the regions' positions and the money is at most 0 for Black, at least 0 for White.
 abbrev pub WholeDecomposes : Type 0
-WholeDecomposes = (g : Board) (regions : List Region) (black white : ℕ) (komi : ℤ) (side : Colour) (tax : Bool) (s t : whole.State) (ms : List Move)
+WholeDecomposes = (g : Board) (regions : List Region) (black white : ℕ) (komi : ℤ) (side : Colour) (tax : Bool) (s t : Whole) (ms : List Move)
     → IsSettled g → AreRegionsOfPlay g regions → ((r : Region) → Contains regions r → HasNoCycle r.touch r.cells)
     → IsOpening g black white komi side tax s → Plays s ms t
-    → (MoverWins whole.State whole.Leads t ⊎ MoverLoses whole.State whole.Leads t)
+    → (MoverWins Whole whole.Leads t ⊎ MoverLoses Whole whole.Leads t)
     × ((trees : Trees) → AreTreesOn g t.board regions trees
-    → MoverLoses whole.State whole.Leads t ↔ LosesGame t.side (total trees +ᵍ money_tree t.purses))
+    → MoverLoses Whole whole.Leads t ↔ LosesGame t.side (total trees +ᵍ money_tree t.purses))

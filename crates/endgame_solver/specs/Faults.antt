@@ -29,6 +29,7 @@ pub record IsSound (limits : Limits) (r : Region) : Type 0 where
   pub no_cycle : HasNoCycle r.touch r.cells
   pub forms : ¬ HasLargeForm r limits.parts
 
+-- each region is sound: few enough points and positions, no cycle, and a form for each value
 abbrev pub AreSound : Limits → List Region → Type 0
 AreSound limits regions = (r : Region) → Contains regions r → IsSound limits r
 

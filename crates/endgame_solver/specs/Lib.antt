@@ -6,7 +6,5 @@ pub mod ShapeValues
 pub mod Bookkeeping
 pub mod Faults
 pub mod Solved
-pub mod Held
 pub mod Code
-pub mod Views
 pub mod inner

@@ -10,7 +10,7 @@ use Rattle.local_graph.specs.LocalGraph.{IsReachable}
 use Rattle.region_book.specs.Shape.{HaveOneShape}
 use Rattle.region_cut.specs.Cut.{lowest, AreRegionsOfPlay}
 use Rattle.whole_rules.specs.Opening.{IsOpening}
-use Rattle.whole_rules.specs.WholeGame.{State, IsLegal, IsFirstMove}
+use Rattle.whole_rules.specs.WholeGame.{Whole, IsLegal, IsFirstMove}
 use Rattle.whole_rules.specs.FirstWinningMove.{IsFirstWinning}
 use Rattle.whole_rules.specs.declared.states.Move.{Move}
 use Rattle.short_games.specs.Tree.{Tree, tree_at}
@@ -24,34 +24,34 @@ use Rattle.endgame_solver.specs.declared.faults.SolveError.TheVariants.{Memory}
 use Rattle.endgame_solver.specs.declared.solved.RegionReport.{RegionReport}
 
 -- the regions of play, the trees of the store, and the present state
-pub record SolvedGame : Type 0 where
+pub record Solved : Type 0 where
   pub regions : List Region
   pub trees : List Tree
-  pub state : State
+  pub state : Whole
 
 -- the state in which the position opens, with or without a tax
-abbrev pub OpensAs : Setup → Bool → State → Type 0
+abbrev pub OpensAs : Setup → Bool → Whole → Type 0
 OpensAs setup tax s = IsOpening setup.board setup.black_prisoners setup.white_prisoners setup.komi_halves setup.side tax s
 
 -- the regions of play of a position are all sound within the limits, and the state opens it
-pub record IsPlayable (limits : Limits) (setup : Setup) (s : State) : Type 0 where
+pub record IsPlayable (limits : Limits) (setup : Setup) (s : Whole) : Type 0 where
   pub regions : List Region
   pub are_regions : AreRegionsOfPlay setup.board regions
   pub sound : AreSound limits regions
   pub opening : OpensAs setup limits.tax s
 
 -- the game that the position opens, all of whose regions are sound, or why there is none
-abbrev pub Begun : Setup → Limits → Result SolvedGame SolveError → Type 0
+abbrev pub Begun : Setup → Limits → Result Solved SolveError → Type 0
 Begun setup limits (Ok game) = OpensAs setup limits.tax game.state × AreRegionsOfPlay setup.board game.regions × AreSound limits game.regions
 Begun setup limits (Err (Memory e)) = Unit {0}
 Begun setup limits (Err fault) = (regions : List Region) × AreRegionsOfPlay setup.board regions × AreRefused limits regions fault
 
 -- the side to move has a move
-abbrev pub HasMove : State → Type 0
+abbrev pub HasMove : Whole → Type 0
 HasMove s = (m : Move) × IsLegal s m
 
 -- the first winning move, or the first move where no move wins
-abbrev pub Chooses : State → Move → Type 0
+abbrev pub Chooses : Whole → Move → Type 0
 Chooses s m = IsFirstWinning s (Some m) ⊎ (IsFirstWinning s None × IsFirstMove s (Some m))
 
 -- the board holds the cells in the region
@@ -63,16 +63,16 @@ abbrev pub IsValueId : List Tree → Region → List Cell → ℕ → Type 0
 IsValueId Ts r cells id = (id < length Ts) × IsValueOf r.touch cells (tree_at Ts id)
 
 -- the id is that of the value of the region's present position
-abbrev pub IsPresent : SolvedGame → ℕ → ℕ → Type 0
+abbrev pub IsPresent : Solved → ℕ → ℕ → Type 0
 IsPresent game k id = (cells : List Cell) × HoldsCells game.state.board (region_at game.regions k) cells
     × IsValueId game.trees (region_at game.regions k) cells id
 
--- the same for each region
-pub record ArePresent (game : SolvedGame) (ids : List ℕ) : Type 0 where
+-- the ids are those of the values of the regions' present positions, one for each
+pub record ArePresent (game : Solved) (ids : List ℕ) : Type 0 where
   pub many : length ids ≡ length game.regions
   pub each : (k : ℕ) → k < length game.regions → IsPresent game k (slice_index ids k)
 
--- exactly so many positions are reachable
+-- exactly `n` positions of the region are reachable
 abbrev pub IsNumberOfPositions : Region → ℕ → Type 0
 IsNumberOfPositions r n = (found : List (List Cell)) × AllPairs (λ a b. a ≢ b) found
     × ((cells : List Cell) → Contains found cells ↔ IsReachable r.touch r.cells cells) × (length found ≡ n)
@@ -98,5 +98,5 @@ pub record IsNumberOfShapes (regions : List Region) (n : ℕ) : Type 0 where
   pub every : (k : ℕ) → k < length regions → (j : ℕ) × (j < n) × HaveShape regions (slice_index firsts j) k
 
 -- Black's purse less White's, and a half for the token's owner, in parts of 2 ^ -60
-abbrev pub balance_units : State → ℤ
+abbrev pub balance_units : Whole → ℤ
 balance_units s = balance s.purses *ℤ pos (2 ^ 59)

@@ -15,12 +15,13 @@ use Rattle.short_games.specs.Number.{num}
 use Rattle.sum_outcome.specs.Players.{credit, gain, LosesGame}
 use Rattle.local_value.specs.LocalGame.{Step, StepsTo, tree_within}
 
--- half a unit for the owner
+-- the tree of a token: half a unit for its owner
 abbrev pub token_tree : Token → Tree
 token_tree token.Nobody = num 0 (pos 0)
 token_tree token.Black = num 1 (pos 1)
 token_tree token.White = num 1 (negsuc 0)
 
+-- the tree of the purses: what each player has is to the player's good, and half a unit for the owner of the token
 abbrev pub purses_tree : Purses → Tree
 purses_tree m = (gain Black m.black +ᵍ gain White m.white) +ᵍ token_tree m.token
 
@@ -34,6 +35,7 @@ halves token.White = negsuc 0
 abbrev pub balance : Purses → ℤ
 balance m = let n : ℤ = credit Black m.black +ℤ credit White m.white in (n +ℤ n) +ℤ halves m.token
 
+-- a state of the game: the positions of its parts, the purses, and the side to move
 pub record State (P : Type 0) : Type 0 where
   pub parts : List P
   pub purses : Purses
@@ -48,12 +50,15 @@ module _ (P : Type 0) (moves : Colour → P → List (Step P)) where
       (((x : Step P) × Contains (moves c p) x × (x.to ≡ q) × (x.taken ≡ k)) × (ps ≡ qs))
       ⊎ ((p ≡ q) × StepIn c ps qs k)
 
+  -- the player to move makes a local move in one of the parts, and is paid for each stone that it takes
   abbrev pub ByStone : State P → State P → Type 0
   ByStone s t = (k : ℕ) × StepIn s.side s.parts t.parts k × (t.purses ≡ paid_in s.side k s.purses)
 
+  -- the player to move spends a point of a purse that isn't empty
   abbrev pub BySpend : State P → State P → Type 0
   BySpend s t = (1 ≤ purse s.side s.purses) × (t.parts ≡ s.parts) × (t.purses ≡ paid_out s.side s.purses)
 
+  -- the player to move removes a token that somebody owns
   abbrev pub ByHalf : State P → State P → Type 0
   ByHalf s t = (s.purses.token ≢ token.Nobody) × (t.parts ≡ s.parts) × (t.purses ≡ halved s.side s.purses)
 
@@ -67,6 +72,7 @@ module _ (P : Type 0) (moves : Colour → P → List (Step P)) where
   parts_tree n [] = node none none
   parts_tree n (p ∷ ps) = tree_within P moves n p +ᵍ parts_tree n ps
 
+  -- the sum of the parts' trees, each cut off after n moves, and of the tree of the purses
   abbrev pub state_tree : ℕ → State P → Tree
   state_tree n s = parts_tree n s.parts +ᵍ purses_tree s.purses
 

@@ -3,3 +3,6 @@ pub mod Sharing
 pub mod Solving
 pub mod Valued
 pub mod WholeParts
+pub mod Held
+pub mod Views
+pub mod Regions

@@ -16,6 +16,6 @@ pub fn decomposition_laws()
 {}
 
 /// Positions of one shape have equal trees, or each is the other's negative where the colours are exchanged. It has no code.
-pub fn shape_law()
+pub fn shape_laws()
     ensures { ShapesKeepValues }
 {}

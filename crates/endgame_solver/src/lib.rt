@@ -5,21 +5,15 @@ mod cycle_names;
 mod faults;
 mod laws;
 mod limits;
-mod opening;
-#[cfg(test)]
-mod plain_tests;
-#[cfg(test)]
-mod shape_tests;
-mod sharing;
+mod region_values;
+mod regions_of_play;
 mod solved;
-mod solving;
-#[cfg(test)]
-mod tests;
+mod view_book;
 mod views;
-mod winning;
+mod winning_moves;
 
 pub use cycle_names::CycleNames;
 pub use faults::SolveError;
-pub use laws::{decomposition_laws, shape_law};
+pub use laws::{decomposition_laws, shape_laws};
 pub use limits::Limits;
 pub use solved::{RegionReport, Solved};

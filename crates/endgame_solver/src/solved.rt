@@ -3,9 +3,8 @@
 ghost use Rattle.std.specs.Prelude.{◌≡◌, ℕ, ◌+◌, ◌<◌, ◌≤◌, ◌↔◌, List, length, None};
 ghost use Rattle.go_grid.specs.Region.{Region};
 ghost use Rattle.go_grid.specs.Board.{other};
-ghost use Rattle.whole_rules.specs.FirstWinningMove.{IsFirstWinning, IsWinner};
-ghost use Rattle.whole_rules.specs.PlainRecursion.{MoverLoses};
-ghost use Rattle.whole_rules.specs.WholeGame.{State, Leads, Applies};
+ghost use Rattle.whole_rules.specs.FirstWinningMove.{IsFirstWinning, IsLosing, IsWinner};
+ghost use Rattle.whole_rules.specs.WholeGame.{Applies};
 ghost use Rattle.sum_outcome.specs.Players.{LosesGame};
 ghost use Rattle.sum_outcome.specs.Sums.{sum_tree};
 ghost use Rattle.endgame_solver.specs.Regions.{region_at};
@@ -16,26 +15,24 @@ ghost use Rattle.endgame_solver.specs.Solved.{Begun, IsNumberOfShapes, IsPresent
 
 use crate::faults::SolveError;
 use crate::limits::Limits;
-use crate::opening::{first_large, opening_places, opening_values, regions_of_play};
-use crate::sharing::Book;
-use crate::solving::solve_regions;
-use crate::winning::{
+use crate::region_values::solve_regions;
+use crate::regions_of_play::{first_large, opening_places, opening_values, regions_of_play};
+use crate::view_book::Book;
+use crate::winning_moves::{
     Present, balance_of, first_winning_move, positions_seen, stone_edge, value_seen,
 };
 use benson_life::Territory;
 use dyadic_num::Dyadic;
 use game_store::{GameId, Store};
 use go_grid::{Colour, Point, Region};
+use local_graph::MOST_POSITIONS;
 use local_play::Steps;
 use sgf_go::Setup;
 use std::alloc::Global;
 use std::marker::Model;
 use std::sync::ledger::Ledger;
-use sum_outcome::Search;
+use sum_outcome::{MOST_ENTRIES, Search};
 use whole_rules::{Move, MoveError, Whole};
-
-/// How many sums a search may remember.
-const SEARCH_ENTRIES: usize = 1_000_000;
 
 /// What is known of a region at the opening: its lowest point, how many points it has, how many positions are reachable,
 /// and the value of the opening.
@@ -49,7 +46,7 @@ pub struct RegionReport {
 
 /// A state of the whole game with its regions of play, all of whose positions have their values. Contracts see the
 /// regions, the trees of the store and the present state.
-#[derive(Drop)]
+#[derive(Debug, Drop)]
 pub struct Solved {
     whole: Whole,
     store: Store,
@@ -65,12 +62,12 @@ pub struct Solved {
 }
 
 impl Model for Solved {
-    ghost use Rattle.endgame_solver.specs.Solved.{SolvedGame};
-    ghost use Rattle.endgame_solver.specs.Views.{IsHeld};
+    ghost use Rattle.endgame_solver.specs.Solved.{Solved};
+    ghost use Rattle.endgame_solver.specs.inner.Views.{IsHeld};
     ghost use Rattle.sum_outcome.specs.Memo.{Fits};
     ghost use Rattle.endgame_solver.specs.Code.{solved_code};
 
-    ghost Value = { SolvedGame };
+    ghost Value = { Solved };
 
     ghost coded = { solved_code };
 
@@ -90,7 +87,7 @@ impl Solved {
         steps: &mut Steps<L>,
     ) -> Result<Solved, SolveError>
         requires fit { IsFit setup.now }
-        requires positions { limits.now.positions ≤ 1000000 }
+        requires positions { limits.now.positions ≤ MOST_POSITIONS }
         ensures begun { Begun setup.now limits.now result }
         ensures steps { (regions : List Region) → AreRegionsOfPlay setup.now.board regions
             → steps.new ≤ steps.old + most_steps limits.now regions }
@@ -113,7 +110,7 @@ impl Solved {
             return Err(SolveError::Points(lowest, points));
         }
         let mut store = Store::new(alloc);
-        let mut search = Search::new(alloc, SEARCH_ENTRIES)?;
+        let mut search = Search::new(alloc, MOST_ENTRIES)?;
         search.note_zero(&mut store)?;
         let book = solve_regions(alloc, &regions, limits, &mut store, steps)?;
         let places = opening_places(alloc, regions.len())?;
@@ -191,7 +188,9 @@ impl Solved {
     /// values and the balance is at most 0 for Black to move, at least 0 for White.
     pub fn winner(&mut self) -> Colour
         ensures plain { IsWinner self.old.state result }
-        ensures sum { (ids : List ℕ) → ArePresent self.old ids → (result ≡ other self.old.state.side) ↔ LosesGame self.old.state.side (sum_tree self.old.trees ids (balance_units self.old.state)) }
+        ensures sum { (ids : List ℕ) → ArePresent self.old ids
+            → (result ≡ other self.old.state.side) ↔ LosesGame self.old.state.side
+            (sum_tree self.old.trees ids (balance_units self.old.state)) }
         ensures same { self.new ≡ self.old }
     {
         let side = self.whole.side();
@@ -206,7 +205,7 @@ impl Solved {
     /// side to move loses.
     pub fn winning_move(&mut self) -> Option<Move>
         ensures first { IsFirstWinning self.old.state result }
-        ensures none { (result ≡ None) ↔ MoverLoses State Leads self.old.state }
+        ensures none { (result ≡ None) ↔ IsLosing self.old.state }
         ensures same { self.new ≡ self.old }
     {
         let present = Present {

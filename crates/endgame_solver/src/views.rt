@@ -2,14 +2,14 @@
 
 ghost use Rattle.std.specs.Prelude.{◌≡◌, ◌<◌};
 ghost use Rattle.region_book.specs.Shape.{colour_after};
-ghost use Rattle.endgame_solver.specs.Views.{own};
+ghost use Rattle.endgame_solver.specs.inner.Views.{own};
 
 use go_grid::Colour;
 use local_graph::Edge;
 
 /// Where the graph and the values of a region stand, and how the graph's places are the region's: place `i` of the graph is
 /// place `places[i]` of the region, and the two colours are exchanged exactly where `colours` is true.
-#[derive(Clone, Copy)]
+#[derive(Clone, Copy, Debug)]
 pub(crate) struct View {
     pub graph: usize,
     pub values: usize,

@@ -9,7 +9,8 @@ use Rattle.game_canon.specs.declared.order.Order.TheVariants.{Less, Equal, Great
 use Rattle.short_games.proofs.ReductionLaws.{same-canonical}
 use Rattle.game_lines.specs.Showings.{IsUnshown}
 use Rattle.game_calc.specs.inner.Amounts.{IsAmount}
-use Rattle.game_calc.specs.Answer.{IsAnswer, IsOrderText, IsPastLimit, IsShownRefusal, IsUnanswered}
+use Rattle.game_calc.specs.Answer.{IsAnswer, IsOrderText, IsPastLimit}
+use Rattle.game_calc.specs.inner.Answer.{IsShownRefusal, IsUnanswered}
 use Rattle.game_calc.specs.Expression.{Expression, tree_of}
 use Rattle.game_calc.specs.Expression.Line.{value, order}
 use Rattle.game_calc.specs.declared.amounts.Amount.{Amount}

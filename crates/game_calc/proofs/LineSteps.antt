@@ -7,7 +7,8 @@ use Rattle.short_games.specs.TextOrder.{IsCanonicalFor}
 use Rattle.game_store.specs.Meaning.{Extends}
 use Rattle.game_text.specs.Reading.{ReadsText}
 use Rattle.game_calc.specs.inner.Amounts.{IsAmount, IsBefore, IsHeld, IsHeldBefore}
-use Rattle.game_calc.specs.Expression.{Expression, Fault, Outcome, tree_of, ReadsTerm, ReadsTerms, ReadsLine, closed, kind, next, token, rest, sign_of, with_term, first_sign, first_bytes, most_open}
+use Rattle.game_calc.specs.Expression.{Expression, Fault, Outcome, tree_of, ReadsTerm, ReadsTerms, ReadsLine, closed, kind, next, token, rest, sign_of, with_term, first_sign, first_bytes}
+use Rattle.game_text.specs.Depth.{most_open}
 use Rattle.game_calc.specs.Expression.Expression.{game}
 use Rattle.game_calc.specs.Expression.Outcome.{reads, refused}
 use Rattle.game_calc.specs.Expression.ReadsTerm.{a_game, a_group}

@@ -17,7 +17,8 @@ use Rattle.game_canon.specs.Followers.{IsIn}
 use Rattle.game_canon.specs.Outcomes.{IsCanonicalId}
 use Rattle.game_canon.specs.Reachable.{AreReachable}
 use Rattle.game_canon.proofs.NumberParts.{within-bounds}
-use Rattle.game_calc.specs.Steps.{IsPlace, IsOutOfLimits, IsPairRefusal, IsStepRefusal}
+use Rattle.game_calc.specs.Steps.{IsPlace, IsOutOfLimits, IsStepRefusal}
+use Rattle.game_calc.specs.inner.Steps.{IsPairRefusal}
 use Rattle.game_calc.specs.inner.Table.{AreRight, AreRowsKnown}
 
 -- what a form is made of are its places

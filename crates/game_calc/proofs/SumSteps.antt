@@ -23,7 +23,7 @@ use Rattle.game_canon.proofs.ChangeLaws.{tree-number}
 use Rattle.game_canon.proofs.GameLaws.{has-left, left-has, has-right, right-has}
 use Rattle.game_canon.proofs.Sizes.{number-same}
 use Rattle.game_canon.proofs.SideLaws.{pick-append}
-use Rattle.game_calc.specs.Steps.{IsPairRefusal}
+use Rattle.game_calc.specs.inner.Steps.{IsPairRefusal}
 use Rattle.game_calc.specs.inner.Table.{AreNoted, AddsMoves, AreRight}
 
 -- each tree of the one list is equal as a game to one of the other

@@ -11,11 +11,12 @@ use Rattle.game_store.specs.Meaning.{pick, AreBelow, Extends}
 use Rattle.game_store.specs.Forms.{IsOptions}
 use Rattle.short_games.specs.Parts.{HasMoreParts, IsInner}
 use Rattle.game_store.proofs.Values.{pick-has, pick-same}
-use Rattle.game_canon.specs.Changes.{AreClosed, AreKnown}
+use Rattle.game_canon.specs.inner.Changes.{AreClosed, AreKnown}
 use Rattle.game_canon.specs.Outcomes.{IsCanonicalId}
 use Rattle.game_canon.proofs.ChangeSteps.{extends-on}
 use Rattle.game_canon.proofs.GameLaws.{left-has, right-has}
-use Rattle.game_calc.specs.inner.Table.{AreNoted, AddsSums, AreRight, IsRightSum, Grows, AreRowsKnown, AreInnerKnown, AreMovesKnown, same_pair, with_sum}
+use Rattle.game_calc.specs.inner.Table.{AreNoted, AddsSums, AreRight, IsRightSum, Grows, AreRowsKnown, AreInnerKnown, AreMovesKnown, with_sum}
+use Rattle.game_canon.specs.Comparisons.{same_pair}
 
 -- the loop over the options of one side
 noted-push : (note : ℕ → Option ℕ) (is vs : List ℕ) (i v : ℕ) → AreNoted note is vs → note i ≡ Some v → AreNoted note (is ++ i ∷ []) (vs ++ v ∷ [])
@@ -87,17 +88,6 @@ some-same i j e = ap value e
 pub not-none : (k : ℕ) (o : Option ℕ) → o ≡ Some k → o ≡ None → ⊥
 not-none k o p q = cc
 
--- more trees, and more sums
-pub closed-more : (Ts Us : List Tree) (is : List ℕ) → Extends Ts Us → AreClosed Ts is → AreClosed Us is
-closed-more Ts Us is x c = record {
-  ids = λ j l. omega (arith, c.ids j l, x.longer);
-  ascends = c.ascends;
-  closed = λ j l X inner. (
-      let r = c.closed j l X (subst (λ t. IsInner t X) (x.same (get_or is j 0) (c.ids j l)) inner) in
-      (r.0, r.1, r.2 ∙ sym (x.same (get_or is r.0 0) (c.ids r.0 r.1)))
-      );
-}
-
 right-kept : (Ts Us : List Tree) (limit a b k : ℕ) → Extends Ts Us → IsRightSum Ts limit a b k → IsRightSum Us limit a b k
 right-kept Ts Us limit a b k x r =
     let c = r.sum in
@@ -137,9 +127,6 @@ pub record IsRow (Ts Us : List Tree) (limit a : ℕ) (start note : ℕ → ℕ �
   pub right : AreRight Us limit note
   pub grows : Grows start note
   pub known : (j : ℕ) → j < n → j < length js → (k : ℕ) × (note a (get_or js j 0) ≡ Some k)
-
-pub row-start : (Ts : List Tree) (limit a : ℕ) (note : ℕ → ℕ → Option ℕ) (js : List ℕ) → AreRight Ts limit note → IsRow Ts Ts limit a note note js 0
-row-start Ts limit a note js right = record { kept = record { longer = omega arith; same = λ i l. refl }; right = right; grows = λ c d k e. (k, e); known = λ j l. absurd (omega (arith, l)) }
 
 module _ (Ts Us : List Tree) (limit a : ℕ) (start note : ℕ → ℕ → Option ℕ) (js : List ℕ) (n : ℕ) (row : IsRow Ts Us limit a start note js n) (id : a < length Ts) (l : n < length js) where
   -- the sums after a move in a stand in earlier rows
@@ -184,9 +171,6 @@ pub record AreRows (Ts Us : List Tree) (limit : ℕ) (note : ℕ → ℕ → Opt
   pub kept : Extends Ts Us
   pub right : AreRight Us limit note
   pub known : AreRowsKnown note is js n
-
-pub rows-start : (Ts : List Tree) (limit : ℕ) (note : ℕ → ℕ → Option ℕ) (is js : List ℕ) → AreRight Ts limit note → AreRows Ts Ts limit note is js 0
-rows-start Ts limit note is js right = record { kept = record { longer = omega arith; same = λ i l. refl }; right = right; known = λ i l. absurd (omega (arith, l)) }
 
 module _ (Ts Us : List Tree) (limit : ℕ) (note : ℕ → ℕ → Option ℕ) (is js : List ℕ) (n : ℕ) (rows : AreRows Ts Us limit note is js n) (closed : AreClosed Ts is) (l : n < length is) where
   pub rows-inner : AreDistinct Ts → AreInnerKnown Us note (get_or is n 0) js

@@ -1,5 +1,5 @@
 -- Where tokens begin and end.
-use Rattle.std.proofs.Common.{ℕ, zero, suc, ◌+◌, ◌-◌, ◌<◌, ◌≤◌, ◌≡◌, ◌⊎◌, ◌∷◌, [], List, length, get_or, take, drop, arith, inl, inr, ap, refl, sym, subst, ◌∙◌, cond}
+use Rattle.std.proofs.Common.{ℕ, zero, suc, ◌+◌, ◌-◌, ◌<◌, ◌≤◌, ◌≡◌, ◌⊎◌, ◌∷◌, [], List, length, get_or, take, drop, arith, inl, inr, ap, refl, sym, ◌∙◌, cond}
 use Rattle.std.specs.Prelude.{slice_range}
 use Rattle.std.proofs.lemmas.Bool.{cases_lt, ne_eqb, eq-eqb}
 use Rattle.std.proofs.lemmas.List.{drop-drop, drop_more, drop_all, get_or-drop, length-drop}
@@ -25,9 +25,6 @@ pub record IsPassing (text : List ℕ) (first at : ℕ) : Type 0 where
   pub forward : first ≤ at
   pub within : at ≤ length text
   pub next_is : next (drop at text) ≡ next (drop first text)
-
-pub passing-start : (text : List ℕ) (first : ℕ) → first ≤ length text → IsPassing text first first
-passing-start text first l = record { forward = omega arith; within = l; next_is = refl }
 
 pub passing-step : (text : List ℕ) (first at : ℕ) → IsPassing text first at → at < length text → get_or text at 0 ≡ 32 → IsPassing text first (at + 1)
 passing-step text first at w l e = record { forward = omega (arith, w.forward); within = omega (arith, l); next_is = sym (next-blank text at l e) ∙ w.next_is }
@@ -58,16 +55,6 @@ pub record IsRunning (text : List ℕ) (start at : ℕ) : Type 0 where
   pub forward : start ≤ at
   pub within : at ≤ length text
   pub bytes : (j : ℕ) → start ≤ j → j < at → get_or text j 0 ≡ 32 → ⊥
-
-pub running-start : (text : List ℕ) (start : ℕ) → start ≤ length text → IsRunning text start start
-running-start text start l = record { forward = omega arith; within = l; bytes = λ j a b. absurd (omega (arith, a, b)) }
-
-pub running-step : (text : List ℕ) (start at : ℕ) → IsRunning text start at → at < length text → (get_or text at 0 ≡ 32 → ⊥) → IsRunning text start (at + 1)
-running-step text start at w l other = record {
-  forward = omega (arith, w.forward);
-  within = omega (arith, l);
-  bytes = λ j a b. elim (cases_lt j at) [ inl d ↦ w.bytes j a d | inr d ↦ (let e : at ≡ j = omega (arith, b, d) in subst (λ z. get_or text z 0 ≡ 32 → ⊥) e other) ];
-}
 
 pub running-end : (text : List ℕ) (start at : ℕ) → IsRunning text start at → (length text ≤ at) ⊎ (get_or text at 0 ≡ 32) → (slice_range text start at ≡ token (drop start text)) × (drop at text ≡ behind (drop start text))
 running-end text start at w end =

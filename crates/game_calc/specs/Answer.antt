@@ -6,7 +6,7 @@ use Rattle.game_text.specs.NamedText.{named_text}
 use Rattle.game_canon.specs.Orders.{IsOrder}
 use Rattle.game_canon.specs.declared.order.Order.{Order}
 use Rattle.game_canon.specs.declared.order.Order.TheVariants.{Less, Equal, Greater, Confused}
-use Rattle.game_lines.specs.Words.{word_line}
+use Rattle.board_words.specs.Words.{word_line}
 use Rattle.game_lines.specs.Pictures.{Picture, IsPicture}
 use Rattle.game_lines.specs.Showings.{IsUnshown, game_lines}
 use Rattle.game_calc.specs.Expression.{Line, Fault, ReadsLine, tree_of, HasStepOutOfLimits}
@@ -16,6 +16,7 @@ use Rattle.game_calc.specs.declared.errors.CalcError.{CalcError}
 use Rattle.game_calc.specs.declared.errors.CalcError.TheVariants as calc
 use Rattle.game_calc.specs.declared.errors.CalcFault.TheVariants as fault
 
+-- the word for how two games compare
 abbrev pub order_word : Order → List ℕ
 order_word Less = codes "less"
 order_word Equal = codes "equal"
@@ -36,30 +37,15 @@ abbrev pub IsPastLimit : ℕ → Line → Type 0
 IsPastLimit limit (value E) = HasStepOutOfLimits limit E ⊎ ((C : Tree) → IsCanonicalFor (tree_of E) C → IsUnshown C)
 IsPastLimit limit (order E F) = HasStepOutOfLimits limit E ⊎ HasStepOutOfLimits limit F
 
--- why a line that was read has no answer
-abbrev pub IsUnanswered : ℕ → Line → CalcError → Type 0
-IsUnanswered limit line (calc.Fault f) = ⊥
-IsUnanswered limit line calc.Limit = IsPastLimit limit line
-IsUnanswered limit line (calc.Memory cause) = Unit {0}
-
--- the lines that show a canonical tree, and why it isn't shown
-abbrev pub IsShown : Tree → List ℕ → Type 0
-IsShown C text = (IsUnshown C → ⊥) × (drawn : Picture) × IsPicture C drawn × (text ≡ game_lines (named_text C) drawn)
-
-abbrev pub IsShownRefusal : Tree → CalcError → Type 0
-IsShownRefusal C (calc.Fault f) = ⊥
-IsShownRefusal C calc.Limit = IsUnshown C
-IsShownRefusal C (calc.Memory cause) = Unit {0}
-
 -- the line is read and within the limits, and the text is its answer
 abbrev pub IsAnswered : ℕ → List ℕ → List ℕ → Type 0
 IsAnswered limit expression text = (line : Line) × ReadsLine limit expression (Ok line) × (IsPastLimit limit line → ⊥) × IsAnswer line text
 
--- the line is refused so at a place, counted from 0
+-- the line is refused with a fault at this place, counted from 0
 abbrev pub RefusesAt : ℕ → List ℕ → (List ℕ → Fault) → ℕ → Type 0
 RefusesAt limit expression f place = (rest : List ℕ) × ReadsLine limit expression (Err (f rest)) × (place + length rest ≡ length expression)
 
--- why there is no answer
+-- why a line has no answer: it is refused with a fault, it is past a limit, or there is want of memory
 abbrev pub IsCalcRefusal : ℕ → List ℕ → CalcError → Type 0
 IsCalcRefusal limit expression (calc.Fault (fault.Byte place)) = RefusesAt limit expression stray place
 IsCalcRefusal limit expression (calc.Fault (fault.Number place)) = RefusesAt limit expression no_number place

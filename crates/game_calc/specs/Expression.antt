@@ -5,6 +5,7 @@ use Rattle.std.specs.Prelude.{ℕ, suc, ◌≡◌, ◌<◌, ◌≤◌, ◌⊎◌
 use Rattle.short_games.specs.Tree.{Tree, neg}
 use Rattle.short_games.specs.Sum.{◌+ᵍ◌}
 use Rattle.short_games.specs.TextOrder.{IsCanonicalFor}
+use Rattle.game_text.specs.Depth.{most_open}
 use Rattle.game_text.specs.Reading.{ReadsText, Fault as NameFault}
 use Rattle.game_text.specs.Reading.Fault.{bad_byte, bad_number, cut_short, too_deep, too_many_parts, past_bounds}
 use Rattle.game_calc.specs.Steps.{IsOutOfLimits}
@@ -19,13 +20,13 @@ pub data Expression : Type 0 where
   opposite : Expression → Expression
   sum : Expression → Expression → Expression
 
--- the tree that it names
+-- the tree that an expression names
 unfoldable pub tree_of : Expression → Tree
 tree_of (game G) = G
 tree_of (opposite E) = neg (tree_of E)
 tree_of (sum E F) = tree_of E +ᵍ tree_of F
 
--- a step is out of limits, where each is taken on canonical trees
+-- a step of an expression is out of limits, where each is taken on canonical trees
 unfoldable pub HasStepOutOfLimits : ℕ → Expression → Type 0
 HasStepOutOfLimits limit (game G) = ⊥
 HasStepOutOfLimits limit (opposite E) = HasStepOutOfLimits limit E
@@ -50,18 +51,21 @@ pub data Outcome : Type 0 where
   reads : Expression → List ℕ → Outcome
   refused : Fault → Outcome
 
+-- the byte of a blank
 abbrev pub blank : ℕ
 blank = 32
 
--- the bytes from the next token on, the token that they begin with, and the bytes behind it
+-- the bytes from the next token on
 unfoldable pub next : List ℕ → List ℕ
 next [] = []
 next (x ∷ xs) = cond (nat_eq x blank) (next xs) (x ∷ xs)
 
+-- the token that the bytes begin with, empty where they begin with a blank
 unfoldable pub token : List ℕ → List ℕ
 token [] = []
 token (x ∷ xs) = cond (nat_eq x blank) [] (x ∷ token xs)
 
+-- the bytes behind the token that they begin with
 unfoldable pub behind : List ℕ → List ℕ
 behind [] = []
 behind (x ∷ xs) = cond (nat_eq x blank) (x ∷ xs) (behind xs)
@@ -76,16 +80,13 @@ kind_of [] = End
 kind_of (x ∷ []) = sign_kind x
 kind_of (x ∷ y ∷ ys) = Game
 
--- what the next token is, and the bytes behind it
+-- what the next token is
 abbrev pub kind : List ℕ → Kind
 kind bytes = kind_of (token (next bytes))
 
+-- the bytes behind the next token
 abbrev pub rest : List ℕ → List ℕ
 rest bytes = behind (next bytes)
-
--- the most parentheses that may be open at once
-abbrev pub most_open : ℕ
-most_open = 1000
 
 -- what a fault of a name is of the line, where these bytes stand behind the token
 abbrev pub fault_of : NameFault → List ℕ → Fault
@@ -97,16 +98,18 @@ fault_of too_deep bytes = deep
 fault_of too_many_parts bytes = large
 fault_of past_bounds bytes = large
 
+-- what reading a name comes to in a line, where these bytes stand behind the token
 abbrev pub outcome_of : Result Tree NameFault → List ℕ → Outcome
 outcome_of (Ok G) bytes = reads (game G) bytes
 outcome_of (Err fault) bytes = refused (fault_of fault bytes)
 
--- the closing parenthesis that is due behind a sum, where the next token is this
+-- what a sum in parentheses comes to, where the next token behind it is this, and a closing one is due
 abbrev pub closed_by : Kind → Expression → List ℕ → Outcome
 closed_by Close E bytes = reads E (rest bytes)
 closed_by End E bytes = refused unfinished
 closed_by k E bytes = refused (stray (next bytes))
 
+-- what a sum in parentheses comes to, with the closing one that is due behind it
 abbrev pub closed : Outcome → Outcome
 closed (reads E bytes) = closed_by (kind bytes) E bytes
 closed (refused fault) = refused fault
@@ -117,6 +120,7 @@ sign_of Plus = Some sign.Plus
 sign_of Minus = Some sign.Minus
 sign_of k = None
 
+-- a term with its sign
 abbrev pub signed : Sign → Expression → Expression
 signed sign.Plus E = E
 signed sign.Minus E = opposite E
@@ -126,11 +130,12 @@ abbrev pub with_term : Option Expression → Sign → Expression → Expression
 with_term None s F = signed s F
 with_term (Some E) s F = sum E (signed s F)
 
--- the sign in front of the first term of a sum, and the bytes behind it
+-- the sign in front of the first term of a sum, where the next token is this
 abbrev pub first_sign : Kind → Sign
 first_sign Minus = sign.Minus
 first_sign k = sign.Plus
 
+-- the bytes behind the sign in front of the first term of a sum, where the next token is this; a `+` is no such sign
 abbrev pub first_bytes : Kind → List ℕ → List ℕ
 first_bytes Minus bytes = rest bytes
 first_bytes k bytes = bytes
@@ -143,7 +148,7 @@ BeginsNoTerm Close = Unit {0}
 BeginsNoTerm Query = Unit {0}
 BeginsNoTerm k = ⊥
 
--- the end that is due behind the second sum
+-- what a line of two sums comes to, where the next token behind the second is this, and the end is due
 abbrev pub ended : Kind → Expression → Expression → List ℕ → Result Line Fault
 ended End E F bytes = Ok (order E F)
 ended k E F bytes = Err (stray (next bytes))
@@ -158,17 +163,18 @@ module _ (limit : ℕ) where
       none_left : (n : ℕ) (bytes : List ℕ) → ReadsTerm n bytes End (refused unfinished)
       no_term : (n : ℕ) (bytes : List ℕ) (k : Kind) → BeginsNoTerm k → ReadsTerm n bytes k (refused (stray (next bytes)))
 
-    -- what they come to behind the sign in front of a term, where these terms stand before it
+    -- what the bytes come to behind the sign in front of a term of a sum, where these terms stand before it, with n parentheses open
     pub data ReadsTerms : ℕ → Option Expression → Sign → List ℕ → Outcome → Type 0 where
       last : (n : ℕ) (before : Option Expression) (s : Sign) (bytes : List ℕ) (F : Expression) (ys : List ℕ) → ReadsTerm n bytes (kind bytes) (reads F ys) → sign_of (kind ys) ≡ None → ReadsTerms n before s bytes (reads (with_term before s F) ys)
       one_more : (n : ℕ) (before : Option Expression) (s : Sign) (bytes : List ℕ) (F : Expression) (ys : List ℕ) (t : Sign) (o : Outcome) → ReadsTerm n bytes (kind bytes) (reads F ys) → sign_of (kind ys) ≡ Some t
           → ReadsTerms n (Some (with_term before s F)) t (rest ys) o → ReadsTerms n before s bytes o
       no_more : (n : ℕ) (before : Option Expression) (s : Sign) (bytes : List ℕ) (fault : Fault) → ReadsTerm n bytes (kind bytes) (refused fault) → ReadsTerms n before s bytes (refused fault)
 
-  -- what a sum comes to
+  -- what the bytes come to where a sum is due, with n parentheses open
   abbrev pub ReadsSum : ℕ → List ℕ → Outcome → Type 0
   ReadsSum n bytes o = ReadsTerms n None (first_sign (kind bytes)) (first_bytes (kind bytes) bytes) o
 
+  -- what a line comes to, once it is known what its second sum does
   abbrev pub BehindSecond : Expression → Outcome → Result Line Fault → Type 0
   BehindSecond E (reads F bytes) out = out ≡ ended (kind bytes) E F bytes
   BehindSecond E (refused fault) out = out ≡ Err fault
@@ -179,6 +185,7 @@ module _ (limit : ℕ) where
   AfterFirst Query E bytes out = (o : Outcome) × ReadsSum 0 (rest bytes) o × BehindSecond E o out
   AfterFirst k E bytes out = out ≡ Err (stray (next bytes))
 
+  -- what a line comes to, once it is known what its first sum does
   abbrev pub BehindFirst : Outcome → Result Line Fault → Type 0
   BehindFirst (reads E bytes) out = AfterFirst (kind bytes) E bytes out
   BehindFirst (refused fault) out = out ≡ Err fault

@@ -21,12 +21,6 @@ IsTooLarge limit S = (C : Tree) → IsCanonicalFor S C → HasMoreParts C limit 
 abbrev pub IsOutOfLimits : ℕ → Tree → Tree → Type 0
 IsOutOfLimits limit G H = (X Y : Tree) × IsPlace G X × IsPlace H Y × IsTooLarge limit (X +ᵍ Y)
 
--- why a sum S of two places isn't made
-abbrev pub IsPairRefusal : Tree → ℕ → FormError → Type 0
-IsPairRefusal S limit Parts = (C : Tree) → IsCanonicalFor S C → HasMoreParts C limit
-IsPairRefusal S limit Bounds = (C : Tree) → IsCanonicalFor S C → HasNumberPastBounds C
-IsPairRefusal S limit (Memory cause) = Unit {0}
-
 -- why a step isn't made
 abbrev pub IsStepRefusal : ℕ → Tree → Tree → FormError → Type 0
 IsStepRefusal limit G H Parts = IsOutOfLimits limit G H

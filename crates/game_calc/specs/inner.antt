@@ -2,3 +2,5 @@
 pub mod Amounts
 pub mod Machine
 pub mod Table
+pub mod Answer
+pub mod Steps

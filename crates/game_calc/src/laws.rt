@@ -3,6 +3,6 @@
 ghost use Rattle.game_calc.specs.Laws.{OneReading};
 
 /// A line comes to one thing: what it asks for, or one fault.
-pub fn line_law()
+pub fn line_laws()
     ensures one { OneReading }
 {}

@@ -2,19 +2,17 @@
 #![tactic(auto)]
 
 mod amounts;
-mod answering;
+mod answers;
 mod errors;
+mod expressions;
 mod laws;
 mod pair;
 mod pending;
-mod reading;
 mod sums;
 mod table;
-#[cfg(test)]
-mod tests;
 mod tokens;
 
-pub use answering::answer;
+pub use answers::answer;
 pub use errors::{CalcError, CalcFault};
-pub use laws::line_law;
+pub use laws::line_laws;
 pub use sums::add;

@@ -6,10 +6,10 @@ ghost use Rattle.short_games.specs.Sum.{◌+ᵍ◌};
 ghost use Rattle.short_games.specs.Tree.{tree_at};
 ghost use Rattle.game_store.specs.Meaning.{Extends};
 ghost use Rattle.short_games.specs.Parts.{HasMoreParts};
-ghost use Rattle.game_canon.specs.Changes.{AreKnown};
+ghost use Rattle.game_canon.specs.inner.Changes.{AreKnown};
 ghost use Rattle.game_canon.specs.FormComparisons.{AreFormComparisonsRight};
 ghost use Rattle.game_canon.specs.Outcomes.{IsCanonicalId};
-ghost use Rattle.game_calc.specs.Steps.{IsPairRefusal};
+ghost use Rattle.game_calc.specs.inner.Steps.{IsPairRefusal};
 ghost use Rattle.game_calc.specs.inner.Table.{noted, beside, AreNoted, AddsSums, AddsMoves, AreMovesKnown, AreRight};
 
 use crate::table::{Summand, Sums, noted_sum};
@@ -40,6 +40,7 @@ fn add_sums(
     'adding: for id in ids {
         match noted_sum(sums, summand, *id, other) {
             Some(sum) => found.push(sum)?,
+            // The sums of all options were noted before.
             None => unreachable!(),
         }
     }

@@ -4,10 +4,11 @@ ghost use Rattle.std.specs.Prelude.{◌≡◌, ◌<◌, ℕ, Some, length, slice
 ghost use Rattle.short_games.specs.Sum.{◌+ᵍ◌};
 ghost use Rattle.short_games.specs.Tree.{tree_at};
 ghost use Rattle.game_store.specs.Meaning.{Extends};
-ghost use Rattle.game_canon.specs.Changes.{AreClosed, AreKnown};
+ghost use Rattle.game_canon.specs.inner.Changes.{AreClosed, AreKnown};
 ghost use Rattle.game_canon.specs.FormComparisons.{AreFormComparisonsRight};
 ghost use Rattle.game_canon.specs.Outcomes.{IsCanonicalId};
-ghost use Rattle.game_calc.specs.Steps.{IsOutOfLimits, IsPairRefusal, IsStepRefusal};
+ghost use Rattle.game_calc.specs.Steps.{IsOutOfLimits, IsStepRefusal};
+ghost use Rattle.game_calc.specs.inner.Steps.{IsPairRefusal};
 ghost use Rattle.game_calc.specs.inner.Table.{noted, Grows, AreRight, AreRowsKnown, AreInnerKnown};
 
 use crate::pair::pair_sum;
@@ -117,6 +118,7 @@ pub fn add(
     let _new_count = store.len();
     match sums.get(&(a, b)).copied() {
         Some(sum) => Ok(sum),
+        // The pair itself was the last to be noted.
         None => unreachable!(),
     }
 }

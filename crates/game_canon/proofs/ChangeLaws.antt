@@ -7,7 +7,7 @@ use Rattle.short_games.specs.Sum.{◌+ᵍ◌, each_plus}
 use Rattle.short_games.specs.Number.{num, IsNumber, IsNumberTree, number_tree}
 use Rattle.short_games.specs.Canonical.{IsReduced}
 use Rattle.short_games.specs.TextOrder.{TextBefore, sorted, IsCanonicalTree, IsCanonicalFor}
-use Rattle.short_games.specs.Reduction.{IsFreeLeft, KeepsLeft, KeepsRight}
+use Rattle.short_games.specs.inner.Reduction.{IsFreeLeft, KeepsLeft, KeepsRight}
 use Rattle.short_games.proofs.OrderLaws.{le-refl, le-trans, not-le}
 use Rattle.short_games.proofs.SumLaws.{plus-le, plus-le_both, plus-cancel, plus-assoc, plus-nought, each_plus-has, has-each_plus, has-neg_each, neg_each-has, neg-left, neg-right, neg-neg, neg-le, not_le_left, not_right_le}
 use Rattle.short_games.proofs.NumberLaws.{neg-num, num-plus_le, num-le_plus, num-zero}
@@ -20,7 +20,7 @@ use Rattle.short_games.proofs.TextOrderLaws.{text-order}
 use Rattle.short_games.proofs.ReductionLaws.{form-canonical, number-kept_left, number-kept_right, canonical-number, canonical-same}
 use Rattle.game_canon.specs.declared.change.Change.{Change}
 use Rattle.game_canon.specs.declared.change.Change.TheVariants.{Negate, Add}
-use Rattle.game_canon.specs.Changes.{target, lefts, rights, shifted}
+use Rattle.game_canon.specs.inner.Changes.{target, lefts, rights, shifted}
 
 abbrev Same : Tree → Tree → Type 0
 Same G H = (G ≤ᵍ H) × (H ≤ᵍ G)

@@ -18,7 +18,7 @@ use Rattle.game_canon.specs.declared.errors.FormError.{FormError}
 use Rattle.game_canon.specs.declared.errors.FormError.TheVariants.{Parts, Bounds, Memory}
 use Rattle.game_canon.specs.inner.Ids.{IsInOrder}
 use Rattle.game_canon.specs.Reachable.{AreReachable}
-use Rattle.game_canon.specs.Changes.{target, lefts, rights, left_list, right_list, shifted, IsChanged, AreKnown, IsMapped, AreNoted, AreClosed, AreDone, IsRefusedAt, IsRefused}
+use Rattle.game_canon.specs.inner.Changes.{target, lefts, rights, left_list, right_list, shifted, IsChanged, AreKnown, IsMapped, AreNoted, AreClosed, AreDone, IsRefusedAt, IsRefused}
 use Rattle.game_canon.proofs.GameLaws.{has-left, left-has, has-right, right-has}
 use Rattle.game_canon.proofs.ChangeLaws.{number-shifted, AreImages, changed-form, changed-no_number}
 
@@ -211,9 +211,6 @@ module _ (Ts Us : List Tree) (c : Change) (note : ℕ → Option ℕ) (is : List
           | inr o ↦ (let e : j ≡ n = omega (arith, d, o) in absurd (omega (arith, subst (λ z. get_or is z 0 < get_or is n 0) e m)))
         ]
       ]
-
-  pub step-refused : (e : FormError) → IsRefusedAt c (tree_at Us (get_or is n 0)) e → (j : ℕ) × (j < length is) × IsRefusedAt c (tree_at Ts (get_or is j 0)) e
-  step-refused e r = (n, l, subst (λ t. IsRefusedAt c t e) same-tree r)
 
   pub step-done : (Vs : List Tree) (after : ℕ → Option ℕ) (k : ℕ) → Extends Us Vs → IsChanged Vs c (tree_at Us (get_or is n 0)) k → ((i : ℕ) → after i ≡ cond (nat_eq (get_or is n 0) i) (Some k) (note i)) → IsChanging Ts Vs c after is (n + 1)
   step-done Vs after k x h e = record {

@@ -5,7 +5,7 @@ use Rattle.short_games.specs.Tree.{Tree, left, right, Has, neg, size, tree_at, A
 use Rattle.short_games.specs.Order.{◌≤ᵍ◌, ◌≡ᵍ◌}
 use Rattle.short_games.specs.Number.{IsNumberTree, num, IsNumber, whole, count_tree, number_tree}
 use Rattle.short_games.specs.TextOrder.{IsCanonicalTree, IsCanonicalFor}
-use Rattle.short_games.specs.Reduction.{KeepsLeft, KeepsRight}
+use Rattle.short_games.specs.inner.Reduction.{KeepsLeft, KeepsRight}
 use Rattle.std.specs.Prelude.{Option, Some, None, Bool, IsTrue, ◌↔◌, unsigned_abs, ◌^◌}
 use Rattle.short_games.specs.Threshold.{IsFloor, IsCeiling}
 use Rattle.std.proofs.lemmas.Int.{ints}
@@ -23,7 +23,8 @@ use Rattle.game_canon.specs.declared.games.Games.{Games}
 use Rattle.game_canon.specs.inner.Games.{with_unstored, beside, IsUnstored, IsBeside, IsKnown}
 use Rattle.std.specs.Map.{lookup}
 use Rattle.indexmap.specs.IndexMap.{IndexMap}
-use Rattle.game_canon.specs.Comparisons.{same_pair, recalled, AreRight}
+use Rattle.game_canon.specs.Comparisons.{same_pair, AreRight}
+use Rattle.game_canon.specs.inner.Comparisons.{recalled}
 use Rattle.dyadic_num.specs.Units.{IsInBounds}
 use Rattle.short_games.specs.Parts.{HasMoreParts, IsOption, IsNumberOf}
 use Rattle.game_canon.specs.Outcomes.{IsCanonicalId, AreOptionsWithin}
@@ -150,7 +151,7 @@ starts Ts Us ls rs ms ns e a u b v = at (subst (λ z. AreBest Left z ls ms) e a)
 pub start-as : (Ts Us : List Tree) (ms ns vs ws : List ℕ) → Us ≡ Ts → vs ≡ ms → ws ≡ ns → IsStart Ts ms ns → IsStart Us vs ws
 start-as Ts Us ms ns vs ws e p q s = subst (λ z. IsStart z vs ws) (sym e) (subst (λ z. IsStart Ts z ws) (sym p) (subst (λ z. IsStart Ts ms z) (sym q) s))
 
-pub is-unstored : (Ts : List Tree) (G : Tree) (u : Unstored) (f c : ℤ) → G ≡ᵍ form Ts u.left.now u.right.now → (IsNumber G → ⊥) → IsStart Ts u.left.now u.right.now → IsFloor 60 G f → IsCeiling 60 G c → u.floor ≡ f → u.ceiling ≡ c → IsUnstored Ts u
+pub is-unstored : (Ts : List Tree) (G : Tree) (u : Unstored) (f c : ℤ) → G ≡ᵍ form Ts u.left.now u.right.now → (IsNumber G → ⊥) → IsStart Ts u.left.now u.right.now → IsFloor 60 G f → IsCeiling 60 G c → u.standing.now.floor ≡ f → u.standing.now.ceiling ≡ c → IsUnstored Ts u
 is-unstored Ts G u f c e n s a b p q = record {
   left_ids = s.left_ids;
   right_ids = s.right_ids;
@@ -216,7 +217,7 @@ module _ (Ts : List Tree) (g : Games) (u : Unstored) (G : Tree) (ms ns : List �
   same_form : G ≡ᵍ form Ts u.left.now u.right.now
   same_form = subst (λ z. G ≡ᵍ form Ts z u.right.now) (sym p) (subst (λ z. G ≡ᵍ form Ts ms z) (sym q) same)
 
-  pub known-beside : (known : ℕ → ℕ → Option Bool) (f c : ℤ) → AreDistinct Ts → AreRight Ts known → AreRight Ts (recalled g.earlier.now) → (IsNumber G → ⊥) → IsStart Ts ms ns → IsFloor 60 G f → IsCeiling 60 G c → u.floor ≡ f → u.ceiling ≡ c → IsKnown g known
+  pub known-beside : (known : ℕ → ℕ → Option Bool) (f c : ℤ) → AreDistinct Ts → AreRight Ts known → AreRight Ts (recalled g.earlier.now) → (IsNumber G → ⊥) → IsStart Ts ms ns → IsFloor 60 G f → IsCeiling 60 G c → u.standing.now.floor ≡ f → u.standing.now.ceiling ≡ c → IsKnown g known
   known-beside known f c d r w n s a b x y = record {
     games_are = record {
       distinct = subst AreDistinct (sym e) d;

@@ -26,12 +26,6 @@ pub trees-most : (Ts : List Tree) (o : Option Unstored) → length (with_unstore
 trees-most Ts None = omega arith
 trees-most Ts (Some u) = omega (arith, length-append Ts (form Ts u.left.now u.right.now ∷ []))
 
-pub none-beside : (Ts : List Tree) (o : Option Unstored) (id : ℕ) → o ≡ None → id < length (with_unstored Ts o) → id < length Ts
-none-beside Ts o id e l = subst (λ o. id < length (with_unstored Ts o)) e l
-
-pub last-id : (Ts : List Tree) (o : Option Unstored) (id : ℕ) → id < length (with_unstored Ts o) → length Ts ≤ id → id ≡ length Ts
-last-id Ts o id l m = omega (arith, trees-most Ts o, l, m)
-
 beside-tree : (Ts : List Tree) (u : Unstored) → tree_at (Ts ++ form Ts u.left.now u.right.now ∷ []) (length Ts) ≡ form Ts u.left.now u.right.now
 beside-tree Ts u = (last-value Ts (Ts ++ form Ts u.left.now u.right.now ∷ []) (form Ts u.left.now u.right.now) (length Ts) refl refl).1
 

@@ -10,7 +10,6 @@ pub mod ThresholdSteps
 pub mod SimplestNumber
 pub mod Waiting
 pub mod Undecided
-pub mod Examples
 pub mod ChangeLaws
 pub mod ChangeSteps
 pub mod NumberParts

@@ -24,7 +24,8 @@ use Rattle.game_canon.specs.declared.change.Change.TheVariants.{Negate, Add}
 use Rattle.game_canon.specs.declared.errors.FormError.{FormError}
 use Rattle.game_canon.specs.declared.errors.FormError.TheVariants.{Parts, Bounds, Memory}
 use Rattle.game_canon.specs.Outcomes.{IsCanonicalId}
-use Rattle.game_canon.specs.Changes.{target, lefts, rights, shifted, HasNumberPastBounds, IsRefused, IsSumRefusal}
+use Rattle.game_canon.specs.Changes.{HasNumberPastBounds, IsSumRefusal}
+use Rattle.game_canon.specs.inner.Changes.{target, lefts, rights, shifted, IsRefused}
 use Rattle.game_canon.proofs.GameLaws.{has-left, has-right}
 use Rattle.game_canon.proofs.ReachableLaws.{hot-before}
 use Rattle.game_canon.proofs.ChangeLaws.{AreImages, back, changed-form, lefts-canonical, rights-canonical, number-to, number-from, number-shifted, target-back, target-same}

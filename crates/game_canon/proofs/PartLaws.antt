@@ -19,7 +19,8 @@ use Rattle.short_games.specs.Parts.{IsOption, IsFollower, IsPart, AreParts, HasP
 use Rattle.short_games.specs.Parts.IsFollower.{itself, further}
 use Rattle.short_games.proofs.OrderLaws.{size-left, size-right}
 use Rattle.short_games.proofs.TextOrderLaws.{sorted-has, has-sorted}
-use Rattle.game_canon.specs.Followers.{IsIn, IsGrown, IsBelow, AreBelow, HasBelow, HasMoreBelow}
+use Rattle.game_canon.specs.Followers.{IsIn}
+use Rattle.game_canon.specs.inner.Followers.{IsGrown, IsBelow, AreBelow, HasBelow, HasMoreBelow}
 use Rattle.game_canon.proofs.SideLaws.{append-has, has-append_left, has-append_right, one}
 
 pub number-no_more : (G : Tree) (limit : ℕ) → IsNumberTree G → HasMoreParts G limit → ⊥

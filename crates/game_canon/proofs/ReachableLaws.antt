@@ -16,7 +16,8 @@ use Rattle.short_games.specs.Parts.{IsFollower, IsPart, IsInner, IsReached}
 use Rattle.short_games.specs.Parts.IsFollower.{itself, further}
 use Rattle.game_canon.specs.inner.Ids.{IsInOrder}
 use Rattle.game_canon.specs.Followers.{IsIn}
-use Rattle.game_canon.specs.Reachable.{IsWidened, AreReachable}
+use Rattle.game_canon.specs.Reachable.{AreReachable}
+use Rattle.game_canon.specs.inner.Reachable.{IsWidened}
 use Rattle.game_canon.proofs.IdSteps.{ordered-ids}
 use Rattle.short_games.proofs.PartLaws.{follower-more, number-option}
 use Rattle.game_canon.proofs.SideLaws.{append-has, has-append_left, has-append_right, one}

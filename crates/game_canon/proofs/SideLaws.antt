@@ -58,10 +58,6 @@ pub ids-one : (Ts : List Tree) (y : ℕ) → y < length Ts → AreIds Ts (y ∷ 
 ids-one Ts y h zero l = h
 ids-one Ts y h (suc j) l = absurd (omega (arith, l))
 
--- the ids that top doesn't cover, one by one
-pub without-start : (s : Side) (Ts : List Tree) (top : ℕ) → IsWithout s Ts [] top []
-without-start s Ts top = record { ids = λ j l. absurd (omega (arith, l)); among = λ X h. absurd h; rest = λ X h. absurd h; smaller = omega arith }
-
 pub without-skip : (s : Side) (Ts : List Tree) (xs vs : List ℕ) (top y : ℕ) → Covers s (tree_at Ts y) (tree_at Ts top) → IsWithout s Ts xs top vs → IsWithout s Ts (xs ++ y ∷ []) top vs
 without-skip s Ts xs vs top y c w = record {
   ids = w.ids;
@@ -83,10 +79,6 @@ without-push s Ts xs vs top y b c w = record {
   ];
   smaller = omega (arith, w.smaller, sizes-append Ts xs (y ∷ []), sizes-append Ts vs (y ∷ []));
 }
-
--- the best ids, one by one
-pub best-start : (s : Side) (Ts : List Tree) → AreBest s Ts [] []
-best-start s Ts = record { ids = λ j l. absurd (omega (arith, l)); among = λ X h. absurd h; covers = λ X h. absurd h; free = λ A B a b c. absurd a; smaller = omega arith }
 
 pub best-skip : (s : Side) (Ts : List Tree) (xs bs : List ℕ) (y : ℕ) → (((Y : Tree) → Has (pick Ts bs) Y → Covers s (tree_at Ts y) Y → ⊥) → ⊥) → AreBest s Ts xs bs → AreBest s Ts (xs ++ y ∷ []) bs
 best-skip s Ts xs bs y some b = record {

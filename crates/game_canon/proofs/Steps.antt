@@ -1,5 +1,5 @@
 -- How the order of two ids follows from floors and ceilings, and from the comparisons on which it rests.
-use Rattle.std.proofs.Common.{ℕ, ◌+◌, ◌-◌, ◌<◌, ◌≡◌, ◌↔◌, List, length, get_or, arith, sym, ◌∙◌, inl, inr, ap, subst, ℤ, ◌+ℤ◌, ◌≤ℤ◌, cond}
+use Rattle.std.proofs.Common.{ℕ, ◌+◌, ◌-◌, ◌<◌, ◌≡◌, ◌↔◌, List, length, get_or, arith, sym, ◌∙◌, inl, inr, ap, subst, ℤ, ◌+ℤ◌, ◌≤ℤ◌, ◌<ℤ◌, cond}
 use Rattle.std.proofs.lemmas.Int.{ints}
 use Rattle.std.proofs.lemmas.Bool.{cases_lt, lt-ltb, le-ltb}
 use Rattle.short_games.specs.Tree.{Tree, left, right, Has, tree_at, AreDistinct}
@@ -18,33 +18,33 @@ use Rattle.std.specs.Prelude.{Option}
 use Rattle.game_canon.specs.declared.games.Unstored.{Unstored}
 use Rattle.game_canon.specs.inner.Games.{with_unstored}
 use Rattle.game_canon.proofs.GameLaws.{lefts-same, rights-same}
-use Rattle.game_canon.specs.Comparisons.{counter, IsCountered, NoneCounters}
+use Rattle.game_canon.specs.inner.Comparisons.{counter, IsCountered, NoneCounters}
 
 number-cell : (e : ℕ) (z : ℤ) → IsCell e (num e z) (z +ℤ z)
 number-cell e z = subst (λ t. IsCell e t (z +ℤ z)) (num-double e z) (half-cell e (z +ℤ z))
 
 -- a number is at most the games with no lesser floor, and at least those with no greater ceiling
-pub first_number : (A B : Tree) (x f g h k : ℤ) → A ≡ number_tree x → IsFloor 60 A f → IsFloor 60 B g → f ≡ h → g ≡ k → (h ≤ℤ k) ↔ (A ≤ᵍ B)
-first_number A B x f g h k i p q f_is g_is = rw (← f_is, ← g_is) (
+pub first_number : (A B : Tree) (x f g : ℤ) → A ≡ number_tree x → IsFloor 60 A f → IsFloor 60 B g → (f ≤ℤ g) ↔ (A ≤ᵍ B)
+first_number A B x f g i p q =
     let e : f ≡ x +ℤ x = one-floor 60 A f (x +ℤ x) p (subst (λ t. IsFloor 60 t (x +ℤ x)) (sym i) (number-floor 60 x)) in
     let by : (num 60 x ≤ᵍ B) ↔ ((x +ℤ x) ≤ℤ g) = q 60 x (x +ℤ x) (number-cell 60 x) in
-    (λ l. subst (λ t. t ≤ᵍ B) (sym i) (by.1 (subst (λ k. k ≤ℤ g) e l)), λ y. subst (λ k. k ≤ℤ g) (sym e) (by.0 (subst (λ t. t ≤ᵍ B) i y))))
+    (λ l. subst (λ t. t ≤ᵍ B) (sym i) (by.1 (subst (λ k. k ≤ℤ g) e l)), λ y. subst (λ k. k ≤ℤ g) (sym e) (by.0 (subst (λ t. t ≤ᵍ B) i y)))
 
-pub second_number : (A B : Tree) (y f g h k : ℤ) → B ≡ number_tree y → IsCeiling 60 A f → IsCeiling 60 B g → f ≡ h → g ≡ k → (h ≤ℤ k) ↔ (A ≤ᵍ B)
-second_number A B y f g h k i p q f_is g_is = rw (← f_is, ← g_is) (
+pub second_number : (A B : Tree) (y f g : ℤ) → B ≡ number_tree y → IsCeiling 60 A f → IsCeiling 60 B g → (f ≤ℤ g) ↔ (A ≤ᵍ B)
+second_number A B y f g i p q =
     let e : g ≡ y +ℤ y = one-ceiling 60 B g (y +ℤ y) q (subst (λ t. IsCeiling 60 t (y +ℤ y)) (sym i) (number-ceiling 60 y)) in
     let by : (A ≤ᵍ num 60 y) ↔ (f ≤ℤ (y +ℤ y)) = p 60 y (y +ℤ y) (number-cell 60 y) in
-    (λ l. subst (λ t. A ≤ᵍ t) (sym i) (by.1 (subst (λ k. f ≤ℤ k) e l)), λ z. subst (λ k. f ≤ℤ k) (sym e) (by.0 (subst (λ t. A ≤ᵍ t) i z))))
+    (λ l. subst (λ t. A ≤ᵍ t) (sym i) (by.1 (subst (λ k. f ≤ℤ k) e l)), λ z. subst (λ k. f ≤ℤ k) (sym e) (by.0 (subst (λ t. A ≤ᵍ t) i z)))
 
 -- a number between the two, and a number at most the first alone, or at least the second alone
-pub number_between : (A B : Tree) (f g h k : ℤ) → IsCeiling 60 A f → IsFloor 60 B g → f ≡ h → g ≡ k → h ≤ℤ k → A ≤ᵍ B
-number_between A B f g h k p q f_is g_is l = le-trans A (num 61 f) B ((p 61 f f (half-cell 60 f)).1 (omega (arith, ints))) ((q 61 f f (half-cell 60 f)).1 (omega (arith, ints, f_is, g_is, l)))
+pub number_between : (A B : Tree) (f g : ℤ) → IsCeiling 60 A f → IsFloor 60 B g → f ≤ℤ g → A ≤ᵍ B
+number_between A B f g p q l = le-trans A (num 61 f) B ((p 61 f f (half-cell 60 f)).1 (omega (arith, ints))) ((q 61 f f (half-cell 60 f)).1 l)
 
-pub number_under : (A B : Tree) (f g h k : ℤ) → IsFloor 60 A f → IsFloor 60 B g → f ≡ h → g ≡ k → (h ≤ℤ k → ⊥) → A ≤ᵍ B → ⊥
-number_under A B f g h k p q f_is g_is n y = n (let l : f ≤ℤ g = (q 61 f f (half-cell 60 f)).0 (le-trans (num 61 f) A B ((p 61 f f (half-cell 60 f)).1 (omega (arith, ints))) y) in omega (arith, ints, f_is, g_is, l))
+pub number_under : (A B : Tree) (f g : ℤ) → IsFloor 60 A f → IsFloor 60 B g → g <ℤ f → A ≤ᵍ B → ⊥
+number_under A B f g p q n y = (let l : f ≤ℤ g = (q 61 f f (half-cell 60 f)).0 (le-trans (num 61 f) A B ((p 61 f f (half-cell 60 f)).1 (omega (arith, ints))) y) in omega (arith, ints, n, l))
 
-pub number_over : (A B : Tree) (f g h k : ℤ) → IsCeiling 60 A f → IsCeiling 60 B g → f ≡ h → g ≡ k → (h ≤ℤ k → ⊥) → A ≤ᵍ B → ⊥
-number_over A B f g h k p q f_is g_is n y = n (let l : f ≤ℤ g = (p 61 g g (half-cell 60 g)).0 (le-trans A B (num 61 g) y ((q 61 g g (half-cell 60 g)).1 (omega (arith, ints)))) in omega (arith, ints, f_is, g_is, l))
+pub number_over : (A B : Tree) (f g : ℤ) → IsCeiling 60 A f → IsCeiling 60 B g → g <ℤ f → A ≤ᵍ B → ⊥
+number_over A B f g p q n y = (let l : f ≤ℤ g = (p 61 g g (half-cell 60 g)).0 (le-trans A B (num 61 g) y ((q 61 g g (half-cell 60 g)).1 (omega (arith, ints)))) in omega (arith, ints, n, l))
 
 pub through : {A B C : Type 0} → A ↔ B → B ↔ C → A ↔ C
 through f g = (λ a. g.0 (f.0 a), λ c. f.1 (g.1 c))

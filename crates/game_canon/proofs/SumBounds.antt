@@ -1,15 +1,14 @@
 -- How the order of sums of two games follows from floors and ceilings.
-use Rattle.std.proofs.Common.{◌≡◌, List, inl, inr, arith, sym, ◌∙◌, ap₂, subst, ℤ, ◌+ℤ◌, ◌≤ℤ◌, ◌<◌, ◌≤◌, ◌^◌, unsigned_abs, to_z, of_z}
-use Rattle.std.specs.Int.{w128}
-use Rattle.std.proofs.lemmas.Int.{ints, by_lt_z, to_z-of_z, fits_signed_from_abs}
+use Rattle.std.proofs.Common.{List, inl, inr, arith, sym, subst, ℤ, ◌+ℤ◌, ◌≤ℤ◌}
+use Rattle.std.proofs.lemmas.Int.{ints, by_lt_z}
 use Rattle.short_games.specs.Tree.{Tree, tree_at}
 use Rattle.short_games.specs.Order.{◌≤ᵍ◌}
 use Rattle.short_games.specs.Sum.{◌+ᵍ◌}
 use Rattle.short_games.specs.Number.{num, IsNumberTree}
 use Rattle.short_games.specs.Threshold.{IsFloor, IsCeiling}
-use Rattle.game_store.specs.Places.{IsFloorRange, IsCeilingRange}
 use Rattle.game_canon.specs.declared.sums.SumPair.{SumPair}
-use Rattle.game_canon.specs.SumComparisons.{IsSumWithin, AreSameSums, AreFloors, AreCeilings, AreNumbers}
+use Rattle.game_canon.specs.SumComparisons.{IsSumWithin}
+use Rattle.game_canon.specs.inner.SumComparisons.{AreSameSums, AreFloors, AreCeilings, AreNumbers}
 use Rattle.short_games.proofs.OrderLaws.{le-refl, le-trans}
 use Rattle.short_games.proofs.SumLaws.{plus-le_both, plus-comm}
 use Rattle.short_games.proofs.NumberLaws.{num-le, num-lt, num-plus_le, num-le_plus}
@@ -20,19 +19,6 @@ over-floor G k f = (f 61 k k (half-cell 60 k)).1 (omega (arith, ints))
 
 under-ceiling : (G : Tree) (k : ℤ) → IsCeiling 60 G k → G ≤ᵍ num 61 k
 under-ceiling G k f = (f 61 k k (half-cell 60 k)).1 (omega (arith, ints))
-
--- sums of floors or ceilings don't overflow
-held_whole : (z : ℤ) → unsigned_abs z < 2 ^ 127 → to_z w128 (of_z w128 z) ≡ z
-held_whole z l = to_z-of_z w128 z (fits_signed_from_abs w128 z l)
-
-held_sum : (f g : ℤ) → unsigned_abs f ≤ 2 ^ 121 → unsigned_abs g ≤ 2 ^ 121 → to_z w128 (of_z w128 (to_z w128 (of_z w128 f) +ℤ to_z w128 (of_z w128 g))) ≡ f +ℤ g
-held_sum f g a b = ap₂ (λ x y. to_z w128 (of_z w128 (x +ℤ y))) (held_whole f (omega (arith, a))) (held_whole g (omega (arith, b))) ∙ held_whole (f +ℤ g) (omega (arith, ints, a, b))
-
-pub floors-held : (f g : ℤ) → IsFloorRange f → IsFloorRange g → to_z w128 (of_z w128 (to_z w128 (of_z w128 f) +ℤ to_z w128 (of_z w128 g))) ≡ f +ℤ g
-floors-held f g a b = held_sum f g (omega (arith, ints, a)) (omega (arith, ints, b))
-
-pub ceilings-held : (f g : ℤ) → IsCeilingRange f → IsCeilingRange g → to_z w128 (of_z w128 (to_z w128 (of_z w128 f) +ℤ to_z w128 (of_z w128 g))) ≡ f +ℤ g
-ceilings-held f g a b = held_sum f g (omega (arith, ints, a)) (omega (arith, ints, b))
 
 module _ (A B C D : Tree) (a b c d : ℤ) where
   sums-within : IsCeiling 60 A a → IsCeiling 60 B b → IsFloor 60 C c → IsFloor 60 D d → (a +ℤ b) ≤ℤ (c +ℤ d) → A +ᵍ B ≤ᵍ C +ᵍ D
@@ -59,21 +45,21 @@ level G f c n p q =
     omega (arith, ints, under, over)
 
 -- the same of ids, as the sums are compared
-pub ceilings-hold : (Ts : List Tree) (p : SumPair) (m n h k : ℤ) → AreCeilings Ts p.first p.second m → AreFloors Ts p.third p.fourth n → m ≡ h → n ≡ k → h ≤ℤ k → IsSumWithin Ts p
-ceilings-hold Ts p m n h k x y m_is n_is l = sums-within _ _ _ _ x.0 x.1 y.0 y.1 x.2 x.3 y.2 y.3 (omega (arith, ints, l, m_is, n_is, x.4, y.4))
+pub ceilings-hold : (Ts : List Tree) (p : SumPair) (m n : ℤ) → AreCeilings Ts p.first p.second m → AreFloors Ts p.third p.fourth n → m ≤ℤ n → IsSumWithin Ts p
+ceilings-hold Ts p m n x y l = sums-within _ _ _ _ x.0 x.1 y.0 y.1 x.2 x.3 y.2 y.3 (omega (arith, ints, l, x.4, y.4))
 
-pub floors-hold : (Ts : List Tree) (p : SumPair) (m n h k : ℤ) → AreFloors Ts p.first p.second m → AreCeilings Ts p.third p.fourth n → m ≡ h → n ≡ k → IsSumWithin Ts p → h ≤ℤ k
-floors-hold Ts p m n h k x y m_is n_is w = let l = floors-within _ _ _ _ x.0 x.1 y.0 y.1 x.2 x.3 y.2 y.3 w in omega (arith, ints, l, m_is, n_is, x.4, y.4)
+pub floors-hold : (Ts : List Tree) (p : SumPair) (m n : ℤ) → AreFloors Ts p.first p.second m → AreCeilings Ts p.third p.fourth n → IsSumWithin Ts p → m ≤ℤ n
+floors-hold Ts p m n x y w = let l = floors-within _ _ _ _ x.0 x.1 y.0 y.1 x.2 x.3 y.2 y.3 w in omega (arith, ints, l, x.4, y.4)
 
-pub numbers-hold : (Ts : List Tree) (p : SumPair) (low high other_low other_high h i j k : ℤ) → AreNumbers Ts p
+pub numbers-hold : (Ts : List Tree) (p : SumPair) (low high other_low other_high : ℤ) → AreNumbers Ts p
     → AreFloors Ts p.first p.second low → AreCeilings Ts p.first p.second high → AreFloors Ts p.third p.fourth other_low → AreCeilings Ts p.third p.fourth other_high
-    → low ≡ h → high ≡ i → other_low ≡ j → other_high ≡ k → h ≤ℤ k → i ≤ℤ j
-numbers-hold Ts p low high other_low other_high h i j k n s t u v p1 p2 p3 p4 l =
+    → low ≤ℤ other_high → high ≤ℤ other_low
+numbers-hold Ts p low high other_low other_high n s t u v l =
     let w = level _ s.0 t.0 n.first_number s.2 t.2 in
     let x = level _ s.1 t.1 n.second_number s.3 t.3 in
     let y = level _ u.0 v.0 n.third_number u.2 v.2 in
     let z = level _ u.1 v.1 n.fourth_number u.3 v.3 in
-    omega (arith, ints, w, x, y, z, l, p1, p2, p3, p4, s.4, t.4, u.4, v.4)
+    omega (arith, ints, w, x, y, z, l, s.4, t.4, u.4, v.4)
 
 -- sums of the same games
 pub same-within : (Ts : List Tree) (p : SumPair) → AreSameSums p → IsSumWithin Ts p

@@ -6,7 +6,7 @@ use Rattle.short_games.specs.Sum.{◌+ᵍ◌}
 use Rattle.short_games.proofs.OrderLaws.{le-refl, le-trans}
 use Rattle.short_games.proofs.SumLaws.{plus-le, plus-le_both, plus-cancel, plus-comm}
 use Rattle.game_canon.specs.declared.sums.SumPair.{SumPair}
-use Rattle.game_canon.specs.SumComparisons.{IsCancelled}
+use Rattle.game_canon.specs.inner.SumComparisons.{IsCancelled}
 
 module _ (A B C : Tree) where
   first-third : (A +ᵍ B ≤ᵍ A +ᵍ C) ↔ (B ≤ᵍ C)

@@ -20,7 +20,8 @@ use Rattle.game_canon.specs.declared.sums.SumPair.{SumPair}
 use Rattle.game_canon.specs.declared.sums.Place.{Place}
 use Rattle.game_canon.specs.declared.sums.Place.TheVariants.{First, Second, Third, Fourth}
 use Rattle.game_canon.specs.declared.sums_at_most.SumQuestion.{SumQuestion}
-use Rattle.game_canon.specs.SumComparisons.{IsSumWithin, AreStored, AreNumbers, game_at, options_at, IsMoveIn, AreMoves, counter_by, Counters, Resists, rank, HasResisted, weight}
+use Rattle.game_canon.specs.SumComparisons.{IsSumWithin, AreStored}
+use Rattle.game_canon.specs.inner.SumComparisons.{AreNumbers, game_at, options_at, IsMoveIn, AreMoves, counter_by, Counters, Resists, rank, HasResisted, weight}
 use Rattle.game_canon.proofs.GameLaws.{none-list}
 
 -- a player who moves in a number loses by it
@@ -214,9 +215,6 @@ module _ (Ts : List Tree) (q : SumQuestion) (so_far : HasResisted Ts q) (here : 
     | inl d ↦ so_far.places at d
     | inr d ↦ resists-at Ts q.pair q.place at (omega (arith, d, l)) here
   ]
-
-  pub resisted_next : (next : Place) → rank next ≡ suc (rank q.place) → HasResisted Ts (record { pair = q.pair; place = next; from = 0 })
-  resisted_next next e = record { places = λ at l. up_to at (omega (arith, l, e)); below = λ i l. absurd (omega (arith, l)) }
 
   pub resisted_last : AreCanonical Ts → AreStored Ts q.pair → (AreNumbers Ts q.pair → ⊥) → rank q.place ≡ 3 → IsSumWithin Ts q.pair
   resisted_last canonical ids hot e = let all : (at : Place) → Resists Ts q.pair at = λ at. up_to at (omega (arith, e, rank-most at)) in resisted Ts q.pair canonical ids hot (all First) (all Second) (all Third) (all Fourth)

@@ -12,7 +12,8 @@ use Rattle.game_canon.specs.declared.sums.SumPair.{SumPair}
 use Rattle.game_canon.specs.declared.sums.Place.TheVariants.{First}
 use Rattle.game_canon.specs.declared.sums_at_most.SumQuestion.{SumQuestion}
 use Rattle.game_canon.specs.declared.sums_at_most.SumStep.TheVariants.{Ask}
-use Rattle.game_canon.specs.SumComparisons.{same_games, with_sums, Compared, Tells, AreStored, AreSumsRight, AreComparisonsRight, AreOpen, HasResisted, IsSumStep, weight}
+use Rattle.game_canon.specs.SumComparisons.{same_games, Compared, Tells, AreStored, AreSumsRight, AreComparisonsRight}
+use Rattle.game_canon.specs.inner.SumComparisons.{with_sums, AreOpen, HasResisted, IsSumStep, weight}
 use Rattle.game_canon.proofs.Undecided.{row, row-le, row-lt, one_open, measure-answer}
 
 abbrev no_games : SumPair
@@ -117,9 +118,6 @@ right_more Ts known after p answer ids s e r q v k = elim (cases_Bool (same_game
 
 pub right_same : (Ts : List Tree) (before now : Compared) → now ≡ before → AreComparisonsRight Ts before → AreComparisonsRight Ts now
 right_same Ts before now e r = subst (AreComparisonsRight Ts) (sym e) r
-
-pub right_empty : (Ts : List Tree) (now : Compared) → now ≡ [] → AreComparisonsRight Ts now
-right_empty Ts now e = subst (AreComparisonsRight Ts) (sym e) (λ p answer n. cc)
 
 pub right_tells : (Ts : List Tree) (known : SumPair → Option Bool) (p : SumPair) (r : Option Bool) → AreSumsRight Ts known → r ≡ known p → IfSome r (λ answer. Tells Ts p answer)
 right_tells Ts known p None right e = tt

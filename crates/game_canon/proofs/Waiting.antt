@@ -7,7 +7,8 @@ use Rattle.std.proofs.Math.Seq.{get_or-append_seam}
 use Rattle.short_games.specs.Tree.{Tree}
 use Rattle.game_canon.specs.declared.at_most.Question.{Question}
 use Rattle.game_canon.specs.declared.at_most.Step.TheVariants.{Ask}
-use Rattle.game_canon.specs.Comparisons.{same_pair, with_answer, Says, AreRight, IsOpen, NoneCounters, IsStep}
+use Rattle.game_canon.specs.Comparisons.{same_pair, Says, AreRight}
+use Rattle.game_canon.specs.inner.Comparisons.{with_answer, IsOpen, NoneCounters, IsStep}
 use Rattle.game_canon.proofs.Undecided.{undecided, undecided-falls, measure-answer, one_open}
 
 abbrev nothing : Question
@@ -28,16 +29,6 @@ pub record IsAsking (Ts : List Tree) (known : ℕ → ℕ → Option Bool) (a b 
 
 none-counters_yet : (Ts : List Tree) (a b : ℕ) → NoneCounters Ts a b 0
 none-counters_yet Ts a b ls rs ms ns p q j l = absurd (omega (arith, l))
-
-pub asking_start : (Ts : List Tree) (known : ℕ → ℕ → Option Bool) (a b : ℕ) (ws : List Question) → ws ≡ [] → AreRight Ts known → IsOpen Ts known a b → IsAsking Ts known a b (record { game = a; other = b; place = 0 }) ws
-asking_start Ts known a b ws e r o = rw e record {
-  right = r;
-  now = record { open_pair = o; so_far = none-counters_yet Ts a b };
-  waits = λ i l. absurd (omega (arith, l));
-  above = λ i l. absurd (omega (arith, l));
-  falls = λ i j l m. absurd (omega (arith, m));
-  first = (refl, refl);
-}
 
 first-push : (ws : List Question) (x y : Question) → get_or (ws ++ x ∷ []) 0 y ≡ get_or ws 0 x
 first-push [] x y = refl
@@ -145,10 +136,6 @@ asking_answer Ts known after a b q next us ws answer asked s e u = record {
 
     old : (i : ℕ) → i < length ws → get_or (ws ++ next ∷ []) i nothing ≡ get_or ws i nothing
     old i l = get_or_append_left ws (next ∷ []) nothing i l
-
--- nothing waits any more: the question was the first
-pub asking_end : (Ts : List Tree) (known : ℕ → ℕ → Option Bool) (a b : ℕ) (q : Question) (ws : List Question) (answer : Bool) → ws ≡ [] → IsAsking Ts known a b q ws → Says Ts q.game q.other answer → Says Ts a b answer
-asking_end Ts known a b q ws answer e asked s = let w : IsAsking Ts known a b q [] = subst (IsAsking Ts known a b q) e asked in subst (λ j. Says Ts a j answer) w.first.1 (subst (λ i. Says Ts i q.other answer) w.first.0 s)
 
 -- the measure
 abbrev pub open_work : List Tree → (ℕ → ℕ → Option Bool) → Question → ℕ

@@ -1,55 +1,16 @@
 -- Comparisons that are remembered, and those that wait.
-use Rattle.std.specs.Prelude.{ℕ, ◌+◌, ◌-◌, ◌≡◌, ◌<◌, ◌↔◌, List, length, Bool, IsTrue, nat_eq, nat_lt, ◌&&◌, Option, Some, None, cond}
-use Rattle.std.specs.List.{slice_index_or}
-use Rattle.indexmap.specs.IndexMap.{IndexMap, get}
+use Rattle.std.specs.Prelude.{ℕ, ◌≡◌, ◌<◌, ◌↔◌, List, length, Bool, IsTrue, nat_eq, ◌&&◌, Option, Some}
 use Rattle.short_games.specs.Tree.{Tree, tree_at}
-use Rattle.short_games.specs.Number.{IsNumberTree}
 use Rattle.short_games.specs.Order.{◌≤ᵍ◌}
-use Rattle.game_store.specs.Forms.{IsOptions}
-use Rattle.game_canon.specs.declared.at_most.Step.{Step}
-use Rattle.game_canon.specs.declared.at_most.Step.TheVariants.{Answer, Ask}
-use Rattle.game_canon.specs.declared.at_most.Question.{Question}
 
+-- whether two pairs of ids are the same
 abbrev pub same_pair : ℕ × ℕ → ℕ × ℕ → Bool
 same_pair p q = nat_eq p.0 q.0 && nat_eq p.1 q.1
-
--- what is remembered of each pair of ids
-abbrev pub recalled : {S : Type 0} → IndexMap (ℕ × ℕ) Bool S → ℕ → ℕ → Option Bool
-recalled memo a b = get same_pair memo (a, b)
-
--- the same after one more answer
-abbrev pub with_answer : (ℕ → ℕ → Option Bool) → ℕ → ℕ → Bool → ℕ → ℕ → Option Bool
-with_answer known a b answer c d = cond (same_pair (a, b) (c, d)) (Some answer) (known c d)
 
 -- the answer says whether the first tree is at most the second
 abbrev pub Says : List Tree → ℕ → ℕ → Bool → Type 0
 Says Ts a b answer = IsTrue answer ↔ (tree_at Ts a ≤ᵍ tree_at Ts b)
 
--- what is remembered is right
+-- what is remembered of pairs is of ids of the store, and right there
 abbrev pub AreRight : List Tree → (ℕ → ℕ → Option Bool) → Type 0
 AreRight Ts known = (a b : ℕ) (answer : Bool) → known a b ≡ Some answer → (a < length Ts) × (b < length Ts) × Says Ts a b answer
-
--- a comparison of two forms with options that isn't remembered
-pub record IsOpen (Ts : List Tree) (known : ℕ → ℕ → Option Bool) (a b : ℕ) : Type 0 where
-  pub first_id : a < length Ts
-  pub second_id : b < length Ts
-  pub first_form : IsNumberTree (tree_at Ts a) → ⊥
-  pub second_form : IsNumberTree (tree_at Ts b) → ⊥
-  pub unknown : known a b ≡ None
-
--- The comparisons on which that of a with b rests: b with each Left option of a, and each Right option of b with a.
--- Where one of them is at most, a is not at most b.
-abbrev pub counter : ℕ → ℕ → List ℕ → List ℕ → ℕ → ℕ × ℕ
-counter a b ls rs j = cond (nat_lt j (length ls)) (b, slice_index_or ls j 0) (slice_index_or rs (j - length ls) 0, a)
-
-abbrev pub IsCountered : List Tree → ℕ × ℕ → Type 0
-IsCountered Ts p = tree_at Ts p.0 ≤ᵍ tree_at Ts p.1
-
--- none of the first n of them is at most
-abbrev pub NoneCounters : List Tree → ℕ → ℕ → ℕ → Type 0
-NoneCounters Ts a b n = (ls rs ms ns : List ℕ) → IsOptions Ts a ls ms → IsOptions Ts b ns rs → (j : ℕ) → j < n → j < length ls + length rs → IsCountered Ts (counter a b ls rs j) → ⊥
-
--- what going on with a question finds: its answer, or a comparison of smaller ids that has to come first
-abbrev pub IsStep : List Tree → (ℕ → ℕ → Option Bool) → Question → Step → Type 0
-IsStep Ts known q (Answer answer) = Says Ts q.game q.other answer
-IsStep Ts known q (Ask place game other) = NoneCounters Ts q.game q.other place × IsOpen Ts known game other × (game + other < q.game + q.other)

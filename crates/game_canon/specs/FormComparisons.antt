@@ -8,6 +8,6 @@ use Rattle.game_canon.specs.Comparisons.{same_pair, AreRight}
 abbrev pub ComparedForms : Type 0
 ComparedForms = List ((ℕ × ℕ) × Bool)
 
--- what is remembered is of ids of the store, and right there
+-- what is remembered of pairs of forms is of ids of the store, and right there
 abbrev pub AreFormComparisonsRight : List Tree → ComparedForms → Type 0
 AreFormComparisonsRight Ts memo = AreRight Ts (λ a b. lookup (same_pair (a, b)) memo)

@@ -17,14 +17,15 @@ IsCanonicalId Ts G id = (id < length Ts) × IsCanonicalFor G (tree_at Ts id)
 abbrev pub IsPastBounds : Tree → Type 0
 IsPastBounds G = IsNumber G × ((x : ℤ) → IsInBounds x → G ≤ᵍ number_tree x → number_tree x ≤ᵍ G → ⊥)
 
--- the numbers of a game have a size of at most b, in parts of 2 ^ -60; and those of each option
+-- the numbers of G have a size of at most b, in parts of 2 ^ -60
 abbrev pub AreWithin : ℕ → Tree → Type 0
 AreWithin b G = (x : ℤ) → IsNumberOf G x → unsigned_abs x ≤ b
 
+-- the numbers of each option of G have a size of at most b, in parts of 2 ^ -60
 abbrev pub AreOptionsWithin : ℕ → Tree → Type 0
 AreOptionsWithin b G = (L : Tree) → IsOption G L → AreWithin b L
 
--- a refusal has its cause: no number, whose canonical tree has more parts, or a number past the bounds
+-- why G has no form: it is no number and its canonical tree has more parts than the limit, or it is a number past the bounds
 abbrev pub IsCause : Tree → ℕ → FormError → Type 0
 IsCause G limit Parts = (IsNumber G → ⊥) × ((C : Tree) → IsCanonicalFor G C → HasMoreParts C limit)
 IsCause G limit Bounds = IsPastBounds G

@@ -1,18 +1,10 @@
 -- What a form is made of.
-use Rattle.std.specs.Prelude.{ℕ, ◌≡◌, ◌<◌, ◌≤◌, List, length}
+use Rattle.std.specs.Prelude.{ℕ, ◌<◌, List, length}
 use Rattle.std.specs.List.{slice_index_or}
 use Rattle.short_games.specs.Tree.{Tree, tree_at}
 use Rattle.game_store.specs.Meaning.{AreIds, IsAscending}
 use Rattle.short_games.specs.Parts.{IsInner, IsReached}
 use Rattle.game_canon.specs.Followers.{IsIn}
-
--- the ids ks, and behind them ids of trees that pass, so that all of these are among them
-pub record IsWidened (Ts : List Tree) (Passes : Tree → Type 0) (ks us : List ℕ) : Type 0 where
-  pub longer : length ks ≤ length us
-  pub same : (j : ℕ) → j < length ks → slice_index_or us j 0 ≡ slice_index_or ks j 0
-  pub below : (j : ℕ) → j < length us → length ks ≤ j → slice_index_or us j 0 < length Ts
-  pub passes : (j : ℕ) → j < length us → length ks ≤ j → Passes (tree_at Ts (slice_index_or us j 0))
-  pub has : (X : Tree) → Passes X → IsIn Ts us X
 
 -- the ids of G and of all options of its parts, in ascending order
 pub record AreReachable (Ts : List Tree) (G : Tree) (is : List ℕ) : Type 0 where

@@ -3,3 +3,8 @@ pub mod Bounds
 pub mod Games
 pub mod Ids
 pub mod Sides
+pub mod Changes
+pub mod Comparisons
+pub mod Followers
+pub mod Reachable
+pub mod SumComparisons

@@ -1,10 +1,11 @@
 //! Whether a game is at most another, with no recursion: comparisons that wait for others stand in a list.
 
-ghost use Rattle.std.specs.Prelude.{◌≡◌, ◌↔◌, ◌≤ℤ◌, ◌<◌, ◌≤◌, ◌+◌, ℕ, ℤ, List, length, Bool, false, IfOk, IfSome, IfNone, IsTrue};
+ghost use Rattle.std.specs.Prelude.{◌≡◌, ◌<◌, ◌≤◌, ◌+◌, ℕ, ℤ, List, length, Bool, false, IfOk, IfSome, IfNone};
 ghost use Rattle.short_games.specs.Number.{IsNumberTree};
 ghost use Rattle.game_canon.specs.inner.Games.{trees, AreGames};
 ghost use Rattle.short_games.specs.Tree.{tree_at};
-ghost use Rattle.game_canon.specs.Comparisons.{recalled, Says, AreRight, IsOpen, counter, NoneCounters, IsStep};
+ghost use Rattle.game_canon.specs.Comparisons.{Says, AreRight};
+ghost use Rattle.game_canon.specs.inner.Comparisons.{recalled, IsOpen, counter, NoneCounters, IsStep};
 
 use crate::comparisons::{Comparisons, recall, remember};
 use crate::games::{Games, ceiling, floor, is_number, left_options, right_options};
@@ -29,13 +30,6 @@ pub(crate) enum Step {
     },
 }
 
-/// Whether `x` is at most `y`.
-pub(crate) fn is_within(x: i128, y: i128) -> bool
-    ensures { IsTrue result ↔ (x ≤ℤ y) }
-{
-    x <= y
-}
-
 /// The answer where numbers between or beside the two forms show it.
 fn by_numbers(games: &Games<'_>, a: GameId, b: GameId) -> Option<bool>
     requires games { AreGames games.now }
@@ -43,13 +37,13 @@ fn by_numbers(games: &Games<'_>, a: GameId, b: GameId) -> Option<bool>
     requires b { b < length (trees games.now) }
     ensures { IfSome result (λ answer. Says (trees games.now) a b answer) }
 {
-    if is_within(ceiling(games, a), floor(games, b)) {
+    if ceiling(games, a) <= floor(games, b) {
         return Some(true);
     }
-    if !is_within(floor(games, a), floor(games, b)) {
+    if floor(games, a) > floor(games, b) {
         return Some(false);
     }
-    if !is_within(ceiling(games, a), ceiling(games, b)) {
+    if ceiling(games, a) > ceiling(games, b) {
         return Some(false);
     }
     None
@@ -65,10 +59,10 @@ fn settled(games: &Games<'_>, a: GameId, b: GameId) -> Option<bool>
     ensures second_form { IfNone result (IsNumberTree (tree_at (trees games.now) b) → ⊥) }
 {
     if is_number(games, a) {
-        return Some(is_within(floor(games, a), floor(games, b)));
+        return Some(floor(games, a) <= floor(games, b));
     }
     if is_number(games, b) {
-        return Some(is_within(ceiling(games, a), ceiling(games, b)));
+        return Some(ceiling(games, a) <= ceiling(games, b));
     }
     if a == b {
         return Some(true);

@@ -6,11 +6,11 @@ ghost use Rattle.short_games.specs.TextOrder.{IsCanonicalTree};
 ghost use Rattle.short_games.specs.Tree.{tree_at};
 ghost use Rattle.short_games.specs.Number.{number_tree};
 ghost use Rattle.game_store.specs.Meaning.{Extends};
-ghost use Rattle.game_canon.specs.Changes.{IsPastShift, shifted, left_list, right_list, IsChanged, AreNoted, AreKnown, IsMapped, AreClosed, AreDone, IsRefusedAt, IsRefused};
+ghost use Rattle.game_canon.specs.inner.Changes.{IsPastShift, shifted, left_list, right_list, IsChanged, AreNoted, AreKnown, IsMapped, AreClosed, AreDone, IsRefusedAt, IsRefused};
 
 use crate::errors::FormError;
 use crate::ids::{Ids, in_order};
-use crate::reach::reachable;
+use crate::reachable_forms::reachable;
 use dyadic_num::Dyadic;
 use game_store::{Form, GameId, Store};
 use indexmap::IndexMap;
@@ -57,6 +57,7 @@ fn changed_list(alloc: Global, changed: &Changed, ids: &[GameId]) -> Result<Ids,
     for id in ids {
         match changed.get(id).copied() {
             Some(after) => found.push(after)?,
+            // Options are changed before the forms that they stand in.
             None => unreachable!(),
         }
     }
@@ -80,8 +81,10 @@ fn changed_lists(
 ) -> Result<Lists, AllocError>
     requires left { AreKnown (get nat_eq changed.now) left.now }
     requires right { AreKnown (get nat_eq changed.now) right.now }
-    ensures left { IfOk result (λ v. IsMapped (get nat_eq changed.now) (left_list change left.now right.now) v.left.items) }
-    ensures right { IfOk result (λ v. IsMapped (get nat_eq changed.now) (right_list change left.now right.now) v.right.items) }
+    ensures left { IfOk result (λ v. IsMapped (get nat_eq changed.now)
+        (left_list change left.now right.now) v.left.items) }
+    ensures right { IfOk result (λ v. IsMapped (get nat_eq changed.now)
+        (right_list change left.now right.now) v.right.items) }
 {
     let left = changed_list(alloc, changed, left)?;
     let right = changed_list(alloc, changed, right)?;
@@ -119,7 +122,8 @@ fn changed_form(
 
 /// Notes the id that stands for another.
 fn note(changed: &mut Changed, id: GameId, after: GameId) -> Result<(), AllocError>
-    ensures { OnOk result ((i : ℕ) → get nat_eq changed.new i ≡ cond (nat_eq id i) (Some after) (get nat_eq changed.old i)) }
+    ensures { OnOk result ((i : ℕ) → get nat_eq changed.new i ≡ cond (nat_eq id i) (Some after)
+        (get nat_eq changed.old i)) }
 {
     changed.insert(id, after)?;
     Ok(())
@@ -134,8 +138,10 @@ fn change_all(
     ids: &[GameId],
 ) -> Result<(), FormError>
     requires closed { AreClosed store.old ids.now }
-    ensures done { OnOk result (AreDone store.old store.new change.now (get nat_eq changed.new) ids.now (length ids.now)) }
-    ensures refusal { IfErr result (λ error. (j : ℕ) × (j < length ids.now) × IsRefusedAt change.now (tree_at store.old (slice_index ids.now j)) error) }
+    ensures done { OnOk result (AreDone store.old store.new change.now
+        (get nat_eq changed.new) ids.now (length ids.now)) }
+    ensures refusal { IfErr result (λ error. (j : ℕ) × (j < length ids.now)
+        × IsRefusedAt change.now (tree_at store.old (slice_index ids.now j)) error) }
     ensures kept { Extends store.old store.new }
 {
     for id in ids {
@@ -164,6 +170,7 @@ pub(crate) fn change_form(
     change_all(alloc, store, &mut changed, &change, &ids)?;
     match changed.get(&a).copied() {
         Some(after) => Ok(after),
+        // The game itself is the last of its followers.
         None => unreachable!(),
     }
 }

@@ -1,7 +1,7 @@
 //! Comparisons that are remembered.
 
 ghost use Rattle.std.specs.Prelude.{◌≡◌, ℕ, OnOk, OnErr};
-ghost use Rattle.game_canon.specs.Comparisons.{recalled, with_answer};
+ghost use Rattle.game_canon.specs.inner.Comparisons.{recalled, with_answer};
 
 use game_store::GameId;
 use indexmap::IndexMap;
@@ -24,7 +24,8 @@ pub(crate) fn remember(
     b: GameId,
     answer: bool,
 ) -> Result<(), AllocError>
-    ensures noted { OnOk result ((c d : ℕ) → recalled memo.new c d ≡ with_answer (recalled memo.old) a b answer c d) }
+    ensures noted { OnOk result ((c d : ℕ) → recalled memo.new c d ≡ with_answer
+        (recalled memo.old) a b answer c d) }
     ensures kept { OnErr result ((c d : ℕ) → recalled memo.new c d ≡ recalled memo.old c d) }
 {
     memo.insert((a, b), answer)?;

@@ -3,7 +3,7 @@
 ghost use Rattle.std.specs.Prelude.{ℕ, ◌≡◌, ◌<◌, ◌↔◌, length, slice_index, IfOk, IsTrue};
 ghost use Rattle.short_games.specs.Tree.{tree_at};
 ghost use Rattle.game_store.specs.Meaning.{AreIds, IsAscending};
-ghost use Rattle.game_canon.specs.Comparisons.{recalled};
+ghost use Rattle.game_canon.specs.inner.Comparisons.{recalled};
 ghost use Rattle.game_canon.specs.inner.Games.{IsKnown};
 ghost use Rattle.game_canon.specs.inner.Sides.{Covers, AreBest, IsWithout};
 
@@ -26,7 +26,9 @@ fn none_covers(
     requires known { IsKnown games.now (recalled memo.old) }
     requires ids { AreIds games.now.store.now ids.now }
     requires id { id < length games.now.store.now }
-    ensures answer { IfOk result (λ answer. IsTrue answer ↔ ((j : ℕ) → j < length ids.now → Covers side (tree_at games.now.store.now id) (tree_at games.now.store.now (slice_index ids.now j)) → ⊥)) }
+    ensures answer { IfOk result (λ answer. IsTrue answer ↔
+        ((j : ℕ) → j < length ids.now → Covers side (tree_at games.now.store.now id)
+        (tree_at games.now.store.now (slice_index ids.now j)) → ⊥)) }
     ensures known { IsKnown games.now (recalled memo.new) }
 {
     for other in ids {

@@ -5,7 +5,7 @@ ghost use Rattle.short_games.specs.Tree.{Has, tree_at};
 ghost use Rattle.short_games.specs.Number.{IsNumberTree};
 ghost use Rattle.game_store.specs.Meaning.{pick, listed, form, AreIds};
 ghost use Rattle.short_games.specs.Parts.{IsOption, HasParts, HasMoreParts};
-ghost use Rattle.game_canon.specs.Followers.{IsGrown, HasBelow, HasMoreBelow};
+ghost use Rattle.game_canon.specs.inner.Followers.{IsGrown, HasBelow, HasMoreBelow};
 
 use game_store::{Form, GameId, Store};
 use indexmap::IndexSet;
@@ -26,7 +26,8 @@ fn is_part(store: &Store, id: GameId) -> bool
 /// Adds those of the forms that are no numbers.
 fn add_parts(store: &Store, found: &mut IndexSet<GameId>, ids: &[GameId]) -> Result<(), AllocError>
     requires { AreIds store.now ids.now }
-    ensures { OnOk result (IsGrown store.now (Has (pick store.now ids.now)) found.old.keys found.new.keys) }
+    ensures { OnOk result (IsGrown store.now (Has
+        (pick store.now ids.now)) found.old.keys found.new.keys) }
 {
     for id in ids {
         if !is_part(store, *id) {
@@ -40,7 +41,8 @@ fn add_parts(store: &Store, found: &mut IndexSet<GameId>, ids: &[GameId]) -> Res
 /// Adds those of the form's options that are no numbers.
 fn add_options(store: &Store, found: &mut IndexSet<GameId>, id: GameId) -> Result<(), AllocError>
     requires { id < length store.now }
-    ensures { OnOk result (IsGrown store.now (IsOption (tree_at store.now id)) found.old.keys found.new.keys) }
+    ensures { OnOk result (IsGrown store.now (IsOption
+        (tree_at store.now id)) found.old.keys found.new.keys) }
 {
     match store.node(id) {
         Form::Number(_) => Ok(()),
@@ -62,7 +64,9 @@ fn count_parts(
 ) -> Result<Option<usize>, AllocError>
     requires left { AreIds store.now left.now }
     requires right { AreIds store.now right.now }
-    ensures count { IfOk result (λ count. MatchOption count (HasMoreBelow (listed store.now left.now right.now) limit) (λ n. HasBelow (listed store.now left.now right.now) n)) }
+    ensures count { IfOk result (λ count. MatchOption count
+        (HasMoreBelow (listed store.now left.now right.now) limit)
+        (λ n. HasBelow (listed store.now left.now right.now) n)) }
     ensures ended { IfOk result (λ count. IfNone count (limit < 2 ^ 63)) }
 {
     let _count = store.len();
@@ -92,8 +96,10 @@ pub(crate) fn has_more_parts(
     requires left { AreIds store.now left.now }
     requires right { AreIds store.now right.now }
     requires no_number { IsNumberTree (form store.now left.now right.now) → ⊥ }
-    ensures more { IfOk result (λ more. IsTrue more → HasMoreParts (form store.now left.now right.now) limit) }
-    ensures few { IfOk result (λ more. more ≡ false → HasMoreParts (form store.now left.now right.now) limit → ⊥) }
+    ensures more { IfOk result (λ more. IsTrue more
+        → HasMoreParts (form store.now left.now right.now) limit) }
+    ensures few { IfOk result (λ more. more ≡ false
+        → HasMoreParts (form store.now left.now right.now) limit → ⊥) }
 {
     match count_parts(alloc, store, left, right, limit as usize)? {
         Some(count) => Ok(count >= limit as usize),
@@ -108,6 +114,7 @@ pub fn parts(alloc: Global, store: &Store, a: GameId) -> Result<u64, AllocError>
 {
     match count_parts(alloc, store, &[a], &[], usize::MAX)? {
         Some(count) => Ok(count as u64),
+        // The limit is past the number of all followers.
         None => unreachable!(),
     }
 }

@@ -14,7 +14,7 @@ const MOST: usize = 1 << 18;
 
 /// Comparisons of forms of a store. Contracts see them as the pairs of ids, each with whether the first game is at most the
 /// second.
-#[derive(Drop)]
+#[derive(Debug, Drop)]
 pub struct FormComparisons {
     pub(crate) known: Comparisons,
 }
@@ -39,7 +39,8 @@ impl FormComparisons {
 
     /// Forgets all where there are too many.
     pub(crate) fn limit(&mut self)
-        ensures { (Ts : List Tree) → AreFormComparisonsRight Ts self.old → AreFormComparisonsRight Ts self.new }
+        ensures { (Ts : List Tree) → AreFormComparisonsRight Ts self.old
+            → AreFormComparisonsRight Ts self.new }
     {
         if self.known.len() < MOST {
             return;

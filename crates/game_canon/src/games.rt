@@ -5,21 +5,28 @@ ghost use Rattle.short_games.specs.Number.{IsNumberTree, number_tree};
 ghost use Rattle.short_games.specs.Threshold.{IsFloor, IsCeiling};
 ghost use Rattle.short_games.specs.Tree.{tree_at};
 ghost use Rattle.game_store.specs.Forms.{IsOptions};
-ghost use Rattle.game_canon.specs.Comparisons.{recalled, AreRight};
+ghost use Rattle.game_canon.specs.Comparisons.{AreRight};
+ghost use Rattle.game_canon.specs.inner.Comparisons.{recalled};
 ghost use Rattle.game_canon.specs.inner.Games.{trees, AreGames};
 ghost use Rattle.game_canon.specs.declared.games.Unstored.{Unstored};
 
 use crate::comparisons::Comparisons;
-use game_store::{Form, GameId, Store};
+use dyadic_num::EXPONENT;
+use game_store::{Bound, Form, GameId, Store};
 
-/// A form that isn't stored and is no number: its options, which ascend, and its floor and ceiling in half parts of
-/// 2^-60.
+/// Where a form stands among the numbers.
+#[derive(Clone, Copy)]
+pub(crate) struct Standing {
+    pub(crate) floor: Bound,
+    pub(crate) ceiling: Bound,
+}
+
+/// A form that isn't stored and is no number: its options, which ascend, and where it stands.
 #[derive(Clone, Copy)]
 pub(crate) struct Unstored<'a> {
     pub(crate) left: &'a [GameId],
     pub(crate) right: &'a [GameId],
-    pub(crate) floor: i128,
-    pub(crate) ceiling: i128,
+    pub(crate) standing: &'a Standing,
 }
 
 /// The games of a store and, where there is one, of a form beside it, which has the store's length for its id.
@@ -46,24 +53,23 @@ pub(crate) fn games_of<'a>(store: &'a Store, earlier: &'a Comparisons) -> Games<
     }
 }
 
-/// The games of a store and of a form beside it, with its options, its floor and its ceiling.
+/// The games of a store and of a form beside it, with its options and where it stands.
 pub(crate) fn games_beside<'a>(
     store: &'a Store,
     earlier: &'a Comparisons,
     left: &'a [GameId],
     right: &'a [GameId],
-    floor: i128,
-    ceiling: i128,
+    standing: &'a Standing,
 ) -> Games<'a>
     ensures store { result.store.now ≡ store.now }
     ensures earlier { result.earlier.now ≡ earlier.now }
-    ensures form { (u : Unstored) × (result.unstored ≡ Some u) × (u.left.now ≡ left.now) × (u.right.now ≡ right.now) × (u.floor ≡ floor) × (u.ceiling ≡ ceiling) }
+    ensures form { (u : Unstored) × (result.unstored ≡ Some u) × (u.left.now ≡ left.now)
+        × (u.right.now ≡ right.now) × (u.standing.now ≡ standing.now) }
 {
     let form = Unstored {
         left,
         right,
-        floor,
-        ceiling,
+        standing,
     };
     let unstored = Some(form);
     Games {
@@ -76,7 +82,8 @@ pub(crate) fn games_beside<'a>(
 /// The form beside the store, where the id is its.
 fn unstored_of<'a>(games: &Games<'a>, id: GameId) -> Option<Unstored<'a>>
     requires { id < length (trees games.now) }
-    ensures some { IfSome result (λ form. (games.now.unstored ≡ Some form) × (id ≡ length games.now.store.now)) }
+    ensures some { IfSome result (λ form. (games.now.unstored ≡ Some form)
+        × (id ≡ length games.now.store.now)) }
     ensures none { IfNone result (id < length games.now.store.now) }
 {
     if id < games.store.len() {
@@ -112,6 +119,7 @@ pub(crate) fn left_options<'a>(games: &Games<'a>, id: GameId) -> &'a [GameId]
         return form.left;
     }
     match games.store.node(id) {
+        // A number is answered by its bound and has no options to ask for.
         Form::Number(_) => unreachable!(),
         Form::Options { left, .. } => left,
     }
@@ -128,31 +136,32 @@ pub(crate) fn right_options<'a>(games: &Games<'a>, id: GameId) -> &'a [GameId]
         return form.right;
     }
     match games.store.node(id) {
+        // A number is answered by its bound and has no options to ask for.
         Form::Number(_) => unreachable!(),
         Form::Options { right, .. } => right,
     }
 }
 
-/// The form's floor in half parts of 2^-60.
-pub(crate) fn floor(games: &Games<'_>, id: GameId) -> i128
+/// The form's floor.
+pub(crate) fn floor(games: &Games<'_>, id: GameId) -> Bound
     requires known { AreGames games.now }
     requires id { id < length (trees games.now) }
-    ensures { IsFloor 60 (tree_at (trees games.now) id) result }
+    ensures { IsFloor EXPONENT (tree_at (trees games.now) id) result }
 {
     match unstored_of(games, id) {
-        Some(form) => form.floor,
+        Some(form) => form.standing.floor,
         None => games.store.floor(id),
     }
 }
 
-/// The form's ceiling in half parts of 2^-60.
-pub(crate) fn ceiling(games: &Games<'_>, id: GameId) -> i128
+/// The form's ceiling.
+pub(crate) fn ceiling(games: &Games<'_>, id: GameId) -> Bound
     requires known { AreGames games.now }
     requires id { id < length (trees games.now) }
-    ensures { IsCeiling 60 (tree_at (trees games.now) id) result }
+    ensures { IsCeiling EXPONENT (tree_at (trees games.now) id) result }
 {
     match unstored_of(games, id) {
-        Some(form) => form.ceiling,
+        Some(form) => form.standing.ceiling,
         None => games.store.ceiling(id),
     }
 }

@@ -27,7 +27,9 @@ pub fn incentive_at_least(
     requires option { option < length store.now }
     requires other { other < length store.now }
     requires other_option { other_option < length store.now }
-    ensures { IfOk result (λ answer. IsTrue answer ↔ (incentive (tree_at store.now other) (tree_at store.now other_option) ≤ᵍ incentive (tree_at store.now game) (tree_at store.now option))) }
+    ensures { IfOk result (λ answer. IsTrue answer ↔
+        (incentive (tree_at store.now other) (tree_at store.now other_option) ≤ᵍ incentive
+        (tree_at store.now game) (tree_at store.now option))) }
 {
     let mut comparisons = SumComparisons::new(alloc);
     let answer = compare_incentives(
@@ -58,7 +60,9 @@ pub fn compare_incentives(
     requires other { other < length store.now }
     requires other_option { other_option < length store.now }
     requires right { AreComparisonsRight store.now comparisons.old }
-    ensures answer { IfOk result (λ answer. IsTrue answer ↔ (incentive (tree_at store.now other) (tree_at store.now other_option) ≤ᵍ incentive (tree_at store.now game) (tree_at store.now option))) }
+    ensures answer { IfOk result (λ answer. IsTrue answer ↔
+        (incentive (tree_at store.now other) (tree_at store.now other_option) ≤ᵍ incentive
+        (tree_at store.now game) (tree_at store.now option))) }
     ensures right { AreComparisonsRight store.now comparisons.new }
 {
     let pair = SumPair {

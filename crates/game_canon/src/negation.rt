@@ -25,6 +25,7 @@ pub fn negate(alloc: Global, store: &mut Store, a: GameId) -> Result<GameId, All
     match change_form(alloc, store, a, Change::Negate) {
         Ok(id) => Ok(id),
         Err(FormError::Memory(cause)) => Err(cause),
+        // The negative has as many parts as the game, and numbers of the same size.
         Err(_) => unreachable!(),
     }
 }

@@ -22,7 +22,8 @@ pub enum Order {
 
 /// The order, by whether each is at most the other.
 fn order_of(below: bool, above: bool) -> Order
-    ensures { (G H : Tree) → IsTrue below ↔ (G ≤ᵍ H) → IsTrue above ↔ (H ≤ᵍ G) → IsOrder result G H }
+    ensures { (G H : Tree) → IsTrue below ↔ (G ≤ᵍ H) → IsTrue above ↔ (H ≤ᵍ G)
+        → IsOrder result G H }
 {
     match (below, above) {
         (true, true) => Order::Equal,

@@ -5,17 +5,19 @@ ghost use Rattle.std.specs.Prelude.{ℕ, IfOk};
 ghost use Rattle.short_games.specs.Number.{IsNumber};
 ghost use Rattle.short_games.specs.Threshold.{IsFloor, IsCeiling};
 ghost use Rattle.game_store.specs.Meaning.{listed, AreIds};
-ghost use Rattle.game_canon.specs.Comparisons.{recalled, AreRight};
+ghost use Rattle.game_canon.specs.Comparisons.{AreRight};
+ghost use Rattle.game_canon.specs.inner.Comparisons.{recalled};
 ghost use Rattle.game_canon.specs.inner.Games.{beside, IsFormBeside, IsKnown};
 ghost use Rattle.game_canon.specs.inner.Sides.{IsStart, IsReducedForm};
 
 use crate::comparisons::Comparisons;
 use crate::domination::best;
-use crate::games::{Games, games_beside, games_of};
+use crate::games::{Games, Standing, games_beside, games_of};
 use crate::ids::Ids;
 use crate::reversal::bypassed;
 use crate::side::Side;
-use game_store::{GameId, Store};
+use dyadic_num::EXPONENT;
+use game_store::{Bound, GameId, Store};
 use indexmap::IndexMap;
 use std::alloc::{AllocError, Global};
 
@@ -37,7 +39,8 @@ fn bypass_all(
     requires known { IsKnown games.now (recalled memo.old) }
     requires form { IsFormBeside games.now left.now right.now }
     requires start { IsStart games.now.store.now left.now right.now }
-    ensures { IfOk result (λ lists. IsReducedForm games.now.store.now (beside games.now) lists.left.items lists.right.items) }
+    ensures { IfOk result (λ lists. IsReducedForm games.now.store.now
+        (beside games.now) lists.left.items lists.right.items) }
 {
     let mut lists = Lists {
         left: Ids::from_slice(alloc, left)?,
@@ -57,31 +60,33 @@ fn bypass_all(
 }
 
 /// The options of a form that is no number, in ascending order, of which none is dominated or reversible any more. The
-/// floor and the ceiling are the form's, in half parts of 2^-60. What is found out of the store's games on the way to the
-/// undominated ones is remembered.
+/// floor and the ceiling are the form's. What is found out of the store's games on the way to the undominated ones is
+/// remembered.
 pub(crate) fn reduced(
     alloc: Global,
     store: &Store,
     memo: &mut Comparisons,
     left: &[GameId],
     right: &[GameId],
-    floor: i128,
-    ceiling: i128,
+    floor: Bound,
+    ceiling: Bound,
 ) -> Result<Lists, AllocError>
     requires memo { AreRight store.now (recalled memo.old) }
     requires left { AreIds store.now left.now }
     requires right { AreIds store.now right.now }
     requires no_number { IsNumber (listed store.now left.now right.now) → ⊥ }
-    requires floor { IsFloor 60 (listed store.now left.now right.now) floor }
-    requires ceiling { IsCeiling 60 (listed store.now left.now right.now) ceiling }
-    ensures reduced { IfOk result (λ lists. IsReducedForm store.now (listed store.now left.now right.now) lists.left.items lists.right.items) }
+    requires floor { IsFloor EXPONENT (listed store.now left.now right.now) floor }
+    requires ceiling { IsCeiling EXPONENT (listed store.now left.now right.now) ceiling }
+    ensures reduced { IfOk result (λ lists. IsReducedForm store.now
+        (listed store.now left.now right.now) lists.left.items lists.right.items) }
     ensures memo { AreRight store.now (recalled memo.new) }
 {
     let none = IndexMap::new(alloc);
     let stored = games_of(store, &none);
     let left = best(alloc, memo, &stored, Side::Left, left)?;
     let right = best(alloc, memo, &stored, Side::Right, right)?;
-    let games = games_beside(store, memo, &left, &right, floor, ceiling);
+    let standing = Standing { floor, ceiling };
+    let games = games_beside(store, memo, &left, &right, &standing);
     let mut beside = IndexMap::new(alloc);
     Ok(bypass_all(alloc, &mut beside, &games, &left, &right)?)
 }

@@ -4,7 +4,7 @@ ghost use Rattle.std.specs.Prelude.{ℕ, ◌≡◌, ◌<◌, ◌⊎◌, length, 
 ghost use Rattle.short_games.specs.Tree.{Has, tree_at};
 ghost use Rattle.short_games.specs.Number.{IsNumberTree};
 ghost use Rattle.game_store.specs.Meaning.{pick, AreIds};
-ghost use Rattle.game_canon.specs.Comparisons.{recalled};
+ghost use Rattle.game_canon.specs.inner.Comparisons.{recalled};
 ghost use Rattle.game_canon.specs.inner.Games.{beside, HasForm, IsKnown};
 ghost use Rattle.game_canon.specs.inner.Sides.{Covers, IsReplaced, IsAnswer, IsKept, IsDone, IsSmaller};
 
@@ -27,7 +27,12 @@ fn first_covered(
     requires known { IsKnown games.now (recalled memo.old) }
     requires form { HasForm games.now }
     requires ids { AreIds games.now.store.now ids.now }
-    ensures found { IfOk result (λ found. MatchOption found ((j : ℕ) → j < length ids.now → Covers side (tree_at games.now.store.now (slice_index ids.now j)) (beside games.now) → ⊥) (λ id. (id < length games.now.store.now) × Has (pick games.now.store.now ids.now) (tree_at games.now.store.now id) × Covers side (tree_at games.now.store.now id) (beside games.now))) }
+    ensures found { IfOk result (λ found. MatchOption found
+        ((j : ℕ) → j < length ids.now → Covers side
+        (tree_at games.now.store.now (slice_index ids.now j)) (beside games.now) → ⊥)
+        (λ id. (id < length games.now.store.now)
+        × Has (pick games.now.store.now ids.now) (tree_at games.now.store.now id)
+        × Covers side (tree_at games.now.store.now id) (beside games.now))) }
     ensures known { IsKnown games.now (recalled memo.new) }
 {
     for id in ids {
@@ -50,7 +55,10 @@ fn answer_to(
     requires known { IsKnown games.now (recalled memo.old) }
     requires form { HasForm games.now }
     requires id { id < length games.now.store.now }
-    ensures found { IfOk result (λ found. MatchOption found (IsNumberTree (tree_at games.now.store.now id) ⊎ IsKept side (beside games.now) (tree_at games.now.store.now id)) (λ answer. IsAnswer side games.now.store.now (beside games.now) id answer)) }
+    ensures found { IfOk result (λ found. MatchOption found
+        (IsNumberTree (tree_at games.now.store.now id)
+        ⊎ IsKept side (beside games.now) (tree_at games.now.store.now id))
+        (λ answer. IsAnswer side games.now.store.now (beside games.now) id answer)) }
     ensures known { IsKnown games.now (recalled memo.new) }
 {
     match games.store.node(id) {
@@ -72,7 +80,10 @@ fn reversible(
     requires known { IsKnown games.now (recalled memo.old) }
     requires form { HasForm games.now }
     requires ids { AreIds games.now.store.now ids.now }
-    ensures found { IfOk result (λ found. MatchOption found (IsDone side games.now.store.now (beside games.now) ids.now) (λ at. (at.0 < length ids.now) × IsAnswer side games.now.store.now (beside games.now) (slice_index ids.now at.0) at.1)) }
+    ensures found { IfOk result (λ found. MatchOption found
+        (IsDone side games.now.store.now (beside games.now) ids.now)
+        (λ at. (at.0 < length ids.now) × IsAnswer side games.now.store.now (beside games.now)
+        (slice_index ids.now at.0) at.1)) }
     ensures known { IsKnown games.now (recalled memo.new) }
 {
     for (place, id) in ids.iter().enumerate() {
@@ -121,7 +132,9 @@ pub(crate) fn bypassed(
     requires known { IsKnown games.now (recalled memo.old) }
     requires form { HasForm games.now }
     requires ids { AreIds games.now.store.now ids.now }
-    ensures found { IfOk result (λ found. MatchOption found (IsDone side games.now.store.now (beside games.now) ids.now) (λ v. IsSmaller side games.now.store.now (beside games.now) ids.now v.items)) }
+    ensures found { IfOk result (λ found. MatchOption found
+        (IsDone side games.now.store.now (beside games.now) ids.now)
+        (λ v. IsSmaller side games.now.store.now (beside games.now) ids.now v.items)) }
     ensures known { IsKnown games.now (recalled memo.new) }
 {
     match reversible(alloc, memo, games, side, ids)? {

@@ -2,7 +2,7 @@
 
 ghost use Rattle.std.specs.Prelude.{◌≡◌, ◌<◌, ◌↔◌, length, IfOk, IsTrue};
 ghost use Rattle.short_games.specs.Tree.{tree_at};
-ghost use Rattle.game_canon.specs.Comparisons.{recalled};
+ghost use Rattle.game_canon.specs.inner.Comparisons.{recalled};
 ghost use Rattle.game_canon.specs.inner.Games.{beside, HasForm, IsKnown};
 ghost use Rattle.game_canon.specs.inner.Sides.{Covers, near_list, far_list};
 
@@ -51,7 +51,8 @@ pub(crate) fn is_covered(
     requires known { IsKnown games.now (recalled memo.old) }
     requires a { a < length games.now.store.now }
     requires b { b < length games.now.store.now }
-    ensures answer { IfOk result (λ answer. IsTrue answer ↔ Covers side (tree_at games.now.store.now a) (tree_at games.now.store.now b)) }
+    ensures answer { IfOk result (λ answer. IsTrue answer ↔ Covers side
+        (tree_at games.now.store.now a) (tree_at games.now.store.now b)) }
     ensures known { IsKnown games.now (recalled memo.new) }
 {
     match side {
@@ -71,7 +72,8 @@ pub(crate) fn form_covers(
     requires known { IsKnown games.now (recalled memo.old) }
     requires form { HasForm games.now }
     requires id { id < length games.now.store.now }
-    ensures answer { IfOk result (λ answer. IsTrue answer ↔ Covers side (tree_at games.now.store.now id) (beside games.now)) }
+    ensures answer { IfOk result (λ answer. IsTrue answer ↔ Covers side
+        (tree_at games.now.store.now id) (beside games.now)) }
     ensures known { IsKnown games.now (recalled memo.new) }
 {
     let form = games.store.len();

@@ -10,7 +10,7 @@ use std::marker::Model;
 
 /// Comparisons of sums of two games of a store. Contracts see them as the pairs of sums, each with whether the first is at
 /// most the second.
-#[derive(Drop)]
+#[derive(Debug, Drop)]
 pub struct SumComparisons {
     pub(crate) known: SumAnswers,
 }
@@ -35,6 +35,6 @@ impl SumComparisons {
 }
 
 /// Comparisons that are right for a store are right for it after more forms were interned.
-pub fn comparisons_law()
+pub fn comparisons_laws()
     ensures { StayRightInGrownStores }
 {}

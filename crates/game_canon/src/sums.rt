@@ -2,7 +2,8 @@
 
 ghost use Rattle.std.specs.Prelude.{◌≡◌, ◌<◌, suc, List, length, OnOk, MatchOption};
 ghost use Rattle.short_games.specs.Tree.{Tree, left, right};
-ghost use Rattle.game_canon.specs.SumComparisons.{recalled_sums, with_sums, Tells, AreSumsRight, AreStored, AreMoves, game_at, options_at, rank, counter_by, IsCancelled};
+ghost use Rattle.game_canon.specs.SumComparisons.{Tells, AreSumsRight, AreStored};
+ghost use Rattle.game_canon.specs.inner.SumComparisons.{recalled_sums, with_sums, AreMoves, game_at, options_at, rank, counter_by, IsCancelled};
 ghost use Rattle.game_canon.specs.declared.sums.SumPair.{SumPair};
 
 use game_store::{Form, GameId, Store};
@@ -10,7 +11,7 @@ use indexmap::IndexMap;
 use std::alloc::AllocError;
 
 /// Two sums of two games each: of the first two, and of the last two.
-#[derive(Clone, Copy, PartialEq, Eq, Hash)]
+#[derive(Clone, Copy, Debug, PartialEq, Eq, Hash)]
 pub(crate) struct SumPair {
     pub(crate) first: GameId,
     pub(crate) second: GameId,
@@ -55,8 +56,10 @@ pub(crate) fn remember_sums(
     pair: SumPair,
     answer: bool,
 ) -> Result<(), AllocError>
-    ensures noted { OnOk result ((p : SumPair) → recalled_sums memo.new p ≡ with_sums (recalled_sums memo.old) pair answer p) }
-    ensures right { (Ts : List Tree) → AreStored Ts pair → Tells Ts pair answer → AreSumsRight Ts (recalled_sums memo.old) → AreSumsRight Ts (recalled_sums memo.new) }
+    ensures noted { OnOk result ((p : SumPair)
+        → recalled_sums memo.new p ≡ with_sums (recalled_sums memo.old) pair answer p) }
+    ensures right { (Ts : List Tree) → AreStored Ts pair → Tells Ts pair answer
+        → AreSumsRight Ts (recalled_sums memo.old) → AreSumsRight Ts (recalled_sums memo.new) }
 {
     memo.insert(pair, answer)?;
     Ok(())
@@ -68,7 +71,8 @@ const MOST_COMPARISONS: usize = 100_000;
 /// Forgets all comparisons where they are too many.
 pub(crate) fn make_room(memo: &mut SumAnswers)
     ensures room { length memo.new.entries < 100000 }
-    ensures right { (Ts : List Tree) → AreSumsRight Ts (recalled_sums memo.old) → AreSumsRight Ts (recalled_sums memo.new) }
+    ensures right { (Ts : List Tree) → AreSumsRight Ts (recalled_sums memo.old)
+        → AreSumsRight Ts (recalled_sums memo.new) }
 {
     if memo.len() >= MOST_COMPARISONS {
         memo.clear();

@@ -2,14 +2,14 @@
 
 ghost use Rattle.std.specs.Prelude.{◌≡◌, ◌<◌, List, length, IfOk, IfSome, IfNone, IsTrue, MatchOption};
 ghost use Rattle.short_games.specs.Tree.{Tree, AreDistinct};
-ghost use Rattle.game_canon.specs.SumComparisons.{recalled_sums, Tells, AreSameSums, AreSumsRight, AreStored, AreFloors, AreCeilings, AreNumbers, AreOpen, Resists, HasResisted, IsSumStep};
+ghost use Rattle.game_canon.specs.SumComparisons.{Tells, AreSumsRight, AreStored};
+ghost use Rattle.game_canon.specs.inner.SumComparisons.{recalled_sums, AreSameSums, AreFloors, AreCeilings, AreNumbers, AreOpen, Resists, HasResisted, IsSumStep};
 
-use crate::at_most::is_within;
 use crate::sums::{
     Place, SumAnswers, SumPair, cancelled, counter_by, moves, next_place, recall_sums,
     remember_sums,
 };
-use game_store::{GameId, Store};
+use game_store::{Bound, GameId, Store};
 use std::alloc::{AllocError, Global};
 
 /// A comparison that is gone on with. No move in a game before the place counters it, nor does one in the game at the place
@@ -37,22 +37,22 @@ fn is_same(pair: SumPair) -> bool
     pair.first == pair.fourth && pair.second == pair.third
 }
 
-/// The sum of the floors of two games, in half parts of 2^-60.
-fn floor_sum(store: &Store, a: GameId, b: GameId) -> i128
+/// The sum of the floors of two games.
+fn floor_sum(store: &Store, a: GameId, b: GameId) -> Bound
     requires a { a < length store.now }
     requires b { b < length store.now }
     ensures { AreFloors store.now a b result }
 {
-    store.floor(a) + store.floor(b)
+    store.floor(a).plus(store.floor(b))
 }
 
-/// The sum of the ceilings of two games, in half parts of 2^-60.
-fn ceiling_sum(store: &Store, a: GameId, b: GameId) -> i128
+/// The sum of the ceilings of two games.
+fn ceiling_sum(store: &Store, a: GameId, b: GameId) -> Bound
     requires a { a < length store.now }
     requires b { b < length store.now }
     ensures { AreCeilings store.now a b result }
 {
-    store.ceiling(a) + store.ceiling(b)
+    store.ceiling(a).plus(store.ceiling(b))
 }
 
 /// The answer where floors and ceilings show it, as they do of numbers alone.
@@ -65,10 +65,10 @@ fn by_bounds(store: &Store, pair: SumPair) -> Option<bool>
     let high = ceiling_sum(store, pair.first, pair.second);
     let other_low = floor_sum(store, pair.third, pair.fourth);
     let other_high = ceiling_sum(store, pair.third, pair.fourth);
-    if is_within(high, other_low) {
+    if high <= other_low {
         return Some(true);
     }
-    if is_within(low, other_high) {
+    if low <= other_high {
         return None;
     }
     Some(false)
@@ -97,7 +97,8 @@ fn tried(memo: &SumAnswers, store: &Store, question: SumQuestion) -> Option<SumS
     requires distinct { AreDistinct store.now }
     requires right { AreSumsRight store.now (recalled_sums memo.now) }
     requires resisted { HasResisted store.now question }
-    ensures { MatchOption result (Resists store.now question.pair question.place) (λ step. IsSumStep store.now (recalled_sums memo.now) question.pair step) }
+    ensures { MatchOption result (Resists store.now question.pair question.place)
+        (λ step. IsSumStep store.now (recalled_sums memo.now) question.pair step) }
 {
     let options = moves(store, question.pair, question.place);
     'options: for option in options {

@@ -32,10 +32,13 @@ pub fn add_number(
     x: Dyadic,
 ) -> Result<GameId, FormError>
     requires { a < length store.old }
-    ensures value { IfOk result (λ id. IsCanonicalId store.new (tree_at store.old a +ᵍ number_tree x) id) }
-    ensures numbers { IfOk result (λ id. (y : ℤ) → IsNumberOf (tree_at store.old a) y ↔ IsNumberOf (tree_at store.new id) (y +ℤ x)) }
+    ensures value { IfOk result (λ id. IsCanonicalId store.new
+        (tree_at store.old a +ᵍ number_tree x) id) }
+    ensures numbers { IfOk result (λ id. (y : ℤ)
+        → IsNumberOf (tree_at store.old a) y ↔ IsNumberOf (tree_at store.new id) (y +ℤ x)) }
     ensures bounds { IfOk result (λ id. HasNumberPastBounds (tree_at store.new id) → ⊥) }
-    ensures refusal { IfErr result (λ error. IsSumRefusal (tree_at store.old a +ᵍ number_tree x) error) }
+    ensures refusal { IfErr result (λ error. IsSumRefusal
+        (tree_at store.old a +ᵍ number_tree x) error) }
     ensures kept { Extends store.old store.new }
 {
     let _count = store.len();

@@ -4,7 +4,7 @@ use Rattle.std.specs.Prelude.{codes}
 use Rattle.short_games.specs.Tree.{Tree}
 use Rattle.game_text.specs.NamedText.{named_text, named_depth}
 use Rattle.thermograph.specs.PastBounds.{IsDrawnPastBounds}
-use Rattle.game_lines.specs.Words.{word_line}
+use Rattle.board_words.specs.Words.{word_line}
 use Rattle.game_lines.specs.Showings.{IsUnshown}
 
 -- a game whose text and thermograph are within the limits is shown

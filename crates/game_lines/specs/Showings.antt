@@ -3,7 +3,7 @@ use Rattle.std.specs.Prelude.{◌≡◌, ◌<◌, ◌⊎◌, ◌++◌, ℕ, List
 use Rattle.short_games.specs.Tree.{Tree}
 use Rattle.game_text.specs.NamedText.{named_text, named_depth}
 use Rattle.thermograph.specs.PastBounds.{IsDrawnPastBounds}
-use Rattle.game_lines.specs.Words.{word_line}
+use Rattle.board_words.specs.Words.{word_line}
 use Rattle.game_lines.specs.Pictures.{Picture, IsPicture, picture_lines}
 use Rattle.game_lines.specs.declared.showing.Showing.{Showing}
 use Rattle.game_lines.specs.declared.showing.ShowError.{ShowError}

@@ -3,7 +3,5 @@
 
 mod picture;
 mod showing;
-mod words;
 
 pub use showing::{ShowError, Showing, show, write_showing};
-pub use words::write_words;

@@ -1,10 +1,10 @@
 //! The lines on the stops and the thermograph of a game.
 
 ghost use Rattle.std.specs.Prelude.{◌≡◌, ◌++◌, OnOk, IfOk, string_bytes, flat_map, codes};
-ghost use Rattle.game_lines.specs.Words.{word_line};
+ghost use Rattle.board_words.specs.Words.{word_line};
 ghost use Rattle.game_lines.specs.Pictures.{break_point, number, picture_lines, stops_line, temperature_word, wall_line};
 
-use crate::words::write_words;
+use board_words::write_words;
 use dyadic_num::Dyadic;
 use game_text::number_text;
 use std::alloc::{AllocError, Global};
@@ -36,7 +36,7 @@ fn write_stops(
 }
 
 /// Appends the line of a number.
-#[tactic(auto, using(std::proofs::Common::append_assoc), unfolding(crate::specs::Words::word_line))]
+#[tactic(auto, using(std::proofs::Common::append_assoc), unfolding(board_words::specs::Words::word_line))]
 fn write_number_line(
     alloc: Global,
     text: &mut String,

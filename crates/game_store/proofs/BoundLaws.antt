@@ -5,11 +5,12 @@ use Rattle.dyadic_num.specs.Units.{IsInBounds}
 use Rattle.short_games.specs.Tree.{Tree}
 use Rattle.short_games.specs.Number.{num, number_tree}
 use Rattle.short_games.specs.Threshold.{IsCell}
-use Rattle.game_store.specs.Meaning.{values, entry_at, held, Wanted, IsKept}
+use Rattle.game_store.specs.Meaning.{Wanted}
+use Rattle.game_store.specs.inner.Meaning.{values, entry_at, held, IsKept}
 use Rattle.game_store.specs.Meaning.Wanted.{number, options}
 use Rattle.game_store.specs.Forms.{IsMeaning, IsWithinBounds, HaveForms}
-use Rattle.game_store.specs.Chain.{entries_of}
-use Rattle.game_store.specs.Places.{IsPlaced, ArePlaced, floor_at, ceiling_at}
+use Rattle.game_store.specs.inner.Chain.{entries_of}
+use Rattle.game_store.specs.inner.Places.{IsPlaced, ArePlaced, floor_at, ceiling_at}
 use Rattle.game_store.specs.declared.Slot.{Slot}
 use Rattle.short_games.proofs.OrderLaws.{le-refl}
 use Rattle.short_games.proofs.NumberLaws.{num-double}

@@ -4,10 +4,11 @@ use Rattle.std.specs.Prelude.{Option}
 use Rattle.std.proofs.lemmas.Bool.{eqb-true, eqb-false, cases_Bool, cases_lt}
 use Rattle.game_store.specs.declared.Entry.{Entry}
 use Rattle.game_store.specs.declared.Slot.{Slot}
-use Rattle.game_store.specs.Meaning.{entry_at, held, Wanted, IsWithin, Within, Fits, AllFit}
+use Rattle.game_store.specs.Meaning.{Wanted}
+use Rattle.game_store.specs.inner.Meaning.{entry_at, held, IsWithin, Within, Fits, AllFit}
 use Rattle.game_store.proofs.Values.{held-more}
 use Rattle.std.proofs.lemmas.List.{length-append}
-use Rattle.game_store.specs.Chain.{entries_of, fingerprint, fingerprints, latest_of, slot_at, before_at, HasBefores, IsChained, IsAt, place}
+use Rattle.game_store.specs.inner.Chain.{entries_of, fingerprint, fingerprints, latest_of, slot_at, before_at, HasBefores, IsChained, IsAt, place}
 
 -- what the last place with a fingerprint is
 pub record IsLast (P : ℕ → ℕ) (n p k : ℕ) : Type 0 where

@@ -1,17 +1,16 @@
 -- What the floor and the ceiling of a form follow from.
-use Rattle.std.proofs.Common.{ℕ, ◌+◌, ◌<◌, ◌≡◌, List, length, get_or, arith, refl, sym, inl, inr, ap, subst, ℤ, pos, negsuc, neg_ℤ, ◌∙◌, ◌^◌, ◌-ℤ◌, ◌+ℤ◌, ◌≤ℤ◌}
+use Rattle.std.proofs.Common.{ℕ, ◌+◌, ◌<◌, ◌≡◌, List, length, get_or, arith, refl, sym, inl, inr, subst, ℤ, pos, ◌-ℤ◌, ◌+ℤ◌, ◌≤ℤ◌}
 use Rattle.std.specs.Int.{int_max, int_min}
-use Rattle.std.proofs.lemmas.Int.{ints, by_lt_z, to_z-of_z}
-use mir.Val.{to_z, of_z, SFits}
-use mir.Syntax.{w128}
+use Rattle.std.proofs.lemmas.Int.{ints, by_lt_z}
 use Rattle.std.proofs.lemmas.Bool.{cases_lt}
 use Rattle.game_store.specs.declared.Slot.{Slot}
-use Rattle.dyadic_num.specs.Units.{IsInBounds}
+use Rattle.dyadic_num.specs.Units.{IsInBounds, IsInReach}
 use Rattle.short_games.specs.Tree.{Tree, Has, tree_at}
 use Rattle.short_games.specs.Number.{num, IsNumber, IsNumberTree, number_tree}
 use Rattle.short_games.specs.TextOrder.{sorted, IsCanonicalTree}
 use Rattle.short_games.specs.Threshold.{IsFloor, IsCeiling}
-use Rattle.game_store.specs.Places.{IsFloorRange, IsCeilingRange, IsPlaced, ArePlaced, floor_at, ceiling_at, IsGreatestFloor, IsLeastCeiling}
+use Rattle.game_store.specs.Places.{IsFloorRange, IsCeilingRange}
+use Rattle.game_store.specs.inner.Places.{IsPlaced, ArePlaced, floor_at, ceiling_at, IsGreatestFloor, IsLeastCeiling}
 use Rattle.short_games.specs.Stops.{IsLeftStop, IsRightStop}
 use Rattle.game_store.specs.Meaning.{pick, form, AreIds}
 use Rattle.short_games.proofs.TextOrderLaws.{sorted-has, has-sorted}
@@ -82,7 +81,7 @@ module _ (Ts : List Tree) (slots : List Slot) (placed : ArePlaced Ts slots) (cou
     reached = (tree_at Ts (get_or is g.reached.0 0), has-option is g.reached.0 g.reached.1, subst (IsCeiling 60 (tree_at Ts (get_or is g.reached.0 0))) g.reached.2 (placed-at is g.reached.0 a g.reached.1).ceiling_is);
   }
 
-  pub form-placed : (ls rs : List ℕ) (f c : ℤ) → AreIds Ts ls → AreIds Ts rs → IsCanonicalTree (form Ts ls rs) → (IsNumberTree (form Ts ls rs) → ⊥) → IsLeastCeiling slots rs f → IsGreatestFloor slots ls c → (x y : ℤ) → x ≡ f +ℤ negsuc 0 → y ≡ c +ℤ pos 1 → IsPlaced (form Ts ls rs) x y
+  pub form-placed : (ls rs : List ℕ) (f c : ℤ) → AreIds Ts ls → AreIds Ts rs → IsCanonicalTree (form Ts ls rs) → (IsNumberTree (form Ts ls rs) → ⊥) → IsLeastCeiling slots rs f → IsGreatestFloor slots ls c → (x y : ℤ) → x ≡ f -ℤ pos 1 → y ≡ c +ℤ pos 1 → IsPlaced (form Ts ls rs) x y
   form-placed ls rs f c a b canonical n p q x y x_is y_is = rw (x_is, y_is) record {
     floor_is = floor-by 60 G f no_number (least-ceiling rs f b p);
     ceiling_is = ceiling-by 60 G c no_number (greatest-floor ls c a q);
@@ -104,19 +103,9 @@ module _ (Ts : List Tree) (slots : List Slot) (placed : ArePlaced Ts slots) (cou
       left_at : IsPlaced (tree_at Ts (get_or ls q.reached.0 0)) (floor_at slots (get_or ls q.reached.0 0)) (ceiling_at slots (get_or ls q.reached.0 0))
       left_at = placed-at ls q.reached.0 a q.reached.1
 
--- small integers are read back as they were
-fits : (z : ℤ) → neg_ℤ (pos (2 ^ 126)) ≤ℤ z → z ≤ℤ pos (2 ^ 126) → SFits w128 z
-fits (pos n) low high = record { sfits = omega (arith, ints, high) }
-fits (negsuc n) low high = record { sfits = omega (arith, ints, low) }
+-- one half part beside what a floor or a ceiling can be is in reach
+pub below-reach : (x : ℤ) → IsCeilingRange x → IsInReach (x -ℤ pos 1)
+below-reach x r = omega (arith, ints, r.0, r.1)
 
-pub below-fits : (x : ℤ) → IsCeilingRange x → SFits w128 (to_z w128 (of_z w128 x) -ℤ pos 1)
-below-fits x r = subst (λ t. SFits w128 (t -ℤ pos 1)) (sym (to_z-of_z w128 x (fits x (omega (arith, ints, r.0)) (omega (arith, ints, r.1))))) (fits (x -ℤ pos 1) (omega (arith, ints, r.0)) (omega (arith, ints, r.1)))
-
-pub below-is : (x : ℤ) → IsCeilingRange x → to_z w128 (of_z w128 (to_z w128 (of_z w128 x) -ℤ pos 1)) ≡ x +ℤ negsuc 0
-below-is x r = to_z-of_z w128 _ (below-fits x r) ∙ ap (λ t. t -ℤ pos 1) (to_z-of_z w128 x (fits x (omega (arith, ints, r.0)) (omega (arith, ints, r.1)))) ∙ omega (arith, ints)
-
-pub above-fits : (x : ℤ) → IsFloorRange x → SFits w128 (to_z w128 (of_z w128 x) +ℤ pos 1)
-above-fits x r = subst (λ t. SFits w128 (t +ℤ pos 1)) (sym (to_z-of_z w128 x (fits x (omega (arith, ints, r.0)) (omega (arith, ints, r.1))))) (fits (x +ℤ pos 1) (omega (arith, ints, r.0)) (omega (arith, ints, r.1)))
-
-pub above-is : (x : ℤ) → IsFloorRange x → to_z w128 (of_z w128 (to_z w128 (of_z w128 x) +ℤ pos 1)) ≡ x +ℤ pos 1
-above-is x r = to_z-of_z w128 _ (above-fits x r) ∙ ap (λ t. t +ℤ pos 1) (to_z-of_z w128 x (fits x (omega (arith, ints, r.0)) (omega (arith, ints, r.1))))
+pub above-reach : (x : ℤ) → IsFloorRange x → IsInReach (x +ℤ pos 1)
+above-reach x r = omega (arith, ints, r.0, r.1)

@@ -6,14 +6,14 @@ use Rattle.short_games.proofs.ReductionLaws.{number-canonical}
 use Rattle.game_store.specs.declared.Entry.{Entry}
 use Rattle.game_store.specs.declared.Entry.TheVariants.{Number, Options}
 use Rattle.game_store.specs.declared.Slot.{Slot}
-use Rattle.game_store.specs.Meaning.{values, form, IsKept, AreIds, AreBelow, IsAscending, entry_at, held, meaning, Wanted, Fits, AreOptions, list_at, AllFit, IsNoNumber}
+use Rattle.game_store.specs.Meaning.{form, AreIds, AreBelow, IsAscending, Wanted}
+use Rattle.game_store.specs.inner.Meaning.{values, IsKept, entry_at, held, meaning, Fits, AreOptions, list_at, AllFit, IsNoNumber}
 use Rattle.game_store.specs.Meaning.Wanted.{number, options}
 use Rattle.game_store.specs.Forms.{IsMeaning}
-use Rattle.game_store.specs.Chain.{entries_of, slot_at, IsChained, fingerprint}
-use Rattle.game_store.specs.Places.{IsPlaced, ArePlaced, floor_at, ceiling_at, IsGreatestFloor, IsLeastCeiling, IsFloorRange, IsCeilingRange}
-use Rattle.game_store.proofs.FormSteps.{form-placed, below-is, above-is}
-use mir.Val.{to_z, of_z}
-use mir.Syntax.{w128}
+use Rattle.game_store.specs.inner.Chain.{entries_of, slot_at, IsChained, fingerprint}
+use Rattle.game_store.specs.Places.{IsFloorRange, IsCeilingRange}
+use Rattle.game_store.specs.inner.Places.{IsPlaced, ArePlaced, floor_at, ceiling_at, IsGreatestFloor, IsLeastCeiling}
+use Rattle.game_store.proofs.FormSteps.{form-placed}
 use Rattle.std.proofs.lemmas.Bool.{cases_lt}
 use Rattle.std.proofs.lemmas.List.{length-append, length-take, length-drop, get_or_append_left}
 use Rattle.std.proofs.Math.Seq.{get_or-append_seam}
@@ -84,10 +84,8 @@ module _ (Ts : List Tree) (lists : List (List ℕ)) (slots : List Slot) (L : ℕ
   pub floor-small : (is : List ℕ) (x : ℤ) → AreIds Ts is → IsGreatestFloor ss is x → IsFloorRange x
   floor-small is x a l = subst IsFloorRange l.reached.2 (placed (get_or is l.reached.0 0) (ids-below is a l.reached.0 l.reached.1)).floor_range
 
-  pub options-placed : (ls rs : List ℕ) (f c : ℤ) → MayKeep Ts (options ls rs) → IsLeastCeiling ss rs f → IsGreatestFloor ss ls c
-      → IsPlaced (form Ts ls rs) (to_z w128 (of_z w128 (to_z w128 (of_z w128 f) -ℤ pos 1))) (to_z w128 (of_z w128 (to_z w128 (of_z w128 c) +ℤ pos 1)))
-  options-placed ls rs f c keep p q = form-placed Ts ss placed (length-trees Ts lists slots L h ∙ ap (λ (us : List Slot). length us) (sym same)) ls rs f c keep.lists.0 keep.lists.1 keep.canonical keep.lists.4 p q _ _
-      (below-is f (ceiling-small rs f keep.lists.1 p)) (above-is c (floor-small ls c keep.lists.0 q))
+  pub options-placed : (ls rs : List ℕ) (f c : ℤ) → MayKeep Ts (options ls rs) → IsLeastCeiling ss rs f → IsGreatestFloor ss ls c → (x y : ℤ) → x ≡ f -ℤ pos 1 → y ≡ c +ℤ pos 1 → IsPlaced (form Ts ls rs) x y
+  options-placed ls rs f c keep p q x y x_is y_is = form-placed Ts ss placed (length-trees Ts lists slots L h ∙ ap (λ (us : List Slot). length us) (sym same)) ls rs f c keep.lists.0 keep.lists.1 keep.canonical keep.lists.4 p q x y x_is y_is
 
 -- an id has a slot
 pub in_range : (lists : List (List ℕ)) (slots : List Slot) (id : ℕ) → id < length (values lists (entries_of slots)) → id < length slots

@@ -3,3 +3,4 @@ pub mod Chains
 pub mod Interned
 pub mod FormSteps
 pub mod BoundLaws
+pub mod BoundOrder

@@ -1,15 +1,15 @@
 -- What a store's entries mean.
 use Rattle.std.proofs.Common.{ℕ, zero, suc, ◌+◌, ◌-◌, ◌<◌, ◌≤◌, ◌≡◌, List, [], ◌∷◌, ◌++◌, length, get_or, take, drop, arith, refl, sym, ◌∙◌, ap, ap₂, subst, ℤ, pos, inl, inr}
 use Rattle.std.proofs.lemmas.Bool.{cases_lt}
-use Rattle.std.proofs.lemmas.List.{length-drop, take-append-le, drop-append-le, length-append, length-take, get_or-take, get_or-drop, get_or_append_left}
-use Rattle.std.specs.Prelude.{slice_range}
-use Rattle.std.proofs.Math.Seq.{get_or-append_seam, get_or-append_right, take-append_seam, drop-append_seam, take-length}
+use Rattle.std.proofs.lemmas.List.{length-drop, length-append, length-take, get_or-take, get_or-drop, get_or_append_left}
+use Rattle.std.proofs.Math.Seq.{get_or-append_seam, get_or-append_right, take-append_seam, drop-append_seam}
 use native.Mathlib.Nat.{add-zero, zero-add}
 use Rattle.short_games.specs.Tree.{Tree, Trees, node, none, more, left, right, tree_at, AreDistinct, Has}
 use Rattle.short_games.specs.Number.{num, IsNumberTree, number_tree}
 use Rattle.game_store.specs.declared.Entry.{Entry}
 use Rattle.game_store.specs.declared.Entry.TheVariants.{Number, Options}
-use Rattle.game_store.specs.Meaning.{pick, form, value_of, values_after, values, entry_at, Fits, AllFit, AreIds, AreBelow, AreOptions, list_at, Extends, IsKept, AreCanonical, IsAscending, IsNoNumber, Wanted, meaning, held}
+use Rattle.game_store.specs.Meaning.{pick, form, AreIds, AreBelow, Extends, AreCanonical, IsAscending, Wanted}
+use Rattle.game_store.specs.inner.Meaning.{value_of, values_after, values, entry_at, Fits, AllFit, AreOptions, list_at, IsKept, IsNoNumber, meaning, held}
 use Rattle.game_store.specs.Meaning.Wanted.{number, options}
 use Rattle.short_games.specs.TextOrder.{sorted, IsCanonicalTree}
 use Rattle.short_games.proofs.TextOrderLaws.{sorted-has, has-sorted}
@@ -70,10 +70,6 @@ values_at lists Ts (e ∷ es) f (suc k) h = rw step (values_at lists (Ts ++ valu
 
 pub values-at : (lists : List (List ℕ)) (es : List Entry) → AllFit lists es → (k : ℕ) → k < length es → tree_at (values lists es) k ≡ value_of lists (values lists es) (entry_at es k)
 values-at lists es f k h = rw (zero-add k) at (values_at lists [] es (λ j b. rw (zero-add j) (f j b)) k h)
-
--- more lists behind those that stand change nothing
-pub range-more : (items extra : List ℕ) (a b : ℕ) → a ≤ b → b ≤ length items → slice_range (items ++ extra) a b ≡ slice_range items a b
-range-more items extra a b g h = ap (take (b - a)) (drop-append-le a items extra (omega arith)) ∙ take-append-le (b - a) (drop a items) extra (omega (arith, length-drop a items))
 
 list-more : (lists extra : List (List ℕ)) (place : ℕ) → place < length lists → list_at (lists ++ extra) place ≡ list_at lists place
 list-more lists extra place l = get_or_append_left lists extra [] place l
@@ -248,12 +244,6 @@ held-is lists es h w keep k l e = at_entry (entry_at es k) w (h.fit k l) (h.no_n
 -- and such an entry does mean it
 pub held-from : (lists : List (List ℕ)) (es : List Entry) → IsKept lists es → (w : Wanted) → (k : ℕ) → k < length es → held lists (entry_at es k) ≡ w → tree_at (values lists es) k ≡ meaning (values lists es) w
 held-from lists es h w k l f = values-at lists es h.fit k l ∙ ap (meaning (values lists es)) f
-
-pub last-range : (xs ys : List ℕ) → slice_range (xs ++ ys) (length xs) (length (xs ++ ys)) ≡ ys
-last-range xs ys = rw (drop-append_seam xs ys, count) (take-length ys)
-  where
-    count : length (xs ++ ys) - length xs ≡ length ys
-    count = omega (arith, length-append xs ys)
 
 -- both sides as one list
 pub left-of : (ls rs : List ℕ) → take (length ls) (ls ++ rs) ≡ ls

@@ -1,4 +1,4 @@
 pub mod Meaning
 pub mod Forms
-pub mod Chain
 pub mod Places
+pub mod inner

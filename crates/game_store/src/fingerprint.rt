@@ -1,7 +1,7 @@
 //! Fingerprints of forms.
 
 ghost use Rattle.std.specs.Prelude.{◌≡◌, fold};
-ghost use Rattle.game_store.specs.Chain.{mix, number_fingerprint, options_fingerprint};
+ghost use Rattle.game_store.specs.inner.Chain.{mix, number_fingerprint, options_fingerprint};
 
 use dyadic_num::Dyadic;
 
@@ -27,7 +27,7 @@ fn mix_all(start: u64, ids: &[u64]) -> u64
 }
 
 /// The fingerprint of a form with options.
-#[tactic(auto, unfolding(crate::specs::Chain::options_fingerprint))]
+#[tactic(auto, unfolding(crate::specs::inner::Chain::options_fingerprint))]
 pub(crate) fn fingerprint_options(left: &[u64], right: &[u64]) -> u64
     ensures { result ≡ options_fingerprint left.now right.now }
 {
@@ -35,7 +35,7 @@ pub(crate) fn fingerprint_options(left: &[u64], right: &[u64]) -> u64
 }
 
 /// The fingerprint of a number, which its negative shares.
-#[tactic(auto, unfolding(crate::specs::Chain::number_fingerprint))]
+#[tactic(auto, unfolding(crate::specs::inner::Chain::number_fingerprint))]
 pub(crate) fn fingerprint_number(x: Dyadic) -> u64
     ensures { result ≡ number_fingerprint x }
 {

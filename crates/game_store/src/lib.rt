@@ -8,9 +8,11 @@ ghost use Rattle.short_games.specs.Threshold.{IsFloor, IsCeiling};
 ghost use Rattle.game_store.specs.Places.{IsFloorRange, IsCeilingRange};
 ghost use Rattle.short_games.specs.Stops.{GoesWithLeftStop, GoesWithRightStop};
 ghost use Rattle.short_games.specs.Tree.{tree_at, AreDistinct};
-ghost use Rattle.game_store.specs.Meaning.{form, held, AreIds, IsAscending, AreCanonical, Extends, IsWithin, IsIdOf};
+ghost use Rattle.game_store.specs.Meaning.{form, AreIds, IsAscending, AreCanonical, Extends, IsIdOf};
+ghost use Rattle.game_store.specs.inner.Meaning.{held, IsWithin};
 ghost use Rattle.game_store.specs.Forms.{wanted, IsFormOf, HaveForms};
 
+mod bound;
 mod bounds;
 mod fingerprint;
 mod lookup;
@@ -18,7 +20,8 @@ mod lookup;
 use crate::bounds::{greatest_floor, least_ceiling, read_ceiling, read_floor};
 use crate::fingerprint::{fingerprint_number, fingerprint_options};
 use crate::lookup::{find_number, find_options, read_slot};
-use dyadic_num::Dyadic;
+pub use bound::Bound;
+use dyadic_num::{Dyadic, EXPONENT};
 use indexmap::IndexMap;
 use list_pool::ListPool;
 use std::alloc::{AllocError, Global};
@@ -29,30 +32,30 @@ pub type GameId = u64;
 
 /// What a store keeps of a form: a number, or the place of its options in the pool, the Left ones first, and how many
 /// of them are Left's.
-#[derive(Clone, Copy)]
+#[derive(Clone, Copy, Debug)]
 pub enum Entry {
     Number(Dyadic),
     Options { place: usize, left_count: usize },
 }
 
-/// An entry, the id before it with the same fingerprint, and the form's floor and ceiling in half parts of 2^-60.
-#[derive(Clone, Copy)]
+/// An entry, the id before it with the same fingerprint, and the form's floor and ceiling.
+#[derive(Clone, Copy, Debug)]
 pub struct Slot {
     entry: Entry,
     before: Option<u64>,
-    floor: i128,
-    ceiling: i128,
+    floor: Bound,
+    ceiling: Bound,
 }
 
 /// A form that a store lends: a number, or the ids of its options, which ascend.
-#[derive(Clone, Copy)]
+#[derive(Clone, Copy, Debug)]
 pub enum Form<'a> {
     Number(Dyadic),
     Options { left: &'a [u64], right: &'a [u64] },
 }
 
 /// Canonical forms, each under an id. Contracts see it as the list of their trees.
-#[derive(Drop)]
+#[derive(Debug, Drop)]
 pub struct Store {
     slots: Vec<Slot>,
     pool: ListPool,
@@ -72,9 +75,9 @@ impl Model for Store {
 
     ghost use Rattle.std.specs.Prelude.{nat_eq};
     ghost use Rattle.indexmap.specs.IndexMap.{get};
-    ghost use Rattle.game_store.specs.Meaning.{values, IsKept};
-    ghost use Rattle.game_store.specs.Chain.{entries_of, IsChained};
-    ghost use Rattle.game_store.specs.Places.{ArePlaced};
+    ghost use Rattle.game_store.specs.inner.Meaning.{values, IsKept};
+    ghost use Rattle.game_store.specs.inner.Chain.{entries_of, IsChained};
+    ghost use Rattle.game_store.specs.inner.Places.{ArePlaced};
 
     ghost view = { λ s. values s.pool.lists (entries_of s.slots.items) };
 
@@ -139,12 +142,12 @@ impl Store {
         if let Some(id) = find_number(&self.slots, &self.pool, before, x) {
             return Ok(id);
         }
-        let half_parts = x.units() * 2;
+        let at = Bound::at(x);
         let slot = Slot {
             entry: Entry::Number(x),
             before,
-            floor: half_parts,
-            ceiling: half_parts,
+            floor: at,
+            ceiling: at,
         };
         self.latest.reserve(1)?;
         let id = self.slots.len();
@@ -173,8 +176,8 @@ impl Store {
         if let Some(id) = find_options(&self.slots, &self.pool, before, left, right) {
             return Ok(id);
         }
-        let floor = least_ceiling(&self.slots, right) - 1;
-        let ceiling = greatest_floor(&self.slots, left) + 1;
+        let floor = least_ceiling(&self.slots, right).just_below();
+        let ceiling = greatest_floor(&self.slots, left).just_above();
         let options = join(self.alloc, left, right)?;
         self.latest.reserve(1)?;
         self.slots.reserve(1)?;
@@ -205,24 +208,24 @@ impl Store {
         lend(read_slot(&self.slots, id as usize).entry, &self.pool)
     }
 
-    /// The form's floor in half parts of 2^-60: twice its right stop where the stop is at most the form, else one less.
-    /// The right stop is half of the floor and one, rounded down.
-    pub fn floor(&self, id: GameId) -> i128
+    /// The form's floor: at its right stop where the stop is at most the form, else just below it. The right stop is the
+    /// least number that isn't below the floor.
+    pub fn floor(&self, id: GameId) -> Bound
         requires { id < length self.now }
-        ensures floor { IsFloor 60 (tree_at self.now id) result }
+        ensures floor { IsFloor EXPONENT (tree_at self.now id) result }
         ensures range { IsFloorRange result }
-        ensures stop { GoesWithRightStop 60 (tree_at self.now id) result }
+        ensures stop { GoesWithRightStop EXPONENT (tree_at self.now id) result }
     {
         read_floor(&self.slots, id)
     }
 
-    /// The form's ceiling in half parts of 2^-60: twice its left stop where the stop is at least the form, else one more.
-    /// The left stop is half of the ceiling, rounded down.
-    pub fn ceiling(&self, id: GameId) -> i128
+    /// The form's ceiling: at its left stop where the stop is at least the form, else just above it. The left stop is the
+    /// greatest number that isn't above the ceiling.
+    pub fn ceiling(&self, id: GameId) -> Bound
         requires { id < length self.now }
-        ensures ceiling { IsCeiling 60 (tree_at self.now id) result }
+        ensures ceiling { IsCeiling EXPONENT (tree_at self.now id) result }
         ensures range { IsCeilingRange result }
-        ensures stop { GoesWithLeftStop 60 (tree_at self.now id) result }
+        ensures stop { GoesWithLeftStop EXPONENT (tree_at self.now id) result }
     {
         read_ceiling(&self.slots, id)
     }

@@ -1,8 +1,8 @@
 //! Look-ups along the chains of slots with one fingerprint.
 
 ghost use Rattle.std.specs.Prelude.{◌≡◌, ◌<◌, ℕ, length, IfSome, IfNone, IsTrue, ◌↔◌};
-ghost use Rattle.game_store.specs.Chain.{entries_of, fingerprints, number_fingerprint, options_fingerprint, latest_of, slot_at, HasBefores};
-ghost use Rattle.game_store.specs.Meaning.{entry_at, held, Within, IsWithin};
+ghost use Rattle.game_store.specs.inner.Chain.{entries_of, fingerprints, number_fingerprint, options_fingerprint, latest_of, slot_at, HasBefores};
+ghost use Rattle.game_store.specs.inner.Meaning.{entry_at, held, Within, IsWithin};
 ghost use Rattle.game_store.specs.Meaning.Wanted.{number, options};
 
 use crate::{Entry, Slot};
@@ -49,9 +49,12 @@ pub(crate) fn find_number(
     x: Dyadic,
 ) -> Option<u64>
     requires befores { HasBefores pool.now.lists slots.now }
-    requires latest { latest ≡ latest_of (fingerprints pool.now.lists slots.now) (length slots.now) (number_fingerprint x) }
-    ensures found { IfSome result (λ i. (i < length slots.now) × (held pool.now.lists (entry_at (entries_of slots.now) i) ≡ number x)) }
-    ensures absent { IfNone result ((i : ℕ) → i < length slots.now → held pool.now.lists (entry_at (entries_of slots.now) i) ≡ number x → ⊥) }
+    requires latest { latest ≡ latest_of (fingerprints pool.now.lists slots.now) (length slots.now)
+        (number_fingerprint x) }
+    ensures found { IfSome result (λ i. (i < length slots.now)
+        × (held pool.now.lists (entry_at (entries_of slots.now) i) ≡ number x)) }
+    ensures absent { IfNone result ((i : ℕ) → i < length slots.now
+        → held pool.now.lists (entry_at (entries_of slots.now) i) ≡ number x → ⊥) }
 {
     let mut at = latest;
     while let Some(id) = at {
@@ -74,9 +77,13 @@ pub(crate) fn find_options(
 ) -> Option<u64>
     requires within { Within pool.now.lists (entries_of slots.now) }
     requires befores { HasBefores pool.now.lists slots.now }
-    requires latest { latest ≡ latest_of (fingerprints pool.now.lists slots.now) (length slots.now) (options_fingerprint left.now right.now) }
-    ensures found { IfSome result (λ i. (i < length slots.now) × (held pool.now.lists (entry_at (entries_of slots.now) i) ≡ options left.now right.now)) }
-    ensures absent { IfNone result ((i : ℕ) → i < length slots.now → held pool.now.lists (entry_at (entries_of slots.now) i) ≡ options left.now right.now → ⊥) }
+    requires latest { latest ≡ latest_of (fingerprints pool.now.lists slots.now) (length slots.now)
+        (options_fingerprint left.now right.now) }
+    ensures found { IfSome result (λ i. (i < length slots.now)
+        × (held pool.now.lists (entry_at (entries_of slots.now) i) ≡ options left.now right.now)) }
+    ensures absent { IfNone result ((i : ℕ) → i < length slots.now
+        → held pool.now.lists (entry_at (entries_of slots.now) i) ≡ options left.now right.now
+        → ⊥) }
 {
     let mut at = latest;
     while let Some(id) = at {

@@ -17,7 +17,7 @@ use Rattle.game_text.specs.Reading.Fault.{bad_byte, bad_number, cut_short}
 use Rattle.game_text.specs.Reading.Outcome.{reads, refused}
 use Rattle.game_text.specs.Reading.ReadsNimber.{of_one, of_number, of_none}
 use Rattle.game_text.specs.Reading.ReadsSwitch.{of_negative, of_other, no_number, ends}
-use Rattle.game_text.specs.Refusals.{IsFormRefusal}
+use Rattle.game_text.specs.inner.Refusals.{IsFormRefusal}
 use Rattle.game_text.specs.declared.errors.ReadError.{ReadError}
 use Rattle.game_text.specs.declared.errors.ReadError.TheVariants as error
 use Rattle.short_games.proofs.TextOrderLaws.{tree_text-one_to_one}

@@ -83,10 +83,6 @@ one-choice : (X Y : Tree) (n : ℕ) → choice X Y ≡ nimber n → X ≡ nimber
 one-choice X Y zero e = absurd (let r = option-nimber 0 X (subst (λ z. Has (left z) X) e (inl refl)) in omega (arith, r.1))
 one-choice X Y (suc n) e = elim (subst (λ z. Has (left z) (nimber 0)) (sym e) (nimber-option (suc n) 0 (omega arith))) [ inl p ↦ sym p | inr h ↦ absurd h ]
 
-other-choice : (X Y : Tree) (n : ℕ) → choice X Y ≡ nimber n → Y ≡ nimber 0
-other-choice X Y zero e = absurd (let r = option-nimber 0 Y (subst (λ z. Has (right z) Y) e (inl refl)) in omega (arith, r.1))
-other-choice X Y (suc n) e = elim (subst (λ z. Has (right z) (nimber 0)) (sym e) (nimber-option (suc n) 0 (omega arith))) [ inl p ↦ sym p | inr h ↦ absurd h ]
-
 pub lefts-same : (X Y Z W : Tree) → choice X Y ≡ choice Z W → X ≡ Z
 lefts-same X Y Z W e = elim (subst (λ z. Has (left z) X) e (inl refl)) [ inl p ↦ p | inr h ↦ absurd h ]
 
@@ -96,20 +92,8 @@ rights-same X Y Z W e = elim (subst (λ z. Has (right z) Y) e (inl refl)) [ inl 
 one-is_zero : nimber 1 ≡ nimber 0 → ⊥
 one-is_zero e = (let q = nimber-same 1 0 e in omega (arith, q))
 
-up-no_nimber : (n : ℕ) → up ≡ nimber n → ⊥
-up-no_nimber n e = one-is_zero (other-choice (nimber 0) (nimber 1) n e)
-
-down-no_nimber : (n : ℕ) → down ≡ nimber n → ⊥
-down-no_nimber n e = one-is_zero (one-choice (nimber 1) (nimber 0) n e)
-
 pub down-not_up : down ≡ up → ⊥
 down-not_up e = one-is_zero (lefts-same (nimber 1) (nimber 0) (nimber 0) (nimber 1) e)
-
-pub name-up : name up ≡ Some (94 ∷ [])
-name-up = up-named up up-no_number up-no_nimber refl
-
-pub name-down : name down ≡ Some (118 ∷ [])
-name-down = down-named down down-no_number down-no_nimber refl down-not_up
 
 pub name-nimber : (n : ℕ) → 0 < n → name (nimber n) ≡ Some (nimber_name n)
 name-nimber n l = nimber-named (nimber n) (nimber-no_number n l) n refl

@@ -14,7 +14,7 @@ use Rattle.short_games.proofs.CanonicalLaws.{ascends-rest}
 use Rattle.short_games.proofs.TextOrderLaws.{text-order, sorted-ascends, sorted-has, has-sorted}
 use Rattle.game_store.proofs.Values.{has-pick, pick-has, pick-one_to_one}
 use Rattle.short_games.specs.Examples.{choice}
-use Rattle.game_canon.specs.Changes.{AreClosed}
+use Rattle.game_canon.specs.inner.Changes.{AreClosed}
 use Rattle.game_text.specs.NamedText.{nimbers_below, nimber, nimber_name, name, named_text}
 use Rattle.game_text.proofs.Decimals.{digits-are}
 use Rattle.std.specs.Fmt.{decimal}
@@ -118,14 +118,6 @@ option-below Ts forms id l X (f, o) = let h = forms id l in at h.0 h.1 o
     at (number x) m p = absurd (f (60, x, m))
     at (options ls rs) m (inl h) = let r = has-pick Ts ls X (has-left Ts id ls rs m X h) in (_, m.left_below r.0 r.1, r.2)
     at (options ls rs) m (inr h) = let r = has-pick Ts rs X (has-right Ts id ls rs m X h) in (_, m.right_below r.0 r.1, r.2)
-
--- the loop over the ids
-pub found-start : (Ts : List Tree) (ids ks : List ℕ) → ks ≡ [] → AreFound Ts ids 0 ks
-found-start Ts ids ks e = subst (AreFound Ts ids 0) (sym e) (record {
-  nimbers = record { below = λ j l. absurd (omega (arith, l)); ascends = λ i j l k. absurd (omega (arith, k)); each = λ k l. absurd (omega (arith, l)) };
-  from = λ k l. absurd (omega (arith, l));
-  among = λ j l. absurd (omega (arith, l));
-})
 
 module _ (Ts : List Tree) (ids ks : List ℕ) (n : ℕ) (distinct : AreDistinct Ts) (closed : AreClosed Ts ids) (l : n < length ids) (a : AreFound Ts ids n ks) where
   pub found-step : tree_at Ts (get_or ids n 0) ≡ nimber (length ks) → (us : List ℕ) → us ≡ ks ++ get_or ids n 0 ∷ [] → AreFound Ts ids (n + 1) us

@@ -6,7 +6,7 @@ use Rattle.short_games.specs.Tree.{Tree, Trees, node, none, more, left, right, H
 use Rattle.short_games.specs.Order.{◌≤ᵍ◌}
 use Rattle.short_games.specs.Number.{num, IsNumberTree}
 use Rattle.short_games.specs.TextOrder.{text_before, insert, sorted, IsCanonicalTree}
-use Rattle.short_games.specs.Reduction.{IsFreeLeft, KeepsLeft, KeepsRight}
+use Rattle.short_games.specs.inner.Reduction.{IsFreeLeft, KeepsLeft, KeepsRight}
 use Rattle.short_games.proofs.OrderLaws.{le-out, le-refl}
 use Rattle.short_games.proofs.NumberLaws.{num-left, num-right, num-lt}
 use Rattle.short_games.proofs.ReductionLaws.{form-canonical}

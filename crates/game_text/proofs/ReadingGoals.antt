@@ -14,7 +14,7 @@ use Rattle.game_text.specs.declared.pending.Place.TheVariants as place
 use Rattle.game_text.specs.Depth.{most_open}
 use Rattle.game_text.specs.Reading.{Names, Refuses, IsReadRefusal}
 use Rattle.game_text.specs.Reading.Fault.{too_deep, cut_short}
-use Rattle.game_text.specs.Refusals.{IsOpeningRefusal}
+use Rattle.game_text.specs.inner.Refusals.{IsOpeningRefusal}
 
 -- what the exit of a `?` says of the error that it passes on
 pub read-passed_on : {A : Type 0} (r : Result A ReadError) (x : ReadError) (P : ReadError → Type 0) → (y : ReadError) × (r ≡ Err y) × (y ≡ x) → P x → IfErr r P

@@ -9,7 +9,7 @@ use Rattle.game_canon.specs.Outcomes.{IsCanonicalId, IsPastBounds}
 use Rattle.game_text.specs.Reading.{ReadsText, IsReadRefusal}
 use Rattle.game_text.specs.Reading.Fault.{too_many_parts, past_bounds}
 use Rattle.game_text.specs.Reading.Outcome.{reads}
-use Rattle.game_text.specs.Refusals.{IsFormRefusal}
+use Rattle.game_text.specs.inner.Refusals.{IsFormRefusal}
 use Rattle.game_text.specs.inner.Machine.{Answer, Frame, on_left, on_right, State, first_option, a_game, other_options, all_read, Rest, AreNamed, opening_at, AreOpen, Keeps, IsReading, IsMarkOfInnermost, place_after, mark_at, IsFormTaken}
 use Rattle.game_text.specs.declared.errors.ReadError.{ReadError}
 use Rattle.game_text.specs.declared.errors.ReadError.TheVariants as reading

@@ -1,7 +1,7 @@
 -- How the texts of forms are written one after another.
-use Rattle.std.proofs.Common.{ℕ, ◌+◌, ◌<◌, ◌≤◌, ◌≡◌, List, [], ◌∷◌, ◌++◌, length, get_or, arith, refl, inl, inr, sym, ◌∙◌, ap, subst, Some, None, Bool, true, false, cond, nat_eq, length-append, append-nil, zero, suc, ℤ, pos}
+use Rattle.std.proofs.Common.{ℕ, ◌+◌, ◌<◌, ◌≤◌, ◌≡◌, List, [], ◌∷◌, length, get_or, arith, refl, inl, inr, sym, ◌∙◌, ap, subst, Some, None, length-append, append-nil, zero, suc, ℤ, pos}
 use Rattle.std.specs.Prelude.{Option, Result, Err, IfErr}
-use Rattle.std.proofs.lemmas.Bool.{cases_lt, eqb-true, eq-eqb}
+use Rattle.std.proofs.lemmas.Bool.{cases_lt}
 use Rattle.short_games.specs.Tree.{Tree, node, tree_at, AreDistinct}
 use Rattle.short_games.specs.Number.{num}
 use Rattle.short_games.specs.NumberText.{fraction_text, text_of_number, number_text}
@@ -12,15 +12,15 @@ use Rattle.game_text.specs.NamedText.{nimber, name, in_braces, named_text, named
 use Rattle.game_store.specs.Forms.{IsOptions}
 use Rattle.short_games.specs.Parts.{IsOption, IsFollower, IsReached}
 use Rattle.short_games.specs.Parts.IsFollower.{itself, further}
-use Rattle.game_store.proofs.Values.{pick-has, range-more, last-range}
-use Rattle.game_canon.specs.Changes.{AreClosed}
+use Rattle.game_store.proofs.Values.{pick-has}
+use Rattle.game_canon.specs.inner.Changes.{AreClosed}
 use Rattle.game_canon.specs.Reachable.{AreReachable}
 use Rattle.game_canon.proofs.GameLaws.{left-has, right-has}
 use Rattle.game_text.specs.declared.texts.Span.{Span}
 use Rattle.game_text.specs.declared.errors.WriteError.{WriteError}
 use Rattle.game_text.specs.declared.errors.WriteError.TheVariants.{Long, Deep, Memory}
 use Rattle.game_text.specs.Refusals.{IsWriteRefusal}
-use Rattle.game_text.specs.inner.Written.{IsWithin, text_at, HasText, AreKept, HaveTexts, span_of, IsAppended, HasOptionTexts, IsAdded, IsTooLong, AreWritten}
+use Rattle.game_text.specs.inner.Written.{HasText, AreKept, HaveTexts, HasOptionTexts, IsTooLong, AreWritten}
 use Rattle.game_text.proofs.NumberTexts.{number_of-num}
 use Rattle.game_text.proofs.Nimbers.{option-nimber}
 use Rattle.game_text.proofs.Spelled.{behind_commas, row, braces-row}
@@ -39,36 +39,6 @@ right-texts Ts id bytes spans ls rs o h j l = h (get_or rs j 0) (o.right_below j
 pub are-kept : (Ts : List Tree) (bytes : List ℕ) (spans : ℕ → Option Span) (is : List ℕ) → HaveTexts Ts bytes spans is → AreKept bytes spans is
 are-kept Ts bytes spans is h j l = (h j l).0
 
--- a text behind the others leaves them as they were
-stays-within : (old t : List ℕ) (o : Option Span) → IsWithin old o → IsWithin (old ++ t) o
-stays-within old t None w = w
-stays-within old t (Some s) w = (w.0, omega (arith, w.1, length-append old t))
-
-stays-text : (old t : List ℕ) (o : Option Span) → IsWithin old o → text_at (old ++ t) o ≡ text_at old o
-stays-text old t None w = refl
-stays-text old t (Some s) w = range-more old t s.start s.end w.0 w.1
-
--- the text of an id at a span
-has-text : (Ts : List Tree) (bytes : List ℕ) (G : Tree) (o p : Option Span) → o ≡ p → IsWithin bytes p × (text_at bytes p ≡ named_text G) → IsWithin bytes o × (text_at bytes o ≡ named_text G)
-has-text Ts bytes G o p e h = subst (λ z. IsWithin bytes z × (text_at bytes z ≡ named_text G)) (sym e) h
-
-pub added-is : (Ts : List Tree) (id : ℕ) (old : List ℕ) (spans : ℕ → Option Span) (t new : List ℕ) (after : ℕ → Option Span) → IsAppended old spans id t new after → t ≡ named_text (tree_at Ts id) → IsAdded Ts id old spans new after
-added-is Ts id old spans t new after a e = record {
-  stays = λ i h. at i h (nat_eq id i) refl (a.1 i);
-  added = subst (λ (z : List ℕ). HasText Ts z after id) (sym a.0) (has-text Ts (old ++ t) (tree_at Ts id) (after id) _ (last id refl) here);
-}
-  where
-    last : (i : ℕ) → i ≡ id → after i ≡ Some (span_of (length old) (length (old ++ t)))
-    last i s = a.1 i ∙ ap (λ b. cond b (Some (span_of (length old) (length new))) (spans i)) (eq-eqb id i (sym s)) ∙ ap (λ z. Some (span_of (length old) (length z))) a.0
-
-    here : IsWithin (old ++ t) (Some (span_of (length old) (length (old ++ t)))) × (text_at (old ++ t) (Some (span_of (length old) (length (old ++ t)))) ≡ named_text (tree_at Ts id))
-    here = ((omega (arith, length-append old t), omega arith), last-range old t ∙ e)
-
-    at : (i : ℕ) → HasText Ts old spans i → (b : Bool) → nat_eq id i ≡ b → after i ≡ cond (nat_eq id i) (Some (span_of (length old) (length new))) (spans i) → HasText Ts new after i
-    at i h true p q = let s : id ≡ i = eqb-true id i p in subst (λ (z : List ℕ). HasText Ts z after i) (sym a.0) (has-text Ts (old ++ t) (tree_at Ts i) (after i) _ (last i (sym s)) (here.0, here.1 ∙ ap (λ k. named_text (tree_at Ts k)) s))
-    at i h false p q = subst (λ (z : List ℕ). HasText Ts z after i) (sym a.0) (has-text Ts (old ++ t) (tree_at Ts i) (after i) (spans i) (q ∙ ap (λ b. cond b (Some (span_of (length old) (length new))) (spans i)) p)
-        (stays-within old t (spans i) h.0, stays-text old t (spans i) h.0 ∙ h.1))
-
 -- the loop over the ids
 module _ (Ts : List Tree) (ids : List ℕ) where
   pub before : AreClosed Ts ids → (n : ℕ) → n < length ids → (j : ℕ) → j < length ids → get_or ids j 0 < get_or ids n 0 → j < n
@@ -85,12 +55,6 @@ module _ (Ts : List Tree) (ids : List ℕ) where
       let r = closed.closed n l (tree_at Ts i) inner in
       let e : i ≡ get_or ids r.0 0 = d i (get_or ids r.0 0) (omega (arith, b, closed.ids n l)) (closed.ids r.0 r.1) r.2 in
       subst (HasText Ts bytes spans) (sym e) (w r.0 (before closed n l r.0 r.1 (subst (λ z. z < get_or ids n 0) e b)) r.1)
-
-  pub written-step : (n : ℕ) (old : List ℕ) (spans : ℕ → Option Span) (new : List ℕ) (after : ℕ → Option Span) → AreWritten Ts ids n old spans → IsAdded Ts (get_or ids n 0) old spans new after → AreWritten Ts ids (n + 1) new after
-  written-step n old spans new after w a j l k = elim (cases_lt j n) [
-    | inl d ↦ a.stays (get_or ids j 0) (w j d k)
-    | inr d ↦ (let s : n ≡ j = omega (arith, l, d) in subst (λ z. HasText Ts new after (get_or ids z 0)) s a.added)
-  ]
 
 -- a text without a name begins as braces do, and is at least as long as those of its options
 commas-longer : (ts : List (List ℕ)) (s : List ℕ) → length s ≤ length (behind_commas ts s)
@@ -152,13 +116,6 @@ pub all-too_long : (Ts : List Tree) (G : Tree) (ids : List ℕ) (limit : ℕ) (e
 all-too_long Ts G ids limit Long w r = let l = reached-length G _ (w.reached r.0 r.1) r.2.0 in omega (arith, l, r.2.1)
 all-too_long Ts G ids limit Deep w r = absurd r.2
 all-too_long Ts G ids limit (Memory cause) w r = tt
-
--- the text of the form itself
-pub root-text : (Ts : List Tree) (a : ℕ) (ids : List ℕ) (bytes : List ℕ) (spans : ℕ → Option Span) → AreDistinct Ts → a < length Ts → AreReachable Ts (tree_at Ts a) ids → AreWritten Ts ids (length ids) bytes spans → HasText Ts bytes spans a
-root-text Ts a ids bytes spans d l w m =
-    let r = w.root in
-    let e : get_or ids r.0 0 ≡ a = d (get_or ids r.0 0) a (w.ids r.0 r.1) l (sym r.2) in
-    subst (HasText Ts bytes spans) e (m r.0 r.1 r.1)
 
 -- what the exit of a `?` says of the error that it passes on
 pub passed-on : {A : Type 0} (r : Result A WriteError) (x : WriteError) (P : WriteError → Type 0) → (y : WriteError) × (r ≡ Err y) × (y ≡ x) → P x → IfErr r P

@@ -21,14 +21,15 @@ OneReading = (limit : ℕ) (text : List ℕ) (one other : Result Tree Fault) →
 abbrev pub HasNumbersWithinBounds : Tree → Type 0
 HasNumbersWithinBounds G = (N : Tree) → IsNumberTree N → IsReached G N → (u : ℤ) × IsInBounds u × (N ≡ number_tree u)
 
--- what can be read back: the braces of its text don't nest too deep, and it hasn't too many parts
+-- a canonical tree that can be read back: its numbers are within bounds, its braces don't nest too deep, and its parts are
+-- not too many
 pub record IsReadable (limit : ℕ) (C : Tree) : Type 0 where
   pub canonical : IsCanonicalTree C
   pub numbers : HasNumbersWithinBounds C
   pub shallow : depth C ≤ most_open
   pub small : HasMoreParts C limit → ⊥
 
--- the text of such a tree names it
+-- the text of a canonical tree that can be read back names it
 abbrev pub RoundTrip : Type 0
 RoundTrip = (limit : ℕ) (C : Tree) → IsReadable limit C → Names limit (tree_text C) C
 
@@ -48,14 +49,16 @@ NamedTextsTellTrees = (G H : Tree) → IsCanonicalTree G → IsCanonicalTree H �
 abbrev pub NamedTextsTellGames : Type 0
 NamedTextsTellGames = (G H : Tree) → IsCanonicalTree G → IsCanonicalTree H → (named_text G ≡ named_text H) ↔ (G ≡ᵍ H)
 
--- what can be read back by its named text: the same, but for the braces, which are those of the named text
+-- a canonical tree that can be read back by its named text: its numbers are within bounds, the braces of that text don't
+-- nest too deep, and its parts are not too many
 pub record IsReadableByName (limit : ℕ) (C : Tree) : Type 0 where
   pub canonical : IsCanonicalTree C
   pub numbers : HasNumbersWithinBounds C
   pub shallow : named_depth C ≤ most_open
   pub small : HasMoreParts C limit → ⊥
 
--- the named text of such a tree names a game whose canonical tree it is; a limit of parts is a number of 32 bits
+-- the named text of a tree that can be read back by it names a game whose canonical tree it is; a limit of parts is a number
+-- of 32 bits
 abbrev pub NamedRoundTrip : Type 0
 NamedRoundTrip = (limit : ℕ) (C : Tree) → limit ≤ most_nimber → IsReadableByName limit C → (G : Tree) × Names limit (named_text C) G × IsCanonicalFor G C
 

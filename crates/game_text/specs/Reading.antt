@@ -2,6 +2,7 @@
 --     game = number | "*" [ digits ] | "^" | "v" | "+" number | "{" options "|" options "}"
 --     options = [ game { "," game } ]
 use Rattle.std.specs.Prelude.{ℕ, suc, ◌≡◌, ◌+◌, ◌<◌, ◌≤◌, ◌⊎◌, ℤ, pos, neg_ℤ, ◌<ℤ◌, List, [], ◌∷◌, ◌++◌, length, Result, Ok, Err}
+use Rattle.std.specs.Float.Numeral.{plus}
 use Rattle.dyadic_num.specs.Units.{IsInBounds}
 use Rattle.short_games.specs.Tree.{Tree, Trees, node, none, more}
 use Rattle.short_games.specs.Text.{open_brace, bar, close_brace, comma}
@@ -17,10 +18,11 @@ use Rattle.game_text.specs.Depth.{most_open}
 use Rattle.game_text.specs.declared.errors.ReadError.{ReadError}
 use Rattle.game_text.specs.declared.errors.ReadError.TheVariants as reading
 
--- the bytes of numbers: `-`, `/` and the digits
+-- the byte is one of those of numbers: `-`, `/` and the digits
 abbrev pub IsNumberByte : ℕ → Type 0
 IsNumberByte x = (x ≡ 45) ⊎ ((47 ≤ x) × (x < 58))
 
+-- each of the bytes is one of those of numbers
 abbrev pub AreNumberBytes : List ℕ → Type 0
 AreNumberBytes [] = Unit {0}
 AreNumberBytes (x ∷ xs) = IsNumberByte x × AreNumberBytes xs
@@ -37,14 +39,16 @@ pub record IsRun (bytes run rest : List ℕ) : Type 0 where
   pub number_bytes : AreNumberBytes run
   pub longest : EndsNumber rest
 
--- the digits
+-- the byte is a digit
 abbrev pub IsDigitByte : ℕ → Type 0
 IsDigitByte x = (48 ≤ x) × (x < 58)
 
+-- each of the bytes is a digit
 abbrev pub AreDigitBytes : List ℕ → Type 0
 AreDigitBytes [] = Unit {0}
 AreDigitBytes (x ∷ xs) = IsDigitByte x × AreDigitBytes xs
 
+-- no run of digits goes on with these bytes
 abbrev pub EndsDigits : List ℕ → Type 0
 EndsDigits [] = Unit {0}
 EndsDigits (x ∷ xs) = IsDigitByte x → ⊥
@@ -59,7 +63,7 @@ pub record IsDigitRun (bytes run rest : List ℕ) : Type 0 where
 abbrev pub most_nimber : ℕ
 most_nimber = 4294967295
 
--- the digits of a number of which they name the nimber
+-- the digits of a number from 2 to 4,294,967,295, which behind `*` name its nimber
 abbrev pub IsNimberDigits : ℕ → List ℕ → Type 0
 IsNimberDigits n run = (2 ≤ n) × (n ≤ most_nimber) × (run ≡ digits n [])
 
@@ -81,24 +85,24 @@ pub data Outcome (A : Type 0) : Type 0 where
   reads : A → List ℕ → Outcome A
   refused : Fault → Outcome A
 
--- the same with G in front
+-- what reading options comes to, with G in front of those that were read
 abbrev pub behind : Tree → Outcome Trees → Outcome Trees
 behind G (reads Gs rest) = reads (more G Gs) rest
 behind G (refused fault) = refused fault
 
--- the bytes with which names of games that are no numbers begin: `*`, `^`, `v` and `+`
+-- the byte `*`, with which the names of nimbers begin
 abbrev pub star : ℕ
 star = 42
 
+-- the byte `^`, the name of up
 abbrev pub caret : ℕ
 caret = 94
 
+-- the byte `v`, the name of down
 abbrev pub letter_v : ℕ
 letter_v = 118
 
-abbrev pub plus : ℕ
-plus = 43
-
+-- the byte begins a name of a game that is no number; the names of switches begin with `+`
 abbrev pub IsNameByte : ℕ → Type 0
 IsNameByte x = (x ≡ star) ⊎ ((x ≡ caret) ⊎ ((x ≡ letter_v) ⊎ (x ≡ plus)))
 
@@ -131,10 +135,12 @@ pub data Side : Type 0 where
   left_side : Side
   right_side : Side
 
+-- the byte that ends the options of a side: a bar, or a closing brace
 abbrev pub mark_of : Side → ℕ
 mark_of left_side = bar
 mark_of right_side = close_brace
 
+-- the bytes don't begin with the mark
 abbrev pub BeginsOtherwise : ℕ → List ℕ → Type 0
 BeginsOtherwise mark [] = Unit {0}
 BeginsOtherwise mark (x ∷ xs) = x ≡ mark → ⊥
@@ -160,13 +166,13 @@ module _ (limit : ℕ) where
       game_stray : (n x : ℕ) (xs : List ℕ) → (IsNumberByte x → ⊥) → (IsNameByte x → ⊥) → (x ≡ open_brace → ⊥) → ReadsGame n (x ∷ xs) (refused (bad_byte (x ∷ xs)))
       game_cut : (n : ℕ) → ReadsGame n [] (refused cut_short)
 
-    -- the options of a side, and the mark at their end
+    -- what reading the options of a side comes to, up to the mark at their end, where n braces are open
     pub data ReadsOptions : ℕ → Side → List ℕ → Outcome Trees → Type 0 where
       no_option : (n : ℕ) (side : Side) (x : ℕ) (xs : List ℕ) → x ≡ mark_of side → ReadsOptions n side (x ∷ xs) (reads none xs)
       first : (n : ℕ) (side : Side) (bytes ys : List ℕ) (G : Tree) (others out : Outcome Trees) → BeginsOtherwise (mark_of side) bytes → ReadsGame n bytes (reads G ys) → ReadsMore n side ys others → out ≡ behind G others → ReadsOptions n side bytes out
       first_refused : (n : ℕ) (side : Side) (bytes : List ℕ) (fault : Fault) → BeginsOtherwise (mark_of side) bytes → ReadsGame n bytes (refused fault) → ReadsOptions n side bytes (refused fault)
 
-    -- the options behind the first, each behind a comma, and the mark at their end
+    -- what reading the options behind the first comes to, each behind a comma, up to the mark at their end, where n braces are open
     pub data ReadsMore : ℕ → Side → List ℕ → Outcome Trees → Type 0 where
       no_more : (n : ℕ) (side : Side) (x : ℕ) (xs : List ℕ) → x ≡ mark_of side → ReadsMore n side (x ∷ xs) (reads none xs)
       next : (n : ℕ) (side : Side) (x : ℕ) (xs ys : List ℕ) (G : Tree) (others out : Outcome Trees) → x ≡ comma → ReadsGame n xs (reads G ys) → ReadsMore n side ys others → out ≡ behind G others → ReadsMore n side (x ∷ xs) out
@@ -184,13 +190,15 @@ module _ (limit : ℕ) where
 abbrev pub Names : ℕ → List ℕ → Tree → Type 0
 Names limit text G = ReadsText limit text (Ok G)
 
+-- the text is refused with this fault
 abbrev pub Refuses : ℕ → List ℕ → Fault → Type 0
 Refuses limit text fault = ReadsText limit text (Err fault)
 
--- the text is refused so at a place, counted from 0
+-- the text is refused with a fault at this place, counted from 0
 abbrev pub RefusesAt : ℕ → List ℕ → (List ℕ → Fault) → ℕ → Type 0
 RefusesAt limit text fault place = (rest : List ℕ) × Refuses limit text (fault rest) × (place + length rest ≡ length text)
 
+-- why a text isn't read: it is refused with this fault, or there is want of memory, which may always be
 abbrev pub IsReadRefusal : ℕ → List ℕ → ReadError → Type 0
 IsReadRefusal limit text (reading.BadByte place) = RefusesAt limit text bad_byte place
 IsReadRefusal limit text (reading.BadNumber place) = RefusesAt limit text bad_number place

@@ -1,7 +1,6 @@
 -- Why a tree has no text, and what reading passes on of a form that is refused.
 use Rattle.std.specs.Prelude.{ℕ, ◌<◌, ◌≤◌, length}
 use Rattle.short_games.specs.Tree.{Tree}
-use Rattle.game_canon.specs.Outcomes.{IsCause}
 use Rattle.game_canon.specs.declared.errors.FormError.{FormError}
 use Rattle.game_canon.specs.declared.errors.FormError.TheVariants as form
 use Rattle.game_text.specs.Depth.{most_open}
@@ -17,36 +16,8 @@ IsWriteRefusal G limit Long = limit < length (named_text G)
 IsWriteRefusal G limit Deep = (length (named_text G) ≤ limit) × (most_open < named_depth G)
 IsWriteRefusal G limit (Memory cause) = Unit {0}
 
+-- the refusal of a form as a refusal of reading
 abbrev pub passed_on : FormError → ReadError
 passed_on form.Parts = reading.Parts
 passed_on form.Bounds = reading.Bounds
 passed_on (form.Memory cause) = reading.Memory cause
-
-abbrev pub IsWantOfMemory : ReadError → Type 0
-IsWantOfMemory (reading.BadByte place) = ⊥
-IsWantOfMemory (reading.BadNumber place) = ⊥
-IsWantOfMemory reading.CutShort = ⊥
-IsWantOfMemory reading.Deep = ⊥
-IsWantOfMemory reading.Parts = ⊥
-IsWantOfMemory reading.Bounds = ⊥
-IsWantOfMemory (reading.Memory cause) = Unit {0}
-
--- why a form isn't opened, where n are open
-abbrev pub IsOpeningRefusal : ℕ → ReadError → Type 0
-IsOpeningRefusal n (reading.BadByte place) = ⊥
-IsOpeningRefusal n (reading.BadNumber place) = ⊥
-IsOpeningRefusal n reading.CutShort = ⊥
-IsOpeningRefusal n reading.Deep = most_open ≤ n
-IsOpeningRefusal n reading.Parts = ⊥
-IsOpeningRefusal n reading.Bounds = ⊥
-IsOpeningRefusal n (reading.Memory cause) = Unit {0}
-
--- why a form isn't taken
-abbrev pub IsFormRefusal : Tree → ℕ → ReadError → Type 0
-IsFormRefusal G limit (reading.BadByte place) = ⊥
-IsFormRefusal G limit (reading.BadNumber place) = ⊥
-IsFormRefusal G limit reading.CutShort = ⊥
-IsFormRefusal G limit reading.Deep = ⊥
-IsFormRefusal G limit reading.Parts = IsCause G limit form.Parts
-IsFormRefusal G limit reading.Bounds = IsCause G limit form.Bounds
-IsFormRefusal G limit (reading.Memory cause) = Unit {0}

@@ -3,3 +3,4 @@ pub mod Machine
 pub mod Nesting
 pub mod Slashes
 pub mod Written
+pub mod Refusals

@@ -14,7 +14,7 @@ pub fn text_laws()
 
 /// A canonical form is known by its named text, and so is its game; what is written of an id is read back as the id. For texts without names that is `text_laws` of
 /// `short_games`.
-pub fn named_text_law()
+pub fn named_text_laws()
     ensures trees { NamedTextsTellTrees }
     ensures games { NamedTextsTellGames }
     ensures round_trip { NamedRoundTrip }

@@ -8,14 +8,12 @@ mod names;
 mod numbers;
 mod pending;
 mod reading;
-#[cfg(test)]
-mod tests;
 mod text;
 mod texts;
 mod writing;
 
 pub use errors::{ReadError, WriteError};
-pub use laws::{named_text_law, text_laws};
+pub use laws::{named_text_laws, text_laws};
 pub use numbers::number_text;
 pub use reading::read;
 pub use text::Text;

@@ -10,7 +10,7 @@ ghost use Rattle.game_text.specs.NamedText.{down, nimber, up};
 ghost use Rattle.game_text.specs.Reading.{IsDigitByte, IsNimberDigits, ReadsNimber, ReadsSwitch, switch_below};
 ghost use Rattle.game_text.specs.Reading.Outcome.{reads};
 ghost use Rattle.game_text.specs.inner.Machine.{EndsDigitsAt, IsFoundBy, IsRefusedBy, IsTaken};
-ghost use Rattle.game_text.specs.Refusals.{IsFormRefusal};
+ghost use Rattle.game_text.specs.inner.Refusals.{IsFormRefusal};
 ghost use Rattle.game_text.specs.inner.Written.{AreNimbers};
 
 use crate::errors::ReadError;

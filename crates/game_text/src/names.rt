@@ -5,7 +5,7 @@ ghost use Rattle.indexmap.specs.IndexMap.{get};
 ghost use Rattle.short_games.specs.Number.{IsNumberTree, number_tree};
 ghost use Rattle.short_games.specs.Tree.{tree_at, AreDistinct};
 ghost use Rattle.game_store.specs.Forms.{IsOptions};
-ghost use Rattle.game_canon.specs.Changes.{AreClosed};
+ghost use Rattle.game_canon.specs.inner.Changes.{AreClosed};
 ghost use Rattle.game_text.specs.NamedText.{name, nimber, nimber_name};
 ghost use Rattle.game_text.specs.inner.Written.{text_at, AreFound, AreNimbers, HasOptionTexts, HasText, IsAmong, IsNamedPair, IsPairName, IsSwitchName, IsSwitchPair, IsWithin};
 

@@ -1,13 +1,14 @@
 //! The texts of numbers.
 
-ghost use Rattle.std.specs.Prelude.{◌≡◌, ◌<◌, ◌≤◌, ◌^◌, ℕ, ℤ, pos, unsigned_abs, Some, length, slice_index, IsTrue, ◌↔◌, IfOk, MatchOption, string_bytes};
+ghost use Rattle.std.specs.Prelude.{◌≡◌, ◌<◌, ◌≤◌, ◌^◌, ℕ, ℤ, pos, Some, length, slice_index, IsTrue, ◌↔◌, IfOk, MatchOption, string_bytes};
 ghost use Rattle.std.specs.Fmt.{decimal, signed_decimal};
+ghost use Rattle.dyadic_num.specs.Units.{IsInBounds};
 ghost use Rattle.short_games.specs.TextOrder.{tree_text};
 ghost use Rattle.short_games.specs.Number.{number_tree};
 ghost use Rattle.game_text.specs.Reading.{IsNumberText};
 ghost use Rattle.game_text.specs.inner.Slashes.{HasNoSlash, IsFirstSlash};
 
-use dyadic_num::Dyadic;
+use dyadic_num::{Dyadic, EXPONENT};
 use std::alloc::{AllocError, Global};
 
 /// The text of a number: a whole number in decimal, and any other as a fraction in lowest terms.
@@ -44,7 +45,7 @@ fn is_negative(text: &[u8]) -> bool
 
 /// The whole number that a sign and digits write.
 fn parsed_integer(text: &[u8]) -> Option<i128>
-    ensures { (n : ℤ) → unsigned_abs n < 2 ^ 120 → text.now ≡ signed_decimal n → result ≡ Some n }
+    ensures { (n : ℤ) → IsInBounds n → text.now ≡ signed_decimal n → result ≡ Some n }
 {
     if is_negative(text) {
         return parsed_size(&text[1..])?.checked_neg();
@@ -62,7 +63,7 @@ pub(crate) fn parsed_count(digits: &[u8]) -> Option<u64>
 
 /// The exponent of the power of two that digits write.
 fn parsed_exponent(digits: &[u8]) -> Option<u8>
-    ensures { (e : ℕ) → e ≤ 60 → digits.now ≡ decimal (2 ^ e) → result ≡ Some e }
+    ensures { (e : ℕ) → e ≤ EXPONENT → digits.now ≡ decimal (2 ^ e) → result ≡ Some e }
 {
     let power = parsed_count(digits)?;
     if power == 0 {

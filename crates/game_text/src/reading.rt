@@ -7,7 +7,7 @@ ghost use Rattle.game_canon.specs.Outcomes.{IsCanonicalId};
 ghost use Rattle.game_text.specs.Reading.{IsNameByte, IsNumberByte, IsReadRefusal, Names, ReadsName};
 ghost use Rattle.game_text.specs.inner.Machine.{IsReading, EndsRunAt, IsNext, IsMarkOfInnermost, IsFormTaken, IsFoundBy, IsRefusedBy, IsEnded, mark_at, opening_at, place_after};
 ghost use Rattle.game_text.specs.Depth.{most_open};
-ghost use Rattle.game_text.specs.Refusals.{IsWantOfMemory, IsOpeningRefusal, IsFormRefusal};
+ghost use Rattle.game_text.specs.inner.Refusals.{IsWantOfMemory, IsOpeningRefusal, IsFormRefusal};
 ghost use Rattle.game_text.specs.declared.pending.Opening.{Opening};
 ghost use Rattle.game_text.specs.declared.pending.Place.TheVariants.{First, Game, Whole};
 ghost use Rattle.game_text.specs.declared.errors.ReadError.TheVariants.{CutShort};
@@ -273,6 +273,7 @@ fn end_side(
     ensures kept { Extends store.old store.new }
 {
     let Some(top) = pending.opens.pop() else {
+        // A mark is read only where braces are open.
         unreachable!()
     };
     let Some(middle) = top.middle else {

@@ -32,6 +32,7 @@ pub(crate) fn text_of(texts: &Texts, id: GameId) -> &[u8]
 {
     match texts.spans.get(&id).copied() {
         Some(span) => &texts.bytes[span.start..span.end],
+        // The text of an option is written before that of the form.
         None => unreachable!(),
     }
 }

@@ -4,7 +4,7 @@ ghost use Rattle.std.specs.Prelude.{◌≡◌, ◌<◌, ◌≤◌, ◌^◌, ℕ,
 ghost use Rattle.indexmap.specs.IndexMap.{get};
 ghost use Rattle.short_games.specs.Tree.{Tree, tree_at, AreDistinct};
 ghost use Rattle.game_store.specs.Forms.{IsOptions};
-ghost use Rattle.game_canon.specs.Changes.{AreClosed};
+ghost use Rattle.game_canon.specs.inner.Changes.{AreClosed};
 ghost use Rattle.game_text.specs.NamedText.{named_depth, named_text};
 ghost use Rattle.game_text.specs.inner.Nesting.{braces_after};
 ghost use Rattle.game_text.specs.Refusals.{IsWriteRefusal};

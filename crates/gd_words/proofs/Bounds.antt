@@ -10,8 +10,8 @@ use Rattle.gd_words.specs.declared.choice.Choice.TheVariants.{Komi, After, Black
 use Rattle.gd_words.specs.declared.chosen.Chosen.{Chosen}
 use Rattle.gd_words.specs.Choice.{IsValue}
 use Rattle.gd_words.specs.Task.{Task}
-use Rattle.gd_words.specs.Job.{Spell, Gives, AreChoices, JobView, job_of}
-use Rattle.gd_words.specs.Bounds.{IsWithin}
+use Rattle.gd_words.specs.Job.{Spell, Gives, AreChoices, Job, job_of}
+use Rattle.gd_words.specs.Bounds.{IsInRanges}
 
 one_half : (bytes : List ℕ) (digits more : ℕ) → IsFraction bytes digits more → more ≤ 1
 one_half _ _ _ nothing = omega arith
@@ -42,8 +42,8 @@ or_default : (P : ℕ → Type 0) (o : Option ℕ) (d : ℕ) → P d → IfSome 
 or_default P None d p h = p
 or_default P (Some n) d p h = h
 
-pub within : (task : Task) (words : List (List ℕ)) (o : Chosen) (job : JobView) → AreChoices task words o → job ≡ job_of task o → IsWithin job
-within task words o job a j = subst IsWithin (sym j) (record {
+pub within : (task : Task) (words : List (List ℕ)) (o : Chosen) (job : Job) → AreChoices task words o → job ≡ job_of task o → IsInRanges job
+within task words o job a j = subst IsInRanges (sym j) (record {
   komi = given_value IsInRange Komi words a.choices o.komi a.spelt a.said.komi in_range;
   after = given_value (λ n. n ≤ 999999) After words a.choices o.after a.spelt a.said.after (λ word n v. v.most);
   black_prisoners = or_default (λ n. n ≤ 999999) o.black_prisoners 0 (omega arith) (given_value (λ n. n ≤ 999999) BlackPrisoners words a.choices o.black_prisoners a.spelt a.said.black_prisoners (λ word n v. v.most));

@@ -1,5 +1,5 @@
 -- Words say at most one job.
-use Rattle.std.proofs.Common.{◌≡◌, ◌≢◌, ◌<◌, ◌⊎◌, ◌∷◌, [], ℕ, List, Some, None, inl, inr, get_or, refl, sym, ap, ap₂, ◌∙◌, subst}
+use Rattle.std.proofs.Common.{◌≡◌, ◌≢◌, ◌<◌, ◌⊎◌, ◌∷◌, ℕ, List, Some, None, inl, inr, get_or, refl, sym, ap, ap₂, ◌∙◌, subst}
 use Rattle.std.specs.Prelude.{Option, codes, IfSome, IfNone}
 use Rattle.std.specs.List.{AllPairs, Contains}
 use Rattle.std.proofs.lemmas.Bool.{cases_order}
@@ -9,8 +9,8 @@ use Rattle.gd_words.specs.declared.choice.Choice.TheVariants.{Komi, Turn, After,
 use Rattle.gd_words.specs.declared.chosen.Chosen.{Chosen}
 use Rattle.gd_words.specs.Choice.{name_of}
 use Rattle.gd_words.specs.Task.{Task, solve, safe, values, play, trial, calc, gtp, AreFor, BeginWith}
-use Rattle.gd_words.specs.Job.{Gives, Say, AreChoices, JobView, job_of, IsJob, IsOnlyJob}
-use Rattle.gd_words.specs.Reading.{IsJobOf}
+use Rattle.gd_words.specs.Job.{Gives, Say, AreChoices, Job, job_of, IsJob, IsOnlyJob}
+use Rattle.gd_words.specs.inner.Reading.{IsJobOf}
 use Rattle.gd_words.proofs.Names.{apart}
 use Rattle.gd_words.proofs.Unique.{one_number}
 use Rattle.gd_words.proofs.Listing.{one_spelling}
@@ -113,24 +113,24 @@ one_beginning words rest more t u a b =
     (λ e w. by_words _ u words more b (λ d v. let k : Path (List (List ℕ)) (codes "gtp" ∷ rest) (codes "gtp" ∷ more) = sym w ∙ v in (e ∙ sym d, cc)) (λ two. absurd (one_or_two words rest more u w two)))
     (λ two. by_words _ u words more b (λ d v. absurd (one_or_two words more rest t v two)) (λ more_two. two_and_two words rest more t u two more_two))
 
-pub one_job : (words : List (List ℕ)) (v w : JobView) → IsJob words v → IsJob words w → v ≡ w
+pub one_job : (words : List (List ℕ)) (v w : Job) → IsJob words v → IsJob words w → v ≡ w
 one_job words v w a b =
     let p = one_beginning words a.rest b.rest v.task w.task a.task b.task in
     let own = subst (λ r. AreChoices w.task r a.chosen) p.1 (subst (λ t. AreChoices t a.rest a.chosen) p.0 a.options) in
     a.says ∙ ap₂ job_of p.0 (one_choices w.task b.rest a.chosen b.chosen own b.options) ∙ sym b.says
 
-pub job_made : (words rest : List (List ℕ)) (task : Task) (job : JobView) → BeginWith task words rest → IsJobOf task rest job → IsOnlyJob words job
+pub job_made : (words rest : List (List ℕ)) (task : Task) (job : Job) → BeginWith task words rest → IsJobOf task rest job → IsOnlyJob words job
 job_made words rest task job t (o, a, j) =
     let said : IsJob words (job_of task o) = record { rest = rest; task = t; chosen = o; options = a; says = refl } in
     subst (IsOnlyJob words) (sym j) (record { said = said; only = λ other h. one_job words other (job_of task o) h said })
 
-pub no_choices : (words rest : List (List ℕ)) (task : Task) (job : JobView) → BeginWith task words rest → ((o : Chosen) → ¬ AreChoices task rest o) → ¬ IsJob words job
+pub no_choices : (words rest : List (List ℕ)) (task : Task) (job : Job) → BeginWith task words rest → ((o : Chosen) → ¬ AreChoices task rest o) → ¬ IsJob words job
 no_choices words rest task job t none a =
     let p = one_beginning words a.rest rest job.task task a.task t in
     none a.chosen (subst (λ r. AreChoices task r a.chosen) p.1 (subst (λ u. AreChoices u a.rest a.chosen) p.0 a.options))
 
 -- words that begin with those of no task
-pub no_task : (words rest : List (List ℕ)) (word argument : List ℕ) (job : JobView) → words ≡ word ∷ argument ∷ rest → word ≢ codes "gtp" → ((task : Task) → ¬ AreFor word argument task) → ¬ IsJob words job
+pub no_task : (words rest : List (List ℕ)) (word argument : List ℕ) (job : Job) → words ≡ word ∷ argument ∷ rest → word ≢ codes "gtp" → ((task : Task) → ¬ AreFor word argument task) → ¬ IsJob words job
 no_task words rest word argument job e apart_from none a =
     by_words _ job.task words a.rest a.task
     (λ d w. let k : Path (List (List ℕ)) (codes "gtp" ∷ a.rest) (word ∷ argument ∷ rest) = sym w ∙ e in apart_from cc)
@@ -141,19 +141,6 @@ no_task words rest word argument job e apart_from none a =
 
 pub begins_with_engine : (words rest : List (List ℕ)) (word : List ℕ) → words ≡ word ∷ rest → word ≡ codes "gtp" → BeginWith gtp words rest
 begins_with_engine words rest word e is = e ∙ ap (λ x. x ∷ rest) is
-
--- words of which none is left behind the first one
-pub lone_word : (words : List (List ℕ)) (word : List ℕ) (job : JobView) → words ≡ word ∷ [] → word ≢ codes "gtp" → ¬ IsJob words job
-lone_word words word job e apart_from a =
-    by_words _ job.task words a.rest a.task
-    (λ d w. let k : Path (List (List ℕ)) (codes "gtp" ∷ a.rest) (word ∷ []) = sym w ∙ e in apart_from cc)
-    (λ (other, second, d, b). let k : Path (List (List ℕ)) (other ∷ second ∷ a.rest) (word ∷ []) = sym d ∙ e in absurd cc)
-
-pub no_words : (words : List (List ℕ)) (job : JobView) → words ≡ [] → ¬ IsJob words job
-no_words words job e a =
-    by_words _ job.task words a.rest a.task
-    (λ d w. let k : Path (List (List ℕ)) (codes "gtp" ∷ a.rest) [] = sym w ∙ e in absurd cc)
-    (λ (other, second, d, b). let k : Path (List (List ℕ)) (other ∷ second ∷ a.rest) [] = sym d ∙ e in absurd cc)
 
 -- what holds of a value where there is one, and what where there is none
 pub map_some : {A : Type 0} (P Q : A → Type 0) (r : Option A) → ((x : A) → P x → Q x) → IfSome r P → IfSome r Q

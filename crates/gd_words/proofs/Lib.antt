@@ -1,4 +1,3 @@
-pub mod Number
 pub mod Names
 pub mod Unique
 pub mod Saying

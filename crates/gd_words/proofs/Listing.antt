@@ -11,7 +11,7 @@ use Rattle.gd_words.specs.declared.chosen.Chosen.{Chosen}
 use Rattle.gd_words.specs.Choice.{IsChoice, name_of}
 use Rattle.gd_words.specs.Task.{Task, GoesWith}
 use Rattle.gd_words.specs.Job.{Spell, AreChoices}
-use Rattle.gd_words.specs.Reading.{IsWith}
+use Rattle.gd_words.specs.inner.Reading.{IsWith}
 use Rattle.gd_words.specs.Viewed.{texts}
 use denote.Ref.{Bor}
 use Rattle.gd_words.proofs.Unique.{one_choice}
@@ -130,10 +130,6 @@ pub two_words : (left : List (Bor (List ℕ))) (d e : Bor (List ℕ)) → 1 ≤ 
     → texts left ≡ (get_or left 0 d).now ∷ (get_or (take (length left - 1) (drop 1 left)) 0 e).now
     ∷ texts (take (length (take (length left - 1) (drop 1 left)) - 1) (drop 1 (take (length left - 1) (drop 1 left))))
 two_words left d e h k = one_first left d h ∙ ap (λ words. (get_or left 0 d).now ∷ words) (one_first (take (length left - 1) (drop 1 left)) e k)
-
-pub none_there : (left : List (Bor (List ℕ))) → length left < 1 → texts left ≡ []
-none_there [] h = refl
-none_there (a ∷ left) h = absurd (omega (arith, h))
 
 pub read_two : (task : Task) (whole : List (List ℕ)) (left : List (Bor (List ℕ))) (d e : Bor (List ℕ)) (o p : Chosen) (x : Choice) → 2 ≤ length left → IsRead task whole (texts left) o
     → IsChoice (get_or left 0 d).now (get_or left 1 e).now x → GoesWith task x → IsWith o x p → IsRead task whole (texts (take (length left - 2) (drop 2 left))) p

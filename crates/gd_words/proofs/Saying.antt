@@ -8,7 +8,7 @@ use Rattle.gd_words.specs.declared.choice.Choice.TheVariants.{Komi, Turn, After,
 use Rattle.gd_words.specs.declared.chosen.Chosen.{Chosen}
 use Rattle.gd_words.specs.Choice.{name_of}
 use Rattle.gd_words.specs.Job.{Gives, Say}
-use Rattle.gd_words.specs.Reading.{IsWith}
+use Rattle.gd_words.specs.inner.Reading.{IsWith}
 use Rattle.gd_words.proofs.Names.{IsOnly, komi_only, turn_only, after_only, black_only, white_only, positions_only, parts_only, engine_only, tax_only}
 
 -- no option of the list has the name

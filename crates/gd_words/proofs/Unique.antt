@@ -6,11 +6,12 @@ use Rattle.sgf_go.proofs.Komis.{one_komi}
 use Rattle.gd_words.specs.declared.choice.Choice.{Choice}
 use Rattle.gd_words.specs.declared.choice.Choice.TheVariants.{Komi, Turn, After, BlackPrisoners, WhitePrisoners, Positions, Parts, Engine, Tax}
 use Rattle.gd_words.specs.Choice.{IsChoice, IsValue, name_of}
-use Rattle.gd_words.specs.Value.{IsNumber, answer_word, colour_word}
+use Rattle.gd_words.specs.Value.{IsNumberWithin, answer_word}
+use Rattle.board_words.specs.Words.{colour_word}
 use Rattle.gd_words.proofs.Names.{IsOnly, apart, komi_only, turn_only, after_only, black_only, white_only, positions_only, parts_only, engine_only, tax_only}
 
-pub one_number : (low high : ℕ) (word : List ℕ) (n m : ℕ) → IsNumber low high word n → IsNumber low high word m → n ≡ m
-one_number low high word n m a b = a.value ∙ sym b.value
+pub one_number : (low high : ℕ) (word : List ℕ) (n m : ℕ) → IsNumberWithin low high word n → IsNumberWithin low high word m → n ≡ m
+one_number low high word n m a b = a.number.1 ∙ sym b.number.1
 
 one_colour : (word : List ℕ) (c d : Colour) → word ≡ colour_word c → word ≡ colour_word d → c ≡ d
 one_colour word Black Black a b = refl

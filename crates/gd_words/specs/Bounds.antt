@@ -1,10 +1,10 @@
 -- What bounds the values of a job.
 use Rattle.std.specs.Prelude.{◌≤◌, IfSome}
 use Rattle.sgf_go.specs.Komi.{IsInRange}
-use Rattle.gd_words.specs.Job.{JobView}
+use Rattle.gd_words.specs.Job.{Job}
 
--- the values are such as the position of a file and a search of it ask for
-pub record IsWithin (job : JobView) : Type 0 where
+-- the values of a job are within the ranges that its options may have
+pub record IsInRanges (job : Job) : Type 0 where
   pub komi : IfSome job.settings.komi IsInRange
   pub after : IfSome job.settings.after (λ n. n ≤ 999999)
   pub black_prisoners : job.settings.black_prisoners ≤ 999999

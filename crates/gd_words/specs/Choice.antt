@@ -3,7 +3,8 @@ use Rattle.std.specs.Prelude.{◌≡◌, ℕ, List, codes}
 use Rattle.sgf_go.specs.Komi.{IsKomi}
 use Rattle.gd_words.specs.declared.choice.Choice.{Choice}
 use Rattle.gd_words.specs.declared.choice.Choice.TheVariants.{Komi, Turn, After, BlackPrisoners, WhitePrisoners, Positions, Parts, Engine, Tax}
-use Rattle.gd_words.specs.Value.{IsNumber, colour_word, answer_word}
+use Rattle.gd_words.specs.Value.{IsNumberWithin, answer_word}
+use Rattle.board_words.specs.Words.{colour_word}
 
 -- the word that names an option
 abbrev pub name_of : Choice → List ℕ
@@ -21,11 +22,11 @@ name_of (Tax taxed) = codes "--tax"
 abbrev pub IsValue : List ℕ → Choice → Type 0
 IsValue word (Komi halves) = IsKomi word halves
 IsValue word (Turn colour) = word ≡ colour_word colour
-IsValue word (After n) = IsNumber 0 999999 word n
-IsValue word (BlackPrisoners n) = IsNumber 0 999999 word n
-IsValue word (WhitePrisoners n) = IsNumber 0 999999 word n
-IsValue word (Positions n) = IsNumber 1 1000000 word n
-IsValue word (Parts n) = IsNumber 1 4000 word n
+IsValue word (After n) = IsNumberWithin 0 999999 word n
+IsValue word (BlackPrisoners n) = IsNumberWithin 0 999999 word n
+IsValue word (WhitePrisoners n) = IsNumberWithin 0 999999 word n
+IsValue word (Positions n) = IsNumberWithin 1 1000000 word n
+IsValue word (Parts n) = IsNumberWithin 1 4000 word n
 IsValue word (Engine colour) = word ≡ colour_word colour
 IsValue word (Tax taxed) = word ≡ answer_word taxed
 

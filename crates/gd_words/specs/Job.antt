@@ -43,7 +43,7 @@ pub record AreChoices (task : Task) (words : List (List ℕ)) (chosen : Chosen) 
   pub said : Say choices chosen
 
 -- a job: what is asked for, of which position, within which limits, with which colour for the engine, and with or without a tax
-pub record JobView : Type 0 where
+pub record Job : Type 0 where
   pub task : Task
   pub settings : Settings
   pub positions : ℕ
@@ -52,7 +52,7 @@ pub record JobView : Type 0 where
   pub tax : Bool
 
 -- the job of a task and its options: what they leave open has its default
-abbrev pub job_of : Task → Chosen → JobView
+abbrev pub job_of : Task → Chosen → Job
 job_of task chosen = record {
   task = task;
   settings = record {
@@ -69,14 +69,18 @@ job_of task chosen = record {
 }
 
 -- the words say the job: those of the task, and then its options
-pub record IsJob (words : List (List ℕ)) (job : JobView) : Type 0 where
+pub record IsJob (words : List (List ℕ)) (job : Job) : Type 0 where
   pub rest : List (List ℕ)
   pub task : BeginWith job.task words rest
   pub chosen : Chosen
   pub options : AreChoices job.task rest chosen
   pub says : job ≡ job_of job.task chosen
 
+-- the words say no job
+abbrev pub SayNoJob : List (List ℕ) → Type 0
+SayNoJob words = (job : Job) → ¬ IsJob words job
+
 -- the words say the job and no other one
-pub record IsOnlyJob (words : List (List ℕ)) (job : JobView) : Type 0 where
+pub record IsOnlyJob (words : List (List ℕ)) (job : Job) : Type 0 where
   pub said : IsJob words job
-  pub only : (other : JobView) → IsJob words other → other ≡ job
+  pub only : (other : Job) → IsJob words other → other ≡ job

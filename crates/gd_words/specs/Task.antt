@@ -2,7 +2,7 @@
 use Rattle.std.specs.Prelude.{◌≡◌, ◌≢◌, ◌∷◌, [], ⊤, ℕ, List, codes}
 use Rattle.gd_words.specs.declared.choice.Choice.{Choice}
 use Rattle.gd_words.specs.declared.choice.Choice.TheVariants.{Positions, Parts, Engine, Tax}
-use Rattle.gd_words.specs.Value.{IsNumber}
+use Rattle.gd_words.specs.Value.{IsNumberWithin}
 
 -- the command, with its file, the number of its board or its expression, or that of the engine
 pub data Task : Type 0 where
@@ -21,7 +21,7 @@ AreFor word argument (solve file) = (word ≡ codes "solve") × (argument ≡ fi
 AreFor word argument (safe file) = (word ≡ codes "safe") × (argument ≡ file) × (file ≢ [])
 AreFor word argument (values file) = (word ≡ codes "values") × (argument ≡ file) × (file ≢ [])
 AreFor word argument (play file) = (word ≡ codes "play") × (argument ≡ file) × (file ≢ []) × (file ≢ codes "-")
-AreFor word argument (trial n) = (word ≡ codes "trial") × IsNumber 0 4294967295 argument n
+AreFor word argument (trial n) = (word ≡ codes "trial") × IsNumberWithin 0 4294967295 argument n
 AreFor word argument (calc expression) = (word ≡ codes "calc") × (argument ≡ expression) × (expression ≢ [])
 AreFor word argument gtp = ⊥
 

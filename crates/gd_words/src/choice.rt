@@ -4,7 +4,7 @@ ghost use Rattle.std.specs.Prelude.{◌≡◌, IfSome, IfNone};
 ghost use Rattle.gd_words.specs.Choice.{IsChoice};
 ghost use Rattle.gd_words.specs.declared.choice.Choice.{Choice};
 
-use crate::value::{read_answer, read_colour, read_number};
+use crate::value::{read_answer, read_colour, read_count};
 use go_grid::Colour;
 use sgf_go::read_komi;
 
@@ -19,7 +19,7 @@ const MOST_PARTS: u32 = 4_000;
 
 /// An option with its value.
 #[derive(Clone, Copy)]
-pub enum Choice {
+pub(crate) enum Choice {
     /// The komi in half-points.
     Komi(i64),
     Turn(Colour),
@@ -34,18 +34,18 @@ pub enum Choice {
 }
 
 /// The option that a name and a value say.
-pub fn read_choice(name: &str, value: &str) -> Option<Choice>
+pub(crate) fn read_choice(name: &str, value: &str) -> Option<Choice>
     ensures some { IfSome result (λ choice. IsChoice name.now value.now choice) }
     ensures none { IfNone result ((choice : Choice) → ¬ IsChoice name.now value.now choice) }
 {
     match name {
         "--komi" => Some(Choice::Komi(read_komi(value.as_bytes())?)),
         "--turn" => Some(Choice::Turn(read_colour(value)?)),
-        "--after" => Some(Choice::After(read_number(0, MOST_COUNT, value)?)),
-        "--black-prisoners" => Some(Choice::BlackPrisoners(read_number(0, MOST_COUNT, value)?)),
-        "--white-prisoners" => Some(Choice::WhitePrisoners(read_number(0, MOST_COUNT, value)?)),
-        "--positions" => Some(Choice::Positions(read_number(1, MOST_POSITIONS, value)?)),
-        "--parts" => Some(Choice::Parts(read_number(1, MOST_PARTS, value)?)),
+        "--after" => Some(Choice::After(read_count(0, MOST_COUNT, value)?)),
+        "--black-prisoners" => Some(Choice::BlackPrisoners(read_count(0, MOST_COUNT, value)?)),
+        "--white-prisoners" => Some(Choice::WhitePrisoners(read_count(0, MOST_COUNT, value)?)),
+        "--positions" => Some(Choice::Positions(read_count(1, MOST_POSITIONS, value)?)),
+        "--parts" => Some(Choice::Parts(read_count(1, MOST_PARTS, value)?)),
         "--as" => Some(Choice::Engine(read_colour(value)?)),
         "--tax" => Some(Choice::Tax(read_answer(value)?)),
         _ => None,

@@ -1,7 +1,7 @@
 //! The options that a command line gives.
 
 ghost use Rattle.std.specs.Prelude.{◌≡◌, None, IfSome, IfNone};
-ghost use Rattle.gd_words.specs.Reading.{IsWith};
+ghost use Rattle.gd_words.specs.inner.Reading.{IsWith};
 ghost use Rattle.gd_words.specs.Job.{AreChoices, job_of};
 ghost use Rattle.gd_words.specs.Viewed.{task_of, texts, viewed};
 ghost use Rattle.gd_words.specs.declared.chosen.Chosen.{Chosen};
@@ -19,16 +19,16 @@ const DEFAULT_PARTS: u32 = 500;
 
 /// The options that are given, each with its value.
 #[derive(Clone, Copy, Default)]
-pub struct Chosen {
-    pub komi: Option<i64>,
-    pub turn: Option<Colour>,
-    pub after: Option<u32>,
-    pub black_prisoners: Option<u32>,
-    pub white_prisoners: Option<u32>,
-    pub positions: Option<u32>,
-    pub parts: Option<u32>,
-    pub engine: Option<Colour>,
-    pub tax: Option<bool>,
+pub(crate) struct Chosen {
+    pub(crate) komi: Option<i64>,
+    pub(crate) turn: Option<Colour>,
+    pub(crate) after: Option<u32>,
+    pub(crate) black_prisoners: Option<u32>,
+    pub(crate) white_prisoners: Option<u32>,
+    pub(crate) positions: Option<u32>,
+    pub(crate) parts: Option<u32>,
+    pub(crate) engine: Option<Colour>,
+    pub(crate) tax: Option<bool>,
 }
 
 impl Chosen {
@@ -55,7 +55,7 @@ impl Chosen {
     }
 
     /// The job of a command with these options. What they leave open has its default.
-    pub fn job(self, command: Command<'_>) -> Job<'_>
+    pub(crate) fn job(self, command: Command<'_>) -> Job<'_>
         ensures { viewed result ≡ job_of (task_of command.entry) self }
     {
         Job {
@@ -76,7 +76,7 @@ impl Chosen {
 }
 
 /// The options of a command that the words behind its first two give.
-pub fn read_choices(command: &Command<'_>, words: &[&str]) -> Option<Chosen>
+pub(crate) fn read_choices(command: &Command<'_>, words: &[&str]) -> Option<Chosen>
     ensures some { IfSome result (λ chosen. AreChoices (task_of command.now)
         (texts words.now) chosen) }
     ensures none { IfNone result ((chosen : Chosen)

@@ -5,13 +5,13 @@ ghost use Rattle.gd_words.specs.Task.{Task, AreFor, GoesWith};
 ghost use Rattle.gd_words.specs.Viewed.{task_of};
 
 use crate::choice::Choice;
-use crate::value::read_number;
+use crate::value::read_count;
 use go_grid::Colour;
 use sgf_go::Settings;
 
 /// A command with its file, the number of its board, or its expression. The file `-` is the source, which `Play` never has. `Gtp`
 /// has none of these.
-#[derive(Clone, Copy, PartialEq, Eq)]
+#[derive(Clone, Copy, Debug, PartialEq, Eq)]
 pub enum Command<'a> {
     Solve(&'a str),
     Safe(&'a str),
@@ -23,7 +23,7 @@ pub enum Command<'a> {
 }
 
 /// A command and what its options set.
-#[derive(Clone, Copy, PartialEq, Eq)]
+#[derive(Clone, Copy, Debug, PartialEq, Eq)]
 pub struct Job<'a> {
     pub command: Command<'a>,
     /// What is set beside the file.
@@ -39,12 +39,12 @@ pub struct Job<'a> {
 }
 
 /// The command that two words ask for.
-pub fn read_command<'a>(word: &str, argument: &'a str) -> Option<Command<'a>>
+pub(crate) fn read_command<'a>(word: &str, argument: &'a str) -> Option<Command<'a>>
     ensures some { IfSome result (λ command. AreFor word.now argument.now (task_of command)) }
     ensures none { IfNone result ((task : Task) → ¬ AreFor word.now argument.now task) }
 {
     match word {
-        "trial" => Some(Command::Trial(read_number(0, u32::MAX, argument)?)),
+        "trial" => Some(Command::Trial(read_count(0, u32::MAX, argument)?)),
         _ if argument.is_empty() => None,
         "solve" => Some(Command::Solve(argument)),
         "safe" => Some(Command::Safe(argument)),

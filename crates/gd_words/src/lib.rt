@@ -9,8 +9,5 @@ mod value;
 mod words;
 
 pub use job::{Command, Job};
-pub use laws::words_law;
+pub use laws::words_laws;
 pub use words::{Usage, read};
-
-#[cfg(test)]
-mod tests;

@@ -1,9 +1,9 @@
 //! The grammar of the command line.
 
 ghost use Rattle.std.specs.Prelude.{◌≡◌, ◌↔◌, true, codes, IfOk, IfSome, IfNone, OnErr};
-ghost use Rattle.gd_words.specs.Bounds.{IsWithin};
-ghost use Rattle.gd_words.specs.Job.{AreChoices, JobView, IsJob, IsOnlyJob};
-ghost use Rattle.gd_words.specs.Reading.{IsJobOf};
+ghost use Rattle.gd_words.specs.Bounds.{IsInRanges};
+ghost use Rattle.gd_words.specs.Job.{AreChoices, IsOnlyJob, SayNoJob};
+ghost use Rattle.gd_words.specs.inner.Reading.{IsJobOf};
 ghost use Rattle.gd_words.specs.Viewed.{task_of, texts, viewed};
 ghost use Rattle.gd_words.specs.declared.chosen.Chosen.{Chosen};
 
@@ -36,8 +36,8 @@ fn read_options<'a>(command: Command<'a>, words: &[&str]) -> Option<Job<'a>>
 
 fn read_job<'a>(words: &[&'a str]) -> Option<Job<'a>>
     ensures job { IfSome result (λ job. IsOnlyJob (texts words.now) (viewed job)) }
-    ensures bounds { IfSome result (λ job. IsWithin (viewed job)) }
-    ensures none { IfNone result ((job : JobView) → ¬ IsJob (texts words.now) job) }
+    ensures bounds { IfSome result (λ job. IsInRanges (viewed job)) }
+    ensures none { IfNone result (SayNoJob (texts words.now)) }
 {
     let [word, behind @ ..] = words else {
         return None;
@@ -57,8 +57,8 @@ fn read_job<'a>(words: &[&'a str]) -> Option<Job<'a>>
 /// the words have no such form.
 pub fn read<'a>(words: &[&'a str]) -> Result<Job<'a>, Usage>
     ensures job { IfOk result (λ job. IsOnlyJob (texts words.now) (viewed job)) }
-    ensures bounds { IfOk result (λ job. IsWithin (viewed job)) }
-    ensures usage { OnErr result ((job : JobView) → ¬ IsJob (texts words.now) job) }
+    ensures bounds { IfOk result (λ job. IsInRanges (viewed job)) }
+    ensures usage { OnErr result (SayNoJob (texts words.now)) }
 {
     read_job(words).ok_or(Usage)
 }

@@ -1,12 +1,10 @@
 -- Chains and liberties, as sets of points.
-use Rattle.std.proofs.Common.{◌≡◌, ℕ, ◌↔◌, List, Bool, false, get_or}
-use Rattle.std.specs.Bool.{OnFalse}
-use Rattle.std.proofs.lemmas.Bool.{OnFalse_from, both_ways}
+use Rattle.std.proofs.Common.{ℕ, ◌↔◌, List, Bool}
 use Rattle.go_grid.specs.declared.grid.Colour.{Colour}
 use Rattle.go_grid.specs.Board.{Board, HasStone, IsEmpty}
 use Rattle.go_grid.specs.Walk.{Joined}
 use Rattle.go_grid.specs.Marks.{IsMarked, Marks, Touches}
-use Rattle.go_grid.specs.Chain.{InChain, HasLiberty, IsChoked}
+use Rattle.go_grid.specs.Chain.{InChain, HasLiberty}
 use Rattle.go_grid.proofs.WalkLemmas.{joined_back, joined_join, joined_more, joined_end}
 
 -- a chain has a liberty exactly where one of its stones is next to an empty point
@@ -41,9 +39,3 @@ breathing_marks g c stones empties starts marks iss ise isx ism p = (
 pub same_liberty : (g : Board) (c : Colour) (s t : ℕ) → InChain g c s t → HasLiberty g c t → HasLiberty g c s
 same_liberty g c s t j l =
     (l.0, (l.1.0, (l.1.1.0, joined_join g.columns (HasStone g c) s t l.1.1.0 j l.1.1.1, l.1.1.2)))
-
--- a stone that isn't marked as one with a liberty
-pub choked_at : (g : Board) (c : Colour) (p i : ℕ) (marks : List Bool) → i ≡ p → Marks marks (λ q. HasStone g c q × HasLiberty g c q)
-    → HasStone g c p → OnFalse (get_or marks i false) (IsChoked g p)
-choked_at g c p i marks e is h =
-    rw e (OnFalse_from (get_or marks p false) (IsChoked g p) (λ off. (c, h, λ l. both_ways _ off ((is p).1 (h, l)))))

@@ -4,10 +4,11 @@ use Rattle.std.specs.List.{count_by}
 use Rattle.std.specs.Option.{IfSome}
 use Rattle.std.proofs.lemmas.Bool.{cases_eq}
 use Rattle.std.proofs.lemmas.List.{get_or-set_same, get_or-set_other}
-use Rattle.go_grid.specs.declared.filling.Work.{Work}
+use Rattle.go_grid.specs.declared.fills.Work.{Work}
 use Rattle.go_grid.specs.Board.{NextTo}
 use Rattle.go_grid.specs.Walk.{Joined}
-use Rattle.go_grid.specs.Marks.{IsMarked, Touches, IsClosed, Marks}
+use Rattle.go_grid.specs.Marks.{IsMarked, Touches, Marks}
+use Rattle.go_grid.specs.inner.Marks.{IsClosed}
 use Rattle.go_grid.specs.inner.Work.{IsListed, IsFilled, IsFilling}
 use Rattle.go_grid.proofs.NearLemmas.{next_back}
 use Rattle.go_grid.proofs.PointsLemmas.{no_mark}

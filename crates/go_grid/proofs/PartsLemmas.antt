@@ -1,7 +1,7 @@
 -- Labels of parts, part by part.
 use Rattle.std.proofs.Common.{◌≡◌, ℕ, ◌+◌, ◌<◌, ◌≤◌, ◌⊎◌, inl, inr, arith, List, Bool, sym, ◌∙◌, below_more}
 use Rattle.std.proofs.lemmas.Bool.{cases_lt}
-use Rattle.go_grid.specs.declared.filling.Work.{Work}
+use Rattle.go_grid.specs.declared.fills.Work.{Work}
 use Rattle.go_grid.specs.Walk.{Joined}
 use Rattle.go_grid.specs.Marks.{IsMarked, Marks}
 use Rattle.go_grid.specs.inner.Work.{IsListed, IsFilled}

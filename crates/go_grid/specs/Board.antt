@@ -5,6 +5,7 @@ use Rattle.go_grid.specs.declared.grid.Cell.TheVariants as cell
 use Rattle.go_grid.specs.declared.grid.Colour.{Colour}
 use Rattle.go_grid.specs.declared.grid.Colour.TheVariants as colour
 
+-- a board: its columns, its rows, and its cells row by row from the top left
 pub record Board : Type 0 where
   pub columns : ℕ
   pub rows : ℕ
@@ -18,7 +19,7 @@ pub record IsBoard (g : Board) : Type 0 where
   pub most_rows : g.rows ≤ 25
   pub full : length g.cells ≡ g.columns * g.rows
 
--- the two differ by one
+-- one of the two numbers is one more than the other
 abbrev pub DifferByOne : ℕ → ℕ → Type 0
 DifferByOne a b = (a + 1 ≡ b) ⊎ (b + 1 ≡ a)
 
@@ -54,20 +55,25 @@ pub record AreNear (columns area p : ℕ) (up left right down : Option ℕ) : Ty
 abbrev pub AreAround : ℕ → ℕ → ℕ → List ℕ → Type 0
 AreAround columns area p points = (q : ℕ) → Contains points q ↔ ((q < area) × NextTo columns p q)
 
+-- the cell at a point of the board, empty past the last point
 abbrev pub cell_at : Board → ℕ → Cell
 cell_at g p = slice_index_or g.cells p cell.Empty
 
+-- the cell with a stone of the colour
 abbrev pub stone : Colour → Cell
 stone colour.Black = cell.Black
 stone colour.White = cell.White
 
+-- the other colour
 abbrev pub other : Colour → Colour
 other colour.Black = colour.White
 other colour.White = colour.Black
 
+-- `p` is a point of the board with a stone of the colour
 abbrev pub HasStone : Board → Colour → ℕ → Type 0
 HasStone g c p = (p < length g.cells) × (cell_at g p ≡ stone c)
 
+-- `p` is an empty point of the board
 abbrev pub IsEmpty : Board → ℕ → Type 0
 IsEmpty g p = (p < length g.cells) × (cell_at g p ≡ cell.Empty)
 

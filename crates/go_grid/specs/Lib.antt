@@ -7,4 +7,5 @@ pub mod Marks
 pub mod Name
 pub mod Parts
 pub mod Region
+pub mod Stones
 pub mod inner

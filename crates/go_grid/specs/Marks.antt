@@ -3,16 +3,13 @@ use Rattle.std.specs.Prelude.{◌≡◌, ℕ, ◌<◌, ◌↔◌, List, Bool, tr
 use Rattle.std.specs.List.Sorted.{IsStrictlyIncreasing}
 use Rattle.go_grid.specs.Board.{NextTo}
 
+-- the point is marked; past the end of the list none is
 abbrev pub IsMarked : List Bool → ℕ → Type 0
 IsMarked marks p = slice_index_or marks p false ≡ true
 
 -- some point next to `p` is marked
 abbrev pub Touches : ℕ → List Bool → ℕ → Type 0
 Touches columns marks p = (q : ℕ) × NextTo columns p q × IsMarked marks q
-
--- each point of `within` that is next to a marked point is marked
-abbrev pub IsClosed : ℕ → List Bool → List Bool → Type 0
-IsClosed columns within marks = (p : ℕ) → IsMarked within p → Touches columns marks p → IsMarked marks p
 
 -- no point from `area` on is marked
 abbrev pub IsWithin : ℕ → List Bool → Type 0

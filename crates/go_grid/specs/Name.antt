@@ -1,8 +1,11 @@
 -- Names of points: a column letter and then a row letter, `a` for 0.
-use Rattle.std.specs.Prelude.{◌≡◌, ℕ, ◌+◌, ◌*◌, ◌/◌, ◌%◌, ◌<◌, List, slice_index}
+use Rattle.std.specs.Prelude.{◌≡◌, ℕ, ◌+◌, ◌*◌, ◌/◌, ◌%◌, ◌<◌, List, [], ◌∷◌}
 
--- the two letters name the point of a board of this size
+-- a point's name on a board of so many columns: the letter of its column and then that of its row
+abbrev pub point_name : ℕ → ℕ → List ℕ
+point_name columns p = (97 + p % columns) ∷ (97 + p / columns) ∷ []
+
+-- the letters name the point of a board of this size
 pub record IsName (columns rows : ℕ) (letters : List ℕ) (p : ℕ) : Type 0 where
   pub on_board : p < columns * rows
-  pub column : slice_index letters 0 ≡ 97 + p % columns
-  pub row : slice_index letters 1 ≡ 97 + p / columns
+  pub spelt : letters ≡ point_name columns p

@@ -2,6 +2,7 @@
 use Rattle.std.specs.Prelude.{◌≡◌, ℕ, ◌≤◌, List, slice_index_or}
 use Rattle.go_grid.specs.Walk.{Joined}
 
+-- the label of a point, 0 past the end of the list
 abbrev pub label : List ℕ → ℕ → ℕ
 label labels p = slice_index_or labels p 0
 

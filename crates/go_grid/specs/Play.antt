@@ -7,11 +7,11 @@ use Rattle.go_grid.specs.declared.grid.Colour.{Colour}
 use Rattle.go_grid.specs.Board.{stone, other}
 use Rattle.go_grid.specs.Path.{Leads}
 
--- what a place holds
+-- what a place holds, which is nothing past the last
 abbrev pub held_at : List Cell → ℕ → Cell
 held_at cells p = slice_index_or cells p cell.Empty
 
--- it holds a stone of the colour
+-- the place holds a stone of the colour
 abbrev pub Holds : List Cell → Colour → ℕ → Type 0
 Holds cells c p = held_at cells p ≡ stone c
 
@@ -49,6 +49,7 @@ pub record IsPlaced (Next : ℕ → ℕ → Type 0) (Free : Colour → ℕ → T
   pub without : IsWithout (with_stone cells p c) (IsTaken Next Free (with_stone cells p c) p (other c)) after
   pub stands : IsFree Next Free after c p
 
+-- the cell holds a stone, of either colour
 abbrev pub is_stone : Cell → Bool
 is_stone cell.Empty = false
 is_stone cell.Black = true

@@ -8,7 +8,7 @@ use Rattle.go_grid.specs.declared.region.Touch.{Touch}
 use Rattle.go_grid.specs.Board.{IsAbove, IsLeftOf}
 use Rattle.go_grid.specs.Walk.{Joined}
 
--- what a contract sees of a region
+-- a region: the size of its board, its points, and for each of them what it holds and what is next to it
 pub record Region : Type 0 where
   pub columns : ℕ
   pub rows : ℕ
@@ -20,6 +20,7 @@ pub record Region : Type 0 where
 abbrev pub nothing_near : Touch
 nothing_near = record { black = false; white = false; up = None; left = None; right = None; down = None }
 
+-- what is next to a place of the region, nothing past the last place
 abbrev pub touch_at : List Touch → ℕ → Touch
 touch_at touch i = slice_index_or touch i nothing_near
 

@@ -7,7 +7,7 @@ use std::alloc::{AllocError, Global};
 use std::marker::Model;
 
 /// A board: its size and a cell for each of its points.
-#[derive(Drop)]
+#[derive(Debug, Drop)]
 pub struct Board {
     size: Size,
     cells: Vec<Cell>,

@@ -3,7 +3,7 @@
 ghost use Rattle.std.specs.Prelude.{◌<◌, length, IfOk, MatchOption};
 
 use crate::boards::Board;
-use crate::filling::{fill, fill_all};
+use crate::fills::{fill, fill_all};
 use crate::grid::{Cell, Colour, Point};
 use crate::points::Points;
 use crate::sets::{edge, holding};
@@ -86,6 +86,7 @@ impl Board {
     {
         match self.colour_at(point) {
             Some(colour) => self.chain(colour, point).to_list(self.allocator()),
+            // The caller asks of a stone only.
             None => unreachable!(),
         }
     }
@@ -98,6 +99,7 @@ impl Board {
     {
         match self.colour_at(point) {
             Some(colour) => self.liberties(colour, point).to_list(self.allocator()),
+            // The caller asks of a stone only.
             None => unreachable!(),
         }
     }
@@ -105,9 +107,12 @@ impl Board {
     /// Whether a point is empty or its stone is among the given ones with a liberty.
     fn is_free(&self, black: &Points, white: &Points, point: Point) -> bool
         requires point { point < length self.now.cells }
-        requires black { Marks black.now (λ p. HasStone self.now Black p × HasLiberty self.now Black p) }
-        requires white { Marks white.now (λ p. HasStone self.now White p × HasLiberty self.now White p) }
-        ensures free { OnTrue result ((c : Colour) → HasStone self.now c point → HasLiberty self.now c point) }
+        requires black { Marks black.now (λ p. HasStone self.now Black p
+            × HasLiberty self.now Black p) }
+        requires white { Marks white.now (λ p. HasStone self.now White p
+            × HasLiberty self.now White p) }
+        ensures free { OnTrue result ((c : Colour) → HasStone self.now c point
+            → HasLiberty self.now c point) }
         ensures choked { OnFalse result (IsChoked self.now point) }
     {
         match self.colour_at(point) {

@@ -47,7 +47,8 @@ impl Size {
     /// A size, or `None` where a number is out of range.
     pub fn new(columns: u8, rows: u8) -> Option<Size>
         ensures some { IfSome result (λ s. (s.columns ≡ columns) × (s.rows ≡ rows)) }
-        ensures none { IfNone result ((columns < 1) ⊎ ((25 < columns) ⊎ ((rows < 1) ⊎ (25 < rows)))) }
+        ensures none { IfNone result ((columns < 1)
+            ⊎ ((25 < columns) ⊎ ((rows < 1) ⊎ (25 < rows)))) }
     {
         if columns < 1 || columns > 25 || rows < 1 || rows > 25 {
             return None;

@@ -5,7 +5,7 @@ ghost use Rattle.go_grid.specs.Marks.{IsMarked, IsWithin};
 ghost use Rattle.go_grid.specs.inner.Work.{IsListed};
 ghost use Rattle.go_grid.specs.Parts.{AreParts, label};
 
-use crate::filling::{Work, idle, spread, zeroes};
+use crate::fills::{Work, idle, spread, zeroes};
 use crate::grid::{MOST_POINTS, Point, Size};
 use crate::points::Points;
 

@@ -9,7 +9,7 @@ use std::alloc::{AllocError, Global};
 use std::marker::Model;
 
 /// A set of points: a mark for each point of the largest board.
-#[derive(Clone, Copy)]
+#[derive(Clone, Copy, Debug)]
 pub struct Points {
     marks: [bool; MOST_POINTS],
 }
@@ -56,7 +56,8 @@ impl Points {
     pub fn insert(&mut self, point: Point)
         requires { point < MOST_POINTS }
         ensures marks { Marks self.new (λ q. IsMarked self.old q ⊎ (q ≡ point)) }
-        ensures number { ¬ IsMarked self.old point → count_by (λ m. m) self.new ≡ count_by (λ m. m) self.old + 1 }
+        ensures number { ¬ IsMarked self.old point
+            → count_by (λ m. m) self.new ≡ count_by (λ m. m) self.old + 1 }
         ensures most { count_by (λ m. m) self.new ≤ MOST_POINTS }
     {
         self.marks[usize::from(point.0)] = true;

@@ -5,7 +5,7 @@ ghost use Rattle.go_grid.specs.Board.{cell_at};
 ghost use Rattle.go_grid.specs.Marks.{IsMarked, Touches, IsWithin, Marks};
 
 use crate::boards::Board;
-use crate::filling::touches;
+use crate::fills::touches;
 use crate::grid::{Cell, Size};
 use crate::points::Points;
 

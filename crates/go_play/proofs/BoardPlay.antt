@@ -12,7 +12,8 @@ use Rattle.go_grid.proofs.NearLemmas.{next_back}
 use Rattle.go_grid.proofs.PathLemmas.{leads_over}
 use Rattle.go_grid.proofs.PlayLemmas.{held_inside, one_without}
 use Rattle.go_grid.proofs.WalkLemmas.{joined_back, joined_end}
-use Rattle.go_play.specs.Place.{IsBy, with_stone, IsTaken, Breathes, IsSameSize, IsPlaced, IsSuicide}
+use Rattle.go_play.specs.Place.{IsBy, IsTaken, Breathes, IsSameSize, IsPlaced, IsSuicide}
+use Rattle.go_play.specs.inner.Place.{with_stone}
 
 module _ (g : Board) (cells : List Cell) (long : length cells ≡ length g.cells) where
   -- the board with these cells

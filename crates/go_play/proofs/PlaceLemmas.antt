@@ -13,9 +13,10 @@ use Rattle.go_grid.proofs.BoardLemmas.{empty_not_stone, not_other, same_or_not}
 use Rattle.go_grid.proofs.PointsLemmas.{Noted}
 use Rattle.go_grid.proofs.WalkLemmas.{joined_start, marks_joined}
 use Rattle.go_grid.proofs.ChainLemmas.{liberty_marks}
-use Rattle.go_play.specs.declared.placing.PlaceError.{PlaceError}
-use Rattle.go_play.specs.declared.placing.PlaceError.TheVariants.{Occupied, Suicide}
-use Rattle.go_play.specs.Place.{with_stone, IsTaken, IsCleared, Breathes, Answers}
+use Rattle.go_play.specs.declared.placements.PlaceError.{PlaceError}
+use Rattle.go_play.specs.declared.placements.PlaceError.TheVariants.{Occupied, Suicide}
+use Rattle.go_play.specs.Place.{IsTaken, IsCleared, Breathes, Answers}
+use Rattle.go_play.specs.inner.Place.{with_stone}
 use Rattle.go_play.specs.inner.Tried.{IsLost, Judges}
 use Rattle.go_play.proofs.BoardPlay.{breathes_from, breathes_to, chain_to, taken_stone, takes}
 

@@ -4,8 +4,8 @@ use Rattle.go_grid.specs.declared.grid.Cell.{Cell}
 use Rattle.go_grid.specs.declared.grid.Colour.{Colour}
 use Rattle.go_grid.specs.Board.{Board, NextTo, HasStone, IsEmpty, other}
 use Rattle.go_grid.specs.Play as play
-use Rattle.go_play.specs.declared.placing.PlaceError.{PlaceError}
-use Rattle.go_play.specs.declared.placing.PlaceError.TheVariants.{Occupied, Suicide}
+use Rattle.go_play.specs.declared.placements.PlaceError.{PlaceError}
+use Rattle.go_play.specs.declared.placements.PlaceError.TheVariants.{Occupied, Suicide}
 
 -- `q` is a point of the board next to `p`
 abbrev pub IsBy : Board → ℕ → ℕ → Type 0
@@ -15,11 +15,8 @@ IsBy g p q = (q < length g.cells) × NextTo g.columns p q
 abbrev pub Never : Colour → ℕ → Type 0
 Never c p = ⊥
 
--- the board with a stone more
-abbrev pub with_stone : Board → ℕ → Colour → Board
-with_stone g p c = record g { cells = play.with_stone g.cells p c }
-
--- a stone of the colour at `p` takes what stands at `q`: a stone of the other colour, in a chain that is next to `p` and then has no liberty
+-- a stone of the colour at `p` takes what stands at `q`: a stone of the other colour whose chain is next to `p` and then has no
+-- liberty
 abbrev pub IsTaken : Board → ℕ → Colour → ℕ → Type 0
 IsTaken g p c q = play.IsTaken (IsBy g) Never (play.with_stone g.cells p c) p (other c) q
 

@@ -1,2 +1,3 @@
 -- What loops and private calls keep; no public clause cites it.
 pub mod Tried
+pub mod Place

@@ -1,6 +1,6 @@
 //! Placing stones.
 #![tactic(auto)]
 
-pub mod placing;
+mod placements;
 
-pub use placing::{PlaceError, allowed, place};
+pub use placements::{PlaceError, allowed, place};

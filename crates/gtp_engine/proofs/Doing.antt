@@ -2,21 +2,21 @@
 use Rattle.std.proofs.Common.{◌≡◌, ◌≢◌, ◌⊎◌, ◌≤◌, ◌<◌, ℕ, ℤ, List, [], inl, inr, refl, ap, ◌∙◌, subst, Some, None}
 use Rattle.go_grid.specs.declared.grid.Colour.{Colour}
 use Rattle.sgf_go.specs.declared.settings.Setup.{Setup}
-use Rattle.whole_rules.specs.WholeGame.{State}
+use Rattle.whole_rules.specs.WholeGame.{Whole}
 use Rattle.endgame_solver.specs.declared.limits.Limits.{Limits}
 use Rattle.endgame_solver.specs.Solved.{IsPlayable}
 use Rattle.gtp_engine.specs.declared.playing.Action.{Action}
 use Rattle.gtp_engine.specs.declared.reply.Refusal.TheVariants.{CannotSolve, GameHasBegun, NotInTurn, UnacceptableSize}
-use Rattle.gtp_engine.specs.Doing.{IsDone, IsFresh, IsRunning, IsTurnTaken, with_table}
-use Rattle.gtp_engine.specs.Playing.{IsActed}
+use Rattle.gtp_engine.specs.inner.Doing.{IsDone, IsFresh, IsRunning, IsTurnTaken, with_table}
+use Rattle.gtp_engine.specs.inner.Playing.{IsActed}
 use Rattle.gtp_engine.specs.Request.Order.{boardsize, komi}
-use Rattle.gtp_engine.specs.Session.{CannotOpen, Table, done, fresh, refused, reply_text, turned}
-use Rattle.gtp_engine.specs.Written.{EngineView}
+use Rattle.gtp_engine.specs.Session.{CannotOpen, Table, done, fresh, refused, reply_text, with_side}
+use Rattle.gtp_engine.specs.Written.{Engine}
 
-pub komi_refused : (a : EngineView) (halves : ℤ) (id reply : List ℕ) → IsRunning a → reply ≡ reply_text id (refused GameHasBegun) → IsDone (komi halves) id a reply a
+pub komi_refused : (a : Engine) (halves : ℤ) (id reply : List ℕ) → IsRunning a → reply ≡ reply_text id (refused GameHasBegun) → IsDone (komi halves) id a reply a
 komi_refused a halves id reply runs said = (refused GameHasBegun, a.table, inr (runs, (refl, refl)), said, refl)
 
-pub komi_taken : (a b : EngineView) (halves kept : ℤ) (id reply : List ℕ) → IsFresh a → kept ≡ halves
+pub komi_taken : (a b : Engine) (halves kept : ℤ) (id reply : List ℕ) → IsFresh a → kept ≡ halves
     → b ≡ record a { table = record { setup = record a.table.setup { komi_halves = kept }; game = a.table.game } } → reply ≡ reply_text id (done []) → IsDone (komi halves) id a reply b
 komi_taken a b halves kept id reply none held is said =
     let after : Table = record { setup = record a.table.setup { komi_halves = halves }; game = None } in (
@@ -28,40 +28,40 @@ komi_taken a b halves kept id reply none held is said =
           ∙ ap (λ g. with_table a (record { setup = record a.table.setup { komi_halves = halves }; game = g })) none,
     )
 
-pub size_refused : (a : EngineView) (n : ℕ) (id reply : List ℕ) → (n < 1) ⊎ (25 < n) → reply ≡ reply_text id (refused UnacceptableSize) → IsDone (boardsize n) id a reply a
+pub size_refused : (a : Engine) (n : ℕ) (id reply : List ℕ) → (n < 1) ⊎ (25 < n) → reply ≡ reply_text id (refused UnacceptableSize) → IsDone (boardsize n) id a reply a
 size_refused a n id reply out said = (refused UnacceptableSize, a.table, inr (out, (refl, refl)), said, refl)
 
-pub size_taken : (a b : EngineView) (n : ℕ) (id reply : List ℕ) → 1 ≤ n → n ≤ 25 → b ≡ record a { table = fresh n n a.table.setup.komi_halves }
+pub size_taken : (a b : Engine) (n : ℕ) (id reply : List ℕ) → 1 ≤ n → n ≤ 25 → b ≡ record a { table = fresh n n a.table.setup.komi_halves }
     → reply ≡ reply_text id (done []) → IsDone (boardsize n) id a reply b
 size_taken a b n id reply some few is said = (done [], fresh n n a.table.setup.komi_halves, inl (some, few, refl, refl), said, is)
 
 -- the other colour is to move
-pub turn_refused : (a b : EngineView) (c : Colour) (action : Action) (s : State) (id reply : List ℕ) → a.table.game ≡ Some s → s.side ≢ c → b ≡ a
+pub turn_refused : (a b : Engine) (c : Colour) (action : Action) (s : Whole) (id reply : List ℕ) → a.table.game ≡ Some s → s.side ≢ c → b ≡ a
     → reply ≡ reply_text id (refused NotInTurn) → IsTurnTaken c action id a reply b
 turn_refused a b c action s id reply runs other same said = (refused NotInTurn, a.table, inr (inr (inr (s, runs, other, (refl, refl)))), said, same)
 
 -- a turn in the running game
-pub turn_taken : (a b : EngineView) (c : Colour) (action : Action) (s v : State) (id reply : List ℕ) → a.table.game ≡ Some s → s.side ≡ c → IsActed action id s reply v
+pub turn_taken : (a b : Engine) (c : Colour) (action : Action) (s v : Whole) (id reply : List ℕ) → a.table.game ≡ Some s → s.side ≡ c → IsActed action id s reply v
     → b ≡ record a { table = record a.table { game = Some v } } → IsTurnTaken c action id a reply b
 turn_taken a b c action s v id reply runs own acted is = (acted.0, record a.table { game = Some v }, inr (inr (inl (s, v, runs, own, acted.1, refl))), acted.2, is)
 
-module _ (a : EngineView) (limits : Limits) (setup other : Setup) (c : Colour) (action : Action) (id reply : List ℕ)
-    (same_limits : limits ≡ a.limits) (same_setup : setup ≡ a.table.setup) (none : IsFresh a) (is : other ≡ turned setup c) where
-  turned_is : other ≡ turned a.table.setup c
-  turned_is = is ∙ ap (λ x. turned x c) same_setup
+module _ (a : Engine) (limits : Limits) (setup other : Setup) (c : Colour) (action : Action) (id reply : List ℕ)
+    (same_limits : limits ≡ a.limits) (same_setup : setup ≡ a.table.setup) (none : IsFresh a) (is : other ≡ with_side setup c) where
+  with_side_is : other ≡ with_side a.table.setup c
+  with_side_is = is ∙ ap (λ x. with_side x c) same_setup
 
   -- the setup can't be opened
   pub turn_unsolved : CannotOpen limits other → reply ≡ reply_text id (refused CannotSolve) → IsTurnTaken c action id a reply a
   turn_unsolved cannot said =
-      (refused CannotSolve, a.table, inr (inl (none, subst (λ l. CannotOpen l (turned a.table.setup c)) same_limits (subst (CannotOpen limits) turned_is cannot), (refl, refl))), said, refl)
+      (refused CannotSolve, a.table, inr (inl (none, subst (λ l. CannotOpen l (with_side a.table.setup c)) same_limits (subst (CannotOpen limits) with_side_is cannot), (refl, refl))), said, refl)
 
   -- the first turn of the game that the setup opens
-  pub turn_first : (b : EngineView) (s v : State) → IsPlayable limits other s → IsActed action id s reply v → b ≡ record a { table = record { setup = other; game = Some v } }
+  pub turn_first : (b : Engine) (s v : Whole) → IsPlayable limits other s → IsActed action id s reply v → b ≡ record a { table = record { setup = other; game = Some v } }
       → IsTurnTaken c action id a reply b
   turn_first b s v playable acted left = (
     acted.0,
-    record { setup = turned a.table.setup c; game = Some v },
-    inl (none, (s, v, subst (λ l. IsPlayable l (turned a.table.setup c) s) same_limits (subst (λ x. IsPlayable limits x s) turned_is playable), acted.1, refl)),
+    record { setup = with_side a.table.setup c; game = Some v },
+    inl (none, (s, v, subst (λ l. IsPlayable l (with_side a.table.setup c) s) same_limits (subst (λ x. IsPlayable limits x s) with_side_is playable), acted.1, refl)),
     acted.2,
-    left ∙ ap (λ x. with_table a (record { setup = x; game = Some v })) turned_is,
+    left ∙ ap (λ x. with_table a (record { setup = x; game = Some v })) with_side_is,
   )

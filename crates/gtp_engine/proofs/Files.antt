@@ -1,10 +1,11 @@
 -- What files give.
 use Rattle.std.proofs.Common.{◌≡◌, ℕ, List, inl, inr, refl, subst, Option, Some, None, Ok, Err, Result}
+use Rattle.sgf_tree.specs.declared.reader.TheConstants.{MOST_BYTES}
 use Rattle.desk_io.specs.Files.{Told, Loads}
 use Rattle.desk_io.specs.Files.Told.{untold, absent, holding}
 use Rattle.desk_io.specs.declared.shelf.Loaded.TheVariants.{Longer}
 use Rattle.sgf_tree.specs.Grammar.{PropertyText}
-use Rattle.sgf_tree.specs.Reading.{IsAnswer, Answers}
+use Rattle.sgf_tree.specs.Reading.{IsTreeAnswer, AnswersFile}
 use Rattle.sgf_tree.specs.Reading.Answer.{line}
 use Rattle.sgf_tree.specs.declared.fault.SgfError.{SgfError}
 use Rattle.sgf_tree.specs.declared.fault.SgfError.TheVariants as sgf
@@ -16,24 +17,24 @@ use Rattle.sgf_go.specs.declared.settings.Settings.{Settings}
 use Rattle.sgf_go.specs.File.{Reads}
 use Rattle.gtp_engine.specs.declared.loading.Loading.{Loading}
 use Rattle.gtp_engine.specs.declared.loading.Loading.TheVariants.{Position, Nothing, Failed}
-use Rattle.gtp_engine.specs.Loading.{IsFoundIn, IsFoundOn}
+use Rattle.gtp_engine.specs.inner.Loading.{IsFoundIn, IsFoundOn}
 use Rattle.gtp_engine.specs.Session.{GivesNone}
 
 -- what is on the main line is in the file
-pub found_in : (file : List ℕ) (after : Option ℕ) (l : List (List PropertyText)) (found : Loading) → IsAnswer file (line l) → IsFoundOn l after found → IsFoundIn file after found
+pub found_in : (file : List ℕ) (after : Option ℕ) (l : List (List PropertyText)) (found : Loading) → IsTreeAnswer file (line l) → IsFoundOn l after found → IsFoundIn file after found
 found_in file after l (Position setup) a h = ((l, a, h.0), h.1)
 found_in file after l Nothing a h = (fault.Setup h.0, (l, a, h.1))
 found_in file after l Failed a h = absurd h
 
 -- a tree with a fault gives no position
-pub tree_fault : (file : List ℕ) (settings : Settings) (f : TreeFault) (r : Result Tree SgfError) → r ≡ Err (sgf.Fault f) → Answers file r → Reads file settings (Err (fault.Tree f))
-tree_fault file settings NoTree r e a = subst (Answers file) e a
-tree_fault file settings (BadByte at) r e a = subst (Answers file) e a
-tree_fault file settings CutShort r e a = subst (Answers file) e a
-tree_fault file settings TooDeep r e a = subst (Answers file) e a
+pub tree_fault : (file : List ℕ) (settings : Settings) (f : TreeFault) (r : Result Tree SgfError) → r ≡ Err (sgf.Fault f) → AnswersFile file r → Reads file settings (Err (fault.Tree f))
+tree_fault file settings NoTree r e a = subst (AnswersFile file) e a
+tree_fault file settings (BadByte at) r e a = subst (AnswersFile file) e a
+tree_fault file settings CutShort r e a = subst (AnswersFile file) e a
+tree_fault file settings TooDeep r e a = subst (AnswersFile file) e a
 
 -- a file that is longer
-pub too_long : (told : Told) (after : Option ℕ) (old new : List ℕ) → Loads told 1048576 old new (Ok Longer) → GivesNone told after
+pub too_long : (told : Told) (after : Option ℕ) (old new : List ℕ) → Loads told MOST_BYTES old new (Ok Longer) → GivesNone told after
 too_long untold after old new h = inr (inl tt)
 too_long absent after old new h = absurd h
 too_long (holding file) after old new h = inr (inl h.0)

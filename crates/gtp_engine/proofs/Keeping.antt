@@ -8,7 +8,7 @@ use Rattle.go_grid.specs.declared.grid.Colour.{Colour}
 use Rattle.sgf_go.specs.declared.settings.Setup.{Setup}
 use Rattle.gtp_engine.specs.Kept.{AreLoads}
 use Rattle.sgf_go.specs.Position.{IsFit}
-use Rattle.gtp_engine.specs.Session.{turned}
+use Rattle.gtp_engine.specs.Session.{with_side}
 
 -- one more load, which gave its answer
 pub loads_more : (n : ℕ) (failed : List ℕ) → AreLoads n failed → AreLoads (n + 1) failed
@@ -37,5 +37,5 @@ loads_failed n failed now is h = subst (AreLoads (n + 1)) (sym is) (record {
 })
 
 -- the side to move doesn't matter
-pub turned_fit : (setup other : Setup) (c : Colour) → other ≡ turned setup c → IsFit setup → IsFit other
-turned_fit setup other c is fit = subst IsFit (sym is) (record { settled = fit.settled; black = fit.black; white = fit.white; komi = fit.komi })
+pub with_side_fit : (setup other : Setup) (c : Colour) → other ≡ with_side setup c → IsFit setup → IsFit other
+with_side_fit setup other c is fit = subst IsFit (sym is) (record { settled = fit.settled; black = fit.black; white = fit.white; komi = fit.komi })

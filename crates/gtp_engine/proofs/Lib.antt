@@ -1,5 +1,4 @@
 pub mod Names
-pub mod Numbers
 pub mod Cleaning
 pub mod Splitting
 pub mod Acting

@@ -5,7 +5,7 @@ use Rattle.std.proofs.lemmas.List.Elements.{Contains-append_left, Contains-push,
 use Rattle.endgame_solver.specs.declared.limits.Limits.{Limits}
 use Rattle.gtp_engine.specs.Session.{Fate, IsNumbered}
 use Rattle.gtp_engine.specs.Session.Fate.{no_load, made, failed}
-use Rattle.gtp_engine.specs.Written.{EngineView, IsNoted, RoseBy, unused}
+use Rattle.gtp_engine.specs.Written.{Engine, IsNoted, RoseBy, unused}
 
 -- the list tells of the loads so far what the other one tells
 abbrev pub Agrees : ℕ → List ℕ → List ℕ → Type 0
@@ -21,7 +21,7 @@ agrees_itself loads known = λ n lt. ((λ c. c), (λ c. c))
 not_pushed : (loads n : ℕ) (known : List ℕ) → n < loads → Contains (known ++ loads ∷ []) n → Contains known n
 not_pushed loads n known lt c = elim (Contains-push_cases known loads n c) [ inl old ↦ old | inr new ↦ absurd (omega (arith, lt, new)) ]
 
-module _ (before now : ℕ) (a b : EngineView) where
+module _ (before now : ℕ) (a b : Engine) where
   -- the numbers stay below that of the next load
   pub noted_below : (fate : Fate) → IsNoted before now fate a b → AreBelow a.loads a.failed_loads → AreBelow b.loads b.failed_loads
   noted_below no_load h below = λ n c. let lt = below n (subst (λ l. Contains l n) h.1 c) in omega (arith, lt, h.0)
@@ -61,11 +61,11 @@ module _ (before now : ℕ) (a b : EngineView) where
       subst (λ l. RoseBy (length l) first now) (sym h.1) (subst (λ n. RoseBy n first now) (sym (length-append a.failed_loads (a.loads ∷ []))) (omega (arith, rose, later, h.2)))
 
 -- an engine that has answered nothing
-pub unused_below : (limits : Limits) (a : EngineView) → a ≡ unused limits → AreBelow a.loads a.failed_loads
+pub unused_below : (limits : Limits) (a : Engine) → a ≡ unused limits → AreBelow a.loads a.failed_loads
 unused_below limits a first = subst (λ v. AreBelow v.loads v.failed_loads) (sym first) (λ n c. absurd (omega (arith, c.1)))
 
-pub unused_loads : (limits : Limits) (a : EngineView) → a ≡ unused limits → a.loads ≤ 0
+pub unused_loads : (limits : Limits) (a : Engine) → a ≡ unused limits → a.loads ≤ 0
 unused_loads limits a first = subst (λ v. v.loads ≤ 0) (sym first) (omega arith)
 
-pub unused_rose : (limits : Limits) (a : EngineView) (faults : ℕ) → a ≡ unused limits → RoseBy (length a.failed_loads) faults faults
+pub unused_rose : (limits : Limits) (a : Engine) (faults : ℕ) → a ≡ unused limits → RoseBy (length a.failed_loads) faults faults
 unused_rose limits a faults first = subst (λ v. RoseBy (length v.failed_loads) faults faults) (sym first) (omega arith)

@@ -4,7 +4,7 @@ use Rattle.std.proofs.lemmas.Int.{ints}
 use Rattle.sgf_go.specs.Komi.{IsKomi, unsigned, positive, negative, IsHalves, halves, IsFraction, nothing, zeros, half, IsInRange}
 use Rattle.gtp_engine.specs.declared.command.Command.{Command}
 use Rattle.gtp_engine.specs.declared.command.Command.TheVariants.{ProtocolVersion, Name, Version, KnownCommand, ListCommands, BoardSize, ClearBoard, Komi, Play, GenMove, LoadSgf, Quit}
-use Rattle.gtp_engine.specs.Doing.{AsksInRange, HasKomiInRange}
+use Rattle.gtp_engine.specs.inner.Doing.{AsksInRange, HasKomiInRange}
 use Rattle.gtp_engine.specs.Request.{Asked, Asks, Fits, FitsAlone, FitsOne, FitsTwo, Order}
 use Rattle.gtp_engine.specs.Request.Asked.{something, unknown, misfit}
 

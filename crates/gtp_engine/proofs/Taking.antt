@@ -3,12 +3,11 @@ use Rattle.std.proofs.Common.{Bool, true, false, ◌≡◌, ◌≤◌, ◌++◌,
 use Rattle.std.specs.Io.KnownBytes.{append_known}
 use Rattle.desk_io.specs.Files.{Files}
 use Rattle.desk_io.specs.Lines.{IsFound, IsLine, IsSameInput}
-use Rattle.desk_io.specs.Outside.{ended}
 use Rattle.desk_io.specs.declared.lines.FoundLine.{FoundLine}
 use Rattle.gtp_engine.specs.declared.end.GtpEnd.{GtpEnd}
-use Rattle.gtp_engine.specs.declared.end.GtpEnd.TheVariants.{Quit, InputEnded, ReadFault, WriteFault, Memory}
-use Rattle.gtp_engine.specs.Taking.{LineTaken, Replies}
-use Rattle.gtp_engine.specs.Written.{EngineView, IsAnswered}
+use Rattle.gtp_engine.specs.declared.end.GtpEnd.TheVariants.{Quit, ReadFault, WriteFault}
+use Rattle.gtp_engine.specs.inner.Taking.{LineTaken, Replies}
+use Rattle.gtp_engine.specs.Written.{Engine, IsAnswered}
 
 pub append_none : (told : Option (List ℕ)) → told ≡ append_known told []
 append_none None = refl
@@ -19,27 +18,16 @@ append_twice None a b = refl
 append_twice (Some xs) a b = ap Some (append_assoc xs a b)
 
 -- what one line leaves, whatever the source has left
-abbrev pub Taken : Option Files → ℕ → ℕ → EngineView → List ℕ → Option (List ℕ) → Option (List ℕ) → Option (List ℕ) → Option GtpEnd → EngineView → List ℕ → Option (List ℕ) → Type 0
+abbrev pub Taken : Option Files → ℕ → ℕ → Engine → List ℕ → Option (List ℕ) → Option (List ℕ) → Option (List ℕ) → Option GtpEnd → Engine → List ℕ → Option (List ℕ) → Type 0
 Taken files before now a held left holds holds' result b held' left' = (bytes : List ℕ) → left ≡ Some bytes
     → (rest : List ℕ) × (left' ≡ Some rest) × LineTaken files before now a (held ++ bytes) holds holds' result b (held' ++ rest)
 
-module _ (files : Option Files) (before now : ℕ) (a : EngineView) (start held : List ℕ) (left left' holds : Option (List ℕ)) (same : IsSameInput start left held left') where
+module _ (files : Option Files) (before now : ℕ) (a : Engine) (start held : List ℕ) (left left' holds : Option (List ℕ)) (same : IsSameInput start left held left') where
   -- a read failed
   pub taken_unread : Taken files before now a start left holds holds (Some ReadFault) a held left'
   taken_unread = λ bytes e. let r = same bytes e in (r.0, r.1, (refl, refl))
 
-  -- memory was refused
-  pub taken_refused : Taken files before now a start left holds holds (Some Memory) a held left'
-  taken_refused = λ bytes e. let r = same bytes e in (r.0, r.1, (refl, refl))
-
-  -- nothing is left
-  pub taken_ended : held ≡ [] → left' ≡ ended left' → Taken files before now a start left holds holds (Some InputEnded) a held left'
-  taken_ended none end = λ bytes e.
-      let r = same bytes e in
-      let over : r.0 ≡ [] = cc (sym r.1 ∙ end ∙ ap ended r.1) in
-      (r.0, r.1, (r.2 ∙ ap (λ l. l ++ r.0) none ∙ over, refl, refl))
-
-  module _ (f : FoundLine) (found : IsFound 1024 held left' (Some f)) (b : EngineView) (line used : List ℕ) (is : line ≡ take f.line held) (behind : used ≡ drop f.taken held) where
+  module _ (f : FoundLine) (found : IsFound 1024 held left' (Some f)) (b : Engine) (line used : List ℕ) (is : line ≡ take f.line held) (behind : used ≡ drop f.taken held) where
     replies : (text : List ℕ) (last : Bool) → IsAnswered files before now line a text b last → (bytes : List ℕ) → left ≡ Some bytes
         → (rest : List ℕ) × (left' ≡ Some rest) × Replies files before now a (start ++ bytes) text b (used ++ rest) last
     replies text last answered bytes e =

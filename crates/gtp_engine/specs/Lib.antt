@@ -3,10 +3,6 @@ pub mod Moves
 pub mod Request
 pub mod Session
 pub mod Written
-pub mod Viewed
-pub mod Loading
-pub mod Playing
 pub mod Kept
-pub mod Doing
-pub mod Taking
 pub mod Laws
+pub mod inner

@@ -42,16 +42,12 @@ move_for columns rows (At v) =
 move_for columns rows Pass = Some move.Spend
 move_for columns rows Half = Some move.Half
 
--- the text of a move of the engine: the letter of a column is a capital one
+-- the capital letter of a column: `I` is left out
 abbrev pub capital : ℕ → ℕ
 capital column = if nat_lt column 8 then 65 + column else 66 + column
 
+-- the text of a move of the engine; `pass` spends a point
 abbrev pub move_text : ℕ → ℕ → Move → List ℕ
 move_text columns rows (move.Stone p) = capital (p % columns) ∷ decimal (rows - p / columns)
 move_text columns rows move.Spend = codes "pass"
 move_text columns rows move.Half = codes "half"
-
--- a stone's point is on the board of this size
-abbrev pub IsOn : ℕ → ℕ → Move → Type 0
-IsOn columns rows (move.Stone p) = p < columns * rows
-IsOn columns rows _ = Unit {0}

@@ -1,11 +1,12 @@
 -- What the words of a line ask for.
 use Rattle.std.specs.Prelude.{◌≡◌, ◌≢◌, ◌≤◌, ◌+◌, ℕ, ℤ, List, [], ◌∷◌, codes, Option, Some, None}
+use Rattle.gtp_engine.specs.declared.request.TheConstants.{LAST_MOVE}
 use Rattle.go_grid.specs.declared.grid.Colour.{Colour}
 use Rattle.sgf_go.specs.Komi.{IsKomi}
 use Rattle.gtp_engine.specs.declared.moves.Wanted.{Wanted}
 use Rattle.gtp_engine.specs.declared.command.Command.{Command}
 use Rattle.gtp_engine.specs.declared.command.Command.TheVariants.{ProtocolVersion, Name, Version, KnownCommand, ListCommands, BoardSize, ClearBoard, Komi, Play, GenMove, LoadSgf, Quit}
-use Rattle.gtp_engine.specs.Words.{IsNumber}
+use Rattle.board_words.specs.Numbers.{IsNumber}
 use Rattle.gtp_engine.specs.Moves.{IsColour, IsWanted}
 
 -- a command with its arguments
@@ -23,6 +24,7 @@ pub data Order : Type 0 where
   loadsgf : List ℕ → Option ℕ → Order
   quit : Order
 
+-- the name of a command
 abbrev pub command_word : Command → List ℕ
 command_word ProtocolVersion = codes "protocol_version"
 command_word Name = codes "name"
@@ -37,7 +39,7 @@ command_word GenMove = codes "genmove"
 command_word LoadSgf = codes "loadsgf"
 command_word Quit = codes "quit"
 
--- a command without an argument
+-- the order of a command without an argument
 abbrev pub FitsAlone : Command → Order → Type 0
 FitsAlone ProtocolVersion order = order ≡ protocol_version
 FitsAlone Name order = order ≡ name
@@ -47,7 +49,7 @@ FitsAlone ClearBoard order = order ≡ clear_board
 FitsAlone Quit order = order ≡ quit
 FitsAlone _ order = ⊥
 
--- a command with one argument
+-- the order of a command with one argument
 abbrev pub FitsOne : Command → List ℕ → Order → Type 0
 FitsOne KnownCommand word order = order ≡ known_command word
 FitsOne BoardSize word order = (n : ℕ) × IsNumber word n × (order ≡ boardsize n)
@@ -56,13 +58,13 @@ FitsOne GenMove word order = (c : Colour) × IsColour word c × (order ≡ genmo
 FitsOne LoadSgf word order = order ≡ loadsgf word None
 FitsOne _ word order = ⊥
 
--- a command with two arguments; the number of a file's move is from 1 to 1,000,000, and one less moves are replayed
+-- the order of a command with two arguments; the number of a file's move is from 1 to 1,000,000, and one less moves are replayed
 abbrev pub FitsTwo : Command → List ℕ → List ℕ → Order → Type 0
 FitsTwo Play first second order = (c : Colour) × (wanted : Wanted) × IsColour first c × IsWanted second wanted × (order ≡ play c wanted)
-FitsTwo LoadSgf first second order = (moves : ℕ) × IsNumber second (moves + 1) × (moves + 1 ≤ 1000000) × (order ≡ loadsgf first (Some moves))
+FitsTwo LoadSgf first second order = (moves : ℕ) × IsNumber second (moves + 1) × (moves + 1 ≤ LAST_MOVE) × (order ≡ loadsgf first (Some moves))
 FitsTwo _ first second order = ⊥
 
--- the arguments fit the command
+-- the order of a command with its arguments, which fit it
 abbrev pub Fits : Command → List (List ℕ) → Order → Type 0
 Fits command [] order = FitsAlone command order
 Fits command (word ∷ []) order = FitsOne command word order
@@ -75,6 +77,7 @@ pub data Asked : Type 0 where
   unknown : Asked
   misfit : Asked
 
+-- the words ask for this, by the name of the command that they begin with and its arguments
 abbrev pub Asks : List (List ℕ) → Asked → Type 0
 Asks words (something order) = (command : Command) × (rest : List (List ℕ)) × (words ≡ command_word command ∷ rest) × Fits command rest order
 Asks words unknown = (command : Command) (rest : List (List ℕ)) → words ≢ command_word command ∷ rest

@@ -1,5 +1,7 @@
 -- A session: what each line is answered, and where the session stands after it.
 use Rattle.std.specs.Prelude.{Bool, true, false, ◌≡◌, ◌≢◌, ◌⊎◌, ◌≤◌, ◌<◌, ◌+◌, ◌*◌, ◌++◌, ◌∷◌, ℕ, zero, suc, ℤ, pos, List, [], codes, replicate, Option, Some, None, Ok, Err, Contains}
+use Rattle.desk_io.specs.declared.lines.TheConstants.{MOST_LINES}
+use Rattle.sgf_tree.specs.declared.reader.TheConstants.{MOST_BYTES}
 use Rattle.desk_io.specs.Files.Told.{absent}
 use Rattle.std.specs.Str.{IsUtf8}
 use Rattle.desk_io.specs.Files.{Told, Files, told_file}
@@ -12,10 +14,10 @@ use Rattle.sgf_go.specs.declared.fault.FileFault.{FileFault}
 use Rattle.sgf_go.specs.declared.settings.Settings.{Settings}
 use Rattle.sgf_go.specs.declared.settings.Setup.{Setup}
 use Rattle.desk_io.specs.Files.{IsLonger, IsTold}
-use Rattle.sgf_go.specs.File.{IsShort, Reads}
+use Rattle.sgf_go.specs.File.{HasFewBytes, Reads}
 use Rattle.whole_rules.specs.declared.states.Move.{Move}
 use Rattle.whole_rules.specs.declared.states.MoveError.{MoveError}
-use Rattle.whole_rules.specs.WholeGame.{State, Applies, IsMove}
+use Rattle.whole_rules.specs.WholeGame.{Whole, Applies, IsMove}
 use Rattle.region_cut.specs.Cut.{AreRegionsOfPlay}
 use Rattle.endgame_solver.specs.declared.limits.Limits.{Limits}
 use Rattle.endgame_solver.specs.Faults.{AreSound}
@@ -35,7 +37,7 @@ use Rattle.gtp_engine.specs.Request.Asked.{something, unknown, misfit}
 -- a setup, and the state of the game that runs after it, if one does
 pub record Table : Type 0 where
   pub setup : Setup
-  pub game : Option State
+  pub game : Option Whole
 
 -- a fresh empty board of the size: no prisoners, and Black to move
 abbrev pub fresh : ℕ → ℕ → ℤ → Table
@@ -55,6 +57,7 @@ pub data Said : Type 0 where
   done : List ℕ → Said
   refused : Refusal → Said
 
+-- the text of a refusal
 abbrev pub refusal_text : Refusal → List ℕ
 refusal_text UnknownCommand = codes "unknown command"
 refusal_text SyntaxError = codes "syntax error"
@@ -74,57 +77,59 @@ reply_text id (refused why) = codes "?" ++ (id ++ (codes " " ++ (refusal_text wh
 abbrev pub all_commands : List ℕ
 all_commands = codes "protocol_version\nname\nversion\nknown_command\nlist_commands\nboardsize\nclear_board\nkomi\nplay\ngenmove\nloadsgf\nquit"
 
--- the state is that of before
+-- the text is said, and the table is that of before
 abbrev pub Says : List ℕ → Table → Said → Table → Type 0
 Says text t said u = (said ≡ done text) × (u ≡ t)
 
+-- the request is refused for this reason, and the table is that of before
 abbrev pub Refuses : Refusal → Table → Said → Table → Type 0
 Refuses why t said u = (said ≡ refused why) × (u ≡ t)
 
--- whether a word is the name of a command
+-- the text says whether a word is the name of a command
 abbrev pub IsKnown : List ℕ → List ℕ → Type 0
 IsKnown word text = (((command : Command) × (word ≡ command_word command)) × (text ≡ codes "true"))
     ⊎ (((command : Command) → word ≢ command_word command) × (text ≡ codes "false"))
 
--- a fresh empty board of the size with the present komi
+-- a size from 1 to 25 gives a fresh empty board with the present komi, and another is refused
 abbrev pub TakesSize : ℕ → Table → Said → Table → Type 0
 TakesSize n t said u = ((1 ≤ n) × (n ≤ 25) × (said ≡ done []) × (u ≡ fresh n n t.setup.komi_halves))
     ⊎ (((n < 1) ⊎ (25 < n)) × Refuses UnacceptableSize t said u)
 
--- the komi of a fresh setup
+-- the komi is taken where no game runs, and refused where one does
 abbrev pub TakesKomi : ℤ → Table → Said → Table → Type 0
 TakesKomi halves t said u = ((t.game ≡ None) × (said ≡ done []) × (u ≡ record { setup = record t.setup { komi_halves = halves }; game = None }))
-    ⊎ (((s : State) × (t.game ≡ Some s)) × Refuses GameHasBegun t said u)
+    ⊎ (((s : Whole) × (t.game ≡ Some s)) × Refuses GameHasBegun t said u)
 
 -- what a move of the side to move comes to, in its state
-abbrev pub PlaysMove : Option Move → State → Said → State → Type 0
+abbrev pub PlaysMove : Option Move → Whole → Said → Whole → Type 0
 PlaysMove None s said t = (said ≡ refused IllegalMove) × (t ≡ s)
 PlaysMove (Some m) s said t = (IsMove s m t × (said ≡ done []))
     ⊎ ((e : MoveError) × Applies s m t (Err e) × (said ≡ refused IllegalMove))
 
-abbrev pub PlaysWanted : Wanted → State → Said → State → Type 0
+-- what a wanted move of the side to move comes to, in its state
+abbrev pub PlaysWanted : Wanted → Whole → Said → Whole → Type 0
 PlaysWanted wanted s said t = PlaysMove (move_for s.board.columns s.board.rows wanted) s said t
 
 -- the engine's move, where the side to move has one
-abbrev pub Generates : State → Said → State → Type 0
+abbrev pub Generates : Whole → Said → Whole → Type 0
 Generates s said t = ((m : Move) × Chooses s m × IsMove s m t × (said ≡ done (move_text s.board.columns s.board.rows m)))
     ⊎ ((¬ HasMove s) × (said ≡ done (codes "resign")) × (t ≡ s))
 
 -- the setup with the colour to move
-abbrev pub turned : Setup → Colour → Setup
-turned setup c = record setup { side = c }
+abbrev pub with_side : Setup → Colour → Setup
+with_side setup c = record setup { side = c }
 
 -- the regions of play aren't all sound within the limits
 abbrev pub CannotOpen : Limits → Setup → Type 0
 CannotOpen limits setup = (regions : List Region) × AreRegionsOfPlay setup.board regions × ¬ AreSound limits regions
 
 -- A turn of the colour in a running game, or in that which a fresh setup opens with the colour to move.
-abbrev pub TakesTurn : Limits → Colour → (State → Said → State → Type 0) → Table → Said → Table → Type 0
+abbrev pub TakesTurn : Limits → Colour → (Whole → Said → Whole → Type 0) → Table → Said → Table → Type 0
 TakesTurn limits c Act t said u =
-    ((t.game ≡ None) × ((s v : State) × IsPlayable limits (turned t.setup c) s × Act s said v × (u ≡ record { setup = turned t.setup c; game = Some v })))
-    ⊎ (((t.game ≡ None) × CannotOpen limits (turned t.setup c) × Refuses CannotSolve t said u)
-    ⊎ (((s v : State) × (t.game ≡ Some s) × (s.side ≡ c) × Act s said v × (u ≡ record t { game = Some v }))
-    ⊎ ((s : State) × (t.game ≡ Some s) × (s.side ≢ c) × Refuses NotInTurn t said u)))
+    ((t.game ≡ None) × ((s v : Whole) × IsPlayable limits (with_side t.setup c) s × Act s said v × (u ≡ record { setup = with_side t.setup c; game = Some v })))
+    ⊎ (((t.game ≡ None) × CannotOpen limits (with_side t.setup c) × Refuses CannotSolve t said u)
+    ⊎ (((s v : Whole) × (t.game ≡ Some s) × (s.side ≡ c) × Act s said v × (u ≡ record t { game = Some v }))
+    ⊎ ((s : Whole) × (t.game ≡ Some s) × (s.side ≢ c) × Refuses NotInTurn t said u)))
 
 -- what becomes of the load of a line: it has none, or it is made, or it fails
 pub data Fate : Type 0 where
@@ -136,15 +141,15 @@ pub data Fate : Type 0 where
 abbrev pub settings_after : Option ℕ → Settings
 settings_after after = record { after = after; komi = None; turn = None; black_prisoners = 0; white_prisoners = 0 }
 
--- the file gives the position
+-- the file of which this is told is not too long, and gives the position
 abbrev pub GivesSetup : Told → Option ℕ → Setup → Type 0
-GivesSetup told after setup = (file : List ℕ) × IsTold told file × IsShort file × Reads file (settings_after after) (Ok setup)
+GivesSetup told after setup = (file : List ℕ) × IsTold told file × HasFewBytes file × Reads file (settings_after after) (Ok setup)
 
 -- the shelf doesn't hold the file, or it is too long, or it gives no position
 abbrev pub GivesNone : Told → Option ℕ → Type 0
 GivesNone told after = (told ≡ absent)
-    ⊎ (IsLonger 1048576 told
-    ⊎ ((file : List ℕ) × (fault : FileFault) × IsTold told file × IsShort file × Reads file (settings_after after) (Err fault)))
+    ⊎ (IsLonger MOST_BYTES told
+    ⊎ ((file : List ℕ) × (fault : FileFault) × IsTold told file × HasFewBytes file × Reads file (settings_after after) (Err fault)))
 
 -- a file of the shelf is loaded; a name that isn't UTF-8 isn't asked for
 abbrev pub LoadsFile : Option Files → List ℕ → Option ℕ → Fate → Table → Said → Table → Type 0
@@ -180,7 +185,7 @@ Meets limits files (something order) fate t said u = Obeys limits files order fa
 Meets limits files unknown fate t said u = (fate ≡ no_load) × Refuses UnknownCommand t said u
 Meets limits files misfit fate t said u = (fate ≡ no_load) × Refuses SyntaxError t said u
 
--- whether the session ends here
+-- whether the session ends with what was asked for
 abbrev pub is_last : Asked → Bool
 is_last (something quit) = true
 is_last asked = false
@@ -210,7 +215,7 @@ pub record Standing : Type 0 where
 
 -- one line is read and answered
 pub record TakesLine (limits : Limits) (files : Option Files) (failing : List ℕ) (a : Standing) (text : List ℕ) (b : Standing) (last : Bool) : Type 0 where
-  pub few : a.read < 10000
+  pub few : a.read < MOST_LINES
   pub some : a.left ≢ []
   pub line : List ℕ
   pub fate : Fate
@@ -222,8 +227,8 @@ pub record TakesLine (limits : Limits) (files : Option Files) (failing : List �
 -- the session ends here: with a line that says so, or where no line is left or may be read
 abbrev pub Ends : Limits → Option Files → List ℕ → Standing → List ℕ → Standing → GtpEnd → Type 0
 Ends limits files failing a text b Quit = TakesLine limits files failing a text b true
-Ends limits files failing a text b InputEnded = (a.read < 10000) × (a.left ≡ []) × (text ≡ []) × (b ≡ a)
-Ends limits files failing a text b TooManyLines = (a.read ≡ 10000) × (text ≡ []) × (b ≡ a)
+Ends limits files failing a text b InputEnded = (a.read < MOST_LINES) × (a.left ≡ []) × (text ≡ []) × (b ≡ a)
+Ends limits files failing a text b TooManyLines = (a.read ≡ MOST_LINES) × (text ≡ []) × (b ≡ a)
 Ends limits files failing a text b end = ⊥
 
 -- so many lines, one after the other, and their replies
@@ -244,7 +249,7 @@ pub record IsSession (limits : Limits) (files : Option Files) (failing : List �
 
 -- the replies to all lines up to one that is still to be answered
 abbrev pub Waits : Limits → Option Files → List ℕ → Standing → List ℕ → Standing → Type 0
-Waits limits files failing a text b = (n : ℕ) × Turns limits files failing n a text b × (b.read < 10000)
+Waits limits files failing a text b = (n : ℕ) × Turns limits files failing n a text b × (b.read < MOST_LINES)
 
 -- the replies to some lines, and a front part of the next reply
 abbrev pub BreaksOff : Limits → Option Files → List ℕ → Standing → List ℕ → Type 0

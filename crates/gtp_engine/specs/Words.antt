@@ -1,8 +1,7 @@
 -- The words of a line.
-use Rattle.std.specs.Prelude.{◌≡◌, ◌≢◌, ◌≤◌, ◌⊎◌, ℕ, true, ◌==◌, ◌||◌, nat_lt, if◌then◌else◌, List, [], ◌∷◌, ◌++◌, length, map, All}
-use Rattle.std.specs.Char.{is_ascii_digit, to_ascii_lowercase}
-use Rattle.std.specs.List.{list_all}
-use Rattle.std.specs.Str.Parse.{digits_value}
+use Rattle.std.specs.Prelude.{◌≡◌, ◌≢◌, ◌⊎◌, ℕ, ◌==◌, ◌||◌, nat_lt, if◌then◌else◌, List, [], ◌∷◌, ◌++◌, map, All}
+use Rattle.std.specs.Char.{to_ascii_lowercase}
+use Rattle.board_words.specs.Numbers.{IsNumeral}
 
 -- what is kept of a byte: a blank for a tab, nothing of another control byte, and else the byte
 abbrev pub kept : ℕ → List ℕ
@@ -17,6 +16,7 @@ cleaned (b ∷ line) = if b == 35 then [] else kept b ++ cleaned line
 abbrev pub IsWord : List ℕ → Type 0
 IsWord word = (word ≢ []) × All (λ b. b ≢ 32) word
 
+-- each of the bytes is a blank
 abbrev pub AreBlanks : List ℕ → Type 0
 AreBlanks bytes = All (λ b. b ≡ 32) bytes
 
@@ -33,16 +33,6 @@ IsFirst text word rest = (blanks : List ℕ) × (text ≡ blanks ++ (word ++ res
 abbrev pub AreWords : List ℕ → List (List ℕ) → Type 0
 AreWords text [] = AreBlanks text
 AreWords text (word ∷ words) = (rest : List ℕ) × IsFirst text word rest × AreWords rest words
-
--- one to ten digits
-pub record IsNumeral (word : List ℕ) : Type 0 where
-  pub some : 1 ≤ length word
-  pub few : length word ≤ 10
-  pub digits : list_all is_ascii_digit word ≡ true
-
--- one to ten digits, which write the number
-abbrev pub IsNumber : List ℕ → ℕ → Type 0
-IsNumber word n = IsNumeral word × (n ≡ digits_value 10 word)
 
 -- the first word is the id where it is a numeral, and the other words ask for something; else there is no id
 abbrev pub HasId : List (List ℕ) → List ℕ → List (List ℕ) → Type 0

@@ -6,39 +6,29 @@ use Rattle.desk_io.specs.Outside.{Rose}
 use Rattle.endgame_solver.specs.declared.limits.Limits.{Limits}
 use Rattle.gtp_engine.specs.declared.end.GtpEnd.{GtpEnd}
 use Rattle.gtp_engine.specs.declared.end.GtpEnd.TheVariants.{ReadFault, WriteFault, Memory}
-use Rattle.gtp_engine.specs.Request.{Order, Asked}
-use Rattle.gtp_engine.specs.Session.{Table, Said, Fate, no_load, made, failed, Standing, Obeys, Meets, AnswersLine, reply_text, fresh, beginning, IsSession, Waits, BreaksOff}
+use Rattle.gtp_engine.specs.Session.{Table, Fate, no_load, made, failed, Standing, AnswersLine, fresh, beginning, IsSession, Waits, BreaksOff}
 
 -- what an engine keeps: its limits, its table, how many loads there were, and the numbers of those that failed
-pub record EngineView : Type 0 where
+pub record Engine : Type 0 where
   pub limits : Limits
   pub table : Table
   pub loads : ℕ
   pub failed_loads : List ℕ
 
--- What becomes of a load is noted: loads are counted, and the list of those that failed grows by one that failed, where the count of faults rose.
-abbrev pub IsNoted : ℕ → ℕ → Fate → EngineView → EngineView → Type 0
+-- What becomes of a load is noted: loads are counted, and the list of those that failed grows by one that failed, where the count
+-- of faults rose.
+abbrev pub IsNoted : ℕ → ℕ → Fate → Engine → Engine → Type 0
 IsNoted before now no_load a b = (b.loads ≡ a.loads) × (b.failed_loads ≡ a.failed_loads)
 IsNoted before now made a b = (b.loads ≡ a.loads + 1) × (b.failed_loads ≡ a.failed_loads)
 IsNoted before now failed a b = (b.loads ≡ a.loads + 1) × (b.failed_loads ≡ a.failed_loads ++ a.loads ∷ []) × Rose before now
 
--- the reply to an order, and what it leaves
-abbrev pub IsObeyed : Option Files → ℕ → ℕ → List ℕ → Order → EngineView → List ℕ → EngineView → Type 0
-IsObeyed files before now id order a reply b = (fate : Fate) × (said : Said) × Obeys a.limits files order fate a.table said b.table
-    × (reply ≡ reply_text id said) × IsNoted before now fate a b × (b.limits ≡ a.limits)
-
--- the reply to what words ask for, and what it leaves
-abbrev pub IsMet : Option Files → ℕ → ℕ → List ℕ → Asked → EngineView → List ℕ → EngineView → Type 0
-IsMet files before now id asked a reply b = (fate : Fate) × (said : Said) × Meets a.limits files asked fate a.table said b.table
-    × (reply ≡ reply_text id said) × IsNoted before now fate a b × (b.limits ≡ a.limits)
-
 -- the reply to a line, and what it leaves
-abbrev pub IsAnswered : Option Files → ℕ → ℕ → List ℕ → EngineView → List ℕ → EngineView → Bool → Type 0
+abbrev pub IsAnswered : Option Files → ℕ → ℕ → List ℕ → Engine → List ℕ → Engine → Bool → Type 0
 IsAnswered files before now line a reply b last = (fate : Fate) × AnswersLine a.limits files line fate a.table reply b.table last
     × IsNoted before now fate a b × (b.limits ≡ a.limits)
 
 -- an engine that has answered nothing
-abbrev pub unused : Limits → EngineView
+abbrev pub unused : Limits → Engine
 unused limits = record { limits = limits; table = fresh 19 19 (pos 0); loads = 0; failed_loads = [] }
 
 -- the whole session was written
@@ -46,12 +36,12 @@ abbrev pub WritesSession : Limits → Option Files → List ℕ → List ℕ →
 WritesSession limits files failing bytes before now end = (c : Standing) × (text : List ℕ) × IsSession limits files failing (beginning bytes) text c end
     × (now ≡ append_known before text)
 
--- the replies up to a line that is still to be answered
+-- the replies to all lines up to one that is still to be answered were written
 abbrev pub WritesSoFar : Limits → Option Files → List ℕ → List ℕ → Option (List ℕ) → Option (List ℕ) → Type 0
 WritesSoFar limits files failing bytes before now = (c : Standing) × (text : List ℕ) × Waits limits files failing (beginning bytes) text c
     × (now ≡ append_known before text)
 
--- replies, and a front part of the next one
+-- the replies to some lines were written, and a front part of the next reply
 abbrev pub WritesFront : Limits → Option Files → List ℕ → List ℕ → Option (List ℕ) → Option (List ℕ) → Type 0
 WritesFront limits files failing bytes before now = (text : List ℕ) × BreaksOff limits files failing (beginning bytes) text × (now ≡ append_known before text)
 

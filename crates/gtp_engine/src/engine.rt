@@ -4,15 +4,16 @@ ghost use Rattle.std.specs.Prelude.{◌≡◌, ◌≤◌, ◌<◌, ◌+◌, List
 ghost use Rattle.endgame_solver.specs.Faults.{most_steps};
 ghost use Rattle.go_grid.specs.Region.{Region};
 ghost use Rattle.region_cut.specs.Cut.{AreRegionsOfPlay};
-ghost use Rattle.gtp_engine.specs.Loading.{CanKeep};
+ghost use Rattle.gtp_engine.specs.inner.Loading.{CanKeep};
 ghost use Rattle.sgf_go.specs.Komi.{IsInRange};
-ghost use Rattle.gtp_engine.specs.Doing.{AsksInRange, HasKomiInRange, IsDone, IsFresh, IsLoadNoted, IsRunning, IsTurnTaken};
-ghost use Rattle.gtp_engine.specs.Viewed.{asked_of, order_of};
+ghost use Rattle.gtp_engine.specs.inner.Doing.{AsksInRange, HasKomiInRange, IsDone, IsFresh, IsLoadNoted, IsRunning, IsTurnTaken};
+ghost use Rattle.gtp_engine.specs.inner.Viewed.{asked_of, order_of};
 ghost use Rattle.gtp_engine.specs.Kept.{AreLoads};
 ghost use Rattle.gtp_engine.specs.Request.Asked.{something};
 ghost use Rattle.gtp_engine.specs.Request.Order.{boardsize, komi, loadsgf};
 ghost use Rattle.gtp_engine.specs.Session.{IsKnown, done, fresh, is_last, reply_text};
-ghost use Rattle.gtp_engine.specs.Written.{IsAnswered, IsMet, IsObeyed, unused};
+ghost use Rattle.gtp_engine.specs.Written.{IsAnswered, unused};
+ghost use Rattle.gtp_engine.specs.inner.Written.{IsMet, IsObeyed};
 
 use crate::command::read_command;
 use crate::loading::{Loading, load};
@@ -25,6 +26,7 @@ use desk_io::Shelf;
 use endgame_solver::{Limits, Solved};
 use game_text::Text;
 use go_grid::Size;
+use local_graph::MOST_POSITIONS;
 use local_play::Steps;
 use sgf_go::Setup;
 use std::alloc::{AllocError, Global};
@@ -33,14 +35,14 @@ use std::str;
 use std::sync::ledger::Ledger;
 
 /// The reply to a line, and whether the session ends with it.
-#[derive(Drop)]
+#[derive(Debug, Drop)]
 pub struct Answer {
     pub reply: Text,
     pub quit: bool,
 }
 
 /// A setup, and the game that runs after it, if one does; and the loads so far. Contracts see these and the limits.
-#[derive(Drop)]
+#[derive(Debug, Drop)]
 pub struct Engine {
     pub(crate) limits: Limits,
     pub(crate) setup: Setup,
@@ -51,15 +53,18 @@ pub struct Engine {
 
 impl Model for Engine {
     ghost use Rattle.std.specs.Prelude.{◌≡◌, ◌≤◌, ◌<◌, false, ℕ, List};
-    ghost use Rattle.gtp_engine.specs.Written.{EngineView};
-    ghost use Rattle.gtp_engine.specs.Kept.{state_in, IsKept};
+    ghost use Rattle.gtp_engine.specs.Written.{Engine};
+    ghost use Rattle.gtp_engine.specs.inner.Kept.{state_in, IsKept};
 
-    ghost Value = { EngineView };
+    ghost Value = { Engine };
 
     ghost view = { λ e. record { limits = e.limits; table = record { setup = e.setup; game = state_in e.game }; loads = e.loads; failed_loads = e.failed.items } };
 
     ghost invariant = { λ e. IsKept e.limits e.setup e.loads e.failed.items };
 }
+
+/// More loads than a session can have.
+pub(crate) const MOST_LOADS: u32 = 1_000_000;
 
 /// The names of all commands, one a line.
 const ALL_COMMANDS: &[u8] =
@@ -85,7 +90,7 @@ fn is_quit(request: &Request<'_>) -> bool
 impl Engine {
     /// An engine with an empty board of 19 by 19, no komi and Black to move.
     pub fn new(alloc: Global, limits: Limits) -> Result<Engine, AllocError>
-        requires positions { limits.positions ≤ 1000000 }
+        requires positions { limits.positions ≤ MOST_POSITIONS }
         requires no_tax { limits.tax ≡ false }
         ensures { IfOk result (λ engine. engine ≡ unused limits) }
     {
@@ -120,7 +125,10 @@ impl Engine {
     /// A fresh empty board of a size with the present komi.
     fn clear(&mut self, id: &[u8], size: Size) -> Result<Text, AllocError>
         ensures cleared { IfOk result (λ reply. (reply ≡ reply_text id.now (done []))
-            × (self.new ≡ record self.old { table = fresh size.columns size.rows self.old.table.setup.komi_halves })) }
+            × (self.new ≡ record self.old {
+              table = fresh size.columns size.rows
+                  self.old.table.setup.komi_halves;
+            })) }
         ensures same { OnErr result (self.new ≡ self.old) }
     {
         let alloc = self.setup.board.allocator();
@@ -179,7 +187,7 @@ impl Engine {
 
     /// Notes what a load comes to.
     fn note(&mut self, id: &[u8], loading: Loading) -> Result<Text, AllocError>
-        requires few { self.old.loads < 1000000 }
+        requires few { self.old.loads < MOST_LOADS }
         requires fit { CanKeep loading }
         ensures noted { IfOk result (λ reply. IsLoadNoted id.now loading self.old reply self.new) }
         ensures same { OnErr result (self.new ≡ self.old) }
@@ -214,7 +222,7 @@ impl Engine {
         after: Option<u32>,
         shelf: &mut H,
     ) -> Result<Text, AllocError>
-        requires few { self.old.loads < 1000000 }
+        requires few { self.old.loads < MOST_LOADS }
         ensures loaded { IfOk result (λ reply. IsObeyed (H.files shelf.old) (H.faults shelf.old)
             (H.faults shelf.new) id.now (loadsgf file.now after) self.old reply self.new) }
         ensures same { OnErr result (self.new ≡ self.old) }
@@ -238,7 +246,7 @@ impl Engine {
         shelf: &mut H,
         steps: &mut Steps<L>,
     ) -> Result<Text, AllocError>
-        requires few { self.old.loads < 1000000 }
+        requires few { self.old.loads < MOST_LOADS }
         requires komi { HasKomiInRange (order_of request) }
         ensures obeyed { IfOk result (λ reply. IsObeyed (H.files shelf.old) (H.faults shelf.old)
             (H.faults shelf.new) id.now (order_of request.entry) self.old reply self.new) }
@@ -279,7 +287,7 @@ impl Engine {
         shelf: &mut H,
         steps: &mut Steps<L>,
     ) -> Result<Answer, AllocError>
-        requires few { self.old.loads < 1000000 }
+        requires few { self.old.loads < MOST_LOADS }
         requires komi { AsksInRange (asked_of asked) }
         ensures met { IfOk result (λ answer. IsMet (H.files shelf.old) (H.faults shelf.old)
             (H.faults shelf.new) id.now (asked_of asked.entry) self.old answer.reply self.new) }
@@ -316,7 +324,7 @@ impl Engine {
         shelf: &mut H,
         steps: &mut Steps<L>,
     ) -> Result<Answer, AllocError>
-        requires few { self.old.loads < 1000000 }
+        requires few { self.old.loads < MOST_LOADS }
         ensures answered { IfOk result (λ answer. IsAnswered (H.files shelf.old)
             (H.faults shelf.old)
             (H.faults shelf.new) line.now self.old answer.reply self.new answer.quit) }

@@ -12,8 +12,6 @@ mod reply;
 mod request;
 mod session;
 mod setups;
-#[cfg(test)]
-mod tests;
 mod turns;
 mod words;
 

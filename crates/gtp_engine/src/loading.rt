@@ -3,7 +3,7 @@
 ghost use Rattle.std.specs.Prelude.{◌≡◌, ◌≤◌, length, sum_by, IfOk};
 ghost use Rattle.sgf_tree.specs.Reading.{line_text};
 ghost use Rattle.desk_io.specs.Files.{told_file};
-ghost use Rattle.gtp_engine.specs.Loading.{IsFoundIn, IsFoundOn, IsLoaded};
+ghost use Rattle.gtp_engine.specs.inner.Loading.{IsFoundIn, IsFoundOn, IsLoaded};
 ghost use Rattle.gtp_engine.specs.Session.{settings_after};
 
 use desk_io::{LoadError, Loaded, Shelf};
@@ -36,8 +36,8 @@ fn settings_after(after: Option<u32>) -> Settings
 
 /// The position of a main line, where it gives one.
 fn find_on(alloc: Global, tree: &Tree, after: Option<u32>) -> Result<Loading, AllocError>
-    requires nodes { length tree.now.line.items ≤ 1048576 }
-    requires properties { sum_by (λ n. length n.properties.items) tree.now.line.items ≤ 1048576 }
+    requires nodes { length tree.now.line.items ≤ MOST_BYTES }
+    requires properties { sum_by (λ n. length n.properties.items) tree.now.line.items ≤ MOST_BYTES }
     ensures { IfOk result (IsFoundOn (line_text tree.now) after) }
 {
     match position(alloc, tree, &settings_after(after)) {
@@ -49,7 +49,7 @@ fn find_on(alloc: Global, tree: &Tree, after: Option<u32>) -> Result<Loading, Al
 
 /// The position of a file, where it gives one.
 fn find_in(alloc: Global, file: &[u8], after: Option<u32>) -> Result<Loading, AllocError>
-    requires { length file.now ≤ 1048576 }
+    requires { length file.now ≤ MOST_BYTES }
     ensures { IfOk result (IsFoundIn file.now after) }
 {
     match sgf_tree::read(alloc, file) {

@@ -4,11 +4,12 @@ ghost use Rattle.std.specs.Prelude.{◌≡◌, ◌↔◌, ◌≤◌, ◌<◌, �
 ghost use Rattle.std.specs.Char.{to_ascii_lowercase};
 ghost use Rattle.whole_rules.specs.declared.states.Move.TheVariants.{Stone};
 ghost use Rattle.go_grid.specs.declared.grid.Colour.{Colour};
-ghost use Rattle.gtp_engine.specs.Moves.{IsColour, IsOn, IsVertex, IsWanted, capital, column_letter, move_for, move_text};
+ghost use Rattle.gtp_engine.specs.Moves.{IsColour, IsVertex, IsWanted, capital, column_letter, move_for, move_text};
+ghost use Rattle.whole_rules.specs.Moves.{IsMoveOnBoard};
 ghost use Rattle.gtp_engine.specs.Words.{lowered};
 ghost use Rattle.std.specs.Fmt.{decimal};
 
-use crate::words::read_number;
+use board_words::read_number;
 use game_text::Text;
 use go_grid::{Colour, Point, Size};
 use std::alloc::{AllocError, Global};
@@ -69,7 +70,7 @@ fn read_column(letter: u8) -> Option<u8>
 }
 
 /// The row from 1 to 25 that digits without a leading zero write.
-#[tactic(auto, using(crate::proofs::Numbers::row_is, crate::proofs::Numbers::row_read))]
+#[tactic(auto, using(board_words::proofs::Digits::row_is, board_words::proofs::Digits::row_read))]
 fn read_row(digits: &[u8]) -> Option<u8>
     ensures some { IfSome result (λ row. (1 ≤ row) × (row ≤ 25) × (digits.now ≡ decimal row)) }
     ensures none { IfNone result ((row : ℕ) → 1 ≤ row → row ≤ 25 → ¬ (digits.now ≡ decimal row)) }
@@ -169,7 +170,7 @@ fn point_text(alloc: Global, size: Size, point: Point) -> Result<String, AllocEr
 
 /// The text of a move of the engine.
 pub(crate) fn write_move(alloc: Global, size: Size, chosen: &Move) -> Result<Text, AllocError>
-    requires { IsOn size.columns size.rows chosen.now }
+    requires { IsMoveOnBoard size.columns size.rows chosen.now }
     ensures { IfOk result (λ text. text ≡ move_text size.columns size.rows chosen.now) }
 {
     match *chosen {

@@ -6,12 +6,13 @@ ghost use Rattle.endgame_solver.specs.Faults.{most_steps};
 ghost use Rattle.go_grid.specs.Region.{Region};
 ghost use Rattle.region_cut.specs.Cut.{AreRegionsOfPlay};
 ghost use Rattle.sgf_go.specs.Position.{IsFit};
-ghost use Rattle.gtp_engine.specs.Playing.{IsActed, IsFault, IsOpened};
+ghost use Rattle.gtp_engine.specs.inner.Playing.{IsActed, IsFault, IsOpened};
 
 use crate::moves::{Wanted, find_move, write_move};
 use crate::reply::{Refusal, accept, refuse};
 use endgame_solver::{Limits, SolveError, Solved};
 use game_text::Text;
+use local_graph::MOST_POSITIONS;
 use local_play::Steps;
 use sgf_go::Setup;
 use std::alloc::{AllocError, Global};
@@ -46,7 +47,7 @@ pub(crate) fn open<L: Ledger>(
     steps: &mut Steps<L>,
 ) -> Result<Option<Solved>, AllocError>
     requires fit { IsFit setup.now }
-    requires positions { limits.now.positions ≤ 1000000 }
+    requires positions { limits.now.positions ≤ MOST_POSITIONS }
     ensures opened { IfOk result (IsOpened limits.now setup.now) }
     ensures steps { (regions : List Region) → AreRegionsOfPlay setup.now.board regions
         → steps.new ≤ steps.old + most_steps limits.now regions }
@@ -110,6 +111,7 @@ fn generate(alloc: Global, id: &[u8], solved: &mut Solved) -> Result<Text, Alloc
     let reply = accept(alloc, id, text.as_slice())?;
     match solved.play(chosen) {
         Ok(()) => Ok(reply),
+        // The solver names legal moves only.
         Err(_) => unreachable!(),
     }
 }

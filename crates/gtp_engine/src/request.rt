@@ -2,12 +2,12 @@
 
 ghost use Rattle.std.specs.Prelude.{◌≤◌, ◌+◌, ℕ, map, IfSome, IfNone};
 ghost use Rattle.gtp_engine.specs.Request.{Asks, Fits, FitsAlone, FitsOne, FitsTwo, Order};
-ghost use Rattle.gtp_engine.specs.Viewed.{asked_of, order_of};
-ghost use Rattle.gtp_engine.specs.Words.{IsNumber};
+ghost use Rattle.gtp_engine.specs.inner.Viewed.{asked_of, order_of};
+ghost use Rattle.board_words.specs.Numbers.{IsNumber};
 
 use crate::command::{Command, read_command};
 use crate::moves::{Wanted, read_colour, read_wanted};
-use crate::words::read_number;
+use board_words::read_number;
 use go_grid::Colour;
 use sgf_go::read_komi;
 
@@ -76,9 +76,10 @@ fn with_one<'a>(command: Command, word: &'a [u8]) -> Option<Request<'a>>
 
 /// How many moves come before the move of a number.
 fn read_moves(word: &[u8]) -> Option<u32>
-    ensures some { IfSome result (λ moves. IsNumber word.now (moves + 1) × (moves + 1 ≤ 1000000)) }
+    ensures some { IfSome result (λ moves. IsNumber word.now (moves + 1)
+        × (moves + 1 ≤ LAST_MOVE)) }
     ensures none { IfNone result ((moves : ℕ) → IsNumber word.now (moves + 1)
-        → ¬ (moves + 1 ≤ 1000000)) }
+        → ¬ (moves + 1 ≤ LAST_MOVE)) }
 {
     let number = read_number(word)?;
     if number < 1 || number > LAST_MOVE {

@@ -4,17 +4,14 @@ ghost use Rattle.std.specs.Prelude.{◌≡◌, ◌≤◌, ◌<◌, ◌++◌, Lis
 ghost use Rattle.desk_io.specs.Lines.{UsesLines};
 ghost use Rattle.desk_io.specs.Outside.{Appends, HasCause, Rose};
 ghost use Rattle.gtp_engine.specs.declared.end.GtpEnd.TheVariants.{ReadFault, WriteFault};
-ghost use Rattle.gtp_engine.specs.Taking.{IsSomeNoted, LineTaken};
+ghost use Rattle.gtp_engine.specs.inner.Taking.{IsSomeNoted, LineTaken};
 ghost use Rattle.gtp_engine.specs.Written.{IsRun, RoseBy, unused};
 
 use crate::end::GtpEnd;
-use crate::engine::Engine;
-use desk_io::{Failed, LineReader, Shelf, Sink, Source};
+use crate::engine::{Engine, MOST_LOADS};
+use desk_io::{Failed, LineReader, MOST_LINES, Shelf, Sink, Source};
 use local_play::Steps;
 use std::sync::ledger::Ledger;
-
-/// The most lines that a session reads.
-const MOST_LINES: usize = 10_000;
 
 /// The most bytes of a line.
 const MOST_BYTES: usize = 1_024;
@@ -40,7 +37,7 @@ impl Engine {
         out: &mut K,
         steps: &mut Steps<L>,
     ) -> Option<GtpEnd>
-        requires few { self.old.loads < 1000000 }
+        requires few { self.old.loads < MOST_LOADS }
         ensures taken { (bytes : List ℕ) → S.left lines.old ≡ Some bytes → (rest : List ℕ)
             × (S.left lines.new ≡ Some rest) × LineTaken (H.files shelf.old) (H.faults shelf.old)
             (H.faults shelf.new) self.old (reader.old ++ bytes) (K.holds out.old)
@@ -95,7 +92,7 @@ impl Engine {
         ensures read_fault { result ≡ ReadFault → Rose (S.faults lines.old) (S.faults lines.new) }
         ensures write_fault { result ≡ WriteFault → Rose (K.faults out.old) (K.faults out.new) }
         ensures used { (held : List ℕ) × (length held ≤ 1024)
-            × UsesLines 1024 0 10000 [] (S.left lines.old) held (S.left lines.new) }
+            × UsesLines 1024 0 MOST_LINES [] (S.left lines.old) held (S.left lines.new) }
         ensures same_files { H.files shelf.new ≡ H.files shelf.old }
         ensures later_loads { H.faults shelf.old ≤ H.faults shelf.new }
         ensures later_reads { S.faults lines.old ≤ S.faults lines.new }

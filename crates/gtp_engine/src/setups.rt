@@ -2,7 +2,7 @@
 
 ghost use Rattle.std.specs.Prelude.{◌≡◌, IfOk};
 ghost use Rattle.go_grid.specs.Chain.{IsSettled};
-ghost use Rattle.gtp_engine.specs.Session.{fresh, turned};
+ghost use Rattle.gtp_engine.specs.Session.{fresh, with_side};
 
 use go_grid::{Board, Colour, Size};
 use sgf_go::Setup;
@@ -25,8 +25,8 @@ pub(crate) fn fresh(alloc: Global, size: Size, komi_halves: i64) -> Result<Setup
 }
 
 /// The same setup with the colour to move.
-pub(crate) fn turned(setup: &Setup, colour: Colour) -> Result<Setup, AllocError>
-    ensures { IfOk result (λ other. other ≡ turned setup.now colour) }
+pub(crate) fn with_side(setup: &Setup, colour: Colour) -> Result<Setup, AllocError>
+    ensures { IfOk result (λ other. other ≡ with_side setup.now colour) }
 {
     Ok(Setup {
         board: setup.board.copy()?,

@@ -4,12 +4,12 @@ ghost use Rattle.std.specs.Prelude.{◌≡◌, ◌↔◌, ◌≤◌, ◌+◌, Li
 ghost use Rattle.endgame_solver.specs.Faults.{most_steps};
 ghost use Rattle.go_grid.specs.Region.{Region};
 ghost use Rattle.region_cut.specs.Cut.{AreRegionsOfPlay};
-ghost use Rattle.gtp_engine.specs.Doing.{IsFresh, IsRunning, IsTurnTaken};
+ghost use Rattle.gtp_engine.specs.inner.Doing.{IsFresh, IsRunning, IsTurnTaken};
 
 use crate::engine::Engine;
 use crate::playing::{Action, act, open};
 use crate::reply::{Refusal, refuse};
-use crate::setups::turned;
+use crate::setups::with_side;
 use game_text::Text;
 use go_grid::Colour;
 use local_play::Steps;
@@ -41,6 +41,7 @@ impl Engine {
                 let reply = act(alloc, id, solved, action)?;
                 Ok(reply)
             }
+            // A setup is opened before a turn is taken.
             None => unreachable!(),
         }
     }
@@ -62,7 +63,7 @@ impl Engine {
             → steps.new ≤ steps.old + most_steps self.old.limits regions }
     {
         let alloc = self.setup.board.allocator();
-        let setup = turned(&self.setup, colour)?;
+        let setup = with_side(&self.setup, colour)?;
         let Some(mut solved) = open(alloc, &setup, &self.limits, steps)? else {
             let reply = refuse(alloc, id, Refusal::CannotSolve)?;
             return Ok(reply);

@@ -1,16 +1,10 @@
 //! The words of a line.
 
 ghost use Rattle.std.specs.Prelude.{◌≡◌, ◌↔◌, ◌++◌, ◌<◌, ◌≤◌, true, All, List, ℕ, length, take, drop, slice_index, map, IfOk, IfSome, IfNone};
-ghost use Rattle.gtp_engine.specs.Words.{AreBlanks, AreWords, HasId, IsFirst, IsNumber, IsNumeral, cleaned, kept};
-ghost use Rattle.std.specs.Char.{is_ascii_digit};
-ghost use Rattle.std.specs.List.{list_all};
-ghost use Rattle.std.specs.Str.Parse.{digits_value};
+ghost use Rattle.gtp_engine.specs.Words.{AreBlanks, AreWords, HasId, IsFirst, cleaned, kept};
 
+use board_words::is_numeral;
 use std::alloc::{AllocError, Global};
-use std::str;
-
-/// The most digits of a number.
-const MOST_DIGITS: usize = 10;
 
 /// What is kept of a byte: a blank for a tab, and nothing of another control byte.
 fn keep(byte: u8, text: &mut Vec<u8>) -> Result<(), AllocError>
@@ -113,50 +107,6 @@ pub(crate) fn split<'a>(alloc: Global, text: &'a [u8]) -> Result<Vec<&'a [u8]>, 
         left = parted.rest;
     }
     Ok(words)
-}
-
-fn are_digits(word: &[u8]) -> bool
-    ensures { result ≡ list_all is_ascii_digit word.now }
-{
-    word.iter().all(|byte| byte.is_ascii_digit())
-}
-
-/// Whether a word is one to ten digits.
-fn is_numeral(word: &[u8]) -> bool
-    ensures { (result ≡ true) ↔ IsNumeral word.now }
-{
-    if word.is_empty() || word.len() > MOST_DIGITS {
-        return false;
-    }
-    are_digits(word)
-}
-
-#[tactic(auto, using(crate::proofs::Numbers::parsed))]
-fn value_of(digits: &str) -> u64
-    requires digits { list_all is_ascii_digit digits.now ≡ true }
-    requires some { 1 ≤ length digits.now }
-    requires few { length digits.now ≤ 10 }
-    ensures { result ≡ digits_value 10 digits.now }
-{
-    match digits.parse::<u64>() {
-        Ok(value) => value,
-        Err(_) => unreachable!(),
-    }
-}
-
-/// The number that a word of one to ten digits writes.
-#[tactic(auto, using(crate::proofs::Numbers::not_text))]
-pub(crate) fn read_number(word: &[u8]) -> Option<u64>
-    ensures some { IfSome result (λ n. IsNumber word.now n) }
-    ensures none { IfNone result ((n : ℕ) → ¬ IsNumber word.now n) }
-{
-    if !is_numeral(word) {
-        return None;
-    }
-    match str::from_utf8(word) {
-        Ok(digits) => Some(value_of(digits)),
-        Err(_) => None,
-    }
 }
 
 /// The words behind the id, and the id, which is empty where there is none.

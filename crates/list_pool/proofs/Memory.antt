@@ -31,7 +31,7 @@ use denote.Struct.Tuple.{Tuple, tuple_type}
 use Rattle.std.specs.Prelude.{Option, Some, None, slice_range}
 use Rattle.std.proofs.lemmas.List.{length-map}
 use Rattle.std_alloc.proofs.RcSteps.{word}
-use Rattle.list_pool.specs.Ownership.{place, places, place_lent, all_lent, filled}
+use Rattle.list_pool.specs.inner.Ownership.{place, places, place_lent, all_lent, filled}
 
 -- a function's k-th parameter
 abbrev pub slot_at : {n : ℕ} → ℕ → List (Slot n) → Slot n

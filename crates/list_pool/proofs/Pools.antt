@@ -8,7 +8,7 @@ use Rattle.std.specs.Prelude.{slice_get, Some}
 use Rattle.std.proofs.lemmas.Option.{get_or_from_slice_get}
 use Rattle.std.proofs.lemmas.Int.{ints}
 use Rattle.list_pool.specs.Chunk.{Row}
-use Rattle.list_pool.specs.Pool.{no_row, row_of, list_in, LiesIn, AllLie, left_of, left_over, spare_in}
+use Rattle.list_pool.specs.inner.Pool.{no_row, row_of, list_in, LiesIn, AllLie, left_of, left_over, spare_in}
 use Rattle.list_pool.specs.declared.place.Place.{Place}
 
 if_same : {X : Type 0} (b : Bool) (x : X) → (if b then x else x) ≡ x

@@ -2,7 +2,7 @@
 ghost use Rattle.std.specs.Prelude.{◌≡◌, ℕ, ◌+◌, ◌*◌, ◌^◌, ◌<◌, ◌≤◌, List, [], ◌∷◌, ◌++◌, length, slice_range, IfOk};
 ghost use base.Fml.{ftrue};
 ghost use denote.RawPtr.{Ptr};
-ghost use Rattle.list_pool.specs.Ownership.{places_own, places_lent, deed_owns};
+ghost use Rattle.list_pool.specs.inner.Ownership.{places_own, places_lent, deed_owns};
 
 use std::alloc::{AllocError, Allocator};
 use std::marker::{Model, PhantomData};

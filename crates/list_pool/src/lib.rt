@@ -5,8 +5,6 @@ mod cells;
 mod chunk;
 mod place;
 mod pool;
-#[cfg(test)]
-mod tests;
 
 // A crate can name a pool in a contract only if the types of its fields are exported.
 #[doc(hidden)]

@@ -1,10 +1,11 @@
 //! The pool.
 ghost use Rattle.std.specs.Prelude.{◌≡◌, ◌+◌, ◌-◌, ◌<◌, ◌≤◌, ◌≤ℤ◌, pos, negsuc, [], ◌∷◌, ◌++◌, length, map, slice_index_or, IfOk, OnOk, OnErr, IsTrue};
-ghost use Rattle.list_pool.specs.Pool.{left_over};
+ghost use Rattle.list_pool.specs.inner.Pool.{left_over};
 
 use crate::chunk::Chunk;
 use crate::place::Place;
 use std::alloc::{AllocError, Global};
+use std::fmt;
 use std::marker::Model;
 
 /// For how many numbers a chunk has room, unless one list needs more.
@@ -22,7 +23,8 @@ pub struct ListPool {
 impl Model for ListPool {
     ghost use Rattle.std.specs.Prelude.{map};
     ghost use Rattle.std.specs.Vec.{vec_len, vec_capacity};
-    ghost use Rattle.list_pool.specs.Pool.{Pool, list_in, AllLie, spare_in};
+    ghost use Rattle.list_pool.specs.Pool.{Pool};
+    ghost use Rattle.list_pool.specs.inner.Pool.{list_in, AllLie, spare_in};
 
     ghost Value = { Pool };
 
@@ -110,5 +112,13 @@ impl ListPool {
     {
         self.reserve(items.len())?;
         Ok(self.push_reserved(items))
+    }
+}
+
+impl fmt::Debug for ListPool {
+    fn fmt<W: fmt::Write>(&self, f: &mut fmt::Formatter<W>) -> fmt::Result {
+        f.debug_struct("ListPool")
+            .field("len", &self.len())
+            .finish()
     }
 }

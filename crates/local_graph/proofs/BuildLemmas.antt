@@ -17,7 +17,7 @@ use Rattle.local_play.specs.Packed.{pack}
 use Rattle.local_play.proofs.PackLemmas.{pack_same}
 use Rattle.local_graph.specs.declared.cycle.CycleMove.{CycleMove}
 use Rattle.local_graph.specs.declared.graph.Edge.{Edge}
-use Rattle.local_graph.specs.Built.{ComesBack, Follows, IsEdgeAt, IsRooted}
+use Rattle.local_graph.specs.inner.Built.{ComesBack, Follows, IsEdgeAt, IsRooted}
 use Rattle.local_graph.specs.FiniteLocalPlay.{HasNoCycle}
 use Rattle.local_graph.specs.LocalGraph.{AreDifferent, IsCycle, IsGraph, IsOrder, IsReachable, MoreThan, Plays}
 use Rattle.local_graph.proofs.CycleLemmas.{comes_back}

@@ -10,7 +10,7 @@ use Rattle.local_play.proofs.PackLemmas.{pack_same}
 use Rattle.local_graph.specs.declared.cycle.CycleMove.{CycleMove}
 use Rattle.local_graph.specs.declared.graph.Edge.{Edge}
 use Rattle.local_graph.specs.LocalGraph.{Plays, IsReachable, IsCycle, AreDifferent, IsGraph}
-use Rattle.local_graph.specs.Built.{IsEdgeAt, Follows, ComesBack, move_of}
+use Rattle.local_graph.specs.inner.Built.{IsEdgeAt, Follows, ComesBack, move_of}
 use Rattle.local_graph.proofs.PlayLemmas.{plays_more, plays_long, one_after}
 use Rattle.local_graph.proofs.OrderLemmas.{same_place}
 

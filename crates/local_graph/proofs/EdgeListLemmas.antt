@@ -6,7 +6,7 @@ use Rattle.std.proofs.lemmas.List.{map-append, map-set, take_all, take-append-le
 use Rattle.std.proofs.lemmas.List.Elements.{All-head, All-tail}
 use Rattle.local_graph.specs.declared.graph.Edge.{Edge}
 use Rattle.local_graph.specs.declared.edge_lists.Span.{Span}
-use Rattle.local_graph.specs.Graph.{part, lists_of, AreWithin, edges_at}
+use Rattle.local_graph.specs.inner.Graph.{part, lists_of, AreWithin, edges_at}
 
 -- a part stays the same with more edges behind
 part_more : (edges more : List Edge) (s : Span) → s.start ≤ s.end → s.end ≤ length edges → part (edges ++ more) s ≡ part edges s

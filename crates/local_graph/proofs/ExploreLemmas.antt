@@ -11,12 +11,14 @@ use Rattle.local_play.specs.LocalPlay.{IsLocalMove}
 use Rattle.local_play.specs.Packed.{pack}
 use Rattle.local_play.specs.Moves.{ListsMoves}
 use Rattle.local_play.proofs.PackLemmas.{pack_same}
-use Rattle.local_graph.specs.declared.building.GraphError.{GraphError}
-use Rattle.local_graph.specs.declared.building.GraphError.TheVariants.{Points, Positions, Cycle, Memory}
+use Rattle.local_graph.specs.declared.graph_build.GraphError.{GraphError}
+use Rattle.local_graph.specs.declared.graph_build.GraphError.TheVariants.{Points, Positions, Cycle, Memory}
 use Rattle.local_graph.specs.declared.cycle.CycleMove.{CycleMove}
 use Rattle.local_graph.specs.declared.graph.Edge.{Edge}
 use Rattle.local_graph.specs.LocalGraph.{Plays, IsReachable, AreEdges, HasMoves, IsGraph, MoreThan}
-use Rattle.local_graph.specs.Found.{Grows, Extends, EdgesFor, Explored, Placed, AreAwaited}
+use Rattle.go_grid.proofs.PlayLemmas.{long_after}
+use Rattle.local_graph.specs.inner.PlaceTable.{IsNumbered}
+use Rattle.local_graph.specs.inner.Found.{Grows, Extends, EdgesFor, Explored, Placed, AreAwaited}
 use Rattle.local_graph.proofs.FoundLemmas.{edge_more}
 use Rattle.local_graph.proofs.FiniteLemmas.{few_positions}
 use Rattle.local_graph.proofs.PlayLemmas.{plays_long, plays_more, one_after}
@@ -264,6 +266,18 @@ start_found touch opening limit start place count before positions none all noth
     let w' = subst (λ n. AreAwaited [] [] n all waiting) full
     (subst (λ l. AreAwaited [] l count all waiting) empty' (subst (λ l. AreAwaited l nothing count all waiting) empty w)) in
     explore_start touch opening limit start place positions all waiting p'.0 p'.1 p'.2 p'.3 is w'
+
+-- the opening and what its moves lead to are positions of as many places
+pub opening_numbered : (cells : List Cell) (numbers places n : ℕ) → length cells ≡ places → places ≤ 32 → numbers ≡ 3 ^ places
+    → n ≡ pack cells → IsNumbered numbers n
+opening_numbered cells numbers places n long few many is =
+    (cells, omega (arith, long, few), omega (arith, many, ap (λ k. 3 ^ k) long), is)
+
+pub moves_numbered : (touch : List Touch) (cells : List Cell) (moves : List LocalMove) (numbers places : ℕ) → ListsMoves touch cells moves
+    → length cells ≡ places → places ≤ 32 → numbers ≡ 3 ^ places → (m : LocalMove) → Contains moves m → IsNumbered numbers m.next
+moves_numbered touch cells moves numbers places lists long few many m among =
+    let move = lists.legal m among in
+    opening_numbered move.after numbers places m.next (long_after move.move ∙ long) few many move.next
 
 -- the position whose moves come next
 pub record IsNext (touch : List Touch) (opening : List Cell) (positions : List ℕ) (i n : ℕ) : Type 0 where

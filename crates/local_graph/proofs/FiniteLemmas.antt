@@ -21,11 +21,11 @@ use Rattle.local_graph.specs.FiniteLocalPlay.{FewPositions, ShortPlay, HasNoCycl
 use Rattle.local_graph.proofs.PlayLemmas.{plays_long, plays_more}
 
 -- a position as a number in base 3
-ternary : List Cell → ℕ
+unfoldable pub ternary : List Cell → ℕ
 ternary [] = 0
 ternary (c ∷ cs) = code c + 3 * ternary cs
 
-ternary_small : (cs : List Cell) → ternary cs < 3 ^ length cs
+pub ternary_small : (cs : List Cell) → ternary cs < 3 ^ length cs
 unfolding ternary
 ternary_small [] = omega arith
 ternary_small (c ∷ cs) =

@@ -9,9 +9,9 @@ use Rattle.std.proofs.lemmas.List.Quantifiers.{all_pairs_push}
 use Rattle.local_play.specs.declared.local_move.LocalMove.{LocalMove}
 use Rattle.local_graph.specs.declared.graph.Edge.{Edge}
 use Rattle.local_graph.specs.LocalGraph.{IsEdgeOf, AreEdges}
-use Rattle.local_graph.specs.declared.building.GraphError.{GraphError}
-use Rattle.local_graph.specs.declared.building.GraphError.TheVariants.{Points, Positions, Cycle, Memory}
-use Rattle.local_graph.specs.Found.{Grows, Extends, Placed, EdgesFor, AreAwaited}
+use Rattle.local_graph.specs.declared.graph_build.GraphError.{GraphError}
+use Rattle.local_graph.specs.declared.graph_build.GraphError.TheVariants.{Points, Positions, Cycle, Memory}
+use Rattle.local_graph.specs.inner.Found.{Grows, Extends, Placed, EdgesFor, AreAwaited, edge_of}
 
 absent : (n : ℕ) (ns : List ℕ) → list_any (nat_eq n) ns ≡ false → ¬ Contains ns n
 absent n ns none (k, lt, at) = both_ways _ none (list_any_at (nat_eq n) ns k n lt (eq-eqb n (get_or ns k n) (sym at)))
@@ -38,9 +38,6 @@ grows_few before after n place limit (inr (e, new)) inside at low few =
           absurd (new (subst (Contains before) there (Contains-get_or before place 0 lt)))
       | inr le ↦ omega arith
     ]
-
-Once : List ℕ → Type 0
-Once ns = AllPairs (λ a b. a ≢ b) ns
 
 pub once_grows : (before after : List ℕ) (n : ℕ) → AllPairs (λ a b. a ≢ b) before → Grows before n after → AllPairs (λ a b. a ≢ b) after
 once_grows before after n once (inl same) = subst (AllPairs (λ a b. a ≢ b)) (sym same) once
@@ -126,6 +123,14 @@ linking_push before between after moves limit i edges m e s lt at g few ec ep et
       ];
     }
 
+-- the same with the edge that the code makes
+pub linking_edge : (before between after : List ℕ) (moves : List LocalMove) (limit i : ℕ) (edges more : List Edge) (m : LocalMove) (e : Edge) (place : ℕ)
+    → Linking before moves limit between edges i → i < length moves → get_or moves i m ≡ m → Grows between m.next after → length after ≤ limit
+    → place < length after → get_or after place 0 ≡ m.next → e ≡ edge_of m place → more ≡ edges ++ e ∷ []
+    → Linking before moves limit after more (i + 1)
+linking_edge before between after moves limit i edges more m e place s lt at g few inside next made is =
+    rw (is, made) (linking_push before between after moves limit i edges m (edge_of m place) s lt at g few refl refl refl inside next)
+
 pub linking_end : (before : List ℕ) (moves : List LocalMove) (limit : ℕ) (after : List ℕ) (edges : List Edge)
     → Linking before moves limit after edges (length moves) → Extends before moves after × AreEdges after moves edges × (length after ≤ limit)
 linking_end before moves limit after edges s = (s.extends, (s.long, λ k m e lt. s.each k m e (omega (arith, s.long))), s.few)
@@ -153,17 +158,6 @@ linking_err before between after moves limit i edges m Positions s lt at p =
 linking_err before between after moves limit i edges m (Points n) s lt at p = absurd p
 linking_err before between after moves limit i edges m (Cycle ms back) s lt at p = absurd p
 linking_err before between after moves limit i edges m (Memory e) s lt at p = tt
-
--- nothing more waits
-pub awaited_none : (all : List (List Edge)) (waiting : List ℕ) → AreAwaited all waiting (length all) all waiting
-awaited_none all waiting = record {
-  long = refl;
-  lists = λ i. refl;
-  old = λ i h. h;
-  new = λ i le lt. absurd (omega (arith, le, lt));
-  only = λ i h. inl h;
-  many = refl;
-}
 
 -- one place more waits
 pub awaited_push : (all after : List (List Edge)) (waiting still : List ℕ) (after' : List (List Edge)) (still' : List ℕ) (place : ℕ)

@@ -2,6 +2,7 @@ pub mod FoundLemmas
 pub mod TableLemmas
 pub mod PlayLemmas
 pub mod FiniteLemmas
+pub mod ThreesLemmas
 pub mod ExploreLemmas
 pub mod OrderLemmas
 pub mod CycleLemmas
@@ -9,5 +10,4 @@ pub mod EdgeListLemmas
 pub mod PathLemmas
 pub mod SearchLemmas
 pub mod BuildLemmas
-pub mod DrawnLemmas
 pub mod ReturnLemmas

@@ -1,5 +1,5 @@
 -- The path of a depth-first search.
-use Rattle.std.proofs.Common.{◌≡◌, ◌≢◌, ℕ, ◌+◌, ◌<◌, inl, inr, zero, suc, arith, refl, sym, ap, ◌∙◌, List, [], ◌∷◌, ◌++◌, map, length, get_or, take, drop, subst, below_more}
+use Rattle.std.proofs.Common.{◌≡◌, ◌≢◌, ℕ, ◌+◌, ◌<◌, inl, inr, zero, suc, arith, sym, ap, ◌∙◌, List, [], ◌∷◌, ◌++◌, map, length, get_or, take, drop, subst, below_more}
 use Rattle.std.specs.List.{Contains}
 use Rattle.std.proofs.lemmas.Bool.{cases_lt}
 use Rattle.std.proofs.lemmas.List.{length_push, length-map, get_or-map, get_or_default}
@@ -10,9 +10,9 @@ use Rattle.local_graph.specs.declared.graph.Edge.{Edge}
 use Rattle.local_graph.specs.declared.search.Frame.{Frame}
 use Rattle.local_graph.specs.declared.search.Visit.{Visit}
 use Rattle.local_graph.specs.declared.search.Visit.TheVariants.{Placed}
-use Rattle.local_graph.specs.Built.{Follows, ComesBack, IsEdgeAt, IsRooted, move_of}
-use Rattle.local_graph.specs.Graph.{edges_at, no_edge, edge_at}
-use Rattle.local_graph.specs.Searching.{visit_at, nodes_of, Trail, IsPath, Returns}
+use Rattle.local_graph.specs.inner.Built.{Follows, ComesBack, IsEdgeAt, IsRooted, move_of}
+use Rattle.local_graph.specs.inner.Graph.{edges_at, no_edge, edge_at}
+use Rattle.local_graph.specs.inner.Searching.{visit_at, nodes_of, Trail, IsPath, Returns}
 
 push_some : (fs : List Frame) (f : Frame) → fs ++ f ∷ [] ≡ [] → ⊥
 push_some fs f e = let l = ap length e in omega (arith, length_push fs f)
@@ -60,10 +60,6 @@ trail_push E i (f ∷ fs) g (is, short, rest) lt = (is, short, trail_push E (edg
 -- the edges along a path
 pub along_path : List (List Edge) → List Frame → List Edge
 along_path E path = map (λ f. edge_at E f.node f.left) path
-
-along_cons : (E : List (List Edge)) (f : Frame) (fs : List Frame) → along_path E (f ∷ fs) ≡ edge_at E f.node f.left ∷ along_path E fs
-unfolding along_path
-along_cons E f fs = refl
 
 pub along_long : (E : List (List Edge)) (path : List Frame) → length (along_path E path) ≡ length path
 unfolding along_path

@@ -2,13 +2,12 @@
 use Rattle.std.proofs.Common.{◌≡◌, ◌≢◌, ℕ, ◌+◌, ◌<◌, arith, sym, ◌∙◌, List, [], ◌∷◌, ◌++◌, length, get_or, take, subst, below_more}
 use Rattle.std.specs.List.{AllPairs, Contains}
 use Rattle.std.proofs.lemmas.List.{length-map, get_or-map, get_or_default, take_more, map-append}
-use Rattle.std.proofs.lemmas.List.Elements.{Contains-get_or}
 use Rattle.std.proofs.lemmas.List.Quantifiers.{all_pairs_push}
 use Rattle.local_graph.specs.declared.graph.Edge.{Edge}
 use Rattle.local_graph.specs.declared.search.Frame.{Frame}
-use Rattle.local_graph.specs.Built.{IsRooted}
-use Rattle.local_graph.specs.Graph.{edges_at, edge_at}
-use Rattle.local_graph.specs.Searching.{nodes_of, Trail}
+use Rattle.local_graph.specs.inner.Built.{IsRooted}
+use Rattle.local_graph.specs.inner.Graph.{edges_at, edge_at}
+use Rattle.local_graph.specs.inner.Searching.{nodes_of, Trail}
 use Rattle.local_graph.proofs.PathLemmas.{trail_push, next_inside}
 
 abbrev no_frame : Frame
@@ -26,12 +25,6 @@ going_on E path k at here r lt t e same less =
           (trail_push E 0 (take k path) f (subst (Trail E 0 (take k path)) (sym e) t) (subst (λ x. f.left < length (edges_at E x)) (sym e) more))),
       next_inside E at f.left r more,
     )
-
--- the node of a frame is on the path
-pub node_there : (path : List Frame) (k node : ℕ) → k < length path → (get_or path k no_frame).node ≡ node → Contains (nodes_of path) node
-node_there path k node lt e =
-    subst (Contains (nodes_of path)) (get_or-map (λ f. f.node) path k no_frame 0 lt ∙ e)
-    (Contains-get_or (nodes_of path) k 0 (omega (arith, length-map path (λ f. f.node))))
 
 pub looked_more : (path : List Frame) (k node : ℕ) → ((i : ℕ) → i < k → get_or (nodes_of path) i 0 ≢ node) → k < length path
     → ((get_or path k no_frame).node ≡ node → ⊥) → (i : ℕ) → i < k + 1 → get_or (nodes_of path) i 0 ≢ node

@@ -13,9 +13,9 @@ use Rattle.local_graph.specs.declared.search.Frame.{Frame}
 use Rattle.local_graph.specs.declared.search.Visit.{Visit}
 use Rattle.local_graph.specs.declared.search.Visit.TheVariants.{New, OnPath, Placed}
 use Rattle.local_graph.specs.LocalGraph.{IsOrder}
-use Rattle.local_graph.specs.Built.{IsRooted, Follows}
-use Rattle.local_graph.specs.Graph.{edges_at, no_edge, edge_at}
-use Rattle.local_graph.specs.Searching.{visit_at, nodes_of, Trail, IsPath, Searching, Returns, is_new, work_left}
+use Rattle.local_graph.specs.inner.Built.{IsRooted, Follows}
+use Rattle.local_graph.specs.inner.Graph.{edges_at, no_edge, edge_at}
+use Rattle.local_graph.specs.inner.Searching.{visit_at, nodes_of, Trail, IsPath, Searching, Returns, is_new, work_left}
 use Rattle.local_graph.proofs.PathLemmas.{last_frame, path_end, path_trail, trail_push}
 
 new_apart : (v : Visit) → v ≡ New → v ≡ OnPath → ⊥
@@ -156,13 +156,26 @@ module _ (E : List (List Edge)) (front : List Frame) (f : Frame) (visits : List 
       → Searching E path now after × (work_left path now < work_left whole visits)
   said_place whole path now after ew none ep en ea = rw (ew, ep, en, ea) (place_last none, place_last_less none)
 
-  -- the frame with one edge fewer left
-  module _ (g : Frame) (same : g.node ≡ f.node) (fewer : g.left + 1 ≡ f.left) where
+  pub edges_inside : (k : ℕ) → k < f.left → k < length (edges_at E f.node)
+  edges_inside k lt = omega (arith, lt, last_left)
+
+  pub nexts_inside : IsRooted E → (k : ℕ) → k < f.left → (edge_at E f.node k).next < length visits
+  nexts_inside r k lt =
+      let inside = r.inside f.node (edge_at E f.node k) (Contains-get_or (edges_at E f.node) k no_edge (edges_inside k lt)) in
+      omega (arith, inside, s.long)
+
+  -- the frame with fewer edges left, where those between lead to placed nodes
+  module _ (g : Frame) (same : g.node ≡ f.node) (fewer : g.left < f.left)
+      (over : (k : ℕ) → g.left < k → k < f.left → visit_at visits (edge_at E f.node k).next ≡ Placed) where
     nodes_same : nodes_of (front ++ g ∷ []) ≡ nodes_of (front ++ f ∷ [])
     nodes_same = nodes_push front g ∙ ap (λ n. nodes_of front ++ n ∷ []) same ∙ sym (nodes_push front f)
 
     pub edge_inside : g.left < length (edges_at E g.node)
-    edge_inside = subst (λ x. g.left < length (edges_at E x)) (sym same) (omega (arith, last_left))
+    edge_inside = subst (λ x. g.left < length (edges_at E x)) (sym same) (edges_inside g.left fewer)
+
+    -- all edges past the one that is left lead to placed nodes
+    past_placed : (k : ℕ) → g.left < k → k < length (edges_at E f.node) → visit_at visits (edge_at E f.node k).next ≡ Placed
+    past_placed k past short = elim (cases_lt k f.left) [ inl lt ↦ over k past lt | inr le ↦ edges_placed k le short ]
 
     pub next_inside : IsRooted E → (edge_at E g.node g.left).next < length visits
     next_inside r =
@@ -178,7 +191,7 @@ module _ (E : List (List Edge)) (front : List Frame) (f : Frame) (visits : List 
           omega (arith, edge_inside),
           λ k past short. kept (edge_at E g.node k).next
               (subst (λ x. visit_at visits (edge_at E x k).next ≡ Placed) (sym same)
-              (edges_placed k (omega arith) (subst (λ x. k < length (edges_at E x)) same short))),
+              (past_placed k past (subst (λ x. k < length (edges_at E x)) same short))),
           inr (edge_inside, new),
         ))
 
@@ -304,6 +317,14 @@ module _ (E : List (List Edge)) (front : List Frame) (f : Frame) (visits : List 
           let h : Frame = record { node = edge.next; left = length (edges_at E edge.next) } in
           let next : edge.next ≡ (edge_at E g.node g.left).next = ap (λ e. e.next) is in
           rw (ep, at, en, ea) (enter_edge h next (said_seen New on) said_inside refl, enter_edge_less h next (said_seen New on) said_inside refl fits)
+
+-- edges that lead to placed nodes, in the words of the code
+pub placed_over : (E : List (List Edge)) (node from left : ℕ) (visits seen : List Visit) (list : List Edge) → list ≡ edges_at E node → seen ≡ visits
+    → ((k : ℕ) → left < k → k < from → visit_at seen (get_or list k no_edge).next ≡ Placed)
+    → (k : ℕ) → left < k → k < from → visit_at visits (edge_at E node k).next ≡ Placed
+placed_over E node from left visits seen list el ev over k past short =
+    subst (λ l. visit_at visits (get_or l k no_edge).next ≡ Placed) el
+    (subst (λ v. visit_at v (get_or list k no_edge).next ≡ Placed) ev (over k past short))
 
 -- with nothing on the path all nodes are in the order
 pub search_end : (E : List (List Edge)) (visits : List Visit) (order : List ℕ) → IsRooted E → Searching E [] visits order → IsOrder E order

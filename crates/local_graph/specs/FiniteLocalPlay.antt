@@ -11,6 +11,7 @@ abbrev pub FewPositions : List Touch → List Cell → Type 0
 FewPositions touch opening = (found : List (List Cell)) → AllPairs (λ a b. a ≢ b) found
     → ((cells : List Cell) → Contains found cells → IsReachable touch opening cells) → length found ≤ 3 ^ length opening
 
+-- no list of moves from the opening ends in a position that it had before
 abbrev pub HasNoCycle : List Touch → List Cell → Type 0
 HasNoCycle touch opening = (ms : List CycleMove) (back : ℕ) → ¬ IsCycle touch opening ms back
 

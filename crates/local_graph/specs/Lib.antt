@@ -1,10 +1,5 @@
 pub mod LocalGraph
 pub mod FiniteLocalPlay
 pub mod Graph
-pub mod Found
-pub mod PlaceTable
 pub mod Built
-pub mod SearchedFor
-pub mod Searching
-pub mod Components
-pub mod Breadth
+pub mod inner

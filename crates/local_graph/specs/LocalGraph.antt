@@ -15,7 +15,7 @@ abbrev pub Plays : List Touch → List Cell → List CycleMove → List Cell →
 Plays touch from [] to = from ≡ to
 Plays touch from (m ∷ ms) to = (next : List Cell) × IsLocalMove touch from m.colour m.place next × Plays touch next ms to
 
--- some list of moves, of either colour in any order, leads there
+-- some list of moves, of either colour in any order, leads from the opening to the position
 abbrev pub IsReachable : List Touch → List Cell → List Cell → Type 0
 IsReachable touch opening cells = (ms : List CycleMove) × Plays touch opening ms cells
 
@@ -46,6 +46,7 @@ pub record IsEdgeOf (positions : List ℕ) (m : LocalMove) (e : Edge) : Type 0 w
   pub inside : e.next < length positions
   pub next : slice_index positions e.next ≡ m.next
 
+-- there is one edge for each move, in the order of the moves
 abbrev pub AreEdges : List ℕ → List LocalMove → List Edge → Type 0
 AreEdges positions moves edges = (length edges ≡ length moves)
     × ((k : ℕ) (m : LocalMove) (e : Edge) → k < length edges → slice_index_or moves k m ≡ m → slice_index_or edges k e ≡ e

@@ -1,9 +1,9 @@
 //! Ways with the fewest moves, by breadth, and the cycle that comes soonest.
 
 ghost use Rattle.std.specs.Prelude.{◌≡◌, ◌<◌, length, IfOk, OnOk};
-ghost use Rattle.local_graph.specs.Built.{IsRooted};
+ghost use Rattle.local_graph.specs.inner.Built.{IsRooted};
 ghost use Rattle.std.specs.List.{All};
-ghost use Rattle.local_graph.specs.Breadth.{IsReady};
+ghost use Rattle.local_graph.specs.inner.Breadth.{IsReady};
 
 use crate::components::on_cycles;
 use crate::edge_lists::EdgeLists;

@@ -1,9 +1,9 @@
 //! Which positions lie on cycles.
 
 ghost use Rattle.std.specs.Prelude.{◌≡◌, ◌<◌, ◌≤◌, length, IfOk, OnOk};
-ghost use Rattle.local_graph.specs.Built.{IsRooted};
-ghost use Rattle.local_graph.specs.Graph.{edges_at};
-ghost use Rattle.local_graph.specs.Components.{IsUnderWay};
+ghost use Rattle.local_graph.specs.inner.Built.{IsRooted};
+ghost use Rattle.local_graph.specs.inner.Graph.{edges_at};
+ghost use Rattle.local_graph.specs.inner.Components.{IsUnderWay};
 
 use crate::edge_lists::EdgeLists;
 use crate::search::Frame;

@@ -1,22 +1,22 @@
 //! Lists of edges, one behind another in one vector.
 
 ghost use Rattle.std.specs.Prelude.{◌≡◌, ◌<◌, [], ◌∷◌, ◌++◌, length, slice_set, OnOk, OnErr};
-ghost use Rattle.local_graph.specs.Graph.{edges_at, edge_at};
+ghost use Rattle.local_graph.specs.inner.Graph.{edges_at, edge_at};
 
 use crate::graph::Edge;
 use std::alloc::{AllocError, Global};
 use std::marker::Model;
 
 /// Where a list stands: from `start` on, and before `end`.
-#[derive(Clone, Copy)]
-pub struct Span {
-    pub start: usize,
-    pub end: usize,
+#[derive(Clone, Copy, Debug)]
+pub(crate) struct Span {
+    pub(crate) start: usize,
+    pub(crate) end: usize,
 }
 
 /// The edges of each position.
-#[derive(Drop)]
-pub struct EdgeLists {
+#[derive(Debug, Drop)]
+pub(crate) struct EdgeLists {
     edges: Vec<Edge>,
     spans: Vec<Span>,
 }
@@ -24,7 +24,7 @@ pub struct EdgeLists {
 impl Model for EdgeLists {
     ghost use Rattle.std.specs.Prelude.{List, length};
     ghost use Rattle.local_graph.specs.declared.graph.Edge.{Edge};
-    ghost use Rattle.local_graph.specs.Graph.{lists_of, AreWithin};
+    ghost use Rattle.local_graph.specs.inner.Graph.{lists_of, AreWithin};
 
     ghost Value = { List (List Edge) };
 
@@ -35,7 +35,7 @@ impl Model for EdgeLists {
 
 impl EdgeLists {
     /// No lists.
-    pub fn new(alloc: Global) -> EdgeLists
+    pub(crate) fn new(alloc: Global) -> EdgeLists
         ensures { result ≡ [] }
     {
         EdgeLists {
@@ -45,14 +45,14 @@ impl EdgeLists {
     }
 
     /// The number of lists.
-    pub fn len(&self) -> usize
+    pub(crate) fn len(&self) -> usize
         ensures { result ≡ length self.now }
     {
         self.spans.len()
     }
 
     /// The list at a place.
-    pub fn at(&self, place: usize) -> &[Edge]
+    pub(crate) fn at(&self, place: usize) -> &[Edge]
         requires { place < length self.now }
         ensures { result.now ≡ edges_at self.now place }
     {
@@ -61,7 +61,7 @@ impl EdgeLists {
     }
 
     /// The edge with a number in the list at a place.
-    pub fn edge(&self, place: usize, number: usize) -> Edge
+    pub(crate) fn edge(&self, place: usize, number: usize) -> Edge
         requires { number < length (edges_at self.now place) }
         ensures { result ≡ edge_at self.now place number }
     {
@@ -69,7 +69,7 @@ impl EdgeLists {
     }
 
     /// Adds a list behind the others.
-    pub fn push(&mut self, edges: &[Edge]) -> Result<(), AllocError>
+    pub(crate) fn push(&mut self, edges: &[Edge]) -> Result<(), AllocError>
         ensures ok { OnOk result (self.new ≡ self.old ++ edges.now ∷ []) }
         ensures err { OnErr result (self.new ≡ self.old) }
     {
@@ -81,7 +81,7 @@ impl EdgeLists {
     }
 
     /// Puts a list in place of another.
-    pub fn put(&mut self, place: usize, edges: &[Edge]) -> Result<(), AllocError>
+    pub(crate) fn put(&mut self, place: usize, edges: &[Edge]) -> Result<(), AllocError>
         requires { place < length self.old }
         ensures ok { OnOk result (self.new ≡ slice_set self.old place edges.now) }
         ensures err { OnErr result (self.new ≡ self.old) }

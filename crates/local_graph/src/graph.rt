@@ -7,8 +7,11 @@ use go_grid::Colour;
 use local_play::Local;
 use std::marker::Model;
 
+/// The most positions that a region may have.
+pub const MOST_POSITIONS: u32 = 1_000_000;
+
 /// A legal move of a position, and the place in the graph of the position that it leads to.
-#[derive(Clone, Copy)]
+#[derive(Clone, Copy, Debug)]
 pub struct Edge {
     pub next: usize,
     pub colour: Colour,
@@ -17,7 +20,7 @@ pub struct Edge {
 }
 
 /// All positions that local moves reach from an opening, and their moves.
-#[derive(Drop)]
+#[derive(Debug, Drop)]
 pub struct Graph {
     positions: Vec<u64>,
     edges: EdgeLists,

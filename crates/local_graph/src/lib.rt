@@ -3,25 +3,17 @@
 #![tactic(auto)]
 
 mod breadth;
-mod building;
 mod components;
 mod cycle;
-#[cfg(test)]
-mod cycle_tests;
-#[cfg(test)]
-mod drawn;
 mod edge_lists;
-#[cfg(test)]
-mod expand_tests;
 mod graph;
+mod graph_build;
 mod laws;
 mod place_table;
-mod returning;
 mod search;
-#[cfg(test)]
-mod tests;
+mod soonest_cycles;
 
-pub use building::{GraphError, build};
 pub use cycle::{CycleList, CycleMove};
-pub use graph::{Edge, Graph};
+pub use graph::{Edge, Graph, MOST_POSITIONS};
+pub use graph_build::{GraphError, build};
 pub use laws::finite_local_play;

@@ -1,7 +1,7 @@
 //! The positions found so far, and a table that tells their places.
 
-ghost use Rattle.std.specs.Prelude.{◌≡◌, ℕ, ◌+◌, ◌-◌, ◌^◌, ◌<◌, ◌≤◌, [], ◌∷◌, ◌++◌, length, slice_index, Contains, IfOk, OnOk, IfSome, IfNone};
-ghost use Rattle.local_graph.specs.PlaceTable.{folded, threes, slot_of, AreEntered, IsTable};
+ghost use Rattle.std.specs.Prelude.{◌≡◌, ℕ, ◌+◌, ◌-◌, ◌*◌, ◌^◌, ◌<◌, ◌≤◌, [], ◌∷◌, ◌++◌, length, slice_index, Contains, IfOk, OnOk, IfSome, IfNone, ◌↔◌, true};
+ghost use Rattle.local_graph.specs.inner.PlaceTable.{folded, threes, slot_of, IsNumbered, AreEntered, IsTable};
 
 use std::alloc::{AllocError, Global};
 
@@ -17,6 +17,8 @@ pub(crate) struct PlaceTable {
     latest: Vec<u32>,
     /// By place the link to the position that was entered before it in the same slot.
     before: Vec<u32>,
+    /// How many numbers in base 3 positions have.
+    numbers: usize,
 }
 
 /// The number with the upper half of each group of bits counted so many times less.
@@ -28,7 +30,7 @@ fn folded(number: u64, shift: u32, groups: u64, less: u64) -> u64
 }
 
 /// The number whose digits in base 3 are the codes of a position's places.
-#[tactic(auto, unfolding(crate::specs::PlaceTable::threes))]
+#[tactic(auto, unfolding(crate::specs::inner::PlaceTable::threes))]
 fn threes(position: u64) -> u64
     ensures { result ≡ threes position }
 {
@@ -39,39 +41,61 @@ fn threes(position: u64) -> u64
     folded(halves, 32, 0xFFFF_FFFF, 4_251_920_575)
 }
 
-/// The slot of a position, of so many.
-#[tactic(auto, unfolding(crate::specs::PlaceTable::slot_of))]
-fn slot_of(position: u64, slots: usize) -> usize
+/// The slot of a position, of so many: its number in base 3, and only the lowest bits of it where there are fewer slots than
+/// numbers.
+#[tactic(auto, unfolding(crate::specs::inner::PlaceTable::slot_of))]
+fn slot_of(position: u64, slots: usize, numbers: usize) -> usize
     requires { 0 < slots }
-    ensures is { result ≡ slot_of position slots }
-    ensures inside { result < slots }
+    ensures is { result ≡ slot_of position slots numbers }
+    ensures inside { IsNumbered numbers position → result < slots }
 {
-    threes(position) as usize & (slots - 1)
+    let number = threes(position) as usize;
+    if slots < numbers {
+        number & (slots - 1)
+    } else {
+        number
+    }
 }
 
 impl PlaceTable {
-    /// No positions.
-    pub(crate) fn new(alloc: Global) -> Result<PlaceTable, AllocError>
+    /// No positions, for those of so many places.
+    pub(crate) fn new(alloc: Global, places: usize) -> Result<PlaceTable, AllocError>
+        requires { places ≤ 32 }
         ensures table { IfOk result IsTable }
         ensures none { IfOk result (λ table. table.positions.items ≡ []) }
+        ensures numbers { IfOk result (λ table. table.numbers ≡ 3 ^ places) }
     {
         Ok(PlaceTable {
             positions: Vec::new(alloc),
             latest: vec![in alloc; 0; FEWEST_SLOTS]?,
             before: Vec::new(alloc),
+            numbers: 3_usize.pow(places as u32),
         })
     }
 
-    /// The place of a position, if it was found.
+    /// Whether each number has a slot of its own.
+    fn is_exact(&self) -> bool
+        ensures { (result ≡ true) ↔ (self.now.numbers ≤ length self.now.latest.items) }
+    {
+        self.numbers <= self.latest.len()
+    }
+
+    /// The place of a position, if it was found. Where each number has a slot of its own, what stands in the position's slot is
+    /// the position.
+    #[inline(always)]
     pub(crate) fn find(&self, position: u64) -> Option<usize>
-        requires { IsTable self.now }
+        requires table { IsTable self.now }
+        requires numbered { IsNumbered self.now.numbers position }
         ensures found { IfSome result (λ place. (place < length self.now.positions.items)
             × (slice_index self.now.positions.items place ≡ position)) }
         ensures absent { IfNone result (¬ Contains self.now.positions.items position) }
     {
-        let mut link = self.latest[slot_of(position, self.latest.len())];
+        let mut link = self.latest[slot_of(position, self.latest.len(), self.numbers)];
         'looking: while link > 0 {
             let place = (link - 1) as usize;
+            if self.is_exact() {
+                return Some(place);
+            }
             if self.positions[place] == position {
                 return Some(place);
             }
@@ -82,30 +106,49 @@ impl PlaceTable {
 
     /// Enters the first position that isn't in the table.
     fn enter(&mut self) -> Result<(), AllocError>
-        requires entered { AreEntered self.old.positions.items self.old.latest.items self.old.before.items }
+        requires entered { AreEntered self.old.positions.items self.old.latest.items
+            self.old.before.items self.old.numbers }
+        requires numbered { IsNumbered self.old.numbers
+            (slice_index self.old.positions.items (length self.old.before.items)) }
         requires more { length self.old.before.items < length self.old.positions.items }
         requires few { length self.old.positions.items < 2 ^ 32 }
-        ensures entered { OnOk result (AreEntered self.new.positions.items self.new.latest.items self.new.before.items) }
+        ensures entered { OnOk result (AreEntered self.new.positions.items self.new.latest.items
+            self.new.before.items self.new.numbers) }
         ensures one { OnOk result (length self.new.before.items ≡ length self.old.before.items + 1) }
         ensures positions { self.new.positions.items ≡ self.old.positions.items }
         ensures slots { length self.new.latest.items ≡ length self.old.latest.items }
+        ensures numbers { self.new.numbers ≡ self.old.numbers }
     {
         let place = self.before.len();
-        let slot = slot_of(self.positions[place], self.latest.len());
+        let slot = slot_of(self.positions[place], self.latest.len(), self.numbers);
         self.before.push(self.latest[slot])?;
         self.latest[slot] = place as u32 + 1;
         Ok(())
     }
 
-    /// Makes the table anew with four times as many slots.
+    /// How many slots are to be made: one for each number where those aren't many more than now, and else four times as many.
+    fn more_slots(&self) -> usize
+        requires table { IsTable self.now }
+        requires full { length self.now.latest.items < 2 ^ 40 }
+        ensures { 0 < result }
+    {
+        let slots = self.latest.len();
+        if self.numbers / 32 <= slots {
+            return self.numbers;
+        }
+        4 * slots
+    }
+
+    /// Makes the table anew with more slots.
     fn grow(&mut self, alloc: Global) -> Result<(), AllocError>
         requires table { IsTable self.old }
-        requires full { length self.old.latest.items ≤ length self.old.positions.items }
+        requires full { length self.old.latest.items ≤ 2 * length self.old.positions.items + 1 }
         requires few { length self.old.positions.items < 2 ^ 32 }
         ensures table { OnOk result (IsTable self.new) }
         ensures positions { self.new.positions.items ≡ self.old.positions.items }
+        ensures numbers { self.new.numbers ≡ self.old.numbers }
     {
-        let slots = 4 * self.latest.len();
+        let slots = self.more_slots();
         self.latest = vec![in alloc; 0; slots]?;
         self.before.clear();
         'entering: for _place in 0..self.positions.len() {
@@ -114,17 +157,43 @@ impl PlaceTable {
         Ok(())
     }
 
-    /// Puts a new position behind the others.
-    pub(crate) fn add(&mut self, alloc: Global, position: u64) -> Result<(), AllocError>
+    /// Whether there should be more slots.
+    fn is_full(&self) -> bool
+        ensures { result ≡ true
+            → length self.now.latest.items ≤ 2 * length self.now.positions.items + 1 }
+    {
+        if self.is_exact() {
+            return false;
+        }
+        self.positions.len() >= self.latest.len() / 2
+    }
+
+    /// Makes room for one more position.
+    fn make_room(&mut self, alloc: Global) -> Result<(), AllocError>
         requires table { IsTable self.old }
         requires few { length self.old.positions.items + 1 < 2 ^ 32 }
         ensures table { OnOk result (IsTable self.new) }
-        ensures positions { OnOk result (self.new.positions.items ≡ self.old.positions.items ++ position ∷ []) }
+        ensures positions { self.new.positions.items ≡ self.old.positions.items }
+        ensures numbers { self.new.numbers ≡ self.old.numbers }
     {
-        if self.positions.len() >= self.latest.len() {
-            self.grow(alloc)?;
+        if self.is_full() {
+            return self.grow(alloc);
         }
+        Ok(())
+    }
+
+    /// Puts a new position behind the others.
+    pub(crate) fn add(&mut self, alloc: Global, position: u64) -> Result<(), AllocError>
+        requires table { IsTable self.old }
+        requires numbered { IsNumbered self.old.numbers position }
+        requires few { length self.old.positions.items + 1 < 2 ^ 32 }
+        ensures table { OnOk result (IsTable self.new) }
+        ensures positions { OnOk result (self.new.positions.items ≡ self.old.positions.items ++ position ∷ []) }
+        ensures numbers { OnOk result (self.new.numbers ≡ self.old.numbers) }
+    {
+        self.make_room(alloc)?;
         self.positions.push(position)?;
-        self.enter()
+        self.enter()?;
+        Ok(())
     }
 }

@@ -1,20 +1,21 @@
 //! Depth-first search: an order with ends first, or a cycle.
 
-ghost use Rattle.std.specs.Prelude.{◌≡◌, ◌^◌, ◌<◌, [], ◌∷◌, ◌++◌, length, map, slice_set, slice_index, IfOk, OnOk, Contains};
-ghost use Rattle.local_graph.specs.Built.{IsRooted, move_of};
-ghost use Rattle.local_graph.specs.SearchedFor.{IsSearched};
-ghost use Rattle.local_graph.specs.Searching.{Searching, Returns, Stepped, Trail, EndsIn, work_left, nodes_of};
-ghost use Rattle.local_graph.specs.Graph.{edges_at, edge_at};
+ghost use Rattle.std.specs.Prelude.{◌≡◌, ℕ, ◌^◌, ◌<◌, ◌≤◌, [], ◌∷◌, ◌++◌, length, map, slice_set, slice_index, slice_index_or, IfOk, OnOk, Contains};
+ghost use Rattle.local_graph.specs.inner.Built.{IsRooted, move_of};
+ghost use Rattle.local_graph.specs.inner.SearchedFor.{IsSearched};
+ghost use Rattle.local_graph.specs.inner.Searching.{Searching, Returns, Stepped, Trail, EndsIn, visit_at, work_left, nodes_of};
+ghost use Rattle.local_graph.specs.inner.Graph.{edges_at, edge_at, no_edge};
 ghost use Rattle.local_graph.specs.declared.search.Visit.TheVariants.{OnPath, Placed};
 
 use crate::cycle::{CycleList, CycleMove};
 use crate::edge_lists::EdgeLists;
-use crate::returning::soonest_cycle;
+use crate::graph::Edge;
+use crate::soonest_cycles::soonest_cycle;
 use std::alloc::{AllocError, Global};
 
 /// What the search knows of a position.
 #[derive(Clone, Copy)]
-pub enum Visit {
+pub(crate) enum Visit {
     /// It was not met.
     New,
     /// It is on the path from the opening.
@@ -25,9 +26,9 @@ pub enum Visit {
 
 /// A position on the path, and how many of its moves are left to follow. Moves are followed from the last on.
 #[derive(Clone, Copy)]
-pub struct Frame {
-    pub node: usize,
-    pub left: usize,
+pub(crate) struct Frame {
+    pub(crate) node: usize,
+    pub(crate) left: usize,
 }
 
 /// The state of a depth-first search from the opening.
@@ -40,13 +41,34 @@ struct Search {
 
 /// What a step of the search comes to.
 #[derive(Clone, Copy)]
-pub enum Progress {
+pub(crate) enum Progress {
     /// The search goes on.
     Forward,
     /// A move from the last position of the path to one that is on the path.
     Back(usize),
     /// All is placed.
     Done,
+}
+
+/// The number of the last of the first so many edges that doesn't lead to a placed position, or 0 where there is none.
+fn last_unplaced(edges: &[Edge], visits: &[Visit], left: usize) -> usize
+    requires some { 0 < left }
+    requires within { left ≤ length edges.now }
+    requires inside { (k : ℕ) → k < left
+        → (slice_index_or edges.now k no_edge).next < length visits.now }
+    ensures fewer { result < left }
+    ensures over { (k : ℕ) → result < k → k < left
+        → visit_at visits.now (slice_index_or edges.now k no_edge).next ≡ Placed }
+{
+    let mut at = left - 1;
+    'skipping: while at > 0 {
+        match visits[edges[at].next] {
+            Visit::Placed => at -= 1,
+            Visit::OnPath => return at,
+            Visit::New => return at,
+        }
+    }
+    at
 }
 
 impl Search {
@@ -94,7 +116,7 @@ impl Search {
         Ok(search)
     }
 
-    /// Follows the next move of the path's last position.
+    /// Follows the next move of the path's last position that leads to one that isn't placed, or its first.
     fn follow(&mut self, edges: &EdgeLists, last: Frame) -> Result<Progress, AllocError>
         requires rooted { IsRooted edges.now }
         requires under_way { Searching edges.now self.old.path.items
@@ -104,7 +126,8 @@ impl Search {
         ensures { IfOk result (Stepped edges.now (work_left self.old.path.items self.old.visits.items)
             self.new.path.items self.new.visits.items self.new.order.items) }
     {
-        let left = last.left - 1;
+        let list = edges.at(last.node);
+        let left = last_unplaced(list, &self.visits, last.left);
         let next = edges.edge(last.node, left).next;
         let at = self.path.len() - 1;
         self.path[at] = Frame {
@@ -142,7 +165,7 @@ impl Search {
 
 /// What a search gives: an order, or a cycle and where it returns to.
 #[derive(Drop)]
-pub enum Searched {
+pub(crate) enum Searched {
     Order(Vec<usize>),
     Cycle(CycleList, usize),
 }
@@ -197,7 +220,7 @@ pub(crate) fn cycle_of(
 }
 
 /// An order of all positions in which each edge leads to an earlier one, or a cycle.
-pub fn search_from_opening(alloc: Global, edges: &EdgeLists) -> Result<Searched, AllocError>
+pub(crate) fn search_from_opening(alloc: Global, edges: &EdgeLists) -> Result<Searched, AllocError>
     requires { IsRooted edges.now }
     ensures { IfOk result (IsSearched edges.now) }
 {

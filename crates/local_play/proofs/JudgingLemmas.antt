@@ -8,14 +8,16 @@ use Rattle.go_grid.specs.declared.grid.Colour.{Colour}
 use Rattle.go_grid.specs.declared.grid.Colour.TheVariants as colour
 use Rattle.go_grid.specs.declared.region.Touch.{Touch}
 use Rattle.go_grid.specs.Region.{nothing_near}
-use Rattle.go_grid.proofs.PathLemmas.{leads_more, leads_end}
-use Rattle.local_play.specs.LocalPlay.{held_at, Holds, IsLinked, IsBeside, InLocalChain}
+use Rattle.go_grid.proofs.PathLemmas.{leads_here, leads_more, leads_end}
+use Rattle.local_play.specs.LocalPlay.{held_at, Holds, IsLinked, IsBeside}
+use Rattle.local_play.specs.inner.LocalPlay.{InLocalChain}
 use Rattle.local_play.specs.declared.places.Places.{Places}
 use Rattle.local_play.specs.declared.links.Links.{Links}
 use Rattle.local_play.specs.declared.links.Reached.{Reached}
 use Rattle.local_play.specs.Places.{Has}
-use Rattle.local_play.specs.Links.{IsTable, IsReached, LinksWithin, beside_of}
-use Rattle.local_play.specs.Lasting.{IsPlaced, IsLasting, HasSupport, Lasts, IsLiberty, AreEmpty}
+use Rattle.local_play.specs.Links.{IsTable, LinksWithin}
+use Rattle.local_play.specs.inner.Links.{IsReached, beside_of}
+use Rattle.local_play.specs.inner.Lasting.{IsPlaced, IsLasting, HasSupport, Lasts, IsLiberty, AreEmpty}
 use Rattle.local_play.proofs.BitLemmas.{has_or_not}
 use Rattle.local_play.proofs.LastingLemmas.{chain_back, lasts_along}
 
@@ -33,12 +35,19 @@ pub record Judging (touch : List Touch) (cells : List Cell) (c : Colour) (rest l
   pub sound : (q : ℕ) → Has lasting q → Holds cells c q × Lasts touch cells c q
   pub complete : (q : ℕ) → Holds cells c q → Lasts touch cells c q → Has rest q ⊎ Has lasting q
 
-pub judging_start : (touch : List Touch) (cells : List Cell) (c : Colour) (stones beside empty none : Places)
-    → IsPlaced touch cells c stones beside empty → ((q : ℕ) → ¬ Has none q) → Judging touch cells c stones none
-judging_start touch cells c stones beside empty none placed nothing = record {
-  left = λ q. (placed.stones_are q).0;
-  sound = λ q h. absurd (nothing q h);
-  complete = λ q h _. inl ((placed.stones_are q).1 h);
+-- a stone next to an alive one lasts, and the others are still to be judged
+pub judging_start : (touch : List Touch) (cells : List Cell) (c : Colour) (stones beside empty rest lasting : Places)
+    → IsPlaced touch cells c stones beside empty → ((q : ℕ) → Has lasting q ↔ (Has stones q × Has beside q))
+    → ((q : ℕ) → Has rest q ↔ (Has stones q × ¬ Has beside q)) → Judging touch cells c rest lasting
+judging_start touch cells c stones beside empty rest lasting placed both others = record {
+  left = λ q h. (placed.stones_are q).0 ((others q).0 h).0;
+  sound = λ q h.
+      let w = (both q).0 h in
+      let holds = (placed.stones_are q).0 w.0 in
+      (holds, inl (q, leads_here (IsLinked touch) (Holds cells c) q holds, (placed.beside_are q).0 w.1));
+  complete = λ q h _.
+      let stone = (placed.stones_are q).1 h in
+      elim (has_or_not beside.0 q) [ inl near ↦ inr ((both q).1 (stone, near)) | inr far ↦ inl ((others q).1 (stone, far)) ];
 }
 
 module _ (touch : List Touch) (cells : List Cell) (c : Colour) (stones beside empty rest lasting one rest' : Places) (p : ℕ) (r : Reached)

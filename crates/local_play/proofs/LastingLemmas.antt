@@ -8,9 +8,10 @@ use Rattle.go_grid.specs.declared.grid.Colour.{Colour}
 use Rattle.go_grid.specs.declared.grid.Colour.TheVariants as colour
 use Rattle.go_grid.specs.declared.region.Touch.{Touch}
 use Rattle.go_grid.specs.Board.{stone, other}
-use Rattle.local_play.specs.LocalPlay.{held_at, Holds, IsLinked, IsBeside, InLocalChain, IsFree, IsRemoved, IsLocalMove, with_stone, is_stone}
+use Rattle.local_play.specs.LocalPlay.{held_at, Holds, IsLinked, IsBeside, IsLocalMove, with_stone, is_stone}
+use Rattle.local_play.specs.inner.LocalPlay.{InLocalChain, IsFree, IsRemoved}
 use Rattle.local_play.specs.Links.{LinksWithin}
-use Rattle.local_play.specs.Lasting.{IsLiberty, Lasts, Takes, Stands}
+use Rattle.local_play.specs.inner.Lasting.{IsLiberty, Lasts, Takes, Stands}
 use Rattle.go_grid.proofs.PathLemmas.{carried, leads_here, leads_step, leads_start, leads_end, leads_more, leads_join}
 use Rattle.go_grid.proofs.BoardLemmas.{empty_not_stone, not_other}
 

@@ -1,7 +1,7 @@
 -- The links of a region as sets, and floods along them.
-use Rattle.std.proofs.Common.{◌≡◌, ℕ, ◌+◌, ◌<◌, ◌≤◌, ◌⊎◌, ◌↔◌, inl, inr, arith, refl, sym, ap, ◌∙◌, List, true, length, get_or, set, replicate, Option, Some, None, subst}
+use Rattle.std.proofs.Common.{◌≡◌, ℕ, ◌+◌, ◌<◌, ◌≤◌, ◌⊎◌, ◌↔◌, inl, inr, arith, refl, sym, ap, ◌∙◌, List, length, get_or, replicate, Option, Some, None, subst}
 use Rattle.std.proofs.lemmas.Bool.{cases_eq, cases_lt}
-use Rattle.std.proofs.lemmas.List.{get_or-set_same, get_or-set_other, get_or_past, length-set, length-replicate, get_or-replicate}
+use Rattle.std.proofs.lemmas.List.{get_or_past, length-replicate, get_or-replicate}
 use Rattle.go_grid.specs.declared.grid.Cell.{Cell}
 use Rattle.go_grid.specs.declared.grid.Colour.TheVariants as colour
 use Rattle.go_grid.specs.declared.region.Touch.{Touch}
@@ -9,11 +9,12 @@ use Rattle.go_grid.specs.Region.{nothing_near, touch_at, IsRegion}
 use Rattle.go_grid.specs.Path.{Leads}
 use Rattle.go_grid.proofs.LinkLemmas.{link_at, linked_to, same_point}
 use Rattle.go_grid.proofs.PathLemmas.{carried, leads_here, leads_step}
-use Rattle.local_play.specs.LocalPlay.{IsLinked, IsBeside}
+use Rattle.local_play.specs.LocalPlay.{IsLinked}
 use Rattle.local_play.specs.declared.places.Places.{Places}
 use Rattle.local_play.specs.declared.links.Links.{Links}
 use Rattle.local_play.specs.Places.{Has}
-use Rattle.local_play.specs.Links.{LinksWithin, IsLinkOf, IsTable, IsTableBelow, IsReached, near_at}
+use Rattle.local_play.specs.Links.{LinksWithin, IsTable, IsTableBelow, near_at}
+use Rattle.local_play.specs.inner.Links.{IsLinkOf, IsReached}
 use Rattle.local_play.proofs.BitLemmas.{has_or_not}
 
 -- a place with a link is a place of the region
@@ -106,42 +107,6 @@ one_more P n before after Here old new there back q = (
     | inr ne ↦ (new q).1 (inl ((old q).1 (omega (arith, w.0), w.1)))
   ],
 )
-
-pub table_step : (touch : List Touch) (links after : Links) (n : ℕ) (row one : Places) (t : Touch) → n < 32 → t ≡ touch_at touch n
-    → after.near ≡ set links.near n row → ((q : ℕ) → Has row q ↔ IsLinkOf t q) → ((q : ℕ) → Has one q ↔ (q ≡ n))
-    → ((q : ℕ) → Has after.all q ↔ (Has links.all q ⊎ Has one q))
-    → ((q : ℕ) → Has after.black q ↔ (Has links.black q ⊎ ((q ≡ n) × (t.black ≡ true))))
-    → ((q : ℕ) → Has after.white q ↔ (Has links.white q ⊎ ((q ≡ n) × (t.white ≡ true))))
-    → IsTableBelow touch links n → IsTableBelow touch after (n + 1)
-table_step touch links after n row one t lt at near is_row is_one all black white s = record {
-  long = ap length near ∙ length-set links.near n row ∙ s.long;
-  near = λ i j small. elim (cases_eq i n) [
-    | inl e ↦
-        let this : near_at after i ≡ row =
-        ap (λ l. get_or l i (record { 0 = 0 })) near ∙ ap (λ k. get_or (set links.near n row) k (record { 0 = 0 })) e
-        ∙ get_or-set_same links.near n row (record { 0 = 0 }) (omega (arith, s.long)) in
-        let linked : IsLinkOf t j ≡ IsLinked touch i j = ap (λ x. IsLinkOf x j) (at ∙ sym (ap (touch_at touch) e)) in (
-          λ h. (omega (arith, e), to_type linked ((is_row j).0 (subst (λ x. Has x j) this h))),
-          λ w. subst (λ x. Has x j) (sym this) ((is_row j).1 (to_type (sym linked) w.1)),
-        )
-    | inr ne ↦
-        let this : near_at after i ≡ near_at links i = ap (λ l. get_or l i (record { 0 = 0 })) near ∙ rw get_or-set_other refl in (
-          λ h. let w = (s.near i j small).0 (subst (λ x. Has x j) this h) in (omega (arith, w.0), w.1),
-          λ w. subst (λ x. Has x j) (sym this) ((s.near i j small).1 (omega (arith, w.0), w.1)),
-        )
-  ];
-  all = λ i. (
-    λ h. elim ((all i).0 h) [ inl was ↦ let w = (s.all i).0 was in omega (arith, w) | inr new ↦ let w = (is_one i).0 new in omega (arith, w) ],
-    λ lt'. elim (cases_eq i n) [ inl e ↦ (all i).1 (inr ((is_one i).1 e)) | inr ne ↦ (all i).1 (inl ((s.all i).1 (omega (arith, lt')))) ],
-  );
-  black = one_more (IsBeside touch colour.Black) n links.black after.black (t.black ≡ true) s.black black
-      (λ e. ap (λ x. x.black) (sym at) ∙ e) (λ e. ap (λ x. x.black) at ∙ e);
-  white = one_more (IsBeside touch colour.White) n links.white after.white (t.white ≡ true) s.white white
-      (λ e. ap (λ x. x.white) (sym at) ∙ e) (λ e. ap (λ x. x.white) at ∙ e);
-}
-  where
-    to_type : {A B : Type 0} → A ≡ B → A → B
-    to_type e a = subst (λ x. x) e a
 
 -- what a flood found, with the links of the `done` places followed
 pub record Flooding (touch : List Touch) (seeds within places done near : Places) : Type 0 where

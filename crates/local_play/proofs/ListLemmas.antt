@@ -15,7 +15,7 @@ use Rattle.local_play.specs.declared.local_move.Turn.{Turn}
 use Rattle.local_play.specs.LocalPlay.{IsLocalMove}
 use Rattle.local_play.specs.Moves.{ListsMoves, IsMoveFrom, StandsBefore}
 use Rattle.local_play.specs.Places.{Has}
-use Rattle.local_play.specs.Lasting.{IsTurn, ListsBelow, AddsMoves}
+use Rattle.local_play.specs.inner.Lasting.{IsTurn, ListsBelow, AddsMoves}
 
 -- the moves at the places below `n` stand behind the list, and the empty places from `n` on are left
 pub record Adding (touch : List Touch) (cells : List Cell) (t : Turn) (before moves : List LocalMove) (rest : Places) : Type 0 where

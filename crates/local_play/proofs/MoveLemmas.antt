@@ -5,17 +5,21 @@ use Rattle.go_grid.specs.declared.grid.Cell.{Cell}
 use Rattle.go_grid.specs.declared.grid.Cell.TheVariants as cell
 use Rattle.go_grid.specs.declared.region.Touch.{Touch}
 use Rattle.go_grid.specs.Board.{stone, other}
-use Rattle.local_play.specs.LocalPlay.{held_at, Holds, IsLinked, IsRemoved, IsLocalMove, with_stone, is_stone}
-use Rattle.local_play.specs.Packed.{pack, cleared}
+use Rattle.local_play.specs.LocalPlay.{held_at, Holds, IsLinked, IsLocalMove, with_stone, is_stone}
+use Rattle.local_play.specs.inner.LocalPlay.{IsRemoved}
+use Rattle.local_play.specs.Packed.{pack}
+use Rattle.local_play.specs.inner.Packed.{cleared}
 use Rattle.local_play.specs.Moves.{IsMoveFrom}
 use Rattle.local_play.specs.declared.places.Places.{Places}
 use Rattle.local_play.specs.declared.links.Links.{Links}
 use Rattle.local_play.specs.declared.links.Reached.{Reached}
 use Rattle.local_play.specs.declared.local_move.LocalMove.{LocalMove}
 use Rattle.local_play.specs.declared.local_move.Turn.{Turn}
-use Rattle.local_play.specs.Places.{Has, IsCountOf}
-use Rattle.local_play.specs.Links.{IsTable, IsReached, near_at}
-use Rattle.local_play.specs.Lasting.{IsTurn, CanStand, Lasts, Takes, Stands}
+use Rattle.local_play.specs.Places.{Has}
+use Rattle.local_play.specs.inner.Places.{IsCountOf}
+use Rattle.local_play.specs.Links.{IsTable, near_at}
+use Rattle.local_play.specs.inner.Links.{IsReached}
+use Rattle.local_play.specs.inner.Lasting.{IsTurn, CanStand, Lasts, Takes, Stands}
 use Rattle.local_play.proofs.PackBits.{length-cleared, cleared_gone, cleared_kept, cleared_count}
 use Rattle.local_play.proofs.SetLemmas.{alone_bit}
 use Rattle.local_play.proofs.LinkLemmas.{linked_place}

@@ -10,7 +10,8 @@ use Rattle.std.proofs.lemmas.Nat.Bits.{bit_at-lt, bit_at_and, bit_at_or, bit_at_
 use Rattle.go_grid.specs.declared.grid.Cell.{Cell}
 use Rattle.go_grid.specs.declared.grid.Cell.TheVariants.{Empty, Black, White}
 use Rattle.local_play.specs.LocalPlay.{held_at, is_stone}
-use Rattle.local_play.specs.Packed.{code, pack, cleared}
+use Rattle.local_play.specs.Packed.{code, pack}
+use Rattle.local_play.specs.inner.Packed.{cleared}
 use Rattle.local_play.specs.Places.{HasBit}
 use Rattle.local_play.proofs.PackLemmas.{pack_nil, pack_cons}
 use Rattle.local_play.proofs.BitLemmas.{bit_cases}

@@ -12,9 +12,11 @@ use Rattle.go_grid.specs.declared.grid.Colour.{Colour}
 use Rattle.go_grid.specs.declared.grid.Colour.TheVariants as colour
 use Rattle.go_grid.specs.Board.{stone}
 use Rattle.local_play.specs.LocalPlay.{held_at, Holds, with_stone}
-use Rattle.local_play.specs.Packed.{code, pack, cleared}
+use Rattle.local_play.specs.Packed.{code, pack}
+use Rattle.local_play.specs.inner.Packed.{cleared}
 use Rattle.local_play.specs.declared.places.Places.{Places}
-use Rattle.local_play.specs.Places.{HasBit, Has, IsAlone, IsFirst, HasTwo}
+use Rattle.local_play.specs.Places.{HasBit, Has}
+use Rattle.local_play.specs.inner.Places.{IsAlone, IsFirst, HasTwo}
 use Rattle.local_play.proofs.BitLemmas.{bit_cases, has_zero, has_intersection, has_small}
 use Rattle.local_play.proofs.PackBits.{pack_bit, stone_bit, cleared_bits}
 
@@ -74,16 +76,6 @@ first_is set n alone some fits =
           let set' : bit_at n (2 * q) ≡ 1 = (alone.same q).1 h in
           absurd (omega (arith, none, set')),
     )
-
-pub not_two_of_none : (set : Places) → ((q : ℕ) → ¬ Has set q) → ¬ HasTwo set
-not_two_of_none set none two = none two.one two.has_one
-
-pub not_two : (set one rest : Places) (p : ℕ) → ((q : ℕ) → Has one q ↔ (q ≡ p)) → ((q : ℕ) → Has rest q ↔ (Has set q × ¬ Has one q))
-    → ((q : ℕ) → ¬ Has rest q) → ¬ HasTwo set
-not_two set one rest p is_one is_rest none two = elim (cases_eq two.one p) [
-  | inl e ↦ none two.other ((is_rest two.other).1 (two.has_other, λ h. two.apart (e ∙ sym ((is_one two.other).0 h))))
-  | inr ne ↦ none two.one ((is_rest two.one).1 (two.has_one, λ h. ne ((is_one two.one).0 h)))
-]
 
 pub are_two : (set one rest : Places) (p q : ℕ) → ((q : ℕ) → Has one q ↔ (q ≡ p)) → ((q : ℕ) → Has rest q ↔ (Has set q × ¬ Has one q))
     → Has set p → Has rest q → HasTwo set

@@ -3,4 +3,4 @@ pub mod Packed
 pub mod Places
 pub mod Links
 pub mod Moves
-pub mod Lasting
+pub mod inner

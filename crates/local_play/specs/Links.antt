@@ -1,12 +1,9 @@
 -- Links of places as sets of places, and what floods along them reach.
-use Rattle.std.specs.Prelude.{◌≡◌, ℕ, ◌<◌, ◌≤◌, ◌↔◌, ◌⊎◌, List, Some, length, slice_index_or}
-use Rattle.go_grid.specs.declared.grid.Colour.{Colour}
+use Rattle.std.specs.Prelude.{◌≡◌, ℕ, ◌<◌, ◌≤◌, ◌↔◌, List, length, slice_index_or}
 use Rattle.go_grid.specs.declared.grid.Colour.TheVariants as colour
 use Rattle.go_grid.specs.declared.region.Touch.{Touch}
-use Rattle.go_grid.specs.Path.{Leads}
 use Rattle.local_play.specs.declared.places.Places.{Places}
 use Rattle.local_play.specs.declared.links.Links.{Links}
-use Rattle.local_play.specs.declared.links.Reached.{Reached}
 use Rattle.local_play.specs.LocalPlay.{IsLinked, IsBeside}
 use Rattle.local_play.specs.Places.{Has}
 use Rattle.local_play.specs.declared.places.TheConstants.{MOST_PLACES}
@@ -18,18 +15,9 @@ pub record LinksWithin (touch : List Touch) : Type 0 where
   pub apart : (i : ℕ) → ¬ IsLinked touch i i
   pub back : (i j : ℕ) → IsLinked touch i j → IsLinked touch j i
 
--- one of the four links leads to the place
-abbrev pub IsLinkOf : Touch → ℕ → Type 0
-IsLinkOf t j = (t.up ≡ Some j) ⊎ ((t.left ≡ Some j) ⊎ ((t.right ≡ Some j) ⊎ (t.down ≡ Some j)))
-
 -- the set of the places that a place is linked to
 abbrev pub near_at : Links → ℕ → Places
 near_at links i = slice_index_or links.near i (record { 0 = 0 })
-
--- the set of the places next to an alive stone of the colour
-abbrev pub beside_of : Links → Colour → Places
-beside_of links colour.Black = links.black
-beside_of links colour.White = links.white
 
 -- the sets say what the touches of the places below `n` say
 pub record IsTableBelow (touch : List Touch) (links : Links) (n : ℕ) : Type 0 where
@@ -43,10 +31,3 @@ pub record IsTableBelow (touch : List Touch) (links : Links) (n : ℕ) : Type 0 
 pub record IsTable (touch : List Touch) (links : Links) : Type 0 where
   pub within : LinksWithin touch
   pub table : IsTableBelow touch links (length touch)
-
--- the places that walks over places of `within` reach from the seeds, and those linked to a reached one
-pub record IsReached (touch : List Touch) (seeds within : Places) (r : Reached) : Type 0 where
-  pub from : (q : ℕ) → Has r.places q
-      → (p : ℕ) × Has seeds p × Leads (IsLinked touch) (Has within) p q
-  pub all : (p q : ℕ) → Has seeds p → Leads (IsLinked touch) (Has within) p q → Has r.places q
-  pub near : (q : ℕ) → Has r.near q ↔ ((p : ℕ) × Has r.places p × IsLinked touch p q)

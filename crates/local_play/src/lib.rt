@@ -2,7 +2,7 @@
 //! decided by the region alone.
 #![tactic(auto)]
 
-mod expanding;
+mod expansions;
 mod links;
 mod local;
 mod local_move;
@@ -10,7 +10,7 @@ mod places;
 mod sides;
 mod steps;
 
-pub use expanding::{expand, list_moves};
+pub use expansions::{expand, list_moves};
 pub use links::Links;
 pub use local::{Local, start};
 pub use local_move::LocalMove;

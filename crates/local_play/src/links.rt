@@ -4,13 +4,14 @@ ghost use Rattle.std.specs.Prelude.{◌≡◌, ℕ, ◌+◌, ◌<◌, ◌≤◌,
 ghost use Rattle.go_grid.specs.declared.region.Touch.{Touch};
 ghost use Rattle.go_grid.specs.Region.{touch_at};
 ghost use Rattle.local_play.specs.Places.{Has};
-ghost use Rattle.local_play.specs.Links.{IsTable, IsTableBelow, IsLinkOf, IsReached, near_at, beside_of};
+ghost use Rattle.local_play.specs.Links.{IsTable, IsTableBelow, near_at};
+ghost use Rattle.local_play.specs.inner.Links.{IsLinkOf, IsReached, beside_of};
 
 use crate::places::{MOST_PLACES, Places};
 use go_grid::{Colour, Region, Touch};
 
 /// Which places of a region are linked, and next to which of them alive stones stand, as sets of places.
-#[derive(Clone, Copy)]
+#[derive(Clone, Copy, Debug)]
 pub struct Links {
     /// By place the places that it is linked to.
     near: [Places; MOST_PLACES],
@@ -24,9 +25,9 @@ pub struct Links {
 
 /// What a walk from some places reaches, and all places that a reached one is linked to.
 #[derive(Clone, Copy)]
-pub struct Reached {
-    pub places: Places,
-    pub near: Places,
+pub(crate) struct Reached {
+    pub(crate) places: Places,
+    pub(crate) near: Places,
 }
 
 /// The place that a link leads to, if there is one.

@@ -4,7 +4,8 @@ ghost use Rattle.std.specs.Prelude.{◌≡◌, ℕ, ◌+◌, ◌*◌, ◌<◌, �
 ghost use Rattle.go_grid.specs.declared.grid.Cell.{Cell};
 ghost use Rattle.go_grid.specs.declared.grid.Cell.TheVariants.{Empty};
 ghost use Rattle.local_play.specs.LocalPlay.{Holds, held_at, with_stone};
-ghost use Rattle.local_play.specs.Packed.{code, pack, IsUnpacked, cleared};
+ghost use Rattle.local_play.specs.Packed.{code, pack, IsUnpacked};
+ghost use Rattle.local_play.specs.inner.Packed.{cleared};
 ghost use Rattle.local_play.specs.Places.{Has};
 
 use crate::places::{Cells, MOST_PLACES, Places};
@@ -14,7 +15,7 @@ use std::marker::Model;
 
 /// A local position: two bits for each place of a region, those of place `i` being the bits `2i` and `2i + 1`, with 0 for
 /// empty, 1 for black and 2 for white.
-#[derive(Clone, Copy, PartialEq, Eq, Hash)]
+#[derive(Clone, Copy, Debug, PartialEq, Eq, Hash)]
 pub struct Local(pub u64);
 
 impl Model for Local {

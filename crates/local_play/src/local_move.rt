@@ -8,7 +8,7 @@ ghost use Rattle.go_grid.specs.Board.{other};
 ghost use Rattle.local_play.specs.Packed.{pack};
 ghost use Rattle.local_play.specs.Places.{Has};
 ghost use Rattle.local_play.specs.Links.{IsTable};
-ghost use Rattle.local_play.specs.Lasting.{CanStand, IsTurn, IsTried};
+ghost use Rattle.local_play.specs.inner.Lasting.{CanStand, IsTurn, IsTried};
 
 use crate::links::Links;
 use crate::local::Local;
@@ -16,28 +16,28 @@ use crate::places::{MOST_PLACES, Places};
 use crate::sides::Side;
 use go_grid::Colour;
 
-/// A legal local move: whose it is, its place in the region, the position after it, and the number of stones taken.
-#[derive(Clone, Copy)]
+/// A legal local move: the position after it, whose it is, its place in the region, and the number of stones taken.
+#[derive(Clone, Copy, Debug)]
 pub struct LocalMove {
+    pub next: Local,
     pub colour: Colour,
     pub place: u8,
-    pub next: Local,
     pub taken: u8,
 }
 
 /// The position that a stone is placed in, as its colour sees it.
 #[derive(Clone, Copy)]
-pub struct Turn {
-    pub from: Local,
-    pub colour: Colour,
-    pub empty: Places,
-    pub own: Side,
-    pub foe: Side,
+pub(crate) struct Turn {
+    pub(crate) from: Local,
+    pub(crate) colour: Colour,
+    pub(crate) empty: Places,
+    pub(crate) own: Side,
+    pub(crate) foe: Side,
 }
 
 impl Turn {
     /// Black's turn in a position.
-    pub fn of(links: &Links, from: Local) -> Turn
+    pub(crate) fn of(links: &Links, from: Local) -> Turn
         ensures black { result.colour ≡ Black }
         ensures turn { (touch : List Touch) (cells : List Cell) → IsTable touch links.now
             → length cells ≡ length touch → from ≡ pack cells → IsTurn touch cells result }
@@ -55,7 +55,8 @@ impl Turn {
     }
 
     /// The other colour's turn in the same position.
-    pub fn other(&self) -> Turn
+    #[inline(always)]
+    pub(crate) fn other(&self) -> Turn
         ensures colour { result.colour ≡ other self.now.colour }
         ensures turn { (touch : List Touch) (cells : List Cell) → IsTurn touch cells self.now
             → IsTurn touch cells result }
@@ -82,7 +83,8 @@ impl Turn {
     }
 
     /// The move at an empty place, where it is legal.
-    pub fn try_stone(&self, links: &Links, place: usize) -> Option<LocalMove>
+    #[inline(always)]
+    pub(crate) fn try_stone(&self, links: &Links, place: usize) -> Option<LocalMove>
         requires small { place < MOST_PLACES }
         ensures { (touch : List Touch) (cells : List Cell) → IsTable touch links.now
             → IsTurn touch cells self.now → Has self.now.empty place → IsTried touch cells place self.now.colour result }

@@ -1,7 +1,8 @@
 //! Sets of places, as bits.
 
 ghost use Rattle.std.specs.Prelude.{◌≡◌, ℕ, ◌<◌, ◌^◌, ◌↔◌, ◌⊎◌};
-ghost use Rattle.local_play.specs.Places.{Has, IsAlone, IsFirst, TellsEmpty, TellsTwo, IsCountOf};
+ghost use Rattle.local_play.specs.Places.{Has};
+ghost use Rattle.local_play.specs.inner.Places.{IsAlone, IsFirst, TellsEmpty, TellsTwo, IsCountOf};
 
 use go_grid::Cell;
 
@@ -16,19 +17,19 @@ const ALL: u64 = 0x5555_5555_5555_5555;
 
 /// A set of places: place `i` is the bit `2i`, which in a position's number says that a black stone stands there. The
 /// bits between say nothing.
-#[derive(Clone, Copy)]
-pub struct Places(pub u64);
+#[derive(Clone, Copy, Debug)]
+pub(crate) struct Places(pub(crate) u64);
 
 impl Places {
     /// No place.
-    pub fn none() -> Places
+    pub(crate) fn none() -> Places
         ensures { (q : ℕ) → Has result q → ⊥ }
     {
         Places(0)
     }
 
     /// One place.
-    pub fn of(place: usize) -> Places
+    pub(crate) fn of(place: usize) -> Places
         requires { place < MOST_PLACES }
         ensures { (q : ℕ) → Has result q ↔ (q ≡ place) }
     {
@@ -36,7 +37,7 @@ impl Places {
     }
 
     /// The places of either set.
-    pub fn union(self, other: Places) -> Places
+    pub(crate) fn union(self, other: Places) -> Places
         ensures either { (q : ℕ) → Has result q ↔ (Has self q ⊎ Has other q) }
         ensures more { (q : ℕ) → Has other q → ¬ Has self q → self.0 < result.0 }
     {
@@ -44,14 +45,14 @@ impl Places {
     }
 
     /// The places of both sets.
-    pub fn intersection(self, other: Places) -> Places
+    pub(crate) fn intersection(self, other: Places) -> Places
         ensures { (q : ℕ) → Has result q ↔ (Has self q × Has other q) }
     {
         Places(self.0 & other.0)
     }
 
     /// The places of the first set that aren't of the second.
-    pub fn without(self, other: Places) -> Places
+    pub(crate) fn without(self, other: Places) -> Places
         ensures rest { (q : ℕ) → Has result q ↔ (Has self q × ¬ Has other q) }
         ensures less { (q : ℕ) → Has self q → Has other q → result.0 < self.0 }
     {
@@ -59,7 +60,7 @@ impl Places {
     }
 
     /// The set with no bits between.
-    pub fn alone(self) -> u64
+    pub(crate) fn alone(self) -> u64
         ensures is { IsAlone self result }
         ensures small { result < 2 ^ 63 }
     {
@@ -67,7 +68,7 @@ impl Places {
     }
 
     /// Whether there is no place.
-    pub fn is_empty(self) -> bool
+    pub(crate) fn is_empty(self) -> bool
         ensures { TellsEmpty self result }
     {
         match self.first() {
@@ -77,7 +78,7 @@ impl Places {
     }
 
     /// The lowest place.
-    pub fn first(self) -> Option<usize>
+    pub(crate) fn first(self) -> Option<usize>
         ensures { IsFirst self result }
     {
         let bits = self.alone();
@@ -88,7 +89,7 @@ impl Places {
     }
 
     /// Whether there are two places or more.
-    pub fn has_two(self) -> bool
+    pub(crate) fn has_two(self) -> bool
         ensures { TellsTwo self result }
     {
         let Some(lowest) = self.first() else {
@@ -101,7 +102,7 @@ impl Places {
     }
 
     /// The number of places.
-    pub fn count(self) -> u8
+    pub(crate) fn count(self) -> u8
         ensures { IsCountOf self result }
     {
         self.alone().count_ones() as u8

@@ -6,7 +6,7 @@ ghost use Rattle.go_grid.specs.declared.grid.Colour.{Colour};
 ghost use Rattle.go_grid.specs.declared.region.Touch.{Touch};
 ghost use Rattle.local_play.specs.Packed.{pack};
 ghost use Rattle.local_play.specs.Links.{IsTable};
-ghost use Rattle.local_play.specs.Lasting.{IsSide, IsPlaced, IsLasting, AreEmpty, HasSupport};
+ghost use Rattle.local_play.specs.inner.Lasting.{IsSide, IsPlaced, IsLasting, AreEmpty, HasSupport};
 
 use crate::links::{Links, Reached};
 use crate::local::Local;
@@ -15,12 +15,12 @@ use go_grid::Colour;
 
 /// What a colour has in a position.
 #[derive(Clone, Copy)]
-pub struct Side {
-    pub stones: Places,
+pub(crate) struct Side {
+    pub(crate) stones: Places,
     /// The stones whose chains stand next to an alive stone of the colour, or have two liberties: no one stone takes them.
-    pub lasting: Places,
+    pub(crate) lasting: Places,
     /// The places next to an alive stone of the colour.
-    pub beside: Places,
+    pub(crate) beside: Places,
 }
 
 /// Whether a chain lasts.
@@ -33,13 +33,13 @@ fn lasts(chain: &Reached, beside: Places, empty: Places) -> bool
     chain.near.intersection(empty).has_two()
 }
 
-/// The stones whose chains last.
+/// The stones whose chains last. One next to an alive stone does for itself, and each other's chain is judged.
 fn lasting(links: &Links, stones: Places, beside: Places, empty: Places) -> Places
     ensures { (touch : List Touch) (cells : List Cell) (c : Colour) → IsTable touch links.now
         → IsPlaced touch cells c stones beside empty → IsLasting touch cells c result }
 {
-    let mut lasting = Places::none();
-    let mut rest = stones;
+    let mut lasting = stones.intersection(beside);
+    let mut rest = stones.without(beside);
     'judging: while let Some(place) = rest.first() {
         let chain = links.flood(Places::of(place), stones);
         if lasts(&chain, beside, empty) {
@@ -52,7 +52,7 @@ fn lasting(links: &Links, stones: Places, beside: Places, empty: Places) -> Plac
 
 impl Side {
     /// What the colour has in a position with the empty places.
-    pub fn of(links: &Links, position: Local, colour: Colour, empty: Places) -> Side
+    pub(crate) fn of(links: &Links, position: Local, colour: Colour, empty: Places) -> Side
         ensures { (touch : List Touch) (cells : List Cell) → IsTable touch links.now
             → length cells ≡ length touch → position ≡ pack cells → AreEmpty touch cells empty
             → IsSide touch cells colour result }

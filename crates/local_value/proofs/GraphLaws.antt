@@ -17,7 +17,8 @@ use Rattle.local_play.specs.Packed.{pack}
 use Rattle.local_graph.specs.declared.cycle.CycleMove.{CycleMove}
 use Rattle.local_graph.specs.declared.graph.Edge.{Edge}
 use Rattle.local_graph.specs.LocalGraph.{HasMoves}
-use Rattle.local_graph.specs.Graph.{Graph, edges_at}
+use Rattle.local_graph.specs.Graph.{Graph}
+use Rattle.local_graph.specs.inner.Graph.{edges_at}
 use Rattle.local_graph.proofs.EdgeListLemmas.{node_inside}
 use Rattle.local_graph.proofs.PlayLemmas.{plays_more, plays_long, one_after}
 use Rattle.local_value.specs.Values.{IsGraphOf, IsPlaceOf}

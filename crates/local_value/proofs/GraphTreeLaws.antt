@@ -4,7 +4,8 @@ use Rattle.go_grid.specs.declared.grid.Cell.{Cell}
 use Rattle.go_grid.specs.declared.grid.Colour.{Colour}
 use Rattle.go_grid.specs.Region.{Region}
 use Rattle.local_play.specs.LocalPlay.{IsLocalMove, IsNumberTaken}
-use Rattle.local_graph.specs.Graph.{Graph, edges_at}
+use Rattle.local_graph.specs.Graph.{Graph}
+use Rattle.local_graph.specs.inner.Graph.{edges_at}
 use Rattle.local_graph.proofs.PlayLemmas.{plays_long}
 use Rattle.short_games.specs.Tree.{Tree, Has}
 use Rattle.short_games.specs.Order.{◌≡ᵍ◌}

@@ -12,7 +12,8 @@ use Rattle.go_grid.specs.declared.region.Touch.{Touch}
 use Rattle.go_grid.specs.Board.{other, stone}
 use Rattle.go_grid.specs.Region.{touch_at}
 use Rattle.go_grid.proofs.PathLemmas.{leads_end}
-use Rattle.local_play.specs.LocalPlay.{held_at, is_beside, is_stone, with_stone, Holds, InLocalChain, IsBeside, IsFree, IsLinked, IsLocalMove, IsNumberTaken, IsOpen, IsRemoved}
+use Rattle.local_play.specs.LocalPlay.{held_at, is_beside, is_stone, with_stone, Holds, IsBeside, IsLinked, IsLocalMove, IsNumberTaken}
+use Rattle.local_play.specs.inner.LocalPlay.{InLocalChain, IsFree, IsOpen, IsRemoved}
 use Rattle.local_value.specs.LocalGame.{Step}
 use Rattle.local_value.specs.PositionTree.{IsStep}
 use Rattle.go_grid.proofs.Decided.{Decided, alike, both, denied, either, leads_or_not, some_below}

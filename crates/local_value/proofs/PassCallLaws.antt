@@ -1,9 +1,11 @@
 -- A step of the pass, with the lists as the program lends them.
 use Rattle.std.proofs.Common.{ℕ, ◌+◌, ◌-◌, ◌*◌, ◌^◌, ◌≡◌, ◌<◌, ◌≤◌, sym, ap, ◌∙◌, subst, arith, List, length, get_or, set, Contains}
+use Rattle.local_graph.specs.declared.graph.TheConstants.{MOST_POSITIONS}
 use Rattle.std.proofs.Math.Nat.{mul-le-mul_right}
 use Rattle.go_grid.specs.Region.{Region}
 use Rattle.local_graph.specs.declared.graph.Edge.{Edge}
-use Rattle.local_graph.specs.Graph.{Graph, edges_at}
+use Rattle.local_graph.specs.Graph.{Graph}
+use Rattle.local_graph.specs.inner.Graph.{edges_at}
 use Rattle.short_games.specs.Tree.{Tree, tree_at}
 use Rattle.game_store.specs.Meaning.{Extends}
 use Rattle.short_games.specs.Parts.{HasMoreParts}
@@ -26,13 +28,13 @@ module _ (r : Region) (g : Graph) (of : IsGraphOf r g) (limit : ℕ) (Ts : List 
   pub call-noted : (e : Edge) → Contains es e → IsNoted Ts vs e.next
   call-noted e h = subst (λ z. IsNoted Ts z e.next) (sym v) (edges_noted r g of limit Ts ids k pass among e (subst (λ z. Contains z e) same h))
 
-  pub call-small : length g.positions ≤ 1000000 → AreWithinAfter (2 ^ 120 - 1) Ts vs es
+  pub call-small : length g.positions ≤ MOST_POSITIONS → AreWithinAfter (2 ^ 120 - 1) Ts vs es
   call-small few = subst (λ z. AreWithinAfter (2 ^ 120 - 1) Ts z es) (sym v) (subst (AreWithinAfter (2 ^ 120 - 1) Ts ids) (sym same) small)
     where
       small : AreWithinAfter (2 ^ 120 - 1) Ts ids (edges_at g.edges (place g k))
       small e h x n =
           let size = edges_within r g of limit Ts ids k pass among e h x n in
-          let most : k * length r.cells ≤ 1000000 * length r.cells = mul-le-mul_right (length r.cells) (omega (arith, among, order_short r g of limit, few)) in
+          let most : k * length r.cells ≤ MOST_POSITIONS * length r.cells = mul-le-mul_right (length r.cells) (omega (arith, among, order_short r g of limit, few)) in
           omega (arith, size, most, of.few)
 
   pub call-step : (Us : List Tree) (id : ℕ) → Extends Ts Us → ((G : Tree) → HasEdges Ts vs es G → IsCanonicalId Us G id)

@@ -8,7 +8,8 @@ use Rattle.std.proofs.lemmas.List.{get_or-set_same, get_or-set_other, length-set
 use Rattle.go_grid.specs.declared.grid.Colour.{Colour}
 use Rattle.go_grid.specs.Region.{Region}
 use Rattle.local_graph.specs.declared.graph.Edge.{Edge}
-use Rattle.local_graph.specs.Graph.{Graph, edges_at}
+use Rattle.local_graph.specs.Graph.{Graph}
+use Rattle.local_graph.specs.inner.Graph.{edges_at}
 use Rattle.short_games.specs.Tree.{Tree, node, none, Has, tree_at}
 use Rattle.short_games.specs.Order.{◌≡ᵍ◌}
 use Rattle.short_games.specs.Sum.{◌+ᵍ◌}

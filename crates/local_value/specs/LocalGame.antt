@@ -22,7 +22,7 @@ module _ (P : Type 0) (moves : Colour → P → List (Step P)) where
   tree_within zero p = node none none
   tree_within (suc n) p = node (after (λ q. tree_within n q) Black (moves Black p)) (after (λ q. tree_within n q) White (moves White p))
 
-  -- some local move of either player leads from the one to the other
+  -- some local move of either player leads from the one position to the other
   abbrev pub StepsTo : P → P → Type 0
   StepsTo p q = (c : Colour) × ((x : Step P) × Contains (moves c p) x × (x.to ≡ q))
 

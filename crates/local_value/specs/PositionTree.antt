@@ -20,12 +20,13 @@ module _ (P : Type 0) (IsMove : Colour → P → Step P → Type 0) where
       → ((X : Tree) → Has (options c G) X → (x : Step P) × ((Y : Tree) × IsMove c p x × IsTree n x.to Y × (X ≡ Y +ᵍ gain c x.taken)))
       × ((x : Step P) → IsMove c p x → (Y : Tree) × IsTree n x.to Y × Has (options c G) (Y +ᵍ gain c x.taken))
 
--- the positions of the list follow one another by local moves
 module _ (P : Type 0) (StepsTo : P → P → Type 0) where
+  -- the positions of the list follow one another by local moves, the first of them after p
   abbrev pub IsPlay : P → List P → Type 0
   IsPlay p [] = Unit {0}
   IsPlay p (q ∷ qs) = StepsTo p q × IsPlay q qs
 
+  -- no play from p has more than n moves
   abbrev pub PlaysAreShort : ℕ → P → Type 0
   PlaysAreShort n p = (qs : List P) → IsPlay p qs → length qs ≤ n
 

@@ -16,7 +16,7 @@ pub record IsGraphOf (r : Region) (g : Graph) : Type 0 where
   pub order : IsOrder g.edges g.order
   pub no_cycle : HasNoCycle r.touch r.cells
 
--- the place is that of these cells
+-- the cells are those of the position at the place of the region's graph
 pub record IsPlaceOf (r : Region) (g : Graph) (i : ℕ) (cells : List Cell) : Type 0 where
   pub inside : i < length g.positions
   pub reachable : IsReachable r.touch r.cells cells

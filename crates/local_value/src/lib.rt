@@ -3,10 +3,6 @@
 
 mod laws;
 mod memo;
-#[cfg(test)]
-mod strip;
-#[cfg(test)]
-mod tests;
 mod values;
 
 pub use laws::position_tree_laws;

@@ -61,7 +61,8 @@ fn recall_sum(sums: &Sums, game: GameId, stones: i32) -> Option<GameId>
 
 /// Forgets all sums where there are too many.
 fn limit_sums(sums: &mut Sums)
-    ensures { (Ts : List Tree) → AreSumsRight Ts (recalled_sum sums.old) → AreSumsRight Ts (recalled_sum sums.new) }
+    ensures { (Ts : List Tree) → AreSumsRight Ts (recalled_sum sums.old)
+        → AreSumsRight Ts (recalled_sum sums.new) }
 {
     if sums.len() < MOST_SUMS {
         return;
@@ -71,13 +72,15 @@ fn limit_sums(sums: &mut Sums)
 
 /// Remembers a sum, or leaves it out where memory is wanting.
 fn remember_sum(sums: &mut Sums, game: GameId, stones: i32, sum: GameId)
-    ensures { (Ts : List Tree) → IsStonesSum Ts game stones sum → AreSumsRight Ts (recalled_sum sums.old) → AreSumsRight Ts (recalled_sum sums.new) }
+    ensures { (Ts : List Tree) → IsStonesSum Ts game stones sum
+        → AreSumsRight Ts (recalled_sum sums.old) → AreSumsRight Ts (recalled_sum sums.new) }
 {
     limit_sums(sums);
     let _kept = sums.insert((game, stones), sum);
 }
 
 /// The canonical form of the sum of a game and so many stones.
+#[inline(never)]
 pub(crate) fn with_stones(
     alloc: Global,
     store: &mut Store,
@@ -88,7 +91,8 @@ pub(crate) fn with_stones(
     requires game { game < length store.old }
     requires sums { AreSumsRight store.old (recalled_sum sums.old) }
     ensures sum { IfOk result (λ id. IsStonesSum store.new game stones id) }
-    ensures refusal { IfErr result (λ error. IsSumRefusal (tree_at store.old game +ᵍ number_tree (stones_units stones)) error) }
+    ensures refusal { IfErr result (λ error. IsSumRefusal
+        (tree_at store.old game +ᵍ number_tree (stones_units stones)) error) }
     ensures sums { OnOk result (AreSumsRight store.new (recalled_sum sums.new)) }
     ensures kept { Extends store.old store.new }
 {
@@ -109,7 +113,8 @@ fn recall_form(forms: &Forms, options: &Options) -> Option<GameId>
 
 /// Forgets all forms where there are too many.
 fn limit_forms(forms: &mut Forms)
-    ensures { (Ts : List Tree) (limit : ℕ) → AreFormsRight Ts limit (recalled_form forms.old) → AreFormsRight Ts limit (recalled_form forms.new) }
+    ensures { (Ts : List Tree) (limit : ℕ) → AreFormsRight Ts limit (recalled_form forms.old)
+        → AreFormsRight Ts limit (recalled_form forms.new) }
 {
     if forms.len() < MOST_FORMS {
         return;
@@ -119,7 +124,8 @@ fn limit_forms(forms: &mut Forms)
 
 /// The same options.
 fn copy_of(options: &Options) -> Result<Options, AllocError>
-    ensures { IfOk result (λ copy. (copy.left.items ≡ options.now.left.items) × (copy.right.items ≡ options.now.right.items)) }
+    ensures { IfOk result (λ copy. (copy.left.items ≡ options.now.left.items)
+        × (copy.right.items ≡ options.now.right.items)) }
 {
     let left = options.left.clone()?;
     let right = options.right.clone()?;
@@ -128,7 +134,10 @@ fn copy_of(options: &Options) -> Result<Options, AllocError>
 
 /// Remembers a form, or leaves it out where memory is wanting.
 fn remember_form(forms: &mut Forms, options: &Options, id: GameId)
-    ensures { (Ts : List Tree) (limit : ℕ) → IsFormOf Ts limit options.now.left.items options.now.right.items id → AreFormsRight Ts limit (recalled_form forms.old) → AreFormsRight Ts limit (recalled_form forms.new) }
+    ensures { (Ts : List Tree) (limit : ℕ)
+        → IsFormOf Ts limit options.now.left.items options.now.right.items id
+        → AreFormsRight Ts limit (recalled_form forms.old)
+        → AreFormsRight Ts limit (recalled_form forms.new) }
 {
     limit_forms(forms);
     let Ok(key) = copy_of(options) else {
@@ -148,8 +157,10 @@ pub(crate) fn form_of(
     requires left { AreIds store.old options.now.left.items }
     requires right { AreIds store.old options.now.right.items }
     requires forms { AreFormsRight store.old parts_limit (recalled_form forms.old) }
-    ensures form { IfOk result (λ id. IsFormOf store.new parts_limit options.now.left.items options.now.right.items id) }
-    ensures refusal { IfErr result (λ error. IsCause (listed store.old options.now.left.items options.now.right.items) parts_limit error) }
+    ensures form { IfOk result
+        (λ id. IsFormOf store.new parts_limit options.now.left.items options.now.right.items id) }
+    ensures refusal { IfErr result (λ error. IsCause
+        (listed store.old options.now.left.items options.now.right.items) parts_limit error) }
     ensures forms { OnOk result (AreFormsRight store.new parts_limit (recalled_form forms.new)) }
     ensures kept { Extends store.old store.new }
 {

@@ -17,52 +17,12 @@ use crate::memo::{Memo, Options, Sums, form_of, with_stones};
 use game_canon::FormError;
 use game_store::{GameId, Store};
 use go_grid::Colour;
-use local_graph::{Edge, Graph};
+use item_list::ItemList;
+use local_graph::{Edge, Graph, MOST_POSITIONS};
 use std::alloc::{AllocError, Global};
-use std::marker::Model;
 
-/// Ids of a store, one for each position of a graph.
-#[derive(Debug, Drop)]
-pub struct Values {
-    ids: Vec<GameId>,
-}
-
-impl Model for Values {
-    ghost use Rattle.std.specs.Prelude.{ℕ, List};
-
-    ghost Value = { List ℕ };
-
-    ghost view = { λ v. v.ids.items };
-}
-
-impl Values {
-    ghost use Rattle.std.specs.Prelude.{◌≡◌, [], ◌∷◌, ◌++◌, OnOk, OnErr};
-
-    /// No ids.
-    pub fn new(alloc: Global) -> Self
-        ensures { result ≡ [] }
-    {
-        Values {
-            ids: Vec::new(alloc),
-        }
-    }
-
-    /// Appends the id of one more position, or leaves the list as it was where memory is refused.
-    pub fn push(&mut self, id: GameId) -> Result<(), AllocError>
-        ensures ok { OnOk result (self.new ≡ self.old ++ id ∷ []) }
-        ensures err { OnErr result (self.new ≡ self.old) }
-    {
-        self.ids.push(id)?;
-        Ok(())
-    }
-
-    /// The ids by place.
-    pub fn as_slice(&self) -> &[GameId]
-        ensures { result.now ≡ self.now }
-    {
-        &self.ids
-    }
-}
+/// Ids of a store, one for each position of a graph, by its place.
+pub type Values = ItemList<GameId>;
 
 /// So many stones to the good of the player, as stones to the good of Black.
 fn credit(player: Colour, stones: u8) -> i32
@@ -77,6 +37,7 @@ fn credit(player: Colour, stones: u8) -> i32
 }
 
 /// The value after an edge: that of the position that it leads to, with the stones that it takes.
+#[inline(always)]
 fn value_after(
     alloc: Global,
     store: &mut Store,
@@ -100,6 +61,7 @@ fn value_after(
     match with_stones(alloc, store, sums, before, taken) {
         Ok(id) => Ok(id),
         Err(FormError::Memory(cause)) => Err(cause),
+        // A sum with a whole number of stones has no more parts, and its numbers stay within the bounds.
         Err(FormError::Parts) => unreachable!(),
         Err(FormError::Bounds) => unreachable!(),
     }
@@ -135,7 +97,9 @@ fn list_options(
     requires noted { (e : Edge) → Contains edges.now e → IsNoted store.old ids.now e.next }
     requires small { AreWithinAfter (2 ^ 120 - 1) store.old ids.now edges.now }
     requires sums { AreSumsRight store.old (recalled_sum sums.old) }
-    ensures options { OnOk result (AreBothAfter store.old store.new ids.now edges.now options.new.left.items options.new.right.items) }
+    ensures options { OnOk result
+        (AreBothAfter store.old store.new ids.now edges.now options.new.left.items
+        options.new.right.items) }
     ensures sums { OnOk result (AreSumsRight store.new (recalled_sum sums.new)) }
     ensures kept { Extends store.old store.new }
 {
@@ -163,10 +127,13 @@ fn value_of(
     requires noted { (e : Edge) → Contains edges.now e → IsNoted store.old ids.now e.next }
     requires small { AreWithinAfter (2 ^ 120 - 1) store.old ids.now edges.now }
     requires memo { IsMemoRight store.old parts_limit memo.old }
-    ensures value { IfOk result (λ id. (G : Tree) → HasEdges store.old ids.now edges.now G → IsCanonicalId store.new G id) }
+    ensures value { IfOk result (λ id. (G : Tree) → HasEdges store.old ids.now edges.now G
+        → IsCanonicalId store.new G id) }
     ensures parts { IfOk result (λ id. HasMoreParts (tree_at store.new id) parts_limit → ⊥) }
-    ensures sizes { IfOk result (λ id. (b : ℕ) → AreWithinAfter b store.old ids.now edges.now → AreWithin (b + 2 ^ 60) (tree_at store.new id)) }
-    ensures refusal { IfErr result (λ error. (G : Tree) → HasEdges store.old ids.now edges.now G → IsCause G parts_limit error) }
+    ensures sizes { IfOk result (λ id. (b : ℕ) → AreWithinAfter b store.old ids.now edges.now
+        → AreWithin (b + 2 ^ 60) (tree_at store.new id)) }
+    ensures refusal { IfErr result (λ error. (G : Tree) → HasEdges store.old ids.now edges.now G
+        → IsCause G parts_limit error) }
     ensures memo { OnOk result (IsMemoRight store.new parts_limit memo.new) }
     ensures kept { Extends store.old store.new }
 {
@@ -185,12 +152,18 @@ pub fn value_all(
     parts_limit: u32,
 ) -> Result<Values, FormError>
     requires graph { (r : Region) × IsGraphOf r graph.now }
-    requires few { length graph.now.positions ≤ 1000000 }
-    ensures values { IfOk result (λ values. (r : Region) → IsGraphOf r graph.now → AreValues r graph.now store.new values) }
-    ensures sizes { IfOk result (λ values. (r : Region) → IsGraphOf r graph.now → (i : ℕ) → i < length values → AreWithin ((length graph.now.positions * length r.cells) * 2 ^ 60) (tree_at store.new (slice_index values i))) }
-    ensures parts { IfOk result (λ values. (i : ℕ) → i < length values → HasMoreParts (tree_at store.new (slice_index values i)) parts_limit → ⊥) }
-    ensures bounds { IfOk result (λ values. (i : ℕ) → i < length values → HasNumberPastBounds (tree_at store.new (slice_index values i)) → ⊥) }
-    ensures refusal { IfErr result (λ error. (r : Region) → IsGraphOf r graph.now → IsValueRefusal r graph.now parts_limit error) }
+    requires few { length graph.now.positions ≤ MOST_POSITIONS }
+    ensures values { IfOk result (λ values. (r : Region) → IsGraphOf r graph.now
+        → AreValues r graph.now store.new values) }
+    ensures sizes { IfOk result (λ values. (r : Region) → IsGraphOf r graph.now → (i : ℕ)
+        → i < length values → AreWithin ((length graph.now.positions * length r.cells) * 2 ^ 60)
+        (tree_at store.new (slice_index values i))) }
+    ensures parts { IfOk result (λ values. (i : ℕ) → i < length values
+        → HasMoreParts (tree_at store.new (slice_index values i)) parts_limit → ⊥) }
+    ensures bounds { IfOk result (λ values. (i : ℕ) → i < length values
+        → HasNumberPastBounds (tree_at store.new (slice_index values i)) → ⊥) }
+    ensures refusal { IfErr result (λ error. (r : Region) → IsGraphOf r graph.now
+        → IsValueRefusal r graph.now parts_limit error) }
     ensures kept { Extends store.old store.new }
 {
     let mut ids = vec![in alloc; 0; graph.len()]?;
@@ -213,5 +186,5 @@ pub fn value_all(
         ids[*place] = id;
     }
     let _count = store.len();
-    Ok(Values { ids })
+    Ok(Values::from(ids))
 }

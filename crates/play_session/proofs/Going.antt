@@ -1,15 +1,17 @@
 -- A session as far as it was played.
 use Rattle.std.proofs.Common.{◌≡◌, ℕ, suc, ◌<◌, List, [], ◌++◌, refl, ap, ◌∙◌, subst, Option, Some, None, Ok, Err}
+use Rattle.desk_io.specs.declared.lines.TheConstants.{MOST_LINES}
 use Rattle.std.specs.Io.KnownBytes.{append_known}
 use Rattle.play_session.specs.declared.end.SessionEnd.{SessionEnd}
 use Rattle.play_session.specs.declared.fault.Fault.{Fault}
 use Rattle.play_session.specs.declared.fault.Fault.TheVariants.{Read, Write}
 use Rattle.play_session.specs.Session.{Ends, Turns, IsToAnswer}
-use Rattle.play_session.specs.Written.{SessionState, standing, TurnWritten, IsPlayed, IsPlayedTo}
+use Rattle.play_session.specs.Written.{Session, standing, IsPlayed}
+use Rattle.play_session.specs.inner.Written.{TurnWritten, IsPlayedTo}
 use Rattle.play_session.proofs.Turns.{append_none, append_twice}
 
 -- turns that were written lead from the one session to the other
-pub record Went (start : SessionState) (bytes : List ℕ) (holds₀ : Option (List ℕ)) (session : SessionState) (read : ℕ) (left holds : Option (List ℕ)) : Type 0 where
+pub record Went (start : Session) (bytes : List ℕ) (holds₀ : Option (List ℕ)) (session : Session) (read : ℕ) (left holds : Option (List ℕ)) : Type 0 where
   pub number : ℕ
   pub rest : List ℕ
   pub text : List ℕ
@@ -17,13 +19,13 @@ pub record Went (start : SessionState) (bytes : List ℕ) (holds₀ : Option (Li
   pub turns : Turns start.engine number (standing start 0 bytes) text (standing session read rest)
   pub written : holds ≡ append_known holds₀ text
 
-pub record Going (start : SessionState) (left₀ holds₀ : Option (List ℕ)) (session : SessionState) (read : ℕ) (left holds : Option (List ℕ)) : Type 0 where
+pub record Going (start : Session) (left₀ holds₀ : Option (List ℕ)) (session : Session) (read : ℕ) (left holds : Option (List ℕ)) : Type 0 where
   pub told : (bytes : List ℕ) → left₀ ≡ Some bytes → Went start bytes holds₀ session read left holds
 
-pub going_start : (start : SessionState) (left holds : Option (List ℕ)) → Going start left holds start 0 left holds
+pub going_start : (start : Session) (left holds : Option (List ℕ)) → Going start left holds start 0 left holds
 going_start start left holds = record { told = λ bytes e. record { number = 0; rest = bytes; text = []; unread = e; turns = (refl, refl); written = append_none holds } }
 
-module _ (start : SessionState) (left₀ holds₀ : Option (List ℕ)) (session : SessionState) (read : ℕ) (left holds : Option (List ℕ)) (w : Going start left₀ holds₀ session read left holds) (new : SessionState) (count : ℕ) (left' holds' : Option (List ℕ)) where
+module _ (start : Session) (left₀ holds₀ : Option (List ℕ)) (session : Session) (read : ℕ) (left holds : Option (List ℕ)) (w : Going start left₀ holds₀ session read left holds) (new : Session) (count : ℕ) (left' holds' : Option (List ℕ)) where
   joined : (bytes a b : List ℕ) → holds ≡ append_known holds₀ a → holds' ≡ append_known holds b → holds' ≡ append_known holds₀ (a ++ b)
   joined bytes a b e f = f ∙ ap (λ h. append_known h b) e ∙ append_twice holds₀ a b
 
@@ -58,7 +60,7 @@ module _ (start : SessionState) (left₀ holds₀ : Option (List ℕ)) (session 
         text = x.text;
         read = count;
         rest = t.0;
-        waits = (x.number, subst (Turns start.engine x.number (standing start 0 bytes) x.text) same x.turns, subst (λ s. IsToAnswer start.engine s.state) same t.2, subst (λ s. s.read < 10000) same t.3);
+        waits = (x.number, subst (Turns start.engine x.number (standing start 0 bytes) x.text) same x.turns, subst (λ s. IsToAnswer start.engine s.state) same t.2, subst (λ s. s.read < MOST_LINES) same t.3);
         written = t.5 ∙ x.written;
         unread = t.1;
       }

@@ -1,6 +1,4 @@
 pub mod Sides
-pub mod Spaces
-pub mod Trimming
 pub mod Turns
 pub mod Going
 pub mod Wins

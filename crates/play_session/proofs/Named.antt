@@ -5,16 +5,16 @@ use Rattle.std.proofs.lemmas.Bool.{ne_eqb}
 use Rattle.go_grid.specs.declared.grid.Colour.{Colour}
 use Rattle.go_grid.specs.declared.grid.Colour.TheVariants as colour
 use Rattle.go_grid.specs.Board.{Board, other}
-use Rattle.report.specs.Lines.{word_line}
-use Rattle.report.specs.Solution.{move_word, winner_line}
-use Rattle.whole_rules.specs.WholeGame.{State}
+use Rattle.board_words.specs.Words.{winner_line, word_line}
+use Rattle.whole_rules.specs.Moves.{move_word}
+use Rattle.whole_rules.specs.WholeGame.{Whole}
 use Rattle.whole_rules.specs.declared.states.Move.{Move}
 use Rattle.whole_rules.specs.declared.states.Move.TheVariants.{Stone, Spend, Half}
 use Rattle.whole_rules.specs.declared.states.MoveError.{MoveError}
 use Rattle.whole_rules.specs.declared.states.MoveError.TheVariants.{NotContested, Occupied, Suicide, EmptyPurse, NoHalf}
 use Rattle.play_session.specs.declared.end.SessionEnd.{SessionEnd}
 use Rattle.play_session.specs.declared.end.SessionEnd.TheVariants.{Won, Lost, InputEnded, ReadFault, WriteFault, TooManyLines}
-use Rattle.play_session.specs.Session.{Standing, Answers, Turn, Turns, Ends, IsNextLine, engine_line, played_line, refused_line, refusal_word, input_line}
+use Rattle.play_session.specs.Session.{Standing, AnswersOpponent, Turn, Turns, Ends, IsNextLine, engine_line, played_line, refused_line, refusal_word, input_line}
 use Rattle.play_session.specs.Laws.{IsLineIn, KeepsWin}
 
 -- no line of the text begins with a `w`; the text itself begins a line, or doesn't
@@ -86,7 +86,7 @@ named i j =
       subst (λ k. ends k ((97 + j) ∷ 10 ∷ []) ≡ true) (sym a) (subst (λ k. ends k (10 ∷ []) ≡ true) (sym b) refl),
     )
 
-move_calm : (columns : ℕ) (m : Move) → IsCalm false (move_word columns (Some m) ++ codes "\n")
+move_calm : (columns : ℕ) (m : Move) → IsCalm false (move_word columns m ++ codes "\n")
 move_calm columns (Stone p) = named (p % columns) (p / columns)
 move_calm columns Spend = (refl, refl)
 move_calm columns Half = (refl, refl)
@@ -111,7 +111,7 @@ line_calm : IsCalm true (refused_line (codes "line"))
 unfolding word_line
 line_calm = (refl, refl)
 
-answer_calm : (s t : State) (asked : Option Move) (text : List ℕ) → Answers s asked text t → IsCalm true text
+answer_calm : (s t : Whole) (asked : Option Move) (text : List ℕ) → AnswersOpponent s asked text t → IsCalm true text
 answer_calm s t None text a = subst (IsCalm true) (sym a.0) line_calm
 answer_calm s t (Some m) text (Ok u, h, e) = subst (IsCalm true) (sym e) (played_calm s.board m)
 answer_calm s t (Some m) text (Err f, h, e) = subst (IsCalm true) (sym e) (refused_calm f)

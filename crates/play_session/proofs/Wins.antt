@@ -3,11 +3,10 @@ use Rattle.std.proofs.Common.{◌≡◌, ◌≢◌, ◌⊎◌, ℕ, zero, suc, L
 use Rattle.go_grid.specs.declared.grid.Colour.{Colour}
 use Rattle.go_grid.specs.declared.grid.Colour.TheVariants as colour
 use Rattle.go_grid.specs.Board.{other}
-use Rattle.report.specs.Lines.{word_line}
-use Rattle.report.specs.Solution.{winner_line}
+use Rattle.board_words.specs.Words.{winner_line, word_line}
 use Rattle.whole_rules.specs.FirstWinningMove.{IsWinner}
 use Rattle.whole_rules.specs.PlainRecursion.{MoverWins, MoverLoses}
-use Rattle.whole_rules.specs.WholeGame.{State, Leads, IsLegal, IsMove, IsFirstMove}
+use Rattle.whole_rules.specs.WholeGame.{Whole, Leads, IsLegal, IsMove, IsFirstMove}
 use Rattle.whole_rules.specs.declared.states.Move.{Move}
 use Rattle.whole_rules.proofs.PlainLaws.{move_same, move_turn}
 use Rattle.play_session.proofs.Sides.{other_not, other_twice}
@@ -15,45 +14,45 @@ use Rattle.play_session.specs.declared.fault.Fault.{Fault}
 use Rattle.play_session.specs.declared.end.SessionEnd.{SessionEnd}
 use Rattle.play_session.specs.declared.end.SessionEnd.TheVariants.{Won, Lost, InputEnded, ReadFault, WriteFault, TooManyLines}
 use Rattle.endgame_solver.specs.Solved.{HasMove, Chooses}
-use Rattle.play_session.specs.Session.{Standing, EngineMoves, Answers, Turn, Turns, Ends, input_line}
-use Rattle.play_session.specs.Written.{IsStep}
+use Rattle.play_session.specs.Session.{Standing, EngineMoves, AnswersOpponent, Turn, Turns, Ends, input_line}
+use Rattle.play_session.specs.inner.Written.{MovesOrStays}
 use Rattle.play_session.specs.Laws.{KeepsWin, WinIsKept}
 
-mover_wins : (s : State) (e : Colour) → s.side ≡ e → IsWinner s e → MoverWins State Leads s
+mover_wins : (s : Whole) (e : Colour) → s.side ≡ e → IsWinner s e → MoverWins Whole Leads s
 mover_wins s e turn (inl w) = w.1
 mover_wins s e turn (inr w) = absurd (other_not s.side (turn ∙ w.0))
 
-mover_loses : (s : State) (e : Colour) → s.side ≡ other e → IsWinner s e → MoverLoses State Leads s
+mover_loses : (s : Whole) (e : Colour) → s.side ≡ other e → IsWinner s e → MoverLoses Whole Leads s
 mover_loses s e turn (inl w) = absurd (other_not e (w.0 ∙ turn))
 mover_loses s e turn (inr w) = w.1
 
 -- the move that the engine chooses wins, where one does
-chosen_loses : (s t : State) (m : Move) → MoverWins State Leads s → Chooses s m → IsMove s m t → MoverLoses State Leads t
-chosen_loses s t m wins (inl first) moved = subst (MoverLoses State Leads) (move_same s first.0.0 t m first.0.1 moved) first.0.2
+chosen_loses : (s t : Whole) (m : Move) → MoverWins Whole Leads s → Chooses s m → IsMove s m t → MoverLoses Whole Leads t
+chosen_loses s t m wins (inl first) moved = subst (MoverLoses Whole Leads) (move_same s first.0.0 t m first.0.1 moved) first.0.2
 chosen_loses s t m (zero, w) (inr none) moved = absurd w
 chosen_loses s t m (suc n, w) (inr none) moved = absurd (none.0 w.1.0 (w.0, w.1.1, (n, w.2)))
 
-answered_wins : (s t : State) → MoverLoses State Leads s → Leads s t → MoverWins State Leads t
+answered_wins : (s t : Whole) → MoverLoses Whole Leads s → Leads s t → MoverWins Whole Leads t
 answered_wins s t (zero, l) move = absurd (l t move)
 answered_wins s t (suc n, l) move = (n, l t move)
 
-no_move : (s : State) → MoverWins State Leads s → HasMove s
+no_move : (s : Whole) → MoverWins Whole Leads s → HasMove s
 no_move s (zero, w) = absurd w
 no_move s (suc n, w) = (w.1.0, (w.0, w.1.1))
 
-pub engine_keeps : (s t : State) (e : Colour) (text : List ℕ) → s.side ≡ e → IsWinner s e → EngineMoves s text t → IsWinner t e
+pub engine_keeps : (s t : Whole) (e : Colour) (text : List ℕ) → s.side ≡ e → IsWinner s e → EngineMoves s text t → IsWinner t e
 engine_keeps s t e text turn w m =
     inr (sym turn ∙ sym (other_twice s.side) ∙ sym (ap other (move_turn s t m.chosen m.played)), chosen_loses s t m.chosen (mover_wins s e turn w) m.choice m.played)
 
-pub opponent_keeps : (s t : State) (e : Colour) → s.side ≡ other e → IsWinner s e → IsStep s t → IsWinner t e
+pub opponent_keeps : (s t : Whole) (e : Colour) → s.side ≡ other e → IsWinner s e → MovesOrStays s t → IsWinner t e
 opponent_keeps s t e turn w (inl move) =
     inl (sym (other_twice e) ∙ sym (ap other turn) ∙ sym (move_turn s t move.0 move.1), answered_wins s t (mover_loses s e turn w) move)
 opponent_keeps s t e turn w (inr same) = subst (λ x. IsWinner x e) (sym same) w
 
-pub not_lost : (s : State) (e : Colour) → s.side ≡ e → IsWinner s e → ¬ HasMove s → ⊥
+pub not_lost : (s : Whole) (e : Colour) → s.side ≡ e → IsWinner s e → ¬ HasMove s → ⊥
 not_lost s e turn w none = none (no_move s (mover_wins s e turn w))
 
-pub answers_step : (s t : State) (asked : Option Move) (text : List ℕ) → Answers s asked text t → IsStep s t
+pub answers_step : (s t : Whole) (asked : Option Move) (text : List ℕ) → AnswersOpponent s asked text t → MovesOrStays s t
 answers_step s t None text a = inr a.1
 answers_step s t (Some m) text (Ok u, h, e) = inl (m, h)
 answers_step s t (Some m) text (Err f, h, e) = inr h.0
@@ -103,12 +102,12 @@ pub win_is_kept : WinIsKept
 win_is_kept engine a b n text w t = keeps_here engine b (turns_keep engine n a b text w t)
 
 -- a chosen move is legal
-pub chosen_legal : (s : State) (m : Move) → Chooses s m → IsLegal s m
+pub chosen_legal : (s : Whole) (m : Move) → Chooses s m → IsLegal s m
 chosen_legal s m (inl first) = (first.0.0, first.0.1)
 chosen_legal s m (inr none) = none.1.0
 
 -- where the side to move has no move, the engine doesn't lose what it has won
-pub end_keeps : (s : State) (e winner : Colour) (result : Result (Option SessionEnd) Fault) → IsWinner s e → IsFirstMove s None → winner ≡ other s.side
+pub end_keeps : (s : Whole) (e winner : Colour) (result : Result (Option SessionEnd) Fault) → IsWinner s e → IsFirstMove s None → winner ≡ other s.side
     → IfOk result (λ end. ((end ≡ Some Won) × (winner ≡ e)) ⊎ ((end ≡ Some Lost) × (winner ≡ other e))) → result ≢ Ok (Some Lost)
 end_keeps s e winner (Err f) w none is h i = absurd (cc i)
 end_keeps s e winner (Ok None) w none is h i = absurd (cc i)

@@ -1,11 +1,12 @@
 -- The session of a game: what each turn writes, and where the session stands after it.
 use Rattle.std.specs.Prelude.{◌≡◌, ◌≢◌, ◌⊎◌, ℕ, zero, suc, ◌+◌, ◌<◌, List, [], ◌++◌, codes, Result, Ok, Err, Option, Some, None}
+use Rattle.desk_io.specs.declared.lines.TheConstants.{MOST_LINES}
 use Rattle.go_grid.specs.declared.grid.Colour.{Colour}
 use Rattle.go_grid.specs.Board.{Board, other}
-use Rattle.report.specs.Lines.{word_line}
-use Rattle.report.specs.Solution.{move_word, winner_line}
+use Rattle.board_words.specs.Words.{winner_line, word_line}
+use Rattle.whole_rules.specs.Moves.{move_word}
 use Rattle.endgame_solver.specs.Solved.{HasMove, Chooses}
-use Rattle.whole_rules.specs.WholeGame.{State, IsMove, Applies}
+use Rattle.whole_rules.specs.WholeGame.{Whole, IsMove, Applies}
 use Rattle.whole_rules.specs.declared.states.Move.{Move}
 use Rattle.whole_rules.specs.declared.states.MoveError.{MoveError}
 use Rattle.whole_rules.specs.declared.states.MoveError.TheVariants.{NotContested, Occupied, Suicide, EmptyPurse, NoHalf}
@@ -16,21 +17,23 @@ use Rattle.play_session.specs.Words.{Asks}
 
 -- where a session stands: the state, how many lines were read, and the bytes that are left
 pub record Standing : Type 0 where
-  pub state : State
+  pub state : Whole
   pub read : ℕ
   pub left : List ℕ
 
 -- the line of the engine's move
 abbrev pub engine_line : Board → Move → List ℕ
-engine_line g m = word_line (codes "engine") (move_word g.columns (Some m))
+engine_line g m = word_line (codes "engine") (move_word g.columns m)
 
--- the lines that answer the opponent
+-- the line of a move of the opponent's that was made
 abbrev pub played_line : Board → Move → List ℕ
-played_line g m = word_line (codes "played") (move_word g.columns (Some m))
+played_line g m = word_line (codes "played") (move_word g.columns m)
 
+-- the line of why a line of the opponent's is refused
 abbrev pub refused_line : List ℕ → List ℕ
 refused_line why = word_line (codes "refused") why
 
+-- the words for why a move is illegal
 abbrev pub refusal_word : MoveError → List ℕ
 refusal_word NotContested = codes "not contested"
 refusal_word Occupied = codes "occupied"
@@ -38,6 +41,7 @@ refusal_word Suicide = codes "suicide"
 refusal_word EmptyPurse = codes "empty purse"
 refusal_word NoHalf = codes "no half"
 
+-- the line of the end of the opponent's lines
 abbrev pub input_line : List ℕ
 input_line = word_line (codes "input") (codes "ended")
 
@@ -46,39 +50,39 @@ abbrev pub answer_line : Board → Move → Result Unit MoveError → List ℕ
 answer_line g m (Ok _) = played_line g m
 answer_line g m (Err e) = refused_line (refusal_word e)
 
--- the engine moves
-pub record EngineMoves (s : State) (text : List ℕ) (t : State) : Type 0 where
+-- the engine makes a move that it chooses, and its line is written
+pub record EngineMoves (s : Whole) (text : List ℕ) (t : Whole) : Type 0 where
   pub chosen : Move
   pub choice : Chooses s chosen
   pub played : IsMove s chosen t
   pub written : text ≡ engine_line s.board chosen
 
--- the engine's turn
+-- the engine's turn: it moves, and no line is read
 pub record IsEngineTurn (engine : Colour) (a : Standing) (text : List ℕ) (b : Standing) : Type 0 where
   pub turn : a.state.side ≡ engine
   pub moved : EngineMoves a.state text b.state
   pub same_count : b.read ≡ a.read
   pub same_bytes : b.left ≡ a.left
 
--- what is written, and the state after, where a move or none was asked for
-abbrev pub Answers : State → Option Move → List ℕ → State → Type 0
-Answers s None text t = (text ≡ refused_line (codes "line")) × (t ≡ s)
-Answers s (Some m) text t = (result : Result Unit MoveError) × Applies s m t result × (text ≡ answer_line s.board m result)
+-- what is written in answer to the opponent, and the state after, where a move or none was asked for
+abbrev pub AnswersOpponent : Whole → Option Move → List ℕ → Whole → Type 0
+AnswersOpponent s None text t = (text ≡ refused_line (codes "line")) × (t ≡ s)
+AnswersOpponent s (Some m) text t = (result : Result Unit MoveError) × Applies s m t result × (text ≡ answer_line s.board m result)
 
 -- it is the opponent's turn, and the opponent has a move
-abbrev pub IsToAnswer : Colour → State → Type 0
+abbrev pub IsToAnswer : Colour → Whole → Type 0
 IsToAnswer engine s = (s.side ≡ other engine) × HasMove s
 
 -- the opponent's turn: one line is read and answered
 pub record IsOpponentTurn (engine : Colour) (a : Standing) (text : List ℕ) (b : Standing) : Type 0 where
   pub turn : IsToAnswer engine a.state
-  pub few : a.read < 10000
+  pub few : a.read < MOST_LINES
   pub some : a.left ≢ []
   pub line : List ℕ
   pub asked : Option Move
   pub taken : IsLine a.left line b.left
   pub asks : Asks a.state.board line asked
-  pub answered : Answers a.state asked text b.state
+  pub answered : AnswersOpponent a.state asked text b.state
   pub counted : b.read ≡ a.read + 1
 
 -- a turn after which the session goes on
@@ -89,8 +93,8 @@ Turn engine a text b = IsEngineTurn engine a text b ⊎ IsOpponentTurn engine a 
 abbrev pub Ends : Colour → Standing → List ℕ → SessionEnd → Type 0
 Ends engine a text Won = ¬ HasMove a.state × (a.state.side ≡ other engine) × (text ≡ winner_line engine)
 Ends engine a text Lost = ¬ HasMove a.state × (a.state.side ≡ engine) × (text ≡ winner_line (other engine))
-Ends engine a text TooManyLines = IsToAnswer engine a.state × (a.read ≡ 10000) × (text ≡ [])
-Ends engine a text InputEnded = IsToAnswer engine a.state × (a.read < 10000) × (a.left ≡ []) × (text ≡ input_line)
+Ends engine a text TooManyLines = IsToAnswer engine a.state × (a.read ≡ MOST_LINES) × (text ≡ [])
+Ends engine a text InputEnded = IsToAnswer engine a.state × (a.read < MOST_LINES) × (a.left ≡ []) × (text ≡ input_line)
 Ends engine a text _ = ⊥
 
 -- so many turns, one after the other, and what they write
@@ -104,7 +108,7 @@ IsNextLine engine a text = ((b : Standing) × Turn engine a text b) ⊎ ((end : 
 
 -- all turns up to one of the opponent's, whose line is still to be read
 abbrev pub Waits : Colour → Standing → List ℕ → Standing → Type 0
-Waits engine a text b = (n : ℕ) × Turns engine n a text b × IsToAnswer engine b.state × (b.read < 10000)
+Waits engine a text b = (n : ℕ) × Turns engine n a text b × IsToAnswer engine b.state × (b.read < MOST_LINES)
 
 -- turns, and a front part of the line after them
 abbrev pub BreaksOff : Colour → Standing → List ℕ → Type 0

@@ -1,54 +1,24 @@
 -- What the parts of a session write, and where their faults come from.
-use Rattle.std.specs.Prelude.{◌≡◌, ◌≢◌, ◌⊎◌, ℕ, ◌+◌, ◌*◌, ◌-◌, ◌≤◌, ◌<◌, List, [], ◌++◌, Result, Ok, Err, Option, Some, None, IsErrOf, IfSome}
+use Rattle.std.specs.Prelude.{◌≡◌, ℕ, ◌+◌, List, ◌++◌, Option, Some}
 use Rattle.std.specs.Io.KnownBytes.{append_known}
-use Rattle.desk_io.specs.Outside.{Rose}
-use Rattle.go_grid.specs.Board.{Board}
 use Rattle.go_grid.specs.declared.grid.Colour.{Colour}
-use Rattle.go_grid.specs.declared.grid.Colour.TheVariants.{Black, White}
-use Rattle.whole_rules.specs.WholeGame.{State, Leads}
+use Rattle.whole_rules.specs.WholeGame.{Whole}
 use Rattle.play_session.specs.declared.end.SessionEnd.{SessionEnd}
 use Rattle.play_session.specs.declared.end.SessionEnd.TheVariants.{ReadFault, WriteFault}
-use Rattle.play_session.specs.declared.fault.Fault.{Fault}
-use Rattle.play_session.specs.declared.fault.Fault.TheVariants.{Read, Write}
-use Rattle.play_session.specs.declared.session.Request.{Request}
-use Rattle.play_session.specs.declared.session.Request.TheVariants.{Ended, Line}
-use Rattle.play_session.specs.Lines.{IsLine}
-use Rattle.play_session.specs.Words.{Asks, IsOnBoard}
-use Rattle.play_session.specs.Session.{Standing, IsToAnswer, Turn, Ends, IsSession, IsNextLine, Waits, BreaksOff}
+use Rattle.play_session.specs.Session.{Standing, IsSession, Waits, BreaksOff}
 
 -- what a session keeps: the state, the engine's colour, and the bytes that it holds unread
-pub record SessionState : Type 0 where
-  pub state : State
+pub record Session : Type 0 where
+  pub state : Whole
   pub engine : Colour
   pub held : List ℕ
 
--- a count of writes never falls, and a fault is that of a write, where the count rose
-pub record WriteCauses {T : Type 0} (writes writes_now : ℕ) (result : Result T Fault) : Type 0 where
-  pub later : writes ≤ writes_now
-  pub not_read : ¬ IsErrOf result Read
-  pub write : IsErrOf result Write → Rose writes writes_now
-
--- counts of reads and of writes never fall, and a fault comes only where its count rose
-pub record Causes {T : Type 0} (reads reads_now writes writes_now : ℕ) (result : Result T Fault) : Type 0 where
-  pub reads_later : reads ≤ reads_now
-  pub writes_later : writes ≤ writes_now
-  pub read : IsErrOf result Read → Rose reads reads_now
-  pub write : IsErrOf result Write → Rose writes writes_now
-
 -- where the session stands, with so many lines read and these bytes left in the source
-abbrev pub standing : SessionState → ℕ → List ℕ → Standing
+abbrev pub standing : Session → ℕ → List ℕ → Standing
 standing session read rest = record { state = session.state; read = read; left = session.held ++ rest }
 
--- One turn was written, or the end. Where a read failed nothing was written, and the opponent's line is still to be read; where a
--- write failed, a front part of the line was.
-abbrev pub TurnWritten : Colour → Standing → Option (List ℕ) → Option (List ℕ) → Result (Option SessionEnd) Fault → SessionState → ℕ → Option (List ℕ) → Type 0
-TurnWritten engine a before now (Ok None) session read left = (rest text : List ℕ) × (left ≡ Some rest) × Turn engine a text (standing session read rest) × (now ≡ append_known before text)
-TurnWritten engine a before now (Ok (Some end)) session read left = (rest text : List ℕ) × (left ≡ Some rest) × Ends engine a text end × (a ≡ standing session read rest) × (now ≡ append_known before text)
-TurnWritten engine a before now (Err Read) session read left = (rest : List ℕ) × (left ≡ Some rest) × IsToAnswer engine a.state × (a.read < 10000) × (a ≡ standing session read rest) × (now ≡ before)
-TurnWritten engine a before now (Err Write) session read left = (text more : List ℕ) × IsNextLine engine a (text ++ more) × (now ≡ append_known before text)
-
 -- the whole session was written, and the session stands at its end
-pub record IsPlayed (engine : Colour) (a : Standing) (before now : Option (List ℕ)) (end : SessionEnd) (session : SessionState) (left : Option (List ℕ)) : Type 0 where
+pub record IsPlayed (engine : Colour) (a : Standing) (before now : Option (List ℕ)) (end : SessionEnd) (session : Session) (left : Option (List ℕ)) : Type 0 where
   pub text : List ℕ
   pub read : ℕ
   pub rest : List ℕ
@@ -57,7 +27,7 @@ pub record IsPlayed (engine : Colour) (a : Standing) (before now : Option (List 
   pub unread : left ≡ Some rest
 
 -- all turns so far were written, and the session stands where the opponent's line is to be read
-pub record IsUnread (engine : Colour) (a : Standing) (before now : Option (List ℕ)) (session : SessionState) (left : Option (List ℕ)) : Type 0 where
+pub record IsUnread (engine : Colour) (a : Standing) (before now : Option (List ℕ)) (session : Session) (left : Option (List ℕ)) : Type 0 where
   pub text : List ℕ
   pub read : ℕ
   pub rest : List ℕ
@@ -69,44 +39,9 @@ pub record IsUnread (engine : Colour) (a : Standing) (before now : Option (List 
 abbrev pub IsCutOff : Colour → Standing → Option (List ℕ) → Option (List ℕ) → Type 0
 IsCutOff engine a before now = (text : List ℕ) × BreaksOff engine a text × (now ≡ append_known before text)
 
--- the whole session, or where a read failed all turns so far, or where a write failed a front part
-abbrev pub IsPlayedTo : Colour → Standing → Option (List ℕ) → Option (List ℕ) → Result SessionEnd Fault → SessionState → Option (List ℕ) → Type 0
-IsPlayedTo engine a before now (Ok end) session left = IsPlayed engine a before now end session left
-IsPlayedTo engine a before now (Err Read) session left = IsUnread engine a before now session left
-IsPlayedTo engine a before now (Err Write) session left = IsCutOff engine a before now
-
--- the same by the end that is answered
-abbrev pub Played : Colour → Standing → Option (List ℕ) → Option (List ℕ) → SessionEnd → SessionState → Option (List ℕ) → Type 0
+-- what was written of a session, by its end: the whole, or where a read failed all turns so far, or where a write failed
+-- a front part
+abbrev pub Played : Colour → Standing → Option (List ℕ) → Option (List ℕ) → SessionEnd → Session → Option (List ℕ) → Type 0
 Played engine a before now ReadFault session left = IsUnread engine a before now session left
 Played engine a before now WriteFault session left = IsCutOff engine a before now
 Played engine a before now end session left = IsPlayed engine a before now end session left
-
--- a session ends by itself in one of four ways
-abbrev pub IsNatural : SessionEnd → Type 0
-IsNatural ReadFault = ⊥
-IsNatural WriteFault = ⊥
-IsNatural end = Unit {0}
-
--- how many turns may still come: two for each line that may still be read, and one where it is the engine's
-abbrev pub engine_turn : Colour → Colour → ℕ
-engine_turn Black Black = 1
-engine_turn Black White = 0
-engine_turn White Black = 0
-engine_turn White White = 1
-
-abbrev pub turns_left : SessionState → ℕ → ℕ
-turns_left session read = 2 * (10000 - read) + engine_turn session.engine session.state.side
-
--- the line that these bytes begin with was taken, or there is none
-abbrev pub IsRequested : Board → List ℕ → Request → List ℕ → Option (List ℕ) → Type 0
-IsRequested g bytes Ended held left = (bytes ≡ []) × (held ≡ []) × (left ≡ Some [])
-IsRequested g bytes (Line asked) held left = (rest line : List ℕ) × (left ≡ Some rest) × (bytes ≢ []) × IsLine bytes line (held ++ rest) × Asks g line asked
-
--- a move that is asked for is on the board
-abbrev pub IsPossible : Board → Request → Type 0
-IsPossible g Ended = Unit {0}
-IsPossible g (Line asked) = IfSome asked (IsOnBoard g)
-
--- a move was made, or none
-abbrev pub IsStep : State → State → Type 0
-IsStep s t = Leads s t ⊎ (t ≡ s)

@@ -7,8 +7,6 @@ mod laws;
 mod replies;
 mod reply;
 mod session;
-#[cfg(test)]
-mod tests;
 mod words;
 
 pub use end::SessionEnd;

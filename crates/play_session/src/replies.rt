@@ -1,8 +1,8 @@
 //! The lines that a session writes.
 
-ghost use Rattle.std.specs.Prelude.{◌≡◌, ◌+◌, ◌≤◌, length, Some};
-ghost use Rattle.report.specs.Lines.{word_line};
-ghost use Rattle.report.specs.Solution.{IsMoveOnBoard, move_word};
+ghost use Rattle.std.specs.Prelude.{◌≡◌, ◌+◌, ◌≤◌, length};
+ghost use Rattle.board_words.specs.Words.{word_line};
+ghost use Rattle.whole_rules.specs.Moves.{move_word, IsMoveOnBoard};
 ghost use Rattle.play_session.specs.Session.{refused_line, refusal_word};
 
 use crate::reply::Reply;
@@ -10,7 +10,7 @@ use go_grid::{Size, name};
 use whole_rules::{Move, MoveError};
 
 /// A line of two words.
-#[tactic(auto, using(std::proofs::Common::append_assoc), unfolding(report::specs::Lines::word_line))]
+#[tactic(auto, using(std::proofs::Common::append_assoc), unfolding(board_words::specs::Words::word_line))]
 pub(crate) fn word_line(label: &str, word: &[u8]) -> Reply
     requires { length label.now + length word.now ≤ 30 }
     ensures { result ≡ word_line label.now word.now }
@@ -26,7 +26,7 @@ pub(crate) fn word_line(label: &str, word: &[u8]) -> Reply
 /// The word of a move.
 fn move_word(size: Size, chosen: &Move) -> Reply
     requires { IsMoveOnBoard size.columns size.rows chosen.now }
-    ensures value { result ≡ move_word size.columns (Some chosen.now) }
+    ensures value { result ≡ move_word size.columns chosen.now }
     ensures short { length result ≤ 5 }
 {
     let mut word = Reply::new();
@@ -42,7 +42,7 @@ fn move_word(size: Size, chosen: &Move) -> Reply
 pub(crate) fn move_line(label: &str, size: Size, chosen: &Move) -> Reply
     requires on_board { IsMoveOnBoard size.columns size.rows chosen.now }
     requires short { length label.now ≤ 10 }
-    ensures { result ≡ word_line label.now (move_word size.columns (Some chosen.now)) }
+    ensures { result ≡ word_line label.now (move_word size.columns chosen.now) }
 {
     word_line(label, move_word(size, chosen).as_slice())
 }

@@ -3,7 +3,7 @@
 ghost use Rattle.std.specs.Prelude.{◌≡◌, ◌≢◌, ◌↔◌, ◌⊎◌, ◌+◌, ◌≤◌, ◌<◌, ◌++◌, List, ℕ, [], true, codes, length, IfOk, OnErr, IfSome, IsErrOf, Ok, Some, None};
 ghost use Rattle.desk_io.specs.Outside.{Appends, HasCause, Rose};
 ghost use Rattle.go_grid.specs.Board.{other};
-ghost use Rattle.report.specs.Solution.{winner_line};
+ghost use Rattle.board_words.specs.Words.{winner_line};
 ghost use Rattle.whole_rules.specs.FirstWinningMove.{IsWinner};
 ghost use Rattle.whole_rules.specs.WholeGame.{IsFirstMove};
 ghost use Rattle.play_session.specs.declared.fault.Fault.TheVariants.{Read, Write};
@@ -11,24 +11,22 @@ ghost use Rattle.play_session.specs.declared.end.SessionEnd.TheVariants.{Won, Lo
 ghost use Rattle.desk_io.specs.Lines.{IsSameInput};
 ghost use Rattle.play_session.specs.Lines.{UsesLines};
 ghost use Rattle.endgame_solver.specs.Solved.{Chooses};
-ghost use Rattle.play_session.specs.Session.{Answers, EngineMoves, IsToAnswer, input_line};
-ghost use Rattle.play_session.specs.Words.{IsOnBoard};
-ghost use Rattle.play_session.specs.Written.{Causes, IsStep, IsNatural, IsPlayedTo, IsPossible, IsRequested, Played, TurnWritten, WriteCauses, standing, turns_left};
+ghost use Rattle.play_session.specs.Session.{AnswersOpponent, EngineMoves, IsToAnswer, input_line};
+ghost use Rattle.whole_rules.specs.Moves.{IsMoveOnBoard};
+ghost use Rattle.play_session.specs.Written.{Played, standing};
+ghost use Rattle.play_session.specs.inner.Written.{Causes, MovesOrStays, IsNatural, IsPlayedTo, IsPossible, IsRequested, TurnWritten, WriteCauses, turns_left};
 
 use crate::end::SessionEnd;
 use crate::fault::Fault;
 use crate::replies::{move_line, refusal, word_line};
 use crate::reply::Reply;
 use crate::words::asked_move;
-use desk_io::{Failed, LineReader, Sink, Source};
+use board_words::colour_word;
+use desk_io::{Failed, LineReader, MOST_LINES, Sink, Source};
 use endgame_solver::Solved;
 use go_grid::{Board, Colour};
-use report::colour_word;
 use std::marker::Model;
 use whole_rules::Move;
-
-/// The most lines that a session reads.
-const MOST_LINES: usize = 10_000;
 
 /// The most bytes of a line.
 pub(crate) const MOST_BYTES: usize = 256;
@@ -117,14 +115,17 @@ fn move_engine<K: Sink>(solved: &mut Solved, first: Move, out: &mut K) -> Result
     let line = move_line("engine", solved.whole().board().size(), &chosen);
     match solved.play(chosen) {
         Ok(()) => say(out, &line),
+        // The first move of a state is legal.
         Err(_) => unreachable!(),
     }
 }
 
 /// Answers what a line asks for.
 fn answer<K: Sink>(solved: &mut Solved, asked: Option<Move>, out: &mut K) -> Result<(), Fault>
-    requires { IfSome asked (IsOnBoard solved.old.state.board) }
-    ensures answered { (text : List ℕ) × Answers solved.old.state asked text solved.new.state
+    requires { IfSome asked (IsMoveOnBoard solved.old.state.board.columns
+        solved.old.state.board.rows) }
+    ensures answered { (text : List ℕ)
+        × AnswersOpponent solved.old.state asked text solved.new.state
         × Appends (K.holds out.old) (K.holds out.new) result text }
     ensures cause { WriteCauses (K.faults out.old) (K.faults out.new) result }
 {
@@ -164,7 +165,7 @@ pub(crate) fn take_request<S: Source>(
 
 /// A game between the engine and whoever writes the lines. Contracts see the state, the engine's colour, and the bytes
 /// that were read and not yet used.
-#[derive(Drop)]
+#[derive(Debug, Drop)]
 pub struct Session {
     solved: Solved,
     engine: Colour,
@@ -173,9 +174,9 @@ pub struct Session {
 
 impl Model for Session {
     ghost use Rattle.std.specs.Prelude.{◌≤◌, length};
-    ghost use Rattle.play_session.specs.Written.{SessionState};
+    ghost use Rattle.play_session.specs.Written.{Session};
 
-    ghost Value = { SessionState };
+    ghost Value = { Session };
 
     ghost view = { λ s. record { state = s.solved.state; engine = s.engine; held = s.input } };
 
@@ -202,7 +203,7 @@ impl Session {
         out: &mut K,
     ) -> Result<Option<SessionEnd>, Fault>
         requires turn { IsToAnswer self.old.engine self.old.state }
-        requires few { read.old ≤ 10000 }
+        requires few { read.old ≤ MOST_LINES }
         requires few_held { length self.old.held ≤ 256 }
         ensures engine { self.new.engine ≡ self.old.engine }
         ensures written { (bytes : List ℕ) → S.left lines.old ≡ Some bytes
@@ -211,9 +212,9 @@ impl Session {
         ensures used { UsesLines read.old read.new self.old.held (S.left lines.old) self.new.held
             (S.left lines.new) }
         ensures few_held { length self.new.held ≤ 256 }
-        ensures few_read { read.new ≤ 10000 }
-        ensures stepped { IsStep self.old.state self.new.state }
-        ensures counted { result ≡ Ok None → (read.old < 10000) × (read.new ≡ read.old + 1) }
+        ensures few_read { read.new ≤ MOST_LINES }
+        ensures stepped { MovesOrStays self.old.state self.new.state }
+        ensures counted { result ≡ Ok None → (read.old < MOST_LINES) × (read.new ≡ read.old + 1) }
         ensures never_lost { result ≢ Ok (Some Lost) }
         ensures natural { IfOk result (λ end. IfSome end IsNatural) }
         ensures cause { Causes (S.faults lines.old) (S.faults lines.new) (K.faults out.old)
@@ -242,7 +243,7 @@ impl Session {
         lines: &mut S,
         out: &mut K,
     ) -> Result<Option<SessionEnd>, Fault>
-        requires few { read.old ≤ 10000 }
+        requires few { read.old ≤ MOST_LINES }
         ensures engine { self.new.engine ≡ self.old.engine }
         ensures written { (bytes : List ℕ) → S.left lines.old ≡ Some bytes
             → TurnWritten self.old.engine (standing self.old read.old bytes) (K.holds out.old)
@@ -250,7 +251,7 @@ impl Session {
         ensures used { UsesLines read.old read.new self.old.held (S.left lines.old) self.new.held
             (S.left lines.new) }
         ensures few_held { length self.new.held ≤ 256 }
-        ensures few_read { read.new ≤ 10000 }
+        ensures few_read { read.new ≤ MOST_LINES }
         ensures keeps { IsWinner self.old.state self.old.engine
             → IsWinner self.new.state self.old.engine × (result ≢ Ok (Some Lost)) }
         ensures fewer { result ≡ Ok None
@@ -280,7 +281,7 @@ impl Session {
         ensures written { (bytes : List ℕ) → S.left lines.old ≡ Some bytes
             → IsPlayedTo self.old.engine (standing self.old 0 bytes) (K.holds out.old)
             (K.holds out.new) result self.new (S.left lines.new) }
-        ensures used { UsesLines 0 10000 self.old.held (S.left lines.old) self.new.held
+        ensures used { UsesLines 0 MOST_LINES self.old.held (S.left lines.old) self.new.held
             (S.left lines.new) }
         ensures few_held { length self.new.held ≤ 256 }
         ensures keeps { IsWinner self.old.state self.old.engine → result ≢ Ok Lost }
@@ -306,7 +307,7 @@ impl Session {
         ensures text { (bytes : List ℕ) → S.left lines.old ≡ Some bytes
             → Played self.old.engine (standing self.old 0 bytes) (K.holds out.old)
             (K.holds out.new) result self.new (S.left lines.new) }
-        ensures used { UsesLines 0 10000 self.old.held (S.left lines.old) self.new.held
+        ensures used { UsesLines 0 MOST_LINES self.old.held (S.left lines.old) self.new.held
             (S.left lines.new) }
         ensures few_held { length self.new.held ≤ 256 }
         ensures read_fault { result ≡ ReadFault → Rose (S.faults lines.old) (S.faults lines.new) }

@@ -1,7 +1,7 @@
 -- Where a region begins, as far as its places were looked at.
-use Rattle.std.proofs.Common.{◌≡◌, ℕ, ◌+◌, ◌<◌, ◌≤◌, ◌⊎◌, inl, inr, sym, ◌∙◌, arith, length, below_more}
+use Rattle.std.proofs.Common.{◌≡◌, ℕ, ◌+◌, ◌<◌, ◌≤◌, ◌⊎◌, inl, inr, sym, ◌∙◌, arith, below_more}
 use Rattle.go_grid.specs.Region.{Region}
-use Rattle.region_book.specs.Image.{BeginsAt, column_of, row_of}
+use Rattle.region_book.specs.Image.{column_of, row_of}
 use Rattle.region_book.specs.declared.symmetry.Symmetry.{Symmetry}
 
 pub record Beginning (r : Region) (s : Symmetry) (n west north : ℕ) : Type 0 where
@@ -33,12 +33,4 @@ beginning_first r s column row c e = record {
   some_column = (0, omega arith, sym c);
   rows = below_more (λ i. row ≤ row_of r s i) 0 (λ i lt. absurd (omega (arith, lt))) (omega (arith, e));
   some_row = (0, omega arith, sym e);
-}
-
-pub beginning_end : (r : Region) (s : Symmetry) (n west north : ℕ) → Beginning r s n west north → n ≡ length r.points → BeginsAt r s west north
-beginning_end r s n west north b e = record {
-  columns = λ i lt. b.columns i (omega (arith, lt, e));
-  some_column = let (i, lt, is) = b.some_column in (i, omega (arith, lt, e), is);
-  rows = λ i lt. b.rows i (omega (arith, lt, e));
-  some_row = let (i, lt, is) = b.some_row in (i, omega (arith, lt, e), is);
 }

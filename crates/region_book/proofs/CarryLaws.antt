@@ -7,7 +7,8 @@ use Rattle.go_grid.specs.declared.region.Touch.{Touch}
 use Rattle.go_grid.specs.Region.{Region, touch_at}
 use Rattle.local_play.specs.LocalPlay.{held_at, is_beside}
 use Rattle.region_book.specs.Shape.{Direction, up, left, right, down, turned, link, Carries, cell_after, colour_after}
-use Rattle.region_book.specs.Image.{IsOnBoard, column_of, row_of, BeginsAt, IsImage, is_stone, spot_of}
+use Rattle.region_book.specs.Image.{IsOnBoard, column_of, row_of, BeginsAt, IsImage, spot_of}
+use Rattle.go_grid.specs.Stones.{is_of}
 use Rattle.region_book.specs.Law.{differ}
 use Rattle.region_book.specs.declared.spots.Spot.{Spot}
 use Rattle.region_book.specs.declared.symmetry.Symmetry.{Symmetry}
@@ -133,8 +134,8 @@ module _ (r : Region) (cells : List Cell) (q : Region) (cells' : List Cell) (at 
           λ n. record {
             row = rows n;
             column = columns n;
-            black = is_stone Black (held n);
-            white = is_stone White (held n);
+            black = is_of Black (held n);
+            white = is_of White (held n);
             beside_black = black n;
             beside_white = white n;
           }

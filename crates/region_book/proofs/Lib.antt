@@ -6,5 +6,4 @@ pub mod ShapeLaws
 pub mod MadeLaws
 pub mod BeginLaws
 pub mod PlacesLaws
-pub mod DrawnLaws
 mod Instances

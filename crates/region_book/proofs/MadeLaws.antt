@@ -15,7 +15,8 @@ use Rattle.go_grid.specs.declared.grid.Colour.TheVariants.{Black, White}
 use Rattle.go_grid.specs.Region.{Region, touch_at}
 use Rattle.local_play.specs.LocalPlay.{held_at, is_beside}
 use Rattle.region_book.specs.Shape.{cell_after, colour_after}
-use Rattle.region_book.specs.Image.{IsOnBoard, AtMost, BeginsAt, IsImage, IsShape, Places, column_of, row_of, is_stone, spot_cmp, spot_of}
+use Rattle.region_book.specs.Image.{IsOnBoard, AtMost, BeginsAt, IsImage, IsShape, Places, column_of, row_of, spot_cmp, spot_of}
+use Rattle.go_grid.specs.Stones.{is_of}
 use Rattle.region_book.specs.inner.Made.{IsLeastAmong, Spots}
 use Rattle.region_book.specs.declared.spots.Spot.{Spot}
 use Rattle.region_book.specs.declared.symmetry.Symmetry.{Symmetry}
@@ -127,8 +128,8 @@ held_spot r a b s c w n i same =
     λ j. record {
       row = row_of r s i - n;
       column = column_of r s i - w;
-      black = is_stone Black (cell_after c (same i j));
-      white = is_stone White (cell_after c (same i j));
+      black = is_of Black (cell_after c (same i j));
+      white = is_of White (cell_after c (same i j));
       beside_black = is_beside (touch_at r.touch i) (colour_after c Black);
       beside_white = is_beside (touch_at r.touch i) (colour_after c White);
     }

@@ -21,13 +21,14 @@ use Rattle.go_grid.specs.declared.grid.Colour.TheVariants.{Black, White}
 use Rattle.go_grid.specs.Region.{Region, touch_at}
 use Rattle.local_play.specs.LocalPlay.{held_at, is_beside}
 use Rattle.region_book.specs.Shape.{cell_after, colour_after}
-use Rattle.region_book.specs.Image.{IsOnBoard, BeginsAt, column_of, row_of, is_stone, spot_cmp, spot_of}
+use Rattle.region_book.specs.Image.{IsOnBoard, BeginsAt, column_of, row_of, spot_cmp, spot_of}
+use Rattle.go_grid.specs.Stones.{is_of}
 use Rattle.region_book.specs.declared.spots.Spot.{Spot}
 use Rattle.region_book.specs.declared.symmetry.Symmetry.{Symmetry}
 use Rattle.region_book.proofs.PlaceLaws.{one_stand}
 
 -- cells with stones of the same colours are the same
-same_cell : (x y : Cell) → is_stone Black x ≡ is_stone Black y → is_stone White x ≡ is_stone White y → x ≡ y
+same_cell : (x y : Cell) → is_of Black x ≡ is_of Black y → is_of White x ≡ is_of White y → x ≡ y
 same_cell cell.Empty cell.Empty b w = refl
 same_cell cell.Empty cell.Black b w = cc
 same_cell cell.Empty cell.White b w = cc

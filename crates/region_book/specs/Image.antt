@@ -6,10 +6,9 @@ use Rattle.std.specs.Ordering.{nat_cmp, bool_cmp, is_gt, on, then_cmp}
 use Rattle.std.specs.declared.cmp.Ordering.{Ordering}
 use Rattle.std.specs.declared.cmp.Ordering.TheVariants.{Less}
 use Rattle.go_grid.specs.declared.grid.Cell.{Cell}
-use Rattle.go_grid.specs.declared.grid.Cell.TheVariants as cell
-use Rattle.go_grid.specs.declared.grid.Colour.{Colour}
 use Rattle.go_grid.specs.declared.grid.Colour.TheVariants.{Black, White}
 use Rattle.go_grid.specs.Region.{Region, IsRegion, touch_at}
+use Rattle.go_grid.specs.Stones.{is_of}
 use Rattle.local_play.specs.LocalPlay.{held_at, is_beside}
 use Rattle.region_book.specs.Shape.{cell_after, colour_after}
 use Rattle.region_book.specs.declared.spots.Spot.{Spot}
@@ -27,15 +26,16 @@ abbrev pub side : Bool → ℕ → ℕ
 side false n = n
 side true n = 24 - n
 
--- the first, or the second where the two change places
+-- the first of two numbers, or the second where the two change places
 abbrev pub one_of : Bool → ℕ → ℕ → ℕ
 one_of false a b = a
 one_of true a b = b
 
--- the column and the row of a place after a symmetry
+-- the column of a place of the region after a symmetry of the largest board
 abbrev pub column_of : Region → Symmetry → ℕ → ℕ
 column_of r s i = side s.columns (one_of s.exchange (slice_index r.points i % r.columns) (slice_index r.points i / r.columns))
 
+-- the row of a place of the region after a symmetry of the largest board
 abbrev pub row_of : Region → Symmetry → ℕ → ℕ
 row_of r s i = side s.rows (one_of s.exchange (slice_index r.points i / r.columns) (slice_index r.points i % r.columns))
 
@@ -45,14 +45,6 @@ pub record BeginsAt (r : Region) (s : Symmetry) (left top : ℕ) : Type 0 where
   pub some_column : (i : ℕ) × (i < length r.points) × (column_of r s i ≡ left)
   pub rows : (i : ℕ) → i < length r.points → top ≤ row_of r s i
   pub some_row : (i : ℕ) × (i < length r.points) × (row_of r s i ≡ top)
-
--- whether the cell holds a stone of the colour
-abbrev pub is_stone : Colour → Cell → Bool
-is_stone c cell.Empty = false
-is_stone Black cell.Black = true
-is_stone Black cell.White = false
-is_stone White cell.Black = false
-is_stone White cell.White = true
 
 -- the order of the places of an image: row by row, then by column, and then by what is there
 abbrev pub spot_cmp : Spot → Spot → Ordering
@@ -65,13 +57,13 @@ abbrev pub spot_of : Region → List Cell → Symmetry → Bool → ℕ → ℕ 
 spot_of r cells s colours left top i = record {
   row = row_of r s i - top;
   column = column_of r s i - left;
-  black = is_stone Black (cell_after colours (held_at cells i));
-  white = is_stone White (cell_after colours (held_at cells i));
+  black = is_of Black (cell_after colours (held_at cells i));
+  white = is_of White (cell_after colours (held_at cells i));
   beside_black = is_beside (touch_at r.touch i) (colour_after colours Black);
   beside_white = is_beside (touch_at r.touch i) (colour_after colours White);
 }
 
--- this is known of some place
+-- `x` is what is known of some place of the region
 abbrev pub IsSpot : Region → List Cell → Symmetry → Bool → ℕ → ℕ → Spot → Type 0
 IsSpot r cells s colours left top x = (i : ℕ) × (i < length r.points) × (x ≡ spot_of r cells s colours left top i)
 

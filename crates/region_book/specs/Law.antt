@@ -14,7 +14,7 @@ differ false b = b
 differ true false = true
 differ true true = false
 
--- the turns bring both places to the same place
+-- place `i` of the one region and place `j` of the other are brought to the same place, each by its turn
 abbrev pub Meet : Region → Turn → Region → Turn → ℕ → ℕ → Type 0
 Meet r s q t i j = (i < length r.points) × (j < length q.points) × (slice_index t.places j ≡ slice_index s.places i)
 
@@ -23,7 +23,7 @@ abbrev pub TellsShapes : Region → List Cell → List Spot → Turn → Region 
 TellsShapes r cells x s q cells' y t = IsShape r cells x s → IsShape q cells' y t
     → (x ≡ y) ↔ HaveOneShape r.touch cells q.touch cells'
 
--- where shapes are equal, places that meet are partners
+-- where two positions have equal shapes, the places that their turns bring together are partners that carry the one onto the other
 abbrev pub PairsPlaces : Region → List Cell → List Spot → Turn → Region → List Cell → List Spot → Turn → Type 0
 PairsPlaces r cells x s q cells' y t = IsShape r cells x s → IsShape q cells' y t
     → x ≡ y → (turn : Symmetry) × Carries r.touch cells q.touch cells' (Meet r s q t) turn (differ s.colours t.colours)

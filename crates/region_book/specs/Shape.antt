@@ -18,13 +18,14 @@ pub data Direction : Type 0 where
   right : Direction
   down : Direction
 
+-- the place to which a place is linked in the direction, if there is one
 abbrev pub link : Touch → Direction → Option ℕ
 link t up = t.up
 link t left = t.left
 link t right = t.right
 link t down = t.down
 
--- columns and rows change places
+-- what becomes of a direction where columns and rows change places
 abbrev pub exchanged : Bool → Direction → Direction
 exchanged false d = d
 exchanged true up = left
@@ -32,7 +33,7 @@ exchanged true left = up
 exchanged true right = down
 exchanged true down = right
 
--- the columns go the other way
+-- what becomes of a direction where the columns go the other way
 abbrev pub columns_over : Bool → Direction → Direction
 columns_over false d = d
 columns_over true up = up
@@ -40,7 +41,7 @@ columns_over true left = right
 columns_over true right = left
 columns_over true down = down
 
--- the rows go the other way
+-- what becomes of a direction where the rows go the other way
 abbrev pub rows_over : Bool → Direction → Direction
 rows_over false d = d
 rows_over true up = down
@@ -57,6 +58,7 @@ abbrev pub colour_after : Bool → Colour → Colour
 colour_after false c = c
 colour_after true c = other c
 
+-- the cell, or the one with a stone of the other colour where colours are exchanged
 abbrev pub cell_after : Bool → Cell → Cell
 cell_after false x = x
 cell_after true cell.Empty = cell.Empty

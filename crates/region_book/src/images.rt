@@ -4,7 +4,8 @@ ghost use Rattle.std.specs.Prelude.{◌≡◌, ℕ, ◌*◌, ◌+◌, ◌-◌, �
 ghost use Rattle.go_grid.specs.Region.{touch_at};
 ghost use Rattle.local_play.specs.LocalPlay.{held_at, is_beside};
 ghost use Rattle.region_book.specs.Shape.{cell_after, colour_after};
-ghost use Rattle.region_book.specs.Image.{AtMost, BeginsAt, is_stone, spot_of};
+ghost use Rattle.region_book.specs.Image.{AtMost, BeginsAt, spot_of};
+ghost use Rattle.go_grid.specs.Stones.{is_of};
 ghost use Rattle.region_book.specs.declared.spots.Spot.{Spot};
 ghost use Rattle.region_book.specs.inner.Made.{AreImagePlaces, IsImageOf, IsLeastAmong, Spots};
 
@@ -16,16 +17,16 @@ use std::alloc::{AllocError, Global};
 
 /// An image, and the symmetry, the exchange and the beginning that make it.
 #[derive(Drop)]
-pub struct Image {
-    pub spots: Vec<Spot>,
-    pub symmetry: Symmetry,
-    pub colours: bool,
-    pub begin: Stand,
+pub(crate) struct Image {
+    pub(crate) spots: Vec<Spot>,
+    pub(crate) symmetry: Symmetry,
+    pub(crate) colours: bool,
+    pub(crate) begin: Stand,
 }
 
 /// Whether a cell holds a stone that is of the colour, or of the other one where colours are exchanged.
 fn is_stone(cell: Cell, colour: Colour, colours: bool) -> bool
-    ensures { result ≡ is_stone colour (cell_after colours cell) }
+    ensures { result ≡ is_of colour (cell_after colours cell) }
 {
     match (cell, colour) {
         (Cell::Empty, _) => false,

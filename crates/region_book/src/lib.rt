@@ -2,19 +2,13 @@
 //! colours exchanged.
 #![tactic(auto)]
 
-#[cfg(test)]
-mod drawn;
 mod images;
 mod laws;
-#[cfg(test)]
-mod pairing_tests;
+mod shape_of_region;
 mod shapes;
-mod shaping;
 mod spots;
 mod symmetry;
-#[cfg(test)]
-mod tests;
 
 pub use laws::one_shape;
+pub use shape_of_region::shape;
 pub use shapes::{Shape, Turn};
-pub use shaping::shape;

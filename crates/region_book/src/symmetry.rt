@@ -16,9 +16,9 @@ pub struct Symmetry {
 
 /// A column and a row.
 #[derive(Clone, Copy)]
-pub struct Stand {
-    pub column: u16,
-    pub row: u16,
+pub(crate) struct Stand {
+    pub(crate) column: u16,
+    pub(crate) row: u16,
 }
 
 /// A column or row of the largest board, counted from the other side where it is turned over.

@@ -25,13 +25,6 @@ pub record CutBelow (g : Board) (parts : List ℕ) (regions : List Region) (n : 
   pub every : (p : ℕ) → IsContested g p → label parts p < n → (r : Region) × Contains regions r × Contains r.points p
   pub ascending : AllPairs (λ r s. lowest r < lowest s) regions
 
-pub cut_start : (g : Board) (parts : List ℕ) (regions : List Region) → regions ≡ [] → CutBelow g parts regions 0
-cut_start g parts regions e = record {
-  each = λ r h. let w = subst (λ rs. Contains rs r) e h in absurd (omega (arith, w.1));
-  every = λ p h lt. absurd (omega arith);
-  ascending = λ i j d lt short. absurd (let w = subst (λ rs. j < length rs) e short in omega (arith, w));
-}
-
 pub cut_skip : (g : Board) (parts : List ℕ) (regions : List Region) (n : ℕ) → AreParts g.columns (IsContested g) parts
     → (IsContested g n → ¬ (label parts n ≡ n)) → CutBelow g parts regions n → CutBelow g parts regions (n + 1)
 cut_skip g parts regions n are other s = record {

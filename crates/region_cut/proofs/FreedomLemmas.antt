@@ -21,7 +21,8 @@ use Rattle.go_play.proofs.BoardPlay.{stands_from}
 use Rattle.benson_life.specs.Life.{IsAlive}
 use Rattle.benson_life.specs.Region.{IsContested}
 use Rattle.benson_life.proofs.WallLemmas.{walls_breathe}
-use Rattle.local_play.specs.LocalPlay.{IsLinked, InLocalChain, IsFree, IsRemoved, IsBeside as IsBesidePlace}
+use Rattle.local_play.specs.LocalPlay.{IsLinked, IsBeside as IsBesidePlace}
+use Rattle.local_play.specs.inner.LocalPlay.{InLocalChain, IsFree, IsRemoved}
 use Rattle.go_grid.proofs.PathLemmas.{carried, leads_here, leads_join, leads_start, leads_step}
 use Rattle.region_cut.specs.Cut.{IsRegionOfPlay, lowest}
 use Rattle.region_cut.specs.LocalBoard.{HoldsPosition}

@@ -11,9 +11,11 @@ use Rattle.go_grid.specs.Chain.{IsSettled}
 use Rattle.go_grid.specs.Board.{Board, cell_at, stone, other}
 use Rattle.go_grid.specs.Region.{Region}
 use Rattle.go_grid.specs.Play.{held_at, is_stone, with_stone as with_cell}
-use Rattle.go_play.specs.Place.{with_stone, IsPlaced, IsSameSize, IsTaken}
+use Rattle.go_play.specs.Place.{IsPlaced, IsSameSize, IsTaken}
+use Rattle.go_play.specs.inner.Place.{with_stone}
 use Rattle.go_play.proofs.BoardPlay.{placed_long}
-use Rattle.local_play.specs.LocalPlay.{IsRemoved, IsLocalMove}
+use Rattle.local_play.specs.LocalPlay.{IsLocalMove}
+use Rattle.local_play.specs.inner.LocalPlay.{IsRemoved}
 use Rattle.region_cut.specs.Cut.{IsRegionOfPlay}
 use Rattle.region_cut.specs.LocalBoard.{HoldsPosition, IsLocal, PlaysLocally}
 use Rattle.region_cut.proofs.FreedomLemmas.{among_or_not, free_down, free_up, inside, point_contested, removed_up, taken_down}

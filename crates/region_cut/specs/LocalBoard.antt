@@ -16,7 +16,8 @@ pub record HoldsPosition (g : Board) (r : Region) (cells : List Cell) (h : Board
   pub long : length cells ≡ length r.points
   pub local : (i : ℕ) → i < length r.points → cell_at h (slice_index r.points i) ≡ held_at cells i
 
--- From `h` to `after` the region's cells go from `cells` to `next`, no point outside the region changes, and the number taken is the local one.
+-- From `h` to `after` the region's cells go from `cells` to `next`, no point outside the region changes, and the number taken is
+-- the local one.
 pub record IsLocal (r : Region) (h after : Board) (cells next : List Cell) : Type 0 where
   pub inside : (i : ℕ) → i < length r.points → cell_at after (slice_index r.points i) ≡ held_at next i
   pub outside : (p : ℕ) → ¬ Contains r.points p → cell_at after p ≡ cell_at h p
@@ -29,6 +30,6 @@ pub record PlaysLocally (g : Board) (r : Region) : Type 0 where
   pub local : (cells next : List Cell) (h after : Board) (c : Colour) (i : ℕ) → HoldsPosition g r cells h → i < length r.points
       → IsPlaced h (slice_index r.points i) c after → IsLocalMove r.touch cells c i next → IsLocal r h after cells next
 
--- that holds of each region of play of a settled board
+-- in each region of play of a settled board, local play is play on the board
 abbrev pub LocalPlayIsPlay : Type 0
 LocalPlayIsPlay = (g : Board) (r : Region) → IsSettled g → IsRegionOfPlay g r → PlaysLocally g r

@@ -13,7 +13,7 @@ ghost use Rattle.benson_life.specs.Region.{IsContested, InRegionOfPlay};
 ghost use Rattle.region_cut.specs.Cut.{AreRegionsOfPlay, IsRegionOfPlay, IsWalledIn, lowest};
 ghost use Rattle.region_cut.specs.LocalBoard.{PlaysLocally};
 
-use crate::touching::touches_of;
+use crate::region_touches::touches_of;
 use benson_life::{Territory, alive_set, contested};
 use go_grid::{Board, Cell, Colour, Point, Points, Region, components, fill, label_of};
 use std::alloc::{AllocError, Global};
@@ -77,8 +77,10 @@ fn cut_sets(
     requires black { Marks black.now (IsAlive board.now Black) }
     requires white { Marks white.now (IsAlive board.now White) }
     ensures regions { IfOk result (λ regions. AreRegionsOfPlay board.now regions.items) }
-    ensures walled { IfOk result (λ regions. (r : Region) → Contains regions.items r → IsWalledIn board.now r) }
-    ensures local { IfOk result (λ regions. (r : Region) → Contains regions.items r → PlaysLocally board.now r) }
+    ensures walled { IfOk result (λ regions. (r : Region) → Contains regions.items r
+        → IsWalledIn board.now r) }
+    ensures local { IfOk result (λ regions. (r : Region) → Contains regions.items r
+        → PlaysLocally board.now r) }
 {
     let size = board.size();
     let parts = components(size, within);
@@ -109,8 +111,10 @@ pub fn cut(
     requires black_counted { Lists black_counted.now (IsCounted board.now Black) }
     requires white_counted { Lists white_counted.now (IsCounted board.now White) }
     ensures regions { IfOk result (λ regions. AreRegionsOfPlay board.now regions.items) }
-    ensures walled { IfOk result (λ regions. (r : Region) → Contains regions.items r → IsWalledIn board.now r) }
-    ensures local { IfOk result (λ regions. (r : Region) → Contains regions.items r → PlaysLocally board.now r) }
+    ensures walled { IfOk result (λ regions. (r : Region) → Contains regions.items r
+        → IsWalledIn board.now r) }
+    ensures local { IfOk result (λ regions. (r : Region) → Contains regions.items r
+        → PlaysLocally board.now r) }
 {
     let within = contested(
         board,
@@ -133,8 +137,10 @@ pub fn cut_territory(
     requires settled { IsSettled board.now }
     requires territory { IsTerritory board.now territory.now }
     ensures regions { IfOk result (λ regions. AreRegionsOfPlay board.now regions.items) }
-    ensures walled { IfOk result (λ regions. (r : Region) → Contains regions.items r → IsWalledIn board.now r) }
-    ensures local { IfOk result (λ regions. (r : Region) → Contains regions.items r → PlaysLocally board.now r) }
+    ensures walled { IfOk result (λ regions. (r : Region) → Contains regions.items r
+        → IsWalledIn board.now r) }
+    ensures local { IfOk result (λ regions. (r : Region) → Contains regions.items r
+        → PlaysLocally board.now r) }
 {
     let within = territory.contested(board);
     cut_sets(

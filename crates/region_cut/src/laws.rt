@@ -3,6 +3,6 @@
 ghost use Rattle.region_cut.specs.LocalBoard.{LocalPlayIsPlay};
 
 /// In each region of play of a settled board local play is play on the board. It has no code.
-pub fn local_play_law()
+pub fn local_play_laws()
     ensures { LocalPlayIsPlay }
 {}

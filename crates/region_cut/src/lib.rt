@@ -3,9 +3,7 @@
 
 mod cuts;
 mod laws;
-#[cfg(test)]
-mod tests;
-mod touching;
+mod region_touches;
 
 pub use cuts::{cut, cut_territory};
-pub use laws::local_play_law;
+pub use laws::local_play_laws;

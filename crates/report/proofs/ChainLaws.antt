@@ -15,7 +15,8 @@ use Rattle.go_play.specs.Place.{Placings}
 use Rattle.benson_attack.specs.Attack.{IsAttack}
 use Rattle.benson_life.specs.Life.{IsAlive}
 use Rattle.report.specs.declared.chains.ChainLine.{ChainLine}
-use Rattle.report.specs.Chains.{AreChainLines, IsAttackIfAny, IsChainLine, IsLowestStone}
+use Rattle.report.specs.Chains.{AreChainLines, IsChainLine, IsLowestStone}
+use Rattle.report.specs.inner.Chains.{IsAttackIfAny}
 use Rattle.report.proofs.SafetyLaws.{first_least, has_first, is_first}
 
 -- no chain has its lowest stone where no stone is, or where another stone of the chain is lower

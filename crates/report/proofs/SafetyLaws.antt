@@ -22,7 +22,7 @@ use Rattle.report.proofs.TextLaws.{three_pieces}
 use Rattle.report.specs.declared.chains.ChainLine.{ChainLine}
 use Rattle.report.specs.declared.safety.CountedLine.{CountedLine}
 use Rattle.report.specs.Chains.{AreChainLines, chain_lines}
-use Rattle.report.specs.Safety.{AreCountedLines, IsSafeText, counted_line, groups_line, shape_line, IsLowestCounted, IsCountedLine, IsCountedKey, turn}
+use Rattle.report.specs.Safety.{AreCountedLines, IsSafeText, counted_line, groups_line, region_line, IsLowestCounted, IsCountedLine, IsCountedKey, turn}
 
 -- a list that has a point isn't empty, and its first point is the least
 pub has_first : (points : List ℕ) (p : ℕ) → Contains points p → 0 < length points
@@ -92,14 +92,14 @@ counted_on_board g ls are k d lt = (are.each (get_or ls k d) (Contains-get_or ls
 -- the text of the lines of a board
 pub safe_text_is : (g : Board) (k : ℕ) (chains : List ChainLine) (counted : List CountedLine) (black white : ℕ) (regions : List Region) (t u v x y w text : List ℕ)
     → k ≡ g.columns → AreChainLines g chains → AreCountedLines g counted → IsNumberOfGroups g Black black → IsNumberOfGroups g White white → AreRegionsOfPlay g regions → t ≡ [] → u ≡ t ++ flat_map (chain_lines k) chains
-    → v ≡ u ++ flat_map (counted_line k) counted → x ≡ v ++ groups_line Black black → y ≡ x ++ groups_line White white → w ≡ y ++ flat_map (shape_line k) regions
+    → v ≡ u ++ flat_map (counted_line k) counted → x ≡ v ++ groups_line Black black → y ≡ x ++ groups_line White white → w ≡ y ++ flat_map (region_line k) regions
     → text ≡ w → IsSafeText g text
 safe_text_is g k chains counted black white regions t u v x y w text e a b m n r empty first second third fourth fifth is =
     let groups = groups_line Black black ++ groups_line White white in
     let both : y ≡ v ++ groups = fourth ∙ ap (λ z. z ++ groups_line White white) third ∙ append_assoc v (groups_line Black black) (groups_line White white) in
-    let rest : w ≡ v ++ (groups ++ flat_map (shape_line k) regions) = fifth ∙ ap (λ z. z ++ flat_map (shape_line k) regions) both
-    ∙ append_assoc v groups (flat_map (shape_line k) regions) in
-    let three = three_pieces t u v w (flat_map (chain_lines k) chains) (flat_map (counted_line k) counted) (groups ++ flat_map (shape_line k) regions) empty first second rest in record {
+    let rest : w ≡ v ++ (groups ++ flat_map (region_line k) regions) = fifth ∙ ap (λ z. z ++ flat_map (region_line k) regions) both
+    ∙ append_assoc v groups (flat_map (region_line k) regions) in
+    let three = three_pieces t u v w (flat_map (chain_lines k) chains) (flat_map (counted_line k) counted) (groups ++ flat_map (region_line k) regions) empty first second rest in record {
       chains = chains;
       counted = counted;
       black_groups = black;
@@ -110,7 +110,7 @@ safe_text_is g k chains counted black white regions t u v x y w text e a b m n r
       are_black = m;
       are_white = n;
       are_regions = r;
-      is = is ∙ subst (λ j. w ≡ flat_map (chain_lines j) chains ++ (flat_map (counted_line j) counted ++ (groups ++ flat_map (shape_line j) regions))) e three;
+      is = is ∙ subst (λ j. w ≡ flat_map (chain_lines j) chains ++ (flat_map (counted_line j) counted ++ (groups ++ flat_map (region_line j) regions))) e three;
     }
 
 -- the regions are on the board

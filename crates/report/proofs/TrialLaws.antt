@@ -3,9 +3,12 @@ use Rattle.std.proofs.Common.{◌≡◌, ◌∙◌, ◌++◌, ◌+◌, ◌<◌, 
 use Rattle.std.proofs.lemmas.List.{take_more}
 use Rattle.go_grid.specs.Region.{Region}
 use Rattle.endgame_solver.specs.Regions.{no_region, region_at}
-use Rattle.endgame_solver.specs.Solved.{SolvedGame, IsNumberOfPositions, IsNumberOfShapes}
-use Rattle.report.specs.Solution.{HasOutcome, count_line, move_line, winner_line}
-use Rattle.report.specs.Trial.{AreTogether, HasCounts, IsTrialText, counts_text}
+use Rattle.endgame_solver.specs.Solved.{Solved, IsNumberOfPositions, IsNumberOfShapes}
+use Rattle.report.specs.Solution.{count_line, move_line}
+use Rattle.report.specs.inner.Solution.{HasOutcome}
+use Rattle.board_words.specs.Words.{winner_line}
+use Rattle.report.specs.Trial.{IsTrialText, counts_text}
+use Rattle.report.specs.inner.Trial.{AreTogether, HasCounts}
 use Rattle.report.proofs.SolutionLaws.{numbers_more, sum_more}
 use Rattle.report.proofs.TextLaws.{three_more}
 
@@ -35,7 +38,7 @@ counts_are number rs a b c d e total shapes (numbers, counted, whole) are first 
 }
 
 -- the text, piece by piece
-pub trial_is : (number : ℕ) (game : SolvedGame) (a b c d : List ℕ) → a ≡ [] → HasCounts number game.regions a b → HasOutcome game.state b c → d ≡ c
+pub trial_is : (number : ℕ) (game : Solved) (a b c d : List ℕ) → a ≡ [] → HasCounts number game.regions a b → HasOutcome game.state b c → d ≡ c
     → IsTrialText number game d
 trial_is number game a b c d empty counts outcome same =
     let head = counts_text number game.regions counts.numbers counts.shapes in

@@ -14,16 +14,14 @@ use Rattle.report.specs.Solution.{count_line, solved_line}
 use Rattle.game_text.specs.NamedText.{named_text}
 use Rattle.report.specs.declared.values.ValuesError.{ValuesError}
 use Rattle.report.specs.declared.values.ValuesError.TheVariants.{Form, Memory}
-use Rattle.report.specs.Values.{IsRefusal, AreEntries, Entry, HasEntries, HasEntry, HasShownValue, IsEntry, IsFirstUnshown, IsUnshown, IsValuesText, entry_lines}
+use Rattle.report.specs.Values.{IsRefusal, AreEntries, Entry, HasShownValue, IsEntry, IsFirstUnshown, IsUnshown, IsValuesText, entry_lines}
+use Rattle.report.specs.inner.Values.{HasEntries, HasEntry}
 
 entries_more : (rs : List Region) (es : List Entry) (r : Region) (e : Entry) → AreEntries rs es → e.region ≡ r → IsEntry e → AreEntries (rs ++ r ∷ []) (es ++ e ∷ [])
 entries_more [] [] r e h at is = (at, is, tt)
 entries_more [] (d ∷ es) r e h at is = absurd h
 entries_more (q ∷ rs) [] r e h at is = absurd h
 entries_more (q ∷ rs) (d ∷ es) r e h at is = (h.0, h.1, entries_more rs es r e h.2 at is)
-
-pub entries_start : (c : ℕ) (rs : List Region) (text : List ℕ) → HasEntries c (take 0 rs) text text
-entries_start c rs text = record { entries = []; are = tt; lines = sym (append-nil text) }
 
 -- one region more
 pub entries_step : (c : ℕ) (Ts : List Tree) (rs : List Region) (i : ℕ) (report : RegionReport) (before now after : List ℕ) → HasEntries c (take i rs) before now → i < length rs

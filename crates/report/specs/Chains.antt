@@ -1,5 +1,5 @@
 -- The lines of chains in the text of `safe`: alive or open, and an attack on each that is open.
-use Rattle.std.specs.Prelude.{◌≡◌, ◌↔◌, ◌++◌, ◌≤◌, ◌⊎◌, ℕ, List, [], Bool, true, false, length, codes, decimal, flat_map}
+use Rattle.std.specs.Prelude.{◌≡◌, ◌↔◌, ◌++◌, ◌≤◌, ℕ, List, [], Bool, true, false, length, codes, decimal, flat_map}
 use Rattle.go_grid.specs.declared.grid.Colour.{Colour}
 use Rattle.go_grid.specs.Chain.{InChain}
 use Rattle.go_grid.specs.Board.{Board, HasStone}
@@ -7,7 +7,8 @@ use Rattle.benson_attack.specs.Attack.{IsAttack}
 use Rattle.benson_life.specs.Held.{IsNumberOf}
 use Rattle.benson_life.specs.Life.{IsAlive}
 use Rattle.report.specs.declared.chains.ChainLine.{ChainLine}
-use Rattle.report.specs.Lines.{colour_word, point_name}
+use Rattle.go_grid.specs.Name.{point_name}
+use Rattle.board_words.specs.Words.{colour_word}
 use Rattle.report.specs.Listing.{ListsBelow}
 
 -- the stone is the lowest of its chain
@@ -29,27 +30,28 @@ AreChainsBelow g n ls = ListsBelow ChainLine (λ l. l.lowest) (IsChainLine g) (�
 abbrev pub AreChainLines : Board → List ChainLine → Type 0
 AreChainLines g ls = AreChainsBelow g (length g.cells) ls
 
--- placings that take the stone, or none where it is alive
-abbrev pub IsAttackIfAny : Board → Colour → ℕ → List ℕ → Type 0
-IsAttackIfAny g c s placings = (IsAlive g c s × (placings ≡ [])) ⊎ ((¬ IsAlive g c s) × IsAttack g c s placings)
-
+-- the word for whether a chain is alive
 abbrev pub life_word : Bool → List ℕ
 life_word true = codes "alive"
 life_word false = codes "open"
 
+-- the line of a chain: its lowest stone, its colour, how many stones it has, and whether it is alive
 unfoldable pub chain_line : ℕ → ChainLine → List ℕ
 chain_line columns l = codes "chain " ++ (point_name columns l.lowest ++ (codes " " ++ (colour_word l.colour ++ (codes " stones " ++ (decimal l.stones ++ (codes " " ++ (life_word l.alive ++ codes "\n")))))))
 
+-- a point's name, behind a space
 unfoldable pub placing : ℕ → ℕ → List ℕ
 placing columns p = codes " " ++ point_name columns p
 
+-- the line of an attack: its placings in order
 unfoldable pub attack_line : ℕ → List ℕ → List ℕ
 attack_line columns placings = codes "attack" ++ (flat_map (placing columns) placings ++ codes "\n")
 
--- a chain's line, and behind it where the chain is open the line of an attack
+-- the line of an attack on a chain that isn't alive, and nothing for one that is
 abbrev pub attack_of : ℕ → ChainLine → Bool → List ℕ
 attack_of columns l true = []
 attack_of columns l false = attack_line columns l.attack.items
 
+-- the line of a chain, and behind it, where the chain is open, the line of an attack
 abbrev pub chain_lines : ℕ → ChainLine → List ℕ
 chain_lines columns l = chain_line columns l ++ attack_of columns l l.alive

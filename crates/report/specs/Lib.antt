@@ -1,7 +1,7 @@
-pub mod Lines
 pub mod Solution
 pub mod Listing
 pub mod Chains
 pub mod Safety
 pub mod Values
 pub mod Trial
+pub mod inner

@@ -12,7 +12,8 @@ use Rattle.region_cut.specs.Cut.{AreRegionsOfPlay, lowest}
 use Rattle.report.specs.declared.chains.ChainLine.{ChainLine}
 use Rattle.report.specs.declared.safety.CountedLine.{CountedLine}
 use Rattle.report.specs.Chains.{AreChainLines, chain_lines}
-use Rattle.report.specs.Lines.{colour_word, point_name}
+use Rattle.go_grid.specs.Name.{point_name}
+use Rattle.board_words.specs.Words.{colour_word}
 use Rattle.report.specs.Listing.{ListsBelow}
 
 -- the point is the lowest of a counted region of the colour
@@ -27,15 +28,16 @@ pub record IsCountedLine (g : Board) (l : CountedLine) : Type 0 where
   pub points : l.points ≡ length within
   pub held : l.held ≡ sum_by (worth g l.colour) within
 
--- the order of counted regions: by lowest point, and Black's first
+-- the number of a colour in the order of lines: Black's come first
 abbrev pub turn : Colour → ℕ
 turn Black = 0
 turn White = 1
 
+-- the key of a counted region's line, which orders the lines by lowest point, and Black's first
 abbrev pub counted_key : CountedLine → ℕ
 counted_key l = 2 * l.lowest + turn l.colour
 
--- the point and the colour of a key
+-- the key is that of a counted region, by its lowest point and its colour
 abbrev pub IsCountedKey : Board → ℕ → Type 0
 IsCountedKey g k = (c : Colour) × (p : ℕ) × (k ≡ 2 * p + turn c) × IsLowestCounted g c p
 
@@ -47,19 +49,21 @@ AreCountedBelow g n ls = ListsBelow CountedLine counted_key (IsCountedLine g) (I
 abbrev pub AreCountedLines : Board → List CountedLine → Type 0
 AreCountedLines g ls = AreCountedBelow g (2 * length g.cells) ls
 
+-- the line of a counted region: its lowest point, its colour, how many points it has, and what they are worth
 unfoldable pub counted_line : ℕ → CountedLine → List ℕ
 counted_line columns l = codes "counted " ++ (point_name columns l.lowest ++ (codes " " ++ (colour_word l.colour ++ (codes " points " ++ (decimal l.points ++ (codes " held " ++ (decimal l.held ++ codes "\n")))))))
 
--- how many groups a colour has
+-- the line of how many groups a colour has
 unfoldable pub groups_line : Colour → ℕ → List ℕ
 groups_line c n = codes "groups " ++ (colour_word c ++ (codes " " ++ (decimal n ++ codes "\n")))
 
--- a region of play by its lowest point and the number of its points
-unfoldable pub region_line : ℕ → ℕ → ℕ → List ℕ
-region_line columns p n = codes "region " ++ (point_name columns p ++ (codes " points " ++ (decimal n ++ codes "\n")))
+-- the line of a region of play, by its lowest point and the number of its points
+unfoldable pub sized_line : ℕ → ℕ → ℕ → List ℕ
+sized_line columns p n = codes "region " ++ (point_name columns p ++ (codes " points " ++ (decimal n ++ codes "\n")))
 
-abbrev pub shape_line : ℕ → Region → List ℕ
-shape_line columns r = region_line columns (lowest r) (length r.points)
+-- the line of a region of play
+abbrev pub region_line : ℕ → Region → List ℕ
+region_line columns r = sized_line columns (lowest r) (length r.points)
 
 -- A text of `safe` for a board: its chains, with an attack on each that is open, its counted regions, the numbers of groups and
 -- its regions of play. Which attacks are written is free.
@@ -75,4 +79,4 @@ pub record IsSafeText (g : Board) (text : List ℕ) : Type 0 where
   pub are_white : IsNumberOfGroups g White white_groups
   pub are_regions : AreRegionsOfPlay g regions
   pub is : text ≡ flat_map (chain_lines g.columns) chains ++ (flat_map (counted_line g.columns) counted
-      ++ ((groups_line Black black_groups ++ groups_line White white_groups) ++ flat_map (shape_line g.columns) regions))
+      ++ ((groups_line Black black_groups ++ groups_line White white_groups) ++ flat_map (region_line g.columns) regions))

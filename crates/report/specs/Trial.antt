@@ -4,8 +4,9 @@ use Rattle.go_grid.specs.declared.grid.Colour.{Colour}
 use Rattle.go_grid.specs.Region.{Region}
 use Rattle.whole_rules.specs.declared.states.Move.{Move}
 use Rattle.whole_rules.specs.FirstWinningMove.{IsFirstWinning, IsWinner}
-use Rattle.endgame_solver.specs.Solved.{SolvedGame, IsNumberOfShapes}
-use Rattle.report.specs.Solution.{AreNumbers, count_line, move_line, winner_line}
+use Rattle.endgame_solver.specs.Solved.{Solved, IsNumberOfShapes}
+use Rattle.report.specs.Solution.{AreNumbers, count_line, move_line}
+use Rattle.board_words.specs.Words.{winner_line}
 
 -- the number, how many regions there are, how many positions they have together, and of how many different shapes they are
 abbrev pub counts_text : ℕ → List Region → List ℕ → ℕ → List ℕ
@@ -14,7 +15,7 @@ counts_text number regions numbers shapes =
     ++ count_line (codes "shapes") shapes))
 
 -- the text of `trial` for a number and a solved game: its counts, its winner and its first winning move
-pub record IsTrialText (number : ℕ) (game : SolvedGame) (text : List ℕ) : Type 0 where
+pub record IsTrialText (number : ℕ) (game : Solved) (text : List ℕ) : Type 0 where
   pub numbers : List ℕ
   pub shapes : ℕ
   pub winner : Colour
@@ -24,15 +25,3 @@ pub record IsTrialText (number : ℕ) (game : SolvedGame) (text : List ℕ) : Ty
   pub wins : IsWinner game.state winner
   pub first : IsFirstWinning game.state move
   pub is : text ≡ counts_text number game.regions numbers shapes ++ (winner_line winner ++ move_line game.state.board.columns move)
-
--- so many positions do the regions have together
-abbrev pub AreTogether : List Region → ℕ → Type 0
-AreTogether regions total = (numbers : List ℕ) × AreNumbers regions numbers × (total ≡ sum numbers)
-
--- behind the text stand the counts
-pub record HasCounts (number : ℕ) (regions : List Region) (before now : List ℕ) : Type 0 where
-  pub numbers : List ℕ
-  pub shapes : ℕ
-  pub counted : AreNumbers regions numbers
-  pub of_shapes : IsNumberOfShapes regions shapes
-  pub text : now ≡ before ++ counts_text number regions numbers shapes

@@ -5,16 +5,17 @@ ghost use Rattle.go_grid.specs.declared.grid.Colour.{Colour};
 ghost use Rattle.go_grid.specs.Chain.{IsSettled, StoneAt};
 ghost use Rattle.go_grid.specs.Board.{HasStone};
 ghost use Rattle.benson_attack.specs.Attacks.{AreAttacks};
-ghost use Rattle.report.specs.Chains.{AreChainLines, AreChainsBelow, IsAttackIfAny, attack_line, chain_line, chain_lines, life_word, placing};
+ghost use Rattle.report.specs.Chains.{AreChainLines, AreChainsBelow, attack_line, chain_line, chain_lines, life_word, placing};
+ghost use Rattle.report.specs.inner.Chains.{IsAttackIfAny};
 
-use crate::lines::{colour_word, write_name};
 use crate::safety::stands_first;
 use benson_attack::{AttackError, Attacks};
+use board_words::{colour_word, write_name};
 use go_grid::{Board, Colour, Point, Size};
 use std::alloc::{AllocError, Global};
 
 /// A chain by its lowest stone.
-#[derive(Drop)]
+#[derive(Debug, Drop)]
 pub struct ChainLine {
     pub lowest: Point,
     pub colour: Colour,

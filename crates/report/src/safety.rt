@@ -10,19 +10,19 @@ ghost use Rattle.go_grid.specs.declared.grid.Colour.{Colour};
 ghost use Rattle.go_grid.specs.declared.grid.Colour.TheVariants.{Black, White};
 ghost use Rattle.region_cut.specs.Cut.{AreRegionsOfPlay, lowest};
 ghost use Rattle.report.specs.Chains.{AreChainLines};
-ghost use Rattle.report.specs.Safety.{AreCountedBelow, AreCountedLines, IsSafeText, counted_line, groups_line, region_line, shape_line, turn};
+ghost use Rattle.report.specs.Safety.{AreCountedBelow, AreCountedLines, IsSafeText, counted_line, groups_line, sized_line, region_line, turn};
 
 use crate::chains::{ChainLine, chain_lines, write_chains};
-use crate::lines::{colour_word, write_name};
 use benson_attack::Attacks;
 use benson_life::{Territory, held};
+use board_words::{colour_word, write_name};
 use game_text::Text;
 use go_grid::{Board, Colour, Point, Points, Region, Size, fill};
 use region_cut::cut_territory;
 use std::alloc::{AllocError, Global};
 
 /// A counted region by its lowest point.
-#[derive(Clone, Copy)]
+#[derive(Clone, Copy, Debug)]
 pub struct CountedLine {
     pub lowest: Point,
     pub colour: Colour,
@@ -182,7 +182,7 @@ fn write_region(
 ) -> Result<(), AllocError>
     requires { lowest < size.columns * size.rows }
     ensures { OnOk result
-        (string_bytes text.new ≡ string_bytes text.old ++ region_line size.columns lowest points) }
+        (string_bytes text.new ≡ string_bytes text.old ++ sized_line size.columns lowest points) }
 {
     text.push_str("region ")?;
     write_name(text, size, lowest)?;
@@ -195,7 +195,7 @@ fn write_region(
 fn write_regions(text: &mut String, size: Size, regions: &[Region]) -> Result<(), AllocError>
     requires { All (λ r. (r.columns ≡ size.columns) × (r.rows ≡ size.rows)) regions.now }
     ensures { OnOk result (string_bytes text.new ≡ string_bytes text.old ++ flat_map
-        (shape_line size.columns) regions.now) }
+        (region_line size.columns) regions.now) }
 {
     'writing: for region in regions {
         write_region(text, size, lowest_of(region), count_of(region))?;

@@ -2,11 +2,13 @@
 
 ghost use Rattle.std.specs.Prelude.{◌≡◌, ◌<◌, ◌*◌, ◌++◌, OnOk, IfOk, IfSome, MatchOption, string_bytes, Some};
 ghost use Rattle.go_grid.specs.Board.{other};
-ghost use Rattle.report.specs.Solution.{HasLines, HasOutcome, HasRegions, IsMoveOnBoard, IsSolveText, count_line, move_line, purse_line, solved_line, state_lines, token_word, winner_line};
+ghost use Rattle.report.specs.Solution.{IsSolveText, count_line, move_line, purse_line, solved_line, state_lines, token_word};
+ghost use Rattle.report.specs.inner.Solution.{HasLines, HasOutcome, HasRegions};
+ghost use Rattle.whole_rules.specs.Moves.{IsMoveOnBoard};
+ghost use Rattle.board_words.specs.Words.{winner_line};
 
-use crate::lines::{colour_word, write_name, write_point};
+use board_words::{colour_word, write_name, write_point, write_words};
 use endgame_solver::Solved;
-use game_lines::write_words;
 use game_text::Text;
 use go_grid::{Colour, Point, Size};
 use std::alloc::{AllocError, Global};
@@ -44,7 +46,7 @@ fn write_state(text: &mut String, state: &Whole) -> Result<(), AllocError>
 }
 
 /// Appends the line of a move.
-#[tactic(auto, using(std::proofs::Common::append_assoc), unfolding(game_lines::specs::Words::word_line, crate::specs::Lines::point_line))]
+#[tactic(auto, using(std::proofs::Common::append_assoc), unfolding(board_words::specs::Words::word_line))]
 fn write_move(text: &mut String, size: Size, chosen: Move) -> Result<(), AllocError>
     requires { IsMoveOnBoard size.columns size.rows chosen }
     ensures { OnOk result (string_bytes text.new ≡ string_bytes text.old ++ move_line size.columns

@@ -1,7 +1,8 @@
 //! The text of `trial`.
 
 ghost use Rattle.std.specs.Prelude.{◌≡◌, ◌++◌, IfOk, OnOk, string_bytes};
-ghost use Rattle.report.specs.Trial.{AreTogether, HasCounts, IsTrialText};
+ghost use Rattle.report.specs.Trial.{IsTrialText};
+ghost use Rattle.report.specs.inner.Trial.{AreTogether, HasCounts};
 
 use crate::solution::{write_count, write_solution};
 use endgame_solver::Solved;

@@ -4,7 +4,8 @@ ghost use Rattle.std.specs.Prelude.{◌≡◌, ◌<◌, ◌*◌, length, IfOk, I
 ghost use Rattle.short_games.specs.Tree.{tree_at};
 ghost use Rattle.game_lines.specs.Showings.{IsShowing, IsUnshown};
 ghost use Rattle.report.specs.Solution.{solved_line};
-ghost use Rattle.report.specs.Values.{HasEntries, HasEntry, IsFirstUnshown, IsRefusal, IsValuesText};
+ghost use Rattle.report.specs.Values.{IsFirstUnshown, IsRefusal, IsValuesText};
+ghost use Rattle.report.specs.inner.Values.{HasEntries, HasEntry};
 ghost use Rattle.report.specs.declared.values.ValuesError.TheVariants as the_error;
 
 use crate::solution::{write_count, write_region};

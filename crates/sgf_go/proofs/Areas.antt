@@ -6,7 +6,8 @@ use Rattle.std.proofs.lemmas.Nat.{mul-add-lt, div-add-mod', mod-mul-add, div-mul
 use Rattle.go_grid.specs.Board.{Board, cell_at}
 use Rattle.go_grid.specs.declared.grid.Cell.{Cell}
 use Rattle.go_grid.specs.declared.grid.Cell.TheVariants.{Empty}
-use Rattle.sgf_go.specs.Values.{Rectangle, IsIn, IsInRow}
+use Rattle.sgf_go.specs.Values.{Rectangle, IsIn}
+use Rattle.sgf_go.specs.inner.Values.{IsInRow}
 use Rattle.sgf_go.specs.Setup.{IsSet}
 use Rattle.go_grid.proofs.BoardLemmas.{cell_stable}
 

@@ -4,7 +4,8 @@ use Rattle.std.specs.Prelude.{Option, nat_le, neg_ℤ}
 use Rattle.std.specs.Option.{option_map}
 use Rattle.std.specs.Char.{is_ascii_digit, digit_value}
 use Rattle.std.specs.Str.Parse.{digits_value_after}
-use Rattle.sgf_go.specs.Komi.{IsKomi, unsigned, positive, negative, IsHalves, halves, IsFraction, nothing, zeros, half, AreDigits, AreZeros, plus, minus, dot, digit_0, digit_5}
+use Rattle.sgf_go.specs.Komi.{IsKomi, unsigned, positive, negative, IsHalves, halves, IsFraction, nothing, zeros, half, AreDigits, AreZeros, digit_0, digit_5}
+use Rattle.std.specs.Float.Numeral.{dot, minus, plus}
 use Rattle.sgf_go.specs.inner.Scan.{all_zeros, fraction, scan, scan_signed}
 
 some-is : {A : Type 0} {x y : A} → Some x ≡ Some y → x ≡ y

@@ -2,7 +2,7 @@
 use Rattle.std.proofs.Common.{◌≡◌, ℕ, refl, sym, ap, ◌∙◌, subst, List, Some, None, Result, Ok, Err}
 use Rattle.std.specs.Prelude.{Option}
 use Rattle.sgf_tree.specs.Grammar.{PropertyText}
-use Rattle.sgf_tree.specs.Reading.{Answer, IsAnswer as IsTreeAnswer}
+use Rattle.sgf_tree.specs.Reading.{Answer, IsTreeAnswer}
 use Rattle.sgf_tree.specs.Reading.Answer.{line, no_tree, bad_byte, cut_short, too_deep}
 use Rattle.sgf_tree.specs.declared.fault.TreeFault.{TreeFault}
 use Rattle.sgf_tree.specs.declared.fault.TreeFault.TheVariants.{NoTree, BadByte, CutShort, TooDeep}

@@ -1,9 +1,8 @@
 -- A main line gives at most one position or fault.
-use Rattle.std.proofs.Common.{ℕ, ◌+◌, ◌*◌, ◌/◌, ◌%◌, ◌<◌, ◌≡◌, List, [], ◌∷◌, length, take, drop, get_or, arith, refl, sym, inl, inr, ◌∙◌, ap, ap₂, subst, Bool, true, false, Some, None, ℤ}
+use Rattle.std.proofs.Common.{ℕ, ◌+◌, ◌<◌, ◌≡◌, List, [], ◌∷◌, length, take, drop, get_or, arith, refl, sym, inl, inr, ◌∙◌, ap, ap₂, subst, Bool, true, false, Some, None, ℤ}
 use Rattle.std.specs.Prelude.{Option, Result, Ok, Err, codes, count_by}
 use Rattle.std.proofs.lemmas.List.{ext_get_or}
 use Rattle.std.proofs.lemmas.Bool.{cases_lt}
-use Rattle.std.proofs.lemmas.Nat.{div-add-mod'}
 use Rattle.go_grid.specs.declared.grid.Colour.{Colour}
 use Rattle.go_grid.specs.declared.grid.Cell.{Cell}
 use Rattle.go_grid.specs.declared.grid.Cell.TheVariants.{Empty}
@@ -11,10 +10,12 @@ use Rattle.go_grid.specs.Board.{Board, cell_at}
 use Rattle.go_grid.specs.Chain.{IsSettled, IsFirstChoked}
 use Rattle.go_play.specs.Place.{Answers}
 use Rattle.go_grid.specs.Play.{is_stone}
-use Rattle.go_play.specs.declared.placing.PlaceError.{PlaceError}
-use Rattle.go_play.specs.declared.placing.PlaceError.TheVariants as place
+use Rattle.go_play.specs.declared.placements.PlaceError.{PlaceError}
+use Rattle.go_play.specs.declared.placements.PlaceError.TheVariants as place
 use Rattle.sgf_tree.specs.Grammar.{PropertyText}
-use Rattle.sgf_go.specs.Values.{trimmed, Says, Rectangle, between, IsPoint, IsArea, point, corners, colon, IsIn, Extent, IsSide, IsSize, square, sides, LacksColon}
+use Rattle.sgf_go.specs.Values.{trimmed, Says, Rectangle, between, IsArea, point, corners, colon, IsIn, Extent, IsSide, IsSize, square, sides}
+use Rattle.sgf_go.specs.inner.Values.{LacksColon}
+use Rattle.go_grid.specs.Name.{IsName}
 use Rattle.sgf_go.specs.Setup.{Part, GoesOn, ◌then◌, For, Skips, IsSet, Sets, SetsValue, SetsValues, SetsProperty, cell_set, Turns, TurnsTo, side_of, placed, moved, with_taken, Choice, pass, stone_at, nothing, is_pass, IsChoice, Chooses, Moves, MovesProperty, mover, first_value, value_of, Side, NodePart, LinePart, Unless, ends_before, IsKomiFor, Ends, FromKomi, FromSize, FromGame, is_go, IsBoardSize, root, empty_board, OnePosition}
 use Rattle.sgf_go.specs.declared.replay.Replay.{Replay}
 use Rattle.sgf_go.specs.declared.settings.Settings.{Settings}
@@ -26,6 +27,7 @@ use Rattle.sgf_go.proofs.Points.{point_not_corners}
 use Rattle.sgf_go.proofs.Sizes.{square_only, sides_only, side_lacks, joint_within, at_joint, in_front}
 use Rattle.go_play.proofs.BoardPlay.{placed_same, suicide_not_placed}
 use Rattle.go_grid.proofs.BoardLemmas.{cell_stable}
+use Rattle.go_grid.proofs.NameLemmas.{one_named}
 
 -- two boards of one size with the same cells
 same_board : (h k : Board) → h.columns ≡ k.columns → h.rows ≡ k.rows → length h.cells ≡ length k.cells → ((q : ℕ) → q < length h.cells → ¬ ¬ (cell_at h q ≡ cell_at k q)) → h ≡ k
@@ -52,11 +54,8 @@ one_placing node c s p h k (Err place.Suicide) (Ok m) a b = absurd (suicide_not_
 one_placing node c s p h k (Err place.Suicide) (Err place.Occupied) a b = absurd (b.1 a.1)
 one_placing node c s p h k (Err place.Suicide) (Err place.Suicide) a b = refl
 
-one_point : (columns rows : ℕ) (text : List ℕ) (p q : ℕ) → IsPoint columns rows text p → IsPoint columns rows text q → p ≡ q
-one_point columns rows text p q a b =
-    let column : p % columns ≡ q % columns = omega (arith, a.1.column, b.1.column) in
-    let row : p / columns ≡ q / columns = omega (arith, a.1.row, b.1.row) in
-    sym (div-add-mod' p columns) ∙ ap₂ (λ x y. x * columns + y) row column ∙ div-add-mod' q columns
+one_point : (columns rows : ℕ) (text : List ℕ) (p q : ℕ) → IsName columns rows text p → IsName columns rows text q → p ≡ q
+one_point columns rows text p q a b = one_named columns p q (sym a.spelt ∙ b.spelt)
 
 one_area : (columns rows : ℕ) (text : List ℕ) (a b : Rectangle) → IsArea columns rows text a → IsArea columns rows text b → a ≡ b
 one_area columns rows text _ _ (point p a) (point q b) = ap (λ x. between columns x x) (one_point columns rows text p q a b)

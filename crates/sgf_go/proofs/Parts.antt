@@ -11,8 +11,9 @@ use Rattle.go_grid.specs.declared.grid.Colour.TheVariants as colour
 use Rattle.go_grid.specs.declared.grid.Cell.{Cell}
 use Rattle.go_grid.specs.Play.{is_stone}
 use Rattle.go_play.specs.Place.{IsNumberTaken}
-use Rattle.sgf_go.specs.Values.{IsIn, Rectangle, Says, IsArea, IsPoint, trimmed}
-use Rattle.sgf_go.specs.Reading.{rectangle}
+use Rattle.sgf_go.specs.Values.{IsIn, Rectangle, Says, IsArea, trimmed}
+use Rattle.go_grid.specs.Name.{IsName}
+use Rattle.sgf_go.specs.inner.Reading.{rectangle}
 use Rattle.sgf_tree.specs.Reading.{property_text, node_text}
 use Rattle.sgf_tree.specs.declared.tree.Node.{Node}
 use Rattle.sgf_tree.specs.declared.tree.Property.{Property}
@@ -58,10 +59,10 @@ follows_nothing node p s e = subst (λ o. SetsValues node o (property_text p).va
 pub chooses_pass : (node : ℕ) (c : Colour) (text : List ℕ) (s : Replay) → is_pass s.board text ≡ true → Moves node (Some c) text s (Ok (moved c s))
 chooses_pass node c text s e = (pass, e, refl)
 
-pub chooses_nothing : (node : ℕ) (c : Colour) (text : List ℕ) (s : Replay) → is_pass s.board text ≡ false → ((p : ℕ) → ¬ IsPoint s.board.columns s.board.rows text p) → Moves node (Some c) text s (Err (BadPoint node))
+pub chooses_nothing : (node : ℕ) (c : Colour) (text : List ℕ) (s : Replay) → is_pass s.board text ≡ false → ((p : ℕ) → ¬ IsName s.board.columns s.board.rows text p) → Moves node (Some c) text s (Err (BadPoint node))
 chooses_nothing node c text s e n = (nothing, (e, n), refl)
 
-pub chooses_stone : (node : ℕ) (c : Colour) (text : List ℕ) (p : ℕ) (s t : Replay) (r : Result (Unit {0}) SetupFault) → is_pass s.board text ≡ false → IsPoint s.board.columns s.board.rows text p
+pub chooses_stone : (node : ℕ) (c : Colour) (text : List ℕ) (p : ℕ) (s t : Replay) (r : Result (Unit {0}) SetupFault) → is_pass s.board text ≡ false → IsName s.board.columns s.board.rows text p
     → Follows (Chooses node c (stone_at p)) s t r → Follows (Moves node (Some c) text) s t r
 chooses_stone node c text p s t (Ok u) e n f = (stone_at p, (e, n), f)
 chooses_stone node c text p s t (Err g) e n f = (stone_at p, (e, n), f)

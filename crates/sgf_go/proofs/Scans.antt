@@ -4,7 +4,8 @@ use Rattle.std.specs.Prelude.{Option, nat_le}
 use Rattle.std.specs.Option.{option_map}
 use Rattle.std.specs.Char.{is_ascii_digit, digit_value}
 use Rattle.std.proofs.lemmas.List.{drop_more, drop_all}
-use Rattle.sgf_go.specs.Komi.{digit_0, dot}
+use Rattle.sgf_go.specs.Komi.{digit_0}
+use Rattle.std.specs.Float.Numeral.{dot}
 use Rattle.sgf_go.specs.inner.Scan.{all_zeros, fraction, scan}
 
 pub zeros_first : (bs : List ℕ) (at : ℕ) → at < length bs → get_or bs at 0 ≡ 48 → all_zeros (drop at bs) ≡ all_zeros (drop (at + 1) bs)

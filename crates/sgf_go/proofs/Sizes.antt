@@ -5,7 +5,8 @@ use Rattle.std.specs.Str.Parse.{digits_value}
 use Rattle.std.proofs.lemmas.List.{drop_more, take-append-drop}
 use Rattle.std.proofs.lemmas.Bool.{cases_lt}
 use Rattle.sgf_go.specs.Komi.{AreDigits}
-use Rattle.sgf_go.specs.Values.{Extent, IsSide, IsSize, square, sides, colon, LacksColon}
+use Rattle.sgf_go.specs.Values.{Extent, IsSide, IsSize, square, sides, colon}
+use Rattle.sgf_go.specs.inner.Values.{LacksColon}
 use Rattle.sgf_go.proofs.Scans.{digit_at}
 
 digit_of : (text : List ℕ) (i : ℕ) → AreDigits text → i < length text → is_ascii_digit (get_or text i 0) ≡ true

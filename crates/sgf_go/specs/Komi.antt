@@ -3,26 +3,21 @@ use Rattle.std.specs.Prelude.{◌≡◌, ℕ, ◌+◌, ◌*◌, ◌≤◌, List,
 use Rattle.std.specs.List.{AllByRecursion}
 use Rattle.std.specs.Char.{is_ascii_digit}
 use Rattle.std.specs.Str.Parse.{digits_value}
+use Rattle.std.specs.Float.Numeral.{dot, minus, plus}
 
--- the bytes `+`, `-`, `.`, `0` and `5`
-abbrev pub plus : ℕ
-plus = 43
-
-abbrev pub minus : ℕ
-minus = 45
-
-abbrev pub dot : ℕ
-dot = 46
-
+-- the byte `0`
 abbrev pub digit_0 : ℕ
 digit_0 = 48
 
+-- the byte `5`
 abbrev pub digit_5 : ℕ
 digit_5 = 53
 
+-- each of the bytes is a decimal digit
 abbrev pub AreDigits : List ℕ → Type 0
 AreDigits = AllByRecursion (λ b. is_ascii_digit b ≡ true)
 
+-- each of the bytes is the digit `0`
 abbrev pub AreZeros : List ℕ → Type 0
 AreZeros = AllByRecursion (λ b. b ≡ digit_0)
 

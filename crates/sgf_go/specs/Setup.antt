@@ -11,10 +11,11 @@ use Rattle.go_grid.specs.declared.grid.Cell.TheVariants as cell
 use Rattle.go_grid.specs.Board.{Board, cell_at, other}
 use Rattle.go_grid.specs.Chain.{IsSettled, IsFirstChoked}
 use Rattle.go_play.specs.Place.{Answers}
-use Rattle.go_play.specs.declared.placing.PlaceError.{PlaceError}
-use Rattle.go_play.specs.declared.placing.PlaceError.TheVariants as place
+use Rattle.go_play.specs.declared.placements.PlaceError.{PlaceError}
+use Rattle.go_play.specs.declared.placements.PlaceError.TheVariants as place
 use Rattle.sgf_go.specs.Komi.{IsKomi}
-use Rattle.sgf_go.specs.Values.{trimmed, Rectangle, Says, IsArea, IsPoint, IsIn, Extent, IsSize}
+use Rattle.sgf_go.specs.Values.{trimmed, Rectangle, Says, IsArea, IsIn, Extent, IsSize}
+use Rattle.go_grid.specs.Name.{IsName}
 use Rattle.sgf_go.specs.declared.replay.Replay.{Replay}
 use Rattle.sgf_go.specs.declared.settings.Settings.{Settings}
 use Rattle.sgf_go.specs.declared.settings.Setup.{Setup}
@@ -27,7 +28,7 @@ use Rattle.sgf_go.specs.declared.fault.GoError.TheVariants.{Fault, Memory}
 abbrev pub Part : Type 1
 Part = Replay → Result Replay SetupFault → Type 0
 
--- goes on from an outcome; a fault ends the line
+-- a part goes on from the outcome of the one before it; a fault ends the line
 abbrev pub GoesOn : Part → Result Replay SetupFault → Result Replay SetupFault → Type 0
 GoesOn P (Ok s) r = P s r
 GoesOn P (Err f) r = r ≡ Err f
@@ -42,12 +43,12 @@ pub record Counts (s : Replay) : Type 0 where
   pub black : s.black ≤ 626 * s.played
   pub white : s.white ≤ 626 * s.played
 
--- one part after the other
+-- one part and then another
 abbrev pub ◌then◌ : Part → Part → Part
 (P then Q) s r = (m : Result Replay SetupFault) × P s m × GoesOn Q m r
 
 infixr 50 ◌then◌
--- nothing
+-- a part that changes nothing
 abbrev pub Skips : Part
 Skips s r = r ≡ Ok s
 
@@ -56,15 +57,15 @@ abbrev pub For : {A : Type 0} → (A → Part) → List A → Part
 For P [] = Skips
 For P (x ∷ xs) = P x then For P xs
 
--- a property of the name
+-- the property has the name
 abbrev pub is_named : PropertyText → List ℕ → Bool
 is_named p name = bytes_eq p.name name
 
--- the first value, trimmed
+-- the first value of a property, trimmed; an empty text where it has none
 abbrev pub first_value : PropertyText → List ℕ
 first_value p = trimmed (get_or p.values 0 [])
 
--- the first value of the first property of the name
+-- the first value of the first of the properties that has the name, if one has
 abbrev pub value_of : List ℕ → List PropertyText → Option (List ℕ)
 value_of name [] = None
 value_of name (p ∷ ps) = if is_named p name then Some (first_value p) else value_of name ps
@@ -77,17 +78,17 @@ pub record IsSet (g : Board) (In : ℕ → Type 0) (c : Cell) (h : Board) : Type
   pub set : (p : ℕ) → p < length g.cells → In p → cell_at h p ≡ c
   pub kept : (p : ℕ) → ¬ In p → cell_at h p ≡ cell_at g p
 
--- sets a rectangle
+-- the points of the rectangle are set to the cell, and a value that names none is a fault
 abbrev pub Sets : ℕ → Cell → Option Rectangle → Part
 Sets node c None s r = r ≡ Err (BadPoint node)
 Sets node c (Some area) s r = (h : Board) × IsSet s.board (IsIn s.board.columns area) c h × (r ≡ Ok (record s { board = h }))
 
--- a value of AB, AW or AE
+-- the points that a value of AB, AW or AE names are set to the cell; an empty value names none
 abbrev pub SetsValue : ℕ → Cell → List ℕ → Part
 SetsValue node c [] = Skips
 SetsValue node c (b ∷ bs) = λ s r. (area : Option Rectangle) × Says (IsArea s.board.columns s.board.rows (b ∷ bs)) area × Sets node c area s r
 
--- the cell that a property sets
+-- the cell to which a property sets points, if it is one of AB, AW and AE
 abbrev pub cell_set : PropertyText → Option Cell
 cell_set p =
     if is_named p (codes "AB") then Some cell.Black
@@ -100,29 +101,31 @@ abbrev pub SetsValues : ℕ → Option Cell → List (List ℕ) → Part
 SetsValues node None values = Skips
 SetsValues node (Some c) values = For (λ v. SetsValue node c (trimmed v)) values
 
+-- a property sets its points, if it is one of AB, AW and AE
 abbrev pub SetsProperty : ℕ → PropertyText → Part
 SetsProperty node p = SetsValues node (cell_set p) p.values
 
--- a text that begins with `B` or `b`, or with `W` or `w`
+-- the side that a text names: Black where it begins with `B` or `b`, White where it begins with `W` or `w`
 abbrev pub side_of : List ℕ → Option Colour
 side_of [] = None
 side_of (b ∷ bs) = if (b == 66) || (b == 98) then Some colour.Black else (if (b == 87) || (b == 119) then Some colour.White else None)
 
+-- the side is to move, and a text that names none is a fault
 abbrev pub Turns : Option Colour → Part
 Turns None s r = r ≡ Err BadSide
 Turns (Some c) s r = r ≡ Ok (record s { side = c })
 
--- PL
+-- the side that the text of PL names is to move; without PL nothing changes
 abbrev pub TurnsTo : Option (List ℕ) → Part
 TurnsTo None = Skips
 TurnsTo (Some text) = Turns (side_of text)
 
--- with stones that the colour has taken
+-- how things stand with stones more that the colour has taken
 abbrev pub with_taken : Colour → ℕ → Replay → Replay
 with_taken colour.Black n s = record s { black = s.black + n }
 with_taken colour.White n s = record s { white = s.white + n }
 
--- with a move of the colour more: the other is to move
+-- how things stand with a move of the colour more: the other colour is to move
 abbrev pub moved : Colour → Replay → Replay
 moved c s = record s { side = other c; played = s.played + 1 }
 
@@ -146,26 +149,29 @@ is_pass g (b ∷ bs) = bytes_eq (b ∷ bs) (codes "tt") && (nat_le g.columns 19 
 -- what a text says as a move on a board
 abbrev pub IsChoice : Board → List ℕ → Choice → Type 0
 IsChoice g text pass = is_pass g text ≡ true
-IsChoice g text (stone_at p) = (is_pass g text ≡ false) × IsPoint g.columns g.rows text p
-IsChoice g text nothing = (is_pass g text ≡ false) × ((p : ℕ) → ¬ IsPoint g.columns g.rows text p)
+IsChoice g text (stone_at p) = (is_pass g text ≡ false) × IsName g.columns g.rows text p
+IsChoice g text nothing = (is_pass g text ≡ false) × ((p : ℕ) → ¬ IsName g.columns g.rows text p)
 
+-- the colour moves as it has chosen, and where its text says no move there is a fault
 abbrev pub Chooses : ℕ → Colour → Choice → Part
 Chooses node c pass s r = r ≡ Ok (moved c s)
 Chooses node c nothing s r = r ≡ Err (BadPoint node)
 Chooses node c (stone_at p) s r = (h : Board) × (answer : Result ℕ PlaceError) × Answers s.board p c h answer × (r ≡ placed node c s h answer)
 
--- who moves by a property
+-- the colour that moves by a property: Black by B, White by W
 abbrev pub mover : PropertyText → Option Colour
 mover p = if is_named p (codes "B") then Some colour.Black else (if is_named p (codes "W") then Some colour.White else None)
 
+-- the colour moves as the text says; without a colour nothing changes
 abbrev pub Moves : ℕ → Option Colour → List ℕ → Part
 Moves node None text = Skips
 Moves node (Some c) text = λ s r. (x : Choice) × IsChoice s.board text x × Chooses node c x s r
 
+-- a colour moves as the first value of the property says, if it is one of B and W
 abbrev pub MovesProperty : ℕ → PropertyText → Part
 MovesProperty node p = Moves node (mover p) (first_value p)
 
--- PL, where the settings give no turn
+-- the side to move is that of PL, where the settings give no turn
 abbrev pub Side : Option Colour → List PropertyText → Part
 Side None ps = TurnsTo (value_of (codes "PL") ps)
 Side (Some c) ps = Skips
@@ -178,21 +184,22 @@ NodePart turn node ps = For (SetsProperty node) ps then Side turn ps then For (M
 abbrev pub has_move : List PropertyText → Bool
 has_move ps = is_some (value_of (codes "B") ps) || is_some (value_of (codes "W") ps)
 
--- whether the line ends before a node
+-- whether the line ends before a node: a node with a move, where the moves that the settings ask for have been played
 abbrev pub ends_before : Option ℕ → List PropertyText → ℕ → Bool
 ends_before None ps played = false
 ends_before (Some n) ps played = has_move ps && nat_le n played
 
+-- a part that is left out where the condition holds
 abbrev pub Unless : Bool → Part → Part
 Unless true P = Skips
 Unless false P = P
 
--- the nodes from a number on
+-- the nodes of a line, of which the first has this number, up to where the settings end the line
 abbrev pub LinePart : Option ℕ → Option Colour → ℕ → List (List PropertyText) → Part
 LinePart after turn node [] = Skips
 LinePart after turn node (ps ∷ line) = λ s. Unless (ends_before after ps s.played) (NodePart turn node ps then LinePart after turn (node + 1) line) s
 
--- node 0, and no properties where the line has no node
+-- the properties of node 0, none where the line has no node
 abbrev pub root : List (List PropertyText) → List PropertyText
 root line = get_or line 0 []
 
@@ -213,7 +220,7 @@ IsKomiFor None None k = k ≡ pos 0
 IsKomiFor None (Some []) k = k ≡ pos 0
 IsKomiFor None (Some (b ∷ bs)) k = IsKomi (b ∷ bs) k
 
--- before node 0
+-- how things stand before node 0: an empty board, nothing taken or played, and Black to move
 abbrev pub empty_board : Extent → Replay
 empty_board e = record {
   board = record { columns = e.columns; rows = e.rows; cells = replicate (e.columns * e.rows) cell.Empty };
@@ -223,6 +230,7 @@ empty_board e = record {
   played = 0;
 }
 
+-- the side that is given, or `c` where none is
 abbrev pub or_side : Option Colour → Colour → Colour
 or_side None c = c
 or_side (Some t) c = t
@@ -243,16 +251,17 @@ Ends settings komi (Err f) r = r ≡ Err f
 Ends settings komi (Ok s) (Ok setup) = IsSettled s.board × (setup ≡ setup_of settings komi s)
 Ends settings komi (Ok s) (Err f) = (p : ℕ) × IsFirstChoked s.board p × (f ≡ NoLiberty p)
 
--- from the komi on
+-- what a main line gives under the settings, from the komi on; a text of KM that is no komi is a fault
 abbrev pub FromKomi : Settings → List (List PropertyText) → Extent → Option ℤ → Result Setup SetupFault → Type 0
 FromKomi settings line e None r = r ≡ Err BadKomi
 FromKomi settings line e (Some komi) r = (m : Result Replay SetupFault) × LinePart settings.after settings.turn 0 line (empty_board e) m × Ends settings komi m r
 
--- from the size on
+-- what a main line gives under the settings, from the size on; a text of SZ that is no size is a fault
 abbrev pub FromSize : Settings → List (List PropertyText) → Option Extent → Result Setup SetupFault → Type 0
 FromSize settings line None r = r ≡ Err BadSize
 FromSize settings line (Some e) r = (komi : Option ℤ) × Says (IsKomiFor settings.komi (value_of (codes "KM") (root line))) komi × FromKomi settings line e komi r
 
+-- what a main line gives under the settings, by whether its game is Go; another game is a fault
 abbrev pub FromGame : Settings → List (List PropertyText) → Bool → Result Setup SetupFault → Type 0
 FromGame settings line false r = r ≡ Err WrongGame
 FromGame settings line true r = (size : Option Extent) × Says (IsBoardSize (value_of (codes "SZ") (root line))) size × FromSize settings line size r
@@ -265,14 +274,8 @@ Gives settings line r = FromGame settings line (is_go (value_of (codes "GM") (ro
 abbrev pub OnePosition : Type 0
 OnePosition = (settings : Settings) (line : List (List PropertyText)) (a b : Result Setup SetupFault) → Gives settings line a → Gives settings line b → a ≡ b
 
--- what is answered; want of memory may always be answered
+-- what is answered of a main line under the settings; want of memory may always be answered
 abbrev pub AnswersPosition : Tree → Settings → Result Setup GoError → Type 0
 AnswersPosition tree settings (Ok setup) = Gives settings (line_text tree) (Ok setup)
 AnswersPosition tree settings (Err (Fault f)) = Gives settings (line_text tree) (Err f)
 AnswersPosition tree settings (Err (Memory e)) = Unit {0}
-
--- the same of the end of the line alone
-abbrev pub AnswersEnd : Settings → ℤ → Replay → Result Setup GoError → Type 0
-AnswersEnd settings komi s (Ok setup) = Ends settings komi (Ok s) (Ok setup)
-AnswersEnd settings komi s (Err (Fault f)) = Ends settings komi (Ok s) (Err f)
-AnswersEnd settings komi s (Err (Memory e)) = Unit {0}

@@ -1,15 +1,16 @@
 -- What the values of properties say: white space trimmed, points, rectangles and sizes.
-use Rattle.std.specs.Prelude.{◌≡◌, ◌≢◌, ℕ, ◌/◌, ◌%◌, ◌<◌, ◌≤◌, min, max, List, [], ◌∷◌, ◌++◌, Option, Some, None, if◌then◌else◌, reverse, get_or, length, take, drop}
+use Rattle.std.specs.Prelude.{◌≡◌, ℕ, ◌/◌, ◌%◌, ◌≤◌, min, max, List, [], ◌∷◌, ◌++◌, Option, Some, None, if◌then◌else◌, reverse, get_or, length, take, drop}
 use Rattle.std.specs.Str.Parse.{digits_value}
 use Rattle.sgf_go.specs.Komi.{AreDigits}
 use Rattle.sgf_tree.specs.Grammar.{is_white}
 use Rattle.go_grid.specs.Name.{IsName}
 
--- without white space at the front, and at both ends
+-- the bytes without white space at the front
 unfoldable pub trimmed_front : List ℕ → List ℕ
 trimmed_front [] = []
 trimmed_front (b ∷ bs) = if is_white b then trimmed_front bs else b ∷ bs
 
+-- the bytes without white space at both ends
 abbrev pub trimmed : List ℕ → List ℕ
 trimmed bytes = reverse (trimmed_front (reverse (trimmed_front bytes)))
 
@@ -18,11 +19,7 @@ abbrev pub Says : {A : Type 0} → (A → Type 0) → Option A → Type 0
 Says {A} Is None = (x : A) → ¬ Is x
 Says Is (Some x) = Is x
 
--- two letters that name a point of the board
-abbrev pub IsPoint : ℕ → ℕ → List ℕ → ℕ → Type 0
-IsPoint columns rows text p = (length text ≡ 2) × IsName columns rows text p
-
--- columns and rows from the one to the other, ends included
+-- a rectangle of points: its columns from left to right and its rows from top to bottom, ends included
 pub record Rectangle : Type 0 where
   pub left : ℕ
   pub right : ℕ
@@ -42,10 +39,10 @@ between columns p q = record {
 abbrev pub colon : ℕ
 colon = 58
 
--- a point, or two corners with a `:` between them
+-- the rectangle that a text says: that of one point, or of two corners with a `:` between them
 pub data IsArea (columns rows : ℕ) (text : List ℕ) : Rectangle → Type 0 where
-  point : (p : ℕ) → IsPoint columns rows text p → IsArea columns rows text (between columns p p)
-  corners : (p q : ℕ) → IsPoint columns rows (take 2 text) p → get_or text 2 0 ≡ colon → IsPoint columns rows (drop 3 text) q
+  point : (p : ℕ) → IsName columns rows text p → IsArea columns rows text (between columns p p)
+  corners : (p q : ℕ) → IsName columns rows (take 2 text) p → get_or text 2 0 ≡ colon → IsName columns rows (drop 3 text) q
       → IsArea columns rows text (between columns p q)
 
 -- the point lies in the rectangle
@@ -55,20 +52,12 @@ pub record IsIn (columns : ℕ) (r : Rectangle) (p : ℕ) : Type 0 where
   pub top : r.top ≤ p / columns
   pub bottom : p / columns ≤ r.bottom
 
--- the point lies in a row, from one column to another
-abbrev pub IsInRow : ℕ → ℕ → ℕ → ℕ → ℕ → Type 0
-IsInRow columns row left right = IsIn columns (record { left = left; right = right; top = row; bottom = row })
-
--- no `:` stands before a place
-abbrev pub LacksColon : List ℕ → ℕ → Type 0
-LacksColon text n = (k : ℕ) → k < n → get_or text k 0 ≢ colon
-
--- columns and rows
+-- how many columns and rows a board has
 pub record Extent : Type 0 where
   pub columns : ℕ
   pub rows : ℕ
 
--- one or two digits, a number from 1 to 25
+-- the text is one or two digits, and `n` their number, which is from 1 to 25
 pub record IsSide (text : List ℕ) (n : ℕ) : Type 0 where
   pub some : 1 ≤ length text
   pub few : length text ≤ 2
@@ -77,7 +66,7 @@ pub record IsSide (text : List ℕ) (n : ℕ) : Type 0 where
   pub least : 1 ≤ n
   pub most : n ≤ 25
 
--- one number for both, or the columns and the rows with a `:` between them
+-- the size that a text says: one number for columns and rows, or the columns and the rows with a `:` between them
 pub data IsSize (text : List ℕ) : Extent → Type 0 where
   square : (n : ℕ) → IsSide text n → IsSize text (record { columns = n; rows = n })
   sides : (before behind : List ℕ) (columns rows : ℕ) → text ≡ before ++ (colon ∷ behind) → IsSide before columns → IsSide behind rows

@@ -13,6 +13,4 @@ pub use fault::{FileFault, GoError, SetupFault};
 pub use komi::read_komi;
 pub use settings::{Settings, Setup};
 pub use setup::{one_position, position, size_of_board};
-
-#[cfg(test)]
-mod tests;
+pub use values::trim;

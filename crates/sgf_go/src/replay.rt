@@ -2,8 +2,10 @@
 
 ghost use Rattle.std.specs.Prelude.{map, sum_by, Some, ◌≡◌, ◌≤◌, ◌<◌, ◌+◌, ◌*◌, length, IfSome, OnOk};
 ghost use Rattle.std.specs.Option.{option_map};
-ghost use Rattle.sgf_go.specs.Reading.{rectangle};
-ghost use Rattle.sgf_go.specs.Values.{IsIn, IsInRow, Says, IsArea, IsPoint, trimmed};
+ghost use Rattle.sgf_go.specs.inner.Reading.{rectangle};
+ghost use Rattle.sgf_go.specs.Values.{IsIn, Says, IsArea, trimmed};
+ghost use Rattle.sgf_go.specs.inner.Values.{IsInRow};
+ghost use Rattle.go_grid.specs.Name.{IsName};
 ghost use Rattle.sgf_go.specs.Setup.{Follows, Counts, IsSet, SetsValue, For, SetsProperty, Chooses, stone_at, Moves, MovesProperty, NodePart, LinePart, moved, with_taken, is_pass, Side};
 ghost use Rattle.sgf_tree.specs.Reading.{property_text, node_text};
 
@@ -12,7 +14,7 @@ use crate::properties::{ends_before, first_of, mover, read_side, set_cell, value
 use crate::values::{Area, read_area, read_point, trim};
 use go_grid::{Board, Cell, Colour, Point};
 use go_play::{PlaceError, place};
-use sgf_tree::{Node, Property};
+use sgf_tree::{MOST_BYTES, Node, Property};
 
 /// How things stand along the line: the board, the stones that each side's moves have taken, the side to move, and the
 /// moves and passes so far.
@@ -37,7 +39,7 @@ fn area_on(board: &Board, text: &[u8]) -> Option<Area>
 
 /// A point that a text names on a board.
 fn point_on(board: &Board, text: &[u8]) -> Option<Point>
-    ensures value { Says (IsPoint board.now.columns board.now.rows text.now) result }
+    ensures value { Says (IsName board.now.columns board.now.rows text.now) result }
     ensures within { IfSome result (λ p. p < length board.now.cells) }
 {
     read_point(board.size(), text)
@@ -110,7 +112,7 @@ impl Replay {
 
     /// A move or pass more.
     fn count_move(&mut self, colour: Colour)
-        requires { self.old.played < 1048576 }
+        requires { self.old.played < MOST_BYTES }
         ensures { self.new ≡ moved colour self.old }
     {
         self.side = colour.other();
@@ -120,7 +122,7 @@ impl Replay {
     /// Stones that a move took.
     fn take(&mut self, colour: Colour, taken: u16)
         requires counts { Counts self.old }
-        requires few { self.old.played ≤ 1048576 }
+        requires few { self.old.played ≤ MOST_BYTES }
         ensures { self.new ≡ with_taken colour taken self.old }
     {
         match colour {
@@ -134,7 +136,7 @@ impl Replay {
     fn put_stone(&mut self, node: u32, colour: Colour, point: Point) -> Result<(), SetupFault>
         requires point { point < length self.old.board.cells }
         requires counts { Counts self.old }
-        requires few { self.old.played < 1048576 }
+        requires few { self.old.played < MOST_BYTES }
         ensures follows { Follows (Chooses node colour (stone_at point)) self.old self.new result }
         ensures counts { OnOk result (Counts self.new) }
         ensures played { OnOk result (self.new.played ≡ self.old.played + 1) }
@@ -185,7 +187,7 @@ impl Replay {
     #[tactic(auto, using(crate::proofs::Parts::moves_by, crate::proofs::Parts::moves_nothing))]
     fn move_property(&mut self, node: u32, property: &Property) -> Result<(), SetupFault>
         requires counts { Counts self.old }
-        requires few { self.old.played < 1048576 }
+        requires few { self.old.played < MOST_BYTES }
         ensures follows { Follows (MovesProperty node
             (property_text property.now)) self.old self.new result }
         ensures counts { OnOk result (Counts self.new) }
@@ -201,7 +203,7 @@ impl Replay {
     #[tactic(auto, using(crate::proofs::Parts::goes_step, crate::proofs::Parts::goes_fault, crate::proofs::Parts::goes_end))]
     fn move_properties(&mut self, node: u32, properties: &[Property]) -> Result<(), SetupFault>
         requires counts { Counts self.old }
-        requires few { self.old.played + length properties.now ≤ 1048576 }
+        requires few { self.old.played + length properties.now ≤ MOST_BYTES }
         ensures follows { Follows (For (λ p. MovesProperty node
             (property_text p)) properties.now) self.old self.new result }
         ensures counts { OnOk result (Counts self.new) }
@@ -245,7 +247,7 @@ impl Replay {
         properties: &[Property],
     ) -> Result<(), SetupFault>
         requires counts { Counts self.old }
-        requires few { self.old.played + length properties.now ≤ 1048576 }
+        requires few { self.old.played + length properties.now ≤ MOST_BYTES }
         ensures follows { Follows (NodePart turn node
             (map property_text properties.now)) self.old self.new result }
         ensures counts { OnOk result (Counts self.new) }
@@ -258,7 +260,7 @@ impl Replay {
 
     /// The nodes of a line, up to the first move after so many.
     #[tactic(auto, using(crate::proofs::Parts::line_step, crate::proofs::Parts::line_fault, crate::proofs::Parts::line_stops, crate::proofs::Parts::line_ends, std::proofs::lemmas::List::Sums::sum_by_more, std::proofs::lemmas::List::Sums::sum_by_more_le))]
-    pub fn read_line(
+    pub(crate) fn read_line(
         &mut self,
         after: Option<u32>,
         turn: Option<Colour>,
@@ -266,12 +268,12 @@ impl Replay {
     ) -> Result<(), SetupFault>
         requires start { self.old.played ≡ 0 }
         requires counts { Counts self.old }
-        requires nodes { length line.now ≤ 1048576 }
-        requires few { sum_by (λ n. length n.properties.items) line.now ≤ 1048576 }
+        requires nodes { length line.now ≤ MOST_BYTES }
+        requires few { sum_by (λ n. length n.properties.items) line.now ≤ MOST_BYTES }
         ensures follows { Follows (LinePart after turn 0
             (map node_text line.now)) self.old self.new result }
         ensures counts { OnOk result (Counts self.new) }
-        ensures played { OnOk result (self.new.played ≤ 1048576) }
+        ensures played { OnOk result (self.new.played ≤ MOST_BYTES) }
     {
         'nodes: for at in 0..line.len() {
             let properties = line[at].properties.as_slice();
@@ -287,7 +289,7 @@ impl Replay {
     #[tactic(auto, using(crate::proofs::Parts::chooses_pass, crate::proofs::Parts::chooses_stone, crate::proofs::Parts::chooses_nothing))]
     fn play(&mut self, node: u32, colour: Colour, value: &[u8]) -> Result<(), SetupFault>
         requires counts { Counts self.old }
-        requires few { self.old.played < 1048576 }
+        requires few { self.old.played < MOST_BYTES }
         ensures follows { Follows (Moves node (Some colour)
             (trimmed value.now)) self.old self.new result }
         ensures counts { OnOk result (Counts self.new) }

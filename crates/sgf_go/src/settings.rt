@@ -3,7 +3,7 @@
 use go_grid::{Board, Colour};
 
 /// What a caller sets beside the record: prisoners of at most 999,999, and a komi from -1,999,999 to 1,999,999 half-points.
-#[derive(Clone, Copy, PartialEq, Eq)]
+#[derive(Clone, Copy, Debug, PartialEq, Eq)]
 pub struct Settings {
     /// The line ends before the first move that comes after so many moves and passes.
     pub after: Option<u32>,
@@ -18,7 +18,7 @@ pub struct Settings {
 }
 
 /// A position: its board, the stones that each side has taken, the komi in half-points, and the side to move.
-#[derive(Drop)]
+#[derive(Debug, Drop)]
 pub struct Setup {
     pub board: Board,
     pub black_prisoners: u64,

@@ -7,8 +7,10 @@ ghost use Rattle.sgf_tree.specs.Reading.{property_text, node_text, line_text};
 ghost use Rattle.sgf_go.specs.Reading.{extent};
 ghost use Rattle.sgf_go.specs.Komi.{IsInRange};
 ghost use Rattle.sgf_go.specs.Position.{IsFit};
-ghost use Rattle.sgf_go.specs.Values.{colon, Says, IsSide, IsSize, LacksColon};
-ghost use Rattle.sgf_go.specs.Setup.{Counts, AnswersPosition, AnswersEnd, OnePosition, value_of, is_go, IsBoardSize, IsKomiFor, root, empty_board};
+ghost use Rattle.sgf_go.specs.Values.{colon, Says, IsSide, IsSize};
+ghost use Rattle.sgf_go.specs.inner.Values.{LacksColon};
+ghost use Rattle.sgf_go.specs.Setup.{Counts, AnswersPosition, OnePosition, value_of, is_go, IsBoardSize, IsKomiFor, root, empty_board};
+ghost use Rattle.sgf_go.specs.inner.Setup.{AnswersEnd};
 
 use crate::fault::{GoError, SetupFault};
 use crate::komi::{read_komi, rest_of};
@@ -16,7 +18,7 @@ use crate::properties::value_of;
 use crate::replay::Replay;
 use crate::settings::{Settings, Setup};
 use go_grid::{Board, Colour, Size};
-use sgf_tree::{Node, Property, Tree};
+use sgf_tree::{MOST_BYTES, Node, Property, Tree};
 use std::alloc::{AllocError, Global};
 
 /// The number of a digit.
@@ -115,7 +117,7 @@ fn begin(alloc: Global, size: Size) -> Result<Replay, AllocError>
 /// The position at the end, where the board is settled.
 fn finish(replay: Replay, settings: &Settings, komi: i64) -> Result<Setup, GoError>
     requires counts { Counts replay }
-    requires few { replay.played ≤ 1048576 }
+    requires few { replay.played ≤ MOST_BYTES }
     requires black { settings.now.black_prisoners ≤ 999999 }
     requires white { settings.now.white_prisoners ≤ 999999 }
     requires komi { IsInRange komi }
@@ -202,8 +204,8 @@ pub fn size_of_board(tree: &Tree) -> Option<Size>
 /// the end a stone without a liberty.
 #[tactic(auto, using(crate::proofs::Positions::wrong_game, crate::proofs::Positions::bad_size, crate::proofs::Positions::bad_komi, crate::proofs::Positions::line_bad, crate::proofs::Positions::line_good))]
 pub fn position(alloc: Global, tree: &Tree, settings: &Settings) -> Result<Setup, GoError>
-    requires nodes { length tree.now.line.items ≤ 1048576 }
-    requires properties { sum_by (λ n. length n.properties.items) tree.now.line.items ≤ 1048576 }
+    requires nodes { length tree.now.line.items ≤ MOST_BYTES }
+    requires properties { sum_by (λ n. length n.properties.items) tree.now.line.items ≤ MOST_BYTES }
     requires black { settings.now.black_prisoners ≤ 999999 }
     requires white { settings.now.white_prisoners ≤ 999999 }
     requires komi { IfSome settings.now.komi IsInRange }

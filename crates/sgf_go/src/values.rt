@@ -2,12 +2,13 @@
 
 ghost use Rattle.std.specs.Prelude.{reverse, ◌≡◌, ◌≤◌, ◌<◌, ◌*◌, length, drop, take, IfSome};
 ghost use Rattle.std.specs.Option.{option_map};
-ghost use Rattle.sgf_go.specs.Values.{trimmed, trimmed_front, between, Says, IsArea, IsPoint};
-ghost use Rattle.sgf_tree.specs.Grammar.{is_white};
-ghost use Rattle.sgf_go.specs.Reading.{rectangle};
+ghost use Rattle.sgf_go.specs.Values.{trimmed, trimmed_front, between, Says, IsArea};
+ghost use Rattle.go_grid.specs.Name.{IsName};
+ghost use Rattle.sgf_go.specs.inner.Reading.{rectangle};
 
 use crate::komi::rest_of;
 use go_grid::{Point, Size, point_of};
+use sgf_tree::is_white;
 
 /// Columns and rows from the one to the other, ends included.
 #[derive(Clone, Copy, PartialEq, Eq)]
@@ -59,7 +60,7 @@ pub(crate) fn read_area(size: Size, text: &[u8]) -> Option<Area>
 
 /// A point.
 pub(crate) fn read_point(size: Size, text: &[u8]) -> Option<Point>
-    ensures value { Says (IsPoint size.columns size.rows text.now) result }
+    ensures value { Says (IsName size.columns size.rows text.now) result }
     ensures within { IfSome result (λ p. p < size.columns * size.rows) }
 {
     match text {
@@ -100,16 +101,10 @@ fn back_start(bytes: &[u8]) -> usize
     end
 }
 
-/// Without white space at both ends.
-pub(crate) fn trim(bytes: &[u8]) -> &[u8]
+/// A text without the white space at its ends.
+pub fn trim(bytes: &[u8]) -> &[u8]
     ensures { result.now ≡ trimmed bytes.now }
 {
     let front = rest_of(bytes, front_end(bytes));
     &front[..back_start(front)]
-}
-
-fn is_white(byte: u8) -> bool
-    ensures { result ≡ is_white byte }
-{
-    matches!(byte, 9..=13 | b' ')
 }

@@ -10,7 +10,7 @@ use Rattle.sgf_tree.specs.declared.machine.Place.{Place}
 use Rattle.sgf_tree.specs.declared.machine.Place.TheVariants as at
 use Rattle.sgf_tree.specs.declared.machine.Token.{Token}
 use Rattle.sgf_tree.specs.declared.machine.Token.TheVariants as token
-use Rattle.sgf_tree.specs.Machine.{kind_of, outside, token_at, place_after, depth_after, Parts, State, after, begin}
+use Rattle.sgf_tree.specs.inner.Machine.{kind_of, outside, token_at, place_after, depth_after, Parts, State, after, begin}
 use Rattle.sgf_tree.proofs.Runs.{stepped, step, run, run-append, run-none, some-is, none-some, Opens, in_node, after_value, after_tree, tree_run, off}
 use Rattle.sgf_tree.proofs.Rest.{Says, says, IsSound, some_open, sound_after, run_tree, pred_at}
 

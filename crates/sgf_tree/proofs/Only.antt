@@ -3,9 +3,9 @@ use Rattle.std.proofs.Common.{ℕ, suc, ◌+◌, ◌-◌, ◌<◌, ◌≤◌, �
 use Rattle.std.proofs.Math.Seq.{take-add}
 use Rattle.std.proofs.lemmas.List.{take_all}
 use Rattle.sgf_tree.specs.Grammar.{PropertyText, IsTree}
-use Rattle.sgf_tree.specs.Reading.{IsSomeTree, IsLive, HasDepth, IsStart, most_open, IsRead, IsBadByte, IsCutShort, IsTooDeep, line, no_tree, bad_byte, cut_short, too_deep, OneAnswer}
+use Rattle.sgf_tree.specs.Reading.{IsSomeTree, IsLive, HasDepth, IsStart, most_open_trees, IsRead, IsBadByte, IsCutShort, IsTooDeep, line, no_tree, bad_byte, cut_short, too_deep, OneAnswer}
 use Rattle.sgf_tree.specs.declared.machine.Place.TheVariants as at
-use Rattle.sgf_tree.specs.Machine.{begin, State, Parts}
+use Rattle.sgf_tree.specs.inner.Machine.{begin, State, Parts}
 use Rattle.sgf_tree.proofs.Runs.{run, run-append, run-none, some-is, none-some, tree_run, off}
 
 order : (m n : ℕ) → (m < n) ⊎ ((m ≡ n) ⊎ (n < m))
@@ -70,7 +70,7 @@ read_deep : (bytes : List ℕ) (m n : ℕ) (k : List (List PropertyText)) → Is
 read_deep bytes m n k a b = elim (order m n) [
   | inl l ↦ b.unfinished m (omega (arith, l)) (k, a.is_tree)
   | inr (inl e) ↦ b.unfinished m (omega (arith, e)) (k, a.is_tree)
-  | inr (inr l) ↦ (let most = a.shallow (n + 1) (most_open + 1) (omega (arith, l)) b.deep in omega (arith, most))
+  | inr (inr l) ↦ (let most = a.shallow (n + 1) (most_open_trees + 1) (omega (arith, l)) b.deep in omega (arith, most))
 ]
 
 read_short : (bytes : List ℕ) (m : ℕ) (k : List (List PropertyText)) → IsRead bytes m k → IsCutShort bytes → ⊥
@@ -80,13 +80,13 @@ bad_short : (bytes : List ℕ) (n : ℕ) → IsBadByte bytes n → IsCutShort by
 bad_short bytes n a b = a.dead (live_before bytes (n + 1) (length bytes) (omega (arith, a.within)) (subst IsLive (sym (whole bytes (length bytes) (omega arith))) b.live))
 
 deep_short : (bytes : List ℕ) (n : ℕ) → IsTooDeep bytes n → IsCutShort bytes → ⊥
-deep_short bytes n a b = let most = b.shallow (n + 1) (most_open + 1) (omega (arith, a.within)) a.deep in omega (arith, most)
+deep_short bytes n a b = let most = b.shallow (n + 1) (most_open_trees + 1) (omega (arith, a.within)) a.deep in omega (arith, most)
 
 bad_deep : (bytes : List ℕ) (m n : ℕ) → IsBadByte bytes m → IsTooDeep bytes n → ⊥
 bad_deep bytes m n a b = elim (order m n) [
-  | inl l ↦ a.dead (live_before bytes (m + 1) (n + 1) (omega (arith, l)) (deep_live (take (n + 1) bytes) (most_open + 1) b.deep))
-  | inr (inl e) ↦ a.dead (subst (λ x. IsLive (take (x + 1) bytes)) (sym e) (deep_live (take (n + 1) bytes) (most_open + 1) b.deep))
-  | inr (inr l) ↦ (let most = a.shallow (n + 1) (most_open + 1) (omega (arith, l)) b.deep in omega (arith, most))
+  | inl l ↦ a.dead (live_before bytes (m + 1) (n + 1) (omega (arith, l)) (deep_live (take (n + 1) bytes) (most_open_trees + 1) b.deep))
+  | inr (inl e) ↦ a.dead (subst (λ x. IsLive (take (x + 1) bytes)) (sym e) (deep_live (take (n + 1) bytes) (most_open_trees + 1) b.deep))
+  | inr (inr l) ↦ (let most = a.shallow (n + 1) (most_open_trees + 1) (omega (arith, l)) b.deep in omega (arith, most))
 ]
 
 one_end : (bytes : List ℕ) (m n : ℕ) (k l : List (List PropertyText)) → IsRead bytes m k → IsRead bytes n l → k ≡ l

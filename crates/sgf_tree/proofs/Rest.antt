@@ -9,7 +9,7 @@ use Rattle.sgf_tree.specs.declared.machine.Place.{Place}
 use Rattle.sgf_tree.specs.declared.machine.Place.TheVariants as at
 use Rattle.sgf_tree.specs.declared.machine.Token.{Token}
 use Rattle.sgf_tree.specs.declared.machine.Token.TheVariants as token
-use Rattle.sgf_tree.specs.Machine.{kind_of, outside, token_at, place_after, depth_after, State, after, begin}
+use Rattle.sgf_tree.specs.inner.Machine.{kind_of, outside, token_at, place_after, depth_after, State, after, begin}
 use Rattle.sgf_tree.proofs.Runs.{stepped, run, run-none, some-is, none-some}
 
 -- bytes of the one and then bytes of the other

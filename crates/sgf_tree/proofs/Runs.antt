@@ -8,7 +8,7 @@ use Rattle.sgf_tree.specs.declared.machine.Place.{Place}
 use Rattle.sgf_tree.specs.declared.machine.Place.TheVariants as at
 use Rattle.sgf_tree.specs.declared.machine.Token.{Token}
 use Rattle.sgf_tree.specs.declared.machine.Token.TheVariants as token
-use Rattle.sgf_tree.specs.Machine.{punctuation, kind_of, outside, inside, token_at, Parts, State, after, begin}
+use Rattle.sgf_tree.specs.inner.Machine.{punctuation, kind_of, outside, inside, token_at, Parts, State, after, begin}
 
 abbrev pub stepped : State → ℕ → Option Token → Option State
 stepped s b None = None

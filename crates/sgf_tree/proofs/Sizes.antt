@@ -4,7 +4,7 @@ use Rattle.std.proofs.lemmas.List.{length-take, length-map}
 use Rattle.std.specs.Prelude.{Ok, map, sum_by}
 use Rattle.std.proofs.lemmas.List.Sums.{sum_by-cons, sum_by-append}
 use Rattle.sgf_tree.specs.Grammar.{PropertyText, closing, Each, none, more, IsProperty, property, IsNode, node, IsTree, tree, AreTrees, no_trees, trees}
-use Rattle.sgf_tree.specs.Reading.{Answers, node_text, property_text, line_text}
+use Rattle.sgf_tree.specs.Reading.{AnswersFile, node_text, property_text, line_text}
 use Rattle.sgf_tree.specs.declared.tree.Node.{Node}
 use Rattle.sgf_tree.specs.declared.tree.Tree.{Tree}
 
@@ -44,7 +44,7 @@ same_sum : (ns : List Node) → sum_by (λ n. length n) (map node_text ns) ≡ s
 same_sum [] = refl
 same_sum (n ∷ ns) = omega (arith, same_sum ns, sum_by-cons (λ x. length x) (node_text n) (map node_text ns), sum_by-cons (λ x. length x.properties.items) n ns, length-map n.properties.items property_text)
 
-pub counts_of : (bytes : List ℕ) (t : Tree) → length bytes ≤ 1048576 → Answers bytes (Ok t) → (length t.line.items ≤ 1048576) × (sum_by (λ n. length n.properties.items) t.line.items ≤ 1048576)
+pub counts_of : (bytes : List ℕ) (t : Tree) → length bytes ≤ 1048576 → AnswersFile bytes (Ok t) → (length t.line.items ≤ 1048576) × (sum_by (λ n. length n.properties.items) t.line.items ≤ 1048576)
 counts_of bytes t h (start, s, (n, r)) =
     let most = tree_size (take n (drop start bytes)) (line_text t) r.is_tree in
     let same = same_sum t.line.items in

@@ -3,7 +3,7 @@ use Rattle.std.proofs.Common.{ℕ, suc, ◌+◌, ◌-◌, ◌<◌, ◌≤◌, �
 use Rattle.std.specs.Prelude.{Option, Result, Ok, Err}
 use Rattle.std.proofs.lemmas.List.{take_more, drop_more, take_all, drop_all, take_rest}
 use Rattle.sgf_tree.specs.Grammar.{IsTree}
-use Rattle.sgf_tree.specs.Reading.{IsLive, HasDepth, most_open, StaysShallow, StaysOpen, IsRead, IsTooDeep, IsBadByte, IsCutShort, IsStart, Answers}
+use Rattle.sgf_tree.specs.Reading.{IsLive, HasDepth, most_open_trees, StaysShallow, StaysOpen, IsRead, IsTooDeep, IsBadByte, IsCutShort, IsStart, AnswersFile}
 use Rattle.sgf_tree.specs.declared.tree.Tree.{Tree}
 use Rattle.sgf_tree.specs.declared.fault.TreeFault.TheVariants.{NoTree, BadByte, CutShort, TooDeep}
 use Rattle.sgf_tree.specs.declared.fault.SgfError.{SgfError}
@@ -12,7 +12,7 @@ use Rattle.sgf_tree.specs.declared.machine.Place.{Place}
 use Rattle.sgf_tree.specs.declared.machine.Place.TheVariants as at
 use Rattle.sgf_tree.specs.declared.machine.Token.{Token}
 use Rattle.sgf_tree.specs.declared.machine.Token.TheVariants as token
-use Rattle.sgf_tree.specs.Machine.{token_at, place_after, depth_after, State, after, begin, is_done, is_open, Verdict, read, bad_byte, cut_short, too_deep, judged, verdict, Gives}
+use Rattle.sgf_tree.specs.inner.Machine.{token_at, place_after, depth_after, State, after, begin, is_done, is_open, Verdict, read, bad_byte, cut_short, too_deep, judged, verdict, Gives}
 use Rattle.sgf_tree.proofs.Runs.{stepped, step, run, run-append, some-is, tree_run}
 use Rattle.sgf_tree.proofs.Rest.{run_tree}
 use Rattle.sgf_tree.proofs.Live.{has_depth, one_depth, live, dead}
@@ -25,7 +25,7 @@ Holds from (too_deep n) = IsTooDeep from n
 
 -- so many bytes are read, neither too deep nor to the end
 abbrev Goes : List ℕ → ℕ → Type 0
-Goes from n = (k : ℕ) → k ≤ n → (s : State) × (run (Some begin) (take k from) ≡ Some s) × (s.depth ≤ most_open) × (is_done s.place ≡ false)
+Goes from n = (k : ℕ) → k ≤ n → (s : State) × (run (Some begin) (take k from) ≡ Some s) × (s.depth ≤ most_open_trees) × (is_done s.place ≡ false)
 
 stays_shallow : (from : List ℕ) (n : ℕ) → Goes from n → StaysShallow from n
 stays_shallow from n g = λ k depth h d. (let s = g k h in let same = one_depth (take k from) s.0 depth s.1 d in omega (arith, same, s.2))
@@ -71,12 +71,12 @@ done_is at.AfterBackslash e = cc
 done_is at.AfterValue e = cc
 done_is at.AfterTree e = cc
 
-pub depth_most : (t : Token) (d : ℕ) → d ≤ most_open → (is_open t && (d == most_open)) ≡ false → depth_after t d ≤ most_open
+pub depth_most : (t : Token) (d : ℕ) → d ≤ most_open_trees → (is_open t && (d == most_open_trees)) ≡ false → depth_after t d ≤ most_open_trees
 depth_most token.Open d h e = grind (arith, h, e)
 depth_most token.Close d h e = omega (arith, h)
 depth_most t d h e = h
 
-too_many : (t : Token) (d : ℕ) → (is_open t && (d == most_open)) ≡ true → depth_after t d ≡ most_open + 1
+too_many : (t : Token) (d : ℕ) → (is_open t && (d == most_open_trees)) ≡ true → depth_after t d ≡ most_open_trees + 1
 too_many token.Open d e = grind (arith, e)
 too_many token.White d e = cc
 too_many token.Begin d e = cc
@@ -112,15 +112,15 @@ judged_holds from s n b r go more None e = record {
   live = live (take n from) s r.state;
   dead = dead (take (n + 1) from) (stepped_to from s n b None r e);
 }
-judged_holds from s n b r go more (Some t) e = by_depth (is_open t && (s.depth == most_open)) refl
+judged_holds from s n b r go more (Some t) e = by_depth (is_open t && (s.depth == most_open_trees)) refl
   where
     to : run (Some begin) (take (n + 1) from) ≡ Some (after s t b)
     to = stepped_to from s n b (Some t) r e
 
-    shallow_here : s.depth ≤ most_open
-    shallow_here = let here = r.goes n (omega arith) in subst (λ x. x.depth ≤ most_open) (some-is (sym here.1 ∙ r.state)) here.2
+    shallow_here : s.depth ≤ most_open_trees
+    shallow_here = let here = r.goes n (omega arith) in subst (λ x. x.depth ≤ most_open_trees) (some-is (sym here.1 ∙ r.state)) here.2
 
-    by_end : (is_open t && (s.depth == most_open)) ≡ false → (c : Bool) → is_done (place_after s.place t s.depth) ≡ c → Holds from (if c then read (n + 1) (after s t b).parts.nodes else go (after s t b))
+    by_end : (is_open t && (s.depth == most_open_trees)) ≡ false → (c : Bool) → is_done (place_after s.place t s.depth) ≡ c → Holds from (if c then read (n + 1) (after s t b).parts.nodes else go (after s t b))
     by_end small true f = record {
       within = omega (arith, r.within);
       is_tree = run_line (take (n + 1) from) (after s t b) to (done_is (place_after s.place t s.depth) f);
@@ -134,7 +134,7 @@ judged_holds from s n b r go more (Some t) e = by_depth (is_open t && (s.depth =
       | inr l ↦ (after s t b, ap (λ x. run (Some begin) (take x from)) l ∙ to, depth_most t s.depth shallow_here small, f)
     ])
 
-    by_depth : (c : Bool) → (is_open t && (s.depth == most_open)) ≡ c → Holds from (if c then too_deep n else (if is_done (place_after s.place t s.depth) then read (n + 1) (after s t b).parts.nodes else go (after s t b)))
+    by_depth : (c : Bool) → (is_open t && (s.depth == most_open_trees)) ≡ c → Holds from (if c then too_deep n else (if is_done (place_after s.place t s.depth) then read (n + 1) (after s t b).parts.nodes else go (after s t b)))
     by_depth true f = record {
       within = r.within;
       shallow = stays_shallow from n r.goes;
@@ -165,7 +165,7 @@ verdict_right from = verdict_holds from from begin 0 refl (omega arith) refl
     (λ k h. (let none : k ≡ 0 = omega (arith, h) in (begin, ap (λ x. run (Some begin) (take x from)) none, omega arith, refl)))
 
 -- what is answered from the machine's end is right
-pub answers_from : (bytes : List ℕ) (start : ℕ) (r : Result Tree SgfError) → IsStart bytes start → Gives (verdict begin 0 (drop start bytes)) start r → Answers bytes r
+pub answers_from : (bytes : List ℕ) (start : ℕ) (r : Result Tree SgfError) → IsStart bytes start → Gives (verdict begin 0 (drop start bytes)) start r → AnswersFile bytes r
 answers_from bytes start (Ok tree) s g = (start, s, (g.0, subst (Holds (drop start bytes)) g.1 (verdict_right (drop start bytes))))
 answers_from bytes start (Err (Fault NoTree)) s g = absurd g
 answers_from bytes start (Err (Fault (BadByte at))) s g = (start, s, (g.0, g.1, subst (Holds (drop start bytes)) g.2 (verdict_right (drop start bytes))))
@@ -182,13 +182,13 @@ verdict_at from s n h = ap (verdict s n) (drop_more from n 0 h)
 pub verdict_bad : (from : List ℕ) (s : State) (n : ℕ) → n < length from → token_at s.place (get_or from n 0) ≡ None → verdict s n (drop n from) ≡ bad_byte n
 verdict_bad from s n h e = verdict_at from s n h ∙ ap (λ o. judged s n (get_or from n 0) o (λ t. verdict t (n + 1) (drop (n + 1) from))) e
 
-pub verdict_deep : (from : List ℕ) (s : State) (n : ℕ) (t : Token) → n < length from → token_at s.place (get_or from n 0) ≡ Some t → (is_open t && (s.depth == most_open)) ≡ true → verdict s n (drop n from) ≡ too_deep n
+pub verdict_deep : (from : List ℕ) (s : State) (n : ℕ) (t : Token) → n < length from → token_at s.place (get_or from n 0) ≡ Some t → (is_open t && (s.depth == most_open_trees)) ≡ true → verdict s n (drop n from) ≡ too_deep n
 verdict_deep from s n t h e deep =
     verdict_at from s n h ∙ ap (λ x. judged s n (get_or from n 0) x (λ t. verdict t (n + 1) (drop (n + 1) from))) e
     ∙ ap (λ c. if c then too_deep n else (if is_done (place_after s.place t s.depth) then read (n + 1) (after s t (get_or from n 0)).parts.nodes else verdict (after s t (get_or from n 0)) (n + 1) (drop (n + 1) from))) deep
 
 -- a byte that doesn't open one tree too many
-pub verdict_next : (from : List ℕ) (s : State) (n : ℕ) (t : Token) → n < length from → token_at s.place (get_or from n 0) ≡ Some t → (is_open t && (s.depth == most_open)) ≡ false
+pub verdict_next : (from : List ℕ) (s : State) (n : ℕ) (t : Token) → n < length from → token_at s.place (get_or from n 0) ≡ Some t → (is_open t && (s.depth == most_open_trees)) ≡ false
     → (c : Bool) → is_done (place_after s.place t s.depth) ≡ c
     → verdict s n (drop n from) ≡ (if c then read (n + 1) (after s t (get_or from n 0)).parts.nodes else verdict (after s t (get_or from n 0)) (n + 1) (drop (n + 1) from))
 verdict_next from s n t h e small c d =
@@ -199,17 +199,17 @@ pub verdict_end : (from : List ℕ) (s : State) (n : ℕ) → length from ≤ n 
 unfolding verdict
 verdict_end from s n h = ap (verdict s n) (drop_all n from h)
 
-pub verdict_done : (from : List ℕ) (s m : State) (n : ℕ) (t : Token) → n < length from → token_at s.place (get_or from n 0) ≡ Some t → (is_open t && (s.depth == most_open)) ≡ false
+pub verdict_done : (from : List ℕ) (s m : State) (n : ℕ) (t : Token) → n < length from → token_at s.place (get_or from n 0) ≡ Some t → (is_open t && (s.depth == most_open_trees)) ≡ false
     → m ≡ after s t (get_or from n 0) → is_done m.place ≡ true → verdict s n (drop n from) ≡ read (n + 1) m.parts.nodes
 verdict_done from s m n t h e small same d = verdict_next from s n t h e small true (ap (λ x. is_done x.place) (sym same) ∙ d) ∙ ap (λ x. read (n + 1) x.parts.nodes) (sym same)
 
-pub verdict_more : (from : List ℕ) (s m : State) (n : ℕ) (t : Token) → n < length from → token_at s.place (get_or from n 0) ≡ Some t → (is_open t && (s.depth == most_open)) ≡ false
+pub verdict_more : (from : List ℕ) (s m : State) (n : ℕ) (t : Token) → n < length from → token_at s.place (get_or from n 0) ≡ Some t → (is_open t && (s.depth == most_open_trees)) ≡ false
     → m ≡ after s t (get_or from n 0) → is_done m.place ≡ false → verdict s n (drop n from) ≡ verdict m (n + 1) (drop (n + 1) from)
 verdict_more from s m n t h e small same d = verdict_next from s n t h e small false (ap (λ x. is_done x.place) (sym same) ∙ d) ∙ ap (λ x. verdict x (n + 1) (drop (n + 1) from)) (sym same)
 
-pub depth_more : (s m : State) (t : Token) (b : ℕ) → s.depth ≤ most_open → (is_open t && (s.depth == most_open)) ≡ false → m ≡ after s t b → m.depth ≤ most_open
-depth_more s m t b h small same = subst (λ x. x.depth ≤ most_open) (sym same) (depth_most t s.depth h small)
+pub depth_more : (s m : State) (t : Token) (b : ℕ) → s.depth ≤ most_open_trees → (is_open t && (s.depth == most_open_trees)) ≡ false → m ≡ after s t b → m.depth ≤ most_open_trees
+depth_more s m t b h small same = subst (λ x. x.depth ≤ most_open_trees) (sym same) (depth_most t s.depth h small)
 
 -- the bytes from the start on, as the reading is given them
-pub answers_slice : (bytes : List ℕ) (start : ℕ) (r : Result Tree SgfError) → IsStart bytes start → Gives (verdict begin 0 (take (length bytes - start) (drop start bytes))) start r → Answers bytes r
+pub answers_slice : (bytes : List ℕ) (start : ℕ) (r : Result Tree SgfError) → IsStart bytes start → Gives (verdict begin 0 (take (length bytes - start) (drop start bytes))) start r → AnswersFile bytes r
 answers_slice bytes start r s g = answers_from bytes start r s (subst (λ x. Gives (verdict begin 0 x) start r) (take_rest bytes start) g)

@@ -1,3 +1,3 @@
 pub mod Grammar
 pub mod Reading
-pub mod Machine
+pub mod inner

@@ -9,10 +9,10 @@ use Rattle.sgf_tree.specs.declared.fault.SgfError.{SgfError}
 use Rattle.sgf_tree.specs.declared.fault.SgfError.TheVariants.{Fault, Memory}
 
 -- the most trees that may be open at once
-abbrev pub most_open : ℕ
-most_open = 1000
+abbrev pub most_open_trees : ℕ
+most_open_trees = 1000
 
--- `(`, and after any white space `;`
+-- the bytes begin with `(`, and after any white space `;`
 pub record Begins (bytes : List ℕ) : Type 0 where
   pub white : List ℕ
   pub rest : List ℕ
@@ -24,20 +24,23 @@ pub record IsStart (bytes : List ℕ) (start : ℕ) : Type 0 where
   pub begins : Begins (drop start bytes)
   pub first : (k : ℕ) → k < start → ¬ Begins (drop k bytes)
 
+-- at no place a tree begins
 abbrev pub NoStart : List ℕ → Type 0
 NoStart bytes = (k : ℕ) → ¬ Begins (drop k bytes)
 
+-- the bytes are a tree
 abbrev pub IsSomeTree : List ℕ → Type 0
 IsSomeTree bytes = (line : List (List PropertyText)) × IsTree bytes line
 
--- some continuation makes a tree
+-- some continuation of the bytes makes a tree
 abbrev pub IsLive : List ℕ → Type 0
 IsLive bytes = (more : List ℕ) × IsSomeTree (bytes ++ more)
 
+-- how many of the bytes are `)`
 abbrev pub closings : List ℕ → ℕ
 closings bytes = count_by (λ b. b == closing) bytes
 
--- the least number of bytes `)` that a continuation needs
+-- the least number of bytes `)` that a continuation of the bytes to a tree needs
 pub record HasDepth (bytes : List ℕ) (depth : ℕ) : Type 0 where
   pub more : List ℕ
   pub is_tree : IsSomeTree (bytes ++ more)
@@ -46,13 +49,13 @@ pub record HasDepth (bytes : List ℕ) (depth : ℕ) : Type 0 where
 
 -- none of the first `n + 1` beginnings of the bytes is too deep
 abbrev pub StaysShallow : List ℕ → ℕ → Type 0
-StaysShallow bytes n = (k depth : ℕ) → k ≤ n → HasDepth (take k bytes) depth → depth ≤ most_open
+StaysShallow bytes n = (k depth : ℕ) → k ≤ n → HasDepth (take k bytes) depth → depth ≤ most_open_trees
 
--- none of them is a tree
+-- none of the first `n + 1` beginnings of the bytes is a tree
 abbrev pub StaysOpen : List ℕ → ℕ → Type 0
 StaysOpen bytes n = (k : ℕ) → k ≤ n → ¬ IsSomeTree (take k bytes)
 
--- the tree ends at `n`
+-- the first `n` bytes are a tree with this main line, and none of their beginnings is too deep
 pub record IsRead (bytes : List ℕ) (n : ℕ) (line : List (List PropertyText)) : Type 0 where
   pub within : n ≤ length bytes
   pub is_tree : IsTree (take n bytes) line
@@ -63,7 +66,7 @@ pub record IsTooDeep (bytes : List ℕ) (n : ℕ) : Type 0 where
   pub within : n < length bytes
   pub shallow : StaysShallow bytes n
   pub unfinished : StaysOpen bytes n
-  pub deep : HasDepth (take (n + 1) bytes) (most_open + 1)
+  pub deep : HasDepth (take (n + 1) bytes) (most_open_trees + 1)
 
 -- the byte at `n` fits no rule
 pub record IsBadByte (bytes : List ℕ) (n : ℕ) : Type 0 where
@@ -79,17 +82,19 @@ pub record IsCutShort (bytes : List ℕ) : Type 0 where
   pub unfinished : StaysOpen bytes (length bytes)
   pub live : IsLive bytes
 
--- the nodes without where they lie in memory
+-- a property without where it lies in memory
 abbrev pub property_text : Property → PropertyText
 property_text p = record { name = p.name.items; values = map (λ v. v.items) p.values.items }
 
+-- the properties of a node without where they lie in memory
 abbrev pub node_text : Node → List PropertyText
 node_text n = map property_text n.properties.items
 
+-- the nodes of the main line without where they lie in memory
 abbrev pub line_text : Tree → List (List PropertyText)
 line_text t = map node_text t.line.items
 
--- from the first place at which a tree begins
+-- `Is` holds of the bytes from the first place at which a tree begins, and of that place
 abbrev pub FromStart : List ℕ → (List ℕ → ℕ → Type 0) → Type 0
 FromStart bytes Is = (start : ℕ) × IsStart bytes start × Is (drop start bytes) start
 
@@ -101,12 +106,13 @@ pub data Answer : Type 0 where
   cut_short : Answer
   too_deep : Answer
 
-abbrev pub IsAnswer : List ℕ → Answer → Type 0
-IsAnswer bytes (line l) = FromStart bytes (λ from start. (n : ℕ) × IsRead from n l)
-IsAnswer bytes no_tree = NoStart bytes
-IsAnswer bytes (bad_byte at) = FromStart bytes (λ from start. (n : ℕ) × (at ≡ start + n) × IsBadByte from n)
-IsAnswer bytes cut_short = FromStart bytes (λ from start. IsCutShort from)
-IsAnswer bytes too_deep = FromStart bytes (λ from start. (n : ℕ) × IsTooDeep from n)
+-- the answer to a file: the main line of the tree that begins first, or what is wrong with it
+abbrev pub IsTreeAnswer : List ℕ → Answer → Type 0
+IsTreeAnswer bytes (line l) = FromStart bytes (λ from start. (n : ℕ) × IsRead from n l)
+IsTreeAnswer bytes no_tree = NoStart bytes
+IsTreeAnswer bytes (bad_byte at) = FromStart bytes (λ from start. (n : ℕ) × (at ≡ start + n) × IsBadByte from n)
+IsTreeAnswer bytes cut_short = FromStart bytes (λ from start. IsCutShort from)
+IsTreeAnswer bytes too_deep = FromStart bytes (λ from start. (n : ℕ) × IsTooDeep from n)
 
 -- the answer without where it lies in memory; none where memory ran out
 abbrev pub answer_of : Result Tree SgfError → Option Answer
@@ -118,9 +124,9 @@ answer_of (Err (Fault TooDeep)) = Some too_deep
 answer_of (Err (Memory e)) = None
 
 -- what is answered of a file; want of memory may always be answered
-abbrev pub Answers : List ℕ → Result Tree SgfError → Type 0
-Answers bytes result = IfSome (answer_of result) (IsAnswer bytes)
+abbrev pub AnswersFile : List ℕ → Result Tree SgfError → Type 0
+AnswersFile bytes result = IfSome (answer_of result) (IsTreeAnswer bytes)
 
 -- each file has at most one answer beside want of memory
 abbrev pub OneAnswer : Type 0
-OneAnswer = (bytes : List ℕ) (a b : Answer) → IsAnswer bytes a → IsAnswer bytes b → a ≡ b
+OneAnswer = (bytes : List ℕ) (a b : Answer) → IsTreeAnswer bytes a → IsTreeAnswer bytes b → a ≡ b

@@ -2,11 +2,11 @@
 
 ghost use Rattle.std.specs.Prelude.{◌≡◌};
 ghost use Rattle.sgf_tree.specs.Grammar.{is_white};
-ghost use Rattle.sgf_tree.specs.Machine.{kind_of, outside, inside, token_at, place_after};
+ghost use Rattle.sgf_tree.specs.inner.Machine.{kind_of, outside, inside, token_at, place_after};
 
 /// What a byte is outside of values.
 #[derive(Clone, Copy, Debug, PartialEq, Eq)]
-pub enum Kind {
+pub(crate) enum Kind {
     Opening,
     Closing,
     Semicolon,
@@ -18,7 +18,7 @@ pub enum Kind {
 
 /// Where the reading is: before the tree, behind a `(`, and so on to behind the tree's `)`.
 #[derive(Clone, Copy, Debug, PartialEq, Eq)]
-pub enum Place {
+pub(crate) enum Place {
     Start,
     Opened,
     InNode,
@@ -33,7 +33,7 @@ pub enum Place {
 
 /// What a byte is at its place.
 #[derive(Clone, Copy, Debug, PartialEq, Eq)]
-pub enum Token {
+pub(crate) enum Token {
     White,
     Begin,
     Open,
@@ -109,7 +109,7 @@ fn inside_value(byte: u8) -> Token
 }
 
 /// What a byte is at a place, if it fits there.
-pub fn read_token(place: Place, byte: u8) -> Option<Token>
+pub(crate) fn read_token(place: Place, byte: u8) -> Option<Token>
     ensures { result ≡ token_at place byte }
 {
     match place {
@@ -120,7 +120,7 @@ pub fn read_token(place: Place, byte: u8) -> Option<Token>
 }
 
 /// The place after a byte.
-pub fn next_place(place: Place, token: Token, depth: u32) -> Place
+pub(crate) fn next_place(place: Place, token: Token, depth: u32) -> Place
     ensures { result ≡ place_after place token depth }
 {
     match token {

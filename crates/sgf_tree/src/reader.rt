@@ -1,8 +1,8 @@
 //! Reading a tree, one byte after the other.
 
 ghost use Rattle.std.specs.Prelude.{◌≡◌, ◌≤◌, ◌<◌, ◌+◌, ◌^◌, ◌&&◌, ◌==◌, length, drop, OnOk, OnErr, MatchOption, IfSome, IfOk, sum_by};
-ghost use Rattle.sgf_tree.specs.Reading.{Answers, IsStart, NoStart, OneAnswer, most_open};
-ghost use Rattle.sgf_tree.specs.Machine.{parts_of, state_of, with_value, with_property, with_node, with_letter, with_byte, property_ended, node_ended, parts_after, after, begin, verdict, Gives, is_open, is_done, is_close, depth_after};
+ghost use Rattle.sgf_tree.specs.Reading.{AnswersFile, IsStart, NoStart, OneAnswer, most_open_trees};
+ghost use Rattle.sgf_tree.specs.inner.Machine.{parts_of, state_of, with_value, with_property, with_node, with_letter, with_byte, property_ended, node_ended, parts_after, after, begin, verdict, Gives, is_open, is_done, is_close, depth_after};
 
 use crate::fault::{SgfError, TreeFault};
 use crate::machine::{Place, Token, is_white, next_place, read_token};
@@ -122,7 +122,7 @@ struct Reader {
 }
 
 fn new_depth(token: Token, depth: u32) -> u32
-    requires { depth ≤ most_open }
+    requires { depth ≤ most_open_trees }
     ensures { result ≡ depth_after token depth }
 {
     match token {
@@ -140,7 +140,7 @@ fn is_close(token: Token) -> bool
 
 /// Whether a byte opens one tree too many.
 fn is_too_deep(token: Token, depth: u32) -> bool
-    ensures { result ≡ is_open token && (depth == most_open) }
+    ensures { result ≡ is_open token && (depth == most_open_trees) }
 {
     match token {
         Token::Open => depth == MOST_OPEN,
@@ -174,7 +174,7 @@ impl Reader {
 
     /// Takes a byte. The main line is at its end once a tree has been closed.
     fn take(&mut self, token: Token, byte: u8) -> Result<(), AllocError>
-        requires { self.old.depth ≤ most_open }
+        requires { self.old.depth ≤ most_open_trees }
         ensures { OnOk result (state_of self.new ≡ after (state_of self.old) token byte) }
     {
         if self.on_main {
@@ -241,7 +241,7 @@ fn read_tree(alloc: Global, bytes: &[u8], start: usize) -> Result<Tree, SgfError
 #[tactic(auto, using(crate::proofs::Sizes::counts_of))]
 pub fn read(alloc: Global, bytes: &[u8]) -> Result<Tree, SgfError>
     requires { length bytes.now ≤ MOST_BYTES }
-    ensures answer { Answers bytes.now result }
+    ensures answer { AnswersFile bytes.now result }
     ensures few { IfOk result (λ t. (length t.line.items ≤ MOST_BYTES)
         × (sum_by (λ n. length n.properties.items) t.line.items ≤ MOST_BYTES)) }
 {
@@ -250,7 +250,7 @@ pub fn read(alloc: Global, bytes: &[u8]) -> Result<Tree, SgfError>
 
 fn read_main_line(alloc: Global, bytes: &[u8]) -> Result<Tree, SgfError>
     requires { length bytes.now ≤ MOST_BYTES }
-    ensures { Answers bytes.now result }
+    ensures { AnswersFile bytes.now result }
 {
     match find_start(bytes) {
         Some(start) => read_tree(alloc, &bytes[start..], start),

@@ -7,7 +7,7 @@ use Rattle.short_games.specs.Order.{◌≤ᵍ◌, by_left, by_right}
 use Rattle.short_games.specs.Sum.{◌+ᵍ◌, each_plus}
 use Rattle.short_games.specs.Number.{num, IsNumber, half, is_even, whole, count_tree}
 use Rattle.short_games.specs.Canonical.{Ascends, IsReduced, IsCanonical, AreCanonical}
-use Rattle.short_games.proofs.OrderLaws.{le-out, le-in, le-refl, le-trans, size-left, size-right, not-le, le-or_not}
+use Rattle.short_games.proofs.OrderLaws.{le-in, le-refl, le-trans, size-left, size-right, not-le, le-or_not}
 use Rattle.short_games.proofs.SumLaws.{plus-le, plus-le_both, plus-comm, plus-assoc, plus-cancel, left_of_sum, right_of_sum, left_in_first, right_in_first, InSum, nought, has-each_plus, each_plus-has, plus-neg, plus-nought, nought-plus, not_le_left, not_right_le, neg-neg, neg-left, neg-right, has-neg_each}
 use Rattle.short_games.proofs.SumLaws.InSum.{in_first, in_second}
 use Rattle.short_games.proofs.NumberLaws.{num-left, num-right, num-le, num-lt, num-double, num-even, num-odd, num-plus_le, half-even, half-odd, neg-num}
@@ -19,36 +19,6 @@ by_better G H f g = le-in G H record {
   from_left = λ L l y. (let m = f L l in not_le_left H m.0 m.1 (le-trans H L m.0 y m.2));
   from_right = λ S s y. (let r = g S s in not_right_le G r.0 r.1 (le-trans r.0 S G r.2 y));
 }
-
--- H is G with the Left option L, which R reverses, replaced by the Left options of R
-pub record ReversesLeft (G H L R : Tree) : Type 0 where
-  pub option : Has (left G) L
-  pub answer : Has (right L) R
-  pub reverses : R ≤ᵍ G
-  pub kept : (X : Tree) → Has (left G) X → (X ≡ L) ⊎ Has (left H) X
-  pub added : (X : Tree) → Has (left R) X → Has (left H) X
-  pub from : (X : Tree) → Has (left H) X → Has (left G) X ⊎ Has (left R) X
-  pub others : right H ≡ right G
-
-pub reversed-left : (G H L R : Tree) → ReversesLeft G H L R → (G ≤ᵍ H) × (H ≤ᵍ G)
-reversed-left G H L R v = (
-  le-in G H record { from_left = λ X x y. at X (v.kept X x) y; from_right = λ X x y. not_right_le G X (subst (λ t. Has t X) v.others x) y },
-  le-in H G record { from_left = λ X x y. at' X (v.from X x) y; from_right = λ X x y. not_right_le H X (subst (λ t. Has t X) (sym v.others) x) y },
-)
-  where
-    back : R ≤ᵍ H
-    back = le-in R H record {
-      from_left = λ X x y. not_le_left H X (v.added X x) y;
-      from_right = λ X x y. not_right_le G X (subst (λ t. Has t X) v.others x) (le-trans X R G y v.reverses);
-    }
-
-    at : (X : Tree) → (X ≡ L) ⊎ Has (left H) X → H ≤ᵍ X → ⊥
-    at X (inl e) y = (le-out H L (subst (λ t. H ≤ᵍ t) e y)).from_right R v.answer back
-    at X (inr h) y = not_le_left H X h y
-
-    at' : (X : Tree) → Has (left G) X ⊎ Has (left R) X → G ≤ᵍ X → ⊥
-    at' X (inl h) y = not_le_left G X h y
-    at' X (inr h) y = not_le_left R X h (le-trans R G X v.reverses y)
 
 -- a game with a number between its options is a number
 number_step : (n : ℕ) (G : Tree) → ((e : ℕ) (z : ℤ) → size (num e z) < n → ((L : Tree) → Has (left G) L → num e z ≤ᵍ L → ⊥) → ((R : Tree) → Has (right G) R → R ≤ᵍ num e z → ⊥) → IsNumber G)

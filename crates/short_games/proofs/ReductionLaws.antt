@@ -6,7 +6,7 @@ use Rattle.short_games.specs.Order.{◌≤ᵍ◌}
 use Rattle.short_games.specs.Number.{num, IsNumber}
 use Rattle.short_games.specs.Canonical.{IsCanonical, AreCanonical}
 use Rattle.short_games.specs.TextOrder.{TextBefore, sorted, IsCanonicalTree, IsCanonicalFor}
-use Rattle.short_games.specs.Reduction.{DropsLeft, DropsRight, BypassesLeft, BypassesRight, IsFreeLeft, KeepsLeft, KeepsRight}
+use Rattle.short_games.specs.inner.Reduction.{DropsLeft, DropsRight, BypassesLeft, BypassesRight, IsFreeLeft, KeepsLeft, KeepsRight}
 use Rattle.short_games.proofs.OrderLaws.{le-out, le-in, le-refl, le-trans, none-or_some, le-or_not}
 use Rattle.short_games.proofs.SumLaws.{not_le_left, not_right_le}
 use Rattle.short_games.proofs.NumberLaws.{num-left, num-right, num-le}

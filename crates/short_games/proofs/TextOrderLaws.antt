@@ -3,7 +3,8 @@ use Rattle.std.proofs.Common.{ℕ, ◌<◌, ◌≡◌, ◌⊎◌, List, [], ◌�
 use Rattle.std.specs.Prelude.{nat_lt, nat_eq}
 use Rattle.std.proofs.lemmas.Bool.{cases_Bool, true≢false, ltb-true, eqb-true, lt-ltb, ne_eqb, eq-eqb, cases_order}
 use Rattle.short_games.specs.Tree.{Tree, Trees, none, more, Has}
-use Rattle.short_games.specs.Canonical.{Ascends, IsStrictOrder}
+use Rattle.short_games.specs.Canonical.{Ascends}
+use Rattle.short_games.specs.inner.Canonical.{IsStrictOrder}
 use Rattle.short_games.specs.NumberText.{number_text}
 use Rattle.short_games.specs.TextOrder.{tree_text, lesser_text, text_before, TextBefore, insert, sorted}
 use Rattle.short_games.proofs.NumberTextLaws.{number_text-bytes, number_text-some, number_text-one_to_one}

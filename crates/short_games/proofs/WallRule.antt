@@ -7,7 +7,7 @@ use Rattle.std.proofs.lemmas.Int.{ints, clamps, by_lt_z}
 use Rattle.std.proofs.lemmas.Bool.{cases_lt}
 use Rattle.short_games.specs.Tree.{Tree, Trees, node, none, more, left, right, Has, size}
 use Rattle.short_games.specs.Number.{num, IsNumberTree}
-use Rattle.short_games.specs.Lines.{Rises, Falls}
+use Rattle.short_games.specs.inner.Lines.{Rises, Falls}
 use Rattle.short_games.specs.Walls.{IsLeftWall, IsRightWall, IsGreatestRightWall, IsLeastLeftWall}
 use Rattle.short_games.specs.WallGrids.{IsGreatest, IsLeast, Follow, WallsAre, AllWallsAre, HasWalls, finer}
 use Rattle.short_games.specs.WallGrids.Follow.{apart, met}

@@ -10,7 +10,7 @@ use Rattle.short_games.proofs.NumberLaws.{num-double}
 use Rattle.short_games.proofs.WallNumbers.{num-one_to_one}
 use Rattle.short_games.specs.WallGrids.{IsGreatest, IsLeast, WallsAre, AllWallsAre, HasWalls, finer}
 use Rattle.short_games.specs.WallGrids.WallsAre.{of_number, of_game}
-use Rattle.short_games.specs.Lines.{Rises, Falls}
+use Rattle.short_games.specs.inner.Lines.{Rises, Falls}
 use Rattle.short_games.proofs.WallLines.{Doubles, finer-doubles, greatest-same, least-same, greatest-rises, least-falls, greatest-doubles, least-doubles, follow-same, left-falls, right-rises, walls-ordered, doubled}
 
 pub all-here : (k : ℕ) (lw rw : Tree → ℕ → ℤ) (G : Tree) → AllWallsAre k lw rw G → WallsAre k lw rw G

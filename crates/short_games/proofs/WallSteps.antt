@@ -7,7 +7,7 @@ use Rattle.short_games.specs.Number.{num, IsNumberTree}
 use Rattle.short_games.proofs.OrderLaws.{size-left, size-right}
 use Rattle.short_games.specs.WallGrids.{IsGreatest, IsLeast, Follow, WallsAre, AllWallsAre, IsMeeting}
 use Rattle.short_games.proofs.WallGreatest.{IsFilled, filled}
-use Rattle.short_games.specs.Lines.{Rises, Falls}
+use Rattle.short_games.specs.inner.Lines.{Rises, Falls}
 use Rattle.short_games.specs.WallGrids.Follow.{apart, met}
 use Rattle.short_games.specs.WallGrids.WallsAre.{of_number, of_game}
 use Rattle.short_games.proofs.WallLines.{Doubles, greatest-same, least-same, follow-same, parity, Parity}

@@ -11,7 +11,7 @@ use Rattle.short_games.proofs.WallNumbers.NumberAt.{is_number, is_none}
 use Rattle.short_games.proofs.WallGreatest.{IsFilled, greatest-one, greatest-more, least-one, least-more}
 use Rattle.short_games.specs.WallGrids.Follow.{apart, met}
 use Rattle.short_games.specs.WallGrids.WallsAre.{of_number, of_game}
-use Rattle.short_games.specs.Lines.{Rises, Falls}
+use Rattle.short_games.specs.inner.Lines.{Rises, Falls}
 use Rattle.short_games.proofs.WallLines.{Doubles, parity, Parity, below-or_at}
 use Rattle.short_games.proofs.WallLines.Parity.{even, odd}
 

@@ -1,5 +1,5 @@
 -- Canonical trees, where `Before` is the order of texts.
-use Rattle.std.specs.Prelude.{◌≡◌, ◌⊎◌}
+use Rattle.std.specs.Prelude.{◌≡◌}
 use Rattle.short_games.specs.Tree.{Tree, Trees, node, none, more, left, right, Has}
 use Rattle.short_games.specs.Order.{◌≤ᵍ◌}
 
@@ -10,7 +10,7 @@ module _ (Before : Tree → Tree → Type 0) where
   Ascends (more G none) = Unit {0}
   Ascends (more G (more H Hs)) = Before G H × Ascends (more H Hs)
 
-  -- what is asked at the tree itself
+  -- the tree has no dominated and no reversible option, and its options stand in ascending order on both sides
   pub record IsReduced (G : Tree) : Type 0 where
     -- no Left option is at most another, and no Right option at least another
     pub left_free : (A B : Tree) → Has (left G) A → Has (left G) B → A ≤ᵍ B → A ≡ B
@@ -22,18 +22,14 @@ module _ (Before : Tree → Tree → Type 0) where
     pub right_ascends : Ascends (right G)
 
   abbrev mutual
+    -- the tree is canonical: neither it nor a follower has a dominated or reversible option, or options out of order
     pub IsCanonical : Tree → Type 0
     IsCanonical (node ls rs) = IsReduced (node ls rs) × AreCanonical ls × AreCanonical rs
 
+    -- each tree of the list is canonical
     pub AreCanonical : Trees → Type 0
     AreCanonical none = Unit {0}
     AreCanonical (more G Gs) = IsCanonical G × AreCanonical Gs
-
--- an order of trees in which of two different ones exactly one is before the other
-pub record IsStrictOrder (Before : Tree → Tree → Type 0) : Type 0 where
-  pub irreflexive : (G : Tree) → Before G G → ⊥
-  pub transitive : (G H K : Tree) → Before G H → Before H K → Before G K
-  pub total : (G H : Tree) → Before G H ⊎ ((G ≡ H) ⊎ Before H G)
 
 -- C is a canonical tree that is equal to G
 pub record IsCanonicalOf (Before : Tree → Tree → Type 0) (G C : Tree) : Type 0 where

@@ -1,7 +1,7 @@
 -- Small games.
 use Rattle.short_games.specs.Tree.{Tree, node, none, more}
 
--- one option on each side
+-- the game {L|R}, with one option on each side
 abbrev pub choice : Tree → Tree → Tree
 choice L R = node (more L none) (more R none)
 

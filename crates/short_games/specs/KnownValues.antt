@@ -10,7 +10,8 @@ use Rattle.short_games.specs.TextOrder.{IsCanonicalTree, IsCanonicalFor}
 use Rattle.short_games.specs.Walls.{IsLeftWall, IsRightWall}
 use Rattle.short_games.specs.Examples.{choice, zero, one, two, minus_two, half, star, up, switch, tiny, star_two}
 
--- 0, 2, -2 and 1/2 are numbers; 0 is the simplest number for {-2|2}; and the others are no numbers
+-- 0, 2, -2 and 1/2 are numbers, and 0 is the simplest number for {-2|2}; star, up, {2|0}, tiny-two and the nimber of 2 are
+-- no numbers
 abbrev pub KnownNumbers : Type 0
 KnownNumbers = (num 0 (pos 0) ≡ zero) × (num 0 (pos 2) ≡ two) × (num 0 (negsuc 1) ≡ minus_two) × (num 1 (pos 1) ≡ half) × IsSimplestFor (choice minus_two two) zero
     × (IsNumber star → ⊥) × (IsNumber up → ⊥) × (IsNumber switch → ⊥) × (IsNumber tiny → ⊥) × (IsNumber star_two → ⊥)
@@ -32,12 +33,12 @@ KnownOrder = IsLess zero half × IsLess half one × IsLess zero tiny × IsLess t
 abbrev pub KnownSums : Type 0
 KnownSums = ((half +ᵍ half) ≡ᵍ one) × ((star +ᵍ star) ≡ᵍ zero) × ((star_two +ᵍ star_two) ≡ᵍ zero) × ((switch +ᵍ switch) ≡ᵍ two)
 
--- all of them are canonical, and {star|star} has the canonical form 0
+-- 0, 1/2, star, up, {2|0}, tiny-two and the nimber of 2 are canonical, and {star|star} has the canonical form 0
 abbrev pub KnownCanonical : Type 0
 KnownCanonical = IsCanonicalTree zero × IsCanonicalTree half × IsCanonicalTree star × IsCanonicalTree up × IsCanonicalTree switch × IsCanonicalTree tiny × IsCanonicalTree star_two
     × IsCanonicalFor (choice star star) zero
 
--- the stops of {2|0} are 2 and 0, those of 1/2 are 1/2, and the others' are 0
+-- the stops of {2|0} are 2 and 0, those of 1/2 are 1/2, and those of star, up, tiny-two and the nimber of 2 are 0
 abbrev pub KnownStops : Type 0
 KnownStops = IsLeftStop 0 switch (pos 2) × IsRightStop 0 switch (pos 0) × IsLeftStop 1 half (pos 1) × IsRightStop 1 half (pos 1)
     × IsLeftStop 0 star (pos 0) × IsRightStop 0 star (pos 0) × IsLeftStop 0 up (pos 0) × IsRightStop 0 up (pos 0)
@@ -47,7 +48,8 @@ KnownStops = IsLeftStop 0 switch (pos 2) × IsRightStop 0 switch (pos 0) × IsLe
 abbrev pub IsUpright : Tree → ℕ → ℤ → Type 0
 IsUpright G k x = (t : ℕ) → IsLeftWall G k t x × IsRightWall G k t x
 
--- the walls of {2|0} are 2 and 0 at 0, 3/2 and 1/2 at 1/2, and 1 from 1 on; those of 1/2 are 1/2, and the others' are 0
+-- the walls of {2|0} are 2 and 0 at 0, 3/2 and 1/2 at 1/2, and 1 from 1 on; those of 1/2 are 1/2, and those of star, up,
+-- tiny-two and the nimber of 2 are 0
 abbrev pub KnownWalls : Type 0
 KnownWalls = IsLeftWall switch 0 0 (pos 2) × IsRightWall switch 0 0 (pos 0) × IsLeftWall switch 1 1 (pos 3) × IsRightWall switch 1 1 (pos 1)
     × ((t : ℕ) → 1 ≤ t → IsLeftWall switch 0 t (pos 1) × IsRightWall switch 0 t (pos 1))

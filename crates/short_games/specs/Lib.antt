@@ -10,7 +10,6 @@ pub mod Simplest
 pub mod Threshold
 pub mod Stops
 pub mod Canonical
-pub mod Reduction
 pub mod NumberText
 pub mod Text
 pub mod TextOrder
@@ -19,9 +18,9 @@ pub mod CanonicalLaws
 pub mod NumberLaws
 pub mod StopLaws
 pub mod Parts
-pub mod Lines
 pub mod Walls
 pub mod WallGrids
 pub mod WallLaws
 pub mod Examples
 pub mod KnownValues
+pub mod inner

@@ -8,18 +8,19 @@ use Rattle.short_games.specs.Simplest.{FitsForm, IsSimplestFor}
 use Rattle.short_games.specs.Moves.{LeftMoves, RightMoves, LeftWins, RightWins}
 use Rattle.short_games.specs.TextOrder.{IsCanonicalTree}
 
--- canonical trees that are no numbers, at least one
+-- the trees are canonical and none of them is a number's, and there is at least one
 pub record AreNoNumbers (Gs : Trees) : Type 0 where
   pub some : (G : Tree) × Has Gs G
   pub canonical : (G : Tree) → Has Gs G → IsCanonicalTree G
   pub no_numbers : (G : Tree) → Has Gs G → IsNumberTree G → ⊥
 
--- Where a player who moves first wins the sum of such trees and a number, a move in one of the trees wins it: after it
--- the sum is at least 0 for Left, or at most 0 for Right
+-- Where Left, who moves first, wins the sum of a number and canonical trees that are no numbers, a move in one of the trees
+-- wins it: after it the sum is at least 0
 abbrev pub LeftAvoidsNumbers : Type 0
 LeftAvoidsNumbers = (Gs : Trees) (e : ℕ) (m : ℤ) → AreNoNumbers Gs → LeftWins (total Gs +ᵍ num e m) → (Hs : Trees) × LeftMoves Gs Hs × (node none none ≤ᵍ total Hs +ᵍ num e m)
 
--- the same of Right
+-- Where Right, who moves first, wins the sum of a number and canonical trees that are no numbers, a move in one of the trees
+-- wins it: after it the sum is at most 0
 abbrev pub RightAvoidsNumbers : Type 0
 RightAvoidsNumbers = (Gs : Trees) (e : ℕ) (m : ℤ) → AreNoNumbers Gs → RightWins (total Gs +ᵍ num e m) → (Hs : Trees) × RightMoves Gs Hs × (total Hs +ᵍ num e m ≤ᵍ node none none)
 

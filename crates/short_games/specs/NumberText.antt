@@ -3,11 +3,12 @@ use Rattle.std.specs.Prelude.{ℕ, zero, suc, ◌+◌, ◌-◌, ◌/◌, ◌%◌
 use Rattle.short_games.specs.Tree.{Tree, Trees, node, none, more}
 use Rattle.short_games.specs.Number.{num}
 
--- whether two trees are the same
 unfoldable mutual
+  -- whether two trees are the same
   pub same : Tree → Tree → Bool
   same (node ls rs) (node ms ns) = same_each ls ms && same_each rs ns
 
+  -- whether two lists have the same trees in the same order
   pub same_each : Trees → Trees → Bool
   same_each none none = true
   same_each none (more H Hs) = false
@@ -19,22 +20,22 @@ pub record Fraction : Type 0 where
   pub exponent : ℕ
   pub numerator : ℤ
 
--- its numerator over 2 ^ e
+-- the numerator of a fraction over 2 ^ e, where e is at least its exponent
 abbrev pub over : ℕ → Fraction → ℤ
 over e x = x.numerator *ℤ pos (2 ^ (e - x.exponent))
 
--- halfway between two neighbours
+-- the number halfway between two others
 abbrev pub between : Fraction → Fraction → Fraction
 between x y = let e : ℕ = max x.exponent y.exponent in record { exponent = suc e; numerator = over e x +ℤ over e y }
 
--- the number of a tree, where it is one
+-- a guess at the number of a tree, which is right where the tree is some number's
 unfoldable pub guess : Tree → Fraction
 guess (node none none) = record { exponent = 0; numerator = pos 0 }
 guess (node (more L _) none) = record { exponent = 0; numerator = (guess L).numerator +ℤ pos 1 }
 guess (node none (more R _)) = record { exponent = 0; numerator = (guess R).numerator +ℤ negsuc 0 }
 guess (node (more L _) (more R _)) = between (guess L) (guess R)
 
--- the number in lowest terms of which the tree is the tree
+-- the number of a tree in lowest terms, if the tree is some number's
 unfoldable pub number_of : Tree → Option Fraction
 number_of G = let x : Fraction = guess G in cond (same (num x.exponent x.numerator) G) (Some x) None
 
@@ -47,12 +48,12 @@ digits_within (suc steps) n s = cond (nat_lt n 10) ((48 + n) ∷ s) (digits_with
 abbrev pub digits : ℕ → List ℕ → List ℕ
 digits n s = digits_within (suc n) n s
 
--- an integer, with `-` in front where it is negative
+-- the text of an integer, with `-` in front where it is negative, and with another text behind it
 abbrev pub integer_text : ℤ → List ℕ → List ℕ
 integer_text (pos n) s = digits n s
 integer_text (negsuc n) s = 45 ∷ digits (suc n) s
 
--- `/` and the power of two, but for an integer
+-- the text of a denominator: `/` and the power of two, and nothing for an integer
 abbrev pub denominator_text : ℕ → List ℕ
 denominator_text zero = []
 denominator_text (suc e) = 47 ∷ digits (2 ^ suc e) []
@@ -66,6 +67,6 @@ abbrev pub text_of_number : Option Fraction → Option (List ℕ)
 text_of_number (Some x) = Some (fraction_text x)
 text_of_number None = None
 
--- the text of a tree that is a number's
+-- the text of a tree that is a number's, none of another
 abbrev pub number_text : Tree → Option (List ℕ)
 number_text G = text_of_number (number_of G)

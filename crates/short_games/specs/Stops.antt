@@ -6,21 +6,21 @@ use Rattle.short_games.specs.Number.{num, IsNumberTree}
 
 module _ (e : ℕ) where
   unfoldable mutual
-    -- both stops of a number are the number; the left stop of another tree is the greatest right stop of a Left option,
-    -- and its right stop the least left stop of a Right option
+    -- x is the left stop of the tree: of a number the number, else the greatest right stop of a Left option
     pub IsLeftStop : Tree → ℤ → Type 0
     IsLeftStop (node ls rs) x = (node ls rs ≡ num e x) ⊎ ((IsNumberTree (node ls rs) → ⊥) × IsGreatestRight ls x)
 
+    -- x is the right stop of the tree: of a number the number, else the least left stop of a Right option
     pub IsRightStop : Tree → ℤ → Type 0
     IsRightStop (node ls rs) x = (node ls rs ≡ num e x) ⊎ ((IsNumberTree (node ls rs) → ⊥) × IsLeastLeft rs x)
 
-    -- the greatest right stop of the listed trees
+    -- x is the greatest right stop of the listed trees
     pub IsGreatestRight : Trees → ℤ → Type 0
     IsGreatestRight none x = ⊥
     IsGreatestRight (more G none) x = IsRightStop G x
     IsGreatestRight (more G (more H Hs)) x = (y : ℤ) × ((z : ℤ) × IsRightStop G y × IsGreatestRight (more H Hs) z × (y ≤ℤ x) × (z ≤ℤ x) × ((y ≡ x) ⊎ (z ≡ x)))
 
-    -- the least left stop of the listed trees
+    -- x is the least left stop of the listed trees
     pub IsLeastLeft : Trees → ℤ → Type 0
     IsLeastLeft none x = ⊥
     IsLeastLeft (more G none) x = IsLeftStop G x
@@ -30,10 +30,10 @@ module _ (e : ℕ) where
 abbrev pub IsHalf : ℤ → ℤ → Type 0
 IsHalf x k = ((x +ℤ x) ≤ℤ k) × (k ≤ℤ (x +ℤ x +ℤ pos 1))
 
--- k is what the tree's ceiling is beside its left stop
+-- k is twice the left stop of the tree, or one more, as its ceiling in half parts is
 abbrev pub GoesWithLeftStop : ℕ → Tree → ℤ → Type 0
 GoesWithLeftStop e G k = (x : ℤ) × IsLeftStop e G x × IsHalf x k
 
--- k is what the tree's floor is beside its right stop
+-- k is twice the right stop of the tree, or one less, as its floor in half parts is
 abbrev pub GoesWithRightStop : ℕ → Tree → ℤ → Type 0
 GoesWithRightStop e G k = (x : ℤ) × IsRightStop e G x × IsHalf x (k +ℤ pos 1)

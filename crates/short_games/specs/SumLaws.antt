@@ -22,6 +22,7 @@ incentive G G' = G' +ᵍ neg G
 abbrev pub IncentiveDominates : Type 0
 IncentiveDominates = (G G' H H' : Tree) → incentive H H' ≤ᵍ incentive G G' → G +ᵍ H' ≤ᵍ G' +ᵍ H
 
--- Where to move to G' and leave H is at least as good as the other way round, the incentive of H' is dominated
+-- Where to move from G to its option G' and leave H is at least as good as to leave G and move from H to its option H', the
+-- incentive of H' is at most that of G'
 abbrev pub IncentiveDominatesBack : Type 0
 IncentiveDominatesBack = (G G' H H' : Tree) → G +ᵍ H' ≤ᵍ G' +ᵍ H → incentive H H' ≤ᵍ incentive G G'

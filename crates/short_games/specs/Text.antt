@@ -24,15 +24,17 @@ text_or (Some t) braces s = t ++ s
 text_or None braces s = braces
 
 module _ (number : Tree → Option (List ℕ)) where
-  -- the text of a tree, and of a list, with s behind it
   unfoldable mutual
+    -- the text of a tree, with s behind it
     pub text : Tree → List ℕ → List ℕ
     text (node ls rs) s = text_or (number (node ls rs)) (open_brace ∷ texts ls (bar ∷ texts rs (close_brace ∷ s))) s
 
+    -- the texts of a list of trees with a comma between two, with s behind them
     pub texts : Trees → List ℕ → List ℕ
     texts none s = s
     texts (more G Gs) s = text G (texts_rest Gs s)
 
+    -- the texts of a list of trees with a comma before each, with s behind them
     pub texts_rest : Trees → List ℕ → List ℕ
     texts_rest none s = s
     texts_rest (more G Gs) s = comma ∷ text G (texts_rest Gs s)

@@ -9,18 +9,18 @@ use Rattle.short_games.specs.Canonical.{IsCanonical, IsCanonicalOf}
 unfoldable pub tree_text : Tree → List ℕ
 tree_text G = text number_text G []
 
--- the order of two texts by their bytes
+-- whether the first text is before the second by their bytes
 unfoldable pub lesser_text : List ℕ → List ℕ → Bool
 lesser_text [] [] = false
 lesser_text [] (y ∷ ys) = true
 lesser_text (x ∷ xs) [] = false
 lesser_text (x ∷ xs) (y ∷ ys) = cond (nat_eq x y) (lesser_text xs ys) (nat_lt x y)
 
--- the text of G is before that of H
+-- whether the text of G is before that of H
 unfoldable pub text_before : Tree → Tree → Bool
 text_before G H = lesser_text (tree_text G) (tree_text H)
 
--- G in an ascending list, where it isn't in it already
+-- the ascending list with G at its place, or as it is where it has a tree of the same text already
 unfoldable pub insert : Tree → Trees → Trees
 insert G none = more G none
 insert G (more H Hs) = cond (text_before G H) (more G (more H Hs)) (cond (text_before H G) (more H (insert G Hs)) (more H Hs))
@@ -30,7 +30,7 @@ unfoldable pub sorted : Trees → Trees
 sorted none = none
 sorted (more G Gs) = insert G (sorted Gs)
 
--- the same as a relation
+-- the text of G is before that of H
 abbrev pub TextBefore : Tree → Tree → Type 0
 TextBefore G H = IsTrue (text_before G H)
 

@@ -27,7 +27,7 @@ pub data WallsAre (k : ℕ) (lw rw : Tree → ℕ → ℤ) (G : Tree) : Type 0 w
   of_game : (IsNumberTree G → ⊥) → (L R : ℕ → ℤ) → ((t : ℕ) → IsGreatest (λ X. rw X t) (left G) (L t +ℤ pos t)) → ((t : ℕ) → IsLeast (λ X. lw X t) (right G) (R t -ℤ pos t))
       → ((t : ℕ) → Follow L R t (lw G t) (rw G t)) → WallsAre k lw rw G
 
--- the same of each follower
+-- lw and rw give the walls of each follower of G, of G itself among them
 abbrev pub AllWallsAre : (k : ℕ) (lw rw : Tree → ℕ → ℤ) → Tree → Type 0
 AllWallsAre k lw rw G = (P : Tree) → IsFollower G P → WallsAre k lw rw P
 
@@ -39,7 +39,7 @@ pub record HasWalls (k : ℕ) (G : Tree) (l r : ℕ → ℤ) : Type 0 where
   pub left_is : (t : ℕ) → lw G t ≡ l t
   pub right_is : (t : ℕ) → rw G t ≡ r t
 
--- the same wall at the multiples of half the distance: straight between two neighbours
+-- a wall on the grid of half the distance, from the one on a grid: straight between two neighbours
 abbrev pub finer : (ℕ → ℤ) → ℕ → ℤ
 finer f t = f (t / 2) +ℤ f (suc t / 2)
 

@@ -12,15 +12,15 @@ use Rattle.short_games.specs.WallGrids.{Bends, HasWalls, finer, IsMeeting, HasTe
 abbrev pub WallsExist : Type 0
 WallsExist = (G : Tree) → IsCanonicalTree G → (e : ℕ) × ((k : ℕ) → e ≤ k → (l : ℕ → ℤ) × (r : ℕ → ℤ) × HasWalls k G l r)
 
--- on no grid it has others
+-- a tree has at most one left and one right wall on a grid
 abbrev pub WallsAreUnique : Type 0
 WallsAreUnique = (k : ℕ) (G : Tree) (l r l' r' : ℕ → ℤ) → HasWalls k G l r → HasWalls k G l' r' → (t : ℕ) → (l t ≡ l' t) × (r t ≡ r' t)
 
--- where it has walls on a grid it has them on the next finer one, and there they are straight between two neighbours
+-- where a tree has walls on a grid it has them on the next finer one, and there they are straight between two neighbours
 abbrev pub WallsGoOn : Type 0
 WallsGoOn = (k : ℕ) (G : Tree) (l r : ℕ → ℤ) → HasWalls k G l r → HasWalls (suc k) G (finer l) (finer r)
 
--- at 0 the walls are the stops
+-- at 0 the walls of a tree are its stops
 abbrev pub WallsBeginAtStops : Type 0
 WallsBeginAtStops = (k : ℕ) (G : Tree) (l r : ℕ → ℤ) → HasWalls k G l r → IsLeftStop k G (l 0) × IsRightStop k G (r 0)
 
@@ -32,7 +32,7 @@ TemperaturesExist = (k : ℕ) (G : Tree) (l r : ℕ → ℤ) → HasWalls k G l 
 abbrev pub NoneBetween : Type 0
 NoneBetween = (k : ℕ) (G P : Tree) (l r : ℕ → ℤ) → HasWalls k G l r → IsFollower G P → HasTemperatureBetween k P → ⊥
 
--- there its walls on the next finer grid bend at no place between two of it
+-- where a game has walls on a grid, its walls on the next finer grid bend at no place that lies between two of the first
 abbrev pub NoneBendsBetween : Type 0
 NoneBendsBetween = (k : ℕ) (G : Tree) (l r l' r' : ℕ → ℤ) → HasWalls k G l r → HasWalls (suc k) G l' r' → (t : ℕ) → (Bends l' (suc (t + t)) → ⊥) × (Bends r' (suc (t + t)) → ⊥)
 

@@ -5,26 +5,29 @@ use Rattle.short_games.specs.Tree.{Tree, Trees, node, none, more}
 use Rattle.short_games.specs.Number.{num, IsNumberTree}
 
 unfoldable mutual
-  -- Both walls of a number are the number. Another tree has a left scaffold, the greatest right wall of a Left option, less
-  -- t, and a right one, the least left wall of a Right option, and t. Its walls are the scaffolds, where the left one is
-  -- greater; else they are the number at which the scaffolds meet, at some u / 2 ^ (d + k) up to t
+  -- x is the left wall of the tree at t. Of a number it is the number. Of another tree it is the left scaffold, the greatest
+  -- right wall of a Left option, less t, where this is greater than the right scaffold, the least left wall of a Right option,
+  -- and t; else it is the number at which the two scaffolds meet, at some u / 2 ^ (d + k) up to t
   pub IsLeftWall : Tree → (k t : ℕ) → ℤ → Type 0
   IsLeftWall (node ls rs) k t x = (node ls rs ≡ num k x) ⊎ ((IsNumberTree (node ls rs) → ⊥) × (
       (IsGreatestRightWall ls k t (x +ℤ pos t) × ((y : ℤ) × IsLeastLeftWall rs k t (y -ℤ pos t) × (y <ℤ x)))
       ⊎ ((d u : ℕ) × (u ≤ t * 2 ^ d) × IsGreatestRightWall ls (d + k) u ((x *ℤ pos (2 ^ d)) +ℤ pos u) × IsLeastLeftWall rs (d + k) u ((x *ℤ pos (2 ^ d)) -ℤ pos u))))
 
+  -- x is the right wall of the tree at t. Of a number it is the number. Of another tree it is the right scaffold, the least
+  -- left wall of a Right option, and t, where this is less than the left scaffold, the greatest right wall of a Left option,
+  -- less t; else it is the number at which the two scaffolds meet, at some u / 2 ^ (d + k) up to t
   pub IsRightWall : Tree → (k t : ℕ) → ℤ → Type 0
   IsRightWall (node ls rs) k t x = (node ls rs ≡ num k x) ⊎ ((IsNumberTree (node ls rs) → ⊥) × (
       (IsLeastLeftWall rs k t (x -ℤ pos t) × ((y : ℤ) × IsGreatestRightWall ls k t (y +ℤ pos t) × (x <ℤ y)))
       ⊎ ((d u : ℕ) × (u ≤ t * 2 ^ d) × IsGreatestRightWall ls (d + k) u ((x *ℤ pos (2 ^ d)) +ℤ pos u) × IsLeastLeftWall rs (d + k) u ((x *ℤ pos (2 ^ d)) -ℤ pos u))))
 
-  -- the greatest right wall of the listed trees
+  -- x is the greatest right wall at t of the listed trees
   pub IsGreatestRightWall : Trees → (k t : ℕ) → ℤ → Type 0
   IsGreatestRightWall none k t x = ⊥
   IsGreatestRightWall (more G none) k t x = IsRightWall G k t x
   IsGreatestRightWall (more G (more H Hs)) k t x = (y : ℤ) × ((z : ℤ) × IsRightWall G k t y × IsGreatestRightWall (more H Hs) k t z × (y ≤ℤ x) × (z ≤ℤ x) × ((y ≡ x) ⊎ (z ≡ x)))
 
-  -- the least left wall of the listed trees
+  -- x is the least left wall at t of the listed trees
   pub IsLeastLeftWall : Trees → (k t : ℕ) → ℤ → Type 0
   IsLeastLeftWall none k t x = ⊥
   IsLeastLeftWall (more G none) k t x = IsLeftWall G k t x

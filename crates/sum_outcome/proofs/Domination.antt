@@ -16,7 +16,7 @@ use Rattle.sum_outcome.specs.Players.{options, LosesGame}
 use Rattle.short_games.proofs.IncentiveLaws.{incentive-dominates, incentive-dominates_back}
 use Rattle.sum_outcome.specs.Sums.{sum_tree}
 use Rattle.sum_outcome.specs.inner.Search.{put, IsMove, WinsAt}
-use Rattle.sum_outcome.specs.Incentives.{IsGood, HasPreferred, IsDominated, IsSettled}
+use Rattle.sum_outcome.specs.inner.Incentives.{IsGood, HasPreferred, IsDominated, IsSettled}
 use Rattle.sum_outcome.proofs.CheapMoves.{IsAt, put-total, put-option, NoBetter, same-no_better, no_better-trans, no_better-plus, no_better-cancel, wins-better}
 use Rattle.sum_outcome.proofs.Lists.{pick-at, pick-put}
 

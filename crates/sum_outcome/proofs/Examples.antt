@@ -1,5 +1,5 @@
 -- Bounds of small games.
-use Rattle.std.proofs.Common.{ℕ, zero, suc, ◌≡◌, ◌*◌, ◌↔◌, ◌<◌, ◌++◌, ◌≤◌, ◌^◌, arith, inl, inr, refl, sym, ap, ◌∙◌, subst, List, [], ◌∷◌, length, sum, ℤ, pos, ◌+ℤ◌, ◌-ℤ◌, ◌*ℤ◌}
+use Rattle.std.proofs.Common.{ℕ, zero, suc, ◌≡◌, ◌*◌, ◌↔◌, ◌<◌, ◌++◌, ◌≤◌, ◌^◌, arith, inl, inr, refl, sym, ap, ap₂, ◌∙◌, subst, List, [], ◌∷◌, length, sum, ℤ, pos, ◌+ℤ◌, ◌-ℤ◌, ◌*ℤ◌}
 use Rattle.std.specs.Prelude.{unsigned_abs}
 use Rattle.std.proofs.lemmas.Int.{ints, by_lt_z, unsigned_abs-mul}
 use Rattle.std.proofs.lemmas.List.{length_push}
@@ -9,17 +9,17 @@ use Rattle.short_games.specs.Tree.{Tree, node, none, tree_at}
 use Rattle.short_games.specs.Order.{◌≤ᵍ◌}
 use Rattle.short_games.specs.Number.{num, IsNumberTree, number_tree}
 use Rattle.short_games.specs.Parts.{IsOption, IsNumberOf}
+use Rattle.short_games.specs.TextOrder.{sorted, insert}
 use Rattle.game_store.specs.Meaning.{listed, form, pick, AreIds, Extends, IsIdOf}
 use Rattle.short_games.proofs.OrderLaws.{le-refl}
 use Rattle.short_games.proofs.NumberLaws.{num-lt, num-zero}
 use Rattle.short_games.proofs.StopLaws.{num-scaled}
 use Rattle.short_games.proofs.PartLaws.{follower-of, number-follower}
 use Rattle.short_games.specs.Examples.{choice, star}
-use Rattle.game_canon.proofs.Examples.{form-choice}
 use Rattle.short_games.proofs.Examples.{star-no_number, one_or_star-no_number}
 use Rattle.sum_outcome.specs.Sums.{IsBound, AreBounds, IsBounded}
 use Rattle.game_canon.specs.Outcomes.{AreOptionsWithin}
-use Rattle.sum_outcome.specs.Examples.{IsSmall, AreSmall, IsSmallId}
+use Rattle.sum_outcome.specs.inner.Examples.{IsSmall, AreSmall, IsSmallId}
 
 num-one : (e : ℕ) (m n : ℤ) → num e m ≡ num e n → m ≡ n
 num-one e m n p = by_lt_z m n (λ l. absurd (num-lt e m n l (subst (λ t. t ≤ᵍ num e m) p (le-refl (num e m)))))
@@ -78,6 +78,10 @@ small-bounded Ts is u n a few small f =
     (r.0, r.1, omega (arith, r.2, few, small, s))
 
 -- the trees of the forms that are interned
+form-choice : (Ts : List Tree) (l r : ℕ) (L R : Tree) → tree_at Ts l ≡ L → tree_at Ts r ≡ R → form Ts (l ∷ []) (r ∷ []) ≡ choice L R
+unfolding sorted insert
+form-choice Ts l r L R p q = ap₂ choice p q
+
 whole-tree : (Ts : List Tree) (i : ℕ) (n x : ℤ) → IsIdOf Ts (number_tree x) i → x ≡ n *ℤ pos (2 ^ 60) → tree_at Ts i ≡ num 0 n
 whole-tree Ts i n x is e = is.1 ∙ ap (num 60) e ∙ num-scaled 60 0 n
 

@@ -18,7 +18,8 @@ use Rattle.short_games.proofs.SumLaws.{plus-assoc, plus-cancel, nought-plus, plu
 use Rattle.short_games.proofs.OrderLaws.{same-refl, same-path, same-trans}
 use Rattle.go_grid.specs.declared.grid.Colour.{Colour}
 use Rattle.sum_outcome.specs.Sums.{sum_tree, IsBounded}
-use Rattle.sum_outcome.specs.Memo.{mover, IsKeyOf}
+use Rattle.sum_outcome.specs.Memo.{mover}
+use Rattle.sum_outcome.specs.inner.Memo.{IsKeyOf}
 use Rattle.sum_outcome.specs.declared.key.Key.{Key}
 use Rattle.sum_outcome.proofs.MemoLaws.{ids_pushed, ids_permuted}
 use Rattle.sum_outcome.proofs.CheapMoves.{IsAt, put-total}

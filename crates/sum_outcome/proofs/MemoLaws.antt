@@ -27,8 +27,10 @@ use Rattle.short_games.proofs.OrderLaws.{same-sym}
 use Rattle.game_canon.proofs.SumWaiting.{right_grown}
 use Rattle.sum_outcome.specs.Sums.{sum_tree}
 use Rattle.sum_outcome.specs.Incentives as pairs
+use Rattle.sum_outcome.specs.inner.Incentives.{IsKnownRight}
 use Rattle.sum_outcome.specs.Opposites.{IsZero}
-use Rattle.sum_outcome.specs.Memo.{NoneIsNew, IsRight, StaysRight, key_tree, mover, IsAnswer, AreAnswers, IsKeyOf, AreSame, IsAmong, AreKept, FitsGrownStores}
+use Rattle.sum_outcome.specs.Memo.{key_tree, mover, IsAnswer, AreAnswers, FitsGrownStores}
+use Rattle.sum_outcome.specs.inner.Memo.{NoneIsNew, IsRight, StaysRight, IsKeyOf, AreSame, IsAmong, AreKept}
 use Rattle.sum_outcome.specs.declared.key.Key.{Key}
 use Rattle.sum_outcome.specs.declared.memo.Memo.{Memo}
 use Rattle.sum_outcome.specs.declared.incentives.MovePair.{MovePair}
@@ -144,7 +146,7 @@ stays Ts a right = record { right = right; sums = refl; incentives = refl }
 pub stays_on : (Ts : List Tree) (a b c : Memo) → StaysRight Ts a b → StaysRight Ts b c → StaysRight Ts a c
 stays_on Ts a b c p q = record { right = q.right; sums = q.sums ∙ p.sums; incentives = q.incentives ∙ p.incentives }
 
-pub incentives_changed : (Ts : List Tree) (a b : Memo) (now : Incentives) → StaysRight Ts a b → pairs.IsKnownRight Ts now → now.answers.cap ≡ b.incentives.answers.cap
+pub incentives_changed : (Ts : List Tree) (a b : Memo) (now : Incentives) → StaysRight Ts a b → IsKnownRight Ts now → now.answers.cap ≡ b.incentives.answers.cap
     → StaysRight Ts a (record { sums = b.sums; incentives = now; zero = b.zero; alloc = b.alloc })
 incentives_changed Ts a b now w right cap = record { right = record { sums = w.right.sums; incentives = right.0; comparisons = right.1; zero = w.right.zero }; sums = w.sums; incentives = cap ∙ w.incentives }
 

@@ -18,7 +18,8 @@ use Rattle.sum_outcome.proofs.PlayerLaws.{loses-same}
 use Rattle.game_canon.proofs.Sizes.{own-number}
 use Rattle.sum_outcome.specs.Sums.{sum_tree, AreBounds, IsBounded}
 use Rattle.sum_outcome.specs.inner.Search.{put}
-use Rattle.sum_outcome.specs.Opposites.{Cancel, MayBeTakenOut, IsZero, AreOpposite}
+use Rattle.sum_outcome.specs.Opposites.{MayBeTakenOut, IsZero}
+use Rattle.sum_outcome.specs.inner.Opposites.{Cancel, AreOpposite}
 use Rattle.sum_outcome.proofs.CheapMoves.{put-total}
 use Rattle.sum_outcome.proofs.Lists.{pick-at, pick-put, put_back, falls_put, ids_put}
 

@@ -1,6 +1,5 @@
 pub mod Players
 pub mod Sums
-pub mod Examples
 pub mod Memo
 pub mod Incentives
 pub mod Opposites

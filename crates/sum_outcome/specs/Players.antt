@@ -6,7 +6,7 @@ use Rattle.short_games.specs.Tree.{Tree, Trees, left, right, node, none}
 use Rattle.short_games.specs.Order.{◌≤ᵍ◌}
 use Rattle.short_games.specs.Number.{num}
 
--- the options of a player
+-- the options of a player: Left's for Black, Right's for White
 abbrev pub options : Colour → Tree → Trees
 options Black G = left G
 options White G = right G
@@ -16,6 +16,7 @@ abbrev pub credit : Colour → ℕ → ℤ
 credit Black n = pos n
 credit White n = neg_ℤ (pos n)
 
+-- the game of n units to the good of a player
 abbrev pub gain : Colour → ℕ → Tree
 gain c n = num 0 (credit c n)
 

@@ -14,7 +14,7 @@ sum_tree Ts ids x = total (pick Ts ids) +ᵍ number_tree x
 abbrev pub IsBound : Tree → ℕ → Type 0
 IsBound G b = (x : ℤ) → IsNumberOf G x → unsigned_abs x ≤ b
 
--- a bound for each tree
+-- for each tree a bound of the size of its numbers
 abbrev pub AreBounds : Trees → List ℕ → Type 0
 AreBounds none [] = Unit {0}
 AreBounds none (b ∷ bs) = ⊥

@@ -4,18 +4,19 @@ ghost use Rattle.std.specs.Prelude.{◌≡◌, ◌<◌, ◌↔◌, length, Conta
 ghost use Rattle.short_games.specs.Tree.{Tree, Has, tree_at};
 ghost use Rattle.game_store.specs.Meaning.{pick, AreIds, AreBelow};
 ghost use Rattle.sum_outcome.specs.inner.Search.{IsMove, StoodBefore};
-ghost use Rattle.sum_outcome.specs.Incentives.{IsKnownRight, AreMoves, turned, IsAtLeast, IsAsGood, HasPreferred, IsDominated};
-ghost use Rattle.sum_outcome.specs.Memo.{AreKept, NoneIsNew};
+ghost use Rattle.sum_outcome.specs.Incentives.{AreMoves, IsAtLeast};
+ghost use Rattle.sum_outcome.specs.inner.Incentives.{IsKnownRight, turned, IsAsGood, HasPreferred, IsDominated};
+ghost use Rattle.sum_outcome.specs.inner.Memo.{AreKept, NoneIsNew};
 ghost use Rattle.sum_outcome.specs.declared.incentives.MovePair.{MovePair};
 
 use game_canon::{SumComparisons, compare_incentives};
 use game_store::{Form, GameId, Store};
-use go_grid::grid::Colour;
+use go_grid::Colour;
 use lru::LruCache;
 use std::alloc::Global;
 
 /// Two moves: from a game to an option, and from another game to an option of that.
-#[derive(Clone, Copy, PartialEq, Eq, Hash)]
+#[derive(Clone, Copy, Debug, PartialEq, Eq, Hash)]
 pub(crate) struct MovePair {
     pub(crate) game: GameId,
     pub(crate) option: GameId,
@@ -28,7 +29,7 @@ type Answers = LruCache<MovePair, bool>;
 
 /// What is known of incentives: answers, of which the latest that were used stay, and comparisons of sums, which tell the
 /// next ones sooner.
-#[derive(Drop)]
+#[derive(Debug, Drop)]
 pub(crate) struct Incentives {
     pub(crate) answers: Answers,
     pub(crate) comparisons: SumComparisons,
@@ -156,7 +157,8 @@ pub(crate) fn is_repeated(sum: &[GameId], place: usize) -> bool
 pub(crate) fn moves(store: &Store, id: GameId, side: Colour) -> &[GameId]
     requires { id < length store.now }
     ensures below { AreBelow id result.now }
-    ensures options { (X : Tree) → Has (pick store.now result.now) X ↔ IsMove (tree_at store.now id) side X }
+    ensures options { (X : Tree) → Has (pick store.now result.now) X ↔ IsMove
+        (tree_at store.now id) side X }
 {
     match (store.node(id), side) {
         (Form::Number(_), _) => &[],
@@ -181,7 +183,8 @@ fn has_preferred(
     requires other { other < length store.now }
     requires other_option { other_option < length store.now }
     requires right { IsKnownRight store.now known.old }
-    ensures answer { IsTrue result → HasPreferred store.now side game (tree_at store.now other) (tree_at store.now other_option) (IsTrue earlier) }
+    ensures answer { IsTrue result → HasPreferred store.now side game (tree_at store.now other)
+        (tree_at store.now other_option) (IsTrue earlier) }
     ensures right { IsKnownRight store.now known.new }
     ensures cap { known.new.answers.cap ≡ known.old.answers.cap }
 {
@@ -215,7 +218,8 @@ pub(crate) fn is_dominated(
     requires place { place < length sum.now }
     requires option { option < length store.now }
     requires right { IsKnownRight store.now known.old }
-    ensures answer { IsTrue result → IsDominated store.now sum.now side place (tree_at store.now option) }
+    ensures answer { IsTrue result → IsDominated store.now sum.now side place
+        (tree_at store.now option) }
     ensures right { IsKnownRight store.now known.new }
     ensures cap { known.new.answers.cap ≡ known.old.answers.cap }
 {

@@ -4,16 +4,16 @@ ghost use Rattle.std.specs.Prelude.{◌≡◌, IfSome, cond};
 ghost use Rattle.go_grid.specs.declared.grid.Colour.TheVariants.{Black, White};
 ghost use Rattle.game_store.specs.Meaning.{pick, AreIds};
 ghost use Rattle.sum_outcome.specs.Sums.{IsBounded};
-ghost use Rattle.sum_outcome.specs.Memo.{IsKeyOf};
+ghost use Rattle.sum_outcome.specs.inner.Memo.{IsKeyOf};
 
 use dyadic_num::Dyadic;
 use game_store::{Form, GameId, Store};
-use go_grid::grid::Colour;
+use go_grid::Colour;
 use std::alloc::Global;
 
 /// The games of a sum that are no numbers, in ascending order, what the numbers add up to in parts of 2^-60, and whether
 /// Black is to move. Sums that differ by order alone, or by where numbers stand, have the same key.
-#[derive(PartialEq, Eq, Hash, Drop)]
+#[derive(Debug, PartialEq, Eq, Hash, Drop)]
 pub(crate) struct Key {
     games: Vec<GameId>,
     number: i128,

@@ -13,30 +13,30 @@ mod key;
 mod memo;
 mod opposites;
 mod outcome;
-#[cfg(test)]
-mod plain_tests;
-#[cfg(test)]
-mod tests;
 
 use crate::memo::Memo;
-pub use crate::opposites::opposites_law;
+pub use crate::opposites::opposites_laws;
 use crate::outcome::loses_sum;
 use dyadic_num::Dyadic;
 use game_store::{GameId, Store};
-use go_grid::grid::Colour;
+use go_grid::Colour;
 use std::alloc::{AllocError, Global};
 use std::marker::Model;
 use std::num::NonZeroUsize;
 
+/// The most sums that a search may remember.
+pub const MOST_ENTRIES: usize = 1_000_000;
+
 /// A search of sums, which remembers who loses those that it has decided. Contracts see how many it may remember, and what it
 /// remembers.
-#[derive(Drop)]
+#[derive(Debug, Drop)]
 pub struct Search {
     memo: Memo,
 }
 
 impl Model for Search {
-    ghost use Rattle.sum_outcome.specs.Memo.{Remembered, remembered, IsWithin, HasBounds};
+    ghost use Rattle.sum_outcome.specs.Memo.{Remembered, IsWithin};
+    ghost use Rattle.sum_outcome.specs.inner.Memo.{remembered, HasBounds};
 
     ghost Value = { Remembered };
 
@@ -49,7 +49,7 @@ impl Search {
     /// A search that may remember so many sums, from 1 to 1,000,000.
     pub fn new(alloc: Global, entries: usize) -> Result<Search, AllocError>
         requires some { 1 ≤ entries }
-        requires most { entries ≤ 1000000 }
+        requires most { entries ≤ MOST_ENTRIES }
         ensures empty { IfOk result (λ search. search ≡ blank entries) }
         ensures fits { IfOk result (λ search. (Ts : List Tree) → Fits Ts search) }
     {
@@ -91,6 +91,6 @@ impl Search {
 }
 
 /// A search that fits a store fits it after more forms were interned.
-pub fn fits_law()
+pub fn fits_laws()
     ensures { FitsGrownStores }
 {}

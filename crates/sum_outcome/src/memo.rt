@@ -3,7 +3,8 @@
 ghost use Rattle.std.specs.Prelude.{◌≡◌, List, IfOk, IfSome};
 ghost use Rattle.std.specs.NonZero.{non_zero_usize_get};
 ghost use Rattle.short_games.specs.Tree.{Tree};
-ghost use Rattle.sum_outcome.specs.Memo.{remembered, blank, AreSame, IsAmong, AreKept, NoneIsNew, IsRight, StaysRight, IsRecalled, Learns};
+ghost use Rattle.sum_outcome.specs.Memo.{blank};
+ghost use Rattle.sum_outcome.specs.inner.Memo.{remembered, AreSame, IsAmong, AreKept, NoneIsNew, IsRight, StaysRight, IsRecalled, Learns};
 
 use crate::incentives::Incentives;
 use crate::key::Key;
@@ -34,8 +35,8 @@ fn keep(sums: &mut Sums, key: Key, lost: bool)
 }
 
 /// Who loses sums, and which moves are as good as others. Of each the latest that were used stay.
-#[derive(Drop)]
-pub struct Memo {
+#[derive(Debug, Drop)]
+pub(crate) struct Memo {
     pub(crate) sums: Sums,
     pub(crate) incentives: Incentives,
     /// The id of 0, which may stand for games that cancel.

@@ -4,9 +4,10 @@ ghost use Rattle.std.specs.Prelude.{◌≡◌, ◌<◌, length, IfSome, Some, Is
 ghost use Rattle.short_games.specs.Tree.{tree_at};
 ghost use Rattle.short_games.specs.Number.{number_tree};
 ghost use Rattle.game_store.specs.Meaning.{AreIds};
-ghost use Rattle.sum_outcome.specs.Incentives.{IsKnownRight};
-ghost use Rattle.sum_outcome.specs.Memo.{IsRight, StaysRight};
-ghost use Rattle.sum_outcome.specs.Opposites.{Cancel, IsZero, AreOpposite, MayCancel, MayBeTakenOut};
+ghost use Rattle.sum_outcome.specs.inner.Incentives.{IsKnownRight};
+ghost use Rattle.sum_outcome.specs.inner.Memo.{IsRight, StaysRight};
+ghost use Rattle.sum_outcome.specs.Opposites.{IsZero, MayBeTakenOut};
+ghost use Rattle.sum_outcome.specs.inner.Opposites.{Cancel, AreOpposite, MayCancel};
 
 use crate::incentives::{Incentives, MovePair, is_at_least};
 use crate::memo::Memo;
@@ -155,6 +156,6 @@ pub(crate) fn find_opposites(store: &Store, memo: &mut Memo, sum: &[GameId]) -> 
 }
 
 /// A game and its negative may be taken out of a sum.
-pub fn opposites_law()
+pub fn opposites_laws()
     ensures { MayBeTakenOut }
 {}

@@ -10,9 +10,9 @@ ghost use Rattle.short_games.specs.TextOrder.{IsCanonicalTree};
 ghost use Rattle.game_store.specs.Meaning.{pick, AreIds};
 ghost use Rattle.sum_outcome.specs.Players.{LosesGame};
 ghost use Rattle.sum_outcome.specs.Sums.{sum_tree, IsBounded};
-ghost use Rattle.sum_outcome.specs.Memo.{IsRight, StaysRight};
-ghost use Rattle.sum_outcome.specs.Incentives.{IsSettled};
-ghost use Rattle.sum_outcome.specs.Opposites.{MayCancel};
+ghost use Rattle.sum_outcome.specs.inner.Memo.{IsRight, StaysRight};
+ghost use Rattle.sum_outcome.specs.inner.Incentives.{IsSettled};
+ghost use Rattle.sum_outcome.specs.inner.Opposites.{MayCancel};
 ghost use Rattle.sum_outcome.specs.inner.Search.{HasNonNumber, IsSign, WinsAt};
 
 use crate::incentives::{is_dominated, is_repeated, moves};
@@ -22,7 +22,7 @@ use crate::opposites::{Opposites, find_opposites};
 use dyadic_num::Dyadic;
 use game_stops::{left_stop, right_stop};
 use game_store::{Form, GameId, Store};
-use go_grid::grid::Colour;
+use go_grid::Colour;
 use std::cmp::Ordering;
 
 /// Whether a player who is to move loses a game of this sign.
@@ -52,7 +52,8 @@ fn is_number(store: &Store, id: GameId) -> bool
 fn sign_by_stops(store: &Store, sum: &[GameId], number: Dyadic) -> Option<Ordering>
     requires ids { AreIds store.now sum.now }
     requires bounds { IsBounded (pick store.now sum.now) number }
-    ensures { MatchOption result (HasNonNumber store.now sum.now) (λ sign. IsSign sign (sum_tree store.now sum.now number)) }
+    ensures { MatchOption result (HasNonNumber store.now sum.now)
+        (λ sign. IsSign sign (sum_tree store.now sum.now number)) }
 {
     let mut low = number.units();
     let mut high = number.units();

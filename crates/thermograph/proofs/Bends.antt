@@ -6,9 +6,9 @@ use Rattle.thermograph.specs.declared.side.Side.{Side}
 use Rattle.thermograph.specs.declared.side.Side.TheVariants as side
 use Rattle.thermograph.specs.Breaks.{toward}
 use Rattle.short_games.specs.WallGrids.{Bends}
-use Rattle.thermograph.specs.Scaffolds.{turned, rise_at, scaffold_at, IsAlong, IsStraight}
+use Rattle.thermograph.specs.inner.Scaffolds.{turned, rise_at, scaffold_at, IsAlong, IsStraight}
 use Rattle.thermograph.proofs.BreakLists.{toward-up, toward-down, toward-same, toward-none}
-use Rattle.short_games.specs.Lines.{Rises}
+use Rattle.short_games.specs.inner.Lines.{Rises}
 use Rattle.short_games.proofs.WallLines.{below-or_at}
 
 module _ (f : ℕ → ℤ) (rises : Rises f) where

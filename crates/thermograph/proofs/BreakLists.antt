@@ -5,7 +5,7 @@ use Rattle.std.proofs.lemmas.Int.{ints, by_lt_z}
 use Rattle.thermograph.specs.declared.breaks.Break.{Break}
 use Rattle.thermograph.specs.Breaks.{toward, from, wall_at, Reaches, IsBreakAt}
 use Rattle.short_games.specs.WallGrids.{Bends}
-use Rattle.thermograph.specs.Scaffolds.{IsStraight, IsTraced}
+use Rattle.thermograph.specs.inner.Scaffolds.{IsStraight, IsTraced}
 
 pub at-before : (t n : ℕ) (x y : ℤ) → t < n → cond (nat_lt t n) x y ≡ x
 at-before t n x y h = ap (λ b. cond b x y) (lt-ltb t n h)

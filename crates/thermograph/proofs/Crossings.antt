@@ -5,8 +5,9 @@ use Rattle.std.proofs.lemmas.Bool.{cases_lt}
 use Rattle.thermograph.specs.declared.scaffold.Scaffold.{Scaffold}
 use Rattle.thermograph.specs.declared.side.Side.{Side}
 use Rattle.thermograph.specs.declared.side.Side.TheVariants as side
-use Rattle.thermograph.specs.Breaks.{toward, IsInRange}
-use Rattle.thermograph.specs.Scaffolds.{rise, line, picked, scaffold_at, turned, IsKnown, Stays, AreApart, IsStraight, IsCrossing}
+use Rattle.thermograph.specs.Breaks.{toward}
+use Rattle.thermograph.specs.inner.Breaks.{IsInRange}
+use Rattle.thermograph.specs.inner.Scaffolds.{rise, line, picked, scaffold_at, turned, IsKnown, Stays, AreApart, IsStraight, IsCrossing}
 use Rattle.thermograph.proofs.BreakLists.{toward-up, toward-down, toward-same, toward-none}
 use Rattle.thermograph.proofs.Bends.{rises-slow}
 use Rattle.thermograph.proofs.Ranges.{rise-range, left_end, right_end}

@@ -8,13 +8,15 @@ use Rattle.short_games.specs.Number.{num, number_tree}
 use Rattle.short_games.specs.TextOrder.{IsCanonicalTree}
 use Rattle.game_store.specs.Forms.{IsOptions, HaveForms}
 use Rattle.thermograph.specs.declared.breaks.Break.{Break}
-use Rattle.thermograph.specs.declared.drawing.Drawing.{Drawing}
+use Rattle.thermograph.specs.declared.drawings.Drawing.{Drawing}
 use Rattle.thermograph.specs.declared.side.Side.TheVariants as side
 use Rattle.short_games.specs.WallGrids.{IsGreatest, IsLeast, WallsAre, AllWallsAre, HasWalls, IsMeeting, HasTemperatureBetween, Bends}
 use Rattle.short_games.specs.WallGrids.WallsAre.{of_number, of_game}
-use Rattle.thermograph.specs.Breaks.{wall_at, from, IsLevel, IsPath}
-use Rattle.thermograph.specs.Scaffolds.{picked, scaffold_at, IsTraced}
-use Rattle.thermograph.specs.Drawings.{AreBreaks, IsTemperature, end_of, IsDrawing, IsJoined, Jumps, AreDrawnBelow}
+use Rattle.thermograph.specs.Breaks.{wall_at, from, IsPath}
+use Rattle.thermograph.specs.inner.Breaks.{IsLevel}
+use Rattle.thermograph.specs.inner.Scaffolds.{picked, scaffold_at, IsTraced}
+use Rattle.thermograph.specs.Drawings.{AreBreaks, IsTemperature, end_of}
+use Rattle.thermograph.specs.inner.Drawings.{IsDrawing, IsJoined, Jumps, AreDrawnBelow}
 use Rattle.short_games.proofs.WallNumbers.{num-one_to_one}
 use Rattle.short_games.proofs.WallOver.{over-more}
 use Rattle.short_games.proofs.WallsDrawn.{left_wall, right_wall, left_scaffold, left_scaffold-is, right_scaffold-is, walls-at}

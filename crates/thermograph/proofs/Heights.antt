@@ -8,8 +8,8 @@ use Rattle.std.proofs.lemmas.Bool.{eqb-true, false_from_ne_true}
 use Rattle.thermograph.specs.declared.breaks.Break.{Break}
 use Rattle.thermograph.specs.declared.side.Side.{Side}
 use Rattle.thermograph.specs.declared.side.Side.TheVariants as side
-use Rattle.thermograph.specs.Breaks.{IsInRange}
-use Rattle.thermograph.specs.Scaffolds.{wall_of, picked, EachWall, IsClear, turned, greatest}
+use Rattle.thermograph.specs.inner.Breaks.{IsInRange}
+use Rattle.thermograph.specs.inner.Scaffolds.{wall_of, picked, EachWall, IsClear, turned, greatest}
 
 -- the wall of an id, as it is read
 pub wall-read : (ws : List (Vec Break Global)) (i : ℕ) (w : Vec Break Global) (bs : List Break) → i < length ws → bs ≡ (get_or ws i w).items → bs ≡ wall_of ws i

@@ -6,9 +6,9 @@ use Rattle.std.proofs.lemmas.Bool.{true≢false}
 use Rattle.thermograph.specs.declared.breaks.Break.{Break}
 use Rattle.thermograph.specs.declared.side.Side.{Side}
 use Rattle.thermograph.specs.declared.side.Side.TheVariants as side
-use Rattle.short_games.specs.Lines.{Rises}
+use Rattle.short_games.specs.inner.Lines.{Rises}
 use Rattle.thermograph.specs.Breaks.{toward, from, wall_at, Reaches, IsPath}
-use Rattle.thermograph.specs.Scaffolds.{turned, greatest, rise_at, EachWall, AreSteady, IsClear, IsAlong}
+use Rattle.thermograph.specs.inner.Scaffolds.{turned, greatest, rise_at, EachWall, AreSteady, IsClear, IsAlong}
 use Rattle.thermograph.proofs.BreakLists.{at-before, at-after, toward-up, toward-down, toward-same, toward-none}
 use Rattle.thermograph.proofs.Bends.{rises-far, rises-slow}
 use Rattle.short_games.proofs.WallLines.{below-or_at}

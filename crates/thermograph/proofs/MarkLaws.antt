@@ -1,10 +1,9 @@
 -- Marks, step by step.
-use Rattle.std.proofs.Common.{ℕ, ◌+◌, ◌<◌, ◌≤◌, ◌≡◌, ◌⊎◌, ◌↔◌, ◌∙◌, arith, refl, inl, inr, sym, ap, subst, Bool, true, false, List, ◌++◌, length, get_or, set, take, drop, replicate}
+use Rattle.std.proofs.Common.{ℕ, ◌+◌, ◌<◌, ◌≤◌, ◌≡◌, ◌⊎◌, ◌↔◌, ◌∙◌, arith, inl, inr, sym, ap, subst, Bool, true, false, List, ◌++◌, length, get_or, set, take, drop, replicate}
 use Rattle.std.proofs.lemmas.Bool.{cases_eq, cases_lt, true≢false}
 use Rattle.std.proofs.Math.Seq.{take-append_seam}
 use Rattle.std.proofs.lemmas.List.{length-set, get_or-set_same, get_or-set_other, get_or-replicate, length-replicate, get_or_past, get_or_default}
 use Rattle.short_games.specs.Tree.{Tree, left, right, Has, tree_at, AreDistinct}
-use Rattle.short_games.specs.Number.{IsNumberTree}
 use Rattle.game_store.specs.Meaning.{pick}
 use Rattle.short_games.specs.Parts.{IsFollower}
 use Rattle.short_games.specs.Parts.IsFollower.{itself, further}
@@ -13,21 +12,6 @@ use Rattle.game_store.proofs.Values.{has-pick, pick-has}
 use Rattle.short_games.proofs.TextOrderLaws.{sorted-has, has-sorted}
 use Rattle.thermograph.specs.inner.Marks.{IsMarked, AreAdded, IsAmong, IsInner, AreFollowers}
 use Rattle.short_games.proofs.PartLaws.{follower-trans}
-
-pub added-none : (In : ℕ → Type 0) (xs : List Bool) → ((i : ℕ) → In i → ⊥) → AreAdded In xs xs
-added-none In xs n = record { size = refl; marked = λ i h. (λ m. inl m, λ m. elim m [ inl a ↦ a | inr b ↦ absurd (n i b) ]) }
-
--- one more mark
-pub added-one : (In Now : ℕ → Type 0) (xs ys : List Bool) (k : ℕ) → AreAdded In xs ys → k < length ys → ((i : ℕ) → Now i ↔ (In i ⊎ (i ≡ k))) → AreAdded Now xs (set ys k true)
-added-one In Now xs ys k a l n = record { size = length-set ys k true ∙ a.size; marked = λ i h. (to i h (cases_eq i k), from i h (cases_eq i k)) }
-  where
-    to : (i : ℕ) → i < length xs → (i ≡ k) ⊎ (i ≡ k → ⊥) → IsMarked (set ys k true) i → IsMarked xs i ⊎ Now i
-    to i h (inl e) m = inr ((n i).1 (inr e))
-    to i h (inr d) m = elim ((a.marked i h).0 (sym (get_or-set_other ys k i true false d) ∙ m)) [ inl b ↦ inl b | inr b ↦ inr ((n i).1 (inl b)) ]
-
-    from : (i : ℕ) → i < length xs → (i ≡ k) ⊎ (i ≡ k → ⊥) → IsMarked xs i ⊎ Now i → IsMarked (set ys k true) i
-    from i h (inl e) m = subst (IsMarked (set ys k true)) (sym e) (get_or-set_same ys k true false l)
-    from i h (inr d) m = get_or-set_other ys k i true false d ∙ (a.marked i h).1 (elim m [ inl b ↦ inl b | inr b ↦ elim ((n i).0 b) [ inl c ↦ inr c | inr e ↦ absurd (d e) ] ])
 
 -- marks of one set, and then of another
 pub added-both : (A B Both : ℕ → Type 0) (xs ys zs : List Bool) → AreAdded A xs ys → AreAdded B ys zs → ((i : ℕ) → i < length xs → Both i ↔ (A i ⊎ B i)) → AreAdded Both xs zs
@@ -61,10 +45,6 @@ module _ (Ts : List Tree) (id : ℕ) (ls rs : List ℕ) (o : IsOptions Ts id ls 
   inner-listed d h i (l, _, inr p) = inr (let r = has-pick Ts rs (tree_at Ts i) (sorted-has (pick Ts rs) _ (subst (λ G. Has (right G) (tree_at Ts i)) o.tree p)) in
       (r.0, r.1, sym (d i (get_or rs r.0 0) (omega (arith, l, h)) (omega (arith, h, o.right_below r.0 r.1)) r.2)))
 
--- a number has no inner forms
-pub number-inner : (Ts : List Tree) (id : ℕ) → IsNumberTree (tree_at Ts id) → (i : ℕ) → IsInner Ts id i → ⊥
-number-inner Ts id n i (l, m, o) = m n
-
 -- the walk from id down
 pub following-start : (Ts : List Tree) (id count : ℕ) (ys : List Bool) → count ≡ id + 1 → ys ≡ set (replicate count false) id true → AreFollowers Ts id count ys
 following-start Ts id count ys k e = subst (AreFollowers Ts id count) (sym e) record {
@@ -81,17 +61,6 @@ following-start Ts id count ys k e = subst (AreFollowers Ts id count) (sym e) re
         unmarked : (i : ℕ) → (i < count) ⊎ (count ≤ i) → get_or (replicate count false) i false ≡ false
         unmarked i (inl l) = get_or-replicate count i false false l
         unmarked i (inr l) = get_or_past (replicate count false) i false (omega (arith, l, length-replicate count false))
-
-pub following-skip : (Ts : List Tree) (id place next : ℕ) (ys : List Bool) → AreFollowers Ts id place ys → place ≡ next + 1 → get_or ys next false ≡ false → AreFollowers Ts id next ys
-following-skip Ts id place next ys f e n = record {
-  size = f.size;
-  root = f.root;
-  follows = f.follows;
-  closed = λ j i p q m k. (elim (cases_eq j next) [
-    | inl s ↦ absurd (true≢false (sym m ∙ ap (λ x. get_or ys x false) s ∙ n))
-    | inr d ↦ f.closed j i (omega (arith, p, d, e)) q m k
-  ]);
-}
 
 pub following-step : (Ts : List Tree) (id place next : ℕ) (ys zs : List Bool) → AreFollowers Ts id place ys → place ≡ next + 1 → place ≤ length ys → IsMarked ys next → AreAdded (IsInner Ts next) ys zs → AreFollowers Ts id next zs
 following-step Ts id place next ys zs f e b n a = record {

@@ -11,11 +11,11 @@ use Rattle.game_store.specs.Forms.{IsOptions}
 use Rattle.short_games.proofs.TextOrderLaws.{sorted-has, has-sorted}
 use Rattle.thermograph.specs.declared.breaks.Break.{Break}
 use Rattle.thermograph.specs.declared.side.Side.TheVariants as side
-use Rattle.short_games.specs.Lines.{Rises, Falls}
+use Rattle.short_games.specs.inner.Lines.{Rises, Falls}
 use Rattle.short_games.specs.WallGrids.{IsGreatest, IsLeast, AllWallsAre, HasWalls}
-use Rattle.thermograph.specs.Breaks.{IsLevel}
-use Rattle.thermograph.specs.Scaffolds.{wall_of, picked, turned_wall, greatest, rise_at, scaffold_at, AreLevel, AreSteady, IsSteadyLine, Stays}
-use Rattle.thermograph.specs.Drawings.{IsDrawn, AreDrawnBelow}
+use Rattle.thermograph.specs.inner.Breaks.{IsLevel}
+use Rattle.thermograph.specs.inner.Scaffolds.{wall_of, picked, turned_wall, greatest, rise_at, scaffold_at, AreLevel, AreSteady, IsSteadyLine, Stays}
+use Rattle.thermograph.specs.inner.Drawings.{IsDrawn, AreDrawnBelow}
 use Rattle.short_games.proofs.WallGreatest.{IsFilled, filled, greatest-one, greatest-more}
 use Rattle.short_games.proofs.WallLines.{greatest-same, least-same}
 use Rattle.short_games.proofs.WallSolutions.{walls-unique, walls-steady, left_scaffold-falls, right_scaffold-rises}

@@ -5,9 +5,9 @@ use Rattle.std.proofs.lemmas.List.{length-append}
 use Rattle.short_games.specs.Tree.{Tree, tree_at}
 use Rattle.thermograph.specs.declared.breaks.Break.{Break}
 use Rattle.short_games.specs.WallGrids.{HasTemperatureBetween}
-use Rattle.thermograph.specs.Scaffolds.{wall_of}
+use Rattle.thermograph.specs.inner.Scaffolds.{wall_of}
 use Rattle.thermograph.specs.inner.Marks.{IsMarked, AreFollowers}
-use Rattle.thermograph.specs.Drawings.{IsDrawn, AreDrawnBelow, AreDrawn}
+use Rattle.thermograph.specs.inner.Drawings.{IsDrawn, AreDrawnBelow, AreDrawn}
 use Rattle.thermograph.specs.PastBounds.{IsDrawnPastBounds}
 use Rattle.short_games.proofs.WallLines.{below-or_at}
 use Rattle.thermograph.proofs.PastBounds.{past-bounds_of}

@@ -2,9 +2,11 @@
 use Rattle.std.proofs.Common.{ℕ, zero, suc, ◌+◌, ◌-◌, ◌<◌, ◌≤◌, ◌^◌, ◌≡◌, arith, refl, sym, ◌∙◌, ap, subst, pos, List, [], ◌∷◌, length, get_or}
 use Rattle.std.proofs.lemmas.Int.{ints}
 use Rattle.thermograph.specs.declared.breaks.Break.{Break}
-use Rattle.thermograph.specs.Breaks.{wall_at, from, IsInRange, IsLevel, Reaches}
+use Rattle.thermograph.specs.Breaks.{wall_at, from, Reaches}
+use Rattle.thermograph.specs.inner.Breaks.{IsInRange, IsLevel}
 use Rattle.thermograph.specs.Drawings.{AreBreaks}
-use Rattle.thermograph.specs.Thermographs.{breaks, points, IsFromZero, AreInBounds}
+use Rattle.thermograph.specs.Thermographs.{breaks, IsFromZero}
+use Rattle.thermograph.specs.inner.Thermographs.{points, AreInBounds}
 use Rattle.thermograph.proofs.BreakLists.{at-after, last_of, last-is, no_break}
 use Rattle.thermograph.proofs.Hinges.{from-first}
 

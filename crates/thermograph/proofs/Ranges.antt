@@ -4,8 +4,9 @@ use Rattle.std.proofs.lemmas.Int.{ints, clamps}
 use Rattle.thermograph.specs.declared.breaks.Break.{Break}
 use Rattle.thermograph.specs.declared.side.Side.{Side}
 use Rattle.thermograph.specs.declared.side.Side.TheVariants as side
-use Rattle.thermograph.specs.Breaks.{wall_at, IsInRange}
-use Rattle.thermograph.specs.Scaffolds.{greatest, rise_at, scaffold_at, AreLevel}
+use Rattle.thermograph.specs.Breaks.{wall_at}
+use Rattle.thermograph.specs.inner.Breaks.{IsInRange}
+use Rattle.thermograph.specs.inner.Scaffolds.{greatest, rise_at, scaffold_at, AreLevel}
 use Rattle.thermograph.proofs.Heights.{turned-range}
 
 pub rise-range : (s : Side) (ws : List (List Break)) (t : ℕ) → AreLevel ws → IsInRange (rise_at s ws t)

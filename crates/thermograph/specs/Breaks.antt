@@ -1,5 +1,5 @@
 -- What a list of break points draws.
-use Rattle.std.specs.Prelude.{ℕ, ◌-◌, ◌^◌, ◌≡◌, ◌<◌, ◌⊎◌, ℤ, pos, negsuc, ◌+ℤ◌, ◌-ℤ◌, ◌≤ℤ◌, int_lt, nat_lt, cond, List, [], ◌∷◌}
+use Rattle.std.specs.Prelude.{ℕ, ◌-◌, ◌≡◌, ◌<◌, ◌⊎◌, ℤ, pos, ◌+ℤ◌, ◌-ℤ◌, int_lt, nat_lt, cond, List, [], ◌∷◌}
 use Rattle.thermograph.specs.declared.breaks.Break.{Break}
 
 -- the number d away from x on the way to y
@@ -11,23 +11,17 @@ unfoldable pub from : Break → List Break → ℕ → ℤ
 from b [] t = b.value
 from b (c ∷ bs) t = cond (nat_lt t c.at) (toward b.value c.value (t - b.at)) (from c bs t)
 
+-- the wall that break points draw, straight from one to the next and level from the last on; 0 where there is none
 unfoldable pub wall_at : List Break → ℕ → ℤ
 wall_at [] t = pos 0
 wall_at (b ∷ bs) t = from b bs t
 
--- within the bounds of a Dyadic
-abbrev pub IsInRange : ℤ → Type 0
-IsInRange x = (negsuc (2 ^ 120 - 2) ≤ℤ x) × (x ≤ℤ pos (2 ^ 120 - 1))
-
--- nowhere past the bounds
-abbrev pub IsLevel : List Break → Type 0
-IsLevel bs = ((t : ℕ) → IsInRange (wall_at bs t))
-
--- break points in ascending order, where the way from each leads straight to the next
+-- the way from a break point leads straight to the first of the others, and so on from each to the next, in ascending order
 abbrev pub Reaches : Break → List Break → Type 0
 Reaches b [] = Unit {0}
 Reaches b (c ∷ bs) = (b.at < c.at) × (toward b.value c.value (c.at - b.at) ≡ c.value) × Reaches c bs
 
+-- break points in ascending order, where the way from each leads straight to the next
 abbrev pub IsPath : List Break → Type 0
 IsPath [] = Unit {0}
 IsPath (b ∷ bs) = Reaches b bs

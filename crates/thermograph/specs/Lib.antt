@@ -1,5 +1,4 @@
 pub mod Breaks
-pub mod Scaffolds
 pub mod Drawings
 pub mod PastBounds
 pub mod Thermographs

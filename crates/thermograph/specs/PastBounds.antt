@@ -1,12 +1,14 @@
 -- Break points past the bounds of a Dyadic.
-use Rattle.std.specs.Prelude.{ℕ, ◌≡◌, ◌<◌, ◌^◌, ◌⊎◌, ℤ, pos, ◌*ℤ◌, unsigned_abs}
+use Rattle.std.specs.Prelude.{ℕ, ◌≡◌, ◌^◌, ◌⊎◌, ℤ, pos, ◌*ℤ◌}
+use Rattle.dyadic_num.specs.declared.TheConstants.{EXPONENT}
+use Rattle.dyadic_num.specs.Units.{IsInBounds}
 use Rattle.short_games.specs.Tree.{Tree}
 use Rattle.short_games.specs.Parts.{IsPart}
 use Rattle.short_games.specs.WallGrids.{Bends, HasWalls, IsMeeting}
 
--- n / 2 ^ k is within the bounds of a Dyadic: some u / 2 ^ 60 with u below 2 ^ 120 in size
+-- n / 2 ^ k is within the bounds of a Dyadic: it is the number of some u parts of 2 ^ -60
 abbrev pub IsWithin : ℕ → ℤ → Type 0
-IsWithin k n = (u : ℤ) × (unsigned_abs u < 2 ^ 120) × (n *ℤ pos (2 ^ 60) ≡ u *ℤ pos (2 ^ k))
+IsWithin k n = (u : ℤ) × IsInBounds u × (n *ℤ pos (2 ^ EXPONENT) ≡ u *ℤ pos (2 ^ k))
 
 -- a wall has a break point at t, where l and r are the walls: at 0, where its slope changes, or where the two meet
 abbrev pub IsBreak : (l r wall : ℕ → ℤ) → ℕ → Type 0

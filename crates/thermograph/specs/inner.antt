@@ -1,2 +1,6 @@
 -- What loops and private calls keep; no public clause cites it.
 pub mod Marks
+pub mod Scaffolds
+pub mod Breaks
+pub mod Drawings
+pub mod Thermographs

@@ -1,8 +1,11 @@
 //! Break points of walls, in parts of 2^-60.
 
-ghost use Rattle.std.specs.Prelude.{◌≡◌, ◌⊎◌, ◌^◌, ◌<◌, ◌≤◌, ◌-◌};
-ghost use Rattle.thermograph.specs.Breaks.{wall_at, toward, IsLevel, IsInRange};
-ghost use Rattle.thermograph.specs.Scaffolds.{IsClear};
+ghost use Rattle.std.specs.Prelude.{◌≡◌, ◌⊎◌, ◌*◌, unsigned_abs, ◌<◌, ◌≤◌, ◌-◌};
+ghost use Rattle.thermograph.specs.Breaks.{wall_at, toward};
+ghost use Rattle.thermograph.specs.inner.Breaks.{IsLevel, IsInRange};
+ghost use Rattle.thermograph.specs.inner.Scaffolds.{IsClear};
+
+use dyadic_num::LIMIT;
 
 /// A point of a wall at which its slope changes, or an end of it.
 #[derive(Clone, Copy)]
@@ -21,7 +24,7 @@ impl Break {
 
     /// The value at `t` on the way to the next point.
     fn height_toward(self, next: Break, t: u128) -> i128
-        requires t { t ≤ 2 ^ 121 }
+        requires t { t ≤ 2 * unsigned_abs LIMIT }
         requires level { IsInRange (toward self.value next.value (t - self.at)) }
         ensures { result ≡ toward self.value next.value (t - self.at) }
     {
@@ -52,7 +55,7 @@ impl Break {
 /// The value of a wall at `t`.
 pub(crate) fn value(breaks: &[Break], t: u128) -> i128
     requires level { IsLevel breaks.now }
-    requires t { t ≤ 2 ^ 121 }
+    requires t { t ≤ 2 * unsigned_abs LIMIT }
     ensures { result ≡ wall_at breaks.now t }
 {
     if breaks.is_empty() {

@@ -3,17 +3,15 @@
 #![tactic(auto)]
 
 mod breaks;
-mod drawing;
+mod drawings;
 mod error;
 mod followers;
 mod meeting;
-mod pass;
 mod scaffold;
 mod side;
-#[cfg(test)]
-mod tests;
+mod thermographs;
 mod wall;
 
 pub use error::ThermoError;
-pub use pass::{Thermograph, draw};
+pub use thermographs::{Thermograph, draw};
 pub use wall::Wall;

@@ -1,19 +1,20 @@
 //! Where two scaffolds meet.
 
-ghost use Rattle.std.specs.Prelude.{true, ◌≡◌, ◌+◌, ◌^◌, ◌<◌, ◌↔◌, ◌≤◌, pos, ◌-ℤ◌, ◌≤ℤ◌, ◌<ℤ◌};
-ghost use Rattle.thermograph.specs.Scaffolds.{line, IsKnown, Stays, AreApart, IsStraight, IsCrossing};
+ghost use Rattle.std.specs.Prelude.{true, ◌≡◌, ◌+◌, ◌*◌, unsigned_abs, ◌<◌, ◌↔◌, ◌≤◌, pos, ◌-ℤ◌, ◌≤ℤ◌, ◌<ℤ◌};
+ghost use Rattle.thermograph.specs.inner.Scaffolds.{line, IsKnown, Stays, AreApart, IsStraight, IsCrossing};
 ghost use Rattle.thermograph.specs.declared.side.Side.TheVariants as the_side;
 
 use crate::scaffold::Scaffold;
+use dyadic_num::LIMIT;
 
 /// The greatest number within the bounds. Scaffolds meet there at the latest.
-const LAST: u128 = (1 << 120) - 1;
+const LAST: u128 = LIMIT as u128 - 1;
 
 /// Whether the left scaffold is no longer greater at `t`.
 fn have_met(left: &Scaffold<'_>, right: &Scaffold<'_>, t: u128) -> bool
     requires left { IsKnown left.now }
     requires right { IsKnown right.now }
-    requires t { t ≤ 2 ^ 121 }
+    requires t { t ≤ 2 * unsigned_abs LIMIT }
     ensures { result ≡ true ↔ (line left.now t ≤ℤ line right.now t) }
 {
     left.at(t) <= right.at(t)
@@ -23,10 +24,10 @@ fn have_met(left: &Scaffold<'_>, right: &Scaffold<'_>, t: u128) -> bool
 fn distance(left: &Scaffold<'_>, right: &Scaffold<'_>, t: u128) -> u128
     requires left { IsKnown left.now }
     requires right { IsKnown right.now }
-    requires t { t ≤ 2 ^ 121 }
+    requires t { t ≤ 2 * unsigned_abs LIMIT }
     requires apart { line right.now t <ℤ line left.now t }
     ensures value { pos result ≡ line left.now t -ℤ line right.now t }
-    ensures most { result ≤ 2 ^ 124 }
+    ensures most { result ≤ 8 * unsigned_abs LIMIT }
 {
     (left.at(t) - right.at(t)) as u128
 }
@@ -35,8 +36,8 @@ fn distance(left: &Scaffold<'_>, right: &Scaffold<'_>, t: u128) -> u128
 fn both_move(left: &Scaffold<'_>, right: &Scaffold<'_>, place: u128, next: u128) -> bool
     requires left { IsKnown left.now }
     requires right { IsKnown right.now }
-    requires place { place ≤ 2 ^ 120 }
-    requires next { next ≤ 2 ^ 120 }
+    requires place { place ≤ unsigned_abs LIMIT }
+    requires next { next ≤ unsigned_abs LIMIT }
     ensures { result ≡ true ↔ ((line left.now next <ℤ line left.now place)
         × (line right.now place <ℤ line right.now next)) }
 {
@@ -50,7 +51,7 @@ fn steps_to_meeting(left: &Scaffold<'_>, right: &Scaffold<'_>, place: u128, next
     requires left_side { left.now.side ≡ the_side.Left }
     requires right_side { right.now.side ≡ the_side.Right }
     requires order { place < next }
-    requires next { next ≤ 2 ^ 120 }
+    requires next { next ≤ unsigned_abs LIMIT }
     requires left_straight { IsStraight (line left.now) place next }
     requires right_straight { IsStraight (line right.now) place next }
     requires apart { line right.now place <ℤ line left.now place }
@@ -72,7 +73,7 @@ pub(crate) fn first_meeting(left: &Scaffold<'_>, right: &Scaffold<'_>) -> u128
     requires left_side { left.now.side ≡ the_side.Left }
     requires right_side { right.now.side ≡ the_side.Right }
     requires stays { Stays (line left.now) (line right.now) }
-    ensures within { result < 2 ^ 120 }
+    ensures within { result < unsigned_abs LIMIT }
     ensures met { line left.now result ≤ℤ line right.now result }
     ensures first { AreApart (line left.now) (line right.now) result }
 {

@@ -1,13 +1,15 @@
 //! Scaffolds, each from the walls of the options on one side.
 
-ghost use Rattle.std.specs.Prelude.{true, cond, ◌≡◌, ◌+◌, ◌^◌, ◌<◌, ◌≤◌, ◌↔◌, ℕ, pos, neg_ℤ, ◌+ℤ◌, ◌-ℤ◌, ◌≤ℤ◌, IfOk};
+ghost use Rattle.std.specs.Prelude.{true, cond, ◌≡◌, ◌+◌, ◌*◌, unsigned_abs, ◌<◌, ◌≤◌, ◌↔◌, ℕ, pos, ◌+ℤ◌, ◌-ℤ◌, ◌≤ℤ◌, IfOk};
 ghost use Rattle.std.specs.Int.{int_max};
-ghost use Rattle.thermograph.specs.Breaks.{IsInRange};
+ghost use Rattle.dyadic_num.specs.Units.{IsInReach};
+ghost use Rattle.thermograph.specs.inner.Breaks.{IsInRange};
 ghost use Rattle.short_games.specs.WallGrids.{Bends};
-ghost use Rattle.thermograph.specs.Scaffolds.{rise, line, picked, IsKnown, EachWall, IsClear, IsAlong, IsStraight, IsTraced};
+ghost use Rattle.thermograph.specs.inner.Scaffolds.{rise, line, picked, IsKnown, EachWall, IsClear, IsAlong, IsStraight, IsTraced};
 
 use crate::breaks::{Break, break_after, value};
 use crate::side::Side;
+use dyadic_num::LIMIT;
 use game_store::GameId;
 use std::alloc::{AllocError, Global};
 
@@ -21,7 +23,7 @@ fn higher(first: bool, greatest: i128, height: i128) -> i128
 /// Whether `to` is `from`, or as far above it as the distance.
 fn is_along(from: i128, to: i128, rising: bool, distance: u128) -> bool
     requires from { IsInRange from }
-    requires distance { distance ≤ 2 ^ 121 }
+    requires distance { distance ≤ 2 * unsigned_abs LIMIT }
     ensures { result ≡ true ↔ (to ≡ from +ℤ pos (cond rising distance 0)) }
 {
     let step = if rising { distance as i128 } else { 0 };
@@ -51,7 +53,7 @@ impl Scaffold<'_> {
     /// The greatest of the walls at `t`, turned over on the right side.
     fn rise(&self, t: u128) -> i128
         requires known { IsKnown self.now }
-        requires t { t ≤ 2 ^ 121 }
+        requires t { t ≤ 2 * unsigned_abs LIMIT }
         ensures value { result ≡ rise self.now t }
         ensures range { IsInRange result }
     {
@@ -66,9 +68,9 @@ impl Scaffold<'_> {
     /// The scaffold at `t`.
     pub(crate) fn at(&self, t: u128) -> i128
         requires known { IsKnown self.now }
-        requires t { t ≤ 2 ^ 121 }
+        requires t { t ≤ 2 * unsigned_abs LIMIT }
         ensures value { result ≡ line self.now t }
-        ensures range { (neg_ℤ (pos (2 ^ 122)) ≤ℤ result) × (result ≤ℤ pos (2 ^ 122)) }
+        ensures range { IsInReach result }
     {
         self.side.turn(self.rise(t) - t as i128)
     }
@@ -94,7 +96,7 @@ impl Scaffold<'_> {
     fn last_along(&self, rising: bool, start: u128, end: u128) -> u128
         requires known { IsKnown self.now }
         requires order { start ≤ end }
-        requires end { end ≤ 2 ^ 120 }
+        requires end { end ≤ unsigned_abs LIMIT }
         ensures after { start ≤ result }
         ensures within { result ≤ end }
         ensures along { IsAlong (rise self.now) rising start result }
@@ -120,7 +122,7 @@ impl Scaffold<'_> {
     pub(crate) fn next_bend(&self, start: u128, end: u128) -> u128
         requires known { IsKnown self.now }
         requires order { start < end }
-        requires end { end ≤ 2 ^ 120 }
+        requires end { end ≤ unsigned_abs LIMIT }
         ensures after { start < result }
         ensures within { result ≤ end }
         ensures straight { IsStraight (line self.now) start result }
@@ -137,7 +139,7 @@ impl Scaffold<'_> {
     /// The break points of the scaffold from 0 to `end`.
     pub(crate) fn trace(&self, alloc: Global, end: u128) -> Result<Vec<Break>, AllocError>
         requires known { IsKnown self.now }
-        requires end { end ≤ 2 ^ 120 }
+        requires end { end ≤ unsigned_abs LIMIT }
         ensures { IfOk result (λ breaks. IsTraced (line self.now) end breaks.items) }
     {
         let mut breaks = Vec::new(alloc);

@@ -1,7 +1,8 @@
 //! The sides of a game's options.
 
-ghost use Rattle.std.specs.Prelude.{◌≡◌, ◌^◌, pos, neg_ℤ, ◌≤ℤ◌};
-ghost use Rattle.thermograph.specs.Scaffolds.{turned};
+ghost use Rattle.std.specs.Prelude.{◌≡◌};
+ghost use Rattle.dyadic_num.specs.Units.{IsInReach};
+ghost use Rattle.thermograph.specs.inner.Scaffolds.{turned};
 
 /// The side of a game's options.
 #[derive(Clone, Copy)]
@@ -13,7 +14,7 @@ pub(crate) enum Side {
 impl Side {
     /// The number, turned over on the right side.
     pub(crate) fn turn(self, x: i128) -> i128
-        requires { (neg_ℤ (pos (2 ^ 122)) ≤ℤ x) × (x ≤ℤ pos (2 ^ 122)) }
+        requires { IsInReach x }
         ensures { result ≡ turned self x }
     {
         match self {

@@ -8,17 +8,18 @@ use Rattle.go_grid.specs.Board.{Board}
 use Rattle.go_grid.specs.Marks.{IsMarked}
 use Rattle.std.specs.Prelude.{Err}
 use Rattle.go_play.specs.Place.{IsPlaced, IsNumberTaken, Answers}
-use Rattle.go_play.specs.declared.placing.PlaceError.{PlaceError}
-use Rattle.go_play.specs.declared.placing.PlaceError.TheVariants as placing
+use Rattle.go_play.specs.declared.placements.PlaceError.{PlaceError}
+use Rattle.go_play.specs.declared.placements.PlaceError.TheVariants as placing
 use Rattle.whole_rules.specs.Purses.{paid_in}
 use Rattle.whole_rules.specs.declared.states.Move.{Move}
 use Rattle.whole_rules.specs.declared.states.Move.TheVariants.{Stone, Spend, Half}
 use Rattle.whole_rules.specs.declared.states.MoveError.{MoveError}
 use Rattle.whole_rules.specs.declared.states.MoveError.TheVariants.{NotContested, Occupied, Suicide, EmptyPurse, NoHalf}
 use Rattle.go_play.proofs.BoardPlay.{suicide_not_placed}
-use Rattle.whole_rules.specs.WholeGame.{State, after, IsLegal, Refuses, rank, ListsMoves, MovesBelow, IsFirstMove}
+use Rattle.whole_rules.specs.WholeGame.{Whole, after, IsLegal, Refuses, rank, ListsMoves, IsFirstMove}
+use Rattle.whole_rules.specs.inner.WholeGame.{MovesBelow}
 
-pub moves_skip : (s : State) (n k : ℕ) (ms : List Move) → n ≤ k → MovesBelow s n ms → ((m : Move) → n ≤ rank m → rank m < k → ¬ IsLegal s m) → MovesBelow s k ms
+pub moves_skip : (s : Whole) (n k : ℕ) (ms : List Move) → n ≤ k → MovesBelow s n ms → ((m : Move) → n ≤ rank m → rank m < k → ¬ IsLegal s m) → MovesBelow s k ms
 moves_skip s n k ms le w none = record {
   ordered = w.ordered;
   exact = λ m. (
@@ -27,7 +28,7 @@ moves_skip s n k ms le w none = record {
   );
 }
 
-pub moves_push : (s : State) (n : ℕ) (ms : List Move) (m : Move) → MovesBelow s n ms → rank m ≡ n → IsLegal s m → ((k : Move) → rank k ≡ n → IsLegal s k → m ≡ k) → MovesBelow s (n + 1) (ms ++ m ∷ [])
+pub moves_push : (s : Whole) (n : ℕ) (ms : List Move) (m : Move) → MovesBelow s n ms → rank m ≡ n → IsLegal s m → ((k : Move) → rank k ≡ n → IsLegal s k → m ≡ k) → MovesBelow s (n + 1) (ms ++ m ∷ [])
 moves_push s n ms m w e here only = record {
   ordered = λ j k a lt.
       let short : j < length ms = omega (arith, length_push ms m) in
@@ -58,22 +59,22 @@ stone_only p Spend lt e = absurd (omega (arith, e))
 stone_only p Half lt e = absurd (omega (arith, e))
 
 -- a stone that may be placed is on the board
-pub legal_short : (s : State) (k : Move) → IsLegal s k → length s.board.cells ≤ 625 → rank k < 625 → rank k < length s.board.cells
+pub legal_short : (s : Whole) (k : Move) → IsLegal s k → length s.board.cells ≤ 625 → rank k < 625 → rank k < length s.board.cells
 legal_short s (Stone p) h le lt = h.1.1.1.1.1.place
 legal_short s Spend h le lt = absurd (omega arith)
 legal_short s Half h le lt = absurd (omega arith)
 
-pub spend_only : (s : State) (k : Move) → length s.board.cells ≤ 625 → rank k ≡ 625 → IsLegal s k → Spend ≡ k
+pub spend_only : (s : Whole) (k : Move) → length s.board.cells ≤ 625 → rank k ≡ 625 → IsLegal s k → Spend ≡ k
 spend_only s (Stone p) le e h = absurd (omega (arith, e, h.1.1.1.1.1.place))
 spend_only s Spend le e h = refl
 spend_only s Half le e h = absurd (omega (arith, e))
 
-pub half_only : (s : State) (k : Move) → length s.board.cells ≤ 625 → rank k ≡ 626 → IsLegal s k → Half ≡ k
+pub half_only : (s : Whole) (k : Move) → length s.board.cells ≤ 625 → rank k ≡ 626 → IsLegal s k → Half ≡ k
 half_only s (Stone p) le e h = absurd (omega (arith, e, h.1.1.1.1.1.place))
 half_only s Spend le e h = absurd (omega (arith, e))
 half_only s Half le e h = refl
 
-pub moves_all : (s : State) (ms : List Move) → length s.board.cells ≤ 625 → MovesBelow s 627 ms → ListsMoves s ms
+pub moves_all : (s : Whole) (ms : List Move) → length s.board.cells ≤ 625 → MovesBelow s 627 ms → ListsMoves s ms
 moves_all s ms le w = record {
   ordered = w.ordered;
   exact = λ m. (λ h. ((w.exact m).0 h).1, λ h. (w.exact m).1 (below m h, h));
@@ -84,65 +85,65 @@ moves_all s ms le w = record {
     below Spend h = omega arith
     below Half h = omega arith
 
-pub legal_stone : (s : State) (p : ℕ) → IsMarked s.contested p → (h : Board) (n : ℕ) → IsPlaced s.board p s.side h → IsNumberTaken s.board h n → IsLegal s (Stone p)
+pub legal_stone : (s : Whole) (p : ℕ) → IsMarked s.contested p → (h : Board) (n : ℕ) → IsPlaced s.board p s.side h → IsNumberTaken s.board h n → IsLegal s (Stone p)
 legal_stone s p m h n d t = (after h (paid_in s.side n s.purses) s, (m, (h, (n, d, t, refl))))
 
 -- no move ranks below n
-pub NoneBelow : State → ℕ → Type 0
+pub NoneBelow : Whole → ℕ → Type 0
 NoneBelow s n = (m : Move) → rank m < n → ¬ IsLegal s m
 
-pub none_start : (s : State) → NoneBelow s 0
+pub none_start : (s : Whole) → NoneBelow s 0
 unfolding NoneBelow
 none_start s = λ m a h. absurd (omega (arith, a))
 
-pub none_more : (s : State) (n k : ℕ) → NoneBelow s n → ((m : Move) → n ≤ rank m → rank m < k → ¬ IsLegal s m) → NoneBelow s k
+pub none_more : (s : Whole) (n k : ℕ) → NoneBelow s n → ((m : Move) → n ≤ rank m → rank m < k → ¬ IsLegal s m) → NoneBelow s k
 unfolding NoneBelow
 none_more s n k w none = λ m lt h. elim (cases_lt (rank m) n) [ inl a ↦ w m a h | inr ge ↦ none m ge lt h ]
 
-pub no_stone : (s : State) (n : ℕ) → n < 625 → ¬ IsLegal s (Stone n) → (m : Move) → n ≤ rank m → rank m < n + 1 → ¬ IsLegal s m
+pub no_stone : (s : Whole) (n : ℕ) → n < 625 → ¬ IsLegal s (Stone n) → (m : Move) → n ≤ rank m → rank m < n + 1 → ¬ IsLegal s m
 no_stone s n lt none m a b h = none (subst (IsLegal s) (sym (stone_only n m lt (omega (arith, a, b)))) h)
 
 -- no stone is placed past the board
-pub no_more_stones : (s : State) (n : ℕ) → length s.board.cells ≤ n → length s.board.cells ≤ 625 → (m : Move) → n ≤ rank m → rank m < 625 → ¬ IsLegal s m
+pub no_more_stones : (s : Whole) (n : ℕ) → length s.board.cells ≤ n → length s.board.cells ≤ 625 → (m : Move) → n ≤ rank m → rank m < 625 → ¬ IsLegal s m
 no_more_stones s n le most m a b h = omega (arith, a, le, legal_short s m h most b)
 
-pub first_is : (s : State) (m : Move) → NoneBelow s (rank m) → IsLegal s m → IsFirstMove s (Some m)
+pub first_is : (s : Whole) (m : Move) → NoneBelow s (rank m) → IsLegal s m → IsFirstMove s (Some m)
 unfolding NoneBelow
 first_is s m w h = (h, λ k l. elim (cases_lt (rank k) (rank m)) [ inl lt ↦ absurd (w k lt l) | inr ge ↦ ge ])
 
-pub first_none : (s : State) (n : ℕ) → length s.board.cells ≤ n → length s.board.cells ≤ 625 → NoneBelow s n → ¬ IsLegal s Spend → ¬ IsLegal s Half → IsFirstMove s None
+pub first_none : (s : Whole) (n : ℕ) → length s.board.cells ≤ n → length s.board.cells ≤ 625 → NoneBelow s n → ¬ IsLegal s Spend → ¬ IsLegal s Half → IsFirstMove s None
 unfolding NoneBelow
 first_none s n le most w spend half (Stone p) h = w (Stone p) (omega (arith, le, h.1.1.1.1.1.place)) h
 first_none s n le most w spend half Spend h = spend h
 first_none s n le most w spend half Half h = half h
 
-pub same_length : (s t : State) → s ≡ t → length s.board.cells ≡ length t.board.cells
+pub same_length : (s t : Whole) → s ≡ t → length s.board.cells ≡ length t.board.cells
 same_length s t e = ap (λ z. length z.board.cells) e
 
-pub one_below : (s : State) (n : ℕ) → NoneBelow s n → n < 625 → ¬ IsLegal s (Stone n) → NoneBelow s (n + 1)
+pub one_below : (s : Whole) (n : ℕ) → NoneBelow s n → n < 625 → ¬ IsLegal s (Stone n) → NoneBelow s (n + 1)
 one_below s n w lt none = none_more s n (n + 1) w (no_stone s n lt none)
 
-pub none_to_spend : (s : State) (n : ℕ) → NoneBelow s n → length s.board.cells ≤ n → length s.board.cells ≤ 625 → NoneBelow s 625
+pub none_to_spend : (s : Whole) (n : ℕ) → NoneBelow s n → length s.board.cells ≤ n → length s.board.cells ≤ 625 → NoneBelow s 625
 none_to_spend s n w le most = none_more s n 625 w (no_more_stones s n le most)
 
-pub none_to_half : (s : State) → NoneBelow s 625 → length s.board.cells ≤ 625 → ¬ IsLegal s Spend → NoneBelow s 626
+pub none_to_half : (s : Whole) → NoneBelow s 625 → length s.board.cells ≤ 625 → ¬ IsLegal s Spend → NoneBelow s 626
 none_to_half s w most none = none_more s 625 626 w (λ m a b h. none (subst (IsLegal s) (sym (spend_only s m most (omega (arith, a, b)) h)) h))
 
 -- the last two moves, each listed where it is legal
-pub moves_spend : (s : State) (ms : List Move) → MovesBelow s 625 ms → length s.board.cells ≤ 625 → IsLegal s Spend → MovesBelow s 626 (ms ++ Spend ∷ [])
+pub moves_spend : (s : Whole) (ms : List Move) → MovesBelow s 625 ms → length s.board.cells ≤ 625 → IsLegal s Spend → MovesBelow s 626 (ms ++ Spend ∷ [])
 moves_spend s ms w most h = moves_push s 625 ms Spend w refl h (λ k e l. spend_only s k most e l)
 
-pub moves_no_spend : (s : State) (ms : List Move) → MovesBelow s 625 ms → length s.board.cells ≤ 625 → ¬ IsLegal s Spend → MovesBelow s 626 ms
+pub moves_no_spend : (s : Whole) (ms : List Move) → MovesBelow s 625 ms → length s.board.cells ≤ 625 → ¬ IsLegal s Spend → MovesBelow s 626 ms
 moves_no_spend s ms w most none = moves_skip s 625 626 ms (omega arith) w (λ m a b h. none (subst (IsLegal s) (sym (spend_only s m most (omega (arith, a, b)) h)) h))
 
-pub moves_half : (s : State) (ms : List Move) → MovesBelow s 626 ms → length s.board.cells ≤ 625 → IsLegal s Half → ListsMoves s (ms ++ Half ∷ [])
+pub moves_half : (s : Whole) (ms : List Move) → MovesBelow s 626 ms → length s.board.cells ≤ 625 → IsLegal s Half → ListsMoves s (ms ++ Half ∷ [])
 moves_half s ms w most h = moves_all s (ms ++ Half ∷ []) most (moves_push s 626 ms Half w refl h (λ k e l. half_only s k most e l))
 
-pub moves_no_half : (s : State) (ms : List Move) → MovesBelow s 626 ms → length s.board.cells ≤ 625 → ¬ IsLegal s Half → ListsMoves s ms
+pub moves_no_half : (s : Whole) (ms : List Move) → MovesBelow s 626 ms → length s.board.cells ≤ 625 → ¬ IsLegal s Half → ListsMoves s ms
 moves_no_half s ms w most none = moves_all s ms most (moves_skip s 626 627 ms (omega arith) w (λ m a b h. none (subst (IsLegal s) (sym (half_only s m most (omega (arith, a, b)) h)) h)))
 
 -- a move that is refused isn't legal
-pub refused_not_legal : (s : State) (m : Move) (e : MoveError) → Refuses s m e → ¬ IsLegal s m
+pub refused_not_legal : (s : Whole) (m : Move) (e : MoveError) → Refuses s m e → ¬ IsLegal s m
 refused_not_legal s (Stone p) NotContested r l = r (l.1.1.1.1.1.place, l.1.0)
 refused_not_legal s (Stone p) Occupied r l = r.1 (l.1.1.1.1.1.place, l.1.1.1.1.1.free)
 refused_not_legal s (Stone p) Suicide r l = suicide_not_placed s.board l.1.1.0 p s.side r.2 l.1.1.1.1
@@ -160,6 +161,6 @@ refused_not_legal s Half Suicide r l = r
 refused_not_legal s Half EmptyPurse r l = r
 
 -- where no stone may be placed
-pub refused_stone : (s : State) (p : ℕ) (h : Board) (e : PlaceError) → Answers s.board p s.side h (Err e) → ¬ IsLegal s (Stone p)
+pub refused_stone : (s : Whole) (p : ℕ) (h : Board) (e : PlaceError) → Answers s.board p s.side h (Err e) → ¬ IsLegal s (Stone p)
 refused_stone s p h placing.Occupied a l = a.1 (l.1.1.1.1.1.place, l.1.1.1.1.1.free)
 refused_stone s p h placing.Suicide a l = suicide_not_placed s.board l.1.1.0 p s.side a.2 l.1.1.1.1

@@ -4,7 +4,7 @@ use Rattle.std.proofs.lemmas.List.{get_or-set_other, length-set}
 use Rattle.go_grid.specs.declared.grid.Cell.TheVariants as cell
 use Rattle.go_grid.specs.declared.grid.Colour.{Colour}
 use Rattle.go_grid.specs.Board.{Board, cell_at, stone}
-use Rattle.go_play.specs.Place.{with_stone}
+use Rattle.go_play.specs.inner.Place.{with_stone}
 
 pub elsewhere : (g : Board) (p q : ℕ) (c : Colour) → q ≢ p → cell_at (with_stone g p c) q ≡ cell_at g q
 elsewhere g p q c ne = get_or-set_other g.cells p q (stone c) cell.Empty ne

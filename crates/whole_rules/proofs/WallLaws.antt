@@ -13,11 +13,12 @@ use Rattle.benson_life.specs.Region.{IsContested}
 use Rattle.benson_life.specs.Walls.{WallsStand}
 use Rattle.benson_life.proofs.StandLemmas.{joined_along}
 use Rattle.benson_life.proofs.WallLemmas.{counted_region, walls_breathe}
-use Rattle.go_play.specs.Place.{with_stone, IsPlaced, IsTaken}
+use Rattle.go_play.specs.Place.{IsPlaced, IsTaken}
+use Rattle.go_play.specs.inner.Place.{with_stone}
 use Rattle.whole_rules.proofs.PlacingLaws.{elsewhere, as_long}
 use Rattle.whole_rules.specs.declared.states.Move.{Move}
 use Rattle.whole_rules.specs.declared.states.Move.TheVariants.{Stone, Spend, Half}
-use Rattle.whole_rules.specs.WholeGame.{State, IsMove}
+use Rattle.whole_rules.specs.WholeGame.{Whole, IsMove}
 use Rattle.whole_rules.specs.Opening.{IsOpening}
 use Rattle.whole_rules.specs.Walls.{Plays, WallsLast}
 use Rattle.go_play.proofs.BoardPlay.{placed_long, taken_choked, taken_stone}
@@ -104,17 +105,17 @@ module _ (g : Board) where
         }
 
 -- what each play keeps
-pub record Keeps (g : Board) (s : State) : Type 0 where
+pub record Keeps (g : Board) (s : Whole) : Type 0 where
   pub walls : WallsStand g s.board
   pub contested : Marks s.contested (IsContested g)
 
-pub keeps_start : (g : Board) (black white : ℕ) (komi : ℤ) (side : Colour) (tax : Bool) (s : State) → IsOpening g black white komi side tax s → Keeps g s
+pub keeps_start : (g : Board) (black white : ℕ) (komi : ℤ) (side : Colour) (tax : Bool) (s : Whole) → IsOpening g black white komi side tax s → Keeps g s
 keeps_start g black white komi side tax s o = record {
   walls = subst (λ b. WallsStand g b) (sym o.board) record { columns = refl; long = refl; stones = λ c t a. alive_stone g c t a; counted = λ c p w. refl };
   contested = o.contested;
 }
 
-pub keeps_move : (g : Board) → IsSettled g → (s t : State) (m : Move) → Keeps g s → IsMove s m t → Keeps g t
+pub keeps_move : (g : Board) → IsSettled g → (s t : Whole) (m : Move) → Keeps g s → IsMove s m t → Keeps g t
 keeps_move g settled s t (Stone p) w m = record {
   walls = subst (λ z. WallsStand g z.board) (sym m.1.1.3) (walls_step g settled s.board w.walls p s.side m.1.0 ((w.contested p).0 m.0) m.1.1.1);
   contested = subst (λ z. Marks z.contested (IsContested g)) (sym m.1.1.3) w.contested;
@@ -128,7 +129,7 @@ keeps_move g settled s t Half w m = record {
   contested = subst (λ z. Marks z.contested (IsContested g)) (sym m.1) w.contested;
 }
 
-pub keeps_plays : (g : Board) → IsSettled g → (s t : State) (ms : List Move) → Keeps g s → Plays s ms t → Keeps g t
+pub keeps_plays : (g : Board) → IsSettled g → (s t : Whole) (ms : List Move) → Keeps g s → Plays s ms t → Keeps g t
 keeps_plays g settled s t [] w e = subst (Keeps g) e w
 keeps_plays g settled s t (m ∷ ms) w e = keeps_plays g settled e.0 t ms (keeps_move g settled s e.0 m w e.1) e.2
 

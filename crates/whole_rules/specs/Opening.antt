@@ -9,7 +9,7 @@ use Rattle.benson_life.specs.Held.{IsHeld}
 use Rattle.benson_life.specs.Region.{IsContested}
 use Rattle.whole_rules.specs.declared.money.Token.{Token}
 use Rattle.whole_rules.specs.declared.money.Token.TheVariants as token
-use Rattle.whole_rules.specs.WholeGame.{State}
+use Rattle.whole_rules.specs.WholeGame.{Whole}
 
 -- the whole points that a player gets of a komi in half-points: a positive one is White's
 abbrev pub komi_points : Colour → ℤ → ℕ
@@ -29,7 +29,7 @@ IsStart g c false n = IsHeld g c n
 IsStart g c true n = (groups : ℕ) × IsNumberOfGroups g c groups × IsHeld g c (n + 2 * groups)
 
 -- The state opens the board before any move: what it gives each side, with or without a tax, its prisoners and its part of the komi.
-pub record IsOpening (g : Board) (black_prisoners white_prisoners : ℕ) (komi : ℤ) (side : Colour) (tax : Bool) (s : State) : Type 0 where
+pub record IsOpening (g : Board) (black_prisoners white_prisoners : ℕ) (komi : ℤ) (side : Colour) (tax : Bool) (s : Whole) : Type 0 where
   pub board : s.board ≡ g
   pub contested : Marks s.contested (IsContested g)
   pub black : (n : ℕ) × IsStart g Black tax n × (s.purses.black ≡ n + black_prisoners + komi_points Black komi)

@@ -6,6 +6,7 @@ use Rattle.whole_rules.specs.declared.money.Purses.{Purses}
 use Rattle.whole_rules.specs.declared.money.Token.{Token}
 use Rattle.whole_rules.specs.declared.money.Token.TheVariants as token
 
+-- what the purse of a player holds
 abbrev pub purse : Colour → Purses → ℕ
 purse Black m = m.black
 purse White m = m.white
@@ -20,7 +21,7 @@ abbrev pub paid_out : Colour → Purses → Purses
 paid_out Black m = record m { black = m.black - 1 }
 paid_out White m = record m { white = m.white - 1 }
 
--- the opponent of the token's owner leaves the owner a point
+-- the purses where a player removes the token: its owner gets a point if the player is the opponent
 abbrev pub rewarded : Token → Colour → Purses → Purses
 rewarded token.Black White m = paid_in Black 1 m
 rewarded token.White Black m = paid_in White 1 m

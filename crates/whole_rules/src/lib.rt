@@ -7,8 +7,6 @@ mod money;
 mod opening;
 mod plain;
 mod states;
-#[cfg(test)]
-mod tests;
 
 pub use laws::whole_laws;
 pub use money::{Purses, Token};

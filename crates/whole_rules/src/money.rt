@@ -29,7 +29,7 @@ impl Token {
 }
 
 /// What the two players may still spend, in points, and who owns the half-point.
-#[derive(Clone, Copy)]
+#[derive(Clone, Copy, Debug)]
 pub struct Purses {
     pub black: u64,
     pub white: u64,

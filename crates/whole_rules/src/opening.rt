@@ -8,7 +8,7 @@ ghost use Rattle.whole_rules.specs.Opening.{komi_points, komi_token, IsOpening, 
 
 use crate::money::{Purses, Token};
 use crate::states::Whole;
-use benson_life::{Life, Territory, tax_law};
+use benson_life::{Life, Territory, tax_laws};
 use go_grid::{Board, Colour};
 use std::alloc::{AllocError, Global};
 
@@ -62,7 +62,7 @@ fn start_points(
     let held = life.held(alloc, board, colour)?;
     if tax {
         let groups = life.groups(alloc, board, colour)?;
-        tax_law();
+        tax_laws();
         return Ok(after_tax(held, groups));
     }
     Ok(held)

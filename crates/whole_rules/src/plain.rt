@@ -25,6 +25,7 @@ fn after(state: &Whole, chosen: Move) -> Result<Whole, AllocError>
     let mut next = state.copy()?;
     match next.apply(chosen) {
         Ok(()) => Ok(next),
+        // The caller gives legal moves only.
         Err(_) => unreachable!(),
     }
 }

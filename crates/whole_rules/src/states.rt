@@ -2,10 +2,11 @@
 
 ghost use Rattle.std.specs.Prelude.{◌≡◌, ◌^◌, ◌<◌, ◌↔◌, true, length, IfOk};
 ghost use Rattle.whole_rules.specs.Purses.{purse};
-ghost use Rattle.whole_rules.specs.WholeGame.{Applies, IsLegal, ListsMoves, MovesBelow, IsFirstMove};
+ghost use Rattle.whole_rules.specs.WholeGame.{Applies, IsLegal, ListsMoves, IsFirstMove};
+ghost use Rattle.whole_rules.specs.inner.WholeGame.{MovesBelow};
 
 use crate::money::{Purses, Token};
-use go_grid::{Board, Colour, Point, Points};
+use go_grid::{Board, Colour, MOST_POINTS, Point, Points};
 use go_play::{PlaceError, allowed, place};
 use std::alloc::{AllocError, Global};
 use std::marker::Model;
@@ -44,7 +45,7 @@ pub enum MoveError {
 
 /// A state of the whole game: a board, the points that were contested at the opening, two purses in points, the token
 /// of a half-point and the side to move. The players move in turn, and one who has no move loses.
-#[derive(Drop)]
+#[derive(Debug, Drop)]
 pub struct Whole {
     board: Board,
     contested: Points,
@@ -53,9 +54,9 @@ pub struct Whole {
 }
 
 impl Model for Whole {
-    ghost use Rattle.whole_rules.specs.WholeGame.{State};
+    ghost use Rattle.whole_rules.specs.WholeGame.{Whole};
 
-    ghost Value = { State };
+    ghost Value = { Whole };
 
     ghost view = { λ w. record { board = w.board; contested = w.contested; purses = w.purses; side = w.side } };
 }
@@ -162,7 +163,7 @@ impl Whole {
 
     /// The legal placings, by point.
     fn placings(&self, alloc: Global) -> Result<Vec<Move>, AllocError>
-        ensures { IfOk result (λ moves. MovesBelow self.now 625 moves.items) }
+        ensures { IfOk result (λ moves. MovesBelow self.now MOST_POINTS moves.items) }
     {
         let mut moves = Vec::new(alloc);
         for number in 0..self.board.size().area() {

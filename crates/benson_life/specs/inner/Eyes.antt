@@ -8,7 +8,7 @@ use Rattle.benson_life.specs.declared.surveys.Survey.{Survey}
 use Rattle.benson_life.specs.declared.eyes.Eye.{Eye}
 use Rattle.benson_life.specs.Life.{IsVital}
 
--- the region is vital to the chain, and the two points name them
+-- the region of the pair is vital to its chain, and each of the two is named by its lowest point
 pub record IsVitalPair (g : Board) (c : Colour) (s : Survey) (e : Eye) : Type 0 where
   pub lacks : Lacks g c e.region
   pub stone : HasStone g c e.chain
@@ -16,7 +16,7 @@ pub record IsVitalPair (g : Board) (c : Colour) (s : Survey) (e : Eye) : Type 0 
   pub chain : label s.chains e.chain ≡ e.chain
   pub vital : IsVital g c e.region e.chain
 
--- the list has exactly these pairs
+-- the list has exactly the pairs of a region and a chain to which it is vital, each named by its lowest point
 abbrev pub AreEyes : Board → Colour → Survey → List Eye → Type 0
 AreEyes g c s eyes = (e : Eye) → Contains eyes e ↔ IsVitalPair g c s e
 
@@ -32,7 +32,7 @@ IsPairOf g c s p q e = IsVitalPair g c s e × (e.region ≡ label s.regions p) �
 abbrev pub HasWalledEye : List Eye → List Bool → ℕ → ℕ → Type 0
 HasWalledEye eyes breached k r = Contains eyes (record { region = r; chain = k }) × ¬ IsMarked breached r
 
--- that holds of two different regions
+-- two different regions are listed for the chain, and neither has a wall that is breached
 abbrev pub HasTwoWalledEyes : List Eye → List Bool → ℕ → Type 0
 HasTwoWalledEyes eyes breached k =
     (r t : ℕ) × HasWalledEye eyes breached k r × HasWalledEye eyes breached k t × (r ≢ t)

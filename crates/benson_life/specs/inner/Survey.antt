@@ -5,6 +5,7 @@ use Rattle.go_grid.specs.Marks.{Marks}
 use Rattle.go_grid.specs.Parts.{AreParts}
 use Rattle.benson_life.specs.declared.surveys.Survey.{Survey}
 
+-- the survey of a colour: its stones, the points without one, the empty points, its chains and its regions
 pub record IsSurvey (g : Board) (c : Colour) (s : Survey) : Type 0 where
   pub stones : Marks s.stones (HasStone g c)
   pub lacking : Marks s.lacking (Lacks g c)

@@ -1,13 +1,14 @@
 -- What the parts of the top call answer.
 use Rattle.std.specs.Prelude.{◌≡◌, ◌≢◌, ◌≤◌, ◌⊎◌, take, codes, ℕ, [], List, Option, Ok, IfSome}
+use Rattle.local_graph.specs.declared.graph.TheConstants.{MOST_POSITIONS}
 use Rattle.std.specs.Io.KnownBytes.{append_known}
 use Rattle.desk_io.specs.Outside.{Rose}
 use Rattle.go_grid.specs.declared.grid.Colour.{Colour}
 use Rattle.sgf_go.specs.declared.settings.Settings.{Settings}
 use Rattle.sgf_go.specs.declared.settings.Setup.{Setup}
-use Rattle.gd_words.specs.Job.{JobView}
+use Rattle.gd_words.specs.Job.{Job}
 use Rattle.gd_words.specs.Task.Task.{play, trial, calc, gtp}
-use Rattle.whole_rules.specs.WholeGame.{State}
+use Rattle.whole_rules.specs.WholeGame.{Whole}
 use Rattle.endgame_solver.specs.declared.limits.Limits.{Limits}
 use Rattle.endgame_run.specs.declared.status.Status.{Status}
 use Rattle.endgame_run.specs.declared.status.Status.TheVariants.{CannotRead, CannotWrite, Done, FormLimit, Memory, TooManyLines}
@@ -23,7 +24,7 @@ use Rattle.desk_io.specs.Files.{Told, IsTold}
 use Rattle.sgf_go.specs.File.{Reads}
 use Rattle.endgame_run.specs.File.{Outside, told_of, count_of}
 use Rattle.endgame_run.specs.Found.{IsPositionOf}
-use Rattle.endgame_solver.specs.Solved.{IsPlayable, SolvedGame}
+use Rattle.endgame_solver.specs.Solved.{IsPlayable, Solved}
 use Rattle.endgame_run.specs.Engine.{engine_limits}
 use Rattle.endgame_run.specs.Game.{IsEngine, IsGameWritten, IsSessionStatus}
 use Rattle.endgame_run.specs.Refusal.{form_line}
@@ -40,13 +41,13 @@ IsFinished status text faults_before faults_now before now result =
 
 -- a question with limits within which it can be answered
 abbrev pub IsModest : Question → Type 0
-IsModest (Solve limits) = limits.positions ≤ 1000000
-IsModest (Values limits) = limits.positions ≤ 1000000
+IsModest (Solve limits) = limits.positions ≤ MOST_POSITIONS
+IsModest (Values limits) = limits.positions ≤ MOST_POSITIONS
 IsModest Safe = Unit {0}
 
 -- the job asks a question, or for a game within its limits, with its colour for the engine, for the board of a number, for the answer to
 -- an expression within its limit of parts, or for the engine within its limits
-abbrev pub IsAsked : JobView → Asked → Type 0
+abbrev pub IsAsked : Job → Asked → Type 0
 IsAsked job (asked.Answer inquiry) = Asks job inquiry.question inquiry.word.now
 IsAsked job (asked.Game game) = (job.task ≡ play game.word.now) × (game.limits ≡ limits_of job) × (game.engine ≡ job.engine)
 IsAsked job (asked.Trial number) = job.task ≡ trial number
@@ -81,7 +82,7 @@ IsClosed end.TooManyLines kb kn before now result = IsFinished TooManyLines (cod
 IsClosed end.Memory kb kn before now result = (result ≡ Memory) × (now ≡ before)
 
 -- the report on the values of a solved game
-abbrev pub IsValuesReport : SolvedGame → Status → List ℕ → Type 0
+abbrev pub IsValuesReport : Solved → Status → List ℕ → Type 0
 IsValuesReport game Done text = IsValuesText game.state.board.columns game.regions text
 IsValuesReport game FormLimit text = (p : ℕ) × IsFirstUnshown game.regions p × (text ≡ form_line game.state.board.columns p)
 IsValuesReport game s text = ⊥
@@ -91,14 +92,14 @@ abbrev pub IsBegun : Limits → Option Colour → Setup → Opened → Type 0
 IsBegun limits given setup (Game session) = IsPlayable limits setup session.state × IsEngine given setup session.engine × (session.held ≡ [])
 IsBegun limits given setup (Fault report) = IsRefused limits setup report.status report.text
 
--- the same of the file of which this is told
+-- a session that begins with the position of the file of which this is told, or the report of what keeps it from being solved
 abbrev pub IsOpened : Limits → Option Colour → Told → ℕ → ℕ → Settings → Opened → Type 0
 IsOpened limits given told before now settings (Game session) = (setup : Setup) × IsPositionOf told settings setup
     × IsPlayable limits setup session.state × IsEngine given setup session.engine × (session.held ≡ [])
 IsOpened limits given told before now settings (Fault report) = IsAnswer (Solve limits) told before now settings report.status report.text × (report.status ≢ Done)
 
 -- a session that was played over what the source has left, with the line of a fault behind it
-pub record IsPlayRun (engine : Colour) (s : State) (left : Option (List ℕ)) (reads reads_now writes writes_now : ℕ) (before now : Option (List ℕ)) (result : Status) : Type 0 where
+pub record IsPlayRun (engine : Colour) (s : Whole) (left : Option (List ℕ)) (reads reads_now writes writes_now : ℕ) (before now : Option (List ℕ)) (result : Status) : Type 0 where
   pub begun : IsSessionStatus result
   pub read : result ≡ CannotRead → Rose reads reads_now
   pub write : result ≡ CannotWrite → Rose writes writes_now
@@ -106,7 +107,7 @@ pub record IsPlayRun (engine : Colour) (s : State) (left : Option (List ℕ)) (r
 
 -- a game of the file of a word, which was begun and played
 abbrev pub IsPlayedGame : Limits → Option Colour → Settings → List ℕ → Outside → ℕ → ℕ → Option (List ℕ) → Option (List ℕ) → Status → Type 0
-IsPlayedGame limits given settings word o kb kn before now result = (setup : Setup) × (engine : Colour) × (s : State)
+IsPlayedGame limits given settings word o kb kn before now result = (setup : Setup) × (engine : Colour) × (s : Whole)
     × IsPositionOf (told_of o.world word) settings setup × IsPlayable limits setup s × IsEngine given setup engine
     × IsPlayRun engine s o.world.left o.reads.before o.reads.now kb kn before now result
 

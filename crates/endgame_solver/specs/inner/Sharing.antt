@@ -10,15 +10,16 @@ use Rattle.game_canon.specs.Outcomes.{AreWithin}
 use Rattle.region_book.specs.Image.{IsShape}
 use Rattle.region_book.specs.Law.{differ}
 use Rattle.region_book.specs.declared.shapes.Turn.{Turn}
-use Rattle.endgame_solver.specs.Held.{ids_at}
-use Rattle.endgame_solver.specs.Regions.{region_at, graph_at}
+use Rattle.endgame_solver.specs.inner.Held.{ids_at}
+use Rattle.endgame_solver.specs.Regions.{region_at}
+use Rattle.endgame_solver.specs.inner.Regions.{graph_at}
 use Rattle.endgame_solver.specs.ShapeValues.{game_after}
 use Rattle.endgame_solver.specs.Solved.{IsNumberOfShapes}
 use Rattle.endgame_solver.specs.inner.Solving.{AreSolvedBelow, IsSolvedBy}
-use Rattle.endgame_solver.specs.Views.{AreViews}
+use Rattle.endgame_solver.specs.inner.Views.{AreViews}
 use Rattle.endgame_solver.specs.declared.limits.Limits.{Limits}
-use Rattle.endgame_solver.specs.declared.sharing.Book.{Book}
-use Rattle.endgame_solver.specs.declared.sharing.Kind.{Kind}
+use Rattle.endgame_solver.specs.declared.view_book.Book.{Book}
+use Rattle.endgame_solver.specs.declared.view_book.Kind.{Kind}
 use Rattle.endgame_solver.specs.declared.views.View.{View}
 
 -- the second id is that of the first one's value, or of its negative where colours are exchanged
@@ -28,11 +29,12 @@ pub record IsTurnedValue (colours : Bool) (Ts : List Tree) (id turned : ℕ) : T
   pub parts : (n : ℕ) → HasMoreParts (tree_at Ts turned) n → HasMoreParts (tree_at Ts id) n
   pub sizes : (b : ℕ) → AreWithin b (tree_at Ts id) → AreWithin b (tree_at Ts turned)
 
+-- the second ids are those of the values of the first, in order, or of their negatives where colours are exchanged
 pub record AreTurnedValues (colours : Bool) (Ts : List Tree) (ids turned : List ℕ) : Type 0 where
   pub many : length turned ≡ length ids
   pub each : (i : ℕ) → i < length ids → IsTurnedValue colours Ts (slice_index ids i) (slice_index turned i)
 
--- what is noted for an id is its negative
+-- what is noted for an id is the id of its tree's negative
 abbrev pub AreNegatives : List Tree → List (Option ℕ) → Type 0
 AreNegatives Ts known = (id turned : ℕ) → slice_index_or known id None ≡ Some turned → (id < length Ts) × IsTurnedValue true Ts id turned
 

@@ -6,9 +6,10 @@ use Rattle.local_graph.specs.Graph.{Graph}
 use Rattle.short_games.specs.Tree.{Tree, tree_at}
 use Rattle.game_canon.specs.Outcomes.{AreWithin}
 use Rattle.local_value.specs.Values.{IsGraphOf, AreValues}
-use Rattle.endgame_solver.specs.Regions.{region_at, graph_at}
+use Rattle.endgame_solver.specs.Regions.{region_at}
+use Rattle.endgame_solver.specs.inner.Regions.{graph_at}
 use Rattle.endgame_solver.specs.Faults.{AreSmall, IsFirstLarge, IsFaultOf, IsSound}
-use Rattle.endgame_solver.specs.Held.{ids_at, most_units}
+use Rattle.endgame_solver.specs.inner.Held.{ids_at, most_units}
 use Rattle.endgame_solver.specs.declared.limits.Limits.{Limits}
 use Rattle.endgame_solver.specs.declared.faults.SolveError.{SolveError}
 use Rattle.endgame_solver.specs.declared.faults.SolveError.TheVariants.{Memory}

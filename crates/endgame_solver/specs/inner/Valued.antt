@@ -5,7 +5,8 @@ use Rattle.go_grid.specs.Region.{Region}
 use Rattle.local_graph.specs.Graph.{Graph}
 use Rattle.short_games.specs.Tree.{Tree, tree_at}
 use Rattle.local_value.specs.PositionTree.{IsValueOf}
-use Rattle.endgame_solver.specs.Regions.{Spot, region_at, HasCells}
+use Rattle.endgame_solver.specs.Regions.{region_at}
+use Rattle.endgame_solver.specs.inner.Regions.{Spot, HasCells}
 
 -- the ids are those of the values of the positions, in regions from `k` on
 abbrev pub AreValued : List Region → List Graph → List Tree → ℕ → List Spot → List ℕ → Type 0

@@ -4,6 +4,7 @@ use Rattle.go_grid.specs.declared.grid.Colour.{Colour}
 use Rattle.go_grid.specs.Board.{Board}
 use Rattle.go_play.specs.Place.{IsPlaced, IsNumberTaken}
 use Rattle.benson_life.specs.Region.{IsContested}
+use Rattle.whole_rules.specs.WholeGame.{Whole}
 use Rattle.whole_rules.specs.WholeGame as whole
 use Rattle.benson_life.specs.Walls.{WallsStand}
 use Rattle.local_value.specs.LocalGame.{Step}
@@ -11,7 +12,7 @@ use Rattle.endgame_solver.specs.SumGame.{State}
 
 -- `InPart i p`: the point is in the part; `Shown h i q`: the board holds the local position in the part
 module _ (P : Type 0) (moves : Colour → P → List (Step P)) (InPart : ℕ → ℕ → Type 0) (Shown : Board → ℕ → P → Type 0) where
-  -- the other parts hold what they held
+  -- the parts other than `i` hold on the second board what they held on the first
   abbrev pub OthersStay : ℕ → Board → Board → Type 0
   OthersStay i h k = (j : ℕ) (q : P) → j ≢ i → Shown h j q → Shown k j q
 
@@ -38,7 +39,7 @@ module _ (P : Type 0) (moves : Colour → P → List (Step P)) (InPart : ℕ →
   AllShown h i (q ∷ qs) = Shown h i q × AllShown h (suc i) qs
 
   -- the state has the parts' positions on its board, and the same purses and turn
-  pub record IsSeenAs (parts : ℕ) (s : whole.State) (u : State P) : Type 0 where
+  pub record IsSeenAs (parts : ℕ) (s : Whole) (u : State P) : Type 0 where
     pub count : length u.parts ≡ parts
     pub shown : AllShown s.board 0 u.parts
     pub purses : s.purses ≡ u.purses

@@ -21,7 +21,7 @@ use Rattle.game_calc.specs.declared.pending.Turn.TheVariants as turn
 use Rattle.game_calc.specs.declared.tokens.Kind.TheVariants.{Game}
 use Rattle.game_calc.specs.declared.tokens.Token.{Token}
 
--- what stands before a term
+-- what stands before a term: the terms of its sum so far, where there are some, and its sign
 pub record Frame : Type 0 where
   pub before : Option Expression
   pub sign : Sign
@@ -31,16 +31,18 @@ pub data State : Type 0 where
   a_term : Frame → State
   behind_term : Expression → State
 
+-- what a whole line comes to: what it asks for, or a fault
 abbrev pub Answer : Type 0
 Answer = Result Line Fault
 
 module _ (limit : ℕ) where
-  -- what the line comes to behind a term, where the terms of its sum so far are E, a token with this sign comes next, and Next tells it of the sum
+  -- what the line comes to behind a term, where the terms of its sum so far are E, a token with this sign comes next, and Next
+  -- tells it of the sum
   abbrev pub AfterTerm : (Outcome → Answer → Type 0) → ℕ → Expression → Option Sign → List ℕ → Answer → Type 0
   AfterTerm Next n E None bytes out = Next (reads E bytes) out
   AfterTerm Next n E (Some t) bytes out = (o : Outcome) × ReadsTerms limit n (Some E) t (rest bytes) o × Next o out
 
-  -- the same, once it is known what the term comes to
+  -- what the line comes to behind a term, once it is known what the term comes to, where Next tells it of the sum
   abbrev pub BehindTerm : (Outcome → Answer → Type 0) → ℕ → Frame → Outcome → Answer → Type 0
   BehindTerm Next n f (reads F bytes) out = AfterTerm Next n (with_term f.before f.sign F) (sign_of (kind bytes)) bytes out
   BehindTerm Next n f (refused fault) out = out ≡ Err fault
@@ -50,25 +52,27 @@ module _ (limit : ℕ) where
   BehindLine None o out = BehindFirst limit o out
   BehindLine (Some E) o out = BehindSecond limit E o out
 
-  -- the same of the sum within the open parentheses, the innermost first
+  -- what the line comes to, once it is known what the sum within the open parentheses does, the innermost first
   abbrev pub BehindSum : List Frame → Option Expression → Outcome → Answer → Type 0
   BehindSum [] first o out = BehindLine first o out
   BehindSum (f ∷ fs) first o out = BehindTerm (BehindSum fs first) (length fs) f (closed o) out
 
-  -- what the rest of the line comes to
+  -- what the line comes to from a state on, with the bytes that are left
   abbrev pub Rest : State → List Frame → Option Expression → List ℕ → Answer → Type 0
   Rest (a_term f) fs first bytes out = (o : Outcome) × ReadsTerms limit (length fs) f.before f.sign bytes o × BehindSum fs first o out
   Rest (behind_term E) fs first bytes out = AfterTerm (BehindSum fs first) (length fs) E (sign_of (kind bytes)) bytes out
 
--- how the reader keeps what stands before a term, what is due, and the open parentheses
+-- how the reader keeps what stands before a term
 abbrev pub IsOpening : List Tree → ℕ → Frame → Opening → Type 0
 IsOpening Ts limit f o = IsBefore Ts limit f.before o.before × (o.sign ≡ f.sign)
 
+-- how the reader keeps what is due
 abbrev pub IsState : List Tree → ℕ → State → Place → Type 0
 IsState Ts limit (a_term f) (due.Term o) = IsOpening Ts limit f o
 IsState Ts limit (behind_term E) (due.Behind a) = IsAmount Ts limit E a
 IsState Ts limit s p = ⊥
 
+-- how the reader keeps what stands before the open parentheses: the frames have the innermost first, the openings have it last
 abbrev pub AreOpen : List Tree → ℕ → List Frame → List Opening → Type 0
 AreOpen Ts limit [] opens = opens ≡ []
 AreOpen Ts limit (f ∷ fs) opens = (below : List Opening) × (top : Opening) × (opens ≡ below ++ top ∷ []) × IsOpening Ts limit f top × AreOpen Ts limit fs below
@@ -84,13 +88,13 @@ pub record IsReading (Ts : List Tree) (limit : ℕ) (text : List ℕ) (spot : �
   pub within : spot ≤ length text
   pub comes : (out : Answer) → Rest limit state frames before (drop spot text) out → ReadsLine limit text out
 
--- what a line asks for
+-- how the reader keeps what a line asks for
 abbrev pub IsAsked : List Tree → ℕ → Line → Asked → Type 0
 IsAsked Ts limit (value E) (asked.Value a) = IsAmount Ts limit E a
 IsAsked Ts limit (order E F) (asked.Order a b) = IsAmount Ts limit E a × IsAmount Ts limit F b
 IsAsked Ts limit line a = ⊥
 
--- its amounts are ids of the store
+-- the ids that are known of what a line asks for are ids of the store
 abbrev pub IsAskedHeld : List Tree → Asked → Type 0
 IsAskedHeld Ts (asked.Value a) = IsHeld Ts a
 IsAskedHeld Ts (asked.Order a b) = IsHeld Ts a × IsHeld Ts b
@@ -100,10 +104,11 @@ abbrev pub IsTurn : List Tree → ℕ → List ℕ → ℕ → Turn → List Ope
 IsTurn Ts limit text spot (turn.Next step) opens first = IsReading Ts limit text step.at step.place opens first × (spot < step.at)
 IsTurn Ts limit text spot (turn.Whole a) opens first = (line : Line) × ReadsLine limit text (Ok line) × IsAsked Ts limit line a
 
--- how a fault is told, with its place counted from 0
+-- the place in a text from which these bytes are left, counted from 0
 abbrev pub IsPlaceOf : List ℕ → List ℕ → ℕ → Type 0
 IsPlaceOf text bytes place = place + length bytes ≡ length text
 
+-- how a fault of a line is told, with its place counted from 0
 abbrev pub IsTold : List ℕ → Fault → CalcError → Type 0
 IsTold text (stray bytes) e = (place : ℕ) × (e ≡ calc.Fault (fault.Byte place)) × IsPlaceOf text bytes place
 IsTold text (no_number bytes) e = (place : ℕ) × (e ≡ calc.Fault (fault.Number place)) × IsPlaceOf text bytes place
@@ -111,12 +116,13 @@ IsTold text unfinished e = e ≡ calc.Fault fault.CutShort
 IsTold text deep e = e ≡ calc.Fault fault.Deep
 IsTold text large e = e ≡ calc.Limit
 
+-- the refusal is want of memory
 abbrev pub IsWantOfMemory : CalcError → Type 0
 IsWantOfMemory (calc.Fault f) = ⊥
 IsWantOfMemory calc.Limit = ⊥
 IsWantOfMemory (calc.Memory cause) = Unit {0}
 
--- why a line is refused as it is read: memory is wanting, or that is what it comes to
+-- why a line is refused as it is read: there is want of memory, or the line comes to this fault
 abbrev pub IsLineRefusal : ℕ → List ℕ → CalcError → Type 0
 IsLineRefusal limit text e = IsWantOfMemory e ⊎ ((f : Fault) × ReadsLine limit text (Err f) × IsTold text f e)
 

@@ -3,7 +3,7 @@ use Rattle.std.specs.Prelude.{ℕ, ◌≡◌, ◌<◌, ◌≤◌, List, length}
 use Rattle.std.specs.List.{slice_index_or, sum_by}
 use Rattle.game_store.specs.Meaning.{IsAscending}
 
--- the same ids in ascending order, none of them more often
+-- the ids of the first list in ascending order, each once
 pub record IsInOrder (is vs : List ℕ) : Type 0 where
   pub ascends : IsAscending vs
   pub to : (i : ℕ) → i < length is → (j : ℕ) × (j < length vs) × (slice_index_or is i 0 ≡ slice_index_or vs j 0)

@@ -9,11 +9,12 @@ use Rattle.game_store.specs.Meaning.{pick, listed, AreIds, IsAscending}
 use Rattle.game_canon.specs.declared.side.Side.{Side}
 use Rattle.game_canon.specs.declared.side.Side.TheVariants.{Left, Right}
 
--- the options of the side, and those of the other
+-- the options of the side
 abbrev pub near : Side → Tree → Trees
 near Left G = left G
 near Right G = right G
 
+-- the options of the other side
 abbrev pub far : Side → Tree → Trees
 far Left G = right G
 far Right G = left G
@@ -28,11 +29,12 @@ abbrev pub with_near : Side → List Tree → List ℕ → List ℕ → Tree
 with_near Left Ts near far = listed Ts near far
 with_near Right Ts near far = listed Ts far near
 
--- the lists of a form by side
+-- of the lists of the Left and of the Right options, that of the side
 abbrev pub near_list : Side → List ℕ → List ℕ → List ℕ
 near_list Left ls rs = ls
 near_list Right ls rs = rs
 
+-- of the lists of the Left and of the Right options, that of the other side
 abbrev pub far_list : Side → List ℕ → List ℕ → List ℕ
 far_list Left ls rs = rs
 far_list Right ls rs = ls
@@ -41,7 +43,7 @@ far_list Right ls rs = ls
 abbrev pub AreFree : Side → Trees → Type 0
 AreFree s Gs = (A B : Tree) → Has Gs A → Has Gs B → Covers s A B → A ≡ B
 
--- the ids but those whose games that of top covers
+-- the ids of the first list but for those whose games the game of `top` covers
 pub record IsWithout (s : Side) (Ts : List Tree) (is : List ℕ) (top : ℕ) (vs : List ℕ) : Type 0 where
   pub ids : AreIds Ts vs
   pub among : (X : Tree) → Has (pick Ts vs) X → Has (pick Ts is) X × (Covers s X (tree_at Ts top) → ⊥)
@@ -62,11 +64,11 @@ pub record IsAnswer (s : Side) (Ts : List Tree) (G : Tree) (id answer : ℕ) : T
   pub option : Has (far s (tree_at Ts id)) (tree_at Ts answer)
   pub covered : Covers s (tree_at Ts answer) G
 
--- the move to X can't be answered so
+-- the other side has no answer to the move to X after which this side has nothing that it hasn't in G
 abbrev pub IsKept : Side → Tree → Tree → Type 0
 IsKept s G X = (A : Tree) → Has (far s X) A → Covers s A G → ⊥
 
--- none of the moves can be answered so, but for moves to numbers
+-- but for moves to numbers, no listed move has an answer after which this side has nothing that it hasn't in G
 abbrev pub IsDone : Side → List Tree → Tree → List ℕ → Type 0
 IsDone s Ts G is = (j : ℕ) → j < length is → IsNumberTree (tree_at Ts (slice_index_or is j 0)) ⊎ IsKept s G (tree_at Ts (slice_index_or is j 0))
 
@@ -105,7 +107,7 @@ pub record IsStart (Ts : List Tree) (ls rs : List ℕ) : Type 0 where
   pub left_free : AreFree Left (pick Ts ls)
   pub right_free : AreFree Right (pick Ts rs)
 
--- an equal form of which nothing can be dropped or bypassed
+-- a form equal to G, of which no option can be dropped or bypassed
 pub record IsReducedForm (Ts : List Tree) (G : Tree) (ms ns : List ℕ) : Type 0 where
   pub left_ids : AreIds Ts ms
   pub right_ids : AreIds Ts ns

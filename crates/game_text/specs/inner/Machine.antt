@@ -17,6 +17,7 @@ use Rattle.game_text.specs.declared.pending.Step.{Step}
 use Rattle.game_text.specs.declared.pending.Place.{Place}
 use Rattle.game_text.specs.declared.pending.Place.TheVariants as place
 
+-- what a whole text comes to: the game that it names, or a fault
 abbrev pub Answer : Type 0
 Answer = Result Tree Fault
 
@@ -25,10 +26,12 @@ pub data Frame : Type 0 where
   on_left : Trees → Frame
   on_right : Trees → Trees → Frame
 
+-- the side of an open form whose options are being read
 abbrev pub side_in : Frame → Side
 side_in (on_left Ls) = left_side
 side_in (on_right Ls Rs) = right_side
 
+-- an open form with one more option on the side that is being read
 abbrev pub with_option : Frame → Tree → Frame
 with_option (on_left Ls) G = on_left (Ls then more G none)
 with_option (on_right Ls Rs) G = on_right Ls (Rs then more G none)
@@ -47,40 +50,44 @@ pub data State : Type 0 where
   all_read : Tree → State
 
 module _ (limit : ℕ) where
-  -- what it comes to, once it is known what other Right options of the innermost form do, where Next tells it of the form
+  -- what the text comes to, once it is known what other Right options of the innermost form do, where Next tells it of the form
   abbrev pub BehindRight : (Outcome Tree → Answer → Type 0) → Trees → Trees → Outcome Trees → Answer → Type 0
   BehindRight Next Ls Rs (reads Gs rest) out = (o : Outcome Tree) × IsClosed limit (node Ls (Rs then Gs)) rest o × Next o out
   BehindRight Next Ls Rs (refused fault) out = out ≡ Err fault
 
-  -- the same of other Left options, where n braces are open
+  -- what the text comes to, once it is known what other Left options of the innermost form do, where Next tells it of the form
+  -- and n braces are open
   abbrev pub BehindLeft : (Outcome Tree → Answer → Type 0) → ℕ → Trees → Outcome Trees → Answer → Type 0
   BehindLeft Next n Ls (reads Gs rest) out = (o : Outcome Trees) × ReadsOptions limit n right_side rest o × BehindRight Next (Ls then Gs) none o out
   BehindLeft Next n Ls (refused fault) out = out ≡ Err fault
 
+  -- what the text comes to, once it is known what other options do on the side of the innermost form that is being read, where
+  -- Next tells it of the form and n braces are open
   abbrev pub BehindSide : (Outcome Tree → Answer → Type 0) → ℕ → Frame → Outcome Trees → Answer → Type 0
   BehindSide Next n (on_left Ls) o out = BehindLeft Next n Ls o out
   BehindSide Next n (on_right Ls Rs) o out = BehindRight Next Ls Rs o out
 
-  -- what it comes to, once it is known what a game within the open forms does, the innermost first
+  -- what the text comes to, once it is known what a game within the open forms does, the innermost first
   abbrev pub BehindGame : List Frame → Outcome Tree → Answer → Type 0
   BehindGame [] o out = AtEnd o out
   BehindGame (f ∷ fs) (reads G rest) out = (o : Outcome Trees) × ReadsMore limit (suc (length fs)) (side_in (with_option f G)) rest o × BehindSide (BehindGame fs) (suc (length fs)) (with_option f G) o out
   BehindGame (f ∷ fs) (refused fault) out = out ≡ Err fault
 
-  -- what the rest of the text comes to there
+  -- what the text comes to from a state on, with the bytes that are left
   abbrev pub Rest : State → List ℕ → Answer → Type 0
   Rest (first_option f fs) bytes out = (o : Outcome Trees) × ReadsOptions limit (suc (length fs)) (side_in f) bytes o × BehindSide (BehindGame fs) (suc (length fs)) f o out
   Rest (a_game fs) bytes out = (o : Outcome Tree) × ReadsGame limit (length fs) bytes o × BehindGame fs o out
   Rest (other_options f fs) bytes out = (o : Outcome Trees) × ReadsMore limit (suc (length fs)) (side_in f) bytes o × BehindSide (BehindGame fs) (suc (length fs)) f o out
   Rest (all_read G) bytes out = AtEnd (reads G bytes) out
 
--- the ids are those of the canonical trees of these
+-- the ids are those of the canonical trees of the listed games, in order
 abbrev pub AreNamed : List Tree → Trees → List ℕ → Type 0
 AreNamed Ts none [] = Unit {0}
 AreNamed Ts none (i ∷ is) = ⊥
 AreNamed Ts (more G Gs) [] = ⊥
 AreNamed Ts (more G Gs) (i ∷ is) = IsCanonicalId Ts G i × AreNamed Ts Gs is
 
+-- an open form by the place where its options begin, and the one where its Right options do, if they have begun
 abbrev pub opening_at : ℕ → Option ℕ → Opening
 opening_at first second = record { start = first; middle = second }
 
@@ -133,6 +140,7 @@ abbrev pub side_of : Option ℕ → Side
 side_of None = left_side
 side_of (Some middle) = right_side
 
+-- the byte that ends the side of an open form whose options are being read
 abbrev pub mark_at : Opening → ℕ
 mark_at o = mark_of (side_of o.middle)
 
@@ -163,7 +171,7 @@ IsTaken Us limit G id = IsCanonicalId Us G id × (IsPastBounds G → ⊥) × (Ha
 abbrev pub IsFoundBy : (List ℕ → Outcome Tree → Type 0) → List Tree → ℕ → List ℕ → ℕ → Found → Type 0
 IsFoundBy R Us limit text spot found = (G : Tree) × R (drop spot text) (reads G (drop found.end text)) × IsTaken Us limit G found.id × (spot ≤ found.end) × (found.end ≤ length text)
 
--- why none is
+-- why no game is read from a place on, by R, and taken
 abbrev pub IsRefusedBy : (List ℕ → Outcome Tree → Type 0) → ℕ → List ℕ → ℕ → ReadError → Type 0
 IsRefusedBy R limit text spot (error.BadByte place) = (place ≡ spot) × R (drop spot text) (refused (bad_byte (drop spot text)))
 IsRefusedBy R limit text spot (error.BadNumber place) = (place ≡ spot) × R (drop spot text) (refused (bad_number (drop spot text)))

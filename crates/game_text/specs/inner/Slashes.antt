@@ -6,6 +6,7 @@ use Rattle.std.specs.List.{slice_index_or}
 abbrev pub HasNoSlash : List ℕ → ℕ → Type 0
 HasNoSlash bytes n = (k : ℕ) → k < n → slice_index_or bytes k 0 ≡ 47 → ⊥
 
+-- the place is that of the first slash of the bytes
 pub record IsFirstSlash (bytes : List ℕ) (place : ℕ) : Type 0 where
   pub within : place < length bytes
   pub is : slice_index_or bytes place 0 ≡ 47

@@ -1,11 +1,12 @@
 -- The work of a fill: the points that it has met, marked and in a list.
 use Rattle.std.specs.Prelude.{◌≡◌, ℕ, ◌<◌, ◌≤◌, ◌⊎◌, List, Bool, Some, slice_index, count_by}
 use Rattle.go_grid.specs.declared.grid.TheConstants.{MOST_POINTS}
-use Rattle.go_grid.specs.declared.filling.Work.{Work}
-use Rattle.go_grid.specs.declared.nearby.Near.{Near}
+use Rattle.go_grid.specs.declared.fills.Work.{Work}
+use Rattle.go_grid.specs.declared.near_points.Near.{Near}
 use Rattle.go_grid.specs.Board.{NextTo}
 use Rattle.go_grid.specs.Walk.{Joined}
-use Rattle.go_grid.specs.Marks.{IsMarked, IsClosed}
+use Rattle.go_grid.specs.Marks.{IsMarked}
+use Rattle.go_grid.specs.inner.Marks.{IsClosed}
 
 -- from place `from` on the point is on the list
 abbrev pub IsListed : ℕ → Work → ℕ → Type 0
@@ -19,7 +20,8 @@ pub record IsFilled (columns : ℕ) (within : List Bool) (w : Work) : Type 0 whe
   pub most : w.count ≤ MOST_POINTS
   pub closed : IsClosed columns within w.marks
 
--- A fill from `start` is under way: `before` was met when it began with place `from` of the list, and the points from place `done` on wait for a look at their neighbours.
+-- A fill from `start` is under way: `before` was met when it began with place `from` of the list, and the points from place
+-- `done` on wait for a look at their neighbours.
 pub record IsFilling (columns : ℕ) (within before : List Bool) (start from done : ℕ) (w : Work) : Type 0 where
   pub inside : (p : ℕ) → IsMarked w.marks p → IsMarked within p
   pub listed : (i : ℕ) → i < w.count → IsMarked w.marks (slice_index w.points i)
@@ -30,6 +32,6 @@ pub record IsFilling (columns : ℕ) (within before : List Bool) (start from don
   pub earlier : (i : ℕ) → from ≤ i → i < w.count → Joined columns (IsMarked within) start (slice_index w.points i)
   pub spread : (p q : ℕ) → IsMarked w.marks p → ¬ IsListed done w p → NextTo columns p q → IsMarked within q → IsMarked w.marks q
 
--- one of the four
+-- `q` is one of the neighbours above, left, right and below
 abbrev pub IsNear : Near → ℕ → Type 0
 IsNear near q = (near.up ≡ Some q) ⊎ ((near.left ≡ Some q) ⊎ ((near.right ≡ Some q) ⊎ (near.down ≡ Some q)))

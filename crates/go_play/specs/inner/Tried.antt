@@ -5,10 +5,11 @@ use Rattle.go_grid.specs.declared.grid.Colour.{Colour}
 use Rattle.go_grid.specs.Board.{Board, HasStone, IsEmpty, other}
 use Rattle.go_grid.specs.Chain.{InChain, HasLiberty}
 use Rattle.go_grid.specs.Marks.{Marks}
-use Rattle.go_play.specs.declared.placing.PlaceError.{PlaceError}
-use Rattle.go_play.specs.declared.placing.PlaceError.TheVariants.{Occupied, Suicide}
-use Rattle.go_play.specs.declared.placing.Tried.{Tried}
-use Rattle.go_play.specs.Place.{with_stone, IsTaken, IsCleared, Breathes, IsSuicide}
+use Rattle.go_play.specs.declared.placements.PlaceError.{PlaceError}
+use Rattle.go_play.specs.declared.placements.PlaceError.TheVariants.{Occupied, Suicide}
+use Rattle.go_play.specs.declared.placements.Tried.{Tried}
+use Rattle.go_play.specs.Place.{IsTaken, IsCleared, Breathes, IsSuicide}
+use Rattle.go_play.specs.inner.Place.{with_stone}
 
 -- the sets are the stones of each colour and the empty points of the board with the new stone
 pub record IsTried (g : Board) (p : ℕ) (c : Colour) (t : Tried) : Type 0 where
@@ -20,7 +21,7 @@ pub record IsTried (g : Board) (p : ℕ) (c : Colour) (t : Tried) : Type 0 where
 abbrev pub IsLost : Board → Colour → ℕ → ℕ → Type 0
 IsLost b d s q = HasStone b d s × ¬ HasLiberty b d s × InChain b d s q
 
--- the stones taken, where the placing is legal
+-- how a placing is judged: the stones that it takes where it is legal, or why it is refused
 abbrev pub Judges : Board → ℕ → Colour → Result (List Bool) PlaceError → Type 0
 Judges g p c (Ok taken) = IsEmpty g p × Marks taken (IsTaken g p c)
     × ((cells : List Cell) → IsCleared g p c cells → Breathes g cells c p)

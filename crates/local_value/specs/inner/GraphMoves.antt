@@ -6,10 +6,11 @@ use Rattle.local_graph.specs.declared.graph.Edge.{Edge}
 use Rattle.local_value.specs.LocalGame.{Step}
 
 module _ (P : Type 0) (to : ℕ → P) where
+  -- the step of an edge
   abbrev pub step_of : Edge → Step P
   step_of e = record { to = to e.next; taken = e.taken }
 
-  -- the step of an edge, where the edge is the player's
+  -- the steps with that of an edge in front, where the edge is the player's
   abbrev pub step_for : Colour → Edge → Colour → List (Step P) → List (Step P)
   step_for Black e Black steps = step_of e ∷ steps
   step_for White e White steps = step_of e ∷ steps

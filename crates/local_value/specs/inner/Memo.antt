@@ -16,6 +16,7 @@ use Rattle.local_value.specs.declared.memo.Memo.{Memo}
 abbrev pub stones_units : ℤ → ℤ
 stones_units stones = stones *ℤ pos (2 ^ 60)
 
+-- whether two pairs of a game and a number of stones are the same
 abbrev pub same_sum : ℕ × ℤ → ℕ × ℤ → Bool
 same_sum p q = nat_eq p.0 q.0 && int_eq p.1 q.1
 
@@ -33,6 +34,7 @@ pub record IsStonesSum (Ts : List Tree) (game : ℕ) (stones : ℤ) (id : ℕ) :
 abbrev pub AreSumsRight : List Tree → (ℕ → ℤ → Option ℕ) → Type 0
 AreSumsRight Ts known = (game : ℕ) (stones : ℤ) (id : ℕ) → known game stones ≡ Some id → IsStonesSum Ts game stones id
 
+-- whether two games have the same ids as Left options, and the same as Right options
 abbrev pub same_options : Options → Options → Bool
 same_options p q = bytes_eq p.left.items q.left.items && bytes_eq p.right.items q.right.items
 
@@ -52,7 +54,7 @@ pub record IsFormOf (Ts : List Tree) (limit : ℕ) (ls rs : List ℕ) (id : ℕ)
 abbrev pub AreFormsRight : List Tree → ℕ → (Options → Option ℕ) → Type 0
 AreFormsRight Ts limit known = (options : Options) (id : ℕ) → known options ≡ Some id → IsFormOf Ts limit options.left.items options.right.items id
 
--- all that is remembered is right
+-- all sums and forms that are remembered are right
 pub record IsMemoRight (Ts : List Tree) (limit : ℕ) (memo : Memo) : Type 0 where
   pub sums : AreSumsRight Ts (recalled_sum memo.sums)
   pub forms : AreFormsRight Ts limit (recalled_form memo.forms)

@@ -28,6 +28,7 @@ tree_after Ts ids e = noted Ts ids e.next +ᵍ gain e.colour e.taken
 abbrev pub IsWithinAfter : ℕ → List Tree → List ℕ → Edge → Type 0
 IsWithinAfter b Ts ids e = (x : ℤ) → IsNumberOf (noted Ts ids e.next) x → unsigned_abs x + e.taken * 2 ^ 60 ≤ b
 
+-- the numbers that are noted for the end of each edge have a size of at most b with its stones added, in parts of 2 ^ -60
 abbrev pub AreWithinAfter : ℕ → List Tree → List ℕ → List Edge → Type 0
 AreWithinAfter b Ts ids es = (e : Edge) → Contains es e → IsWithinAfter b Ts ids e
 

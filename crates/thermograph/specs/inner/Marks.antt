@@ -5,6 +5,7 @@ use Rattle.short_games.specs.Tree.{Tree, tree_at}
 use Rattle.short_games.specs.Number.{IsNumberTree}
 use Rattle.short_games.specs.Parts.{IsOption, IsFollower}
 
+-- the id is marked; past the end of the list none is
 abbrev pub IsMarked : List Bool → ℕ → Type 0
 IsMarked marks i = slice_index_or marks i false ≡ true
 

@@ -3,7 +3,7 @@ use Rattle.std.proofs.lemmas.Bool.{both_ways}
 use Rattle.go_grid.specs.Chain.{InChain}
 use Rattle.go_grid.specs.Board.{HasStone}
 use Rattle.go_grid.specs.Marks.{Marks}
-use Rattle.benson_attack.specs.Reached.{AreTriedBelow}
+use Rattle.benson_attack.specs.inner.Reached.{AreTriedBelow}
 use Rattle.benson_attack.proofs.RunLemmas.{failed_copy}
 use Rattle.benson_attack.proofs.TriedLemmas.{tried_first, tried_skip, tried_more, tried_all}
 use Rattle.benson_attack.proofs.captures.advance.Goals as goal

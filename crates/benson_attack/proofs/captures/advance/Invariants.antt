@@ -1,4 +1,4 @@
-use Rattle.benson_attack.specs.Reached.{AreTriedBelow}
+use Rattle.benson_attack.specs.inner.Reached.{AreTriedBelow}
 use Rattle.benson_attack.proofs.captures.advance.Given as goal
 
 abbrev pub invariant-loop-number : goal.invariant-loop-number

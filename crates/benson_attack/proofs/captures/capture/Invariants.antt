@@ -1,5 +1,6 @@
 use Rattle.std.proofs.Common.{◌-◌, length}
-use Rattle.benson_attack.specs.Reached.{IsPressed, number_of}
+use Rattle.benson_attack.specs.Reached.{number_of}
+use Rattle.benson_attack.specs.inner.Reached.{IsPressed}
 use Rattle.benson_attack.proofs.captures.capture.Given as goal
 
 abbrev pub invariant-pressing : goal.invariant-pressing

@@ -1,6 +1,6 @@
 use Rattle.std.proofs.Common.{ap, ◌∙◌, length, arith, subst, sym}
 use Rattle.std.proofs.lemmas.List.{length-set}
-use Rattle.board_gen.specs.Corridor.{AreCorridors}
+use Rattle.board_gen.specs.inner.Corridor.{AreCorridors}
 use Rattle.board_gen.proofs.BoardLemmas.{filled_more}
 use Rattle.board_gen.proofs.boards.board_of.Goals as goal
 

@@ -1,6 +1,6 @@
 use Rattle.std.proofs.Common.{◌+◌, suc, ap, ◌∙◌, sym, arith, ◌≡◌, ◌*◌, ◌%◌, subst}
 use Rattle.board_gen.specs.Trial.{draw}
-use Rattle.board_gen.specs.Corridor.{AreCorridors}
+use Rattle.board_gen.specs.inner.Corridor.{AreCorridors}
 use Rattle.board_gen.proofs.CorridorLemmas.{corridors_more}
 use Rattle.board_gen.proofs.corridors.corridors_of.Goals as goal
 

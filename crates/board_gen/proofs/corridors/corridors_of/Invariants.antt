@@ -1,6 +1,6 @@
 use Rattle.std.proofs.Common.{◌≡◌, ◌<◌}
 use Rattle.board_gen.specs.Trial.{draw}
-use Rattle.board_gen.specs.Corridor.{AreCorridors}
+use Rattle.board_gen.specs.inner.Corridor.{AreCorridors}
 use Rattle.board_gen.proofs.corridors.corridors_of.Given as goal
 
 abbrev pub invariant-drawing : goal.invariant-drawing

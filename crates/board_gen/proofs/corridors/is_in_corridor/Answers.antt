@@ -1,6 +1,6 @@
 use Rattle.std.proofs.Common.{rules, tests}
 use Rattle.std.proofs.lemmas.Iterator.{cases_from_any, YieldsList-from_slice}
-use Rattle.board_gen.specs.Corridor.{Covers}
+use Rattle.board_gen.specs.inner.Corridor.{Covers}
 use Rattle.board_gen.proofs.CorridorLemmas.{found}
 use Rattle.board_gen.proofs.corridors.is_in_corridor.Goals as goal
 

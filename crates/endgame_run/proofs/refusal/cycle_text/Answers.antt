@@ -1,6 +1,6 @@
 use Rattle.std.proofs.Common.{string_bytes}
 use Rattle.std.specs.Prelude.{codes, decimal, flat_map, ◌++◌}
-use Rattle.report.specs.Lines.{point_name}
+use Rattle.go_grid.specs.Name.{point_name}
 use Rattle.endgame_run.specs.Refusal.{cycle_line, cycle_move}
 use Rattle.endgame_run.proofs.RefusalLaws.{five_pieces}
 use Rattle.endgame_run.proofs.refusal.cycle_text.Goals as goal

@@ -1,5 +1,5 @@
 use Rattle.std.specs.Prelude.{codes, decimal, ◌++◌}
-use Rattle.report.specs.Lines.{point_name}
+use Rattle.go_grid.specs.Name.{point_name}
 use Rattle.report.proofs.TextLaws.{three_pieces}
 use Rattle.endgame_run.specs.Refusal.{positions_line}
 use Rattle.endgame_run.proofs.refusal.positions_text.Goals as goal

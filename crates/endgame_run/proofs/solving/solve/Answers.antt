@@ -1,5 +1,5 @@
 use Rattle.std.proofs.Common.{subst, sym}
-use Rattle.endgame_run.specs.Refusal.{NamesPoints}
+use Rattle.endgame_run.specs.inner.Refusal.{NamesPoints}
 use Rattle.endgame_run.proofs.RefusalLaws.{names_points}
 use Rattle.endgame_run.proofs.solving.solve.Goals as goal
 

@@ -1,5 +1,6 @@
 use Rattle.std.proofs.Common.{subst, sym, ap, ◌∙◌}
-use Rattle.endgame_run.specs.Refusal.{NamesPoints, refusal_line}
+use Rattle.endgame_run.specs.Refusal.{refusal_line}
+use Rattle.endgame_run.specs.inner.Refusal.{NamesPoints}
 use Rattle.endgame_run.proofs.RefusalLaws.{names_points, refused_values}
 use Rattle.endgame_run.proofs.solving.value.Goals as goal
 

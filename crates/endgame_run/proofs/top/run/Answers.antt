@@ -1,14 +1,13 @@
 use Rattle.std.proofs.Common.{rules, inl, inr, refl, ap, subst}
 use Rattle.gd_words.specs.Viewed.{texts, viewed}
 use Rattle.endgame_run.specs.declared.question.Question.TheVariants.{Solve}
-use Rattle.endgame_run.specs.Engine.{AreForEngine}
 use Rattle.endgame_run.specs.File.{faults, outside, world}
 use Rattle.endgame_run.specs.inner.Top.{IsAsked}
 use Rattle.endgame_run.specs.Verdict.{AreToPlay, AskAbout, Pose, limits_of}
 use Rattle.endgame_run.proofs.GameLaws.{game_caused, game_written, only_play, own_outcome, unplayed, played_apart}
 use Rattle.endgame_run.proofs.CompleteLaws.{complete}
 use Rattle.endgame_run.proofs.EngineRuns.{engine_regions, engine_unplayed, run_keeps, run_outside, run_part}
-use Rattle.endgame_run.proofs.PoseLaws.{calc_unposed, engine_unposed, trial_unposed}
+use Rattle.endgame_run.proofs.PoseLaws.{asked_calc, asked_engine, asked_trial, calc_unposed, engine_unposed, trial_unposed}
 use Rattle.endgame_run.proofs.CalcLaws.{calc_caused, calc_written}
 use Rattle.endgame_run.proofs.TrialLaws.{trial_caused, trial_written}
 use Rattle.endgame_run.proofs.TopLaws.{by_word, caused, written, run_caused, run_written}
@@ -207,23 +206,23 @@ returns-in-Trial-clause-engine_keeps_win g c = run_keeps (texts c.args.words.now
 
 pub returns-in-Trial-clause-winner : goal.returns-in-Trial-clause-winner
 returns-in-Trial-clause-winner g c done (job, word, ask) =
-    absurd (trial_unposed (texts c.args.words.now) c.in-Trial.number job (Solve (limits_of job)) word (viewed c.in-Ok.job, c.in-Ok.ensures.job, (subst (IsAsked (viewed c.in-Ok.job)) c.in-Trial.is c.asked.ensures)) (inl ask))
+    absurd (trial_unposed (texts c.args.words.now) c.in-Trial.number job (Solve (limits_of job)) word (asked_trial _ _ _ _ c.in-Ok.ensures.job c.in-Trial.is c.asked.ensures) (inl ask))
 
 pub returns-in-Trial-clause-first_winning_move : goal.returns-in-Trial-clause-first_winning_move
 returns-in-Trial-clause-first_winning_move g c done (job, word, ask) =
-    absurd (trial_unposed (texts c.args.words.now) c.in-Trial.number job (Solve (limits_of job)) word (viewed c.in-Ok.job, c.in-Ok.ensures.job, (subst (IsAsked (viewed c.in-Ok.job)) c.in-Trial.is c.asked.ensures)) (inl ask))
+    absurd (trial_unposed (texts c.args.words.now) c.in-Trial.number job (Solve (limits_of job)) word (asked_trial _ _ _ _ c.in-Ok.ensures.job c.in-Trial.is c.asked.ensures) (inl ask))
 
 pub returns-in-Trial-clause-at_end : goal.returns-in-Trial-clause-at_end
 returns-in-Trial-clause-at_end g c done (job, question, ask) =
-    absurd (trial_unposed (texts c.args.words.now) c.in-Trial.number job question _ (viewed c.in-Ok.job, c.in-Ok.ensures.job, (subst (IsAsked (viewed c.in-Ok.job)) c.in-Trial.is c.asked.ensures)) (inl ask))
+    absurd (trial_unposed (texts c.args.words.now) c.in-Trial.number job question _ (asked_trial _ _ _ _ c.in-Ok.ensures.job c.in-Trial.is c.asked.ensures) (inl ask))
 
 pub returns-in-Trial-clause-few_steps : goal.returns-in-Trial-clause-few_steps
 returns-in-Trial-clause-few_steps g c _ =
-    inr (inr (c.in-Trial.number, (viewed c.in-Ok.job, c.in-Ok.ensures.job, (subst (IsAsked (viewed c.in-Ok.job)) c.in-Trial.is c.asked.ensures)), c.run_trial.ensures.steps))
+    inr (inr (c.in-Trial.number, (asked_trial _ _ _ _ c.in-Ok.ensures.job c.in-Trial.is c.asked.ensures), c.run_trial.ensures.steps))
 
 pub returns-in-Trial-clause-steps : goal.returns-in-Trial-clause-steps
 returns-in-Trial-clause-steps g c =
-    steps_told (texts c.args.words.now) (world (g.H.Shelf.files c.args.shelf.now) (g.S.Source.left c.args.lines.now)) c.args.steps.now c.run_trial.new.steps (inr (inr (c.in-Trial.number, (viewed c.in-Ok.job, c.in-Ok.ensures.job, (subst (IsAsked (viewed c.in-Ok.job)) c.in-Trial.is c.asked.ensures)), c.run_trial.ensures.steps)))
+    steps_told (texts c.args.words.now) (world (g.H.Shelf.files c.args.shelf.now) (g.S.Source.left c.args.lines.now)) c.args.steps.now c.run_trial.new.steps (inr (inr (c.in-Trial.number, (asked_trial _ _ _ _ c.in-Ok.ensures.job c.in-Trial.is c.asked.ensures), c.run_trial.ensures.steps)))
 
 pub returns-in-Trial-clause-no_steps : goal.returns-in-Trial-clause-no_steps
 returns-in-Trial-clause-no_steps g c none other =
@@ -259,25 +258,23 @@ returns-in-Calc-clause-engine_keeps_win g c =
 
 pub returns-in-Calc-clause-winner : goal.returns-in-Calc-clause-winner
 returns-in-Calc-clause-winner g c done (job, word, ask) =
-    absurd (calc_unposed (texts c.args.words.now) c.in-Calc.line.parts c.in-Calc.line.expression.now job (Solve (limits_of job)) word (viewed c.in-Ok.job, c.in-Ok.ensures.job, (subst (IsAsked (viewed c.in-Ok.job)) c.in-Calc.is c.asked.ensures).0, (subst (IsAsked (viewed c.in-Ok.job)) c.in-Calc.is c.asked.ensures).1) (inl ask))
+    absurd (calc_unposed (texts c.args.words.now) c.in-Calc.line.parts c.in-Calc.line.expression.now job (Solve (limits_of job)) word (asked_calc _ _ _ _ c.in-Ok.ensures.job c.in-Calc.is c.asked.ensures) (inl ask))
 
 pub returns-in-Calc-clause-first_winning_move : goal.returns-in-Calc-clause-first_winning_move
 returns-in-Calc-clause-first_winning_move g c done (job, word, ask) =
-    absurd (calc_unposed (texts c.args.words.now) c.in-Calc.line.parts c.in-Calc.line.expression.now job (Solve (limits_of job)) word (viewed c.in-Ok.job, c.in-Ok.ensures.job, (subst (IsAsked (viewed c.in-Ok.job)) c.in-Calc.is c.asked.ensures).0, (subst (IsAsked (viewed c.in-Ok.job)) c.in-Calc.is c.asked.ensures).1) (inl ask))
+    absurd (calc_unposed (texts c.args.words.now) c.in-Calc.line.parts c.in-Calc.line.expression.now job (Solve (limits_of job)) word (asked_calc _ _ _ _ c.in-Ok.ensures.job c.in-Calc.is c.asked.ensures) (inl ask))
 
 pub returns-in-Calc-clause-at_end : goal.returns-in-Calc-clause-at_end
 returns-in-Calc-clause-at_end g c done (job, question, ask) =
-    absurd (calc_unposed (texts c.args.words.now) c.in-Calc.line.parts c.in-Calc.line.expression.now job question _ (viewed c.in-Ok.job, c.in-Ok.ensures.job, (subst (IsAsked (viewed c.in-Ok.job)) c.in-Calc.is c.asked.ensures).0, (subst (IsAsked (viewed c.in-Ok.job)) c.in-Calc.is c.asked.ensures).1) (inl ask))
+    absurd (calc_unposed (texts c.args.words.now) c.in-Calc.line.parts c.in-Calc.line.expression.now job question _ (asked_calc _ _ _ _ c.in-Ok.ensures.job c.in-Calc.is c.asked.ensures) (inl ask))
 
 pub returns-in-Gtp-clause-cause : goal.returns-in-Gtp-clause-cause
 returns-in-Gtp-clause-cause g c =
-    let asks : AreForEngine (texts c.args.words.now) c.in-Gtp.limits = (viewed c.in-Ok.job, c.in-Ok.ensures.job, (subst (IsAsked (viewed c.in-Ok.job)) c.in-Gtp.is c.asked.ensures).0, (subst (IsAsked (viewed c.in-Ok.job)) c.in-Gtp.is c.asked.ensures).1) in
-    inr (c.in-Gtp.limits, asks, c.run_gtp.ensures.played)
+    inr (c.in-Gtp.limits, asked_engine _ _ _ _ c.in-Ok.ensures.job c.in-Gtp.is c.asked.ensures, c.run_gtp.ensures.played)
 
 pub returns-in-Gtp-clause-text : goal.returns-in-Gtp-clause-text
 returns-in-Gtp-clause-text g c =
-    let asks : AreForEngine (texts c.args.words.now) c.in-Gtp.limits = (viewed c.in-Ok.job, c.in-Ok.ensures.job, (subst (IsAsked (viewed c.in-Ok.job)) c.in-Gtp.is c.asked.ensures).0, (subst (IsAsked (viewed c.in-Ok.job)) c.in-Gtp.is c.asked.ensures).1) in
-    inr (c.in-Gtp.limits, asks, c.run_gtp.ensures.played)
+    inr (c.in-Gtp.limits, asked_engine _ _ _ _ c.in-Ok.ensures.job c.in-Gtp.is c.asked.ensures, c.run_gtp.ensures.played)
 
 pub returns-in-Gtp-clause-partial_output : goal.returns-in-Gtp-clause-partial_output
 returns-in-Gtp-clause-partial_output g c =
@@ -297,53 +294,43 @@ returns-in-Gtp-clause-complete g c =
 
 pub returns-in-Gtp-clause-winner : goal.returns-in-Gtp-clause-winner
 returns-in-Gtp-clause-winner g c done (job, word, ask) =
-    let asks : AreForEngine (texts c.args.words.now) c.in-Gtp.limits = (viewed c.in-Ok.job, c.in-Ok.ensures.job, (subst (IsAsked (viewed c.in-Ok.job)) c.in-Gtp.is c.asked.ensures).0, (subst (IsAsked (viewed c.in-Ok.job)) c.in-Gtp.is c.asked.ensures).1) in
-    absurd (engine_unposed (texts c.args.words.now) c.in-Gtp.limits job (Solve (limits_of job)) word asks (inl ask))
+    absurd (engine_unposed (texts c.args.words.now) c.in-Gtp.limits job (Solve (limits_of job)) word (asked_engine _ _ _ _ c.in-Ok.ensures.job c.in-Gtp.is c.asked.ensures) (inl ask))
 
 pub returns-in-Gtp-clause-first_winning_move : goal.returns-in-Gtp-clause-first_winning_move
 returns-in-Gtp-clause-first_winning_move g c done (job, word, ask) =
-    let asks : AreForEngine (texts c.args.words.now) c.in-Gtp.limits = (viewed c.in-Ok.job, c.in-Ok.ensures.job, (subst (IsAsked (viewed c.in-Ok.job)) c.in-Gtp.is c.asked.ensures).0, (subst (IsAsked (viewed c.in-Ok.job)) c.in-Gtp.is c.asked.ensures).1) in
-    absurd (engine_unposed (texts c.args.words.now) c.in-Gtp.limits job (Solve (limits_of job)) word asks (inl ask))
+    absurd (engine_unposed (texts c.args.words.now) c.in-Gtp.limits job (Solve (limits_of job)) word (asked_engine _ _ _ _ c.in-Ok.ensures.job c.in-Gtp.is c.asked.ensures) (inl ask))
 
 pub returns-in-Gtp-clause-at_end : goal.returns-in-Gtp-clause-at_end
 returns-in-Gtp-clause-at_end g c done (job, question, ask) =
-    let asks : AreForEngine (texts c.args.words.now) c.in-Gtp.limits = (viewed c.in-Ok.job, c.in-Ok.ensures.job, (subst (IsAsked (viewed c.in-Ok.job)) c.in-Gtp.is c.asked.ensures).0, (subst (IsAsked (viewed c.in-Ok.job)) c.in-Gtp.is c.asked.ensures).1) in
-    absurd (engine_unposed (texts c.args.words.now) c.in-Gtp.limits job question _ asks (inl ask))
+    absurd (engine_unposed (texts c.args.words.now) c.in-Gtp.limits job question _ (asked_engine _ _ _ _ c.in-Ok.ensures.job c.in-Gtp.is c.asked.ensures) (inl ask))
 
 pub returns-in-Gtp-clause-steps : goal.returns-in-Gtp-clause-steps
 returns-in-Gtp-clause-steps g c limits setup regions needed are =
-    let asks : AreForEngine (texts c.args.words.now) c.in-Gtp.limits = (viewed c.in-Ok.job, c.in-Ok.ensures.job, (subst (IsAsked (viewed c.in-Ok.job)) c.in-Gtp.is c.asked.ensures).0, (subst (IsAsked (viewed c.in-Ok.job)) c.in-Gtp.is c.asked.ensures).1) in
-    absurd (engine_regions (texts c.args.words.now) _ c.in-Gtp.limits limits setup asks needed)
+    absurd (engine_regions (texts c.args.words.now) _ c.in-Gtp.limits limits setup (asked_engine _ _ _ _ c.in-Ok.ensures.job c.in-Gtp.is c.asked.ensures) needed)
 
 pub returns-in-Gtp-clause-few_steps : goal.returns-in-Gtp-clause-few_steps
 returns-in-Gtp-clause-few_steps g c other =
-    let asks : AreForEngine (texts c.args.words.now) c.in-Gtp.limits = (viewed c.in-Ok.job, c.in-Ok.ensures.job, (subst (IsAsked (viewed c.in-Ok.job)) c.in-Gtp.is c.asked.ensures).0, (subst (IsAsked (viewed c.in-Ok.job)) c.in-Gtp.is c.asked.ensures).1) in
-    absurd (other (c.in-Gtp.limits, asks))
+    absurd (other (c.in-Gtp.limits, asked_engine _ _ _ _ c.in-Ok.ensures.job c.in-Gtp.is c.asked.ensures))
 
 pub returns-in-Gtp-clause-no_steps : goal.returns-in-Gtp-clause-no_steps
 returns-in-Gtp-clause-no_steps g c none other =
-    let asks : AreForEngine (texts c.args.words.now) c.in-Gtp.limits = (viewed c.in-Ok.job, c.in-Ok.ensures.job, (subst (IsAsked (viewed c.in-Ok.job)) c.in-Gtp.is c.asked.ensures).0, (subst (IsAsked (viewed c.in-Ok.job)) c.in-Gtp.is c.asked.ensures).1) in
-    absurd (other (c.in-Gtp.limits, asks))
+    absurd (other (c.in-Gtp.limits, asked_engine _ _ _ _ c.in-Ok.ensures.job c.in-Gtp.is c.asked.ensures))
 
 pub returns-in-Gtp-clause-lines_unread : goal.returns-in-Gtp-clause-lines_unread
 returns-in-Gtp-clause-lines_unread g c none unplayed other =
-    let asks : AreForEngine (texts c.args.words.now) c.in-Gtp.limits = (viewed c.in-Ok.job, c.in-Ok.ensures.job, (subst (IsAsked (viewed c.in-Ok.job)) c.in-Gtp.is c.asked.ensures).0, (subst (IsAsked (viewed c.in-Ok.job)) c.in-Gtp.is c.asked.ensures).1) in
-    absurd (other (c.in-Gtp.limits, asks))
+    absurd (other (c.in-Gtp.limits, asked_engine _ _ _ _ c.in-Ok.ensures.job c.in-Gtp.is c.asked.ensures))
 
 pub returns-in-Gtp-clause-lines_unplayed : goal.returns-in-Gtp-clause-lines_unplayed
 returns-in-Gtp-clause-lines_unplayed g c none other =
-    let asks : AreForEngine (texts c.args.words.now) c.in-Gtp.limits = (viewed c.in-Ok.job, c.in-Ok.ensures.job, (subst (IsAsked (viewed c.in-Ok.job)) c.in-Gtp.is c.asked.ensures).0, (subst (IsAsked (viewed c.in-Ok.job)) c.in-Gtp.is c.asked.ensures).1) in
-    absurd (other (c.in-Gtp.limits, asks))
+    absurd (other (c.in-Gtp.limits, asked_engine _ _ _ _ c.in-Ok.ensures.job c.in-Gtp.is c.asked.ensures))
 
 pub returns-in-Gtp-clause-file_taken : goal.returns-in-Gtp-clause-file_taken
 returns-in-Gtp-clause-file_taken g c unplayed other =
-    let asks : AreForEngine (texts c.args.words.now) c.in-Gtp.limits = (viewed c.in-Ok.job, c.in-Ok.ensures.job, (subst (IsAsked (viewed c.in-Ok.job)) c.in-Gtp.is c.asked.ensures).0, (subst (IsAsked (viewed c.in-Ok.job)) c.in-Gtp.is c.asked.ensures).1) in
-    absurd (other (c.in-Gtp.limits, asks))
+    absurd (other (c.in-Gtp.limits, asked_engine _ _ _ _ c.in-Ok.ensures.job c.in-Gtp.is c.asked.ensures))
 
 pub returns-in-Gtp-clause-lines_taken : goal.returns-in-Gtp-clause-lines_taken
 returns-in-Gtp-clause-lines_taken g c play =
-    let asks : AreForEngine (texts c.args.words.now) c.in-Gtp.limits = (viewed c.in-Ok.job, c.in-Ok.ensures.job, (subst (IsAsked (viewed c.in-Ok.job)) c.in-Gtp.is c.asked.ensures).0, (subst (IsAsked (viewed c.in-Ok.job)) c.in-Gtp.is c.asked.ensures).1) in
-    absurd (engine_unplayed (texts c.args.words.now) c.in-Gtp.limits asks play)
+    absurd (engine_unplayed (texts c.args.words.now) c.in-Gtp.limits (asked_engine _ _ _ _ c.in-Ok.ensures.job c.in-Gtp.is c.asked.ensures) play)
 
 pub returns-in-Gtp-clause-session_taken : goal.returns-in-Gtp-clause-session_taken
 returns-in-Gtp-clause-session_taken g c _ =
@@ -351,10 +338,8 @@ returns-in-Gtp-clause-session_taken g c _ =
 
 pub returns-in-Gtp-clause-asked : goal.returns-in-Gtp-clause-asked
 returns-in-Gtp-clause-asked g c other =
-    let asks : AreForEngine (texts c.args.words.now) c.in-Gtp.limits = (viewed c.in-Ok.job, c.in-Ok.ensures.job, (subst (IsAsked (viewed c.in-Ok.job)) c.in-Gtp.is c.asked.ensures).0, (subst (IsAsked (viewed c.in-Ok.job)) c.in-Gtp.is c.asked.ensures).1) in
-    absurd (other (c.in-Gtp.limits, asks))
+    absurd (other (c.in-Gtp.limits, asked_engine _ _ _ _ c.in-Ok.ensures.job c.in-Gtp.is c.asked.ensures))
 
 pub returns-in-Gtp-clause-shelf_unread : goal.returns-in-Gtp-clause-shelf_unread
 returns-in-Gtp-clause-shelf_unread g c none other =
-    let asks : AreForEngine (texts c.args.words.now) c.in-Gtp.limits = (viewed c.in-Ok.job, c.in-Ok.ensures.job, (subst (IsAsked (viewed c.in-Ok.job)) c.in-Gtp.is c.asked.ensures).0, (subst (IsAsked (viewed c.in-Ok.job)) c.in-Gtp.is c.asked.ensures).1) in
-    absurd (other (c.in-Gtp.limits, asks))
+    absurd (other (c.in-Gtp.limits, asked_engine _ _ _ _ c.in-Ok.ensures.job c.in-Gtp.is c.asked.ensures))

@@ -5,7 +5,7 @@ use Rattle.short_games.specs.Tree.{tree_at}
 use Rattle.game_store.specs.Meaning.{listed}
 use Rattle.game_canon.specs.Outcomes.{IsCanonicalId, IsCause}
 use Rattle.short_games.proofs.SumLaws.{plus-comm}
-use Rattle.game_calc.specs.Steps.{IsPairRefusal}
+use Rattle.game_calc.specs.inner.Steps.{IsPairRefusal}
 use Rattle.game_calc.specs.inner.Table.{noted}
 use Rattle.game_calc.proofs.SumSteps.{IsPairForm, pair-form, id-as, refusal-as}
 use Rattle.game_calc.proofs.pair.pair_sum.Goals as goal

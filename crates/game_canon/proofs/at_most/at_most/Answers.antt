@@ -1,5 +1,5 @@
 use Rattle.game_canon.specs.inner.Games.{trees}
-use Rattle.game_canon.specs.Comparisons.{recalled}
+use Rattle.game_canon.specs.inner.Comparisons.{recalled}
 use Rattle.game_canon.proofs.Waiting.{asking_ask, asking_answer, work_answer}
 use Rattle.game_canon.proofs.at_most.at_most.Goals as goal
 

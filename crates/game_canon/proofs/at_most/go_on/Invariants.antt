@@ -1,6 +1,6 @@
 use Rattle.std.proofs.Common.{ℕ, ◌<◌, ◌+◌, ◌-◌, length}
 use Rattle.game_canon.specs.inner.Games.{trees}
-use Rattle.game_canon.specs.Comparisons.{counter, IsCountered}
+use Rattle.game_canon.specs.inner.Comparisons.{counter, IsCountered}
 use Rattle.game_canon.proofs.at_most.go_on.Given as goal
 
 abbrev pub invariant-counters : goal.invariant-counters

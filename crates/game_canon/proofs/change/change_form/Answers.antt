@@ -3,7 +3,7 @@ use Rattle.std.proofs.lemmas.Result.{err_from_is_err_and}
 use Rattle.indexmap.specs.IndexMap.{get}
 use Rattle.short_games.specs.Tree.{tree_at}
 use Rattle.game_canon.specs.Reachable.{AreReachable}
-use Rattle.game_canon.specs.Changes.{IsRefused}
+use Rattle.game_canon.specs.inner.Changes.{IsRefused}
 use Rattle.game_canon.proofs.ChangeSteps.{passed-on, not-none, reachable-closed, root-noted, root-is, all-refused}
 use Rattle.game_canon.proofs.change.change_form.Goals as goal
 

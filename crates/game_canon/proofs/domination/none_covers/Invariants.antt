@@ -1,6 +1,6 @@
 use Rattle.std.proofs.Common.{ℕ, ◌<◌, get_or}
 use Rattle.short_games.specs.Tree.{tree_at}
-use Rattle.game_canon.specs.Comparisons.{recalled}
+use Rattle.game_canon.specs.inner.Comparisons.{recalled}
 use Rattle.game_canon.specs.inner.Games.{IsKnown}
 use Rattle.game_canon.specs.inner.Sides.{Covers}
 use Rattle.game_canon.proofs.domination.none_covers.Given as goal

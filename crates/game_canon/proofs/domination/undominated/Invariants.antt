@@ -1,5 +1,5 @@
 use Rattle.std.proofs.Common.{take}
-use Rattle.game_canon.specs.Comparisons.{recalled}
+use Rattle.game_canon.specs.inner.Comparisons.{recalled}
 use Rattle.game_canon.specs.inner.Games.{IsKnown}
 use Rattle.game_canon.specs.inner.Sides.{AreBest}
 use Rattle.game_canon.proofs.domination.undominated.Given as goal

@@ -2,7 +2,7 @@ use Rattle.std.proofs.Common.{List, ℕ, sym, subst}
 use Rattle.std.proofs.lemmas.List.{take_more}
 use Rattle.short_games.specs.Tree.{Has}
 use Rattle.game_store.specs.Meaning.{pick}
-use Rattle.game_canon.specs.Followers.{IsGrown}
+use Rattle.game_canon.specs.inner.Followers.{IsGrown}
 use Rattle.game_canon.proofs.PartLaws.{grown-start, grown-skip, grown-insert}
 use Rattle.game_canon.proofs.followers.add_parts.Goals as goal
 

@@ -2,7 +2,7 @@ use Rattle.std.proofs.Common.{◌≡◌, ◌<◌, ◌≤◌, List, ℕ, length, 
 use Rattle.std.proofs.lemmas.List.{nil_from_length}
 use Rattle.short_games.specs.Tree.{Has}
 use Rattle.game_store.specs.Meaning.{pick, listed}
-use Rattle.game_canon.specs.Followers.{IsGrown}
+use Rattle.game_canon.specs.inner.Followers.{IsGrown}
 use Rattle.game_canon.proofs.PartLaws.{follow-start, follow-step, follow-end, follow-over, ids-few}
 use Rattle.game_canon.proofs.followers.count_parts.Goals as goal
 

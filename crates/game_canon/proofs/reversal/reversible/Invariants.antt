@@ -1,7 +1,7 @@
 use Rattle.std.proofs.Common.{ℕ, ◌<◌, ◌⊎◌, get_or}
 use Rattle.short_games.specs.Number.{IsNumberTree}
 use Rattle.short_games.specs.Tree.{tree_at}
-use Rattle.game_canon.specs.Comparisons.{recalled}
+use Rattle.game_canon.specs.inner.Comparisons.{recalled}
 use Rattle.game_canon.specs.inner.Games.{beside, IsKnown}
 use Rattle.game_canon.specs.inner.Sides.{IsKept}
 use Rattle.game_canon.proofs.reversal.reversible.Given as goal

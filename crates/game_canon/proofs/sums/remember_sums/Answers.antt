@@ -1,4 +1,4 @@
-use Rattle.game_canon.specs.SumComparisons.{recalled_sums}
+use Rattle.game_canon.specs.inner.SumComparisons.{recalled_sums}
 use Rattle.game_canon.proofs.SumWaiting.{right_more}
 use Rattle.game_canon.proofs.sums.remember_sums.Goals as goal
 

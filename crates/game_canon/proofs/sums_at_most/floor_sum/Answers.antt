@@ -1,5 +1,4 @@
-use Rattle.game_canon.proofs.SumBounds.{floors-held}
 use Rattle.game_canon.proofs.sums_at_most.floor_sum.Goals as goal
 
 pub returns : goal.returns
-returns c = (c.floor.result, c.floor-2.result, c.floor.ensures.floor, c.floor-2.ensures.floor, floors-held c.floor.result c.floor-2.result c.floor.ensures.range c.floor-2.ensures.range)
+returns c = (c.floor.result, c.floor-2.result, c.floor.ensures.floor, c.floor-2.ensures.floor, c.plus.ensures)

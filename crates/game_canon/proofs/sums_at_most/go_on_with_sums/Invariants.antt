@@ -1,5 +1,5 @@
 use Rattle.std.proofs.Common.{◌≡◌, ◌-◌}
-use Rattle.game_canon.specs.SumComparisons.{rank, HasResisted}
+use Rattle.game_canon.specs.inner.SumComparisons.{rank, HasResisted}
 use Rattle.game_canon.proofs.sums_at_most.go_on_with_sums.Given as goal
 
 abbrev pub invariant-places : goal.invariant-places

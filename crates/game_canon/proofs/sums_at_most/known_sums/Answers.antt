@@ -1,5 +1,5 @@
 use Rattle.std.proofs.Common.{refl}
-use Rattle.game_canon.specs.SumComparisons.{recalled_sums}
+use Rattle.game_canon.specs.inner.SumComparisons.{recalled_sums}
 use Rattle.game_canon.proofs.SumBounds.{same-within}
 use Rattle.game_canon.proofs.SumWaiting.{right_tells}
 use Rattle.game_canon.proofs.sums_at_most.known_sums.Goals as goal

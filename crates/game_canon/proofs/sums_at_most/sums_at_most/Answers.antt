@@ -1,4 +1,4 @@
-use Rattle.game_canon.specs.SumComparisons.{recalled_sums}
+use Rattle.game_canon.specs.inner.SumComparisons.{recalled_sums}
 use Rattle.game_canon.proofs.SumWaiting.{sums_ask, sums_answer, sums_smaller}
 use Rattle.game_canon.proofs.sums_at_most.sums_at_most.Goals as goal
 

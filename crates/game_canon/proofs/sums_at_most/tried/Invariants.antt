@@ -1,5 +1,6 @@
 use Rattle.std.proofs.Common.{ℕ, ◌<◌, get_or}
-use Rattle.game_canon.specs.SumComparisons.{IsSumWithin, counter_by}
+use Rattle.game_canon.specs.SumComparisons.{IsSumWithin}
+use Rattle.game_canon.specs.inner.SumComparisons.{counter_by}
 use Rattle.game_canon.proofs.sums_at_most.tried.Given as goal
 
 abbrev pub invariant-options : goal.invariant-options

@@ -1,7 +1,5 @@
-use Rattle.std.proofs.Common.{arith}
-use Rattle.std.proofs.lemmas.Int.{ints}
 use Rattle.game_canon.proofs.ThresholdSteps.{greatest-step}
 use Rattle.game_canon.proofs.thresholds.greatest_floor.Goals as goal
 
 pub loop-id-preserved : goal.loop-id-preserved
-loop-id-preserved c = greatest-step c.args.store.now c.args.ids.now c.loop-id.id-index c.loop-id.greatest c.floor.result _ c.greater.result _ c.loop-id.invariant c.floor.ensures.floor c.floor.ensures.range (grind (arith, ints)) (grind (arith, ints)) c.greater.ensures.both c.greater.ensures.small c.floor.ensures.stop
+loop-id-preserved c = greatest-step c.args.store.now c.args.ids.now c.loop-id.id-index c.loop-id.greatest _ _ c.loop-id.invariant c.floor.ensures.floor c.floor.ensures.range c.greater.ensures.both c.greater.ensures.small c.floor.ensures.stop

@@ -1,7 +1,5 @@
-use Rattle.std.proofs.Common.{arith}
-use Rattle.std.proofs.lemmas.Int.{ints}
 use Rattle.game_canon.proofs.ThresholdSteps.{least-step}
 use Rattle.game_canon.proofs.thresholds.least_ceiling.Goals as goal
 
 pub loop-id-preserved : goal.loop-id-preserved
-loop-id-preserved c = least-step c.args.store.now c.args.ids.now c.loop-id.id-index c.loop-id.least c.ceiling.result _ c.lesser.result _ c.loop-id.invariant c.ceiling.ensures.ceiling c.ceiling.ensures.range (grind (arith, ints)) (grind (arith, ints)) c.lesser.ensures.both c.lesser.ensures.small c.ceiling.ensures.stop
+loop-id-preserved c = least-step c.args.store.now c.args.ids.now c.loop-id.id-index c.loop-id.least _ _ c.loop-id.invariant c.ceiling.ensures.ceiling c.ceiling.ensures.range c.lesser.ensures.both c.lesser.ensures.small c.ceiling.ensures.stop

@@ -1,11 +1,9 @@
-use Rattle.std.proofs.Common.{to_z, of_z, ◌<◌, ◌≡◌, length, arith, sym, ◌∙◌, ap, subst}
-use Rattle.std.specs.Int.{w128}
-use Rattle.std.proofs.lemmas.Int.{ints}
+use Rattle.std.proofs.Common.{◌<◌, ◌≡◌, length, sym, ◌∙◌, ap, subst}
 use Rattle.short_games.specs.TextOrder.{IsCanonicalTree}
-use Rattle.game_store.specs.Meaning.{values}
+use Rattle.game_store.specs.inner.Meaning.{values}
 use Rattle.short_games.specs.Tree.{tree_at}
-use Rattle.game_store.specs.Chain.{entries_of}
-use Rattle.game_store.specs.Places.{IsPlaced, floor_at, ceiling_at}
+use Rattle.game_store.specs.inner.Chain.{entries_of}
+use Rattle.game_store.specs.inner.Places.{IsPlaced, floor_at, ceiling_at}
 use Rattle.game_store.proofs.Interned.{in_range}
 use Rattle.short_games.proofs.StopLaws.{goes_with-left}
 use Rattle.game_store.proofs.Store.ceiling.Goals as goal
@@ -16,15 +14,12 @@ below c = in_range c.self.inside.pool.lists c.self.inside.slots.items c.args.id 
 pub read_ceiling-requires : goal.read_ceiling-requires
 read_ceiling-requires c = rw c.deref.ensures.value (below c)
 
-back : (c : goal.After-read_ceiling) → c.read_ceiling.result ≡ to_z w128 (of_z w128 c.read_ceiling.result)
-back c = grind (arith, ints)
-
-placed : (c : goal.After-read_ceiling) → IsPlaced (tree_at c.args.self.now c.args.id) (floor_at c.self.inside.slots.items c.args.id) (to_z w128 (of_z w128 c.read_ceiling.result))
+placed : (c : goal.After-read_ceiling) → IsPlaced (tree_at c.args.self.now c.args.id) (floor_at c.self.inside.slots.items c.args.id) c.read_ceiling.result
 placed c =
     let p = c.self.invariant.2 c.args.id (below c.before) in
     let e : ceiling_at c.self.inside.slots.items c.args.id ≡ c.read_ceiling.result = sym (c.read_ceiling.ensures ∙ ap (λ slots. ceiling_at slots c.args.id) c.deref.ensures.value) in
-    subst (λ us. IsPlaced (tree_at us c.args.id) (floor_at c.self.inside.slots.items c.args.id) (to_z w128 (of_z w128 c.read_ceiling.result))) c.self.view_is
-    (subst (λ x. IsPlaced (tree_at (values c.self.inside.pool.lists (entries_of c.self.inside.slots.items)) c.args.id) (floor_at c.self.inside.slots.items c.args.id) x) (e ∙ back c) p)
+    subst (λ us. IsPlaced (tree_at us c.args.id) (floor_at c.self.inside.slots.items c.args.id) c.read_ceiling.result) c.self.view_is
+    (subst (λ x. IsPlaced (tree_at (values c.self.inside.pool.lists (entries_of c.self.inside.slots.items)) c.args.id) (floor_at c.self.inside.slots.items c.args.id) x) e p)
 
 pub returns-clause-ceiling : goal.returns-clause-ceiling
 returns-clause-ceiling c = (placed c).ceiling_is

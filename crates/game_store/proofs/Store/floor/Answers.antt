@@ -1,11 +1,9 @@
-use Rattle.std.proofs.Common.{to_z, of_z, ◌<◌, ◌≡◌, length, arith, sym, ◌∙◌, ap, subst}
-use Rattle.std.specs.Int.{w128}
-use Rattle.std.proofs.lemmas.Int.{ints}
+use Rattle.std.proofs.Common.{◌<◌, ◌≡◌, length, sym, ◌∙◌, ap, subst}
 use Rattle.short_games.specs.TextOrder.{IsCanonicalTree}
-use Rattle.game_store.specs.Meaning.{values}
+use Rattle.game_store.specs.inner.Meaning.{values}
 use Rattle.short_games.specs.Tree.{tree_at}
-use Rattle.game_store.specs.Chain.{entries_of}
-use Rattle.game_store.specs.Places.{IsPlaced, floor_at, ceiling_at}
+use Rattle.game_store.specs.inner.Chain.{entries_of}
+use Rattle.game_store.specs.inner.Places.{IsPlaced, floor_at, ceiling_at}
 use Rattle.game_store.proofs.Interned.{in_range}
 use Rattle.short_games.proofs.StopLaws.{goes_with-right}
 use Rattle.game_store.proofs.Store.floor.Goals as goal
@@ -16,15 +14,12 @@ below c = in_range c.self.inside.pool.lists c.self.inside.slots.items c.args.id 
 pub read_floor-requires : goal.read_floor-requires
 read_floor-requires c = rw c.deref.ensures.value (below c)
 
-back : (c : goal.After-read_floor) → c.read_floor.result ≡ to_z w128 (of_z w128 c.read_floor.result)
-back c = grind (arith, ints)
-
-placed : (c : goal.After-read_floor) → IsPlaced (tree_at c.args.self.now c.args.id) (to_z w128 (of_z w128 c.read_floor.result)) (ceiling_at c.self.inside.slots.items c.args.id)
+placed : (c : goal.After-read_floor) → IsPlaced (tree_at c.args.self.now c.args.id) c.read_floor.result (ceiling_at c.self.inside.slots.items c.args.id)
 placed c =
     let p = c.self.invariant.2 c.args.id (below c.before) in
     let e : floor_at c.self.inside.slots.items c.args.id ≡ c.read_floor.result = sym (c.read_floor.ensures ∙ ap (λ slots. floor_at slots c.args.id) c.deref.ensures.value) in
-    subst (λ us. IsPlaced (tree_at us c.args.id) (to_z w128 (of_z w128 c.read_floor.result)) (ceiling_at c.self.inside.slots.items c.args.id)) c.self.view_is
-    (subst (λ x. IsPlaced (tree_at (values c.self.inside.pool.lists (entries_of c.self.inside.slots.items)) c.args.id) x (ceiling_at c.self.inside.slots.items c.args.id)) (e ∙ back c) p)
+    subst (λ us. IsPlaced (tree_at us c.args.id) c.read_floor.result (ceiling_at c.self.inside.slots.items c.args.id)) c.self.view_is
+    (subst (λ x. IsPlaced (tree_at (values c.self.inside.pool.lists (entries_of c.self.inside.slots.items)) c.args.id) x (ceiling_at c.self.inside.slots.items c.args.id)) e p)
 
 pub returns-clause-floor : goal.returns-clause-floor
 returns-clause-floor c = (placed c).floor_is

@@ -1,12 +1,13 @@
 use Rattle.std.proofs.Common.{rules, refl, ◌≡◌, ◌<◌, length, [], ◌∷◌, ◌++◌, arith, ◌∙◌, ap, ap₂, nat_eq, cond, Some, ℕ, List}
 use Rattle.std.specs.HashMap.{get}
 use Rattle.std.specs.Map.{lookup}
-use Rattle.game_store.specs.Meaning.{form, entry_at, held}
+use Rattle.game_store.specs.Meaning.{form}
+use Rattle.game_store.specs.inner.Meaning.{entry_at, held}
 use Rattle.game_store.specs.Meaning.Wanted.{options}
-use Rattle.game_store.specs.Chain.{entries_of}
+use Rattle.game_store.specs.inner.Chain.{entries_of}
 use Rattle.game_store.proofs.Values.{held-from, length-values, extends-push, last-value, MayKeep}
 use Rattle.game_store.proofs.Chains.{length-entries}
-use Rattle.game_store.proofs.FormSteps.{below-fits, above-fits}
+use Rattle.game_store.proofs.FormSteps.{below-reach, above-reach}
 use Rattle.game_store.proofs.Interned.{ids-below, ceiling-small, floor-small, options-placed, slot-behind, Holds, holds-options}
 use Rattle.game_store.proofs.Store.intern.Goals as goal
 
@@ -32,7 +33,7 @@ one_list c = c.push_reserved-place.ensures.lists ∙ ap₂ (λ (lists : List (Li
 full : (c : goal.After-drop-options-2) → Holds (c.args.self.now ++ form c.args.self.now c.args.left.now c.args.right.now ∷ []) c.push_reserved-place.new.self.lists c.push_reserved.new.self.items (get nat_eq c.insert.new.self)
 full c = holds-options c.args.self.now c.self.inside.pool.lists _ c.self.inside.slots.items _ (get nat_eq c.self.inside.latest) (get nat_eq c.insert.new.self) c.args.left.now c.args.right.now c.push_reserved-place.result (length c.args.left.now) _
     (record { all = c.self.invariant; values_are = c.self.view_is }) (may c)
-    (options-placed _ c.self.inside.pool.lists _ (get nat_eq c.self.inside.latest) (record { all = c.self.invariant; values_are = c.self.view_is }) c.deref-2.result.now c.deref-2.ensures.value _ _ c.least_ceiling-floor.result c.greatest_floor-ceiling.result (may c) c.least_ceiling-floor.ensures (rw (c.deref-3.ensures.value, ← c.deref-2.ensures.value) at c.greatest_floor-ceiling.ensures))
+    (options-placed _ c.self.inside.pool.lists _ (get nat_eq c.self.inside.latest) (record { all = c.self.invariant; values_are = c.self.view_is }) c.deref-2.result.now c.deref-2.ensures.value _ _ c.least_ceiling.result c.greatest_floor.result (may c) c.least_ceiling.ensures (rw (c.deref-3.ensures.value, ← c.deref-2.ensures.value) at c.greatest_floor.ensures) _ _ c.just_below-floor.ensures c.just_above-ceiling.ensures)
     (rw c.deref.ensures.value at c.in_default.ensures.absent)
     (one_list c) refl (c.push_reserved-place.ensures.place ∙ ap (λ (lists : List (List ℕ)). length lists) c.in_ok-reserve-3.ensures.lists) refl
     (slot-behind _ _ _ _ c.push_reserved.ensures.items c.in_ok-reserve-2.ensures.items)
@@ -50,14 +51,14 @@ returns-clause-value c =
 pub returns-clause-kept : goal.returns-clause-kept
 returns-clause-kept c = extends-push _ _ _ (full c).values_are
 
-pub least_ceiling-floor-requires-clause-ids : goal.least_ceiling-floor-requires-clause-ids
-least_ceiling-floor-requires-clause-ids c = ids-below _ c.self.inside.pool.lists _ (get nat_eq c.self.inside.latest) (record { all = c.self.invariant; values_are = c.self.view_is }) _ c.deref-2.ensures.value _ c.requires.right_ids
+pub least_ceiling-requires-clause-ids : goal.least_ceiling-requires-clause-ids
+least_ceiling-requires-clause-ids c = ids-below _ c.self.inside.pool.lists _ (get nat_eq c.self.inside.latest) (record { all = c.self.invariant; values_are = c.self.view_is }) _ c.deref-2.ensures.value _ c.requires.right_ids
 
-pub greatest_floor-ceiling-requires-clause-ids : goal.greatest_floor-ceiling-requires-clause-ids
-greatest_floor-ceiling-requires-clause-ids c = ids-below _ c.self.inside.pool.lists _ (get nat_eq c.self.inside.latest) (record { all = c.self.invariant; values_are = c.self.view_is }) _ c.deref-3.ensures.value _ c.requires.left_ids
+pub greatest_floor-requires-clause-ids : goal.greatest_floor-requires-clause-ids
+greatest_floor-requires-clause-ids c = ids-below _ c.self.inside.pool.lists _ (get nat_eq c.self.inside.latest) (record { all = c.self.invariant; values_are = c.self.view_is }) _ c.deref-3.ensures.value _ c.requires.left_ids
 
-pub overflow_sub-floor : goal.overflow_sub-floor
-overflow_sub-floor c = below-fits _ (ceiling-small _ c.self.inside.pool.lists _ (get nat_eq c.self.inside.latest) (record { all = c.self.invariant; values_are = c.self.view_is }) _ c.deref-2.ensures.value _ _ c.requires.right_ids c.least_ceiling-floor.ensures)
+pub just_below-floor-requires : goal.just_below-floor-requires
+just_below-floor-requires c = below-reach _ (ceiling-small _ c.self.inside.pool.lists _ (get nat_eq c.self.inside.latest) (record { all = c.self.invariant; values_are = c.self.view_is }) _ c.deref-2.ensures.value _ _ c.requires.right_ids c.least_ceiling.ensures)
 
-pub overflow_add-ceiling : goal.overflow_add-ceiling
-overflow_add-ceiling c = above-fits _ (floor-small _ c.self.inside.pool.lists _ (get nat_eq c.self.inside.latest) (record { all = c.self.invariant; values_are = c.self.view_is }) _ c.deref-3.ensures.value _ _ c.requires.left_ids c.greatest_floor-ceiling.ensures)
+pub just_above-ceiling-requires : goal.just_above-ceiling-requires
+just_above-ceiling-requires c = above-reach _ (floor-small _ c.self.inside.pool.lists _ (get nat_eq c.self.inside.latest) (record { all = c.self.invariant; values_are = c.self.view_is }) _ c.deref-3.ensures.value _ _ c.requires.left_ids c.greatest_floor.ensures)

@@ -1,5 +1,5 @@
 use Rattle.std.proofs.Common.{sym, ◌∙◌, ◌≡◌, length, rules}
-use Rattle.game_store.specs.Chain.{entries_of}
+use Rattle.game_store.specs.inner.Chain.{entries_of}
 use Rattle.game_store.proofs.Values.{length-values}
 use Rattle.game_store.proofs.Chains.{length-entries}
 use Rattle.game_store.proofs.BoundLaws.{have-forms}

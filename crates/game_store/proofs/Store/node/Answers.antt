@@ -1,6 +1,6 @@
 use Rattle.std.proofs.Common.{◌<◌, ◌≡◌, length, arith, ◌∙◌, ap}
-use Rattle.game_store.specs.Meaning.{values, held}
-use Rattle.game_store.specs.Chain.{entries_of, slot_at}
+use Rattle.game_store.specs.inner.Meaning.{values, held}
+use Rattle.game_store.specs.inner.Chain.{entries_of, slot_at}
 use Rattle.game_store.specs.Forms.{wanted}
 use Rattle.game_store.proofs.Values.{length-values}
 use Rattle.game_store.proofs.Chains.{length-entries, entry-at}

@@ -2,12 +2,11 @@ use Rattle.std.proofs.Common.{rules, ◌≡◌, ◌<◌, length, [], ◌∷◌, 
 use Rattle.std.specs.HashMap.{get}
 use Rattle.std.specs.Map.{lookup}
 use Rattle.short_games.specs.Number.{number_tree}
-use Rattle.game_store.specs.Meaning.{entry_at, held}
+use Rattle.game_store.specs.inner.Meaning.{entry_at, held}
 use Rattle.game_store.specs.Meaning.Wanted.{number}
-use Rattle.game_store.specs.Chain.{entries_of}
+use Rattle.game_store.specs.inner.Chain.{entries_of}
 use Rattle.game_store.proofs.Values.{held-from, length-values, extends-push, last-value}
 use Rattle.game_store.proofs.Chains.{length-entries}
-use Rattle.std.proofs.lemmas.Int.{ints}
 use Rattle.game_store.proofs.FormSteps.{number-placed}
 use Rattle.game_store.proofs.Interned.{Holds, holds-map, holds-new, may-number}
 use Rattle.game_store.proofs.Store.number.Goals as goal
@@ -27,7 +26,7 @@ last_id c = search rules
 
 full : (c : goal.In_ok-insert) → Holds (c.args.self.now ++ number_tree c.args.x ∷ []) c.self.inside.pool.lists c.push.new.self.items (get nat_eq c.insert.new.self)
 full c = holds-new c.args.self.now c.self.inside.pool.lists c.self.inside.slots.items _ (get nat_eq c.self.inside.latest) (get nat_eq c.insert.new.self) (number c.args.x) _
-    (record { all = c.self.invariant; values_are = c.self.view_is }) (may-number c.args.self.now c.args.x) (let b = c.units-half_parts.ensures.bounds in let u = c.units-half_parts.ensures.count in number-placed c.args.x _ b (grind (arith, ints))) tt refl
+    (record { all = c.self.invariant; values_are = c.self.view_is }) (may-number c.args.self.now c.args.x) (number-placed c.args.x _ c.at-at.ensures.bounds c.at-at.ensures.place) tt refl
     (rw c.deref.ensures.value at c.in_default.ensures.absent)
     c.in_ok-push.ensures.items
     (rw (← c.fingerprint_number-fingerprint.ensures) (c.copied-before.ensures ∙ c.get.ensures.value))

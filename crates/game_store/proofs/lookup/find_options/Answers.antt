@@ -1,9 +1,9 @@
 use Rattle.std.proofs.Common.{◌≡◌, ap, sym, ◌∙◌}
 use Rattle.std.proofs.lemmas.Bool.{false≢true}
-use Rattle.game_store.specs.Meaning.{entry_at, held}
+use Rattle.game_store.specs.inner.Meaning.{entry_at, held}
 use Rattle.game_store.specs.Meaning.Wanted.{options}
 use Rattle.game_store.specs.declared.Slot.{Slot}
-use Rattle.game_store.specs.Chain.{entries_of}
+use Rattle.game_store.specs.inner.Chain.{entries_of}
 use Rattle.game_store.proofs.Chains.{at-within, at-next, at-smaller, at-end, entry-at, within-at}
 use Rattle.game_store.proofs.lookup.find_options.Goals as goal
 

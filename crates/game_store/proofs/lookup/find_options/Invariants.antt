@@ -1,5 +1,5 @@
 use Rattle.game_store.specs.Meaning.Wanted.{options}
-use Rattle.game_store.specs.Chain.{IsAt, place}
+use Rattle.game_store.specs.inner.Chain.{IsAt, place}
 use Rattle.game_store.proofs.lookup.find_options.Given as goal
 
 abbrev pub invariant-loop-at : goal.invariant-loop-at

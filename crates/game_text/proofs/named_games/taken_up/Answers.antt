@@ -2,7 +2,7 @@ use Rattle.std.proofs.Common.{◌∙◌, ap₂, subst}
 use Rattle.std.specs.Prelude.{IfOk, IfErr}
 use Rattle.short_games.specs.Examples.{choice}
 use Rattle.game_text.specs.inner.Machine.{IsTaken}
-use Rattle.game_text.specs.Refusals.{IsFormRefusal}
+use Rattle.game_text.specs.inner.Refusals.{IsFormRefusal}
 use Rattle.game_text.proofs.named_games.taken_up.Goals as goal
 
 pub returns-clause-taken : goal.returns-clause-taken

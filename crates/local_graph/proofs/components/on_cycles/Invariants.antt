@@ -1,4 +1,4 @@
-use Rattle.local_graph.specs.Components.{IsUnderWay}
+use Rattle.local_graph.specs.inner.Components.{IsUnderWay}
 use Rattle.local_graph.proofs.components.on_cycles.Given as goal
 
 abbrev pub invariant-meeting : goal.invariant-meeting

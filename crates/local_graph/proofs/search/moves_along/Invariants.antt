@@ -1,6 +1,6 @@
 use Rattle.std.proofs.Common.{◌≡◌, map, take}
-use Rattle.local_graph.specs.Built.{move_of}
-use Rattle.local_graph.specs.Graph.{edge_at}
+use Rattle.local_graph.specs.inner.Built.{move_of}
+use Rattle.local_graph.specs.inner.Graph.{edge_at}
 use Rattle.local_graph.proofs.search.moves_along.Given as goal
 
 abbrev pub invariant-loop-frame : goal.invariant-loop-frame

@@ -1,5 +1,5 @@
 use Rattle.std.proofs.Common.{ℕ, ◌-◌, ◌<◌, ◌≢◌, length, get_or}
-use Rattle.local_graph.specs.Searching.{nodes_of}
+use Rattle.local_graph.specs.inner.Searching.{nodes_of}
 use Rattle.local_graph.proofs.search.place_on.Given as goal
 
 abbrev pub invariant-looking : goal.invariant-looking

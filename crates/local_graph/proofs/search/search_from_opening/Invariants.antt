@@ -1,4 +1,4 @@
-use Rattle.local_graph.specs.Searching.{Searching, work_left}
+use Rattle.local_graph.specs.inner.Searching.{Searching, work_left}
 use Rattle.local_graph.proofs.search.search_from_opening.Given as goal
 
 abbrev pub invariant-searching : goal.invariant-searching

@@ -11,27 +11,29 @@ flood-chain-requires c q h =
 
 pub judging-preserved : goal.judging-preserved
 judging-preserved c = record {
-  stones = λ q h. c.judging.invariant.stones q ((c.without-rest.ensures.rest q).0 h).0;
+  stones = λ q h. c.judging.invariant.stones q ((c.without-rest-in-Some.ensures.rest q).0 h).0;
   judging = λ touch cells d table placed. elim c.if-lasts.branch [
     | then-lasts w ↦
         rw w.lasting-is
-        (judging_lasts touch cells d c.args.stones c.args.beside c.args.empty c.judging.rest c.judging.lasting c.of.result c.without-rest.result
+        (judging_lasts touch cells d c.args.stones c.args.beside c.args.empty c.judging.rest c.judging.lasting c.of.result c.without-rest-in-Some.result
         c.in-Some.place c.flood-chain.result table.within placed (c.judging.invariant.judging touch cells d table placed)
-        (c.in-Some.ensures {u = tt}).1 c.of.ensures (c.flood-chain.ensures.reached touch table) c.without-rest.ensures.rest
+        (c.in-Some.ensures {u = tt}).1 c.of.ensures (c.flood-chain.ensures.reached touch table) c.without-rest-in-Some.ensures.rest
         w.union-lasting.result (c.lasts.ensures.0 w.if-lasts.true) w.union-lasting.ensures.either)
     | else-lasts w ↦
         rw w.lasting-is
-        (judging_not touch cells d c.args.stones c.args.beside c.args.empty c.judging.rest c.judging.lasting c.of.result c.without-rest.result
+        (judging_not touch cells d c.args.stones c.args.beside c.args.empty c.judging.rest c.judging.lasting c.of.result c.without-rest-in-Some.result
         c.in-Some.place c.flood-chain.result table.within placed (c.judging.invariant.judging touch cells d table placed)
-        (c.in-Some.ensures {u = tt}).1 c.of.ensures (c.flood-chain.ensures.reached touch table) c.without-rest.ensures.rest
+        (c.in-Some.ensures {u = tt}).1 c.of.ensures (c.flood-chain.ensures.reached touch table) c.without-rest-in-Some.ensures.rest
         (λ h. both_ways _ w.if-lasts.false (c.lasts.ensures.1 h)))
   ];
 }
 
 pub judging-init : goal.judging-init
 judging-init c = record {
-  stones = λ q h. h;
-  judging = λ touch cells d table placed. judging_start touch cells d c.args.stones c.args.beside c.args.empty c.none-lasting.result placed c.none-lasting.ensures;
+  stones = λ q h. ((c.without-rest.ensures.rest q).0 h).0;
+  judging = λ touch cells d table placed.
+      judging_start touch cells d c.args.stones c.args.beside c.args.empty c.without-rest.result c.intersection-lasting.result placed
+      c.intersection-lasting.ensures c.without-rest.ensures.rest;
 }
 
 pub returns : goal.returns

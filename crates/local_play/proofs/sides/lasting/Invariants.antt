@@ -4,7 +4,7 @@ use Rattle.go_grid.specs.declared.grid.Colour.{Colour}
 use Rattle.go_grid.specs.declared.region.Touch.{Touch}
 use Rattle.local_play.specs.Places.{Has}
 use Rattle.local_play.specs.Links.{IsTable}
-use Rattle.local_play.specs.Lasting.{IsPlaced}
+use Rattle.local_play.specs.inner.Lasting.{IsPlaced}
 use Rattle.local_play.proofs.JudgingLemmas.{Judging}
 use Rattle.local_play.proofs.sides.lasting.Given as goal
 

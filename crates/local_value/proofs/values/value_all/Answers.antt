@@ -1,4 +1,4 @@
-use Rattle.std.proofs.Common.{arith, refl}
+use Rattle.std.proofs.Common.{◌≡◌, arith, refl}
 use Rattle.std.proofs.lemmas.Result.{err_from_is_err_and}
 use Rattle.go_grid.specs.Region.{Region}
 use Rattle.game_canon.proofs.ChangeSteps.{passed-on}
@@ -41,20 +41,28 @@ returns-in_err-id-clause-refusal c = passed-on c.from_residual-in_err-id.result 
     c.order-place-items.ensures c.edges-edges.ensures c.deref.ensures.value c.valuing-test.true _ c.in_err-id.ensures.refusal)
 
 pub returns-clause-values : goal.returns-clause-values
-returns-clause-values c = λ r of. pass-values r c.args.graph.now of c.args.parts_limit c.valuing.store c.valuing.ids.items c.valuing.place-index (c.valuing.invariant.pass r of)
-    (call-done c.args.graph.now c.valuing.place-index c.order-place-items.result.now c.order-place-items.ensures c.valuing-test.false)
+returns-clause-values c =
+    let same : c.from.result ≡ c.valuing.ids.items = c.from.ensures in
+    rw same (λ r of. pass-values r c.args.graph.now of c.args.parts_limit c.valuing.store c.valuing.ids.items c.valuing.place-index (c.valuing.invariant.pass r of)
+    (call-done c.args.graph.now c.valuing.place-index c.order-place-items.result.now c.order-place-items.ensures c.valuing-test.false))
 
 pub returns-clause-sizes : goal.returns-clause-sizes
-returns-clause-sizes c = λ r of i lt. pass-sizes r c.args.graph.now of c.args.parts_limit c.valuing.store c.valuing.ids.items c.valuing.place-index (c.valuing.invariant.pass r of)
-    (call-done c.args.graph.now c.valuing.place-index c.order-place-items.result.now c.order-place-items.ensures c.valuing-test.false) i lt
-
-pub returns-clause-parts : goal.returns-clause-parts
-returns-clause-parts c = λ i lt. (let (r, of) = c.requires.graph in
-    pass-parts r c.args.graph.now of c.args.parts_limit c.valuing.store c.valuing.ids.items c.valuing.place-index (c.valuing.invariant.pass r of)
+returns-clause-sizes c =
+    let same : c.from.result ≡ c.valuing.ids.items = c.from.ensures in
+    rw same (λ r of i lt. pass-sizes r c.args.graph.now of c.args.parts_limit c.valuing.store c.valuing.ids.items c.valuing.place-index (c.valuing.invariant.pass r of)
     (call-done c.args.graph.now c.valuing.place-index c.order-place-items.result.now c.order-place-items.ensures c.valuing-test.false) i lt)
 
+pub returns-clause-parts : goal.returns-clause-parts
+returns-clause-parts c =
+    let same : c.from.result ≡ c.valuing.ids.items = c.from.ensures in
+    rw same (λ i lt. (let (r, of) = c.requires.graph in
+    pass-parts r c.args.graph.now of c.args.parts_limit c.valuing.store c.valuing.ids.items c.valuing.place-index (c.valuing.invariant.pass r of)
+    (call-done c.args.graph.now c.valuing.place-index c.order-place-items.result.now c.order-place-items.ensures c.valuing-test.false) i lt))
+
 pub returns-clause-bounds : goal.returns-clause-bounds
-returns-clause-bounds c = λ i lt. (let (r, of) = c.requires.graph in
+returns-clause-bounds c =
+    let same : c.from.result ≡ c.valuing.ids.items = c.from.ensures in
+    rw same (λ i lt. (let (r, of) = c.requires.graph in
     let values = pass-values r c.args.graph.now of c.args.parts_limit c.valuing.store c.valuing.ids.items c.valuing.place-index (c.valuing.invariant.pass r of)
     (call-done c.args.graph.now c.valuing.place-index c.order-place-items.result.now c.order-place-items.ensures c.valuing-test.false) in
-    within-bounds c.valuing.store c.len-count.ensures.forms _ (values.known i lt))
+    within-bounds c.valuing.store c.len-count.ensures.forms _ (values.known i lt)))

@@ -1,6 +1,6 @@
 use Rattle.std.specs.Prelude.{codes, decimal, ◌++◌}
 use Rattle.report.specs.Solution.{solved_line}
-use Rattle.report.specs.Lines.{point_name}
+use Rattle.go_grid.specs.Name.{point_name}
 use Rattle.report.proofs.TextLaws.{three_more}
 use Rattle.report.proofs.solution.write_region.Goals as goal
 

@@ -1,16 +1,17 @@
 use Rattle.std.proofs.Common.{◌≡◌, ◌∙◌, suc, refl, inl, inr, ap, string_bytes, subst, ◌++◌, Option, Some, None, MatchOption}
 use Rattle.go_grid.specs.declared.grid.Colour.{Colour}
 use Rattle.go_grid.specs.Board.{other}
-use Rattle.report.specs.Solution.{winner_line, move_line}
+use Rattle.report.specs.Solution.{move_line}
+use Rattle.board_words.specs.Words.{winner_line}
 use Rattle.whole_rules.specs.declared.states.Move.{Move}
 use Rattle.whole_rules.specs.FirstWinningMove.{IsFirstWinning, IsWinner}
 use Rattle.whole_rules.specs.PlainRecursion.{MoverLoses}
-use Rattle.whole_rules.specs.WholeGame.{State, Leads}
+use Rattle.whole_rules.specs.WholeGame.{Whole, Leads}
 use Rattle.report.proofs.solution.write_solution.Goals as goal
 
 -- the side to move wins where it has a winning move, and the other where it has none
-wins_with : (s : State) (winner : Colour) (m : Option Move) → MatchOption m (winner ≡ other s.side) (λ m. winner ≡ s.side)
-    → (m ≡ None → MoverLoses State Leads s) → IsFirstWinning s m → IsWinner s winner
+wins_with : (s : Whole) (winner : Colour) (m : Option Move) → MatchOption m (winner ≡ other s.side) (λ m. winner ≡ s.side)
+    → (m ≡ None → MoverLoses Whole Leads s) → IsFirstWinning s m → IsWinner s winner
 wins_with s winner None is loses first = inr (is, loses refl)
 wins_with s winner (Some m) is loses ((t, move, lost), least) = inl (is, (suc lost.0, (t, (m, move), lost.1)))
 

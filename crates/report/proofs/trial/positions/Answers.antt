@@ -1,5 +1,5 @@
 use Rattle.std.proofs.Common.{arith, subst, sym, take, ◌+◌, ◌<◌}
-use Rattle.report.specs.Trial.{AreTogether}
+use Rattle.report.specs.inner.Trial.{AreTogether}
 use Rattle.report.proofs.TrialLaws.{together_more}
 use Rattle.report.proofs.trial.positions.Goals as goal
 

@@ -1,5 +1,5 @@
 use Rattle.std.proofs.Common.{◌*◌, ◌≤◌, take}
-use Rattle.report.specs.Trial.{AreTogether}
+use Rattle.report.specs.inner.Trial.{AreTogether}
 use Rattle.report.proofs.trial.positions.Given as goal
 
 abbrev pub invariant-adding : goal.invariant-adding

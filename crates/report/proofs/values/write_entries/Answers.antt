@@ -1,7 +1,8 @@
 use Rattle.std.proofs.Common.{ap, ◌∙◌, ◌<◌, subst, sym, length}
 use Rattle.std.proofs.lemmas.Result.{err_from_is_err_and}
 use Rattle.short_games.specs.Tree.{tree_at}
-use Rattle.report.specs.Values.{HasEntry, IsUnshown}
+use Rattle.report.specs.Values.{IsUnshown}
+use Rattle.report.specs.inner.Values.{HasEntry}
 use Rattle.report.proofs.ValuesLaws.{entries_step, first_unshown, refusal_map}
 use Rattle.report.proofs.values.write_entries.Goals as goal
 

@@ -1,5 +1,5 @@
 use Rattle.std.proofs.Common.{take}
-use Rattle.report.specs.Values.{HasEntries}
+use Rattle.report.specs.inner.Values.{HasEntries}
 use Rattle.report.proofs.values.write_entries.Given as goal
 
 abbrev pub invariant-writing : goal.invariant-writing

@@ -1,4 +1,4 @@
-use Rattle.sgf_go.specs.Reading.{rectangle}
+use Rattle.sgf_go.specs.inner.Reading.{rectangle}
 use Rattle.sgf_go.specs.Setup.{IsSet}
 use Rattle.sgf_go.proofs.Areas.{Above}
 use Rattle.sgf_go.proofs.replay.set_area.Given as goal

@@ -1,4 +1,4 @@
-use Rattle.sgf_go.specs.Values.{LacksColon}
+use Rattle.sgf_go.specs.inner.Values.{LacksColon}
 use Rattle.sgf_go.proofs.setup.find_colon.Given as goal
 
 abbrev pub invariant-loop-at : goal.invariant-loop-at

@@ -1,5 +1,5 @@
 use Rattle.std.proofs.Common.{◌+◌, get_or, refl, sym, ◌∙◌}
-use Rattle.sgf_tree.specs.Machine.{state_of}
+use Rattle.sgf_tree.specs.inner.Machine.{state_of}
 use Rattle.sgf_tree.proofs.Verdicts.{verdict_bad, verdict_deep, verdict_done, verdict_more, verdict_end, depth_more}
 use Rattle.sgf_tree.proofs.reader.read_tree.Goals as goal
 

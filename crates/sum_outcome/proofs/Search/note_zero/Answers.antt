@@ -2,7 +2,8 @@ use Rattle.std.proofs.Common.{◌≡◌, arith, pos, sym, subst}
 use Rattle.std.proofs.lemmas.Int.{ints}
 use Rattle.game_store.specs.Meaning.{IsIdOf}
 use Rattle.short_games.specs.Number.{number_tree}
-use Rattle.sum_outcome.specs.Memo.{Fits, remembered}
+use Rattle.sum_outcome.specs.Memo.{Fits}
+use Rattle.sum_outcome.specs.inner.Memo.{remembered}
 use Rattle.sum_outcome.proofs.MemoLaws.{fits_grown}
 use Rattle.sum_outcome.proofs.Search.note_zero.Goals as goal
 

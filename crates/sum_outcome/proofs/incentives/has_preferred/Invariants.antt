@@ -1,5 +1,5 @@
 use Rattle.std.proofs.Common.{◌≡◌}
-use Rattle.sum_outcome.specs.Incentives.{IsKnownRight}
+use Rattle.sum_outcome.specs.inner.Incentives.{IsKnownRight}
 use Rattle.sum_outcome.proofs.incentives.has_preferred.Given as goal
 
 abbrev pub invariant-options : goal.invariant-options

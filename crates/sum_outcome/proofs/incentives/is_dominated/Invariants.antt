@@ -1,5 +1,5 @@
 use Rattle.std.proofs.Common.{◌≡◌}
-use Rattle.sum_outcome.specs.Incentives.{IsKnownRight}
+use Rattle.sum_outcome.specs.inner.Incentives.{IsKnownRight}
 use Rattle.sum_outcome.proofs.incentives.is_dominated.Given as goal
 
 abbrev pub invariant-rivals : goal.invariant-rivals

@@ -1,6 +1,6 @@
 use Rattle.std.proofs.Common.{◌∙◌, ◌≡◌, List, Bool, Option, Some, None, IfSome, subst}
 use Rattle.std.specs.List.{Contains}
-use Rattle.sum_outcome.specs.Memo.{IsAmong}
+use Rattle.sum_outcome.specs.inner.Memo.{IsAmong}
 use Rattle.sum_outcome.specs.declared.incentives.MovePair.{MovePair}
 use Rattle.sum_outcome.proofs.MemoLaws.{found, none_new, same_moves, same_moves-are}
 use Rattle.sum_outcome.proofs.incentives.recall_incentive.Goals as goal

@@ -1,5 +1,5 @@
 use Rattle.std.proofs.Common.{refl}
-use Rattle.sum_outcome.specs.Memo.{AreSame}
+use Rattle.sum_outcome.specs.inner.Memo.{AreSame}
 use Rattle.sum_outcome.proofs.MemoLaws.{put_kept, same_key, same_key-are}
 use Rattle.sum_outcome.proofs.memo.keep.Goals as goal
 

@@ -1,5 +1,5 @@
 use Rattle.std.proofs.Common.{◌∙◌}
-use Rattle.sum_outcome.specs.Memo.{AreSame}
+use Rattle.sum_outcome.specs.inner.Memo.{AreSame}
 use Rattle.sum_outcome.proofs.MemoLaws.{found, none_new, same_key, same_key-are}
 use Rattle.sum_outcome.proofs.memo.look_up.Goals as goal
 

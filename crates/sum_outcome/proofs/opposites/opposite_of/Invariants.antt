@@ -1,5 +1,5 @@
 use Rattle.std.proofs.Common.{◌≡◌}
-use Rattle.sum_outcome.specs.Incentives.{IsKnownRight}
+use Rattle.sum_outcome.specs.inner.Incentives.{IsKnownRight}
 use Rattle.sum_outcome.proofs.opposites.opposite_of.Given as goal
 
 abbrev pub invariant-others : goal.invariant-others

@@ -1,7 +1,7 @@
 use Rattle.std.proofs.Common.{arith, refl, inl, inr, ap, ◌∙◌, ◌≡◌, ◌<◌, ℕ, List, get_or, set, below_more}
 use Rattle.std.proofs.lemmas.Bool.{false≢true, both_ways, OnFalse_at}
 use Rattle.sum_outcome.specs.Sums.{sum_tree}
-use Rattle.sum_outcome.specs.Incentives.{IsSettled}
+use Rattle.sum_outcome.specs.inner.Incentives.{IsSettled}
 use Rattle.sum_outcome.proofs.Domination.{OptionIsSettled, options_settled, repeated_settled, all_fail}
 use Rattle.sum_outcome.proofs.MemoLaws.{from_key, to_key, stays_on, incentives_changed}
 use Rattle.sum_outcome.proofs.OppositeLaws.{falls_without, ids_without, bounded_without, restored_both, answer_without}

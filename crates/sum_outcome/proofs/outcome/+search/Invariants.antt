@@ -1,6 +1,6 @@
 use Rattle.std.proofs.Common.{◌≡◌, ◌+◌, ◌*◌, ◌<◌, ℕ, get_or, sum}
-use Rattle.sum_outcome.specs.Memo.{StaysRight}
-use Rattle.sum_outcome.specs.Incentives.{IsSettled}
+use Rattle.sum_outcome.specs.inner.Memo.{StaysRight}
+use Rattle.sum_outcome.specs.inner.Incentives.{IsSettled}
 use Rattle.sum_outcome.proofs.Domination.{OptionIsSettled}
 use Rattle.sum_outcome.proofs.outcome.+search.Given as goal
 

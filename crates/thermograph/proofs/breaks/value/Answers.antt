@@ -1,7 +1,8 @@
 use Rattle.std.proofs.Common.{rules, arith, sym, ◌∙◌, subst, ◌≡◌, ◌+◌, ◌-◌, length, to_z, of_z, get_or}
 use Rattle.std.specs.Int.{w128}
 use Rattle.std.proofs.lemmas.Int.{ints}
-use Rattle.thermograph.specs.Breaks.{wall_at, toward, IsInRange}
+use Rattle.thermograph.specs.Breaks.{wall_at, toward}
+use Rattle.thermograph.specs.inner.Breaks.{IsInRange}
 use Rattle.thermograph.proofs.BreakLists.{wall-none, wall-go_on, wall-last, wall-toward, no_break}
 use Rattle.thermograph.proofs.breaks.value.Goals as goal
 use Rattle.thermograph.proofs.breaks.value.Goals.{then-loop-i-test+else-breaks-i, else-loop-i-test, Else-i-breaks}

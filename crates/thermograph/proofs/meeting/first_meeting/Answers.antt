@@ -1,7 +1,7 @@
 use Rattle.std.proofs.Common.{◌≤ℤ◌, arith, inl, inr, sym, ◌∙◌, subst}
 use Rattle.std.proofs.lemmas.Int.{by_lt_z}
 use Rattle.std.proofs.lemmas.Bool.{false≢true}
-use Rattle.thermograph.specs.Scaffolds.{line}
+use Rattle.thermograph.specs.inner.Scaffolds.{line}
 use Rattle.short_games.proofs.WallLines.{below-or_at}
 use Rattle.thermograph.proofs.Crossings.{last-met, apart-before, apart-crossing, straight-short}
 use Rattle.thermograph.proofs.meeting.first_meeting.Goals as goal

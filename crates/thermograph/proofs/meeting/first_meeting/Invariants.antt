@@ -1,5 +1,5 @@
 use Rattle.std.proofs.Common.{◌-◌, ◌^◌, ◌<◌}
-use Rattle.thermograph.specs.Scaffolds.{line, AreApart}
+use Rattle.thermograph.specs.inner.Scaffolds.{line, AreApart}
 use Rattle.thermograph.proofs.meeting.first_meeting.Given as goal
 
 abbrev pub invariant-walking : goal.invariant-walking

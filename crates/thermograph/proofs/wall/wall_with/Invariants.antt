@@ -1,5 +1,5 @@
 use Rattle.std.proofs.Common.{◌≡◌, take}
-use Rattle.thermograph.specs.Thermographs.{points}
+use Rattle.thermograph.specs.inner.Thermographs.{points}
 use Rattle.thermograph.proofs.wall.wall_with.Given as goal
 
 abbrev pub invariant-loop-point : goal.invariant-loop-point

@@ -4,7 +4,7 @@ use Rattle.std.proofs.lemmas.Bool.{both_ways}
 use Rattle.std.proofs.lemmas.List.{get_or_default}
 use Rattle.whole_rules.specs.PlainRecursion.{LosesWithin}
 use Rattle.whole_rules.specs.PlainWinner.{IsOutcome}
-use Rattle.whole_rules.specs.WholeGame.{State, Leads, IsMove, ListsMoves}
+use Rattle.whole_rules.specs.WholeGame.{Whole, Leads, IsMove, ListsMoves}
 use Rattle.whole_rules.specs.declared.states.Move.TheVariants.{Half}
 use Rattle.whole_rules.proofs.PlainLaws.{none_lost, some_open, listed_legal, move_grows, outcome_mine, outcome_theirs, looked_wins, looked_open, looked_done}
 use Rattle.whole_rules.proofs.plain.+winner_within.Goals as goal
@@ -14,7 +14,7 @@ pub returns-then-is_empty : goal.returns-then-is_empty
 returns-then-is_empty t c =
     let z : c.args.depth ≡ 0 = omega (arith, c.if-depth-eq0.true) in
     let e : length c.in_ok-moves.moves.items ≡ 0 = grind (arith, c.is_empty.ensures, c.if-is_empty.true) in
-    inr (c.other.ensures ∙ ap other c.side-side.ensures, subst (λ n. LosesWithin State Leads n c.args.state.now) (sym z) (none_lost c.args.state.now c.in_ok-moves.moves.items e c.in_ok-moves.ensures))
+    inr (c.other.ensures ∙ ap other c.side-side.ensures, subst (λ n. LosesWithin Whole Leads n c.args.state.now) (sym z) (none_lost c.args.state.now c.in_ok-moves.moves.items e c.in_ok-moves.ensures))
 
 pub returns-then-depth-eq0 : goal.returns-then-depth-eq0
 returns-then-depth-eq0 t c =

@@ -4,7 +4,7 @@ use Rattle.go_grid.specs.declared.grid.Colour.{Colour}
 use Rattle.go_grid.specs.declared.grid.Colour.TheVariants.{Black, White}
 use Rattle.go_grid.specs.Board.{HasStone}
 use Rattle.benson_life.specs.Life.{IsAlive}
-use Rattle.benson_attack.specs.Attack.{Takes}
+use Rattle.benson_attack.specs.inner.Attack.{Takes}
 use Rattle.benson_attack.proofs.AttackLemmas.{not_alive}
 use Rattle.benson_attack.proofs.attacks.Attacks.on.Goals as goal
 

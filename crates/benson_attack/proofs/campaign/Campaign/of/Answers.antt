@@ -1,6 +1,6 @@
 use Rattle.std.proofs.Common.{refl, subst}
 use Rattle.std.specs.Prelude.{MatchOption}
-use Rattle.benson_attack.specs.Reached.{AllAlive, Follows}
+use Rattle.benson_attack.specs.inner.Reached.{AllAlive, Follows}
 use Rattle.benson_attack.proofs.CampaignLemmas.{begun, campaign_is, goes_on, more_runs, no_runs}
 use Rattle.benson_attack.proofs.campaign.Campaign.of.Goals as goal
 

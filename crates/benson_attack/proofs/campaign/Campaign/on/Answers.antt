@@ -1,5 +1,5 @@
 use Rattle.std.proofs.Common.{sym, subst}
-use Rattle.benson_attack.specs.Attack.{Takes}
+use Rattle.benson_attack.specs.inner.Attack.{Takes}
 use Rattle.benson_attack.proofs.CampaignLemmas.{capture_takes}
 use Rattle.benson_attack.proofs.campaign.Campaign.on.Goals as goal
 

@@ -1,5 +1,5 @@
 use Rattle.std.proofs.Common.{sym, subst}
-use Rattle.endgame_solver.specs.Held.{AreModest}
+use Rattle.endgame_solver.specs.inner.Held.{AreModest}
 use Rattle.endgame_solver.proofs.WinningLaws.{modest_now}
 use Rattle.endgame_solver.proofs.solved.Solved.balance.Goals as goal
 

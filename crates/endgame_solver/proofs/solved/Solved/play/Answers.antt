@@ -1,6 +1,6 @@
 use Rattle.std.proofs.Common.{◌≡◌, ◌<◌, ◌∙◌, refl, sym, ap, subst, length, get_or, set}
-use Rattle.endgame_solver.specs.Held.{IsKept, ids_at}
-use Rattle.endgame_solver.specs.Views.{ShowsAll, ShowsPlaces}
+use Rattle.endgame_solver.specs.inner.Held.{IsKept, ids_at}
+use Rattle.endgame_solver.specs.inner.Views.{ShowsAll, ShowsPlaces}
 use Rattle.endgame_solver.proofs.ViewLaws.{asks_values, asks_view, held_as, ids_seen, shows_places}
 use Rattle.endgame_solver.proofs.WinningLaws.{asks_stone}
 use Rattle.endgame_solver.proofs.KeptLaws.{edge_seen, none_seen, few_black, few_white, kept_stone, some_edge, kept_applied}

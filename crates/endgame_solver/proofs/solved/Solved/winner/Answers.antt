@@ -4,7 +4,7 @@ use Rattle.whole_rules.specs.FirstWinningMove.{IsWinner}
 use Rattle.game_store.specs.Meaning.{pick}
 use Rattle.sum_outcome.specs.Players.{LosesGame}
 use Rattle.sum_outcome.specs.Sums.{IsBounded, sum_tree}
-use Rattle.endgame_solver.specs.Held.{AreModest}
+use Rattle.endgame_solver.specs.inner.Held.{AreModest}
 use Rattle.endgame_solver.specs.Solved.{ArePresent, balance_units}
 use Rattle.endgame_solver.proofs.WinningLaws.{differ, modest_now, fits_now}
 use Rattle.endgame_solver.proofs.WinnerLaws.{by_search, other_wins, side_wins, winner_by_sum, side_by_sum}

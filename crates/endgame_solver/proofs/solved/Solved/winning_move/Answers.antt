@@ -1,7 +1,7 @@
 use Rattle.std.proofs.Common.{◌≡◌, ◌↔◌, subst, None}
 use Rattle.whole_rules.specs.FirstWinningMove.{IsFirstWinning}
 use Rattle.whole_rules.specs.PlainRecursion.{MoverLoses}
-use Rattle.whole_rules.specs.WholeGame.{State, Leads}
+use Rattle.whole_rules.specs.WholeGame.{Whole, Leads}
 use Rattle.endgame_solver.proofs.ViewLaws.{held_lent}
 use Rattle.endgame_solver.proofs.WinnerLaws.{none_loses}
 use Rattle.endgame_solver.proofs.solved.Solved.winning_move.Goals as goal
@@ -9,7 +9,7 @@ use Rattle.endgame_solver.proofs.solved.Solved.winning_move.Goals as goal
 pub returns-clause-none : goal.returns-clause-none
 returns-clause-none c =
     let i = c.self.inside in
-    subst (λ v. (c.first_winning_move.result ≡ None) ↔ MoverLoses State Leads v.state) c.self.view_is
+    subst (λ v. (c.first_winning_move.result ≡ None) ↔ MoverLoses Whole Leads v.state) c.self.view_is
     (none_loses i.regions.items c.self.invariant.0.graphs c.self.invariant.0.values i.places.items i.sum.items i.store i.whole c.self.invariant.0.kept c.first_winning_move.result c.first_winning_move.ensures.first)
 
 pub returns-clause-first : goal.returns-clause-first

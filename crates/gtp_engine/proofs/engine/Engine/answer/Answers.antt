@@ -1,5 +1,5 @@
 use Rattle.std.proofs.Common.{length, map, sym, ap, ◌∙◌, subst}
-use Rattle.gtp_engine.specs.Viewed.{asked_of}
+use Rattle.gtp_engine.specs.inner.Viewed.{asked_of}
 use Rattle.gtp_engine.specs.Words.{AreWords, HasId}
 use Rattle.gtp_engine.proofs.Answering.{answered_words, some_words}
 use Rattle.gtp_engine.proofs.Ranges.{asks_in_range}

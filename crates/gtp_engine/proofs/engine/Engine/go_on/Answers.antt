@@ -1,7 +1,7 @@
 use Rattle.std.proofs.Common.{sym, ap, ◌∙◌, Some}
 use Rattle.std.proofs.lemmas.Bool.{both_ways}
-use Rattle.gtp_engine.specs.Doing.{with_table}
-use Rattle.gtp_engine.specs.Kept.{state_in}
+use Rattle.gtp_engine.specs.inner.Doing.{with_table}
+use Rattle.gtp_engine.specs.inner.Kept.{state_in}
 use Rattle.gtp_engine.proofs.Doing.{turn_refused, turn_taken}
 use Rattle.gtp_engine.proofs.engine.Engine.go_on.Goals as goal
 

@@ -1,5 +1,5 @@
 use Rattle.std.proofs.Common.{sym, ap, ◌∙◌}
-use Rattle.gtp_engine.specs.Kept.{state_in}
+use Rattle.gtp_engine.specs.inner.Kept.{state_in}
 use Rattle.gtp_engine.proofs.engine.Engine.is_running.Goals as goal
 
 pub returns-in-Some-clause-running : goal.returns-in-Some-clause-running

@@ -1,6 +1,6 @@
 use Rattle.std.proofs.Common.{subst}
 use Rattle.desk_io.specs.Files.{told_file}
-use Rattle.gtp_engine.specs.Loading.{IsLoaded}
+use Rattle.gtp_engine.specs.inner.Loading.{IsLoaded}
 use Rattle.gtp_engine.proofs.Answering.{loaded_fits, loads_obeyed}
 use Rattle.gtp_engine.proofs.engine.Engine.load_file.Goals as goal
 

@@ -1,5 +1,5 @@
 use Rattle.std.proofs.Common.{ap}
-use Rattle.gtp_engine.specs.Viewed.{asked_of}
+use Rattle.gtp_engine.specs.inner.Viewed.{asked_of}
 use Rattle.gtp_engine.proofs.Answering.{met_misfit, met_unknown}
 use Rattle.gtp_engine.proofs.engine.Engine.meet.Goals as goal
 

@@ -1,6 +1,6 @@
 use Rattle.gtp_engine.proofs.Keeping.{loads_failed, loads_more}
 use Rattle.std.proofs.Common.{subst}
-use Rattle.gtp_engine.specs.Loading.{CanKeep}
+use Rattle.gtp_engine.specs.inner.Loading.{CanKeep}
 use Rattle.gtp_engine.proofs.engine.Engine.note.Goals as goal
 
 pub invariant_of-self : goal.invariant_of-self

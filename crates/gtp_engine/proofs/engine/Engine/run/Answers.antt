@@ -1,4 +1,5 @@
 use Rattle.std.proofs.Common.{◌+◌, ◌++◌, [], length, refl, sym, ap, ◌∙◌, subst, arith, le_refl, le_trans, Some, None}
+use Rattle.desk_io.specs.declared.lines.TheConstants.{MOST_LINES}
 use Rattle.desk_io.proofs.Used.{used_at, used_most, used_none, used_then}
 use Rattle.gtp_engine.proofs.Going.{going_end, going_line, going_over, going_start}
 use Rattle.gtp_engine.proofs.Numbering.{noted_below, noted_loads, noted_rose, unused_below, unused_loads, unused_rose}
@@ -65,7 +66,7 @@ returns-in-Some-clause-used g c =
     let left₀ = g.S.Source.left c.args.lines.now in let left = g.S.Source.left at.lines in let left' = g.S.Source.left c.take_line.new.lines in (
       held,
       c.take_line.ensures.few_held,
-      used_most 1024 (at._read + 1) 10000 [] held left₀ left' (omega (arith, c.session-test.true))
+      used_most 1024 (at._read + 1) MOST_LINES [] held left₀ left' (omega (arith, c.session-test.true))
           (used_then 1024 0 at._read (at._read + 1) [] at.reader held left₀ left left' at.invariant.9 (used_at 1024 at._read (at._read + 1) at.reader held left left' (omega arith) c.take_line.ensures.used)),
     )
 

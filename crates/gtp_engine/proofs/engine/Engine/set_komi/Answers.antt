@@ -1,6 +1,6 @@
 use Rattle.std.proofs.Common.{ap, to_z, of_z, w64}
 use Rattle.std.proofs.lemmas.Int.{to_z-of_z}
-use Rattle.gtp_engine.specs.Doing.{with_table}
+use Rattle.gtp_engine.specs.inner.Doing.{with_table}
 use Rattle.gtp_engine.proofs.Doing.{komi_refused, komi_taken}
 use Rattle.gtp_engine.proofs.engine.Engine.set_komi.Goals as goal
 

@@ -1,12 +1,12 @@
 use Rattle.std.proofs.Common.{ap, subst, Some}
-use Rattle.gtp_engine.specs.Doing.{with_table}
-use Rattle.gtp_engine.specs.Playing.{IsOpened}
+use Rattle.gtp_engine.specs.inner.Doing.{with_table}
+use Rattle.gtp_engine.specs.inner.Playing.{IsOpened}
 use Rattle.gtp_engine.proofs.Doing.{turn_first, turn_unsolved}
-use Rattle.gtp_engine.proofs.Keeping.{turned_fit}
+use Rattle.gtp_engine.proofs.Keeping.{with_side_fit}
 use Rattle.gtp_engine.proofs.engine.Engine.set_out.Goals as goal
 
 pub open-requires-clause-fit : goal.open-requires-clause-fit
-open-requires-clause-fit g c = turned_fit c.self.inside.setup c.in_ok-setup.setup c.args.colour c.in_ok-setup.ensures c.self.invariant.setup_fit
+open-requires-clause-fit g c = with_side_fit c.self.inside.setup c.in_ok-setup.setup c.args.colour c.in_ok-setup.ensures c.self.invariant.setup_fit
 
 pub returns-in_default-clause-taken : goal.returns-in_default-clause-taken
 returns-in_default-clause-taken g c =
@@ -17,7 +17,7 @@ returns-in_default-clause-taken g c =
 pub invariant_of-self : goal.invariant_of-self
 invariant_of-self g c = record {
   limits_fit = c.self.invariant.limits_fit;
-  setup_fit = turned_fit c.self.inside.setup c.in_ok-setup.setup c.args.colour c.in_ok-setup.ensures c.self.invariant.setup_fit;
+  setup_fit = with_side_fit c.self.inside.setup c.in_ok-setup.setup c.args.colour c.in_ok-setup.ensures c.self.invariant.setup_fit;
   numbered = c.self.invariant.numbered;
 }
 

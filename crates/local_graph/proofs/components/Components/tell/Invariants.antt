@@ -1,4 +1,4 @@
-use Rattle.local_graph.specs.Components.{IsUnderWay}
+use Rattle.local_graph.specs.inner.Components.{IsUnderWay}
 use Rattle.local_graph.proofs.components.Components.tell.Given as goal
 
 abbrev pub invariant-telling : goal.invariant-telling

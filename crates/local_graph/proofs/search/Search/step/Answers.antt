@@ -1,5 +1,5 @@
 use Rattle.std.proofs.Common.{◌∙◌, ◌-◌, length, take, arith, sym, ap, subst}
-use Rattle.local_graph.specs.Searching.{Searching}
+use Rattle.local_graph.specs.inner.Searching.{Searching}
 use Rattle.local_graph.proofs.SearchLemmas.{last_inside, said_place, ends_in}
 use Rattle.local_graph.proofs.search.Search.step.Goals as goal
 

@@ -1,5 +1,5 @@
 use Rattle.std.proofs.Common.{ℕ, ◌↔◌, subst}
-use Rattle.local_play.specs.Lasting.{AreEmpty}
+use Rattle.local_play.specs.inner.Lasting.{AreEmpty}
 use Rattle.local_play.specs.Places.{Has}
 use Rattle.local_play.proofs.JudgingLemmas.{empty_is}
 use Rattle.local_play.proofs.local_move.Turn.of.Goals as goal

@@ -3,7 +3,8 @@ use Rattle.play_session.specs.declared.fault.Fault.TheVariants.{Read}
 use Rattle.play_session.specs.declared.session.Request.TheVariants.{Ended, Line}
 use Rattle.desk_io.specs.Lines.{IsSameInput}
 use Rattle.play_session.specs.Session.{IsToAnswer}
-use Rattle.play_session.specs.Written.{SessionState, standing, TurnWritten, IsRequested, IsStep}
+use Rattle.play_session.specs.Written.{Session, standing}
+use Rattle.play_session.specs.inner.Written.{TurnWritten, IsRequested, MovesOrStays}
 use Rattle.play_session.proofs.Turns.{turn_unread, answer_written, answer_failed, input_ended}
 use Rattle.play_session.proofs.Wins.{answers_step}
 use Rattle.desk_io.proofs.Held.{input_same}
@@ -26,8 +27,8 @@ pub returns-in-Err-clause-written : goal.returns-in-Err-clause-written
 returns-in-Err-clause-written g c = λ bytes e.
     let i = c.self.inside in let before = g.K.Sink.holds c.args.out.now in
     let left = g.S.Source.left c.take_request.new.lines in let input = c.take_request.new.input in
-    let session : SessionState = record { state = i.solved.state; engine = i.engine; held = i.input } in
-    let new : SessionState = record { state = i.solved.state; engine = i.engine; held = input } in
+    let session : Session = record { state = i.solved.state; engine = i.engine; held = i.input } in
+    let new : Session = record { state = i.solved.state; engine = i.engine; held = input } in
     let turn : IsToAnswer session.engine session.state = subst (λ v. IsToAnswer v.engine v.state) (sym c.self.view_is) c.requires.turn in
     subst (λ v. TurnWritten v.engine (standing v c.args.read.now bytes) before before (Err Read) new c.args.read.now left) c.self.view_is
     (turn_unread session c.args.read.now bytes left before before input turn c.requires.few c.if-read-eq-MOST_LINES.false (subst (λ l. IsSameInput i.input l input left) e c.in-Err.ensures.same))
@@ -36,8 +37,8 @@ pub returns-in-Ok-Ended-clause-written : goal.returns-in-Ok-Ended-clause-written
 returns-in-Ok-Ended-clause-written g c = λ bytes e.
     let i = c.self.inside in let before = g.K.Sink.holds c.args.out.now in let now = g.K.Sink.holds c.end_input.new.out in
     let left = g.S.Source.left c.take_request.new.lines in let input = c.take_request.new.input in
-    let session : SessionState = record { state = i.solved.state; engine = i.engine; held = i.input } in
-    let new : SessionState = record { state = i.solved.state; engine = i.engine; held = input } in
+    let session : Session = record { state = i.solved.state; engine = i.engine; held = i.input } in
+    let new : Session = record { state = i.solved.state; engine = i.engine; held = input } in
     let board = c.board.ensures ∙ ap (λ x. x.board) c.whole.ensures in
     let asked : IsRequested session.state.board (session.held ++ bytes) Ended input left =
     subst (λ r. IsRequested session.state.board (session.held ++ bytes) r input left) c.in-Ok-Ended.field-0-is (subst (λ b. IsRequested b (session.held ++ bytes) c.in-Ok-Ended.field-0 input left) board (c.in-Ok-Ended.ensures.requested bytes e)) in
@@ -49,8 +50,8 @@ pub returns-in-Err-answer-clause-written : goal.returns-in-Err-answer-clause-wri
 returns-in-Err-answer-clause-written g c = λ bytes e.
     let i = c.self.inside in let before = g.K.Sink.holds c.args.out.now in let now = g.K.Sink.holds c.answer.new.out in
     let left = g.S.Source.left c.take_request.new.lines in let input = c.take_request.new.input in
-    let session : SessionState = record { state = i.solved.state; engine = i.engine; held = i.input } in
-    let new : SessionState = record { state = c.answer.new.solved.state; engine = i.engine; held = input } in
+    let session : Session = record { state = i.solved.state; engine = i.engine; held = i.input } in
+    let new : Session = record { state = c.answer.new.solved.state; engine = i.engine; held = input } in
     let board = c.board.ensures ∙ ap (λ x. x.board) c.whole.ensures in
     let request = Line c.in-Ok-Line.asked in
     let asked : IsRequested session.state.board (session.held ++ bytes) request input left =
@@ -62,15 +63,15 @@ returns-in-Err-answer-clause-written g c = λ bytes e.
 
 pub returns-in-Err-answer-clause-stepped : goal.returns-in-Err-answer-clause-stepped
 returns-in-Err-answer-clause-stepped g c =
-    subst (λ v. IsStep v.state c.answer.new.solved.state) c.self.view_is
+    subst (λ v. MovesOrStays v.state c.answer.new.solved.state) c.self.view_is
     (answers_step c.self.inside.solved.state c.answer.new.solved.state c.in-Ok-Line.asked c.answer.ensures.answered.0 c.answer.ensures.answered.1)
 
 pub returns-clause-written : goal.returns-clause-written
 returns-clause-written g c = λ bytes e.
     let i = c.self.inside in let before = g.K.Sink.holds c.args.out.now in let now = g.K.Sink.holds c.answer.new.out in
     let left = g.S.Source.left c.take_request.new.lines in let input = c.take_request.new.input in
-    let session : SessionState = record { state = i.solved.state; engine = i.engine; held = i.input } in
-    let new : SessionState = record { state = c.answer.new.solved.state; engine = i.engine; held = input } in
+    let session : Session = record { state = i.solved.state; engine = i.engine; held = i.input } in
+    let new : Session = record { state = c.answer.new.solved.state; engine = i.engine; held = input } in
     let board = c.board.ensures ∙ ap (λ x. x.board) c.whole.ensures in
     let request = Line c.in-Ok-Line.asked in
     let asked : IsRequested session.state.board (session.held ++ bytes) request input left =
@@ -82,5 +83,5 @@ returns-clause-written g c = λ bytes e.
 
 pub returns-clause-stepped : goal.returns-clause-stepped
 returns-clause-stepped g c =
-    subst (λ v. IsStep v.state c.answer.new.solved.state) c.self.view_is
+    subst (λ v. MovesOrStays v.state c.answer.new.solved.state) c.self.view_is
     (answers_step c.self.inside.solved.state c.answer.new.solved.state c.in-Ok-Line.asked c.answer.ensures.answered.0 c.answer.ensures.answered.1)

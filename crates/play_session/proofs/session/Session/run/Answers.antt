@@ -1,5 +1,6 @@
 use Rattle.std.proofs.Common.{subst, Err}
-use Rattle.play_session.specs.Written.{IsPlayedTo, standing}
+use Rattle.play_session.specs.Written.{standing}
+use Rattle.play_session.specs.inner.Written.{IsPlayedTo}
 use Rattle.play_session.proofs.session.Session.run.Goals as goal
 
 pub returns-in-Err-Read-clause-text : goal.returns-in-Err-Read-clause-text

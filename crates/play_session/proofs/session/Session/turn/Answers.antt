@@ -2,7 +2,8 @@ use Rattle.std.proofs.Common.{sym, ap, ◌∙◌, subst, arith, Err, None}
 use Rattle.go_grid.specs.Board.{other}
 use Rattle.whole_rules.specs.FirstWinningMove.{IsWinner}
 use Rattle.whole_rules.specs.WholeGame.{IsFirstMove}
-use Rattle.play_session.specs.Written.{SessionState, standing, TurnWritten}
+use Rattle.play_session.specs.Written.{Session, standing}
+use Rattle.play_session.specs.inner.Written.{TurnWritten}
 use Rattle.play_session.proofs.Sides.{not_other}
 use Rattle.play_session.proofs.Turns.{engine_failed, game_ended}
 use Rattle.play_session.proofs.Wins.{engine_keeps, opponent_keeps, end_keeps}
@@ -24,7 +25,7 @@ returns-clause-used g c =
 pub returns-in-None-clause-written : goal.returns-in-None-clause-written
 returns-in-None-clause-written g c = λ bytes e.
     let i = c.self.inside in let before = g.K.Sink.holds c.args.out.now in let now = g.K.Sink.holds c.end_game.new.out in let left = g.S.Source.left c.args.lines.now in
-    let session : SessionState = record { state = i.solved.state; engine = i.engine; held = i.input } in
+    let session : Session = record { state = i.solved.state; engine = i.engine; held = i.input } in
     let none : IsFirstMove i.solved.state None = subst (λ s. IsFirstMove s None) c.whole-2.ensures c.in-None.ensures in
     let winner = c.other.ensures ∙ ap other (c.side-side.ensures ∙ ap (λ s. s.side) c.whole.ensures) in
     subst (λ v. TurnWritten v.engine (standing v c.args.read.now bytes) before now c.end_game.result v c.args.read.now left) c.self.view_is
@@ -47,8 +48,8 @@ returns-then-not-is_same-clause-keeps g c = λ w.
 pub returns-in-Err-clause-written : goal.returns-in-Err-clause-written
 returns-in-Err-clause-written g c = λ bytes e.
     let i = c.self.inside in let before = g.K.Sink.holds c.args.out.now in let now = g.K.Sink.holds c.move_engine.new.out in let left = g.S.Source.left c.args.lines.now in
-    let session : SessionState = record { state = i.solved.state; engine = i.engine; held = i.input } in
-    let new : SessionState = record { state = c.move_engine.new.solved.state; engine = i.engine; held = i.input } in
+    let session : Session = record { state = i.solved.state; engine = i.engine; held = i.input } in
+    let new : Session = record { state = c.move_engine.new.solved.state; engine = i.engine; held = i.input } in
     let turn = sym (c.side-side.ensures ∙ ap (λ s. s.side) c.whole.ensures) ∙ c.is_same.ensures.0 c.if-not-is_same.false in
     let m = c.in-Err.ensures.moved in
     subst (λ v. TurnWritten v.engine (standing v c.args.read.now bytes) before now (Err c.in-Err.fault) new c.args.read.now left) c.self.view_is

@@ -1,6 +1,8 @@
 use Rattle.std.proofs.Common.{refl, sym, ◌∙◌, subst, arith, le_refl, le_trans, Ok, Err, Some, None}
+use Rattle.desk_io.specs.declared.lines.TheConstants.{MOST_LINES}
 use Rattle.whole_rules.specs.FirstWinningMove.{IsWinner}
-use Rattle.play_session.specs.Written.{standing, TurnWritten}
+use Rattle.play_session.specs.Written.{standing}
+use Rattle.play_session.specs.inner.Written.{TurnWritten}
 use Rattle.play_session.proofs.Going.{going_start, going_turn, going_ended, going_failed}
 use Rattle.desk_io.proofs.Used.{used_most, used_none, used_then}
 use Rattle.desk_io.proofs.Held.{input_same}
@@ -14,12 +16,12 @@ turns-init g c =
 pub returns-in-Err-clause-used : goal.returns-in-Err-clause-used
 returns-in-Err-clause-used g c =
     let start = c.args.self.now in let at = c.turns in let new = c.turn.new.self in let before = g.S.Source.left c.args.lines.now in let left' = g.S.Source.left c.turn.new.lines in
-    used_most 256 c.turn.new.read 10000 start.held new.held before left' c.turn.ensures.few_read (used_then 256 0 at.read c.turn.new.read start.held at.self.held new.held before (g.S.Source.left at.lines) left' at.invariant.6 c.turn.ensures.used)
+    used_most 256 c.turn.new.read MOST_LINES start.held new.held before left' c.turn.ensures.few_read (used_then 256 0 at.read c.turn.new.read start.held at.self.held new.held before (g.S.Source.left at.lines) left' at.invariant.6 c.turn.ensures.used)
 
 pub returns-in-Ok-Some-clause-used : goal.returns-in-Ok-Some-clause-used
 returns-in-Ok-Some-clause-used g c =
     let start = c.args.self.now in let at = c.turns in let new = c.turn.new.self in let before = g.S.Source.left c.args.lines.now in let left' = g.S.Source.left c.turn.new.lines in
-    used_most 256 c.turn.new.read 10000 start.held new.held before left' c.turn.ensures.few_read (used_then 256 0 at.read c.turn.new.read start.held at.self.held new.held before (g.S.Source.left at.lines) left' at.invariant.6 c.turn.ensures.used)
+    used_most 256 c.turn.new.read MOST_LINES start.held new.held before left' c.turn.ensures.few_read (used_then 256 0 at.read c.turn.new.read start.held at.self.held new.held before (g.S.Source.left at.lines) left' at.invariant.6 c.turn.ensures.used)
 
 pub returns-in-Err-clause-written : goal.returns-in-Err-clause-written
 returns-in-Err-clause-written g c =

@@ -1,5 +1,5 @@
 use Rattle.std.proofs.Common.{Bool, Option, Some, None, IfSome, refl}
-use Rattle.sum_outcome.specs.Memo.{IsAmong, AreSame, IsRecalled}
+use Rattle.sum_outcome.specs.inner.Memo.{IsAmong, AreSame, IsRecalled}
 use Rattle.sum_outcome.specs.declared.key.Key.{Key}
 use Rattle.sum_outcome.specs.declared.memo.Memo.{Memo}
 use Rattle.sum_outcome.proofs.MemoLaws.{answer_found}

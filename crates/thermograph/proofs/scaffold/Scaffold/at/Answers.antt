@@ -1,24 +1,22 @@
-use Rattle.std.proofs.Common.{◌≡◌, ◌∙◌, ◌^◌, ap, arith, to_z, of_z, ℤ, pos, neg_ℤ, ◌-ℤ◌, ◌≤ℤ◌, sym, subst}
+use Rattle.std.proofs.Common.{◌≡◌, ◌∙◌, ap, arith, to_z, of_z, ℤ, pos, ◌-ℤ◌, sym, subst}
 use Rattle.std.specs.Int.{w128}
 use Rattle.std.proofs.lemmas.Int.{ints}
+use Rattle.dyadic_num.specs.Units.{IsInReach}
 use Rattle.thermograph.specs.declared.side.Side.{Side}
 use Rattle.thermograph.specs.declared.side.Side.TheVariants as side
-use Rattle.thermograph.specs.Scaffolds.{turned, rise}
+use Rattle.thermograph.specs.inner.Scaffolds.{turned, rise}
 use Rattle.thermograph.proofs.scaffold.Scaffold.at.Goals as goal
-
-abbrev IsWide : ℤ → Type 0
-IsWide x = (neg_ℤ (pos (2 ^ 122)) ≤ℤ x) × (x ≤ℤ pos (2 ^ 122))
 
 pub returns-clause-value : goal.returns-clause-value
 returns-clause-value c = let kept : to_z w128 (of_z w128 c.turn.result) ≡ c.turn.result = omega (arith, ints) in
     kept ∙ c.turn.ensures ∙ ap (turned c.args.self.now.side) (omega (arith, ints, c.rise.ensures.value))
 
-either : (s : Side) (x : ℤ) → IsWide x → IsWide (turned s x)
+either : (s : Side) (x : ℤ) → IsInReach x → IsInReach (turned s x)
 either side.Left x h = h
-either side.Right x h = (omega (arith, ints, h.1), omega (arith, ints, h.0))
+either side.Right x h = omega (arith, ints, h)
 
 pub returns-clause-range : goal.returns-clause-range
 returns-clause-range c =
     let value = returns-clause-value c in
-    let narrow : IsWide (rise c.args.self.now c.args.t -ℤ pos c.args.t) = (omega (arith, ints, c.rise.ensures.value, c.rise.ensures.range.0, c.requires.t), omega (arith, ints, c.rise.ensures.value, c.rise.ensures.range.1)) in
-    subst IsWide (sym value) (either c.args.self.now.side (rise c.args.self.now c.args.t -ℤ pos c.args.t) narrow)
+    let narrow : IsInReach (rise c.args.self.now c.args.t -ℤ pos c.args.t) = omega (arith, ints, c.rise.ensures.value, c.rise.ensures.range.0, c.rise.ensures.range.1, c.requires.t) in
+    subst IsInReach (sym value) (either c.args.self.now.side (rise c.args.self.now c.args.t -ℤ pos c.args.t) narrow)

@@ -1,7 +1,7 @@
 use Rattle.std.proofs.Common.{◌+◌, ◌≤◌, ◌<◌, arith, sym, ◌∙◌}
 use Rattle.std.proofs.lemmas.Int.{ints}
 use Rattle.std.proofs.lemmas.Bool.{false≢true}
-use Rattle.thermograph.specs.Scaffolds.{rise, picked, IsAlong}
+use Rattle.thermograph.specs.inner.Scaffolds.{rise, picked, IsAlong}
 use Rattle.thermograph.proofs.Bends.{rises-far, rises-slow}
 use Rattle.thermograph.proofs.Hinges.{IsHinge, rise-hinge, steep-last, flat-last}
 use Rattle.thermograph.proofs.scaffold.Scaffold.last_along.Goals as goal

@@ -1,5 +1,5 @@
 use Rattle.std.proofs.Common.{◌-◌, ◌≤◌}
-use Rattle.thermograph.specs.Scaffolds.{rise, IsAlong}
+use Rattle.thermograph.specs.inner.Scaffolds.{rise, IsAlong}
 use Rattle.thermograph.proofs.scaffold.Scaffold.last_along.Given as goal
 
 abbrev pub invariant-loop-place : goal.invariant-loop-place

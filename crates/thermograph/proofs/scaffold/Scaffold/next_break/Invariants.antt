@@ -1,5 +1,5 @@
 use Rattle.std.proofs.Common.{◌<◌, ◌≤◌, ℕ, [], get_or}
-use Rattle.thermograph.specs.Scaffolds.{IsClear, picked}
+use Rattle.thermograph.specs.inner.Scaffolds.{IsClear, picked}
 use Rattle.thermograph.proofs.scaffold.Scaffold.next_break.Given as goal
 
 abbrev pub invariant-loop-id : goal.invariant-loop-id

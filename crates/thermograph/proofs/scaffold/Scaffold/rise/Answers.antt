@@ -2,8 +2,9 @@ use Rattle.std.proofs.Common.{arith, sym, ◌∙◌, ap, ◌≡◌, ◌+◌, [],
 use Rattle.std.specs.Int.{w128}
 use Rattle.std.proofs.lemmas.Int.{ints}
 use Rattle.std.proofs.lemmas.List.{length-map}
-use Rattle.thermograph.specs.Breaks.{wall_at, IsLevel, IsInRange}
-use Rattle.thermograph.specs.Scaffolds.{wall_of, picked, turned, turned_wall}
+use Rattle.thermograph.specs.Breaks.{wall_at}
+use Rattle.thermograph.specs.inner.Breaks.{IsLevel, IsInRange}
+use Rattle.thermograph.specs.inner.Scaffolds.{wall_of, picked, turned, turned_wall}
 use Rattle.thermograph.proofs.Heights.{wall-read, pick-read, each-read, turned-range, run-start, run-step}
 use Rattle.thermograph.proofs.scaffold.Scaffold.rise.Goals as goal
 use Rattle.thermograph.proofs.scaffold.Scaffold.rise.Goals.{After-deref}
@@ -21,7 +22,7 @@ pub value-requires-clause-level : goal.value-requires-clause-level
 value-requires-clause-level c = level c
 
 pub turn-height-requires : goal.turn-height-requires
-turn-height-requires c = let r = level (goal.at.turn-height-requires c).After-deref c.args.t in (omega (arith, ints, r.0, c.value.ensures), omega (arith, ints, r.1, c.value.ensures))
+turn-height-requires c = let r = level (goal.at.turn-height-requires c).After-deref c.args.t in omega (arith, ints, r.0, r.1, c.value.ensures)
 
 pub loop-i-preserved : goal.loop-i-preserved
 loop-i-preserved c =

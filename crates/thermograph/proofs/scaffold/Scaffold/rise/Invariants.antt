@@ -1,4 +1,4 @@
-use Rattle.thermograph.specs.Scaffolds.{turned_wall, picked}
+use Rattle.thermograph.specs.inner.Scaffolds.{turned_wall, picked}
 use Rattle.thermograph.proofs.Heights.{IsRun}
 use Rattle.thermograph.proofs.scaffold.Scaffold.rise.Given as goal
 

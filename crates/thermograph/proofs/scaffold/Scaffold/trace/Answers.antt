@@ -1,7 +1,7 @@
 use Rattle.std.proofs.Common.{arith, refl, ◌∙◌, ap, ◌≡◌, ◌∷◌, [], ◌++◌, to_z, of_z}
 use Rattle.std.specs.Int.{w128}
 use Rattle.std.proofs.lemmas.Int.{ints}
-use Rattle.thermograph.specs.Scaffolds.{line}
+use Rattle.thermograph.specs.inner.Scaffolds.{line}
 use Rattle.thermograph.proofs.BreakLists.{tracing-start, tracing-push, tracing-end}
 use Rattle.thermograph.proofs.scaffold.Scaffold.trace.Goals as goal
 

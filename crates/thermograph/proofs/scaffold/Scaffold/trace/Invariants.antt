@@ -1,5 +1,5 @@
 use Rattle.std.proofs.Common.{◌-◌, ◌≤◌}
-use Rattle.thermograph.specs.Scaffolds.{line}
+use Rattle.thermograph.specs.inner.Scaffolds.{line}
 use Rattle.thermograph.proofs.BreakLists.{IsTracing}
 use Rattle.thermograph.proofs.scaffold.Scaffold.trace.Given as goal
 

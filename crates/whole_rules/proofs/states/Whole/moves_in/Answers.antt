@@ -1,6 +1,6 @@
 use Rattle.std.proofs.Common.{arith, ◌≤◌, length}
 use Rattle.std.proofs.lemmas.Bool.{both_ways}
-use Rattle.whole_rules.specs.WholeGame.{MovesBelow}
+use Rattle.whole_rules.specs.inner.WholeGame.{MovesBelow}
 use Rattle.whole_rules.proofs.MoveLaws.{moves_spend, moves_no_spend, moves_half, moves_no_half, same_length}
 use Rattle.whole_rules.proofs.states.Whole.moves_in.Goals as goal
 use Rattle.whole_rules.proofs.states.Whole.moves_in.Goals.{then-may_spend+in_ok-push, else-may_spend, then-may_halve+in_ok-push-2, else-may_halve}

@@ -1,4 +1,4 @@
-use Rattle.whole_rules.specs.WholeGame.{MovesBelow}
+use Rattle.whole_rules.specs.inner.WholeGame.{MovesBelow}
 use Rattle.whole_rules.proofs.states.Whole.placings.Given as goal
 
 abbrev pub invariant-loop-number : goal.invariant-loop-number

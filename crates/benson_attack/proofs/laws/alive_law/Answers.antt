@@ -1,5 +1,0 @@
-use Rattle.benson_attack.proofs.AliveDecided.{alive_stands}
-use Rattle.benson_attack.proofs.laws.alive_law.Goals as goal
-
-pub returns : goal.returns
-returns c = alive_stands

@@ -1,0 +1,5 @@
+use Rattle.benson_attack.proofs.AliveDecided.{alive_stands}
+use Rattle.benson_attack.proofs.laws.alive_laws.Goals as goal
+
+pub returns : goal.returns
+returns c = alive_stands

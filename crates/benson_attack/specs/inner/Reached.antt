@@ -1,0 +1,63 @@
+-- How far a campaign against a chain has come.
+use Rattle.std.specs.Prelude.{◌≡◌, ◌≢◌, ℕ, ◌<◌, ◌≤◌, ◌⊎◌, Bool, List, true, false, Option, None, Some, length}
+use Rattle.go_grid.specs.declared.grid.Colour.{Colour}
+use Rattle.go_grid.specs.Board.{Board, HasStone, other}
+use Rattle.go_grid.specs.Chain.{InChain, IsLiberty, HasLiberty, IsSettled}
+use Rattle.go_grid.specs.Marks.{IsMarked, Marks}
+use Rattle.go_play.specs.Place.{IsPlaced, IsSuicide}
+use Rattle.benson_life.specs.Life.{HasTwoEyes, IsAlive}
+use Rattle.benson_attack.specs.declared.captures.Run.{Run}
+use Rattle.benson_attack.specs.Reached.{IsRun, IsAtRest, number_of, HasFewPlacings}
+
+-- Placing at each of two liberties of the stone's chain is refused.
+pub record HasRefusals (g : Board) (d : Colour) (v : ℕ) : Type 0 where
+  pub one : ℕ
+  pub two : ℕ
+  pub apart : one ≢ two
+  pub one_liberty : IsLiberty g (other d) v one
+  pub one_refused : IsSuicide g one d
+  pub two_liberty : IsLiberty g (other d) v two
+  pub two_refused : IsSuicide g two d
+
+-- a placing at a liberty of the stone's chain, or none of them is legal
+abbrev pub Presses : Colour → ℕ → Board → Board → Option ℕ → Type 0
+Presses d v g h None = (h ≡ g) × (¬ ¬ HasLiberty g (other d) v → HasRefusals g d v)
+Presses d v g h (Some p) = IsLiberty g (other d) v p × IsPlaced g p d h
+
+-- `new` is the run `old` with placings more
+pub record Follows (d : Colour) (old new : Run) : Type 0 where
+  pub short : HasFewPlacings d old → HasFewPlacings d new
+  pub long : length new.board.cells ≡ length old.board.cells
+  pub goes : (g : Board) → IsAtRest g d old → IsAtRest g d new
+  pub more : number_of d old.board < number_of d new.board
+
+-- the stone is taken, or it has two eyes among the stones that stood
+abbrev pub Captures : Colour → ℕ → Run → Run → Bool → Type 0
+Captures d v old new true = Follows d old new × ¬ HasStone new.board (other d) v
+Captures d v old new false = (g : Board) → IsAtRest g d old
+    → HasTwoEyes g (other d) (HasStone old.board (other d)) v
+
+-- an attack on the stone at `v` is under way
+pub record IsPressed (d : Colour) (v : ℕ) (old now : Run) : Type 0 where
+  pub short : HasFewPlacings d old → HasFewPlacings d now
+  pub long : length now.board.cells ≡ length old.board.cells
+  pub goes : (g : Board) → IsAtRest g d old → IsRun g d (InChain g (other d) v) now
+  pub fewer : (q : ℕ) → HasStone now.board (other d) q → HasStone old.board (other d) q
+  pub least : number_of d old.board ≤ number_of d now.board
+  pub more : HasStone now.board (other d) v ⊎ (number_of d old.board < number_of d now.board)
+
+-- each stone of the other colour that stands lives without answers on the first board, where the marks are those that do
+abbrev pub AllAlive : Colour → List Bool → Run → Type 0
+AllAlive d alive run = (g : Board) → IsSettled g → Marks alive (IsAlive g (other d)) → IsAtRest g d run
+    → (q : ℕ) → HasStone run.board (other d) q → IsAlive g (other d) q
+
+-- the stone has two eyes on the first board, among the stones that stand on the run's
+abbrev pub HasEyes : Colour → List Bool → Run → ℕ → Type 0
+HasEyes d alive run v = (g : Board) → IsSettled g → Marks alive (IsAlive g (other d)) → IsAtRest g d run
+    → HasTwoEyes g (other d) (HasStone run.board (other d)) v
+
+-- each stone that stands has two eyes, but for those that are marked and at `n` or above
+pub record AreTriedBelow (d : Colour) (alive left : List Bool) (run : Run) (n : ℕ) : Type 0 where
+  pub stand : (v : ℕ) → IsMarked left v → HasStone run.board (other d) v
+  pub below : (v : ℕ) → HasStone run.board (other d) v → v < n → HasEyes d alive run v
+  pub tried : (v : ℕ) → HasStone run.board (other d) v → ¬ IsMarked left v → HasEyes d alive run v

@@ -1,7 +1,0 @@
-use Rattle.go_grid.specs.Marks.{Marks}
-use Rattle.go_grid.proofs.PointsLemmas.{Noted}
-use Rattle.benson_life.proofs.EyeLists.{KeptAt}
-use Rattle.benson_life.proofs.counting.eyes_of.Given as goal
-
-abbrev pub invariant-loop-eye : goal.invariant-loop-eye
-invariant-loop-eye l = Marks l.found (Noted (KeptAt l.eyes l.breached l.kept) l.eye-index)

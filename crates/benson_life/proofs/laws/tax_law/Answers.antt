@@ -1,5 +1,0 @@
-use Rattle.benson_life.proofs.TaxLemmas.{taxed}
-use Rattle.benson_life.proofs.laws.tax_law.Goals as goal
-
-pub returns : goal.returns
-returns c g colour held groups settled = taxed g colour settled held groups

@@ -1,5 +1,0 @@
-use Rattle.benson_life.proofs.EyeLists.{SomeEyes}
-use Rattle.benson_life.proofs.striking.some_eyes.Given as goal
-
-abbrev pub invariant-loop-eye : goal.invariant-loop-eye
-invariant-loop-eye l = SomeEyes l.eyes l.breached l.regions l.eye-index

@@ -1,0 +1,135 @@
+//! Worked boards, drawn row by row with X for black and O for white.
+
+use benson_life::{alive, counted};
+use drawings::board;
+use go_grid::{Board, Colour, Point, Region, Touch};
+use region_cut::cut;
+use std::alloc::{AllocError, Global};
+
+/// The regions of play of a board, and none where it isn't settled.
+fn regions_of(alloc: Global, board: &Board) -> Result<Vec<Region>, AllocError> {
+    if board.unsettled()?.is_some() {
+        return Ok(Vec::new(alloc));
+    }
+    let black = alive(alloc, board, Colour::Black)?;
+    let white = alive(alloc, board, Colour::White)?;
+    let black_counted = counted(alloc, board, Colour::Black, &black)?;
+    let white_counted = counted(alloc, board, Colour::White, &white)?;
+    cut(alloc, board, &black, &white, &black_counted, &white_counted)
+}
+
+/// A board, the number of its regions of play, and of the first of them the points and what is next to
+/// each. That is six letters: X and O for alive stones, then the places above, left, right and below.
+#[derive(Drop)]
+struct Worked {
+    columns: u8,
+    rows: u8,
+    drawing: &'static [u8],
+    regions: usize,
+    first: &'static [u16],
+    touch: &'static [&'static [u8; 6]],
+}
+
+/// A row of the table of boards.
+fn row(
+    (columns, rows): (u8, u8),
+    drawing: &'static [u8],
+    regions: usize,
+    first: &'static [u16],
+    touch: &'static [&'static [u8; 6]],
+) -> Worked {
+    Worked {
+        columns,
+        rows,
+        drawing,
+        regions,
+        first,
+        touch,
+    }
+}
+
+/// Whether the list has just these points, in this order.
+fn same(points: &[Point], want: &[u16]) -> bool {
+    points.iter().map(|point| point.0).eq(want.iter().copied())
+}
+
+/// The place that a letter names.
+fn link(letter: u8) -> Option<u16> {
+    match letter {
+        b'0' => Some(0),
+        b'1' => Some(1),
+        _ => None,
+    }
+}
+
+/// Whether the letters say what is next to a point.
+fn is_touch(touch: &Touch, letters: &[u8; 6]) -> bool {
+    touch.black == (letters[0] == b'X')
+        && touch.white == (letters[1] == b'O')
+        && touch.up == link(letters[2])
+        && touch.left == link(letters[3])
+        && touch.right == link(letters[4])
+        && touch.down == link(letters[5])
+}
+
+/// Whether the letters say what is next to each point.
+fn same_touch(touch: &[Touch], want: &[&[u8; 6]]) -> bool {
+    touch.len() == want.len()
+        && touch
+            .iter()
+            .zip(want.iter())
+            .all(|(near, letters)| is_touch(near, letters))
+}
+
+/// Whether the board has so many regions, and such a first one.
+fn is_cut(alloc: Global, row: &Worked) -> Result<bool, AllocError> {
+    let board = board(alloc, row.columns, row.rows, row.drawing)?;
+    let regions = regions_of(alloc, &board)?;
+    let first = match regions.first() {
+        Some(region) => { same(&region.points, row.first) && same_touch(&region.touch, row.touch) }
+        None => row.first.is_empty(),
+    };
+    Ok(regions.len() == row.regions && first)
+}
+
+#[test]
+fn cuts(rt: HostRuntime) -> Result<(), AllocError> {
+    let rows = [
+        row(
+            (9, 2),
+            b".X.X.O.O.XXXX.OOOO",
+            1,
+            &[4, 13],
+            &[b"XO...1", b"XO0..."],
+        ),
+        row((8, 2), b".X.XO.O.XXXXOOOO", 0, &[], &[]),
+        row((10, 2), b".X.XX.O.O.XXXX.OOOOO", 2, &[5], &[b"XO...."]),
+        row(
+            (10, 3),
+            b".X.XXXO.O.XXXX..OOOOXXXXXXOOOO",
+            1,
+            &[14, 15],
+            &[b"X...1.", b"XO.0.."],
+        ),
+        row((1, 1), b".", 1, &[0], &[b"......"]),
+    ];
+    for (at, row) in rows.iter().enumerate() {
+        assert!(rt; is_cut(rt.alloc(), row)?, "at {at}");
+    }
+    Ok(())
+}
+
+/// The largest board without stones is one region.
+#[test]
+fn a_whole_board(rt: HostRuntime) -> Result<(), AllocError> {
+    let alloc = rt.alloc();
+    let board = board(alloc, 25, 25, b"")?;
+    let regions = regions_of(alloc, &board)?;
+    let points = match regions.first() {
+        Some(region) => region.points.len(),
+        None => 0,
+    };
+    assert_eq!(rt; regions.len(), 1);
+    assert_eq!(rt; points, 625);
+    Ok(())
+}

@@ -1,0 +1,191 @@
+//! The cycle that is shown comes soonest, by a plain search.
+
+ghost use Rattle.std.specs.Prelude.{◌≡◌, ◌<◌};
+
+use drawings::{Drawing, region};
+use go_grid::Region;
+use local_graph::{GraphError, build};
+use local_play::{Links, Local, LocalMove, Steps, list_moves, start};
+use std::alloc::{AllocError, Global};
+use std::marker::Brand;
+use std::sync::ledger::{Blank, Ledger};
+
+/// How many moves lead to the position that returns, and how many from there back to it.
+type Cycle = (usize, usize);
+
+/// Marks of the positions that one move leads to from the marked ones.
+fn moved(alloc: Global, edges: &[Vec<usize>], from: &[bool]) -> Result<Vec<bool>, AllocError> {
+    let mut to = vec![in alloc; false; edges.len()]?;
+    for (node, next) in edges.iter().enumerate() {
+        if from.get(node) == Some(&true) {
+            for place in next {
+                if let Some(mark) = to.get_mut(*place) {
+                    *mark = true;
+                }
+            }
+        }
+    }
+    Ok(to)
+}
+
+/// The fewest moves, at least one, from one position to another.
+fn fewest(
+    alloc: Global,
+    edges: &[Vec<usize>],
+    from: usize,
+    to: usize,
+) -> Result<Option<usize>, AllocError> {
+    let mut reached = vec![in alloc; false; edges.len()]?;
+    if let Some(mark) = reached.get_mut(from) {
+        *mark = true;
+    }
+    for moves in 1..edges.len() {
+        reached = moved(alloc, edges, &reached)?;
+        if reached.get(to) == Some(&true) {
+            return Ok(Some(moves));
+        }
+    }
+    Ok(None)
+}
+
+/// The cycle through a position.
+fn cycle_through(
+    alloc: Global,
+    edges: &[Vec<usize>],
+    node: usize,
+) -> Result<Option<Cycle>, AllocError> {
+    let before = if node == 0 {
+        Some(0)
+    } else {
+        fewest(alloc, edges, 0, node)?
+    };
+    match (before, fewest(alloc, edges, node, node)?) {
+        (Some(before), Some(around)) => Ok(Some((before, around))),
+        _ => Ok(None),
+    }
+}
+
+/// The better of two cycles.
+fn soonest(best: Option<Cycle>, cycle: Option<Cycle>) -> Option<Cycle> {
+    match (best, cycle) {
+        (Some((a, b)), Some((c, d))) => {
+            if c < a || (c == a && d < b) {
+                cycle
+            } else {
+                best
+            }
+        }
+        (None, _) => cycle,
+        _ => best,
+    }
+}
+
+/// The cycle that comes soonest, by a look at each position.
+fn plain_cycle(alloc: Global, edges: &[Vec<usize>]) -> Result<Option<Cycle>, AllocError> {
+    let mut best = None;
+    for node in 0..edges.len() {
+        best = soonest(best, cycle_through(alloc, edges, node)?);
+    }
+    Ok(best)
+}
+
+/// Where the moves lead to, with the positions that weren't found before behind the others.
+fn leads_to(
+    alloc: Global,
+    found: &mut Vec<Local>,
+    moves: &[LocalMove],
+) -> Result<Vec<usize>, AllocError> {
+    let mut places = Vec::new(alloc);
+    for step in moves {
+        let place = match found.iter().position(|known| *known == step.next) {
+            Some(place) => place,
+            None => {
+                found.push(step.next)?;
+                found.len().saturating_sub(1)
+            }
+        };
+        places.push(place)?;
+    }
+    Ok(places)
+}
+
+/// The edges of a region's positions, the first thousand of them.
+fn edges_of<L: Ledger>(
+    alloc: Global,
+    blank: Blank,
+    region: &Region,
+) -> Result<Vec<Vec<usize>>, AllocError>
+    requires name { blank.name ≡ L.name }
+    requires parts { blank.parts ≡ L.parts }
+    requires some { 0 < blank.parts }
+{
+    let mut edges = Vec::new(alloc);
+    if region.points.len() > 32 {
+        return Ok(edges);
+    }
+    let links = Links::of(region);
+    let mut steps = Steps::<L>::new(blank);
+    let mut moves = Vec::new(alloc);
+    let mut found = Vec::new(alloc);
+    found.push(start(region))?;
+    for at in 0..1_000 {
+        if let Some(from) = found.get(at).copied() {
+            list_moves(&links, from, &mut steps, &mut moves)?;
+            edges.push(leads_to(alloc, &mut found, &moves)?)?;
+        }
+    }
+    Ok(edges)
+}
+
+/// The cycle that is shown.
+fn shown_cycle<L: Ledger>(
+    alloc: Global,
+    blank: Blank,
+    region: &Region,
+) -> Result<Option<Cycle>, AllocError>
+    requires name { blank.name ≡ L.name }
+    requires parts { blank.parts ≡ L.parts }
+    requires some { 0 < blank.parts }
+{
+    match build(alloc, region, 1_000, &mut Steps::<L>::new(blank)) {
+        Err(GraphError::Cycle(moves, back)) => {
+            let around = moves.as_slice().len().saturating_sub(back);
+            Ok(Some((back, around)))
+        }
+        Err(GraphError::Memory(error)) => Err(error),
+        _ => Ok(None),
+    }
+}
+
+/// A board of so many columns and rows, with marks where Black's and White's stones touch it.
+fn board(columns: u8, rows: u8, black: &'static [u8], white: &'static [u8]) -> Drawing {
+    Drawing {
+        columns,
+        rows,
+        cells: b"",
+        black,
+        white,
+    }
+}
+
+#[test]
+fn shows_the_soonest_cycle(rt: HostRuntime) -> Result<(), AllocError> {
+    let rows = [
+        (board(2, 1, b"X.", b".X"), Some((1, 2))),
+        (board(2, 1, b"XX", b".X"), None),
+        (board(3, 1, b"X..", b"..X"), Some((1, 3))),
+        (board(4, 1, b"X...", b"...X"), Some((1, 4))),
+        (board(2, 2, b"X...", b"...X"), Some((1, 4))),
+        (board(2, 2, b"XX..", b"..XX"), Some((2, 4))),
+        (board(4, 1, b"XX..", b"..XX"), Some((1, 4))),
+    ];
+    for (at, (drawn, want)) in rows.into_iter().enumerate() {
+        let region = region(rt.alloc(), drawn)?;
+        let got = shown_cycle::<Brand>(rt.alloc(), Blank::new(1), &region)?;
+        let edges = edges_of::<Brand>(rt.alloc(), Blank::new(1), &region)?;
+        let plain = plain_cycle(rt.alloc(), &edges)?;
+        assert_eq!(rt; got, plain, "at {at}");
+        assert_eq!(rt; got, want, "at {at}");
+    }
+    Ok(())
+}

@@ -1,0 +1,25 @@
+use Rattle.endgame_run.proofs.OneStatus.{one_status, refuses_faults, refuses_unshown, shows_shown, solves_sound}
+use Rattle.endgame_run.proofs.OneGame.{one_game}
+use Rattle.endgame_run.proofs.CalcLaws.{one_outcome}
+use Rattle.endgame_run.proofs.laws.verdict_laws.Goals as goal
+
+pub returns-clause-one : goal.returns-clause-one
+returns-clause-one c = one_status
+
+pub returns-clause-one_outcome : goal.returns-clause-one_outcome
+returns-clause-one_outcome c = one_outcome
+
+pub returns-clause-sound : goal.returns-clause-sound
+returns-clause-sound c = solves_sound
+
+pub returns-clause-faults : goal.returns-clause-faults
+returns-clause-faults c = refuses_faults
+
+pub returns-clause-shown : goal.returns-clause-shown
+returns-clause-shown c = shows_shown
+
+pub returns-clause-unshown : goal.returns-clause-unshown
+returns-clause-unshown c = refuses_unshown
+
+pub returns-clause-one_game : goal.returns-clause-one_game
+returns-clause-one_game c = one_game

@@ -1,5 +1,0 @@
-use Rattle.endgame_solver.proofs.CarriedTrees.{shapes-keep_values}
-use Rattle.endgame_solver.proofs.laws.shape_law.Goals as goal
-
-pub returns : goal.returns
-returns c = shapes-keep_values

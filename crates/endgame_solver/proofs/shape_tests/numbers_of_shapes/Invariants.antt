@@ -1,4 +1,0 @@
-use Rattle.endgame_solver.proofs.shape_tests.numbers_of_shapes.Given as goal
-
-abbrev pub ghosts-has_shapes : goal.ghosts-has_shapes
-ghosts-has_shapes g a = record { name = a.blank.name; parts = a.blank.parts }

@@ -1,4 +1,0 @@
-use Rattle.endgame_solver.proofs.shape_tests.opposite_values.Given as goal
-
-abbrev pub ghosts-mover_loses : goal.ghosts-mover_loses
-ghosts-mover_loses g a = record { name = a.blank.name; parts = a.blank.parts }

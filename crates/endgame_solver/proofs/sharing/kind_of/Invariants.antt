@@ -1,6 +1,0 @@
-use Rattle.std.proofs.Common.{ℕ, ◌<◌, ◌≡◌, ◌≢◌, get_or}
-use Rattle.endgame_solver.specs.declared.sharing.Kind.{Kind}
-use Rattle.endgame_solver.proofs.sharing.kind_of.Given as goal
-
-abbrev pub invariant-kinds : goal.invariant-kinds
-invariant-kinds l = (j : ℕ) (kind : Kind) → j < l.place → get_or l.kinds j kind ≡ kind → kind.shape.spots.items ≢ l.shape.spots.items

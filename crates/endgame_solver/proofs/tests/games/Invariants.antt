@@ -1,4 +1,0 @@
-use Rattle.endgame_solver.proofs.tests.games.Given as goal
-
-abbrev pub ghosts-is_solved : goal.ghosts-is_solved
-ghosts-is_solved g a = record { name = a.blank.name; parts = a.blank.parts }

@@ -1,0 +1,19 @@
+use Rattle.std.proofs.Common.{◌<◌, arith, length}
+use Rattle.endgame_solver.proofs.PairingLaws.{negated, negatives_later, negatives_more}
+use Rattle.endgame_solver.proofs.view_book.negative_of.Goals as goal
+
+pub returns-in-Some-clause-value : goal.returns-in-Some-clause-value
+returns-in-Some-clause-value c = (c.requires.right c.args.id c.in-Some.negative c.in-Some.is).1
+
+pub returns-clause-value : goal.returns-clause-value
+returns-clause-value c =
+    let n = c.in_ok-negative.ensures in
+    negated c.args.store.now c.negate.new.store c.args.id c.in_ok-negative.negative c.requires.id n.kept n.value n.parts n.sizes
+
+pub returns-clause-right : goal.returns-clause-right
+returns-clause-right c =
+    let n = c.in_ok-negative.ensures in
+    let lt : c.args.id < length c.negate.new.store = omega (arith, c.requires.id, n.kept.longer) in
+    negatives_more c.negate.new.store c.args.known.now c.args.id c.in_ok-negative.negative lt c.requires.place
+    (negatives_later c.args.store.now c.negate.new.store c.args.known.now n.kept c.requires.right)
+    (negated c.args.store.now c.negate.new.store c.args.id c.in_ok-negative.negative c.requires.id n.kept n.value n.parts n.sizes)

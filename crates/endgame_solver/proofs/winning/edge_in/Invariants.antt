@@ -1,5 +1,0 @@
-use Rattle.endgame_solver.proofs.StoneSearch.{NoneBefore}
-use Rattle.endgame_solver.proofs.winning.edge_in.Given as goal
-
-abbrev pub invariant-edges : goal.invariant-edges
-invariant-edges l = NoneBefore l.region l.view l.edges l.colour l.point l.edge-index

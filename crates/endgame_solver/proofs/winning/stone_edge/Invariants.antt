@@ -1,5 +1,0 @@
-use Rattle.endgame_solver.proofs.StoneSearch.{NoneIn}
-use Rattle.endgame_solver.proofs.winning.stone_edge.Given as goal
-
-abbrev pub invariant-regions : goal.invariant-regions
-invariant-regions l = NoneIn l.regions l.book l.places l.colour l.point l.k

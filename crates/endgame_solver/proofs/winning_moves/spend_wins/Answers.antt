@@ -1,0 +1,38 @@
+use Rattle.std.proofs.Common.{ℕ, suc, zero, ◌≤◌, ◌≡◌, ◌↔◌, ◌∙◌, ◌*ℤ◌, ◌^◌, pos, refl, sym, subst, ap, arith, IsTrue}
+use Rattle.go_grid.specs.Board.{other}
+use Rattle.whole_rules.specs.Purses.{purse, paid_out}
+use Rattle.game_store.specs.Meaning.{pick}
+use Rattle.sum_outcome.specs.Players.{LosesGame}
+use Rattle.sum_outcome.specs.Sums.{IsBounded, sum_tree}
+use Rattle.endgame_solver.specs.inner.Held.{AreModest}
+use Rattle.endgame_solver.specs.SumGame.{balance}
+use Rattle.endgame_solver.proofs.WinningLaws.{modest_spent, fits_now, spend_wins}
+use Rattle.endgame_solver.proofs.winning_moves.spend_wins.Goals as goal
+
+pub balance_of-requires : goal.balance_of-requires
+balance_of-requires c =
+    let p = c.args.present.now in
+    subst AreModest (sym (c.paid_out-purses.ensures ∙ ap (paid_out c.side-side.result) c.purses.ensures)) (modest_spent c.requires.seen.graphs p.places.now p.whole.now c.side-side.result c.requires.seen.kept.room)
+
+pub loses-requires-clause-bounds : goal.loses-requires-clause-bounds
+loses-requires-clause-bounds c =
+    let p = c.args.present.now in
+    let modest = subst AreModest (sym (c.paid_out-purses.ensures ∙ ap (paid_out c.side-side.result) c.purses.ensures)) (modest_spent c.requires.seen.graphs p.places.now p.whole.now c.side-side.result c.requires.seen.kept.room) in
+    let fits = fits_now p.regions.now c.requires.seen.graphs c.requires.seen.values p.places.now c.args.sum.now p.store.now p.whole.now c.requires.seen.kept in
+    subst (IsBounded (pick p.store.now c.args.sum.now)) (sym c.balance_of.ensures) (fits.bounds c.paid_out-purses.result modest)
+
+some : (n : ℕ) → (n ≡ 0 → ⊥) → 1 ≤ n
+some zero h = absurd (h refl)
+some (suc n) h = omega arith
+
+pub returns-clause-wins : goal.returns-clause-wins
+returns-clause-wins c =
+    let p = c.args.present.now in
+    let s = p.whole.now in
+    let side = c.other.ensures ∙ ap other c.side-side.ensures in
+    let purses = c.paid_out-purses.ensures ∙ ap (λ d. paid_out d c.purses.result) c.side-side.ensures ∙ ap (paid_out s.side) c.purses.ensures in
+    let number = c.balance_of.ensures ∙ ap (λ m. balance m *ℤ pos (2 ^ 59)) purses in
+    let answer = subst (λ T. IsTrue c.loses.result ↔ T) (λ i. LosesGame (side i) (sum_tree p.store.now c.args.sum.now (number i))) c.loses.ensures.answer in
+    let purse_is : c.purse.result ≡ purse s.side s.purses = c.purse.ensures ∙ ap (λ d. purse d s.purses) c.side-side.ensures in
+    spend_wins p.regions.now c.requires.seen.graphs c.requires.seen.values p.places.now c.args.sum.now p.store.now s c.requires.seen.kept c.loses.result
+    (subst (λ n. 1 ≤ n) purse_is (some c.purse.result c.if-purse-eq0.false)) answer

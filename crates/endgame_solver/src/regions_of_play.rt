@@ -1,0 +1,70 @@
+//! The regions of play of a board, and where they stand at the opening.
+
+ghost use Rattle.std.specs.Prelude.{◌≡◌, ℕ, ◌<◌, ◌≤◌, Contains, IfOk, length, replicate, slice_index};
+ghost use Rattle.go_grid.specs.Chain.{IsSettled};
+ghost use Rattle.go_grid.specs.Region.{Region};
+ghost use Rattle.benson_life.specs.Territory.{IsTerritory};
+ghost use Rattle.region_cut.specs.LocalBoard.{PlaysLocally};
+ghost use Rattle.region_cut.specs.Cut.{AreRegionsOfPlay};
+ghost use Rattle.endgame_solver.specs.inner.Solving.{FindsLarge};
+ghost use Rattle.endgame_solver.specs.inner.Views.{seen_ids, view_at};
+
+use crate::view_book::Book;
+use crate::winning_moves::value_seen;
+use benson_life::Territory;
+use game_store::GameId;
+use go_grid::{Board, Point, Region};
+use local_play::MOST_PLACES;
+use region_cut::cut_territory;
+use std::alloc::{AllocError, Global};
+
+/// The regions of play of a settled board, by lowest point.
+pub(crate) fn regions_of_play(
+    alloc: Global,
+    board: &Board,
+    territory: &Territory,
+) -> Result<Vec<Region>, AllocError>
+    requires settled { IsSettled board.now }
+    requires territory { IsTerritory board.now territory.now }
+    ensures regions { IfOk result (λ regions. AreRegionsOfPlay board.now regions.items) }
+    ensures local { IfOk result (λ regions. (r : Region) → Contains regions.items r
+        → PlaysLocally board.now r) }
+{
+    cut_territory(alloc, board, territory)
+}
+
+/// The lowest point of the first region with more than 32 points, and the number of its points.
+pub(crate) fn first_large(regions: &[Region]) -> Option<(Point, u16)>
+    ensures { FindsLarge regions.now result }
+{
+    'regions: for region in regions {
+        let points = &region.points;
+        if points.len() > MOST_PLACES {
+            return Some((points[0], points.len() as u16));
+        }
+    }
+    None
+}
+
+/// The opening of each of so many regions stands first in its graph.
+pub(crate) fn opening_places(alloc: Global, regions: usize) -> Result<Vec<usize>, AllocError>
+    ensures { IfOk result (λ places. places.items ≡ replicate regions 0) }
+{
+    Ok(vec![in alloc; 0; regions]?)
+}
+
+/// The values of the openings.
+pub(crate) fn opening_values(alloc: Global, book: &Book) -> Result<Vec<GameId>, AllocError>
+    requires { (k : ℕ) → k < length book.now.views.items
+        → ((view_at book.now.views.items k).values < length book.now.values.items)
+        × (0 < length (seen_ids book.now k)) }
+    ensures long { IfOk result (λ sum. length sum.items ≡ length book.now.views.items) }
+    ensures each { IfOk result (λ sum. (k : ℕ) → k < length book.now.views.items
+        → slice_index sum.items k ≡ slice_index (seen_ids book.now k) 0) }
+{
+    let mut sum = Vec::new(alloc);
+    'regions: for region in 0..book.views.len() {
+        sum.push(value_seen(book, region, 0))?;
+    }
+    Ok(sum)
+}

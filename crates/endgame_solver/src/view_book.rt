@@ -1,0 +1,225 @@
+//! Regions of one shape: what was found of the first of them serves the others.
+
+ghost use Rattle.std.specs.Prelude.{◌≡◌, ◌≢◌, ℕ, ◌+◌, ◌^◌, ◌<◌, ◌≤◌, ◌++◌, ◌↔◌, IfErr, IfOk, IsTrue, List, MatchOption, OnOk, Contains, length, min, replicate, slice_index, slice_index_or, false, true};
+ghost use Rattle.game_store.specs.Forms.{HaveForms};
+ghost use Rattle.game_store.specs.Meaning.{AreIds, Extends};
+ghost use Rattle.region_book.specs.Law.{differ};
+ghost use Rattle.endgame_solver.specs.declared.view_book.Kind.{Kind};
+ghost use Rattle.endgame_solver.specs.inner.Held.{ids_at};
+ghost use Rattle.endgame_solver.specs.inner.Sharing.{AreNegatives, AreTurnedValues, IsTurnedValue, IsViewFor, PairsWith};
+
+use crate::views::View;
+use game_canon::negate;
+use game_store::{GameId, Store};
+use go_grid::Region;
+use local_graph::Graph;
+use local_value::Values;
+use region_book::{Shape, Turn};
+use std::alloc::{AllocError, Global};
+
+/// A shape, how the opening of the first region that has it is turned into it, and where that region's values stand. Its graph
+/// stands at the place of the kind.
+#[derive(Drop)]
+pub(crate) struct Kind {
+    pub shape: Shape,
+    pub turn: Turn,
+    pub values: usize,
+}
+
+/// The graphs and values of the regions, one graph for each shape, and where each region finds its own.
+#[derive(Debug, Drop)]
+pub(crate) struct Book {
+    pub graphs: Vec<Graph>,
+    pub values: Vec<Values>,
+    pub views: Vec<View>,
+}
+
+/// Whether the two are the same.
+fn is_same(a: &Shape, b: &Shape) -> bool
+    ensures { IsTrue result ↔ (a.now.spots.items ≡ b.now.spots.items) }
+{
+    a == b
+}
+
+/// The kind that has the shape.
+pub(crate) fn kind_of(kinds: &[Kind], shape: &Shape) -> Option<usize>
+    ensures { MatchOption result ((kind : Kind) → Contains kinds.now kind
+        → kind.shape.spots.items ≢ shape.now.spots.items)
+        (λ j. (j < length kinds.now) × ((kind : Kind) → slice_index_or kinds.now j kind ≡ kind
+        → kind.shape.spots.items ≡ shape.now.spots.items)) }
+{
+    'kinds: for place in 0..kinds.len() {
+        if is_same(&kinds[place].shape, shape) {
+            return Some(place);
+        }
+    }
+    None
+}
+
+/// Whether exactly one of the two is true.
+fn differ(a: bool, b: bool) -> bool
+    ensures { result ≡ differ a b }
+{
+    if a { !b } else { b }
+}
+
+/// The place that the turn brings to a place of the shape.
+fn place_before(count: usize, turn: &Turn, place: u8) -> u8
+    requires few { count ≤ 32 }
+    requires some { (i : ℕ) × (i < count) × (slice_index turn.now.places i ≡ place) }
+    ensures { (result < count) × (slice_index turn.now.places result ≡ place) }
+{
+    'places: for candidate in 0..count {
+        if turn.places[candidate] == place {
+            return candidate as u8;
+        }
+    }
+    0
+}
+
+/// Place 0 for each place.
+fn no_places() -> [u8; 32]
+    ensures { result ≡ replicate 32 0 }
+{
+    [0; 32]
+}
+
+/// Each place for itself.
+fn own_places() -> [u8; 32]
+    ensures { (i : ℕ) → i < 32 → slice_index result i ≡ i }
+{
+    let mut places = no_places();
+    'places: for place in 0..32usize {
+        places[place] = place as u8;
+    }
+    places
+}
+
+/// For each place of the first region that has a shape, the place of another that goes where it goes.
+fn pairing(count: usize, turn: &Turn, first: &Turn) -> [u8; 32]
+    requires few { count ≤ 32 }
+    requires some { (j : ℕ) → j < count → (i : ℕ) × (i < count)
+        × (slice_index turn.now.places i ≡ slice_index first.now.places j) }
+    ensures { PairsWith count turn.now first.now result }
+{
+    let mut places = no_places();
+    'places: for place in 0..count {
+        places[place] = place_before(count, turn, first.places[place]);
+    }
+    places
+}
+
+/// The negative of a value, which is noted.
+fn negative_of(
+    alloc: Global,
+    store: &mut Store,
+    known: &mut [Option<GameId>],
+    id: GameId,
+) -> Result<GameId, AllocError>
+    requires id { id < length store.old }
+    requires place { id < length known.old }
+    requires right { AreNegatives store.old known.old }
+    ensures value { IfOk result (λ turned. IsTurnedValue true store.new id turned) }
+    ensures right { OnOk result (AreNegatives store.new known.new) }
+    ensures long { length known.new ≡ length known.old }
+    ensures kept { Extends store.old store.new }
+{
+    if let Some(negative) = known[id as usize] {
+        return Ok(negative);
+    }
+    let negative = negate(alloc, store, id)?;
+    known[id as usize] = Some(negative);
+    Ok(negative)
+}
+
+/// The negatives of values.
+fn negatives(alloc: Global, ids: &[GameId], store: &mut Store) -> Result<Values, AllocError>
+    requires { AreIds store.old ids.now }
+    ensures turned { IfOk result (λ turned. AreTurnedValues true store.new ids.now turned) }
+    ensures kept { Extends store.old store.new }
+{
+    let mut turned = Values::new(alloc);
+    let mut known = vec![in alloc; None; store.len() as usize]?;
+    'ids: for id in ids {
+        turned.push(negative_of(alloc, store, &mut known, *id)?)?;
+    }
+    Ok(turned)
+}
+
+/// Where the values stand, or their negatives, which are added, where colours are exchanged.
+fn values_for(
+    alloc: Global,
+    exchanged: bool,
+    place: usize,
+    values: &mut Vec<Values>,
+    store: &mut Store,
+) -> Result<usize, AllocError>
+    requires known { place < length values.old.items }
+    requires ids { AreIds store.old (ids_at values.old.items place) }
+    ensures known { IfOk result (λ k. k < length values.new.items) }
+    ensures turned { IfOk result (λ k. AreTurnedValues exchanged store.new
+        (ids_at values.old.items place) (ids_at values.new.items k)) }
+    ensures more { OnOk result ((more : List (List ℕ))
+        × (values.new.items ≡ values.old.items ++ more)) }
+    ensures kept { Extends store.old store.new }
+{
+    let _count = store.len();
+    if exchanged {
+        let turned = negatives(alloc, values[place].as_slice(), store)?;
+        let after = values.len();
+        values.push(turned)?;
+        return Ok(after);
+    }
+    Ok(place)
+}
+
+/// How a region sees the graph at a place and the values of its kind.
+pub(crate) fn view_for(
+    alloc: Global,
+    region: &Region,
+    turn: &Turn,
+    place: usize,
+    kind: &Kind,
+    values: &mut Vec<Values>,
+    store: &mut Store,
+) -> Result<View, AllocError>
+    requires few { length region.now.points ≤ 32 }
+    requires known { kind.now.values < length values.old.items }
+    requires ids { AreIds store.old (ids_at values.old.items kind.now.values) }
+    requires some { (j : ℕ) → j < length region.now.points
+        → (i : ℕ) × (i < length region.now.points)
+        × (slice_index turn.now.places i ≡ slice_index kind.now.turn.places j) }
+    ensures view { IfOk result (λ v. IsViewFor
+        (length region.now.points) place turn.now kind.now values.old.items values.new.items
+        store.new v) }
+    ensures more { OnOk result ((more : List (List ℕ))
+        × (values.new.items ≡ values.old.items ++ more)) }
+    ensures kept { Extends store.old store.new }
+    ensures forms { OnOk result (HaveForms store.new) }
+{
+    let places = pairing(region.points.len(), turn, &kind.turn);
+    let colours = differ(kind.turn.colours, turn.colours);
+    let held = values_for(alloc, colours, kind.values, values, store)?;
+    let _count = store.len();
+    Ok(View {
+        graph: place,
+        values: held,
+        places,
+        colours,
+    })
+}
+
+/// How a region sees its own graph and values.
+pub(crate) fn own_view(graph: usize, values: usize) -> View
+    ensures graph { result.graph ≡ graph }
+    ensures values { result.values ≡ values }
+    ensures colours { result.colours ≡ false }
+    ensures places { (i : ℕ) → i < 32 → slice_index result.places i ≡ i }
+{
+    View {
+        graph,
+        values,
+        places: own_places(),
+        colours: false,
+    }
+}

@@ -1,0 +1,311 @@
+//! Who wins the present state, and by which moves: each is asked of the sum of the values that the move leaves.
+
+ghost use Rattle.std.specs.Prelude.{◌≡◌, ℕ, ◌<◌, ◌≤◌, ◌^◌, ◌+ℤ◌, ◌*ℤ◌, neg_ℤ, pos, unsigned_abs, ◌↔◌, Contains, IfSome, IsTrue, List, MatchOption, length, slice_index};
+ghost use Rattle.go_grid.specs.declared.grid.Colour.{Colour};
+ghost use Rattle.local_graph.specs.declared.graph.Edge.{Edge};
+ghost use Rattle.whole_rules.specs.declared.states.Move.TheVariants.{Stone, Spend};
+ghost use Rattle.whole_rules.specs.FirstWinningMove.{IsFirstWinning, IsLosing, IsWinning};
+ghost use Rattle.sum_outcome.specs.Memo.{Fits};
+ghost use Rattle.endgame_solver.specs.SumGame.{balance, halves};
+ghost use Rattle.endgame_solver.specs.inner.Held.{IsStoneAt, IsStoneEdge, IsFirstStone, AreModest};
+ghost use Rattle.endgame_solver.specs.inner.Views.{IsSeen, ShowsAll, ShowsPlaces, own, seen_graph, seen_ids, view_at};
+ghost use Rattle.local_graph.specs.Graph.{Graph};
+ghost use Rattle.local_graph.specs.inner.Graph.{edges_at};
+
+use crate::view_book::Book;
+use crate::views::View;
+use dyadic_num::Dyadic;
+use game_store::{GameId, Store};
+use go_grid::{Colour, Point, Region};
+use local_graph::Edge;
+use local_value::Values;
+use sum_outcome::Search;
+use whole_rules::{Move, Purses, Token, Whole};
+
+/// The present state, and what is known of its regions.
+#[derive(Clone, Copy)]
+pub(crate) struct Present<'a> {
+    pub whole: &'a Whole,
+    pub regions: &'a [Region],
+    pub book: &'a Book,
+    pub places: &'a [usize],
+    pub store: &'a Store,
+}
+
+/// What the token is worth to Black, in halves of a point.
+fn token_halves(token: Token) -> i128
+    ensures value { result ≡ halves token }
+    ensures small { unsigned_abs result ≤ 1 }
+{
+    match token {
+        Token::Nobody => 0,
+        Token::Black => 1,
+        Token::White => -1,
+    }
+}
+
+/// What the first number is more than the second.
+fn difference(first: u64, second: u64) -> i128
+    ensures { result ≡ pos first +ℤ neg_ℤ (pos second) }
+{
+    i128::from(first) - i128::from(second)
+}
+
+/// So many points and halves, in halves of a point.
+fn in_halves(points: i128, halves: i128) -> i128
+    requires points { unsigned_abs points ≤ 2 ^ 42 }
+    requires halves { unsigned_abs halves ≤ 1 }
+    ensures { result ≡ (points +ℤ points) +ℤ halves }
+{
+    points + points + halves
+}
+
+/// So many halves of a point.
+fn of_halves(halves: i128) -> Dyadic
+    requires { unsigned_abs halves ≤ 2 ^ 45 }
+    ensures { result ≡ halves *ℤ pos (2 ^ 59) }
+{
+    match Dyadic::of_units(halves * (1 << 59)) {
+        Some(number) => number,
+        // 2^45 halves of a point lie within the bounds.
+        None => unreachable!(),
+    }
+}
+
+/// Black's purse less White's, with the token's half.
+pub(crate) fn balance_of(purses: Purses) -> Dyadic
+    requires { AreModest purses }
+    ensures { result ≡ balance purses *ℤ pos (2 ^ 59) }
+{
+    let points = difference(purses.black, purses.white);
+    of_halves(in_halves(points, token_halves(purses.token)))
+}
+
+/// Whether the two are the same.
+fn is_same(a: Colour, b: Colour) -> bool
+    ensures { IsTrue result ↔ (a ≡ b) }
+{
+    a == b
+}
+
+/// Whether the point stands at the place.
+fn is_at(points: &[Point], place: usize, point: Point) -> bool
+    ensures { IsTrue result ↔ ((place < length points.now)
+        × (slice_index points.now place ≡ point)) }
+{
+    match points.get(place) {
+        Some(other) => other.0 == point.0,
+        None => false,
+    }
+}
+
+/// Whether the edge is that of a stone of the player at the point.
+fn is_stone_at(region: &Region, edge: Edge, point: Point, colour: Colour) -> bool
+    ensures { IsTrue result ↔ IsStoneAt region.now colour point edge }
+{
+    if !is_same(edge.colour, colour) {
+        return false;
+    }
+    is_at(&region.points, usize::from(edge.place), point)
+}
+
+/// The move of a stone of the player at a point of a region, among those that the edges stand for.
+fn edge_in(
+    region: &Region,
+    view: View,
+    edges: &[Edge],
+    point: Point,
+    colour: Colour,
+) -> Option<Edge>
+    requires { (f : Edge) → Contains edges.now f → f.place < 32 }
+    ensures { MatchOption result ((f : Edge) → Contains edges.now f
+        → ¬ IsStoneAt region.now colour point (own view f))
+        (λ e. (f : Edge) × Contains edges.now f × (e ≡ own view f)
+        × IsStoneAt region.now colour point e) }
+{
+    'edges: for edge in edges {
+        let own = view.own(*edge);
+        if is_stone_at(region, own, point, colour) {
+            return Some(own);
+        }
+    }
+    None
+}
+
+/// The edges of the graph that a region sees, of the position at a place.
+fn edges_seen(book: &Book, region: usize, place: usize) -> &[Edge]
+    requires view { region < length book.now.views.items }
+    requires graph { (view_at book.now.views.items region).graph < length book.now.graphs.items }
+    requires place { place < length (seen_graph book.now region).positions }
+    ensures { result.now ≡ edges_at (seen_graph book.now region).edges place }
+{
+    let view = view_of(book, region);
+    book.graphs[view.graph].edges(place)
+}
+
+/// How a region sees the book.
+fn view_of(book: &Book, region: usize) -> View
+    requires { region < length book.now.views.items }
+    ensures { result ≡ view_at book.now.views.items region }
+{
+    book.views[region]
+}
+
+/// The region and the edge of a stone at a point.
+pub(crate) fn stone_edge(
+    regions: &[Region],
+    book: &Book,
+    places: &[usize],
+    point: Point,
+    colour: Colour,
+) -> Option<(usize, Edge)>
+    requires { ShowsPlaces regions.now book.now places.now }
+    ensures known { IfSome result (λ x. x.0 < length regions.now) }
+    ensures edges { (graphs : List Graph) (values : List (List ℕ))
+        → ShowsAll book.now graphs values (length regions.now)
+        → MatchOption result ((k : ℕ) (e : Edge)
+        → ¬ IsStoneEdge regions.now graphs places.now colour point k e)
+        (λ x. IsStoneEdge regions.now graphs places.now colour point x.0 x.1) }
+{
+    'regions: for k in 0..regions.len() {
+        let region = &regions[k];
+        let view = view_of(book, k);
+        let edges = edges_seen(book, k, places[k]);
+        if let Some(edge) = edge_in(region, view, edges, point, colour) {
+            return Some((k, edge));
+        }
+    }
+    None
+}
+
+/// The value of the position at a place.
+pub(crate) fn value_at(values: &Values, place: usize) -> GameId
+    requires { place < length values.now }
+    ensures { result ≡ slice_index values.now place }
+{
+    values.as_slice()[place]
+}
+
+/// The value of a region's position at a place.
+pub(crate) fn value_seen(book: &Book, region: usize, place: usize) -> GameId
+    requires view { region < length book.now.views.items }
+    requires values { (view_at book.now.views.items region).values < length book.now.values.items }
+    requires place { place < length (seen_ids book.now region) }
+    ensures { result ≡ slice_index (seen_ids book.now region) place }
+{
+    let view = view_of(book, region);
+    value_at(&book.values[view.values], place)
+}
+
+/// The number of a region's positions.
+pub(crate) fn positions_seen(book: &Book, region: usize) -> usize
+    requires view { region < length book.now.views.items }
+    requires graph { (view_at book.now.views.items region).graph < length book.now.graphs.items }
+    ensures { result ≡ length (seen_graph book.now region).positions }
+{
+    let view = view_of(book, region);
+    book.graphs[view.graph].len()
+}
+
+/// Whether a stone of the side to move at the point wins. The sum is as before at the end.
+pub(crate) fn stone_wins(
+    present: &Present<'_>,
+    search: &mut Search,
+    sum: &mut [GameId],
+    point: Point,
+) -> bool
+    requires seen { IsSeen present.now sum.old }
+    requires fits { Fits present.now.store.now search.old }
+    ensures wins { IsTrue result ↔ IsWinning present.now.whole.now (Stone point) }
+    ensures same { sum.new ≡ sum.old }
+    ensures fits { Fits present.now.store.now search.new }
+{
+    if !present.whole.contested(point) {
+        return false;
+    }
+    let side = present.whole.side();
+    let Some((k, edge)) = stone_edge(present.regions, present.book, present.places, point, side)
+    else {
+        return false;
+    };
+    let purses = present.whole.purses().paid_in(side, u64::from(edge.taken));
+    let before = sum[k];
+    sum[k] = value_seen(present.book, k, edge.next);
+    let lost = search.loses(present.store, sum, balance_of(purses), side.other());
+    sum[k] = before;
+    lost
+}
+
+/// Whether it wins to give back a point.
+pub(crate) fn spend_wins(present: &Present<'_>, search: &mut Search, sum: &mut [GameId]) -> bool
+    requires seen { IsSeen present.now sum.old }
+    requires fits { Fits present.now.store.now search.old }
+    ensures wins { IsTrue result ↔ IsWinning present.now.whole.now Spend }
+    ensures same { sum.new ≡ sum.old }
+    ensures fits { Fits present.now.store.now search.new }
+{
+    let side = present.whole.side();
+    if present.whole.purse(side) == 0 {
+        return false;
+    }
+    let purses = present.whole.purses().paid_out(side);
+    search.loses(present.store, sum, balance_of(purses), side.other())
+}
+
+/// Whether the side to move loses.
+pub(crate) fn mover_loses(present: &Present<'_>, search: &mut Search, sum: &mut [GameId]) -> bool
+    requires seen { IsSeen present.now sum.old }
+    requires fits { Fits present.now.store.now search.old }
+    ensures loses { IsTrue result ↔ IsLosing present.now.whole.now }
+    ensures same { sum.new ≡ sum.old }
+    ensures fits { Fits present.now.store.now search.new }
+{
+    let side = present.whole.side();
+    let balance = balance_of(present.whole.purses());
+    search.loses(present.store, sum, balance, side)
+}
+
+/// The lowest point at which a stone wins.
+pub(crate) fn winning_stone(
+    present: &Present<'_>,
+    search: &mut Search,
+    sum: &mut [GameId],
+) -> Option<Point>
+    requires seen { IsSeen present.now sum.old }
+    requires fits { Fits present.now.store.now search.old }
+    ensures first { IsFirstStone present.now.whole.now result }
+    ensures same { sum.new ≡ sum.old }
+    ensures fits { Fits present.now.store.now search.new }
+{
+    'points: for number in 0..present.whole.board().size().area() {
+        if stone_wins(present, search, sum, Point(number)) {
+            return Some(Point(number));
+        }
+    }
+    None
+}
+
+/// The first move that wins: a stone, else a point given back, else the half, which needs no question where the side to
+/// move wins by no other move.
+pub(crate) fn first_winning_move(
+    present: &Present<'_>,
+    search: &mut Search,
+    sum: &mut [GameId],
+) -> Option<Move>
+    requires seen { IsSeen present.now sum.old }
+    requires fits { Fits present.now.store.now search.old }
+    ensures first { IsFirstWinning present.now.whole.now result }
+    ensures same { sum.new ≡ sum.old }
+    ensures fits { Fits present.now.store.now search.new }
+{
+    if mover_loses(present, search, sum) {
+        return None;
+    }
+    if let Some(point) = winning_stone(present, search, sum) {
+        return Some(Move::Stone(point));
+    }
+    if spend_wins(present, search, sum) {
+        return Some(Move::Spend);
+    }
+    Some(Move::Half)
+}

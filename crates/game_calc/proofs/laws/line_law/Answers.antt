@@ -1,5 +1,0 @@
-use Rattle.game_calc.proofs.OneLine.{one-line}
-use Rattle.game_calc.proofs.laws.line_law.Goals as goal
-
-pub returns : goal.returns
-returns c = record { one = one-line }

@@ -1,0 +1,11 @@
+use Rattle.game_canon.proofs.Finish.{made-number, number-few, number-near}
+use Rattle.game_canon.proofs.canonical_forms.canonical_with.Goals as goal
+
+pub returns-in_ok-number-in-Number-clause-value : goal.returns-in_ok-number-in-Number-clause-value
+returns-in_ok-number-in-Number-clause-value c = made-number _ _ _ _ c.in-Number.ensures c.in_ok-number-in-Number.ensures.value
+
+pub returns-in_ok-number-in-Number-clause-parts : goal.returns-in_ok-number-in-Number-clause-parts
+returns-in_ok-number-in-Number-clause-parts c = number-few _ c.in-Number.x _ c.args.parts_limit c.in_ok-number-in-Number.ensures.value
+
+pub returns-in_ok-number-in-Number-clause-sizes : goal.returns-in_ok-number-in-Number-clause-sizes
+returns-in_ok-number-in-Number-clause-sizes c = λ b w. number-near _ c.in-Number.x _ b c.in_ok-number-in-Number.ensures.value (c.in-Number.ensures.3 b w)

@@ -1,0 +1,33 @@
+use Rattle.game_store.specs.Meaning.{listed}
+use Rattle.game_canon.proofs.Finish.{ready, made-id, too-many, form-near}
+use Rattle.game_canon.proofs.canonical_forms.reduced_form.Goals as goal
+
+pub has_more_parts-requires-clause-no_number : goal.has_more_parts-requires-clause-no_number
+has_more_parts-requires-clause-no_number c = (ready c.args.store.now (listed c.args.store.now c.args.left.now c.args.right.now) _ _ _ _ c.len-count.ensures.canonical c.requires.no_number c.in_ok-lists.ensures.reduced c.deref.ensures c.deref-2.ensures).no_number
+
+pub returns-then-branch-clause-refusal : goal.returns-then-branch-clause-refusal
+returns-then-branch-clause-refusal c = too-many (listed c.args.store.now c.args.left.now c.args.right.now) _ c.args.parts_limit c.requires.no_number (ready c.args.store.now (listed c.args.store.now c.args.left.now c.args.right.now) _ _ _ _ c.len-count.ensures.canonical c.requires.no_number c.in_ok-lists.ensures.reduced c.deref.ensures c.deref-2.ensures).canonical (c.in_ok-has_more_parts.ensures.more c.if-branch.true)
+
+pub intern-requires-clause-left_ascends : goal.intern-requires-clause-left_ascends
+intern-requires-clause-left_ascends c = (ready c.args.store.now (listed c.args.store.now c.args.left.now c.args.right.now) _ _ _ _ c.len-count.ensures.canonical c.requires.no_number c.in_ok-lists.ensures.reduced c.deref-3.ensures c.deref-4.ensures).left_ascends
+
+pub intern-requires-clause-right_ascends : goal.intern-requires-clause-right_ascends
+intern-requires-clause-right_ascends c = (ready c.args.store.now (listed c.args.store.now c.args.left.now c.args.right.now) _ _ _ _ c.len-count.ensures.canonical c.requires.no_number c.in_ok-lists.ensures.reduced c.deref-3.ensures c.deref-4.ensures).right_ascends
+
+pub intern-requires-clause-left_some : goal.intern-requires-clause-left_some
+intern-requires-clause-left_some c = (ready c.args.store.now (listed c.args.store.now c.args.left.now c.args.right.now) _ _ _ _ c.len-count.ensures.canonical c.requires.no_number c.in_ok-lists.ensures.reduced c.deref-3.ensures c.deref-4.ensures).left_some
+
+pub intern-requires-clause-right_some : goal.intern-requires-clause-right_some
+intern-requires-clause-right_some c = (ready c.args.store.now (listed c.args.store.now c.args.left.now c.args.right.now) _ _ _ _ c.len-count.ensures.canonical c.requires.no_number c.in_ok-lists.ensures.reduced c.deref-3.ensures c.deref-4.ensures).right_some
+
+pub intern-requires-clause-canonical : goal.intern-requires-clause-canonical
+intern-requires-clause-canonical c = (ready c.args.store.now (listed c.args.store.now c.args.left.now c.args.right.now) _ _ _ _ c.len-count.ensures.canonical c.requires.no_number c.in_ok-lists.ensures.reduced c.deref-3.ensures c.deref-4.ensures).canonical.canonical
+
+pub intern-requires-clause-no_number : goal.intern-requires-clause-no_number
+intern-requires-clause-no_number c = (ready c.args.store.now (listed c.args.store.now c.args.left.now c.args.right.now) _ _ _ _ c.len-count.ensures.canonical c.requires.no_number c.in_ok-lists.ensures.reduced c.deref-3.ensures c.deref-4.ensures).no_number
+
+pub returns-clause-value : goal.returns-clause-value
+returns-clause-value c = made-id c.intern.new.self _ _ _ (ready c.args.store.now (listed c.args.store.now c.args.left.now c.args.right.now) _ _ _ _ c.len-count.ensures.canonical c.requires.no_number c.in_ok-lists.ensures.reduced c.deref-3.ensures c.deref-4.ensures).canonical c.in_ok-intern.ensures.value
+
+pub returns-clause-sizes : goal.returns-clause-sizes
+returns-clause-sizes c = λ b w. form-near c.args.store.now c.intern.new.self (listed c.args.store.now c.args.left.now c.args.right.now) _ _ _ _ _ b c.in_ok-lists.ensures.reduced c.deref-3.ensures c.deref-4.ensures (ready c.args.store.now (listed c.args.store.now c.args.left.now c.args.right.now) _ _ _ _ c.len-count.ensures.canonical c.requires.no_number c.in_ok-lists.ensures.reduced c.deref-3.ensures c.deref-4.ensures).no_number c.in_ok-intern.ensures.value w

@@ -1,5 +1,0 @@
-use Rattle.std.proofs.Common.{ℕ, ◌<◌, get_or, length}
-use Rattle.game_canon.proofs.canonical_tests.are_ids.Given as goal
-
-abbrev pub invariant-loop-id : goal.invariant-loop-id
-invariant-loop-id l = (j : ℕ) → j < l.id-index → get_or l.ids j 0 < length l.store

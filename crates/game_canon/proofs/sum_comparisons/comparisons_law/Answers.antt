@@ -1,5 +1,0 @@
-use Rattle.game_canon.proofs.SumWaiting.{right_grown}
-use Rattle.game_canon.proofs.sum_comparisons.comparisons_law.Goals as goal
-
-pub returns : goal.returns
-returns c = right_grown

@@ -1,0 +1,33 @@
+-- How far a list of followers has grown.
+use Rattle.std.specs.Prelude.{ℕ, ◌≡◌, ◌<◌, ◌≤◌, ◌⊎◌, List, length}
+use Rattle.std.specs.List.{slice_index_or}
+use Rattle.short_games.specs.Tree.{Tree, tree_at, AreDistinct}
+use Rattle.short_games.specs.Number.{IsNumberTree}
+use Rattle.short_games.specs.Parts.{IsOption, IsPart}
+use Rattle.game_canon.specs.Followers.{IsIn}
+
+-- us has the ids ks, behind them ids of trees that pass and are no numbers, and all trees that pass but for numbers
+pub record IsGrown (Ts : List Tree) (Passes : Tree → Type 0) (ks us : List ℕ) : Type 0 where
+  pub longer : length ks ≤ length us
+  pub same : (j : ℕ) → j < length ks → slice_index_or us j 0 ≡ slice_index_or ks j 0
+  pub below : (j : ℕ) → j < length us → length ks ≤ j → slice_index_or us j 0 < length Ts
+  pub passes : (j : ℕ) → j < length us → length ks ≤ j → Passes (tree_at Ts (slice_index_or us j 0))
+  pub no_number : (j : ℕ) → j < length us → length ks ≤ j → IsNumberTree (tree_at Ts (slice_index_or us j 0)) → ⊥
+  pub has : (X : Tree) → Passes X → IsNumberTree X ⊎ IsIn Ts us X
+
+-- a part of an option of G
+abbrev pub IsBelow : Tree → Tree → Type 0
+IsBelow G X = (H : Tree) × IsOption G H × IsPart H X
+
+-- different parts of the options of G
+pub record AreBelow (G : Tree) (Xs : List Tree) : Type 0 where
+  pub each : (j : ℕ) → j < length Xs → IsBelow G (tree_at Xs j)
+  pub different : AreDistinct Xs
+
+-- the options of G have exactly n different parts together
+abbrev pub HasBelow : Tree → ℕ → Type 0
+HasBelow G n = (Xs : List Tree) × AreBelow G Xs × ((X : Tree) → IsBelow G X → (j : ℕ) × (j < length Xs) × (tree_at Xs j ≡ X)) × (length Xs ≡ n)
+
+-- the options of G have more than n different parts together
+abbrev pub HasMoreBelow : Tree → ℕ → Type 0
+HasMoreBelow G n = (Xs : List Tree) × AreBelow G Xs × (n < length Xs)

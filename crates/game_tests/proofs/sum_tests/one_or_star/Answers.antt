@@ -1,0 +1,16 @@
+use Rattle.std.proofs.Common.{IfOk, sym, subst}
+use Rattle.short_games.specs.Number.{IsNumberTree}
+use Rattle.short_games.specs.TextOrder.{IsCanonicalTree}
+use Rattle.game_store.specs.Meaning.{IsIdOf}
+use Rattle.short_games.proofs.Examples.{one_or_star-canonical, one_or_star-no_number}
+use Rattle.sum_outcome.proofs.Examples.{one_or_star-form}
+use Rattle.game_tests.proofs.sum_tests.one_or_star.Goals as goal
+
+pub intern-requires-clause-canonical : goal.intern-requires-clause-canonical
+intern-requires-clause-canonical c = subst IsCanonicalTree (sym (one_or_star-form _ _ _ _ _ c.in_ok-one.ensures.value c.whole.ensures c.in_ok-one.ensures.kept c.requires.star)) one_or_star-canonical
+
+pub intern-requires-clause-no_number : goal.intern-requires-clause-no_number
+intern-requires-clause-no_number c = subst (λ t. IsNumberTree t → ⊥) (sym (one_or_star-form _ _ _ _ _ c.in_ok-one.ensures.value c.whole.ensures c.in_ok-one.ensures.kept c.requires.star)) one_or_star-no_number
+
+pub returns-clause-value : goal.returns-clause-value
+returns-clause-value c = subst (λ t. IfOk c.intern.result (λ id. IsIdOf c.intern.new.self t id)) (one_or_star-form _ _ _ _ _ c.in_ok-one.ensures.value c.whole.ensures c.in_ok-one.ensures.kept c.requires.star) c.intern.ensures.value

@@ -1,0 +1,5 @@
+use Rattle.sum_outcome.proofs.Examples.{ShiftedSoFar}
+use Rattle.game_tests.proofs.sum_tests.shifted.Given as goal
+
+abbrev pub invariant-adding : goal.invariant-adding
+invariant-adding l = ShiftedSoFar l.store l.game l.games.items l.n

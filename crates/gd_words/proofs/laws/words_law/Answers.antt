@@ -1,5 +1,0 @@
-use Rattle.gd_words.proofs.Jobs.{one_job}
-use Rattle.gd_words.proofs.laws.words_law.Goals as goal
-
-pub returns : goal.returns
-returns c = one_job

@@ -1,0 +1,2 @@
+-- What loops and private calls keep; no public clause cites it.
+pub mod Reading

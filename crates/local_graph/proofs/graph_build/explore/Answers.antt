@@ -1,0 +1,102 @@
+use Rattle.std.proofs.Common.{arith, ap, sym, ◌∙◌, ◌≡◌, length, set}
+use Rattle.std.proofs.lemmas.Result.{err_from_is_err_and}
+use Rattle.std.proofs.lemmas.List.{length_push, length-set}
+use Rattle.local_graph.proofs.ExploreLemmas.{start_fails, start_found, next_position, last_waiting, explored_more, explored_fails, explored_all, few_numbers, opening_numbered, moves_numbered}
+use Rattle.local_graph.proofs.graph_build.explore.Goals as goal
+
+pub returns-in_err-new_place-clause-graph : goal.returns-in_err-new_place-clause-graph
+returns-in_err-new_place-clause-graph g c =
+    let p = err_from_is_err_and c.from_residual.result c.from_residual.ensures.1 in
+    rw (p.1, p.2)
+    (start_fails _ _ _ _ _ _ _ c.requires.none c.start.ensures.packed c.in_err-new_place.ensures.placed)
+
+pub new_place-requires-clause-numbered : goal.new_place-requires-clause-numbered
+new_place-requires-clause-numbered g c =
+    opening_numbered c.args.region.now.cells c.args.table.now.numbers (length c.args.region.now.points) c.start.result c.start.ensures.full
+    c.requires.points c.requires.numbers c.start.ensures.packed
+
+pub exploring-init : goal.exploring-init
+exploring-init g c =
+    let full : c.len.result ≡ length c.new_place.new.table.positions.items = omega (arith, c.len.ensures, c.new_place.new.table.positions.ok) in
+    let first = start_found c.args.region.now.touch c.args.region.now.cells c.args.limit _ _ _ _ _ c.new-all.result _ _ _
+    c.requires.none c.start.ensures.packed c.new-all.ensures c.new-waiting.ensures.items c.in_ok-new_place.ensures.placed full c.in_ok-await_new.ensures in
+    record {
+      table = c.in_ok-new_place.ensures.table;
+      numbers = c.in_ok-new_place.ensures.numbers ∙ c.requires.numbers;
+      so_far = first;
+      fewer = few_numbers c.args.region.now.touch c.args.region.now.cells c.args.limit (length c.args.region.now.points) _ _ _ first c.start.ensures.full;
+      counted = omega (arith, c.in_ok-await_new.ensures.many, ap length c.new-all.ensures, ap length c.new-waiting.ensures.items, full);
+    }
+
+pub index-position-requires : goal.index-position-requires
+index-position-requires g c =
+    let ends = c.in-Some.ensures.items in
+    let inside = last_waiting _ _ _ _ _ _ c.pop.new.self.items c.in-Some.place c.exploring.invariant.so_far ends in
+    omega (arith, inside, c.exploring.table.positions.ok)
+
+pub list_edges-requires-clause-numbered : goal.list_edges-requires-clause-numbered
+list_edges-requires-clause-numbered g c =
+    let s = c.exploring.invariant.so_far in
+    let inside = last_waiting _ _ _ _ _ _ c.pop.new.self.items c.in-Some.place s c.in-Some.ensures.items in
+    let next = next_position c.args.region.now.touch c.args.region.now.cells _ _ _ s.reachable inside c.index-position.ensures in
+    let full = next.long ∙ c.start.ensures.full ∙ sym c.of-links.ensures.full in
+    let moves = c.in_ok-list_moves.ensures.moves c.args.region.now.touch next.cells c.of-links.ensures.table full next.packed in
+    moves_numbered c.args.region.now.touch next.cells c.deref.result.now c.exploring.table.numbers (length c.args.region.now.points)
+    (rw c.deref.ensures.value moves) (next.long ∙ c.start.ensures.full) c.requires.points c.exploring.invariant.numbers
+
+pub returns-in_err-list_edges-clause-graph : goal.returns-in_err-list_edges-clause-graph
+returns-in_err-list_edges-clause-graph g c =
+    let s = c.exploring.invariant.so_far in
+    let inside = last_waiting _ _ _ _ _ _ c.pop.new.self.items c.in-Some.place s c.in-Some.ensures.items in
+    let next = next_position c.args.region.now.touch c.args.region.now.cells _ _ _ s.reachable inside c.index-position.ensures in
+    let full = next.long ∙ c.start.ensures.full ∙ sym c.of-links.ensures.full in
+    let moves = c.in_ok-list_moves.ensures.moves c.args.region.now.touch next.cells c.of-links.ensures.table full next.packed in
+    let p = err_from_is_err_and c.from_residual-in_err-list_edges.result c.from_residual-in_err-list_edges.ensures.1 in
+    rw (p.1, p.2)
+    (explored_fails _ _ _ _ _ _ _ c.deref.result.now c.list_edges.new.edges.items _ s.reachable next
+    (rw c.deref.ensures.value moves) c.in_err-list_edges.ensures.edges)
+
+pub put-requires : goal.put-requires
+put-requires g c =
+    let s = c.exploring.invariant.so_far in
+    let inside = last_waiting _ _ _ _ _ _ c.pop.new.self.items c.in-Some.place s c.in-Some.ensures.items in
+    omega (arith, inside, s.beside)
+
+pub exploring-preserved : goal.exploring-preserved
+exploring-preserved g c =
+    let s = c.exploring.invariant.so_far in
+    let ends = c.in-Some.ensures.items in
+    let inside = last_waiting _ _ _ _ _ _ c.pop.new.self.items c.in-Some.place s ends in
+    let next = next_position c.args.region.now.touch c.args.region.now.cells _ _ _ s.reachable inside c.index-position.ensures in
+    let full = next.long ∙ c.start.ensures.full ∙ sym c.of-links.ensures.full in
+    let moves = c.in_ok-list_moves.ensures.moves c.args.region.now.touch next.cells c.of-links.ensures.table full next.packed in
+    let put = c.in_ok-put.ensures.ok ∙ ap (set c.exploring.all c.in-Some.place) c.deref-in-Some.ensures.value in
+    let found = c.list_edges.new.table.positions in
+    let count : c.len-in-Some.result ≡ length found.items = omega (arith, c.len-in-Some.ensures, found.ok) in
+    let awaited = c.in_ok-await_new-2.ensures in
+    let more = explored_more c.args.region.now.touch c.args.region.now.cells c.args.limit _ _ c.exploring.all c.put.new.self _ _ _ _ _ _ c.len-in-Some.result
+    c.deref.result.now c.list_edges.new.edges.items c.in_ok-list_edges.field-0 s ends next (rw c.deref.ensures.value moves)
+    c.in_ok-list_edges.ensures.edges put count awaited in
+    record {
+      table = c.in_ok-list_edges.ensures.table;
+      numbers = c.in_ok-list_edges.ensures.numbers ∙ c.exploring.invariant.numbers;
+      so_far = more;
+      fewer = few_numbers c.args.region.now.touch c.args.region.now.cells c.args.limit (length c.args.region.now.points) _ _ _ more c.start.ensures.full;
+      counted = omega (
+        arith,
+        c.in_ok-list_moves.ensures.step,
+        c.exploring.invariant.counted,
+        awaited.many,
+        count,
+        ap length put,
+        length-set c.exploring.all c.in-Some.place c.list_edges.new.edges.items,
+        s.beside,
+        ap length ends,
+        length_push c.pop.new.self.items c.in-Some.place,
+      );
+    }
+
+pub returns-clause-graph : goal.returns-clause-graph
+returns-clause-graph g c =
+    let none : length c.exploring.waiting.items ≡ 0 = omega (arith, c.in_default.ensures.cases.0, c.exploring.waiting.ok) in
+    explored_all _ _ _ _ _ _ c.exploring.invariant.so_far none

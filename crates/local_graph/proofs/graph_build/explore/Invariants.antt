@@ -1,0 +1,16 @@
+use Rattle.std.proofs.Common.{◌≡◌, ◌+◌, ◌-◌, length, ◌≤◌, ◌^◌}
+use Rattle.local_graph.specs.inner.PlaceTable.{IsTable}
+use Rattle.local_graph.proofs.ExploreLemmas.{Exploring}
+use Rattle.local_graph.proofs.graph_build.explore.Given as goal
+
+abbrev pub invariant-exploring : goal.invariant-exploring
+invariant-exploring g l = record {
+  table : IsTable l.table;
+  numbers : l.table.numbers ≡ 3 ^ length l.region.points;
+  so_far : Exploring l.region.touch l.region.cells l.fn.limit l.table.positions.items l.all l.waiting.items;
+  fewer : length l.table.positions.items ≤ 3 ^ length l.region.points;
+  counted : l.steps + length l.waiting.items ≡ l.initial.steps + length l.table.positions.items;
+}
+
+abbrev pub decreases-exploring : goal.decreases-exploring
+decreases-exploring g l = l.fn.limit + length l.waiting.items - length l.table.positions.items

@@ -1,0 +1,11 @@
+use Rattle.std.proofs.Common.{◌≡◌}
+use Rattle.local_graph.specs.inner.PlaceTable.{IsTable}
+use Rattle.local_graph.proofs.FoundLemmas.{Linking}
+use Rattle.local_graph.proofs.graph_build.list_edges.Given as goal
+
+abbrev pub invariant-loop-step : goal.invariant-loop-step
+invariant-loop-step l = record {
+  linking : Linking l.initial.table.positions.items l.moves l.fn.limit l.table.positions.items l.edges.items l.step-index;
+  table : IsTable l.table;
+  numbers : l.table.numbers ≡ l.initial.table.numbers;
+}

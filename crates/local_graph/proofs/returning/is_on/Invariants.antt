@@ -1,6 +1,0 @@
-use Rattle.std.proofs.Common.{◌≢◌, ◌<◌, get_or, ℕ}
-use Rattle.local_graph.specs.Searching.{nodes_of}
-use Rattle.local_graph.proofs.returning.is_on.Given as goal
-
-abbrev pub invariant-looking : goal.invariant-looking
-invariant-looking l = (k : ℕ) → k < l.frame-index → get_or (nodes_of l.path) k 0 ≢ l.node

@@ -1,4 +1,0 @@
-use Rattle.local_graph.proofs.tests.builds.Given as goal
-
-abbrev pub ghosts-answer : goal.ghosts-answer
-ghosts-answer g a = record { name = a.blank.name; parts = a.blank.parts }

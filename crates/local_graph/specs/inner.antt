@@ -1,0 +1,9 @@
+-- What loops and private calls keep; no public clause cites it.
+pub mod Breadth
+pub mod Components
+pub mod Found
+pub mod PlaceTable
+pub mod Searching
+pub mod Graph
+pub mod Built
+pub mod SearchedFor

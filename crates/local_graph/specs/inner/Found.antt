@@ -1,0 +1,59 @@
+-- What exploring keeps: the positions found so far, as numbers, and their edges.
+use Rattle.std.specs.Prelude.{◌≡◌, ◌≢◌, ℕ, ◌+◌, ◌<◌, ◌≤◌, ◌⊎◌, List, [], ◌∷◌, ◌++◌, length, slice_index, slice_index_or, Contains, Result, Ok, Err}
+use Rattle.std.specs.List.{AllPairs}
+use Rattle.go_grid.specs.declared.grid.Cell.{Cell}
+use Rattle.go_grid.specs.declared.region.Touch.{Touch}
+use Rattle.local_play.specs.declared.local_move.LocalMove.{LocalMove}
+use Rattle.local_graph.specs.declared.graph.Edge.{Edge}
+use Rattle.local_graph.specs.declared.graph_build.GraphError.{GraphError}
+use Rattle.local_graph.specs.declared.graph_build.GraphError.TheVariants.{Points, Positions, Cycle, Memory}
+use Rattle.local_graph.specs.LocalGraph.{AreEdges, IsGraph, MoreThan}
+
+-- the number is among the positions afterwards, last where it was not there
+abbrev pub Grows : List ℕ → ℕ → List ℕ → Type 0
+Grows before n after = (after ≡ before) ⊎ ((after ≡ before ++ n ∷ []) × ¬ Contains before n)
+
+-- the number's place, or that there are more positions than the limit
+abbrev pub Placed : List ℕ → ℕ → ℕ → List ℕ → Result ℕ GraphError → Type 0
+Placed before n limit after (Ok place) = Grows before n after × (place < length after) × (slice_index after place ≡ n) × (length after ≤ limit)
+Placed before n limit after (Err Positions) = Grows before n after × (limit < length after)
+Placed before n limit after (Err (Points p)) = ⊥
+Placed before n limit after (Err (Cycle ms back)) = ⊥
+Placed before n limit after (Err (Memory e)) = Unit {0}
+
+-- positions were added that moves of the list lead to
+pub record Extends (before : List ℕ) (moves : List LocalMove) (after : List ℕ) : Type 0 where
+  pub more : List ℕ
+  pub appended : after ≡ before ++ more
+  pub new : (n : ℕ) → Contains after n → Contains before n ⊎ ((m : LocalMove) × Contains moves m × (m.next ≡ n))
+  pub once : AllPairs (λ a b. a ≢ b) after
+
+-- the edge of a move that leads to the position at a place
+abbrev pub edge_of : LocalMove → ℕ → Edge
+edge_of m next = record { next = next; colour = m.colour; place = m.place; taken = m.taken }
+
+-- the edges of the moves, or that there are more positions than the limit
+abbrev pub EdgesFor : List ℕ → List LocalMove → ℕ → List ℕ → List Edge → Result (Unit {0}) GraphError → Type 0
+EdgesFor before moves limit after edges (Ok done) =
+    Extends before moves after × AreEdges after moves edges × (length after ≤ limit)
+EdgesFor before moves limit after edges (Err Positions) = Extends before moves after × (limit < length after)
+EdgesFor before moves limit after edges (Err (Points p)) = ⊥
+EdgesFor before moves limit after edges (Err (Cycle ms back)) = ⊥
+EdgesFor before moves limit after edges (Err (Memory e)) = Unit {0}
+
+-- each place from the number of lists on waits behind those that wait, with an empty list
+pub record AreAwaited (all : List (List Edge)) (waiting : List ℕ) (count : ℕ) (after : List (List Edge)) (still : List ℕ) : Type 0 where
+  pub long : length after ≡ count
+  pub lists : (i : ℕ) → slice_index_or after i [] ≡ slice_index_or all i []
+  pub old : (i : ℕ) → Contains waiting i → Contains still i
+  pub new : (i : ℕ) → length all ≤ i → i < count → Contains still i
+  pub only : (i : ℕ) → Contains still i → Contains waiting i ⊎ (i < count)
+  pub many : length still + length all ≡ length waiting + count
+
+-- the whole graph, or that more positions are reachable than the limit
+abbrev pub Explored : List Touch → List Cell → ℕ → List ℕ → Result (List (List Edge)) GraphError → Type 0
+Explored touch opening limit positions (Ok edges) = IsGraph touch opening positions edges × (length positions ≤ limit)
+Explored touch opening limit positions (Err Positions) = MoreThan touch opening limit
+Explored touch opening limit positions (Err (Points p)) = ⊥
+Explored touch opening limit positions (Err (Cycle ms back)) = ⊥
+Explored touch opening limit positions (Err (Memory e)) = Unit {0}

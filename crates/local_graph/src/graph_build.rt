@@ -1,0 +1,208 @@
+//! Building a graph: the positions are explored in the order in which they are found, and then put in an order.
+
+ghost use Rattle.std.specs.Prelude.{◌≡◌, ◌≢◌, ◌+◌, ◌*◌, ◌^◌, ◌<◌, ◌≤◌, List, [], length, Contains, slice_index, IfOk, OnOk, IfSome, IfNone, MatchResult, alloc_error};
+ghost use Rattle.local_graph.specs.declared.graph_build.GraphError.TheVariants.{Memory};
+ghost use Rattle.std.specs.List.{AllPairs};
+ghost use Rattle.local_graph.specs.Built.{Built};
+ghost use Rattle.local_graph.specs.inner.Found.{Placed, EdgesFor, edge_of, Explored, AreAwaited};
+ghost use Rattle.local_graph.specs.inner.PlaceTable.{IsTable, IsNumbered};
+
+use crate::cycle::CycleList;
+use crate::edge_lists::EdgeLists;
+use crate::graph::{Edge, Graph};
+use crate::place_table::PlaceTable;
+use crate::search::{Searched, search_from_opening};
+use go_grid::Region;
+use local_play::{Links, Local, LocalMove, Steps, list_moves, start};
+use std::alloc::{AllocError, AllocFailed, Global};
+use std::sync::ledger::Ledger;
+
+/// Why a region has no graph.
+#[derive(Debug, Drop, thiserror::Error)]
+pub enum GraphError {
+    /// The region has more than 32 points. Their number.
+    #[error("{0} points in a region")]
+    Points(u16),
+    /// More positions are reachable than the limit.
+    #[error("too many positions in a region")]
+    Positions,
+    /// Legal moves from the opening that lead to the position after so many of them. The positions before it are all
+    /// different.
+    #[error("a cycle of moves in a region")]
+    Cycle(CycleList, usize),
+    #[error("out of memory")]
+    Memory(AllocError),
+}
+
+impl From<AllocError> for GraphError {
+    ghost from_gives = { λ cause e. e ≡ Memory cause };
+
+    fn from(error: AllocError) -> GraphError {
+        GraphError::Memory(error)
+    }
+}
+
+impl<T: Drop> From<AllocFailed<T>> for GraphError {
+    ghost from_gives = { λ _ e. e ≡ Memory alloc_error };
+
+    fn from(_: AllocFailed<T>) -> GraphError {
+        GraphError::Memory(AllocError)
+    }
+}
+
+/// The place of a position that wasn't found before: it stands behind the others. So does one that is too many.
+#[inline(never)]
+fn new_place(
+    alloc: Global,
+    table: &mut PlaceTable,
+    position: Local,
+    limit: u32,
+) -> Result<usize, GraphError>
+    requires table { IsTable table.old }
+    requires new { ¬ Contains table.old.positions.items position }
+    requires numbered { IsNumbered table.old.numbers position }
+    requires few { length table.old.positions.items ≤ limit }
+    ensures placed { Placed table.old.positions.items position limit table.new.positions.items result }
+    ensures table { OnOk result (IsTable table.new) }
+    ensures numbers { OnOk result (table.new.numbers ≡ table.old.numbers) }
+{
+    let place = table.positions.len();
+    if place < limit as usize {
+        table.add(alloc, position.0)?;
+        return Ok(place);
+    }
+    table.positions.push(position.0)?;
+    Err(GraphError::Positions)
+}
+
+/// The place of a position, if it was found.
+#[inline(always)]
+fn place_of(table: &PlaceTable, position: Local) -> Option<usize>
+    requires table { IsTable table.now }
+    requires numbered { IsNumbered table.now.numbers position }
+    ensures found { IfSome result (λ place. (place < length table.now.positions.items)
+        × (slice_index table.now.positions.items place ≡ position)) }
+    ensures absent { IfNone result (¬ Contains table.now.positions.items position) }
+{
+    table.find(position.0)
+}
+
+/// The edge of a move that leads to the position at a place.
+fn edge_of(step: &LocalMove, next: usize) -> Edge
+    ensures { result ≡ edge_of step.now next }
+{
+    Edge {
+        next,
+        colour: step.colour,
+        place: step.place,
+        taken: step.taken,
+    }
+}
+
+/// Makes the list that of the edges of a position's moves.
+fn list_edges(
+    alloc: Global,
+    table: &mut PlaceTable,
+    moves: &[LocalMove],
+    limit: u32,
+    edges: &mut Vec<Edge>,
+) -> Result<(), GraphError>
+    requires table { IsTable table.old }
+    requires once { AllPairs (λ a b. a ≢ b) table.old.positions.items }
+    requires numbered { (m : LocalMove) → Contains moves.now m
+        → IsNumbered table.old.numbers m.next }
+    requires few { length table.old.positions.items ≤ limit }
+    ensures edges { EdgesFor table.old.positions.items moves.now limit table.new.positions.items edges.new.items result }
+    ensures table { OnOk result (IsTable table.new) }
+    ensures numbers { OnOk result (table.new.numbers ≡ table.old.numbers) }
+{
+    edges.clear();
+    for step in moves {
+        if let Some(place) = place_of(table, step.next) {
+            edges.push(edge_of(step, place))?;
+            continue;
+        }
+        let place = new_place(alloc, table, step.next, limit)?;
+        edges.push(edge_of(step, place))?;
+    }
+    Ok(())
+}
+
+/// Puts the places from the number of lists on behind those that wait, and an empty list for each.
+fn await_new(all: &mut EdgeLists, waiting: &mut Vec<usize>, count: usize) -> Result<(), AllocError>
+    requires { length all.old ≤ count }
+    ensures { OnOk result (AreAwaited all.old waiting.old.items count all.new waiting.new.items) }
+{
+    'awaiting: while all.len() < count {
+        waiting.push(all.len())?;
+        all.push(&[])?;
+    }
+    Ok(())
+}
+
+/// All positions that are reachable, and their moves. The position that was found last comes next, so that what stands
+/// side by side is used one after the other by the passes to come.
+pub(crate) fn explore<L: Ledger>(
+    alloc: Global,
+    region: &Region,
+    limit: u32,
+    table: &mut PlaceTable,
+    steps: &mut Steps<L>,
+) -> Result<EdgeLists, GraphError>
+    requires points { length region.now.points ≤ 32 }
+    requires table { IsTable table.old }
+    requires none { table.old.positions.items ≡ [] }
+    requires numbers { table.old.numbers ≡ 3 ^ length region.now.points }
+    ensures graph { Explored region.now.touch region.now.cells limit table.new.positions.items result }
+    ensures limited { steps.new ≤ steps.old + limit }
+    ensures finite { steps.new ≤ steps.old + 3 ^ length region.now.points }
+{
+    let mut all = EdgeLists::new(alloc);
+    let mut waiting = Vec::new(alloc);
+    new_place(alloc, table, start(region), limit)?;
+    await_new(&mut all, &mut waiting, table.positions.len())?;
+    let links = Links::of(region);
+    let mut moves = Vec::new(alloc);
+    let mut edges = Vec::new(alloc);
+    'exploring: while let Some(place) = waiting.pop() {
+        let position = table.positions[place];
+        list_moves(&links, Local(position), steps, &mut moves)?;
+        list_edges(alloc, table, &moves, limit, &mut edges)?;
+        all.put(place, &edges)?;
+        await_new(&mut all, &mut waiting, table.positions.len())?;
+    }
+    Ok(all)
+}
+
+/// The positions found, as a list alone: what finds their places is given back.
+fn positions_of(table: PlaceTable) -> Vec<u64>
+    ensures { result.items ≡ table.positions.items }
+{
+    table.positions
+}
+
+/// The graph of exactly the positions that local play reaches from the region's cells, each with exactly its moves. It takes at
+/// most one step for each of them.
+pub fn build<L: Ledger>(
+    alloc: Global,
+    region: &Region,
+    limit: u32,
+    steps: &mut Steps<L>,
+) -> Result<Graph, GraphError>
+    ensures built { Built region.now limit result }
+    ensures limited { steps.new ≤ steps.old + limit }
+    ensures finite { steps.new ≤ steps.old + 3 ^ length region.now.points }
+{
+    let shape = region;
+    let points = shape.points.len();
+    if points > 32 {
+        return Err(GraphError::Points(points as u16));
+    }
+    let mut found = PlaceTable::new(alloc, points)?;
+    let edges = explore(alloc, region, limit, &mut found, steps)?;
+    let positions = positions_of(found);
+    match search_from_opening(alloc, &edges)? {
+        Searched::Order(order) => Ok(Graph::new(positions, edges, order)),
+        Searched::Cycle(moves, start) => Err(GraphError::Cycle(moves, start)),
+    }
+}

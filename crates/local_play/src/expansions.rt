@@ -1,0 +1,75 @@
+//! All local moves of a position.
+
+ghost use Rattle.std.specs.Prelude.{◌≡◌, ℕ, ◌+◌, ◌≤◌, List, length, IfOk, OnOk};
+ghost use Rattle.go_grid.specs.declared.grid.Cell.{Cell};
+ghost use Rattle.go_grid.specs.declared.region.Touch.{Touch};
+ghost use Rattle.local_play.specs.Packed.{pack};
+ghost use Rattle.local_play.specs.Moves.{ListsMoves, IsPosition};
+ghost use Rattle.local_play.specs.Links.{IsTable};
+ghost use Rattle.local_play.specs.inner.Lasting.{IsTurn, AddsMoves};
+
+use crate::links::Links;
+use crate::local::Local;
+use crate::local_move::{LocalMove, Turn};
+use crate::places::{MOST_PLACES, Places};
+use crate::steps::Steps;
+use go_grid::Region;
+use std::alloc::{AllocError, Global};
+use std::sync::ledger::Ledger;
+
+/// Adds the moves of a colour, by place.
+#[inline(always)]
+fn add_moves(links: &Links, turn: &Turn, moves: &mut Vec<LocalMove>) -> Result<(), AllocError>
+    ensures { (touch : List Touch) (cells : List Cell) → IsTable touch links.now
+        → IsTurn touch cells turn.now
+        → OnOk result (AddsMoves touch cells turn.now.colour moves.old.items moves.new.items) }
+{
+    let mut rest = turn.empty;
+    'placing: while let Some(place) = rest.first() {
+        rest = rest.without(Places::of(place));
+        if let Some(found) = turn.try_stone(links, place) {
+            moves.push(found)?;
+        }
+    }
+    Ok(())
+}
+
+/// Makes the list that of all legal local moves of a position of the region that the links are of: Black's by place and
+/// then White's. It takes one step.
+pub fn list_moves<L: Ledger>(
+    links: &Links,
+    from: Local,
+    steps: &mut Steps<L>,
+    moves: &mut Vec<LocalMove>,
+) -> Result<(), AllocError>
+    ensures moves { (touch : List Touch) (cells : List Cell) → IsTable touch links.now
+        → length cells ≡ length touch → from ≡ pack cells
+        → OnOk result (ListsMoves touch cells moves.new.items) }
+    ensures step { steps.new ≡ steps.old + 1 }
+{
+    steps.tick();
+    moves.clear();
+    let black = Turn::of(links, from);
+    add_moves(links, &black, moves)?;
+    add_moves(links, &black.other(), moves)?;
+    Ok(())
+}
+
+/// All legal local moves of a position of the region, which has at most 32 points: Black's by place and then White's. It
+/// takes one step.
+pub fn expand<L: Ledger>(
+    alloc: Global,
+    region: &Region,
+    from: Local,
+    steps: &mut Steps<L>,
+) -> Result<Vec<LocalMove>, AllocError>
+    requires few { length region.now.points ≤ MOST_PLACES }
+    requires from { IsPosition (length region.now.points) from }
+    ensures moves { (cells : List Cell) → length cells ≡ length region.now.points → from ≡ pack cells
+        → IfOk result (λ moves. ListsMoves region.now.touch cells moves.items) }
+    ensures step { steps.new ≡ steps.old + 1 }
+{
+    let mut moves = Vec::new(alloc);
+    list_moves(&Links::of(region), from, steps, &mut moves)?;
+    Ok(moves)
+}

@@ -1,0 +1,241 @@
+//! Sessions over shelves, sources and sinks in memory.
+
+ghost use Rattle.std.specs.Prelude.{◌≡◌, ◌<◌, ◌≤◌};
+
+use desk_io::{MemoryShelf, MemorySink, MemorySource};
+use endgame_solver::Limits;
+use gtp_engine::{Engine, GtpEnd};
+use local_play::Steps;
+use std::alloc::{AllocError, Global};
+use std::marker::Brand;
+use std::sync::ledger::{Blank, Ledger};
+use std::test::Fail;
+
+/// `.X.X.O.O.` / `XXXXXOOOO`, with one contested point.
+const ONE_POINT: &[u8] = b"(;SZ[9:2]AB[ba][da][ab:eb]AW[fa][ha][fb:ib])";
+
+/// A corridor of two points, where White gets half a point and moves.
+const CORRIDOR: &[u8] =
+    b"(;SZ[10:3]KM[0.5]PL[W]AB[ba][da:fa][ab:db][ac:fc]AW[ga][ia][gb:jb][gc:jc])";
+
+/// Two stones of Black's and one of White's in atari, where Black gets half a point and moves.
+const ATARI: &[u8] = b"(;SZ[10:5]KM[-0.5]AB[ba][da:fa][ab:db][ac:fc][ad:fd][hd:id][ae:fe]\
+    AW[ga][ia][eb][gb:jb][gc:jc][jd][ge:je])";
+
+const LIMITS: Limits = Limits {
+    positions: 100_000,
+    parts: 500,
+    tax: false,
+};
+
+/// What a session comes to: its end, how many loads there were, those that failed, and what was written.
+#[derive(Drop)]
+struct Outcome {
+    end: GtpEnd,
+    loads: u32,
+    failed: Vec<u32>,
+    written: Vec<u8>,
+}
+
+/// What a session over these things comes to. A new ledger counts its steps.
+fn counted<L: Ledger>(
+    alloc: Global,
+    shelf: &mut MemoryShelf,
+    lines: &mut MemorySource,
+    out: &mut MemorySink,
+    blank: Blank,
+) -> Result<Outcome, AllocError>
+    requires name { blank.name ≡ L.name }
+    requires parts { blank.parts ≡ L.parts }
+    requires some { 0 < blank.parts }
+{
+    let mut engine = Engine::new(alloc, LIMITS)?;
+    let end = engine.run(shelf, lines, out, &mut Steps::<L>::new(blank));
+    Ok(Outcome {
+        end,
+        loads: engine.loads(),
+        failed: engine.failed_loads().to_vec(alloc)?,
+        written: out.written().to_vec(alloc)?,
+    })
+}
+
+/// Which calls fail, counted from 0; there is no call of the last number.
+#[derive(Clone, Copy)]
+struct Failing {
+    load: u64,
+    read: u64,
+    write: u64,
+}
+
+const NONE: Failing = Failing {
+    load: u64::MAX,
+    read: u64::MAX,
+    write: u64::MAX,
+};
+
+/// What a session over lines in pieces of a size comes to.
+fn session(
+    alloc: Global,
+    text: &[u8],
+    piece: usize,
+    failing: Failing,
+) -> Result<Outcome, AllocError>
+    requires { 1 ≤ piece }
+{
+    let mut shelf = MemoryShelf::new(alloc);
+    shelf.add("c", ONE_POINT.to_vec(alloc)?)?;
+    shelf.add("corridor", CORRIDOR.to_vec(alloc)?)?;
+    shelf.add("atari", ATARI.to_vec(alloc)?)?;
+    shelf.fail_at(failing.load)?;
+    let mut lines = MemorySource::new(text.to_vec(alloc)?, piece, vec![in alloc; failing.read]?);
+    let mut out = MemorySink::with_room(alloc, 5_000, vec![in alloc; failing.write]?)?;
+    counted::<Brand>(alloc, &mut shelf, &mut lines, &mut out, Blank::new(1))
+}
+
+#[test]
+fn answers_lines(rt: HostRuntime) -> Result<(), Fail> {
+    let alloc = rt.alloc();
+    let rows: [(&[u8], GtpEnd, &[u8]); 4] = [
+        (
+            b"1 protocol_version\nloadsgf c\ngenmove b\nplay w e2\nplay b pass\nplay w pass\ngenmove b\ngenmove w\n\
+            genmove b\ngenmove b\ngenmove w\nquit\nname\n",
+            GtpEnd::Quit,
+            b"=1 2\n\n= \n\n= E2\n\n? illegal move\n\n? not in turn\n\n= \n\n= pass\n\n= pass\n\n= pass\n\n? not in turn\n\n\
+            = resign\n\n= \n\n",
+        ),
+        (
+            b"genmove b\nboardsize 26\nloadsgf e\nfrob\nkomi\nknown_command half",
+            GtpEnd::InputEnded,
+            b"? cannot solve\n\n? unacceptable size\n\n? cannot load file\n\n? unknown command\n\n? syntax error\n\n= false\n\n",
+        ),
+        (
+            b"known_command\nboardsize\nkomi\nplay\nplay b\ngenmove\nloadsgf\nprotocol_version x\nname x\nversion x\n\
+            known_command a b\nlist_commands x\nboardsize 9 9\nclear_board x\nkomi 1 2\nplay b a1 a1\ngenmove b b\n\
+            loadsgf c 1 1\nquit x\nboardsize x\nkomi x\nplay x a1\nplay b i1\nplay b a01\nplay b a26\ngenmove x\n\
+            loadsgf c x\nloadsgf c 0\n",
+            GtpEnd::InputEnded,
+            b"? syntax error\n\n? syntax error\n\n? syntax error\n\n? syntax error\n\n? syntax error\n\n\
+            ? syntax error\n\n? syntax error\n\n? syntax error\n\n? syntax error\n\n? syntax error\n\n\
+            ? syntax error\n\n? syntax error\n\n? syntax error\n\n? syntax error\n\n? syntax error\n\n\
+            ? syntax error\n\n? syntax error\n\n? syntax error\n\n? syntax error\n\n? syntax error\n\n\
+            ? syntax error\n\n? syntax error\n\n? syntax error\n\n? syntax error\n\n? syntax error\n\n\
+            ? syntax error\n\n? syntax error\n\n? syntax error\n\n",
+        ),
+        (
+            b"loadsgf c 1000001\n\t \n# name\n7\n12345678901 name\n007\tna\x01me # x\nboardsize 00000000002\nplay b z25\nkomi .5\n\
+            KOMI 1\nknown_command quit\n",
+            GtpEnd::InputEnded,
+            b"? syntax error\n\n?7 unknown command\n\n? unknown command\n\n=007 gdsolve\n\n? syntax error\n\n? cannot solve\n\n\
+            = \n\n? unknown command\n\n= true\n\n",
+        ),
+    ];
+    for piece in [1, 7, 5_000] {
+        for (text, end, wants) in rows {
+            let outcome = session(alloc, text, piece, NONE)?;
+            assert!(rt; outcome.end == end);
+            assert_eq!(rt; outcome.written.as_slice(), wants);
+        }
+    }
+    Ok(())
+}
+
+#[test]
+fn ends_at_faults(rt: HostRuntime) -> Result<(), Fail> {
+    let alloc = rt.alloc();
+    let read = Failing { read: 1, ..NONE };
+    let write = Failing { write: 1, ..NONE };
+    let rows: [(Failing, GtpEnd); 2] = [(read, GtpEnd::ReadFault), (write, GtpEnd::WriteFault)];
+    for (failing, end) in rows {
+        let outcome = session(alloc, b"name\nname\n", 5, failing)?;
+        assert!(rt; outcome.end == end);
+        assert!(rt; outcome.written.as_slice() == b"= gdsolve\n\n".as_slice());
+    }
+    Ok(())
+}
+
+#[test]
+fn notes_failed_loads(rt: HostRuntime) -> Result<(), Fail> {
+    let alloc = rt.alloc();
+    let failing = Failing { load: 1, ..NONE };
+    let text = b"loadsgf c\nloadsgf c 1\ngenmove w\nloadsgf c\nloadsgf \xff\n";
+    let outcome = session(alloc, text.as_slice(), 64, failing)?;
+    assert!(rt; outcome.end == GtpEnd::InputEnded);
+    assert_eq!(rt; outcome.loads, 3);
+    assert_eq!(rt; outcome.failed.as_slice(), [1_u32].as_slice());
+    let wants = b"= \n\n? cannot load file\n\n= E2\n\n= \n\n? cannot load file\n\n";
+    assert!(rt; outcome.written.as_slice() == wants.as_slice());
+    Ok(())
+}
+
+#[test]
+fn ends_after_ten_thousand_lines(rt: HostRuntime) -> Result<(), Fail> {
+    let alloc = rt.alloc();
+    let rows: [(usize, GtpEnd); 2] = [(9_999, GtpEnd::InputEnded), (10_000, GtpEnd::TooManyLines)];
+    for (count, end) in rows {
+        let text = vec![in alloc; b'\n'; count]?;
+        let outcome = session(alloc, text.as_slice(), 4_096, NONE)?;
+        assert!(rt; outcome.end == end);
+        assert!(rt; outcome.written.is_empty());
+    }
+    Ok(())
+}
+
+/// The lines of a session with one more, made of parts.
+fn with_line(alloc: Global, lines: &[u8], parts: &[&[u8]]) -> Result<Vec<u8>, AllocError> {
+    let mut all = lines.to_vec(alloc)?;
+    for part in parts {
+        all.extend_from_slice(part)?;
+    }
+    all.extend_from_slice(b"\n")?;
+    Ok(all)
+}
+
+/// Adds the lines with a move of the opponent's behind them, where the engine takes it.
+fn add_answer(
+    alloc: Global,
+    lines: &[u8],
+    parts: &[&[u8]],
+    open: &mut Vec<Vec<u8>>,
+) -> Result<(), AllocError> {
+    let answer = with_line(alloc, lines, parts)?;
+    let outcome = session(alloc, &answer, 500, NONE)?;
+    if outcome.written.ends_with(b"\n\n= \n\n") {
+        open.push(answer)?;
+    }
+    Ok(())
+}
+
+#[test]
+fn wins_against_every_line(rt: HostRuntime) -> Result<(), Fail> {
+    let alloc = rt.alloc();
+    let rows: [(&[u8], &[u8], &[u8]); 2] = [
+        (b"loadsgf corridor\n", b"genmove w", b"play b "),
+        (b"loadsgf atari\n", b"genmove b", b"play w "),
+    ];
+    let columns: [&[u8]; 10] = [b"a", b"b", b"c", b"d", b"e", b"f", b"g", b"h", b"j", b"k"];
+    let numbers: [&[u8]; 5] = [b"1", b"2", b"3", b"4", b"5"];
+    for (load, generate, play) in rows {
+        let mut open = vec![in alloc; load.to_vec(alloc)?]?;
+        let mut games = 0_usize;
+        for _ in 0..100 {
+            let Some(lines) = open.pop() else { break };
+            let turn = with_line(alloc, &lines, &[generate])?;
+            let won = session(alloc, &turn, 500, NONE)?;
+            assert!(rt; !won.written.ends_with(b"resign\n\n"));
+            let before = open.len();
+            for number in numbers {
+                for column in columns {
+                    add_answer(alloc, &turn, &[play, column, number], &mut open)?;
+                }
+            }
+            add_answer(alloc, &turn, &[play, b"pass"], &mut open)?;
+            add_answer(alloc, &turn, &[play, b"half"], &mut open)?;
+            if open.len() == before {
+                games = games.saturating_add(1);
+            }
+        }
+        assert!(rt; open.is_empty());
+        assert_eq!(rt; games, 4);
+    }
+    Ok(())
+}

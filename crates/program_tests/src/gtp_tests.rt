@@ -1,0 +1,131 @@
+//! Sessions of the engine.
+
+use crate::play_tests::repeated;
+use crate::run_tests::{Failing, NOTHING_FAILS, outcome};
+use endgame_run::Status;
+use std::test::Fail;
+
+const LOADED: &[u8] =
+    b"1 protocol_version\nloadsgf c\ngenmove b\nplay w e2\nplay b pass\nplay w pass\ngenmove b\ngenmove w\ngenmove b\n\
+    genmove b\ngenmove w\nquit\nname\n";
+
+const LOADED_TEXT: &str =
+    "=1 2\n\n= \n\n= E2\n\n? illegal move\n\n? not in turn\n\n= \n\n= pass\n\n= pass\n\n= pass\n\n? not in turn\n\n= resign\n\n= \n\n";
+
+const FRESH: &[u8] = b"genmove b\nboardsize 26\nloadsgf nothing\nfrob\nkomi\nknown_command half\n";
+
+const FRESH_TEXT: &str =
+    "? cannot solve\n\n? unacceptable size\n\n? cannot load file\n\n? unknown command\n\n? syntax error\n\n= false\n\n";
+
+#[test]
+fn answers_the_lines(rt: HostRuntime) -> Result<(), Fail> {
+    let alloc = rt.alloc();
+    let first_load = Failing {
+        load: 0,
+        ..NOTHING_FAILS
+    };
+    let second_read = Failing {
+        read: 1,
+        ..NOTHING_FAILS
+    };
+    let second_write = Failing {
+        write: 1,
+        ..NOTHING_FAILS
+    };
+    let rows: [(&[&str], &[u8], usize, Failing, Status, &str); 8] = [
+        (
+            &["gtp"],
+            LOADED,
+            500,
+            NOTHING_FAILS,
+            Status::Done,
+            LOADED_TEXT,
+        ),
+        (
+            &["gtp"],
+            FRESH,
+            500,
+            NOTHING_FAILS,
+            Status::Done,
+            FRESH_TEXT,
+        ),
+        (
+            &["gtp", "--positions", "1", "--parts", "1"],
+            b"loadsgf c\ngenmove b",
+            500,
+            NOTHING_FAILS,
+            Status::Done,
+            "= \n\n? cannot solve\n\n",
+        ),
+        (
+            &["gtp"],
+            b"loadsgf c\nloadsgf c\n",
+            500,
+            first_load,
+            Status::Done,
+            "? cannot load file\n\n= \n\n",
+        ),
+        (
+            &["gtp"],
+            b"2 name\nversion\n",
+            500,
+            second_read,
+            Status::CannotRead,
+            "=2 gdsolve\n\nfault cannot read\n",
+        ),
+        (
+            &["gtp"],
+            b"name\nversion\n",
+            500,
+            second_write,
+            Status::CannotWrite,
+            "= gdsolve\n\n",
+        ),
+        (
+            &["gtp"],
+            b"name\n",
+            5,
+            NOTHING_FAILS,
+            Status::CannotWrite,
+            "= gds",
+        ),
+        (
+            &["gtp", "c"],
+            b"name\n",
+            500,
+            NOTHING_FAILS,
+            Status::Usage,
+            "fault usage\n",
+        ),
+    ];
+    for (words, lines, room, failing, status, text) in rows {
+        let (got, written) = outcome(alloc, words, lines, room, failing)?;
+        assert_eq!(rt; written.as_slice(), text.as_bytes());
+        assert_eq!(rt; got, status);
+    }
+    Ok(())
+}
+
+#[test]
+fn reads_ten_thousand_lines(rt: HostRuntime) -> Result<(), Fail> {
+    let alloc = rt.alloc();
+    let rows: [(usize, &[u8], Status, &str); 4] = [
+        (9_999, b"", Status::Done, ""),
+        (9_999, b"quit\nname\n", Status::Done, "= \n\n"),
+        (
+            9_999,
+            b"name",
+            Status::TooManyLines,
+            "= gdsolve\n\nfault lines\n",
+        ),
+        (10_000, b"quit\n", Status::TooManyLines, "fault lines\n"),
+    ];
+    for (blanks, last, status, text) in rows {
+        let mut lines = repeated(alloc, b"\n", blanks)?;
+        lines.extend_from_slice(last)?;
+        let (got, written) = outcome(alloc, &["gtp"], &lines, 500, NOTHING_FAILS)?;
+        assert_eq!(rt; written.as_slice(), text.as_bytes());
+        assert_eq!(rt; got, status);
+    }
+    Ok(())
+}

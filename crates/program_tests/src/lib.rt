@@ -1,0 +1,33 @@
+//! Tests of words, solved games, sessions and whole runs of the program. No program uses them.
+#![tactic(auto)]
+
+#[cfg(test)]
+mod calc_tests;
+#[cfg(test)]
+mod device_tests;
+#[cfg(test)]
+mod engine_tests;
+#[cfg(test)]
+mod gtp_tests;
+#[cfg(test)]
+mod outside_tests;
+#[cfg(test)]
+mod plain_solved_tests;
+#[cfg(test)]
+mod plain_tests;
+#[cfg(test)]
+mod play_tests;
+#[cfg(test)]
+mod run_tests;
+#[cfg(test)]
+mod shared_shape_tests;
+#[cfg(test)]
+mod solved_tests;
+#[cfg(test)]
+mod source_tests;
+#[cfg(test)]
+mod tax_tests;
+#[cfg(test)]
+mod values_tests;
+#[cfg(test)]
+mod word_tests;

@@ -1,0 +1,89 @@
+//! Games with a tax of two points for each group.
+
+use crate::run_tests::{NOTHING_FAILS, TIE_TEXT, outcome};
+use endgame_run::Status;
+use std::test::Fail;
+
+/// `.X.XO.O.OX.X.` / `XXXXOOOOOXXXX`: Black has two groups.
+const TWO_GROUPS: &[u8] = b"(;SZ[13:2]AB[ba][da][ab:db][ja][la][jb:mb]AW[ea][ga][ia][eb:ib])";
+
+const UNTAXED_TEXT: &str =
+    "side black\npurse black 4\npurse white 2\nhalf none\nregions 0\npositions 0\n\
+    winner black\nmove spend\n";
+
+const TAXED_TEXT: &str =
+    "side black\npurse black 0\npurse white 0\nhalf none\nregions 0\npositions 0\n\
+    winner white\nmove none\n";
+
+const CAPTIVE_TEXT: &str =
+    "side black\npurse black 2\npurse white 0\nhalf none\nregions 0\npositions 0\n\
+    winner black\nmove spend\n";
+
+/// `.X.X.`: two chains, linked by the point between them.
+const LINKED: &[u8] = b"(;SZ[5:1]AB[ba][da])";
+
+const LINKED_TEXT: &str =
+    "side black\npurse black 1\npurse white 0\nhalf none\nregions 0\npositions 0\n\
+    winner black\nmove spend\n";
+
+const LINKED_SAFE: &str = "chain ba black stones 1 alive\nchain da black stones 1 alive\n\
+    counted aa black points 1 held 1\ncounted ca black points 1 held 1\n\
+    counted ea black points 1 held 1\ngroups black 1\ngroups white 0\n";
+
+#[test]
+fn groups_pay_at_the_start(rt: HostRuntime) -> Result<(), Fail> {
+    let alloc = rt.alloc();
+    let rows: [(&[&str], &[u8], Status, &str); 10] = [
+        (&["solve", "a", "--tax", "no"], b"", Status::Done, TIE_TEXT),
+        (
+            &["solve", "a", "--tax", "yes"],
+            b"",
+            Status::Done,
+            TAXED_TEXT,
+        ),
+        (
+            &["solve", "g", "--tax", "yes"],
+            b"",
+            Status::Done,
+            CAPTIVE_TEXT,
+        ),
+        (&["solve", "-"], TWO_GROUPS, Status::Done, UNTAXED_TEXT),
+        (
+            &["solve", "-", "--tax", "yes"],
+            TWO_GROUPS,
+            Status::Done,
+            TAXED_TEXT,
+        ),
+        (
+            &["solve", "-", "--tax", "yes"],
+            LINKED,
+            Status::Done,
+            LINKED_TEXT,
+        ),
+        (
+            &["play", "c", "--tax", "yes"],
+            b"",
+            Status::Done,
+            "engine ea\nwinner black\n",
+        ),
+        (&["safe", "-"], LINKED, Status::Done, LINKED_SAFE),
+        (
+            &["solve", "a", "--tax", "2"],
+            b"",
+            Status::Usage,
+            "fault usage\n",
+        ),
+        (
+            &["safe", "a", "--tax", "yes"],
+            b"",
+            Status::Usage,
+            "fault usage\n",
+        ),
+    ];
+    for (words, file, status, text) in rows {
+        let (got, written) = outcome(alloc, words, file, 500, NOTHING_FAILS)?;
+        assert_eq!(rt; written.as_slice(), text.as_bytes());
+        assert_eq!(rt; got, status);
+    }
+    Ok(())
+}

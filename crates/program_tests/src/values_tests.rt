@@ -1,0 +1,73 @@
+//! The values of files.
+
+use crate::run_tests::{NOTHING_FAILS, outcome};
+use endgame_run::Status;
+use std::test::Fail;
+
+/// Two points that are worth nothing to who moves first.
+const NOTHING: &str =
+    "regions 1\nregion ea points 2 positions 9\nvalue 0\nstops 0 0\nmean 0\ntemperature none\n\
+    left 0:0\nright 0:0\n";
+
+/// A corridor of two points, open to White.
+const CORRIDOR: &str =
+    "regions 1\nregion eb points 2 positions 8\nvalue {1|*}\nstops 1 0\nmean 1/2\ntemperature 1/2\n\
+    left 0:1 1/2:1/2\nright 0:0 1/2:1/2\n";
+
+/// The corridor with a white stone inside.
+const VISITED: &str =
+    "regions 1\nregion eb points 2 positions 4\nvalue {2|0}\nstops 2 0\nmean 1\ntemperature 1\n\
+    left 0:2 1:1\nright 0:0 1:1\n";
+
+/// A corridor of three points, open to White.
+const LONG_CORRIDOR: &str =
+    "regions 1\nregion eb points 3 positions 22\nvalue {2|{1|*}}\nstops 2 1\nmean 5/4\ntemperature 3/4\n\
+    left 0:2 3/4:5/4\nright 0:1 1/2:1 3/4:5/4\n";
+
+/// One point without a liberty for any stone.
+const SINGLE: &str =
+    "regions 1\nregion aa points 1 positions 1\nvalue 0\nstops 0 0\nmean 0\ntemperature none\n\
+    left 0:0\nright 0:0\n";
+
+#[test]
+fn values_of_files(rt: HostRuntime) -> Result<(), Fail> {
+    let alloc = rt.alloc();
+    let rows: [(&[&str], &[u8], Status, &str); 10] = [
+        (&["values", "a"], b"", Status::Done, "regions 0\n"),
+        (&["values", "b"], b"", Status::Done, NOTHING),
+        (&["values", "d"], b"", Status::Done, CORRIDOR),
+        (
+            &["values", "d", "--parts", "2", "--turn", "white"],
+            b"",
+            Status::Done,
+            CORRIDOR,
+        ),
+        (&["values", "visited"], b"", Status::Done, VISITED),
+        (&["values", "f"], b"", Status::Done, LONG_CORRIDOR),
+        (&["values", "-"], b"(;SZ[1])", Status::Done, SINGLE),
+        (
+            &["values", "b", "--positions", "8"],
+            b"",
+            Status::RegionLimit,
+            "fault region ea positions over 8\n",
+        ),
+        (
+            &["values", "d", "--parts", "1"],
+            b"",
+            Status::FormLimit,
+            "fault form eb\n",
+        ),
+        (
+            &["values", "e"],
+            b"",
+            Status::Cycle,
+            "fault cycle eb 1 black:fb white:eb black:fb\n",
+        ),
+    ];
+    for (words, file, status, text) in rows {
+        let (got, written) = outcome(alloc, words, file, 500, NOTHING_FAILS)?;
+        assert_eq!(rt; written.as_slice(), text.as_bytes());
+        assert_eq!(rt; got, status);
+    }
+    Ok(())
+}

@@ -1,5 +1,0 @@
-use Rattle.sum_outcome.proofs.MemoLaws.{fits_grown}
-use Rattle.sum_outcome.proofs.fits_law.Goals as goal
-
-pub returns : goal.returns
-returns c = fits_grown

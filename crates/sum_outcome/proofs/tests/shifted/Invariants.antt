@@ -1,5 +1,0 @@
-use Rattle.sum_outcome.proofs.Examples.{ShiftedSoFar}
-use Rattle.sum_outcome.proofs.tests.shifted.Given as goal
-
-abbrev pub invariant-adding : goal.invariant-adding
-invariant-adding l = ShiftedSoFar l.store l.game l.games.items l.n

@@ -1,0 +1,48 @@
+use Rattle.std.proofs.Common.{List, arith, sym, subst, Vec}
+use Rattle.std.specs.declared.alloc.Global.{Global}
+use Rattle.std.proofs.lemmas.Result.{err_from_is_err_and}
+use Rattle.thermograph.specs.declared.breaks.Break.{Break}
+use Rattle.thermograph.specs.inner.Drawings.{AreDrawnBelow}
+use Rattle.thermograph.proofs.OptionWalls.{left-level, right-level, left-steady, right-steady, left-rises, right-rises, scaffolds-stay}
+use Rattle.thermograph.proofs.DrawingLaws.{joined-drawing, jumped}
+use Rattle.thermograph.proofs.drawings.draw_form.Goals as goal
+use Rattle.thermograph.proofs.drawings.draw_form.Goals.{After-deref-in-Options}
+
+known : (c : After-deref-in-Options) → AreDrawnBelow c.args.store.now c.args.id c.deref-in-Options.result.now c.deref.result.now
+known c = subst (λ (ws : List (Vec Break Global)). AreDrawnBelow c.args.store.now c.args.id ws c.deref.result.now) (sym c.deref-in-Options.ensures.value)
+    (subst (λ (ws : List (Vec Break Global)). AreDrawnBelow c.args.store.now c.args.id c.args.walls.now.left.items ws) (sym c.deref.ensures.value) c.requires.known)
+
+pub join-requires-clause-left : goal.join-requires-clause-left
+join-requires-clause-left c =
+    let o = c.in-Options.ensures.form in
+    let h = known (goal.at.join-requires-clause-left c).After-deref-in-Options in
+    record {
+      ids = λ j l. omega (arith, o.left_below j l, h.right_count);
+      level = left-level c.args.store.now c.args.id _ _ _ _ o h;
+      steady = left-steady c.args.store.now c.args.id _ _ _ _ o h;
+      rises = left-rises c.args.store.now c.args.id _ _ _ _ o h;
+    }
+
+pub join-requires-clause-right : goal.join-requires-clause-right
+join-requires-clause-right c =
+    let o = c.in-Options.ensures.form in
+    let h = known (goal.at.join-requires-clause-right c).After-deref-in-Options in
+    record {
+      ids = λ j l. omega (arith, o.right_below j l, h.left_count);
+      level = right-level c.args.store.now c.args.id _ _ _ _ o h;
+      steady = right-steady c.args.store.now c.args.id _ _ _ _ o h;
+      rises = right-rises c.args.store.now c.args.id _ _ _ _ o h;
+    }
+
+pub join-requires-clause-stays : goal.join-requires-clause-stays
+join-requires-clause-stays c = scaffolds-stay c.args.store.now c.args.id _ _ _ _ c.in-Options.ensures.form (known (goal.at.join-requires-clause-stays c).After-deref-in-Options)
+
+pub returns-in_err-drawing-in-Options-clause-bounds :
+    goal.returns-in_err-drawing-in-Options-clause-bounds
+returns-in_err-drawing-in-Options-clause-bounds c =
+    let p = err_from_is_err_and c.from_residual-in_err-drawing-in-Options.result c.from_residual-in_err-drawing-in-Options.ensures.1 in
+    rw (p.1, p.2) (λ e. jumped c.args.store.now c.args.id _ _ _ _ c.in-Options.ensures.form (known (goal.at.returns-in_err-drawing-in-Options-clause-bounds c).After-deref-in-Options) c.requires.id c.len-count.ensures.forms c.in-Options.ensures.canonical (c.in_err-drawing-in-Options.ensures.bounds e))
+
+pub returns-in_ok-drawing-in-Options-clause-drawn :
+    goal.returns-in_ok-drawing-in-Options-clause-drawn
+returns-in_ok-drawing-in-Options-clause-drawn c = joined-drawing c.args.store.now c.args.id _ _ _ _ c.in-Options.ensures.form (known (goal.at.returns-in_ok-drawing-in-Options-clause-drawn c).After-deref-in-Options) c.requires.id c.len-count.ensures.forms _ c.in_ok-drawing-in-Options.ensures.drawn
