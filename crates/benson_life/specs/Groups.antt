@@ -5,7 +5,7 @@ use Rattle.go_grid.specs.Board.{Board, NextTo}
 use Rattle.go_grid.specs.Path.{Leads}
 use Rattle.go_grid.specs.Chain.{InChain}
 use Rattle.benson_life.specs.Life.{InRegion, IsAlive, IsCounted}
-use Rattle.benson_life.specs.Held.{IsNumberOf}
+use Rattle.benson_life.specs.Held.{HasPoints}
 
 -- `s` is next to a point that is counted for the colour, and `t` to a point of that point's region
 abbrev pub ShareCounted : Board → Colour → ℕ → ℕ → Type 0
@@ -25,4 +25,4 @@ IsLeader g c s = IsAlive g c s × ((t : ℕ) → InGroup g c s t → s ≤ t)
 
 -- the colour has `n` groups
 abbrev pub IsNumberOfGroups : Board → Colour → ℕ → Type 0
-IsNumberOfGroups g c n = IsNumberOf (IsLeader g c) n
+IsNumberOfGroups g c n = HasPoints (IsLeader g c) n

@@ -21,13 +21,13 @@ abbrev pub worth : Board → Colour → ℕ → ℕ
 worth g c p = cell_worth c (cell_at g p)
 
 -- there are `n` points of `P`
-abbrev pub IsNumberOf : (ℕ → Type 0) → ℕ → Type 0
-IsNumberOf P n = (points : List ℕ) × Lists points P × (length points ≡ n)
+abbrev pub HasPoints : (ℕ → Type 0) → ℕ → Type 0
+HasPoints P n = (points : List ℕ) × Lists points P × (length points ≡ n)
 
 -- the number of empty points counted for the colour, and twice the number of the other colour's stones on such points
 pub record IsHeld (g : Board) (c : Colour) (n : ℕ) : Type 0 where
   pub empty : ℕ
   pub captive : ℕ
-  pub empties : IsNumberOf (λ p. IsCounted g c p × IsEmpty g p) empty
-  pub captives : IsNumberOf (λ p. IsCounted g c p × HasStone g (other c) p) captive
+  pub empties : HasPoints (λ p. IsCounted g c p × IsEmpty g p) empty
+  pub captives : HasPoints (λ p. IsCounted g c p × HasStone g (other c) p) captive
   pub sum : n ≡ empty + 2 * captive

@@ -105,7 +105,8 @@ fn add_eyes(
     requires point { IsEmpty board.now point }
     ensures { OnOk result ((e : Eye) → Contains eyes.new.items e
         ↔ (Contains eyes.old.items e
-        ⊎ (IsVitalPair board.now colour survey.now e × (e.region ≡ label survey.now.regions point)))) }
+        ⊎ (IsVitalPair board.now colour survey.now e
+        × (e.region ≡ label survey.now.regions point)))) }
 {
     let mut around = NearPoints::new();
     around.look_around(board.size(), point);

@@ -42,7 +42,8 @@ fn labels_beside(size: Size, within: &Points, labels: &Labels, points: &Points) 
 pub(crate) fn breached(board: &Board, colour: Colour, survey: &Survey, kept: &Points) -> Points
     requires { IsSurvey board.now colour survey.now }
     ensures { (r : ℕ) → Lacks board.now colour r
-        → (¬ IsMarked result (label survey.now.regions r)) ↔ IsWalledBy board.now colour (IsMarked kept.now) r }
+        → (¬ IsMarked result (label survey.now.regions r))
+        ↔ IsWalledBy board.now colour (IsMarked kept.now) r }
 {
     let struck = survey.stones.difference(kept);
     labels_beside(board.size(), &survey.lacking, &survey.regions, &struck)

@@ -1,4 +1,4 @@
-//! Tests of records, boards, regions and their values. No program uses them.
+//! Tests of records, words, the outside, boards, regions and their values. No program uses them.
 #![tactic(auto)]
 
 #[cfg(test)]
@@ -18,6 +18,8 @@ mod life_tests;
 #[cfg(test)]
 mod number_tests;
 #[cfg(test)]
+mod outside_tests;
+#[cfg(test)]
 mod pairing_tests;
 #[cfg(test)]
 mod position_tests;
@@ -29,3 +31,5 @@ mod shape_tests;
 mod state_tests;
 #[cfg(test)]
 mod value_tests;
+#[cfg(test)]
+mod word_tests;

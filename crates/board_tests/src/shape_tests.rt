@@ -7,9 +7,19 @@ use local_play::start;
 use region_book::{Shape, Turn, shape};
 use std::alloc::{AllocError, Global};
 
+/// Points of a small board, what they hold, and next to which of them alive stones of Black and of White stand.
+type Drawn = (&'static [u16], &'static [u8], &'static [u8], &'static [u8]);
+
 /// The shape of what a drawing shows.
-fn shape_of(alloc: Global, drawn: JoinedDrawing<'_>) -> Result<(Shape, Turn), AllocError> {
-    let region = joined_region(alloc, drawn)?;
+fn shape_of(alloc: Global, drawn: Drawn) -> Result<(Shape, Turn), AllocError> {
+    let (points, cells, black, white) = drawn;
+    let drawing = JoinedDrawing {
+        points,
+        cells,
+        black,
+        white,
+    };
+    let region = joined_region(alloc, drawing)?;
     if region.points.len() > 32 {
         return Err(AllocError);
     }
@@ -17,85 +27,25 @@ fn shape_of(alloc: Global, drawn: JoinedDrawing<'_>) -> Result<(Shape, Turn), Al
 }
 
 /// A corridor of three points with a black stone at its closed end.
-const CORRIDOR: JoinedDrawing<'static> = JoinedDrawing {
-    points: &[0, 1, 2],
-    cells: b"X..",
-    black: b".XX",
-    white: b"X..",
-};
+const CORRIDOR: Drawn = (&[0, 1, 2], b"X..", b".XX", b"X..");
 
-const FROM_RIGHT: JoinedDrawing<'static> = JoinedDrawing {
-    points: &[5, 6, 7],
-    cells: b"..X",
-    black: b"XX.",
-    white: b"..X",
-};
+const FROM_RIGHT: Drawn = (&[5, 6, 7], b"..X", b"XX.", b"..X");
 
-const EXCHANGED: JoinedDrawing<'static> = JoinedDrawing {
-    points: &[3, 7, 11],
-    cells: b"O..",
-    black: b"X..",
-    white: b".XX",
-};
+const EXCHANGED: Drawn = (&[3, 7, 11], b"O..", b"X..", b".XX");
 
-const BENT: JoinedDrawing<'static> = JoinedDrawing {
-    points: &[0, 1, 4],
-    cells: b".X.",
-    black: b"X.X",
-    white: b".X.",
-};
+const BENT: Drawn = (&[0, 1, 4], b".X.", b"X.X", b".X.");
 
-const LONG: JoinedDrawing<'static> = JoinedDrawing {
-    points: &[0, 4, 8, 9],
-    cells: b"O...",
-    black: b"XX..",
-    white: b"...X",
-};
+const LONG: Drawn = (&[0, 4, 8, 9], b"O...", b"XX..", b"...X");
 
 /// The other seven images of the long bent one.
-const IMAGES: [JoinedDrawing<'static>; 7] = [
-    JoinedDrawing {
-        points: &[1, 5, 8, 9],
-        cells: b"O...",
-        black: b"XX..",
-        white: b"..X.",
-    },
-    JoinedDrawing {
-        points: &[0, 1, 4, 8],
-        cells: b"...O",
-        black: b"..XX",
-        white: b".X..",
-    },
-    JoinedDrawing {
-        points: &[4, 5, 9, 13],
-        cells: b"...O",
-        black: b"..XX",
-        white: b"X...",
-    },
-    JoinedDrawing {
-        points: &[0, 1, 2, 6],
-        cells: b"O...",
-        black: b"XX..",
-        white: b"...X",
-    },
-    JoinedDrawing {
-        points: &[2, 4, 5, 6],
-        cells: b".O..",
-        black: b".XX.",
-        white: b"X...",
-    },
-    JoinedDrawing {
-        points: &[0, 1, 2, 4],
-        cells: b"..O.",
-        black: b".XX.",
-        white: b"...X",
-    },
-    JoinedDrawing {
-        points: &[4, 8, 9, 10],
-        cells: b"...O",
-        black: b"..XX",
-        white: b"X...",
-    },
+const IMAGES: [Drawn; 7] = [
+    (&[1, 5, 8, 9], b"O...", b"XX..", b"..X."),
+    (&[0, 1, 4, 8], b"...O", b"..XX", b".X.."),
+    (&[4, 5, 9, 13], b"...O", b"..XX", b"X..."),
+    (&[0, 1, 2, 6], b"O...", b"XX..", b"...X"),
+    (&[2, 4, 5, 6], b".O..", b".XX.", b"X..."),
+    (&[0, 1, 2, 4], b"..O.", b".XX.", b"...X"),
+    (&[4, 8, 9, 10], b"...O", b"..XX", b"X..."),
 ];
 
 #[test]

@@ -22,7 +22,11 @@ pub struct MemorySource {
 impl Model for MemorySource {
     ghost Value = { MemorySource };
 
-    ghost view = { λ s. record { left = drop s.at s.bytes.items; piece = s.piece; calls = record { next = s.calls; failing = s.failing.items; faults = s.faults } } };
+    ghost view = { λ s. record {
+      left = drop s.at s.bytes.items;
+      piece = s.piece;
+      calls = record { next = s.calls; failing = s.failing.items; faults = s.faults };
+    } };
 
     ghost invariant = { λ s. (s.at ≤ vec_len s.bytes) × (1 ≤ s.piece) };
 }
@@ -89,7 +93,11 @@ pub struct MemorySink {
 impl Model for MemorySink {
     ghost Value = { MemorySink };
 
-    ghost view = { λ s. record { bytes = s.bytes.items; room = s.room; calls = record { next = s.calls; failing = s.failing.items; faults = s.faults } } };
+    ghost view = { λ s. record {
+      bytes = s.bytes.items;
+      room = s.room;
+      calls = record { next = s.calls; failing = s.failing.items; faults = s.faults };
+    } };
 
     ghost invariant = { λ s. vec_len s.bytes + s.room ≤ vec_capacity s.bytes };
 }

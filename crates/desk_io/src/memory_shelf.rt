@@ -24,7 +24,10 @@ impl Model for MemoryShelf {
 
     ghost coded = { shelf_code };
 
-    ghost view = { λ s. record { files = files_in s.files; calls = record { next = s.calls; failing = s.failing.items; faults = s.faults } } };
+    ghost view = { λ s. record {
+      files = files_in s.files;
+      calls = record { next = s.calls; failing = s.failing.items; faults = s.faults };
+    } };
 }
 
 impl MemoryShelf {
@@ -44,8 +47,9 @@ impl MemoryShelf {
     /// Puts a file on the shelf, in the place of an earlier one of that name. At an error the shelf is as before.
     #[tactic(auto, using(crate::proofs::Kept::files_after, crate::proofs::Kept::files_same))]
     pub fn add(&mut self, name: &str, bytes: Vec<u8>) -> Result<(), AllocError>
-        ensures ok { OnOk result
-            (self.new ≡ record self.old { files = map.insert self.old.files name.now bytes.items }) }
+        ensures ok { OnOk result (self.new ≡ record self.old {
+          files = map.insert self.old.files name.now bytes.items;
+        }) }
         ensures err { OnErr result (self.new ≡ self.old) }
     {
         let name = String::from_str(*self.failing.allocator(), name)?;

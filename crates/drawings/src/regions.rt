@@ -23,7 +23,8 @@ pub struct Drawing {
 fn points_of(alloc: Global, size: Size) -> Result<Vec<Point>, AllocError>
     ensures some { 0 < size.columns * size.rows }
     ensures long { IfOk result (λ points. length points.items ≡ size.columns * size.rows) }
-    ensures each { IfOk result (λ points. (k : ℕ) → k < size.columns * size.rows → slice_index points.items k ≡ k) }
+    ensures each { IfOk result (λ points. (k : ℕ) → k < size.columns * size.rows
+        → slice_index points.items k ≡ k) }
 {
     let mut points = Vec::new(alloc);
     for number in 0..size.area() {
@@ -61,7 +62,8 @@ fn is_marked(marks: &[u8], number: u16) -> bool {
 /// What is next to a point.
 fn touch_of(size: Size, number: u16, drawn: Drawing) -> Touch
     requires { number < size.columns * size.rows }
-    ensures { AreNear size.columns (size.columns * size.rows) number result.up result.left result.right result.down }
+    ensures { AreNear size.columns (size.columns * size.rows) number
+        result.up result.left result.right result.down }
 {
     let near = neighbours(size, Point(number));
     Touch {
@@ -78,7 +80,8 @@ fn touch_of(size: Size, number: u16, drawn: Drawing) -> Touch
 fn touches_of(alloc: Global, size: Size, drawn: Drawing) -> Result<Vec<Touch>, AllocError>
     ensures long { IfOk result (λ touch. length touch.items ≡ size.columns * size.rows) }
     ensures near { IfOk result (λ touch. (k : ℕ) → k < size.columns * size.rows
-        → AreNear size.columns (size.columns * size.rows) k (touch_at touch.items k).up (touch_at touch.items k).left
+        → AreNear size.columns (size.columns * size.rows) k
+        (touch_at touch.items k).up (touch_at touch.items k).left
         (touch_at touch.items k).right (touch_at touch.items k).down) }
 {
     let mut touch = Vec::new(alloc);

@@ -16,7 +16,7 @@ use Rattle.endgame_run.specs.Calc.{IsCalc}
 use Rattle.endgame_run.specs.File.{Outside}
 use Rattle.endgame_run.specs.Laws.{HasOneOutcome}
 use Rattle.endgame_run.specs.inner.Top.{IsCalcRun}
-use Rattle.endgame_run.specs.Verdict.{HasCause, IsDecided, IsTextAlone, IsWritten}
+use Rattle.endgame_run.specs.Verdict.{HasReason, IsDecided, IsTextAlone, IsWritten}
 use Rattle.endgame_run.proofs.TopLaws.{caused, written}
 
 -- the status of an expression, for the words that ask for it
@@ -40,8 +40,8 @@ module _ (words : List (List ℕ)) (o : Outside) (job : Job) (limit : ℕ) (expr
   own : (s : Status) (text : List ℕ) → IsCalc limit expression s text → IsDecided words o s text
   own s text h = calc_decided words o job expression s text only is (subst (λ l. IsCalc l expression s text) same h)
 
-  pub calc_caused : IsCalcRun limit expression kb kn before now result → HasCause words o result
-  calc_caused (inl m) = subst (λ r. HasCause words o r) (sym m.0) (job, only.said)
+  pub calc_caused : IsCalcRun limit expression kb kn before now result → HasReason words o result
+  calc_caused (inl m) = subst (λ r. HasReason words o r) (sym m.0) (job, only.said)
   calc_caused (inr (s, text, h, f)) = caused words o kb kn before now s text result (own s text h) f
 
   pub calc_written : IsCalcRun limit expression kb kn before now result → IsWritten words o before now result

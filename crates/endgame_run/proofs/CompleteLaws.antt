@@ -26,7 +26,7 @@ use Rattle.desk_io.specs.Files.{Told, IsLonger, IsTold}
 use Rattle.sgf_go.specs.File.{HasFewBytes, Reads}
 use Rattle.endgame_run.specs.File.{Outside, count_of, dash, told_of}
 use Rattle.endgame_run.specs.Game.{IsGameRun}
-use Rattle.endgame_run.specs.Verdict.{IsAnswerOn, HasCause, IsAnswer, IsFileAnswer, IsPositionAnswer, IsTextAlone, Pose, limits_of}
+use Rattle.endgame_run.specs.Verdict.{IsAnswerOn, HasReason, IsAnswer, IsFileAnswer, IsPositionAnswer, IsTextAlone, Pose, limits_of}
 use Rattle.endgame_run.proofs.GameWins.{map_told}
 use Rattle.sgf_go.proofs.OneReading.{not_both, one_setup}
 use Rattle.endgame_run.proofs.OneStatus.{file_or_position, safe_is_done, shows_shown, solves_sound}
@@ -81,7 +81,7 @@ module _ (words : List (List ℕ)) (o : Outside) (kb kn : ℕ) (a : IsAnswerable
   not_read (inl none) = unread (told_of o.world a.word) a.told none
   not_read (inr rose) = count_stays a.word o.loads.before o.loads.now o.reads.before o.reads.now a.no_load_failed a.no_read_failed rose
 
-  answered : (before now : Option (List ℕ)) (result : Status) → (result ≡ CannotWrite → Rose kb kn) → HasCause words o result ⊎ IsGameRun words o before now result → IsAnswered words o result
+  answered : (before now : Option (List ℕ)) (result : Status) → (result ≡ CannotWrite → Rose kb kn) → HasReason words o result ⊎ IsGameRun words o before now result → IsAnswered words o result
   answered before now Done rose h = inl refl
   answered before now Memory rose h = inr (inl refl)
   answered before now CannotWrite rose h = absurd (a.no_write_failed (rose refl))
@@ -110,7 +110,7 @@ module _ (words : List (List ℕ)) (o : Outside) (kb kn : ℕ) (a : IsAnswerable
 alone_answered : (words : List (List ℕ)) (o : Outside) (kb kn : ℕ) (before now : Option (List ℕ)) (result : Status) (own : Job) → IsOnlyJob words own
     → ((job : Job) (q : Question) (word : List ℕ) → ¬ Pose words job q word) → ((f : CalcFault) (text : List ℕ) → ¬ IsTextAlone own.parts own.task (status.BadExpression f) text)
     → ((text : List ℕ) → ¬ IsTextAlone own.parts own.task status.CalcLimit text) → ¬ Rose kb kn
-    → (result ≡ CannotWrite → Rose kb kn) → HasCause words o result ⊎ IsGameRun words o before now result → (result ≡ Done) ⊎ (result ≡ Memory)
+    → (result ≡ CannotWrite → Rose kb kn) → HasReason words o result ⊎ IsGameRun words o before now result → (result ≡ Done) ⊎ (result ≡ Memory)
 alone_answered words o kb kn before now result own only none bad large calm rose (inr g) = absurd (none g.game.job (question.Solve (limits_of g.game.job)) g.game.word (inr (g.game.asks, refl)))
 alone_answered words o kb kn before now Done own only none bad large calm rose (inl h) = inl refl
 alone_answered words o kb kn before now Memory own only none bad large calm rose (inl h) = inr refl
@@ -130,7 +130,7 @@ alone_answered words o kb kn before now status.CalcLimit own only none bad large
 
 -- the words that ask for a number's board, or for an expression that no refusal meets
 answerable_done : (words : List (List ℕ)) (o : Outside) (kb kn : ℕ) (before now : Option (List ℕ)) (result : Status) → AreAnswerable words → ¬ Rose kb kn
-    → (result ≡ CannotWrite → Rose kb kn) → HasCause words o result ⊎ IsGameRun words o before now result → (result ≡ Done) ⊎ (result ≡ Memory)
+    → (result ≡ CannotWrite → Rose kb kn) → HasReason words o result ⊎ IsGameRun words o before now result → (result ≡ Done) ⊎ (result ≡ Memory)
 answerable_done words o kb kn before now result (inl (number, (own, only, is))) calm rose h =
     alone_answered words o kb kn before now result own only (λ job q word a. trial_unposed words number job q word (own, only, is) a)
     (λ f text t. subst (λ k. IsTextAlone own.parts k (status.BadExpression f) text) is t) (λ text t. subst (λ k. IsTextAlone own.parts k status.CalcLimit text) is t) calm rose h
@@ -149,7 +149,7 @@ engine_alone words limits a (inr (limit, expression, (other, its, is, same), u))
 
 -- words that ask for the engine, and of which another status holds
 unengaged_done : (words : List (List ℕ)) (o : Outside) (kb kn : ℕ) (before now : Option (List ℕ)) (result : Status) → AskForEngine words → ¬ Rose kb kn
-    → (result ≡ CannotWrite → Rose kb kn) → HasCause words o result ⊎ IsGameRun words o before now result → IsEngineDone words o result
+    → (result ≡ CannotWrite → Rose kb kn) → HasReason words o result ⊎ IsGameRun words o before now result → IsEngineDone words o result
 unengaged_done words o kb kn before now result (limits, (own, only, is, same)) calm rose h =
     go (alone_answered words o kb kn before now result own only (λ job q word a. engine_unposed words limits job q word (own, only, is, same) a)
     (λ f text t. subst (λ k. IsTextAlone own.parts k (status.BadExpression f) text) is t) (λ text t. subst (λ k. IsTextAlone own.parts k status.CalcLimit text) is t) calm rose h)

@@ -16,7 +16,7 @@ use Rattle.endgame_run.specs.declared.status.Status.{Status}
 use Rattle.endgame_run.specs.declared.status.Status.TheVariants.{CannotRead, CannotWrite, Done, Memory, TooManyLines}
 use Rattle.endgame_run.specs.declared.status.Status.TheVariants as status
 use Rattle.endgame_run.specs.Engine.{AreFailedLoads, IsEnginePlay, IsEngineStatus, IsEngineStopped, IsEngineWritten}
-use Rattle.endgame_run.specs.File.{Outside, TakesAtMost}
+use Rattle.endgame_run.specs.File.{Outside, TakesAtMost, most_of_engine}
 use Rattle.endgame_run.specs.inner.Top.{IsClosed, IsFinished}
 use Rattle.endgame_run.proofs.SessionLaws.{behind, rose_later, told_written}
 
@@ -107,7 +107,7 @@ engine_ran limits o start over before mid now result final km kn is numbered cou
     (λ bytes told. subst (λ l. IsRun l o.world.files over.failed_loads bytes before mid final) (ap (λ e. e.limits) is) (p bytes told)) rose c
 
 -- what a session took of its source
-pub session_taken : (before now : Option (List ℕ)) → (held : List ℕ) × (length held ≤ 1024) × UsesLines 1024 0 10000 [] before held now → TakesAtMost 10241024 before now
+pub session_taken : (before now : Option (List ℕ)) → (held : List ℕ) × (length held ≤ 1024) × UsesLines 1024 0 10000 [] before held now → TakesAtMost most_of_engine before now
 session_taken before now (held, few, used) = λ bytes e.
     let u = used bytes e in
     (u.0 ++ held, u.1, u.2, u.3 ∙ sym (append_assoc u.0 held u.1), omega (arith, u.4, few, length-append u.0 held))

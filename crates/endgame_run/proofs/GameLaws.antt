@@ -16,7 +16,7 @@ use Rattle.endgame_run.specs.declared.question.Opened.TheVariants.{Game}
 use Rattle.endgame_run.specs.File.{Outside, dash, told_of}
 use Rattle.endgame_run.specs.Game.{IsGameRun}
 use Rattle.endgame_run.specs.inner.Top.{IsGameOutcome, IsOpened, IsPlayedGame, IsPlayRun}
-use Rattle.endgame_run.specs.Verdict.{AreToPlay, AskAbout, HasCause, IsWritten, limits_of}
+use Rattle.endgame_run.specs.Verdict.{AreToPlay, AskAbout, HasReason, IsWritten, limits_of}
 use Rattle.endgame_run.proofs.TopLaws.{caused, undone, written}
 
 -- words that ask to play a file ask nothing about one
@@ -59,8 +59,8 @@ game_run words o job word kb kn before now result a (setup, engine, s, position,
 }
 
 pub game_caused : (words : List (List ℕ)) (o : Outside) (job : Job) (word : List ℕ) (kb kn : ℕ) (before now : Option (List ℕ)) (result : Status) → AreToPlay words job word
-    → IsGameOutcome (limits_of job) job.engine job.settings word o kb kn before now result → HasCause words o result ⊎ IsGameRun words o before now result
-game_caused words o job word kb kn before now result a (inl m) = inl (subst (λ r. HasCause words o r) (sym m.0) (job, a.0.said))
+    → IsGameOutcome (limits_of job) job.engine job.settings word o kb kn before now result → HasReason words o result ⊎ IsGameRun words o before now result
+game_caused words o job word kb kn before now result a (inl m) = inl (subst (λ r. HasReason words o r) (sym m.0) (job, a.0.said))
 game_caused words o job word kb kn before now result a (inr (inl h)) = inl (caused words o kb kn before now h.0 h.1 result (undone words o job word h.0 h.1 a h.2.1 h.2.0) h.3)
 game_caused words o job word kb kn before now result a (inr (inr h)) = inr (game_run words o job word kb kn before now result a h)
 

@@ -10,7 +10,7 @@ use Rattle.endgame_run.specs.declared.question.Question.{Question}
 use Rattle.endgame_run.specs.File.{Outside}
 use Rattle.endgame_run.specs.Game.{IsGameRun}
 use Rattle.endgame_run.specs.Output.{IsPartOfDecided}
-use Rattle.endgame_run.specs.Verdict.{HasCause, IsWritten, Pose}
+use Rattle.endgame_run.specs.Verdict.{HasReason, IsWritten, Pose}
 use Rattle.endgame_run.proofs.GameWins.{map_told}
 
 pub part_output : (words : List (List ℕ)) (o : Outside) (before now : Option (List ℕ)) (result : Status) → IsWritten words o before now result ⊎ IsGameRun words o before now result
@@ -49,7 +49,7 @@ pose_said words job q word (inl a) = a.0.said
 pose_said words job q word (inr a) = a.0.0.said
 
 -- words outside the grammar
-pub no_job : (words : List (List ℕ)) (o : Outside) (before now : Option (List ℕ)) (result : Status) → HasCause words o result ⊎ IsGameRun words o before now result
+pub no_job : (words : List (List ℕ)) (o : Outside) (before now : Option (List ℕ)) (result : Status) → HasReason words o result ⊎ IsGameRun words o before now result
     → SayNoJob words → (result ≡ status.Usage) ⊎ (result ≡ CannotWrite)
 no_job words o before now result (inr g) none = absurd (none g.game.job g.game.asks.0.said)
 no_job words o before now status.Usage (inl h) none = inl refl

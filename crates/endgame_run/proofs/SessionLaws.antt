@@ -14,7 +14,7 @@ use Rattle.endgame_run.specs.declared.status.Status.{Status}
 use Rattle.endgame_run.specs.declared.status.Status.TheVariants.{CannotRead, CannotWrite, Done, Memory, TooManyLines}
 use Rattle.endgame_run.specs.declared.status.Status.TheVariants as status
 use Rattle.endgame_run.specs.Game.{IsGameWritten, IsOver, IsSessionOf, IsSessionStatus, IsStopped, beginning}
-use Rattle.endgame_run.specs.File.{TakesAtMost}
+use Rattle.endgame_run.specs.File.{TakesAtMost, most_of_game}
 use Rattle.endgame_run.specs.inner.Top.{IsFinished, IsPlayRun}
 use Rattle.play_session.specs.Lines.{UsesLines}
 
@@ -120,7 +120,7 @@ pub lines_stop : (engine : Colour) (session new : Session) (left rest : Option (
 lines_stop engine session new left rest before mid e p bytes is = let h = session_of engine session new bytes before mid rest end.TooManyLines e (p bytes is) in (h.0, (h.1, refl), h.2)
 
 -- what a session took of its source
-pub lines_taken : (session : Session) (held : List ℕ) (before now : Option (List ℕ)) → session.held ≡ [] → UsesLines 0 10000 session.held before held now → length held ≤ 256 → TakesAtMost 2560256 before now
+pub lines_taken : (session : Session) (held : List ℕ) (before now : Option (List ℕ)) → session.held ≡ [] → UsesLines 0 10000 session.held before held now → length held ≤ 256 → TakesAtMost most_of_game before now
 lines_taken session held before now none used few = λ bytes e.
     let u = used bytes e in
     (u.0 ++ held, u.1, u.2, ap (λ l. l ++ bytes) (sym none) ∙ u.3 ∙ sym (append_assoc u.0 held u.1), omega (arith, u.4, few, length-append u.0 held))

@@ -7,7 +7,7 @@ use Rattle.go_grid.specs.declared.grid.Cell.TheVariants as cell
 use Rattle.go_grid.specs.declared.grid.Colour.{Colour}
 use Rattle.go_grid.specs.declared.grid.Colour.TheVariants as colour
 use Rattle.go_grid.specs.Board.{Board, stone}
-use Rattle.go_play.specs.Place.{Answers}
+use Rattle.go_play.specs.Place.{PlacesStone}
 use Rattle.go_play.specs.declared.placements.PlaceError.{PlaceError}
 use Rattle.go_play.specs.declared.placements.PlaceError.TheVariants as place
 use Rattle.sgf_tree.specs.Grammar.{PropertyText}
@@ -103,7 +103,7 @@ taken_board : (c : Colour) (n : ℕ) (s : Replay) → (with_taken c n s).board �
 taken_board colour.Black n s = refl
 taken_board colour.White n s = refl
 
-keeps_placed : (node : ℕ) (c : Colour) (p : ℕ) (s : Replay) (h : Board) (answer : Result ℕ PlaceError) → Answers s.board p c h answer → Fine s (placed node c s h answer)
+keeps_placed : (node : ℕ) (c : Colour) (p : ℕ) (s : Replay) (h : Board) (answer : Result ℕ PlaceError) → PlacesStone s.board p c h answer → Fine s (placed node c s h answer)
 keeps_placed node c p s h (Ok n) a =
     subst (λ b. SameSize s.board b) (sym (taken_board c n (record s { board = h })))
     (record { columns = a.0.0.columns; rows = a.0.0.rows; long = a.0.1.without.long ∙ length-set s.board.cells p (stone c) })

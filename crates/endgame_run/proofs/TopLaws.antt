@@ -29,7 +29,7 @@ use Rattle.endgame_run.specs.Refusal.{HasStatus}
 use Rattle.std.specs.Str.{bytes_eq}
 use Rattle.std.proofs.lemmas.Slice.Eq.{bytes_eq-Decides}
 use Rattle.endgame_run.specs.inner.Top.{IsBegun, IsFileRun, IsFinished, IsOpened}
-use Rattle.endgame_run.specs.Verdict.{IsAnswerOn, IsPositionAnswer, IsRefusalOf, IsRefused, IsAnswer, AreToPlay, AskAbout, IsDecided, HasCause, IsWritten, limits_of}
+use Rattle.endgame_run.specs.Verdict.{IsAnswerOn, IsPositionAnswer, IsRefusalOf, IsRefused, IsAnswer, AreToPlay, AskAbout, IsDecided, HasReason, IsWritten, limits_of}
 
 -- a position's status is an answer about its file
 pub position_answer : (q : Question) (told : Told) (before now : ℕ) (settings : Settings) (setup : Setup) (s : Status) (text : List ℕ)
@@ -108,7 +108,7 @@ pub written : (words : List (List ℕ)) (o : Outside) (kb kn : ℕ) (before now 
 written words o kb kn before now s text result d (inl w) = subst (λ r. IsWritten words o before now r) (sym w.0) (written_whole words o before now s text d w.1)
 written words o kb kn before now s text result d (inr f) = subst (λ r. IsWritten words o before now r) (sym f.0) (s, text, f.2.0, d, f.2.1)
 
-cause_whole : (words : List (List ℕ)) (o : Outside) (s : Status) (text : List ℕ) → IsDecided words o s text → HasCause words o s
+cause_whole : (words : List (List ℕ)) (o : Outside) (s : Status) (text : List ℕ) → IsDecided words o s text → HasReason words o s
 cause_whole words o Done text d = (text, d)
 cause_whole words o status.Cycle text d = (text, d)
 cause_whole words o status.RegionLimit text d = (text, d)
@@ -124,9 +124,9 @@ cause_whole words o CannotWrite text d = tt
 cause_whole words o Memory text d = absurd d.4.3.2
 
 pub caused : (words : List (List ℕ)) (o : Outside) (kb kn : ℕ) (before now : Option (List ℕ)) (s : Status) (text : List ℕ) (result : Status)
-    → IsDecided words o s text → IsFinished s text kb kn before now result → HasCause words o result
-caused words o kb kn before now s text result d (inl w) = subst (λ r. HasCause words o r) (sym w.0) (cause_whole words o s text d)
-caused words o kb kn before now s text result d (inr f) = subst (λ r. HasCause words o r) (sym f.0) tt
+    → IsDecided words o s text → IsFinished s text kb kn before now result → HasReason words o result
+caused words o kb kn before now s text result d (inl w) = subst (λ r. HasReason words o r) (sym w.0) (cause_whole words o s text d)
+caused words o kb kn before now s text result d (inr f) = subst (λ r. HasReason words o r) (sym f.0) tt
 
 -- an answer to words that ask about a file
 pub decided : (words : List (List ℕ)) (o : Outside) (job : Job) (q : Question) (word : List ℕ) (s : Status) (text : List ℕ) → AskAbout words job q word
@@ -177,8 +177,8 @@ by_word P word here there = go (bytes_eq word dash) refl where
 
 -- what a run comes to, for the words that ask about a file
 pub run_caused : (words : List (List ℕ)) (o : Outside) (job : Job) (q : Question) (word : List ℕ) (kb kn : ℕ) (before now : Option (List ℕ)) (result : Status)
-    → AskAbout words job q word → IsFileRun q job.settings word o kb kn before now result → HasCause words o result
-run_caused words o job q word kb kn before now result a (inl m) = subst (λ r. HasCause words o r) (sym m.0) (job, a.0.said)
+    → AskAbout words job q word → IsFileRun q job.settings word o kb kn before now result → HasReason words o result
+run_caused words o job q word kb kn before now result a (inl m) = subst (λ r. HasReason words o r) (sym m.0) (job, a.0.said)
 run_caused words o job q word kb kn before now result a (inr h) = caused words o kb kn before now h.0 h.1 result (decided words o job q word h.0 h.1 a h.2) h.3
 
 pub run_written : (words : List (List ℕ)) (o : Outside) (job : Job) (q : Question) (word : List ℕ) (kb kn : ℕ) (before now : Option (List ℕ)) (result : Status)

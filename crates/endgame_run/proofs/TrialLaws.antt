@@ -19,7 +19,7 @@ use Rattle.endgame_run.specs.File.{Outside}
 use Rattle.endgame_run.specs.inner.Top.{IsTrialRun}
 use Rattle.endgame_run.specs.Trial.{IsTrial, trial_limits}
 use Rattle.endgame_run.specs.inner.Trial.{IsWantOfMemory}
-use Rattle.endgame_run.specs.Verdict.{HasCause, IsDecided, IsTextAlone, IsWritten}
+use Rattle.endgame_run.specs.Verdict.{HasReason, IsDecided, IsTextAlone, IsWritten}
 use Rattle.endgame_run.proofs.TopLaws.{caused, written}
 
 fewer_positions : (touch : List Touch) (cells : List Cell) (m n : ℕ) → m ≤ n → MoreThan touch cells n → MoreThan touch cells m
@@ -44,8 +44,8 @@ trial_decided words o job number text only is t = inr (job, only, subst (λ k. I
 
 -- what its run comes to, for the words that ask for it
 pub trial_caused : (words : List (List ℕ)) (o : Outside) (job : Job) (number kb kn : ℕ) (before now : Option (List ℕ)) (result : Status)
-    → IsOnlyJob words job → job.task ≡ trial number → IsTrialRun number kb kn before now result → HasCause words o result
-trial_caused words o job number kb kn before now result only is (inl m) = subst (λ r. HasCause words o r) (sym m.0) (job, only.said)
+    → IsOnlyJob words job → job.task ≡ trial number → IsTrialRun number kb kn before now result → HasReason words o result
+trial_caused words o job number kb kn before now result only is (inl m) = subst (λ r. HasReason words o r) (sym m.0) (job, only.said)
 trial_caused words o job number kb kn before now result only is (inr (text, t, f)) = caused words o kb kn before now Done text result (trial_decided words o job number text only is t) f
 
 pub trial_written : (words : List (List ℕ)) (o : Outside) (job : Job) (number kb kn : ℕ) (before now : Option (List ℕ)) (result : Status)

@@ -1,11 +1,25 @@
 -- A file that is read to its end: from the source where its word is `-`, and else from the shelf.
-use Rattle.std.specs.Prelude.{◌≡◌, ◌≤◌, ◌++◌, ℕ, List, length, codes, Option, Some, if◌then◌else◌}
+use Rattle.std.specs.Prelude.{◌≡◌, ◌≤◌, ◌+◌, ◌*◌, ◌++◌, ℕ, List, length, codes, Option, Some, if◌then◌else◌}
 use Rattle.std.specs.Str.{bytes_eq}
+use Rattle.desk_io.specs.declared.lines.TheConstants.{MOST_LINES}
 use Rattle.desk_io.specs.Files.{Files, Told, told_file, told_source}
+use Rattle.sgf_tree.specs.declared.reader.TheConstants.{MOST_BYTES}
 
 -- of the bytes that a source tells at most so many were taken
 abbrev pub TakesAtMost : ℕ → Option (List ℕ) → Option (List ℕ) → Type 0
 TakesAtMost most before now = (bytes : List ℕ) → before ≡ Some bytes → (taken rest : List ℕ) × (now ≡ Some rest) × (bytes ≡ taken ++ rest) × (length taken ≤ most)
+
+-- the most bytes that a file takes of a source: one more than it may have, by which a longer one is known
+abbrev pub most_of_file : ℕ
+most_of_file = MOST_BYTES + 1
+
+-- the most bytes that a game takes of its source: 256 for each line, and as many that its reader holds
+abbrev pub most_of_game : ℕ
+most_of_game = (MOST_LINES + 1) * 256
+
+-- the most bytes that a session of the engine takes: 1,024 for each line, and as many that its reader holds
+abbrev pub most_of_engine : ℕ
+most_of_engine = (MOST_LINES + 1) * 1024
 
 -- the word of the source
 abbrev pub dash : List ℕ

@@ -9,11 +9,11 @@ use Rattle.endgame_run.specs.declared.status.Status.TheVariants.{CannotRead, Can
 use Rattle.endgame_run.specs.Engine.{IsEngineRun}
 use Rattle.endgame_run.specs.File.{Outside, World}
 use Rattle.endgame_run.specs.Game.{IsGame, IsGameRun, IsGameWritten, IsSessionOf, WaitsAfter}
-use Rattle.endgame_run.specs.Verdict.{HasCause, IsDecided, IsWritten}
+use Rattle.endgame_run.specs.Verdict.{HasReason, IsDecided, IsWritten}
 
 -- the status was decided with its cause, or it is that of a game that has begun, or of a session of the engine
 abbrev pub IsCaused : List (List ℕ) → Outside → Option (List ℕ) → Option (List ℕ) → Status → Type 0
-IsCaused words o before now status = (HasCause words o status ⊎ IsGameRun words o before now status) ⊎ IsEngineRun words o before now status
+IsCaused words o before now status = (HasReason words o status ⊎ IsGameRun words o before now status) ⊎ IsEngineRun words o before now status
 
 -- the text of the decided status was written, or that of a game that has begun, or of a session of the engine
 abbrev pub IsOutput : List (List ℕ) → Outside → Option (List ℕ) → Option (List ℕ) → Status → Type 0

@@ -196,11 +196,11 @@ IsDecided words o CalcLimit text = IsDecidedAlone words CalcLimit text
 IsDecided words o s text = (job : Job) × (question : Question) × (word : List ℕ) × Pose words job question word
     × IsAnswerOn question o word job.settings s text
 
--- The cause of a status. A failed write has one of its own, and want of memory never comes with words outside the grammar.
-abbrev pub HasCause : List (List ℕ) → Outside → Status → Type 0
-HasCause words o CannotWrite = ⊤
-HasCause words o Memory = (job : Job) × IsJob words job
-HasCause words o s = (text : List ℕ) × IsDecided words o s text
+-- The reason for a status. A failed write has one of its own, and want of memory never comes with words outside the grammar.
+abbrev pub HasReason : List (List ℕ) → Outside → Status → Type 0
+HasReason words o CannotWrite = ⊤
+HasReason words o Memory = (job : Job) × IsJob words job
+HasReason words o s = (text : List ℕ) × IsDecided words o s text
 
 -- What was written: nothing for want of memory, and else the whole text of the status, or a front part of the decided one's where
 -- a write failed.

@@ -3,7 +3,7 @@
 ghost use Rattle.std.specs.Prelude.{◌≡◌, ◌≤◌, false};
 ghost use Rattle.desk_io.specs.Outside.{Rose};
 ghost use Rattle.endgame_run.specs.Engine.{IsEnginePlay};
-ghost use Rattle.endgame_run.specs.File.{TakesAtMost, faults, outside, world};
+ghost use Rattle.endgame_run.specs.File.{TakesAtMost, faults, most_of_engine, outside, world};
 ghost use Rattle.endgame_run.specs.inner.Top.{IsClosed};
 
 use crate::ending::finish;
@@ -49,7 +49,7 @@ pub(crate) fn run_gtp<H: Shelf, S: Source, K: Sink, L: Ledger>(
         (K.holds out.old) (K.holds out.new) result }
     ensures cannot_write { result ≡ Status.CannotWrite
         → Rose (K.faults out.old) (K.faults out.new) }
-    ensures takes { TakesAtMost 10241024 (S.left lines.old) (S.left lines.new) }
+    ensures takes { TakesAtMost most_of_engine (S.left lines.old) (S.left lines.new) }
     ensures same_files { H.files shelf.new ≡ H.files shelf.old }
     ensures later_loads { H.faults shelf.old ≤ H.faults shelf.new }
     ensures later_reads { S.faults lines.old ≤ S.faults lines.new }

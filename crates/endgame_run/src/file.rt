@@ -6,7 +6,7 @@ ghost use Rattle.desk_io.specs.Files.{told_file, told_source};
 ghost use Rattle.desk_io.specs.Outside.{Rose, ended};
 ghost use Rattle.desk_io.specs.Files.{IsLonger, IsTold};
 ghost use Rattle.sgf_go.specs.File.{HasFewBytes};
-ghost use Rattle.endgame_run.specs.File.{TakesAtMost, count_of, dash, told_of, world};
+ghost use Rattle.endgame_run.specs.File.{TakesAtMost, count_of, dash, most_of_file, told_of, world};
 ghost use Rattle.endgame_run.specs.inner.File.{IsWhole};
 ghost use Rattle.endgame_run.specs.declared.file.FileError.TheVariants.{CannotRead, Memory};
 
@@ -49,7 +49,7 @@ fn read_source<S: Source>(alloc: Global, lines: &mut S) -> Result<Vec<u8>, FileE
         → IsLonger MOST_BYTES (told_source (S.left lines.old)) }
     ensures cannot_read { IsErrOf result FileError.CannotRead
         → Rose (S.faults lines.old) (S.faults lines.new) }
-    ensures takes { TakesAtMost 1048577 (S.left lines.old) (S.left lines.new) }
+    ensures takes { TakesAtMost most_of_file (S.left lines.old) (S.left lines.new) }
     ensures later { S.faults lines.old ≤ S.faults lines.new }
 {
     let mut file = Vec::new(alloc);
@@ -104,7 +104,7 @@ pub(crate) fn read_file<H: Shelf, S: Source>(
         → (told_of (world (H.files shelf.old) (S.left lines.old)) word.now ≡ absent)
         ⊎ Rose (count_of (H.faults shelf.old) (S.faults lines.old) word.now)
         (count_of (H.faults shelf.new) (S.faults lines.new) word.now) }
-    ensures takes { TakesAtMost 1048577 (S.left lines.old) (S.left lines.new) }
+    ensures takes { TakesAtMost most_of_file (S.left lines.old) (S.left lines.new) }
     ensures asked { word.now ≢ dash → H.asks shelf.old word.now shelf.new }
     ensures same_files { H.files shelf.new ≡ H.files shelf.old }
     ensures later_loads { H.faults shelf.old ≤ H.faults shelf.new }

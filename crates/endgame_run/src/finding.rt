@@ -4,7 +4,7 @@ ghost use Rattle.std.specs.Prelude.{◌≡◌, ◌≢◌, ◌≤◌, length, sum
 ghost use Rattle.desk_io.specs.Outside.{ended};
 ghost use Rattle.sgf_go.specs.declared.settings.Setup.{Setup as Position};
 ghost use Rattle.sgf_tree.specs.Reading.{line_text};
-ghost use Rattle.endgame_run.specs.File.{TakesAtMost, count_of, dash, told_of, world};
+ghost use Rattle.endgame_run.specs.File.{TakesAtMost, count_of, dash, most_of_file, told_of, world};
 ghost use Rattle.endgame_run.specs.inner.Found.{HasRanges, IsFileFound, IsFound, IsLineFound};
 
 use crate::faults::{setup_fault_text, tree_fault_text};
@@ -66,7 +66,7 @@ pub(crate) fn find_position<H: Shelf, S: Source>(
         (world (H.files shelf.old) (S.left lines.old)) word.now)
         (count_of (H.faults shelf.old) (S.faults lines.old) word.now)
         (count_of (H.faults shelf.new) (S.faults lines.new) word.now) settings.now) }
-    ensures takes { TakesAtMost 1048577 (S.left lines.old) (S.left lines.new) }
+    ensures takes { TakesAtMost most_of_file (S.left lines.old) (S.left lines.new) }
     ensures asked { word.now ≢ dash → H.asks shelf.old word.now shelf.new }
     ensures same_files { H.files shelf.new ≡ H.files shelf.old }
     ensures later_loads { H.faults shelf.old ≤ H.faults shelf.new }

@@ -4,7 +4,7 @@ ghost use Rattle.std.specs.Prelude.{◌≡◌, ◌≢◌, ◌≤◌, ◌⊎◌, 
 ghost use Rattle.sgf_go.specs.declared.settings.Setup.{Setup as Position};
 ghost use Rattle.endgame_solver.specs.declared.limits.Limits.{Limits};
 ghost use Rattle.endgame_run.specs.declared.question.Question.TheVariants.{Solve};
-ghost use Rattle.endgame_run.specs.File.{TakesAtMost, count_of, dash, faults, outside, told_of, world};
+ghost use Rattle.endgame_run.specs.File.{TakesAtMost, count_of, dash, faults, most_of_game, outside, told_of, world};
 ghost use Rattle.endgame_run.specs.inner.Found.{HasRanges};
 ghost use Rattle.endgame_run.specs.inner.Top.{AreToldSteps, IsGameOutcome, IsOpened, IsPlayRun, IsPlayedGame};
 
@@ -56,7 +56,7 @@ fn open_game<H: Shelf, S: Source, L: Ledger>(
 /// Plays a session over the lines, and writes the line of a fault behind it.
 fn play<S: Source, K: Sink>(session: &mut Session, lines: &mut S, out: &mut K) -> Status
     requires { session.old.held ≡ [] }
-    ensures takes { TakesAtMost 2560256 (S.left lines.old) (S.left lines.new) }
+    ensures takes { TakesAtMost most_of_game (S.left lines.old) (S.left lines.new) }
     ensures later_reads { S.faults lines.old ≤ S.faults lines.new }
     ensures later_writes { K.faults out.old ≤ K.faults out.new }
     ensures played { IsPlayRun session.old.engine session.old.state (S.left lines.old)
@@ -92,7 +92,7 @@ pub(crate) fn run_game<H: Shelf, S: Source, K: Sink, L: Ledger>(
     ensures steps { AreToldSteps (Solve game.now.limits)
         (told_of (world (H.files shelf.old) (S.left lines.old)) game.now.word.now)
         settings.now steps.old steps.new }
-    ensures takes { TakesAtMost 2560256 (S.left lines.old) (S.left lines.new) }
+    ensures takes { TakesAtMost most_of_game (S.left lines.old) (S.left lines.new) }
     ensures asked { H.asks shelf.old game.now.word.now shelf.new }
     ensures same_files { H.files shelf.new ≡ H.files shelf.old }
     ensures later_loads { H.faults shelf.old ≤ H.faults shelf.new }

@@ -12,7 +12,7 @@ ghost use Rattle.endgame_solver.specs.Faults.{most_steps};
 ghost use Rattle.region_cut.specs.Cut.{AreRegionsOfPlay};
 ghost use Rattle.endgame_run.specs.Complete.{IsComplete};
 ghost use Rattle.endgame_run.specs.Engine.{AskForEngine, engine_limits};
-ghost use Rattle.endgame_run.specs.File.{TakesAtMost, count_of, dash, faults, outside, told_of, world};
+ghost use Rattle.endgame_run.specs.File.{TakesAtMost, count_of, dash, faults, most_of_engine, most_of_file, most_of_game, outside, told_of, world};
 ghost use Rattle.endgame_run.specs.inner.Found.{HasRanges};
 ghost use Rattle.endgame_run.specs.Game.{EngineKeepsWin, IsGameRun};
 ghost use Rattle.endgame_run.specs.Output.{IsCaused, IsOutput, IsPartOutput};
@@ -79,7 +79,7 @@ fn answer<H: Shelf, S: Source, L: Ledger>(
     ensures steps { AreToldSteps inquiry.now.question
         (told_of (world (H.files shelf.old) (S.left lines.old)) inquiry.now.word.now)
         settings.now steps.old steps.new }
-    ensures takes { TakesAtMost 1048577 (S.left lines.old) (S.left lines.new) }
+    ensures takes { TakesAtMost most_of_file (S.left lines.old) (S.left lines.new) }
     ensures asked { inquiry.now.word.now ≢ dash → H.asks shelf.old inquiry.now.word.now shelf.new }
     ensures same_files { H.files shelf.new ≡ H.files shelf.old }
     ensures later_loads { H.faults shelf.old ≤ H.faults shelf.new }
@@ -118,7 +118,7 @@ fn run_file<H: Shelf, S: Source, K: Sink, L: Ledger>(
     ensures steps { AreToldSteps inquiry.now.question
         (told_of (world (H.files shelf.old) (S.left lines.old)) inquiry.now.word.now)
         settings.now steps.old steps.new }
-    ensures takes { TakesAtMost 1048577 (S.left lines.old) (S.left lines.new) }
+    ensures takes { TakesAtMost most_of_file (S.left lines.old) (S.left lines.new) }
     ensures asked { inquiry.now.word.now ≢ dash → H.asks shelf.old inquiry.now.word.now shelf.new }
     ensures same_files { H.files shelf.new ≡ H.files shelf.old }
     ensures later_loads { H.faults shelf.old ≤ H.faults shelf.new }
@@ -254,11 +254,11 @@ pub fn run<H: Shelf, S: Source, K: Sink, L: Ledger>(
         (faults (S.faults lines.old) (S.faults lines.new)))
         (K.holds out.old) (K.holds out.new) result }
     ensures file_taken { ¬ AskToPlay (texts words.now) → ¬ AskForEngine (texts words.now)
-        → TakesAtMost 1048577 (S.left lines.old) (S.left lines.new) }
+        → TakesAtMost most_of_file (S.left lines.old) (S.left lines.new) }
     ensures lines_taken { AskToPlay (texts words.now)
-        → TakesAtMost 2560256 (S.left lines.old) (S.left lines.new) }
+        → TakesAtMost most_of_game (S.left lines.old) (S.left lines.new) }
     ensures session_taken { AskForEngine (texts words.now)
-        → TakesAtMost 10241024 (S.left lines.old) (S.left lines.new) }
+        → TakesAtMost most_of_engine (S.left lines.old) (S.left lines.new) }
     ensures asked { ¬ AskForEngine (texts words.now) → (shelf.new ≡ shelf.old)
         ⊎ AskShelf (texts words.now) (λ word. H.asks shelf.old word shelf.new) }
     ensures same_files { H.files shelf.new ≡ H.files shelf.old }

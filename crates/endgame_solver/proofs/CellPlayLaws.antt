@@ -32,7 +32,7 @@ use Rattle.region_cut.proofs.ApartLemmas.{only_region, other_kept}
 use Rattle.region_cut.proofs.LocalBoardLemmas.{holds_after, plays_locally}
 use Rattle.region_cut.proofs.FreedomLemmas.{point_contested}
 use Rattle.endgame_solver.specs.Regions.{no_region, region_at}
-use Rattle.endgame_solver.specs.inner.Regions.{InRegion}
+use Rattle.endgame_solver.specs.inner.Regions.{IsPointOf}
 use Rattle.endgame_solver.specs.inner.WholeParts.{OthersStay, IsPlayedIn, IsPlayableIn, IsLocalPlay}
 use Rattle.go_grid.proofs.PlayLemmas.{long_after}
 
@@ -106,7 +106,7 @@ module _ (g : Board) (settled : IsSettled g) (regions : List Region) (are : AreR
   -- the board after a local move of one region holds the next position there, and the same elsewhere
   held_after : (h after : Board) (k : ℕ) (q : Position) (next : List Cell) (c : Colour) (i p : ℕ) → IsHeld g regions h k q
       → IsPlaced h p c after → IsLocalMove (region_at regions k).touch q.cells c i next → IsLocal (region_at regions k) h after q.cells next
-      → IsHeld g regions after k (position_in k next) × OthersStay Position moves (InRegion regions) (IsHeld g regions) k h after
+      → IsHeld g regions after k (position_in k next) × OthersStay Position moves (IsPointOf regions) (IsHeld g regions) k h after
   held_after h after k q next c i p s placed move local =
       let r = region_at regions k in
       let own = holds_after g r q.cells next h after (are.each r (region_in k s.known)) s.holds placed.0.columns
@@ -132,8 +132,8 @@ module _ (g : Board) (settled : IsSettled g) (regions : List Region) (are : AreR
             },
       )
 
-  played : (h after : Board) (c : Colour) (p n k : ℕ) (q : Position) → WallsStand g h → k < length regions → InRegion regions k p → IsHeld g regions h k q
-      → IsPlaced h p c after → IsNumberTaken h after n → IsPlayedIn Position moves (InRegion regions) (IsHeld g regions) h c after n k q
+  played : (h after : Board) (c : Colour) (p n k : ℕ) (q : Position) → WallsStand g h → k < length regions → IsPointOf regions k p → IsHeld g regions h k q
+      → IsPlaced h p c after → IsNumberTaken h after n → IsPlayedIn Position moves (IsPointOf regions) (IsHeld g regions) h c after n k q
   played h after c p n k q walls lt (i, short, at) s placed number =
       let r = region_at regions k in
       let there : get_or r.points i 0 ≡ p = get_or_default r.points i 0 p short ∙ at in
@@ -152,7 +152,7 @@ module _ (g : Board) (settled : IsSettled g) (regions : List Region) (are : AreR
       )
 
   playable : (h : Board) (c : Colour) (k : ℕ) (q : Position) (x : Step Position) → WallsStand g h → k < length regions → IsHeld g regions h k q
-      → Contains (moves c q) x → IsPlayableIn Position moves (InRegion regions) (IsHeld g regions) h c k x
+      → Contains (moves c q) x → IsPlayableIn Position moves (IsPointOf regions) (IsHeld g regions) h c k x
   playable h c k q x walls lt s among =
       let r = region_at regions k in
       let y = step_from Position r.touch (largest regions).0 (position_in k) moves (moves-are k) q.cells c x (held_long h k q s)
@@ -175,7 +175,7 @@ module _ (g : Board) (settled : IsSettled g) (regions : List Region) (are : AreR
         ),
       )
 
-  pub cell_play : IsLocalPlay Position moves (InRegion regions) (IsHeld g regions) g (length regions)
+  pub cell_play : IsLocalPlay Position moves (IsPointOf regions) (IsHeld g regions) g (length regions)
   cell_play = record {
     covers = λ p contested. (let w = only_region g regions are p no_region contested in (w.0, w.1, w.2));
     within = λ k p lt in'. point_contested g (region_at regions k) (are.each (region_at regions k) (region_in k lt)) p in';

@@ -20,7 +20,7 @@ use Rattle.sum_outcome.specs.Players.{LosesGame}
 use Rattle.local_value.specs.PositionTree.{IsValueOf}
 use Rattle.sum_outcome.specs.Sums.{sum_tree}
 use Rattle.endgame_solver.specs.Regions.{region_at}
-use Rattle.endgame_solver.specs.inner.Regions.{Spot, AreGraphs, spot_in, moves_at, InRegion, HasCells, IsShown}
+use Rattle.endgame_solver.specs.inner.Regions.{Spot, AreGraphs, spot_in, moves_at, IsPointOf, HasCells, IsShown}
 use Rattle.endgame_solver.specs.SumGame.{State, balance}
 use Rattle.endgame_solver.specs.inner.Valued.{AreValued}
 use Rattle.endgame_solver.specs.inner.WholeParts.{AllShown, IsSeenAs}
@@ -61,7 +61,7 @@ module _ (g : Board) (regions : List Region) (graphs : List Graph) (are : AreGra
   Shown h k q = IsShown g regions graphs h k q
 
   all_shown : (h : Board) (k : ℕ) (is : List ℕ) → ((j : ℕ) → j < length is → Shown h (k + j) (spot_in (k + j) (place_at is j)))
-      → AllShown Spot (moves_at graphs) (InRegion regions) Shown h k (spots k is)
+      → AllShown Spot (moves_at graphs) (IsPointOf regions) Shown h k (spots k is)
   unfolding spots
   all_shown h k [] w = tt
   all_shown h k (i ∷ is) w = (
@@ -95,7 +95,7 @@ module _ (g : Board) (regions : List Region) (graphs : List Graph) (values : Lis
       × (MoverLoses Whole whole.Leads s ↔ LosesGame s.side (sum_tree Ts ids (balance_units s)))
   decided s places ids at e w =
       let n = enough g regions graphs are.cut in
-      let seen : IsSeenAs Spot (moves_at graphs) (InRegion regions) (IsShown g regions graphs) (length regions) s (seen_as s places) = record {
+      let seen : IsSeenAs Spot (moves_at graphs) (IsPointOf regions) (IsShown g regions graphs) (length regions) s (seen_as s places) = record {
         count = spots-long 0 places ∙ at.many;
         shown = all_shown g regions graphs are.cut s.board 0 places (λ j lt. subst (λ z. IsShown g regions graphs s.board z (spot_in z (place_at places j))) (from_zero j) (at.shown j (omega (arith, lt, at.many))));
         purses = refl;

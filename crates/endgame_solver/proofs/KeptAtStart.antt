@@ -17,7 +17,7 @@ use Rattle.region_cut.specs.Cut.{lowest, AreRegionsOfPlay}
 use Rattle.region_cut.specs.LocalBoard.{PlaysLocally}
 use Rattle.short_games.specs.Tree.{Tree}
 use Rattle.endgame_solver.specs.Faults.{AreSound, IsSound}
-use Rattle.endgame_solver.specs.inner.Held.{AreSolved, AreSummed, IsAt, IsKept, ids_at, place_at}
+use Rattle.endgame_solver.specs.inner.Held.{AreSolved, AreSummed, IsAt, AreSolvedAt, ids_at, place_at}
 use Rattle.endgame_solver.specs.Regions.{no_region, region_at}
 use Rattle.endgame_solver.specs.inner.Regions.{AreGraphs, IsShown, graph_at, spot_in}
 use Rattle.endgame_solver.specs.inner.Solving.{AreSolvedBelow}
@@ -95,7 +95,7 @@ module _ (limits : Limits) (g : Board) (regions : List Region) (graphs : List Gr
           ∙ ap (λ i. get_or (ids_at values k) i 0) (sym (first_place k lt));
     }
 
-    pub is_kept : black < 2 ^ 40 → white < 2 ^ 40 → unsigned_abs komi ≤ 2000000 → IsKept regions graphs values places sum Ts s
+    pub is_kept : black < 2 ^ 40 → white < 2 ^ 40 → unsigned_abs komi ≤ 2000000 → AreSolvedAt regions graphs values places sum Ts s
     is_kept small small' half = record {
       board = g;
       solved = are_solved;

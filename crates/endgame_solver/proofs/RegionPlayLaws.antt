@@ -20,7 +20,7 @@ use Rattle.region_cut.proofs.ApartLemmas.{only_region, other_kept}
 use Rattle.region_cut.proofs.LocalBoardLemmas.{holds_after}
 use Rattle.local_value.specs.LocalGame.{Step}
 use Rattle.endgame_solver.specs.Regions.{no_region, region_at}
-use Rattle.endgame_solver.specs.inner.Regions.{Spot, graph_at, AreGraphs, spot_in, moves_at, InRegion, HasCells, IsShown}
+use Rattle.endgame_solver.specs.inner.Regions.{Spot, graph_at, AreGraphs, spot_in, moves_at, IsPointOf, HasCells, IsShown}
 use Rattle.endgame_solver.specs.inner.WholeParts.{OthersStay, IsPlayedIn, IsPlayableIn, IsLocalPlay}
 use Rattle.local_value.specs.inner.GraphMoves.{step_of}
 use Rattle.local_value.proofs.GraphLaws.{IsEdgeFor, edge_of, move_of, next_place}
@@ -35,7 +35,7 @@ module _ (g : Board) (regions : List Region) (graphs : List Graph) (are : AreGra
   pub shown_after : (h after : Board) (k : ℕ) (q : Spot) (cells next : List Cell) (c : Colour) (i p n : ℕ) (e : Edge) → HasCells regions graphs k q cells
       → HoldsPosition g (region_at regions k) cells h → IsPlaced h p c after → IsLocalMove (region_at regions k).touch cells c i next
       → IsLocal (region_at regions k) h after cells next → IsEdgeFor (graph_at graphs k).positions cells next c i n e
-      → IsShown g regions graphs after k (record { region = k; place = e.next }) × OthersStay Spot (moves_at graphs) (InRegion regions) (IsShown g regions graphs) k h after
+      → IsShown g regions graphs after k (record { region = k; place = e.next }) × OthersStay Spot (moves_at graphs) (IsPointOf regions) (IsShown g regions graphs) k h after
   shown_after h after k q cells next c i p n e has holds placed move local edge =
       let r = region_at regions k in
       let own = holds_after g r cells next h after (are.cut.each r (region_in k has.known)) holds placed.0.columns
@@ -55,8 +55,8 @@ module _ (g : Board) (regions : List Region) (graphs : List Graph) (are : AreGra
             ),
       )
 
-  pub played : (h after : Board) (c : Colour) (p n k : ℕ) (q : Spot) → WallsStand g h → k < length regions → InRegion regions k p → IsShown g regions graphs h k q
-      → IsPlaced h p c after → IsNumberTaken h after n → IsPlayedIn Spot (moves_at graphs) (InRegion regions) (IsShown g regions graphs) h c after n k q
+  pub played : (h after : Board) (c : Colour) (p n k : ℕ) (q : Spot) → WallsStand g h → k < length regions → IsPointOf regions k p → IsShown g regions graphs h k q
+      → IsPlaced h p c after → IsNumberTaken h after n → IsPlayedIn Spot (moves_at graphs) (IsPointOf regions) (IsShown g regions graphs) h c after n k q
   played h after c p n k q walls lt (i, short, at) (cells, has, holds) placed number =
       let r = region_at regions k in
       let there : get_or r.points i 0 ≡ p = get_or_default r.points i 0 p short ∙ at in
@@ -75,7 +75,7 @@ module _ (g : Board) (regions : List Region) (graphs : List Graph) (are : AreGra
       )
 
   playable : (h : Board) (c : Colour) (k : ℕ) (q : Spot) (x : Step Spot) → WallsStand g h → k < length regions → IsShown g regions graphs h k q
-      → Contains (moves_at graphs c q) x → IsPlayableIn Spot (moves_at graphs) (InRegion regions) (IsShown g regions graphs) h c k x
+      → Contains (moves_at graphs c q) x → IsPlayableIn Spot (moves_at graphs) (IsPointOf regions) (IsShown g regions graphs) h c k x
   playable h c k q x walls lt (cells, has, holds) among =
       let r = region_at regions k in
       let s = steps-out Spot (spot_in q.region) c (edges_at (graph_at graphs q.region).edges q.place) x among in
@@ -102,13 +102,13 @@ module _ (g : Board) (regions : List Region) (graphs : List Graph) (are : AreGra
       )
 
   -- each contested point is in a region, and a region's points are contested
-  covers : (p : ℕ) → IsContested g p → (k : ℕ) × (k < length regions) × InRegion regions k p
+  covers : (p : ℕ) → IsContested g p → (k : ℕ) × (k < length regions) × IsPointOf regions k p
   covers p contested = let w = only_region g regions are.cut p no_region contested in (w.0, w.1, w.2)
 
-  within : (k p : ℕ) → k < length regions → InRegion regions k p → IsContested g p
+  within : (k p : ℕ) → k < length regions → IsPointOf regions k p → IsContested g p
   within k p lt in' =
       let play = are.cut.each (region_at regions k) (region_in k lt) in
       joined_end g.columns (IsContested g) (lowest (region_at regions k)) p ((play.points p).0 in')
 
-  pub region_play : IsLocalPlay Spot (moves_at graphs) (InRegion regions) (IsShown g regions graphs) g (length regions)
+  pub region_play : IsLocalPlay Spot (moves_at graphs) (IsPointOf regions) (IsShown g regions graphs) g (length regions)
   region_play = record { covers = covers; within = within; played = played; playable = playable }

@@ -13,12 +13,12 @@ use Rattle.short_games.specs.Tree.{Tree, tree_at}
 use Rattle.local_value.specs.PositionTree.{IsValueOf}
 use Rattle.endgame_solver.specs.Regions.{region_at, no_region}
 use Rattle.endgame_solver.specs.inner.Regions.{graph_at}
-use Rattle.endgame_solver.specs.inner.Held.{IsKept, ids_at, place_at}
+use Rattle.endgame_solver.specs.inner.Held.{AreSolvedAt, ids_at, place_at}
 use Rattle.endgame_solver.specs.Solved.{IsPresent, IsNumberOfPositions, IsValueId}
 use Rattle.endgame_solver.proofs.WinningLaws.{place_inside}
 
 module _ (regions : List Region) (graphs : List Graph) (values : List (List ℕ)) (places ids : List ℕ) (Ts : List Tree) (s : Whole)
-    (kept : IsKept regions graphs values places ids Ts s) where
+    (kept : AreSolvedAt regions graphs values places ids Ts s) where
   pub present_is : (k : ℕ) → k < length regions → IsPresent (record { regions = regions; trees = Ts; state = s }) k (get_or ids k 0)
   present_is k lt =
       let shown = kept.at.shown k lt in

@@ -8,7 +8,7 @@ use Rattle.std.proofs.lemmas.List.Sums.{sum_by-le}
 use Rattle.go_grid.specs.declared.grid.Colour.{Colour}
 use Rattle.go_grid.specs.declared.grid.Colour.TheVariants.{Black, White}
 use Rattle.go_grid.specs.Board.{Board}
-use Rattle.benson_life.specs.Held.{IsHeld, IsNumberOf}
+use Rattle.benson_life.specs.Held.{IsHeld, HasPoints}
 use Rattle.benson_life.proofs.HeldLemmas.{short}
 use Rattle.whole_rules.specs.declared.money.Token.{Token}
 use Rattle.whole_rules.specs.declared.money.Token.TheVariants as token
@@ -21,7 +21,7 @@ use Rattle.endgame_solver.specs.inner.Regions.{graph_at}
 use Rattle.game_canon.proofs.NegationLaws.{chosen}
 
 -- there are no more points of a kind than the board has
-number_few : (P : ℕ → Type 0) (n most : ℕ) → ((p : ℕ) → P p → p < most) → IsNumberOf P n → n ≤ most
+number_few : (P : ℕ → Type 0) (n most : ℕ) → ((p : ℕ) → P p → p < most) → HasPoints P n → n ≤ most
 number_few P n most inside (points, lists, long) =
     let few = short points most lists.ascending (λ k d lt. inside (get_or points k d) ((lists.exact (get_or points k d)).0 (Contains-get_or points k d lt))) in
     omega (arith, few, long)

@@ -21,7 +21,7 @@ use Rattle.sum_outcome.proofs.PlayerLaws.{loses-same}
 use Rattle.local_value.specs.LocalGame.{tree_within}
 use Rattle.local_value.specs.PositionTree.{IsValueOf}
 use Rattle.endgame_solver.specs.Regions.{region_at}
-use Rattle.endgame_solver.specs.inner.Regions.{Spot, AreGraphs, moves_at, InRegion, HasCells, IsShown}
+use Rattle.endgame_solver.specs.inner.Regions.{Spot, AreGraphs, moves_at, IsPointOf, HasCells, IsShown}
 use Rattle.endgame_solver.specs.SumGame.{State, AllEnd, parts_tree, purses_tree, state_tree, balance}
 use Rattle.endgame_solver.specs.inner.Valued.{AreValued}
 use Rattle.endgame_solver.specs.inner.WholeParts.{IsSeenAs}
@@ -54,11 +54,11 @@ module _ (g : Board) (regions : List Region) (graphs : List Graph) (are : AreGra
 
   -- The state has a winner, and who loses is the sign of the sum of the values, of the balance of the purses and of the token.
   pub decided_by_values : IsSettled g → (s : Whole) (u : State Spot) (ids : List ℕ) → Keeps g s
-      → IsSeenAs Spot (moves_at graphs) (InRegion regions) (IsShown g regions graphs) (length regions) s u → AreValued regions graphs Ts 0 u.parts ids
+      → IsSeenAs Spot (moves_at graphs) (IsPointOf regions) (IsShown g regions graphs) (length regions) s u → AreValued regions graphs Ts 0 u.parts ids
       → (MoverWins Whole whole.Leads s ⊎ MoverLoses Whole whole.Leads s)
       × (MoverLoses Whole whole.Leads s ↔ LosesGame s.side (total (pick Ts ids) +ᵍ num 1 (balance s.purses)))
   decided_by_values settled s u ids keeps seen valued =
-      let d = whole_decomposes Spot (moves_at graphs) (InRegion regions) (IsShown g regions graphs) g settled (length regions) (region_play g regions graphs are)
+      let d = whole_decomposes Spot (moves_at graphs) (IsPointOf regions) (IsShown g regions graphs) g settled (length regions) (region_play g regions graphs are)
       33 n s u (few_taken g regions graphs are) (all_end 0 u.parts ids valued) (keeps, seen) in
       let same : state_tree Spot (moves_at graphs) n u ≡ᵍ (total (pick Ts ids) +ᵍ num 1 (balance s.purses)) =
       same-plus _ _ _ _ (same-sym _ _ (values_total 0 u.parts ids valued))

@@ -35,7 +35,7 @@ use Rattle.endgame_solver.proofs.WholeLaws.{Sees, bookkeeping, whole_decomposes}
 use Rattle.local_graph.specs.FiniteLocalPlay.{HasNoCycle}
 use Rattle.region_cut.specs.Cut.{AreRegionsOfPlay}
 use Rattle.endgame_solver.specs.Regions.{no_region, region_at}
-use Rattle.endgame_solver.specs.inner.Regions.{InRegion}
+use Rattle.endgame_solver.specs.inner.Regions.{IsPointOf}
 use Rattle.endgame_solver.proofs.CellPlayLaws.{Position, position_in, largest, moves, IsHeld, cell_play, few_cells, depth, held_ends, held_tree}
 
 -- the openings of so many regions, from the one at `k` on
@@ -64,9 +64,9 @@ module _ (g : Board) (settled : IsSettled g) (regions : List Region) (are : AreR
   Moves = moves g settled regions are
 
   abbrev SeenAs : Whole → State Position → Type 0
-  SeenAs s u = Sees Position Moves (InRegion regions) (IsHeld g regions) g settled (length regions) (cell_play g settled regions are) s u
+  SeenAs s u = Sees Position Moves (IsPointOf regions) (IsHeld g regions) g settled (length regions) (cell_play g settled regions are) s u
 
-  openings_held : (k n : ℕ) → k + n ≤ length regions → AllShown Position Moves (InRegion regions) (IsHeld g regions) g k (openings regions k n)
+  openings_held : (k n : ℕ) → k + n ≤ length regions → AllShown Position Moves (IsPointOf regions) (IsHeld g regions) g k (openings regions k n)
   unfolding openings
   openings_held k zero le = tt
   openings_held k (suc n) le =
@@ -83,7 +83,7 @@ module _ (g : Board) (settled : IsSettled g) (regions : List Region) (are : AreR
       keeps_start g black white komi side tax s o,
       record {
         count = openings-long regions 0 (length regions);
-        shown = subst (λ h. AllShown Position Moves (InRegion regions) (IsHeld g regions) h 0 (openings regions 0 (length regions))) (sym o.board) (openings_held 0 (length regions) (omega arith));
+        shown = subst (λ h. AllShown Position Moves (IsPointOf regions) (IsHeld g regions) h 0 (openings regions 0 (length regions))) (sym o.board) (openings_held 0 (length regions) (omega arith));
         purses = refl;
         turn = refl;
       },
@@ -93,7 +93,7 @@ module _ (g : Board) (settled : IsSettled g) (regions : List Region) (are : AreR
   seen_plays : (s t : Whole) (ms : List Move) (u : State Position) → SeenAs s u → Plays s ms t → (v : State Position) × SeenAs t v
   seen_plays s t [] u w e = (u, subst (λ z. SeenAs z u) e w)
   seen_plays s t (m ∷ ms) u w (r, move, rest) =
-      let v = (bookkeeping Position Moves (InRegion regions) (IsHeld g regions) g settled (length regions) (cell_play g settled regions are)).forth s r u w (m, move) in
+      let v = (bookkeeping Position Moves (IsPointOf regions) (IsHeld g regions) g settled (length regions) (cell_play g settled regions are)).forth s r u w (m, move) in
       seen_plays r t ms v.0 v.2 rest
 
   module _ (calm : (r : Region) → Contains regions r → HasNoCycle r.touch r.cells) (h : Board) where
@@ -101,13 +101,13 @@ module _ (g : Board) (settled : IsSettled g) (regions : List Region) (are : AreR
     Depth = depth g settled regions are
 
     -- play ends in each part
-    all_end : (k : ℕ) (qs : List Position) → AllShown Position Moves (InRegion regions) (IsHeld g regions) h k qs → AllEnd Position Moves Depth qs
+    all_end : (k : ℕ) (qs : List Position) → AllShown Position Moves (IsPointOf regions) (IsHeld g regions) h k qs → AllEnd Position Moves Depth qs
     all_end k [] shown = tt
     all_end k (q ∷ qs) (held, shown) = (held_ends g settled regions are calm h k q held, all_end (suc k) qs shown)
 
     -- the trees of the positions on the board are as good as those of the parts
     trees_total : (k : ℕ) (rs : List Region) (trees : Trees) (qs : List Position) → ((j : ℕ) → j < length rs → region_at regions (k + j) ≡ get_or rs j no_region)
-        → AreTreesOn g h rs trees → length qs ≡ length rs → AllShown Position Moves (InRegion regions) (IsHeld g regions) h k qs
+        → AreTreesOn g h rs trees → length qs ≡ length rs → AllShown Position Moves (IsPointOf regions) (IsHeld g regions) h k qs
         → total trees ≡ᵍ parts_tree Position Moves Depth qs
     unfolding total parts_tree
     trees_total k [] none [] at w e shown = same-refl (node none none)
@@ -127,7 +127,7 @@ pub decomposes_whole : WholeDecomposes
 decomposes_whole g regions black white komi side tax s t ms settled are calm opening plays =
     let u = seen_start g settled regions are black white komi side tax s opening in
     let v = seen_plays g settled regions are s t ms u.0 u.1 plays in
-    let d = whole_decomposes Position (moves g settled regions are) (InRegion regions) (IsHeld g regions) g settled (length regions) (cell_play g settled regions are)
+    let d = whole_decomposes Position (moves g settled regions are) (IsPointOf regions) (IsHeld g regions) g settled (length regions) (cell_play g settled regions are)
     ((largest regions).0 + 1) (depth g settled regions are) t v.0 (few_cells g settled regions are) (all_end g settled regions are calm t.board 0 v.0.parts v.1.1.shown) v.1 in (
       d.0,
       λ trees w.

@@ -16,7 +16,7 @@ use Rattle.short_games.specs.Tree.{Tree}
 use Rattle.sum_outcome.specs.Players.{LosesGame}
 use Rattle.sum_outcome.specs.Sums.{sum_tree}
 use Rattle.endgame_solver.specs.SumGame.{balance}
-use Rattle.endgame_solver.specs.inner.Held.{IsKept, IsFirstStone}
+use Rattle.endgame_solver.specs.inner.Held.{AreSolvedAt, IsFirstStone}
 use Rattle.endgame_solver.specs.Solved.{ArePresent, balance_units}
 use Rattle.endgame_solver.proofs.HeldLaws.{decided_now, decided_present}
 
@@ -33,7 +33,7 @@ not_other Black e = cc
 not_other White e = cc
 
 module _ (regions : List Region) (graphs : List Graph) (values : List (List ℕ)) (places ids : List ℕ) (Ts : List Tree) (s : Whole)
-    (kept : IsKept regions graphs values places ids Ts s) where
+    (kept : AreSolvedAt regions graphs values places ids Ts s) where
   -- the player to move loses the sum of the present values and the balance
   abbrev pub LosesSum : Type 0
   LosesSum = LosesGame s.side (sum_tree Ts ids (balance_units s))

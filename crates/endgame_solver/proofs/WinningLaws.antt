@@ -20,7 +20,7 @@ use Rattle.game_canon.specs.Outcomes.{AreWithin}
 use Rattle.sum_outcome.specs.Players.{LosesGame}
 use Rattle.sum_outcome.specs.Sums.{sum_tree, IsBounded}
 use Rattle.endgame_solver.specs.SumGame.{balance}
-use Rattle.endgame_solver.specs.inner.Held.{AreSolved, IsAt, AreSummed, HasRoom, IsKept, IsStoneEdge, AreModest, ArePlaces, ids_at, place_at, most_units}
+use Rattle.endgame_solver.specs.inner.Held.{AreSolved, IsAt, AreSummed, HasRoom, AreSolvedAt, IsStoneEdge, AreModest, ArePlaces, ids_at, place_at, most_units}
 use Rattle.endgame_solver.specs.Solved.{balance_units}
 use Rattle.endgame_solver.proofs.HeldLaws.{decided_now}
 use Rattle.endgame_solver.proofs.RoomLaws.{bounded, small_units}
@@ -77,7 +77,7 @@ modest_spent graphs places s Black room = record { black = omega (arith, room.ro
 modest_spent graphs places s White room = record { black = omega (arith, room.room Black); white = omega (arith, room.room White) }
 
 module _ (regions : List Region) (graphs : List Graph) (values : List (List ℕ)) (places ids : List ℕ) (Ts : List Tree) (s : Whole)
-    (kept : IsKept regions graphs values places ids Ts s) where
+    (kept : AreSolvedAt regions graphs values places ids Ts s) where
   pub are_places : ArePlaces regions graphs places
   are_places = record { many_graphs = kept.solved.cut.many; many_places = kept.at.many; inside = λ k lt. (kept.at.shown k lt).1.at.inside }
 

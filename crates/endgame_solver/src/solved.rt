@@ -73,7 +73,8 @@ impl Model for Solved {
 
     ghost view = { λ s. record { regions = s.regions.items; trees = s.store; state = s.whole } };
 
-    ghost invariant = { λ s. IsHeld s.regions.items s.book s.places.items s.sum.items s.store s.whole × Fits s.store s.search };
+    ghost invariant = { λ s. IsHeld s.regions.items s.book s.places.items s.sum.items
+        s.store s.whole × Fits s.store s.search };
 }
 
 impl Solved {

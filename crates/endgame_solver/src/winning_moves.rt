@@ -14,7 +14,7 @@ ghost use Rattle.local_graph.specs.inner.Graph.{edges_at};
 
 use crate::view_book::Book;
 use crate::views::View;
-use dyadic_num::Dyadic;
+use dyadic_num::{Dyadic, EXPONENT};
 use game_store::{GameId, Store};
 use go_grid::{Colour, Point, Region};
 use local_graph::Edge;
@@ -60,16 +60,15 @@ fn in_halves(points: i128, halves: i128) -> i128
     points + points + halves
 }
 
+/// Half a point, in the parts of a `Dyadic`.
+const HALF_POINT: i128 = 1 << (EXPONENT - 1);
+
 /// So many halves of a point.
 fn of_halves(halves: i128) -> Dyadic
     requires { unsigned_abs halves ≤ 2 ^ 45 }
-    ensures { result ≡ halves *ℤ pos (2 ^ 59) }
+    ensures { result ≡ halves *ℤ HALF_POINT }
 {
-    match Dyadic::of_units(halves * (1 << 59)) {
-        Some(number) => number,
-        // 2^45 halves of a point lie within the bounds.
-        None => unreachable!(),
-    }
+    Dyadic::from_units(halves * HALF_POINT)
 }
 
 /// Black's purse less White's, with the token's half.

@@ -10,7 +10,7 @@ use Rattle.game_calc.specs.Expression.Line.{value, order}
 use Rattle.game_calc.specs.Expression.Fault.{stray, unfinished}
 use Rattle.game_calc.specs.Expression.Outcome.{reads}
 use Rattle.game_calc.specs.inner.Machine.{Frame, Answer, AfterTerm, BehindTerm, BehindSum, Rest, IsOpening, IsState, AreOpen, IsReading, IsTokenAt, IsAsked}
-use Rattle.game_calc.specs.inner.Machine.State.{a_term, behind_term}
+use Rattle.game_calc.specs.inner.Machine.LineState.{a_term, behind_term}
 use Rattle.game_calc.specs.declared.amounts.Amount.{Amount}
 use Rattle.game_calc.specs.declared.amounts.Opening.{Opening}
 use Rattle.game_calc.specs.declared.amounts.Sign.{Sign}

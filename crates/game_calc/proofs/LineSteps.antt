@@ -13,8 +13,8 @@ use Rattle.game_calc.specs.Expression.Expression.{game}
 use Rattle.game_calc.specs.Expression.Outcome.{reads, refused}
 use Rattle.game_calc.specs.Expression.ReadsTerm.{a_game, a_group}
 use Rattle.game_calc.specs.Expression.ReadsTerms.{last, one_more, no_more}
-use Rattle.game_calc.specs.inner.Machine.{Frame, State, Answer, AfterTerm, BehindTerm, BehindSum, Rest, IsOpening, IsState, AreOpen, IsReading, IsTokenAt}
-use Rattle.game_calc.specs.inner.Machine.State.{a_term, behind_term}
+use Rattle.game_calc.specs.inner.Machine.{Frame, LineState, Answer, AfterTerm, BehindTerm, BehindSum, Rest, IsOpening, IsState, AreOpen, IsReading, IsTokenAt}
+use Rattle.game_calc.specs.inner.Machine.LineState.{a_term, behind_term}
 use Rattle.game_calc.specs.declared.amounts.Amount.{Amount}
 use Rattle.game_calc.specs.declared.amounts.Amount.TheVariants.{Known, TooLarge}
 use Rattle.game_calc.specs.declared.amounts.Opening.{Opening}
@@ -84,7 +84,7 @@ pub record IsTermDue (Ts : List Tree) (limit : ℕ) (text : List ℕ) (spot : �
 pub term-due : (Ts : List Tree) (limit : ℕ) (text : List ℕ) (spot : ℕ) (o : Opening) (opens : List Opening) (first : Option Amount) → IsReading Ts limit text spot (due.Term o) opens first → IsTermDue Ts limit text spot o opens first
 term-due Ts limit text spot o opens first w = at w.state w.kept w.comes
   where
-    at : (s : State) → IsState Ts limit s (due.Term o) → ((out : Answer) → Rest limit s w.frames w.before (drop spot text) out → ReadsLine limit text out) → IsTermDue Ts limit text spot o opens first
+    at : (s : LineState) → IsState Ts limit s (due.Term o) → ((out : Answer) → Rest limit s w.frames w.before (drop spot text) out → ReadsLine limit text out) → IsTermDue Ts limit text spot o opens first
     at (a_term f) k c = record { frame = f; frames = w.frames; before = w.before; opening = k; open_frames = w.open_frames; first_is = w.first_is; within = w.within; comes = c }
     at (behind_term E) k c = absurd k
 
@@ -102,7 +102,7 @@ pub record IsBehindTerm (Ts : List Tree) (limit : ℕ) (text : List ℕ) (spot :
 pub term-behind : (Ts : List Tree) (limit : ℕ) (text : List ℕ) (spot : ℕ) (a : Amount) (opens : List Opening) (first : Option Amount) → IsReading Ts limit text spot (due.Behind a) opens first → IsBehindTerm Ts limit text spot a opens first
 term-behind Ts limit text spot a opens first w = at w.state w.kept w.comes
   where
-    at : (s : State) → IsState Ts limit s (due.Behind a) → ((out : Answer) → Rest limit s w.frames w.before (drop spot text) out → ReadsLine limit text out) → IsBehindTerm Ts limit text spot a opens first
+    at : (s : LineState) → IsState Ts limit s (due.Behind a) → ((out : Answer) → Rest limit s w.frames w.before (drop spot text) out → ReadsLine limit text out) → IsBehindTerm Ts limit text spot a opens first
     at (a_term f) k c = absurd k
     at (behind_term E) k c = record { so_far = E; frames = w.frames; before = w.before; amount = k; open_frames = w.open_frames; first_is = w.first_is; within = w.within; comes = c }
 

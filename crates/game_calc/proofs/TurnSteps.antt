@@ -19,7 +19,7 @@ use Rattle.game_calc.specs.Expression.Fault.{stray, unfinished, deep}
 use Rattle.game_calc.specs.Expression.Outcome.{refused}
 use Rattle.game_calc.specs.Expression.ReadsTerm.{a_game, one_too_deep, none_left, no_term}
 use Rattle.game_calc.specs.inner.Machine.{IsReading, IsState, IsTokenAt, IsTurn, IsTold, IsLineRefusal, IsGameRefusal}
-use Rattle.game_calc.specs.inner.Machine.State.{a_term}
+use Rattle.game_calc.specs.inner.Machine.LineState.{a_term}
 use Rattle.game_calc.specs.declared.amounts.Amount.{Amount}
 use Rattle.game_calc.specs.declared.amounts.Amount.TheVariants.{Known}
 use Rattle.game_calc.specs.declared.amounts.Opening.{Opening}

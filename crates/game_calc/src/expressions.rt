@@ -6,7 +6,7 @@ ghost use Rattle.game_store.specs.Meaning.{Extends};
 ghost use Rattle.game_text.specs.Reading.{IsReadRefusal, ReadsText};
 ghost use Rattle.game_canon.specs.Outcomes.{IsCanonicalId};
 ghost use Rattle.game_calc.specs.Expression.{Line, ReadsLine, first_bytes, first_sign, kind, next, token};
-ghost use Rattle.game_calc.specs.inner.Machine.{IsAsked, IsGameRefusal, IsLineRefusal, IsReading, IsTokenAt, IsTurn};
+ghost use Rattle.game_calc.specs.inner.Machine.{GoesOnInLine, IsAsked, IsGameRefusal, IsLineDue, IsLineRefusal, IsTokenAt};
 ghost use Rattle.game_calc.specs.declared.pending.Place.TheVariants as due;
 ghost use Rattle.game_calc.specs.declared.tokens.Kind.TheVariants as the_kind;
 
@@ -110,14 +110,11 @@ fn read_named(
     word: Token,
     opening: Opening,
 ) -> Result<Turn, CalcError>
-    requires reading { IsReading store.old source.now.parts_limit source.now.text.now at
-        (due.Term opening) pending.now.opens.items pending.now.first }
+    requires reading { IsLineDue store.old source.now at (due.Term opening) pending.now }
     requires word { IsTokenAt source.now.text.now at word }
     requires some { word.start < word.end }
     requires game { word.kind ≡ the_kind.Game }
-    ensures turn { IfOk result
-        (λ turn. IsTurn store.new source.now.parts_limit source.now.text.now at turn
-        pending.now.opens.items pending.now.first) }
+    ensures turn { IfOk result (GoesOnInLine store.new source.now at pending.now) }
     ensures refusal { IfErr result (IsLineRefusal source.now.parts_limit source.now.text.now) }
     ensures kept { Extends store.old store.new }
 {
@@ -138,14 +135,11 @@ fn open_group(
     word: Token,
     opening: Opening,
 ) -> Result<Turn, CalcError>
-    requires reading { IsReading store.now source.now.parts_limit source.now.text.now at
-        (due.Term opening) pending.old.opens.items pending.old.first }
+    requires reading { IsLineDue store.now source.now at (due.Term opening) pending.old }
     requires word { IsTokenAt source.now.text.now at word }
     requires some { word.start < word.end }
     requires open { word.kind ≡ the_kind.Open }
-    ensures turn { IfOk result
-        (λ turn. IsTurn store.now source.now.parts_limit source.now.text.now at turn
-        pending.new.opens.items pending.new.first) }
+    ensures turn { IfOk result (GoesOnInLine store.now source.now at pending.new) }
     ensures refusal { IfErr result (IsLineRefusal source.now.parts_limit source.now.text.now) }
 {
     if pending.opens.len() >= MOST_OPEN {
@@ -165,11 +159,8 @@ fn read_term(
     at: usize,
     opening: Opening,
 ) -> Result<Turn, CalcError>
-    requires reading { IsReading store.old source.now.parts_limit source.now.text.now at
-        (due.Term opening) pending.old.opens.items pending.old.first }
-    ensures turn { IfOk result
-        (λ turn. IsTurn store.new source.now.parts_limit source.now.text.now at turn
-        pending.new.opens.items pending.new.first) }
+    requires reading { IsLineDue store.old source.now at (due.Term opening) pending.old }
+    ensures turn { IfOk result (GoesOnInLine store.new source.now at pending.new) }
     ensures refusal { IfErr result (IsLineRefusal source.now.parts_limit source.now.text.now) }
     ensures kept { Extends store.old store.new }
 {
@@ -195,14 +186,11 @@ fn close_group(
     word: Token,
     amount: Amount,
 ) -> Result<Turn, CalcError>
-    requires reading { IsReading store.old source.now.parts_limit source.now.text.now at
-        (due.Behind amount) pending.old.opens.items pending.old.first }
+    requires reading { IsLineDue store.old source.now at (due.Behind amount) pending.old }
     requires word { IsTokenAt source.now.text.now at word }
     requires some { word.start < word.end }
     requires close { word.kind ≡ the_kind.Close }
-    ensures turn { IfOk result
-        (λ turn. IsTurn store.new source.now.parts_limit source.now.text.now at turn
-        pending.new.opens.items pending.new.first) }
+    ensures turn { IfOk result (GoesOnInLine store.new source.now at pending.new) }
     ensures refusal { IfErr result (IsLineRefusal source.now.parts_limit source.now.text.now) }
     ensures kept { Extends store.old store.new }
 {
@@ -225,14 +213,11 @@ fn second_sum(
     word: Token,
     amount: Amount,
 ) -> Result<Turn, CalcError>
-    requires reading { IsReading store.now source.now.parts_limit source.now.text.now at
-        (due.Behind amount) pending.old.opens.items pending.old.first }
+    requires reading { IsLineDue store.now source.now at (due.Behind amount) pending.old }
     requires word { IsTokenAt source.now.text.now at word }
     requires some { word.start < word.end }
     requires query { word.kind ≡ the_kind.Query }
-    ensures turn { IfOk result
-        (λ turn. IsTurn store.now source.now.parts_limit source.now.text.now at turn
-        pending.new.opens.items pending.new.first) }
+    ensures turn { IfOk result (GoesOnInLine store.now source.now at pending.new) }
     ensures refusal { IfErr result (IsLineRefusal source.now.parts_limit source.now.text.now) }
 {
     if !pending.opens.is_empty() {
@@ -255,12 +240,9 @@ fn whole(
     at: usize,
     amount: Amount,
 ) -> Result<Turn, CalcError>
-    requires reading { IsReading store.now source.now.parts_limit source.now.text.now at
-        (due.Behind amount) pending.now.opens.items pending.now.first }
+    requires reading { IsLineDue store.now source.now at (due.Behind amount) pending.now }
     requires end { kind (drop at source.now.text.now) ≡ the_kind.End }
-    ensures turn { IfOk result
-        (λ turn. IsTurn store.now source.now.parts_limit source.now.text.now at turn
-        pending.now.opens.items pending.now.first) }
+    ensures turn { IfOk result (GoesOnInLine store.now source.now at pending.now) }
     ensures refusal { IfErr result (IsLineRefusal source.now.parts_limit source.now.text.now) }
 {
     if !pending.opens.is_empty() {
@@ -281,11 +263,8 @@ fn read_behind(
     at: usize,
     amount: Amount,
 ) -> Result<Turn, CalcError>
-    requires reading { IsReading store.old source.now.parts_limit source.now.text.now at
-        (due.Behind amount) pending.old.opens.items pending.old.first }
-    ensures turn { IfOk result
-        (λ turn. IsTurn store.new source.now.parts_limit source.now.text.now at turn
-        pending.new.opens.items pending.new.first) }
+    requires reading { IsLineDue store.old source.now at (due.Behind amount) pending.old }
+    ensures turn { IfOk result (GoesOnInLine store.new source.now at pending.new) }
     ensures refusal { IfErr result (IsLineRefusal source.now.parts_limit source.now.text.now) }
     ensures kept { Extends store.old store.new }
 {
@@ -321,11 +300,8 @@ fn read_turn(
     source: &Source<'_>,
     step: Step,
 ) -> Result<Turn, CalcError>
-    requires reading { IsReading store.old source.now.parts_limit source.now.text.now step.at
-        step.place pending.old.opens.items pending.old.first }
-    ensures turn { IfOk result
-        (λ turn. IsTurn store.new source.now.parts_limit source.now.text.now step.at turn
-        pending.new.opens.items pending.new.first) }
+    requires reading { IsLineDue store.old source.now step.at step.place pending.old }
+    ensures turn { IfOk result (GoesOnInLine store.new source.now step.at pending.new) }
     ensures refusal { IfErr result (IsLineRefusal source.now.parts_limit source.now.text.now) }
     ensures kept { Extends store.old store.new }
 {

@@ -18,7 +18,7 @@ use Rattle.game_canon.specs.declared.side.Side.{Side}
 use Rattle.game_canon.specs.declared.side.Side.TheVariants.{Left, Right}
 use Rattle.short_games.specs.Parts.{IsOption}
 use Rattle.game_canon.proofs.Sizes.{come-further}
-use Rattle.game_canon.specs.inner.Sides.{Comes, near, far, Covers, with_near, near_list, far_list, AreFree, AreBest, IsReplaced, IsAnswer, IsKept, IsDone, IsSmaller, IsReducedForm}
+use Rattle.game_canon.specs.inner.Sides.{Comes, near, far, Covers, with_near, near_list, far_list, AreFree, AreBest, IsReplaced, IsAnswer, IsIrreversible, IsDone, IsSmaller, IsReducedForm}
 use Rattle.game_canon.proofs.SideLaws.{append-has, has-append_left, has-append_right, sizes-append, ids-append, has-far, far-has, FarUncovered}
 use Rattle.game_canon.proofs.GameLaws.{none-list}
 
@@ -30,7 +30,7 @@ match-along (Some x) P Q F G f g h = g x h
 pub answer-from : (s : Side) (Ts : List Tree) (G : Tree) (id : ℕ) (ls rs : List ℕ) (answer : ℕ) → IsOptions Ts id ls rs → (answer < length Ts) × Has (pick Ts (far_list s ls rs)) (tree_at Ts answer) × Covers s (tree_at Ts answer) G → IsAnswer s Ts G id answer
 answer-from s Ts G id ls rs answer o h = record { below = h.0; option = far-has s Ts id ls rs o _ h.1; covered = h.2 }
 
-pub kept-from : (s : Side) (Ts : List Tree) (G : Tree) (id : ℕ) (ls rs : List ℕ) → IsOptions Ts id ls rs → FarUncovered s Ts (far_list s ls rs) G → IsKept s G (tree_at Ts id)
+pub kept-from : (s : Side) (Ts : List Tree) (G : Tree) (id : ℕ) (ls rs : List ℕ) → IsOptions Ts id ls rs → FarUncovered s Ts (far_list s ls rs) G → IsIrreversible s G (tree_at Ts id)
 kept-from s Ts G id ls rs o h A a = none-list Ts (far_list s ls rs) (λ Z. Covers s Z G) h A (has-far s Ts id ls rs o A a)
 
 -- a list with one place left out

@@ -6,7 +6,7 @@ ghost use Rattle.short_games.specs.Number.{IsNumberTree};
 ghost use Rattle.game_store.specs.Meaning.{pick, AreIds};
 ghost use Rattle.game_canon.specs.inner.Comparisons.{recalled};
 ghost use Rattle.game_canon.specs.inner.Games.{beside, HasForm, IsKnown};
-ghost use Rattle.game_canon.specs.inner.Sides.{Covers, IsReplaced, IsAnswer, IsKept, IsDone, IsSmaller};
+ghost use Rattle.game_canon.specs.inner.Sides.{Covers, IsReplaced, IsAnswer, IsIrreversible, IsDone, IsSmaller};
 
 use crate::comparisons::Comparisons;
 use crate::domination::best;
@@ -57,7 +57,7 @@ fn answer_to(
     requires id { id < length games.now.store.now }
     ensures found { IfOk result (λ found. MatchOption found
         (IsNumberTree (tree_at games.now.store.now id)
-        ⊎ IsKept side (beside games.now) (tree_at games.now.store.now id))
+        ⊎ IsIrreversible side (beside games.now) (tree_at games.now.store.now id))
         (λ answer. IsAnswer side games.now.store.now (beside games.now) id answer)) }
     ensures known { IsKnown games.now (recalled memo.new) }
 {

@@ -81,7 +81,9 @@ impl Model for Store {
 
     ghost view = { λ s. values s.pool.lists (entries_of s.slots.items) };
 
-    ghost invariant = { λ s. IsKept s.pool.lists (entries_of s.slots.items) × IsChained s.pool.lists s.slots.items (get nat_eq s.latest) × ArePlaced (values s.pool.lists (entries_of s.slots.items)) s.slots.items };
+    ghost invariant = { λ s. IsKept s.pool.lists (entries_of s.slots.items)
+        × IsChained s.pool.lists s.slots.items (get nat_eq s.latest)
+        × ArePlaced (values s.pool.lists (entries_of s.slots.items)) s.slots.items };
 }
 
 /// The form of an entry.

@@ -18,10 +18,12 @@ fn written(
     Ok(write(alloc, &store, id, limit))
 }
 
+/// Texts of forms and what is written of them; among them games that the field names (Siegel, Combinatorial Game Theory),
+/// and corridors of one to five points.
 #[test]
 fn texts(rt: HostRuntime) -> Result<(), Fail> {
     let alloc = rt.alloc();
-    let table: [(&[u8], &[u8]); 25] = [
+    let table: [(&[u8], &[u8]); 39] = [
         (b"0", b"0"),
         (b"-3", b"-3"),
         (b"-1/2", b"-1/2"),
@@ -32,12 +34,8 @@ fn texts(rt: HostRuntime) -> Result<(), Fail> {
         (b"{1,2|}", b"3"),
         (b"{|-1,0}", b"-2"),
         (b"{{0|0}|{0|0}}", b"0"),
-        (b"{0|0}", b"*"),
-        (b"{0|{0|0}}", b"^"),
-        (b"{{0|0}|0}", b"v"),
         (b"{1,{0|0},1|{0|0}}", b"{1|*}"),
         (b"{0,{0|0}|{0|0},0}", b"*2"),
-        (b"{0,{0|0}|0}", b"{*,0|0}"),
         (b"{1|-1}", b"+-1"),
         (b"{1/2|-1/2}", b"+-1/2"),
         (b"{-1|1}", b"0"),
@@ -47,50 +45,6 @@ fn texts(rt: HostRuntime) -> Result<(), Fail> {
         (b"{{3|-1},{2|0}|-5}", b"{{2|0},{3|-1}|-5}"),
         (b"{{3|-1},{10|-20}|-50}", b"{{10|-20},{3|-1}|-50}"),
         (b"{{0|1}|{1|{{3|5}|}}}", b"1"),
-    ];
-    for (text, want) in table {
-        match written(alloc, text, 100) {
-            Ok(Ok(found)) => assert_eq!(rt; found.as_slice(), want),
-            Ok(Err(_)) => assert!(rt; false),
-            Err(_) => assert!(rt; false),
-        }
-    }
-    Ok(())
-}
-
-/// Both texts of a game are read as one id, and names beside other games.
-#[test]
-fn both_editions(rt: HostRuntime) -> Result<(), Fail> {
-    let alloc = rt.alloc();
-    let table: [(&[u8], &[u8]); 12] = [
-        (b"{0|{0|0}}", b"^"),
-        (b"{{0|0}|0}", b"v"),
-        (b"{0|0}", b"*"),
-        (b"{0,{0|0}|0,{0|0}}", b"*2"),
-        (b"{*,*2,0|0,*2,*}", b"*3"),
-        (b"{2|-2}", b"+-2"),
-        (b"{1/2|-1/2}", b"+-1/2"),
-        (b"{1|{0|0}}", b"{1|*}"),
-        (b"{{{0|0}|-1}|-2}", b"{{*|-1}|-2}"),
-        (b"{0,{0|0}|0}", b"{*,0|0}"),
-        (b"{*|*}", b"0"),
-        (b"{^|v}", b"*"),
-    ];
-    for (text, named) in table {
-        let mut store = Store::new(alloc);
-        let one = read(alloc, &mut store, text, 500).expect(&rt, "a text");
-        let other = read(alloc, &mut store, named, 500).expect(&rt, "a named text");
-        assert_eq!(rt; one, other);
-    }
-    Ok(())
-}
-
-/// Games that the field names (Siegel, Combinatorial Game Theory), and corridors of one to five points: their texts
-/// without names, and with names.
-#[test]
-fn named_games(rt: HostRuntime) -> Result<(), Fail> {
-    let alloc = rt.alloc();
-    let table: [(&[u8], &[u8]); 18] = [
         // the nimbers of 1 to 4
         (b"{0|0}", b"*"),
         (b"{0,{0|0}|0,{0|0}}", b"*2"),
@@ -126,6 +80,33 @@ fn named_games(rt: HostRuntime) -> Result<(), Fail> {
             Ok(Err(_)) => assert!(rt; false),
             Err(_) => assert!(rt; false),
         }
+    }
+    Ok(())
+}
+
+/// Both texts of a game are read as one id, and names beside other games.
+#[test]
+fn both_editions(rt: HostRuntime) -> Result<(), Fail> {
+    let alloc = rt.alloc();
+    let table: [(&[u8], &[u8]); 12] = [
+        (b"{0|{0|0}}", b"^"),
+        (b"{{0|0}|0}", b"v"),
+        (b"{0|0}", b"*"),
+        (b"{0,{0|0}|0,{0|0}}", b"*2"),
+        (b"{*,*2,0|0,*2,*}", b"*3"),
+        (b"{2|-2}", b"+-2"),
+        (b"{1/2|-1/2}", b"+-1/2"),
+        (b"{1|{0|0}}", b"{1|*}"),
+        (b"{{{0|0}|-1}|-2}", b"{{*|-1}|-2}"),
+        (b"{0,{0|0}|0}", b"{*,0|0}"),
+        (b"{*|*}", b"0"),
+        (b"{^|v}", b"*"),
+    ];
+    for (text, named) in table {
+        let mut store = Store::new(alloc);
+        let one = read(alloc, &mut store, text, 500).expect(&rt, "a text");
+        let other = read(alloc, &mut store, named, 500).expect(&rt, "a named text");
+        assert_eq!(rt; one, other);
     }
     Ok(())
 }

@@ -12,7 +12,7 @@ use Rattle.game_text.specs.Reading.ReadsGame.{number, no_number, name, no_name, 
 use Rattle.game_text.specs.Reading.ReadsOptions.{no_option, first, first_refused}
 use Rattle.game_text.specs.Reading.ReadsMore.{no_more, next, next_refused, more_stray, more_cut}
 use Rattle.game_text.specs.Reading.ReadsText.{whole_text, followed, unread}
-use Rattle.game_text.specs.inner.Machine.{Answer, Frame, on_left, on_right, side_in, with_option, BehindRight, BehindSide, BehindGame, State, first_option, a_game, other_options, all_read, Rest}
+use Rattle.game_text.specs.inner.Machine.{Answer, Frame, on_left, on_right, side_in, with_option, BehindRight, BehindSide, BehindGame, TextState, first_option, a_game, other_options, all_read, Rest}
 use Rattle.game_text.proofs.OneReading.{one-options}
 
 then-none : (Gs : Trees) → Gs then none ≡ Gs
@@ -28,11 +28,11 @@ side-same (on_left Ls) G = refl
 side-same (on_right Ls Rs) G = refl
 
 -- what is read behind a game
-abbrev pub state_after : List Frame → Tree → State
+abbrev pub state_after : List Frame → Tree → TextState
 state_after [] G = all_read G
 state_after (f ∷ fs) G = other_options (with_option f G) fs
 
-abbrev pub IsUnfinished : State → Type 0
+abbrev pub IsUnfinished : TextState → Type 0
 IsUnfinished (first_option f fs) = Unit {0}
 IsUnfinished (a_game fs) = Unit {0}
 IsUnfinished (other_options f fs) = Unit {0}
@@ -117,7 +117,7 @@ module _ (limit : ℕ) where
   closed-refused Ls Rs fs x xs fault m c = brace-closed Ls Rs fs x xs (refused fault) (Err fault) m c (game-refused fs fault (Err fault) refl)
 
   -- the text's end
-  pub cut : (s : State) → IsUnfinished s → Rest limit s [] (Err cut_short)
+  pub cut : (s : TextState) → IsUnfinished s → Rest limit s [] (Err cut_short)
   cut (first_option f fs) u = (refused cut_short, first_refused (suc (length fs)) (side_in f) [] cut_short tt (game_cut (suc (length fs))), side-refused (BehindGame limit fs) (suc (length fs)) f cut_short (Err cut_short) refl)
   cut (a_game fs) u = (refused cut_short, game_cut (length fs), game-refused fs cut_short (Err cut_short) refl)
   cut (other_options f fs) u = (refused cut_short, more_cut (suc (length fs)) (side_in f), side-refused (BehindGame limit fs) (suc (length fs)) f cut_short (Err cut_short) refl)

@@ -14,7 +14,7 @@ use Rattle.short_games.proofs.ReductionLaws.{number-canonical, canonical-same}
 use Rattle.game_text.specs.Reading.{Fault, Outcome, IsNumberByte, IsNameByte, ReadsName, IsClosed, IsReadRefusal, AreNumberBytes, EndsNumber, IsRun, IsNumberText, mark_of, BeginsOtherwise, ReadsText, Names, Refuses, RefusesAt}
 use Rattle.game_text.specs.Reading.Outcome.{reads, refused}
 use Rattle.game_text.specs.Reading.IsClosed.{taken, with_many_parts, far}
-use Rattle.game_text.specs.inner.Machine.{IsTaken, IsRefusedBy, Answer, Frame, on_left, side_in, State, first_option, a_game, other_options, all_read, Rest, opening_at, AreOpen, Keeps, IsReading, place_after, mark_at, EndsRunAt, IsEnded}
+use Rattle.game_text.specs.inner.Machine.{IsTaken, IsRefusedBy, Answer, Frame, on_left, side_in, TextState, first_option, a_game, other_options, all_read, Rest, opening_at, AreOpen, Keeps, IsReading, place_after, mark_at, EndsRunAt, IsEnded}
 use Rattle.game_text.specs.declared.errors.ReadError.{ReadError}
 use Rattle.game_text.specs.declared.errors.ReadError.TheVariants as error
 use Rattle.game_canon.specs.Outcomes.{IsCanonicalId}
@@ -62,7 +62,7 @@ module _ (Ts : List Tree) (limit : ℕ) (text : List ℕ) (i : ℕ) (options : L
   pub first-as_game : IsReading Ts limit text i place.First options opens → ((below : List Opening) (top : Opening) → opens ≡ below ++ top ∷ [] → get_or text i 0 ≡ mark_at top → ⊥) → IsReading Ts limit text i place.Game options opens
   first-as_game r f = by r.state r.kept r.comes
     where
-      by : (s : State) → Keeps Ts s place.First options opens → ((out : Answer) → Rest limit s (drop i text) out → ReadsText limit text out) → IsReading Ts limit text i place.Game options opens
+      by : (s : TextState) → Keeps Ts s place.First options opens → ((out : Answer) → Rest limit s (drop i text) out → ReadsText limit text out) → IsReading Ts limit text i place.Game options opens
       by (first_option g fs) k c = record {
         state = a_game (g ∷ fs);
         kept = (refl, k.1);
@@ -77,7 +77,7 @@ module _ (Ts : List Tree) (limit : ℕ) (text : List ℕ) (i : ℕ) (options : L
   pub behind-as_first : IsReading Ts limit text i place.Behind options opens → ((below : List Opening) (top : Opening) → opens ≡ below ++ top ∷ [] → get_or text i 0 ≡ mark_at top) → IsReading Ts limit text i place.First options opens
   behind-as_first r m = by r.state r.kept r.comes
     where
-      by : (s : State) → Keeps Ts s place.Behind options opens → ((out : Answer) → Rest limit s (drop i text) out → ReadsText limit text out) → IsReading Ts limit text i place.First options opens
+      by : (s : TextState) → Keeps Ts s place.Behind options opens → ((out : Answer) → Rest limit s (drop i text) out → ReadsText limit text out) → IsReading Ts limit text i place.First options opens
       by (first_option g fs) k c = absurd (first-is_not_behind (sym k.0))
       by (a_game fs) k c = absurd (game-is_not_behind (sym k.0))
       by (other_options g fs) k c =
@@ -93,7 +93,7 @@ module _ (Ts : List Tree) (limit : ℕ) (text : List ℕ) (i : ℕ) (options : L
   pub comma-next : IsReading Ts limit text i place.Behind options opens → get_or text i 0 ≡ comma → IsReading Ts limit text (i + 1) place.Game options opens
   comma-next r e = by r.state r.kept r.comes
     where
-      by : (s : State) → Keeps Ts s place.Behind options opens → ((out : Answer) → Rest limit s (drop i text) out → ReadsText limit text out) → IsReading Ts limit text (i + 1) place.Game options opens
+      by : (s : TextState) → Keeps Ts s place.Behind options opens → ((out : Answer) → Rest limit s (drop i text) out → ReadsText limit text out) → IsReading Ts limit text (i + 1) place.Game options opens
       by (first_option g fs) k c = absurd (first-is_not_behind (sym k.0))
       by (a_game fs) k c = absurd (game-is_not_behind (sym k.0))
       by (other_options g fs) k c = record {
@@ -111,7 +111,7 @@ module _ (Ts : List Tree) (limit : ℕ) (text : List ℕ) (i : ℕ) (options : L
   pub behind-stray : IsReading Ts limit text i place.Behind options opens → ((below : List Opening) (top : Opening) → opens ≡ below ++ top ∷ [] → get_or text i 0 ≡ mark_at top → ⊥) → (get_or text i 0 ≡ comma → ⊥) → RefusesAt limit text bad_byte i
   behind-stray r f g = (get_or text i 0 ∷ drop (i + 1) text, by r.state r.kept r.comes, place-is)
     where
-      by : (s : State) → Keeps Ts s place.Behind options opens → ((out : Answer) → Rest limit s (drop i text) out → ReadsText limit text out) → Refuses limit text (bad_byte (get_or text i 0 ∷ drop (i + 1) text))
+      by : (s : TextState) → Keeps Ts s place.Behind options opens → ((out : Answer) → Rest limit s (drop i text) out → ReadsText limit text out) → Refuses limit text (bad_byte (get_or text i 0 ∷ drop (i + 1) text))
       by (first_option h fs) k c = absurd (first-is_not_behind (sym k.0))
       by (a_game fs) k c = absurd (game-is_not_behind (sym k.0))
       by (other_options h fs) k c = c _ (subst (λ z. Rest limit (other_options h fs) z (Err (bad_byte (get_or text i 0 ∷ drop (i + 1) text)))) (sym (byte-drop text i l)) (stray-behind limit h fs (get_or text i 0) (drop (i + 1) text) (λ e. f k.1.below k.1.top k.1.opens_are (e ∙ sym (mark-is Ts h _ k.1.own k.1.top k.1.opening))) g))
@@ -120,7 +120,7 @@ module _ (Ts : List Tree) (limit : ℕ) (text : List ℕ) (i : ℕ) (options : L
   pub whole-stray : IsReading Ts limit text i place.Whole options opens → RefusesAt limit text bad_byte i
   whole-stray r = (get_or text i 0 ∷ drop (i + 1) text, by r.state r.kept r.comes, place-is)
     where
-      by : (s : State) → Keeps Ts s place.Whole options opens → ((out : Answer) → Rest limit s (drop i text) out → ReadsText limit text out) → Refuses limit text (bad_byte (get_or text i 0 ∷ drop (i + 1) text))
+      by : (s : TextState) → Keeps Ts s place.Whole options opens → ((out : Answer) → Rest limit s (drop i text) out → ReadsText limit text out) → Refuses limit text (bad_byte (get_or text i 0 ∷ drop (i + 1) text))
       by (first_option h fs) k c = absurd (first-is_not_whole (sym k.0))
       by (a_game fs) k c = absurd (game-is_not_whole (sym k.0))
       by (other_options h fs) k c = absurd (behind-is_not_whole (sym k.0))
@@ -133,7 +133,7 @@ module _ (Ts : List Tree) (limit : ℕ) (text : List ℕ) (i : ℕ) (options : L
   frames : IsReading Ts limit text i place.Game options opens → (fs : List Frame) × At fs
   frames r = by r.state r.kept r.comes
     where
-      by : (s : State) → Keeps Ts s place.Game options opens → ((out : Answer) → Rest limit s (drop i text) out → ReadsText limit text out) → (fs : List Frame) × At fs
+      by : (s : TextState) → Keeps Ts s place.Game options opens → ((out : Answer) → Rest limit s (drop i text) out → ReadsText limit text out) → (fs : List Frame) × At fs
       by (first_option h fs) k c = absurd (first-is_no_game (sym k.0))
       by (a_game fs) k c = (fs, (k.1, c))
       by (other_options h fs) k c = absurd (game-is_not_behind k.0)
@@ -236,7 +236,7 @@ module _ (Ts : List Tree) (limit : ℕ) (text : List ℕ) (i : ℕ) (options : L
   pub ended : IsEnded p options
   ended e = by r.state r.kept
     where
-      by : (s : State) → Keeps Ts s p options opens → (id : ℕ) × (options ≡ id ∷ [])
+      by : (s : TextState) → Keeps Ts s p options opens → (id : ℕ) × (options ≡ id ∷ [])
       by (first_option h fs) k = absurd (first-is_not_whole (sym k.0 ∙ e))
       by (a_game fs) k = absurd (game-is_not_whole (sym k.0 ∙ e))
       by (other_options h fs) k = absurd (behind-is_not_whole (sym k.0 ∙ e))
@@ -248,7 +248,7 @@ module _ (Ts : List Tree) (limit : ℕ) (text : List ℕ) (i : ℕ) (options : L
   pub ended-named : (id : ℕ) → p ≡ place.Whole → options ≡ id ∷ [] → (G : Tree) × Names limit text G × IsCanonicalId Ts G id
   ended-named id e o = by r.state r.kept r.comes
     where
-      by : (s : State) → Keeps Ts s p options opens → ((out : Answer) → Rest limit s (drop i text) out → ReadsText limit text out) → (G : Tree) × Names limit text G × IsCanonicalId Ts G id
+      by : (s : TextState) → Keeps Ts s p options opens → ((out : Answer) → Rest limit s (drop i text) out → ReadsText limit text out) → (G : Tree) × Names limit text G × IsCanonicalId Ts G id
       by (first_option h fs) k c = absurd (first-is_not_whole (sym k.0 ∙ e))
       by (a_game fs) k c = absurd (game-is_not_whole (sym k.0 ∙ e))
       by (other_options h fs) k c = absurd (behind-is_not_whole (sym k.0 ∙ e))
@@ -257,7 +257,7 @@ module _ (Ts : List Tree) (limit : ℕ) (text : List ℕ) (i : ℕ) (options : L
   pub ended-cut : (p ≡ place.Whole → ⊥) → Refuses limit text cut_short
   ended-cut f = by r.state r.kept r.comes
     where
-      by : (s : State) → Keeps Ts s p options opens → ((out : Answer) → Rest limit s (drop i text) out → ReadsText limit text out) → Refuses limit text cut_short
+      by : (s : TextState) → Keeps Ts s p options opens → ((out : Answer) → Rest limit s (drop i text) out → ReadsText limit text out) → Refuses limit text cut_short
       by (first_option h fs) k c = c _ (subst (λ z. Rest limit (first_option h fs) z (Err cut_short)) (sym (drop_all i text l)) (cut limit (first_option h fs) tt))
       by (a_game fs) k c = c _ (subst (λ z. Rest limit (a_game fs) z (Err cut_short)) (sym (drop_all i text l)) (cut limit (a_game fs) tt))
       by (other_options h fs) k c = c _ (subst (λ z. Rest limit (other_options h fs) z (Err cut_short)) (sym (drop_all i text l)) (cut limit (other_options h fs) tt))

@@ -10,7 +10,7 @@ use Rattle.game_text.specs.Reading.{ReadsText, IsReadRefusal}
 use Rattle.game_text.specs.Reading.Fault.{too_many_parts, past_bounds}
 use Rattle.game_text.specs.Reading.Outcome.{reads}
 use Rattle.game_text.specs.inner.Refusals.{IsFormRefusal}
-use Rattle.game_text.specs.inner.Machine.{Answer, Frame, on_left, on_right, State, first_option, a_game, other_options, all_read, Rest, AreNamed, opening_at, AreOpen, Keeps, IsReading, IsMarkOfInnermost, place_after, mark_at, IsFormTaken}
+use Rattle.game_text.specs.inner.Machine.{Answer, Frame, on_left, on_right, TextState, first_option, a_game, other_options, all_read, Rest, AreNamed, opening_at, AreOpen, Keeps, IsReading, IsMarkOfInnermost, place_after, mark_at, IsFormTaken}
 use Rattle.game_text.specs.declared.errors.ReadError.{ReadError}
 use Rattle.game_text.specs.declared.errors.ReadError.TheVariants as reading
 use Rattle.game_text.specs.declared.pending.Opening.{Opening}
@@ -59,7 +59,7 @@ module _ (Ts : List Tree) (limit : ℕ) (text : List ℕ) (i : ℕ) (options : L
   left-end : top.middle ≡ None → IsLeftEnd
   left-end n = by r.state r.kept r.comes
     where
-      by : (s : State) → Keeps Ts s place.First options opens → ((out : Answer) → Rest limit s (drop i text) out → ReadsText limit text out) → IsLeftEnd
+      by : (s : TextState) → Keeps Ts s place.First options opens → ((out : Answer) → Rest limit s (drop i text) out → ReadsText limit text out) → IsLeftEnd
       by (first_option (on_left Ls) fs) k c = let s = last-of k.1.below below k.1.top top (sym k.1.opens_are ∙ e) in record {
         frames = fs;
         lefts = Ls;
@@ -79,7 +79,7 @@ module _ (Ts : List Tree) (limit : ℕ) (text : List ℕ) (i : ℕ) (options : L
   pub right-end : (m : ℕ) → top.middle ≡ Some m → IsRightEnd
   right-end m n = by r.state r.kept r.comes
     where
-      by : (s : State) → Keeps Ts s place.First options opens → ((out : Answer) → Rest limit s (drop i text) out → ReadsText limit text out) → IsRightEnd
+      by : (s : TextState) → Keeps Ts s place.First options opens → ((out : Answer) → Rest limit s (drop i text) out → ReadsText limit text out) → IsRightEnd
       by (first_option (on_left Ls) fs) k c = absurd (let s = last-of k.1.below below k.1.top top (sym k.1.opens_are ∙ e) in some-none m top.middle n (ap (λ (o : Opening). o.middle) (sym s.1 ∙ k.1.opening.0)))
       by (first_option (on_right Ls Rs) fs) k c = let s = last-of k.1.below below k.1.top top (sym k.1.opens_are ∙ e) in record {
         frames = fs;

@@ -5,7 +5,7 @@ ghost use Rattle.short_games.specs.Tree.{Tree};
 ghost use Rattle.game_store.specs.Meaning.{listed, AreIds, Extends};
 ghost use Rattle.game_canon.specs.Outcomes.{IsCanonicalId};
 ghost use Rattle.game_text.specs.Reading.{IsNameByte, IsNumberByte, IsReadRefusal, Names, ReadsName};
-ghost use Rattle.game_text.specs.inner.Machine.{IsReading, EndsRunAt, IsNext, IsMarkOfInnermost, IsFormTaken, IsFoundBy, IsRefusedBy, IsEnded, mark_at, opening_at, place_after};
+ghost use Rattle.game_text.specs.inner.Machine.{EndsRunAt, GoesOnInText, IsTextDue, IsMarkOfInnermost, IsFormTaken, IsFoundBy, IsRefusedBy, IsEnded, mark_at, opening_at, place_after};
 ghost use Rattle.game_text.specs.Depth.{most_open};
 ghost use Rattle.game_text.specs.inner.Refusals.{IsWantOfMemory, IsOpeningRefusal, IsFormRefusal};
 ghost use Rattle.game_text.specs.declared.pending.Opening.{Opening};
@@ -81,15 +81,11 @@ fn read_number(
     source: &Source<'_>,
     at: usize,
 ) -> Result<Step, ReadError>
-    requires reading { IsReading store.old source.now.parts_limit source.now.text.now at Game
-        pending.old.options.items pending.old.opens.items }
+    requires reading { IsTextDue store.old source.now at Game pending.old }
     requires here { at < length source.now.text.now }
     requires byte { IsNumberByte (slice_index source.now.text.now at) }
-    ensures next { IfOk result
-        (λ step. IsNext store.new source.now.parts_limit source.now.text.now at step
-        pending.new.options.items pending.new.opens.items) }
-    ensures refusal { IfErr result
-        (λ e. IsReadRefusal source.now.parts_limit source.now.text.now e) }
+    ensures next { IfOk result (GoesOnInText store.new source.now at pending.new) }
+    ensures refusal { IfErr result (IsReadRefusal source.now.parts_limit source.now.text.now) }
     ensures kept { Extends store.old store.new }
 {
     let end = run_end(source.text, at);
@@ -150,15 +146,11 @@ fn read_name(
     source: &Source<'_>,
     at: usize,
 ) -> Result<Step, ReadError>
-    requires reading { IsReading store.old source.now.parts_limit source.now.text.now at Game
-        pending.old.options.items pending.old.opens.items }
+    requires reading { IsTextDue store.old source.now at Game pending.old }
     requires here { at < length source.now.text.now }
     requires byte { IsNameByte (slice_index source.now.text.now at) }
-    ensures next { IfOk result
-        (λ step. IsNext store.new source.now.parts_limit source.now.text.now at step
-        pending.new.options.items pending.new.opens.items) }
-    ensures refusal { IfErr result
-        (λ e. IsReadRefusal source.now.parts_limit source.now.text.now e) }
+    ensures next { IfOk result (GoesOnInText store.new source.now at pending.new) }
+    ensures refusal { IfErr result (IsReadRefusal source.now.parts_limit source.now.text.now) }
     ensures kept { Extends store.old store.new }
 {
     let found = named_game(alloc, store, source, at)?;
@@ -196,14 +188,10 @@ fn read_game(
     source: &Source<'_>,
     at: usize,
 ) -> Result<Step, ReadError>
-    requires reading { IsReading store.old source.now.parts_limit source.now.text.now at Game
-        pending.old.options.items pending.old.opens.items }
+    requires reading { IsTextDue store.old source.now at Game pending.old }
     requires here { at < length source.now.text.now }
-    ensures next { IfOk result
-        (λ step. IsNext store.new source.now.parts_limit source.now.text.now at step
-        pending.new.options.items pending.new.opens.items) }
-    ensures refusal { IfErr result
-        (λ e. IsReadRefusal source.now.parts_limit source.now.text.now e) }
+    ensures next { IfOk result (GoesOnInText store.new source.now at pending.new) }
+    ensures refusal { IfErr result (IsReadRefusal source.now.parts_limit source.now.text.now) }
     ensures kept { Extends store.old store.new }
 {
     let byte = source.text[at];
@@ -261,15 +249,11 @@ fn end_side(
     source: &Source<'_>,
     at: usize,
 ) -> Result<Step, ReadError>
-    requires reading { IsReading store.old source.now.parts_limit source.now.text.now at First
-        pending.old.options.items pending.old.opens.items }
+    requires reading { IsTextDue store.old source.now at First pending.old }
     requires here { at < length source.now.text.now }
     requires mark { IsMarkOfInnermost pending.old.opens.items (slice_index source.now.text.now at) }
-    ensures next { IfOk result
-        (λ step. IsNext store.new source.now.parts_limit source.now.text.now at step
-        pending.new.options.items pending.new.opens.items) }
-    ensures refusal { IfErr result
-        (λ e. IsReadRefusal source.now.parts_limit source.now.text.now e) }
+    ensures next { IfOk result (GoesOnInText store.new source.now at pending.new) }
+    ensures refusal { IfErr result (IsReadRefusal source.now.parts_limit source.now.text.now) }
     ensures kept { Extends store.old store.new }
 {
     let Some(top) = pending.opens.pop() else {
@@ -299,14 +283,10 @@ fn read_step(
     source: &Source<'_>,
     step: Step,
 ) -> Result<Step, ReadError>
-    requires reading { IsReading store.old source.now.parts_limit source.now.text.now step.at
-        step.place pending.old.options.items pending.old.opens.items }
+    requires reading { IsTextDue store.old source.now step.at step.place pending.old }
     requires here { step.at < length source.now.text.now }
-    ensures next { IfOk result
-        (λ after. IsNext store.new source.now.parts_limit source.now.text.now step.at after
-        pending.new.options.items pending.new.opens.items) }
-    ensures refusal { IfErr result
-        (λ e. IsReadRefusal source.now.parts_limit source.now.text.now e) }
+    ensures next { IfOk result (GoesOnInText store.new source.now step.at pending.new) }
+    ensures refusal { IfErr result (IsReadRefusal source.now.parts_limit source.now.text.now) }
     ensures kept { Extends store.old store.new }
 {
     let at = step.at;

@@ -1,9 +1,12 @@
 -- The values of options are bounded.
 use Rattle.std.proofs.Common.{◌≡◌, ◌≤◌, ◌∷◌, [], ℕ, zero, suc, ℤ, List, Some, None, arith, sym, subst}
-use Rattle.std.specs.Prelude.{Option, IfSome}
+use Rattle.std.specs.Prelude.{Option, IfSome, ◌+◌, ◌*◌}
 use Rattle.std.specs.List.{Contains}
 use Rattle.std.proofs.lemmas.Int.{ints}
 use Rattle.std.specs.Option.{unwrap_or}
+use Rattle.gd_words.specs.declared.choice.TheConstants.{MOST_MOVES, MOST_PARTS, MOST_POSITIONS}
+use Rattle.sgf_go.specs.declared.settings.TheConstants.{MOST_PRISONERS}
+use Rattle.sgf_go.specs.declared.komi.TheConstants.{MOST_KOMI}
 use Rattle.sgf_go.specs.Komi.{IsKomi, unsigned, positive, negative, IsHalves, halves, IsFraction, nothing, zeros, half, IsInRange}
 use Rattle.gd_words.specs.declared.choice.Choice.{Choice}
 use Rattle.gd_words.specs.declared.choice.Choice.TheVariants.{Komi, After, BlackPrisoners, WhitePrisoners, Positions, Parts}
@@ -18,7 +21,7 @@ one_half _ _ _ nothing = omega arith
 one_half _ _ _ (zeros bytes z) = omega arith
 one_half _ _ _ (half bytes z) = omega arith
 
-few_halves : (bytes : List ℕ) (n : ℕ) → IsHalves bytes n → n ≤ 1999999
+few_halves : (bytes : List ℕ) (n : ℕ) → IsHalves bytes n → n ≤ 2 * MOST_KOMI + 1
 few_halves _ _ (halves whole fraction digits more a l f s) = omega (arith, l, one_half fraction digits more f)
 
 in_range : (word : List ℕ) (k : ℤ) → IsKomi word k → IsInRange k
@@ -45,11 +48,11 @@ or_default P (Some n) d p h = h
 pub within : (task : Task) (words : List (List ℕ)) (o : Chosen) (job : Job) → AreChoices task words o → job ≡ job_of task o → IsInRanges job
 within task words o job a j = subst IsInRanges (sym j) (record {
   komi = given_value IsInRange Komi words a.choices o.komi a.spelt a.said.komi in_range;
-  after = given_value (λ n. n ≤ 999999) After words a.choices o.after a.spelt a.said.after (λ word n v. v.most);
-  black_prisoners = or_default (λ n. n ≤ 999999) o.black_prisoners 0 (omega arith) (given_value (λ n. n ≤ 999999) BlackPrisoners words a.choices o.black_prisoners a.spelt a.said.black_prisoners (λ word n v. v.most));
-  white_prisoners = or_default (λ n. n ≤ 999999) o.white_prisoners 0 (omega arith) (given_value (λ n. n ≤ 999999) WhitePrisoners words a.choices o.white_prisoners a.spelt a.said.white_prisoners (λ word n v. v.most));
+  after = given_value (λ n. n ≤ MOST_MOVES) After words a.choices o.after a.spelt a.said.after (λ word n v. v.most);
+  black_prisoners = or_default (λ n. n ≤ MOST_PRISONERS) o.black_prisoners 0 (omega arith) (given_value (λ n. n ≤ MOST_PRISONERS) BlackPrisoners words a.choices o.black_prisoners a.spelt a.said.black_prisoners (λ word n v. v.most));
+  white_prisoners = or_default (λ n. n ≤ MOST_PRISONERS) o.white_prisoners 0 (omega arith) (given_value (λ n. n ≤ MOST_PRISONERS) WhitePrisoners words a.choices o.white_prisoners a.spelt a.said.white_prisoners (λ word n v. v.most));
   some_positions = or_default (λ n. 1 ≤ n) o.positions 100000 (omega arith) (given_value (λ n. 1 ≤ n) Positions words a.choices o.positions a.spelt a.said.positions (λ word n v. v.least));
-  few_positions = or_default (λ n. n ≤ 1000000) o.positions 100000 (omega arith) (given_value (λ n. n ≤ 1000000) Positions words a.choices o.positions a.spelt a.said.positions (λ word n v. v.most));
+  few_positions = or_default (λ n. n ≤ MOST_POSITIONS) o.positions 100000 (omega arith) (given_value (λ n. n ≤ MOST_POSITIONS) Positions words a.choices o.positions a.spelt a.said.positions (λ word n v. v.most));
   some_parts = or_default (λ n. 1 ≤ n) o.parts 500 (omega arith) (given_value (λ n. 1 ≤ n) Parts words a.choices o.parts a.spelt a.said.parts (λ word n v. v.least));
-  few_parts = or_default (λ n. n ≤ 4000) o.parts 500 (omega arith) (given_value (λ n. n ≤ 4000) Parts words a.choices o.parts a.spelt a.said.parts (λ word n v. v.most));
+  few_parts = or_default (λ n. n ≤ MOST_PARTS) o.parts 500 (omega arith) (given_value (λ n. n ≤ MOST_PARTS) Parts words a.choices o.parts a.spelt a.said.parts (λ word n v. v.most));
 })

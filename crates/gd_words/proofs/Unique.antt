@@ -1,5 +1,7 @@
 -- A name and a value say at most one option.
 use Rattle.std.proofs.Common.{◌≡◌, ℕ, List, Bool, true, false, refl, sym, ap, ◌∙◌, subst}
+use Rattle.gd_words.specs.declared.choice.TheConstants.{MOST_MOVES, MOST_PARTS, MOST_POSITIONS}
+use Rattle.sgf_go.specs.declared.settings.TheConstants.{MOST_PRISONERS}
 use Rattle.go_grid.specs.declared.grid.Colour.{Colour}
 use Rattle.go_grid.specs.declared.grid.Colour.TheVariants.{Black, White}
 use Rattle.sgf_go.proofs.Komis.{one_komi}
@@ -33,10 +35,10 @@ same option name word y v only e one b =
 pub one_choice : (name word : List ℕ) (x y : Choice) → IsChoice name word x → IsChoice name word y → x ≡ y
 one_choice name word (Komi v) y a b = same Komi name word y v komi_only a.0 (λ w. one_komi word v w a.1) b
 one_choice name word (Turn v) y a b = same Turn name word y v turn_only a.0 (λ w. one_colour word v w a.1) b
-one_choice name word (After v) y a b = same After name word y v after_only a.0 (λ w. one_number 0 999999 word v w a.1) b
-one_choice name word (BlackPrisoners v) y a b = same BlackPrisoners name word y v black_only a.0 (λ w. one_number 0 999999 word v w a.1) b
-one_choice name word (WhitePrisoners v) y a b = same WhitePrisoners name word y v white_only a.0 (λ w. one_number 0 999999 word v w a.1) b
-one_choice name word (Positions v) y a b = same Positions name word y v positions_only a.0 (λ w. one_number 1 1000000 word v w a.1) b
-one_choice name word (Parts v) y a b = same Parts name word y v parts_only a.0 (λ w. one_number 1 4000 word v w a.1) b
+one_choice name word (After v) y a b = same After name word y v after_only a.0 (λ w. one_number 0 MOST_MOVES word v w a.1) b
+one_choice name word (BlackPrisoners v) y a b = same BlackPrisoners name word y v black_only a.0 (λ w. one_number 0 MOST_PRISONERS word v w a.1) b
+one_choice name word (WhitePrisoners v) y a b = same WhitePrisoners name word y v white_only a.0 (λ w. one_number 0 MOST_PRISONERS word v w a.1) b
+one_choice name word (Positions v) y a b = same Positions name word y v positions_only a.0 (λ w. one_number 1 MOST_POSITIONS word v w a.1) b
+one_choice name word (Parts v) y a b = same Parts name word y v parts_only a.0 (λ w. one_number 1 MOST_PARTS word v w a.1) b
 one_choice name word (Engine v) y a b = same Engine name word y v engine_only a.0 (λ w. one_colour word v w a.1) b
 one_choice name word (Tax v) y a b = same Tax name word y v tax_only a.0 (λ w. one_answer word v w a.1) b

@@ -1,5 +1,7 @@
 -- The options of the command line: their names and their values.
 use Rattle.std.specs.Prelude.{◌≡◌, ℕ, List, codes}
+use Rattle.gd_words.specs.declared.choice.TheConstants.{MOST_MOVES, MOST_PARTS, MOST_POSITIONS}
+use Rattle.sgf_go.specs.declared.settings.TheConstants.{MOST_PRISONERS}
 use Rattle.sgf_go.specs.Komi.{IsKomi}
 use Rattle.gd_words.specs.declared.choice.Choice.{Choice}
 use Rattle.gd_words.specs.declared.choice.Choice.TheVariants.{Komi, Turn, After, BlackPrisoners, WhitePrisoners, Positions, Parts, Engine, Tax}
@@ -22,11 +24,11 @@ name_of (Tax taxed) = codes "--tax"
 abbrev pub IsValue : List ℕ → Choice → Type 0
 IsValue word (Komi halves) = IsKomi word halves
 IsValue word (Turn colour) = word ≡ colour_word colour
-IsValue word (After n) = IsNumberWithin 0 999999 word n
-IsValue word (BlackPrisoners n) = IsNumberWithin 0 999999 word n
-IsValue word (WhitePrisoners n) = IsNumberWithin 0 999999 word n
-IsValue word (Positions n) = IsNumberWithin 1 1000000 word n
-IsValue word (Parts n) = IsNumberWithin 1 4000 word n
+IsValue word (After n) = IsNumberWithin 0 MOST_MOVES word n
+IsValue word (BlackPrisoners n) = IsNumberWithin 0 MOST_PRISONERS word n
+IsValue word (WhitePrisoners n) = IsNumberWithin 0 MOST_PRISONERS word n
+IsValue word (Positions n) = IsNumberWithin 1 MOST_POSITIONS word n
+IsValue word (Parts n) = IsNumberWithin 1 MOST_PARTS word n
 IsValue word (Engine colour) = word ≡ colour_word colour
 IsValue word (Tax taxed) = word ≡ answer_word taxed
 

@@ -6,16 +6,16 @@ ghost use Rattle.gd_words.specs.declared.choice.Choice.{Choice};
 
 use crate::value::{read_answer, read_colour, read_count};
 use go_grid::Colour;
-use sgf_go::read_komi;
+use sgf_go::{MOST_PRISONERS, read_komi};
 
-/// The most moves or prisoners that an option may say.
-const MOST_COUNT: u32 = 999_999;
+/// The most moves before the end of the line that an option may say.
+pub const MOST_MOVES: u32 = 999_999;
 
 /// The most positions of a region that an option may allow.
-const MOST_POSITIONS: u32 = 1_000_000;
+pub const MOST_POSITIONS: u32 = 1_000_000;
 
 /// The most parts of a form that an option may allow.
-const MOST_PARTS: u32 = 4_000;
+pub const MOST_PARTS: u32 = 4_000;
 
 /// An option with its value.
 #[derive(Clone, Copy)]
@@ -41,9 +41,9 @@ pub(crate) fn read_choice(name: &str, value: &str) -> Option<Choice>
     match name {
         "--komi" => Some(Choice::Komi(read_komi(value.as_bytes())?)),
         "--turn" => Some(Choice::Turn(read_colour(value)?)),
-        "--after" => Some(Choice::After(read_count(0, MOST_COUNT, value)?)),
-        "--black-prisoners" => Some(Choice::BlackPrisoners(read_count(0, MOST_COUNT, value)?)),
-        "--white-prisoners" => Some(Choice::WhitePrisoners(read_count(0, MOST_COUNT, value)?)),
+        "--after" => Some(Choice::After(read_count(0, MOST_MOVES, value)?)),
+        "--black-prisoners" => Some(Choice::BlackPrisoners(read_count(0, MOST_PRISONERS, value)?)),
+        "--white-prisoners" => Some(Choice::WhitePrisoners(read_count(0, MOST_PRISONERS, value)?)),
         "--positions" => Some(Choice::Positions(read_count(1, MOST_POSITIONS, value)?)),
         "--parts" => Some(Choice::Parts(read_count(1, MOST_PARTS, value)?)),
         "--as" => Some(Choice::Engine(read_colour(value)?)),

@@ -19,7 +19,11 @@ impl Model for Board {
 
     ghost Value = { Board };
 
-    ghost view = { λ b. record { columns = b.size.columns; rows = b.size.rows; cells = b.cells.items } };
+    ghost view = { λ b. record {
+      columns = b.size.columns;
+      rows = b.size.rows;
+      cells = b.cells.items;
+    } };
 
     ghost invariant = { λ b. length b.cells.items ≡ b.size.columns * b.size.rows };
 }

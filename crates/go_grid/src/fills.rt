@@ -96,7 +96,8 @@ fn meet(within: &Points, work: &mut Work, point: Option<Point>)
     ensures more { work.old.count ≤ work.new.count }
     ensures counted { count_by (λ m. m) work.new.marks ≡ work.new.count }
     ensures under_way { (columns start from done : ℕ) (before : List Bool)
-        → ((p : ℕ) → point ≡ Some p → IsMarked within.now p → Joined columns (IsMarked within.now) start p)
+        → ((p : ℕ) → point ≡ Some p → IsMarked within.now p
+        → Joined columns (IsMarked within.now) start p)
         → from ≤ work.old.count → done ≤ work.old.count
         → IsFilling columns within.now before start from done work.old
         → IsFilling columns within.now before start from done work.new }
@@ -116,7 +117,8 @@ fn meet_around(within: &Points, work: &mut Work, near: Near)
         → slice_index work.new.points i ≡ slice_index work.old.points i }
     ensures more { work.old.count ≤ work.new.count }
     ensures under_way { (columns start from done : ℕ) (before : List Bool)
-        → ((p : ℕ) → IsNear near p → IsMarked within.now p → Joined columns (IsMarked within.now) start p)
+        → ((p : ℕ) → IsNear near p → IsMarked within.now p
+        → Joined columns (IsMarked within.now) start p)
         → from ≤ work.old.count → done ≤ work.old.count
         → IsFilling columns within.now before start from done work.old
         → IsFilling columns within.now before start from done work.new }

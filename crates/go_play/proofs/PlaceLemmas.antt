@@ -15,7 +15,7 @@ use Rattle.go_grid.proofs.WalkLemmas.{joined_start, marks_joined}
 use Rattle.go_grid.proofs.ChainLemmas.{liberty_marks}
 use Rattle.go_play.specs.declared.placements.PlaceError.{PlaceError}
 use Rattle.go_play.specs.declared.placements.PlaceError.TheVariants.{Occupied, Suicide}
-use Rattle.go_play.specs.Place.{IsTaken, IsCleared, Breathes, Answers}
+use Rattle.go_play.specs.Place.{IsTaken, IsCleared, Breathes, PlacesStone}
 use Rattle.go_play.specs.inner.Place.{with_stone}
 use Rattle.go_play.specs.inner.Tried.{IsLost, Judges}
 use Rattle.go_play.proofs.BoardPlay.{breathes_from, breathes_to, chain_to, taken_stone, takes}
@@ -131,6 +131,6 @@ module _ (g : Board) (p : ℕ) (c : Colour) where
             ))
 
 -- a refusal leaves the board as it was
-pub refused : (g : Board) (p : ℕ) (c : Colour) (e : PlaceError) → Judges g p c (Err e) → Answers g p c g (Err e)
+pub refused : (g : Board) (p : ℕ) (c : Colour) (e : PlaceError) → Judges g p c (Err e) → PlacesStone g p c g (Err e)
 refused g p c Occupied j = (refl, j)
 refused g p c Suicide j = (refl, j.0, j.1)

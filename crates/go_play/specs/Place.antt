@@ -55,7 +55,7 @@ abbrev pub IsSuicide : Board → ℕ → Colour → Type 0
 IsSuicide g p c = (cells : List Cell) × IsCleared g p c cells × ¬ Breathes g cells c p
 
 -- what a placing answers: the stones taken, or why it is refused
-abbrev pub Answers : Board → ℕ → Colour → Board → Result ℕ PlaceError → Type 0
-Answers g p c h (Ok n) = IsPlaced g p c h × IsNumberTaken g h n
-Answers g p c h (Err Occupied) = (h ≡ g) × ¬ IsEmpty g p
-Answers g p c h (Err Suicide) = (h ≡ g) × IsEmpty g p × IsSuicide g p c
+abbrev pub PlacesStone : Board → ℕ → Colour → Board → Result ℕ PlaceError → Type 0
+PlacesStone g p c h (Ok n) = IsPlaced g p c h × IsNumberTaken g h n
+PlacesStone g p c h (Err Occupied) = (h ≡ g) × ¬ IsEmpty g p
+PlacesStone g p c h (Err Suicide) = (h ≡ g) × IsEmpty g p × IsSuicide g p c

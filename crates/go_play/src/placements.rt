@@ -5,7 +5,7 @@ ghost use Rattle.go_grid.specs.Board.{Board, IsEmpty, other, stone};
 ghost use Rattle.go_grid.specs.Marks.{IsMarked, Marks};
 ghost use Rattle.go_grid.specs.declared.grid.Cell.{Cell};
 ghost use Rattle.go_grid.specs.Play.{IsWithout};
-ghost use Rattle.go_play.specs.Place.{Answers, Breathes, IsCleared, IsSameSize, IsTaken};
+ghost use Rattle.go_play.specs.Place.{Breathes, IsCleared, IsSameSize, IsTaken, PlacesStone};
 ghost use Rattle.go_play.specs.inner.Place.{with_stone};
 ghost use Rattle.go_play.specs.inner.Tried.{IsTried, IsLost, Judges};
 
@@ -129,7 +129,7 @@ fn take_off(board: &mut Board, points: &Points)
 /// else `Suicide` where the new stone's own chain would then have no liberty.
 pub fn place(board: &mut Board, point: Point, colour: Colour) -> Result<u16, PlaceError>
     requires { point < length board.old.cells }
-    ensures { Answers board.old point colour board.new result }
+    ensures { PlacesStone board.old point colour board.new result }
 {
     let taken = judge(board, point, colour)?;
     let number = taken.len();
@@ -141,7 +141,7 @@ pub fn place(board: &mut Board, point: Point, colour: Colour) -> Result<u16, Pla
 /// What `place` would answer; the board stays as it is.
 pub fn allowed(board: &Board, point: Point, colour: Colour) -> Result<u16, PlaceError>
     requires { point < length board.now.cells }
-    ensures { (h : Board) × Answers board.now point colour h result }
+    ensures { (h : Board) × PlacesStone board.now point colour h result }
 {
     let taken = judge(board, point, colour)?;
     Ok(taken.len())

@@ -1,6 +1,7 @@
 -- A komi that is asked for is in range.
-use Rattle.std.proofs.Common.{◌≤◌, ℕ, ℤ, List, [], ◌∷◌, arith, sym, subst}
+use Rattle.std.proofs.Common.{◌≤◌, ◌+◌, ◌*◌, ℕ, ℤ, List, [], ◌∷◌, arith, sym, subst}
 use Rattle.std.proofs.lemmas.Int.{ints}
+use Rattle.sgf_go.specs.declared.komi.TheConstants.{MOST_KOMI}
 use Rattle.sgf_go.specs.Komi.{IsKomi, unsigned, positive, negative, IsHalves, halves, IsFraction, nothing, zeros, half, IsInRange}
 use Rattle.gtp_engine.specs.declared.command.Command.{Command}
 use Rattle.gtp_engine.specs.declared.command.Command.TheVariants.{ProtocolVersion, Name, Version, KnownCommand, ListCommands, BoardSize, ClearBoard, Komi, Play, GenMove, LoadSgf, Quit}
@@ -13,7 +14,7 @@ at_most_one _ _ _ nothing = omega arith
 at_most_one _ _ _ (zeros bytes h) = omega arith
 at_most_one _ _ _ (half bytes h) = omega arith
 
-few_halves : (bytes : List ℕ) (n : ℕ) → IsHalves bytes n → n ≤ 1999999
+few_halves : (bytes : List ℕ) (n : ℕ) → IsHalves bytes n → n ≤ 2 * MOST_KOMI + 1
 few_halves _ _ (halves whole rest digits more a few f s) = omega (arith, few, at_most_one rest digits more f)
 
 komi_in_range : (word : List ℕ) (k : ℤ) → IsKomi word k → IsInRange k

@@ -54,13 +54,18 @@ pub struct Engine {
 impl Model for Engine {
     ghost use Rattle.std.specs.Prelude.{◌≡◌, ◌≤◌, ◌<◌, false, ℕ, List};
     ghost use Rattle.gtp_engine.specs.Written.{Engine};
-    ghost use Rattle.gtp_engine.specs.inner.Kept.{state_in, IsKept};
+    ghost use Rattle.gtp_engine.specs.inner.Kept.{state_in, IsFitEngine};
 
     ghost Value = { Engine };
 
-    ghost view = { λ e. record { limits = e.limits; table = record { setup = e.setup; game = state_in e.game }; loads = e.loads; failed_loads = e.failed.items } };
+    ghost view = { λ e. record {
+      limits = e.limits;
+      table = record { setup = e.setup; game = state_in e.game };
+      loads = e.loads;
+      failed_loads = e.failed.items;
+    } };
 
-    ghost invariant = { λ e. IsKept e.limits e.setup e.loads e.failed.items };
+    ghost invariant = { λ e. IsFitEngine e.limits e.setup e.loads e.failed.items };
 }
 
 /// More loads than a session can have.

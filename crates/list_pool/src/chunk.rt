@@ -27,7 +27,9 @@ impl Model for Chunk {
 
     ghost view = { λ c. record { items = c.places.items; room = c.room } };
 
-    ghost invariant = { λ c. (c.places.at ≡ c.base.ptr) × (c.places.room ≡ c.room) × (c.deed.at ≡ c.base.ptr) × (c.deed.room ≡ c.room) × (c.deed.alloc ≡ c.alloc) × (c.used ≡ length c.places.items) };
+    ghost invariant = { λ c. (c.places.at ≡ c.base.ptr) × (c.places.room ≡ c.room)
+        × (c.deed.at ≡ c.base.ptr) × (c.deed.room ≡ c.room) × (c.deed.alloc ≡ c.alloc)
+        × (c.used ≡ length c.places.items) };
 }
 
 impl Chunk {

@@ -28,7 +28,10 @@ impl Model for ListPool {
 
     ghost Value = { Pool };
 
-    ghost view = { λ p. record { lists = map (list_in p.chunks.items) p.table.items; spare = spare_in p.chunks.items (vec_len p.table) (vec_capacity p.table) } };
+    ghost view = { λ p. record {
+      lists = map (list_in p.chunks.items) p.table.items;
+      spare = spare_in p.chunks.items (vec_len p.table) (vec_capacity p.table);
+    } };
 
     ghost invariant = { λ p. AllLie p.chunks.items p.table.items };
 }

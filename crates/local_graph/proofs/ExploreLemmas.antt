@@ -317,10 +317,11 @@ pub explored_fails : (touch : List Touch) (opening : List Cell) (limit : ℕ) (p
 explored_fails touch opening limit positions after i n moves es e s w lists x =
     explore_err touch opening limit positions after w.cells moves es e s w.reach lists x
 
-pub explored_all : (touch : List Touch) (opening : List Cell) (limit : ℕ) (positions : List ℕ) (all : List (List Edge)) (waiting : List ℕ)
-    → Exploring touch opening limit positions all waiting → length waiting ≡ 0 → IsGraph touch opening positions all × (length positions ≤ limit)
-explored_all touch opening limit positions all waiting s none =
-    (explore_end touch opening limit positions all waiting s none, s.few)
+pub explored_all : (touch : List Touch) (opening : List Cell) (limit : ℕ) (positions : List ℕ) (all result : List (List Edge))
+    (waiting : List ℕ) → Exploring touch opening limit positions all waiting → length waiting ≡ 0 → result ≡ all
+    → IsGraph touch opening positions result × (length positions ≤ limit)
+explored_all touch opening limit positions all result waiting s none is =
+    (subst (IsGraph touch opening positions) (sym is) (explore_end touch opening limit positions all waiting s none), s.few)
 
 -- there are at most 3 to the number of places
 pub few_numbers : (touch : List Touch) (opening : List Cell) (limit places : ℕ) (positions : List ℕ) (edges : List (List Edge))

@@ -1,13 +1,16 @@
 -- Positions in the order in which they were found.
-use Rattle.std.proofs.Common.{◌≡◌, ◌≢◌, ℕ, ◌+◌, ◌<◌, ◌≤◌, ◌⊎◌, inl, inr, arith, refl, sym, ap, ◌∙◌, List, [], ◌∷◌, ◌++◌, Bool, true, false, length, get_or, if◌then◌else◌, nat_eq, subst, append_assoc, append-nil, length-append, Err}
+use Rattle.std.proofs.Common.{◌≡◌, ◌≢◌, ℕ, ◌+◌, ◌<◌, ◌≤◌, ◌⊎◌, inl, inr, arith, refl, sym, ap, ◌∙◌, List, [], ◌∷◌, ◌++◌, Bool, true, false, length, drop, get_or, if◌then◌else◌, nat_eq, subst, append_assoc, append-nil, length-append, Err}
 use Rattle.std.specs.List.{AllPairs, Contains, list_any}
 use Rattle.std.proofs.lemmas.Bool.{cases_eq, cases_lt, both_ways, eq-eqb}
-use Rattle.std.proofs.lemmas.List.{get_or_default, get_or_append_left, get_or_push, get_or_past, length_push}
+use Rattle.std.proofs.Math.Seq.{drop-append_seam}
+use Rattle.std.proofs.lemmas.List.{get_or_default, get_or_append_left, get_or_push, get_or_past, length_push, length-map, map-append}
 use Rattle.std.proofs.lemmas.List.Folds.{list_any_at}
-use Rattle.std.proofs.lemmas.List.Elements.{Contains-push, Contains-push_cases, Contains-append_left, Contains-get_or}
+use Rattle.std.proofs.lemmas.List.Elements.{All-push, Contains-push, Contains-push_cases, Contains-append_left, Contains-get_or}
 use Rattle.std.proofs.lemmas.List.Quantifiers.{all_pairs_push}
 use Rattle.local_play.specs.declared.local_move.LocalMove.{LocalMove}
 use Rattle.local_graph.specs.declared.graph.Edge.{Edge}
+use Rattle.local_graph.specs.declared.edge_lists.Span.{Span}
+use Rattle.local_graph.specs.inner.Graph.{part, lists_of, no_edges, AreWithin}
 use Rattle.local_graph.specs.LocalGraph.{IsEdgeOf, AreEdges}
 use Rattle.local_graph.specs.declared.graph_build.GraphError.{GraphError}
 use Rattle.local_graph.specs.declared.graph_build.GraphError.TheVariants.{Points, Positions, Cycle, Memory}
@@ -144,10 +147,20 @@ placed old new v n place limit e key inside at low few =
     let at' = at ∙ e in
     (grows, inside, at', grows_few old new n place limit grows inside at' low few)
 
-pub linking_all : (before : List ℕ) (moves : List LocalMove) (limit : ℕ) (after : List ℕ) (edges : List Edge) (i : ℕ)
-    → Linking before moves limit after edges i → i ≡ length moves
-    → Extends before moves after × AreEdges after moves edges × (length after ≤ limit)
-linking_all before moves limit after edges i s e = linking_end before moves limit after edges (subst (Linking before moves limit after edges) e s)
+-- what stands behind the first edges
+pub edges_behind : (first whole edges : List Edge) → whole ≡ first ++ edges → drop (length first) whole ≡ edges
+edges_behind first whole edges is = ap (drop (length first)) is ∙ drop-append_seam first edges
+
+pub linking_all : (before : List ℕ) (moves : List LocalMove) (limit : ℕ) (after : List ℕ) (first whole edges : List Edge) (i : ℕ)
+    → whole ≡ first ++ edges → Linking before moves limit after edges i → i ≡ length moves
+    → Extends before moves after × AreEdges after moves (drop (length first) whole) × (length after ≤ limit)
+linking_all before moves limit after first whole edges i is s e =
+    subst (λ es. Extends before moves after × AreEdges after moves es × (length after ≤ limit)) (sym (edges_behind first whole edges is))
+    (linking_end before moves limit after edges (subst (Linking before moves limit after edges) e s))
+
+pub one_behind : (first edges before after : List Edge) (e : Edge) → before ≡ first ++ edges → after ≡ before ++ e ∷ []
+    → after ≡ first ++ (edges ++ e ∷ [])
+one_behind first edges before after e is more = more ∙ ap (λ es. es ++ e ∷ []) is ∙ append_assoc first edges (e ∷ [])
 
 -- too many positions at one move are too many at the list
 pub linking_err : (before between after : List ℕ) (moves : List LocalMove) (limit i : ℕ) (edges : List Edge) (m : LocalMove) (e : GraphError)
@@ -160,7 +173,7 @@ linking_err before between after moves limit i edges m (Cycle ms back) s lt at p
 linking_err before between after moves limit i edges m (Memory e) s lt at p = tt
 
 -- one place more waits
-pub awaited_push : (all after : List (List Edge)) (waiting still : List ℕ) (after' : List (List Edge)) (still' : List ℕ) (place : ℕ)
+awaited_push : (all after : List (List Edge)) (waiting still : List ℕ) (after' : List (List Edge)) (still' : List ℕ) (place : ℕ)
     → AreAwaited all waiting (length after) after still → place ≡ length after → still' ≡ still ++ place ∷ []
     → after' ≡ after ++ [] ∷ [] → AreAwaited all waiting (length after') after' still'
 awaited_push all after waiting still after' still' place s at es ea = rw (es, ea) record {
@@ -190,5 +203,19 @@ awaited_push all after waiting still after' still' place s at es ea = rw (es, ea
       ]
     ]
 
-pub awaited_more : (after after' : List (List Edge)) (count : ℕ) → after' ≡ after ++ [] ∷ [] → length after < count → length after' ≤ count
-awaited_more after after' count e less = omega (arith, ap length e, length_push after [], less)
+-- the same in the words of the code
+pub awaited_span : (edges : List Edge) (spans after after' : List Span) (waiting still still' : List ℕ) (place : ℕ)
+    → AreAwaited (lists_of edges spans) waiting (length after) (lists_of edges after) still → place ≡ length after
+    → still' ≡ still ++ place ∷ [] → after' ≡ after ++ no_edges ∷ []
+    → AreAwaited (lists_of edges spans) waiting (length after') (lists_of edges after') still'
+awaited_span edges spans after after' waiting still still' place w at es ea =
+    let long = length-map after (part edges) in
+    let more : lists_of edges after' ≡ lists_of edges after ++ [] ∷ [] =
+    ap (lists_of edges) ea ∙ map-append (part edges) after (no_edges ∷ []) in
+    subst (λ n. AreAwaited (lists_of edges spans) waiting n (lists_of edges after') still') (length-map after' (part edges))
+    (awaited_push (lists_of edges spans) (lists_of edges after) waiting still (lists_of edges after') still' place
+    (subst (λ n. AreAwaited (lists_of edges spans) waiting n (lists_of edges after) still) (sym long) w) (at ∙ sym long) es more)
+
+pub within_empty : (count : ℕ) (spans after : List Span) → AreWithin count spans → after ≡ spans ++ no_edges ∷ [] → AreWithin count after
+within_empty count spans after within e =
+    subst (AreWithin count) (sym e) (All-push (λ s. (s.start ≤ s.end) × (s.end ≤ count)) spans no_edges within (omega arith, omega arith))

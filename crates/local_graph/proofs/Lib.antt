@@ -3,6 +3,7 @@ pub mod TableLemmas
 pub mod PlayLemmas
 pub mod FiniteLemmas
 pub mod ThreesLemmas
+pub mod NumberLemmas
 pub mod ExploreLemmas
 pub mod OrderLemmas
 pub mod CycleLemmas

@@ -2,7 +2,7 @@
 use Rattle.std.proofs.Common.{◌≡◌, ℕ, ◌+◌, ◌<◌, ◌≤◌, inl, inr, suc, zero, arith, refl, sym, ap, ◌∙◌, List, [], ◌∷◌, ◌++◌, length, get_or, set, subst, replicate}
 use Rattle.std.specs.List.{Contains}
 use Rattle.std.proofs.lemmas.Bool.{cases_eq, cases_lt, cond_above}
-use Rattle.std.proofs.lemmas.List.{get_or_append_left, get_or_push, length_push, length-set, get_or-set_same, get_or-set_other, get_or_past, length-replicate}
+use Rattle.std.proofs.lemmas.List.{get_or_default, get_or_append_left, get_or_push, length_push, length-set, get_or-set_same, get_or-set_other, get_or_past, length-replicate}
 use Rattle.std.proofs.lemmas.List.Elements.{Contains-get_or, Contains-push_cases}
 use Rattle.local_graph.specs.inner.PlaceTable.{slot_of, threes, Leads, here, onward, IsNumbered, AreEntered}
 use Rattle.local_graph.proofs.FiniteLemmas.{ternary_small}
@@ -148,35 +148,53 @@ numbered_pushed positions after numbers position are one e n h = elim (Contains-
   | inr same ↦ subst (IsNumbered numbers) same one
 ]
 
--- where a search for a position is: all places of the position are ahead, and the next is one where each number has a slot
-pub record IsAhead (positions latest before : List ℕ) (numbers position link : ℕ) : Type 0 where
+-- where a search for a position is: all places of the position are ahead
+pub record IsAhead (positions before : List ℕ) (position link : ℕ) : Type 0 where
   pub low : link ≤ length before
   pub leads : (i : ℕ) → i < length positions → get_or positions i 0 ≡ position → Leads before link i
-  pub exact : numbers ≤ length latest → (place : ℕ) → link ≡ suc place → get_or positions place 0 ≡ position
 
 pub ahead_first : (positions latest before : List ℕ) (numbers position slot link : ℕ) → AreEntered positions latest before numbers
-    → ((n : ℕ) → Contains positions n → IsNumbered numbers n) → IsNumbered numbers position
     → length before ≡ length positions → slot ≡ slot_of position (length latest) numbers → link ≡ get_or latest slot 0
-    → IsAhead positions latest before numbers position link
-ahead_first positions latest before numbers position slot link s are one all is at = record {
+    → IsAhead positions before position link
+ahead_first positions latest before numbers position slot link s all is at = record {
   low = omega (arith, at, s.links slot);
   leads = λ i lt e. subst (λ n. Leads before n i) (ap (λ n. get_or latest n 0) (ap (λ n. slot_of n (length latest) numbers) e ∙ sym is) ∙ sym at) (s.each i (omega (arith, lt, all)));
-  exact = λ le place e.
-      let inside : place < length positions = omega (arith, e, at, s.links slot, all) in
-      exact_same (get_or positions place 0) position (length latest) numbers le (numbered_at positions numbers are place inside) one
-      (s.own slot place (sym at ∙ e) ∙ is);
 }
 
 -- the next link, where the place before this one isn't the position's
 pub ahead_next : (positions latest before : List ℕ) (numbers position link next place : ℕ) → AreEntered positions latest before numbers
-    → IsAhead positions latest before numbers position link → link ≡ suc place → (numbers ≤ length latest → ⊥)
-    → (get_or positions place 0 ≡ position → ⊥) → next ≡ get_or before place 0 → IsAhead positions latest before numbers position next
-ahead_next positions latest before numbers position link next place s w is crowded other at = record {
+    → IsAhead positions before position link → link ≡ suc place
+    → (get_or positions place 0 ≡ position → ⊥) → next ≡ get_or before place 0 → IsAhead positions before position next
+ahead_next positions latest before numbers position link next place s w is other at = record {
   low = omega (arith, at, s.falls place, w.low, is);
   leads = λ i lt e. onto i e (subst (λ n. Leads before n i) is (w.leads i lt e));
-  exact = λ le. absurd (crowded le);
 }
   where
     onto : (i : ℕ) → get_or positions i 0 ≡ position → Leads before (suc place) i → Leads before next i
     onto i e (here i') = absurd (other e)
     onto i e (onward place' i' rest) = subst (λ n. Leads before n i) (sym at) rest
+
+-- where each number has a slot of its own, what stands in a position's slot is its place
+pub exact_place : (positions latest before : List ℕ) (numbers position slot link place : ℕ) → AreEntered positions latest before numbers
+    → ((n : ℕ) → Contains positions n → IsNumbered numbers n) → IsNumbered numbers position → length before ≡ length positions
+    → numbers ≤ length latest → slot ≡ threes position → link ≡ get_or latest slot 0 → link ≡ suc place
+    → (place < length positions) × (get_or positions place 0 ≡ position)
+exact_place positions latest before numbers position slot link place s are one all le is at e =
+    let inside : place < length positions = omega (arith, e, at, s.links slot, all) in (
+      inside,
+      exact_same (get_or positions place 0) position (length latest) numbers le (numbered_at positions numbers are place inside) one
+          (s.own slot place (sym at ∙ e) ∙ is ∙ sym (exact_slot position (length latest) numbers le)),
+    )
+
+-- and where nothing stands there, the position wasn't found
+pub exact_none : (positions latest before : List ℕ) (numbers position slot link : ℕ) → AreEntered positions latest before numbers
+    → length before ≡ length positions → numbers ≤ length latest → slot ≡ threes position → link ≡ get_or latest slot 0 → link ≡ 0
+    → ¬ Contains positions position
+exact_none positions latest before numbers position slot link s all le is at none (i, lt, e) =
+    let there = get_or_default positions i 0 position lt ∙ e in
+    let slot_is = is ∙ sym (exact_slot position (length latest) numbers le) in
+    nowhere link i ((ahead_first positions latest before numbers position slot link s all slot_is at).leads i lt there) none
+  where
+    nowhere : (link i : ℕ) → Leads before link i → link ≡ 0 → ⊥
+    nowhere link i (here i') e = absurd (omega arith)
+    nowhere link i (onward k i' rest) e = absurd (omega arith)

@@ -1,10 +1,9 @@
 //! Lists of edges, one behind another in one vector.
 
-ghost use Rattle.std.specs.Prelude.{◌≡◌, ◌<◌, [], ◌∷◌, ◌++◌, length, slice_set, OnOk, OnErr};
-ghost use Rattle.local_graph.specs.inner.Graph.{edges_at, edge_at};
+ghost use Rattle.std.specs.Prelude.{◌≡◌, ◌<◌, length};
+ghost use Rattle.local_graph.specs.inner.Graph.{lists_of, AreWithin, edges_at, edge_at};
 
 use crate::graph::Edge;
-use std::alloc::{AllocError, Global};
 use std::marker::Model;
 
 /// Where a list stands: from `start` on, and before `end`.
@@ -34,14 +33,12 @@ impl Model for EdgeLists {
 }
 
 impl EdgeLists {
-    /// No lists.
-    pub(crate) fn new(alloc: Global) -> EdgeLists
-        ensures { result ≡ [] }
+    /// The lists that spans name, one for each.
+    pub(crate) fn of(edges: Vec<Edge>, spans: Vec<Span>) -> EdgeLists
+        requires { AreWithin (length edges.items) spans.items }
+        ensures { result ≡ lists_of edges.items spans.items }
     {
-        EdgeLists {
-            edges: Vec::new(alloc),
-            spans: Vec::new(alloc),
-        }
+        EdgeLists { edges, spans }
     }
 
     /// The number of lists.
@@ -66,30 +63,5 @@ impl EdgeLists {
         ensures { result ≡ edge_at self.now place number }
     {
         self.at(place)[number]
-    }
-
-    /// Adds a list behind the others.
-    pub(crate) fn push(&mut self, edges: &[Edge]) -> Result<(), AllocError>
-        ensures ok { OnOk result (self.new ≡ self.old ++ edges.now ∷ []) }
-        ensures err { OnErr result (self.new ≡ self.old) }
-    {
-        let start = self.edges.len();
-        self.edges.extend_from_slice(edges)?;
-        let end = self.edges.len();
-        self.spans.push(Span { start, end })?;
-        Ok(())
-    }
-
-    /// Puts a list in place of another.
-    pub(crate) fn put(&mut self, place: usize, edges: &[Edge]) -> Result<(), AllocError>
-        requires { place < length self.old }
-        ensures ok { OnOk result (self.new ≡ slice_set self.old place edges.now) }
-        ensures err { OnErr result (self.new ≡ self.old) }
-    {
-        let start = self.edges.len();
-        self.edges.extend_from_slice(edges)?;
-        let end = self.edges.len();
-        self.spans[place] = Span { start, end };
-        Ok(())
     }
 }

@@ -33,7 +33,11 @@ impl Model for Graph {
 
     ghost Value = { Graph };
 
-    ghost view = { λ g. record { positions = g.positions.items; edges = g.edges; order = g.order.items } };
+    ghost view = { λ g. record {
+      positions = g.positions.items;
+      edges = g.edges;
+      order = g.order.items;
+    } };
 
     ghost invariant = { λ g. length g.edges ≡ length g.positions.items };
 }
@@ -44,7 +48,8 @@ impl Graph {
     /// A graph of positions, their edges and an order of them.
     pub(crate) fn new(positions: Vec<u64>, edges: EdgeLists, order: Vec<usize>) -> Graph
         requires { length edges ≡ length positions.items }
-        ensures { result ≡ record { positions = positions.items; edges = edges; order = order.items } }
+        ensures { result
+            ≡ record { positions = positions.items; edges = edges; order = order.items } }
     {
         Graph {
             positions,

@@ -1,19 +1,21 @@
 //! Building a graph: the positions are explored in the order in which they are found, and then put in an order.
 
-ghost use Rattle.std.specs.Prelude.{◌≡◌, ◌≢◌, ◌+◌, ◌*◌, ◌^◌, ◌<◌, ◌≤◌, List, [], length, Contains, slice_index, IfOk, OnOk, IfSome, IfNone, MatchResult, alloc_error};
+ghost use Rattle.std.specs.Prelude.{ℕ, ◌≡◌, ◌≢◌, ◌+◌, ◌*◌, ◌^◌, ◌<◌, ◌≤◌, List, [], ◌++◌, length, drop, Contains, slice_index, IfOk, OnOk, IfSome, IfNone, MatchResult, alloc_error};
 ghost use Rattle.local_graph.specs.declared.graph_build.GraphError.TheVariants.{Memory};
 ghost use Rattle.std.specs.List.{AllPairs};
 ghost use Rattle.local_graph.specs.Built.{Built};
+ghost use Rattle.local_graph.specs.inner.Graph.{lists_of, AreWithin};
 ghost use Rattle.local_graph.specs.inner.Found.{Placed, EdgesFor, edge_of, Explored, AreAwaited};
-ghost use Rattle.local_graph.specs.inner.PlaceTable.{IsTable, IsNumbered};
+ghost use Rattle.local_graph.specs.inner.PlaceTable.{threes, IsTable, IsNumbered, ArePowers, Follows};
 
 use crate::cycle::CycleList;
-use crate::edge_lists::EdgeLists;
+use crate::edge_lists::{EdgeLists, Span};
 use crate::graph::{Edge, Graph};
-use crate::place_table::PlaceTable;
+use crate::numbers::{number_after, powers};
+use crate::place_table::{PlaceTable, threes};
 use crate::search::{Searched, search_from_opening};
 use go_grid::Region;
-use local_play::{Links, Local, LocalMove, Steps, list_moves, start};
+use local_play::{Links, Local, LocalMove, MOST_PLACES, Steps, list_moves, start};
 use std::alloc::{AllocError, AllocFailed, Global};
 use std::sync::ledger::Ledger;
 
@@ -62,7 +64,8 @@ fn new_place(
     requires new { ¬ Contains table.old.positions.items position }
     requires numbered { IsNumbered table.old.numbers position }
     requires few { length table.old.positions.items ≤ limit }
-    ensures placed { Placed table.old.positions.items position limit table.new.positions.items result }
+    ensures placed { Placed table.old.positions.items position limit
+        table.new.positions.items result }
     ensures table { OnOk result (IsTable table.new) }
     ensures numbers { OnOk result (table.new.numbers ≡ table.old.numbers) }
 {
@@ -75,16 +78,17 @@ fn new_place(
     Err(GraphError::Positions)
 }
 
-/// The place of a position, if it was found.
+/// The place of a position with a number in base 3, if it was found.
 #[inline(always)]
-fn place_of(table: &PlaceTable, position: Local) -> Option<usize>
+fn place_of(table: &PlaceTable, position: Local, number: u64) -> Option<usize>
     requires table { IsTable table.now }
+    requires number { number ≡ threes position }
     requires numbered { IsNumbered table.now.numbers position }
     ensures found { IfSome result (λ place. (place < length table.now.positions.items)
         × (slice_index table.now.positions.items place ≡ position)) }
     ensures absent { IfNone result (¬ Contains table.now.positions.items position) }
 {
-    table.find(position.0)
+    table.find(position.0, number)
 }
 
 /// The edge of a move that leads to the position at a place.
@@ -99,10 +103,12 @@ fn edge_of(step: &LocalMove, next: usize) -> Edge
     }
 }
 
-/// Makes the list that of the edges of a position's moves.
+/// Puts the edges of a position's moves behind those that are there.
 fn list_edges(
     alloc: Global,
     table: &mut PlaceTable,
+    powers: &[u64; MOST_PLACES],
+    from: Local,
     moves: &[LocalMove],
     limit: u32,
     edges: &mut Vec<Edge>,
@@ -111,14 +117,21 @@ fn list_edges(
     requires once { AllPairs (λ a b. a ≢ b) table.old.positions.items }
     requires numbered { (m : LocalMove) → Contains moves.now m
         → IsNumbered table.old.numbers m.next }
+    requires powers { ArePowers powers.now }
+    requires small { threes from < 3 ^ MOST_PLACES }
+    requires follows { (m : LocalMove) → Contains moves.now m → Follows (threes from) m }
     requires few { length table.old.positions.items ≤ limit }
-    ensures edges { EdgesFor table.old.positions.items moves.now limit table.new.positions.items edges.new.items result }
+    ensures edges { EdgesFor table.old.positions.items moves.now limit table.new.positions.items
+        (drop (length edges.old.items) edges.new.items) result }
+    ensures behind { OnOk result (edges.new.items
+        ≡ edges.old.items ++ drop (length edges.old.items) edges.new.items) }
     ensures table { OnOk result (IsTable table.new) }
     ensures numbers { OnOk result (table.new.numbers ≡ table.old.numbers) }
 {
-    edges.clear();
+    let number = threes(from.0);
     for step in moves {
-        if let Some(place) = place_of(table, step.next) {
+        let after = number_after(powers, number, step);
+        if let Some(place) = place_of(table, step.next, after) {
             edges.push(edge_of(step, place))?;
             continue;
         }
@@ -128,14 +141,22 @@ fn list_edges(
     Ok(())
 }
 
-/// Puts the places from the number of lists on behind those that wait, and an empty list for each.
-fn await_new(all: &mut EdgeLists, waiting: &mut Vec<usize>, count: usize) -> Result<(), AllocError>
-    requires { length all.old ≤ count }
-    ensures { OnOk result (AreAwaited all.old waiting.old.items count all.new waiting.new.items) }
+/// Puts the places from the number of spans on behind those that wait, and an empty span for each.
+fn await_new(
+    spans: &mut Vec<Span>,
+    waiting: &mut Vec<usize>,
+    count: usize,
+) -> Result<(), AllocError>
+    requires { length spans.old.items ≤ count }
+    ensures awaited { OnOk result ((edges : List Edge)
+        → AreAwaited (lists_of edges spans.old.items) waiting.old.items count
+        (lists_of edges spans.new.items) waiting.new.items) }
+    ensures within { OnOk result ((edges : ℕ) → AreWithin edges spans.old.items
+        → AreWithin edges spans.new.items) }
 {
-    'awaiting: while all.len() < count {
-        waiting.push(all.len())?;
-        all.push(&[])?;
+    'awaiting: while spans.len() < count {
+        waiting.push(spans.len())?;
+        spans.push(Span { start: 0, end: 0 })?;
     }
     Ok(())
 }
@@ -153,25 +174,30 @@ pub(crate) fn explore<L: Ledger>(
     requires table { IsTable table.old }
     requires none { table.old.positions.items ≡ [] }
     requires numbers { table.old.numbers ≡ 3 ^ length region.now.points }
-    ensures graph { Explored region.now.touch region.now.cells limit table.new.positions.items result }
+    ensures graph { Explored region.now.touch region.now.cells limit
+        table.new.positions.items result }
     ensures limited { steps.new ≤ steps.old + limit }
     ensures finite { steps.new ≤ steps.old + 3 ^ length region.now.points }
 {
-    let mut all = EdgeLists::new(alloc);
+    let mut edges = Vec::new(alloc);
+    let mut spans = Vec::new(alloc);
     let mut waiting = Vec::new(alloc);
     new_place(alloc, table, start(region), limit)?;
-    await_new(&mut all, &mut waiting, table.positions.len())?;
+    await_new(&mut spans, &mut waiting, table.positions.len())?;
     let links = Links::of(region);
+    let weights = powers();
     let mut moves = Vec::new(alloc);
-    let mut edges = Vec::new(alloc);
     'exploring: while let Some(place) = waiting.pop() {
         let position = table.positions[place];
         list_moves(&links, Local(position), steps, &mut moves)?;
-        list_edges(alloc, table, &moves, limit, &mut edges)?;
-        all.put(place, &edges)?;
-        await_new(&mut all, &mut waiting, table.positions.len())?;
+        let first = edges.len();
+        let from = Local(position);
+        list_edges(alloc, table, &weights, from, &moves, limit, &mut edges)?;
+        let end = edges.len();
+        spans[place] = Span { start: first, end };
+        await_new(&mut spans, &mut waiting, table.positions.len())?;
     }
-    Ok(all)
+    Ok(EdgeLists::of(edges, spans))
 }
 
 /// The positions found, as a list alone: what finds their places is given back.

@@ -9,6 +9,7 @@ mod edge_lists;
 mod graph;
 mod graph_build;
 mod laws;
+mod numbers;
 mod place_table;
 mod search;
 mod soonest_cycles;

@@ -31,7 +31,7 @@ fn folded(number: u64, shift: u32, groups: u64, less: u64) -> u64
 
 /// The number whose digits in base 3 are the codes of a position's places.
 #[tactic(auto, unfolding(crate::specs::inner::PlaceTable::threes))]
-fn threes(position: u64) -> u64
+pub(crate) fn threes(position: u64) -> u64
     ensures { result ≡ threes position }
 {
     let pairs = folded(position, 2, 0x3333_3333_3333_3333, 1);
@@ -80,22 +80,41 @@ impl PlaceTable {
         self.numbers <= self.latest.len()
     }
 
-    /// The place of a position, if it was found. Where each number has a slot of its own, what stands in the position's slot is
+    /// The place of a position, if it was found, where each number has a slot of its own: what stands in the position's slot is
     /// the position.
     #[inline(always)]
-    pub(crate) fn find(&self, position: u64) -> Option<usize>
+    fn find_exact(&self, position: u64, number: u64) -> Option<usize>
         requires table { IsTable self.now }
+        requires number { number ≡ threes position }
+        requires numbered { IsNumbered self.now.numbers position }
+        requires exact { self.now.numbers ≤ length self.now.latest.items }
+        ensures found { IfSome result (λ place. (place < length self.now.positions.items)
+            × (slice_index self.now.positions.items place ≡ position)) }
+        ensures absent { IfNone result (¬ Contains self.now.positions.items position) }
+    {
+        let link = self.latest[number as usize];
+        if link > 0 {
+            return Some((link - 1) as usize);
+        }
+        None
+    }
+
+    /// The place of a position with a number in base 3, if it was found.
+    #[inline(always)]
+    pub(crate) fn find(&self, position: u64, number: u64) -> Option<usize>
+        requires table { IsTable self.now }
+        requires number { number ≡ threes position }
         requires numbered { IsNumbered self.now.numbers position }
         ensures found { IfSome result (λ place. (place < length self.now.positions.items)
             × (slice_index self.now.positions.items place ≡ position)) }
         ensures absent { IfNone result (¬ Contains self.now.positions.items position) }
     {
+        if self.is_exact() {
+            return self.find_exact(position, number);
+        }
         let mut link = self.latest[slot_of(position, self.latest.len(), self.numbers)];
         'looking: while link > 0 {
             let place = (link - 1) as usize;
-            if self.is_exact() {
-                return Some(place);
-            }
             if self.positions[place] == position {
                 return Some(place);
             }
@@ -114,7 +133,8 @@ impl PlaceTable {
         requires few { length self.old.positions.items < 2 ^ 32 }
         ensures entered { OnOk result (AreEntered self.new.positions.items self.new.latest.items
             self.new.before.items self.new.numbers) }
-        ensures one { OnOk result (length self.new.before.items ≡ length self.old.before.items + 1) }
+        ensures one { OnOk result
+            (length self.new.before.items ≡ length self.old.before.items + 1) }
         ensures positions { self.new.positions.items ≡ self.old.positions.items }
         ensures slots { length self.new.latest.items ≡ length self.old.latest.items }
         ensures numbers { self.new.numbers ≡ self.old.numbers }
@@ -188,7 +208,8 @@ impl PlaceTable {
         requires numbered { IsNumbered self.old.numbers position }
         requires few { length self.old.positions.items + 1 < 2 ^ 32 }
         ensures table { OnOk result (IsTable self.new) }
-        ensures positions { OnOk result (self.new.positions.items ≡ self.old.positions.items ++ position ∷ []) }
+        ensures positions { OnOk result
+            (self.new.positions.items ≡ self.old.positions.items ++ position ∷ []) }
         ensures numbers { OnOk result (self.new.numbers ≡ self.old.numbers) }
     {
         self.make_room(alloc)?;

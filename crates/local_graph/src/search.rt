@@ -77,8 +77,8 @@ impl Search {
         requires inside { node < length edges.now }
         requires long { length self.old.visits.items ≡ length edges.now }
         ensures visits { self.new.visits.items ≡ slice_set self.old.visits.items node OnPath }
-        ensures path { OnOk result (self.new.path.items
-            ≡ self.old.path.items ++ record { node = node; left = length (edges_at edges.now node) } ∷ []) }
+        ensures path { OnOk result (self.new.path.items ≡ self.old.path.items
+            ++ record { node = node; left = length (edges_at edges.now node) } ∷ []) }
         ensures order { self.new.order.items ≡ self.old.order.items }
         ensures fits { length (edges_at edges.now node) < 2 ^ 64 }
     {
@@ -123,7 +123,8 @@ impl Search {
             self.old.visits.items self.old.order.items }
         requires ends { EndsIn self.old.path.items last }
         requires more { 0 < last.left }
-        ensures { IfOk result (Stepped edges.now (work_left self.old.path.items self.old.visits.items)
+        ensures { IfOk result (Stepped edges.now
+            (work_left self.old.path.items self.old.visits.items)
             self.new.path.items self.new.visits.items self.new.order.items) }
     {
         let list = edges.at(last.node);
@@ -147,8 +148,10 @@ impl Search {
     /// Places the last position of the path, or follows its next move.
     fn step(&mut self, edges: &EdgeLists) -> Result<Progress, AllocError>
         requires rooted { IsRooted edges.now }
-        requires under_way { Searching edges.now self.old.path.items self.old.visits.items self.old.order.items }
-        ensures { IfOk result (Stepped edges.now (work_left self.old.path.items self.old.visits.items)
+        requires under_way { Searching edges.now self.old.path.items
+            self.old.visits.items self.old.order.items }
+        ensures { IfOk result (Stepped edges.now
+            (work_left self.old.path.items self.old.visits.items)
             self.new.path.items self.new.visits.items self.new.order.items) }
     {
         let Some(last) = self.path.last().copied() else {
@@ -191,7 +194,8 @@ fn moves_along(
     last: usize,
 ) -> Result<CycleList, AllocError>
     requires { Trail edges.now 0 path.now last }
-    ensures { IfOk result (λ moves. moves ≡ map (λ f. move_of (edge_at edges.now f.node f.left)) path.now) }
+    ensures { IfOk result (λ moves. moves
+        ≡ map (λ f. move_of (edge_at edges.now f.node f.left)) path.now) }
 {
     let mut moves = CycleList::new(alloc);
     for frame in path {

@@ -65,7 +65,8 @@ pub fn expand<L: Ledger>(
 ) -> Result<Vec<LocalMove>, AllocError>
     requires few { length region.now.points ≤ MOST_PLACES }
     requires from { IsPosition (length region.now.points) from }
-    ensures moves { (cells : List Cell) → length cells ≡ length region.now.points → from ≡ pack cells
+    ensures moves { (cells : List Cell) → length cells ≡ length region.now.points
+        → from ≡ pack cells
         → IfOk result (λ moves. ListsMoves region.now.touch cells moves.items) }
     ensures step { steps.new ≡ steps.old + 1 }
 {

@@ -106,7 +106,8 @@ impl Local {
 
     /// What each place holds. Places past the region's are empty.
     pub fn cells(self) -> Cells
-        ensures { (cells : List Cell) → length cells ≤ MOST_PLACES → self ≡ pack cells → IsUnpacked cells result }
+        ensures { (cells : List Cell) → length cells ≤ MOST_PLACES → self ≡ pack cells
+            → IsUnpacked cells result }
     {
         let mut cells = [Cell::Empty; MOST_PLACES];
         let mut rest = self.0;

@@ -87,7 +87,8 @@ impl Turn {
     pub(crate) fn try_stone(&self, links: &Links, place: usize) -> Option<LocalMove>
         requires small { place < MOST_PLACES }
         ensures { (touch : List Touch) (cells : List Cell) → IsTable touch links.now
-            → IsTurn touch cells self.now → Has self.now.empty place → IsTried touch cells place self.now.colour result }
+            → IsTurn touch cells self.now → Has self.now.empty place
+            → IsTried touch cells place self.now.colour result }
     {
         let near = links.near(place);
         let taken = near.intersection(self.foe.stones.without(self.foe.lasting));

@@ -19,7 +19,7 @@ use Rattle.game_canon.specs.Outcomes.{IsCanonicalId}
 use Rattle.sum_outcome.specs.Players.{credit, gain}
 use Rattle.game_canon.proofs.NumberParts.{sum-fits, same-sum}
 use Rattle.local_value.specs.inner.Memo.{stones_units, IsStonesSum}
-use Rattle.local_value.specs.inner.Valuing.{noted, IsWithinAfter, IsAfter}
+use Rattle.local_value.specs.inner.Valuing.{noted, IsWithinAfter, IsAfter, most_units}
 
 credit-tree : (c : Colour) (n : ℕ) (x : ℤ) → x ≡ credit c n *ℤ pos (2 ^ 60) → number_tree x ≡ gain c n
 credit-tree c n x e = ap number_tree e ∙ num-scaled 60 0 (credit c n)
@@ -37,9 +37,9 @@ module _ (Ts : List Tree) (ids : List ℕ) (e : Edge) (x : ℤ) (is : x ≡ cred
   size = credit-size e.colour e.taken x is
 
   -- nothing is refused where the sums are small
-  pub never-refused : HaveForms Ts → AreCanonical Ts → get_or ids e.next 0 < length Ts → IsWithinAfter (2 ^ 120 - 1) Ts ids e → IsSumRefusal (noted Ts ids e.next +ᵍ number_tree x) Bounds → ⊥
+  pub never-refused : HaveForms Ts → AreCanonical Ts → get_or ids e.next 0 < length Ts → IsWithinAfter most_units Ts ids e → IsSumRefusal (noted Ts ids e.next +ᵍ number_tree x) Bounds → ⊥
   never-refused forms canonical lt small = sum-fits Ts (get_or ids e.next 0) x forms lt (canonical (get_or ids e.next 0) lt)
-      (λ y n. let le = sum-size y x (e.taken * 2 ^ 60) (2 ^ 120 - 1) size (small y n) in omega (arith, le))
+      (λ y n. let le = sum-size y x (e.taken * 2 ^ 60) most_units size (small y n) in omega (arith, le))
 
   value-after : (Us : List Tree) (id : ℕ) → IsCanonicalId Us (noted Ts ids e.next +ᵍ number_tree x) id
       → ((y : ℤ) → IsNumberOf (noted Ts ids e.next) y ↔ IsNumberOf (tree_at Us id) (y +ℤ x)) → IsAfter Ts Us ids e id

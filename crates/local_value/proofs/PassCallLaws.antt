@@ -13,7 +13,7 @@ use Rattle.game_canon.specs.declared.errors.FormError.{FormError}
 use Rattle.game_canon.specs.Outcomes.{IsCanonicalId, IsCause, AreWithin}
 use Rattle.local_value.specs.Refusals.{IsValueRefusal}
 use Rattle.local_value.specs.Values.{IsGraphOf}
-use Rattle.local_value.specs.inner.Valuing.{IsNoted, AreWithinAfter, HasEdges}
+use Rattle.local_value.specs.inner.Valuing.{IsNoted, AreWithinAfter, HasEdges, most_units}
 use Rattle.local_value.proofs.PassLaws.{place, IsPass, order_short, edges_noted, edges_within, pass-step}
 use Rattle.local_value.proofs.PassEndLaws.{pass-refused}
 
@@ -28,10 +28,10 @@ module _ (r : Region) (g : Graph) (of : IsGraphOf r g) (limit : ℕ) (Ts : List 
   pub call-noted : (e : Edge) → Contains es e → IsNoted Ts vs e.next
   call-noted e h = subst (λ z. IsNoted Ts z e.next) (sym v) (edges_noted r g of limit Ts ids k pass among e (subst (λ z. Contains z e) same h))
 
-  pub call-small : length g.positions ≤ MOST_POSITIONS → AreWithinAfter (2 ^ 120 - 1) Ts vs es
-  call-small few = subst (λ z. AreWithinAfter (2 ^ 120 - 1) Ts z es) (sym v) (subst (AreWithinAfter (2 ^ 120 - 1) Ts ids) (sym same) small)
+  pub call-small : length g.positions ≤ MOST_POSITIONS → AreWithinAfter most_units Ts vs es
+  call-small few = subst (λ z. AreWithinAfter most_units Ts z es) (sym v) (subst (AreWithinAfter most_units Ts ids) (sym same) small)
     where
-      small : AreWithinAfter (2 ^ 120 - 1) Ts ids (edges_at g.edges (place g k))
+      small : AreWithinAfter most_units Ts ids (edges_at g.edges (place g k))
       small e h x n =
           let size = edges_within r g of limit Ts ids k pass among e h x n in
           let most : k * length r.cells ≤ MOST_POSITIONS * length r.cells = mul-le-mul_right (length r.cells) (omega (arith, among, order_short r g of limit, few)) in

@@ -11,9 +11,10 @@ ghost use Rattle.sum_outcome.specs.Players.{credit};
 ghost use Rattle.local_value.specs.inner.Memo.{recalled_sum, AreSumsRight, IsMemoRight};
 ghost use Rattle.local_value.specs.Refusals.{IsValueRefusal};
 ghost use Rattle.local_value.specs.Values.{IsGraphOf, AreValues};
-ghost use Rattle.local_value.specs.inner.Valuing.{IsNoted, IsWithinAfter, AreWithinAfter, IsAfter, AreBothAfter, IsAdded, HasEdges};
+ghost use Rattle.local_value.specs.inner.Valuing.{IsNoted, IsWithinAfter, AreWithinAfter, IsAfter, AreBothAfter, IsAdded, HasEdges, most_units};
 
 use crate::memo::{Memo, Options, Sums, form_of, with_stones};
+use dyadic_num::EXPONENT;
 use game_canon::FormError;
 use game_store::{GameId, Store};
 use go_grid::Colour;
@@ -46,7 +47,7 @@ fn value_after(
     edge: &Edge,
 ) -> Result<GameId, AllocError>
     requires noted { IsNoted store.old ids.now edge.now.next }
-    requires small { IsWithinAfter (2 ^ 120 - 1) store.old ids.now edge.now }
+    requires small { IsWithinAfter most_units store.old ids.now edge.now }
     requires sums { AreSumsRight store.old (recalled_sum sums.old) }
     ensures value { IfOk result (λ id. IsAfter store.old store.new ids.now edge.now id) }
     ensures sums { OnOk result (AreSumsRight store.new (recalled_sum sums.new)) }
@@ -95,7 +96,7 @@ fn list_options(
     options: &mut Options,
 ) -> Result<(), AllocError>
     requires noted { (e : Edge) → Contains edges.now e → IsNoted store.old ids.now e.next }
-    requires small { AreWithinAfter (2 ^ 120 - 1) store.old ids.now edges.now }
+    requires small { AreWithinAfter most_units store.old ids.now edges.now }
     requires sums { AreSumsRight store.old (recalled_sum sums.old) }
     ensures options { OnOk result
         (AreBothAfter store.old store.new ids.now edges.now options.new.left.items
@@ -125,13 +126,13 @@ fn value_of(
     parts_limit: u32,
 ) -> Result<GameId, FormError>
     requires noted { (e : Edge) → Contains edges.now e → IsNoted store.old ids.now e.next }
-    requires small { AreWithinAfter (2 ^ 120 - 1) store.old ids.now edges.now }
+    requires small { AreWithinAfter most_units store.old ids.now edges.now }
     requires memo { IsMemoRight store.old parts_limit memo.old }
     ensures value { IfOk result (λ id. (G : Tree) → HasEdges store.old ids.now edges.now G
         → IsCanonicalId store.new G id) }
     ensures parts { IfOk result (λ id. HasMoreParts (tree_at store.new id) parts_limit → ⊥) }
     ensures sizes { IfOk result (λ id. (b : ℕ) → AreWithinAfter b store.old ids.now edges.now
-        → AreWithin (b + 2 ^ 60) (tree_at store.new id)) }
+        → AreWithin (b + 2 ^ EXPONENT) (tree_at store.new id)) }
     ensures refusal { IfErr result (λ error. (G : Tree) → HasEdges store.old ids.now edges.now G
         → IsCause G parts_limit error) }
     ensures memo { OnOk result (IsMemoRight store.new parts_limit memo.new) }
@@ -156,7 +157,8 @@ pub fn value_all(
     ensures values { IfOk result (λ values. (r : Region) → IsGraphOf r graph.now
         → AreValues r graph.now store.new values) }
     ensures sizes { IfOk result (λ values. (r : Region) → IsGraphOf r graph.now → (i : ℕ)
-        → i < length values → AreWithin ((length graph.now.positions * length r.cells) * 2 ^ 60)
+        → i < length values
+        → AreWithin ((length graph.now.positions * length r.cells) * 2 ^ EXPONENT)
         (tree_at store.new (slice_index values i))) }
     ensures parts { IfOk result (λ values. (i : ℕ) → i < length values
         → HasMoreParts (tree_at store.new (slice_index values i)) parts_limit → ⊥) }

@@ -1,26 +1,19 @@
 //! Devices that fail, and files that are cut.
 
 use crate::run_tests::{
-    COPY, Failing, NOTHING_FAILS, ONE_POINT, ONE_POINT_TEXT, POINT_SAFE, SEVEN_TEXT, outcome,
-    outcome_in_pieces, shelf, status_of,
+    COPY, Failing, FailingRow, NOTHING_FAILS, ONE_POINT, ONE_POINT_TEXT, POINT_SAFE, SEVEN_TEXT,
+    first_failing_wrong, is_right, is_right_in_pieces, shelf, status_of, words_between,
 };
 use desk_io::{Failed, MemorySource, Sink};
 use endgame_run::{FileFault, Status};
 use sgf_tree::TreeFault;
-use std::alloc::Global;
+use std::alloc::{AllocError, Global};
 use std::test::Fail;
 
 /// One contested point, worth nothing but the move.
 const POINT_VALUES: &str =
     "regions 1\nregion ea points 1 positions 3\nvalue *\nstops 0 0\nmean 0\ntemperature 0\n\
     left 0:0\nright 0:0\n";
-
-/// The commands that write one text, and their texts about the board of one contested point.
-const COMMANDS: [(&str, &str); 3] = [
-    ("solve", ONE_POINT_TEXT),
-    ("safe", POINT_SAFE),
-    ("values", POINT_VALUES),
-];
 
 const NO_READ: &str = "fault cannot read\n";
 
@@ -44,151 +37,370 @@ const NO_WRITE_FIRST: Failing = Failing {
     ..NOTHING_FAILS
 };
 
+/// The commands that write one text, each with calls that fail.
+const FAILING_CALLS: [FailingRow; 18] = [
+    (
+        "solve~c",
+        ONE_POINT,
+        500,
+        NO_LOAD_FIRST,
+        Status::CannotRead,
+        NO_READ,
+    ),
+    (
+        "solve~c",
+        ONE_POINT,
+        500,
+        NO_LOAD_AGAIN,
+        Status::Done,
+        ONE_POINT_TEXT,
+    ),
+    (
+        "solve~-",
+        ONE_POINT,
+        500,
+        NO_LOAD_FIRST,
+        Status::Done,
+        ONE_POINT_TEXT,
+    ),
+    (
+        "solve~c",
+        ONE_POINT,
+        500,
+        NO_READ_FIRST,
+        Status::Done,
+        ONE_POINT_TEXT,
+    ),
+    (
+        "solve~c",
+        ONE_POINT,
+        500,
+        NO_WRITE_FIRST,
+        Status::CannotWrite,
+        "",
+    ),
+    (
+        "solve~nowhere",
+        ONE_POINT,
+        500,
+        NOTHING_FAILS,
+        Status::CannotRead,
+        NO_READ,
+    ),
+    (
+        "safe~c",
+        ONE_POINT,
+        500,
+        NO_LOAD_FIRST,
+        Status::CannotRead,
+        NO_READ,
+    ),
+    (
+        "safe~c",
+        ONE_POINT,
+        500,
+        NO_LOAD_AGAIN,
+        Status::Done,
+        POINT_SAFE,
+    ),
+    (
+        "safe~-",
+        ONE_POINT,
+        500,
+        NO_LOAD_FIRST,
+        Status::Done,
+        POINT_SAFE,
+    ),
+    (
+        "safe~c",
+        ONE_POINT,
+        500,
+        NO_READ_FIRST,
+        Status::Done,
+        POINT_SAFE,
+    ),
+    (
+        "safe~c",
+        ONE_POINT,
+        500,
+        NO_WRITE_FIRST,
+        Status::CannotWrite,
+        "",
+    ),
+    (
+        "safe~nowhere",
+        ONE_POINT,
+        500,
+        NOTHING_FAILS,
+        Status::CannotRead,
+        NO_READ,
+    ),
+    (
+        "values~c",
+        ONE_POINT,
+        500,
+        NO_LOAD_FIRST,
+        Status::CannotRead,
+        NO_READ,
+    ),
+    (
+        "values~c",
+        ONE_POINT,
+        500,
+        NO_LOAD_AGAIN,
+        Status::Done,
+        POINT_VALUES,
+    ),
+    (
+        "values~-",
+        ONE_POINT,
+        500,
+        NO_LOAD_FIRST,
+        Status::Done,
+        POINT_VALUES,
+    ),
+    (
+        "values~c",
+        ONE_POINT,
+        500,
+        NO_READ_FIRST,
+        Status::Done,
+        POINT_VALUES,
+    ),
+    (
+        "values~c",
+        ONE_POINT,
+        500,
+        NO_WRITE_FIRST,
+        Status::CannotWrite,
+        "",
+    ),
+    (
+        "values~nowhere",
+        ONE_POINT,
+        500,
+        NOTHING_FAILS,
+        Status::CannotRead,
+        NO_READ,
+    ),
+];
+
 #[test]
 fn calls_that_fail_are_told(rt: HostRuntime) -> Result<(), Fail> {
-    let alloc = rt.alloc();
-    for (command, text) in COMMANDS {
-        let rows: [(&str, Failing, Status, &str); 6] = [
-            ("c", NO_LOAD_FIRST, Status::CannotRead, NO_READ),
-            ("c", NO_LOAD_AGAIN, Status::Done, text),
-            ("-", NO_LOAD_FIRST, Status::Done, text),
-            ("c", NO_READ_FIRST, Status::Done, text),
-            ("c", NO_WRITE_FIRST, Status::CannotWrite, ""),
-            ("nowhere", NOTHING_FAILS, Status::CannotRead, NO_READ),
-        ];
-        for (word, failing, status, text) in rows {
-            let (got, written) = outcome(alloc, &[command, word], ONE_POINT, 500, failing)?;
-            assert_eq!(rt; written.as_slice(), text.as_bytes());
-            assert_eq!(rt; got, status);
+    assert_eq!(rt; first_failing_wrong(rt.alloc(), &FAILING_CALLS)?, None);
+    Ok(())
+}
+
+/// Whether a command over the source fails with each of its reads, and ends with the text where none fails.
+fn fails_with_each_read(alloc: Global, words: &str, text: &str) -> Result<bool, AllocError> {
+    let (read_fails, no_read) = (Status::CannotRead, NO_READ.as_bytes());
+    // Seven reads give the file, and the eighth its end.
+    for read in 0..8 {
+        let failing = Failing {
+            read,
+            ..NOTHING_FAILS
+        };
+        if !is_right(alloc, words, ONE_POINT, 500, failing, read_fails, no_read)? {
+            return Ok(false);
         }
     }
-    Ok(())
+    let (done, text) = (Status::Done, text.as_bytes());
+    is_right_in_pieces(alloc, words, ONE_POINT, 1, 500, NOTHING_FAILS, done, text)
 }
 
 #[test]
 fn reads_that_fail_are_told(rt: HostRuntime) -> Result<(), Fail> {
     let alloc = rt.alloc();
-    for (command, text) in COMMANDS {
-        let words = [command, "-"];
-        // Seven reads give the file, and the eighth its end.
-        for read in 0..8 {
-            let failing = Failing {
-                read,
-                ..NOTHING_FAILS
-            };
-            let (status, written) = outcome(alloc, &words, ONE_POINT, 500, failing)?;
-            assert_eq!(rt; written.as_slice(), NO_READ.as_bytes());
-            assert_eq!(rt; status, Status::CannotRead);
-        }
-        let (status, written) = outcome_in_pieces(alloc, &words, ONE_POINT, 1, 500, NOTHING_FAILS)?;
-        assert_eq!(rt; written.as_slice(), text.as_bytes());
-        assert_eq!(rt; status, Status::Done);
-    }
+    assert!(rt; fails_with_each_read(alloc, "solve~-", ONE_POINT_TEXT)?);
+    assert!(rt; fails_with_each_read(alloc, "safe~-", POINT_SAFE)?);
+    assert!(rt; fails_with_each_read(alloc, "values~-", POINT_VALUES)?);
     Ok(())
+}
+
+/// Runs whose text the sink has no room for.
+const CUT_RUNS: [(&str, &[u8], &str); 6] = [
+    ("trial~7", b"", SEVEN_TEXT),
+    ("solve~c", b"", ONE_POINT_TEXT),
+    ("safe~c", b"", POINT_SAFE),
+    ("values~c", b"", POINT_VALUES),
+    ("solve~-", b"(;SZ[6])", "fault region aa points 36\n"),
+    (
+        "play~c",
+        b"ea\nspend\n",
+        "engine ea\nrefused occupied\nplayed spend\nengine spend\ninput ended\n",
+    ),
+];
+
+/// Whether the sink has a front part of the text at each room below its length.
+fn has_front_parts(
+    alloc: Global,
+    words: &str,
+    file: &[u8],
+    text: &[u8],
+) -> Result<bool, AllocError> {
+    for room in 0..text.len() {
+        let (status, front) = (Status::CannotWrite, &text[..room]);
+        if !is_right(alloc, words, file, room, NOTHING_FAILS, status, front)? {
+            return Ok(false);
+        }
+    }
+    Ok(true)
 }
 
 #[test]
 fn a_full_sink_has_a_front_part(rt: HostRuntime) -> Result<(), Fail> {
-    let alloc = rt.alloc();
-    let rows: [(&[&str], &[u8], &str); 6] = [
-        (&["trial", "7"], b"", SEVEN_TEXT),
-        (&["solve", "c"], b"", ONE_POINT_TEXT),
-        (&["safe", "c"], b"", POINT_SAFE),
-        (&["values", "c"], b"", POINT_VALUES),
-        (&["solve", "-"], b"(;SZ[6])", "fault region aa points 36\n"),
-        (
-            &["play", "c"],
-            b"ea\nspend\n",
-            "engine ea\nrefused occupied\nplayed spend\nengine spend\ninput ended\n",
-        ),
-    ];
-    for (words, file, text) in rows {
-        for room in 0..text.len() {
-            let (status, written) = outcome(alloc, words, file, room, NOTHING_FAILS)?;
-            assert_eq!(rt; written.as_slice(), &text.as_bytes()[..room]);
-            assert_eq!(rt; status, Status::CannotWrite);
-        }
+    for (words, file, text) in CUT_RUNS {
+        assert!(rt;
+            has_front_parts(rt.alloc(), words, file, text.as_bytes())?,
+            "{words}"
+        );
     }
     Ok(())
 }
+
+/// The same game with each call that fails.
+const CUT_GAMES: [(Failing, Status, &str); 8] = [
+    (
+        Failing {
+            write: 0,
+            ..NOTHING_FAILS
+        },
+        Status::CannotWrite,
+        "",
+    ),
+    (
+        Failing {
+            write: 1,
+            ..NOTHING_FAILS
+        },
+        Status::CannotWrite,
+        "engine ea\n",
+    ),
+    (
+        Failing {
+            write: 2,
+            ..NOTHING_FAILS
+        },
+        Status::CannotWrite,
+        "engine ea\nrefused occupied\n",
+    ),
+    (
+        Failing {
+            write: 3,
+            ..NOTHING_FAILS
+        },
+        Status::CannotWrite,
+        "engine ea\nrefused occupied\nplayed spend\n",
+    ),
+    (
+        Failing {
+            write: 4,
+            ..NOTHING_FAILS
+        },
+        Status::CannotWrite,
+        "engine ea\nrefused occupied\nplayed spend\nengine spend\n",
+    ),
+    (
+        Failing {
+            read: 0,
+            ..NOTHING_FAILS
+        },
+        Status::CannotRead,
+        "engine ea\nfault cannot read\n",
+    ),
+    (
+        Failing {
+            read: 1,
+            ..NOTHING_FAILS
+        },
+        Status::CannotRead,
+        "engine ea\nrefused occupied\nfault cannot read\n",
+    ),
+    (
+        Failing {
+            read: 2,
+            ..NOTHING_FAILS
+        },
+        Status::CannotRead,
+        "engine ea\nrefused occupied\nplayed spend\nengine spend\nfault cannot read\n",
+    ),
+];
 
 #[test]
 fn a_session_is_written_turn_by_turn(rt: HostRuntime) -> Result<(), Fail> {
     let alloc = rt.alloc();
-    let writes = [
-        "",
-        "engine ea\n",
-        "engine ea\nrefused occupied\n",
-        "engine ea\nrefused occupied\nplayed spend\n",
-        "engine ea\nrefused occupied\nplayed spend\nengine spend\n",
-    ];
-    for (write, text) in (0_u64..).zip(writes) {
-        let failing = Failing {
-            write,
-            ..NOTHING_FAILS
-        };
-        let (status, written) = outcome(alloc, &["play", "c"], b"ea\nspend\n", 500, failing)?;
-        assert_eq!(rt; written.as_slice(), text.as_bytes());
-        assert_eq!(rt; status, Status::CannotWrite);
-    }
-    let reads = [
-        "engine ea\nfault cannot read\n",
-        "engine ea\nrefused occupied\nfault cannot read\n",
-        "engine ea\nrefused occupied\nplayed spend\nengine spend\nfault cannot read\n",
-    ];
-    for (read, text) in (0_u64..).zip(reads) {
-        let failing = Failing {
-            read,
-            ..NOTHING_FAILS
-        };
-        let (status, written) = outcome(alloc, &["play", "c"], b"ea\nspend\n", 500, failing)?;
-        assert_eq!(rt; written.as_slice(), text.as_bytes());
-        assert_eq!(rt; status, Status::CannotRead);
+    for (failing, status, text) in CUT_GAMES {
+        let (file, text) = (b"ea\nspend\n", text.as_bytes());
+        assert!(rt; is_right(alloc, "play~c", file, 500, failing, status, text)?);
     }
     Ok(())
+}
+
+/// Words outside the grammar.
+const FAULTY_WORDS: [&str; 12] = [
+    "",
+    "solve",
+    "solve~c~--komi",
+    "solve~c~--komi~0.25",
+    "solve~c~--parts~0",
+    "solve~c~--turn~red",
+    "solve~c~--turn~black~--turn~white",
+    "solve~c~--as~black",
+    "safe~c~--parts~5",
+    "play~-",
+    "trial~x",
+    "mend~c",
+];
+
+/// Whether the words are refused, and nothing is written where the first write fails.
+fn are_refused(alloc: Global, words: &str) -> Result<bool, AllocError> {
+    let (cannot_write, usage) = (Status::CannotWrite, Status::Usage);
+    Ok(
+        is_right(alloc, words, b"", 500, NO_WRITE_FIRST, cannot_write, b"")?
+            && is_right(
+                alloc,
+                words,
+                b"",
+                500,
+                NOTHING_FAILS,
+                usage,
+                b"fault usage\n",
+            )?,
+    )
 }
 
 #[test]
 fn faulty_words_on_a_failing_sink_write_nothing(rt: HostRuntime) -> Result<(), Fail> {
-    let alloc = rt.alloc();
-    let rows: [&[&str]; 12] = [
-        &[],
-        &["solve"],
-        &["solve", "c", "--komi"],
-        &["solve", "c", "--komi", "0.25"],
-        &["solve", "c", "--parts", "0"],
-        &["solve", "c", "--turn", "red"],
-        &["solve", "c", "--turn", "black", "--turn", "white"],
-        &["solve", "c", "--as", "black"],
-        &["safe", "c", "--parts", "5"],
-        &["play", "-"],
-        &["trial", "x"],
-        &["mend", "c"],
-    ];
-    for words in rows {
-        let (status, written) = outcome(alloc, words, b"", 500, NO_WRITE_FIRST)?;
-        assert_eq!(rt; written.as_slice(), b"".as_slice());
-        assert_eq!(rt; status, Status::CannotWrite);
-        let (status, written) = outcome(alloc, words, b"", 500, NOTHING_FAILS)?;
-        assert_eq!(rt; written.as_slice(), b"fault usage\n".as_slice());
-        assert_eq!(rt; status, Status::Usage);
+    for words in FAULTY_WORDS {
+        assert!(rt; are_refused(rt.alloc(), words)?, "{words}");
     }
     Ok(())
 }
 
+/// Whether the file is no tree or cut short after so many bytes.
+fn is_cut_short(alloc: Global, file: &[u8]) -> Result<bool, AllocError> {
+    // The tree begins with the two bytes behind the first line.
+    let (fault, text) = if file.len() < 20 {
+        (TreeFault::NoTree, "fault file no tree\n")
+    } else {
+        (TreeFault::CutShort, "fault file cut short\n")
+    };
+    let status = Status::BadFile(FileFault::Tree(fault));
+    is_right(
+        alloc,
+        "solve~-",
+        file,
+        500,
+        NOTHING_FAILS,
+        status,
+        text.as_bytes(),
+    )
+}
+
 #[test]
 fn a_file_that_is_cut_is_told(rt: HostRuntime) -> Result<(), Fail> {
-    let alloc = rt.alloc();
-    // The tree begins with the two bytes behind the first line.
     for len in 0..COPY.len() {
-        let (fault, text) = if len < 20 {
-            (TreeFault::NoTree, "fault file no tree\n")
-        } else {
-            (TreeFault::CutShort, "fault file cut short\n")
-        };
-        let (status, written) = outcome(alloc, &["solve", "-"], &COPY[..len], 500, NOTHING_FAILS)?;
-        assert_eq!(rt; written.as_slice(), text.as_bytes());
-        assert_eq!(rt; status, Status::BadFile(FileFault::Tree(fault)));
+        assert!(rt; is_cut_short(rt.alloc(), &COPY[..len])?, "{len}");
     }
     Ok(())
 }
@@ -218,29 +430,35 @@ impl Sink for Counter {
     }
 }
 
+/// How many writes a run makes, and how many lines they end.
+fn counts(alloc: Global, words: &str) -> Result<(usize, usize), AllocError> {
+    let words = words_between(alloc, words)?;
+    let mut shelf = shelf(alloc, u64::MAX)?;
+    let mut source = MemorySource::new(b"ea\nspend\n".to_vec(alloc)?, 7, Vec::new(alloc));
+    let mut out = Counter {
+        writes: 0,
+        lines: 0,
+    };
+    let _status = status_of(alloc, words.as_slice(), &mut shelf, &mut source, &mut out);
+    Ok((out.writes, out.lines))
+}
+
+/// Words, the number of writes and that of lines.
+const COUNTS: [(&str, usize, usize); 8] = [
+    ("trial~7", 1, 6),
+    ("solve~c", 1, 9),
+    ("safe~c", 1, 9),
+    ("values~c", 1, 8),
+    ("solve~-", 1, 1),
+    ("solve", 1, 1),
+    ("play~nowhere", 1, 1),
+    ("play~c", 5, 5),
+];
+
 #[test]
 fn a_text_and_each_line_of_a_game_are_one_write(rt: HostRuntime) -> Result<(), Fail> {
-    let alloc = rt.alloc();
-    let rows: [(&[&str], usize, usize); 8] = [
-        (&["trial", "7"], 1, 6),
-        (&["solve", "c"], 1, 9),
-        (&["safe", "c"], 1, 9),
-        (&["values", "c"], 1, 8),
-        (&["solve", "-"], 1, 1),
-        (&["solve"], 1, 1),
-        (&["play", "nowhere"], 1, 1),
-        (&["play", "c"], 5, 5),
-    ];
-    for (words, writes, lines) in rows {
-        let mut shelf = shelf(alloc, u64::MAX)?;
-        let mut source = MemorySource::new(b"ea\nspend\n".to_vec(alloc)?, 7, Vec::new(alloc));
-        let mut out = Counter {
-            writes: 0,
-            lines: 0,
-        };
-        let _status = status_of(alloc, words, &mut shelf, &mut source, &mut out);
-        assert_eq!(rt; out.writes, writes);
-        assert_eq!(rt; out.lines, lines);
+    for (words, writes, lines) in COUNTS {
+        assert!(rt; counts(rt.alloc(), words)? == (writes, lines), "{words}");
     }
     Ok(())
 }

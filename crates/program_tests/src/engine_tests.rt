@@ -92,63 +92,88 @@ fn session(
     counted::<Brand>(alloc, &mut shelf, &mut lines, &mut out, Blank::new(1))
 }
 
-#[test]
-fn answers_lines(rt: HostRuntime) -> Result<(), Fail> {
-    let alloc = rt.alloc();
-    let rows: [(&[u8], GtpEnd, &[u8]); 4] = [
-        (
-            b"1 protocol_version\nloadsgf c\ngenmove b\nplay w e2\nplay b pass\nplay w pass\ngenmove b\ngenmove w\n\
+/// Lines, the end of the session and what is written.
+const SESSIONS: [(&[u8], GtpEnd, &[u8]); 4] = [
+    (
+        b"1 protocol_version\nloadsgf c\ngenmove b\nplay w e2\nplay b pass\nplay w pass\ngenmove b\ngenmove w\n\
             genmove b\ngenmove b\ngenmove w\nquit\nname\n",
-            GtpEnd::Quit,
-            b"=1 2\n\n= \n\n= E2\n\n? illegal move\n\n? not in turn\n\n= \n\n= pass\n\n= pass\n\n= pass\n\n? not in turn\n\n\
+        GtpEnd::Quit,
+        b"=1 2\n\n= \n\n= E2\n\n? illegal move\n\n? not in turn\n\n= \n\n= pass\n\n= pass\n\n= pass\n\n? not in turn\n\n\
             = resign\n\n= \n\n",
-        ),
-        (
-            b"genmove b\nboardsize 26\nloadsgf e\nfrob\nkomi\nknown_command half",
-            GtpEnd::InputEnded,
-            b"? cannot solve\n\n? unacceptable size\n\n? cannot load file\n\n? unknown command\n\n? syntax error\n\n= false\n\n",
-        ),
-        (
-            b"known_command\nboardsize\nkomi\nplay\nplay b\ngenmove\nloadsgf\nprotocol_version x\nname x\nversion x\n\
+    ),
+    (
+        b"genmove b\nboardsize 26\nloadsgf e\nfrob\nkomi\nknown_command half",
+        GtpEnd::InputEnded,
+        b"? cannot solve\n\n? unacceptable size\n\n? cannot load file\n\n? unknown command\n\n? syntax error\n\n= false\n\n",
+    ),
+    (
+        b"known_command\nboardsize\nkomi\nplay\nplay b\ngenmove\nloadsgf\nprotocol_version x\nname x\nversion x\n\
             known_command a b\nlist_commands x\nboardsize 9 9\nclear_board x\nkomi 1 2\nplay b a1 a1\ngenmove b b\n\
             loadsgf c 1 1\nquit x\nboardsize x\nkomi x\nplay x a1\nplay b i1\nplay b a01\nplay b a26\ngenmove x\n\
             loadsgf c x\nloadsgf c 0\n",
-            GtpEnd::InputEnded,
-            b"? syntax error\n\n? syntax error\n\n? syntax error\n\n? syntax error\n\n? syntax error\n\n\
+        GtpEnd::InputEnded,
+        b"? syntax error\n\n? syntax error\n\n? syntax error\n\n? syntax error\n\n? syntax error\n\n\
             ? syntax error\n\n? syntax error\n\n? syntax error\n\n? syntax error\n\n? syntax error\n\n\
             ? syntax error\n\n? syntax error\n\n? syntax error\n\n? syntax error\n\n? syntax error\n\n\
             ? syntax error\n\n? syntax error\n\n? syntax error\n\n? syntax error\n\n? syntax error\n\n\
             ? syntax error\n\n? syntax error\n\n? syntax error\n\n? syntax error\n\n? syntax error\n\n\
             ? syntax error\n\n? syntax error\n\n? syntax error\n\n",
-        ),
-        (
-            b"loadsgf c 1000001\n\t \n# name\n7\n12345678901 name\n007\tna\x01me # x\nboardsize 00000000002\nplay b z25\nkomi .5\n\
+    ),
+    (
+        b"loadsgf c 1000001\n\t \n# name\n7\n12345678901 name\n007\tna\x01me # x\nboardsize 00000000002\nplay b z25\nkomi .5\n\
             KOMI 1\nknown_command quit\n",
-            GtpEnd::InputEnded,
-            b"? syntax error\n\n?7 unknown command\n\n? unknown command\n\n=007 gdsolve\n\n? syntax error\n\n? cannot solve\n\n\
+        GtpEnd::InputEnded,
+        b"? syntax error\n\n?7 unknown command\n\n? unknown command\n\n=007 gdsolve\n\n? syntax error\n\n? cannot solve\n\n\
             = \n\n? unknown command\n\n= true\n\n",
-        ),
-    ];
-    for piece in [1, 7, 5_000] {
-        for (text, end, wants) in rows {
-            let outcome = session(alloc, text, piece, NONE)?;
-            assert!(rt; outcome.end == end);
-            assert_eq!(rt; outcome.written.as_slice(), wants);
+    ),
+];
+
+/// Whether a session ends so and writes so.
+fn is_answered(
+    alloc: Global,
+    text: &[u8],
+    piece: usize,
+    failing: Failing,
+    end: GtpEnd,
+    wants: &[u8],
+) -> Result<bool, AllocError>
+    requires { 1 ≤ piece }
+{
+    let outcome = session(alloc, text, piece, failing)?;
+    Ok(outcome.end == end && outcome.written.as_slice() == wants)
+}
+
+/// The first row that isn't answered so where the lines come in pieces of a size.
+fn first_wrong(alloc: Global, piece: usize) -> Result<Option<usize>, AllocError>
+    requires { 1 ≤ piece }
+{
+    for (at, (text, end, wants)) in SESSIONS.iter().enumerate() {
+        if !is_answered(alloc, text, piece, NONE, *end, wants)? {
+            return Ok(Some(at));
         }
+    }
+    Ok(None)
+}
+
+#[test]
+fn answers_lines(rt: HostRuntime) -> Result<(), Fail> {
+    for piece in [1, 7, 5_000] {
+        assert_eq!(rt; first_wrong(rt.alloc(), piece)?, None, "{piece}");
     }
     Ok(())
 }
 
+/// One call that fails, and the end.
+const FAULTS: [(Failing, GtpEnd); 2] = [
+    (Failing { read: 1, ..NONE }, GtpEnd::ReadFault),
+    (Failing { write: 1, ..NONE }, GtpEnd::WriteFault),
+];
+
 #[test]
 fn ends_at_faults(rt: HostRuntime) -> Result<(), Fail> {
-    let alloc = rt.alloc();
-    let read = Failing { read: 1, ..NONE };
-    let write = Failing { write: 1, ..NONE };
-    let rows: [(Failing, GtpEnd); 2] = [(read, GtpEnd::ReadFault), (write, GtpEnd::WriteFault)];
-    for (failing, end) in rows {
-        let outcome = session(alloc, b"name\nname\n", 5, failing)?;
-        assert!(rt; outcome.end == end);
-        assert!(rt; outcome.written.as_slice() == b"= gdsolve\n\n".as_slice());
+    for (failing, end) in FAULTS {
+        let wants = b"= gdsolve\n\n";
+        assert!(rt; is_answered(rt.alloc(), b"name\nname\n", 5, failing, end, wants)?);
     }
     Ok(())
 }
@@ -167,16 +192,17 @@ fn notes_failed_loads(rt: HostRuntime) -> Result<(), Fail> {
     Ok(())
 }
 
+/// Whether a session over so many empty lines ends so and writes nothing.
+fn is_silent(alloc: Global, count: usize, end: GtpEnd) -> Result<bool, AllocError> {
+    let text = vec![in alloc; b'\n'; count]?;
+    is_answered(alloc, text.as_slice(), 4_096, NONE, end, b"")
+}
+
 #[test]
 fn ends_after_ten_thousand_lines(rt: HostRuntime) -> Result<(), Fail> {
     let alloc = rt.alloc();
-    let rows: [(usize, GtpEnd); 2] = [(9_999, GtpEnd::InputEnded), (10_000, GtpEnd::TooManyLines)];
-    for (count, end) in rows {
-        let text = vec![in alloc; b'\n'; count]?;
-        let outcome = session(alloc, text.as_slice(), 4_096, NONE)?;
-        assert!(rt; outcome.end == end);
-        assert!(rt; outcome.written.is_empty());
-    }
+    assert!(rt; is_silent(alloc, 9_999, GtpEnd::InputEnded)?);
+    assert!(rt; is_silent(alloc, 10_000, GtpEnd::TooManyLines)?);
     Ok(())
 }
 
@@ -205,37 +231,61 @@ fn add_answer(
     Ok(())
 }
 
+/// The columns and the rows of the points that the opponent tries.
+const COLUMNS: [&[u8]; 10] = [b"a", b"b", b"c", b"d", b"e", b"f", b"g", b"h", b"j", b"k"];
+
+const NUMBERS: [&[u8]; 5] = [b"1", b"2", b"3", b"4", b"5"];
+
+/// Adds the lines with each move of the opponent's behind them that the engine takes.
+fn add_answers(
+    alloc: Global,
+    turn: &[u8],
+    play: &[u8],
+    open: &mut Vec<Vec<u8>>,
+) -> Result<(), AllocError> {
+    for number in NUMBERS {
+        for column in COLUMNS {
+            add_answer(alloc, turn, &[play, column, number], open)?;
+        }
+    }
+    add_answer(alloc, turn, &[play, b"pass"], open)?;
+    add_answer(alloc, turn, &[play, b"half"], open)
+}
+
+/// How many games are played to their end where the engine plays by one word and the opponent by another, or nothing
+/// where the engine once resigns or a game is left.
+fn games_won(
+    alloc: Global,
+    load: &[u8],
+    generate: &[u8],
+    play: &[u8],
+) -> Result<Option<usize>, AllocError> {
+    let mut open = vec![in alloc; load.to_vec(alloc)?]?;
+    let mut games = 0_usize;
+    for _ in 0..100 {
+        let Some(lines) = open.pop() else {
+            return Ok(Some(games));
+        };
+        let turn = with_line(alloc, &lines, &[generate])?;
+        let won = session(alloc, &turn, 500, NONE)?;
+        if won.written.ends_with(b"resign\n\n") {
+            return Ok(None);
+        }
+        let before = open.len();
+        add_answers(alloc, &turn, play, &mut open)?;
+        if open.len() == before {
+            games = games.saturating_add(1);
+        }
+    }
+    Ok(None)
+}
+
 #[test]
 fn wins_against_every_line(rt: HostRuntime) -> Result<(), Fail> {
     let alloc = rt.alloc();
-    let rows: [(&[u8], &[u8], &[u8]); 2] = [
-        (b"loadsgf corridor\n", b"genmove w", b"play b "),
-        (b"loadsgf atari\n", b"genmove b", b"play w "),
-    ];
-    let columns: [&[u8]; 10] = [b"a", b"b", b"c", b"d", b"e", b"f", b"g", b"h", b"j", b"k"];
-    let numbers: [&[u8]; 5] = [b"1", b"2", b"3", b"4", b"5"];
-    for (load, generate, play) in rows {
-        let mut open = vec![in alloc; load.to_vec(alloc)?]?;
-        let mut games = 0_usize;
-        for _ in 0..100 {
-            let Some(lines) = open.pop() else { break };
-            let turn = with_line(alloc, &lines, &[generate])?;
-            let won = session(alloc, &turn, 500, NONE)?;
-            assert!(rt; !won.written.ends_with(b"resign\n\n"));
-            let before = open.len();
-            for number in numbers {
-                for column in columns {
-                    add_answer(alloc, &turn, &[play, column, number], &mut open)?;
-                }
-            }
-            add_answer(alloc, &turn, &[play, b"pass"], &mut open)?;
-            add_answer(alloc, &turn, &[play, b"half"], &mut open)?;
-            if open.len() == before {
-                games = games.saturating_add(1);
-            }
-        }
-        assert!(rt; open.is_empty());
-        assert_eq!(rt; games, 4);
-    }
+    let corridor = games_won(alloc, b"loadsgf corridor\n", b"genmove w", b"play b ")?;
+    assert_eq!(rt; corridor, Some(4));
+    let atari = games_won(alloc, b"loadsgf atari\n", b"genmove b", b"play w ")?;
+    assert_eq!(rt; atari, Some(4));
     Ok(())
 }

@@ -1,4 +1,4 @@
-//! Tests of words, solved games, sessions and whole runs of the program. No program uses them.
+//! Tests of solved games, sessions and whole runs of the program. No program uses them.
 #![tactic(auto)]
 
 #[cfg(test)]
@@ -9,8 +9,6 @@ mod device_tests;
 mod engine_tests;
 #[cfg(test)]
 mod gtp_tests;
-#[cfg(test)]
-mod outside_tests;
 #[cfg(test)]
 mod plain_solved_tests;
 #[cfg(test)]
@@ -29,5 +27,3 @@ mod source_tests;
 mod tax_tests;
 #[cfg(test)]
 mod values_tests;
-#[cfg(test)]
-mod word_tests;

@@ -78,12 +78,14 @@ fn agrees<L: Ledger>(alloc: Global, blank: Blank, game: Game) -> Result<bool, So
     )
 }
 
+/// Games with few moves.
+const GAMES: [Game; 6] = [
+    ONE_OPEN, TWO_OPEN, TWO_APART, CORRIDOR, WITH_STONE, ONE_POINT,
+];
+
 #[test]
 fn plain_recursion(rt: HostRuntime) -> Result<(), SolveError> {
-    let games = [
-        ONE_OPEN, TWO_OPEN, TWO_APART, CORRIDOR, WITH_STONE, ONE_POINT,
-    ];
-    for (at, game) in games.into_iter().enumerate() {
+    for (at, game) in GAMES.into_iter().enumerate() {
         for komi in [-3, -1, 0, 1, 2] {
             for side in [Colour::Black, Colour::White] {
                 let game = Game { komi, side, ..game };

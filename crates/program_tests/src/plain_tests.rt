@@ -2,7 +2,7 @@
 
 ghost use Rattle.std.specs.Prelude.{◌≡◌, ◌^◌, ◌<◌, true};
 
-use crate::run_tests::{CAPTIVE, NOTHING_FAILS, TIE, TWO_POINTS, VISITED, outcome};
+use crate::run_tests::{CAPTIVE, NOTHING_FAILS, TIE, TWO_POINTS, VISITED, outcome_in_pieces};
 use go_grid::Colour;
 use sgf_go::position;
 use std::alloc::Global;
@@ -65,7 +65,14 @@ fn the_winner_is_that_of_plain_recursion(rt: HostRuntime) -> Result<(), Fail> {
             for komi in ["0", "0.5", "-0.5", "1", "-1.5", "2.5"] {
                 let words = ["solve", "-", "--turn", side, "--komi", komi];
                 let line = line_of(plain(alloc, &words, file)?);
-                let (_status, written) = outcome(alloc, &words, file, 200, NOTHING_FAILS)?;
+                let (_status, written) = outcome_in_pieces(
+                    alloc,
+                    &words,
+                    file,
+                    7,
+                    200,
+                    NOTHING_FAILS,
+                )?;
                 let mut places = written.as_slice().windows(line.len().max(1));
                 assert!(rt; places.any(|place| place == line), "{side} {komi}");
             }

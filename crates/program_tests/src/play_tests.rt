@@ -1,6 +1,10 @@
 //! Games over lines in memory.
 
-use crate::run_tests::{Failing, NOTHING_FAILS, outcome, outcome_in_pieces};
+ghost use Rattle.std.specs.Prelude.{◌≤◌};
+
+use crate::run_tests::{
+    Failing, FailingRow, NOTHING_FAILS, first_failing_wrong, is_right, is_right_in_pieces, outcome,
+};
 use endgame_run::Status;
 use std::alloc::{AllocError, Global};
 use std::test::Fail;
@@ -14,123 +18,127 @@ const GAME: &str =
 
 const UNFINISHED: &str = "engine ea\nrefused occupied\nplayed spend\nengine spend\ninput ended\n";
 
-const AS_BLACK: &[&str] = &["play", "c", "--as", "black"];
+const AS_BLACK: &str = "play~c~--as~black";
 
 const READ_FAILS: Failing = Failing {
     read: 0,
     ..NOTHING_FAILS
 };
 
+const NO_SECOND_READ: Failing = Failing {
+    read: 1,
+    ..NOTHING_FAILS
+};
+
+const NO_SECOND_WRITE: Failing = Failing {
+    write: 1,
+    ..NOTHING_FAILS
+};
+
+/// Games over the lines of the source.
+const GAMES: [FailingRow; 9] = [
+    (
+        AS_BLACK,
+        b"spend\nspend\n",
+        500,
+        NO_SECOND_READ,
+        Status::CannotRead,
+        "engine ea\nplayed spend\nengine spend\nfault cannot read\n",
+    ),
+    (AS_BLACK, LINES, 500, NOTHING_FAILS, Status::Done, GAME),
+    ("play~c", LINES, 500, NOTHING_FAILS, Status::Done, GAME),
+    (
+        AS_BLACK,
+        b"ea\nspend\n",
+        500,
+        NOTHING_FAILS,
+        Status::Done,
+        UNFINISHED,
+    ),
+    (
+        AS_BLACK,
+        LINES,
+        500,
+        READ_FAILS,
+        Status::CannotRead,
+        "engine ea\nfault cannot read\n",
+    ),
+    (
+        AS_BLACK,
+        LINES,
+        500,
+        NO_SECOND_WRITE,
+        Status::CannotWrite,
+        "engine ea\n",
+    ),
+    (
+        AS_BLACK,
+        LINES,
+        16,
+        READ_FAILS,
+        Status::CannotWrite,
+        "engine ea\nfault ",
+    ),
+    (
+        "play~b~--positions~8",
+        LINES,
+        500,
+        NOTHING_FAILS,
+        Status::RegionLimit,
+        "fault region ea positions over 8\n",
+    ),
+    (
+        "play~c~--as~white~--turn~black",
+        b"ea\nspend\n",
+        500,
+        NOTHING_FAILS,
+        Status::Done,
+        "played ea\nengine spend\nplayed spend\nengine spend\ninput ended\n",
+    ),
+];
+
 #[test]
 fn plays_over_the_lines(rt: HostRuntime) -> Result<(), Fail> {
-    let alloc = rt.alloc();
-    let second_write = Failing {
-        write: 1,
-        ..NOTHING_FAILS
-    };
-    let second_read = Failing {
-        read: 1,
-        ..NOTHING_FAILS
-    };
-    let rows: [(&[&str], &[u8], usize, Failing, Status, &str); 9] = [
-        (
-            AS_BLACK,
-            b"spend\nspend\n",
-            500,
-            second_read,
-            Status::CannotRead,
-            "engine ea\nplayed spend\nengine spend\nfault cannot read\n",
-        ),
-        (AS_BLACK, LINES, 500, NOTHING_FAILS, Status::Done, GAME),
-        (
-            &["play", "c"],
-            LINES,
-            500,
-            NOTHING_FAILS,
-            Status::Done,
-            GAME,
-        ),
-        (
-            AS_BLACK,
-            b"ea\nspend\n",
-            500,
-            NOTHING_FAILS,
-            Status::Done,
-            UNFINISHED,
-        ),
-        (
-            AS_BLACK,
-            LINES,
-            500,
-            READ_FAILS,
-            Status::CannotRead,
-            "engine ea\nfault cannot read\n",
-        ),
-        (
-            AS_BLACK,
-            LINES,
-            500,
-            second_write,
-            Status::CannotWrite,
-            "engine ea\n",
-        ),
-        (
-            AS_BLACK,
-            LINES,
-            16,
-            READ_FAILS,
-            Status::CannotWrite,
-            "engine ea\nfault ",
-        ),
-        (
-            &["play", "b", "--positions", "8"],
-            LINES,
-            500,
-            NOTHING_FAILS,
-            Status::RegionLimit,
-            "fault region ea positions over 8\n",
-        ),
-        (
-            &["play", "c", "--as", "white", "--turn", "black"],
-            b"ea\nspend\n",
-            500,
-            NOTHING_FAILS,
-            Status::Done,
-            "played ea\nengine spend\nplayed spend\nengine spend\ninput ended\n",
-        ),
-    ];
-    for (words, lines, room, failing, status, text) in rows {
-        let (got, written) = outcome(alloc, words, lines, room, failing)?;
-        assert_eq!(rt; written.as_slice(), text.as_bytes());
-        assert_eq!(rt; got, status);
-    }
+    assert_eq!(rt; first_failing_wrong(rt.alloc(), &GAMES)?, None);
     Ok(())
+}
+
+/// Lines, and the text of the game over them.
+const LINES_IN_PIECES: [(&[u8], &str); 2] = [
+    (LINES, GAME),
+    (
+        b"\x0b spend\t\r\n\nSpend\nspend half\n  spend",
+        "engine ea\nplayed spend\nengine spend\nrefused line\nrefused line\nrefused line\n\
+        played spend\nengine spend\nwinner black\n",
+    ),
+];
+
+/// Whether the lines in pieces of a size give the texts.
+fn are_taken(alloc: Global, piece: usize) -> Result<bool, AllocError>
+    requires { 1 ≤ piece }
+{
+    for (lines, text) in LINES_IN_PIECES {
+        let text = text.as_bytes();
+        if !is_right_in_pieces(
+            alloc,
+            AS_BLACK,
+            lines,
+            piece,
+            500,
+            NOTHING_FAILS,
+            Status::Done,
+            text,
+        )? {
+            return Ok(false);
+        }
+    }
+    Ok(true)
 }
 
 #[test]
 fn takes_lines_in_pieces(rt: HostRuntime) -> Result<(), Fail> {
-    let alloc = rt.alloc();
-    let rows: [(&[u8], &str); 2] = [
-        (LINES, GAME),
-        (
-            b"\x0b spend\t\r\n\nSpend\nspend half\n  spend",
-            "engine ea\nplayed spend\nengine spend\nrefused line\nrefused line\nrefused line\n\
-            played spend\nengine spend\nwinner black\n",
-        ),
-    ];
     for piece in [1, 2, 100, 1000] {
-        for (lines, text) in rows {
-            let (got, written) = outcome_in_pieces(
-                alloc,
-                AS_BLACK,
-                lines,
-                piece,
-                500,
-                NOTHING_FAILS,
-            )?;
-            assert_eq!(rt; written.as_slice(), text.as_bytes());
-            assert_eq!(rt; got, Status::Done);
-        }
+        assert!(rt; are_taken(rt.alloc(), piece)?, "{piece}");
     }
     Ok(())
 }
@@ -144,28 +152,31 @@ pub(crate) fn repeated(alloc: Global, text: &[u8], count: usize) -> Result<Vec<u
     Ok(bytes)
 }
 
+const CUT: &str = "engine ea\nplayed spend\nengine spend\nrefused line\ninput ended\n";
+
+/// Whether `spend` with so many blanks behind it gives the text.
+fn is_cut_so(alloc: Global, blanks: usize, text: &str) -> Result<bool, AllocError> {
+    let mut lines = b"spend".to_vec(alloc)?;
+    lines.extend_from_slice(&repeated(alloc, b" ", blanks)?)?;
+    lines.extend_from_slice(b"\n")?;
+    is_right(
+        alloc,
+        AS_BLACK,
+        &lines,
+        500,
+        NOTHING_FAILS,
+        Status::Done,
+        text.as_bytes(),
+    )
+}
+
 #[test]
 fn a_line_is_cut_after_256_bytes(rt: HostRuntime) -> Result<(), Fail> {
     let alloc = rt.alloc();
     // What is left of a line that was cut is a line of its own.
-    let rows = [
-        (250, "engine ea\nplayed spend\nengine spend\ninput ended\n"),
-        (
-            251,
-            "engine ea\nplayed spend\nengine spend\nrefused line\ninput ended\n",
-        ),
-        (
-            252,
-            "engine ea\nplayed spend\nengine spend\nrefused line\ninput ended\n",
-        ),
-    ];
-    for (blanks, text) in rows {
-        let mut lines = b"spend".to_vec(alloc)?;
-        lines.extend_from_slice(&repeated(alloc, b" ", blanks)?)?;
-        lines.extend_from_slice(b"\n")?;
-        let (status, written) = outcome(alloc, AS_BLACK, &lines, 500, NOTHING_FAILS)?;
-        assert_eq!(rt; written.as_slice(), text.as_bytes());
-        assert_eq!(rt; status, Status::Done);
+    let whole = "engine ea\nplayed spend\nengine spend\ninput ended\n";
+    for (blanks, text) in [(250, whole), (251, CUT), (252, CUT)] {
+        assert!(rt; is_cut_so(alloc, blanks, text)?, "{blanks}");
     }
     Ok(())
 }
@@ -177,9 +188,18 @@ fn reads_ten_thousand_lines(rt: HostRuntime) -> Result<(), Fail> {
     let mut text = b"engine ea\n".to_vec(alloc)?;
     text.extend_from_slice(&repeated(alloc, b"refused line\n", 10_000)?)?;
     text.extend_from_slice(b"fault lines\n")?;
-    let (status, written) = outcome(alloc, AS_BLACK, &lines, 200_000, NOTHING_FAILS)?;
-    assert_eq!(rt; written.as_slice(), text.as_slice());
-    assert_eq!(rt; status, Status::TooManyLines);
+    let status = Status::TooManyLines;
+    assert!(rt;
+        is_right(
+            alloc,
+            AS_BLACK,
+            &lines,
+            200_000,
+            NOTHING_FAILS,
+            status,
+            &text
+        )?
+    );
     assert_eq!(rt; status.code(), 9);
     Ok(())
 }
@@ -221,11 +241,7 @@ fn has_line(text: &[u8], beginning: &[u8]) -> bool {
 #[test]
 fn an_engine_that_wins_never_loses(rt: HostRuntime) -> Result<(), Fail> {
     let alloc = rt.alloc();
-    let boards: [&[&str]; 2] = [
-        &["play", "f"],
-        &["play", "d", "--turn", "white", "--as", "black"],
-    ];
-    for words in boards {
+    for words in ["play~f", "play~d~--turn~white~--as~black"] {
         let mut tries = Vec::new(alloc);
         let mut games = 0_u32;
         for _ in 0..5000 {

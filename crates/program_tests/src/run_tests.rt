@@ -126,18 +126,25 @@ pub(crate) const NOTHING_FAILS: Failing = Failing {
     write: NEVER,
 };
 
+/// The files of the tests by their names on the shelf.
+const FILES: [(&str, &[u8]); 9] = [
+    ("a", TIE),
+    ("b", TWO_POINTS),
+    ("c", ONE_POINT),
+    ("d", CORRIDOR),
+    ("e", ENDLESS),
+    ("f", LONG_CORRIDOR),
+    ("visited", VISITED),
+    ("g", CAPTIVE),
+    ("saved", SAVED),
+];
+
 /// A shelf with the files of the tests.
 pub(crate) fn shelf(alloc: Global, failing: u64) -> Result<MemoryShelf, AllocError> {
     let mut shelf = MemoryShelf::new(alloc);
-    shelf.add("a", TIE.to_vec(alloc)?)?;
-    shelf.add("b", TWO_POINTS.to_vec(alloc)?)?;
-    shelf.add("c", ONE_POINT.to_vec(alloc)?)?;
-    shelf.add("d", CORRIDOR.to_vec(alloc)?)?;
-    shelf.add("e", ENDLESS.to_vec(alloc)?)?;
-    shelf.add("f", LONG_CORRIDOR.to_vec(alloc)?)?;
-    shelf.add("visited", VISITED.to_vec(alloc)?)?;
-    shelf.add("g", CAPTIVE.to_vec(alloc)?)?;
-    shelf.add("saved", SAVED.to_vec(alloc)?)?;
+    for (name, file) in FILES {
+        shelf.add(name, file.to_vec(alloc)?)?;
+    }
     shelf.fail_at(failing)?;
     Ok(shelf)
 }
@@ -187,125 +194,230 @@ pub(crate) fn outcome_in_pieces(
     Ok((status, out.written().to_vec(alloc)?))
 }
 
-/// The same in pieces of seven bytes.
+/// The same in pieces of seven bytes, for the words between tildes.
 pub(crate) fn outcome(
     alloc: Global,
-    words: &[&str],
+    words: &str,
     file: &[u8],
     room: usize,
     failing: Failing,
 ) -> Result<(Status, Vec<u8>), AllocError> {
-    outcome_in_pieces(alloc, words, file, 7, room, failing)
+    let words = words_between(alloc, words)?;
+    outcome_in_pieces(alloc, words.as_slice(), file, 7, room, failing)
 }
+
+/// The words between the tildes of a text. An empty text has none.
+pub(crate) fn words_between(alloc: Global, text: &str) -> Result<Vec<&str>, AllocError> {
+    let mut words = Vec::new(alloc);
+    if text.is_empty() {
+        return Ok(words);
+    }
+    for word in text.split('~') {
+        words.push(word)?;
+    }
+    Ok(words)
+}
+
+/// Whether a run over a source in pieces of a size ends with the status and writes the text.
+pub(crate) fn is_right_in_pieces(
+    alloc: Global,
+    words: &str,
+    file: &[u8],
+    piece: usize,
+    room: usize,
+    failing: Failing,
+    status: Status,
+    text: &[u8],
+) -> Result<bool, AllocError>
+    requires { 1 ≤ piece }
+{
+    let words = words_between(alloc, words)?;
+    let (got, written) = outcome_in_pieces(alloc, words.as_slice(), file, piece, room, failing)?;
+    Ok(got == status && written.as_slice() == text)
+}
+
+/// The same in pieces of seven bytes.
+pub(crate) fn is_right(
+    alloc: Global,
+    words: &str,
+    file: &[u8],
+    room: usize,
+    failing: Failing,
+    status: Status,
+    text: &[u8],
+) -> Result<bool, AllocError> {
+    is_right_in_pieces(alloc, words, file, 7, room, failing, status, text)
+}
+
+/// The words of a run, the file of the source, the status and what is written.
+pub(crate) type Row = (&'static str, &'static [u8], Status, &'static str);
+
+/// The first row that a run doesn't answer so.
+pub(crate) fn first_wrong(alloc: Global, rows: &[Row]) -> Result<Option<usize>, AllocError> {
+    for (at, (words, file, status, text)) in rows.iter().enumerate() {
+        if !is_right(
+            alloc,
+            words,
+            file,
+            500,
+            NOTHING_FAILS,
+            *status,
+            text.as_bytes(),
+        )? {
+            return Ok(Some(at));
+        }
+    }
+    Ok(None)
+}
+
+/// A row with the room of the sink and the calls that fail.
+pub(crate) type FailingRow = (
+    &'static str,
+    &'static [u8],
+    usize,
+    Failing,
+    Status,
+    &'static str,
+);
+
+/// The first row that a run doesn't answer so.
+pub(crate) fn first_failing_wrong(
+    alloc: Global,
+    rows: &[FailingRow],
+) -> Result<Option<usize>, AllocError> {
+    for (at, (words, file, room, failing, status, text)) in rows.iter().enumerate() {
+        if !is_right(
+            alloc,
+            words,
+            file,
+            *room,
+            *failing,
+            *status,
+            text.as_bytes(),
+        )? {
+            return Ok(Some(at));
+        }
+    }
+    Ok(None)
+}
+
+/// Files of the shelf.
+const SHELF_RUNS: [Row; 18] = [
+    ("solve~a", b"", Status::Done, TIE_TEXT),
+    ("solve~a~--turn~white", b"", Status::Done, WHITE_TIE_TEXT),
+    (
+        "solve~a~--turn~white~--komi~0.5",
+        b"",
+        Status::Done,
+        HALF_TEXT,
+    ),
+    (
+        "solve~a~--komi~0~--black-prisoners~1",
+        b"",
+        Status::Done,
+        PRISONER_TEXT,
+    ),
+    ("solve~g", b"", Status::Done, CAPTIVE_TEXT),
+    ("solve~saved", b"", Status::Done, HALF_TEXT),
+    (
+        "solve~saved~--komi~0~--turn~black",
+        b"",
+        Status::Done,
+        TIE_TEXT,
+    ),
+    ("solve~b", b"", Status::Done, TWO_POINTS_TEXT),
+    ("solve~b~--positions~9", b"", Status::Done, TWO_POINTS_TEXT),
+    (
+        "solve~c~--turn~white",
+        b"",
+        Status::Done,
+        WHITE_ONE_POINT_TEXT,
+    ),
+    ("solve~d", b"", Status::Done, CORRIDOR_TEXT),
+    (
+        "solve~d~--turn~white",
+        b"",
+        Status::Done,
+        WHITE_CORRIDOR_TEXT,
+    ),
+    ("solve~d~--parts~2", b"", Status::Done, CORRIDOR_TEXT),
+    ("solve~f", b"", Status::Done, LONG_CORRIDOR_TEXT),
+    ("solve~visited", b"", Status::Done, VISITED_TEXT),
+    (
+        "solve~visited~--turn~white",
+        b"",
+        Status::Done,
+        WHITE_VISITED_TEXT,
+    ),
+    ("safe~g", b"", Status::Done, CAPTIVE_SAFE),
+    ("safe~c~--turn~white", b"", Status::Done, POINT_SAFE),
+];
 
 #[test]
 fn solves_files_of_the_shelf(rt: HostRuntime) -> Result<(), Fail> {
-    let alloc = rt.alloc();
-    let rows: [(&[&str], &str); 18] = [
-        (&["solve", "a"], TIE_TEXT),
-        (&["solve", "a", "--turn", "white"], WHITE_TIE_TEXT),
-        (
-            &["solve", "a", "--turn", "white", "--komi", "0.5"],
-            HALF_TEXT,
-        ),
-        (
-            &["solve", "a", "--komi", "0", "--black-prisoners", "1"],
-            PRISONER_TEXT,
-        ),
-        (&["solve", "g"], CAPTIVE_TEXT),
-        (&["solve", "saved"], HALF_TEXT),
-        (
-            &["solve", "saved", "--komi", "0", "--turn", "black"],
-            TIE_TEXT,
-        ),
-        (&["solve", "b"], TWO_POINTS_TEXT),
-        (&["solve", "b", "--positions", "9"], TWO_POINTS_TEXT),
-        (&["solve", "c", "--turn", "white"], WHITE_ONE_POINT_TEXT),
-        (&["solve", "d"], CORRIDOR_TEXT),
-        (&["solve", "d", "--turn", "white"], WHITE_CORRIDOR_TEXT),
-        (&["solve", "d", "--parts", "2"], CORRIDOR_TEXT),
-        (&["solve", "f"], LONG_CORRIDOR_TEXT),
-        (&["solve", "visited"], VISITED_TEXT),
-        (&["solve", "visited", "--turn", "white"], WHITE_VISITED_TEXT),
-        (&["safe", "g"], CAPTIVE_SAFE),
-        (&["safe", "c", "--turn", "white"], POINT_SAFE),
-    ];
-    for (words, text) in rows {
-        let (status, written) = outcome(alloc, words, b"", 500, NOTHING_FAILS)?;
-        assert_eq!(rt; written.as_slice(), text.as_bytes());
-        assert_eq!(rt; status, Status::Done);
-    }
+    assert_eq!(rt; first_wrong(rt.alloc(), &SHELF_RUNS)?, None);
     Ok(())
 }
+
+/// Regions past the limits, and one with a cycle.
+const REGION_FAULTS: [Row; 3] = [
+    (
+        "solve~b~--positions~8",
+        b"",
+        Status::RegionLimit,
+        "fault region ea positions over 8\n",
+    ),
+    (
+        "solve~d~--parts~1",
+        b"",
+        Status::FormLimit,
+        "fault form eb\n",
+    ),
+    ("solve~e", b"", Status::Cycle, CYCLE),
+];
 
 #[test]
 fn answers_faults_of_regions(rt: HostRuntime) -> Result<(), Fail> {
-    let alloc = rt.alloc();
-    let rows: [(&[&str], Status, &str); 3] = [
-        (
-            &["solve", "b", "--positions", "8"],
-            Status::RegionLimit,
-            "fault region ea positions over 8\n",
-        ),
-        (
-            &["solve", "d", "--parts", "1"],
-            Status::FormLimit,
-            "fault form eb\n",
-        ),
-        (&["solve", "e"], Status::Cycle, CYCLE),
-    ];
-    for (words, status, text) in rows {
-        let (got, written) = outcome(alloc, words, b"", 200, NOTHING_FAILS)?;
-        assert_eq!(rt; written.as_slice(), text.as_bytes());
-        assert_eq!(rt; got, status);
-    }
+    assert_eq!(rt; first_wrong(rt.alloc(), &REGION_FAULTS)?, None);
     Ok(())
 }
 
+/// Words in and outside the grammar, with a file in the source.
+const WORDS: [Row; 15] = [
+    ("", TIE, Status::Usage, "fault usage\n"),
+    ("solve", TIE, Status::Usage, "fault usage\n"),
+    ("solve~a~--komi~0.25", TIE, Status::Usage, "fault usage\n"),
+    (
+        "solve~a~--turn~black~--turn~white",
+        TIE,
+        Status::Usage,
+        "fault usage\n",
+    ),
+    ("play~-", TIE, Status::Usage, "fault usage\n"),
+    ("mend~a", TIE, Status::Usage, "fault usage\n"),
+    (
+        "play~nowhere",
+        TIE,
+        Status::CannotRead,
+        "fault cannot read\n",
+    ),
+    ("safe~a~--parts~5", TIE, Status::Usage, "fault usage\n"),
+    ("trial~7", TIE, Status::Done, SEVEN_TEXT),
+    ("trial~0000000007", TIE, Status::Done, SEVEN_TEXT),
+    ("trial~65536", TIE, Status::Done, NO_REGION_TEXT),
+    ("trial~564787871", TIE, Status::Done, WHITE_WINS_TEXT),
+    ("trial~4294326608", TIE, Status::Done, TWO_SHAPES_TEXT),
+    ("trial~4294967296", TIE, Status::Usage, "fault usage\n"),
+    (
+        "solve~nowhere",
+        TIE,
+        Status::CannotRead,
+        "fault cannot read\n",
+    ),
+];
+
 #[test]
 fn answers_words_by_their_grammar(rt: HostRuntime) -> Result<(), Fail> {
-    let alloc = rt.alloc();
-    let rows: [(&[&str], Status, &str); 15] = [
-        (&[], Status::Usage, "fault usage\n"),
-        (&["solve"], Status::Usage, "fault usage\n"),
-        (
-            &["solve", "a", "--komi", "0.25"],
-            Status::Usage,
-            "fault usage\n",
-        ),
-        (
-            &["solve", "a", "--turn", "black", "--turn", "white"],
-            Status::Usage,
-            "fault usage\n",
-        ),
-        (&["play", "-"], Status::Usage, "fault usage\n"),
-        (&["mend", "a"], Status::Usage, "fault usage\n"),
-        (
-            &["play", "nowhere"],
-            Status::CannotRead,
-            "fault cannot read\n",
-        ),
-        (
-            &["safe", "a", "--parts", "5"],
-            Status::Usage,
-            "fault usage\n",
-        ),
-        (&["trial", "7"], Status::Done, SEVEN_TEXT),
-        (&["trial", "0000000007"], Status::Done, SEVEN_TEXT),
-        (&["trial", "65536"], Status::Done, NO_REGION_TEXT),
-        (&["trial", "564787871"], Status::Done, WHITE_WINS_TEXT),
-        (&["trial", "4294326608"], Status::Done, TWO_SHAPES_TEXT),
-        (&["trial", "4294967296"], Status::Usage, "fault usage\n"),
-        (
-            &["solve", "nowhere"],
-            Status::CannotRead,
-            "fault cannot read\n",
-        ),
-    ];
-    for (words, status, text) in rows {
-        let (got, written) = outcome(alloc, words, TIE, 200, NOTHING_FAILS)?;
-        assert_eq!(rt; written.as_slice(), text.as_bytes());
-        assert_eq!(rt; got, status);
-    }
+    assert_eq!(rt; first_wrong(rt.alloc(), &WORDS)?, None);
     Ok(())
 }

@@ -49,16 +49,18 @@ fn mover_loses<L: Ledger>(alloc: Global, blank: Blank, game: Game) -> Result<boo
     Ok(solved.winner() == game.side.other())
 }
 
+/// Games with the number of their regions and that of the shapes of these.
+const SHAPES: [(Game, usize, usize); 5] = [
+    (ONE_OPEN, 1, 1),
+    (ONE_POINT, 1, 1),
+    (TWO_APART, 2, 1),
+    (OPPOSITE, 2, 1),
+    (DIFFERENT, 2, 2),
+];
+
 #[test]
 fn numbers_of_shapes(rt: HostRuntime) -> Result<(), SolveError> {
-    let rows = [
-        (ONE_OPEN, 1, 1),
-        (ONE_POINT, 1, 1),
-        (TWO_APART, 2, 1),
-        (OPPOSITE, 2, 1),
-        (DIFFERENT, 2, 2),
-    ];
-    for (at, (game, regions, shapes)) in rows.into_iter().enumerate() {
+    for (at, (game, regions, shapes)) in SHAPES.into_iter().enumerate() {
         let same = has_shapes::<Brand>(rt.alloc(), Blank::new(1), game, regions, shapes)?;
         assert!(rt; same, "at {at}");
     }

@@ -196,20 +196,34 @@ fn is_solved<L: Ledger>(
     )
 }
 
+/// A game, the side to move, its one region (its lowest point, its points, its positions), the winner and the point of
+/// the first winning move.
+const SOLVED: [(Game, Colour, (u16, u16, u64), Colour, Option<u16>); 8] = [
+    (ONE_OPEN, Colour::Black, (4, 1, 3), Colour::Black, Some(4)),
+    (ONE_OPEN, Colour::White, (4, 1, 3), Colour::White, Some(4)),
+    (TWO_OPEN, Colour::Black, (4, 2, 9), Colour::White, None),
+    (CORRIDOR, Colour::Black, (14, 2, 8), Colour::Black, Some(15)),
+    (CORRIDOR, Colour::White, (14, 2, 8), Colour::Black, None),
+    (
+        WITH_STONE,
+        Colour::Black,
+        (14, 2, 4),
+        Colour::Black,
+        Some(15),
+    ),
+    (
+        WITH_STONE,
+        Colour::White,
+        (14, 2, 4),
+        Colour::White,
+        Some(15),
+    ),
+    (ONE_POINT, Colour::Black, (0, 1, 1), Colour::White, None),
+];
+
 #[test]
 fn games(rt: HostRuntime) -> Result<(), SolveError> {
-    let (black, white) = (Colour::Black, Colour::White);
-    let rows = [
-        (ONE_OPEN, black, (4, 1, 3), black, Some(4)),
-        (ONE_OPEN, white, (4, 1, 3), white, Some(4)),
-        (TWO_OPEN, black, (4, 2, 9), white, None),
-        (CORRIDOR, black, (14, 2, 8), black, Some(15)),
-        (CORRIDOR, white, (14, 2, 8), black, None),
-        (WITH_STONE, black, (14, 2, 4), black, Some(15)),
-        (WITH_STONE, white, (14, 2, 4), white, Some(15)),
-        (ONE_POINT, black, (0, 1, 1), white, None),
-    ];
-    for (at, (game, side, region, winner, stone)) in rows.into_iter().enumerate() {
+    for (at, (game, side, region, winner, stone)) in SOLVED.into_iter().enumerate() {
         let game = Game { side, ..game };
         let chosen = match stone {
             Some(number) => Some(Move::Stone(Point(number))),

@@ -1,6 +1,6 @@
 //! Games with a tax of two points for each group.
 
-use crate::run_tests::{NOTHING_FAILS, TIE_TEXT, outcome};
+use crate::run_tests::{Row, TIE_TEXT, first_wrong};
 use endgame_run::Status;
 use std::test::Fail;
 
@@ -30,60 +30,27 @@ const LINKED_SAFE: &str = "chain ba black stones 1 alive\nchain da black stones 
     counted aa black points 1 held 1\ncounted ca black points 1 held 1\n\
     counted ea black points 1 held 1\ngroups black 1\ngroups white 0\n";
 
+/// Positions with and without the tax.
+const TAXED: [Row; 10] = [
+    ("solve~a~--tax~no", b"", Status::Done, TIE_TEXT),
+    ("solve~a~--tax~yes", b"", Status::Done, TAXED_TEXT),
+    ("solve~g~--tax~yes", b"", Status::Done, CAPTIVE_TEXT),
+    ("solve~-", TWO_GROUPS, Status::Done, UNTAXED_TEXT),
+    ("solve~-~--tax~yes", TWO_GROUPS, Status::Done, TAXED_TEXT),
+    ("solve~-~--tax~yes", LINKED, Status::Done, LINKED_TEXT),
+    (
+        "play~c~--tax~yes",
+        b"",
+        Status::Done,
+        "engine ea\nwinner black\n",
+    ),
+    ("safe~-", LINKED, Status::Done, LINKED_SAFE),
+    ("solve~a~--tax~2", b"", Status::Usage, "fault usage\n"),
+    ("safe~a~--tax~yes", b"", Status::Usage, "fault usage\n"),
+];
+
 #[test]
 fn groups_pay_at_the_start(rt: HostRuntime) -> Result<(), Fail> {
-    let alloc = rt.alloc();
-    let rows: [(&[&str], &[u8], Status, &str); 10] = [
-        (&["solve", "a", "--tax", "no"], b"", Status::Done, TIE_TEXT),
-        (
-            &["solve", "a", "--tax", "yes"],
-            b"",
-            Status::Done,
-            TAXED_TEXT,
-        ),
-        (
-            &["solve", "g", "--tax", "yes"],
-            b"",
-            Status::Done,
-            CAPTIVE_TEXT,
-        ),
-        (&["solve", "-"], TWO_GROUPS, Status::Done, UNTAXED_TEXT),
-        (
-            &["solve", "-", "--tax", "yes"],
-            TWO_GROUPS,
-            Status::Done,
-            TAXED_TEXT,
-        ),
-        (
-            &["solve", "-", "--tax", "yes"],
-            LINKED,
-            Status::Done,
-            LINKED_TEXT,
-        ),
-        (
-            &["play", "c", "--tax", "yes"],
-            b"",
-            Status::Done,
-            "engine ea\nwinner black\n",
-        ),
-        (&["safe", "-"], LINKED, Status::Done, LINKED_SAFE),
-        (
-            &["solve", "a", "--tax", "2"],
-            b"",
-            Status::Usage,
-            "fault usage\n",
-        ),
-        (
-            &["safe", "a", "--tax", "yes"],
-            b"",
-            Status::Usage,
-            "fault usage\n",
-        ),
-    ];
-    for (words, file, status, text) in rows {
-        let (got, written) = outcome(alloc, words, file, 500, NOTHING_FAILS)?;
-        assert_eq!(rt; written.as_slice(), text.as_bytes());
-        assert_eq!(rt; got, status);
-    }
+    assert_eq!(rt; first_wrong(rt.alloc(), &TAXED)?, None);
     Ok(())
 }

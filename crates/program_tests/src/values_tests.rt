@@ -1,6 +1,6 @@
 //! The values of files.
 
-use crate::run_tests::{NOTHING_FAILS, outcome};
+use crate::run_tests::{Row, first_wrong};
 use endgame_run::Status;
 use std::test::Fail;
 
@@ -29,45 +29,42 @@ const SINGLE: &str =
     "regions 1\nregion aa points 1 positions 1\nvalue 0\nstops 0 0\nmean 0\ntemperature none\n\
     left 0:0\nright 0:0\n";
 
+/// Values of the regions of files.
+const VALUES: [Row; 10] = [
+    ("values~a", b"", Status::Done, "regions 0\n"),
+    ("values~b", b"", Status::Done, NOTHING),
+    ("values~d", b"", Status::Done, CORRIDOR),
+    (
+        "values~d~--parts~2~--turn~white",
+        b"",
+        Status::Done,
+        CORRIDOR,
+    ),
+    ("values~visited", b"", Status::Done, VISITED),
+    ("values~f", b"", Status::Done, LONG_CORRIDOR),
+    ("values~-", b"(;SZ[1])", Status::Done, SINGLE),
+    (
+        "values~b~--positions~8",
+        b"",
+        Status::RegionLimit,
+        "fault region ea positions over 8\n",
+    ),
+    (
+        "values~d~--parts~1",
+        b"",
+        Status::FormLimit,
+        "fault form eb\n",
+    ),
+    (
+        "values~e",
+        b"",
+        Status::Cycle,
+        "fault cycle eb 1 black:fb white:eb black:fb\n",
+    ),
+];
+
 #[test]
 fn values_of_files(rt: HostRuntime) -> Result<(), Fail> {
-    let alloc = rt.alloc();
-    let rows: [(&[&str], &[u8], Status, &str); 10] = [
-        (&["values", "a"], b"", Status::Done, "regions 0\n"),
-        (&["values", "b"], b"", Status::Done, NOTHING),
-        (&["values", "d"], b"", Status::Done, CORRIDOR),
-        (
-            &["values", "d", "--parts", "2", "--turn", "white"],
-            b"",
-            Status::Done,
-            CORRIDOR,
-        ),
-        (&["values", "visited"], b"", Status::Done, VISITED),
-        (&["values", "f"], b"", Status::Done, LONG_CORRIDOR),
-        (&["values", "-"], b"(;SZ[1])", Status::Done, SINGLE),
-        (
-            &["values", "b", "--positions", "8"],
-            b"",
-            Status::RegionLimit,
-            "fault region ea positions over 8\n",
-        ),
-        (
-            &["values", "d", "--parts", "1"],
-            b"",
-            Status::FormLimit,
-            "fault form eb\n",
-        ),
-        (
-            &["values", "e"],
-            b"",
-            Status::Cycle,
-            "fault cycle eb 1 black:fb white:eb black:fb\n",
-        ),
-    ];
-    for (words, file, status, text) in rows {
-        let (got, written) = outcome(alloc, words, file, 500, NOTHING_FAILS)?;
-        assert_eq!(rt; written.as_slice(), text.as_bytes());
-        assert_eq!(rt; got, status);
-    }
+    assert_eq!(rt; first_wrong(rt.alloc(), &VALUES)?, None);
     Ok(())
 }

@@ -58,7 +58,8 @@ pub(crate) fn touches_of(
     requires white { IsWithin (size.columns * size.rows) white.now }
     ensures long { IfOk result (λ ts. length ts.items ≡ length points.now) }
     ensures each { IfOk result (λ ts. (i : ℕ) → i < length points.now
-        → IsTouch size.columns points.now black.now white.now (slice_index points.now i) (touch_at ts.items i)) }
+        → IsTouch size.columns points.now black.now white.now
+        (slice_index points.now i) (touch_at ts.items i)) }
 {
     let mut found = Vec::new(alloc);
     'touching: for point in points {

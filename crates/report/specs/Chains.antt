@@ -4,7 +4,7 @@ use Rattle.go_grid.specs.declared.grid.Colour.{Colour}
 use Rattle.go_grid.specs.Chain.{InChain}
 use Rattle.go_grid.specs.Board.{Board, HasStone}
 use Rattle.benson_attack.specs.Attack.{IsAttack}
-use Rattle.benson_life.specs.Held.{IsNumberOf}
+use Rattle.benson_life.specs.Held.{HasPoints}
 use Rattle.benson_life.specs.Life.{IsAlive}
 use Rattle.report.specs.declared.chains.ChainLine.{ChainLine}
 use Rattle.go_grid.specs.Name.{point_name}
@@ -18,7 +18,7 @@ IsLowestStone g c s = HasStone g c s × ((q : ℕ) → InChain g c s q → s ≤
 -- what is said of a chain by its lowest stone: how many stones it has, and whether it is alive, with an attack where it isn't
 pub record IsChainLine (g : Board) (l : ChainLine) : Type 0 where
   pub lowest : IsLowestStone g l.colour l.lowest
-  pub stones : IsNumberOf (InChain g l.colour l.lowest) l.stones
+  pub stones : HasPoints (InChain g l.colour l.lowest) l.stones
   pub alive : (l.alive ≡ true) ↔ IsAlive g l.colour l.lowest
   pub attack : l.alive ≡ false → IsAttack g l.colour l.lowest l.attack.items
 

@@ -6,6 +6,7 @@ use Rattle.std.specs.Char.{is_ascii_digit, digit_value}
 use Rattle.std.specs.Str.Parse.{digits_value_after}
 use Rattle.sgf_go.specs.Komi.{IsKomi, unsigned, positive, negative, IsHalves, halves, IsFraction, nothing, zeros, half, AreDigits, AreZeros, digit_0, digit_5}
 use Rattle.std.specs.Float.Numeral.{dot, minus, plus}
+use Rattle.sgf_go.specs.declared.komi.TheConstants.{MOST_KOMI}
 use Rattle.sgf_go.specs.inner.Scan.{all_zeros, fraction, scan, scan_signed}
 
 some-is : {A : Type 0} {x y : A} → Some x ≡ Some y → x ≡ y
@@ -65,16 +66,16 @@ record Reads (n : ℕ) (some : Bool) (bytes : List ℕ) (h : ℕ) : Type 0 where
   more : ℕ
   same : bytes ≡ whole ++ rest
   are_digits : AreDigits whole
-  most : digits_value_after 10 n whole ≤ 999999
+  most : digits_value_after 10 n whole ≤ MOST_KOMI
   is_fraction : IsFraction rest digits more
   has_digit : HasDigit some (length whole + digits)
   value : h ≡ 2 * digits_value_after 10 n whole + more
 
-scan_out : (bs : List ℕ) (n : ℕ) (some : Bool) (h : ℕ) → n ≤ 999999 → scan n some bs ≡ Some h → Reads n some bs h
+scan_out : (bs : List ℕ) (n : ℕ) (some : Bool) (h : ℕ) → n ≤ MOST_KOMI → scan n some bs ≡ Some h → Reads n some bs h
 unfolding scan
 scan_out [] n true h l e = record { whole = []; rest = []; digits = 0; more = 0; same = refl; are_digits = tt; most = l; is_fraction = nothing; has_digit = inl refl; value = omega (arith, some-is e) }
 scan_out [] n false h l e = absurd (none-some e)
-scan_out (b ∷ bs) n some h l e = by_tests (λ m s. scan_out bs m true h s) (is_ascii_digit b) refl (nat_le (n * 10 + digit_value b) 999999) refl (b == dot) refl e
+scan_out (b ∷ bs) n some h l e = by_tests (λ m s. scan_out bs m true h s) (is_ascii_digit b) refl (nat_le (n * 10 + digit_value b) MOST_KOMI) refl (b == dot) refl e
   where
     by_fraction : (o : Option ℕ) → fraction some bs ≡ o → option_map (λ more. 2 * n + more) o ≡ Some h → b ≡ dot → Reads n some (b ∷ bs) h
     by_fraction None f g d = absurd (none-some g)
@@ -82,10 +83,10 @@ scan_out (b ∷ bs) n some h l e = by_tests (λ m s. scan_out bs m true h s) (is
         let r = fraction_out some bs m f in
         record { whole = []; rest = b ∷ bs; digits = r.0; more = m; same = refl; are_digits = tt; most = l; is_fraction = subst (λ x. IsFraction (x ∷ bs) r.0 m) (sym d) r.1; has_digit = subst (HasDigit some) (none_before r.0) r.2; value = sym (some-is g) }
 
-    by_tests : ((m : ℕ) → m ≤ 999999 → scan m true bs ≡ Some h → Reads m true bs h) → (x : Bool) → is_ascii_digit b ≡ x → (y : Bool) → nat_le (n * 10 + digit_value b) 999999 ≡ y → (z : Bool) → (b == dot) ≡ z
+    by_tests : ((m : ℕ) → m ≤ MOST_KOMI → scan m true bs ≡ Some h → Reads m true bs h) → (x : Bool) → is_ascii_digit b ≡ x → (y : Bool) → nat_le (n * 10 + digit_value b) MOST_KOMI ≡ y → (z : Bool) → (b == dot) ≡ z
         → (if x then (if y then scan (n * 10 + digit_value b) true bs else None) else (if z then option_map (λ more. 2 * n + more) (fraction some bs) else None)) ≡ Some h → Reads n some (b ∷ bs) h
     by_tests go true d true s z p f =
-        let small : n * 10 + digit_value b ≤ 999999 = grind (arith, s) in
+        let small : n * 10 + digit_value b ≤ MOST_KOMI = grind (arith, s) in
         let r = go (n * 10 + digit_value b) small f in
         record { whole = b ∷ r.whole; rest = r.rest; digits = r.digits; more = r.more; same = ap (λ x. b ∷ x) {y = r.whole ++ r.rest} r.same; are_digits = (d, r.are_digits); most = r.most; is_fraction = r.is_fraction; has_digit = inr (omega arith); value = r.value }
     by_tests go true d false s z p f = absurd (none-some f)
@@ -96,7 +97,7 @@ value_least : (n : ℕ) (bs : List ℕ) → n ≤ digits_value_after 10 n bs
 value_least n [] = omega arith
 value_least n (b ∷ bs) = let more = value_least (n * 10 + digit_value b) bs in omega (arith, more)
 
-scan_in : (whole rest : List ℕ) (n : ℕ) (some : Bool) (digits more : ℕ) → AreDigits whole → digits_value_after 10 n whole ≤ 999999 → IsFraction rest digits more → HasDigit some (length whole + digits)
+scan_in : (whole rest : List ℕ) (n : ℕ) (some : Bool) (digits more : ℕ) → AreDigits whole → digits_value_after 10 n whole ≤ MOST_KOMI → IsFraction rest digits more → HasDigit some (length whole + digits)
     → scan n some (whole ++ rest) ≡ Some (2 * digits_value_after 10 n whole + more)
 unfolding scan
 scan_in [] _ n some _ _ a l nothing (inl e) =
@@ -107,7 +108,7 @@ scan_in [] _ n some _ _ a l (zeros bytes z) h = ap (option_map (λ more. 2 * n +
 scan_in [] _ n some _ _ a l (half bytes z) h = ap (option_map (λ more. 2 * n + more)) (fraction_in some (digit_5 ∷ bytes) (length bytes + 1) 1 (subst (HasDigit some) (sym (none_before (length bytes + 1))) h) (half bytes z))
 scan_in (b ∷ bs) rest n some digits more a l f h =
     let least = value_least (n * 10 + digit_value b) bs in
-    let small : nat_le (n * 10 + digit_value b) 999999 ≡ true = grind (arith, least, l) in
+    let small : nat_le (n * 10 + digit_value b) MOST_KOMI ≡ true = grind (arith, least, l) in
     ap₂ (λ x y. if x then (if y then scan (n * 10 + digit_value b) true (bs ++ rest) else None) else (if b == dot then option_map (λ m. 2 * n + m) (fraction some (bs ++ rest)) else None)) a.0 small
     ∙ scan_in bs rest (n * 10 + digit_value b) true digits more a.1 l f (inl refl)
 

@@ -8,7 +8,7 @@ use Rattle.go_grid.specs.declared.grid.Cell.{Cell}
 use Rattle.go_grid.specs.declared.grid.Cell.TheVariants.{Empty}
 use Rattle.go_grid.specs.Board.{Board, cell_at}
 use Rattle.go_grid.specs.Chain.{IsSettled, IsFirstChoked}
-use Rattle.go_play.specs.Place.{Answers}
+use Rattle.go_play.specs.Place.{PlacesStone}
 use Rattle.go_grid.specs.Play.{is_stone}
 use Rattle.go_play.specs.declared.placements.PlaceError.{PlaceError}
 use Rattle.go_play.specs.declared.placements.PlaceError.TheVariants as place
@@ -40,7 +40,7 @@ one_set g h k In c a b = same_board h k (a.columns ∙ sym b.columns) (a.rows �
     let out : ¬ In q = λ i. differ (a.set q (omega (arith, l, a.long)) i ∙ sym (b.set q (omega (arith, l, a.long)) i)) in
     differ (a.kept q out ∙ sym (b.kept q out)))
 
-one_placing : (node : ℕ) (c : Colour) (s : Replay) (p : ℕ) (h k : Board) (x y : Result ℕ PlaceError) → Answers s.board p c h x → Answers s.board p c k y → placed node c s h x ≡ placed node c s k y
+one_placing : (node : ℕ) (c : Colour) (s : Replay) (p : ℕ) (h k : Board) (x y : Result ℕ PlaceError) → PlacesStone s.board p c h x → PlacesStone s.board p c k y → placed node c s h x ≡ placed node c s k y
 one_placing node c s p h k (Ok n) (Ok m) a b =
     let board = placed_same s.board p c h k a.0 b.0 in
     let taken : n ≡ m = omega (arith, a.1, b.1, ap (λ g. count_by is_stone g.cells) board) in

@@ -6,6 +6,7 @@ use Rattle.std.specs.Char.{is_ascii_digit, digit_value}
 use Rattle.std.proofs.lemmas.List.{drop_more, drop_all}
 use Rattle.sgf_go.specs.Komi.{digit_0}
 use Rattle.std.specs.Float.Numeral.{dot}
+use Rattle.sgf_go.specs.declared.komi.TheConstants.{MOST_KOMI}
 use Rattle.sgf_go.specs.inner.Scan.{all_zeros, fraction, scan}
 
 pub zeros_first : (bs : List ℕ) (at : ℕ) → at < length bs → get_or bs at 0 ≡ 48 → all_zeros (drop at bs) ≡ all_zeros (drop (at + 1) bs)
@@ -30,22 +31,22 @@ abbrev Next : List ℕ → ℕ → ℕ → Bool → Bool → Bool → Bool → O
 Next text at n some digit small point = if digit then (if small then scan (n * 10 + digit_value (get_or text at 0)) true (drop (at + 1) text) else None) else (if point then option_map (λ more. 2 * n + more) (fraction some (drop (at + 1) text)) else None)
 
 scan_at : (text : List ℕ) (at n : ℕ) (some : Bool) → at < length text
-    → scan n some (drop at text) ≡ Next text at n some (is_ascii_digit (get_or text at 0)) (nat_le (n * 10 + digit_value (get_or text at 0)) 999999) (get_or text at 0 == dot)
+    → scan n some (drop at text) ≡ Next text at n some (is_ascii_digit (get_or text at 0)) (nat_le (n * 10 + digit_value (get_or text at 0)) MOST_KOMI) (get_or text at 0 == dot)
 unfolding scan
 scan_at text at n some h = ap (scan n some) (drop_more text at 0 h)
 
-pub scan_digit : (text : List ℕ) (at n m : ℕ) (some : Bool) → at < length text → is_ascii_digit (get_or text at 0) ≡ true → m ≡ 10 * n + (get_or text at 0 - 48) → m ≤ 999999
+pub scan_digit : (text : List ℕ) (at n m : ℕ) (some : Bool) → at < length text → is_ascii_digit (get_or text at 0) ≡ true → m ≡ 10 * n + (get_or text at 0 - 48) → m ≤ MOST_KOMI
     → scan n some (drop at text) ≡ scan m true (drop (at + 1) text)
 scan_digit text at n m some h d e l =
     let same : n * 10 + digit_value (get_or text at 0) ≡ m = omega (arith, e, digit_at (get_or text at 0) d) in
-    let small : nat_le (n * 10 + digit_value (get_or text at 0)) 999999 ≡ true = grind (arith, l, same) in
+    let small : nat_le (n * 10 + digit_value (get_or text at 0)) MOST_KOMI ≡ true = grind (arith, l, same) in
     scan_at text at n some h ∙ ap₂ (λ x y. Next text at n some x y (get_or text at 0 == dot)) d small ∙ ap (λ x. scan x true (drop (at + 1) text)) same
 
-pub scan_large : (text : List ℕ) (at n m : ℕ) (some : Bool) → at < length text → is_ascii_digit (get_or text at 0) ≡ true → m ≡ 10 * n + (get_or text at 0 - 48) → 999999 < m
+pub scan_large : (text : List ℕ) (at n m : ℕ) (some : Bool) → at < length text → is_ascii_digit (get_or text at 0) ≡ true → m ≡ 10 * n + (get_or text at 0 - 48) → MOST_KOMI < m
     → scan n some (drop at text) ≡ None
 scan_large text at n m some h d e l =
     let same : n * 10 + digit_value (get_or text at 0) ≡ m = omega (arith, e, digit_at (get_or text at 0) d) in
-    let large : nat_le (n * 10 + digit_value (get_or text at 0)) 999999 ≡ false = grind (arith, l, same) in
+    let large : nat_le (n * 10 + digit_value (get_or text at 0)) MOST_KOMI ≡ false = grind (arith, l, same) in
     scan_at text at n some h ∙ ap₂ (λ x y. Next text at n some x y (get_or text at 0 == dot)) d large
 
 pub scan_dot : (text : List ℕ) (at n : ℕ) (some : Bool) → at < length text → get_or text at 0 ≡ 46
@@ -57,7 +58,7 @@ pub scan_bad : (text : List ℕ) (at n : ℕ) (some : Bool) → at < length text
     → scan n some (drop at text) ≡ None
 scan_bad text at n some h d e =
     let other : (get_or text at 0 == dot) ≡ false = grind (arith, e) in
-    scan_at text at n some h ∙ ap₂ (λ x y. Next text at n some x (nat_le (n * 10 + digit_value (get_or text at 0)) 999999) y) d other
+    scan_at text at n some h ∙ ap₂ (λ x y. Next text at n some x (nat_le (n * 10 + digit_value (get_or text at 0)) MOST_KOMI) y) d other
 
 pub scan_end : (text : List ℕ) (at n : ℕ) (some : Bool) → length text ≤ at → scan n some (drop at text) ≡ (if some then Some (2 * n) else None)
 unfolding scan

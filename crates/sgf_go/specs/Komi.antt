@@ -4,6 +4,7 @@ use Rattle.std.specs.List.{AllByRecursion}
 use Rattle.std.specs.Char.{is_ascii_digit}
 use Rattle.std.specs.Str.Parse.{digits_value}
 use Rattle.std.specs.Float.Numeral.{dot, minus, plus}
+use Rattle.sgf_go.specs.declared.komi.TheConstants.{MOST_KOMI}
 
 -- the byte `0`
 abbrev pub digit_0 : ℕ
@@ -29,7 +30,7 @@ pub data IsFraction : List ℕ → ℕ → ℕ → Type 0 where
 
 -- a number without a sign, and how many halves it is; it has a digit
 pub data IsHalves : List ℕ → ℕ → Type 0 where
-  halves : (whole fraction : List ℕ) (digits more : ℕ) → AreDigits whole → digits_value 10 whole ≤ 999999 → IsFraction fraction digits more → 1 ≤ length whole + digits
+  halves : (whole fraction : List ℕ) (digits more : ℕ) → AreDigits whole → digits_value 10 whole ≤ MOST_KOMI → IsFraction fraction digits more → 1 ≤ length whole + digits
       → IsHalves (whole ++ fraction) (2 * digits_value 10 whole + more)
 
 -- a komi, and how many halves it is
@@ -38,6 +39,6 @@ pub data IsKomi : List ℕ → ℤ → Type 0 where
   positive : (bytes : List ℕ) (n : ℕ) → IsHalves bytes n → IsKomi (plus ∷ bytes) (pos n)
   negative : (bytes : List ℕ) (n : ℕ) → IsHalves bytes n → IsKomi (minus ∷ bytes) (neg_ℤ (pos n))
 
--- at most 999,999 and a half to either side, in half-points
+-- at most so many points and a half to either side, in half-points
 abbrev pub IsInRange : ℤ → Type 0
-IsInRange k = (neg_ℤ (pos 1999999) ≤ℤ k) × (k ≤ℤ pos 1999999)
+IsInRange k = (neg_ℤ (pos (2 * MOST_KOMI + 1)) ≤ℤ k) × (k ≤ℤ pos (2 * MOST_KOMI + 1))

@@ -10,7 +10,7 @@ use Rattle.go_grid.specs.declared.grid.Cell.{Cell}
 use Rattle.go_grid.specs.declared.grid.Cell.TheVariants as cell
 use Rattle.go_grid.specs.Board.{Board, cell_at, other}
 use Rattle.go_grid.specs.Chain.{IsSettled, IsFirstChoked}
-use Rattle.go_play.specs.Place.{Answers}
+use Rattle.go_play.specs.Place.{PlacesStone}
 use Rattle.go_play.specs.declared.placements.PlaceError.{PlaceError}
 use Rattle.go_play.specs.declared.placements.PlaceError.TheVariants as place
 use Rattle.sgf_go.specs.Komi.{IsKomi}
@@ -156,7 +156,7 @@ IsChoice g text nothing = (is_pass g text ≡ false) × ((p : ℕ) → ¬ IsName
 abbrev pub Chooses : ℕ → Colour → Choice → Part
 Chooses node c pass s r = r ≡ Ok (moved c s)
 Chooses node c nothing s r = r ≡ Err (BadPoint node)
-Chooses node c (stone_at p) s r = (h : Board) × (answer : Result ℕ PlaceError) × Answers s.board p c h answer × (r ≡ placed node c s h answer)
+Chooses node c (stone_at p) s r = (h : Board) × (answer : Result ℕ PlaceError) × PlacesStone s.board p c h answer × (r ≡ placed node c s h answer)
 
 -- the colour that moves by a property: Black by B, White by W
 abbrev pub mover : PropertyText → Option Colour

@@ -4,8 +4,8 @@ ghost use Rattle.std.specs.Prelude.{false, ◌≡◌, ◌≤◌, ◌+◌, ◌*�
 ghost use Rattle.sgf_go.specs.Komi.{IsKomi, IsInRange};
 ghost use Rattle.sgf_go.specs.inner.Scan.{all_zeros, fraction, scan, scan_signed};
 
-/// The most that the digits before the point may say.
-const MOST_WHOLE: u32 = 999_999;
+/// The most whole points of a komi, before half a point that may be added.
+pub const MOST_KOMI: u32 = 999_999;
 
 /// The bytes from a place on.
 #[tactic(auto, using(std::proofs::lemmas::List::take_rest))]
@@ -53,7 +53,7 @@ fn read_fraction(some: bool, bytes: &[u8]) -> Option<u32>
 #[tactic(auto, using(crate::proofs::Scans::scan_digit, crate::proofs::Scans::scan_large, crate::proofs::Scans::scan_dot, crate::proofs::Scans::scan_bad, crate::proofs::Scans::scan_end))]
 fn read_halves(text: &[u8]) -> Option<u32>
     ensures value { result ≡ scan 0 false text.now }
-    ensures most { IfSome result (λ n. n ≤ 1999999) }
+    ensures most { IfSome result (λ n. n ≤ 2 * MOST_KOMI + 1) }
 {
     let mut whole = 0;
     let mut some = false;
@@ -61,7 +61,7 @@ fn read_halves(text: &[u8]) -> Option<u32>
         let byte = text[at];
         if byte.is_ascii_digit() {
             whole = 10 * whole + u32::from(byte - b'0');
-            if whole > MOST_WHOLE {
+            if whole > MOST_KOMI {
                 return None;
             }
             some = true;

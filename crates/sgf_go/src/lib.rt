@@ -10,7 +10,7 @@ mod setup;
 mod values;
 
 pub use fault::{FileFault, GoError, SetupFault};
-pub use komi::read_komi;
-pub use settings::{Settings, Setup};
+pub use komi::{MOST_KOMI, read_komi};
+pub use settings::{MOST_PRISONERS, Settings, Setup};
 pub use setup::{one_position, position, size_of_board};
 pub use values::trim;

@@ -2,7 +2,10 @@
 
 use go_grid::{Board, Colour};
 
-/// What a caller sets beside the record: prisoners of at most 999,999, and a komi from -1,999,999 to 1,999,999 half-points.
+/// The most prisoners that a side has besides those of the record's moves.
+pub const MOST_PRISONERS: u32 = 999_999;
+
+/// What a caller sets beside the record: at most so many prisoners, and a komi from -1,999,999 to 1,999,999 half-points.
 #[derive(Clone, Copy, Debug, PartialEq, Eq)]
 pub struct Settings {
     /// The line ends before the first move that comes after so many moves and passes.

@@ -16,7 +16,7 @@ use crate::fault::{GoError, SetupFault};
 use crate::komi::{read_komi, rest_of};
 use crate::properties::value_of;
 use crate::replay::Replay;
-use crate::settings::{Settings, Setup};
+use crate::settings::{MOST_PRISONERS, Settings, Setup};
 use go_grid::{Board, Colour, Size};
 use sgf_tree::{MOST_BYTES, Node, Property, Tree};
 use std::alloc::{AllocError, Global};
@@ -118,8 +118,8 @@ fn begin(alloc: Global, size: Size) -> Result<Replay, AllocError>
 fn finish(replay: Replay, settings: &Settings, komi: i64) -> Result<Setup, GoError>
     requires counts { Counts replay }
     requires few { replay.played ≤ MOST_BYTES }
-    requires black { settings.now.black_prisoners ≤ 999999 }
-    requires white { settings.now.white_prisoners ≤ 999999 }
+    requires black { settings.now.black_prisoners ≤ MOST_PRISONERS }
+    requires white { settings.now.white_prisoners ≤ MOST_PRISONERS }
     requires komi { IsInRange komi }
     ensures answer { AnswersEnd settings.now komi replay result }
     ensures fit { IfOk result IsFit }
@@ -206,8 +206,8 @@ pub fn size_of_board(tree: &Tree) -> Option<Size>
 pub fn position(alloc: Global, tree: &Tree, settings: &Settings) -> Result<Setup, GoError>
     requires nodes { length tree.now.line.items ≤ MOST_BYTES }
     requires properties { sum_by (λ n. length n.properties.items) tree.now.line.items ≤ MOST_BYTES }
-    requires black { settings.now.black_prisoners ≤ 999999 }
-    requires white { settings.now.white_prisoners ≤ 999999 }
+    requires black { settings.now.black_prisoners ≤ MOST_PRISONERS }
+    requires white { settings.now.white_prisoners ≤ MOST_PRISONERS }
     requires komi { IfSome settings.now.komi IsInRange }
     ensures answer { AnswersPosition tree.now settings.now result }
     ensures fit { IfOk result IsFit }

@@ -10,7 +10,7 @@ use Rattle.sgf_tree.specs.declared.machine.Place.{Place}
 use Rattle.sgf_tree.specs.declared.machine.Place.TheVariants as at
 use Rattle.sgf_tree.specs.declared.machine.Token.{Token}
 use Rattle.sgf_tree.specs.declared.machine.Token.TheVariants as token
-use Rattle.sgf_tree.specs.inner.Machine.{kind_of, outside, token_at, place_after, depth_after, Parts, State, after, begin}
+use Rattle.sgf_tree.specs.inner.Machine.{kind_of, outside, token_at, place_after, depth_after, Parts, ReaderState, after, begin}
 use Rattle.sgf_tree.proofs.Runs.{stepped, step, run, run-append, run-none, some-is, none-some, Opens, in_node, after_value, after_tree, tree_run, off}
 use Rattle.sgf_tree.proofs.Rest.{Says, says, IsSound, some_open, sound_after, run_tree, pred_at}
 
@@ -53,10 +53,10 @@ closings-finish at.AfterTree d s = closings-ends d
 closings-finish at.Done d s = sym s
 
 -- the bytes are read to the end of a tree
-abbrev IsEnded : State → List ℕ → Type 0
-IsEnded s bs = (t : State) × (run (Some s) bs ≡ Some t) × (t.place ≡ at.Done)
+abbrev IsEnded : ReaderState → List ℕ → Type 0
+IsEnded s bs = (t : ReaderState) × (run (Some s) bs ≡ Some t) × (t.place ≡ at.Done)
 
-close_at : (s : State) → Opens s.place → step (Some s) closing ≡ Some (after s token.Close closing)
+close_at : (s : ReaderState) → Opens s.place → step (Some s) closing ≡ Some (after s token.Close closing)
 close_at s o = ap (stepped s closing) (fits s.place o)
   where
     fits : (p : Place) → Opens p → token_at p closing ≡ Some token.Close
@@ -64,7 +64,7 @@ close_at s o = ap (stepped s closing) (fits s.place o)
     fits _ after_value = refl
     fits _ after_tree = refl
 
-ends_run : (d : ℕ) (s : State) → Opens s.place → s.depth ≡ suc d → IsEnded s (ends (suc d))
+ends_run : (d : ℕ) (s : ReaderState) → Opens s.place → s.depth ≡ suc d → IsEnded s (ends (suc d))
 unfolding ends
 ends_run zero s o e =
     let last : (s.depth == 1) ≡ true = grind (arith, e) in
@@ -75,7 +75,7 @@ ends_run (suc d) s o e =
     let r = ends_run d (after s token.Close closing) (subst Opens (sym behind) after_tree) (omega (arith, e)) in
     (r.0, ap (λ o. run o (ends (suc d))) (close_at s o) ∙ r.1, r.2)
 
-ends_at : (d : ℕ) (s : State) → 1 ≤ d → Opens s.place → s.depth ≡ d → IsEnded s (ends d)
+ends_at : (d : ℕ) (s : ReaderState) → 1 ≤ d → Opens s.place → s.depth ≡ d → IsEnded s (ends d)
 ends_at d s h o e = let n = pred_at d h in subst (λ x. IsEnded s (ends x)) (sym n.1) (ends_run n.0 s o (e ∙ n.1))
 
 finish_run : (p : Place) (d : ℕ) (m : Bool) (q : Parts) → IsSound p d → IsEnded (record { place = p; depth = d; on_main = m; parts = q }) (finish p d)
@@ -147,14 +147,14 @@ weight at.AfterTree d b = outside_weight at.AfterTree (kind_of b) d b (says b)
 weight at.Done d b = outside_weight at.Done (kind_of b) d b (says b)
 
 -- a continuation needs as many bytes `)` as the depth
-depth_least : (bs : List ℕ) (s t : State) → IsSound s.place s.depth → run (Some s) bs ≡ Some t → t.place ≡ at.Done → s.depth ≤ closings bs
+depth_least : (bs : List ℕ) (s t : ReaderState) → IsSound s.place s.depth → run (Some s) bs ≡ Some t → t.place ≡ at.Done → s.depth ≤ closings bs
 depth_least [] s t h e d = at_end s.place s.depth h (ap (λ x. x.place) (some-is e) ∙ d)
   where
     at_end : (p : Place) (n : ℕ) → IsSound p n → p ≡ at.Done → n ≤ 0
     at_end p n i f = subst (λ x. IsSound x n → n ≤ 0) (sym f) (λ z. omega (arith, z)) i
 depth_least (b ∷ bs) s t h e d = by_token (λ m i f. depth_least bs m t i f d) (token_at s.place b) refl
   where
-    by_token : ((m : State) → IsSound m.place m.depth → run (Some m) bs ≡ Some t → m.depth ≤ closings bs) → (o : Option Token) → token_at s.place b ≡ o → s.depth ≤ closings (b ∷ bs)
+    by_token : ((m : ReaderState) → IsSound m.place m.depth → run (Some m) bs ≡ Some t → m.depth ≤ closings bs) → (o : Option Token) → token_at s.place b ≡ o → s.depth ≤ closings (b ∷ bs)
     by_token go None f = absurd (none-some (sym (run-none bs) ∙ sym (ap (λ o. run (stepped s b o) bs) f) ∙ e))
     by_token go (Some k) f =
         let least = some_open s.place s.depth b k f h in
@@ -163,16 +163,16 @@ depth_least (b ∷ bs) s t h e d = by_token (λ m i f. depth_least bs m t i f d)
         omega (arith, r, w, closings-more b bs)
 
 -- what is read leads from a sound state to a sound state
-pub sound_run : (bs : List ℕ) (s t : State) → IsSound s.place s.depth → run (Some s) bs ≡ Some t → IsSound t.place t.depth
+pub sound_run : (bs : List ℕ) (s t : ReaderState) → IsSound s.place s.depth → run (Some s) bs ≡ Some t → IsSound t.place t.depth
 sound_run [] s t h e = subst (λ x. IsSound x.place x.depth) (some-is e) h
 sound_run (b ∷ bs) s t h e = by_token (λ m i f. sound_run bs m t i f) (token_at s.place b) refl
   where
-    by_token : ((m : State) → IsSound m.place m.depth → run (Some m) bs ≡ Some t → IsSound t.place t.depth) → (o : Option Token) → token_at s.place b ≡ o → IsSound t.place t.depth
+    by_token : ((m : ReaderState) → IsSound m.place m.depth → run (Some m) bs ≡ Some t → IsSound t.place t.depth) → (o : Option Token) → token_at s.place b ≡ o → IsSound t.place t.depth
     by_token go None f = absurd (none-some (sym (run-none bs) ∙ sym (ap (λ o. run (stepped s b o) bs) f) ∙ e))
     by_token go (Some k) f = go (after s k b) (sound_after s.place s.depth k h (some_open s.place s.depth b k f h)) (sym (ap (λ o. run (stepped s b o) bs) f) ∙ e)
 
 -- what the machine reads is live, at the machine's depth
-pub has_depth : (xs : List ℕ) (s : State) → run (Some begin) xs ≡ Some s → HasDepth xs s.depth
+pub has_depth : (xs : List ℕ) (s : ReaderState) → run (Some begin) xs ≡ Some s → HasDepth xs s.depth
 has_depth xs s e = record {
   more = finish s.place s.depth;
   is_tree = run_tree (xs ++ finish s.place s.depth) end.0 (run-append (Some begin) xs (finish s.place s.depth) ∙ ap (λ o. run o (finish s.place s.depth)) e ∙ end.1) end.2;
@@ -186,12 +186,12 @@ has_depth xs s e = record {
     end : IsEnded s (finish s.place s.depth)
     end = finish_run s.place s.depth s.on_main s.parts sound
 
-pub one_depth : (xs : List ℕ) (s : State) (d : ℕ) → run (Some begin) xs ≡ Some s → HasDepth xs d → d ≡ s.depth
+pub one_depth : (xs : List ℕ) (s : ReaderState) (d : ℕ) → run (Some begin) xs ≡ Some s → HasDepth xs d → d ≡ s.depth
 one_depth xs s d e h =
     let m = has_depth xs s e in
     omega (arith, h.least m.more m.is_tree, m.reached, m.least h.more h.is_tree, h.reached)
 
-pub live : (xs : List ℕ) (s : State) → run (Some begin) xs ≡ Some s → IsLive xs
+pub live : (xs : List ℕ) (s : ReaderState) → run (Some begin) xs ≡ Some s → IsLive xs
 live xs s e = let m = has_depth xs s e in (m.more, m.is_tree)
 
 -- what the machine refuses is not live

@@ -5,7 +5,7 @@ use Rattle.std.proofs.lemmas.List.{take_all}
 use Rattle.sgf_tree.specs.Grammar.{PropertyText, IsTree}
 use Rattle.sgf_tree.specs.Reading.{IsSomeTree, IsLive, HasDepth, IsStart, most_open_trees, IsRead, IsBadByte, IsCutShort, IsTooDeep, line, no_tree, bad_byte, cut_short, too_deep, OneAnswer}
 use Rattle.sgf_tree.specs.declared.machine.Place.TheVariants as at
-use Rattle.sgf_tree.specs.inner.Machine.{begin, State, Parts}
+use Rattle.sgf_tree.specs.inner.Machine.{begin, ReaderState, Parts}
 use Rattle.sgf_tree.proofs.Runs.{run, run-append, run-none, some-is, none-some, tree_run, off}
 
 order : (m n : ℕ) → (m < n) ⊎ ((m ≡ n) ⊎ (n < m))
@@ -42,7 +42,7 @@ one_line bytes k l a b =
     sym r.2 ∙ ap (λ x. x.parts.nodes) (some-is (sym r.1 ∙ s.1)) ∙ s.2
 
 -- nothing is read behind a tree
-beyond : (q : Parts) (bs : List ℕ) (n : ℕ) (t : State) → 1 ≤ length bs → run (Some (off at.Done 0 q)) (take (suc n) bs) ≡ Some t → ⊥
+beyond : (q : Parts) (bs : List ℕ) (n : ℕ) (t : ReaderState) → 1 ≤ length bs → run (Some (off at.Done 0 q)) (take (suc n) bs) ≡ Some t → ⊥
 beyond q [] n t h e = omega (arith, h)
 beyond q (b ∷ bs) n t h e = none-some (sym (run-none (take n bs)) ∙ e)
 

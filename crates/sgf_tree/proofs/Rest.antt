@@ -9,7 +9,7 @@ use Rattle.sgf_tree.specs.declared.machine.Place.{Place}
 use Rattle.sgf_tree.specs.declared.machine.Place.TheVariants as at
 use Rattle.sgf_tree.specs.declared.machine.Token.{Token}
 use Rattle.sgf_tree.specs.declared.machine.Token.TheVariants as token
-use Rattle.sgf_tree.specs.inner.Machine.{kind_of, outside, token_at, place_after, depth_after, State, after, begin}
+use Rattle.sgf_tree.specs.inner.Machine.{kind_of, outside, token_at, place_after, depth_after, ReaderState, after, begin}
 use Rattle.sgf_tree.proofs.Runs.{stepped, run, run-none, some-is, none-some}
 
 -- bytes of the one and then bytes of the other
@@ -302,11 +302,11 @@ pub pred_at : (d : ℕ) → 1 ≤ d → (n : ℕ) × (d ≡ suc n)
 pred_at zero h = absurd (omega (arith, h))
 pred_at (suc n) h = (n, refl)
 
-pub rest_run : (bs : List ℕ) (s t : State) → IsSound s.place s.depth → run (Some s) bs ≡ Some t → t.place ≡ at.Done → Rest s.place s.depth bs
+pub rest_run : (bs : List ℕ) (s t : ReaderState) → IsSound s.place s.depth → run (Some s) bs ≡ Some t → t.place ≡ at.Done → Rest s.place s.depth bs
 rest_run [] s t h e d = at_end s.place s.depth h (ap (λ x. x.place) (some-is e) ∙ d)
 rest_run (b ∷ bs) s t h e d = by_token (λ m i f. rest_run bs m t i f d) (token_at s.place b) refl
   where
-    by_token : ((m : State) → IsSound m.place m.depth → run (Some m) bs ≡ Some t → Rest m.place m.depth bs) → (o : Option Token) → token_at s.place b ≡ o → Rest s.place s.depth (b ∷ bs)
+    by_token : ((m : ReaderState) → IsSound m.place m.depth → run (Some m) bs ≡ Some t → Rest m.place m.depth bs) → (o : Option Token) → token_at s.place b ≡ o → Rest s.place s.depth (b ∷ bs)
     by_token go None f = absurd (none-some (sym (run-none bs) ∙ sym (ap (λ o. run (stepped s b o) bs) f) ∙ e))
     by_token go (Some k) f =
         let least = some_open s.place s.depth b k f h in
@@ -318,7 +318,7 @@ append_none : (a c : List ℕ) → c ≡ [] → a ++ c ≡ a
 append_none a c e = ap (λ x. a ++ x) e ∙ append-nil a
 
 -- what is read to the end is a tree
-pub run_tree : (bs : List ℕ) (t : State) → run (Some begin) bs ≡ Some t → t.place ≡ at.Done → IsSomeTree bs
+pub run_tree : (bs : List ℕ) (t : ReaderState) → run (Some begin) bs ≡ Some t → t.place ≡ at.Done → IsSomeTree bs
 run_tree bs t e d =
     let r = rest_run bs begin t (omega arith) e d in
     subst IsSomeTree (sym (r.2 ∙ append_none r.0 r.1 r.4)) r.3

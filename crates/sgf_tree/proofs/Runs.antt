@@ -8,36 +8,36 @@ use Rattle.sgf_tree.specs.declared.machine.Place.{Place}
 use Rattle.sgf_tree.specs.declared.machine.Place.TheVariants as at
 use Rattle.sgf_tree.specs.declared.machine.Token.{Token}
 use Rattle.sgf_tree.specs.declared.machine.Token.TheVariants as token
-use Rattle.sgf_tree.specs.inner.Machine.{punctuation, kind_of, outside, inside, token_at, Parts, State, after, begin}
+use Rattle.sgf_tree.specs.inner.Machine.{punctuation, kind_of, outside, inside, token_at, Parts, ReaderState, after, begin}
 
-abbrev pub stepped : State → ℕ → Option Token → Option State
+abbrev pub stepped : ReaderState → ℕ → Option Token → Option ReaderState
 stepped s b None = None
 stepped s b (Some t) = Some (after s t b)
 
-abbrev pub step : Option State → ℕ → Option State
+abbrev pub step : Option ReaderState → ℕ → Option ReaderState
 step None b = None
 step (Some s) b = stepped s b (token_at s.place b)
 
-abbrev pub run : Option State → List ℕ → Option State
+abbrev pub run : Option ReaderState → List ℕ → Option ReaderState
 run o [] = o
 run o (b ∷ bs) = run (step o b) bs
 
-pub run-append : (o : Option State) (xs ys : List ℕ) → run o (xs ++ ys) ≡ run (run o xs) ys
+pub run-append : (o : Option ReaderState) (xs ys : List ℕ) → run o (xs ++ ys) ≡ run (run o xs) ys
 run-append o [] ys = refl
 run-append o (x ∷ xs) ys = run-append (step o x) xs ys
 
 -- one piece after the other
-pub then_run : (s m : State) (r : Option State) (xs ys : List ℕ) → run (Some s) xs ≡ Some m → run (Some m) ys ≡ r → run (Some s) (xs ++ ys) ≡ r
+pub then_run : (s m : ReaderState) (r : Option ReaderState) (xs ys : List ℕ) → run (Some s) xs ≡ Some m → run (Some m) ys ≡ r → run (Some s) (xs ++ ys) ≡ r
 then_run s m r xs ys p q = run-append (Some s) xs ys ∙ ap (λ o. run o ys) p ∙ q
 
 -- one byte more
-pub byte_run : (s m : State) (r : Option State) (b : ℕ) (ys : List ℕ) → step (Some s) b ≡ Some m → run (Some m) ys ≡ r → run (Some s) (b ∷ ys) ≡ r
+pub byte_run : (s m : ReaderState) (r : Option ReaderState) (b : ℕ) (ys : List ℕ) → step (Some s) b ≡ Some m → run (Some m) ys ≡ r → run (Some s) (b ∷ ys) ≡ r
 byte_run s m r b ys p q = ap (λ o. run o ys) p ∙ q
 
-pub token_step : (s : State) (b : ℕ) (t : Token) → token_at s.place b ≡ Some t → step (Some s) b ≡ Some (after s t b)
+pub token_step : (s : ReaderState) (b : ℕ) (t : Token) → token_at s.place b ≡ Some t → step (Some s) b ≡ Some (after s t b)
 token_step s b t e = ap (stepped s b) e
 
-pub token_run : (s : State) (r : Option State) (b : ℕ) (t : Token) (ys : List ℕ) → token_at s.place b ≡ Some t → run (Some (after s t b)) ys ≡ r → run (Some s) (b ∷ ys) ≡ r
+pub token_run : (s : ReaderState) (r : Option ReaderState) (b : ℕ) (t : Token) (ys : List ℕ) → token_at s.place b ≡ Some t → run (Some (after s t b)) ys ≡ r → run (Some s) (b ∷ ys) ≡ r
 token_run s r b t ys p q = byte_run s (after s t b) r b ys (token_step s b t p) q
 
 pub kind-white : (b : ℕ) → is_white b ≡ true → kind_of b ≡ kind.White
@@ -50,7 +50,7 @@ pub kind-letter : (b : ℕ) → is_letter b ≡ true → kind_of b ≡ kind.Lett
 kind-letter b e = ap (λ w. if w then kind.White else (if is_letter b then kind.Letter else punctuation b)) (not_white b e) ∙ ap (λ w. if w then kind.Letter else punctuation b) e
 
 -- a state before the main line is at its end
-abbrev pub st : Place → ℕ → Parts → State
+abbrev pub st : Place → ℕ → Parts → ReaderState
 st p d q = record { place = p; depth = d; on_main = true; parts = q }
 
 abbrev pub parts : List (List PropertyText) → List PropertyText → List ℕ → List (List ℕ) → List ℕ → Parts
@@ -86,10 +86,10 @@ keeps_parts : (m : Bool) (q : Parts) → (if m then q else q) ≡ q
 keeps_parts true q = refl
 keeps_parts false q = refl
 
-white_after : (s : State) (b : ℕ) → after s token.White b ≡ s
+white_after : (s : ReaderState) (b : ℕ) → after s token.White b ≡ s
 white_after s b = ap₂ (λ m q. record { place = s.place; depth = s.depth; on_main = m; parts = q }) (keeps_main s.on_main) (keeps_parts s.on_main s.parts)
 
-pub white_run : (s : State) (bs : List ℕ) → Passes s.place → AreWhite bs → run (Some s) bs ≡ Some s
+pub white_run : (s : ReaderState) (bs : List ℕ) → Passes s.place → AreWhite bs → run (Some s) bs ≡ Some s
 white_run s [] p a = refl
 white_run s (b ∷ bs) p a = byte_run s s _ b bs (token_step s b token.White (token_passes s.place b p a.0) ∙ ap Some (white_after s b)) (white_run s bs p a.1)
 
@@ -211,7 +211,7 @@ open_step _ _ _ d (after_node _ _ _ _ (none_yet ns)) = refl
 open_step _ _ _ d (after_node _ _ _ _ (some_read ns ps n vs)) = refl
 
 -- a state once a tree has been closed
-abbrev pub off : Place → ℕ → Parts → State
+abbrev pub off : Place → ℕ → Parts → ReaderState
 off p d q = record { place = p; depth = d; on_main = false; parts = q }
 
 abbrev pub closed_at : ℕ → Place
@@ -248,11 +248,11 @@ run-none [] = refl
 run-none (b ∷ bs) = run-none bs
 
 -- what is read once a tree has been closed: the same, and the parts stay
-pub off_run : (bs : List ℕ) (s t : State) (r : Parts) → run (Some s) bs ≡ Some t → run (Some (off s.place s.depth r)) bs ≡ Some (off t.place t.depth r)
+pub off_run : (bs : List ℕ) (s t : ReaderState) (r : Parts) → run (Some s) bs ≡ Some t → run (Some (off s.place s.depth r)) bs ≡ Some (off t.place t.depth r)
 off_run [] s t r e = ap (λ z. Some (off z.place z.depth r)) (some-is e)
 off_run (b ∷ bs) s t r e = by_token (λ m. off_run bs m t r) (token_at s.place b) refl
   where
-    by_token : ((m : State) → run (Some m) bs ≡ Some t → run (Some (off m.place m.depth r)) bs ≡ Some (off t.place t.depth r))
+    by_token : ((m : ReaderState) → run (Some m) bs ≡ Some t → run (Some (off m.place m.depth r)) bs ≡ Some (off t.place t.depth r))
         → (o : Option Token) → token_at s.place b ≡ o → run (Some (off s.place s.depth r)) (b ∷ bs) ≡ Some (off t.place t.depth r)
     by_token go None h = absurd (none-some (sym (run-none bs) ∙ sym (ap (λ o. run (stepped s b o) bs) h) ∙ e))
     by_token go (Some k) h = token_run (off s.place s.depth r) _ b k bs h (go (after s k b) (sym (ap (λ o. run (stepped s b o) bs) h) ∙ e))

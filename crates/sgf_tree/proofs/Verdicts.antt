@@ -12,7 +12,7 @@ use Rattle.sgf_tree.specs.declared.machine.Place.{Place}
 use Rattle.sgf_tree.specs.declared.machine.Place.TheVariants as at
 use Rattle.sgf_tree.specs.declared.machine.Token.{Token}
 use Rattle.sgf_tree.specs.declared.machine.Token.TheVariants as token
-use Rattle.sgf_tree.specs.inner.Machine.{token_at, place_after, depth_after, State, after, begin, is_done, is_open, Verdict, read, bad_byte, cut_short, too_deep, judged, verdict, Gives}
+use Rattle.sgf_tree.specs.inner.Machine.{token_at, place_after, depth_after, ReaderState, after, begin, is_done, is_open, Verdict, read, bad_byte, cut_short, too_deep, judged, verdict, Gives}
 use Rattle.sgf_tree.proofs.Runs.{stepped, step, run, run-append, some-is, tree_run}
 use Rattle.sgf_tree.proofs.Rest.{run_tree}
 use Rattle.sgf_tree.proofs.Live.{has_depth, one_depth, live, dead}
@@ -25,7 +25,7 @@ Holds from (too_deep n) = IsTooDeep from n
 
 -- so many bytes are read, neither too deep nor to the end
 abbrev Goes : List ℕ → ℕ → Type 0
-Goes from n = (k : ℕ) → k ≤ n → (s : State) × (run (Some begin) (take k from) ≡ Some s) × (s.depth ≤ most_open_trees) × (is_done s.place ≡ false)
+Goes from n = (k : ℕ) → k ≤ n → (s : ReaderState) × (run (Some begin) (take k from) ≡ Some s) × (s.depth ≤ most_open_trees) × (is_done s.place ≡ false)
 
 stays_shallow : (from : List ℕ) (n : ℕ) → Goes from n → StaysShallow from n
 stays_shallow from n g = λ k depth h d. (let s = g k h in let same = one_depth (take k from) s.0 depth s.1 d in omega (arith, same, s.2))
@@ -53,7 +53,7 @@ end_at from n e h =
     omega (arith, long, length-drop n from, h)
 
 -- what is read to the end is a tree with the nodes that were read
-run_line : (xs : List ℕ) (t : State) → run (Some begin) xs ≡ Some t → t.place ≡ at.Done → IsTree xs t.parts.nodes
+run_line : (xs : List ℕ) (t : ReaderState) → run (Some begin) xs ≡ Some t → t.place ≡ at.Done → IsTree xs t.parts.nodes
 run_line xs t e d =
     let u = run_tree xs t e d in
     let r = tree_run xs u.0 u.1 in
@@ -93,17 +93,17 @@ last_or : (k n : ℕ) → k ≤ n + 1 → (k ≤ n) ⊎ (k ≡ n + 1)
 last_or k n h = grind (arith, h)
 
 -- one byte read
-record ByteRead (from : List ℕ) (s : State) (n b : ℕ) : Type 0 where
+record ByteRead (from : List ℕ) (s : ReaderState) (n b : ℕ) : Type 0 where
   within : n < length from
   taken : take (n + 1) from ≡ take n from ++ (b ∷ [])
   state : run (Some begin) (take n from) ≡ Some s
   goes : Goes from n
 
-stepped_to : (from : List ℕ) (s : State) (n b : ℕ) (o : Option Token) → ByteRead from s n b → token_at s.place b ≡ o → run (Some begin) (take (n + 1) from) ≡ stepped s b o
+stepped_to : (from : List ℕ) (s : ReaderState) (n b : ℕ) (o : Option Token) → ByteRead from s n b → token_at s.place b ≡ o → run (Some begin) (take (n + 1) from) ≡ stepped s b o
 stepped_to from s n b o r e = ap (run (Some begin)) r.taken ∙ run-append (Some begin) (take n from) (b ∷ []) ∙ ap (λ x. step x b) r.state ∙ ap (stepped s b) e
 
-judged_holds : (from : List ℕ) (s : State) (n b : ℕ) → ByteRead from s n b → (go : State → Verdict)
-    → ((t : State) → run (Some begin) (take (n + 1) from) ≡ Some t → Goes from (n + 1) → Holds from (go t))
+judged_holds : (from : List ℕ) (s : ReaderState) (n b : ℕ) → ByteRead from s n b → (go : ReaderState → Verdict)
+    → ((t : ReaderState) → run (Some begin) (take (n + 1) from) ≡ Some t → Goes from (n + 1) → Holds from (go t))
     → (o : Option Token) → token_at s.place b ≡ o → Holds from (judged s n b o go)
 judged_holds from s n b r go more None e = record {
   within = r.within;
@@ -143,7 +143,7 @@ judged_holds from s n b r go more (Some t) e = by_depth (is_open t && (s.depth =
     }
     by_depth false f = by_end f (is_done (place_after s.place t s.depth)) refl
 
-verdict_holds : (bs from : List ℕ) (s : State) (n : ℕ) → drop n from ≡ bs → n ≤ length from → run (Some begin) (take n from) ≡ Some s → Goes from n → Holds from (verdict s n bs)
+verdict_holds : (bs from : List ℕ) (s : ReaderState) (n : ℕ) → drop n from ≡ bs → n ≤ length from → run (Some begin) (take n from) ≡ Some s → Goes from n → Holds from (verdict s n bs)
 unfolding verdict
 verdict_holds [] from s n e h r g =
     let all = end_at from n e h in
@@ -174,40 +174,40 @@ answers_from bytes start (Err (Fault TooDeep)) s g = (start, s, (g.0, subst (Hol
 answers_from bytes start (Err (Memory e)) s g = tt
 
 -- the machine's end from a place in the bytes, by what stands there
-verdict_at : (from : List ℕ) (s : State) (n : ℕ) → n < length from
+verdict_at : (from : List ℕ) (s : ReaderState) (n : ℕ) → n < length from
     → verdict s n (drop n from) ≡ judged s n (get_or from n 0) (token_at s.place (get_or from n 0)) (λ t. verdict t (n + 1) (drop (n + 1) from))
 unfolding verdict
 verdict_at from s n h = ap (verdict s n) (drop_more from n 0 h)
 
-pub verdict_bad : (from : List ℕ) (s : State) (n : ℕ) → n < length from → token_at s.place (get_or from n 0) ≡ None → verdict s n (drop n from) ≡ bad_byte n
+pub verdict_bad : (from : List ℕ) (s : ReaderState) (n : ℕ) → n < length from → token_at s.place (get_or from n 0) ≡ None → verdict s n (drop n from) ≡ bad_byte n
 verdict_bad from s n h e = verdict_at from s n h ∙ ap (λ o. judged s n (get_or from n 0) o (λ t. verdict t (n + 1) (drop (n + 1) from))) e
 
-pub verdict_deep : (from : List ℕ) (s : State) (n : ℕ) (t : Token) → n < length from → token_at s.place (get_or from n 0) ≡ Some t → (is_open t && (s.depth == most_open_trees)) ≡ true → verdict s n (drop n from) ≡ too_deep n
+pub verdict_deep : (from : List ℕ) (s : ReaderState) (n : ℕ) (t : Token) → n < length from → token_at s.place (get_or from n 0) ≡ Some t → (is_open t && (s.depth == most_open_trees)) ≡ true → verdict s n (drop n from) ≡ too_deep n
 verdict_deep from s n t h e deep =
     verdict_at from s n h ∙ ap (λ x. judged s n (get_or from n 0) x (λ t. verdict t (n + 1) (drop (n + 1) from))) e
     ∙ ap (λ c. if c then too_deep n else (if is_done (place_after s.place t s.depth) then read (n + 1) (after s t (get_or from n 0)).parts.nodes else verdict (after s t (get_or from n 0)) (n + 1) (drop (n + 1) from))) deep
 
 -- a byte that doesn't open one tree too many
-pub verdict_next : (from : List ℕ) (s : State) (n : ℕ) (t : Token) → n < length from → token_at s.place (get_or from n 0) ≡ Some t → (is_open t && (s.depth == most_open_trees)) ≡ false
+pub verdict_next : (from : List ℕ) (s : ReaderState) (n : ℕ) (t : Token) → n < length from → token_at s.place (get_or from n 0) ≡ Some t → (is_open t && (s.depth == most_open_trees)) ≡ false
     → (c : Bool) → is_done (place_after s.place t s.depth) ≡ c
     → verdict s n (drop n from) ≡ (if c then read (n + 1) (after s t (get_or from n 0)).parts.nodes else verdict (after s t (get_or from n 0)) (n + 1) (drop (n + 1) from))
 verdict_next from s n t h e small c d =
     verdict_at from s n h ∙ ap (λ x. judged s n (get_or from n 0) x (λ t. verdict t (n + 1) (drop (n + 1) from))) e
     ∙ ap₂ (λ b c. if b then too_deep n else (if c then read (n + 1) (after s t (get_or from n 0)).parts.nodes else verdict (after s t (get_or from n 0)) (n + 1) (drop (n + 1) from))) small d
 
-pub verdict_end : (from : List ℕ) (s : State) (n : ℕ) → length from ≤ n → verdict s n (drop n from) ≡ cut_short
+pub verdict_end : (from : List ℕ) (s : ReaderState) (n : ℕ) → length from ≤ n → verdict s n (drop n from) ≡ cut_short
 unfolding verdict
 verdict_end from s n h = ap (verdict s n) (drop_all n from h)
 
-pub verdict_done : (from : List ℕ) (s m : State) (n : ℕ) (t : Token) → n < length from → token_at s.place (get_or from n 0) ≡ Some t → (is_open t && (s.depth == most_open_trees)) ≡ false
+pub verdict_done : (from : List ℕ) (s m : ReaderState) (n : ℕ) (t : Token) → n < length from → token_at s.place (get_or from n 0) ≡ Some t → (is_open t && (s.depth == most_open_trees)) ≡ false
     → m ≡ after s t (get_or from n 0) → is_done m.place ≡ true → verdict s n (drop n from) ≡ read (n + 1) m.parts.nodes
 verdict_done from s m n t h e small same d = verdict_next from s n t h e small true (ap (λ x. is_done x.place) (sym same) ∙ d) ∙ ap (λ x. read (n + 1) x.parts.nodes) (sym same)
 
-pub verdict_more : (from : List ℕ) (s m : State) (n : ℕ) (t : Token) → n < length from → token_at s.place (get_or from n 0) ≡ Some t → (is_open t && (s.depth == most_open_trees)) ≡ false
+pub verdict_more : (from : List ℕ) (s m : ReaderState) (n : ℕ) (t : Token) → n < length from → token_at s.place (get_or from n 0) ≡ Some t → (is_open t && (s.depth == most_open_trees)) ≡ false
     → m ≡ after s t (get_or from n 0) → is_done m.place ≡ false → verdict s n (drop n from) ≡ verdict m (n + 1) (drop (n + 1) from)
 verdict_more from s m n t h e small same d = verdict_next from s n t h e small false (ap (λ x. is_done x.place) (sym same) ∙ d) ∙ ap (λ x. verdict x (n + 1) (drop (n + 1) from)) (sym same)
 
-pub depth_more : (s m : State) (t : Token) (b : ℕ) → s.depth ≤ most_open_trees → (is_open t && (s.depth == most_open_trees)) ≡ false → m ≡ after s t b → m.depth ≤ most_open_trees
+pub depth_more : (s m : ReaderState) (t : Token) (b : ℕ) → s.depth ≤ most_open_trees → (is_open t && (s.depth == most_open_trees)) ≡ false → m ≡ after s t b → m.depth ≤ most_open_trees
 depth_more s m t b h small same = subst (λ x. x.depth ≤ most_open_trees) (sym same) (depth_most t s.depth h small)
 
 -- the bytes from the start on, as the reading is given them

@@ -15,79 +15,53 @@ use Rattle.short_games.proofs.TextOrderLaws.{text-order}
 use Rattle.short_games.proofs.ReductionLaws.{canonical-number}
 use Rattle.short_games.proofs.ThresholdLaws.{cell, number-floor, number-ceiling, game-floor, game-ceiling, half-cell}
 
--- the greatest and the least of what the trees of a list have
-pub record IsGreatest (P : Tree → ℤ → Type 0) (Gs : Trees) (x : ℤ) : Type 0 where
-  pub bound : (G : Tree) → Has Gs G → (y : ℤ) × P G y × (y ≤ℤ x)
+-- a direction along the numbers, upwards or downwards
+record IsDirection (Below : ℤ → ℤ → Type 0) : Type 0 where
+  same : (x : ℤ) → Below x x
+  further : (x y z : ℤ) → Below x y → Below y z → Below x z
+  either : (x y : ℤ) → Below x y ⊎ Below y x
+
+either_way : (x y : ℤ) → (x ≤ℤ y) ⊎ (y ≤ℤ x)
+either_way x y = by_lt_z x y (λ l. inl (omega (arith, ints, l))) (λ l. inr l)
+
+upwards : IsDirection (λ x y. x ≤ℤ y)
+upwards = record { same = λ x. omega (arith, ints); further = λ x y z a b. omega (arith, ints, a, b); either = either_way }
+
+downwards : IsDirection (λ x y. y ≤ℤ x)
+downwards = record { same = λ x. omega (arith, ints); further = λ x y z a b. omega (arith, ints, a, b); either = λ x y. either_way y x }
+
+-- the furthest in a direction of what the trees of a list have
+pub record IsMost (Below : ℤ → ℤ → Type 0) (P : Tree → ℤ → Type 0) (Gs : Trees) (x : ℤ) : Type 0 where
+  pub bound : (G : Tree) → Has Gs G → (y : ℤ) × P G y × Below y x
   pub reached : (G : Tree) × Has Gs G × P G x
 
-pub record IsLeast (P : Tree → ℤ → Type 0) (Gs : Trees) (x : ℤ) : Type 0 where
-  pub bound : (G : Tree) → Has Gs G → (y : ℤ) × P G y × (x ≤ℤ y)
-  pub reached : (G : Tree) × Has Gs G × P G x
+-- the greatest and the least
+abbrev pub IsGreatest : (Tree → ℤ → Type 0) → Trees → ℤ → Type 0
+IsGreatest P Gs x = IsMost (λ y z. y ≤ℤ z) P Gs x
 
-module _ (P : Tree → ℤ → Type 0) where
-  greatest-one : (G : Tree) (x : ℤ) → P G x → IsGreatest P (more G none) x
-  greatest-one G x p = record { bound = λ H h. elim h [ inl i ↦ (x, subst (λ t. P t x) (sym i) p, omega (arith, ints)) | inr a ↦ absurd a ]; reached = (G, inl refl, p) }
+abbrev pub IsLeast : (Tree → ℤ → Type 0) → Trees → ℤ → Type 0
+IsLeast P Gs x = IsMost (λ y z. z ≤ℤ y) P Gs x
 
-  greatest-more : (G : Tree) (Gs : Trees) (y z : ℤ) → P G y → IsGreatest P Gs z → (x : ℤ) × IsGreatest P (more G Gs) x × (y ≤ℤ x) × (z ≤ℤ x) × ((y ≡ x) ⊎ (z ≡ x))
-  greatest-more G Gs y z p g = by_lt_z y z
-      (λ l. (
-        z,
-        record { bound = λ H h. elim h [ inl i ↦ (y, subst (λ t. P t y) (sym i) p, omega (arith, ints, l)) | inr a ↦ g.bound H a ]; reached = (g.reached.0, inr g.reached.1, g.reached.2) },
-        omega (arith, ints, l),
-        omega (arith, ints),
-        inr refl,
-      ))
-      (λ l. (
-        y,
-        record {
-          bound = λ H h. elim h [ inl i ↦ (y, subst (λ t. P t y) (sym i) p, omega (arith, ints)) | inr a ↦ (let b = g.bound H a in (b.0, b.1, omega (arith, ints, b.2, l))) ];
-          reached = (G, inl refl, p);
-        },
-        omega (arith, ints),
-        l,
-        inl refl,
-      ))
+module _ (Below : ℤ → ℤ → Type 0) (o : IsDirection Below) (P : Tree → ℤ → Type 0) where
+  most-one : (G : Tree) (x : ℤ) → P G x → IsMost Below P (more G none) x
+  most-one G x p = record { bound = λ H h. elim h [ inl i ↦ (x, subst (λ t. P t x) (sym i) p, o.same x) | inr a ↦ absurd a ]; reached = (G, inl refl, p) }
 
-  pub greatest : (Gs : Trees) → ((G : Tree) → Has Gs G → (x : ℤ) × P G x) → (G : Tree) → Has Gs G → (x : ℤ) × IsGreatest P Gs x
-  greatest none f K k = absurd k
-  greatest (more G none) f K k = let r = f G (inl refl) in (r.0, greatest-one G r.0 r.1)
-  greatest (more G (more H Hs)) f K k =
+  most-more : (G : Tree) (Gs : Trees) (y z x : ℤ) → P G y → IsMost Below P Gs z → Below y x → Below z x → (y ≡ x) ⊎ (z ≡ x) → IsMost Below P (more G Gs) x
+  most-more G Gs y z x p g a b e = record {
+    bound = λ K k. elim k [ inl i ↦ (y, subst (λ t. P t y) (sym i) p, a) | inr j ↦ (let w = g.bound K j in (w.0, w.1, o.further w.0 z x w.2 b)) ];
+    reached = elim e [ inl i ↦ (G, inl refl, subst (P G) i p) | inr i ↦ (g.reached.0, inr g.reached.1, subst (P g.reached.0) i g.reached.2) ];
+  }
+
+  most : (Gs : Trees) → ((G : Tree) → Has Gs G → (x : ℤ) × P G x) → (G : Tree) → Has Gs G → (x : ℤ) × IsMost Below P Gs x
+  most none f K k = absurd k
+  most (more G none) f K k = let r = f G (inl refl) in (r.0, most-one G r.0 r.1)
+  most (more G (more H Hs)) f K k =
       let r = f G (inl refl) in
-      let s = greatest (more H Hs) (λ X x. f X (inr x)) H (inl refl) in
-      let t = greatest-more G (more H Hs) r.0 s.0 r.1 s.1 in
-      (t.0, t.1)
-
-  least-one : (G : Tree) (x : ℤ) → P G x → IsLeast P (more G none) x
-  least-one G x p = record { bound = λ H h. elim h [ inl i ↦ (x, subst (λ t. P t x) (sym i) p, omega (arith, ints)) | inr a ↦ absurd a ]; reached = (G, inl refl, p) }
-
-  least-more : (G : Tree) (Gs : Trees) (y z : ℤ) → P G y → IsLeast P Gs z → (x : ℤ) × IsLeast P (more G Gs) x × (x ≤ℤ y) × (x ≤ℤ z) × ((y ≡ x) ⊎ (z ≡ x))
-  least-more G Gs y z p g = by_lt_z z y
-      (λ l. (
-        z,
-        record { bound = λ H h. elim h [ inl i ↦ (y, subst (λ t. P t y) (sym i) p, omega (arith, ints, l)) | inr a ↦ g.bound H a ]; reached = (g.reached.0, inr g.reached.1, g.reached.2) },
-        omega (arith, ints, l),
-        omega (arith, ints),
-        inr refl,
-      ))
-      (λ l. (
-        y,
-        record {
-          bound = λ H h. elim h [ inl i ↦ (y, subst (λ t. P t y) (sym i) p, omega (arith, ints)) | inr a ↦ (let b = g.bound H a in (b.0, b.1, omega (arith, ints, b.2, l))) ];
-          reached = (G, inl refl, p);
-        },
-        omega (arith, ints),
-        l,
-        inl refl,
-      ))
-
-  pub least : (Gs : Trees) → ((G : Tree) → Has Gs G → (x : ℤ) × P G x) → (G : Tree) → Has Gs G → (x : ℤ) × IsLeast P Gs x
-  least none f K k = absurd k
-  least (more G none) f K k = let r = f G (inl refl) in (r.0, least-one G r.0 r.1)
-  least (more G (more H Hs)) f K k =
-      let r = f G (inl refl) in
-      let s = least (more H Hs) (λ X x. f X (inr x)) H (inl refl) in
-      let t = least-more G (more H Hs) r.0 s.0 r.1 s.1 in
-      (t.0, t.1)
+      let s = most (more H Hs) (λ X x. f X (inr x)) H (inl refl) in
+      elim (o.either r.0 s.0) [
+        | inl l ↦ (s.0, most-more G (more H Hs) r.0 s.0 s.0 r.1 s.1 l (o.same s.0) (inr refl))
+        | inr l ↦ (r.0, most-more G (more H Hs) r.0 s.0 r.0 r.1 s.1 (o.same r.0) l (inl refl))
+      ]
 
 -- the ceiling of a game that is no number is one above the greatest floor of its Left options
 pub ceiling-by : (e : ℕ) (G : Tree) (k : ℤ) → (IsNumber G → ⊥) → IsGreatest (IsFloor e) (left G) k → IsCeiling e G (k +ℤ pos 1)
@@ -155,22 +129,16 @@ game-right_stop e (node ls rs) n f R r = let s = has-least_left e rs f R r in (s
 greatest_right-is : (e : ℕ) (Gs : Trees) (x : ℤ) → IsGreatestRight e Gs x → IsGreatest (IsRightStop e) Gs x
 unfolding IsLeftStop
 greatest_right-is e none x h = absurd h
-greatest_right-is e (more G none) x h = greatest-one (IsRightStop e) G x h
+greatest_right-is e (more G none) x h = most-one _ upwards (IsRightStop e) G x h
 greatest_right-is e (more G (more H Hs)) x h =
-    let g = greatest_right-is e (more H Hs) h.1.0 h.1.2 in record {
-      bound = λ K k. elim k [ inl i ↦ (h.0, subst (λ t. IsRightStop e t h.0) (sym i) h.1.1, h.1.3) | inr j ↦ (let w = g.bound K j in (w.0, w.1, omega (arith, ints, w.2, h.1.4))) ];
-      reached = elim h.1.5 [ inl i ↦ (G, inl refl, subst (IsRightStop e G) i h.1.1) | inr i ↦ (g.reached.0, inr g.reached.1, subst (IsRightStop e g.reached.0) i g.reached.2) ];
-    }
+    most-more _ upwards (IsRightStop e) G (more H Hs) h.0 h.1.0 x h.1.1 (greatest_right-is e (more H Hs) h.1.0 h.1.2) h.1.3 h.1.4 h.1.5
 
 least_left-is : (e : ℕ) (Gs : Trees) (x : ℤ) → IsLeastLeft e Gs x → IsLeast (IsLeftStop e) Gs x
 unfolding IsLeftStop
 least_left-is e none x h = absurd h
-least_left-is e (more G none) x h = least-one (IsLeftStop e) G x h
+least_left-is e (more G none) x h = most-one _ downwards (IsLeftStop e) G x h
 least_left-is e (more G (more H Hs)) x h =
-    let g = least_left-is e (more H Hs) h.1.0 h.1.2 in record {
-      bound = λ K k. elim k [ inl i ↦ (h.0, subst (λ t. IsLeftStop e t h.0) (sym i) h.1.1, h.1.3) | inr j ↦ (let w = g.bound K j in (w.0, w.1, omega (arith, ints, w.2, h.1.4))) ];
-      reached = elim h.1.5 [ inl i ↦ (G, inl refl, subst (IsLeftStop e G) i h.1.1) | inr i ↦ (g.reached.0, inr g.reached.1, subst (IsLeftStop e g.reached.0) i g.reached.2) ];
-    }
+    most-more _ downwards (IsLeftStop e) G (more H Hs) h.0 h.1.0 x h.1.1 (least_left-is e (more H Hs) h.1.0 h.1.2) h.1.3 h.1.4 h.1.5
 
 -- what a stop is
 pub data StopIs (e : ℕ) (G : Tree) (x : ℤ) (Is : Type 0) : Type 0 where
@@ -196,7 +164,7 @@ FloorBy e G x = (k : ℤ) × IsFloor e G k × IsHalf x (k +ℤ pos 1)
 
 ceiling_step : (e : ℕ) (G : Tree) (x : ℤ) → (IsNumber G → ⊥) → IsGreatest (IsRightStop e) (left G) x → ((L : Tree) → Has (left G) L → (y : ℤ) → IsRightStop e L y → FloorBy e L y) → CeilingBy e G x
 ceiling_step e G x n g f =
-    let h = greatest (IsFloor e) (left G) (λ L l. (let b = g.bound L l in let w = f L l b.0 b.1 in (w.0, w.1))) g.reached.0 g.reached.1 in
+    let h = most _ upwards (IsFloor e) (left G) (λ L l. (let b = g.bound L l in let w = f L l b.0 b.1 in (w.0, w.1))) g.reached.0 g.reached.1 in
     let b = g.bound h.1.reached.0 h.1.reached.1 in
     let v = f h.1.reached.0 h.1.reached.1 b.0 b.1 in
     let w = f g.reached.0 g.reached.1 x g.reached.2 in
@@ -207,7 +175,7 @@ ceiling_step e G x n g f =
 
 floor_step : (e : ℕ) (G : Tree) (x : ℤ) → (IsNumber G → ⊥) → IsLeast (IsLeftStop e) (right G) x → ((R : Tree) → Has (right G) R → (y : ℤ) → IsLeftStop e R y → CeilingBy e R y) → FloorBy e G x
 floor_step e G x n g f =
-    let h = least (IsCeiling e) (right G) (λ R r. (let b = g.bound R r in let w = f R r b.0 b.1 in (w.0, w.1))) g.reached.0 g.reached.1 in
+    let h = most _ downwards (IsCeiling e) (right G) (λ R r. (let b = g.bound R r in let w = f R r b.0 b.1 in (w.0, w.1))) g.reached.0 g.reached.1 in
     let b = g.bound h.1.reached.0 h.1.reached.1 in
     let v = f h.1.reached.0 h.1.reached.1 b.0 b.1 in
     let w = f g.reached.0 g.reached.1 x g.reached.2 in

@@ -1,7 +1,7 @@
 -- At 0 the walls are the stops.
-use Rattle.std.proofs.Common.{ℕ, zero, suc, ◌<◌, ◌≡◌, ◌⊎◌, arith, refl, inl, inr, sym, ◌∙◌, ap, subst, ℤ, pos, ◌+ℤ◌, ◌-ℤ◌}
+use Rattle.std.proofs.Common.{ℕ, zero, suc, ◌<◌, ◌≡◌, arith, refl, inl, inr, sym, ◌∙◌, ap, subst, ℤ, pos, ◌+ℤ◌, ◌-ℤ◌}
 use Rattle.std.specs.Int.{int_max, int_min}
-use Rattle.std.proofs.lemmas.Int.{ints, clamps, by_lt_z}
+use Rattle.std.proofs.lemmas.Int.{ints, clamps}
 use Rattle.short_games.specs.Tree.{Tree, Trees, node, none, more, left, right, Has, size}
 use Rattle.short_games.specs.Number.{num, IsNumberTree}
 use Rattle.short_games.specs.Stops.{IsLeftStop, IsRightStop, IsGreatestRight, IsLeastLeft}
@@ -10,7 +10,7 @@ use Rattle.short_games.proofs.StopLaws.{number-left_stop, number-right_stop}
 use Rattle.short_games.specs.WallGrids.{IsGreatest, IsLeast, Follow, WallsAre, AllWallsAre}
 use Rattle.short_games.specs.WallGrids.Follow.{apart, met}
 use Rattle.short_games.specs.WallGrids.WallsAre.{of_number, of_game}
-use Rattle.short_games.proofs.WallGreatest.{IsFilled, filled, greatest-one, greatest-more, least-one, least-more}
+use Rattle.short_games.proofs.WallGreatest.{IsFilled, filled, greatest-one, greatest-more, least-one, least-more, max-one, min-one}
 use Rattle.short_games.proofs.WallLines.{greatest-same, least-same}
 use Rattle.short_games.proofs.WallSolutions.{all-here, all-left, all-right}
 
@@ -21,10 +21,7 @@ greatest_stop k f none s h = absurd h
 greatest_stop k f (more G none) s h = (f G, s G (inl refl), greatest-one f G)
 greatest_stop k f (more G (more H Hs)) s h =
     let r = greatest_stop k f (more H Hs) (λ X x. s X (inr x)) tt in
-    (int_max (f G) r.0, (f G, (r.0, s G (inl refl), r.1, omega (arith, ints, clamps), omega (arith, ints, clamps), one (f G) r.0)), greatest-more f G (more H Hs) r.0 r.2)
-  where
-    one : (y z : ℤ) → (y ≡ int_max y z) ⊎ (z ≡ int_max y z)
-    one y z = by_lt_z y z (λ l. inr (omega (arith, ints, clamps, l))) (λ l. inl (omega (arith, ints, clamps, l)))
+    (int_max (f G) r.0, (f G, (r.0, s G (inl refl), r.1, omega (arith, ints, clamps), omega (arith, ints, clamps), max-one (f G) r.0)), greatest-more f G (more H Hs) r.0 r.2)
 
 least_stop : (k : ℕ) (f : Tree → ℤ) (Gs : Trees) → ((X : Tree) → Has Gs X → IsLeftStop k X (f X)) → IsFilled Gs → (x : ℤ) × IsLeastLeft k Gs x × IsLeast f Gs x
 unfolding IsLeftStop
@@ -32,10 +29,7 @@ least_stop k f none s h = absurd h
 least_stop k f (more G none) s h = (f G, s G (inl refl), least-one f G)
 least_stop k f (more G (more H Hs)) s h =
     let r = least_stop k f (more H Hs) (λ X x. s X (inr x)) tt in
-    (int_min (f G) r.0, (f G, (r.0, s G (inl refl), r.1, omega (arith, ints, clamps), omega (arith, ints, clamps), one (f G) r.0)), least-more f G (more H Hs) r.0 r.2)
-  where
-    one : (y z : ℤ) → (y ≡ int_min y z) ⊎ (z ≡ int_min y z)
-    one y z = by_lt_z y z (λ l. inl (omega (arith, ints, clamps, l))) (λ l. inr (omega (arith, ints, clamps, l)))
+    (int_min (f G) r.0, (f G, (r.0, s G (inl refl), r.1, omega (arith, ints, clamps), omega (arith, ints, clamps), min-one (f G) r.0)), least-more f G (more H Hs) r.0 r.2)
 
 as_left_stop : (k : ℕ) (G : Tree) (x : ℤ) → (IsNumberTree G → ⊥) → IsGreatestRight k (left G) x → IsLeftStop k G x
 unfolding IsLeftStop

@@ -1,5 +1,5 @@
 -- Lists that have a tree, and the greatest and the least of a list with one more tree.
-use Rattle.std.proofs.Common.{◌≡◌, arith, refl, inl, inr, sym, subst, ℤ, ◌<ℤ◌, ◌≤ℤ◌}
+use Rattle.std.proofs.Common.{◌≡◌, ◌⊎◌, arith, refl, inl, inr, sym, subst, ℤ, ◌<ℤ◌, ◌≤ℤ◌}
 use Rattle.std.specs.Int.{int_max, int_min}
 use Rattle.std.proofs.lemmas.Int.{ints, clamps, by_lt_z}
 use Rattle.short_games.specs.Tree.{Tree, Trees, none, more, Has}
@@ -13,6 +13,13 @@ IsFilled (more G Gs) = Unit {0}
 pub filled : (Gs : Trees) (G : Tree) → Has Gs G → IsFilled Gs
 filled none G h = absurd h
 filled (more H Hs) G h = tt
+
+-- the greater, and the less, of two numbers is one of them
+pub max-one : (y z : ℤ) → (y ≡ int_max y z) ⊎ (z ≡ int_max y z)
+max-one y z = by_lt_z y z (λ l. inr (omega (arith, ints, clamps, l))) (λ l. inl (omega (arith, ints, clamps, l)))
+
+pub min-one : (y z : ℤ) → (y ≡ int_min y z) ⊎ (z ≡ int_min y z)
+min-one y z = by_lt_z y z (λ l. inl (omega (arith, ints, clamps, l))) (λ l. inr (omega (arith, ints, clamps, l)))
 
 -- the greatest and the least of a list with one more tree
 pub greatest-one : (f : Tree → ℤ) (G : Tree) → IsGreatest f (more G none) (f G)

@@ -3,7 +3,7 @@ use Rattle.std.proofs.Math.Nat.{pow-suc}
 use Rattle.std.proofs.Math.IntN.{pos-*ℤ-pos, negsuc-*ℤ-pos}
 use Rattle.std.proofs.Common.{ℕ, zero, suc, ◌+◌, ◌-◌, ◌*◌, ◌^◌, ◌<◌, ◌≤◌, ◌≡◌, ◌⊎◌, ◌↔◌, arith, refl, inl, inr, sym, ◌∙◌, ap, subst, ℤ, pos, negsuc, neg_ℤ, ◌+ℤ◌, ◌-ℤ◌, ◌*ℤ◌, ◌<ℤ◌, ◌≤ℤ◌}
 use Rattle.std.specs.Int.{int_max, int_min}
-use Rattle.std.proofs.lemmas.Int.{ints, clamps, by_lt_z}
+use Rattle.std.proofs.lemmas.Int.{ints, clamps}
 use Rattle.std.proofs.lemmas.Bool.{cases_lt}
 use Rattle.short_games.specs.Tree.{Tree, Trees, node, none, more, left, right, Has, size}
 use Rattle.short_games.specs.Number.{num, IsNumberTree}
@@ -14,7 +14,7 @@ use Rattle.short_games.specs.WallGrids.Follow.{apart, met}
 use Rattle.short_games.specs.WallGrids.WallsAre.{of_number, of_game}
 use Rattle.short_games.proofs.OrderLaws.{size-left, size-right}
 use Rattle.short_games.proofs.WallNumbers.{num-one_to_one}
-use Rattle.short_games.proofs.WallGreatest.{IsFilled, filled, greatest-one, greatest-more, least-one, least-more}
+use Rattle.short_games.proofs.WallGreatest.{IsFilled, filled, greatest-one, greatest-more, least-one, least-more, max-one, min-one}
 use Rattle.short_games.proofs.WallLines.{finer-doubles, greatest-same, least-same}
 use Rattle.short_games.proofs.WallSolutions.{all-here, all-left, all-right, walls-steady, walls-finer, left_scaffold-falls, right_scaffold-rises}
 
@@ -25,10 +25,7 @@ greatest_wall k t f none s h = absurd h
 greatest_wall k t f (more G none) s h = (f G, s G (inl refl), greatest-one f G)
 greatest_wall k t f (more G (more H Hs)) s h =
     let r = greatest_wall k t f (more H Hs) (λ X x. s X (inr x)) tt in
-    (int_max (f G) r.0, (f G, (r.0, s G (inl refl), r.1, omega (arith, ints, clamps), omega (arith, ints, clamps), one (f G) r.0)), greatest-more f G (more H Hs) r.0 r.2)
-  where
-    one : (y z : ℤ) → (y ≡ int_max y z) ⊎ (z ≡ int_max y z)
-    one y z = by_lt_z y z (λ l. inr (omega (arith, ints, clamps, l))) (λ l. inl (omega (arith, ints, clamps, l)))
+    (int_max (f G) r.0, (f G, (r.0, s G (inl refl), r.1, omega (arith, ints, clamps), omega (arith, ints, clamps), max-one (f G) r.0)), greatest-more f G (more H Hs) r.0 r.2)
 
 least_wall : (k t : ℕ) (f : Tree → ℤ) (Gs : Trees) → ((X : Tree) → Has Gs X → IsLeftWall X k t (f X)) → IsFilled Gs → (x : ℤ) × IsLeastLeftWall Gs k t x × IsLeast f Gs x
 unfolding IsLeftWall
@@ -36,10 +33,7 @@ least_wall k t f none s h = absurd h
 least_wall k t f (more G none) s h = (f G, s G (inl refl), least-one f G)
 least_wall k t f (more G (more H Hs)) s h =
     let r = least_wall k t f (more H Hs) (λ X x. s X (inr x)) tt in
-    (int_min (f G) r.0, (f G, (r.0, s G (inl refl), r.1, omega (arith, ints, clamps), omega (arith, ints, clamps), one (f G) r.0)), least-more f G (more H Hs) r.0 r.2)
-  where
-    one : (y z : ℤ) → (y ≡ int_min y z) ⊎ (z ≡ int_min y z)
-    one y z = by_lt_z y z (λ l. inl (omega (arith, ints, clamps, l))) (λ l. inr (omega (arith, ints, clamps, l)))
+    (int_min (f G) r.0, (f G, (r.0, s G (inl refl), r.1, omega (arith, ints, clamps), omega (arith, ints, clamps), min-one (f G) r.0)), least-more f G (more H Hs) r.0 r.2)
 
 to_greatest : (k t : ℕ) (f : Tree → ℤ) (Gs : Trees) (x : ℤ) → ((X : Tree) → Has Gs X → IsRightWall X k t (f X)) → IsGreatest f Gs x → IsGreatestRightWall Gs k t x
 to_greatest k t f Gs x s g = let r = greatest_wall k t f Gs s (filled Gs g.reached.0 g.reached.1) in

@@ -12,10 +12,10 @@ use Rattle.sum_outcome.specs.Opposites.{IsZero}
 use Rattle.sum_outcome.specs.declared.key.Key.{Key}
 use Rattle.sum_outcome.specs.declared.incentives.MovePair.{MovePair}
 
--- how many sums a search may remember, whether the player who is to move loses each of those that it does, of pairs
+-- a search as contracts see it: how many sums it may remember, whether the player who is to move loses each of those that it does, of pairs
 -- of moves whether the incentive of the first is at least that of the second, of pairs of sums of two games whether the
 -- first is at most the second, and the id of 0
-pub record Remembered : Type 0 where
+pub record Search : Type 0 where
   pub entries : ℕ
   pub sums : List (Key × Bool)
   pub incentives : List (MovePair × Bool)
@@ -23,7 +23,7 @@ pub record Remembered : Type 0 where
   pub zero : Option ℕ
 
 -- what a search remembers at first
-abbrev pub blank : ℕ → Remembered
+abbrev pub blank : ℕ → Search
 blank n = record { entries = n; sums = []; incentives = []; comparisons = []; zero = None }
 
 -- the sum of a key's games and its number
@@ -43,17 +43,17 @@ abbrev pub AreAnswers : List Tree → List (Key × Bool) → Type 0
 AreAnswers Ts entries = (e : Key × Bool) → Contains entries e → IsAnswer Ts e.0 e.1
 
 -- a search fits a store where all that it remembers is of ids of the store and right there
-pub record Fits (Ts : List Tree) (search : Remembered) : Type 0 where
+pub record Fits (Ts : List Tree) (search : Search) : Type 0 where
   pub sums : AreAnswers Ts search.sums
   pub incentives : AreIncentivesRight Ts search.incentives
   pub comparisons : AreComparisonsRight Ts search.comparisons
   pub zero : IsZero Ts search.zero
 
 -- a search remembers at most as much as it may
-pub record IsWithin (search : Remembered) : Type 0 where
+pub record IsWithin (search : Search) : Type 0 where
   pub sums : length search.sums ≤ search.entries
   pub incentives : length search.incentives ≤ search.entries
 
 -- a search that fits a store fits it after more forms were interned
 abbrev pub FitsGrownStores : Type 0
-FitsGrownStores = (Ts Us : List Tree) (search : Remembered) → Extends Ts Us → Fits Ts search → Fits Us search
+FitsGrownStores = (Ts Us : List Tree) (search : Search) → Extends Ts Us → Fits Ts search → Fits Us search

@@ -35,10 +35,10 @@ pub struct Search {
 }
 
 impl Model for Search {
-    ghost use Rattle.sum_outcome.specs.Memo.{Remembered, IsWithin};
+    ghost use Rattle.sum_outcome.specs.Memo.{Search, IsWithin};
     ghost use Rattle.sum_outcome.specs.inner.Memo.{remembered, HasBounds};
 
-    ghost Value = { Remembered };
+    ghost Value = { Search };
 
     ghost view = { λ s. remembered s.memo };
 

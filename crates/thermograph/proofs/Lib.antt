@@ -2,7 +2,7 @@ pub mod BreakLists
 pub mod Heights
 pub mod Ranges
 pub mod Bends
-pub mod MarkLaws
+pub mod FlagLaws
 pub mod Hinges
 pub mod Crossings
 pub mod StoreTrees

@@ -22,7 +22,7 @@ use Rattle.short_games.proofs.WallSolutions.{walls-unique, walls-steady, left_sc
 use Rattle.short_games.proofs.WallsDrawn.{left_wall, right_wall, left_scaffold, right_scaffold, left_scaffold-is, right_scaffold-is}
 use Rattle.short_games.proofs.WallSteps.{solution-drawn}
 use Rattle.thermograph.proofs.Heights.{pick-read}
-use Rattle.thermograph.proofs.MarkLaws.{left-inner, right-inner}
+use Rattle.thermograph.proofs.FlagLaws.{left-inner, right-inner}
 use Rattle.thermograph.proofs.StoreTrees.{left-listed, right-listed}
 
 -- the greatest of what the walls of the ids have is the greatest of what their trees have

@@ -1,5 +1,5 @@
 -- What loops and private calls keep; no public clause cites it.
-pub mod Marks
+pub mod Flags
 pub mod Scaffolds
 pub mod Breaks
 pub mod Drawings

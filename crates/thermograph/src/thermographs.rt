@@ -3,7 +3,7 @@
 ghost use Rattle.std.specs.Prelude.{◌≡◌, ◌<◌, ◌≤◌, [], ◌∷◌, ◌++◌, length, IfOk, IfErr, OnOk};
 ghost use Rattle.short_games.specs.Tree.{tree_at};
 ghost use Rattle.thermograph.specs.Breaks.{wall_at};
-ghost use Rattle.thermograph.specs.inner.Marks.{AreFollowers};
+ghost use Rattle.thermograph.specs.inner.Flags.{AreFollowers};
 ghost use Rattle.thermograph.specs.Drawings.{DrawWalls, DrawOnGrids, IsTemperature, AreBreaks, end_of};
 ghost use Rattle.thermograph.specs.inner.Drawings.{IsDrawing, AreDrawn};
 ghost use Rattle.thermograph.specs.PastBounds.{IsDrawnPastBounds};
@@ -40,17 +40,17 @@ impl Walls {
     }
 }
 
-/// The walls of the marked ids below `id`.
+/// The walls of the flagged ids below `id`.
 fn draw_below(
     alloc: Global,
     store: &Store,
-    marks: &[bool],
+    flags: &[bool],
     id: GameId,
 ) -> Result<Walls, ThermoError>
     requires id { id < length store.now }
-    requires marks { AreFollowers store.now id 0 marks.now }
+    requires flags { AreFollowers store.now id 0 flags.now }
     ensures drawn { IfOk result
-        (λ walls. AreDrawn store.now marks.now id walls.left.items walls.right.items) }
+        (λ walls. AreDrawn store.now flags.now id walls.left.items walls.right.items) }
     ensures bounds { IfErr result (λ e. e ≡ the_error.Bounds
         → IsDrawnPastBounds (tree_at store.now id)) }
 {
@@ -59,7 +59,7 @@ fn draw_below(
         right: Vec::new(alloc),
     };
     for place in 0..id {
-        if marks[place as usize] {
+        if flags[place as usize] {
             let drawing = draw_form(alloc, store, &walls, place)?;
             walls.push(drawing.left, drawing.right)?;
         } else {
@@ -92,8 +92,8 @@ pub fn draw(alloc: Global, store: &Store, id: GameId) -> Result<Thermograph, The
     ensures within { IfOk result (λ g. IsDrawnPastBounds (tree_at store.now id) → ⊥) }
 {
     let _count = store.len();
-    let marks = followers(alloc, store, id)?;
-    let walls = draw_below(alloc, store, &marks, id)?;
+    let flags = followers(alloc, store, id)?;
+    let walls = draw_below(alloc, store, &flags, id)?;
     let drawing = draw_form(alloc, store, &walls, id)?;
     let left = wall_with(alloc, &drawing.left)?;
     let right = wall_with(alloc, &drawing.right)?;

@@ -7,7 +7,7 @@ use Rattle.std.proofs.lemmas.List.{length_push, get_or_append_left, get_or_push}
 use Rattle.go_grid.specs.Board.{Board}
 use Rattle.go_grid.specs.Marks.{IsMarked}
 use Rattle.std.specs.Prelude.{Err}
-use Rattle.go_play.specs.Place.{IsPlaced, IsNumberTaken, Answers}
+use Rattle.go_play.specs.Place.{IsPlaced, IsNumberTaken, PlacesStone}
 use Rattle.go_play.specs.declared.placements.PlaceError.{PlaceError}
 use Rattle.go_play.specs.declared.placements.PlaceError.TheVariants as placing
 use Rattle.whole_rules.specs.Purses.{paid_in}
@@ -161,6 +161,6 @@ refused_not_legal s Half Suicide r l = r
 refused_not_legal s Half EmptyPurse r l = r
 
 -- where no stone may be placed
-pub refused_stone : (s : Whole) (p : ℕ) (h : Board) (e : PlaceError) → Answers s.board p s.side h (Err e) → ¬ IsLegal s (Stone p)
+pub refused_stone : (s : Whole) (p : ℕ) (h : Board) (e : PlaceError) → PlacesStone s.board p s.side h (Err e) → ¬ IsLegal s (Stone p)
 refused_stone s p h placing.Occupied a l = a.1 (l.1.1.1.1.1.place, l.1.1.1.1.1.free)
 refused_stone s p h placing.Suicide a l = suicide_not_placed s.board l.1.1.0 p s.side a.2 l.1.1.1.1

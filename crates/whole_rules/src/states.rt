@@ -58,7 +58,12 @@ impl Model for Whole {
 
     ghost Value = { Whole };
 
-    ghost view = { λ w. record { board = w.board; contested = w.contested; purses = w.purses; side = w.side } };
+    ghost view = { λ w. record {
+      board = w.board;
+      contested = w.contested;
+      purses = w.purses;
+      side = w.side;
+    } };
 }
 
 impl Whole {

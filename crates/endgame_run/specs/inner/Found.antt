@@ -1,5 +1,6 @@
 -- What was found of a file on the way to its position.
 use Rattle.std.specs.Prelude.{◌≡◌, ◌≤◌, ◌⊎◌, ℕ, List, codes, Ok, Err, IfSome}
+use Rattle.sgf_go.specs.declared.settings.TheConstants.{MOST_PRISONERS}
 use Rattle.sgf_tree.specs.declared.reader.TheConstants.{MOST_BYTES}
 use Rattle.desk_io.specs.Files.Told.{absent}
 use Rattle.desk_io.specs.Outside.{Rose}
@@ -23,8 +24,8 @@ use Rattle.endgame_run.specs.Found.{IsPositionOf}
 
 -- the ranges of settings: prisoners in points, a komi in half-points
 pub record HasRanges (settings : Settings) : Type 0 where
-  pub black : settings.black_prisoners ≤ 999999
-  pub white : settings.white_prisoners ≤ 999999
+  pub black : settings.black_prisoners ≤ MOST_PRISONERS
+  pub white : settings.white_prisoners ≤ MOST_PRISONERS
   pub komi : IfSome settings.komi IsInRange
 
 -- the position of a main line, or the fault of the line

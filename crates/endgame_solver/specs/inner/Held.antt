@@ -76,7 +76,7 @@ pub record HasRoom (graphs : List Graph) (places : List ℕ) (s : Whole) : Type 
 
 -- what a solved game keeps: the regions of a board with their graphs and values, the place of each in the present state, the
 -- ids of the present values, and purses that stay small enough in any play
-pub record IsKept (regions : List Region) (graphs : List Graph) (values : List (List ℕ)) (places ids : List ℕ) (Ts : List Tree) (s : Whole) : Type 0 where
+pub record AreSolvedAt (regions : List Region) (graphs : List Graph) (values : List (List ℕ)) (places ids : List ℕ) (Ts : List Tree) (s : Whole) : Type 0 where
   pub board : Board
   pub solved : AreSolved board regions graphs values Ts
   pub at : IsAt board regions graphs places s

@@ -42,9 +42,9 @@ spot_in k i = record { region = k; place = i }
 abbrev pub moves_at : List Graph → Colour → Spot → List (Step Spot)
 moves_at graphs c q = steps_of Spot (spot_in q.region) c (edges_at (graph_at graphs q.region).edges q.place)
 
--- the point is one of the region
-abbrev pub InRegion : List Region → ℕ → ℕ → Type 0
-InRegion regions k p = Contains (region_at regions k).points p
+-- the point is one of region `k`
+abbrev pub IsPointOf : List Region → ℕ → ℕ → Type 0
+IsPointOf regions k p = Contains (region_at regions k).points p
 
 -- the position is one of region `k`, and these are its cells
 pub record HasCells (regions : List Region) (graphs : List Graph) (k : ℕ) (q : Spot) (cells : List Cell) : Type 0 where

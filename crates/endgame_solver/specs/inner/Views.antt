@@ -7,7 +7,7 @@ use Rattle.local_graph.specs.declared.graph.Edge.{Edge}
 use Rattle.local_graph.specs.Graph.{Graph}
 use Rattle.local_graph.specs.inner.Graph.{edges_at}
 use Rattle.region_book.specs.Shape.{colour_after}
-use Rattle.endgame_solver.specs.inner.Held.{ArePlaces, IsKept, ids_at}
+use Rattle.endgame_solver.specs.inner.Held.{ArePlaces, AreSolvedAt, ids_at}
 use Rattle.endgame_solver.specs.inner.Regions.{graph_at}
 use Rattle.endgame_solver.specs.Solved.{IsNumberOfShapes}
 use Rattle.endgame_solver.specs.declared.view_book.Book.{Book}
@@ -62,7 +62,7 @@ pub record IsHeld (regions : List Region) (book : Book) (places ids : List ℕ) 
   pub values : List (List ℕ)
   pub views_are : ShowsAll book graphs values (length regions)
   pub shapes : IsNumberOfShapes regions (length book.graphs.items)
-  pub kept : IsKept regions graphs values places ids Ts s
+  pub kept : AreSolvedAt regions graphs values places ids Ts s
 
 -- the book that a search looks at shows a graph and values for each region, and a solved game is kept with them
 abbrev pub IsSeen : Present → List ℕ → Type 0

@@ -14,8 +14,10 @@ use Rattle.game_calc.specs.declared.errors.CalcError.TheVariants as calc
 use Rattle.game_calc.specs.declared.errors.CalcFault.TheVariants as fault
 use Rattle.game_calc.specs.declared.pending.Asked.{Asked}
 use Rattle.game_calc.specs.declared.pending.Asked.TheVariants as asked
+use Rattle.game_calc.specs.declared.pending.Pending.{Pending}
 use Rattle.game_calc.specs.declared.pending.Place.{Place}
 use Rattle.game_calc.specs.declared.pending.Place.TheVariants as due
+use Rattle.game_calc.specs.declared.pending.Source.{Source}
 use Rattle.game_calc.specs.declared.pending.Turn.{Turn}
 use Rattle.game_calc.specs.declared.pending.Turn.TheVariants as turn
 use Rattle.game_calc.specs.declared.tokens.Kind.TheVariants.{Game}
@@ -27,9 +29,9 @@ pub record Frame : Type 0 where
   pub sign : Sign
 
 -- what is due: a term, or what may stand behind one
-pub data State : Type 0 where
-  a_term : Frame → State
-  behind_term : Expression → State
+pub data LineState : Type 0 where
+  a_term : Frame → LineState
+  behind_term : Expression → LineState
 
 -- what a whole line comes to: what it asks for, or a fault
 abbrev pub Answer : Type 0
@@ -58,7 +60,7 @@ module _ (limit : ℕ) where
   BehindSum (f ∷ fs) first o out = BehindTerm (BehindSum fs first) (length fs) f (closed o) out
 
   -- what the line comes to from a state on, with the bytes that are left
-  abbrev pub Rest : State → List Frame → Option Expression → List ℕ → Answer → Type 0
+  abbrev pub Rest : LineState → List Frame → Option Expression → List ℕ → Answer → Type 0
   Rest (a_term f) fs first bytes out = (o : Outcome) × ReadsTerms limit (length fs) f.before f.sign bytes o × BehindSum fs first o out
   Rest (behind_term E) fs first bytes out = AfterTerm (BehindSum fs first) (length fs) E (sign_of (kind bytes)) bytes out
 
@@ -67,7 +69,7 @@ abbrev pub IsOpening : List Tree → ℕ → Frame → Opening → Type 0
 IsOpening Ts limit f o = IsBefore Ts limit f.before o.before × (o.sign ≡ f.sign)
 
 -- how the reader keeps what is due
-abbrev pub IsState : List Tree → ℕ → State → Place → Type 0
+abbrev pub IsState : List Tree → ℕ → LineState → Place → Type 0
 IsState Ts limit (a_term f) (due.Term o) = IsOpening Ts limit f o
 IsState Ts limit (behind_term E) (due.Behind a) = IsAmount Ts limit E a
 IsState Ts limit s p = ⊥
@@ -79,7 +81,7 @@ AreOpen Ts limit (f ∷ fs) opens = (below : List Opening) × (top : Opening) ×
 
 -- the line comes to what its rest comes to from the place on
 pub record IsReading (Ts : List Tree) (limit : ℕ) (text : List ℕ) (spot : ℕ) (p : Place) (opens : List Opening) (first : Option Amount) : Type 0 where
-  pub state : State
+  pub state : LineState
   pub frames : List Frame
   pub before : Option Expression
   pub kept : IsState Ts limit state p
@@ -103,6 +105,14 @@ IsAskedHeld Ts (asked.Order a b) = IsHeld Ts a × IsHeld Ts b
 abbrev pub IsTurn : List Tree → ℕ → List ℕ → ℕ → Turn → List Opening → Option Amount → Type 0
 IsTurn Ts limit text spot (turn.Next step) opens first = IsReading Ts limit text step.at step.place opens first × (spot < step.at)
 IsTurn Ts limit text spot (turn.Whole a) opens first = (line : Line) × ReadsLine limit text (Ok line) × IsAsked Ts limit line a
+
+-- the line of a source comes to what its rest comes to from the place on, behind what is kept
+abbrev pub IsLineDue : List Tree → Source → ℕ → Place → Pending → Type 0
+IsLineDue Ts source spot p kept = IsReading Ts source.parts_limit source.text.now spot p kept.opens.items kept.first
+
+-- the turn goes on further on in the line of a source, behind what is kept, or has read it all
+abbrev pub GoesOnInLine : List Tree → Source → ℕ → Pending → Turn → Type 0
+GoesOnInLine Ts source spot kept t = IsTurn Ts source.parts_limit source.text.now spot t kept.opens.items kept.first
 
 -- the place in a text from which these bytes are left, counted from 0
 abbrev pub IsPlaceOf : List ℕ → List ℕ → ℕ → Type 0

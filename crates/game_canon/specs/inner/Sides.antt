@@ -65,12 +65,12 @@ pub record IsAnswer (s : Side) (Ts : List Tree) (G : Tree) (id answer : ℕ) : T
   pub covered : Covers s (tree_at Ts answer) G
 
 -- the other side has no answer to the move to X after which this side has nothing that it hasn't in G
-abbrev pub IsKept : Side → Tree → Tree → Type 0
-IsKept s G X = (A : Tree) → Has (far s X) A → Covers s A G → ⊥
+abbrev pub IsIrreversible : Side → Tree → Tree → Type 0
+IsIrreversible s G X = (A : Tree) → Has (far s X) A → Covers s A G → ⊥
 
 -- but for moves to numbers, no listed move has an answer after which this side has nothing that it hasn't in G
 abbrev pub IsDone : Side → List Tree → Tree → List ℕ → Type 0
-IsDone s Ts G is = (j : ℕ) → j < length is → IsNumberTree (tree_at Ts (slice_index_or is j 0)) ⊎ IsKept s G (tree_at Ts (slice_index_or is j 0))
+IsDone s Ts G is = (j : ℕ) → j < length is → IsNumberTree (tree_at Ts (slice_index_or is j 0)) ⊎ IsIrreversible s G (tree_at Ts (slice_index_or is j 0))
 
 -- X is an option of G, or an option of a part of one
 abbrev pub Comes : Tree → Tree → Type 0

@@ -14,6 +14,8 @@ use Rattle.game_canon.specs.declared.errors.FormError.TheVariants as form
 use Rattle.game_text.specs.Reading.Outcome.{reads, refused}
 use Rattle.game_text.specs.declared.pending.Opening.{Opening}
 use Rattle.game_text.specs.declared.pending.Step.{Step}
+use Rattle.game_text.specs.declared.pending.Source.{Source}
+use Rattle.game_text.specs.declared.pending.Pending.{Pending}
 use Rattle.game_text.specs.declared.pending.Place.{Place}
 use Rattle.game_text.specs.declared.pending.Place.TheVariants as place
 
@@ -43,11 +45,11 @@ AtEnd (reads G (x ∷ xs)) out = out ≡ Err (bad_byte (x ∷ xs))
 AtEnd (refused fault) out = out ≡ Err fault
 
 -- what is to be read: the first option of a side, a game, what is behind an option, or nothing behind the whole game
-pub data State : Type 0 where
-  first_option : Frame → List Frame → State
-  a_game : List Frame → State
-  other_options : Frame → List Frame → State
-  all_read : Tree → State
+pub data TextState : Type 0 where
+  first_option : Frame → List Frame → TextState
+  a_game : List Frame → TextState
+  other_options : Frame → List Frame → TextState
+  all_read : Tree → TextState
 
 module _ (limit : ℕ) where
   -- what the text comes to, once it is known what other Right options of the innermost form do, where Next tells it of the form
@@ -74,7 +76,7 @@ module _ (limit : ℕ) where
   BehindGame (f ∷ fs) (refused fault) out = out ≡ Err fault
 
   -- what the text comes to from a state on, with the bytes that are left
-  abbrev pub Rest : State → List ℕ → Answer → Type 0
+  abbrev pub Rest : TextState → List ℕ → Answer → Type 0
   Rest (first_option f fs) bytes out = (o : Outcome Trees) × ReadsOptions limit (suc (length fs)) (side_in f) bytes o × BehindSide (BehindGame fs) (suc (length fs)) f o out
   Rest (a_game fs) bytes out = (o : Outcome Tree) × ReadsGame limit (length fs) bytes o × BehindGame fs o out
   Rest (other_options f fs) bytes out = (o : Outcome Trees) × ReadsMore limit (suc (length fs)) (side_in f) bytes o × BehindSide (BehindGame fs) (suc (length fs)) f o out
@@ -113,7 +115,7 @@ AreOpen Ts [] options opens = (options ≡ []) × (opens ≡ [])
 AreOpen Ts (f ∷ fs) options opens = IsInnermost Ts f (AreOpen Ts fs) options opens
 
 -- how the reader keeps a state
-abbrev pub Keeps : List Tree → State → Place → List ℕ → List Opening → Type 0
+abbrev pub Keeps : List Tree → TextState → Place → List ℕ → List Opening → Type 0
 Keeps Ts (first_option f fs) p options opens = (p ≡ place.First) × AreOpen Ts (f ∷ fs) options opens
 Keeps Ts (a_game fs) p options opens = (p ≡ place.Game) × AreOpen Ts fs options opens
 Keeps Ts (other_options f fs) p options opens = (p ≡ place.Behind) × AreOpen Ts (f ∷ fs) options opens
@@ -121,7 +123,7 @@ Keeps Ts (all_read G) p options opens = (p ≡ place.Whole) × (id : ℕ) × (op
 
 -- the text comes to what its rest comes to from the place on
 pub record IsReading (Ts : List Tree) (limit : ℕ) (text : List ℕ) (spot : ℕ) (p : Place) (options : List ℕ) (opens : List Opening) : Type 0 where
-  pub state : State
+  pub state : TextState
   pub kept : Keeps Ts state p options opens
   pub within : spot ≤ length text
   pub comes : (out : Answer) → Rest limit state (drop spot text) out → ReadsText limit text out
@@ -129,6 +131,14 @@ pub record IsReading (Ts : List Tree) (limit : ℕ) (text : List ℕ) (spot : �
 -- where the reader goes on, further on in the text
 abbrev pub IsNext : List Tree → ℕ → List ℕ → ℕ → Step → List ℕ → List Opening → Type 0
 IsNext Ts limit text spot step options opens = IsReading Ts limit text step.at step.place options opens × (spot < step.at)
+
+-- the text of a source comes to what its rest comes to from the place on, behind what is kept
+abbrev pub IsTextDue : List Tree → Source → ℕ → Place → Pending → Type 0
+IsTextDue Ts source spot p kept = IsReading Ts source.parts_limit source.text.now spot p kept.options.items kept.opens.items
+
+-- the step goes on further on in the text of a source, behind what is kept
+abbrev pub GoesOnInText : List Tree → Source → ℕ → Pending → Step → Type 0
+GoesOnInText Ts source spot kept step = IsNext Ts source.parts_limit source.text.now spot step kept.options.items kept.opens.items
 
 -- what is read behind a game
 abbrev pub place_after : List Opening → Place

@@ -14,12 +14,12 @@ abbrev pub state_in : Option Solved → Option Whole
 state_in game = option_map (λ g. g.state) game
 
 -- limits that the engine can have
-pub record AreModest (limits : Limits) : Type 0 where
+pub record AreEngineLimits (limits : Limits) : Type 0 where
   pub positions : limits.positions ≤ MOST_POSITIONS
   pub no_tax : limits.tax ≡ false
 
--- what an engine keeps: limits that it can have, a setup that can be opened, and the numbers of loads that failed
-pub record IsKept (limits : Limits) (setup : Setup) (loads : ℕ) (failed : List ℕ) : Type 0 where
-  pub limits_fit : AreModest limits
+-- what an engine keeps is fit: limits that it can have, a setup that can be opened, and the numbers of loads that failed
+pub record IsFitEngine (limits : Limits) (setup : Setup) (loads : ℕ) (failed : List ℕ) : Type 0 where
+  pub limits_fit : AreEngineLimits limits
   pub setup_fit : IsFit setup
   pub numbered : AreLoads loads failed

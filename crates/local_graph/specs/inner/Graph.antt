@@ -13,6 +13,10 @@ part edges s = take (s.end - s.start) (drop s.start edges)
 abbrev pub lists_of : List Edge → List Span → List (List Edge)
 lists_of edges spans = map (part edges) spans
 
+-- the span that names no edges
+abbrev pub no_edges : Span
+no_edges = record { start = 0; end = 0 }
+
 -- each span names a part of so many edges
 abbrev pub AreWithin : ℕ → List Span → Type 0
 AreWithin count spans = All (λ s. (s.start ≤ s.end) × (s.end ≤ count)) spans

@@ -1,7 +1,10 @@
 -- A table of the places of positions: each slot has a chain of links, from the position that was entered there last back.
 use Rattle.std.specs.Prelude.{◌≡◌, ℕ, suc, ◌+◌, ◌-◌, ◌*◌, ◌/◌, ◌%◌, ◌^◌, ◌<◌, ◌≤◌, List, length, slice_index, Contains, bit_and, cond, nat_lt}
 use Rattle.go_grid.specs.declared.grid.Cell.{Cell}
-use Rattle.local_play.specs.Packed.{pack}
+use Rattle.go_grid.specs.Board.{stone}
+use Rattle.local_play.specs.Packed.{code, pack}
+use Rattle.local_play.specs.declared.local_move.LocalMove.{LocalMove}
+use Rattle.local_play.specs.declared.places.TheConstants.{MOST_PLACES}
 use Rattle.local_graph.specs.declared.place_table.PlaceTable.{PlaceTable}
 
 -- the number with the upper half of each group counted `less` times less
@@ -16,6 +19,15 @@ threes n =
     let eights = folded fours 8 71777214294589695 175 in
     let halves = folded eights 16 281470681808895 58975 in
     folded halves 32 4294967295 4251920575
+
+-- the list has the powers of 3, one for each place
+abbrev pub ArePowers : List ℕ → Type 0
+ArePowers powers = (p : ℕ) → p < MOST_PLACES → slice_index powers p ≡ 3 ^ p
+
+-- a move that takes nothing leads from a position with the number to one with the digit of its stone more
+pub record Follows (from : ℕ) (m : LocalMove) : Type 0 where
+  pub inside : m.place < MOST_PLACES
+  pub plain : m.taken ≡ 0 → threes m.next ≡ from + code (stone m.colour) * 3 ^ m.place
 
 -- the number is that of a position of at most 32 places, whose number in base 3 is one of so many
 abbrev pub IsNumbered : ℕ → ℕ → Type 0

@@ -1,5 +1,6 @@
 -- What a pass over a graph notes of its places, and what it makes of the edges of one.
-use Rattle.std.specs.Prelude.{ℕ, ◌+◌, ◌*◌, ◌^◌, ◌≡◌, ◌<◌, ◌≤◌, List, [], ◌∷◌, ◌++◌, length, Contains, ℤ, unsigned_abs, slice_index}
+use Rattle.std.specs.Prelude.{ℕ, ◌+◌, ◌-◌, ◌*◌, ◌^◌, ◌≡◌, ◌<◌, ◌≤◌, List, [], ◌∷◌, ◌++◌, length, Contains, ℤ, unsigned_abs, slice_index}
+use Rattle.dyadic_num.specs.declared.TheConstants.{EXPONENT, LIMIT}
 use Rattle.go_grid.specs.declared.grid.Colour.{Colour}
 use Rattle.go_grid.specs.declared.grid.Colour.TheVariants.{Black, White}
 use Rattle.local_graph.specs.declared.graph.Edge.{Edge}
@@ -24,13 +25,17 @@ IsNoted Ts ids i = (i < length ids) × (slice_index ids i < length Ts)
 abbrev pub tree_after : List Tree → List ℕ → Edge → Tree
 tree_after Ts ids e = noted Ts ids e.next +ᵍ gain e.colour e.taken
 
--- the numbers that are noted for the edge's end have a size of at most b with the stones added, in parts of 2 ^ -60
+-- the numbers that are noted for the edge's end have a size of at most b with the stones added, in the parts of a Dyadic
 abbrev pub IsWithinAfter : ℕ → List Tree → List ℕ → Edge → Type 0
-IsWithinAfter b Ts ids e = (x : ℤ) → IsNumberOf (noted Ts ids e.next) x → unsigned_abs x + e.taken * 2 ^ 60 ≤ b
+IsWithinAfter b Ts ids e = (x : ℤ) → IsNumberOf (noted Ts ids e.next) x → unsigned_abs x + e.taken * 2 ^ EXPONENT ≤ b
 
--- the numbers that are noted for the end of each edge have a size of at most b with its stones added, in parts of 2 ^ -60
+-- the numbers that are noted for the end of each edge have a size of at most b with its stones added, in the parts of a Dyadic
 abbrev pub AreWithinAfter : ℕ → List Tree → List ℕ → List Edge → Type 0
 AreWithinAfter b Ts ids es = (e : Edge) → Contains es e → IsWithinAfter b Ts ids e
+
+-- the greatest size of a number within the bounds, in the parts of a Dyadic
+abbrev pub most_units : ℕ
+most_units = unsigned_abs LIMIT - 1
 
 -- an id of Us, which extends Ts: that of the canonical tree after the edge
 pub record IsAfter (Ts Us : List Tree) (ids : List ℕ) (e : Edge) (id : ℕ) : Type 0 where

@@ -4,6 +4,7 @@ use Rattle.std.specs.Option.{option_map}
 use Rattle.std.specs.Char.{is_ascii_digit, digit_value}
 use Rattle.sgf_go.specs.Komi.{digit_0, digit_5}
 use Rattle.std.specs.Float.Numeral.{dot, minus, plus}
+use Rattle.sgf_go.specs.declared.komi.TheConstants.{MOST_KOMI}
 
 -- whether each of the bytes is the digit `0`
 unfoldable pub all_zeros : List ℕ → Bool
@@ -20,7 +21,7 @@ fraction some (b ∷ bs) = if all_zeros bs then (if b == digit_0 then Some 0 els
 unfoldable pub scan : ℕ → Bool → List ℕ → Option ℕ
 scan n some [] = if some then Some (2 * n) else None
 scan n some (b ∷ bs) =
-    if is_ascii_digit b then (if nat_le (n * 10 + digit_value b) 999999 then scan (n * 10 + digit_value b) true bs else None)
+    if is_ascii_digit b then (if nat_le (n * 10 + digit_value b) MOST_KOMI then scan (n * 10 + digit_value b) true bs else None)
     else (if b == dot then option_map (λ more. 2 * n + more) (fraction some bs) else None)
 
 -- how many halves a komi is, if the bytes are one

@@ -133,7 +133,7 @@ is_close token.Close = true
 is_close t = false
 
 -- how the reading stands: its place, how many trees are open, whether it is on the main line, and the parts read so far
-pub record State : Type 0 where
+pub record ReaderState : Type 0 where
   pub place : Place
   pub depth : ℕ
   -- no tree has been closed yet
@@ -141,7 +141,7 @@ pub record State : Type 0 where
   pub parts : Parts
 
 -- how the reading stands after a token and its byte; off the main line no parts are kept
-abbrev pub after : State → Token → ℕ → State
+abbrev pub after : ReaderState → Token → ℕ → ReaderState
 after s t b = record {
   place = place_after s.place t s.depth;
   depth = depth_after t s.depth;
@@ -154,7 +154,7 @@ abbrev pub no_parts : Parts
 no_parts = record { nodes = []; properties = []; name = []; values = []; text = [] }
 
 -- how the reading stands before the first byte of a tree
-abbrev pub begin : State
+abbrev pub begin : ReaderState
 begin = record { place = at.Start; depth = 1; on_main = true; parts = no_parts }
 
 -- how the reading ends
@@ -175,12 +175,12 @@ is_open token.Open = true
 is_open t = false
 
 -- how the reading ends where byte `n` fits nowhere, opens one tree too many or closes the whole tree; else `go` says how
-abbrev pub judged : State → ℕ → ℕ → Option Token → (State → Verdict) → Verdict
+abbrev pub judged : ReaderState → ℕ → ℕ → Option Token → (ReaderState → Verdict) → Verdict
 judged s n b None go = bad_byte n
 judged s n b (Some t) go = if is_open t && (s.depth == most_open_trees) then too_deep n else (if is_done (place_after s.place t s.depth) then read (n + 1) (after s t b).parts.nodes else go (after s t b))
 
 -- how the reading ends, from a state, with `n` bytes read, on the bytes that are left
-unfoldable pub verdict : State → ℕ → List ℕ → Verdict
+unfoldable pub verdict : ReaderState → ℕ → List ℕ → Verdict
 verdict s n [] = cut_short
 verdict s n (b ∷ bs) = judged s n b (token_at s.place b) (λ t. verdict t (n + 1) bs)
 
@@ -189,7 +189,7 @@ abbrev pub parts_of : Draft → Parts
 parts_of d = record { nodes = map node_text d.nodes.items; properties = map property_text d.properties.items; name = d.name.items; values = map (λ v. v.items) d.values.items; text = d.text.items }
 
 -- the reader's state without where it lies in memory
-abbrev pub state_of : Reader → State
+abbrev pub state_of : Reader → ReaderState
 state_of r = record { place = r.place; depth = r.depth; on_main = r.on_main; parts = parts_of r.draft }
 
 -- what is answered is how the reading ends, unless memory ran out

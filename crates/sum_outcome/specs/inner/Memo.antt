@@ -7,10 +7,10 @@ use Rattle.game_store.specs.Meaning.{AreIds}
 use Rattle.sum_outcome.specs.Sums.{sum_tree}
 use Rattle.sum_outcome.specs.declared.key.Key.{Key}
 use Rattle.sum_outcome.specs.declared.memo.Memo.{Memo}
-use Rattle.sum_outcome.specs.Memo.{Remembered, key_tree, mover, IsAnswer, Fits}
+use Rattle.sum_outcome.specs.Memo.{Search, key_tree, mover, IsAnswer, Fits}
 
 -- what a memo remembers
-abbrev pub remembered : Memo → Remembered
+abbrev pub remembered : Memo → Search
 remembered memo = record { entries = memo.sums.cap; sums = memo.sums.entries; incentives = memo.incentives.answers.entries; comparisons = memo.incentives.comparisons; zero = memo.zero }
 
 -- a memo has room for as many pairs of moves as sums

@@ -1,25 +1,18 @@
-use Rattle.std.proofs.Common.{ℕ, suc, zero, ◌≤◌, ◌≡◌, ◌↔◌, ◌∙◌, ◌*ℤ◌, ◌^◌, pos, refl, sym, subst, ap, arith, IsTrue}
+use Rattle.std.proofs.Common.{ℕ, suc, zero, ◌≤◌, ◌≡◌, ◌↔◌, ◌∙◌, ◌*ℤ◌, ◌^◌, pos, refl, subst, ap, arith, IsTrue}
 use Rattle.go_grid.specs.Board.{other}
 use Rattle.whole_rules.specs.Purses.{purse, paid_out}
-use Rattle.game_store.specs.Meaning.{pick}
 use Rattle.sum_outcome.specs.Players.{LosesGame}
-use Rattle.sum_outcome.specs.Sums.{IsBounded, sum_tree}
-use Rattle.endgame_solver.specs.inner.Held.{AreModest}
+use Rattle.sum_outcome.specs.Sums.{sum_tree}
 use Rattle.endgame_solver.specs.SumGame.{balance}
-use Rattle.endgame_solver.proofs.WinningLaws.{modest_spent, fits_now, spend_wins}
+use Rattle.endgame_solver.proofs.ViewLaws.{held_bounds, held_spent}
+use Rattle.endgame_solver.proofs.WinningLaws.{spend_wins}
 use Rattle.endgame_solver.proofs.winning_moves.spend_wins.Goals as goal
 
 pub balance_of-requires : goal.balance_of-requires
-balance_of-requires c =
-    let p = c.args.present.now in
-    subst AreModest (sym (c.paid_out-purses.ensures ∙ ap (paid_out c.side-side.result) c.purses.ensures)) (modest_spent c.requires.seen.graphs p.places.now p.whole.now c.side-side.result c.requires.seen.kept.room)
+balance_of-requires c = held_spent c.requires.seen c.side-side.result (c.paid_out-purses.ensures ∙ ap (paid_out c.side-side.result) c.purses.ensures)
 
 pub loses-requires-clause-bounds : goal.loses-requires-clause-bounds
-loses-requires-clause-bounds c =
-    let p = c.args.present.now in
-    let modest = subst AreModest (sym (c.paid_out-purses.ensures ∙ ap (paid_out c.side-side.result) c.purses.ensures)) (modest_spent c.requires.seen.graphs p.places.now p.whole.now c.side-side.result c.requires.seen.kept.room) in
-    let fits = fits_now p.regions.now c.requires.seen.graphs c.requires.seen.values p.places.now c.args.sum.now p.store.now p.whole.now c.requires.seen.kept in
-    subst (IsBounded (pick p.store.now c.args.sum.now)) (sym c.balance_of.ensures) (fits.bounds c.paid_out-purses.result modest)
+loses-requires-clause-bounds c = held_bounds c.requires.seen (held_spent c.requires.seen c.side-side.result (c.paid_out-purses.ensures ∙ ap (paid_out c.side-side.result) c.purses.ensures)) c.balance_of.ensures
 
 some : (n : ℕ) → (n ≡ 0 → ⊥) → 1 ≤ n
 some zero h = absurd (h refl)

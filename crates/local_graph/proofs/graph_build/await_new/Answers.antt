@@ -1,13 +1,17 @@
-use Rattle.std.proofs.Common.{◌<◌, arith, length}
-use Rattle.local_graph.proofs.FoundLemmas.{awaited_push, awaited_more}
+use Rattle.std.proofs.Common.{◌≡◌, arith, ap, length}
+use Rattle.std.proofs.lemmas.List.{length_push}
+use Rattle.local_graph.specs.inner.Graph.{no_edges}
+use Rattle.local_graph.proofs.FoundLemmas.{awaited_span, within_empty}
 use Rattle.local_graph.proofs.graph_build.await_new.Goals as goal
 
 pub awaiting-preserved : goal.awaiting-preserved
 awaiting-preserved c =
-    let less : length c.awaiting.all < c.args.count = omega (arith, c.len.ensures, c.awaiting-test.true) in
-    let next = awaited_push c.args.all.now c.awaiting.all c.args.waiting.now.items c.awaiting.waiting.items _ _ c.len-in-awaiting.result
-    c.awaiting.invariant.awaited c.len-in-awaiting.ensures c.in_ok-push.ensures.items c.in_ok-push-2.ensures.ok in
+    let so_far = c.awaiting.invariant in
+    let spans = c.awaiting.spans.items in
+    let at : c.len-in-awaiting.result ≡ length spans = omega (arith, c.len-in-awaiting.ensures, c.awaiting.spans.ok) in
+    let more = c.in_ok-push-2.ensures.items in
     record {
-      awaited = next;
-      most = awaited_more c.awaiting.all _ c.args.count c.in_ok-push-2.ensures.ok less;
+      awaited = λ edges. awaited_span edges _ spans _ _ _ _ c.len-in-awaiting.result (so_far.awaited edges) at c.in_ok-push.ensures.items more;
+      within = λ edges first. within_empty edges spans _ (so_far.within edges first) more;
+      most = omega (arith, c.len.ensures, c.awaiting.spans.ok, c.awaiting-test.true, ap length more, length_push spans no_edges);
     }

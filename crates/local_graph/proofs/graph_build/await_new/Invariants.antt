@@ -1,12 +1,15 @@
-use Rattle.std.proofs.Common.{length, ◌≤◌, ◌-◌}
+use Rattle.std.proofs.Common.{ℕ, length, ◌≤◌, ◌-◌, List}
+use Rattle.local_graph.specs.declared.graph.Edge.{Edge}
+use Rattle.local_graph.specs.inner.Graph.{lists_of, AreWithin}
 use Rattle.local_graph.specs.inner.Found.{AreAwaited}
 use Rattle.local_graph.proofs.graph_build.await_new.Given as goal
 
 abbrev pub invariant-awaiting : goal.invariant-awaiting
 invariant-awaiting l = record {
-  awaited : AreAwaited l.fn.all l.fn.waiting.items (length l.all) l.all l.waiting.items;
-  most : length l.all ≤ l.count;
+  awaited : (edges : List Edge) → AreAwaited (lists_of edges l.fn.spans.items) l.fn.waiting.items (length l.spans.items) (lists_of edges l.spans.items) l.waiting.items;
+  within : (edges : ℕ) → AreWithin edges l.fn.spans.items → AreWithin edges l.spans.items;
+  most : length l.spans.items ≤ l.count;
 }
 
 abbrev pub decreases-awaiting : goal.decreases-awaiting
-decreases-awaiting l = l.count - length l.all
+decreases-awaiting l = l.count - length l.spans.items

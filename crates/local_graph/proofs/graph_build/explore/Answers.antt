@@ -1,7 +1,11 @@
-use Rattle.std.proofs.Common.{arith, ap, sym, ◌∙◌, ◌≡◌, length, set}
+use Rattle.std.proofs.Common.{arith, refl, ap, sym, ◌∙◌, ◌≡◌, length, drop, set}
 use Rattle.std.proofs.lemmas.Result.{err_from_is_err_and}
-use Rattle.std.proofs.lemmas.List.{length_push, length-set}
+use Rattle.std.proofs.lemmas.List.{length_push, length-set, length-map}
+use Rattle.local_graph.specs.inner.Graph.{part, lists_of}
+use Rattle.local_graph.specs.declared.edge_lists.Span.{Span}
+use Rattle.local_graph.proofs.EdgeListLemmas.{none_within, lists_put, within_put}
 use Rattle.local_graph.proofs.ExploreLemmas.{start_fails, start_found, next_position, last_waiting, explored_more, explored_fails, explored_all, few_numbers, opening_numbered, moves_numbered}
+use Rattle.local_graph.proofs.NumberLemmas.{moves_follow, small_number}
 use Rattle.local_graph.proofs.graph_build.explore.Goals as goal
 
 pub returns-in_err-new_place-clause-graph : goal.returns-in_err-new_place-clause-graph
@@ -18,14 +22,17 @@ new_place-requires-clause-numbered g c =
 pub exploring-init : goal.exploring-init
 exploring-init g c =
     let full : c.len.result ≡ length c.new_place.new.table.positions.items = omega (arith, c.len.ensures, c.new_place.new.table.positions.ok) in
-    let first = start_found c.args.region.now.touch c.args.region.now.cells c.args.limit _ _ _ _ _ c.new-all.result _ _ _
-    c.requires.none c.start.ensures.packed c.new-all.ensures c.new-waiting.ensures.items c.in_ok-new_place.ensures.placed full c.in_ok-await_new.ensures in
+    let edges = c.new-edges.result.items in
+    let awaited = c.in_ok-await_new.ensures.awaited edges in
+    let first = start_found c.args.region.now.touch c.args.region.now.cells c.args.limit _ _ _ _ _ (lists_of edges c.new-spans.result.items) _ _ _
+    c.requires.none c.start.ensures.packed (ap (lists_of edges) c.new-spans.ensures.items) c.new-waiting.ensures.items c.in_ok-new_place.ensures.placed full awaited in
     record {
       table = c.in_ok-new_place.ensures.table;
       numbers = c.in_ok-new_place.ensures.numbers ∙ c.requires.numbers;
       so_far = first;
+      within = c.in_ok-await_new.ensures.within (length edges) (none_within (length edges) _ c.new-spans.ensures.items);
       fewer = few_numbers c.args.region.now.touch c.args.region.now.cells c.args.limit (length c.args.region.now.points) _ _ _ first c.start.ensures.full;
-      counted = omega (arith, c.in_ok-await_new.ensures.many, ap length c.new-all.ensures, ap length c.new-waiting.ensures.items, full);
+      counted = omega (arith, awaited.many, ap (λ s. length (lists_of edges s)) c.new-spans.ensures.items, ap length c.new-waiting.ensures.items, full);
     }
 
 pub index-position-requires : goal.index-position-requires
@@ -44,6 +51,23 @@ list_edges-requires-clause-numbered g c =
     moves_numbered c.args.region.now.touch next.cells c.deref.result.now c.exploring.table.numbers (length c.args.region.now.points)
     (rw c.deref.ensures.value moves) (next.long ∙ c.start.ensures.full) c.requires.points c.exploring.invariant.numbers
 
+pub list_edges-requires-clause-follows : goal.list_edges-requires-clause-follows
+list_edges-requires-clause-follows g c =
+    let s = c.exploring.invariant.so_far in
+    let inside = last_waiting _ _ _ _ _ _ c.pop.new.self.items c.in-Some.place s c.in-Some.ensures.items in
+    let next = next_position c.args.region.now.touch c.args.region.now.cells _ _ _ s.reachable inside c.index-position.ensures in
+    let full = next.long ∙ c.start.ensures.full ∙ sym c.of-links.ensures.full in
+    let moves = c.in_ok-list_moves.ensures.moves c.args.region.now.touch next.cells c.of-links.ensures.table full next.packed in
+    moves_follow c.args.region.now.touch next.cells c.deref.result.now c.index-position.result.now (length c.args.region.now.points)
+    (rw c.deref.ensures.value moves) (next.long ∙ c.start.ensures.full) c.requires.points next.packed
+
+pub list_edges-requires-clause-small : goal.list_edges-requires-clause-small
+list_edges-requires-clause-small g c =
+    let s = c.exploring.invariant.so_far in
+    let inside = last_waiting _ _ _ _ _ _ c.pop.new.self.items c.in-Some.place s c.in-Some.ensures.items in
+    let next = next_position c.args.region.now.touch c.args.region.now.cells _ _ _ s.reachable inside c.index-position.ensures in
+    small_number next.cells c.index-position.result.now (length c.args.region.now.points) (next.long ∙ c.start.ensures.full) c.requires.points next.packed
+
 pub returns-in_err-list_edges-clause-graph : goal.returns-in_err-list_edges-clause-graph
 returns-in_err-list_edges-clause-graph g c =
     let s = c.exploring.invariant.so_far in
@@ -53,14 +77,15 @@ returns-in_err-list_edges-clause-graph g c =
     let moves = c.in_ok-list_moves.ensures.moves c.args.region.now.touch next.cells c.of-links.ensures.table full next.packed in
     let p = err_from_is_err_and c.from_residual-in_err-list_edges.result c.from_residual-in_err-list_edges.ensures.1 in
     rw (p.1, p.2)
-    (explored_fails _ _ _ _ _ _ _ c.deref.result.now c.list_edges.new.edges.items _ s.reachable next
+    (explored_fails _ _ _ _ _ _ _ c.deref.result.now (drop (length c.exploring.edges.items) c.list_edges.new.edges.items) _ s.reachable next
     (rw c.deref.ensures.value moves) c.in_err-list_edges.ensures.edges)
 
-pub put-requires : goal.put-requires
-put-requires g c =
+pub index_mut-requires : goal.index_mut-requires
+index_mut-requires g c =
     let s = c.exploring.invariant.so_far in
     let inside = last_waiting _ _ _ _ _ _ c.pop.new.self.items c.in-Some.place s c.in-Some.ensures.items in
-    omega (arith, inside, s.beside)
+    let spans = c.exploring.spans in
+    omega (arith, inside, s.beside, length-map spans.items (part c.exploring.edges.items), spans.ok)
 
 pub exploring-preserved : goal.exploring-preserved
 exploring-preserved g c =
@@ -70,17 +95,26 @@ exploring-preserved g c =
     let next = next_position c.args.region.now.touch c.args.region.now.cells _ _ _ s.reachable inside c.index-position.ensures in
     let full = next.long ∙ c.start.ensures.full ∙ sym c.of-links.ensures.full in
     let moves = c.in_ok-list_moves.ensures.moves c.args.region.now.touch next.cells c.of-links.ensures.table full next.packed in
-    let put = c.in_ok-put.ensures.ok ∙ ap (set c.exploring.all c.in-Some.place) c.deref-in-Some.ensures.value in
+    let edges = c.exploring.edges.items in
+    let after = c.list_edges.new.edges in
+    let behind = drop (length edges) after.items in
+    let spans = c.exploring.spans.items in
+    let from : c.len-first.result ≡ length edges = omega (arith, c.len-first.ensures, c.exploring.edges.ok) in
+    let to : c.len-end.result ≡ length after.items = omega (arith, c.len-end.ensures, after.ok) in
+    let span : Span = record { start = c.len-first.result; end = c.len-end.result } in
+    let put = lists_put edges behind after.items spans _ span c.in-Some.place c.exploring.invariant.within c.in_ok-list_edges.ensures.behind refl from to in
+    let within = within_put edges behind after.items spans _ span c.in-Some.place c.exploring.invariant.within c.in_ok-list_edges.ensures.behind refl from to in
     let found = c.list_edges.new.table.positions in
     let count : c.len-in-Some.result ≡ length found.items = omega (arith, c.len-in-Some.ensures, found.ok) in
-    let awaited = c.in_ok-await_new-2.ensures in
-    let more = explored_more c.args.region.now.touch c.args.region.now.cells c.args.limit _ _ c.exploring.all c.put.new.self _ _ _ _ _ _ c.len-in-Some.result
-    c.deref.result.now c.list_edges.new.edges.items c.in_ok-list_edges.field-0 s ends next (rw c.deref.ensures.value moves)
+    let awaited = c.in_ok-await_new-2.ensures.awaited after.items in
+    let more = explored_more c.args.region.now.touch c.args.region.now.cells c.args.limit _ _ (lists_of edges spans) _ _ _ _ _ _ _ c.len-in-Some.result
+    c.deref.result.now behind c.in_ok-list_edges.field-0 s ends next (rw c.deref.ensures.value moves)
     c.in_ok-list_edges.ensures.edges put count awaited in
     record {
       table = c.in_ok-list_edges.ensures.table;
       numbers = c.in_ok-list_edges.ensures.numbers ∙ c.exploring.invariant.numbers;
       so_far = more;
+      within = c.in_ok-await_new-2.ensures.within (length after.items) within;
       fewer = few_numbers c.args.region.now.touch c.args.region.now.cells c.args.limit (length c.args.region.now.points) _ _ _ more c.start.ensures.full;
       counted = omega (
         arith,
@@ -89,14 +123,36 @@ exploring-preserved g c =
         awaited.many,
         count,
         ap length put,
-        length-set c.exploring.all c.in-Some.place c.list_edges.new.edges.items,
+        length-set (lists_of edges spans) c.in-Some.place behind,
         s.beside,
         ap length ends,
         length_push c.pop.new.self.items c.in-Some.place,
       );
     }
 
+pub exploring-smaller : goal.exploring-smaller
+exploring-smaller g c =
+    let s = c.exploring.invariant.so_far in
+    let spans = c.exploring.spans.items in
+    let after = c.list_edges.new.edges.items in
+    let found = c.list_edges.new.table.positions in
+    let awaited = c.in_ok-await_new-2.ensures.awaited after in
+    omega (
+      arith,
+      s.few,
+      c.in_ok-list_edges.ensures.edges.2,
+      awaited.many,
+      c.len-in-Some.ensures,
+      found.ok,
+      length-set spans c.in-Some.place (record { start = c.len-first.result; end = c.len-end.result }),
+      length-map (set spans c.in-Some.place (record { start = c.len-first.result; end = c.len-end.result })) (part after),
+      length-map spans (part c.exploring.edges.items),
+      s.beside,
+      ap length c.in-Some.ensures.items,
+      length_push c.pop.new.self.items c.in-Some.place,
+    )
+
 pub returns-clause-graph : goal.returns-clause-graph
 returns-clause-graph g c =
     let none : length c.exploring.waiting.items ≡ 0 = omega (arith, c.in_default.ensures.cases.0, c.exploring.waiting.ok) in
-    explored_all _ _ _ _ _ _ c.exploring.invariant.so_far none
+    explored_all _ _ _ _ _ _ _ c.exploring.invariant.so_far none c.of.ensures

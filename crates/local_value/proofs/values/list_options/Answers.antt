@@ -2,6 +2,7 @@ use Rattle.std.proofs.Common.{◌^◌, ◌-◌, refl}
 use Rattle.go_grid.specs.declared.grid.Colour.TheVariants.{Black, White}
 use Rattle.local_value.proofs.AfterLaws.{listing-start, listing-add, listing-done, both-same, step-noted, step-within}
 use Rattle.local_value.proofs.values.list_options.Goals as goal
+use Rattle.local_value.specs.inner.Valuing.{most_units}
 
 pub loop-edge-init : goal.loop-edge-init
 loop-edge-init c = record {
@@ -16,7 +17,7 @@ value_after-requires-clause-noted c = step-noted c.args.store.now c.loop-edge.st
 
 pub value_after-requires-clause-small : goal.value_after-requires-clause-small
 value_after-requires-clause-small c = step-within c.args.store.now c.loop-edge.store c.args.ids.now Black c.args.edges.now c.loop-edge.edge-index c.loop-edge.options.left.items c.loop-edge-test.true c.loop-edge.invariant.left
-    c.requires.noted (2 ^ 120 - 1) c.requires.small
+    c.requires.noted most_units c.requires.small
 
 pub loop-edge-preserved : goal.loop-edge-preserved
 loop-edge-preserved c =

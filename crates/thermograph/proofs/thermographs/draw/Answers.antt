@@ -11,7 +11,7 @@ use Rattle.thermograph.proofs.PastBounds.{none-past_bounds, past-bounds_of}
 use Rattle.thermograph.proofs.Finer.{draw-all, draw-grids}
 use Rattle.thermograph.proofs.Points.{points-in_bounds, breaks-points, points-from_zero}
 use Rattle.thermograph.proofs.thermographs.draw.Goals as goal
-use Rattle.thermograph.proofs.thermographs.draw.Goals.{After-drop-marks-2}
+use Rattle.thermograph.proofs.thermographs.draw.Goals.{After-drop-flags-2}
 
 pub wall_with-requires : goal.wall_with-requires
 wall_with-requires c = let d = c.in_ok-drawing.ensures.drawn in
@@ -21,10 +21,10 @@ pub wall_with-requires-2 : goal.wall_with-requires-2
 wall_with-requires-2 c = let d = c.in_ok-drawing.ensures.drawn in
     subst AreInBounds (sym c.deref-3.ensures.value) (points-in_bounds c.in_ok-drawing.drawing.right.items (end_of c.in_ok-drawing.drawing.temperature) d.right_breaks d.drawn.right_level d.end)
 
-left_is : (c : After-drop-marks-2) → breaks c.in_ok-left.left ≡ c.in_ok-drawing.drawing.left.items
+left_is : (c : After-drop-flags-2) → breaks c.in_ok-left.left ≡ c.in_ok-drawing.drawing.left.items
 left_is c = ap breaks (c.in_ok-left.ensures {u = tt}) ∙ breaks-points c.deref-2.result.now ∙ c.deref-2.ensures.value
 
-right_is : (c : After-drop-marks-2) → breaks c.in_ok-right.right ≡ c.in_ok-drawing.drawing.right.items
+right_is : (c : After-drop-flags-2) → breaks c.in_ok-right.right ≡ c.in_ok-drawing.drawing.right.items
 right_is c = ap breaks (c.in_ok-right.ensures {u = tt}) ∙ breaks-points c.deref-3.result.now ∙ c.deref-3.ensures.value
 
 pub returns-clause-walls : goal.returns-clause-walls

@@ -1,9 +1,8 @@
-use Rattle.std.proofs.Common.{◌≡◌, ◌<◌, ◌∙◌, refl, sym, ap, subst, length, get_or, set}
-use Rattle.endgame_solver.specs.inner.Held.{IsKept, ids_at}
+use Rattle.std.proofs.Common.{refl, sym, subst, length, set}
+use Rattle.endgame_solver.specs.inner.Held.{AreSolvedAt}
 use Rattle.endgame_solver.specs.inner.Views.{ShowsAll, ShowsPlaces}
-use Rattle.endgame_solver.proofs.ViewLaws.{asks_values, asks_view, held_as, ids_seen, shows_places}
-use Rattle.endgame_solver.proofs.WinningLaws.{asks_stone}
-use Rattle.endgame_solver.proofs.KeptLaws.{edge_seen, none_seen, few_black, few_white, kept_stone, some_edge, kept_applied}
+use Rattle.endgame_solver.proofs.ViewLaws.{held_as, shows_places, stone_next, stone_seen, stone_value, stone_values, stone_view}
+use Rattle.endgame_solver.proofs.KeptLaws.{none_seen, few_black, few_white, kept_stone, some_edge, kept_applied}
 use Rattle.endgame_solver.proofs.solved.Solved.play.Goals as goal
 
 pub apply-requires : goal.apply-requires
@@ -32,35 +31,13 @@ stone_edge-edge-requires c =
     (subst (ShowsPlaces i.regions.items i.book) (sym c.deref-2.ensures.value) (shows_places i.regions.items i.book i.places.items i.sum.items i.store i.whole c.self.invariant.0))
 
 pub value_seen-requires-clause-view : goal.value_seen-requires-clause-view
-value_seen-requires-clause-view c =
-    let i = c.self.inside in
-    let held = c.self.invariant.0 in
-    let shows = subst (λ rs. ShowsAll i.book held.graphs held.values (length rs)) (sym c.deref.ensures.value) held.views_are in
-    let x = edge_seen c.deref.result.now i.regions.items held.graphs held.graphs c.deref-2.result.now i.places.items c.side-side.result i.whole.side c.in-Stone.point c.in-Some.k c.in-Some.edge
-    c.deref.ensures.value refl c.deref-2.ensures.value c.side-side.ensures ((c.in-Some.ensures {u = tt}).edges held.graphs held.values shows) in
-    asks_view i.regions.items i.book i.places.items i.sum.items i.store i.whole held c.in-Some.k x.known
+value_seen-requires-clause-view c = stone_view c.self.invariant.0 c.deref.ensures.value c.deref-2.ensures.value c.side-side.ensures (c.in-Some.ensures {u = tt}).edges
 
 pub value_seen-requires-clause-values : goal.value_seen-requires-clause-values
-value_seen-requires-clause-values c =
-    let i = c.self.inside in
-    let held = c.self.invariant.0 in
-    let shows = subst (λ rs. ShowsAll i.book held.graphs held.values (length rs)) (sym c.deref.ensures.value) held.views_are in
-    let x = edge_seen c.deref.result.now i.regions.items held.graphs held.graphs c.deref-2.result.now i.places.items c.side-side.result i.whole.side c.in-Stone.point c.in-Some.k c.in-Some.edge
-    c.deref.ensures.value refl c.deref-2.ensures.value c.side-side.ensures ((c.in-Some.ensures {u = tt}).edges held.graphs held.values shows) in
-    asks_values i.regions.items i.book i.places.items i.sum.items i.store i.whole held c.in-Some.k x.known
+value_seen-requires-clause-values c = stone_values c.self.invariant.0 c.deref.ensures.value c.deref-2.ensures.value c.side-side.ensures (c.in-Some.ensures {u = tt}).edges
 
 pub value_seen-requires-clause-place : goal.value_seen-requires-clause-place
-value_seen-requires-clause-place c =
-    let i = c.self.inside in
-    let held = c.self.invariant.0 in
-    let k = c.in-Some.k in
-    let e = c.in-Some.edge in
-    let p = c.in-Stone.point in
-    let shows = subst (λ rs. ShowsAll i.book held.graphs held.values (length rs)) (sym c.deref.ensures.value) held.views_are in
-    let x = edge_seen c.deref.result.now i.regions.items held.graphs held.graphs c.deref-2.result.now i.places.items c.side-side.result i.whole.side p k e
-    c.deref.ensures.value refl c.deref-2.ensures.value c.side-side.ensures ((c.in-Some.ensures {u = tt}).edges held.graphs held.values shows) in
-    let asks = asks_stone i.regions.items held.graphs held.values i.places.items i.sum.items i.store i.whole held.kept p k e x in
-    subst (λ z. e.next < length z) (sym (ids_seen i.regions.items i.book i.places.items i.sum.items i.store i.whole held k x.known)) asks.next
+value_seen-requires-clause-place c = stone_next c.self.invariant.0 c.deref.ensures.value c.deref-2.ensures.value c.side-side.ensures (c.in-Some.ensures {u = tt}).edges
 
 pub invariant_of-self-in-Some : goal.invariant_of-self-in-Some
 invariant_of-self-in-Some c =
@@ -68,15 +45,11 @@ invariant_of-self-in-Some c =
     let held = c.self.invariant.0 in
     let k = c.in-Some.k in
     let e = c.in-Some.edge in
-    let p = c.in-Stone.point in
-    let shows = subst (λ rs. ShowsAll i.book held.graphs held.values (length rs)) (sym c.deref.ensures.value) held.views_are in
-    let x = edge_seen c.deref.result.now i.regions.items held.graphs held.graphs c.deref-2.result.now i.places.items c.side-side.result i.whole.side p k e
-    c.deref.ensures.value refl c.deref-2.ensures.value c.side-side.ensures ((c.in-Some.ensures {u = tt}).edges held.graphs held.values shows) in
-    let ids = sym (ids_seen i.regions.items i.book i.places.items i.sum.items i.store i.whole held k x.known) in
-    let value : get_or (ids_at held.values k) e.next 0 ≡ c.value_seen.result = ap (λ z. get_or z e.next 0) ids ∙ sym c.value_seen.ensures in (
+    let x = stone_seen c.self.invariant.0 c.deref.ensures.value c.deref-2.ensures.value c.side-side.ensures (c.in-Some.ensures {u = tt}).edges in
+    let value = stone_value c.self.invariant.0 c.deref.ensures.value c.deref-2.ensures.value c.side-side.ensures (c.in-Some.ensures {u = tt}).edges c.value_seen.ensures in (
       held_as i.regions.items i.book i.places.items i.sum.items i.store i.whole held (set i.places.items k e.next) (set i.sum.items k c.value_seen.result) c.apply-2.new.self
-          (subst (λ v. IsKept i.regions.items held.graphs held.values (set i.places.items k e.next) (set i.sum.items k v) i.store c.apply-2.new.self) value
-          (kept_stone i.regions.items held.graphs held.values i.places.items i.sum.items i.store i.whole held.kept p k e c.apply-2.new.self x (c.in_ok-apply.ensures {u = tt}))),
+          (subst (λ v. AreSolvedAt i.regions.items held.graphs held.values (set i.places.items k e.next) (set i.sum.items k v) i.store c.apply-2.new.self) value
+          (kept_stone i.regions.items held.graphs held.values i.places.items i.sum.items i.store i.whole held.kept c.in-Stone.point k e c.apply-2.new.self x (c.in_ok-apply.ensures {u = tt}))),
       c.self.invariant.1,
     )
 

@@ -4,22 +4,18 @@ use Rattle.whole_rules.specs.FirstWinningMove.{IsWinner}
 use Rattle.game_store.specs.Meaning.{pick}
 use Rattle.sum_outcome.specs.Players.{LosesGame}
 use Rattle.sum_outcome.specs.Sums.{IsBounded, sum_tree}
-use Rattle.endgame_solver.specs.inner.Held.{AreModest}
 use Rattle.endgame_solver.specs.Solved.{ArePresent, balance_units}
-use Rattle.endgame_solver.proofs.WinningLaws.{differ, modest_now, fits_now}
+use Rattle.endgame_solver.proofs.ViewLaws.{held_bounds, held_modest}
+use Rattle.endgame_solver.proofs.WinningLaws.{differ}
 use Rattle.endgame_solver.proofs.WinnerLaws.{by_search, other_wins, side_wins, winner_by_sum, side_by_sum}
 use Rattle.endgame_solver.proofs.solved.Solved.winner.Goals as goal
 
 pub balance_of-balance-requires : goal.balance_of-balance-requires
-balance_of-balance-requires c = let i = c.self.inside in subst AreModest (sym c.purses.ensures) (modest_now c.self.invariant.0.graphs i.places.items i.whole c.self.invariant.0.kept.room)
+balance_of-balance-requires c = held_modest c.self.invariant.0 c.purses.ensures
 
 pub loses-requires-clause-bounds : goal.loses-requires-clause-bounds
-loses-requires-clause-bounds c =
-    let i = c.self.inside in
-    let modest = subst AreModest (sym c.purses.ensures) (modest_now c.self.invariant.0.graphs i.places.items i.whole c.self.invariant.0.kept.room) in
-    let fits = fits_now i.regions.items c.self.invariant.0.graphs c.self.invariant.0.values i.places.items i.sum.items i.store i.whole c.self.invariant.0.kept in
-    subst (λ z. IsBounded (pick i.store z) c.balance_of-balance.result) (sym c.deref_mut.ensures.value)
-    (subst (IsBounded (pick i.store i.sum.items)) (sym c.balance_of-balance.ensures) (fits.bounds c.purses.result modest))
+loses-requires-clause-bounds c = subst (λ z. IsBounded (pick c.self.inside.store z) c.balance_of-balance.result) (sym c.deref_mut.ensures.value)
+    (held_bounds c.self.invariant.0 (held_modest c.self.invariant.0 c.purses.ensures) c.balance_of-balance.ensures)
 
 pub returns-then-loses-clause-plain : goal.returns-then-loses-clause-plain
 returns-then-loses-clause-plain c =

@@ -1,4 +1,4 @@
-use Rattle.std.proofs.Common.{◌+◌, arith, ap, sym, subst, length, ◌∙◌}
+use Rattle.std.proofs.Common.{arith, ap, sym, subst, length}
 use Rattle.std.proofs.lemmas.List.{length_push}
 use Rattle.local_graph.specs.inner.PlaceTable.{IsNumbered}
 use Rattle.local_graph.proofs.TableLemmas.{numbered_pushed, still_numbered}

@@ -1,5 +1,4 @@
-use Rattle.std.proofs.Common.{arith, ap, length, sym, subst}
-use Rattle.std.specs.List.{Contains}
+use Rattle.std.proofs.Common.{arith, ap, length}
 use Rattle.std.proofs.Math.Nat.{one-le-pow, pow-le-pow_right}
 use Rattle.local_graph.proofs.TableLemmas.{none_entered, none_numbered}
 use Rattle.local_graph.proofs.place_table.PlaceTable.new.Goals as goal

@@ -1,4 +1,4 @@
--- Marks, step by step.
+-- flags, step by step.
 use Rattle.std.proofs.Common.{ℕ, ◌+◌, ◌<◌, ◌≤◌, ◌≡◌, ◌⊎◌, ◌↔◌, ◌∙◌, arith, inl, inr, sym, ap, subst, Bool, true, false, List, ◌++◌, length, get_or, set, take, drop, replicate}
 use Rattle.std.proofs.lemmas.Bool.{cases_eq, cases_lt, true≢false}
 use Rattle.std.proofs.Math.Seq.{take-append_seam}
@@ -10,25 +10,25 @@ use Rattle.short_games.specs.Parts.IsFollower.{itself, further}
 use Rattle.game_store.specs.Forms.{IsOptions}
 use Rattle.game_store.proofs.Values.{has-pick, pick-has}
 use Rattle.short_games.proofs.TextOrderLaws.{sorted-has, has-sorted}
-use Rattle.thermograph.specs.inner.Marks.{IsMarked, AreAdded, IsAmong, IsInner, AreFollowers}
+use Rattle.thermograph.specs.inner.Flags.{IsFlagged, AreAdded, IsAmong, IsInner, AreFollowers}
 use Rattle.short_games.proofs.PartLaws.{follower-trans}
 
--- marks of one set, and then of another
+-- flags of one set, and then of another
 pub added-both : (A B Both : ℕ → Type 0) (xs ys zs : List Bool) → AreAdded A xs ys → AreAdded B ys zs → ((i : ℕ) → i < length xs → Both i ↔ (A i ⊎ B i)) → AreAdded Both xs zs
-added-both A B Both xs ys zs a b n = record { size = b.size ∙ a.size; marked = λ i h. (to i h, from i h) }
+added-both A B Both xs ys zs a b n = record { size = b.size ∙ a.size; flagged = λ i h. (to i h, from i h) }
   where
     in_second : (i : ℕ) → i < length xs → i < length ys
     in_second i h = omega (arith, h, a.size)
 
-    to : (i : ℕ) → i < length xs → IsMarked zs i → IsMarked xs i ⊎ Both i
-    to i h m = elim ((b.marked i (in_second i h)).0 m) [
-      | inl c ↦ elim ((a.marked i h).0 c) [ inl d ↦ inl d | inr d ↦ inr ((n i h).1 (inl d)) ]
+    to : (i : ℕ) → i < length xs → IsFlagged zs i → IsFlagged xs i ⊎ Both i
+    to i h m = elim ((b.flagged i (in_second i h)).0 m) [
+      | inl c ↦ elim ((a.flagged i h).0 c) [ inl d ↦ inl d | inr d ↦ inr ((n i h).1 (inl d)) ]
       | inr d ↦ inr ((n i h).1 (inr d))
     ]
 
-    from : (i : ℕ) → i < length xs → IsMarked xs i ⊎ Both i → IsMarked zs i
-    from i h (inl m) = (b.marked i (in_second i h)).1 (inl ((a.marked i h).1 (inl m)))
-    from i h (inr m) = (b.marked i (in_second i h)).1 (elim ((n i h).0 m) [ inl d ↦ inl ((a.marked i h).1 (inr d)) | inr d ↦ inr d ])
+    from : (i : ℕ) → i < length xs → IsFlagged xs i ⊎ Both i → IsFlagged zs i
+    from i h (inl m) = (b.flagged i (in_second i h)).1 (inl ((a.flagged i h).1 (inl m)))
+    from i h (inr m) = (b.flagged i (in_second i h)).1 (elim ((n i h).0 m) [ inl d ↦ inl ((a.flagged i h).1 (inr d)) | inr d ↦ inr d ])
 
 module _ (Ts : List Tree) (id : ℕ) (ls rs : List ℕ) (o : IsOptions Ts id ls rs) where
   -- an id of the form is an option below it
@@ -54,26 +54,26 @@ following-start Ts id count ys k e = subst (AreFollowers Ts id count) (sym e) re
   closed = λ j i p q. absurd (omega (arith, p, q, length-set (replicate count false) id true, length-replicate count false));
 }
   where
-    one : (i : ℕ) → IsMarked (set (replicate count false) id true) i → (i ≡ id) ⊎ (i ≡ id → ⊥) → IsFollower (tree_at Ts id) (tree_at Ts i)
+    one : (i : ℕ) → IsFlagged (set (replicate count false) id true) i → (i ≡ id) ⊎ (i ≡ id → ⊥) → IsFollower (tree_at Ts id) (tree_at Ts i)
     one i m (inl s) = subst (λ n. IsFollower (tree_at Ts id) (tree_at Ts n)) (sym s) (itself (tree_at Ts id))
-    one i m (inr d) = absurd (true≢false (sym m ∙ get_or-set_other (replicate count false) id i true false d ∙ unmarked i (cases_lt i count)))
+    one i m (inr d) = absurd (true≢false (sym m ∙ get_or-set_other (replicate count false) id i true false d ∙ unflagged i (cases_lt i count)))
       where
-        unmarked : (i : ℕ) → (i < count) ⊎ (count ≤ i) → get_or (replicate count false) i false ≡ false
-        unmarked i (inl l) = get_or-replicate count i false false l
-        unmarked i (inr l) = get_or_past (replicate count false) i false (omega (arith, l, length-replicate count false))
+        unflagged : (i : ℕ) → (i < count) ⊎ (count ≤ i) → get_or (replicate count false) i false ≡ false
+        unflagged i (inl l) = get_or-replicate count i false false l
+        unflagged i (inr l) = get_or_past (replicate count false) i false (omega (arith, l, length-replicate count false))
 
-pub following-step : (Ts : List Tree) (id place next : ℕ) (ys zs : List Bool) → AreFollowers Ts id place ys → place ≡ next + 1 → place ≤ length ys → IsMarked ys next → AreAdded (IsInner Ts next) ys zs → AreFollowers Ts id next zs
+pub following-step : (Ts : List Tree) (id place next : ℕ) (ys zs : List Bool) → AreFollowers Ts id place ys → place ≡ next + 1 → place ≤ length ys → IsFlagged ys next → AreAdded (IsInner Ts next) ys zs → AreFollowers Ts id next zs
 following-step Ts id place next ys zs f e b n a = record {
   size = a.size ∙ f.size;
-  root = (a.marked id (omega (arith, f.size))).1 (inl f.root);
-  follows = λ i h m. (elim ((a.marked i (omega (arith, h, a.size))).0 m) [
+  root = (a.flagged id (omega (arith, f.size))).1 (inl f.root);
+  follows = λ i h m. (elim ((a.flagged i (omega (arith, h, a.size))).0 m) [
     | inl k ↦ f.follows i (omega (arith, h, a.size)) k
     | inr k ↦ follower-trans (tree_at Ts id) (tree_at Ts next) (tree_at Ts i) (f.follows next (omega (arith, e, b)) n) (further (tree_at Ts next) (tree_at Ts i) (tree_at Ts i) k.2 (itself (tree_at Ts i)))
   ]);
   closed = λ j i p q m k. (elim (cases_eq j next) [
-    | inl s ↦ (a.marked i (omega (arith, q, k.0, a.size))).1 (inr (subst (λ x. IsInner Ts x i) s k))
-    | inr d ↦ elim ((a.marked j (omega (arith, q, a.size))).0 m) [
-      | inl o ↦ (a.marked i (omega (arith, q, k.0, a.size))).1 (inl (f.closed j i (omega (arith, p, d, e)) (omega (arith, q, a.size)) o k))
+    | inl s ↦ (a.flagged i (omega (arith, q, k.0, a.size))).1 (inr (subst (λ x. IsInner Ts x i) s k))
+    | inr d ↦ elim ((a.flagged j (omega (arith, q, a.size))).0 m) [
+      | inl o ↦ (a.flagged i (omega (arith, q, k.0, a.size))).1 (inl (f.closed j i (omega (arith, p, d, e)) (omega (arith, q, a.size)) o k))
       | inr o ↦ absurd (omega (arith, p, d, o.0))
     ]
   ]);
@@ -83,5 +83,5 @@ following-step Ts id place next ys zs f e b n a = record {
 pub written : (xs ys : List Bool) (n : ℕ) → n ≡ length xs → length ys ≡ length xs → take n (ys ++ drop (length ys) xs) ≡ ys
 written xs ys n e s = ap (λ m. take m (ys ++ drop (length ys) xs)) (e ∙ sym s) ∙ take-append_seam ys (drop (length ys) xs)
 
-pub marked-read : (xs : List Bool) (i : ℕ) (b : Bool) → i < length xs → b ≡ get_or xs i b → b ≡ true → IsMarked xs i
-marked-read xs i b h p q = get_or_default xs i false b h ∙ sym p ∙ q
+pub flagged-read : (xs : List Bool) (i : ℕ) (b : Bool) → i < length xs → b ≡ get_or xs i b → b ≡ true → IsFlagged xs i
+flagged-read xs i b h p q = get_or_default xs i false b h ∙ sym p ∙ q

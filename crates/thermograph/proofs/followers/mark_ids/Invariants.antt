@@ -1,6 +1,0 @@
-use Rattle.std.proofs.Common.{◌<◌, ◌≡◌, ℕ, get_or}
-use Rattle.thermograph.specs.inner.Marks.{AreAdded}
-use Rattle.thermograph.proofs.followers.mark_ids.Given as goal
-
-abbrev pub invariant-loop-id : goal.invariant-loop-id
-invariant-loop-id l = AreAdded (λ i. (j : ℕ) × (j < l.id-index) × (get_or l.ids j 0 ≡ i)) l.initial.marks l.marks
