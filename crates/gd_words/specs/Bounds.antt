@@ -1,6 +1,7 @@
 -- What bounds the values of a job.
 use Rattle.std.specs.Prelude.{◌≤◌, IfSome}
-use Rattle.gd_words.specs.declared.choice.TheConstants.{MOST_MOVES, MOST_PARTS, MOST_POSITIONS}
+use Rattle.local_graph.specs.declared.graph.TheConstants.{MOST_POSITIONS}
+use Rattle.gd_words.specs.declared.choice.TheConstants.{MOST_MOVES, MOST_PARTS}
 use Rattle.sgf_go.specs.declared.settings.TheConstants.{MOST_PRISONERS}
 use Rattle.sgf_go.specs.Komi.{IsInRange}
 use Rattle.gd_words.specs.Job.{Job}

@@ -1,6 +1,7 @@
 -- The options of the command line: their names and their values.
 use Rattle.std.specs.Prelude.{◌≡◌, ℕ, List, codes}
-use Rattle.gd_words.specs.declared.choice.TheConstants.{MOST_MOVES, MOST_PARTS, MOST_POSITIONS}
+use Rattle.local_graph.specs.declared.graph.TheConstants.{MOST_POSITIONS}
+use Rattle.gd_words.specs.declared.choice.TheConstants.{MOST_MOVES, MOST_PARTS}
 use Rattle.sgf_go.specs.declared.settings.TheConstants.{MOST_PRISONERS}
 use Rattle.sgf_go.specs.Komi.{IsKomi}
 use Rattle.gd_words.specs.declared.choice.Choice.{Choice}

@@ -6,13 +6,11 @@ ghost use Rattle.gd_words.specs.declared.choice.Choice.{Choice};
 
 use crate::value::{read_answer, read_colour, read_count};
 use go_grid::Colour;
+use local_graph::MOST_POSITIONS;
 use sgf_go::{MOST_PRISONERS, read_komi};
 
 /// The most moves before the end of the line that an option may say.
 pub const MOST_MOVES: u32 = 999_999;
-
-/// The most positions of a region that an option may allow.
-pub const MOST_POSITIONS: u32 = 1_000_000;
 
 /// The most parts of a form that an option may allow.
 pub const MOST_PARTS: u32 = 4_000;

@@ -8,7 +8,7 @@ mod laws;
 mod value;
 mod words;
 
-pub use choice::{MOST_MOVES, MOST_PARTS, MOST_POSITIONS};
+pub use choice::{MOST_MOVES, MOST_PARTS};
 pub use job::{Command, Job};
 pub use laws::words_laws;
 pub use words::{Usage, read};
