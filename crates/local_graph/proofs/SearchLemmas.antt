@@ -15,7 +15,7 @@ use Rattle.local_graph.specs.declared.search.Visit.TheVariants.{New, OnPath, Pla
 use Rattle.local_graph.specs.LocalGraph.{IsOrder}
 use Rattle.local_graph.specs.inner.Built.{IsRooted, Follows}
 use Rattle.local_graph.specs.inner.Graph.{edges_at, no_edge, edge_at}
-use Rattle.local_graph.specs.inner.Searching.{visit_at, nodes_of, Trail, IsPath, Searching, Returns, is_new, work_left}
+use Rattle.local_graph.specs.inner.Searching.{visit_at, nodes_of, EndsIn, GoesOn, Trail, IsPath, Searching, Returns, is_new, work_left}
 use Rattle.local_graph.proofs.PathLemmas.{last_frame, path_end, path_trail, trail_push}
 
 new_apart : (v : Visit) → v ≡ New → v ≡ OnPath → ⊥
@@ -164,18 +164,20 @@ module _ (E : List (List Edge)) (front : List Frame) (f : Frame) (visits : List 
       let inside = r.inside f.node (edge_at E f.node k) (Contains-get_or (edges_at E f.node) k no_edge (edges_inside k lt)) in
       omega (arith, inside, s.long)
 
-  -- the frame with fewer edges left, where those between lead to placed nodes
-  module _ (g : Frame) (same : g.node ≡ f.node) (fewer : g.left < f.left)
-      (over : (k : ℕ) → g.left < k → k < f.left → visit_at visits (edge_at E f.node k).next ≡ Placed) where
+  -- the frame with fewer edges left
+  module _ (g : Frame) (w : GoesOn E visits f g) where
+    same : g.node ≡ f.node
+    same = w.node
+
     nodes_same : nodes_of (front ++ g ∷ []) ≡ nodes_of (front ++ f ∷ [])
     nodes_same = nodes_push front g ∙ ap (λ n. nodes_of front ++ n ∷ []) same ∙ sym (nodes_push front f)
 
     pub edge_inside : g.left < length (edges_at E g.node)
-    edge_inside = subst (λ x. g.left < length (edges_at E x)) (sym same) (edges_inside g.left fewer)
+    edge_inside = subst (λ x. g.left < length (edges_at E x)) (sym same) (edges_inside g.left w.fewer)
 
     -- all edges past the one that is left lead to placed nodes
     past_placed : (k : ℕ) → g.left < k → k < length (edges_at E f.node) → visit_at visits (edge_at E f.node k).next ≡ Placed
-    past_placed k past short = elim (cases_lt k f.left) [ inl lt ↦ over k past lt | inr le ↦ edges_placed k le short ]
+    past_placed k past short = elim (cases_lt k f.left) [ inl lt ↦ w.over k past lt | inr le ↦ edges_placed k le short ]
 
     pub next_inside : IsRooted E → (edge_at E g.node g.left).next < length visits
     next_inside r =
@@ -210,7 +212,7 @@ module _ (E : List (List Edge)) (front : List Frame) (f : Frame) (visits : List 
     }
 
     pub skip_edge_less : work_left (front ++ g ∷ []) visits < work_left (front ++ f ∷ []) visits
-    skip_edge_less = omega (arith, sum_by_push (λ f. f.left + 1) front f, sum_by_push (λ f. f.left + 1) front g, fewer)
+    skip_edge_less = omega (arith, sum_by_push (λ f. f.left + 1) front f, sum_by_push (λ f. f.left + 1) front g, w.fewer)
 
     -- the edge leads to a node of the path
     pub come_back : visit_at visits (edge_at E g.node g.left).next ≡ OnPath → Returns E (front ++ g ∷ []) (edge_at E g.node g.left).next
@@ -285,46 +287,11 @@ module _ (E : List (List Edge)) (front : List Frame) (f : Frame) (visits : List 
             arith,
             count',
             fits,
-            fewer,
+            w.fewer,
             sum_by_push (λ f. f.left + 1) front f,
             sum_by_push (λ f. f.left + 1) front g,
             sum_by_push (λ f. f.left + 1) (front ++ g ∷ []) h,
           )
-
-    -- the same in the words of the code
-    module _ (edge : Edge) (path : List Frame) (seen : Visit) (r : IsRooted E) (is : edge ≡ edge_at E g.node g.left)
-        (at : path ≡ front ++ g ∷ []) (look : seen ≡ get_or visits edge.next seen) where
-      said_inside : edge.next < length visits
-      said_inside = let next : edge.next ≡ (edge_at E g.node g.left).next = ap (λ e. e.next) is in omega (arith, next, next_inside r)
-
-      said_seen : (v : Visit) → seen ≡ v → visit_at visits edge.next ≡ v
-      said_seen v e = get_or_default visits edge.next New seen said_inside ∙ sym look ∙ e
-
-      said_there : (v : Visit) → seen ≡ v → visit_at visits (edge_at E g.node g.left).next ≡ v
-      said_there v e = subst (λ x. visit_at visits x.next ≡ v) is (said_seen v e)
-
-      pub said_skip : seen ≡ Placed → Searching E path visits order × (work_left path visits < work_left (front ++ f ∷ []) visits)
-      said_skip on = rw at (skip_edge (said_there Placed on), skip_edge_less)
-
-      pub said_back : seen ≡ OnPath → Returns E path edge.next
-      said_back on = rw (at, is) (come_back (said_there OnPath on))
-
-      pub said_enter : (path' : List Frame) (now : List Visit) (after : List ℕ) → seen ≡ New
-          → path' ≡ path ++ record { node = edge.next; left = length (edges_at E edge.next) } ∷ [] → now ≡ set visits edge.next OnPath
-          → after ≡ order → length (edges_at E edge.next) < 2 ^ 64
-          → Searching E path' now after × (work_left path' now < work_left (front ++ f ∷ []) visits)
-      said_enter path' now after on ep en ea fits =
-          let h : Frame = record { node = edge.next; left = length (edges_at E edge.next) } in
-          let next : edge.next ≡ (edge_at E g.node g.left).next = ap (λ e. e.next) is in
-          rw (ep, at, en, ea) (enter_edge h next (said_seen New on) said_inside refl, enter_edge_less h next (said_seen New on) said_inside refl fits)
-
--- edges that lead to placed nodes, in the words of the code
-pub placed_over : (E : List (List Edge)) (node from left : ℕ) (visits seen : List Visit) (list : List Edge) → list ≡ edges_at E node → seen ≡ visits
-    → ((k : ℕ) → left < k → k < from → visit_at seen (get_or list k no_edge).next ≡ Placed)
-    → (k : ℕ) → left < k → k < from → visit_at visits (edge_at E node k).next ≡ Placed
-placed_over E node from left visits seen list el ev over k past short =
-    subst (λ l. visit_at visits (get_or l k no_edge).next ≡ Placed) el
-    (subst (λ v. visit_at v (get_or list k no_edge).next ≡ Placed) ev (over k past short))
 
 -- with nothing on the path all nodes are in the order
 pub search_end : (E : List (List Edge)) (visits : List Visit) (order : List ℕ) → IsRooted E → Searching E [] visits order → IsOrder E order
@@ -354,6 +321,69 @@ frame_there front path f g k ends at =
 
 pub path_some : (front path : List Frame) (f : Frame) → path ≡ front ++ f ∷ [] → 0 < length path
 path_some front path f ends = omega (arith, ap length ends, length_push front f)
+
+-- the same in the words of the code, whose path is a list that ends in the frame
+module _ (E : List (List Edge)) (whole : List Frame) (f : Frame) (visits : List Visit) (order : List ℕ) (ends : EndsIn whole f)
+    (under : Searching E whole visits order) where
+  said : Searching E (ends.0 ++ f ∷ []) visits order
+  said = subst (λ p. Searching E p visits order) ends.1 under
+
+  pub said_inside : (k : ℕ) → k < f.left → k < length (edges_at E f.node)
+  said_inside = edges_inside E ends.0 f visits order said
+
+  pub said_left : f.left ≤ length (edges_at E f.node)
+  said_left = last_left E ends.0 f visits order said
+
+  pub said_nexts : IsRooted E → (k : ℕ) → k < f.left → (edge_at E f.node k).next < length visits
+  said_nexts = nexts_inside E ends.0 f visits order said
+
+  module _ (g : Frame) (w : GoesOn E visits f g) where
+    pub goes_inside : g.left < length (edges_at E g.node)
+    goes_inside = edge_inside E ends.0 f visits order said g w
+
+    pub goes_next : IsRooted E → (edge_at E g.node g.left).next < length visits
+    goes_next = next_inside E ends.0 f visits order said g w
+
+    module _ (n : ℕ) (edge : Edge) (seen : Visit) (r : IsRooted E) (len : n ≡ length whole) (is : edge ≡ edge_at E g.node g.left)
+        (look : seen ≡ get_or visits edge.next seen) where
+      ended : set whole (n - 1) g ≡ ends.0 ++ g ∷ []
+      ended = frame_there ends.0 whole f g (n - 1) ends.1 (omega (arith, len, path_some ends.0 whole f ends.1))
+
+      seen_inside : edge.next < length visits
+      seen_inside = let next : edge.next ≡ (edge_at E g.node g.left).next = ap (λ e. e.next) is in omega (arith, next, goes_next r)
+
+      seen_is : (v : Visit) → seen ≡ v → visit_at visits edge.next ≡ v
+      seen_is v e = get_or_default visits edge.next New seen seen_inside ∙ sym look ∙ e
+
+      seen_there : (v : Visit) → seen ≡ v → visit_at visits (edge_at E g.node g.left).next ≡ v
+      seen_there v e = subst (λ x. visit_at visits x.next ≡ v) is (seen_is v e)
+
+      less_work : (path : List Frame) (now : List Visit) → work_left path now < work_left (ends.0 ++ f ∷ []) visits
+          → work_left path now < work_left whole visits
+      less_work path now = subst (λ p. work_left path now < work_left p visits) (sym ends.1)
+
+      pub said_skip : seen ≡ Placed → Searching E (set whole (n - 1) g) visits order
+          × (work_left (set whole (n - 1) g) visits < work_left whole visits)
+      said_skip on = rw ended (
+        skip_edge E ends.0 f visits order said g w (seen_there Placed on),
+        less_work (ends.0 ++ g ∷ []) visits (skip_edge_less E ends.0 f visits order said g w),
+      )
+
+      pub said_back : seen ≡ OnPath → Returns E (set whole (n - 1) g) edge.next
+      said_back on = rw (ended, is) (come_back E ends.0 f visits order said g w (seen_there OnPath on))
+
+      pub said_enter : (path : List Frame) (now : List Visit) (after : List ℕ) → seen ≡ New
+          → path ≡ set whole (n - 1) g ++ record { node = edge.next; left = length (edges_at E edge.next) } ∷ []
+          → now ≡ set visits edge.next OnPath → after ≡ order → length (edges_at E edge.next) < 2 ^ 64
+          → Searching E path now after × (work_left path now < work_left whole visits)
+      said_enter path now after on ep en ea fits =
+          let h : Frame = record { node = edge.next; left = length (edges_at E edge.next) } in
+          let next : edge.next ≡ (edge_at E g.node g.left).next = ap (λ e. e.next) is in
+          rw (ep, ended, en, ea) (
+            enter_edge E ends.0 f visits order said g w h next (seen_is New on) seen_inside refl,
+            less_work ((ends.0 ++ g ∷ []) ++ h ∷ []) (set visits edge.next OnPath)
+                (enter_edge_less E ends.0 f visits order said g w h next (seen_is New on) seen_inside refl fits),
+          )
 
 -- what `last` answers is the path's last frame
 pub ends_in : (path now : List Frame) (f : Frame) → now ≡ path → slice_get now (length now - 1) ≡ Some f

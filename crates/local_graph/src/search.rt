@@ -3,7 +3,7 @@
 ghost use Rattle.std.specs.Prelude.{◌≡◌, ℕ, ◌^◌, ◌<◌, ◌≤◌, [], ◌∷◌, ◌++◌, length, map, slice_set, slice_index, slice_index_or, IfOk, OnOk, Contains};
 ghost use Rattle.local_graph.specs.inner.Built.{IsRooted, move_of};
 ghost use Rattle.local_graph.specs.inner.SearchedFor.{IsSearched};
-ghost use Rattle.local_graph.specs.inner.Searching.{Searching, Returns, Stepped, Trail, EndsIn, visit_at, work_left, nodes_of};
+ghost use Rattle.local_graph.specs.inner.Searching.{Searching, Returns, Stepped, Trail, EndsIn, GoesOn, visit_at, work_left, nodes_of};
 ghost use Rattle.local_graph.specs.inner.Graph.{edges_at, edge_at, no_edge};
 ghost use Rattle.local_graph.specs.declared.search.Visit.TheVariants.{OnPath, Placed};
 
@@ -116,7 +116,23 @@ impl Search {
         Ok(search)
     }
 
-    /// Follows the next move of the path's last position that leads to one that isn't placed, or its first.
+    /// The path's last position with the next of its moves to follow: the last that doesn't lead to a placed position, or
+    /// its first.
+    fn next_frame(&self, edges: &EdgeLists, last: Frame) -> Frame
+        requires rooted { IsRooted edges.now }
+        requires under_way { Searching edges.now self.now.path.items
+            self.now.visits.items self.now.order.items }
+        requires ends { EndsIn self.now.path.items last }
+        requires more { 0 < last.left }
+        ensures { GoesOn edges.now self.now.visits.items last result }
+    {
+        Frame {
+            node: last.node,
+            left: last_unplaced(edges.at(last.node), &self.visits, last.left),
+        }
+    }
+
+    /// Follows the next move of the path's last position.
     fn follow(&mut self, edges: &EdgeLists, last: Frame) -> Result<Progress, AllocError>
         requires rooted { IsRooted edges.now }
         requires under_way { Searching edges.now self.old.path.items
@@ -127,14 +143,10 @@ impl Search {
             (work_left self.old.path.items self.old.visits.items)
             self.new.path.items self.new.visits.items self.new.order.items) }
     {
-        let list = edges.at(last.node);
-        let left = last_unplaced(list, &self.visits, last.left);
-        let next = edges.edge(last.node, left).next;
+        let frame = self.next_frame(edges, last);
+        let next = edges.edge(frame.node, frame.left).next;
         let at = self.path.len() - 1;
-        self.path[at] = Frame {
-            node: last.node,
-            left,
-        };
+        self.path[at] = frame;
         match self.visits[next] {
             Visit::Placed => Ok(Progress::Forward),
             Visit::OnPath => Ok(Progress::Back(next)),

@@ -50,6 +50,12 @@ pub record Searching (edges : List (List Edge)) (path : List Frame) (visits : Li
   pub ends_first : (k : ℕ) (e : Edge) → k < length order → Contains (edges_at edges (slice_index order k)) e
       → (j : ℕ) × (j < k) × (slice_index order j ≡ e.next)
 
+-- the second frame is the first with fewer edges left, where those between lead to placed nodes
+pub record GoesOn (edges : List (List Edge)) (visits : List Visit) (f g : Frame) : Type 0 where
+  pub node : g.node ≡ f.node
+  pub fewer : g.left < f.left
+  pub over : (k : ℕ) → g.left < k → k < f.left → visit_at visits (edge_at edges f.node k).next ≡ Placed
+
 -- the path and one edge more lead to a node of the path
 pub record Returns (edges : List (List Edge)) (path : List Frame) (node : ℕ) : Type 0 where
   pub trail : Trail edges 0 path node
