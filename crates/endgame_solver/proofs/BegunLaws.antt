@@ -1,6 +1,5 @@
 -- What beginning answers, and how many steps it takes, whatever list of the board's regions is meant.
-use Rattle.std.proofs.Common.{◌≡◌, ℤ, unsigned_abs, to_z, of_z, w64, ℕ, ◌+◌, ◌^◌, ◌≤◌, arith, List, length, Err, min}
-use Rattle.std.proofs.lemmas.Int.{fits_signed_from_abs, ints, to_z-of_z}
+use Rattle.std.proofs.Common.{ℕ, ◌+◌, ◌^◌, ◌≤◌, arith, List, length, Err, min}
 use Rattle.go_grid.specs.Board.{Board}
 use Rattle.go_grid.specs.Region.{Region}
 use Rattle.sgf_go.specs.declared.settings.Setup.{Setup}
@@ -22,7 +21,3 @@ refusal_begun setup limits regions are (Positions p) h = (regions, are, h)
 refusal_begun setup limits regions are (Cycle p names back) h = (regions, are, h)
 refusal_begun setup limits regions are (Form p) h = (regions, are, h)
 refusal_begun setup limits regions are (Memory e) h = tt
-
--- a komi is the same as a number of 64 bits
-pub komi_held : (komi : ℤ) → unsigned_abs komi ≤ 2000000 → to_z w64 (of_z w64 komi) ≡ komi
-komi_held komi h = to_z-of_z w64 komi (fits_signed_from_abs w64 komi (omega (arith, ints, h)))

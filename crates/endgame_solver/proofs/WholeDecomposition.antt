@@ -12,7 +12,6 @@ use Rattle.whole_rules.specs.declared.states.Move.{Move}
 use Rattle.whole_rules.specs.Opening.{IsOpening}
 use Rattle.whole_rules.specs.Walls.{Plays}
 use Rattle.whole_rules.specs.WholeGame.{Whole}
-use Rattle.whole_rules.specs.WholeGame as whole
 use Rattle.whole_rules.proofs.WallLaws.{keeps_start}
 use Rattle.region_cut.specs.LocalBoard.{HoldsPosition}
 use Rattle.region_cut.proofs.ApartLemmas.{holds_start}

@@ -1,11 +1,11 @@
 //! The regions of play of a board, and where they stand at the opening.
 
 ghost use Rattle.std.specs.Prelude.{◌≡◌, ℕ, ◌<◌, ◌≤◌, Contains, IfOk, length, replicate, slice_index};
-ghost use Rattle.go_grid.specs.Chain.{IsSettled};
 ghost use Rattle.go_grid.specs.Region.{Region};
-ghost use Rattle.benson_life.specs.Territory.{IsTerritory};
 ghost use Rattle.region_cut.specs.LocalBoard.{PlaysLocally};
 ghost use Rattle.region_cut.specs.Cut.{AreRegionsOfPlay};
+ghost use Rattle.sgf_go.specs.Position.{IsFit};
+ghost use Rattle.endgame_solver.specs.Solved.{OpensAs};
 ghost use Rattle.endgame_solver.specs.inner.Solving.{FindsLarge};
 ghost use Rattle.endgame_solver.specs.inner.Views.{seen_ids, view_at};
 
@@ -13,24 +13,44 @@ use crate::view_book::Book;
 use crate::winning_moves::value_seen;
 use benson_life::Territory;
 use game_store::GameId;
-use go_grid::{Board, Point, Region};
+use go_grid::{MOST_POINTS, Point, Region};
 use local_play::MOST_PLACES;
 use region_cut::cut_territory;
+use sgf_go::Setup;
 use std::alloc::{AllocError, Global};
+use whole_rules::Whole;
 
-/// The regions of play of a settled board, by lowest point.
-pub(crate) fn regions_of_play(
-    alloc: Global,
-    board: &Board,
-    territory: &Territory,
-) -> Result<Vec<Region>, AllocError>
-    requires settled { IsSettled board.now }
-    requires territory { IsTerritory board.now territory.now }
-    ensures regions { IfOk result (λ regions. AreRegionsOfPlay board.now regions.items) }
-    ensures local { IfOk result (λ regions. (r : Region) → Contains regions.items r
-        → PlaysLocally board.now r) }
+/// The state in which a position opens, and its regions of play, by lowest point.
+#[derive(Drop)]
+pub(crate) struct Opening {
+    pub(crate) whole: Whole,
+    pub(crate) regions: Vec<Region>,
+}
+
+/// The opening of a fit position, with or without a tax.
+pub(crate) fn opening_of(alloc: Global, setup: &Setup, tax: bool) -> Result<Opening, AllocError>
+    requires { IsFit setup.now }
+    ensures opens { IfOk result (λ opening. OpensAs setup.now tax opening.whole) }
+    ensures regions { IfOk result (λ opening. AreRegionsOfPlay setup.now.board opening.regions.items) }
+    ensures local { IfOk result (λ opening. (r : Region) → Contains opening.regions.items r
+        → PlaysLocally setup.now.board r) }
+    ensures few { length setup.now.board.cells ≤ MOST_POINTS }
 {
-    cut_territory(alloc, board, territory)
+    let board = &setup.board;
+    let _size = board.size();
+    let territory = Territory::of(alloc, board)?;
+    let whole = Whole::opening_with(
+        alloc,
+        board,
+        &territory,
+        setup.black_prisoners,
+        setup.white_prisoners,
+        setup.komi_halves,
+        setup.side,
+        tax,
+    )?;
+    let regions = cut_territory(alloc, board, &territory)?;
+    Ok(Opening { whole, regions })
 }
 
 /// The lowest point of the first region with more than 32 points, and the number of its points.

@@ -1,10 +1,11 @@
 //! Solved games.
 
-ghost use Rattle.std.specs.Prelude.{◌≡◌, ℕ, ◌+◌, ◌<◌, ◌≤◌, ◌↔◌, List, length, None};
+ghost use Rattle.std.specs.Prelude.{◌≡◌, ℕ, ◌+◌, ◌<◌, ◌≤◌, ◌↔◌, List, length, None, IfOk};
 ghost use Rattle.go_grid.specs.Region.{Region};
 ghost use Rattle.go_grid.specs.Board.{other};
 ghost use Rattle.whole_rules.specs.FirstWinningMove.{IsFirstWinning, IsLosing, IsWinner};
 ghost use Rattle.whole_rules.specs.WholeGame.{Applies};
+ghost use Rattle.sum_outcome.specs.Memo.{Fits};
 ghost use Rattle.sum_outcome.specs.Players.{LosesGame};
 ghost use Rattle.sum_outcome.specs.Sums.{sum_tree};
 ghost use Rattle.endgame_solver.specs.Regions.{region_at};
@@ -16,19 +17,18 @@ ghost use Rattle.endgame_solver.specs.Solved.{Begun, IsNumberOfShapes, IsPresent
 use crate::faults::SolveError;
 use crate::limits::Limits;
 use crate::region_values::solve_regions;
-use crate::regions_of_play::{first_large, opening_places, opening_values, regions_of_play};
+use crate::regions_of_play::{first_large, opening_of, opening_places, opening_values};
 use crate::view_book::Book;
 use crate::winning_moves::{
     Present, balance_of, first_winning_move, positions_seen, stone_edge, value_seen,
 };
-use benson_life::Territory;
 use dyadic_num::Dyadic;
 use game_store::{GameId, Store};
 use go_grid::{Colour, Point, Region};
 use local_graph::MOST_POSITIONS;
 use local_play::Steps;
 use sgf_go::Setup;
-use std::alloc::Global;
+use std::alloc::{AllocError, Global};
 use std::marker::Model;
 use std::sync::ledger::Ledger;
 use sum_outcome::{MOST_ENTRIES, Search};
@@ -77,6 +77,23 @@ impl Model for Solved {
         s.store s.whole × Fits s.store s.search };
 }
 
+/// A store with 0 in it, and a search that knows it.
+#[derive(Drop)]
+struct Known {
+    store: Store,
+    search: Search,
+}
+
+/// A store and a search for a new game.
+fn first_known(alloc: Global) -> Result<Known, AllocError>
+    ensures { IfOk result (λ known. Fits known.store known.search) }
+{
+    let mut store = Store::new(alloc);
+    let mut search = Search::new(alloc, MOST_ENTRIES)?;
+    search.note_zero(&mut store)?;
+    Ok(Known { store, search })
+}
+
 impl Solved {
     /// The game that a fit position opens, with a tax where the limits say it: its regions, each with its graph and the
     /// values of all its positions. Or the first region of more than 32 points; or else the first with too many positions,
@@ -93,37 +110,22 @@ impl Solved {
         ensures steps { (regions : List Region) → AreRegionsOfPlay setup.now.board regions
             → steps.new ≤ steps.old + most_steps limits.now regions }
     {
-        let board = &setup.board;
-        let _size = board.size();
-        let territory = Territory::of(alloc, board)?;
-        let whole = Whole::opening_with(
-            alloc,
-            board,
-            &territory,
-            setup.black_prisoners,
-            setup.white_prisoners,
-            setup.komi_halves,
-            setup.side,
-            limits.tax,
-        )?;
-        let regions = regions_of_play(alloc, board, &territory)?;
-        if let Some((lowest, points)) = first_large(&regions) {
+        let opening = opening_of(alloc, setup, limits.tax)?;
+        if let Some((lowest, points)) = first_large(&opening.regions) {
             return Err(SolveError::Points(lowest, points));
         }
-        let mut store = Store::new(alloc);
-        let mut search = Search::new(alloc, MOST_ENTRIES)?;
-        search.note_zero(&mut store)?;
-        let book = solve_regions(alloc, &regions, limits, &mut store, steps)?;
-        let places = opening_places(alloc, regions.len())?;
+        let mut known = first_known(alloc)?;
+        let book = solve_regions(alloc, &opening.regions, limits, &mut known.store, steps)?;
+        let places = opening_places(alloc, opening.regions.len())?;
         let sum = opening_values(alloc, &book)?;
         Ok(Solved {
-            whole,
-            store,
-            regions,
+            whole: opening.whole,
+            store: known.store,
+            regions: opening.regions,
             book,
             places,
             sum,
-            search,
+            search: known.search,
         })
     }
 
