@@ -17,7 +17,7 @@ use Rattle.short_games.proofs.ReductionLaws.{form-canonical, number-kept_left, n
 use Rattle.game_store.specs.Meaning.{pick, listed, form, AreIds, AreCanonical, IsAscending, IsIdOf, Extends}
 use Rattle.game_store.proofs.Values.{has-pick}
 use Rattle.game_canon.specs.declared.side.Side.TheVariants.{Left, Right}
-use Rattle.game_canon.specs.inner.Sides.{IsReducedForm, IsStart, AreBest, Comes}
+use Rattle.game_canon.specs.inner.Sides.{IsReducedForm, IsStart, StartsWith, AreBest, Comes}
 use Rattle.game_canon.specs.declared.games.Unstored.{Unstored}
 use Rattle.game_canon.specs.declared.games.Games.{Games}
 use Rattle.game_canon.specs.inner.Games.{with_unstored, beside, IsUnstored, IsBeside, IsKnown}
@@ -138,15 +138,15 @@ ready Ts G ms ns vs ws c n r d e = subst (λ z. IsReady Ts G z ws) (sym d) (subs
     m = made Ts G ms ns c n r
 
 -- the form that the reduction starts with
-pub starts : (Ts Us : List Tree) (ls rs ms ns : List ℕ) → Us ≡ Ts → AreBest Left Us ls ms → IsAscending ms → AreBest Right Us rs ns → IsAscending ns → IsStart Ts ms ns × (listed Ts ls rs ≡ᵍ form Ts ms ns) × ((X : Tree) → IsOption (form Ts ms ns) X → IsOption (listed Ts ls rs) X)
+pub starts : (Ts Us : List Tree) (ls rs ms ns : List ℕ) → Us ≡ Ts → AreBest Left Us ls ms → IsAscending ms → AreBest Right Us rs ns → IsAscending ns → StartsWith Ts ls rs ms ns
 starts Ts Us ls rs ms ns e a u b v = at (subst (λ z. AreBest Left z ls ms) e a) (subst (λ z. AreBest Right z rs ns) e b)
   where
-    at : AreBest Left Ts ls ms → AreBest Right Ts rs ns → IsStart Ts ms ns × (listed Ts ls rs ≡ᵍ form Ts ms ns) × ((X : Tree) → IsOption (form Ts ms ns) X → IsOption (listed Ts ls rs) X)
-    at a b = (
-      record { left_ids = a.ids; right_ids = b.ids; left_ascends = u; right_ascends = v; left_free = a.free; right_free = b.free },
-      equal-trans _ (listed Ts ms rs) _ (best-same Left Ts ls rs ms a) (equal-trans _ (listed Ts ms ns) _ (best-same Right Ts rs ms ns b) (listed-form Ts ms ns)),
-      λ X o. elim (option-listed Ts ms ns X o) [ inl h ↦ inl (a.among X h) | inr h ↦ inr (b.among X h) ],
-    )
+    at : AreBest Left Ts ls ms → AreBest Right Ts rs ns → StartsWith Ts ls rs ms ns
+    at a b = record {
+      start = record { left_ids = a.ids; right_ids = b.ids; left_ascends = u; right_ascends = v; left_free = a.free; right_free = b.free };
+      same = equal-trans _ (listed Ts ms rs) _ (best-same Left Ts ls rs ms a) (equal-trans _ (listed Ts ms ns) _ (best-same Right Ts rs ms ns b) (listed-form Ts ms ns));
+      among = λ X o. elim (option-listed Ts ms ns X o) [ inl h ↦ inl (a.among X h) | inr h ↦ inr (b.among X h) ];
+    }
 
 pub start-as : (Ts Us : List Tree) (ms ns vs ws : List ℕ) → Us ≡ Ts → vs ≡ ms → ws ≡ ns → IsStart Ts ms ns → IsStart Us vs ws
 start-as Ts Us ms ns vs ws e p q s = subst (λ z. IsStart z vs ws) (sym e) (subst (λ z. IsStart Ts z ws) (sym p) (subst (λ z. IsStart Ts ms z) (sym q) s))

@@ -1,5 +1,5 @@
 -- Comparisons of sums of two games: which rest on which, and what is remembered of them.
-use Rattle.std.specs.Prelude.{◌+◌, ◌≡◌, ◌<◌, ◌≤◌, ◌↔◌, List, length, Bool, IsTrue, nat_eq, ◌&&◌, Option, Some}
+use Rattle.std.specs.Prelude.{◌≡◌, ◌<◌, ◌↔◌, List, length, Bool, IsTrue, nat_eq, ◌&&◌, Option, Some}
 use Rattle.std.specs.Map.{lookup}
 use Rattle.short_games.specs.Tree.{Tree, tree_at}
 use Rattle.short_games.specs.Order.{◌≤ᵍ◌}

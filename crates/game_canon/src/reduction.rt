@@ -3,12 +3,13 @@
 
 ghost use Rattle.std.specs.Prelude.{ℕ, IfOk};
 ghost use Rattle.short_games.specs.Number.{IsNumber};
+ghost use Rattle.short_games.specs.Tree.{AreDistinct};
 ghost use Rattle.short_games.specs.Threshold.{IsFloor, IsCeiling};
 ghost use Rattle.game_store.specs.Meaning.{listed, AreIds};
 ghost use Rattle.game_canon.specs.Comparisons.{AreRight};
 ghost use Rattle.game_canon.specs.inner.Comparisons.{recalled};
 ghost use Rattle.game_canon.specs.inner.Games.{beside, IsFormBeside, IsKnown};
-ghost use Rattle.game_canon.specs.inner.Sides.{IsStart, IsReducedForm};
+ghost use Rattle.game_canon.specs.inner.Sides.{IsStart, StartsWith, IsReducedForm};
 
 use crate::comparisons::Comparisons;
 use crate::domination::best;
@@ -59,6 +60,29 @@ fn bypass_all(
     }
 }
 
+/// The best of the options of both sides, in ascending order. What is found out of the store's games is remembered.
+fn best_lists(
+    alloc: Global,
+    store: &Store,
+    memo: &mut Comparisons,
+    left: &[GameId],
+    right: &[GameId],
+) -> Result<Lists, AllocError>
+    requires memo { AreRight store.now (recalled memo.old) }
+    requires left { AreIds store.now left.now }
+    requires right { AreIds store.now right.now }
+    ensures starts { IfOk result (λ lists. StartsWith store.now
+        left.now right.now lists.left.items lists.right.items) }
+    ensures memo { AreRight store.now (recalled memo.new) }
+    ensures distinct { AreDistinct store.now }
+{
+    let none = IndexMap::new(alloc);
+    let stored = games_of(store, &none);
+    let left = best(alloc, memo, &stored, Side::Left, left)?;
+    let right = best(alloc, memo, &stored, Side::Right, right)?;
+    Ok(Lists { left, right })
+}
+
 /// The options of a form that is no number, in ascending order, of which none is dominated or reversible any more. The
 /// floor and the ceiling are the form's. What is found out of the store's games on the way to the undominated ones is
 /// remembered.
@@ -81,12 +105,9 @@ pub(crate) fn reduced(
         (listed store.now left.now right.now) lists.left.items lists.right.items) }
     ensures memo { AreRight store.now (recalled memo.new) }
 {
-    let none = IndexMap::new(alloc);
-    let stored = games_of(store, &none);
-    let left = best(alloc, memo, &stored, Side::Left, left)?;
-    let right = best(alloc, memo, &stored, Side::Right, right)?;
+    let lists = best_lists(alloc, store, memo, left, right)?;
     let standing = Standing { floor, ceiling };
-    let games = games_beside(store, memo, &left, &right, &standing);
+    let games = games_beside(store, memo, &lists.left, &lists.right, &standing);
     let mut beside = IndexMap::new(alloc);
-    Ok(bypass_all(alloc, &mut beside, &games, &left, &right)?)
+    Ok(bypass_all(alloc, &mut beside, &games, &lists.left, &lists.right)?)
 }

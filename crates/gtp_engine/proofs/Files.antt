@@ -1,5 +1,5 @@
 -- What files give.
-use Rattle.std.proofs.Common.{◌≡◌, ℕ, List, inl, inr, refl, subst, Option, Some, None, Ok, Err, Result}
+use Rattle.std.proofs.Common.{◌≡◌, ℕ, List, inl, inr, subst, Option, Ok, Err, Result}
 use Rattle.sgf_tree.specs.declared.reader.TheConstants.{MOST_BYTES}
 use Rattle.desk_io.specs.Files.{Told, Loads}
 use Rattle.desk_io.specs.Files.Told.{untold, absent, holding}

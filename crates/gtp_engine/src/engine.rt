@@ -6,6 +6,8 @@ ghost use Rattle.go_grid.specs.Region.{Region};
 ghost use Rattle.region_cut.specs.Cut.{AreRegionsOfPlay};
 ghost use Rattle.gtp_engine.specs.inner.Loading.{CanKeep};
 ghost use Rattle.sgf_go.specs.Komi.{IsInRange};
+ghost use Rattle.sgf_go.specs.Position.{IsFit};
+ghost use Rattle.gtp_engine.specs.inner.Kept.{state_in};
 ghost use Rattle.gtp_engine.specs.inner.Doing.{AsksInRange, HasKomiInRange, IsDone, IsFresh, IsLoadNoted, IsRunning, IsTurnTaken};
 ghost use Rattle.gtp_engine.specs.inner.Viewed.{asked_of, order_of};
 ghost use Rattle.gtp_engine.specs.Kept.{AreLoads};
@@ -127,6 +129,17 @@ impl Engine {
         &self.failed
     }
 
+    /// Puts a setup and a game in the place of those that stood there.
+    pub(crate) fn put(&mut self, setup: Setup, game: Option<Solved>)
+        requires { IsFit setup }
+        ensures { self.new ≡ record self.old {
+          table = record { setup = setup; game = state_in game };
+        } }
+    {
+        self.setup = setup;
+        self.game = game;
+    }
+
     /// A fresh empty board of a size with the present komi.
     fn clear(&mut self, id: &[u8], size: Size) -> Result<Text, AllocError>
         ensures cleared { IfOk result (λ reply. (reply ≡ reply_text id.now (done []))
@@ -139,8 +152,7 @@ impl Engine {
         let alloc = self.setup.board.allocator();
         let setup = fresh(alloc, size, self.setup.komi_halves)?;
         let reply = accept(alloc, id, b"")?;
-        self.setup = setup;
-        self.game = None;
+        self.put(setup, None);
         Ok(reply)
     }
 
@@ -202,8 +214,7 @@ impl Engine {
         match loading {
             Loading::Position(setup) => {
                 let reply = accept(alloc, id, b"")?;
-                self.setup = setup;
-                self.game = None;
+                self.put(setup, None);
                 self.loads += 1;
                 Ok(reply)
             }

@@ -69,8 +69,7 @@ impl Engine {
             return Ok(reply);
         };
         let reply = act(alloc, id, &mut solved, action)?;
-        self.setup = setup;
-        self.game = Some(solved);
+        self.put(setup, Some(solved));
         Ok(reply)
     }
 

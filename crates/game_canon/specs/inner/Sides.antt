@@ -5,7 +5,7 @@ use Rattle.short_games.specs.Tree.{Tree, Trees, left, right, Has, sizes, tree_at
 use Rattle.short_games.specs.Number.{IsNumberTree}
 use Rattle.short_games.specs.Order.{◌≤ᵍ◌, ◌≡ᵍ◌}
 use Rattle.short_games.specs.Parts.{IsOption, IsPart}
-use Rattle.game_store.specs.Meaning.{pick, listed, AreIds, IsAscending}
+use Rattle.game_store.specs.Meaning.{form, pick, listed, AreIds, IsAscending}
 use Rattle.game_canon.specs.declared.side.Side.{Side}
 use Rattle.game_canon.specs.declared.side.Side.TheVariants.{Left, Right}
 
@@ -106,6 +106,13 @@ pub record IsStart (Ts : List Tree) (ls rs : List ℕ) : Type 0 where
   pub right_ascends : IsAscending rs
   pub left_free : AreFree Left (pick Ts ls)
   pub right_free : AreFree Right (pick Ts rs)
+
+-- the reduction of the form with the first two lists of options starts with the other two: each option that stands there is one
+-- of its own
+pub record StartsWith (Ts : List Tree) (ls rs ms ns : List ℕ) : Type 0 where
+  pub start : IsStart Ts ms ns
+  pub same : listed Ts ls rs ≡ᵍ form Ts ms ns
+  pub among : (X : Tree) → IsOption (form Ts ms ns) X → IsOption (listed Ts ls rs) X
 
 -- a form equal to G, of which no option can be dropped or bypassed
 pub record IsReducedForm (Ts : List Tree) (G : Tree) (ms ns : List ℕ) : Type 0 where

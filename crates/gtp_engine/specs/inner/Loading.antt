@@ -8,7 +8,6 @@ use Rattle.sgf_go.specs.Setup.{Gives}
 use Rattle.sgf_go.specs.File.{Reads}
 use Rattle.sgf_go.specs.declared.fault.FileFault.{FileFault}
 use Rattle.sgf_go.specs.declared.fault.SetupFault.{SetupFault}
-use Rattle.sgf_go.specs.declared.settings.Setup.{Setup}
 use Rattle.gtp_engine.specs.declared.loading.Loading.{Loading}
 use Rattle.gtp_engine.specs.declared.loading.Loading.TheVariants.{Position, Nothing, Failed}
 use Rattle.gtp_engine.specs.Session.{GivesNone, GivesSetup, settings_after}

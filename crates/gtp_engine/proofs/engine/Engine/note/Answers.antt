@@ -1,13 +1,11 @@
 use Rattle.gtp_engine.proofs.Keeping.{loads_failed, loads_more}
-use Rattle.std.proofs.Common.{subst}
-use Rattle.gtp_engine.specs.inner.Loading.{CanKeep}
 use Rattle.gtp_engine.proofs.engine.Engine.note.Goals as goal
 
 pub invariant_of-self : goal.invariant_of-self
 invariant_of-self c = record {
-  limits_fit = c.self.invariant.limits_fit;
-  setup_fit = subst CanKeep c.in-Position.is c.requires.fit;
-  numbered = loads_more c.self.inside.loads c.self.inside.failed.items c.self.invariant.numbered;
+  limits_fit = c.self-in-Position.invariant.limits_fit;
+  setup_fit = c.self-in-Position.invariant.setup_fit;
+  numbered = loads_more c.self-in-Position.inside.loads c.self-in-Position.inside.failed.items c.self-in-Position.invariant.numbered;
 }
 
 pub invariant_of-self-in-Nothing : goal.invariant_of-self-in-Nothing

@@ -1,5 +1,4 @@
-use Rattle.std.proofs.Common.{ap, subst, Some}
-use Rattle.gtp_engine.specs.inner.Doing.{with_table}
+use Rattle.std.proofs.Common.{ap, subst}
 use Rattle.gtp_engine.specs.inner.Playing.{IsOpened}
 use Rattle.gtp_engine.proofs.Doing.{turn_first, turn_unsolved}
 use Rattle.gtp_engine.proofs.Keeping.{with_side_fit}
@@ -14,12 +13,8 @@ returns-in_default-clause-taken g c =
     (ap (λ a. a.limits) c.self.view_is) (ap (λ a. a.table.setup) c.self.view_is) c.requires c.in_ok-setup.ensures
     (subst (IsOpened c.self.inside.limits c.in_ok-setup.setup) c.in_default.is c.in_ok-solved.ensures.opened) c.in_ok-reply.ensures
 
-pub invariant_of-self : goal.invariant_of-self
-invariant_of-self g c = record {
-  limits_fit = c.self.invariant.limits_fit;
-  setup_fit = with_side_fit c.self.inside.setup c.in_ok-setup.setup c.args.colour c.in_ok-setup.ensures c.self.invariant.setup_fit;
-  numbered = c.self.invariant.numbered;
-}
+pub put-requires : goal.put-requires
+put-requires g c = with_side_fit c.self.inside.setup c.in_ok-setup.setup c.args.colour c.in_ok-setup.ensures c.self.invariant.setup_fit
 
 pub returns-clause-taken : goal.returns-clause-taken
 returns-clause-taken g c =
@@ -27,4 +22,4 @@ returns-clause-taken g c =
     turn_first c.args.self.now c.self.inside.limits c.self.inside.setup c.in_ok-setup.setup c.args.colour c.args.action c.args.id.now c.in_ok-reply-2.reply
     (ap (λ a. a.limits) c.self.view_is) (ap (λ a. a.table.setup) c.self.view_is) c.requires c.in_ok-setup.ensures
     _ c.in-Some.solved.state v (subst (IsOpened c.self.inside.limits c.in_ok-setup.setup) c.in-Some.is c.in_ok-solved.ensures.opened) c.in_ok-reply-2.ensures.acted
-    (ap (λ a. with_table a (record { setup = c.in_ok-setup.setup; game = Some v })) c.self.view_is)
+    c.put.ensures
