@@ -5,8 +5,7 @@ use Rattle.region_book.specs.Image.{IsShape}
 use Rattle.endgame_solver.specs.Regions.{no_region}
 use Rattle.endgame_solver.specs.inner.Solving.{IsRefusalOf, IsSolvedBy}
 use Rattle.endgame_solver.specs.declared.view_book.Kind.{Kind}
-use Rattle.endgame_solver.proofs.SharingLaws.{next_seen, partner_for, shares_new}
-use Rattle.endgame_solver.proofs.SolvingLaws.{refused_at}
+use Rattle.endgame_solver.proofs.SharingLaws.{next_seen, partner_for, shares_new, refused_at}
 use Rattle.endgame_solver.proofs.region_values.solve_next.Goals as goal
 
 pub view_for-requires-clause-some : goal.view_for-requires-clause-some

@@ -1,27 +1,22 @@
-use Rattle.std.proofs.Common.{◌+◌, ◌≤◌, ap, ◌∙◌, subst, arith, length, replicate}
+use Rattle.std.proofs.Common.{◌≤◌, ap, ◌∙◌, subst, arith, length, replicate}
 use Rattle.std.proofs.lemmas.Result.{err_from_is_err_and}
 use Rattle.whole_rules.specs.Opening.{IsOpening}
 use Rattle.sum_outcome.proofs.MemoLaws.{fits_grown}
-use Rattle.endgame_solver.specs.Faults.{AreRefused, most_steps}
-use Rattle.endgame_solver.proofs.BegunLaws.{komi_held, refusal_begun, steps_within}
+use Rattle.endgame_solver.proofs.BeginLaws.{komi_held, refusal_begun, steps_within, is_kept, are_sound}
 use Rattle.endgame_solver.specs.inner.Sharing.{AreSharedBy}
-use Rattle.endgame_solver.proofs.ViewLaws.{openings_known, sum_is}
-use Rattle.endgame_solver.proofs.KeptAtStart.{is_kept, are_sound}
+use Rattle.endgame_solver.proofs.WinningLaws.{openings_known, sum_is}
 use Rattle.endgame_solver.proofs.solved.Solved.begin.Goals as goal
 
 pub returns-in_err-book-clause-begun : goal.returns-in_err-book-clause-begun
 returns-in_err-book-clause-begun g c =
     let p = err_from_is_err_and c.from_residual-in_err-book.result c.from_residual-in_err-book.ensures.1 in
-    let refused = subst (λ rs. AreRefused c.args.limits.now rs c.in_err-book.field-0.0) c.deref-2.ensures.value c.in_err-book.ensures.refusal in
-    rw (p.1, p.2) (refusal_begun c.args.setup.now c.args.limits.now c.in_ok-regions.regions.items c.in_ok-regions.ensures.regions _ refused)
+    rw (p.1, p.2) (refusal_begun c.args.setup.now c.args.limits.now c.in_ok-regions.ensures.regions c.deref-2.ensures.value _ c.in_err-book.ensures.refusal)
 
 pub returns-in_err-book-clause-steps : goal.returns-in_err-book-clause-steps
-returns-in_err-book-clause-steps g c = steps_within c.args.limits.now c.args.setup.now.board c.in_ok-regions.regions.items _ _ c.in_ok-regions.ensures.regions
-    (subst (λ rs. c.solve_regions.new.steps ≤ c.args.steps.now + most_steps c.args.limits.now rs) c.deref-2.ensures.value c.solve_regions.ensures.steps)
+returns-in_err-book-clause-steps g c = steps_within c.args.limits.now c.args.steps.now c.in_ok-regions.ensures.regions c.deref-2.ensures.value c.solve_regions.ensures.steps
 
 pub returns-in_err-places-clause-steps : goal.returns-in_err-places-clause-steps
-returns-in_err-places-clause-steps g c = steps_within c.args.limits.now c.args.setup.now.board c.in_ok-regions.regions.items _ _ c.in_ok-regions.ensures.regions
-    (subst (λ rs. c.solve_regions.new.steps ≤ c.args.steps.now + most_steps c.args.limits.now rs) c.deref-2.ensures.value c.solve_regions.ensures.steps)
+returns-in_err-places-clause-steps g c = steps_within c.args.limits.now c.args.steps.now c.in_ok-regions.ensures.regions c.deref-2.ensures.value c.solve_regions.ensures.steps
 
 pub returns-in_err-places-clause-begun : goal.returns-in_err-places-clause-begun
 returns-in_err-places-clause-begun g c =
@@ -35,8 +30,7 @@ pub opening_values-requires : goal.opening_values-requires
 opening_values-requires g c = openings_known c.args.limits.now c.deref-2.result.now c.in_ok-book.book c.solve_regions.new.store c.in_ok-book.ensures.solved
 
 pub returns-in_err-sum-clause-steps : goal.returns-in_err-sum-clause-steps
-returns-in_err-sum-clause-steps g c = steps_within c.args.limits.now c.args.setup.now.board c.in_ok-regions.regions.items _ _ c.in_ok-regions.ensures.regions
-    (subst (λ rs. c.solve_regions.new.steps ≤ c.args.steps.now + most_steps c.args.limits.now rs) c.deref-2.ensures.value c.solve_regions.ensures.steps)
+returns-in_err-sum-clause-steps g c = steps_within c.args.limits.now c.args.steps.now c.in_ok-regions.ensures.regions c.deref-2.ensures.value c.solve_regions.ensures.steps
 
 pub invariant_of-result : goal.invariant_of-result
 invariant_of-result g c =
@@ -72,8 +66,7 @@ returns-clause-begun g c =
     (opens, made.regions, are_sound c.args.limits.now setup.board regions shared.graphs shared.values c.solve_regions.new.store c.requires.fit.settled made.regions made.local few c.requires.positions shared.solved)
 
 pub returns-clause-steps : goal.returns-clause-steps
-returns-clause-steps g c = steps_within c.args.limits.now c.args.setup.now.board c.in_ok-regions.regions.items _ _ c.in_ok-regions.ensures.regions
-    (subst (λ rs. c.solve_regions.new.steps ≤ c.args.steps.now + most_steps c.args.limits.now rs) c.deref-2.ensures.value c.solve_regions.ensures.steps)
+returns-clause-steps g c = steps_within c.args.limits.now c.args.steps.now c.in_ok-regions.ensures.regions c.deref-2.ensures.value c.solve_regions.ensures.steps
 
 pub returns-in-Some-clause-begun : goal.returns-in-Some-clause-begun
 returns-in-Some-clause-begun g c =
