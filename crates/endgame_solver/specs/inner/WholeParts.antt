@@ -5,7 +5,6 @@ use Rattle.go_grid.specs.Board.{Board}
 use Rattle.go_play.specs.Place.{IsPlaced, IsNumberTaken}
 use Rattle.benson_life.specs.Region.{IsContested}
 use Rattle.whole_rules.specs.WholeGame.{Whole}
-use Rattle.whole_rules.specs.WholeGame as whole
 use Rattle.benson_life.specs.Walls.{WallsStand}
 use Rattle.local_value.specs.LocalGame.{Step}
 use Rattle.endgame_solver.specs.SumGame.{State}
