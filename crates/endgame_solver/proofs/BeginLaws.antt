@@ -304,7 +304,11 @@ few_regions g regions are few =
         let w = (low_contested g regions are (region_at regions k) (Contains-get_or regions k no_region known)).0 in
         omega (arith, w, get_or-map lowest regions k no_region d known)
 
-module _ (limits : Limits) (g : Board) (regions : List Region) (graphs : List Graph) (values : List (List ℕ)) (Ts : List Tree) (settled : IsSettled g)
+pub are_sound : {limits : Limits} {regions : List Region} {graphs : List Graph} {values : List (List ℕ)} {Ts : List Tree}
+    → AreSolvedBelow limits regions graphs values Ts (length regions) → AreSound limits regions
+are_sound {limits} {regions} done r (k, lt, at) = subst (IsSound limits) (get_or_default regions k no_region r lt ∙ at) (done.each k lt).sound
+
+module _ {limits : Limits} {g : Board} {regions : List Region} {graphs : List Graph} {values : List (List ℕ)} {Ts : List Tree} (settled : IsSettled g)
     (are : AreRegionsOfPlay g regions) (local : (r : Region) → Contains regions r → PlaysLocally g r) (few : length g.cells ≤ 625)
     (limit : limits.positions ≤ MOST_POSITIONS) (done : AreSolvedBelow limits regions graphs values Ts (length regions)) where
   are_graphs : AreGraphs g regions graphs
@@ -333,10 +337,7 @@ module _ (limits : Limits) (g : Board) (regions : List Region) (graphs : List Gr
     within = λ k i lt short. (done.each k lt).within i short;
   }
 
-  pub are_sound : AreSound limits regions
-  are_sound r (k, lt, at) = subst (IsSound limits) (get_or_default regions k no_region r lt ∙ at) (done.each k lt).sound
-
-  module _ (black white : ℕ) (komi : ℤ) (side : Colour) (tax : Bool) (s : Whole) (opening : IsOpening g black white komi side tax s) (places sum : List ℕ)
+  module _ {black white : ℕ} {komi : ℤ} {side : Colour} {tax : Bool} {s : Whole} (opening : IsOpening g black white komi side tax s) {places sum : List ℕ}
       (first : places ≡ replicate (length regions) 0) (ids : sum ≡ map (λ xs. get_or xs 0 0) values) where
     many_places : length places ≡ length regions
     many_places = ap length first ∙ length-replicate (length regions) 0

@@ -6,7 +6,7 @@ use Rattle.std.specs.List.{All, AllPairs, Contains}
 use Rattle.std.proofs.Math.Nat.{mul-le-mul, mul-le-mul_right}
 use Rattle.std.proofs.lemmas.Bool.{cases_lt, cases_eq}
 use Rattle.std.proofs.lemmas.List.{get_or_default, take-append-drop, get_or-map, length-map}
-use Rattle.std.proofs.lemmas.List.Elements.{All-cons, All-nil, All-weaker, Contains-get_or, Contains-append_cases, Contains-append_left, Contains-append_right}
+use Rattle.std.proofs.lemmas.List.Elements.{All-cons, All-nil, All-weaker, Contains-get_or, Contains-append_left, Contains-push, Contains-push_cases}
 use Rattle.go_grid.specs.declared.grid.Cell.{Cell}
 use Rattle.go_grid.specs.declared.region.Touch.{Touch}
 use Rattle.go_grid.specs.Region.{Region}
@@ -37,9 +37,8 @@ use Rattle.local_graph.specs.FiniteLocalPlay.{HasNoCycle}
 use Rattle.local_graph.specs.inner.Graph.{edges_at, no_edge}
 use Rattle.local_graph.proofs.EdgeListLemmas.{node_inside}
 use Rattle.local_graph.proofs.OrderLemmas.{same_place}
-use Rattle.go_grid.proofs.Decided.{Decided}
+use Rattle.go_grid.proofs.Decided.{Decided, alike, some_below}
 use Rattle.local_value.proofs.GraphLaws.{cells_at, move_of, next_place, position_at}
-use Rattle.local_value.proofs.LocalLaws.{contains-cases, contains-head, contains-tail}
 use Rattle.region_book.specs.Shape.{colour_after}
 use Rattle.region_book.proofs.SymmetryLaws.{colour_back, back}
 use Rattle.endgame_solver.specs.inner.Views.{Serves, own}
@@ -119,20 +118,6 @@ cycle_places r ms back c full =
 
 -- Where a pairing carries one opening onto another, the graph, turned, is a graph of the second.
 
--- where it is decided of each item, it is decided of some
-some_of : {X : Type 0} (xs : List X) (P : X → Type 0) → ((x : X) → Decided (P x)) → Decided ((x : X) × Contains xs x × P x)
-some_of [] P d = inr (λ (x, h, p). absurd (omega (arith, h.1)))
-some_of {X} (y ∷ ys) P d = elim (d y) [
-  | inl p ↦ inl (y, contains-head X y ys, p)
-  | inr f ↦ elim (some_of ys P d) [
-    | inl (x, h, p) ↦ inl (x, contains-tail X y x ys h, p)
-    | inr g ↦ inr (λ (x, h, p). elim (contains-cases X y x ys h) [
-      | inl e ↦ f (subst P (sym e) p)
-      | inr k ↦ g (x, k, p)
-    ])
-  ]
-]
-
 -- Black's moves first, and then by place, of which there are at most 32
 abbrev key_of : Colour → ℕ → ℕ
 key_of Black n = n
@@ -160,13 +145,6 @@ key_before Black Black m n a b lt = inl (refl, lt)
 key_before Black White m n a b lt = inr (refl, refl)
 key_before White Black m n a b lt = absurd (omega (arith, b, lt))
 key_before White White m n a b lt = inl (refl, omega (arith, lt))
-
--- the one item of a list
-only : {X : Type 0} (x y : X) → Contains (x ∷ []) y → x ≡ y
-only {X} x y h = elim (contains-cases X x y [] h) [
-  | inl e ↦ e
-  | inr k ↦ absurd (omega (arith, k.1))
-]
 
 module _ {q : Region} (r : Region) {h : Graph} {Paired : ℕ → ℕ → Type 0} (v : View) (opening : Matched q.touch r.touch Paired v.colours q.cells r.cells)
     (of : IsGraphOf q h) (few : length r.cells ≤ 32) (partner : (j i : ℕ) → Paired j i → get_or v.places j 0 ≡ i) where
@@ -272,16 +250,23 @@ module _ {q : Region} (r : Region) {h : Graph} {Paired : ℕ → ℕ → Type 0}
   abbrev HasKey : ℕ → ℕ → Type 0
   HasKey i n = (f : Edge) × Contains (edges_at h.edges i) f × (key (own v f) ≡ n)
 
+  has_key : (i n : ℕ) → Decided (HasKey i n)
+  has_key i n =
+      let es = edges_at h.edges i in
+      alike _ _ (λ (k, lt, e). (get_or es k no_edge, Contains-get_or es k no_edge lt, e))
+      (λ (f, (k, lt, at), e). (k, lt, ap (λ x. key (own v x)) (get_or_default es k no_edge f lt ∙ at) ∙ e))
+      (some_below (length es) (λ k. key (own v (get_or es k no_edge)) ≡ n) (λ k. cases_eq (key (own v (get_or es k no_edge))) n))
+
   sorted_more : (i n : ℕ) (es : List Edge) → Sorted i n es → Decided (HasKey i n) → (es : List Edge) × Sorted i (suc n) es
   sorted_more i n es s (inl (f, among, is)) = (
     es ++ own v f ∷ [],
     record {
-      from = λ e c. elim (Contains-append_cases es (own v f ∷ []) e c) [
+      from = λ e c. elim (Contains-push_cases es (own v f) e c) [
         | inl before ↦ (let (g, there, same, less) = s.from e before in (g, there, same, omega (arith, less)))
-        | inr last ↦ (let same = sym (only (own v f) e last) in (f, among, same, (let k = ap key same in omega (arith, k, is))))
+        | inr last ↦ (let same = sym last in (f, among, same, (let k = ap key same in omega (arith, k, is))))
       ];
       to = λ g c lt. elim (cases_eq (key (own v g)) n) [
-        | inl same ↦ (own v f, Contains-append_right es (own v f ∷ []) (own v f) (contains-head Edge (own v f) []), is ∙ sym same)
+        | inl same ↦ (own v f, Contains-push es (own v f), is ∙ sym same)
         | inr other ↦ (let (e, there, same) = s.to g c (omega (arith, lt, other)) in (e, Contains-append_left es (own v f ∷ []) e there, same))
       ];
       rising = all_pairs_push (λ a b. key a < key b) es (own v f) s.rising
@@ -310,7 +295,7 @@ module _ {q : Region} (r : Region) {h : Graph} {Paired : ℕ → ℕ → Type 0}
     },
   )
   sorted i (suc n) = let (es, s) = sorted i n in
-      sorted_more i n es s (some_of (edges_at h.edges i) (λ f. key (own v f) ≡ n) (λ f. cases_eq (key (own v f)) n))
+      sorted_more i n es s (has_key i n)
 
   abbrev move_for : Edge → LocalMove
   move_for e = record { colour = e.colour; place = e.place; next = get_or positions e.next 0; taken = e.taken }

@@ -46,8 +46,7 @@ invariant_of-result g c =
         values = shared.values;
         views_are = shared.views_are;
         shapes = shared.shapes;
-        kept = is_kept c.args.limits.now setup.board regions shared.graphs shared.values c.solve_regions.new.store c.requires.fit.settled made.regions made.local few c.requires.positions shared.solved
-            setup.black_prisoners setup.white_prisoners setup.komi_halves setup.side c.args.limits.now.tax c.in_ok-whole.whole opens _ _
+        kept = is_kept c.requires.fit.settled made.regions made.local few c.requires.positions shared.solved opens
             (c.in_ok-places.ensures ∙ ap (λ n. replicate n 0) (c.len.ensures ∙ c.in_ok-regions.regions.ok.0))
             (sum_is book shared.graphs shared.values (length regions) _ shared.views_are shared.solved.as_many_values c.in_ok-sum.ensures.long c.in_ok-sum.ensures.each)
             c.requires.fit.black c.requires.fit.white c.requires.fit.komi;
@@ -58,12 +57,9 @@ invariant_of-result g c =
 pub returns-clause-begun : goal.returns-clause-begun
 returns-clause-begun g c =
     let setup = c.args.setup.now in
-    let regions = c.in_ok-regions.regions.items in
-    let made = c.in_ok-regions.ensures in
-    let few : length setup.board.cells ≤ 625 = omega (arith, c.size-size.ensures.area, c.size-size.ensures.most) in
     let opens = subst (λ komi. IsOpening setup.board setup.black_prisoners setup.white_prisoners komi setup.side c.args.limits.now.tax c.in_ok-whole.whole) (komi_held setup.komi_halves c.requires.fit.komi) c.in_ok-whole.ensures in
     let shared = subst (λ rs. AreSharedBy c.args.limits.now rs c.in_ok-book.book c.solve_regions.new.store) c.deref-2.ensures.value c.in_ok-book.ensures.solved in
-    (opens, made.regions, are_sound c.args.limits.now setup.board regions shared.graphs shared.values c.solve_regions.new.store c.requires.fit.settled made.regions made.local few c.requires.positions shared.solved)
+    (opens, c.in_ok-regions.ensures.regions, are_sound shared.solved)
 
 pub returns-clause-steps : goal.returns-clause-steps
 returns-clause-steps g c = steps_within c.args.limits.now c.args.steps.now c.in_ok-regions.ensures.regions c.deref-2.ensures.value c.solve_regions.ensures.steps
