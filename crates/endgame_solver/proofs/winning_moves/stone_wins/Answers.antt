@@ -1,8 +1,15 @@
 use Rattle.std.proofs.Common.{◌∙◌, refl, ap, get_or, set}
+use Rattle.std.proofs.lemmas.Bool.{both_ways}
 use Rattle.whole_rules.specs.Purses.{paid_in}
 use Rattle.sum_outcome.proofs.Lists.{put_back}
 use Rattle.endgame_solver.proofs.WinningLaws.{no_stone, shows_places, stone_bounds, stone_known, stone_modest, stone_none, stone_place, stone_values, stone_view, stone_wins}
 use Rattle.endgame_solver.proofs.winning_moves.stone_wins.Goals as goal
+
+pub returns-then-not-contested-clause-wins : goal.returns-then-not-contested-clause-wins
+returns-then-not-contested-clause-wins c = (
+  λ e. absurd (cc),
+  λ w. absurd (both_ways c.contested.result c.if-not-contested.true (c.contested.ensures.1 w.1.0)),
+)
 
 pub returns-in_default-clause-wins : goal.returns-in_default-clause-wins
 returns-in_default-clause-wins c =

@@ -1,9 +1,19 @@
-use Rattle.std.proofs.Common.{◌∙◌, ap, arith, below_more, length}
+use Rattle.std.proofs.Common.{◌∙◌, ap, arith, below_more, length, sym, subst}
 use Rattle.whole_rules.specs.declared.states.Move.TheVariants.{Stone}
 use Rattle.whole_rules.specs.FirstWinningMove.{IsWinning}
+use Rattle.endgame_solver.specs.inner.Views.{IsSeen}
 use Rattle.std.proofs.lemmas.Bool.{both_ways}
 use Rattle.endgame_solver.proofs.WinningLaws.{no_stone_end}
 use Rattle.endgame_solver.proofs.winning_moves.winning_stone.Goals as goal
+
+pub stone_wins-requires-clause-seen : goal.stone_wins-requires-clause-seen
+stone_wins-requires-clause-seen c = subst (IsSeen c.args.present.now) (sym c.points.invariant.0) c.requires.seen
+
+pub returns-then-stone_wins-clause-first : goal.returns-then-stone_wins-clause-first
+returns-then-stone_wins-clause-first c = (omega (arith, c.points-test.true, c.area-number-end.ensures), c.stone_wins.ensures.wins.0 c.if-stone_wins.true, c.points.invariant.2)
+
+pub returns-then-stone_wins-clause-same : goal.returns-then-stone_wins-clause-same
+returns-then-stone_wins-clause-same c = c.stone_wins.ensures.same ∙ c.points.invariant.0
 
 pub points-preserved : goal.points-preserved
 points-preserved c = (
@@ -17,3 +27,6 @@ pub returns-clause-first : goal.returns-clause-first
 returns-clause-first c =
     no_stone_end c.args.present.now.whole.now c.points.number
     (omega (arith, c.points-test.false, c.area-number-end.ensures, c.size.ensures, ap (λ b. length b.cells) c.board.ensures)) c.points.invariant.2
+
+pub returns-clause-same : goal.returns-clause-same
+returns-clause-same c = c.points.invariant.0

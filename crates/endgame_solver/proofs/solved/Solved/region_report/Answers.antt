@@ -5,7 +5,7 @@ use Rattle.endgame_solver.specs.Regions.{region_at, no_region}
 use Rattle.endgame_solver.specs.declared.solved.RegionReport.{RegionReport}
 use Rattle.endgame_solver.specs.Solved.{IsReport, IsNumberOfPositions, IsValueId}
 use Rattle.endgame_solver.proofs.HeldLaws.{value_is, lowest_on_board}
-use Rattle.endgame_solver.proofs.WinningLaws.{ids_seen}
+use Rattle.endgame_solver.proofs.WinningLaws.{asks_values, asks_view, ids_seen}
 use Rattle.endgame_solver.proofs.solved.Solved.region_report.Goals as goal
 
 pub returns-clause-report : goal.returns-clause-report
@@ -27,6 +27,19 @@ returns-clause-report c =
       positions = subst (IsNumberOfPositions r) ((held.views_are.each n lt).seen.as_many ∙ sym c.positions_seen.ensures) positions;
       value = subst (IsValueId i.store r r.cells) (ap (λ z. get_or z 0 0) (sym (ids_seen held lt)) ∙ sym c.value_seen.ensures) (value_is held.kept n lt);
     }
+
+pub positions_seen-requires-clause-view : goal.positions_seen-requires-clause-view
+positions_seen-requires-clause-view c = asks_view c.self.invariant.0 (subst (λ v. c.args.i < length v.regions) (sym c.self.view_is) c.requires)
+
+pub positions_seen-requires-clause-graph : goal.positions_seen-requires-clause-graph
+positions_seen-requires-clause-graph c =
+    (c.self.invariant.0.views_are.each c.args.i (subst (λ v. c.args.i < length v.regions) (sym c.self.view_is) c.requires)).graph
+
+pub value_seen-requires-clause-view : goal.value_seen-requires-clause-view
+value_seen-requires-clause-view c = asks_view c.self.invariant.0 (subst (λ v. c.args.i < length v.regions) (sym c.self.view_is) c.requires)
+
+pub value_seen-requires-clause-values : goal.value_seen-requires-clause-values
+value_seen-requires-clause-values c = asks_values c.self.invariant.0 (subst (λ v. c.args.i < length v.regions) (sym c.self.view_is) c.requires)
 
 pub value_seen-requires-clause-place : goal.value_seen-requires-clause-place
 value_seen-requires-clause-place c =
