@@ -297,6 +297,18 @@ module _ {q : Region} (r : Region) {h : Graph} {Paired : ℕ → ℕ → Type 0}
   sorted i (suc n) = let (es, s) = sorted i n in
       sorted_more i n es s (has_key i n)
 
+  -- an edge, turned, stands among the sorted ones, as far as its stone goes
+  among_sorted : (i : ℕ) (es : List Edge) → Sorted i 64 es → (f : Edge) → Contains (edges_at h.edges i) f
+      → (g : Edge) × Contains es g × (g.colour ≡ colour_after v.colours f.colour) × (g.place ≡ get_or v.places f.place 0)
+  among_sorted i es s f among =
+      let small = own_small i f among in
+      let (g, there, same) = s.to f among (subst (λ z. z < 64) (sym (key_is (own v f))) (key_small _ _ small)) in
+      let (f', among', is, less) = s.from g there in
+      let small' : g.place < 32 = subst (λ e. e.place < 32) (sym is) (own_small i f' among') in
+      let keys : key_of g.colour g.place ≡ key_of (colour_after v.colours f.colour) (get_or v.places f.place 0) = sym (key_is g) ∙ same ∙ key_is (own v f) in
+      let (colour, place) = same_key _ _ _ _ small' small keys in
+      (g, there, colour, place)
+
   abbrev move_for : Edge → LocalMove
   move_for e = record { colour = e.colour; place = e.place; next = get_or positions e.next 0; taken = e.taken }
 
@@ -321,14 +333,11 @@ module _ {q : Region} (r : Region) {h : Graph} {Paired : ℕ → ℕ → Type 0}
           let f = get_or (edges_at h.edges i) k no_edge in
           let e = are.1 k m f short is (get_or_default (edges_at h.edges i) k f no_edge short) in
           let among = Contains-get_or (edges_at h.edges i) k no_edge short in
-          let small = own_small i f among in
-          let (g, (j, less, there), same) = s.to f among (subst (λ z. z < 64) (sym (key_is (own v f))) (key_small _ _ small)) in
-          let gs : g.place < 32 = subst (λ y. y.place < 32) (get_or_default es j no_edge g less ∙ there) (item_small j less) in
-          let two = same_key g.colour (colour_after v.colours f.colour) g.place (get_or v.places f.place 0) gs small (sym (key_is g) ∙ same ∙ key_is (own v f)) in (
+          let (g, (j, less, there), colour, place) = among_sorted i es s f among in (
             move_for g,
             (j, omega (arith, less, length-map es move_for), get_or-map move_for es j g (move_for g) less ∙ ap move_for there),
-            two.0 ∙ ap (colour_after v.colours) (e.colour ∙ mc) ∙ colour_back v.colours c,
-            two.1 ∙ ap (λ z. get_or v.places z 0) (e.place ∙ mp) ∙ partner x.place p x.paired,
+            colour ∙ ap (colour_after v.colours) (e.colour ∙ mc) ∙ colour_back v.colours c,
+            place ∙ ap (λ z. get_or v.places z 0) (e.place ∙ mp) ∙ partner x.place p x.paired,
           );
       in_order = λ j k d lt short.
           let last : k < length es = omega (arith, short, length-map es move_for) in
@@ -420,17 +429,13 @@ module _ {q : Region} (r : Region) {h : Graph} {Paired : ℕ → ℕ → Type 0}
       λ (f, among, is).
           let inside : i < length h.positions = omega (arith, node_inside h.edges i among.0 among.1, of.graph.beside) in
           let s = edges_of i inside in
-          let small = own_small i f among in
-          let (g, there, keys) = s.to f among (subst (λ z. z < 64) (sym (key_is (own v f))) (key_small _ _ small)) in
+          let (g, there, ec, ep) = among_sorted i (edges_at edges i) s f among in
           let (f', among', is', less) = s.from g there in
-          let keys' : key_of (colour_after v.colours f'.colour) (get_or v.places f'.place 0) ≡ key_of (colour_after v.colours f.colour) (get_or v.places f.place 0) =
-          sym (key_is (own v f')) ∙ sym (ap key is') ∙ keys ∙ key_is (own v f) in
-          let two = same_key _ _ _ _ (own_small i f' among') small keys' in
-          let colour = sym (colour_back v.colours f'.colour) ∙ ap (colour_after v.colours) two.0 ∙ colour_back v.colours f.colour in
+          let colour = sym (colour_back v.colours f'.colour) ∙ ap (colour_after v.colours) (ap (λ e. e.colour) (sym is') ∙ ec) ∙ colour_back v.colours f.colour in
           let (lt, (p, paired, a)) = own_place i f among in
           let (lt', (p', paired', b)) = own_place i f' among' in
-          let place = (opening.carries.one f'.place p' f.place p paired' paired).1 (sym (partner f'.place p' paired') ∙ two.1 ∙ partner f.place p paired) in
-          let same = one_edge i f' f among' among colour place in
+          let places = sym (partner f'.place p' paired') ∙ ap (λ e. e.place) (sym is') ∙ ep ∙ partner f.place p paired in
+          let same = one_edge i f' f among' among colour ((opening.carries.one f'.place p' f.place p paired' paired).1 places) in
           subst (Contains (edges_at edges i)) (is' ∙ ap (own v) same ∙ sym is) there,
     );
   }
