@@ -36,7 +36,7 @@ use Rattle.local_play.proofs.PackLemmas.{pack_same}
 use Rattle.local_graph.specs.FiniteLocalPlay.{HasNoCycle}
 use Rattle.local_graph.specs.inner.Graph.{edges_at, no_edge}
 use Rattle.local_graph.proofs.EdgeListLemmas.{node_inside}
-use Rattle.local_graph.proofs.OrderLemmas.{same_place}
+use Rattle.local_graph.proofs.OrderLemmas.{edge_for, same_place}
 use Rattle.go_grid.proofs.Decided.{Decided, alike, some_below}
 use Rattle.local_value.proofs.GraphLaws.{cells_at, move_of, next_place, position_at}
 use Rattle.region_book.specs.Shape.{colour_after}
@@ -327,17 +327,13 @@ module _ {q : Region} (r : Region) {h : Graph} {Paired : ℕ → ℕ → Type 0}
           subst (IsMoveFrom r.touch w.turned) (ap move_for (sym same) ∙ sym (get_or-map move_for es k no_edge m short) ∙ is) (turned_move i n w f among);
       all = λ c p after move.
           let x = move_matched (matched_back w.matched) after c p move in
-          let (moves, listed, are) = of.graph.moves i w.cells w.has.inside w.has.reachable w.has.packed in
-          let (m, (k, lt, is), mc, mp) = listed.all (colour_after v.colours c) x.place x.next x.move in
-          let short : k < length (edges_at h.edges i) = omega (arith, lt, are.0) in
-          let f = get_or (edges_at h.edges i) k no_edge in
-          let e = are.1 k m f short is (get_or_default (edges_at h.edges i) k f no_edge short) in
-          let among = Contains-get_or (edges_at h.edges i) k no_edge short in
-          let (g, (j, less, there), colour, place) = among_sorted i es s f among in (
+          let step : CycleMove = record { colour = colour_after v.colours c; place = x.place } in
+          let f = edge_for q.touch q.cells h.positions h.edges of.graph i w.cells x.next step w.has.inside w.has.reachable w.has.packed x.move in
+          let (g, (j, less, there), colour, place) = among_sorted i es s f.e f.among in (
             move_for g,
             (j, omega (arith, less, length-map es move_for), get_or-map move_for es j g (move_for g) less ∙ ap move_for there),
-            colour ∙ ap (colour_after v.colours) (e.colour ∙ mc) ∙ colour_back v.colours c,
-            place ∙ ap (λ z. get_or v.places z 0) (e.place ∙ mp) ∙ partner x.place p x.paired,
+            colour ∙ ap (colour_after v.colours) f.colour ∙ colour_back v.colours c,
+            place ∙ ap (λ z. get_or v.places z 0) f.place ∙ partner x.place p x.paired,
           );
       in_order = λ j k d lt short.
           let last : k < length es = omega (arith, short, length-map es move_for) in

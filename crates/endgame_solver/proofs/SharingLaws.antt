@@ -356,10 +356,13 @@ with_kind {limits} {regions} {shared} {held} {kinds} {Ts} {n} g kind s new apart
       (λ k d lt. apart (get_or kinds k d) (Contains-get_or kinds k d lt));
   every = below_more (HasKind regions (kinds ++ kind ∷ [])) n
       (λ k less. let (j, short, w) = s.every k less in
-      (j, omega (arith, short, length_push kinds kind), λ found is. w found (sym (get_or_append_left kinds (kind ∷ []) found j short) ∙ is)))
-      (length kinds, omega (arith, length_push kinds kind), λ found is.
-          let same : kind ≡ found = sym (get_or_push kinds kind found (length kinds) refl) ∙ is in
-          (kind.turn, subst (λ f. Shaped regions n f.shape.spots.items kind.turn) same shape));
+      (j, omega (arith, short, length_push kinds kind), λ found is. w found (sym (get_or_append_left kinds (kind ∷ []) found j short) ∙ is))) (
+        length kinds,
+        omega (arith, length_push kinds kind),
+        λ found is.
+            let same : kind ≡ found = sym (get_or_push kinds kind found (length kinds) refl) ∙ is in
+            (kind.turn, subst (λ f. Shaped regions n f.shape.spots.items kind.turn) same shape),
+      );
 }
 
 -- the next region has the shape of a kind
