@@ -68,7 +68,8 @@ above x xs p up (k, short, at) =
     omega (arith, later, get_or_default xs k 0 p short, at)
 
 -- ascending lists of the same numbers are the same
-one_list : (xs ys : List ℕ) → IsAscending xs → IsAscending ys → ((p : ℕ) → Contains xs p → Contains ys p) → ((p : ℕ) → Contains ys p → Contains xs p) → xs ≡ ys
+one_list : (xs ys : List ℕ) → IsAscending xs → IsAscending ys → ((p : ℕ) → Contains xs p → Contains ys p)
+    → ((p : ℕ) → Contains ys p → Contains xs p) → xs ≡ ys
 one_list [] [] a b f g = refl
 one_list [] (y ∷ ys) a b f g = absurd (let w = g y (0, omega arith, refl) in omega (arith, w.1))
 one_list (x ∷ xs) [] a b f g = absurd (let w = f x (0, omega arith, refl) in omega (arith, w.1))
@@ -209,11 +210,13 @@ one_regions g rs ss a b = ext_get_or no_region rs ss (same_count g rs ss a b) (�
     one_shape g (region_at rs k) (region_at ss k) (a.each _ h) (b.each _ h') (a.each _ h).proper (b.each _ h').proper (same_points g rs ss a b k lt))
 
 -- What beginning answers, and how many steps it takes, whatever list of the board's regions is meant.
-pub steps_within : (limits : Limits) (start : ℕ) {g : Board} {rs lent : List Region} {now : ℕ} → AreRegionsOfPlay g rs → lent ≡ rs → now ≤ start + most_steps limits lent
+pub steps_within : (limits : Limits) (start : ℕ) {g : Board} {rs lent : List Region} {now : ℕ} → AreRegionsOfPlay g rs → lent ≡ rs
+    → now ≤ start + most_steps limits lent
     → (ss : List Region) → AreRegionsOfPlay g ss → now ≤ start + most_steps limits ss
 steps_within limits start {g} {rs} {lent} {now} a is few ss b = subst (λ xs. now ≤ start + most_steps limits xs) (is ∙ one_regions g rs ss a b) few
 
-pub refusal_begun : (setup : Setup) (limits : Limits) {regions lent : List Region} → AreRegionsOfPlay setup.board regions → lent ≡ regions → (e : SolveError)
+pub refusal_begun : (setup : Setup) (limits : Limits) {regions lent : List Region} → AreRegionsOfPlay setup.board regions → lent ≡ regions
+    → (e : SolveError)
     → AreRefused limits lent e → Begun setup limits (Err e)
 refusal_begun setup limits {regions} are is e h = at e (subst (λ rs. AreRefused limits rs e) is h)
   where
@@ -252,7 +255,8 @@ komi_few Black (negsuc n) h = omega (arith, h)
 komi_few White (negsuc n) h = omega arith
 komi_few Black (pos n) h = omega arith
 
-purse_few : (g : Board) (black white : ℕ) (komi : ℤ) (side : Colour) (tax : Bool) (s : Whole) → length g.cells ≤ 625 → IsOpening g black white komi side tax s
+purse_few : (g : Board) (black white : ℕ) (komi : ℤ) (side : Colour) (tax : Bool) (s : Whole) → length g.cells ≤ 625
+    → IsOpening g black white komi side tax s
     → black < 2 ^ 40 → white < 2 ^ 40 → unsigned_abs komi ≤ 2000000 → (c : Colour) → purse c s.purses ≤ 2 ^ 40 + 1001875
 purse_few g black white komi side tax s few o small small' half Black =
     let (n, start, is) = o.black in
@@ -267,7 +271,8 @@ token_few token.Black = omega arith
 token_few token.White = omega arith
 
 -- places stand somewhere in the orders of at most 625 graphs of at most 1,000,000 positions
-room_at_start : (graphs : List Graph) (places : List ℕ) (s : Whole) → length places ≤ 625 → ((k : ℕ) → k < length places → Contains (graph_at graphs k).order (place_at places k))
+room_at_start : (graphs : List Graph) (places : List ℕ) (s : Whole) → length places ≤ 625
+    → ((k : ℕ) → k < length places → Contains (graph_at graphs k).order (place_at places k))
     → ((k : ℕ) → k < length places → length (graph_at graphs k).order ≤ MOST_POSITIONS) → ((c : Colour) → purse c s.purses ≤ 2 ^ 40 + 1001875) → HasRoom graphs places s
 room_at_start graphs places s many among short few = record {
   ranks = ranks.0;
@@ -337,7 +342,8 @@ module _ {limits : Limits} {g : Board} {regions : List Region} {graphs : List Gr
     within = λ k i lt short. (done.each k lt).within i short;
   }
 
-  module _ {black white : ℕ} {komi : ℤ} {side : Colour} {tax : Bool} {s : Whole} (opening : IsOpening g black white komi side tax s) {places sum : List ℕ}
+  module _ {black white : ℕ} {komi : ℤ} {side : Colour} {tax : Bool} {s : Whole} (opening : IsOpening g black white komi side tax s)
+      {places sum : List ℕ}
       (first : places ≡ replicate (length regions) 0) (ids : sum ≡ map (λ xs. get_or xs 0 0) values) where
     many_places : length places ≡ length regions
     many_places = ap length first ∙ length-replicate (length regions) 0

@@ -145,7 +145,8 @@ module _ (g : Board) (settled : IsSettled g) (regions : List Region) (cut : AreR
       let (i, short, at) = w.2 in
       let there : get_or r.points i 0 ≡ p = get_or_default r.points i 0 p short ∙ at in
       let play = cut.each r (Contains-get_or regions l no_region w.1) in
-      let (next, move, local) = placing_is_local g r settled play (get_or positions l []) h (held.each l no_region w.1) i short c after (subst (λ x. IsPlaced h x c after) (sym there) placed) in
+      let (next, move, local) = placing_is_local g r settled play (get_or positions l []) h (held.each l no_region w.1) i short c after
+      (subst (λ x. IsPlaced h x c after) (sym there) placed) in
       record {
         region = l;
         known = w.1;
@@ -209,7 +210,8 @@ held_start : (g : Board) (regions : List Region) (cut : AreRegionsOfPlay g regio
 held_start g regions cut = record {
   many = length-map regions (λ r. r.cells);
   each = λ k d lt. let r = get_or regions k d in let among = Contains-get_or regions k d lt in
-      subst (λ x. HoldsPosition g r x g) (sym (get_or-map (λ r. r.cells) regions k d [] lt)) (holds_start g r (cut.each r among) (cut.each r among).proper.full);
+      subst (λ x. HoldsPosition g r x g) (sym (get_or-map (λ r. r.cells) regions k d [] lt))
+      (holds_start g r (cut.each r among) (cut.each r among).proper.full);
 }
 
 -- a point that isn't contested is an alive stone or counted, and those never change

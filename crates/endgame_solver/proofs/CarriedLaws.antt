@@ -142,8 +142,12 @@ module _ {touch touch' : List Touch} {Paired : ℕ → ℕ → Type 0} {colours 
       (λ x z (y, q, path) link own.
       let (w, r) = partner c z own in
       (w, r, leads_step (IsLinked touch') (Holds b (colour_after colours c)) j y w path (linked_over x y z w q r link) (holds_over c z w r own)))
-      i k
-      (j, p, leads_here (IsLinked touch') (Holds b (colour_after colours c)) j (holds_over c i j p (leads_start (IsLinked touch) (Holds a c) i k chain)))
+      i k (
+        j,
+        p,
+        leads_here (IsLinked touch') (Holds b (colour_after colours c)) j
+            (holds_over c i j p (leads_start (IsLinked touch) (Holds a c) i k chain)),
+      )
       chain
 
   free_over : (c : Colour) (i j : ℕ) → Paired i j → IsFree touch a c i → IsFree touch' b (colour_after colours c) j
@@ -249,7 +253,8 @@ pub record IsMoved (touch touch' : List Touch) (Paired : ℕ → ℕ → Type 0)
 
 module _ {touch touch' : List Touch} {Paired : ℕ → ℕ → Type 0} {colours : Bool} {a b : List Cell} (m : Matched touch touch' Paired colours a b) where
   -- a local move of the first position is one of the second at the partner, with the colours that the pairing makes
-  move_over : {after next : List Cell} (c : Colour) (p q : ℕ) → Matched touch touch' Paired colours after next → Paired p q → IsLocalMove touch a c p after
+  move_over : {after next : List Cell} (c : Colour) (p q : ℕ) → Matched touch touch' Paired colours after next → Paired p q
+      → IsLocalMove touch a c p after
       → IsLocalMove touch' b (colour_after colours c) q next
   move_over {after} {next} c p q w at move =
       let lq : q < length b = (let inside = (m.carries.inside p q at).1 in omega (arith, inside, m.linked'.full)) in
@@ -264,7 +269,9 @@ module _ {touch touch' : List Touch} {Paired : ℕ → ℕ → Type 0} {colours 
         without = record {
           long = w.linked'.full ∙ sym m.linked'.full ∙ sym (length-set b q (stone c'));
           gone = λ l gone. elim (cases_lt l (length touch')) as (λ _. held_at next l ≡ cell.Empty) [
-            | inl lt ↦ (let (j, r) = m.carries.second l lt in w.carries.held j l r ∙ ap (cell_after colours) (move.without.gone j (taken_back j l r gone)) ∙ empty_after colours)
+            | inl lt ↦
+                (let (j, r) = m.carries.second l lt in w.carries.held j l r ∙ ap (cell_after colours)
+                (move.without.gone j (taken_back j l r gone)) ∙ empty_after colours)
             | inr le ↦ get_or_past next l cell.Empty (omega (arith, le, w.linked'.full))
           ];
           kept = λ l stays. elim (cases_lt l (length touch')) as (λ _. held_at next l ≡ held_at (with_stone b q c') l) [
@@ -305,7 +312,8 @@ plays_matched {touch} {touch'} {Paired} {colours} (x ∷ ms) a b to m (next, mov
     (record { colour = colour_after colours x.colour; place = w.place } ∷ ns, end, (w.next, w.move, plays), ap suc long, last)
 
 module _ {touch touch' : List Touch} {Paired : ℕ → ℕ → Type 0} {colours : Bool} {a b : List Cell} (m : Matched touch touch' Paired colours a b) where
-  pub reach_matched : (to : List Cell) → IsReachable touch a to → (end : List Cell) × IsReachable touch' b end × Matched touch touch' Paired colours to end
+  pub reach_matched : (to : List Cell) → IsReachable touch a to
+      → (end : List Cell) × IsReachable touch' b end × Matched touch touch' Paired colours to end
   reach_matched to (ms, plays) =
       let (ns, end, plays', long, last) = plays_matched ms a b to m plays in
       (end, (ns, plays'), last)
@@ -349,12 +357,14 @@ none-after true = refl
 -- a step of one position, and the paired one of the other, which takes as many stones
 step_over : {touch touch' : List Touch} {Paired : ℕ → ℕ → Type 0} {colours : Bool} {a b : List Cell} → Matched touch touch' Paired colours a b
     → (c : Colour) (x : Step (List Cell)) → IsStep touch c a x
-    → (after : List Cell) × IsStep touch' (colour_after colours c) b (record { to = after; taken = x.taken }) × Matched touch touch' Paired colours x.to after
+    → (after : List Cell) × IsStep touch' (colour_after colours c) b
+    (record { to = after; taken = x.taken }) × Matched touch touch' Paired colours x.to after
 step_over m c x (p, move, number) = let w = move_matched m x.to c p move in (w.next, (w.place, w.move, w.number x.taken number), w.matched)
 
 module _ {touch touch' : List Touch} {Paired : ℕ → ℕ → Type 0} {colours : Bool} where
   -- a step of the second position, and the paired one of the first
-  step_back : {a b : List Cell} → Matched touch touch' Paired colours a b → (c : Colour) (x : Step (List Cell)) → IsStep touch' (colour_after colours c) b x
+  step_back : {a b : List Cell} → Matched touch touch' Paired colours a b → (c : Colour) (x : Step (List Cell))
+      → IsStep touch' (colour_after colours c) b x
       → (before : List Cell) × IsStep touch c a (record { to = before; taken = x.taken }) × Matched touch touch' Paired colours before x.to
   step_back {a} m c x step =
       let (before, own, w) = step_over (matched_back m) (colour_after colours c) x step in

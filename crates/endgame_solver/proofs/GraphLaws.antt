@@ -146,7 +146,8 @@ key_before Black White m n a b lt = inr (refl, refl)
 key_before White Black m n a b lt = absurd (omega (arith, b, lt))
 key_before White White m n a b lt = inl (refl, omega (arith, lt))
 
-module _ {q : Region} (r : Region) {h : Graph} {Paired : ℕ → ℕ → Type 0} (v : View) (opening : Matched q.touch r.touch Paired v.colours q.cells r.cells)
+module _ {q : Region} (r : Region) {h : Graph} {Paired : ℕ → ℕ → Type 0} (v : View)
+    (opening : Matched q.touch r.touch Paired v.colours q.cells r.cells)
     (of : IsGraphOf q h) (few : length r.cells ≤ 32) (partner : (j i : ℕ) → Paired j i → get_or v.places j 0 ≡ i) where
   abbrev Onto : List Cell → List Cell → Type 0
   Onto a b = Matched q.touch r.touch Paired v.colours a b
@@ -305,7 +306,8 @@ module _ {q : Region} (r : Region) {h : Graph} {Paired : ℕ → ℕ → Type 0}
       let (g, there, same) = s.to f among (subst (λ z. z < 64) (sym (key_is (own v f))) (key_small _ _ small)) in
       let (f', among', is, less) = s.from g there in
       let small' : g.place < 32 = subst (λ e. e.place < 32) (sym is) (own_small i f' among') in
-      let keys : key_of g.colour g.place ≡ key_of (colour_after v.colours f.colour) (get_or v.places f.place 0) = sym (key_is g) ∙ same ∙ key_is (own v f) in
+      let keys : key_of g.colour g.place ≡ key_of (colour_after v.colours f.colour) (get_or v.places f.place 0) = sym (key_is g) ∙ same ∙ key_is
+      (own v f) in
       let (colour, place) = same_key _ _ _ _ small' small keys in
       (g, there, colour, place)
 
@@ -427,7 +429,8 @@ module _ {q : Region} (r : Region) {h : Graph} {Paired : ℕ → ℕ → Type 0}
           let s = edges_of i inside in
           let (g, there, ec, ep) = among_sorted i (edges_at edges i) s f among in
           let (f', among', is', less) = s.from g there in
-          let colour = sym (colour_back v.colours f'.colour) ∙ ap (colour_after v.colours) (ap (λ e. e.colour) (sym is') ∙ ec) ∙ colour_back v.colours f.colour in
+          let colour = sym (colour_back v.colours f'.colour) ∙ ap (colour_after v.colours)
+          (ap (λ e. e.colour) (sym is') ∙ ec) ∙ colour_back v.colours f.colour in
           let (lt, (p, paired, a)) = own_place i f among in
           let (lt', (p', paired', b)) = own_place i f' among' in
           let places = sym (partner f'.place p' paired') ∙ ap (λ e. e.place) (sym is') ∙ ep ∙ partner f.place p paired in
@@ -476,7 +479,8 @@ value_matched {touch} {touch'} {Paired} {colours} {a} {b} m long V W value k =
 module _ {limits : Limits} {q : Region} (r : Region) {h : Graph} {Paired : ℕ → ℕ → Type 0} (v : View)
     (opening : Matched q.touch r.touch Paired v.colours q.cells r.cells) (long : length r.cells ≡ length q.cells) (few : length r.points ≤ 32)
     (full : length r.cells ≡ length r.points) (partner : (j i : ℕ) → Paired j i → get_or v.places j 0 ≡ i)
-    {Ts : List Tree} (forms : HaveForms Ts) {ids turned : List ℕ} (s : IsSolvedBy limits q h Ts ids) (t : AreTurnedValues v.colours Ts ids turned) where
+    {Ts : List Tree} (forms : HaveForms Ts) {ids turned : List ℕ} (s : IsSolvedBy limits q h Ts ids)
+    (t : AreTurnedValues v.colours Ts ids turned) where
   small : length r.cells ≤ 32
   small = omega (arith, few, full)
 
@@ -506,7 +510,8 @@ module _ {limits : Limits} {q : Region} (r : Region) {h : Graph} {Paired : ℕ �
     each = λ i b has.
         let (a, there, m) = position_of r v opening s.graph.graph small partner i b has in
         let short : i < length ids = omega (arith, there.inside, s.values.long) in
-        value_matched m (same_long a b there.reachable has.reachable) (tree_at Ts (get_or ids i 0)) (tree_at Ts (get_or turned i 0)) (s.values.each i a there)
+        value_matched m (same_long a b there.reachable has.reachable) (tree_at Ts (get_or ids i 0)) (tree_at Ts (get_or turned i 0))
+        (s.values.each i a there)
         (t.each i short).canonical;
   }
     where

@@ -112,7 +112,8 @@ pub record StoneLeads (g : Board) (regions : List Region) (graphs : List Graph) 
   pub purses : t.purses ≡ paid_in s.side e.taken s.purses
   pub turn : t.side ≡ other s.side
 
-module _ {g : Board} {regions : List Region} {graphs : List Graph} {values : List (List ℕ)} {Ts : List Tree} (are : AreSolved g regions graphs values Ts)
+module _ {g : Board} {regions : List Region} {graphs : List Graph} {values : List (List ℕ)} {Ts : List Tree}
+    (are : AreSolved g regions graphs values Ts)
     {s : Whole} {places : List ℕ} (at : IsAt g regions graphs places s) where
   pub place_inside : (k : ℕ) → k < length regions → place_at places k < length (ids_at values k)
   place_inside k lt = omega (arith, (at.shown k lt).1.at.inside, (are.valued k lt).long)
@@ -125,14 +126,16 @@ module _ {g : Board} {regions : List Region} {graphs : List Graph} {values : Lis
         let (cells, has, holds) = at.shown k lt in
         let there = sym (summed.each k lt) in
         let known = subst (λ z. z < length Ts) there ((are.valued k lt).known (place_at places k) (place_inside k lt)) in
-        let value = subst (λ z. IsValueOf (region_at regions k).touch cells (tree_at Ts z)) there ((are.valued k lt).each (place_at places k) cells has.at) in
+        let value = subst (λ z. IsValueOf (region_at regions k).touch cells (tree_at Ts z)) there
+        ((are.valued k lt).each (place_at places k) cells has.at) in
         (cells, (holds.long, holds.local), (known, value));
   }
 
   fits_within : (ids : List ℕ) → AreSummed regions values places ids → (x : ℤ) → unsigned_abs x ≤ 2 ^ 110 → IsBounded (pick Ts ids) x
   fits_within ids summed x small = bounded Ts ids x (omega (arith, summed.many, are.few)) (λ j lt.
       let known : j < length regions = omega (arith, lt, summed.many) in
-      subst (λ z. AreWithin most_units (tree_at Ts z)) (sym (summed.each j known)) (are.within j (place_at places j) known (place_inside j known))) small
+      subst (λ z. AreWithin most_units (tree_at Ts z)) (sym (summed.each j known))
+      (are.within j (place_at places j) known (place_inside j known))) small
 
   -- the sum fits a search, whatever small number is beside it
   pub fits : (ids : List ℕ) → AreSummed regions values places ids → (m : Purses) → AreModest m → IsBounded (pick Ts ids) (balance m *ℤ pos (2 ^ 59))
@@ -164,7 +167,8 @@ module _ {g : Board} {regions : List Region} {graphs : List Graph} {values : Lis
   local_stone : {p k : ℕ} {e : Edge} → IsStoneEdge regions graphs places s.side p k e → IsLocalStone g regions graphs places s k e
   local_stone {p} {k} {e} x =
       let (cells, has, holds) = at.shown k x.known in
-      let (next, move, edge) = move_of (region_at regions k) (graph_at graphs k) (are.cut.each k x.known) (place_at places k) cells e has.at x.edge.among in
+      let (next, move, edge) = move_of (region_at regions k) (graph_at graphs k) (are.cut.each k x.known)
+      (place_at places k) cells e has.at x.edge.among in
       record {
         cells = cells;
         next = next;
@@ -194,7 +198,8 @@ module _ {g : Board} {regions : List Region} {graphs : List Graph} {values : Lis
       let plays = are.cut.local r among in
       let (h, placed) = (plays.legal l.cells s.board s.side e.place l.holds stone.inside).1 (l.next, l.move) in
       let local = plays.local l.cells l.next s.board h s.side e.place l.holds stone.inside placed l.move in
-      let contested = point_contested g r (are.cut.cut.each r among) p (subst (Contains r.points) stone.point (Contains-get_or r.points e.place 0 stone.inside)) in
+      let contested = point_contested g r (are.cut.cut.each r among) p
+      (subst (Contains r.points) stone.point (Contains-get_or r.points e.place 0 stone.inside)) in
       let placed' = subst (λ z. IsPlaced s.board z s.side h) stone.point placed in
       (after h (paid_in s.side e.taken s.purses) s, ((at.contested p).1 contested, (h, (e.taken, placed', (local.taken e.taken).1 l.edge.number, refl))))
 
@@ -206,8 +211,10 @@ module _ {g : Board} {regions : List Region} {graphs : List Graph} {values : Lis
       let here : get_or r.points i 0 ≡ p = get_or_default r.points i 0 p short ∙ there in
       let (cells, has, holds) = at.shown k known in
       let play = are.cut.cut.each r (Contains-get_or regions k no_region known) in
-      let (next, move, local) = placing_is_local g r are.settled play cells s.board holds i short s.side h (subst (λ z. IsPlaced s.board z s.side h) (sym here) placed) in
-      let (e, among, edge) = edge_of r (graph_at graphs k) (are.cut.each k known) (place_at places k) cells next s.side i n has.at move ((local.taken n).0 number) in
+      let (next, move, local) = placing_is_local g r are.settled play cells s.board holds i short s.side h
+      (subst (λ z. IsPlaced s.board z s.side h) (sym here) placed) in
+      let (e, among, edge) = edge_of r (graph_at graphs k) (are.cut.each k known) (place_at places k) cells next s.side i n has.at move
+      ((local.taken n).0 number) in
       let inside = subst (λ z. z < length r.points) (sym edge.place) short in
       let point = ap (λ z. get_or r.points z 0) edge.place ∙ here in
       (k, (e, record { known = known; edge = record { stone = record { inside = inside; point = point; colour = edge.colour }; among = among } }))
@@ -224,8 +231,10 @@ module _ {g : Board} {regions : List Region} {graphs : List Graph} {values : Lis
       let number' : IsLocalNumberTaken l.cells l.next n = (local.taken n).0 number in
       let same : n ≡ e.taken = omega (arith, number', l.edge.number) in
       let own : IsHeld g regions s.board k (position_in k l.cells) = record { region = refl; known = x.known; reachable = l.has.at.reachable; holds = l.holds } in
-      let (now, others) = held_after g are.settled regions are.cut.cut s.board h k (position_in k l.cells) l.next s.side e.place (get_or r.points e.place 0) own placed l.move local in
-      let there = next_place r (graph_at graphs k) (are.cut.each k x.known) (place_at places k) l.cells l.next s.side e.place e.taken e l.has.at l.move l.edge in
+      let (now, others) = held_after g are.settled regions are.cut.cut s.board h k (position_in k l.cells) l.next s.side e.place
+      (get_or r.points e.place 0) own placed l.move local in
+      let there = next_place r (graph_at graphs k) (are.cut.each k x.known)
+      (place_at places k) l.cells l.next s.side e.place e.taken e l.has.at l.move l.edge in
       let kept = keeps_move g are.settled s t (Stone p) keeps m in
       record {
         held = record {
@@ -273,11 +282,24 @@ module _ {g : Board} {regions : List Region} {graphs : List Graph} {values : Lis
         ranks = set room.ranks k j;
         many = length-set room.ranks k j ∙ room.many ∙ sym (length-set places k e.next);
         each = λ i lt. elim (cases_eq i k) as (λ _. Ranked j i) [
-          | inl i≡k ↦ subst (Ranked j) (sym i≡k) (rw (get_or-set_same room.ranks k j 0 short', get_or-set_same places k e.next 0 short) (omega (arith, lower, here.0), there))
-          | inr ne ↦ rw (get_or-set_other room.ranks k i j 0 ne, get_or-set_other places k i e.next 0 ne) (room.each i (omega (arith, lt, length-set places k e.next)))
+          | inl i≡k ↦
+              subst (Ranked j) (sym i≡k)
+              (rw (get_or-set_same room.ranks k j 0 short', get_or-set_same places k e.next 0 short) (omega (arith, lower, here.0), there))
+          | inr ne ↦
+              rw (get_or-set_other room.ranks k i j 0 ne, get_or-set_other places k i e.next 0 ne)
+              (room.each i (omega (arith, lt, length-set places k e.next)))
         ];
         room = λ c. subst (λ m. purse c m + 33 * sum_by (λ n. n) (set room.ranks k j) + token_left m.token ≤ 2 ^ 41) (sym leads.purses)
-            (omega (arith, few, less, room.room c, paid-in c s.side e.taken s.purses, own-less c s.side e.taken, ap token_left (token-in s.side e.taken s.purses)));
+            (omega (
+              arith,
+              few,
+              less,
+              room.room c,
+              paid-in c s.side e.taken s.purses,
+              own-less c s.side e.taken,
+              ap token_left
+                  (token-in s.side e.taken s.purses),
+            ));
       }
     where
       Ranked : ℕ → ℕ → Type 0
@@ -320,7 +342,8 @@ module _ {regions : List Region} {graphs : List Graph} {values : List (List ℕ)
 
   -- what is in a purse comes out of it, or from the token
   kept_money : (m : Move) (ms : Purses) (t : Whole) → IsMove s m t → t ≡ after s.board ms s
-      → ((c : Colour) → purse c ms + token_left ms.token ≤ purse c s.purses + token_left s.purses.token) → AreSolvedAt regions graphs values places ids Ts t
+      → ((c : Colour) → purse c ms + token_left ms.token ≤ purse c s.purses + token_left s.purses.token)
+      → AreSolvedAt regions graphs values places ids Ts t
   kept_money m ms t move is less = record {
     board = kept.board;
     solved = kept.solved;
@@ -349,13 +372,17 @@ module _ {regions : List Region} {graphs : List Graph} {values : List (List ℕ)
   pub value_is : (k : ℕ) → k < length regions → IsValueId Ts (region_at regions k) (region_at regions k).cells (get_or (ids_at values k) 0 0)
   value_is k lt =
       let of = (kept.solved.cut.each k lt).graph in
-      let are = kept.solved.valued k lt in
-      (are.known 0 (omega (arith, are.long, of.some)), are.each 0 (region_at regions k).cells (record { inside = of.some; reachable = ([], refl); packed = of.first }))
+      let are = kept.solved.valued k lt in (
+        are.known 0 (omega (arith, are.long, of.some)),
+        are.each 0 (region_at regions k).cells
+            (record { inside = of.some; reachable = ([], refl); packed = of.first }),
+      )
 
   -- a region's lowest point is one of the board
   pub lowest_on_board : (k : ℕ) → k < length regions → lowest (region_at regions k) < length s.board.cells
   lowest_on_board k lt =
       let r = region_at regions k in
       let here : Contains regions r = Contains-get_or regions k no_region lt in
-      let contested = point_contested kept.board r (kept.solved.cut.cut.each r here) (lowest r) (Contains-get_or r.points 0 0 (kept.solved.proper r here).some) in
+      let contested = point_contested kept.board r (kept.solved.cut.cut.each r here) (lowest r)
+      (Contains-get_or r.points 0 0 (kept.solved.proper r here).some) in
       omega (arith, contested.0, kept.at.walls.long)

@@ -374,7 +374,8 @@ module _ (P : Type 0) (moves : Colour → P → List (Step P)) where
         (same-path _ _ (plus-assoc (parts_tree P moves n t.parts) (purses_tree s.purses) (gain c k)))
         (same-plus _ _ _ _ (same-refl (parts_tree P moves n t.parts)) (same-trans _ _ _ (purses-plus c s.purses k) (same-path _ _ (ap purses_tree (sym e))))))
 
-    state-moved : (s t : State P) → AllEnd P moves n s.parts → Leads P moves s t → (X : Tree) × Has (options s.side (state_tree P moves n s)) X × (X ≡ᵍ state_tree P moves n t)
+    state-moved : (s t : State P) → AllEnd P moves n s.parts → Leads P moves s t → (X : Tree) × Has (options s.side (state_tree P moves n s)) X
+        × (X ≡ᵍ state_tree P moves n t)
     state-moved s t f h = elim h.move [
       | inl m ↦ (let x = parts-moved n s.side s.parts t.parts m.0 f m.1 in
           (x.0 +ᵍ purses_tree s.purses, option_in_first s.side _ _ _ x.1, same-trans _ _ _ (same-plus _ _ _ _ x.2 (same-refl (purses_tree s.purses))) (into_purses s.side s t m.0 m.2)))
@@ -385,7 +386,8 @@ module _ (P : Type 0) (moves : Colour → P → List (Step P)) where
         in_purses : t.parts ≡ s.parts → (X : Tree) × Has (options s.side (purses_tree s.purses)) X × (X ≡ᵍ purses_tree t.purses) → (X : Tree) × Has (options s.side (state_tree P moves n s)) X × (X ≡ᵍ state_tree P moves n t)
         in_purses e x = (parts_tree P moves n s.parts +ᵍ x.0, option_in_second s.side _ _ _ x.1, same-plus _ _ _ _ (same-path _ _ (ap (parts_tree P moves n) (sym e))) x.2)
 
-    state-met : (s : State P) (X : Tree) → AllEnd P moves n s.parts → Has (options s.side (state_tree P moves n s)) X → (t : State P) × Leads P moves s t × (X ≡ᵍ state_tree P moves n t)
+    state-met : (s : State P) (X : Tree) → AllEnd P moves n s.parts → Has (options s.side (state_tree P moves n s)) X
+        → (t : State P) × Leads P moves s t × (X ≡ᵍ state_tree P moves n t)
     state-met s X f h = at X (option_of_sum s.side _ _ X h)
       where
         at : (Y : Tree) → InSum (parts_tree P moves n s.parts) (purses_tree s.purses) (options s.side (parts_tree P moves n s.parts)) (options s.side (purses_tree s.purses)) Y → (t : State P) × Leads P moves s t × (Y ≡ᵍ state_tree P moves n t)
@@ -410,7 +412,8 @@ module _ (P : Type 0) (moves : Colour → P → List (Step P)) where
 
     pub decomposes : (most : ℕ) (s : State P) → TakesAtMost P moves most → AllEnd P moves n s.parts → IsDecidedBy P moves (state_tree P moves n s) s
     decomposes most s few f = let l = all_end-lasts most few n s.parts f in
-        at _ (decided (State P) (Leads P moves) (λ z. z.side) (state_tree P moves n) (λ z. AllEnd P moves n z.parts) mirrors (yields most l.0 + funds s.purses) s (ends most few (yields most l.0 + funds s.purses) l.0 s l.1 (omega arith)) f)
+        at _ (decided (State P) (Leads P moves) (λ z. z.side) (state_tree P moves n) (λ z. AllEnd P moves n z.parts) mirrors
+        (yields most l.0 + funds s.purses) s (ends most few (yields most l.0 + funds s.purses) l.0 s l.1 (omega arith)) f)
       where
         at : (b : ℕ) → Decided (State P) (Leads P moves) (λ z. z.side) (state_tree P moves n) (λ z. AllEnd P moves n z.parts) b s → IsDecidedBy P moves (state_tree P moves n s) s
         at b (lost g w) = record { has_winner = inr (b, w); loser = (λ h. g, λ h. (b, w)) }

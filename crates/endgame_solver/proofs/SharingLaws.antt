@@ -51,7 +51,8 @@ use Rattle.endgame_solver.proofs.GraphLaws.{solved_turned}
 -- Regions are solved one after the other, until one has a fault.
 
 -- the values stay as they are while the store grows
-solved_later : {limits : Limits} {r : Region} {g : Graph} {Ts Us : List Tree} {ids : List ℕ} → Extends Ts Us → IsSolvedBy limits r g Ts ids → IsSolvedBy limits r g Us ids
+solved_later : {limits : Limits} {r : Region} {g : Graph} {Ts Us : List Tree} {ids : List ℕ} → Extends Ts Us → IsSolvedBy limits r g Ts ids
+    → IsSolvedBy limits r g Us ids
 solved_later {limits} {r} {g} {Ts} {Us} {ids} e s = record {
   sound = s.sound;
   graph = s.graph;
@@ -66,7 +67,8 @@ solved_later {limits} {r} {g} {Ts} {Us} {ids} e s = record {
 }
 
 -- one region more is solved
-solved_next : {limits : Limits} {regions : List Region} {graphs : List Graph} {values : List (List ℕ)} {Ts : List Tree} {n : ℕ} {g : Graph} {ids : List ℕ}
+solved_next : {limits : Limits} {regions : List Region} {graphs : List Graph} {values : List (List ℕ)} {Ts : List Tree} {n : ℕ} {g : Graph}
+    {ids : List ℕ}
     → AreSolvedBelow limits regions graphs values Ts n → IsSolvedBy limits (region_at regions n) g Ts ids
     → AreSolvedBelow limits regions (graphs ++ g ∷ []) (values ++ ids ∷ []) Ts (n + 1)
 solved_next {limits} {regions} {graphs} {values} {Ts} {n} {g} {ids} s solved = record {
@@ -92,7 +94,8 @@ module _ (limits : Limits) (regions : List Region) where
   steps_before start now next n lt few more = omega (arith, few, more, sum_by_more_le (λ r. min limits.positions (3 ^ length r.points)) regions n no_region lt)
 
 -- the fault of a region before which all are sound is the refusal
-pub refused_at : {limits : Limits} {regions : List Region} {graphs : List Graph} {values : List (List ℕ)} {Ts : List Tree} {n : ℕ} → n < length regions → AreSmall regions
+pub refused_at : {limits : Limits} {regions : List Region} {graphs : List Graph} {values : List (List ℕ)} {Ts : List Tree} {n : ℕ}
+    → n < length regions → AreSmall regions
     → AreSolvedBelow limits regions graphs values Ts n → (e : SolveError) → IsRefusalOf limits (region_at regions n) e → AreRefused limits regions e
 refused_at lt small s (Points p m) h = absurd h
 refused_at {n = n} lt small s (Positions p) h = (small, (n, lt, h, λ j less. (s.each j less).sound))
@@ -228,7 +231,8 @@ some_partner q r x y t s a b e j lt =
     (i, meets.1, meets.2)
 
 -- the later region is solved by what it sees of the first one's graph and values
-seen_solved : (limits : Limits) (q r : Region) (h : Graph) (x : List Spot) (kind : Kind) (s : Turn) (place : ℕ) (before after : List (List ℕ)) (Ts : List Tree) (v : View)
+seen_solved : (limits : Limits) (q r : Region) (h : Graph) (x : List Spot) (kind : Kind) (s : Turn) (place : ℕ) (before after : List (List ℕ))
+    (Ts : List Tree) (v : View)
     → IsShape q q.cells kind.shape.spots.items kind.turn → IsShape r r.cells x s → kind.shape.spots.items ≡ x → length r.points ≤ 32
     → IsViewFor (length r.points) place s kind before after Ts v → HaveForms Ts → IsSolvedBy limits q h Ts (ids_at before kind.values)
     → (g : Graph) × IsSolvedBy limits r g Ts (ids_at after v.values) × Serves v h g
@@ -295,8 +299,10 @@ abbrev HasSpots : List Kind → ℕ → List Spot → Type 0
 HasSpots kinds j x = (j < length kinds) × ((kind : Kind) → get_or kinds j kind ≡ kind → kind.shape.spots.items ≡ x)
 
 -- the store and the lists of values grow
-shares_later : {limits : Limits} {regions : List Region} {shared : List Graph} {held : List (List ℕ)} {views : List View} {kinds : List Kind} {Ts Us : List Tree} {n : ℕ}
-    (more : List (List ℕ)) → Extends Ts Us → SharesBelow limits regions shared held views kinds Ts n → SharesBelow limits regions shared (held ++ more) views kinds Us n
+shares_later : {limits : Limits} {regions : List Region} {shared : List Graph} {held : List (List ℕ)} {views : List View} {kinds : List Kind}
+    {Ts Us : List Tree} {n : ℕ}
+    (more : List (List ℕ)) → Extends Ts Us → SharesBelow limits regions shared held views kinds Ts n → SharesBelow limits regions shared
+    (held ++ more) views kinds Us n
 shares_later {limits} {regions} {shared} {held} {views} {kinds} {Ts} {Us} {n} more e s = record {
   graphs = s.graphs;
   values = s.values;
@@ -321,7 +327,8 @@ shares_later {limits} {regions} {shared} {held} {views} {kinds} {Ts} {Us} {n} mo
       before = w.before;
       shape = w.shape;
       values = omega (arith, w.values, length-append held more);
-      solved = subst (IsSolvedBy limits (region_at regions w.region) (graph_at shared j) Us) (sym (get_or_append_left held more [] kind.values w.values))
+      solved =
+          subst (IsSolvedBy limits (region_at regions w.region) (graph_at shared j) Us) (sym (get_or_append_left held more [] kind.values w.values))
           (solved_later e w.solved);
     };
     apart = s.kinds_are.apart;
@@ -339,7 +346,8 @@ HasKind regions kinds k = (j : ℕ) × (j < length kinds)
     × ((kind : Kind) → get_or kinds j kind ≡ kind → (t : Turn) × Shaped regions k kind.shape.spots.items t)
 
 -- one graph and one kind more, whose region is the next one
-with_kind : {limits : Limits} {regions : List Region} {shared : List Graph} {held : List (List ℕ)} {kinds : List Kind} {Ts : List Tree} {n : ℕ} (g : Graph) (kind : Kind)
+with_kind : {limits : Limits} {regions : List Region} {shared : List Graph} {held : List (List ℕ)} {kinds : List Kind} {Ts : List Tree} {n : ℕ}
+    (g : Graph) (kind : Kind)
     → AreKinds limits regions shared held kinds Ts n → IsKind limits regions g held Ts (n + 1) kind
     → ((k : Kind) → Contains kinds k → k.shape.spots.items ≢ kind.shape.spots.items) → Shaped regions n kind.shape.spots.items kind.turn
     → AreKinds limits regions (shared ++ g ∷ []) held (kinds ++ kind ∷ []) Ts (n + 1)
@@ -350,7 +358,8 @@ with_kind {limits} {regions} {shared} {held} {kinds} {Ts} {n} g kind s new apart
         (kind_later (s.each j k less (sym (get_or_append_left kinds (kind ∷ []) k j less) ∙ is)))
     | inr past ↦
         let last : length kinds ≡ j = omega (arith, lt, past, length_push kinds kind) in
-        rw (get_or_push shared g no_graph j (sym s.many ∙ last)) (subst (IsKind limits regions g held Ts (n + 1)) (sym (get_or_push kinds kind k j last) ∙ is) new)
+        rw (get_or_push shared g no_graph j (sym s.many ∙ last))
+        (subst (IsKind limits regions g held Ts (n + 1)) (sym (get_or_push kinds kind k j last) ∙ is) new)
   ];
   apart = all_pairs_push (λ a b. a.shape.spots.items ≢ b.shape.spots.items) kinds kind s.apart
       (λ k d lt. apart (get_or kinds k d) (Contains-get_or kinds k d lt));
@@ -366,8 +375,10 @@ with_kind {limits} {regions} {shared} {held} {kinds} {Ts} {n} g kind s new apart
 }
 
 -- the next region has the shape of a kind
-same_kinds : {limits : Limits} {regions : List Region} {shared : List Graph} {held : List (List ℕ)} {kinds : List Kind} {Ts : List Tree} {n : ℕ} (j : ℕ) (x : List Spot) (t : Turn)
-    → AreKinds limits regions shared held kinds Ts n → HasSpots kinds j x → Shaped regions n x t → AreKinds limits regions shared held kinds Ts (n + 1)
+same_kinds : {limits : Limits} {regions : List Region} {shared : List Graph} {held : List (List ℕ)} {kinds : List Kind} {Ts : List Tree} {n : ℕ}
+    (j : ℕ) (x : List Spot) (t : Turn)
+    → AreKinds limits regions shared held kinds Ts n → HasSpots kinds j x → Shaped regions n x t
+    → AreKinds limits regions shared held kinds Ts (n + 1)
 same_kinds {regions = regions} {kinds = kinds} {n = n} j x t s found shape = record {
   many = s.many;
   each = λ i kind lt at. kind_later (s.each i kind lt at);
@@ -377,7 +388,8 @@ same_kinds {regions = regions} {kinds = kinds} {n = n} j x t s found shape = rec
 }
 
 -- and one region more
-with_view : {shared : List Graph} {held : List (List ℕ)} {views : List View} {graphs : List Graph} {values : List (List ℕ)} {n : ℕ} (v : View) (g : Graph) (ids : List ℕ)
+with_view : {shared : List Graph} {held : List (List ℕ)} {views : List View} {graphs : List Graph} {values : List (List ℕ)} {n : ℕ} (v : View)
+    (g : Graph) (ids : List ℕ)
     → AreViews shared held views graphs values n → length graphs ≡ n → length values ≡ n → IsView shared held v g ids
     → AreViews shared held (views ++ v ∷ []) (graphs ++ g ∷ []) (values ++ ids ∷ []) (n + 1)
 with_view {shared} {held} {views} {graphs} {values} {n} v g ids s many many' new = record {
@@ -391,7 +403,8 @@ with_view {shared} {held} {views} {graphs} {values} {n} v g ids s many many' new
       (rw (get_or_push views v no_view n s.many, get_or_push graphs g no_graph n many, get_or_push values ids [] n many') new);
 }
 
-pub shares_new : {limits : Limits} {regions : List Region} {shared : List Graph} {held : List (List ℕ)} {views : List View} {kinds : List Kind} {Ts Us : List Tree} {n : ℕ}
+pub shares_new : {limits : Limits} {regions : List Region} {shared : List Graph} {held : List (List ℕ)} {views : List View} {kinds : List Kind}
+    {Ts Us : List Tree} {n : ℕ}
     {g : Graph} {ids : List ℕ} (v : View) (kind : Kind) → Extends Ts Us → SharesBelow limits regions shared held views kinds Ts n
     → IsSolvedBy limits (region_at regions n) g Us ids → Shaped regions n kind.shape.spots.items kind.turn
     → ((k : Kind) → Contains kinds k → k.shape.spots.items ≢ kind.shape.spots.items) → kind.values ≡ length held
@@ -420,7 +433,8 @@ shares_new {limits} {regions} {shared} {held} {views} {kinds} {Ts} {Us} {n} {g} 
       } apart shape;
     }
   where
-    more_graphs : {held : List (List ℕ)} {views : List View} {graphs : List Graph} {values : List (List ℕ)} {n : ℕ} → AreViews shared held views graphs values n
+    more_graphs : {held : List (List ℕ)} {views : List View} {graphs : List Graph} {values : List (List ℕ)} {n : ℕ}
+        → AreViews shared held views graphs values n
         → AreViews (shared ++ g ∷ []) held views graphs values n
     more_graphs {views = views} {graphs = graphs} s = record {
       many = s.many;
@@ -433,8 +447,10 @@ shares_new {limits} {regions} {shared} {held} {views} {kinds} {Ts} {Us} {n} {g} 
     }
 
 -- the same in the words of the code
-pub partner_for : {limits : Limits} {regions : List Region} {shared : List Graph} {held : List (List ℕ)} {views : List View} {kinds lent : List Kind} {Ts : List Tree} {n : ℕ}
-    {r : Region} {x : List Spot} {t : Turn} (j : ℕ) (kind : Kind) → lent ≡ kinds → SharesBelow limits regions shared held views kinds Ts n → HasSpots lent j x
+pub partner_for : {limits : Limits} {regions : List Region} {shared : List Graph} {held : List (List ℕ)} {views : List View}
+    {kinds lent : List Kind} {Ts : List Tree} {n : ℕ}
+    {r : Region} {x : List Spot} {t : Turn} (j : ℕ) (kind : Kind) → lent ≡ kinds → SharesBelow limits regions shared held views kinds Ts n
+    → HasSpots lent j x
     → get_or kinds j kind ≡ kind → IsShape r r.cells x t
     → (i : ℕ) → i < length r.points → (m : ℕ) × (m < length r.points) × (get_or t.places m 0 ≡ get_or kind.turn.places i 0)
 partner_for {regions = regions} {r = r} {x = x} {t = t} j kind e s lends is shape =
@@ -442,17 +458,21 @@ partner_for {regions = regions} {r = r} {x = x} {t = t} j kind e s lends is shap
     let k = s.kinds_are.each j kind found.0 is in
     some_partner (region_at regions k.region) r kind.shape.spots.items x kind.turn t k.shape shape (found.1 kind is)
 
-pub next_seen : {limits : Limits} {regions : List Region} {shared : List Graph} {held held' : List (List ℕ)} {views views' : List View} {kinds lent : List Kind} {Ts Us : List Tree}
-    {n : ℕ} {r : Region} {x : List Spot} {t : Turn} {v : View} (j : ℕ) (kind : Kind) → lent ≡ kinds → SharesBelow limits regions shared held views kinds Ts n
+pub next_seen : {limits : Limits} {regions : List Region} {shared : List Graph} {held held' : List (List ℕ)} {views views' : List View}
+    {kinds lent : List Kind} {Ts Us : List Tree}
+    {n : ℕ} {r : Region} {x : List Spot} {t : Turn} {v : View} (j : ℕ) (kind : Kind) → lent ≡ kinds
+    → SharesBelow limits regions shared held views kinds Ts n
     → n < length regions → AreSmall regions → r ≡ region_at regions n → HasSpots lent j x → get_or kinds j kind ≡ kind → IsShape r r.cells x t
     → IsViewFor (length r.points) j t kind held held' Us v → (more : List (List ℕ)) × (held' ≡ held ++ more) → Extends Ts Us → HaveForms Us → views' ≡ views ++ v ∷ []
     → SharesBelow limits regions shared held' views' kinds Us (n + 1)
-next_seen {limits} {regions} {shared} {held} {held'} {views} {kinds = kinds} {Us = Us} {n = n} {r = r} {x = x} {t = t} {v = v} j kind e s lt small at lends is shape view
+next_seen {limits} {regions} {shared} {held} {held'} {views} {kinds =
+    kinds} {Us = Us} {n = n} {r = r} {x = x} {t = t} {v = v} j kind e s lt small at lends is shape view
     (more, grown) kept forms pushed =
     let found = subst (λ ks. HasSpots ks j x) e lends in
     let k = s.kinds_are.each j kind found.0 is in
     let few = subst (λ q. length q.points ≤ 32) (sym at) (small (region_at regions n) (Contains-get_or regions n no_region lt)) in
-    let (g, here, see) = seen_solved limits (region_at regions k.region) r (graph_at shared j) x kind t j held held' Us v k.shape shape (found.1 kind is) few view forms
+    let (g, here, see) = seen_solved limits (region_at regions k.region) r (graph_at shared j) x kind t j held held' Us v k.shape shape
+    (found.1 kind is) few view forms
     (solved_later kept k.solved) in
     let later = subst (λ h. SharesBelow limits regions shared h views kinds Us n) (sym grown) (shares_later more kept s) in
     let solved = subst (λ z. IsSolvedBy limits z g Us (ids_at held' v.values)) at here in

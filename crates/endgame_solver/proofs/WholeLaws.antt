@@ -81,11 +81,13 @@ module _ (P : Type 0) (moves : Colour → P → List (Step P)) (InPart : ℕ →
     step_forth k p n j i [] w le lt most at placed number = absurd (omega (arith, le, lt))
     step_forth k p n j i (q ∷ qs) w le lt most at placed number = elim (cases_eq j i) [
       | inl e ↦
-          let (x, among, taken, held, stay) = play.played h k c p n i q walls (omega (arith, most)) (subst (λ z. InPart z p) e at) w.0 placed number in
+          let (x, among, taken, held, stay) = play.played h k c p n i q walls (omega (arith, most))
+          (subst (λ z. InPart z p) e at) w.0 placed number in
           let later = later_stay h k i (suc i) qs (omega arith) stay w.1 in
           (x.to ∷ qs, inl ((x, among, refl, taken), refl), (held, later), refl, subst (λ z. Stay z h k) (sym e) stay)
       | inr ne ↦
-          let (rs, step, held, long, stay) = step_forth k p n j (suc i) qs w.1 (omega (arith, le, ne)) (omega (arith, lt)) (omega (arith, most)) at placed number in
+          let (rs, step, held, long, stay) = step_forth k p n j (suc i) qs w.1 (omega (arith, le, ne)) (omega (arith, lt))
+          (omega (arith, most)) at placed number in
           (q ∷ rs, inr (refl, step), (stay i q (λ e. ne (sym e)) w.0, held), omega (arith, long), stay)
     ]
 
@@ -97,8 +99,24 @@ module _ (P : Type 0) (moves : Colour → P → List (Step P)) (InPart : ℕ →
     step_back n i (q ∷ qs) (r ∷ rs) w most (inl ((x, among, to, taken), e)) =
         let (p, (k, inside, placed, number, held, stay)) = play.playable h c i q x walls (omega (arith, most)) w.0 among in
         let later = subst (Showing k (suc i)) e (later_stay h k i (suc i) qs (omega arith) stay w.1) in
-        let shown : Showing k i (r ∷ rs) = (subst (Shown k i) to held, later) in
-        (i, (p, (k, omega arith, omega (arith, most), inside, placed, subst (IsNumberTaken h k) taken number, shown, ap suc (ap length (sym e)), stay)))
+        let shown : Showing k i (r ∷ rs) = (subst (Shown k i) to held, later) in (
+          i,
+          (
+            p,
+            (
+              k,
+              omega arith,
+              omega (arith, most),
+              inside,
+              placed,
+              subst (IsNumberTaken h k) taken number,
+              shown,
+              ap suc
+                  (ap length (sym e)),
+              stay,
+            ),
+          ),
+        )
     step_back n i (q ∷ qs) (r ∷ rs) w most (inr (e, m)) =
         let (j, (p, (k, le, lt, inside, placed, number, held, long, stay))) = step_back n (suc i) qs rs w.1 (omega (arith, most)) m in
         let shown : Showing k i (r ∷ rs) = (subst (Shown k i) e (stay i q (λ z. omega (arith, le, z)) w.0), held) in
@@ -131,24 +149,41 @@ module _ (P : Type 0) (moves : Colour → P → List (Step P)) (InPart : ℕ →
           let (mark, (h, (n, placed, number, is))) = m in
           let (j, lt, at) = play.covers p ((keeps.contested p).0 mark) in
           let first : j < 0 + length ps = omega (arith, lt, count) in
-          let (qs, step, held, long, stay) = step_forth g parts play s.board keeps.walls s.side h p n j 0 ps shown (omega arith) first (omega (arith, count)) at placed number in
+          let (qs, step, held, long, stay) = step_forth g parts play s.board keeps.walls s.side h p n j 0 ps shown (omega arith) first
+          (omega (arith, count)) at placed number in
           let ms = paid_in s.side n s.purses in (
             with_parts qs ms (other s.side),
             record { turn = refl; move = inl (n, step, refl) },
             sees_after s t (Stone p) h ms qs keeps m is (long ∙ count) held,
           )
       forth_from t (Spend, m) =
-          let ms = paid_out s.side s.purses in
-          (with_parts ps ms (other s.side), record { turn = refl; move = inr (inl (m.0, refl, refl)) }, sees_after s t Spend s.board ms ps keeps m m.1 count shown)
+          let ms = paid_out s.side s.purses in (
+            with_parts ps ms (other s.side),
+            record {
+              turn = refl;
+              move = inr
+                  (inl (m.0, refl, refl));
+            },
+            sees_after s t Spend s.board ms ps keeps m m.1 count shown,
+          )
       forth_from t (Half, m) =
-          let ms = halved s.side s.purses in
-          (with_parts ps ms (other s.side), record { turn = refl; move = inr (inr (m.0, refl, refl)) }, sees_after s t Half s.board ms ps keeps m m.1 count shown)
+          let ms = halved s.side s.purses in (
+            with_parts ps ms (other s.side),
+            record {
+              turn = refl;
+              move = inr
+                  (inr (m.0, refl, refl));
+            },
+            sees_after s t Half s.board ms ps keeps m m.1 count shown,
+          )
 
       back_from : (v : State P) → Leads P moves (with_parts ps s.purses s.side) v → (t : Whole) × whole.Leads s t × Sees t v
       back_from v l = elim l.move [
         | inl (n, step, money) ↦
-            let (j, (p, (k, le, lt, at, placed, number, held, long, stay))) = step_back g parts play s.board keeps.walls s.side n 0 ps v.parts shown (omega (arith, count)) step in
-            led (Stone p) k (paid_in s.side n s.purses) ((keeps.contested p).1 (play.within j p lt at), (k, (n, placed, number, refl))) (long ∙ count) held money
+            let (j, (p, (k, le, lt, at, placed, number, held, long, stay))) = step_back g parts play s.board keeps.walls s.side n 0 ps v.parts shown
+            (omega (arith, count)) step in
+            led (Stone p) k (paid_in s.side n s.purses) ((keeps.contested p).1 (play.within j p lt at), (k, (n, placed, number, refl)))
+            (long ∙ count) held money
         | inr (inl (some, same, money)) ↦ still Spend (paid_out s.side s.purses) (some, refl) same money
         | inr (inr (some, same, money)) ↦ still Half (halved s.side s.purses) (some, refl) same money
       ]
@@ -156,8 +191,12 @@ module _ (P : Type 0) (moves : Colour → P → List (Step P)) (InPart : ℕ →
           led : (m : Move) (h : Board) (ms : Purses) → whole.IsMove s m (whole.after h ms s) → length v.parts ≡ parts → Showing h 0 v.parts
               → v.purses ≡ ms → (t : Whole) × whole.Leads s t × Sees t v
           led m h ms move long held money =
-              let t = whole.after h ms s in
-              (t, (m, move), subst (Sees t) (λ i. with_parts v.parts (sym money i) (sym l.turn i)) (sees_after s t m h ms v.parts keeps move refl long held))
+              let t = whole.after h ms s in (
+                t,
+                (m, move),
+                subst (Sees t) (λ i. with_parts v.parts (sym money i) (sym l.turn i))
+                    (sees_after s t m h ms v.parts keeps move refl long held),
+              )
 
           still : (m : Move) (ms : Purses) → whole.IsMove s m (whole.after s.board ms s) → v.parts ≡ ps → v.purses ≡ ms
               → (t : Whole) × whole.Leads s t × Sees t v
@@ -165,7 +204,8 @@ module _ (P : Type 0) (moves : Colour → P → List (Step P)) (InPart : ℕ →
 
     pub bookkeeping : Matches Whole (State P) whole.Leads (Leads P moves) Sees
     bookkeeping = record {
-      forth = λ s t u (keeps, w) m. subst (λ x. (v : State P) × Leads P moves x v × Sees t v) (same s u w) (forth_from s u.parts keeps w.count w.shown t m);
+      forth = λ s t u (keeps, w) m. subst (λ x. (v : State P) × Leads P moves x v × Sees t v) (same s u w)
+          (forth_from s u.parts keeps w.count w.shown t m);
       back = λ s u v (keeps, w) l. back_from s u.parts keeps w.count w.shown v (subst (λ x. Leads P moves x v) (sym (same s u w)) l);
     }
       where
@@ -184,7 +224,8 @@ module _ (P : Type 0) (moves : Colour → P → List (Step P)) (InPart : ℕ →
           ],
           (
             λ x. subst (λ c. LosesGame c (state_tree P moves n u)) (sym w.1.turn) (d.loser.0 (x.0, loses-forth _ _ _ _ Sees bookkeeping x.0 s u w x.1)),
-            λ x. (let y = d.loser.1 (subst (λ c. LosesGame c (state_tree P moves n u)) w.1.turn x) in (y.0, loses-forth _ _ _ _ _ back y.0 u s w y.1)),
+            λ x. (let y = d.loser.1
+                (subst (λ c. LosesGame c (state_tree P moves n u)) w.1.turn x) in (y.0, loses-forth _ _ _ _ _ back y.0 u s w y.1)),
           ),
         )
 
@@ -239,7 +280,8 @@ pub record IsHeld (g : Board) (regions : List Region) (h : Board) (k : ℕ) (q :
 
 -- a board holds one position in a region
 pub one_cells : (r : Region) (a b : List Cell) (h : Board) → HoldsCells h r a → HoldsCells h r b → a ≡ b
-one_cells r a b h x y = ext_get_or Empty a b (x.0 ∙ sym y.0) (λ i lt. let short : i < length r.points = omega (arith, lt, x.0) in sym (x.1 i short) ∙ y.1 i short)
+one_cells r a b h x y =
+    ext_get_or Empty a b (x.0 ∙ sym y.0) (λ i lt. let short : i < length r.points = omega (arith, lt, x.0) in sym (x.1 i short) ∙ y.1 i short)
 
 -- purses and token, whichever way they are added up
 money_same : (m : Purses) → purses_tree m ≡ᵍ money_tree m
@@ -365,7 +407,8 @@ module _ (g : Board) (settled : IsSettled g) (regions : List Region) (are : AreR
       let (qs, long, held) = gathered h (suc k) n (omega (arith, e)) w in
       (position_in k cells ∷ qs, ap suc long, (record { region = refl; known = lt; reachable = reachable; holds = holds }, held))
 
-  seen_now : (s : Whole) → Keeps g s → ((j : ℕ) → j < length regions → (cells : List Cell) × HoldsReached s.board j cells) → (u : State Position) × SeenAs s u
+  seen_now : (s : Whole) → Keeps g s → ((j : ℕ) → j < length regions → (cells : List Cell) × HoldsReached s.board j cells)
+      → (u : State Position) × SeenAs s u
   seen_now s keeps w =
       let (qs, long, held) = gathered s.board 0 (length regions) (omega arith) w in
       (record { parts = qs; purses = s.purses; side = s.side }, (keeps, record { count = long; shown = held; purses = refl; turn = refl }))
@@ -373,7 +416,8 @@ module _ (g : Board) (settled : IsSettled g) (regions : List Region) (are : AreR
   seen_plays : (s t : Whole) (ms : List Move) (u : State Position) → SeenAs s u → Plays s ms t → (v : State Position) × SeenAs t v
   seen_plays s t [] u w e = (u, subst (λ z. SeenAs z u) e w)
   seen_plays s t (m ∷ ms) u w (r, move, rest) =
-      let (v, leads, seen) = (bookkeeping Position Moves (IsPointOf regions) (IsHeld g regions) g settled (length regions) cell_play).forth s r u w (m, move) in
+      let (v, leads, seen) = (bookkeeping Position Moves (IsPointOf regions) (IsHeld g regions) g settled (length regions) cell_play).forth s r u w
+      (m, move) in
       seen_plays r t ms v seen rest
 
   module _ (calm : (r : Region) → Contains regions r → HasNoCycle r.touch r.cells) where
@@ -401,7 +445,8 @@ module _ (g : Board) (settled : IsSettled g) (regions : List Region) (are : AreR
         let long = plays_long r.touch r.cells q.cells s.reachable.0 s.reachable.1 in
         let shorter : PlaysAreShort (List Cell) (MovesTo r.touch) (3 ^ length q.cells) q.cells = λ qs w. omega (arith, short h k q s qs w, ap (λ m. 3 ^ m) long) in
         subst (λ z. G ≡ᵍ tree_within Position Moves Depth z) (position_is k q s.region)
-        (tree_as Position r.touch Most (position_in k) Moves (moves-are k) Depth (3 ^ length q.cells) q.cells G (held_long h k q s) shorter (deep h k q s) tree)
+        (tree_as Position r.touch Most (position_in k) Moves (moves-are k) Depth (3 ^ length q.cells) q.cells G (held_long h k q s) shorter
+        (deep h k q s) tree)
 
     -- play ends in each part
     all_end : (h : Board) (k : ℕ) (qs : List Position) → AreHeld h k qs → AllEnd Position Moves Depth qs
@@ -413,7 +458,8 @@ module _ (g : Board) (settled : IsSettled g) (regions : List Region) (are : AreR
     )
 
     -- the trees of the positions on the board are as good as those of the parts
-    trees_total : (h : Board) (k : ℕ) (rs : List Region) (trees : Trees) (qs : List Position) → ((j : ℕ) → j < length rs → region_at regions (k + j) ≡ get_or rs j no_region)
+    trees_total : (h : Board) (k : ℕ) (rs : List Region) (trees : Trees) (qs : List Position)
+        → ((j : ℕ) → j < length rs → region_at regions (k + j) ≡ get_or rs j no_region)
         → AreTreesOn g h rs trees → length qs ≡ length rs → AreHeld h k qs → total trees ≡ᵍ parts_tree Position Moves Depth qs
     unfolding total parts_tree
     trees_total h k [] none [] at w e shown = same-refl (node none none)
@@ -427,14 +473,17 @@ module _ (g : Board) (settled : IsSettled g) (regions : List Region) (are : AreR
         let same = one_cells (region_at regions k) cells q.cells h (holds'.long, holds'.local) (held.holds.long, held.holds.local) in
         let tree' = subst (λ x. IsTreeOf x.touch (3 ^ length cells) cells G) (sym here) tree in
         let first = held_tree h k q G held (subst (λ x. IsTreeOf (region_at regions k).touch (3 ^ length x) x G) same tree') in
-        let rest = trees_total h (suc k) rs Gs qs (λ j lt. ap (λ i. region_at regions i) (omega arith) ∙ at (suc j) (omega (arith, lt))) w (omega (arith, e)) shown in
+        let rest = trees_total h (suc k) rs Gs qs (λ j lt. ap (λ i. region_at regions i) (omega arith) ∙ at (suc j) (omega (arith, lt))) w
+        (omega (arith, e)) shown in
         same-plus _ _ _ _ first rest
 
     -- Who loses a state is the sign of the sum of any trees of the positions on its board, and of its money.
     decided : (t : Whole) (v : State Position) → SeenAs t v → (MoverWins Whole whole.Leads t ⊎ MoverLoses Whole whole.Leads t)
-        × ((trees : Trees) → AreTreesOn g t.board regions trees → MoverLoses Whole whole.Leads t ↔ LosesGame t.side (total trees +ᵍ money_tree t.purses))
+        × ((trees : Trees) → AreTreesOn g t.board regions trees
+        → MoverLoses Whole whole.Leads t ↔ LosesGame t.side (total trees +ᵍ money_tree t.purses))
     decided t v w =
-        let d = whole_decomposes Position Moves (IsPointOf regions) (IsHeld g regions) g settled (length regions) cell_play (Most + 1) Depth t v few_cells
+        let d = whole_decomposes Position Moves (IsPointOf regions) (IsHeld g regions) g settled (length regions) cell_play
+        (Most + 1) Depth t v few_cells
         (all_end t.board 0 v.parts w.1.shown) w in (
           d.0,
           λ trees on.

@@ -89,7 +89,8 @@ module _ {regions : List Region} {graphs : List Graph} {values : List (List ℕ)
       where
         lost : (u : Whole) → IsMove s (Stone p) u
             → MoverLoses Whole Leads u ↔ LosesGame (other s.side) (sum_tree Ts left (balance (paid_in s.side e.taken s.purses) *ℤ pos (2 ^ 59)))
-        lost u m = let leads = stone_leads kept.solved kept.at u x m in loses_after leads.held (summed_set kept k e.next x.known) leads.purses leads.turn
+        lost u m =
+            let leads = stone_leads kept.solved kept.at u x m in loses_after leads.held (summed_set kept k e.next x.known) leads.purses leads.turn
 
   -- where no edge is the stone's it doesn't win
   pub no_stone : (p : ℕ) → ((k : ℕ) (e : Edge) → ¬ IsStoneEdge regions graphs places s.side p k e) → ¬ IsWinning s (Stone p)
@@ -101,15 +102,19 @@ module _ {regions : List Region} {graphs : List Graph} {values : List (List ℕ)
       let t = after s.board (paid_out s.side s.purses) s in
       (λ h. (t, (some, refl), (lost t (some, refl)).1 (w.0 h)), λ h. w.1 ((lost h.0 h.1).0 h.2))
     where
-      lost : (u : Whole) → IsMove s Spend u → MoverLoses Whole Leads u ↔ LosesGame (other s.side) (sum_tree Ts ids (balance (paid_out s.side s.purses) *ℤ pos (2 ^ 59)))
-      lost u m = loses_after (money_leads kept.solved kept.at Spend (paid_out s.side s.purses) u m m.1) kept.summed (ap (λ z. z.purses) m.1) (ap (λ z. z.side) m.1)
+      lost : (u : Whole) → IsMove s Spend u → MoverLoses Whole Leads u ↔ LosesGame (other s.side)
+          (sum_tree Ts ids (balance (paid_out s.side s.purses) *ℤ pos (2 ^ 59)))
+      lost u m =
+          loses_after (money_leads kept.solved kept.at Spend (paid_out s.side s.purses) u m m.1) kept.summed (ap (λ z. z.purses) m.1)
+          (ap (λ z. z.side) m.1)
 
   -- The winner of the present state by the sum of its values: the player to move loses that sum and the balance.
   abbrev pub LosesSum : Type 0
   LosesSum = LosesGame s.side (sum_tree Ts ids (balance_units s))
 
   -- what a search of the kept ids answers
-  pub by_search : {b : Bool} {c : Colour} {list : List ℕ} {x : ℤ} {m : Purses} → c ≡ s.side → list ≡ ids → m ≡ s.purses → x ≡ balance m *ℤ pos (2 ^ 59)
+  pub by_search : {b : Bool} {c : Colour} {list : List ℕ} {x : ℤ} {m : Purses} → c ≡ s.side → list ≡ ids → m ≡ s.purses
+      → x ≡ balance m *ℤ pos (2 ^ 59)
       → IsTrue b ↔ LosesGame c (sum_tree Ts list x) → IsTrue b ↔ LosesSum
   by_search {b} side same purses number answer =
       let number' = number ∙ ap (λ z. balance z *ℤ pos (2 ^ 59)) purses in
@@ -137,11 +142,13 @@ module _ {regions : List Region} {graphs : List Graph} {values : List (List ℕ)
       let d = (decided kept.solved kept.at others there).1 in
       (λ h. loses_sum (d.1 h), λ h. d.0 (loses_state h))
 
-  pub winner_by_sum : {c : Colour} → c ≡ other s.side → LosesSum → (others : List ℕ) → ArePresent (record { regions = regions; trees = Ts; state = s }) others
+  pub winner_by_sum : {c : Colour} → c ≡ other s.side → LosesSum → (others : List ℕ) → ArePresent
+      (record { regions = regions; trees = Ts; state = s }) others
       → c ≡ other s.side ↔ LosesGame s.side (sum_tree Ts others (balance_units s))
   winner_by_sum is lost others there = (λ _. (present_sum others there).1 lost, λ _. is)
 
-  pub side_by_sum : {c : Colour} → c ≡ s.side → ¬ LosesSum → (others : List ℕ) → ArePresent (record { regions = regions; trees = Ts; state = s }) others
+  pub side_by_sum : {c : Colour} → c ≡ s.side → ¬ LosesSum → (others : List ℕ) → ArePresent
+      (record { regions = regions; trees = Ts; state = s }) others
       → c ≡ other s.side ↔ LosesGame s.side (sum_tree Ts others (balance_units s))
   side_by_sum is not others there = (λ e. absurd (not_other s.side (sym is ∙ e)), λ h. absurd (not ((present_sum others there).0 h)))
 
@@ -231,9 +238,11 @@ first_half s none not w = (w, λ m x. least m x)
     least Half x = omega arith
 
 -- the next region's edges, as the code reads them
-module _ {regions : List Region} (book : Book) {places : List ℕ} (c : Colour) (p : ℕ) {k : ℕ} {r : Region} {v : View} {edges : List Edge} (lt : k < length regions)
+module _ {regions : List Region} (book : Book) {places : List ℕ} (c : Colour) (p : ℕ) {k : ℕ} {r : Region} {v : View} {edges : List Edge}
+    (lt : k < length regions)
     (er : r ≡ region_at regions k) (ev : v ≡ view_at book.views.items k) (ee : edges ≡ edges_at (seen_graph book k).edges (place_at places k)) where
-  pub none_more : NoneIn regions book places c p k → ((f : Edge) → Contains edges f → ¬ IsStoneAt r c p (own v f)) → NoneIn regions book places c p (k + 1)
+  pub none_more : NoneIn regions book places c p k → ((f : Edge) → Contains edges f → ¬ IsStoneAt r c p (own v f))
+      → NoneIn regions book places c p (k + 1)
   none_more before none graphs values shows j e less x = elim (cases_eq j k) as (λ _. ⊥) [
     | inl same ↦
         let here : IsStoneEdge regions graphs places c p k e = subst (λ m. IsStoneEdge regions graphs places c p m e) same x in
@@ -288,11 +297,13 @@ sum_is book graphs values n sum shows many long each = ext_get_or 0 sum (map (λ
 
 module _ {regions : List Region} {book : Book} {places ids : List ℕ} {Ts : List Tree} {s : Whole} (held : IsHeld regions book places ids Ts s) where
   -- another state that keeps as much
-  pub held_as : {places' ids' : List ℕ} {t : Whole} → AreSolvedAt regions held.graphs held.values places' ids' Ts t → IsHeld regions book places' ids' Ts t
+  pub held_as : {places' ids' : List ℕ} {t : Whole} → AreSolvedAt regions held.graphs held.values places' ids' Ts t
+      → IsHeld regions book places' ids' Ts t
   held_as kept = record { graphs = held.graphs; values = held.values; views_are = held.views_are; shapes = held.shapes; kept = kept }
 
   -- the same of lists that are lent
-  pub held_lent : {regions' : List Region} {places' ids' : List ℕ} → regions' ≡ regions → places' ≡ places → ids' ≡ ids → IsHeld regions' book places' ids' Ts s
+  pub held_lent : {regions' : List Region} {places' ids' : List ℕ} → regions' ≡ regions → places' ≡ places → ids' ≡ ids
+      → IsHeld regions' book places' ids' Ts s
   held_lent er ep ei = subst (λ T. T) (λ i. IsHeld (sym er i) book (sym ep i) (sym ei i) Ts s) held
 
   pub shows_places : {rs : List Region} {ps : List ℕ} → rs ≡ regions → ps ≡ places → ShowsPlaces rs book ps
@@ -319,7 +330,8 @@ module _ {regions : List Region} {book : Book} {places ids : List ℕ} {Ts : Lis
 
   -- the purses are modest, after a point is given back too; and beside modest ones the sum is bounded
   pub held_modest : {m : Purses} → m ≡ s.purses → AreModest m
-  held_modest is = subst AreModest (sym is) record { black = omega (arith, held.kept.room.room Black); white = omega (arith, held.kept.room.room White) }
+  held_modest is =
+      subst AreModest (sym is) record { black = omega (arith, held.kept.room.room Black); white = omega (arith, held.kept.room.room White) }
 
   pub held_spent : {m : Purses} (c : Colour) → m ≡ paid_out c s.purses → AreModest m
   held_spent c is = subst AreModest (sym is) (modest_spent held.kept.room c)
@@ -333,7 +345,8 @@ module _ {regions rs : List Region} {book : Book} {places ps ids : List ℕ} {Ts
   shows_lent : ShowsAll book held.graphs held.values (length rs)
   shows_lent = subst (λ xs. ShowsAll book held.graphs held.values (length xs)) (sym lent) held.views_are
 
-  pub stone_none : {p : ℕ} → ((graphs : List Graph) (values : List (List ℕ)) → ShowsAll book graphs values (length rs) → (k : ℕ) (e : Edge) → ¬ IsStoneEdge rs graphs ps d p k e)
+  pub stone_none : {p : ℕ} → ((graphs : List Graph) (values : List (List ℕ)) → ShowsAll book graphs values (length rs) → (k : ℕ) (e : Edge)
+      → ¬ IsStoneEdge rs graphs ps d p k e)
       → (k : ℕ) (e : Edge) → ¬ IsStoneEdge regions held.graphs places s.side p k e
   stone_none {p} none k e x = none held.graphs held.values shows_lent k e (edge_seen held.graphs p k e (sym lent) (sym at) (sym side) x)
 
@@ -372,11 +385,14 @@ module _ {regions rs : List Region} {book : Book} {places ps ids : List ℕ} {Ts
 
     module _ {n : ℕ} {m : Purses} {x : ℤ} (taken : n ≡ e.taken) (paid : m ≡ paid_in d n s.purses) (number : x ≡ balance m *ℤ pos (2 ^ 59)) where
       pub stone_bounds : IsBounded (pick Ts (set ids k v)) x
-      stone_bounds = subst (λ T. T) (λ i. IsBounded (pick Ts (set ids k (stone_value i))) (sym number i)) (left_bounds held.kept stone_seen m (stone_modest taken paid))
+      stone_bounds =
+          subst (λ T. T) (λ i. IsBounded (pick Ts (set ids k (stone_value i))) (sym number i))
+          (left_bounds held.kept stone_seen m (stone_modest taken paid))
 
       pub stone_wins : {b : Bool} {o : Colour} → o ≡ other d → IsTrue b ↔ LosesGame o (sum_tree Ts (set ids k v) x) → IsTrue b ↔ IsWinning s (Stone p)
       stone_wins {b} {o} turn answer =
           let to_move = turn ∙ ap other side in
           let units = number ∙ ap (λ z. balance z *ℤ pos (2 ^ 59)) (paid ∙ ap (λ c. paid_in c n s.purses) side ∙ ap (λ j. paid_in s.side j s.purses) taken) in
           let back = sym stone_value in
-          left_wins held.kept stone_seen b (subst (λ T. IsTrue b ↔ T) (λ i. LosesGame (to_move i) (sum_tree Ts (set ids k (back i)) (units i))) answer)
+          left_wins held.kept stone_seen b
+          (subst (λ T. IsTrue b ↔ T) (λ i. LosesGame (to_move i) (sum_tree Ts (set ids k (back i)) (units i))) answer)

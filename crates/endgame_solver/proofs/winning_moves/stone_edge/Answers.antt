@@ -16,7 +16,8 @@ returns-in-Some-clause-edges c =
 pub regions-preserved : goal.regions-preserved
 regions-preserved c =
     let at = get_or_read c.args.regions.now c.regions.k c.index-regions-k.result c.regions-test.true c.index-regions-k.is no_region in
-    none_more c.args.book.now c.args.colour c.args.point c.regions-test.true at c.view_of-view.ensures c.edges_seen-edges.ensures c.regions.invariant (c.in_default.ensures {u = tt})
+    none_more c.args.book.now c.args.colour c.args.point c.regions-test.true at c.view_of-view.ensures c.edges_seen-edges.ensures c.regions.invariant (c.in_default.ensures {u =
+    tt})
 
 pub returns-clause-edges : goal.returns-clause-edges
 returns-clause-edges c = none_end c.args.regions.now c.args.book.now c.args.places.now c.args.colour c.args.point c.regions.k (omega (arith, c.regions-test.false)) c.regions.invariant

@@ -13,10 +13,12 @@ returns-in_err-book-clause-begun g c =
     rw (p.1, p.2) (refusal_begun c.args.setup.now c.args.limits.now c.in_ok-regions.ensures.regions c.deref-2.ensures.value _ c.in_err-book.ensures.refusal)
 
 pub returns-in_err-book-clause-steps : goal.returns-in_err-book-clause-steps
-returns-in_err-book-clause-steps g c = steps_within c.args.limits.now c.args.steps.now c.in_ok-regions.ensures.regions c.deref-2.ensures.value c.solve_regions.ensures.steps
+returns-in_err-book-clause-steps g c =
+    steps_within c.args.limits.now c.args.steps.now c.in_ok-regions.ensures.regions c.deref-2.ensures.value c.solve_regions.ensures.steps
 
 pub returns-in_err-places-clause-steps : goal.returns-in_err-places-clause-steps
-returns-in_err-places-clause-steps g c = steps_within c.args.limits.now c.args.steps.now c.in_ok-regions.ensures.regions c.deref-2.ensures.value c.solve_regions.ensures.steps
+returns-in_err-places-clause-steps g c =
+    steps_within c.args.limits.now c.args.steps.now c.in_ok-regions.ensures.regions c.deref-2.ensures.value c.solve_regions.ensures.steps
 
 pub returns-in_err-places-clause-begun : goal.returns-in_err-places-clause-begun
 returns-in_err-places-clause-begun g c =
@@ -30,7 +32,8 @@ pub opening_values-requires : goal.opening_values-requires
 opening_values-requires g c = openings_known c.args.limits.now c.deref-2.result.now c.in_ok-book.book c.solve_regions.new.store c.in_ok-book.ensures.solved
 
 pub returns-in_err-sum-clause-steps : goal.returns-in_err-sum-clause-steps
-returns-in_err-sum-clause-steps g c = steps_within c.args.limits.now c.args.steps.now c.in_ok-regions.ensures.regions c.deref-2.ensures.value c.solve_regions.ensures.steps
+returns-in_err-sum-clause-steps g c =
+    steps_within c.args.limits.now c.args.steps.now c.in_ok-regions.ensures.regions c.deref-2.ensures.value c.solve_regions.ensures.steps
 
 pub invariant_of-result : goal.invariant_of-result
 invariant_of-result g c =
@@ -62,7 +65,8 @@ returns-clause-begun g c =
     (opens, c.in_ok-regions.ensures.regions, are_sound shared.solved)
 
 pub returns-clause-steps : goal.returns-clause-steps
-returns-clause-steps g c = steps_within c.args.limits.now c.args.steps.now c.in_ok-regions.ensures.regions c.deref-2.ensures.value c.solve_regions.ensures.steps
+returns-clause-steps g c =
+    steps_within c.args.limits.now c.args.steps.now c.in_ok-regions.ensures.regions c.deref-2.ensures.value c.solve_regions.ensures.steps
 
 pub returns-in-Some-clause-begun : goal.returns-in-Some-clause-begun
 returns-in-Some-clause-begun g c =

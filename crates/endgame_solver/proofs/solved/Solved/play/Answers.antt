@@ -30,7 +30,8 @@ pub value_seen-requires-clause-values : goal.value_seen-requires-clause-values
 value_seen-requires-clause-values c = stone_values c.self.invariant.0 c.deref.ensures.value c.deref-2.ensures.value c.side-side.ensures (c.in-Some.ensures {u = tt}).edges
 
 pub value_seen-requires-clause-place : goal.value_seen-requires-clause-place
-value_seen-requires-clause-place c = stone_place c.self.invariant.0 c.deref.ensures.value c.deref-2.ensures.value c.side-side.ensures (c.in-Some.ensures {u = tt}).edges
+value_seen-requires-clause-place c =
+    stone_place c.self.invariant.0 c.deref.ensures.value c.deref-2.ensures.value c.side-side.ensures (c.in-Some.ensures {u = tt}).edges
 
 pub invariant_of-self-in-Some : goal.invariant_of-self-in-Some
 invariant_of-self-in-Some c =

@@ -25,7 +25,8 @@ returns-clause-report c =
       lowest_point = c.index-2.ensures ∙ get_or_default points.items 0 c.index-2.result.now 0 c.behind-self.invariant.some ∙ ap (λ z. get_or z.points 0 0) view;
       points = count ∙ ap (λ z. length z.points) view;
       positions = subst (IsNumberOfPositions r) ((held.views_are.each n lt).seen.as_many ∙ sym c.positions_seen.ensures) positions;
-      value = subst (IsValueId i.store r r.cells) (ap (λ z. get_or z 0 0) (sym (ids_seen held lt)) ∙ sym c.value_seen.ensures) (value_is held.kept n lt);
+      value = subst (IsValueId i.store r r.cells) (ap (λ z. get_or z 0 0) (sym (ids_seen held lt)) ∙ sym c.value_seen.ensures)
+          (value_is held.kept n lt);
     }
 
 pub positions_seen-requires-clause-view : goal.positions_seen-requires-clause-view
