@@ -32,10 +32,10 @@ use Rattle.endgame_run.specs.Laws.{HasOneStatus, RefusesFaults, RefusesUnshown, 
 use Rattle.sgf_go.specs.File.{Reads}
 use Rattle.endgame_run.specs.Refusal.{HasStatus}
 use Rattle.endgame_run.specs.Verdict.{AreUnshown, IsFileAnswer, IsPositionAnswer, IsRefused, IsSolved, IsValued}
-use Rattle.endgame_solver.proofs.BeginLaws.{one_value}
+use Rattle.endgame_solver.proofs.GraphLaws.{one_value}
 use Rattle.report.specs.Values.{HasShownValue, IsFirstUnshown, IsUnshown}
 use Rattle.report.proofs.ValuesLaws.{shown_at}
-use Rattle.endgame_solver.proofs.OneRegions.{one_regions}
+use Rattle.endgame_solver.proofs.BeginLaws.{one_regions}
 
 -- a sound region has no fault
 sound_has_none : (limits : Limits) (r : Region) (f : SolveError) → IsSound limits r → IsFaultOf limits r f → ⊥

@@ -1,116 +1,389 @@
--- What a region's graph and values say of it: how many positions it has, that no form is too large, and where its moves are.
-use Rattle.std.proofs.Common.{◌≡◌, ℕ, ◌*◌, ◌^◌, ◌<◌, ◌≤◌, inl, inr, sym, ◌∙◌, subst, arith, List, [], ◌∷◌, ◌++◌, length, get_or, take, drop, true, false, nat_eq}
-use Rattle.local_graph.specs.declared.graph.TheConstants.{MOST_POSITIONS}
-use Rattle.std.specs.List.{All, AllPairs, Contains, list_any}
-use Rattle.std.proofs.Math.Nat.{mul-le-mul}
-use Rattle.std.proofs.lemmas.Bool.{cases_Bool, cases_lt, eqb-true}
-use Rattle.std.proofs.lemmas.List.{get_or_append_left, get_or_default, get_or_push, length_push, take-append-drop}
-use Rattle.std.proofs.lemmas.List.Elements.{All-cons, All-nil, All-weaker, Contains-get_or}
-use Rattle.std.proofs.lemmas.Map.Keys.{IsDistinct-from_apart}
-use Rattle.std.proofs.lemmas.Map.Steps.{length-le_from_distinct_below}
-use Rattle.std.proofs.lemmas.Map.Views.{Contains-from_any}
-use Rattle.go_grid.specs.declared.grid.Cell.{Cell}
+-- A board has one list of regions of play; what beginning answers, and what a solved game keeps at the opening.
+use Rattle.std.proofs.Common.{◌≡◌, ℕ, zero, suc, ◌+◌, ◌<◌, ◌≤◌, refl, sym, ap, ◌∙◌, subst, arith, List, [], ◌∷◌, length, get_or, map, ◌*◌, ◌/◌, ◌%◌, ◌↔◌, inl, inr, Bool, true, false, Some, None, ℤ, unsigned_abs, to_z, of_z, w64, ◌^◌, Err, pos, negsuc, replicate}
+use Rattle.std.specs.List.{Contains, sum_by, All}
+use Rattle.std.specs.List.Sorted.{IsStrictlyIncreasing}
+use Rattle.std.proofs.lemmas.List.{ext_get_or, get_or-map, get_or_default, length-map, get_or-replicate, length-replicate}
+use Rattle.std.proofs.lemmas.List.Elements.{Contains-get_or}
+use Rattle.std.proofs.lemmas.List.Sums.{sum_by-le}
+use Rattle.std.proofs.lemmas.Map.Keys.{sorted_from_strictly_increasing, below_from_sorted}
+use Rattle.go_grid.specs.Board.{Board, NextTo, cell_at}
+use Rattle.go_grid.specs.Region.{Region, AreLinks, IsBeside, IsLink, IsRegion, nothing_near, touch_at}
+use Rattle.go_grid.proofs.WalkLemmas.{joined_back}
+use Rattle.benson_life.specs.Region.{IsContested, InRegionOfPlay}
+use Rattle.region_cut.specs.Cut.{lowest, AreRegionsOfPlay, IsRegionOfPlay}
+use Rattle.game_store.specs.Meaning.{IsAscending}
+use Rattle.endgame_solver.specs.Regions.{no_region, region_at}
+use Rattle.std.specs.Prelude.{Option}
+use Rattle.std.proofs.lemmas.Bool.{cases_order}
+use Rattle.std.proofs.lemmas.Nat.{div-add-mod'}
+use Rattle.go_grid.specs.declared.grid.Cell.TheVariants.{Empty}
+use Rattle.go_grid.specs.declared.grid.Colour.TheVariants.{Black, White}
 use Rattle.go_grid.specs.declared.region.Touch.{Touch}
-use Rattle.go_grid.specs.Region.{Region}
-use Rattle.local_play.specs.Packed.{pack}
-use Rattle.local_graph.specs.declared.cycle.CycleMove.{CycleMove}
-use Rattle.local_graph.specs.declared.graph.Edge.{Edge}
-use Rattle.local_graph.specs.LocalGraph.{IsCycle, IsGraph, IsOrder, MoreThan, Plays}
+use Rattle.go_grid.specs.declared.grid.Colour.{Colour}
+use Rattle.benson_life.specs.Life.{IsAlive}
+use Rattle.std.proofs.lemmas.Int.{fits_signed_from_abs, ints, to_z-of_z}
+use Rattle.sgf_go.specs.declared.settings.Setup.{Setup}
+use Rattle.endgame_solver.specs.Faults.{AreRefused, most_steps, AreSound, IsSound}
+use Rattle.endgame_solver.specs.Solved.{Begun}
+use Rattle.endgame_solver.specs.declared.limits.Limits.{Limits}
+use Rattle.endgame_solver.specs.declared.faults.SolveError.{SolveError}
+use Rattle.endgame_solver.specs.declared.faults.SolveError.TheVariants.{Points, Positions, Cycle, Form, Memory}
+use Rattle.local_graph.specs.declared.graph.TheConstants.{MOST_POSITIONS}
+use Rattle.benson_life.specs.Held.{IsHeld, HasPoints}
+use Rattle.benson_life.proofs.HeldLemmas.{short}
+use Rattle.whole_rules.specs.declared.money.Token.{Token}
+use Rattle.whole_rules.specs.Opening.{IsOpening, IsStart, komi_points}
+use Rattle.whole_rules.specs.Purses.{purse}
+use Rattle.whole_rules.specs.WholeGame.{Whole}
 use Rattle.local_graph.specs.Graph.{Graph}
-use Rattle.local_graph.proofs.BuildLemmas.{all_positions}
-use Rattle.local_graph.proofs.PlayLemmas.{plays_both}
-use Rattle.short_games.specs.Tree.{Tree, tree_at}
-use Rattle.short_games.specs.Parts.{HasMoreParts}
-use Rattle.short_games.proofs.ReductionLaws.{canonical-same}
-use Rattle.game_canon.specs.Changes.{HasNumberPastBounds}
-use Rattle.short_games.proofs.OrderLaws.{same-sym, same-trans}
-use Rattle.local_value.specs.PositionTree.{IsStep, IsValueOf}
-use Rattle.local_value.specs.Values.{IsGraphOf, IsPlaceOf, AreValues}
-use Rattle.local_value.proofs.PositionLaws.{trees-same}
-use Rattle.endgame_solver.specs.Faults.{HasLargeForm}
-use Rattle.go_grid.proofs.PlayLemmas.{long_after}
+use Rattle.endgame_solver.specs.inner.Held.{HasRoom, place_at, token_left, AreSolved, AreSummed, IsAt, AreSolvedAt, ids_at}
+use Rattle.endgame_solver.specs.inner.Regions.{graph_at, AreGraphs, IsShown, spot_in}
+use Rattle.game_canon.proofs.NegationLaws.{chosen}
+use Rattle.go_grid.specs.Chain.{IsSettled}
+use Rattle.whole_rules.proofs.WallLaws.{keeps_start}
+use Rattle.region_cut.specs.LocalBoard.{PlaysLocally}
+use Rattle.short_games.specs.Tree.{Tree}
+use Rattle.endgame_solver.specs.inner.Solving.{AreSolvedBelow}
+use Rattle.whole_rules.specs.declared.money.Token.TheVariants as token
+use Rattle.local_value.specs.Values.{IsPlaceOf}
+use Rattle.local_value.proofs.PassLaws.{order_short}
+use Rattle.region_cut.proofs.ApartLemmas.{holds_start}
+use Rattle.region_cut.proofs.FreedomLemmas.{point_contested}
 
--- one item more, which stands in the relation to each before it
-pub pairs_push : {X : Type 0} (R : X → X → Type 0) (xs : List X) (y : X) → AllPairs R xs → ((x : X) → Contains xs x → R x y) → AllPairs R (xs ++ y ∷ [])
-pairs_push R xs y pairs new j k d lt short = elim (cases_lt k (length xs)) as (λ _. R (get_or (xs ++ y ∷ []) j d) (get_or (xs ++ y ∷ []) k d)) [
-  | inl inside ↦ rw (get_or_append_left xs (y ∷ []) d j (omega (arith, lt, inside)), get_or_append_left xs (y ∷ []) d k inside) (pairs j k d lt inside)
-  | inr past ↦
-      let last : k ≡ length xs = omega (arith, past, short, length_push xs y) in
-      let first : j < length xs = omega (arith, lt, last) in
-      rw (get_or_append_left xs (y ∷ []) d j first, get_or_push xs y d k (sym last)) (new (get_or xs j d) (Contains-get_or xs j d first))
-]
+-- A board has one list of regions of play, as far as their points go.
 
--- a product of a million and 32 is as much as the sizes of values may be
-pub few_units : (positions cells scale : ℕ) → positions ≤ MOST_POSITIONS → cells ≤ 32 → (positions * cells) * scale ≤ 32000000 * scale
-few_units positions cells scale few small =
-    let area : positions * cells ≤ MOST_POSITIONS * 32 = mul-le-mul {n₂ = MOST_POSITIONS} {m₂ = 32} few small in
-    times (positions * cells) 32000000 scale (omega (arith, area))
+-- two ways of saying that a list ascends
+ascends : (xs : List ℕ) → IsStrictlyIncreasing xs → IsAscending xs
+ascends xs up i j lt short = below_from_sorted xs i j 0 (sorted_from_strictly_increasing xs up) lt short
+
+increases : (xs : List ℕ) → IsAscending xs → IsStrictlyIncreasing xs
+increases xs up k lt = up k (k + 1) (omega arith) lt
+
+tail : (x : ℕ) (xs : List ℕ) → IsAscending (x ∷ xs) → IsAscending xs
+tail x xs up i j lt short = up (suc i) (suc j) (omega (arith, lt)) (omega (arith, short))
+
+above : (x : ℕ) (xs : List ℕ) (p : ℕ) → IsAscending (x ∷ xs) → Contains xs p → x < p
+above x xs p up (k, short, at) =
+    let later : x < get_or xs k 0 = up 0 (suc k) (omega arith) (omega (arith, short)) in
+    omega (arith, later, get_or_default xs k 0 p short, at)
+
+-- ascending lists of the same numbers are the same
+one_list : (xs ys : List ℕ) → IsAscending xs → IsAscending ys → ((p : ℕ) → Contains xs p → Contains ys p)
+    → ((p : ℕ) → Contains ys p → Contains xs p) → xs ≡ ys
+one_list [] [] a b f g = refl
+one_list [] (y ∷ ys) a b f g = absurd (let w = g y (0, omega arith, refl) in omega (arith, w.1))
+one_list (x ∷ xs) [] a b f g = absurd (let w = f x (0, omega arith, refl) in omega (arith, w.1))
+one_list (x ∷ xs) (y ∷ ys) a b f g =
+    let low = least x y ys b (f x (0, omega arith, refl)) in
+    let high = least y x xs a (g y (0, omega arith, refl)) in
+    let same : x ≡ y = omega (arith, low, high) in
+    λ i. same i ∷ one_list xs ys (tail x xs a) (tail y ys b)
+    (λ p h. later y ys p (f p (further x xs p h)) (let w = above x xs p a h in omega (arith, same, w)))
+    (λ p h. later x xs p (g p (further y ys p h)) (let w = above y ys p b h in omega (arith, same, w))) i
   where
-    times : (a b c : ℕ) → a ≤ b → a * c ≤ b * c
-    times a b c h = grind (arith, h)
+    further : (z : ℕ) (zs : List ℕ) (p : ℕ) → Contains zs p → Contains (z ∷ zs) p
+    further z zs p (k, short, at) = (suc k, omega (arith, short), at)
 
--- a position has one value
-pub one_value : (touch : List Touch) (cells : List Cell) (V W : Tree) → IsValueOf touch cells V → IsValueOf touch cells W → V ≡ W
-one_value touch cells V W v w =
-    let trees = trees-same (List Cell) (IsStep touch) (3 ^ length cells) cells v.tree w.tree v.of_position w.of_position in
-    let same = same-trans V v.tree W (same-sym v.tree V v.same) (same-trans v.tree w.tree W trees w.same) in
-    canonical-same V W v.canonical w.canonical same.0 same.1
+    least : (p z : ℕ) (zs : List ℕ) → IsAscending (z ∷ zs) → Contains (z ∷ zs) p → z ≤ p
+    least p z zs up (zero, short, at) = omega (arith, at)
+    least p z zs up (suc k, short, at) = let w = above z zs p up (k, omega (arith, short), at) in omega (arith, w)
 
-module _ (r : Region) (g : Graph) (of : IsGraphOf r g) where
-  -- no value of a reachable position is too large where none of the graph is
-  pub no_large_form : (Ts : List Tree) (ids : List ℕ) (limit : ℕ) → AreValues r g Ts ids
-      → ((i : ℕ) → i < length ids → HasMoreParts (tree_at Ts (get_or ids i 0)) limit → ⊥)
-      → ((i : ℕ) → i < length ids → HasNumberPastBounds (tree_at Ts (get_or ids i 0)) → ⊥) → ¬ HasLargeForm r limit
-  no_large_form Ts ids limit are few within (cells, reach, (V, is, large)) =
-      let (i, inside, at) = of.graph.all cells reach in
-      let has : IsPlaceOf r g i cells = record { inside = inside; reachable = reach; packed = get_or_default g.positions i 0 (pack cells) inside ∙ at } in
-      let same = one_value r.touch cells V (tree_at Ts (get_or ids i 0)) is (are.each i cells has) in
-      let lt : i < length ids = omega (arith, inside, are.long) in
-      elim large as (λ _. ⊥) [
-        | inl more ↦ few i lt (subst (λ X. HasMoreParts X limit) same more)
-        | inr past ↦ within i lt (subst HasNumberPastBounds same past)
-      ]
+    later : (z : ℕ) (zs : List ℕ) (p : ℕ) → Contains (z ∷ zs) p → z < p → Contains zs p
+    later z zs p (zero, short, at) less = absurd (omega (arith, at, less))
+    later z zs p (suc k, short, at) less = (k, omega (arith, short), at)
 
--- a graph has no more positions than are reachable
-pub positions_few : (touch : List Touch) (opening : List Cell) (positions : List ℕ) (edges : List (List Edge)) (limit : ℕ)
-    → IsGraph touch opening positions edges → ¬ MoreThan touch opening limit → length positions ≤ limit
-positions_few touch opening positions edges limit g not =
-    let (found, different, reached, long) = all_positions touch opening positions edges g in
-    elim (cases_lt limit (length positions)) as (λ _. length positions ≤ limit) [
-      | inl more ↦ absurd (not record {
-        found = found;
-        different = different;
-        reachable = λ cells h. (reached cells).0 h;
-        many = omega (arith, more, long);
-      })
-      | inr le ↦ le
+module _ (g : Board) (rs : List Region) (are : AreRegionsOfPlay g rs) where
+  -- the lowest point of a region is contested
+  low_contested : (r : Region) → Contains rs r → IsContested g (lowest r)
+  low_contested r h = let play = are.each r h in point_contested g r play (lowest r) (Contains-get_or r.points 0 0 play.proper.some)
+
+  lows_ascend : IsAscending (map lowest rs)
+  lows_ascend i j lt short =
+      let inside : j < length rs = omega (arith, short, length-map rs lowest) in
+      let before : i < length rs = omega (arith, lt, inside) in
+      let less = are.ascending i j no_region lt inside in
+      omega (arith, less, get_or-map lowest rs i no_region 0 before, get_or-map lowest rs j no_region 0 inside)
+
+-- the lowest points of one list are among those of the other
+module _ (g : Board) (rs ss : List Region) (a : AreRegionsOfPlay g rs) (b : AreRegionsOfPlay g ss) where
+  low_of : (r : Region) → Contains rs r → (s : Region) × Contains ss s × (lowest s ≡ lowest r)
+  low_of r h =
+      let p = lowest r in
+      let (s, among, inside) = b.every p (low_contested g rs a r h) in
+      let to : InRegionOfPlay g (lowest s) p = ((b.each s among).points p).0 inside in
+      let back : InRegionOfPlay g p (lowest s) = joined_back g.columns (IsContested g) (lowest s) p to in
+      let low = (a.each r h).first (lowest s) (((a.each r h).points (lowest s)).1 back) in
+      let high = (b.each s among).first p inside in
+      (s, among, omega (arith, low, high))
+
+  lows_among : (p : ℕ) → Contains (map lowest rs) p → Contains (map lowest ss) p
+  lows_among p (k, short, at) =
+      let inside : k < length rs = omega (arith, short, length-map rs lowest) in
+      let is : p ≡ lowest (region_at rs k) = sym at ∙ get_or-map lowest rs k no_region p inside in
+      let (s, (j, known, here), same) = low_of (region_at rs k) (Contains-get_or rs k no_region inside) in
+      let there : get_or (map lowest ss) j p ≡ p = get_or-map lowest ss j s p known ∙ ap lowest here ∙ same ∙ sym is in
+      (j, omega (arith, known, length-map ss lowest), there)
+
+module _ (g : Board) (rs ss : List Region) (a : AreRegionsOfPlay g rs) (b : AreRegionsOfPlay g ss) where
+  same_lows : map lowest rs ≡ map lowest ss
+  same_lows = one_list (map lowest rs) (map lowest ss) (lows_ascend g rs a) (lows_ascend g ss b) (lows_among g rs ss a b) (lows_among g ss rs b a)
+
+  same_count : length rs ≡ length ss
+  same_count = sym (length-map rs lowest) ∙ ap length same_lows ∙ length-map ss lowest
+
+  same_points : (k : ℕ) → k < length rs → (region_at rs k).points ≡ (region_at ss k).points
+  same_points k lt =
+      let r = region_at rs k in
+      let s = region_at ss k in
+      let lt' : k < length ss = omega (arith, lt, same_count) in
+      let h = Contains-get_or rs k no_region lt in
+      let h' = Contains-get_or ss k no_region lt' in
+      let same : lowest r ≡ lowest s = sym (get_or-map lowest rs k no_region 0 lt) ∙ ap (λ xs. get_or xs k 0) same_lows ∙ get_or-map lowest ss k no_region 0 lt' in
+      one_list r.points s.points (ascends r.points (a.each r h).proper.ascending) (ascends s.points (b.each s h').proper.ascending)
+      (λ p i. ((b.each s h').points p).1 (subst (λ z. InRegionOfPlay g z p) same (((a.each r h).points p).0 i)))
+      (λ p i. ((a.each r h).points p).1 (subst (λ z. InRegionOfPlay g z p) (sym same) (((b.each s h').points p).0 i)))
+
+-- And so it has one list of regions.
+
+-- a point is given by its row and its column
+same_point : (c p q : ℕ) → p / c ≡ q / c → p % c ≡ q % c → p ≡ q
+same_point c p q rows columns = sym (div-add-mod' p c) ∙ ap (λ n. n * c + p % c) rows ∙ ap (λ n. q / c * c + n) columns ∙ div-add-mod' q c
+
+-- a list without repeats has one link to a point
+one_link : (points : List ℕ) (Near : ℕ → Type 0) (o u : Option ℕ) → IsStrictlyIncreasing points → ((p q : ℕ) → Near p → Near q → p ≡ q) → IsLink points Near o → IsLink points Near u → o ≡ u
+one_link points Near None None up one a b = refl
+one_link points Near None (Some j) up one a b = absurd (a (get_or points j 0) (Contains-get_or points j 0 b.0) b.1)
+one_link points Near (Some i) None up one a b = absurd (b (get_or points i 0) (Contains-get_or points i 0 a.0) a.1)
+one_link points Near (Some i) (Some j) up one a b =
+    let same = one (get_or points i 0) (get_or points j 0) a.1 b.1 in
+    elim (cases_order i j) as (λ _. Path (Option ℕ) (Some i) (Some j)) [
+      | inl e ↦ ap Some e
+      | inr (inl less) ↦ absurd (let w = below_from_sorted points i j 0 (sorted_from_strictly_increasing points up) less b.0 in omega (arith, w, same))
+      | inr (inr more) ↦ absurd (let w = below_from_sorted points j i 0 (sorted_from_strictly_increasing points up) more a.0 in omega (arith, w, same))
     ]
 
--- an order has no more places than there are nodes
-pub order_short : (edges : List (List Edge)) (order : List ℕ) → IsOrder edges order → length order ≤ length edges
-order_short edges order o = length-le_from_distinct_below order (length edges) (IsDistinct-from_apart nat_eq order apart) below
+-- a mark is given by what it stands for
+one_mark : (P : Type 0) (a b : Bool) → (a ≡ true) ↔ P → (b ≡ true) ↔ P → a ≡ b
+one_mark P true true f g = refl
+one_mark P false false f g = refl
+one_mark P true false f g = absurd (let e = g.1 (f.0 refl) in cc)
+one_mark P false true f g = absurd (let e = f.1 (g.0 refl) in cc)
+
+-- what is next to a point
+one_touch : (c : ℕ) (points : List ℕ) (p : ℕ) (B W : Type 0) (t u : Touch) → IsStrictlyIncreasing points → AreLinks c points p t → AreLinks c points p u
+    → (t.black ≡ true) ↔ B → (u.black ≡ true) ↔ B → (t.white ≡ true) ↔ W → (u.white ≡ true) ↔ W → t ≡ u
+one_touch c points p B W t u up a b tb ub tw uw =
+    let black = one_mark B t.black u.black tb ub in
+    let white = one_mark W t.white u.white tw uw in
+    let above = one_link points _ t.up u.up up (λ q r x y. same_point c q r (omega (arith, x.0, y.0)) (x.1 ∙ sym y.1)) a.up b.up in
+    let before = one_link points _ t.left u.left up (λ q r x y. same_point c q r (x.0 ∙ sym y.0) (omega (arith, x.1, y.1))) a.left b.left in
+    let after = one_link points _ t.right u.right up (λ q r x y. same_point c q r (sym x.0 ∙ y.0) (sym x.1 ∙ y.1)) a.right b.right in
+    let below = one_link points _ t.down u.down up (λ q r x y. same_point c q r (sym x.0 ∙ y.0) (sym x.1 ∙ y.1)) a.down b.down in
+    λ i. record { black = black i; white = white i; up = above i; left = before i; right = after i; down = below i }
+
+-- a region of play is given by its points
+one_shape : (g : Board) (r s : Region) → IsRegionOfPlay g r → IsRegionOfPlay g s → IsRegion r.columns r.rows r.points r.cells r.touch → IsRegion s.columns s.rows s.points s.cells s.touch
+    → r.points ≡ s.points → r ≡ s
+one_shape g r s a b m n points =
+    let columns = a.columns ∙ sym b.columns in
+    let rows = a.rows ∙ sym b.rows in
+    let point : (k : ℕ) → get_or r.points k 0 ≡ get_or s.points k 0 = λ k. ap (λ l. get_or l k 0) points in
+    let cells = ext_get_or Empty r.cells s.cells (m.full ∙ ap length points ∙ sym n.full) (λ k lt.
+    let here : k < length r.points = omega (arith, lt, m.full) in
+    let there : k < length s.points = omega (arith, here, ap length points) in
+    a.cells k here ∙ ap (cell_at g) (point k) ∙ sym (b.cells k there)) in
+    let there_too : (c : Colour) (k : ℕ) → k < length s.points → IsBeside c (touch_at s.touch k) ↔ ((q : ℕ) × NextTo g.columns (get_or r.points k 0) q × IsAlive g c q) =
+    λ c k there. subst (λ p. IsBeside c (touch_at s.touch k) ↔ ((q : ℕ) × NextTo g.columns p q × IsAlive g c q)) (sym (point k)) (b.walls k c there) in
+    let touch = ext_get_or nothing_near r.touch s.touch (m.beside ∙ ap length points ∙ sym n.beside) (λ k lt.
+    let here : k < length r.points = omega (arith, lt, m.beside) in
+    let there : k < length s.points = omega (arith, here, ap length points) in
+    let links : AreLinks r.columns r.points (get_or r.points k 0) (touch_at s.touch k) =
+    subst (λ T. T) (λ i. AreLinks (sym columns i) (sym points i) (sym (point k) i) (touch_at s.touch k)) (n.links k there) in
+    one_touch r.columns r.points (get_or r.points k 0) _ _ (touch_at r.touch k) (touch_at s.touch k) m.ascending (m.links k here) links
+    (a.walls k Black here) (there_too Black k there) (a.walls k White here) (there_too White k there)) in
+    λ i. record { columns = columns i; rows = rows i; points = points i; cells = cells i; touch = touch i }
+
+pub one_regions : (g : Board) (rs ss : List Region) → AreRegionsOfPlay g rs → AreRegionsOfPlay g ss → rs ≡ ss
+one_regions g rs ss a b = ext_get_or no_region rs ss (same_count g rs ss a b) (λ k lt.
+    let h = Contains-get_or rs k no_region lt in
+    let h' = Contains-get_or ss k no_region (omega (arith, lt, same_count g rs ss a b)) in
+    one_shape g (region_at rs k) (region_at ss k) (a.each _ h) (b.each _ h') (a.each _ h).proper (b.each _ h').proper (same_points g rs ss a b k lt))
+
+-- What beginning answers, and how many steps it takes, whatever list of the board's regions is meant.
+pub steps_within : (limits : Limits) (start : ℕ) {g : Board} {rs lent : List Region} {now : ℕ} → AreRegionsOfPlay g rs → lent ≡ rs
+    → now ≤ start + most_steps limits lent
+    → (ss : List Region) → AreRegionsOfPlay g ss → now ≤ start + most_steps limits ss
+steps_within limits start {g} {rs} {lent} {now} a is few ss b = subst (λ xs. now ≤ start + most_steps limits xs) (is ∙ one_regions g rs ss a b) few
+
+pub refusal_begun : (setup : Setup) (limits : Limits) {regions lent : List Region} → AreRegionsOfPlay setup.board regions → lent ≡ regions
+    → (e : SolveError)
+    → AreRefused limits lent e → Begun setup limits (Err e)
+refusal_begun setup limits {regions} are is e h = at e (subst (λ rs. AreRefused limits rs e) is h)
   where
-    apart : (i j d : ℕ) → i < j → j < length order → nat_eq (get_or order i d) (get_or order j d) ≡ false
-    apart i j d lt short = elim (cases_Bool (nat_eq (get_or order i d) (get_or order j d))) as (λ _. nat_eq (get_or order i d) (get_or order j d) ≡ false) [
-      | inl on ↦ absurd (o.once i j d lt short (eqb-true _ _ on))
-      | inr off ↦ off
-    ]
+    at : (e : SolveError) → AreRefused limits regions e → Begun setup limits (Err e)
+    at (Points p n) h = (regions, are, h)
+    at (Positions p) h = (regions, are, h)
+    at (Cycle p names back) h = (regions, are, h)
+    at (Form p) h = (regions, are, h)
+    at (Memory e) h = tt
 
-    below : (q : ℕ) → list_any (nat_eq q) order ≡ true → q < length edges
-    below q h = let w = Contains-from_any {eq = nat_eq} eqb-true q order h in
-        let at : get_or order w.0 0 ≡ q = get_or_default order w.0 0 q w.1 ∙ w.2 in
-        omega (arith, o.inside w.0 w.1, at)
+-- a komi is the same as a number of 64 bits
+pub komi_held : (komi : ℤ) → unsigned_abs komi ≤ 2000000 → to_z w64 (of_z w64 komi) ≡ komi
+komi_held komi h = to_z-of_z w64 komi (fits_signed_from_abs w64 komi (omega (arith, ints, h)))
 
--- the moves of a cycle are of places of the position
-plays_places : (touch : List Touch) (from to : List Cell) (ms : List CycleMove) → Plays touch from ms to → All (λ m. m.place < length from) ms
-plays_places touch from to [] p = All-nil (λ m. m.place < length from)
-plays_places touch from to (m ∷ ms) (next, move, rest) =
-    All-cons (λ n. n.place < length from) m ms move.place
-    (All-weaker (λ n. n.place < length next) (λ n. n.place < length from) (λ n lt. omega (arith, lt, long_after move)) ms (plays_places touch next to ms rest))
+-- At the opening the purses are small, and leave room for every play.
 
-pub cycle_places : (r : Region) (ms : List CycleMove) (back : ℕ) → IsCycle r.touch r.cells ms back → length r.cells ≡ length r.points
-    → All (λ m. m.place < length r.points) ms
-cycle_places r ms back c full =
-    let plays = plays_both r.touch r.cells c.returns_to c.returns_to (take back ms) (drop back ms) c.there c.again in
-    let all = plays_places r.touch r.cells c.returns_to ms (subst (λ l. Plays r.touch r.cells l c.returns_to) (take-append-drop back ms) plays) in
-    All-weaker (λ m. m.place < length r.cells) (λ m. m.place < length r.points) (λ m lt. omega (arith, lt, full)) ms all
+-- there are no more points of a kind than the board has
+number_few : (P : ℕ → Type 0) (n most : ℕ) → ((p : ℕ) → P p → p < most) → HasPoints P n → n ≤ most
+number_few P n most inside (points, lists, long) =
+    let few = short points most lists.ascending (λ k d lt. inside (get_or points k d) ((lists.exact (get_or points k d)).0 (Contains-get_or points k d lt))) in
+    omega (arith, few, long)
+
+held_few : (g : Board) (c : Colour) (n : ℕ) → length g.cells ≤ 625 → IsHeld g c n → n ≤ 1875
+held_few g c n few h =
+    let free = number_few _ h.empty (length g.cells) (λ p w. w.1.0) h.empties in
+    let taken = number_few _ h.captive (length g.cells) (λ p w. w.1.0) h.captives in
+    omega (arith, few, free, taken, h.sum)
+
+start_few : (g : Board) (c : Colour) (tax : Bool) (n : ℕ) → length g.cells ≤ 625 → IsStart g c tax n → n ≤ 1875
+start_few g c false n few held = held_few g c n few held
+start_few g c true n few (groups, _, held) = omega (arith, held_few g c (n + 2 * groups) few held)
+
+komi_few : (c : Colour) (komi : ℤ) → unsigned_abs komi ≤ 2000000 → komi_points c komi ≤ MOST_POSITIONS
+komi_few White (pos n) h = omega (arith, h)
+komi_few Black (negsuc n) h = omega (arith, h)
+komi_few White (negsuc n) h = omega arith
+komi_few Black (pos n) h = omega arith
+
+purse_few : (g : Board) (black white : ℕ) (komi : ℤ) (side : Colour) (tax : Bool) (s : Whole) → length g.cells ≤ 625
+    → IsOpening g black white komi side tax s
+    → black < 2 ^ 40 → white < 2 ^ 40 → unsigned_abs komi ≤ 2000000 → (c : Colour) → purse c s.purses ≤ 2 ^ 40 + 1001875
+purse_few g black white komi side tax s few o small small' half Black =
+    let (n, start, is) = o.black in
+    omega (arith, start_few g Black tax n few start, komi_few Black komi half, small, is)
+purse_few g black white komi side tax s few o small small' half White =
+    let (n, start, is) = o.white in
+    omega (arith, start_few g White tax n few start, komi_few White komi half, small', is)
+
+token_few : (t : Token) → token_left t ≤ 1
+token_few token.Nobody = omega arith
+token_few token.Black = omega arith
+token_few token.White = omega arith
+
+-- places stand somewhere in the orders of at most 625 graphs of at most 1,000,000 positions
+room_at_start : (graphs : List Graph) (places : List ℕ) (s : Whole) → length places ≤ 625
+    → ((k : ℕ) → k < length places → Contains (graph_at graphs k).order (place_at places k))
+    → ((k : ℕ) → k < length places → length (graph_at graphs k).order ≤ MOST_POSITIONS) → ((c : Colour) → purse c s.purses ≤ 2 ^ 40 + 1001875) → HasRoom graphs places s
+room_at_start graphs places s many among short few = record {
+  ranks = ranks.0;
+  many = ranks.1;
+  each = ranks.2;
+  room = λ c. omega (arith, few c, token_few s.purses.token, total, ranks.1, many);
+}
+  where
+    ranks : (rs : List ℕ) × (length rs ≡ length places)
+        × ((k : ℕ) → k < length places → (get_or rs k 0 < length (graph_at graphs k).order) × (get_or (graph_at graphs k).order (get_or rs k 0) 0 ≡ place_at places k))
+    ranks = chosen 0 (λ k r. (r < length (graph_at graphs k).order) × (get_or (graph_at graphs k).order r 0 ≡ place_at places k)) (length places) (λ k lt.
+        let (i, inside, at) = among k lt in
+        (i, (inside, get_or_default (graph_at graphs k).order i 0 (place_at places k) inside ∙ at)))
+
+    each_few : All (λ n. n ≤ MOST_POSITIONS) ranks.0
+    each_few k d lt =
+        let known : k < length places = omega (arith, lt, ranks.1) in
+        omega (arith, (ranks.2 k known).0, short k known, get_or_default ranks.0 k d 0 lt)
+
+    total : sum_by (λ n. n) ranks.0 ≤ length ranks.0 * MOST_POSITIONS
+    total = sum_by-le (λ n. n) MOST_POSITIONS ranks.0 each_few
+
+-- What a solved game keeps, at the opening.
+
+-- a board has no more regions than points
+few_regions : (g : Board) (regions : List Region) → AreRegionsOfPlay g regions → length g.cells ≤ 625 → length regions ≤ 625
+few_regions g regions are few =
+    let bound = short (map lowest regions) (length g.cells) (increases (map lowest regions) (lows_ascend g regions are)) inside in
+    omega (arith, bound, few, length-map regions lowest)
+  where
+    inside : All (λ p. p < length g.cells) (map lowest regions)
+    inside k d lt =
+        let known : k < length regions = omega (arith, lt, length-map regions lowest) in
+        let w = (low_contested g regions are (region_at regions k) (Contains-get_or regions k no_region known)).0 in
+        omega (arith, w, get_or-map lowest regions k no_region d known)
+
+pub are_sound : {limits : Limits} {regions : List Region} {graphs : List Graph} {values : List (List ℕ)} {Ts : List Tree}
+    → AreSolvedBelow limits regions graphs values Ts (length regions) → AreSound limits regions
+are_sound {limits} {regions} done r (k, lt, at) = subst (IsSound limits) (get_or_default regions k no_region r lt ∙ at) (done.each k lt).sound
+
+module _ {limits : Limits} {g : Board} {regions : List Region} {graphs : List Graph} {values : List (List ℕ)} {Ts : List Tree} (settled : IsSettled g)
+    (are : AreRegionsOfPlay g regions) (local : (r : Region) → Contains regions r → PlaysLocally g r) (few : length g.cells ≤ 625)
+    (limit : limits.positions ≤ MOST_POSITIONS) (done : AreSolvedBelow limits regions graphs values Ts (length regions)) where
+  are_graphs : AreGraphs g regions graphs
+  are_graphs = record {
+    cut = are;
+    local = local;
+    full = λ r h. (are.each r h).proper.full;
+    many = done.as_many_graphs;
+    each = λ k lt. (done.each k lt).graph.graph;
+  }
+
+  short_order : (k : ℕ) → k < length regions → length (graph_at graphs k).order ≤ MOST_POSITIONS
+  short_order k lt =
+      let of = (done.each k lt).graph in
+      omega (arith, order_short (region_at regions k) (graph_at graphs k) of.graph 0, of.few, limit)
+
+  are_solved : AreSolved g regions graphs values Ts
+  are_solved = record {
+    settled = settled;
+    proper = λ r h. (are.each r h).proper;
+    cut = are_graphs;
+    few = few_regions g regions are few;
+    short = short_order;
+    many = done.as_many_values;
+    valued = λ k lt. (done.each k lt).values;
+    within = λ k i lt short. (done.each k lt).within i short;
+  }
+
+  module _ {black white : ℕ} {komi : ℤ} {side : Colour} {tax : Bool} {s : Whole} (opening : IsOpening g black white komi side tax s)
+      {places sum : List ℕ}
+      (first : places ≡ replicate (length regions) 0) (ids : sum ≡ map (λ xs. get_or xs 0 0) values) where
+    many_places : length places ≡ length regions
+    many_places = ap length first ∙ length-replicate (length regions) 0
+
+    first_place : (k : ℕ) → k < length regions → place_at places k ≡ 0
+    first_place k lt = ap (λ xs. place_at xs k) first ∙ get_or-replicate (length regions) k 0 0 lt
+
+    is_at : IsAt g regions graphs places s
+    is_at = record {
+      many = many_places;
+      walls = (keeps_start g black white komi side tax s opening).walls;
+      contested = opening.contested;
+      shown = λ k lt.
+          let r = region_at regions k in
+          let of = (done.each k lt).graph.graph.graph in
+          let play = are.each r (Contains-get_or regions k no_region lt) in
+          let at : IsPlaceOf r (graph_at graphs k) 0 r.cells = record { inside = of.some; reachable = ([], refl); packed = of.first } in
+          subst (λ h. IsShown g regions graphs h k (spot_in k (place_at places k))) (sym opening.board)
+          (subst (λ i. IsShown g regions graphs g k (spot_in k i)) (sym (first_place k lt))
+          (r.cells, record { region = refl; known = lt; at = at }, holds_start g r play play.proper.full));
+    }
+
+    are_summed : AreSummed regions values places sum
+    are_summed = record {
+      many = ap length ids ∙ length-map values (λ xs. get_or xs 0 0) ∙ done.as_many_values;
+      each = λ k lt. ap (λ xs. get_or xs k 0) ids ∙ get_or-map (λ xs. get_or xs 0 0) values k [] 0 (omega (arith, lt, done.as_many_values))
+          ∙ ap (λ i. get_or (ids_at values k) i 0) (sym (first_place k lt));
+    }
+
+    pub is_kept : black < 2 ^ 40 → white < 2 ^ 40 → unsigned_abs komi ≤ 2000000 → AreSolvedAt regions graphs values places sum Ts s
+    is_kept small small' half = record {
+      board = g;
+      solved = are_solved;
+      at = is_at;
+      summed = are_summed;
+      room = room_at_start graphs places s (omega (arith, many_places, few_regions g regions are few))
+          (λ k lt.
+          let known : k < length regions = omega (arith, lt, many_places) in
+          let of = (done.each k known).graph.graph in
+          subst (Contains (graph_at graphs k).order) (sym (first_place k known)) (of.order.every 0 (omega (arith, of.graph.some, of.graph.beside))))
+          (λ k lt. short_order k (omega (arith, lt, many_places)))
+          (purse_few g black white komi side tax s few opening small small' half);
+    }

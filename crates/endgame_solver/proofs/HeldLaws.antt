@@ -1,46 +1,87 @@
--- The present state of a solved game is decided by the values of its positions.
-use Rattle.std.proofs.Common.{ℕ, ℤ, zero, suc, ◌≡◌, ◌⊎◌, ◌↔◌, ◌^◌, ◌+◌, ◌<◌, refl, sym, ap, ◌∙◌, subst, arith, List, [], ◌∷◌, length, get_or, pos, ◌+ℤ◌, ◌*ℤ◌}
-use Rattle.std.proofs.lemmas.Int.{ints}
-use Rattle.std.proofs.lemmas.List.{ext_get_or}
+-- What a solved game keeps: its numbers are small, the values of its positions decide it, and each move keeps it.
+use Rattle.std.proofs.Common.{ℕ, ℤ, zero, suc, ◌≡◌, ◌⊎◌, ◌↔◌, ◌*◌, ◌^◌, ◌+◌, ◌<◌, ◌≤◌, inl, inr, refl, sym, ap, ◌∙◌, subst, arith, List, [], ◌∷◌, length, get_or, set, pos, neg_ℤ, ◌+ℤ◌, ◌*ℤ◌, unsigned_abs, replicate, sum, Contains, Result, Ok, Err}
+use Rattle.std.specs.List.{sum_by}
+use Rattle.std.proofs.Math.Nat.{mul-le-mul_right}
+use Rattle.std.proofs.lemmas.Bool.{cases_eq}
+use Rattle.std.proofs.lemmas.Int.{ints, unsigned_abs-mul}
+use Rattle.std.proofs.lemmas.List.{get_or_default, get_or-set_same, get_or-set_other, length-set}
+use Rattle.std.proofs.lemmas.List.Elements.{Contains-get_or}
+use Rattle.std.proofs.lemmas.List.Folds.{sum_by-replicate}
+use Rattle.std.proofs.lemmas.List.Sums.{sum_by-set}
 use Rattle.go_grid.specs.declared.grid.Cell.{Cell}
-use Rattle.go_grid.specs.declared.grid.Cell.TheVariants.{Empty}
-use Rattle.go_grid.specs.Board.{Board}
+use Rattle.go_grid.specs.declared.grid.Colour.{Colour}
+use Rattle.go_grid.specs.Board.{Board, other}
 use Rattle.go_grid.specs.Region.{Region}
+use Rattle.go_play.specs.Place.{IsPlaced}
+use Rattle.whole_rules.specs.declared.money.Purses.{Purses}
+use Rattle.whole_rules.specs.declared.money.Token.{Token}
+use Rattle.whole_rules.specs.declared.money.Token.TheVariants as token
+use Rattle.whole_rules.specs.declared.states.Move.{Move}
+use Rattle.whole_rules.specs.declared.states.Move.TheVariants.{Stone, Spend, Half}
+use Rattle.whole_rules.specs.declared.states.MoveError.{MoveError}
 use Rattle.whole_rules.specs.PlainRecursion.{MoverWins, MoverLoses}
-use Rattle.whole_rules.specs.WholeGame.{Whole}
-use Rattle.whole_rules.specs.WholeGame as whole
+use Rattle.whole_rules.specs.Purses.{purse, paid_in, paid_out, halved}
+use Rattle.whole_rules.specs.WholeGame.{Whole, Applies, IsMove, IsLegal, Leads, after}
+use Rattle.whole_rules.proofs.WallLaws.{Keeps, keeps_move}
+use Rattle.local_play.specs.LocalPlay.{IsLocalMove, IsNumberTaken as IsLocalNumberTaken}
+use Rattle.local_graph.specs.declared.graph.Edge.{Edge}
+use Rattle.local_graph.specs.FiniteLocalPlay.{HasNoCycle}
 use Rattle.local_graph.specs.Graph.{Graph}
+use Rattle.local_graph.specs.inner.Graph.{edges_at}
+use Rattle.region_cut.specs.Cut.{lowest}
 use Rattle.region_cut.specs.LocalBoard.{HoldsPosition}
+use Rattle.region_cut.proofs.ApartLemmas.{only_region}
+use Rattle.region_cut.proofs.FreedomLemmas.{point_contested}
+use Rattle.region_cut.proofs.LocalBoardLemmas.{placing_is_local}
 use Rattle.short_games.specs.Tree.{Tree, tree_at}
 use Rattle.short_games.specs.Number.{num}
 use Rattle.short_games.specs.Sum.{◌+ᵍ◌, total}
-use Rattle.game_store.specs.Meaning.{pick}
 use Rattle.short_games.proofs.NumberLaws.{num-double}
+use Rattle.game_store.specs.Meaning.{pick}
+use Rattle.game_canon.specs.Outcomes.{AreWithin}
 use Rattle.sum_outcome.specs.Players.{LosesGame}
+use Rattle.sum_outcome.specs.Sums.{AreBounds, IsBounded, sum_tree}
 use Rattle.local_value.specs.PositionTree.{IsValueOf}
-use Rattle.sum_outcome.specs.Sums.{sum_tree}
-use Rattle.endgame_solver.specs.Regions.{region_at}
-use Rattle.endgame_solver.specs.inner.Regions.{Spot, AreGraphs, spot_in, moves_at, IsPointOf, HasCells, IsShown}
-use Rattle.endgame_solver.specs.SumGame.{State, balance}
-use Rattle.endgame_solver.specs.inner.Valued.{AreValued}
-use Rattle.endgame_solver.specs.inner.WholeParts.{AllShown, IsSeenAs}
-use Rattle.endgame_solver.specs.inner.Held.{AreSolved, IsAt, AreSummed, place_at}
-use Rattle.endgame_solver.specs.Solved.{ArePresent, HoldsCells, balance_units}
-use Rattle.endgame_solver.proofs.BoardLaws.{enough}
-use Rattle.endgame_solver.proofs.ValueSumLaws.{decided_by_values}
+use Rattle.local_value.proofs.GraphLaws.{IsEdgeFor, edge_of, move_of, next_place, taken_less}
+use Rattle.endgame_solver.specs.Regions.{no_region, region_at}
+use Rattle.endgame_solver.specs.Solved.{ArePresent, IsValueId, balance_units}
+use Rattle.endgame_solver.specs.SumGame.{balance, halves}
+use Rattle.endgame_solver.specs.inner.Held.{AreModest, AreSolved, AreSolvedAt, AreSummed, HasRoom, IsAt, IsStoneEdge, ids_at, most_units, place_at, token_left}
+use Rattle.endgame_solver.specs.inner.Regions.{graph_at, spot_in, HasCells, IsShown}
+use Rattle.endgame_solver.proofs.BookkeepingLaws.{halved-is, own-less, paid-in, paid-out, token-in, token-out}
+use Rattle.endgame_solver.proofs.WholeLaws.{IsHeld, decided_by_values, held_after, one_cells, position_in}
 
--- the places of the regions from `k` on
-pub spots : ℕ → List ℕ → List Spot
-spots k [] = []
-spots k (i ∷ is) = spot_in k i ∷ spots (suc k) is
+-- The numbers are small: purses, their balance, and the values in a sum.
+pub small_balance : (m : Purses) → AreModest m → unsigned_abs (balance m) ≤ 2 ^ 45
+small_balance m few = size m.black m.white (halves m.token) few.black few.white (half m.token)
+  where
+    half : (t : Token) → unsigned_abs (halves t) ≤ 1
+    half token.Nobody = omega arith
+    half token.Black = omega arith
+    half token.White = omega arith
 
-spots-long : (k : ℕ) (is : List ℕ) → length (spots k is) ≡ length is
-unfolding spots
-spots-long k [] = refl
-spots-long k (i ∷ is) = ap suc (spots-long (suc k) is)
+    size : (b w : ℕ) (h : ℤ) → b ≤ 2 ^ 42 → w ≤ 2 ^ 42 → unsigned_abs h ≤ 1
+        → unsigned_abs (((pos b +ℤ neg_ℤ (pos w)) +ℤ (pos b +ℤ neg_ℤ (pos w))) +ℤ h) ≤ 2 ^ 45
+    size b w h hb hw hh = omega (arith, ints, hb, hw, hh)
 
-from_zero : (j : ℕ) → j ≡ 0 + j
-from_zero j = omega arith
+small_units : (m : Purses) → AreModest m → unsigned_abs (balance m *ℤ pos (2 ^ 59)) ≤ 2 ^ 110
+small_units m few = times (balance m) (small_balance m few)
+  where
+    times : (x : ℤ) → unsigned_abs x ≤ 2 ^ 45 → unsigned_abs (x *ℤ pos (2 ^ 59)) ≤ 2 ^ 110
+    times x h = omega (arith, h, unsigned_abs-mul x (pos (2 ^ 59)))
+
+bounds : (Ts : List Tree) (ids : List ℕ) → ((j : ℕ) → j < length ids → AreWithin most_units (tree_at Ts (get_or ids j 0)))
+    → AreBounds (pick Ts ids) (replicate (length ids) most_units)
+bounds Ts [] w = tt
+bounds Ts (id ∷ ids) w = (w 0 (omega arith), bounds Ts ids (λ j lt. w (suc j) (omega (arith, lt))))
+
+-- the games and the number fit a search
+bounded : (Ts : List Tree) (ids : List ℕ) (x : ℤ) → length ids ≤ 625 → ((j : ℕ) → j < length ids → AreWithin most_units (tree_at Ts (get_or ids j 0)))
+    → unsigned_abs x ≤ 2 ^ 110 → IsBounded (pick Ts ids) x
+bounded Ts ids x few w small =
+    let most : length ids * most_units ≤ 625 * most_units = mul-le-mul_right most_units few in
+    let total : sum (replicate (length ids) most_units) ≡ length ids * most_units = sum_by-replicate (λ x. x) (length ids) most_units in
+    (replicate (length ids) most_units, bounds Ts ids w, omega (arith, few, small, total, most))
 
 -- a number over a greater power of two
 num-scaled : (d e : ℕ) (m : ℤ) → num (d + e) (m *ℤ pos (2 ^ d)) ≡ num e m
@@ -56,77 +97,292 @@ num-scaled (suc d) e m =
     twice : (m : ℤ) (n : ℕ) → m *ℤ pos (n + n) ≡ (m *ℤ pos n) +ℤ (m *ℤ pos n)
     twice m n = grind (arith, ints)
 
-module _ (g : Board) (regions : List Region) (graphs : List Graph) (are : AreGraphs g regions graphs) where
-  abbrev Shown : Board → ℕ → Spot → Type 0
-  Shown h k q = IsShown g regions graphs h k q
+-- what an edge does in its region
+record IsLocalStone (g : Board) (regions : List Region) (graphs : List Graph) (places : List ℕ) (s : Whole) (k : ℕ) (e : Edge) : Type 0 where
+  cells : List Cell
+  next : List Cell
+  has : HasCells regions graphs k (spot_in k (place_at places k)) cells
+  holds : HoldsPosition g (region_at regions k) cells s.board
+  move : IsLocalMove (region_at regions k).touch cells s.side e.place next
+  edge : IsEdgeFor (graph_at graphs k).positions cells next s.side e.place e.taken e
 
-  all_shown : (h : Board) (k : ℕ) (is : List ℕ) → ((j : ℕ) → j < length is → Shown h (k + j) (spot_in (k + j) (place_at is j)))
-      → AllShown Spot (moves_at graphs) (IsPointOf regions) Shown h k (spots k is)
-  unfolding spots
-  all_shown h k [] w = tt
-  all_shown h k (i ∷ is) w = (
-    subst (λ z. Shown h z (spot_in z i)) (omega arith) (w 0 (omega arith)),
-    all_shown h (suc k) is (λ j lt. subst (λ z. Shown h z (spot_in z (place_at is j))) (omega arith) (w (suc j) (omega (arith, lt)))),
-  )
+-- what a stone leads to
+pub record StoneLeads (g : Board) (regions : List Region) (graphs : List Graph) (places : List ℕ) (s t : Whole) (k : ℕ) (e : Edge) : Type 0 where
+  pub held : IsAt g regions graphs (set places k e.next) t
+  pub purses : t.purses ≡ paid_in s.side e.taken s.purses
+  pub turn : t.side ≡ other s.side
 
-  -- the value of what a place holds, in a region from the k-th on
-  abbrev Worth : List Tree → ℕ → ℕ → ℕ → Type 0
-  Worth Ts k i id = (cells : List Cell) × HasCells regions graphs k (spot_in k i) cells × IsValueOf (region_at regions k).touch cells (tree_at Ts id)
+module _ {g : Board} {regions : List Region} {graphs : List Graph} {values : List (List ℕ)} {Ts : List Tree}
+    (are : AreSolved g regions graphs values Ts)
+    {s : Whole} {places : List ℕ} (at : IsAt g regions graphs places s) where
+  pub place_inside : (k : ℕ) → k < length regions → place_at places k < length (ids_at values k)
+  place_inside k lt = omega (arith, (at.shown k lt).1.at.inside, (are.valued k lt).long)
 
-  valued : (Ts : List Tree) (k : ℕ) (is ids : List ℕ) → length ids ≡ length is → ((j : ℕ) → j < length is → Worth Ts (k + j) (place_at is j) (get_or ids j 0))
-      → AreValued regions graphs Ts k (spots k is) ids
-  unfolding spots
-  valued Ts k [] [] e w = tt
-  valued Ts k [] (id ∷ ids) e w = absurd (omega (arith, e))
-  valued Ts k (i ∷ is) [] e w = absurd (omega (arith, e))
-  valued Ts k (i ∷ is) (id ∷ ids) e w = (
-    subst (λ z. Worth Ts z i id) (omega arith) (w 0 (omega arith)),
-    valued Ts (suc k) is ids (omega (arith, e)) (λ j lt. subst (λ z. Worth Ts z (place_at is j) (get_or ids j 0)) (omega arith) (w (suc j) (omega (arith, lt)))),
-  )
+  -- ids of the sum are those of the present values
+  pub present : (ids : List ℕ) → AreSummed regions values places ids → ArePresent (record { regions = regions; trees = Ts; state = s }) ids
+  present ids summed = record {
+    many = summed.many;
+    each = λ k lt.
+        let (cells, has, holds) = at.shown k lt in
+        let there = sym (summed.each k lt) in
+        let known = subst (λ z. z < length Ts) there ((are.valued k lt).known (place_at places k) (place_inside k lt)) in
+        let value = subst (λ z. IsValueOf (region_at regions k).touch cells (tree_at Ts z)) there
+        ((are.valued k lt).each (place_at places k) cells has.at) in
+        (cells, (holds.long, holds.local), (known, value));
+  }
 
-module _ (g : Board) (regions : List Region) (graphs : List Graph) (values : List (List ℕ)) (Ts : List Tree) (are : AreSolved g regions graphs values Ts) where
-  abbrev seen_as : (s : Whole) (places : List ℕ) → State Spot
-  seen_as s places = record { parts = spots 0 places; purses = s.purses; side = s.side }
+  fits_within : (ids : List ℕ) → AreSummed regions values places ids → (x : ℤ) → unsigned_abs x ≤ 2 ^ 110 → IsBounded (pick Ts ids) x
+  fits_within ids summed x small = bounded Ts ids x (omega (arith, summed.many, are.few)) (λ j lt.
+      let known : j < length regions = omega (arith, lt, summed.many) in
+      subst (λ z. AreWithin most_units (tree_at Ts z)) (sym (summed.each j known))
+      (are.within j (place_at places j) known (place_inside j known))) small
 
-  -- Who loses is the sign of the sum of the values and of the balance.
-  decided : (s : Whole) (places ids : List ℕ) → IsAt g regions graphs places s → length ids ≡ length places
-      → ((j : ℕ) → j < length places → Worth g regions graphs are.cut Ts j (place_at places j) (get_or ids j 0))
-      → (MoverWins Whole whole.Leads s ⊎ MoverLoses Whole whole.Leads s)
-      × (MoverLoses Whole whole.Leads s ↔ LosesGame s.side (sum_tree Ts ids (balance_units s)))
-  decided s places ids at e w =
-      let n = enough g regions graphs are.cut in
-      let seen : IsSeenAs Spot (moves_at graphs) (IsPointOf regions) (IsShown g regions graphs) (length regions) s (seen_as s places) = record {
-        count = spots-long 0 places ∙ at.many;
-        shown = all_shown g regions graphs are.cut s.board 0 places (λ j lt. subst (λ z. IsShown g regions graphs s.board z (spot_in z (place_at places j))) (from_zero j) (at.shown j (omega (arith, lt, at.many))));
-        purses = refl;
-        turn = refl;
-      } in
-      let d = decided_by_values g regions graphs are.cut Ts n.0 n.1 are.settled s (seen_as s places) ids (record { walls = at.walls; contested = at.contested }) seen
-      (valued g regions graphs are.cut Ts 0 places ids e (λ j lt. subst (λ z. Worth g regions graphs are.cut Ts z (place_at places j) (get_or ids j 0)) (from_zero j) (w j lt))) in
+  -- the sum fits a search, whatever small number is beside it
+  pub fits : (ids : List ℕ) → AreSummed regions values places ids → (m : Purses) → AreModest m → IsBounded (pick Ts ids) (balance m *ℤ pos (2 ^ 59))
+  fits ids summed m few = fits_within ids summed (balance m *ℤ pos (2 ^ 59)) (small_units m few)
+
+  keeps : Keeps g s
+  keeps = record { walls = at.walls; contested = at.contested }
+
+  calm : (r : Region) → Contains regions r → HasNoCycle r.touch r.cells
+  calm r (k, lt, e) = subst (λ x. HasNoCycle x.touch x.cells) (get_or_default regions k no_region r lt ∙ e) (are.cut.each k lt).no_cycle
+
+  -- Who loses is the sign of the sum of any ids of the present values and of the balance.
+  pub decided : (ids : List ℕ) → ArePresent (record { regions = regions; trees = Ts; state = s }) ids
+      → (MoverWins Whole Leads s ⊎ MoverLoses Whole Leads s) × (MoverLoses Whole Leads s ↔ LosesGame s.side (sum_tree Ts ids (balance_units s)))
+  decided ids present =
+      let d = decided_by_values g are.settled regions are.cut.cut calm s Ts ids keeps present.many (λ j lt.
+      let (cells, has, holds) = at.shown j lt in
+      let (others, here, (known, value)) = present.each j lt in
+      let same = one_cells (region_at regions j) others cells s.board here (holds.long, holds.local) in
+      (cells, (has.at.reachable, holds), subst (λ x. IsValueOf (region_at regions j).touch x (tree_at Ts (get_or ids j 0))) same value)) in
       let same : num 1 (balance s.purses) ≡ num 60 (balance_units s) = sym (num-scaled 59 1 (balance s.purses)) in (
         d.0,
-        (λ h. subst (λ t. LosesGame s.side (total (pick Ts ids) +ᵍ t)) same (d.1.0 h), λ h. d.1.1 (subst (λ t. LosesGame s.side (total (pick Ts ids) +ᵍ t)) (sym same) h)),
+        (
+          λ h. subst (λ t. LosesGame s.side (total (pick Ts ids) +ᵍ t)) same (d.1.0 h),
+          λ h. d.1.1 (subst (λ t. LosesGame s.side (total (pick Ts ids) +ᵍ t)) (sym same) h),
+        ),
       )
 
-  -- the same of the ids that are kept
-  pub decided_now : (s : Whole) (places ids : List ℕ) → IsAt g regions graphs places s → AreSummed regions values places ids
-      → (MoverWins Whole whole.Leads s ⊎ MoverLoses Whole whole.Leads s)
-      × (MoverLoses Whole whole.Leads s ↔ LosesGame s.side (sum_tree Ts ids (balance_units s)))
-  decided_now s places ids at summed = decided s places ids at (summed.many ∙ sym at.many) (λ j lt.
-      let known : j < length regions = omega (arith, lt, at.many) in
-      let shown = at.shown j known in
-      (shown.0, shown.1, subst (λ z. IsValueOf (region_at regions j).touch shown.0 (tree_at Ts z)) (sym (summed.each j known)) ((are.valued j known).each (place_at places j) shown.0 shown.1.at)))
+  local_stone : {p k : ℕ} {e : Edge} → IsStoneEdge regions graphs places s.side p k e → IsLocalStone g regions graphs places s k e
+  local_stone {p} {k} {e} x =
+      let (cells, has, holds) = at.shown k x.known in
+      let (next, move, edge) = move_of (region_at regions k) (graph_at graphs k) (are.cut.each k x.known)
+      (place_at places k) cells e has.at x.edge.among in
+      record {
+        cells = cells;
+        next = next;
+        has = has;
+        holds = holds;
+        move = subst (λ d. IsLocalMove (region_at regions k).touch cells d e.place next) x.edge.stone.colour move;
+        edge = subst (λ d. IsEdgeFor (graph_at graphs k).positions cells next d e.place e.taken e) x.edge.stone.colour edge;
+      }
 
-  -- and of any ids of the present values
-  pub decided_present : (s : Whole) (places ids : List ℕ) → IsAt g regions graphs places s → ArePresent (record { regions = regions; trees = Ts; state = s }) ids
-      → (MoverWins Whole whole.Leads s ⊎ MoverLoses Whole whole.Leads s)
-      × (MoverLoses Whole whole.Leads s ↔ LosesGame s.side (sum_tree Ts ids (balance_units s)))
-  decided_present s places ids at present = decided s places ids at (present.many ∙ sym at.many) (λ j lt.
-      let known : j < length regions = omega (arith, lt, at.many) in
-      let shown = at.shown j known in
-      let here = present.each j known in
-      let same = one_cells (region_at regions j) here.0 shown.0 s.board here.1 shown.2 in
-      (shown.0, shown.1, subst (λ x. IsValueOf (region_at regions j).touch x (tree_at Ts (get_or ids j 0))) same here.2.1))
+  -- an edge leads to a place of the graph
+  pub stone_next : {p k : ℕ} {e : Edge} → IsStoneEdge regions graphs places s.side p k e → e.next < length (graph_at graphs k).positions
+  stone_next x = (local_stone x).edge.inside
+
+  -- and takes few stones
+  pub stone_taken : {p k : ℕ} {e : Edge} → IsStoneEdge regions graphs places s.side p k e → e.taken ≤ 33
+  stone_taken {p} {k} {e} x =
+      let of = are.cut.each k x.known in
+      omega (arith, taken_less (region_at regions k) (graph_at graphs k) of (place_at places k) e x.edge.among, of.few)
+
+  -- an edge is a legal stone
+  pub stone_legal : {p k : ℕ} {e : Edge} → IsStoneEdge regions graphs places s.side p k e → IsLegal s (Stone p)
+  stone_legal {p} {k} {e} x =
+      let l = local_stone x in
+      let r = region_at regions k in
+      let stone = x.edge.stone in
+      let among = Contains-get_or regions k no_region x.known in
+      let plays = are.cut.local r among in
+      let (h, placed) = (plays.legal l.cells s.board s.side e.place l.holds stone.inside).1 (l.next, l.move) in
+      let local = plays.local l.cells l.next s.board h s.side e.place l.holds stone.inside placed l.move in
+      let contested = point_contested g r (are.cut.cut.each r among) p
+      (subst (Contains r.points) stone.point (Contains-get_or r.points e.place 0 stone.inside)) in
+      let placed' = subst (λ z. IsPlaced s.board z s.side h) stone.point placed in
+      (after h (paid_in s.side e.taken s.purses) s, ((at.contested p).1 contested, (h, (e.taken, placed', (local.taken e.taken).1 l.edge.number, refl))))
+
+  -- a stone is an edge
+  pub stone_edge : (t : Whole) (p : ℕ) → IsMove s (Stone p) t → (k : ℕ) × ((e : Edge) × IsStoneEdge regions graphs places s.side p k e)
+  stone_edge t p (mark, (h, (n, placed, number, is))) =
+      let (k, known, (i, short, there), alone) = only_region g regions are.cut.cut p no_region ((at.contested p).0 mark) in
+      let r = region_at regions k in
+      let here : get_or r.points i 0 ≡ p = get_or_default r.points i 0 p short ∙ there in
+      let (cells, has, holds) = at.shown k known in
+      let play = are.cut.cut.each r (Contains-get_or regions k no_region known) in
+      let (next, move, local) = placing_is_local g r are.settled play cells s.board holds i short s.side h
+      (subst (λ z. IsPlaced s.board z s.side h) (sym here) placed) in
+      let (e, among, edge) = edge_of r (graph_at graphs k) (are.cut.each k known) (place_at places k) cells next s.side i n has.at move
+      ((local.taken n).0 number) in
+      let inside = subst (λ z. z < length r.points) (sym edge.place) short in
+      let point = ap (λ z. get_or r.points z 0) edge.place ∙ here in
+      (k, (e, record { known = known; edge = record { stone = record { inside = inside; point = point; colour = edge.colour }; among = among } }))
+
+  pub stone_leads : (t : Whole) {p k : ℕ} {e : Edge} → IsStoneEdge regions graphs places s.side p k e → IsMove s (Stone p) t
+      → StoneLeads g regions graphs places s t k e
+  stone_leads t {p} {k} {e} x m =
+      let (mark, (h, (n, taken, number, is))) = m in
+      let l = local_stone x in
+      let r = region_at regions k in
+      let placed = subst (λ z. IsPlaced s.board z s.side h) (sym x.edge.stone.point) taken in
+      let plays = are.cut.local r (Contains-get_or regions k no_region x.known) in
+      let local = plays.local l.cells l.next s.board h s.side e.place l.holds x.edge.stone.inside placed l.move in
+      let number' : IsLocalNumberTaken l.cells l.next n = (local.taken n).0 number in
+      let same : n ≡ e.taken = omega (arith, number', l.edge.number) in
+      let own : IsHeld g regions s.board k (position_in k l.cells) = record { region = refl; known = x.known; reachable = l.has.at.reachable; holds = l.holds } in
+      let (now, others) = held_after g are.settled regions are.cut.cut s.board h k (position_in k l.cells) l.next s.side e.place
+      (get_or r.points e.place 0) own placed l.move local in
+      let there = next_place r (graph_at graphs k) (are.cut.each k x.known)
+      (place_at places k) l.cells l.next s.side e.place e.taken e l.has.at l.move l.edge in
+      let kept = keeps_move g are.settled s t (Stone p) keeps m in
+      record {
+        held = record {
+          many = length-set places k e.next ∙ at.many;
+          walls = kept.walls;
+          contested = kept.contested;
+          shown = λ j lt. subst (λ z. IsShown g regions graphs z.board j (spot_in j (place_at (set places k e.next) j))) (sym is) (elim (cases_eq j k) [
+            | inl j≡k ↦ subst (λ z. IsShown g regions graphs h z (spot_in z (place_at (set places k e.next) z))) (sym j≡k)
+                (subst (λ z. IsShown g regions graphs h k (spot_in k z)) (sym (get_or-set_same places k e.next 0 (omega (arith, x.known, at.many))))
+                (l.next, record { region = refl; known = x.known; at = there }, now.holds))
+            | inr ne ↦
+                let (cells, has, holds) = at.shown j lt in
+                let still = others j (position_in j cells) ne (record { region = refl; known = lt; reachable = has.at.reachable; holds = holds }) in
+                subst (λ z. IsShown g regions graphs h j (spot_in j z)) (sym (get_or-set_other places k j e.next 0 ne)) (cells, has, still.holds)
+          ]);
+        };
+        purses = ap (λ z. z.purses) is ∙ ap (λ z. paid_in s.side z s.purses) same;
+        turn = ap (λ z. z.side) is;
+      }
+
+  -- a move on the purses alone
+  pub money_leads : (m : Move) (ms : Purses) (t : Whole) → IsMove s m t → t ≡ after s.board ms s → IsAt g regions graphs places t
+  money_leads m ms t move is =
+      let kept = keeps_move g are.settled s t m keeps move in
+      record {
+        many = at.many;
+        walls = kept.walls;
+        contested = kept.contested;
+        shown = λ j lt. subst (λ z. IsShown g regions graphs z.board j (spot_in j (place_at places j))) (sym is) (at.shown j lt);
+      }
+
+  -- the purses stay below their bound
+  stone_room : HasRoom graphs places s → (t : Whole) {p k : ℕ} {e : Edge} → IsStoneEdge regions graphs places s.side p k e
+      → StoneLeads g regions graphs places s t k e → HasRoom graphs (set places k e.next) t
+  stone_room room t {p} {k} {e} x leads =
+      let short : k < length places = omega (arith, x.known, at.many) in
+      let here = room.each k short in
+      let among = subst (λ i. Contains (edges_at (graph_at graphs k).edges i) e) (sym here.1) x.edge.among in
+      let (j, lower, there) = (are.cut.each k x.known).order.ends_first (get_or room.ranks k 0) e here.0 among in
+      let short' : k < length room.ranks = omega (arith, short, room.many) in
+      let sums = sum_by-set (λ n. n) room.ranks k j 0 short' in
+      let less : sum_by (λ n. n) (set room.ranks k j) + 1 ≤ sum_by (λ n. n) room.ranks = omega (arith, sums, lower) in
+      let few = stone_taken x in
+      record {
+        ranks = set room.ranks k j;
+        many = length-set room.ranks k j ∙ room.many ∙ sym (length-set places k e.next);
+        each = λ i lt. elim (cases_eq i k) as (λ _. Ranked j i) [
+          | inl i≡k ↦
+              subst (Ranked j) (sym i≡k)
+              (rw (get_or-set_same room.ranks k j 0 short', get_or-set_same places k e.next 0 short) (omega (arith, lower, here.0), there))
+          | inr ne ↦
+              rw (get_or-set_other room.ranks k i j 0 ne, get_or-set_other places k i e.next 0 ne)
+              (room.each i (omega (arith, lt, length-set places k e.next)))
+        ];
+        room = λ c. subst (λ m. purse c m + 33 * sum_by (λ n. n) (set room.ranks k j) + token_left m.token ≤ 2 ^ 41) (sym leads.purses)
+            (omega (
+              arith,
+              few,
+              less,
+              room.room c,
+              paid-in c s.side e.taken s.purses,
+              own-less c s.side e.taken,
+              ap token_left
+                  (token-in s.side e.taken s.purses),
+            ));
+      }
     where
-      one_cells : (r : Region) (a b : List Cell) (h : Board) → HoldsCells h r a → HoldsPosition g r b h → a ≡ b
-      one_cells r a b h x y = ext_get_or Empty a b (x.0 ∙ sym y.long) (λ i lt. let short : i < length r.points = omega (arith, lt, x.0) in sym (x.1 i short) ∙ y.local i short)
+      Ranked : ℕ → ℕ → Type 0
+      Ranked j i = (get_or (set room.ranks k j) i 0 < length (graph_at graphs i).order)
+          × (get_or (graph_at graphs i).order (get_or (set room.ranks k j) i 0) 0 ≡ place_at (set places k e.next) i)
+
+-- Each move keeps a solved game.
+module _ {regions : List Region} {graphs : List Graph} {values : List (List ℕ)} {places ids : List ℕ} {Ts : List Tree} {s : Whole}
+    (kept : AreSolvedAt regions graphs values places ids Ts s) where
+  -- the sum with another place of a region
+  pub summed_set : (k i : ℕ) → k < length regions → AreSummed regions values (set places k i) (set ids k (get_or (ids_at values k) i 0))
+  summed_set k i known =
+      let summed = kept.summed in
+      record {
+        many = length-set ids k (get_or (ids_at values k) i 0) ∙ summed.many;
+        each = λ j lt. elim (cases_eq j k) as (λ _. get_or (set ids k (get_or (ids_at values k) i 0)) j 0 ≡ get_or (ids_at values j) (place_at (set places k i) j) 0) [
+          | inl e ↦ subst (λ z. get_or (set ids k (get_or (ids_at values k) i 0)) z 0 ≡ get_or (ids_at values z) (place_at (set places k i) z) 0) (sym e)
+              (get_or-set_same ids k (get_or (ids_at values k) i 0) 0 (omega (arith, known, summed.many))
+              ∙ ap (λ z. get_or (ids_at values k) z 0) (sym (get_or-set_same places k i 0 (omega (arith, known, kept.at.many)))))
+          | inr ne ↦ get_or-set_other ids k j (get_or (ids_at values k) i 0) 0 ne ∙ summed.each j lt
+              ∙ ap (λ z. get_or (ids_at values j) z 0) (sym (get_or-set_other places k j i 0 ne))
+        ];
+      }
+
+  pub kept_stone : (t : Whole) {p k : ℕ} {e : Edge} → IsStoneEdge regions graphs places s.side p k e → IsMove s (Stone p) t
+      → AreSolvedAt regions graphs values (set places k e.next) (set ids k (get_or (ids_at values k) e.next 0)) Ts t
+  kept_stone t {p} {k} {e} x m =
+      let leads = stone_leads kept.solved kept.at t x m in
+      record {
+        board = kept.board;
+        solved = kept.solved;
+        at = leads.held;
+        summed = summed_set k e.next x.known;
+        room = stone_room kept.solved kept.at kept.room t x leads;
+      }
+
+  -- a stone has an edge
+  pub some_edge : (p : ℕ) (t : Whole) → IsMove s (Stone p) t → ((k : ℕ) (e : Edge) → ¬ IsStoneEdge regions graphs places s.side p k e) → ⊥
+  some_edge p t m none = let (k, (e, x)) = stone_edge kept.solved kept.at t p m in none k e x
+
+  -- what is in a purse comes out of it, or from the token
+  kept_money : (m : Move) (ms : Purses) (t : Whole) → IsMove s m t → t ≡ after s.board ms s
+      → ((c : Colour) → purse c ms + token_left ms.token ≤ purse c s.purses + token_left s.purses.token)
+      → AreSolvedAt regions graphs values places ids Ts t
+  kept_money m ms t move is less = record {
+    board = kept.board;
+    solved = kept.solved;
+    at = money_leads kept.solved kept.at m ms t move is;
+    summed = kept.summed;
+    room = record {
+      ranks = kept.room.ranks;
+      many = kept.room.many;
+      each = kept.room.each;
+      room = λ c. subst (λ z. purse c z.purses + 33 * sum_by (λ n. n) kept.room.ranks + token_left z.purses.token ≤ 2 ^ 41) (sym is)
+          (omega (arith, kept.room.room c, less c));
+    };
+  }
+
+  -- a move that is no stone, or is refused
+  pub kept_applied : (m : Move) → ((p : ℕ) → m ≡ Stone p → ⊥) → (t : Whole) (r : Result Unit MoveError) → Applies s m t r → AreSolvedAt regions graphs values places ids Ts t
+  kept_applied (Stone p) not t r a = absurd (not p refl)
+  kept_applied Spend not t (Ok u) a = kept_money Spend (paid_out s.side s.purses) t a a.1
+      (λ c. omega (arith, paid-out c s.side s.purses a.0, ap token_left (token-out s.side s.purses)))
+  kept_applied Half not t (Ok u) a = kept_money Half (halved s.side s.purses) t a a.1
+      (λ c. let w = halved-is c s.side s.purses.black s.purses.white s.purses.token in omega (arith, w.0, w.1))
+  kept_applied Spend not t (Err e) a = subst (AreSolvedAt regions graphs values places ids Ts) (sym a.0) kept
+  kept_applied Half not t (Err e) a = subst (AreSolvedAt regions graphs values places ids Ts) (sym a.0) kept
+
+  -- What is reported of a region.
+  pub value_is : (k : ℕ) → k < length regions → IsValueId Ts (region_at regions k) (region_at regions k).cells (get_or (ids_at values k) 0 0)
+  value_is k lt =
+      let of = (kept.solved.cut.each k lt).graph in
+      let are = kept.solved.valued k lt in (
+        are.known 0 (omega (arith, are.long, of.some)),
+        are.each 0 (region_at regions k).cells
+            (record { inside = of.some; reachable = ([], refl); packed = of.first }),
+      )
+
+  -- a region's lowest point is one of the board
+  pub lowest_on_board : (k : ℕ) → k < length regions → lowest (region_at regions k) < length s.board.cells
+  lowest_on_board k lt =
+      let r = region_at regions k in
+      let here : Contains regions r = Contains-get_or regions k no_region lt in
+      let contested = point_contested kept.board r (kept.solved.cut.cut.each r here) (lowest r)
+      (Contains-get_or r.points 0 0 (kept.solved.proper r here).some) in
+      omega (arith, contested.0, kept.at.walls.long)

@@ -1,210 +1,531 @@
--- The moves of a whole state are the local moves of its parts and the moves on purses and token.
-use Rattle.std.proofs.Common.{ℕ, suc, ◌≡◌, ◌⊎◌, ◌↔◌, ◌+◌, ◌<◌, ◌≤◌, arith, inl, inr, refl, sym, ap, ◌∙◌, subst, List, [], ◌∷◌, length}
-use Rattle.std.proofs.lemmas.Bool.{cases_eq}
+-- The whole game over its regions of play: its moves are the local moves of the regions and those on purses and token, and who
+-- loses is the sign of a sum.
+use Rattle.std.proofs.Common.{ℕ, zero, suc, ◌≡◌, ◌⊎◌, ◌↔◌, ◌+◌, ◌^◌, ◌<◌, ◌≤◌, arith, inl, inr, refl, sym, ap, ◌∙◌, subst, List, [], ◌∷◌, ◌++◌, length, get_or, Contains, length-set}
+use Rattle.std.proofs.lemmas.Bool.{cases_eq, cases_lt}
+use Rattle.std.proofs.lemmas.List.{ext_get_or, get_or_default}
+use Rattle.std.proofs.lemmas.List.Elements.{Contains-get_or}
+use Rattle.std.proofs.lemmas.List.Sums.{count_by-le-length}
+use Rattle.std.proofs.Math.Nat.{pow-le-pow_right}
+use Rattle.go_grid.specs.declared.grid.Cell.{Cell}
+use Rattle.go_grid.specs.declared.grid.Cell.TheVariants.{Empty}
 use Rattle.go_grid.specs.declared.grid.Colour.{Colour}
-use Rattle.go_grid.specs.Board.{Board, other}
+use Rattle.go_grid.specs.declared.grid.Colour.TheVariants.{Black, White}
 use Rattle.go_grid.specs.Chain.{IsSettled}
+use Rattle.go_grid.specs.Board.{Board, other, stone}
+use Rattle.go_grid.specs.Region.{Region}
+use Rattle.go_grid.proofs.PlayLemmas.{long_after}
 use Rattle.go_play.specs.Place.{IsPlaced, IsNumberTaken}
+use Rattle.benson_life.specs.Walls.{WallsStand}
+use Rattle.whole_rules.specs.declared.money.Purses.{Purses}
+use Rattle.whole_rules.specs.declared.states.Move.{Move}
 use Rattle.whole_rules.specs.declared.states.Move.TheVariants.{Stone, Spend, Half}
-use Rattle.whole_rules.specs.Purses.{purse, paid_in, paid_out, halved}
+use Rattle.whole_rules.specs.Purses.{paid_in, paid_out, halved}
 use Rattle.whole_rules.specs.PlainRecursion.{MoverWins, MoverLoses}
+use Rattle.whole_rules.specs.Walls.{Plays}
 use Rattle.whole_rules.specs.WholeGame.{Whole}
 use Rattle.whole_rules.specs.WholeGame as whole
-use Rattle.benson_life.specs.Walls.{WallsStand}
-use Rattle.endgame_solver.proofs.MatchLaws.{Matches, wins-back, loses-forth, loses-back}
-use Rattle.whole_rules.proofs.WallLaws.{Keeps, keeps_move}
-use Rattle.sum_outcome.specs.Players.{LosesGame}
-use Rattle.local_value.specs.LocalGame.{Step, TakesAtMost}
-use Rattle.endgame_solver.specs.SumGame.{State, Leads, StepIn, AllEnd, state_tree}
-use Rattle.endgame_solver.specs.inner.WholeParts.{OthersStay, IsLocalPlay, AllShown, IsSeenAs}
-use Rattle.endgame_solver.proofs.Decomposition.{decomposes}
+use Rattle.whole_rules.proofs.WallLaws.{Keeps, keeps_move, keeps_start}
+use Rattle.short_games.specs.Tree.{Tree, Trees, node, none, more, tree_at}
+use Rattle.short_games.specs.Order.{◌≡ᵍ◌}
+use Rattle.short_games.specs.Number.{num}
+use Rattle.short_games.specs.Sum.{◌+ᵍ◌, total}
+use Rattle.short_games.proofs.NumberLaws.{num-plus_le, num-le_plus}
+use Rattle.short_games.proofs.OrderLaws.{same-refl, same-sym, same-trans}
+use Rattle.short_games.proofs.SumLaws.{same-plus}
+use Rattle.game_store.specs.Meaning.{pick}
+use Rattle.sum_outcome.specs.Players.{credit, LosesGame}
+use Rattle.sum_outcome.proofs.PlayerLaws.{loses-same}
+use Rattle.local_play.specs.LocalPlay.{is_stone, IsLocalMove}
+use Rattle.local_graph.specs.declared.cycle.CycleMove.{CycleMove}
+use Rattle.local_graph.specs.FiniteLocalPlay.{HasNoCycle}
+use Rattle.local_graph.specs.LocalGraph.{IsReachable}
+use Rattle.local_graph.proofs.PlayLemmas.{plays_long, plays_more}
+use Rattle.local_value.specs.Ending.{EndsWithin}
+use Rattle.local_value.specs.Laws.{MovesTo}
+use Rattle.local_value.specs.LocalGame.{Step, StepsTo, TakesAtMost, tree_within}
+use Rattle.local_value.specs.PositionTree.{IsTreeOf, IsValueOf, PlaysAreShort}
+use Rattle.local_value.proofs.CellTreeLaws.{cells_end, from_step, step_from, tree_as}
+use Rattle.local_value.proofs.MoveList.{steps, step_out}
+use Rattle.local_value.proofs.ShortLaws.{short_plays}
+use Rattle.region_cut.specs.Cut.{AreRegionsOfPlay}
+use Rattle.region_cut.specs.LocalBoard.{HoldsPosition, IsLocal}
+use Rattle.region_cut.proofs.ApartLemmas.{holds_start, only_region, other_kept}
+use Rattle.region_cut.proofs.LocalBoardLemmas.{holds_after, placing_is_local, plays_locally}
+use Rattle.region_cut.proofs.FreedomLemmas.{point_contested}
+use Rattle.endgame_solver.specs.Decomposition.{AreTreesOn, money_tree, WholeDecomposes}
+use Rattle.endgame_solver.specs.Regions.{no_region, region_at}
+use Rattle.endgame_solver.specs.Solved.{HoldsCells}
+use Rattle.endgame_solver.specs.SumGame.{State, Leads, StepIn, AllEnd, balance, parts_tree, purses_tree, state_tree, token_tree}
+use Rattle.endgame_solver.specs.inner.Regions.{IsPointOf}
+use Rattle.endgame_solver.specs.inner.WholeParts.{OthersStay, IsPlayedIn, IsPlayableIn, IsLocalPlay, AllShown, IsSeenAs}
+use Rattle.endgame_solver.proofs.PartsLaws.{Matches, decomposes, flipped, loses-forth, purses-balance, wins-forth}
 
+-- The moves of a whole state are the local moves of its parts and the moves on purses and token.
 module _ (P : Type 0) (moves : Colour → P → List (Step P)) (InPart : ℕ → ℕ → Type 0) (Shown : Board → ℕ → P → Type 0) where
+  abbrev Stay : ℕ → Board → Board → Type 0
+  Stay j h k = OthersStay P moves InPart Shown j h k
+
+  abbrev Showing : Board → ℕ → List P → Type 0
+  Showing h i qs = AllShown P moves InPart Shown h i qs
+
   -- parts past the one that is played in stay
-  later_stay : (h k : Board) (j i : ℕ) (qs : List P) → j < i → OthersStay P moves InPart Shown j h k → AllShown P moves InPart Shown h i qs → AllShown P moves InPart Shown k i qs
+  later_stay : (h k : Board) (j i : ℕ) (qs : List P) → j < i → Stay j h k → Showing h i qs → Showing k i qs
   later_stay h k j i [] lt stay w = tt
-  later_stay h k j i (q ∷ qs) lt stay w = (stay i q (λ e. omega (arith, lt, e)) w.0, later_stay h k j (suc i) qs (omega (arith, lt)) stay w.1)
+  later_stay h k j i (q ∷ qs) lt stay w =
+      (stay i q (λ e. omega (arith, lt, e)) w.0, later_stay h k j (suc i) qs (omega (arith, lt)) stay w.1)
 
   module _ (g : Board) (parts : ℕ) (play : IsLocalPlay P moves InPart Shown g parts) (h : Board) (walls : WallsStand g h) (c : Colour) where
-    step_forth : (k : Board) (p n j i : ℕ) (qs : List P) → AllShown P moves InPart Shown h i qs → i ≤ j → j < i + length qs → i + length qs ≤ parts → InPart j p → IsPlaced h p c k → IsNumberTaken h k n
-        → (rs : List P) × StepIn P moves c qs rs n × AllShown P moves InPart Shown k i rs × (length rs ≡ length qs) × OthersStay P moves InPart Shown j h k
+    step_forth : (k : Board) (p n j i : ℕ) (qs : List P) → Showing h i qs → i ≤ j → j < i + length qs → i + length qs ≤ parts → InPart j p
+        → IsPlaced h p c k → IsNumberTaken h k n
+        → (rs : List P) × StepIn P moves c qs rs n × Showing k i rs × (length rs ≡ length qs) × Stay j h k
     step_forth k p n j i [] w le lt most at placed number = absurd (omega (arith, le, lt))
     step_forth k p n j i (q ∷ qs) w le lt most at placed number = elim (cases_eq j i) [
       | inl e ↦
-          let r = play.played h k c p n i q walls (omega (arith, most)) (subst (λ z. InPart z p) e at) w.0 placed number in
-          (r.0.to ∷ qs, inl ((r.0, r.1, refl, r.2), refl), (r.3, later_stay h k i (suc i) qs (omega arith) r.4 w.1), refl, subst (λ z. OthersStay P moves InPart Shown z h k) (sym e) r.4)
+          let (x, among, taken, held, stay) = play.played h k c p n i q walls (omega (arith, most))
+          (subst (λ z. InPart z p) e at) w.0 placed number in
+          let later = later_stay h k i (suc i) qs (omega arith) stay w.1 in
+          (x.to ∷ qs, inl ((x, among, refl, taken), refl), (held, later), refl, subst (λ z. Stay z h k) (sym e) stay)
       | inr ne ↦
-          let r = step_forth k p n j (suc i) qs w.1 (omega (arith, le, ne)) (omega (arith, lt)) (omega (arith, most)) at placed number in
-          (q ∷ r.0, inr (refl, r.1), (r.4 i q (λ e. ne (sym e)) w.0, r.2), omega (arith, r.3), r.4)
+          let (rs, step, held, long, stay) = step_forth k p n j (suc i) qs w.1 (omega (arith, le, ne)) (omega (arith, lt))
+          (omega (arith, most)) at placed number in
+          (q ∷ rs, inr (refl, step), (stay i q (λ e. ne (sym e)) w.0, held), omega (arith, long), stay)
     ]
 
-    step_back : (n i : ℕ) (qs rs : List P) → AllShown P moves InPart Shown h i qs → i + length qs ≤ parts → StepIn P moves c qs rs n
-        → (j : ℕ) × ((p : ℕ) × ((k : Board) × (i ≤ j) × (j < parts) × InPart j p × IsPlaced h p c k × IsNumberTaken h k n × AllShown P moves InPart Shown k i rs × (length rs ≡ length qs) × OthersStay P moves InPart Shown j h k))
+    step_back : (n i : ℕ) (qs rs : List P) → Showing h i qs → i + length qs ≤ parts → StepIn P moves c qs rs n
+        → (j : ℕ) × ((p : ℕ) × ((k : Board) × (i ≤ j) × (j < parts) × InPart j p × IsPlaced h p c k × IsNumberTaken h k n × Showing k i rs
+        × (length rs ≡ length qs) × Stay j h k))
     step_back n i [] rs w most m = absurd m
     step_back n i (q ∷ qs) [] w most m = absurd m
-    step_back n i (q ∷ qs) (r ∷ rs) w most (inl (m, e)) =
-        let x = m.0 in
-        let b = play.playable h c i q x walls (omega (arith, most)) w.0 m.1 in
-        let k = b.1.0 in (
+    step_back n i (q ∷ qs) (r ∷ rs) w most (inl ((x, among, to, taken), e)) =
+        let (p, (k, inside, placed, number, held, stay)) = play.playable h c i q x walls (omega (arith, most)) w.0 among in
+        let later = subst (Showing k (suc i)) e (later_stay h k i (suc i) qs (omega arith) stay w.1) in
+        let shown : Showing k i (r ∷ rs) = (subst (Shown k i) to held, later) in (
           i,
           (
-            b.0,
+            p,
             (
               k,
               omega arith,
               omega (arith, most),
-              b.1.1,
-              b.1.2,
-              subst (λ z. IsNumberTaken h k z) m.3 b.1.3,
-              (subst (Shown k i) m.2 b.1.4, subst (AllShown P moves InPart Shown k (suc i)) e (later_stay h k i (suc i) qs (omega arith) b.1.5 w.1)),
-              ap suc (ap length (sym e)),
-              b.1.5,
+              inside,
+              placed,
+              subst (IsNumberTaken h k) taken number,
+              shown,
+              ap suc
+                  (ap length (sym e)),
+              stay,
             ),
           ),
         )
     step_back n i (q ∷ qs) (r ∷ rs) w most (inr (e, m)) =
-        let b = step_back n (suc i) qs rs w.1 (omega (arith, most)) m in
-        let k = b.1.1.0 in (
-          b.0,
-          (
-            b.1.0,
-            (
-              k,
-              omega (arith, b.1.1.1),
-              b.1.1.2,
-              b.1.1.3,
-              b.1.1.4,
-              b.1.1.5,
-              (subst (Shown k i) e (b.1.1.8 i q (λ z. omega (arith, b.1.1.1, z)) w.0), b.1.1.6),
-              omega (arith, b.1.1.7),
-              b.1.1.8,
-            ),
-          ),
-        )
+        let (j, (p, (k, le, lt, inside, placed, number, held, long, stay))) = step_back n (suc i) qs rs w.1 (omega (arith, most)) m in
+        let shown : Showing k i (r ∷ rs) = (subst (Shown k i) e (stay i q (λ z. omega (arith, le, z)) w.0), held) in
+        (j, (p, (k, omega (arith, le), lt, inside, placed, number, shown, omega (arith, long), stay)))
 
   module _ (g : Board) (settled : IsSettled g) (parts : ℕ) (play : IsLocalPlay P moves InPart Shown g parts) where
     -- a state of the whole game, seen as its parts
     abbrev pub Sees : Whole → State P → Type 0
     Sees s u = Keeps g s × IsSeenAs P moves InPart Shown parts s u
 
-    seen_forth : (s r : Whole) (u : State P) → Sees s u → whole.Leads s r → (v : State P) × Leads P moves u v × Sees r v
-    seen_forth s r u w (Stone p, m) =
-        let h = m.1.0 in
-        let n = m.1.1.0 in
-        let e = m.1.1.3 in
-        let part = play.covers p ((w.0.contested p).0 m.0) in
-        let x = step_forth g parts play s.board w.0.walls s.side h p n part.0 0 u.parts w.1.shown (omega arith) (omega (arith, part.1, w.1.count)) (omega (arith, w.1.count)) part.2 m.1.1.1 m.1.1.2 in
-        let v : State P = record { parts = x.0; purses = paid_in u.side n u.purses; side = other u.side } in (
-          v,
-          record { turn = refl; move = inl (n, subst (λ z. StepIn P moves z u.parts x.0 n) w.1.turn x.1, refl) },
-          (
-            keeps_move g settled s r (Stone p) w.0 m,
-            record {
-              count = x.3 ∙ w.1.count;
-              shown = subst (λ z. AllShown P moves InPart Shown z.board 0 x.0) (sym e) x.2;
-              purses = ap (λ z. z.purses) e ∙ (λ i. paid_in (w.1.turn i) n (w.1.purses i));
-              turn = ap (λ z. z.side) e ∙ ap other w.1.turn;
-            },
-          ),
-        )
-    seen_forth s r u w (Spend, m) =
-        let v : State P = record { parts = u.parts; purses = paid_out u.side u.purses; side = other u.side } in (
-          v,
-          record { turn = refl; move = inr (inl (subst (λ y. 1 ≤ y) (λ i. purse (w.1.turn i) (w.1.purses i)) m.0, refl, refl)) },
-          (
-            keeps_move g settled s r Spend w.0 m,
-            record {
-              count = w.1.count;
-              shown = subst (λ z. AllShown P moves InPart Shown z.board 0 u.parts) (sym m.1) w.1.shown;
-              purses = ap (λ z. z.purses) m.1 ∙ (λ i. paid_out (w.1.turn i) (w.1.purses i));
-              turn = ap (λ z. z.side) m.1 ∙ ap other w.1.turn;
-            },
-          ),
-        )
-    seen_forth s r u w (Half, m) =
-        let v : State P = record { parts = u.parts; purses = halved u.side u.purses; side = other u.side } in (
-          v,
-          record { turn = refl; move = inr (inr ((λ z. m.0 (ap (λ y. y.token) w.1.purses ∙ z)), refl, refl)) },
-          (
-            keeps_move g settled s r Half w.0 m,
-            record {
-              count = w.1.count;
-              shown = subst (λ z. AllShown P moves InPart Shown z.board 0 u.parts) (sym m.1) w.1.shown;
-              purses = ap (λ z. z.purses) m.1 ∙ (λ i. halved (w.1.turn i) (w.1.purses i));
-              turn = ap (λ z. z.side) m.1 ∙ ap other w.1.turn;
-            },
-          ),
-        )
+    abbrev with_parts : List P → Purses → Colour → State P
+    with_parts ps m c = record { parts = ps; purses = m; side = c }
 
-    seen_back : (s : Whole) (u v : State P) → Sees s u → Leads P moves u v → (r : Whole) × whole.Leads s r × Sees r v
-    seen_back s u v w l = elim l.move [
-      | inl m ↦
-          let b = step_back g parts play s.board w.0.walls s.side m.0 0 u.parts v.parts w.1.shown (omega (arith, w.1.count)) (subst (λ z. StepIn P moves z u.parts v.parts m.0) (sym w.1.turn) m.1) in
-          let p = b.1.0 in
-          let k = b.1.1.0 in
-          let r : Whole = whole.after k (paid_in s.side m.0 s.purses) s in
-          let move : whole.IsMove s (Stone p) r = ((w.0.contested p).1 (play.within b.0 p b.1.1.2 b.1.1.3), (k, (m.0, b.1.1.4, b.1.1.5, refl))) in (
-            r,
-            (Stone p, move),
-            (
-              keeps_move g settled s r (Stone p) w.0 move,
-              record {
-                count = b.1.1.7 ∙ w.1.count;
-                shown = b.1.1.6;
-                purses = (λ i. paid_in (w.1.turn i) m.0 (w.1.purses i)) ∙ sym m.2;
-                turn = ap other w.1.turn ∙ sym l.turn;
-              },
-            ),
+    -- the state after a move is seen as the parts that its board shows, with its purses and the other side to move
+    sees_after : (s t : Whole) (m : Move) (h : Board) (ms : Purses) (ps : List P) → Keeps g s → whole.IsMove s m t → t ≡ whole.after h ms s
+        → length ps ≡ parts → Showing h 0 ps → Sees t (with_parts ps ms (other s.side))
+    sees_after s t m h ms ps keeps move is count shown = (
+      keeps_move g settled s t m keeps move,
+      record {
+        count = count;
+        shown = subst (λ z. Showing z.board 0 ps) (sym is) shown;
+        purses = ap (λ z. z.purses) is;
+        turn = ap (λ z. z.side) is;
+      },
+    )
+
+    module _ (s : Whole) (ps : List P) (keeps : Keeps g s) (count : length ps ≡ parts) (shown : Showing s.board 0 ps) where
+      forth_from : (t : Whole) → whole.Leads s t → (v : State P) × Leads P moves (with_parts ps s.purses s.side) v × Sees t v
+      forth_from t (Stone p, m) =
+          let (mark, (h, (n, placed, number, is))) = m in
+          let (j, lt, at) = play.covers p ((keeps.contested p).0 mark) in
+          let first : j < 0 + length ps = omega (arith, lt, count) in
+          let (qs, step, held, long, stay) = step_forth g parts play s.board keeps.walls s.side h p n j 0 ps shown (omega arith) first
+          (omega (arith, count)) at placed number in
+          let ms = paid_in s.side n s.purses in (
+            with_parts qs ms (other s.side),
+            record { turn = refl; move = inl (n, step, refl) },
+            sees_after s t (Stone p) h ms qs keeps m is (long ∙ count) held,
           )
-      | inr (inl m) ↦
-          let r : Whole = whole.after s.board (paid_out s.side s.purses) s in
-          let move : whole.IsMove s Spend r = (spendable m.0, refl) in (
-            r,
-            (Spend, move),
-            (
-              keeps_move g settled s r Spend w.0 move,
-              record {
-                count = ap length m.1 ∙ w.1.count;
-                shown = subst (AllShown P moves InPart Shown s.board 0) (sym m.1) w.1.shown;
-                purses = (λ i. paid_out (w.1.turn i) (w.1.purses i)) ∙ sym m.2;
-                turn = ap other w.1.turn ∙ sym l.turn;
-              },
-            ),
+      forth_from t (Spend, m) =
+          let ms = paid_out s.side s.purses in (
+            with_parts ps ms (other s.side),
+            record {
+              turn = refl;
+              move = inr
+                  (inl (m.0, refl, refl));
+            },
+            sees_after s t Spend s.board ms ps keeps m m.1 count shown,
           )
-      | inr (inr m) ↦
-          let r : Whole = whole.after s.board (halved s.side s.purses) s in
-          let move : whole.IsMove s Half r = (λ z. m.0 (sym (ap (λ y. y.token) w.1.purses) ∙ z), refl) in (
-            r,
-            (Half, move),
-            (
-              keeps_move g settled s r Half w.0 move,
-              record {
-                count = ap length m.1 ∙ w.1.count;
-                shown = subst (AllShown P moves InPart Shown s.board 0) (sym m.1) w.1.shown;
-                purses = (λ i. halved (w.1.turn i) (w.1.purses i)) ∙ sym m.2;
-                turn = ap other w.1.turn ∙ sym l.turn;
-              },
-            ),
+      forth_from t (Half, m) =
+          let ms = halved s.side s.purses in (
+            with_parts ps ms (other s.side),
+            record {
+              turn = refl;
+              move = inr
+                  (inr (m.0, refl, refl));
+            },
+            sees_after s t Half s.board ms ps keeps m m.1 count shown,
           )
-    ]
-      where
-        spendable : 1 ≤ purse u.side u.purses → 1 ≤ purse s.side s.purses
-        spendable h = subst (λ n. 1 ≤ n) (λ i. purse (sym w.1.turn i) (sym w.1.purses i)) h
+
+      back_from : (v : State P) → Leads P moves (with_parts ps s.purses s.side) v → (t : Whole) × whole.Leads s t × Sees t v
+      back_from v l = elim l.move [
+        | inl (n, step, money) ↦
+            let (j, (p, (k, le, lt, at, placed, number, held, long, stay))) = step_back g parts play s.board keeps.walls s.side n 0 ps v.parts shown
+            (omega (arith, count)) step in
+            led (Stone p) k (paid_in s.side n s.purses) ((keeps.contested p).1 (play.within j p lt at), (k, (n, placed, number, refl)))
+            (long ∙ count) held money
+        | inr (inl (some, same, money)) ↦ still Spend (paid_out s.side s.purses) (some, refl) same money
+        | inr (inr (some, same, money)) ↦ still Half (halved s.side s.purses) (some, refl) same money
+      ]
+        where
+          led : (m : Move) (h : Board) (ms : Purses) → whole.IsMove s m (whole.after h ms s) → length v.parts ≡ parts → Showing h 0 v.parts
+              → v.purses ≡ ms → (t : Whole) × whole.Leads s t × Sees t v
+          led m h ms move long held money =
+              let t = whole.after h ms s in (
+                t,
+                (m, move),
+                subst (Sees t) (λ i. with_parts v.parts (sym money i) (sym l.turn i))
+                    (sees_after s t m h ms v.parts keeps move refl long held),
+              )
+
+          still : (m : Move) (ms : Purses) → whole.IsMove s m (whole.after s.board ms s) → v.parts ≡ ps → v.purses ≡ ms
+              → (t : Whole) × whole.Leads s t × Sees t v
+          still m ms move same money = led m s.board ms move (ap length same ∙ count) (subst (Showing s.board 0) (sym same) shown) money
 
     pub bookkeeping : Matches Whole (State P) whole.Leads (Leads P moves) Sees
-    bookkeeping = record { forth = seen_forth; back = seen_back }
+    bookkeeping = record {
+      forth = λ s t u (keeps, w) m. subst (λ x. (v : State P) × Leads P moves x v × Sees t v) (same s u w)
+          (forth_from s u.parts keeps w.count w.shown t m);
+      back = λ s u v (keeps, w) l. back_from s u.parts keeps w.count w.shown v (subst (λ x. Leads P moves x v) (sym (same s u w)) l);
+    }
+      where
+        same : (s : Whole) (u : State P) → IsSeenAs P moves InPart Shown parts s u → with_parts u.parts s.purses s.side ≡ u
+        same s u w = λ i. with_parts u.parts (w.purses i) (w.turn i)
 
     -- a state of the whole game has a winner, and who loses is the sign of the sum
     pub whole_decomposes : (most n : ℕ) (s : Whole) (u : State P) → TakesAtMost P moves most → AllEnd P moves n u.parts → Sees s u
         → (MoverWins Whole whole.Leads s ⊎ MoverLoses Whole whole.Leads s) × (MoverLoses Whole whole.Leads s ↔ LosesGame s.side (state_tree P moves n u))
     whole_decomposes most n s u few end w =
-        let d = decomposes P moves n most u few end in (
+        let d = decomposes P moves n most u few end in
+        let back = flipped _ _ _ _ Sees bookkeeping in (
           elim d.has_winner [
-            | inl x ↦ inl (x.0, wins-back _ _ _ _ Sees bookkeeping x.0 s u w x.1)
-            | inr x ↦ inr (x.0, loses-back _ _ _ _ Sees bookkeeping x.0 s u w x.1)
+            | inl x ↦ inl (x.0, wins-forth _ _ _ _ _ back x.0 u s w x.1)
+            | inr x ↦ inr (x.0, loses-forth _ _ _ _ _ back x.0 u s w x.1)
           ],
           (
             λ x. subst (λ c. LosesGame c (state_tree P moves n u)) (sym w.1.turn) (d.loser.0 (x.0, loses-forth _ _ _ _ Sees bookkeeping x.0 s u w x.1)),
-            λ x. (let y = d.loser.1 (subst (λ c. LosesGame c (state_tree P moves n u)) w.1.turn x) in (y.0, loses-back _ _ _ _ Sees bookkeeping y.0 s u w y.1)),
+            λ x. (let y = d.loser.1
+                (subst (λ c. LosesGame c (state_tree P moves n u)) w.1.turn x) in (y.0, loses-forth _ _ _ _ _ back y.0 u s w y.1)),
           ),
         )
+
+-- The regions of play as the parts of a game whose positions are local positions: local play of the regions is play on each board
+-- on which the walls stand.
+
+-- which region, and a local position of it
+pub record Position : Type 0 where
+  pub region : ℕ
+  pub cells : List Cell
+
+abbrev pub position_in : ℕ → List Cell → Position
+position_in k cells = record { region = k; cells = cells }
+
+-- as many points as any region has
+pub largest : (rs : List Region) → (b : ℕ) × ((r : Region) → Contains rs r → length r.cells ≤ b)
+largest [] = (0, λ r h. absurd (omega (arith, h.1)))
+largest (r ∷ rs) =
+    let (b, all) = largest rs in
+    (length r.cells + b, within b all)
+  where
+    within : (b : ℕ) → ((s : Region) → Contains rs s → length s.cells ≤ b) → (s : Region) → Contains (r ∷ rs) s → length s.cells ≤ length r.cells + b
+    within b all s (zero, lt, e) = let same = ap (λ z. length z.cells) e in omega (arith, same)
+    within b all s (suc k, lt, e) = let less = all s (k, omega (arith, lt), e) in omega (arith, less)
+
+-- the steps from a position of at most b places
+limited : (b n : ℕ) → (b < n) ⊎ (n ≤ b) → List (Step Position) → List (Step Position)
+limited b n (inl lt) xs = []
+limited b n (inr le) xs = xs
+
+limited-is : (b n : ℕ) (d : (b < n) ⊎ (n ≤ b)) (xs : List (Step Position)) → n ≤ b → limited b n d xs ≡ xs
+unfolding limited
+limited-is b n (inl lt) xs le = absurd (omega (arith, lt, le))
+limited-is b n (inr le') xs le = refl
+
+limited-in : (b n : ℕ) (d : (b < n) ⊎ (n ≤ b)) (xs : List (Step Position)) (x : Step Position) → Contains (limited b n d xs) x
+    → (n ≤ b) × Contains xs x
+unfolding limited
+limited-in b n (inl lt) xs x h = absurd (omega (arith, h.1))
+limited-in b n (inr le) xs x h = (le, h)
+
+pub moves_of : List Region → ℕ → Colour → Position → List (Step Position)
+moves_of regions b c q =
+    limited b (length q.cells) (cases_lt b (length q.cells)) (steps (region_at regions q.region).touch q.cells c Position (position_in q.region))
+
+-- the board holds the position, which is one of the region's
+pub record IsHeld (g : Board) (regions : List Region) (h : Board) (k : ℕ) (q : Position) : Type 0 where
+  pub region : q.region ≡ k
+  pub known : k < length regions
+  pub reachable : IsReachable (region_at regions k).touch (region_at regions k).cells q.cells
+  pub holds : HoldsPosition g (region_at regions k) q.cells h
+
+-- a board holds one position in a region
+pub one_cells : (r : Region) (a b : List Cell) (h : Board) → HoldsCells h r a → HoldsCells h r b → a ≡ b
+one_cells r a b h x y =
+    ext_get_or Empty a b (x.0 ∙ sym y.0) (λ i lt. let short : i < length r.points = omega (arith, lt, x.0) in sym (x.1 i short) ∙ y.1 i short)
+
+-- purses and token, whichever way they are added up
+money_same : (m : Purses) → purses_tree m ≡ᵍ money_tree m
+money_same m =
+    same-plus _ _ _ _ (num-plus_le 0 (credit Black m.black) (credit White m.white), num-le_plus 0 (credit Black m.black) (credit White m.white))
+    (same-refl (token_tree m.token))
+
+module _ (g : Board) (settled : IsSettled g) (regions : List Region) (are : AreRegionsOfPlay g regions) where
+  abbrev Most : ℕ
+  Most = (largest regions).0
+
+  abbrev Moves : Colour → Position → List (Step Position)
+  Moves = moves_of regions Most
+
+  abbrev AreHeld : Board → ℕ → List Position → Type 0
+  AreHeld h k qs = AllShown Position Moves (IsPointOf regions) (IsHeld g regions) h k qs
+
+  moves-are : (k : ℕ) (c : Colour) (cells : List Cell) → length cells ≤ Most
+      → Moves c (position_in k cells) ≡ steps (region_at regions k).touch cells c Position (position_in k)
+  unfolding moves_of
+  moves-are k c cells le = limited-is Most (length cells) (cases_lt Most (length cells)) _ le
+
+  pub region_in : (k : ℕ) → k < length regions → Contains regions (region_at regions k)
+  region_in k lt = Contains-get_or regions k no_region lt
+
+  held_long : (h : Board) (k : ℕ) (q : Position) → IsHeld g regions h k q → length q.cells ≤ Most
+  held_long h k q s =
+      let r = region_at regions k in
+      let most = (largest regions).1 r (region_in k s.known) in
+      omega (arith, most, plays_long r.touch r.cells q.cells s.reachable.0 s.reachable.1)
+
+  position_is : (k : ℕ) (q : Position) → q.region ≡ k → position_in k q.cells ≡ q
+  position_is k q e = λ i. record { region = sym e i; cells = q.cells }
+
+  -- the board after a local move of one region holds the next position there, and the same elsewhere
+  pub held_after : (h after : Board) (k : ℕ) (q : Position) (next : List Cell) (c : Colour) (i p : ℕ) → IsHeld g regions h k q
+      → IsPlaced h p c after → IsLocalMove (region_at regions k).touch q.cells c i next → IsLocal (region_at regions k) h after q.cells next
+      → IsHeld g regions after k (position_in k next) × OthersStay Position Moves (IsPointOf regions) (IsHeld g regions) k h after
+  held_after h after k q next c i p s placed move local =
+      let r = region_at regions k in
+      let own = holds_after g r q.cells next h after (are.each r (region_in k s.known)) s.holds placed.0.columns
+      (placed.1.without.long ∙ length-set h.cells p (stone c)) (long_after move) local.inside local.outside in
+      let m : CycleMove = record { colour = c; place = i } in (
+        record {
+          region = refl;
+          known = s.known;
+          reachable = (s.reachable.0 ++ m ∷ [], plays_more r.touch r.cells q.cells next s.reachable.0 m s.reachable.1 move);
+          holds = own;
+        },
+        λ l q' ne s'.
+            let t = region_at regions l in record {
+              region = s'.region;
+              known = s'.known;
+              reachable = s'.reachable;
+              holds = record {
+                walls = own.walls;
+                long = s'.holds.long;
+                local = λ j lt.
+                    other_kept g regions are k l no_region h after q.cells next s.known s'.known ne local (get_or t.points j 0) (Contains-get_or t.points j 0 lt)
+                    ∙ s'.holds.local j lt;
+              };
+            },
+      )
+
+  played : (h after : Board) (c : Colour) (p n k : ℕ) (q : Position) → WallsStand g h → k < length regions → IsPointOf regions k p → IsHeld g regions h k q
+      → IsPlaced h p c after → IsNumberTaken h after n → IsPlayedIn Position Moves (IsPointOf regions) (IsHeld g regions) h c after n k q
+  played h after c p n k q walls lt (i, short, at) s placed number =
+      let r = region_at regions k in
+      let there : get_or r.points i 0 ≡ p = get_or_default r.points i 0 p short ∙ at in
+      let placed' = subst (λ x. IsPlaced h x c after) (sym there) placed in
+      let (next, move, local) = placing_is_local g r settled (are.each r (region_in k lt)) q.cells h s.holds i short c after placed' in
+      let (held, stay) = held_after h after k q next c i p s placed move local in
+      let among = from_step Position r.touch Most (position_in k) Moves (moves-are k) q.cells c (record { to = next; taken = n })
+      (held_long h k q s) (i, move, (local.taken n).0 number) in
+      let x : Step Position = record { to = position_in k next; taken = n } in
+      (x, subst (λ z. Contains (Moves c z) x) (position_is k q s.region) among, refl, held, stay)
+
+  playable : (h : Board) (c : Colour) (k : ℕ) (q : Position) (x : Step Position) → WallsStand g h → k < length regions → IsHeld g regions h k q
+      → Contains (Moves c q) x → IsPlayableIn Position Moves (IsPointOf regions) (IsHeld g regions) h c k x
+  playable h c k q x walls lt s among =
+      let r = region_at regions k in
+      let (y, (i, move, number), to, taken, few) = step_from Position r.touch Most (position_in k) Moves (moves-are k) q.cells c x (held_long h k q s)
+      (subst (λ z. Contains (Moves c z) x) (sym (position_is k q s.region)) among) in
+      let short : i < length r.points = omega (arith, move.place, s.holds.long) in
+      let plays = plays_locally g r settled (are.each r (region_in k lt)) in
+      let (after, placed) = (plays.legal q.cells h c i s.holds short).1 (y.to, move) in
+      let local = plays.local q.cells y.to h after c i s.holds short placed move in
+      let (held, stay) = held_after h after k q y.to c i (get_or r.points i 0) s placed move local in
+      let number' = subst (IsNumberTaken h after) taken ((local.taken y.taken).1 number) in
+      (get_or r.points i 0, (after, Contains-get_or r.points i 0 short, placed, number', subst (IsHeld g regions after k) to held, stay))
+
+  cell_play : IsLocalPlay Position Moves (IsPointOf regions) (IsHeld g regions) g (length regions)
+  cell_play = record {
+    covers = λ p contested. (let w = only_region g regions are p no_region contested in (w.0, w.1, w.2));
+    within = λ k p lt in'. point_contested g (region_at regions k) (are.each (region_at regions k) (region_in k lt)) p in';
+    played = played;
+    playable = playable;
+  }
+
+  -- no step takes more stones than the largest region has points, and one
+  few_cells : TakesAtMost Position Moves (Most + 1)
+  unfolding moves_of
+  few_cells c q x among =
+      let (le, h) = limited-in Most (length q.cells) (cases_lt Most (length q.cells)) _ x among in
+      let y = step_out (region_at regions q.region).touch q.cells c Position (position_in q.region) x h in
+      let number = y.1.2 in
+      omega (arith, le, number, count_by-le-length is_stone q.cells, y.3)
+
+  abbrev SeenAs : Whole → State Position → Type 0
+  SeenAs s u = Sees Position Moves (IsPointOf regions) (IsHeld g regions) g settled (length regions) cell_play s u
+
+  -- the board holds these cells in region `k`, and they can be reached
+  abbrev pub HoldsReached : Board → ℕ → List Cell → Type 0
+  HoldsReached h k cells = IsReachable (region_at regions k).touch (region_at regions k).cells cells × HoldsPosition g (region_at regions k) cells h
+
+  -- the positions that a board holds in the regions from the one at `k` on
+  gathered : (h : Board) (k n : ℕ) → k + n ≡ length regions → ((j : ℕ) → j < length regions → (cells : List Cell) × HoldsReached h j cells)
+      → (qs : List Position) × (length qs ≡ n) × AreHeld h k qs
+  gathered h k zero e w = ([], refl, tt)
+  gathered h k (suc n) e w =
+      let lt : k < length regions = omega (arith, e) in
+      let (cells, (reachable, holds)) = w k lt in
+      let (qs, long, held) = gathered h (suc k) n (omega (arith, e)) w in
+      (position_in k cells ∷ qs, ap suc long, (record { region = refl; known = lt; reachable = reachable; holds = holds }, held))
+
+  seen_now : (s : Whole) → Keeps g s → ((j : ℕ) → j < length regions → (cells : List Cell) × HoldsReached s.board j cells)
+      → (u : State Position) × SeenAs s u
+  seen_now s keeps w =
+      let (qs, long, held) = gathered s.board 0 (length regions) (omega arith) w in
+      (record { parts = qs; purses = s.purses; side = s.side }, (keeps, record { count = long; shown = held; purses = refl; turn = refl }))
+
+  seen_plays : (s t : Whole) (ms : List Move) (u : State Position) → SeenAs s u → Plays s ms t → (v : State Position) × SeenAs t v
+  seen_plays s t [] u w e = (u, subst (λ z. SeenAs z u) e w)
+  seen_plays s t (m ∷ ms) u w (r, move, rest) =
+      let (v, leads, seen) = (bookkeeping Position Moves (IsPointOf regions) (IsHeld g regions) g settled (length regions) cell_play).forth s r u w
+      (m, move) in
+      seen_plays r t ms v seen rest
+
+  module _ (calm : (r : Region) → Contains regions r → HasNoCycle r.touch r.cells) where
+    -- a depth that no play in a region is longer than
+    abbrev Depth : ℕ
+    Depth = 3 ^ Most
+
+    short : (h : Board) (k : ℕ) (q : Position) → IsHeld g regions h k q
+        → PlaysAreShort (List Cell) (MovesTo (region_at regions k).touch) (3 ^ length (region_at regions k).cells) q.cells
+    short h k q s =
+        let r = region_at regions k in
+        short_plays r.touch r.cells (calm r (region_in k s.known)) q.cells s.reachable
+
+    deep : (h : Board) (k : ℕ) (q : Position) → IsHeld g regions h k q → PlaysAreShort (List Cell) (MovesTo (region_at regions k).touch) Depth q.cells
+    deep h k q s qs w =
+        let three : 0 < 3 = omega arith in
+        let most = pow-le-pow_right {n = 3} three ((largest regions).1 (region_at regions k) (region_in k s.known)) in
+        omega (arith, short h k q s qs w, most)
+
+    -- a tree of the position is as good as that over the listed moves
+    held_tree : (h : Board) (k : ℕ) (q : Position) (G : Tree) → IsHeld g regions h k q
+        → IsTreeOf (region_at regions k).touch (3 ^ length q.cells) q.cells G → G ≡ᵍ tree_within Position Moves Depth q
+    held_tree h k q G s tree =
+        let r = region_at regions k in
+        let long = plays_long r.touch r.cells q.cells s.reachable.0 s.reachable.1 in
+        let shorter : PlaysAreShort (List Cell) (MovesTo r.touch) (3 ^ length q.cells) q.cells = λ qs w. omega (arith, short h k q s qs w, ap (λ m. 3 ^ m) long) in
+        subst (λ z. G ≡ᵍ tree_within Position Moves Depth z) (position_is k q s.region)
+        (tree_as Position r.touch Most (position_in k) Moves (moves-are k) Depth (3 ^ length q.cells) q.cells G (held_long h k q s) shorter
+        (deep h k q s) tree)
+
+    -- play ends in each part
+    all_end : (h : Board) (k : ℕ) (qs : List Position) → AreHeld h k qs → AllEnd Position Moves Depth qs
+    all_end h k [] shown = tt
+    all_end h k (q ∷ qs) (s, shown) = (
+      subst (EndsWithin Position (StepsTo Position Moves) Depth) (position_is k q s.region)
+          (cells_end Position (region_at regions k).touch Most (position_in k) Moves (moves-are k) Depth q.cells (held_long h k q s) (deep h k q s)),
+      all_end h (suc k) qs shown,
+    )
+
+    -- the trees of the positions on the board are as good as those of the parts
+    trees_total : (h : Board) (k : ℕ) (rs : List Region) (trees : Trees) (qs : List Position)
+        → ((j : ℕ) → j < length rs → region_at regions (k + j) ≡ get_or rs j no_region)
+        → AreTreesOn g h rs trees → length qs ≡ length rs → AreHeld h k qs → total trees ≡ᵍ parts_tree Position Moves Depth qs
+    unfolding total parts_tree
+    trees_total h k [] none [] at w e shown = same-refl (node none none)
+    trees_total h k [] none (q ∷ qs) at w e shown = absurd (omega (arith, e))
+    trees_total h k [] (more G Gs) qs at w e shown = absurd w
+    trees_total h k (r ∷ rs) none qs at w e shown = absurd w
+    trees_total h k (r ∷ rs) (more G Gs) [] at w e shown = absurd (omega (arith, e))
+    trees_total h k (r ∷ rs) (more G Gs) (q ∷ qs) at ((cells, holds, tree), w) e (held, shown) =
+        let here : region_at regions k ≡ r = ap (λ j. region_at regions j) (omega arith) ∙ at 0 (omega arith) in
+        let holds' = subst (λ x. HoldsPosition g x cells h) (sym here) holds in
+        let same = one_cells (region_at regions k) cells q.cells h (holds'.long, holds'.local) (held.holds.long, held.holds.local) in
+        let tree' = subst (λ x. IsTreeOf x.touch (3 ^ length cells) cells G) (sym here) tree in
+        let first = held_tree h k q G held (subst (λ x. IsTreeOf (region_at regions k).touch (3 ^ length x) x G) same tree') in
+        let rest = trees_total h (suc k) rs Gs qs (λ j lt. ap (λ i. region_at regions i) (omega arith) ∙ at (suc j) (omega (arith, lt))) w
+        (omega (arith, e)) shown in
+        same-plus _ _ _ _ first rest
+
+    -- Who loses a state is the sign of the sum of any trees of the positions on its board, and of its money.
+    decided : (t : Whole) (v : State Position) → SeenAs t v → (MoverWins Whole whole.Leads t ⊎ MoverLoses Whole whole.Leads t)
+        × ((trees : Trees) → AreTreesOn g t.board regions trees
+        → MoverLoses Whole whole.Leads t ↔ LosesGame t.side (total trees +ᵍ money_tree t.purses))
+    decided t v w =
+        let d = whole_decomposes Position Moves (IsPointOf regions) (IsHeld g regions) g settled (length regions) cell_play
+        (Most + 1) Depth t v few_cells
+        (all_end t.board 0 v.parts w.1.shown) w in (
+          d.0,
+          λ trees on.
+              let sum = trees_total t.board 0 regions trees v.parts (λ j lt. ap (region_at regions) (omega arith)) on w.1.count w.1.shown in
+              let same : state_tree Position Moves Depth v ≡ᵍ (total trees +ᵍ money_tree t.purses) =
+              same-plus _ _ _ _ (same-sym _ _ sum) (subst (λ m. purses_tree v.purses ≡ᵍ money_tree m) (sym w.1.purses) (money_same v.purses)) in
+              (λ x. loses-same t.side _ _ same (d.1.0 x), λ x. d.1.1 (loses-same t.side _ _ (same-sym _ _ same) x)),
+        )
+
+    -- values of positions that a board holds are as good as some trees of them
+    valued : (h : Board) (Ts : List Tree) (rs : List Region) (ids : List ℕ) → length ids ≡ length rs
+        → ((j : ℕ) → j < length rs → (cells : List Cell) × HoldsPosition g (get_or rs j no_region) cells h
+        × IsValueOf (get_or rs j no_region).touch cells (tree_at Ts (get_or ids j 0)))
+        → (trees : Trees) × AreTreesOn g h rs trees × (total trees ≡ᵍ total (pick Ts ids))
+    unfolding total
+    valued h Ts [] [] e w = (none, tt, same-refl (node none none))
+    valued h Ts [] (id ∷ ids) e w = absurd (omega (arith, e))
+    valued h Ts (r ∷ rs) [] e w = absurd (omega (arith, e))
+    valued h Ts (r ∷ rs) (id ∷ ids) e w =
+        let (cells, holds, value) = w 0 (omega arith) in
+        let (trees, on, same) = valued h Ts rs ids (omega (arith, e)) (λ j lt. w (suc j) (omega (arith, lt))) in
+        (more value.tree trees, ((cells, holds, value.of_position), on), same-plus _ _ _ _ value.same same)
+
+    -- The state has a winner, and who loses is the sign of the sum of the values, and of the balance of the purses and the token.
+    pub decided_by_values : (s : Whole) (Ts : List Tree) (ids : List ℕ) → Keeps g s → length ids ≡ length regions
+        → ((j : ℕ) → j < length regions → (cells : List Cell) × HoldsReached s.board j cells × IsValueOf (region_at regions j).touch cells (tree_at Ts (get_or ids j 0)))
+        → (MoverWins Whole whole.Leads s ⊎ MoverLoses Whole whole.Leads s)
+        × (MoverLoses Whole whole.Leads s ↔ LosesGame s.side (total (pick Ts ids) +ᵍ num 1 (balance s.purses)))
+    decided_by_values s Ts ids keeps long w =
+        let (v, seen) = seen_now s keeps (λ j lt. ((w j lt).0, (w j lt).1)) in
+        let (trees, on, same) = valued s.board Ts regions ids long (λ j lt. ((w j lt).0, (w j lt).1.1, (w j lt).2)) in
+        let d = decided s v seen in
+        let money = same-trans _ _ _ (same-sym _ _ (money_same s.purses)) (purses-balance s.purses) in
+        let same' : (total trees +ᵍ money_tree s.purses) ≡ᵍ (total (pick Ts ids) +ᵍ num 1 (balance s.purses)) = same-plus _ _ _ _ same money in
+        (d.0, (λ x. loses-same s.side _ _ same' ((d.1 trees on).0 x), λ x. (d.1 trees on).1 (loses-same s.side _ _ (same-sym _ _ same') x)))
+
+pub decomposes_whole : WholeDecomposes
+decomposes_whole g regions black white komi side tax s t ms settled are calm opening plays =
+    let start : (j : ℕ) → j < length regions → (cells : List Cell) × HoldsReached g settled regions are s.board j cells = λ j lt.
+    let r = region_at regions j in
+    let play = are.each r (Contains-get_or regions j no_region lt) in
+    (r.cells, (([], refl), subst (HoldsPosition g r r.cells) (sym opening.board) (holds_start g r play play.proper.full))) in
+    let (u, seen) = seen_now g settled regions are s (keeps_start g black white komi side tax s opening) start in
+    let (v, seen') = seen_plays g settled regions are s t ms u seen plays in
+    decided g settled regions are calm t v seen'

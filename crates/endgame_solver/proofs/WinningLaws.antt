@@ -1,137 +1,398 @@
--- A move wins exactly where the sum that it leaves is lost.
-use Rattle.std.proofs.Common.{ℕ, ◌≡◌, ◌↔◌, ◌^◌, ◌<◌, ◌≤◌, inl, inr, refl, sym, ap, ◌∙◌, subst, arith, List, length, get_or, set, Bool, true, false, IsTrue, pos, ◌*ℤ◌}
-use Rattle.std.proofs.lemmas.Bool.{cases_eq}
-use Rattle.std.proofs.lemmas.List.{get_or-set_same, get_or-set_other, length-set}
+-- Who wins the present state, and by which moves; and that what is read of the graphs and the values in the book is what they are.
+use Rattle.std.proofs.Common.{ℕ, zero, suc, ◌≡◌, ◌↔◌, ◌+◌, ◌*ℤ◌, ◌^◌, ◌<◌, ◌≤◌, ℤ, pos, inl, inr, refl, sym, ap, ◌∙◌, subst, arith, List, [], length, get_or, set, map, Bool, IsTrue, Option, Some, None, Contains}
+use Rattle.std.proofs.lemmas.Bool.{cases_eq, cases_lt}
+use Rattle.std.proofs.lemmas.List.{ext_get_or, get_or-map, get_or_default, length-map}
 use Rattle.go_grid.specs.declared.grid.Colour.{Colour}
 use Rattle.go_grid.specs.declared.grid.Colour.TheVariants.{Black, White}
-use Rattle.go_grid.specs.Board.{Board, other}
+use Rattle.go_grid.specs.Board.{other}
 use Rattle.go_grid.specs.Region.{Region}
 use Rattle.whole_rules.specs.declared.money.Purses.{Purses}
-use Rattle.whole_rules.specs.declared.states.Move.TheVariants.{Stone, Spend}
+use Rattle.whole_rules.specs.declared.states.Move.{Move}
+use Rattle.whole_rules.specs.declared.states.Move.TheVariants.{Stone, Spend, Half}
+use Rattle.whole_rules.specs.FirstWinningMove.{IsFirstWinning, IsWinner, IsWinning}
+use Rattle.whole_rules.specs.PlainRecursion.{WinsWithin, MoverLoses}
 use Rattle.whole_rules.specs.Purses.{purse, paid_in, paid_out}
-use Rattle.whole_rules.specs.WholeGame.{Whole, IsMove, Leads, after}
-use Rattle.whole_rules.specs.PlainRecursion.{MoverLoses}
-use Rattle.whole_rules.specs.FirstWinningMove.{IsWinning}
+use Rattle.whole_rules.specs.WholeGame.{Whole, IsMove, Leads, after, rank}
+use Rattle.whole_rules.proofs.OutcomeLaws.{wins-not_loses}
 use Rattle.local_graph.specs.declared.graph.Edge.{Edge}
 use Rattle.local_graph.specs.Graph.{Graph}
-use Rattle.short_games.specs.Tree.{Tree, tree_at}
+use Rattle.local_graph.specs.inner.Graph.{edges_at, no_edge}
+use Rattle.short_games.specs.Tree.{Tree}
 use Rattle.game_store.specs.Meaning.{pick, AreIds}
-use Rattle.game_canon.specs.Outcomes.{AreWithin}
 use Rattle.sum_outcome.specs.Players.{LosesGame}
-use Rattle.sum_outcome.specs.Sums.{sum_tree, IsBounded}
+use Rattle.sum_outcome.specs.Sums.{IsBounded, sum_tree}
+use Rattle.endgame_solver.specs.Regions.{region_at}
+use Rattle.endgame_solver.specs.Solved.{ArePresent, balance_units}
 use Rattle.endgame_solver.specs.SumGame.{balance}
-use Rattle.endgame_solver.specs.inner.Held.{AreSolved, IsAt, AreSummed, HasRoom, AreSolvedAt, IsStoneEdge, AreModest, ArePlaces, ids_at, place_at, most_units}
-use Rattle.endgame_solver.specs.Solved.{balance_units}
-use Rattle.endgame_solver.proofs.HeldLaws.{decided_now}
-use Rattle.endgame_solver.proofs.RoomLaws.{bounded, small_units}
-use Rattle.endgame_solver.proofs.StoneLaws.{StoneLeads, stone_legal, stone_edge, stone_leads, stone_next, stone_taken, spend_leads}
-
-pub differ : (b : Bool) → b ≡ false → b ≡ true → ⊥
-differ b p q = let e = sym p ∙ q in cc
-
--- the ids of a sum fit a search, whatever small number is beside them
-pub record Fits (Ts : List Tree) (ids : List ℕ) : Type 0 where
-  pub known : AreIds Ts ids
-  pub bounds : (m : Purses) → AreModest m → IsBounded (pick Ts ids) (balance m *ℤ pos (2 ^ 59))
-
-module _ (g : Board) (regions : List Region) (graphs : List Graph) (values : List (List ℕ)) (Ts : List Tree) (are : AreSolved g regions graphs values Ts) where
-  pub place_inside : (s : Whole) (places : List ℕ) (k : ℕ) → IsAt g regions graphs places s → k < length regions → place_at places k < length (ids_at values k)
-  place_inside s places k at lt = omega (arith, (at.shown k lt).1.at.inside, (are.valued k lt).long)
-
-  pub fits : (s : Whole) (places ids : List ℕ) → IsAt g regions graphs places s → AreSummed regions values places ids → Fits Ts ids
-  fits s places ids at summed = record {
-    known = λ j lt.
-        let known : j < length regions = omega (arith, lt, summed.many) in
-        subst (λ z. z < length Ts) (sym (summed.each j known)) ((are.valued j known).known (place_at places j) (place_inside s places j at known));
-    bounds = λ m few. bounded Ts ids (balance m *ℤ pos (2 ^ 59)) (omega (arith, summed.many, are.few))
-        (λ j lt.
-        let known : j < length regions = omega (arith, lt, summed.many) in
-        subst (λ z. AreWithin most_units (tree_at Ts z)) (sym (summed.each j known)) (are.within j (place_at places j) known (place_inside s places j at known)))
-        (small_units m few);
-  }
-
--- the sum with another place of a region
-pub summed_set : (regions : List Region) (values : List (List ℕ)) (places ids : List ℕ) (k i : ℕ) → length places ≡ length regions → k < length regions
-    → AreSummed regions values places ids → AreSummed regions values (set places k i) (set ids k (get_or (ids_at values k) i 0))
-summed_set regions values places ids k i many known summed = record {
-  many = length-set ids k (get_or (ids_at values k) i 0) ∙ summed.many;
-  each = λ j lt. elim (cases_eq j k) as (λ _. get_or (set ids k (get_or (ids_at values k) i 0)) j 0 ≡ get_or (ids_at values j) (place_at (set places k i) j) 0) [
-    | inl e ↦ subst (λ z. get_or (set ids k (get_or (ids_at values k) i 0)) z 0 ≡ get_or (ids_at values z) (place_at (set places k i) z) 0) (sym e)
-        (get_or-set_same ids k (get_or (ids_at values k) i 0) 0 (omega (arith, known, summed.many))
-        ∙ ap (λ z. get_or (ids_at values k) z 0) (sym (get_or-set_same places k i 0 (omega (arith, known, many)))))
-    | inr ne ↦ get_or-set_other ids k j (get_or (ids_at values k) i 0) 0 ne ∙ summed.each j lt
-        ∙ ap (λ z. get_or (ids_at values j) z 0) (sym (get_or-set_other places k j i 0 ne))
-  ];
-}
+use Rattle.endgame_solver.specs.inner.Held.{AreModest, AreSolvedAt, AreSummed, HasRoom, IsAt, IsFirstStone, IsStoneAt, IsStoneEdge, ids_at, place_at}
+use Rattle.endgame_solver.specs.inner.Sharing.{AreSharedBy}
+use Rattle.endgame_solver.specs.inner.Views.{IsHeld, ShowsAll, ShowsPlaces, own, seen_graph, seen_ids, view_at}
+use Rattle.endgame_solver.specs.declared.limits.Limits.{Limits}
+use Rattle.endgame_solver.specs.declared.view_book.Book.{Book}
+use Rattle.endgame_solver.specs.declared.views.View.{View}
+use Rattle.endgame_solver.proofs.BookkeepingLaws.{own-less, paid-in}
+use Rattle.endgame_solver.proofs.HeldLaws.{decided, fits, kept_stone, money_leads, present, stone_edge, stone_leads, stone_legal, stone_next, stone_taken, summed_set}
 
 -- purses of at most 2 ^ 41 stay modest
-pub modest_now : (graphs : List Graph) (places : List ℕ) (s : Whole) → HasRoom graphs places s → AreModest s.purses
-modest_now graphs places s room = record { black = omega (arith, room.room Black); white = omega (arith, room.room White) }
+module _ {graphs : List Graph} {places : List ℕ} {s : Whole} (room : HasRoom graphs places s) where
+  modest_paid : (c : Colour) (n : ℕ) → n < 256 → AreModest (paid_in c n s.purses)
+  modest_paid c n few = record {
+    black = omega (arith, few, room.room Black, paid-in Black c n s.purses, own-less Black c n);
+    white = omega (arith, few, room.room White, paid-in White c n s.purses, own-less White c n);
+  }
 
-pub modest_paid : (graphs : List Graph) (places : List ℕ) (s : Whole) (c : Colour) (n : ℕ) → n < 256 → HasRoom graphs places s → AreModest (paid_in c n s.purses)
-modest_paid graphs places s Black n few room = record { black = omega (arith, few, room.room Black); white = omega (arith, room.room White) }
-modest_paid graphs places s White n few room = record { black = omega (arith, room.room Black); white = omega (arith, few, room.room White) }
+  modest_spent : (c : Colour) → AreModest (paid_out c s.purses)
+  modest_spent Black = record { black = omega (arith, room.room Black); white = omega (arith, room.room White) }
+  modest_spent White = record { black = omega (arith, room.room Black); white = omega (arith, room.room White) }
 
-pub modest_spent : (graphs : List Graph) (places : List ℕ) (s : Whole) (c : Colour) → HasRoom graphs places s → AreModest (paid_out c s.purses)
-modest_spent graphs places s Black room = record { black = omega (arith, room.room Black); white = omega (arith, room.room White) }
-modest_spent graphs places s White room = record { black = omega (arith, room.room Black); white = omega (arith, room.room White) }
+-- where the player to move loses no move wins
+pub loses_none : (s : Whole) → MoverLoses Whole Leads s → IsFirstWinning s None
+loses_none s loses m w = wins-not_loses Whole Leads (suc w.2.0) loses.0 s (w.0, (m, w.1), w.2.1) loses.1
 
-module _ (regions : List Region) (graphs : List Graph) (values : List (List ℕ)) (places ids : List ℕ) (Ts : List Tree) (s : Whole)
+not_other : (c : Colour) → c ≡ other c → ⊥
+not_other Black e = cc
+not_other White e = cc
+
+-- A move wins exactly where the sum that it leaves is lost.
+module _ {regions : List Region} {graphs : List Graph} {values : List (List ℕ)} {places ids : List ℕ} {Ts : List Tree} {s : Whole}
     (kept : AreSolvedAt regions graphs values places ids Ts s) where
-  pub are_places : ArePlaces regions graphs places
-  are_places = record { many_graphs = kept.solved.cut.many; many_places = kept.at.many; inside = λ k lt. (kept.at.shown k lt).1.at.inside }
-
   -- the state after a move is lost exactly where its sum is
-  loses_after : (t : Whole) (places' ids' : List ℕ) (m : Purses) → IsAt kept.board regions graphs places' t → AreSummed regions values places' ids'
-      → t.purses ≡ m → t.side ≡ other s.side
-      → MoverLoses Whole Leads t ↔ LosesGame (other s.side) (sum_tree Ts ids' (balance m *ℤ pos (2 ^ 59)))
-  loses_after t places' ids' m at summed purses turn =
-      let d = (decided_now kept.board regions graphs values Ts kept.solved t places' ids' at summed).1 in
-      let same : LosesGame t.side (sum_tree Ts ids' (balance_units t)) ≡ LosesGame (other s.side) (sum_tree Ts ids' (balance m *ℤ pos (2 ^ 59))) =
-      λ i. LosesGame (turn i) (sum_tree Ts ids' (balance (purses i) *ℤ pos (2 ^ 59))) in
-      (λ h. subst (λ T. T) same (d.0 h), λ h. d.1 (subst (λ T. T) (sym same) h))
+  loses_after : {t : Whole} {places' ids' : List ℕ} {m : Purses} → IsAt kept.board regions graphs places' t → AreSummed regions values places' ids'
+      → t.purses ≡ m → t.side ≡ other s.side → MoverLoses Whole Leads t ↔ LosesGame (other s.side) (sum_tree Ts ids' (balance m *ℤ pos (2 ^ 59)))
+  loses_after {t} {places'} {ids'} {m} at summed purses turn =
+      subst (λ T. MoverLoses Whole Leads t ↔ T) (λ i. LosesGame (turn i) (sum_tree Ts ids' (balance (purses i) *ℤ pos (2 ^ 59))))
+      (decided kept.solved at ids' (present kept.solved at ids' summed)).1
 
-  -- what a search for a stone looks at
-  pub record AsksStone (p k : ℕ) (e : Edge) : Type 0 where
-    pub place : k < length ids
-    pub list : k < length values
-    pub next : e.next < length (ids_at values k)
-    pub taken : e.taken ≤ 33
-    pub fits : Fits Ts (set ids k (get_or (ids_at values k) e.next 0))
-    pub wins : (b : Bool) → IsTrue b ↔ LosesGame (other s.side) (sum_tree Ts (set ids k (get_or (ids_at values k) e.next 0)) (balance (paid_in s.side e.taken s.purses) *ℤ pos (2 ^ 59)))
+  -- a stone leaves a sum that fits a search
+  module _ {p k : ℕ} {e : Edge} (x : IsStoneEdge regions graphs places s.side p k e) where
+    abbrev left : List ℕ
+    left = set ids k (get_or (ids_at values k) e.next 0)
+
+    left_known : AreIds Ts left
+    left_known j lt =
+        let (t, m) = stone_legal kept.solved kept.at x in
+        let summed = summed_set kept k e.next x.known in
+        ((present kept.solved (stone_leads kept.solved kept.at t x m).held left summed).each j (omega (arith, lt, summed.many))).2.0
+
+    left_bounds : (m : Purses) → AreModest m → IsBounded (pick Ts left) (balance m *ℤ pos (2 ^ 59))
+    left_bounds =
+        let (t, m) = stone_legal kept.solved kept.at x in
+        fits kept.solved (stone_leads kept.solved kept.at t x m).held left (summed_set kept k e.next x.known)
+
+    left_wins : (b : Bool) → IsTrue b ↔ LosesGame (other s.side) (sum_tree Ts left (balance (paid_in s.side e.taken s.purses) *ℤ pos (2 ^ 59)))
         → IsTrue b ↔ IsWinning s (Stone p)
-
-  pub asks_stone : (p k : ℕ) (e : Edge) → IsStoneEdge regions graphs places s.side p k e → AsksStone p k e
-  asks_stone p k e x =
-      let (t, m) = stone_legal kept.board regions graphs values Ts kept.solved s places kept.at p k e x in
-      let leads : (u : Whole) → IsMove s (Stone p) u → StoneLeads kept.board regions graphs values Ts kept.solved s places kept.at u k e = λ u. stone_leads kept.board regions graphs values Ts kept.solved s places kept.at u p k e x in
-      let summed = summed_set regions values places ids k e.next kept.at.many x.known kept.summed in
-      let lost : (u : Whole) → IsMove s (Stone p) u → MoverLoses Whole Leads u ↔ LosesGame (other s.side) (sum_tree Ts (set ids k (get_or (ids_at values k) e.next 0)) (balance (paid_in s.side e.taken s.purses) *ℤ pos (2 ^ 59))) =
-      λ u w. loses_after u (set places k e.next) (set ids k (get_or (ids_at values k) e.next 0)) (paid_in s.side e.taken s.purses) (leads u w).held summed (leads u w).purses (leads u w).turn in
-      record {
-        place = omega (arith, x.known, kept.summed.many);
-        list = omega (arith, x.known, kept.solved.many);
-        next = omega (arith, stone_next kept.board regions graphs values Ts kept.solved s places kept.at p k e x, (kept.solved.valued k x.known).long);
-        taken = stone_taken kept.board regions graphs values Ts kept.solved s places kept.at p k e x;
-        fits = fits kept.board regions graphs values Ts kept.solved t (set places k e.next) (set ids k (get_or (ids_at values k) e.next 0)) (leads t m).held summed;
-        wins = λ b w. (
+    left_wins b w =
+        let (t, m) = stone_legal kept.solved kept.at x in (
           λ h. (t, m, (lost t m).1 (w.0 h)),
           λ h. w.1 ((lost h.0 h.1).0 h.2),
-        );
-      }
+        )
+      where
+        lost : (u : Whole) → IsMove s (Stone p) u
+            → MoverLoses Whole Leads u ↔ LosesGame (other s.side) (sum_tree Ts left (balance (paid_in s.side e.taken s.purses) *ℤ pos (2 ^ 59)))
+        lost u m =
+            let leads = stone_leads kept.solved kept.at u x m in loses_after leads.held (summed_set kept k e.next x.known) leads.purses leads.turn
 
   -- where no edge is the stone's it doesn't win
   pub no_stone : (p : ℕ) → ((k : ℕ) (e : Edge) → ¬ IsStoneEdge regions graphs places s.side p k e) → ¬ IsWinning s (Stone p)
-  no_stone p none (t, m, h) = let w = stone_edge kept.board regions graphs values Ts kept.solved s places kept.at t p m in absurd (none w.0 w.1.0 w.1.1)
-
-  pub fits_now : Fits Ts ids
-  fits_now = fits kept.board regions graphs values Ts kept.solved s places ids kept.at kept.summed
+  no_stone p none (t, m, h) = let (k, (e, x)) = stone_edge kept.solved kept.at t p m in none k e x
 
   pub spend_wins : (b : Bool) → 1 ≤ purse s.side s.purses → IsTrue b ↔ LosesGame (other s.side) (sum_tree Ts ids (balance (paid_out s.side s.purses) *ℤ pos (2 ^ 59)))
       → IsTrue b ↔ IsWinning s Spend
   spend_wins b some w =
       let t = after s.board (paid_out s.side s.purses) s in
-      let lost : (u : Whole) → IsMove s Spend u → MoverLoses Whole Leads u ↔ LosesGame (other s.side) (sum_tree Ts ids (balance (paid_out s.side s.purses) *ℤ pos (2 ^ 59))) =
-      λ u m. loses_after u places ids (paid_out s.side s.purses)
-      (spend_leads kept.board regions graphs values Ts kept.solved s places kept.at u m) kept.summed (ap (λ z. z.purses) m.1) (ap (λ z. z.side) m.1) in
       (λ h. (t, (some, refl), (lost t (some, refl)).1 (w.0 h)), λ h. w.1 ((lost h.0 h.1).0 h.2))
+    where
+      lost : (u : Whole) → IsMove s Spend u → MoverLoses Whole Leads u ↔ LosesGame (other s.side)
+          (sum_tree Ts ids (balance (paid_out s.side s.purses) *ℤ pos (2 ^ 59)))
+      lost u m =
+          loses_after (money_leads kept.solved kept.at Spend (paid_out s.side s.purses) u m m.1) kept.summed (ap (λ z. z.purses) m.1)
+          (ap (λ z. z.side) m.1)
+
+  -- The winner of the present state by the sum of its values: the player to move loses that sum and the balance.
+  abbrev pub LosesSum : Type 0
+  LosesSum = LosesGame s.side (sum_tree Ts ids (balance_units s))
+
+  -- what a search of the kept ids answers
+  pub by_search : {b : Bool} {c : Colour} {list : List ℕ} {x : ℤ} {m : Purses} → c ≡ s.side → list ≡ ids → m ≡ s.purses
+      → x ≡ balance m *ℤ pos (2 ^ 59)
+      → IsTrue b ↔ LosesGame c (sum_tree Ts list x) → IsTrue b ↔ LosesSum
+  by_search {b} side same purses number answer =
+      let number' = number ∙ ap (λ z. balance z *ℤ pos (2 ^ 59)) purses in
+      subst (λ T. IsTrue b ↔ T) (λ i. LosesGame (side i) (sum_tree Ts (same i) (number' i))) answer
+
+  pub loses_state : LosesSum → MoverLoses Whole Leads s
+  loses_state h = (decided kept.solved kept.at ids (present kept.solved kept.at ids kept.summed)).1.1 h
+
+  pub loses_sum : MoverLoses Whole Leads s → LosesSum
+  loses_sum h = (decided kept.solved kept.at ids (present kept.solved kept.at ids kept.summed)).1.0 h
+
+  pub other_wins : {c : Colour} → c ≡ other s.side → LosesSum → IsWinner s c
+  other_wins is h = inr (is, loses_state h)
+
+  pub side_wins : {c : Colour} → c ≡ s.side → ¬ LosesSum → IsWinner s c
+  side_wins is not = elim (decided kept.solved kept.at ids (present kept.solved kept.at ids kept.summed)).0 [
+    | inl wins ↦ inl (is, wins)
+    | inr loses ↦ absurd (not (loses_sum loses))
+  ]
+
+  -- any ids of the present values will do
+  present_sum : (others : List ℕ) → ArePresent (record { regions = regions; trees = Ts; state = s }) others
+      → LosesGame s.side (sum_tree Ts others (balance_units s)) ↔ LosesSum
+  present_sum others there =
+      let d = (decided kept.solved kept.at others there).1 in
+      (λ h. loses_sum (d.1 h), λ h. d.0 (loses_state h))
+
+  pub winner_by_sum : {c : Colour} → c ≡ other s.side → LosesSum → (others : List ℕ) → ArePresent
+      (record { regions = regions; trees = Ts; state = s }) others
+      → c ≡ other s.side ↔ LosesGame s.side (sum_tree Ts others (balance_units s))
+  winner_by_sum is lost others there = (λ _. (present_sum others there).1 lost, λ _. is)
+
+  pub side_by_sum : {c : Colour} → c ≡ s.side → ¬ LosesSum → (others : List ℕ) → ArePresent
+      (record { regions = regions; trees = Ts; state = s }) others
+      → c ≡ other s.side ↔ LosesGame s.side (sum_tree Ts others (balance_units s))
+  side_by_sum is not others there = (λ e. absurd (not_other s.side (sym is ∙ e)), λ h. absurd (not ((present_sum others there).0 h)))
+
+  wins_none : (n : ℕ) → WinsWithin Whole Leads n s → ((m : Move) → ¬ IsWinning s m) → ⊥
+  wins_none zero w none = w
+  wins_none (suc n) (t, (m, move), loses) none = none m (t, move, (n, loses))
+
+  -- no move wins exactly where the player to move loses
+  pub none_loses : (m : Option Move) → IsFirstWinning s m → (m ≡ None) ↔ MoverLoses Whole Leads s
+  none_loses None first = (
+    λ _. elim (decided kept.solved kept.at ids (present kept.solved kept.at ids kept.summed)).0 [
+      | inl wins ↦ absurd (wins_none wins.0 wins.1 first)
+      | inr loses ↦ loses
+    ],
+    λ _. refl,
+  )
+  none_loses (Some m) first = (λ e. absurd (cc), λ loses. absurd (loses_none s loses m first.0))
+
+  -- where the player to move wins by no other move, the half wins: it may be moved exactly where there is a token
+  pub last_wins : ¬ MoverLoses Whole Leads s → IsFirstStone s None → ¬ IsWinning s Spend → IsWinning s Half
+  last_wins not none spend = elim (decided kept.solved kept.at ids (present kept.solved kept.at ids kept.summed)).0 [
+    | inl wins ↦ by wins.0 wins.1
+    | inr loses ↦ absurd (not loses)
+  ]
+    where
+      half : (m : Move) → IsWinning s m → IsWinning s Half
+      half (Stone q) w = absurd (none q w)
+      half Spend w = absurd (spend w)
+      half Half w = w
+
+      by : (n : ℕ) → WinsWithin Whole Leads n s → IsWinning s Half
+      by zero w = absurd w
+      by (suc n) (t, (m, move), loses) = half m (t, move, (n, loses))
+
+-- Looking for the edge of a stone, and for the first stone that wins.
+
+-- none of the first n edges stands for a move of the stone
+abbrev pub NoneBefore : Region → View → List Edge → Colour → ℕ → ℕ → Type 0
+NoneBefore r v edges c p n = (j : ℕ) (f : Edge) → j < n → j < length edges → get_or edges j f ≡ f → ¬ IsStoneAt r c p (own v f)
+
+-- no edge of the first n regions is the stone's
+abbrev pub NoneIn : List Region → Book → List ℕ → Colour → ℕ → ℕ → Type 0
+NoneIn regions book places c p n = (graphs : List Graph) (values : List (List ℕ)) → ShowsAll book graphs values (length regions)
+    → (k : ℕ) (e : Edge) → k < n → ¬ IsStoneEdge regions graphs places c p k e
+
+pub none_before_more : (r : Region) (v : View) (edges : List Edge) (c : Colour) (p n : ℕ) → ¬ IsStoneAt r c p (own v (get_or edges n no_edge))
+    → NoneBefore r v edges c p n → NoneBefore r v edges c p (n + 1)
+none_before_more r v edges c p n none before j f less short at stone = elim (cases_eq j n) as (λ _. ⊥) [
+  | inl same ↦ none (subst (λ x. IsStoneAt r c p (own v x)) (sym at ∙ get_or_default edges j f no_edge short ∙ ap (λ m. get_or edges m no_edge) same) stone)
+  | inr ne ↦ before j f (omega (arith, less, ne)) short at stone
+]
+
+-- no stone below n wins
+abbrev pub NoStone : Whole → ℕ → Type 0
+NoStone s n = (q : ℕ) → q < n → ¬ IsWinning s (Stone q)
+
+-- a stone that wins is on the board
+pub no_stone_end : (s : Whole) (n : ℕ) → length s.board.cells ≤ n → NoStone s n → IsFirstStone s None
+no_stone_end s n le none q (t, (mark, (h, (k, placed, number, is))), lost) = none q (omega (arith, placed.1.place, le)) (t, (mark, (h, (k, placed, number, is))), lost)
+
+-- the first winning move, by the stones, the point spent and the half
+pub first_stone : (s : Whole) (p : ℕ) → IsFirstStone s (Some p) → IsFirstWinning s (Some (Stone p))
+first_stone s p w = (w.1, λ m x. least m x)
+  where
+    least : (m : Move) → IsWinning s m → p ≤ rank m
+    least (Stone q) x = elim (cases_lt q p) as (λ _. p ≤ q) [
+      | inl lt ↦ absurd (w.2 q lt x)
+      | inr ge ↦ omega (arith, ge)
+    ]
+    least Spend x = omega (arith, w.0)
+    least Half x = omega (arith, w.0)
+
+pub first_spend : (s : Whole) → IsFirstStone s None → IsWinning s Spend → IsFirstWinning s (Some Spend)
+first_spend s none w = (w, λ m x. least m x)
+  where
+    least : (m : Move) → IsWinning s m → 625 ≤ rank m
+    least (Stone q) x = absurd (none q x)
+    least Spend x = omega arith
+    least Half x = omega arith
+
+pub first_half : (s : Whole) → IsFirstStone s None → ¬ IsWinning s Spend → IsWinning s Half → IsFirstWinning s (Some Half)
+first_half s none not w = (w, λ m x. least m x)
+  where
+    least : (m : Move) → IsWinning s m → 626 ≤ rank m
+    least (Stone q) x = absurd (none q x)
+    least Spend x = absurd (not x)
+    least Half x = omega arith
+
+-- the next region's edges, as the code reads them
+module _ {regions : List Region} (book : Book) {places : List ℕ} (c : Colour) (p : ℕ) {k : ℕ} {r : Region} {v : View} {edges : List Edge}
+    (lt : k < length regions)
+    (er : r ≡ region_at regions k) (ev : v ≡ view_at book.views.items k) (ee : edges ≡ edges_at (seen_graph book k).edges (place_at places k)) where
+  pub none_more : NoneIn regions book places c p k → ((f : Edge) → Contains edges f → ¬ IsStoneAt r c p (own v f))
+      → NoneIn regions book places c p (k + 1)
+  none_more before none graphs values shows j e less x = elim (cases_eq j k) as (λ _. ⊥) [
+    | inl same ↦
+        let here : IsStoneEdge regions graphs places c p k e = subst (λ m. IsStoneEdge regions graphs places c p m e) same x in
+        let (f, among, is) = ((shows.each k lt).seen.moves (place_at places k) e).0 here.edge.among in
+        none f (subst (λ es. Contains es f) (sym ee) among)
+        (subst (λ T. T) (λ i. IsStoneAt (sym er i) c p (own (sym ev i) f)) (subst (IsStoneAt (region_at regions k) c p) is here.edge.stone))
+    | inr ne ↦ before graphs values shows j e (omega (arith, less, ne)) x
+  ]
+
+  pub some_found : (e : Edge) → (f : Edge) × Contains edges f × (e ≡ own v f) × IsStoneAt r c p e
+      → (graphs : List Graph) (values : List (List ℕ)) → ShowsAll book graphs values (length regions) → IsStoneEdge regions graphs places c p k e
+  some_found e (f, among, is, stone) graphs values shows = record {
+    known = lt;
+    edge = record {
+      stone = subst (λ s. IsStoneAt s c p e) er stone;
+      among = ((shows.each k lt).seen.moves (place_at places k) e).1 (f, subst (λ es. Contains es f) ee among, is ∙ ap (λ w. own w f) ev);
+    };
+  }
+
+pub none_end : (regions : List Region) (book : Book) (places : List ℕ) (c : Colour) (p n : ℕ) → length regions ≤ n → NoneIn regions book places c p n
+    → (graphs : List Graph) (values : List (List ℕ)) → ShowsAll book graphs values (length regions) → (k : ℕ) (e : Edge) → ¬ IsStoneEdge regions graphs places c p k e
+none_end regions book places c p n le none graphs values shows k e x = none graphs values shows k e (omega (arith, x.known, le)) x
+
+pub asks_small : (regions : List Region) (book : Book) (places : List ℕ) → ShowsPlaces regions book places → (k : ℕ) → k < length regions
+    → (i : ℕ) (edges : List Edge) → edges ≡ edges_at (seen_graph book k).edges i → (f : Edge) → Contains edges f → f.place < 32
+asks_small regions book places shows k lt i edges e f among = (shows.views_are.each k lt).seen.inside i f (subst (λ es. Contains es f) e among)
+
+-- What is read of a region's graph and values in the book is what they are.
+
+-- the same edge of lists that are equal
+edge_seen : {rs rs' : List Region} {ps ps' : List ℕ} {c c' : Colour} (gs : List Graph) (p k : ℕ) (e : Edge) → rs ≡ rs' → ps ≡ ps' → c ≡ c'
+    → IsStoneEdge rs gs ps c p k e → IsStoneEdge rs' gs ps' c' p k e
+edge_seen gs p k e r l d x = subst (λ T. T) (λ i. IsStoneEdge (r i) gs (l i) (d i) p k e) x
+
+-- each region's opening has a value
+pub openings_known : (limits : Limits) (regions : List Region) (book : Book) (Ts : List Tree) → AreSharedBy limits regions book Ts → (k : ℕ) → k < length book.views.items
+    → ((view_at book.views.items k).values < length book.values.items) × (0 < length (seen_ids book k))
+openings_known limits regions book Ts s k lt =
+    let short : k < length regions = omega (arith, lt, s.views_are.many) in
+    let w = s.views_are.each k short in
+    let solved = s.solved.each k short in
+    (w.values, omega (arith, ap length w.same, solved.values.long, solved.graph.graph.graph.some))
+
+-- the values of the openings
+pub sum_is : (book : Book) (graphs : List Graph) (values : List (List ℕ)) (n : ℕ) (sum : List ℕ) → ShowsAll book graphs values n → length values ≡ n
+    → length sum ≡ length book.views.items → ((k : ℕ) → k < length book.views.items → get_or sum k 0 ≡ get_or (seen_ids book k) 0 0)
+    → sum ≡ map (λ ids. get_or ids 0 0) values
+sum_is book graphs values n sum shows many long each = ext_get_or 0 sum (map (λ ids. get_or ids 0 0) values) (omega (arith, long, many, shows.many, length-map values (λ ids. get_or ids 0 0))) (λ k lt.
+    let short : k < n = omega (arith, lt, long, shows.many) in
+    each k (omega (arith, lt, long)) ∙ ap (λ ids. get_or ids 0 0) (shows.each k short).same
+    ∙ sym (get_or-map (λ ids. get_or ids 0 0) values k [] 0 (omega (arith, short, many))))
+
+module _ {regions : List Region} {book : Book} {places ids : List ℕ} {Ts : List Tree} {s : Whole} (held : IsHeld regions book places ids Ts s) where
+  -- another state that keeps as much
+  pub held_as : {places' ids' : List ℕ} {t : Whole} → AreSolvedAt regions held.graphs held.values places' ids' Ts t
+      → IsHeld regions book places' ids' Ts t
+  held_as kept = record { graphs = held.graphs; values = held.values; views_are = held.views_are; shapes = held.shapes; kept = kept }
+
+  -- the same of lists that are lent
+  pub held_lent : {regions' : List Region} {places' ids' : List ℕ} → regions' ≡ regions → places' ≡ places → ids' ≡ ids
+      → IsHeld regions' book places' ids' Ts s
+  held_lent er ep ei = subst (λ T. T) (λ i. IsHeld (sym er i) book (sym ep i) (sym ei i) Ts s) held
+
+  pub shows_places : {rs : List Region} {ps : List ℕ} → rs ≡ regions → ps ≡ places → ShowsPlaces rs book ps
+  shows_places lent at = subst (λ T. T) (λ i. ShowsPlaces (sym lent i) book (sym at i)) record {
+    graphs = held.graphs;
+    values = held.values;
+    views_are = held.views_are;
+    places_are = record {
+      many_graphs = held.kept.solved.cut.many;
+      many_places = held.kept.at.many;
+      inside = λ k lt. (held.kept.at.shown k lt).1.at.inside;
+    };
+  }
+
+  -- what may be asked of the book, and what the region's view shows
+  pub asks_view : {k : ℕ} → k < length regions → k < length book.views.items
+  asks_view lt = omega (arith, lt, held.views_are.many)
+
+  pub asks_values : {k : ℕ} → k < length regions → (view_at book.views.items k).values < length book.values.items
+  asks_values {k} lt = (held.views_are.each k lt).values
+
+  pub ids_seen : {k : ℕ} → k < length regions → seen_ids book k ≡ ids_at held.values k
+  ids_seen {k} lt = (held.views_are.each k lt).same
+
+  -- the purses are modest, after a point is given back too; and beside modest ones the sum is bounded
+  pub held_modest : {m : Purses} → m ≡ s.purses → AreModest m
+  held_modest is =
+      subst AreModest (sym is) record { black = omega (arith, held.kept.room.room Black); white = omega (arith, held.kept.room.room White) }
+
+  pub held_spent : {m : Purses} (c : Colour) → m ≡ paid_out c s.purses → AreModest m
+  held_spent c is = subst AreModest (sym is) (modest_spent held.kept.room c)
+
+  pub held_bounds : {m : Purses} {x : ℤ} → AreModest m → x ≡ balance m *ℤ pos (2 ^ 59) → IsBounded (pick Ts ids) x
+  held_bounds {m} modest number = subst (IsBounded (pick Ts ids)) (sym number) (fits held.kept.solved held.kept.at ids held.kept.summed m modest)
+
+-- a stone that the book shows: what may be asked of the book for it, and what the sum and the purses are that it leaves
+module _ {regions rs : List Region} {book : Book} {places ps ids : List ℕ} {Ts : List Tree} {s : Whole} (held : IsHeld regions book places ids Ts s)
+    (lent : rs ≡ regions) (at : ps ≡ places) {d : Colour} (side : d ≡ s.side) where
+  shows_lent : ShowsAll book held.graphs held.values (length rs)
+  shows_lent = subst (λ xs. ShowsAll book held.graphs held.values (length xs)) (sym lent) held.views_are
+
+  pub stone_none : {p : ℕ} → ((graphs : List Graph) (values : List (List ℕ)) → ShowsAll book graphs values (length rs) → (k : ℕ) (e : Edge)
+      → ¬ IsStoneEdge rs graphs ps d p k e)
+      → (k : ℕ) (e : Edge) → ¬ IsStoneEdge regions held.graphs places s.side p k e
+  stone_none {p} none k e x = none held.graphs held.values shows_lent k e (edge_seen held.graphs p k e (sym lent) (sym at) (sym side) x)
+
+module _ {regions rs : List Region} {book : Book} {places ps ids : List ℕ} {Ts : List Tree} {s : Whole} (held : IsHeld regions book places ids Ts s)
+    (lent : rs ≡ regions) (at : ps ≡ places) {d : Colour} (side : d ≡ s.side) {p k : ℕ} {e : Edge}
+    (found : (graphs : List Graph) (values : List (List ℕ)) → ShowsAll book graphs values (length rs) → IsStoneEdge rs graphs ps d p k e) where
+  stone_seen : IsStoneEdge regions held.graphs places s.side p k e
+  stone_seen = edge_seen held.graphs p k e lent at side (found held.graphs held.values (shows_lent held lent at side))
+
+  pub stone_view : k < length book.views.items
+  stone_view = asks_view held stone_seen.known
+
+  pub stone_values : (view_at book.views.items k).values < length book.values.items
+  stone_values = asks_values held stone_seen.known
+
+  pub stone_place : e.next < length (seen_ids book k)
+  stone_place =
+      let x = stone_seen in
+      omega (arith, ap length (ids_seen held x.known), stone_next held.kept.solved held.kept.at x, (held.kept.solved.valued k x.known).long)
+
+  pub stone_modest : {n : ℕ} {m : Purses} → n ≡ e.taken → m ≡ paid_in d n s.purses → AreModest m
+  stone_modest {n} {m} taken paid =
+      subst AreModest (sym paid) (modest_paid held.kept.room d n (omega (arith, taken, stone_taken held.kept.solved held.kept.at stone_seen)))
+
+  module _ {v : ℕ} (value : v ≡ get_or (seen_ids book k) e.next 0) where
+    stone_value : get_or (ids_at held.values k) e.next 0 ≡ v
+    stone_value = ap (λ z. get_or z e.next 0) (sym (ids_seen held stone_seen.known)) ∙ sym value
+
+    -- the game after it
+    pub stone_held : (t : Whole) → IsMove s (Stone p) t → IsHeld regions book (set places k e.next) (set ids k v) Ts t
+    stone_held t m = held_as held (subst (λ w. AreSolvedAt regions held.graphs held.values (set places k e.next) (set ids k w) Ts t) stone_value
+        (kept_stone held.kept t stone_seen m))
+
+    pub stone_known : AreIds Ts (set ids k v)
+    stone_known = subst (λ w. AreIds Ts (set ids k w)) stone_value (left_known held.kept stone_seen)
+
+    module _ {n : ℕ} {m : Purses} {x : ℤ} (taken : n ≡ e.taken) (paid : m ≡ paid_in d n s.purses) (number : x ≡ balance m *ℤ pos (2 ^ 59)) where
+      pub stone_bounds : IsBounded (pick Ts (set ids k v)) x
+      stone_bounds =
+          subst (λ T. T) (λ i. IsBounded (pick Ts (set ids k (stone_value i))) (sym number i))
+          (left_bounds held.kept stone_seen m (stone_modest taken paid))
+
+      pub stone_wins : {b : Bool} {o : Colour} → o ≡ other d → IsTrue b ↔ LosesGame o (sum_tree Ts (set ids k v) x) → IsTrue b ↔ IsWinning s (Stone p)
+      stone_wins {b} {o} turn answer =
+          let to_move = turn ∙ ap other side in
+          let units = number ∙ ap (λ z. balance z *ℤ pos (2 ^ 59)) (paid ∙ ap (λ c. paid_in c n s.purses) side ∙ ap (λ j. paid_in s.side j s.purses) taken) in
+          let back = sym stone_value in
+          left_wins held.kept stone_seen b
+          (subst (λ T. IsTrue b ↔ T) (λ i. LosesGame (to_move i) (sum_tree Ts (set ids k (back i)) (units i))) answer)

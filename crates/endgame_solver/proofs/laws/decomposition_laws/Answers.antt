@@ -1,8 +1,6 @@
-use Rattle.endgame_solver.proofs.WholeDecomposition.{decomposes_whole}
-use Rattle.endgame_solver.proofs.Decomposition.{decomposes}
-use Rattle.endgame_solver.proofs.MoneyLaws.{purses_follow}
-use Rattle.endgame_solver.proofs.FollowLaws.{regions_follow}
-use Rattle.endgame_solver.proofs.PursesLaws.{purses-balance}
+use Rattle.endgame_solver.proofs.WholeLaws.{decomposes_whole}
+use Rattle.endgame_solver.proofs.PartsLaws.{decomposes, purses-balance}
+use Rattle.endgame_solver.proofs.BookkeepingLaws.{purses_follow, regions_follow}
 use Rattle.std.proofs.Common.{ℕ}
 use Rattle.endgame_solver.proofs.laws.decomposition_laws.Goals as goal
 

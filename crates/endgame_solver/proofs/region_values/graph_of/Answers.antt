@@ -1,6 +1,6 @@
 use Rattle.std.proofs.Common.{◌≡◌, ◌<◌, sym, subst, arith, length}
 use Rattle.std.specs.List.{All}
-use Rattle.endgame_solver.proofs.BeginLaws.{cycle_places, positions_few}
+use Rattle.endgame_solver.proofs.GraphLaws.{cycle_places, positions_few}
 use Rattle.endgame_solver.proofs.region_values.graph_of.Goals as goal
 
 pub named_cycle-requires : goal.named_cycle-requires

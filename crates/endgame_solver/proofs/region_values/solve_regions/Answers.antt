@@ -1,7 +1,6 @@
 use Rattle.std.proofs.Common.{◌≡◌, arith, length}
 use Rattle.game_canon.proofs.ChangeSteps.{extends-on}
-use Rattle.endgame_solver.proofs.SharingLaws.{shared_by}
-use Rattle.endgame_solver.proofs.SolvingLaws.{steps_after, steps_before}
+use Rattle.endgame_solver.proofs.SharingLaws.{shared_by, steps_after, steps_before}
 use Rattle.endgame_solver.proofs.region_values.solve_regions.Goals as goal
 
 pub returns-in_err-solve_next-clause-steps : goal.returns-in_err-solve_next-clause-steps

@@ -1,5 +1,5 @@
 use Rattle.std.proofs.Common.{◌^◌, arith, length}
-use Rattle.endgame_solver.proofs.BeginLaws.{few_units, no_large_form}
+use Rattle.endgame_solver.proofs.GraphLaws.{few_units, no_large_form}
 use Rattle.endgame_solver.proofs.region_values.values_of.Goals as goal
 
 pub returns-in-Ok-clause-solved : goal.returns-in-Ok-clause-solved

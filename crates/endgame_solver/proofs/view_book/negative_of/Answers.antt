@@ -1,5 +1,5 @@
 use Rattle.std.proofs.Common.{◌<◌, arith, length}
-use Rattle.endgame_solver.proofs.PairingLaws.{negated, negatives_later, negatives_more}
+use Rattle.endgame_solver.proofs.SharingLaws.{negated, negatives_later, negatives_more}
 use Rattle.endgame_solver.proofs.view_book.negative_of.Goals as goal
 
 pub returns-in-Some-clause-value : goal.returns-in-Some-clause-value

@@ -1,6 +1,6 @@
 use Rattle.std.proofs.Common.{◌≡◌, ◌∙◌, refl, sym, ap, subst, length}
 use Rattle.endgame_solver.specs.inner.Sharing.{AreNegatives}
-use Rattle.endgame_solver.proofs.PairingLaws.{lent_back, turned_step}
+use Rattle.endgame_solver.proofs.SharingLaws.{lent_back, turned_step}
 use Rattle.endgame_solver.proofs.view_book.negatives.Goals as goal
 
 pub negative_of-requires-clause-right : goal.negative_of-requires-clause-right

@@ -1,4 +1,4 @@
-use Rattle.endgame_solver.proofs.PairingLaws.{AreTurnedBelow}
+use Rattle.endgame_solver.proofs.SharingLaws.{AreTurnedBelow}
 use Rattle.endgame_solver.proofs.view_book.negatives.Given as goal
 
 abbrev pub invariant-ids : goal.invariant-ids

@@ -1,5 +1,5 @@
 use Rattle.std.proofs.Common.{◌<◌, ◌≡◌, get_or}
-use Rattle.endgame_solver.proofs.PairingLaws.{Filled}
+use Rattle.endgame_solver.proofs.SharingLaws.{Filled}
 use Rattle.endgame_solver.proofs.view_book.pairing.Given as goal
 
 abbrev pub invariant-places : goal.invariant-places

@@ -1,9 +1,9 @@
 use Rattle.std.proofs.Common.{sym, subst}
+use Rattle.std.proofs.lemmas.Bool.{both_ways}
 use Rattle.std.proofs.lemmas.List.Elements.{Contains-get_or}
 use Rattle.local_graph.specs.inner.Graph.{no_edge}
 use Rattle.endgame_solver.specs.inner.Held.{IsStoneAt}
-use Rattle.endgame_solver.proofs.StoneSearch.{none_before_more}
-use Rattle.endgame_solver.proofs.WinningLaws.{differ}
+use Rattle.endgame_solver.proofs.WinningLaws.{none_before_more}
 use Rattle.endgame_solver.proofs.winning_moves.edge_in.Goals as goal
 
 pub own-own-requires : goal.own-own-requires
@@ -12,6 +12,6 @@ own-own-requires c = c.requires _ (Contains-get_or c.args.edges.now c.edges.edge
 pub edges-preserved : goal.edges-preserved
 edges-preserved c =
     none_before_more c.args.region.now c.args.view c.args.edges.now c.args.colour c.args.point c.edges.edge-index
-    (λ h. differ c.is_stone_at.result c.if-is_stone_at.false
+    (λ h. both_ways c.is_stone_at.result c.if-is_stone_at.false
     (c.is_stone_at.ensures.1 (subst (IsStoneAt c.args.region.now c.args.colour c.args.point) (sym c.own-own.ensures) h)))
     c.edges.invariant

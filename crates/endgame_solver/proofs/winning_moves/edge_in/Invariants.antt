@@ -1,4 +1,4 @@
-use Rattle.endgame_solver.proofs.StoneSearch.{NoneBefore}
+use Rattle.endgame_solver.proofs.WinningLaws.{NoneBefore}
 use Rattle.endgame_solver.proofs.winning_moves.edge_in.Given as goal
 
 abbrev pub invariant-edges : goal.invariant-edges

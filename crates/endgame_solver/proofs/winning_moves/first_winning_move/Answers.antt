@@ -1,8 +1,7 @@
+use Rattle.std.proofs.lemmas.Bool.{both_ways}
 use Rattle.whole_rules.specs.declared.states.Move.TheVariants.{Spend}
 use Rattle.whole_rules.specs.FirstWinningMove.{IsWinning}
-use Rattle.endgame_solver.proofs.StoneSearch.{first_stone, first_spend, first_half}
-use Rattle.endgame_solver.proofs.WinnerLaws.{loses_none, last_wins}
-use Rattle.endgame_solver.proofs.WinningLaws.{differ}
+use Rattle.endgame_solver.proofs.WinningLaws.{first_stone, first_spend, first_half, last_wins, loses_none}
 use Rattle.endgame_solver.proofs.winning_moves.first_winning_move.Goals as goal
 
 pub returns-then-mover_loses-clause-first : goal.returns-then-mover_loses-clause-first
@@ -16,9 +15,8 @@ returns-then-spend_wins-clause-first c = first_spend c.args.present.now.whole.no
 
 pub returns-clause-first : goal.returns-clause-first
 returns-clause-first c =
-    let p = c.args.present.now in
+    let s = c.args.present.now.whole.now in
     let none = (c.in_default.ensures {u = tt}).first in
-    let not : ¬ IsWinning p.whole.now Spend = λ w. differ c.spend_wins.result c.if-spend_wins.false (c.spend_wins.ensures.wins.1 w) in
-    first_half p.whole.now none not
-    (last_wins p.regions.now c.requires.seen.graphs c.requires.seen.values p.places.now c.args.sum.now p.store.now p.whole.now c.requires.seen.kept
-    (λ l. differ c.mover_loses.result c.if-mover_loses.false (c.mover_loses.ensures.loses.1 l)) none not)
+    let not : ¬ IsWinning s Spend = λ w. both_ways c.spend_wins.result c.if-spend_wins.false (c.spend_wins.ensures.wins.1 w) in
+    first_half s none not
+    (last_wins c.requires.seen.kept (λ l. both_ways c.mover_loses.result c.if-mover_loses.false (c.mover_loses.ensures.loses.1 l)) none not)

@@ -4,8 +4,7 @@ use Rattle.whole_rules.specs.Purses.{purse, paid_out}
 use Rattle.sum_outcome.specs.Players.{LosesGame}
 use Rattle.sum_outcome.specs.Sums.{sum_tree}
 use Rattle.endgame_solver.specs.SumGame.{balance}
-use Rattle.endgame_solver.proofs.ViewLaws.{held_bounds, held_spent}
-use Rattle.endgame_solver.proofs.WinningLaws.{spend_wins}
+use Rattle.endgame_solver.proofs.WinningLaws.{held_bounds, held_spent, spend_wins}
 use Rattle.endgame_solver.proofs.winning_moves.spend_wins.Goals as goal
 
 pub balance_of-requires : goal.balance_of-requires
@@ -27,5 +26,4 @@ returns-clause-wins c =
     let number = c.balance_of.ensures ∙ ap (λ m. balance m *ℤ pos (2 ^ 59)) purses in
     let answer = subst (λ T. IsTrue c.loses.result ↔ T) (λ i. LosesGame (side i) (sum_tree p.store.now c.args.sum.now (number i))) c.loses.ensures.answer in
     let purse_is : c.purse.result ≡ purse s.side s.purses = c.purse.ensures ∙ ap (λ d. purse d s.purses) c.side-side.ensures in
-    spend_wins p.regions.now c.requires.seen.graphs c.requires.seen.values p.places.now c.args.sum.now p.store.now s c.requires.seen.kept c.loses.result
-    (subst (λ n. 1 ≤ n) purse_is (some c.purse.result c.if-purse-eq0.false)) answer
+    spend_wins c.requires.seen.kept c.loses.result (subst (λ n. 1 ≤ n) purse_is (some c.purse.result c.if-purse-eq0.false)) answer

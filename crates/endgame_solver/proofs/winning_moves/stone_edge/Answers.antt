@@ -1,7 +1,7 @@
-use Rattle.std.proofs.Common.{refl, arith}
+use Rattle.std.proofs.Common.{arith}
 use Rattle.std.proofs.lemmas.List.{get_or_read}
 use Rattle.endgame_solver.specs.Regions.{no_region}
-use Rattle.endgame_solver.proofs.ViewLaws.{asks_small, none_end, none_more, some_found}
+use Rattle.endgame_solver.proofs.WinningLaws.{asks_small, none_end, none_more, some_found}
 use Rattle.endgame_solver.proofs.winning_moves.stone_edge.Goals as goal
 
 pub edge_in-requires : goal.edge_in-requires
@@ -11,14 +11,13 @@ edge_in-requires c =
 pub returns-in-Some-clause-edges : goal.returns-in-Some-clause-edges
 returns-in-Some-clause-edges c =
     let at = get_or_read c.args.regions.now c.regions.k c.index-regions-k.result c.regions-test.true c.index-regions-k.is no_region in
-    some_found c.args.regions.now c.args.book.now c.args.places.now c.args.colour c.args.point c.regions.k _ c.index-regions-k.result c.view_of-view.result c.edges_seen-edges.result.now
-    c.in-Some.edge c.regions-test.true at c.view_of-view.ensures c.edges_seen-edges.ensures refl c.in-Some.ensures
+    some_found c.args.book.now c.args.colour c.args.point c.regions-test.true at c.view_of-view.ensures c.edges_seen-edges.ensures c.in-Some.edge c.in-Some.ensures
 
 pub regions-preserved : goal.regions-preserved
 regions-preserved c =
     let at = get_or_read c.args.regions.now c.regions.k c.index-regions-k.result c.regions-test.true c.index-regions-k.is no_region in
-    none_more c.args.regions.now c.args.book.now c.args.places.now c.args.colour c.args.point c.regions.k _ c.index-regions-k.result c.view_of-view.result c.edges_seen-edges.result.now
-    c.regions-test.true at c.view_of-view.ensures c.edges_seen-edges.ensures refl c.regions.invariant (c.in_default.ensures {u = tt})
+    none_more c.args.book.now c.args.colour c.args.point c.regions-test.true at c.view_of-view.ensures c.edges_seen-edges.ensures c.regions.invariant (c.in_default.ensures {u =
+    tt})
 
 pub returns-clause-edges : goal.returns-clause-edges
 returns-clause-edges c = none_end c.args.regions.now c.args.book.now c.args.places.now c.args.colour c.args.point c.regions.k (omega (arith, c.regions-test.false)) c.regions.invariant

@@ -1,4 +1,4 @@
-use Rattle.endgame_solver.proofs.StoneSearch.{NoneIn}
+use Rattle.endgame_solver.proofs.WinningLaws.{NoneIn}
 use Rattle.endgame_solver.proofs.winning_moves.stone_edge.Given as goal
 
 abbrev pub invariant-regions : goal.invariant-regions

@@ -1,30 +1,23 @@
-use Rattle.std.proofs.Common.{ℕ, ◌∙◌, refl, subst, ap, get_or, set}
-use Rattle.local_graph.specs.declared.graph.Edge.{Edge}
+use Rattle.std.proofs.Common.{◌∙◌, refl, ap, get_or, set}
+use Rattle.std.proofs.lemmas.Bool.{both_ways}
 use Rattle.whole_rules.specs.Purses.{paid_in}
 use Rattle.sum_outcome.proofs.Lists.{put_back}
-use Rattle.endgame_solver.specs.inner.Held.{IsStoneEdge}
-use Rattle.endgame_solver.proofs.StoneSearch.{contested-winning}
-use Rattle.endgame_solver.proofs.WinningLaws.{differ, no_stone}
-use Rattle.endgame_solver.proofs.ViewLaws.{shows_places, stone_bounds, stone_known, stone_modest, stone_next, stone_values, stone_view, stone_wins}
+use Rattle.endgame_solver.proofs.WinningLaws.{no_stone, shows_places, stone_bounds, stone_known, stone_modest, stone_none, stone_place, stone_values, stone_view, stone_wins}
 use Rattle.endgame_solver.proofs.winning_moves.stone_wins.Goals as goal
 
 pub returns-then-not-contested-clause-wins : goal.returns-then-not-contested-clause-wins
 returns-then-not-contested-clause-wins c = (
   λ e. absurd (cc),
-  λ w. absurd (differ c.contested.result c.if-not-contested.true (c.contested.ensures.1 (contested-winning c.args.present.now.whole.now c.args.point w))),
+  λ w. absurd (both_ways c.contested.result c.if-not-contested.true (c.contested.ensures.1 w.1.0)),
 )
 
 pub returns-in_default-clause-wins : goal.returns-in_default-clause-wins
 returns-in_default-clause-wins c =
-    let p = c.args.present.now in
-    let s = p.whole.now in
-    let none = subst (λ d. (k : ℕ) (e : Edge) → ¬ IsStoneEdge p.regions.now c.requires.seen.graphs p.places.now d c.args.point k e) c.side-side.ensures ((c.in_default.ensures {u = tt}).edges c.requires.seen.graphs c.requires.seen.values c.requires.seen.views_are) in (
-      λ e. absurd (cc),
-      λ w. absurd (no_stone p.regions.now c.requires.seen.graphs c.requires.seen.values p.places.now c.args.sum.now p.store.now s c.requires.seen.kept c.args.point none w),
-    )
+    let none = stone_none c.requires.seen refl refl c.side-side.ensures (c.in_default.ensures {u = tt}).edges in
+    (λ e. absurd (cc), λ w. absurd (no_stone c.requires.seen.kept c.args.point none w))
 
 pub stone_edge-requires : goal.stone_edge-requires
-stone_edge-requires c = let p = c.args.present.now in shows_places p.regions.now p.book.now p.places.now c.args.sum.now p.store.now p.whole.now c.requires.seen
+stone_edge-requires c = shows_places c.requires.seen refl refl
 
 pub value_seen-requires-clause-view : goal.value_seen-requires-clause-view
 value_seen-requires-clause-view c = stone_view c.requires.seen refl refl c.side-side.ensures c.in-Some.ensures.edges
@@ -33,7 +26,7 @@ pub value_seen-requires-clause-values : goal.value_seen-requires-clause-values
 value_seen-requires-clause-values c = stone_values c.requires.seen refl refl c.side-side.ensures c.in-Some.ensures.edges
 
 pub value_seen-requires-clause-place : goal.value_seen-requires-clause-place
-value_seen-requires-clause-place c = stone_next c.requires.seen refl refl c.side-side.ensures c.in-Some.ensures.edges
+value_seen-requires-clause-place c = stone_place c.requires.seen refl refl c.side-side.ensures c.in-Some.ensures.edges
 
 pub balance_of-requires : goal.balance_of-requires
 balance_of-requires c = stone_modest c.requires.seen refl refl c.side-side.ensures c.in-Some.ensures.edges c.from.ensures (c.paid_in-purses.ensures ∙ ap (paid_in c.side-side.result c.from.result) c.purses.ensures)

@@ -2,8 +2,8 @@ use Rattle.std.proofs.Common.{◌∙◌, ap, arith, below_more, length, sym, sub
 use Rattle.whole_rules.specs.declared.states.Move.TheVariants.{Stone}
 use Rattle.whole_rules.specs.FirstWinningMove.{IsWinning}
 use Rattle.endgame_solver.specs.inner.Views.{IsSeen}
-use Rattle.endgame_solver.proofs.StoneSearch.{no_stone_end}
-use Rattle.endgame_solver.proofs.WinningLaws.{differ}
+use Rattle.std.proofs.lemmas.Bool.{both_ways}
+use Rattle.endgame_solver.proofs.WinningLaws.{no_stone_end}
 use Rattle.endgame_solver.proofs.winning_moves.winning_stone.Goals as goal
 
 pub stone_wins-requires-clause-seen : goal.stone_wins-requires-clause-seen
@@ -20,7 +20,7 @@ points-preserved c = (
   c.stone_wins.ensures.same ∙ c.points.invariant.0,
   c.stone_wins.ensures.fits,
   below_more (λ q. ¬ IsWinning c.args.present.now.whole.now (Stone q)) c.points.number c.points.invariant.2
-      (λ w. differ c.stone_wins.result c.if-stone_wins.false (c.stone_wins.ensures.wins.1 w)),
+      (λ w. both_ways c.stone_wins.result c.if-stone_wins.false (c.stone_wins.ensures.wins.1 w)),
 )
 
 pub returns-clause-first : goal.returns-clause-first

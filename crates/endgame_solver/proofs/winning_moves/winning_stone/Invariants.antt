@@ -1,6 +1,6 @@
 use Rattle.std.proofs.Common.{◌≡◌}
 use Rattle.sum_outcome.specs.Memo.{Fits}
-use Rattle.endgame_solver.proofs.StoneSearch.{NoStone}
+use Rattle.endgame_solver.proofs.WinningLaws.{NoStone}
 use Rattle.endgame_solver.proofs.winning_moves.winning_stone.Given as goal
 
 abbrev pub invariant-points : goal.invariant-points

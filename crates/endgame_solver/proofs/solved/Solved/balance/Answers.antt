@@ -1,4 +1,4 @@
-use Rattle.endgame_solver.proofs.ViewLaws.{held_modest}
+use Rattle.endgame_solver.proofs.WinningLaws.{held_modest}
 use Rattle.endgame_solver.proofs.solved.Solved.balance.Goals as goal
 
 pub balance_of-requires : goal.balance_of-requires

@@ -1,26 +1,23 @@
-use Rattle.std.proofs.Common.{◌+◌, ◌≤◌, ap, ◌∙◌, subst, length, replicate}
+use Rattle.std.proofs.Common.{◌≤◌, ap, ◌∙◌, subst, length, replicate}
 use Rattle.std.proofs.lemmas.Result.{err_from_is_err_and}
 use Rattle.sum_outcome.proofs.MemoLaws.{fits_grown}
-use Rattle.endgame_solver.specs.Faults.{AreRefused, most_steps}
-use Rattle.endgame_solver.proofs.BegunLaws.{refusal_begun, steps_within}
+use Rattle.endgame_solver.proofs.BeginLaws.{refusal_begun, steps_within, is_kept, are_sound}
 use Rattle.endgame_solver.specs.inner.Sharing.{AreSharedBy}
-use Rattle.endgame_solver.proofs.ViewLaws.{openings_known, sum_is}
-use Rattle.endgame_solver.proofs.KeptAtStart.{is_kept, are_sound}
+use Rattle.endgame_solver.proofs.WinningLaws.{openings_known, sum_is}
 use Rattle.endgame_solver.proofs.solved.Solved.begin.Goals as goal
 
 pub returns-in_err-book-clause-begun : goal.returns-in_err-book-clause-begun
 returns-in_err-book-clause-begun g c =
     let p = err_from_is_err_and c.from_residual-in_err-book.result c.from_residual-in_err-book.ensures.1 in
-    let refused = subst (λ rs. AreRefused c.args.limits.now rs c.in_err-book.field-0.0) c.deref-2.ensures.value c.in_err-book.ensures.refusal in
-    rw (p.1, p.2) (refusal_begun c.args.setup.now c.args.limits.now c.in_ok-opening.opening.regions.items c.in_ok-opening.ensures.regions _ refused)
+    rw (p.1, p.2) (refusal_begun c.args.setup.now c.args.limits.now c.in_ok-opening.ensures.regions c.deref-2.ensures.value _ c.in_err-book.ensures.refusal)
 
 pub returns-in_err-book-clause-steps : goal.returns-in_err-book-clause-steps
-returns-in_err-book-clause-steps g c = steps_within c.args.limits.now c.args.setup.now.board c.in_ok-opening.opening.regions.items _ _ c.in_ok-opening.ensures.regions
-    (subst (λ rs. c.solve_regions.new.steps ≤ c.args.steps.now + most_steps c.args.limits.now rs) c.deref-2.ensures.value c.solve_regions.ensures.steps)
+returns-in_err-book-clause-steps g c =
+    steps_within c.args.limits.now c.args.steps.now c.in_ok-opening.ensures.regions c.deref-2.ensures.value c.solve_regions.ensures.steps
 
 pub returns-in_err-places-clause-steps : goal.returns-in_err-places-clause-steps
-returns-in_err-places-clause-steps g c = steps_within c.args.limits.now c.args.setup.now.board c.in_ok-opening.opening.regions.items _ _ c.in_ok-opening.ensures.regions
-    (subst (λ rs. c.solve_regions.new.steps ≤ c.args.steps.now + most_steps c.args.limits.now rs) c.deref-2.ensures.value c.solve_regions.ensures.steps)
+returns-in_err-places-clause-steps g c =
+    steps_within c.args.limits.now c.args.steps.now c.in_ok-opening.ensures.regions c.deref-2.ensures.value c.solve_regions.ensures.steps
 
 pub returns-in_err-places-clause-begun : goal.returns-in_err-places-clause-begun
 returns-in_err-places-clause-begun g c =
@@ -34,8 +31,8 @@ pub opening_values-requires : goal.opening_values-requires
 opening_values-requires g c = openings_known c.args.limits.now c.deref-2.result.now c.in_ok-book.book c.solve_regions.new.store c.in_ok-book.ensures.solved
 
 pub returns-in_err-sum-clause-steps : goal.returns-in_err-sum-clause-steps
-returns-in_err-sum-clause-steps g c = steps_within c.args.limits.now c.args.setup.now.board c.in_ok-opening.opening.regions.items _ _ c.in_ok-opening.ensures.regions
-    (subst (λ rs. c.solve_regions.new.steps ≤ c.args.steps.now + most_steps c.args.limits.now rs) c.deref-2.ensures.value c.solve_regions.ensures.steps)
+returns-in_err-sum-clause-steps g c =
+    steps_within c.args.limits.now c.args.steps.now c.in_ok-opening.ensures.regions c.deref-2.ensures.value c.solve_regions.ensures.steps
 
 pub invariant_of-result : goal.invariant_of-result
 invariant_of-result g c =
@@ -49,8 +46,7 @@ invariant_of-result g c =
         values = shared.values;
         views_are = shared.views_are;
         shapes = shared.shapes;
-        kept = is_kept c.args.limits.now setup.board regions shared.graphs shared.values c.solve_regions.new.store c.requires.fit.settled made.regions made.local made.few c.requires.positions shared.solved
-            setup.black_prisoners setup.white_prisoners setup.komi_halves setup.side c.args.limits.now.tax c.in_ok-opening.opening.whole made.opens _ _
+        kept = is_kept c.requires.fit.settled made.regions made.local made.few c.requires.positions shared.solved made.opens
             (c.in_ok-places.ensures ∙ ap (λ n. replicate n 0) (c.len.ensures ∙ c.in_ok-opening.opening.regions.ok.0))
             (sum_is book shared.graphs shared.values (length regions) _ shared.views_are shared.solved.as_many_values c.in_ok-sum.ensures.long c.in_ok-sum.ensures.each)
             c.requires.fit.black c.requires.fit.white c.requires.fit.komi;
@@ -60,12 +56,13 @@ invariant_of-result g c =
 
 pub returns-clause-begun : goal.returns-clause-begun
 returns-clause-begun g c =
-    let setup = c.args.setup.now in
-    let regions = c.in_ok-opening.opening.regions.items in
-    let made = c.in_ok-opening.ensures in
     let shared = subst (λ rs. AreSharedBy c.args.limits.now rs c.in_ok-book.book c.solve_regions.new.store) c.deref-2.ensures.value c.in_ok-book.ensures.solved in
-    (made.opens, made.regions, are_sound c.args.limits.now setup.board regions shared.graphs shared.values c.solve_regions.new.store c.requires.fit.settled made.regions made.local made.few c.requires.positions shared.solved)
+    (c.in_ok-opening.ensures.opens, c.in_ok-opening.ensures.regions, are_sound shared.solved)
 
 pub returns-clause-steps : goal.returns-clause-steps
-returns-clause-steps g c = steps_within c.args.limits.now c.args.setup.now.board c.in_ok-opening.opening.regions.items _ _ c.in_ok-opening.ensures.regions
-    (subst (λ rs. c.solve_regions.new.steps ≤ c.args.steps.now + most_steps c.args.limits.now rs) c.deref-2.ensures.value c.solve_regions.ensures.steps)
+returns-clause-steps g c =
+    steps_within c.args.limits.now c.args.steps.now c.in_ok-opening.ensures.regions c.deref-2.ensures.value c.solve_regions.ensures.steps
+
+pub returns-in-Some-clause-begun : goal.returns-in-Some-clause-begun
+returns-in-Some-clause-begun g c =
+    let first = rw c.deref.ensures.value at c.in-Some.ensures in (c.in_ok-opening.opening.regions.items, c.in_ok-opening.ensures.regions, first)

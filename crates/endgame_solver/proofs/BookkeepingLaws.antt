@@ -1,33 +1,116 @@
--- Each region follows its own moves.
-use Rattle.std.proofs.Common.{ℕ, zero, suc, ◌≡◌, ◌<◌, inl, inr, refl, sym, ap, ◌∙◌, subst, arith, List, [], ◌∷◌, length, get_or, set, Contains}
+-- What a list of moves makes of the purses and of the regions.
+use Rattle.std.proofs.Common.{ℕ, ◌≡◌, ◌+◌, ◌≤◌, refl, ap, ◌∙◌, subst, arith, List, [], ◌∷◌, ◌<◌, inl, inr, sym, length, get_or, set, map, Contains}
+use Rattle.go_grid.specs.declared.grid.Colour.{Colour}
+use Rattle.go_grid.specs.declared.grid.Colour.TheVariants.{Black, White}
+use Rattle.go_grid.specs.Board.{other, Board, cell_at}
+use Rattle.go_play.specs.Place.{IsNumberTaken, IsPlaced}
+use Rattle.whole_rules.specs.declared.money.Purses.{Purses}
+use Rattle.whole_rules.specs.declared.money.Token.{Token}
+use Rattle.whole_rules.specs.declared.states.Move.{Move}
+use Rattle.whole_rules.specs.declared.states.Move.TheVariants.{Stone, Spend, Half}
+use Rattle.whole_rules.specs.Purses.{purse, paid_in, paid_out, halved}
+use Rattle.whole_rules.specs.WholeGame.{Whole, after}
+use Rattle.endgame_solver.specs.Bookkeeping.{own, gains, spends, reward, rewards, PursesFollow, AreMovesIn, RegionsFollow}
 use Rattle.std.proofs.lemmas.Bool.{cases_eq}
-use Rattle.std.proofs.lemmas.List.{get_or_default, get_or-set_same, get_or-set_other}
+use Rattle.std.proofs.lemmas.List.{get_or_default, get_or-map, length-map, get_or-set_same, get_or-set_other}
 use Rattle.std.proofs.lemmas.List.Elements.{Contains-get_or}
 use Rattle.go_grid.specs.declared.grid.Cell.{Cell}
-use Rattle.go_grid.specs.declared.grid.Colour.{Colour}
 use Rattle.go_grid.specs.Chain.{IsSettled}
-use Rattle.go_grid.specs.Board.{Board, cell_at}
 use Rattle.go_grid.specs.Region.{Region}
-use Rattle.go_play.specs.Place.{IsPlaced}
-use Rattle.go_grid.specs.declared.grid.Colour.TheVariants.{Black, White}
 use Rattle.benson_life.specs.Life.{IsAlive}
 use Rattle.benson_life.specs.Walls.{WallsStand}
 use Rattle.benson_life.specs.Region.{IsContested}
-use Rattle.whole_rules.specs.declared.states.Move.{Move}
-use Rattle.whole_rules.specs.declared.states.Move.TheVariants.{Stone, Spend, Half}
 use Rattle.whole_rules.specs.Walls.{Plays}
-use Rattle.whole_rules.specs.WholeGame.{Whole}
 use Rattle.whole_rules.proofs.WallLaws.{Keeps, keeps_move, keeps_start, keeps_plays}
 use Rattle.local_graph.specs.declared.cycle.CycleMove.{CycleMove}
 use Rattle.local_graph.specs.LocalGraph.{Plays as LocalPlays}
 use Rattle.go_grid.proofs.BoardLemmas.{same_or_not}
 use Rattle.region_cut.specs.Cut.{AreRegionsOfPlay}
 use Rattle.region_cut.specs.LocalBoard.{HoldsPosition}
-use Rattle.region_cut.proofs.LocalBoardLemmas.{plays_locally}
+use Rattle.region_cut.proofs.LocalBoardLemmas.{placing_is_local}
 use Rattle.region_cut.proofs.ApartLemmas.{HoldPositions, holds_start, only_region, positions_after}
-use Rattle.endgame_solver.specs.Bookkeeping.{AreMovesIn, RegionsFollow}
 use Rattle.endgame_solver.specs.Regions.{no_region, region_at}
 use Rattle.go_grid.proofs.PlayLemmas.{long_after}
+use Rattle.whole_rules.specs.declared.money.Token.TheVariants as token
+use Rattle.endgame_solver.specs.inner.Held.{token_left}
+
+pub paid-in : (c d : Colour) (n : ℕ) (m : Purses) → purse c (paid_in d n m) ≡ purse c m + own c d n
+paid-in Black Black n m = refl
+paid-in White White n m = refl
+paid-in Black White n m = omega arith
+paid-in White Black n m = omega arith
+
+pub token-in : (d : Colour) (n : ℕ) (m : Purses) → (paid_in d n m).token ≡ m.token
+token-in Black n m = refl
+token-in White n m = refl
+
+pub paid-out : (c d : Colour) (m : Purses) → 1 ≤ purse d m → purse c (paid_out d m) + own c d 1 ≡ purse c m
+paid-out Black Black m h = omega (arith, h)
+paid-out White White m h = omega (arith, h)
+paid-out Black White m h = omega arith
+paid-out White Black m h = omega arith
+
+pub token-out : (d : Colour) (m : Purses) → (paid_out d m).token ≡ m.token
+token-out Black m = refl
+token-out White m = refl
+
+-- a reward is for a token that was there
+pub halved-is : (c d : Colour) (black white : ℕ) (owner : Token)
+    → (purse c (halved d (record { black = black; white = white; token = owner })) ≡ purse c (record { black = black; white = white; token = owner }) + reward c d owner)
+    × (reward c d owner ≤ token_left owner)
+halved-is Black Black b w token.Black = (omega arith, omega arith)
+halved-is Black Black b w token.White = (omega arith, omega arith)
+halved-is Black Black b w token.Nobody = (omega arith, omega arith)
+halved-is Black White b w token.Black = (omega arith, omega arith)
+halved-is Black White b w token.White = (omega arith, omega arith)
+halved-is Black White b w token.Nobody = (omega arith, omega arith)
+halved-is White Black b w token.Black = (omega arith, omega arith)
+halved-is White Black b w token.White = (omega arith, omega arith)
+halved-is White Black b w token.Nobody = (omega arith, omega arith)
+halved-is White White b w token.Black = (omega arith, omega arith)
+halved-is White White b w token.White = (omega arith, omega arith)
+halved-is White White b w token.Nobody = (omega arith, omega arith)
+
+-- without a token nothing is rewarded
+no_rewards : (c d : Colour) (ms : List Move) → rewards c d token.Nobody ms ≡ 0
+no_rewards c d [] = refl
+no_rewards c d (Half ∷ ms) = let w = halved-is c d 0 0 token.Nobody in omega (arith, w.1)
+no_rewards c d (Stone p ∷ ms) = no_rewards c (other d) ms
+no_rewards c d (Spend ∷ ms) = no_rewards c (other d) ms
+
+pub own-less : (c d : Colour) (n : ℕ) → own c d n ≤ n
+own-less Black Black n = omega arith
+own-less White White n = omega arith
+own-less Black White n = omega arith
+own-less White Black n = omega arith
+
+-- what follows from a state whose purses and side are known
+from_after : (c : Colour) (s t u : Whole) (h : Board) (m : Purses) (ms : List Move) (ns : List ℕ) → u ≡ after h m s
+    → purse c t.purses + spends c u.side ms ≡ purse c u.purses + gains c u.side ns + rewards c u.side u.purses.token ms
+    → purse c t.purses + spends c (other s.side) ms ≡ purse c m + gains c (other s.side) ns + rewards c (other s.side) m.token ms
+from_after c s t u h m ms ns is e =
+    subst (λ z. purse c t.purses + spends c z.side ms ≡ purse c z.purses + gains c z.side ns + rewards c z.side z.purses.token ms) is e
+
+pub purses_follow : PursesFollow
+purses_follow c s t [] [] e = omega (arith, ap (λ z. purse c z.purses) e)
+purses_follow c s t [] (n ∷ ns) e = absurd e
+purses_follow c s t (m ∷ ms) [] e = absurd e
+purses_follow c s t (Stone p ∷ ms) (n ∷ ns) (u, (mark, (h, (k, placed, number, is))), takes, rest) =
+    let next = from_after c s t u h (paid_in s.side k s.purses) ms ns is (purses_follow c u t ms ns rest) in
+    let takes' : IsNumberTaken s.board h n = subst (λ z. IsNumberTaken s.board z.board n) is takes in
+    let same : n ≡ k = omega (arith, takes', number) in
+    let owner = ap (λ z. rewards c (other s.side) z ms) (token-in s.side k s.purses) in
+    omega (arith, next, ap (own c s.side) same, paid-in c s.side k s.purses, owner)
+purses_follow c s t (Spend ∷ ms) (n ∷ ns) (u, (some, is), takes, rest) =
+    let next = from_after c s t u s.board (paid_out s.side s.purses) ms ns is (purses_follow c u t ms ns rest) in
+    let owner = ap (λ z. rewards c (other s.side) z ms) (token-out s.side s.purses) in
+    omega (arith, next, ap (own c s.side) takes, own-less c s.side 0, paid-out c s.side s.purses some, owner)
+purses_follow c s t (Half ∷ ms) (n ∷ ns) (u, (owned, is), takes, rest) =
+    let next = from_after c s t u s.board (halved s.side s.purses) ms ns is (purses_follow c u t ms ns rest) in
+    let paid = (halved-is c s.side s.purses.black s.purses.white s.purses.token).0 in
+    omega (arith, next, ap (own c s.side) takes, own-less c s.side 0, paid, no_rewards c (other s.side) ms)
+
+-- Each region follows its own moves.
 
 module _ (g : Board) (settled : IsSettled g) (regions : List Region) (cut : AreRegionsOfPlay g regions) where
   abbrev Held : List (List Cell) → Board → Type 0
@@ -61,21 +144,18 @@ module _ (g : Board) (settled : IsSettled g) (regions : List Region) (cut : AreR
       let r = region_at regions l in
       let (i, short, at) = w.2 in
       let there : get_or r.points i 0 ≡ p = get_or_default r.points i 0 p short ∙ at in
-      let holds = held.each l no_region w.1 in
-      let cells = get_or positions l [] in
-      let placed' = subst (λ x. IsPlaced h x c after) (sym there) placed in
-      let plays = plays_locally g r settled (cut.each r (Contains-get_or regions l no_region w.1)) in
-      let m = (plays.legal cells h c i holds short).0 (after, placed') in
-      let is = plays.local cells m.0 h after c i holds short placed' m.1 in
+      let play = cut.each r (Contains-get_or regions l no_region w.1) in
+      let (next, move, local) = placing_is_local g r settled play (get_or positions l []) h (held.each l no_region w.1) i short c after
+      (subst (λ x. IsPlaced h x c after) (sym there) placed) in
       record {
         region = l;
         known = w.1;
         place = i;
         inside = short;
         at = there;
-        next = m.0;
-        moves = (m.0, m.1, refl);
-        held = positions_after g regions cut positions m.0 h after l p c no_region held w.1 placed (long_after m.1) is;
+        next = next;
+        moves = (next, move, refl);
+        held = positions_after g regions cut positions next h after l p c no_region held w.1 placed (long_after move) local;
         alone = w.3;
       }
 
@@ -123,26 +203,15 @@ module _ (g : Board) (settled : IsSettled g) (regions : List Region) (cut : AreR
       ]
 
 -- the regions' own cells
-openings : List Region → List (List Cell)
-openings [] = []
-openings (r ∷ rs) = r.cells ∷ openings rs
-
-openings_long : (rs : List Region) → length (openings rs) ≡ length rs
-unfolding openings
-openings_long [] = refl
-openings_long (r ∷ rs) = ap suc (openings_long rs)
-
-opening_at : (rs : List Region) (k : ℕ) (d : Region) → k < length rs → get_or (openings rs) k [] ≡ (get_or rs k d).cells
-unfolding openings
-opening_at [] k d lt = absurd (omega (arith, lt))
-opening_at (r ∷ rs) zero d lt = refl
-opening_at (r ∷ rs) (suc k) d lt = opening_at rs k d (omega (arith, lt))
+abbrev openings : List Region → List (List Cell)
+openings rs = map (λ r. r.cells) rs
 
 held_start : (g : Board) (regions : List Region) (cut : AreRegionsOfPlay g regions) → HoldPositions g regions cut (openings regions) g
 held_start g regions cut = record {
-  many = openings_long regions;
+  many = length-map regions (λ r. r.cells);
   each = λ k d lt. let r = get_or regions k d in let among = Contains-get_or regions k d lt in
-      subst (λ x. HoldsPosition g r x g) (sym (opening_at regions k d lt)) (holds_start g r (cut.each r among) (cut.each r among).proper.full);
+      subst (λ x. HoldsPosition g r x g) (sym (get_or-map (λ r. r.cells) regions k d [] lt))
+      (holds_start g r (cut.each r among) (cut.each r among).proper.full);
 }
 
 -- a point that isn't contested is an alive stone or counted, and those never change
@@ -161,7 +230,7 @@ regions_follow g regions black white komi side tax s t ms settled cut opening pl
       λ r (k, lt, e).
           let here : region_at regions k ≡ r = get_or_default regions k no_region r lt ∙ e in
           let f = follows g settled regions cut s t ms (openings regions) k keeps held plays lt in
-          let from : get_or (openings regions) k [] ≡ r.cells = opening_at regions k no_region lt ∙ ap (λ x. x.cells) here in
+          let from : get_or (openings regions) k [] ≡ r.cells = get_or-map (λ r. r.cells) regions k no_region [] lt ∙ ap (λ x. x.cells) here in
           record {
             local = f.moves;
             moves = subst (λ d. AreMovesIn r d ms f.moves) opening.turn (subst (λ x. AreMovesIn x s.side ms f.moves) here f.are);
