@@ -4,7 +4,7 @@ use Rattle.std.proofs.Math.Nat.{pow-le-pow_right}
 use Rattle.go_grid.specs.Board.{Board}
 use Rattle.go_grid.specs.Region.{Region}
 use Rattle.local_graph.specs.Graph.{Graph}
-use Rattle.region_cut.proofs.ApartLemmas.{holds_start}
+use Rattle.region_cut.proofs.LocalBoardLemmas.{holds_start}
 use Rattle.endgame_solver.specs.Regions.{region_at}
 use Rattle.endgame_solver.specs.inner.Regions.{AreGraphs, IsShown}
 use Rattle.endgame_solver.proofs.RegionPlayLaws.{region_in}

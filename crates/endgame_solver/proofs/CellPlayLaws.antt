@@ -28,9 +28,7 @@ use Rattle.local_value.proofs.MoveList.{steps, step_out}
 use Rattle.local_value.proofs.ShortLaws.{short_plays}
 use Rattle.region_cut.specs.Cut.{AreRegionsOfPlay}
 use Rattle.region_cut.specs.LocalBoard.{HoldsPosition, IsLocal}
-use Rattle.region_cut.proofs.ApartLemmas.{only_region, other_kept}
-use Rattle.region_cut.proofs.LocalBoardLemmas.{holds_after, plays_locally}
-use Rattle.region_cut.proofs.FreedomLemmas.{point_contested}
+use Rattle.region_cut.proofs.LocalBoardLemmas.{only_region, other_kept, holds_after, plays_locally, point_contested}
 use Rattle.endgame_solver.specs.Regions.{no_region, region_at}
 use Rattle.endgame_solver.specs.inner.Regions.{IsPointOf}
 use Rattle.endgame_solver.specs.inner.WholeParts.{OthersStay, IsPlayedIn, IsPlayableIn, IsLocalPlay}

@@ -16,8 +16,7 @@ use Rattle.local_graph.specs.inner.Graph.{edges_at}
 use Rattle.go_grid.proofs.WalkLemmas.{joined_end}
 use Rattle.region_cut.specs.Cut.{lowest}
 use Rattle.region_cut.specs.LocalBoard.{HoldsPosition, IsLocal}
-use Rattle.region_cut.proofs.ApartLemmas.{only_region, other_kept}
-use Rattle.region_cut.proofs.LocalBoardLemmas.{holds_after}
+use Rattle.region_cut.proofs.LocalBoardLemmas.{only_region, other_kept, holds_after}
 use Rattle.local_value.specs.LocalGame.{Step}
 use Rattle.endgame_solver.specs.Regions.{no_region, region_at}
 use Rattle.endgame_solver.specs.inner.Regions.{Spot, graph_at, AreGraphs, spot_in, moves_at, IsPointOf, HasCells, IsShown}

@@ -15,7 +15,7 @@ use Rattle.whole_rules.specs.WholeGame.{Whole}
 use Rattle.whole_rules.specs.WholeGame as whole
 use Rattle.whole_rules.proofs.WallLaws.{keeps_start}
 use Rattle.region_cut.specs.LocalBoard.{HoldsPosition}
-use Rattle.region_cut.proofs.ApartLemmas.{holds_start}
+use Rattle.region_cut.proofs.LocalBoardLemmas.{holds_start}
 use Rattle.short_games.specs.Tree.{Trees, node, none, more}
 use Rattle.short_games.specs.Order.{◌≡ᵍ◌}
 use Rattle.short_games.specs.Sum.{◌+ᵍ◌, total}
