@@ -16,7 +16,7 @@ use Rattle.game_canon.proofs.NumberParts.{within-bounds}
 use Rattle.short_games.proofs.OrderLaws.{same-trans}
 use Rattle.local_value.specs.PositionTree.{IsTreeOf, IsValueOf}
 use Rattle.local_value.specs.Values.{AreValues}
-use Rattle.local_value.proofs.CellTreeLaws.{trees-exist}
+use Rattle.local_value.proofs.TreeLaws.{trees-exist}
 use Rattle.local_value.proofs.GraphLaws.{position_at}
 use Rattle.region_book.proofs.CarryLaws.{carries_back}
 use Rattle.region_book.proofs.SymmetryLaws.{back}

@@ -1,5 +1,9 @@
--- The edges of a graph are the local moves of its positions.
-use Rattle.std.proofs.Common.{ℕ, ◌≡◌, ◌<◌, ◌≤◌, refl, sym, ap, ◌∙◌, subst, arith, List, [], ◌∷◌, ◌++◌, length, get_or, set, Contains}
+-- The edges of a graph are the local moves of its positions, and the steps of a game.
+use Rattle.std.proofs.Common.{ℕ, ◌≡◌, arith, length, Ok, ◌<◌, ◌≤◌, refl, sym, ap, ◌∙◌, subst, List, [], ◌∷◌, ◌++◌, get_or, set, Contains, ◌⊎◌, inl, inr}
+use Rattle.go_grid.specs.Region.{Region}
+use Rattle.local_graph.specs.Built.{Built}
+use Rattle.local_graph.specs.Graph.{Graph}
+use Rattle.local_value.specs.Values.{IsGraphOf, IsPlaceOf}
 use Rattle.std.specs.Prelude.{cond, count_by}
 use Rattle.std.proofs.lemmas.List.{get_or_default, length-set}
 use Rattle.std.proofs.lemmas.List.Elements.{Contains-get_or}
@@ -10,19 +14,31 @@ use Rattle.go_grid.specs.declared.grid.Colour.{Colour}
 use Rattle.go_grid.specs.declared.grid.Colour.TheVariants.{Black, White}
 use Rattle.go_grid.specs.Board.{stone}
 use Rattle.go_grid.specs.Path.{Path}
-use Rattle.go_grid.specs.Region.{Region}
 use Rattle.local_play.specs.declared.local_move.LocalMove.{LocalMove}
 use Rattle.local_play.specs.LocalPlay.{held_at, Holds, is_stone, IsLocalMove, IsNumberTaken}
 use Rattle.local_play.specs.Packed.{pack}
 use Rattle.local_graph.specs.declared.cycle.CycleMove.{CycleMove}
 use Rattle.local_graph.specs.declared.graph.Edge.{Edge}
 use Rattle.local_graph.specs.LocalGraph.{HasMoves}
-use Rattle.local_graph.specs.Graph.{Graph}
 use Rattle.local_graph.specs.inner.Graph.{edges_at}
 use Rattle.local_graph.proofs.EdgeListLemmas.{node_inside}
 use Rattle.local_graph.proofs.PlayLemmas.{plays_more, plays_long, one_after}
-use Rattle.local_value.specs.Values.{IsGraphOf, IsPlaceOf}
 use Rattle.go_grid.proofs.PlayLemmas.{long_after}
+use Rattle.local_value.specs.inner.GraphMoves.{step_of, step_for, steps_of}
+use Rattle.local_value.specs.LocalGame.{Step}
+use Rattle.local_value.proofs.LocalLaws.{contains-head, contains-tail, contains-cases}
+
+-- A graph that was built is that of its region.
+
+pub graph_of : (r : Region) (g : Graph) (limit : ℕ) → length r.cells ≡ length r.points → Built r limit (Ok g) → IsGraphOf r g
+graph_of r g limit full built = record {
+  few = omega (arith, full, built.0);
+  graph = built.3;
+  order = built.4;
+  no_cycle = built.2;
+}
+
+-- The edges of a graph are the local moves of its positions.
 
 -- the edge of a local move, or the move of an edge
 pub record IsEdgeFor (positions : List ℕ) (cells next : List Cell) (c : Colour) (i n : ℕ) (e : Edge) : Type 0 where
@@ -143,3 +159,50 @@ module _ (r : Region) (g : Graph) (of : IsGraphOf r g) where
       let free = count_free cells e.place move.place move.free in
       let stone = count_stone m.0 e.colour e.place (omega (arith, move.place, long_after move)) (path_start _ _ e.place move.stands.0 move.stands.1.0 move.stands.1.1) in
       omega (arith, m.2.number, free, stone, long)
+
+-- The steps of a graph are its edges, by player.
+
+module _ (P : Type 0) (to : ℕ → P) where
+  -- the edge is the step of a player
+  pub record IsStepOf (c : Colour) (es : List Edge) (x : Step P) : Type 0 where
+    pub edge : Edge
+    pub among : Contains es edge
+    pub colour : edge.colour ≡ c
+    pub is : step_of P to edge ≡ x
+
+  later : (c : Colour) (e : Edge) (es : List Edge) (x : Step P) → IsStepOf c es x → IsStepOf c (e ∷ es) x
+  later c e es x s = record { edge = s.edge; among = contains-tail Edge e s.edge es s.among; colour = s.colour; is = s.is }
+
+  for-out : (c d : Colour) (e : Edge) (steps : List (Step P)) (x : Step P) → Contains (step_for P to c e d steps) x
+      → ((d ≡ c) × (step_of P to e ≡ x)) ⊎ Contains steps x
+  for-out Black Black e steps x h = elim (contains-cases (Step P) (step_of P to e) x steps h) [ inl s ↦ inl (refl, s) | inr s ↦ inr s ]
+  for-out White White e steps x h = elim (contains-cases (Step P) (step_of P to e) x steps h) [ inl s ↦ inl (refl, s) | inr s ↦ inr s ]
+  for-out Black White e steps x h = inr h
+  for-out White Black e steps x h = inr h
+
+  for-same : (c : Colour) (e : Edge) (steps : List (Step P)) → Contains (step_for P to c e c steps) (step_of P to e)
+  for-same Black e steps = contains-head (Step P) (step_of P to e) steps
+  for-same White e steps = contains-head (Step P) (step_of P to e) steps
+
+  for-more : (c d : Colour) (e : Edge) (steps : List (Step P)) (x : Step P) → Contains steps x → Contains (step_for P to c e d steps) x
+  for-more Black Black e steps x h = contains-tail (Step P) (step_of P to e) x steps h
+  for-more White White e steps x h = contains-tail (Step P) (step_of P to e) x steps h
+  for-more Black White e steps x h = h
+  for-more White Black e steps x h = h
+
+  pub steps-out : (c : Colour) (es : List Edge) (x : Step P) → Contains (steps_of P to c es) x → IsStepOf c es x
+  steps-out c [] x h = absurd (omega (arith, h.1))
+  steps-out c (e ∷ es) x h = elim (for-out c e.colour e (steps_of P to c es) x h) [
+    | inl w ↦ record { edge = e; among = contains-head Edge e es; colour = w.0; is = w.1 }
+    | inr w ↦ later c e es x (steps-out c es x w)
+  ]
+
+  pub steps-in : (c : Colour) (es : List Edge) (e : Edge) → Contains es e → e.colour ≡ c → Contains (steps_of P to c es) (step_of P to e)
+  steps-in c [] e h same = absurd (omega (arith, h.1))
+  steps-in c (d ∷ es) e h same = elim (contains-cases Edge d e es h) [
+    | inl w ↦
+        let here : Contains (step_for P to c d d.colour (steps_of P to c es)) (step_of P to d) =
+        subst (λ b. Contains (step_for P to c d b (steps_of P to c es)) (step_of P to d)) (sym (ap (λ y. y.colour) w ∙ same)) (for-same c d (steps_of P to c es)) in
+        subst (λ y. Contains (step_for P to c d d.colour (steps_of P to c es)) (step_of P to y)) w here
+    | inr w ↦ for-more c d.colour d (steps_of P to c es) (step_of P to e) (steps-in c es e w same)
+  ]

@@ -1,13 +1,20 @@
--- The tree of a local position doesn't depend on the depth once that is long enough, and its options are the local moves.
-use Rattle.std.proofs.Common.{ℕ, zero, suc, ◌≡◌, ◌⊎◌, ◌≤◌, arith, inl, inr, refl, sym, ap, ap₂, ◌∙◌, List, [], ◌∷◌}
+-- Trees of local positions: their options are the local moves, and a depth that no play is longer than is as good as a greater one.
+use Rattle.std.proofs.Common.{ℕ, zero, suc, ◌≡◌, ◌⊎◌, ◌≤◌, arith, inl, inr, refl, sym, ap, ap₂, ◌∙◌, List, [], ◌∷◌, subst}
 use Rattle.std.specs.Prelude.{Contains}
 use Rattle.go_grid.specs.declared.grid.Colour.{Colour}
 use Rattle.go_grid.specs.declared.grid.Colour.TheVariants.{Black, White}
-use Rattle.short_games.specs.Tree.{Tree, node, none, more, Has}
+use Rattle.short_games.specs.Tree.{Tree, node, none, more, Has, left, right}
 use Rattle.short_games.specs.Sum.{◌+ᵍ◌}
 use Rattle.local_value.specs.Ending.{EndsWithin}
 use Rattle.sum_outcome.specs.Players.{options, gain}
 use Rattle.local_value.specs.LocalGame.{Step, after, tree_within, StepsTo}
+use Rattle.short_games.specs.Order.{◌≡ᵍ◌}
+use Rattle.short_games.proofs.FormLaws.{by_better}
+use Rattle.local_value.specs.PositionTree.{IsTree, PlaysAreShort}
+use Rattle.short_games.proofs.OrderLaws.{same-refl, same-path, same-sym, same-trans}
+use Rattle.short_games.proofs.SumLaws.{same-plus}
+
+-- The tree of a local position doesn't depend on the depth once that is long enough, and its options are the local moves.
 
 pub contains-head : (P : Type 0) (x : P) (xs : List P) → Contains (x ∷ xs) x
 contains-head P x xs = (0, omega arith, refl)
@@ -73,3 +80,72 @@ module _ (P : Type 0) (moves : Colour → P → List (Step P)) where
 
   pub option-move : (c : Colour) (n : ℕ) (p : P) (X : Tree) → Ends n p → Has (options c (tree_within P moves n p)) X → (x : Step P) × Contains (moves c p) x × (X ≡ tree_within P moves n x.to +ᵍ gain c x.taken)
   option-move c n p X e h = after-has (λ q. tree_within P moves n q) c (moves c p) X (rw (options-is c n p e) at h)
+
+-- Trees of one position are equal as games, and short plays end.
+
+-- games whose options are equal are equal
+pub same_options : (G H : Tree) → ((c : Colour) (X : Tree) → Has (options c G) X → (Y : Tree) × Has (options c H) Y × (X ≡ᵍ Y)) → ((c : Colour) (Y : Tree) → Has (options c H) Y → (X : Tree) × Has (options c G) X × (X ≡ᵍ Y)) → G ≡ᵍ H
+same_options G H there back = (
+  by_better G H (λ L l. (let r = there Black L l in (r.0, r.1, r.2.0))) (λ S s. (let r = back White S s in (r.0, r.1, r.2.0))),
+  by_better H G (λ L l. (let r = back Black L l in (r.0, r.1, r.2.1))) (λ S s. (let r = there White S s in (r.0, r.1, r.2.1))),
+)
+
+module _ (P : Type 0) (IsMove : Colour → P → Step P → Type 0) where
+  pub trees-same : (n : ℕ) (p : P) (G H : Tree) → IsTree P IsMove n p G → IsTree P IsMove n p H → G ≡ᵍ H
+  trees-same zero p G H g h = same-trans _ _ _ (same-path _ _ g) (same-sym _ _ (same-path _ _ h))
+  trees-same (suc n) p G H g h = same_options G H
+      (λ c X x. (let r = (g c).0 X x in let s = (h c).1 r.0 r.1.1 in
+      (s.0 +ᵍ gain c r.0.taken, s.2, same-trans _ _ _ (same-path _ _ r.1.3) (same-plus _ _ _ _ (trees-same n r.0.to r.1.0 s.0 r.1.2 s.1) (same-refl (gain c r.0.taken))))))
+      (λ c Y y. (let r = (h c).0 Y y in let s = (g c).1 r.0 r.1.1 in
+      (s.0 +ᵍ gain c r.0.taken, s.2, same-sym _ _ (same-trans _ _ _ (same-path _ _ r.1.3) (same-plus _ _ _ _ (trees-same n r.0.to r.1.0 s.0 r.1.2 s.1) (same-refl (gain c r.0.taken)))))))
+
+-- the tree over lists of moves is such a tree
+module _ (P : Type 0) (moves : Colour → P → List (Step P)) where
+  pub tree_within-is : (n : ℕ) (p : P) → IsTree P (λ c q x. Contains (moves c q) x) n p (tree_within P moves n p)
+  unfolding tree_within
+  tree_within-is zero p = refl
+  tree_within-is (suc n) p = λ c. (
+    λ X h. (let r = after-has P moves (λ q. tree_within P moves n q) c (moves c p) X (rw (options-step P moves c n p) at h) in (r.0, (tree_within P moves n r.0.to, r.1, tree_within-is n r.0.to, r.2))),
+    λ x h. (tree_within P moves n x.to, tree_within-is n x.to, rw (options-step P moves c n p) (has-after P moves (λ q. tree_within P moves n q) c (moves c p) x h)),
+  )
+
+pub short-ends : (P : Type 0) (StepsTo : P → P → Type 0) (n : ℕ) (p : P) → PlaysAreShort P StepsTo n p → EndsWithin P StepsTo n p
+short-ends P StepsTo zero p short = λ q h. absurd (omega (arith, short (q ∷ []) (h, tt)))
+short-ends P StepsTo (suc n) p short = λ q h. short-ends P StepsTo n q (λ qs w. omega (arith, short (q ∷ qs) (h, w)))
+
+-- A depth that no play is longer than is as good as a greater one, where local moves are a relation.
+
+module _ (P : Type 0) (IsMove : Colour → P → Step P → Type 0) where
+  abbrev pub Moves : P → P → Type 0
+  Moves p q = (c : Colour) × ((n : ℕ) × IsMove c p (record { to = q; taken = n }))
+
+  -- a play after a move is shorter by one
+  step-short : (n : ℕ) (p : P) (c : Colour) (x : Step P) → IsMove c p x → PlaysAreShort P Moves (suc n) p → PlaysAreShort P Moves n x.to
+  step-short n p c x m short qs w = omega (arith, short (x.to ∷ qs) ((c, (x.taken, m)), w))
+
+  no-move : (p : P) (c : Colour) (x : Step P) → IsMove c p x → PlaysAreShort P Moves 0 p → ⊥
+  no-move p c x m short = omega (arith, short (x.to ∷ []) ((c, (x.taken, m)), tt))
+
+  -- a tree of a position without moves has no option
+  no-option : (n : ℕ) (p : P) (G : Tree) → PlaysAreShort P Moves 0 p → IsTree P IsMove n p G → (c : Colour) (X : Tree) → Has (options c G) X → ⊥
+  no-option zero p G short g Black X h = elim (subst (λ T. Has (left T) X) g h) [ ]
+  no-option zero p G short g White X h = elim (subst (λ T. Has (right T) X) g h) [ ]
+  no-option (suc n) p G short g c X h = let r = (g c).0 X h in no-move p c r.0 r.1.1 short
+
+  pub depths-agree : (n m : ℕ) (p : P) (G H : Tree) → PlaysAreShort P Moves n p → PlaysAreShort P Moves m p
+      → IsTree P IsMove n p G → IsTree P IsMove m p H → G ≡ᵍ H
+  depths-agree zero m p G H s t g h = same_options G H (λ c X x. absurd (no-option 0 p G s g c X x)) (λ c Y y. absurd (no-option m p H s h c Y y))
+  depths-agree (suc n) zero p G H s t g h = same_options G H (λ c X x. absurd (no-option (suc n) p G t g c X x)) (λ c Y y. absurd (no-option 0 p H t h c Y y))
+  depths-agree (suc n) (suc m) p G H s t g h = same_options G H
+      (λ c X x. (let r = (g c).0 X x in let w = (h c).1 r.0 r.1.1 in (
+        w.0 +ᵍ gain c r.0.taken,
+        w.2,
+        same-trans _ _ _ (same-path _ _ r.1.3)
+            (same-plus _ _ _ _ (depths-agree n m r.0.to r.1.0 w.0 (step-short n p c r.0 r.1.1 s) (step-short m p c r.0 r.1.1 t) r.1.2 w.1) (same-refl (gain c r.0.taken))),
+      )))
+      (λ c Y y. (let r = (h c).0 Y y in let w = (g c).1 r.0 r.1.1 in (
+        w.0 +ᵍ gain c r.0.taken,
+        w.2,
+        same-trans _ _ _
+            (same-plus _ _ _ _ (depths-agree n m r.0.to w.0 r.1.0 (step-short n p c r.0 r.1.1 s) (step-short m p c r.0 r.1.1 t) w.1 r.1.2) (same-refl (gain c r.0.taken))) (same-sym _ _ (same-path _ _ r.1.3)),
+      )))

@@ -1,28 +1,254 @@
--- The form of the ids after the edges of a place, and what it shares with each tree of the same edges.
-use Rattle.std.proofs.Common.{ℕ, ◌+◌, ◌^◌, ◌<◌, ◌≡◌, inl, inr, refl, sym, subst, arith, List, [], length, get_or, Contains}
+-- The ids after the edges of a place as the store grows, the form of those ids, and what it shares with each tree of the same edges.
+use Rattle.std.proofs.Common.{ℕ, ◌+◌, ◌-◌, ◌*◌, ◌^◌, ◌≡◌, ◌<◌, ◌≤◌, ◌↔◌, ◌∙◌, ap, refl, sym, subst, arith, ℤ, pos, neg_ℤ, ◌+ℤ◌, ◌*ℤ◌, List, length, get_or, ◌⊎◌, inl, inr, [], ◌∷◌, ◌++◌, take, Contains}
+use Rattle.std.specs.Prelude.{unsigned_abs}
+use Rattle.std.proofs.lemmas.Int.{ints}
 use Rattle.go_grid.specs.declared.grid.Colour.{Colour}
 use Rattle.go_grid.specs.declared.grid.Colour.TheVariants.{Black, White}
 use Rattle.local_graph.specs.declared.graph.Edge.{Edge}
-use Rattle.short_games.specs.Tree.{Tree, node, none, Has, tree_at}
-use Rattle.short_games.specs.Order.{◌≡ᵍ◌}
-use Rattle.short_games.specs.Number.{IsNumber}
+use Rattle.short_games.specs.Tree.{Tree, tree_at, node, none, Has}
+use Rattle.short_games.specs.Sum.{◌+ᵍ◌}
 use Rattle.short_games.specs.TextOrder.{IsCanonicalFor}
-use Rattle.game_store.specs.Meaning.{listed, AreIds, Extends}
-use Rattle.short_games.specs.Parts.{IsOption}
+use Rattle.short_games.specs.Number.{number_tree, IsNumber}
+use Rattle.game_store.specs.Meaning.{AreCanonical, Extends, AreIds, listed}
+use Rattle.game_store.specs.Forms.{HaveForms}
+use Rattle.short_games.specs.Parts.{IsNumberOf, IsOption}
+use Rattle.short_games.proofs.StopLaws.{num-scaled}
+use Rattle.game_canon.specs.declared.errors.FormError.TheVariants.{Bounds, Parts, Memory}
+use Rattle.game_canon.specs.Changes.{IsSumRefusal}
+use Rattle.game_canon.specs.Outcomes.{IsCanonicalId, AreWithin, IsCause, AreOptionsWithin}
+use Rattle.sum_outcome.specs.Players.{credit, gain, options}
+use Rattle.game_canon.proofs.NumberParts.{sum-fits, same-sum}
+use Rattle.local_value.specs.inner.Memo.{stones_units, IsStonesSum, IsFormOf}
+use Rattle.local_value.specs.inner.Valuing.{noted, IsWithinAfter, IsAfter, most_units, IsNoted, tree_after, AreWithinAfter, AreAfter, AreBothAfter, IsAdded, HasEdges}
+use Rattle.std.proofs.lemmas.Bool.{cases_lt}
+use Rattle.std.proofs.lemmas.List.{get_or_default, length-append, get_or_append_left, get_or_push, take_all, take_more}
+use Rattle.std.proofs.lemmas.List.Elements.{Contains-append_left, Contains-get_or, Contains-push, Contains-push_cases}
+use Rattle.local_graph.specs.inner.Graph.{no_edge}
+use Rattle.local_value.specs.declared.memo.Options.{Options}
+use Rattle.short_games.specs.Order.{◌≡ᵍ◌}
 use Rattle.short_games.proofs.OrderLaws.{le-trans, same-path, same-sym, same-trans}
 use Rattle.game_store.proofs.Values.{has-pick, pick-has}
 use Rattle.game_canon.specs.declared.errors.FormError.{FormError}
-use Rattle.game_canon.specs.declared.errors.FormError.TheVariants.{Parts, Bounds, Memory}
-use Rattle.game_canon.specs.Outcomes.{IsCanonicalId, IsCause, AreWithin, AreOptionsWithin}
-use Rattle.sum_outcome.specs.Players.{options}
-use Rattle.local_value.specs.inner.Memo.{IsFormOf}
-use Rattle.local_value.specs.inner.Valuing.{tree_after, AreWithinAfter, IsAfter, AreAfter, AreBothAfter, HasEdges}
-use Rattle.local_value.proofs.AfterLaws.{after-ids}
 use Rattle.local_value.proofs.MemoLaws.{listed-grown}
-use Rattle.local_value.proofs.PositionLaws.{same_options}
+use Rattle.local_value.proofs.LocalLaws.{same_options}
 
-after-same : (Ts Us : List Tree) (ids : List ℕ) (e : Edge) (id : ℕ) → IsAfter Ts Us ids e id → tree_after Ts ids e ≡ᵍ tree_at Us id
-after-same Ts Us ids e id a = (a.canonical.under, a.canonical.over)
+-- Stones as numbers.
+
+credit-tree : (c : Colour) (n : ℕ) (x : ℤ) → x ≡ credit c n *ℤ pos (2 ^ 60) → number_tree x ≡ gain c n
+credit-tree c n x e = ap number_tree e ∙ num-scaled 60 0 (credit c n)
+
+credit-size : (c : Colour) (n : ℕ) (x : ℤ) → x ≡ credit c n *ℤ pos (2 ^ 60) → unsigned_abs x ≡ n * 2 ^ 60
+credit-size Black n x e = omega (arith, ints, e)
+credit-size White n x e = omega (arith, ints, e)
+
+-- the sum of two numbers is no larger than their sizes
+pub sum-size : (y x : ℤ) (n b : ℕ) → unsigned_abs x ≡ n → unsigned_abs y + n ≤ b → unsigned_abs (y +ℤ x) ≤ b
+sum-size y x n b e le = omega (arith, ints, e, le)
+
+module _ (Ts : List Tree) (ids : List ℕ) (e : Edge) (x : ℤ) (is : x ≡ credit e.colour e.taken *ℤ pos (2 ^ 60)) where
+  size : unsigned_abs x ≡ e.taken * 2 ^ 60
+  size = credit-size e.colour e.taken x is
+
+  -- nothing is refused where the sums are small
+  pub never-refused : HaveForms Ts → AreCanonical Ts → get_or ids e.next 0 < length Ts → IsWithinAfter most_units Ts ids e → IsSumRefusal (noted Ts ids e.next +ᵍ number_tree x) Bounds → ⊥
+  never-refused forms canonical lt small = sum-fits Ts (get_or ids e.next 0) x forms lt (canonical (get_or ids e.next 0) lt)
+      (λ y n. let le = sum-size y x (e.taken * 2 ^ 60) most_units size (small y n) in omega (arith, le))
+
+  value-after : (Us : List Tree) (id : ℕ) → IsCanonicalId Us (noted Ts ids e.next +ᵍ number_tree x) id
+      → ((y : ℤ) → IsNumberOf (noted Ts ids e.next) y ↔ IsNumberOf (tree_at Us id) (y +ℤ x)) → IsAfter Ts Us ids e id
+  value-after Us id value numbers = record {
+    known = value.0;
+    canonical = subst (λ t. IsCanonicalFor (noted Ts ids e.next +ᵍ t) (tree_at Us id)) (credit-tree e.colour e.taken x is) value.1;
+    sizes = λ b w z n.
+        (let back : (z +ℤ neg_ℤ x) +ℤ x ≡ z = omega (arith, ints) in
+        let old = (numbers (z +ℤ neg_ℤ x)).1 (subst (IsNumberOf (tree_at Us id)) (sym back) n) in
+        subst (λ y. unsigned_abs y ≤ b) back (sum-size (z +ℤ neg_ℤ x) x (e.taken * 2 ^ 60) b size (w (z +ℤ neg_ℤ x) old)));
+  }
+
+credit-zero : (c : Colour) (n : ℕ) → n ≡ 0 → credit c n *ℤ pos (2 ^ 60) ≡ pos 0
+credit-zero Black n e = omega (arith, ints, e)
+credit-zero White n e = omega (arith, ints, e)
+
+-- where no stones are taken, the value stays
+pub value-untaken : (Ts : List Tree) (ids : List ℕ) (e : Edge) → e.taken ≡ 0 → get_or ids e.next 0 < length Ts → AreCanonical Ts → IsAfter Ts Ts ids e (get_or ids e.next 0)
+value-untaken Ts ids e untaken lt canonical =
+    let zero = credit-zero e.colour e.taken untaken in
+    value-after Ts ids e (credit e.colour e.taken *ℤ pos (2 ^ 60)) refl Ts (get_or ids e.next 0) (same-sum Ts (get_or ids e.next 0) _ zero lt (canonical (get_or ids e.next 0) lt))
+    (λ y. subst (λ z. IsNumberOf (noted Ts ids e.next) y ↔ IsNumberOf (noted Ts ids e.next) z) (same y _ zero) (λ n. n, λ n. n))
+  where
+    same : (y x : ℤ) → x ≡ pos 0 → y ≡ y +ℤ x
+    same y x z = omega (arith, ints, z)
+
+-- the sum with the stones that an edge takes
+pub value-summed : (Ts Us : List Tree) (ids : List ℕ) (e : Edge) (stones : ℤ) (id : ℕ) → stones ≡ credit e.colour e.taken → Extends Ts Us → get_or ids e.next 0 < length Ts → IsStonesSum Us (get_or ids e.next 0) stones id → IsAfter Ts Us ids e id
+value-summed Ts Us ids e stones id is x lt s =
+    let same = x.same (get_or ids e.next 0) lt in
+    value-after Ts ids e (stones_units stones) (ap stones_units is) Us id (subst (λ t. IsCanonicalId Us (t +ᵍ number_tree (stones_units stones)) id) same s.value)
+    (subst (λ t. (y : ℤ) → IsNumberOf t y ↔ IsNumberOf (tree_at Us id) (y +ℤ stones_units stones)) same s.numbers)
+
+-- The ids after the edges of a place, as the store grows.
+
+pub extends-both : (Ts Us Vs : List Tree) → Extends Ts Us → Extends Us Vs → Extends Ts Vs
+extends-both Ts Us Vs a b = record { longer = omega (arith, a.longer, b.longer); same = λ i l. b.same i (omega (arith, l, a.longer)) ∙ a.same i l }
+
+-- what is noted stays so
+pub noted-kept : (Ts Us : List Tree) (ids : List ℕ) (i : ℕ) → Extends Ts Us → IsNoted Ts ids i → IsNoted Us ids i × (noted Us ids i ≡ noted Ts ids i)
+noted-kept Ts Us ids i x n = ((n.0, omega (arith, n.1, x.longer)), x.same (get_or ids i 0) n.1)
+
+pub within-on : (Ts Us : List Tree) (ids : List ℕ) (e : Edge) (b : ℕ) → Extends Ts Us → IsNoted Ts ids e.next → IsWithinAfter b Ts ids e → IsWithinAfter b Us ids e
+within-on Ts Us ids e b x n w y h = w y (subst (λ t. IsNumberOf t y) (noted-kept Ts Us ids e.next x n).1 h)
+
+after-kept : (Ts Us Vs : List Tree) (ids : List ℕ) (e : Edge) (id : ℕ) → Extends Us Vs → IsAfter Ts Us ids e id → IsAfter Ts Vs ids e id
+after-kept Ts Us Vs ids e id x a =
+    let same = sym (x.same id a.known) in record {
+      known = omega (arith, a.known, x.longer);
+      canonical = subst (IsCanonicalFor (tree_after Ts ids e)) same a.canonical;
+      sizes = λ b w. subst (AreWithin b) same (a.sizes b w);
+    }
+
+pub after-from : (Ts Us Vs : List Tree) (ids : List ℕ) (e : Edge) (id : ℕ) → Extends Ts Us → IsNoted Ts ids e.next → IsAfter Us Vs ids e id → IsAfter Ts Vs ids e id
+after-from Ts Us Vs ids e id x n a = record {
+  known = a.known;
+  canonical = subst (λ t. IsCanonicalFor (t +ᵍ gain e.colour e.taken) (tree_at Vs id)) (noted-kept Ts Us ids e.next x n).1 a.canonical;
+  sizes = λ b w. a.sizes b (within-on Ts Us ids e b x n w);
+}
+
+pub all-kept : (Ts Us Vs : List Tree) (ids : List ℕ) (c : Colour) (es : List Edge) (afters : List ℕ) → Extends Us Vs → AreAfter Ts Us ids c es afters → AreAfter Ts Vs ids c es afters
+all-kept Ts Us Vs ids c es afters x a = record {
+  from = λ j lt. (let f = a.from j lt in (f.0, f.1, f.2, after-kept Ts Us Vs ids f.0 _ x f.3));
+  to = λ e h s. (let t = a.to e h s in (t.0, t.1, after-kept Ts Us Vs ids e _ x t.2));
+}
+
+pub all-from : (Ts Us Vs : List Tree) (ids : List ℕ) (c : Colour) (es : List Edge) (afters : List ℕ) → Extends Ts Us → ((e : Edge) → Contains es e → IsNoted Ts ids e.next) → AreAfter Us Vs ids c es afters → AreAfter Ts Vs ids c es afters
+all-from Ts Us Vs ids c es afters x n a = record {
+  from = λ j lt. (let f = a.from j lt in (f.0, f.1, f.2, after-from Ts Us Vs ids f.0 _ x (n f.0 f.1) f.3));
+  to = λ e h s. (let t = a.to e h s in (t.0, t.1, after-from Ts Us Vs ids e _ x (n e h) t.2));
+}
+
+pub after-ids : (Ts Us : List Tree) (ids : List ℕ) (c : Colour) (es : List Edge) (afters : List ℕ) → AreAfter Ts Us ids c es afters → AreIds Us afters
+after-ids Ts Us ids c es afters a j lt = (a.from j lt).3.known
+
+-- the loop over the edges: the store so far, and the ids after the edges so far
+pub record IsListing (Ts Us : List Tree) (ids : List ℕ) (c : Colour) (es : List Edge) (n : ℕ) (afters : List ℕ) : Type 0 where
+  pub kept : Extends Ts Us
+  pub so_far : AreAfter Ts Us ids c (take n es) afters
+
+pub listing-start : (Ts : List Tree) (ids : List ℕ) (c : Colour) (es : List Edge) (afters : List ℕ) → afters ≡ [] → IsListing Ts Ts ids c es 0 afters
+listing-start Ts ids c es afters e = record {
+  kept = record { longer = omega arith; same = λ i l. refl };
+  so_far = record {
+    from = λ j lt. absurd (omega (arith, subst (λ z. j < length z) e lt));
+    to = λ d h s. absurd (omega (arith, h.1));
+  };
+}
+
+module _ (Ts Us : List Tree) (ids : List ℕ) (c : Colour) (es : List Edge) (n : ℕ) (afters : List ℕ) (among : n < length es)
+    (w : IsListing Ts Us ids c es n afters) where
+  abbrev e : Edge
+  e = get_or es n no_edge
+
+  next : take (n + 1) es ≡ take n es ++ e ∷ []
+  next = take_more es n no_edge among
+
+  edge_among : Contains es e
+  edge_among = Contains-get_or es n no_edge among
+
+  last-or : (d : Edge) → Contains (take (n + 1) es) d → Contains (take n es) d ⊎ (e ≡ d)
+  last-or d h = Contains-push_cases (take n es) e d (subst (λ z. Contains z d) next h)
+
+  sooner : (d : Edge) → Contains (take n es) d → Contains (take (n + 1) es) d
+  sooner d h = subst (λ z. Contains z d) (sym next) (Contains-append_left (take n es) (e ∷ []) d h)
+
+  last : Contains (take (n + 1) es) e
+  last = subst (λ z. Contains z e) (sym next) (Contains-push (take n es) e)
+
+  listing-skip : (e.colour ≡ c → ⊥) → IsListing Ts Us ids c es (n + 1) afters
+  listing-skip other = record {
+    kept = w.kept;
+    so_far = record {
+      from = λ j lt. (let f = w.so_far.from j lt in (f.0, sooner f.0 f.1, f.2, f.3));
+      to = λ d h s. elim (last-or d h) [ inl i ↦ w.so_far.to d i s | inr i ↦ absurd (other (ap (λ z. z.colour) i ∙ s)) ];
+    };
+  }
+
+  module _ (noted : (d : Edge) → Contains es d → IsNoted Ts ids d.next) where
+    pub step-noted : IsNoted Us ids e.next
+    step-noted = (noted-kept Ts Us ids e.next w.kept (noted e edge_among)).0
+
+    pub step-within : (b : ℕ) → AreWithinAfter b Ts ids es → IsWithinAfter b Us ids e
+    step-within b small = within-on Ts Us ids e b w.kept (noted e edge_among) (small e edge_among)
+
+  listing-push : (Vs : List Tree) (id : ℕ) (more : List ℕ) → e.colour ≡ c → Extends Us Vs → ((d : Edge) → Contains es d → IsNoted Ts ids d.next)
+      → IsAfter Us Vs ids e id → more ≡ afters ++ id ∷ [] → IsListing Ts Vs ids c es (n + 1) more
+  listing-push Vs id more same x noted a grown =
+      let here = after-from Ts Us Vs ids e id w.kept (noted e edge_among) a in
+      let old = all-kept Ts Us Vs ids c (take n es) afters x w.so_far in
+      subst (IsListing Ts Vs ids c es (n + 1)) (sym grown) record {
+        kept = extends-both Ts Us Vs w.kept x;
+        so_far = record { from = from here old; to = to here old };
+      }
+    where
+      from : IsAfter Ts Vs ids e id → AreAfter Ts Vs ids c (take n es) afters → (j : ℕ) → j < length (afters ++ id ∷ []) → (d : Edge) × Contains (take (n + 1) es) d × (d.colour ≡ c) × IsAfter Ts Vs ids d (get_or (afters ++ id ∷ []) j 0)
+      from here old j lt = elim (cases_lt j (length afters)) [
+        | inl l ↦ (let f = old.from j l in (f.0, sooner f.0 f.1, f.2, subst (IsAfter Ts Vs ids f.0) (sym (get_or_append_left afters (id ∷ []) 0 j l)) f.3))
+        | inr l ↦ (let at : length afters ≡ j = omega (arith, lt, l, length-append afters (id ∷ [])) in (e, last, same, subst (IsAfter Ts Vs ids e) (sym (get_or_push afters id 0 j at)) here))
+      ]
+
+      to : IsAfter Ts Vs ids e id → AreAfter Ts Vs ids c (take n es) afters → (d : Edge) → Contains (take (n + 1) es) d → d.colour ≡ c → (j : ℕ) × (j < length (afters ++ id ∷ [])) × IsAfter Ts Vs ids d (get_or (afters ++ id ∷ []) j 0)
+      to here old d h s = elim (last-or d h) [
+        | inl i ↦ (let t = old.to d i s in (t.0, omega (arith, t.1, length-append afters (id ∷ [])), subst (IsAfter Ts Vs ids d) (sym (get_or_append_left afters (id ∷ []) 0 t.0 t.1)) t.2))
+        | inr i ↦ (length afters, omega (arith, length-append afters (id ∷ [])), subst (λ z. IsAfter Ts Vs ids z (get_or (afters ++ id ∷ []) (length afters) 0)) i (subst (IsAfter Ts Vs ids e) (sym (get_or_push afters id 0 (length afters) refl)) here))
+      ]
+
+listing-end : (Ts Us : List Tree) (ids : List ℕ) (c : Colour) (es : List Edge) (n : ℕ) (afters : List ℕ) → length es ≤ n → IsListing Ts Us ids c es n afters → AreAfter Ts Us ids c es afters
+listing-end Ts Us ids c es n afters l w = subst (λ z. AreAfter Ts Us ids c z afters) (take_all n es l) w.so_far
+
+listing-on : (Ts Us Vs : List Tree) (ids : List ℕ) (c : Colour) (es : List Edge) (n : ℕ) (afters : List ℕ) → Extends Us Vs → IsListing Ts Us ids c es n afters → IsListing Ts Vs ids c es n afters
+listing-on Ts Us Vs ids c es n afters x w = record { kept = extends-both Ts Us Vs w.kept x; so_far = all-kept Ts Us Vs ids c (take n es) afters x w.so_far }
+
+black-white : Black ≡ White → ⊥
+black-white e = cc
+
+-- the loop goes on for both players
+pub listing-add : (Ts Us : List Tree) (ids : List ℕ) (es : List Edge) (n : ℕ) (before : Options) → n < length es → IsListing Ts Us ids Black es n before.left.items → IsListing Ts Us ids White es n before.right.items
+    → (Vs : List Tree) (id : ℕ) (c : Colour) (now : Options) → c ≡ (get_or es n no_edge).colour → Extends Us Vs → ((d : Edge) → Contains es d → IsNoted Ts ids d.next) → IsAfter Us Vs ids (get_or es n no_edge) id → IsAdded c id before now
+    → IsListing Ts Vs ids Black es (n + 1) now.left.items × IsListing Ts Vs ids White es (n + 1) now.right.items
+listing-add Ts Us ids es n before among l r Vs id Black now same x noted a added = (
+  listing-push Ts Us ids Black es n before.left.items among l Vs id now.left.items (sym same) x noted a added.0,
+  subst (IsListing Ts Vs ids White es (n + 1)) (sym added.1) (listing-on Ts Us Vs ids White es (n + 1) before.right.items x (listing-skip Ts Us ids White es n before.right.items among r (λ w. black-white (same ∙ w)))),
+)
+listing-add Ts Us ids es n before among l r Vs id White now same x noted a added = (
+  subst (IsListing Ts Vs ids Black es (n + 1)) (sym added.0) (listing-on Ts Us Vs ids Black es (n + 1) before.left.items x (listing-skip Ts Us ids Black es n before.left.items among l (λ b. black-white (sym (same ∙ b))))),
+  listing-push Ts Us ids White es n before.right.items among r Vs id now.right.items (sym same) x noted a added.1,
+)
+
+pub listing-done : (Ts Us : List Tree) (ids : List ℕ) (es : List Edge) (n : ℕ) (ls rs : List ℕ) → length es ≤ n → IsListing Ts Us ids Black es n ls → IsListing Ts Us ids White es n rs → AreBothAfter Ts Us ids es ls rs
+listing-done Ts Us ids es n ls rs le l r = record { left = listing-end Ts Us ids Black es n ls le l; right = listing-end Ts Us ids White es n rs le r }
+
+-- what is said of the ids after a player's edges is said of the same ids in another order
+pub after-same : (Ts Us : List Tree) (ids : List ℕ) (c : Colour) (es : List Edge) (afters others : List ℕ) → ((i : ℕ) → Contains others i ↔ Contains afters i)
+    → AreAfter Ts Us ids c es afters → AreAfter Ts Us ids c es others
+after-same Ts Us ids c es afters others same w = record {
+  from = λ j lt.
+      let at = (same (get_or others j 0)).0 (Contains-get_or others j 0 lt) in
+      let is : get_or afters at.0 0 ≡ get_or others j 0 = get_or_default afters at.0 0 (get_or others j 0) at.1 ∙ at.2 in
+      let e = w.from at.0 at.1 in
+      (e.0, e.1, e.2, subst (IsAfter Ts Us ids e.0) is e.3);
+  to = λ e among colour.
+      let j = w.to e among colour in
+      let at = (same (get_or afters j.0 0)).1 (Contains-get_or afters j.0 0 j.1) in
+      let is : get_or others at.0 0 ≡ get_or afters j.0 0 = get_or_default others at.0 0 (get_or afters j.0 0) at.1 ∙ at.2 in
+      (at.0, at.1, subst (IsAfter Ts Us ids e) (sym is) j.2);
+}
+
+pub both-same : (Ts Us : List Tree) (ids : List ℕ) (es : List Edge) (ls rs ls' rs' : List ℕ) → ((i : ℕ) → Contains ls' i ↔ Contains ls i)
+    → ((i : ℕ) → Contains rs' i ↔ Contains rs i) → AreBothAfter Ts Us ids es ls rs → AreBothAfter Ts Us ids es ls' rs'
+both-same Ts Us ids es ls rs ls' rs' left right w = record {
+  left = after-same Ts Us ids Black es ls ls' left w.left;
+  right = after-same Ts Us ids White es rs rs' right w.right;
+}
+
+-- The form of the ids after the edges of a place, and what it shares with each tree of the same edges.
 
 module _ (Ts Us : List Tree) (ids ls rs : List ℕ) (es : List Edge) (a : AreBothAfter Ts Us ids es ls rs) where
   abbrev side : Colour → List ℕ
@@ -43,7 +269,7 @@ module _ (Ts Us : List Tree) (ids ls rs : List ℕ) (es : List Edge) (a : AreBot
   listed-out c X h =
       let q = picked c h in
       let f = (afters c).from q.0 q.1 in
-      (f.0, f.1, f.2, same-trans _ _ _ (after-same Ts Us ids f.0 _ f.3) (same-sym _ _ (same-path _ _ q.2)))
+      (f.0, f.1, f.2, same-trans _ _ _ (f.3.canonical.under, f.3.canonical.over) (same-sym _ _ (same-path _ _ q.2)))
     where
       picked : (c : Colour) → Has (options c (listed Us ls rs)) X → (j : ℕ) × (j < length (side c)) × (X ≡ tree_at Us (get_or (side c) j 0))
       picked Black h = has-pick Us ls X h
@@ -52,7 +278,7 @@ module _ (Ts Us : List Tree) (ids ls rs : List ℕ) (es : List Edge) (a : AreBot
   listed-in : (e : Edge) → Contains es e → (X : Tree) × Has (options e.colour (listed Us ls rs)) X × (X ≡ᵍ tree_after Ts ids e)
   listed-in e among =
       let t = (afters e.colour).to e among refl in
-      (tree_at Us (get_or (side e.colour) t.0 0), picked e.colour t.0 t.1, same-sym _ _ (after-same Ts Us ids e _ t.2))
+      (tree_at Us (get_or (side e.colour) t.0 0), picked e.colour t.0 t.1, same-sym _ _ (t.2.canonical.under, t.2.canonical.over))
     where
       picked : (c : Colour) (j : ℕ) → j < length (side c) → Has (options c (listed Us ls rs)) (tree_at Us (get_or (side c) j 0))
       picked Black j lt = pick-has Us ls j lt
@@ -103,7 +329,7 @@ cause-as G H limit (Memory cause) s w = tt
 -- the form that is made of the ids is that of each tree of the edges
 module _ (Ts Us : List Tree) (ids ls rs : List ℕ) (es : List Edge) (a : AreBothAfter Ts Us ids es ls rs) (Vs : List Tree) (limit id : ℕ) (x : Extends Us Vs) (f : IsFormOf Vs limit ls rs id) where
   same : listed Vs ls rs ≡ listed Us ls rs
-  same = listed-grown Us Vs ls rs x (left-ids Ts Us ids ls rs es a) (right-ids Ts Us ids ls rs es a)
+  same = listed-grown x ls rs (left-ids Ts Us ids ls rs es a) (right-ids Ts Us ids ls rs es a)
 
   pub form-valued : (G : Tree) → HasEdges Ts ids es G → IsCanonicalId Vs G id
   form-valued G has = canonical-as Vs (listed Us ls rs) G id (edges-same Ts Us ids ls rs es a G has) (subst (λ t. IsCanonicalId Vs t id) same f.value)

@@ -1,25 +1,25 @@
--- One pass over the places of a graph, each after those that its moves lead to.
+-- One pass over the places of a graph, each after those that its moves lead to, what it gives in the end, and what a refusal on the way means.
 use Rattle.std.proofs.Common.{ℕ, suc, ◌+◌, ◌-◌, ◌*◌, ◌^◌, ◌≡◌, ◌≢◌, ◌<◌, ◌≤◌, inl, inr, refl, sym, ap, ◌∙◌, subst, arith, pos, List, [], ◌∷◌, length, get_or, set, below_more, Contains}
 use Rattle.std.specs.Prelude.{unsigned_abs}
 use Rattle.std.proofs.Math.Nat.{mul-le-mul_right}
 use Rattle.std.proofs.lemmas.Bool.{cases_lt}
 use Rattle.std.proofs.lemmas.Int.{ints}
-use Rattle.std.proofs.lemmas.List.{get_or-set_same, get_or-set_other, length-set}
+use Rattle.std.proofs.lemmas.List.{get_or-set_same, get_or-set_other, length-set, get_or_default}
 use Rattle.go_grid.specs.declared.grid.Colour.{Colour}
 use Rattle.go_grid.specs.Region.{Region}
 use Rattle.local_graph.specs.declared.graph.Edge.{Edge}
 use Rattle.local_graph.specs.Graph.{Graph}
 use Rattle.local_graph.specs.inner.Graph.{edges_at}
 use Rattle.short_games.specs.Tree.{Tree, node, none, Has, tree_at}
-use Rattle.short_games.specs.Order.{◌≡ᵍ◌}
+use Rattle.short_games.specs.Order.{◌≡ᵍ◌, ◌≤ᵍ◌}
 use Rattle.short_games.specs.Sum.{◌+ᵍ◌}
-use Rattle.short_games.specs.TextOrder.{IsCanonicalFor}
+use Rattle.short_games.specs.TextOrder.{IsCanonicalFor, TextBefore}
 use Rattle.short_games.specs.Number.{number_tree}
 use Rattle.game_store.specs.Meaning.{Extends}
 use Rattle.short_games.specs.Parts.{HasMoreParts, IsNumberOf}
 use Rattle.short_games.proofs.NumberLaws.{num-zero}
 use Rattle.short_games.proofs.ReductionLaws.{number-canonical, same-canonical}
-use Rattle.game_canon.specs.Outcomes.{IsCanonicalId, AreWithin}
+use Rattle.game_canon.specs.Outcomes.{IsCanonicalId, AreWithin, IsCause}
 use Rattle.sum_outcome.specs.Players.{options, gain}
 use Rattle.game_canon.proofs.PartLaws.{fewer}
 use Rattle.short_games.proofs.OrderLaws.{same-path, same-refl, same-trans}
@@ -28,13 +28,25 @@ use Rattle.game_canon.proofs.Sizes.{own-number}
 use Rattle.local_value.specs.Ending.{EndsWithin}
 use Rattle.local_value.specs.inner.GraphMoves.{step_of, steps_of}
 use Rattle.local_value.specs.LocalGame.{Step, StepsTo, tree_within}
-use Rattle.local_value.specs.Values.{IsGraphOf}
-use Rattle.local_value.specs.inner.Valuing.{noted, IsNoted, tree_after, AreWithinAfter, HasEdges}
-use Rattle.local_value.proofs.GraphLaws.{position_at, taken_less}
-use Rattle.local_value.proofs.GraphTreeLaws.{place_ends}
+use Rattle.local_value.specs.Values.{IsGraphOf, IsPlaceOf, AreValues}
+use Rattle.local_value.specs.inner.Valuing.{noted, IsNoted, tree_after, AreWithinAfter, HasEdges, most_units}
+use Rattle.local_value.proofs.GraphLaws.{position_at, taken_less, steps-in, steps-out}
+use Rattle.local_value.proofs.TreeLaws.{place_ends, place_tree}
 use Rattle.local_value.proofs.LocalLaws.{move-option, option-move}
-use Rattle.local_value.proofs.OptionsLaws.{no-edges}
-use Rattle.local_value.proofs.StepLaws.{steps-in, steps-out}
+use Rattle.local_value.proofs.OptionsLaws.{no-edges, number-as}
+use Rattle.go_grid.specs.declared.grid.Cell.{Cell}
+use Rattle.local_graph.proofs.PlayLemmas.{plays_long}
+use Rattle.short_games.proofs.Existence.{canon}
+use Rattle.short_games.proofs.TextOrderLaws.{text-order}
+use Rattle.game_canon.specs.declared.errors.FormError.{FormError}
+use Rattle.game_canon.specs.declared.errors.FormError.TheVariants.{Parts, Bounds, Memory}
+use Rattle.game_canon.proofs.ChangeLaws.{tree-number}
+use Rattle.game_canon.proofs.Finish.{made-no_number}
+use Rattle.local_value.specs.PositionTree.{IsValueOf}
+use Rattle.local_value.specs.Refusals.{IsValueAt, IsValueRefusal}
+use Rattle.local_graph.specs.declared.graph.TheConstants.{MOST_POSITIONS}
+
+-- One pass over the places of a graph, each after those that its moves lead to.
 
 -- the edges of a place as steps, and the tree of the place, cut off after n moves
 abbrev pub edge_steps : Graph → Colour → ℕ → List (Step ℕ)
@@ -181,3 +193,113 @@ module _ (r : Region) (g : Graph) (of : IsGraphOf r g) (limit : ℕ) where
         long = length-set ids (place g k) id ∙ pass.long;
         each = below_more (IsValued r g limit Us (set ids (place g k) id)) k before now;
       }
+
+-- What a pass over all places of a graph gives, and what a refusal on the way means.
+
+module _ (r : Region) (g : Graph) (of : IsGraphOf r g) (limit : ℕ) where
+  deep : (i : ℕ) (cells : List Cell) → IsPlaceOf r g i cells → 3 ^ length r.cells ≤ 3 ^ length cells
+  deep i cells has =
+      let long : length r.cells ≡ length cells = sym (plays_long r.touch r.cells cells has.reachable.0 has.reachable.1) in
+      subst (λ m. 3 ^ length r.cells ≤ 3 ^ m) long (omega arith)
+
+  -- the canonical tree of a place's tree is the value of its position
+  value_of : (i : ℕ) (cells : List Cell) (V : Tree) → IsPlaceOf r g i cells → IsCanonicalFor (graph_tree g (3 ^ length cells) i) V → IsValueOf r.touch cells V
+  value_of i cells V has k = record {
+    tree = graph_tree g (3 ^ length cells) i;
+    of_position = place_tree ℕ (λ j. j) (edge_steps g) r g of (λ c j. refl) (3 ^ length cells) i cells has;
+    canonical = k.canonical;
+    same = (k.under, k.over);
+  }
+
+  module _ (Ts : List Tree) (ids : List ℕ) (k : ℕ) (pass : IsPass r g limit Ts ids k) (done : length g.order ≤ k) where
+    valued : (i : ℕ) → i < length ids → (j : ℕ) × (j < length g.order) × (place g j ≡ i) × IsValued r g limit Ts ids j
+    valued i lt =
+        let (j, short, at) = of.order.every i (omega (arith, lt, pass.long, of.graph.beside)) in
+        (j, short, get_or_default g.order j 0 i short ∙ at, pass.each j (omega (arith, short, done)))
+
+    pub pass-values : AreValues r g Ts ids
+    pass-values = record {
+      long = pass.long;
+      known = λ i lt. (let (j, short, at, v) = valued i lt in subst (λ z. get_or ids z 0 < length Ts) at v.known);
+      each = λ i cells has. (
+          let (j, short, at, v) = valued i (omega (arith, has.inside, pass.long)) in
+          value_of i cells (noted Ts ids i) has (subst (λ z. IsCanonicalFor (graph_tree g (3 ^ length cells) z) (noted Ts ids z)) at (v.canonical (3 ^ length cells) (deep i cells has)))
+          );
+    }
+
+    pub pass-sizes : (i : ℕ) → i < length ids → AreWithin ((length g.positions * length r.cells) * 2 ^ 60) (noted Ts ids i)
+    pass-sizes i lt x n =
+        let (j, short, at, v) = valued i lt in
+        let size = v.sizes x (subst (λ z. IsNumberOf (noted Ts ids z) x) (sym at) n) in
+        let more : suc j * length r.cells ≤ length g.positions * length r.cells = mul-le-mul_right (length r.cells) (omega (arith, short, order_short r g of limit)) in
+        omega (arith, size, more)
+
+    pub pass-parts : (i : ℕ) → i < length ids → HasMoreParts (noted Ts ids i) limit → ⊥
+    pass-parts i lt = let (j, short, at, v) = valued i lt in subst (λ z. HasMoreParts (noted Ts ids z) limit → ⊥) at v.parts
+
+  canonical_of : (G : Tree) → (C : Tree) × IsCanonicalFor G C
+  canonical_of G = let c = canon TextBefore text-order.total G in (c.tree, record { canonical = c.canonical; under = c.under; over = c.over })
+
+  refusal : (i : ℕ) (G V : Tree) (e : FormError) → IsValueAt r g i V → IsCanonicalFor G V → IsCause G limit e → IsValueRefusal r g limit e
+  refusal i G V Parts at k w = (i, V, at, made-no_number G V w.0 k, w.1 V k)
+  refusal i G V Bounds at k w = (
+    i,
+    V,
+    at,
+    (
+      V,
+      tree-number V k.canonical (number-as G V (k.under, k.over) w.0),
+      inl refl,
+      λ u b e. w.1 u b (subst (λ t. G ≤ᵍ t) e k.under) (subst (λ t. t ≤ᵍ G) e k.over),
+    ),
+  )
+  refusal i G V (Memory cause) at k w = tt
+
+  -- a place's form is refused for its value
+  pub pass-refused : (Ts : List Tree) (ids : List ℕ) (k : ℕ) (e : FormError) → IsPass r g limit Ts ids k → k < length g.order
+      → ((G : Tree) → HasEdges Ts ids (edges_at g.edges (place g k)) G → IsCause G limit e) → IsValueRefusal r g limit e
+  pass-refused Ts ids k e pass lt cause =
+      let (cells, has) = position_at r g of (place g k) (place_inside r g of limit k lt) in
+      let n = 3 ^ length cells in
+      let c = canonical_of (graph_tree g n (place g k)) in
+      refusal (place g k) (graph_tree g n (place g k)) c.0 e (record { cells = cells; place = has; value = value_of (place g k) cells c.0 has c.1 }) c.1
+      (cause (graph_tree g n (place g k)) (has_edges r g of limit Ts ids k pass lt n (deep (place g k) cells has)))
+
+-- A step of the pass, with the lists as the program lends them.
+
+module _ (r : Region) (g : Graph) (of : IsGraphOf r g) (limit : ℕ) (Ts : List Tree) (ids : List ℕ) (k : ℕ) (pass : IsPass r g limit Ts ids k)
+    (order : List ℕ) (es : List Edge) (vs : List ℕ) (o : order ≡ g.order) (s : es ≡ edges_at g.edges (get_or order k 0)) (v : vs ≡ ids) (lt : k < length order) where
+  among : k < length g.order
+  among = subst (λ z. k < length z) o lt
+
+  same : es ≡ edges_at g.edges (place g k)
+  same = s ∙ ap (λ z. edges_at g.edges (get_or z k 0)) o
+
+  pub call-noted : (e : Edge) → Contains es e → IsNoted Ts vs e.next
+  call-noted e h = subst (λ z. IsNoted Ts z e.next) (sym v) (edges_noted r g of limit Ts ids k pass among e (subst (λ z. Contains z e) same h))
+
+  pub call-small : length g.positions ≤ MOST_POSITIONS → AreWithinAfter most_units Ts vs es
+  call-small few = subst (λ z. AreWithinAfter most_units Ts z es) (sym v) (subst (AreWithinAfter most_units Ts ids) (sym same) small)
+    where
+      small : AreWithinAfter most_units Ts ids (edges_at g.edges (place g k))
+      small e h x n =
+          let size = edges_within r g of limit Ts ids k pass among e h x n in
+          let most : k * length r.cells ≤ MOST_POSITIONS * length r.cells = mul-le-mul_right (length r.cells) (omega (arith, among, order_short r g of limit, few)) in
+          omega (arith, size, most, of.few)
+
+  pub call-step : (Us : List Tree) (id : ℕ) → Extends Ts Us → ((G : Tree) → HasEdges Ts vs es G → IsCanonicalId Us G id)
+      → ((b : ℕ) → AreWithinAfter b Ts vs es → AreWithin (b + 2 ^ 60) (tree_at Us id)) → (HasMoreParts (tree_at Us id) limit → ⊥)
+      → IsPass r g limit Us (set ids (get_or order k 0) id) (k + 1)
+  call-step Us id kept value sizes parts =
+      subst (λ z. IsPass r g limit Us (set ids (get_or z k 0) id) (k + 1)) (sym o)
+      (pass-step r g of limit Ts ids k pass among Us id kept
+      (subst (λ z. (G : Tree) → HasEdges Ts ids z G → IsCanonicalId Us G id) same (subst (λ (z : List ℕ). (G : Tree) → HasEdges Ts z es G → IsCanonicalId Us G id) v value))
+      (subst (λ z. (b : ℕ) → AreWithinAfter b Ts ids z → AreWithin (b + 2 ^ 60) (tree_at Us id)) same (subst (λ (z : List ℕ). (b : ℕ) → AreWithinAfter b Ts z es → AreWithin (b + 2 ^ 60) (tree_at Us id)) v sizes))
+      parts)
+
+  pub call-refused : (e : FormError) → ((G : Tree) → HasEdges Ts vs es G → IsCause G limit e) → IsValueRefusal r g limit e
+  call-refused e cause = pass-refused r g of limit Ts ids k e pass among
+      (subst (λ z. (G : Tree) → HasEdges Ts ids z G → IsCause G limit e) same (subst (λ (z : List ℕ). (G : Tree) → HasEdges Ts z es G → IsCause G limit e) v cause))
+
+pub call-done : (g : Graph) (k : ℕ) (order : List ℕ) → order ≡ g.order → length order ≤ k → length g.order ≤ k
+call-done g k order o le = subst (λ z. length z ≤ k) o le

@@ -15,7 +15,7 @@ returns-in-Some-clause-sum c = c.requires.sums c.args.game c.args.stones c.in-So
 
 -- the sum that was made
 made : (c : goal.After-remember_sum) (stones : ℤ) → c.whole.result ≡ stones_units stones → IsStonesSum c.add_number.new.store c.args.game stones c.in_ok-sum.sum
-made c stones is = sum-made c.args.store.now c.add_number.new.store c.args.game stones c.in_ok-sum.sum c.add_number.ensures.kept c.requires.game
+made c stones is = sum-made c.add_number.ensures.kept c.args.game stones c.in_ok-sum.sum c.requires.game
     (subst (λ x. IsCanonicalId c.add_number.new.store (tree_at c.args.store.now c.args.game +ᵍ number_tree x) c.in_ok-sum.sum) is c.in_ok-sum.ensures.value)
     (subst (λ x. (y : ℤ) → IsNumberOf (tree_at c.args.store.now c.args.game) y ↔ IsNumberOf (tree_at c.add_number.new.store c.in_ok-sum.sum) (y +ℤ x)) is c.in_ok-sum.ensures.numbers)
 
@@ -23,4 +23,4 @@ pub returns-clause-sum : goal.returns-clause-sum
 returns-clause-sum c = made c c.args.stones (c.whole.ensures ∙ ap stones_units (to_z-of_z w32 c.args.stones c.ranges.stones))
 
 pub returns-clause-sums : goal.returns-clause-sums
-returns-clause-sums c = c.remember_sum.ensures c.add_number.new.store (made c (to_z w32 (of_z w32 c.args.stones)) c.whole.ensures) (sums-grown c.args.store.now c.add_number.new.store (recalled_sum c.args.sums.now) c.add_number.ensures.kept c.requires.sums)
+returns-clause-sums c = c.remember_sum.ensures c.add_number.new.store (made c (to_z w32 (of_z w32 c.args.stones)) c.whole.ensures) (sums-grown c.add_number.ensures.kept (recalled_sum c.args.sums.now) c.requires.sums)

@@ -1,6 +1,6 @@
 use Rattle.std.proofs.Common.{◌^◌, ◌-◌, refl}
 use Rattle.go_grid.specs.declared.grid.Colour.TheVariants.{Black, White}
-use Rattle.local_value.proofs.AfterLaws.{listing-start, listing-add, listing-done, both-same, step-noted, step-within}
+use Rattle.local_value.proofs.OptionsLaws.{listing-start, listing-add, listing-done, both-same, step-noted, step-within}
 use Rattle.local_value.proofs.values.list_options.Goals as goal
 use Rattle.local_value.specs.inner.Valuing.{most_units}
 

@@ -5,10 +5,8 @@ use Rattle.game_canon.proofs.ChangeSteps.{passed-on}
 use Rattle.game_canon.proofs.NumberParts.{within-bounds}
 use Rattle.local_value.specs.Refusals.{IsValueRefusal}
 use Rattle.local_value.specs.Values.{IsGraphOf}
-use Rattle.local_value.proofs.AfterLaws.{extends-both}
-use Rattle.local_value.proofs.PassLaws.{pass-start}
-use Rattle.local_value.proofs.PassEndLaws.{pass-values, pass-sizes, pass-parts}
-use Rattle.local_value.proofs.PassCallLaws.{call-noted, call-small, call-step, call-refused, call-done}
+use Rattle.local_value.proofs.OptionsLaws.{extends-both}
+use Rattle.local_value.proofs.PassLaws.{pass-start, pass-values, pass-sizes, pass-parts, call-noted, call-small, call-step, call-refused, call-done}
 use Rattle.local_value.proofs.values.value_all.Goals as goal
 
 pub valuing-init : goal.valuing-init

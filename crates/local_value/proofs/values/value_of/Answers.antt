@@ -1,11 +1,11 @@
 use Rattle.std.proofs.Common.{ℕ, ◌+◌, ◌^◌}
-use Rattle.std.proofs.lemmas.Result.{IfErr-weaker, IfOk-weaker}
+use Rattle.std.proofs.lemmas.Result.{IfErr-weaker, IfOk-weaker, on_ok_weaker}
 use Rattle.short_games.specs.Tree.{Tree, tree_at}
 use Rattle.game_store.specs.Meaning.{listed}
 use Rattle.game_canon.specs.Outcomes.{IsCanonicalId, IsCause, AreWithin}
 use Rattle.local_value.specs.inner.Memo.{IsFormOf, recalled_form, recalled_sum}
 use Rattle.local_value.specs.inner.Valuing.{AreWithinAfter, HasEdges}
-use Rattle.local_value.proofs.MemoLaws.{sums-grown, forms-grown, on-ok}
+use Rattle.local_value.proofs.MemoLaws.{sums-grown, forms-grown}
 use Rattle.local_value.proofs.OptionsLaws.{left-ids, right-ids, cause-as, edges-same, form-valued, form-within}
 use Rattle.local_value.proofs.values.value_of.Goals as goal
 
@@ -46,7 +46,7 @@ returns-clause-refusal c =
     c.form_of.ensures.refusal
 
 pub form_of-requires-clause-forms : goal.form_of-requires-clause-forms
-form_of-requires-clause-forms c = forms-grown c.args.store.now c.list_options.new.store c.args.parts_limit (recalled_form c.args.memo.now.forms) c.list_options.ensures.kept c.requires.memo.forms
+form_of-requires-clause-forms c = forms-grown c.list_options.ensures.kept c.args.parts_limit (recalled_form c.args.memo.now.forms) c.requires.memo.forms
 
 pub returns-clause-memo : goal.returns-clause-memo
-returns-clause-memo c = on-ok c.form_of.result (λ forms. record { sums = sums-grown c.list_options.new.store c.form_of.new.store (recalled_sum c.list_options.new.sums) c.form_of.ensures.kept c.in_ok-list_options.ensures.sums; forms = forms }) c.form_of.ensures.forms
+returns-clause-memo c = on_ok_weaker c.form_of.result (λ forms. record { sums = sums-grown c.form_of.ensures.kept (recalled_sum c.list_options.new.sums) c.in_ok-list_options.ensures.sums; forms = forms }) c.form_of.ensures.forms
