@@ -305,10 +305,6 @@ latest-none P (suc n) p h k a e = elim (cases_Bool (nat_eq (P n) p)) [
   ]
 ]
 
-pub at-first : (lists : List (List ℕ)) (slots : List Slot) (w : Wanted) (at : Option ℕ)
-    → at ≡ latest_of (fingerprints lists slots) (length slots) (fingerprint w) → IsAt lists slots w at
-at-first lists slots w at e = record { left = length slots; within = omega arith; is = e; passed = λ k a b. absurd (omega (arith, a, b)) }
-
 -- a walk along a chain: a place on it is a slot's, the walk goes on to the slot before, a measure falls, and at the end no slot holds what is sought
 module _ {lists : List (List ℕ)} {slots : List Slot} {w : Wanted} {at : Option ℕ} (walk : IsAt lists slots w at) where
   module _ {k : ℕ} (e : at ≡ Some k) where

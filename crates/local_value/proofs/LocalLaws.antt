@@ -91,23 +91,21 @@ same_options G H there back = (
 )
 
 module _ (P : Type 0) (IsMove : Colour → P → Step P → Type 0) where
+  -- trees of a position are equal where the trees after each move are
+  trees-alike : (n m : ℕ) (p : P) (G H : Tree) → IsTree P IsMove (suc n) p G → IsTree P IsMove (suc m) p H
+      → ((c : Colour) (x : Step P) → IsMove c p x → (X Y : Tree) → IsTree P IsMove n x.to X → IsTree P IsMove m x.to Y → X ≡ᵍ Y) → G ≡ᵍ H
+  trees-alike n m p G H g h later = same_options G H
+      (λ c X i. (let r = (g c).0 X i in let s = (h c).1 r.0 r.1.1 in
+      (s.0 +ᵍ gain c r.0.taken, s.2, same-trans _ _ _ (same-path _ _ r.1.3) (more c r.0 (later c r.0 r.1.1 r.1.0 s.0 r.1.2 s.1)))))
+      (λ c Y i. (let r = (h c).0 Y i in let s = (g c).1 r.0 r.1.1 in
+      (s.0 +ᵍ gain c r.0.taken, s.2, same-trans _ _ _ (more c r.0 (later c r.0 r.1.1 s.0 r.1.0 s.1 r.1.2)) (same-sym _ _ (same-path _ _ r.1.3)))))
+    where
+      more : (c : Colour) (x : Step P) {X Y : Tree} → X ≡ᵍ Y → (X +ᵍ gain c x.taken) ≡ᵍ (Y +ᵍ gain c x.taken)
+      more c x s = same-plus _ _ _ _ s (same-refl (gain c x.taken))
+
   pub trees-same : (n : ℕ) (p : P) (G H : Tree) → IsTree P IsMove n p G → IsTree P IsMove n p H → G ≡ᵍ H
   trees-same zero p G H g h = same-trans _ _ _ (same-path _ _ g) (same-sym _ _ (same-path _ _ h))
-  trees-same (suc n) p G H g h = same_options G H
-      (λ c X x. (let r = (g c).0 X x in let s = (h c).1 r.0 r.1.1 in
-      (s.0 +ᵍ gain c r.0.taken, s.2, same-trans _ _ _ (same-path _ _ r.1.3) (same-plus _ _ _ _ (trees-same n r.0.to r.1.0 s.0 r.1.2 s.1) (same-refl (gain c r.0.taken))))))
-      (λ c Y y. (let r = (h c).0 Y y in let s = (g c).1 r.0 r.1.1 in
-      (s.0 +ᵍ gain c r.0.taken, s.2, same-sym _ _ (same-trans _ _ _ (same-path _ _ r.1.3) (same-plus _ _ _ _ (trees-same n r.0.to r.1.0 s.0 r.1.2 s.1) (same-refl (gain c r.0.taken)))))))
-
--- the tree over lists of moves is such a tree
-module _ (P : Type 0) (moves : Colour → P → List (Step P)) where
-  pub tree_within-is : (n : ℕ) (p : P) → IsTree P (λ c q x. Contains (moves c q) x) n p (tree_within P moves n p)
-  unfolding tree_within
-  tree_within-is zero p = refl
-  tree_within-is (suc n) p = λ c. (
-    λ X h. (let r = after-has P moves (λ q. tree_within P moves n q) c (moves c p) X (rw (options-step P moves c n p) at h) in (r.0, (tree_within P moves n r.0.to, r.1, tree_within-is n r.0.to, r.2))),
-    λ x h. (tree_within P moves n x.to, tree_within-is n x.to, rw (options-step P moves c n p) (has-after P moves (λ q. tree_within P moves n q) c (moves c p) x h)),
-  )
+  trees-same (suc n) p G H g h = trees-alike n n p G H g h (λ c x _ X Y. trees-same n x.to X Y)
 
 pub short-ends : (P : Type 0) (StepsTo : P → P → Type 0) (n : ℕ) (p : P) → PlaysAreShort P StepsTo n p → EndsWithin P StepsTo n p
 short-ends P StepsTo zero p short = λ q h. absurd (omega (arith, short (q ∷ []) (h, tt)))
@@ -136,16 +134,5 @@ module _ (P : Type 0) (IsMove : Colour → P → Step P → Type 0) where
       → IsTree P IsMove n p G → IsTree P IsMove m p H → G ≡ᵍ H
   depths-agree zero m p G H s t g h = same_options G H (λ c X x. absurd (no-option 0 p G s g c X x)) (λ c Y y. absurd (no-option m p H s h c Y y))
   depths-agree (suc n) zero p G H s t g h = same_options G H (λ c X x. absurd (no-option (suc n) p G t g c X x)) (λ c Y y. absurd (no-option 0 p H t h c Y y))
-  depths-agree (suc n) (suc m) p G H s t g h = same_options G H
-      (λ c X x. (let r = (g c).0 X x in let w = (h c).1 r.0 r.1.1 in (
-        w.0 +ᵍ gain c r.0.taken,
-        w.2,
-        same-trans _ _ _ (same-path _ _ r.1.3)
-            (same-plus _ _ _ _ (depths-agree n m r.0.to r.1.0 w.0 (step-short n p c r.0 r.1.1 s) (step-short m p c r.0 r.1.1 t) r.1.2 w.1) (same-refl (gain c r.0.taken))),
-      )))
-      (λ c Y y. (let r = (h c).0 Y y in let w = (g c).1 r.0 r.1.1 in (
-        w.0 +ᵍ gain c r.0.taken,
-        w.2,
-        same-trans _ _ _
-            (same-plus _ _ _ _ (depths-agree n m r.0.to w.0 r.1.0 (step-short n p c r.0 r.1.1 s) (step-short m p c r.0 r.1.1 t) w.1 r.1.2) (same-refl (gain c r.0.taken))) (same-sym _ _ (same-path _ _ r.1.3)),
-      )))
+  depths-agree (suc n) (suc m) p G H s t g h =
+      trees-alike P IsMove n m p G H g h (λ c x k X Y. depths-agree n m x.to X Y (step-short n p c x k s) (step-short m p c x k t))
