@@ -27,8 +27,11 @@ use Rattle.local_graph.specs.inner.Graph.{no_edge}
 use Rattle.local_value.specs.declared.memo.Options.{Options}
 use Rattle.short_games.specs.Order.{◌≡ᵍ◌}
 use Rattle.short_games.proofs.OrderLaws.{le-trans, same-path, same-sym, same-trans}
-use Rattle.game_store.proofs.Values.{has-pick, pick-has}
+use Rattle.game_store.proofs.Values.{has-pick, pick-has, push_one}
 use Rattle.game_canon.specs.declared.errors.FormError.{FormError}
+use Rattle.std.specs.Prelude.{Result, IfOk, IfErr}
+use Rattle.std.proofs.lemmas.Result.{IfErr-weaker, IfOk-weaker}
+use Rattle.short_games.specs.Parts.{HasMoreParts}
 use Rattle.local_value.proofs.MemoLaws.{listed-grown}
 use Rattle.local_value.proofs.LocalLaws.{same_options}
 
@@ -88,45 +91,38 @@ value-summed Ts Us ids e stones id is x lt s =
 
 -- The ids after the edges of a place, as the store grows.
 
-pub extends-both : (Ts Us Vs : List Tree) → Extends Ts Us → Extends Us Vs → Extends Ts Vs
-extends-both Ts Us Vs a b = record { longer = omega (arith, a.longer, b.longer); same = λ i l. b.same i (omega (arith, l, a.longer)) ∙ a.same i l }
+pub extends-both : {Ts Us Vs : List Tree} → Extends Ts Us → Extends Us Vs → Extends Ts Vs
+extends-both a b = record { longer = omega (arith, a.longer, b.longer); same = λ i l. b.same i (omega (arith, l, a.longer)) ∙ a.same i l }
 
 -- what is noted stays so
-pub noted-kept : (Ts Us : List Tree) (ids : List ℕ) (i : ℕ) → Extends Ts Us → IsNoted Ts ids i → IsNoted Us ids i × (noted Us ids i ≡ noted Ts ids i)
-noted-kept Ts Us ids i x n = ((n.0, omega (arith, n.1, x.longer)), x.same (get_or ids i 0) n.1)
+module _ {Ts Us : List Tree} (x : Extends Ts Us) (ids : List ℕ) where
+  noted-kept : (i : ℕ) → IsNoted Ts ids i → IsNoted Us ids i × (noted Us ids i ≡ noted Ts ids i)
+  noted-kept i n = ((n.0, omega (arith, n.1, x.longer)), x.same (get_or ids i 0) n.1)
 
-pub within-on : (Ts Us : List Tree) (ids : List ℕ) (e : Edge) (b : ℕ) → Extends Ts Us → IsNoted Ts ids e.next → IsWithinAfter b Ts ids e → IsWithinAfter b Us ids e
-within-on Ts Us ids e b x n w y h = w y (subst (λ t. IsNumberOf t y) (noted-kept Ts Us ids e.next x n).1 h)
+  within-on : (e : Edge) (b : ℕ) → IsNoted Ts ids e.next → IsWithinAfter b Ts ids e → IsWithinAfter b Us ids e
+  within-on e b n w y h = w y (subst (λ t. IsNumberOf t y) (noted-kept e.next n).1 h)
 
-after-kept : (Ts Us Vs : List Tree) (ids : List ℕ) (e : Edge) (id : ℕ) → Extends Us Vs → IsAfter Ts Us ids e id → IsAfter Ts Vs ids e id
-after-kept Ts Us Vs ids e id x a =
-    let same = sym (x.same id a.known) in record {
-      known = omega (arith, a.known, x.longer);
-      canonical = subst (IsCanonicalFor (tree_after Ts ids e)) same a.canonical;
-      sizes = λ b w. subst (AreWithin b) same (a.sizes b w);
-    }
+  after-from : {Vs : List Tree} (e : Edge) (id : ℕ) → IsNoted Ts ids e.next → IsAfter Us Vs ids e id → IsAfter Ts Vs ids e id
+  after-from {Vs} e id n a = record {
+    known = a.known;
+    canonical = subst (λ t. IsCanonicalFor (t +ᵍ gain e.colour e.taken) (tree_at Vs id)) (noted-kept e.next n).1 a.canonical;
+    sizes = λ b w. a.sizes b (within-on e b n w);
+  }
 
-pub after-from : (Ts Us Vs : List Tree) (ids : List ℕ) (e : Edge) (id : ℕ) → Extends Ts Us → IsNoted Ts ids e.next → IsAfter Us Vs ids e id → IsAfter Ts Vs ids e id
-after-from Ts Us Vs ids e id x n a = record {
-  known = a.known;
-  canonical = subst (λ t. IsCanonicalFor (t +ᵍ gain e.colour e.taken) (tree_at Vs id)) (noted-kept Ts Us ids e.next x n).1 a.canonical;
-  sizes = λ b w. a.sizes b (within-on Ts Us ids e b x n w);
+all-kept : {Ts Us Vs : List Tree} {ids : List ℕ} {c : Colour} {es : List Edge} {afters : List ℕ} → Extends Us Vs
+    → AreAfter Ts Us ids c es afters → AreAfter Ts Vs ids c es afters
+all-kept {Ts} {Us} {Vs} {ids} x all = record {
+  from = λ j lt. (let f = all.from j lt in (f.0, f.1, f.2, on f.0 _ f.3));
+  to = λ e h s. (let t = all.to e h s in (t.0, t.1, on e _ t.2));
 }
-
-pub all-kept : (Ts Us Vs : List Tree) (ids : List ℕ) (c : Colour) (es : List Edge) (afters : List ℕ) → Extends Us Vs → AreAfter Ts Us ids c es afters → AreAfter Ts Vs ids c es afters
-all-kept Ts Us Vs ids c es afters x a = record {
-  from = λ j lt. (let f = a.from j lt in (f.0, f.1, f.2, after-kept Ts Us Vs ids f.0 _ x f.3));
-  to = λ e h s. (let t = a.to e h s in (t.0, t.1, after-kept Ts Us Vs ids e _ x t.2));
-}
-
-pub all-from : (Ts Us Vs : List Tree) (ids : List ℕ) (c : Colour) (es : List Edge) (afters : List ℕ) → Extends Ts Us → ((e : Edge) → Contains es e → IsNoted Ts ids e.next) → AreAfter Us Vs ids c es afters → AreAfter Ts Vs ids c es afters
-all-from Ts Us Vs ids c es afters x n a = record {
-  from = λ j lt. (let f = a.from j lt in (f.0, f.1, f.2, after-from Ts Us Vs ids f.0 _ x (n f.0 f.1) f.3));
-  to = λ e h s. (let t = a.to e h s in (t.0, t.1, after-from Ts Us Vs ids e _ x (n e h) t.2));
-}
-
-pub after-ids : (Ts Us : List Tree) (ids : List ℕ) (c : Colour) (es : List Edge) (afters : List ℕ) → AreAfter Ts Us ids c es afters → AreIds Us afters
-after-ids Ts Us ids c es afters a j lt = (a.from j lt).3.known
+  where
+    on : (e : Edge) (id : ℕ) → IsAfter Ts Us ids e id → IsAfter Ts Vs ids e id
+    on e id a =
+        let same = sym (x.same id a.known) in record {
+          known = omega (arith, a.known, x.longer);
+          canonical = subst (IsCanonicalFor (tree_after Ts ids e)) same a.canonical;
+          sizes = λ b w. subst (AreWithin b) same (a.sizes b w);
+        }
 
 -- the loop over the edges: the store so far, and the ids after the edges so far
 pub record IsListing (Ts Us : List Tree) (ids : List ℕ) (c : Colour) (es : List Edge) (n : ℕ) (afters : List ℕ) : Type 0 where
@@ -142,8 +138,8 @@ listing-start Ts ids c es afters e = record {
   };
 }
 
-module _ (Ts Us : List Tree) (ids : List ℕ) (c : Colour) (es : List Edge) (n : ℕ) (afters : List ℕ) (among : n < length es)
-    (w : IsListing Ts Us ids c es n afters) where
+module _ {Ts Us : List Tree} {ids : List ℕ} {c : Colour} {es : List Edge} {n : ℕ} {afters : List ℕ}
+    (w : IsListing Ts Us ids c es n afters) (among : n < length es) where
   abbrev e : Edge
   e = get_or es n no_edge
 
@@ -162,95 +158,98 @@ module _ (Ts Us : List Tree) (ids : List ℕ) (c : Colour) (es : List Edge) (n :
   last : Contains (take (n + 1) es) e
   last = subst (λ z. Contains z e) (sym next) (Contains-push (take n es) e)
 
-  listing-skip : (e.colour ≡ c → ⊥) → IsListing Ts Us ids c es (n + 1) afters
-  listing-skip other = record {
-    kept = w.kept;
-    so_far = record {
-      from = λ j lt. (let f = w.so_far.from j lt in (f.0, sooner f.0 f.1, f.2, f.3));
-      to = λ d h s. elim (last-or d h) [ inl i ↦ w.so_far.to d i s | inr i ↦ absurd (other (ap (λ z. z.colour) i ∙ s)) ];
-    };
-  }
+  listing-skip : {Vs : List Tree} → Extends Us Vs → (e.colour ≡ c → ⊥) → IsListing Ts Vs ids c es (n + 1) afters
+  listing-skip x other =
+      let old = all-kept x w.so_far in record {
+        kept = extends-both w.kept x;
+        so_far = record {
+          from = λ j lt. (let f = old.from j lt in (f.0, sooner f.0 f.1, f.2, f.3));
+          to = λ d h s. elim (last-or d h) [ inl i ↦ old.to d i s | inr i ↦ absurd (other (ap (λ z. z.colour) i ∙ s)) ];
+        };
+      }
 
   module _ (noted : (d : Edge) → Contains es d → IsNoted Ts ids d.next) where
     pub step-noted : IsNoted Us ids e.next
-    step-noted = (noted-kept Ts Us ids e.next w.kept (noted e edge_among)).0
+    step-noted = (noted-kept w.kept ids e.next (noted e edge_among)).0
 
     pub step-within : (b : ℕ) → AreWithinAfter b Ts ids es → IsWithinAfter b Us ids e
-    step-within b small = within-on Ts Us ids e b w.kept (noted e edge_among) (small e edge_among)
+    step-within b small = within-on w.kept ids e b (noted e edge_among) (small e edge_among)
 
-  listing-push : (Vs : List Tree) (id : ℕ) (more : List ℕ) → e.colour ≡ c → Extends Us Vs → ((d : Edge) → Contains es d → IsNoted Ts ids d.next)
-      → IsAfter Us Vs ids e id → more ≡ afters ++ id ∷ [] → IsListing Ts Vs ids c es (n + 1) more
-  listing-push Vs id more same x noted a grown =
-      let here = after-from Ts Us Vs ids e id w.kept (noted e edge_among) a in
-      let old = all-kept Ts Us Vs ids c (take n es) afters x w.so_far in
-      subst (IsListing Ts Vs ids c es (n + 1)) (sym grown) record {
-        kept = extends-both Ts Us Vs w.kept x;
-        so_far = record { from = from here old; to = to here old };
-      }
-    where
-      from : IsAfter Ts Vs ids e id → AreAfter Ts Vs ids c (take n es) afters → (j : ℕ) → j < length (afters ++ id ∷ []) → (d : Edge) × Contains (take (n + 1) es) d × (d.colour ≡ c) × IsAfter Ts Vs ids d (get_or (afters ++ id ∷ []) j 0)
-      from here old j lt = elim (cases_lt j (length afters)) [
-        | inl l ↦ (let f = old.from j l in (f.0, sooner f.0 f.1, f.2, subst (IsAfter Ts Vs ids f.0) (sym (get_or_append_left afters (id ∷ []) 0 j l)) f.3))
-        | inr l ↦ (let at : length afters ≡ j = omega (arith, lt, l, length-append afters (id ∷ [])) in (e, last, same, subst (IsAfter Ts Vs ids e) (sym (get_or_push afters id 0 j at)) here))
-      ]
+    listing-push : {Vs : List Tree} (id : ℕ) → e.colour ≡ c → Extends Us Vs → IsAfter Us Vs ids e id → IsListing Ts Vs ids c es (n + 1) (afters ++ id ∷ [])
+    listing-push {Vs} id same x a = record { kept = extends-both w.kept x; so_far = record { from = from; to = to } }
+      where
+        old : AreAfter Ts Vs ids c (take n es) afters
+        old = all-kept x w.so_far
 
-      to : IsAfter Ts Vs ids e id → AreAfter Ts Vs ids c (take n es) afters → (d : Edge) → Contains (take (n + 1) es) d → d.colour ≡ c → (j : ℕ) × (j < length (afters ++ id ∷ [])) × IsAfter Ts Vs ids d (get_or (afters ++ id ∷ []) j 0)
-      to here old d h s = elim (last-or d h) [
-        | inl i ↦ (let t = old.to d i s in (t.0, omega (arith, t.1, length-append afters (id ∷ [])), subst (IsAfter Ts Vs ids d) (sym (get_or_append_left afters (id ∷ []) 0 t.0 t.1)) t.2))
-        | inr i ↦ (length afters, omega (arith, length-append afters (id ∷ [])), subst (λ z. IsAfter Ts Vs ids z (get_or (afters ++ id ∷ []) (length afters) 0)) i (subst (IsAfter Ts Vs ids e) (sym (get_or_push afters id 0 (length afters) refl)) here))
-      ]
+        here : IsAfter Ts Vs ids e id
+        here = after-from w.kept ids e id (noted e edge_among) a
 
-listing-end : (Ts Us : List Tree) (ids : List ℕ) (c : Colour) (es : List Edge) (n : ℕ) (afters : List ℕ) → length es ≤ n → IsListing Ts Us ids c es n afters → AreAfter Ts Us ids c es afters
-listing-end Ts Us ids c es n afters l w = subst (λ z. AreAfter Ts Us ids c z afters) (take_all n es l) w.so_far
+        more : length (afters ++ id ∷ []) ≡ length afters + 1
+        more = length-append afters (id ∷ [])
 
-listing-on : (Ts Us Vs : List Tree) (ids : List ℕ) (c : Colour) (es : List Edge) (n : ℕ) (afters : List ℕ) → Extends Us Vs → IsListing Ts Us ids c es n afters → IsListing Ts Vs ids c es n afters
-listing-on Ts Us Vs ids c es n afters x w = record { kept = extends-both Ts Us Vs w.kept x; so_far = all-kept Ts Us Vs ids c (take n es) afters x w.so_far }
+        from : (j : ℕ) → j < length (afters ++ id ∷ []) → (d : Edge) × Contains (take (n + 1) es) d × (d.colour ≡ c) × IsAfter Ts Vs ids d (get_or (afters ++ id ∷ []) j 0)
+        from = push_one (λ _ i. (d : Edge) × Contains (take (n + 1) es) d × (d.colour ≡ c) × IsAfter Ts Vs ids d i) afters id 0
+            (λ j l. let f = old.from j l in (f.0, sooner f.0 f.1, f.2, f.3)) (e, last, same, here)
+
+        to : (d : Edge) → Contains (take (n + 1) es) d → d.colour ≡ c → (j : ℕ) × (j < length (afters ++ id ∷ [])) × IsAfter Ts Vs ids d (get_or (afters ++ id ∷ []) j 0)
+        to d h s = elim (last-or d h) [
+          | inl i ↦ (let t = old.to d i s in (t.0, omega (arith, t.1, more), subst (IsAfter Ts Vs ids d) (sym (get_or_append_left afters (id ∷ []) 0 t.0 t.1)) t.2))
+          | inr i ↦ (length afters, omega (arith, more), subst (λ z. IsAfter Ts Vs ids z (get_or (afters ++ id ∷ []) (length afters) 0)) i (subst (IsAfter Ts Vs ids e) (sym (get_or_push afters id 0 (length afters) refl)) here))
+        ]
 
 black-white : Black ≡ White → ⊥
 black-white e = cc
 
 -- the loop goes on for both players
-pub listing-add : (Ts Us : List Tree) (ids : List ℕ) (es : List Edge) (n : ℕ) (before : Options) → n < length es → IsListing Ts Us ids Black es n before.left.items → IsListing Ts Us ids White es n before.right.items
-    → (Vs : List Tree) (id : ℕ) (c : Colour) (now : Options) → c ≡ (get_or es n no_edge).colour → Extends Us Vs → ((d : Edge) → Contains es d → IsNoted Ts ids d.next) → IsAfter Us Vs ids (get_or es n no_edge) id → IsAdded c id before now
+pub listing-add : {Ts Us Vs : List Tree} {ids : List ℕ} {es : List Edge} {n : ℕ} (before now : Options) (id : ℕ) (c : Colour) → n < length es
+    → IsListing Ts Us ids Black es n before.left.items → IsListing Ts Us ids White es n before.right.items
+    → c ≡ (get_or es n no_edge).colour → Extends Us Vs → ((d : Edge) → Contains es d → IsNoted Ts ids d.next) → IsAfter Us Vs ids (get_or es n no_edge) id → IsAdded c id before now
     → IsListing Ts Vs ids Black es (n + 1) now.left.items × IsListing Ts Vs ids White es (n + 1) now.right.items
-listing-add Ts Us ids es n before among l r Vs id Black now same x noted a added = (
-  listing-push Ts Us ids Black es n before.left.items among l Vs id now.left.items (sym same) x noted a added.0,
-  subst (IsListing Ts Vs ids White es (n + 1)) (sym added.1) (listing-on Ts Us Vs ids White es (n + 1) before.right.items x (listing-skip Ts Us ids White es n before.right.items among r (λ w. black-white (same ∙ w)))),
-)
-listing-add Ts Us ids es n before among l r Vs id White now same x noted a added = (
-  subst (IsListing Ts Vs ids Black es (n + 1)) (sym added.0) (listing-on Ts Us Vs ids Black es (n + 1) before.left.items x (listing-skip Ts Us ids Black es n before.left.items among l (λ b. black-white (sym (same ∙ b))))),
-  listing-push Ts Us ids White es n before.right.items among r Vs id now.right.items (sym same) x noted a added.1,
-)
+listing-add before now id Black among l r same x noted a (added, other) =
+    rw (added, other) (listing-push l among noted id (sym same) x a, listing-skip r among x (λ w. black-white (same ∙ w)))
+listing-add before now id White among l r same x noted a (other, added) =
+    rw (added, other) (listing-skip l among x (λ b. black-white (sym (same ∙ b))), listing-push r among noted id (sym same) x a)
 
-pub listing-done : (Ts Us : List Tree) (ids : List ℕ) (es : List Edge) (n : ℕ) (ls rs : List ℕ) → length es ≤ n → IsListing Ts Us ids Black es n ls → IsListing Ts Us ids White es n rs → AreBothAfter Ts Us ids es ls rs
-listing-done Ts Us ids es n ls rs le l r = record { left = listing-end Ts Us ids Black es n ls le l; right = listing-end Ts Us ids White es n rs le r }
+pub listing-done : {Ts Us : List Tree} {ids : List ℕ} {es : List Edge} {n : ℕ} {ls rs : List ℕ} → length es ≤ n
+    → IsListing Ts Us ids Black es n ls → IsListing Ts Us ids White es n rs → AreBothAfter Ts Us ids es ls rs
+listing-done {Ts} {Us} {ids} {es} {n} {ls} {rs} le l r = record {
+  left = subst (λ z. AreAfter Ts Us ids Black z ls) (take_all n es le) l.so_far;
+  right = subst (λ z. AreAfter Ts Us ids White z rs) (take_all n es le) r.so_far;
+}
 
 -- what is said of the ids after a player's edges is said of the same ids in another order
-pub after-same : (Ts Us : List Tree) (ids : List ℕ) (c : Colour) (es : List Edge) (afters others : List ℕ) → ((i : ℕ) → Contains others i ↔ Contains afters i)
+after-same : {Ts Us : List Tree} {ids : List ℕ} {c : Colour} {es : List Edge} (afters others : List ℕ) → ((i : ℕ) → Contains others i ↔ Contains afters i)
     → AreAfter Ts Us ids c es afters → AreAfter Ts Us ids c es others
-after-same Ts Us ids c es afters others same w = record {
+after-same {Ts} {Us} {ids} afters others same w = record {
   from = λ j lt.
       let at = (same (get_or others j 0)).0 (Contains-get_or others j 0 lt) in
-      let is : get_or afters at.0 0 ≡ get_or others j 0 = get_or_default afters at.0 0 (get_or others j 0) at.1 ∙ at.2 in
       let e = w.from at.0 at.1 in
-      (e.0, e.1, e.2, subst (IsAfter Ts Us ids e.0) is e.3);
+      (e.0, e.1, e.2, subst (IsAfter Ts Us ids e.0) (get_or_default afters at.0 0 (get_or others j 0) at.1 ∙ at.2) e.3);
   to = λ e among colour.
       let j = w.to e among colour in
       let at = (same (get_or afters j.0 0)).1 (Contains-get_or afters j.0 0 j.1) in
-      let is : get_or others at.0 0 ≡ get_or afters j.0 0 = get_or_default others at.0 0 (get_or afters j.0 0) at.1 ∙ at.2 in
-      (at.0, at.1, subst (IsAfter Ts Us ids e) (sym is) j.2);
+      (at.0, at.1, subst (IsAfter Ts Us ids e) (sym (get_or_default others at.0 0 (get_or afters j.0 0) at.1 ∙ at.2)) j.2);
 }
 
-pub both-same : (Ts Us : List Tree) (ids : List ℕ) (es : List Edge) (ls rs ls' rs' : List ℕ) → ((i : ℕ) → Contains ls' i ↔ Contains ls i)
+pub both-same : {Ts Us : List Tree} {ids : List ℕ} {es : List Edge} (ls rs ls' rs' : List ℕ) → ((i : ℕ) → Contains ls' i ↔ Contains ls i)
     → ((i : ℕ) → Contains rs' i ↔ Contains rs i) → AreBothAfter Ts Us ids es ls rs → AreBothAfter Ts Us ids es ls' rs'
-both-same Ts Us ids es ls rs ls' rs' left right w = record {
-  left = after-same Ts Us ids Black es ls ls' left w.left;
-  right = after-same Ts Us ids White es rs rs' right w.right;
-}
+both-same ls rs ls' rs' left right w = record { left = after-same ls ls' left w.left; right = after-same rs rs' right w.right }
 
 -- The form of the ids after the edges of a place, and what it shares with each tree of the same edges.
 
-module _ (Ts Us : List Tree) (ids ls rs : List ℕ) (es : List Edge) (a : AreBothAfter Ts Us ids es ls rs) where
+canonical-as : (G H C : Tree) → G ≡ᵍ H → IsCanonicalFor G C → IsCanonicalFor H C
+canonical-as G H C s k = record { canonical = k.canonical; under = le-trans H G C s.1 k.under; over = le-trans C G H k.over s.0 }
+
+-- equal trees are numbers alike, and refused alike
+pub number-as : (G H : Tree) → G ≡ᵍ H → IsNumber G → IsNumber H
+number-as G H s n = (n.0, n.1, le-trans H G _ s.1 n.2, le-trans _ G H n.3 s.0)
+
+cause-as : (G H : Tree) (limit : ℕ) (e : FormError) → G ≡ᵍ H → IsCause G limit e → IsCause H limit e
+cause-as G H limit Parts s w = (λ n. w.0 (number-as H G (s.1, s.0) n), λ C k. w.1 C (canonical-as H G C (s.1, s.0) k))
+cause-as G H limit Bounds s w = (number-as G H s w.0, λ x b y z. w.1 x b (le-trans G H _ s.0 y) (le-trans _ H G z s.1))
+cause-as G H limit (Memory cause) s w = tt
+
+module _ {Ts Us : List Tree} {ids ls rs : List ℕ} {es : List Edge} (a : AreBothAfter Ts Us ids es ls rs) where
   abbrev side : Colour → List ℕ
   side Black = ls
   side White = rs
@@ -260,10 +259,10 @@ module _ (Ts Us : List Tree) (ids ls rs : List ℕ) (es : List Edge) (a : AreBot
   afters White = a.right
 
   pub left-ids : AreIds Us ls
-  left-ids = after-ids Ts Us ids Black es ls a.left
+  left-ids j lt = (a.left.from j lt).3.known
 
   pub right-ids : AreIds Us rs
-  right-ids = after-ids Ts Us ids White es rs a.right
+  right-ids j lt = (a.right.from j lt).3.known
 
   listed-out : (c : Colour) (X : Tree) → Has (options c (listed Us ls rs)) X → (e : Edge) × Contains es e × (e.colour ≡ c) × (tree_after Ts ids e ≡ᵍ X)
   listed-out c X h =
@@ -308,34 +307,23 @@ module _ (Ts Us : List Tree) (ids ls rs : List ℕ) (es : List Edge) (a : AreBot
       at (inl h) = let q = has-pick Us ls L h in subst (AreWithin m) (sym q.2) (within Black q.0 q.1)
       at (inr h) = let q = has-pick Us rs L h in subst (AreWithin m) (sym q.2) (within White q.0 q.1)
 
--- equal trees have one canonical tree, and are refused alike
-canonical-as : (Ts : List Tree) (G H : Tree) (id : ℕ) → G ≡ᵍ H → IsCanonicalId Ts G id → IsCanonicalId Ts H id
-canonical-as Ts G H id s k = (k.0, canonical-moved G H (tree_at Ts id) s k.1)
-  where
-    canonical-moved : (G H C : Tree) → G ≡ᵍ H → IsCanonicalFor G C → IsCanonicalFor H C
-    canonical-moved G H C s k = record { canonical = k.canonical; under = le-trans H G C s.1 k.under; over = le-trans C G H k.over s.0 }
+  -- the form that is made of the ids is that of each tree of the edges
+  module _ {Vs : List Tree} (x : Extends Us Vs) (limit : ℕ) (r : Result ℕ FormError) where
+    form-same : listed Vs ls rs ≡ listed Us ls rs
+    form-same = listed-grown x ls rs left-ids right-ids
 
-pub number-as : (G H : Tree) → G ≡ᵍ H → IsNumber G → IsNumber H
-number-as G H s n = (n.0, n.1, le-trans H G _ s.1 n.2, le-trans _ G H n.3 s.0)
+    pub form-values : IfOk r (IsFormOf Vs limit ls rs) → IfOk r (λ id. (G : Tree) → HasEdges Ts ids es G → IsCanonicalId Vs G id)
+    form-values = IfOk-weaker r _ _ (λ id f G has.
+        (f.value.0, canonical-as (listed Us ls rs) G _ (edges-same G has) (subst (λ t. IsCanonicalFor t (tree_at Vs id)) form-same f.value.1)))
 
-pub cause-as : (G H : Tree) (limit : ℕ) (e : FormError) → G ≡ᵍ H → IsCause G limit e → IsCause H limit e
-cause-as G H limit Parts s w = (
-  λ n. w.0 (number-as H G (s.1, s.0) n),
-  λ C k. w.1 C record { canonical = k.canonical; under = le-trans G H C s.0 k.under; over = le-trans C H G k.over s.1 },
-)
-cause-as G H limit Bounds s w = (number-as G H s w.0, λ x b y z. w.1 x b (le-trans G H _ s.0 y) (le-trans _ H G z s.1))
-cause-as G H limit (Memory cause) s w = tt
+    pub form-sizes : IfOk r (IsFormOf Vs limit ls rs) → IfOk r (λ id. (b : ℕ) → AreWithinAfter b Ts ids es → AreWithin (b + 2 ^ 60) (tree_at Vs id))
+    form-sizes = IfOk-weaker r _ _ (λ id f b w. f.sizes b (subst (AreOptionsWithin b) (sym form-same) (options-within b w)))
 
--- the form that is made of the ids is that of each tree of the edges
-module _ (Ts Us : List Tree) (ids ls rs : List ℕ) (es : List Edge) (a : AreBothAfter Ts Us ids es ls rs) (Vs : List Tree) (limit id : ℕ) (x : Extends Us Vs) (f : IsFormOf Vs limit ls rs id) where
-  same : listed Vs ls rs ≡ listed Us ls rs
-  same = listed-grown x ls rs (left-ids Ts Us ids ls rs es a) (right-ids Ts Us ids ls rs es a)
+    pub form-parts : IfOk r (IsFormOf Vs limit ls rs) → IfOk r (λ id. HasMoreParts (tree_at Vs id) limit → ⊥)
+    form-parts = IfOk-weaker r _ _ (λ id f. f.few)
 
-  pub form-valued : (G : Tree) → HasEdges Ts ids es G → IsCanonicalId Vs G id
-  form-valued G has = canonical-as Vs (listed Us ls rs) G id (edges-same Ts Us ids ls rs es a G has) (subst (λ t. IsCanonicalId Vs t id) same f.value)
-
-  pub form-within : (m : ℕ) → AreWithinAfter m Ts ids es → AreWithin (m + 2 ^ 60) (tree_at Vs id)
-  form-within m w = f.sizes m (subst (AreOptionsWithin m) (sym same) (options-within Ts Us ids ls rs es a m w))
+    pub form-refused : IfErr r (λ e. IsCause (listed Us ls rs) limit e) → IfErr r (λ e. (G : Tree) → HasEdges Ts ids es G → IsCause G limit e)
+    form-refused = IfErr-weaker r _ _ (λ e k G has. cause-as (listed Us ls rs) G limit e (edges-same G has) k)
 
 -- a tree without edges has no option
 pub no-edges : (Ts : List Tree) (ids : List ℕ) → HasEdges Ts ids [] (node none none)

@@ -24,7 +24,7 @@ value_of-requires-clause-small c = let (r, of) = c.requires.graph in
 
 pub valuing-preserved : goal.valuing-preserved
 valuing-preserved c = record {
-  kept = extends-both c.args.store.now c.valuing.store c.value_of.new.store c.valuing.invariant.kept c.value_of.ensures.kept;
+  kept = extends-both c.valuing.invariant.kept c.value_of.ensures.kept;
   pass = λ r of.
       call-step r c.args.graph.now of c.args.parts_limit c.valuing.store c.valuing.ids.items c.valuing.place-index (c.valuing.invariant.pass r of) c.order-place-items.result.now c.edges-edges.result.now c.deref.result.now
       c.order-place-items.ensures c.edges-edges.ensures c.deref.ensures.value c.valuing-test.true
