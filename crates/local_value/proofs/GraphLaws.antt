@@ -170,39 +170,36 @@ module _ (P : Type 0) (to : ℕ → P) where
     pub colour : edge.colour ≡ c
     pub is : step_of P to edge ≡ x
 
-  later : (c : Colour) (e : Edge) (es : List Edge) (x : Step P) → IsStepOf c es x → IsStepOf c (e ∷ es) x
-  later c e es x s = record { edge = s.edge; among = contains-tail Edge e s.edge es s.among; colour = s.colour; is = s.is }
-
-  for-out : (c d : Colour) (e : Edge) (steps : List (Step P)) (x : Step P) → Contains (step_for P to c e d steps) x
-      → ((d ≡ c) × (step_of P to e ≡ x)) ⊎ Contains steps x
-  for-out Black Black e steps x h = elim (contains-cases (Step P) (step_of P to e) x steps h) [ inl s ↦ inl (refl, s) | inr s ↦ inr s ]
-  for-out White White e steps x h = elim (contains-cases (Step P) (step_of P to e) x steps h) [ inl s ↦ inl (refl, s) | inr s ↦ inr s ]
-  for-out Black White e steps x h = inr h
-  for-out White Black e steps x h = inr h
-
-  for-same : (c : Colour) (e : Edge) (steps : List (Step P)) → Contains (step_for P to c e c steps) (step_of P to e)
-  for-same Black e steps = contains-head (Step P) (step_of P to e) steps
-  for-same White e steps = contains-head (Step P) (step_of P to e) steps
-
-  for-more : (c d : Colour) (e : Edge) (steps : List (Step P)) (x : Step P) → Contains steps x → Contains (step_for P to c e d steps) x
-  for-more Black Black e steps x h = contains-tail (Step P) (step_of P to e) x steps h
-  for-more White White e steps x h = contains-tail (Step P) (step_of P to e) x steps h
-  for-more Black White e steps x h = h
-  for-more White Black e steps x h = h
+  -- an edge comes in front where it is the player's
+  in-front : (c d : Colour) (e : Edge) (steps : List (Step P))
+      → ((d ≡ c) × (step_for P to c e d steps ≡ step_of P to e ∷ steps)) ⊎ ((d ≡ c → ⊥) × (step_for P to c e d steps ≡ steps))
+  in-front Black Black e steps = inl (refl, refl)
+  in-front White White e steps = inl (refl, refl)
+  in-front Black White e steps = inr (λ i. cc, refl)
+  in-front White Black e steps = inr (λ i. cc, refl)
 
   pub steps-out : (c : Colour) (es : List Edge) (x : Step P) → Contains (steps_of P to c es) x → IsStepOf c es x
   steps-out c [] x h = absurd (omega (arith, h.1))
-  steps-out c (e ∷ es) x h = elim (for-out c e.colour e (steps_of P to c es) x h) [
-    | inl w ↦ record { edge = e; among = contains-head Edge e es; colour = w.0; is = w.1 }
-    | inr w ↦ later c e es x (steps-out c es x w)
+  steps-out c (e ∷ es) x h = elim (in-front c e.colour e (steps_of P to c es)) [
+    | inl (same, is) ↦ elim (contains-cases (Step P) (step_of P to e) x (steps_of P to c es) (subst (λ xs. Contains xs x) is h)) [
+      | inl s ↦ record { edge = e; among = contains-head Edge e es; colour = same; is = s }
+      | inr w ↦ later (steps-out c es x w)
+    ]
+    | inr (_, is) ↦ later (steps-out c es x (subst (λ xs. Contains xs x) is h))
   ]
+    where
+      later : IsStepOf c es x → IsStepOf c (e ∷ es) x
+      later s = record { edge = s.edge; among = contains-tail Edge e s.edge es s.among; colour = s.colour; is = s.is }
 
   pub steps-in : (c : Colour) (es : List Edge) (e : Edge) → Contains es e → e.colour ≡ c → Contains (steps_of P to c es) (step_of P to e)
   steps-in c [] e h same = absurd (omega (arith, h.1))
-  steps-in c (d ∷ es) e h same = elim (contains-cases Edge d e es h) [
-    | inl w ↦
-        let here : Contains (step_for P to c d d.colour (steps_of P to c es)) (step_of P to d) =
-        subst (λ b. Contains (step_for P to c d b (steps_of P to c es)) (step_of P to d)) (sym (ap (λ y. y.colour) w ∙ same)) (for-same c d (steps_of P to c es)) in
-        subst (λ y. Contains (step_for P to c d d.colour (steps_of P to c es)) (step_of P to y)) w here
-    | inr w ↦ for-more c d.colour d (steps_of P to c es) (step_of P to e) (steps-in c es e w same)
+  steps-in c (d ∷ es) e h same = elim (in-front c d.colour d (steps_of P to c es)) [
+    | inl (_, is) ↦ subst (λ xs. Contains xs (step_of P to e)) (sym is) (elim (contains-cases Edge d e es h) [
+      | inl w ↦ (0, omega arith, ap (step_of P to) w)
+      | inr w ↦ contains-tail (Step P) (step_of P to d) (step_of P to e) (steps_of P to c es) (steps-in c es e w same)
+    ])
+    | inr (other, is) ↦ subst (λ xs. Contains xs (step_of P to e)) (sym is) (elim (contains-cases Edge d e es h) [
+      | inl w ↦ absurd (other (ap (λ y. y.colour) w ∙ same))
+      | inr w ↦ steps-in c es e w same
+    ])
   ]

@@ -1,6 +1,8 @@
 -- The local moves of a position can be listed, since it can be decided which places are free and which chains are removed.
 use Rattle.std.proofs.Common.{◌≡◌, ℕ, zero, suc, ◌+◌, ◌-◌, ◌<◌, ◌≤◌, ◌⊎◌, inl, inr, refl, sym, ap, ◌∙◌, subst, arith, List, [], ◌∷◌, length, Bool, true, false, Option, Some, None, Contains}
-use Rattle.std.specs.Prelude.{cond, count_by}
+use Rattle.std.specs.Prelude.{cond, count_by, map}
+use Rattle.std.specs.List.{range_with_len}
+use Rattle.std.proofs.lemmas.List.FromFn.{get_or-map-range_with_len, length-map-range_with_len}
 use Rattle.std.proofs.lemmas.Bool.{cases_eq, cases_lt}
 use Rattle.std.proofs.lemmas.List.{ext_get_or, get_or_past, length-set}
 use Rattle.std.proofs.lemmas.List.Sums.{sum_by-cons, sum_by-set}
@@ -34,19 +36,15 @@ some_at (Some k) P d = elim (d k) [
 
 -- a list of so many cells
 pub made : ℕ → (ℕ → Cell) → List Cell
-made zero f = []
-made (suc n) f = f 0 ∷ made n (λ i. f (suc i))
+made n f = map f (range_with_len 0 n)
 
 pub length-made : (n : ℕ) (f : ℕ → Cell) → length (made n f) ≡ n
 unfolding made
-length-made zero f = refl
-length-made (suc n) f = ap suc (length-made n (λ i. f (suc i)))
+length-made n f = length-map-range_with_len f 0 n
 
 pub made-at : (n : ℕ) (f : ℕ → Cell) (i : ℕ) → i < n → held_at (made n f) i ≡ f i
 unfolding made
-made-at zero f i lt = absurd (omega (arith, lt))
-made-at (suc n) f zero lt = refl
-made-at (suc n) f (suc i) lt = made-at n (λ j. f (suc j)) i (omega (arith, lt))
+made-at n f i lt = get_or-map-range_with_len f 0 n i i cell.Empty lt (omega arith)
 
 -- 1 for a stone
 abbrev weight : Cell → ℕ
@@ -64,27 +62,16 @@ count_less (x ∷ a) (y ∷ b) e h =
     ] in
     omega (arith, rest, first, sum_by-cons weight x a, sum_by-cons weight y b)
 
--- the value of an option, with P
-abbrev At : (ℕ → Type 0) → Option ℕ → Type 0
-At P o = (j : ℕ) × (o ≡ Some j) × P j
+some_either : (A B P : ℕ → Type 0) → Decided ((j : ℕ) × A j × P j) → Decided ((j : ℕ) × B j × P j) → Decided ((j : ℕ) × (A j ⊎ B j) × P j)
+some_either A B P (inl (j, a, p)) d = inl (j, inl a, p)
+some_either A B P (inr f) (inl (j, b, p)) = inl (j, inr b, p)
+some_either A B P (inr f) (inr g) = inr (λ (j, e, p). elim e [ inl a ↦ f (j, a, p) | inr b ↦ g (j, b, p) ])
 
 module _ (touch : List Touch) where
   some_linked : (i : ℕ) (P : ℕ → Type 0) → ((j : ℕ) → Decided (P j)) → Decided ((j : ℕ) × IsLinked touch i j × P j)
   some_linked i P d =
       let t = touch_at touch i in
-      alike _ _ there back (either _ _ (some_at t.up P d) (either _ _ (some_at t.left P d) (either _ _ (some_at t.right P d) (some_at t.down P d))))
-    where
-      there : At P (touch_at touch i).up ⊎ (At P (touch_at touch i).left ⊎ (At P (touch_at touch i).right ⊎ At P (touch_at touch i).down)) → (j : ℕ) × IsLinked touch i j × P j
-      there (inl (j, e, p)) = (j, inl e, p)
-      there (inr (inl (j, e, p))) = (j, inr (inl e), p)
-      there (inr (inr (inl (j, e, p)))) = (j, inr (inr (inl e)), p)
-      there (inr (inr (inr (j, e, p)))) = (j, inr (inr (inr e)), p)
-
-      back : (j : ℕ) × IsLinked touch i j × P j → At P (touch_at touch i).up ⊎ (At P (touch_at touch i).left ⊎ (At P (touch_at touch i).right ⊎ At P (touch_at touch i).down))
-      back (j, inl e, p) = inl (j, e, p)
-      back (j, inr (inl e), p) = inr (inl (j, e, p))
-      back (j, inr (inr (inl e)), p) = inr (inr (inl (j, e, p)))
-      back (j, inr (inr (inr e)), p) = inr (inr (inr (j, e, p)))
+      some_either _ _ P (some_at t.up P d) (some_either _ _ P (some_at t.left P d) (some_either _ _ P (some_at t.right P d) (some_at t.down P d)))
 
   linked_or_not : (i j : ℕ) → Decided (IsLinked touch i j)
   linked_or_not i j = alike _ _ (λ (k, link, e). subst (IsLinked touch i) e link) (λ link. (j, link, refl)) (some_linked i (λ k. k ≡ j) (λ k. cases_eq k j))
@@ -114,42 +101,43 @@ module _ (touch : List Touch) where
   emptied P (inl p) x = cell.Empty
   emptied P (inr f) x = x
 
-  emptied-gone : (P : Type 0) (d : Decided P) (x : Cell) → P → emptied P d x ≡ cell.Empty
+  emptied-is : (P : Type 0) (d : Decided P) (x y : Cell) → y ≡ emptied P d x → (P × (y ≡ cell.Empty)) ⊎ (¬ P × (y ≡ x))
   unfolding emptied
-  emptied-gone P (inl p) x h = refl
-  emptied-gone P (inr f) x h = absurd (f h)
-
-  emptied-kept : (P : Type 0) (d : Decided P) (x : Cell) → ¬ P → emptied P d x ≡ x
-  unfolding emptied
-  emptied-kept P (inl p) x f = absurd (f p)
-  emptied-kept P (inr g) x f = refl
+  emptied-is P (inl p) x y e = inl (p, e)
+  emptied-is P (inr f) x y e = inr (f, e)
 
   module _ (cells : List Cell) (c : Colour) where
+    abbrev placed : ℕ → List Cell
+    placed p = with_stone cells p c
+
+    abbrev Removed : ℕ → ℕ → Type 0
+    Removed p i = IsRemoved touch (placed p) p (other c) i
+
+    gone_or_not : (p i : ℕ) → Decided (Removed p i)
+    gone_or_not p i = removed_or_not (placed p) p (other c) i
+
     -- the position after a stone at a place
     next : ℕ → List Cell
-    next p = let placed = with_stone cells p c in
-        made (length cells) (λ i. emptied (IsRemoved touch placed p (other c) i) (removed_or_not placed p (other c) i) (held_at placed i))
+    next p = made (length cells) (λ i. emptied (Removed p i) (gone_or_not p i) (held_at (placed p) i))
 
     length-next : (p : ℕ) → length (next p) ≡ length cells
     unfolding next
     length-next p = length-made (length cells) _
 
-    placed_long : (p : ℕ) → length (with_stone cells p c) ≡ length cells
+    placed_long : (p : ℕ) → length (placed p) ≡ length cells
     placed_long p = length-set cells p (stone c)
 
-    -- a place past the region is empty before and after
-    next-at : (p i : ℕ) → held_at (next p) i ≡ emptied (IsRemoved touch (with_stone cells p c) p (other c) i) (removed_or_not (with_stone cells p c) p (other c) i) (held_at (with_stone cells p c) i)
-    unfolding next emptied
-    next-at p i = elim (cases_lt i (length cells)) as (λ _. held_at (next p) i ≡ emptied (IsRemoved touch (with_stone cells p c) p (other c) i) (removed_or_not (with_stone cells p c) p (other c) i) (held_at (with_stone cells p c) i)) [
-      | inl lt ↦ made-at (length cells) _ i lt
-      | inr le ↦
-          get_or_past (next p) i cell.Empty (omega (arith, le, length-next p))
-          ∙ sym (still (IsRemoved touch (with_stone cells p c) p (other c) i) (removed_or_not (with_stone cells p c) p (other c) i) (held_at (with_stone cells p c) i) (get_or_past (with_stone cells p c) i cell.Empty (omega (arith, le, placed_long p))))
+    -- what is removed is empty there, and the rest is as it was placed; a place past the region is empty before and after
+    outcome : (p i : ℕ) → (Removed p i × (held_at (next p) i ≡ cell.Empty)) ⊎ (¬ Removed p i × (held_at (next p) i ≡ held_at (placed p) i))
+    unfolding next
+    outcome p i = elim (cases_lt i (length cells)) [
+      | inl lt ↦ emptied-is _ (gone_or_not p i) _ _ (made-at (length cells) _ i lt)
+      | inr le ↦ (
+          let none = get_or_past (next p) i cell.Empty (omega (arith, le, length-next p)) in
+          let before = get_or_past (placed p) i cell.Empty (omega (arith, le, placed_long p)) in
+          elim (gone_or_not p i) [ inl h ↦ inl (h, none) | inr f ↦ inr (f, none ∙ sym before) ]
+          )
     ]
-      where
-        still : (P : Type 0) (d : Decided P) (x : Cell) → x ≡ cell.Empty → emptied P d x ≡ cell.Empty
-        still P (inl p) x e = refl
-        still P (inr f) x e = e
 
     record IsLegal (p : ℕ) : Type 0 where
       place : p < length cells
@@ -164,11 +152,11 @@ module _ (touch : List Touch) where
         less : (p n : ℕ) → Decided (p < n)
         less p n = elim (cases_lt p n) [ inl lt ↦ inl lt | inr le ↦ inr (λ lt. absurd (omega (arith, lt, le))) ]
 
-    gone : (p i : ℕ) → IsRemoved touch (with_stone cells p c) p (other c) i → held_at (next p) i ≡ cell.Empty
-    gone p i h = next-at p i ∙ emptied-gone _ (removed_or_not (with_stone cells p c) p (other c) i) (held_at (with_stone cells p c) i) h
+    gone : (p i : ℕ) → Removed p i → held_at (next p) i ≡ cell.Empty
+    gone p i h = elim (outcome p i) [ inl w ↦ w.1 | inr w ↦ absurd (w.0 h) ]
 
-    kept : (p i : ℕ) → ¬ IsRemoved touch (with_stone cells p c) p (other c) i → held_at (next p) i ≡ held_at (with_stone cells p c) i
-    kept p i f = next-at p i ∙ emptied-kept _ (removed_or_not (with_stone cells p c) p (other c) i) (held_at (with_stone cells p c) i) f
+    kept : (p i : ℕ) → ¬ Removed p i → held_at (next p) i ≡ held_at (placed p) i
+    kept p i f = elim (outcome p i) [ inl w ↦ absurd (f w.0) | inr w ↦ w.1 ]
 
     legal_move : (p : ℕ) → IsLegal p → IsLocalMove touch cells c p (next p)
     legal_move p l = record {
@@ -182,10 +170,7 @@ module _ (touch : List Touch) where
     move_is : (p : ℕ) (after : List Cell) → IsLocalMove touch cells c p after → IsLegal p × (after ≡ next p)
     move_is p after m =
         let same : after ≡ next p = ext_get_or cell.Empty after (next p) (long_after m ∙ sym (length-next p)) (λ i _.
-        elim (removed_or_not (with_stone cells p c) p (other c) i) [
-          | inl h ↦ m.without.gone i h ∙ sym (gone p i h)
-          | inr f ↦ m.without.kept i f ∙ sym (kept p i f)
-        ]) in
+        elim (outcome p i) [ inl w ↦ m.without.gone i w.0 ∙ sym w.1 | inr w ↦ m.without.kept i w.0 ∙ sym w.1 ]) in
         (record { place = m.place; free = m.free; stands = subst (λ x. IsFree touch x c p) same m.stands }, same)
 
     taken : ℕ → ℕ
@@ -196,8 +181,8 @@ module _ (touch : List Touch) where
     number_taken p l =
         let one = sum_by-set weight cells p (stone c) cell.Empty l.place in
         let none : weight (held_at cells p) ≡ 0 = ap weight l.free in
-        let less = count_less (next p) (with_stone cells p c) (length-next p ∙ sym (placed_long p)) (λ i.
-        elim (removed_or_not (with_stone cells p c) p (other c) i) [ inl h ↦ inl (gone p i h) | inr f ↦ inr (kept p i f) ]) in
+        let less = count_less (next p) (placed p) (length-next p ∙ sym (placed_long p)) (λ i.
+        elim (outcome p i) [ inl w ↦ inl w.1 | inr w ↦ inr w.1 ]) in
         omega (arith, one, none, counts c, less)
       where
         counts : (c : Colour) → weight (stone c) ≡ 1

@@ -1,5 +1,5 @@
 -- The ids after the edges of a place as the store grows, the form of those ids, and what it shares with each tree of the same edges.
-use Rattle.std.proofs.Common.{ℕ, ◌+◌, ◌-◌, ◌*◌, ◌^◌, ◌≡◌, ◌<◌, ◌≤◌, ◌↔◌, ◌∙◌, ap, refl, sym, subst, arith, ℤ, pos, neg_ℤ, ◌+ℤ◌, ◌*ℤ◌, List, length, get_or, ◌⊎◌, inl, inr, [], ◌∷◌, ◌++◌, take, Contains}
+use Rattle.std.proofs.Common.{ℕ, ◌+◌, ◌*◌, ◌^◌, ◌≡◌, ◌<◌, ◌≤◌, ◌↔◌, ◌∙◌, ap, refl, sym, subst, arith, ℤ, pos, neg_ℤ, ◌+ℤ◌, ◌*ℤ◌, List, length, get_or, ◌⊎◌, inl, inr, [], ◌∷◌, ◌++◌, take, Contains}
 use Rattle.std.specs.Prelude.{unsigned_abs}
 use Rattle.std.proofs.lemmas.Int.{ints}
 use Rattle.go_grid.specs.declared.grid.Colour.{Colour}
@@ -20,7 +20,6 @@ use Rattle.sum_outcome.specs.Players.{credit, gain, options}
 use Rattle.game_canon.proofs.NumberParts.{sum-fits, same-sum}
 use Rattle.local_value.specs.inner.Memo.{stones_units, IsStonesSum, IsFormOf}
 use Rattle.local_value.specs.inner.Valuing.{noted, IsWithinAfter, IsAfter, most_units, IsNoted, tree_after, AreWithinAfter, AreAfter, AreBothAfter, IsAdded, HasEdges}
-use Rattle.std.proofs.lemmas.Bool.{cases_lt}
 use Rattle.std.proofs.lemmas.List.{get_or_default, length-append, get_or_append_left, get_or_push, take_all, take_more}
 use Rattle.std.proofs.lemmas.List.Elements.{Contains-append_left, Contains-get_or, Contains-push, Contains-push_cases}
 use Rattle.local_graph.specs.inner.Graph.{no_edge}

@@ -1,5 +1,5 @@
 -- One pass over the places of a graph, each after those that its moves lead to, what it gives in the end, and what a refusal on the way means.
-use Rattle.std.proofs.Common.{ℕ, suc, ◌+◌, ◌-◌, ◌*◌, ◌^◌, ◌≡◌, ◌≢◌, ◌<◌, ◌≤◌, inl, inr, refl, sym, ap, ◌∙◌, subst, arith, pos, List, [], ◌∷◌, length, get_or, set, below_more, Contains}
+use Rattle.std.proofs.Common.{ℕ, suc, ◌+◌, ◌-◌, ◌*◌, ◌^◌, ◌≡◌, ◌<◌, ◌≤◌, inl, inr, refl, sym, ap, ◌∙◌, subst, arith, pos, List, [], ◌∷◌, length, get_or, set, below_more, Contains}
 use Rattle.std.specs.Prelude.{unsigned_abs}
 use Rattle.std.proofs.Math.Nat.{mul-le-mul_right}
 use Rattle.std.proofs.lemmas.Bool.{cases_lt}
@@ -16,7 +16,7 @@ use Rattle.short_games.specs.Sum.{◌+ᵍ◌}
 use Rattle.short_games.specs.TextOrder.{IsCanonicalFor, TextBefore}
 use Rattle.short_games.specs.Number.{number_tree}
 use Rattle.game_store.specs.Meaning.{Extends}
-use Rattle.short_games.specs.Parts.{HasMoreParts, IsNumberOf}
+use Rattle.short_games.specs.Parts.{HasMoreParts}
 use Rattle.short_games.proofs.NumberLaws.{num-zero}
 use Rattle.short_games.proofs.ReductionLaws.{number-canonical, same-canonical}
 use Rattle.game_canon.specs.Outcomes.{IsCanonicalId, AreWithin, IsCause}
@@ -229,12 +229,17 @@ module _ {r : Region} {g : Graph} (of : IsGraphOf r g) where
         where
           refusal : (G V : Tree) (e : FormError) → IsValueAt r g (place g k) V → IsCanonicalFor G V → IsCause G limit e → IsValueRefusal r g limit e
           refusal G V Parts at c w = (place g k, V, at, made-no_number G V w.0 c, w.1 V c)
-          refusal G V Bounds at c w = (place g k, V, at, (
+          refusal G V Bounds at c w = (
+            place g k,
             V,
-            tree-number V c.canonical (number-as G V (c.under, c.over) w.0),
-            inl refl,
-            λ u b e. w.1 u b (subst (λ t. G ≤ᵍ t) e c.under) (subst (λ t. t ≤ᵍ G) e c.over),
-          ))
+            at,
+            (
+              V,
+              tree-number V c.canonical (number-as G V (c.under, c.over) w.0),
+              inl refl,
+              λ u b e. w.1 u b (subst (λ t. G ≤ᵍ t) e c.under) (subst (λ t. t ≤ᵍ G) e c.over),
+            ),
+          )
           refusal G V (Memory cause) at c w = tt
 
     pub call : {order : List ℕ} {xs : List Edge} {vs : List ℕ} → order ≡ g.order → xs ≡ edges_at g.edges (get_or order k 0) → vs ≡ ids → k < length order

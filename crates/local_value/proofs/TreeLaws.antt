@@ -20,7 +20,7 @@ use Rattle.local_value.proofs.LocalLaws.{depths-agree, after-has, has-after, opt
 use Rattle.local_value.proofs.MoveList.{steps, step_in, step_out}
 use Rattle.go_grid.proofs.PlayLemmas.{long_after}
 use Rattle.go_grid.specs.Region.{Region}
-use Rattle.local_play.specs.LocalPlay.{IsLocalMove, IsNumberTaken}
+use Rattle.local_play.specs.LocalPlay.{IsLocalMove}
 use Rattle.local_graph.specs.Graph.{Graph}
 use Rattle.local_graph.specs.inner.Graph.{edges_at}
 use Rattle.local_value.specs.inner.GraphMoves.{step_of, steps_of}
@@ -47,9 +47,9 @@ short_plays touch opening none cells reach qs w =
 -- A game each of whose positions stands for a local one: its listed moves are the local moves, both ways.
 module _ (P : Type 0) (touch : List Touch) (moves : Colour → P → List (Step P)) (Stands : P → List Cell → Type 0)
     (out : (p : P) (cells : List Cell) (c : Colour) (x : Step P) → Stands p cells → Contains (moves c p) x
-        → (y : Step (List Cell)) × IsStep touch c cells y × (y.taken ≡ x.taken) × Stands x.to y.to)
+    → (y : Step (List Cell)) × IsStep touch c cells y × (y.taken ≡ x.taken) × Stands x.to y.to)
     (back : (p : P) (cells : List Cell) (c : Colour) (y : Step (List Cell)) → Stands p cells → IsStep touch c cells y
-        → (x : Step P) × Contains (moves c p) x × (x.taken ≡ y.taken) × Stands x.to y.to) where
+    → (x : Step P) × Contains (moves c p) x × (x.taken ≡ y.taken) × Stands x.to y.to) where
   abbrev tree : ℕ → P → Tree
   tree n p = tree_within P moves n p
 

@@ -1,4 +1,4 @@
-use Rattle.std.proofs.Common.{◌≡◌, arith, refl}
+use Rattle.std.proofs.Common.{arith, refl}
 use Rattle.std.proofs.lemmas.Result.{err_from_is_err_and}
 use Rattle.go_grid.specs.Region.{Region}
 use Rattle.game_canon.proofs.ChangeSteps.{passed-on}
@@ -29,7 +29,7 @@ valuing-preserved c = record {
   kept = extends-both c.valuing.invariant.kept c.value_of.ensures.kept;
   pass = λ r of.
       (call of (c.valuing.invariant.pass r of) c.order-place-items.ensures c.edges-edges.ensures c.deref.ensures.value c.valuing-test.true).step
-          c.value_of.new.store c.in_ok-id.id c.value_of.ensures.kept c.in_ok-id.ensures.value c.in_ok-id.ensures.sizes c.in_ok-id.ensures.parts;
+      c.value_of.new.store c.in_ok-id.id c.value_of.ensures.kept c.in_ok-id.ensures.value c.in_ok-id.ensures.sizes c.in_ok-id.ensures.parts;
   memo = c.in_ok-id.ensures.memo;
 }
 
@@ -37,7 +37,7 @@ pub returns-in_err-id-clause-refusal : goal.returns-in_err-id-clause-refusal
 returns-in_err-id-clause-refusal c = passed-on c.from_residual-in_err-id.result _ (λ e. (r : Region) → IsGraphOf r c.args.graph.now → IsValueRefusal r c.args.graph.now c.args.parts_limit e)
     (err_from_is_err_and c.from_residual-in_err-id.result c.from_residual-in_err-id.ensures.1)
     (λ r of. (call of (c.valuing.invariant.pass r of) c.order-place-items.ensures c.edges-edges.ensures c.deref.ensures.value c.valuing-test.true).refused
-        _ c.in_err-id.ensures.refusal)
+    _ c.in_err-id.ensures.refusal)
 
 pub returns-clause-values : goal.returns-clause-values
 returns-clause-values c =
