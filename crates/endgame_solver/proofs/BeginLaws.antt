@@ -26,7 +26,7 @@ use Rattle.game_canon.specs.Changes.{HasNumberPastBounds}
 use Rattle.short_games.proofs.OrderLaws.{same-sym, same-trans}
 use Rattle.local_value.specs.PositionTree.{IsStep, IsValueOf}
 use Rattle.local_value.specs.Values.{IsGraphOf, IsPlaceOf, AreValues}
-use Rattle.local_value.proofs.LocalLaws.{trees-same}
+use Rattle.local_value.proofs.TreeLaws.{trees-same}
 use Rattle.endgame_solver.specs.Faults.{HasLargeForm}
 use Rattle.go_grid.proofs.PlayLemmas.{long_after}
 

@@ -23,8 +23,7 @@ use Rattle.local_graph.proofs.OrderLemmas.{same_place}
 use Rattle.local_graph.proofs.PlayLemmas.{one_after, plays_long}
 use Rattle.local_value.specs.Values.{IsGraphOf, IsPlaceOf}
 use Rattle.go_grid.proofs.Decided.{Decided}
-use Rattle.local_value.proofs.GraphLaws.{cells_at, move_of, next_place, position_at}
-use Rattle.local_value.proofs.LocalLaws.{contains-cases, contains-head, contains-tail}
+use Rattle.local_value.proofs.MoveLaws.{cells_at, move_of, next_place, position_at, contains-cases, contains-head, contains-tail}
 use Rattle.region_book.specs.Shape.{colour_after}
 use Rattle.region_book.proofs.SymmetryLaws.{colour_back}
 use Rattle.endgame_solver.specs.inner.Views.{Serves, own}

@@ -14,7 +14,7 @@ use Rattle.go_grid.specs.Region.{touch_at}
 use Rattle.go_grid.proofs.PathLemmas.{carried, leads_here, leads_start, leads_step}
 use Rattle.local_play.specs.LocalPlay.{held_at, is_stone, with_stone, Holds, IsLinked, IsLocalMove, IsNumberTaken}
 use Rattle.local_play.specs.inner.LocalPlay.{InLocalChain, IsFree, IsRemoved}
-use Rattle.local_value.proofs.MoveList.{length-made, made, made-at}
+use Rattle.local_value.proofs.MoveLaws.{length-made, made, made-at}
 use Rattle.region_book.specs.declared.symmetry.Symmetry.{Symmetry}
 use Rattle.region_book.specs.Shape.{Carries, Direction, cell_after, colour_after, link, turned}
 use Rattle.region_book.specs.Shape.Direction.{up, left, right, down}

@@ -15,7 +15,7 @@ use Rattle.sum_outcome.specs.Players.{gain, options}
 use Rattle.short_games.proofs.OrderLaws.{same-path, same-refl, same-sym, same-trans}
 use Rattle.local_value.specs.LocalGame.{Step}
 use Rattle.local_value.specs.PositionTree.{IsStep, IsTreeOf}
-use Rattle.local_value.proofs.LocalLaws.{same_options}
+use Rattle.local_value.proofs.TreeLaws.{same_options}
 use Rattle.region_book.specs.declared.symmetry.Symmetry.{Symmetry}
 use Rattle.region_book.specs.Shape.{Carries, IsPartner, colour_after}
 use Rattle.region_book.proofs.CarryLaws.{carries_back}

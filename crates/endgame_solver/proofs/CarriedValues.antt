@@ -17,7 +17,7 @@ use Rattle.short_games.proofs.OrderLaws.{same-trans}
 use Rattle.local_value.specs.PositionTree.{IsTreeOf, IsValueOf}
 use Rattle.local_value.specs.Values.{AreValues}
 use Rattle.local_value.proofs.TreeLaws.{trees-exist}
-use Rattle.local_value.proofs.GraphLaws.{position_at}
+use Rattle.local_value.proofs.MoveLaws.{position_at}
 use Rattle.region_book.proofs.CarryLaws.{carries_back}
 use Rattle.region_book.proofs.SymmetryLaws.{back}
 use Rattle.endgame_solver.specs.ShapeValues.{game_after}

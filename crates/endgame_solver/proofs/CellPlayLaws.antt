@@ -24,7 +24,7 @@ use Rattle.local_value.specs.Laws.{MovesTo}
 use Rattle.local_value.specs.LocalGame.{Step, StepsTo, TakesAtMost, tree_within}
 use Rattle.local_value.specs.PositionTree.{IsTreeOf, PlaysAreShort}
 use Rattle.local_value.proofs.TreeLaws.{cells_end, from_step, step_from, tree_as, short_plays}
-use Rattle.local_value.proofs.MoveList.{steps, step_out}
+use Rattle.local_value.proofs.MoveLaws.{steps, step_out}
 use Rattle.region_cut.specs.Cut.{AreRegionsOfPlay}
 use Rattle.region_cut.specs.LocalBoard.{HoldsPosition, IsLocal}
 use Rattle.region_cut.proofs.LocalBoardLemmas.{only_region, other_kept, holds_after, plays_locally, point_contested}

@@ -14,7 +14,7 @@ use Rattle.local_value.specs.LocalGame.{Step, StepsTo, tree_within}
 use Rattle.endgame_solver.specs.SumGame.{StepIn, parts_tree, AllEnd}
 use Rattle.short_games.proofs.OrderLaws.{same-refl, same-path, same-trans}
 use Rattle.sum_outcome.proofs.PlayerLaws.{option_of_sum, option_in_first, option_in_second}
-use Rattle.local_value.proofs.LocalLaws.{move-option, option-move}
+use Rattle.local_value.proofs.TreeLaws.{move-option, option-move}
 
 pub no_option : (c : Colour) (X : Tree) → Has (options c (node none none)) X → ⊥
 no_option Black X h = h

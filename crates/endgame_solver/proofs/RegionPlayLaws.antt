@@ -22,7 +22,7 @@ use Rattle.endgame_solver.specs.Regions.{no_region, region_at}
 use Rattle.endgame_solver.specs.inner.Regions.{Spot, graph_at, AreGraphs, spot_in, moves_at, IsPointOf, HasCells, IsShown}
 use Rattle.endgame_solver.specs.inner.WholeParts.{OthersStay, IsPlayedIn, IsPlayableIn, IsLocalPlay}
 use Rattle.local_value.specs.inner.GraphMoves.{step_of}
-use Rattle.local_value.proofs.GraphLaws.{IsEdgeFor, edge_of, move_of, next_place, steps-out, steps-in}
+use Rattle.local_value.proofs.MoveLaws.{IsEdgeFor, edge_of, move_of, next_place, steps-out, steps-in}
 use Rattle.go_grid.proofs.PlayLemmas.{long_after}
 
 module _ (g : Board) (regions : List Region) (graphs : List Graph) (are : AreGraphs g regions graphs) where

@@ -13,7 +13,7 @@ use Rattle.short_games.specs.Order.{◌≡ᵍ◌}
 use Rattle.local_value.specs.Ending.{EndsWithin}
 use Rattle.local_value.specs.LocalGame.{StepsTo, TakesAtMost, tree_within}
 use Rattle.local_value.specs.PositionTree.{IsTreeOf}
-use Rattle.local_value.proofs.GraphLaws.{taken_less, steps-out}
+use Rattle.local_value.proofs.MoveLaws.{taken_less, steps-out}
 use Rattle.local_value.proofs.TreeLaws as graph
 use Rattle.endgame_solver.specs.Regions.{region_at}
 use Rattle.endgame_solver.specs.inner.Regions.{Spot, graph_at, no_graph, AreGraphs, spot_in, moves_at, HasCells}

@@ -7,7 +7,7 @@ use Rattle.go_grid.specs.Region.{Region, AreLinks, IsLink, IsRegion, nothing_nea
 use Rattle.local_graph.specs.declared.graph.Edge.{Edge}
 use Rattle.local_graph.specs.Graph.{Graph}
 use Rattle.local_graph.specs.inner.Graph.{edges_at}
-use Rattle.local_value.proofs.GraphLaws.{cells_at, move_of}
+use Rattle.local_value.proofs.MoveLaws.{cells_at, move_of}
 use Rattle.local_graph.proofs.PlayLemmas.{plays_long}
 use Rattle.game_store.specs.Forms.{HaveForms}
 use Rattle.game_store.specs.Meaning.{AreCanonical, AreIds, Extends}

@@ -24,7 +24,7 @@ use Rattle.local_graph.specs.Graph.{Graph}
 use Rattle.local_graph.specs.inner.Graph.{edges_at}
 use Rattle.region_cut.specs.LocalBoard.{HoldsPosition}
 use Rattle.short_games.specs.Tree.{Tree}
-use Rattle.local_value.proofs.GraphLaws.{IsEdgeFor, edge_of, move_of, taken_less}
+use Rattle.local_value.proofs.MoveLaws.{IsEdgeFor, edge_of, move_of, taken_less}
 use Rattle.endgame_solver.specs.Regions.{region_at}
 use Rattle.endgame_solver.specs.inner.Regions.{graph_at, spot_in, HasCells, IsShown}
 use Rattle.endgame_solver.specs.inner.Held.{AreSolved, IsAt, HasRoom, IsStoneEdge, place_at, token_left}

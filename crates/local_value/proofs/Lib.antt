@@ -1,7 +1,4 @@
-pub mod LocalLaws
-pub mod MemoLaws
-pub mod MoveList
+pub mod MoveLaws
 pub mod TreeLaws
-pub mod GraphLaws
 pub mod OptionsLaws
 pub mod PassLaws

@@ -30,9 +30,8 @@ use Rattle.local_value.specs.inner.GraphMoves.{step_of, steps_of}
 use Rattle.local_value.specs.LocalGame.{Step, StepsTo, tree_within}
 use Rattle.local_value.specs.Values.{IsGraphOf, IsPlaceOf, AreValues}
 use Rattle.local_value.specs.inner.Valuing.{noted, IsNoted, tree_after, AreWithinAfter, HasEdges, most_units}
-use Rattle.local_value.proofs.GraphLaws.{position_at, taken_less, steps-in, steps-out}
-use Rattle.local_value.proofs.TreeLaws.{place_ends, place_tree}
-use Rattle.local_value.proofs.LocalLaws.{move-option, option-move}
+use Rattle.local_value.proofs.MoveLaws.{position_at, taken_less, steps-in, steps-out}
+use Rattle.local_value.proofs.TreeLaws.{place_ends, place_tree, move-option, option-move}
 use Rattle.local_value.proofs.OptionsLaws.{no-edges, number-as}
 use Rattle.go_grid.specs.declared.grid.Cell.{Cell}
 use Rattle.local_graph.proofs.PlayLemmas.{plays_long}

@@ -1,6 +1,6 @@
 use Rattle.std.proofs.Common.{sym, ◌∙◌}
 use Rattle.local_value.specs.inner.Memo.{recalled_form, IsFormOf}
-use Rattle.local_value.proofs.MemoLaws.{form-made, forms-grown}
+use Rattle.local_value.proofs.OptionsLaws.{form-made, forms-grown}
 use Rattle.local_value.proofs.memo.form_of.Goals as goal
 
 pub returns-in-Some-clause-form : goal.returns-in-Some-clause-form

@@ -1,4 +1,4 @@
-use Rattle.local_value.proofs.MemoLaws.{forms-empty}
+use Rattle.local_value.proofs.OptionsLaws.{forms-empty}
 use Rattle.local_value.proofs.memo.limit_forms.Goals as goal
 
 pub returns : goal.returns

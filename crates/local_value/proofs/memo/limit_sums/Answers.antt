@@ -1,4 +1,4 @@
-use Rattle.local_value.proofs.MemoLaws.{sums-empty}
+use Rattle.local_value.proofs.OptionsLaws.{sums-empty}
 use Rattle.local_value.proofs.memo.limit_sums.Goals as goal
 
 pub returns : goal.returns

@@ -2,7 +2,7 @@ use Rattle.std.proofs.Common.{subst, Some, OnOk, w32}
 use Rattle.std.proofs.lemmas.Int.{to_z-of_z}
 use Rattle.indexmap.specs.IndexMap.{Updates}
 use Rattle.local_value.specs.inner.Memo.{same_sum}
-use Rattle.local_value.proofs.MemoLaws.{sum-kept}
+use Rattle.local_value.proofs.OptionsLaws.{sum-kept}
 use Rattle.local_value.proofs.memo.remember_sum.Goals as goal
 
 pub returns : goal.returns

@@ -6,7 +6,7 @@ use Rattle.short_games.specs.Number.{number_tree}
 use Rattle.short_games.specs.Parts.{IsNumberOf}
 use Rattle.game_canon.specs.Outcomes.{IsCanonicalId}
 use Rattle.local_value.specs.inner.Memo.{stones_units, recalled_sum, IsStonesSum}
-use Rattle.local_value.proofs.MemoLaws.{sum-made, sums-grown}
+use Rattle.local_value.proofs.OptionsLaws.{sum-made, sums-grown}
 use Rattle.local_value.proofs.memo.with_stones.Goals as goal
 
 pub returns-in-Some-clause-sum : goal.returns-in-Some-clause-sum

@@ -1,7 +1,6 @@
 use Rattle.std.proofs.Common.{ap, ◌∙◌, to_z, of_z, w32}
 use Rattle.local_value.specs.inner.Memo.{stones_units}
-use Rattle.local_value.proofs.OptionsLaws.{never-refused, value-untaken, value-summed}
-use Rattle.local_value.proofs.MemoLaws.{held}
+use Rattle.local_value.proofs.OptionsLaws.{never-refused, value-untaken, value-summed, held}
 use Rattle.local_value.proofs.values.value_after.Goals as goal
 
 pub returns-then-edge-eq0-clause-value : goal.returns-then-edge-eq0-clause-value

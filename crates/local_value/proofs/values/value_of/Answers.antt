@@ -1,7 +1,6 @@
 use Rattle.std.proofs.lemmas.Result.{on_ok_weaker}
 use Rattle.local_value.specs.inner.Memo.{recalled_form, recalled_sum}
-use Rattle.local_value.proofs.MemoLaws.{sums-grown, forms-grown}
-use Rattle.local_value.proofs.OptionsLaws.{left-ids, right-ids, form-parts, form-refused, form-sizes, form-values}
+use Rattle.local_value.proofs.OptionsLaws.{sums-grown, forms-grown, left-ids, right-ids, form-parts, form-refused, form-sizes, form-values}
 use Rattle.local_value.proofs.values.value_of.Goals as goal
 
 pub form_of-requires-clause-left : goal.form_of-requires-clause-left
