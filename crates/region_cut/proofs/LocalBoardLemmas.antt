@@ -273,6 +273,22 @@ module _ (g : Board) (r : Region) (settled : IsSettled g) (play : IsRegionOfPlay
     own : (i : ℕ) → i < length r.points → at i < length h.cells
     own = inside holds (same_size h) refl
 
+    -- a position's cells written at the region's points
+    module _ (next : List Cell) where
+      abbrev put : List Cell
+      put = written r.points play.proper.ascending h.cells next (length r.points)
+
+      length-put : length put ≡ length h.cells
+      length-put = length-written r.points play.proper.ascending h.cells next (length r.points)
+
+      put_at : (j : ℕ) → j < length r.points → get_or put (at j) cell.Empty ≡ held_at next j
+      put_at j l = written_at r.points play.proper.ascending h.cells next own (length r.points) j (omega arith) l
+
+      put_outside : (q : ℕ) → ¬ Contains r.points q → get_or put q cell.Empty ≡ cell_at h q
+      put_outside q out =
+          written_outside r.points play.proper.ascending h.cells next (length r.points) q
+          (λ j l e. out (subst (Contains r.points) e (Contains-get_or r.points j 0 l)))
+
     -- the number taken on the board is the local one
     is_local : (after : Board) (next : List Cell) → length after.cells ≡ length h.cells → length next ≡ length cells
         → ((i : ℕ) → i < length r.points → cell_at after (at i) ≡ held_at next i)
@@ -283,38 +299,29 @@ module _ (g : Board) (r : Region) (settled : IsSettled g) (play : IsRegionOfPlay
       taken = λ n. (λ e. omega (arith, e, count), λ e. omega (arith, e, count));
     }
       where
-        n : ℕ
-        n = length r.points
-
-        more : List Cell
-        more = written r.points play.proper.ascending h.cells next n
-
-        same : (q : ℕ) → get_or after.cells q cell.Empty ≡ get_or more q cell.Empty
+        same : (q : ℕ) → get_or after.cells q cell.Empty ≡ get_or (put next) q cell.Empty
         same q = elim (among_or_not r.points q) [
           | inl (j, lt, e) ↦
-              let here = get_or_default r.points j 0 q lt ∙ e in
-              subst (λ z. get_or after.cells z cell.Empty ≡ get_or more z cell.Empty) here
-              (within j lt ∙ sym (written_at r.points play.proper.ascending h.cells next own n j (omega arith) lt))
-          | inr out ↦
-              outside q out ∙ sym (written_outside r.points play.proper.ascending h.cells next n q
-              (λ i lt e. out (subst (Contains r.points) e (Contains-get_or r.points i 0 lt))))
+              subst (λ z. get_or after.cells z cell.Empty ≡ get_or (put next) z cell.Empty) (get_or_default r.points j 0 q lt ∙ e)
+              (within j lt ∙ sym (put_at next j lt))
+          | inr out ↦ outside q out ∙ sym (put_outside next q out)
         ]
 
-        equal : after.cells ≡ more
-        equal = ext_get_or cell.Empty after.cells more (full ∙ sym (length-written r.points play.proper.ascending h.cells next n)) (λ q _. same q)
+        equal : after.cells ≡ put next
+        equal = ext_get_or cell.Empty after.cells (put next) (full ∙ sym (length-put next)) (λ q _. same q)
 
-        ln : length next ≡ n
+        ln : length next ≡ length r.points
         ln = long ∙ holds.long
 
         count : count_by is_stone after.cells + count_by is_stone cells ≡ count_by is_stone h.cells + count_by is_stone next
         count =
-            let w = count_written r.points play.proper.ascending h.cells next own is_stone cells ln holds.long (λ i lt. holds.local i lt) n (omega arith) in
+            let w = count_written r.points play.proper.ascending h.cells next own is_stone cells ln holds.long (λ i lt. holds.local i lt) (length r.points) (omega arith) in
             omega (
               arith,
               w,
               ap (count_by is_stone) equal,
-              ap (count_by is_stone) (take_all n cells (omega (arith, holds.long))),
-              ap (count_by is_stone) (take_all n next (omega (arith, ln))),
+              ap (count_by is_stone) (take_all (length r.points) cells (omega (arith, holds.long))),
+              ap (count_by is_stone) (take_all (length r.points) next (omega (arith, ln))),
             )
 
     module _ (i : ℕ) (lt : i < length r.points) (c : Colour) where
@@ -409,31 +416,17 @@ module _ (g : Board) (r : Region) (settled : IsSettled g) (play : IsRegionOfPlay
           → (after : Board) × IsPlaced h (at i) c after
       local_is_placing next move = (after, placed)
         where
-          n : ℕ
-          n = length r.points
-
           after : Board
-          after = record h { cells = written r.points play.proper.ascending h.cells next n }
-
-          full : length after.cells ≡ length h.cells
-          full = length-written r.points play.proper.ascending h.cells next n
-
-          within : (j : ℕ) → j < length r.points → cell_at after (at j) ≡ held_at next j
-          within j l = written_at r.points play.proper.ascending h.cells next own n j (omega arith) l
-
-          outside : (q : ℕ) → ¬ Contains r.points q → cell_at after q ≡ cell_at h q
-          outside q out =
-              written_outside r.points play.proper.ascending h.cells next n q
-              (λ j l e. out (subst (Contains r.points) e (Contains-get_or r.points j 0 l)))
+          after = record h { cells = put next }
 
           kept : (q : ℕ) → ¬ Taken q → cell_at after q ≡ cell_at b q
           kept q out = elim (among_or_not r.points q) [
             | inl (j, l, e) ↦
                 let here = get_or_default r.points j 0 q l ∙ e in
                 let stays : ¬ Removed j = λ t. out (subst (λ z. Taken z) here (up j t).1) in
-                subst (λ z. cell_at after z ≡ cell_at b z) here (within j l ∙ move.without.kept j stays ∙ sym (holds_more.local j l))
+                subst (λ z. cell_at after z ≡ cell_at b z) here (put_at next j l ∙ move.without.kept j stays ∙ sym (holds_more.local j l))
             | inr none ↦
-                outside q none ∙ sym (elsewhere q (λ e. none (subst (Contains r.points) (sym e) (Contains-get_or r.points i 0 lt))))
+                put_outside next q none ∙ sym (elsewhere q (λ e. none (subst (Contains r.points) (sym e) (Contains-get_or r.points i 0 lt))))
           ]
 
           placed : IsPlaced h (at i) c after
@@ -443,12 +436,12 @@ module _ (g : Board) (r : Region) (settled : IsSettled g) (play : IsRegionOfPlay
               place = own i lt;
               free = holds.local i lt ∙ move.free;
               without = record {
-                long = full ∙ sym (length-set h.cells (at i) (stone c));
-                gone = λ q t. (let w = down q t in subst (λ z. cell_at after z ≡ cell.Empty) w.2 (within w.0 w.1 ∙ move.without.gone w.0 w.3));
+                long = length-put next ∙ sym (length-set h.cells (at i) (stone c));
+                gone = λ q t. (let w = down q t in subst (λ z. cell_at after z ≡ cell.Empty) w.2 (put_at next w.0 w.1 ∙ move.without.gone w.0 w.3));
                 kept = kept;
               };
               stands = free_up
-                  (holds_after g r cells next h after play holds refl full (long_after move) within outside) (same_size h) full c i lt move.stands;
+                  (holds_after g r cells next h after play holds refl (length-put next) (long_after move) (put_at next) (put_outside next)) (same_size h) (length-put next) c i lt move.stands;
             },
           )
 
