@@ -13,7 +13,7 @@ use Rattle.go_grid.specs.declared.grid.Colour.TheVariants.{Black, White}
 use Rattle.go_grid.specs.declared.region.Touch.{Touch}
 use Rattle.go_grid.specs.Board.{other, stone}
 use Rattle.go_grid.specs.Region.{touch_at, Region}
-use Rattle.go_grid.proofs.PathLemmas.{leads_end}
+use Rattle.go_grid.proofs.PathLemmas.{leads_end, leads_start}
 use Rattle.local_play.specs.LocalPlay.{held_at, is_beside, is_stone, with_stone, Holds, IsBeside, IsLinked, IsLocalMove, IsNumberTaken}
 use Rattle.local_play.specs.inner.LocalPlay.{InLocalChain, IsFree, IsOpen, IsRemoved}
 use Rattle.local_value.specs.LocalGame.{Step}
@@ -25,7 +25,6 @@ use Rattle.local_graph.specs.Built.{Built}
 use Rattle.local_graph.specs.Graph.{Graph}
 use Rattle.local_value.specs.Values.{IsGraphOf, IsPlaceOf}
 use Rattle.std.proofs.lemmas.List.Elements.{Contains-get_or}
-use Rattle.go_grid.specs.Path.{Path}
 use Rattle.local_play.specs.declared.local_move.LocalMove.{LocalMove}
 use Rattle.local_play.specs.Packed.{pack}
 use Rattle.local_graph.specs.declared.cycle.CycleMove.{CycleMove}
@@ -112,12 +111,9 @@ module _ (touch : List Touch) where
     chain_or_not c i j =
         leads_or_not (IsLinked touch) (Holds cells c) (length cells) (held_inside cells c) linked_or_not (λ k. same_or_not (held_at cells k) (stone c)) i j
 
-    chain_within : (c : Colour) (i j : ℕ) → InLocalChain touch cells c i j → j < length cells
-    chain_within c i j chain = held_inside cells c j (leads_end (IsLinked touch) (Holds cells c) i j chain)
-
     free_or_not : (c : Colour) (i : ℕ) → Decided (IsFree touch cells c i)
     free_or_not c i =
-        alike _ _ (λ (j, lt, (chain, breath)). (j, chain, breath)) (λ (j, chain, breath). (j, chain_within c i j chain, (chain, breath)))
+        alike _ _ (λ (j, lt, (chain, breath)). (j, chain, breath)) (λ (j, chain, breath). (j, held_inside cells c j (leads_end (IsLinked touch) (Holds cells c) i j chain), (chain, breath)))
         (some_below (length cells) (λ j. InLocalChain touch cells c i j × (IsOpen touch cells j ⊎ IsBeside touch c j))
         (λ j. both _ _ (chain_or_not c i j)
         (either _ _ (some_linked j (λ k. held_at cells k ≡ cell.Empty) (λ k. same_or_not (held_at cells k) cell.Empty))
@@ -170,18 +166,13 @@ module _ (touch : List Touch) where
           )
     ]
 
-    record IsLegal (p : ℕ) : Type 0 where
-      place : p < length cells
-      free : held_at cells p ≡ cell.Empty
-      stands : IsFree touch (next p) c p
+    abbrev IsLegal : ℕ → Type 0
+    IsLegal p = (p < length cells) × ((held_at cells p ≡ cell.Empty) × IsFree touch (next p) c p)
 
     legal_or_not : (p : ℕ) → Decided (IsLegal p)
     legal_or_not p =
-        alike _ _ (λ (lt, (e, f)). record { place = lt; free = e; stands = f }) (λ l. (l.place, (l.free, l.stands)))
-        (both _ _ (less p (length cells)) (both _ _ (same_or_not (held_at cells p) cell.Empty) (free_or_not (next p) c p)))
-      where
-        less : (p n : ℕ) → Decided (p < n)
-        less p n = elim (cases_lt p n) [ inl lt ↦ inl lt | inr le ↦ inr (λ lt. absurd (omega (arith, lt, le))) ]
+        let inside : Decided (p < length cells) = elim (cases_lt p (length cells)) [ inl lt ↦ inl lt | inr le ↦ inr (λ lt. omega (arith, lt, le)) ] in
+        both _ _ inside (both _ _ (same_or_not (held_at cells p) cell.Empty) (free_or_not (next p) c p))
 
     gone : (p i : ℕ) → Removed p i → held_at (next p) i ≡ cell.Empty
     gone p i h = elim (outcome p i) [ inl w ↦ w.1 | inr w ↦ absurd (w.0 h) ]
@@ -190,11 +181,11 @@ module _ (touch : List Touch) where
     kept p i f = elim (outcome p i) [ inl w ↦ absurd (f w.0) | inr w ↦ w.1 ]
 
     legal_move : (p : ℕ) → IsLegal p → IsLocalMove touch cells c p (next p)
-    legal_move p l = record {
-      place = l.place;
-      free = l.free;
+    legal_move p (place, (free, stands)) = record {
+      place = place;
+      free = free;
       without = record { long = length-next p ∙ sym (placed_long p); gone = gone p; kept = kept p };
-      stands = l.stands;
+      stands = stands;
     }
 
     -- each local move is one of these
@@ -202,7 +193,7 @@ module _ (touch : List Touch) where
     move_is p after m =
         let same : after ≡ next p = ext_get_or cell.Empty after (next p) (long_after m ∙ sym (length-next p)) (λ i _.
         elim (outcome p i) [ inl w ↦ m.without.gone i w.0 ∙ sym w.1 | inr w ↦ m.without.kept i w.0 ∙ sym w.1 ]) in
-        (record { place = m.place; free = m.free; stands = subst (λ x. IsFree touch x c p) same m.stands }, same)
+        ((m.place, (m.free, subst (λ x. IsFree touch x c p) same m.stands)), same)
 
     taken : ℕ → ℕ
     taken p = (count_by is_stone cells + 1) - count_by is_stone (next p)
@@ -210,8 +201,8 @@ module _ (touch : List Touch) where
     number_taken : (p : ℕ) → IsLegal p → IsNumberTaken cells (next p) (taken p)
     unfolding taken
     number_taken p l =
-        let one = sum_by-set weight cells p (stone c) cell.Empty l.place in
-        let none : weight (held_at cells p) ≡ 0 = ap weight l.free in
+        let one = sum_by-set weight cells p (stone c) cell.Empty l.0 in
+        let none : weight (held_at cells p) ≡ 0 = ap weight l.1.0 in
         let less = count_less (next p) (placed p) (length-next p ∙ sym (placed_long p)) (λ i.
         elim (outcome p i) [ inl w ↦ inl w.1 | inr w ↦ inr w.1 ]) in
         omega (arith, one, none, weight-stone c, less)
@@ -235,29 +226,25 @@ module _ (touch : List Touch) where
       from_below : (n : ℕ) (x : Step P) → Contains (steps_below n) x → (p : ℕ) × IsLegal p × (step p ≡ x)
       unfolding steps_below with_step
       from_below zero x h = absurd (omega (arith, h.1))
-      from_below (suc n) x h = from (from_below n x) (legal_or_not n) h
-        where
-          from : (Contains (steps_below n) x → (p : ℕ) × IsLegal p × (step p ≡ x)) → (d : Decided (IsLegal n)) → Contains (with_step n d (steps_below n)) x → (p : ℕ) × IsLegal p × (step p ≡ x)
-          from rest (inl l) h = elim (contains-cases (Step P) (step n) x (steps_below n) h) [
-            | inl e ↦ (n, l, e)
-            | inr k ↦ rest k
-          ]
-          from rest (inr f) h = rest h
+      from_below (suc n) x h =
+          elim (legal_or_not n) as (λ d. Contains (with_step n d (steps_below n)) x → (p : ℕ) × IsLegal p × (step p ≡ x)) [
+            | inl l ↦ λ i. elim (contains-cases (Step P) (step n) x (steps_below n) i) [ inl e ↦ (n, l, e) | inr k ↦ from_below n x k ]
+            | inr f ↦ λ i. from_below n x i
+          ] h
 
       in_below : (n p : ℕ) → p < n → IsLegal p → Contains (steps_below n) (step p)
       unfolding steps_below with_step
       in_below zero p lt l = absurd (omega (arith, lt))
-      in_below (suc n) p lt l = into (λ less. in_below n p less l) (legal_or_not n)
-        where
-          into : (p < n → Contains (steps_below n) (step p)) → (d : Decided (IsLegal n)) → Contains (with_step n d (steps_below n)) (step p)
-          into rest (inl k) = elim (cases_eq p n) as (λ _. Contains (step n ∷ steps_below n) (step p)) [
-            | inl e ↦ subst (λ z. Contains (step n ∷ steps_below n) (step z)) (sym e) (contains-head (Step P) (step n) (steps_below n))
-            | inr ne ↦ contains-tail (Step P) (step n) (step p) (steps_below n) (rest (omega (arith, lt, ne)))
-          ]
-          into rest (inr f) = elim (cases_eq p n) as (λ _. Contains (steps_below n) (step p)) [
-            | inl e ↦ absurd (f (subst IsLegal e l))
-            | inr ne ↦ rest (omega (arith, lt, ne))
-          ]
+      in_below (suc n) p lt l = elim (legal_or_not n) as (λ d. Contains (with_step n d (steps_below n)) (step p)) [
+        | inl k ↦ elim (cases_eq p n) as (λ _. Contains (step n ∷ steps_below n) (step p)) [
+          | inl e ↦ (0, omega arith, ap step (sym e))
+          | inr ne ↦ contains-tail (Step P) (step n) (step p) (steps_below n) (in_below n p (omega (arith, lt, ne)) l)
+        ]
+        | inr f ↦ elim (cases_eq p n) as (λ _. Contains (steps_below n) (step p)) [
+          | inl e ↦ absurd (f (subst IsLegal e l))
+          | inr ne ↦ in_below n p (omega (arith, lt, ne)) l
+        ]
+      ]
 
       -- a listed step is a local move
       pub step_out : (x : Step P) → Contains steps x
@@ -272,7 +259,7 @@ module _ (touch : List Touch) where
       unfolding steps step
       step_in y (p, move, number) =
           let (l, same) = move_is p y.to move in
-          let here = in_below (length cells) p l.place l in
+          let here = in_below (length cells) p l.0 l in
           let count : taken p ≡ y.taken = (let n = number_taken p l in
           let m = subst (λ z. IsNumberTaken cells z y.taken) same number in omega (arith, n, m)) in
           subst (Contains (steps_below (length cells))) (λ i. record { to = to (sym same i); taken = count i }) here
@@ -312,10 +299,6 @@ count_stone cells c p lt holds =
     let one = sum_by-set weight cells p cell.Empty cell.Empty lt in
     let here : weight (get_or cells p cell.Empty) ≡ weight (stone c) = ap weight holds in
     omega (arith, one, here, weight-stone c)
-
-path_start : (Next : ℕ → ℕ → Type 0) (In : ℕ → Type 0) (p q : ℕ) (rest : List ℕ) → Path Next In p rest q → In p
-path_start Next In p q [] w = w.0
-path_start Next In p q (s ∷ rest) w = w.0
 
 module _ (r : Region) (g : Graph) (of : IsGraphOf r g) where
   moves_of : (i : ℕ) (cells : List Cell) → IsPlaceOf r g i cells → HasMoves r.touch cells g.positions (edges_at g.edges i)
@@ -400,7 +383,7 @@ module _ (r : Region) (g : Graph) (of : IsGraphOf r g) where
       let move = m.1 in
       let long = plays_long r.touch r.cells cells has.reachable.0 has.reachable.1 in
       let free = count_free cells e.place move.place move.free in
-      let stone = count_stone m.0 e.colour e.place (omega (arith, move.place, long_after move)) (path_start _ _ e.place move.stands.0 move.stands.1.0 move.stands.1.1) in
+      let stone = count_stone m.0 e.colour e.place (omega (arith, move.place, long_after move)) (leads_start _ _ e.place move.stands.0 move.stands.1) in
       omega (arith, m.2.number, free, stone, long)
 
 -- The steps of a graph are its edges, by player.

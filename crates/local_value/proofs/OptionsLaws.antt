@@ -1,5 +1,5 @@
 -- What is remembered, the ids after the edges of a place as the store grows, the form of those ids, and what it shares with each tree of the edges.
-use Rattle.std.proofs.Common.{ℕ, ◌+◌, ◌^◌, ◌≡◌, ◌<◌, ◌↔◌, arith, inl, inr, sym, ap, ap₂, true, Bool, get_or, subst, ◌∙◌, List, [], length, cond, Option, Some, Result, Ok, Err, OnOk, OnErr, nat_eq, ℤ, ◌+ℤ◌, ◌≤◌, to_z, of_z, w32, ◌*◌, refl, pos, neg_ℤ, ◌*ℤ◌, ◌⊎◌, ◌∷◌, ◌++◌, take, Contains}
+use Rattle.std.proofs.Common.{ℕ, ◌+◌, ◌^◌, ◌≡◌, ◌<◌, ◌↔◌, arith, inl, inr, sym, ap, ap₂, true, Bool, get_or, subst, ◌∙◌, List, [], length, cond, Option, Some, Result, Ok, Err, OnOk, OnErr, nat_eq, ℤ, ◌+ℤ◌, ◌≤◌, to_z, of_z, w32, ◌*◌, refl, pos, neg_ℤ, ◌*ℤ◌, ◌∷◌, ◌++◌, take, Contains}
 use Rattle.std.specs.Str.{bytes_eq}
 use Rattle.std.specs.Ordering.{int_eq}
 use Rattle.std.specs.Map.{lookup}
@@ -28,6 +28,7 @@ use Rattle.short_games.proofs.StopLaws.{num-scaled}
 use Rattle.game_canon.specs.declared.errors.FormError.TheVariants.{Bounds, Parts, Memory}
 use Rattle.game_canon.specs.Changes.{IsSumRefusal}
 use Rattle.sum_outcome.specs.Players.{credit, gain, options}
+use Rattle.game_canon.proofs.ChangeSteps.{extends-on}
 use Rattle.game_canon.proofs.NumberParts.{sum-fits, same-sum}
 use Rattle.local_value.specs.inner.Valuing.{noted, IsWithinAfter, IsAfter, most_units, IsNoted, tree_after, AreWithinAfter, AreAfter, AreBothAfter, IsAdded, HasEdges}
 use Rattle.std.proofs.lemmas.List.{get_or_default, length-append, get_or_append_left, get_or_push, take_all, take_more}
@@ -194,9 +195,6 @@ value-summed Ts Us ids e stones id is x lt s =
 
 -- The ids after the edges of a place, as the store grows.
 
-pub extends-both : {Ts Us Vs : List Tree} → Extends Ts Us → Extends Us Vs → Extends Ts Vs
-extends-both a b = record { longer = omega (arith, a.longer, b.longer); same = λ i l. b.same i (omega (arith, l, a.longer)) ∙ a.same i l }
-
 -- what is noted stays so
 module _ {Ts Us : List Tree} (x : Extends Ts Us) (ids : List ℕ) where
   noted-kept : (i : ℕ) → IsNoted Ts ids i → IsNoted Us ids i × (noted Us ids i ≡ noted Ts ids i)
@@ -252,22 +250,13 @@ module _ {Ts Us : List Tree} {ids : List ℕ} {c : Colour} {es : List Edge} {n :
   edge_among : Contains es e
   edge_among = Contains-get_or es n no_edge among
 
-  last-or : (d : Edge) → Contains (take (n + 1) es) d → Contains (take n es) d ⊎ (e ≡ d)
-  last-or d h = Contains-push_cases (take n es) e d (subst (λ z. Contains z d) next h)
-
-  sooner : (d : Edge) → Contains (take n es) d → Contains (take (n + 1) es) d
-  sooner d h = subst (λ z. Contains z d) (sym next) (Contains-append_left (take n es) (e ∷ []) d h)
-
-  last : Contains (take (n + 1) es) e
-  last = subst (λ z. Contains z e) (sym next) (Contains-push (take n es) e)
-
   listing-skip : {Vs : List Tree} → Extends Us Vs → (e.colour ≡ c → ⊥) → IsListing Ts Vs ids c es (n + 1) afters
-  listing-skip x other =
+  listing-skip {Vs} x other =
       let old = all-kept x w.so_far in record {
-        kept = extends-both w.kept x;
-        so_far = record {
-          from = λ j lt. (let f = old.from j lt in (f.0, sooner f.0 f.1, f.2, f.3));
-          to = λ d h s. elim (last-or d h) [ inl i ↦ old.to d i s | inr i ↦ absurd (other (ap (λ z. z.colour) i ∙ s)) ];
+        kept = extends-on Ts Us Vs w.kept x;
+        so_far = subst (λ z. AreAfter Ts Vs ids c z afters) (sym next) record {
+          from = λ j lt. (let f = old.from j lt in (f.0, Contains-append_left (take n es) (e ∷ []) f.0 f.1, f.2, f.3));
+          to = λ d h s. elim (Contains-push_cases (take n es) e d h) [ inl i ↦ old.to d i s | inr i ↦ absurd (other (ap (λ z. z.colour) i ∙ s)) ];
         };
       }
 
@@ -279,7 +268,10 @@ module _ {Ts Us : List Tree} {ids : List ℕ} {c : Colour} {es : List Edge} {n :
     step-within b small = within-on w.kept ids e b (noted e edge_among) (small e edge_among)
 
     listing-push : {Vs : List Tree} (id : ℕ) → e.colour ≡ c → Extends Us Vs → IsAfter Us Vs ids e id → IsListing Ts Vs ids c es (n + 1) (afters ++ id ∷ [])
-    listing-push {Vs} id same x a = record { kept = extends-both w.kept x; so_far = record { from = from; to = to } }
+    listing-push {Vs} id same x a = record {
+      kept = extends-on Ts Us Vs w.kept x;
+      so_far = subst (λ z. AreAfter Ts Vs ids c z (afters ++ id ∷ [])) (sym next) record { from = from; to = to };
+    }
       where
         old : AreAfter Ts Vs ids c (take n es) afters
         old = all-kept x w.so_far
@@ -290,12 +282,12 @@ module _ {Ts Us : List Tree} {ids : List ℕ} {c : Colour} {es : List Edge} {n :
         more : length (afters ++ id ∷ []) ≡ length afters + 1
         more = length-append afters (id ∷ [])
 
-        from : (j : ℕ) → j < length (afters ++ id ∷ []) → (d : Edge) × Contains (take (n + 1) es) d × (d.colour ≡ c) × IsAfter Ts Vs ids d (get_or (afters ++ id ∷ []) j 0)
-        from = push_one (λ _ i. (d : Edge) × Contains (take (n + 1) es) d × (d.colour ≡ c) × IsAfter Ts Vs ids d i) afters id 0
-            (λ j l. let f = old.from j l in (f.0, sooner f.0 f.1, f.2, f.3)) (e, last, same, here)
+        from : (j : ℕ) → j < length (afters ++ id ∷ []) → (d : Edge) × Contains (take n es ++ e ∷ []) d × (d.colour ≡ c) × IsAfter Ts Vs ids d (get_or (afters ++ id ∷ []) j 0)
+        from = push_one (λ _ i. (d : Edge) × Contains (take n es ++ e ∷ []) d × (d.colour ≡ c) × IsAfter Ts Vs ids d i) afters id 0
+            (λ j l. let f = old.from j l in (f.0, Contains-append_left (take n es) (e ∷ []) f.0 f.1, f.2, f.3)) (e, Contains-push (take n es) e, same, here)
 
-        to : (d : Edge) → Contains (take (n + 1) es) d → d.colour ≡ c → (j : ℕ) × (j < length (afters ++ id ∷ [])) × IsAfter Ts Vs ids d (get_or (afters ++ id ∷ []) j 0)
-        to d h s = elim (last-or d h) [
+        to : (d : Edge) → Contains (take n es ++ e ∷ []) d → d.colour ≡ c → (j : ℕ) × (j < length (afters ++ id ∷ [])) × IsAfter Ts Vs ids d (get_or (afters ++ id ∷ []) j 0)
+        to d h s = elim (Contains-push_cases (take n es) e d h) [
           | inl i ↦ (let t = old.to d i s in (t.0, omega (arith, t.1, more), subst (IsAfter Ts Vs ids d) (sym (get_or_append_left afters (id ∷ []) 0 t.0 t.1)) t.2))
           | inr i ↦ (length afters, omega (arith, more), subst (λ z. IsAfter Ts Vs ids z (get_or (afters ++ id ∷ []) (length afters) 0)) i (subst (IsAfter Ts Vs ids e) (sym (get_or_push afters id 0 (length afters) refl)) here))
         ]

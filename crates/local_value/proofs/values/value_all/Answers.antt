@@ -1,11 +1,10 @@
 use Rattle.std.proofs.Common.{arith, refl}
 use Rattle.std.proofs.lemmas.Result.{err_from_is_err_and}
 use Rattle.go_grid.specs.Region.{Region}
-use Rattle.game_canon.proofs.ChangeSteps.{passed-on}
+use Rattle.game_canon.proofs.ChangeSteps.{extends-on, passed-on}
 use Rattle.game_canon.proofs.NumberParts.{within-bounds}
 use Rattle.local_value.specs.Refusals.{IsValueRefusal}
 use Rattle.local_value.specs.Values.{IsGraphOf}
-use Rattle.local_value.proofs.OptionsLaws.{extends-both}
 use Rattle.local_value.proofs.PassLaws.{call, order_done, pass-parts, pass-sizes, pass-start, pass-values}
 use Rattle.local_value.proofs.values.value_all.Goals as goal
 
@@ -26,7 +25,7 @@ value_of-requires-clause-small c = let (r, of) = c.requires.graph in
 
 pub valuing-preserved : goal.valuing-preserved
 valuing-preserved c = record {
-  kept = extends-both c.valuing.invariant.kept c.value_of.ensures.kept;
+  kept = extends-on _ _ _ c.valuing.invariant.kept c.value_of.ensures.kept;
   pass = λ r of.
       (call of (c.valuing.invariant.pass r of) c.order-place-items.ensures c.edges-edges.ensures c.deref.ensures.value c.valuing-test.true).step
       c.value_of.new.store c.in_ok-id.id c.value_of.ensures.kept c.in_ok-id.ensures.value c.in_ok-id.ensures.sizes c.in_ok-id.ensures.parts;
