@@ -157,10 +157,7 @@ pick-has Ts (x ∷ xs) zero h = inl refl
 pick-has Ts (x ∷ xs) (suc j) h = inr (pick-has Ts xs j (omega arith))
 
 -- ascending lists with the same ids are the same
-ascending-rest : (x : ℕ) (xs : List ℕ) → IsAscending (x ∷ xs) → IsAscending xs
-ascending-rest x xs a i j l h = a (suc i) (suc j) (omega arith) (omega arith)
-
-Within_list : List ℕ → List ℕ → Type 0
+abbrev Within_list : List ℕ → List ℕ → Type 0
 Within_list xs ys = (i : ℕ) → i < length xs → (j : ℕ) × (j < length ys) × (get_or xs i 0 ≡ get_or ys j 0)
 
 heads-le : (x y : ℕ) (xs ys : List ℕ) → IsAscending (x ∷ xs) → (j : ℕ) × (j < length (x ∷ xs)) × (y ≡ get_or (x ∷ xs) j 0) → x ≤ y
@@ -168,7 +165,6 @@ heads-le x y xs ys a (zero, l, e) = omega (arith, e)
 heads-le x y xs ys a (suc j, l, e) = omega (arith, e, a 0 (suc j) (omega arith) l)
 
 rest-within : (x y : ℕ) (xs ys : List ℕ) → x ≡ y → IsAscending (x ∷ xs) → Within_list (x ∷ xs) (y ∷ ys) → Within_list xs ys
-unfolding Within_list
 rest-within x y xs ys e a f i l = at (f (suc i) (omega arith))
   where
     at : (j : ℕ) × (j < length (y ∷ ys)) × (get_or xs i 0 ≡ get_or (y ∷ ys) j 0) → (j : ℕ) × (j < length ys) × (get_or xs i 0 ≡ get_or ys j 0)
@@ -176,7 +172,6 @@ rest-within x y xs ys e a f i l = at (f (suc i) (omega arith))
     at (suc j, k, p) = (j, omega (arith, k), p)
 
 same-ids : (xs ys : List ℕ) → IsAscending xs → IsAscending ys → Within_list xs ys → Within_list ys xs → xs ≡ ys
-unfolding Within_list
 same-ids [] [] a b f g = refl
 same-ids [] (y ∷ ys) a b f g = absurd (let r = g 0 (omega arith) in omega (arith, r.1))
 same-ids (x ∷ xs) [] a b f g = absurd (let r = f 0 (omega arith) in omega (arith, r.1))
@@ -184,10 +179,9 @@ same-ids (x ∷ xs) (y ∷ ys) a b f g =
     let p : x ≤ y = heads-le x y xs ys a (g 0 (omega arith)) in
     let q : y ≤ x = heads-le y x ys xs b (f 0 (omega arith)) in
     let e : x ≡ y = omega (arith, p, q) in
-    ap₂ ◌∷◌ e (same-ids xs ys (ascending-rest x xs a) (ascending-rest y ys b) (rest-within x y xs ys e a f) (rest-within y x ys xs (sym e) b g))
+    ap₂ ◌∷◌ e (same-ids xs ys (λ i j l h. a (suc i) (suc j) (omega arith) (omega arith)) (λ i j l h. b (suc i) (suc j) (omega arith) (omega arith)) (rest-within x y xs ys e a f) (rest-within y x ys xs (sym e) b g))
 
 within-from : (Ts : List Tree) → AreDistinct Ts → (xs ys : List ℕ) → AreIds Ts xs → AreIds Ts ys → sorted (pick Ts xs) ≡ sorted (pick Ts ys) → Within_list xs ys
-unfolding Within_list
 within-from Ts d xs ys p q e i l =
     let h = sorted-has (pick Ts ys) _ (subst (λ z. Has z (tree_at Ts (get_or xs i 0))) e (has-sorted (pick Ts xs) _ (pick-has Ts xs i l))) in
     let r = has-pick Ts ys _ h in

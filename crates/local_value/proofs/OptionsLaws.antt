@@ -292,18 +292,15 @@ module _ {Ts Us : List Tree} {ids : List ℕ} {c : Colour} {es : List Edge} {n :
           | inr i ↦ (length afters, omega (arith, more), subst (λ z. IsAfter Ts Vs ids z (get_or (afters ++ id ∷ []) (length afters) 0)) i (subst (IsAfter Ts Vs ids e) (sym (get_or_push afters id 0 (length afters) refl)) here))
         ]
 
-black-white : Black ≡ White → ⊥
-black-white e = cc
-
 -- the loop goes on for both players
 pub listing-add : {Ts Us Vs : List Tree} {ids : List ℕ} {es : List Edge} {n : ℕ} (before now : Options) (id : ℕ) (c : Colour) → n < length es
     → IsListing Ts Us ids Black es n before.left.items → IsListing Ts Us ids White es n before.right.items
     → c ≡ (get_or es n no_edge).colour → Extends Us Vs → ((d : Edge) → Contains es d → IsNoted Ts ids d.next) → IsAfter Us Vs ids (get_or es n no_edge) id → IsAdded c id before now
     → IsListing Ts Vs ids Black es (n + 1) now.left.items × IsListing Ts Vs ids White es (n + 1) now.right.items
 listing-add before now id Black among l r same x noted a (added, other) =
-    rw (added, other) (listing-push l among noted id (sym same) x a, listing-skip r among x (λ w. black-white (same ∙ w)))
+    rw (added, other) (listing-push l among noted id (sym same) x a, listing-skip r among x (λ w. let e : Black ≡ White = same ∙ w in cc))
 listing-add before now id White among l r same x noted a (other, added) =
-    rw (added, other) (listing-skip l among x (λ b. black-white (sym (same ∙ b))), listing-push r among noted id (sym same) x a)
+    rw (added, other) (listing-skip l among x (λ b. let e : White ≡ Black = same ∙ b in cc), listing-push r among noted id (sym same) x a)
 
 pub listing-done : {Ts Us : List Tree} {ids : List ℕ} {es : List Edge} {n : ℕ} {ls rs : List ℕ} → length es ≤ n
     → IsListing Ts Us ids Black es n ls → IsListing Ts Us ids White es n rs → AreBothAfter Ts Us ids es ls rs

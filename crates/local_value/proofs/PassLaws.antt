@@ -90,9 +90,6 @@ pub record IsCall (r : Region) (g : Graph) (limit : ℕ) (Ts : List Tree) (ids :
 room : (j k c t x : ℕ) → j < k → t < c → x ≤ (suc j * c) * 2 ^ 60 → x + t * 2 ^ 60 ≤ (k * c + (c - 1)) * 2 ^ 60
 room j k c t x lt less le = let m : suc j * c ≤ k * c = mul-le-mul_right c (omega (arith, lt)) in omega (arith, m, le, less)
 
-canonical_of : (G : Tree) → (C : Tree) × IsCanonicalFor G C
-canonical_of G = let c = canon TextBefore text-order.total G in (c.tree, record { canonical = c.canonical; under = c.under; over = c.over })
-
 module _ {r : Region} {g : Graph} (of : IsGraphOf r g) where
   place_inside : (k : ℕ) → k < length g.order → place g k < length g.positions
   place_inside k lt = omega (arith, of.order.inside k lt, of.graph.beside)
@@ -222,8 +219,9 @@ module _ {r : Region} {g : Graph} (of : IsGraphOf r g) where
       pass-refused e cause =
           let (cells, has) = position_at r g of (place g k) (place_inside k lt) in
           let n = 3 ^ length cells in
-          let c = canonical_of (graph_tree g n (place g k)) in
-          refusal (graph_tree g n (place g k)) c.0 e (record { cells = cells; place = has; value = value_of (place g k) cells c.0 has c.1 }) c.1
+          let c = canon TextBefore text-order.total (graph_tree g n (place g k)) in
+          let k' : IsCanonicalFor (graph_tree g n (place g k)) c.tree = record { canonical = c.canonical; under = c.under; over = c.over } in
+          refusal (graph_tree g n (place g k)) c.tree e (record { cells = cells; place = has; value = value_of (place g k) cells c.tree has k' }) k'
           (cause (graph_tree g n (place g k)) (has_edges n (deep (place g k) cells has)))
         where
           refusal : (G V : Tree) (e : FormError) → IsValueAt r g (place g k) V → IsCanonicalFor G V → IsCause G limit e → IsValueRefusal r g limit e
@@ -253,11 +251,11 @@ module _ {r : Region} {g : Graph} (of : IsGraphOf r g) where
         }
 
     -- what a pass over all places gives
-    module _ (done : length g.order ≤ k) where
+    module _ {order : List ℕ} (o : order ≡ g.order) (done : length order ≤ k) where
       valued : (i : ℕ) → i < length ids → (j : ℕ) × (j < length g.order) × IsValued r g limit Ts ids (most r j) i
       valued i lt =
           let (j, short, at) = of.order.every i (omega (arith, lt, pass.long, of.graph.beside)) in
-          (j, short, subst (IsValued r g limit Ts ids (most r j)) (get_or_default g.order j 0 i short ∙ at) (pass.each j (omega (arith, short, done))))
+          (j, short, subst (IsValued r g limit Ts ids (most r j)) (get_or_default g.order j 0 i short ∙ at) (pass.each j (omega (arith, short, done, ap (λ (z : List ℕ). length z) o))))
 
       pub pass-values : AreValues r g Ts ids
       pass-values = record {
@@ -278,6 +276,3 @@ module _ {r : Region} {g : Graph} (of : IsGraphOf r g) where
 
       pub pass-parts : (i : ℕ) → i < length ids → HasMoreParts (noted Ts ids i) limit → ⊥
       pass-parts i lt = (valued i lt).2.1.parts
-
-pub order_done : {k : ℕ} {order places : List ℕ} → order ≡ places → length order ≤ k → length places ≤ k
-order_done {k} o le = subst (λ z. length z ≤ k) o le

@@ -5,7 +5,7 @@ use Rattle.game_canon.proofs.ChangeSteps.{extends-on, passed-on}
 use Rattle.game_canon.proofs.NumberParts.{within-bounds}
 use Rattle.local_value.specs.Refusals.{IsValueRefusal}
 use Rattle.local_value.specs.Values.{IsGraphOf}
-use Rattle.local_value.proofs.PassLaws.{call, order_done, pass-parts, pass-sizes, pass-start, pass-values}
+use Rattle.local_value.proofs.PassLaws.{call, pass-parts, pass-sizes, pass-start, pass-values}
 use Rattle.local_value.proofs.values.value_all.Goals as goal
 
 pub valuing-init : goal.valuing-init
@@ -40,22 +40,18 @@ returns-in_err-id-clause-refusal c = passed-on c.from_residual-in_err-id.result 
 
 pub returns-clause-values : goal.returns-clause-values
 returns-clause-values c =
-    let done = order_done c.order-place-items.ensures c.valuing-test.false in
-    rw c.from.ensures (λ r of. pass-values of (c.valuing.invariant.pass r of) done)
+    rw c.from.ensures (λ r of. pass-values of (c.valuing.invariant.pass r of) c.order-place-items.ensures c.valuing-test.false)
 
 pub returns-clause-sizes : goal.returns-clause-sizes
 returns-clause-sizes c =
-    let done = order_done c.order-place-items.ensures c.valuing-test.false in
-    rw c.from.ensures (λ r of i lt. pass-sizes of (c.valuing.invariant.pass r of) done i lt)
+    rw c.from.ensures (λ r of i lt. pass-sizes of (c.valuing.invariant.pass r of) c.order-place-items.ensures c.valuing-test.false i lt)
 
 pub returns-clause-parts : goal.returns-clause-parts
 returns-clause-parts c =
     let (r, of) = c.requires.graph in
-    let done = order_done c.order-place-items.ensures c.valuing-test.false in
-    rw c.from.ensures (λ i lt. pass-parts of (c.valuing.invariant.pass r of) done i lt)
+    rw c.from.ensures (λ i lt. pass-parts of (c.valuing.invariant.pass r of) c.order-place-items.ensures c.valuing-test.false i lt)
 
 pub returns-clause-bounds : goal.returns-clause-bounds
 returns-clause-bounds c =
     let (r, of) = c.requires.graph in
-    let done = order_done c.order-place-items.ensures c.valuing-test.false in
-    rw c.from.ensures (λ i lt. within-bounds c.valuing.store c.len-count.ensures.forms _ ((pass-values of (c.valuing.invariant.pass r of) done).known i lt))
+    rw c.from.ensures (λ i lt. within-bounds c.valuing.store c.len-count.ensures.forms _ ((pass-values of (c.valuing.invariant.pass r of) c.order-place-items.ensures c.valuing-test.false).known i lt))

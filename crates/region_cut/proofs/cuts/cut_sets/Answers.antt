@@ -44,8 +44,5 @@ returns-clause-regions c =
     cut_all g parts c.cutting.regions.items c.cutting.number are
     (omega (arith, c.size-size.ensures.area, c.area-number-end.ensures.value)) c.cutting.invariant
 
-pub returns-clause-walled : goal.returns-clause-walled
-returns-clause-walled c r h = (c.cutting.invariant.each r h).0.walled
-
 pub returns-clause-local : goal.returns-clause-local
 returns-clause-local c r h = plays_locally c.args.board.now r c.requires.settled (c.cutting.invariant.each r h).0.play
