@@ -1,5 +1,5 @@
 -- Regions of play: what stands next to them, their links, and all of them, lowest point by lowest point.
-use Rattle.std.proofs.Common.{ℕ, inl, inr, ◌≡◌, ◌+◌, ◌<◌, sym, ◌∙◌, arith, refl, subst, List, [], ◌∷◌, ◌++◌, length, get_or, Option, None, Some, below_more, ◌↔◌, ◌*◌, ◌≤◌, ◌⊎◌, Bool, true, false}
+use Rattle.std.proofs.Common.{ℕ, zero, suc, inl, inr, ◌≡◌, ◌+◌, ◌<◌, sym, ◌∙◌, arith, refl, subst, List, [], ◌∷◌, ◌++◌, length, get_or, Option, None, Some, below_more, ◌↔◌, ◌*◌, ◌≤◌, ◌⊎◌, Bool, true, false}
 use Rattle.go_grid.specs.declared.grid.Colour.{Colour}
 use Rattle.go_grid.specs.declared.grid.Colour.TheVariants as colour
 use Rattle.go_grid.specs.Board.{Board, NextTo, Lacks, cell_at, stone, IsAbove, IsLeftOf, IsThe, AreNear}
@@ -17,7 +17,7 @@ use Rattle.go_grid.proofs.LinkLemmas.{same_point, link_at, linked_to}
 use Rattle.region_cut.specs.inner.Places.{IsPlace, IsTouch}
 use Rattle.local_play.specs.LocalPlay.{IsLinked}
 use Rattle.std.specs.List.Sorted.{IsStrictlyIncreasing}
-use Rattle.std.proofs.lemmas.Bool.{both_ways, cases_Bool, cases_lt, cases_eq}
+use Rattle.std.proofs.lemmas.Bool.{both_ways, cases_Bool, cases_eq}
 use Rattle.std.proofs.lemmas.List.Elements.{Contains-get_or, Contains-push, Contains-push_cases, Contains-append_left}
 use Rattle.std.proofs.lemmas.Map.Keys.{sorted_from_strictly_increasing, below_from_sorted}
 use Rattle.go_grid.specs.declared.grid.Cell.{Cell}
@@ -130,15 +130,12 @@ links_are_next r reg i j lt = (there, back)
 -- the lowest of ascending points stands first
 pub first_is : (points : List ℕ) (start : ℕ) → IsStrictlyIncreasing points → Contains points start
     → ((p : ℕ) → Contains points p → start ≤ p) → get_or points 0 0 ≡ start
-first_is points start rising (k, lt, e) least =
-    let low = least (get_or points 0 0) (Contains-get_or points 0 0 (omega arith)) in
-    let at : get_or points k 0 ≡ start = get_or_default points k 0 start lt ∙ e in
-    elim (cases_lt 0 k) as (λ _. get_or points 0 0 ≡ start) [
-      | inl more ↦
-          let less = below_from_sorted points 0 k 0 (sorted_from_strictly_increasing points rising) more lt in
-          omega (arith, less, at, low)
-      | inr none ↦ let z : k ≡ 0 = omega arith in subst (λ n. get_or points n 0 ≡ start) z at
-    ]
+first_is points start rising (zero, lt, e) least = get_or_default points 0 0 start lt ∙ e
+first_is points start rising (suc k, lt, e) least =
+    let low = least (get_or points 0 0) (Contains-get_or points 0 0 (omega (arith, lt))) in
+    let at : get_or points (suc k) 0 ≡ start = get_or_default points (suc k) 0 start lt ∙ e in
+    let less = below_from_sorted points 0 (suc k) 0 (sorted_from_strictly_increasing points rising) (omega arith) lt in
+    absurd (omega (arith, less, at, low))
 
 -- the listed points are those of the region
 pub region_lists : (g : Board) {k start : ℕ} (within part : List Bool) {points : List ℕ} → k ≡ g.columns → Marks within (IsContested g)
@@ -269,44 +266,42 @@ pub record CutBelow (g : Board) (parts : List ℕ) (regions : List Region) (n : 
   pub every : (p : ℕ) → IsContested g p → label parts p < n → (r : Region) × Contains regions r × Contains r.points p
   pub ascending : AllPairs (λ r s. lowest r < lowest s) regions
 
-pub cut_skip : (g : Board) (parts : List ℕ) (regions : List Region) (n : ℕ) → AreParts g.columns (IsContested g) parts
-    → (IsContested g n → ¬ (label parts n ≡ n)) → CutBelow g parts regions n → CutBelow g parts regions (n + 1)
-cut_skip g parts regions n are other s = record {
-  each = λ r h. let w = s.each r h in (w.0, omega (arith, w.1));
-  every = λ p h lt. elim (cases_eq (label parts p) n) as (λ _. (r : Region) × Contains regions r × Contains r.points p) [
-    | inl e ↦
-        let own = label_in g.columns (IsContested g) parts are p h in
-        absurd (other (subst (IsContested g) e own.0) (subst (λ x. label parts x ≡ x) e own.1))
-    | inr ne ↦ s.every p h (omega arith)
-  ];
-  ascending = s.ascending;
-}
+module _ {g : Board} {parts : List ℕ} {regions : List Region} {n : ℕ} (are : AreParts g.columns (IsContested g) parts) (s : CutBelow g parts regions n) where
+  pub cut_skip : (IsContested g n → ¬ (label parts n ≡ n)) → CutBelow g parts regions (n + 1)
+  cut_skip other = record {
+    each = λ r h. let w = s.each r h in (w.0, omega (arith, w.1));
+    every = λ p h lt. elim (cases_eq (label parts p) n) as (λ _. (r : Region) × Contains regions r × Contains r.points p) [
+      | inl e ↦
+          let own = label_in g.columns (IsContested g) parts are p h in
+          absurd (other (subst (IsContested g) e own.0) (subst (λ x. label parts x ≡ x) e own.1))
+      | inr ne ↦ s.every p h (omega arith)
+    ];
+    ascending = s.ascending;
+  }
 
-pub cut_push : (g : Board) (parts : List ℕ) (regions : List Region) (r : Region) (n : ℕ) → AreParts g.columns (IsContested g) parts
-    → IsCut g r → lowest r ≡ n → CutBelow g parts regions n → CutBelow g parts (regions ++ r ∷ []) (n + 1)
-cut_push g parts regions r n are is first s = record {
-  each = λ t h. elim (Contains-push_cases regions r t h) as (λ _. IsCut g t × (lowest t < n + 1)) [
-    | inl old ↦ let w = s.each t old in (w.0, omega (arith, w.1))
-    | inr e ↦ subst (λ (x : Region). IsCut g x × (lowest x < n + 1)) e (is, omega arith)
-  ];
-  every = λ p h lt. elim (cases_eq (label parts p) n)
-      as (λ _. (t : Region) × Contains (regions ++ r ∷ []) t × Contains t.points p) [
-        | inl e ↦
-            let from : InRegionOfPlay g p (lowest r) = subst (InRegionOfPlay g p) (e ∙ sym first) (are.joined p h) in
-            (r, Contains-push regions r, (is.play.points p).1 (joined_back g.columns (IsContested g) p (lowest r) from))
-        | inr ne ↦ let w = s.every p h (omega arith) in (w.0, Contains-append_left regions (r ∷ []) w.0 w.1, w.2)
-      ];
-  ascending = all_pairs_push (λ r s. lowest r < lowest s) regions r s.ascending
-      (λ k d lt. let w = (s.each (get_or regions k d) (Contains-get_or regions k d lt)).1 in omega (arith, w, first));
-}
+  pub cut_push : (r : Region) → IsCut g r → lowest r ≡ n → CutBelow g parts (regions ++ r ∷ []) (n + 1)
+  cut_push r is first = record {
+    each = λ t h. elim (Contains-push_cases regions r t h) as (λ _. IsCut g t × (lowest t < n + 1)) [
+      | inl old ↦ let w = s.each t old in (w.0, omega (arith, w.1))
+      | inr e ↦ subst (λ (x : Region). IsCut g x × (lowest x < n + 1)) e (is, omega arith)
+    ];
+    every = λ p h lt. elim (cases_eq (label parts p) n)
+        as (λ _. (t : Region) × Contains (regions ++ r ∷ []) t × Contains t.points p) [
+          | inl e ↦
+              let from : InRegionOfPlay g p (lowest r) = subst (InRegionOfPlay g p) (e ∙ sym first) (are.joined p h) in
+              (r, Contains-push regions r, (is.play.points p).1 (joined_back g.columns (IsContested g) p (lowest r) from))
+          | inr ne ↦ let w = s.every p h (omega arith) in (w.0, Contains-append_left regions (r ∷ []) w.0 w.1, w.2)
+        ];
+    ascending = all_pairs_push (λ r s. lowest r < lowest s) regions r s.ascending
+        (λ k d lt. let w = (s.each (get_or regions k d) (Contains-get_or regions k d lt)).1 in omega (arith, w, first));
+  }
 
-pub cut_all : (g : Board) (parts : List ℕ) (regions : List Region) (n : ℕ) → AreParts g.columns (IsContested g) parts
-    → length g.cells ≡ n → CutBelow g parts regions n → AreRegionsOfPlay g regions
-cut_all g parts regions n are full s = record {
-  each = λ r h. (s.each r h).0.play;
-  every = λ p h. s.every p h (let low = are.lowest p h in omega (arith, h.0, low));
-  ascending = s.ascending;
-}
+  pub cut_all : length g.cells ≡ n → AreRegionsOfPlay g regions
+  cut_all full = record {
+    each = λ r h. (s.each r h).0.play;
+    every = λ p h. s.every p h (let low = are.lowest p h in omega (arith, h.0, low));
+    ascending = s.ascending;
+  }
 
 -- a point that is its own label is the lowest of its region
 pub lowest_is : (g : Board) (parts : List ℕ) (n p : ℕ) → AreParts g.columns (IsContested g) parts → label parts n ≡ n
@@ -314,7 +309,7 @@ pub lowest_is : (g : Board) (parts : List ℕ) (n p : ℕ) → AreParts g.column
 lowest_is g parts n p are e h j = let same = are.same n p j in let low = are.lowest p h in omega (arith, same, low, e)
 
 -- the parts of the contested points
-pub parts_of : (g : Board) (k : ℕ) (within : List Bool) (parts : List ℕ) → k ≡ g.columns → Marks within (IsContested g)
+pub parts_of : (g : Board) (within : List Bool) {k : ℕ} {parts : List ℕ} → k ≡ g.columns → Marks within (IsContested g)
     → AreParts k (IsMarked within) parts → AreParts g.columns (IsContested g) parts
-parts_of g k within parts e is w =
+parts_of g within {k} {parts} e is w =
     subst (λ n. AreParts n (IsContested g) parts) e (parts_over k (IsMarked within) (IsContested g) parts is w)
