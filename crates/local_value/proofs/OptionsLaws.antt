@@ -104,9 +104,6 @@ kept same before now key id (Ok x) ok err Right new old k n e = elim (cases_Bool
   | inr f ↦ old k n (sym (ap (λ z. cond z (Some id) (get same before k)) f) ∙ sym (ok.0 k) ∙ e)
 ]
 
-nothing : {K S : Type 0} (same : K → K → Bool) (map : IndexMap K ℕ S) → map.entries ≡ [] → (k : K) (n : ℕ) → get same map k ≡ Some n → ⊥
-nothing same map e k n is = none-some n (sym (ap (λ es. lookup (same k) es) e) ∙ is)
-
 pub sum-kept : {S E : Type 0} (before now : IndexMap (ℕ × ℤ) ℕ S) (game : ℕ) (stones : ℤ) (sum : ℕ) (r : Result (Option ℕ) E)
     → OnOk r (Updates same_sum before now (game, stones) (Some sum)) → OnErr r (IsUnchanged before now)
     → (Ts : List Tree) → IsStonesSum Ts game stones sum → AreSumsRight Ts (recalled_sum before) → AreSumsRight Ts (recalled_sum now)
@@ -115,9 +112,6 @@ sum-kept before now game stones sum r ok err Ts s right g n id e =
     (λ k t. let p = and_parts (nat_eq game k.0) (int_eq stones k.1) t in
     subst (λ z. IsStonesSum Ts k.0 z sum) ((Decides-int_eq stones k.1).0 p.1) (subst (λ z. IsStonesSum Ts z stones sum) (eqb-true game k.0 p.0) s))
     (λ k i h. right k.0 k.1 i h) (g, n) id e
-
-pub sums-empty : {S : Type 0} (sums : IndexMap (ℕ × ℤ) ℕ S) → sums.entries ≡ [] → (Ts : List Tree) → AreSumsRight Ts (recalled_sum sums)
-sums-empty sums e Ts g n id k = absurd (nothing same_sum sums e (g, n) id k)
 
 pub form-kept : {S E : Type 0} (before now : IndexMap Options ℕ S) (key options : Options) (form : ℕ) (r : Result (Option ℕ) E)
     → OnOk r (Updates same_options before now key (Some form)) → OnErr r (IsUnchanged before now) → key.left.items ≡ options.left.items → key.right.items ≡ options.right.items
@@ -129,9 +123,6 @@ form-kept before now key options form r ok err left right Ts limit f known =
     let rs = sym right ∙ (bytes_eq-Decides key.right.items o.right.items).0 p.1 in
     subst (λ z. IsFormOf Ts limit o.left.items z form) rs (subst (λ z. IsFormOf Ts limit z options.right.items form) ls f))
     known
-
-pub forms-empty : {S : Type 0} (forms : IndexMap Options ℕ S) → forms.entries ≡ [] → (Ts : List Tree) (limit : ℕ) → AreFormsRight Ts limit (recalled_form forms)
-forms-empty forms e Ts limit o id k = absurd (nothing same_options forms e o id k)
 
 -- few stones are passed as they are
 pub held : (stones : ℤ) → unsigned_abs stones ≤ 255 → to_z w32 (of_z w32 stones) ≡ stones

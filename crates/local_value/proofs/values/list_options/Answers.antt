@@ -1,15 +1,7 @@
 use Rattle.std.proofs.Common.{refl}
-use Rattle.go_grid.specs.declared.grid.Colour.TheVariants.{Black, White}
 use Rattle.local_value.specs.inner.Valuing.{most_units}
-use Rattle.local_value.proofs.OptionsLaws.{listing-start, listing-add, listing-done, both-same, step-noted, step-within}
+use Rattle.local_value.proofs.OptionsLaws.{listing-add, listing-done, both-same, step-noted, step-within}
 use Rattle.local_value.proofs.values.list_options.Goals as goal
-
-pub loop-edge-init : goal.loop-edge-init
-loop-edge-init c = record {
-  left = listing-start c.args.store.now c.args.ids.now Black c.args.edges.now _ c.clear.ensures.items;
-  right = listing-start c.args.store.now c.args.ids.now White c.args.edges.now _ c.clear-2.ensures.items;
-  sums = c.requires.sums;
-}
 
 pub value_after-requires-clause-noted : goal.value_after-requires-clause-noted
 value_after-requires-clause-noted c = step-noted c.loop-edge.invariant.left c.loop-edge-test.true c.requires.noted
