@@ -1,10 +1,10 @@
 -- The floors and ceilings of forms, and what holds of a store's fields as a form is added.
-use Rattle.std.proofs.Common.{ℕ, ◌+◌, ◌<◌, ◌≡◌, List, length, get_or, arith, refl, sym, inl, inr, subst, ℤ, pos, ◌-ℤ◌, ◌+ℤ◌, ◌≤ℤ◌, [], ◌∷◌, ◌++◌, ◌∙◌, ap, ap₂, cond, nat_eq, Some, ◌↔◌, ◌<ℤ◌, Bool, true, take, drop}
+use Rattle.std.proofs.Common.{below_more, ℕ, ◌+◌, ◌<◌, ◌≡◌, List, length, get_or, arith, refl, sym, subst, ℤ, pos, ◌-ℤ◌, ◌+ℤ◌, ◌≤ℤ◌, [], ◌∷◌, ◌++◌, ◌∙◌, ap, ap₂, cond, nat_eq, Some, ◌↔◌, ◌<ℤ◌, Bool, true, take, drop}
 use Rattle.std.specs.Int.{int_max, int_min}
 use Rattle.std.proofs.lemmas.Int.{ints, by_lt_z}
-use Rattle.std.proofs.lemmas.Bool.{cases_lt, false≢true}
+use Rattle.std.proofs.lemmas.Bool.{false≢true}
 use Rattle.game_store.specs.declared.Slot.{Slot}
-use Rattle.dyadic_num.specs.Units.{IsInBounds, IsInReach}
+use Rattle.dyadic_num.specs.Units.{IsInBounds}
 use Rattle.short_games.specs.Tree.{Tree, Has, tree_at, node, none}
 use Rattle.short_games.specs.Number.{num, IsNumber, number_tree}
 use Rattle.short_games.specs.TextOrder.{sorted, IsCanonicalTree}
@@ -14,7 +14,7 @@ use Rattle.game_store.specs.inner.Places.{IsPlaced, ArePlaced, floor_at, ceiling
 use Rattle.short_games.specs.Stops.{IsLeftStop, IsRightStop}
 use Rattle.game_store.specs.Meaning.{pick, form, AreIds, AreBelow, IsAscending, Wanted, AreCanonical, IsIdOf}
 use Rattle.short_games.proofs.TextOrderLaws.{sorted-has, has-sorted}
-use Rattle.short_games.proofs.ReductionLaws.{canonical-number, number-canonical}
+use Rattle.short_games.proofs.ReductionLaws.{canonical-number}
 use Rattle.short_games.proofs.ThresholdLaws.{number-floor, number-ceiling, half-cell}
 use Rattle.short_games.proofs.StopLaws.{IsGreatest, IsLeast, ceiling-by, floor-by, number-left_stop, number-right_stop, game-left_stop, game-right_stop}
 use Rattle.game_store.proofs.Values.{has-pick, pick-has, joined-options, left-below, right-below, MayKeep, new-entry, IsNew, held-more, held-from, length-values, chained-more, chained-push, length-entries, kept-more, values-more, push_both}
@@ -62,19 +62,13 @@ pub record GreatestSoFar (slots : List Slot) (is : List ℕ) (n : ℕ) (x : ℤ)
 
 pub least_step : (slots : List Slot) (is : List ℕ) (n : ℕ) (x y z : ℤ) → LeastSoFar slots is n x → n < length is → y ≡ ceiling_at slots (get_or is n 0) → z ≡ int_min x y → LeastSoFar slots is (n + 1) z
 least_step slots is n x y z s l e d = record {
-  bound = λ j b. elim (cases_lt j n) [
-    | inl c ↦ (let q = s.bound j c in grind (arith, ints))
-    | inr c ↦ (let same : n ≡ j = omega (arith, b, c) in subst (λ i. z ≤ℤ ceiling_at slots (get_or is i 0)) same (grind (arith, ints)))
-  ];
+  bound = below_more (λ j. z ≤ℤ ceiling_at slots (get_or is j 0)) n (λ j c. (let q = s.bound j c in grind (arith, ints))) (grind (arith, ints));
   reached = by_lt_z y x (λ c. (n, l, grind (arith, ints))) (λ c. (s.reached.0, s.reached.1, (let q = s.reached.2 in grind (arith, ints))));
 }
 
 pub greatest_step : (slots : List Slot) (is : List ℕ) (n : ℕ) (x y z : ℤ) → GreatestSoFar slots is n x → n < length is → y ≡ floor_at slots (get_or is n 0) → z ≡ int_max x y → GreatestSoFar slots is (n + 1) z
 greatest_step slots is n x y z s l e d = record {
-  bound = λ j b. elim (cases_lt j n) [
-    | inl c ↦ (let q = s.bound j c in grind (arith, ints))
-    | inr c ↦ (let same : n ≡ j = omega (arith, b, c) in subst (λ i. floor_at slots (get_or is i 0) ≤ℤ z) same (grind (arith, ints)))
-  ];
+  bound = below_more (λ j. floor_at slots (get_or is j 0) ≤ℤ z) n (λ j c. (let q = s.bound j c in grind (arith, ints))) (grind (arith, ints));
   reached = by_lt_z x y (λ c. (n, l, grind (arith, ints))) (λ c. (s.reached.0, s.reached.1, (let q = s.reached.2 in grind (arith, ints))));
 }
 
@@ -88,13 +82,6 @@ number-placed x y b e = rw e record {
   left_stop = (x, number-left_stop 60 (num 60 x) x refl);
   right_stop = (x, number-right_stop 60 (num 60 x) x refl);
 }
-
--- one half part beside what a floor or a ceiling can be is in reach
-pub below-reach : (x : ℤ) → IsCeilingRange x → IsInReach (x -ℤ pos 1)
-below-reach x r = omega (arith, ints, r.0, r.1)
-
-pub above-reach : (x : ℤ) → IsFloorRange x → IsInReach (x +ℤ pos 1)
-above-reach x r = omega (arith, ints, r.0, r.1)
 
 pub record Holds (Ts : List Tree) (lists : List (List ℕ)) (slots : List Slot) (L : ℕ → Option ℕ) : Type 0 where
   pub all : IsKept lists (entries_of slots) × IsChained lists slots L × ArePlaced (values lists (entries_of slots)) slots
@@ -257,10 +244,6 @@ module _ {Ts : List Tree} {lists : List (List ℕ)} {slots : List Slot} {L : ℕ
 
       values_is : values lists (entries_of (slots ++ s ∷ [])) ≡ Ts ++ meaning Ts w ∷ []
       values_is = ap (values lists) es_is ∙ new.values_are ∙ ap (λ us. us ++ meaning us w ∷ []) h.values_are
-
--- a number may be kept
-pub may-number : (Ts : List Tree) (x : ℤ) → MayKeep Ts (number x)
-may-number Ts x = record { canonical = number-canonical 60 x; lists = tt }
 
 -- a slot behind the same slots
 pub slot-behind : (slots same more : List Slot) (s : Slot) → more ≡ same ++ s ∷ [] → same ≡ slots → more ≡ slots ++ s ∷ []

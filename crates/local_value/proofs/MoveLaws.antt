@@ -264,8 +264,6 @@ module _ (touch : List Touch) where
           let m = subst (λ z. IsNumberTaken cells z y.taken) same number in omega (arith, n, m)) in
           subst (Contains (steps_below (length cells))) (λ i. record { to = to (sym same i); taken = count i }) here
 
--- The edges of a graph are the local moves of its positions, and the steps of a game.
-
 -- A graph that was built is that of its region.
 
 pub graph_of : (r : Region) (g : Graph) (limit : ℕ) → length r.cells ≡ length r.points → Built r limit (Ok g) → IsGraphOf r g

@@ -3,7 +3,7 @@ use Rattle.std.proofs.Common.{ℕ, ◌+◌, ◌^◌, ◌≡◌, ◌<◌, ◌↔�
 use Rattle.std.specs.Str.{bytes_eq}
 use Rattle.std.specs.Ordering.{int_eq}
 use Rattle.std.specs.Map.{lookup}
-use Rattle.std.proofs.lemmas.Option.{none-some, same_Some}
+use Rattle.std.proofs.lemmas.Option.{same_Some}
 use Rattle.game_store.proofs.Values.{pick-same, has-pick, pick-has, push_one}
 use Rattle.std.proofs.lemmas.Bool.{cases_Bool, and_parts, eqb-true}
 use Rattle.std.proofs.lemmas.Bool.Decides.{Decides-int_eq}
@@ -128,8 +128,6 @@ form-kept before now key options form r ok err left right Ts limit f known =
 pub held : (stones : ℤ) → unsigned_abs stones ≤ 255 → to_z w32 (of_z w32 stones) ≡ stones
 held stones h = to_z-of_z w32 stones (fits_signed_from_abs w32 stones (omega (arith, ints, h)))
 
--- The ids after the edges of a place as the store grows, the form of those ids, and what it shares with each tree of the same edges.
-
 -- Stones as numbers.
 
 credit-tree : (c : Colour) (n : ℕ) (x : ℤ) → x ≡ credit c n *ℤ pos (2 ^ 60) → number_tree x ≡ gain c n
@@ -220,15 +218,6 @@ all-kept {Ts} {Us} {Vs} {ids} x all = record {
 pub record IsListing (Ts Us : List Tree) (ids : List ℕ) (c : Colour) (es : List Edge) (n : ℕ) (afters : List ℕ) : Type 0 where
   pub kept : Extends Ts Us
   pub so_far : AreAfter Ts Us ids c (take n es) afters
-
-pub listing-start : (Ts : List Tree) (ids : List ℕ) (c : Colour) (es : List Edge) (afters : List ℕ) → afters ≡ [] → IsListing Ts Ts ids c es 0 afters
-listing-start Ts ids c es afters e = record {
-  kept = record { longer = omega arith; same = λ i l. refl };
-  so_far = record {
-    from = λ j lt. absurd (omega (arith, subst (λ z. j < length z) e lt));
-    to = λ d h s. absurd (omega (arith, h.1));
-  };
-}
 
 module _ {Ts Us : List Tree} {ids : List ℕ} {c : Colour} {es : List Edge} {n : ℕ} {afters : List ℕ}
     (w : IsListing Ts Us ids c es n afters) (among : n < length es) where
@@ -401,9 +390,6 @@ module _ {Ts Us : List Tree} {ids ls rs : List ℕ} {es : List Edge} (a : AreBot
 
     pub form-sizes : IfOk r (IsFormOf Vs limit ls rs) → IfOk r (λ id. (b : ℕ) → AreWithinAfter b Ts ids es → AreWithin (b + 2 ^ 60) (tree_at Vs id))
     form-sizes = IfOk-weaker r _ _ (λ id f b w. f.sizes b (subst (AreOptionsWithin b) (sym form-same) (options-within b w)))
-
-    pub form-parts : IfOk r (IsFormOf Vs limit ls rs) → IfOk r (λ id. HasMoreParts (tree_at Vs id) limit → ⊥)
-    form-parts = IfOk-weaker r _ _ (λ id f. f.few)
 
     pub form-refused : IfErr r (λ e. IsCause (listed Us ls rs) limit e) → IfErr r (λ e. (G : Tree) → HasEdges Ts ids es G → IsCause G limit e)
     form-refused = IfErr-weaker r _ _ (λ e k G has. cause-as (listed Us ls rs) G limit e (edges-same G has) k)

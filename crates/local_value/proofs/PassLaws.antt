@@ -74,9 +74,6 @@ pub record IsPass (r : Region) (g : Graph) (limit : ℕ) (Ts : List Tree) (ids :
   pub long : length ids ≡ length g.positions
   pub each : (j : ℕ) → j < k → IsValued r g limit Ts ids (most r j) (place g j)
 
-pub pass-start : (r : Region) (g : Graph) (limit : ℕ) (Ts : List Tree) (ids : List ℕ) → length ids ≡ length g.positions → IsPass r g limit Ts ids 0
-pass-start r g limit Ts ids e = record { long = e; each = λ j lt. absurd (omega (arith, lt)) }
-
 -- a step of the pass, with the lists as the program lends them: what it asks, what it gives, and what a refusal means
 pub record IsCall (r : Region) (g : Graph) (limit : ℕ) (Ts : List Tree) (ids : List ℕ) (k at : ℕ) (es : List Edge) (vs : List ℕ) : Type 0 where
   pub noted : (e : Edge) → Contains es e → IsNoted Ts vs e.next

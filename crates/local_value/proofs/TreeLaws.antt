@@ -30,8 +30,6 @@ use Rattle.local_graph.specs.inner.Graph.{edges_at}
 use Rattle.local_value.specs.inner.GraphMoves.{step_of, steps_of}
 use Rattle.local_value.specs.Values.{IsGraphOf, IsPlaceOf}
 
--- Trees of local positions: their options are the local moves, and a depth that no play is longer than is as good as a greater one.
-
 -- The tree of a local position doesn't depend on the depth once that is long enough, and its options are the local moves.
 
 module _ (P : Type 0) (moves : Colour → P → List (Step P)) where
@@ -144,8 +142,6 @@ module _ (P : Type 0) (IsMove : Colour → P → Step P → Type 0) where
   depths-agree (suc n) zero p G H s t g h = same_options G H (λ c X x. absurd (no-option (suc n) p G t g c X x)) (λ c Y y. absurd (no-option 0 p H t h c Y y))
   depths-agree (suc n) (suc m) p G H s t g h =
       trees-alike P IsMove n m p G H g h (λ c x k X Y. depths-agree n m x.to X Y (step-short n p c x k s) (step-short m p c x k t))
-
--- The trees over the listed moves of a game that stands for local positions are trees of those, and play ends where it is short.
 
 -- Without a cycle no play from a reachable position has more than 3 to the number of places moves.
 

@@ -87,8 +87,6 @@ links_from c area p points u l r d t inside near pu pl pr pd = record {
       (λ q s a b. same_point c q s (sym a.0 ∙ b.0) (sym a.1 ∙ b.1)) near.below pd;
 }
 
--- The links of a region are exactly its points' being next to each other.
-
 -- the links of the region are exactly its points' being next to each other
 abbrev pub LinksAreNext : Region → Type 0
 LinksAreNext r = (i j : ℕ) → i < length r.points → IsLinked r.touch i j

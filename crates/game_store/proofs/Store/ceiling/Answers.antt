@@ -15,8 +15,5 @@ placed c = subst (IsPlaced (tree_at c.args.self.now c.args.id) (floor_at c.self.
 pub returns-clause-ceiling : goal.returns-clause-ceiling
 returns-clause-ceiling c = (placed c).ceiling_is
 
-pub returns-clause-range : goal.returns-clause-range
-returns-clause-range c = (placed c).ceiling_range
-
 pub returns-clause-stop : goal.returns-clause-stop
 returns-clause-stop c = goes_with-left 60 _ _ (canonical-at (holds c.self.invariant c.self.view_is) c.args.id c.requires) (placed c).ceiling_is (placed c).left_stop

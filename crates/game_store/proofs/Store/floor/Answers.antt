@@ -15,8 +15,5 @@ placed c = subst (λ x. IsPlaced (tree_at c.args.self.now c.args.id) x (ceiling_
 pub returns-clause-floor : goal.returns-clause-floor
 returns-clause-floor c = (placed c).floor_is
 
-pub returns-clause-range : goal.returns-clause-range
-returns-clause-range c = (placed c).floor_range
-
 pub returns-clause-stop : goal.returns-clause-stop
 returns-clause-stop c = goes_with-right 60 _ _ (canonical-at (holds c.self.invariant c.self.view_is) c.args.id c.requires) (placed c).floor_is (placed c).right_stop

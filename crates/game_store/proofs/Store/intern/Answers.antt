@@ -1,10 +1,11 @@
-use Rattle.std.proofs.Common.{rules, refl, ◌≡◌, length, [], ◌∷◌, ◌++◌, sym, ◌∙◌, ap, ap₂, nat_eq, cond, Some, ℕ, List}
+use Rattle.std.proofs.Common.{arith, rules, refl, ◌≡◌, length, [], ◌∷◌, ◌++◌, sym, ◌∙◌, ap, ap₂, nat_eq, cond, Some, ℕ, List}
+use Rattle.std.proofs.lemmas.Int.{ints}
 use Rattle.std.specs.HashMap.{get}
 use Rattle.std.specs.Map.{lookup}
 use Rattle.game_store.specs.Meaning.{form}
 use Rattle.game_store.specs.Meaning.Wanted.{options}
 use Rattle.game_store.proofs.Values.{extends-push, last-value, MayKeep}
-use Rattle.game_store.proofs.Interned.{above-reach, below-reach, ceiling-small, floor-small, found, Holds, holds, holds-options, ids-below, length-trees, options-placed, slot-behind}
+use Rattle.game_store.proofs.Interned.{ceiling-small, floor-small, found, Holds, holds, holds-options, ids-below, length-trees, options-placed, slot-behind}
 use Rattle.game_store.proofs.Store.intern.Goals as goal
 
 pub returns-in-Some-clause-value : goal.returns-in-Some-clause-value
@@ -48,7 +49,11 @@ pub greatest_floor-requires-clause-ids : goal.greatest_floor-requires-clause-ids
 greatest_floor-requires-clause-ids c = rw c.deref-3.ensures.value (ids-below (holds c.self.invariant c.self.view_is) _ c.requires.left_ids)
 
 pub just_below-floor-requires : goal.just_below-floor-requires
-just_below-floor-requires c = below-reach _ (ceiling-small (holds c.self.invariant c.self.view_is) _ _ c.requires.right_ids (rw c.deref-2.ensures.value at c.least_ceiling.ensures))
+just_below-floor-requires c =
+    let r = ceiling-small (holds c.self.invariant c.self.view_is) _ _ c.requires.right_ids (rw c.deref-2.ensures.value at c.least_ceiling.ensures) in
+    omega (arith, ints, r.0, r.1)
 
 pub just_above-ceiling-requires : goal.just_above-ceiling-requires
-just_above-ceiling-requires c = above-reach _ (floor-small (holds c.self.invariant c.self.view_is) _ _ c.requires.left_ids (rw c.deref-3.ensures.value at c.greatest_floor.ensures))
+just_above-ceiling-requires c =
+    let r = floor-small (holds c.self.invariant c.self.view_is) _ _ c.requires.left_ids (rw c.deref-3.ensures.value at c.greatest_floor.ensures) in
+    omega (arith, ints, r.0, r.1)

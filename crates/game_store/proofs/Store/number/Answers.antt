@@ -2,9 +2,10 @@ use Rattle.std.proofs.Common.{rules, ◌≡◌, length, [], ◌∷◌, ◌++◌,
 use Rattle.std.specs.HashMap.{get}
 use Rattle.std.specs.Map.{lookup}
 use Rattle.short_games.specs.Number.{number_tree}
+use Rattle.short_games.proofs.ReductionLaws.{number-canonical}
 use Rattle.game_store.specs.Meaning.Wanted.{number}
 use Rattle.game_store.proofs.Values.{extends-push, last-value}
-use Rattle.game_store.proofs.Interned.{Holds, found, holds, holds-map, holds-new, length-trees, may-number, number-placed}
+use Rattle.game_store.proofs.Interned.{Holds, found, holds, holds-map, holds-new, length-trees, number-placed}
 use Rattle.game_store.proofs.Store.number.Goals as goal
 
 pub returns-in-Some-clause-value : goal.returns-in-Some-clause-value
@@ -15,7 +16,7 @@ last_id c = search rules
 
 full : (c : goal.In_ok-insert) → Holds (c.args.self.now ++ number_tree c.args.x ∷ []) c.self.inside.pool.lists c.push.new.self.items (get nat_eq c.insert.new.self)
 full c = holds-new (holds c.self.invariant c.self.view_is) _ (get nat_eq c.insert.new.self) (number c.args.x) _
-    (may-number c.args.self.now c.args.x) (number-placed c.args.x _ c.at-at.ensures.bounds c.at-at.ensures.place) tt refl
+    (record { canonical = number-canonical 60 c.args.x; lists = tt }) (number-placed c.args.x _ c.at-at.ensures.bounds c.at-at.ensures.place) tt refl
     (rw c.deref.ensures.value at c.in_default.ensures.absent)
     c.in_ok-push.ensures.items
     (rw (← c.fingerprint_number-fingerprint.ensures) (c.copied-before.ensures ∙ c.get.ensures.value))

@@ -5,13 +5,13 @@ use Rattle.game_canon.proofs.ChangeSteps.{extends-on, passed-on}
 use Rattle.game_canon.proofs.NumberParts.{within-bounds}
 use Rattle.local_value.specs.Refusals.{IsValueRefusal}
 use Rattle.local_value.specs.Values.{IsGraphOf}
-use Rattle.local_value.proofs.PassLaws.{call, pass-parts, pass-sizes, pass-start, pass-values}
+use Rattle.local_value.proofs.PassLaws.{call, pass-parts, pass-sizes, pass-values}
 use Rattle.local_value.proofs.values.value_all.Goals as goal
 
 pub valuing-init : goal.valuing-init
 valuing-init c = record {
   kept = record { longer = omega arith; same = λ i l. refl };
-  pass = λ r of. pass-start r c.args.graph.now c.args.parts_limit c.args.store.now _ (omega (arith, c.in_ok-ids.ids.ok, c.in_ok-ids.ensures.len, c.len.ensures));
+  pass = λ r of. record { long = omega (arith, c.in_ok-ids.ids.ok, c.in_ok-ids.ensures.len, c.len.ensures); each = λ j lt. absurd (omega (arith, lt)) };
   memo = c.new-memo.ensures c.args.store.now c.args.parts_limit;
 }
 

@@ -1,6 +1,6 @@
 use Rattle.std.proofs.lemmas.Result.{on_ok_weaker}
 use Rattle.local_value.specs.inner.Memo.{recalled_form, recalled_sum}
-use Rattle.local_value.proofs.OptionsLaws.{sums-grown, forms-grown, left-ids, right-ids, form-parts, form-refused, form-sizes, form-values}
+use Rattle.local_value.proofs.OptionsLaws.{sums-grown, forms-grown, left-ids, right-ids, form-refused, form-sizes, form-values}
 use Rattle.local_value.proofs.values.value_of.Goals as goal
 
 pub form_of-requires-clause-left : goal.form_of-requires-clause-left
@@ -11,9 +11,6 @@ form_of-requires-clause-right c = right-ids c.in_ok-list_options.ensures.options
 
 pub returns-clause-value : goal.returns-clause-value
 returns-clause-value c = form-values c.in_ok-list_options.ensures.options c.form_of.ensures.kept c.args.parts_limit c.form_of.result c.form_of.ensures.form
-
-pub returns-clause-parts : goal.returns-clause-parts
-returns-clause-parts c = form-parts c.in_ok-list_options.ensures.options c.form_of.ensures.kept c.args.parts_limit c.form_of.result c.form_of.ensures.form
 
 pub returns-clause-sizes : goal.returns-clause-sizes
 returns-clause-sizes c = form-sizes c.in_ok-list_options.ensures.options c.form_of.ensures.kept c.args.parts_limit c.form_of.result c.form_of.ensures.form
