@@ -264,7 +264,8 @@ holds-options {Ts} {lists} {slots} {L} h lists2 slots2 L' ls rs place left_count
           (ids-below h ls keep.lists.0) (ids-below h rs keep.lists.1) keep.lists.2 keep.lists.3 keep.lists.5 keep.lists.6),
     ))
     (rw (entry_is, place_is, count_is, is) (ap (λ (xs : List ℕ). options (take (length ls) xs) (drop (length ls) xs)) last ∙ ap₂ options (take-append_seam ls rs) (drop-append_seam ls rs)))
-    (λ k l i. absent k l (sym (held-more lists ((ls ++ rs) ∷ []) k _ (h.all.0.fit k (omega (arith, l, length-entries slots)))) ∙ subst (λ us. held us (entry_at (entries_of slots) k) ≡ options ls rs) is i))
+    (λ k l i. absent k l (sym (held-more lists ((ls ++ rs) ∷ []) k _ (h.all.0.fit k (omega (arith, l, length-entries slots))))
+    ∙ subst (λ us. held us (entry_at (entries_of slots) k) ≡ options ls rs) is i))
     slots_is before_is map_is
   where
     last : list_at (lists ++ (ls ++ rs) ∷ []) (length lists) ≡ ls ++ rs

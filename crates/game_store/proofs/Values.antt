@@ -81,7 +81,8 @@ values_at lists Ts (e ∷ es) f zero h = at_first
     at_first = values_after-first lists Us es (length Ts + 0) (omega (arith, length-append Ts (value_of lists Ts e ∷ [])))
         ∙ (rw add-zero (get_or-append_seam Ts (value_of lists Ts e) [] (node none none)))
         ∙ sym (value_of-same lists Ts (values_after lists Us es) (length Ts + 0) e (f 0 (omega arith)) (λ i b. values_after-first lists Us es i (omega (arith, length-append Ts (value_of lists Ts e ∷ []))) ∙ get_or_append_left Ts _ _ i (omega arith)))
-values_at lists Ts (e ∷ es) f (suc k) h = rw (moved Ts v k) (values_at lists (Ts ++ v ∷ []) es (λ j b. rw (← moved Ts v j) (f (suc j) (omega arith))) k (omega arith))
+values_at lists Ts (e ∷ es) f (suc k) h =
+    rw (moved Ts v k) (values_at lists (Ts ++ v ∷ []) es (λ j b. rw (← moved Ts v j) (f (suc j) (omega arith))) k (omega arith))
   where
     v : Tree
     v = value_of lists Ts e
@@ -179,7 +180,9 @@ same-ids (x ∷ xs) (y ∷ ys) a b f g =
     let p : x ≤ y = heads-le x y xs ys a (g 0 (omega arith)) in
     let q : y ≤ x = heads-le y x ys xs b (f 0 (omega arith)) in
     let e : x ≡ y = omega (arith, p, q) in
-    ap₂ ◌∷◌ e (same-ids xs ys (λ i j l h. a (suc i) (suc j) (omega arith) (omega arith)) (λ i j l h. b (suc i) (suc j) (omega arith) (omega arith)) (rest-within x y xs ys e a f) (rest-within y x ys xs (sym e) b g))
+    ap₂ ◌∷◌ e (same-ids xs ys
+    (λ i j l h. a (suc i) (suc j) (omega arith) (omega arith)) (λ i j l h. b (suc i) (suc j) (omega arith) (omega arith))
+    (rest-within x y xs ys e a f) (rest-within y x ys xs (sym e) b g))
 
 within-from : (Ts : List Tree) → AreDistinct Ts → (xs ys : List ℕ) → AreIds Ts xs → AreIds Ts ys → sorted (pick Ts xs) ≡ sorted (pick Ts ys) → Within_list xs ys
 within-from Ts d xs ys p q e i l =

@@ -30,7 +30,7 @@ use Rattle.local_play.specs.Packed.{pack}
 use Rattle.local_graph.specs.declared.cycle.CycleMove.{CycleMove}
 use Rattle.local_graph.specs.declared.graph.Edge.{Edge}
 use Rattle.local_graph.specs.LocalGraph.{HasMoves}
-use Rattle.local_graph.specs.inner.Graph.{edges_at}
+use Rattle.local_graph.specs.inner.Graph.{edges_at, no_edge}
 use Rattle.local_graph.proofs.EdgeListLemmas.{node_inside}
 use Rattle.local_graph.proofs.PlayLemmas.{plays_more, plays_long, one_after}
 use Rattle.local_value.specs.inner.GraphMoves.{step_of, step_for, steps_of}
@@ -113,7 +113,8 @@ module _ (touch : List Touch) where
 
     free_or_not : (c : Colour) (i : ℕ) → Decided (IsFree touch cells c i)
     free_or_not c i =
-        alike _ _ (λ (j, lt, (chain, breath)). (j, chain, breath)) (λ (j, chain, breath). (j, held_inside cells c j (leads_end (IsLinked touch) (Holds cells c) i j chain), (chain, breath)))
+        alike _ _ (λ (j, lt, (chain, breath)). (j, chain, breath))
+        (λ (j, chain, breath). (j, held_inside cells c j (leads_end (IsLinked touch) (Holds cells c) i j chain), (chain, breath)))
         (some_below (length cells) (λ j. InLocalChain touch cells c i j × (IsOpen touch cells j ⊎ IsBeside touch c j))
         (λ j. both _ _ (chain_or_not c i j)
         (either _ _ (some_linked j (λ k. held_at cells k ≡ cell.Empty) (λ k. same_or_not (held_at cells k) cell.Empty))
@@ -264,8 +265,7 @@ module _ (touch : List Touch) where
           let m = subst (λ z. IsNumberTaken cells z y.taken) same number in omega (arith, n, m)) in
           subst (Contains (steps_below (length cells))) (λ i. record { to = to (sym same i); taken = count i }) here
 
--- A graph that was built is that of its region.
-
+-- a graph that was built is that of its region
 pub graph_of : (r : Region) (g : Graph) (limit : ℕ) → length r.cells ≡ length r.points → Built r limit (Ok g) → IsGraphOf r g
 graph_of r g limit full built = record {
   few = omega (arith, full, built.0);
@@ -313,13 +313,12 @@ module _ (r : Region) (g : Graph) (of : IsGraphOf r g) where
       let move' = subst (λ x. IsLocalMove r.touch cells c x next) (sym found.3) move in
       let move'' = subst (λ d. IsLocalMove r.touch cells d found.0.place next) (sym found.2) move' in
       let same : legal.after ≡ next = one_after r.touch cells legal.after next found.0.colour found.0.place legal.move move'' in
-      let none : Edge = record { colour = c; place = 0; next = 0; taken = 0 } in
       let short : found.1.0 < length es = omega (arith, found.1.1, h.2.0) in
-      let e = get_or es found.1.0 none in
-      let w = h.2.1 found.1.0 found.0 e short found.1.2 (get_or_default es found.1.0 e none short) in
+      let e = get_or es found.1.0 no_edge in
+      let w = h.2.1 found.1.0 found.0 e short found.1.2 (get_or_default es found.1.0 e no_edge short) in
       let number' : IsNumberTaken cells next found.0.taken = subst (λ x. IsNumberTaken cells x found.0.taken) same legal.taken in (
         e,
-        Contains-get_or es found.1.0 none short,
+        Contains-get_or es found.1.0 no_edge short,
         record {
           colour = w.colour ∙ found.2;
           place = w.place ∙ found.3;

@@ -1,4 +1,4 @@
--- What is remembered, the ids after the edges of a place as the store grows, the form of those ids, and what it shares with each tree of the edges.
+-- What is remembered, the ids after the edges of a place as the store grows, and the form of those ids.
 use Rattle.std.proofs.Common.{ℕ, ◌+◌, ◌^◌, ◌≡◌, ◌<◌, ◌↔◌, arith, inl, inr, sym, ap, ap₂, true, Bool, get_or, subst, ◌∙◌, List, [], length, cond, Option, Some, Result, Ok, Err, OnOk, OnErr, nat_eq, ℤ, ◌+ℤ◌, ◌≤◌, to_z, of_z, w32, ◌*◌, refl, pos, neg_ℤ, ◌*ℤ◌, ◌∷◌, ◌++◌, take, Contains}
 use Rattle.std.specs.Str.{bytes_eq}
 use Rattle.std.specs.Ordering.{int_eq}

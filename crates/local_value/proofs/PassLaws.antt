@@ -252,7 +252,8 @@ module _ {r : Region} {g : Graph} (of : IsGraphOf r g) where
       valued : (i : ℕ) → i < length ids → (j : ℕ) × (j < length g.order) × IsValued r g limit Ts ids (most r j) i
       valued i lt =
           let (j, short, at) = of.order.every i (omega (arith, lt, pass.long, of.graph.beside)) in
-          (j, short, subst (IsValued r g limit Ts ids (most r j)) (get_or_default g.order j 0 i short ∙ at) (pass.each j (omega (arith, short, done, ap (λ (z : List ℕ). length z) o))))
+          let there = get_or_default g.order j 0 i short ∙ at in
+          (j, short, subst (IsValued r g limit Ts ids (most r j)) there (pass.each j (omega (arith, short, done, ap (λ (z : List ℕ). length z) o))))
 
       pub pass-values : AreValues r g Ts ids
       pass-values = record {

@@ -1,4 +1,4 @@
--- Trees of local positions: their options are the local moves, a depth that no play is longer than is as good as a greater one, and which games they are the trees of.
+-- Trees of local positions: their options, the depth they need, and the games over listed moves whose trees they are.
 use Rattle.std.proofs.Common.{ℕ, zero, suc, ◌≡◌, ◌≤◌, arith, inl, inr, refl, sym, ap, ap₂, ◌∙◌, List, [], ◌∷◌, subst, ◌^◌, ◌++◌, length, length-append, Contains}
 use Rattle.std.specs.Prelude.{Contains}
 use Rattle.go_grid.specs.declared.grid.Colour.{Colour}

@@ -88,11 +88,8 @@ links_from c area p points u l r d t inside near pu pl pr pd = record {
 }
 
 -- the links of the region are exactly its points' being next to each other
-abbrev pub LinksAreNext : Region → Type 0
-LinksAreNext r = (i j : ℕ) → i < length r.points → IsLinked r.touch i j
+pub links_are_next : (r : Region) → IsRegion r.columns r.rows r.points r.cells r.touch → (i j : ℕ) → i < length r.points → IsLinked r.touch i j
     ↔ ((j < length r.points) × NextTo r.columns (get_or r.points i 0) (get_or r.points j 0))
-
-pub links_are_next : (r : Region) → IsRegion r.columns r.rows r.points r.cells r.touch → LinksAreNext r
 links_are_next r reg i j lt = (there, back)
   where
     there : IsLinked r.touch i j → (j < length r.points) × NextTo r.columns (get_or r.points i 0) (get_or r.points j 0)

@@ -441,7 +441,8 @@ module _ (g : Board) (r : Region) (settled : IsSettled g) (play : IsRegionOfPlay
                 kept = kept;
               };
               stands = free_up
-                  (holds_after g r cells next h after play holds refl (length-put next) (long_after move) (put_at next) (put_outside next)) (same_size h) (length-put next) c i lt move.stands;
+                  (holds_after g r cells next h after play holds refl (length-put next) (long_after move) (put_at next) (put_outside next))
+                  (same_size h) (length-put next) c i lt move.stands;
             },
           )
 

@@ -5,7 +5,7 @@ use Rattle.std.specs.Map.{lookup}
 use Rattle.game_store.specs.Meaning.{form}
 use Rattle.game_store.specs.Meaning.Wanted.{options}
 use Rattle.game_store.proofs.Values.{extends-push, last-value, MayKeep}
-use Rattle.game_store.proofs.Interned.{ceiling-small, floor-small, found, Holds, holds, holds-options, ids-below, length-trees, options-placed, slot-behind}
+use Rattle.game_store.proofs.Interned.{floor-small, found, Holds, holds, holds-options, ids-below, length-trees, options-placed, slot-behind}
 use Rattle.game_store.proofs.Store.intern.Goals as goal
 
 pub returns-in-Some-clause-value : goal.returns-in-Some-clause-value
@@ -47,11 +47,6 @@ least_ceiling-requires-clause-ids c = rw c.deref-2.ensures.value (ids-below (hol
 
 pub greatest_floor-requires-clause-ids : goal.greatest_floor-requires-clause-ids
 greatest_floor-requires-clause-ids c = rw c.deref-3.ensures.value (ids-below (holds c.self.invariant c.self.view_is) _ c.requires.left_ids)
-
-pub just_below-floor-requires : goal.just_below-floor-requires
-just_below-floor-requires c =
-    let r = ceiling-small (holds c.self.invariant c.self.view_is) _ _ c.requires.right_ids (rw c.deref-2.ensures.value at c.least_ceiling.ensures) in
-    omega (arith, ints, r.0, r.1)
 
 pub just_above-ceiling-requires : goal.just_above-ceiling-requires
 just_above-ceiling-requires c =

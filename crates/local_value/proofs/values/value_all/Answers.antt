@@ -54,4 +54,5 @@ returns-clause-parts c =
 pub returns-clause-bounds : goal.returns-clause-bounds
 returns-clause-bounds c =
     let (r, of) = c.requires.graph in
-    rw c.from.ensures (λ i lt. within-bounds c.valuing.store c.len-count.ensures.forms _ ((pass-values of (c.valuing.invariant.pass r of) c.order-place-items.ensures c.valuing-test.false).known i lt))
+    rw c.from.ensures (λ i lt. within-bounds c.valuing.store c.len-count.ensures.forms _
+    ((pass-values of (c.valuing.invariant.pass r of) c.order-place-items.ensures c.valuing-test.false).known i lt))

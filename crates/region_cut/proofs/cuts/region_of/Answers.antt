@@ -32,7 +32,8 @@ pub invariant_of-result : goal.invariant_of-result
 invariant_of-result c =
     let g = c.args.board.now in
     let lists = region_lists g c.args.within.now c.fill.result c.size-size.ensures.columns c.requires.within c.fill.ensures c.in_ok-points.ensures in
-    keeps_region g c.args.start lists c.requires.contested c.in_ok-cells.cells.items c.in_ok-touch.touch.items c.size-size.ensures.columns c.size-size.ensures.rows c.size-size.ensures.grid.full
+    keeps_region g c.args.start lists c.requires.contested c.in_ok-cells.cells.items c.in_ok-touch.touch.items
+    c.size-size.ensures.columns c.size-size.ensures.rows c.size-size.ensures.grid.full
     (c.in_ok-cells.ensures.long ∙ ap length c.deref.ensures.value) (c.in_ok-touch.ensures.long ∙ ap length c.deref-2.ensures.value)
     (rw c.deref-2.ensures.value at c.in_ok-touch.ensures.each)
 
@@ -40,7 +41,8 @@ pub returns-clause-region : goal.returns-clause-region
 returns-clause-region c =
     let g = c.args.board.now in
     let lists = region_lists g c.args.within.now c.fill.result c.size-size.ensures.columns c.requires.within c.fill.ensures c.in_ok-points.ensures in
-    is_region_of_play g c.args.start lists c.requires.contested c.in_ok-cells.cells.items c.in_ok-touch.touch.items c.size-size.ensures.columns c.size-size.ensures.rows c.size-size.ensures.grid.full
+    is_region_of_play g c.args.start lists c.requires.contested c.in_ok-cells.cells.items c.in_ok-touch.touch.items
+    c.size-size.ensures.columns c.size-size.ensures.rows c.size-size.ensures.grid.full
     (c.in_ok-cells.ensures.long ∙ ap length c.deref.ensures.value) (c.in_ok-touch.ensures.long ∙ ap length c.deref-2.ensures.value)
     (rw c.deref-2.ensures.value at c.in_ok-touch.ensures.each) c.requires.lowest (rw c.deref.ensures.value at c.in_ok-cells.ensures.each)
     c.requires.black c.requires.white
