@@ -30,10 +30,7 @@ use Rattle.game_canon.proofs.PartLaws.{fewer}
 use Rattle.local_value.specs.LocalGame.{Step}
 use Rattle.local_value.specs.Laws.{MovesTo}
 use Rattle.local_value.specs.PositionTree.{IsStep, IsTreeOf, IsValueOf, PlaysAreShort}
-use Rattle.local_value.proofs.CellTreeLaws.{trees-exist}
-use Rattle.local_value.proofs.DepthLaws.{depths-agree}
-use Rattle.local_value.proofs.PositionLaws.{trees-same}
-use Rattle.local_value.proofs.ShortLaws.{short_plays}
+use Rattle.local_value.proofs.TreeLaws.{trees-exist, short_plays, depths-agree, trees-same}
 use Rattle.board_gen.proofs.Heights.{IsLow, canonical_low, from_option, low_follower, low_gain, low_more, low_number, low_plus}
 use Rattle.board_gen.proofs.NoReturn.{AreWalled, no_cycle, same_or_other}
 use Rattle.board_gen.proofs.Owners.{counted, owners, owners_most}

@@ -47,8 +47,7 @@ use Rattle.endgame_solver.specs.inner.Solving.{AreSolvedBelow}
 use Rattle.whole_rules.specs.declared.money.Token.TheVariants as token
 use Rattle.local_value.specs.Values.{IsPlaceOf}
 use Rattle.local_value.proofs.PassLaws.{order_short}
-use Rattle.region_cut.proofs.ApartLemmas.{holds_start}
-use Rattle.region_cut.proofs.FreedomLemmas.{point_contested}
+use Rattle.region_cut.proofs.LocalBoardLemmas.{holds_start, point_contested}
 
 -- A board has one list of regions of play, as far as their points go.
 
@@ -226,10 +225,6 @@ refusal_begun setup limits {regions} are is e h = at e (subst (λ rs. AreRefused
     at (Cycle p names back) h = (regions, are, h)
     at (Form p) h = (regions, are, h)
     at (Memory e) h = tt
-
--- a komi is the same as a number of 64 bits
-pub komi_held : (komi : ℤ) → unsigned_abs komi ≤ 2000000 → to_z w64 (of_z w64 komi) ≡ komi
-komi_held komi h = to_z-of_z w64 komi (fits_signed_from_abs w64 komi (omega (arith, ints, h)))
 
 -- At the opening the purses are small, and leave room for every play.
 

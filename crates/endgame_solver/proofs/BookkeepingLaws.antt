@@ -27,8 +27,7 @@ use Rattle.local_graph.specs.LocalGraph.{Plays as LocalPlays}
 use Rattle.go_grid.proofs.BoardLemmas.{same_or_not}
 use Rattle.region_cut.specs.Cut.{AreRegionsOfPlay}
 use Rattle.region_cut.specs.LocalBoard.{HoldsPosition}
-use Rattle.region_cut.proofs.LocalBoardLemmas.{placing_is_local}
-use Rattle.region_cut.proofs.ApartLemmas.{HoldPositions, holds_start, only_region, positions_after}
+use Rattle.region_cut.proofs.LocalBoardLemmas.{placing_is_local, HoldPositions, holds_start, only_region, positions_after}
 use Rattle.endgame_solver.specs.Regions.{no_region, region_at}
 use Rattle.go_grid.proofs.PlayLemmas.{long_after}
 use Rattle.whole_rules.specs.declared.money.Token.TheVariants as token

@@ -37,7 +37,7 @@ use Rattle.game_canon.proofs.NegationLaws.{chosen}
 use Rattle.sum_outcome.specs.Players.{gain, options}
 use Rattle.local_value.specs.LocalGame.{Step}
 use Rattle.local_value.specs.PositionTree.{IsStep, IsTreeOf}
-use Rattle.local_value.proofs.PositionLaws.{same_options}
+use Rattle.local_value.proofs.TreeLaws.{same_options}
 use Rattle.endgame_solver.specs.ShapeValues.{AreLinked, ShapesKeepValues, game_after}
 
 -- Colours, cells and links, turned.

@@ -24,7 +24,7 @@ use Rattle.game_canon.specs.Changes.{HasNumberPastBounds}
 use Rattle.short_games.proofs.OrderLaws.{same-sym, same-trans}
 use Rattle.local_value.specs.PositionTree.{IsStep, IsValueOf, IsTreeOf}
 use Rattle.local_value.specs.Values.{IsGraphOf, IsPlaceOf, AreValues}
-use Rattle.local_value.proofs.PositionLaws.{trees-same}
+use Rattle.local_value.proofs.TreeLaws.{trees-same, trees-exist}
 use Rattle.endgame_solver.specs.Faults.{HasLargeForm}
 use Rattle.go_grid.proofs.PlayLemmas.{long_after}
 use Rattle.go_grid.specs.declared.grid.Colour.{Colour}
@@ -38,7 +38,7 @@ use Rattle.local_graph.specs.inner.Graph.{edges_at, no_edge}
 use Rattle.local_graph.proofs.EdgeListLemmas.{node_inside}
 use Rattle.local_graph.proofs.OrderLemmas.{edge_for, same_place}
 use Rattle.go_grid.proofs.Decided.{Decided, alike, some_below}
-use Rattle.local_value.proofs.GraphLaws.{cells_at, move_of, next_place, position_at}
+use Rattle.local_value.proofs.MoveLaws.{cells_at, move_of, next_place, position_at}
 use Rattle.region_book.specs.Shape.{colour_after}
 use Rattle.region_book.proofs.SymmetryLaws.{colour_back, back}
 use Rattle.endgame_solver.specs.inner.Views.{Serves, own}
@@ -49,7 +49,6 @@ use Rattle.short_games.specs.Order.{◌≡ᵍ◌}
 use Rattle.short_games.specs.TextOrder.{IsCanonicalFor}
 use Rattle.short_games.proofs.SumLaws.{neg-le}
 use Rattle.game_canon.proofs.NumberParts.{within-bounds}
-use Rattle.local_value.proofs.CellTreeLaws.{trees-exist}
 use Rattle.endgame_solver.specs.ShapeValues.{game_after}
 use Rattle.endgame_solver.specs.inner.Sharing.{AreTurnedValues}
 use Rattle.endgame_solver.specs.inner.Solving.{IsGraphWithin, IsSolvedBy}

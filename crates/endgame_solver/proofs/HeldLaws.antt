@@ -30,9 +30,7 @@ use Rattle.local_graph.specs.Graph.{Graph}
 use Rattle.local_graph.specs.inner.Graph.{edges_at}
 use Rattle.region_cut.specs.Cut.{lowest}
 use Rattle.region_cut.specs.LocalBoard.{HoldsPosition}
-use Rattle.region_cut.proofs.ApartLemmas.{only_region}
-use Rattle.region_cut.proofs.FreedomLemmas.{point_contested}
-use Rattle.region_cut.proofs.LocalBoardLemmas.{placing_is_local}
+use Rattle.region_cut.proofs.LocalBoardLemmas.{only_region, point_contested, placing_is_local}
 use Rattle.short_games.specs.Tree.{Tree, tree_at}
 use Rattle.short_games.specs.Number.{num}
 use Rattle.short_games.specs.Sum.{◌+ᵍ◌, total}
@@ -42,7 +40,7 @@ use Rattle.game_canon.specs.Outcomes.{AreWithin}
 use Rattle.sum_outcome.specs.Players.{LosesGame}
 use Rattle.sum_outcome.specs.Sums.{AreBounds, IsBounded, sum_tree}
 use Rattle.local_value.specs.PositionTree.{IsValueOf}
-use Rattle.local_value.proofs.GraphLaws.{IsEdgeFor, edge_of, move_of, next_place, taken_less}
+use Rattle.local_value.proofs.MoveLaws.{IsEdgeFor, edge_of, move_of, next_place, taken_less}
 use Rattle.endgame_solver.specs.Regions.{no_region, region_at}
 use Rattle.endgame_solver.specs.Solved.{ArePresent, IsValueId, balance_units}
 use Rattle.endgame_solver.specs.SumGame.{balance, halves}

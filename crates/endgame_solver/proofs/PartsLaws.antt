@@ -20,7 +20,7 @@ use Rattle.whole_rules.specs.Purses.{purse, paid_in, paid_out, halved}
 use Rattle.whole_rules.specs.declared.money.Purses.{Purses}
 use Rattle.short_games.proofs.OrderLaws.{same-refl, same-path, same-sym, same-trans}
 use Rattle.local_value.specs.LocalGame.{Step, StepsTo, tree_within, TakesAtMost}
-use Rattle.local_value.proofs.LocalLaws.{move-option, option-move}
+use Rattle.local_value.proofs.TreeLaws.{move-option, option-move}
 use Rattle.whole_rules.proofs.OutcomeLaws.{wins-not_loses}
 use Rattle.whole_rules.specs.declared.money.Token.TheVariants as token
 

@@ -26,7 +26,7 @@ use Rattle.endgame_solver.specs.inner.Sharing.{AreNegatives, IsTurnedValue, AreK
 use Rattle.std.proofs.lemmas.List.Elements.{Contains-get_or}
 use Rattle.local_graph.specs.declared.graph.Edge.{Edge}
 use Rattle.local_graph.specs.inner.Graph.{edges_at}
-use Rattle.local_value.proofs.GraphLaws.{cells_at, move_of}
+use Rattle.local_value.proofs.MoveLaws.{cells_at, move_of}
 use Rattle.local_graph.proofs.PlayLemmas.{plays_long}
 use Rattle.game_store.specs.Forms.{HaveForms}
 use Rattle.short_games.proofs.OrderLaws.{le-refl}

@@ -44,14 +44,11 @@ use Rattle.local_value.specs.Ending.{EndsWithin}
 use Rattle.local_value.specs.Laws.{MovesTo}
 use Rattle.local_value.specs.LocalGame.{Step, StepsTo, TakesAtMost, tree_within}
 use Rattle.local_value.specs.PositionTree.{IsTreeOf, IsValueOf, PlaysAreShort}
-use Rattle.local_value.proofs.CellTreeLaws.{cells_end, from_step, step_from, tree_as}
-use Rattle.local_value.proofs.MoveList.{steps, step_out}
-use Rattle.local_value.proofs.ShortLaws.{short_plays}
+use Rattle.local_value.proofs.TreeLaws.{cells_end, from_step, step_from, tree_as, short_plays}
+use Rattle.local_value.proofs.MoveLaws.{steps, step_out}
 use Rattle.region_cut.specs.Cut.{AreRegionsOfPlay}
 use Rattle.region_cut.specs.LocalBoard.{HoldsPosition, IsLocal}
-use Rattle.region_cut.proofs.ApartLemmas.{holds_start, only_region, other_kept}
-use Rattle.region_cut.proofs.LocalBoardLemmas.{holds_after, placing_is_local, plays_locally}
-use Rattle.region_cut.proofs.FreedomLemmas.{point_contested}
+use Rattle.region_cut.proofs.LocalBoardLemmas.{holds_start, only_region, other_kept, holds_after, placing_is_local, plays_locally, point_contested}
 use Rattle.endgame_solver.specs.Decomposition.{AreTreesOn, money_tree, WholeDecomposes}
 use Rattle.endgame_solver.specs.Regions.{no_region, region_at}
 use Rattle.endgame_solver.specs.Solved.{HoldsCells}

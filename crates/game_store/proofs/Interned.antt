@@ -1,146 +1,272 @@
--- What holds of a store's fields as a form is added.
-use Rattle.std.proofs.Common.{ℕ, ◌<◌, ◌≡◌, inl, inr, pos, get_or, ◌+ℤ◌, ◌-ℤ◌, List, [], ◌∷◌, ◌++◌, length, arith, sym, ◌∙◌, ap, ap₂, subst, ℤ, cond, nat_eq, Some}
-use Rattle.std.specs.Prelude.{Option, take, drop}
-use Rattle.short_games.specs.Tree.{Tree, node, none, tree_at}
-use Rattle.short_games.proofs.ReductionLaws.{number-canonical}
-use Rattle.game_store.specs.declared.Entry.{Entry}
-use Rattle.game_store.specs.declared.Entry.TheVariants.{Number, Options}
+-- The floors and ceilings of forms, and what holds of a store's fields as a form is added.
+use Rattle.std.proofs.Common.{below_more, ℕ, ◌+◌, ◌<◌, ◌≡◌, List, length, get_or, arith, refl, sym, subst, ℤ, pos, ◌-ℤ◌, ◌+ℤ◌, ◌≤ℤ◌, [], ◌∷◌, ◌++◌, ◌∙◌, ap, ap₂, cond, nat_eq, Some, ◌↔◌, ◌<ℤ◌, Bool, true, take, drop}
+use Rattle.std.specs.Int.{int_max, int_min}
+use Rattle.std.proofs.lemmas.Int.{ints, by_lt_z}
+use Rattle.std.proofs.lemmas.Bool.{false≢true}
 use Rattle.game_store.specs.declared.Slot.{Slot}
-use Rattle.game_store.specs.Meaning.{form, AreIds, AreBelow, IsAscending, Wanted}
-use Rattle.game_store.specs.inner.Meaning.{values, IsKept, entry_at, held, meaning, Fits, AreOptions, list_at, AllFit, IsNoNumber}
-use Rattle.game_store.specs.Meaning.Wanted.{number, options}
-use Rattle.game_store.specs.Forms.{IsMeaning}
-use Rattle.game_store.specs.inner.Chain.{entries_of, slot_at, IsChained, fingerprint}
+use Rattle.dyadic_num.specs.Units.{IsInBounds}
+use Rattle.short_games.specs.Tree.{Tree, Has, tree_at, node, none}
+use Rattle.short_games.specs.Number.{num, IsNumber, number_tree}
+use Rattle.short_games.specs.TextOrder.{sorted, IsCanonicalTree}
+use Rattle.short_games.specs.Threshold.{IsFloor, IsCeiling, IsCell}
 use Rattle.game_store.specs.Places.{IsFloorRange, IsCeilingRange}
 use Rattle.game_store.specs.inner.Places.{IsPlaced, ArePlaced, floor_at, ceiling_at, IsGreatestFloor, IsLeastCeiling}
-use Rattle.game_store.proofs.FormSteps.{form-placed}
-use Rattle.std.proofs.lemmas.Bool.{cases_lt}
-use Rattle.std.proofs.lemmas.List.{length-append, length-take, length-drop, get_or_append_left}
-use Rattle.std.proofs.Math.Seq.{get_or-append_seam}
-use Rattle.game_store.proofs.Values.{lists_more, left-of, right-of, list-last, joined-options, left-below, right-below, MayKeep, new-entry, IsNew, held-more, held-from, length-values}
-use Rattle.game_store.proofs.Chains.{chained-more, chained-push, entries-push, length-entries}
+use Rattle.short_games.specs.Stops.{IsLeftStop, IsRightStop}
+use Rattle.game_store.specs.Meaning.{pick, form, AreIds, AreBelow, IsAscending, Wanted, AreCanonical, IsIdOf}
+use Rattle.short_games.proofs.TextOrderLaws.{sorted-has, has-sorted}
+use Rattle.short_games.proofs.ReductionLaws.{canonical-number}
+use Rattle.short_games.proofs.ThresholdLaws.{number-floor, number-ceiling, half-cell}
+use Rattle.short_games.proofs.StopLaws.{IsGreatest, IsLeast, ceiling-by, floor-by, number-left_stop, number-right_stop, game-left_stop, game-right_stop}
+use Rattle.game_store.proofs.Values.{has-pick, pick-has, joined-options, left-below, right-below, MayKeep, new-entry, IsNew, held-more, held-from, length-values, chained-more, chained-push, length-entries, kept-more, values-more, push_both}
+use Rattle.std.specs.Prelude.{Option, take, drop}
+use Rattle.game_store.specs.declared.Entry.{Entry}
+use Rattle.game_store.specs.declared.Entry.TheVariants.{Number, Options}
+use Rattle.game_store.specs.inner.Meaning.{values, IsKept, entry_at, held, meaning, Fits, AreOptions, list_at, IsNoNumber}
+use Rattle.game_store.specs.Meaning.Wanted.{number, options}
+use Rattle.game_store.specs.Forms.{IsMeaning, IsWithinBounds, HaveForms}
+use Rattle.game_store.specs.inner.Chain.{entries_of, IsChained, fingerprint}
+use Rattle.std.proofs.lemmas.List.{map-append, length-append, length-take, length-drop}
+use Rattle.std.proofs.Math.Seq.{get_or-append_seam, take-append_seam, drop-append_seam}
+use Rattle.short_games.proofs.OrderLaws.{le-refl}
+use Rattle.short_games.proofs.NumberLaws.{num-double}
+use Rattle.std.specs.Cmp.{int_ranks}
+use Rattle.std.specs.Ordering.{MatchOrdering, is_le, is_gt, int_cmp}
+use Rattle.std.specs.declared.cmp.Ordering.{Ordering}
+use Rattle.std.specs.declared.cmp.Ordering.TheVariants.{Less, Equal, Greater}
+
+-- what comparing two places says of them as numbers of half parts
+pub at_most : (x y : ℤ) (b : Bool) → b ≡ is_le (int_cmp x y) → (b ≡ true) ↔ (x ≤ℤ y)
+at_most x y b e = subst (λ a. (a ≡ true) ↔ (x ≤ℤ y)) (sym e) (said (int_cmp x y) (int_ranks x y))
+  where
+    said : (r : Ordering) → MatchOrdering r (x <ℤ y) (x ≡ y) (y <ℤ x) → (is_le r ≡ true) ↔ (x ≤ℤ y)
+    said Less m = (λ _. omega (arith, ints, m), λ _. refl)
+    said Equal m = (λ _. omega (arith, ints, m), λ _. refl)
+    said Greater m = (λ f. absurd (false≢true f), λ l. absurd (omega (arith, ints, m, l)))
+
+pub is_above : (x y : ℤ) (b : Bool) → b ≡ is_gt (int_cmp x y) → (b ≡ true) ↔ (y <ℤ x)
+is_above x y b e = subst (λ a. (a ≡ true) ↔ (y <ℤ x)) (sym e) (said (int_cmp x y) (int_ranks x y))
+  where
+    said : (r : Ordering) → MatchOrdering r (x <ℤ y) (x ≡ y) (y <ℤ x) → (is_gt r ≡ true) ↔ (y <ℤ x)
+    said Less m = (λ f. absurd (false≢true f), λ l. absurd (omega (arith, ints, m, l)))
+    said Equal m = (λ f. absurd (false≢true f), λ l. absurd (omega (arith, ints, m, l)))
+    said Greater m = (λ _. m, λ _. refl)
+
+-- the bounds so far
+pub record LeastSoFar (slots : List Slot) (is : List ℕ) (n : ℕ) (x : ℤ) : Type 0 where
+  pub bound : (j : ℕ) → j < n → x ≤ℤ ceiling_at slots (get_or is j 0)
+  pub reached : (j : ℕ) × (j < length is) × (ceiling_at slots (get_or is j 0) ≡ x)
+
+pub record GreatestSoFar (slots : List Slot) (is : List ℕ) (n : ℕ) (x : ℤ) : Type 0 where
+  pub bound : (j : ℕ) → j < n → floor_at slots (get_or is j 0) ≤ℤ x
+  pub reached : (j : ℕ) × (j < length is) × (floor_at slots (get_or is j 0) ≡ x)
+
+pub least_step : (slots : List Slot) (is : List ℕ) (n : ℕ) (x y z : ℤ) → LeastSoFar slots is n x → n < length is → y ≡ ceiling_at slots (get_or is n 0) → z ≡ int_min x y → LeastSoFar slots is (n + 1) z
+least_step slots is n x y z s l e d = record {
+  bound = below_more (λ j. z ≤ℤ ceiling_at slots (get_or is j 0)) n (λ j c. (let q = s.bound j c in grind (arith, ints))) (grind (arith, ints));
+  reached = by_lt_z y x (λ c. (n, l, grind (arith, ints))) (λ c. (s.reached.0, s.reached.1, (let q = s.reached.2 in grind (arith, ints))));
+}
+
+pub greatest_step : (slots : List Slot) (is : List ℕ) (n : ℕ) (x y z : ℤ) → GreatestSoFar slots is n x → n < length is → y ≡ floor_at slots (get_or is n 0) → z ≡ int_max x y → GreatestSoFar slots is (n + 1) z
+greatest_step slots is n x y z s l e d = record {
+  bound = below_more (λ j. floor_at slots (get_or is j 0) ≤ℤ z) n (λ j c. (let q = s.bound j c in grind (arith, ints))) (grind (arith, ints));
+  reached = by_lt_z x y (λ c. (n, l, grind (arith, ints))) (λ c. (s.reached.0, s.reached.1, (let q = s.reached.2 in grind (arith, ints))));
+}
+
+-- a number's floor and ceiling are twice the number
+pub number-placed : (x y : ℤ) → IsInBounds x → y ≡ x +ℤ x → IsPlaced (number_tree x) y y
+number-placed x y b e = rw e record {
+  floor_is = number-floor 60 x;
+  ceiling_is = number-ceiling 60 x;
+  floor_range = (grind (arith, ints), grind (arith, ints));
+  ceiling_range = (grind (arith, ints), grind (arith, ints));
+  left_stop = (x, number-left_stop 60 (num 60 x) x refl);
+  right_stop = (x, number-right_stop 60 (num 60 x) x refl);
+}
 
 pub record Holds (Ts : List Tree) (lists : List (List ℕ)) (slots : List Slot) (L : ℕ → Option ℕ) : Type 0 where
   pub all : IsKept lists (entries_of slots) × IsChained lists slots L × ArePlaced (values lists (entries_of slots)) slots
   pub values_are : values lists (entries_of slots) ≡ Ts
 
-pub holds-more : (Ts : List Tree) (lists lists1 extra : List (List ℕ)) (slots : List Slot) (L : ℕ → Option ℕ) → Holds Ts lists slots L → lists1 ≡ lists ++ extra → Holds Ts lists1 slots L
-holds-more Ts lists lists1 extra slots L h is = let k = lists_more Ts lists lists1 extra (entries_of slots) h.values_are h.all.0 is in
-    record { all = (k.0, rw is (chained-more lists extra slots L h.all.0.fit h.all.1), subst (λ us. ArePlaced us slots) (h.values_are ∙ sym k.1) h.all.2); values_are = k.1 }
+pub holds : {Ts : List Tree} {lists : List (List ℕ)} {slots : List Slot} {L : ℕ → Option ℕ}
+    → IsKept lists (entries_of slots) × IsChained lists slots L × ArePlaced (values lists (entries_of slots)) slots → values lists (entries_of slots) ≡ Ts
+    → Holds Ts lists slots L
+holds a v = record { all = a; values_are = v }
 
-pub holds-map : (Ts : List Tree) (lists : List (List ℕ)) (slots : List Slot) (L L' : ℕ → Option ℕ) → Holds Ts lists slots L → ((q : ℕ) → L' q ≡ L q) → Holds Ts lists slots L'
-holds-map Ts lists slots L L' h e = record { all = (h.all.0, record { befores = h.all.1.befores; latest_is = λ p. e p ∙ h.all.1.latest_is p }, h.all.2); values_are = h.values_are }
+placed-number : (x f c : ℤ) → IsPlaced (number_tree x) f c → IsInBounds x
+placed-number x f c p =
+    let cell : IsCell 60 (num 60 x) (x +ℤ x) = subst (λ t. IsCell 60 t (x +ℤ x)) (num-double 60 x) (half-cell 60 (x +ℤ x)) in
+    let a = (p.floor_is 60 x (x +ℤ x) cell).0 (le-refl (num 60 x)) in
+    let b = (p.ceiling_is 60 x (x +ℤ x) cell).0 (le-refl (num 60 x)) in
+    omega (arith, ints, a, b, p.floor_range, p.ceiling_range)
 
-length-trees : (Ts : List Tree) (lists : List (List ℕ)) (slots : List Slot) (L : ℕ → Option ℕ) → Holds Ts lists slots L → length Ts ≡ length slots
-length-trees Ts lists slots L h = ap length (sym h.values_are) ∙ length-values lists (entries_of slots) ∙ length-entries slots
+module _ {Ts : List Tree} {lists : List (List ℕ)} {slots : List Slot} {L : ℕ → Option ℕ} (h : Holds Ts lists slots L) where
+  abbrev es : List Entry
+  es = entries_of slots
 
-placed-push : (Ts : List Tree) (slots : List Slot) (G : Tree) (s : Slot) → length Ts ≡ length slots → ArePlaced Ts slots → IsPlaced G s.floor s.ceiling → ArePlaced (Ts ++ G ∷ []) (slots ++ s ∷ [])
-placed-push Ts slots G s count p new k l = elim (cases_lt k (length slots)) [
-  | inl b ↦ at (tree_at Ts k) (slot_at slots k) (get_or_append_left Ts (G ∷ []) (node none none) k (omega (arith, b, count))) (get_or_append_left slots (s ∷ []) _ k b) (p k b)
-  | inr b ↦ (
-      let same : k ≡ length slots = omega (arith, b, l, length-append slots (s ∷ [])) in
-      let also : k ≡ length Ts = same ∙ sym count in
-      at G s (ap (λ i. tree_at (Ts ++ G ∷ []) i) also ∙ get_or-append_seam Ts G [] (node none none)) (ap (λ i. slot_at (slots ++ s ∷ []) i) same ∙ get_or-append_seam slots s [] _) new
-      )
-]
-  where
-    at : (H : Tree) (t : Slot) → tree_at (Ts ++ G ∷ []) k ≡ H → slot_at (slots ++ s ∷ []) k ≡ t → IsPlaced H t.floor t.ceiling → IsPlaced (tree_at (Ts ++ G ∷ []) k) (floor_at (slots ++ s ∷ []) k) (ceiling_at (slots ++ s ∷ []) k)
-    at H t i j q = subst (λ X. IsPlaced X (floor_at (slots ++ s ∷ []) k) (ceiling_at (slots ++ s ∷ []) k)) (sym i) (subst (λ (u : Slot). IsPlaced H u.floor u.ceiling) (sym j) q)
+  pub length-trees : length Ts ≡ length slots
+  length-trees = ap length (sym h.values_are) ∙ length-values lists es ∙ length-entries slots
 
-pub holds-new : (Ts : List Tree) (lists : List (List ℕ)) (slots slots2 : List Slot) (L L' : ℕ → Option ℕ) (w : Wanted) (s : Slot)
-    → Holds Ts lists slots L → MayKeep Ts w → IsPlaced (meaning Ts w) s.floor s.ceiling → Fits lists (length slots) s.entry → held lists s.entry ≡ w → ((k : ℕ) → k < length slots → held lists (entry_at (entries_of slots) k) ≡ w → ⊥)
-    → slots2 ≡ slots ++ s ∷ [] → s.before ≡ L (fingerprint w)
-    → ((q : ℕ) → L' q ≡ cond (nat_eq (fingerprint w) q) (Some (length slots)) (L q)) → Holds (Ts ++ meaning Ts w ∷ []) lists slots2 L'
-holds-new Ts lists slots slots2 L L' w s h keep place fits is absent slots_is before_is map_is =
-    record {
-      all = (
-        subst (IsKept lists) (sym es_is) new.kept,
-        rw slots_is (chained-push lists slots L L' s (fingerprint w) h.all.1 (ap fingerprint is) before_is map_is),
-        subst (λ us. ArePlaced us slots2) (sym values_is) (rw slots_is (placed-push Ts slots (meaning Ts w) s (length-trees Ts lists slots L h) (subst (λ us. ArePlaced us slots) h.values_are h.all.2) place)),
-      );
-      values_are = values_is;
-    }
-  where
-    es_is : entries_of slots2 ≡ entries_of slots ++ s.entry ∷ []
-    es_is = ap entries_of slots_is ∙ entries-push slots s
+  -- an id has a slot, whose places are its tree's
+  pub in_range : (id : ℕ) → id < length Ts → id < length slots
+  in_range id l = omega (arith, l, length-trees)
 
-    new : IsNew lists (entries_of slots) (entries_of slots ++ s.entry ∷ []) w
-    new = new-entry lists (entries_of slots) s.entry w h.all.0 (subst (λ us. MayKeep us w) (sym h.values_are) keep) (subst (λ n. Fits lists n s.entry) (sym (length-entries slots)) fits) is (λ k l. absent k (omega (arith, l, length-entries slots)))
+  pub ids-below : (is : List ℕ) → AreIds Ts is → AreBelow (length slots) is
+  ids-below is a j l = in_range (get_or is j 0) (a j l)
 
-    values_is : values lists (entries_of slots2) ≡ Ts ++ meaning Ts w ∷ []
-    values_is = ap (values lists) es_is ∙ new.values_are ∙ ap (λ us. us ++ meaning us w ∷ []) h.values_are
+  pub placed-at : (id : ℕ) → id < length Ts → IsPlaced (tree_at Ts id) (floor_at slots id) (ceiling_at slots id)
+  placed-at id l = subst (λ us. ArePlaced us slots) h.values_are h.all.2 id (in_range id l)
 
--- what the options of a new form set
-module _ (Ts : List Tree) (lists : List (List ℕ)) (slots : List Slot) (L : ℕ → Option ℕ) (h : Holds Ts lists slots L) (ss : List Slot) (same : ss ≡ slots) where
-  placed : ArePlaced Ts ss
-  placed = subst (λ us. ArePlaced us ss) h.values_are (subst (ArePlaced (values lists (entries_of slots))) (sym same) h.all.2)
+  pub canonical-at : (id : ℕ) → id < length Ts → IsCanonicalTree (tree_at Ts id)
+  canonical-at = subst AreCanonical h.values_are h.all.0.canonical
 
-  pub ids-below : (is : List ℕ) → AreIds Ts is → AreBelow (length ss) is
-  ids-below is a j l = omega (arith, a j l, length-trees Ts lists slots L h, ap (λ (us : List Slot). length us) same)
+  -- what an id means
+  value-at : (k : ℕ) → k < length slots → (w : Wanted) → held lists (entry_at es k) ≡ w → tree_at Ts k ≡ meaning Ts w
+  value-at k l w i = subst (λ us. tree_at us k ≡ meaning us w) h.values_are (held-from lists es h.all.0 w k (omega (arith, l, length-entries slots)) i)
 
-  pub ceiling-small : (is : List ℕ) (x : ℤ) → AreIds Ts is → IsLeastCeiling ss is x → IsCeilingRange x
-  ceiling-small is x a l = subst IsCeilingRange l.reached.2 (placed (get_or is l.reached.0 0) (ids-below is a l.reached.0 l.reached.1)).ceiling_range
+  pub found : (k : ℕ) (w : Wanted) → (k < length slots) × (held lists (entry_at es k) ≡ w) → IsIdOf Ts (meaning Ts w) k
+  found k w (l, i) = (omega (arith, l, length-trees), value-at k l w i)
 
-  pub floor-small : (is : List ℕ) (x : ℤ) → AreIds Ts is → IsGreatestFloor ss is x → IsFloorRange x
-  floor-small is x a l = subst IsFloorRange l.reached.2 (placed (get_or is l.reached.0 0) (ids-below is a l.reached.0 l.reached.1)).floor_range
+  pub means : (k : ℕ) → k < length slots → (w : Wanted) → held lists (entry_at es k) ≡ w → IsMeaning Ts k w
+  means k l w i =
+      let short : k < length es = omega (arith, l, length-entries slots) in
+      at (entry_at es k) (h.all.0.fit k short) (subst (λ us. IsNoNumber (tree_at us k) (entry_at es k)) h.values_are (h.all.0.no_numbers k short)) w i (value-at k l w i)
+    where
+      at : (e : Entry) → Fits lists k e → IsNoNumber (tree_at Ts k) e → (w : Wanted) → held lists e ≡ w → tree_at Ts k ≡ meaning Ts w → IsMeaning Ts k w
+      at (Number y) f n (number x) i t = t
+      at (Number y) f n (options ls rs) i t = cc
+      at (Options p m) f n (number x) i t = cc
+      at (Options p m) f n (options ls rs) i t = let is = list_at lists p in let l_is : take m is ≡ ls = cc in let r_is : drop m is ≡ rs = cc in record {
+        tree = t;
+        left_below = subst (AreBelow k) l_is (left-below k m is f.1.below);
+        right_below = subst (AreBelow k) r_is (right-below k m is f.1.below);
+        left_ascends = subst IsAscending l_is f.1.left_ascends;
+        right_ascends = subst IsAscending r_is f.1.right_ascends;
+        left_some = subst (λ (xs : List ℕ). 0 < length xs) l_is (omega (arith, f.1.left_some, f.1.right_some, length-take m is));
+        right_some = subst (λ (xs : List ℕ). 0 < length xs) r_is (omega (arith, f.1.right_some, length-drop m is));
+        no_number = n;
+      }
 
-  pub options-placed : (ls rs : List ℕ) (f c : ℤ) → MayKeep Ts (options ls rs) → IsLeastCeiling ss rs f → IsGreatestFloor ss ls c → (x y : ℤ) → x ≡ f -ℤ pos 1 → y ≡ c +ℤ pos 1 → IsPlaced (form Ts ls rs) x y
-  options-placed ls rs f c keep p q x y x_is y_is = form-placed Ts ss placed (length-trees Ts lists slots L h ∙ ap (λ (us : List Slot). length us) (sym same)) ls rs f c keep.lists.0 keep.lists.1 keep.canonical keep.lists.4 p q x y x_is y_is
+  -- each number of a store is within the bounds of a Dyadic, since its floor and its ceiling are
+  pub have-forms : HaveForms Ts
+  have-forms id l = (w, m, bounds w m)
+    where
+      w : Wanted
+      w = held lists (entry_at es id)
 
--- an id has a slot
-pub in_range : (lists : List (List ℕ)) (slots : List Slot) (id : ℕ) → id < length (values lists (entries_of slots)) → id < length slots
-in_range lists slots id l = omega (arith, l, length-values lists (entries_of slots), length-entries slots)
+      m : IsMeaning Ts id w
+      m = means id (in_range id l) w refl
 
--- a number may be kept
-pub may-number : (Ts : List Tree) (x : ℤ) → MayKeep Ts (number x)
-may-number Ts x = record { canonical = number-canonical 60 x; lists = tt }
+      bounds : (w : Wanted) → IsMeaning Ts id w → IsWithinBounds w
+      bounds (number x) t = placed-number x _ _ (subst (λ G. IsPlaced G (floor_at slots id) (ceiling_at slots id)) t (placed-at id l))
+      bounds (options ls rs) t = tt
 
--- what wasn't held isn't held among more lists
-absent-more : (lists extra : List (List ℕ)) (slots : List Slot) (w : Wanted) → AllFit lists (entries_of slots) → ((k : ℕ) → k < length slots → held lists (entry_at (entries_of slots) k) ≡ w → ⊥) → (k : ℕ) → k < length slots → held (lists ++ extra) (entry_at (entries_of slots) k) ≡ w → ⊥
-absent-more lists extra slots w f absent k l i = absent k l (sym (held-more lists extra k _ (f k (omega (arith, l, length-entries slots)))) ∙ i)
+  -- the option at a place of the list
+  option : (is : List ℕ) (G : Tree) → Has (sorted (pick Ts is)) G → (j : ℕ) × (j < length is) × (G ≡ tree_at Ts (get_or is j 0))
+  option is G h = has-pick Ts is G (sorted-has (pick Ts is) G h)
+
+  has-option : (is : List ℕ) (j : ℕ) → j < length is → Has (sorted (pick Ts is)) (tree_at Ts (get_or is j 0))
+  has-option is j l = has-sorted (pick Ts is) _ (pick-has Ts is j l)
+
+  greatest-floor : (is : List ℕ) (k : ℤ) → AreIds Ts is → IsGreatestFloor slots is k → IsGreatest (IsFloor 60) (sorted (pick Ts is)) k
+  greatest-floor is k a g = record {
+    bound = λ G h. (let o = option is G h in (floor_at slots (get_or is o.0 0), subst (λ t. IsFloor 60 t (floor_at slots (get_or is o.0 0))) (sym o.2) (placed-at _ (a o.0 o.1)).floor_is, g.bound o.0 o.1));
+    reached = (tree_at Ts (get_or is g.reached.0 0), has-option is g.reached.0 g.reached.1, subst (IsFloor 60 (tree_at Ts (get_or is g.reached.0 0))) g.reached.2 (placed-at _ (a g.reached.0 g.reached.1)).floor_is);
+  }
+
+  least-ceiling : (is : List ℕ) (k : ℤ) → AreIds Ts is → IsLeastCeiling slots is k → IsLeast (IsCeiling 60) (sorted (pick Ts is)) k
+  least-ceiling is k a g = record {
+    bound = λ G h. (let o = option is G h in (ceiling_at slots (get_or is o.0 0), subst (λ t. IsCeiling 60 t (ceiling_at slots (get_or is o.0 0))) (sym o.2) (placed-at _ (a o.0 o.1)).ceiling_is, g.bound o.0 o.1));
+    reached = (tree_at Ts (get_or is g.reached.0 0), has-option is g.reached.0 g.reached.1, subst (IsCeiling 60 (tree_at Ts (get_or is g.reached.0 0))) g.reached.2 (placed-at _ (a g.reached.0 g.reached.1)).ceiling_is);
+  }
+
+  pub ceiling-small : (is : List ℕ) (x : ℤ) → AreIds Ts is → IsLeastCeiling slots is x → IsCeilingRange x
+  ceiling-small is x a l = subst IsCeilingRange l.reached.2 (placed-at _ (a l.reached.0 l.reached.1)).ceiling_range
+
+  pub floor-small : (is : List ℕ) (x : ℤ) → AreIds Ts is → IsGreatestFloor slots is x → IsFloorRange x
+  floor-small is x a l = subst IsFloorRange l.reached.2 (placed-at _ (a l.reached.0 l.reached.1)).floor_range
+
+  -- the places of a form are what its options set
+  pub options-placed : (ls rs : List ℕ) (f c : ℤ) → MayKeep Ts (options ls rs) → IsLeastCeiling slots rs f → IsGreatestFloor slots ls c
+      → (x y : ℤ) → x ≡ f -ℤ pos 1 → y ≡ c +ℤ pos 1 → IsPlaced (form Ts ls rs) x y
+  options-placed ls rs f c keep p q x y x_is y_is = rw (x_is, y_is) record {
+    floor_is = floor-by 60 G f no_number (least-ceiling rs f b p);
+    ceiling_is = ceiling-by 60 G c no_number (greatest-floor ls c a q);
+    floor_range = (let r = ceiling-small rs f b p in (grind (arith, ints), grind (arith, ints)));
+    ceiling_range = (let r = floor-small ls c a q in (grind (arith, ints), grind (arith, ints)));
+    left_stop = game-left_stop 60 G keep.lists.4 (λ L h. (let o = option ls L h in subst (λ t. (x : ℤ) × IsRightStop 60 t x) (sym o.2) (placed-at _ (a o.0 o.1)).right_stop)) _ (has-option ls q.reached.0 q.reached.1);
+    right_stop = game-right_stop 60 G keep.lists.4 (λ R h. (let o = option rs R h in subst (λ t. (x : ℤ) × IsLeftStop 60 t x) (sym o.2) (placed-at _ (b o.0 o.1)).left_stop)) _ (has-option rs p.reached.0 p.reached.1);
+  }
+    where
+      G : Tree
+      G = form Ts ls rs
+
+      a : AreIds Ts ls
+      a = keep.lists.0
+
+      b : AreIds Ts rs
+      b = keep.lists.1
+
+      no_number : IsNumber G → ⊥
+      no_number i = keep.lists.4 (i.0, i.1, canonical-number G keep.canonical i)
+
+  -- more lists, and another way to look up the latest
+  pub holds-more : (extra lists1 : List (List ℕ)) → lists1 ≡ lists ++ extra → Holds Ts lists1 slots L
+  holds-more extra lists1 is =
+      let same = values-more lists extra es h.all.0.fit in rw is record {
+        all = (kept-more lists extra es h.all.0, chained-more lists extra slots L h.all.0.fit h.all.1, subst (λ us. ArePlaced us slots) (sym same) h.all.2);
+        values_are = same ∙ h.values_are;
+      }
+
+  pub holds-map : (L' : ℕ → Option ℕ) → ((q : ℕ) → L' q ≡ L q) → Holds Ts lists slots L'
+  holds-map L' e = record { all = (h.all.0, record { befores = h.all.1.befores; latest_is = λ p. e p ∙ h.all.1.latest_is p }, h.all.2); values_are = h.values_are }
+
+  -- a new form
+  pub holds-new : (slots2 : List Slot) (L' : ℕ → Option ℕ) (w : Wanted) (s : Slot)
+      → MayKeep Ts w → IsPlaced (meaning Ts w) s.floor s.ceiling → Fits lists (length slots) s.entry → held lists s.entry ≡ w → ((k : ℕ) → k < length slots → held lists (entry_at es k) ≡ w → ⊥)
+      → slots2 ≡ slots ++ s ∷ [] → s.before ≡ L (fingerprint w)
+      → ((q : ℕ) → L' q ≡ cond (nat_eq (fingerprint w) q) (Some (length slots)) (L q)) → Holds (Ts ++ meaning Ts w ∷ []) lists slots2 L'
+  holds-new slots2 L' w s keep place fits is absent slots_is before_is map_is = rw slots_is record {
+    all = (
+      subst (IsKept lists) (sym es_is) new.kept,
+      chained-push lists slots L L' s (fingerprint w) h.all.1 (ap fingerprint is) before_is map_is,
+      subst (λ us. ArePlaced us (slots ++ s ∷ [])) (sym values_is) (push_both (λ _ G (t : Slot). IsPlaced G t.floor t.ceiling) Ts slots (meaning Ts w) (node none none) s _
+          length-trees (subst (λ us. ArePlaced us slots) h.values_are h.all.2) place),
+    );
+    values_are = values_is;
+  }
+    where
+      es_is : entries_of (slots ++ s ∷ []) ≡ entries_of slots ++ s.entry ∷ []
+      es_is = map-append (λ t. t.entry) slots (s ∷ [])
+
+      new : IsNew lists (entries_of slots) (entries_of slots ++ s.entry ∷ []) w
+      new = new-entry lists es s.entry w h.all.0 (subst (λ us. MayKeep us w) (sym h.values_are) keep)
+          (subst (λ n. Fits lists n s.entry) (sym (length-entries slots)) fits) is (λ k l. absent k (omega (arith, l, length-entries slots)))
+
+      values_is : values lists (entries_of (slots ++ s ∷ [])) ≡ Ts ++ meaning Ts w ∷ []
+      values_is = ap (values lists) es_is ∙ new.values_are ∙ ap (λ us. us ++ meaning us w ∷ []) h.values_are
 
 -- a slot behind the same slots
 pub slot-behind : (slots same more : List Slot) (s : Slot) → more ≡ same ++ s ∷ [] → same ≡ slots → more ≡ slots ++ s ∷ []
 slot-behind slots same more s e i = e ∙ ap (λ (us : List Slot). us ++ s ∷ []) i
 
 -- the options of a new form are one more list
-pub holds-options : (Ts : List Tree) (lists lists2 : List (List ℕ)) (slots slots2 : List Slot) (L L' : ℕ → Option ℕ) (ls rs : List ℕ) (place left_count : ℕ) (s : Slot)
-    → Holds Ts lists slots L → MayKeep Ts (options ls rs) → IsPlaced (form Ts ls rs) s.floor s.ceiling → ((k : ℕ) → k < length slots → held lists (entry_at (entries_of slots) k) ≡ options ls rs → ⊥)
+pub holds-options : {Ts : List Tree} {lists : List (List ℕ)} {slots : List Slot} {L : ℕ → Option ℕ} → Holds Ts lists slots L
+    → (lists2 : List (List ℕ)) (slots2 : List Slot) (L' : ℕ → Option ℕ) (ls rs : List ℕ) (place left_count : ℕ) (s : Slot)
+    → MayKeep Ts (options ls rs) → IsPlaced (form Ts ls rs) s.floor s.ceiling → ((k : ℕ) → k < length slots → held lists (entry_at (entries_of slots) k) ≡ options ls rs → ⊥)
     → lists2 ≡ lists ++ (ls ++ rs) ∷ [] → s.entry ≡ Options place left_count → place ≡ length lists → left_count ≡ length ls
     → slots2 ≡ slots ++ s ∷ [] → s.before ≡ L (fingerprint (options ls rs))
     → ((q : ℕ) → L' q ≡ cond (nat_eq (fingerprint (options ls rs)) q) (Some (length slots)) (L q)) → Holds (Ts ++ form Ts ls rs ∷ []) lists2 slots2 L'
-holds-options Ts lists lists2 slots slots2 L L' ls rs place left_count s h keep placed absent is entry_is place_is count_is slots_is before_is map_is =
-    holds-new Ts lists2 slots slots2 L L' (options ls rs) s (holds-more Ts lists lists2 ((ls ++ rs) ∷ []) slots L h is) keep placed
+holds-options {Ts} {lists} {slots} {L} h lists2 slots2 L' ls rs place left_count s keep placed absent is entry_is place_is count_is slots_is before_is map_is =
+    holds-new (holds-more h ((ls ++ rs) ∷ []) lists2 is) slots2 L' (options ls rs) s keep placed
     (rw (entry_is, place_is, count_is, is) (
       omega (arith, length-append lists ((ls ++ rs) ∷ [])),
-      subst (AreOptions (length slots) (length ls)) (sym (list-last lists (ls ++ rs))) (joined-options (length slots) ls rs
-          (λ j l. omega (arith, keep.lists.0 j l, count)) (λ j l. omega (arith, keep.lists.1 j l, count)) keep.lists.2 keep.lists.3 keep.lists.5 keep.lists.6),
+      subst (AreOptions (length slots) (length ls)) (sym last) (joined-options (length slots) ls rs
+          (ids-below h ls keep.lists.0) (ids-below h rs keep.lists.1) keep.lists.2 keep.lists.3 keep.lists.5 keep.lists.6),
     ))
-    (rw (entry_is, place_is, count_is, is) (ap (λ (xs : List ℕ). options (take (length ls) xs) (drop (length ls) xs)) (list-last lists (ls ++ rs)) ∙ ap₂ options (left-of ls rs) (right-of ls rs)))
-    (subst (λ us. (k : ℕ) → k < length slots → held us (entry_at (entries_of slots) k) ≡ options ls rs → ⊥) (sym is) (absent-more lists ((ls ++ rs) ∷ []) slots (options ls rs) h.all.0.fit absent))
+    (rw (entry_is, place_is, count_is, is) (ap (λ (xs : List ℕ). options (take (length ls) xs) (drop (length ls) xs)) last ∙ ap₂ options (take-append_seam ls rs) (drop-append_seam ls rs)))
+    (λ k l i. absent k l (sym (held-more lists ((ls ++ rs) ∷ []) k _ (h.all.0.fit k (omega (arith, l, length-entries slots))))
+    ∙ subst (λ us. held us (entry_at (entries_of slots) k) ≡ options ls rs) is i))
     slots_is before_is map_is
   where
-    count : length Ts ≡ length slots
-    count = length-trees Ts lists slots L h
-
--- what an id means
-pub means : (lists : List (List ℕ)) (es : List Entry) → IsKept lists es → (k : ℕ) → k < length es → (w : Wanted) → held lists (entry_at es k) ≡ w → IsMeaning (values lists es) k w
-means lists es h k l w i = at (entry_at es k) (h.fit k l) (h.no_numbers k l) w i (held-from lists es h w k l i)
-  where
-    Ts : List Tree
-    Ts = values lists es
-
-    at : (e : Entry) → Fits lists k e → IsNoNumber (tree_at Ts k) e → (w : Wanted) → held lists e ≡ w → tree_at Ts k ≡ meaning Ts w → IsMeaning Ts k w
-    at (Number y) f n (number x) i t = t
-    at (Number y) f n (options ls rs) i t = cc
-    at (Options p m) f n (number x) i t = cc
-    at (Options p m) f n (options ls rs) i t = let is = list_at lists p in let l_is : take m is ≡ ls = cc in let r_is : drop m is ≡ rs = cc in record {
-      tree = t;
-      left_below = subst (AreBelow k) l_is (left-below k m is f.1.below);
-      right_below = subst (AreBelow k) r_is (right-below k m is f.1.below);
-      left_ascends = subst IsAscending l_is f.1.left_ascends;
-      right_ascends = subst IsAscending r_is f.1.right_ascends;
-      left_some = subst (λ (xs : List ℕ). 0 < length xs) l_is (omega (arith, f.1.left_some, f.1.right_some, length-take m is));
-      right_some = subst (λ (xs : List ℕ). 0 < length xs) r_is (omega (arith, f.1.right_some, length-drop m is));
-      no_number = n;
-    }
+    last : list_at (lists ++ (ls ++ rs) ∷ []) (length lists) ≡ ls ++ rs
+    last = get_or-append_seam lists (ls ++ rs) [] []

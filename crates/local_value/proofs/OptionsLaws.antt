@@ -1,30 +1,327 @@
--- The form of the ids after the edges of a place, and what it shares with each tree of the same edges.
-use Rattle.std.proofs.Common.{ℕ, ◌+◌, ◌^◌, ◌<◌, ◌≡◌, inl, inr, refl, sym, subst, arith, List, [], length, get_or, Contains}
+-- What is remembered, the ids after the edges of a place as the store grows, and the form of those ids.
+use Rattle.std.proofs.Common.{ℕ, ◌+◌, ◌^◌, ◌≡◌, ◌<◌, ◌↔◌, arith, inl, inr, sym, ap, ap₂, true, Bool, get_or, subst, ◌∙◌, List, [], length, cond, Option, Some, Result, Ok, Err, OnOk, OnErr, nat_eq, ℤ, ◌+ℤ◌, ◌≤◌, to_z, of_z, w32, ◌*◌, refl, pos, neg_ℤ, ◌*ℤ◌, ◌∷◌, ◌++◌, take, Contains}
+use Rattle.std.specs.Str.{bytes_eq}
+use Rattle.std.specs.Ordering.{int_eq}
+use Rattle.std.specs.Map.{lookup}
+use Rattle.std.proofs.lemmas.Option.{same_Some}
+use Rattle.game_store.proofs.Values.{pick-same, has-pick, pick-has, push_one}
+use Rattle.std.proofs.lemmas.Bool.{cases_Bool, and_parts, eqb-true}
+use Rattle.std.proofs.lemmas.Bool.Decides.{Decides-int_eq}
+use Rattle.std.proofs.lemmas.Slice.Eq.{bytes_eq-Decides}
+use Rattle.std.specs.Prelude.{unsigned_abs, Result, IfOk, IfErr}
+use Rattle.std.proofs.lemmas.Int.{to_z-of_z, fits_signed_from_abs, ints}
+use Rattle.indexmap.specs.IndexMap.{get, IndexMap, IsUnchanged, Updates}
+use Rattle.short_games.specs.Tree.{Tree, node, tree_at, none, Has}
+use Rattle.short_games.specs.Sum.{◌+ᵍ◌}
+use Rattle.short_games.specs.TextOrder.{IsCanonicalFor}
+use Rattle.game_store.specs.Meaning.{pick, listed, AreIds, Extends, AreCanonical}
+use Rattle.short_games.specs.Number.{number_tree, IsNumber}
+use Rattle.short_games.specs.Parts.{HasMoreParts, IsNumberOf, IsOption}
+use Rattle.game_canon.specs.Outcomes.{IsCanonicalId, AreWithin, AreOptionsWithin, IsCause}
+use Rattle.local_value.specs.declared.memo.Options.{Options}
+use Rattle.local_value.specs.inner.Memo.{stones_units, same_sum, recalled_sum, IsStonesSum, AreSumsRight, same_options, recalled_form, IsFormOf, AreFormsRight}
 use Rattle.go_grid.specs.declared.grid.Colour.{Colour}
 use Rattle.go_grid.specs.declared.grid.Colour.TheVariants.{Black, White}
 use Rattle.local_graph.specs.declared.graph.Edge.{Edge}
-use Rattle.short_games.specs.Tree.{Tree, node, none, Has, tree_at}
+use Rattle.game_store.specs.Forms.{HaveForms}
+use Rattle.short_games.proofs.StopLaws.{num-scaled}
+use Rattle.game_canon.specs.declared.errors.FormError.TheVariants.{Bounds, Parts, Memory}
+use Rattle.game_canon.specs.Changes.{IsSumRefusal}
+use Rattle.sum_outcome.specs.Players.{credit, gain, options}
+use Rattle.game_canon.proofs.ChangeSteps.{extends-on}
+use Rattle.game_canon.proofs.NumberParts.{sum-fits, same-sum}
+use Rattle.local_value.specs.inner.Valuing.{noted, IsWithinAfter, IsAfter, most_units, IsNoted, tree_after, AreWithinAfter, AreAfter, AreBothAfter, IsAdded, HasEdges}
+use Rattle.std.proofs.lemmas.List.{get_or_default, length-append, get_or_append_left, get_or_push, take_all, take_more}
+use Rattle.std.proofs.lemmas.List.Elements.{Contains-append_left, Contains-get_or, Contains-push, Contains-push_cases}
+use Rattle.local_graph.specs.inner.Graph.{no_edge}
 use Rattle.short_games.specs.Order.{◌≡ᵍ◌}
-use Rattle.short_games.specs.Number.{IsNumber}
-use Rattle.short_games.specs.TextOrder.{IsCanonicalFor}
-use Rattle.game_store.specs.Meaning.{listed, AreIds, Extends}
-use Rattle.short_games.specs.Parts.{IsOption}
 use Rattle.short_games.proofs.OrderLaws.{le-trans, same-path, same-sym, same-trans}
-use Rattle.game_store.proofs.Values.{has-pick, pick-has}
 use Rattle.game_canon.specs.declared.errors.FormError.{FormError}
-use Rattle.game_canon.specs.declared.errors.FormError.TheVariants.{Parts, Bounds, Memory}
-use Rattle.game_canon.specs.Outcomes.{IsCanonicalId, IsCause, AreWithin, AreOptionsWithin}
-use Rattle.sum_outcome.specs.Players.{options}
-use Rattle.local_value.specs.inner.Memo.{IsFormOf}
-use Rattle.local_value.specs.inner.Valuing.{tree_after, AreWithinAfter, IsAfter, AreAfter, AreBothAfter, HasEdges}
-use Rattle.local_value.proofs.AfterLaws.{after-ids}
-use Rattle.local_value.proofs.MemoLaws.{listed-grown}
-use Rattle.local_value.proofs.PositionLaws.{same_options}
+use Rattle.std.proofs.lemmas.Result.{IfErr-weaker, IfOk-weaker}
+use Rattle.local_value.proofs.TreeLaws.{same_options as alike_options}
 
-after-same : (Ts Us : List Tree) (ids : List ℕ) (e : Edge) (id : ℕ) → IsAfter Ts Us ids e id → tree_after Ts ids e ≡ᵍ tree_at Us id
-after-same Ts Us ids e id a = (a.canonical.under, a.canonical.over)
+-- What is remembered stays right.
 
-module _ (Ts Us : List Tree) (ids ls rs : List ℕ) (es : List Edge) (a : AreBothAfter Ts Us ids es ls rs) where
+-- more forms change nothing
+module _ {Ts Us : List Tree} (x : Extends Ts Us) where
+  pick-grown : (is : List ℕ) → AreIds Ts is → pick Us is ≡ pick Ts is
+  pick-grown is are = pick-same Ts Us is (λ j l. x.same (get_or is j 0) (are j l))
+
+  pub listed-grown : (ls rs : List ℕ) → AreIds Ts ls → AreIds Ts rs → listed Us ls rs ≡ listed Ts ls rs
+  listed-grown ls rs l r = ap₂ node (pick-grown ls l) (pick-grown rs r)
+
+  ids-grown : (is : List ℕ) → AreIds Ts is → AreIds Us is
+  ids-grown is are j l = omega (arith, are j l, x.longer)
+
+  canonical-grown : (G : Tree) (id : ℕ) → IsCanonicalId Ts G id → IsCanonicalId Us G id
+  canonical-grown G id k = (omega (arith, k.0, x.longer), subst (IsCanonicalFor G) (sym (x.same id k.0)) k.1)
+
+  -- a sum that was made
+  pub sum-made : (game : ℕ) (stones : ℤ) (id : ℕ) → game < length Ts → IsCanonicalId Us (tree_at Ts game +ᵍ number_tree (stones_units stones)) id
+      → ((y : ℤ) → IsNumberOf (tree_at Ts game) y ↔ IsNumberOf (tree_at Us id) (y +ℤ stones_units stones)) → IsStonesSum Us game stones id
+  sum-made game stones id l value numbers = record {
+    game_id = omega (arith, l, x.longer);
+    value = subst (λ t. IsCanonicalId Us (t +ᵍ number_tree (stones_units stones)) id) (sym (x.same game l)) value;
+    numbers = subst (λ t. (y : ℤ) → IsNumberOf t y ↔ IsNumberOf (tree_at Us id) (y +ℤ stones_units stones)) (sym (x.same game l)) numbers;
+  }
+
+  pub sums-grown : (known : ℕ → ℤ → Option ℕ) → AreSumsRight Ts known → AreSumsRight Us known
+  sums-grown known right game stones id e =
+      let s = right game stones id e in
+      sum-made game stones id s.game_id (canonical-grown _ id s.value)
+      (subst (λ t. (y : ℤ) → IsNumberOf (tree_at Ts game) y ↔ IsNumberOf t (y +ℤ stones_units stones)) (sym (x.same id s.value.0)) s.numbers)
+
+  -- a form that was made
+  pub form-made : (limit : ℕ) (ls rs : List ℕ) (id : ℕ) → AreIds Ts ls → AreIds Ts rs → IsCanonicalId Us (listed Ts ls rs) id → (HasMoreParts (tree_at Us id) limit → ⊥)
+      → ((b : ℕ) → AreOptionsWithin b (listed Ts ls rs) → AreWithin (b + 2 ^ 60) (tree_at Us id)) → IsFormOf Us limit ls rs id
+  form-made limit ls rs id l r value few sizes =
+      let form = sym (listed-grown ls rs l r) in record {
+        left_ids = ids-grown ls l;
+        right_ids = ids-grown rs r;
+        value = subst (λ t. IsCanonicalId Us t id) form value;
+        few = few;
+        sizes = λ b w. sizes b (subst (AreOptionsWithin b) (sym form) w);
+      }
+
+  pub forms-grown : (limit : ℕ) (known : Options → Option ℕ) → AreFormsRight Ts limit known → AreFormsRight Us limit known
+  forms-grown limit known right options id e =
+      let f = right options id e in
+      let same = sym (x.same id f.value.0) in
+      form-made limit options.left.items options.right.items id f.left_ids f.right_ids (canonical-grown _ id f.value)
+      (subst (λ t. HasMoreParts t limit → ⊥) same f.few) (λ b w. subst (AreWithin (b + 2 ^ 60)) same (f.sizes b w))
+
+-- what is right of all that is remembered: one more is remembered, or nothing changes
+kept : {K S E : Type 0} (same : K → K → Bool) (before now : IndexMap K ℕ S) (key : K) (id : ℕ) (r : Result (Option ℕ) E)
+    → OnOk r (Updates same before now key (Some id)) → OnErr r (IsUnchanged before now)
+    → (Right : K → ℕ → Type 0) → ((k : K) → same key k ≡ true → Right k id) → ((k : K) (n : ℕ) → get same before k ≡ Some n → Right k n)
+    → (k : K) (n : ℕ) → get same now k ≡ Some n → Right k n
+kept same before now key id (Err x) ok err Right new old k n e = old k n (sym (ap (λ es. lookup (same k) es) err) ∙ e)
+kept same before now key id (Ok x) ok err Right new old k n e = elim (cases_Bool (same key k)) [
+  | inl t ↦ (
+      let is : Some id ≡ Some n = sym (ap (λ z. cond z (Some id) (get same before k)) t) ∙ sym (ok.0 k) ∙ e in
+      subst (Right k) (same_Some id n is) (new k t)
+      )
+  | inr f ↦ old k n (sym (ap (λ z. cond z (Some id) (get same before k)) f) ∙ sym (ok.0 k) ∙ e)
+]
+
+pub sum-kept : {S E : Type 0} (before now : IndexMap (ℕ × ℤ) ℕ S) (game : ℕ) (stones : ℤ) (sum : ℕ) (r : Result (Option ℕ) E)
+    → OnOk r (Updates same_sum before now (game, stones) (Some sum)) → OnErr r (IsUnchanged before now)
+    → (Ts : List Tree) → IsStonesSum Ts game stones sum → AreSumsRight Ts (recalled_sum before) → AreSumsRight Ts (recalled_sum now)
+sum-kept before now game stones sum r ok err Ts s right g n id e =
+    kept same_sum before now (game, stones) sum r ok err (λ k i. IsStonesSum Ts k.0 k.1 i)
+    (λ k t. let p = and_parts (nat_eq game k.0) (int_eq stones k.1) t in
+    subst (λ z. IsStonesSum Ts k.0 z sum) ((Decides-int_eq stones k.1).0 p.1) (subst (λ z. IsStonesSum Ts z stones sum) (eqb-true game k.0 p.0) s))
+    (λ k i h. right k.0 k.1 i h) (g, n) id e
+
+pub form-kept : {S E : Type 0} (before now : IndexMap Options ℕ S) (key options : Options) (form : ℕ) (r : Result (Option ℕ) E)
+    → OnOk r (Updates same_options before now key (Some form)) → OnErr r (IsUnchanged before now) → key.left.items ≡ options.left.items → key.right.items ≡ options.right.items
+    → (Ts : List Tree) (limit : ℕ) → IsFormOf Ts limit options.left.items options.right.items form → AreFormsRight Ts limit (recalled_form before) → AreFormsRight Ts limit (recalled_form now)
+form-kept before now key options form r ok err left right Ts limit f known =
+    kept same_options before now key form r ok err (λ o i. IsFormOf Ts limit o.left.items o.right.items i)
+    (λ o t. let p = and_parts (bytes_eq key.left.items o.left.items) (bytes_eq key.right.items o.right.items) t in
+    let ls = sym left ∙ (bytes_eq-Decides key.left.items o.left.items).0 p.0 in
+    let rs = sym right ∙ (bytes_eq-Decides key.right.items o.right.items).0 p.1 in
+    subst (λ z. IsFormOf Ts limit o.left.items z form) rs (subst (λ z. IsFormOf Ts limit z options.right.items form) ls f))
+    known
+
+-- few stones are passed as they are
+pub held : (stones : ℤ) → unsigned_abs stones ≤ 255 → to_z w32 (of_z w32 stones) ≡ stones
+held stones h = to_z-of_z w32 stones (fits_signed_from_abs w32 stones (omega (arith, ints, h)))
+
+-- Stones as numbers.
+
+credit-tree : (c : Colour) (n : ℕ) (x : ℤ) → x ≡ credit c n *ℤ pos (2 ^ 60) → number_tree x ≡ gain c n
+credit-tree c n x e = ap number_tree e ∙ num-scaled 60 0 (credit c n)
+
+credit-size : (c : Colour) (n : ℕ) (x : ℤ) → x ≡ credit c n *ℤ pos (2 ^ 60) → unsigned_abs x ≡ n * 2 ^ 60
+credit-size Black n x e = omega (arith, ints, e)
+credit-size White n x e = omega (arith, ints, e)
+
+-- the sum of two numbers is no larger than their sizes
+pub sum-size : (y x : ℤ) (n b : ℕ) → unsigned_abs x ≡ n → unsigned_abs y + n ≤ b → unsigned_abs (y +ℤ x) ≤ b
+sum-size y x n b e le = omega (arith, ints, e, le)
+
+module _ (Ts : List Tree) (ids : List ℕ) (e : Edge) (x : ℤ) (is : x ≡ credit e.colour e.taken *ℤ pos (2 ^ 60)) where
+  size : unsigned_abs x ≡ e.taken * 2 ^ 60
+  size = credit-size e.colour e.taken x is
+
+  -- nothing is refused where the sums are small
+  pub never-refused : HaveForms Ts → AreCanonical Ts → get_or ids e.next 0 < length Ts → IsWithinAfter most_units Ts ids e → IsSumRefusal (noted Ts ids e.next +ᵍ number_tree x) Bounds → ⊥
+  never-refused forms canonical lt small = sum-fits Ts (get_or ids e.next 0) x forms lt (canonical (get_or ids e.next 0) lt)
+      (λ y n. let le = sum-size y x (e.taken * 2 ^ 60) most_units size (small y n) in omega (arith, le))
+
+  value-after : (Us : List Tree) (id : ℕ) → IsCanonicalId Us (noted Ts ids e.next +ᵍ number_tree x) id
+      → ((y : ℤ) → IsNumberOf (noted Ts ids e.next) y ↔ IsNumberOf (tree_at Us id) (y +ℤ x)) → IsAfter Ts Us ids e id
+  value-after Us id value numbers = record {
+    known = value.0;
+    canonical = subst (λ t. IsCanonicalFor (noted Ts ids e.next +ᵍ t) (tree_at Us id)) (credit-tree e.colour e.taken x is) value.1;
+    sizes = λ b w z n.
+        (let back : (z +ℤ neg_ℤ x) +ℤ x ≡ z = omega (arith, ints) in
+        let old = (numbers (z +ℤ neg_ℤ x)).1 (subst (IsNumberOf (tree_at Us id)) (sym back) n) in
+        subst (λ y. unsigned_abs y ≤ b) back (sum-size (z +ℤ neg_ℤ x) x (e.taken * 2 ^ 60) b size (w (z +ℤ neg_ℤ x) old)));
+  }
+
+credit-zero : (c : Colour) (n : ℕ) → n ≡ 0 → credit c n *ℤ pos (2 ^ 60) ≡ pos 0
+credit-zero Black n e = omega (arith, ints, e)
+credit-zero White n e = omega (arith, ints, e)
+
+-- where no stones are taken, the value stays
+pub value-untaken : (Ts : List Tree) (ids : List ℕ) (e : Edge) → e.taken ≡ 0 → get_or ids e.next 0 < length Ts → AreCanonical Ts → IsAfter Ts Ts ids e (get_or ids e.next 0)
+value-untaken Ts ids e untaken lt canonical =
+    let zero = credit-zero e.colour e.taken untaken in
+    value-after Ts ids e (credit e.colour e.taken *ℤ pos (2 ^ 60)) refl Ts (get_or ids e.next 0) (same-sum Ts (get_or ids e.next 0) _ zero lt (canonical (get_or ids e.next 0) lt))
+    (λ y. subst (λ z. IsNumberOf (noted Ts ids e.next) y ↔ IsNumberOf (noted Ts ids e.next) z) (same y _ zero) (λ n. n, λ n. n))
+  where
+    same : (y x : ℤ) → x ≡ pos 0 → y ≡ y +ℤ x
+    same y x z = omega (arith, ints, z)
+
+-- the sum with the stones that an edge takes
+pub value-summed : (Ts Us : List Tree) (ids : List ℕ) (e : Edge) (stones : ℤ) (id : ℕ) → stones ≡ credit e.colour e.taken → Extends Ts Us → get_or ids e.next 0 < length Ts → IsStonesSum Us (get_or ids e.next 0) stones id → IsAfter Ts Us ids e id
+value-summed Ts Us ids e stones id is x lt s =
+    let same = x.same (get_or ids e.next 0) lt in
+    value-after Ts ids e (stones_units stones) (ap stones_units is) Us id (subst (λ t. IsCanonicalId Us (t +ᵍ number_tree (stones_units stones)) id) same s.value)
+    (subst (λ t. (y : ℤ) → IsNumberOf t y ↔ IsNumberOf (tree_at Us id) (y +ℤ stones_units stones)) same s.numbers)
+
+-- The ids after the edges of a place, as the store grows.
+
+-- what is noted stays so
+module _ {Ts Us : List Tree} (x : Extends Ts Us) (ids : List ℕ) where
+  noted-kept : (i : ℕ) → IsNoted Ts ids i → IsNoted Us ids i × (noted Us ids i ≡ noted Ts ids i)
+  noted-kept i n = ((n.0, omega (arith, n.1, x.longer)), x.same (get_or ids i 0) n.1)
+
+  within-on : (e : Edge) (b : ℕ) → IsNoted Ts ids e.next → IsWithinAfter b Ts ids e → IsWithinAfter b Us ids e
+  within-on e b n w y h = w y (subst (λ t. IsNumberOf t y) (noted-kept e.next n).1 h)
+
+  after-from : {Vs : List Tree} (e : Edge) (id : ℕ) → IsNoted Ts ids e.next → IsAfter Us Vs ids e id → IsAfter Ts Vs ids e id
+  after-from {Vs} e id n a = record {
+    known = a.known;
+    canonical = subst (λ t. IsCanonicalFor (t +ᵍ gain e.colour e.taken) (tree_at Vs id)) (noted-kept e.next n).1 a.canonical;
+    sizes = λ b w. a.sizes b (within-on e b n w);
+  }
+
+all-kept : {Ts Us Vs : List Tree} {ids : List ℕ} {c : Colour} {es : List Edge} {afters : List ℕ} → Extends Us Vs
+    → AreAfter Ts Us ids c es afters → AreAfter Ts Vs ids c es afters
+all-kept {Ts} {Us} {Vs} {ids} x all = record {
+  from = λ j lt. (let f = all.from j lt in (f.0, f.1, f.2, on f.0 _ f.3));
+  to = λ e h s. (let t = all.to e h s in (t.0, t.1, on e _ t.2));
+}
+  where
+    on : (e : Edge) (id : ℕ) → IsAfter Ts Us ids e id → IsAfter Ts Vs ids e id
+    on e id a =
+        let same = sym (x.same id a.known) in record {
+          known = omega (arith, a.known, x.longer);
+          canonical = subst (IsCanonicalFor (tree_after Ts ids e)) same a.canonical;
+          sizes = λ b w. subst (AreWithin b) same (a.sizes b w);
+        }
+
+-- the loop over the edges: the store so far, and the ids after the edges so far
+pub record IsListing (Ts Us : List Tree) (ids : List ℕ) (c : Colour) (es : List Edge) (n : ℕ) (afters : List ℕ) : Type 0 where
+  pub kept : Extends Ts Us
+  pub so_far : AreAfter Ts Us ids c (take n es) afters
+
+module _ {Ts Us : List Tree} {ids : List ℕ} {c : Colour} {es : List Edge} {n : ℕ} {afters : List ℕ}
+    (w : IsListing Ts Us ids c es n afters) (among : n < length es) where
+  abbrev e : Edge
+  e = get_or es n no_edge
+
+  next : take (n + 1) es ≡ take n es ++ e ∷ []
+  next = take_more es n no_edge among
+
+  edge_among : Contains es e
+  edge_among = Contains-get_or es n no_edge among
+
+  listing-skip : {Vs : List Tree} → Extends Us Vs → (e.colour ≡ c → ⊥) → IsListing Ts Vs ids c es (n + 1) afters
+  listing-skip {Vs} x other =
+      let old = all-kept x w.so_far in record {
+        kept = extends-on Ts Us Vs w.kept x;
+        so_far = subst (λ z. AreAfter Ts Vs ids c z afters) (sym next) record {
+          from = λ j lt. (let f = old.from j lt in (f.0, Contains-append_left (take n es) (e ∷ []) f.0 f.1, f.2, f.3));
+          to = λ d h s. elim (Contains-push_cases (take n es) e d h) [ inl i ↦ old.to d i s | inr i ↦ absurd (other (ap (λ z. z.colour) i ∙ s)) ];
+        };
+      }
+
+  module _ (noted : (d : Edge) → Contains es d → IsNoted Ts ids d.next) where
+    pub step-noted : IsNoted Us ids e.next
+    step-noted = (noted-kept w.kept ids e.next (noted e edge_among)).0
+
+    pub step-within : (b : ℕ) → AreWithinAfter b Ts ids es → IsWithinAfter b Us ids e
+    step-within b small = within-on w.kept ids e b (noted e edge_among) (small e edge_among)
+
+    listing-push : {Vs : List Tree} (id : ℕ) → e.colour ≡ c → Extends Us Vs → IsAfter Us Vs ids e id → IsListing Ts Vs ids c es (n + 1) (afters ++ id ∷ [])
+    listing-push {Vs} id same x a = record {
+      kept = extends-on Ts Us Vs w.kept x;
+      so_far = subst (λ z. AreAfter Ts Vs ids c z (afters ++ id ∷ [])) (sym next) record { from = from; to = to };
+    }
+      where
+        old : AreAfter Ts Vs ids c (take n es) afters
+        old = all-kept x w.so_far
+
+        here : IsAfter Ts Vs ids e id
+        here = after-from w.kept ids e id (noted e edge_among) a
+
+        more : length (afters ++ id ∷ []) ≡ length afters + 1
+        more = length-append afters (id ∷ [])
+
+        from : (j : ℕ) → j < length (afters ++ id ∷ []) → (d : Edge) × Contains (take n es ++ e ∷ []) d × (d.colour ≡ c) × IsAfter Ts Vs ids d (get_or (afters ++ id ∷ []) j 0)
+        from = push_one (λ _ i. (d : Edge) × Contains (take n es ++ e ∷ []) d × (d.colour ≡ c) × IsAfter Ts Vs ids d i) afters id 0
+            (λ j l. let f = old.from j l in (f.0, Contains-append_left (take n es) (e ∷ []) f.0 f.1, f.2, f.3)) (e, Contains-push (take n es) e, same, here)
+
+        to : (d : Edge) → Contains (take n es ++ e ∷ []) d → d.colour ≡ c → (j : ℕ) × (j < length (afters ++ id ∷ [])) × IsAfter Ts Vs ids d (get_or (afters ++ id ∷ []) j 0)
+        to d h s = elim (Contains-push_cases (take n es) e d h) [
+          | inl i ↦ (let t = old.to d i s in (t.0, omega (arith, t.1, more), subst (IsAfter Ts Vs ids d) (sym (get_or_append_left afters (id ∷ []) 0 t.0 t.1)) t.2))
+          | inr i ↦ (length afters, omega (arith, more), subst (λ z. IsAfter Ts Vs ids z (get_or (afters ++ id ∷ []) (length afters) 0)) i (subst (IsAfter Ts Vs ids e) (sym (get_or_push afters id 0 (length afters) refl)) here))
+        ]
+
+-- the loop goes on for both players
+pub listing-add : {Ts Us Vs : List Tree} {ids : List ℕ} {es : List Edge} {n : ℕ} (before now : Options) (id : ℕ) (c : Colour) → n < length es
+    → IsListing Ts Us ids Black es n before.left.items → IsListing Ts Us ids White es n before.right.items
+    → c ≡ (get_or es n no_edge).colour → Extends Us Vs → ((d : Edge) → Contains es d → IsNoted Ts ids d.next) → IsAfter Us Vs ids (get_or es n no_edge) id → IsAdded c id before now
+    → IsListing Ts Vs ids Black es (n + 1) now.left.items × IsListing Ts Vs ids White es (n + 1) now.right.items
+listing-add before now id Black among l r same x noted a (added, other) =
+    rw (added, other) (listing-push l among noted id (sym same) x a, listing-skip r among x (λ w. let e : Black ≡ White = same ∙ w in cc))
+listing-add before now id White among l r same x noted a (other, added) =
+    rw (added, other) (listing-skip l among x (λ b. let e : White ≡ Black = same ∙ b in cc), listing-push r among noted id (sym same) x a)
+
+pub listing-done : {Ts Us : List Tree} {ids : List ℕ} {es : List Edge} {n : ℕ} {ls rs : List ℕ} → length es ≤ n
+    → IsListing Ts Us ids Black es n ls → IsListing Ts Us ids White es n rs → AreBothAfter Ts Us ids es ls rs
+listing-done {Ts} {Us} {ids} {es} {n} {ls} {rs} le l r = record {
+  left = subst (λ z. AreAfter Ts Us ids Black z ls) (take_all n es le) l.so_far;
+  right = subst (λ z. AreAfter Ts Us ids White z rs) (take_all n es le) r.so_far;
+}
+
+-- what is said of the ids after a player's edges is said of the same ids in another order
+after-same : {Ts Us : List Tree} {ids : List ℕ} {c : Colour} {es : List Edge} (afters others : List ℕ) → ((i : ℕ) → Contains others i ↔ Contains afters i)
+    → AreAfter Ts Us ids c es afters → AreAfter Ts Us ids c es others
+after-same {Ts} {Us} {ids} afters others same w = record {
+  from = λ j lt.
+      let at = (same (get_or others j 0)).0 (Contains-get_or others j 0 lt) in
+      let e = w.from at.0 at.1 in
+      (e.0, e.1, e.2, subst (IsAfter Ts Us ids e.0) (get_or_default afters at.0 0 (get_or others j 0) at.1 ∙ at.2) e.3);
+  to = λ e among colour.
+      let j = w.to e among colour in
+      let at = (same (get_or afters j.0 0)).1 (Contains-get_or afters j.0 0 j.1) in
+      (at.0, at.1, subst (IsAfter Ts Us ids e) (sym (get_or_default others at.0 0 (get_or afters j.0 0) at.1 ∙ at.2)) j.2);
+}
+
+pub both-same : {Ts Us : List Tree} {ids : List ℕ} {es : List Edge} (ls rs ls' rs' : List ℕ) → ((i : ℕ) → Contains ls' i ↔ Contains ls i)
+    → ((i : ℕ) → Contains rs' i ↔ Contains rs i) → AreBothAfter Ts Us ids es ls rs → AreBothAfter Ts Us ids es ls' rs'
+both-same ls rs ls' rs' left right w = record { left = after-same ls ls' left w.left; right = after-same rs rs' right w.right }
+
+-- The form of the ids after the edges of a place, and what it shares with each tree of the same edges.
+
+canonical-as : (G H C : Tree) → G ≡ᵍ H → IsCanonicalFor G C → IsCanonicalFor H C
+canonical-as G H C s k = record { canonical = k.canonical; under = le-trans H G C s.1 k.under; over = le-trans C G H k.over s.0 }
+
+-- equal trees are numbers alike, and refused alike
+pub number-as : (G H : Tree) → G ≡ᵍ H → IsNumber G → IsNumber H
+number-as G H s n = (n.0, n.1, le-trans H G _ s.1 n.2, le-trans _ G H n.3 s.0)
+
+cause-as : (G H : Tree) (limit : ℕ) (e : FormError) → G ≡ᵍ H → IsCause G limit e → IsCause H limit e
+cause-as G H limit Parts s w = (λ n. w.0 (number-as H G (s.1, s.0) n), λ C k. w.1 C (canonical-as H G C (s.1, s.0) k))
+cause-as G H limit Bounds s w = (number-as G H s w.0, λ x b y z. w.1 x b (le-trans G H _ s.0 y) (le-trans _ H G z s.1))
+cause-as G H limit (Memory cause) s w = tt
+
+module _ {Ts Us : List Tree} {ids ls rs : List ℕ} {es : List Edge} (a : AreBothAfter Ts Us ids es ls rs) where
   abbrev side : Colour → List ℕ
   side Black = ls
   side White = rs
@@ -34,16 +331,16 @@ module _ (Ts Us : List Tree) (ids ls rs : List ℕ) (es : List Edge) (a : AreBot
   afters White = a.right
 
   pub left-ids : AreIds Us ls
-  left-ids = after-ids Ts Us ids Black es ls a.left
+  left-ids j lt = (a.left.from j lt).3.known
 
   pub right-ids : AreIds Us rs
-  right-ids = after-ids Ts Us ids White es rs a.right
+  right-ids j lt = (a.right.from j lt).3.known
 
   listed-out : (c : Colour) (X : Tree) → Has (options c (listed Us ls rs)) X → (e : Edge) × Contains es e × (e.colour ≡ c) × (tree_after Ts ids e ≡ᵍ X)
   listed-out c X h =
       let q = picked c h in
       let f = (afters c).from q.0 q.1 in
-      (f.0, f.1, f.2, same-trans _ _ _ (after-same Ts Us ids f.0 _ f.3) (same-sym _ _ (same-path _ _ q.2)))
+      (f.0, f.1, f.2, same-trans _ _ _ (f.3.canonical.under, f.3.canonical.over) (same-sym _ _ (same-path _ _ q.2)))
     where
       picked : (c : Colour) → Has (options c (listed Us ls rs)) X → (j : ℕ) × (j < length (side c)) × (X ≡ tree_at Us (get_or (side c) j 0))
       picked Black h = has-pick Us ls X h
@@ -52,7 +349,7 @@ module _ (Ts Us : List Tree) (ids ls rs : List ℕ) (es : List Edge) (a : AreBot
   listed-in : (e : Edge) → Contains es e → (X : Tree) × Has (options e.colour (listed Us ls rs)) X × (X ≡ᵍ tree_after Ts ids e)
   listed-in e among =
       let t = (afters e.colour).to e among refl in
-      (tree_at Us (get_or (side e.colour) t.0 0), picked e.colour t.0 t.1, same-sym _ _ (after-same Ts Us ids e _ t.2))
+      (tree_at Us (get_or (side e.colour) t.0 0), picked e.colour t.0 t.1, same-sym _ _ (t.2.canonical.under, t.2.canonical.over))
     where
       picked : (c : Colour) (j : ℕ) → j < length (side c) → Has (options c (listed Us ls rs)) (tree_at Us (get_or (side c) j 0))
       picked Black j lt = pick-has Us ls j lt
@@ -60,7 +357,7 @@ module _ (Ts Us : List Tree) (ids ls rs : List ℕ) (es : List Edge) (a : AreBot
 
   -- a tree of the edges is equal to the form
   pub edges-same : (G : Tree) → HasEdges Ts ids es G → listed Us ls rs ≡ᵍ G
-  edges-same G has = same_options (listed Us ls rs) G
+  edges-same G has = alike_options (listed Us ls rs) G
       (λ c X h. (
       let f = listed-out c X h in
       let t = has.to f.0 f.1 in
@@ -82,34 +379,20 @@ module _ (Ts Us : List Tree) (ids ls rs : List ℕ) (es : List Edge) (a : AreBot
       at (inl h) = let q = has-pick Us ls L h in subst (AreWithin m) (sym q.2) (within Black q.0 q.1)
       at (inr h) = let q = has-pick Us rs L h in subst (AreWithin m) (sym q.2) (within White q.0 q.1)
 
--- equal trees have one canonical tree, and are refused alike
-canonical-as : (Ts : List Tree) (G H : Tree) (id : ℕ) → G ≡ᵍ H → IsCanonicalId Ts G id → IsCanonicalId Ts H id
-canonical-as Ts G H id s k = (k.0, canonical-moved G H (tree_at Ts id) s k.1)
-  where
-    canonical-moved : (G H C : Tree) → G ≡ᵍ H → IsCanonicalFor G C → IsCanonicalFor H C
-    canonical-moved G H C s k = record { canonical = k.canonical; under = le-trans H G C s.1 k.under; over = le-trans C G H k.over s.0 }
+  -- the form that is made of the ids is that of each tree of the edges
+  module _ {Vs : List Tree} (x : Extends Us Vs) (limit : ℕ) (r : Result ℕ FormError) where
+    form-same : listed Vs ls rs ≡ listed Us ls rs
+    form-same = listed-grown x ls rs left-ids right-ids
 
-pub number-as : (G H : Tree) → G ≡ᵍ H → IsNumber G → IsNumber H
-number-as G H s n = (n.0, n.1, le-trans H G _ s.1 n.2, le-trans _ G H n.3 s.0)
+    pub form-values : IfOk r (IsFormOf Vs limit ls rs) → IfOk r (λ id. (G : Tree) → HasEdges Ts ids es G → IsCanonicalId Vs G id)
+    form-values = IfOk-weaker r _ _ (λ id f G has.
+        (f.value.0, canonical-as (listed Us ls rs) G _ (edges-same G has) (subst (λ t. IsCanonicalFor t (tree_at Vs id)) form-same f.value.1)))
 
-pub cause-as : (G H : Tree) (limit : ℕ) (e : FormError) → G ≡ᵍ H → IsCause G limit e → IsCause H limit e
-cause-as G H limit Parts s w = (
-  λ n. w.0 (number-as H G (s.1, s.0) n),
-  λ C k. w.1 C record { canonical = k.canonical; under = le-trans G H C s.0 k.under; over = le-trans C H G k.over s.1 },
-)
-cause-as G H limit Bounds s w = (number-as G H s w.0, λ x b y z. w.1 x b (le-trans G H _ s.0 y) (le-trans _ H G z s.1))
-cause-as G H limit (Memory cause) s w = tt
+    pub form-sizes : IfOk r (IsFormOf Vs limit ls rs) → IfOk r (λ id. (b : ℕ) → AreWithinAfter b Ts ids es → AreWithin (b + 2 ^ 60) (tree_at Vs id))
+    form-sizes = IfOk-weaker r _ _ (λ id f b w. f.sizes b (subst (AreOptionsWithin b) (sym form-same) (options-within b w)))
 
--- the form that is made of the ids is that of each tree of the edges
-module _ (Ts Us : List Tree) (ids ls rs : List ℕ) (es : List Edge) (a : AreBothAfter Ts Us ids es ls rs) (Vs : List Tree) (limit id : ℕ) (x : Extends Us Vs) (f : IsFormOf Vs limit ls rs id) where
-  same : listed Vs ls rs ≡ listed Us ls rs
-  same = listed-grown Us Vs ls rs x (left-ids Ts Us ids ls rs es a) (right-ids Ts Us ids ls rs es a)
-
-  pub form-valued : (G : Tree) → HasEdges Ts ids es G → IsCanonicalId Vs G id
-  form-valued G has = canonical-as Vs (listed Us ls rs) G id (edges-same Ts Us ids ls rs es a G has) (subst (λ t. IsCanonicalId Vs t id) same f.value)
-
-  pub form-within : (m : ℕ) → AreWithinAfter m Ts ids es → AreWithin (m + 2 ^ 60) (tree_at Vs id)
-  form-within m w = f.sizes m (subst (AreOptionsWithin m) (sym same) (options-within Ts Us ids ls rs es a m w))
+    pub form-refused : IfErr r (λ e. IsCause (listed Us ls rs) limit e) → IfErr r (λ e. (G : Tree) → HasEdges Ts ids es G → IsCause G limit e)
+    form-refused = IfErr-weaker r _ _ (λ e k G has. cause-as (listed Us ls rs) G limit e (edges-same G has) k)
 
 -- a tree without edges has no option
 pub no-edges : (Ts : List Tree) (ids : List ℕ) → HasEdges Ts ids [] (node none none)

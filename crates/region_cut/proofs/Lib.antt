@@ -1,9 +1,2 @@
-pub mod WallLemmas
-pub mod PlaceLemmas
-pub mod RegionLemmas
 pub mod CutLemmas
-pub mod LinkLemmas
-pub mod FreedomLemmas
-pub mod WrittenLemmas
 pub mod LocalBoardLemmas
-pub mod ApartLemmas

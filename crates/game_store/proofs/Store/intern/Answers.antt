@@ -1,25 +1,15 @@
-use Rattle.std.proofs.Common.{rules, refl, ◌≡◌, ◌<◌, length, [], ◌∷◌, ◌++◌, arith, ◌∙◌, ap, ap₂, nat_eq, cond, Some, ℕ, List}
+use Rattle.std.proofs.Common.{arith, rules, refl, ◌≡◌, length, [], ◌∷◌, ◌++◌, sym, ◌∙◌, ap, ap₂, nat_eq, cond, Some, ℕ, List}
+use Rattle.std.proofs.lemmas.Int.{ints}
 use Rattle.std.specs.HashMap.{get}
 use Rattle.std.specs.Map.{lookup}
 use Rattle.game_store.specs.Meaning.{form}
-use Rattle.game_store.specs.inner.Meaning.{entry_at, held}
 use Rattle.game_store.specs.Meaning.Wanted.{options}
-use Rattle.game_store.specs.inner.Chain.{entries_of}
-use Rattle.game_store.proofs.Values.{held-from, length-values, extends-push, last-value, MayKeep}
-use Rattle.game_store.proofs.Chains.{length-entries}
-use Rattle.game_store.proofs.FormSteps.{below-reach, above-reach}
-use Rattle.game_store.proofs.Interned.{ids-below, ceiling-small, floor-small, options-placed, slot-behind, Holds, holds-options}
+use Rattle.game_store.proofs.Values.{extends-push, last-value, MayKeep}
+use Rattle.game_store.proofs.Interned.{floor-small, found, Holds, holds, holds-options, ids-below, length-trees, options-placed, slot-behind}
 use Rattle.game_store.proofs.Store.intern.Goals as goal
 
 pub returns-in-Some-clause-value : goal.returns-in-Some-clause-value
-returns-in-Some-clause-value c =
-    let found : (c.in-Some.id < length c.self.inside.slots.items) × (held c.self.inside.pool.lists (entry_at (entries_of c.self.inside.slots.items) c.in-Some.id) ≡ options c.args.left.now c.args.right.now)
-    = rw c.deref.ensures.value at c.in-Some.ensures.found in
-    let below : c.in-Some.id < length (entries_of c.self.inside.slots.items) = omega (arith, found.0, length-entries c.self.inside.slots.items) in
-    rw (← c.self.view_is) (
-      omega (arith, below, length-values c.self.inside.pool.lists (entries_of c.self.inside.slots.items)),
-      held-from _ _ c.self.invariant.0 _ _ below found.1,
-    )
+returns-in-Some-clause-value c = found (holds c.self.invariant c.self.view_is) c.in-Some.id (options c.args.left.now c.args.right.now) (rw c.deref.ensures.value at c.in-Some.ensures.found)
 
 last_id : (c : goal.After-drop-options-2) → c.len-id.result ≡ length c.self.inside.slots.items
 last_id c = search rules
@@ -31,9 +21,12 @@ one_list : (c : goal.After-drop-options-2) → c.push_reserved-place.new.self.li
 one_list c = c.push_reserved-place.ensures.lists ∙ ap₂ (λ (lists : List (List ℕ)) (is : List ℕ). lists ++ is ∷ []) c.in_ok-reserve-3.ensures.lists (c.deref-4.ensures.value ∙ c.in_ok-options.ensures)
 
 full : (c : goal.After-drop-options-2) → Holds (c.args.self.now ++ form c.args.self.now c.args.left.now c.args.right.now ∷ []) c.push_reserved-place.new.self.lists c.push_reserved.new.self.items (get nat_eq c.insert.new.self)
-full c = holds-options c.args.self.now c.self.inside.pool.lists _ c.self.inside.slots.items _ (get nat_eq c.self.inside.latest) (get nat_eq c.insert.new.self) c.args.left.now c.args.right.now c.push_reserved-place.result (length c.args.left.now) _
-    (record { all = c.self.invariant; values_are = c.self.view_is }) (may c)
-    (options-placed _ c.self.inside.pool.lists _ (get nat_eq c.self.inside.latest) (record { all = c.self.invariant; values_are = c.self.view_is }) c.deref-2.result.now c.deref-2.ensures.value _ _ c.least_ceiling.result c.greatest_floor.result (may c) c.least_ceiling.ensures (rw (c.deref-3.ensures.value, ← c.deref-2.ensures.value) at c.greatest_floor.ensures) _ _ c.just_below-floor.ensures c.just_above-ceiling.ensures)
+full c =
+    let here = holds c.self.invariant c.self.view_is in
+    holds-options here _ _ (get nat_eq c.insert.new.self) c.args.left.now c.args.right.now c.push_reserved-place.result (length c.args.left.now) _
+    (may c)
+    (options-placed here _ _ c.least_ceiling.result c.greatest_floor.result (may c) (rw c.deref-2.ensures.value at c.least_ceiling.ensures)
+    (rw c.deref-3.ensures.value at c.greatest_floor.ensures) _ _ c.just_below-floor.ensures c.just_above-ceiling.ensures)
     (rw c.deref.ensures.value at c.in_default.ensures.absent)
     (one_list c) refl (c.push_reserved-place.ensures.place ∙ ap (λ (lists : List (List ℕ)). length lists) c.in_ok-reserve-3.ensures.lists) refl
     (slot-behind _ _ _ _ c.push_reserved.ensures.items c.in_ok-reserve-2.ensures.items)
@@ -44,21 +37,18 @@ pub invariant_of-self-2 : goal.invariant_of-self-2
 invariant_of-self-2 c = (full c).all
 
 pub returns-clause-value : goal.returns-clause-value
-returns-clause-value c =
-    let n : c.len-id.result ≡ length c.args.self.now = rw (← c.self.view_is) (omega (arith, last_id c, length-values c.self.inside.pool.lists (entries_of c.self.inside.slots.items), length-entries c.self.inside.slots.items)) in
-    last-value _ _ _ _ n (full c).values_are
+returns-clause-value c = last-value _ _ _ _ (last_id c ∙ sym (length-trees (holds c.self.invariant c.self.view_is))) (full c).values_are
 
 pub returns-clause-kept : goal.returns-clause-kept
 returns-clause-kept c = extends-push _ _ _ (full c).values_are
 
 pub least_ceiling-requires-clause-ids : goal.least_ceiling-requires-clause-ids
-least_ceiling-requires-clause-ids c = ids-below _ c.self.inside.pool.lists _ (get nat_eq c.self.inside.latest) (record { all = c.self.invariant; values_are = c.self.view_is }) _ c.deref-2.ensures.value _ c.requires.right_ids
+least_ceiling-requires-clause-ids c = rw c.deref-2.ensures.value (ids-below (holds c.self.invariant c.self.view_is) _ c.requires.right_ids)
 
 pub greatest_floor-requires-clause-ids : goal.greatest_floor-requires-clause-ids
-greatest_floor-requires-clause-ids c = ids-below _ c.self.inside.pool.lists _ (get nat_eq c.self.inside.latest) (record { all = c.self.invariant; values_are = c.self.view_is }) _ c.deref-3.ensures.value _ c.requires.left_ids
-
-pub just_below-floor-requires : goal.just_below-floor-requires
-just_below-floor-requires c = below-reach _ (ceiling-small _ c.self.inside.pool.lists _ (get nat_eq c.self.inside.latest) (record { all = c.self.invariant; values_are = c.self.view_is }) _ c.deref-2.ensures.value _ _ c.requires.right_ids c.least_ceiling.ensures)
+greatest_floor-requires-clause-ids c = rw c.deref-3.ensures.value (ids-below (holds c.self.invariant c.self.view_is) _ c.requires.left_ids)
 
 pub just_above-ceiling-requires : goal.just_above-ceiling-requires
-just_above-ceiling-requires c = above-reach _ (floor-small _ c.self.inside.pool.lists _ (get nat_eq c.self.inside.latest) (record { all = c.self.invariant; values_are = c.self.view_is }) _ c.deref-3.ensures.value _ _ c.requires.left_ids c.greatest_floor.ensures)
+just_above-ceiling-requires c =
+    let r = floor-small (holds c.self.invariant c.self.view_is) _ _ c.requires.left_ids (rw c.deref-3.ensures.value at c.greatest_floor.ensures) in
+    omega (arith, ints, r.0, r.1)

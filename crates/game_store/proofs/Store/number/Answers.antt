@@ -1,47 +1,35 @@
-use Rattle.std.proofs.Common.{rules, ◌≡◌, ◌<◌, length, [], ◌∷◌, ◌++◌, arith, refl, ◌∙◌, ap, nat_eq, cond, Some}
+use Rattle.std.proofs.Common.{rules, ◌≡◌, length, [], ◌∷◌, ◌++◌, refl, sym, ◌∙◌, ap, nat_eq, cond, Some}
 use Rattle.std.specs.HashMap.{get}
 use Rattle.std.specs.Map.{lookup}
 use Rattle.short_games.specs.Number.{number_tree}
-use Rattle.game_store.specs.inner.Meaning.{entry_at, held}
+use Rattle.short_games.proofs.ReductionLaws.{number-canonical}
 use Rattle.game_store.specs.Meaning.Wanted.{number}
-use Rattle.game_store.specs.inner.Chain.{entries_of}
-use Rattle.game_store.proofs.Values.{held-from, length-values, extends-push, last-value}
-use Rattle.game_store.proofs.Chains.{length-entries}
-use Rattle.game_store.proofs.FormSteps.{number-placed}
-use Rattle.game_store.proofs.Interned.{Holds, holds-map, holds-new, may-number}
+use Rattle.game_store.proofs.Values.{extends-push, last-value}
+use Rattle.game_store.proofs.Interned.{Holds, found, holds, holds-map, holds-new, length-trees, number-placed}
 use Rattle.game_store.proofs.Store.number.Goals as goal
 
 pub returns-in-Some-clause-value : goal.returns-in-Some-clause-value
-returns-in-Some-clause-value c =
-    let found : (c.in-Some.id < length c.self.inside.slots.items) × (held c.self.inside.pool.lists (entry_at (entries_of c.self.inside.slots.items) c.in-Some.id) ≡ number c.args.x)
-    = rw c.deref.ensures.value at c.in-Some.ensures.found in
-    let below : c.in-Some.id < length (entries_of c.self.inside.slots.items) = omega (arith, found.0, length-entries c.self.inside.slots.items) in
-    rw (← c.self.view_is) (
-      omega (arith, below, length-values c.self.inside.pool.lists (entries_of c.self.inside.slots.items)),
-      held-from _ _ c.self.invariant.0 _ _ below found.1,
-    )
+returns-in-Some-clause-value c = found (holds c.self.invariant c.self.view_is) c.in-Some.id (number c.args.x) (rw c.deref.ensures.value at c.in-Some.ensures.found)
 
 last_id : (c : goal.In_ok-insert) → c.len-id.result ≡ length c.self.inside.slots.items
 last_id c = search rules
 
 full : (c : goal.In_ok-insert) → Holds (c.args.self.now ++ number_tree c.args.x ∷ []) c.self.inside.pool.lists c.push.new.self.items (get nat_eq c.insert.new.self)
-full c = holds-new c.args.self.now c.self.inside.pool.lists c.self.inside.slots.items _ (get nat_eq c.self.inside.latest) (get nat_eq c.insert.new.self) (number c.args.x) _
-    (record { all = c.self.invariant; values_are = c.self.view_is }) (may-number c.args.self.now c.args.x) (number-placed c.args.x _ c.at-at.ensures.bounds c.at-at.ensures.place) tt refl
+full c = holds-new (holds c.self.invariant c.self.view_is) _ (get nat_eq c.insert.new.self) (number c.args.x) _
+    (record { canonical = number-canonical 60 c.args.x; lists = tt }) (number-placed c.args.x _ c.at-at.ensures.bounds c.at-at.ensures.place) tt refl
     (rw c.deref.ensures.value at c.in_default.ensures.absent)
     c.in_ok-push.ensures.items
     (rw (← c.fingerprint_number-fingerprint.ensures) (c.copied-before.ensures ∙ c.get.ensures.value))
     (λ q. rw (← c.fingerprint_number-fingerprint.ensures, ← last_id c) (c.in_ok-insert.ensures.updates.0 q ∙ ap (cond (nat_eq c.fingerprint_number-fingerprint.result q) (Some c.len-id.result)) (ap (lookup (nat_eq q)) c.reserve.ensures.entries)))
 
 unchanged : (c : goal.After-from_residual-in_err-push) → Holds c.args.self.now c.self.inside.pool.lists c.push.new.self.items (get nat_eq c.reserve.new.self)
-unchanged c = rw c.in_err-push.ensures.items (holds-map _ _ _ _ _ (record { all = c.self.invariant; values_are = c.self.view_is }) (λ q. ap (lookup (nat_eq q)) c.reserve.ensures.entries))
+unchanged c = rw c.in_err-push.ensures.items (holds-map (holds c.self.invariant c.self.view_is) _ (λ q. ap (lookup (nat_eq q)) c.reserve.ensures.entries))
 
 pub invariant_of-self-2 : goal.invariant_of-self-2
 invariant_of-self-2 c = (full c).all
 
 pub returns-clause-value : goal.returns-clause-value
-returns-clause-value c =
-    let n : c.len-id.result ≡ length c.args.self.now = rw (← c.self.view_is) (omega (arith, last_id c, length-values c.self.inside.pool.lists (entries_of c.self.inside.slots.items), length-entries c.self.inside.slots.items)) in
-    last-value _ _ _ _ n (full c).values_are
+returns-clause-value c = last-value _ _ _ _ (last_id c ∙ sym (length-trees (holds c.self.invariant c.self.view_is))) (full c).values_are
 
 pub returns-clause-kept : goal.returns-clause-kept
 returns-clause-kept c = extends-push _ _ _ (full c).values_are

@@ -1,29 +1,24 @@
-use Rattle.std.proofs.Common.{◌≡◌, ap, sym, ◌∙◌}
+use Rattle.std.proofs.Common.{ap, sym, ◌∙◌}
 use Rattle.std.proofs.lemmas.Bool.{false≢true}
-use Rattle.game_store.specs.inner.Meaning.{entry_at, held}
-use Rattle.game_store.specs.Meaning.Wanted.{options}
 use Rattle.game_store.specs.declared.Slot.{Slot}
-use Rattle.game_store.specs.inner.Chain.{entries_of}
-use Rattle.game_store.proofs.Chains.{at-within, at-next, at-smaller, at-end, entry-at, within-at}
+use Rattle.game_store.proofs.Values.{at-within, at-next, at-smaller, at-end, entry-at, within-at}
 use Rattle.game_store.proofs.lookup.find_options.Goals as goal
 
 pub read_slot-slot-requires : goal.read_slot-slot-requires
-read_slot-slot-requires c = at-within _ _ _ _ _ c.in-Some.is c.loop-at.invariant
+read_slot-slot-requires c = at-within c.loop-at.invariant c.in-Some.is
 
 pub loop-at-smaller : goal.loop-at-smaller
-loop-at-smaller c = at-smaller c.args.pool.now.lists c.args.slots.now (options c.args.left.now c.args.right.now) c.loop-at.at _ c.in-Some.id c.requires.befores c.in-Some.is c.loop-at.invariant (ap (λ (s : Slot). s.before) c.read_slot-slot.ensures)
-
-other : (c : goal.Else-holds_options) → held c.args.pool.now.lists (entry_at (entries_of c.args.slots.now) c.in-Some.id) ≡ (options c.args.left.now c.args.right.now) → ⊥
-other c f = false≢true (sym c.if-holds_options.false ∙ c.holds_options.ensures.1 (rw (c.read_slot-slot.ensures, ← entry-at c.args.slots.now c.in-Some.id) f))
+loop-at-smaller c = at-smaller c.loop-at.invariant c.in-Some.is c.requires.befores (ap (λ (s : Slot). s.before) c.read_slot-slot.ensures)
 
 pub loop-at-preserved : goal.loop-at-preserved
-loop-at-preserved c = at-next c.args.pool.now.lists c.args.slots.now (options c.args.left.now c.args.right.now) c.loop-at.at _ c.in-Some.id c.requires.befores c.in-Some.is c.loop-at.invariant (ap (λ (s : Slot). s.before) c.read_slot-slot.ensures) (other c)
+loop-at-preserved c = at-next c.loop-at.invariant c.in-Some.is c.requires.befores (ap (λ (s : Slot). s.before) c.read_slot-slot.ensures)
+    (λ f. false≢true (sym c.if-holds_options.false ∙ c.holds_options.ensures.1 (rw (c.read_slot-slot.ensures, ← entry-at c.args.slots.now c.in-Some.id) f)))
 
 pub returns-then-holds_options-clause-found : goal.returns-then-holds_options-clause-found
-returns-then-holds_options-clause-found c = (at-within _ _ _ _ _ c.in-Some.is c.loop-at.invariant, rw (entry-at c.args.slots.now c.in-Some.id, ← c.read_slot-slot.ensures) (c.holds_options.ensures.0 c.if-holds_options.true))
+returns-then-holds_options-clause-found c = (at-within c.loop-at.invariant c.in-Some.is, rw (entry-at c.args.slots.now c.in-Some.id, ← c.read_slot-slot.ensures) (c.holds_options.ensures.0 c.if-holds_options.true))
 
 pub returns-clause-absent : goal.returns-clause-absent
-returns-clause-absent c = at-end _ _ _ _ c.in_default.is c.loop-at.invariant
+returns-clause-absent c = at-end c.loop-at.invariant c.in_default.is
 
 pub holds_options-requires : goal.holds_options-requires
-holds_options-requires c = rw c.read_slot-slot.ensures (within-at c.args.pool.now.lists c.args.slots.now c.in-Some.id c.requires.within (at-within _ _ _ _ _ c.in-Some.is c.loop-at.invariant))
+holds_options-requires c = rw c.read_slot-slot.ensures (within-at c.args.pool.now.lists c.args.slots.now c.in-Some.id c.requires.within (at-within c.loop-at.invariant c.in-Some.is))

@@ -1,9 +1,7 @@
-use Rattle.local_value.proofs.CellTreeLaws.{trees-exist}
+use Rattle.local_value.proofs.TreeLaws.{trees-exist, depths-agree, trees-same}
 use Rattle.std.proofs.Common.{List}
 use Rattle.go_grid.specs.declared.grid.Cell.{Cell}
 use Rattle.local_value.specs.PositionTree.{IsStep}
-use Rattle.local_value.proofs.DepthLaws.{depths-agree}
-use Rattle.local_value.proofs.PositionLaws.{trees-same}
 use Rattle.local_value.proofs.laws.position_tree_laws.Goals as goal
 
 pub returns-clause-one : goal.returns-clause-one

@@ -1,4 +1,4 @@
-use Rattle.local_value.proofs.MemoLaws.{form-kept}
+use Rattle.local_value.proofs.OptionsLaws.{form-kept}
 use Rattle.local_value.proofs.memo.remember_form.Goals as goal
 
 pub returns : goal.returns

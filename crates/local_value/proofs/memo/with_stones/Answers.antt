@@ -1,26 +1,20 @@
-use Rattle.std.proofs.Common.{ℤ, ◌≡◌, ◌↔◌, ◌+ℤ◌, ap, sym, subst, ◌∙◌, Some, to_z, of_z, w32}
+use Rattle.std.proofs.Common.{ℤ, ◌≡◌, ap, sym, ◌∙◌, to_z, of_z, w32}
 use Rattle.std.proofs.lemmas.Int.{to_z-of_z}
-use Rattle.short_games.specs.Sum.{◌+ᵍ◌}
-use Rattle.short_games.specs.Tree.{tree_at}
-use Rattle.short_games.specs.Number.{number_tree}
-use Rattle.short_games.specs.Parts.{IsNumberOf}
-use Rattle.game_canon.specs.Outcomes.{IsCanonicalId}
 use Rattle.local_value.specs.inner.Memo.{stones_units, recalled_sum, IsStonesSum}
-use Rattle.local_value.proofs.MemoLaws.{sum-made, sums-grown}
+use Rattle.local_value.proofs.OptionsLaws.{sum-made, sums-grown}
 use Rattle.local_value.proofs.memo.with_stones.Goals as goal
 
 pub returns-in-Some-clause-sum : goal.returns-in-Some-clause-sum
 returns-in-Some-clause-sum c = c.requires.sums c.args.game c.args.stones c.in-Some.sum
-    (subst (λ z. recalled_sum c.args.sums.now c.args.game z ≡ Some c.in-Some.sum) (to_z-of_z w32 c.args.stones c.ranges.stones) (sym c.recall_sum.ensures ∙ c.in-Some.is))
+    (rw (to_z-of_z w32 c.args.stones c.ranges.stones) at (sym c.recall_sum.ensures ∙ c.in-Some.is))
 
 -- the sum that was made
 made : (c : goal.After-remember_sum) (stones : ℤ) → c.whole.result ≡ stones_units stones → IsStonesSum c.add_number.new.store c.args.game stones c.in_ok-sum.sum
-made c stones is = sum-made c.args.store.now c.add_number.new.store c.args.game stones c.in_ok-sum.sum c.add_number.ensures.kept c.requires.game
-    (subst (λ x. IsCanonicalId c.add_number.new.store (tree_at c.args.store.now c.args.game +ᵍ number_tree x) c.in_ok-sum.sum) is c.in_ok-sum.ensures.value)
-    (subst (λ x. (y : ℤ) → IsNumberOf (tree_at c.args.store.now c.args.game) y ↔ IsNumberOf (tree_at c.add_number.new.store c.in_ok-sum.sum) (y +ℤ x)) is c.in_ok-sum.ensures.numbers)
+made c stones is = sum-made c.add_number.ensures.kept c.args.game stones c.in_ok-sum.sum c.requires.game
+    (rw is at c.in_ok-sum.ensures.value) (rw is at c.in_ok-sum.ensures.numbers)
 
 pub returns-clause-sum : goal.returns-clause-sum
 returns-clause-sum c = made c c.args.stones (c.whole.ensures ∙ ap stones_units (to_z-of_z w32 c.args.stones c.ranges.stones))
 
 pub returns-clause-sums : goal.returns-clause-sums
-returns-clause-sums c = c.remember_sum.ensures c.add_number.new.store (made c (to_z w32 (of_z w32 c.args.stones)) c.whole.ensures) (sums-grown c.args.store.now c.add_number.new.store (recalled_sum c.args.sums.now) c.add_number.ensures.kept c.requires.sums)
+returns-clause-sums c = c.remember_sum.ensures c.add_number.new.store (made c (to_z w32 (of_z w32 c.args.stones)) c.whole.ensures) (sums-grown c.add_number.ensures.kept (recalled_sum c.args.sums.now) c.requires.sums)

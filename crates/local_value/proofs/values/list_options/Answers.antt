@@ -1,34 +1,25 @@
-use Rattle.std.proofs.Common.{◌^◌, ◌-◌, refl}
-use Rattle.go_grid.specs.declared.grid.Colour.TheVariants.{Black, White}
-use Rattle.local_value.proofs.AfterLaws.{listing-start, listing-add, listing-done, both-same, step-noted, step-within}
-use Rattle.local_value.proofs.values.list_options.Goals as goal
+use Rattle.std.proofs.Common.{refl}
 use Rattle.local_value.specs.inner.Valuing.{most_units}
-
-pub loop-edge-init : goal.loop-edge-init
-loop-edge-init c = record {
-  left = listing-start c.args.store.now c.args.ids.now Black c.args.edges.now _ c.clear.ensures.items;
-  right = listing-start c.args.store.now c.args.ids.now White c.args.edges.now _ c.clear-2.ensures.items;
-  sums = c.requires.sums;
-}
+use Rattle.local_value.proofs.OptionsLaws.{listing-add, listing-done, both-same, step-noted, step-within}
+use Rattle.local_value.proofs.values.list_options.Goals as goal
 
 pub value_after-requires-clause-noted : goal.value_after-requires-clause-noted
-value_after-requires-clause-noted c = step-noted c.args.store.now c.loop-edge.store c.args.ids.now Black c.args.edges.now c.loop-edge.edge-index c.loop-edge.options.left.items c.loop-edge-test.true c.loop-edge.invariant.left
-    c.requires.noted
+value_after-requires-clause-noted c = step-noted c.loop-edge.invariant.left c.loop-edge-test.true c.requires.noted
 
 pub value_after-requires-clause-small : goal.value_after-requires-clause-small
-value_after-requires-clause-small c = step-within c.args.store.now c.loop-edge.store c.args.ids.now Black c.args.edges.now c.loop-edge.edge-index c.loop-edge.options.left.items c.loop-edge-test.true c.loop-edge.invariant.left
-    c.requires.noted most_units c.requires.small
+value_after-requires-clause-small c = step-within c.loop-edge.invariant.left c.loop-edge-test.true c.requires.noted most_units c.requires.small
 
 pub loop-edge-preserved : goal.loop-edge-preserved
 loop-edge-preserved c =
     let w = c.loop-edge.invariant in
-    let both = listing-add c.args.store.now c.loop-edge.store c.args.ids.now c.args.edges.now c.loop-edge.edge-index c.loop-edge.options c.loop-edge-test.true w.left w.right
-    c.value_after.new.store c.in_ok-after.after _ c.add_option.new.options refl c.value_after.ensures.kept c.requires.noted c.in_ok-after.ensures.value c.in_ok-add_option.ensures in
+    let both = listing-add c.loop-edge.options c.add_option.new.options c.in_ok-after.after _ c.loop-edge-test.true w.left w.right
+    refl c.value_after.ensures.kept c.requires.noted c.in_ok-after.ensures.value c.in_ok-add_option.ensures in
     record { left = both.0; right = both.1; sums = c.in_ok-after.ensures.sums }
 
 pub returns : goal.returns
 returns c = record {
-  options = both-same _ _ _ _ _ _ _ _ c.put_in_order.ensures c.put_in_order-2.ensures (listing-done c.args.store.now c.loop-edge.store c.args.ids.now c.args.edges.now c.loop-edge.edge-index c.loop-edge.options.left.items c.loop-edge.options.right.items c.loop-edge-test.false c.loop-edge.invariant.left c.loop-edge.invariant.right);
+  options = both-same _ _ _ _ c.put_in_order.ensures c.put_in_order-2.ensures
+      (listing-done c.loop-edge-test.false c.loop-edge.invariant.left c.loop-edge.invariant.right);
   sums = c.loop-edge.invariant.sums;
   kept = c.loop-edge.invariant.left.kept;
 }

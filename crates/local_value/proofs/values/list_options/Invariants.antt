@@ -1,6 +1,6 @@
 use Rattle.go_grid.specs.declared.grid.Colour.TheVariants.{Black, White}
 use Rattle.local_value.specs.inner.Memo.{recalled_sum, AreSumsRight}
-use Rattle.local_value.proofs.AfterLaws.{IsListing}
+use Rattle.local_value.proofs.OptionsLaws.{IsListing}
 use Rattle.local_value.proofs.values.list_options.Given as goal
 
 abbrev pub invariant-loop-edge : goal.invariant-loop-edge

@@ -1,14 +1,10 @@
 use Rattle.std.proofs.Common.{ap, ◌∙◌, to_z, of_z, w32}
 use Rattle.local_value.specs.inner.Memo.{stones_units}
-use Rattle.local_value.proofs.CreditLaws.{never-refused, value-untaken, value-summed}
-use Rattle.local_value.proofs.MemoLaws.{held}
+use Rattle.local_value.proofs.OptionsLaws.{never-refused, value-untaken, value-summed, held}
 use Rattle.local_value.proofs.values.value_after.Goals as goal
 
 pub returns-then-edge-eq0-clause-value : goal.returns-then-edge-eq0-clause-value
 returns-then-edge-eq0-clause-value c = value-untaken c.args.store.now c.args.ids.now c.args.edge.now c.if-edge-eq0.true c.requires.noted.1 c.len-count.ensures.canonical
-
-pub unreachable-requires : goal.unreachable-requires
-unreachable-requires c = rw c.in-Err-Parts.field-0-is at c.in-Err-Parts.ensures.refusal
 
 pub unreachable-requires-in-Err-Bounds : goal.unreachable-requires-in-Err-Bounds
 unreachable-requires-in-Err-Bounds c =

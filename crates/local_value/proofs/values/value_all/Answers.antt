@@ -1,35 +1,33 @@
-use Rattle.std.proofs.Common.{◌≡◌, arith, refl}
+use Rattle.std.proofs.Common.{arith, refl}
 use Rattle.std.proofs.lemmas.Result.{err_from_is_err_and}
 use Rattle.go_grid.specs.Region.{Region}
-use Rattle.game_canon.proofs.ChangeSteps.{passed-on}
+use Rattle.game_canon.proofs.ChangeSteps.{extends-on, passed-on}
 use Rattle.game_canon.proofs.NumberParts.{within-bounds}
 use Rattle.local_value.specs.Refusals.{IsValueRefusal}
 use Rattle.local_value.specs.Values.{IsGraphOf}
-use Rattle.local_value.proofs.AfterLaws.{extends-both}
-use Rattle.local_value.proofs.PassLaws.{pass-start}
-use Rattle.local_value.proofs.PassEndLaws.{pass-values, pass-sizes, pass-parts}
-use Rattle.local_value.proofs.PassCallLaws.{call-noted, call-small, call-step, call-refused, call-done}
+use Rattle.local_value.proofs.PassLaws.{call, pass-parts, pass-sizes, pass-values}
 use Rattle.local_value.proofs.values.value_all.Goals as goal
 
 pub valuing-init : goal.valuing-init
-valuing-init c = record { kept = record { longer = omega arith; same = λ i l. refl }; pass = λ r of. pass-start r c.args.graph.now c.args.parts_limit c.args.store.now _ (omega (arith, c.in_ok-ids.ids.ok, c.in_ok-ids.ensures.len, c.len.ensures)); memo = c.new-memo.ensures c.args.store.now c.args.parts_limit }
+valuing-init c = record {
+  kept = record { longer = omega arith; same = λ i l. refl };
+  pass = λ r of. record { long = omega (arith, c.in_ok-ids.ids.ok, c.in_ok-ids.ensures.len, c.len.ensures); each = λ j lt. absurd (omega (arith, lt)) };
+  memo = c.new-memo.ensures c.args.store.now c.args.parts_limit;
+}
 
 pub value_of-requires-clause-noted : goal.value_of-requires-clause-noted
 value_of-requires-clause-noted c = let (r, of) = c.requires.graph in
-    call-noted r c.args.graph.now of c.args.parts_limit c.valuing.store c.valuing.ids.items c.valuing.place-index (c.valuing.invariant.pass r of) c.order-place-items.result.now c.edges-edges.result.now c.deref.result.now
-    c.order-place-items.ensures c.edges-edges.ensures c.deref.ensures.value c.valuing-test.true
+    (call of (c.valuing.invariant.pass r of) c.order-place-items.ensures c.edges-edges.ensures c.deref.ensures.value c.valuing-test.true).noted
 
 pub value_of-requires-clause-small : goal.value_of-requires-clause-small
 value_of-requires-clause-small c = let (r, of) = c.requires.graph in
-    call-small r c.args.graph.now of c.args.parts_limit c.valuing.store c.valuing.ids.items c.valuing.place-index (c.valuing.invariant.pass r of) c.order-place-items.result.now c.edges-edges.result.now c.deref.result.now
-    c.order-place-items.ensures c.edges-edges.ensures c.deref.ensures.value c.valuing-test.true c.requires.few
+    (call of (c.valuing.invariant.pass r of) c.order-place-items.ensures c.edges-edges.ensures c.deref.ensures.value c.valuing-test.true).small c.requires.few
 
 pub valuing-preserved : goal.valuing-preserved
 valuing-preserved c = record {
-  kept = extends-both c.args.store.now c.valuing.store c.value_of.new.store c.valuing.invariant.kept c.value_of.ensures.kept;
+  kept = extends-on _ _ _ c.valuing.invariant.kept c.value_of.ensures.kept;
   pass = λ r of.
-      call-step r c.args.graph.now of c.args.parts_limit c.valuing.store c.valuing.ids.items c.valuing.place-index (c.valuing.invariant.pass r of) c.order-place-items.result.now c.edges-edges.result.now c.deref.result.now
-      c.order-place-items.ensures c.edges-edges.ensures c.deref.ensures.value c.valuing-test.true
+      (call of (c.valuing.invariant.pass r of) c.order-place-items.ensures c.edges-edges.ensures c.deref.ensures.value c.valuing-test.true).step
       c.value_of.new.store c.in_ok-id.id c.value_of.ensures.kept c.in_ok-id.ensures.value c.in_ok-id.ensures.sizes c.in_ok-id.ensures.parts;
   memo = c.in_ok-id.ensures.memo;
 }
@@ -37,32 +35,24 @@ valuing-preserved c = record {
 pub returns-in_err-id-clause-refusal : goal.returns-in_err-id-clause-refusal
 returns-in_err-id-clause-refusal c = passed-on c.from_residual-in_err-id.result _ (λ e. (r : Region) → IsGraphOf r c.args.graph.now → IsValueRefusal r c.args.graph.now c.args.parts_limit e)
     (err_from_is_err_and c.from_residual-in_err-id.result c.from_residual-in_err-id.ensures.1)
-    (λ r of. call-refused r c.args.graph.now of c.args.parts_limit c.valuing.store c.valuing.ids.items c.valuing.place-index (c.valuing.invariant.pass r of) c.order-place-items.result.now c.edges-edges.result.now c.deref.result.now
-    c.order-place-items.ensures c.edges-edges.ensures c.deref.ensures.value c.valuing-test.true _ c.in_err-id.ensures.refusal)
+    (λ r of. (call of (c.valuing.invariant.pass r of) c.order-place-items.ensures c.edges-edges.ensures c.deref.ensures.value c.valuing-test.true).refused
+    _ c.in_err-id.ensures.refusal)
 
 pub returns-clause-values : goal.returns-clause-values
 returns-clause-values c =
-    let same : c.from.result ≡ c.valuing.ids.items = c.from.ensures in
-    rw same (λ r of. pass-values r c.args.graph.now of c.args.parts_limit c.valuing.store c.valuing.ids.items c.valuing.place-index (c.valuing.invariant.pass r of)
-    (call-done c.args.graph.now c.valuing.place-index c.order-place-items.result.now c.order-place-items.ensures c.valuing-test.false))
+    rw c.from.ensures (λ r of. pass-values of (c.valuing.invariant.pass r of) c.order-place-items.ensures c.valuing-test.false)
 
 pub returns-clause-sizes : goal.returns-clause-sizes
 returns-clause-sizes c =
-    let same : c.from.result ≡ c.valuing.ids.items = c.from.ensures in
-    rw same (λ r of i lt. pass-sizes r c.args.graph.now of c.args.parts_limit c.valuing.store c.valuing.ids.items c.valuing.place-index (c.valuing.invariant.pass r of)
-    (call-done c.args.graph.now c.valuing.place-index c.order-place-items.result.now c.order-place-items.ensures c.valuing-test.false) i lt)
+    rw c.from.ensures (λ r of i lt. pass-sizes of (c.valuing.invariant.pass r of) c.order-place-items.ensures c.valuing-test.false i lt)
 
 pub returns-clause-parts : goal.returns-clause-parts
 returns-clause-parts c =
-    let same : c.from.result ≡ c.valuing.ids.items = c.from.ensures in
-    rw same (λ i lt. (let (r, of) = c.requires.graph in
-    pass-parts r c.args.graph.now of c.args.parts_limit c.valuing.store c.valuing.ids.items c.valuing.place-index (c.valuing.invariant.pass r of)
-    (call-done c.args.graph.now c.valuing.place-index c.order-place-items.result.now c.order-place-items.ensures c.valuing-test.false) i lt))
+    let (r, of) = c.requires.graph in
+    rw c.from.ensures (λ i lt. pass-parts of (c.valuing.invariant.pass r of) c.order-place-items.ensures c.valuing-test.false i lt)
 
 pub returns-clause-bounds : goal.returns-clause-bounds
 returns-clause-bounds c =
-    let same : c.from.result ≡ c.valuing.ids.items = c.from.ensures in
-    rw same (λ i lt. (let (r, of) = c.requires.graph in
-    let values = pass-values r c.args.graph.now of c.args.parts_limit c.valuing.store c.valuing.ids.items c.valuing.place-index (c.valuing.invariant.pass r of)
-    (call-done c.args.graph.now c.valuing.place-index c.order-place-items.result.now c.order-place-items.ensures c.valuing-test.false) in
-    within-bounds c.valuing.store c.len-count.ensures.forms _ (values.known i lt)))
+    let (r, of) = c.requires.graph in
+    rw c.from.ensures (λ i lt. within-bounds c.valuing.store c.len-count.ensures.forms _
+    ((pass-values of (c.valuing.invariant.pass r of) c.order-place-items.ensures c.valuing-test.false).known i lt))

@@ -10,42 +10,30 @@ use Rattle.region_cut.proofs.cuts.cut_sets.Goals.{then-contains+then-is+in_ok-re
 pub region_of-requires-clause-lowest : goal.region_of-requires-clause-lowest
 region_of-requires-clause-lowest c p j =
     let g = c.args.board.now in
-    let n = c.cutting.number in
-    let parts = c.components-parts.result in
-    let are = parts_of g c.size-size.result.columns c.args.within.now parts c.size-size.ensures.columns c.requires.within c.components-parts.ensures in
-    lowest_is g parts n p are (sym c.label_of.ensures ∙ c.is.ensures.0 c.if-is.true) (joined_end g.columns (IsContested g) n p j) j
+    let are = parts_of g c.args.within.now c.size-size.ensures.columns c.requires.within c.components-parts.ensures in
+    lowest_is g _ _ p are (sym c.label_of.ensures ∙ c.is.ensures.0 c.if-is.true) (joined_end g.columns (IsContested g) c.cutting.number p j) j
 
 pub cutting-preserved : goal.cutting-preserved
 cutting-preserved c =
-    let g = c.args.board.now in
-    let n = c.cutting.number in
-    let parts = c.components-parts.result in
-    let regions = c.cutting.regions.items in
-    let are = parts_of g c.size-size.result.columns c.args.within.now parts c.size-size.ensures.columns c.requires.within c.components-parts.ensures in
+    let are = parts_of c.args.board.now c.args.within.now c.size-size.ensures.columns c.requires.within c.components-parts.ensures in
     elim c.if-contains.branch [
       | then-contains+then-is+in_ok-region_of+in_ok-push w ↦
           let made = w.in_ok-region_of.ensures in
           rw (w.regions-is, w.in_ok-push.ensures.items)
-          (cut_push g parts regions _ n are (record { play = made.region; walled = made.walled }) made.named c.cutting.invariant)
+          (cut_push are c.cutting.invariant _ (record { play = made.region; walled = made.walled }) made.named)
       | else-contains w ↦
           rw w.regions-is
-          (cut_skip g parts regions n are (λ h e.
+          (cut_skip are c.cutting.invariant (λ h e.
           elim w.else-contains.branch [
             | else-contains-via-then-contains+else-is w' ↦ both_ways _ w'.if-is.false (w'.is.ensures.1 (w'.label_of.ensures ∙ e))
-            | else-contains-via-else-contains w' ↦ both_ways _ w'.if-contains.false (c.contains.ensures.1 ((c.requires.within n).1 h))
-          ]) c.cutting.invariant)
+            | else-contains-via-else-contains w' ↦ both_ways _ w'.if-contains.false (c.contains.ensures.1 ((c.requires.within _).1 h))
+          ]))
     ]
 
 pub returns-clause-regions : goal.returns-clause-regions
 returns-clause-regions c =
-    let g = c.args.board.now in
-    let parts = c.components-parts.result in
-    let are = parts_of g c.size-size.result.columns c.args.within.now parts c.size-size.ensures.columns c.requires.within c.components-parts.ensures in
-    cut_all g parts c.cutting.regions.items c.cutting.number are
-    (omega (arith, c.size-size.ensures.area, c.area-number-end.ensures.value)) c.cutting.invariant
-
-pub returns-clause-walled : goal.returns-clause-walled
-returns-clause-walled c r h = (c.cutting.invariant.each r h).0.walled
+    let are = parts_of c.args.board.now c.args.within.now c.size-size.ensures.columns c.requires.within c.components-parts.ensures in
+    cut_all are c.cutting.invariant (omega (arith, c.size-size.ensures.area, c.area-number-end.ensures.value))
 
 pub returns-clause-local : goal.returns-clause-local
 returns-clause-local c r h = plays_locally c.args.board.now r c.requires.settled (c.cutting.invariant.each r h).0.play

@@ -1,35 +1,24 @@
-use Rattle.std.proofs.Common.{◌≡◌, ◌<◌, ℕ, arith, ap, ◌∙◌, get_or, length, subst}
-use Rattle.go_grid.specs.declared.grid.Cell.TheVariants.{Empty}
-use Rattle.go_grid.specs.Board.{cell_at}
-use Rattle.go_grid.specs.Region.{touch_at}
+use Rattle.std.proofs.Common.{arith, ap, ◌∙◌, length}
 use Rattle.benson_life.proofs.HeldLemmas.{short}
-use Rattle.region_cut.specs.inner.Places.{IsTouch}
-use Rattle.region_cut.proofs.RegionLemmas.{keeps_region, region_lists, region_inside, region_first, is_region_of_play, walled_in}
+use Rattle.region_cut.proofs.CutLemmas.{keeps_region, region_lists, region_inside, region_first, is_region_of_play, walled_in}
 use Rattle.region_cut.proofs.cuts.region_of.Goals as goal
 
 pub cells_of-requires : goal.cells_of-requires
 cells_of-requires c =
-    let g = c.args.board.now in
-    let lists = region_lists g c.size-size.result.columns c.args.start c.args.within.now c.fill.result c.in_ok-points.points.items
-    c.size-size.ensures.columns c.requires.within c.fill.ensures c.in_ok-points.ensures in
-    λ k d. rw c.deref.ensures.value (region_inside g c.args.start c.in_ok-points.points.items lists k d)
+    let lists = region_lists c.args.board.now c.args.within.now c.fill.result c.size-size.ensures.columns c.requires.within c.fill.ensures c.in_ok-points.ensures in
+    λ k d. rw c.deref.ensures.value (region_inside c.args.board.now c.args.start lists k d)
 
 pub touches_of-requires-clause-short : goal.touches_of-requires-clause-short
 touches_of-requires-clause-short c =
     let g = c.args.board.now in
-    let points = c.in_ok-points.points.items in
-    let lists = region_lists g c.size-size.result.columns c.args.start c.args.within.now c.fill.result points
-    c.size-size.ensures.columns c.requires.within c.fill.ensures c.in_ok-points.ensures in
-    let few = short points (length g.cells) lists.ascending (region_inside g c.args.start points lists) in
+    let lists = region_lists g c.args.within.now c.fill.result c.size-size.ensures.columns c.requires.within c.fill.ensures c.in_ok-points.ensures in
+    let few = short c.in_ok-points.points.items (length g.cells) lists.ascending (region_inside g c.args.start lists) in
     rw c.deref-2.ensures.value (omega (arith, few, c.size-size.ensures.most))
 
 pub touches_of-requires-clause-points : goal.touches_of-requires-clause-points
 touches_of-requires-clause-points c =
-    let g = c.args.board.now in
-    let lists = region_lists g c.size-size.result.columns c.args.start c.args.within.now c.fill.result c.in_ok-points.points.items
-    c.size-size.ensures.columns c.requires.within c.fill.ensures c.in_ok-points.ensures in
-    λ k d. rw (c.deref-2.ensures.value, c.size-size.ensures.area)
-    (region_inside g c.args.start c.in_ok-points.points.items lists k d)
+    let lists = region_lists c.args.board.now c.args.within.now c.fill.result c.size-size.ensures.columns c.requires.within c.fill.ensures c.in_ok-points.ensures in
+    λ k d. rw (c.deref-2.ensures.value, c.size-size.ensures.area) (region_inside c.args.board.now c.args.start lists k d)
 
 pub touches_of-requires-clause-black : goal.touches_of-requires-clause-black
 touches_of-requires-clause-black c p m =
@@ -42,33 +31,21 @@ touches_of-requires-clause-white c p m =
 pub invariant_of-result : goal.invariant_of-result
 invariant_of-result c =
     let g = c.args.board.now in
-    let k = c.size-size.result.columns in
-    let points = c.in_ok-points.points.items in
-    let touch = c.in_ok-touch.touch.items in
-    let lists = region_lists g k c.args.start c.args.within.now c.fill.result points
-    c.size-size.ensures.columns c.requires.within c.fill.ensures c.in_ok-points.ensures in
-    keeps_region g k c.size-size.result.rows c.args.start points c.in_ok-cells.cells.items touch c.args.black.now c.args.white.now
-    c.size-size.ensures.columns c.size-size.ensures.rows c.size-size.ensures.grid.full c.requires.contested lists
+    let lists = region_lists g c.args.within.now c.fill.result c.size-size.ensures.columns c.requires.within c.fill.ensures c.in_ok-points.ensures in
+    keeps_region g c.args.start lists c.requires.contested c.in_ok-cells.cells.items c.in_ok-touch.touch.items
+    c.size-size.ensures.columns c.size-size.ensures.rows c.size-size.ensures.grid.full
     (c.in_ok-cells.ensures.long ∙ ap length c.deref.ensures.value) (c.in_ok-touch.ensures.long ∙ ap length c.deref-2.ensures.value)
-    (subst (λ xs. (i : ℕ) → i < length xs → IsTouch k xs c.args.black.now c.args.white.now (get_or xs i 0) (touch_at touch i))
-    c.deref-2.ensures.value c.in_ok-touch.ensures.each)
+    (rw c.deref-2.ensures.value at c.in_ok-touch.ensures.each)
 
 pub returns-clause-region : goal.returns-clause-region
 returns-clause-region c =
     let g = c.args.board.now in
-    let k = c.size-size.result.columns in
-    let points = c.in_ok-points.points.items in
-    let cells = c.in_ok-cells.cells.items in
-    let touch = c.in_ok-touch.touch.items in
-    let lists = region_lists g k c.args.start c.args.within.now c.fill.result points
-    c.size-size.ensures.columns c.requires.within c.fill.ensures c.in_ok-points.ensures in
-    is_region_of_play g k c.size-size.result.rows c.args.start points cells touch c.args.black.now c.args.white.now
-    c.size-size.ensures.columns c.size-size.ensures.rows (invariant_of-result c)
-    (region_first g c.args.start points c.requires.contested c.requires.lowest lists) c.requires.lowest lists
-    (subst (λ xs. (i : ℕ) → i < length xs → get_or cells i Empty ≡ cell_at g (get_or xs i 0)) c.deref.ensures.value c.in_ok-cells.ensures.each)
+    let lists = region_lists g c.args.within.now c.fill.result c.size-size.ensures.columns c.requires.within c.fill.ensures c.in_ok-points.ensures in
+    is_region_of_play g c.args.start lists c.requires.contested c.in_ok-cells.cells.items c.in_ok-touch.touch.items
+    c.size-size.ensures.columns c.size-size.ensures.rows c.size-size.ensures.grid.full
+    (c.in_ok-cells.ensures.long ∙ ap length c.deref.ensures.value) (c.in_ok-touch.ensures.long ∙ ap length c.deref-2.ensures.value)
+    (rw c.deref-2.ensures.value at c.in_ok-touch.ensures.each) c.requires.lowest (rw c.deref.ensures.value at c.in_ok-cells.ensures.each)
     c.requires.black c.requires.white
-    (subst (λ xs. (i : ℕ) → i < length xs → IsTouch k xs c.args.black.now c.args.white.now (get_or xs i 0) (touch_at touch i))
-    c.deref-2.ensures.value c.in_ok-touch.ensures.each)
 
 pub returns-clause-walled : goal.returns-clause-walled
 returns-clause-walled c =
@@ -76,7 +53,6 @@ returns-clause-walled c =
 
 pub returns-clause-named : goal.returns-clause-named
 returns-clause-named c =
-    let points = c.in_ok-points.points.items in
-    let lists = region_lists c.args.board.now c.size-size.result.columns c.args.start c.args.within.now c.fill.result points
-    c.size-size.ensures.columns c.requires.within c.fill.ensures c.in_ok-points.ensures in
-    region_first c.args.board.now c.args.start points c.requires.contested c.requires.lowest lists
+    region_first c.args.board.now c.args.start
+    (region_lists c.args.board.now c.args.within.now c.fill.result c.size-size.ensures.columns c.requires.within c.fill.ensures c.in_ok-points.ensures)
+    c.requires.contested c.requires.lowest

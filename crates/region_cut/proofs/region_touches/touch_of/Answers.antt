@@ -1,6 +1,6 @@
 use Rattle.std.proofs.Common.{◌*◌, ◌<◌}
 use Rattle.std.proofs.lemmas.List.Elements.{All-contains}
-use Rattle.region_cut.proofs.PlaceLemmas.{links_from}
+use Rattle.region_cut.proofs.CutLemmas.{links_from}
 use Rattle.region_cut.proofs.region_touches.touch_of.Goals as goal
 
 pub returns : goal.returns

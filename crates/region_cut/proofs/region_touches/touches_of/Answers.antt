@@ -2,7 +2,7 @@ use Rattle.std.proofs.Common.{arith, get_or, subst, sym}
 use Rattle.std.proofs.lemmas.List.{get_or_read, length_push}
 use Rattle.go_grid.specs.Region.{nothing_near, touch_at}
 use Rattle.region_cut.specs.inner.Places.{IsTouch}
-use Rattle.region_cut.proofs.PlaceLemmas.{push_more}
+use Rattle.region_cut.proofs.CutLemmas.{push_more}
 use Rattle.region_cut.proofs.region_touches.touches_of.Goals as goal
 
 pub touching-preserved : goal.touching-preserved
