@@ -1,5 +1,5 @@
 -- A board has one list of regions of play; what beginning answers, and what a solved game keeps at the opening.
-use Rattle.std.proofs.Common.{◌≡◌, ℕ, zero, suc, ◌+◌, ◌<◌, ◌≤◌, refl, sym, ap, ◌∙◌, subst, arith, List, [], ◌∷◌, length, get_or, map, ◌*◌, ◌/◌, ◌%◌, ◌↔◌, inl, inr, Bool, true, false, Some, None, ℤ, unsigned_abs, to_z, of_z, w64, ◌^◌, Err, pos, negsuc, replicate}
+use Rattle.std.proofs.Common.{◌≡◌, ℕ, zero, suc, ◌+◌, ◌<◌, ◌≤◌, refl, sym, ap, ◌∙◌, subst, arith, List, [], ◌∷◌, length, get_or, map, ◌*◌, ◌/◌, ◌%◌, ◌↔◌, inl, inr, Bool, true, false, Some, None, ℤ, unsigned_abs, ◌^◌, Err, pos, negsuc, replicate}
 use Rattle.std.specs.List.{Contains, sum_by, All}
 use Rattle.std.specs.List.Sorted.{IsStrictlyIncreasing}
 use Rattle.std.proofs.lemmas.List.{ext_get_or, get_or-map, get_or_default, length-map, get_or-replicate, length-replicate}
@@ -21,7 +21,6 @@ use Rattle.go_grid.specs.declared.grid.Colour.TheVariants.{Black, White}
 use Rattle.go_grid.specs.declared.region.Touch.{Touch}
 use Rattle.go_grid.specs.declared.grid.Colour.{Colour}
 use Rattle.benson_life.specs.Life.{IsAlive}
-use Rattle.std.proofs.lemmas.Int.{fits_signed_from_abs, ints, to_z-of_z}
 use Rattle.sgf_go.specs.declared.settings.Setup.{Setup}
 use Rattle.endgame_solver.specs.Faults.{AreRefused, most_steps, AreSound, IsSound}
 use Rattle.endgame_solver.specs.Solved.{Begun}
