@@ -9,3 +9,6 @@ returns-clause-used g c =
     let before = g.S.Source.left c.args.lines.now in let left = g.S.Source.left c.find_line.new.lines in let held = c.find_line.new.self in
     subst (λ l. UsesLines 0 1 c.args.input.now before l left) (sym c.drop_front.ensures)
     (used_line 256 c.args.input.now held before left c.in-Some.found.taken c.find_line.ensures.same (subst (IsFound 256 held left) c.in-Some.is c.in_ok-found.ensures.found).1 c.find_line.ensures.few)
+
+pub returns-clause-cause : goal.returns-clause-cause
+returns-clause-cause g c = record { later = c.find_line.ensures.cause.later; failed = tt }

@@ -85,3 +85,23 @@ pub returns-clause-stepped : goal.returns-clause-stepped
 returns-clause-stepped g c =
     subst (λ v. MovesOrStays v.state c.answer.new.solved.state) c.self.view_is
     (answers_step c.self.inside.solved.state c.answer.new.solved.state c.in-Ok-Line.asked c.answer.ensures.answered.0 c.answer.ensures.answered.1)
+
+pub returns-then-read-eq-MOST_LINES-clause-cause : goal.returns-then-read-eq-MOST_LINES-clause-cause
+returns-then-read-eq-MOST_LINES-clause-cause g c =
+    record { reads_later = omega arith; writes_later = omega arith; read = λ e. absurd (cc e); write = λ e. absurd (cc e) }
+
+pub returns-in-Err-clause-cause : goal.returns-in-Err-clause-cause
+returns-in-Err-clause-cause g c = let reads = c.in-Err.ensures.cause in
+    record { reads_later = reads.later; writes_later = omega arith; read = λ e. reads.failed; write = λ e. absurd (cc e) }
+
+pub returns-in-Ok-Ended-clause-cause : goal.returns-in-Ok-Ended-clause-cause
+returns-in-Ok-Ended-clause-cause g c = let k = c.end_input.ensures.cause in
+    record { reads_later = c.take_request.ensures.cause.later; writes_later = k.later; read = λ e. absurd (k.not_read e); write = k.write }
+
+pub returns-in-Err-answer-clause-cause : goal.returns-in-Err-answer-clause-cause
+returns-in-Err-answer-clause-cause g c = let reads = c.take_request.ensures.cause in let k = c.in-Err-answer.ensures.cause in
+    record { reads_later = reads.later; writes_later = k.later; read = λ e. absurd (k.not_read (ap Err (cc e))); write = λ e. k.write (ap Err (cc e)) }
+
+pub returns-clause-cause : goal.returns-clause-cause
+returns-clause-cause g c = let reads = c.take_request.ensures.cause in let writes = c.answer.ensures.cause in
+    record { reads_later = reads.later; writes_later = writes.later; read = λ e. absurd (cc e); write = λ e. absurd (cc e) }
