@@ -3,8 +3,7 @@ use Rattle.std.specs.declared.alloc.Global.{Global}
 use Rattle.std.proofs.lemmas.Result.{err_from_is_err_and}
 use Rattle.thermograph.specs.declared.breaks.Break.{Break}
 use Rattle.thermograph.specs.inner.Drawings.{AreDrawnBelow}
-use Rattle.thermograph.proofs.OptionWalls.{left-level, right-level, left-steady, right-steady, left-rises, right-rises, scaffolds-stay}
-use Rattle.thermograph.proofs.DrawingLaws.{joined-drawing, jumped}
+use Rattle.thermograph.proofs.DrawingLaws.{left-level, right-level, left-steady, right-steady, left-rises, right-rises, scaffolds-stay, joined-drawing, jumped}
 use Rattle.thermograph.proofs.drawings.draw_form.Goals as goal
 use Rattle.thermograph.proofs.drawings.draw_form.Goals.{After-deref-in-Options}
 

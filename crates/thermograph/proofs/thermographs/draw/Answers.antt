@@ -7,9 +7,8 @@ use Rattle.thermograph.specs.Breaks.{wall_at}
 use Rattle.thermograph.specs.Drawings.{DrawWalls, DrawOnGrids, IsTemperature, AreBreaks, end_of}
 use Rattle.thermograph.specs.Thermographs.{breaks, IsFromZero}
 use Rattle.thermograph.specs.inner.Thermographs.{AreInBounds}
-use Rattle.thermograph.proofs.PastBounds.{none-past_bounds, past-bounds_of}
-use Rattle.thermograph.proofs.Finer.{draw-all, draw-grids}
-use Rattle.thermograph.proofs.Points.{points-in_bounds, breaks-points, points-from_zero}
+use Rattle.thermograph.proofs.BoundLaws.{none-past_bounds, past-bounds_of}
+use Rattle.thermograph.proofs.WallLaws.{draw-all, draw-grids, points-in_bounds, breaks-points, points-from_zero}
 use Rattle.thermograph.proofs.thermographs.draw.Goals as goal
 use Rattle.thermograph.proofs.thermographs.draw.Goals.{After-drop-flags-2}
 

@@ -2,7 +2,7 @@ use Rattle.std.proofs.Common.{◌+◌, arith, sym, ◌∙◌, ap, refl}
 use Rattle.std.proofs.lemmas.Bool.{true≢false}
 use Rattle.std.proofs.lemmas.Result.{err_from_is_err_and}
 use Rattle.thermograph.specs.declared.drawings.Walls.{Walls}
-use Rattle.thermograph.proofs.Passes.{drawn-below, drawn-push, past-bounds}
+use Rattle.thermograph.proofs.DrawingLaws.{drawn-below, drawn-push, past-bounds}
 use Rattle.thermograph.proofs.thermographs.draw_below.Goals as goal
 use Rattle.thermograph.proofs.thermographs.draw_below.Goals.{then-flags-place+in_ok-drawing+in_ok-push, else-flags-place+in_ok-push-2}
 

@@ -2,8 +2,7 @@ use Rattle.std.proofs.Common.{◌+◌, ◌≤◌, ◌<◌, arith, sym, ◌∙◌
 use Rattle.std.proofs.lemmas.Int.{ints}
 use Rattle.std.proofs.lemmas.Bool.{false≢true}
 use Rattle.thermograph.specs.inner.Scaffolds.{rise, picked, IsAlong}
-use Rattle.thermograph.proofs.Bends.{rises-far, rises-slow}
-use Rattle.thermograph.proofs.Hinges.{IsHinge, rise-hinge, steep-last, flat-last}
+use Rattle.thermograph.proofs.ScaffoldLaws.{rises-far, rises-slow, IsHinge, rise-hinge, steep-last, flat-last}
 use Rattle.thermograph.proofs.scaffold.Scaffold.last_along.Goals as goal
 use Rattle.thermograph.proofs.scaffold.Scaffold.last_along.Goals.{Then-not-is_along, After-place_before}
 
