@@ -1,6 +1,6 @@
 -- Scaffolds: the greatest of the walls, where they are straight, where they bend, and where two of them meet.
 use Rattle.std.specs.declared.alloc.Global.{Global}
-use Rattle.std.proofs.Common.{ℕ, zero, suc, ◌+◌, ◌<◌, ◌≤◌, ◌≡◌, arith, refl, sym, ◌∙◌, ap, ap₂, subst, ℤ, pos, List, [], ◌∷◌, length, take, get_or, Bool, true, false, nat_eq, cond, Vec, inl, inr, below_more, ◌-◌, ◌^◌, ◌≤ℤ◌, ◌+ℤ◌, ◌-ℤ◌, ◌⊎◌, ◌<ℤ◌, ◌/◌, negsuc}
+use Rattle.std.proofs.Common.{ℕ, zero, suc, ◌+◌, ◌<◌, ◌≤◌, ◌≡◌, arith, refl, sym, ◌∙◌, ap, ap₂, subst, ℤ, pos, List, [], ◌∷◌, length, take, get_or, Bool, true, false, nat_eq, cond, Vec, inl, inr, below_more, ◌-◌, ◌^◌, ◌≤ℤ◌, ◌+ℤ◌, ◌-ℤ◌, ◌⊎◌, ◌<ℤ◌, ◌/◌, negsuc, neg_ℤ, ◌↔◌}
 use Rattle.std.specs.Int.{int_max}
 use Rattle.std.proofs.lemmas.Int.{ints, clamps, by_lt_z}
 use Rattle.std.proofs.lemmas.List.{take_all, get_or-map, length-map}
@@ -9,10 +9,10 @@ use Rattle.thermograph.specs.declared.breaks.Break.{Break}
 use Rattle.thermograph.specs.declared.side.Side.{Side}
 use Rattle.thermograph.specs.declared.side.Side.TheVariants as side
 use Rattle.thermograph.specs.inner.Breaks.{IsInRange}
-use Rattle.thermograph.specs.inner.Scaffolds.{wall_of, picked, EachWall, IsClear, turned, greatest, rise_at, scaffold_at, AreLevel, IsAlong, IsStraight, AreSteady, rise, line, IsKnown, Stays, AreApart, IsCrossing}
+use Rattle.thermograph.specs.inner.Scaffolds.{wall_of, picked, EachWall, IsClear, turned, greatest, rise_at, scaffold_at, AreLevel, IsAlong, IsStraight, AreSteady, rise, line, IsKnown, Stays, AreApart, IsCrossing, turned_wall, IsSteadyLine}
 use Rattle.thermograph.specs.Breaks.{wall_at, toward, from, Reaches, IsPath}
 use Rattle.short_games.specs.WallGrids.{Bends}
-use Rattle.thermograph.proofs.WallLaws.{toward-up, toward-down, toward-same, toward-none, at-before, at-after, from-piece}
+use Rattle.thermograph.proofs.WallLaws.{toward-up, toward-down, toward-same, toward-none, at-before, at-after, from-piece, toward-climbs, toward-dives}
 use Rattle.short_games.specs.inner.Lines.{Rises}
 use Rattle.short_games.proofs.WallLines.{below-or_at}
 use Rattle.thermograph.specs.declared.scaffold.Scaffold.{Scaffold}
@@ -86,12 +86,6 @@ rise-range s (w ∷ v ∷ ws) t l = let a = turned-range s (wall_at w t) (l 0 (o
     let b = rise-range s (v ∷ ws) t (λ j h. l (suc j) (omega (arith, h))) in
     (omega (arith, ints, clamps, a.0, b.0), omega (arith, ints, clamps, a.1, b.1))
 
-pub left_end : (ws : List (List Break)) → AreLevel ws → scaffold_at side.Left ws (2 ^ 120 - 1) ≤ℤ pos 0
-left_end ws l = let r = rise-range side.Left ws (2 ^ 120 - 1) l in omega (arith, ints, r.1)
-
-pub right_end : (ws : List (List Break)) → AreLevel ws → pos 0 ≤ℤ scaffold_at side.Right ws (2 ^ 120 - 1)
-right_end ws l = let r = rise-range side.Right ws (2 ^ 120 - 1) l in omega (arith, ints, r.1)
-
 -- A line that rises by 0 or 1 a step is straight where it goes on as it began.
 module _ (f : ℕ → ℤ) (rises : Rises f) where
   pub rises-far : (u v : ℕ) → u ≤ v → f u ≤ℤ f v
@@ -125,33 +119,39 @@ pub goes_on : (f : ℕ → ℤ) → Rises f → (start end flat steep : ℕ) →
 goes_on f r start end flat steep h p q a b = b (omega (arith, h, q)) (subst (λ n. IsAlong f true start (n + 1)) (sym q) (along-next f r start (λ e. a (omega (arith, h, p)) (subst (λ n. IsAlong f false start (n + 1)) (sym p) e))))
 
 -- a line bends exactly where it bends with t taken off, and turned over
-turned-bends : (s : Side) (f : ℕ → ℤ) (t : ℕ) → 0 < t → Bends f t → Bends (λ v. turned s (f v -ℤ pos v)) t
-turned-bends side.Left f t p b e = b (omega (arith, ints, p, e))
-turned-bends side.Right f t p b e = b (omega (arith, ints, p, e))
-
-turned-even : (s : Side) (f : ℕ → ℤ) (t : ℕ) → 0 < t → (f (t - 1) +ℤ f (t + 1) ≡ f t +ℤ f t) → Bends (λ v. turned s (f v -ℤ pos v)) t → ⊥
-turned-even side.Left f t p e b = b (omega (arith, ints, p, e))
-turned-even side.Right f t p e b = b (omega (arith, ints, p, e))
+turned-even : (s : Side) (f : ℕ → ℤ) (t : ℕ) → 0 < t
+    → (f (t - 1) +ℤ f (t + 1) ≡ f t +ℤ f t) ↔ (turned s (f (t - 1) -ℤ pos (t - 1)) +ℤ turned s (f (t + 1) -ℤ pos (t + 1)) ≡ turned s (f t -ℤ pos t) +ℤ turned s (f t -ℤ pos t))
+turned-even side.Left f t p = (λ e. omega (arith, ints, p, e), λ e. omega (arith, ints, p, e))
+turned-even side.Right f t p = (λ e. omega (arith, ints, p, e), λ e. omega (arith, ints, p, e))
 
 -- the last place to which the line goes as it began is a bend, and there is none before
-pub last-bends : (s : Side) (f : ℕ → ℤ) (rising : Bool) → Rises f → (u v : ℕ) → u < v → IsAlong f rising u v → (IsAlong f rising u (v + 1) → ⊥) → Bends (λ w. turned s (f w -ℤ pos w)) v
-last-bends s f true r u v h a n = turned-bends s f v (omega (arith, h)) (λ e. n (omega (arith, ints, h, a, e, steep-between f r u v (v - 1) a (omega (arith, h)) (omega arith))))
-last-bends s f false r u v h a n = turned-bends s f v (omega (arith, h)) (λ e. n (omega (arith, ints, h, a, e, flat-between f r u v (v - 1) a (omega (arith, h)) (omega arith))))
+module _ (s : Side) (f : ℕ → ℤ) where
+  pub last-bends : (rising : Bool) → Rises f → (u v : ℕ) → u < v → IsAlong f rising u v → (IsAlong f rising u (v + 1) → ⊥) → Bends (λ w. turned s (f w -ℤ pos w)) v
+  last-bends true r u v h a n e = n (omega (arith, ints, h, a, (turned-even s f v (omega (arith, h))).1 e, steep-between f r u v (v - 1) a (omega (arith, h)) (omega arith)))
+  last-bends false r u v h a n e = n (omega (arith, ints, h, a, (turned-even s f v (omega (arith, h))).1 e, flat-between f r u v (v - 1) a (omega (arith, h)) (omega arith)))
 
-pub even-between : (s : Side) (f : ℕ → ℤ) (rising : Bool) → Rises f → (u v : ℕ) → IsAlong f rising u v → (t : ℕ) → u < t → t < v → Bends (λ w. turned s (f w -ℤ pos w)) t → ⊥
-even-between s f true r u v a t h k = turned-even s f t (omega (arith, h)) (omega (arith, ints, h, k, steep-between f r u v (t - 1) a (omega (arith, h)) (omega (arith, k)), steep-between f r u v t a (omega (arith, h)) (omega (arith, k)), steep-between f r u v (t + 1) a (omega (arith, h)) (omega (arith, k))))
-even-between s f false r u v a t h k = turned-even s f t (omega (arith, h)) (omega (arith, ints, h, k, flat-between f r u v (t - 1) a (omega (arith, h)) (omega (arith, k)), flat-between f r u v t a (omega (arith, h)) (omega (arith, k)), flat-between f r u v (t + 1) a (omega (arith, h)) (omega (arith, k))))
+  pub even-between : (rising : Bool) → Rises f → (u v : ℕ) → IsAlong f rising u v → (t : ℕ) → u < t → t < v → Bends (λ w. turned s (f w -ℤ pos w)) t → ⊥
+  even-between true r u v a t h k b = let on : (n : ℕ) → u ≤ n → n ≤ v → f n ≡ f u +ℤ pos (n - u) = λ n. steep-between f r u v n a in
+      b ((turned-even s f t (omega (arith, h))).0 (omega (arith, ints, h, k, on (t - 1) (omega (arith, h)) (omega (arith, k)), on t (omega (arith, h)) (omega (arith, k)), on (t + 1) (omega (arith, h)) (omega (arith, k)))))
+  even-between false r u v a t h k b = let on : (n : ℕ) → u ≤ n → n ≤ v → f n ≡ f u = λ n. flat-between f r u v n a in
+      b ((turned-even s f t (omega (arith, h))).0 (omega (arith, ints, h, k, on (t - 1) (omega (arith, h)) (omega (arith, k)), on t (omega (arith, h)) (omega (arith, k)), on (t + 1) (omega (arith, h)) (omega (arith, k)))))
 
 module _ (ws : List (List Break)) where
   flat-straight : (s : Side) → Rises (rise_at s ws) → (u v : ℕ) → u ≤ v → IsAlong (rise_at s ws) false u v → IsStraight (scaffold_at s ws) u v
-  flat-straight side.Left r u v o a t h k = elim (below-or_at u v o) [
-    | inl l ↦ omega (arith, ints, h, toward-down (scaffold_at side.Left ws u) (scaffold_at side.Left ws v) (t - u) (omega (arith, ints, a, l)), flat-between (rise_at side.Left ws) r u v t a h k)
-    | inr i ↦ (let j : t ≡ u = omega (arith, h, k, i) in let z : t - u ≡ 0 = omega (arith, j) in ap (scaffold_at side.Left ws) j ∙ sym (ap (toward (scaffold_at side.Left ws u) (scaffold_at side.Left ws v)) z ∙ toward-none (scaffold_at side.Left ws u) (scaffold_at side.Left ws v)))
-  ]
-  flat-straight side.Right r u v o a t h k = elim (below-or_at u v o) [
-    | inl l ↦ omega (arith, ints, h, toward-up (scaffold_at side.Right ws u) (scaffold_at side.Right ws v) (t - u) (omega (arith, ints, a, l)), flat-between (rise_at side.Right ws) r u v t a h k)
-    | inr i ↦ (let j : t ≡ u = omega (arith, h, k, i) in let z : t - u ≡ 0 = omega (arith, j) in ap (scaffold_at side.Right ws) j ∙ sym (ap (toward (scaffold_at side.Right ws u) (scaffold_at side.Right ws v)) z ∙ toward-none (scaffold_at side.Right ws u) (scaffold_at side.Right ws v)))
-  ]
+  flat-straight side.Left r u v o a t h k = omega (
+    arith,
+    ints,
+    h,
+    toward-dives (scaffold_at side.Left ws u) (scaffold_at side.Left ws v) (v - u) (t - u) (omega (arith, ints, o, a)) (omega (arith, k)),
+    flat-between (rise_at side.Left ws) r u v t a h k,
+  )
+  flat-straight side.Right r u v o a t h k = omega (
+    arith,
+    ints,
+    h,
+    toward-climbs (scaffold_at side.Right ws u) (scaffold_at side.Right ws v) (v - u) (t - u) (omega (arith, ints, o, a)) (omega (arith, k)),
+    flat-between (rise_at side.Right ws) r u v t a h k,
+  )
 
   steep-straight : (s : Side) → Rises (rise_at s ws) → (u v : ℕ) → u ≤ v → IsAlong (rise_at s ws) true u v → IsStraight (scaffold_at s ws) u v
   steep-straight side.Left r u v o a t h k = omega (arith, ints, o, h, toward-same (scaffold_at side.Left ws u) (scaffold_at side.Left ws v) (t - u) (omega (arith, ints, o, a)), steep-between (rise_at side.Left ws) r u v t a h k)
@@ -205,39 +205,58 @@ wall-slope (b ∷ bs) u v r o k = at (k 0 (omega arith))
     at (inr l) = stays (λ t h m. from-before b bs t r (omega (arith, m, l)) ∙ sym (from-before b bs u r (omega (arith, o, l))))
 
 -- from u to v the line stays, and then rises to the end
-pub IsHinge : (ℕ → ℤ) → ℕ → ℕ → Type 0
+abbrev pub IsHinge : (ℕ → ℤ) → ℕ → ℕ → Type 0
 IsHinge f u v = (t : ℕ) → u ≤ t → t ≤ v → f t ≡ int_max (f u) (f v -ℤ pos (v - t))
 
-slope-hinge : (s : Side) (f : ℕ → ℤ) (u v : ℕ) → u < v → Rises (λ t. turned s (f t)) → IsSlope f u v → IsHinge (λ t. turned s (f t)) u v
-unfolding IsHinge
-slope-hinge side.Left f u v o r (stays a) t h k = omega (arith, ints, clamps, o, h, k, a t h k, a v (omega (arith, o)) (omega arith))
-slope-hinge side.Left f u v o r (climbs a) t h k = omega (arith, ints, clamps, o, h, k, a t h k, a v (omega (arith, o)) (omega arith))
-slope-hinge side.Left f u v o r (falls a) t h k = absurd (omega (arith, ints, o, a v (omega (arith, o)) (omega arith), rises-far f r u v (omega (arith, o))))
-slope-hinge side.Right f u v o r (stays a) t h k = omega (arith, ints, clamps, o, h, k, a t h k, a v (omega (arith, o)) (omega arith))
-slope-hinge side.Right f u v o r (falls a) t h k = omega (arith, ints, clamps, o, h, k, a t h k, a v (omega (arith, o)) (omega arith))
-slope-hinge side.Right f u v o r (climbs a) t h k = absurd (omega (arith, ints, o, a v (omega (arith, o)) (omega arith), rises-far (λ n. turned side.Right (f n)) r u v (omega (arith, o))))
+max-left : (x y : ℤ) → y ≤ℤ x → int_max x y ≡ x
+max-left x y h = omega (arith, ints, clamps, h)
 
-pub rise-hinge : (s : Side) (ws : List (List Break)) (u v : ℕ) → u < v → AreSteady s ws → EachWall (IsClear u v) ws → IsHinge (rise_at s ws) u v
-unfolding IsHinge greatest
-rise-hinge s [] u v o a c t h k = omega (arith, ints, clamps)
-rise-hinge s (w ∷ []) u v o a c t h k = slope-hinge s (wall_at w) u v o (a 0 (omega arith)).rises (wall-slope w u v (a 0 (omega arith)).path (omega (arith, o)) (c 0 (omega arith))) t h k
-rise-hinge s (w ∷ x ∷ ws) u v o a c t h k = omega (
-  arith,
-  ints,
-  clamps,
-  slope-hinge s (wall_at w) u v o (a 0 (omega arith)).rises (wall-slope w u v (a 0 (omega arith)).path (omega (arith, o)) (c 0 (omega arith))) t h k,
-  rise-hinge s (x ∷ ws) u v o (λ j l. a (suc j) (omega (arith, l))) (λ j l. c (suc j) (omega (arith, l))) t h k,
-)
+max-right : (x y : ℤ) → x ≤ℤ y → int_max x y ≡ y
+max-right x y h = omega (arith, ints, clamps, h)
+
+max-hinges : (a b c d : ℤ) (n : ℕ) → int_max (int_max a (b -ℤ pos n)) (int_max c (d -ℤ pos n)) ≡ int_max (int_max a c) (int_max b d -ℤ pos n)
+max-hinges a b c d n = omega (arith, ints, clamps)
+
+slope-turned : (s : Side) (f : ℕ → ℤ) (u v : ℕ) → IsSlope f u v → IsSlope (λ t. turned s (f t)) u v
+slope-turned side.Left f u v a = a
+slope-turned side.Right f u v (stays a) = stays (λ t h k. ap neg_ℤ (a t h k))
+slope-turned side.Right f u v (climbs a) = falls (λ t h k. omega (arith, ints, a t h k))
+slope-turned side.Right f u v (falls a) = climbs (λ t h k. omega (arith, ints, a t h k))
+
+slope-hinge : (f : ℕ → ℤ) (u v : ℕ) → u < v → Rises f → IsSlope f u v → IsHinge f u v
+slope-hinge f u v o r (stays a) t h k = a t h k ∙ sym (max-left _ _ (omega (arith, ints, a v (omega (arith, o)) (omega arith))))
+slope-hinge f u v o r (climbs a) t h k =
+    let e : f t ≡ f v -ℤ pos (v - t) = omega (arith, ints, o, h, k, a t h k, a v (omega (arith, o)) (omega arith)) in
+    e ∙ sym (max-right _ _ (omega (arith, ints, e, a t h k)))
+slope-hinge f u v o r (falls a) t h k = absurd (omega (arith, ints, o, a v (omega (arith, o)) (omega arith), rises-far f r u v (omega (arith, o))))
+
+module _ (s : Side) (u v : ℕ) (o : u < v) where
+  wall-hinge : (w : List Break) → IsSteadyLine s w → IsClear u v w → IsHinge (λ t. turned_wall s t w) u v
+  wall-hinge w a c = slope-hinge (λ t. turned_wall s t w) u v o a.rises (slope-turned s (wall_at w) u v (wall-slope w u v a.path (omega (arith, o)) c))
+
+  pub rise-hinge : (ws : List (List Break)) → AreSteady s ws → EachWall (IsClear u v) ws → IsHinge (rise_at s ws) u v
+  unfolding greatest
+  rise-hinge [] a c t h k = sym (max-left (pos 0) (pos 0 -ℤ pos (v - t)) (omega (arith, ints)))
+  rise-hinge (w ∷ []) a c t h k = wall-hinge w (a 0 (omega arith)) (c 0 (omega arith)) t h k
+  rise-hinge (w ∷ x ∷ ws) a c t h k =
+      let first = wall-hinge w (a 0 (omega arith)) (c 0 (omega arith)) t h k in
+      let others = rise-hinge (x ∷ ws) (λ j l. a (suc j) (omega (arith, l))) (λ j l. c (suc j) (omega (arith, l))) t h k in
+      ap₂ int_max first others ∙ max-hinges _ _ _ _ (v - t)
 
 -- where a line that rises stops going on, between two such places
 module _ (f : ℕ → ℤ) (rises : Rises f) (start u v : ℕ) (order : start ≤ u) (apart : u < v) (hinge : IsHinge f u v) where
-  steep-stops : IsAlong f true start u → (IsAlong f true start v → ⊥) → IsAlong f true start (u + 1) → ⊥
-  unfolding IsHinge
-  steep-stops a n b = n (omega (arith, ints, clamps, order, apart, a, b, hinge (u + 1) (omega arith) (omega (arith, apart)), rises-slow f rises start v (omega (arith, order, apart))))
+  pub steep-last : (b : Bool) → b ≡ true → IsAlong f b start u → (IsAlong f b start v → ⊥) → IsAlong f b start (u + 1) → ⊥
+  steep-last true e a n b = n (omega (arith, ints, clamps, order, apart, a, b, hinge (u + 1) (omega arith) (omega (arith, apart)), rises-slow f rises start v (omega (arith, order, apart))))
+  steep-last false e _ _ _ = absurd (true≢false (sym e))
 
-  flat-stops : (r : ℕ) → IsAlong f false start u → (IsAlong f false start v → ⊥) → pos r ≡ pos v -ℤ (f v -ℤ f start) → (u ≤ r) × (r < v) × IsAlong f false start r × (IsAlong f false start (r + 1) → ⊥)
-  unfolding IsHinge
-  flat-stops r a n e = (low, high, omega (arith, ints, clamps, a, e, low, high, hinge r low (omega (arith, high))), λ b. omega (arith, ints, clamps, a, b, e, low, high, hinge (r + 1) (omega (arith, low)) (omega (arith, high))))
+  pub flat-last : (b : Bool) (r : ℕ) → b ≡ false → IsAlong f b start u → (IsAlong f b start v → ⊥) → pos r ≡ pos v -ℤ (f v -ℤ f start) → (u ≤ r) × (r < v) × IsAlong f b start r × (IsAlong f b start (r + 1) → ⊥)
+  flat-last true r e _ _ _ = absurd (true≢false e)
+  flat-last false r _ a n e = (
+    low,
+    high,
+    omega (arith, ints, clamps, a, e, low, high, hinge r low (omega (arith, high))),
+    λ b. omega (arith, ints, clamps, a, b, e, low, high, hinge (r + 1) (omega (arith, low)) (omega (arith, high))),
+  )
     where
       low : u ≤ r
       low = omega (arith, ints, a, e, apart, rises-slow f rises u v (omega (arith, apart)))
@@ -247,14 +266,6 @@ module _ (f : ℕ → ℤ) (rises : Rises f) (start u v : ℕ) (order : start �
 
       high : r < v
       high = omega (arith, ints, e, above)
-
-  pub steep-last : (b : Bool) → b ≡ true → IsAlong f b start u → (IsAlong f b start v → ⊥) → IsAlong f b start (u + 1) → ⊥
-  steep-last true e = steep-stops
-  steep-last false e = absurd (true≢false (sym e))
-
-  pub flat-last : (b : Bool) (r : ℕ) → b ≡ false → IsAlong f b start u → (IsAlong f b start v → ⊥) → pos r ≡ pos v -ℤ (f v -ℤ f start) → (u ≤ r) × (r < v) × IsAlong f b start r × (IsAlong f b start (r + 1) → ⊥)
-  flat-last true r e = absurd (true≢false e)
-  flat-last false r e = flat-stops r
 
 -- Where two straight lines meet, of which one doesn't rise and the other doesn't fall.
 module _ (f : ℕ → ℤ) (u v : ℕ) (straight : IsStraight f u v) where
@@ -268,71 +279,63 @@ module _ (f : ℕ → ℤ) (u v : ℕ) (straight : IsStraight f u v) where
   staying l t h k = omega (arith, ints, straight t h k, toward-same (f u) (f v) (t - u) l)
 
 module _ (L R : ℕ → ℤ) (u v : ℕ) (order : u < v) (left : IsStraight L u v) (right : IsStraight R u v) (apart : R u <ℤ L u) (met : L v ≤ℤ R v) where
+  -- lines that come `near n` nearer in n steps first meet after the d steps that this takes
+  crosses : (near : ℕ → ℕ) → ((t : ℕ) → u ≤ t → t ≤ v → (L t -ℤ R t) ≡ (L u -ℤ R u) -ℤ pos (near (t - u)))
+      → (gap d m : ℕ) → pos gap ≡ L u -ℤ R u → gap ≤ near d → ((n : ℕ) → n < d → near n < gap) → m ≡ u + d → (m ≤ v) × IsCrossing L R u m
+  crosses near nearer gap d m g far short i = (
+    within,
+    record {
+      met = (let e : m - u ≡ d = omega (arith, i) in omega (arith, ints, g, far, ap near e, nearer m (omega (arith, i)) within));
+      apart = λ t h k. omega (arith, ints, g, nearer t h (omega (arith, k, within)), short (t - u) (omega (arith, h, k, i)));
+    },
+  )
+    where
+      within : m ≤ v
+      within = elim (cases_lt v m) as (λ _. m ≤ v) [
+        | inl l ↦ absurd (omega (arith, ints, met, g, nearer v (omega (arith, order)) (omega arith), short (v - u) (omega (arith, order, l, i))))
+        | inr l ↦ l
+      ]
+
   -- where both lines move they come nearer by 2 a step
   pub both-cross : (gap d m : ℕ) → L v <ℤ L u → R u <ℤ R v → pos gap ≡ L u -ℤ R u → d ≡ (gap + 1) / 2 → m ≡ u + d → (m ≤ v) × IsCrossing L R u m
-  both-cross gap d m p q g e i = (
-    within,
-    record {
-      met = omega (arith, ints, g, e, i, falling L u v left p m (omega (arith, i)) within, rising R u v right q m (omega (arith, i)) within);
-      apart = λ t h k. omega (arith, ints, g, e, i, h, k, falling L u v left p t h (omega (arith, k, within)), rising R u v right q t h (omega (arith, k, within)));
-    },
-  )
-    where
-      within : m ≤ v
-      within = omega (arith, ints, order, met, g, e, i, falling L u v left p v (omega (arith, order)) (omega arith), rising R u v right q v (omega (arith, order)) (omega arith))
-
-  left_crosses : (gap m : ℕ) → L v <ℤ L u → R v ≡ R u → pos gap ≡ L u -ℤ R u → m ≡ u + gap → (m ≤ v) × IsCrossing L R u m
-  left_crosses gap m p q g i = (
-    within,
-    record {
-      met = omega (arith, ints, g, i, falling L u v left p m (omega (arith, i)) within, staying R u v right q m (omega (arith, i)) within);
-      apart = λ t h k. omega (arith, ints, g, i, h, k, falling L u v left p t h (omega (arith, k, within)), staying R u v right q t h (omega (arith, k, within)));
-    },
-  )
-    where
-      within : m ≤ v
-      within = omega (arith, ints, order, met, g, i, q, falling L u v left p v (omega (arith, order)) (omega arith))
-
-  right_crosses : (gap m : ℕ) → L v ≡ L u → R u <ℤ R v → pos gap ≡ L u -ℤ R u → m ≡ u + gap → (m ≤ v) × IsCrossing L R u m
-  right_crosses gap m p q g i = (
-    within,
-    record {
-      met = omega (arith, ints, g, i, staying L u v left p m (omega (arith, i)) within, rising R u v right q m (omega (arith, i)) within);
-      apart = λ t h k. omega (arith, ints, g, i, h, k, staying L u v left p t h (omega (arith, k, within)), rising R u v right q t h (omega (arith, k, within)));
-    },
-  )
-    where
-      within : m ≤ v
-      within = omega (arith, ints, order, met, g, i, p, rising R u v right q v (omega (arith, order)) (omega arith))
+  both-cross gap d m p q g e i = crosses (λ n. n + n) (λ t h k. omega (arith, ints, falling L u v left p t h k, rising R u v right q t h k))
+      gap d m g (omega (arith, e)) (λ n l. omega (arith, e, l)) i
 
   -- where one line moves they come nearer by 1 a step
   pub one-crosses : (gap m : ℕ) → L v ≤ℤ L u → R u ≤ℤ R v → (L v <ℤ L u → R u <ℤ R v → ⊥) → pos gap ≡ L u -ℤ R u → m ≡ u + gap → (m ≤ v) × IsCrossing L R u m
-  one-crosses gap m p q n g i = by_lt_z (L v) (L u)
-      (λ a. by_lt_z (R u) (R v) (λ b. absurd (n a b)) (λ b. left_crosses gap m a (omega (arith, ints, b, q)) g i))
-      (λ a. by_lt_z (R u) (R v) (λ b. right_crosses gap m (omega (arith, ints, a, p)) b g i) (λ b. absurd (omega (arith, ints, a, b, apart, met))))
+  one-crosses gap m p q n g i = crosses (λ n. n) nearer gap gap m g (omega arith) (λ n l. l) i
+    where
+      nearer : (t : ℕ) → u ≤ t → t ≤ v → (L t -ℤ R t) ≡ (L u -ℤ R u) -ℤ pos (t - u)
+      nearer t h k = by_lt_z (L v) (L u)
+          (λ a. by_lt_z (R u) (R v) (λ b. absurd (n a b)) (λ b. omega (arith, ints, falling L u v left a t h k, staying R u v right (omega (arith, ints, b, q)) t h k)))
+          (λ a. by_lt_z (R u) (R v) (λ b. omega (arith, ints, staying L u v left (omega (arith, ints, a, p)) t h k, rising R u v right b t h k)) (λ b. absurd (omega (arith, ints, a, b, apart, met))))
+
+left-line : (s : Scaffold) → s.side ≡ side.Left → (t : ℕ) → line s t ≡ rise s t -ℤ pos t
+left-line s e t = ap (λ d. turned d (rise s t -ℤ pos t)) e
+
+right-line : (s : Scaffold) → s.side ≡ side.Right → (t : ℕ) → line s t ≡ neg_ℤ (rise s t -ℤ pos t)
+right-line s e t = ap (λ d. turned d (rise s t -ℤ pos t)) e
 
 -- a left scaffold doesn't rise, and a right one doesn't fall
 pub left-falls_to : (s : Scaffold) → IsKnown s → s.side ≡ side.Left → (u v : ℕ) → u ≤ v → line s v ≤ℤ line s u
-left-falls_to s k e u v h = at s.side e (rises-slow (rise s) k.rises u v h)
-  where
-    at : (d : Side) → d ≡ side.Left → (rise s v -ℤ pos v) ≤ℤ (rise s u -ℤ pos u) → turned d (rise s v -ℤ pos v) ≤ℤ turned d (rise s u -ℤ pos u)
-    at side.Left i l = l
-    at side.Right i l = absurd (cc)
+left-falls_to s k e u v h = omega (arith, ints, left-line s e u, left-line s e v, rises-slow (rise s) k.rises u v h)
 
 pub right-rises_to : (s : Scaffold) → IsKnown s → s.side ≡ side.Right → (u v : ℕ) → u ≤ v → line s u ≤ℤ line s v
-right-rises_to s k e u v h = at s.side e (rises-slow (rise s) k.rises u v h)
-  where
-    at : (d : Side) → d ≡ side.Right → (rise s v -ℤ pos v) ≤ℤ (rise s u -ℤ pos u) → turned d (rise s u -ℤ pos u) ≤ℤ turned d (rise s v -ℤ pos v)
-    at side.Left i l = absurd (cc)
-    at side.Right i l = omega (arith, ints, l)
+right-rises_to s k e u v h = omega (arith, ints, right-line s e u, right-line s e v, rises-slow (rise s) k.rises u v h)
+
+known-range : (s : Scaffold) → IsKnown s → (t : ℕ) → IsInRange (rise s t)
+known-range s k t = rise-range s.side (picked s.walls.now s.ids.now) t k.level
 
 -- they have met at the greatest number within the bounds
 pub last-met : (l r : Scaffold) → IsKnown l → IsKnown r → l.side ≡ side.Left → r.side ≡ side.Right → line l (2 ^ 120 - 1) ≤ℤ line r (2 ^ 120 - 1)
-last-met l r k j d e = omega (
-  arith,
-  ints,
-  subst (λ s. scaffold_at s (picked l.walls.now l.ids.now) (2 ^ 120 - 1) ≤ℤ pos 0) (sym d) (left_end (picked l.walls.now l.ids.now) k.level),
-  subst (λ s. pos 0 ≤ℤ scaffold_at s (picked r.walls.now r.ids.now) (2 ^ 120 - 1)) (sym e) (right_end (picked r.walls.now r.ids.now) j.level),
+last-met l r k j d e = let last = 2 ^ 120 - 1 in
+    omega (arith, ints, left-line l d last, right-line r e last, (known-range l k last).1, (known-range r j last).1)
+
+-- where they meet, they are within the bounds
+pub mean-range : (l r : Scaffold) → IsKnown l → IsKnown r → l.side ≡ side.Left → r.side ≡ side.Right → (m : ℕ) → line l m ≡ line r m → IsInRange (line l m)
+mean-range l r k j d e m i = (
+  omega (arith, ints, i, right-line r e 0, (known-range r j 0).1, right-rises_to r j e 0 m (omega arith)),
+  omega (arith, ints, left-line l d 0, (known-range l k 0).1, left-falls_to l k d 0 m (omega arith)),
 )
 
 stays-on : (L R : ℕ → ℤ) → Stays L R → (v m : ℕ) → v ≤ m → L v ≤ℤ R v → L m ≤ℤ R m
@@ -353,41 +356,10 @@ apart-crossing L R u m a c v h = elim (cases_lt v u) [
 ]
 
 -- a straight line is straight to each place before the end
-module _ (f : ℕ → ℤ) (u v w : ℕ) (first : u ≤ w) (last : w ≤ v) (s : IsStraight f u v) where
-  here : u ≡ w → IsStraight f u w
-  here e t h k = let j : t ≡ u = omega (arith, h, k, e) in let z : t - u ≡ 0 = omega (arith, j) in ap f j ∙ sym (ap (toward (f u) (f w)) z ∙ toward-none (f u) (f w))
-
-  short_up : f u <ℤ f v → (u < w) ⊎ (u ≡ w) → IsStraight f u w
-  short_up l (inl d) t h k = let a = rising f u v s l w first last in
-      omega (arith, ints, h, k, d, rising f u v s l t h (omega (arith, k, last)), a, toward-up (f u) (f w) (t - u) (omega (arith, ints, a, d)))
-  short_up l (inr e) t h k = here e t h k
-
-  short_down : f v <ℤ f u → (u < w) ⊎ (u ≡ w) → IsStraight f u w
-  short_down l (inl d) t h k = let a = falling f u v s l w first last in
-      omega (arith, ints, h, k, d, falling f u v s l t h (omega (arith, k, last)), a, toward-down (f u) (f w) (t - u) (omega (arith, ints, a, d)))
-  short_down l (inr e) t h k = here e t h k
-
-  pub straight-short : IsStraight f u w
-  straight-short = by_lt_z (f u) (f v) (λ l. short_up l (below-or_at u w first)) (λ l. by_lt_z (f v) (f u) (λ m. short_down m (below-or_at u w first))
-      (λ m t h k. (let e : f v ≡ f u = omega (arith, ints, l, m) in staying f u v s e t h (omega (arith, k, last)) ∙ sym (toward-same (f u) (f w) (t - u) (staying f u v s e w first last)))))
-
--- where they meet, they are within the bounds
-left_start : (s : Scaffold) → IsKnown s → s.side ≡ side.Left → line s 0 ≤ℤ pos (2 ^ 120 - 1)
-left_start s k e = at s.side e (rise-range s.side (picked s.walls.now s.ids.now) 0 k.level)
-  where
-    at : (d : Side) → d ≡ side.Left → IsInRange (rise s 0) → turned d (rise s 0 -ℤ pos 0) ≤ℤ pos (2 ^ 120 - 1)
-    at side.Left i r = omega (arith, ints, r.1)
-    at side.Right i r = absurd (cc)
-
-right_start : (s : Scaffold) → IsKnown s → s.side ≡ side.Right → negsuc (2 ^ 120 - 2) ≤ℤ line s 0
-right_start s k e = at s.side e (rise-range s.side (picked s.walls.now s.ids.now) 0 k.level)
-  where
-    at : (d : Side) → d ≡ side.Right → IsInRange (rise s 0) → negsuc (2 ^ 120 - 2) ≤ℤ turned d (rise s 0 -ℤ pos 0)
-    at side.Left i r = absurd (cc)
-    at side.Right i r = omega (arith, ints, r.1)
-
-pub mean-range : (l r : Scaffold) → IsKnown l → IsKnown r → l.side ≡ side.Left → r.side ≡ side.Right → (m : ℕ) → line l m ≡ line r m → IsInRange (line l m)
-mean-range l r k j d e m i = (
-  omega (arith, ints, i, right_start r j e, right-rises_to r j e 0 m (omega arith)),
-  omega (arith, ints, left_start l k d, left-falls_to l k d 0 m (omega arith)),
-)
+pub straight-short : (f : ℕ → ℤ) (u v w : ℕ) → u ≤ w → w ≤ v → IsStraight f u v → IsStraight f u w
+straight-short f u v w first last s t h k = let before : t ≤ v = omega (arith, k, last) in
+    by_lt_z (f u) (f v)
+    (λ l. omega (arith, ints, rising f u v s l t h before, toward-climbs (f u) (f w) (w - u) (t - u) (omega (arith, ints, rising f u v s l w first last)) (omega (arith, k))))
+    (λ l. by_lt_z (f v) (f u)
+    (λ m. omega (arith, ints, falling f u v s m t h before, toward-dives (f u) (f w) (w - u) (t - u) (falling f u v s m w first last) (omega (arith, k))))
+    (λ m. (let e : f v ≡ f u = omega (arith, ints, l, m) in staying f u v s e t h before ∙ sym (toward-same (f u) (f w) (t - u) (staying f u v s e w first last)))))

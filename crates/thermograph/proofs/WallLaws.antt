@@ -1,7 +1,7 @@
 -- Walls as lists of break points: drawn break point by break point, within the bounds, and on finer grids.
-use Rattle.std.proofs.Common.{ℕ, zero, suc, ◌+◌, ◌-◌, ◌<◌, ◌≤◌, ◌≡◌, ◌⊎◌, ◌↔◌, arith, refl, inl, inr, sym, ◌∙◌, ap, subst, ℤ, pos, ◌+ℤ◌, ◌-ℤ◌, ◌<ℤ◌, int_lt, nat_lt, cond, Bool, true, false, List, [], ◌∷◌, ◌++◌, length, drop, get_or, ap₂, ◌^◌, ◌*◌, ◌*ℤ◌}
+use Rattle.std.proofs.Common.{ℕ, zero, suc, ◌+◌, ◌-◌, ◌<◌, ◌≤◌, ◌≡◌, ◌⊎◌, ◌↔◌, arith, refl, inl, inr, sym, ◌∙◌, ap, subst, ℤ, pos, ◌+ℤ◌, ◌-ℤ◌, ◌<ℤ◌, int_lt, nat_lt, cond, Bool, true, false, List, [], ◌∷◌, ◌++◌, length, drop, get_or, ap₂, ◌^◌, ◌*◌, ◌*ℤ◌, ◌≤ℤ◌}
 use Rattle.std.proofs.lemmas.List.{drop_more, drop_all}
-use Rattle.std.proofs.lemmas.Bool.{cases_lt, lt-ltb, le-ltb}
+use Rattle.std.proofs.lemmas.Bool.{cases_lt, true_from_ne_false, false_from_ne_true, lt-ltb, le-ltb}
 use Rattle.std.proofs.lemmas.Int.{ints, by_lt_z}
 use Rattle.thermograph.specs.declared.breaks.Break.{Break}
 use Rattle.thermograph.specs.Breaks.{toward, from, wall_at, Reaches, IsBreakAt, IsPath}
@@ -24,28 +24,27 @@ at-before t n x y h = ap (λ b. cond b x y) (lt-ltb t n h)
 pub at-after : (t n : ℕ) (x y : ℤ) → n ≤ t → cond (nat_lt t n) x y ≡ y
 at-after t n x y h = ap (λ b. cond b x y) (le-ltb t n h)
 
+less : (x y : ℤ) → x <ℤ y → int_lt x y ≡ true
+less x y h = true_from_ne_false _ (λ e. omega (arith, ints, e, h))
+
+not_less : (x y : ℤ) → y ≤ℤ x → int_lt x y ≡ false
+not_less x y h = false_from_ne_true _ (λ e. omega (arith, ints, e, h))
+
 pub toward-up : (x y : ℤ) (d : ℕ) → x <ℤ y → toward x y d ≡ x +ℤ pos d
-toward-up x y d h = by (int_lt x y) refl
-  where
-    by : (b : Bool) → int_lt x y ≡ b → cond b (x +ℤ pos d) (cond (int_lt y x) (x -ℤ pos d) x) ≡ x +ℤ pos d
-    by true e = refl
-    by false e = absurd (omega (arith, ints, e, h))
+toward-up x y d h = ap (λ b. cond b (x +ℤ pos d) (cond (int_lt y x) (x -ℤ pos d) x)) (less x y h)
 
 pub toward-down : (x y : ℤ) (d : ℕ) → y <ℤ x → toward x y d ≡ x -ℤ pos d
-toward-down x y d h = by (int_lt x y) refl (int_lt y x) refl
-  where
-    by : (b : Bool) → int_lt x y ≡ b → (c : Bool) → int_lt y x ≡ c → cond b (x +ℤ pos d) (cond c (x -ℤ pos d) x) ≡ x -ℤ pos d
-    by true e c i = absurd (omega (arith, ints, e, h))
-    by false e true i = refl
-    by false e false i = absurd (omega (arith, ints, i, h))
+toward-down x y d h = ap₂ (λ b c. cond b (x +ℤ pos d) (cond c (x -ℤ pos d) x)) (not_less x y (omega (arith, ints, h))) (less y x h)
 
 pub toward-same : (x y : ℤ) (d : ℕ) → y ≡ x → toward x y d ≡ x
-toward-same x y d h = by (int_lt x y) refl (int_lt y x) refl
-  where
-    by : (b : Bool) → int_lt x y ≡ b → (c : Bool) → int_lt y x ≡ c → cond b (x +ℤ pos d) (cond c (x -ℤ pos d) x) ≡ x
-    by true e c i = absurd (omega (arith, ints, e, h))
-    by false e true i = absurd (omega (arith, ints, i, h))
-    by false e false i = refl
+toward-same x y d h = ap₂ (λ b c. cond b (x +ℤ pos d) (cond c (x -ℤ pos d) x)) (not_less x y (omega (arith, ints, h))) (not_less y x (omega (arith, ints, h)))
+
+-- the same on a way of n steps, where n may be 0
+pub toward-climbs : (x y : ℤ) (n d : ℕ) → y ≡ x +ℤ pos n → d ≤ n → toward x y d ≡ x +ℤ pos d
+toward-climbs x y n d e h = by_lt_z x y (toward-up x y d) (λ l. toward-same x y d (omega (arith, ints, e, l)) ∙ omega (arith, ints, e, h, l))
+
+pub toward-dives : (x y : ℤ) (n d : ℕ) → y ≡ x -ℤ pos n → d ≤ n → toward x y d ≡ x -ℤ pos d
+toward-dives x y n d e h = by_lt_z y x (toward-down x y d) (λ l. toward-same x y d (omega (arith, ints, e, l)) ∙ omega (arith, ints, e, h, l))
 
 pub toward-none : (x y : ℤ) → toward x y 0 ≡ x
 toward-none x y = by_lt_z x y (λ l. toward-up x y 0 l ∙ omega (arith, ints)) (λ l. by_lt_z y x (λ m. toward-down x y 0 m ∙ omega (arith, ints)) (λ m. toward-same x y 0 (omega (arith, ints, l, m))))
