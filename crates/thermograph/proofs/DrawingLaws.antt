@@ -3,8 +3,9 @@ use Rattle.std.specs.declared.alloc.Global.{Global}
 use Rattle.std.proofs.Common.{ℕ, suc, ◌<◌, ◌≡◌, arith, refl, sym, ◌∙◌, ap, subst, ℤ, neg_ℤ, List, [], ◌∷◌, length, get_or, Vec, ◌+◌, ◌-◌, ◌^◌, pos, None, zero, ◌⊎◌, inl, inr, ◌++◌, Bool}
 use Rattle.std.specs.Int.{int_max}
 use Rattle.std.proofs.lemmas.Int.{ints}
-use Rattle.std.proofs.lemmas.List.{length-map, length-append}
-use Rattle.short_games.specs.Tree.{Tree, Trees, none, more, left, right, Has, tree_at}
+use Rattle.std.proofs.lemmas.List.{length-append}
+use Rattle.short_games.specs.Parts.{IsOption}
+use Rattle.short_games.specs.Tree.{Tree, Trees, none, more, left, right, tree_at}
 use Rattle.short_games.specs.TextOrder.{sorted, IsCanonicalTree}
 use Rattle.game_store.specs.Meaning.{pick}
 use Rattle.game_store.specs.Forms.{IsOptions, HaveForms}
@@ -21,8 +22,8 @@ use Rattle.short_games.proofs.WallLines.{greatest-same, least-same, below-or_at}
 use Rattle.short_games.proofs.WallSolutions.{walls-unique, walls-steady, left_scaffold-falls, right_scaffold-rises}
 use Rattle.short_games.proofs.WallsDrawn.{left_wall, right_wall, left_scaffold, right_scaffold, left_scaffold-is, right_scaffold-is, walls-at}
 use Rattle.short_games.proofs.WallSteps.{solution-drawn, join-drawn, walls-within}
-use Rattle.thermograph.proofs.ScaffoldLaws.{pick-read}
-use Rattle.thermograph.proofs.FlagLaws.{left-inner, right-inner, left-listed, right-listed, number-over, store-over, store-bounded, IsStored}
+use Rattle.thermograph.proofs.ScaffoldLaws.{each-picked}
+use Rattle.thermograph.proofs.FlagLaws.{number-over, store-over, store-bounded, IsStored, among-inner, option-listed}
 use Rattle.dyadic_num.specs.Units.{IsInBounds}
 use Rattle.short_games.specs.Number.{num, number_tree}
 use Rattle.thermograph.specs.declared.drawings.Drawing.{Drawing}
@@ -65,16 +66,14 @@ rises-turned f g e r = record { no_fall = λ t. omega (arith, ints, e t, e (suc 
 
 module _ (Ts : List Tree) (id : ℕ) (lefts rights : List (Vec Break Global)) (ls rs : List ℕ) (o : IsOptions Ts id ls rs) (h : AreDrawnBelow Ts id lefts rights) where
   left_drawn : (j : ℕ) → j < length ls → IsDrawn (tree_at Ts (get_or ls j 0)) (wall_of lefts (get_or ls j 0)) (wall_of rights (get_or ls j 0))
-  left_drawn j l = h.drawn (get_or ls j 0) (left-inner Ts id ls rs o (get_or ls j 0) (j, l, refl))
+  left_drawn j l = h.drawn (get_or ls j 0) (among-inner Ts id ls rs o (get_or ls j 0) (inl (j, l, refl)))
 
   right_drawn : (j : ℕ) → j < length rs → IsDrawn (tree_at Ts (get_or rs j 0)) (wall_of lefts (get_or rs j 0)) (wall_of rights (get_or rs j 0))
-  right_drawn j l = h.drawn (get_or rs j 0) (right-inner Ts id ls rs o (get_or rs j 0) (j, l, refl))
+  right_drawn j l = h.drawn (get_or rs j 0) (among-inner Ts id ls rs o (get_or rs j 0) (inr (j, l, refl)))
 
-  pub lefts-all : (X : Tree) → Has (left (tree_at Ts id)) X → AllWallsAre 60 (left_wall 60) (right_wall 60) X
-  lefts-all X x = let r = left-listed Ts id ls rs o X x in subst (AllWallsAre 60 (left_wall 60) (right_wall 60)) (sym r.2) (drawn-of 60 _ _ _ (left_drawn r.0 r.1).walls).0
-
-  pub rights-all : (X : Tree) → Has (right (tree_at Ts id)) X → AllWallsAre 60 (left_wall 60) (right_wall 60) X
-  rights-all X x = let r = right-listed Ts id ls rs o X x in subst (AllWallsAre 60 (left_wall 60) (right_wall 60)) (sym r.2) (drawn-of 60 _ _ _ (right_drawn r.0 r.1).walls).0
+  options-all : (X : Tree) → IsOption (tree_at Ts id) X → AllWallsAre 60 (left_wall 60) (right_wall 60) X
+  options-all X x = let a = option-listed Ts id ls rs o X x in
+      subst (AllWallsAre 60 (left_wall 60) (right_wall 60)) (sym a.2) (drawn-of 60 _ _ _ (h.drawn a.0 (among-inner Ts id ls rs o a.0 a.3)).walls).0
 
   left_rise : (t : ℕ) → IsGreatest (λ X. right_wall 60 X t) (left (tree_at Ts id)) (rise_at side.Left (picked rights ls) t)
   left_rise t = subst (λ G. IsGreatest (λ X. right_wall 60 X t) (left G) (rise_at side.Left (picked rights ls) t)) (sym o.tree)
@@ -98,10 +97,10 @@ module _ (Ts : List Tree) (id : ℕ) (lefts rights : List (Vec Break Global)) (l
   right-is t = omega (arith, ints, least-same (λ X. left_wall 60 X t) (λ X. left_wall 60 X t) (right (tree_at Ts id)) _ _ (λ X x. refl) (right_rise t) (right_scaffold-is 60 (tree_at Ts id) right_filled t))
 
   falls : Falls (left_scaffold 60 (tree_at Ts id))
-  falls = left_scaffold-falls 60 (left_wall 60) (right_wall 60) (left (tree_at Ts id)) (left_scaffold 60 (tree_at Ts id)) (λ X x. walls-steady 60 (left_wall 60) (right_wall 60) X (lefts-all X x)) (left_scaffold-is 60 (tree_at Ts id) left_filled)
+  falls = left_scaffold-falls 60 (left_wall 60) (right_wall 60) (left (tree_at Ts id)) (left_scaffold 60 (tree_at Ts id)) (λ X x. walls-steady 60 (left_wall 60) (right_wall 60) X (options-all X (inl x))) (left_scaffold-is 60 (tree_at Ts id) left_filled)
 
   rises : Rises (right_scaffold 60 (tree_at Ts id))
-  rises = right_scaffold-rises 60 (left_wall 60) (right_wall 60) (right (tree_at Ts id)) (right_scaffold 60 (tree_at Ts id)) (λ X x. walls-steady 60 (left_wall 60) (right_wall 60) X (rights-all X x)) (right_scaffold-is 60 (tree_at Ts id) right_filled)
+  rises = right_scaffold-rises 60 (left_wall 60) (right_wall 60) (right (tree_at Ts id)) (right_scaffold 60 (tree_at Ts id)) (λ X x. walls-steady 60 (left_wall 60) (right_wall 60) X (options-all X (inr x))) (right_scaffold-is 60 (tree_at Ts id) right_filled)
 
   pub left-rises : Rises (rise_at side.Left (picked rights ls))
   left-rises = record {
@@ -118,29 +117,19 @@ module _ (Ts : List Tree) (id : ℕ) (lefts rights : List (Vec Break Global)) (l
   pub scaffolds-stay : Stays (scaffold_at side.Left (picked rights ls)) (scaffold_at side.Right (picked lefts rs))
   scaffolds-stay t e = omega (arith, ints, left-is t, left-is (suc t), right-is t, right-is (suc t), falls.no_rise t, rises.no_fall t, e)
 
-  in_left : (j : ℕ) → j < length (picked rights ls) → j < length ls
-  in_left j l = omega (arith, l, length-map ls (wall_of rights))
-
-  in_right : (j : ℕ) → j < length (picked lefts rs) → j < length rs
-  in_right j l = omega (arith, l, length-map rs (wall_of lefts))
-
   pub left-level : AreLevel (picked rights ls)
-  left-level j l = subst IsLevel (sym (pick-read rights ls j (in_left j l))) (left_drawn j (in_left j l)).right_level
+  left-level = each-picked IsLevel rights ls (λ j l. (left_drawn j l).right_level)
 
   pub right-level : AreLevel (picked lefts rs)
-  right-level j l = subst IsLevel (sym (pick-read lefts rs j (in_right j l))) (right_drawn j (in_right j l)).left_level
+  right-level = each-picked IsLevel lefts rs (λ j l. (right_drawn j l).left_level)
 
   pub left-steady : AreSteady side.Left (picked rights ls)
-  left-steady j l = let d = left_drawn j (in_left j l) in let w = drawn-of 60 _ _ _ d.walls in subst (IsSteadyLine side.Left) (sym (pick-read rights ls j (in_left j l))) record {
-    path = d.right_path;
-    rises = rises-same _ _ (λ t. sym (w.1 t).1) (walls-steady 60 (left_wall 60) (right_wall 60) _ w.0).rises;
-  }
+  left-steady = each-picked (IsSteadyLine side.Left) rights ls (λ j l. (let d = left_drawn j l in let w = drawn-of 60 _ _ _ d.walls in
+      record { path = d.right_path; rises = rises-same _ _ (λ t. sym (w.1 t).1) (walls-steady 60 (left_wall 60) (right_wall 60) _ w.0).rises }))
 
   pub right-steady : AreSteady side.Right (picked lefts rs)
-  right-steady j l = let d = right_drawn j (in_right j l) in let w = drawn-of 60 _ _ _ d.walls in subst (IsSteadyLine side.Right) (sym (pick-read lefts rs j (in_right j l))) record {
-    path = d.left_path;
-    rises = rises-turned _ _ (λ t. sym (w.1 t).0) (walls-steady 60 (left_wall 60) (right_wall 60) _ w.0).falls;
-  }
+  right-steady = each-picked (IsSteadyLine side.Right) lefts rs (λ j l. (let d = right_drawn j l in let w = drawn-of 60 _ _ _ d.walls in
+      record { path = d.left_path; rises = rises-turned _ _ (λ t. sym (w.1 t).0) (walls-steady 60 (left_wall 60) (right_wall 60) _ w.0).falls }))
 
 -- What is joined, and what is drawn of a number, are drawings; and where scaffolds jump, a break point is past the bounds.
 -- a number's walls
@@ -196,6 +185,9 @@ traced-breaks f end bs r = record {
 }
 
 module _ (Ts : List Tree) (id : ℕ) (lefts rights : List (Vec Break Global)) (ls rs : List ℕ) (o : IsOptions Ts id ls rs) (h : AreDrawnBelow Ts id lefts rights) (stored : id < length Ts) (forms : HaveForms Ts) where
+  options : (X : Tree) → IsOption (tree_at Ts id) X → AllWallsAre 60 (left_wall 60) (right_wall 60) X
+  options = options-all Ts id lefts rights ls rs o h
+
   joined_walls : (g : Drawing) → IsJoined (scaffold_at side.Left (picked rights ls)) (scaffold_at side.Right (picked lefts rs)) g
       → AllWallsAre 60 (left_wall 60) (right_wall 60) (tree_at Ts id) × ((t : ℕ) → (left_wall 60 (tree_at Ts id) t ≡ wall_at g.left.items t) × (right_wall 60 (tree_at Ts id) t ≡ wall_at g.right.items t))
   joined_walls g j = join-drawn 60 (tree_at Ts id) (scaffold_at side.Left (picked rights ls)) (scaffold_at side.Right (picked lefts rs)) (wall_at g.left.items) (wall_at g.right.items) record {
@@ -209,7 +201,7 @@ module _ (Ts : List Tree) (id : ℕ) (lefts rights : List (Vec Break Global)) (l
     left_after = j.left_traced.after;
     right_along = j.right_traced.agrees;
     right_after = j.right_traced.after;
-  } (lefts-all Ts id lefts rights ls rs o h) (rights-all Ts id lefts rights ls rs o h)
+  } (λ X x. options X (inl x)) (λ X x. options X (inr x))
 
   joined_meeting : (g : Drawing) → (j : IsJoined (scaffold_at side.Left (picked rights ls)) (scaffold_at side.Right (picked lefts rs)) g) → IsMeeting (wall_at g.left.items) (wall_at g.right.items) j.meeting g.mean
   joined_meeting g j = record {
@@ -238,7 +230,7 @@ module _ (Ts : List Tree) (id : ℕ) (lefts rights : List (Vec Break Global)) (l
 
   pub jumped : IsCanonicalTree (tree_at Ts id) → Jumps (scaffold_at side.Left (picked rights ls)) (scaffold_at side.Right (picked lefts rs)) → HasTemperatureBetween 60 (tree_at Ts id)
   jumped c j =
-      let r = jump-odd 60 (tree_at Ts id) (c, over-more 61 60 (tree_at Ts id) (omega arith) (store-over Ts forms id stored)) o.no_number (lefts-all Ts id lefts rights ls rs o h) (rights-all Ts id lefts rights ls rs o h) j.place
+      let r = jump-odd 60 (tree_at Ts id) (c, over-more 61 60 (tree_at Ts id) (omega arith) (store-over Ts forms id stored)) o.no_number (λ X x. options X (inl x)) (λ X x. options X (inr x)) j.place
       (omega (arith, ints, j.passed, left-is Ts id lefts rights ls rs o h j.place, right-is Ts id lefts rights ls rs o h j.place))
       (λ v l. omega (arith, ints, j.apart v l, left-is Ts id lefts rights ls rs o h v, right-is Ts id lefts rights ls rs o h v)) in
       record {

@@ -1,9 +1,9 @@
 -- Scaffolds: the greatest of the walls, where they are straight, where they bend, and where two of them meet.
 use Rattle.std.specs.declared.alloc.Global.{Global}
-use Rattle.std.proofs.Common.{ℕ, zero, suc, ◌+◌, ◌<◌, ◌≤◌, ◌≡◌, arith, refl, sym, ◌∙◌, ap, ap₂, subst, ℤ, pos, List, [], ◌∷◌, length, take, get_or, Bool, true, false, nat_eq, cond, Vec, inl, inr, below_more, ◌-◌, ◌^◌, ◌≤ℤ◌, ◌+ℤ◌, ◌-ℤ◌, ◌⊎◌, ◌<ℤ◌, ◌/◌, negsuc, neg_ℤ, ◌↔◌}
+use Rattle.std.proofs.Common.{ℕ, zero, suc, ◌+◌, ◌<◌, ◌≤◌, ◌≡◌, arith, refl, sym, ◌∙◌, ap, ap₂, subst, ℤ, pos, List, [], ◌∷◌, length, take, get_or, Bool, true, false, nat_eq, cond, Vec, inl, inr, below_more, ◌-◌, ◌^◌, ◌≤ℤ◌, ◌+ℤ◌, ◌-ℤ◌, ◌⊎◌, ◌<ℤ◌, ◌/◌, neg_ℤ, ◌↔◌}
 use Rattle.std.specs.Int.{int_max}
 use Rattle.std.proofs.lemmas.Int.{ints, clamps, by_lt_z}
-use Rattle.std.proofs.lemmas.List.{take_all, get_or-map, length-map}
+use Rattle.std.proofs.lemmas.List.{get_or-map, length-map}
 use Rattle.std.proofs.lemmas.Bool.{eqb-true, false_from_ne_true, true≢false, cases_lt}
 use Rattle.thermograph.specs.declared.breaks.Break.{Break}
 use Rattle.thermograph.specs.declared.side.Side.{Side}
@@ -28,6 +28,9 @@ pick-read ws is j h = get_or-map (wall_of ws) is j 0 [] h
 pub each-read : (Is : List Break → Type 0) (ws : List (Vec Break Global)) (is : List ℕ) (j : ℕ) → j < length is → EachWall Is (picked ws is) → Is (wall_of ws (get_or is j 0))
 each-read Is ws is j h a = subst Is (pick-read ws is j h) (a j (omega (arith, h, length-map is (wall_of ws))))
 
+pub each-picked : (Is : List Break → Type 0) (ws : List (Vec Break Global)) (is : List ℕ) → ((j : ℕ) → j < length is → Is (wall_of ws (get_or is j 0))) → EachWall Is (picked ws is)
+each-picked Is ws is a j h = let k : j < length is = omega (arith, h, length-map is (wall_of ws)) in subst Is (sym (pick-read ws is j k)) (a j k)
+
 pub clear-step : (ws : List (Vec Break Global)) (is : List ℕ) (start next after i : ℕ) (bs : List Break) → i < length is → ((j : ℕ) → j < i → IsClear start next (get_or (picked ws is) j [])) → after ≤ next → IsClear start after bs → bs ≡ wall_of ws (get_or is i 0)
     → (j : ℕ) → j < i + 1 → IsClear start after (get_or (picked ws is) j [])
 clear-step ws is start next after i bs h a o b e = below_more _ i
@@ -38,15 +41,7 @@ pub turned-range : (s : Side) (x : ℤ) → IsInRange x → IsInRange (turned s 
 turned-range side.Left x h = h
 turned-range side.Right x h = (omega (arith, ints, h.1), omega (arith, ints, h.0))
 
-no_zero : (i : ℕ) → nat_eq (suc i) 0 ≡ false
-no_zero i = false_from_ne_true _ (λ e. omega (arith, eqb-true _ _ e))
-
 module _ (f : List Break → ℤ) where
-  first : (ws : List (List Break)) (d : List Break) → 0 < length ws → greatest f (take 1 ws) ≡ f (get_or ws 0 d)
-  unfolding greatest
-  first [] d h = absurd (omega (arith, h))
-  first (w ∷ ws) d h = refl
-
   next : (w : List Break) (ws : List (List Break)) (i : ℕ) (d : List Break) → i < length ws → greatest f (w ∷ take (suc i) ws) ≡ int_max (greatest f (w ∷ take i ws)) (f (get_or ws i d))
   unfolding greatest
   next w [] i d h = absurd (omega (arith, h))
@@ -54,9 +49,10 @@ module _ (f : List Break → ℤ) where
   next w (v ∷ ws) (suc i) d h = ap (int_max (f w)) (next v ws i d (omega (arith, h))) ∙ omega (arith, ints, clamps)
 
   step : (ws : List (List Break)) (i : ℕ) (d : List Break) (g h r : ℤ) (b : Bool) → i < length ws → g ≡ greatest f (take i ws) → h ≡ f (get_or ws i d) → b ≡ nat_eq i 0 → r ≡ cond b h (int_max g h) → r ≡ greatest f (take (suc i) ws)
+  unfolding greatest
   step [] i d g h r b l p q e k = absurd (omega (arith, l))
-  step (w ∷ ws) zero d g h r b l p q e k = k ∙ ap (λ c. cond c h (int_max g h)) e ∙ q ∙ sym (first (w ∷ ws) d l)
-  step (w ∷ ws) (suc i) d g h r b l p q e k = k ∙ ap (λ c. cond c h (int_max g h)) (e ∙ no_zero i) ∙ ap₂ int_max p q ∙ sym (next w ws i d (omega (arith, l)))
+  step (w ∷ ws) zero d g h r b l p q e k = k ∙ ap (λ c. cond c h (int_max g h)) e ∙ q
+  step (w ∷ ws) (suc i) d g h r b l p q e k = k ∙ ap (λ c. cond c h (int_max g h)) (e ∙ false_from_ne_true _ (λ z. omega (arith, eqb-true _ _ z))) ∙ ap₂ int_max p q ∙ sym (next w ws i d (omega (arith, l)))
 
   range : (g h r : ℤ) (b : Bool) → IsInRange g → IsInRange h → r ≡ cond b h (int_max g h) → IsInRange r
   range g h r true p q k = (omega (arith, ints, q.0, k), omega (arith, ints, q.1, k))
@@ -73,9 +69,6 @@ module _ (f : List Break → ℤ) where
 
   pub run-step : (ws : List (List Break)) (i j : ℕ) (d : List Break) (g h r : ℤ) (b : Bool) → j ≡ suc i → i < length ws → IsRun ws i g → h ≡ f (get_or ws i d) → IsInRange h → b ≡ nat_eq i 0 → r ≡ cond b h (int_max g h) → IsRun ws j r
   run-step ws i j d g h r b s l p q m e k = record { is = step ws i d g h r b l p.is q e k ∙ ap (λ n. greatest f (take n ws)) (sym s); in_range = range g h r b p.in_range m k }
-
-  pub run-end : (ws : List (List Break)) (i : ℕ) (g : ℤ) → length ws ≤ i → IsRun ws i g → g ≡ greatest f ws
-  run-end ws i g h p = p.is ∙ ap (greatest f) (take_all i ws h)
 
 -- How far the walls' greatest and the scaffolds go.
 pub rise-range : (s : Side) (ws : List (List Break)) (t : ℕ) → AreLevel ws → IsInRange (rise_at s ws t)

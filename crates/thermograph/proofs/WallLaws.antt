@@ -1,5 +1,5 @@
 -- Walls as lists of break points: drawn break point by break point, within the bounds, and on finer grids.
-use Rattle.std.proofs.Common.{ℕ, zero, suc, ◌+◌, ◌-◌, ◌<◌, ◌≤◌, ◌≡◌, ◌⊎◌, ◌↔◌, arith, refl, inl, inr, sym, ◌∙◌, ap, subst, ℤ, pos, ◌+ℤ◌, ◌-ℤ◌, ◌<ℤ◌, int_lt, nat_lt, cond, Bool, true, false, List, [], ◌∷◌, ◌++◌, length, drop, get_or, ap₂, ◌^◌, ◌*◌, ◌*ℤ◌, ◌≤ℤ◌}
+use Rattle.std.proofs.Common.{ℕ, zero, suc, ◌+◌, ◌-◌, ◌<◌, ◌≤◌, ◌≡◌, ◌⊎◌, ◌↔◌, arith, refl, inl, inr, sym, ◌∙◌, ap, subst, ℤ, pos, ◌+ℤ◌, ◌-ℤ◌, ◌<ℤ◌, int_lt, nat_lt, cond, true, false, List, [], ◌∷◌, ◌++◌, length, drop, get_or, ap₂, ◌^◌, ◌*◌, ◌*ℤ◌, ◌≤ℤ◌}
 use Rattle.std.proofs.lemmas.List.{drop_more, drop_all}
 use Rattle.std.proofs.lemmas.Bool.{cases_lt, true_from_ne_false, false_from_ne_true, lt-ltb, le-ltb}
 use Rattle.std.proofs.lemmas.Int.{ints, by_lt_z}
@@ -294,15 +294,9 @@ wall-doubles (b ∷ bs) r = record { at_even = λ t. from-even b bs t; at_odd = 
 wall-finer : (bs : List Break) → IsPath bs → (t : ℕ) → finer (wall_at bs) t ≡ wall_at (doubled bs) t
 wall-finer bs r t = at t (parity t)
   where
-    f : Doubles (wall_at bs) (finer (wall_at bs))
-    f = finer-doubles (wall_at bs)
-
-    d : Doubles (wall_at bs) (wall_at (doubled bs))
-    d = wall-doubles bs r
-
     at : (t : ℕ) → Parity t → finer (wall_at bs) t ≡ wall_at (doubled bs) t
-    at _ (even t) = f.at_even t ∙ sym (d.at_even t)
-    at _ (odd t) = f.at_odd t ∙ sym (d.at_odd t)
+    at _ (even t) = (finer-doubles (wall_at bs)).at_even t ∙ sym ((wall-doubles bs r).at_even t)
+    at _ (odd t) = (finer-doubles (wall_at bs)).at_odd t ∙ sym ((wall-doubles bs r).at_odd t)
 
 doubled-reaches : (b : Break) (bs : List Break) → Reaches b bs → Reaches (twice b) (doubled bs)
 doubled-reaches b [] r = tt
