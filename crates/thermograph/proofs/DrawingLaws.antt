@@ -22,7 +22,7 @@ use Rattle.short_games.proofs.WallLines.{greatest-same, least-same, below-or_at}
 use Rattle.short_games.proofs.WallSolutions.{walls-unique, walls-steady, left_scaffold-falls, right_scaffold-rises}
 use Rattle.short_games.proofs.WallsDrawn.{left_wall, right_wall, left_scaffold, right_scaffold, left_scaffold-is, right_scaffold-is, walls-at}
 use Rattle.short_games.proofs.WallSteps.{solution-drawn, join-drawn, walls-within}
-use Rattle.thermograph.proofs.ScaffoldLaws.{each-picked}
+use Rattle.thermograph.proofs.ScaffoldLaws.{each-picked, rise-rises}
 use Rattle.thermograph.proofs.FlagLaws.{number-over, store-over, store-bounded, IsStored, among-inner, option-listed}
 use Rattle.dyadic_num.specs.Units.{IsInBounds}
 use Rattle.short_games.specs.Number.{num, number_tree}
@@ -57,9 +57,6 @@ pub drawn-of : (k : ℕ) (G : Tree) (l r : ℕ → ℤ) → HasWalls k G l r →
 drawn-of k G l r h =
     let d = solution-drawn k h.lw h.rw G h.all in
     (d, λ t. (let s = walls-unique k (left_wall k) (right_wall k) h.lw h.rw G d h.all t in (s.0 ∙ h.left_is t, s.1 ∙ h.right_is t)))
-
-rises-same : (f g : ℕ → ℤ) → ((t : ℕ) → g t ≡ f t) → Rises f → Rises g
-rises-same f g e r = record { no_fall = λ t. omega (arith, ints, e t, e (suc t), r.no_fall t); by_one = λ t. omega (arith, ints, e t, e (suc t), r.by_one t) }
 
 rises-turned : (f g : ℕ → ℤ) → ((t : ℕ) → g t ≡ f t) → Falls f → Rises (λ t. neg_ℤ (g t))
 rises-turned f g e r = record { no_fall = λ t. omega (arith, ints, e t, e (suc t), r.no_rise t); by_one = λ t. omega (arith, ints, e t, e (suc t), r.by_one t) }
@@ -96,40 +93,23 @@ module _ (Ts : List Tree) (id : ℕ) (lefts rights : List (Vec Break Global)) (l
   pub right-is : (t : ℕ) → scaffold_at side.Right (picked lefts rs) t ≡ right_scaffold 60 (tree_at Ts id) t
   right-is t = omega (arith, ints, least-same (λ X. left_wall 60 X t) (λ X. left_wall 60 X t) (right (tree_at Ts id)) _ _ (λ X x. refl) (right_rise t) (right_scaffold-is 60 (tree_at Ts id) right_filled t))
 
-  falls : Falls (left_scaffold 60 (tree_at Ts id))
-  falls = left_scaffold-falls 60 (left_wall 60) (right_wall 60) (left (tree_at Ts id)) (left_scaffold 60 (tree_at Ts id)) (λ X x. walls-steady 60 (left_wall 60) (right_wall 60) X (options-all X (inl x))) (left_scaffold-is 60 (tree_at Ts id) left_filled)
+  -- what is known of the two scaffolds
+  pub left-known : AreLevel (picked rights ls) × AreSteady side.Left (picked rights ls)
+  left-known = (
+    each-picked IsLevel rights ls (λ j l. (left_drawn j l).right_level),
+    each-picked (IsSteadyLine side.Left) rights ls (λ j l. (let d = left_drawn j l in let w = drawn-of 60 _ _ _ d.walls in
+        record { path = d.right_path; rises = subst Rises (λ i. λ t. (w.1 t).1 i) (walls-steady 60 (left_wall 60) (right_wall 60) _ w.0).rises })),
+  )
 
-  rises : Rises (right_scaffold 60 (tree_at Ts id))
-  rises = right_scaffold-rises 60 (left_wall 60) (right_wall 60) (right (tree_at Ts id)) (right_scaffold 60 (tree_at Ts id)) (λ X x. walls-steady 60 (left_wall 60) (right_wall 60) X (options-all X (inr x))) (right_scaffold-is 60 (tree_at Ts id) right_filled)
-
-  pub left-rises : Rises (rise_at side.Left (picked rights ls))
-  left-rises = record {
-    no_fall = λ t. omega (arith, ints, left-is t, left-is (suc t), falls.by_one t);
-    by_one = λ t. omega (arith, ints, left-is t, left-is (suc t), falls.no_rise t);
-  }
-
-  pub right-rises : Rises (rise_at side.Right (picked lefts rs))
-  right-rises = record {
-    no_fall = λ t. omega (arith, ints, right-is t, right-is (suc t), rises.by_one t);
-    by_one = λ t. omega (arith, ints, right-is t, right-is (suc t), rises.no_fall t);
-  }
+  pub right-known : AreLevel (picked lefts rs) × AreSteady side.Right (picked lefts rs)
+  right-known = (
+    each-picked IsLevel lefts rs (λ j l. (right_drawn j l).left_level),
+    each-picked (IsSteadyLine side.Right) lefts rs (λ j l. (let d = right_drawn j l in let w = drawn-of 60 _ _ _ d.walls in
+        record { path = d.left_path; rises = rises-turned _ _ (λ t. sym (w.1 t).0) (walls-steady 60 (left_wall 60) (right_wall 60) _ w.0).falls })),
+  )
 
   pub scaffolds-stay : Stays (scaffold_at side.Left (picked rights ls)) (scaffold_at side.Right (picked lefts rs))
-  scaffolds-stay t e = omega (arith, ints, left-is t, left-is (suc t), right-is t, right-is (suc t), falls.no_rise t, rises.no_fall t, e)
-
-  pub left-level : AreLevel (picked rights ls)
-  left-level = each-picked IsLevel rights ls (λ j l. (left_drawn j l).right_level)
-
-  pub right-level : AreLevel (picked lefts rs)
-  right-level = each-picked IsLevel lefts rs (λ j l. (right_drawn j l).left_level)
-
-  pub left-steady : AreSteady side.Left (picked rights ls)
-  left-steady = each-picked (IsSteadyLine side.Left) rights ls (λ j l. (let d = left_drawn j l in let w = drawn-of 60 _ _ _ d.walls in
-      record { path = d.right_path; rises = rises-same _ _ (λ t. sym (w.1 t).1) (walls-steady 60 (left_wall 60) (right_wall 60) _ w.0).rises }))
-
-  pub right-steady : AreSteady side.Right (picked lefts rs)
-  right-steady = each-picked (IsSteadyLine side.Right) lefts rs (λ j l. (let d = right_drawn j l in let w = drawn-of 60 _ _ _ d.walls in
-      record { path = d.left_path; rises = rises-turned _ _ (λ t. sym (w.1 t).0) (walls-steady 60 (left_wall 60) (right_wall 60) _ w.0).falls }))
+  scaffolds-stay t e = omega (arith, ints, (rise-rises side.Left (picked rights ls) left-known.1).by_one t, (rise-rises side.Right (picked lefts rs) right-known.1).by_one t, e)
 
 -- What is joined, and what is drawn of a number, are drawings; and where scaffolds jump, a break point is past the bounds.
 -- a number's walls
@@ -244,9 +224,6 @@ module _ (Ts : List Tree) (id : ℕ) (lefts rights : List (Vec Break Global)) (l
 
 -- The pass up over the ids, and what is drawn at its end.
 module _ (Ts : List Tree) (flags : List Bool) where
-  pub drawn-start : AreDrawn Ts flags 0 [] []
-  drawn-start = record { left_count = refl; right_count = refl; drawn = λ i h. absurd (omega (arith, h)) }
-
   -- the options of a flagged form are drawn
   pub drawn-below : (id n : ℕ) (lefts rights : List (Vec Break Global)) → AreFollowers Ts id 0 flags → AreDrawn Ts flags n lefts rights → n < length flags → IsFlagged flags n → AreDrawnBelow Ts n lefts rights
   drawn-below id n lefts rights f d l m = record { left_count = d.left_count; right_count = d.right_count; drawn = λ i o. d.drawn i o.0 (f.closed n i (omega arith) l m o) }
@@ -275,6 +252,3 @@ module _ (Ts : List Tree) (flags : List Bool) where
       at i (inl h) m = same i _ _ _ _ (wall-kept lefts l i (omega (arith, h, d.left_count))) (wall-kept rights r i (omega (arith, h, d.right_count))) (d.drawn i h m)
       at i (inr h) m = subst (λ k. IsDrawn (tree_at Ts k) (wall_of (lefts ++ l ∷ []) k) (wall_of (rights ++ r ∷ []) k)) (sym h)
           (same n _ _ _ _ (ap (wall_of (lefts ++ l ∷ [])) (sym d.left_count) ∙ wall-new lefts l) (ap (wall_of (rights ++ r ∷ [])) (sym d.right_count) ∙ wall-new rights r) (new (subst (IsFlagged flags) h m)))
-
-pub past-bounds : (Ts : List Tree) (id n : ℕ) (flags : List Bool) → AreFollowers Ts id 0 flags → n < length flags → IsFlagged flags n → HasTemperatureBetween 60 (tree_at Ts n) → IsDrawnPastBounds (tree_at Ts id)
-past-bounds Ts id n flags f l m b = past-bounds_of (tree_at Ts id) (tree_at Ts n) (f.follows n l m) b

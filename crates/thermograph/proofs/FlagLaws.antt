@@ -66,11 +66,10 @@ following-start Ts id count ys k e = subst (AreFollowers Ts id count) (sym e) re
   where
     one : (i : ℕ) → IsFlagged (set (replicate count false) id true) i → (i ≡ id) ⊎ (i ≡ id → ⊥) → IsFollower (tree_at Ts id) (tree_at Ts i)
     one i m (inl s) = subst (λ n. IsFollower (tree_at Ts id) (tree_at Ts n)) (sym s) (itself (tree_at Ts id))
-    one i m (inr d) = absurd (true≢false (sym m ∙ get_or-set_other (replicate count false) id i true false d ∙ unflagged i (cases_lt i count)))
-      where
-        unflagged : (i : ℕ) → (i < count) ⊎ (count ≤ i) → get_or (replicate count false) i false ≡ false
-        unflagged i (inl l) = get_or-replicate count i false false l
-        unflagged i (inr l) = get_or_past (replicate count false) i false (omega (arith, l, length-replicate count false))
+    one i m (inr d) = let unflagged : get_or (replicate count false) i false ≡ false = elim (cases_lt i count) [
+      | inl l ↦ get_or-replicate count i false false l
+      | inr l ↦ get_or_past (replicate count false) i false (omega (arith, l, length-replicate count false))
+    ] in absurd (true≢false (sym m ∙ get_or-set_other (replicate count false) id i true false d ∙ unflagged))
 
 pub following-step : (Ts : List Tree) (id place next : ℕ) (ys zs : List Bool) → AreFollowers Ts id place ys → place ≡ next + 1 → place ≤ length ys → IsFlagged ys next → AreAdded (IsInner Ts next) ys zs → AreFollowers Ts id next zs
 following-step Ts id place next ys zs f e b n a = record {

@@ -79,21 +79,30 @@ rise-range s (w ∷ v ∷ ws) t l = let a = turned-range s (wall_at w t) (l 0 (o
     let b = rise-range s (v ∷ ws) t (λ j h. l (suc j) (omega (arith, h))) in
     (omega (arith, ints, clamps, a.0, b.0), omega (arith, ints, clamps, a.1, b.1))
 
+-- walls that rise by 0 or 1 a step have a greatest that does
+pub rise-rises : (s : Side) (ws : List (List Break)) → AreSteady s ws → Rises (rise_at s ws)
+unfolding greatest
+rise-rises s [] a = record { no_fall = λ t. omega (arith, ints); by_one = λ t. omega (arith, ints) }
+rise-rises s (w ∷ []) a = (a 0 (omega arith)).rises
+rise-rises s (w ∷ x ∷ ws) a =
+    let p = (a 0 (omega arith)).rises in
+    let q = rise-rises s (x ∷ ws) (λ j l. a (suc j) (omega (arith, l))) in
+    record { no_fall = λ t. omega (arith, ints, clamps, p.no_fall t, q.no_fall t); by_one = λ t. omega (arith, ints, clamps, p.by_one t, q.by_one t) }
+
 -- A line that rises by 0 or 1 a step is straight where it goes on as it began.
+rises_to : (f : ℕ → ℤ) → ((t : ℕ) → f t ≤ℤ f (suc t)) → (u v : ℕ) → u ≤ v → f u ≤ℤ f v
+rises_to f s u zero h = let i : u ≡ 0 = omega (arith, h) in omega (arith, ints, ap f i)
+rises_to f s u (suc v) h = elim (below-or_at u (suc v) h) [
+  | inl l ↦ omega (arith, ints, rises_to f s u v (omega (arith, l)), s v)
+  | inr i ↦ omega (arith, ints, ap f i)
+]
+
 module _ (f : ℕ → ℤ) (rises : Rises f) where
   pub rises-far : (u v : ℕ) → u ≤ v → f u ≤ℤ f v
-  rises-far u zero h = let i : u ≡ 0 = omega (arith, h) in subst (λ n. f u ≤ℤ f n) i (omega (arith, ints))
-  rises-far u (suc v) h = elim (below-or_at u (suc v) h) [
-    | inl l ↦ omega (arith, ints, rises-far u v (omega (arith, l)), rises.no_fall v)
-    | inr i ↦ subst (λ n. f u ≤ℤ f n) i (omega (arith, ints))
-  ]
+  rises-far = rises_to f rises.no_fall
 
   pub rises-slow : (u v : ℕ) → u ≤ v → (f v -ℤ pos v) ≤ℤ (f u -ℤ pos u)
-  rises-slow u zero h = let i : u ≡ 0 = omega (arith, h) in subst (λ n. (f n -ℤ pos n) ≤ℤ (f u -ℤ pos u)) i (omega (arith, ints))
-  rises-slow u (suc v) h = elim (below-or_at u (suc v) h) [
-    | inl l ↦ omega (arith, ints, rises-slow u v (omega (arith, l)), rises.by_one v)
-    | inr i ↦ subst (λ n. (f n -ℤ pos n) ≤ℤ (f u -ℤ pos u)) i (omega (arith, ints))
-  ]
+  rises-slow u v h = omega (arith, ints, rises_to (λ t. pos t -ℤ f t) (λ t. omega (arith, ints, rises.by_one t)) u v h)
 
   pub flat-between : (u v t : ℕ) → IsAlong f false u v → u ≤ t → t ≤ v → f t ≡ f u
   flat-between u v t a h k = omega (arith, ints, a, rises-far u t h, rises-far t v k)
@@ -131,20 +140,12 @@ module _ (s : Side) (f : ℕ → ℤ) where
 
 module _ (ws : List (List Break)) where
   flat-straight : (s : Side) → Rises (rise_at s ws) → (u v : ℕ) → u ≤ v → IsAlong (rise_at s ws) false u v → IsStraight (scaffold_at s ws) u v
-  flat-straight side.Left r u v o a t h k = omega (
-    arith,
-    ints,
-    h,
-    toward-dives (scaffold_at side.Left ws u) (scaffold_at side.Left ws v) (v - u) (t - u) (omega (arith, ints, o, a)) (omega (arith, k)),
-    flat-between (rise_at side.Left ws) r u v t a h k,
-  )
-  flat-straight side.Right r u v o a t h k = omega (
-    arith,
-    ints,
-    h,
-    toward-climbs (scaffold_at side.Right ws u) (scaffold_at side.Right ws v) (v - u) (t - u) (omega (arith, ints, o, a)) (omega (arith, k)),
-    flat-between (rise_at side.Right ws) r u v t a h k,
-  )
+  flat-straight side.Left r u v o a t h k =
+      let way = toward-dives (scaffold_at side.Left ws u) (scaffold_at side.Left ws v) (v - u) (t - u) (omega (arith, ints, o, a)) (omega (arith, k)) in
+      omega (arith, ints, h, way, flat-between (rise_at side.Left ws) r u v t a h k)
+  flat-straight side.Right r u v o a t h k =
+      let way = toward-climbs (scaffold_at side.Right ws u) (scaffold_at side.Right ws v) (v - u) (t - u) (omega (arith, ints, o, a)) (omega (arith, k)) in
+      omega (arith, ints, h, way, flat-between (rise_at side.Right ws) r u v t a h k)
 
   steep-straight : (s : Side) → Rises (rise_at s ws) → (u v : ℕ) → u ≤ v → IsAlong (rise_at s ws) true u v → IsStraight (scaffold_at s ws) u v
   steep-straight side.Left r u v o a t h k = omega (arith, ints, o, h, toward-same (scaffold_at side.Left ws u) (scaffold_at side.Left ws v) (t - u) (omega (arith, ints, o, a)), steep-between (rise_at side.Left ws) r u v t a h k)
