@@ -1,5 +1,5 @@
 -- Break points past the bounds of a Dyadic: where a game has walls on the grid of 2 ^ -60 there is none.
-use Rattle.std.proofs.Common.{ℕ, zero, suc, ap₂, ◌+◌, ◌-◌, ◌*◌, ◌^◌, ◌<◌, ◌≤◌, ◌≡◌, ◌⊎◌, ◌↔◌, inl, inr, arith, refl, sym, ◌∙◌, ap, subst, List, length, ℤ, pos, ◌+ℤ◌, ◌-ℤ◌, ◌*ℤ◌, ◌<ℤ◌, ◌≤ℤ◌, neg_ℤ}
+use Rattle.std.proofs.Common.{ℕ, zero, suc, ap₂, ◌+◌, ◌-◌, ◌*◌, ◌^◌, ◌<◌, ◌≤◌, ◌≡◌, ◌⊎◌, inl, inr, arith, refl, sym, ◌∙◌, ap, subst, List, length, ℤ, pos, ◌+ℤ◌, ◌-ℤ◌, ◌*ℤ◌, ◌<ℤ◌, ◌≤ℤ◌, neg_ℤ}
 use Rattle.std.specs.Prelude.{unsigned_abs}
 use Rattle.std.proofs.lemmas.Bool.{cases_lt}
 use Rattle.std.proofs.lemmas.Int.{ints}
@@ -147,19 +147,17 @@ module _ (l r : ℕ → ℤ) where
     before = λ v lt. omega (arith, ints, m.before (v + v) (omega (arith, lt)), (finer-doubles l).at_even v, (finer-doubles r).at_even v);
   }
 
-  break-finer : (f : ℕ → ℤ) (q : ℕ) → IsBreak l r f q ↔ IsBreak (finer l) (finer r) (finer f) (q + q)
-  break-finer f zero = (λ _. inl refl, λ _. inl refl)
-  break-finer f (suc q) = (to, back)
-    where
-      to : IsBreak l r f (suc q) → IsBreak (finer l) (finer r) (finer f) (suc q + suc q)
-      to (inl e) = absurd (omega (arith, e))
-      to (inr (inl b)) = inr (inl (λ e. b (omega (arith, ints, e, bend-finer f q))))
-      to (inr (inr (x, m))) = inr (inr (x +ℤ x, meets-finer (suc q) x m))
+  break-finer : (f : ℕ → ℤ) (q : ℕ) → IsBreak l r f q → IsBreak (finer l) (finer r) (finer f) (q + q)
+  break-finer f zero b = inl refl
+  break-finer f (suc q) (inl e) = absurd (omega (arith, e))
+  break-finer f (suc q) (inr (inl b)) = inr (inl (λ e. b (omega (arith, ints, e, bend-finer f q))))
+  break-finer f (suc q) (inr (inr (x, m))) = inr (inr (x +ℤ x, meets-finer (suc q) x m))
 
-      back : IsBreak (finer l) (finer r) (finer f) (suc q + suc q) → IsBreak l r f (suc q)
-      back (inl e) = absurd (omega (arith, e))
-      back (inr (inl b)) = inr (inl (λ e. b (omega (arith, ints, e, bend-finer f q))))
-      back (inr (inr (x, m))) = inr (inr (l (suc q), meets-coarser (suc q) x m))
+  break-coarser : (f : ℕ → ℤ) (q : ℕ) → IsBreak (finer l) (finer r) (finer f) (q + q) → IsBreak l r f q
+  break-coarser f zero b = inl refl
+  break-coarser f (suc q) (inl e) = absurd (omega (arith, e))
+  break-coarser f (suc q) (inr (inl b)) = inr (inl (λ e. b (omega (arith, ints, e, bend-finer f q))))
+  break-coarser f (suc q) (inr (inr (x, m))) = inr (inr (l (suc q), meets-coarser (suc q) x m))
 
 powers : (x : ℤ) (j k : ℕ) → (x *ℤ pos (2 ^ j)) *ℤ pos (2 ^ k) ≡ x *ℤ pos (2 ^ (j + k))
 powers x j zero = let e : j + 0 ≡ j = omega arith in omega (arith, ints) ∙ ap (λ n. x *ℤ pos (2 ^ n)) (sym e)
@@ -186,7 +184,7 @@ module _ (P : Tree) (k : ℕ) (l r : ℕ → ℤ) (h : HasWalls k P l r) where
   to_fine : (f : ℕ → ℤ) (j t : ℕ) → IsBreak l r f t → IsBreak (finest j l) (finest j r) (finest j f) (t * 2 ^ j)
   to_fine f zero t b = let e : t * 2 ^ 0 ≡ t = omega arith in subst (IsBreak l r f) (sym e) b
   to_fine f (suc j) t b = subst (IsBreak (finest (suc j) l) (finest (suc j) r) (finest (suc j) f)) (sym (twice-place t j))
-      ((break-finer (finest j l) (finest j r) (finest j f) (t * 2 ^ j)).0 (to_fine f j t b))
+      (break-finer (finest j l) (finest j r) (finest j f) (t * 2 ^ j) (to_fine f j t b))
 
   -- and the fine one has no others
   to_coarse : (f : ℕ → ℤ) (j t : ℕ) → IsBreak (finest j l) (finest j r) (finest j f) t → (p : ℕ) × (t ≡ p * 2 ^ j) × IsBreak l r f p
@@ -207,7 +205,7 @@ module _ (P : Tree) (k : ℕ) (l r : ℕ → ℤ) (h : HasWalls k P l r) where
 
       at : ((v : ℕ) → IsBreak (finest j l) (finest j r) (finest j f) v → (p : ℕ) × (v ≡ p * 2 ^ j) × IsBreak l r f p)
           → (t : ℕ) → Parity t → IsBreak (finest (suc j) l) (finest (suc j) r) (finest (suc j) f) t → (p : ℕ) × (t ≡ p * 2 ^ suc j) × IsBreak l r f p
-      at below _ (even v) b = let i = below v ((break-finer (finest j l) (finest j r) (finest j f) v).1 b) in
+      at below _ (even v) b = let i = below v (break-coarser (finest j l) (finest j r) (finest j f) v b) in
           (i.0, ap₂ ◌+◌ i.1 i.1 ∙ sym (twice-place i.0 j), i.2)
       at below _ (odd v) b = absurd (none v b)
 

@@ -19,7 +19,7 @@ use Rattle.thermograph.specs.inner.Scaffolds.{wall_of, picked, turned_wall, grea
 use Rattle.thermograph.specs.inner.Drawings.{IsDrawn, AreDrawnBelow, IsDrawing, IsJoined, Jumps, AreDrawn}
 use Rattle.short_games.proofs.WallGreatest.{IsFilled, filled, greatest-one, greatest-more}
 use Rattle.short_games.proofs.WallLines.{greatest-same, least-same, below-or_at}
-use Rattle.short_games.proofs.WallSolutions.{walls-unique, walls-steady, left_scaffold-falls, right_scaffold-rises}
+use Rattle.short_games.proofs.WallSolutions.{walls-unique, walls-steady}
 use Rattle.short_games.proofs.WallsDrawn.{left_wall, right_wall, left_scaffold, right_scaffold, left_scaffold-is, right_scaffold-is, walls-at}
 use Rattle.short_games.proofs.WallSteps.{solution-drawn, join-drawn, walls-within}
 use Rattle.thermograph.proofs.ScaffoldLaws.{each-picked, rise-rises}
@@ -34,8 +34,6 @@ use Rattle.short_games.proofs.WallNumbers.{num-one_to_one}
 use Rattle.short_games.proofs.WallOver.{over-more}
 use Rattle.short_games.proofs.WallExistence.{jump-odd}
 use Rattle.thermograph.specs.inner.Flags.{IsFlagged, AreFollowers}
-use Rattle.thermograph.specs.PastBounds.{IsDrawnPastBounds}
-use Rattle.thermograph.proofs.BoundLaws.{past-bounds_of}
 
 -- The scaffolds of a form whose options are drawn.
 -- the greatest of what the walls of the ids have is the greatest of what their trees have

@@ -1,8 +1,7 @@
 -- The followers of a form, their flags, and the numbers in the trees of a store.
-use Rattle.std.proofs.Common.{ℕ, ◌+◌, ◌<◌, ◌≤◌, ◌≡◌, ◌⊎◌, ◌↔◌, ◌∙◌, arith, inl, inr, sym, ap, subst, Bool, true, false, List, ◌++◌, length, get_or, set, take, drop, replicate, zero, suc, ◌-◌, ◌^◌, ℤ, pos, neg_ℤ, ◌≤ℤ◌, refl}
+use Rattle.std.proofs.Common.{ℕ, ◌+◌, ◌<◌, ◌≤◌, ◌≡◌, ◌⊎◌, ◌↔◌, ◌∙◌, arith, inl, inr, sym, subst, Bool, true, false, List, length, get_or, set, replicate, zero, suc, ◌-◌, ◌^◌, ℤ, pos, neg_ℤ, ◌≤ℤ◌, refl}
 use Rattle.std.proofs.lemmas.Bool.{cases_eq, cases_lt, true≢false}
-use Rattle.std.proofs.Math.Seq.{take-append_seam}
-use Rattle.std.proofs.lemmas.List.{length-set, get_or-set_same, get_or-set_other, get_or-replicate, length-replicate, get_or_past, get_or_default}
+use Rattle.std.proofs.lemmas.List.{length-set, get_or-set_same, get_or-set_other, get_or-replicate, length-replicate, get_or_past}
 use Rattle.short_games.specs.Tree.{Tree, left, right, Has, tree_at, AreDistinct}
 use Rattle.game_store.specs.Meaning.{pick, Wanted}
 use Rattle.short_games.specs.Parts.{IsFollower, IsOption}
@@ -87,13 +86,6 @@ following-step Ts id place next ys zs f e b n a = record {
     ]
   ]);
 }
-
--- a list that was written whole
-pub written : (xs ys : List Bool) (n : ℕ) → n ≡ length xs → length ys ≡ length xs → take n (ys ++ drop (length ys) xs) ≡ ys
-written xs ys n e s = ap (λ m. take m (ys ++ drop (length ys) xs)) (e ∙ sym s) ∙ take-append_seam ys (drop (length ys) xs)
-
-pub flagged-read : (xs : List Bool) (i : ℕ) (b : Bool) → i < length xs → b ≡ get_or xs i b → b ≡ true → IsFlagged xs i
-flagged-read xs i b h p q = get_or_default xs i false b h ∙ sym p ∙ q
 
 -- The numbers in the trees of a store: parts of 2 ^ -60 within the bounds.
 -- the followers of a number are numbers over the same power of two

@@ -202,12 +202,6 @@ wall-slope (b ∷ bs) u v r o k = at (k 0 (omega arith))
 abbrev pub IsHinge : (ℕ → ℤ) → ℕ → ℕ → Type 0
 IsHinge f u v = (t : ℕ) → u ≤ t → t ≤ v → f t ≡ int_max (f u) (f v -ℤ pos (v - t))
 
-max-left : (x y : ℤ) → y ≤ℤ x → int_max x y ≡ x
-max-left x y h = omega (arith, ints, clamps, h)
-
-max-right : (x y : ℤ) → x ≤ℤ y → int_max x y ≡ y
-max-right x y h = omega (arith, ints, clamps, h)
-
 max-hinges : (a b c d : ℤ) (n : ℕ) → int_max (int_max a (b -ℤ pos n)) (int_max c (d -ℤ pos n)) ≡ int_max (int_max a c) (int_max b d -ℤ pos n)
 max-hinges a b c d n = omega (arith, ints, clamps)
 
@@ -218,10 +212,10 @@ slope-turned side.Right f u v (climbs a) = falls (λ t h k. omega (arith, ints, 
 slope-turned side.Right f u v (falls a) = climbs (λ t h k. omega (arith, ints, a t h k))
 
 slope-hinge : (f : ℕ → ℤ) (u v : ℕ) → u < v → Rises f → IsSlope f u v → IsHinge f u v
-slope-hinge f u v o r (stays a) t h k = a t h k ∙ sym (max-left _ _ (omega (arith, ints, a v (omega (arith, o)) (omega arith))))
+slope-hinge f u v o r (stays a) t h k = omega (arith, ints, clamps, a t h k, a v (omega (arith, o)) (omega arith))
 slope-hinge f u v o r (climbs a) t h k =
     let e : f t ≡ f v -ℤ pos (v - t) = omega (arith, ints, o, h, k, a t h k, a v (omega (arith, o)) (omega arith)) in
-    e ∙ sym (max-right _ _ (omega (arith, ints, e, a t h k)))
+    omega (arith, ints, clamps, e, a t h k)
 slope-hinge f u v o r (falls a) t h k = absurd (omega (arith, ints, o, a v (omega (arith, o)) (omega arith), rises-far f r u v (omega (arith, o))))
 
 module _ (s : Side) (u v : ℕ) (o : u < v) where
@@ -230,7 +224,7 @@ module _ (s : Side) (u v : ℕ) (o : u < v) where
 
   pub rise-hinge : (ws : List (List Break)) → AreSteady s ws → EachWall (IsClear u v) ws → IsHinge (rise_at s ws) u v
   unfolding greatest
-  rise-hinge [] a c t h k = sym (max-left (pos 0) (pos 0 -ℤ pos (v - t)) (omega (arith, ints)))
+  rise-hinge [] a c t h k = omega (arith, ints, clamps)
   rise-hinge (w ∷ []) a c t h k = wall-hinge w (a 0 (omega arith)) (c 0 (omega arith)) t h k
   rise-hinge (w ∷ x ∷ ws) a c t h k =
       let first = wall-hinge w (a 0 (omega arith)) (c 0 (omega arith)) t h k in
