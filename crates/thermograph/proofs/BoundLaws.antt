@@ -104,7 +104,9 @@ module _ (In : Tree → Type 0) (bounded : IsBounded 60 (pos (2 ^ 120 - 1)) In) 
       ]
 
 -- from a grid to the next finer one and back: how a line bends at a place of both is the same
-bend-finer : (f : ℕ → ℤ) (q : ℕ) → (finer f ((suc q + suc q) - 1) +ℤ finer f ((suc q + suc q) + 1)) -ℤ (finer f (suc q + suc q) +ℤ finer f (suc q + suc q)) ≡ (f (suc q - 1) +ℤ f (suc q + 1)) -ℤ (f (suc q) +ℤ f (suc q))
+bend-finer : (f : ℕ → ℤ) (q : ℕ)
+    → (finer f ((suc q + suc q) - 1) +ℤ finer f ((suc q + suc q) + 1)) -ℤ (finer f (suc q + suc q) +ℤ finer f (suc q + suc q))
+    ≡ (f (suc q - 1) +ℤ f (suc q + 1)) -ℤ (f (suc q) +ℤ f (suc q))
 bend-finer f q =
     let d = finer-doubles f in
     let before : (suc q + suc q) - 1 ≡ suc (q + q) = omega arith in

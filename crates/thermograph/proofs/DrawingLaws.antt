@@ -107,7 +107,8 @@ module _ (Ts : List Tree) (id : ℕ) (lefts rights : List (Vec Break Global)) (l
   )
 
   pub scaffolds-stay : Stays (scaffold_at side.Left (picked rights ls)) (scaffold_at side.Right (picked lefts rs))
-  scaffolds-stay t e = omega (arith, ints, (rise-rises side.Left (picked rights ls) left-known.1).by_one t, (rise-rises side.Right (picked lefts rs) right-known.1).by_one t, e)
+  scaffolds-stay t e =
+      omega (arith, ints, (rise-rises side.Left (picked rights ls) left-known.1).by_one t, (rise-rises side.Right (picked lefts rs) right-known.1).by_one t, e)
 
 -- What is joined, and what is drawn of a number, are drawings; and where scaffolds jump, a break point is past the bounds.
 -- a number's walls

@@ -28,7 +28,8 @@ pick-read ws is j h = get_or-map (wall_of ws) is j 0 [] h
 pub each-read : (Is : List Break → Type 0) (ws : List (Vec Break Global)) (is : List ℕ) (j : ℕ) → j < length is → EachWall Is (picked ws is) → Is (wall_of ws (get_or is j 0))
 each-read Is ws is j h a = subst Is (pick-read ws is j h) (a j (omega (arith, h, length-map is (wall_of ws))))
 
-pub each-picked : (Is : List Break → Type 0) (ws : List (Vec Break Global)) (is : List ℕ) → ((j : ℕ) → j < length is → Is (wall_of ws (get_or is j 0))) → EachWall Is (picked ws is)
+pub each-picked : (Is : List Break → Type 0) (ws : List (Vec Break Global)) (is : List ℕ)
+    → ((j : ℕ) → j < length is → Is (wall_of ws (get_or is j 0))) → EachWall Is (picked ws is)
 each-picked Is ws is a j h = let k : j < length is = omega (arith, h, length-map is (wall_of ws)) in subst Is (sym (pick-read ws is j k)) (a j k)
 
 pub clear-step : (ws : List (Vec Break Global)) (is : List ℕ) (start next after i : ℕ) (bs : List Break) → i < length is → ((j : ℕ) → j < i → IsClear start next (get_or (picked ws is) j [])) → after ≤ next → IsClear start after bs → bs ≡ wall_of ws (get_or is i 0)
@@ -122,7 +123,8 @@ goes_on f r start end flat steep h p q a b = b (omega (arith, h, q)) (subst (λ 
 
 -- a line bends exactly where it bends with t taken off, and turned over
 turned-even : (s : Side) (f : ℕ → ℤ) (t : ℕ) → 0 < t
-    → (f (t - 1) +ℤ f (t + 1) ≡ f t +ℤ f t) ↔ (turned s (f (t - 1) -ℤ pos (t - 1)) +ℤ turned s (f (t + 1) -ℤ pos (t + 1)) ≡ turned s (f t -ℤ pos t) +ℤ turned s (f t -ℤ pos t))
+    → (f (t - 1) +ℤ f (t + 1) ≡ f t +ℤ f t)
+    ↔ (turned s (f (t - 1) -ℤ pos (t - 1)) +ℤ turned s (f (t + 1) -ℤ pos (t + 1)) ≡ turned s (f t -ℤ pos t) +ℤ turned s (f t -ℤ pos t))
 turned-even side.Left f t p = (λ e. omega (arith, ints, p, e), λ e. omega (arith, ints, p, e))
 turned-even side.Right f t p = (λ e. omega (arith, ints, p, e), λ e. omega (arith, ints, p, e))
 
@@ -132,11 +134,18 @@ module _ (s : Side) (f : ℕ → ℤ) where
   last-bends true r u v h a n e = n (omega (arith, ints, h, a, (turned-even s f v (omega (arith, h))).1 e, steep-between f r u v (v - 1) a (omega (arith, h)) (omega arith)))
   last-bends false r u v h a n e = n (omega (arith, ints, h, a, (turned-even s f v (omega (arith, h))).1 e, flat-between f r u v (v - 1) a (omega (arith, h)) (omega arith)))
 
-  pub even-between : (rising : Bool) → Rises f → (u v : ℕ) → IsAlong f rising u v → (t : ℕ) → u < t → t < v → Bends (λ w. turned s (f w -ℤ pos w)) t → ⊥
-  even-between true r u v a t h k b = let on : (n : ℕ) → u ≤ n → n ≤ v → f n ≡ f u +ℤ pos (n - u) = λ n. steep-between f r u v n a in
-      b ((turned-even s f t (omega (arith, h))).0 (omega (arith, ints, h, k, on (t - 1) (omega (arith, h)) (omega (arith, k)), on t (omega (arith, h)) (omega (arith, k)), on (t + 1) (omega (arith, h)) (omega (arith, k)))))
-  even-between false r u v a t h k b = let on : (n : ℕ) → u ≤ n → n ≤ v → f n ≡ f u = λ n. flat-between f r u v n a in
-      b ((turned-even s f t (omega (arith, h))).0 (omega (arith, ints, h, k, on (t - 1) (omega (arith, h)) (omega (arith, k)), on t (omega (arith, h)) (omega (arith, k)), on (t + 1) (omega (arith, h)) (omega (arith, k)))))
+  pub even-between : (rising : Bool) → Rises f → (u v : ℕ) → IsAlong f rising u v → (t : ℕ) → u < t → t < v
+      → Bends (λ w. turned s (f w -ℤ pos w)) t → ⊥
+  even-between true r u v a t h k b =
+      let on : (n : ℕ) → u ≤ n → n ≤ v → f n ≡ f u +ℤ pos (n - u) = λ n. steep-between f r u v n a in
+      let before = on (t - 1) (omega (arith, h)) (omega (arith, k)) in
+      let after = on (t + 1) (omega (arith, h)) (omega (arith, k)) in
+      b ((turned-even s f t (omega (arith, h))).0 (omega (arith, ints, h, k, before, on t (omega (arith, h)) (omega (arith, k)), after)))
+  even-between false r u v a t h k b =
+      let on : (n : ℕ) → u ≤ n → n ≤ v → f n ≡ f u = λ n. flat-between f r u v n a in
+      let before = on (t - 1) (omega (arith, h)) (omega (arith, k)) in
+      let after = on (t + 1) (omega (arith, h)) (omega (arith, k)) in
+      b ((turned-even s f t (omega (arith, h))).0 (omega (arith, ints, h, k, before, on t (omega (arith, h)) (omega (arith, k)), after)))
 
 module _ (ws : List (List Break)) where
   flat-straight : (s : Side) → Rises (rise_at s ws) → (u v : ℕ) → u ≤ v → IsAlong (rise_at s ws) false u v → IsStraight (scaffold_at s ws) u v
@@ -295,8 +304,10 @@ module _ (L R : ℕ → ℤ) (u v : ℕ) (order : u < v) (left : IsStraight L u 
     where
       nearer : (t : ℕ) → u ≤ t → t ≤ v → (L t -ℤ R t) ≡ (L u -ℤ R u) -ℤ pos (t - u)
       nearer t h k = by_lt_z (L v) (L u)
-          (λ a. by_lt_z (R u) (R v) (λ b. absurd (n a b)) (λ b. omega (arith, ints, falling L u v left a t h k, staying R u v right (omega (arith, ints, b, q)) t h k)))
-          (λ a. by_lt_z (R u) (R v) (λ b. omega (arith, ints, staying L u v left (omega (arith, ints, a, p)) t h k, rising R u v right b t h k)) (λ b. absurd (omega (arith, ints, a, b, apart, met))))
+          (λ a. by_lt_z (R u) (R v) (λ b. absurd (n a b))
+          (λ b. omega (arith, ints, falling L u v left a t h k, staying R u v right (omega (arith, ints, b, q)) t h k)))
+          (λ a. by_lt_z (R u) (R v) (λ b. omega (arith, ints, staying L u v left (omega (arith, ints, a, p)) t h k, rising R u v right b t h k))
+          (λ b. absurd (omega (arith, ints, a, b, apart, met))))
 
 left-line : (s : Scaffold) → s.side ≡ side.Left → (t : ℕ) → line s t ≡ rise s t -ℤ pos t
 left-line s e t = ap (λ d. turned d (rise s t -ℤ pos t)) e
@@ -347,7 +358,9 @@ apart-crossing L R u m a c v h = elim (cases_lt v u) [
 pub straight-short : (f : ℕ → ℤ) (u v w : ℕ) → u ≤ w → w ≤ v → IsStraight f u v → IsStraight f u w
 straight-short f u v w first last s t h k = let before : t ≤ v = omega (arith, k, last) in
     by_lt_z (f u) (f v)
-    (λ l. omega (arith, ints, rising f u v s l t h before, toward-climbs (f u) (f w) (w - u) (t - u) (omega (arith, ints, rising f u v s l w first last)) (omega (arith, k))))
+    (λ l. (let way = toward-climbs (f u) (f w) (w - u) (t - u) (omega (arith, ints, rising f u v s l w first last)) (omega (arith, k)) in
+    omega (arith, ints, rising f u v s l t h before, way)))
     (λ l. by_lt_z (f v) (f u)
     (λ m. omega (arith, ints, falling f u v s m t h before, toward-dives (f u) (f w) (w - u) (t - u) (falling f u v s m w first last) (omega (arith, k))))
-    (λ m. (let e : f v ≡ f u = omega (arith, ints, l, m) in staying f u v s e t h before ∙ sym (toward-same (f u) (f w) (t - u) (staying f u v s e w first last)))))
+    (λ m. (let e : f v ≡ f u = omega (arith, ints, l, m) in
+    staying f u v s e t h before ∙ sym (toward-same (f u) (f w) (t - u) (staying f u v s e w first last)))))

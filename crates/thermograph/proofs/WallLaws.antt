@@ -126,13 +126,16 @@ traces-push f b bs c r l e s = record {
 abbrev pub no_break : Break
 no_break = record { at = 0; value = pos 0 }
 
-wall-step : (bs : List Break) (i t : ℕ) (d : Break) → i + 1 < length bs → wall_at (drop i bs) t ≡ from (get_or bs i d) (get_or bs (i + 1) d ∷ drop (i + 1 + 1) bs) t
+wall-step : (bs : List Break) (i t : ℕ) (d : Break) → i + 1 < length bs
+    → wall_at (drop i bs) t ≡ from (get_or bs i d) (get_or bs (i + 1) d ∷ drop (i + 1 + 1) bs) t
 unfolding wall_at
 wall-step bs i t d h = ap (λ xs. wall_at xs t) (drop_more bs i d (omega (arith, h)) ∙ ap (λ xs. get_or bs i d ∷ xs) (drop_more bs (i + 1) d h))
 
-pub wall-go_on : (bs : List Break) (i t : ℕ) (d : Break) (w : ℤ) → i + 1 < length bs → (get_or bs (i + 1) d).at ≤ t → w ≡ wall_at (drop i bs) t → (i + 1 < length bs) × (w ≡ wall_at (drop (i + 1) bs) t)
+pub wall-go_on : (bs : List Break) (i t : ℕ) (d : Break) (w : ℤ) → i + 1 < length bs → (get_or bs (i + 1) d).at ≤ t → w ≡ wall_at (drop i bs) t
+    → (i + 1 < length bs) × (w ≡ wall_at (drop (i + 1) bs) t)
 unfolding wall_at from
-wall-go_on bs i t d w h l e = (h, e ∙ wall-step bs i t d h ∙ at-after t (get_or bs (i + 1) d).at _ _ l ∙ sym (ap (λ xs. wall_at xs t) (drop_more bs (i + 1) d h)))
+wall-go_on bs i t d w h l e =
+    (h, e ∙ wall-step bs i t d h ∙ at-after t (get_or bs (i + 1) d).at _ _ l ∙ sym (ap (λ xs. wall_at xs t) (drop_more bs (i + 1) d h)))
 
 pub wall-toward : (bs : List Break) (i t : ℕ) (d : Break) (w : ℤ) → i + 1 < length bs → t < (get_or bs (i + 1) d).at → w ≡ wall_at (drop i bs) t
     → toward (get_or bs i d).value (get_or bs (i + 1) d).value (t - (get_or bs i d).at) ≡ w

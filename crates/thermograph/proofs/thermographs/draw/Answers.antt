@@ -27,8 +27,10 @@ right_is : (c : After-drop-flags-2) → breaks c.in_ok-right.right ≡ c.in_ok-d
 right_is c = ap breaks (c.in_ok-right.ensures {u = tt}) ∙ breaks-points c.deref-3.result.now ∙ c.deref-3.ensures.value
 
 -- what holds of the two lists of the drawing holds of those that are told
-of_lists : (c : After-drop-flags-2) (Holds : List Break → List Break → Type 0) → Holds c.in_ok-drawing.drawing.left.items c.in_ok-drawing.drawing.right.items → Holds (breaks c.in_ok-left.left) (breaks c.in_ok-right.right)
-of_lists c Holds h = subst (λ (l : List Break). Holds l (breaks c.in_ok-right.right)) (sym (left_is c)) (subst (Holds c.in_ok-drawing.drawing.left.items) (sym (right_is c)) h)
+of_lists : (c : After-drop-flags-2) (Holds : List Break → List Break → Type 0)
+    → Holds c.in_ok-drawing.drawing.left.items c.in_ok-drawing.drawing.right.items → Holds (breaks c.in_ok-left.left) (breaks c.in_ok-right.right)
+of_lists c Holds h = subst (λ (l : List Break). Holds l (breaks c.in_ok-right.right)) (sym (left_is c))
+    (subst (Holds c.in_ok-drawing.drawing.left.items) (sym (right_is c)) h)
 
 pub returns-clause-walls : goal.returns-clause-walls
 returns-clause-walls c = let d = c.in_ok-drawing.ensures.drawn in let G = tree_at c.args.store.now c.args.id in
@@ -40,7 +42,8 @@ returns-clause-grids c = let d = c.in_ok-drawing.ensures.drawn in let G = tree_a
 
 pub returns-clause-temperature : goal.returns-clause-temperature
 returns-clause-temperature c =
-    of_lists c (λ l r. IsTemperature (tree_at c.args.store.now c.args.id) (wall_at l) (wall_at r) c.in_ok-drawing.drawing.temperature c.in_ok-drawing.drawing.mean) c.in_ok-drawing.ensures.drawn.temperature
+    of_lists c (λ l r. IsTemperature (tree_at c.args.store.now c.args.id) (wall_at l) (wall_at r) c.in_ok-drawing.drawing.temperature
+    c.in_ok-drawing.drawing.mean) c.in_ok-drawing.ensures.drawn.temperature
 
 pub returns-clause-left_breaks : goal.returns-clause-left_breaks
 returns-clause-left_breaks c = (

@@ -13,7 +13,8 @@ draw_form-requires-clause-known c = drawn-below c.args.store.now c.args.flags.no
 pub returns-in_err-drawing-clause-bounds : goal.returns-in_err-drawing-clause-bounds
 returns-in_err-drawing-clause-bounds c =
     let p = err_from_is_err_and c.from_residual.result c.from_residual.ensures.1 in
-    rw (p.1, p.2) (λ e. past-bounds_of _ _ (c.requires.flags.follows c.loop-place.place (omega (arith, c.loop-place-test.true, c.requires.flags.size)) c.if-flags-place.true) (c.in_err-drawing.ensures.bounds e))
+    rw (p.1, p.2) (λ e. past-bounds_of _ _
+    (c.requires.flags.follows c.loop-place.place (omega (arith, c.loop-place-test.true, c.requires.flags.size)) c.if-flags-place.true) (c.in_err-drawing.ensures.bounds e))
 
 pub loop-place-preserved : goal.loop-place-preserved
 loop-place-preserved c = elim c.if-flags-place.branch [
