@@ -83,3 +83,6 @@ returns-in-Err-clause-cause g c = let k = c.in-Err.ensures.cause in
 pub returns-clause-cause : goal.returns-clause-cause
 returns-clause-cause g c =
     record { reads_later = omega arith; writes_later = c.move_engine.ensures.cause.later; read = λ e. absurd (cc e); write = λ e. absurd (cc e) }
+
+pub returns-then-not-is_same-clause-written : goal.returns-then-not-is_same-clause-written
+returns-then-not-is_same-clause-written g c = c.opponent_turn.ensures.written
