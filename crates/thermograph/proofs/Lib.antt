@@ -1,14 +1,5 @@
-pub mod BreakLists
-pub mod Heights
-pub mod Ranges
-pub mod Bends
 pub mod FlagLaws
-pub mod Hinges
-pub mod Crossings
-pub mod StoreTrees
-pub mod OptionWalls
+pub mod WallLaws
+pub mod ScaffoldLaws
 pub mod DrawingLaws
-pub mod PastBounds
-pub mod Passes
-pub mod Points
-pub mod Finer
+pub mod BoundLaws

@@ -1,5 +1,5 @@
 use Rattle.std.proofs.Common.{◌⊎◌, ◌<◌, ◌≤◌, ℕ, get_or}
-use Rattle.thermograph.proofs.BreakLists.{no_break}
+use Rattle.thermograph.proofs.WallLaws.{no_break}
 use Rattle.thermograph.proofs.breaks.break_after.Given as goal
 
 abbrev pub invariant-loop-point : goal.invariant-loop-point

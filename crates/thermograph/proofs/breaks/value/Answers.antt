@@ -3,7 +3,7 @@ use Rattle.std.specs.Int.{w128}
 use Rattle.std.proofs.lemmas.Int.{ints}
 use Rattle.thermograph.specs.Breaks.{wall_at, toward}
 use Rattle.thermograph.specs.inner.Breaks.{IsInRange}
-use Rattle.thermograph.proofs.BreakLists.{wall-none, wall-go_on, wall-last, wall-toward, no_break}
+use Rattle.thermograph.proofs.WallLaws.{wall-none, wall-go_on, wall-last, wall-toward, no_break}
 use Rattle.thermograph.proofs.breaks.value.Goals as goal
 use Rattle.thermograph.proofs.breaks.value.Goals.{then-loop-i-test+else-breaks-i, else-loop-i-test, Else-i-breaks}
 
@@ -11,7 +11,7 @@ pub returns-then-is_empty : goal.returns-then-is_empty
 returns-then-is_empty c = let none : length c.args.breaks.now ≡ 0 = search rules in wall-none c.args.breaks.now c.args.t none
 
 pub loop-i-preserved : goal.loop-i-preserved
-loop-i-preserved c = wall-go_on c.args.breaks.now c.loop-i.i (c.loop-i.i + 1) c.args.t no_break _ (omega arith) c.loop-i-test.true (omega arith) c.loop-i.invariant.1
+loop-i-preserved c = wall-go_on c.args.breaks.now c.loop-i.i c.args.t no_break _ c.loop-i-test.true (omega arith) c.loop-i.invariant.1
 
 pub returns-then-i-breaks : goal.returns-then-i-breaks
 returns-then-i-breaks c = let kept : to_z w128 (of_z w128 c.height.result) ≡ c.height.result = omega (arith, ints) in
@@ -19,7 +19,7 @@ returns-then-i-breaks c = let kept : to_z w128 (of_z w128 c.height.result) ≡ c
 
 towards : (c : Else-i-breaks) → toward (get_or c.args.breaks.now c.loop-i.i no_break).value (get_or c.args.breaks.now (c.loop-i.i + 1) no_break).value (c.args.t - (get_or c.args.breaks.now c.loop-i.i no_break).at) ≡ wall_at c.args.breaks.now c.args.t
 towards c = elim c.loop-i-test.branch [
-  | then-loop-i-test+else-breaks-i w ↦ wall-toward c.args.breaks.now c.loop-i.i (c.loop-i.i + 1) c.args.t no_break _ (omega arith) (omega (arith, w.loop-i-test)) (omega (arith, w.if-breaks-i)) c.loop-i.invariant.1
+  | then-loop-i-test+else-breaks-i w ↦ wall-toward c.args.breaks.now c.loop-i.i c.args.t no_break _ (omega (arith, w.loop-i-test)) (omega (arith, w.if-breaks-i)) c.loop-i.invariant.1
   | else-loop-i-test w ↦ absurd (omega (arith, w.loop-i-test))
 ]
 

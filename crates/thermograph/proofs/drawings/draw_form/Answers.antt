@@ -3,8 +3,8 @@ use Rattle.std.specs.declared.alloc.Global.{Global}
 use Rattle.std.proofs.lemmas.Result.{err_from_is_err_and}
 use Rattle.thermograph.specs.declared.breaks.Break.{Break}
 use Rattle.thermograph.specs.inner.Drawings.{AreDrawnBelow}
-use Rattle.thermograph.proofs.OptionWalls.{left-level, right-level, left-steady, right-steady, left-rises, right-rises, scaffolds-stay}
-use Rattle.thermograph.proofs.DrawingLaws.{joined-drawing, jumped}
+use Rattle.thermograph.proofs.DrawingLaws.{left-known, right-known, scaffolds-stay, joined-drawing, jumped}
+use Rattle.thermograph.proofs.ScaffoldLaws.{rise-rises}
 use Rattle.thermograph.proofs.drawings.draw_form.Goals as goal
 use Rattle.thermograph.proofs.drawings.draw_form.Goals.{After-deref-in-Options}
 
@@ -16,23 +16,15 @@ pub join-requires-clause-left : goal.join-requires-clause-left
 join-requires-clause-left c =
     let o = c.in-Options.ensures.form in
     let h = known (goal.at.join-requires-clause-left c).After-deref-in-Options in
-    record {
-      ids = λ j l. omega (arith, o.left_below j l, h.right_count);
-      level = left-level c.args.store.now c.args.id _ _ _ _ o h;
-      steady = left-steady c.args.store.now c.args.id _ _ _ _ o h;
-      rises = left-rises c.args.store.now c.args.id _ _ _ _ o h;
-    }
+    let known = left-known c.args.store.now c.args.id _ _ _ _ o h in
+    record { ids = λ j l. omega (arith, o.left_below j l, h.right_count); level = known.0; steady = known.1; rises = rise-rises _ _ known.1 }
 
 pub join-requires-clause-right : goal.join-requires-clause-right
 join-requires-clause-right c =
     let o = c.in-Options.ensures.form in
     let h = known (goal.at.join-requires-clause-right c).After-deref-in-Options in
-    record {
-      ids = λ j l. omega (arith, o.right_below j l, h.left_count);
-      level = right-level c.args.store.now c.args.id _ _ _ _ o h;
-      steady = right-steady c.args.store.now c.args.id _ _ _ _ o h;
-      rises = right-rises c.args.store.now c.args.id _ _ _ _ o h;
-    }
+    let known = right-known c.args.store.now c.args.id _ _ _ _ o h in
+    record { ids = λ j l. omega (arith, o.right_below j l, h.left_count); level = known.0; steady = known.1; rises = rise-rises _ _ known.1 }
 
 pub join-requires-clause-stays : goal.join-requires-clause-stays
 join-requires-clause-stays c = scaffolds-stay c.args.store.now c.args.id _ _ _ _ c.in-Options.ensures.form (known (goal.at.join-requires-clause-stays c).After-deref-in-Options)

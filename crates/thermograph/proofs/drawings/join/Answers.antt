@@ -1,7 +1,7 @@
 use Rattle.std.proofs.Common.{◌≡◌, Some, arith, ap}
 use Rattle.std.proofs.lemmas.Int.{ints}
 use Rattle.thermograph.specs.inner.Scaffolds.{line}
-use Rattle.thermograph.proofs.Crossings.{mean-range}
+use Rattle.thermograph.proofs.ScaffoldLaws.{mean-range}
 use Rattle.thermograph.proofs.drawings.join.Goals as goal
 use Rattle.thermograph.proofs.drawings.join.Goals.{Else-mean-at}
 

@@ -1,6 +1,6 @@
-use Rattle.std.proofs.Common.{inl, inr, arith}
+use Rattle.std.proofs.Common.{arith}
 use Rattle.thermograph.specs.inner.Flags.{IsInner, IsAmong}
-use Rattle.thermograph.proofs.FlagLaws.{added-both, left-inner, right-inner, inner-listed}
+use Rattle.thermograph.proofs.FlagLaws.{added-both, among-inner, inner-listed}
 use Rattle.thermograph.proofs.followers.flag_options.Goals as goal
 
 pub returns-in-Options : goal.returns-in-Options
@@ -9,5 +9,5 @@ returns-in-Options c =
     added-both (IsAmong c.in-Options.left.now) (IsAmong c.in-Options.right.now) (IsInner c.args.store.now c.args.id) _ _ _ c.flag_ids.ensures c.flag_ids-in-Options.ensures
     (λ i h. (
       inner-listed c.args.store.now c.args.id _ _ o c.in-Options.ensures.distinct (omega (arith, c.requires.id, c.requires.flags)) i,
-      λ m. elim m [ inl a ↦ left-inner c.args.store.now c.args.id _ _ o i a | inr a ↦ right-inner c.args.store.now c.args.id _ _ o i a ],
+      among-inner c.args.store.now c.args.id _ _ o i,
     ))

@@ -1,6 +1,8 @@
-use Rattle.std.proofs.Common.{◌<◌, ◌≤◌, ◌+◌, sym, ◌-◌, length, arith, ap, refl, true, set, subst, List, Bool}
+use Rattle.std.proofs.Common.{◌<◌, ◌≤◌, ◌+◌, ◌∙◌, ◌++◌, take, drop, false, sym, ◌-◌, length, arith, ap, refl, true, set, subst, List, Bool}
+use Rattle.std.proofs.Math.Seq.{take-append_seam}
+use Rattle.std.proofs.lemmas.List.{get_or_default}
 use Rattle.thermograph.specs.inner.Flags.{AreAdded, IsInner, AreFollowers}
-use Rattle.thermograph.proofs.FlagLaws.{following-start, following-step, written, flagged-read}
+use Rattle.thermograph.proofs.FlagLaws.{following-start, following-step}
 use Rattle.thermograph.proofs.followers.followers.Goals as goal
 
 pub overflow_add-count : goal.overflow_add-count
@@ -16,7 +18,8 @@ pub flagging-preserved-then-index : goal.flagging-preserved-then-index
 flagging-preserved-then-index c =
     let short : c.flagging.place - 1 < length c.flagging.flags.items = omega (arith, c.flagging-test.true, c.flagging.invariant.0) in
     let added = subst (λ (xs : List Bool). AreAdded (IsInner c.args.store.now (c.flagging.place - 1)) xs c.flag_options.new.flags) c.deref_mut.ensures.value c.flag_options.ensures in
-    let whole = written c.flagging.flags.items c.flag_options.new.flags c.flagging.flags.len c.flagging.flags.ok.0 added.size in
+    let after = drop (length c.flag_options.new.flags) c.flagging.flags.items in
+    let whole = ap (λ m. take m (c.flag_options.new.flags ++ after)) (c.flagging.flags.ok.0 ∙ sym added.size) ∙ take-append_seam c.flag_options.new.flags after in
     let f = following-step c.args.store.now c.args.id c.flagging.place (c.flagging.place - 1) c.flagging.flags.items c.flag_options.new.flags c.flagging.invariant.1 (omega (arith, c.flagging-test.true)) c.flagging.invariant.0
-    (flagged-read c.flagging.flags.items (c.flagging.place - 1) c.index.result.now short c.index.ensures c.if-index.true) added in
+    (get_or_default c.flagging.flags.items (c.flagging.place - 1) false c.index.result.now short ∙ sym c.index.ensures ∙ c.if-index.true) added in
     subst (λ (xs : List Bool). (c.flagging.place - 1 ≤ length xs) × AreFollowers c.args.store.now c.args.id (c.flagging.place - 1) xs) (sym whole) (omega (arith, short, added.size), f)

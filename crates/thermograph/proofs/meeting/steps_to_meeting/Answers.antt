@@ -1,7 +1,7 @@
 use Rattle.std.proofs.Common.{◌+◌, ◌/◌, refl, sym, ◌∙◌, arith}
 use Rattle.std.proofs.lemmas.Bool.{false≢true}
 use Rattle.thermograph.specs.inner.Scaffolds.{line}
-use Rattle.thermograph.proofs.Crossings.{both-cross, one-crosses, left-falls_to, right-rises_to}
+use Rattle.thermograph.proofs.ScaffoldLaws.{both-cross, one-crosses, left-falls_to, right-rises_to}
 use Rattle.thermograph.proofs.meeting.steps_to_meeting.Goals as goal
 
 pub returns-then-both_move : goal.returns-then-both_move

@@ -7,9 +7,8 @@ use Rattle.thermograph.specs.Breaks.{wall_at}
 use Rattle.thermograph.specs.Drawings.{DrawWalls, DrawOnGrids, IsTemperature, AreBreaks, end_of}
 use Rattle.thermograph.specs.Thermographs.{breaks, IsFromZero}
 use Rattle.thermograph.specs.inner.Thermographs.{AreInBounds}
-use Rattle.thermograph.proofs.PastBounds.{none-past_bounds, past-bounds_of}
-use Rattle.thermograph.proofs.Finer.{draw-all, draw-grids}
-use Rattle.thermograph.proofs.Points.{points-in_bounds, breaks-points, points-from_zero}
+use Rattle.thermograph.proofs.BoundLaws.{none-past_bounds, past-bounds_of}
+use Rattle.thermograph.proofs.WallLaws.{draw-all, draw-grids, points-in_bounds, breaks-points, points-from_zero}
 use Rattle.thermograph.proofs.thermographs.draw.Goals as goal
 use Rattle.thermograph.proofs.thermographs.draw.Goals.{After-drop-flags-2}
 
@@ -27,22 +26,24 @@ left_is c = ap breaks (c.in_ok-left.ensures {u = tt}) ∙ breaks-points c.deref-
 right_is : (c : After-drop-flags-2) → breaks c.in_ok-right.right ≡ c.in_ok-drawing.drawing.right.items
 right_is c = ap breaks (c.in_ok-right.ensures {u = tt}) ∙ breaks-points c.deref-3.result.now ∙ c.deref-3.ensures.value
 
+-- what holds of the two lists of the drawing holds of those that are told
+of_lists : (c : After-drop-flags-2) (Holds : List Break → List Break → Type 0)
+    → Holds c.in_ok-drawing.drawing.left.items c.in_ok-drawing.drawing.right.items → Holds (breaks c.in_ok-left.left) (breaks c.in_ok-right.right)
+of_lists c Holds h = subst (λ (l : List Break). Holds l (breaks c.in_ok-right.right)) (sym (left_is c))
+    (subst (Holds c.in_ok-drawing.drawing.left.items) (sym (right_is c)) h)
+
 pub returns-clause-walls : goal.returns-clause-walls
-returns-clause-walls c = let G = tree_at c.args.store.now c.args.id in
-    let d = c.in_ok-drawing.ensures.drawn in
-    subst (λ (l : List Break). DrawWalls G l (breaks c.in_ok-right.right)) (sym (left_is c))
-    (subst (λ (r : List Break). DrawWalls G c.in_ok-drawing.drawing.left.items r) (sym (right_is c)) (draw-all G c.in_ok-drawing.drawing.left.items c.in_ok-drawing.drawing.right.items d.left_breaks.path d.right_breaks.path d.drawn.walls))
+returns-clause-walls c = let d = c.in_ok-drawing.ensures.drawn in let G = tree_at c.args.store.now c.args.id in
+    of_lists c (DrawWalls G) (draw-all G _ _ d.left_breaks.path d.right_breaks.path d.drawn.walls)
 
 pub returns-clause-grids : goal.returns-clause-grids
-returns-clause-grids c = let G = tree_at c.args.store.now c.args.id in
-    let d = c.in_ok-drawing.ensures.drawn in
-    subst (λ (l : List Break). DrawOnGrids G l (breaks c.in_ok-right.right)) (sym (left_is c))
-    (subst (λ (r : List Break). DrawOnGrids G c.in_ok-drawing.drawing.left.items r) (sym (right_is c)) (draw-grids G c.in_ok-drawing.drawing.left.items c.in_ok-drawing.drawing.right.items d.left_breaks.path d.right_breaks.path d.drawn.walls))
+returns-clause-grids c = let d = c.in_ok-drawing.ensures.drawn in let G = tree_at c.args.store.now c.args.id in
+    of_lists c (DrawOnGrids G) (draw-grids G _ _ d.left_breaks.path d.right_breaks.path d.drawn.walls)
 
 pub returns-clause-temperature : goal.returns-clause-temperature
-returns-clause-temperature c = let G = tree_at c.args.store.now c.args.id in
-    subst (λ (l : List Break). IsTemperature G (wall_at l) (wall_at (breaks c.in_ok-right.right)) c.in_ok-drawing.drawing.temperature c.in_ok-drawing.drawing.mean) (sym (left_is c))
-    (subst (λ (r : List Break). IsTemperature G (wall_at c.in_ok-drawing.drawing.left.items) (wall_at r) c.in_ok-drawing.drawing.temperature c.in_ok-drawing.drawing.mean) (sym (right_is c)) c.in_ok-drawing.ensures.drawn.temperature)
+returns-clause-temperature c =
+    of_lists c (λ l r. IsTemperature (tree_at c.args.store.now c.args.id) (wall_at l) (wall_at r) c.in_ok-drawing.drawing.temperature
+    c.in_ok-drawing.drawing.mean) c.in_ok-drawing.ensures.drawn.temperature
 
 pub returns-clause-left_breaks : goal.returns-clause-left_breaks
 returns-clause-left_breaks c = (

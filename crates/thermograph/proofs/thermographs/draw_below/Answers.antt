@@ -2,7 +2,8 @@ use Rattle.std.proofs.Common.{◌+◌, arith, sym, ◌∙◌, ap, refl}
 use Rattle.std.proofs.lemmas.Bool.{true≢false}
 use Rattle.std.proofs.lemmas.Result.{err_from_is_err_and}
 use Rattle.thermograph.specs.declared.drawings.Walls.{Walls}
-use Rattle.thermograph.proofs.Passes.{drawn-below, drawn-push, past-bounds}
+use Rattle.thermograph.proofs.DrawingLaws.{drawn-below, drawn-push}
+use Rattle.thermograph.proofs.BoundLaws.{past-bounds_of}
 use Rattle.thermograph.proofs.thermographs.draw_below.Goals as goal
 use Rattle.thermograph.proofs.thermographs.draw_below.Goals.{then-flags-place+in_ok-drawing+in_ok-push, else-flags-place+in_ok-push-2}
 
@@ -12,7 +13,8 @@ draw_form-requires-clause-known c = drawn-below c.args.store.now c.args.flags.no
 pub returns-in_err-drawing-clause-bounds : goal.returns-in_err-drawing-clause-bounds
 returns-in_err-drawing-clause-bounds c =
     let p = err_from_is_err_and c.from_residual.result c.from_residual.ensures.1 in
-    rw (p.1, p.2) (λ e. past-bounds c.args.store.now c.args.id c.loop-place.place c.args.flags.now c.requires.flags (omega (arith, c.loop-place-test.true, c.requires.flags.size)) c.if-flags-place.true (c.in_err-drawing.ensures.bounds e))
+    rw (p.1, p.2) (λ e. past-bounds_of _ _
+    (c.requires.flags.follows c.loop-place.place (omega (arith, c.loop-place-test.true, c.requires.flags.size)) c.if-flags-place.true) (c.in_err-drawing.ensures.bounds e))
 
 pub loop-place-preserved : goal.loop-place-preserved
 loop-place-preserved c = elim c.if-flags-place.branch [

@@ -1,11 +1,12 @@
-use Rattle.std.proofs.Common.{◌+◌, ◌++◌, [], sym, ap, ◌∙◌, subst, arith, append-nil, Ok, Err, None}
+use Rattle.std.proofs.Common.{◌+◌, ◌++◌, [], sym, ap, ◌∙◌, subst, arith, append-nil, refl, Ok, Err, None}
 use Rattle.play_session.specs.declared.fault.Fault.TheVariants.{Read}
 use Rattle.play_session.specs.declared.session.Request.TheVariants.{Ended, Line}
 use Rattle.desk_io.specs.Lines.{IsSameInput}
 use Rattle.play_session.specs.Session.{IsToAnswer}
 use Rattle.play_session.specs.Written.{Session, standing}
 use Rattle.play_session.specs.inner.Written.{TurnWritten, IsRequested, MovesOrStays}
-use Rattle.play_session.proofs.Turns.{turn_unread, answer_written, answer_failed, input_ended}
+use Rattle.play_session.specs.Lines.{UsesLines}
+use Rattle.play_session.proofs.Turns.{append_none, turn_unread, answer_written, answer_failed, input_ended}
 use Rattle.play_session.proofs.Wins.{answers_step}
 use Rattle.desk_io.proofs.Held.{input_same}
 use Rattle.desk_io.proofs.Used.{used_none}
@@ -85,3 +86,41 @@ pub returns-clause-stepped : goal.returns-clause-stepped
 returns-clause-stepped g c =
     subst (λ v. MovesOrStays v.state c.answer.new.solved.state) c.self.view_is
     (answers_step c.self.inside.solved.state c.answer.new.solved.state c.in-Ok-Line.asked c.answer.ensures.answered.0 c.answer.ensures.answered.1)
+
+pub returns-then-read-eq-MOST_LINES-clause-cause : goal.returns-then-read-eq-MOST_LINES-clause-cause
+returns-then-read-eq-MOST_LINES-clause-cause g c =
+    record { reads_later = omega arith; writes_later = omega arith; read = λ e. absurd (cc e); write = λ e. absurd (cc e) }
+
+pub returns-in-Err-clause-cause : goal.returns-in-Err-clause-cause
+returns-in-Err-clause-cause g c = let reads = c.in-Err.ensures.cause in
+    record { reads_later = reads.later; writes_later = omega arith; read = λ e. reads.failed; write = λ e. absurd (cc e) }
+
+pub returns-in-Ok-Ended-clause-cause : goal.returns-in-Ok-Ended-clause-cause
+returns-in-Ok-Ended-clause-cause g c = let k = c.end_input.ensures.cause in
+    record { reads_later = c.take_request.ensures.cause.later; writes_later = k.later; read = λ e. absurd (k.not_read e); write = k.write }
+
+pub returns-in-Err-answer-clause-cause : goal.returns-in-Err-answer-clause-cause
+returns-in-Err-answer-clause-cause g c = let reads = c.take_request.ensures.cause in let k = c.in-Err-answer.ensures.cause in
+    record { reads_later = reads.later; writes_later = k.later; read = λ e. absurd (k.not_read (ap Err (cc e))); write = λ e. k.write (ap Err (cc e)) }
+
+pub returns-clause-cause : goal.returns-clause-cause
+returns-clause-cause g c = let reads = c.take_request.ensures.cause in let writes = c.answer.ensures.cause in
+    record { reads_later = reads.later; writes_later = writes.later; read = λ e. absurd (cc e); write = λ e. absurd (cc e) }
+
+pub returns-in-Err-clause-used : goal.returns-in-Err-clause-used
+returns-in-Err-clause-used g c =
+    let before = g.S.Source.left c.args.lines.now in let left = g.S.Source.left c.take_request.new.lines in let read = c.args.read.now in
+    subst (λ v. UsesLines read read v.held before c.take_request.new.input left) c.self.view_is
+    (used_none 256 read read c.self.inside.input c.take_request.new.input before left (omega arith) c.in-Err.ensures.same)
+
+pub returns-in-Err-answer-clause-used : goal.returns-in-Err-answer-clause-used
+returns-in-Err-answer-clause-used g c = λ bytes e. let u = c.take_request.ensures.used bytes e in
+    (u.0, u.1, u.2, ap (λ v. v.held ++ bytes) (sym c.self.view_is) ∙ u.3, omega (arith, u.4))
+
+pub returns-clause-used : goal.returns-clause-used
+returns-clause-used g c = λ bytes e. let u = c.take_request.ensures.used bytes e in
+    (u.0, u.1, u.2, ap (λ v. v.held ++ bytes) (sym c.self.view_is) ∙ u.3, omega (arith, u.4))
+
+pub returns-then-read-eq-MOST_LINES-clause-written : goal.returns-then-read-eq-MOST_LINES-clause-written
+returns-then-read-eq-MOST_LINES-clause-written g c = λ bytes e.
+    (bytes, [], e, (c.requires.turn, c.if-read-eq-MOST_LINES.true, refl), refl, append_none (g.K.Sink.holds c.args.out.now))

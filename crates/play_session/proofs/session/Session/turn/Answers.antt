@@ -68,3 +68,21 @@ returns-clause-keeps g c = λ w.
     let turn = sym (c.side-side.ensures ∙ ap (λ s. s.side) c.whole.ensures) ∙ c.is_same.ensures.0 c.if-not-is_same.false in
     let kept = engine_keeps i.solved.state c.move_engine.new.solved.state i.engine m.0 turn (subst (λ v. IsWinner v.state v.engine) (sym c.self.view_is) w) m.1 in
     (subst (λ v. IsWinner c.move_engine.new.solved.state v.engine) c.self.view_is kept, λ n. absurd (cc n))
+
+pub returns-in-None-clause-cause : goal.returns-in-None-clause-cause
+returns-in-None-clause-cause g c = let k = c.end_game.ensures.cause in
+    record { reads_later = omega arith; writes_later = k.later; read = λ e. absurd (k.not_read e); write = k.write }
+
+pub returns-then-not-is_same-clause-cause : goal.returns-then-not-is_same-clause-cause
+returns-then-not-is_same-clause-cause g c = c.opponent_turn.ensures.cause
+
+pub returns-in-Err-clause-cause : goal.returns-in-Err-clause-cause
+returns-in-Err-clause-cause g c = let k = c.in-Err.ensures.cause in
+    record { reads_later = omega arith; writes_later = k.later; read = λ e. absurd (k.not_read (ap Err (cc e))); write = λ e. k.write (ap Err (cc e)) }
+
+pub returns-clause-cause : goal.returns-clause-cause
+returns-clause-cause g c =
+    record { reads_later = omega arith; writes_later = c.move_engine.ensures.cause.later; read = λ e. absurd (cc e); write = λ e. absurd (cc e) }
+
+pub returns-then-not-is_same-clause-written : goal.returns-then-not-is_same-clause-written
+returns-then-not-is_same-clause-written g c = c.opponent_turn.ensures.written

@@ -2,13 +2,12 @@ use Rattle.std.proofs.Common.{◌+◌, ◌≤◌, ◌<◌, arith, sym, ◌∙◌
 use Rattle.std.proofs.lemmas.Int.{ints}
 use Rattle.std.proofs.lemmas.Bool.{false≢true}
 use Rattle.thermograph.specs.inner.Scaffolds.{rise, picked, IsAlong}
-use Rattle.thermograph.proofs.Bends.{rises-far, rises-slow}
-use Rattle.thermograph.proofs.Hinges.{IsHinge, rise-hinge, steep-last, flat-last}
+use Rattle.thermograph.proofs.ScaffoldLaws.{rises-far, rises-slow, IsHinge, rise-hinge, steep-last, flat-last}
 use Rattle.thermograph.proofs.scaffold.Scaffold.last_along.Goals as goal
 use Rattle.thermograph.proofs.scaffold.Scaffold.last_along.Goals.{Then-not-is_along, After-place_before}
 
 hinge : (c : Then-not-is_along) → IsHinge (rise c.args.self.now) c.loop-place.place c.next_break-next.result
-hinge c = rise-hinge c.args.self.now.side (picked c.args.self.now.walls.now c.args.self.now.ids.now) c.loop-place.place c.next_break-next.result c.next_break-next.ensures.after c.requires.known.steady c.next_break-next.ensures.clear
+hinge c = rise-hinge c.args.self.now.side c.loop-place.place c.next_break-next.result c.next_break-next.ensures.after (picked c.args.self.now.walls.now c.args.self.now.ids.now) c.requires.known.steady c.next_break-next.ensures.clear
 
 stops : (c : Then-not-is_along) → IsAlong (rise c.args.self.now) c.args.rising c.args.start c.next_break-next.result → ⊥
 stops c a = false≢true (sym c.if-not-is_along.true ∙ c.is_along.ensures.1 (omega (arith, ints, a, c.rise-height.ensures.value, c.rise-from.ensures.value)))

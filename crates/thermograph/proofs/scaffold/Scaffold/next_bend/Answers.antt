@@ -1,7 +1,7 @@
 use Rattle.std.proofs.Common.{arith, true, false, ◌<◌, inl, inr}
 use Rattle.std.proofs.lemmas.Bool.{cases_lt}
 use Rattle.thermograph.specs.inner.Scaffolds.{rise, picked}
-use Rattle.thermograph.proofs.Bends.{along-straight, last-bends, even-between, goes_on}
+use Rattle.thermograph.proofs.ScaffoldLaws.{along-straight, last-bends, even-between, goes_on}
 use Rattle.thermograph.proofs.scaffold.Scaffold.next_bend.Goals as goal
 use Rattle.thermograph.proofs.scaffold.Scaffold.next_bend.Goals.{After-last_along}
 

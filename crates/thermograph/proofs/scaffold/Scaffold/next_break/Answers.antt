@@ -1,5 +1,5 @@
 use Rattle.std.proofs.Common.{get_or, arith}
-use Rattle.thermograph.proofs.Heights.{wall-read, clear-step}
+use Rattle.thermograph.proofs.ScaffoldLaws.{wall-read, clear-step}
 use Rattle.thermograph.proofs.scaffold.Scaffold.next_break.Goals as goal
 
 pub loop-id-preserved : goal.loop-id-preserved

@@ -5,7 +5,7 @@ use Rattle.std.proofs.lemmas.List.{length-map}
 use Rattle.thermograph.specs.Breaks.{wall_at}
 use Rattle.thermograph.specs.inner.Breaks.{IsLevel, IsInRange}
 use Rattle.thermograph.specs.inner.Scaffolds.{wall_of, picked, turned, turned_wall}
-use Rattle.thermograph.proofs.Heights.{wall-read, pick-read, each-read, turned-range, run-start, run-step}
+use Rattle.thermograph.proofs.ScaffoldLaws.{wall-read, pick-read, each-read, turned-range, run-start, run-step}
 use Rattle.thermograph.proofs.scaffold.Scaffold.rise.Goals as goal
 use Rattle.thermograph.proofs.scaffold.Scaffold.rise.Goals.{After-deref}
 

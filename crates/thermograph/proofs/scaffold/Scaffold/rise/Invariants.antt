@@ -1,5 +1,5 @@
 use Rattle.thermograph.specs.inner.Scaffolds.{turned_wall, picked}
-use Rattle.thermograph.proofs.Heights.{IsRun}
+use Rattle.thermograph.proofs.ScaffoldLaws.{IsRun}
 use Rattle.thermograph.proofs.scaffold.Scaffold.rise.Given as goal
 
 abbrev pub invariant-loop-i : goal.invariant-loop-i

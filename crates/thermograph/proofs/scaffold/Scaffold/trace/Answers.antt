@@ -2,7 +2,7 @@ use Rattle.std.proofs.Common.{arith, refl, ◌∙◌, ap, ◌≡◌, ◌∷◌, 
 use Rattle.std.specs.Int.{w128}
 use Rattle.std.proofs.lemmas.Int.{ints}
 use Rattle.thermograph.specs.inner.Scaffolds.{line}
-use Rattle.thermograph.proofs.BreakLists.{tracing-start, tracing-push, tracing-end}
+use Rattle.thermograph.proofs.WallLaws.{tracing-start, tracing-push, tracing-end}
 use Rattle.thermograph.proofs.scaffold.Scaffold.trace.Goals as goal
 
 pub loop-at-init : goal.loop-at-init

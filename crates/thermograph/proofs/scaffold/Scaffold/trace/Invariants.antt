@@ -1,6 +1,6 @@
 use Rattle.std.proofs.Common.{◌-◌, ◌≤◌}
 use Rattle.thermograph.specs.inner.Scaffolds.{line}
-use Rattle.thermograph.proofs.BreakLists.{IsTracing}
+use Rattle.thermograph.proofs.WallLaws.{IsTracing}
 use Rattle.thermograph.proofs.scaffold.Scaffold.trace.Given as goal
 
 abbrev pub invariant-loop-at : goal.invariant-loop-at
