@@ -8,7 +8,7 @@ use Rattle.go_grid.specs.Chain.{InChain, IsLiberty, IsSettled}
 use Rattle.go_play.specs.Place.{IsPlaced, IsSuicide, Placings, Stands}
 use Rattle.benson_life.specs.Life.{HasTwoEyes, IsAlive}
 use Rattle.benson_life.proofs.StandLemmas.{healthy_stands}
-use Rattle.benson_attack.specs.Reached.{IsReached, number_of}
+use Rattle.benson_attack.specs.Reached.{IsReachedUnderAttack, number_of_stones}
 use Rattle.benson_attack.proofs.AttackLemmas.{twice}
 use Rattle.benson_attack.proofs.CountLemmas.{falls, rises}
 use Rattle.benson_attack.proofs.LegalLemmas.{long, stood_earlier}
@@ -19,13 +19,13 @@ use Rattle.benson_attack.proofs.RunLemmas.{eyes_wider, healthy_all, two_listed}
 module _ (g : Board) (d : Colour) where
   -- `m` is reached by placings and has more stones of the colour than `h`
   abbrev Further : Board → (ℕ → Type 0) → Board → Type 0
-  Further h Under m = IsReached g d Under m × ((ps : List ℕ) × Placings d g ps m) × (number_of d h < number_of d m)
+  Further h Under m = IsReachedUnderAttack g d Under m × ((ps : List ℕ) × Placings d g ps m) × (number_of_stones d h < number_of_stones d m)
 
   abbrev Eyes : Board → ℕ → Type 0
   Eyes h v = HasTwoEyes g (other d) (HasStone h (other d)) v
 
   abbrev Room : Board → ℕ → Type 0
-  Room h k = length h.cells - number_of d h < k
+  Room h k = length h.cells - number_of_stones d h < k
 
   -- a placing at one of the liberties below n, or each is refused
   press : (h : Board) (v n : ℕ) → ((p : ℕ) × IsLiberty h (other d) v p × ((m : Board) × IsPlaced h p d m))
@@ -52,7 +52,7 @@ module _ (g : Board) (d : Colour) where
       ]
 
   -- the chain is taken, or it has two eyes among the stones that stand
-  capture : (k : ℕ) (h : Board) (v : ℕ) → IsReached g d (InChain g (other d) v) h → ((ps : List ℕ) × Placings d g ps h) → HasStone h (other d) v
+  capture : (k : ℕ) (h : Board) (v : ℕ) → IsReachedUnderAttack g d (InChain g (other d) v) h → ((ps : List ℕ) × Placings d g ps h) → HasStone h (other d) v
       → Room h k → ((m : Board) × Further h (λ _. ⊥) m) ⊎ Eyes h v
   capture zero h v w run s room = absurd (omega (arith, room))
   capture (suc k) h v w run s room = elim (press h v (length h.cells)) as (λ _. ((m : Board) × Further h (λ _. ⊥) m) ⊎ Eyes h v) [
@@ -61,7 +61,7 @@ module _ (g : Board) (d : Colour) where
         let r = two_listed h d v (λ p l. refused p l.0.0 l) (w.breathes v s) points (λ p. (λ at. ((each p).0 at).1, λ l. (each p).1 (l.0.0, l))) in
         inr (refused_eyes g d v h w r.one r.two r.apart r.one_liberty r.one_refused r.two_liberty r.two_refused)
     | inl (p, l, (m, placed)) ↦
-        let next : IsReached g d (InChain g (other d) v) m = reached_next g d v h w p l m placed in
+        let next : IsReachedUnderAttack g d (InChain g (other d) v) m = reached_next g d v h w p l m placed in
         let more : (ps : List ℕ) × Placings d g ps m = (run.0 ++ p ∷ [], placings_more d g run.0 h p m run.1 placed) in
         let up = rises h d p m placed in
         let less = falls d h m (long h d p m (placed.1.place, placed.1.free) placed.0 placed.1.without) up in
@@ -75,7 +75,7 @@ module _ (g : Board) (d : Colour) where
   ]
 
   -- some chain is taken, or each stone below n that stands has two eyes
-  advance : (h : Board) → IsReached g d (λ _. ⊥) h → ((ps : List ℕ) × Placings d g ps h) → (n : ℕ)
+  advance : (h : Board) → IsReachedUnderAttack g d (λ _. ⊥) h → ((ps : List ℕ) × Placings d g ps h) → (n : ℕ)
       → ((m : Board) × Further h (λ _. ⊥) m) ⊎ ((v : ℕ) → v < n → HasStone h (other d) v → Eyes h v)
   advance h w run zero = inr (λ v lt s. absurd (omega (arith, lt)))
   advance h w run (suc n) = elim (advance h w run n)
@@ -87,7 +87,7 @@ module _ (g : Board) (d : Colour) where
                 | inl e ↦ absurd (not (subst (HasStone h (other d)) e s))
                 | inr ne ↦ below v (omega (arith, lt, ne)) s
               ])
-              | inl at ↦ elim (capture (suc (length h.cells - number_of d h)) h n (reached_under g d h (InChain g (other d) n) w) run at (omega arith))
+              | inl at ↦ elim (capture (suc (length h.cells - number_of_stones d h)) h n (reached_under g d h (InChain g (other d) n) w) run at (omega arith))
                   as (λ _. ((m : Board) × Further h (λ _. ⊥) m) ⊎ ((v : ℕ) → v < suc n → HasStone h (other d) v → Eyes h v)) [
                     | inl found ↦ inl found
                     | inr eyes ↦ inr (λ v lt s. elim (cases_eq v n) as (λ _. Eyes h v) [
@@ -99,10 +99,10 @@ module _ (g : Board) (d : Colour) where
       ]
 
   -- a board on which each stone that stands has two eyes
-  finish : (k : ℕ) (h : Board) → IsReached g d (λ _. ⊥) h → ((ps : List ℕ) × Placings d g ps h) → Room h k
-      → (m : Board) × IsReached g d (λ _. ⊥) m × ((ps : List ℕ) × Placings d g ps m) × ((v : ℕ) → HasStone m (other d) v → Eyes m v)
+  finish : (k : ℕ) (h : Board) → IsReachedUnderAttack g d (λ _. ⊥) h → ((ps : List ℕ) × Placings d g ps h) → Room h k
+      → (m : Board) × IsReachedUnderAttack g d (λ _. ⊥) m × ((ps : List ℕ) × Placings d g ps m) × ((v : ℕ) → HasStone m (other d) v → Eyes m v)
   finish zero h w run room = absurd (omega (arith, room))
-  finish (suc k) h w run room = elim (advance h w run (length h.cells)) as (λ _. (m : Board) × IsReached g d (λ _. ⊥) m
+  finish (suc k) h w run room = elim (advance h w run (length h.cells)) as (λ _. (m : Board) × IsReachedUnderAttack g d (λ _. ⊥) m
       × ((ps : List ℕ) × Placings d g ps m) × ((v : ℕ) → HasStone m (other d) v → Eyes m v)) [
         | inl (m, (next, more, up)) ↦
             let same : length m.cells ≡ length h.cells = next.long ∙ sym w.long in
@@ -114,7 +114,7 @@ module _ (g : Board) (d : Colour) where
   pub alive_or_taken : IsSettled g → (s : ℕ) → HasStone g (other d) s
       → IsAlive g (other d) s ⊎ ((ps : List ℕ) × (h : Board) × Placings d g ps h × (HasStone h (other d) s → ⊥))
   alive_or_taken settled s at =
-      let (m, w, (ps, run), eyes) = finish (suc (length g.cells - number_of d g)) g (reached_first g d settled) ([], refl) (omega arith) in
+      let (m, w, (ps, run), eyes) = finish (suc (length g.cells - number_of_stones d g)) g (reached_first g d settled) ([], refl) (omega arith) in
       elim (has_or_not m (other d) s) as (λ _. IsAlive g (other d) s ⊎ ((ps : List ℕ) × (h : Board) × Placings d g ps h × (HasStone h (other d) s → ⊥))) [
         | inr gone ↦ inr (ps, m, run, gone)
         | inl stands ↦

@@ -10,7 +10,7 @@ use Rattle.go_grid.specs.declared.grid.Colour.TheVariants as colour
 use Rattle.go_grid.specs.Board.{Board, stone, cell_at}
 use Rattle.go_play.specs.Place.{IsPlaced}
 use Rattle.go_play.specs.inner.Place.{with_stone}
-use Rattle.benson_attack.specs.Reached.{number_of}
+use Rattle.benson_attack.specs.Reached.{number_of_stones}
 use Rattle.go_grid.specs.Stones.{is_of}
 use Rattle.go_grid.proofs.BoardLemmas.{not_other}
 use Rattle.go_play.proofs.BoardPlay.{taken_stone}
@@ -49,7 +49,7 @@ empty_isn't : (d : Colour) → is_of d cell.Empty ≡ false
 empty_isn't colour.Black = refl
 empty_isn't colour.White = refl
 
-pub rises : (h : Board) (d : Colour) (p : ℕ) (m : Board) → IsPlaced h p d m → number_of d h < number_of d m
+pub rises : (h : Board) (d : Colour) (p : ℕ) (m : Board) → IsPlaced h p d m → number_of_stones d h < number_of_stones d m
 rises h d p m placed =
     let once = sum_by-set (λ y. cond (is_of d y) 1 0) h.cells p (stone d) cell.Empty placed.1.place in
     let was : is_of d (cell_at h p) ≡ false = ap (is_of d) placed.1.free ∙ empty_isn't d in
@@ -60,6 +60,6 @@ rises h d p m placed =
     omega (arith, more, stays)
 
 -- so fewer points are without one
-pub falls : (d : Colour) (g h : Board) → length h.cells ≡ length g.cells → number_of d g < number_of d h
-    → length h.cells - number_of d h < length g.cells - number_of d g
+pub falls : (d : Colour) (g h : Board) → length h.cells ≡ length g.cells → number_of_stones d g < number_of_stones d h
+    → length h.cells - number_of_stones d h < length g.cells - number_of_stones d g
 falls d g h long more = omega (arith, long, more, count_by-le-length (is_of d) h.cells)

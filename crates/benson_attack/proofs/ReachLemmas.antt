@@ -13,13 +13,13 @@ use Rattle.go_play.specs.Place.{IsPlaced, IsTaken, IsSuicide, Placings}
 use Rattle.go_play.specs.inner.Place.{with_stone}
 use Rattle.benson_life.specs.Life.{InRegion, IsVital, IsEye, HasTwoEyes}
 use Rattle.benson_life.proofs.StandLemmas.{empty_or_other, joined_along}
-use Rattle.benson_attack.specs.Reached.{IsReached}
+use Rattle.benson_attack.specs.Reached.{IsReachedUnderAttack}
 use Rattle.benson_attack.proofs.LegalLemmas.{room, stays_empty, with_other, had_liberty, still, stood_earlier, not_suicide}
 use Rattle.go_grid.proofs.BoardLemmas.{empty_not_stone, same_or_not}
 use Rattle.go_play.proofs.BoardPlay.{placed_long, taken_choked, taken_near, takes, takes_by}
 use Rattle.go_grid.proofs.ChainLemmas.{same_liberty}
 
-module _ (g : Board) (d : Colour) (Under : ℕ → Type 0) (h : Board) (w : IsReached g d Under h) where
+module _ (g : Board) (d : Colour) (Under : ℕ → Type 0) (h : Board) (w : IsReachedUnderAttack g d Under h) where
   -- a chain was the same stones or more
   pub chain_before : (s q : ℕ) → InChain h (other d) s q → InChain g (other d) s q
   chain_before s q j =
@@ -46,7 +46,7 @@ module _ (g : Board) (d : Colour) (Under : ℕ → Type 0) (h : Board) (w : IsRe
       (joined_more g.columns (Lacks g (other d)) (Lacks h (other d)) lacks_more r x j)
 
 -- a region that is vital to a stone under attack was an eye of it from the first
-module _ (g : Board) (d : Colour) (v : ℕ) (h : Board) (w : IsReached g d (InChain g (other d) v) h) (r : ℕ)
+module _ (g : Board) (d : Colour) (v : ℕ) (h : Board) (w : IsReachedUnderAttack g d (InChain g (other d) v) h) (r : ℕ)
     (vital : IsVital h (other d) r v) where
   none_taken : (x : ℕ) → InRegion h (other d) r x → ¬ HasStone g (other d) x
   none_taken x j at =
@@ -96,7 +96,7 @@ vital_alone h d v p l refused e at empty = elim (cases_eq e p) as (λ _. IsLiber
 ]
 
 -- two liberties at which placings are refused are two eyes
-pub refused_eyes : (g : Board) (d : Colour) (v : ℕ) (h : Board) → IsReached g d (InChain g (other d) v) h → (p q : ℕ) → p ≢ q
+pub refused_eyes : (g : Board) (d : Colour) (v : ℕ) (h : Board) → IsReachedUnderAttack g d (InChain g (other d) v) h → (p q : ℕ) → p ≢ q
     → IsLiberty h (other d) v p → IsSuicide h p d → IsLiberty h (other d) v q → IsSuicide h q d
     → HasTwoEyes g (other d) (HasStone h (other d)) v
 refused_eyes g d v h w p q ne lp sp lq sq = (
@@ -111,7 +111,7 @@ refused_eyes g d v h w p q ne lp sp lq sq = (
 )
 
 -- the first board, and a chain that comes under attack
-pub reached_first : (g : Board) (d : Colour) → IsSettled g → IsReached g d (λ _. ⊥) g
+pub reached_first : (g : Board) (d : Colour) → IsSettled g → IsReachedUnderAttack g d (λ _. ⊥) g
 reached_first g d settled = record {
   columns = refl;
   long = refl;
@@ -122,7 +122,7 @@ reached_first g d settled = record {
   filled = λ q e s. absurd (empty_not_stone d (sym e.1 ∙ s.1));
 }
 
-pub reached_under : (g : Board) (d : Colour) (h : Board) (Under : ℕ → Type 0) → IsReached g d (λ _. ⊥) h → IsReached g d Under h
+pub reached_under : (g : Board) (d : Colour) (h : Board) (Under : ℕ → Type 0) → IsReachedUnderAttack g d (λ _. ⊥) h → IsReachedUnderAttack g d Under h
 reached_under g d h Under w = record {
   columns = w.columns;
   long = w.long;
@@ -134,8 +134,8 @@ reached_under g d h Under w = record {
 }
 
 -- the chain under attack is taken
-pub reached_over : (g : Board) (d : Colour) (v : ℕ) (h : Board) → IsReached g d (InChain g (other d) v) h → ¬ HasStone h (other d) v
-    → IsReached g d (λ _. ⊥) h
+pub reached_over : (g : Board) (d : Colour) (v : ℕ) (h : Board) → IsReachedUnderAttack g d (InChain g (other d) v) h → ¬ HasStone h (other d) v
+    → IsReachedUnderAttack g d (λ _. ⊥) h
 reached_over g d v h w gone = record {
   columns = w.columns;
   long = w.long;
@@ -149,7 +149,7 @@ reached_over g d v h w gone = record {
 }
 
 -- one placing at a liberty of the chain under attack
-module _ (g : Board) (d : Colour) (v : ℕ) (h : Board) (w : IsReached g d (InChain g (other d) v) h) (p : ℕ)
+module _ (g : Board) (d : Colour) (v : ℕ) (h : Board) (w : IsReachedUnderAttack g d (InChain g (other d) v) h) (p : ℕ)
     (liberty : IsLiberty h (other d) v p) (m : Board) (placed : IsPlaced h p d m) where
   columns : m.columns ≡ g.columns
   columns = placed.0.columns ∙ w.columns
@@ -248,7 +248,7 @@ module _ (g : Board) (d : Colour) (v : ℕ) (h : Board) (w : IsReached g d (InCh
             (f.0, f.1, f.2, λ k. f.3 (stood_before f.0 k))
       ]
 
-  pub reached_next : IsReached g d (InChain g (other d) v) m
+  pub reached_next : IsReachedUnderAttack g d (InChain g (other d) v) m
   reached_next = record {
     columns = columns;
     long = long;

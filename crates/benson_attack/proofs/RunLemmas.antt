@@ -11,7 +11,7 @@ use Rattle.go_grid.proofs.PointsLemmas.{some_list}
 use Rattle.go_play.specs.Place.{IsPlaced, IsSuicide, Placings}
 use Rattle.benson_life.specs.Life.{HasTwoEyes, IsEye, IsHealthy}
 use Rattle.benson_attack.specs.declared.captures.Run.{Run}
-use Rattle.benson_attack.specs.Reached.{IsReached, IsAtRest, number_of}
+use Rattle.benson_attack.specs.Reached.{IsReachedUnderAttack, IsAtRest, number_of_stones}
 use Rattle.benson_attack.specs.inner.Reached.{HasRefusals, Follows, Captures, IsPressed, AllAlive, HasEyes}
 use Rattle.benson_attack.proofs.LegalLemmas.{captures, long, stood_earlier, not_suicide}
 use Rattle.benson_attack.proofs.ReachLemmas.{refused_eyes, reached_first, reached_over, reached_next, placings_more}
@@ -98,7 +98,7 @@ pressed_taken d v old now w gone = record {
   short = w.short;
   long = w.long;
   goes = λ g rest. let run = w.goes g rest in (reached_over g d v now.board run.0 gone, run.1);
-  more = elim w.more as (λ _. number_of d old.board < number_of d now.board) [ inl s ↦ absurd (gone s) | inr lt ↦ lt ];
+  more = elim w.more as (λ _. number_of_stones d old.board < number_of_stones d now.board) [ inl s ↦ absurd (gone s) | inr lt ↦ lt ];
 }
 
 pub eyes_wider : (g : Board) (c : Colour) (In More : ℕ → Type 0) → ((q : ℕ) → In q → More q) → (s : ℕ) → HasTwoEyes g c In s
@@ -122,7 +122,7 @@ pressed_held d v old now w s refused g rest =
 rest_of_copy : (g : Board) (d : Colour) (run copy : Run) → copy.board ≡ run.board → copy.placings.items ≡ run.placings.items
     → IsAtRest g d run → IsAtRest g d copy
 rest_of_copy g d run copy same items rest = (
-  subst (IsReached g d (λ _. ⊥)) (sym same) rest.0,
+  subst (IsReachedUnderAttack g d (λ _. ⊥)) (sym same) rest.0,
   subst (λ b. Placings d g copy.placings.items b) (sym same) (subst (λ ps. Placings d g ps run.board) (sym items) rest.1),
 )
 
@@ -135,7 +135,7 @@ failed_copy d v run copy new false same items w e g rest =
     subst (λ b. HasTwoEyes g (other d) (HasStone b (other d)) v) same (w g (rest_of_copy g d run copy same items rest))
 
 -- stones that all have two eyes are a healthy list
-pub healthy_all : (g : Board) (d : Colour) (h : Board) → IsReached g d (λ _. ⊥) h
+pub healthy_all : (g : Board) (d : Colour) (h : Board) → IsReachedUnderAttack g d (λ _. ⊥) h
     → ((v : ℕ) → HasStone h (other d) v → HasTwoEyes g (other d) (HasStone h (other d)) v)
     → (points : List ℕ) → ((p : ℕ) → Contains points p ↔ HasStone h (other d) p) → IsHealthy g (other d) points
 healthy_all g d h w eyes points each = record {
@@ -155,7 +155,7 @@ alive_all d alive run victims is eyes g settled marks rest q s =
 -- the run before any placing
 pub rest_first : (g : Board) (d : Colour) (run : Run) → IsSettled g → run.board ≡ g → run.placings.items ≡ [] → IsAtRest g d run
 rest_first g d run settled same none = (
-  subst (IsReached g d (λ _. ⊥)) (sym same) (reached_first g d settled),
+  subst (IsReachedUnderAttack g d (λ _. ⊥)) (sym same) (reached_first g d settled),
   subst (λ ps. Placings d g ps run.board) (sym none) (sym same),
 )
 

@@ -10,7 +10,7 @@ use Rattle.benson_attack.specs.declared.captures.Run.{Run}
 -- On `h`, which placings of the colour reach from `g`, chains of the other colour stand whole or are
 -- empty points. Each point that was filled is next to a point of a chain that was taken, or that is in
 -- `Under`: those are under attack.
-pub record IsReached (g : Board) (d : Colour) (Under : ℕ → Type 0) (h : Board) : Type 0 where
+pub record IsReachedUnderAttack (g : Board) (d : Colour) (Under : ℕ → Type 0) (h : Board) : Type 0 where
   pub columns : h.columns ≡ g.columns
   pub long : length h.cells ≡ length g.cells
   pub stood : (q : ℕ) → HasStone h (other d) q → HasStone g (other d) q
@@ -22,16 +22,16 @@ pub record IsReached (g : Board) (d : Colour) (Under : ℕ → Type 0) (h : Boar
 
 -- the placings of the run lead from `g` to its board
 abbrev pub IsRun : Board → Colour → (ℕ → Type 0) → Run → Type 0
-IsRun g d Under run = IsReached g d Under run.board × Placings d g run.placings.items run.board
+IsRun g d Under run = IsReachedUnderAttack g d Under run.board × Placings d g run.placings.items run.board
 
 -- the placings of the run lead from `g` to its board, with no chain under attack
 abbrev pub IsAtRest : Board → Colour → Run → Type 0
 IsAtRest g d run = IsRun g d (λ _. ⊥) run
 
 -- how many stones of the colour a board has
-abbrev pub number_of : Colour → Board → ℕ
-number_of d g = count_by (is_of d) g.cells
+abbrev pub number_of_stones : Colour → Board → ℕ
+number_of_stones d g = count_by (is_of d) g.cells
 
 -- the run has no more placings than the colour has stones on its board
 abbrev pub HasFewPlacings : Colour → Run → Type 0
-HasFewPlacings d run = length run.placings.items ≤ number_of d run.board
+HasFewPlacings d run = length run.placings.items ≤ number_of_stones d run.board

@@ -15,7 +15,7 @@ use Rattle.go_grid.specs.Board.{Board, HasStone, Lacks}
 use Rattle.go_grid.proofs.PathLemmas.{leads_here, leads_step}
 use Rattle.go_grid.proofs.NearLemmas.{next_back}
 use Rattle.go_grid.proofs.WalkLemmas.{joined_back, joined_here, joined_join}
-use Rattle.benson_life.specs.Groups.{InGroup, IsLinked, IsNumberOfGroups}
+use Rattle.benson_life.specs.Groups.{InGroup, IsLinkedInGroup, IsNumberOfGroups}
 use Rattle.benson_life.specs.Held.{IsHeld}
 use Rattle.benson_life.specs.Life.{InRegion, IsAlive, IsCounted}
 use Rattle.benson_life.proofs.StrikingLemmas.{alive_whole}
@@ -96,9 +96,9 @@ module _ (g : Board) (c : Colour) (settled : IsSettled g) where
   -- stones with one such point are of one group
   one_group : (s t a : ℕ) → IsAlive g c s → IsAlive g c t → IsOwn s a → IsOwn t a → InGroup g c s t
   one_group s t a alive alive' (counted, (_, (u, chain, n))) (_, (_, (v, chain', m))) =
-      let over = leads_step (IsLinked g c) (IsAlive g c) in
+      let over = leads_step (IsLinkedInGroup g c) (IsAlive g c) in
       let far = alive_whole g c t v alive' chain' in
-      let to_u = over s s u (leads_here (IsLinked g c) (IsAlive g c) s alive) (inl chain) (alive_whole g c s u alive chain) in
+      let to_u = over s s u (leads_here (IsLinkedInGroup g c) (IsAlive g c) s alive) (inl chain) (alive_whole g c s u alive chain) in
       let to_v = over s u v to_u
       (inr (a, a, counted, joined_here g.columns (Lacks g c) a counted.2.lacks, next_back g.columns u a n, next_back g.columns v a m)) far in
       over s v t to_v (inl (joined_back g.columns (HasStone g c) t v chain')) alive'

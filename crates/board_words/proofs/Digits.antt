@@ -12,7 +12,7 @@ use Rattle.std.proofs.lemmas.List.Sums.{AllPass-from_list_all}
 use Rattle.std.proofs.lemmas.Fmt.{digits_decimal, digits_value-decimal, first_decimal, length-decimal-le, decimal_nonempty, decimal-digits_value}
 use Rattle.std.proofs.lemmas.Str.{IsUtf8-from_ascii}
 use Rattle.std.proofs.lemmas.Str.Parse.{IsNumeralModel, numerals_by_value, tells_all_ascii_digits, parse_gives, digits_value_short}
-use Rattle.board_words.specs.Numbers.{IsNumber, IsNumeral}
+use Rattle.board_words.specs.Numbers.{IsNumberWord, IsNumeral}
 
 same_test : (bs : List ℕ) → list_all is_ascii_digit bs ≡ all_ascii_digits bs
 same_test [] = refl
@@ -37,11 +37,11 @@ digits_are word n lead =
     decimal-digits_value own word (rw (← same_test word) n.digits) (omega (arith, n.some)) (λ e. absurd (lead e)) (omega (arith, small))
 
 -- a number without a leading zero is its decimal text
-pub row_is : (word : List ℕ) (n : ℕ) → IsNumber word n → get_or word 0 0 ≢ 48 → word ≡ decimal n
+pub row_is : (word : List ℕ) (n : ℕ) → IsNumberWord word n → get_or word 0 0 ≢ 48 → word ≡ decimal n
 row_is word n h lead = sym (ap decimal h.1 ∙ digits_are word h.0 lead)
 
 -- the decimal text of a small number is a number, and has no leading zero
-pub row_read : (word : List ℕ) (row : ℕ) → 1 ≤ row → row ≤ 25 → word ≡ decimal row → IsNumber word row × (get_or word 0 0 ≢ 48)
+pub row_read : (word : List ℕ) (row : ℕ) → 1 ≤ row → row ≤ 25 → word ≡ decimal row → IsNumberWord word row × (get_or word 0 0 ≢ 48)
 row_read word row some few e =
     let numeral : IsNumeral (decimal row) = record {
       some = omega (arith, decimal_nonempty row (omega (arith, few)));
@@ -50,13 +50,13 @@ row_read word row some few e =
     } in
     let value = digits_value-decimal own row (omega (arith, few)) in
     let lead : 48 < get_or (decimal row) 0 0 = first_decimal row (omega (arith, some)) (omega (arith, few)) in
-    subst (λ w. IsNumber w row × (get_or w 0 0 ≢ 48)) (sym e) ((numeral, sym value), λ z. absurd (omega (arith, lead, z)))
+    subst (λ w. IsNumberWord w row × (get_or w 0 0 ≢ 48)) (sym e) ((numeral, sym value), λ z. absurd (omega (arith, lead, z)))
 
 small_byte : (b : ℕ) → is_ascii_digit b ≡ true → b < 128
 small_byte b e = grind (arith, e)
 
 -- digits are a text
-pub not_text : (word : List ℕ) (n : ℕ) → ¬ IsUtf8 word → IsNumber word n → ⊥
+pub not_text : (word : List ℕ) (n : ℕ) → ¬ IsUtf8 word → IsNumberWord word n → ⊥
 not_text word n none h = none (IsUtf8-from_ascii word (λ i. elim (cases_lt i (length word)) [
   | inl lt ↦ small_byte (get_or word i 0) (AllPass-from_list_all is_ascii_digit word h.0.digits i 0 lt)
   | inr after ↦ omega (arith, get_or_past word i 0 after)

@@ -11,5 +11,5 @@ pub record IsNumeral (word : List ℕ) : Type 0 where
   pub digits : list_all is_ascii_digit word ≡ true
 
 -- the word is one to ten digits, which write the number
-abbrev pub IsNumber : List ℕ → ℕ → Type 0
-IsNumber word n = IsNumeral word × (n ≡ digits_value 10 word)
+abbrev pub IsNumberWord : List ℕ → ℕ → Type 0
+IsNumberWord word n = IsNumeral word × (n ≡ digits_value 10 word)

@@ -4,7 +4,7 @@ ghost use Rattle.std.specs.Prelude.{◌≡◌, ◌↔◌, ◌≤◌, ℕ, true, 
 ghost use Rattle.std.specs.Char.{is_ascii_digit};
 ghost use Rattle.std.specs.List.{list_all};
 ghost use Rattle.std.specs.Str.Parse.{digits_value};
-ghost use Rattle.board_words.specs.Numbers.{IsNumber, IsNumeral};
+ghost use Rattle.board_words.specs.Numbers.{IsNumberWord, IsNumeral};
 
 use std::str;
 
@@ -44,8 +44,8 @@ fn value_of(digits: &str) -> u64
 /// The number that a word of one to ten digits writes.
 #[tactic(auto, using(crate::proofs::Digits::not_text))]
 pub fn read_number(word: &[u8]) -> Option<u64>
-    ensures some { IfSome result (λ n. IsNumber word.now n) }
-    ensures none { IfNone result ((n : ℕ) → ¬ IsNumber word.now n) }
+    ensures some { IfSome result (λ n. IsNumberWord word.now n) }
+    ensures none { IfNone result ((n : ℕ) → ¬ IsNumberWord word.now n) }
 {
     if !is_numeral(word) {
         return None;

@@ -26,8 +26,8 @@ abbrev pub ended : Option (List ℕ) → Option (List ℕ)
 ended told = option_map (λ _. []) told
 
 -- Ok gives a front part of what was left, and 0 into room only at the end. A failed read takes nothing.
-abbrev pub Takes : {E : Type 0} → Option (List ℕ) → Option (List ℕ) → Result ℕ E → List ℕ → Type 0
-Takes before now result buf = MatchResult result
+abbrev pub TakesBytes : {E : Type 0} → Option (List ℕ) → Option (List ℕ) → Result ℕ E → List ℕ → Type 0
+TakesBytes before now result buf = MatchResult result
     (λ n. (before ≡ prepend_known (take n buf) now) × (n ≡ 0 → 0 < length buf → now ≡ ended before))
     (λ _. now ≡ before)
 

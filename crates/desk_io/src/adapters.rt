@@ -2,7 +2,7 @@
 ghost use Rattle.std.specs.Prelude.{◌≡◌, None, is_err};
 ghost use Rattle.std.specs.Io.{ReadsAtMost};
 ghost use Rattle.std.specs.Io.KnownBytes.{ReadConsumes};
-ghost use Rattle.desk_io.specs.Outside.{Appends, HasCause, PassedOn, Takes, faults_after};
+ghost use Rattle.desk_io.specs.Outside.{Appends, HasCause, PassedOn, TakesBytes, faults_after};
 
 use crate::{Failed, Sink, Source};
 use std::io::{ErrorKind, Read, Write};
@@ -30,7 +30,7 @@ impl<R: Read + Drop> Source for StdSource<R> {
 
     fn read(&mut self, buf: &mut [u8]) -> Result<usize, Failed>
         ensures bound { ReadsAtMost result buf.new }
-        ensures bytes { Takes None None result buf.new }
+        ensures bytes { TakesBytes None None result buf.new }
         ensures count { self.new.faults ≡ faults_after self.old.faults (is_err result) }
         // What the reader tells goes through.
         ensures through { ReadConsumes (R.remaining self.old.reader)

@@ -1,7 +1,7 @@
 // A source and a sink in memory, which fail at the calls that they are told.
 ghost use Rattle.std.specs.Prelude.{◌≡◌, ◌≤◌, ◌+◌, ◌||◌, [], length, drop, nat_lt, vec_len, vec_capacity, is_err, IfOk, Some};
 ghost use Rattle.std.specs.Io.{ReadsAtMost};
-ghost use Rattle.desk_io.specs.Outside.{Appends, HasCause, Takes};
+ghost use Rattle.desk_io.specs.Outside.{Appends, HasCause, TakesBytes};
 ghost use Rattle.desk_io.specs.Memory.{MemorySource, MemorySink, counted, fails_next, uncalled, written};
 
 use crate::{Failed, Sink, Source};
@@ -60,7 +60,7 @@ impl Source for MemorySource {
 
     fn read(&mut self, buf: &mut [u8]) -> Result<usize, Failed>
         ensures bound { ReadsAtMost result buf.new }
-        ensures bytes { Takes (Some self.old.left) (Some self.new.left) result buf.new }
+        ensures bytes { TakesBytes (Some self.old.left) (Some self.new.left) result buf.new }
         ensures named { is_err result ≡ fails_next self.old.calls }
         ensures calls { self.new.calls ≡ counted self.old.calls (is_err result) }
         ensures piece { IfOk result (λ n. n ≤ self.old.piece) }

@@ -2,7 +2,7 @@
 ghost use Rattle.std.specs.Prelude.{ℕ, List};
 ghost use Rattle.std.specs.declared.option.Option.{Option};
 ghost use Rattle.std.specs.Io.{ReadsAtMost};
-ghost use Rattle.desk_io.specs.Outside.{Appends, HasCause, Takes};
+ghost use Rattle.desk_io.specs.Outside.{Appends, HasCause, TakesBytes};
 
 use thiserror::Error;
 
@@ -23,7 +23,7 @@ pub trait Source {
     /// nothing was taken.
     fn read(&mut self, buf: &mut [u8]) -> Result<usize, Failed>
         ensures bound { ReadsAtMost result buf.new }
-        ensures bytes { Takes (left self.old) (left self.new) result buf.new }
+        ensures bytes { TakesBytes (left self.old) (left self.new) result buf.new }
         ensures cause { HasCause (faults self.old) (faults self.new) result };
 }
 

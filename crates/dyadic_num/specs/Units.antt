@@ -30,14 +30,14 @@ pub record IsLowest (u n : ℤ) (e : ℕ) : Type 0 where
   pub lowest : (m : ℤ) (d : ℕ) → IsFraction u m d → e ≤ d
 
 -- u is above the bound, where there is one
-abbrev pub IsAbove : Option ℤ → ℤ → Type 0
-IsAbove None u = Unit {0}
-IsAbove (Some low) u = low <ℤ u
+abbrev pub IsAboveBound : Option ℤ → ℤ → Type 0
+IsAboveBound None u = Unit {0}
+IsAboveBound (Some low) u = low <ℤ u
 
 -- u is below the bound, where there is one
-abbrev pub IsBelow : Option ℤ → ℤ → Type 0
-IsBelow None u = Unit {0}
-IsBelow (Some high) u = u <ℤ high
+abbrev pub IsBelowBound : Option ℤ → ℤ → Type 0
+IsBelowBound None u = Unit {0}
+IsBelowBound (Some high) u = u <ℤ high
 
 -- u is the simplest of the numbers that pass, where a multiple of 2 ^ k has the exponent e - k or less: the least
 -- exponent goes first, and then the least size
@@ -48,7 +48,7 @@ pub record IsSimplest (e : ℕ) (Passes : ℤ → Type 0) (u : ℤ) : Type 0 whe
 
 -- u is within the bounds of a Dyadic and strictly between two others, of which each may be absent
 abbrev pub IsBetween : Option ℤ → Option ℤ → ℤ → Type 0
-IsBetween low high u = IsInBounds u × IsAbove low u × IsBelow high u
+IsBetween low high u = IsInBounds u × IsAboveBound low u × IsBelowBound high u
 
 -- u is the simplest number strictly between two bounds that may be absent: the least exponent goes first, and then the
 -- least size

@@ -14,7 +14,7 @@ use Rattle.endgame_run.specs.declared.status.Status.{Status}
 use Rattle.endgame_run.specs.declared.status.Status.TheVariants as status
 use Rattle.endgame_run.specs.Calc.{IsCalc}
 use Rattle.endgame_run.specs.File.{Outside}
-use Rattle.endgame_run.specs.Laws.{HasOneOutcome}
+use Rattle.endgame_run.specs.Laws.{ExpressionHasOneStatus}
 use Rattle.endgame_run.specs.inner.Top.{IsCalcRun}
 use Rattle.endgame_run.specs.Verdict.{HasReason, IsDecided, IsTextAlone, IsWritten}
 use Rattle.endgame_run.proofs.TopLaws.{caused, written}
@@ -106,5 +106,5 @@ one_read limit expression s t (inr (f, a, x)) (inr (g, b, y)) =
     let e : Path (Result Line Fault) (Err f) (Err g) = one-line limit expression (Err f) (Err g) a b in
     let same : f ≡ g = cc in x ∙ ap (status_of (length expression)) same ∙ sym y
 
-pub one_outcome : HasOneOutcome
+pub one_outcome : ExpressionHasOneStatus
 one_outcome limit expression s t a b x y = one_read limit expression s t (calc_read limit expression s a x) (calc_read limit expression t b y)

@@ -19,14 +19,14 @@ use Rattle.endgame_run.specs.declared.status.Status.TheVariants as status
 use Rattle.endgame_run.specs.declared.question.Question.{Question}
 use Rattle.endgame_run.specs.declared.question.Question.TheVariants as question
 use Rattle.endgame_run.specs.Calc.{IsCalc}
-use Rattle.endgame_run.specs.Complete.{AreAnswerable, IsAnswerable, IsAnswered, IsComplete, IsEngineDone, IsWithinLimits}
+use Rattle.endgame_run.specs.Complete.{AreAnswerable, IsAnswerable, IsRunDone, IsComplete, IsEngineDone, IsWithinLimits}
 use Rattle.endgame_run.specs.Engine.{AreForEngine, AskForEngine, IsEngineRun}
 use Rattle.endgame_run.specs.Output.{IsCaused}
 use Rattle.desk_io.specs.Files.{Told, IsLonger, IsTold}
 use Rattle.sgf_go.specs.File.{HasFewBytes, Reads}
 use Rattle.endgame_run.specs.File.{Outside, count_of, dash, told_of}
 use Rattle.endgame_run.specs.Game.{IsGameRun}
-use Rattle.endgame_run.specs.Verdict.{IsAnswerOn, HasReason, IsAnswer, IsFileAnswer, IsPositionAnswer, IsTextAlone, Pose, limits_of}
+use Rattle.endgame_run.specs.Verdict.{IsAnswerOn, HasReason, IsVerdict, IsFileAnswer, IsPositionAnswer, IsTextAlone, Pose, limits_of}
 use Rattle.endgame_run.proofs.GameWins.{map_told}
 use Rattle.sgf_go.proofs.OneReading.{not_both, one_setup}
 use Rattle.endgame_run.proofs.OneStatus.{file_or_position, safe_is_done, shows_shown, solves_sound}
@@ -81,7 +81,7 @@ module _ (words : List (List ℕ)) (o : Outside) (kb kn : ℕ) (a : IsAnswerable
   not_read (inl none) = unread (told_of o.world a.word) a.told none
   not_read (inr rose) = count_stays a.word o.loads.before o.loads.now o.reads.before o.reads.now a.no_load_failed a.no_read_failed rose
 
-  answered : (before now : Option (List ℕ)) (result : Status) → (result ≡ CannotWrite → Rose kb kn) → HasReason words o result ⊎ IsGameRun words o before now result → IsAnswered words o result
+  answered : (before now : Option (List ℕ)) (result : Status) → (result ≡ CannotWrite → Rose kb kn) → HasReason words o result ⊎ IsGameRun words o before now result → IsRunDone words o result
   answered before now Done rose h = inl refl
   answered before now Memory rose h = inr (inl refl)
   answered before now CannotWrite rose h = absurd (a.no_write_failed (rose refl))

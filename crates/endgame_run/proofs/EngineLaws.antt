@@ -10,7 +10,7 @@ use Rattle.endgame_solver.specs.declared.limits.Limits.{Limits}
 use Rattle.gtp_engine.specs.declared.end.GtpEnd.{GtpEnd}
 use Rattle.gtp_engine.specs.declared.end.GtpEnd.TheVariants as end
 use Rattle.gtp_engine.specs.Kept.{AreLoads}
-use Rattle.gtp_engine.specs.Written.{Engine, IsRun, RoseBy, unused}
+use Rattle.gtp_engine.specs.Written.{Engine, WritesByEnd, RoseBy, unused}
 use Rattle.gtp_engine.specs.Session.{beginning}
 use Rattle.endgame_run.specs.declared.status.Status.{Status}
 use Rattle.endgame_run.specs.declared.status.Status.TheVariants.{CannotRead, CannotWrite, Done, Memory, TooManyLines}
@@ -89,7 +89,7 @@ module _ (limits : Limits) (o : Outside) (failing : List ℕ) (failed : AreFaile
   }
 
   -- the run of an engine, by the end of its session
-  pub engine_play : (final : GtpEnd) (km kn : ℕ) → ((bytes : List ℕ) → o.world.left ≡ Some bytes → IsRun limits o.world.files failing bytes before mid final) → (final ≡ end.ReadFault → Rose o.reads.before o.reads.now)
+  pub engine_play : (final : GtpEnd) (km kn : ℕ) → ((bytes : List ℕ) → o.world.left ≡ Some bytes → WritesByEnd limits o.world.files failing bytes before mid final) → (final ≡ end.ReadFault → Rose o.reads.before o.reads.now)
       → IsClosed final km kn mid now result → IsEnginePlay limits o before now result
   engine_play end.Quit km kn p rose c = ended Done tt (λ e. absurd cc) c.0 c.1 (λ bytes told. let h = p bytes told in (end.Quit, h.1, tt, (h.0, h.2), h.3))
   engine_play end.InputEnded km kn p rose c = ended Done tt (λ e. absurd cc) c.0 c.1 (λ bytes told. let h = p bytes told in (end.InputEnded, h.1, tt, (h.0, h.2), h.3))
@@ -100,11 +100,11 @@ module _ (limits : Limits) (o : Outside) (failing : List ℕ) (failed : AreFaile
 
 -- the same of an engine that had answered nothing
 pub engine_ran : (limits : Limits) (o : Outside) (start over : Engine) (before mid now : Option (List ℕ)) (result : Status) (final : GtpEnd) (km kn : ℕ) → start ≡ unused limits → AreLoads over.loads over.failed_loads
-    → RoseBy (length over.failed_loads) o.loads.before o.loads.now → ((bytes : List ℕ) → o.world.left ≡ Some bytes → IsRun start.limits o.world.files over.failed_loads bytes before mid final)
+    → RoseBy (length over.failed_loads) o.loads.before o.loads.now → ((bytes : List ℕ) → o.world.left ≡ Some bytes → WritesByEnd start.limits o.world.files over.failed_loads bytes before mid final)
     → (final ≡ end.ReadFault → Rose o.reads.before o.reads.now) → IsClosed final km kn mid now result → IsEnginePlay limits o before now result
 engine_ran limits o start over before mid now result final km kn is numbered counted p rose c =
     engine_play limits o over.failed_loads (record { ascending = numbered.ascending; counted = counted }) before mid now result final km kn
-    (λ bytes told. subst (λ l. IsRun l o.world.files over.failed_loads bytes before mid final) (ap (λ e. e.limits) is) (p bytes told)) rose c
+    (λ bytes told. subst (λ l. WritesByEnd l o.world.files over.failed_loads bytes before mid final) (ap (λ e. e.limits) is) (p bytes told)) rose c
 
 -- what a session took of its source
 pub session_taken : (before now : Option (List ℕ)) → (held : List ℕ) × (length held ≤ 1024) × UsesLines 1024 0 10000 [] before held now → TakesAtMost most_of_engine before now

@@ -13,7 +13,7 @@ use Rattle.endgame_run.specs.declared.status.Status.{Status}
 use Rattle.endgame_run.specs.declared.status.Status.TheVariants.{CannotRead, CannotWrite, Done, Memory, TooManyLines}
 use Rattle.endgame_run.specs.declared.status.Status.TheVariants as status
 use Rattle.endgame_run.specs.File.{Outside}
-use Rattle.endgame_run.specs.Game.{IsGameRun, IsGameWritten, IsSessionStatus, IsStopped, IsWonGame, PlaysWon, beginning}
+use Rattle.endgame_run.specs.Game.{IsGameRun, IsGameWritten, IsSessionStatus, IsStopped, IsWonGame, PlaysWon, game_beginning}
 use Rattle.endgame_run.specs.Verdict.{IsWritten}
 
 pub map_told : (P Q : List ℕ → Type 0) (left : Option (List ℕ)) → ((bytes : List ℕ) → P bytes → Q bytes) → IfSome left P → IfSome left Q
@@ -22,20 +22,20 @@ map_told P Q (Some bytes) f h = f bytes h
 
 module _ (engine : Colour) (s : Whole) (bytes : List ℕ) (before now : Option (List ℕ)) (wins : IsWinner s engine) where
   -- turns, and what stands behind them
-  won : (n : ℕ) (b : Standing) (first last : List ℕ) → Turns engine n (beginning s bytes) first b → IsUnnamed engine last → now ≡ append_known before (first ++ last) → IsWonGame engine s bytes before now
+  won : (n : ℕ) (b : Standing) (first last : List ℕ) → Turns engine n (game_beginning s bytes) first b → IsUnnamed engine last → now ≡ append_known before (first ++ last) → IsWonGame engine s bytes before now
   won n b first last turns unnamed is = record {
     number = n;
     reached = b;
     first = first;
     last = last;
     turns = turns;
-    kept = λ m text c le more. win_is_kept engine (beginning s bytes) c m text wins more;
+    kept = λ m text c le more. win_is_kept engine (game_beginning s bytes) c m text wins more;
     written = is;
-    unnamed = turns_unnamed engine n (beginning s bytes) b first last turns unnamed;
+    unnamed = turns_unnamed engine n (game_beginning s bytes) b first last turns unnamed;
   }
 
   -- a session that 10,000 lines ended, and a text behind it
-  won_lines : (b : Standing) (text line : List ℕ) → IsSession engine (beginning s bytes) text b end.TooManyLines → IsUnnamed engine line → now ≡ append_known before (text ++ line) → IsWonGame engine s bytes before now
+  won_lines : (b : Standing) (text line : List ℕ) → IsSession engine (game_beginning s bytes) text b end.TooManyLines → IsUnnamed engine line → now ≡ append_known before (text ++ line) → IsWonGame engine s bytes before now
   won_lines b text line session unnamed is =
       let none : session.last ≡ [] = session.ends.2 in
       won session.number b session.first (session.last ++ line) session.turns (subst (λ l. IsUnnamed engine (l ++ line)) (sym none) unnamed)
@@ -74,7 +74,7 @@ module _ (engine : Colour) (s : Whole) (bytes : List ℕ) (before now : Option (
   won_game TooManyLines begun h = won_stopped TooManyLines h.0 h.1 h.1 h.2 (λ whole e is. all_unnamed h.1 whole e is) h.3
   won_game CannotWrite begun (inl h) =
       let k = h.1 in
-      won k.0 k.1 k.2 k.3 k.5 (next_unnamed engine k.1 k.3 k.4 (win_is_kept engine (beginning s bytes) k.1 k.0 k.2 wins k.5) k.6) (h.2 ∙ ap (append_known before) k.7)
+      won k.0 k.1 k.2 k.3 k.5 (next_unnamed engine k.1 k.3 k.4 (win_is_kept engine (game_beginning s bytes) k.1 k.0 k.2 wins k.5) k.6) (h.2 ∙ ap (append_known before) k.7)
   won_game CannotWrite begun (inr h) = won_stopped h.0 h.1 h.2 (take h.3 h.2) h.4 (λ whole e is. line_unnamed h.2 whole h.3 e is) h.5
   won_game Memory begun h = absurd begun
   won_game status.Usage begun h = absurd begun

@@ -19,7 +19,7 @@ use Rattle.sgf_go.proofs.OneReading.{not_both, one_fault, one_setup}
 use Rattle.endgame_solver.specs.declared.limits.Limits.{Limits}
 use Rattle.endgame_solver.specs.declared.faults.SolveError.{SolveError}
 use Rattle.endgame_solver.specs.declared.faults.SolveError.TheVariants.{Points, Positions, Cycle, Form, Memory}
-use Rattle.endgame_solver.specs.Faults.{AreRefused, AreSmall, AreSound, IsFaultOf, IsFirstFault, IsSound}
+use Rattle.endgame_solver.specs.Faults.{AreRefused, AreSmallRegions, AreSound, IsFaultOf, IsFirstFault, IsSound}
 use Rattle.region_cut.specs.Cut.{AreRegionsOfPlay}
 use Rattle.endgame_solver.specs.Regions.{no_region, region_at}
 use Rattle.endgame_run.specs.declared.status.Status.{Status}
@@ -66,14 +66,14 @@ abbrev HasLarge : List Region → Type 0
 HasLarge rs = (r : Region) × Contains rs r × (32 < length r.points)
 
 by_size : (limits : Limits) (rs : List Region) (f : SolveError) (s : Status) → AreRefused limits rs f → HasStatus f s
-    → (HasLarge rs × (s ≡ status.RegionLimit)) ⊎ (AreSmall rs × IsFirstFault limits rs f)
+    → (HasLarge rs × (s ≡ status.RegionLimit)) ⊎ (AreSmallRegions rs × IsFirstFault limits rs f)
 by_size limits rs (Points p n) s h x = let many : 32 < length (region_at rs h.0).points = omega (arith, h.3, h.4) in inl ((region_at rs h.0, Contains-get_or rs h.0 no_region h.1, many), x)
 by_size limits rs (Positions p) s h x = inr h
 by_size limits rs (Cycle p names back) s h x = inr h
 by_size limits rs (Form p) s h x = inr h
 by_size limits rs (Memory e) s h x = absurd x
 
-large_or_small : (rs : List Region) → HasLarge rs → AreSmall rs → ⊥
+large_or_small : (rs : List Region) → HasLarge rs → AreSmallRegions rs → ⊥
 large_or_small rs (r, among, large) small = let few = small r among in absurd (omega (arith, few, large))
 
 first_status : (limits : Limits) (rs : List Region) (f g : SolveError) (s t : Status) → IsFirstFault limits rs f → IsFirstFault limits rs g → HasStatus f s → HasStatus g t → s ≡ t
@@ -85,7 +85,7 @@ first_status limits rs f g s t (k, lt, a, before) (j, lt', b, earlier) x y = eli
 
 refusals : (limits : Limits) (rs : List Region) (f g : SolveError) (s t : Status) → AreRefused limits rs f → AreRefused limits rs g → HasStatus f s → HasStatus g t → s ≡ t
 refusals limits rs f g s t a b x y = go (by_size limits rs f s a x) (by_size limits rs g t b y) where
-  go : (HasLarge rs × (s ≡ status.RegionLimit)) ⊎ (AreSmall rs × IsFirstFault limits rs f) → (HasLarge rs × (t ≡ status.RegionLimit)) ⊎ (AreSmall rs × IsFirstFault limits rs g) → s ≡ t
+  go : (HasLarge rs × (s ≡ status.RegionLimit)) ⊎ (AreSmallRegions rs × IsFirstFault limits rs f) → (HasLarge rs × (t ≡ status.RegionLimit)) ⊎ (AreSmallRegions rs × IsFirstFault limits rs g) → s ≡ t
   go (inl l) (inl m) = l.1 ∙ sym m.1
   go (inl l) (inr m) = absurd (large_or_small rs l.0 m.0)
   go (inr l) (inl m) = absurd (large_or_small rs m.0 l.0)
@@ -93,7 +93,7 @@ refusals limits rs f g s t a b x y = go (by_size limits rs f s a x) (by_size lim
 
 sound_or_refused : (limits : Limits) (rs : List Region) (f : SolveError) (s : Status) → AreSound limits rs → AreRefused limits rs f → HasStatus f s → ⊥
 sound_or_refused limits rs f s sound a x = go (by_size limits rs f s a x) where
-  go : (HasLarge rs × (s ≡ status.RegionLimit)) ⊎ (AreSmall rs × IsFirstFault limits rs f) → ⊥
+  go : (HasLarge rs × (s ≡ status.RegionLimit)) ⊎ (AreSmallRegions rs × IsFirstFault limits rs f) → ⊥
   go (inl l) = large_or_small rs l.0 (λ r h. (sound r h).points)
   go (inr (small, (k, lt, fault, before))) = sound_has_none limits (region_at rs k) f (sound (region_at rs k) (Contains-get_or rs k no_region lt)) fault
 

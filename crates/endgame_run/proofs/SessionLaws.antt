@@ -13,13 +13,13 @@ use Rattle.play_session.specs.Written.{IsPlayed, IsUnread, Played, Session, stan
 use Rattle.endgame_run.specs.declared.status.Status.{Status}
 use Rattle.endgame_run.specs.declared.status.Status.TheVariants.{CannotRead, CannotWrite, Done, Memory, TooManyLines}
 use Rattle.endgame_run.specs.declared.status.Status.TheVariants as status
-use Rattle.endgame_run.specs.Game.{IsGameWritten, IsOver, IsSessionOf, IsSessionStatus, IsStopped, beginning}
+use Rattle.endgame_run.specs.Game.{IsGameWritten, IsGameOver, IsSessionOf, IsSessionStatus, IsStopped, game_beginning}
 use Rattle.endgame_run.specs.File.{TakesAtMost, most_of_game}
 use Rattle.endgame_run.specs.inner.Top.{IsFinished, IsPlayRun}
-use Rattle.play_session.specs.Lines.{UsesLines}
+use Rattle.desk_io.specs.Lines.{UsesLines}
 
 -- a session that holds nothing begins with the bytes of the source
-begins_here : (session : Session) (bytes : List ℕ) → session.held ≡ [] → standing session 0 bytes ≡ beginning session.state bytes
+begins_here : (session : Session) (bytes : List ℕ) → session.held ≡ [] → standing session 0 bytes ≡ game_beginning session.state bytes
 begins_here session bytes e = ap (λ held. record { state = session.state; read = 0; left = held ++ bytes }) e
 
 -- a session that ended by itself
@@ -28,12 +28,12 @@ session_of : (engine : Colour) (session new : Session) (bytes : List ℕ) (befor
 session_of engine session new bytes before now left final e p =
     (p.text, (standing new p.read p.rest, subst (λ a. IsSession engine a p.text (standing new p.read p.rest) final) (begins_here session bytes e) p.played), p.written)
 
-pub over_written : (engine : Colour) (session new : Session) (bytes : List ℕ) (before now left : Option (List ℕ)) (final : SessionEnd) → session.held ≡ [] → IsOver final
+pub over_written : (engine : Colour) (session new : Session) (bytes : List ℕ) (before now left : Option (List ℕ)) (final : SessionEnd) → session.held ≡ [] → IsGameOver final
     → (IsWinner session.state engine → final ≢ end.Lost) → IsPlayed engine (standing session 0 bytes) before now final new left → IsGameWritten engine session.state bytes before now Done
 over_written engine session new bytes before now left final e over kept p =
     let h = session_of engine session new bytes before now left final e p in (final, h.0, over, kept, h.1, h.2)
 
-played_is : (engine : Colour) (session new : Session) (bytes : List ℕ) (before now left : Option (List ℕ)) (final : SessionEnd) → IsOver final
+played_is : (engine : Colour) (session new : Session) (bytes : List ℕ) (before now left : Option (List ℕ)) (final : SessionEnd) → IsGameOver final
     → Played engine (standing session 0 bytes) before now final new left → IsPlayed engine (standing session 0 bytes) before now final new left
 played_is engine session new bytes before now left end.Won over p = p
 played_is engine session new bytes before now left end.Lost over p = p
@@ -42,17 +42,17 @@ played_is engine session new bytes before now left end.ReadFault over p = absurd
 played_is engine session new bytes before now left end.WriteFault over p = absurd over
 played_is engine session new bytes before now left end.TooManyLines over p = absurd over
 
-pub is_over : (final : SessionEnd) → (final ≡ end.Won) ⊎ ((final ≡ end.Lost) ⊎ (final ≡ end.InputEnded)) → IsOver final
-is_over final (inl e) = subst IsOver (sym e) tt
-is_over final (inr (inl e)) = subst IsOver (sym e) tt
-is_over final (inr (inr e)) = subst IsOver (sym e) tt
+pub is_over : (final : SessionEnd) → (final ≡ end.Won) ⊎ ((final ≡ end.Lost) ⊎ (final ≡ end.InputEnded)) → IsGameOver final
+is_over final (inl e) = subst IsGameOver (sym e) tt
+is_over final (inr (inl e)) = subst IsGameOver (sym e) tt
+is_over final (inr (inr e)) = subst IsGameOver (sym e) tt
 
 -- what a source tells is written
 pub told_written : (P : List ℕ → Type 0) (left : Option (List ℕ)) → ((bytes : List ℕ) → left ≡ Some bytes → P bytes) → IfSome left P
 told_written P None h = tt
 told_written P (Some bytes) h = h bytes refl
 
-pub over_run : (engine : Colour) (session new : Session) (left rest : Option (List ℕ)) (reads reads_now writes writes_now : ℕ) (before now : Option (List ℕ)) (final : SessionEnd) → session.held ≡ [] → IsOver final
+pub over_run : (engine : Colour) (session new : Session) (left rest : Option (List ℕ)) (reads reads_now writes writes_now : ℕ) (before now : Option (List ℕ)) (final : SessionEnd) → session.held ≡ [] → IsGameOver final
     → (IsWinner session.state engine → final ≢ end.Lost) → ((bytes : List ℕ) → left ≡ Some bytes → Played engine (standing session 0 bytes) before now final new rest)
     → IsPlayRun engine session.state left reads reads_now writes writes_now before now Done
 over_run engine session new left rest reads reads_now writes writes_now before now final e over kept p = record {
@@ -120,7 +120,7 @@ pub lines_stop : (engine : Colour) (session new : Session) (left rest : Option (
 lines_stop engine session new left rest before mid e p bytes is = let h = session_of engine session new bytes before mid rest end.TooManyLines e (p bytes is) in (h.0, (h.1, refl), h.2)
 
 -- what a session took of its source
-pub lines_taken : (session : Session) (held : List ℕ) (before now : Option (List ℕ)) → session.held ≡ [] → UsesLines 0 10000 session.held before held now → length held ≤ 256 → TakesAtMost most_of_game before now
+pub lines_taken : (session : Session) (held : List ℕ) (before now : Option (List ℕ)) → session.held ≡ [] → UsesLines 256 0 10000 session.held before held now → length held ≤ 256 → TakesAtMost most_of_game before now
 lines_taken session held before now none used few = λ bytes e.
     let u = used bytes e in
     (u.0 ++ held, u.1, u.2, ap (λ l. l ++ bytes) (sym none) ∙ u.3 ∙ sym (append_assoc u.0 held u.1), omega (arith, u.4, few, length-append u.0 held))

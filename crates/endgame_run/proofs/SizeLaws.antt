@@ -17,7 +17,7 @@ use Rattle.sgf_go.specs.declared.settings.Setup.{Setup}
 use Rattle.sgf_go.specs.declared.fault.SetupFault.{SetupFault}
 use Rattle.sgf_go.specs.declared.fault.SetupFault.TheVariants.{WrongGame, BadSize, BadKomi, BadPoint, BadSide, Occupied, Suicide, NoLiberty}
 use Rattle.sgf_go.specs.Values.{Rectangle, Extent, Says, trimmed}
-use Rattle.sgf_go.specs.Setup.{Part, ◌then◌, GoesOn, Skips, For, Sets, SetsValue, SetsValues, SetsProperty, cell_set, Turns, TurnsTo, side_of, Side, Choice, Chooses, moved, with_taken, placed, Moves, MovesProperty, mover, first_value, NodePart, Unless, LinePart, ends_before, value_of, root, is_go, IsBoardSize, empty_board, Ends, FromKomi, FromSize, FromGame, Gives}
+use Rattle.sgf_go.specs.Setup.{Part, ◌then◌, GoesOn, Skips, For, Sets, SetsValue, SetsValues, SetsProperty, cell_set, SetsSide, TurnsTo, side_of, TurnsByProperty, Choice, MovesAsChosen, moved, with_taken, placed, Moves, MovesProperty, mover, first_value, NodePart, Unless, LinePart, ends_before, value_of, root, is_go, IsBoardSize, empty_board, EndsMainLine, FromKomi, FromSize, FromGame, Gives}
 use Rattle.endgame_run.specs.inner.Position.{IsOnLine}
 use Rattle.sgf_go.specs.Setup.Choice.{pass, stone_at, nothing}
 
@@ -86,7 +86,7 @@ keeps_values : (node : ℕ) (c : Option Cell) (vs : List (List ℕ)) → Keeps (
 keeps_values node None vs = keeps_skip
 keeps_values node (Some c) vs = keeps_for (List ℕ) (λ v. SetsValue node c (trimmed v)) (λ v. keeps_value node c (trimmed v)) vs
 
-keeps_turns : (o : Option Colour) → Keeps (Turns o)
+keeps_turns : (o : Option Colour) → Keeps (SetsSide o)
 unfolding Keeps
 keeps_turns None s r h = fine_is s r (Err BadSide) h tt
 keeps_turns (Some c) s r h = fine_is s r (Ok (record s { side = c })) h (same_here s.board)
@@ -95,7 +95,7 @@ keeps_turns_to : (o : Option (List ℕ)) → Keeps (TurnsTo o)
 keeps_turns_to None = keeps_skip
 keeps_turns_to (Some text) = keeps_turns (side_of text)
 
-keeps_side : (turn : Option Colour) (ps : List PropertyText) → Keeps (Side turn ps)
+keeps_side : (turn : Option Colour) (ps : List PropertyText) → Keeps (TurnsByProperty turn ps)
 keeps_side None ps = keeps_turns_to (value_of (codes "PL") ps)
 keeps_side (Some c) ps = keeps_skip
 
@@ -110,7 +110,7 @@ keeps_placed node c p s h (Ok n) a =
 keeps_placed node c p s h (Err place.Occupied) a = tt
 keeps_placed node c p s h (Err place.Suicide) a = tt
 
-keeps_chooses : (node : ℕ) (c : Colour) (k : Choice) → Keeps (Chooses node c k)
+keeps_chooses : (node : ℕ) (c : Colour) (k : Choice) → Keeps (MovesAsChosen node c k)
 unfolding Keeps
 keeps_chooses node c pass s r h = fine_is s r (Ok (moved c s)) h (same_here s.board)
 keeps_chooses node c nothing s r h = fine_is s r (Err (BadPoint node)) h tt
@@ -122,9 +122,9 @@ keeps_moves node None text s r h = keeps_skip s r h
 keeps_moves node (Some c) text s r h = keeps_chooses node c h.0 s r h.2
 
 keeps_node : (turn : Option Colour) (node : ℕ) (ps : List PropertyText) → Keeps (NodePart turn node ps)
-keeps_node turn node ps = keeps_then (For (SetsProperty node) ps) (Side turn ps then For (MovesProperty node) ps)
+keeps_node turn node ps = keeps_then (For (SetsProperty node) ps) (TurnsByProperty turn ps then For (MovesProperty node) ps)
     (keeps_for PropertyText (SetsProperty node) (λ p. keeps_values node (cell_set p) p.values) ps)
-    (keeps_then (Side turn ps) (For (MovesProperty node) ps) (keeps_side turn ps)
+    (keeps_then (TurnsByProperty turn ps) (For (MovesProperty node) ps) (keeps_side turn ps)
     (keeps_for PropertyText (MovesProperty node) (λ p. keeps_moves node (mover p) (first_value p)) ps))
 
 keeps_unless : (b : Bool) (P : Part) → Keeps P → Keeps (Unless b P)
@@ -138,7 +138,7 @@ keeps_line after turn node (ps ∷ line) s r h =
     keeps_unless (ends_before after ps s.played) (NodePart turn node ps then LinePart after turn (node + 1) line)
     (keeps_then (NodePart turn node ps) (LinePart after turn (node + 1) line) (keeps_node turn node ps) (keeps_line after turn (node + 1) line)) s r h
 
-from_end : (settings : Settings) (komi : ℤ) (e : Extent) (p : ℕ) (m : Result Replay SetupFault) → Fine (empty_board e) m → Ends settings komi m (Err (NoLiberty p)) → p < e.columns * e.rows
+from_end : (settings : Settings) (komi : ℤ) (e : Extent) (p : ℕ) (m : Result Replay SetupFault) → Fine (empty_board e) m → EndsMainLine settings komi m (Err (NoLiberty p)) → p < e.columns * e.rows
 from_end settings komi e p (Ok s) k h =
     let same : p ≡ h.0 = cc h.2 in
     let inside = h.1.choked.1.0 in

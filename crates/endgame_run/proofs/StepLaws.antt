@@ -22,10 +22,10 @@ use Rattle.desk_io.specs.Files.{Files}
 use Rattle.endgame_run.specs.inner.Top.{AreToldSteps, IsModest}
 use Rattle.sgf_go.proofs.OneReading.{one_setup}
 use Rattle.endgame_run.proofs.PoseLaws.{one_number, trial_unposed}
-use Rattle.endgame_run.specs.Verdict.{AreNeededRegions, AreSteps, AreStepsFor, Asks, HasLimits, NeedRegions, Pose, limits_of}
+use Rattle.endgame_run.specs.Verdict.{AreNeededRegions, AreSteps, AreStepsFor, AsksAbout, HasLimits, NeedRegions, Pose, limits_of}
 
 -- a job's limits are such as a search asks for
-pub modest : (job : Job) (q : Question) (word : List ℕ) → Asks job q word → job.positions ≤ MOST_POSITIONS → IsModest q
+pub modest : (job : Job) (q : Question) (word : List ℕ) → AsksAbout job q word → job.positions ≤ MOST_POSITIONS → IsModest q
 modest job (question.Solve limits) word a few = subst (λ l. l.positions ≤ MOST_POSITIONS) (sym a.1) few
 modest job (question.Values limits) word a few = subst (λ l. l.positions ≤ MOST_POSITIONS) (sym a.1) few
 modest job question.Safe word a few = tt

@@ -24,16 +24,16 @@ use Rattle.endgame_run.specs.declared.question.Found.TheVariants.{Position}
 use Rattle.endgame_run.specs.declared.question.Opened.{Opened}
 use Rattle.endgame_run.specs.declared.question.Opened.TheVariants as opened
 use Rattle.endgame_run.specs.Found.{IsPositionOf}
-use Rattle.endgame_run.specs.inner.Found.{IsFound}
+use Rattle.endgame_run.specs.inner.Found.{IsFoundInFile}
 use Rattle.endgame_run.specs.Refusal.{HasStatus}
 use Rattle.std.specs.Str.{bytes_eq}
 use Rattle.std.proofs.lemmas.Slice.Eq.{bytes_eq-Decides}
 use Rattle.endgame_run.specs.inner.Top.{IsBegun, IsFileRun, IsFinished, IsOpened}
-use Rattle.endgame_run.specs.Verdict.{IsAnswerOn, IsPositionAnswer, IsRefusalOf, IsRefused, IsAnswer, AreToPlay, AskAbout, IsDecided, HasReason, IsWritten, limits_of}
+use Rattle.endgame_run.specs.Verdict.{IsAnswerOn, IsPositionAnswer, IsQuestionRefused, IsRefused, IsVerdict, AreToPlay, AskAbout, IsDecided, HasReason, IsWritten, limits_of}
 
 -- a position's status is an answer about its file
 pub position_answer : (q : Question) (told : Told) (before now : ℕ) (settings : Settings) (setup : Setup) (s : Status) (text : List ℕ)
-    → IsPositionOf told settings setup → IsPositionAnswer q setup s text → IsAnswer q told before now settings s text
+    → IsPositionOf told settings setup → IsPositionAnswer q setup s text → IsVerdict q told before now settings s text
 position_answer q told before now settings setup Done text p h = (p.file, p.told_so, p.short, (setup, p.reads, h))
 position_answer q told before now settings setup status.Cycle text p h = (p.file, p.told_so, p.short, (setup, p.reads, h))
 position_answer q told before now settings setup status.RegionLimit text p h = (p.file, p.told_so, p.short, (setup, p.reads, h))
@@ -49,8 +49,8 @@ position_answer q told before now settings setup (status.BadExpression f) text p
 position_answer q told before now settings setup status.CalcLimit text p h = absurd h
 
 pub found_position : (told : Told) (before now : ℕ) (settings : Settings) (found : Found) (setup : Setup) → found ≡ Position setup
-    → IsFound told before now settings found → IsPositionOf told settings setup
-found_position told before now settings found setup e h = (subst (λ f. IsFound told before now settings f) e h).0
+    → IsFoundInFile told before now settings found → IsPositionOf told settings setup
+found_position told before now settings found setup e h = (subst (λ f. IsFoundInFile told before now settings f) e h).0
 
 -- a position that isn't solved is the answer to that question, which isn't answered
 is_refusal : (f : SolveError) (s : Status) → HasStatus f s → (s ≡ status.RegionLimit) ⊎ ((s ≡ status.Cycle) ⊎ (s ≡ status.FormLimit))
@@ -60,10 +60,10 @@ is_refusal (Cycle p names back) s h = inr (inl h)
 is_refusal (Form p) s h = inr (inr h)
 is_refusal (error.Memory e) s h = absurd h
 
-pub refused_question : (q : Question) (limits : Limits) (setup : Setup) (s : Status) (text : List ℕ) → ((t : Status) → IsRefused limits setup t text → IsRefusalOf q setup t text)
+pub refused_question : (q : Question) (limits : Limits) (setup : Setup) (s : Status) (text : List ℕ) → ((t : Status) → IsRefused limits setup t text → IsQuestionRefused q setup t text)
     → IsRefused limits setup s text → IsPositionAnswer q setup s text × (s ≢ Done)
 refused_question q limits setup s text refusal r = go (is_refusal r.fault s r.status) where
-  at : (t : Status) → (IsRefusalOf q setup t text → IsPositionAnswer q setup t text) → s ≡ t → IsPositionAnswer q setup s text
+  at : (t : Status) → (IsQuestionRefused q setup t text → IsPositionAnswer q setup t text) → s ≡ t → IsPositionAnswer q setup s text
   at t is e = subst (λ x. IsPositionAnswer q setup x text) (sym e) (is (refusal t (subst (λ x. IsRefused limits setup x text) e r)))
 
   go : (s ≡ status.RegionLimit) ⊎ ((s ≡ status.Cycle) ⊎ (s ≡ status.FormLimit)) → IsPositionAnswer q setup s text × (s ≢ Done)

@@ -21,7 +21,7 @@ use Rattle.endgame_run.specs.declared.question.Question.TheVariants as question
 use Rattle.endgame_run.specs.File.{Outside, told_of, count_of}
 use Rattle.endgame_run.specs.Solution.{IsSolution}
 use Rattle.endgame_run.specs.inner.Top.{IsFileRun, IsFinished}
-use Rattle.endgame_run.specs.Verdict.{IsAnswerOn, IsPosed, IsAnswer, AreToSolve, AskAbout, AskToSolve, IsDecided, IsDecidedAlone, HasLine, WritesWinner, WritesMove, limits_of}
+use Rattle.endgame_run.specs.Verdict.{IsAnswerOn, IsPosed, IsVerdict, AreToSolve, AskAbout, AskToSolve, IsDecided, IsDecidedAlone, HasLine, WritesWinner, WritesMove, limits_of}
 use Rattle.endgame_run.proofs.PoseLaws.{alone_unposed}
 use Rattle.endgame_run.proofs.TopLaws.{decided, done_text}
 

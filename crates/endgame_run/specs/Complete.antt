@@ -49,8 +49,8 @@ pub record IsAnswerable (words : List (List ℕ)) (o : Outside) (writes writes_n
   pub no_write_failed : ¬ Rose writes writes_now
 
 -- the run is done, or memory was wanted; a game may also have come to 10,000 lines, where the session over the bytes ends so
-abbrev pub IsAnswered : List (List ℕ) → Outside → Status → Type 0
-IsAnswered words o status = (status ≡ Done) ⊎ ((status ≡ Memory)
+abbrev pub IsRunDone : List (List ℕ) → Outside → Status → Type 0
+IsRunDone words o status = (status ≡ Done) ⊎ ((status ≡ Memory)
     ⊎ ((status ≡ TooManyLines) × InGame words o.world (λ engine s bytes. (text : List ℕ) × IsSessionOf engine s bytes end.TooManyLines text)))
 
 -- no refusal meets the expression within the limit of parts
@@ -78,6 +78,6 @@ IsEngineDone words o status = (status ≡ Done) ⊎ ((status ≡ Memory)
 -- Where nothing keeps the run from its text, it is answered; what depends on the words alone is done, or memory was wanted. A load that
 -- fails keeps the engine from nothing.
 abbrev pub IsComplete : List (List ℕ) → Outside → ℕ → ℕ → Status → Type 0
-IsComplete words o writes writes_now status = (IsAnswerable words o writes writes_now → IsAnswered words o status)
+IsComplete words o writes writes_now status = (IsAnswerable words o writes writes_now → IsRunDone words o status)
     × (IsAnswerableAlone words writes writes_now → (status ≡ Done) ⊎ (status ≡ Memory))
     × (IsUnhindered words o writes writes_now → IsEngineDone words o status)

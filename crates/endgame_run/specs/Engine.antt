@@ -9,8 +9,8 @@ use Rattle.gd_words.specs.Task.Task.{gtp}
 use Rattle.endgame_solver.specs.declared.limits.Limits.{Limits}
 use Rattle.gtp_engine.specs.declared.end.GtpEnd.{GtpEnd}
 use Rattle.gtp_engine.specs.declared.end.GtpEnd.TheVariants as end
-use Rattle.gtp_engine.specs.Laws.{WinIsKept}
-use Rattle.gtp_engine.specs.Session.{Standing, IsSession, Waits, BreaksOff, beginning}
+use Rattle.gtp_engine.specs.Laws.{MoveKeepsWin}
+use Rattle.gtp_engine.specs.Session.{GtpStanding, IsGtpSession, WaitsToReply, BreaksOffReply, beginning}
 use Rattle.gtp_engine.specs.Written.{RoseBy}
 use Rattle.endgame_run.specs.declared.status.Status.{Status}
 use Rattle.endgame_run.specs.declared.status.Status.TheVariants.{Done, CannotRead, CannotWrite, Memory, TooManyLines}
@@ -36,11 +36,11 @@ pub record AreFailedLoads (before now : ℕ) (failing : List ℕ) : Type 0 where
 
 -- a whole session over the bytes, with its end and its text
 abbrev pub IsEngineSession : Limits → Option Files → List ℕ → List ℕ → GtpEnd → List ℕ → Type 0
-IsEngineSession limits files failing bytes final text = (b : Standing) × IsSession limits files failing (beginning bytes) text b final
+IsEngineSession limits files failing bytes final text = (b : GtpStanding) × IsGtpSession limits files failing (beginning bytes) text b final
 
 -- the replies to all lines up to one that is still to be answered
 abbrev pub AreRepliesSoFar : Limits → Option Files → List ℕ → List ℕ → List ℕ → Type 0
-AreRepliesSoFar limits files failing bytes text = (b : Standing) × Waits limits files failing (beginning bytes) text b
+AreRepliesSoFar limits files failing bytes text = (b : GtpStanding) × WaitsToReply limits files failing (beginning bytes) text b
 
 -- the ends of a session that is done
 abbrev pub IsSessionOver : GtpEnd → Type 0
@@ -70,7 +70,7 @@ IsEngineWritten limits files failing bytes before now Done = (final : GtpEnd) ×
     × IsEngineSession limits files failing bytes final text × (now ≡ append_known before text)
 IsEngineWritten limits files failing bytes before now Memory = (text : List ℕ) × AreRepliesSoFar limits files failing bytes text × (now ≡ append_known before text)
 IsEngineWritten limits files failing bytes before now CannotWrite =
-    ((text : List ℕ) × BreaksOff limits files failing (beginning bytes) text × (now ≡ append_known before text))
+    ((text : List ℕ) × BreaksOffReply limits files failing (beginning bytes) text × (now ≡ append_known before text))
     ⊎ ((fault : Status) × (text line : List ℕ) × (n : ℕ) × IsEngineStopped limits files failing bytes fault text line × (now ≡ append_known before (text ++ take n line)))
 IsEngineWritten limits files failing bytes before now status =
     (text line : List ℕ) × IsEngineStopped limits files failing bytes status text line × (now ≡ append_known before (text ++ line))
@@ -90,7 +90,7 @@ IsEngineRun words o before now status = (limits : Limits) × AreForEngine words 
 
 -- a session of the engine, and in each session the engine keeps what it has won
 abbrev pub IsKeptRun : List (List ℕ) → Outside → Option (List ℕ) → Option (List ℕ) → Status → Type 0
-IsKeptRun words o before now status = IsEngineRun words o before now status × WinIsKept
+IsKeptRun words o before now status = IsEngineRun words o before now status × MoveKeepsWin
 
 -- the words ask for the engine, and where the source tells its bytes `holds` is true of the limits, of some loads that failed
 -- and of the bytes

@@ -42,23 +42,23 @@ pub record IsGame (words : List (List ℕ)) (w : World) (engine : Colour) (s : W
   pub colour : IsEngine job.engine setup engine
 
 -- where a session begins: the state opens the game, and no line was read
-abbrev pub beginning : Whole → List ℕ → Standing
-beginning s bytes = record { state = s; read = 0; left = bytes }
+abbrev pub game_beginning : Whole → List ℕ → Standing
+game_beginning s bytes = record { state = s; read = 0; left = bytes }
 
 -- a whole session over the bytes, with its end
 abbrev pub IsSessionOf : Colour → Whole → List ℕ → SessionEnd → List ℕ → Type 0
-IsSessionOf engine s bytes final text = (b : Standing) × IsSession engine (beginning s bytes) text b final
+IsSessionOf engine s bytes final text = (b : Standing) × IsSession engine (game_beginning s bytes) text b final
 
 -- all turns of the session up to one of the opponent's, whose line is still to be read
 abbrev pub WaitsAfter : Colour → Whole → List ℕ → List ℕ → Type 0
-WaitsAfter engine s bytes text = (b : Standing) × Waits engine (beginning s bytes) text b
+WaitsAfter engine s bytes text = (b : Standing) × Waits engine (game_beginning s bytes) text b
 
 -- the ends of a game that is done
-abbrev pub IsOver : SessionEnd → Type 0
-IsOver end.Won = Unit {0}
-IsOver end.Lost = Unit {0}
-IsOver end.InputEnded = Unit {0}
-IsOver final = ⊥
+abbrev pub IsGameOver : SessionEnd → Type 0
+IsGameOver end.Won = Unit {0}
+IsGameOver end.Lost = Unit {0}
+IsGameOver end.InputEnded = Unit {0}
+IsGameOver final = ⊥
 
 -- the statuses with which a game ends that has begun
 abbrev pub IsSessionStatus : Status → Type 0
@@ -77,9 +77,9 @@ IsStopped engine s bytes status text line = ⊥
 -- What a game over the bytes has written, by its status: the session, and the line of a fault behind it. Where a write failed it is
 -- turns and a front part of the line after them, or a front part of the fault's line. What the engine has won isn't lost.
 abbrev pub IsGameWritten : Colour → Whole → List ℕ → Option (List ℕ) → Option (List ℕ) → Status → Type 0
-IsGameWritten engine s bytes before now Done = (final : SessionEnd) × (text : List ℕ) × IsOver final × (IsWinner s engine → final ≢ end.Lost)
+IsGameWritten engine s bytes before now Done = (final : SessionEnd) × (text : List ℕ) × IsGameOver final × (IsWinner s engine → final ≢ end.Lost)
     × IsSessionOf engine s bytes final text × (now ≡ append_known before text)
-IsGameWritten engine s bytes before now CannotWrite = ((text : List ℕ) × BreaksOff engine (beginning s bytes) text × (now ≡ append_known before text))
+IsGameWritten engine s bytes before now CannotWrite = ((text : List ℕ) × BreaksOff engine (game_beginning s bytes) text × (now ≡ append_known before text))
     ⊎ ((fault : Status) × (text line : List ℕ) × (n : ℕ) × IsStopped engine s bytes fault text line × (now ≡ append_known before (text ++ take n line)))
 IsGameWritten engine s bytes before now status = (text line : List ℕ) × IsStopped engine s bytes status text line × (now ≡ append_known before (text ++ line))
 
@@ -99,8 +99,8 @@ pub record IsWonGame (engine : Colour) (s : Whole) (bytes : List ℕ) (before no
   pub reached : Standing
   pub first : List ℕ
   pub last : List ℕ
-  pub turns : Turns engine number (beginning s bytes) first reached
-  pub kept : (n : ℕ) (text : List ℕ) (b : Standing) → n ≤ number → Turns engine n (beginning s bytes) text b → KeepsWin engine b
+  pub turns : Turns engine number (game_beginning s bytes) first reached
+  pub kept : (n : ℕ) (text : List ℕ) (b : Standing) → n ≤ number → Turns engine n (game_beginning s bytes) text b → KeepsWin engine b
   pub written : now ≡ append_known before (first ++ last)
   pub unnamed : ¬ IsLineIn (winner_line (other engine)) (first ++ last)
 

@@ -27,8 +27,8 @@ HasOneStatus = (question : Question) (file : List ℕ) (settings : Settings) (s 
     → IsFileAnswer question file settings s a → IsFileAnswer question file settings t b → s ≡ t
 
 -- an expression has at most one status
-abbrev pub HasOneOutcome : Type 0
-HasOneOutcome = (limit : ℕ) (expression : List ℕ) (s t : Status) (a b : List ℕ) → IsCalc limit expression s a → IsCalc limit expression t b → s ≡ t
+abbrev pub ExpressionHasOneStatus : Type 0
+ExpressionHasOneStatus = (limit : ℕ) (expression : List ℕ) (s t : Status) (a b : List ℕ) → IsCalc limit expression s a → IsCalc limit expression t b → s ≡ t
 
 -- a position whose regions are all sound is solved
 abbrev pub SolvesSound : Type 0

@@ -32,7 +32,7 @@ use Rattle.report.specs.Values.{IsFirstUnshown, IsValuesText}
 use Rattle.endgame_run.specs.Calc.{IsCalc}
 use Rattle.endgame_run.specs.Trial.{IsTrial, IsTrialPosition, trial_limits}
 use Rattle.endgame_run.specs.Refusal.{HasStatus, form_line, refusal_line}
-use Rattle.report.specs.Solution.{AreNumbers, solve_text, move_line}
+use Rattle.report.specs.Solution.{AreNumbersOfPositions, solve_text, move_line}
 use Rattle.board_words.specs.Words.{winner_line}
 use Rattle.endgame_run.specs.declared.question.Question.{Question}
 use Rattle.endgame_run.specs.declared.question.Question.TheVariants.{Solve, Values, Safe}
@@ -46,7 +46,7 @@ pub record IsSolved (limits : Limits) (setup : Setup) (text : List ℕ) : Type 0
   pub move : Option Move
   pub are_regions : AreRegionsOfPlay setup.board regions
   pub sound : AreSound limits regions
-  pub counted : AreNumbers regions numbers
+  pub counted : AreNumbersOfPositions regions numbers
   pub solution : IsSolution setup limits.tax state winner move
   pub is : text ≡ solve_text state regions numbers winner move
 
@@ -84,17 +84,17 @@ IsTextOf (Values limits) setup text = IsValued limits setup text
 IsTextOf Safe setup text = IsSafeText setup.board text
 
 -- a question about a position that isn't answered, and its text
-abbrev pub IsRefusalOf : Question → Setup → Status → List ℕ → Type 0
-IsRefusalOf (Solve limits) setup s text = IsRefused limits setup s text
-IsRefusalOf (Values limits) setup s text = IsRefused limits setup s text ⊎ AreUnshown limits setup s text
-IsRefusalOf Safe setup s text = ⊥
+abbrev pub IsQuestionRefused : Question → Setup → Status → List ℕ → Type 0
+IsQuestionRefused (Solve limits) setup s text = IsRefused limits setup s text
+IsQuestionRefused (Values limits) setup s text = IsRefused limits setup s text ⊎ AreUnshown limits setup s text
+IsQuestionRefused Safe setup s text = ⊥
 
 -- the status of a question about a position, and its text
 abbrev pub IsPositionAnswer : Question → Setup → Status → List ℕ → Type 0
 IsPositionAnswer question setup Done text = IsTextOf question setup text
-IsPositionAnswer question setup Cycle text = IsRefusalOf question setup Cycle text
-IsPositionAnswer question setup RegionLimit text = IsRefusalOf question setup RegionLimit text
-IsPositionAnswer question setup FormLimit text = IsRefusalOf question setup FormLimit text
+IsPositionAnswer question setup Cycle text = IsQuestionRefused question setup Cycle text
+IsPositionAnswer question setup RegionLimit text = IsQuestionRefused question setup RegionLimit text
+IsPositionAnswer question setup FormLimit text = IsQuestionRefused question setup FormLimit text
 IsPositionAnswer question setup s text = ⊥
 
 -- The status of a question about a file that is not too long, and its text: no two of these statuses can hold at once.
@@ -103,14 +103,14 @@ IsFileAnswer question file settings (BadFile f) text = Reads file settings (Err 
 IsFileAnswer question file settings s text = (setup : Setup) × Reads file settings (Ok setup) × IsPositionAnswer question setup s text
 
 -- The status by what is told of the file and by the counts of faults of the object that holds it, and its text.
-abbrev pub IsAnswer : Question → Told → ℕ → ℕ → Settings → Status → List ℕ → Type 0
-IsAnswer question told before now settings CannotRead text = ((told ≡ absent) ⊎ Rose before now) × (text ≡ codes "fault cannot read\n")
-IsAnswer question told before now settings TooLong text = IsLonger MOST_BYTES told × (text ≡ codes "fault too long\n")
-IsAnswer question told before now settings s text = (file : List ℕ) × IsTold told file × HasFewBytes file × IsFileAnswer question file settings s text
+abbrev pub IsVerdict : Question → Told → ℕ → ℕ → Settings → Status → List ℕ → Type 0
+IsVerdict question told before now settings CannotRead text = ((told ≡ absent) ⊎ Rose before now) × (text ≡ codes "fault cannot read\n")
+IsVerdict question told before now settings TooLong text = IsLonger MOST_BYTES told × (text ≡ codes "fault too long\n")
+IsVerdict question told before now settings s text = (file : List ℕ) × IsTold told file × HasFewBytes file × IsFileAnswer question file settings s text
 
 -- The status of a question about the file of a word, by what the world tells of it and by how often its object has failed, and its text.
 abbrev pub IsAnswerOn : Question → Outside → List ℕ → Settings → Status → List ℕ → Type 0
-IsAnswerOn question o word settings s text = IsAnswer question (told_of o.world word)
+IsAnswerOn question o word settings s text = IsVerdict question (told_of o.world word)
     (count_of o.loads.before o.reads.before word) (count_of o.loads.now o.reads.now word) settings s text
 
 -- the limits of a job, and whether there is a tax
@@ -118,14 +118,14 @@ abbrev pub limits_of : Job → Limits
 limits_of job = record { positions = job.positions; parts = job.parts; tax = job.tax }
 
 -- the job asks this about the file of this word, within its limits
-abbrev pub Asks : Job → Question → List ℕ → Type 0
-Asks job (Solve limits) word = (job.task ≡ solve word) × (limits ≡ limits_of job)
-Asks job (Values limits) word = (job.task ≡ values word) × (limits ≡ limits_of job)
-Asks job Safe word = job.task ≡ safe word
+abbrev pub AsksAbout : Job → Question → List ℕ → Type 0
+AsksAbout job (Solve limits) word = (job.task ≡ solve word) × (limits ≡ limits_of job)
+AsksAbout job (Values limits) word = (job.task ≡ values word) × (limits ≡ limits_of job)
+AsksAbout job Safe word = job.task ≡ safe word
 
 -- the words ask this about the file of this word, under the job's settings and within its limits
 abbrev pub AskAbout : List (List ℕ) → Job → Question → List ℕ → Type 0
-AskAbout words job question word = IsOnlyJob words job × Asks job question word
+AskAbout words job question word = IsOnlyJob words job × AsksAbout job question word
 
 -- the words are the job of solving the file of this word
 abbrev pub AreToSolve : List (List ℕ) → Job → List ℕ → Type 0

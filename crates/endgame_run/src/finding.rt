@@ -5,7 +5,7 @@ ghost use Rattle.desk_io.specs.Outside.{ended};
 ghost use Rattle.sgf_go.specs.declared.settings.Setup.{Setup as Position};
 ghost use Rattle.sgf_tree.specs.Reading.{line_text};
 ghost use Rattle.endgame_run.specs.File.{TakesAtMost, count_of, dash, most_of_file, told_of, world};
-ghost use Rattle.endgame_run.specs.inner.Found.{HasRanges, IsFileFound, IsFound, IsLineFound};
+ghost use Rattle.endgame_run.specs.inner.Found.{HasRanges, IsFileFound, IsFoundInFile, IsLineFound};
 
 use crate::faults::{setup_fault_text, tree_fault_text};
 use crate::file::{FileError, read_file};
@@ -62,7 +62,7 @@ pub(crate) fn find_position<H: Shelf, S: Source>(
     lines: &mut S,
 ) -> Result<Found, AllocError>
     requires { HasRanges settings.now }
-    ensures found { IfOk result (IsFound (told_of
+    ensures found { IfOk result (IsFoundInFile (told_of
         (world (H.files shelf.old) (S.left lines.old)) word.now)
         (count_of (H.faults shelf.old) (S.faults lines.old) word.now)
         (count_of (H.faults shelf.new) (S.faults lines.new) word.now) settings.now) }

@@ -17,7 +17,7 @@ ghost use Rattle.endgame_run.specs.inner.Found.{HasRanges};
 ghost use Rattle.endgame_run.specs.Game.{EngineKeepsWin, IsGameRun};
 ghost use Rattle.endgame_run.specs.Output.{IsCaused, IsOutput, IsPartOutput};
 ghost use Rattle.endgame_run.specs.inner.Top.{AreToldSteps, IsAsked, IsFileRun, IsModest};
-ghost use Rattle.endgame_run.specs.Verdict.{AreNeededRegions, AreSteps, AreStepsFor, AskShelf, AskToPlay, AskToSolve, IsAnswer, IsPositionAnswer, NeedRegions, ReadShelf, ReadSource, WritesMove, WritesWinner, limits_of};
+ghost use Rattle.endgame_run.specs.Verdict.{AreNeededRegions, AreSteps, AreStepsFor, AskShelf, AskToPlay, AskToSolve, IsVerdict, IsPositionAnswer, NeedRegions, ReadShelf, ReadSource, WritesMove, WritesWinner, limits_of};
 
 use crate::calc::run_calc;
 use crate::ending::finish;
@@ -71,7 +71,7 @@ fn answer<H: Shelf, S: Source, L: Ledger>(
 ) -> Result<Report, AllocError>
     requires ranges { HasRanges settings.now }
     requires modest { IsModest inquiry.now.question }
-    ensures answer { IfOk result (λ report. IsAnswer inquiry.now.question
+    ensures answer { IfOk result (λ report. IsVerdict inquiry.now.question
         (told_of (world (H.files shelf.old) (S.left lines.old)) inquiry.now.word.now)
         (count_of (H.faults shelf.old) (S.faults lines.old) inquiry.now.word.now)
         (count_of (H.faults shelf.new) (S.faults lines.new) inquiry.now.word.now)

@@ -31,7 +31,7 @@ use Rattle.local_graph.specs.declared.graph.TheConstants.{MOST_POSITIONS}
 use Rattle.benson_life.specs.Held.{IsHeld, HasPoints}
 use Rattle.benson_life.proofs.HeldLemmas.{short}
 use Rattle.whole_rules.specs.declared.money.Token.{Token}
-use Rattle.whole_rules.specs.Opening.{IsOpening, IsStart, komi_points}
+use Rattle.whole_rules.specs.Opening.{IsOpening, GivesAtStart, komi_points}
 use Rattle.whole_rules.specs.Purses.{purse}
 use Rattle.whole_rules.specs.WholeGame.{Whole}
 use Rattle.local_graph.specs.Graph.{Graph}
@@ -239,7 +239,7 @@ held_few g c n few h =
     let taken = number_few _ h.captive (length g.cells) (λ p w. w.1.0) h.captives in
     omega (arith, few, free, taken, h.sum)
 
-start_few : (g : Board) (c : Colour) (tax : Bool) (n : ℕ) → length g.cells ≤ 625 → IsStart g c tax n → n ≤ 1875
+start_few : (g : Board) (c : Colour) (tax : Bool) (n : ℕ) → length g.cells ≤ 625 → GivesAtStart g c tax n → n ≤ 1875
 start_few g c false n few held = held_few g c n few held
 start_few g c true n few (groups, _, held) = omega (arith, held_few g c (n + 2 * groups) few held)
 

@@ -31,7 +31,7 @@ use Rattle.go_grid.specs.declared.grid.Colour.{Colour}
 use Rattle.go_grid.specs.declared.grid.Colour.TheVariants.{Black, White}
 use Rattle.local_play.specs.declared.local_move.LocalMove.{LocalMove}
 use Rattle.local_play.specs.LocalPlay.{IsLocalMove, IsNumberTaken}
-use Rattle.local_play.specs.Moves.{IsMoveFrom, ListsMoves}
+use Rattle.local_play.specs.Moves.{IsMoveFrom, ListsLocalMoves}
 use Rattle.local_play.proofs.PackLemmas.{pack_same}
 use Rattle.local_graph.specs.FiniteLocalPlay.{HasNoCycle}
 use Rattle.local_graph.specs.inner.Graph.{edges_at, no_edge}
@@ -320,7 +320,7 @@ module _ {q : Region} (r : Region) {h : Graph} {Paired : ℕ → ℕ → Type 0}
         let (f, among, is, less) = s.from (get_or es k no_edge) (Contains-get_or es k no_edge lt) in
         subst (λ e. e.place < 32) (sym is) (own_small i f among)
 
-    lists : ListsMoves r.touch w.turned (map move_for es)
+    lists : ListsLocalMoves r.touch w.turned (map move_for es)
     lists = record {
       legal = λ m (k, lt, is).
           let short : k < length es = omega (arith, lt, length-map es move_for) in

@@ -9,7 +9,7 @@ use Rattle.short_games.specs.Tree.{Tree, tree_at, neg}
 use Rattle.game_store.specs.Meaning.{Extends, AreIds, AreCanonical}
 use Rattle.game_canon.specs.Outcomes.{AreWithin, IsCanonicalId}
 use Rattle.local_value.specs.PositionTree.{IsValueOf}
-use Rattle.endgame_solver.specs.Faults.{AreRefused, AreSmall, most_steps}
+use Rattle.endgame_solver.specs.Faults.{AreRefused, AreSmallRegions, most_steps}
 use Rattle.endgame_solver.specs.inner.Held.{ids_at, most_units}
 use Rattle.endgame_solver.specs.Regions.{no_region, region_at}
 use Rattle.endgame_solver.specs.inner.Regions.{no_graph, graph_at}
@@ -95,7 +95,7 @@ module _ (limits : Limits) (regions : List Region) where
 
 -- the fault of a region before which all are sound is the refusal
 pub refused_at : {limits : Limits} {regions : List Region} {graphs : List Graph} {values : List (List ℕ)} {Ts : List Tree} {n : ℕ}
-    → n < length regions → AreSmall regions
+    → n < length regions → AreSmallRegions regions
     → AreSolvedBelow limits regions graphs values Ts n → (e : SolveError) → IsRefusalOf limits (region_at regions n) e → AreRefused limits regions e
 refused_at lt small s (Points p m) h = absurd h
 refused_at {n = n} lt small s (Positions p) h = (small, (n, lt, h, λ j less. (s.each j less).sound))
@@ -462,7 +462,7 @@ pub next_seen : {limits : Limits} {regions : List Region} {shared : List Graph} 
     {kinds lent : List Kind} {Ts Us : List Tree}
     {n : ℕ} {r : Region} {x : List Spot} {t : Turn} {v : View} (j : ℕ) (kind : Kind) → lent ≡ kinds
     → SharesBelow limits regions shared held views kinds Ts n
-    → n < length regions → AreSmall regions → r ≡ region_at regions n → HasSpots lent j x → get_or kinds j kind ≡ kind → IsShape r r.cells x t
+    → n < length regions → AreSmallRegions regions → r ≡ region_at regions n → HasSpots lent j x → get_or kinds j kind ≡ kind → IsShape r r.cells x t
     → IsViewFor (length r.points) j t kind held held' Us v → (more : List (List ℕ)) × (held' ≡ held ++ more) → Extends Ts Us → HaveForms Us → views' ≡ views ++ v ∷ []
     → SharesBelow limits regions shared held' views' kinds Us (n + 1)
 next_seen {limits} {regions} {shared} {held} {held'} {views} {kinds =

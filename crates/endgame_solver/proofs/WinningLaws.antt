@@ -26,7 +26,7 @@ use Rattle.endgame_solver.specs.Solved.{ArePresent, balance_units}
 use Rattle.endgame_solver.specs.SumGame.{balance}
 use Rattle.endgame_solver.specs.inner.Held.{AreModest, AreSolvedAt, AreSummed, HasRoom, IsAt, IsFirstStone, IsStoneAt, IsStoneEdge, ids_at, place_at}
 use Rattle.endgame_solver.specs.inner.Sharing.{AreSharedBy}
-use Rattle.endgame_solver.specs.inner.Views.{IsHeld, ShowsAll, ShowsPlaces, own, seen_graph, seen_ids, view_at}
+use Rattle.endgame_solver.specs.inner.Views.{IsHeldInBook, ShowsAll, ShowsPlaces, own, seen_graph, seen_ids, view_at}
 use Rattle.endgame_solver.specs.declared.limits.Limits.{Limits}
 use Rattle.endgame_solver.specs.declared.view_book.Book.{Book}
 use Rattle.endgame_solver.specs.declared.views.View.{View}
@@ -295,16 +295,16 @@ sum_is book graphs values n sum shows many long each = ext_get_or 0 sum (map (λ
     each k (omega (arith, lt, long)) ∙ ap (λ ids. get_or ids 0 0) (shows.each k short).same
     ∙ sym (get_or-map (λ ids. get_or ids 0 0) values k [] 0 (omega (arith, short, many))))
 
-module _ {regions : List Region} {book : Book} {places ids : List ℕ} {Ts : List Tree} {s : Whole} (held : IsHeld regions book places ids Ts s) where
+module _ {regions : List Region} {book : Book} {places ids : List ℕ} {Ts : List Tree} {s : Whole} (held : IsHeldInBook regions book places ids Ts s) where
   -- another state that keeps as much
   pub held_as : {places' ids' : List ℕ} {t : Whole} → AreSolvedAt regions held.graphs held.values places' ids' Ts t
-      → IsHeld regions book places' ids' Ts t
+      → IsHeldInBook regions book places' ids' Ts t
   held_as kept = record { graphs = held.graphs; values = held.values; views_are = held.views_are; shapes = held.shapes; kept = kept }
 
   -- the same of lists that are lent
   pub held_lent : {regions' : List Region} {places' ids' : List ℕ} → regions' ≡ regions → places' ≡ places → ids' ≡ ids
-      → IsHeld regions' book places' ids' Ts s
-  held_lent er ep ei = subst (λ T. T) (λ i. IsHeld (sym er i) book (sym ep i) (sym ei i) Ts s) held
+      → IsHeldInBook regions' book places' ids' Ts s
+  held_lent er ep ei = subst (λ T. T) (λ i. IsHeldInBook (sym er i) book (sym ep i) (sym ei i) Ts s) held
 
   pub shows_places : {rs : List Region} {ps : List ℕ} → rs ≡ regions → ps ≡ places → ShowsPlaces rs book ps
   shows_places lent at = subst (λ T. T) (λ i. ShowsPlaces (sym lent i) book (sym at i)) record {
@@ -340,7 +340,7 @@ module _ {regions : List Region} {book : Book} {places ids : List ℕ} {Ts : Lis
   held_bounds {m} modest number = subst (IsBounded (pick Ts ids)) (sym number) (fits held.kept.solved held.kept.at ids held.kept.summed m modest)
 
 -- a stone that the book shows: what may be asked of the book for it, and what the sum and the purses are that it leaves
-module _ {regions rs : List Region} {book : Book} {places ps ids : List ℕ} {Ts : List Tree} {s : Whole} (held : IsHeld regions book places ids Ts s)
+module _ {regions rs : List Region} {book : Book} {places ps ids : List ℕ} {Ts : List Tree} {s : Whole} (held : IsHeldInBook regions book places ids Ts s)
     (lent : rs ≡ regions) (at : ps ≡ places) {d : Colour} (side : d ≡ s.side) where
   shows_lent : ShowsAll book held.graphs held.values (length rs)
   shows_lent = subst (λ xs. ShowsAll book held.graphs held.values (length xs)) (sym lent) held.views_are
@@ -350,7 +350,7 @@ module _ {regions rs : List Region} {book : Book} {places ps ids : List ℕ} {Ts
       → (k : ℕ) (e : Edge) → ¬ IsStoneEdge regions held.graphs places s.side p k e
   stone_none {p} none k e x = none held.graphs held.values shows_lent k e (edge_seen held.graphs p k e (sym lent) (sym at) (sym side) x)
 
-module _ {regions rs : List Region} {book : Book} {places ps ids : List ℕ} {Ts : List Tree} {s : Whole} (held : IsHeld regions book places ids Ts s)
+module _ {regions rs : List Region} {book : Book} {places ps ids : List ℕ} {Ts : List Tree} {s : Whole} (held : IsHeldInBook regions book places ids Ts s)
     (lent : rs ≡ regions) (at : ps ≡ places) {d : Colour} (side : d ≡ s.side) {p k : ℕ} {e : Edge}
     (found : (graphs : List Graph) (values : List (List ℕ)) → ShowsAll book graphs values (length rs) → IsStoneEdge rs graphs ps d p k e) where
   stone_seen : IsStoneEdge regions held.graphs places s.side p k e
@@ -376,7 +376,7 @@ module _ {regions rs : List Region} {book : Book} {places ps ids : List ℕ} {Ts
     stone_value = ap (λ z. get_or z e.next 0) (sym (ids_seen held stone_seen.known)) ∙ sym value
 
     -- the game after it
-    pub stone_held : (t : Whole) → IsMove s (Stone p) t → IsHeld regions book (set places k e.next) (set ids k v) Ts t
+    pub stone_held : (t : Whole) → IsMove s (Stone p) t → IsHeldInBook regions book (set places k e.next) (set ids k v) Ts t
     stone_held t m = held_as held (subst (λ w. AreSolvedAt regions held.graphs held.values (set places k e.next) (set ids k w) Ts t) stone_value
         (kept_stone held.kept t stone_seen m))
 

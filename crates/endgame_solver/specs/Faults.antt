@@ -47,8 +47,8 @@ IsFaultOf limits r (Form p) = (p ≡ lowest r) × ¬ MoreThan r.touch r.cells li
 IsFaultOf limits r (Memory e) = ⊥
 
 -- each region has at most 32 points
-abbrev pub AreSmall : List Region → Type 0
-AreSmall regions = (r : Region) → Contains regions r → length r.points ≤ 32
+abbrev pub AreSmallRegions : List Region → Type 0
+AreSmallRegions regions = (r : Region) → Contains regions r → length r.points ≤ 32
 
 -- the first region with more than 32 points
 abbrev pub IsFirstLarge : List Region → ℕ → ℕ → Type 0
@@ -64,7 +64,7 @@ IsFirstFault limits regions fault = (k : ℕ) × (k < length regions) × IsFault
 abbrev pub AreRefused : Limits → List Region → SolveError → Type 0
 AreRefused limits regions (Points p n) = IsFirstLarge regions p n
 AreRefused limits regions (Memory e) = Unit {0}
-AreRefused limits regions fault = AreSmall regions × IsFirstFault limits regions fault
+AreRefused limits regions fault = AreSmallRegions regions × IsFirstFault limits regions fault
 
 -- the greatest number of steps: for each region the limit, or 3 to its points where that is less
 abbrev pub most_steps : Limits → List Region → ℕ

@@ -2,7 +2,7 @@
 
 ghost use Rattle.std.specs.Prelude.{◌≡◌, ℕ, ◌+◌, ◌^◌, ◌<◌, ◌≤◌, All, IfErr, IfOk, OnOk, length, map, min};
 ghost use Rattle.game_store.specs.Meaning.{Extends};
-ghost use Rattle.endgame_solver.specs.Faults.{named, AreRefused, AreSmall, most_steps};
+ghost use Rattle.endgame_solver.specs.Faults.{named, AreRefused, AreSmallRegions, most_steps};
 ghost use Rattle.endgame_solver.specs.Regions.{region_at};
 ghost use Rattle.endgame_solver.specs.inner.Sharing.{AreSharedBy, SharesBelow};
 ghost use Rattle.endgame_solver.specs.inner.Solving.{IsGraphWithin, IsRefusalOf, IsSolvedBy};
@@ -121,7 +121,7 @@ fn solve_next<L: Ledger>(
     steps: &mut Steps<L>,
 ) -> Result<(), SolveError>
     requires number { number < length regions.now }
-    requires small { AreSmall regions.now }
+    requires small { AreSmallRegions regions.now }
     requires limit { limits.now.positions ≤ MOST_POSITIONS }
     requires before { SharesBelow limits.now regions.now book.old.graphs.items
         book.old.values.items book.old.views.items
@@ -163,7 +163,7 @@ pub(crate) fn solve_regions<L: Ledger>(
     store: &mut Store,
     steps: &mut Steps<L>,
 ) -> Result<Book, SolveError>
-    requires small { AreSmall regions.now }
+    requires small { AreSmallRegions regions.now }
     requires limit { limits.now.positions ≤ MOST_POSITIONS }
     ensures solved { IfOk result (λ book. AreSharedBy limits.now regions.now book store.new) }
     ensures refusal { IfErr result (λ e. AreRefused limits.now regions.now e) }

@@ -63,7 +63,7 @@ pub struct Solved {
 
 impl Model for Solved {
     ghost use Rattle.endgame_solver.specs.Solved.{Solved};
-    ghost use Rattle.endgame_solver.specs.inner.Views.{IsHeld};
+    ghost use Rattle.endgame_solver.specs.inner.Views.{IsHeldInBook};
     ghost use Rattle.sum_outcome.specs.Memo.{Fits};
     ghost use Rattle.endgame_solver.specs.Code.{solved_code};
 
@@ -73,7 +73,7 @@ impl Model for Solved {
 
     ghost view = { λ s. record { regions = s.regions.items; trees = s.store; state = s.whole } };
 
-    ghost invariant = { λ s. IsHeld s.regions.items s.book s.places.items s.sum.items
+    ghost invariant = { λ s. IsHeldInBook s.regions.items s.book s.places.items s.sum.items
         s.store s.whole × Fits s.store s.search };
 }
 

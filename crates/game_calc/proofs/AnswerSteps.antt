@@ -9,7 +9,7 @@ use Rattle.game_canon.specs.declared.order.Order.TheVariants.{Less, Equal, Great
 use Rattle.short_games.proofs.ReductionLaws.{same-canonical}
 use Rattle.game_lines.specs.Showings.{IsUnshown}
 use Rattle.game_calc.specs.inner.Amounts.{IsAmount}
-use Rattle.game_calc.specs.Answer.{IsAnswer, IsOrderText, IsPastLimit}
+use Rattle.game_calc.specs.Answer.{IsLineAnswer, IsOrderText, IsPastLimit}
 use Rattle.game_calc.specs.inner.Answer.{IsShownRefusal, IsUnanswered}
 use Rattle.game_calc.specs.Expression.{Expression, tree_of}
 use Rattle.game_calc.specs.Expression.Line.{value, order}
@@ -45,7 +45,7 @@ order-as o G H K L p q = at o
     at Confused r = (not-under r.0, not-over r.1)
 
 pub order-answered : (Ts : List Tree) (limit : ℕ) (E F : Expression) (a b : ℕ) (m n : Amount) (text : List ℕ) → m ≡ Known a → n ≡ Known b → IsOrderText (tree_at Ts a) (tree_at Ts b) text → IsAmount Ts limit E m → IsAmount Ts limit F n
-    → (IsPastLimit limit (order E F) → ⊥) × IsAnswer (order E F) text
+    → (IsPastLimit limit (order E F) → ⊥) × IsLineAnswer (order E F) text
 order-answered Ts limit E F a b m n text e f (o, r, is) v w =
     let p = subst (IsAmount Ts limit E) e v in
     let q = subst (IsAmount Ts limit F) f w in (

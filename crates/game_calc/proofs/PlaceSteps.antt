@@ -19,7 +19,7 @@ use Rattle.game_canon.specs.Reachable.{AreReachable}
 use Rattle.game_canon.proofs.NumberParts.{within-bounds}
 use Rattle.game_calc.specs.Steps.{IsPlace, IsOutOfLimits, IsStepRefusal}
 use Rattle.game_calc.specs.inner.Steps.{IsPairRefusal}
-use Rattle.game_calc.specs.inner.Table.{AreRight, AreRowsKnown}
+use Rattle.game_calc.specs.inner.Table.{AreNotedSumsRight, AreRowsKnown}
 
 -- what a form is made of are its places
 place-of : (Ts : List Tree) → HaveForms Ts → (G : Tree) (id : ℕ) → id < length Ts → IsReached G (tree_at Ts id) → IsPlace G (tree_at Ts id)
@@ -57,13 +57,13 @@ root-known Ts a b note is js distinct first second p q rows =
     let r = rows i.0 i.1 i.1 j.0 j.1 in
     (r.0, subst (λ z. note a z ≡ Some r.0) f (subst (λ z. note z (get_or js j.0 0) ≡ Some r.0) e r.1))
 
-pub root-sum : (Ts Us : List Tree) (limit a b k : ℕ) (note : ℕ → ℕ → Option ℕ) → Extends Ts Us → a < length Ts → b < length Ts → AreRight Us limit note → note a b ≡ Some k → IsCanonicalId Us (tree_at Ts a +ᵍ tree_at Ts b) k
+pub root-sum : (Ts Us : List Tree) (limit a b k : ℕ) (note : ℕ → ℕ → Option ℕ) → Extends Ts Us → a < length Ts → b < length Ts → AreNotedSumsRight Us limit note → note a b ≡ Some k → IsCanonicalId Us (tree_at Ts a +ᵍ tree_at Ts b) k
 root-sum Ts Us limit a b k note x first second right e =
     subst (λ t. IsCanonicalId Us t k) (ap (λ t. t +ᵍ tree_at Us b) (x.same a first) ∙ ap (λ t. tree_at Ts a +ᵍ t) (x.same b second)) (right a b k e).sum
 
 -- where each sum was made, the step is within the limits
 pub all-within : (Ts Us : List Tree) (limit : ℕ) (G H : Tree) (note : ℕ → ℕ → Option ℕ) (is js : List ℕ) → Extends Ts Us → HaveForms Us → AreReachable Ts G is → AreReachable Ts H js → AreRowsKnown note is js (length is)
-    → AreRight Us limit note → IsOutOfLimits limit G H → ⊥
+    → AreNotedSumsRight Us limit note → IsOutOfLimits limit G H → ⊥
 all-within Ts Us limit G H note is js x forms p q rows right (X, Y, first, second, large) =
     let i = place-in Ts G is p X first in
     let j = place-in Ts H js q Y second in

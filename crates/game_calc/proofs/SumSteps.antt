@@ -24,7 +24,7 @@ use Rattle.game_canon.proofs.GameLaws.{has-left, left-has, has-right, right-has}
 use Rattle.game_canon.proofs.Sizes.{number-same}
 use Rattle.game_canon.proofs.SideLaws.{pick-append}
 use Rattle.game_calc.specs.inner.Steps.{IsPairRefusal}
-use Rattle.game_calc.specs.inner.Table.{AreNoted, AddsMoves, AreRight}
+use Rattle.game_calc.specs.inner.Table.{AreNoted, AddsMoves, AreNotedSumsRight}
 
 -- each tree of the one list is equal as a game to one of the other
 pub record AreAlike (As Bs : Trees) : Type 0 where
@@ -98,7 +98,7 @@ translated G N canonical other n =
     subst (λ t. (G +ᵍ t) ≡ᵍ node (each_plus (left G) t) (each_plus (right G) t)) (sym n.2) (translation n.0 G n.1 (cheap_left G hot n.0) (cheap_right G hot n.0))
 
 -- the form of the options that are noted is equal to the sum
-module _ (Ts : List Tree) (limit : ℕ) (note : ℕ → ℕ → Option ℕ) (right_sums : AreRight Ts limit note) (a b : ℕ) (first : IsCanonicalTree (tree_at Ts a)) (second : IsCanonicalTree (tree_at Ts b)) where
+module _ (Ts : List Tree) (limit : ℕ) (note : ℕ → ℕ → Option ℕ) (right_sums : AreNotedSumsRight Ts limit note) (a b : ℕ) (first : IsCanonicalTree (tree_at Ts a)) (second : IsCanonicalTree (tree_at Ts b)) where
   A : Tree
   A = tree_at Ts a
 
@@ -194,7 +194,7 @@ pub record IsPairForm (Ts : List Tree) (a b : ℕ) (ms ns : List ℕ) : Type 0 w
   pub right_ids : AreIds Ts ns
   pub equal : (tree_at Ts a +ᵍ tree_at Ts b) ≡ᵍ listed Ts ms ns
 
-pub pair-form : (Ts : List Tree) (limit : ℕ) (note : ℕ → ℕ → Option ℕ) (a b : ℕ) (ks js ls rs vs ws ms ns : List ℕ) → AreRight Ts limit note → AreCanonical Ts → a < length Ts → b < length Ts
+pub pair-form : (Ts : List Tree) (limit : ℕ) (note : ℕ → ℕ → Option ℕ) (a b : ℕ) (ks js ls rs vs ws ms ns : List ℕ) → AreNotedSumsRight Ts limit note → AreCanonical Ts → a < length Ts → b < length Ts
     → (IsNumberTree (tree_at Ts a) → IsNumberTree (tree_at Ts b) → ⊥) → ks ≡ [] → js ≡ [] → AddsMoves Ts (λ i. note i b) a ks js ls rs → AddsMoves Ts (λ i. note a i) b ls rs vs ws → ms ≡ vs → ns ≡ ws → IsPairForm Ts a b ms ns
 pair-form Ts limit note a b ks js ls rs vs ws ms ns right canonical first second other none-left none-right f s e g =
     let none : AreIds Ts [] = λ j l. absurd (omega (arith, l)) in

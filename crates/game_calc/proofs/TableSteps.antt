@@ -15,7 +15,7 @@ use Rattle.game_canon.specs.inner.Changes.{AreClosed, AreKnown}
 use Rattle.game_canon.specs.Outcomes.{IsCanonicalId}
 use Rattle.game_canon.proofs.ChangeSteps.{extends-on}
 use Rattle.game_canon.proofs.GameLaws.{left-has, right-has}
-use Rattle.game_calc.specs.inner.Table.{AreNoted, AddsSums, AreRight, IsRightSum, Grows, AreRowsKnown, AreInnerKnown, AreMovesKnown, with_sum}
+use Rattle.game_calc.specs.inner.Table.{AreNoted, AddsSums, AreNotedSumsRight, IsRightSum, Grows, AreRowsKnown, AreInnerKnown, AreMovesKnown, with_sum}
 use Rattle.game_canon.specs.Comparisons.{same_pair}
 
 -- the loop over the options of one side
@@ -106,7 +106,7 @@ with-cases note a b s c d = elim (cases_Bool (same_pair (a, b) (c, d))) [
   | inr e ↦ inr (ap (λ t. cond t (Some s) (note c d)) e)
 ]
 
-pub right-more : (Us Vs : List Tree) (limit : ℕ) (note after : ℕ → ℕ → Option ℕ) (a b s : ℕ) → AreRight Us limit note → Extends Us Vs → IsRightSum Vs limit a b s → ((c d : ℕ) → after c d ≡ with_sum note a b s c d) → AreRight Vs limit after
+pub right-more : (Us Vs : List Tree) (limit : ℕ) (note after : ℕ → ℕ → Option ℕ) (a b s : ℕ) → AreNotedSumsRight Us limit note → Extends Us Vs → IsRightSum Vs limit a b s → ((c d : ℕ) → after c d ≡ with_sum note a b s c d) → AreNotedSumsRight Vs limit after
 right-more Us Vs limit note after a b s right x new e c d k is = elim (with-cases note a b s c d) [
   | inl w ↦ (let same : s ≡ k = some-same s k (sym w.2 ∙ sym (e c d) ∙ is) in subst (λ z. IsRightSum Vs limit c d z) same (subst (λ z. IsRightSum Vs limit c z s) w.1 (subst (λ z. IsRightSum Vs limit z b s) w.0 new)))
   | inr w ↦ right-kept Us Vs limit c d k x (right c d k (sym w ∙ sym (e c d) ∙ is))
@@ -124,7 +124,7 @@ grows-on f g h p q a b k e = let r = p a b k e in q a b r.0 r.1
 -- a row: the sums of a with the first n of the places
 pub record IsRow (Ts Us : List Tree) (limit a : ℕ) (start note : ℕ → ℕ → Option ℕ) (js : List ℕ) (n : ℕ) : Type 0 where
   pub kept : Extends Ts Us
-  pub right : AreRight Us limit note
+  pub right : AreNotedSumsRight Us limit note
   pub grows : Grows start note
   pub known : (j : ℕ) → j < n → j < length js → (k : ℕ) × (note a (get_or js j 0) ≡ Some k)
 
@@ -169,7 +169,7 @@ module _ (Ts Us : List Tree) (limit a : ℕ) (start note : ℕ → ℕ → Optio
 -- the rows of the first n places
 pub record AreRows (Ts Us : List Tree) (limit : ℕ) (note : ℕ → ℕ → Option ℕ) (is js : List ℕ) (n : ℕ) : Type 0 where
   pub kept : Extends Ts Us
-  pub right : AreRight Us limit note
+  pub right : AreNotedSumsRight Us limit note
   pub known : AreRowsKnown note is js n
 
 module _ (Ts Us : List Tree) (limit : ℕ) (note : ℕ → ℕ → Option ℕ) (is js : List ℕ) (n : ℕ) (rows : AreRows Ts Us limit note is js n) (closed : AreClosed Ts is) (l : n < length is) where
@@ -179,7 +179,7 @@ module _ (Ts Us : List Tree) (limit : ℕ) (note : ℕ → ℕ → Option ℕ) (
     λ q k m. (let p = place-right Ts Us is n distinct closed rows.kept l ls rs o q m in subst (λ z. AreKnown (λ b. note z b) js) p.3 (rows.known p.0 p.1 p.2)),
   )
 
-  pub rows-step : (Vs : List Tree) (after : ℕ → ℕ → Option ℕ) → Extends Us Vs → AreRight Vs limit after → Grows note after → AreKnown (λ b. after (get_or is n 0) b) js → AreRows Ts Vs limit after is js (n + 1)
+  pub rows-step : (Vs : List Tree) (after : ℕ → ℕ → Option ℕ) → Extends Us Vs → AreNotedSumsRight Vs limit after → Grows note after → AreKnown (λ b. after (get_or is n 0) b) js → AreRows Ts Vs limit after is js (n + 1)
   rows-step Vs after x right grows known = record {
     kept = extends-on Ts Us Vs rows.kept x;
     right = right;

@@ -6,7 +6,7 @@ use Rattle.std.proofs.lemmas.List.{length-append, length-drop}
 use Rattle.std.proofs.lemmas.List.Folds.{drop_split}
 use Rattle.short_games.specs.Tree.{Tree}
 use Rattle.game_store.specs.Meaning.{Extends}
-use Rattle.game_text.specs.Reading.{ReadsText, Refuses, IsReadRefusal, Fault as NameFault}
+use Rattle.game_text.specs.Reading.{ReadsText, RefusesText, IsReadRefusal, Fault as NameFault}
 use Rattle.game_text.specs.declared.errors.ReadError.{ReadError}
 use Rattle.game_text.specs.Reading.Fault.{bad_byte, bad_number, cut_short}
 use Rattle.game_canon.specs.Outcomes.{IsCanonicalId}
@@ -54,26 +54,26 @@ module _ (limit : ℕ) (text : List ℕ) (spot : ℕ) (t : Token) (w : IsTokenAt
   name-length : length (slice_range text t.start t.end) + t.start ≡ t.end
   name-length = omega (arith, ap length (drop_split text t.start t.end w.forward.1), length-append (slice_range text t.start t.end) (drop t.end text), length-drop t.start text, length-drop t.end text, w.within, w.forward.1)
 
-  pub other-told : (f : NameFault) (e : CalcError) → Refuses limit (slice_range text t.start t.end) f → IsTold text (fault_of f (rest (drop spot text))) e → IsGameRefusal limit text spot e
+  pub other-told : (f : NameFault) (e : CalcError) → RefusesText limit (slice_range text t.start t.end) f → IsTold text (fault_of f (rest (drop spot text))) e → IsGameRefusal limit text spot e
   other-told f e h told = inr (fault_of f (rest (drop spot text)), (λ n. a_game n (drop spot text) (Err f) (subst (λ z. ReadsText limit z (Err f)) w.token_is h)), told)
 
   name-place : (place : ℕ) (xs : List ℕ) → place + length xs ≡ length (slice_range text t.start t.end) → (t.start + place) + length (xs ++ rest (drop spot text)) ≡ length text
   name-place place xs e = omega (arith, e, length-append xs (rest (drop spot text)), rest-length, name-length)
 
-  pub byte-told : (place : ℕ) → (xs : List ℕ) × Refuses limit (slice_range text t.start t.end) (bad_byte xs) × (place + length xs ≡ length (slice_range text t.start t.end)) → IsGameRefusal limit text spot (calc.Fault (fault.Byte (t.start + place)))
+  pub byte-told : (place : ℕ) → (xs : List ℕ) × RefusesText limit (slice_range text t.start t.end) (bad_byte xs) × (place + length xs ≡ length (slice_range text t.start t.end)) → IsGameRefusal limit text spot (calc.Fault (fault.Byte (t.start + place)))
   byte-told place (xs, h, e) = other-told (bad_byte xs) _ h (t.start + place, refl, name-place place xs e)
 
-  pub number-told : (place : ℕ) → (xs : List ℕ) × Refuses limit (slice_range text t.start t.end) (bad_number xs) × (place + length xs ≡ length (slice_range text t.start t.end)) → IsGameRefusal limit text spot (calc.Fault (fault.Number (t.start + place)))
+  pub number-told : (place : ℕ) → (xs : List ℕ) × RefusesText limit (slice_range text t.start t.end) (bad_number xs) × (place + length xs ≡ length (slice_range text t.start t.end)) → IsGameRefusal limit text spot (calc.Fault (fault.Number (t.start + place)))
   number-told place (xs, h, e) = other-told (bad_number xs) _ h (t.start + place, refl, name-place place xs e)
 
-  pub blank-told : Refuses limit (slice_range text t.start t.end) cut_short → t.end < length text → IsGameRefusal limit text spot (calc.Fault (fault.Byte t.end))
+  pub blank-told : RefusesText limit (slice_range text t.start t.end) cut_short → t.end < length text → IsGameRefusal limit text spot (calc.Fault (fault.Byte t.end))
   blank-told h l = other-told cut_short _ h (at (rest (drop spot text)) rest-length)
     where
       at : (ys : List ℕ) → t.end + length ys ≡ length text → IsTold text (fault_of cut_short ys) (calc.Fault (fault.Byte t.end))
       at [] e = absurd (omega (arith, l, e))
       at (y ∷ ys) e = (t.end, refl, e)
 
-  pub end-told : Refuses limit (slice_range text t.start t.end) cut_short → (t.end < length text → ⊥) → IsGameRefusal limit text spot (calc.Fault fault.CutShort)
+  pub end-told : RefusesText limit (slice_range text t.start t.end) cut_short → (t.end < length text → ⊥) → IsGameRefusal limit text spot (calc.Fault fault.CutShort)
   end-told h l = other-told cut_short _ h (at (rest (drop spot text)) rest-length)
     where
       at : (ys : List ℕ) → t.end + length ys ≡ length text → IsTold text (fault_of cut_short ys) (calc.Fault fault.CutShort)

@@ -28,9 +28,9 @@ abbrev pub IsOrderText : Tree → Tree → List ℕ → Type 0
 IsOrderText G H text = (o : Order) × IsOrder o G H × (text ≡ word_line (codes "order") (order_word o))
 
 -- the lines that show the canonical tree of a sum, or the line of the order of two
-abbrev pub IsAnswer : Line → List ℕ → Type 0
-IsAnswer (value E) text = (C : Tree) × IsCanonicalFor (tree_of E) C × (drawn : Picture) × IsPicture C drawn × (text ≡ game_lines (named_text C) drawn)
-IsAnswer (order E F) text = IsOrderText (tree_of E) (tree_of F) text
+abbrev pub IsLineAnswer : Line → List ℕ → Type 0
+IsLineAnswer (value E) text = (C : Tree) × IsCanonicalFor (tree_of E) C × (drawn : Picture) × IsPicture C drawn × (text ≡ game_lines (named_text C) drawn)
+IsLineAnswer (order E F) text = IsOrderText (tree_of E) (tree_of F) text
 
 -- a step is out of limits, or the value isn't shown
 abbrev pub IsPastLimit : ℕ → Line → Type 0
@@ -39,16 +39,16 @@ IsPastLimit limit (order E F) = HasStepOutOfLimits limit E ⊎ HasStepOutOfLimit
 
 -- the line is read and within the limits, and the text is its answer
 abbrev pub IsAnswered : ℕ → List ℕ → List ℕ → Type 0
-IsAnswered limit expression text = (line : Line) × ReadsLine limit expression (Ok line) × (IsPastLimit limit line → ⊥) × IsAnswer line text
+IsAnswered limit expression text = (line : Line) × ReadsLine limit expression (Ok line) × (IsPastLimit limit line → ⊥) × IsLineAnswer line text
 
 -- the line is refused with a fault at this place, counted from 0
-abbrev pub RefusesAt : ℕ → List ℕ → (List ℕ → Fault) → ℕ → Type 0
-RefusesAt limit expression f place = (rest : List ℕ) × ReadsLine limit expression (Err (f rest)) × (place + length rest ≡ length expression)
+abbrev pub RefusesLineAt : ℕ → List ℕ → (List ℕ → Fault) → ℕ → Type 0
+RefusesLineAt limit expression f place = (rest : List ℕ) × ReadsLine limit expression (Err (f rest)) × (place + length rest ≡ length expression)
 
 -- why a line has no answer: it is refused with a fault, it is past a limit, or there is want of memory
 abbrev pub IsCalcRefusal : ℕ → List ℕ → CalcError → Type 0
-IsCalcRefusal limit expression (calc.Fault (fault.Byte place)) = RefusesAt limit expression stray place
-IsCalcRefusal limit expression (calc.Fault (fault.Number place)) = RefusesAt limit expression no_number place
+IsCalcRefusal limit expression (calc.Fault (fault.Byte place)) = RefusesLineAt limit expression stray place
+IsCalcRefusal limit expression (calc.Fault (fault.Number place)) = RefusesLineAt limit expression no_number place
 IsCalcRefusal limit expression (calc.Fault fault.CutShort) = ReadsLine limit expression (Err unfinished)
 IsCalcRefusal limit expression (calc.Fault fault.Deep) = ReadsLine limit expression (Err deep)
 IsCalcRefusal limit expression calc.Limit = ReadsLine limit expression (Err large) ⊎ ((line : Line) × ReadsLine limit expression (Ok line) × IsPastLimit limit line)

@@ -3,5 +3,5 @@ use Rattle.std.specs.Prelude.{ℕ, ◌≡◌, List, Result}
 use Rattle.game_calc.specs.Expression.{Line, Fault, ReadsLine}
 
 -- reading a line comes to one thing
-abbrev pub OneReading : Type 0
-OneReading = (limit : ℕ) (text : List ℕ) (one other : Result Line Fault) → ReadsLine limit text one → ReadsLine limit text other → one ≡ other
+abbrev pub OneLineReading : Type 0
+OneLineReading = (limit : ℕ) (text : List ℕ) (one other : Result Line Fault) → ReadsLine limit text one → ReadsLine limit text other → one ≡ other

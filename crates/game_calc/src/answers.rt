@@ -3,7 +3,7 @@
 ghost use Rattle.std.specs.Prelude.{◌≡◌, ◌<◌, ℕ, IfOk, IfErr, length};
 ghost use Rattle.short_games.specs.Tree.{tree_at};
 ghost use Rattle.game_calc.specs.inner.Amounts.{IsAmount, IsHeld};
-ghost use Rattle.game_calc.specs.Answer.{IsAnswer, IsAnswered, IsCalcRefusal, IsOrderText, IsPastLimit, order_word};
+ghost use Rattle.game_calc.specs.Answer.{IsLineAnswer, IsAnswered, IsCalcRefusal, IsOrderText, IsPastLimit, order_word};
 ghost use Rattle.game_calc.specs.inner.Answer.{IsShown, IsShownRefusal, IsUnanswered};
 ghost use Rattle.game_calc.specs.Expression.{Expression, Line};
 ghost use Rattle.game_calc.specs.inner.Machine.{IsAsked, IsAskedHeld};
@@ -54,7 +54,7 @@ fn value_answer(alloc: Global, store: &Store, amount: Amount) -> Result<Text, Ca
     requires { IsHeld store.now amount }
     ensures text { IfOk result (λ text. (limit : ℕ) (E : Expression)
         → IsAmount store.now limit E amount → (IsPastLimit limit (value E) → ⊥)
-        × IsAnswer (value E) text) }
+        × IsLineAnswer (value E) text) }
     ensures refusal { IfErr result (λ error. (limit : ℕ) (E : Expression)
         → IsAmount store.now limit E amount → IsUnanswered limit (value E) error) }
 {
@@ -87,7 +87,7 @@ fn order_answer(
     requires second { IsHeld store.now second }
     ensures text { IfOk result (λ text. (limit : ℕ) (E F : Expression)
         → IsAmount store.now limit E first → IsAmount store.now limit F second
-        → (IsPastLimit limit (order E F) → ⊥) × IsAnswer (order E F) text) }
+        → (IsPastLimit limit (order E F) → ⊥) × IsLineAnswer (order E F) text) }
     ensures refusal { IfErr result (λ error. (limit : ℕ) (E F : Expression)
         → IsAmount store.now limit E first → IsAmount store.now limit F second
         → IsUnanswered limit (order E F) error) }
@@ -105,7 +105,8 @@ fn order_answer(
 fn answer_asked(alloc: Global, store: &Store, asked: Asked) -> Result<Text, CalcError>
     requires { IsAskedHeld store.now asked }
     ensures text { IfOk result (λ text. (limit : ℕ) (line : Line)
-        → IsAsked store.now limit line asked → (IsPastLimit limit line → ⊥) × IsAnswer line text) }
+        → IsAsked store.now limit line asked
+        → (IsPastLimit limit line → ⊥) × IsLineAnswer line text) }
     ensures refusal { IfErr result (λ error. (limit : ℕ) (line : Line)
         → IsAsked store.now limit line asked → IsUnanswered limit line error) }
 {

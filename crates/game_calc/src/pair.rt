@@ -10,7 +10,7 @@ ghost use Rattle.game_canon.specs.inner.Changes.{AreKnown};
 ghost use Rattle.game_canon.specs.FormComparisons.{AreFormComparisonsRight};
 ghost use Rattle.game_canon.specs.Outcomes.{IsCanonicalId};
 ghost use Rattle.game_calc.specs.inner.Steps.{IsPairRefusal};
-ghost use Rattle.game_calc.specs.inner.Table.{noted, beside, AreNoted, AddsSums, AddsMoves, AreMovesKnown, AreRight};
+ghost use Rattle.game_calc.specs.inner.Table.{noted, beside, AreNoted, AddsSums, AddsMoves, AreMovesKnown, AreNotedSumsRight};
 
 use crate::table::{Summand, Sums, noted_sum};
 use dyadic_num::Dyadic;
@@ -133,7 +133,7 @@ pub(crate) fn pair_sum(
     requires b { b < length store.old }
     requires first { AreMovesKnown store.old (λ i. noted sums.now i b) a }
     requires second { AreMovesKnown store.old (λ i. noted sums.now a i) b }
-    requires right { AreRight store.old parts_limit (noted sums.now) }
+    requires right { AreNotedSumsRight store.old parts_limit (noted sums.now) }
     requires comparisons { AreFormComparisonsRight store.old comparisons.old }
     ensures value { IfOk result (λ id. IsCanonicalId store.new
         (tree_at store.old a +ᵍ tree_at store.old b) id) }

@@ -9,7 +9,7 @@ ghost use Rattle.game_canon.specs.FormComparisons.{AreFormComparisonsRight};
 ghost use Rattle.game_canon.specs.Outcomes.{IsCanonicalId};
 ghost use Rattle.game_calc.specs.Steps.{IsOutOfLimits, IsStepRefusal};
 ghost use Rattle.game_calc.specs.inner.Steps.{IsPairRefusal};
-ghost use Rattle.game_calc.specs.inner.Table.{noted, Grows, AreRight, AreRowsKnown, AreInnerKnown};
+ghost use Rattle.game_calc.specs.inner.Table.{noted, Grows, AreNotedSumsRight, AreRowsKnown, AreInnerKnown};
 
 use crate::pair::pair_sum;
 use crate::table::{Sums, note_sum};
@@ -31,10 +31,10 @@ fn add_row(
     requires a { a < length store.old }
     requires places { AreClosed store.old places.now }
     requires inner { AreInnerKnown store.old (noted sums.old) a places.now }
-    requires right { AreRight store.old parts_limit (noted sums.old) }
+    requires right { AreNotedSumsRight store.old parts_limit (noted sums.old) }
     requires comparisons { AreFormComparisonsRight store.old comparisons.old }
     ensures known { OnOk result (AreKnown (λ i. noted sums.new a i) places.now) }
-    ensures right { OnOk result (AreRight store.new parts_limit (noted sums.new)) }
+    ensures right { OnOk result (AreNotedSumsRight store.new parts_limit (noted sums.new)) }
     ensures comparisons { OnOk result (AreFormComparisonsRight store.new comparisons.new) }
     ensures grows { OnOk result (Grows (noted sums.old) (noted sums.new)) }
     ensures refusal { IfErr result (λ error. (j : ℕ) × (j < length places.now)
@@ -62,11 +62,11 @@ fn add_all(
 ) -> Result<(), FormError>
     requires first { AreClosed store.old first.now }
     requires second { AreClosed store.old second.now }
-    requires right { AreRight store.old parts_limit (noted sums.old) }
+    requires right { AreNotedSumsRight store.old parts_limit (noted sums.old) }
     requires comparisons { AreFormComparisonsRight store.old comparisons.old }
     ensures known { OnOk result (AreRowsKnown (noted sums.new) first.now second.now
         (length first.now)) }
-    ensures right { OnOk result (AreRight store.new parts_limit (noted sums.new)) }
+    ensures right { OnOk result (AreNotedSumsRight store.new parts_limit (noted sums.new)) }
     ensures comparisons { OnOk result (AreFormComparisonsRight store.new comparisons.new) }
     ensures refusal { IfErr result (λ error. (i j : ℕ) × (i < length first.now)
         × (j < length second.now) × IsPairRefusal

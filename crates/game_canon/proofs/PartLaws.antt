@@ -20,7 +20,7 @@ use Rattle.short_games.specs.Parts.IsFollower.{itself, further}
 use Rattle.short_games.proofs.OrderLaws.{size-left, size-right}
 use Rattle.short_games.proofs.TextOrderLaws.{sorted-has, has-sorted}
 use Rattle.game_canon.specs.Followers.{IsIn}
-use Rattle.game_canon.specs.inner.Followers.{IsGrown, IsBelow, AreBelow, HasBelow, HasMoreBelow}
+use Rattle.game_canon.specs.inner.Followers.{IsGrown, IsPartOfOption, ArePartsOfOptions, HasBelow, HasMoreBelow}
 use Rattle.game_canon.proofs.SideLaws.{append-has, has-append_left, has-append_right, one}
 
 pub number-no_more : (G : Tree) (limit : ℕ) → IsNumberTree G → HasMoreParts G limit → ⊥
@@ -124,7 +124,7 @@ grown-insert Ts xs ks us vs y l n e g = grown-both Ts (Has (pick Ts xs)) (Has (p
 -- where the search is: the ids are those of parts, the options of G are among them, and those of the first n
 pub record IsFollowing (Ts : List Tree) (G : Tree) (ks : List ℕ) (n : ℕ) : Type 0 where
   pub ids : AreIds Ts ks
-  pub parts : (j : ℕ) → j < length ks → IsBelow G (tree_at Ts (get_or ks j 0))
+  pub parts : (j : ℕ) → j < length ks → IsPartOfOption G (tree_at Ts (get_or ks j 0))
   pub starts : (X : Tree) → IsOption G X → IsNumberTree X ⊎ IsIn Ts ks X
   pub closed : (j : ℕ) → j < n → j < length ks → (X : Tree) → IsOption (tree_at Ts (get_or ks j 0)) X → IsNumberTree X ⊎ IsIn Ts ks X
 
@@ -143,8 +143,8 @@ pub follow-step : (Ts : List Tree) (G : Tree) (ks us : List ℕ) (n id : ℕ) �
 follow-step Ts G ks us n id w l e g = record {
   ids = λ j k. elim (cases_lt j (length ks)) [ inl d ↦ subst (λ i. i < length Ts) (sym (g.same j d)) (w.ids j d) | inr d ↦ g.below j k d ];
   parts = λ j k. elim (cases_lt j (length ks)) [
-    | inl d ↦ subst (λ i. IsBelow G (tree_at Ts i)) (sym (g.same j d)) (w.parts j d)
-    | inr d ↦ (let p = subst (λ i. IsBelow G (tree_at Ts i)) (sym e) (w.parts n l) in (p.0, p.1, (follower-more p.0 _ _ p.2.0 (g.passes j k d), g.no_number j k d)))
+    | inl d ↦ subst (λ i. IsPartOfOption G (tree_at Ts i)) (sym (g.same j d)) (w.parts j d)
+    | inr d ↦ (let p = subst (λ i. IsPartOfOption G (tree_at Ts i)) (sym e) (w.parts n l) in (p.0, p.1, (follower-more p.0 _ _ p.2.0 (g.passes j k d), g.no_number j k d)))
   ];
   starts = λ X o. number-or Ts ks us g.longer g.same X (w.starts X o);
   closed = λ j k m X o. elim (cases_lt j n) [
@@ -173,9 +173,9 @@ same-place ks d i j k l e = elim (cases_lt i j) [
   ]
 ]
 
-are-below : (Ts : List Tree) (G : Tree) (ks : List ℕ) (n : ℕ) → AreDistinct Ts → IsDistinct nat_eq ks → IsFollowing Ts G ks n → AreBelow G (map (tree_at Ts) ks)
+are-below : (Ts : List Tree) (G : Tree) (ks : List ℕ) (n : ℕ) → AreDistinct Ts → IsDistinct nat_eq ks → IsFollowing Ts G ks n → ArePartsOfOptions G (map (tree_at Ts) ks)
 are-below Ts G ks n d u w = record {
-  each = λ j l. (let k : j < length ks = omega (arith, l, length-map ks (tree_at Ts)) in subst (IsBelow G) (sym (at-map Ts ks j k)) (w.parts j k));
+  each = λ j l. (let k : j < length ks = omega (arith, l, length-map ks (tree_at Ts)) in subst (IsPartOfOption G) (sym (at-map Ts ks j k)) (w.parts j k));
   different = λ i j l m e. (
       let p : i < length ks = omega (arith, l, length-map ks (tree_at Ts)) in
       let q : j < length ks = omega (arith, m, length-map ks (tree_at Ts)) in
@@ -212,7 +212,7 @@ parts-one Ts a n h = (
     is H (inl (inr x)) = absurd x
     is H (inr x) = absurd x
 
-    to : (X : Tree) → IsBelow (listed Ts (a ∷ []) []) X → IsPart (tree_at Ts a) X
+    to : (X : Tree) → IsPartOfOption (listed Ts (a ∷ []) []) X → IsPart (tree_at Ts a) X
     to X b = (subst (λ t. IsFollower t X) (is b.0 b.1) b.2.0, b.2.1)
 
 -- a form, and what is below it
@@ -232,13 +232,13 @@ follower-size : (G X : Tree) → IsFollower G X → size X ≤ size G
 follower-size _ _ (itself G) = omega arith
 follower-size _ _ (further G H X o f) = omega (arith, option-size G H o, follower-size H X f)
 
-below-part : (Ts : List Tree) (ls rs : List ℕ) (X : Tree) → IsBelow (listed Ts ls rs) X → IsPart (form Ts ls rs) X
+below-part : (Ts : List Tree) (ls rs : List ℕ) (X : Tree) → IsPartOfOption (listed Ts ls rs) X → IsPart (form Ts ls rs) X
 below-part Ts ls rs X b = (further _ b.0 X (listed-option Ts ls rs b.0 b.1) b.2.0, b.2.1)
 
-below-other : (Ts : List Tree) (ls rs : List ℕ) (X : Tree) → IsBelow (listed Ts ls rs) X → form Ts ls rs ≡ X → ⊥
+below-other : (Ts : List Tree) (ls rs : List ℕ) (X : Tree) → IsPartOfOption (listed Ts ls rs) X → form Ts ls rs ≡ X → ⊥
 below-other Ts ls rs X b e = omega (arith, follower-size b.0 X b.2.0, option-size (form Ts ls rs) b.0 (listed-option Ts ls rs b.0 b.1), ap size e)
 
-with-itself : (Ts : List Tree) (ls rs : List ℕ) (Xs : List Tree) → (IsNumberTree (form Ts ls rs) → ⊥) → AreBelow (listed Ts ls rs) Xs → AreParts (form Ts ls rs) (form Ts ls rs ∷ Xs)
+with-itself : (Ts : List Tree) (ls rs : List ℕ) (Xs : List Tree) → (IsNumberTree (form Ts ls rs) → ⊥) → ArePartsOfOptions (listed Ts ls rs) Xs → AreParts (form Ts ls rs) (form Ts ls rs ∷ Xs)
 with-itself Ts ls rs Xs n b = record { each = each; different = different }
   where
     each : (j : ℕ) → j < length (form Ts ls rs ∷ Xs) → IsPart (form Ts ls rs) (tree_at (form Ts ls rs ∷ Xs) j)

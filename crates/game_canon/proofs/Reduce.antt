@@ -18,7 +18,7 @@ use Rattle.game_canon.specs.declared.side.Side.{Side}
 use Rattle.game_canon.specs.declared.side.Side.TheVariants.{Left, Right}
 use Rattle.short_games.specs.Parts.{IsOption}
 use Rattle.game_canon.proofs.Sizes.{come-further}
-use Rattle.game_canon.specs.inner.Sides.{Comes, near, far, Covers, with_near, near_list, far_list, AreFree, AreBest, IsReplaced, IsAnswer, IsIrreversible, IsDone, IsSmaller, IsReducedForm}
+use Rattle.game_canon.specs.inner.Sides.{Comes, near, far, Covers, with_near, near_list, far_list, AreFree, AreBest, IsReplaced, IsReversal, IsIrreversible, IsDone, IsSmaller, IsReducedForm}
 use Rattle.game_canon.proofs.SideLaws.{append-has, has-append_left, has-append_right, sizes-append, ids-append, has-far, far-has, FarUncovered}
 use Rattle.game_canon.proofs.GameLaws.{none-list}
 
@@ -27,7 +27,7 @@ match-along None P Q F G f g h = f h
 match-along (Some x) P Q F G f g h = g x h
 
 -- an answer among the far options
-pub answer-from : (s : Side) (Ts : List Tree) (G : Tree) (id : ℕ) (ls rs : List ℕ) (answer : ℕ) → IsOptions Ts id ls rs → (answer < length Ts) × Has (pick Ts (far_list s ls rs)) (tree_at Ts answer) × Covers s (tree_at Ts answer) G → IsAnswer s Ts G id answer
+pub answer-from : (s : Side) (Ts : List Tree) (G : Tree) (id : ℕ) (ls rs : List ℕ) (answer : ℕ) → IsOptions Ts id ls rs → (answer < length Ts) × Has (pick Ts (far_list s ls rs)) (tree_at Ts answer) × Covers s (tree_at Ts answer) G → IsReversal s Ts G id answer
 answer-from s Ts G id ls rs answer o h = record { below = h.0; option = far-has s Ts id ls rs o _ h.1; covered = h.2 }
 
 pub kept-from : (s : Side) (Ts : List Tree) (G : Tree) (id : ℕ) (ls rs : List ℕ) → IsOptions Ts id ls rs → FarUncovered s Ts (far_list s ls rs) G → IsIrreversible s G (tree_at Ts id)
@@ -100,7 +100,7 @@ pub best-same : (s : Side) (Ts : List Tree) (ns fs vs : List ℕ) → AreBest s 
 best-same Left Ts ns fs vs b = drops-left _ _ record { from = b.among; covered = b.covers; others = refl }
 best-same Right Ts ns fs vs b = drops-right _ _ record { from = b.among; covered = b.covers; others = refl }
 
-replaced-same : (s : Side) (Ts : List Tree) (ns fs vs : List ℕ) (place answer : ℕ) → (IsNumber (with_near s Ts ns fs) → ⊥) → place < length ns → IsAnswer s Ts (with_near s Ts ns fs) (get_or ns place 0) answer → IsReplaced s Ts ns place answer vs → Better s Ts ns fs vs
+replaced-same : (s : Side) (Ts : List Tree) (ns fs vs : List ℕ) (place answer : ℕ) → (IsNumber (with_near s Ts ns fs) → ⊥) → place < length ns → IsReversal s Ts (with_near s Ts ns fs) (get_or ns place 0) answer → IsReplaced s Ts ns place answer vs → Better s Ts ns fs vs
 replaced-same Left Ts ns fs vs place answer n l a r = bypasses-left (listed Ts ns fs) (listed Ts vs fs) (tree_at Ts (get_or ns place 0)) (tree_at Ts answer) record {
   option = pick-has Ts ns place l;
   answer = a.option;
@@ -150,13 +150,13 @@ near-option : (s : Side) (G X : Tree) → Has (near s G) X → IsOption G X
 near-option Left G X h = inl h
 near-option Right G X h = inr h
 
-pub smaller-from : (s : Side) (Ts : List Tree) (G : Tree) (ns is vs : List ℕ) (place answer : ℕ) → (IsNumber G → ⊥) → place < length ns → IsAnswer s Ts G (get_or ns place 0) answer → IsReplaced s Ts ns place answer is → AreBest s Ts is vs → IsAscending vs → IsSmaller s Ts G ns vs
+pub smaller-from : (s : Side) (Ts : List Tree) (G : Tree) (ns is vs : List ℕ) (place answer : ℕ) → (IsNumber G → ⊥) → place < length ns → IsReversal s Ts G (get_or ns place 0) answer → IsReplaced s Ts ns place answer is → AreBest s Ts is vs → IsAscending vs → IsSmaller s Ts G ns vs
 smaller-from s Ts G ns is vs place answer n l a r b u = record {
   ids = b.ids;
   ascends = u;
   same = λ fs e. (
       let m : IsNumber (with_near s Ts ns fs) → ⊥ = λ k. n (k.0, k.1, le-trans _ _ _ e.1 k.2, le-trans _ _ _ k.3 e.0) in
-      let c : IsAnswer s Ts (with_near s Ts ns fs) (get_or ns place 0) answer = record { below = a.below; option = a.option; covered = covers-equal s _ _ _ (e.1, e.0) a.covered } in
+      let c : IsReversal s Ts (with_near s Ts ns fs) (get_or ns place 0) answer = record { below = a.below; option = a.option; covered = covers-equal s _ _ _ (e.1, e.0) a.covered } in
       equal-trans _ _ _ (replaced-same s Ts ns fs is place answer m l c r) (best-same s Ts is fs vs b)
       );
   free = b.free;

@@ -5,7 +5,7 @@ use Rattle.std.proofs.lemmas.Int.{ints, by_lt_z}
 use Rattle.std.proofs.lemmas.Bool.{cases_Bool}
 use Rattle.std.proofs.lemmas.Nat.{pow-add}
 use Rattle.std.proofs.Math.Nat.{mul_assoc}
-use Rattle.dyadic_num.specs.Units.{IsAbove, IsBelow, IsMultiple, IsSimplest, IsInside}
+use Rattle.dyadic_num.specs.Units.{IsAboveBound, IsBelowBound, IsMultiple, IsSimplest, IsInside}
 use Rattle.short_games.specs.Tree.{Tree, none, more, left, right, Has, neg}
 use Rattle.short_games.specs.Number.{num, IsNumber, whole, count_tree, half, is_even}
 use Rattle.short_games.specs.Order.{◌≤ᵍ◌}
@@ -103,7 +103,7 @@ none-simpler e P u v s p (inr f) = omega (arith, s.least_size v p f.0, f.1)
 
 -- what passes where bounds may be absent
 abbrev Passes : Option ℤ → Option ℤ → ℤ → Type 0
-Passes low high v = IsAbove low v × IsBelow high v
+Passes low high v = IsAboveBound low v × IsBelowBound high v
 
 -- past the ends, a whole number of a lesser size is inside
 record IsPast (low high v : ℤ) : Type 0 where

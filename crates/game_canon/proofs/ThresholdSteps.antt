@@ -3,7 +3,7 @@ use Rattle.std.proofs.Common.{ℕ, ◌+◌, ◌≡◌, ◌↔◌, List, length, 
 use Rattle.std.specs.Prelude.{Option, IfNone}
 use Rattle.std.proofs.lemmas.Int.{ints, by_lt_z}
 use Rattle.std.proofs.lemmas.Bool.{cases_lt}
-use Rattle.dyadic_num.specs.Units.{IsAbove, IsBelow}
+use Rattle.dyadic_num.specs.Units.{IsAboveBound, IsBelowBound}
 use Rattle.short_games.specs.Tree.{Tree, tree_at}
 use Rattle.short_games.specs.Number.{num, IsNumber}
 use Rattle.short_games.specs.Order.{◌≤ᵍ◌}
@@ -18,7 +18,7 @@ use Rattle.game_canon.proofs.Sizes.{floor-within, ceiling-within}
 use Rattle.game_canon.proofs.GameLaws.{none-list}
 
 -- one more id
-pub from-next : (Ts : List Tree) (is : List ℕ) (n : ℕ) (bound : Option ℤ) (k r : ℤ) → AreAllFrom Ts is n bound → IsCeiling 60 (tree_at Ts (get_or is n 0)) k → ((h : ℤ) → (IsBelow bound h × (h <ℤ k)) ↔ (h <ℤ r)) → AreAllFrom Ts is (n + 1) (Some r)
+pub from-next : (Ts : List Tree) (is : List ℕ) (n : ℕ) (bound : Option ℤ) (k r : ℤ) → AreAllFrom Ts is n bound → IsCeiling 60 (tree_at Ts (get_or is n 0)) k → ((h : ℤ) → (IsBelowBound bound h × (h <ℤ k)) ↔ (h <ℤ r)) → AreAllFrom Ts is (n + 1) (Some r)
 from-next Ts is n bound k r a c b f m h cell = (
   λ all. (b h).0 (
     (a f m h cell).0 (λ j l. all j (omega (arith, l))),
@@ -30,7 +30,7 @@ from-next Ts is n bound k r a c b f m h cell = (
   ],
 )
 
-pub up_to-next : (Ts : List Tree) (is : List ℕ) (n : ℕ) (bound : Option ℤ) (k r : ℤ) → AreAllUpTo Ts is n bound → IsFloor 60 (tree_at Ts (get_or is n 0)) k → ((h : ℤ) → (IsAbove bound h × (k <ℤ h)) ↔ (r <ℤ h)) → AreAllUpTo Ts is (n + 1) (Some r)
+pub up_to-next : (Ts : List Tree) (is : List ℕ) (n : ℕ) (bound : Option ℤ) (k r : ℤ) → AreAllUpTo Ts is n bound → IsFloor 60 (tree_at Ts (get_or is n 0)) k → ((h : ℤ) → (IsAboveBound bound h × (k <ℤ h)) ↔ (r <ℤ h)) → AreAllUpTo Ts is (n + 1) (Some r)
 up_to-next Ts is n bound k r a c b f m h cell = (
   λ all. (b h).0 (
     (a f m h cell).0 (λ j l. all j (omega (arith, l))),
@@ -55,11 +55,11 @@ pub record GreatestSoFar (Ts : List Tree) (is : List ℕ) (n : ℕ) (bound : Opt
   pub near : (b : ℕ) → AreAllWithin Ts is n b → HasFloorUpTo bound b
   pub some : IfNone bound (n ≡ 0)
 
-below-as : (bound : Option ℤ) (b : ℕ) → HasCeilingFrom bound b → IsBelow bound (negsuc (b + b))
+below-as : (bound : Option ℤ) (b : ℕ) → HasCeilingFrom bound b → IsBelowBound bound (negsuc (b + b))
 below-as None b h = tt
 below-as (Some k) b h = h
 
-above-as : (bound : Option ℤ) (b : ℕ) → HasFloorUpTo bound b → IsAbove bound (pos (b + b + 1))
+above-as : (bound : Option ℤ) (b : ℕ) → HasFloorUpTo bound b → IsAboveBound bound (pos (b + b + 1))
 above-as None b h = tt
 above-as (Some k) b h = h
 
@@ -72,7 +72,7 @@ upper-near None b h = omega (arith, ints)
 upper-near (Some k) b h = h
 
 pub least-step : (Ts : List Tree) (is : List ℕ) (n : ℕ) (bound : Option ℤ) (k r : ℤ) → LeastSoFar Ts is n bound → IsCeiling 60 (tree_at Ts (get_or is n 0)) k → IsCeilingRange k
-    → ((h : ℤ) → (IsBelow bound h × (h <ℤ k)) ↔ (h <ℤ r)) → (AreCeilingRange bound → IsCeilingRange k → IsCeilingRange r) → GoesWithLeftStop 60 (tree_at Ts (get_or is n 0)) k → LeastSoFar Ts is (n + 1) (Some r)
+    → ((h : ℤ) → (IsBelowBound bound h × (h <ℤ k)) ↔ (h <ℤ r)) → (AreCeilingRange bound → IsCeilingRange k → IsCeilingRange r) → GoesWithLeftStop 60 (tree_at Ts (get_or is n 0)) k → LeastSoFar Ts is (n + 1) (Some r)
 least-step Ts is n bound k r so c d b g stop = record {
   all = from-next Ts is n bound k r so.all c b;
   range = g so.range d;
@@ -81,7 +81,7 @@ least-step Ts is n bound k r so c d b g stop = record {
 }
 
 pub greatest-step : (Ts : List Tree) (is : List ℕ) (n : ℕ) (bound : Option ℤ) (k r : ℤ) → GreatestSoFar Ts is n bound → IsFloor 60 (tree_at Ts (get_or is n 0)) k → IsFloorRange k
-    → ((h : ℤ) → (IsAbove bound h × (k <ℤ h)) ↔ (r <ℤ h)) → (AreFloorRange bound → IsFloorRange k → IsFloorRange r) → GoesWithRightStop 60 (tree_at Ts (get_or is n 0)) k → GreatestSoFar Ts is (n + 1) (Some r)
+    → ((h : ℤ) → (IsAboveBound bound h × (k <ℤ h)) ↔ (r <ℤ h)) → (AreFloorRange bound → IsFloorRange k → IsFloorRange r) → GoesWithRightStop 60 (tree_at Ts (get_or is n 0)) k → GreatestSoFar Ts is (n + 1) (Some r)
 greatest-step Ts is n bound k r so c d b g stop = record {
   all = up_to-next Ts is n bound k r so.all c b;
   range = g so.range d;

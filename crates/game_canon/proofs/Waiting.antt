@@ -7,7 +7,7 @@ use Rattle.std.proofs.Math.Seq.{get_or-append_seam}
 use Rattle.short_games.specs.Tree.{Tree}
 use Rattle.game_canon.specs.declared.at_most.Question.{Question}
 use Rattle.game_canon.specs.declared.at_most.Step.TheVariants.{Ask}
-use Rattle.game_canon.specs.Comparisons.{same_pair, Says, AreRight}
+use Rattle.game_canon.specs.Comparisons.{same_pair, SaysAtMost, AreRight}
 use Rattle.game_canon.specs.inner.Comparisons.{with_answer, IsOpen, NoneCounters, IsStep}
 use Rattle.game_canon.proofs.Undecided.{undecided, undecided-falls, measure-answer, one_open}
 
@@ -87,7 +87,7 @@ other-pair known a b answer c d l = elim (cases_Bool (same_pair (a, b) (c, d))) 
 own-pair : (known : ℕ → ℕ → Option Bool) (a b : ℕ) (answer : Bool) → with_answer known a b answer a b ≡ Some answer
 own-pair known a b answer = rw (eq-eqb a a refl, eq-eqb b b refl) refl
 
-pub right_more : (Ts : List Tree) (known after : ℕ → ℕ → Option Bool) (a b : ℕ) (answer : Bool) → AreRight Ts known → a < length Ts → b < length Ts → Says Ts a b answer → ((c d : ℕ) → after c d ≡ with_answer known a b answer c d) → AreRight Ts after
+pub right_more : (Ts : List Tree) (known after : ℕ → ℕ → Option Bool) (a b : ℕ) (answer : Bool) → AreRight Ts known → a < length Ts → b < length Ts → SaysAtMost Ts a b answer → ((c d : ℕ) → after c d ≡ with_answer known a b answer c d) → AreRight Ts after
 right_more Ts known after a b answer r x y s e c d v k = elim (cases_Bool (same_pair (a, b) (c, d))) [
   | inl t ↦ (
       let p = and_parts (nat_eq a c) (nat_eq b d) t in
@@ -114,7 +114,7 @@ still-waiting Ts known after a b answer q e l w = record {
 }
 
 -- the question is answered, and the last that waits goes on
-pub asking_answer : (Ts : List Tree) (known after : ℕ → ℕ → Option Bool) (a b : ℕ) (q next : Question) (us ws : List Question) (answer : Bool) → IsAsking Ts known a b q us → Says Ts q.game q.other answer
+pub asking_answer : (Ts : List Tree) (known after : ℕ → ℕ → Option Bool) (a b : ℕ) (q next : Question) (us ws : List Question) (answer : Bool) → IsAsking Ts known a b q us → SaysAtMost Ts q.game q.other answer
     → ((c d : ℕ) → after c d ≡ with_answer known q.game q.other answer c d) → us ≡ ws ++ next ∷ [] → IsAsking Ts after a b next ws
 asking_answer Ts known after a b q next us ws answer asked s e u = record {
   right = right_more Ts known after q.game q.other answer w.right w.now.open_pair.first_id w.now.open_pair.second_id s e;

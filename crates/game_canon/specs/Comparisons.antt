@@ -8,9 +8,9 @@ abbrev pub same_pair : ℕ × ℕ → ℕ × ℕ → Bool
 same_pair p q = nat_eq p.0 q.0 && nat_eq p.1 q.1
 
 -- the answer says whether the first tree is at most the second
-abbrev pub Says : List Tree → ℕ → ℕ → Bool → Type 0
-Says Ts a b answer = IsTrue answer ↔ (tree_at Ts a ≤ᵍ tree_at Ts b)
+abbrev pub SaysAtMost : List Tree → ℕ → ℕ → Bool → Type 0
+SaysAtMost Ts a b answer = IsTrue answer ↔ (tree_at Ts a ≤ᵍ tree_at Ts b)
 
 -- what is remembered of pairs is of ids of the store, and right there
 abbrev pub AreRight : List Tree → (ℕ → ℕ → Option Bool) → Type 0
-AreRight Ts known = (a b : ℕ) (answer : Bool) → known a b ≡ Some answer → (a < length Ts) × (b < length Ts) × Says Ts a b answer
+AreRight Ts known = (a b : ℕ) (answer : Bool) → known a b ≡ Some answer → (a < length Ts) × (b < length Ts) × SaysAtMost Ts a b answer

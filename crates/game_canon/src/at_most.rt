@@ -4,7 +4,7 @@ ghost use Rattle.std.specs.Prelude.{◌≡◌, ◌<◌, ◌≤◌, ◌+◌, ℕ,
 ghost use Rattle.short_games.specs.Number.{IsNumberTree};
 ghost use Rattle.game_canon.specs.inner.Games.{trees, AreGames};
 ghost use Rattle.short_games.specs.Tree.{tree_at};
-ghost use Rattle.game_canon.specs.Comparisons.{Says, AreRight};
+ghost use Rattle.game_canon.specs.Comparisons.{SaysAtMost, AreRight};
 ghost use Rattle.game_canon.specs.inner.Comparisons.{recalled, IsOpen, counter, NoneCounters, IsStep};
 
 use crate::comparisons::{Comparisons, recall, remember};
@@ -35,7 +35,7 @@ fn by_numbers(games: &Games<'_>, a: GameId, b: GameId) -> Option<bool>
     requires games { AreGames games.now }
     requires a { a < length (trees games.now) }
     requires b { b < length (trees games.now) }
-    ensures { IfSome result (λ answer. Says (trees games.now) a b answer) }
+    ensures { IfSome result (λ answer. SaysAtMost (trees games.now) a b answer) }
 {
     if ceiling(games, a) <= floor(games, b) {
         return Some(true);
@@ -54,7 +54,7 @@ fn settled(games: &Games<'_>, a: GameId, b: GameId) -> Option<bool>
     requires games { AreGames games.now }
     requires a { a < length (trees games.now) }
     requires b { b < length (trees games.now) }
-    ensures some { IfSome result (λ answer. Says (trees games.now) a b answer) }
+    ensures some { IfSome result (λ answer. SaysAtMost (trees games.now) a b answer) }
     ensures first_form { IfNone result (IsNumberTree (tree_at (trees games.now) a) → ⊥) }
     ensures second_form { IfNone result (IsNumberTree (tree_at (trees games.now) b) → ⊥) }
 {
@@ -76,7 +76,7 @@ fn known(memo: &Comparisons, games: &Games<'_>, a: GameId, b: GameId) -> Option<
     requires a { a < length (trees games.now) }
     requires b { b < length (trees games.now) }
     requires right { AreRight (trees games.now) (recalled memo.now) }
-    ensures some { IfSome result (λ answer. Says (trees games.now) a b answer) }
+    ensures some { IfSome result (λ answer. SaysAtMost (trees games.now) a b answer) }
     ensures none { IfNone result (IsOpen (trees games.now) (recalled memo.now) a b) }
 {
     if let Some(answer) = settled(games, a, b) {
@@ -139,7 +139,7 @@ pub(crate) fn at_most(
     requires a { a < length (trees games.now) }
     requires b { b < length (trees games.now) }
     requires right { AreRight (trees games.now) (recalled memo.old) }
-    ensures answer { IfOk result (λ answer. Says (trees games.now) a b answer) }
+    ensures answer { IfOk result (λ answer. SaysAtMost (trees games.now) a b answer) }
     ensures right { AreRight (trees games.now) (recalled memo.new) }
 {
     if let Some(answer) = known(memo, games, a, b) {

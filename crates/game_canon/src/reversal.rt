@@ -6,7 +6,7 @@ ghost use Rattle.short_games.specs.Number.{IsNumberTree};
 ghost use Rattle.game_store.specs.Meaning.{pick, AreIds};
 ghost use Rattle.game_canon.specs.inner.Comparisons.{recalled};
 ghost use Rattle.game_canon.specs.inner.Games.{beside, HasForm, IsKnown};
-ghost use Rattle.game_canon.specs.inner.Sides.{Covers, IsReplaced, IsAnswer, IsIrreversible, IsDone, IsSmaller};
+ghost use Rattle.game_canon.specs.inner.Sides.{Covers, IsReplaced, IsReversal, IsIrreversible, IsDone, IsSmaller};
 
 use crate::comparisons::Comparisons;
 use crate::domination::best;
@@ -58,7 +58,7 @@ fn answer_to(
     ensures found { IfOk result (λ found. MatchOption found
         (IsNumberTree (tree_at games.now.store.now id)
         ⊎ IsIrreversible side (beside games.now) (tree_at games.now.store.now id))
-        (λ answer. IsAnswer side games.now.store.now (beside games.now) id answer)) }
+        (λ answer. IsReversal side games.now.store.now (beside games.now) id answer)) }
     ensures known { IsKnown games.now (recalled memo.new) }
 {
     match games.store.node(id) {
@@ -82,7 +82,7 @@ fn reversible(
     requires ids { AreIds games.now.store.now ids.now }
     ensures found { IfOk result (λ found. MatchOption found
         (IsDone side games.now.store.now (beside games.now) ids.now)
-        (λ at. (at.0 < length ids.now) × IsAnswer side games.now.store.now (beside games.now)
+        (λ at. (at.0 < length ids.now) × IsReversal side games.now.store.now (beside games.now)
         (slice_index ids.now at.0) at.1)) }
     ensures known { IsKnown games.now (recalled memo.new) }
 {

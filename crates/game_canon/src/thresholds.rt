@@ -3,7 +3,7 @@
 ghost use Rattle.std.specs.Prelude.{ℕ, ◌↔◌, ◌<ℤ◌, ◌≡◌, ℤ, length, IfNone};
 ghost use Rattle.game_store.specs.Places.{IsFloorRange, IsCeilingRange};
 ghost use Rattle.game_store.specs.Meaning.{listed, AreIds};
-ghost use Rattle.dyadic_num.specs.Units.{IsAbove, IsBelow};
+ghost use Rattle.dyadic_num.specs.Units.{IsAboveBound, IsBelowBound};
 ghost use Rattle.game_canon.specs.inner.Bounds.{AreAllFrom, AreAllUpTo, AreAllWithin, HasCeilingFrom, HasFloorUpTo, AreFloorRange, AreCeilingRange, IsValue, IsWorth, lower, upper};
 
 use dyadic_num::Dyadic;
@@ -19,7 +19,7 @@ pub(crate) enum Value {
 
 /// The lesser of a bound, if there is one, and `k`.
 fn lesser(bound: Option<Bound>, k: Bound) -> Bound
-    ensures both { (h : ℤ) → (IsBelow bound h × (h <ℤ k)) ↔ (h <ℤ result) }
+    ensures both { (h : ℤ) → (IsBelowBound bound h × (h <ℤ k)) ↔ (h <ℤ result) }
     ensures small { AreCeilingRange bound → IsCeilingRange k → IsCeilingRange result }
 {
     match bound {
@@ -30,7 +30,7 @@ fn lesser(bound: Option<Bound>, k: Bound) -> Bound
 
 /// The greater of a bound, if there is one, and `k`.
 fn greater(bound: Option<Bound>, k: Bound) -> Bound
-    ensures both { (h : ℤ) → (IsAbove bound h × (k <ℤ h)) ↔ (result <ℤ h) }
+    ensures both { (h : ℤ) → (IsAboveBound bound h × (k <ℤ h)) ↔ (result <ℤ h) }
     ensures small { AreFloorRange bound → IsFloorRange k → IsFloorRange result }
 {
     match bound {

@@ -5,7 +5,7 @@ use Rattle.short_games.specs.Tree.{Tree, Trees, node, none, more, ◌then◌}
 use Rattle.short_games.specs.Text.{open_brace, bar, close_brace, comma}
 use Rattle.short_games.specs.Number.{number_tree}
 use Rattle.game_text.specs.Depth.{most_open}
-use Rattle.game_text.specs.Reading.{IsNumberByte, IsNameByte, ReadsName, IsRun, IsNumberText, Fault, Outcome, behind, left_side, right_side, mark_of, BeginsOtherwise, IsClosed, ReadsMore, ReadsText}
+use Rattle.game_text.specs.Reading.{IsNumberByte, IsNameByte, ReadsName, IsNumberRun, IsNumberText, Fault, Outcome, behind, left_side, right_side, mark_of, BeginsOtherwise, IsClosed, ReadsMore, ReadsText}
 use Rattle.game_text.specs.Reading.Fault.{bad_byte, bad_number, cut_short, too_deep}
 use Rattle.game_text.specs.Reading.Outcome.{reads, refused}
 use Rattle.game_text.specs.Reading.ReadsGame.{number, no_number, name, no_name, one_too_deep, form, left_refused, right_refused, game_stray, game_cut}
@@ -87,11 +87,11 @@ module _ (limit : ℕ) where
   after-game [] G rest out s = s
   after-game (f ∷ fs) G rest out s = s
 
-  pub number-read : (fs : List Frame) (bytes run rest : List ℕ) (u : ℤ) (out : Answer) → IsRun bytes run rest → IsNumberText u run → Rest limit (state_after fs (number_tree u)) rest out → Rest limit (a_game fs) bytes out
+  pub number-read : (fs : List Frame) (bytes run rest : List ℕ) (u : ℤ) (out : Answer) → IsNumberRun bytes run rest → IsNumberText u run → Rest limit (state_after fs (number_tree u)) rest out → Rest limit (a_game fs) bytes out
   number-read fs bytes run rest u out r t s = (reads (number_tree u) rest, number (length fs) bytes run rest u r t, after-game fs (number_tree u) rest out s)
 
   -- refusals
-  pub bad-number : (fs : List Frame) (bytes run rest : List ℕ) → IsRun bytes run rest → ((u : ℤ) → IsNumberText u run → ⊥) → Rest limit (a_game fs) bytes (Err (bad_number bytes))
+  pub bad-number : (fs : List Frame) (bytes run rest : List ℕ) → IsNumberRun bytes run rest → ((u : ℤ) → IsNumberText u run → ⊥) → Rest limit (a_game fs) bytes (Err (bad_number bytes))
   bad-number fs bytes run rest r f = (refused (bad_number bytes), no_number (length fs) bytes run rest r f, game-refused fs (bad_number bytes) (Err (bad_number bytes)) refl)
 
   pub deep-open : (fs : List Frame) (x : ℕ) (xs : List ℕ) → x ≡ open_brace → most_open ≤ length fs → Rest limit (a_game fs) (x ∷ xs) (Err too_deep)

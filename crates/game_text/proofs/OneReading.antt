@@ -14,7 +14,7 @@ use Rattle.short_games.specs.NumberText.{digits}
 use Rattle.short_games.proofs.NumberTextLaws.{digits-one_to_one}
 use Rattle.game_canon.proofs.Sizes.{number-same}
 use Rattle.game_text.specs.NamedText.{nimber}
-use Rattle.game_text.specs.Reading.{IsDigitRun, EndsDigits, switch_below, IsNumberByte, IsNameByte, ReadsNimber, ReadsSwitch, ReadsName, IsNimberDigits, IsRun, IsNumberText, Fault, Outcome, behind, Side, left_side, right_side, mark_of, BeginsOtherwise, IsClosed, ReadsGame, ReadsOptions, ReadsMore, ReadsText}
+use Rattle.game_text.specs.Reading.{IsDigitRun, EndsDigits, switch_below, IsNumberByte, IsNameByte, ReadsNimber, ReadsSwitch, ReadsName, IsNimberDigits, IsNumberRun, IsNumberText, Fault, Outcome, behind, Side, left_side, right_side, mark_of, BeginsOtherwise, IsClosed, ReadsGame, ReadsOptions, ReadsMore, ReadsText}
 use Rattle.game_text.specs.Reading.ReadsNimber.{of_one, of_number, of_none}
 use Rattle.game_text.specs.Reading.ReadsSwitch.{of_negative, of_other, ends, no_number as no_switch}
 use Rattle.game_text.specs.Reading.ReadsName.{a_nimber, an_up, a_down, a_switch}
@@ -74,7 +74,7 @@ one-nimber bytes _ _ (of_none run rest r l f) (of_one a) = absurd (digit-some ru
 one-nimber bytes _ _ (of_none run rest r l f) (of_number sun sest m s e) = absurd (f m (subst (IsNimberDigits m) (one-digits bytes sun run sest rest s r).0 e))
 one-nimber bytes _ _ (of_none run rest r l f) (of_none sun sest s k g) = refl
 
-run-there : (bytes run rest : List ℕ) → IsRun bytes run rest → bytes ≡ [] → ⊥
+run-there : (bytes run rest : List ℕ) → IsNumberRun bytes run rest → bytes ≡ [] → ⊥
 run-there bytes run rest r e = run-some run rest r.some (sym e ∙ r.is)
 
 one-switch : (bytes : List ℕ) (o p : Outcome Tree) → ReadsSwitch bytes o → ReadsSwitch bytes p → o ≡ p
@@ -82,14 +82,14 @@ one-switch bytes _ _ (of_negative run rest u r t l) (of_negative sun sest v s w 
     let q = one-run bytes run sun rest sest r s in
     ap₂ (λ a z. reads (switch_below a) z) (number-same u v (tree_text-one_to_one (number_tree u) (number_tree v) (sym t.1 ∙ q.0 ∙ w.1))) q.1
 one-switch bytes _ _ (of_negative run rest u r t l) (of_other sun sest s f) = absurd (f u (subst (IsNumberText u) (one-run bytes run sun rest sest r s).0 t) l)
-one-switch bytes _ _ (of_negative run rest u r t l) (no_switch x xs e f) = absurd (f (run-first x xs run rest (subst (λ z. IsRun z run rest) e r)))
+one-switch bytes _ _ (of_negative run rest u r t l) (no_switch x xs e f) = absurd (f (run-first x xs run rest (subst (λ z. IsNumberRun z run rest) e r)))
 one-switch bytes _ _ (of_negative run rest u r t l) (ends e) = absurd (run-there bytes run rest r e)
 one-switch bytes _ _ (of_other run rest r f) (of_negative sun sest v s w k) = absurd (f v (subst (IsNumberText v) (one-run bytes sun run sest rest s r).0 w) k)
 one-switch bytes _ _ (of_other run rest r f) (of_other sun sest s g) = refl
-one-switch bytes _ _ (of_other run rest r f) (no_switch x xs e g) = absurd (g (run-first x xs run rest (subst (λ z. IsRun z run rest) e r)))
+one-switch bytes _ _ (of_other run rest r f) (no_switch x xs e g) = absurd (g (run-first x xs run rest (subst (λ z. IsNumberRun z run rest) e r)))
 one-switch bytes _ _ (of_other run rest r f) (ends e) = absurd (run-there bytes run rest r e)
-one-switch bytes _ _ (no_switch x xs e f) (of_negative run rest u r t l) = absurd (f (run-first x xs run rest (subst (λ z. IsRun z run rest) e r)))
-one-switch bytes _ _ (no_switch x xs e f) (of_other run rest r g) = absurd (f (run-first x xs run rest (subst (λ z. IsRun z run rest) e r)))
+one-switch bytes _ _ (no_switch x xs e f) (of_negative run rest u r t l) = absurd (f (run-first x xs run rest (subst (λ z. IsNumberRun z run rest) e r)))
+one-switch bytes _ _ (no_switch x xs e f) (of_other run rest r g) = absurd (f (run-first x xs run rest (subst (λ z. IsNumberRun z run rest) e r)))
 one-switch bytes _ _ (no_switch x xs e f) (no_switch y ys d g) = refl
 one-switch bytes _ _ (no_switch x xs e f) (ends d) = absurd (subst IsMore (sym e ∙ d) tt)
 one-switch bytes _ _ (ends e) (of_negative run rest u r t l) = absurd (run-there bytes run rest r e)
@@ -144,7 +144,7 @@ module _ (limit : ℕ) where
     is_one : (u : ℤ) → IsNumberText u run → Numbered run rest bytes (reads (number_tree u) rest)
     is_none : ((u : ℤ) → IsNumberText u run → ⊥) → Numbered run rest bytes (refused (bad_number bytes))
 
-  numbered : (n : ℕ) (bytes : List ℕ) (o : Outcome Tree) → ReadsGame limit n bytes o → (run rest : List ℕ) → IsRun bytes run rest → Numbered run rest bytes o
+  numbered : (n : ℕ) (bytes : List ℕ) (o : Outcome Tree) → ReadsGame limit n bytes o → (run rest : List ℕ) → IsNumberRun bytes run rest → Numbered run rest bytes o
   numbered _ _ _ (number n bytes a s u q t) run rest r = let e = one-run bytes a run s rest q r in
       subst (λ z. Numbered run rest bytes (reads (number_tree u) z)) (sym e.1) (is_one u (subst (IsNumberText u) e.0 t))
   numbered _ _ _ (no_number n bytes a s q f) run rest r = is_none (λ u t. f u (subst (IsNumberText u) (sym (one-run bytes a run s rest q r).0) t))
@@ -171,8 +171,8 @@ module _ (limit : ℕ) where
     on_right : (ys : List ℕ) (Ls : Trees) (fault : Fault) → n < most_open → ReadsOptions limit (suc n) left_side xs (reads Ls ys) → ReadsOptions limit (suc n) right_side ys (refused fault) → Braced n xs (refused fault)
 
   braced : (n : ℕ) (bytes : List ℕ) (o : Outcome Tree) → ReadsGame limit n bytes o → (x : ℕ) (xs : List ℕ) → bytes ≡ x ∷ xs → x ≡ open_brace → Braced n xs o
-  braced _ _ _ (number n bytes a s u q t) x xs e b = absurd (no_brace x (run-first x xs a s (subst (λ z. IsRun z a s) e q)) b)
-  braced _ _ _ (no_number n bytes a s q f) x xs e b = absurd (no_brace x (run-first x xs a s (subst (λ z. IsRun z a s) e q)) b)
+  braced _ _ _ (number n bytes a s u q t) x xs e b = absurd (no_brace x (run-first x xs a s (subst (λ z. IsNumberRun z a s) e q)) b)
+  braced _ _ _ (no_number n bytes a s q f) x xs e b = absurd (no_brace x (run-first x xs a s (subst (λ z. IsNumberRun z a s) e q)) b)
   braced _ _ _ (name n y ys zs G out a c) x xs e b = absurd (no-name_brace y (name-byte y ys _ a) (head-is e ∙ b))
   braced _ _ _ (no_name n y ys fault a) x xs e b = absurd (no-name_brace y (name-byte y ys _ a) (head-is e ∙ b))
   braced _ _ _ (one_too_deep n y zs c l) x xs e b = deep l
@@ -214,8 +214,8 @@ module _ (limit : ℕ) where
   one-deep n xs _ (on_right us Ms other l p q) k = absurd (omega (arith, l, k))
 
   one-stray : (n : ℕ) (bytes : List ℕ) (o : Outcome Tree) → ReadsGame limit n bytes o → (x : ℕ) (xs : List ℕ) → bytes ≡ x ∷ xs → (IsNumberByte x → ⊥) → (IsNameByte x → ⊥) → (x ≡ open_brace → ⊥) → refused (bad_byte (x ∷ xs)) ≡ o
-  one-stray _ _ _ (number n bytes a s u q t) x xs e f k g = absurd (f (run-first x xs a s (subst (λ z. IsRun z a s) e q)))
-  one-stray _ _ _ (no_number n bytes a s q h) x xs e f k g = absurd (f (run-first x xs a s (subst (λ z. IsRun z a s) e q)))
+  one-stray _ _ _ (number n bytes a s u q t) x xs e f k g = absurd (f (run-first x xs a s (subst (λ z. IsNumberRun z a s) e q)))
+  one-stray _ _ _ (no_number n bytes a s q h) x xs e f k g = absurd (f (run-first x xs a s (subst (λ z. IsNumberRun z a s) e q)))
   one-stray _ _ _ (name n y ys zs G out a c) x xs e f k g = absurd (k (subst IsNameByte (head-is e) (name-byte y ys _ a)))
   one-stray _ _ _ (no_name n y ys fault a) x xs e f k g = absurd (k (subst IsNameByte (head-is e) (name-byte y ys _ a)))
   one-stray _ _ _ (one_too_deep n y zs c l) x xs e f k g = absurd (g (sym (head-is e) ∙ c))
@@ -243,8 +243,8 @@ module _ (limit : ℕ) where
     unnamed : (fault : Fault) → ReadsName x xs (refused fault) → Called x xs (refused fault)
 
   called : (n : ℕ) (bytes : List ℕ) (o : Outcome Tree) → ReadsGame limit n bytes o → (x : ℕ) (xs : List ℕ) → bytes ≡ x ∷ xs → IsNameByte x → Called x xs o
-  called _ _ _ (number n bytes a s u q t) x xs e b = absurd (no-name_number x b (run-first x xs a s (subst (λ z. IsRun z a s) e q)))
-  called _ _ _ (no_number n bytes a s q f) x xs e b = absurd (no-name_number x b (run-first x xs a s (subst (λ z. IsRun z a s) e q)))
+  called _ _ _ (number n bytes a s u q t) x xs e b = absurd (no-name_number x b (run-first x xs a s (subst (λ z. IsNumberRun z a s) e q)))
+  called _ _ _ (no_number n bytes a s q f) x xs e b = absurd (no-name_number x b (run-first x xs a s (subst (λ z. IsNumberRun z a s) e q)))
   called _ _ _ (name n y ys zs G out a c) x xs e b = ended zs G out (subst (λ k. ReadsName k xs (reads G zs)) (head-is e) (subst (λ z. ReadsName y z (reads G zs)) (tail-is e) a)) c
   called _ _ _ (no_name n y ys fault a) x xs e b = unnamed fault (subst (λ k. ReadsName k xs (refused fault)) (head-is e) (subst (λ z. ReadsName y z (refused fault)) (tail-is e) a))
   called _ _ _ (one_too_deep n y zs c l) x xs e b = absurd (no-name_brace x b (sym (head-is e) ∙ c))

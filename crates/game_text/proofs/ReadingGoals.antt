@@ -12,7 +12,7 @@ use Rattle.game_text.specs.declared.errors.ReadError.TheVariants as reading
 use Rattle.game_text.specs.declared.pending.Place.{Place}
 use Rattle.game_text.specs.declared.pending.Place.TheVariants as place
 use Rattle.game_text.specs.Depth.{most_open}
-use Rattle.game_text.specs.Reading.{Names, Refuses, IsReadRefusal}
+use Rattle.game_text.specs.Reading.{Names, RefusesText, IsReadRefusal}
 use Rattle.game_text.specs.Reading.Fault.{too_deep, cut_short}
 use Rattle.game_text.specs.inner.Refusals.{IsOpeningRefusal}
 
@@ -20,7 +20,7 @@ use Rattle.game_text.specs.inner.Refusals.{IsOpeningRefusal}
 pub read-passed_on : {A : Type 0} (r : Result A ReadError) (x : ReadError) (P : ReadError → Type 0) → (y : ReadError) × (r ≡ Err y) × (y ≡ x) → P x → IfErr r P
 read-passed_on r x P q p = subst (λ z. IfErr z P) (sym q.1) (subst P (sym q.2) p)
 
-pub opening-refused : (limit : ℕ) (text : List ℕ) (n : ℕ) (e : ReadError) → (most_open ≤ n → Refuses limit text too_deep) → IsOpeningRefusal n e → IsReadRefusal limit text e
+pub opening-refused : (limit : ℕ) (text : List ℕ) (n : ℕ) (e : ReadError) → (most_open ≤ n → RefusesText limit text too_deep) → IsOpeningRefusal n e → IsReadRefusal limit text e
 opening-refused limit text n (reading.BadByte place) f h = absurd h
 opening-refused limit text n (reading.BadNumber place) f h = absurd h
 opening-refused limit text n reading.CutShort f h = absurd h
@@ -50,6 +50,6 @@ pub ended-ok : (limit : ℕ) (text : List ℕ) (p : Place) (Ts : List Tree) (opt
 ended-ok limit text p Ts options (Ok id) f h = f id h.0 h.1
 ended-ok limit text p Ts options (Err e) f h = h
 
-pub ended-err : (limit : ℕ) (text : List ℕ) (p : Place) (r : Result ℕ ReadError) → ((p ≡ place.Whole → ⊥) → Refuses limit text cut_short) → IfErr r (λ e. (e ≡ reading.CutShort) × (p ≡ place.Whole → ⊥)) → IfErr r (λ e. IsReadRefusal limit text e)
+pub ended-err : (limit : ℕ) (text : List ℕ) (p : Place) (r : Result ℕ ReadError) → ((p ≡ place.Whole → ⊥) → RefusesText limit text cut_short) → IfErr r (λ e. (e ≡ reading.CutShort) × (p ≡ place.Whole → ⊥)) → IfErr r (λ e. IsReadRefusal limit text e)
 ended-err limit text p (Ok id) f h = h
 ended-err limit text p (Err e) f h = subst (IsReadRefusal limit text) (sym h.0) (f h.1)

@@ -11,7 +11,7 @@ use Rattle.game_store.specs.Meaning.{Extends, IsIdOf}
 use Rattle.short_games.specs.Parts.{HasMoreParts}
 use Rattle.short_games.proofs.OrderLaws.{le-refl, le-trans}
 use Rattle.short_games.proofs.ReductionLaws.{number-canonical, canonical-same}
-use Rattle.game_text.specs.Reading.{Fault, Outcome, IsNumberByte, IsNameByte, ReadsName, IsClosed, IsReadRefusal, AreNumberBytes, EndsNumber, IsRun, IsNumberText, mark_of, BeginsOtherwise, ReadsText, Names, Refuses, RefusesAt}
+use Rattle.game_text.specs.Reading.{Fault, Outcome, IsNumberByte, IsNameByte, ReadsName, IsClosed, IsReadRefusal, AreNumberBytes, EndsNumber, IsNumberRun, IsNumberText, mark_of, BeginsOtherwise, ReadsText, Names, RefusesText, RefusesAt}
 use Rattle.game_text.specs.Reading.Outcome.{reads, refused}
 use Rattle.game_text.specs.Reading.IsClosed.{taken, with_many_parts, far}
 use Rattle.game_text.specs.inner.Machine.{IsTaken, IsRefusedBy, Answer, Frame, on_left, side_in, TextState, first_option, a_game, other_options, all_read, Rest, opening_at, AreOpen, Keeps, IsReading, place_after, mark_at, EndsRunAt, IsEnded}
@@ -111,7 +111,7 @@ module _ (Ts : List Tree) (limit : ℕ) (text : List ℕ) (i : ℕ) (options : L
   pub behind-stray : IsReading Ts limit text i place.Behind options opens → ((below : List Opening) (top : Opening) → opens ≡ below ++ top ∷ [] → get_or text i 0 ≡ mark_at top → ⊥) → (get_or text i 0 ≡ comma → ⊥) → RefusesAt limit text bad_byte i
   behind-stray r f g = (get_or text i 0 ∷ drop (i + 1) text, by r.state r.kept r.comes, place-is)
     where
-      by : (s : TextState) → Keeps Ts s place.Behind options opens → ((out : Answer) → Rest limit s (drop i text) out → ReadsText limit text out) → Refuses limit text (bad_byte (get_or text i 0 ∷ drop (i + 1) text))
+      by : (s : TextState) → Keeps Ts s place.Behind options opens → ((out : Answer) → Rest limit s (drop i text) out → ReadsText limit text out) → RefusesText limit text (bad_byte (get_or text i 0 ∷ drop (i + 1) text))
       by (first_option h fs) k c = absurd (first-is_not_behind (sym k.0))
       by (a_game fs) k c = absurd (game-is_not_behind (sym k.0))
       by (other_options h fs) k c = c _ (subst (λ z. Rest limit (other_options h fs) z (Err (bad_byte (get_or text i 0 ∷ drop (i + 1) text)))) (sym (byte-drop text i l)) (stray-behind limit h fs (get_or text i 0) (drop (i + 1) text) (λ e. f k.1.below k.1.top k.1.opens_are (e ∙ sym (mark-is Ts h _ k.1.own k.1.top k.1.opening))) g))
@@ -120,7 +120,7 @@ module _ (Ts : List Tree) (limit : ℕ) (text : List ℕ) (i : ℕ) (options : L
   pub whole-stray : IsReading Ts limit text i place.Whole options opens → RefusesAt limit text bad_byte i
   whole-stray r = (get_or text i 0 ∷ drop (i + 1) text, by r.state r.kept r.comes, place-is)
     where
-      by : (s : TextState) → Keeps Ts s place.Whole options opens → ((out : Answer) → Rest limit s (drop i text) out → ReadsText limit text out) → Refuses limit text (bad_byte (get_or text i 0 ∷ drop (i + 1) text))
+      by : (s : TextState) → Keeps Ts s place.Whole options opens → ((out : Answer) → Rest limit s (drop i text) out → ReadsText limit text out) → RefusesText limit text (bad_byte (get_or text i 0 ∷ drop (i + 1) text))
       by (first_option h fs) k c = absurd (first-is_not_whole (sym k.0))
       by (a_game fs) k c = absurd (game-is_not_whole (sym k.0))
       by (other_options h fs) k c = absurd (behind-is_not_whole (sym k.0))
@@ -143,7 +143,7 @@ module _ (Ts : List Tree) (limit : ℕ) (text : List ℕ) (i : ℕ) (options : L
   game-stray r f k g = let a = frames r in
       (get_or text i 0 ∷ drop (i + 1) text, a.1.1 _ (subst (λ z. Rest limit (a_game a.0) z (Err (bad_byte (get_or text i 0 ∷ drop (i + 1) text)))) (sym (byte-drop text i l)) (stray-game limit a.0 (get_or text i 0) (drop (i + 1) text) f k g)), place-is)
 
-  pub game-deep : IsReading Ts limit text i place.Game options opens → get_or text i 0 ≡ open_brace → most_open ≤ length opens → Refuses limit text too_deep
+  pub game-deep : IsReading Ts limit text i place.Game options opens → get_or text i 0 ≡ open_brace → most_open ≤ length opens → RefusesText limit text too_deep
   game-deep r e m = let a = frames r in
       a.1.1 _ (subst (λ z. Rest limit (a_game a.0) z (Err too_deep)) (sym (byte-drop text i l)) (deep-open limit a.0 (get_or text i 0) (drop (i + 1) text) e (subst (λ n. most_open ≤ n) (frames-many Ts a.0 options opens a.1.0) m)))
 
@@ -166,10 +166,10 @@ module _ (Ts : List Tree) (limit : ℕ) (text : List ℕ) (i : ℕ) (options : L
         (taken t.1 (λ C c h. t.2 (subst (λ z. HasMoreParts z limit) (canonical-same C (tree_at Us id) c.canonical t.0.1.canonical (le-trans C G (tree_at Us id) c.over t.0.1.under) (le-trans (tree_at Us id) G C t.0.1.over c.under)) h))) u));
   }
 
-  name-fault : (fault : Fault) → IsReading Ts limit text i place.Game options opens → ReadsName (get_or text i 0) (drop (i + 1) text) (refused fault) → Refuses limit text fault
+  name-fault : (fault : Fault) → IsReading Ts limit text i place.Game options opens → ReadsName (get_or text i 0) (drop (i + 1) text) (refused fault) → RefusesText limit text fault
   name-fault fault r n = let a = frames r in a.1.1 _ (subst (λ z. Rest limit (a_game a.0) z (Err fault)) (sym (byte-drop text i l)) (name-refused limit a.0 (get_or text i 0) (drop (i + 1) text) fault n))
 
-  name-cause : (fault : Fault) (G : Tree) (rest : List ℕ) → IsReading Ts limit text i place.Game options opens → ReadsName (get_or text i 0) (drop (i + 1) text) (reads G rest) → IsClosed limit G rest (refused fault) → Refuses limit text fault
+  name-cause : (fault : Fault) (G : Tree) (rest : List ℕ) → IsReading Ts limit text i place.Game options opens → ReadsName (get_or text i 0) (drop (i + 1) text) (reads G rest) → IsClosed limit G rest (refused fault) → RefusesText limit text fault
   name-cause fault G rest r n c = let a = frames r in a.1.1 _ (subst (λ z. Rest limit (a_game a.0) z (Err fault)) (sym (byte-drop text i l)) (name-closed limit a.0 (get_or text i 0) (drop (i + 1) text) rest G fault n c))
 
   behind-is : i + 1 + length (drop (i + 1) text) ≡ length text
@@ -197,7 +197,7 @@ module _ (Ts : List Tree) (limit : ℕ) (text : List ℕ) (i : ℕ) (options : L
     | inr h ↦ absurd (let s : past ≡ i = omega (arith, h, e.forward) in subst EndsNumber (ap (λ k. drop k text) s ∙ byte-drop text i l) e.longest b)
   ]
 
-  pub run-is : (past : ℕ) → EndsRunAt text i past → IsNumberByte (get_or text i 0) → IsRun (drop i text) (take (past - i) (drop i text)) (drop past text)
+  pub run-is : (past : ℕ) → EndsRunAt text i past → IsNumberByte (get_or text i 0) → IsNumberRun (drop i text) (take (past - i) (drop i text)) (drop past text)
   run-is past e b =
       let h : i < past = run-longer past e b in
       let long : length (drop i text) ≡ length text - i = length-drop i text in record {
@@ -254,10 +254,10 @@ module _ (Ts : List Tree) (limit : ℕ) (text : List ℕ) (i : ℕ) (options : L
       by (other_options h fs) k c = absurd (behind-is_not_whole (sym k.0 ∙ e))
       by (all_read G) k c = (G, c (Ok G) (subst (λ z. Rest limit (all_read G) z (Ok G)) (sym (drop_all i text l)) refl), subst (IsCanonicalId Ts G) (head-same k.1 id k.2 o) k.3)
 
-  pub ended-cut : (p ≡ place.Whole → ⊥) → Refuses limit text cut_short
+  pub ended-cut : (p ≡ place.Whole → ⊥) → RefusesText limit text cut_short
   ended-cut f = by r.state r.kept r.comes
     where
-      by : (s : TextState) → Keeps Ts s p options opens → ((out : Answer) → Rest limit s (drop i text) out → ReadsText limit text out) → Refuses limit text cut_short
+      by : (s : TextState) → Keeps Ts s p options opens → ((out : Answer) → Rest limit s (drop i text) out → ReadsText limit text out) → RefusesText limit text cut_short
       by (first_option h fs) k c = c _ (subst (λ z. Rest limit (first_option h fs) z (Err cut_short)) (sym (drop_all i text l)) (cut limit (first_option h fs) tt))
       by (a_game fs) k c = c _ (subst (λ z. Rest limit (a_game fs) z (Err cut_short)) (sym (drop_all i text l)) (cut limit (a_game fs) tt))
       by (other_options h fs) k c = c _ (subst (λ z. Rest limit (other_options h fs) z (Err cut_short)) (sym (drop_all i text l)) (cut limit (other_options h fs) tt))

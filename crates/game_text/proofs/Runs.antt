@@ -1,7 +1,7 @@
 -- The longest run of bytes of numbers in front of bytes.
 use Rattle.std.proofs.Common.{ℕ, ◌<◌, ◌≡◌, List, [], ◌∷◌, ◌++◌, length, arith, refl, sym, ◌∙◌, ap₂, subst}
 use Rattle.short_games.proofs.TextLaws.{head-is, tail-is, IsMore}
-use Rattle.game_text.specs.Reading.{IsNumberByte, AreNumberBytes, EndsNumber, IsRun, IsDigitByte, AreDigitBytes, EndsDigits, IsDigitRun}
+use Rattle.game_text.specs.Reading.{IsNumberByte, AreNumberBytes, EndsNumber, IsNumberRun, IsDigitByte, AreDigitBytes, EndsDigits, IsDigitRun}
 
 -- there is one longest run
 runs : (a b s t : List ℕ) → AreNumberBytes a → AreNumberBytes b → EndsNumber s → EndsNumber t → a ++ s ≡ b ++ t → (a ≡ b) × (s ≡ t)
@@ -12,7 +12,7 @@ runs (x ∷ a) [] s [] p q u v e = absurd (subst IsMore e tt)
 runs (x ∷ a) [] s (y ∷ t) p q u v e = absurd (v (subst IsNumberByte (head-is e) p.0))
 runs (x ∷ a) (y ∷ b) s t p q u v e = let r = runs a b s t p.1 q.1 u v (tail-is e) in (ap₂ ◌∷◌ (head-is e) r.0, r.1)
 
-pub one-run : (bytes a b s t : List ℕ) → IsRun bytes a s → IsRun bytes b t → (a ≡ b) × (s ≡ t)
+pub one-run : (bytes a b s t : List ℕ) → IsNumberRun bytes a s → IsNumberRun bytes b t → (a ≡ b) × (s ≡ t)
 one-run bytes a b s t p q = runs a b s t p.number_bytes q.number_bytes p.longest q.longest (sym p.is ∙ q.is)
 
 -- a run begins with a byte of numbers
@@ -20,7 +20,7 @@ first_of-run : (run : List ℕ) (x : ℕ) (xs rest : List ℕ) → AreNumberByte
 first_of-run [] x xs rest d l e = absurd (omega (arith, l))
 first_of-run (y ∷ ys) x xs rest d l e = subst IsNumberByte (sym (head-is e)) d.0
 
-pub run-first : (x : ℕ) (xs run rest : List ℕ) → IsRun (x ∷ xs) run rest → IsNumberByte x
+pub run-first : (x : ℕ) (xs run rest : List ℕ) → IsNumberRun (x ∷ xs) run rest → IsNumberByte x
 run-first x xs run rest r = first_of-run run x xs rest r.number_bytes r.some r.is
 
 pub run-some : (run rest : List ℕ) → 0 < length run → [] ≡ run ++ rest → ⊥

@@ -33,7 +33,7 @@ EndsNumber [] = Unit {0}
 EndsNumber (x ∷ xs) = IsNumberByte x → ⊥
 
 -- the bytes are the longest run of bytes of numbers, of which there is at least one, and the rest
-pub record IsRun (bytes run rest : List ℕ) : Type 0 where
+pub record IsNumberRun (bytes run rest : List ℕ) : Type 0 where
   pub is : bytes ≡ run ++ rest
   pub some : 0 < length run
   pub number_bytes : AreNumberBytes run
@@ -91,8 +91,8 @@ behind G (reads Gs rest) = reads (more G Gs) rest
 behind G (refused fault) = refused fault
 
 -- the byte `*`, with which the names of nimbers begin
-abbrev pub star : ℕ
-star = 42
+abbrev pub star_byte : ℕ
+star_byte = 42
 
 -- the byte `^`, the name of up
 abbrev pub caret : ℕ
@@ -104,7 +104,7 @@ letter_v = 118
 
 -- the byte begins a name of a game that is no number; the names of switches begin with `+`
 abbrev pub IsNameByte : ℕ → Type 0
-IsNameByte x = (x ≡ star) ⊎ ((x ≡ caret) ⊎ ((x ≡ letter_v) ⊎ (x ≡ plus)))
+IsNameByte x = (x ≡ star_byte) ⊎ ((x ≡ caret) ⊎ ((x ≡ letter_v) ⊎ (x ≡ plus)))
 
 -- what the bytes behind `*` come to: the nimber of 1, or of the number that the digits give
 pub data ReadsNimber (bytes : List ℕ) : Outcome Tree → Type 0 where
@@ -118,14 +118,14 @@ switch_below u = choice (number_tree (neg_ℤ u)) (number_tree u)
 
 -- what the bytes behind `+` come to: the switch whose Right option is the number there, which is below 0
 pub data ReadsSwitch (bytes : List ℕ) : Outcome Tree → Type 0 where
-  of_negative : (run rest : List ℕ) (u : ℤ) → IsRun bytes run rest → IsNumberText u run → u <ℤ pos 0 → ReadsSwitch bytes (reads (switch_below u) rest)
-  of_other : (run rest : List ℕ) → IsRun bytes run rest → ((u : ℤ) → IsNumberText u run → u <ℤ pos 0 → ⊥) → ReadsSwitch bytes (refused (bad_number bytes))
+  of_negative : (run rest : List ℕ) (u : ℤ) → IsNumberRun bytes run rest → IsNumberText u run → u <ℤ pos 0 → ReadsSwitch bytes (reads (switch_below u) rest)
+  of_other : (run rest : List ℕ) → IsNumberRun bytes run rest → ((u : ℤ) → IsNumberText u run → u <ℤ pos 0 → ⊥) → ReadsSwitch bytes (refused (bad_number bytes))
   no_number : (x : ℕ) (xs : List ℕ) → bytes ≡ x ∷ xs → (IsNumberByte x → ⊥) → ReadsSwitch bytes (refused (bad_byte bytes))
   ends : bytes ≡ [] → ReadsSwitch bytes (refused cut_short)
 
 -- what a name comes to that begins with x, and has these bytes behind it
 pub data ReadsName (x : ℕ) (xs : List ℕ) (o : Outcome Tree) : Type 0 where
-  a_nimber : x ≡ star → ReadsNimber xs o → ReadsName x xs o
+  a_nimber : x ≡ star_byte → ReadsNimber xs o → ReadsName x xs o
   an_up : x ≡ caret → o ≡ reads up xs → ReadsName x xs o
   a_down : x ≡ letter_v → o ≡ reads down xs → ReadsName x xs o
   a_switch : x ≡ plus → ReadsSwitch xs o → ReadsName x xs o
@@ -155,8 +155,8 @@ module _ (limit : ℕ) where
   mutual
     -- what reading a game from the front of the bytes comes to, where n braces are open
     pub data ReadsGame : ℕ → List ℕ → Outcome Tree → Type 0 where
-      number : (n : ℕ) (bytes run rest : List ℕ) (u : ℤ) → IsRun bytes run rest → IsNumberText u run → ReadsGame n bytes (reads (number_tree u) rest)
-      no_number : (n : ℕ) (bytes run rest : List ℕ) → IsRun bytes run rest → ((u : ℤ) → IsNumberText u run → ⊥) → ReadsGame n bytes (refused (bad_number bytes))
+      number : (n : ℕ) (bytes run rest : List ℕ) (u : ℤ) → IsNumberRun bytes run rest → IsNumberText u run → ReadsGame n bytes (reads (number_tree u) rest)
+      no_number : (n : ℕ) (bytes run rest : List ℕ) → IsNumberRun bytes run rest → ((u : ℤ) → IsNumberText u run → ⊥) → ReadsGame n bytes (refused (bad_number bytes))
       name : (n x : ℕ) (xs rest : List ℕ) (G : Tree) (out : Outcome Tree) → ReadsName x xs (reads G rest) → IsClosed G rest out → ReadsGame n (x ∷ xs) out
       no_name : (n x : ℕ) (xs : List ℕ) (fault : Fault) → ReadsName x xs (refused fault) → ReadsGame n (x ∷ xs) (refused fault)
       one_too_deep : (n x : ℕ) (xs : List ℕ) → x ≡ open_brace → most_open ≤ n → ReadsGame n (x ∷ xs) (refused too_deep)
@@ -191,19 +191,19 @@ abbrev pub Names : ℕ → List ℕ → Tree → Type 0
 Names limit text G = ReadsText limit text (Ok G)
 
 -- the text is refused with this fault
-abbrev pub Refuses : ℕ → List ℕ → Fault → Type 0
-Refuses limit text fault = ReadsText limit text (Err fault)
+abbrev pub RefusesText : ℕ → List ℕ → Fault → Type 0
+RefusesText limit text fault = ReadsText limit text (Err fault)
 
 -- the text is refused with a fault at this place, counted from 0
 abbrev pub RefusesAt : ℕ → List ℕ → (List ℕ → Fault) → ℕ → Type 0
-RefusesAt limit text fault place = (rest : List ℕ) × Refuses limit text (fault rest) × (place + length rest ≡ length text)
+RefusesAt limit text fault place = (rest : List ℕ) × RefusesText limit text (fault rest) × (place + length rest ≡ length text)
 
 -- why a text isn't read: it is refused with this fault, or there is want of memory, which may always be
 abbrev pub IsReadRefusal : ℕ → List ℕ → ReadError → Type 0
 IsReadRefusal limit text (reading.BadByte place) = RefusesAt limit text bad_byte place
 IsReadRefusal limit text (reading.BadNumber place) = RefusesAt limit text bad_number place
-IsReadRefusal limit text reading.CutShort = Refuses limit text cut_short
-IsReadRefusal limit text reading.Deep = Refuses limit text too_deep
-IsReadRefusal limit text reading.Parts = Refuses limit text too_many_parts
-IsReadRefusal limit text reading.Bounds = Refuses limit text past_bounds
+IsReadRefusal limit text reading.CutShort = RefusesText limit text cut_short
+IsReadRefusal limit text reading.Deep = RefusesText limit text too_deep
+IsReadRefusal limit text reading.Parts = RefusesText limit text too_many_parts
+IsReadRefusal limit text reading.Bounds = RefusesText limit text past_bounds
 IsReadRefusal limit text (reading.Memory cause) = Unit {0}

@@ -8,16 +8,16 @@ use Rattle.local_graph.specs.declared.graph.TheConstants.{MOST_POSITIONS}
 use Rattle.gd_words.specs.declared.choice.TheConstants.{MOST_MOVES, MOST_PARTS}
 use Rattle.sgf_go.specs.declared.settings.TheConstants.{MOST_PRISONERS}
 use Rattle.sgf_go.specs.declared.komi.TheConstants.{MOST_KOMI}
-use Rattle.sgf_go.specs.Komi.{IsKomi, unsigned, positive, negative, IsHalves, halves, IsFraction, nothing, zeros, half, IsInRange}
+use Rattle.sgf_go.specs.Komi.{IsKomi, unsigned, positive, negative, IsHalves, halves, IsKomiFraction, nothing, zeros, half, IsInRange}
 use Rattle.gd_words.specs.declared.choice.Choice.{Choice}
 use Rattle.gd_words.specs.declared.choice.Choice.TheVariants.{Komi, After, BlackPrisoners, WhitePrisoners, Positions, Parts}
 use Rattle.gd_words.specs.declared.chosen.Chosen.{Chosen}
-use Rattle.gd_words.specs.Choice.{IsValue}
+use Rattle.gd_words.specs.Choice.{IsChoiceValue}
 use Rattle.gd_words.specs.Task.{Task}
-use Rattle.gd_words.specs.Job.{Spell, Gives, AreChoices, Job, job_of}
+use Rattle.gd_words.specs.Job.{Spell, GivesOption, AreChoices, Job, job_of}
 use Rattle.gd_words.specs.Bounds.{IsInRanges}
 
-one_half : (bytes : List ℕ) (digits more : ℕ) → IsFraction bytes digits more → more ≤ 1
+one_half : (bytes : List ℕ) (digits more : ℕ) → IsKomiFraction bytes digits more → more ≤ 1
 one_half _ _ _ nothing = omega arith
 one_half _ _ _ (zeros bytes z) = omega arith
 one_half _ _ _ (half bytes z) = omega arith
@@ -31,14 +31,14 @@ in_range _ _ (positive bytes n h) = let f = few_halves bytes n h in (omega (arit
 in_range _ _ (negative bytes n h) = let f = few_halves bytes n h in (omega (arith, ints), omega (arith, ints))
 
 -- each option has its word
-spelt_value : (words : List (List ℕ)) (xs : List Choice) (x : Choice) → Spell words xs → Contains xs x → (word : List ℕ) × IsValue word x
+spelt_value : (words : List (List ℕ)) (xs : List Choice) (x : Choice) → Spell words xs → Contains xs x → (word : List ℕ) × IsChoiceValue word x
 spelt_value words [] x s c = absurd (omega (arith, c.1))
 spelt_value [] (y ∷ ys) x s c = absurd s
 spelt_value (n ∷ []) (y ∷ ys) x s c = absurd s
-spelt_value (n ∷ v ∷ words) (y ∷ ys) x s (zero, h, e) = (v, subst (IsValue v) e s.0.1)
+spelt_value (n ∷ v ∷ words) (y ∷ ys) x s (zero, h, e) = (v, subst (IsChoiceValue v) e s.0.1)
 spelt_value (n ∷ v ∷ words) (y ∷ ys) x s (suc k, h, e) = spelt_value words ys x s.1 (k, omega (arith, h), e)
 
-given_value : {A : Type 0} (P : A → Type 0) (option : A → Choice) (words : List (List ℕ)) (xs : List Choice) (o : Option A) → Spell words xs → Gives xs option o → ((word : List ℕ) (v : A) → IsValue word (option v) → P v) → IfSome o P
+given_value : {A : Type 0} (P : A → Type 0) (option : A → Choice) (words : List (List ℕ)) (xs : List Choice) (o : Option A) → Spell words xs → GivesOption xs option o → ((word : List ℕ) (v : A) → IsChoiceValue word (option v) → P v) → IfSome o P
 given_value P option words xs None s g each = tt
 given_value P option words xs (Some v) s g each = let w = spelt_value words xs (option v) s g in each w.0 v w.1
 

@@ -9,7 +9,7 @@ use Rattle.gd_words.specs.declared.choice.Choice.TheVariants.{Komi, Turn, After,
 use Rattle.gd_words.specs.declared.chosen.Chosen.{Chosen}
 use Rattle.gd_words.specs.Choice.{name_of}
 use Rattle.gd_words.specs.Task.{Task, solve, safe, values, play, trial, calc, gtp, AreFor, BeginWith}
-use Rattle.gd_words.specs.Job.{Gives, Say, AreChoices, Job, job_of, IsJob, IsOnlyJob}
+use Rattle.gd_words.specs.Job.{GivesOption, Say, AreChoices, Job, job_of, IsJob, IsOnlyJob}
 use Rattle.gd_words.specs.inner.Reading.{IsJobOf}
 use Rattle.gd_words.proofs.Names.{apart}
 use Rattle.gd_words.proofs.Unique.{one_number}
@@ -42,7 +42,7 @@ one_of_name xs x y n a b e = by_place (cases_order a.0 b.0)
     by_place (inr (inr h)) = absurd (n b.0 a.0 x h a.1 (ap name_of there ∙ sym e ∙ ap name_of (sym a.2)))
 
 one_value : {A : Type 0} (option : A → Choice) (xs : List Choice) (o p : Option A) → AreOnce xs → ((v w : A) → name_of (option v) ≡ name_of (option w)) → ((v w : A) → option v ≡ option w → v ≡ w)
-    → Gives xs option o → Gives xs option p → o ≡ p
+    → GivesOption xs option o → GivesOption xs option p → o ≡ p
 one_value option xs None None n e i a b = refl
 one_value option xs None (Some w) n e i a b = absurd (a w b)
 one_value option xs (Some v) None n e i a b = absurd (b v a)

@@ -8,7 +8,7 @@ use Rattle.go_grid.specs.declared.grid.Colour.TheVariants.{Black, White}
 use Rattle.sgf_go.proofs.Komis.{one_komi}
 use Rattle.gd_words.specs.declared.choice.Choice.{Choice}
 use Rattle.gd_words.specs.declared.choice.Choice.TheVariants.{Komi, Turn, After, BlackPrisoners, WhitePrisoners, Positions, Parts, Engine, Tax}
-use Rattle.gd_words.specs.Choice.{IsChoice, IsValue, name_of}
+use Rattle.gd_words.specs.Choice.{IsChoice, IsChoiceValue, name_of}
 use Rattle.gd_words.specs.Value.{IsNumberWithin, answer_word}
 use Rattle.board_words.specs.Words.{colour_word}
 use Rattle.gd_words.proofs.Names.{IsOnly, apart, komi_only, turn_only, after_only, black_only, white_only, positions_only, parts_only, engine_only, tax_only}
@@ -28,10 +28,10 @@ one_answer word false false a b = refl
 one_answer word true false a b = absurd (apart (sym a ∙ b) refl refl)
 one_answer word false true a b = absurd (apart (sym a ∙ b) refl refl)
 
-same : {A : Type 0} (option : A → Choice) (name word : List ℕ) (y : Choice) (v : A) → IsOnly option (name_of (option v)) → name ≡ name_of (option v) → ((w : A) → IsValue word (option w) → v ≡ w) → IsChoice name word y → option v ≡ y
+same : {A : Type 0} (option : A → Choice) (name word : List ℕ) (y : Choice) (v : A) → IsOnly option (name_of (option v)) → name ≡ name_of (option v) → ((w : A) → IsChoiceValue word (option w) → v ≡ w) → IsChoice name word y → option v ≡ y
 same option name word y v only e one b =
     let m = only y (sym b.0 ∙ e) in
-    ap option (one m.0 (subst (IsValue word) m.1 b.1)) ∙ sym m.1
+    ap option (one m.0 (subst (IsChoiceValue word) m.1 b.1)) ∙ sym m.1
 
 pub one_choice : (name word : List ℕ) (x y : Choice) → IsChoice name word x → IsChoice name word y → x ≡ y
 one_choice name word (Komi v) y a b = same Komi name word y v komi_only a.0 (λ w. one_komi word v w a.1) b

@@ -22,17 +22,17 @@ name_of (Engine colour) = codes "--as"
 name_of (Tax taxed) = codes "--tax"
 
 -- the word gives the option its value; a komi has no white space
-abbrev pub IsValue : List ℕ → Choice → Type 0
-IsValue word (Komi halves) = IsKomi word halves
-IsValue word (Turn colour) = word ≡ colour_word colour
-IsValue word (After n) = IsNumberWithin 0 MOST_MOVES word n
-IsValue word (BlackPrisoners n) = IsNumberWithin 0 MOST_PRISONERS word n
-IsValue word (WhitePrisoners n) = IsNumberWithin 0 MOST_PRISONERS word n
-IsValue word (Positions n) = IsNumberWithin 1 MOST_POSITIONS word n
-IsValue word (Parts n) = IsNumberWithin 1 MOST_PARTS word n
-IsValue word (Engine colour) = word ≡ colour_word colour
-IsValue word (Tax taxed) = word ≡ answer_word taxed
+abbrev pub IsChoiceValue : List ℕ → Choice → Type 0
+IsChoiceValue word (Komi halves) = IsKomi word halves
+IsChoiceValue word (Turn colour) = word ≡ colour_word colour
+IsChoiceValue word (After n) = IsNumberWithin 0 MOST_MOVES word n
+IsChoiceValue word (BlackPrisoners n) = IsNumberWithin 0 MOST_PRISONERS word n
+IsChoiceValue word (WhitePrisoners n) = IsNumberWithin 0 MOST_PRISONERS word n
+IsChoiceValue word (Positions n) = IsNumberWithin 1 MOST_POSITIONS word n
+IsChoiceValue word (Parts n) = IsNumberWithin 1 MOST_PARTS word n
+IsChoiceValue word (Engine colour) = word ≡ colour_word colour
+IsChoiceValue word (Tax taxed) = word ≡ answer_word taxed
 
 -- an option as two words: its name and its value
 abbrev pub IsChoice : List ℕ → List ℕ → Choice → Type 0
-IsChoice name value choice = (name ≡ name_of choice) × IsValue value choice
+IsChoice name value choice = (name ≡ name_of choice) × IsChoiceValue value choice

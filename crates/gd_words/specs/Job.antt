@@ -18,21 +18,21 @@ Spell (name ∷ value ∷ words) (choice ∷ choices) = IsChoice name value choi
 Spell words choices = ⊥
 
 -- the value of an option that stands among the options, or nothing where it doesn't
-abbrev pub Gives : {A : Type 0} → List Choice → (A → Choice) → Option A → Type 0
-Gives choices option (Some value) = Contains choices (option value)
-Gives {A} choices option None = (value : A) → ¬ Contains choices (option value)
+abbrev pub GivesOption : {A : Type 0} → List Choice → (A → Choice) → Option A → Type 0
+GivesOption choices option (Some value) = Contains choices (option value)
+GivesOption {A} choices option None = (value : A) → ¬ Contains choices (option value)
 
 -- what the options say, each its own value
 pub record Say (choices : List Choice) (chosen : Chosen) : Type 0 where
-  pub komi : Gives choices Komi chosen.komi
-  pub turn : Gives choices Turn chosen.turn
-  pub after : Gives choices After chosen.after
-  pub black_prisoners : Gives choices BlackPrisoners chosen.black_prisoners
-  pub white_prisoners : Gives choices WhitePrisoners chosen.white_prisoners
-  pub positions : Gives choices Positions chosen.positions
-  pub parts : Gives choices Parts chosen.parts
-  pub engine : Gives choices Engine chosen.engine
-  pub tax : Gives choices Tax chosen.tax
+  pub komi : GivesOption choices Komi chosen.komi
+  pub turn : GivesOption choices Turn chosen.turn
+  pub after : GivesOption choices After chosen.after
+  pub black_prisoners : GivesOption choices BlackPrisoners chosen.black_prisoners
+  pub white_prisoners : GivesOption choices WhitePrisoners chosen.white_prisoners
+  pub positions : GivesOption choices Positions chosen.positions
+  pub parts : GivesOption choices Parts chosen.parts
+  pub engine : GivesOption choices Engine chosen.engine
+  pub tax : GivesOption choices Tax chosen.tax
 
 -- the words are options of the task, in any order and none of them twice, and this is what they say
 pub record AreChoices (task : Task) (words : List (List ℕ)) (chosen : Chosen) : Type 0 where

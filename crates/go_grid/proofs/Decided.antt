@@ -1,7 +1,7 @@
 -- What can be decided: conditions on numbers below a bound, and paths over such places.
 use Rattle.std.proofs.Common.{◌≡◌, ℕ, zero, suc, ◌<◌, ◌⊎◌, inl, inr, refl, subst, arith}
 use Rattle.std.proofs.lemmas.Bool.{cases_eq}
-use Rattle.go_grid.specs.Path.{Leads}
+use Rattle.go_grid.specs.Path.{HasPath}
 use Rattle.go_grid.proofs.PathLemmas.{carried, leads_here, leads_join, leads_start, leads_step}
 
 abbrev pub Decided : Type 0 → Type 0
@@ -49,8 +49,8 @@ module _ (Next : ℕ → ℕ → Type 0) (In : ℕ → Type 0) where
   through_or_not next in' (suc m) i j =
       either _ _ (through_or_not next in' m i j) (both _ _ (through_or_not next in' m i m) (through_or_not next in' m m j))
 
-  leads_through : (m i j : ℕ) → Through m i j → Leads Next In i j
-  leads_through zero i j ((hi, hj), inl e) = subst (Leads Next In i) e (leads_here Next In i hi)
+  leads_through : (m i j : ℕ) → Through m i j → HasPath Next In i j
+  leads_through zero i j ((hi, hj), inl e) = subst (HasPath Next In i) e (leads_here Next In i hi)
   leads_through zero i j ((hi, hj), inr next) = leads_step Next In i i j (leads_here Next In i hi) next hj
   leads_through (suc m) i j (inl t) = leads_through m i j t
   leads_through (suc m) i j (inr (a, b)) = leads_join Next In i m j (leads_through m i m a) (leads_through m m j b)
@@ -83,9 +83,9 @@ module _ (Next : ℕ → ℕ → Type 0) (In : ℕ → Type 0) where
 
   -- whether a path over places below n leads from one to the other
   pub leads_or_not : (n : ℕ) → ((i : ℕ) → In i → i < n) → ((i j : ℕ) → Decided (Next i j)) → ((i : ℕ) → Decided (In i)) → (i j : ℕ)
-      → Decided (Leads Next In i j)
+      → Decided (HasPath Next In i j)
   leads_or_not n below next in' i j =
-      alike (Through n i j) (Leads Next In i j) (leads_through n i j) (λ path.
+      alike (Through n i j) (HasPath Next In i j) (leads_through n i j) (λ path.
       let start = leads_start Next In i j path in
       (carried Next In (λ x. In x × Through n i x)
       (λ x y (hx, t) step hy. (hy, joined n x i y (below x hx) t (raised n x y ((hx, hy), inr step)))) i j

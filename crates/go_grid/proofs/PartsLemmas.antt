@@ -5,7 +5,7 @@ use Rattle.go_grid.specs.declared.fills.Work.{Work}
 use Rattle.go_grid.specs.Walk.{Joined}
 use Rattle.go_grid.specs.Marks.{IsMarked, Marks}
 use Rattle.go_grid.specs.inner.Work.{IsListed, IsFilled}
-use Rattle.go_grid.specs.Parts.{AreParts, label}
+use Rattle.go_grid.specs.Parts.{ArePartLabels, label}
 use Rattle.go_grid.proofs.FillLemmas.{closed_all}
 use Rattle.go_grid.proofs.WalkLemmas.{joined_here, joined_back, joined_join, joined_start, joined_end}
 
@@ -75,7 +75,7 @@ parts_one c within labels more w v n s on fresh f is listed new old = record {
     kept p b = old p (λ l. apart p ((listed p).1 l) b)
 
 pub parts_end : (c : ℕ) (within : List Bool) (labels : List ℕ) (w : Work) (n : ℕ) → PartsBelow c within labels w n
-    → ((p : ℕ) → IsMarked within p → p < n) → AreParts c (IsMarked within) labels
+    → ((p : ℕ) → IsMarked within p → p < n) → ArePartLabels c (IsMarked within) labels
 parts_end c within labels w n s inside = record {
   joined = λ p h. s.joined p (s.all p (inside p h) h);
   same = λ p q j. let h = joined_start c (IsMarked within) p q j in s.same p q (s.all p (inside p h) h) j;
@@ -83,7 +83,7 @@ parts_end c within labels w n s inside = record {
 }
 
 -- points of the set have the same label exactly where a walk over it joins them
-pub same_part : (c : ℕ) (In : ℕ → Type 0) (labels : List ℕ) → AreParts c In labels → (p q : ℕ) → In p → In q
+pub same_part : (c : ℕ) (In : ℕ → Type 0) (labels : List ℕ) → ArePartLabels c In labels → (p q : ℕ) → In p → In q
     → (label labels p ≡ label labels q → Joined c In p q) × (Joined c In p q → label labels p ≡ label labels q)
 same_part c In labels s p q hp hq = (
   λ e. joined_join c In p (label labels p) q (s.joined p hp) (rw e (joined_back c In q (label labels q) (s.joined q hq))),
@@ -91,7 +91,7 @@ same_part c In labels s p q hp hq = (
 )
 
 -- a label is a point of the set, and its own label
-pub label_in : (c : ℕ) (In : ℕ → Type 0) (labels : List ℕ) → AreParts c In labels → (p : ℕ) → In p
+pub label_in : (c : ℕ) (In : ℕ → Type 0) (labels : List ℕ) → ArePartLabels c In labels → (p : ℕ) → In p
     → In (label labels p) × (label labels (label labels p) ≡ label labels p)
 label_in c In labels s p h = (
   joined_end c In p (label labels p) (s.joined p h),

@@ -7,5 +7,5 @@ Path Next In p [] q = In p × (p ≡ q)
 Path Next In p (r ∷ rest) q = In p × Next p r × Path Next In r rest q
 
 -- some path over places of `In` leads from `p` to `q`
-abbrev pub Leads : (ℕ → ℕ → Type 0) → (ℕ → Type 0) → ℕ → ℕ → Type 0
-Leads Next In p q = (rest : List ℕ) × Path Next In p rest q
+abbrev pub HasPath : (ℕ → ℕ → Type 0) → (ℕ → Type 0) → ℕ → ℕ → Type 0
+HasPath Next In p q = (rest : List ℕ) × Path Next In p rest q

@@ -5,7 +5,7 @@ use Rattle.go_grid.specs.declared.grid.Cell.{Cell}
 use Rattle.go_grid.specs.declared.grid.Cell.TheVariants as cell
 use Rattle.go_grid.specs.declared.grid.Colour.{Colour}
 use Rattle.go_grid.specs.Board.{stone, other}
-use Rattle.go_grid.specs.Path.{Leads}
+use Rattle.go_grid.specs.Path.{HasPath}
 
 -- what a place holds, which is nothing past the last
 abbrev pub held_at : List Cell → ℕ → Cell
@@ -17,7 +17,7 @@ Holds cells c p = held_at cells p ≡ stone c
 
 -- `q` is in the chain of `p`: a path over stones of the colour leads from `p` to `q`
 abbrev pub InChain : (ℕ → ℕ → Type 0) → List Cell → Colour → ℕ → ℕ → Type 0
-InChain Next cells c p q = Leads Next (Holds cells c) p q
+InChain Next cells c p q = HasPath Next (Holds cells c) p q
 
 -- an empty place is next to the place
 abbrev pub IsOpen : (ℕ → ℕ → Type 0) → List Cell → ℕ → Type 0

@@ -3,7 +3,7 @@
 ghost use Rattle.std.specs.Prelude.{◌≡◌, ℕ, ◌*◌, ◌<◌, ◌≤◌, slice_index};
 ghost use Rattle.go_grid.specs.Marks.{IsMarked, IsWithin};
 ghost use Rattle.go_grid.specs.inner.Work.{IsListed};
-ghost use Rattle.go_grid.specs.Parts.{AreParts, label};
+ghost use Rattle.go_grid.specs.Parts.{ArePartLabels, label};
 
 use crate::fills::{Work, idle, spread, zeroes};
 use crate::grid::{MOST_POINTS, Point, Size};
@@ -23,7 +23,7 @@ pub fn label_of(labels: &Labels, point: Point) -> Point
 /// The parts of a set that walks over it join: for each of its points the lowest point of its part.
 pub fn components(size: Size, within: &Points) -> Labels
     requires { IsWithin (size.columns * size.rows) within.now }
-    ensures { AreParts size.columns (IsMarked within.now) result }
+    ensures { ArePartLabels size.columns (IsMarked within.now) result }
 {
     let mut labels = zeroes();
     let mut work = idle();

@@ -17,7 +17,7 @@ use Rattle.gtp_engine.specs.Request.Order.{clear_board, loadsgf}
 use Rattle.gtp_engine.specs.Session.{Obeys, Said, Table, TakesTurn, done, fresh, is_last, refused, reply_text}
 use Rattle.gtp_engine.specs.Session.Fate.{made, failed, no_load}
 use Rattle.gtp_engine.specs.Words.{AreWords, HasId, cleaned}
-use Rattle.gtp_engine.specs.Written.{Engine, IsAnswered}
+use Rattle.gtp_engine.specs.Written.{Engine, IsReply}
 use Rattle.gtp_engine.specs.inner.Written.{IsMet, IsObeyed}
 
 -- what was loaded can be taken over
@@ -88,6 +88,6 @@ some_words f (x ∷ xs) n empty not is len none = absurd (cc none)
 
 -- a line with words
 pub answered_words : (files : Option Files) (before now : ℕ) (line id : List ℕ) (words rest : List (List ℕ)) (asked : Asked) (a b : Engine) (reply : List ℕ) (last : Bool)
-    → AreWords (cleaned line) words → words ≢ [] → HasId words id rest → Asks rest asked → IsMet files before now id asked a reply b → last ≡ is_last asked → IsAnswered files before now line a reply b last
+    → AreWords (cleaned line) words → words ≢ [] → HasId words id rest → Asks rest asked → IsMet files before now id asked a reply b → last ≡ is_last asked → IsReply files before now line a reply b last
 answered_words files before now line id [] rest asked a b reply last are some has asks h end = absurd (some refl)
 answered_words files before now line id (word ∷ words) rest asked a b reply last are some has asks h end = (h.0, (word ∷ words, are, (id, rest, asked, h.1, has, asks, h.2, h.3, end)), h.4, h.5)

@@ -6,14 +6,14 @@ use Rattle.desk_io.specs.Files.{Files}
 use Rattle.endgame_solver.specs.declared.limits.Limits.{Limits}
 use Rattle.gtp_engine.specs.declared.end.GtpEnd.{GtpEnd}
 use Rattle.gtp_engine.specs.declared.end.GtpEnd.TheVariants.{Quit, InputEnded, ReadFault, WriteFault, TooManyLines, Memory}
-use Rattle.gtp_engine.specs.Session.{AnswersLine, Standing, TakesLine, Turns, beginning}
+use Rattle.gtp_engine.specs.Session.{AnswersLine, GtpStanding, TakesLine, TakesLines, beginning}
 use Rattle.gtp_engine.specs.inner.Taking.{Replies}
-use Rattle.gtp_engine.specs.Written.{Engine, IsRun, unused}
+use Rattle.gtp_engine.specs.Written.{Engine, WritesByEnd, unused}
 use Rattle.gtp_engine.proofs.Numbering.{Agrees, AreBelow, agrees_itself, noted_agrees, noted_numbered}
 use Rattle.gtp_engine.proofs.Taking.{Taken, append_none, append_twice}
 
 -- where the session stands, with so many lines read and these bytes left
-abbrev pub standing : Engine → ℕ → List ℕ → Standing
+abbrev pub standing : Engine → ℕ → List ℕ → GtpStanding
 standing a read left = record { table = a.table; loads = a.loads; read = read; left = left }
 
 -- So many lines were answered, and lead to where the session stands, for each list of failed loads that agrees on the loads so far.
@@ -22,7 +22,7 @@ pub record Went (limits : Limits) (files : Option Files) (bytes : List ℕ) (hol
   pub rest : List ℕ
   pub text : List ℕ
   pub unread : left ≡ Some rest
-  pub turns : (failing : List ℕ) → Agrees a.loads a.failed_loads failing → Turns limits files failing number (beginning bytes) text (standing a read (held ++ rest))
+  pub turns : (failing : List ℕ) → Agrees a.loads a.failed_loads failing → TakesLines limits files failing number (beginning bytes) text (standing a read (held ++ rest))
   pub written : holds ≡ append_known holds₀ text
 
 pub record Going (limits : Limits) (files : Option Files) (left₀ holds₀ : Option (List ℕ)) (a : Engine) (read : ℕ) (held : List ℕ) (left holds : Option (List ℕ)) : Type 0 where
@@ -85,7 +85,7 @@ module _ (limits : Limits) (files : Option Files) (left₀ holds₀ : Option (Li
   }
 
   -- the session ends
-  pub going_end : (end : GtpEnd) → Taken files before now a held left holds holds' (Some end) b held' left' → (bytes : List ℕ) → left₀ ≡ Some bytes → IsRun limits files b.failed_loads bytes holds₀ holds' end
+  pub going_end : (end : GtpEnd) → Taken files before now a held left holds holds' (Some end) b held' left' → (bytes : List ℕ) → left₀ ≡ Some bytes → WritesByEnd limits files b.failed_loads bytes holds₀ holds' end
   going_end Quit taken bytes e =
       let x = w.told bytes e in let t = taken x.rest x.unread in let l = t.2 in let agrees = agrees_itself b.loads b.failed_loads in (
         standing b (read + 1) (held' ++ t.0),
@@ -143,7 +143,7 @@ module _ (limits : Limits) (files : Option Files) (left₀ holds₀ : Option (Li
 
 -- as many lines were read as a session reads
 pub going_over : (limits : Limits) (files : Option Files) (left₀ holds₀ : Option (List ℕ)) (a : Engine) (read : ℕ) (held : List ℕ) (left holds : Option (List ℕ)) → Going limits files left₀ holds₀ a read held left holds → read ≡ MOST_LINES
-    → (bytes : List ℕ) → left₀ ≡ Some bytes → IsRun limits files a.failed_loads bytes holds₀ holds TooManyLines
+    → (bytes : List ℕ) → left₀ ≡ Some bytes → WritesByEnd limits files a.failed_loads bytes holds₀ holds TooManyLines
 going_over limits files left₀ holds₀ a read held left holds w all bytes e =
     let x = w.told bytes e in (
       standing a read (held ++ x.rest),

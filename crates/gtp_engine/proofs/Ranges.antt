@@ -2,14 +2,14 @@
 use Rattle.std.proofs.Common.{◌≤◌, ◌+◌, ◌*◌, ℕ, ℤ, List, [], ◌∷◌, arith, sym, subst}
 use Rattle.std.proofs.lemmas.Int.{ints}
 use Rattle.sgf_go.specs.declared.komi.TheConstants.{MOST_KOMI}
-use Rattle.sgf_go.specs.Komi.{IsKomi, unsigned, positive, negative, IsHalves, halves, IsFraction, nothing, zeros, half, IsInRange}
+use Rattle.sgf_go.specs.Komi.{IsKomi, unsigned, positive, negative, IsHalves, halves, IsKomiFraction, nothing, zeros, half, IsInRange}
 use Rattle.gtp_engine.specs.declared.command.Command.{Command}
 use Rattle.gtp_engine.specs.declared.command.Command.TheVariants.{ProtocolVersion, Name, Version, KnownCommand, ListCommands, BoardSize, ClearBoard, Komi, Play, GenMove, LoadSgf, Quit}
 use Rattle.gtp_engine.specs.inner.Doing.{AsksInRange, HasKomiInRange}
-use Rattle.gtp_engine.specs.Request.{Asked, Asks, Fits, FitsAlone, FitsOne, FitsTwo, Order}
+use Rattle.gtp_engine.specs.Request.{Asked, Asks, FitsArguments, FitsAlone, FitsOne, FitsTwo, Order}
 use Rattle.gtp_engine.specs.Request.Asked.{something, unknown, misfit}
 
-at_most_one : (bytes : List ℕ) (digits more : ℕ) → IsFraction bytes digits more → more ≤ 1
+at_most_one : (bytes : List ℕ) (digits more : ℕ) → IsKomiFraction bytes digits more → more ≤ 1
 at_most_one _ _ _ nothing = omega arith
 at_most_one _ _ _ (zeros bytes h) = omega arith
 at_most_one _ _ _ (half bytes h) = omega arith
@@ -64,7 +64,7 @@ two_in_range GenMove first second order h = absurd h
 two_in_range LoadSgf first second order h = subst HasKomiInRange (sym h.3) tt
 two_in_range Quit first second order h = absurd h
 
-fits_in_range : (c : Command) (words : List (List ℕ)) (order : Order) → Fits c words order → HasKomiInRange order
+fits_in_range : (c : Command) (words : List (List ℕ)) (order : Order) → FitsArguments c words order → HasKomiInRange order
 fits_in_range c [] order h = alone_in_range c order h
 fits_in_range c (word ∷ []) order h = one_in_range c word order h
 fits_in_range c (first ∷ second ∷ []) order h = two_in_range c first second order h

@@ -4,7 +4,7 @@ use Rattle.std.specs.List.{All}
 use Rattle.std.proofs.lemmas.List.{take_more, take-append-drop, length-take-le, drop_more, drop_all, take_rest}
 use Rattle.std.proofs.lemmas.Bool.{cases_lt}
 use Rattle.std.proofs.lemmas.List.Elements.{All-push}
-use Rattle.gtp_engine.specs.Words.{AreBlanks, AreWords, IsApart, IsFirst}
+use Rattle.gtp_engine.specs.Words.{AreBlanks, AreWords, IsApart, IsFirstWord}
 
 -- one more of which the same holds
 one_more : (P : ℕ → Type 0) (text : List ℕ) (at : ℕ) → at < length text → All P (take at text) → P (get_or text at 0) → All P (take (at + 1) text)
@@ -27,7 +27,7 @@ some_word begun e within some none = some (sym (length-take-le e begun within) �
 
 -- the first word begins behind the blanks
 pub first_is : (text begun rest : List ℕ) (f e : ℕ) → begun ≡ drop f text → rest ≡ drop e begun → AreBlanks (take f text) → e ≤ length begun → e ≢ 0
-    → All (λ b. b ≢ 32) (take e begun) → (e < length begun → get_or begun e 0 ≡ 32) → IsFirst text (take e begun) rest
+    → All (λ b. b ≢ 32) (take e begun) → (e < length begun → get_or begun e 0 ≡ 32) → IsFirstWord text (take e begun) rest
 first_is text begun rest f e is left blanks within some letters next = (
   take f text,
   sym (take-append-drop f text) ∙ ap (λ l. take f text ++ l) (sym is ∙ sym (take-append-drop e begun) ∙ ap (λ l. take e begun ++ l) (sym left)),

@@ -7,7 +7,7 @@ use Rattle.desk_io.specs.declared.lines.FoundLine.{FoundLine}
 use Rattle.gtp_engine.specs.declared.end.GtpEnd.{GtpEnd}
 use Rattle.gtp_engine.specs.declared.end.GtpEnd.TheVariants.{Quit, ReadFault, WriteFault}
 use Rattle.gtp_engine.specs.inner.Taking.{LineTaken, Replies}
-use Rattle.gtp_engine.specs.Written.{Engine, IsAnswered}
+use Rattle.gtp_engine.specs.Written.{Engine, IsReply}
 
 pub append_none : (told : Option (List ℕ)) → told ≡ append_known told []
 append_none None = refl
@@ -28,7 +28,7 @@ module _ (files : Option Files) (before now : ℕ) (a : Engine) (start held : Li
   taken_unread = λ bytes e. let r = same bytes e in (r.0, r.1, (refl, refl))
 
   module _ (f : FoundLine) (found : IsFound 1024 held left' (Some f)) (b : Engine) (line used : List ℕ) (is : line ≡ take f.line held) (behind : used ≡ drop f.taken held) where
-    replies : (text : List ℕ) (last : Bool) → IsAnswered files before now line a text b last → (bytes : List ℕ) → left ≡ Some bytes
+    replies : (text : List ℕ) (last : Bool) → IsReply files before now line a text b last → (bytes : List ℕ) → left ≡ Some bytes
         → (rest : List ℕ) × (left' ≡ Some rest) × Replies files before now a (start ++ bytes) text b (used ++ rest) last
     replies text last answered bytes e =
         let r = same bytes e in (
@@ -44,21 +44,21 @@ module _ (files : Option Files) (before now : ℕ) (a : Engine) (start held : Li
         )
 
     -- the line was answered, and the session goes on
-    pub taken_on : (text : List ℕ) (last : Bool) (holds' : Option (List ℕ)) → IsAnswered files before now line a text b last → last ≡ false → holds' ≡ append_known holds text
+    pub taken_on : (text : List ℕ) (last : Bool) (holds' : Option (List ℕ)) → IsReply files before now line a text b last → last ≡ false → holds' ≡ append_known holds text
         → Taken files before now a start left holds holds' None b used left'
     taken_on text last holds' answered on written = λ bytes e.
-        let r = replies text false (subst (IsAnswered files before now line a text b) on answered) bytes e in (r.0, r.1, (text, r.2, written))
+        let r = replies text false (subst (IsReply files before now line a text b) on answered) bytes e in (r.0, r.1, (text, r.2, written))
 
     -- the line was answered, and the session ends with it
-    pub taken_last : (text : List ℕ) (last : Bool) (holds' : Option (List ℕ)) → IsAnswered files before now line a text b last → last ≡ true → holds' ≡ append_known holds text
+    pub taken_last : (text : List ℕ) (last : Bool) (holds' : Option (List ℕ)) → IsReply files before now line a text b last → last ≡ true → holds' ≡ append_known holds text
         → Taken files before now a start left holds holds' (Some Quit) b used left'
     taken_last text last holds' answered end written = λ bytes e.
-        let r = replies text true (subst (IsAnswered files before now line a text b) end answered) bytes e in (r.0, r.1, (text, r.2, written))
+        let r = replies text true (subst (IsReply files before now line a text b) end answered) bytes e in (r.0, r.1, (text, r.2, written))
 
     -- a front part of the reply was written
-    pub taken_cut : (text : List ℕ) (last : Bool) (holds' : Option (List ℕ)) → IsAnswered files before now line a text b last → (n : ℕ) × (n ≤ length text) × (holds' ≡ append_known holds (take n text))
+    pub taken_cut : (text : List ℕ) (last : Bool) (holds' : Option (List ℕ)) → IsReply files before now line a text b last → (n : ℕ) × (n ≤ length text) × (holds' ≡ append_known holds (take n text))
         → Taken files before now a start left holds holds' (Some WriteFault) b used left'
     taken_cut text last holds' answered written = λ bytes e.
         let whole = sym (take-append-drop written.0 text) in
-        let r = replies (take written.0 text ++ drop written.0 text) last (subst (λ t. IsAnswered files before now line a t b last) whole answered) bytes e in
+        let r = replies (take written.0 text ++ drop written.0 text) last (subst (λ t. IsReply files before now line a t b last) whole answered) bytes e in
         (r.0, r.1, (take written.0 text, drop written.0 text, last, r.2, written.2))

@@ -5,7 +5,7 @@ use Rattle.whole_rules.specs.WholeGame.{Whole, Leads, IsMove}
 use Rattle.whole_rules.specs.declared.states.Move.{Move}
 use Rattle.whole_rules.proofs.PlainLaws.{move_same}
 use Rattle.endgame_solver.specs.Solved.{Chooses, HasMove}
-use Rattle.gtp_engine.specs.Laws.{WinIsKept}
+use Rattle.gtp_engine.specs.Laws.{MoveKeepsWin}
 
 -- the move that the engine chooses wins, where one does
 chosen_loses : (s t : Whole) (m : Move) → MoverWins Whole Leads s → Chooses s m → IsMove s m t → MoverLoses Whole Leads t
@@ -17,6 +17,6 @@ has_move : (s : Whole) → MoverWins Whole Leads s → HasMove s
 has_move s (zero, w) = absurd w
 has_move s (suc n, w) = (w.1.0, (w.0, w.1.1))
 
-pub win_is_kept : WinIsKept
+pub win_is_kept : MoveKeepsWin
 win_is_kept s t said wins (inl g) = chosen_loses s t g.0 wins g.1 g.2
 win_is_kept s t said wins (inr g) = absurd (g.0 (has_move s wins))

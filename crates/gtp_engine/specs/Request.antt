@@ -6,7 +6,7 @@ use Rattle.sgf_go.specs.Komi.{IsKomi}
 use Rattle.gtp_engine.specs.declared.moves.Wanted.{Wanted}
 use Rattle.gtp_engine.specs.declared.command.Command.{Command}
 use Rattle.gtp_engine.specs.declared.command.Command.TheVariants.{ProtocolVersion, Name, Version, KnownCommand, ListCommands, BoardSize, ClearBoard, Komi, Play, GenMove, LoadSgf, Quit}
-use Rattle.board_words.specs.Numbers.{IsNumber}
+use Rattle.board_words.specs.Numbers.{IsNumberWord}
 use Rattle.gtp_engine.specs.Moves.{IsColour, IsWanted}
 
 -- a command with its arguments
@@ -52,7 +52,7 @@ FitsAlone _ order = ⊥
 -- the order of a command with one argument
 abbrev pub FitsOne : Command → List ℕ → Order → Type 0
 FitsOne KnownCommand word order = order ≡ known_command word
-FitsOne BoardSize word order = (n : ℕ) × IsNumber word n × (order ≡ boardsize n)
+FitsOne BoardSize word order = (n : ℕ) × IsNumberWord word n × (order ≡ boardsize n)
 FitsOne Komi word order = (halves : ℤ) × IsKomi word halves × (order ≡ komi halves)
 FitsOne GenMove word order = (c : Colour) × IsColour word c × (order ≡ genmove c)
 FitsOne LoadSgf word order = order ≡ loadsgf word None
@@ -61,15 +61,15 @@ FitsOne _ word order = ⊥
 -- the order of a command with two arguments; the number of a file's move is from 1 to 1,000,000, and one less moves are replayed
 abbrev pub FitsTwo : Command → List ℕ → List ℕ → Order → Type 0
 FitsTwo Play first second order = (c : Colour) × (wanted : Wanted) × IsColour first c × IsWanted second wanted × (order ≡ play c wanted)
-FitsTwo LoadSgf first second order = (moves : ℕ) × IsNumber second (moves + 1) × (moves + 1 ≤ LAST_MOVE) × (order ≡ loadsgf first (Some moves))
+FitsTwo LoadSgf first second order = (moves : ℕ) × IsNumberWord second (moves + 1) × (moves + 1 ≤ LAST_MOVE) × (order ≡ loadsgf first (Some moves))
 FitsTwo _ first second order = ⊥
 
 -- the order of a command with its arguments, which fit it
-abbrev pub Fits : Command → List (List ℕ) → Order → Type 0
-Fits command [] order = FitsAlone command order
-Fits command (word ∷ []) order = FitsOne command word order
-Fits command (first ∷ second ∷ []) order = FitsTwo command first second order
-Fits command _ order = ⊥
+abbrev pub FitsArguments : Command → List (List ℕ) → Order → Type 0
+FitsArguments command [] order = FitsAlone command order
+FitsArguments command (word ∷ []) order = FitsOne command word order
+FitsArguments command (first ∷ second ∷ []) order = FitsTwo command first second order
+FitsArguments command _ order = ⊥
 
 -- what the words ask for: something, or a command that isn't known, or one whose arguments don't fit
 pub data Asked : Type 0 where
@@ -79,6 +79,6 @@ pub data Asked : Type 0 where
 
 -- the words ask for this, by the name of the command that they begin with and its arguments
 abbrev pub Asks : List (List ℕ) → Asked → Type 0
-Asks words (something order) = (command : Command) × (rest : List (List ℕ)) × (words ≡ command_word command ∷ rest) × Fits command rest order
+Asks words (something order) = (command : Command) × (rest : List (List ℕ)) × (words ≡ command_word command ∷ rest) × FitsArguments command rest order
 Asks words unknown = (command : Command) (rest : List (List ℕ)) → words ≢ command_word command ∷ rest
-Asks words misfit = (command : Command) × (rest : List (List ℕ)) × (words ≡ command_word command ∷ rest) × ((order : Order) → ¬ Fits command rest order)
+Asks words misfit = (command : Command) × (rest : List (List ℕ)) × (words ≡ command_word command ∷ rest) × ((order : Order) → ¬ FitsArguments command rest order)

@@ -78,27 +78,27 @@ abbrev pub all_commands : List ℕ
 all_commands = codes "protocol_version\nname\nversion\nknown_command\nlist_commands\nboardsize\nclear_board\nkomi\nplay\ngenmove\nloadsgf\nquit"
 
 -- the text is said, and the table is that of before
-abbrev pub Says : List ℕ → Table → Said → Table → Type 0
-Says text t said u = (said ≡ done text) × (u ≡ t)
+abbrev pub RepliesWith : List ℕ → Table → Said → Table → Type 0
+RepliesWith text t said u = (said ≡ done text) × (u ≡ t)
 
 -- the request is refused for this reason, and the table is that of before
-abbrev pub Refuses : Refusal → Table → Said → Table → Type 0
-Refuses why t said u = (said ≡ refused why) × (u ≡ t)
+abbrev pub RefusesWith : Refusal → Table → Said → Table → Type 0
+RefusesWith why t said u = (said ≡ refused why) × (u ≡ t)
 
 -- the text says whether a word is the name of a command
-abbrev pub IsKnown : List ℕ → List ℕ → Type 0
-IsKnown word text = (((command : Command) × (word ≡ command_word command)) × (text ≡ codes "true"))
+abbrev pub SaysWhetherKnown : List ℕ → List ℕ → Type 0
+SaysWhetherKnown word text = (((command : Command) × (word ≡ command_word command)) × (text ≡ codes "true"))
     ⊎ (((command : Command) → word ≢ command_word command) × (text ≡ codes "false"))
 
 -- a size from 1 to 25 gives a fresh empty board with the present komi, and another is refused
 abbrev pub TakesSize : ℕ → Table → Said → Table → Type 0
 TakesSize n t said u = ((1 ≤ n) × (n ≤ 25) × (said ≡ done []) × (u ≡ fresh n n t.setup.komi_halves))
-    ⊎ (((n < 1) ⊎ (25 < n)) × Refuses UnacceptableSize t said u)
+    ⊎ (((n < 1) ⊎ (25 < n)) × RefusesWith UnacceptableSize t said u)
 
 -- the komi is taken where no game runs, and refused where one does
 abbrev pub TakesKomi : ℤ → Table → Said → Table → Type 0
 TakesKomi halves t said u = ((t.game ≡ None) × (said ≡ done []) × (u ≡ record { setup = record t.setup { komi_halves = halves }; game = None }))
-    ⊎ (((s : Whole) × (t.game ≡ Some s)) × Refuses GameHasBegun t said u)
+    ⊎ (((s : Whole) × (t.game ≡ Some s)) × RefusesWith GameHasBegun t said u)
 
 -- what a move of the side to move comes to, in its state
 abbrev pub PlaysMove : Option Move → Whole → Said → Whole → Type 0
@@ -127,9 +127,9 @@ CannotOpen limits setup = (regions : List Region) × AreRegionsOfPlay setup.boar
 abbrev pub TakesTurn : Limits → Colour → (Whole → Said → Whole → Type 0) → Table → Said → Table → Type 0
 TakesTurn limits c Act t said u =
     ((t.game ≡ None) × ((s v : Whole) × IsPlayable limits (with_side t.setup c) s × Act s said v × (u ≡ record { setup = with_side t.setup c; game = Some v })))
-    ⊎ (((t.game ≡ None) × CannotOpen limits (with_side t.setup c) × Refuses CannotSolve t said u)
+    ⊎ (((t.game ≡ None) × CannotOpen limits (with_side t.setup c) × RefusesWith CannotSolve t said u)
     ⊎ (((s v : Whole) × (t.game ≡ Some s) × (s.side ≡ c) × Act s said v × (u ≡ record t { game = Some v }))
-    ⊎ ((s : Whole) × (t.game ≡ Some s) × (s.side ≢ c) × Refuses NotInTurn t said u)))
+    ⊎ ((s : Whole) × (t.game ≡ Some s) × (s.side ≢ c) × RefusesWith NotInTurn t said u)))
 
 -- what becomes of the load of a line: it has none, or it is made, or it fails
 pub data Fate : Type 0 where
@@ -153,25 +153,25 @@ GivesNone told after = (told ≡ absent)
 
 -- a file of the shelf is loaded; a name that isn't UTF-8 isn't asked for
 abbrev pub LoadsFile : Option Files → List ℕ → Option ℕ → Fate → Table → Said → Table → Type 0
-LoadsFile files file after no_load t said u = (¬ IsUtf8 file) × Refuses CannotLoadFile t said u
+LoadsFile files file after no_load t said u = (¬ IsUtf8 file) × RefusesWith CannotLoadFile t said u
 LoadsFile files file after made t said u = IsUtf8 file
     × (((setup : Setup) × GivesSetup (told_file files file) after setup × (said ≡ done []) × (u ≡ record { setup = setup; game = None }))
-    ⊎ (GivesNone (told_file files file) after × Refuses CannotLoadFile t said u))
-LoadsFile files file after failed t said u = IsUtf8 file × Refuses CannotLoadFile t said u
+    ⊎ (GivesNone (told_file files file) after × RefusesWith CannotLoadFile t said u))
+LoadsFile files file after failed t said u = IsUtf8 file × RefusesWith CannotLoadFile t said u
 
 -- what an order that loads nothing does
 abbrev pub Does : Limits → Order → Table → Said → Table → Type 0
-Does limits protocol_version t said u = Says (codes "2") t said u
-Does limits name t said u = Says (codes "gdsolve") t said u
-Does limits version t said u = Says (codes "1") t said u
-Does limits (known_command word) t said u = (text : List ℕ) × IsKnown word text × Says text t said u
-Does limits list_commands t said u = Says all_commands t said u
+Does limits protocol_version t said u = RepliesWith (codes "2") t said u
+Does limits name t said u = RepliesWith (codes "gdsolve") t said u
+Does limits version t said u = RepliesWith (codes "1") t said u
+Does limits (known_command word) t said u = (text : List ℕ) × SaysWhetherKnown word text × RepliesWith text t said u
+Does limits list_commands t said u = RepliesWith all_commands t said u
 Does limits (boardsize n) t said u = TakesSize n t said u
 Does limits clear_board t said u = (said ≡ done []) × (u ≡ fresh t.setup.board.columns t.setup.board.rows t.setup.komi_halves)
 Does limits (komi halves) t said u = TakesKomi halves t said u
 Does limits (play c wanted) t said u = TakesTurn limits c (PlaysWanted wanted) t said u
 Does limits (genmove c) t said u = TakesTurn limits c Generates t said u
-Does limits quit t said u = Says [] t said u
+Does limits quit t said u = RepliesWith [] t said u
 Does limits (loadsgf file after) t said u = ⊥
 
 -- what an order does, by what becomes of its load
@@ -182,8 +182,8 @@ Obeys limits files order fate t said u = (fate ≡ no_load) × Does limits order
 -- what is done on what the words ask for
 abbrev pub Meets : Limits → Option Files → Asked → Fate → Table → Said → Table → Type 0
 Meets limits files (something order) fate t said u = Obeys limits files order fate t said u
-Meets limits files unknown fate t said u = (fate ≡ no_load) × Refuses UnknownCommand t said u
-Meets limits files misfit fate t said u = (fate ≡ no_load) × Refuses SyntaxError t said u
+Meets limits files unknown fate t said u = (fate ≡ no_load) × RefusesWith UnknownCommand t said u
+Meets limits files misfit fate t said u = (fate ≡ no_load) × RefusesWith SyntaxError t said u
 
 -- whether the session ends with what was asked for
 abbrev pub is_last : Asked → Bool
@@ -201,20 +201,20 @@ abbrev pub AnswersLine : Limits → Option Files → List ℕ → Fate → Table
 AnswersLine limits files line fate t reply u last = (words : List (List ℕ)) × AreWords (cleaned line) words × AnswersWords limits files words fate t reply u last
 
 -- loads are numbered from 0, and those of the list fail
-abbrev pub IsNumbered : List ℕ → Fate → ℕ → ℕ → Type 0
-IsNumbered failing no_load n next = next ≡ n
-IsNumbered failing made n next = (next ≡ n + 1) × ¬ Contains failing n
-IsNumbered failing failed n next = (next ≡ n + 1) × Contains failing n
+abbrev pub IsLoadNumbered : List ℕ → Fate → ℕ → ℕ → Type 0
+IsLoadNumbered failing no_load n next = next ≡ n
+IsLoadNumbered failing made n next = (next ≡ n + 1) × ¬ Contains failing n
+IsLoadNumbered failing failed n next = (next ≡ n + 1) × Contains failing n
 
 -- where a session stands: its table, how many loads there were, how many lines were read, and the bytes that are left
-pub record Standing : Type 0 where
+pub record GtpStanding : Type 0 where
   pub table : Table
   pub loads : ℕ
   pub read : ℕ
   pub left : List ℕ
 
 -- one line is read and answered
-pub record TakesLine (limits : Limits) (files : Option Files) (failing : List ℕ) (a : Standing) (text : List ℕ) (b : Standing) (last : Bool) : Type 0 where
+pub record TakesLine (limits : Limits) (files : Option Files) (failing : List ℕ) (a : GtpStanding) (text : List ℕ) (b : GtpStanding) (last : Bool) : Type 0 where
   pub few : a.read < MOST_LINES
   pub some : a.left ≢ []
   pub line : List ℕ
@@ -222,40 +222,40 @@ pub record TakesLine (limits : Limits) (files : Option Files) (failing : List �
   pub taken : IsLine 1024 a.left line b.left
   pub answered : AnswersLine limits files line fate a.table text b.table last
   pub counted : b.read ≡ a.read + 1
-  pub numbered : IsNumbered failing fate a.loads b.loads
+  pub numbered : IsLoadNumbered failing fate a.loads b.loads
 
 -- the session ends here: with a line that says so, or where no line is left or may be read
-abbrev pub Ends : Limits → Option Files → List ℕ → Standing → List ℕ → Standing → GtpEnd → Type 0
-Ends limits files failing a text b Quit = TakesLine limits files failing a text b true
-Ends limits files failing a text b InputEnded = (a.read < MOST_LINES) × (a.left ≡ []) × (text ≡ []) × (b ≡ a)
-Ends limits files failing a text b TooManyLines = (a.read ≡ MOST_LINES) × (text ≡ []) × (b ≡ a)
-Ends limits files failing a text b end = ⊥
+abbrev pub EndsGtpSession : Limits → Option Files → List ℕ → GtpStanding → List ℕ → GtpStanding → GtpEnd → Type 0
+EndsGtpSession limits files failing a text b Quit = TakesLine limits files failing a text b true
+EndsGtpSession limits files failing a text b InputEnded = (a.read < MOST_LINES) × (a.left ≡ []) × (text ≡ []) × (b ≡ a)
+EndsGtpSession limits files failing a text b TooManyLines = (a.read ≡ MOST_LINES) × (text ≡ []) × (b ≡ a)
+EndsGtpSession limits files failing a text b end = ⊥
 
 -- so many lines, one after the other, and their replies
-abbrev pub Turns : Limits → Option Files → List ℕ → ℕ → Standing → List ℕ → Standing → Type 0
-Turns limits files failing zero a text b = (text ≡ []) × (b ≡ a)
-Turns limits files failing (suc n) a text c = (b : Standing) × ((first then : List ℕ) × Turns limits files failing n a first b
+abbrev pub TakesLines : Limits → Option Files → List ℕ → ℕ → GtpStanding → List ℕ → GtpStanding → Type 0
+TakesLines limits files failing zero a text b = (text ≡ []) × (b ≡ a)
+TakesLines limits files failing (suc n) a text c = (b : GtpStanding) × ((first then : List ℕ) × TakesLines limits files failing n a first b
     × TakesLine limits files failing b then c false × (text ≡ first ++ then))
 
 -- a whole session: lines, and then its end
-pub record IsSession (limits : Limits) (files : Option Files) (failing : List ℕ) (a : Standing) (text : List ℕ) (c : Standing) (end : GtpEnd) : Type 0 where
+pub record IsGtpSession (limits : Limits) (files : Option Files) (failing : List ℕ) (a : GtpStanding) (text : List ℕ) (c : GtpStanding) (end : GtpEnd) : Type 0 where
   pub number : ℕ
-  pub before_end : Standing
+  pub before_end : GtpStanding
   pub first : List ℕ
   pub then : List ℕ
-  pub turns : Turns limits files failing number a first before_end
-  pub ends : Ends limits files failing before_end then c end
+  pub turns : TakesLines limits files failing number a first before_end
+  pub ends : EndsGtpSession limits files failing before_end then c end
   pub whole : text ≡ first ++ then
 
 -- the replies to all lines up to one that is still to be answered
-abbrev pub Waits : Limits → Option Files → List ℕ → Standing → List ℕ → Standing → Type 0
-Waits limits files failing a text b = (n : ℕ) × Turns limits files failing n a text b × (b.read < MOST_LINES)
+abbrev pub WaitsToReply : Limits → Option Files → List ℕ → GtpStanding → List ℕ → GtpStanding → Type 0
+WaitsToReply limits files failing a text b = (n : ℕ) × TakesLines limits files failing n a text b × (b.read < MOST_LINES)
 
 -- the replies to some lines, and a front part of the next reply
-abbrev pub BreaksOff : Limits → Option Files → List ℕ → Standing → List ℕ → Type 0
-BreaksOff limits files failing a text = (n : ℕ) × (b c : Standing) × (first then more : List ℕ) × (last : Bool) × Turns limits files failing n a first b
+abbrev pub BreaksOffReply : Limits → Option Files → List ℕ → GtpStanding → List ℕ → Type 0
+BreaksOffReply limits files failing a text = (n : ℕ) × (b c : GtpStanding) × (first then more : List ℕ) × (last : Bool) × TakesLines limits files failing n a first b
     × TakesLine limits files failing b (then ++ more) c last × (text ≡ first ++ then)
 
 -- where a session begins: an empty board of 19 by 19 without a komi, Black to move, and nothing was loaded or read
-abbrev pub beginning : List ℕ → Standing
+abbrev pub beginning : List ℕ → GtpStanding
 beginning bytes = record { table = fresh 19 19 (pos 0); loads = 0; read = 0; left = bytes }

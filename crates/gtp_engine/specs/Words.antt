@@ -26,13 +26,13 @@ IsApart [] = Unit {0}
 IsApart (b ∷ more) = b ≡ 32
 
 -- the first word of the text, behind blanks, and what comes after it
-abbrev pub IsFirst : List ℕ → List ℕ → List ℕ → Type 0
-IsFirst text word rest = (blanks : List ℕ) × (text ≡ blanks ++ (word ++ rest)) × AreBlanks blanks × IsWord word × IsApart rest
+abbrev pub IsFirstWord : List ℕ → List ℕ → List ℕ → Type 0
+IsFirstWord text word rest = (blanks : List ℕ) × (text ≡ blanks ++ (word ++ rest)) × AreBlanks blanks × IsWord word × IsApart rest
 
 -- the text is the words with blanks around them, one at least between two
 abbrev pub AreWords : List ℕ → List (List ℕ) → Type 0
 AreWords text [] = AreBlanks text
-AreWords text (word ∷ words) = (rest : List ℕ) × IsFirst text word rest × AreWords rest words
+AreWords text (word ∷ words) = (rest : List ℕ) × IsFirstWord text word rest × AreWords rest words
 
 -- the first word is the id where it is a numeral, and the other words ask for something; else there is no id
 abbrev pub HasId : List (List ℕ) → List ℕ → List (List ℕ) → Type 0

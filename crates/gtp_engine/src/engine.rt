@@ -13,8 +13,8 @@ ghost use Rattle.gtp_engine.specs.inner.Viewed.{asked_of, order_of};
 ghost use Rattle.gtp_engine.specs.Kept.{AreLoads};
 ghost use Rattle.gtp_engine.specs.Request.Asked.{something};
 ghost use Rattle.gtp_engine.specs.Request.Order.{boardsize, komi, loadsgf};
-ghost use Rattle.gtp_engine.specs.Session.{IsKnown, done, fresh, is_last, reply_text};
-ghost use Rattle.gtp_engine.specs.Written.{IsAnswered, unused};
+ghost use Rattle.gtp_engine.specs.Session.{SaysWhetherKnown, done, fresh, is_last, reply_text};
+ghost use Rattle.gtp_engine.specs.Written.{IsReply, unused};
 ghost use Rattle.gtp_engine.specs.inner.Written.{IsMet, IsObeyed};
 
 use crate::command::read_command;
@@ -79,7 +79,7 @@ const ALL_COMMANDS: &[u8] =
 
 /// Whether a word is the name of a command.
 fn known(word: &[u8]) -> &'static [u8]
-    ensures { IsKnown word.now result.now }
+    ensures { SaysWhetherKnown word.now result.now }
 {
     match read_command(word) {
         Some(_) => b"true",
@@ -341,7 +341,7 @@ impl Engine {
         steps: &mut Steps<L>,
     ) -> Result<Answer, AllocError>
         requires few { self.old.loads < MOST_LOADS }
-        ensures answered { IfOk result (λ answer. IsAnswered (H.files shelf.old)
+        ensures answered { IfOk result (λ answer. IsReply (H.files shelf.old)
             (H.faults shelf.old)
             (H.faults shelf.new) line.now self.old answer.reply self.new answer.quit) }
         ensures same { OnErr result (self.new ≡ self.old) }

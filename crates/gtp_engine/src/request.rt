@@ -1,9 +1,9 @@
 //! What the words of a line ask for.
 
 ghost use Rattle.std.specs.Prelude.{◌≤◌, ◌+◌, ℕ, map, IfSome, IfNone};
-ghost use Rattle.gtp_engine.specs.Request.{Asks, Fits, FitsAlone, FitsOne, FitsTwo, Order};
+ghost use Rattle.gtp_engine.specs.Request.{Asks, FitsArguments, FitsAlone, FitsOne, FitsTwo, Order};
 ghost use Rattle.gtp_engine.specs.inner.Viewed.{asked_of, order_of};
-ghost use Rattle.board_words.specs.Numbers.{IsNumber};
+ghost use Rattle.board_words.specs.Numbers.{IsNumberWord};
 
 use crate::command::{Command, read_command};
 use crate::moves::{Wanted, read_colour, read_wanted};
@@ -76,9 +76,9 @@ fn with_one<'a>(command: Command, word: &'a [u8]) -> Option<Request<'a>>
 
 /// How many moves come before the move of a number.
 fn read_moves(word: &[u8]) -> Option<u32>
-    ensures some { IfSome result (λ moves. IsNumber word.now (moves + 1)
+    ensures some { IfSome result (λ moves. IsNumberWord word.now (moves + 1)
         × (moves + 1 ≤ LAST_MOVE)) }
-    ensures none { IfNone result ((moves : ℕ) → IsNumber word.now (moves + 1)
+    ensures none { IfNone result ((moves : ℕ) → IsNumberWord word.now (moves + 1)
         → ¬ (moves + 1 ≤ LAST_MOVE)) }
 {
     let number = read_number(word)?;
@@ -106,10 +106,10 @@ fn with_two<'a>(command: Command, first: &'a [u8], second: &[u8]) -> Option<Requ
 
 /// The request of a command with arguments.
 fn fit<'a>(command: Command, arguments: &[&'a [u8]]) -> Option<Request<'a>>
-    ensures some { IfSome result (λ request. Fits command (map (λ w. w.now) arguments.now)
+    ensures some { IfSome result (λ request. FitsArguments command (map (λ w. w.now) arguments.now)
         (order_of request)) }
     ensures none { IfNone result ((order : Order)
-        → ¬ Fits command (map (λ w. w.now) arguments.now) order) }
+        → ¬ FitsArguments command (map (λ w. w.now) arguments.now) order) }
 {
     match arguments {
         [] => alone(command),

@@ -5,7 +5,7 @@ ghost use Rattle.desk_io.specs.Lines.{UsesLines};
 ghost use Rattle.desk_io.specs.Outside.{Appends, HasCause, Rose};
 ghost use Rattle.gtp_engine.specs.declared.end.GtpEnd.TheVariants.{ReadFault, WriteFault};
 ghost use Rattle.gtp_engine.specs.inner.Taking.{IsSomeNoted, LineTaken};
-ghost use Rattle.gtp_engine.specs.Written.{IsRun, RoseBy, unused};
+ghost use Rattle.gtp_engine.specs.Written.{WritesByEnd, RoseBy, unused};
 
 use crate::end::GtpEnd;
 use crate::engine::{Engine, MOST_LOADS};
@@ -85,7 +85,7 @@ impl Engine {
     ) -> GtpEnd
         requires first { self.old ≡ unused self.old.limits }
         ensures text { (bytes : List ℕ) → S.left lines.old ≡ Some bytes
-            → IsRun self.old.limits (H.files shelf.old) self.new.failed_loads bytes
+            → WritesByEnd self.old.limits (H.files shelf.old) self.new.failed_loads bytes
             (K.holds out.old) (K.holds out.new) result }
         ensures counted { RoseBy (length self.new.failed_loads) (H.faults shelf.old)
             (H.faults shelf.new) }

@@ -1,7 +1,7 @@
 //! The words of a line.
 
 ghost use Rattle.std.specs.Prelude.{◌≡◌, ◌↔◌, ◌++◌, ◌<◌, ◌≤◌, true, All, List, ℕ, length, take, drop, slice_index, map, IfOk, IfSome, IfNone};
-ghost use Rattle.gtp_engine.specs.Words.{AreBlanks, AreWords, HasId, IsFirst, cleaned, kept};
+ghost use Rattle.gtp_engine.specs.Words.{AreBlanks, AreWords, HasId, IsFirstWord, cleaned, kept};
 
 use board_words::is_numeral;
 use std::alloc::{AllocError, Global};
@@ -80,7 +80,7 @@ struct Parted<'a> {
 
 /// Takes the first word off a text, where there is one.
 fn part(text: &[u8]) -> Option<Parted<'_>>
-    ensures some { IfSome result (λ p. IsFirst text.now p.word.now p.rest.now) }
+    ensures some { IfSome result (λ p. IsFirstWord text.now p.word.now p.rest.now) }
     ensures none { IfNone result (AreBlanks text.now) }
     ensures shorter { IfSome result (λ p. length p.rest.now < length text.now) }
 {

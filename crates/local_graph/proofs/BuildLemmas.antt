@@ -19,7 +19,7 @@ use Rattle.local_graph.specs.declared.cycle.CycleMove.{CycleMove}
 use Rattle.local_graph.specs.declared.graph.Edge.{Edge}
 use Rattle.local_graph.specs.inner.Built.{ComesBack, Follows, IsEdgeAt, IsRooted}
 use Rattle.local_graph.specs.FiniteLocalPlay.{HasNoCycle}
-use Rattle.local_graph.specs.LocalGraph.{AreDifferent, IsCycle, IsGraph, IsOrder, IsReachable, MoreThan, Plays}
+use Rattle.local_graph.specs.LocalGraph.{AreDifferent, IsCycle, IsGraph, IsOrderOfPlaces, IsReachable, MoreThan, Plays}
 use Rattle.local_graph.proofs.CycleLemmas.{comes_back}
 use Rattle.local_graph.proofs.EdgeListLemmas.{node_inside}
 use Rattle.local_graph.proofs.ExploreLemmas.{unpacked, apart}
@@ -124,10 +124,10 @@ module _ (touch : List Touch) (opening : List Cell) (positions : List ℕ) (edge
 
 -- the same in the words of the code
 pub built : (touch : List Touch) (opening : List Cell) (limit points : ℕ) (positions positions' order order' : List ℕ) (edges edges' : List (List Edge))
-    → IsGraph touch opening positions edges × (length positions ≤ limit) → points ≤ 32 → IsOrder edges order
+    → IsGraph touch opening positions edges × (length positions ≤ limit) → points ≤ 32 → IsOrderOfPlaces edges order
     → positions' ≡ positions → edges' ≡ edges → order' ≡ order
     → (points ≤ 32) × ¬ MoreThan touch opening limit × HasNoCycle touch opening
-    × IsGraph touch opening positions' edges' × IsOrder edges' order'
+    × IsGraph touch opening positions' edges' × IsOrderOfPlaces edges' order'
 built touch opening limit points positions positions' order order' edges edges' (g, few) small o ep ee eo = rw (ep, ee, eo) (
   small,
   not_more touch opening positions edges g limit few,

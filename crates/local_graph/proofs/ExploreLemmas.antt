@@ -9,7 +9,7 @@ use Rattle.go_grid.specs.declared.region.Touch.{Touch}
 use Rattle.local_play.specs.declared.local_move.LocalMove.{LocalMove}
 use Rattle.local_play.specs.LocalPlay.{IsLocalMove}
 use Rattle.local_play.specs.Packed.{pack}
-use Rattle.local_play.specs.Moves.{ListsMoves}
+use Rattle.local_play.specs.Moves.{ListsLocalMoves}
 use Rattle.local_play.proofs.PackLemmas.{pack_same}
 use Rattle.local_graph.specs.declared.graph_build.GraphError.{GraphError}
 use Rattle.local_graph.specs.declared.graph_build.GraphError.TheVariants.{Points, Positions, Cycle, Memory}
@@ -18,7 +18,7 @@ use Rattle.local_graph.specs.declared.graph.Edge.{Edge}
 use Rattle.local_graph.specs.LocalGraph.{Plays, IsReachable, AreEdges, HasMoves, IsGraph, MoreThan}
 use Rattle.go_grid.proofs.PlayLemmas.{long_after}
 use Rattle.local_graph.specs.inner.PlaceTable.{IsNumbered}
-use Rattle.local_graph.specs.inner.Found.{Grows, Extends, EdgesFor, Explored, Placed, AreAwaited}
+use Rattle.local_graph.specs.inner.Found.{Grows, AddsPositions, EdgesFor, Explored, Placed, AreAwaited}
 use Rattle.local_graph.proofs.FoundLemmas.{edge_more}
 use Rattle.local_graph.proofs.FiniteLemmas.{few_positions}
 use Rattle.local_graph.proofs.PlayLemmas.{plays_long, plays_more, one_after}
@@ -75,7 +75,7 @@ has_moves_more touch cells before more after edges is (moves, lists, (long, each
     (moves, lists, (long, λ k m e lt am ae. edge_more before more after m e is (each k m e lt am ae)))
 
 reachable_more : (touch : List Touch) (opening : List Cell) (before after : List ℕ) (cells : List Cell) (moves : List LocalMove)
-    → AreReachable touch opening before → Extends before moves after → IsReachable touch opening cells → ListsMoves touch cells moves
+    → AreReachable touch opening before → AddsPositions before moves after → IsReachable touch opening cells → ListsLocalMoves touch cells moves
     → AreReachable touch opening after
 reachable_more touch opening before after cells moves all x here lists n h = elim (x.new n h) [
   | inl old ↦ all n old
@@ -89,7 +89,7 @@ reachable_more touch opening before after cells moves all x here lists n h = eli
 pub explore_step : (touch : List Touch) (opening : List Cell) (limit : ℕ) (positions after : List ℕ) (edges all : List (List Edge))
     (front waiting : List ℕ) (place : ℕ) (cells : List Cell) (moves : List LocalMove) (es : List Edge)
     → Exploring touch opening limit positions edges (front ++ place ∷ []) → IsReachable touch opening cells
-    → get_or positions place 0 ≡ pack cells → ListsMoves touch cells moves → Extends positions moves after → AreEdges after moves es
+    → get_or positions place 0 ≡ pack cells → ListsLocalMoves touch cells moves → AddsPositions positions moves after → AreEdges after moves es
     → length after ≤ limit → AreAwaited (set edges place es) front (length after) all waiting → Exploring touch opening limit after all waiting
 explore_step touch opening limit positions after edges all front waiting place cells moves es s here at lists x linked few w = record {
   some = omega (arith, s.some, longer, sum);
@@ -183,7 +183,7 @@ too_many touch opening limit ns all once many =
 
 pub explore_err : (touch : List Touch) (opening : List Cell) (limit : ℕ) (positions after : List ℕ)
     (cells : List Cell) (moves : List LocalMove) (es : List Edge) (e : GraphError) → AreReachable touch opening positions
-    → IsReachable touch opening cells → ListsMoves touch cells moves → EdgesFor positions moves limit after es (Err e)
+    → IsReachable touch opening cells → ListsLocalMoves touch cells moves → EdgesFor positions moves limit after es (Err e)
     → Explored touch opening limit after (Err e)
 explore_err touch opening limit positions after cells moves es Positions s here lists x =
     too_many touch opening limit after
@@ -273,7 +273,7 @@ pub opening_numbered : (cells : List Cell) (numbers places n : ℕ) → length c
 opening_numbered cells numbers places n long few many is =
     (cells, omega (arith, long, few), omega (arith, many, ap (λ k. 3 ^ k) long), is)
 
-pub moves_numbered : (touch : List Touch) (cells : List Cell) (moves : List LocalMove) (numbers places : ℕ) → ListsMoves touch cells moves
+pub moves_numbered : (touch : List Touch) (cells : List Cell) (moves : List LocalMove) (numbers places : ℕ) → ListsLocalMoves touch cells moves
     → length cells ≡ places → places ≤ 32 → numbers ≡ 3 ^ places → (m : LocalMove) → Contains moves m → IsNumbered numbers m.next
 moves_numbered touch cells moves numbers places lists long few many m among =
     let move = lists.legal m among in
@@ -298,7 +298,7 @@ next_position touch opening positions i n all inside e =
 pub explored_more : (touch : List Touch) (opening : List Cell) (limit : ℕ) (positions after : List ℕ) (all put all' : List (List Edge))
     (waiting front still : List ℕ) (i n count : ℕ) (moves : List LocalMove) (es : List Edge) (done : Unit {0})
     → Exploring touch opening limit positions all waiting → waiting ≡ front ++ i ∷ [] → (w : IsNext touch opening positions i n)
-    → ListsMoves touch w.cells moves → EdgesFor positions moves limit after es (Ok done) → put ≡ set all i es → count ≡ length after
+    → ListsLocalMoves touch w.cells moves → EdgesFor positions moves limit after es (Ok done) → put ≡ set all i es → count ≡ length after
     → AreAwaited put front count all' still → Exploring touch opening limit after all' still
 explored_more touch opening limit positions after all put all' waiting front still i n count moves es done s ends w lists x is full a =
     explore_step touch opening limit positions after all all' front still i w.cells moves es
@@ -312,7 +312,7 @@ last_waiting touch opening limit positions all waiting front i s ends = s.inside
 
 pub explored_fails : (touch : List Touch) (opening : List Cell) (limit : ℕ) (positions after : List ℕ)
     (i n : ℕ) (moves : List LocalMove) (es : List Edge) (e : GraphError) → AreReachable touch opening positions
-    → (w : IsNext touch opening positions i n) → ListsMoves touch w.cells moves
+    → (w : IsNext touch opening positions i n) → ListsLocalMoves touch w.cells moves
     → EdgesFor positions moves limit after es (Err e) → Explored touch opening limit after (Err e)
 explored_fails touch opening limit positions after i n moves es e s w lists x =
     explore_err touch opening limit positions after w.cells moves es e s w.reach lists x

@@ -14,7 +14,7 @@ use Rattle.local_graph.specs.inner.Graph.{part, lists_of, no_edges, AreWithin}
 use Rattle.local_graph.specs.LocalGraph.{IsEdgeOf, AreEdges}
 use Rattle.local_graph.specs.declared.graph_build.GraphError.{GraphError}
 use Rattle.local_graph.specs.declared.graph_build.GraphError.TheVariants.{Points, Positions, Cycle, Memory}
-use Rattle.local_graph.specs.inner.Found.{Grows, Extends, Placed, EdgesFor, AreAwaited, edge_of}
+use Rattle.local_graph.specs.inner.Found.{Grows, AddsPositions, Placed, EdgesFor, AreAwaited, edge_of}
 
 absent : (n : ℕ) (ns : List ℕ) → list_any (nat_eq n) ns ≡ false → ¬ Contains ns n
 absent n ns none (k, lt, at) = both_ways _ none (list_any_at (nat_eq n) ns k n lt (eq-eqb n (get_or ns k n) (sym at)))
@@ -51,7 +51,7 @@ once_grows before after n once (inr (e, new)) =
 
 -- the edges so far, of the moves below `i`
 pub record Linking (before : List ℕ) (moves : List LocalMove) (limit : ℕ) (after : List ℕ) (edges : List Edge) (i : ℕ) : Type 0 where
-  pub extends : Extends before moves after
+  pub extends : AddsPositions before moves after
   pub few : length after ≤ limit
   pub long : length edges ≡ i
   pub each : (k : ℕ) (m : LocalMove) (e : Edge) → k < i → get_or moves k m ≡ m → get_or edges k e ≡ e → IsEdgeOf after m e
@@ -79,8 +79,8 @@ grown : (before after : List ℕ) (n : ℕ) → Grows before n after → (more :
 grown before after n (inl same) = ([], same ∙ sym (append-nil before))
 grown before after n (inr (e, new)) = (n ∷ [], e)
 
-pub extends_grows : (before between after : List ℕ) (moves : List LocalMove) (m : LocalMove) → Extends before moves between
-    → Contains moves m → Grows between m.next after → Extends before moves after
+pub extends_grows : (before between after : List ℕ) (moves : List LocalMove) (m : LocalMove) → AddsPositions before moves between
+    → Contains moves m → Grows between m.next after → AddsPositions before moves after
 extends_grows before between after moves m s among g =
     let w = grown between after m.next g in
     record {
@@ -135,7 +135,7 @@ linking_edge before between after moves limit i edges more m e place s lt at g f
     rw (is, made) (linking_push before between after moves limit i edges m (edge_of m place) s lt at g few refl refl refl inside next)
 
 pub linking_end : (before : List ℕ) (moves : List LocalMove) (limit : ℕ) (after : List ℕ) (edges : List Edge)
-    → Linking before moves limit after edges (length moves) → Extends before moves after × AreEdges after moves edges × (length after ≤ limit)
+    → Linking before moves limit after edges (length moves) → AddsPositions before moves after × AreEdges after moves edges × (length after ≤ limit)
 linking_end before moves limit after edges s = (s.extends, (s.long, λ k m e lt. s.each k m e (omega (arith, s.long))), s.few)
 
 -- the same in the words of the code
@@ -153,9 +153,9 @@ edges_behind first whole edges is = ap (drop (length first)) is ∙ drop-append_
 
 pub linking_all : (before : List ℕ) (moves : List LocalMove) (limit : ℕ) (after : List ℕ) (first whole edges : List Edge) (i : ℕ)
     → whole ≡ first ++ edges → Linking before moves limit after edges i → i ≡ length moves
-    → Extends before moves after × AreEdges after moves (drop (length first) whole) × (length after ≤ limit)
+    → AddsPositions before moves after × AreEdges after moves (drop (length first) whole) × (length after ≤ limit)
 linking_all before moves limit after first whole edges i is s e =
-    subst (λ es. Extends before moves after × AreEdges after moves es × (length after ≤ limit)) (sym (edges_behind first whole edges is))
+    subst (λ es. AddsPositions before moves after × AreEdges after moves es × (length after ≤ limit)) (sym (edges_behind first whole edges is))
     (linking_end before moves limit after edges (subst (Linking before moves limit after edges) e s))
 
 pub one_behind : (first edges before after : List Edge) (e : Edge) → before ≡ first ++ edges → after ≡ before ++ e ∷ []

@@ -14,8 +14,8 @@ use Rattle.go_grid.proofs.BoardLemmas.{empty_not_stone}
 use Rattle.go_grid.proofs.PlayLemmas.{long_after}
 use Rattle.local_play.specs.declared.local_move.LocalMove.{LocalMove}
 use Rattle.local_play.specs.Packed.{code, pack}
-use Rattle.local_play.specs.Moves.{ListsMoves, IsMoveFrom}
-use Rattle.local_graph.specs.inner.PlaceTable.{threes, Follows}
+use Rattle.local_play.specs.Moves.{ListsLocalMoves, IsMoveFrom}
+use Rattle.local_graph.specs.inner.PlaceTable.{threes, AddsDigit}
 use Rattle.local_graph.proofs.FiniteLemmas.{ternary, ternary_small}
 use Rattle.local_graph.proofs.ThreesLemmas.{threes_is}
 
@@ -86,7 +86,7 @@ one_more cells p c lt free =
     stone_counts colour.White = refl
 
 follows : (touch : List Touch) (cells : List Cell) (from : ℕ) (m : LocalMove) → length cells ≤ 32 → from ≡ pack cells
-    → IsMoveFrom touch cells m → Follows (threes from) m
+    → IsMoveFrom touch cells m → AddsDigit (threes from) m
 follows touch cells from m few is f = record {
   inside = omega (arith, f.move.place, few);
   plain = λ none.
@@ -100,8 +100,8 @@ follows touch cells from m few is f = record {
 }
 
 -- the same in the words of the code
-pub moves_follow : (touch : List Touch) (cells : List Cell) (moves : List LocalMove) (from places : ℕ) → ListsMoves touch cells moves
-    → length cells ≡ places → places ≤ 32 → from ≡ pack cells → (m : LocalMove) → Contains moves m → Follows (threes from) m
+pub moves_follow : (touch : List Touch) (cells : List Cell) (moves : List LocalMove) (from places : ℕ) → ListsLocalMoves touch cells moves
+    → length cells ≡ places → places ≤ 32 → from ≡ pack cells → (m : LocalMove) → Contains moves m → AddsDigit (threes from) m
 moves_follow touch cells moves from places lists long few is m among =
     follows touch cells from m (omega (arith, long, few)) is (lists.legal m among)
 

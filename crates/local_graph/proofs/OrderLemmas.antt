@@ -10,7 +10,7 @@ use Rattle.local_play.specs.LocalPlay.{IsLocalMove}
 use Rattle.local_play.specs.Packed.{pack}
 use Rattle.local_graph.specs.declared.cycle.CycleMove.{CycleMove}
 use Rattle.local_graph.specs.declared.graph.Edge.{Edge}
-use Rattle.local_graph.specs.LocalGraph.{Plays, IsReachable, IsGraph, IsOrder}
+use Rattle.local_graph.specs.LocalGraph.{Plays, IsReachable, IsGraph, IsOrderOfPlaces}
 use Rattle.local_graph.specs.FiniteLocalPlay.{HasNoCycle}
 use Rattle.local_graph.proofs.PlayLemmas.{plays_more, one_after}
 
@@ -53,7 +53,7 @@ record StandsAt (positions order : List ℕ) (p : List Cell) (k : ℕ) : Type 0 
   is : get_or positions (get_or order k 0) 0 ≡ pack p
 
 step_back : (touch : List Touch) (opening : List Cell) (positions order : List ℕ) (edges : List (List Edge))
-    → IsGraph touch opening positions edges → IsOrder edges order → (p next : List Cell) (m : CycleMove) (k : ℕ)
+    → IsGraph touch opening positions edges → IsOrderOfPlaces edges order → (p next : List Cell) (m : CycleMove) (k : ℕ)
     → IsReachable touch opening p → StandsAt positions order p k → IsLocalMove touch p m.colour m.place next
     → (j : ℕ) × (j < k) × StandsAt positions order next j
 step_back touch opening positions order edges g o p next m k reach at move =
@@ -69,7 +69,7 @@ step_back touch opening positions order edges g o p next m k reach at move =
     )
 
 walk_back : (touch : List Touch) (opening : List Cell) (positions order : List ℕ) (edges : List (List Edge))
-    → IsGraph touch opening positions edges → IsOrder edges order → (p end : List Cell) (ms : List CycleMove) (k : ℕ)
+    → IsGraph touch opening positions edges → IsOrderOfPlaces edges order → (p end : List Cell) (ms : List CycleMove) (k : ℕ)
     → IsReachable touch opening p → StandsAt positions order p k → Plays touch p ms end
     → (j : ℕ) × (j + length ms ≤ k) × StandsAt positions order end j
 walk_back touch opening positions order edges g o p end [] k reach at h =
@@ -91,7 +91,7 @@ same_place ns i j once li lj e = elim (cases_lt i j) [
 ]
 
 pub no_cycle : (touch : List Touch) (opening : List Cell) (positions order : List ℕ) (edges : List (List Edge))
-    → IsGraph touch opening positions edges → IsOrder edges order → HasNoCycle touch opening
+    → IsGraph touch opening positions edges → IsOrderOfPlaces edges order → HasNoCycle touch opening
 no_cycle touch opening positions order edges g o ms back c =
     let p = c.returns_to in
     let reach : IsReachable touch opening p = (take back ms, c.there) in

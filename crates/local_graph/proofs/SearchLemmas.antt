@@ -12,7 +12,7 @@ use Rattle.local_graph.specs.declared.graph.Edge.{Edge}
 use Rattle.local_graph.specs.declared.search.Frame.{Frame}
 use Rattle.local_graph.specs.declared.search.Visit.{Visit}
 use Rattle.local_graph.specs.declared.search.Visit.TheVariants.{New, OnPath, Placed}
-use Rattle.local_graph.specs.LocalGraph.{IsOrder}
+use Rattle.local_graph.specs.LocalGraph.{IsOrderOfPlaces}
 use Rattle.local_graph.specs.inner.Built.{IsRooted, Follows}
 use Rattle.local_graph.specs.inner.Graph.{edges_at, no_edge, edge_at}
 use Rattle.local_graph.specs.inner.Searching.{visit_at, nodes_of, EndsIn, GoesOn, Trail, IsPath, Searching, Returns, is_new, work_left}
@@ -294,7 +294,7 @@ module _ (E : List (List Edge)) (front : List Frame) (f : Frame) (visits : List 
           )
 
 -- with nothing on the path all nodes are in the order
-pub search_end : (E : List (List Edge)) (visits : List Visit) (order : List ℕ) → IsRooted E → Searching E [] visits order → IsOrder E order
+pub search_end : (E : List (List Edge)) (visits : List Visit) (order : List ℕ) → IsRooted E → Searching E [] visits order → IsOrderOfPlaces E order
 search_end E visits order r s = record {
   once = s.once;
   inside = λ k lt.

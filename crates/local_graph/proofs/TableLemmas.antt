@@ -4,16 +4,16 @@ use Rattle.std.specs.List.{Contains}
 use Rattle.std.proofs.lemmas.Bool.{cases_eq, cases_lt, cond_above}
 use Rattle.std.proofs.lemmas.List.{get_or_default, get_or_append_left, get_or_push, length_push, length-set, get_or-set_same, get_or-set_other, get_or_past, length-replicate}
 use Rattle.std.proofs.lemmas.List.Elements.{Contains-get_or, Contains-push_cases}
-use Rattle.local_graph.specs.inner.PlaceTable.{slot_of, threes, Leads, here, onward, IsNumbered, AreEntered}
+use Rattle.local_graph.specs.inner.PlaceTable.{slot_of, threes, LinksLead, here, onward, IsNumbered, AreEntered}
 use Rattle.local_graph.proofs.FiniteLemmas.{ternary_small}
 use Rattle.local_graph.proofs.ThreesLemmas.{threes_is, same_threes}
 
 -- links lead on as before with one more
-leads_more : (before : List ℕ) (x link place : ℕ) → link ≤ length before → ((i : ℕ) → get_or before i 0 ≤ i) → Leads before link place
-    → Leads (before ++ x ∷ []) link place
+leads_more : (before : List ℕ) (x link place : ℕ) → link ≤ length before → ((i : ℕ) → get_or before i 0 ≤ i) → LinksLead before link place
+    → LinksLead (before ++ x ∷ []) link place
 leads_more before x link place low falls (here i) = here i
 leads_more before x link place low falls (onward i place' rest) =
-    onward i place (subst (λ n. Leads (before ++ x ∷ []) n place) (sym (get_or_append_left before (x ∷ []) 0 i (omega (arith, low))))
+    onward i place (subst (λ n. LinksLead (before ++ x ∷ []) n place) (sym (get_or_append_left before (x ∷ []) 0 i (omega (arith, low))))
     (leads_more before x (get_or before i 0) place (omega (arith, falls i, low)) falls rest))
 
 -- one more position is entered
@@ -63,29 +63,29 @@ entered_more positions latest before latest' before' numbers slot link s more is
     its i = ap (λ n. slot_of (get_or positions i 0) n numbers) slots
 
     last : (i : ℕ) → i ≡ length before
-        → Leads (before ++ link ∷ []) (get_or (set latest slot (length before + 1)) (slot_of (get_or positions i 0) (length (set latest slot (length before + 1))) numbers) 0) i
+        → LinksLead (before ++ link ∷ []) (get_or (set latest slot (length before + 1)) (slot_of (get_or positions i 0) (length (set latest slot (length before + 1))) numbers) 0) i
     last i e =
         let there : slot_of (get_or positions i 0) (length (set latest slot (length before + 1))) numbers ≡ slot = its i ∙ ap (λ j. slot_of (get_or positions j 0) (length latest) numbers) e ∙ sym is in
         let link' : get_or (set latest slot (length before + 1)) (slot_of (get_or positions i 0) (length (set latest slot (length before + 1))) numbers) 0 ≡ suc i =
         ap (λ n. get_or (set latest slot (length before + 1)) n 0) there ∙ at_slot ∙ ap suc (sym e) in
-        subst (λ n. Leads (before ++ link ∷ []) n i) (sym link') (here i)
+        subst (λ n. LinksLead (before ++ link ∷ []) n i) (sym link') (here i)
 
     others : (i : ℕ) → i < length before
-        → Leads (before ++ link ∷ []) (get_or (set latest slot (length before + 1)) (slot_of (get_or positions i 0) (length (set latest slot (length before + 1))) numbers) 0) i
+        → LinksLead (before ++ link ∷ []) (get_or (set latest slot (length before + 1)) (slot_of (get_or positions i 0) (length (set latest slot (length before + 1))) numbers) 0) i
     others i lt =
         let was = s.each i lt in
         let k = slot_of (get_or positions i 0) (length latest) numbers in
         let grown = leads_more before link (get_or latest k 0) i (s.links k) s.falls was in
-        subst (λ n. Leads (before ++ link ∷ []) (get_or (set latest slot (length before + 1)) n 0) i) (sym (its i)) (elim (cases_eq k slot) [
+        subst (λ n. LinksLead (before ++ link ∷ []) (get_or (set latest slot (length before + 1)) n 0) i) (sym (its i)) (elim (cases_eq k slot) [
           | inl e ↦
               let first : get_or (before ++ link ∷ []) (length before) 0 ≡ get_or latest k 0 =
               get_or_push before link 0 (length before) refl ∙ old ∙ ap (λ n. get_or latest n 0) (sym e) in
               let link' : get_or (set latest slot (length before + 1)) k 0 ≡ suc (length before) = ap (λ n. get_or (set latest slot (length before + 1)) n 0) e ∙ at_slot in
-              subst (λ n. Leads (before ++ link ∷ []) n i) (sym link')
-              (onward (length before) i (subst (λ n. Leads (before ++ link ∷ []) n i) (sym first) grown))
+              subst (λ n. LinksLead (before ++ link ∷ []) n i) (sym link')
+              (onward (length before) i (subst (λ n. LinksLead (before ++ link ∷ []) n i) (sym first) grown))
           | inr ne ↦
               let same : get_or (set latest slot (length before + 1)) k 0 ≡ get_or latest k 0 = rw get_or-set_other refl in
-              subst (λ n. Leads (before ++ link ∷ []) n i) (sym same) grown
+              subst (λ n. LinksLead (before ++ link ∷ []) n i) (sym same) grown
         ])
 
 -- no position is entered
@@ -151,14 +151,14 @@ numbered_pushed positions after numbers position are one e n h = elim (Contains-
 -- where a search for a position is: all places of the position are ahead
 pub record IsAhead (positions before : List ℕ) (position link : ℕ) : Type 0 where
   pub low : link ≤ length before
-  pub leads : (i : ℕ) → i < length positions → get_or positions i 0 ≡ position → Leads before link i
+  pub leads : (i : ℕ) → i < length positions → get_or positions i 0 ≡ position → LinksLead before link i
 
 pub ahead_first : (positions latest before : List ℕ) (numbers position slot link : ℕ) → AreEntered positions latest before numbers
     → length before ≡ length positions → slot ≡ slot_of position (length latest) numbers → link ≡ get_or latest slot 0
     → IsAhead positions before position link
 ahead_first positions latest before numbers position slot link s all is at = record {
   low = omega (arith, at, s.links slot);
-  leads = λ i lt e. subst (λ n. Leads before n i) (ap (λ n. get_or latest n 0) (ap (λ n. slot_of n (length latest) numbers) e ∙ sym is) ∙ sym at) (s.each i (omega (arith, lt, all)));
+  leads = λ i lt e. subst (λ n. LinksLead before n i) (ap (λ n. get_or latest n 0) (ap (λ n. slot_of n (length latest) numbers) e ∙ sym is) ∙ sym at) (s.each i (omega (arith, lt, all)));
 }
 
 -- the next link, where the place before this one isn't the position's
@@ -167,12 +167,12 @@ pub ahead_next : (positions latest before : List ℕ) (numbers position link nex
     → (get_or positions place 0 ≡ position → ⊥) → next ≡ get_or before place 0 → IsAhead positions before position next
 ahead_next positions latest before numbers position link next place s w is other at = record {
   low = omega (arith, at, s.falls place, w.low, is);
-  leads = λ i lt e. onto i e (subst (λ n. Leads before n i) is (w.leads i lt e));
+  leads = λ i lt e. onto i e (subst (λ n. LinksLead before n i) is (w.leads i lt e));
 }
   where
-    onto : (i : ℕ) → get_or positions i 0 ≡ position → Leads before (suc place) i → Leads before next i
+    onto : (i : ℕ) → get_or positions i 0 ≡ position → LinksLead before (suc place) i → LinksLead before next i
     onto i e (here i') = absurd (other e)
-    onto i e (onward place' i' rest) = subst (λ n. Leads before n i) (sym at) rest
+    onto i e (onward place' i' rest) = subst (λ n. LinksLead before n i) (sym at) rest
 
 -- where each number has a slot of its own, what stands in a position's slot is its place
 pub exact_place : (positions latest before : List ℕ) (numbers position slot link place : ℕ) → AreEntered positions latest before numbers
@@ -195,6 +195,6 @@ exact_none positions latest before numbers position slot link s all le is at non
     let slot_is = is ∙ sym (exact_slot position (length latest) numbers le) in
     nowhere link i ((ahead_first positions latest before numbers position slot link s all slot_is at).leads i lt there) none
   where
-    nowhere : (link i : ℕ) → Leads before link i → link ≡ 0 → ⊥
+    nowhere : (link i : ℕ) → LinksLead before link i → link ≡ 0 → ⊥
     nowhere link i (here i') e = absurd (omega arith)
     nowhere link i (onward k i' rest) e = absurd (omega arith)

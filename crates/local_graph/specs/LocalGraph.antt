@@ -6,7 +6,7 @@ use Rattle.go_grid.specs.declared.region.Touch.{Touch}
 use Rattle.local_play.specs.declared.local_move.LocalMove.{LocalMove}
 use Rattle.local_play.specs.LocalPlay.{IsLocalMove}
 use Rattle.local_play.specs.Packed.{pack}
-use Rattle.local_play.specs.Moves.{ListsMoves}
+use Rattle.local_play.specs.Moves.{ListsLocalMoves}
 use Rattle.local_graph.specs.declared.cycle.CycleMove.{CycleMove}
 use Rattle.local_graph.specs.declared.graph.Edge.{Edge}
 
@@ -54,7 +54,7 @@ AreEdges positions moves edges = (length edges ≡ length moves)
 
 -- the edges of the place are exactly the moves of the position there, Black's by place and then White's
 abbrev pub HasMoves : List Touch → List Cell → List ℕ → List Edge → Type 0
-HasMoves touch cells positions edges = (moves : List LocalMove) × ListsMoves touch cells moves × AreEdges positions moves edges
+HasMoves touch cells positions edges = (moves : List LocalMove) × ListsLocalMoves touch cells moves × AreEdges positions moves edges
 
 -- each reachable position once, the opening first, with exactly its moves
 pub record IsGraph (touch : List Touch) (opening : List Cell) (positions : List ℕ) (edges : List (List Edge)) : Type 0 where
@@ -68,7 +68,7 @@ pub record IsGraph (touch : List Touch) (opening : List Cell) (positions : List 
       → slice_index positions i ≡ pack cells → HasMoves touch cells positions (slice_index_or edges i [])
 
 -- Each place once, and each edge leads to one that stands earlier.
-pub record IsOrder (edges : List (List Edge)) (order : List ℕ) : Type 0 where
+pub record IsOrderOfPlaces (edges : List (List Edge)) (order : List ℕ) : Type 0 where
   pub once : AllPairs (λ a b. a ≢ b) order
   pub inside : (k : ℕ) → k < length order → slice_index order k < length edges
   pub every : (i : ℕ) → i < length edges → Contains order i

@@ -6,7 +6,7 @@ ghost use Rattle.std.specs.List.{AllPairs};
 ghost use Rattle.local_graph.specs.Built.{Built};
 ghost use Rattle.local_graph.specs.inner.Graph.{lists_of, AreWithin};
 ghost use Rattle.local_graph.specs.inner.Found.{Placed, EdgesFor, edge_of, Explored, AreAwaited};
-ghost use Rattle.local_graph.specs.inner.PlaceTable.{threes, IsTable, IsNumbered, ArePowers, Follows};
+ghost use Rattle.local_graph.specs.inner.PlaceTable.{threes, IsPlaceTable, IsNumbered, ArePowers, AddsDigit};
 
 use crate::cycle::CycleList;
 use crate::edge_lists::{EdgeLists, Span};
@@ -60,13 +60,13 @@ fn new_place(
     position: Local,
     limit: u32,
 ) -> Result<usize, GraphError>
-    requires table { IsTable table.old }
+    requires table { IsPlaceTable table.old }
     requires new { ¬ Contains table.old.positions.items position }
     requires numbered { IsNumbered table.old.numbers position }
     requires few { length table.old.positions.items ≤ limit }
     ensures placed { Placed table.old.positions.items position limit
         table.new.positions.items result }
-    ensures table { OnOk result (IsTable table.new) }
+    ensures table { OnOk result (IsPlaceTable table.new) }
     ensures numbers { OnOk result (table.new.numbers ≡ table.old.numbers) }
 {
     let place = table.positions.len();
@@ -81,7 +81,7 @@ fn new_place(
 /// The place of a position with a number in base 3, if it was found.
 #[inline(always)]
 fn place_of(table: &PlaceTable, position: Local, number: u64) -> Option<usize>
-    requires table { IsTable table.now }
+    requires table { IsPlaceTable table.now }
     requires number { number ≡ threes position }
     requires numbered { IsNumbered table.now.numbers position }
     ensures found { IfSome result (λ place. (place < length table.now.positions.items)
@@ -113,19 +113,19 @@ fn list_edges(
     limit: u32,
     edges: &mut Vec<Edge>,
 ) -> Result<(), GraphError>
-    requires table { IsTable table.old }
+    requires table { IsPlaceTable table.old }
     requires once { AllPairs (λ a b. a ≢ b) table.old.positions.items }
     requires numbered { (m : LocalMove) → Contains moves.now m
         → IsNumbered table.old.numbers m.next }
     requires powers { ArePowers powers.now }
     requires small { threes from < 3 ^ MOST_PLACES }
-    requires follows { (m : LocalMove) → Contains moves.now m → Follows (threes from) m }
+    requires follows { (m : LocalMove) → Contains moves.now m → AddsDigit (threes from) m }
     requires few { length table.old.positions.items ≤ limit }
     ensures edges { EdgesFor table.old.positions.items moves.now limit table.new.positions.items
         (drop (length edges.old.items) edges.new.items) result }
     ensures behind { OnOk result (edges.new.items
         ≡ edges.old.items ++ drop (length edges.old.items) edges.new.items) }
-    ensures table { OnOk result (IsTable table.new) }
+    ensures table { OnOk result (IsPlaceTable table.new) }
     ensures numbers { OnOk result (table.new.numbers ≡ table.old.numbers) }
 {
     let number = threes(from.0);
@@ -171,7 +171,7 @@ pub(crate) fn explore<L: Ledger>(
     steps: &mut Steps<L>,
 ) -> Result<EdgeLists, GraphError>
     requires points { length region.now.points ≤ 32 }
-    requires table { IsTable table.old }
+    requires table { IsPlaceTable table.old }
     requires none { table.old.positions.items ≡ [] }
     requires numbers { table.old.numbers ≡ 3 ^ length region.now.points }
     ensures graph { Explored region.now.touch region.now.cells limit

@@ -1,7 +1,7 @@
 //! The number in base 3 of the position after a move, from that of the position before it.
 
 ghost use Rattle.std.specs.Prelude.{◌≡◌, ◌^◌, ◌<◌};
-ghost use Rattle.local_graph.specs.inner.PlaceTable.{threes, ArePowers, Follows};
+ghost use Rattle.local_graph.specs.inner.PlaceTable.{threes, ArePowers, AddsDigit};
 
 use crate::place_table::threes;
 use go_grid::Colour;
@@ -23,7 +23,7 @@ pub(crate) fn powers() -> [u64; MOST_PLACES]
 pub(crate) fn number_after(powers: &[u64; MOST_PLACES], from: u64, step: &LocalMove) -> u64
     requires powers { ArePowers powers.now }
     requires small { from < 3 ^ MOST_PLACES }
-    requires follows { Follows from step.now }
+    requires follows { AddsDigit from step.now }
     ensures { result ≡ threes step.now.next }
 {
     if step.taken > 0 {

@@ -1,7 +1,7 @@
 //! The positions found so far, and a table that tells their places.
 
 ghost use Rattle.std.specs.Prelude.{◌≡◌, ℕ, ◌+◌, ◌-◌, ◌*◌, ◌^◌, ◌<◌, ◌≤◌, [], ◌∷◌, ◌++◌, length, slice_index, Contains, IfOk, OnOk, IfSome, IfNone, ◌↔◌, true};
-ghost use Rattle.local_graph.specs.inner.PlaceTable.{folded, threes, slot_of, IsNumbered, AreEntered, IsTable};
+ghost use Rattle.local_graph.specs.inner.PlaceTable.{folded, threes, slot_of, IsNumbered, AreEntered, IsPlaceTable};
 
 use std::alloc::{AllocError, Global};
 
@@ -61,7 +61,7 @@ impl PlaceTable {
     /// No positions, for those of so many places.
     pub(crate) fn new(alloc: Global, places: usize) -> Result<PlaceTable, AllocError>
         requires { places ≤ 32 }
-        ensures table { IfOk result IsTable }
+        ensures table { IfOk result IsPlaceTable }
         ensures none { IfOk result (λ table. table.positions.items ≡ []) }
         ensures numbers { IfOk result (λ table. table.numbers ≡ 3 ^ places) }
     {
@@ -84,7 +84,7 @@ impl PlaceTable {
     /// the position.
     #[inline(always)]
     fn find_exact(&self, position: u64, number: u64) -> Option<usize>
-        requires table { IsTable self.now }
+        requires table { IsPlaceTable self.now }
         requires number { number ≡ threes position }
         requires numbered { IsNumbered self.now.numbers position }
         requires exact { self.now.numbers ≤ length self.now.latest.items }
@@ -102,7 +102,7 @@ impl PlaceTable {
     /// The place of a position with a number in base 3, if it was found.
     #[inline(always)]
     pub(crate) fn find(&self, position: u64, number: u64) -> Option<usize>
-        requires table { IsTable self.now }
+        requires table { IsPlaceTable self.now }
         requires number { number ≡ threes position }
         requires numbered { IsNumbered self.now.numbers position }
         ensures found { IfSome result (λ place. (place < length self.now.positions.items)
@@ -148,7 +148,7 @@ impl PlaceTable {
 
     /// How many slots are to be made: one for each number where those aren't many more than now, and else four times as many.
     fn more_slots(&self) -> usize
-        requires table { IsTable self.now }
+        requires table { IsPlaceTable self.now }
         requires full { length self.now.latest.items < 2 ^ 40 }
         ensures { 0 < result }
     {
@@ -161,10 +161,10 @@ impl PlaceTable {
 
     /// Makes the table anew with more slots.
     fn grow(&mut self, alloc: Global) -> Result<(), AllocError>
-        requires table { IsTable self.old }
+        requires table { IsPlaceTable self.old }
         requires full { length self.old.latest.items ≤ 2 * length self.old.positions.items + 1 }
         requires few { length self.old.positions.items < 2 ^ 32 }
-        ensures table { OnOk result (IsTable self.new) }
+        ensures table { OnOk result (IsPlaceTable self.new) }
         ensures positions { self.new.positions.items ≡ self.old.positions.items }
         ensures numbers { self.new.numbers ≡ self.old.numbers }
     {
@@ -190,9 +190,9 @@ impl PlaceTable {
 
     /// Makes room for one more position.
     fn make_room(&mut self, alloc: Global) -> Result<(), AllocError>
-        requires table { IsTable self.old }
+        requires table { IsPlaceTable self.old }
         requires few { length self.old.positions.items + 1 < 2 ^ 32 }
-        ensures table { OnOk result (IsTable self.new) }
+        ensures table { OnOk result (IsPlaceTable self.new) }
         ensures positions { self.new.positions.items ≡ self.old.positions.items }
         ensures numbers { self.new.numbers ≡ self.old.numbers }
     {
@@ -204,10 +204,10 @@ impl PlaceTable {
 
     /// Puts a new position behind the others.
     pub(crate) fn add(&mut self, alloc: Global, position: u64) -> Result<(), AllocError>
-        requires table { IsTable self.old }
+        requires table { IsPlaceTable self.old }
         requires numbered { IsNumbered self.old.numbers position }
         requires few { length self.old.positions.items + 1 < 2 ^ 32 }
-        ensures table { OnOk result (IsTable self.new) }
+        ensures table { OnOk result (IsPlaceTable self.new) }
         ensures positions { OnOk result
             (self.new.positions.items ≡ self.old.positions.items ++ position ∷ []) }
         ensures numbers { OnOk result (self.new.numbers ≡ self.old.numbers) }

@@ -17,7 +17,7 @@ use Rattle.local_play.specs.declared.links.Reached.{Reached}
 use Rattle.local_play.specs.Places.{Has}
 use Rattle.local_play.specs.Links.{IsTable, LinksWithin}
 use Rattle.local_play.specs.inner.Links.{IsReached, beside_of}
-use Rattle.local_play.specs.inner.Lasting.{IsPlaced, IsLasting, HasSupport, Lasts, IsLiberty, AreEmpty}
+use Rattle.local_play.specs.inner.Lasting.{AreSidePlaces, IsLasting, HasSupport, Lasts, IsLocalLiberty, AreEmpty}
 use Rattle.local_play.proofs.BitLemmas.{has_or_not}
 use Rattle.local_play.proofs.LastingLemmas.{chain_back, lasts_along}
 
@@ -37,7 +37,7 @@ pub record Judging (touch : List Touch) (cells : List Cell) (c : Colour) (rest l
 
 -- a stone next to an alive one lasts, and the others are still to be judged
 pub judging_start : (touch : List Touch) (cells : List Cell) (c : Colour) (stones beside empty rest lasting : Places)
-    → IsPlaced touch cells c stones beside empty → ((q : ℕ) → Has lasting q ↔ (Has stones q × Has beside q))
+    → AreSidePlaces touch cells c stones beside empty → ((q : ℕ) → Has lasting q ↔ (Has stones q × Has beside q))
     → ((q : ℕ) → Has rest q ↔ (Has stones q × ¬ Has beside q)) → Judging touch cells c rest lasting
 judging_start touch cells c stones beside empty rest lasting placed both others = record {
   left = λ q h. (placed.stones_are q).0 ((others q).0 h).0;
@@ -51,7 +51,7 @@ judging_start touch cells c stones beside empty rest lasting placed both others 
 }
 
 module _ (touch : List Touch) (cells : List Cell) (c : Colour) (stones beside empty rest lasting one rest' : Places) (p : ℕ) (r : Reached)
-    (links : LinksWithin touch) (placed : IsPlaced touch cells c stones beside empty) (s : Judging touch cells c rest lasting)
+    (links : LinksWithin touch) (placed : AreSidePlaces touch cells c stones beside empty) (s : Judging touch cells c rest lasting)
     (here : Has rest p) (is_one : (q : ℕ) → Has one q ↔ (q ≡ p)) (reached : IsReached touch one stones r)
     (is_rest : (q : ℕ) → Has rest' q ↔ (Has rest q × ¬ Has r.places q)) where
   in_chain : (q : ℕ) → Has r.places q → InLocalChain touch cells c p q
@@ -62,10 +62,10 @@ module _ (touch : List Touch) (cells : List Cell) (c : Colour) (stones beside em
   chain_in : (q : ℕ) → InLocalChain touch cells c p q → Has r.places q
   chain_in q chain = (flooded touch cells c one stones r placed.stones_are reached q).1 (p, (is_one p).1 refl, chain)
 
-  liberty : (a : ℕ) → (Has r.near a × Has empty a) → IsLiberty touch cells c p a
+  liberty : (a : ℕ) → (Has r.near a × Has empty a) → IsLocalLiberty touch cells c p a
   liberty a (near, bare) = let w = (reached.near a).0 near in (w.0, in_chain w.0 w.1, w.2, ((placed.empty_are a).0 bare).1)
 
-  has_liberty : (a : ℕ) → IsLiberty touch cells c p a → Has r.near a × Has empty a
+  has_liberty : (a : ℕ) → IsLocalLiberty touch cells c p a → Has r.near a × Has empty a
   has_liberty a (j, chain, link, bare) =
       ((reached.near a).1 (j, chain_in j chain, link), (placed.empty_are a).1 (links.inside j a link, bare))
 

@@ -11,7 +11,7 @@ use Rattle.go_grid.specs.Board.{stone, other}
 use Rattle.local_play.specs.LocalPlay.{held_at, Holds, IsLinked, IsBeside, IsLocalMove, with_stone, is_stone}
 use Rattle.local_play.specs.inner.LocalPlay.{InLocalChain, IsFree, IsRemoved}
 use Rattle.local_play.specs.Links.{LinksWithin}
-use Rattle.local_play.specs.inner.Lasting.{IsLiberty, Lasts, Takes, Stands}
+use Rattle.local_play.specs.inner.Lasting.{IsLocalLiberty, Lasts, Takes, Stands}
 use Rattle.go_grid.proofs.PathLemmas.{carried, leads_here, leads_step, leads_start, leads_end, leads_more, leads_join}
 use Rattle.go_grid.proofs.BoardLemmas.{empty_not_stone, not_other}
 
@@ -40,7 +40,7 @@ lasts_along touch cells c i j w l = elim l [
   | inr t ↦ inr record { one = t.one; two = t.two; apart = t.apart; is_one = longer t.one t.is_one; is_two = longer t.two t.is_two }
 ]
   where
-    longer : (a : ℕ) → IsLiberty touch cells c j a → IsLiberty touch cells c i a
+    longer : (a : ℕ) → IsLocalLiberty touch cells c j a → IsLocalLiberty touch cells c i a
     longer a (k, chain, link, bare) = (k, leads_join (IsLinked touch) (Holds cells c) i j k w chain, link, bare)
 
 -- a stone of the colour at the empty place
@@ -77,8 +77,8 @@ module _ (touch : List Touch) (cells : List Cell) (p : ℕ) (c : Colour) (links 
   ]
 
   -- of two liberties one isn't the place
-  other_liberty : (d : Colour) (i : ℕ) (a b : ℕ) → a ≢ b → IsLiberty touch cells d i a → IsLiberty touch cells d i b
-      → (k : ℕ) × (k ≢ p) × IsLiberty touch cells d i k
+  other_liberty : (d : Colour) (i : ℕ) (a b : ℕ) → a ≢ b → IsLocalLiberty touch cells d i a → IsLocalLiberty touch cells d i b
+      → (k : ℕ) × (k ≢ p) × IsLocalLiberty touch cells d i k
   other_liberty d i a b ne la lb = elim (cases_eq a p) [
     | inl e ↦ (b, (λ e'. ne (e ∙ sym e')), lb)
     | inr ne' ↦ (a, ne', la)

@@ -6,7 +6,7 @@ use Rattle.go_grid.specs.declared.grid.Cell.{Cell}
 use Rattle.go_grid.specs.declared.grid.Colour.TheVariants as colour
 use Rattle.go_grid.specs.declared.region.Touch.{Touch}
 use Rattle.go_grid.specs.Region.{nothing_near, touch_at, IsRegion}
-use Rattle.go_grid.specs.Path.{Leads}
+use Rattle.go_grid.specs.Path.{HasPath}
 use Rattle.go_grid.proofs.LinkLemmas.{link_at, linked_to, same_point}
 use Rattle.go_grid.proofs.PathLemmas.{carried, leads_here, leads_step}
 use Rattle.local_play.specs.LocalPlay.{IsLinked}
@@ -110,7 +110,7 @@ one_more P n before after Here old new there back q = (
 
 -- what a flood found, with the links of the `done` places followed
 pub record Flooding (touch : List Touch) (seeds within places done near : Places) : Type 0 where
-  pub from : (q : ℕ) → Has places q → (p : ℕ) × Has seeds p × Leads (IsLinked touch) (Has within) p q
+  pub from : (q : ℕ) → Has places q → (p : ℕ) × Has seeds p × HasPath (IsLinked touch) (Has within) p q
   pub first : (q : ℕ) → Has seeds q → Has places q
   pub followed : (q : ℕ) → Has done q → Has places q
   pub closed : (p q : ℕ) → Has done p → IsLinked touch p q → Has within q → Has places q

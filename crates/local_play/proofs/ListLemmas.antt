@@ -13,7 +13,7 @@ use Rattle.local_play.specs.declared.places.Places.{Places}
 use Rattle.local_play.specs.declared.local_move.LocalMove.{LocalMove}
 use Rattle.local_play.specs.declared.local_move.Turn.{Turn}
 use Rattle.local_play.specs.LocalPlay.{IsLocalMove}
-use Rattle.local_play.specs.Moves.{ListsMoves, IsMoveFrom, StandsBefore}
+use Rattle.local_play.specs.Moves.{ListsLocalMoves, IsMoveFrom, StandsBefore}
 use Rattle.local_play.specs.Places.{Has}
 use Rattle.local_play.specs.inner.Lasting.{IsTurn, ListsBelow, AddsMoves}
 
@@ -152,12 +152,12 @@ colours colour.White = inr refl
 -- Black's moves and then White's are all moves of the position
 pub all_moves : (touch : List Touch) (cells : List Cell) (c d : Colour) (start between moves : List LocalMove) → length cells ≡ length touch
     → start ≡ [] → c ≡ colour.Black → d ≡ colour.White → AddsMoves touch cells c start between → AddsMoves touch cells d between moves
-    → ListsMoves touch cells moves
+    → ListsLocalMoves touch cells moves
 all_moves touch cells c d start between moves long es ec ed (black, eb, bb') (white, ew, bw') =
     let bb = subst (λ x. ListsBelow touch cells x (length touch) black) ec bb' in
     let bw = subst (λ x. ListsBelow touch cells x (length touch) white) ed bw' in
     let whole : moves ≡ black ++ white = ew ∙ ap (λ l. l ++ white) (eb ∙ ap (λ l. l ++ black) es) in
-    subst (ListsMoves touch cells) (sym whole) record {
+    subst (ListsLocalMoves touch cells) (sym whole) record {
       legal = λ m h. elim (Contains-append_cases black white m h) [
         | inl b ↦ (bb.each m b).2
         | inr w ↦ (bw.each m w).2

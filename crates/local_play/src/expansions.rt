@@ -4,7 +4,7 @@ ghost use Rattle.std.specs.Prelude.{◌≡◌, ℕ, ◌+◌, ◌≤◌, List, le
 ghost use Rattle.go_grid.specs.declared.grid.Cell.{Cell};
 ghost use Rattle.go_grid.specs.declared.region.Touch.{Touch};
 ghost use Rattle.local_play.specs.Packed.{pack};
-ghost use Rattle.local_play.specs.Moves.{ListsMoves, IsPosition};
+ghost use Rattle.local_play.specs.Moves.{ListsLocalMoves, IsPosition};
 ghost use Rattle.local_play.specs.Links.{IsTable};
 ghost use Rattle.local_play.specs.inner.Lasting.{IsTurn, AddsMoves};
 
@@ -44,7 +44,7 @@ pub fn list_moves<L: Ledger>(
 ) -> Result<(), AllocError>
     ensures moves { (touch : List Touch) (cells : List Cell) → IsTable touch links.now
         → length cells ≡ length touch → from ≡ pack cells
-        → OnOk result (ListsMoves touch cells moves.new.items) }
+        → OnOk result (ListsLocalMoves touch cells moves.new.items) }
     ensures step { steps.new ≡ steps.old + 1 }
 {
     steps.tick();
@@ -67,7 +67,7 @@ pub fn expand<L: Ledger>(
     requires from { IsPosition (length region.now.points) from }
     ensures moves { (cells : List Cell) → length cells ≡ length region.now.points
         → from ≡ pack cells
-        → IfOk result (λ moves. ListsMoves region.now.touch cells moves.items) }
+        → IfOk result (λ moves. ListsLocalMoves region.now.touch cells moves.items) }
     ensures step { steps.new ≡ steps.old + 1 }
 {
     let mut moves = Vec::new(alloc);

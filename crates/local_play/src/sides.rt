@@ -6,7 +6,7 @@ ghost use Rattle.go_grid.specs.declared.grid.Colour.{Colour};
 ghost use Rattle.go_grid.specs.declared.region.Touch.{Touch};
 ghost use Rattle.local_play.specs.Packed.{pack};
 ghost use Rattle.local_play.specs.Links.{IsTable};
-ghost use Rattle.local_play.specs.inner.Lasting.{IsSide, IsPlaced, IsLasting, AreEmpty, HasSupport};
+ghost use Rattle.local_play.specs.inner.Lasting.{IsSide, AreSidePlaces, IsLasting, AreEmpty, HasSupport};
 
 use crate::links::{Links, Reached};
 use crate::local::Local;
@@ -36,7 +36,7 @@ fn lasts(chain: &Reached, beside: Places, empty: Places) -> bool
 /// The stones whose chains last. One next to an alive stone does for itself, and each other's chain is judged.
 fn lasting(links: &Links, stones: Places, beside: Places, empty: Places) -> Places
     ensures { (touch : List Touch) (cells : List Cell) (c : Colour) → IsTable touch links.now
-        → IsPlaced touch cells c stones beside empty → IsLasting touch cells c result }
+        → AreSidePlaces touch cells c stones beside empty → IsLasting touch cells c result }
 {
     let mut lasting = stones.intersection(beside);
     let mut rest = stones.without(beside);

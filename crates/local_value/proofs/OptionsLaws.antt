@@ -19,7 +19,7 @@ use Rattle.short_games.specs.Number.{number_tree, IsNumber}
 use Rattle.short_games.specs.Parts.{HasMoreParts, IsNumberOf, IsOption}
 use Rattle.game_canon.specs.Outcomes.{IsCanonicalId, AreWithin, AreOptionsWithin, IsCause}
 use Rattle.local_value.specs.declared.memo.Options.{Options}
-use Rattle.local_value.specs.inner.Memo.{stones_units, same_sum, recalled_sum, IsStonesSum, AreSumsRight, same_options, recalled_form, IsFormOf, AreFormsRight}
+use Rattle.local_value.specs.inner.Memo.{stones_units, same_sum, recalled_sum, IsStonesSum, AreStonesSumsRight, same_options, recalled_form, IsFormOfOptions, AreFormsRight}
 use Rattle.go_grid.specs.declared.grid.Colour.{Colour}
 use Rattle.go_grid.specs.declared.grid.Colour.TheVariants.{Black, White}
 use Rattle.local_graph.specs.declared.graph.Edge.{Edge}
@@ -65,7 +65,7 @@ module _ {Ts Us : List Tree} (x : Extends Ts Us) where
     numbers = subst (λ t. (y : ℤ) → IsNumberOf t y ↔ IsNumberOf (tree_at Us id) (y +ℤ stones_units stones)) (sym (x.same game l)) numbers;
   }
 
-  pub sums-grown : (known : ℕ → ℤ → Option ℕ) → AreSumsRight Ts known → AreSumsRight Us known
+  pub sums-grown : (known : ℕ → ℤ → Option ℕ) → AreStonesSumsRight Ts known → AreStonesSumsRight Us known
   sums-grown known right game stones id e =
       let s = right game stones id e in
       sum-made game stones id s.game_id (canonical-grown _ id s.value)
@@ -73,7 +73,7 @@ module _ {Ts Us : List Tree} (x : Extends Ts Us) where
 
   -- a form that was made
   pub form-made : (limit : ℕ) (ls rs : List ℕ) (id : ℕ) → AreIds Ts ls → AreIds Ts rs → IsCanonicalId Us (listed Ts ls rs) id → (HasMoreParts (tree_at Us id) limit → ⊥)
-      → ((b : ℕ) → AreOptionsWithin b (listed Ts ls rs) → AreWithin (b + 2 ^ 60) (tree_at Us id)) → IsFormOf Us limit ls rs id
+      → ((b : ℕ) → AreOptionsWithin b (listed Ts ls rs) → AreWithin (b + 2 ^ 60) (tree_at Us id)) → IsFormOfOptions Us limit ls rs id
   form-made limit ls rs id l r value few sizes =
       let form = sym (listed-grown ls rs l r) in record {
         left_ids = ids-grown ls l;
@@ -106,7 +106,7 @@ kept same before now key id (Ok x) ok err Right new old k n e = elim (cases_Bool
 
 pub sum-kept : {S E : Type 0} (before now : IndexMap (ℕ × ℤ) ℕ S) (game : ℕ) (stones : ℤ) (sum : ℕ) (r : Result (Option ℕ) E)
     → OnOk r (Updates same_sum before now (game, stones) (Some sum)) → OnErr r (IsUnchanged before now)
-    → (Ts : List Tree) → IsStonesSum Ts game stones sum → AreSumsRight Ts (recalled_sum before) → AreSumsRight Ts (recalled_sum now)
+    → (Ts : List Tree) → IsStonesSum Ts game stones sum → AreStonesSumsRight Ts (recalled_sum before) → AreStonesSumsRight Ts (recalled_sum now)
 sum-kept before now game stones sum r ok err Ts s right g n id e =
     kept same_sum before now (game, stones) sum r ok err (λ k i. IsStonesSum Ts k.0 k.1 i)
     (λ k t. let p = and_parts (nat_eq game k.0) (int_eq stones k.1) t in
@@ -115,13 +115,13 @@ sum-kept before now game stones sum r ok err Ts s right g n id e =
 
 pub form-kept : {S E : Type 0} (before now : IndexMap Options ℕ S) (key options : Options) (form : ℕ) (r : Result (Option ℕ) E)
     → OnOk r (Updates same_options before now key (Some form)) → OnErr r (IsUnchanged before now) → key.left.items ≡ options.left.items → key.right.items ≡ options.right.items
-    → (Ts : List Tree) (limit : ℕ) → IsFormOf Ts limit options.left.items options.right.items form → AreFormsRight Ts limit (recalled_form before) → AreFormsRight Ts limit (recalled_form now)
+    → (Ts : List Tree) (limit : ℕ) → IsFormOfOptions Ts limit options.left.items options.right.items form → AreFormsRight Ts limit (recalled_form before) → AreFormsRight Ts limit (recalled_form now)
 form-kept before now key options form r ok err left right Ts limit f known =
-    kept same_options before now key form r ok err (λ o i. IsFormOf Ts limit o.left.items o.right.items i)
+    kept same_options before now key form r ok err (λ o i. IsFormOfOptions Ts limit o.left.items o.right.items i)
     (λ o t. let p = and_parts (bytes_eq key.left.items o.left.items) (bytes_eq key.right.items o.right.items) t in
     let ls = sym left ∙ (bytes_eq-Decides key.left.items o.left.items).0 p.0 in
     let rs = sym right ∙ (bytes_eq-Decides key.right.items o.right.items).0 p.1 in
-    subst (λ z. IsFormOf Ts limit o.left.items z form) rs (subst (λ z. IsFormOf Ts limit z options.right.items form) ls f))
+    subst (λ z. IsFormOfOptions Ts limit o.left.items z form) rs (subst (λ z. IsFormOfOptions Ts limit z options.right.items form) ls f))
     known
 
 -- few stones are passed as they are
@@ -384,11 +384,11 @@ module _ {Ts Us : List Tree} {ids ls rs : List ℕ} {es : List Edge} (a : AreBot
     form-same : listed Vs ls rs ≡ listed Us ls rs
     form-same = listed-grown x ls rs left-ids right-ids
 
-    pub form-values : IfOk r (IsFormOf Vs limit ls rs) → IfOk r (λ id. (G : Tree) → HasEdges Ts ids es G → IsCanonicalId Vs G id)
+    pub form-values : IfOk r (IsFormOfOptions Vs limit ls rs) → IfOk r (λ id. (G : Tree) → HasEdges Ts ids es G → IsCanonicalId Vs G id)
     form-values = IfOk-weaker r _ _ (λ id f G has.
         (f.value.0, canonical-as (listed Us ls rs) G _ (edges-same G has) (subst (λ t. IsCanonicalFor t (tree_at Vs id)) form-same f.value.1)))
 
-    pub form-sizes : IfOk r (IsFormOf Vs limit ls rs) → IfOk r (λ id. (b : ℕ) → AreWithinAfter b Ts ids es → AreWithin (b + 2 ^ 60) (tree_at Vs id))
+    pub form-sizes : IfOk r (IsFormOfOptions Vs limit ls rs) → IfOk r (λ id. (b : ℕ) → AreWithinAfter b Ts ids es → AreWithin (b + 2 ^ 60) (tree_at Vs id))
     form-sizes = IfOk-weaker r _ _ (λ id f b w. f.sizes b (subst (AreOptionsWithin b) (sym form-same) (options-within b w)))
 
     pub form-refused : IfErr r (λ e. IsCause (listed Us ls rs) limit e) → IfErr r (λ e. (G : Tree) → HasEdges Ts ids es G → IsCause G limit e)

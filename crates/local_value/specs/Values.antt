@@ -3,7 +3,7 @@ use Rattle.std.specs.Prelude.{ℕ, ◌≡◌, ◌<◌, ◌≤◌, List, length, 
 use Rattle.go_grid.specs.declared.grid.Cell.{Cell}
 use Rattle.go_grid.specs.Region.{Region}
 use Rattle.local_play.specs.Packed.{pack}
-use Rattle.local_graph.specs.LocalGraph.{IsGraph, IsOrder, IsReachable}
+use Rattle.local_graph.specs.LocalGraph.{IsGraph, IsOrderOfPlaces, IsReachable}
 use Rattle.local_graph.specs.FiniteLocalPlay.{HasNoCycle}
 use Rattle.local_graph.specs.Graph.{Graph}
 use Rattle.short_games.specs.Tree.{Tree, tree_at}
@@ -13,7 +13,7 @@ use Rattle.local_value.specs.PositionTree.{IsValueOf}
 pub record IsGraphOf (r : Region) (g : Graph) : Type 0 where
   pub few : length r.cells ≤ 32
   pub graph : IsGraph r.touch r.cells g.positions g.edges
-  pub order : IsOrder g.edges g.order
+  pub order : IsOrderOfPlaces g.edges g.order
   pub no_cycle : HasNoCycle r.touch r.cells
 
 -- the cells are those of the position at the place of the region's graph

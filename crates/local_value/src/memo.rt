@@ -7,7 +7,7 @@ ghost use Rattle.short_games.specs.Number.{number_tree};
 ghost use Rattle.game_store.specs.Meaning.{listed, AreIds, Extends};
 ghost use Rattle.game_canon.specs.Changes.{IsSumRefusal};
 ghost use Rattle.game_canon.specs.Outcomes.{IsCause};
-ghost use Rattle.local_value.specs.inner.Memo.{stones_units, recalled_sum, IsStonesSum, AreSumsRight, recalled_form, IsFormOf, AreFormsRight, IsMemoRight};
+ghost use Rattle.local_value.specs.inner.Memo.{stones_units, recalled_sum, IsStonesSum, AreStonesSumsRight, recalled_form, IsFormOfOptions, AreFormsRight, IsMemoRight};
 
 use dyadic_num::Dyadic;
 use game_canon::{FormError, add_number, canonical};
@@ -61,8 +61,8 @@ fn recall_sum(sums: &Sums, game: GameId, stones: i32) -> Option<GameId>
 
 /// Forgets all sums where there are too many.
 fn limit_sums(sums: &mut Sums)
-    ensures { (Ts : List Tree) → AreSumsRight Ts (recalled_sum sums.old)
-        → AreSumsRight Ts (recalled_sum sums.new) }
+    ensures { (Ts : List Tree) → AreStonesSumsRight Ts (recalled_sum sums.old)
+        → AreStonesSumsRight Ts (recalled_sum sums.new) }
 {
     if sums.len() < MOST_SUMS {
         return;
@@ -73,7 +73,8 @@ fn limit_sums(sums: &mut Sums)
 /// Remembers a sum, or leaves it out where memory is wanting.
 fn remember_sum(sums: &mut Sums, game: GameId, stones: i32, sum: GameId)
     ensures { (Ts : List Tree) → IsStonesSum Ts game stones sum
-        → AreSumsRight Ts (recalled_sum sums.old) → AreSumsRight Ts (recalled_sum sums.new) }
+        → AreStonesSumsRight Ts (recalled_sum sums.old)
+        → AreStonesSumsRight Ts (recalled_sum sums.new) }
 {
     limit_sums(sums);
     let _kept = sums.insert((game, stones), sum);
@@ -89,11 +90,11 @@ pub(crate) fn with_stones(
     stones: i32,
 ) -> Result<GameId, FormError>
     requires game { game < length store.old }
-    requires sums { AreSumsRight store.old (recalled_sum sums.old) }
+    requires sums { AreStonesSumsRight store.old (recalled_sum sums.old) }
     ensures sum { IfOk result (λ id. IsStonesSum store.new game stones id) }
     ensures refusal { IfErr result (λ error. IsSumRefusal
         (tree_at store.old game +ᵍ number_tree (stones_units stones)) error) }
-    ensures sums { OnOk result (AreSumsRight store.new (recalled_sum sums.new)) }
+    ensures sums { OnOk result (AreStonesSumsRight store.new (recalled_sum sums.new)) }
     ensures kept { Extends store.old store.new }
 {
     if let Some(sum) = recall_sum(sums, game, stones) {
@@ -135,7 +136,7 @@ fn copy_of(options: &Options) -> Result<Options, AllocError>
 /// Remembers a form, or leaves it out where memory is wanting.
 fn remember_form(forms: &mut Forms, options: &Options, id: GameId)
     ensures { (Ts : List Tree) (limit : ℕ)
-        → IsFormOf Ts limit options.now.left.items options.now.right.items id
+        → IsFormOfOptions Ts limit options.now.left.items options.now.right.items id
         → AreFormsRight Ts limit (recalled_form forms.old)
         → AreFormsRight Ts limit (recalled_form forms.new) }
 {
@@ -158,7 +159,8 @@ pub(crate) fn form_of(
     requires right { AreIds store.old options.now.right.items }
     requires forms { AreFormsRight store.old parts_limit (recalled_form forms.old) }
     ensures form { IfOk result
-        (λ id. IsFormOf store.new parts_limit options.now.left.items options.now.right.items id) }
+        (λ id. IsFormOfOptions store.new parts_limit
+        options.now.left.items options.now.right.items id) }
     ensures refusal { IfErr result (λ error. IsCause
         (listed store.old options.now.left.items options.now.right.items) parts_limit error) }
     ensures forms { OnOk result (AreFormsRight store.new parts_limit (recalled_form forms.new)) }

@@ -8,7 +8,7 @@ ghost use Rattle.short_games.specs.Parts.{HasMoreParts};
 ghost use Rattle.game_canon.specs.Changes.{HasNumberPastBounds};
 ghost use Rattle.game_canon.specs.Outcomes.{IsCanonicalId, IsCause, AreWithin};
 ghost use Rattle.sum_outcome.specs.Players.{credit};
-ghost use Rattle.local_value.specs.inner.Memo.{recalled_sum, AreSumsRight, IsMemoRight};
+ghost use Rattle.local_value.specs.inner.Memo.{recalled_sum, AreStonesSumsRight, IsMemoRight};
 ghost use Rattle.local_value.specs.Refusals.{IsValueRefusal};
 ghost use Rattle.local_value.specs.Values.{IsGraphOf, AreValues};
 ghost use Rattle.local_value.specs.inner.Valuing.{IsNoted, IsWithinAfter, AreWithinAfter, IsAfter, AreBothAfter, IsAdded, HasEdges, most_units};
@@ -48,9 +48,9 @@ fn value_after(
 ) -> Result<GameId, AllocError>
     requires noted { IsNoted store.old ids.now edge.now.next }
     requires small { IsWithinAfter most_units store.old ids.now edge.now }
-    requires sums { AreSumsRight store.old (recalled_sum sums.old) }
+    requires sums { AreStonesSumsRight store.old (recalled_sum sums.old) }
     ensures value { IfOk result (λ id. IsAfter store.old store.new ids.now edge.now id) }
-    ensures sums { OnOk result (AreSumsRight store.new (recalled_sum sums.new)) }
+    ensures sums { OnOk result (AreStonesSumsRight store.new (recalled_sum sums.new)) }
     ensures kept { Extends store.old store.new }
 {
     let _count = store.len();
@@ -97,11 +97,11 @@ fn list_options(
 ) -> Result<(), AllocError>
     requires noted { (e : Edge) → Contains edges.now e → IsNoted store.old ids.now e.next }
     requires small { AreWithinAfter most_units store.old ids.now edges.now }
-    requires sums { AreSumsRight store.old (recalled_sum sums.old) }
+    requires sums { AreStonesSumsRight store.old (recalled_sum sums.old) }
     ensures options { OnOk result
         (AreBothAfter store.old store.new ids.now edges.now options.new.left.items
         options.new.right.items) }
-    ensures sums { OnOk result (AreSumsRight store.new (recalled_sum sums.new)) }
+    ensures sums { OnOk result (AreStonesSumsRight store.new (recalled_sum sums.new)) }
     ensures kept { Extends store.old store.new }
 {
     options.left.clear();

@@ -5,7 +5,7 @@ use Rattle.go_grid.specs.Board.{Board}
 use Rattle.whole_rules.specs.Moves.{move_word}
 use Rattle.whole_rules.specs.declared.states.Move.{Move}
 use Rattle.whole_rules.specs.declared.states.Move.TheVariants.{Stone, Spend, Half}
-use Rattle.play_session.specs.Words.{Asks}
+use Rattle.play_session.specs.Words.{NamesMove}
 
 -- moves of one word are the same
 move_of : (c : ℕ) (m k : Move) → move_word c m ≡ move_word c k → m ≡ k
@@ -19,7 +19,7 @@ move_of c Half (Stone q) e = absurd (omega (arith, ap length e))
 move_of c Half Spend e = absurd (omega (arith, ap length e))
 move_of c Half Half e = refl
 
-pub one_asked : (g : Board) (line : List ℕ) (a b : Option Move) → Asks g line a → Asks g line b → a ≡ b
+pub one_asked : (g : Board) (line : List ℕ) (a b : Option Move) → NamesMove g line a → NamesMove g line b → a ≡ b
 one_asked g line None None a b = refl
 one_asked g line None (Some k) a b = absurd (a k b.0 b.1)
 one_asked g line (Some m) None a b = absurd (b m a.0 a.1)

@@ -7,7 +7,7 @@ use Rattle.play_session.specs.declared.end.SessionEnd.TheVariants.{Won, Lost, In
 use Rattle.play_session.specs.Laws.{HasOneText, HasOneBeginning}
 use Rattle.endgame_solver.specs.Solved.{HasMove}
 use Rattle.play_session.specs.Session.{Standing, IsEngineTurn, IsOpponentTurn, AnswersOpponent, Turn, Turns, Ends, IsSession, IsNextLine}
-use Rattle.play_session.specs.Words.{Asks}
+use Rattle.play_session.specs.Words.{NamesMove}
 use Rattle.play_session.proofs.Sides.{other_not}
 use Rattle.play_session.proofs.Wins.{chosen_legal}
 use Rattle.desk_io.proofs.OneLine.{one_line}
@@ -29,7 +29,7 @@ one_engine_turn engine a b c x y small t u =
 one_opponent_turn : (engine : Colour) (a b c : Standing) (x y : List ℕ) → IsOpponentTurn engine a x b → IsOpponentTurn engine a y c → (x ≡ y) × (b ≡ c)
 one_opponent_turn engine a b c x y t u =
     let l = one_line 256 a.left t.line u.line b.left c.left t.taken u.taken in
-    let k = one_asked a.state.board u.line t.asked u.asked (subst (λ n. Asks a.state.board n t.asked) l.0 t.asks) u.asks in
+    let k = one_asked a.state.board u.line t.asked u.asked (subst (λ n. NamesMove a.state.board n t.asked) l.0 t.asks) u.asks in
     let e = one_answer a.state b.state c.state u.asked x y (subst (λ m. AnswersOpponent a.state m x b.state) k t.answered) u.answered in
     (e.0, same_standing b c e.1 (t.counted ∙ sym u.counted) l.1)
 

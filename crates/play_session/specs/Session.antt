@@ -12,8 +12,8 @@ use Rattle.whole_rules.specs.declared.states.MoveError.{MoveError}
 use Rattle.whole_rules.specs.declared.states.MoveError.TheVariants.{NotContested, Occupied, Suicide, EmptyPurse, NoHalf}
 use Rattle.play_session.specs.declared.end.SessionEnd.{SessionEnd}
 use Rattle.play_session.specs.declared.end.SessionEnd.TheVariants.{Won, Lost, InputEnded, TooManyLines}
-use Rattle.play_session.specs.Lines.{IsLine}
-use Rattle.play_session.specs.Words.{Asks}
+use Rattle.desk_io.specs.Lines.{IsLine}
+use Rattle.play_session.specs.Words.{NamesMove}
 
 -- where a session stands: the state, how many lines were read, and the bytes that are left
 pub record Standing : Type 0 where
@@ -80,8 +80,8 @@ pub record IsOpponentTurn (engine : Colour) (a : Standing) (text : List ℕ) (b 
   pub some : a.left ≢ []
   pub line : List ℕ
   pub asked : Option Move
-  pub taken : IsLine a.left line b.left
-  pub asks : Asks a.state.board line asked
+  pub taken : IsLine 256 a.left line b.left
+  pub asks : NamesMove a.state.board line asked
   pub answered : AnswersOpponent a.state asked text b.state
   pub counted : b.read ≡ a.read + 1
 

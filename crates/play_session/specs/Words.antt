@@ -11,5 +11,5 @@ IsNamed columns rows word (Some m) = IsMoveOnBoard columns rows m × (word ≡ m
 IsNamed columns rows word None = (m : Move) → IsMoveOnBoard columns rows m → ¬ (word ≡ move_word columns m)
 
 -- the move that the line names, without the white space at its ends, if it names one
-abbrev pub Asks : Board → List ℕ → Option Move → Type 0
-Asks g line asked = IsNamed g.columns g.rows (trimmed line) asked
+abbrev pub NamesMove : Board → List ℕ → Option Move → Type 0
+NamesMove g line asked = IsNamed g.columns g.rows (trimmed line) asked

@@ -9,7 +9,7 @@ ghost use Rattle.whole_rules.specs.WholeGame.{IsFirstMove};
 ghost use Rattle.play_session.specs.declared.fault.Fault.TheVariants.{Read, Write};
 ghost use Rattle.play_session.specs.declared.end.SessionEnd.TheVariants.{Won, Lost, InputEnded, ReadFault, WriteFault};
 ghost use Rattle.desk_io.specs.Lines.{IsSameInput};
-ghost use Rattle.play_session.specs.Lines.{UsesLines};
+ghost use Rattle.desk_io.specs.Lines.{UsesLines};
 ghost use Rattle.endgame_solver.specs.Solved.{Chooses};
 ghost use Rattle.play_session.specs.Session.{AnswersOpponent, EngineMoves, IsToAnswer, input_line};
 ghost use Rattle.whole_rules.specs.Moves.{IsMoveOnBoard};
@@ -151,7 +151,7 @@ pub(crate) fn take_request<S: Source>(
     ensures on_board { IfOk result (IsPossible board.now) }
     ensures same { OnErr result (IsSameInput input.old (S.left lines.old) input.new
         (S.left lines.new)) }
-    ensures used { UsesLines 0 1 input.old (S.left lines.old) input.new (S.left lines.new) }
+    ensures used { UsesLines 256 0 1 input.old (S.left lines.old) input.new (S.left lines.new) }
     ensures few { length input.new ≤ 256 }
     ensures cause { HasCause (S.faults lines.old) (S.faults lines.new) result }
 {
@@ -209,8 +209,8 @@ impl Session {
         ensures written { (bytes : List ℕ) → S.left lines.old ≡ Some bytes
             → TurnWritten self.old.engine (standing self.old read.old bytes) (K.holds out.old)
             (K.holds out.new) result self.new read.new (S.left lines.new) }
-        ensures used { UsesLines read.old read.new self.old.held (S.left lines.old) self.new.held
-            (S.left lines.new) }
+        ensures used { UsesLines 256 read.old read.new self.old.held (S.left lines.old)
+            self.new.held (S.left lines.new) }
         ensures few_held { length self.new.held ≤ 256 }
         ensures few_read { read.new ≤ MOST_LINES }
         ensures stepped { MovesOrStays self.old.state self.new.state }
@@ -248,8 +248,8 @@ impl Session {
         ensures written { (bytes : List ℕ) → S.left lines.old ≡ Some bytes
             → TurnWritten self.old.engine (standing self.old read.old bytes) (K.holds out.old)
             (K.holds out.new) result self.new read.new (S.left lines.new) }
-        ensures used { UsesLines read.old read.new self.old.held (S.left lines.old) self.new.held
-            (S.left lines.new) }
+        ensures used { UsesLines 256 read.old read.new self.old.held (S.left lines.old)
+            self.new.held (S.left lines.new) }
         ensures few_held { length self.new.held ≤ 256 }
         ensures few_read { read.new ≤ MOST_LINES }
         ensures keeps { IsWinner self.old.state self.old.engine
@@ -281,7 +281,7 @@ impl Session {
         ensures written { (bytes : List ℕ) → S.left lines.old ≡ Some bytes
             → IsPlayedTo self.old.engine (standing self.old 0 bytes) (K.holds out.old)
             (K.holds out.new) result self.new (S.left lines.new) }
-        ensures used { UsesLines 0 MOST_LINES self.old.held (S.left lines.old) self.new.held
+        ensures used { UsesLines 256 0 MOST_LINES self.old.held (S.left lines.old) self.new.held
             (S.left lines.new) }
         ensures few_held { length self.new.held ≤ 256 }
         ensures keeps { IsWinner self.old.state self.old.engine → result ≢ Ok Lost }
@@ -307,7 +307,7 @@ impl Session {
         ensures text { (bytes : List ℕ) → S.left lines.old ≡ Some bytes
             → Played self.old.engine (standing self.old 0 bytes) (K.holds out.old)
             (K.holds out.new) result self.new (S.left lines.new) }
-        ensures used { UsesLines 0 MOST_LINES self.old.held (S.left lines.old) self.new.held
+        ensures used { UsesLines 256 0 MOST_LINES self.old.held (S.left lines.old) self.new.held
             (S.left lines.new) }
         ensures few_held { length self.new.held ≤ 256 }
         ensures read_fault { result ≡ ReadFault → Rose (S.faults lines.old) (S.faults lines.new) }

@@ -2,7 +2,7 @@
 
 ghost use Rattle.std.specs.Prelude.{◌≡◌, ◌↔◌, true, ℕ, MatchOption};
 ghost use Rattle.go_grid.specs.Name.{IsName};
-ghost use Rattle.play_session.specs.Words.{Asks, IsNamed};
+ghost use Rattle.play_session.specs.Words.{NamesMove, IsNamed};
 
 use go_grid::{Board, Point, Size, point_of};
 use sgf_go::trim;
@@ -44,7 +44,7 @@ fn named_move(size: Size, word: &[u8]) -> Option<Move>
 
 /// The move that a line asks for on the board, if it names one.
 pub(crate) fn asked_move(board: &Board, line: &[u8]) -> Option<Move>
-    ensures { Asks board.now line.now result }
+    ensures { NamesMove board.now line.now result }
 {
     named_move(board.size(), trim(line))
 }

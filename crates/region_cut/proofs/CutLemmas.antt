@@ -28,7 +28,7 @@ use Rattle.go_grid.specs.Walk.{Joined}
 use Rattle.go_grid.proofs.PointsLemmas.{lists_same}
 use Rattle.region_cut.specs.Cut.{IsRegionOfPlay, IsWalledIn, lowest, AreRegionsOfPlay}
 use Rattle.std.proofs.lemmas.List.Quantifiers.{all_pairs_push}
-use Rattle.go_grid.specs.Parts.{AreParts, label}
+use Rattle.go_grid.specs.Parts.{ArePartLabels, label}
 use Rattle.go_grid.proofs.PartsLemmas.{label_in}
 use Rattle.benson_life.proofs.PartsLemmas.{parts_over}
 
@@ -261,7 +261,7 @@ pub record CutBelow (g : Board) (parts : List ℕ) (regions : List Region) (n : 
   pub every : (p : ℕ) → IsContested g p → label parts p < n → (r : Region) × Contains regions r × Contains r.points p
   pub ascending : AllPairs (λ r s. lowest r < lowest s) regions
 
-module _ {g : Board} {parts : List ℕ} {regions : List Region} {n : ℕ} (are : AreParts g.columns (IsContested g) parts) (s : CutBelow g parts regions n) where
+module _ {g : Board} {parts : List ℕ} {regions : List Region} {n : ℕ} (are : ArePartLabels g.columns (IsContested g) parts) (s : CutBelow g parts regions n) where
   pub cut_skip : (IsContested g n → ¬ (label parts n ≡ n)) → CutBelow g parts regions (n + 1)
   cut_skip other = record {
     each = λ r h. let w = s.each r h in (w.0, omega (arith, w.1));
@@ -299,12 +299,12 @@ module _ {g : Board} {parts : List ℕ} {regions : List Region} {n : ℕ} (are :
   }
 
 -- a point that is its own label is the lowest of its region
-pub lowest_is : (g : Board) (parts : List ℕ) (n p : ℕ) → AreParts g.columns (IsContested g) parts → label parts n ≡ n
+pub lowest_is : (g : Board) (parts : List ℕ) (n p : ℕ) → ArePartLabels g.columns (IsContested g) parts → label parts n ≡ n
     → IsContested g p → InRegionOfPlay g n p → n ≤ p
 lowest_is g parts n p are e h j = let same = are.same n p j in let low = are.lowest p h in omega (arith, same, low, e)
 
 -- the parts of the contested points
 pub parts_of : (g : Board) (within : List Bool) {k : ℕ} {parts : List ℕ} → k ≡ g.columns → Marks within (IsContested g)
-    → AreParts k (IsMarked within) parts → AreParts g.columns (IsContested g) parts
+    → ArePartLabels k (IsMarked within) parts → ArePartLabels g.columns (IsContested g) parts
 parts_of g within {k} {parts} e is w =
-    subst (λ n. AreParts n (IsContested g) parts) e (parts_over k (IsMarked within) (IsContested g) parts is w)
+    subst (λ n. ArePartLabels n (IsContested g) parts) e (parts_over k (IsMarked within) (IsContested g) parts is w)

@@ -7,18 +7,18 @@ use Rattle.go_grid.specs.Region.{Region}
 use Rattle.region_cut.specs.Cut.{lowest}
 use Rattle.endgame_solver.specs.Regions.{region_at, no_region}
 use Rattle.endgame_solver.specs.Solved.{Solved, IsNumberOfPositions}
-use Rattle.report.specs.Solution.{AreNumbers, IsSolveText, count_line, move_line, solved_lines, regions_text, solved_line, state_lines}
+use Rattle.report.specs.Solution.{AreNumbersOfPositions, IsSolveText, count_line, move_line, solved_lines, regions_text, solved_line, state_lines}
 use Rattle.report.specs.inner.Solution.{HasLines, HasOutcome, HasRegions}
 use Rattle.board_words.specs.Words.{winner_line}
 use Rattle.report.proofs.TextLaws.{three_more, three_pieces}
 
-pub numbers_more : (rs : List Region) (ns : List ℕ) (r : Region) (n : ℕ) → AreNumbers rs ns → IsNumberOfPositions r n → AreNumbers (rs ++ r ∷ []) (ns ++ n ∷ [])
+pub numbers_more : (rs : List Region) (ns : List ℕ) (r : Region) (n : ℕ) → AreNumbersOfPositions rs ns → IsNumberOfPositions r n → AreNumbersOfPositions (rs ++ r ∷ []) (ns ++ n ∷ [])
 numbers_more [] [] r n h k = (k, tt)
 numbers_more [] (m ∷ ns) r n h k = absurd h
 numbers_more (q ∷ rs) [] r n h k = absurd h
 numbers_more (q ∷ rs) (m ∷ ns) r n h k = (h.0, numbers_more rs ns r n h.1 k)
 
-pub lines_more : (c : ℕ) (rs : List Region) (ns : List ℕ) (r : Region) (n : ℕ) → AreNumbers rs ns
+pub lines_more : (c : ℕ) (rs : List Region) (ns : List ℕ) (r : Region) (n : ℕ) → AreNumbersOfPositions rs ns
     → solved_lines c (rs ++ r ∷ []) (ns ++ n ∷ []) ≡ solved_lines c rs ns ++ solved_line c (lowest r) (length r.points) n
 lines_more c [] [] r n h = append-nil (solved_line c (lowest r) (length r.points) n)
 lines_more c [] (m ∷ ns) r n h = absurd h

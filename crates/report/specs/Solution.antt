@@ -55,17 +55,17 @@ abbrev pub solve_text : Whole → List Region → List ℕ → Colour → Option
 solve_text s regions numbers winner move = state_lines s ++ (regions_text s.board.columns regions numbers ++ (winner_line winner ++ move_line s.board.columns move))
 
 -- the numbers of the reachable positions of the regions, one for each
-abbrev pub AreNumbers : List Region → List ℕ → Type 0
-AreNumbers [] [] = ⊤
-AreNumbers (r ∷ regions) (n ∷ numbers) = IsNumberOfPositions r n × AreNumbers regions numbers
-AreNumbers regions numbers = ⊥
+abbrev pub AreNumbersOfPositions : List Region → List ℕ → Type 0
+AreNumbersOfPositions [] [] = ⊤
+AreNumbersOfPositions (r ∷ regions) (n ∷ numbers) = IsNumberOfPositions r n × AreNumbersOfPositions regions numbers
+AreNumbersOfPositions regions numbers = ⊥
 
 -- the text of `solve` for a solved game
 pub record IsSolveText (game : Solved) (text : List ℕ) : Type 0 where
   pub numbers : List ℕ
   pub winner : Colour
   pub move : Option Move
-  pub counted : AreNumbers game.regions numbers
+  pub counted : AreNumbersOfPositions game.regions numbers
   pub wins : IsWinner game.state winner
   pub first : IsFirstWinning game.state move
   pub is : text ≡ solve_text game.state game.regions numbers winner move

@@ -5,7 +5,7 @@ use Rattle.go_grid.specs.Region.{Region}
 use Rattle.whole_rules.specs.declared.states.Move.{Move}
 use Rattle.whole_rules.specs.FirstWinningMove.{IsFirstWinning, IsWinner}
 use Rattle.endgame_solver.specs.Solved.{Solved, IsNumberOfShapes}
-use Rattle.report.specs.Solution.{AreNumbers, count_line, move_line}
+use Rattle.report.specs.Solution.{AreNumbersOfPositions, count_line, move_line}
 use Rattle.board_words.specs.Words.{winner_line}
 
 -- the number, how many regions there are, how many positions they have together, and of how many different shapes they are
@@ -20,7 +20,7 @@ pub record IsTrialText (number : ℕ) (game : Solved) (text : List ℕ) : Type 0
   pub shapes : ℕ
   pub winner : Colour
   pub move : Option Move
-  pub counted : AreNumbers game.regions numbers
+  pub counted : AreNumbersOfPositions game.regions numbers
   pub of_shapes : IsNumberOfShapes game.regions shapes
   pub wins : IsWinner game.state winner
   pub first : IsFirstWinning game.state move

@@ -6,7 +6,7 @@ use Rattle.std.proofs.lemmas.Nat.{mul-add-lt, div-add-mod', mod-mul-add, div-mul
 use Rattle.go_grid.specs.Board.{Board, cell_at}
 use Rattle.go_grid.specs.declared.grid.Cell.{Cell}
 use Rattle.go_grid.specs.declared.grid.Cell.TheVariants.{Empty}
-use Rattle.sgf_go.specs.Values.{Rectangle, IsIn}
+use Rattle.sgf_go.specs.Values.{Rectangle, IsInRectangle}
 use Rattle.sgf_go.specs.inner.Values.{IsInRow}
 use Rattle.sgf_go.specs.Setup.{IsSet}
 use Rattle.go_grid.proofs.BoardLemmas.{cell_stable}
@@ -80,7 +80,7 @@ row_end g h row left right n c b a = set_like g h (Before g.columns row left rig
 
 -- the points of a rectangle above a row
 abbrev pub Above : ℕ → Rectangle → ℕ → ℕ → Type 0
-Above columns r n q = IsIn columns r q × (q / columns < n)
+Above columns r n q = IsInRectangle columns r q × (q / columns < n)
 
 pub area_start : (g : Board) (r : Rectangle) (c : Cell) → IsSet g (Above g.columns r r.top) c g
 area_start g r c = set_none g (Above g.columns r r.top) c (λ q i. omega (arith, i.0.top, i.1))
@@ -103,5 +103,5 @@ area_step g h k r n c t b a more =
       | inr e ↦ inr (record { left = i.0.left; right = i.0.right; top = omega (arith, e); bottom = omega (arith, e) })
     ]
 
-pub area_end : (g h : Board) (r : Rectangle) (n : ℕ) (c : Cell) → r.bottom < n → IsSet g (Above g.columns r n) c h → IsSet g (IsIn g.columns r) c h
-area_end g h r n c b a = set_like g h (Above g.columns r n) (IsIn g.columns r) c (λ q i. i.0) (λ q i. (i, omega (arith, i.bottom, b))) a
+pub area_end : (g h : Board) (r : Rectangle) (n : ℕ) (c : Cell) → r.bottom < n → IsSet g (Above g.columns r n) c h → IsSet g (IsInRectangle g.columns r) c h
+area_end g h r n c b a = set_like g h (Above g.columns r n) (IsInRectangle g.columns r) c (λ q i. i.0) (λ q i. (i, omega (arith, i.bottom, b))) a

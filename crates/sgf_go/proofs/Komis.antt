@@ -4,7 +4,7 @@ use Rattle.std.specs.Prelude.{Option, nat_le, neg_ℤ}
 use Rattle.std.specs.Option.{option_map}
 use Rattle.std.specs.Char.{is_ascii_digit, digit_value}
 use Rattle.std.specs.Str.Parse.{digits_value_after}
-use Rattle.sgf_go.specs.Komi.{IsKomi, unsigned, positive, negative, IsHalves, halves, IsFraction, nothing, zeros, half, AreDigits, AreZeros, digit_0, digit_5}
+use Rattle.sgf_go.specs.Komi.{IsKomi, unsigned, positive, negative, IsHalves, halves, IsKomiFraction, nothing, zeros, half, AreDigits, AreZeros, digit_0, digit_5}
 use Rattle.std.specs.Float.Numeral.{dot, minus, plus}
 use Rattle.sgf_go.specs.declared.komi.TheConstants.{MOST_KOMI}
 use Rattle.sgf_go.specs.inner.Scan.{all_zeros, fraction, scan, scan_signed}
@@ -33,23 +33,23 @@ zeros_in (b ∷ bs) a = ap (λ x. all_zeros (x ∷ bs)) a.0 ∙ zeros_in bs a.1
 abbrev HasDigit : Bool → ℕ → Type 0
 HasDigit some n = (some ≡ true) ⊎ (1 ≤ n)
 
-fraction_out : (some : Bool) (bs : List ℕ) (m : ℕ) → fraction some bs ≡ Some m → (digits : ℕ) × IsFraction (dot ∷ bs) digits m × HasDigit some digits
-fraction_out true [] m e = (0, subst (IsFraction (dot ∷ []) 0) (some-is e) (zeros [] tt), inl refl)
+fraction_out : (some : Bool) (bs : List ℕ) (m : ℕ) → fraction some bs ≡ Some m → (digits : ℕ) × IsKomiFraction (dot ∷ bs) digits m × HasDigit some digits
+fraction_out true [] m e = (0, subst (IsKomiFraction (dot ∷ []) 0) (some-is e) (zeros [] tt), inl refl)
 fraction_out false [] m e = absurd (none-some e)
 fraction_out some (b ∷ bs) m e = by_tests (all_zeros bs) refl (b == digit_0) refl (b == digit_5) refl e
   where
     by_tests : (z : Bool) → all_zeros bs ≡ z → (o : Bool) → (b == digit_0) ≡ o → (f : Bool) → (b == digit_5) ≡ f
-        → (if z then (if o then Some 0 else (if f then Some 1 else None)) else None) ≡ Some m → (digits : ℕ) × IsFraction (dot ∷ b ∷ bs) digits m × HasDigit some digits
+        → (if z then (if o then Some 0 else (if f then Some 1 else None)) else None) ≡ Some m → (digits : ℕ) × IsKomiFraction (dot ∷ b ∷ bs) digits m × HasDigit some digits
     by_tests true g true h f i j =
         let same : b ≡ digit_0 = grind (arith, h) in
-        (length (b ∷ bs), subst (IsFraction (dot ∷ b ∷ bs) (length (b ∷ bs))) (some-is j) (zeros (b ∷ bs) (same, zeros_out bs g)), inr (omega arith))
+        (length (b ∷ bs), subst (IsKomiFraction (dot ∷ b ∷ bs) (length (b ∷ bs))) (some-is j) (zeros (b ∷ bs) (same, zeros_out bs g)), inr (omega arith))
     by_tests true g false h true i j =
         let same : b ≡ digit_5 = grind (arith, i) in
-        (length bs + 1, subst (λ x. IsFraction (dot ∷ x ∷ bs) (length bs + 1) m) (sym same) (subst (IsFraction (dot ∷ digit_5 ∷ bs) (length bs + 1)) (some-is j) (half bs (zeros_out bs g))), inr (omega arith))
+        (length bs + 1, subst (λ x. IsKomiFraction (dot ∷ x ∷ bs) (length bs + 1) m) (sym same) (subst (IsKomiFraction (dot ∷ digit_5 ∷ bs) (length bs + 1)) (some-is j) (half bs (zeros_out bs g))), inr (omega arith))
     by_tests true g false h false i j = absurd (none-some j)
     by_tests false g o h f i j = absurd (none-some j)
 
-fraction_in : (some : Bool) (bs : List ℕ) (digits m : ℕ) → HasDigit some digits → IsFraction (dot ∷ bs) digits m → fraction some bs ≡ Some m
+fraction_in : (some : Bool) (bs : List ℕ) (digits m : ℕ) → HasDigit some digits → IsKomiFraction (dot ∷ bs) digits m → fraction some bs ≡ Some m
 fraction_in some _ _ _ (inl e) (zeros [] a) = ap (λ c. if c then Some 0 else None) e
 fraction_in some _ _ _ (inr h) (zeros [] a) = absurd (omega (arith, h))
 fraction_in some _ _ _ h (zeros (b ∷ bs) a) = ap₂ (λ x z. if z then (if x == digit_0 then Some 0 else (if x == digit_5 then Some 1 else None)) else None) a.0 (zeros_in bs a.1)
@@ -67,7 +67,7 @@ record Reads (n : ℕ) (some : Bool) (bytes : List ℕ) (h : ℕ) : Type 0 where
   same : bytes ≡ whole ++ rest
   are_digits : AreDigits whole
   most : digits_value_after 10 n whole ≤ MOST_KOMI
-  is_fraction : IsFraction rest digits more
+  is_fraction : IsKomiFraction rest digits more
   has_digit : HasDigit some (length whole + digits)
   value : h ≡ 2 * digits_value_after 10 n whole + more
 
@@ -81,7 +81,7 @@ scan_out (b ∷ bs) n some h l e = by_tests (λ m s. scan_out bs m true h s) (is
     by_fraction None f g d = absurd (none-some g)
     by_fraction (Some m) f g d =
         let r = fraction_out some bs m f in
-        record { whole = []; rest = b ∷ bs; digits = r.0; more = m; same = refl; are_digits = tt; most = l; is_fraction = subst (λ x. IsFraction (x ∷ bs) r.0 m) (sym d) r.1; has_digit = subst (HasDigit some) (none_before r.0) r.2; value = sym (some-is g) }
+        record { whole = []; rest = b ∷ bs; digits = r.0; more = m; same = refl; are_digits = tt; most = l; is_fraction = subst (λ x. IsKomiFraction (x ∷ bs) r.0 m) (sym d) r.1; has_digit = subst (HasDigit some) (none_before r.0) r.2; value = sym (some-is g) }
 
     by_tests : ((m : ℕ) → m ≤ MOST_KOMI → scan m true bs ≡ Some h → Reads m true bs h) → (x : Bool) → is_ascii_digit b ≡ x → (y : Bool) → nat_le (n * 10 + digit_value b) MOST_KOMI ≡ y → (z : Bool) → (b == dot) ≡ z
         → (if x then (if y then scan (n * 10 + digit_value b) true bs else None) else (if z then option_map (λ more. 2 * n + more) (fraction some bs) else None)) ≡ Some h → Reads n some (b ∷ bs) h
@@ -97,7 +97,7 @@ value_least : (n : ℕ) (bs : List ℕ) → n ≤ digits_value_after 10 n bs
 value_least n [] = omega arith
 value_least n (b ∷ bs) = let more = value_least (n * 10 + digit_value b) bs in omega (arith, more)
 
-scan_in : (whole rest : List ℕ) (n : ℕ) (some : Bool) (digits more : ℕ) → AreDigits whole → digits_value_after 10 n whole ≤ MOST_KOMI → IsFraction rest digits more → HasDigit some (length whole + digits)
+scan_in : (whole rest : List ℕ) (n : ℕ) (some : Bool) (digits more : ℕ) → AreDigits whole → digits_value_after 10 n whole ≤ MOST_KOMI → IsKomiFraction rest digits more → HasDigit some (length whole + digits)
     → scan n some (whole ++ rest) ≡ Some (2 * digits_value_after 10 n whole + more)
 unfolding scan
 scan_in [] _ n some _ _ a l nothing (inl e) =

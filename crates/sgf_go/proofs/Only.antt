@@ -13,10 +13,10 @@ use Rattle.go_grid.specs.Play.{is_stone}
 use Rattle.go_play.specs.declared.placements.PlaceError.{PlaceError}
 use Rattle.go_play.specs.declared.placements.PlaceError.TheVariants as place
 use Rattle.sgf_tree.specs.Grammar.{PropertyText}
-use Rattle.sgf_go.specs.Values.{trimmed, Says, Rectangle, between, IsArea, point, corners, colon, IsIn, Extent, IsSide, IsSize, square, sides}
+use Rattle.sgf_go.specs.Values.{trimmed, Says, Rectangle, between, IsArea, point, corners, colon, IsInRectangle, Extent, IsSide, IsSize, square, sides}
 use Rattle.sgf_go.specs.inner.Values.{LacksColon}
 use Rattle.go_grid.specs.Name.{IsName}
-use Rattle.sgf_go.specs.Setup.{Part, GoesOn, ◌then◌, For, Skips, IsSet, Sets, SetsValue, SetsValues, SetsProperty, cell_set, Turns, TurnsTo, side_of, placed, moved, with_taken, Choice, pass, stone_at, nothing, is_pass, IsChoice, Chooses, Moves, MovesProperty, mover, first_value, value_of, Side, NodePart, LinePart, Unless, ends_before, IsKomiFor, Ends, FromKomi, FromSize, FromGame, is_go, IsBoardSize, root, empty_board, OnePosition}
+use Rattle.sgf_go.specs.Setup.{Part, GoesOn, ◌then◌, For, Skips, IsSet, Sets, SetsValue, SetsValues, SetsProperty, cell_set, SetsSide, TurnsTo, side_of, placed, moved, with_taken, Choice, pass, stone_at, nothing, is_pass, IsMoveText, MovesAsChosen, Moves, MovesProperty, mover, first_value, value_of, TurnsByProperty, NodePart, LinePart, Unless, ends_before, IsKomiFor, EndsMainLine, FromKomi, FromSize, FromGame, is_go, IsBoardSize, root, empty_board, OnePosition}
 use Rattle.sgf_go.specs.declared.replay.Replay.{Replay}
 use Rattle.sgf_go.specs.declared.settings.Settings.{Settings}
 use Rattle.sgf_go.specs.declared.settings.Setup.{Setup}
@@ -89,7 +89,7 @@ for_one P (x ∷ xs) d = then_one (P x) (For P xs) (d x) (for_one P xs d)
 
 sets_one : (node : ℕ) (c : Cell) (area : Option Rectangle) → HasOne (Sets node c area)
 sets_one node c None s r q a b = a ∙ sym b
-sets_one node c (Some area) s r q (h, i, e) (k, j, f) = e ∙ ap (λ g. Ok (record s { board = g })) (one_set s.board h k (IsIn s.board.columns area) c i j) ∙ sym f
+sets_one node c (Some area) s r q (h, i, e) (k, j, f) = e ∙ ap (λ g. Ok (record s { board = g })) (one_set s.board h k (IsInRectangle s.board.columns area) c i j) ∙ sym f
 
 value_one : (node : ℕ) (c : Cell) (text : List ℕ) → HasOne (SetsValue node c text)
 value_one node c [] = skips_one
@@ -101,23 +101,23 @@ values_one : (node : ℕ) (c : Option Cell) (values : List (List ℕ)) → HasOn
 values_one node None values = skips_one
 values_one node (Some c) values = for_one (λ v. SetsValue node c (trimmed v)) values (λ v. value_one node c (trimmed v))
 
-turns_one : (c : Option Colour) → HasOne (Turns c)
+turns_one : (c : Option Colour) → HasOne (SetsSide c)
 turns_one None s r q a b = a ∙ sym b
 turns_one (Some c) s r q a b = a ∙ sym b
 
-side_one : (turn : Option Colour) (ps : List PropertyText) → HasOne (Side turn ps)
+side_one : (turn : Option Colour) (ps : List PropertyText) → HasOne (TurnsByProperty turn ps)
 side_one (Some c) ps = skips_one
 side_one None ps = by_text (value_of (codes "PL") ps) where
   by_text : (o : Option (List ℕ)) → HasOne (TurnsTo o)
   by_text None = skips_one
   by_text (Some text) = turns_one (side_of text)
 
-chooses_one : (node : ℕ) (c : Colour) (x : Choice) → HasOne (Chooses node c x)
+chooses_one : (node : ℕ) (c : Colour) (x : Choice) → HasOne (MovesAsChosen node c x)
 chooses_one node c pass s r q a b = a ∙ sym b
 chooses_one node c nothing s r q a b = a ∙ sym b
 chooses_one node c (stone_at p) s r q (h, x, a, e) (k, y, b, f) = e ∙ one_placing node c s p h k x y a b ∙ sym f
 
-one_choice : (g : Board) (text : List ℕ) (x y : Choice) → IsChoice g text x → IsChoice g text y → x ≡ y
+one_choice : (g : Board) (text : List ℕ) (x y : Choice) → IsMoveText g text x → IsMoveText g text y → x ≡ y
 one_choice g text pass pass a b = refl
 one_choice g text nothing nothing a b = refl
 one_choice g text (stone_at p) (stone_at q) a b = ap stone_at (one_point g.columns g.rows text p q a.1 b.1)
@@ -130,11 +130,11 @@ one_choice g text (stone_at p) nothing a b = absurd (b.1 p a.1)
 
 moves_one : (node : ℕ) (c : Option Colour) (text : List ℕ) → HasOne (Moves node c text)
 moves_one node None text = skips_one
-moves_one node (Some c) text = λ s r q x y. chooses_one node c x.0 s r q x.2 (subst (λ z. Chooses node c z s q) (one_choice s.board text y.0 x.0 y.1 x.1) y.2)
+moves_one node (Some c) text = λ s r q x y. chooses_one node c x.0 s r q x.2 (subst (λ z. MovesAsChosen node c z s q) (one_choice s.board text y.0 x.0 y.1 x.1) y.2)
 
 node_one : (turn : Option Colour) (node : ℕ) (ps : List PropertyText) → HasOne (NodePart turn node ps)
-node_one turn node ps = then_one (For (SetsProperty node) ps) (Side turn ps then For (MovesProperty node) ps) (for_one (SetsProperty node) ps (λ p. values_one node (cell_set p) p.values))
-    (then_one (Side turn ps) (For (MovesProperty node) ps) (side_one turn ps) (for_one (MovesProperty node) ps (λ p. moves_one node (mover p) (first_value p))))
+node_one turn node ps = then_one (For (SetsProperty node) ps) (TurnsByProperty turn ps then For (MovesProperty node) ps) (for_one (SetsProperty node) ps (λ p. values_one node (cell_set p) p.values))
+    (then_one (TurnsByProperty turn ps) (For (MovesProperty node) ps) (side_one turn ps) (for_one (MovesProperty node) ps (λ p. moves_one node (mover p) (first_value p))))
 
 line_one : (after : Option ℕ) (turn : Option Colour) (node : ℕ) (line : List (List PropertyText)) → HasOne (LinePart after turn node line)
 line_one after turn node [] = skips_one
@@ -157,7 +157,7 @@ one_choked g p q a b = elim (cases_lt p q) [
 settled_not_choked : (g : Board) (p : ℕ) → IsSettled g → ¬ IsFirstChoked g p
 settled_not_choked g p s f = f.choked.2 (s f.choked.0 p f.choked.1)
 
-ends_one : (settings : Settings) (komi : ℤ) (m : Result Replay SetupFault) (a b : Result Setup SetupFault) → Ends settings komi m a → Ends settings komi m b → a ≡ b
+ends_one : (settings : Settings) (komi : ℤ) (m : Result Replay SetupFault) (a b : Result Setup SetupFault) → EndsMainLine settings komi m a → EndsMainLine settings komi m b → a ≡ b
 ends_one settings komi (Err f) a b x y = x ∙ sym y
 ends_one settings komi (Ok s) (Ok a) (Ok b) x y = ap Ok (x.1 ∙ sym y.1)
 ends_one settings komi (Ok s) (Ok a) (Err f) x y = absurd (settled_not_choked s.board y.0 x.0 y.1)
@@ -196,7 +196,7 @@ one_board_size (Some text) e f a b = one_size text e f a b
 from_komi_one : (settings : Settings) (line : List (List PropertyText)) (e : Extent) (komi : Option ℤ) (a b : Result Setup SetupFault) → FromKomi settings line e komi a → FromKomi settings line e komi b → a ≡ b
 from_komi_one settings line e None a b x y = x ∙ sym y
 from_komi_one settings line e (Some komi) a b (m, p, f) (n, o, g) =
-    ends_one settings komi m a b f (subst (λ r. Ends settings komi r b) (line_one settings.after settings.turn 0 line (empty_board e) n m o p) g)
+    ends_one settings komi m a b f (subst (λ r. EndsMainLine settings komi r b) (line_one settings.after settings.turn 0 line (empty_board e) n m o p) g)
 
 from_size_one : (settings : Settings) (line : List (List PropertyText)) (e : Option Extent) (a b : Result Setup SetupFault) → FromSize settings line e a → FromSize settings line e b → a ≡ b
 from_size_one settings line None a b x y = x ∙ sym y

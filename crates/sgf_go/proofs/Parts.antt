@@ -11,13 +11,13 @@ use Rattle.go_grid.specs.declared.grid.Colour.TheVariants as colour
 use Rattle.go_grid.specs.declared.grid.Cell.{Cell}
 use Rattle.go_grid.specs.Play.{is_stone}
 use Rattle.go_play.specs.Place.{IsNumberTaken}
-use Rattle.sgf_go.specs.Values.{IsIn, Rectangle, Says, IsArea, trimmed}
+use Rattle.sgf_go.specs.Values.{IsInRectangle, Rectangle, Says, IsArea, trimmed}
 use Rattle.go_grid.specs.Name.{IsName}
 use Rattle.sgf_go.specs.inner.Reading.{rectangle}
 use Rattle.sgf_tree.specs.Reading.{property_text, node_text}
 use Rattle.sgf_tree.specs.declared.tree.Node.{Node}
 use Rattle.sgf_tree.specs.declared.tree.Property.{Property}
-use Rattle.sgf_go.specs.Setup.{Part, Follows, For, IsSet, SetsValue, SetsValues, SetsProperty, Counts, moved, with_taken, Moves, Chooses, pass, stone_at, nothing, is_pass, cell_set, mover, first_value, MovesProperty, Side, NodePart, LinePart, Unless, ends_before, ◌then◌}
+use Rattle.sgf_go.specs.Setup.{Part, Follows, For, IsSet, SetsValue, SetsValues, SetsProperty, Counts, moved, with_taken, Moves, MovesAsChosen, pass, stone_at, nothing, is_pass, cell_set, mover, first_value, MovesProperty, TurnsByProperty, NodePart, LinePart, Unless, ends_before, ◌then◌}
 use Rattle.sgf_go.specs.declared.replay.Replay.{Replay}
 use Rattle.sgf_go.specs.declared.values.Area.{Area}
 use Rattle.sgf_go.specs.declared.fault.SetupFault.{SetupFault}
@@ -27,7 +27,7 @@ pub sets_nothing : (node : ℕ) (c : Cell) (text : List ℕ) (s : Replay) → te
 sets_nothing node c text s e = subst (λ x. SetsValue node c x s (Ok s)) (sym e) refl
 
 pub sets_area : (node : ℕ) (c : Cell) (text : List ℕ) (s : Replay) (area : Area) (h : Board) → text ≢ [] → Says (IsArea s.board.columns s.board.rows text) (option_map rectangle (Some area))
-    → IsSet s.board (IsIn s.board.columns (rectangle area)) c h → SetsValue node c text s (Ok (record s { board = h }))
+    → IsSet s.board (IsInRectangle s.board.columns (rectangle area)) c h → SetsValue node c text s (Ok (record s { board = h }))
 sets_area node c [] s area h n e i = absurd (n refl)
 sets_area node c (b ∷ bs) s area h n e i = (Some (rectangle area), e, (h, i, refl))
 
@@ -63,7 +63,7 @@ pub chooses_nothing : (node : ℕ) (c : Colour) (text : List ℕ) (s : Replay) �
 chooses_nothing node c text s e n = (nothing, (e, n), refl)
 
 pub chooses_stone : (node : ℕ) (c : Colour) (text : List ℕ) (p : ℕ) (s t : Replay) (r : Result (Unit {0}) SetupFault) → is_pass s.board text ≡ false → IsName s.board.columns s.board.rows text p
-    → Follows (Chooses node c (stone_at p)) s t r → Follows (Moves node (Some c) text) s t r
+    → Follows (MovesAsChosen node c (stone_at p)) s t r → Follows (Moves node (Some c) text) s t r
 chooses_stone node c text p s t (Ok u) e n f = (stone_at p, (e, n), f)
 chooses_stone node c text p s t (Err g) e n f = (stone_at p, (e, n), f)
 
@@ -93,7 +93,7 @@ fault_out P s t f r i p = let e = err_from_is_err_and r i in subst (Follows P s 
 
 -- a node is its three parts
 pub node_follows : (turn : Option Colour) (node : ℕ) (ps : List Property) (s a b t : Replay) (r : Result (Unit {0}) SetupFault)
-    → For (λ p. SetsProperty node (property_text p)) ps s (Ok a) → Side turn (map property_text ps) a (Ok b) → Follows (For (λ p. MovesProperty node (property_text p)) ps) b t r
+    → For (λ p. SetsProperty node (property_text p)) ps s (Ok a) → TurnsByProperty turn (map property_text ps) a (Ok b) → Follows (For (λ p. MovesProperty node (property_text p)) ps) b t r
     → Follows (NodePart turn node (map property_text ps)) s t r
 node_follows turn node ps s a b t (Ok u) f g h = (Ok a, for_map (SetsProperty node) property_text ps s (Ok a) f, (Ok b, g, for_map (MovesProperty node) property_text ps b (Ok t) h))
 node_follows turn node ps s a b t (Err e) f g h = (Ok a, for_map (SetsProperty node) property_text ps s (Ok a) f, (Ok b, g, for_map (MovesProperty node) property_text ps b (Err e) h))
@@ -101,7 +101,7 @@ node_follows turn node ps s a b t (Err e) f g h = (Ok a, for_map (SetsProperty n
 pub node_fault : (turn : Option Colour) (node : ℕ) (ps : List Property) (s : Replay) (f : SetupFault) → For (λ p. SetsProperty node (property_text p)) ps s (Err f) → NodePart turn node (map property_text ps) s (Err f)
 node_fault turn node ps s f g = (Err f, for_map (SetsProperty node) property_text ps s (Err f) g, refl)
 
-pub side_fault : (turn : Option Colour) (node : ℕ) (ps : List Property) (s a : Replay) (f : SetupFault) → For (λ p. SetsProperty node (property_text p)) ps s (Ok a) → Side turn (map property_text ps) a (Err f) → NodePart turn node (map property_text ps) s (Err f)
+pub side_fault : (turn : Option Colour) (node : ℕ) (ps : List Property) (s a : Replay) (f : SetupFault) → For (λ p. SetsProperty node (property_text p)) ps s (Ok a) → TurnsByProperty turn (map property_text ps) a (Err f) → NodePart turn node (map property_text ps) s (Err f)
 side_fault turn node ps s a f g h = (Ok a, for_map (SetsProperty node) property_text ps s (Ok a) g, (Err f, h, refl))
 
 pub counts_same : (s t : Replay) → Counts s → t.played ≡ s.played → t.black ≡ s.black → t.white ≡ s.white → Counts t

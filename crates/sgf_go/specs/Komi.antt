@@ -23,14 +23,14 @@ abbrev pub AreZeros : List ℕ → Type 0
 AreZeros = AllByRecursion (λ b. b ≡ digit_0)
 
 -- what stands behind the digits, how many digits it has, and how many halves it adds
-pub data IsFraction : List ℕ → ℕ → ℕ → Type 0 where
-  nothing : IsFraction [] 0 0
-  zeros : (bytes : List ℕ) → AreZeros bytes → IsFraction (dot ∷ bytes) (length bytes) 0
-  half : (bytes : List ℕ) → AreZeros bytes → IsFraction (dot ∷ digit_5 ∷ bytes) (length bytes + 1) 1
+pub data IsKomiFraction : List ℕ → ℕ → ℕ → Type 0 where
+  nothing : IsKomiFraction [] 0 0
+  zeros : (bytes : List ℕ) → AreZeros bytes → IsKomiFraction (dot ∷ bytes) (length bytes) 0
+  half : (bytes : List ℕ) → AreZeros bytes → IsKomiFraction (dot ∷ digit_5 ∷ bytes) (length bytes + 1) 1
 
 -- a number without a sign, and how many halves it is; it has a digit
 pub data IsHalves : List ℕ → ℕ → Type 0 where
-  halves : (whole fraction : List ℕ) (digits more : ℕ) → AreDigits whole → digits_value 10 whole ≤ MOST_KOMI → IsFraction fraction digits more → 1 ≤ length whole + digits
+  halves : (whole fraction : List ℕ) (digits more : ℕ) → AreDigits whole → digits_value 10 whole ≤ MOST_KOMI → IsKomiFraction fraction digits more → 1 ≤ length whole + digits
       → IsHalves (whole ++ fraction) (2 * digits_value 10 whole + more)
 
 -- a komi, and how many halves it is

@@ -14,7 +14,7 @@ use Rattle.go_play.specs.Place.{PlacesStone}
 use Rattle.go_play.specs.declared.placements.PlaceError.{PlaceError}
 use Rattle.go_play.specs.declared.placements.PlaceError.TheVariants as place
 use Rattle.sgf_go.specs.Komi.{IsKomi}
-use Rattle.sgf_go.specs.Values.{trimmed, Rectangle, Says, IsArea, IsIn, Extent, IsSize}
+use Rattle.sgf_go.specs.Values.{trimmed, Rectangle, Says, IsArea, IsInRectangle, Extent, IsSize}
 use Rattle.go_grid.specs.Name.{IsName}
 use Rattle.sgf_go.specs.declared.replay.Replay.{Replay}
 use Rattle.sgf_go.specs.declared.settings.Settings.{Settings}
@@ -81,7 +81,7 @@ pub record IsSet (g : Board) (In : ℕ → Type 0) (c : Cell) (h : Board) : Type
 -- the points of the rectangle are set to the cell, and a value that names none is a fault
 abbrev pub Sets : ℕ → Cell → Option Rectangle → Part
 Sets node c None s r = r ≡ Err (BadPoint node)
-Sets node c (Some area) s r = (h : Board) × IsSet s.board (IsIn s.board.columns area) c h × (r ≡ Ok (record s { board = h }))
+Sets node c (Some area) s r = (h : Board) × IsSet s.board (IsInRectangle s.board.columns area) c h × (r ≡ Ok (record s { board = h }))
 
 -- the points that a value of AB, AW or AE names are set to the cell; an empty value names none
 abbrev pub SetsValue : ℕ → Cell → List ℕ → Part
@@ -111,14 +111,14 @@ side_of [] = None
 side_of (b ∷ bs) = if (b == 66) || (b == 98) then Some colour.Black else (if (b == 87) || (b == 119) then Some colour.White else None)
 
 -- the side is to move, and a text that names none is a fault
-abbrev pub Turns : Option Colour → Part
-Turns None s r = r ≡ Err BadSide
-Turns (Some c) s r = r ≡ Ok (record s { side = c })
+abbrev pub SetsSide : Option Colour → Part
+SetsSide None s r = r ≡ Err BadSide
+SetsSide (Some c) s r = r ≡ Ok (record s { side = c })
 
 -- the side that the text of PL names is to move; without PL nothing changes
 abbrev pub TurnsTo : Option (List ℕ) → Part
 TurnsTo None = Skips
-TurnsTo (Some text) = Turns (side_of text)
+TurnsTo (Some text) = SetsSide (side_of text)
 
 -- how things stand with stones more that the colour has taken
 abbrev pub with_taken : Colour → ℕ → Replay → Replay
@@ -147,16 +147,16 @@ is_pass g [] = true
 is_pass g (b ∷ bs) = bytes_eq (b ∷ bs) (codes "tt") && (nat_le g.columns 19 && nat_le g.rows 19)
 
 -- what a text says as a move on a board
-abbrev pub IsChoice : Board → List ℕ → Choice → Type 0
-IsChoice g text pass = is_pass g text ≡ true
-IsChoice g text (stone_at p) = (is_pass g text ≡ false) × IsName g.columns g.rows text p
-IsChoice g text nothing = (is_pass g text ≡ false) × ((p : ℕ) → ¬ IsName g.columns g.rows text p)
+abbrev pub IsMoveText : Board → List ℕ → Choice → Type 0
+IsMoveText g text pass = is_pass g text ≡ true
+IsMoveText g text (stone_at p) = (is_pass g text ≡ false) × IsName g.columns g.rows text p
+IsMoveText g text nothing = (is_pass g text ≡ false) × ((p : ℕ) → ¬ IsName g.columns g.rows text p)
 
 -- the colour moves as it has chosen, and where its text says no move there is a fault
-abbrev pub Chooses : ℕ → Colour → Choice → Part
-Chooses node c pass s r = r ≡ Ok (moved c s)
-Chooses node c nothing s r = r ≡ Err (BadPoint node)
-Chooses node c (stone_at p) s r = (h : Board) × (answer : Result ℕ PlaceError) × PlacesStone s.board p c h answer × (r ≡ placed node c s h answer)
+abbrev pub MovesAsChosen : ℕ → Colour → Choice → Part
+MovesAsChosen node c pass s r = r ≡ Ok (moved c s)
+MovesAsChosen node c nothing s r = r ≡ Err (BadPoint node)
+MovesAsChosen node c (stone_at p) s r = (h : Board) × (answer : Result ℕ PlaceError) × PlacesStone s.board p c h answer × (r ≡ placed node c s h answer)
 
 -- the colour that moves by a property: Black by B, White by W
 abbrev pub mover : PropertyText → Option Colour
@@ -165,20 +165,20 @@ mover p = if is_named p (codes "B") then Some colour.Black else (if is_named p (
 -- the colour moves as the text says; without a colour nothing changes
 abbrev pub Moves : ℕ → Option Colour → List ℕ → Part
 Moves node None text = Skips
-Moves node (Some c) text = λ s r. (x : Choice) × IsChoice s.board text x × Chooses node c x s r
+Moves node (Some c) text = λ s r. (x : Choice) × IsMoveText s.board text x × MovesAsChosen node c x s r
 
 -- a colour moves as the first value of the property says, if it is one of B and W
 abbrev pub MovesProperty : ℕ → PropertyText → Part
 MovesProperty node p = Moves node (mover p) (first_value p)
 
 -- the side to move is that of PL, where the settings give no turn
-abbrev pub Side : Option Colour → List PropertyText → Part
-Side None ps = TurnsTo (value_of (codes "PL") ps)
-Side (Some c) ps = Skips
+abbrev pub TurnsByProperty : Option Colour → List PropertyText → Part
+TurnsByProperty None ps = TurnsTo (value_of (codes "PL") ps)
+TurnsByProperty (Some c) ps = Skips
 
 -- a node: its setup, then PL, then its moves
 abbrev pub NodePart : Option Colour → ℕ → List PropertyText → Part
-NodePart turn node ps = For (SetsProperty node) ps then Side turn ps then For (MovesProperty node) ps
+NodePart turn node ps = For (SetsProperty node) ps then TurnsByProperty turn ps then For (MovesProperty node) ps
 
 -- whether some property moves
 abbrev pub has_move : List PropertyText → Bool
@@ -246,15 +246,15 @@ setup_of settings komi s = record {
 }
 
 -- the end of the line: the board is settled, or its lowest stone without a liberty is named
-abbrev pub Ends : Settings → ℤ → Result Replay SetupFault → Result Setup SetupFault → Type 0
-Ends settings komi (Err f) r = r ≡ Err f
-Ends settings komi (Ok s) (Ok setup) = IsSettled s.board × (setup ≡ setup_of settings komi s)
-Ends settings komi (Ok s) (Err f) = (p : ℕ) × IsFirstChoked s.board p × (f ≡ NoLiberty p)
+abbrev pub EndsMainLine : Settings → ℤ → Result Replay SetupFault → Result Setup SetupFault → Type 0
+EndsMainLine settings komi (Err f) r = r ≡ Err f
+EndsMainLine settings komi (Ok s) (Ok setup) = IsSettled s.board × (setup ≡ setup_of settings komi s)
+EndsMainLine settings komi (Ok s) (Err f) = (p : ℕ) × IsFirstChoked s.board p × (f ≡ NoLiberty p)
 
 -- what a main line gives under the settings, from the komi on; a text of KM that is no komi is a fault
 abbrev pub FromKomi : Settings → List (List PropertyText) → Extent → Option ℤ → Result Setup SetupFault → Type 0
 FromKomi settings line e None r = r ≡ Err BadKomi
-FromKomi settings line e (Some komi) r = (m : Result Replay SetupFault) × LinePart settings.after settings.turn 0 line (empty_board e) m × Ends settings komi m r
+FromKomi settings line e (Some komi) r = (m : Result Replay SetupFault) × LinePart settings.after settings.turn 0 line (empty_board e) m × EndsMainLine settings komi m r
 
 -- what a main line gives under the settings, from the size on; a text of SZ that is no size is a fault
 abbrev pub FromSize : Settings → List (List PropertyText) → Option Extent → Result Setup SetupFault → Type 0

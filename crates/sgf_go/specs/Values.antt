@@ -46,7 +46,7 @@ pub data IsArea (columns rows : ℕ) (text : List ℕ) : Rectangle → Type 0 wh
       → IsArea columns rows text (between columns p q)
 
 -- the point lies in the rectangle
-pub record IsIn (columns : ℕ) (r : Rectangle) (p : ℕ) : Type 0 where
+pub record IsInRectangle (columns : ℕ) (r : Rectangle) (p : ℕ) : Type 0 where
   pub left : r.left ≤ p % columns
   pub right : p % columns ≤ r.right
   pub top : r.top ≤ p / columns

@@ -3,10 +3,10 @@
 ghost use Rattle.std.specs.Prelude.{map, sum_by, Some, ◌≡◌, ◌≤◌, ◌<◌, ◌+◌, ◌*◌, length, IfSome, OnOk};
 ghost use Rattle.std.specs.Option.{option_map};
 ghost use Rattle.sgf_go.specs.inner.Reading.{rectangle};
-ghost use Rattle.sgf_go.specs.Values.{IsIn, Says, IsArea, trimmed};
+ghost use Rattle.sgf_go.specs.Values.{IsInRectangle, Says, IsArea, trimmed};
 ghost use Rattle.sgf_go.specs.inner.Values.{IsInRow};
 ghost use Rattle.go_grid.specs.Name.{IsName};
-ghost use Rattle.sgf_go.specs.Setup.{Follows, Counts, IsSet, SetsValue, For, SetsProperty, Chooses, stone_at, Moves, MovesProperty, NodePart, LinePart, moved, with_taken, is_pass, Side};
+ghost use Rattle.sgf_go.specs.Setup.{Follows, Counts, IsSet, SetsValue, For, SetsProperty, MovesAsChosen, stone_at, Moves, MovesProperty, NodePart, LinePart, moved, with_taken, is_pass, TurnsByProperty};
 ghost use Rattle.sgf_tree.specs.Reading.{property_text, node_text};
 
 use crate::fault::SetupFault;
@@ -64,7 +64,7 @@ fn set_row(board: &mut Board, row: u16, left: u16, right: u16, cell: Cell)
 fn set_area(board: &mut Board, area: Area, cell: Cell)
     requires column { area.right < board.old.columns }
     requires row { area.bottom < board.old.rows }
-    ensures { IsSet board.old (IsIn board.old.columns (rectangle area)) cell board.new }
+    ensures { IsSet board.old (IsInRectangle board.old.columns (rectangle area)) cell board.new }
 {
     let _size = board.size();
     for row in area.top..area.bottom + 1 {
@@ -137,7 +137,8 @@ impl Replay {
         requires point { point < length self.old.board.cells }
         requires counts { Counts self.old }
         requires few { self.old.played < MOST_BYTES }
-        ensures follows { Follows (Chooses node colour (stone_at point)) self.old self.new result }
+        ensures follows { Follows (MovesAsChosen node colour (stone_at point))
+            self.old self.new result }
         ensures counts { OnOk result (Counts self.new) }
         ensures played { OnOk result (self.new.played ≡ self.old.played + 1) }
     {
@@ -217,7 +218,7 @@ impl Replay {
 
     /// PL, where the settings give no turn.
     fn set_side(&mut self, turn: Option<Colour>, properties: &[Property]) -> Result<(), SetupFault>
-        ensures follows { Follows (Side turn
+        ensures follows { Follows (TurnsByProperty turn
             (map property_text properties.now)) self.old self.new result }
         ensures played { self.new.played ≡ self.old.played }
         ensures black { self.new.black ≡ self.old.black }

@@ -1,7 +1,7 @@
 -- What the machine reads to the end is in the grammar: from each place, the bytes that are left end the tree.
 use Rattle.std.proofs.Common.{ℕ, zero, suc, ◌+◌, ◌-◌, ◌≤◌, ◌≡◌, ◌⊎◌, List, [], ◌∷◌, ◌++◌, arith, refl, inl, inr, sym, ◌∙◌, ap, subst, Bool, true, false, ◌==◌, Some, None, append_assoc, append-nil, if◌then◌else◌}
 use Rattle.std.specs.Prelude.{Option}
-use Rattle.sgf_tree.specs.Grammar.{PropertyText, opening, closing, semicolon, bracket, backslash, end_bracket, is_white, is_letter, AreWhite, AreLetters, capitals, IsInside, end, plain, escaped, Each, none, more, IsValue, value, IsProperty, property, IsNode, node, IsTree, tree, AreTrees, no_trees, trees}
+use Rattle.sgf_tree.specs.Grammar.{PropertyText, opening, closing, semicolon, bracket, backslash, end_bracket, is_white, is_letter, AreWhite, AreLetters, capitals, IsInsideBrackets, end, plain, escaped, Each, none, more, IsValue, value, IsProperty, property, IsNode, node, IsTree, tree, AreTrees, no_trees, trees}
 use Rattle.sgf_tree.specs.Reading.{IsSomeTree}
 use Rattle.sgf_tree.specs.declared.machine.Kind.{Kind}
 use Rattle.sgf_tree.specs.declared.machine.Kind.TheVariants as kind
@@ -48,7 +48,7 @@ SomeNodes = SomeItems IsNode
 
 -- to the end of a value
 abbrev Inside : List ℕ → Type 0
-Inside bs = (inside : List ℕ) × (text : List ℕ) × (bs ≡ inside ++ (end_bracket ∷ [])) × IsInside inside text
+Inside bs = (inside : List ℕ) × (text : List ℕ) × (bs ≡ inside ++ (end_bracket ∷ [])) × IsInsideBrackets inside text
 
 abbrev Escaped : List ℕ → Type 0
 Escaped bs = Inside (backslash ∷ bs)

@@ -1,7 +1,7 @@
 -- What the grammar writes, the machine reads.
 use Rattle.std.proofs.Common.{ℕ, ◌+◌, ◌-◌, ◌≤◌, ◌≡◌, ◌≢◌, List, [], ◌∷◌, ◌++◌, arith, refl, sym, ◌∙◌, ap, ap₂, subst, Bool, true, false, ◌&&◌, ◌==◌, Some, None, append_assoc, append-nil, if◌then◌else◌}
 use Rattle.std.specs.Prelude.{Option}
-use Rattle.sgf_tree.specs.Grammar.{PropertyText, opening, closing, semicolon, bracket, backslash, end_bracket, is_white, is_capital, is_letter, AreWhite, AreLetters, capitals, IsInside, end, plain, escaped, Each, none, more, IsValue, value, IsProperty, property, IsNode, node, IsTree, tree, AreTrees, no_trees, trees}
+use Rattle.sgf_tree.specs.Grammar.{PropertyText, opening, closing, semicolon, bracket, backslash, end_bracket, is_white, is_capital, is_letter, AreWhite, AreLetters, capitals, IsInsideBrackets, end, plain, escaped, Each, none, more, IsValue, value, IsProperty, property, IsNode, node, IsTree, tree, AreTrees, no_trees, trees}
 use Rattle.sgf_tree.specs.declared.machine.Kind.{Kind}
 use Rattle.sgf_tree.specs.declared.machine.Kind.TheVariants as kind
 use Rattle.sgf_tree.specs.declared.machine.Place.{Place}
@@ -96,7 +96,7 @@ white_run s (b ∷ bs) p a = byte_run s s _ b bs (token_step s b token.White (to
 inside_plain : (b : ℕ) → b ≢ end_bracket → b ≢ backslash → inside b ≡ token.Text
 inside_plain b p q = grind (arith, p, q)
 
-pub inside_run : (bytes text : List ℕ) → IsInside bytes text → (d : ℕ) (ns : List (List PropertyText)) (ps : List PropertyText) (n : List ℕ) (vs : List (List ℕ)) (t : List ℕ)
+pub inside_run : (bytes text : List ℕ) → IsInsideBrackets bytes text → (d : ℕ) (ns : List (List PropertyText)) (ps : List PropertyText) (n : List ℕ) (vs : List (List ℕ)) (t : List ℕ)
     → run (Some (st at.InValue d (parts ns ps n vs t))) bytes ≡ Some (st at.InValue d (parts ns ps n vs (t ++ text)))
 inside_run _ _ end d ns ps n vs t = ap (λ x. Some (st at.InValue d (parts ns ps n vs x))) (sym (append-nil t))
 inside_run _ _ (plain b bytes text p q h) d ns ps n vs t = token_run (st at.InValue d (parts ns ps n vs t)) _ b token.Text bytes (ap Some (inside_plain b p q))

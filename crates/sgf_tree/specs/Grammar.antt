@@ -57,10 +57,10 @@ capitals [] = []
 capitals (b ∷ bs) = if is_capital b then b ∷ capitals bs else capitals bs
 
 -- what stands between the brackets of a value, and the value: a `\` is dropped, and the byte after it is kept
-pub data IsInside : List ℕ → List ℕ → Type 0 where
-  end : IsInside [] []
-  plain : (b : ℕ) (bytes text : List ℕ) → b ≢ end_bracket → b ≢ backslash → IsInside bytes text → IsInside (b ∷ bytes) (b ∷ text)
-  escaped : (b : ℕ) (bytes text : List ℕ) → IsInside bytes text → IsInside (backslash ∷ b ∷ bytes) (b ∷ text)
+pub data IsInsideBrackets : List ℕ → List ℕ → Type 0 where
+  end : IsInsideBrackets [] []
+  plain : (b : ℕ) (bytes text : List ℕ) → b ≢ end_bracket → b ≢ backslash → IsInsideBrackets bytes text → IsInsideBrackets (b ∷ bytes) (b ∷ text)
+  escaped : (b : ℕ) (bytes text : List ℕ) → IsInsideBrackets bytes text → IsInsideBrackets (backslash ∷ b ∷ bytes) (b ∷ text)
 
 -- items one after the other, with white space before each
 pub data Each {A : Type 0} (Is : List ℕ → A → Type 0) : List ℕ → List A → Type 0 where
@@ -69,7 +69,7 @@ pub data Each {A : Type 0} (Is : List ℕ → A → Type 0) : List ℕ → List 
 
 -- a value: `[`, what stands inside, `]`
 pub data IsValue : List ℕ → List ℕ → Type 0 where
-  value : (inside text : List ℕ) → IsInside inside text → IsValue (bracket ∷ (inside ++ (end_bracket ∷ []))) text
+  value : (inside text : List ℕ) → IsInsideBrackets inside text → IsValue (bracket ∷ (inside ++ (end_bracket ∷ []))) text
 
 -- a property: one letter or more, then one value or more
 pub data IsProperty : List ℕ → PropertyText → Type 0 where

@@ -7,7 +7,7 @@ use Rattle.short_games.specs.Number.{num, whole, count_tree, IsNumberTree}
 use Rattle.short_games.specs.NumberText.{same, guess, number_of, digits_within}
 use Rattle.short_games.specs.Text.{text}
 use Rattle.short_games.specs.TextOrder.{tree_text, lesser_text, text_before, IsCanonicalTree}
-use Rattle.short_games.specs.Examples.{choice, zero, one, star, up, switch, tiny, star_two}
+use Rattle.short_games.specs.Examples.{choice, zero, one, star, up, two_switch, tiny, star_two}
 use Rattle.short_games.proofs.NumberLaws.{num-left, num-right, num-lt, num-zero}
 use Rattle.short_games.proofs.OrderLaws.{le, le_within, from-test}
 use Rattle.short_games.proofs.CanonicalTest.{canonical_test, reduced_test, kept_test, ascends_test, free_test, by_canonical_test}
@@ -46,9 +46,9 @@ pub one_or_star-no_number : IsNumberTree (choice (num 0 (pos 1)) star) → ⊥
 unfolding num whole count_tree le le_within size
 one_or_star-no_number = option-no_number (choice (num 0 (pos 1)) star) (num 0 (pos 1)) star (inl refl) (inl refl) (from-test star one refl)
 
-pub switch-canonical : IsCanonicalTree switch
+pub switch-canonical : IsCanonicalTree two_switch
 unfolding canonical_test reduced_test kept_test ascends_test free_test le le_within size same text_before lesser_text tree_text text number_of guess num whole count_tree digits_within
-switch-canonical = by_canonical_test switch refl
+switch-canonical = by_canonical_test two_switch refl
 
 pub tiny-canonical : IsCanonicalTree tiny
 unfolding canonical_test reduced_test kept_test ascends_test free_test le le_within size same text_before lesser_text tree_text text number_of guess num whole count_tree digits_within

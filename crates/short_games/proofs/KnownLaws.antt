@@ -9,7 +9,7 @@ use Rattle.short_games.specs.Number.{num, whole, count_tree, IsNumber, IsNumberT
 use Rattle.short_games.specs.Stops.{IsLeftStop, IsRightStop}
 use Rattle.short_games.specs.Walls.{IsLeftWall, IsRightWall, IsGreatestRightWall, IsLeastLeftWall}
 use Rattle.short_games.specs.TextOrder.{IsCanonicalTree}
-use Rattle.short_games.specs.Examples.{choice, zero, one, two, minus_two, half, star, up, switch, tiny, star_two}
+use Rattle.short_games.specs.Examples.{choice, zero, one, two, minus_two, half, star, up, two_switch, tiny, star_two}
 use Rattle.short_games.specs.KnownValues.{IsLess, AreConfused, IsUpright, KnownNumbers, KnownOrder, KnownSums, KnownCanonical, KnownStops, KnownWalls}
 use Rattle.short_games.proofs.NumberLaws.{num-zero}
 use Rattle.short_games.proofs.OrderLaws.{le, le_within, from-test, to-test, not-le}
@@ -31,14 +31,14 @@ confused G H e f = (apart G H f, apart H G e)
 
 pub known-order : KnownOrder
 unfolding le le_within size
-known-order = (less zero half refl refl, less half one refl refl, less zero tiny refl refl, less tiny up refl refl, less up half refl refl, confused zero star refl refl, confused up star refl refl, confused zero star_two refl refl, confused star star_two refl refl, confused one switch refl refl)
+known-order = (less zero half refl refl, less half one refl refl, less zero tiny refl refl, less tiny up refl refl, less up half refl refl, confused zero star refl refl, confused up star refl refl, confused zero star_two refl refl, confused star star_two refl refl, confused one two_switch refl refl)
 
 equal : (G H : Tree) → le G H ≡ true → le H G ≡ true → G ≡ᵍ H
 equal G H e f = (below G H e, below H G f)
 
 pub known-sums : KnownSums
 unfolding le le_within size ◌+ᵍ◌
-known-sums = (equal (half +ᵍ half) one refl refl, equal (star +ᵍ star) zero refl refl, equal (star_two +ᵍ star_two) zero refl refl, equal (switch +ᵍ switch) two refl refl)
+known-sums = (equal (half +ᵍ half) one refl refl, equal (star +ᵍ star) zero refl refl, equal (star_two +ᵍ star_two) zero refl refl, equal (two_switch +ᵍ two_switch) two refl refl)
 
 zero-canonical : IsCanonicalTree zero
 unfolding num whole count_tree
@@ -56,9 +56,9 @@ pub known-canonical : KnownCanonical
 unfolding le le_within size
 known-canonical = (zero-canonical, half-canonical, star-canonical, up-is_canonical, switch-canonical, tiny-canonical, star_two-canonical, record { canonical = zero-canonical; under = below (choice star star) zero refl; over = below zero (choice star star) refl })
 
-switch-no_number : IsNumberTree switch → ⊥
+switch-no_number : IsNumberTree two_switch → ⊥
 unfolding le le_within size
-switch-no_number = option-no_number switch two zero (inl refl) (inl refl) (below zero two refl)
+switch-no_number = option-no_number two_switch two zero (inl refl) (inl refl) (below zero two refl)
 
 up-no_number : IsNumberTree up → ⊥
 up-no_number = right-no_number up star (inl refl) star-no_number
@@ -94,7 +94,7 @@ known-numbers = (
   },
   no_value star star-canonical star-no_number,
   no_value up up-is_canonical up-no_number,
-  no_value switch switch-canonical switch-no_number,
+  no_value two_switch switch-canonical switch-no_number,
   no_value tiny tiny-canonical tiny-no_number,
   no_value star_two star_two-canonical star_two-no_number,
 )
@@ -168,7 +168,7 @@ tiny-walls t = (
   inr (tiny-no_number, inr (0, 0, upright_at 0 t, inl (zero-number (0 + 0)), below_zero-left)),
 )
 
-switch-mast : (t : ℕ) → 1 ≤ t → IsLeftWall switch 0 t (pos 1) × IsRightWall switch 0 t (pos 1)
+switch-mast : (t : ℕ) → 1 ≤ t → IsLeftWall two_switch 0 t (pos 1) × IsRightWall two_switch 0 t (pos 1)
 unfolding IsLeftWall num whole count_tree
 switch-mast t l = (inr (switch-no_number, inr (0, 1, at, inl refl, inl refl)), inr (switch-no_number, inr (0, 1, at, inl refl, inl refl)))
   where

@@ -34,8 +34,8 @@ abbrev pub up : Tree
 up = choice zero star
 
 -- {2|0}, with a move of 1 for each side
-abbrev pub switch : Tree
-switch = choice two zero
+abbrev pub two_switch : Tree
+two_switch = choice two zero
 
 -- tiny-two is {0||0|-2}
 abbrev pub tiny : Tree

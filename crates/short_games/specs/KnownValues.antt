@@ -8,13 +8,13 @@ use Rattle.short_games.specs.Simplest.{IsSimplestFor}
 use Rattle.short_games.specs.Stops.{IsLeftStop, IsRightStop}
 use Rattle.short_games.specs.TextOrder.{IsCanonicalTree, IsCanonicalFor}
 use Rattle.short_games.specs.Walls.{IsLeftWall, IsRightWall}
-use Rattle.short_games.specs.Examples.{choice, zero, one, two, minus_two, half, star, up, switch, tiny, star_two}
+use Rattle.short_games.specs.Examples.{choice, zero, one, two, minus_two, half, star, up, two_switch, tiny, star_two}
 
 -- 0, 2, -2 and 1/2 are numbers, and 0 is the simplest number for {-2|2}; star, up, {2|0}, tiny-two and the nimber of 2 are
 -- no numbers
 abbrev pub KnownNumbers : Type 0
 KnownNumbers = (num 0 (pos 0) ≡ zero) × (num 0 (pos 2) ≡ two) × (num 0 (negsuc 1) ≡ minus_two) × (num 1 (pos 1) ≡ half) × IsSimplestFor (choice minus_two two) zero
-    × (IsNumber star → ⊥) × (IsNumber up → ⊥) × (IsNumber switch → ⊥) × (IsNumber tiny → ⊥) × (IsNumber star_two → ⊥)
+    × (IsNumber star → ⊥) × (IsNumber up → ⊥) × (IsNumber two_switch → ⊥) × (IsNumber tiny → ⊥) × (IsNumber star_two → ⊥)
 
 -- G is less than H: at most H, and not at least
 abbrev pub IsLess : Tree → Tree → Type 0
@@ -27,20 +27,20 @@ AreConfused G H = (G ⧏ᵍ H) × (H ⧏ᵍ G)
 -- 0 < 1/2 < 1 and 0 < tiny < up < 1/2; the nimbers are confused with 0 and with one another, up with star, and {2|0} with 1
 abbrev pub KnownOrder : Type 0
 KnownOrder = IsLess zero half × IsLess half one × IsLess zero tiny × IsLess tiny up × IsLess up half
-    × AreConfused zero star × AreConfused up star × AreConfused zero star_two × AreConfused star star_two × AreConfused one switch
+    × AreConfused zero star × AreConfused up star × AreConfused zero star_two × AreConfused star star_two × AreConfused one two_switch
 
 -- 1/2 and 1/2 are 1; nimbers are their own negatives; and twice {2|0} is 2
 abbrev pub KnownSums : Type 0
-KnownSums = ((half +ᵍ half) ≡ᵍ one) × ((star +ᵍ star) ≡ᵍ zero) × ((star_two +ᵍ star_two) ≡ᵍ zero) × ((switch +ᵍ switch) ≡ᵍ two)
+KnownSums = ((half +ᵍ half) ≡ᵍ one) × ((star +ᵍ star) ≡ᵍ zero) × ((star_two +ᵍ star_two) ≡ᵍ zero) × ((two_switch +ᵍ two_switch) ≡ᵍ two)
 
 -- 0, 1/2, star, up, {2|0}, tiny-two and the nimber of 2 are canonical, and {star|star} has the canonical form 0
 abbrev pub KnownCanonical : Type 0
-KnownCanonical = IsCanonicalTree zero × IsCanonicalTree half × IsCanonicalTree star × IsCanonicalTree up × IsCanonicalTree switch × IsCanonicalTree tiny × IsCanonicalTree star_two
+KnownCanonical = IsCanonicalTree zero × IsCanonicalTree half × IsCanonicalTree star × IsCanonicalTree up × IsCanonicalTree two_switch × IsCanonicalTree tiny × IsCanonicalTree star_two
     × IsCanonicalFor (choice star star) zero
 
 -- the stops of {2|0} are 2 and 0, those of 1/2 are 1/2, and those of star, up, tiny-two and the nimber of 2 are 0
 abbrev pub KnownStops : Type 0
-KnownStops = IsLeftStop 0 switch (pos 2) × IsRightStop 0 switch (pos 0) × IsLeftStop 1 half (pos 1) × IsRightStop 1 half (pos 1)
+KnownStops = IsLeftStop 0 two_switch (pos 2) × IsRightStop 0 two_switch (pos 0) × IsLeftStop 1 half (pos 1) × IsRightStop 1 half (pos 1)
     × IsLeftStop 0 star (pos 0) × IsRightStop 0 star (pos 0) × IsLeftStop 0 up (pos 0) × IsRightStop 0 up (pos 0)
     × IsLeftStop 0 tiny (pos 0) × IsRightStop 0 tiny (pos 0) × IsLeftStop 0 star_two (pos 0) × IsRightStop 0 star_two (pos 0)
 
@@ -51,6 +51,6 @@ IsUpright G k x = (t : ℕ) → IsLeftWall G k t x × IsRightWall G k t x
 -- the walls of {2|0} are 2 and 0 at 0, 3/2 and 1/2 at 1/2, and 1 from 1 on; those of 1/2 are 1/2, and those of star, up,
 -- tiny-two and the nimber of 2 are 0
 abbrev pub KnownWalls : Type 0
-KnownWalls = IsLeftWall switch 0 0 (pos 2) × IsRightWall switch 0 0 (pos 0) × IsLeftWall switch 1 1 (pos 3) × IsRightWall switch 1 1 (pos 1)
-    × ((t : ℕ) → 1 ≤ t → IsLeftWall switch 0 t (pos 1) × IsRightWall switch 0 t (pos 1))
+KnownWalls = IsLeftWall two_switch 0 0 (pos 2) × IsRightWall two_switch 0 0 (pos 0) × IsLeftWall two_switch 1 1 (pos 3) × IsRightWall two_switch 1 1 (pos 1)
+    × ((t : ℕ) → 1 ≤ t → IsLeftWall two_switch 0 t (pos 1) × IsRightWall two_switch 0 t (pos 1))
     × IsUpright half 1 (pos 1) × IsUpright star 0 (pos 0) × IsUpright up 0 (pos 0) × IsUpright tiny 0 (pos 0) × IsUpright star_two 0 (pos 0)

@@ -16,7 +16,7 @@ use Rattle.sum_outcome.specs.Players.{options, LosesGame}
 use Rattle.short_games.proofs.IncentiveLaws.{incentive-dominates, incentive-dominates_back}
 use Rattle.sum_outcome.specs.Sums.{sum_tree}
 use Rattle.sum_outcome.specs.inner.Search.{put, IsMove, WinsAt}
-use Rattle.sum_outcome.specs.inner.Incentives.{IsGood, HasPreferred, IsDominated, IsSettled}
+use Rattle.sum_outcome.specs.inner.Incentives.{IsGood, HasPreferred, IsDominated, IsPlaceSettled}
 use Rattle.sum_outcome.proofs.CheapMoves.{IsAt, put-total, put-option, NoBetter, same-no_better, no_better-trans, no_better-plus, no_better-cancel, wins-better}
 use Rattle.sum_outcome.proofs.Lists.{pick-at, pick-put}
 
@@ -96,14 +96,14 @@ abbrev pub OptionIsSettled : List Tree → List ℕ → ℤ → Colour → ℕ �
 OptionIsSettled Ts ids x c k i = (LosesGame (other c) (sum_tree Ts (set ids k i) x) → ⊥) ⊎ IsDominated Ts ids c k (tree_at Ts i)
 
 module _ (Ts : List Tree) (ids : List ℕ) (x : ℤ) (c : Colour) where
-  pub options_settled : (os : List ℕ) (k : ℕ) → ((X : Tree) → Has (pick Ts os) X ↔ IsMove (tree_at Ts (get_or ids k 0)) c X) → ((j : ℕ) → j < length os → OptionIsSettled Ts ids x c k (get_or os j 0)) → IsSettled Ts ids x c k
+  pub options_settled : (os : List ℕ) (k : ℕ) → ((X : Tree) → Has (pick Ts os) X ↔ IsMove (tree_at Ts (get_or ids k 0)) c X) → ((j : ℕ) → j < length os → OptionIsSettled Ts ids x c k (get_or os j 0)) → IsPlaceSettled Ts ids x c k
   options_settled os k moves each X m =
       let r = has-pick Ts os X ((moves X).1 m) in
       subst (λ t. (LosesGame (other c) (total (put (pick Ts ids) k t) +ᵍ number_tree x) → ⊥) ⊎ IsDominated Ts ids c k t) (sym r.2)
       (subst (λ t. (LosesGame (other c) (total t +ᵍ number_tree x) → ⊥) ⊎ IsDominated Ts ids c k (tree_at Ts (get_or os r.0 0))) (pick-put Ts ids k (get_or os r.0 0)) (each r.0 r.1))
 
   -- a game that stands at an earlier place too
-  pub repeated_settled : (j k : ℕ) → j < k → k < length ids → get_or ids j 0 ≡ get_or ids k 0 → IsSettled Ts ids x c k
+  pub repeated_settled : (j k : ℕ) → j < k → k < length ids → get_or ids j 0 ≡ get_or ids k 0 → IsPlaceSettled Ts ids x c k
   repeated_settled j k before lt e X m =
       inr (j, omega (arith, before, lt), subst (λ i. HasPreferred Ts c i (tree_at Ts (get_or ids k 0)) X (j < k)) (sym e) (X, m, good-refl c (tree_at Ts (get_or ids k 0)) X, inl before))
 
@@ -116,7 +116,7 @@ module _ (Ts : List Tree) (ids : List ℕ) (x : ℤ) (c : Colour) where
   abbrev IsNext : ℕ → Tree → Type 0
   IsNext k V = DoesFail V ⊎ ((j : ℕ) × (W : Tree) × IsReached j W × NoBetter c V W × ((j < k) ⊎ (NoBetter c W V → ⊥)))
 
-  pub all_fail : ((k : ℕ) → k < length ids → IsSettled Ts ids x c k) → (k : ℕ) → k < length ids → WinsAt Ts ids x c k → ⊥
+  pub all_fail : ((k : ℕ) → k < length ids → IsPlaceSettled Ts ids x c k) → (k : ℕ) → k < length ids → WinsAt Ts ids x c k → ⊥
   all_fail settled k lt (X, m, l) = listed_fail c IsReached DoesFail
       (λ V f l. f (λ g. g l))
       (λ V W p f l. f (wins-better c (V +ᵍ number_tree x) (W +ᵍ number_tree x) (no_better-plus c V W (number_tree x) p) l))

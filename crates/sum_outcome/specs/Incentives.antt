@@ -7,7 +7,7 @@ use Rattle.short_games.specs.SumLaws.{incentive}
 use Rattle.sum_outcome.specs.declared.incentives.MovePair.{MovePair}
 
 -- the games and the options of a pair of moves are ids
-pub record AreMoves (Ts : List Tree) (p : MovePair) : Type 0 where
+pub record AreStoredMoves (Ts : List Tree) (p : MovePair) : Type 0 where
   pub game_id : p.game < length Ts
   pub option_id : p.option < length Ts
   pub other_id : p.other < length Ts
@@ -19,7 +19,7 @@ IsAtLeast Ts p = incentive (tree_at Ts p.other) (tree_at Ts p.other_option) ≤�
 
 -- a pair of moves is of ids of the store, and the answer says whether the first incentive is at least the second
 abbrev pub IsAnswer : List Tree → MovePair → Bool → Type 0
-IsAnswer Ts p answer = AreMoves Ts p × (IsTrue answer ↔ IsAtLeast Ts p)
+IsAnswer Ts p answer = AreStoredMoves Ts p × (IsTrue answer ↔ IsAtLeast Ts p)
 
 -- each answer on a pair of moves is right, and of ids of the store
 abbrev pub AreIncentivesRight : List Tree → List (MovePair × Bool) → Type 0

@@ -23,8 +23,8 @@ pub record Search : Type 0 where
   pub zero : Option ℕ
 
 -- what a search remembers at first
-abbrev pub blank : ℕ → Search
-blank n = record { entries = n; sums = []; incentives = []; comparisons = []; zero = None }
+abbrev pub blank_search : ℕ → Search
+blank_search n = record { entries = n; sums = []; incentives = []; comparisons = []; zero = None }
 
 -- the sum of a key's games and its number
 abbrev pub key_tree : List Tree → Key → Tree
@@ -50,7 +50,7 @@ pub record Fits (Ts : List Tree) (search : Search) : Type 0 where
   pub zero : IsZero Ts search.zero
 
 -- a search remembers at most as much as it may
-pub record IsWithin (search : Search) : Type 0 where
+pub record IsWithinEntries (search : Search) : Type 0 where
   pub sums : length search.sums ≤ search.entries
   pub incentives : length search.incentives ≤ search.entries
 

@@ -4,7 +4,7 @@ ghost use Rattle.std.specs.Prelude.{◌≡◌, ◌<◌, ◌↔◌, length, Conta
 ghost use Rattle.short_games.specs.Tree.{Tree, Has, tree_at};
 ghost use Rattle.game_store.specs.Meaning.{pick, AreIds, AreBelow};
 ghost use Rattle.sum_outcome.specs.inner.Search.{IsMove, StoodBefore};
-ghost use Rattle.sum_outcome.specs.Incentives.{AreMoves, IsAtLeast};
+ghost use Rattle.sum_outcome.specs.Incentives.{AreStoredMoves, IsAtLeast};
 ghost use Rattle.sum_outcome.specs.inner.Incentives.{IsKnownRight, turned, IsAsGood, HasPreferred, IsDominated};
 ghost use Rattle.sum_outcome.specs.inner.Memo.{AreKept, NoneIsNew};
 ghost use Rattle.sum_outcome.specs.declared.incentives.MovePair.{MovePair};
@@ -59,7 +59,7 @@ pub(crate) fn is_at_least(
     known: &mut Incentives,
     pair: MovePair,
 ) -> Option<bool>
-    requires ids { AreMoves store.now pair }
+    requires ids { AreStoredMoves store.now pair }
     requires right { IsKnownRight store.now known.old }
     ensures answer { IfSome result (λ answer. IsTrue answer ↔ IsAtLeast store.now pair) }
     ensures right { IsKnownRight store.now known.new }
@@ -104,7 +104,7 @@ fn is_as_good(
     pair: MovePair,
     side: Colour,
 ) -> Option<bool>
-    requires ids { AreMoves store.now pair }
+    requires ids { AreStoredMoves store.now pair }
     requires right { IsKnownRight store.now known.old }
     ensures answer { IfSome result (λ answer. IsTrue answer ↔ IsAsGood store.now side pair) }
     ensures right { IsKnownRight store.now known.new }
@@ -126,7 +126,7 @@ fn is_preferred(
     side: Colour,
     earlier: bool,
 ) -> bool
-    requires ids { AreMoves store.now pair }
+    requires ids { AreStoredMoves store.now pair }
     requires right { IsKnownRight store.now known.old }
     ensures good { IsTrue result → IsAsGood store.now side pair }
     ensures better { IsTrue result → IsTrue earlier ⊎ (IsAsGood store.now side (turned pair) → ⊥) }

@@ -6,7 +6,7 @@ ghost use Rattle.short_games.specs.Tree.{Tree};
 ghost use Rattle.game_store.specs.Meaning.{pick, AreIds, Extends};
 ghost use Rattle.sum_outcome.specs.Players.{LosesGame};
 ghost use Rattle.sum_outcome.specs.Sums.{sum_tree, IsBounded};
-ghost use Rattle.sum_outcome.specs.Memo.{blank, Fits, IsWithin, FitsGrownStores};
+ghost use Rattle.sum_outcome.specs.Memo.{blank_search, Fits, IsWithinEntries, FitsGrownStores};
 
 mod incentives;
 mod key;
@@ -35,14 +35,14 @@ pub struct Search {
 }
 
 impl Model for Search {
-    ghost use Rattle.sum_outcome.specs.Memo.{Search, IsWithin};
+    ghost use Rattle.sum_outcome.specs.Memo.{Search, IsWithinEntries};
     ghost use Rattle.sum_outcome.specs.inner.Memo.{remembered, HasBounds};
 
     ghost Value = { Search };
 
     ghost view = { λ s. remembered s.memo };
 
-    ghost invariant = { λ s. IsWithin (remembered s.memo) × HasBounds s.memo };
+    ghost invariant = { λ s. IsWithinEntries (remembered s.memo) × HasBounds s.memo };
 }
 
 impl Search {
@@ -50,7 +50,7 @@ impl Search {
     pub fn new(alloc: Global, entries: usize) -> Result<Search, AllocError>
         requires some { 1 ≤ entries }
         requires most { entries ≤ MOST_ENTRIES }
-        ensures empty { IfOk result (λ search. search ≡ blank entries) }
+        ensures empty { IfOk result (λ search. search ≡ blank_search entries) }
         ensures fits { IfOk result (λ search. (Ts : List Tree) → Fits Ts search) }
     {
         let most = NonZeroUsize::new(entries).unwrap_or(NonZeroUsize::MIN);
@@ -81,7 +81,7 @@ impl Search {
         ensures same { sum.new ≡ sum.old }
         ensures fits { Fits store.now self.new }
         ensures entries { self.new.entries ≡ self.old.entries }
-        ensures within { IsWithin self.new }
+        ensures within { IsWithinEntries self.new }
     {
         let lost = loses_sum(store, &mut self.memo, sum, number, side);
         let _sums = self.memo.sums.len();

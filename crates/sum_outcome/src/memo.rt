@@ -3,7 +3,7 @@
 ghost use Rattle.std.specs.Prelude.{◌≡◌, List, IfOk, IfSome};
 ghost use Rattle.std.specs.NonZero.{non_zero_usize_get};
 ghost use Rattle.short_games.specs.Tree.{Tree};
-ghost use Rattle.sum_outcome.specs.Memo.{blank};
+ghost use Rattle.sum_outcome.specs.Memo.{blank_search};
 ghost use Rattle.sum_outcome.specs.inner.Memo.{remembered, AreSame, IsAmong, AreKept, NoneIsNew, IsRight, StaysRight, IsRecalled, Learns};
 
 use crate::incentives::Incentives;
@@ -47,7 +47,8 @@ pub(crate) struct Memo {
 impl Memo {
     /// Nothing is remembered yet. The room for entries grows as they come.
     pub(crate) fn new(alloc: Global, entries: NonZeroUsize) -> Result<Memo, AllocError>
-        ensures empty { IfOk result (λ memo. remembered memo ≡ blank (non_zero_usize_get entries)) }
+        ensures empty { IfOk result
+            (λ memo. remembered memo ≡ blank_search (non_zero_usize_get entries)) }
         ensures room { IfOk result (λ memo. memo.incentives.answers.cap ≡ memo.sums.cap) }
     {
         Ok(Memo {

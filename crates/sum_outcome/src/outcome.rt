@@ -11,7 +11,7 @@ ghost use Rattle.game_store.specs.Meaning.{pick, AreIds};
 ghost use Rattle.sum_outcome.specs.Players.{LosesGame};
 ghost use Rattle.sum_outcome.specs.Sums.{sum_tree, IsBounded};
 ghost use Rattle.sum_outcome.specs.inner.Memo.{IsRight, StaysRight};
-ghost use Rattle.sum_outcome.specs.inner.Incentives.{IsSettled};
+ghost use Rattle.sum_outcome.specs.inner.Incentives.{IsPlaceSettled};
 ghost use Rattle.sum_outcome.specs.inner.Opposites.{MayCancel};
 ghost use Rattle.sum_outcome.specs.inner.Search.{HasNonNumber, IsSign, WinsAt};
 
@@ -184,7 +184,7 @@ fn wins_at(
     requires right { IsRight store.now memo.old }
     ensures same { sum.new ≡ sum.old }
     ensures wins { IsTrue result → WinsAt store.now sum.old number side place }
-    ensures settled { OnFalse result (IsSettled store.now sum.old number side place) }
+    ensures settled { OnFalse result (IsPlaceSettled store.now sum.old number side place) }
     ensures right { StaysRight store.now memo.old memo.new }
 {
     let id = sum[place];

@@ -12,7 +12,7 @@ use Rattle.game_store.specs.Forms.{HaveForms}
 use Rattle.short_games.specs.WallGrids.{Follow, HasWalls, HasTemperatureBetween, IsMeeting, WallsAre, finer, Bends}
 use Rattle.short_games.specs.WallGrids.Follow.{apart, met}
 use Rattle.short_games.specs.WallGrids.WallsAre.{of_number, of_game}
-use Rattle.thermograph.specs.PastBounds.{IsBreak, IsWithin, HasBreakPast, IsDrawnPastBounds}
+use Rattle.thermograph.specs.PastBounds.{IsBreak, IsFractionInBounds, HasBreakPast, IsDrawnPastBounds}
 use Rattle.short_games.proofs.PartLaws.{follower-trans}
 use Rattle.short_games.proofs.WallBetween.{none-between}
 use Rattle.short_games.proofs.WallLines.{below-or_at, follow-same, finer-doubles, Parity, parity}
@@ -214,7 +214,7 @@ module _ (P : Tree) (k : ℕ) (l r : ℕ → ℤ) (h : HasWalls k P l r) where
 -- where a game has walls on the grid of 2 ^ -60 and numbers within the bounds, none of its break points is past them
 module _ (In : Tree → Type 0) (bounded : IsBounded 60 (pos (2 ^ 120 - 1)) In) (P : Tree) (in' : In P) (l0 r0 : ℕ → ℤ) (h0 : HasWalls 60 P l0 r0) where
   fine-within : (j : ℕ) (f : ℕ → ℤ) → (f ≡ l0) ⊎ (f ≡ r0) → (t : ℕ) → IsBreak (finest j l0) (finest j r0) (finest j f) t
-      → IsWithin (j + 60) (pos t) × IsWithin (j + 60) (finest j f t)
+      → IsFractionInBounds (j + 60) (pos t) × IsFractionInBounds (j + 60) (finest j f t)
   fine-within j f one t b =
       let (p, at, breaks) = to_coarse P 60 l0 r0 h0 f j t b in
       let few = both-within In bounded P in' l0 r0 h0 f one p breaks in (
@@ -223,7 +223,7 @@ module _ (In : Tree → Type 0) (bounded : IsBounded 60 (pos (2 ^ 120 - 1)) In) 
       )
 
   coarse-within : (j k : ℕ) → j + k ≡ 60 → (l r f : ℕ → ℤ) → HasWalls k P l r → (f ≡ l) ⊎ (f ≡ r) → (t : ℕ) → IsBreak l r f t
-      → IsWithin k (pos t) × IsWithin k (f t)
+      → IsFractionInBounds k (pos t) × IsFractionInBounds k (f t)
   coarse-within j k e l r f h one t b =
       let walls = subst (λ n. HasWalls n P (finest j l) (finest j r)) e (finest-walls P k l r h j) in
       let one' : (finest j f ≡ finest j l) ⊎ (finest j f ≡ finest j r) = elim one [ inl i ↦ inl (ap (finest j) i) | inr i ↦ inr (ap (finest j) i) ] in
@@ -233,19 +233,19 @@ module _ (In : Tree → Type 0) (bounded : IsBounded 60 (pos (2 ^ 120 - 1)) In) 
         (f t *ℤ pos (2 ^ j), subst (λ n. unsigned_abs n < 2 ^ 120) (finest-at f j t) few.1, back (f t)),
       )
 
-  within : (k : ℕ) (l r f : ℕ → ℤ) → HasWalls k P l r → (f ≡ l) ⊎ (f ≡ r) → (t : ℕ) → IsBreak l r f t → IsWithin k (pos t) × IsWithin k (f t)
-  within k l r f h one t b = elim (cases_lt k 60) as (λ _. IsWithin k (pos t) × IsWithin k (f t)) [
+  within : (k : ℕ) (l r f : ℕ → ℤ) → HasWalls k P l r → (f ≡ l) ⊎ (f ≡ r) → (t : ℕ) → IsBreak l r f t → IsFractionInBounds k (pos t) × IsFractionInBounds k (f t)
+  within k l r f h one t b = elim (cases_lt k 60) as (λ _. IsFractionInBounds k (pos t) × IsFractionInBounds k (f t)) [
     | inl lt ↦ coarse-within (60 - k) k (omega (arith, lt)) l r f h one t b
     | inr le ↦ fine (k - 60) (omega (arith, le))
   ]
     where
-      fine : (j : ℕ) → j + 60 ≡ k → IsWithin k (pos t) × IsWithin k (f t)
+      fine : (j : ℕ) → j + 60 ≡ k → IsFractionInBounds k (pos t) × IsFractionInBounds k (f t)
       fine j e =
           let same = has_walls-unique (j + 60) P l r (finest j l0) (finest j r0) (subst (λ n. HasWalls n P l r) (sym e) h) (finest-walls P 60 l0 r0 h0 j) in
           let left : l ≡ finest j l0 = λ i. λ v. (same v).0 i in
           let right : r ≡ finest j r0 = λ i. λ v. (same v).1 i in
-          let at : (g : ℕ → ℤ) → (g ≡ l0) ⊎ (g ≡ r0) → f ≡ finest j g → IsWithin k (pos t) × IsWithin k (f t) = λ g which is.
-          subst (λ n. IsWithin n (pos t) × IsWithin n (f t)) e (subst (λ m. IsWithin (j + 60) (pos t) × IsWithin (j + 60) (m t)) (sym is)
+          let at : (g : ℕ → ℤ) → (g ≡ l0) ⊎ (g ≡ r0) → f ≡ finest j g → IsFractionInBounds k (pos t) × IsFractionInBounds k (f t) = λ g which is.
+          subst (λ n. IsFractionInBounds n (pos t) × IsFractionInBounds n (f t)) e (subst (λ m. IsFractionInBounds (j + 60) (pos t) × IsFractionInBounds (j + 60) (m t)) (sym is)
           (fine-within j g which t (subst (λ m. IsBreak m (finest j r0) (finest j g) t) left (subst (λ m. IsBreak l m (finest j g) t) right (subst (λ m. IsBreak l r m t) is b))))) in
           elim one [ inl i ↦ at l0 (inl refl) (i ∙ left) | inr i ↦ at r0 (inr refl) (i ∙ right) ]
 

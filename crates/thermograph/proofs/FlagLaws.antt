@@ -9,7 +9,7 @@ use Rattle.short_games.specs.Parts.IsFollower.{itself, further}
 use Rattle.game_store.specs.Forms.{IsOptions, IsMeaning, IsWithinBounds, HaveForms}
 use Rattle.game_store.proofs.Values.{has-pick, pick-has}
 use Rattle.short_games.proofs.TextOrderLaws.{sorted-has, has-sorted}
-use Rattle.thermograph.specs.inner.Flags.{IsFlagged, AreAdded, IsAmong, IsInner, AreFollowers}
+use Rattle.thermograph.specs.inner.Flags.{IsFlagged, AreAdded, IsAmong, IsInnerId, AreFollowers}
 use Rattle.short_games.proofs.PartLaws.{follower-trans, follower-of}
 use Rattle.std.proofs.lemmas.Int.{ints}
 use Rattle.short_games.specs.Number.{num, IsNumberTree}
@@ -39,9 +39,9 @@ added-both A B Both xs ys zs a b n = record { size = b.size ∙ a.size; flagged 
 
 module _ (Ts : List Tree) (id : ℕ) (ls rs : List ℕ) (o : IsOptions Ts id ls rs) where
   -- an id of the form is an option below it
-  pub among-inner : (i : ℕ) → IsAmong ls i ⊎ IsAmong rs i → IsInner Ts id i
-  among-inner i (inl (j, l, e)) = subst (IsInner Ts id) e (o.left_below j l, o.no_number, inl (subst (λ G. Has (left G) (tree_at Ts (get_or ls j 0))) (sym o.tree) (has-sorted (pick Ts ls) _ (pick-has Ts ls j l))))
-  among-inner i (inr (j, l, e)) = subst (IsInner Ts id) e (o.right_below j l, o.no_number, inr (subst (λ G. Has (right G) (tree_at Ts (get_or rs j 0))) (sym o.tree) (has-sorted (pick Ts rs) _ (pick-has Ts rs j l))))
+  pub among-inner : (i : ℕ) → IsAmong ls i ⊎ IsAmong rs i → IsInnerId Ts id i
+  among-inner i (inl (j, l, e)) = subst (IsInnerId Ts id) e (o.left_below j l, o.no_number, inl (subst (λ G. Has (left G) (tree_at Ts (get_or ls j 0))) (sym o.tree) (has-sorted (pick Ts ls) _ (pick-has Ts ls j l))))
+  among-inner i (inr (j, l, e)) = subst (IsInnerId Ts id) e (o.right_below j l, o.no_number, inr (subst (λ G. Has (right G) (tree_at Ts (get_or rs j 0))) (sym o.tree) (has-sorted (pick Ts rs) _ (pick-has Ts rs j l))))
 
   -- and each option is the tree of such an id
   pub option-listed : (X : Tree) → IsOption (tree_at Ts id) X → (i : ℕ) × (i < id) × (X ≡ tree_at Ts i) × (IsAmong ls i ⊎ IsAmong rs i)
@@ -50,7 +50,7 @@ module _ (Ts : List Tree) (id : ℕ) (ls rs : List ℕ) (o : IsOptions Ts id ls 
   option-listed X (inr h) = let a = has-pick Ts rs X (sorted-has (pick Ts rs) X (subst (λ G. Has (right G) X) o.tree h)) in
       (get_or rs a.0 0, o.right_below a.0 a.1, a.2, inr (a.0, a.1, refl))
 
-  pub inner-listed : AreDistinct Ts → id < length Ts → (i : ℕ) → IsInner Ts id i → IsAmong ls i ⊎ IsAmong rs i
+  pub inner-listed : AreDistinct Ts → id < length Ts → (i : ℕ) → IsInnerId Ts id i → IsAmong ls i ⊎ IsAmong rs i
   inner-listed d h i (l, _, x) = let a = option-listed (tree_at Ts i) x in
       subst (λ n. IsAmong ls n ⊎ IsAmong rs n) (sym (d i a.0 (omega (arith, l, h)) (omega (arith, h, a.1)) a.2)) a.3
 
@@ -70,7 +70,7 @@ following-start Ts id count ys k e = subst (AreFollowers Ts id count) (sym e) re
       | inr l ↦ get_or_past (replicate count false) i false (omega (arith, l, length-replicate count false))
     ] in absurd (true≢false (sym m ∙ get_or-set_other (replicate count false) id i true false d ∙ unflagged))
 
-pub following-step : (Ts : List Tree) (id place next : ℕ) (ys zs : List Bool) → AreFollowers Ts id place ys → place ≡ next + 1 → place ≤ length ys → IsFlagged ys next → AreAdded (IsInner Ts next) ys zs → AreFollowers Ts id next zs
+pub following-step : (Ts : List Tree) (id place next : ℕ) (ys zs : List Bool) → AreFollowers Ts id place ys → place ≡ next + 1 → place ≤ length ys → IsFlagged ys next → AreAdded (IsInnerId Ts next) ys zs → AreFollowers Ts id next zs
 following-step Ts id place next ys zs f e b n a = record {
   size = a.size ∙ f.size;
   root = (a.flagged id (omega (arith, f.size))).1 (inl f.root);
@@ -79,7 +79,7 @@ following-step Ts id place next ys zs f e b n a = record {
     | inr k ↦ follower-trans (tree_at Ts id) (tree_at Ts next) (tree_at Ts i) (f.follows next (omega (arith, e, b)) n) (further (tree_at Ts next) (tree_at Ts i) (tree_at Ts i) k.2 (itself (tree_at Ts i)))
   ]);
   closed = λ j i p q m k. (elim (cases_eq j next) [
-    | inl s ↦ (a.flagged i (omega (arith, q, k.0, a.size))).1 (inr (subst (λ x. IsInner Ts x i) s k))
+    | inl s ↦ (a.flagged i (omega (arith, q, k.0, a.size))).1 (inr (subst (λ x. IsInnerId Ts x i) s k))
     | inr d ↦ elim ((a.flagged j (omega (arith, q, a.size))).0 m) [
       | inl o ↦ (a.flagged i (omega (arith, q, k.0, a.size))).1 (inl (f.closed j i (omega (arith, p, d, e)) (omega (arith, q, a.size)) o k))
       | inr o ↦ absurd (omega (arith, p, d, o.0))

@@ -7,8 +7,8 @@ use Rattle.short_games.specs.Parts.{IsPart}
 use Rattle.short_games.specs.WallGrids.{Bends, HasWalls, IsMeeting}
 
 -- n / 2 ^ k is within the bounds of a Dyadic: it is the number of some u parts of 2 ^ -60
-abbrev pub IsWithin : ℕ → ℤ → Type 0
-IsWithin k n = (u : ℤ) × IsInBounds u × (n *ℤ pos (2 ^ EXPONENT) ≡ u *ℤ pos (2 ^ k))
+abbrev pub IsFractionInBounds : ℕ → ℤ → Type 0
+IsFractionInBounds k n = (u : ℤ) × IsInBounds u × (n *ℤ pos (2 ^ EXPONENT) ≡ u *ℤ pos (2 ^ k))
 
 -- a wall has a break point at t, where l and r are the walls: at 0, where its slope changes, or where the two meet
 abbrev pub IsBreak : (l r wall : ℕ → ℤ) → ℕ → Type 0
@@ -24,7 +24,7 @@ pub record HasBreakPast (P : Tree) : Type 0 where
   pub one : (wall ≡ left) ⊎ (wall ≡ right)
   pub place : ℕ
   pub breaks : IsBreak left right wall place
-  pub past : ¬ IsWithin grid (pos place) ⊎ ¬ IsWithin grid (wall place)
+  pub past : ¬ IsFractionInBounds grid (pos place) ⊎ ¬ IsFractionInBounds grid (wall place)
 
 -- some break point of the game or of one of its parts is past the bounds
 abbrev pub IsDrawnPastBounds : Tree → Type 0

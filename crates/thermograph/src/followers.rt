@@ -2,7 +2,7 @@
 
 ghost use Rattle.std.specs.Prelude.{◌<◌, ◌≤◌, length, IfOk};
 ghost use Rattle.game_store.specs.Meaning.{AreBelow};
-ghost use Rattle.thermograph.specs.inner.Flags.{AreAdded, IsAmong, IsInner, AreFollowers};
+ghost use Rattle.thermograph.specs.inner.Flags.{AreAdded, IsAmong, IsInnerId, AreFollowers};
 
 use game_store::{Form, GameId, Store};
 use std::alloc::{AllocError, Global};
@@ -21,7 +21,7 @@ fn flag_ids(flags: &mut [bool], ids: &[GameId])
 fn flag_options(store: &Store, flags: &mut [bool], id: GameId)
     requires id { id < length flags.old }
     requires flags { length flags.old ≤ length store.now }
-    ensures { AreAdded (IsInner store.now id) flags.old flags.new }
+    ensures { AreAdded (IsInnerId store.now id) flags.old flags.new }
 {
     if let Form::Options { left, right } = store.node(id) {
         flag_ids(flags, left);

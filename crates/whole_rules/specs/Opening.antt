@@ -24,15 +24,15 @@ komi_token (pos n) = cond (nat_eq (n % 2) 0) token.Nobody token.White
 komi_token (negsuc n) = cond (nat_eq (suc n % 2) 0) token.Nobody token.Black
 
 -- the points that the board gives a player at the start: what it holds, less two for each of its groups where there is a tax
-abbrev pub IsStart : Board → Colour → Bool → ℕ → Type 0
-IsStart g c false n = IsHeld g c n
-IsStart g c true n = (groups : ℕ) × IsNumberOfGroups g c groups × IsHeld g c (n + 2 * groups)
+abbrev pub GivesAtStart : Board → Colour → Bool → ℕ → Type 0
+GivesAtStart g c false n = IsHeld g c n
+GivesAtStart g c true n = (groups : ℕ) × IsNumberOfGroups g c groups × IsHeld g c (n + 2 * groups)
 
 -- The state opens the board before any move: what it gives each side, with or without a tax, its prisoners and its part of the komi.
 pub record IsOpening (g : Board) (black_prisoners white_prisoners : ℕ) (komi : ℤ) (side : Colour) (tax : Bool) (s : Whole) : Type 0 where
   pub board : s.board ≡ g
   pub contested : Marks s.contested (IsContested g)
-  pub black : (n : ℕ) × IsStart g Black tax n × (s.purses.black ≡ n + black_prisoners + komi_points Black komi)
-  pub white : (n : ℕ) × IsStart g White tax n × (s.purses.white ≡ n + white_prisoners + komi_points White komi)
+  pub black : (n : ℕ) × GivesAtStart g Black tax n × (s.purses.black ≡ n + black_prisoners + komi_points Black komi)
+  pub white : (n : ℕ) × GivesAtStart g White tax n × (s.purses.white ≡ n + white_prisoners + komi_points White komi)
   pub token : s.purses.token ≡ komi_token komi
   pub turn : s.side ≡ side

@@ -4,7 +4,7 @@ ghost use Rattle.std.specs.Prelude.{◌≡◌, ◌+◌, ◌-◌, ◌*◌, ◌^�
 ghost use Rattle.go_grid.specs.declared.grid.Colour.TheVariants.{Black, White};
 ghost use Rattle.go_grid.specs.Chain.{IsSettled};
 ghost use Rattle.benson_life.specs.Territory.{IsLife, IsTerritory};
-ghost use Rattle.whole_rules.specs.Opening.{komi_points, komi_token, IsOpening, IsStart};
+ghost use Rattle.whole_rules.specs.Opening.{komi_points, komi_token, IsOpening, GivesAtStart};
 
 use crate::money::{Purses, Token};
 use crate::states::Whole;
@@ -57,7 +57,7 @@ fn start_points(
 ) -> Result<u32, AllocError>
     requires settled { IsSettled board.now }
     requires life { IsLife board.now colour life.now }
-    ensures { IfOk result (IsStart board.now colour tax) }
+    ensures { IfOk result (GivesAtStart board.now colour tax) }
 {
     let held = life.held(alloc, board, colour)?;
     if tax {

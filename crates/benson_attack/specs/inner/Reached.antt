@@ -7,7 +7,7 @@ use Rattle.go_grid.specs.Marks.{IsMarked, Marks}
 use Rattle.go_play.specs.Place.{IsPlaced, IsSuicide}
 use Rattle.benson_life.specs.Life.{HasTwoEyes, IsAlive}
 use Rattle.benson_attack.specs.declared.captures.Run.{Run}
-use Rattle.benson_attack.specs.Reached.{IsRun, IsAtRest, number_of, HasFewPlacings}
+use Rattle.benson_attack.specs.Reached.{IsRun, IsAtRest, number_of_stones, HasFewPlacings}
 
 -- Placing at each of two liberties of the stone's chain is refused.
 pub record HasRefusals (g : Board) (d : Colour) (v : ℕ) : Type 0 where
@@ -29,7 +29,7 @@ pub record Follows (d : Colour) (old new : Run) : Type 0 where
   pub short : HasFewPlacings d old → HasFewPlacings d new
   pub long : length new.board.cells ≡ length old.board.cells
   pub goes : (g : Board) → IsAtRest g d old → IsAtRest g d new
-  pub more : number_of d old.board < number_of d new.board
+  pub more : number_of_stones d old.board < number_of_stones d new.board
 
 -- the stone is taken, or it has two eyes among the stones that stood
 abbrev pub Captures : Colour → ℕ → Run → Run → Bool → Type 0
@@ -43,8 +43,8 @@ pub record IsPressed (d : Colour) (v : ℕ) (old now : Run) : Type 0 where
   pub long : length now.board.cells ≡ length old.board.cells
   pub goes : (g : Board) → IsAtRest g d old → IsRun g d (InChain g (other d) v) now
   pub fewer : (q : ℕ) → HasStone now.board (other d) q → HasStone old.board (other d) q
-  pub least : number_of d old.board ≤ number_of d now.board
-  pub more : HasStone now.board (other d) v ⊎ (number_of d old.board < number_of d now.board)
+  pub least : number_of_stones d old.board ≤ number_of_stones d now.board
+  pub more : HasStone now.board (other d) v ⊎ (number_of_stones d old.board < number_of_stones d now.board)
 
 -- each stone of the other colour that stands lives without answers on the first board, where the marks are those that do
 abbrev pub AllAlive : Colour → List Bool → Run → Type 0

@@ -46,6 +46,6 @@ IsFileFault told before now settings (BadFile f) text = (file : List ℕ) × IsT
 IsFileFault told before now settings s text = ⊥
 
 -- the position of the file of which this is told, or what is wrong with the file
-abbrev pub IsFound : Told → ℕ → ℕ → Settings → Found → Type 0
-IsFound told before now settings (Position setup) = IsPositionOf told settings setup × IsFit setup
-IsFound told before now settings (Fault report) = IsFileFault told before now settings report.status report.text
+abbrev pub IsFoundInFile : Told → ℕ → ℕ → Settings → Found → Type 0
+IsFoundInFile told before now settings (Position setup) = IsPositionOf told settings setup × IsFit setup
+IsFoundInFile told before now settings (Fault report) = IsFileFault told before now settings report.status report.text

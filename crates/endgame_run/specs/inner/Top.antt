@@ -31,7 +31,7 @@ use Rattle.endgame_run.specs.Refusal.{form_line}
 use Rattle.report.specs.Values.{IsFirstUnshown, IsValuesText}
 use Rattle.endgame_run.specs.Calc.{IsCalc}
 use Rattle.endgame_run.specs.Trial.{IsTrial}
-use Rattle.endgame_run.specs.Verdict.{IsAnswerOn, AreStepsFor, Asks, IsAnswer, IsRefused, limits_of}
+use Rattle.endgame_run.specs.Verdict.{IsAnswerOn, AreStepsFor, AsksAbout, IsVerdict, IsRefused, limits_of}
 
 -- a text written whole, with its status, or a front part of it, as a write failed
 abbrev pub IsFinished : Status → List ℕ → ℕ → ℕ → Option (List ℕ) → Option (List ℕ) → Status → Type 0
@@ -48,7 +48,7 @@ IsModest Safe = Unit {0}
 -- the job asks a question, or for a game within its limits, with its colour for the engine, for the board of a number, for the answer to
 -- an expression within its limit of parts, or for the engine within its limits
 abbrev pub IsAsked : Job → Asked → Type 0
-IsAsked job (asked.Answer inquiry) = Asks job inquiry.question inquiry.word.now
+IsAsked job (asked.Answer inquiry) = AsksAbout job inquiry.question inquiry.word.now
 IsAsked job (asked.Game game) = (job.task ≡ play game.word.now) × (game.limits ≡ limits_of job) × (game.engine ≡ job.engine)
 IsAsked job (asked.Trial number) = job.task ≡ trial number
 IsAsked job (asked.Calc line) = (job.task ≡ calc line.expression.now) × (line.parts ≡ job.parts)
@@ -96,7 +96,7 @@ IsBegun limits given setup (Fault report) = IsRefused limits setup report.status
 abbrev pub IsOpened : Limits → Option Colour → Told → ℕ → ℕ → Settings → Opened → Type 0
 IsOpened limits given told before now settings (Game session) = (setup : Setup) × IsPositionOf told settings setup
     × IsPlayable limits setup session.state × IsEngine given setup session.engine × (session.held ≡ [])
-IsOpened limits given told before now settings (Fault report) = IsAnswer (Solve limits) told before now settings report.status report.text × (report.status ≢ Done)
+IsOpened limits given told before now settings (Fault report) = IsVerdict (Solve limits) told before now settings report.status report.text × (report.status ≢ Done)
 
 -- a session that was played over what the source has left, with the line of a fault behind it
 pub record IsPlayRun (engine : Colour) (s : Whole) (left : Option (List ℕ)) (reads reads_now writes writes_now : ℕ) (before now : Option (List ℕ)) (result : Status) : Type 0 where

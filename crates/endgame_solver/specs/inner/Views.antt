@@ -57,7 +57,7 @@ abbrev pub ShowsAll : Book → List Graph → List (List ℕ) → ℕ → Type 0
 ShowsAll book graphs values n = AreViews book.graphs.items book.values.items book.views.items graphs values n
 
 -- the book shows a graph and values for each region, a graph for each shape, and a solved game is kept with them
-pub record IsHeld (regions : List Region) (book : Book) (places ids : List ℕ) (Ts : List Tree) (s : Whole) : Type 0 where
+pub record IsHeldInBook (regions : List Region) (book : Book) (places ids : List ℕ) (Ts : List Tree) (s : Whole) : Type 0 where
   pub graphs : List Graph
   pub values : List (List ℕ)
   pub views_are : ShowsAll book graphs values (length regions)
@@ -66,7 +66,7 @@ pub record IsHeld (regions : List Region) (book : Book) (places ids : List ℕ) 
 
 -- the book that a search looks at shows a graph and values for each region, and a solved game is kept with them
 abbrev pub IsSeen : Present → List ℕ → Type 0
-IsSeen present ids = IsHeld present.regions.now present.book.now present.places.now ids present.store.now present.whole.now
+IsSeen present ids = IsHeldInBook present.regions.now present.book.now present.places.now ids present.store.now present.whole.now
 
 -- the book shows graphs with the places, one for each region
 pub record ShowsPlaces (regions : List Region) (book : Book) (places : List ℕ) : Type 0 where

@@ -115,13 +115,13 @@ abbrev pub GoesOnInLine : List Tree → Source → ℕ → Pending → Turn → 
 GoesOnInLine Ts source spot kept t = IsTurn Ts source.parts_limit source.text.now spot t kept.opens.items kept.first
 
 -- the place in a text from which these bytes are left, counted from 0
-abbrev pub IsPlaceOf : List ℕ → List ℕ → ℕ → Type 0
-IsPlaceOf text bytes place = place + length bytes ≡ length text
+abbrev pub IsPlaceInText : List ℕ → List ℕ → ℕ → Type 0
+IsPlaceInText text bytes place = place + length bytes ≡ length text
 
 -- how a fault of a line is told, with its place counted from 0
 abbrev pub IsTold : List ℕ → Fault → CalcError → Type 0
-IsTold text (stray bytes) e = (place : ℕ) × (e ≡ calc.Fault (fault.Byte place)) × IsPlaceOf text bytes place
-IsTold text (no_number bytes) e = (place : ℕ) × (e ≡ calc.Fault (fault.Number place)) × IsPlaceOf text bytes place
+IsTold text (stray bytes) e = (place : ℕ) × (e ≡ calc.Fault (fault.Byte place)) × IsPlaceInText text bytes place
+IsTold text (no_number bytes) e = (place : ℕ) × (e ≡ calc.Fault (fault.Number place)) × IsPlaceInText text bytes place
 IsTold text unfinished e = e ≡ calc.Fault fault.CutShort
 IsTold text deep e = e ≡ calc.Fault fault.Deep
 IsTold text large e = e ≡ calc.Limit

@@ -53,8 +53,8 @@ pub record IsRightSum (Ts : List Tree) (limit a b k : ℕ) : Type 0 where
   pub few : HasMoreParts (tree_at Ts k) limit → ⊥
 
 -- what is noted of pairs of ids is right: the canonical trees of their sums, each of at most so many parts
-abbrev pub AreRight : List Tree → ℕ → (ℕ → ℕ → Option ℕ) → Type 0
-AreRight Ts limit note = (a b k : ℕ) → note a b ≡ Some k → IsRightSum Ts limit a b k
+abbrev pub AreNotedSumsRight : List Tree → ℕ → (ℕ → ℕ → Option ℕ) → Type 0
+AreNotedSumsRight Ts limit note = (a b k : ℕ) → note a b ≡ Some k → IsRightSum Ts limit a b k
 
 -- for each pair of ids of which a sum was noted one is noted afterwards
 abbrev pub Grows : (ℕ → ℕ → Option ℕ) → (ℕ → ℕ → Option ℕ) → Type 0

@@ -2,7 +2,7 @@
 use Rattle.std.specs.Prelude.{ℕ, ◌≡◌, ◌<◌, ◌≤◌, ◌↔◌, ◌^◌, List, ℤ, ◌<ℤ◌, ◌+◌, ◌+ℤ◌, pos, negsuc, neg_ℤ, unsigned_abs, Option, Some, None}
 use Rattle.std.specs.List.{slice_index_or}
 use Rattle.dyadic_num.specs.declared.TheConstants.{EXPONENT, LIMIT}
-use Rattle.dyadic_num.specs.Units.{IsAbove, IsBelow, IsInBounds}
+use Rattle.dyadic_num.specs.Units.{IsAboveBound, IsBelowBound, IsInBounds}
 use Rattle.short_games.specs.Tree.{Tree, tree_at}
 use Rattle.short_games.specs.Order.{◌≤ᵍ◌}
 use Rattle.short_games.specs.Number.{num, IsNumber, number_tree}
@@ -14,11 +14,11 @@ use Rattle.game_canon.specs.declared.thresholds.Value.TheVariants.{Number, PastB
 
 -- the numbers that are at least no game of the first n ids are those below the bound
 abbrev pub AreAllFrom : List Tree → List ℕ → ℕ → Option ℤ → Type 0
-AreAllFrom Ts is n bound = (f : ℕ) (m h : ℤ) → IsCell EXPONENT (num f m) h → ((j : ℕ) → j < n → tree_at Ts (slice_index_or is j 0) ≤ᵍ num f m → ⊥) ↔ IsBelow bound h
+AreAllFrom Ts is n bound = (f : ℕ) (m h : ℤ) → IsCell EXPONENT (num f m) h → ((j : ℕ) → j < n → tree_at Ts (slice_index_or is j 0) ≤ᵍ num f m → ⊥) ↔ IsBelowBound bound h
 
 -- the numbers that are at most no game of the first n ids are those above the bound
 abbrev pub AreAllUpTo : List Tree → List ℕ → ℕ → Option ℤ → Type 0
-AreAllUpTo Ts is n bound = (f : ℕ) (m h : ℤ) → IsCell EXPONENT (num f m) h → ((j : ℕ) → j < n → num f m ≤ᵍ tree_at Ts (slice_index_or is j 0) → ⊥) ↔ IsAbove bound h
+AreAllUpTo Ts is n bound = (f : ℕ) (m h : ℤ) → IsCell EXPONENT (num f m) h → ((j : ℕ) → j < n → num f m ≤ᵍ tree_at Ts (slice_index_or is j 0) → ⊥) ↔ IsAboveBound bound h
 
 -- the bound, where there is one, is what a floor can be
 abbrev pub AreFloorRange : Option ℤ → Type 0

@@ -9,7 +9,7 @@ use Rattle.game_store.specs.Forms.{IsOptions}
 use Rattle.game_canon.specs.declared.at_most.Step.{Step}
 use Rattle.game_canon.specs.declared.at_most.Step.TheVariants.{Answer, Ask}
 use Rattle.game_canon.specs.declared.at_most.Question.{Question}
-use Rattle.game_canon.specs.Comparisons.{same_pair, Says}
+use Rattle.game_canon.specs.Comparisons.{same_pair, SaysAtMost}
 
 -- what is remembered of each pair of ids
 abbrev pub recalled : {S : Type 0} → IndexMap (ℕ × ℕ) Bool S → ℕ → ℕ → Option Bool
@@ -42,5 +42,5 @@ NoneCounters Ts a b n = (ls rs ms ns : List ℕ) → IsOptions Ts a ls ms → Is
 
 -- what going on with a question finds: its answer, or a comparison of smaller ids that has to come first
 abbrev pub IsStep : List Tree → (ℕ → ℕ → Option Bool) → Question → Step → Type 0
-IsStep Ts known q (Answer answer) = Says Ts q.game q.other answer
+IsStep Ts known q (Answer answer) = SaysAtMost Ts q.game q.other answer
 IsStep Ts known q (Ask place game other) = NoneCounters Ts q.game q.other place × IsOpen Ts known game other × (game + other < q.game + q.other)

@@ -16,18 +16,18 @@ pub record IsGrown (Ts : List Tree) (Passes : Tree → Type 0) (ks us : List ℕ
   pub has : (X : Tree) → Passes X → IsNumberTree X ⊎ IsIn Ts us X
 
 -- a part of an option of G
-abbrev pub IsBelow : Tree → Tree → Type 0
-IsBelow G X = (H : Tree) × IsOption G H × IsPart H X
+abbrev pub IsPartOfOption : Tree → Tree → Type 0
+IsPartOfOption G X = (H : Tree) × IsOption G H × IsPart H X
 
 -- different parts of the options of G
-pub record AreBelow (G : Tree) (Xs : List Tree) : Type 0 where
-  pub each : (j : ℕ) → j < length Xs → IsBelow G (tree_at Xs j)
+pub record ArePartsOfOptions (G : Tree) (Xs : List Tree) : Type 0 where
+  pub each : (j : ℕ) → j < length Xs → IsPartOfOption G (tree_at Xs j)
   pub different : AreDistinct Xs
 
 -- the options of G have exactly n different parts together
 abbrev pub HasBelow : Tree → ℕ → Type 0
-HasBelow G n = (Xs : List Tree) × AreBelow G Xs × ((X : Tree) → IsBelow G X → (j : ℕ) × (j < length Xs) × (tree_at Xs j ≡ X)) × (length Xs ≡ n)
+HasBelow G n = (Xs : List Tree) × ArePartsOfOptions G Xs × ((X : Tree) → IsPartOfOption G X → (j : ℕ) × (j < length Xs) × (tree_at Xs j ≡ X)) × (length Xs ≡ n)
 
 -- the options of G have more than n different parts together
 abbrev pub HasMoreBelow : Tree → ℕ → Type 0
-HasMoreBelow G n = (Xs : List Tree) × AreBelow G Xs × (n < length Xs)
+HasMoreBelow G n = (Xs : List Tree) × ArePartsOfOptions G Xs × (n < length Xs)

@@ -59,7 +59,7 @@ pub record AreBest (s : Side) (Ts : List Tree) (is bs : List ℕ) : Type 0 where
   pub smaller : sizes (pick Ts bs) ≤ sizes (pick Ts is)
 
 -- an answer of the other side to a move of this side, after which this side has nothing that it hasn't in G
-pub record IsAnswer (s : Side) (Ts : List Tree) (G : Tree) (id answer : ℕ) : Type 0 where
+pub record IsReversal (s : Side) (Ts : List Tree) (G : Tree) (id answer : ℕ) : Type 0 where
   pub below : answer < length Ts
   pub option : Has (far s (tree_at Ts id)) (tree_at Ts answer)
   pub covered : Covers s (tree_at Ts answer) G

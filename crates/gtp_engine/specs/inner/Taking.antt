@@ -6,14 +6,14 @@ use Rattle.desk_io.specs.Lines.{IsLine}
 use Rattle.gtp_engine.specs.declared.end.GtpEnd.{GtpEnd}
 use Rattle.gtp_engine.specs.declared.end.GtpEnd.TheVariants.{Quit, InputEnded, ReadFault, WriteFault, TooManyLines, Memory}
 use Rattle.gtp_engine.specs.Session.{Fate}
-use Rattle.gtp_engine.specs.Written.{Engine, IsAnswered, IsNoted}
+use Rattle.gtp_engine.specs.Written.{Engine, IsReply, NotesFate}
 
 -- the line that the bytes begin with is answered, and these bytes come after it
 pub record Replies (files : Option Files) (before now : ℕ) (a : Engine) (bytes text : List ℕ) (b : Engine) (rest : List ℕ) (last : Bool) : Type 0 where
   pub some : bytes ≢ []
   pub line : List ℕ
   pub taken : IsLine 1024 bytes line rest
-  pub answered : IsAnswered files before now line a text b last
+  pub answered : IsReply files before now line a text b last
 
 -- The reply to a line was written, or that there is none, by the end of the session that comes of it. Where the write failed a
 -- front part of the reply was written; where a read failed or memory was refused nothing was, and the line is still to be answered.
@@ -29,4 +29,4 @@ LineTaken files before now a bytes holds holds' (Some TooManyLines) b rest = ⊥
 
 -- something becomes of a load, or there is none, and it is noted
 abbrev pub IsSomeNoted : ℕ → ℕ → Engine → Engine → Type 0
-IsSomeNoted before now a b = (fate : Fate) × IsNoted before now fate a b
+IsSomeNoted before now a b = (fate : Fate) × NotesFate before now fate a b

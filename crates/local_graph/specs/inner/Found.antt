@@ -22,7 +22,7 @@ Placed before n limit after (Err (Cycle ms back)) = ⊥
 Placed before n limit after (Err (Memory e)) = Unit {0}
 
 -- positions were added that moves of the list lead to
-pub record Extends (before : List ℕ) (moves : List LocalMove) (after : List ℕ) : Type 0 where
+pub record AddsPositions (before : List ℕ) (moves : List LocalMove) (after : List ℕ) : Type 0 where
   pub more : List ℕ
   pub appended : after ≡ before ++ more
   pub new : (n : ℕ) → Contains after n → Contains before n ⊎ ((m : LocalMove) × Contains moves m × (m.next ≡ n))
@@ -35,8 +35,8 @@ edge_of m next = record { next = next; colour = m.colour; place = m.place; taken
 -- the edges of the moves, or that there are more positions than the limit
 abbrev pub EdgesFor : List ℕ → List LocalMove → ℕ → List ℕ → List Edge → Result (Unit {0}) GraphError → Type 0
 EdgesFor before moves limit after edges (Ok done) =
-    Extends before moves after × AreEdges after moves edges × (length after ≤ limit)
-EdgesFor before moves limit after edges (Err Positions) = Extends before moves after × (limit < length after)
+    AddsPositions before moves after × AreEdges after moves edges × (length after ≤ limit)
+EdgesFor before moves limit after edges (Err Positions) = AddsPositions before moves after × (limit < length after)
 EdgesFor before moves limit after edges (Err (Points p)) = ⊥
 EdgesFor before moves limit after edges (Err (Cycle ms back)) = ⊥
 EdgesFor before moves limit after edges (Err (Memory e)) = Unit {0}

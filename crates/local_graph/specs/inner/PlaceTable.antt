@@ -25,7 +25,7 @@ abbrev pub ArePowers : List ℕ → Type 0
 ArePowers powers = (p : ℕ) → p < MOST_PLACES → slice_index powers p ≡ 3 ^ p
 
 -- a move that takes nothing leads from a position with the number to one with the digit of its stone more
-pub record Follows (from : ℕ) (m : LocalMove) : Type 0 where
+pub record AddsDigit (from : ℕ) (m : LocalMove) : Type 0 where
   pub inside : m.place < MOST_PLACES
   pub plain : m.taken ≡ 0 → threes m.next ≡ from + code (stone m.colour) * 3 ^ m.place
 
@@ -38,9 +38,9 @@ unfoldable pub slot_of : ℕ → ℕ → ℕ → ℕ
 slot_of n slots numbers = cond (nat_lt slots numbers) (bit_and (threes n) (slots - 1)) (threes n)
 
 -- the links lead to the place: a link is one more than a place, and 0 leads nowhere
-pub data Leads (before : List ℕ) : ℕ → ℕ → Type 0 where
-  here : (i : ℕ) → Leads before (suc i) i
-  onward : (i place : ℕ) → Leads before (slice_index before i) place → Leads before (suc i) place
+pub data LinksLead (before : List ℕ) : ℕ → ℕ → Type 0 where
+  here : (i : ℕ) → LinksLead before (suc i) i
+  onward : (i place : ℕ) → LinksLead before (slice_index before i) place → LinksLead before (suc i) place
 
 -- the table has the first positions, as many as there are links to the ones before
 pub record AreEntered (positions latest before : List ℕ) (numbers : ℕ) : Type 0 where
@@ -48,11 +48,11 @@ pub record AreEntered (positions latest before : List ℕ) (numbers : ℕ) : Typ
   pub within : length before ≤ length positions
   pub links : (slot : ℕ) → slice_index latest slot ≤ length before
   pub falls : (i : ℕ) → slice_index before i ≤ i
-  pub each : (i : ℕ) → i < length before → Leads before (slice_index latest (slot_of (slice_index positions i) (length latest) numbers)) i
+  pub each : (i : ℕ) → i < length before → LinksLead before (slice_index latest (slot_of (slice_index positions i) (length latest) numbers)) i
   pub own : (slot place : ℕ) → slice_index latest slot ≡ suc place → slot_of (slice_index positions place) (length latest) numbers ≡ slot
 
 -- the table has all positions, each of which has one of its numbers
-pub record IsTable (t : PlaceTable) : Type 0 where
+pub record IsPlaceTable (t : PlaceTable) : Type 0 where
   pub entered : AreEntered t.positions.items t.latest.items t.before.items t.numbers
   pub numbered : (n : ℕ) → Contains t.positions.items n → IsNumbered t.numbers n
   pub any : 0 < t.numbers

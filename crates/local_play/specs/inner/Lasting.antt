@@ -18,8 +18,8 @@ use Rattle.local_play.specs.Moves.{IsMoveFrom}
 use Rattle.local_play.specs.Places.{Has}
 
 -- the empty place is linked to the chain
-abbrev pub IsLiberty : List Touch → List Cell → Colour → ℕ → ℕ → Type 0
-IsLiberty touch cells c i a =
+abbrev pub IsLocalLiberty : List Touch → List Cell → Colour → ℕ → ℕ → Type 0
+IsLocalLiberty touch cells c i a =
     (j : ℕ) × InLocalChain touch cells c i j × IsLinked touch j a × (held_at cells a ≡ cell.Empty)
 
 -- the chain stands next to an alive stone of its colour
@@ -32,8 +32,8 @@ pub record HasTwoLiberties (touch : List Touch) (cells : List Cell) (c : Colour)
   pub one : ℕ
   pub two : ℕ
   pub apart : one ≢ two
-  pub is_one : IsLiberty touch cells c i one
-  pub is_two : IsLiberty touch cells c i two
+  pub is_one : IsLocalLiberty touch cells c i one
+  pub is_two : IsLocalLiberty touch cells c i two
 
 -- the chain stands next to an alive stone of its colour or has two liberties, so that no one stone takes it
 abbrev pub Lasts : List Touch → List Cell → Colour → ℕ → Type 0
@@ -76,7 +76,7 @@ AreEmpty touch cells set =
     (q : ℕ) → Has set q ↔ ((q < length touch) × (held_at cells q ≡ cell.Empty))
 
 -- the stones of the colour, the places next to its alive stones, and the empty places
-pub record IsPlaced (touch : List Touch) (cells : List Cell) (c : Colour)
+pub record AreSidePlaces (touch : List Touch) (cells : List Cell) (c : Colour)
     (stones beside empty : Places) : Type 0 where
   pub stones_are : (q : ℕ) → Has stones q ↔ Holds cells c q
   pub beside_are : (q : ℕ) → Has beside q ↔ IsBeside touch c q

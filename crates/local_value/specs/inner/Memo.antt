@@ -31,8 +31,8 @@ pub record IsStonesSum (Ts : List Tree) (game : ℕ) (stones : ℤ) (id : ℕ) :
   pub numbers : (y : ℤ) → IsNumberOf (tree_at Ts game) y ↔ IsNumberOf (tree_at Ts id) (y +ℤ stones_units stones)
 
 -- each sum that is remembered is right
-abbrev pub AreSumsRight : List Tree → (ℕ → ℤ → Option ℕ) → Type 0
-AreSumsRight Ts known = (game : ℕ) (stones : ℤ) (id : ℕ) → known game stones ≡ Some id → IsStonesSum Ts game stones id
+abbrev pub AreStonesSumsRight : List Tree → (ℕ → ℤ → Option ℕ) → Type 0
+AreStonesSumsRight Ts known = (game : ℕ) (stones : ℤ) (id : ℕ) → known game stones ≡ Some id → IsStonesSum Ts game stones id
 
 -- whether two games have the same ids as Left options, and the same as Right options
 abbrev pub same_options : Options → Options → Bool
@@ -43,7 +43,7 @@ abbrev pub recalled_form : {S : Type 0} → IndexMap Options ℕ S → Options �
 recalled_form forms options = get same_options forms options
 
 -- the id of the canonical form of the game with these options, which has at most so many parts
-pub record IsFormOf (Ts : List Tree) (limit : ℕ) (ls rs : List ℕ) (id : ℕ) : Type 0 where
+pub record IsFormOfOptions (Ts : List Tree) (limit : ℕ) (ls rs : List ℕ) (id : ℕ) : Type 0 where
   pub left_ids : AreIds Ts ls
   pub right_ids : AreIds Ts rs
   pub value : IsCanonicalId Ts (listed Ts ls rs) id
@@ -52,9 +52,9 @@ pub record IsFormOf (Ts : List Tree) (limit : ℕ) (ls rs : List ℕ) (id : ℕ)
 
 -- each form that is remembered is right
 abbrev pub AreFormsRight : List Tree → ℕ → (Options → Option ℕ) → Type 0
-AreFormsRight Ts limit known = (options : Options) (id : ℕ) → known options ≡ Some id → IsFormOf Ts limit options.left.items options.right.items id
+AreFormsRight Ts limit known = (options : Options) (id : ℕ) → known options ≡ Some id → IsFormOfOptions Ts limit options.left.items options.right.items id
 
 -- all sums and forms that are remembered are right
 pub record IsMemoRight (Ts : List Tree) (limit : ℕ) (memo : Memo) : Type 0 where
-  pub sums : AreSumsRight Ts (recalled_sum memo.sums)
+  pub sums : AreStonesSumsRight Ts (recalled_sum memo.sums)
   pub forms : AreFormsRight Ts limit (recalled_form memo.forms)

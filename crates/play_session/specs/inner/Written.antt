@@ -13,8 +13,8 @@ use Rattle.play_session.specs.declared.fault.Fault.{Fault}
 use Rattle.play_session.specs.declared.fault.Fault.TheVariants.{Read, Write}
 use Rattle.play_session.specs.declared.session.Request.{Request}
 use Rattle.play_session.specs.declared.session.Request.TheVariants.{Ended, Line}
-use Rattle.play_session.specs.Lines.{IsLine}
-use Rattle.play_session.specs.Words.{Asks}
+use Rattle.desk_io.specs.Lines.{IsLine}
+use Rattle.play_session.specs.Words.{NamesMove}
 use Rattle.whole_rules.specs.Moves.{IsMoveOnBoard}
 use Rattle.play_session.specs.Session.{Standing, IsToAnswer, Turn, Ends, IsNextLine}
 use Rattle.play_session.specs.Written.{Session, standing, IsPlayed, IsUnread, IsCutOff}
@@ -67,7 +67,7 @@ turns_left session read = 2 * (MOST_LINES - read) + engine_turn session.engine s
 -- the line that these bytes begin with was taken, or there is none
 abbrev pub IsRequested : Board → List ℕ → Request → List ℕ → Option (List ℕ) → Type 0
 IsRequested g bytes Ended held left = (bytes ≡ []) × (held ≡ []) × (left ≡ Some [])
-IsRequested g bytes (Line asked) held left = (rest line : List ℕ) × (left ≡ Some rest) × (bytes ≢ []) × IsLine bytes line (held ++ rest) × Asks g line asked
+IsRequested g bytes (Line asked) held left = (rest line : List ℕ) × (left ≡ Some rest) × (bytes ≢ []) × IsLine 256 bytes line (held ++ rest) × NamesMove g line asked
 
 -- a move that is asked for is on the board
 abbrev pub IsPossible : Board → Request → Type 0

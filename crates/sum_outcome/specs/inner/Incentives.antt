@@ -43,6 +43,6 @@ abbrev pub IsDominated : List Tree → List ℕ → Colour → ℕ → Tree → 
 IsDominated Ts ids c k X = (j : ℕ) × (j < length ids) × HasPreferred Ts c (slice_index_or ids j 0) (tree_at Ts (slice_index_or ids k 0)) X (j < k)
 
 -- each move at the place fails or is dominated
-abbrev pub IsSettled : List Tree → List ℕ → ℤ → Colour → ℕ → Type 0
-IsSettled Ts ids x c k = (X : Tree) → IsMove (tree_at Ts (slice_index_or ids k 0)) c X
+abbrev pub IsPlaceSettled : List Tree → List ℕ → ℤ → Colour → ℕ → Type 0
+IsPlaceSettled Ts ids x c k = (X : Tree) → IsMove (tree_at Ts (slice_index_or ids k 0)) c X
     → (LosesGame (other c) (total (put (pick Ts ids) k X) +ᵍ number_tree x) → ⊥) ⊎ IsDominated Ts ids c k X

@@ -9,7 +9,7 @@ use Rattle.short_games.specs.WallGrids.{HasWalls}
 use Rattle.thermograph.specs.Breaks.{wall_at, IsPath}
 use Rattle.thermograph.specs.inner.Breaks.{IsLevel}
 use Rattle.thermograph.specs.inner.Scaffolds.{wall_of, AreApart, IsTraced}
-use Rattle.thermograph.specs.inner.Flags.{IsFlagged, IsInner}
+use Rattle.thermograph.specs.inner.Flags.{IsFlagged, IsInnerId}
 use Rattle.thermograph.specs.Drawings.{AreBreaks, IsTemperature, end_of}
 
 -- the two lists draw the walls of G
@@ -49,7 +49,7 @@ pub record Jumps (L R : ℕ → ℤ) : Type 0 where
 pub record AreDrawnBelow (Ts : List Tree) (id : ℕ) (lefts rights : List (Vec Break Global)) : Type 0 where
   pub left_count : length lefts ≡ id
   pub right_count : length rights ≡ id
-  pub drawn : (i : ℕ) → IsInner Ts id i → IsDrawn (tree_at Ts i) (wall_of lefts i) (wall_of rights i)
+  pub drawn : (i : ℕ) → IsInnerId Ts id i → IsDrawn (tree_at Ts i) (wall_of lefts i) (wall_of rights i)
 
 -- the walls of the first ids, where those that are flagged are drawn
 pub record AreDrawn (Ts : List Tree) (flags : List Bool) (count : ℕ) (lefts rights : List (Vec Break Global)) : Type 0 where

@@ -19,12 +19,12 @@ abbrev pub IsAmong : List ℕ → ℕ → Type 0
 IsAmong is i = (j : ℕ) × (j < length is) × (slice_index_or is j 0 ≡ i)
 
 -- the form of i is an option of that of id, which is no number
-abbrev pub IsInner : List Tree → ℕ → ℕ → Type 0
-IsInner Ts id i = (i < id) × (IsNumberTree (tree_at Ts id) → ⊥) × IsOption (tree_at Ts id) (tree_at Ts i)
+abbrev pub IsInnerId : List Tree → ℕ → ℕ → Type 0
+IsInnerId Ts id i = (i < id) × (IsNumberTree (tree_at Ts id) → ⊥) × IsOption (tree_at Ts id) (tree_at Ts i)
 
 -- followers of id are flagged, id among them; and of the flagged ones from a place on all options are flagged
 pub record AreFollowers (Ts : List Tree) (id place : ℕ) (flags : List Bool) : Type 0 where
   pub size : length flags ≡ id + 1
   pub root : IsFlagged flags id
   pub follows : (i : ℕ) → i < length flags → IsFlagged flags i → IsFollower (tree_at Ts id) (tree_at Ts i)
-  pub closed : (j i : ℕ) → place ≤ j → j < length flags → IsFlagged flags j → IsInner Ts j i → IsFlagged flags i
+  pub closed : (j i : ℕ) → place ≤ j → j < length flags → IsFlagged flags j → IsInnerId Ts j i → IsFlagged flags i

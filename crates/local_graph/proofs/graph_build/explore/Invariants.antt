@@ -1,12 +1,12 @@
 use Rattle.std.proofs.Common.{◌≡◌, ◌+◌, ◌-◌, length, ◌≤◌, ◌^◌}
 use Rattle.local_graph.specs.inner.Graph.{lists_of, AreWithin}
-use Rattle.local_graph.specs.inner.PlaceTable.{IsTable}
+use Rattle.local_graph.specs.inner.PlaceTable.{IsPlaceTable}
 use Rattle.local_graph.proofs.ExploreLemmas.{Exploring}
 use Rattle.local_graph.proofs.graph_build.explore.Given as goal
 
 abbrev pub invariant-exploring : goal.invariant-exploring
 invariant-exploring g l = record {
-  table : IsTable l.table;
+  table : IsPlaceTable l.table;
   numbers : l.table.numbers ≡ 3 ^ length l.region.points;
   so_far : Exploring l.region.touch l.region.cells l.fn.limit l.table.positions.items (lists_of l.edges.items l.spans.items) l.waiting.items;
   within : AreWithin (length l.edges.items) l.spans.items;

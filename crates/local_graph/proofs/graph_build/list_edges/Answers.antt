@@ -1,6 +1,6 @@
 use Rattle.std.proofs.Common.{arith, refl, sym, ap, subst, inl, length, append-nil, ◌≡◌, ◌∙◌, ◌++◌, [], ◌∷◌}
 use Rattle.std.proofs.lemmas.Result.{err_from_is_err_and}
-use Rattle.local_graph.specs.inner.PlaceTable.{threes, IsNumbered, Follows}
+use Rattle.local_graph.specs.inner.PlaceTable.{threes, IsNumbered, AddsDigit}
 use Rattle.local_graph.proofs.FoundLemmas.{linking_start, linking_edge, linking_all, linking_err, edges_behind, one_behind}
 use Rattle.local_graph.proofs.graph_build.list_edges.Goals as goal
 
@@ -15,7 +15,7 @@ loop-step-init c = record {
 
 pub number_after-after-requires-clause-follows : goal.number_after-after-requires-clause-follows
 number_after-after-requires-clause-follows c =
-    subst (λ n. Follows n c.step-item.result) (sym (c.threes-number.ensures ∙ ap threes c.from.view_is))
+    subst (λ n. AddsDigit n c.step-item.result) (sym (c.threes-number.ensures ∙ ap threes c.from.view_is))
     (c.requires.follows c.step-item.result (c.loop-step.step-index, c.loop-step-test.true, sym c.step-item.is))
 
 pub place_of-requires-clause-numbered : goal.place_of-requires-clause-numbered

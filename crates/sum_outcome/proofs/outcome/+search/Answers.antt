@@ -1,7 +1,7 @@
 use Rattle.std.proofs.Common.{arith, refl, inl, inr, ap, ◌∙◌, ◌≡◌, ◌<◌, ℕ, List, get_or, set, below_more}
 use Rattle.std.proofs.lemmas.Bool.{false≢true, both_ways, OnFalse_at}
 use Rattle.sum_outcome.specs.Sums.{sum_tree}
-use Rattle.sum_outcome.specs.inner.Incentives.{IsSettled}
+use Rattle.sum_outcome.specs.inner.Incentives.{IsPlaceSettled}
 use Rattle.sum_outcome.proofs.Domination.{OptionIsSettled, options_settled, repeated_settled, all_fail}
 use Rattle.sum_outcome.proofs.MemoLaws.{from_key, to_key, stays_on, incentives_changed}
 use Rattle.sum_outcome.proofs.OppositeLaws.{falls_without, ids_without, bounded_without, restored_both, answer_without}
@@ -65,7 +65,7 @@ loses_by_moves-returns-then-wins_at-clause-answer t c =
 pub loses_by_moves-places-preserved : goal.loses_by_moves-places-preserved
 loses_by_moves-places-preserved t c = (
   c.wins_at.ensures.same ∙ c.places.invariant.0,
-  below_more (λ k. IsSettled c.args.store.now c.args.sum.now c.args.number c.args.side k) c.places.place c.places.invariant.1
+  below_more (λ k. IsPlaceSettled c.args.store.now c.args.sum.now c.args.number c.args.side k) c.places.place c.places.invariant.1
       (rw c.places.invariant.0 at (OnFalse_at c.if-wins_at.false c.wins_at.ensures.settled)),
   stays_on c.args.store.now c.args.memo.now c.places.memo c.wins_at.new.memo c.places.invariant.2 c.wins_at.ensures.right,
 )
@@ -74,7 +74,7 @@ pub loses_by_moves-places-preserved-then-is_repeated : goal.loses_by_moves-place
 loses_by_moves-places-preserved-then-is_repeated t c =
     let (j, before, same) = rw c.places.invariant.0 at (c.is_repeated.ensures.0 c.if-is_repeated.true) in (
       c.places.invariant.0,
-      below_more (λ k. IsSettled c.args.store.now c.args.sum.now c.args.number c.args.side k) c.places.place c.places.invariant.1
+      below_more (λ k. IsPlaceSettled c.args.store.now c.args.sum.now c.args.number c.args.side k) c.places.place c.places.invariant.1
           (repeated_settled c.args.store.now c.args.sum.now c.args.number c.args.side j c.places.place before c.places-test.true same),
       c.places.invariant.2,
     )

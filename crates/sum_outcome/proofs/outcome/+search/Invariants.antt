@@ -1,6 +1,6 @@
 use Rattle.std.proofs.Common.{◌≡◌, ◌+◌, ◌*◌, ◌<◌, ℕ, get_or, sum}
 use Rattle.sum_outcome.specs.inner.Memo.{StaysRight}
-use Rattle.sum_outcome.specs.inner.Incentives.{IsSettled}
+use Rattle.sum_outcome.specs.inner.Incentives.{IsPlaceSettled}
 use Rattle.sum_outcome.proofs.Domination.{OptionIsSettled}
 use Rattle.sum_outcome.proofs.outcome.+search.Given as goal
 
@@ -17,7 +17,7 @@ abbrev pub decreases-wins_at : goal.decreases-wins_at
 decreases-wins_at l = 3 * sum l.sum.now
 
 abbrev pub invariant-loses_by_moves-places : goal.invariant-loses_by_moves-places
-invariant-loses_by_moves-places l = (l.sum ≡ l.fn.sum) × ((k : ℕ) → k < l.place → IsSettled l.store l.fn.sum l.number l.side k) × StaysRight l.store l.fn.memo l.memo
+invariant-loses_by_moves-places l = (l.sum ≡ l.fn.sum) × ((k : ℕ) → k < l.place → IsPlaceSettled l.store l.fn.sum l.number l.side k) × StaysRight l.store l.fn.memo l.memo
 
 abbrev pub invariant-wins_at-options : goal.invariant-wins_at-options
 invariant-wins_at-options l = (l.sum ≡ l.fn.sum)

@@ -1,7 +1,7 @@
 use Rattle.std.proofs.Common.{◌<◌, ◌≤◌, ◌+◌, ◌∙◌, ◌++◌, take, drop, false, sym, ◌-◌, length, arith, ap, refl, true, set, subst, List, Bool}
 use Rattle.std.proofs.Math.Seq.{take-append_seam}
 use Rattle.std.proofs.lemmas.List.{get_or_default}
-use Rattle.thermograph.specs.inner.Flags.{AreAdded, IsInner, AreFollowers}
+use Rattle.thermograph.specs.inner.Flags.{AreAdded, IsInnerId, AreFollowers}
 use Rattle.thermograph.proofs.FlagLaws.{following-start, following-step}
 use Rattle.thermograph.proofs.followers.followers.Goals as goal
 
@@ -17,7 +17,7 @@ flagging-init c =
 pub flagging-preserved-then-index : goal.flagging-preserved-then-index
 flagging-preserved-then-index c =
     let short : c.flagging.place - 1 < length c.flagging.flags.items = omega (arith, c.flagging-test.true, c.flagging.invariant.0) in
-    let added = subst (λ (xs : List Bool). AreAdded (IsInner c.args.store.now (c.flagging.place - 1)) xs c.flag_options.new.flags) c.deref_mut.ensures.value c.flag_options.ensures in
+    let added = subst (λ (xs : List Bool). AreAdded (IsInnerId c.args.store.now (c.flagging.place - 1)) xs c.flag_options.new.flags) c.deref_mut.ensures.value c.flag_options.ensures in
     let after = drop (length c.flag_options.new.flags) c.flagging.flags.items in
     let whole = ap (λ m. take m (c.flag_options.new.flags ++ after)) (c.flagging.flags.ok.0 ∙ sym added.size) ∙ take-append_seam c.flag_options.new.flags after in
     let f = following-step c.args.store.now c.args.id c.flagging.place (c.flagging.place - 1) c.flagging.flags.items c.flag_options.new.flags c.flagging.invariant.1 (omega (arith, c.flagging-test.true)) c.flagging.invariant.0

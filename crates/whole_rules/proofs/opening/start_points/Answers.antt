@@ -1,5 +1,5 @@
 use Rattle.std.proofs.Common.{sym, subst, true}
-use Rattle.whole_rules.specs.Opening.{IsStart}
+use Rattle.whole_rules.specs.Opening.{GivesAtStart}
 use Rattle.whole_rules.proofs.OpeningLaws.{starts}
 use Rattle.whole_rules.proofs.opening.start_points.Goals as goal
 
@@ -9,6 +9,6 @@ after_tax-requires c = c.tax_laws.ensures c.args.board.now c.args.colour _ _ c.r
 pub returns-then-tax : goal.returns-then-tax
 returns-then-tax c =
     let pays = c.tax_laws.ensures c.args.board.now c.args.colour _ _ c.requires.settled c.in_ok-held.ensures c.in_ok-groups.ensures in
-    subst (λ t. IsStart c.args.board.now c.args.colour t c.after_tax.result) (sym c.if-tax.true)
-    (subst (IsStart c.args.board.now c.args.colour true) (sym c.after_tax.ensures)
+    subst (λ t. GivesAtStart c.args.board.now c.args.colour t c.after_tax.result) (sym c.if-tax.true)
+    (subst (GivesAtStart c.args.board.now c.args.colour true) (sym c.after_tax.ensures)
     (starts c.args.board.now c.args.colour _ _ c.in_ok-groups.ensures c.in_ok-held.ensures pays))

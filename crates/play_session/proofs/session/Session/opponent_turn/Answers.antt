@@ -5,7 +5,7 @@ use Rattle.desk_io.specs.Lines.{IsSameInput}
 use Rattle.play_session.specs.Session.{IsToAnswer}
 use Rattle.play_session.specs.Written.{Session, standing}
 use Rattle.play_session.specs.inner.Written.{TurnWritten, IsRequested, MovesOrStays}
-use Rattle.play_session.specs.Lines.{UsesLines}
+use Rattle.desk_io.specs.Lines.{UsesLines}
 use Rattle.play_session.proofs.Turns.{append_none, turn_unread, answer_written, answer_failed, input_ended}
 use Rattle.play_session.proofs.Wins.{answers_step}
 use Rattle.desk_io.proofs.Held.{input_same}
@@ -110,7 +110,7 @@ returns-clause-cause g c = let reads = c.take_request.ensures.cause in let write
 pub returns-in-Err-clause-used : goal.returns-in-Err-clause-used
 returns-in-Err-clause-used g c =
     let before = g.S.Source.left c.args.lines.now in let left = g.S.Source.left c.take_request.new.lines in let read = c.args.read.now in
-    subst (λ v. UsesLines read read v.held before c.take_request.new.input left) c.self.view_is
+    subst (λ v. UsesLines 256 read read v.held before c.take_request.new.input left) c.self.view_is
     (used_none 256 read read c.self.inside.input c.take_request.new.input before left (omega arith) c.in-Err.ensures.same)
 
 pub returns-in-Err-answer-clause-used : goal.returns-in-Err-answer-clause-used

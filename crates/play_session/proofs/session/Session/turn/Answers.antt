@@ -7,7 +7,7 @@ use Rattle.play_session.specs.inner.Written.{TurnWritten}
 use Rattle.play_session.proofs.Sides.{not_other}
 use Rattle.play_session.proofs.Turns.{engine_failed, game_ended}
 use Rattle.play_session.proofs.Wins.{engine_keeps, opponent_keeps, end_keeps}
-use Rattle.play_session.specs.Lines.{UsesLines}
+use Rattle.desk_io.specs.Lines.{UsesLines}
 use Rattle.desk_io.proofs.Held.{input_same}
 use Rattle.desk_io.proofs.Used.{used_none}
 use Rattle.play_session.proofs.session.Session.turn.Goals as goal
@@ -15,12 +15,12 @@ use Rattle.play_session.proofs.session.Session.turn.Goals as goal
 pub returns-in-Err-clause-used : goal.returns-in-Err-clause-used
 returns-in-Err-clause-used g c =
     let held = c.self.inside.input in let left = g.S.Source.left c.args.lines.now in let read = c.args.read.now in
-    subst (λ v. UsesLines read read v.held left held left) c.self.view_is (used_none 256 read read held held left left (omega arith) (input_same held left))
+    subst (λ v. UsesLines 256 read read v.held left held left) c.self.view_is (used_none 256 read read held held left left (omega arith) (input_same held left))
 
 pub returns-clause-used : goal.returns-clause-used
 returns-clause-used g c =
     let held = c.self.inside.input in let left = g.S.Source.left c.args.lines.now in let read = c.args.read.now in
-    subst (λ v. UsesLines read read v.held left held left) c.self.view_is (used_none 256 read read held held left left (omega arith) (input_same held left))
+    subst (λ v. UsesLines 256 read read v.held left held left) c.self.view_is (used_none 256 read read held held left left (omega arith) (input_same held left))
 
 pub returns-in-None-clause-written : goal.returns-in-None-clause-written
 returns-in-None-clause-written g c = λ bytes e.
