@@ -322,7 +322,7 @@ module _ {limits : Limits} {g : Board} {regions : List Region} {graphs : List Gr
   short_order : (k : ℕ) → k < length regions → length (graph_at graphs k).order ≤ MOST_POSITIONS
   short_order k lt =
       let of = (done.each k lt).graph in
-      omega (arith, order_short (region_at regions k) (graph_at graphs k) of.graph 0, of.few, limit)
+      omega (arith, order_short of.graph, of.few, limit)
 
   are_solved : AreSolved g regions graphs values Ts
   are_solved = record {

@@ -144,7 +144,7 @@ module _ (g : Board) (settled : IsSettled g) (regions : List Region) (cut : AreR
       let (i, short, at) = w.2 in
       let there : get_or r.points i 0 ≡ p = get_or_default r.points i 0 p short ∙ at in
       let play = cut.each r (Contains-get_or regions l no_region w.1) in
-      let (next, move, local) = placing_is_local g r settled play (get_or positions l []) h (held.each l no_region w.1) i short c after
+      let (next, move, local) = placing_is_local g r settled play (held.each l no_region w.1) i short c after
       (subst (λ x. IsPlaced h x c after) (sym there) placed) in
       record {
         region = l;

@@ -209,7 +209,7 @@ module _ {g : Board} {regions : List Region} {graphs : List Graph} {values : Lis
       let here : get_or r.points i 0 ≡ p = get_or_default r.points i 0 p short ∙ there in
       let (cells, has, holds) = at.shown k known in
       let play = are.cut.cut.each r (Contains-get_or regions k no_region known) in
-      let (next, move, local) = placing_is_local g r are.settled play cells s.board holds i short s.side h
+      let (next, move, local) = placing_is_local g r are.settled play holds i short s.side h
       (subst (λ z. IsPlaced s.board z s.side h) (sym here) placed) in
       let (e, among, edge) = edge_of r (graph_at graphs k) (are.cut.each k known) (place_at places k) cells next s.side i n has.at move
       ((local.taken n).0 number) in

@@ -349,7 +349,7 @@ module _ (g : Board) (settled : IsSettled g) (regions : List Region) (are : AreR
       let r = region_at regions k in
       let there : get_or r.points i 0 ≡ p = get_or_default r.points i 0 p short ∙ at in
       let placed' = subst (λ x. IsPlaced h x c after) (sym there) placed in
-      let (next, move, local) = placing_is_local g r settled (are.each r (region_in k lt)) q.cells h s.holds i short c after placed' in
+      let (next, move, local) = placing_is_local g r settled (are.each r (region_in k lt)) s.holds i short c after placed' in
       let (held, stay) = held_after h after k q next c i p s placed move local in
       let among = from_step Position r.touch Most (position_in k) Moves (moves-are k) q.cells c (record { to = next; taken = n })
       (held_long h k q s) (i, move, (local.taken n).0 number) in

@@ -92,7 +92,7 @@ module _ {r : Region} {g : Graph} (of : IsGraphOf r g) where
   place_inside k lt = omega (arith, of.order.inside k lt, of.graph.beside)
 
   -- places are as many as positions at most
-  order_short : length g.order ≤ length g.positions
+  pub order_short : length g.order ≤ length g.positions
   order_short =
       let le = fewer (length g.order) (length g.edges) (λ j i. get_or g.order j 0 ≡ i) (λ j lt. (get_or g.order j 0, of.order.inside j lt, refl)) one in
       omega (arith, le, of.graph.beside)

@@ -1,7 +1,7 @@
-use Rattle.std.proofs.Common.{sym, subst, arith}
+use Rattle.std.proofs.Common.{sym, subst, arith, ap, ◌∙◌, ◌++◌, length, take}
+use Rattle.std.proofs.lemmas.List.{length-append}
 use Rattle.std.proofs.lemmas.Result.{err_from_is_err_and}
-use Rattle.desk_io.specs.Lines.{IsFound}
-use Rattle.desk_io.specs.Lines.{UsesLines}
+use Rattle.desk_io.specs.Lines.{IsFound, IsLine, UsesLines}
 use Rattle.desk_io.proofs.Used.{used_line, used_none}
 use Rattle.play_session.proofs.session.take_request.Goals as goal
 
@@ -30,3 +30,13 @@ returns-in_err-found-clause-used g c = used_none 256 0 1 c.args.input.now c.find
 pub returns-in_err-found-clause-same : goal.returns-in_err-found-clause-same
 returns-in_err-found-clause-same g c = let p = err_from_is_err_and c.from_residual.result c.from_residual.ensures.1 in
     rw p.1 c.find_line.ensures.same
+
+pub returns-clause-requested : goal.returns-clause-requested
+returns-clause-requested g c = λ bytes e.
+    let left = g.S.Source.left c.find_line.new.lines in let held = c.find_line.new.self in
+    let (rest, more, same) = c.find_line.ensures.same bytes e in
+    let found = subst (IsFound 256 held left) c.in-Some.is c.in_ok-found.ensures.found in
+    let line = subst (λ d. IsLine 256 (held ++ rest) (take c.in-Some.found.line held) (d ++ rest)) (sym c.drop_front.ensures) (found.3 rest more) in
+    let front = subst (λ l. IsLine 256 (held ++ rest) l (c.drop_front.new.self ++ rest)) (sym c.front.ensures) line in
+    let whole = subst (λ xs. IsLine 256 xs c.front.result.now (c.drop_front.new.self ++ rest)) (sym same) front in
+    (rest, c.front.result.now, more, λ none. omega (arith, found.2, length-append held rest, ap length (sym same ∙ none)), whole, c.asked_move-asked.ensures)
