@@ -1,8 +1,6 @@
 //! The calculator of games.
 
-use crate::run_tests::{
-    Failing, FailingRow, NOTHING_FAILS, first_failing_wrong, outcome_in_pieces,
-};
+use crate::runs::{Failing, FailingRow, NOTHING_FAILS, first_failing_wrong, outcome_in_pieces};
 use endgame_run::Status;
 use game_calc::CalcFault;
 use std::test::Fail;

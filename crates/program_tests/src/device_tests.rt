@@ -1,8 +1,9 @@
 //! Devices that fail, and files that are cut.
 
-use crate::run_tests::{
-    COPY, Failing, FailingRow, NOTHING_FAILS, ONE_POINT, ONE_POINT_TEXT, POINT_SAFE, SEVEN_TEXT,
-    first_failing_wrong, is_right, is_right_in_pieces, shelf, status_of, words_between,
+use crate::run_tests::{ONE_POINT_TEXT, POINT_SAFE, SEVEN_TEXT};
+use crate::runs::{
+    COPY, Failing, NEVER, NOTHING_FAILS, ONE_POINT, is_right, is_right_in_pieces,
+    outcome_in_pieces, shelf, status_of, words_between,
 };
 use desk_io::{Failed, MemorySource, Sink};
 use endgame_run::{FileFault, Status};
@@ -37,157 +38,46 @@ const NO_WRITE_FIRST: Failing = Failing {
     ..NOTHING_FAILS
 };
 
-/// The commands that write one text, each with calls that fail.
-const FAILING_CALLS: [FailingRow; 18] = [
-    (
-        "solve~c",
-        ONE_POINT,
-        500,
-        NO_LOAD_FIRST,
-        Status::CannotRead,
-        NO_READ,
-    ),
-    (
-        "solve~c",
-        ONE_POINT,
-        500,
-        NO_LOAD_AGAIN,
-        Status::Done,
-        ONE_POINT_TEXT,
-    ),
-    (
-        "solve~-",
-        ONE_POINT,
-        500,
-        NO_LOAD_FIRST,
-        Status::Done,
-        ONE_POINT_TEXT,
-    ),
-    (
-        "solve~c",
-        ONE_POINT,
-        500,
-        NO_READ_FIRST,
-        Status::Done,
-        ONE_POINT_TEXT,
-    ),
-    (
-        "solve~c",
-        ONE_POINT,
-        500,
-        NO_WRITE_FIRST,
-        Status::CannotWrite,
-        "",
-    ),
-    (
-        "solve~nowhere",
-        ONE_POINT,
-        500,
-        NOTHING_FAILS,
-        Status::CannotRead,
-        NO_READ,
-    ),
-    (
-        "safe~c",
-        ONE_POINT,
-        500,
-        NO_LOAD_FIRST,
-        Status::CannotRead,
-        NO_READ,
-    ),
-    (
-        "safe~c",
-        ONE_POINT,
-        500,
-        NO_LOAD_AGAIN,
-        Status::Done,
-        POINT_SAFE,
-    ),
-    (
-        "safe~-",
-        ONE_POINT,
-        500,
-        NO_LOAD_FIRST,
-        Status::Done,
-        POINT_SAFE,
-    ),
-    (
-        "safe~c",
-        ONE_POINT,
-        500,
-        NO_READ_FIRST,
-        Status::Done,
-        POINT_SAFE,
-    ),
-    (
-        "safe~c",
-        ONE_POINT,
-        500,
-        NO_WRITE_FIRST,
-        Status::CannotWrite,
-        "",
-    ),
-    (
-        "safe~nowhere",
-        ONE_POINT,
-        500,
-        NOTHING_FAILS,
-        Status::CannotRead,
-        NO_READ,
-    ),
-    (
-        "values~c",
-        ONE_POINT,
-        500,
-        NO_LOAD_FIRST,
-        Status::CannotRead,
-        NO_READ,
-    ),
-    (
-        "values~c",
-        ONE_POINT,
-        500,
-        NO_LOAD_AGAIN,
-        Status::Done,
-        POINT_VALUES,
-    ),
-    (
-        "values~-",
-        ONE_POINT,
-        500,
-        NO_LOAD_FIRST,
-        Status::Done,
-        POINT_VALUES,
-    ),
-    (
-        "values~c",
-        ONE_POINT,
-        500,
-        NO_READ_FIRST,
-        Status::Done,
-        POINT_VALUES,
-    ),
-    (
-        "values~c",
-        ONE_POINT,
-        500,
-        NO_WRITE_FIRST,
-        Status::CannotWrite,
-        "",
-    ),
-    (
-        "values~nowhere",
-        ONE_POINT,
-        500,
-        NOTHING_FAILS,
-        Status::CannotRead,
-        NO_READ,
-    ),
+/// The commands that write one text, and that text for one contested point.
+const TEXTS: [(&str, &str); 3] = [
+    ("solve", ONE_POINT_TEXT),
+    ("safe", POINT_SAFE),
+    ("values", POINT_VALUES),
 ];
+
+/// The name of a file, the calls that fail, the status, and what is written where it isn't the command's text.
+const FAILING_CALLS: [(&str, Failing, Status, Option<&str>); 6] = [
+    ("c", NO_LOAD_FIRST, Status::CannotRead, Some(NO_READ)),
+    ("c", NO_LOAD_AGAIN, Status::Done, None),
+    ("-", NO_LOAD_FIRST, Status::Done, None),
+    ("c", NO_READ_FIRST, Status::Done, None),
+    ("c", NO_WRITE_FIRST, Status::CannotWrite, Some("")),
+    ("nowhere", NOTHING_FAILS, Status::CannotRead, Some(NO_READ)),
+];
+
+/// Whether the two words end so.
+fn ends_so(
+    alloc: Global,
+    words: [&str; 2],
+    failing: Failing,
+    status: Status,
+    text: &str,
+) -> Result<bool, AllocError> {
+    let (got, written) = outcome_in_pieces(alloc, &words, ONE_POINT, 7, 500, failing)?;
+    Ok(got == status && written.as_slice() == text.as_bytes())
+}
 
 #[test]
 fn calls_that_fail_are_told(rt: HostRuntime) -> Result<(), Fail> {
-    assert_eq!(rt; first_failing_wrong(rt.alloc(), &FAILING_CALLS)?, None);
+    for (command, whole) in TEXTS {
+        for (name, failing, status, told) in FAILING_CALLS {
+            let text = told.unwrap_or(whole);
+            assert!(rt;
+                ends_so(rt.alloc(), [command, name], failing, status, text)?,
+                "{command} {name}"
+            );
+        }
+    }
     Ok(())
 }
 
@@ -258,69 +148,43 @@ fn a_full_sink_has_a_front_part(rt: HostRuntime) -> Result<(), Fail> {
     Ok(())
 }
 
-/// The same game with each call that fails.
-const CUT_GAMES: [(Failing, Status, &str); 8] = [
+/// The read and the write of the same game that fail, the status and what is written.
+const CUT_GAMES: [(u64, u64, Status, &str); 8] = [
+    (NEVER, 0, Status::CannotWrite, ""),
+    (NEVER, 1, Status::CannotWrite, "engine ea\n"),
     (
-        Failing {
-            write: 0,
-            ..NOTHING_FAILS
-        },
-        Status::CannotWrite,
-        "",
-    ),
-    (
-        Failing {
-            write: 1,
-            ..NOTHING_FAILS
-        },
-        Status::CannotWrite,
-        "engine ea\n",
-    ),
-    (
-        Failing {
-            write: 2,
-            ..NOTHING_FAILS
-        },
+        NEVER,
+        2,
         Status::CannotWrite,
         "engine ea\nrefused occupied\n",
     ),
     (
-        Failing {
-            write: 3,
-            ..NOTHING_FAILS
-        },
+        NEVER,
+        3,
         Status::CannotWrite,
         "engine ea\nrefused occupied\nplayed spend\n",
     ),
     (
-        Failing {
-            write: 4,
-            ..NOTHING_FAILS
-        },
+        NEVER,
+        4,
         Status::CannotWrite,
         "engine ea\nrefused occupied\nplayed spend\nengine spend\n",
     ),
     (
-        Failing {
-            read: 0,
-            ..NOTHING_FAILS
-        },
+        0,
+        NEVER,
         Status::CannotRead,
         "engine ea\nfault cannot read\n",
     ),
     (
-        Failing {
-            read: 1,
-            ..NOTHING_FAILS
-        },
+        1,
+        NEVER,
         Status::CannotRead,
         "engine ea\nrefused occupied\nfault cannot read\n",
     ),
     (
-        Failing {
-            read: 2,
-            ..NOTHING_FAILS
-        },
+        2,
+        NEVER,
         Status::CannotRead,
         "engine ea\nrefused occupied\nplayed spend\nengine spend\nfault cannot read\n",
     ),
@@ -329,7 +193,12 @@ const CUT_GAMES: [(Failing, Status, &str); 8] = [
 #[test]
 fn a_session_is_written_turn_by_turn(rt: HostRuntime) -> Result<(), Fail> {
     let alloc = rt.alloc();
-    for (failing, status, text) in CUT_GAMES {
+    for (read, write, status, text) in CUT_GAMES {
+        let failing = Failing {
+            read,
+            write,
+            ..NOTHING_FAILS
+        };
         let (file, text) = (b"ea\nspend\n", text.as_bytes());
         assert!(rt; is_right(alloc, "play~c", file, 500, failing, status, text)?);
     }

@@ -1,7 +1,7 @@
 //! Sessions of the engine.
 
 use crate::play_tests::repeated;
-use crate::run_tests::{Failing, FailingRow, NOTHING_FAILS, first_failing_wrong, is_right};
+use crate::runs::{Failing, FailingRow, NOTHING_FAILS, first_failing_wrong, is_right};
 use endgame_run::Status;
 use std::alloc::{AllocError, Global};
 use std::test::Fail;

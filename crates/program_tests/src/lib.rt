@@ -18,6 +18,8 @@ mod play_tests;
 #[cfg(test)]
 mod run_tests;
 #[cfg(test)]
+mod runs;
+#[cfg(test)]
 mod shared_shape_tests;
 #[cfg(test)]
 mod solved_tests;

@@ -2,7 +2,7 @@
 
 ghost use Rattle.std.specs.Prelude.{◌≡◌, ◌^◌, ◌<◌, true};
 
-use crate::run_tests::{CAPTIVE, NOTHING_FAILS, TIE, TWO_POINTS, VISITED, outcome_in_pieces};
+use crate::runs::{CAPTIVE, NOTHING_FAILS, TIE, TWO_POINTS, VISITED, outcome_in_pieces};
 use go_grid::Colour;
 use sgf_go::position;
 use std::alloc::Global;

@@ -2,7 +2,7 @@
 
 ghost use Rattle.std.specs.Prelude.{◌≤◌};
 
-use crate::run_tests::{
+use crate::runs::{
     Failing, FailingRow, NOTHING_FAILS, first_failing_wrong, is_right, is_right_in_pieces, outcome,
 };
 use endgame_run::Status;

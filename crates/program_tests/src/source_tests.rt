@@ -1,9 +1,10 @@
 //! Files of the source.
 
 use crate::play_tests::repeated;
-use crate::run_tests::{
-    COPY, HALF_TEXT, NOTHING_FAILS, ONE_POINT, ONE_POINT_TEXT, Row, TIE, TIE_TEXT, WHITE_TIE_TEXT,
-    first_wrong, is_right, is_right_in_pieces, outcome, status_of,
+use crate::run_tests::{HALF_TEXT, ONE_POINT_TEXT, TIE_TEXT, WHITE_TIE_TEXT};
+use crate::runs::{
+    COPY, NOTHING_FAILS, ONE_POINT, Row, TIE, first_wrong, is_right, is_right_in_pieces, outcome,
+    status_of,
 };
 use desk_io::{MemoryShelf, MemorySink, MemorySource};
 use endgame_run::{FileFault, Status};

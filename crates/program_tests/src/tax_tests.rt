@@ -1,6 +1,7 @@
 //! Games with a tax of two points for each group.
 
-use crate::run_tests::{Row, TIE_TEXT, first_wrong};
+use crate::run_tests::TIE_TEXT;
+use crate::runs::{Row, first_wrong};
 use endgame_run::Status;
 use std::test::Fail;
 

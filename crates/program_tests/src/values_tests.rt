@@ -1,6 +1,6 @@
 //! The values of files.
 
-use crate::run_tests::{Row, first_wrong};
+use crate::runs::{Row, first_wrong};
 use endgame_run::Status;
 use std::test::Fail;
 

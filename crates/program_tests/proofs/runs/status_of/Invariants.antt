@@ -1,4 +1,4 @@
-use Rattle.program_tests.proofs.run_tests.status_of.Given as goal
+use Rattle.program_tests.proofs.runs.status_of.Given as goal
 
 abbrev pub ghosts-counted : goal.ghosts-counted
 ghosts-counted g a = record { name = a.blank.name; parts = a.blank.parts }
