@@ -5,7 +5,7 @@ use Rattle.std.proofs.lemmas.List.{length-append, same_from_push}
 use Rattle.short_games.specs.Tree.{Tree}
 use Rattle.game_store.specs.Meaning.{Extends}
 use Rattle.game_calc.specs.inner.Amounts.{IsAmount, IsBefore}
-use Rattle.game_calc.specs.Expression.{Expression, Line, ReadsTerms, ReadsLine, AfterFirst, ended, closed_by, kind, next, rest, sign_of, with_term, first_sign, first_bytes}
+use Rattle.game_calc.specs.Expression.{Expression, Line, ReadsTerms, ReadsLine, AfterFirst, line_ended, closed_by, kind, next, rest, sign_of, with_term, first_sign, first_bytes}
 use Rattle.game_calc.specs.Expression.Line.{value, order}
 use Rattle.game_calc.specs.Expression.Fault.{stray, unfinished}
 use Rattle.game_calc.specs.Expression.Outcome.{reads}
@@ -26,7 +26,7 @@ use Rattle.game_calc.proofs.LineSteps.{IsBehindTerm, before-kept, open-kept, ope
 module _ (limit : ℕ) (E : Expression) (bytes : List ℕ) where
   abbrev SumBy : Kind → List Frame → Option Expression → Answer → Type 0
   SumBy k [] None out = AfterFirst limit k E bytes out
-  SumBy k [] (Some D) out = out ≡ ended k D E bytes
+  SumBy k [] (Some D) out = out ≡ line_ended k D E bytes
   SumBy k (f ∷ fs) first out = BehindTerm limit (BehindSum limit fs first) (length fs) f (closed_by k E bytes) out
 
   sum-by : (fs : List Frame) (first : Option Expression) (out : Answer) (k : Kind) → kind bytes ≡ k → SumBy k fs first out → BehindSum limit fs first (reads E bytes) out

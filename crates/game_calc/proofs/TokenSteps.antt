@@ -3,7 +3,7 @@ use Rattle.std.proofs.Common.{ℕ, zero, suc, ◌+◌, ◌-◌, ◌<◌, ◌≤�
 use Rattle.std.specs.Prelude.{slice_range}
 use Rattle.std.proofs.lemmas.Bool.{cases_lt, ne_eqb, eq-eqb}
 use Rattle.std.proofs.lemmas.List.{drop-drop, drop_more, drop_all, get_or-drop, length-drop}
-use Rattle.game_calc.specs.Expression.{next, token, behind, kind_of}
+use Rattle.game_calc.specs.Expression.{next, token, behind_token, kind_of}
 use Rattle.game_calc.specs.declared.tokens.Kind.TheVariants.{End}
 
 -- from a blank on, from another byte on, and at the end
@@ -30,20 +30,20 @@ pub passing-step : (text : List ℕ) (first at : ℕ) → IsPassing text first a
 passing-step text first at w l e = record { forward = omega (arith, w.forward); within = omega (arith, l); next_is = sym (next-blank text at l e) ∙ w.next_is }
 
 -- k bytes other than blanks, and then the end or a blank
-token-run : (xs : List ℕ) (k : ℕ) → k ≤ length xs → ((j : ℕ) → j < k → get_or xs j 0 ≡ 32 → ⊥) → (length xs ≤ k) ⊎ (get_or xs k 0 ≡ 32) → (take k xs ≡ token xs) × (drop k xs ≡ behind xs)
-unfolding token behind
+token-run : (xs : List ℕ) (k : ℕ) → k ≤ length xs → ((j : ℕ) → j < k → get_or xs j 0 ≡ 32 → ⊥) → (length xs ≤ k) ⊎ (get_or xs k 0 ≡ 32) → (take k xs ≡ token xs) × (drop k xs ≡ behind_token xs)
+unfolding token behind_token
 token-run [] zero l apart end = (refl, refl)
 token-run [] (suc k) l apart end = (refl, refl)
 token-run (x ∷ xs) zero l apart (inl m) = absurd (omega (arith, m))
 token-run (x ∷ xs) zero l apart (inr e) = (
   sym (ap (λ b. cond b [] (x ∷ token xs)) (eq-eqb x 32 e)),
-  sym (ap (λ b. cond b (x ∷ xs) (behind xs)) (eq-eqb x 32 e)),
+  sym (ap (λ b. cond b (x ∷ xs) (behind_token xs)) (eq-eqb x 32 e)),
 )
 token-run (x ∷ xs) (suc k) l apart end =
     let other = ne_eqb x 32 (apart 0 (omega arith)) in
     let r = token-run xs k (omega (arith, l)) (λ j m. apart (suc j) (omega (arith, m))) (further end) in (
       ap (λ t. x ∷ t) r.0 ∙ sym (ap (λ b. cond b [] (x ∷ token xs)) other),
-      r.1 ∙ sym (ap (λ b. cond b (x ∷ xs) (behind xs)) other),
+      r.1 ∙ sym (ap (λ b. cond b (x ∷ xs) (behind_token xs)) other),
     )
   where
     further : (length (x ∷ xs) ≤ suc k) ⊎ (get_or (x ∷ xs) (suc k) 0 ≡ 32) → (length xs ≤ k) ⊎ (get_or xs k 0 ≡ 32)
@@ -56,7 +56,7 @@ pub record IsRunning (text : List ℕ) (start at : ℕ) : Type 0 where
   pub within : at ≤ length text
   pub bytes : (j : ℕ) → start ≤ j → j < at → get_or text j 0 ≡ 32 → ⊥
 
-pub running-end : (text : List ℕ) (start at : ℕ) → IsRunning text start at → (length text ≤ at) ⊎ (get_or text at 0 ≡ 32) → (slice_range text start at ≡ token (drop start text)) × (drop at text ≡ behind (drop start text))
+pub running-end : (text : List ℕ) (start at : ℕ) → IsRunning text start at → (length text ≤ at) ⊎ (get_or text at 0 ≡ 32) → (slice_range text start at ≡ token (drop start text)) × (drop at text ≡ behind_token (drop start text))
 running-end text start at w end =
     let e : start + (at - start) ≡ at = omega (arith, w.forward) in
     let r = token-run (drop start text) (at - start) (omega (arith, w.within, w.forward, length-drop start text))

@@ -66,9 +66,9 @@ token [] = []
 token (x ∷ xs) = cond (nat_eq x blank) [] (x ∷ token xs)
 
 -- the bytes behind the token that they begin with
-unfoldable pub behind : List ℕ → List ℕ
-behind [] = []
-behind (x ∷ xs) = cond (nat_eq x blank) (x ∷ xs) (behind xs)
+unfoldable pub behind_token : List ℕ → List ℕ
+behind_token [] = []
+behind_token (x ∷ xs) = cond (nat_eq x blank) (x ∷ xs) (behind_token xs)
 
 -- what a token of one byte is
 abbrev pub sign_kind : ℕ → Kind
@@ -86,7 +86,7 @@ kind bytes = kind_of (token (next bytes))
 
 -- the bytes behind the next token
 abbrev pub rest : List ℕ → List ℕ
-rest bytes = behind (next bytes)
+rest bytes = behind_token (next bytes)
 
 -- what a fault of a name is of the line, where these bytes stand behind the token
 abbrev pub fault_of : NameFault → List ℕ → Fault
@@ -149,9 +149,9 @@ BeginsNoTerm Query = Unit {0}
 BeginsNoTerm k = ⊥
 
 -- what a line of two sums comes to, where the next token behind the second is this, and the end is due
-abbrev pub ended : Kind → Expression → Expression → List ℕ → Result Line Fault
-ended End E F bytes = Ok (order E F)
-ended k E F bytes = Err (stray (next bytes))
+abbrev pub line_ended : Kind → Expression → Expression → List ℕ → Result Line Fault
+line_ended End E F bytes = Ok (order E F)
+line_ended k E F bytes = Err (stray (next bytes))
 
 module _ (limit : ℕ) where
   mutual
@@ -176,7 +176,7 @@ module _ (limit : ℕ) where
 
   -- what a line comes to, once it is known what its second sum does
   abbrev pub BehindSecond : Expression → Outcome → Result Line Fault → Type 0
-  BehindSecond E (reads F bytes) out = out ≡ ended (kind bytes) E F bytes
+  BehindSecond E (reads F bytes) out = out ≡ line_ended (kind bytes) E F bytes
   BehindSecond E (refused fault) out = out ≡ Err fault
 
   -- behind the first sum the line ends, or a `?` and the second sum stand

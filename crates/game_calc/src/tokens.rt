@@ -1,7 +1,7 @@
 //! The tokens of a line: the longest runs of bytes other than a blank.
 
 ghost use Rattle.std.specs.Prelude.{◌≡◌, ◌<◌, ◌≤◌, length, drop, slice_range};
-ghost use Rattle.game_calc.specs.Expression.{behind, kind, kind_of, next, rest, sign_kind, token};
+ghost use Rattle.game_calc.specs.Expression.{behind_token, kind, kind_of, next, rest, sign_kind, token};
 ghost use Rattle.game_calc.specs.declared.tokens.Kind.TheVariants.{End};
 
 /// What a token is: one of the signs of the grammar, or else a game. The end of the line is no token.
@@ -47,7 +47,7 @@ fn token_end(text: &[u8], start: usize) -> usize
     ensures forward { start ≤ result }
     ensures within { result ≤ length text.now }
     ensures token { slice_range text.now start result ≡ token (drop start text.now) }
-    ensures behind { drop result text.now ≡ behind (drop start text.now) }
+    ensures behind { drop result text.now ≡ behind_token (drop start text.now) }
 {
     let mut at = start;
     'running: while at < text.len() {

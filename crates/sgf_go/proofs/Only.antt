@@ -13,7 +13,7 @@ use Rattle.go_grid.specs.Play.{is_stone}
 use Rattle.go_play.specs.declared.placements.PlaceError.{PlaceError}
 use Rattle.go_play.specs.declared.placements.PlaceError.TheVariants as place
 use Rattle.sgf_tree.specs.Grammar.{PropertyText}
-use Rattle.sgf_go.specs.Values.{trimmed, Says, Rectangle, between, IsArea, point, corners, colon, IsInRectangle, Extent, IsSide, IsSize, square, sides}
+use Rattle.sgf_go.specs.Values.{trimmed, Says, Rectangle, rectangle_between, IsArea, point, corners, colon, IsInRectangle, Extent, IsSide, IsSize, square, sides}
 use Rattle.sgf_go.specs.inner.Values.{LacksColon}
 use Rattle.go_grid.specs.Name.{IsName}
 use Rattle.sgf_go.specs.Setup.{Part, GoesOn, ◌then◌, For, Skips, IsSet, Sets, SetsValue, SetsValues, SetsProperty, cell_set, SetsSide, TurnsTo, side_of, placed, moved, with_taken, Choice, pass, stone_at, nothing, is_pass, IsMoveText, MovesAsChosen, Moves, MovesProperty, mover, first_value, value_of, TurnsByProperty, NodePart, LinePart, Unless, ends_before, IsKomiFor, EndsMainLine, FromKomi, FromSize, FromGame, is_go, IsBoardSize, root, empty_board, OnePosition}
@@ -58,10 +58,10 @@ one_point : (columns rows : ℕ) (text : List ℕ) (p q : ℕ) → IsName column
 one_point columns rows text p q a b = one_named columns p q (sym a.spelt ∙ b.spelt)
 
 one_area : (columns rows : ℕ) (text : List ℕ) (a b : Rectangle) → IsArea columns rows text a → IsArea columns rows text b → a ≡ b
-one_area columns rows text _ _ (point p a) (point q b) = ap (λ x. between columns x x) (one_point columns rows text p q a b)
+one_area columns rows text _ _ (point p a) (point q b) = ap (λ x. rectangle_between columns x x) (one_point columns rows text p q a b)
 one_area columns rows text _ _ (point p a) (corners m n b c d) = absurd (point_not_corners columns rows text p a c)
 one_area columns rows text _ _ (corners m n a c d) (point q b) = absurd (point_not_corners columns rows text q b c)
-one_area columns rows text _ _ (corners m n a c d) (corners p q b e f) = ap₂ (between columns) (one_point columns rows (take 2 text) m p a b) (one_point columns rows (drop 3 text) n q d f)
+one_area columns rows text _ _ (corners m n a c d) (corners p q b e f) = ap₂ (rectangle_between columns) (one_point columns rows (take 2 text) m p a b) (one_point columns rows (drop 3 text) n q d f)
 
 says_one : {A : Type 0} (Is : A → Type 0) (x y : Option A) → ((a b : A) → Is a → Is b → a ≡ b) → Says Is x → Says Is y → x ≡ y
 says_one Is None None one a b = refl

@@ -2,7 +2,7 @@
 use Rattle.std.proofs.Common.{ℕ, ◌≤◌, ◌≡◌, ◌≢◌, List, [], ◌∷◌, length, take, drop, get_or, arith, refl, sym, ◌∙◌, ap, subst}
 use Rattle.std.proofs.lemmas.List.{drop_more, drop_all}
 use Rattle.go_grid.specs.Name.{IsName}
-use Rattle.sgf_go.specs.Values.{IsArea, point, corners, between, colon}
+use Rattle.sgf_go.specs.Values.{IsArea, point, corners, rectangle_between, colon}
 
 -- the bytes at a place and behind it
 abbrev pub two_at : List ℕ → ℕ → ℕ → List ℕ
@@ -23,11 +23,11 @@ whole_two (x ∷ []) h = absurd (omega (arith, h))
 whole_two (x ∷ y ∷ []) h = refl
 whole_two (x ∷ y ∷ z ∷ zs) h = absurd (omega (arith, h))
 
-pub point_two : (columns rows : ℕ) (text : List ℕ) (p : ℕ) → length text ≡ 2 → IsName columns rows (two_at text 0 1) p → IsArea columns rows text (between columns p p)
+pub point_two : (columns rows : ℕ) (text : List ℕ) (p : ℕ) → length text ≡ 2 → IsName columns rows (two_at text 0 1) p → IsArea columns rows text (rectangle_between columns p p)
 point_two columns rows text p h n = point p (subst (λ t. IsName columns rows t p) (sym (whole_two text h)) n)
 
 pub corners_five : (columns rows : ℕ) (text : List ℕ) (p q : ℕ) → length text ≡ 5 → get_or text 2 0 ≡ colon → IsName columns rows (two_at text 0 1) p → IsName columns rows (two_at text 3 4) q
-    → IsArea columns rows text (between columns p q)
+    → IsArea columns rows text (rectangle_between columns p q)
 corners_five columns rows text p q h e n m = corners p q
     (subst (λ t. IsName columns rows t p) (sym (first_two text (omega (arith, h)))) n) e
     (subst (λ t. IsName columns rows t q) (sym (last_two text h)) m)

@@ -27,8 +27,8 @@ pub record Rectangle : Type 0 where
   pub bottom : ℕ
 
 -- the rectangle with two points as opposite corners
-abbrev pub between : ℕ → ℕ → ℕ → Rectangle
-between columns p q = record {
+abbrev pub rectangle_between : ℕ → ℕ → ℕ → Rectangle
+rectangle_between columns p q = record {
   left = min (p % columns) (q % columns);
   right = max (p % columns) (q % columns);
   top = min (p / columns) (q / columns);
@@ -41,9 +41,9 @@ colon = 58
 
 -- the rectangle that a text says: that of one point, or of two corners with a `:` between them
 pub data IsArea (columns rows : ℕ) (text : List ℕ) : Rectangle → Type 0 where
-  point : (p : ℕ) → IsName columns rows text p → IsArea columns rows text (between columns p p)
+  point : (p : ℕ) → IsName columns rows text p → IsArea columns rows text (rectangle_between columns p p)
   corners : (p q : ℕ) → IsName columns rows (take 2 text) p → get_or text 2 0 ≡ colon → IsName columns rows (drop 3 text) q
-      → IsArea columns rows text (between columns p q)
+      → IsArea columns rows text (rectangle_between columns p q)
 
 -- the point lies in the rectangle
 pub record IsInRectangle (columns : ℕ) (r : Rectangle) (p : ℕ) : Type 0 where

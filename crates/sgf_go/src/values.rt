@@ -2,7 +2,7 @@
 
 ghost use Rattle.std.specs.Prelude.{reverse, ◌≡◌, ◌≤◌, ◌<◌, ◌*◌, length, drop, take, IfSome};
 ghost use Rattle.std.specs.Option.{option_map};
-ghost use Rattle.sgf_go.specs.Values.{trimmed, trimmed_front, between, Says, IsArea};
+ghost use Rattle.sgf_go.specs.Values.{trimmed, trimmed_front, rectangle_between, Says, IsArea};
 ghost use Rattle.go_grid.specs.Name.{IsName};
 ghost use Rattle.sgf_go.specs.inner.Reading.{rectangle};
 
@@ -24,7 +24,7 @@ pub(crate) struct Area {
 fn between(size: Size, first: Point, second: Point) -> Area
     requires first { first < size.columns * size.rows }
     requires second { second < size.columns * size.rows }
-    ensures value { rectangle result ≡ between size.columns first second }
+    ensures value { rectangle result ≡ rectangle_between size.columns first second }
     ensures column { result.right < size.columns }
     ensures row { result.bottom < size.rows }
 {

@@ -18,7 +18,7 @@ use Rattle.short_games.proofs.SumLaws.{plus-assoc, plus-cancel, nought-plus, plu
 use Rattle.short_games.proofs.OrderLaws.{same-refl, same-path, same-trans}
 use Rattle.go_grid.specs.declared.grid.Colour.{Colour}
 use Rattle.sum_outcome.specs.Sums.{sum_tree, IsBounded}
-use Rattle.sum_outcome.specs.Memo.{mover}
+use Rattle.sum_outcome.specs.Memo.{mover_of_key}
 use Rattle.sum_outcome.specs.inner.Memo.{IsKeyOf}
 use Rattle.sum_outcome.specs.declared.key.Key.{Key}
 use Rattle.sum_outcome.proofs.MemoLaws.{ids_pushed, ids_permuted}
@@ -112,7 +112,7 @@ module _ (Ts : List Tree) (is : List ℕ) (i j : ℕ) (li : i < length is) (lj :
 pub sorted_same : (Ts : List Tree) (games is : List ℕ) → IsPermutation games is → total (pick Ts games) ≡ᵍ total (pick Ts is)
 sorted_same Ts games is p = IsPermutation-keeps games (λ l. total (pick Ts games) ≡ᵍ total (pick Ts l)) (same-refl (total (pick Ts games))) (λ l i j li lj e. same-trans _ _ _ e (same_swap Ts l i j li lj)) is p
 
-pub split_end : (Ts : List Tree) (ids : List ℕ) (x y : ℤ) (c : Colour) (games : List ℕ) (k : ℕ) (key : Key) → SplitSoFar Ts ids x games y k → length ids ≤ k → IsPermutation games key.games.items → key.number ≡ y → mover key ≡ c → IsKeyOf Ts ids x c key
+pub split_end : (Ts : List Tree) (ids : List ℕ) (x y : ℤ) (c : Colour) (games : List ℕ) (k : ℕ) (key : Key) → SplitSoFar Ts ids x games y k → length ids ≤ k → IsPermutation games key.games.items → key.number ≡ y → mover_of_key key ≡ c → IsKeyOf Ts ids x c key
 unfolding total
 split_end Ts ids x y c games k key w le p number turn = record {
   same = subst (λ z. sum_tree Ts ids x ≡ᵍ sum_tree Ts key.games.items z) (sym number) (same-trans _ _ _ (rw (drop_all k ids le) at w.same)

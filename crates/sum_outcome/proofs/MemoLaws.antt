@@ -29,7 +29,7 @@ use Rattle.sum_outcome.specs.Sums.{sum_tree}
 use Rattle.sum_outcome.specs.Incentives as pairs
 use Rattle.sum_outcome.specs.inner.Incentives.{IsKnownRight}
 use Rattle.sum_outcome.specs.Opposites.{IsZero}
-use Rattle.sum_outcome.specs.Memo.{key_tree, mover, IsAnswer, AreAnswers, FitsGrownStores}
+use Rattle.sum_outcome.specs.Memo.{key_tree, mover_of_key, IsAnswer, AreAnswers, FitsGrownStores}
 use Rattle.sum_outcome.specs.inner.Memo.{NoneIsNew, IsRight, StaysRight, IsKeyOf, AreSame, IsAmong, AreKept}
 use Rattle.sum_outcome.specs.declared.key.Key.{Key}
 use Rattle.sum_outcome.specs.declared.memo.Memo.{Memo}
@@ -98,7 +98,7 @@ same_tree Ts a b s = ap (λ l. sum_tree Ts l a.number) s.games ∙ ap (λ x. sum
 same_answer : (Ts : List Tree) (a b : Key) (lost : Bool) → AreSame a b → IsAnswer Ts a lost → IsAnswer Ts b lost
 same_answer Ts a b lost s w = (
   subst (λ l. AreIds Ts l) s.games w.0,
-  subst (λ c. IsTrue lost ↔ LosesGame c (key_tree Ts b)) (ap (λ z. cond z Black White) s.black) (subst (λ t. IsTrue lost ↔ LosesGame (mover a) t) (same_tree Ts a b s) w.1),
+  subst (λ c. IsTrue lost ↔ LosesGame c (key_tree Ts b)) (ap (λ z. cond z Black White) s.black) (subst (λ t. IsTrue lost ↔ LosesGame (mover_of_key a) t) (same_tree Ts a b s) w.1),
 )
 
 -- an answer that is found is right
@@ -124,7 +124,7 @@ incentives_kept Ts before now pair answer right kept was e among = elim (kept e 
 ]
 
 -- a sum and its key
-pub from_key : (Ts : List Tree) (ids : List ℕ) (x : ℤ) (c : Colour) (key : Key) (lost : Bool) → IsKeyOf Ts ids x c key → (IsTrue lost ↔ LosesGame (mover key) (key_tree Ts key)) → IsTrue lost ↔ LosesGame c (sum_tree Ts ids x)
+pub from_key : (Ts : List Tree) (ids : List ℕ) (x : ℤ) (c : Colour) (key : Key) (lost : Bool) → IsKeyOf Ts ids x c key → (IsTrue lost ↔ LosesGame (mover_of_key key) (key_tree Ts key)) → IsTrue lost ↔ LosesGame c (sum_tree Ts ids x)
 from_key Ts ids x c key lost k a = (
   λ e. loses-same c (key_tree Ts key) (sum_tree Ts ids x) (same-sym (sum_tree Ts ids x) (key_tree Ts key) k.same) (subst (λ d. LosesGame d (key_tree Ts key)) k.mover (a.0 e)),
   λ l. a.1 (subst (λ d. LosesGame d (key_tree Ts key)) (sym k.mover) (loses-same c (sum_tree Ts ids x) (key_tree Ts key) k.same l)),
@@ -168,7 +168,7 @@ pub fits_grown : FitsGrownStores
 fits_grown Ts Us search x fits = record {
   sums = λ e among. (let w = fits.sums e among in (
     grown_ids Ts Us e.0.games.items x w.0,
-    subst (λ t. IsTrue e.1 ↔ LosesGame (mover e.0) t) (ap (λ g. total g +ᵍ number_tree e.0.number) (sym (pick-extends Ts Us e.0.games.items x w.0))) w.1,
+    subst (λ t. IsTrue e.1 ↔ LosesGame (mover_of_key e.0) t) (ap (λ g. total g +ᵍ number_tree e.0.number) (sym (pick-extends Ts Us e.0.games.items x w.0))) w.1,
   ));
   incentives = λ e among. (
       let w = fits.incentives e among in

@@ -31,12 +31,12 @@ abbrev pub key_tree : List Tree → Key → Tree
 key_tree Ts key = sum_tree Ts key.games.items key.number
 
 -- who is to move in the sum of a key
-abbrev pub mover : Key → Colour
-mover key = cond key.black Black White
+abbrev pub mover_of_key : Key → Colour
+mover_of_key key = cond key.black Black White
 
 -- the key has ids of the store, and the answer is right there
 abbrev pub IsAnswer : List Tree → Key → Bool → Type 0
-IsAnswer Ts key lost = AreIds Ts key.games.items × (IsTrue lost ↔ LosesGame (mover key) (key_tree Ts key))
+IsAnswer Ts key lost = AreIds Ts key.games.items × (IsTrue lost ↔ LosesGame (mover_of_key key) (key_tree Ts key))
 
 -- each entry has a key of ids of the store, and its answer is right there
 abbrev pub AreAnswers : List Tree → List (Key × Bool) → Type 0

@@ -7,7 +7,7 @@ use Rattle.game_store.specs.Meaning.{AreIds}
 use Rattle.sum_outcome.specs.Sums.{sum_tree}
 use Rattle.sum_outcome.specs.declared.key.Key.{Key}
 use Rattle.sum_outcome.specs.declared.memo.Memo.{Memo}
-use Rattle.sum_outcome.specs.Memo.{Search, key_tree, mover, IsAnswer, Fits}
+use Rattle.sum_outcome.specs.Memo.{Search, key_tree, mover_of_key, IsAnswer, Fits}
 
 -- what a memo remembers
 abbrev pub remembered : Memo → Search
@@ -38,7 +38,7 @@ Learns key lost before now = (Ts : List Tree) → IsAnswer Ts key lost → IsRig
 -- the key is one of a player's sum: its sum is equal to that one, its games are ids of the store, and the player is to move
 pub record IsKeyOf (Ts : List Tree) (ids : List ℕ) (x : ℤ) (c : Colour) (key : Key) : Type 0 where
   pub same : sum_tree Ts ids x ≡ᵍ key_tree Ts key
-  pub mover : mover key ≡ c
+  pub mover : mover_of_key key ≡ c
   pub known : AreIds Ts key.games.items
 
 -- two keys have the same games, the same number and the same player to move
