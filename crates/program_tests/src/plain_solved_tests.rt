@@ -62,20 +62,34 @@ fn first_plain(alloc: Global, game: Game) -> Result<Option<Move>, AllocError> {
     Ok(None)
 }
 
+/// Whether the solved game has this winner and this first winning move.
+fn has_answer<L: Ledger>(
+    alloc: Global,
+    blank: Blank,
+    game: Game,
+    winner: Option<Colour>,
+    chosen: Option<Move>,
+) -> Result<bool, SolveError>
+    requires name { blank.name ≡ L.name }
+    requires parts { blank.parts ≡ L.parts }
+    requires some { 0 < blank.parts }
+{
+    let mut solved = begin::<L>(alloc, blank, game, LIMITS)?;
+    Ok(winner == Some(solved.winner()) && chosen == solved.winning_move())
+}
+
 /// Whether the solved game agrees with plain recursion.
 fn agrees<L: Ledger>(alloc: Global, blank: Blank, game: Game) -> Result<bool, SolveError>
     requires name { blank.name ≡ L.name }
     requires parts { blank.parts ≡ L.parts }
     requires some { 0 < blank.parts }
 {
-    let mut solved = begin::<L>(alloc, blank, game, LIMITS)?;
     let Some(state) = opened(alloc, game)? else {
         return Ok(false);
     };
-    Ok(
-        plain_winner(alloc, &state, 14)? == Some(solved.winner())
-            && first_plain(alloc, game)? == solved.winning_move(),
-    )
+    let winner = plain_winner(alloc, &state, 14)?;
+    let chosen = first_plain(alloc, game)?;
+    has_answer::<L>(alloc, blank, game, winner, chosen)
 }
 
 /// Games with few moves.
