@@ -37,26 +37,22 @@ struct Outcome {
     written: Vec<u8>,
 }
 
-/// What a session over these things comes to. A new ledger counts its steps.
+/// The end of a session over these things, how many loads there were, and those that failed. A new ledger counts its steps.
 fn counted<L: Ledger>(
     alloc: Global,
     shelf: &mut MemoryShelf,
     lines: &mut MemorySource,
     out: &mut MemorySink,
     blank: Blank,
-) -> Result<Outcome, AllocError>
+) -> Result<(GtpEnd, u32, Vec<u32>), AllocError>
     requires name { blank.name ≡ L.name }
     requires parts { blank.parts ≡ L.parts }
     requires some { 0 < blank.parts }
 {
     let mut engine = Engine::new(alloc, LIMITS)?;
     let end = engine.run(shelf, lines, out, &mut Steps::<L>::new(blank));
-    Ok(Outcome {
-        end,
-        loads: engine.loads(),
-        failed: engine.failed_loads().to_vec(alloc)?,
-        written: out.written().to_vec(alloc)?,
-    })
+    let failed = engine.failed_loads().to_vec(alloc)?;
+    Ok((end, engine.loads(), failed))
 }
 
 /// Which calls fail, counted from 0; there is no call of the last number.
@@ -89,7 +85,19 @@ fn session(
     shelf.fail_at(failing.load)?;
     let mut lines = MemorySource::new(text.to_vec(alloc)?, piece, vec![in alloc; failing.read]?);
     let mut out = MemorySink::with_room(alloc, 5_000, vec![in alloc; failing.write]?)?;
-    counted::<Brand>(alloc, &mut shelf, &mut lines, &mut out, Blank::new(1))
+    let (end, loads, failed) = counted::<Brand>(
+        alloc,
+        &mut shelf,
+        &mut lines,
+        &mut out,
+        Blank::new(1),
+    )?;
+    Ok(Outcome {
+        end,
+        loads,
+        failed,
+        written: out.written().to_vec(alloc)?,
+    })
 }
 
 /// Lines, the end of the session and what is written.
