@@ -8,7 +8,7 @@ use Rattle.short_games.specs.Sum.{◌+ᵍ◌, each_plus}
 use Rattle.short_games.specs.Number.{num, IsNumber, half, is_even, whole, count_tree}
 use Rattle.short_games.specs.Canonical.{Ascends, IsReduced, IsCanonical, AreCanonical}
 use Rattle.short_games.proofs.OrderLaws.{le-in, le-refl, le-trans, size-left, size-right, not-le, le-or_not}
-use Rattle.short_games.proofs.SumLaws.{plus-le, plus-le_both, plus-comm, plus-assoc, plus-cancel, left_of_sum, right_of_sum, left_in_first, right_in_first, InSum, nought, has-each_plus, each_plus-has, plus-neg, plus-nought, nought-plus, not_le_left, not_right_le, neg-neg, neg-left, neg-right, has-neg_each}
+use Rattle.short_games.proofs.SumLaws.{plus-le, plus-le_both, plus-assoc, left_of_sum, right_of_sum, left_in_first, right_in_first, InSum, has-each_plus, each_plus-has, not_le_left, not_right_le, neg-neg, neg-left, neg-right, has-neg_each}
 use Rattle.short_games.proofs.SumLaws.InSum.{in_first, in_second}
 use Rattle.short_games.proofs.NumberLaws.{num-left, num-right, num-le, num-lt, num-double, num-even, num-odd, num-plus_le, half-even, half-odd, neg-num}
 use Rattle.short_games.proofs.CanonicalLaws.{canonical-unique}
@@ -202,19 +202,3 @@ translation e G m cheap cheap' = (
               (subst (λ t. t ≤ᵍ G +ᵍ K) (sym (plus-assoc G (num e (r.0 +ℤ neg_ℤ m)) (num e m)))
               (plus-le_both G G _ _ (le-refl G) (subst (λ t. num e (r.0 +ℤ neg_ℤ m) +ᵍ num e m ≤ᵍ t) (sym r.2) (le-trans _ _ _ (num-plus_le e (r.0 +ℤ neg_ℤ m) m) (num-le e ((r.0 +ℤ neg_ℤ m) +ℤ m) r.0 (omega (arith, ints))))))),
         )
-
--- Incentives: G' - G >= H' - H gives G' + H >= G + H'
-pub incentives : (G G' H H' : Tree) → H' +ᵍ neg H ≤ᵍ G' +ᵍ neg G → G +ᵍ H' ≤ᵍ G' +ᵍ H
-incentives G G' H H' p = plus-cancel (G +ᵍ H') (G' +ᵍ H) (neg H +ᵍ neg G) (le-trans _ _ _ low (le-trans _ _ _ p high))
-  where
-    low : (G +ᵍ H') +ᵍ (neg H +ᵍ neg G) ≤ᵍ H' +ᵍ neg H
-    low = subst (λ t. t ≤ᵍ H' +ᵍ neg H) (ap (λ t. G +ᵍ t) (plus-assoc H' (neg H) (neg G)) ∙ sym (plus-assoc G H' (neg H +ᵍ neg G)))
-        (le-trans _ _ _ (plus-comm G ((H' +ᵍ neg H) +ᵍ neg G))
-        (subst (λ t. t ≤ᵍ H' +ᵍ neg H) (sym (plus-assoc (H' +ᵍ neg H) (neg G) G))
-        (subst (λ t. (H' +ᵍ neg H) +ᵍ (neg G +ᵍ G) ≤ᵍ t) (plus-nought (H' +ᵍ neg H))
-        (plus-le_both (H' +ᵍ neg H) (H' +ᵍ neg H) _ _ (le-refl (H' +ᵍ neg H)) (le-trans _ _ _ (plus-comm (neg G) G) (plus-neg G).0)))))
-
-    high : G' +ᵍ neg G ≤ᵍ (G' +ᵍ H) +ᵍ (neg H +ᵍ neg G)
-    high = subst (λ t. G' +ᵍ neg G ≤ᵍ t) (ap (λ t. G' +ᵍ t) (plus-assoc H (neg H) (neg G)) ∙ sym (plus-assoc G' H (neg H +ᵍ neg G)))
-        (plus-le_both G' G' (neg G) ((H +ᵍ neg H) +ᵍ neg G) (le-refl G')
-        (subst (λ t. t ≤ᵍ (H +ᵍ neg H) +ᵍ neg G) (nought-plus (neg G)) (plus-le nought (H +ᵍ neg H) (neg G) (plus-neg H).1)))

@@ -23,6 +23,23 @@ size-right (node ls rs) GR h = omega (arith, size-node ls rs, sizes-has rs GR h)
 pub size-pos : (G : Tree) → 0 < size G
 size-pos (node ls rs) = omega (arith, size-node ls rs)
 
+-- what holds of each thing of which it holds where it holds of all that measure less, holds of all
+module _ {A : Type 0} (measure : A → ℕ) (P : A → Type 0) (step : (a : A) → ((b : A) → measure b < measure a → P b) → P a) where
+  measured_within : (n : ℕ) (a : A) → measure a < n → P a
+  measured_within zero a l = absurd (omega (arith, l))
+  measured_within (suc n) a l = step a (λ b k. measured_within n b (omega (arith, k, l)))
+
+  pub by_measure : (a : A) → P a
+  by_measure a = measured_within (suc (measure a)) a (omega arith)
+
+pub by_sizes : (P : Tree → Tree → Type 0) → ((G H : Tree) → ((A B : Tree) → size A + size B < size G + size H → P A B) → P G H) → (G H : Tree) → P G H
+by_sizes P step G H = by_measure {A = Tree × Tree} (λ p. size p.0 + size p.1) (λ p. P p.0 p.1) (λ p ih. step p.0 p.1 (λ A B l. ih (A, B) l)) (G, H)
+
+pub by_three_sizes : (P : Tree → Tree → Tree → Type 0)
+    → ((G H K : Tree) → ((A B C : Tree) → size A + size B + size C < size G + size H + size K → P A B C) → P G H K) → (G H K : Tree) → P G H K
+by_three_sizes P step G H K =
+    by_measure {A = Tree × Tree × Tree} (λ p. size p.0 + size p.1 + size p.2) (λ p. P p.0 p.1 p.2) (λ p ih. step p.0 p.1 p.2 (λ A B C l. ih (A, B, C) l)) (G, H, K)
+
 -- no tree of the list passes the test
 abbrev pub no_one : (Tree → Bool) → Trees → Bool
 no_one test none = true
@@ -69,13 +86,12 @@ mutual
   ]
 
 -- a game that is less or confused isn't at least
-apart_within : (n : ℕ) (G H : Tree) → size G + size H ≤ n → G ≤ᵍ H → H ⧏ᵍ G → ⊥
-apart_within zero G H a p q = absurd (omega (arith, a, size-pos G))
-apart_within (suc n) G H a (at_most f g) (by_left L l q) = apart_within n H L (omega (arith, a, size-left G L l)) q (f L l)
-apart_within (suc n) G H a (at_most f g) (by_right R r q) = apart_within n R G (omega (arith, a, size-right H R r)) q (g R r)
-
 pub not-both : (G H : Tree) → G ≤ᵍ H → H ⧏ᵍ G → ⊥
-not-both G H = apart_within (size G + size H) G H (omega arith)
+not-both = by_sizes (λ G H. G ≤ᵍ H → H ⧏ᵍ G → ⊥) apart
+  where
+    apart : (G H : Tree) → ((A B : Tree) → size A + size B < size G + size H → A ≤ᵍ B → B ⧏ᵍ A → ⊥) → G ≤ᵍ H → H ⧏ᵍ G → ⊥
+    apart G H ih (at_most f g) (by_left L l q) = ih H L (omega (arith, size-left G L l)) q (f L l)
+    apart G H ih (at_most f g) (by_right R r q) = ih R G (omega (arith, size-right H R r)) q (g R r)
 
 -- the test tells the order
 pub from-test : (G H : Tree) → le G H ≡ true → G ≤ᵍ H
@@ -115,25 +131,17 @@ pub le-in : (G H : Tree) → NoneBeats G H → G ≤ᵍ H
 le-in G H b = at_most (λ L l. not-le H L (b.from_left L l)) (λ R r. not-le R G (b.from_right R r))
 
 -- a game is at most itself
-refl_within : (n : ℕ) (G : Tree) → size G < n → G ≤ᵍ G
-refl_within zero G a = absurd (omega arith)
-refl_within (suc n) G a = le-in G G record {
-  from_left = λ K k e. (le-out G K e).from_left K k (refl_within n K (omega (arith, size-left G K k)));
-  from_right = λ K k e. (le-out K G e).from_right K k (refl_within n K (omega (arith, size-right G K k)));
-}
-
 pub le-refl : (G : Tree) → G ≤ᵍ G
-le-refl G = refl_within (suc (size G)) G (omega arith)
-
-trans_within : (n : ℕ) (G H K : Tree) → size G + size H + size K < n → G ≤ᵍ H → H ≤ᵍ K → G ≤ᵍ K
-trans_within zero G H K a p q = absurd (omega arith)
-trans_within (suc n) G H K a p q = le-in G K record {
-  from_left = λ L l e. (le-out G H p).from_left L l (trans_within n H K L (omega (arith, size-left G L l)) q e);
-  from_right = λ R r e. (le-out H K q).from_right R r (trans_within n R G H (omega (arith, size-right K R r)) e p);
-}
+le-refl = by_measure size (λ G. G ≤ᵍ G) (λ G ih. le-in G G record {
+  from_left = λ K k e. (le-out G K e).from_left K k (ih K (size-left G K k));
+  from_right = λ K k e. (le-out K G e).from_right K k (ih K (size-right G K k));
+})
 
 pub le-trans : (G H K : Tree) → G ≤ᵍ H → H ≤ᵍ K → G ≤ᵍ K
-le-trans G H K = trans_within (suc (size G + size H + size K)) G H K (omega arith)
+le-trans = by_three_sizes (λ G H K. G ≤ᵍ H → H ≤ᵍ K → G ≤ᵍ K) (λ G H K ih p q. le-in G K record {
+  from_left = λ L l e. (le-out G H p).from_left L l (ih H K L (omega (arith, size-left G L l)) q e);
+  from_right = λ R r e. (le-out H K q).from_right R r (ih R G H (omega (arith, size-right K R r)) e p);
+})
 
 -- equal as games
 pub same-refl : (G : Tree) → G ≡ᵍ G

@@ -1,9 +1,9 @@
 -- Sums: their options, and that they keep the order.
-use Rattle.std.proofs.Common.{ℕ, zero, suc, ◌+◌, ◌<◌, ◌≡◌, ◌⊎◌, arith, refl, inl, inr, ◌∙◌, ap, ap₂}
+use Rattle.std.proofs.Common.{◌+◌, ◌<◌, ◌≡◌, ◌⊎◌, arith, refl, inl, inr, ◌∙◌, ap, ap₂}
 use Rattle.short_games.specs.Tree.{Tree, Trees, node, none, more, left, right, Has, size, sizes, ◌then◌, neg, neg_each}
 use Rattle.short_games.specs.Order.{◌≡ᵍ◌, ◌≤ᵍ◌}
 use Rattle.short_games.specs.Sum.{◌+ᵍ◌, each_plus, plus_each, sum_of_each}
-use Rattle.short_games.proofs.OrderLaws.{le-out, le-in, le-refl, le-trans, same-refl, size-left, size-right}
+use Rattle.short_games.proofs.OrderLaws.{by_measure, by_sizes, by_three_sizes, le-out, le-in, le-refl, le-trans, same-refl, size-left, size-right}
 
 pub each-is : (ls rs Ms : Trees) → sum_of_each (λ K. each_plus ls K) (λ K. each_plus rs K) Ms ≡ plus_each (node ls rs) Ms
 unfolding ◌+ᵍ◌ plus_each
@@ -61,17 +61,17 @@ pub data InSum (G H : Tree) (Gs Hs : Trees) : Tree → Type 0 where
   in_first : (K : Tree) → Has Gs K → InSum G H Gs Hs (K +ᵍ H)
   in_second : (K : Tree) → Has Hs K → InSum G H Gs Hs (G +ᵍ K)
 
-pub left_of_sum : (G H X : Tree) → Has (left (G +ᵍ H)) X → InSum G H (left G) (left H) X
-left_of_sum G H X h = elim (then-has _ _ X (rw (plus-left G H) at h)) [
-  | inl a ↦ (let r = each_plus-has (left G) H X a in rw r.2 (in_first r.0 r.1))
-  | inr b ↦ (let r = plus_each-has G (left H) X b in rw r.2 (in_second r.0 r.1))
+of_sum : (G H : Tree) (Gs Hs : Trees) (X : Tree) → Has (each_plus Gs H then plus_each G Hs) X → InSum G H Gs Hs X
+of_sum G H Gs Hs X h = elim (then-has _ _ X h) [
+  | inl a ↦ (let r = each_plus-has Gs H X a in rw r.2 (in_first r.0 r.1))
+  | inr b ↦ (let r = plus_each-has G Hs X b in rw r.2 (in_second r.0 r.1))
 ]
 
+pub left_of_sum : (G H X : Tree) → Has (left (G +ᵍ H)) X → InSum G H (left G) (left H) X
+left_of_sum G H X h = of_sum G H (left G) (left H) X (rw (plus-left G H) at h)
+
 pub right_of_sum : (G H X : Tree) → Has (right (G +ᵍ H)) X → InSum G H (right G) (right H) X
-right_of_sum G H X h = elim (then-has _ _ X (rw (plus-right G H) at h)) [
-  | inl a ↦ (let r = each_plus-has (right G) H X a in rw r.2 (in_first r.0 r.1))
-  | inr b ↦ (let r = plus_each-has G (right H) X b in rw r.2 (in_second r.0 r.1))
-]
+right_of_sum G H X h = of_sum G H (right G) (right H) X (rw (plus-right G H) at h)
 
 pub left_in_first : (G H K : Tree) → Has (left G) K → Has (left (G +ᵍ H)) (K +ᵍ H)
 left_in_first G H K h = rw (plus-left G H) (has-then_left _ _ _ (has-each_plus (left G) H K h))
@@ -97,9 +97,9 @@ pub SameOrder : (G H K : Tree) → Type 0
 SameOrder G H K = (G ≤ᵍ H → G +ᵍ K ≤ᵍ H +ᵍ K) × (G +ᵍ K ≤ᵍ H +ᵍ K → G ≤ᵍ H)
 
 -- what holds of every three games with fewer nodes than these, holds of these
-plus_step : (n : ℕ) → ((G H K : Tree) → size G + size H + size K < n → SameOrder G H K) → (G H K : Tree) → size G + size H + size K < suc n → SameOrder G H K
+plus_step : (G H K : Tree) → ((A B C : Tree) → size A + size B + size C < size G + size H + size K → SameOrder A B C) → SameOrder G H K
 unfolding SameOrder
-plus_step n ih G H K a = (
+plus_step G H K ih = (
   λ p. le-in _ _ record {
     from_left = λ X h e. from_left_of p X (left_of_sum G K X h) e;
     from_right = λ X h e. from_right_of p X (right_of_sum H K X h) e;
@@ -118,12 +118,8 @@ plus_step n ih G H K a = (
     from_right_of p X (in_first R r) e = (le-out G H p).from_right R r ((ih R G K (omega (arith, size-right H R r))).1 e)
     from_right_of p X (in_second R r) e = not_right_le (G +ᵍ K) (G +ᵍ R) (right_in_second G K R r) (le-trans _ _ _ ((ih G H R (omega (arith, size-right K R r))).0 p) e)
 
-plus_within : (n : ℕ) (G H K : Tree) → size G + size H + size K < n → SameOrder G H K
-plus_within zero G H K a = absurd (omega arith)
-plus_within (suc n) G H K a = plus_step n (plus_within n) G H K a
-
 pub same_order : (G H K : Tree) → SameOrder G H K
-same_order G H K = plus_within (suc (size G + size H + size K)) G H K (omega arith)
+same_order = by_three_sizes SameOrder plus_step
 
 pub plus-le : (G H K : Tree) → G ≤ᵍ H → G +ᵍ K ≤ᵍ H +ᵍ K
 unfolding SameOrder
@@ -133,8 +129,8 @@ pub plus-cancel : (G H K : Tree) → G +ᵍ K ≤ᵍ H +ᵍ K → G ≤ᵍ H
 unfolding SameOrder
 plus-cancel G H K = (same_order G H K).1
 
-comm_step : (n : ℕ) → ((G H : Tree) → size G + size H < n → G +ᵍ H ≤ᵍ H +ᵍ G) → (G H : Tree) → size G + size H < suc n → G +ᵍ H ≤ᵍ H +ᵍ G
-comm_step n ih G H a = le-in _ _ record {
+comm_step : (G H : Tree) → ((A B : Tree) → size A + size B < size G + size H → A +ᵍ B ≤ᵍ B +ᵍ A) → G +ᵍ H ≤ᵍ H +ᵍ G
+comm_step G H ih = le-in _ _ record {
   from_left = λ X h e. from_left_of X (left_of_sum G H X h) e;
   from_right = λ X h e. from_right_of X (right_of_sum H G X h) e;
 }
@@ -147,12 +143,8 @@ comm_step n ih G H a = le-in _ _ record {
     from_right_of X (in_first R r) e = not_right_le _ (G +ᵍ R) (right_in_second G H R r) (le-trans _ _ _ (ih G R (omega (arith, size-right H R r))) e)
     from_right_of X (in_second R r) e = not_right_le _ (R +ᵍ H) (right_in_first G H R r) (le-trans _ _ _ (ih R H (omega (arith, size-right G R r))) e)
 
-comm_within : (n : ℕ) (G H : Tree) → size G + size H < n → G +ᵍ H ≤ᵍ H +ᵍ G
-comm_within zero G H a = absurd (omega arith)
-comm_within (suc n) G H a = comm_step n (comm_within n) G H a
-
 pub plus-comm : (G H : Tree) → G +ᵍ H ≤ᵍ H +ᵍ G
-plus-comm G H = comm_within (suc (size G + size H)) G H (omega arith)
+plus-comm = by_sizes (λ G H. G +ᵍ H ≤ᵍ H +ᵍ G) comm_step
 
 pub plus-le_both : (G H K M : Tree) → G ≤ᵍ H → K ≤ᵍ M → G +ᵍ K ≤ᵍ H +ᵍ M
 plus-le_both G H K M p q = le-trans _ _ _ (plus-le G H K p) (le-trans _ _ _ (plus-comm H K) (le-trans _ _ _ (plus-le K M H q) (plus-comm M H)))
@@ -181,29 +173,6 @@ neg-right (node ls rs) = refl
 -- the game without options
 abbrev pub nought : Tree
 nought = node none none
-
-minus_step : (n : ℕ) → ((G : Tree) → size G < n → (G +ᵍ neg G ≤ᵍ nought) × (nought ≤ᵍ G +ᵍ neg G)) → (G : Tree) → size G < suc n → (G +ᵍ neg G ≤ᵍ nought) × (nought ≤ᵍ G +ᵍ neg G)
-minus_step n ih G a = (
-  le-in _ _ record { from_left = λ X h e. from_left_of X (left_of_sum G (neg G) X h) e; from_right = λ X h e. elim h [ ] },
-  le-in _ _ record { from_left = λ X h e. elim h [ ]; from_right = λ X h e. from_right_of X (right_of_sum G (neg G) X h) e },
-)
-  where
-    from_left_of : (X : Tree) → InSum G (neg G) (left G) (left (neg G)) X → nought ≤ᵍ X → ⊥
-    from_left_of X (in_first L l) e = (le-out _ _ e).from_right (L +ᵍ neg L) (right_in_second L (neg G) (neg L) (rw (neg-right G) (has-neg_each (left G) L l))) (ih L (omega (arith, size-left G L l))).0
-    from_left_of X (in_second N h) e = let r = neg_each-has (right G) N (rw (neg-left G) at h) in
-        (le-out _ _ (rw r.2 at e)).from_right (r.0 +ᵍ neg r.0) (right_in_first G (neg r.0) r.0 r.1) (ih r.0 (omega (arith, size-right G r.0 r.1))).0
-
-    from_right_of : (X : Tree) → InSum G (neg G) (right G) (right (neg G)) X → X ≤ᵍ nought → ⊥
-    from_right_of X (in_first R r) e = (le-out _ _ e).from_left (R +ᵍ neg R) (left_in_second R (neg G) (neg R) (rw (neg-left G) (has-neg_each (right G) R r))) (ih R (omega (arith, size-right G R r))).1
-    from_right_of X (in_second N h) e = let r = neg_each-has (left G) N (rw (neg-right G) at h) in
-        (le-out _ _ (rw r.2 at e)).from_left (r.0 +ᵍ neg r.0) (left_in_first G (neg r.0) r.0 r.1) (ih r.0 (omega (arith, size-left G r.0 r.1))).1
-
-minus_within : (n : ℕ) (G : Tree) → size G < n → (G +ᵍ neg G ≤ᵍ nought) × (nought ≤ᵍ G +ᵍ neg G)
-minus_within zero G a = absurd (omega arith)
-minus_within (suc n) G a = minus_step n (minus_within n) G a
-
-pub plus-neg : (G : Tree) → (G +ᵍ neg G ≤ᵍ nought) × (nought ≤ᵍ G +ᵍ neg G)
-plus-neg G = minus_within (suc (size G)) G (omega arith)
 
 -- lists of options
 then-none : (As : Trees) → As then none ≡ As
@@ -258,23 +227,19 @@ mutual
   sizes-neg none = refl
   sizes-neg (more G Gs) = omega (arith, size-neg G, sizes-neg Gs)
 
-neg_step : (n : ℕ) → ((G H : Tree) → size G + size H < n → G ≤ᵍ H → neg H ≤ᵍ neg G) → (G H : Tree) → size G + size H < suc n → G ≤ᵍ H → neg H ≤ᵍ neg G
-neg_step n ih G H a p = le-in _ _ record {
+neg_step : (G H : Tree) → ((A B : Tree) → size A + size B < size G + size H → A ≤ᵍ B → neg B ≤ᵍ neg A) → G ≤ᵍ H → neg H ≤ᵍ neg G
+neg_step G H ih p = le-in _ _ record {
   from_left = λ X h e. (let r = neg_each-has (right H) X (rw (neg-left H) at h) in
       (le-out G H p).from_right r.0 r.1 (back G r.0 (omega (arith, size-right H r.0 r.1)) (rw r.2 at e)));
   from_right = λ X h e. (let r = neg_each-has (left G) X (rw (neg-right G) at h) in
       (le-out G H p).from_left r.0 r.1 (back r.0 H (omega (arith, size-left G r.0 r.1)) (rw r.2 at e)));
 }
   where
-    back : (A B : Tree) → size A + size B < n → neg A ≤ᵍ neg B → B ≤ᵍ A
+    back : (A B : Tree) → size A + size B < size G + size H → neg A ≤ᵍ neg B → B ≤ᵍ A
     back A B b e = rw (neg-neg A, neg-neg B) at (ih (neg A) (neg B) (omega (arith, size-neg A, size-neg B)) e)
 
-neg_within : (n : ℕ) (G H : Tree) → size G + size H < n → G ≤ᵍ H → neg H ≤ᵍ neg G
-neg_within zero G H a p = absurd (omega arith)
-neg_within (suc n) G H a p = neg_step n (neg_within n) G H a p
-
 pub neg-le : (G H : Tree) → G ≤ᵍ H → neg H ≤ᵍ neg G
-neg-le G H = neg_within (suc (size G + size H)) G H (omega arith)
+neg-le = by_sizes (λ G H. G ≤ᵍ H → neg H ≤ᵍ neg G) neg_step
 
 pub each_plus-then : (As Bs : Trees) (H : Tree) → each_plus (As then Bs) H ≡ each_plus As H then each_plus Bs H
 unfolding ◌+ᵍ◌
@@ -302,8 +267,8 @@ assoc_third G H none e = refl
 assoc_third G H (more K Ks) e = ap₂ more (e K (inl refl)) (assoc_third G H Ks (λ X x. e X (inr x)))
 
 -- sums brought in another order of brackets are the same tree
-assoc_step : (n : ℕ) → ((G H K : Tree) → size G + size H + size K < n → (G +ᵍ H) +ᵍ K ≡ G +ᵍ (H +ᵍ K)) → (G H K : Tree) → size G + size H + size K < suc n → (G +ᵍ H) +ᵍ K ≡ G +ᵍ (H +ᵍ K)
-assoc_step n ih G H K a = tree-same _ _ (options left plus-left size-left) (options right plus-right size-right)
+assoc_step : (G H K : Tree) → ((A B C : Tree) → size A + size B + size C < size G + size H + size K → (A +ᵍ B) +ᵍ C ≡ A +ᵍ (B +ᵍ C)) → (G +ᵍ H) +ᵍ K ≡ G +ᵍ (H +ᵍ K)
+assoc_step G H K ih = tree-same _ _ (options left plus-left size-left) (options right plus-right size-right)
   where
     options : (side : Tree → Trees) → ((G H : Tree) → side (G +ᵍ H) ≡ each_plus (side G) H then plus_each G (side H)) → ((G X : Tree) → Has (side G) X → size X < size G) → side ((G +ᵍ H) +ᵍ K) ≡ side (G +ᵍ (H +ᵍ K))
     options side is small = simp (
@@ -316,12 +281,8 @@ assoc_step n ih G H K a = tree-same _ _ (options left plus-left size-left) (opti
       assoc_third G H (side K) (λ X x. ih G H X (omega (arith, small K X x))),
     )
 
-assoc_within : (n : ℕ) (G H K : Tree) → size G + size H + size K < n → (G +ᵍ H) +ᵍ K ≡ G +ᵍ (H +ᵍ K)
-assoc_within zero G H K a = absurd (omega arith)
-assoc_within (suc n) G H K a = assoc_step n (assoc_within n) G H K a
-
 pub plus-assoc : (G H K : Tree) → (G +ᵍ H) +ᵍ K ≡ G +ᵍ (H +ᵍ K)
-plus-assoc G H K = assoc_within (suc (size G + size H + size K)) G H K (omega arith)
+plus-assoc = by_three_sizes (λ G H K. (G +ᵍ H) +ᵍ K ≡ G +ᵍ (H +ᵍ K)) assoc_step
 
 pub neg-then : (As Bs : Trees) → neg_each (As then Bs) ≡ neg_each As then neg_each Bs
 unfolding neg
@@ -338,31 +299,35 @@ unfolding neg plus_each
 neg-plus_each G none e = refl
 neg-plus_each G (more H Hs) e = ap₂ more (e H (inl refl)) (neg-plus_each G Hs (λ X x. e X (inr x)))
 
-neg_plus_step : (n : ℕ) → ((G H : Tree) → size G + size H < n → neg (G +ᵍ H) ≡ neg G +ᵍ neg H) → (G H : Tree) → size G + size H < suc n → neg (G +ᵍ H) ≡ neg G +ᵍ neg H
-neg_plus_step n ih G H a = tree-same _ _
-    (simp (
-      neg-left,
-      plus-left,
-      plus-right,
-      neg-then,
-      neg-each_plus (right G) H (λ X x. ih X H (omega (arith, size-right G X x))),
-      neg-plus_each G (right H) (λ X x. ih G X (omega (arith, size-right H X x))),
-    ))
-    (simp (
-      neg-right,
-      plus-left,
-      plus-right,
-      neg-then,
-      neg-each_plus (left G) H (λ X x. ih X H (omega (arith, size-left G X x))),
-      neg-plus_each G (left H) (λ X x. ih G X (omega (arith, size-left H X x))),
-    ))
+neg_plus_step : (G H : Tree) → ((A B : Tree) → size A + size B < size G + size H → neg (A +ᵍ B) ≡ neg A +ᵍ neg B) → neg (G +ᵍ H) ≡ neg G +ᵍ neg H
+neg_plus_step G H ih = tree-same _ _
+    (simp (neg-left, plus-left, plus-right, neg-then, firsts (right G) (size-right G), seconds (right H) (size-right H)))
+    (simp (neg-right, plus-left, plus-right, neg-then, firsts (left G) (size-left G), seconds (left H) (size-left H)))
+  where
+    firsts : (Gs : Trees) → ((X : Tree) → Has Gs X → size X < size G) → neg_each (each_plus Gs H) ≡ each_plus (neg_each Gs) (neg H)
+    firsts Gs small = neg-each_plus Gs H (λ X x. ih X H (omega (arith, small X x)))
 
-neg_plus_within : (n : ℕ) (G H : Tree) → size G + size H < n → neg (G +ᵍ H) ≡ neg G +ᵍ neg H
-neg_plus_within zero G H a = absurd (omega arith)
-neg_plus_within (suc n) G H a = neg_plus_step n (neg_plus_within n) G H a
+    seconds : (Hs : Trees) → ((X : Tree) → Has Hs X → size X < size H) → neg_each (plus_each G Hs) ≡ plus_each (neg G) (neg_each Hs)
+    seconds Hs small = neg-plus_each G Hs (λ X x. ih G X (omega (arith, small X x)))
 
 pub neg-plus : (G H : Tree) → neg (G +ᵍ H) ≡ neg G +ᵍ neg H
-neg-plus G H = neg_plus_within (suc (size G + size H)) G H (omega arith)
+neg-plus = by_sizes (λ G H. neg (G +ᵍ H) ≡ neg G +ᵍ neg H) neg_plus_step
+
+-- a game and its negative come to nothing: no Left option of the sum is at least that, and by turning no Right one at most
+minus_step : (G : Tree) → ((A : Tree) → size A < size G → A +ᵍ neg A ≤ᵍ nought) → G +ᵍ neg G ≤ᵍ nought
+minus_step G ih = le-in _ _ record { from_left = λ X h e. from_left_of X (left_of_sum G (neg G) X h) e; from_right = λ X h e. elim h [ ] }
+  where
+    from_left_of : (X : Tree) → InSum G (neg G) (left G) (left (neg G)) X → nought ≤ᵍ X → ⊥
+    from_left_of X (in_first L l) e = (le-out _ _ e).from_right (L +ᵍ neg L) (right_in_second L (neg G) (neg L) (rw (neg-right G) (has-neg_each (left G) L l))) (ih L (size-left G L l))
+    from_left_of X (in_second N h) e = let r = neg_each-has (right G) N (rw (neg-left G) at h) in
+        (le-out _ _ (rw r.2 at e)).from_right (r.0 +ᵍ neg r.0) (right_in_first G (neg r.0) r.0 r.1) (ih r.0 (size-right G r.0 r.1))
+
+pub plus-neg : (G : Tree) → (G +ᵍ neg G ≤ᵍ nought) × (nought ≤ᵍ G +ᵍ neg G)
+unfolding neg
+plus-neg G = (under, le-trans _ _ _ (rw (neg-plus G (neg G), neg-neg G) at (neg-le _ _ under)) (plus-comm (neg G) G))
+  where
+    under : G +ᵍ neg G ≤ᵍ nought
+    under = by_measure size (λ A. A +ᵍ neg A ≤ᵍ nought) minus_step G
 
 -- sums of equal games
 pub same-plus : (G H K M : Tree) → G ≡ᵍ H → K ≡ᵍ M → (G +ᵍ K) ≡ᵍ (H +ᵍ M)
