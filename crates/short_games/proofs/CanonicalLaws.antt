@@ -1,9 +1,9 @@
 -- Two canonical trees that are equal as games are one tree.
-use Rattle.std.proofs.Common.{ℕ, zero, suc, ◌+◌, ◌<◌, ◌≡◌, arith, refl, inl, inr, sym, ◌∙◌, ap₂, subst}
+use Rattle.std.proofs.Common.{◌+◌, ◌<◌, ◌≤◌, ◌≡◌, arith, refl, inl, inr, sym, ◌∙◌, ap₂, subst}
 use Rattle.short_games.specs.Tree.{Tree, Trees, node, none, more, left, right, Has, size}
 use Rattle.short_games.specs.Order.{◌≤ᵍ◌, by_left, by_right}
 use Rattle.short_games.specs.Canonical.{Ascends, IsReduced, IsCanonical, AreCanonical}
-use Rattle.short_games.proofs.OrderLaws.{le-out, le-trans, not-le, size-left, size-right}
+use Rattle.short_games.proofs.OrderLaws.{by_sizes, le-out, le-trans, not-le, size-left, size-right}
 use Rattle.short_games.proofs.SumLaws.{tree-same}
 
 module _ (Before : Tree → Tree → Type 0) (irreflexive : (G : Tree) → Before G G → ⊥) (transitive : (G H K : Tree) → Before G H → Before H K → Before G K) where
@@ -49,10 +49,11 @@ module _ (Before : Tree → Tree → Type 0) (irreflexive : (G : Tree) → Befor
         ]
       ]
 
-  unique_step : (n : ℕ) → ((G H : Tree) → size G + size H < n → IsCanonical Before G → IsCanonical Before H → G ≤ᵍ H → H ≤ᵍ G → G ≡ H) → (G H : Tree) → size G + size H < suc n → IsCanonical Before G → IsCanonical Before H → G ≤ᵍ H → H ≤ᵍ G → G ≡ H
-  unique_step n ih G H a c d p q = tree-same G H
-      (same_list _ _ (reduced G c).left_ascends (reduced H d).left_ascends (lefts G H a c d p q) (lefts H G (omega arith) d c q p))
-      (same_list _ _ (reduced G c).right_ascends (reduced H d).right_ascends (rights G H a c d p q) (rights H G (omega arith) d c q p))
+  unique_step : (G H : Tree) → ((A B : Tree) → size A + size B < size G + size H → IsCanonical Before A → IsCanonical Before B → A ≤ᵍ B → B ≤ᵍ A → A ≡ B)
+      → IsCanonical Before G → IsCanonical Before H → G ≤ᵍ H → H ≤ᵍ G → G ≡ H
+  unique_step G H ih c d p q = tree-same G H
+      (same_list _ _ (reduced G c).left_ascends (reduced H d).left_ascends (lefts G H (omega arith) c d p q) (lefts H G (omega arith) d c q p))
+      (same_list _ _ (reduced G c).right_ascends (reduced H d).right_ascends (rights G H (omega arith) c d p q) (rights H G (omega arith) d c q p))
     where
       -- a Left option of the one is at most one of the other
       above_left : (A B : Tree) → IsCanonical Before A → A ≤ᵍ B → B ≤ᵍ A → (L : Tree) → Has (left A) L → (M : Tree) × Has (left B) M × (L ≤ᵍ M)
@@ -67,7 +68,7 @@ module _ (Before : Tree → Tree → Type 0) (irreflexive : (G : Tree) → Befor
         | by_right S s e ↦ (S, s, e)
       ]
 
-      lefts : (A B : Tree) → size A + size B < suc n → IsCanonical Before A → IsCanonical Before B → A ≤ᵍ B → B ≤ᵍ A → (L : Tree) → Has (left A) L → Has (left B) L
+      lefts : (A B : Tree) → size A + size B ≤ size G + size H → IsCanonical Before A → IsCanonical Before B → A ≤ᵍ B → B ≤ᵍ A → (L : Tree) → Has (left A) L → Has (left B) L
       lefts A B a c d p q L l =
           let m = above_left A B c p q L l in
           let k = above_left B A d q p m.0 m.1 in
@@ -75,7 +76,7 @@ module _ (Before : Tree → Tree → Type 0) (irreflexive : (G : Tree) → Befor
           let one : L ≡ m.0 = ih L m.0 (omega (arith, size-left A L l, size-left B m.0 m.1)) (canonical-left A L c l) (canonical-left B m.0 d m.1) m.2 (subst (λ z. m.0 ≤ᵍ z) (sym same) k.2) in
           subst (λ z. Has (left B) z) (sym one) m.1
 
-      rights : (A B : Tree) → size A + size B < suc n → IsCanonical Before A → IsCanonical Before B → A ≤ᵍ B → B ≤ᵍ A → (R : Tree) → Has (right A) R → Has (right B) R
+      rights : (A B : Tree) → size A + size B ≤ size G + size H → IsCanonical Before A → IsCanonical Before B → A ≤ᵍ B → B ≤ᵍ A → (R : Tree) → Has (right A) R → Has (right B) R
       rights A B a c d p q R r =
           let m = below_right A B c p q R r in
           let k = below_right B A d q p m.0 m.1 in
@@ -83,9 +84,5 @@ module _ (Before : Tree → Tree → Type 0) (irreflexive : (G : Tree) → Befor
           let one : R ≡ m.0 = ih R m.0 (omega (arith, size-right A R r, size-right B m.0 m.1)) (canonical-right A R c r) (canonical-right B m.0 d m.1) (subst (λ z. z ≤ᵍ m.0) same k.2) m.2 in
           subst (λ z. Has (right B) z) (sym one) m.1
 
-  unique_within : (n : ℕ) (G H : Tree) → size G + size H < n → IsCanonical Before G → IsCanonical Before H → G ≤ᵍ H → H ≤ᵍ G → G ≡ H
-  unique_within zero G H a c d p q = absurd (omega arith)
-  unique_within (suc n) G H a c d p q = unique_step n (unique_within n) G H a c d p q
-
   pub canonical-unique : (G H : Tree) → IsCanonical Before G → IsCanonical Before H → G ≤ᵍ H → H ≤ᵍ G → G ≡ H
-  canonical-unique G H = unique_within (suc (size G + size H)) G H (omega arith)
+  canonical-unique = by_sizes (λ G H. IsCanonical Before G → IsCanonical Before H → G ≤ᵍ H → H ≤ᵍ G → G ≡ H) unique_step

@@ -1,16 +1,17 @@
 -- What may be done to a form: options exchanged for better ones, reversible options replaced, numbers found, numbers added.
-use Rattle.std.proofs.Common.{ℕ, zero, suc, ◌<◌, ◌≡◌, ◌⊎◌, arith, refl, inl, inr, sym, ◌∙◌, ap, subst, ℤ, pos, negsuc, ◌+ℤ◌, ◌<ℤ◌, neg_ℤ, false}
+use Rattle.std.proofs.Common.{ℕ, zero, suc, ◌<◌, ◌≡◌, arith, refl, inl, inr, sym, ◌∙◌, ap, subst, ℤ, pos, negsuc, ◌+ℤ◌, ◌<ℤ◌, neg_ℤ, false}
 use Rattle.std.proofs.lemmas.Int.{ints}
 use Rattle.std.proofs.lemmas.Bool.{cases_Bool}
 use Rattle.short_games.specs.Tree.{Tree, Trees, node, none, more, left, right, Has, size, neg, neg_each}
 use Rattle.short_games.specs.Order.{◌≤ᵍ◌, by_left, by_right}
 use Rattle.short_games.specs.Sum.{◌+ᵍ◌, each_plus}
 use Rattle.short_games.specs.Number.{num, IsNumber, half, is_even, whole, count_tree}
+use Rattle.short_games.specs.Simplest.{FitsForm}
 use Rattle.short_games.specs.Canonical.{Ascends, IsReduced, IsCanonical, AreCanonical}
-use Rattle.short_games.proofs.OrderLaws.{le-in, le-refl, le-trans, size-left, size-right, not-le, le-or_not}
-use Rattle.short_games.proofs.SumLaws.{plus-le, plus-le_both, plus-assoc, left_of_sum, right_of_sum, left_in_first, right_in_first, InSum, has-each_plus, each_plus-has, not_le_left, not_right_le, neg-neg, neg-left, neg-right, has-neg_each}
+use Rattle.short_games.proofs.OrderLaws.{by_measure, le-in, le-refl, le-trans, size-left, size-right, not-le, le-or_not}
+use Rattle.short_games.proofs.SumLaws.{left_of_sum, right_of_sum, left_in_first, right_in_first, InSum, has-each_plus, each_plus-has, not_le_left, not_right_le, neg-neg, neg-right, has-neg_each}
 use Rattle.short_games.proofs.SumLaws.InSum.{in_first, in_second}
-use Rattle.short_games.proofs.NumberLaws.{num-left, num-right, num-le, num-lt, num-double, num-even, num-odd, num-plus_le, half-even, half-odd, neg-num}
+use Rattle.short_games.proofs.NumberLaws.{num-turned, num-shift, num-left, num-right, num-le, num-lt, num-double, num-even, num-odd, half-even, half-odd, neg-num}
 use Rattle.short_games.proofs.CanonicalLaws.{canonical-unique}
 
 -- a game whose Left options are each at most one of another's, and the other way round on the right
@@ -21,39 +22,32 @@ by_better G H f g = le-in G H record {
 }
 
 -- a game with a number between its options is a number
-number_step : (n : ℕ) (G : Tree) → ((e : ℕ) (z : ℤ) → size (num e z) < n → ((L : Tree) → Has (left G) L → num e z ≤ᵍ L → ⊥) → ((R : Tree) → Has (right G) R → R ≤ᵍ num e z → ⊥) → IsNumber G)
-    → (e : ℕ) (z : ℤ) → size (num e z) < suc n → ((L : Tree) → Has (left G) L → num e z ≤ᵍ L → ⊥) → ((R : Tree) → Has (right G) R → R ≤ᵍ num e z → ⊥) → IsNumber G
-number_step n G ih e z a f g = by_tests (le-or_not G (num e z)) (le-or_not (num e z) G)
+number_step : (G : Tree) (e : ℕ) (z : ℤ) → ((y : ℤ) → size (num e y) < size (num e z) → FitsForm G (num e y) → IsNumber G) → FitsForm G (num e z) → IsNumber G
+number_step G e z ih f = elim (le-or_not G (num e z)) [
+  | inr h ↦ higher h
+  | inl p ↦ elim (le-or_not (num e z) G) [ inl q ↦ (e, z, p, q) | inr h ↦ lower h ]
+]
   where
     higher : (G ≤ᵍ num e z → ⊥) → IsNumber G
     higher h = elim (not-le G (num e z) h) [
-      | by_left L l y ↦ absurd (f L l y)
-      | by_right X x y ↦ (let r = num-right e z X x in
-          ih e r.0 (omega (arith, size-right (num e z) X x, ap size r.2, a))
-          (λ L l w. f L l (le-trans _ _ _ (num-le e z r.0 (omega (arith, ints, r.1))) w))
-          (λ R k w. not_right_le G R k (le-trans R (num e r.0) G w (subst (λ t. t ≤ᵍ G) r.2 y))))
+      | by_left L l y ↦ absurd (f.over_left L l y)
+      | by_right X x y ↦ (let r = num-right e z X x in ih r.0 (omega (arith, size-right (num e z) X x, ap size r.2)) record {
+        over_left = λ L l w. f.over_left L l (le-trans _ _ _ (num-le e z r.0 (omega (arith, ints, r.1))) w);
+        under_right = λ R k w. not_right_le G R k (le-trans R (num e r.0) G w (subst (λ t. t ≤ᵍ G) r.2 y));
+      })
     ]
 
     lower : (num e z ≤ᵍ G → ⊥) → IsNumber G
     lower h = elim (not-le (num e z) G h) [
-      | by_left X x y ↦ (let r = num-left e z X x in
-          ih e r.0 (omega (arith, size-left (num e z) X x, ap size r.2, a))
-          (λ L l w. not_le_left G L l (le-trans G (num e r.0) L (subst (λ t. G ≤ᵍ t) r.2 y) w))
-          (λ R k w. g R k (le-trans _ _ _ w (num-le e r.0 z (omega (arith, ints, r.1))))))
-      | by_right R r y ↦ absurd (g R r y)
+      | by_left X x y ↦ (let r = num-left e z X x in ih r.0 (omega (arith, size-left (num e z) X x, ap size r.2)) record {
+        over_left = λ L l w. not_le_left G L l (le-trans G (num e r.0) L (subst (λ t. G ≤ᵍ t) r.2 y) w);
+        under_right = λ R k w. f.under_right R k (le-trans _ _ _ w (num-le e r.0 z (omega (arith, ints, r.1))));
+      })
+      | by_right R r y ↦ absurd (f.under_right R r y)
     ]
 
-    by_tests : (G ≤ᵍ num e z) ⊎ (G ≤ᵍ num e z → ⊥) → (num e z ≤ᵍ G) ⊎ (num e z ≤ᵍ G → ⊥) → IsNumber G
-    by_tests (inl p) (inl q) = (e, z, p, q)
-    by_tests (inr h) c = higher h
-    by_tests (inl p) (inr h) = lower h
-
-number_within : (n : ℕ) (G : Tree) (e : ℕ) (z : ℤ) → size (num e z) < n → ((L : Tree) → Has (left G) L → num e z ≤ᵍ L → ⊥) → ((R : Tree) → Has (right G) R → R ≤ᵍ num e z → ⊥) → IsNumber G
-number_within zero G e z a f g = absurd (omega arith)
-number_within (suc n) G e z a f g = number_step n G (number_within n G) e z a f g
-
 pub number_between : (G : Tree) (e : ℕ) (z : ℤ) → ((L : Tree) → Has (left G) L → num e z ≤ᵍ L → ⊥) → ((R : Tree) → Has (right G) R → R ≤ᵍ num e z → ⊥) → IsNumber G
-number_between G e z = number_within (suc (size (num e z))) G e z (omega arith)
+number_between G e z f g = by_measure (λ y. size (num e y)) (λ y. FitsForm G (num e y) → IsNumber G) (number_step G e) z record { over_left = f; under_right = g }
 
 -- a number has at most one option on each side, and an answer to it goes past the number
 one_left : (e : ℕ) (m : ℤ) (A B : Tree) → Has (left (num e m)) A → Has (left (num e m)) B → A ≡ B
@@ -93,22 +87,11 @@ answer_left (suc e) m L R l r = elim (cases_Bool (is_even m)) [
     odd f (inr i) = absurd i
 
 one_right : (e : ℕ) (m : ℤ) (A B : Tree) → Has (right (num e m)) A → Has (right (num e m)) B → A ≡ B
-one_right e m A B a b = ap-neg (one_left e (neg_ℤ m) (neg A) (neg B) (turned A a) (turned B b))
-  where
-    turned : (X : Tree) → Has (right (num e m)) X → Has (left (num e (neg_ℤ m))) (neg X)
-    turned X x = subst (λ t. Has (left t) (neg X)) (neg-num e m) (subst (λ t. Has t (neg X)) (sym (neg-left (num e m))) (has-neg_each (right (num e m)) X x))
-
-    ap-neg : neg A ≡ neg B → A ≡ B
-    ap-neg p = sym (neg-neg A) ∙ ap neg p ∙ neg-neg B
+one_right e m A B a b = sym (neg-neg A) ∙ ap neg (one_left e (neg_ℤ m) (neg A) (neg B) (num-turned e m A a) (num-turned e m B b)) ∙ neg-neg B
 
 answer_right : (e : ℕ) (m : ℤ) (R L : Tree) → Has (right (num e m)) R → Has (left R) L → (k : ℤ) × (k <ℤ m) × (L ≡ num e k)
-answer_right e m R L r l = let k = answer_left e (neg_ℤ m) (neg R) (neg L) turned turned' in (neg_ℤ k.0, omega (arith, ints, k.1), sym (neg-neg L) ∙ ap neg k.2 ∙ neg-num e k.0)
-  where
-    turned : Has (left (num e (neg_ℤ m))) (neg R)
-    turned = subst (λ t. Has (left t) (neg R)) (neg-num e m) (subst (λ t. Has t (neg R)) (sym (neg-left (num e m))) (has-neg_each (right (num e m)) R r))
-
-    turned' : Has (right (neg R)) (neg L)
-    turned' = subst (λ t. Has t (neg L)) (sym (neg-right R)) (has-neg_each (left R) L l)
+answer_right e m R L r l = let k = answer_left e (neg_ℤ m) (neg R) (neg L) (num-turned e m R r) (rw (neg-right R) (has-neg_each (left R) L l)) in
+    (neg_ℤ k.0, omega (arith, ints, k.1), sym (neg-neg L) ∙ ap neg k.2 ∙ neg-num e k.0)
 
 abbrev IsShort : Trees → Type 0
 IsShort none = Unit {0}
@@ -160,14 +143,11 @@ module _ (Before : Tree → Tree → Type 0) where
   all-canonical none f = tt
   all-canonical (more G Gs) f = (f G (inl refl), all-canonical Gs (λ X x. f X (inr x)))
 
-  num_within : (n e : ℕ) (m : ℤ) → size (num e m) < n → IsCanonical Before (num e m)
-  num_within zero e m a = absurd (omega arith)
-  num_within (suc n) e m a = canonical-from (num e m) (num-reduced e m (short-ascends _ (short_left e m)) (short-ascends _ (short_right e m)))
-      (all-canonical _ (λ X x. (let k = num-left e m X x in subst (IsCanonical Before) (sym k.2) (num_within n e k.0 (omega (arith, a, size-left (num e m) X x, ap size k.2))))))
-      (all-canonical _ (λ X x. (let k = num-right e m X x in subst (IsCanonical Before) (sym k.2) (num_within n e k.0 (omega (arith, a, size-right (num e m) X x, ap size k.2))))))
-
   pub num-canonical : (e : ℕ) (m : ℤ) → IsCanonical Before (num e m)
-  num-canonical e m = num_within (suc (size (num e m))) e m (omega arith)
+  num-canonical e = by_measure (λ m. size (num e m)) (λ m. IsCanonical Before (num e m)) (λ m ih.
+      canonical-from (num e m) (num-reduced e m (short-ascends _ (short_left e m)) (short-ascends _ (short_right e m)))
+      (all-canonical _ (λ X x. (let k = num-left e m X x in subst (IsCanonical Before) (sym k.2) (ih k.0 (omega (arith, size-left (num e m) X x, ap size k.2))))))
+      (all-canonical _ (λ X x. (let k = num-right e m X x in subst (IsCanonical Before) (sym k.2) (ih k.0 (omega (arith, size-right (num e m) X x, ap size k.2)))))))
 
   -- a canonical tree that is equal to a number is the number's tree
   pub number_tree : (irreflexive : (G : Tree) → Before G G → ⊥) (transitive : (G H K : Tree) → Before G H → Before H K → Before G K) (G : Tree) → IsCanonical Before G → ((e : ℕ) (m : ℤ) → G ≡ num e m → ⊥) → IsNumber G → ⊥
@@ -184,21 +164,19 @@ translation e G m cheap cheap' = (
     lefts : (L : Tree) → InSum G (num e m) (left G) (left (num e m)) L → (M : Tree) × Has (each_plus (left G) (num e m)) M × (L ≤ᵍ M)
     lefts L (in_first K k) = (K +ᵍ num e m, has-each_plus (left G) (num e m) K k, le-refl (K +ᵍ num e m))
     lefts L (in_second K k) = let r = num-left e m K k in
-        let c = cheap (m +ℤ neg_ℤ r.0) (omega (arith, ints, r.1)) in (
+        let c = cheap (m +ℤ neg_ℤ r.0) (omega (arith, ints, r.1)) in
+        (
           c.0 +ᵍ num e m,
           has-each_plus (left G) (num e m) c.0 c.1,
-          le-trans _ _ _ (plus-le G (c.0 +ᵍ num e (m +ℤ neg_ℤ r.0)) K c.2)
-              (subst (λ t. t ≤ᵍ c.0 +ᵍ num e m) (sym (plus-assoc c.0 (num e (m +ℤ neg_ℤ r.0)) K))
-              (plus-le_both c.0 c.0 _ _ (le-refl c.0) (subst (λ t. num e (m +ℤ neg_ℤ r.0) +ᵍ t ≤ᵍ num e m) (sym r.2) (le-trans _ _ _ (num-plus_le e (m +ℤ neg_ℤ r.0) r.0) (num-le e ((m +ℤ neg_ℤ r.0) +ℤ r.0) m (omega (arith, ints))))))),
+          subst (λ t. G +ᵍ t ≤ᵍ c.0 +ᵍ num e m) (sym r.2) (num-shift G c.0 e (m +ℤ neg_ℤ r.0) r.0 m c.2 (omega (arith, ints))),
         )
 
     rights : (S : Tree) → InSum G (num e m) (right G) (right (num e m)) S → (R : Tree) × Has (each_plus (right G) (num e m)) R × (R ≤ᵍ S)
     rights S (in_first K k) = (K +ᵍ num e m, has-each_plus (right G) (num e m) K k, le-refl (K +ᵍ num e m))
     rights S (in_second K k) = let r = num-right e m K k in
-        let c = cheap' (r.0 +ℤ neg_ℤ m) (omega (arith, ints, r.1)) in (
+        let c = cheap' (r.0 +ℤ neg_ℤ m) (omega (arith, ints, r.1)) in
+        (
           c.0 +ᵍ num e m,
           has-each_plus (right G) (num e m) c.0 c.1,
-          le-trans _ _ _ (plus-le c.0 (G +ᵍ num e (r.0 +ℤ neg_ℤ m)) (num e m) c.2)
-              (subst (λ t. t ≤ᵍ G +ᵍ K) (sym (plus-assoc G (num e (r.0 +ℤ neg_ℤ m)) (num e m)))
-              (plus-le_both G G _ _ (le-refl G) (subst (λ t. num e (r.0 +ℤ neg_ℤ m) +ᵍ num e m ≤ᵍ t) (sym r.2) (le-trans _ _ _ (num-plus_le e (r.0 +ℤ neg_ℤ m) m) (num-le e ((r.0 +ℤ neg_ℤ m) +ℤ m) r.0 (omega (arith, ints))))))),
+          subst (λ t. c.0 +ᵍ num e m ≤ᵍ G +ᵍ t) (sym r.2) (num-shift c.0 G e (r.0 +ℤ neg_ℤ m) m r.0 c.2 (omega (arith, ints))),
         )

@@ -12,8 +12,6 @@ pub mod TextOrderLaws
 pub mod ReductionLaws
 pub mod StopLaws
 pub mod AvoidanceLaws
-pub mod SimplestLaws
-pub mod Avoidance
 pub mod IncentiveLaws
 pub mod CanonicalTest
 pub mod Examples

@@ -1,12 +1,12 @@
 -- Numbers: their options, their order, their sums, and games that are none.
-use Rattle.std.proofs.Common.{ℕ, zero, suc, ◌+◌, ◌<◌, ◌≡◌, arith, refl, inl, inr, sym, ◌∙◌, ap, ℤ, pos, negsuc, ◌+ℤ◌, ◌≤ℤ◌, ◌<ℤ◌, neg_ℤ, true, false}
+use Rattle.std.proofs.Common.{ℕ, zero, suc, ◌+◌, ◌<◌, ◌≡◌, arith, refl, inl, inr, sym, subst, ◌∙◌, ap, ℤ, pos, negsuc, ◌+ℤ◌, ◌≤ℤ◌, ◌<ℤ◌, neg_ℤ, true, false}
 use Rattle.std.proofs.lemmas.Bool.{eqb-true, eqb-false, true_from_ne_false, false_from_ne_true, cases_Bool}
 use Rattle.short_games.specs.Tree.{Tree, node, none, more, left, right, Has, size, neg}
 use Rattle.short_games.specs.Order.{◌≤ᵍ◌}
 use Rattle.short_games.specs.Sum.{◌+ᵍ◌}
 use Rattle.short_games.specs.Number.{half, is_even, count_tree, whole, num, IsNumber}
-use Rattle.short_games.proofs.OrderLaws.{le-out, le-in, le-trans, size-left, size-right}
-use Rattle.short_games.proofs.SumLaws.{left_of_sum, InSum, right_in_first, right_in_second, plus-nought, neg-plus, neg-neg, neg-le}
+use Rattle.short_games.proofs.OrderLaws.{by_measure, le-out, le-in, le-refl, le-trans, size-left, size-right}
+use Rattle.short_games.proofs.SumLaws.{left_of_sum, InSum, right_in_first, right_in_second, plus-le, plus-le_both, plus-assoc, plus-nought, has-neg_each, neg-left, neg-plus, neg-neg, neg-le}
 use Rattle.short_games.proofs.SumLaws.InSum.{in_first, in_second}
 use Rattle.std.proofs.lemmas.Int.{ints, by_lt_z}
 
@@ -45,15 +45,6 @@ whole-left (pos (suc n)) X (inl e) = (pos n, omega (arith, ints), e)
 whole-left (pos (suc n)) X (inr h) = elim h [ ]
 whole-left (negsuc n) X h = elim h [ ]
 
-pub whole-right : (m : ℤ) (X : Tree) → Has (right (whole m)) X → (k : ℤ) × (m <ℤ k) × (X ≡ whole k)
-unfolding whole count_tree neg
-whole-right (pos zero) X h = elim h [ ]
-whole-right (pos (suc n)) X h = elim h [ ]
-whole-right (negsuc zero) X (inl e) = (pos zero, omega (arith, ints), e)
-whole-right (negsuc zero) X (inr h) = elim h [ ]
-whole-right (negsuc (suc n)) X (inl e) = (negsuc n, omega (arith, ints), e)
-whole-right (negsuc (suc n)) X (inr h) = elim h [ ]
-
 pub whole-has_left : (m : ℤ) → pos 0 <ℤ m → (k : ℤ) × (k +ℤ pos 1 ≡ m) × Has (left (whole m)) (whole k)
 unfolding whole count_tree neg
 whole-has_left (pos zero) h = absurd (omega (arith, ints))
@@ -65,6 +56,28 @@ unfolding whole count_tree neg
 whole-has_right (pos n) h = absurd (omega (arith, ints))
 whole-has_right (negsuc zero) h = (pos zero, omega (arith, ints), inl refl)
 whole-has_right (negsuc (suc n)) h = (negsuc n, omega (arith, ints), inl refl)
+
+pub even-neg : (m : ℤ) → is_even m ≡ true → (is_even (neg_ℤ m) ≡ true) × (half (neg_ℤ m) ≡ neg_ℤ (half m))
+even-neg m t = (even, omega (arith, ints, half-even m t, half-even (neg_ℤ m) even))
+  where
+    even : is_even (neg_ℤ m) ≡ true
+    even = true_from_ne_false _ (λ f. omega (arith, ints, half-even m t, half-odd (neg_ℤ m) f))
+
+pub odd-neg : (m : ℤ) → is_even m ≡ false → (is_even (neg_ℤ m) ≡ false) × (half (neg_ℤ m) ≡ neg_ℤ (half m +ℤ pos 1)) × (half (neg_ℤ m) +ℤ pos 1 ≡ neg_ℤ (half m))
+odd-neg m f = (odd, omega (arith, ints, half-odd m f, half-odd (neg_ℤ m) odd), omega (arith, ints, half-odd m f, half-odd (neg_ℤ m) odd))
+  where
+    odd : is_even (neg_ℤ m) ≡ false
+    odd = false_from_ne_true _ (λ t. omega (arith, ints, half-odd m f, half-even (neg_ℤ m) t))
+
+pub neg-num : (e : ℕ) (m : ℤ) → neg (num e m) ≡ num e (neg_ℤ m)
+unfolding num whole neg count_tree
+neg-num zero (pos zero) = refl
+neg-num zero (pos (suc n)) = refl
+neg-num zero (negsuc n) = neg-neg (count_tree (suc n))
+neg-num (suc e) m = elim (cases_Bool (is_even m)) [
+  | inl t ↦ ap neg (num-even e m t) ∙ neg-num e (half m) ∙ (let r = even-neg m t in rw (num-even e (neg_ℤ m) r.0, r.1))
+  | inr f ↦ ap neg (num-odd e m f) ∙ (let r = odd-neg m f in rw (num-odd e (neg_ℤ m) r.0, r.2, r.1, ← neg-num e (half m), ← neg-num e (half m +ℤ pos 1)))
+]
 
 -- every option of a number is a number, below it for Left and above it for Right
 pub num-left : (e : ℕ) (m : ℤ) (X : Tree) → Has (left (num e m)) X → (k : ℤ) × (k <ℤ m) × (X ≡ num e k)
@@ -79,17 +92,13 @@ num-left (suc e) m X h = elim (cases_Bool (is_even m)) [
     odd f (inl x) = (half m +ℤ half m, omega (arith, ints, half-odd m f), x ∙ sym (num-double e (half m)))
     odd f (inr x) = elim x [ ]
 
+-- turned, a Right option of a number is a Left option of its negative
+pub num-turned : (e : ℕ) (m : ℤ) (X : Tree) → Has (right (num e m)) X → Has (left (num e (neg_ℤ m))) (neg X)
+num-turned e m X h = subst (λ t. Has (left t) (neg X)) (neg-num e m) (rw (neg-left (num e m)) (has-neg_each (right (num e m)) X h))
+
 pub num-right : (e : ℕ) (m : ℤ) (X : Tree) → Has (right (num e m)) X → (k : ℤ) × (m <ℤ k) × (X ≡ num e k)
-unfolding num
-num-right zero m X h = whole-right m X h
-num-right (suc e) m X h = elim (cases_Bool (is_even m)) [
-  | inl t ↦ (let r = num-right e (half m) X (rw (num-even e m t) at h) in (r.0 +ℤ r.0, omega (arith, ints, half-even m t, r.1), r.2 ∙ sym (num-double e r.0)))
-  | inr f ↦ odd f (rw (num-odd e m f) at h)
-]
-  where
-    odd : is_even m ≡ false → Has (more (num e (half m +ℤ pos 1)) none) X → (k : ℤ) × (m <ℤ k) × (X ≡ num (suc e) k)
-    odd f (inl x) = ((half m +ℤ pos 1) +ℤ (half m +ℤ pos 1), omega (arith, ints, half-odd m f), x ∙ sym (num-double e (half m +ℤ pos 1)))
-    odd f (inr x) = elim x [ ]
+num-right e m X h = let r = num-left e (neg_ℤ m) (neg X) (num-turned e m X h) in
+    (neg_ℤ r.0, omega (arith, ints, r.1), sym (neg-neg X) ∙ ap neg r.2 ∙ neg-num e r.0)
 
 -- where two numbers add up to less than a third, one of the three has an option that still is on its side
 pub data Gap (e : ℕ) (m n k : ℤ) : Type 0 where
@@ -137,15 +146,14 @@ gap (suc e) m n k h = elim (cases_Bool (is_even k)) [
 ]
 
 -- sums of numbers over one power of two go by the sums of what stands above
-pub GoesBy : (e : ℕ) (m n k : ℤ) → Type 0
+abbrev pub GoesBy : (e : ℕ) (m n k : ℤ) → Type 0
 GoesBy e m n k = ((m +ℤ n) ≤ℤ k → num e m +ᵍ num e n ≤ᵍ num e k) × ((m +ℤ n) <ℤ k → num e k ≤ᵍ num e m +ᵍ num e n → ⊥)
 
-pub weight : (e : ℕ) (m n k : ℤ) → ℕ
+abbrev pub weight : (e : ℕ) (m n k : ℤ) → ℕ
 weight e m n k = size (num e m) + size (num e n) + size (num e k)
 
-sum_step : (e N : ℕ) → ((m n k : ℤ) → weight e m n k < N → GoesBy e m n k) → (m n k : ℤ) → weight e m n k < suc N → GoesBy e m n k
-unfolding GoesBy weight
-sum_step e N ih m n k a = (
+sum_step : (e : ℕ) (m n k : ℤ) → ((m' n' k' : ℤ) → weight e m' n' k' < weight e m n k → GoesBy e m' n' k') → GoesBy e m n k
+sum_step e m n k ih = (
   λ p. le-in _ _ record {
     from_left = λ X h. lefts p X (left_of_sum (num e m) (num e n) X h);
     from_right = λ X h y. (let r = num-right e k X h in (ih m n r.0 (omega (arith, size-right (num e k) X h, ap size r.2))).1 (omega (arith, ints, r.1)) (rw r.2 at y));
@@ -162,12 +170,9 @@ sum_step e N ih m n k a = (
     gaps (up_first m' h b) y = (le-out _ _ y).from_right (num e m' +ᵍ num e n) (right_in_first _ _ _ h) ((ih m' n k (omega (arith, size-right (num e m) _ h))).0 b)
     gaps (up_second n' h b) y = (le-out _ _ y).from_right (num e m +ᵍ num e n') (right_in_second _ _ _ h) ((ih m n' k (omega (arith, size-right (num e n) _ h))).0 b)
 
-sum_within : (e N : ℕ) (m n k : ℤ) → weight e m n k < N → GoesBy e m n k
-sum_within e zero m n k a = absurd (omega arith)
-sum_within e (suc N) m n k a = sum_step e N (sum_within e N) m n k a
-
 pub goes_by : (e : ℕ) (m n k : ℤ) → GoesBy e m n k
-goes_by e m n k = sum_within e (suc (weight e m n k)) m n k (omega arith)
+goes_by e m n k = by_measure {A = ℤ × ℤ × ℤ} (λ p. weight e p.0 p.1 p.2) (λ p. GoesBy e p.0 p.1 p.2)
+    (λ p ih. sum_step e p.0 p.1 p.2 (λ x y z l. ih (x, y, z) l)) (m, n, k)
 
 pub num-zero : (e : ℕ) → num e (pos 0) ≡ node none none
 unfolding num whole count_tree
@@ -176,38 +181,13 @@ num-zero (suc e) = num-zero e
 
 -- the order of numbers over one power of two
 pub num-le : (e : ℕ) (m n : ℤ) → m ≤ℤ n → num e m ≤ᵍ num e n
-unfolding GoesBy
 num-le e m n p = rw (num-zero e, plus-nought (num e m)) at ((goes_by e m (pos 0) n).0 (omega (arith, ints)))
 
 pub num-lt : (e : ℕ) (m n : ℤ) → m <ℤ n → num e n ≤ᵍ num e m → ⊥
-unfolding GoesBy
 num-lt e m n p = rw (num-zero e, plus-nought (num e m)) at ((goes_by e m (pos 0) n).1 (omega (arith, ints)))
-
-pub even-neg : (m : ℤ) → is_even m ≡ true → (is_even (neg_ℤ m) ≡ true) × (half (neg_ℤ m) ≡ neg_ℤ (half m))
-even-neg m t = (even, omega (arith, ints, half-even m t, half-even (neg_ℤ m) even))
-  where
-    even : is_even (neg_ℤ m) ≡ true
-    even = true_from_ne_false _ (λ f. omega (arith, ints, half-even m t, half-odd (neg_ℤ m) f))
-
-pub odd-neg : (m : ℤ) → is_even m ≡ false → (is_even (neg_ℤ m) ≡ false) × (half (neg_ℤ m) ≡ neg_ℤ (half m +ℤ pos 1)) × (half (neg_ℤ m) +ℤ pos 1 ≡ neg_ℤ (half m))
-odd-neg m f = (odd, omega (arith, ints, half-odd m f, half-odd (neg_ℤ m) odd), omega (arith, ints, half-odd m f, half-odd (neg_ℤ m) odd))
-  where
-    odd : is_even (neg_ℤ m) ≡ false
-    odd = false_from_ne_true _ (λ t. omega (arith, ints, half-odd m f, half-even (neg_ℤ m) t))
-
-pub neg-num : (e : ℕ) (m : ℤ) → neg (num e m) ≡ num e (neg_ℤ m)
-unfolding num whole neg count_tree
-neg-num zero (pos zero) = refl
-neg-num zero (pos (suc n)) = refl
-neg-num zero (negsuc n) = neg-neg (count_tree (suc n))
-neg-num (suc e) m = elim (cases_Bool (is_even m)) [
-  | inl t ↦ ap neg (num-even e m t) ∙ neg-num e (half m) ∙ (let r = even-neg m t in rw (num-even e (neg_ℤ m) r.0, r.1))
-  | inr f ↦ ap neg (num-odd e m f) ∙ (let r = odd-neg m f in rw (num-odd e (neg_ℤ m) r.0, r.2, r.1, ← neg-num e (half m), ← neg-num e (half m +ℤ pos 1)))
-]
 
 -- the sum of two numbers
 pub num-plus_le : (e : ℕ) (m n : ℤ) → num e m +ᵍ num e n ≤ᵍ num e (m +ℤ n)
-unfolding GoesBy
 num-plus_le e m n = (goes_by e m n (m +ℤ n)).0 (omega (arith, ints))
 
 pub num-le_plus : (e : ℕ) (m n : ℤ) → num e (m +ℤ n) ≤ᵍ num e m +ᵍ num e n
@@ -220,24 +200,25 @@ num-le_plus e m n = rw (neg-plus, neg-num e (neg_ℤ m), neg-num e (neg_ℤ n), 
     both = omega (arith, ints)
 
 -- beside a game that is no number, a number's own options don't matter
-avoid_within : (N : ℕ) (G : Tree) → (IsNumber G → ⊥) → (e : ℕ) (m : ℤ) → size (num e m) < N → ((L : Tree) → Has (left G) L → num e m ≤ᵍ L → ⊥) → G ≤ᵍ num e m
-avoid_within zero G no_number e m a h = absurd (omega arith)
-avoid_within (suc N) G no_number e m a h = le-in _ _ record {
+pub avoid-le : (G : Tree) → (IsNumber G → ⊥) → (e : ℕ) (m : ℤ) → ((L : Tree) → Has (left G) L → num e m ≤ᵍ L → ⊥) → G ≤ᵍ num e m
+avoid-le G no_number e = by_measure (λ m. size (num e m)) (λ m. ((L : Tree) → Has (left G) L → num e m ≤ᵍ L → ⊥) → G ≤ᵍ num e m) (λ m ih h. le-in _ _ record {
   from_left = h;
   from_right = λ X x y. (let r = num-right e m X x in
-      no_number (e, r.0, avoid_within N G no_number e r.0 (omega (arith, size-right (num e m) X x, ap size r.2)) (λ L l z. h L l (le-trans _ _ _ (num-le e m r.0 (omega (arith, ints, r.1))) z)), rw r.2 at y));
-}
-
-pub avoid-le : (G : Tree) → (IsNumber G → ⊥) → (e : ℕ) (m : ℤ) → ((L : Tree) → Has (left G) L → num e m ≤ᵍ L → ⊥) → G ≤ᵍ num e m
-avoid-le G no_number e m = avoid_within (suc (size (num e m))) G no_number e m (omega arith)
-
-avoid_ge_within : (N : ℕ) (G : Tree) → (IsNumber G → ⊥) → (e : ℕ) (m : ℤ) → size (num e m) < N → ((R : Tree) → Has (right G) R → R ≤ᵍ num e m → ⊥) → num e m ≤ᵍ G
-avoid_ge_within zero G no_number e m a h = absurd (omega arith)
-avoid_ge_within (suc N) G no_number e m a h = le-in _ _ record {
-  from_left = λ X x y. (let r = num-left e m X x in
-      no_number (e, r.0, rw r.2 at y, avoid_ge_within N G no_number e r.0 (omega (arith, size-left (num e m) X x, ap size r.2)) (λ R k z. h R k (le-trans _ _ _ z (num-le e r.0 m (omega (arith, ints, r.1)))))));
-  from_right = h;
-}
+      no_number (e, r.0, ih r.0 (omega (arith, size-right (num e m) X x, ap size r.2)) (λ L l z. h L l (le-trans _ _ _ (num-le e m r.0 (omega (arith, ints, r.1))) z)), rw r.2 at y));
+})
 
 pub avoid-ge : (G : Tree) → (IsNumber G → ⊥) → (e : ℕ) (m : ℤ) → ((R : Tree) → Has (right G) R → R ≤ᵍ num e m → ⊥) → num e m ≤ᵍ G
-avoid-ge G no_number e m = avoid_ge_within (suc (size (num e m))) G no_number e m (omega arith)
+avoid-ge G no_number e = by_measure (λ m. size (num e m)) (λ m. ((R : Tree) → Has (right G) R → R ≤ᵍ num e m → ⊥) → num e m ≤ᵍ G) (λ m ih h. le-in _ _ record {
+  from_left = λ X x y. (let r = num-left e m X x in
+      no_number (e, r.0, rw r.2 at y, ih r.0 (omega (arith, size-left (num e m) X x, ap size r.2)) (λ R k z. h R k (le-trans _ _ _ z (num-le e r.0 m (omega (arith, ints, r.1)))))));
+  from_right = h;
+})
+
+-- games and their negatives beside numbers
+pub neg-number : (G : Tree) → IsNumber (neg G) → IsNumber G
+neg-number G n = (n.0, neg_ℤ n.1, rw (neg-num n.0 n.1, neg-neg G) at (neg-le _ _ n.3), rw (neg-num n.0 n.1, neg-neg G) at (neg-le _ _ n.2))
+
+-- a number's move on one side, and two that add up to a third on the other
+pub num-shift : (A B : Tree) (e : ℕ) (d k m : ℤ) → A ≤ᵍ B +ᵍ num e d → d +ℤ k ≡ m → A +ᵍ num e k ≤ᵍ B +ᵍ num e m
+num-shift A B e d k m p i = le-trans _ _ _ (plus-le A (B +ᵍ num e d) (num e k) p)
+    (rw (plus-assoc B (num e d) (num e k)) (plus-le_both B B _ _ (le-refl B) (subst (λ z. num e d +ᵍ num e k ≤ᵍ num e z) i (num-plus_le e d k))))

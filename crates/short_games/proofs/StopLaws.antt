@@ -1,6 +1,6 @@
 -- How stops, floors and ceilings follow from those of the options.
 use Rattle.std.proofs.Math.Nat.{pow-suc}
-use Rattle.std.proofs.Common.{ap₂, ◌<ℤ◌, ◌+◌, ◌*ℤ◌, ◌-ℤ◌, ◌^◌, ◌∙◌, ℕ, zero, suc, ◌<◌, ◌≡◌, ◌⊎◌, arith, refl, inl, inr, sym, subst, ℤ, pos, negsuc, ◌+ℤ◌, ◌≤ℤ◌}
+use Rattle.std.proofs.Common.{ap₂, ◌<ℤ◌, ◌+◌, ◌*ℤ◌, ◌-ℤ◌, ◌^◌, ◌∙◌, ℕ, zero, suc, ◌≡◌, ◌⊎◌, arith, refl, inl, inr, sym, subst, ℤ, pos, negsuc, ◌+ℤ◌, ◌≤ℤ◌}
 use Rattle.std.proofs.lemmas.Int.{ints, by_lt_z}
 use Rattle.short_games.specs.Tree.{Tree, Trees, node, none, more, left, right, Has, size}
 use Rattle.short_games.specs.Order.{◌≤ᵍ◌}
@@ -9,7 +9,7 @@ use Rattle.short_games.specs.TextOrder.{IsCanonicalTree, TextBefore}
 use Rattle.short_games.specs.Threshold.{IsFloor, IsCeiling}
 use Rattle.short_games.specs.Stops.{IsLeftStop, IsRightStop, IsGreatestRight, IsLeastLeft, IsHalf, GoesWithLeftStop, GoesWithRightStop}
 use Rattle.short_games.proofs.NumberLaws.{num-double, num-lt}
-use Rattle.short_games.proofs.OrderLaws.{le-trans, size-left, size-right}
+use Rattle.short_games.proofs.OrderLaws.{by_measure, le-trans, size-left, size-right}
 use Rattle.short_games.proofs.CanonicalLaws.{canonical-left, canonical-right}
 use Rattle.short_games.proofs.TextOrderLaws.{text-order}
 use Rattle.short_games.proofs.ReductionLaws.{canonical-number}
@@ -203,17 +203,16 @@ module _ (e : ℕ) where
       at_right x (of_number i) = (x +ℤ x, subst (λ t. IsFloor e t (x +ℤ x)) (sym i) (number-floor e x), (omega (arith, ints), omega (arith, ints)))
       at_right x (of_game n h) = floor_step e G x (no_number n) h (λ R r. (g R r).ceiling)
 
-  both_within : (n : ℕ) (G : Tree) → size G < n → IsCanonicalTree G → Both G
-  both_within zero G a c = absurd (omega arith)
-  both_within (suc n) G a c = both_step G c
-      (λ L l. both_within n L (omega (arith, size-left G L l)) (canonical-left TextBefore text-order.irreflexive text-order.transitive G L c l))
-      (λ R r. both_within n R (omega (arith, size-right G R r)) (canonical-right TextBefore text-order.irreflexive text-order.transitive G R c r))
+  both : (G : Tree) → IsCanonicalTree G → Both G
+  both = by_measure size (λ G. IsCanonicalTree G → Both G) (λ G ih c. both_step G c
+      (λ L l. ih L (size-left G L l) (canonical-left TextBefore text-order.irreflexive text-order.transitive G L c l))
+      (λ R r. ih R (size-right G R r) (canonical-right TextBefore text-order.irreflexive text-order.transitive G R c r)))
 
   pub ceiling-of : (G : Tree) → IsCanonicalTree G → (x : ℤ) → IsLeftStop e G x → CeilingBy e G x
-  ceiling-of G c = (both_within (suc (size G)) G (omega arith) c).ceiling
+  ceiling-of G c = (both G c).ceiling
 
   pub floor-of : (G : Tree) → IsCanonicalTree G → (x : ℤ) → IsRightStop e G x → FloorBy e G x
-  floor-of G c = (both_within (suc (size G)) G (omega arith) c).floor
+  floor-of G c = (both G c).floor
 
   pub goes_with-left : (G : Tree) (k : ℤ) → IsCanonicalTree G → IsCeiling e G k → (x : ℤ) × IsLeftStop e G x → GoesWithLeftStop e G k
   goes_with-left G k c h s = let r = ceiling-of G c s.0 s.1 in (s.0, s.1, rw (one-ceiling e G k r.0 h r.1) r.2)

@@ -93,12 +93,11 @@ pub not_right_le : (G R : Tree) → Has (right G) R → R ≤ᵍ G → ⊥
 not_right_le G R h = λ e. (le-out G G (le-refl G)).from_right R h e
 
 -- the order of two games is the order of their sums with a third
-pub SameOrder : (G H K : Tree) → Type 0
+abbrev pub SameOrder : (G H K : Tree) → Type 0
 SameOrder G H K = (G ≤ᵍ H → G +ᵍ K ≤ᵍ H +ᵍ K) × (G +ᵍ K ≤ᵍ H +ᵍ K → G ≤ᵍ H)
 
 -- what holds of every three games with fewer nodes than these, holds of these
 plus_step : (G H K : Tree) → ((A B C : Tree) → size A + size B + size C < size G + size H + size K → SameOrder A B C) → SameOrder G H K
-unfolding SameOrder
 plus_step G H K ih = (
   λ p. le-in _ _ record {
     from_left = λ X h e. from_left_of p X (left_of_sum G K X h) e;
@@ -122,11 +121,9 @@ pub same_order : (G H K : Tree) → SameOrder G H K
 same_order = by_three_sizes SameOrder plus_step
 
 pub plus-le : (G H K : Tree) → G ≤ᵍ H → G +ᵍ K ≤ᵍ H +ᵍ K
-unfolding SameOrder
 plus-le G H K = (same_order G H K).0
 
 pub plus-cancel : (G H K : Tree) → G +ᵍ K ≤ᵍ H +ᵍ K → G ≤ᵍ H
-unfolding SameOrder
 plus-cancel G H K = (same_order G H K).1
 
 comm_step : (G H : Tree) → ((A B : Tree) → size A + size B < size G + size H → A +ᵍ B ≤ᵍ B +ᵍ A) → G +ᵍ H ≤ᵍ H +ᵍ G

@@ -1,15 +1,18 @@
 -- Floors and ceilings: which form is a number, and which number it is.
-use Rattle.std.proofs.Common.{ℕ, zero, suc, ◌+◌, ◌≡◌, ◌↔◌, arith, inl, inr, sym, ◌∙◌, ap, subst, ℤ, pos, negsuc, ◌+ℤ◌, ◌<ℤ◌, ◌≤ℤ◌, ◌⊎◌}
+use Rattle.std.proofs.Common.{ℕ, zero, suc, ◌+◌, ◌≡◌, ◌↔◌, arith, refl, inl, inr, sym, ◌∙◌, ap, subst, ℤ, pos, negsuc, ◌+ℤ◌, ◌<ℤ◌, ◌≤ℤ◌, ◌⊎◌}
 use Rattle.std.proofs.lemmas.Int.{ints, by_lt_z}
 use Rattle.std.proofs.lemmas.Bool.{cases_Bool}
-use Rattle.short_games.specs.Tree.{Tree, left, right, Has}
-use Rattle.short_games.specs.Order.{◌≤ᵍ◌}
-use Rattle.short_games.specs.Number.{num, IsNumber, half, is_even}
+use Rattle.short_games.specs.Tree.{Tree, left, right, Has, size}
+use Rattle.short_games.specs.Order.{◌≤ᵍ◌, ◌≡ᵍ◌}
+use Rattle.short_games.specs.Number.{num, IsNumber, IsNumberTree, half, is_even}
 use Rattle.short_games.specs.Threshold.{IsCell, IsFloor, IsCeiling}
-use Rattle.short_games.proofs.OrderLaws.{le-out, le-in, le-refl, le-trans, le-or_not}
+use Rattle.short_games.proofs.OrderLaws.{by_measure, le-out, le-in, le-refl, le-trans, le-or_not, none-or_some, size-left, size-right}
 use Rattle.short_games.proofs.SumLaws.{not_le_left, not_right_le}
 use Rattle.short_games.proofs.NumberLaws.{num-left, num-right, num-le, num-lt, num-double, num-even, half-odd, avoid-le, avoid-ge}
-use Rattle.short_games.specs.Simplest.{FitsForm}
+use Rattle.short_games.proofs.PartLaws.{number-option}
+use Rattle.short_games.proofs.ReductionLaws.{number-canonical, canonical-same}
+use Rattle.short_games.specs.Simplest.{FitsForm, IsSimplestFor}
+use Rattle.short_games.specs.TextOrder.{IsCanonicalTree}
 
 -- a number over a power of two that is greater by d
 pub scaled : (d e : ℕ) (z : ℤ) → (w : ℤ) × (num (d + e) w ≡ num e z)
@@ -130,3 +133,44 @@ simplest-is G e u f no_left no_right = (
 -- a number that is equal to a form fits it
 pub equal-fits : (G X : Tree) → G ≤ᵍ X → X ≤ᵍ G → FitsForm G X
 equal-fits G X p q = record { over_left = λ L l y. not_le_left G L l (le-trans G X L p y); under_right = λ R r y. not_right_le G R r (le-trans R X G y q) }
+
+-- whether a game is fitted by another
+fits-or_not : (G X : Tree) → FitsForm G X ⊎ (FitsForm G X → ⊥)
+fits-or_not G X = elim (none-or_some (λ L. X ≤ᵍ L) (λ L. le-or_not X L) (left G)) [
+  | inr s ↦ inr (λ f. f.over_left s.0 s.1 s.2)
+  | inl a ↦ elim (none-or_some (λ R. R ≤ᵍ X) (λ R. le-or_not R X) (right G)) [
+    | inr s ↦ inr (λ f. f.under_right s.0 s.1 s.2)
+    | inl b ↦ inl (record { over_left = a; under_right = b })
+  ]
+]
+
+-- where a number fits, one of those that fit is simplest
+pub has-simplest : (G X : Tree) → IsNumberTree X → FitsForm G X → (Y : Tree) × IsSimplestFor G Y
+has-simplest G = by_measure size (λ X. IsNumberTree X → FitsForm G X → (Y : Tree) × IsSimplestFor G Y) (λ X ih i f.
+  elim (none-or_some (FitsForm G) (fits-or_not G) (left X)) [
+    | inr s ↦ ih s.0 (size-left X s.0 s.1) (number-option X s.0 i (inl s.1)) s.2
+    | inl l ↦ elim (none-or_some (FitsForm G) (fits-or_not G) (right X)) [
+      | inr s ↦ ih s.0 (size-right X s.0 s.1) (number-option X s.0 i (inr s.1)) s.2
+      | inl r ↦ (X, record { number = i; fits = f; no_left = l; no_right = r })
+    ]
+  ])
+
+pub simplest-value : (G X : Tree) → IsSimplestFor G X → G ≡ᵍ X
+simplest-value G X s = at X s s.number
+  where
+    at : (X : Tree) → IsSimplestFor G X → IsNumberTree X → G ≡ᵍ X
+    at X s i = subst (λ z. G ≡ᵍ z) (sym i.2) (
+        let t = subst (IsSimplestFor G) i.2 s in simplest-is G i.0 i.1 t.fits t.no_left t.no_right)
+
+number-tree_canonical : (X : Tree) → IsNumberTree X → IsCanonicalTree X
+number-tree_canonical X i = subst IsCanonicalTree (sym i.2) (number-canonical i.0 i.1)
+
+pub one-simplest : (G X Y : Tree) → IsSimplestFor G X → IsSimplestFor G Y → X ≡ Y
+one-simplest G X Y s t =
+    let a = simplest-value G X s in
+    let b = simplest-value G Y t in
+    canonical-same X Y (number-tree_canonical X s.number) (number-tree_canonical Y t.number) (le-trans X G Y a.1 b.0) (le-trans Y G X b.1 a.0)
+
+-- a game that is equal to a number is fitted by it
+pub number-fits : (G : Tree) → IsNumber G → (X : Tree) × IsNumberTree X × FitsForm G X
+number-fits G n = (num n.0 n.1, (n.0, n.1, refl), equal-fits G (num n.0 n.1) n.2 n.3)

@@ -4,7 +4,7 @@ use Rattle.std.proofs.lemmas.Bool.{and_parts, and_from, cases_Bool, true≢false
 use Rattle.std.proofs.lemmas.Int.{ints}
 use Rattle.short_games.specs.Tree.{Tree, Trees, node, none, more, size, neg}
 use Rattle.short_games.specs.Number.{num, half, is_even, whole, count_tree}
-use Rattle.short_games.proofs.OrderLaws.{size-left, size-right}
+use Rattle.short_games.proofs.OrderLaws.{by_measure, size-left, size-right}
 use Rattle.short_games.proofs.NumberLaws.{num-even, num-odd, num-double, half-even, half-odd, half-double}
 
 unfoldable mutual
@@ -87,21 +87,17 @@ first_left G H Gs Ks i = subst (λ t. size H < size t) (sym i) (size-left (node 
 first_right : (G H : Tree) (Gs Ks : Trees) → G ≡ node Ks (more H Gs) → size H < size G
 first_right G H Gs Ks i = subst (λ t. size H < size t) (sym i) (size-right (node Ks (more H Gs)) H (inl refl))
 
-numerator_step : (n e : ℕ) (m : ℤ) → ((k : ℤ) → size (num e k) < n → numerator e (num e k) ≡ k) → size (num e m) < suc n → NumForm e m → numerator e (num e m) ≡ m
+numerator_step : (e : ℕ) (m : ℤ) → ((k : ℤ) → size (num e k) < size (num e m) → numerator e (num e k) ≡ k) → NumForm e m → numerator e (num e m) ≡ m
 unfolding numerator
-numerator_step n e m ih a (nought i f) = ap (numerator e) f ∙ sym i
-numerator_step n e m ih a (up k i f) = ap (numerator e) f ∙ ap (λ x. x +ℤ pos (2 ^ e)) (ih k (omega (arith, a, first_left _ _ _ _ f))) ∙ sym i
-numerator_step n e m ih a (down k i f) = ap (numerator e) f ∙ ap (λ x. x -ℤ pos (2 ^ e)) (ih k (omega (arith, a, first_right _ _ _ _ f))) ∙ sym i
-numerator_step n e m ih a (middle k j i f) = ap (numerator e) f
-    ∙ ap₂ (λ x y. half (x +ℤ y)) (ih k (omega (arith, a, first_left _ _ _ _ f))) (ih j (omega (arith, a, first_right _ _ _ _ f)))
+numerator_step e m ih (nought i f) = ap (numerator e) f ∙ sym i
+numerator_step e m ih (up k i f) = ap (numerator e) f ∙ ap (λ x. x +ℤ pos (2 ^ e)) (ih k (first_left _ _ _ _ f)) ∙ sym i
+numerator_step e m ih (down k i f) = ap (numerator e) f ∙ ap (λ x. x -ℤ pos (2 ^ e)) (ih k (first_right _ _ _ _ f)) ∙ sym i
+numerator_step e m ih (middle k j i f) = ap (numerator e) f
+    ∙ ap₂ (λ x y. half (x +ℤ y)) (ih k (first_left _ _ _ _ f)) (ih j (first_right _ _ _ _ f))
     ∙ ap half i ∙ half-double m
 
-numerator_within : (n e : ℕ) (m : ℤ) → size (num e m) < n → numerator e (num e m) ≡ m
-numerator_within zero e m a = absurd (omega arith)
-numerator_within (suc n) e m a = numerator_step n e m (λ k. numerator_within n e k) a (num_form e m)
-
 pub numerator-num : (e : ℕ) (m : ℤ) → numerator e (num e m) ≡ m
-numerator-num e m = numerator_within (suc (size (num e m))) e m (omega arith)
+numerator-num e = by_measure (λ m. size (num e m)) (λ m. numerator e (num e m) ≡ m) (λ m ih. numerator_step e m ih (num_form e m))
 
 pub num-one_to_one : (e : ℕ) (m n : ℤ) → num e m ≡ num e n → m ≡ n
 num-one_to_one e m n i = sym (numerator-num e m) ∙ ap (numerator e) i ∙ numerator-num e n

@@ -1,10 +1,9 @@
 use Rattle.short_games.specs.Number.{IsNumber}
 use Rattle.short_games.specs.TextOrder.{TextBefore}
-use Rattle.short_games.proofs.AvoidanceLaws.{cheap_left, cheap_right}
+use Rattle.short_games.proofs.AvoidanceLaws.{cheap_left, cheap_right, left-avoids, right-avoids}
 use Rattle.short_games.proofs.FormLaws.{number_tree, translation}
 use Rattle.short_games.proofs.TextOrderLaws.{text-order}
-use Rattle.short_games.proofs.Avoidance.{left-avoids, right-avoids}
-use Rattle.short_games.proofs.SimplestLaws.{has-simplest, one-simplest, number-fits, simplest-value}
+use Rattle.short_games.proofs.ThresholdLaws.{has-simplest, one-simplest, number-fits, simplest-value}
 use Rattle.short_games.proofs.number_laws.Goals as goal
 
 pub returns-clause-left : goal.returns-clause-left
