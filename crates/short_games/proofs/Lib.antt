@@ -23,7 +23,6 @@ pub mod WallOver
 pub mod WallSolutions
 pub mod WallsDrawn
 pub mod WallSteps
-pub mod WallBeginnings
 pub mod WallExistence
 pub mod WallMeetings
 pub mod WallBetween

@@ -2,6 +2,7 @@
 use Rattle.std.proofs.Common.{ℕ, zero, suc, ◌+◌, ◌<◌, ◌≤◌, ◌≡◌, ◌⊎◌, Bool, true, false, ◌&&◌, not, arith, refl, inl, inr, subst}
 use Rattle.std.proofs.lemmas.Bool.{and_parts, and_cases, both_ways, cases_Bool, not-true, not-false, false_from_ne_true, true≢false}
 use Rattle.short_games.specs.Tree.{Tree, Trees, node, none, more, left, right, Has, size, sizes}
+use Rattle.short_games.specs.Parts.{IsOption}
 use Rattle.short_games.specs.Order.{◌≤ᵍ◌, ◌⧏ᵍ◌, ◌≡ᵍ◌, at_most, by_left, by_right, NoneBeats}
 
 pub size-node : (ls rs : Trees) → size (node ls rs) ≡ suc (sizes ls + sizes rs)
@@ -19,6 +20,9 @@ size-left (node ls rs) GL h = omega (arith, size-node ls rs, sizes-has ls GL h)
 
 pub size-right : (G GR : Tree) → Has (right G) GR → size GR < size G
 size-right (node ls rs) GR h = omega (arith, size-node ls rs, sizes-has rs GR h)
+
+pub size-option : (G X : Tree) → IsOption G X → size X < size G
+size-option G X o = elim o [ inl l ↦ size-left G X l | inr r ↦ size-right G X r ]
 
 pub size-pos : (G : Tree) → 0 < size G
 size-pos (node ls rs) = omega (arith, size-node ls rs)

@@ -1,153 +1,193 @@
--- A canonical tree has walls on each grid that is fine enough for its numbers and its height.
-use Rattle.std.proofs.Common.{ℕ, zero, suc, ◌+◌, ◌<◌, ◌≤◌, ◌≡◌, arith, refl, ◌∙◌, subst, ℤ, ◌<ℤ◌, ◌≤ℤ◌}
-use Rattle.std.proofs.lemmas.Int.{ints}
-use Rattle.short_games.specs.Tree.{Tree, left, right, Has, size}
+-- At 0 the walls are the stops; and a canonical tree has walls on each grid that is fine enough for its numbers and its height.
+use Rattle.std.proofs.Common.{ℕ, zero, suc, ◌+◌, ◌<◌, ◌≤◌, ◌≡◌, arith, refl, inl, inr, sym, ◌∙◌, ap, subst, ℤ, pos, ◌+ℤ◌, ◌-ℤ◌, ◌<ℤ◌, ◌≤ℤ◌}
+use Rattle.std.specs.Int.{int_max, int_min}
+use Rattle.std.proofs.lemmas.Int.{ints, clamps}
+use Rattle.short_games.specs.Tree.{Tree, Trees, node, none, more, left, right, Has, size}
+use Rattle.short_games.specs.Parts.{IsOption}
 use Rattle.short_games.specs.Number.{num, IsNumberTree}
-use Rattle.short_games.proofs.OrderLaws.{size-left, size-right, size-pos}
-use Rattle.short_games.proofs.WallGreatest.{IsFilled}
-use Rattle.short_games.proofs.WallOver.{IsFine, fine-left, fine-right, over-more, no_number, canonical-filled}
-use Rattle.short_games.proofs.WallBeginnings.{walls-zero, left_at_zero, right_at_zero}
+use Rattle.short_games.specs.Stops.{IsLeftStop, IsRightStop, IsGreatestRight, IsLeastLeft}
 use Rattle.short_games.specs.TextOrder.{IsCanonicalTree}
-use Rattle.short_games.proofs.StopLaws.{stops-ordered}
-use Rattle.short_games.specs.WallGrids.{WallsAre, AllWallsAre, IsMeeting, finer}
+use Rattle.short_games.specs.WallGrids.{IsGreatest, IsLeast, Follow, WallsAre, AllWallsAre, IsMeeting, finer}
+use Rattle.short_games.specs.WallGrids.Follow.{apart, met}
 use Rattle.short_games.specs.WallGrids.WallsAre.{of_number, of_game}
+use Rattle.short_games.specs.inner.Lines.{Rises, Falls}
+use Rattle.short_games.proofs.OrderLaws.{size-left, size-right, size-pos}
+use Rattle.short_games.proofs.StopLaws.{number-left_stop, number-right_stop, stops-ordered}
+use Rattle.short_games.proofs.WallGreatest.{IsFilled, filled, greatest-one, greatest-more, least-one, least-more, max-one, min-one}
+use Rattle.short_games.proofs.WallOver.{IsFine, fine-left, fine-right, over-more, no_number, canonical-filled}
 use Rattle.short_games.proofs.WallLines.{Doubles, finer-doubles, greatest-same, least-same}
-use Rattle.short_games.proofs.WallSolutions.{all-from, walls-unique, walls-steady, walls-finer, IsSteady, left_scaffold-falls, right_scaffold-rises, left_scaffold-doubles, right_scaffold-doubles}
-use Rattle.short_games.proofs.WallSteps.{solution-drawn, jump-middle, follow-meeting}
+use Rattle.short_games.proofs.WallSolutions.{by_walls, all-from, walls-unique, walls-steady, walls-finer, left_scaffold-falls, right_scaffold-rises, left_scaffold-doubles, right_scaffold-doubles}
+use Rattle.short_games.proofs.WallSteps.{AllDrawn, solution-drawn, jump-middle, follow-meeting}
 use Rattle.short_games.proofs.WallsDrawn.{left_wall, right_wall, left_scaffold, right_scaffold, left_scaffold-is, right_scaffold-is, IsDrawable, no_jump-doubled, walls-at}
 
-AllDrawn : ℕ → Tree → Type 0
-AllDrawn k G = AllWallsAre k (left_wall k) (right_wall k) G
+-- where f gives the stops, the greatest that f gives is the greatest stop
+greatest_stop : (k : ℕ) (f : Tree → ℤ) (Gs : Trees) → ((X : Tree) → Has Gs X → IsRightStop k X (f X)) → IsFilled Gs → (x : ℤ) × IsGreatestRight k Gs x × IsGreatest f Gs x
+unfolding IsLeftStop
+greatest_stop k f none s h = absurd h
+greatest_stop k f (more G none) s h = (f G, s G (inl refl), greatest-one f G)
+greatest_stop k f (more G (more H Hs)) s h =
+    let r = greatest_stop k f (more H Hs) (λ X x. s X (inr x)) tt in
+    (int_max (f G) r.0, (f G, (r.0, s G (inl refl), r.1, omega (arith, ints, clamps), omega (arith, ints, clamps), max-one (f G) r.0)), greatest-more f G (more H Hs) r.0 r.2)
+
+least_stop : (k : ℕ) (f : Tree → ℤ) (Gs : Trees) → ((X : Tree) → Has Gs X → IsLeftStop k X (f X)) → IsFilled Gs → (x : ℤ) × IsLeastLeft k Gs x × IsLeast f Gs x
+unfolding IsLeftStop
+least_stop k f none s h = absurd h
+least_stop k f (more G none) s h = (f G, s G (inl refl), least-one f G)
+least_stop k f (more G (more H Hs)) s h =
+    let r = least_stop k f (more H Hs) (λ X x. s X (inr x)) tt in
+    (int_min (f G) r.0, (f G, (r.0, s G (inl refl), r.1, omega (arith, ints, clamps), omega (arith, ints, clamps), min-one (f G) r.0)), least-more f G (more H Hs) r.0 r.2)
+
+as_left_stop : (k : ℕ) (G : Tree) (x : ℤ) → (IsNumberTree G → ⊥) → IsGreatestRight k (left G) x → IsLeftStop k G x
+unfolding IsLeftStop
+as_left_stop k (node ls rs) x n g = inr (n, g)
+
+as_right_stop : (k : ℕ) (G : Tree) (x : ℤ) → (IsNumberTree G → ⊥) → IsLeastLeft k (right G) x → IsRightStop k G x
+unfolding IsLeftStop
+as_right_stop k (node ls rs) x n g = inr (n, g)
+
+-- scaffolds at 0 are stops
+pub left_at_zero : (k : ℕ) (f : Tree → ℤ) (G : Tree) (x : ℤ) → (IsNumberTree G → ⊥) → ((X : Tree) → Has (left G) X → IsRightStop k X (f X)) → IsGreatest f (left G) (x +ℤ pos 0) → IsLeftStop k G x
+left_at_zero k f G x n s g =
+    let r = greatest_stop k f (left G) s (filled (left G) g.reached.0 g.reached.1) in
+    let same : r.0 ≡ x = omega (arith, ints, greatest-same f f (left G) _ _ (λ X h. refl) r.2 g) in
+    as_left_stop k G x n (subst (IsGreatestRight k (left G)) same r.1)
+
+pub right_at_zero : (k : ℕ) (f : Tree → ℤ) (G : Tree) (x : ℤ) → (IsNumberTree G → ⊥) → ((X : Tree) → Has (right G) X → IsLeftStop k X (f X)) → IsLeast f (right G) (x -ℤ pos 0) → IsRightStop k G x
+right_at_zero k f G x n s g =
+    let r = least_stop k f (right G) s (filled (right G) g.reached.0 g.reached.1) in
+    let same : r.0 ≡ x = omega (arith, ints, least-same f f (right G) _ _ (λ X h. refl) r.2 g) in
+    as_right_stop k G x n (subst (IsLeastLeft k (right G)) same r.1)
+
+module _ (k : ℕ) (lw rw : Tree → ℕ → ℤ) where
+  abbrev AtZero : Tree → Type 0
+  AtZero G = IsLeftStop k G (lw G 0) × IsRightStop k G (rw G 0)
+
+  zero_at : (G : Tree) → ((X : Tree) → IsOption G X → AtZero X) → WallsAre k lw rw G → AtZero G
+  zero_at G f (of_number x i p q) = (number-left_stop k G (lw G 0) (i ∙ ap (num k) (sym (p 0))), number-right_stop k G (rw G 0) (i ∙ ap (num k) (sym (q 0))))
+  zero_at G f (of_game n L R h h' w) = at (w 0)
+    where
+      lefts : IsLeftStop k G (L 0)
+      lefts = left_at_zero k (λ X. rw X 0) G (L 0) n (λ X x. (f X (inl x)).1) (h 0)
+
+      rights : IsRightStop k G (R 0)
+      rights = right_at_zero k (λ X. lw X 0) G (R 0) n (λ X x. (f X (inr x)).0) (h' 0)
+
+      at : Follow L R 0 (lw G 0) (rw G 0) → IsLeftStop k G (lw G 0) × IsRightStop k G (rw G 0)
+      at (apart c x y) = (subst (IsLeftStop k G) (sym x) lefts, subst (IsRightStop k G) (sym y) rights)
+      at (met u c d e x y) = let same : u ≡ 0 = omega (arith, c) in
+          (subst (IsLeftStop k G) (sym (x ∙ ap L same)) lefts, subst (IsRightStop k G) (sym (y ∙ ap R same)) rights)
+
+  -- at 0 the walls are the stops
+  pub walls-zero : (G : Tree) → AllWallsAre k lw rw G → IsLeftStop k G (lw G 0) × IsRightStop k G (rw G 0)
+  walls-zero = by_walls k lw rw AtZero (λ G _. zero_at G)
 
 -- the scaffolds of a tree at 0 are its stops
-scaffolds_at_zero : (k : ℕ) (G : Tree) → IsCanonicalTree G → (IsNumberTree G → ⊥) → IsFilled (left G) → IsFilled (right G) → ((X : Tree) → Has (left G) X → AllDrawn k X) → ((X : Tree) → Has (right G) X → AllDrawn k X)
+scaffolds_at_zero : (k : ℕ) (G : Tree) → IsCanonicalTree G → (IsNumberTree G → ⊥) → IsFilled (left G) → IsFilled (right G) → ((X : Tree) → IsOption G X → AllDrawn k X)
     → right_scaffold k G 0 ≤ℤ left_scaffold k G 0
-unfolding AllDrawn
-scaffolds_at_zero k G c n p q a b = stops-ordered k G (left_scaffold k G 0) (right_scaffold k G 0) c
-    (left_at_zero k (λ X. right_wall k X 0) G (left_scaffold k G 0) n (λ X x. (walls-zero k (left_wall k) (right_wall k) X (a X x)).1) (left_scaffold-is k G p 0))
-    (right_at_zero k (λ X. left_wall k X 0) G (right_scaffold k G 0) n (λ X x. (walls-zero k (left_wall k) (right_wall k) X (b X x)).0) (right_scaffold-is k G q 0))
+scaffolds_at_zero k G c n p q a = stops-ordered k G (left_scaffold k G 0) (right_scaffold k G 0) c
+    (left_at_zero k (λ X. right_wall k X 0) G (left_scaffold k G 0) n (λ X x. (walls-zero k (left_wall k) (right_wall k) X (a X (inl x))).1) (left_scaffold-is k G p 0))
+    (right_at_zero k (λ X. left_wall k X 0) G (right_scaffold k G 0) n (λ X x. (walls-zero k (left_wall k) (right_wall k) X (a X (inr x))).0) (right_scaffold-is k G q 0))
+
+same-doubles : (f g : ℕ → ℤ) → ((t : ℕ) → g t ≡ finer f t) → Doubles f g
+same-doubles f g e = record { at_even = λ t. e (t + t) ∙ (finer-doubles f).at_even t; at_odd = λ t. e (suc (t + t)) ∙ (finer-doubles f).at_odd t }
 
 drawn_doubles : (k : ℕ) (X : Tree) → AllDrawn k X → AllDrawn (suc k) X → Doubles (left_wall k X) (left_wall (suc k) X) × Doubles (right_wall k X) (right_wall (suc k) X)
-unfolding AllDrawn
-drawn_doubles k X a b = (
-  record { at_even = λ t. (same (t + t)).0 ∙ (finer-doubles (left_wall k X)).at_even t; at_odd = λ t. (same (suc (t + t))).0 ∙ (finer-doubles (left_wall k X)).at_odd t },
-  record { at_even = λ t. (same (t + t)).1 ∙ (finer-doubles (right_wall k X)).at_even t; at_odd = λ t. (same (suc (t + t))).1 ∙ (finer-doubles (right_wall k X)).at_odd t },
-)
+drawn_doubles k X a b = (same-doubles (left_wall k X) (left_wall (suc k) X) (λ t. (same t).0), same-doubles (right_wall k X) (right_wall (suc k) X) (λ t. (same t).1))
   where
     same : (t : ℕ) → (left_wall (suc k) X t ≡ finer (left_wall k X) t) × (right_wall (suc k) X t ≡ finer (right_wall k X) t)
     same = walls-unique (suc k) (left_wall (suc k)) (right_wall (suc k)) (λ Y. finer (left_wall k Y)) (λ Y. finer (right_wall k Y)) X b (walls-finer k (left_wall k) (right_wall k) X a)
 
--- where the options have walls on a grid, the tree has them on the next
-drawable : (k : ℕ) (G : Tree) → IsFine (suc k) G → ((X : Tree) → Has (left G) X → AllDrawn k X × AllDrawn (suc k) X) → ((X : Tree) → Has (right G) X → AllDrawn k X × AllDrawn (suc k) X)
-    → ((x : ℤ) → G ≡ num (suc k) x → ⊥) → IsDrawable (suc k) G
-unfolding AllDrawn
-drawable k G f a b n = record {
-  no_number = no_number (suc k) G f n;
+-- walls on a grid go on to the next
+next : (k : ℕ) (X : Tree) → AllDrawn k X → AllDrawn (suc k) X
+next k X x = solution-drawn (suc k) (λ Y. finer (left_wall k Y)) (λ Y. finer (right_wall k Y)) X (walls-finer k (left_wall k) (right_wall k) X x)
+
+-- where the options of a tree have walls on a grid
+module _ (k : ℕ) (G : Tree) (p : IsFilled (left G)) (q : IsFilled (right G)) (drawn : (X : Tree) → IsOption G X → AllDrawn k X) where
+  left_falls : Falls (left_scaffold k G)
+  left_falls = left_scaffold-falls k (left_wall k) (right_wall k) (left G) (left_scaffold k G) (λ X x. walls-steady k (left_wall k) (right_wall k) X (drawn X (inl x))) (left_scaffold-is k G p)
+
+  right_rises : Rises (right_scaffold k G)
+  right_rises = right_scaffold-rises k (left_wall k) (right_wall k) (right G) (right_scaffold k G) (λ X x. walls-steady k (left_wall k) (right_wall k) X (drawn X (inr x))) (right_scaffold-is k G q)
+
+  doubles : (X : Tree) → IsOption G X → Doubles (left_wall k X) (left_wall (suc k) X) × Doubles (right_wall k X) (right_wall (suc k) X)
+  doubles X o = drawn_doubles k X (drawn X o) (next k X (drawn X o))
+
+  -- the scaffolds of the next grid
+  left_is : (t : ℕ) → left_scaffold (suc k) G t ≡ finer (left_scaffold k G) t
+  left_is t = omega (
+    arith,
+    ints,
+    greatest-same (λ X. right_wall (suc k) X t) (λ X. right_wall (suc k) X t) (left G) _ _ (λ X x. refl) (left_scaffold-is (suc k) G p t)
+        (left_scaffold-doubles k (left_wall k) (right_wall k) (left_wall (suc k)) (right_wall (suc k)) (left G) (left_scaffold k G) (finer (left_scaffold k G)) (λ X x. (walls-steady k (left_wall k) (right_wall k) X (drawn X (inl x))).rises) (λ X x. (doubles X (inl x)).1) (finer-doubles (left_scaffold k G)) (left_scaffold-is k G p) t),
+  )
+
+  right_is : (t : ℕ) → right_scaffold (suc k) G t ≡ finer (right_scaffold k G) t
+  right_is t = omega (
+    arith,
+    ints,
+    least-same (λ X. left_wall (suc k) X t) (λ X. left_wall (suc k) X t) (right G) _ _ (λ X x. refl) (right_scaffold-is (suc k) G q t)
+        (right_scaffold-doubles k (left_wall k) (right_wall k) (left_wall (suc k)) (right_wall (suc k)) (right G) (right_scaffold k G) (finer (right_scaffold k G)) (λ X x. (walls-steady k (left_wall k) (right_wall k) X (drawn X (inr x))).falls) (λ X x. (doubles X (inr x)).0) (finer-doubles (right_scaffold k G)) (right_scaffold-is k G q) t),
+  )
+
+  left_doubles : Doubles (left_scaffold k G) (left_scaffold (suc k) G)
+  left_doubles = same-doubles (left_scaffold k G) (left_scaffold (suc k) G) left_is
+
+  right_doubles : Doubles (right_scaffold k G) (right_scaffold (suc k) G)
+  right_doubles = same-doubles (right_scaffold k G) (right_scaffold (suc k) G) right_is
+
+  start : IsCanonicalTree G → (IsNumberTree G → ⊥) → right_scaffold (suc k) G 0 ≤ℤ left_scaffold (suc k) G 0
+  start c n = scaffolds_at_zero (suc k) G c n p q (λ X o. next k X (drawn X o))
+
+-- then the tree has them on the next
+drawable : (k : ℕ) (G : Tree) → IsFine (suc k) G → ((X : Tree) → IsOption G X → AllDrawn k X) → (IsNumberTree G → ⊥) → IsDrawable (suc k) G
+drawable k G f drawn n = let full = canonical-filled G f.0 n in record {
+  no_number = n;
   left_filled = full.0;
   right_filled = full.1;
   no_jump = no_jump-doubled (left_scaffold k G) (right_scaffold k G) (left_scaffold (suc k) G) (right_scaffold (suc k) G)
-      (left_scaffold-falls k (left_wall k) (right_wall k) (left G) (left_scaffold k G) lefts (left_scaffold-is k G full.0))
-      (right_scaffold-rises k (left_wall k) (right_wall k) (right G) (right_scaffold k G) rights (right_scaffold-is k G full.1))
-      record { at_even = λ t. left_is (t + t) ∙ (finer-doubles (left_scaffold k G)).at_even t; at_odd = λ t. left_is (suc (t + t)) ∙ (finer-doubles (left_scaffold k G)).at_odd t }
-      record { at_even = λ t. right_is (t + t) ∙ (finer-doubles (right_scaffold k G)).at_even t; at_odd = λ t. right_is (suc (t + t)) ∙ (finer-doubles (right_scaffold k G)).at_odd t }
-      (scaffolds_at_zero (suc k) G f.0 (no_number (suc k) G f n) full.0 full.1 (λ X x. (a X x).1) (λ X x. (b X x).1));
+      (left_falls k G full.0 full.1 drawn) (right_rises k G full.0 full.1 drawn) (left_doubles k G full.0 full.1 drawn) (right_doubles k G full.0 full.1 drawn)
+      (start k G full.0 full.1 drawn f.0 n);
 }
-  where
-    full : IsFilled (left G) × IsFilled (right G)
-    full = canonical-filled G f.0 (no_number (suc k) G f n)
 
-    lefts : (X : Tree) → Has (left G) X → IsSteady (left_wall k X) (right_wall k X)
-    lefts X x = walls-steady k (left_wall k) (right_wall k) X (a X x).0
+drawn_here : (k : ℕ) (G : Tree) → IsFine (suc k) G → ((X : Tree) → IsOption G X → AllDrawn k X) → WallsAre (suc k) (left_wall (suc k)) (right_wall (suc k)) G
+drawn_here k G f drawn = walls-at (suc k) G (λ n. drawable k G f drawn (no_number (suc k) G f n))
 
-    rights : (X : Tree) → Has (right G) X → IsSteady (left_wall k X) (right_wall k X)
-    rights X x = walls-steady k (left_wall k) (right_wall k) X (b X x).0
-
-    left_is : (t : ℕ) → left_scaffold (suc k) G t ≡ finer (left_scaffold k G) t
-    left_is t = omega (
-      arith,
-      ints,
-      greatest-same (λ X. right_wall (suc k) X t) (λ X. right_wall (suc k) X t) (left G) _ _ (λ X x. refl) (left_scaffold-is (suc k) G full.0 t)
-          (left_scaffold-doubles k (left_wall k) (right_wall k) (left_wall (suc k)) (right_wall (suc k)) (left G) (left_scaffold k G) (finer (left_scaffold k G)) (λ X x. (lefts X x).rises) (λ X x. (drawn_doubles k X (a X x).0 (a X x).1).1) (finer-doubles (left_scaffold k G)) (left_scaffold-is k G full.0) t),
-    )
-
-    right_is : (t : ℕ) → right_scaffold (suc k) G t ≡ finer (right_scaffold k G) t
-    right_is t = omega (
-      arith,
-      ints,
-      least-same (λ X. left_wall (suc k) X t) (λ X. left_wall (suc k) X t) (right G) _ _ (λ X x. refl) (right_scaffold-is (suc k) G full.1 t)
-          (right_scaffold-doubles k (left_wall k) (right_wall k) (left_wall (suc k)) (right_wall (suc k)) (right G) (right_scaffold k G) (finer (right_scaffold k G)) (λ X x. (rights X x).falls) (λ X x. (drawn_doubles k X (b X x).0 (b X x).1).0) (finer-doubles (right_scaffold k G)) (right_scaffold-is k G full.1) t),
-    )
+drawn_next : (k : ℕ) (G : Tree) → IsFine (suc k) G → ((X : Tree) → IsOption G X → AllDrawn k X) → AllDrawn (suc k) G
+drawn_next k G f drawn = all-from (suc k) (left_wall (suc k)) (right_wall (suc k)) G (drawn_here k G f drawn) (λ X o. next k X (drawn X o))
 
 exists_within : (n e k : ℕ) (G : Tree) → size G < n → size G + e ≤ k → IsFine e G → AllDrawn k G
-unfolding AllDrawn
 exists_within zero e k G a h f = absurd (omega arith)
 exists_within (suc n) e zero G a h f = absurd (omega (arith, h, size-pos G))
-exists_within (suc n) e (suc k) G a h f = all-from (suc k) (left_wall (suc k)) (right_wall (suc k)) G
-    (walls-at (suc k) G (drawable k G (f.0, over-more (suc k) e G (omega (arith, h)) f.1)
-    (λ X x. (exists_within n e k X (omega (arith, size-left G X x)) (omega (arith, size-left G X x)) (fine-left e G X f x), exists_within n e (suc k) X (omega (arith, size-left G X x)) (omega (arith, size-left G X x)) (fine-left e G X f x)))
-    (λ X x. (exists_within n e k X (omega (arith, size-right G X x)) (omega (arith, size-right G X x)) (fine-right e G X f x), exists_within n e (suc k) X (omega (arith, size-right G X x)) (omega (arith, size-right G X x)) (fine-right e G X f x)))))
-    (λ X x. exists_within n e (suc k) X (omega (arith, size-left G X x)) (omega (arith, size-left G X x)) (fine-left e G X f x))
-    (λ X x. exists_within n e (suc k) X (omega (arith, size-right G X x)) (omega (arith, size-right G X x)) (fine-right e G X f x))
+exists_within (suc n) e (suc k) G a h f = drawn_next k G (f.0, over-more (suc k) e G (omega (arith, h)) f.1) (λ X o. elim o [
+  | inl x ↦ exists_within n e k X (omega (arith, size-left G X x)) (omega (arith, size-left G X x)) (fine-left e G X f x)
+  | inr x ↦ exists_within n e k X (omega (arith, size-right G X x)) (omega (arith, size-right G X x)) (fine-right e G X f x)
+])
 
 pub walls-exist : (e k : ℕ) (G : Tree) → size G + e ≤ k → IsFine e G → AllWallsAre k (left_wall k) (right_wall k) G
-unfolding AllDrawn
 walls-exist e k G = exists_within (suc (size G)) e k G (omega arith)
-
--- the scaffolds of the next grid
-pub scaffolds-double : (k : ℕ) (G : Tree) → IsFilled (left G) → IsFilled (right G) → ((X : Tree) → Has (left G) X → AllWallsAre k (left_wall k) (right_wall k) X) → ((X : Tree) → Has (right G) X → AllWallsAre k (left_wall k) (right_wall k) X)
-    → Doubles (left_scaffold k G) (left_scaffold (suc k) G) × Doubles (right_scaffold k G) (right_scaffold (suc k) G)
-unfolding AllDrawn
-scaffolds-double k G p q a b = (
-  record { at_even = λ t. left_is (t + t) ∙ (finer-doubles (left_scaffold k G)).at_even t; at_odd = λ t. left_is (suc (t + t)) ∙ (finer-doubles (left_scaffold k G)).at_odd t },
-  record { at_even = λ t. right_is (t + t) ∙ (finer-doubles (right_scaffold k G)).at_even t; at_odd = λ t. right_is (suc (t + t)) ∙ (finer-doubles (right_scaffold k G)).at_odd t },
-)
-  where
-    next : (X : Tree) → AllWallsAre k (left_wall k) (right_wall k) X → AllWallsAre (suc k) (left_wall (suc k)) (right_wall (suc k)) X
-    next X x = solution-drawn (suc k) (λ Y. finer (left_wall k Y)) (λ Y. finer (right_wall k Y)) X (walls-finer k (left_wall k) (right_wall k) X x)
-
-    left_is : (t : ℕ) → left_scaffold (suc k) G t ≡ finer (left_scaffold k G) t
-    left_is t = omega (
-      arith,
-      ints,
-      greatest-same (λ X. right_wall (suc k) X t) (λ X. right_wall (suc k) X t) (left G) _ _ (λ X x. refl) (left_scaffold-is (suc k) G p t)
-          (left_scaffold-doubles k (left_wall k) (right_wall k) (left_wall (suc k)) (right_wall (suc k)) (left G) (left_scaffold k G) (finer (left_scaffold k G)) (λ X x. (walls-steady k (left_wall k) (right_wall k) X (a X x)).rises) (λ X x. (drawn_doubles k X (a X x) (next X (a X x))).1) (finer-doubles (left_scaffold k G)) (left_scaffold-is k G p) t),
-    )
-
-    right_is : (t : ℕ) → right_scaffold (suc k) G t ≡ finer (right_scaffold k G) t
-    right_is t = omega (
-      arith,
-      ints,
-      least-same (λ X. left_wall (suc k) X t) (λ X. left_wall (suc k) X t) (right G) _ _ (λ X x. refl) (right_scaffold-is (suc k) G q t)
-          (right_scaffold-doubles k (left_wall k) (right_wall k) (left_wall (suc k)) (right_wall (suc k)) (right G) (right_scaffold k G) (finer (right_scaffold k G)) (λ X x. (walls-steady k (left_wall k) (right_wall k) X (b X x)).falls) (λ X x. (drawn_doubles k X (b X x) (next X (b X x))).0) (finer-doubles (right_scaffold k G)) (right_scaffold-is k G q) t),
-    )
 
 -- where the scaffolds jump on a grid, the tree has walls on the next one, and an odd temperature there
 pub jump-odd : (k : ℕ) (G : Tree) → IsFine (suc k) G → (IsNumberTree G → ⊥) → ((X : Tree) → Has (left G) X → AllWallsAre k (left_wall k) (right_wall k) X) → ((X : Tree) → Has (right G) X → AllWallsAre k (left_wall k) (right_wall k) X)
     → (u : ℕ) → left_scaffold k G u <ℤ right_scaffold k G u → ((v : ℕ) → v < u → right_scaffold k G v <ℤ left_scaffold k G v)
     → (w : ℕ) × (u ≡ suc w) × AllWallsAre (suc k) (left_wall (suc k)) (right_wall (suc k)) G × IsMeeting (left_wall (suc k) G) (right_wall (suc k) G) (suc (w + w)) (left_scaffold (suc k) G (suc (w + w)))
-unfolding AllDrawn
-jump-odd k G f n a b u p h = (middle.0, middle.1, all-from (suc k) (left_wall (suc k)) (right_wall (suc k)) G here (λ X x. next X (a X x)) (λ X x. next X (b X x)), meets here)
+jump-odd k G f n a b u p h = (middle.0, middle.1, drawn_next k G f drawn, meets (drawn_here k G f drawn))
   where
-    next : (X : Tree) → AllWallsAre k (left_wall k) (right_wall k) X → AllWallsAre (suc k) (left_wall (suc k)) (right_wall (suc k)) X
-    next X x = solution-drawn (suc k) (λ Y. finer (left_wall k Y)) (λ Y. finer (right_wall k Y)) X (walls-finer k (left_wall k) (right_wall k) X x)
+    drawn : (X : Tree) → IsOption G X → AllDrawn k X
+    drawn X o = elim o [ inl x ↦ a X x | inr x ↦ b X x ]
 
     full : IsFilled (left G) × IsFilled (right G)
     full = canonical-filled G f.0 n
 
-    doubles : Doubles (left_scaffold k G) (left_scaffold (suc k) G) × Doubles (right_scaffold k G) (right_scaffold (suc k) G)
-    doubles = scaffolds-double k G full.0 full.1 a b
+    lefts : Doubles (left_scaffold k G) (left_scaffold (suc k) G)
+    lefts = left_doubles k G full.0 full.1 drawn
 
-    start : right_scaffold k G 0 ≤ℤ left_scaffold k G 0
-    start = omega (arith, ints, doubles.0.at_even 0, doubles.1.at_even 0, scaffolds_at_zero (suc k) G f.0 n full.0 full.1 (λ X x. next X (a X x)) (λ X x. next X (b X x)))
+    rights : Doubles (right_scaffold k G) (right_scaffold (suc k) G)
+    rights = right_doubles k G full.0 full.1 drawn
 
     middle : (w : ℕ) × (u ≡ suc w) × (left_scaffold (suc k) G (suc (w + w)) ≡ right_scaffold (suc k) G (suc (w + w))) × ((v : ℕ) → v < suc (w + w) → right_scaffold (suc k) G v <ℤ left_scaffold (suc k) G v)
     middle = jump-middle (left_scaffold k G) (right_scaffold k G) (left_scaffold (suc k) G) (right_scaffold (suc k) G) u
-        (left_scaffold-falls k (left_wall k) (right_wall k) (left G) (left_scaffold k G) (λ X x. walls-steady k (left_wall k) (right_wall k) X (a X x)) (left_scaffold-is k G full.0))
-        (right_scaffold-rises k (left_wall k) (right_wall k) (right G) (right_scaffold k G) (λ X x. walls-steady k (left_wall k) (right_wall k) X (b X x)) (right_scaffold-is k G full.1))
-        doubles.0 doubles.1 start p h
-
-    here : WallsAre (suc k) (left_wall (suc k)) (right_wall (suc k)) G
-    here = walls-at (suc k) G (drawable k G f (λ X x. (a X x, next X (a X x))) (λ X x. (b X x, next X (b X x))))
+        (left_falls k G full.0 full.1 drawn) (right_rises k G full.0 full.1 drawn) lefts rights
+        (omega (arith, ints, lefts.at_even 0, rights.at_even 0, start k G full.0 full.1 drawn f.0 n)) p h
 
     meets : WallsAre (suc k) (left_wall (suc k)) (right_wall (suc k)) G → IsMeeting (left_wall (suc k) G) (right_wall (suc k) G) (suc (middle.0 + middle.0)) (left_scaffold (suc k) G (suc (middle.0 + middle.0)))
     meets (of_number x i _ _) = absurd (n (suc k, x, i))

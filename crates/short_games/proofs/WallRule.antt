@@ -6,17 +6,18 @@ use Rattle.std.specs.Int.{int_max, int_min}
 use Rattle.std.proofs.lemmas.Int.{ints, clamps}
 use Rattle.std.proofs.lemmas.Bool.{cases_lt}
 use Rattle.short_games.specs.Tree.{Tree, Trees, node, none, more, left, right, Has, size}
+use Rattle.short_games.specs.Parts.{IsOption}
 use Rattle.short_games.specs.Number.{num, IsNumberTree}
 use Rattle.short_games.specs.inner.Lines.{Rises, Falls}
 use Rattle.short_games.specs.Walls.{IsLeftWall, IsRightWall, IsGreatestRightWall, IsLeastLeftWall}
 use Rattle.short_games.specs.WallGrids.{IsGreatest, IsLeast, Follow, WallsAre, AllWallsAre, HasWalls, finer}
 use Rattle.short_games.specs.WallGrids.Follow.{apart, met}
 use Rattle.short_games.specs.WallGrids.WallsAre.{of_number, of_game}
-use Rattle.short_games.proofs.OrderLaws.{size-left, size-right}
+use Rattle.short_games.proofs.OrderLaws.{by_measure, size-option}
 use Rattle.short_games.proofs.WallNumbers.{num-one_to_one}
 use Rattle.short_games.proofs.WallGreatest.{IsFilled, filled, greatest-one, greatest-more, least-one, least-more, max-one, min-one}
 use Rattle.short_games.proofs.WallLines.{finer-doubles, greatest-same, least-same}
-use Rattle.short_games.proofs.WallSolutions.{all-here, all-left, all-right, walls-steady, walls-finer, left_scaffold-falls, right_scaffold-rises}
+use Rattle.short_games.proofs.WallSolutions.{by_walls, all-here, all-left, all-right, walls-steady, walls-finer, left_scaffold-falls, right_scaffold-rises}
 
 -- where f gives the walls at t, the greatest that f gives is the greatest wall
 greatest_wall : (k t : ℕ) (f : Tree → ℤ) (Gs : Trees) → ((X : Tree) → Has Gs X → IsRightWall X k t (f X)) → IsFilled Gs → (x : ℤ) × IsGreatestRightWall Gs k t x × IsGreatest f Gs x
@@ -156,19 +157,18 @@ from_right (node ls rs) k t x h = h
 
 -- the walls on a grid follow the rule
 module _ (k : ℕ) (lw rw : Tree → ℕ → ℤ) where
-  Follows : Tree → Type 0
+  abbrev Follows : Tree → Type 0
   Follows G = (t : ℕ) → IsLeftWall G k t (lw G t) × IsRightWall G k t (rw G t)
 
-  follows_at : (G : Tree) → ((X : Tree) → Has (left G) X → Follows X) → ((X : Tree) → Has (right G) X → Follows X) → WallsAre k lw rw G → Follows G
-  unfolding Follows
-  follows_at G f g (of_number x i p q) t = (to_left G k t (lw G t) (inl (i ∙ ap (num k) (sym (p t)))), to_right G k t (rw G t) (inl (i ∙ ap (num k) (sym (q t)))))
-  follows_at G f g (of_game n L R h h' w) t = at (w t)
+  follows_at : (G : Tree) → ((X : Tree) → IsOption G X → Follows X) → WallsAre k lw rw G → Follows G
+  follows_at G f (of_number x i p q) t = (to_left G k t (lw G t) (inl (i ∙ ap (num k) (sym (p t)))), to_right G k t (rw G t) (inl (i ∙ ap (num k) (sym (q t)))))
+  follows_at G f (of_game n L R h h' w) t = at (w t)
     where
       lefts : (u : ℕ) (x : ℤ) → L u ≡ x → IsGreatestRightWall (left G) k u (x +ℤ pos u)
-      lefts u x e = subst (λ z. IsGreatestRightWall (left G) k u (z +ℤ pos u)) e (to_greatest k u (λ X. rw X u) (left G) (L u +ℤ pos u) (λ X x. (f X x u).1) (h u))
+      lefts u x e = subst (λ z. IsGreatestRightWall (left G) k u (z +ℤ pos u)) e (to_greatest k u (λ X. rw X u) (left G) (L u +ℤ pos u) (λ X x. (f X (inl x) u).1) (h u))
 
       rights : (u : ℕ) (x : ℤ) → R u ≡ x → IsLeastLeftWall (right G) k u (x -ℤ pos u)
-      rights u x e = subst (λ z. IsLeastLeftWall (right G) k u (z -ℤ pos u)) e (to_least k u (λ X. lw X u) (right G) (R u -ℤ pos u) (λ X x. (g X x u).0) (h' u))
+      rights u x e = subst (λ z. IsLeastLeftWall (right G) k u (z -ℤ pos u)) e (to_least k u (λ X. lw X u) (right G) (R u -ℤ pos u) (λ X x. (f X (inr x) u).0) (h' u))
 
       same_grid : k ≡ 0 + k
       same_grid = omega arith
@@ -192,23 +192,15 @@ module _ (k : ℕ) (lw rw : Tree → ℕ → ℤ) where
         to_right G k t (rw G t) (inr (n, inr (mast u (rw G t) b (e ∙ sym y) (sym y)))),
       )
 
-  follows_within : (n : ℕ) (G : Tree) → size G < n → AllWallsAre k lw rw G → Follows G
-  follows_within zero G a w = absurd (omega (arith, a))
-  follows_within (suc n) G a w = follows_at G
-      (λ X x. follows_within n X (omega (arith, a, size-left G X x)) (all-left k lw rw G X w x))
-      (λ X x. follows_within n X (omega (arith, a, size-right G X x)) (all-right k lw rw G X w x))
-      (all-here k lw rw G w)
-
   pub walls-follow : (G : Tree) → AllWallsAre k lw rw G → (t : ℕ) → IsLeftWall G k t (lw G t) × IsRightWall G k t (rw G t)
-  unfolding Follows
-  walls-follow G w = follows_within (suc (size G)) G (omega arith) w
+  walls-follow = by_walls k lw rw Follows (λ G _. follows_at G)
 
 -- and the rule gives nothing else
 abbrev Gives : (k : ℕ) (lw rw : Tree → ℕ → ℤ) → Tree → Type 0
 Gives k lw rw G = (t : ℕ) (x : ℤ) → (IsLeftWall G k t x → x ≡ lw G t) × (IsRightWall G k t x → x ≡ rw G t)
 
 abbrev OptionsGive : Tree → Type 0
-OptionsGive G = (k : ℕ) (lw rw : Tree → ℕ → ℤ) (X : Tree) → Has (left G) X ⊎ Has (right G) X → AllWallsAre k lw rw X → Gives k lw rw X
+OptionsGive G = (k : ℕ) (lw rw : Tree → ℕ → ℤ) (X : Tree) → IsOption G X → AllWallsAre k lw rw X → Gives k lw rw X
 
 module _ (k : ℕ) (lw rw : Tree → ℕ → ℤ) (G : Tree) (all : AllWallsAre k lw rw G) (give : OptionsGive G) where
   record Scaffolds : Type 0 where
@@ -273,15 +265,15 @@ value_at k lw rw G all give t x = (λ h. left_at (from_left G k t x h), λ h. ri
         sym a ∙ sym (ahead s.L s.R s.falls s.rises t (omega (arith, ints, a, b, l)) _ _ (s.follow t)).1
     right_at (inr (n, inr m)) = (mast_walls n m).1
 
-value_within : (n : ℕ) (k : ℕ) (lw rw : Tree → ℕ → ℤ) (G : Tree) → size G < n → AllWallsAre k lw rw G → Gives k lw rw G
-value_within zero k lw rw G a all = absurd (omega (arith, a))
-value_within (suc n) k lw rw G a all = value_at k lw rw G all (λ j lw' rw' X h all'. value_within n j lw' rw' X (elim h [ inl l ↦ omega (arith, a, size-left G X l) | inr r ↦ omega (arith, a, size-right G X r) ]) all')
+value : (G : Tree) (k : ℕ) (lw rw : Tree → ℕ → ℤ) → AllWallsAre k lw rw G → Gives k lw rw G
+value = by_measure size (λ G. (k : ℕ) (lw rw : Tree → ℕ → ℤ) → AllWallsAre k lw rw G → Gives k lw rw G)
+    (λ G ih k lw rw all. value_at k lw rw G all (λ j lw' rw' X o. ih X (size-option G X o) j lw' rw'))
 
 -- the two definitions of walls are one
 pub rule-is : (k : ℕ) (G : Tree) (l r : ℕ → ℤ) → HasWalls k G l r → (t : ℕ) (x : ℤ) → (IsLeftWall G k t x ↔ (x ≡ l t)) × (IsRightWall G k t x ↔ (x ≡ r t))
 rule-is k G l r h t x =
     let to = walls-follow k h.lw h.rw G h.all t in
-    let from = value_within (suc (size G)) k h.lw h.rw G (omega arith) h.all t x in (
+    let from = value G k h.lw h.rw h.all t x in (
       (λ w. from.0 w ∙ h.left_is t, λ e. subst (IsLeftWall G k t) (h.left_is t ∙ sym e) to.0),
       (λ w. from.1 w ∙ h.right_is t, λ e. subst (IsRightWall G k t) (h.right_is t ∙ sym e) to.1),
     )

@@ -1,11 +1,11 @@
 -- Walls of one grid: there is one solution, and it goes on to each finer grid.
-use Rattle.std.proofs.Common.{ℕ, zero, suc, ◌/◌, ◌<◌, ◌≡◌, ◌⊎◌, arith, inl, inr, sym, ◌∙◌, ap₂, subst, ℤ, pos, ◌+ℤ◌, ◌-ℤ◌, ◌≤ℤ◌}
+use Rattle.std.proofs.Common.{ℕ, suc, ◌/◌, ◌≡◌, ◌⊎◌, arith, inl, inr, sym, ◌∙◌, ap₂, subst, ℤ, pos, ◌+ℤ◌, ◌-ℤ◌, ◌≤ℤ◌}
 use Rattle.std.proofs.lemmas.Int.{ints}
 use Rattle.short_games.specs.Tree.{Tree, Trees, left, right, Has, size}
 use Rattle.short_games.specs.Parts.{IsOption, IsFollower}
 use Rattle.short_games.specs.Parts.IsFollower.{itself, further}
 use Rattle.short_games.proofs.PartLaws.{follower-of}
-use Rattle.short_games.proofs.OrderLaws.{size-left, size-right}
+use Rattle.short_games.proofs.OrderLaws.{by_measure, size-option}
 use Rattle.short_games.proofs.NumberLaws.{num-double}
 use Rattle.short_games.proofs.WallNumbers.{num-one_to_one}
 use Rattle.short_games.specs.WallGrids.{IsGreatest, IsLeast, WallsAre, AllWallsAre, HasWalls, finer}
@@ -22,45 +22,41 @@ all-left k lw rw G X a h P f = a P (further G X P (inl h) f)
 pub all-right : (k : ℕ) (lw rw : Tree → ℕ → ℤ) (G X : Tree) → AllWallsAre k lw rw G → Has (right G) X → AllWallsAre k lw rw X
 all-right k lw rw G X a h P f = a P (further G X P (inr h) f)
 
-pub all-from : (k : ℕ) (lw rw : Tree → ℕ → ℤ) (G : Tree) → WallsAre k lw rw G → ((X : Tree) → Has (left G) X → AllWallsAre k lw rw X) → ((X : Tree) → Has (right G) X → AllWallsAre k lw rw X) → AllWallsAre k lw rw G
-all-from k lw rw G a f g P h = at P (follower-of G P h)
+pub all-from : (k : ℕ) (lw rw : Tree → ℕ → ℤ) (G : Tree) → WallsAre k lw rw G → ((X : Tree) → IsOption G X → AllWallsAre k lw rw X) → AllWallsAre k lw rw G
+all-from k lw rw G a f P h = at P (follower-of G P h)
   where
     at : (P : Tree) → (P ≡ G) ⊎ ((H : Tree) × IsOption G H × IsFollower H P) → WallsAre k lw rw P
     at P (inl i) = subst (WallsAre k lw rw) (sym i) a
-    at P (inr (H, inl o, h)) = f H o P h
-    at P (inr (H, inr o, h)) = g H o P h
+    at P (inr (H, o, h)) = f H o P h
+
+-- what holds of a tree with walls where it holds of its options, holds of each tree with walls
+pub by_walls : (k : ℕ) (lw rw : Tree → ℕ → ℤ) (Q : Tree → Type 0) → ((G : Tree) → AllWallsAre k lw rw G → ((X : Tree) → IsOption G X → Q X) → WallsAre k lw rw G → Q G)
+    → (G : Tree) → AllWallsAre k lw rw G → Q G
+by_walls k lw rw Q step = by_measure size (λ G. AllWallsAre k lw rw G → Q G) (λ G ih a. step G a (λ X o. ih X (size-option G X o) (λ P f. a P (further G X P o f))) (all-here k lw rw G a))
 
 -- two solutions agree
-SameWalls : (lw rw lw' rw' : Tree → ℕ → ℤ) → Tree → Type 0
+abbrev SameWalls : (lw rw lw' rw' : Tree → ℕ → ℤ) → Tree → Type 0
 SameWalls lw rw lw' rw' G = (t : ℕ) → (lw G t ≡ lw' G t) × (rw G t ≡ rw' G t)
 
 module _ (k : ℕ) (lw rw lw' rw' : Tree → ℕ → ℤ) where
-  unique_at : (G : Tree) → ((X : Tree) → Has (left G) X → SameWalls lw rw lw' rw' X) → ((X : Tree) → Has (right G) X → SameWalls lw rw lw' rw' X) → WallsAre k lw rw G → WallsAre k lw' rw' G → SameWalls lw rw lw' rw' G
-  unfolding SameWalls
-  unique_at G f g (of_number x i p q) (of_number y j r s) t = (p t ∙ same ∙ sym (r t), q t ∙ same ∙ sym (s t))
+  unique_at : (G : Tree) → ((X : Tree) → IsOption G X → SameWalls lw rw lw' rw' X) → WallsAre k lw rw G → WallsAre k lw' rw' G → SameWalls lw rw lw' rw' G
+  unique_at G f (of_number x i p q) (of_number y j r s) t = (p t ∙ same ∙ sym (r t), q t ∙ same ∙ sym (s t))
     where
       same : x ≡ y
       same = num-one_to_one k x y (sym i ∙ j)
-  unique_at G f g (of_number x i p q) (of_game n L R h h' w) t = absurd (n (k, x, i))
-  unique_at G f g (of_game n L R h h' w) (of_number x i p q) t = absurd (n (k, x, i))
-  unique_at G f g (of_game n L R h h' w) (of_game n' M S j j' v) t = follow-same L R M S t _ _ _ _ lefts rights (w t) (v t)
+  unique_at G f (of_number x i p q) (of_game n L R h h' w) t = absurd (n (k, x, i))
+  unique_at G f (of_game n L R h h' w) (of_number x i p q) t = absurd (n (k, x, i))
+  unique_at G f (of_game n L R h h' w) (of_game n' M S j j' v) t = follow-same L R M S t _ _ _ _ lefts rights (w t) (v t)
     where
       lefts : (t : ℕ) → L t ≡ M t
-      lefts t = omega (arith, ints, greatest-same (λ X. rw X t) (λ X. rw' X t) (left G) _ _ (λ X x. (f X x t).1) (h t) (j t))
+      lefts t = omega (arith, ints, greatest-same (λ X. rw X t) (λ X. rw' X t) (left G) _ _ (λ X x. (f X (inl x) t).1) (h t) (j t))
 
       rights : (t : ℕ) → R t ≡ S t
-      rights t = omega (arith, ints, least-same (λ X. lw X t) (λ X. lw' X t) (right G) _ _ (λ X x. (g X x t).0) (h' t) (j' t))
-
-  unique_within : (n : ℕ) (G : Tree) → size G < n → AllWallsAre k lw rw G → AllWallsAre k lw' rw' G → SameWalls lw rw lw' rw' G
-  unique_within zero G a p q = absurd (omega arith)
-  unique_within (suc n) G a p q = unique_at G
-      (λ X x. unique_within n X (omega (arith, size-left G X x)) (all-left k lw rw G X p x) (all-left k lw' rw' G X q x))
-      (λ X x. unique_within n X (omega (arith, size-right G X x)) (all-right k lw rw G X p x) (all-right k lw' rw' G X q x))
-      (all-here k lw rw G p) (all-here k lw' rw' G q)
+      rights t = omega (arith, ints, least-same (λ X. lw X t) (λ X. lw' X t) (right G) _ _ (λ X x. (f X (inr x) t).0) (h' t) (j' t))
 
   pub walls-unique : (G : Tree) → AllWallsAre k lw rw G → AllWallsAre k lw' rw' G → (t : ℕ) → (lw G t ≡ lw' G t) × (rw G t ≡ rw' G t)
-  unfolding SameWalls
-  walls-unique G = unique_within (suc (size G)) G (omega arith)
+  walls-unique = by_walls k lw rw (λ G. AllWallsAre k lw' rw' G → SameWalls lw rw lw' rw' G)
+      (λ G _ f w b. unique_at G (λ X o. f X o (λ P h. b P (further G X P o h))) w (all-here k lw' rw' G b))
 
 -- what left walls and right walls are like
 pub record IsSteady (l r : ℕ → ℤ) : Type 0 where
@@ -77,26 +73,19 @@ module _ (k : ℕ) (lw rw : Tree → ℕ → ℤ) where
   right_scaffold-rises Gs R f h = let g = least-falls lw Gs (λ t. R t -ℤ pos t) (λ X x. (f X x).falls) h in
       record { no_fall = λ t. omega (arith, ints, g.by_one t); by_one = λ t. omega (arith, ints, g.no_rise t) }
 
-  steady_at : (G : Tree) → ((X : Tree) → Has (left G) X → IsSteady (lw X) (rw X)) → ((X : Tree) → Has (right G) X → IsSteady (lw X) (rw X)) → WallsAre k lw rw G → IsSteady (lw G) (rw G)
-  steady_at G f g (of_number x i p q) = record {
+  steady_at : (G : Tree) → ((X : Tree) → IsOption G X → IsSteady (lw X) (rw X)) → WallsAre k lw rw G → IsSteady (lw G) (rw G)
+  steady_at G f (of_number x i p q) = record {
     falls = record { no_rise = λ t. omega (arith, ints, p t, p (suc t)); by_one = λ t. omega (arith, ints, p t, p (suc t)) };
     rises = record { no_fall = λ t. omega (arith, ints, q t, q (suc t)); by_one = λ t. omega (arith, ints, q t, q (suc t)) };
     ordered = λ t. omega (arith, ints, p t, q t);
   }
-  steady_at G f g (of_game n L R h h' w) =
-      let a = left_scaffold-falls (left G) L f h in
-      let b = right_scaffold-rises (right G) R g h' in
+  steady_at G f (of_game n L R h h' w) =
+      let a = left_scaffold-falls (left G) L (λ X x. f X (inl x)) h in
+      let b = right_scaffold-rises (right G) R (λ X x. f X (inr x)) h' in
       record { falls = left-falls L R (lw G) (rw G) a b w; rises = right-rises L R (lw G) (rw G) a b w; ordered = walls-ordered L R (lw G) (rw G) a b w }
 
-  steady_within : (n : ℕ) (G : Tree) → size G < n → AllWallsAre k lw rw G → IsSteady (lw G) (rw G)
-  steady_within zero G a p = absurd (omega arith)
-  steady_within (suc n) G a p = steady_at G
-      (λ X x. steady_within n X (omega (arith, size-left G X x)) (all-left k lw rw G X p x))
-      (λ X x. steady_within n X (omega (arith, size-right G X x)) (all-right k lw rw G X p x))
-      (all-here k lw rw G p)
-
   pub walls-steady : (G : Tree) → AllWallsAre k lw rw G → IsSteady (lw G) (rw G)
-  walls-steady G = steady_within (suc (size G)) G (omega arith)
+  walls-steady = by_walls k lw rw (λ G. IsSteady (lw G) (rw G)) (λ G _. steady_at G)
 
   -- a scaffold at half steps
   pub left_scaffold-doubles : (lw' rw' : Tree → ℕ → ℤ) (Gs : Trees) (L L' : ℕ → ℤ) → ((X : Tree) → Has Gs X → Rises (rw X)) → ((X : Tree) → Has Gs X → Doubles (rw X) (rw' X)) → Doubles L L' → ((t : ℕ) → IsGreatest (λ X. rw X t) Gs (L t +ℤ pos t))
@@ -119,15 +108,10 @@ module _ (k : ℕ) (lw rw : Tree → ℕ → ℤ) where
       (right_scaffold-doubles (λ X. finer (lw X)) (λ X. finer (rw X)) (right G) R (finer R) (λ X x. (rights X x).falls) (λ X x. finer-doubles (lw X)) (finer-doubles R) h')
       (doubled L R (lw G) (rw G) (left_scaffold-falls (left G) L lefts h) (right_scaffold-rises (right G) R rights h') w (finer L) (finer R) (finer (lw G)) (finer (rw G)) (finer-doubles L) (finer-doubles R) (finer-doubles (lw G)) (finer-doubles (rw G)))
 
-  finer_within : (n : ℕ) (G : Tree) → size G < n → AllWallsAre k lw rw G → AllWallsAre (suc k) (λ X. finer (lw X)) (λ X. finer (rw X)) G
-  finer_within zero G a p = absurd (omega arith)
-  finer_within (suc n) G a p = all-from (suc k) (λ X. finer (lw X)) (λ X. finer (rw X)) G (finer_at G p (all-here k lw rw G p))
-      (λ X x. finer_within n X (omega (arith, size-left G X x)) (all-left k lw rw G X p x))
-      (λ X x. finer_within n X (omega (arith, size-right G X x)) (all-right k lw rw G X p x))
-
   -- the walls of one grid are those of the next finer one, straight between neighbours
   pub walls-finer : (G : Tree) → AllWallsAre k lw rw G → AllWallsAre (suc k) (λ X. finer (lw X)) (λ X. finer (rw X)) G
-  walls-finer G = finer_within (suc (size G)) G (omega arith)
+  walls-finer = by_walls k lw rw (AllWallsAre (suc k) (λ X. finer (lw X)) (λ X. finer (rw X)))
+      (λ G a f w. all-from (suc k) (λ X. finer (lw X)) (λ X. finer (rw X)) G (finer_at G a w) f)
 
 pub has_walls-unique : (k : ℕ) (G : Tree) (l r l' r' : ℕ → ℤ) → HasWalls k G l r → HasWalls k G l' r' → (t : ℕ) → (l t ≡ l' t) × (r t ≡ r' t)
 has_walls-unique k G l r l' r' p q t = let s = walls-unique k p.lw p.rw q.lw q.rw G p.all q.all t in

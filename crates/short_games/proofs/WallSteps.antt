@@ -2,9 +2,9 @@
 use Rattle.std.proofs.Common.{ℕ, zero, suc, ◌+◌, ◌<◌, ◌≤◌, ◌≡◌, arith, refl, inl, inr, sym, ◌∙◌, ap, subst, ℤ, pos, neg_ℤ, ◌+ℤ◌, ◌-ℤ◌, ◌<ℤ◌, ◌≤ℤ◌}
 use Rattle.std.proofs.lemmas.Int.{ints}
 use Rattle.std.proofs.lemmas.Bool.{cases_lt}
-use Rattle.short_games.specs.Tree.{Tree, left, right, Has, size}
+use Rattle.short_games.specs.Tree.{Tree, left, right, Has}
 use Rattle.short_games.specs.Number.{num, IsNumberTree}
-use Rattle.short_games.proofs.OrderLaws.{size-left, size-right}
+use Rattle.short_games.specs.Parts.{IsOption}
 use Rattle.short_games.specs.WallGrids.{IsGreatest, IsLeast, Follow, WallsAre, AllWallsAre, IsMeeting}
 use Rattle.short_games.proofs.WallGreatest.{IsFilled, filled}
 use Rattle.short_games.specs.inner.Lines.{Rises, Falls}
@@ -12,7 +12,7 @@ use Rattle.short_games.specs.WallGrids.Follow.{apart, met}
 use Rattle.short_games.specs.WallGrids.WallsAre.{of_number, of_game}
 use Rattle.short_games.proofs.WallLines.{Doubles, greatest-same, least-same, follow-same, parity, Parity}
 use Rattle.short_games.proofs.WallLines.Parity.{even, odd}
-use Rattle.short_games.proofs.WallSolutions.{all-here, all-left, all-right, all-from, walls-unique, walls-steady, IsSteady}
+use Rattle.short_games.proofs.WallSolutions.{by_walls, all-left, all-right, all-from, walls-unique, walls-steady, IsSteady}
 use Rattle.short_games.proofs.WallsDrawn.{left_wall, right_wall, left_scaffold, right_scaffold, left_scaffold-is, right_scaffold-is, NoJump, walls-at}
 
 no_jump-from : (L R l r : ℕ → ℤ) → ((t : ℕ) → Follow L R t (l t) (r t)) → NoJump L R
@@ -41,15 +41,15 @@ no_jump-met L R u e a v h = elim (cases_lt v u) [
   ]
 ]
 
-module _ (k : ℕ) where
-  AllDrawn : Tree → Type 0
-  AllDrawn G = AllWallsAre k (left_wall k) (right_wall k) G
+-- the walls that are drawn are the walls
+abbrev pub AllDrawn : ℕ → Tree → Type 0
+AllDrawn k G = AllWallsAre k (left_wall k) (right_wall k) G
 
+module _ (k : ℕ) where
   -- any solution is the drawn one
-  solved_at : (lw rw : Tree → ℕ → ℤ) (G : Tree) → AllWallsAre k lw rw G → ((X : Tree) → Has (left G) X → AllDrawn X) → ((X : Tree) → Has (right G) X → AllDrawn X) → WallsAre k lw rw G → WallsAre k (left_wall k) (right_wall k) G
-  unfolding AllDrawn
-  solved_at lw rw G all f g (of_number x i p q) = walls-at k G (λ n. absurd (n x i))
-  solved_at lw rw G all f g (of_game n L R h h' w) = walls-at k G (λ _. record { no_number = n; left_filled = lefts; right_filled = rights; no_jump = no_jump-same L R _ _ left_same right_same (no_jump-from L R (lw G) (rw G) w) })
+  solved_at : (lw rw : Tree → ℕ → ℤ) (G : Tree) → AllWallsAre k lw rw G → ((X : Tree) → IsOption G X → AllDrawn k X) → WallsAre k lw rw G → WallsAre k (left_wall k) (right_wall k) G
+  solved_at lw rw G all f (of_number x i p q) = walls-at k G (λ n. absurd (n x i))
+  solved_at lw rw G all f (of_game n L R h h' w) = walls-at k G (λ _. record { no_number = n; left_filled = lefts; right_filled = rights; no_jump = no_jump-same L R _ _ left_same right_same (no_jump-from L R (lw G) (rw G) w) })
     where
       lefts : IsFilled (left G)
       lefts = filled (left G) (h 0).reached.0 (h 0).reached.1
@@ -58,22 +58,13 @@ module _ (k : ℕ) where
       rights = filled (right G) (h' 0).reached.0 (h' 0).reached.1
 
       left_same : (t : ℕ) → L t ≡ left_scaffold k G t
-      left_same t = omega (arith, ints, greatest-same (λ X. rw X t) (λ X. right_wall k X t) (left G) _ _ (λ X x. (walls-unique k lw rw (left_wall k) (right_wall k) X (all-left k lw rw G X all x) (f X x) t).1) (h t) (left_scaffold-is k G lefts t))
+      left_same t = omega (arith, ints, greatest-same (λ X. rw X t) (λ X. right_wall k X t) (left G) _ _ (λ X x. (walls-unique k lw rw (left_wall k) (right_wall k) X (all-left k lw rw G X all x) (f X (inl x)) t).1) (h t) (left_scaffold-is k G lefts t))
 
       right_same : (t : ℕ) → R t ≡ right_scaffold k G t
-      right_same t = omega (arith, ints, least-same (λ X. lw X t) (λ X. left_wall k X t) (right G) _ _ (λ X x. (walls-unique k lw rw (left_wall k) (right_wall k) X (all-right k lw rw G X all x) (g X x) t).0) (h' t) (right_scaffold-is k G rights t))
-
-  solved_within : (n : ℕ) (lw rw : Tree → ℕ → ℤ) (G : Tree) → size G < n → AllWallsAre k lw rw G → AllDrawn G
-  unfolding AllDrawn
-  solved_within zero lw rw G a w = absurd (omega arith)
-  solved_within (suc n) lw rw G a w = all-from k (left_wall k) (right_wall k) G
-      (solved_at lw rw G w (λ X x. solved_within n lw rw X (omega (arith, size-left G X x)) (all-left k lw rw G X w x)) (λ X x. solved_within n lw rw X (omega (arith, size-right G X x)) (all-right k lw rw G X w x)) (all-here k lw rw G w))
-      (λ X x. solved_within n lw rw X (omega (arith, size-left G X x)) (all-left k lw rw G X w x))
-      (λ X x. solved_within n lw rw X (omega (arith, size-right G X x)) (all-right k lw rw G X w x))
+      right_same t = omega (arith, ints, least-same (λ X. lw X t) (λ X. left_wall k X t) (right G) _ _ (λ X x. (walls-unique k lw rw (left_wall k) (right_wall k) X (all-right k lw rw G X all x) (f X (inr x)) t).0) (h' t) (right_scaffold-is k G rights t))
 
   pub solution-drawn : (lw rw : Tree → ℕ → ℤ) (G : Tree) → AllWallsAre k lw rw G → AllWallsAre k (left_wall k) (right_wall k) G
-  unfolding AllDrawn
-  solution-drawn lw rw G = solved_within (suc (size G)) lw rw G (omega arith)
+  solution-drawn lw rw = by_walls k lw rw (AllDrawn k) (λ G a f w. all-from k (left_wall k) (right_wall k) G (solved_at lw rw G a f w) f)
 
   -- two scaffolds that first meet at u, and walls that go along them until there
   pub record IsJoin (G : Tree) (L R l r : ℕ → ℤ) : Type 0 where
@@ -91,7 +82,7 @@ module _ (k : ℕ) where
   -- then the tree has these walls
   pub join-drawn : (G : Tree) (L R l r : ℕ → ℤ) → IsJoin G L R l r → ((X : Tree) → Has (left G) X → AllWallsAre k (left_wall k) (right_wall k) X) → ((X : Tree) → Has (right G) X → AllWallsAre k (left_wall k) (right_wall k) X)
       → AllWallsAre k (left_wall k) (right_wall k) G × ((t : ℕ) → (left_wall k G t ≡ l t) × (right_wall k G t ≡ r t))
-  join-drawn G L R l r j f g = (all-from k (left_wall k) (right_wall k) G here f g, λ t. same t here)
+  join-drawn G L R l r j f g = (all-from k (left_wall k) (right_wall k) G here (λ X o. elim o [ inl x ↦ f X x | inr x ↦ g X x ]), λ t. same t here)
     where
       lefts : IsFilled (left G)
       lefts = filled (left G) (j.left_is 0).reached.0 (j.left_is 0).reached.1
@@ -152,7 +143,7 @@ pub record IsBounded (k : ℕ) (bound : ℤ) (In : Tree → Type 0) : Type 0 whe
   pub left_in : (G X : Tree) → (IsNumberTree G → ⊥) → In G → Has (left G) X → In X
   pub right_in : (G X : Tree) → (IsNumberTree G → ⊥) → In G → Has (right G) X → In X
 
-InBounds : (bound : ℤ) (l r : ℕ → ℤ) → Type 0
+abbrev InBounds : (bound : ℤ) (l r : ℕ → ℤ) → Type 0
 InBounds bound l r = (t : ℕ) → (neg_ℤ bound ≤ℤ r t) × (r t ≤ℤ l t) × (l t ≤ℤ bound)
 
 falls-far : (f : ℕ → ℤ) → Falls f → (t : ℕ) → f t ≤ℤ f 0
@@ -163,16 +154,16 @@ rises-far : (f : ℕ → ℤ) → Rises f → (t : ℕ) → f 0 ≤ℤ f t
 rises-far f h zero = omega (arith, ints)
 rises-far f h (suc t) = omega (arith, ints, rises-far f h t, h.no_fall t)
 
-bounds_at : (k : ℕ) (bound : ℤ) (In : Tree → Type 0) (lw rw : Tree → ℕ → ℤ) (G : Tree) → IsSteady (lw G) (rw G) → IsBounded k bound In → In G → ((IsNumberTree G → ⊥) → (X : Tree) → Has (left G) X → InBounds bound (lw X) (rw X)) → ((IsNumberTree G → ⊥) → (X : Tree) → Has (right G) X → InBounds bound (lw X) (rw X)) → WallsAre k lw rw G → InBounds bound (lw G) (rw G)
-unfolding InBounds
-bounds_at k bound In lw rw G s b m f g (of_number x i p q) t = let c = b.number G x m i in (omega (arith, ints, c.0, q t), s.ordered t, omega (arith, ints, c.1, p t))
-bounds_at k bound In lw rw G s b m f g (of_game n L R h h' w) t = (omega (arith, ints, rises-far (rw G) s.rises t, right_zero (w 0)), s.ordered t, omega (arith, ints, falls-far (lw G) s.falls t, left_zero (w 0)))
+bounds_at : (k : ℕ) (bound : ℤ) (In : Tree → Type 0) (lw rw : Tree → ℕ → ℤ) (G : Tree) → IsSteady (lw G) (rw G) → IsBounded k bound In → In G
+    → ((IsNumberTree G → ⊥) → (X : Tree) → IsOption G X → InBounds bound (lw X) (rw X)) → WallsAre k lw rw G → InBounds bound (lw G) (rw G)
+bounds_at k bound In lw rw G s b m f (of_number x i p q) t = let c = b.number G x m i in (omega (arith, ints, c.0, q t), s.ordered t, omega (arith, ints, c.1, p t))
+bounds_at k bound In lw rw G s b m f (of_game n L R h h' w) t = (omega (arith, ints, rises-far (rw G) s.rises t, right_zero (w 0)), s.ordered t, omega (arith, ints, falls-far (lw G) s.falls t, left_zero (w 0)))
   where
     left_top : L 0 ≤ℤ bound
-    left_top = let a = (h 0).reached in let c = f n a.0 a.1 0 in omega (arith, ints, a.2, c.1, c.2)
+    left_top = let a = (h 0).reached in let c = f n a.0 (inl a.1) 0 in omega (arith, ints, a.2, c.1, c.2)
 
     right_top : neg_ℤ bound ≤ℤ R 0
-    right_top = let a = (h' 0).reached in let c = g n a.0 a.1 0 in omega (arith, ints, a.2, c.0, c.1)
+    right_top = let a = (h' 0).reached in let c = f n a.0 (inr a.1) 0 in omega (arith, ints, a.2, c.0, c.1)
 
     left_zero : Follow L R 0 (lw G 0) (rw G 0) → lw G 0 ≤ℤ bound
     left_zero (apart c x y) = omega (arith, ints, x, left_top)
@@ -182,14 +173,7 @@ bounds_at k bound In lw rw G s b m f g (of_game n L R h h' w) t = (omega (arith,
     right_zero (apart c x y) = omega (arith, ints, y, right_top)
     right_zero (met u c d e x y) = let z : u ≡ 0 = omega (arith, c) in let l : R u ≡ R 0 = ap R z in omega (arith, ints, y, l, right_top)
 
-bounds_within : (n k : ℕ) (bound : ℤ) (In : Tree → Type 0) (lw rw : Tree → ℕ → ℤ) (G : Tree) → size G < n → IsBounded k bound In → In G → AllWallsAre k lw rw G → InBounds bound (lw G) (rw G)
-bounds_within zero k bound In lw rw G a b m w = absurd (omega arith)
-bounds_within (suc n) k bound In lw rw G a b m w = bounds_at k bound In lw rw G (walls-steady k lw rw G w) b m
-    (λ h X x. bounds_within n k bound In lw rw X (omega (arith, size-left G X x)) b (b.left_in G X h m x) (all-left k lw rw G X w x))
-    (λ h X x. bounds_within n k bound In lw rw X (omega (arith, size-right G X x)) b (b.right_in G X h m x) (all-right k lw rw G X w x))
-    (all-here k lw rw G w)
-
 -- walls are past no bound of the numbers
 pub walls-within : (k : ℕ) (bound : ℤ) (In : Tree → Type 0) (lw rw : Tree → ℕ → ℤ) (G : Tree) → IsBounded k bound In → In G → AllWallsAre k lw rw G → (t : ℕ) → (neg_ℤ bound ≤ℤ rw G t) × (rw G t ≤ℤ lw G t) × (lw G t ≤ℤ bound)
-unfolding InBounds
-walls-within k bound In lw rw G = bounds_within (suc (size G)) k bound In lw rw G (omega arith)
+walls-within k bound In lw rw G b i a = by_walls k lw rw (λ H. In H → InBounds bound (lw H) (rw H)) (λ H all f w m. bounds_at k bound In lw rw H (walls-steady k lw rw H all) b m
+    (λ n X o. f X o (elim o [ inl x ↦ b.left_in H X n m x | inr x ↦ b.right_in H X n m x ])) w) G a i

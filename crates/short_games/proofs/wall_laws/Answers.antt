@@ -4,8 +4,7 @@ use Rattle.short_games.specs.Stops.{IsLeftStop, IsRightStop}
 use Rattle.short_games.proofs.WallSolutions.{has_walls-unique, has_walls-finer}
 use Rattle.short_games.proofs.WallsDrawn.{left_wall, right_wall}
 use Rattle.short_games.proofs.WallOver.{over-size}
-use Rattle.short_games.proofs.WallBeginnings.{walls-zero}
-use Rattle.short_games.proofs.WallExistence.{walls-exist}
+use Rattle.short_games.proofs.WallExistence.{walls-zero, walls-exist}
 use Rattle.short_games.proofs.WallMeetings.{meeting-exists}
 use Rattle.short_games.proofs.WallBetween.{none-between, none-bends}
 use Rattle.short_games.proofs.WallRule.{rule-is}
