@@ -4,23 +4,19 @@ use Rattle.std.proofs.lemmas.Int.{ints, by_lt_z}
 use Rattle.short_games.specs.Tree.{Tree, node, Trees, none, more, left, right, Has, size, neg}
 use Rattle.short_games.specs.Order.{◌≤ᵍ◌}
 use Rattle.short_games.specs.Sum.{◌+ᵍ◌, total}
-use Rattle.short_games.specs.Number.{num, whole, count_tree, IsNumber}
+use Rattle.short_games.specs.Number.{num, whole, IsNumber}
 use Rattle.short_games.specs.Moves.{LeftMoves, RightMoves, LeftWins, RightWins}
 use Rattle.short_games.specs.NumberLaws.{AreNoNumbers}
 use Rattle.short_games.proofs.ReductionLaws.{canonical-number}
 use Rattle.short_games.proofs.OrderLaws.{le-in, le-trans, le-refl, size-left, size-pos, none-or_some, le-or_not}
 use Rattle.short_games.proofs.SumLaws.{same-swap, plus-nought, neg-le, neg-neg, neg-plus, neg-left, neg_each-has, plus-le, plus-le_both, plus-assoc, left_of_sum, right_of_sum, InSum, nought}
 use Rattle.short_games.proofs.SumLaws.InSum.{in_first, in_second}
-use Rattle.short_games.proofs.NumberLaws.{num-zero, num-shift, neg-num, neg-number, num-left, num-right, num-le, num-lt, num-le_plus, avoid-le}
+use Rattle.short_games.proofs.NumberLaws.{no-right, num-zero, num-shift, neg-num, neg-number, num-left, num-right, num-le, num-lt, num-le_plus, avoid-le}
 use Rattle.short_games.proofs.ThresholdLaws.{scaled}
 
 -- each game lies between two integers
-no-right : (n : ℕ) (X : Tree) → Has (right (num 0 (pos n))) X → ⊥
-unfolding num whole count_tree
-no-right zero X h = h
-no-right (suc n) X h = h
-
 at-most_integer : (n : ℕ) (G : Tree) → size G ≤ n → G ≤ᵍ num 0 (pos n)
+unfolding num whole
 at-most_integer zero G a = absurd (omega (arith, a, size-pos G))
 at-most_integer (suc n) G a = le-in G (num 0 (pos (suc n))) record {
   from_left = λ L l y. num-lt 0 (pos n) (pos (suc n)) (omega (arith, ints)) (le-trans _ L _ y (at-most_integer n L (omega (arith, a, size-left G L l))));

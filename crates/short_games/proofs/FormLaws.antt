@@ -1,5 +1,5 @@
 -- What may be done to a form: options exchanged for better ones, reversible options replaced, numbers found, numbers added.
-use Rattle.std.proofs.Common.{ℕ, zero, suc, ◌<◌, ◌≡◌, arith, refl, inl, inr, sym, ◌∙◌, ap, subst, ℤ, pos, negsuc, ◌+ℤ◌, ◌<ℤ◌, neg_ℤ, false}
+use Rattle.std.proofs.Common.{ℕ, zero, suc, ◌<◌, ◌≡◌, arith, refl, inl, inr, sym, ◌∙◌, ap, subst, ℤ, pos, negsuc, ◌+ℤ◌, ◌<ℤ◌, neg_ℤ}
 use Rattle.std.proofs.lemmas.Int.{ints}
 use Rattle.std.proofs.lemmas.Bool.{cases_Bool}
 use Rattle.short_games.specs.Tree.{Tree, Trees, node, none, more, left, right, Has, size, neg, neg_each}
@@ -11,7 +11,7 @@ use Rattle.short_games.specs.Canonical.{Ascends, IsReduced, IsCanonical, AreCano
 use Rattle.short_games.proofs.OrderLaws.{by_measure, le-in, le-refl, le-trans, size-left, size-right, not-le, le-or_not}
 use Rattle.short_games.proofs.SumLaws.{left_of_sum, right_of_sum, left_in_first, right_in_first, InSum, has-each_plus, each_plus-has, not_le_left, not_right_le, neg-neg, neg-right, has-neg_each}
 use Rattle.short_games.proofs.SumLaws.InSum.{in_first, in_second}
-use Rattle.short_games.proofs.NumberLaws.{num-turned, num-shift, num-left, num-right, num-le, num-lt, num-double, num-even, num-odd, half-even, half-odd, neg-num}
+use Rattle.short_games.proofs.NumberLaws.{no-right, num-turned, num-shift, num-left, num-right, num-le, num-lt, num-double, num-even, num-odd, half-even, half-odd, neg-num}
 use Rattle.short_games.proofs.CanonicalLaws.{canonical-unique}
 
 -- a game whose Left options are each at most one of another's, and the other way round on the right
@@ -49,50 +49,26 @@ number_step G e z ih f = elim (le-or_not G (num e z)) [
 pub number_between : (G : Tree) (e : ℕ) (z : ℤ) → ((L : Tree) → Has (left G) L → num e z ≤ᵍ L → ⊥) → ((R : Tree) → Has (right G) R → R ≤ᵍ num e z → ⊥) → IsNumber G
 number_between G e z f g = by_measure (λ y. size (num e y)) (λ y. FitsForm G (num e y) → IsNumber G) (number_step G e) z record { over_left = f; under_right = g }
 
--- a number has at most one option on each side, and an answer to it goes past the number
-one_left : (e : ℕ) (m : ℤ) (A B : Tree) → Has (left (num e m)) A → Has (left (num e m)) B → A ≡ B
-unfolding num whole count_tree neg
-one_left zero (pos zero) A B a b = absurd a
-one_left zero (pos (suc n)) A B (inl a) (inl b) = a ∙ sym b
-one_left zero (pos (suc n)) A B (inl a) (inr b) = absurd b
-one_left zero (pos (suc n)) A B (inr a) b = absurd a
-one_left zero (negsuc n) A B a b = absurd a
-one_left (suc e) m A B a b = elim (cases_Bool (is_even m)) [
-  | inl t ↦ one_left e (half m) A B (rw (num-even e m t) at a) (rw (num-even e m t) at b)
-  | inr f ↦ only (half m) (rw (num-odd e m f) at a) (rw (num-odd e m f) at b)
-]
-  where
-    only : (k : ℤ) → Has (more (num e k) none) A → Has (more (num e k) none) B → A ≡ B
-    only k (inl a) (inl b) = a ∙ sym b
-    only k (inl a) (inr b) = absurd b
-    only k (inr a) b = absurd a
-
+-- an answer to an option of a number goes past the number
 answer_left : (e : ℕ) (m : ℤ) (L R : Tree) → Has (left (num e m)) L → Has (right L) R → (k : ℤ) × (m <ℤ k) × (R ≡ num e k)
 unfolding num whole count_tree neg
 answer_left zero (pos zero) L R l r = absurd l
-answer_left zero (pos (suc n)) L R (inl l) r = absurd (no_right n (subst (λ t. Has (right t) R) l r))
-  where
-    no_right : (n : ℕ) → Has (right (count_tree n)) R → ⊥
-    no_right zero h = h
-    no_right (suc n) h = h
+answer_left zero (pos (suc n)) L R (inl l) r = absurd (no-right n R (subst (λ t. Has (right t) R) l r))
 answer_left zero (pos (suc n)) L R (inr l) r = absurd l
 answer_left zero (negsuc n) L R l r = absurd l
 answer_left (suc e) m L R l r = elim (cases_Bool (is_even m)) [
   | inl t ↦ (let k = answer_left e (half m) L R (rw (num-even e m t) at l) r in (k.0 +ℤ k.0, omega (arith, ints, half-even m t, k.1), k.2 ∙ sym (num-double e k.0)))
-  | inr f ↦ odd f (rw (num-odd e m f) at l)
+  | inr f ↦ elim (rw (num-odd e m f) at l) [
+    | inl i ↦ (let k = num-right e (half m) R (subst (λ t. Has (right t) R) i r) in (k.0 +ℤ k.0, omega (arith, ints, half-odd m f, k.1), k.2 ∙ sym (num-double e k.0)))
+    | inr i ↦ absurd i
+  ]
 ]
-  where
-    odd : is_even m ≡ false → Has (more (num e (half m)) none) L → (k : ℤ) × (m <ℤ k) × (R ≡ num (suc e) k)
-    odd f (inl i) = let k = num-right e (half m) R (subst (λ t. Has (right t) R) i r) in (k.0 +ℤ k.0, omega (arith, ints, half-odd m f, k.1), k.2 ∙ sym (num-double e k.0))
-    odd f (inr i) = absurd i
-
-one_right : (e : ℕ) (m : ℤ) (A B : Tree) → Has (right (num e m)) A → Has (right (num e m)) B → A ≡ B
-one_right e m A B a b = sym (neg-neg A) ∙ ap neg (one_left e (neg_ℤ m) (neg A) (neg B) (num-turned e m A a) (num-turned e m B b)) ∙ neg-neg B
 
 answer_right : (e : ℕ) (m : ℤ) (R L : Tree) → Has (right (num e m)) R → Has (left R) L → (k : ℤ) × (k <ℤ m) × (L ≡ num e k)
 answer_right e m R L r l = let k = answer_left e (neg_ℤ m) (neg R) (neg L) (num-turned e m R r) (rw (neg-right R) (has-neg_each (left R) L l)) in
     (neg_ℤ k.0, omega (arith, ints, k.1), sym (neg-neg L) ∙ ap neg k.2 ∙ neg-num e k.0)
 
+-- a number has at most one option on each side
 abbrev IsShort : Trees → Type 0
 IsShort none = Unit {0}
 IsShort (more G none) = Unit {0}
@@ -120,11 +96,18 @@ short_right e m = subst IsShort (sym (neg-right (num e (neg_ℤ m))) ∙ ap righ
     back : neg_ℤ (neg_ℤ m) ≡ m
     back = omega (arith, ints)
 
+only : (Gs : Trees) (A B : Tree) → IsShort Gs → Has Gs A → Has Gs B → A ≡ B
+only none A B s a b = absurd a
+only (more G none) A B s (inl a) (inl b) = a ∙ sym b
+only (more G none) A B s (inl a) (inr b) = absurd b
+only (more G none) A B s (inr a) b = absurd a
+only (more G (more H Hs)) A B s a b = absurd s
+
 module _ (Before : Tree → Tree → Type 0) where
   num-reduced : (e : ℕ) (m : ℤ) → Ascends Before (left (num e m)) → Ascends Before (right (num e m)) → IsReduced Before (num e m)
   num-reduced e m la ra = record {
-    left_free = λ A B a b _. one_left e m A B a b;
-    right_free = λ A B a b _. one_right e m A B a b;
+    left_free = λ A B a b _. only _ A B (short_left e m) a b;
+    right_free = λ A B a b _. only _ A B (short_right e m) a b;
     left_kept = λ L R l r y. (let k = answer_left e m L R l r in num-lt e m k.0 k.1 (subst (λ t. t ≤ᵍ num e m) k.2 y));
     right_kept = λ R L r l y. (let k = answer_right e m R L r l in num-lt e k.0 m k.1 (subst (λ t. num e m ≤ᵍ t) k.2 y));
     left_ascends = la;

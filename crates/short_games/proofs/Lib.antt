@@ -13,9 +13,7 @@ pub mod ReductionLaws
 pub mod StopLaws
 pub mod AvoidanceLaws
 pub mod IncentiveLaws
-pub mod CanonicalTest
 pub mod Examples
-pub mod KnownLaws
 pub mod WallLines
 pub mod WallGreatest
 pub mod WallNumbers

@@ -79,18 +79,20 @@ neg-num (suc e) m = elim (cases_Bool (is_even m)) [
   | inr f ↦ ap neg (num-odd e m f) ∙ (let r = odd-neg m f in rw (num-odd e (neg_ℤ m) r.0, r.2, r.1, ← neg-num e (half m), ← neg-num e (half m +ℤ pos 1)))
 ]
 
+-- a number at least 0 has no Right option
+pub no-right : (n : ℕ) (X : Tree) → Has (right (count_tree n)) X → ⊥
+unfolding count_tree
+no-right zero X h = h
+no-right (suc n) X h = h
+
 -- every option of a number is a number, below it for Left and above it for Right
 pub num-left : (e : ℕ) (m : ℤ) (X : Tree) → Has (left (num e m)) X → (k : ℤ) × (k <ℤ m) × (X ≡ num e k)
 unfolding num
 num-left zero m X h = whole-left m X h
 num-left (suc e) m X h = elim (cases_Bool (is_even m)) [
   | inl t ↦ (let r = num-left e (half m) X (rw (num-even e m t) at h) in (r.0 +ℤ r.0, omega (arith, ints, half-even m t, r.1), r.2 ∙ sym (num-double e r.0)))
-  | inr f ↦ odd f (rw (num-odd e m f) at h)
+  | inr f ↦ elim (rw (num-odd e m f) at h) [ inl x ↦ (half m +ℤ half m, omega (arith, ints, half-odd m f), x ∙ sym (num-double e (half m))) | inr x ↦ absurd x ]
 ]
-  where
-    odd : is_even m ≡ false → Has (more (num e (half m)) none) X → (k : ℤ) × (k <ℤ m) × (X ≡ num (suc e) k)
-    odd f (inl x) = (half m +ℤ half m, omega (arith, ints, half-odd m f), x ∙ sym (num-double e (half m)))
-    odd f (inr x) = elim x [ ]
 
 -- turned, a Right option of a number is a Left option of its negative
 pub num-turned : (e : ℕ) (m : ℤ) (X : Tree) → Has (right (num e m)) X → Has (left (num e (neg_ℤ m))) (neg X)
@@ -120,16 +122,9 @@ even_right e m k t h = rw (num-even e m t, num-double e k) h
 
 pub gap : (e : ℕ) (m n k : ℤ) → (m +ℤ n) <ℤ k → Gap e m n k
 unfolding num
-gap zero m n k h = by_lt_z (pos 0) k (λ a. at_k (whole-has_left k a)) (λ a. by_lt_z m (pos 0) (λ b. at_m (whole-has_right m b)) (λ b. at_n (whole-has_right n (omega (arith, ints)))))
-  where
-    at_k : (k' : ℤ) × (k' +ℤ pos 1 ≡ k) × Has (left (whole k)) (whole k') → Gap zero m n k
-    at_k r = down r.0 r.2 (omega (arith, ints, r.1))
-
-    at_m : (m' : ℤ) × (m +ℤ pos 1 ≡ m') × Has (right (whole m)) (whole m') → Gap zero m n k
-    at_m r = up_first r.0 r.2 (omega (arith, ints, r.1))
-
-    at_n : (n' : ℤ) × (n +ℤ pos 1 ≡ n') × Has (right (whole n)) (whole n') → Gap zero m n k
-    at_n r = up_second r.0 r.2 (omega (arith, ints, r.1))
+gap zero m n k h = by_lt_z (pos 0) k (λ a. (let r = whole-has_left k a in down r.0 r.2 (omega (arith, ints, r.1))))
+    (λ a. by_lt_z m (pos 0) (λ b. (let r = whole-has_right m b in up_first r.0 r.2 (omega (arith, ints, r.1))))
+    (λ b. (let r = whole-has_right n (omega (arith, ints)) in up_second r.0 r.2 (omega (arith, ints, r.1)))))
 gap (suc e) m n k h = elim (cases_Bool (is_even k)) [
   | inr f ↦ (let r = odd_down e k f in down r.0 r.2 (omega (arith, ints, r.1)))
   | inl kt ↦ elim (cases_Bool (is_even m)) [

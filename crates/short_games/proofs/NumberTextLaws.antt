@@ -5,7 +5,7 @@ use Rattle.std.proofs.lemmas.Bool.{true≢false, ltb-true, ltb-false, and_parts}
 use Rattle.short_games.specs.Tree.{Tree, Trees, node, none, more}
 use Rattle.short_games.specs.Number.{num}
 use Rattle.short_games.specs.NumberText.{same, same_each, Fraction, guess, number_of, digits_within, digits, integer_text, denominator_text, fraction_text, text_of_number, number_text}
-use Rattle.short_games.proofs.TextLaws.{AreDigits, IsMore, head-is, tail-is}
+use Rattle.short_games.proofs.TextLaws.{runs, AreDigits, IsMore, head-is, tail-is}
 
 mutual
   unfolding same
@@ -80,17 +80,10 @@ abbrev StopsDigits : List ℕ → Type 0
 StopsDigits [] = Unit {0}
 StopsDigits (x ∷ xs) = x < 48
 
-decimal_runs : (a b s t : List ℕ) → AreDecimal a → AreDecimal b → StopsDigits s → StopsDigits t → a ++ s ≡ b ++ t → (a ≡ b) × (s ≡ t)
-decimal_runs [] [] s t p q u v e = (refl, e)
-decimal_runs [] (y ∷ b) [] t p q u v e = absurd (subst IsMore (sym e) tt)
-decimal_runs [] (y ∷ b) (x ∷ s) t p q u v e = absurd (omega (arith, head-is e, q.0, u))
-decimal_runs (x ∷ a) [] s [] p q u v e = absurd (subst IsMore e tt)
-decimal_runs (x ∷ a) [] s (y ∷ t) p q u v e = absurd (omega (arith, head-is e, p.0, v))
-decimal_runs (x ∷ a) (y ∷ b) s t p q u v e = let r = decimal_runs a b s t p.2 q.2 u v (tail-is e) in (ap₂ ◌∷◌ (head-is e) r.0, r.1)
-
 digits-both : (m n : ℕ) (s t : List ℕ) → StopsDigits s → StopsDigits t → digits m s ≡ digits n t → (m ≡ n) × (s ≡ t)
 digits-both m n s t u v e = let a = in_front (suc m) m (omega arith) in let b = in_front (suc n) n (omega arith) in
-    let r = decimal_runs a.bytes b.bytes s t a.decimal b.decimal u v (sym (a.front s) ∙ e ∙ b.front t) in
+    let r = runs (λ x. (48 ≤ x) × (x < 58)) AreDecimal StopsDigits (λ x xs d. ((d.0, d.1), d.2)) (λ x xs u d. omega (arith, u, d.0))
+        a.bytes b.bytes s t a.decimal b.decimal u v (sym (a.front s) ∙ e ∙ b.front t) in
     (digits-one_to_one m n (a.front [] ∙ ap (λ (x : List ℕ). x ++ []) r.0 ∙ sym (b.front [])), r.1)
 
 -- the first byte of digits

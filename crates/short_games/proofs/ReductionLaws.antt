@@ -1,10 +1,9 @@
 -- What is left of a form when nothing more can be dropped or bypassed is canonical, but for the order.
 use Rattle.std.proofs.Common.{ℕ, ◌≡◌, ◌⊎◌, inl, inr, sym, subst, ℤ, arith}
 use Rattle.std.proofs.lemmas.Int.{ints}
-use Rattle.short_games.specs.Tree.{Tree, Trees, node, none, more, left, right, Has}
+use Rattle.short_games.specs.Tree.{Tree, Trees, node, left, right, Has}
 use Rattle.short_games.specs.Order.{◌≤ᵍ◌}
 use Rattle.short_games.specs.Number.{num, IsNumber}
-use Rattle.short_games.specs.Canonical.{IsCanonical, AreCanonical}
 use Rattle.short_games.specs.TextOrder.{TextBefore, sorted, IsCanonicalTree, IsCanonicalFor}
 use Rattle.short_games.specs.inner.Reduction.{DropsLeft, DropsRight, BypassesLeft, BypassesRight, IsFreeLeft, KeepsLeft, KeepsRight}
 use Rattle.short_games.proofs.OrderLaws.{le-out, le-in, le-refl, le-trans, none-or_some, le-or_not}
@@ -108,11 +107,6 @@ number-answers_right G no_number R e m l p X x =
     let y = option-under G no_number e m p in
     let k = num-right e m X x in
     (y.0, y.1, λ i. not_le_left R (num e m) l (subst (λ t. t ≤ᵍ num e m) i y.2), le-trans y.0 (num e m) X y.2 (subst (λ t. num e m ≤ᵍ t) (sym k.2) (num-le e m k.0 (omega (arith, ints, k.1)))))
-
-at-canonical : (Gs : Trees) (X : Tree) → AreCanonical TextBefore Gs → Has Gs X → IsCanonicalTree X
-at-canonical none X c h = absurd h
-at-canonical (more K Ks) X c (inl e) = subst (IsCanonical TextBefore) (sym e) c.0
-at-canonical (more K Ks) X c (inr h) = at-canonical Ks X c.1 h
 
 -- a form of which nothing can be dropped or bypassed, put in order, is the canonical tree
 pub form-canonical : (ls rs : Trees) → ((X : Tree) → Has ls X → IsCanonicalTree X) → ((X : Tree) → Has rs X → IsCanonicalTree X) → IsFreeLeft ls → IsFreeLeft rs → ((L : Tree) → Has ls L → KeepsLeft (node ls rs) L) → ((R : Tree) → Has rs R → KeepsRight (node ls rs) R)

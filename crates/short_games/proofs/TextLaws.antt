@@ -37,14 +37,15 @@ abbrev pub IsMore : List ℕ → Type 0
 IsMore [] = ⊥
 IsMore (x ∷ xs) = Unit {0}
 
--- the longest run of digits is one
-runs : (a b s t : List ℕ) → AreDigits a → AreDigits b → Ends s → Ends t → a ++ s ≡ b ++ t → (a ≡ b) × (s ≡ t)
-runs [] [] s t p q u v e = (refl, e)
-runs [] (y ∷ b) [] t p q u v e = absurd (subst IsMore (sym e) tt)
-runs [] (y ∷ b) (x ∷ s) t p q u v e = absurd (u (subst IsDigit (sym (head-is e)) q.0))
-runs (x ∷ a) [] s [] p q u v e = absurd (subst IsMore e tt)
-runs (x ∷ a) [] s (y ∷ t) p q u v e = absurd (v (subst IsDigit (head-is e) p.0))
-runs (x ∷ a) (y ∷ b) s t p q u v e = let r = runs a b s t p.1 q.1 u v (tail-is e) in (ap₂ ◌∷◌ (head-is e) r.0, r.1)
+-- the longest run of bytes of a kind is one, where what stands behind doesn't begin with such a byte
+module _ (Is : ℕ → Type 0) (Are Stops : List ℕ → Type 0) (first : (x : ℕ) (xs : List ℕ) → Are (x ∷ xs) → Is x × Are xs) (stops : (x : ℕ) (xs : List ℕ) → Stops (x ∷ xs) → Is x → ⊥) where
+  pub runs : (a b s t : List ℕ) → Are a → Are b → Stops s → Stops t → a ++ s ≡ b ++ t → (a ≡ b) × (s ≡ t)
+  runs [] [] s t p q u v e = (refl, e)
+  runs [] (y ∷ b) [] t p q u v e = absurd (subst IsMore (sym e) tt)
+  runs [] (y ∷ b) (x ∷ s) t p q u v e = absurd (stops x s u (subst Is (sym (head-is e)) (first y b q).0))
+  runs (x ∷ a) [] s [] p q u v e = absurd (subst IsMore e tt)
+  runs (x ∷ a) [] s (y ∷ t) p q u v e = absurd (stops y t v (subst Is (head-is e) (first x a p).0))
+  runs (x ∷ a) (y ∷ b) s t p q u v e = let r = runs a b s t (first x a p).1 (first y b q).1 u v (tail-is e) in (ap₂ ◌∷◌ (head-is e) r.0, r.1)
 
 module _ (number : Tree → Option (List ℕ)) (digits : (G : Tree) (t : List ℕ) → number G ≡ Some t → AreDigits t) (nonempty : (G : Tree) (t : List ℕ) → number G ≡ Some t → IsMore t) (one_to_one : (G H : Tree) (t : List ℕ) → number G ≡ Some t → number H ≡ Some t → G ≡ H) where
   ends-rest : (Gs : Trees) (s : List ℕ) → Ends s → Ends (texts_rest number Gs s)
@@ -93,7 +94,7 @@ module _ (number : Tree → Option (List ℕ)) (digits : (G : Tree) (t : List �
   both G H s t u v g h None (Some (y ∷ b)) m n e k = absurd (let d : IsDigit y = (digits H (y ∷ b) n).0 in omega (arith, d, head-is e))
   both G H s t u v g h (Some []) p m n e k = absurd (nonempty G [] m)
   both G H s t u v g h (Some (x ∷ a)) None m n e k = absurd (let d : IsDigit x = (digits G (x ∷ a) m).0 in omega (arith, d, head-is e))
-  both G H s t u v g h (Some (x ∷ a)) (Some b) m n e k = let r = runs (x ∷ a) b s t (digits G (x ∷ a) m) (digits H b n) u v e in (one_to_one G H b (m ∙ ap Some r.0) n, r.1)
+  both G H s t u v g h (Some (x ∷ a)) (Some b) m n e k = let r = runs IsDigit AreDigits Ends (λ z zs d. d) (λ z zs d. d) (x ∷ a) b s t (digits G (x ∷ a) m) (digits H b n) u v e in (one_to_one G H b (m ∙ ap Some r.0) n, r.1)
 
   mutual
     unfolding text

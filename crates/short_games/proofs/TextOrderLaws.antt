@@ -8,6 +8,7 @@ use Rattle.short_games.specs.inner.Canonical.{IsStrictOrder}
 use Rattle.short_games.specs.NumberText.{number_text}
 use Rattle.short_games.specs.TextOrder.{tree_text, lesser_text, text_before, TextBefore, insert, sorted}
 use Rattle.short_games.proofs.NumberTextLaws.{number_text-bytes, number_text-some, number_text-one_to_one}
+use Rattle.short_games.proofs.CanonicalLaws.{ascends-rest}
 use Rattle.short_games.proofs.TextLaws.{text-one_to_one}
 
 -- trees of equal texts are one tree
@@ -132,14 +133,10 @@ heads Z G (more H Hs) b a i = at (text_before G H) (text_before H G) i
     at false true i = (a.0, i)
     at false false i = (a.0, i)
 
-rest : (G : Tree) (Hs : Trees) → Ascends TextBefore (more G Hs) → Ascends TextBefore Hs
-rest G none a = tt
-rest G (more H Hs) a = a.1
-
 insert-ascends : (G : Tree) (Hs : Trees) → Ascends TextBefore Hs → Ascends TextBefore (insert G Hs)
 unfolding insert
 insert-ascends G none a = tt
-insert-ascends G (more H Hs) a = at (text_before G H) refl (text_before H G) refl (insert-ascends G Hs (rest H Hs a))
+insert-ascends G (more H Hs) a = at (text_before G H) refl (text_before H G) refl (insert-ascends G Hs (ascends-rest TextBefore text-order.irreflexive text-order.transitive H Hs a))
   where
     at : (b : Bool) → text_before G H ≡ b → (c : Bool) → text_before H G ≡ c → Ascends TextBefore (insert G Hs) → Ascends TextBefore (cond b (more G (more H Hs)) (cond c (more H (insert G Hs)) (more H Hs)))
     at true p c q i = (p, a)

@@ -1,5 +1,5 @@
 -- Lists that have a tree, and the greatest and the least of a list with one more tree.
-use Rattle.std.proofs.Common.{◌≡◌, ◌⊎◌, arith, refl, inl, inr, sym, subst, ℤ, ◌<ℤ◌, ◌≤ℤ◌}
+use Rattle.std.proofs.Common.{◌≡◌, ◌⊎◌, arith, refl, inl, inr, sym, subst, ℤ, ◌≤ℤ◌}
 use Rattle.std.specs.Int.{int_max, int_min}
 use Rattle.std.proofs.lemmas.Int.{ints, clamps, by_lt_z}
 use Rattle.short_games.specs.Tree.{Tree, Trees, none, more, Has}
@@ -23,41 +23,19 @@ min-one y z = by_lt_z y z (λ l. inl (omega (arith, ints, clamps, l))) (λ l. in
 
 -- the greatest and the least of a list with one more tree
 pub greatest-one : (f : Tree → ℤ) (G : Tree) → IsGreatest f (more G none) (f G)
-greatest-one f G = record { bound = bound; reached = (G, inl refl, refl) }
-  where
-    bound : (X : Tree) → Has (more G none) X → f X ≤ℤ f G
-    bound X (inl i) = subst (λ t. f t ≤ℤ f G) (sym i) (omega (arith, ints))
-    bound X (inr h) = absurd h
+greatest-one f G = record { bound = λ X h. elim h [ inl i ↦ subst (λ t. f t ≤ℤ f G) (sym i) (omega (arith, ints)) | inr k ↦ absurd k ]; reached = (G, inl refl, refl) }
 
 pub greatest-more : (f : Tree → ℤ) (G : Tree) (Gs : Trees) (x : ℤ) → IsGreatest f Gs x → IsGreatest f (more G Gs) (int_max (f G) x)
-greatest-more f G Gs x g = record { bound = bound; reached = by_lt_z (f G) x low high }
-  where
-    bound : (X : Tree) → Has (more G Gs) X → f X ≤ℤ int_max (f G) x
-    bound X (inl i) = subst (λ t. f t ≤ℤ int_max (f G) x) (sym i) (omega (arith, ints, clamps))
-    bound X (inr h) = omega (arith, ints, clamps, g.bound X h)
-
-    low : f G <ℤ x → (X : Tree) × Has (more G Gs) X × (f X ≡ int_max (f G) x)
-    low l = (g.reached.0, inr g.reached.1, omega (arith, ints, clamps, l, g.reached.2))
-
-    high : x ≤ℤ f G → (X : Tree) × Has (more G Gs) X × (f X ≡ int_max (f G) x)
-    high l = (G, inl refl, omega (arith, ints, clamps, l))
+greatest-more f G Gs x g = record {
+  bound = λ X h. elim h [ inl i ↦ subst (λ t. f t ≤ℤ int_max (f G) x) (sym i) (omega (arith, ints, clamps)) | inr k ↦ omega (arith, ints, clamps, g.bound X k) ];
+  reached = by_lt_z (f G) x (λ l. (g.reached.0, inr g.reached.1, omega (arith, ints, clamps, l, g.reached.2))) (λ l. (G, inl refl, omega (arith, ints, clamps, l)));
+}
 
 pub least-one : (f : Tree → ℤ) (G : Tree) → IsLeast f (more G none) (f G)
-least-one f G = record { bound = bound; reached = (G, inl refl, refl) }
-  where
-    bound : (X : Tree) → Has (more G none) X → f G ≤ℤ f X
-    bound X (inl i) = subst (λ t. f G ≤ℤ f t) (sym i) (omega (arith, ints))
-    bound X (inr h) = absurd h
+least-one f G = record { bound = λ X h. elim h [ inl i ↦ subst (λ t. f G ≤ℤ f t) (sym i) (omega (arith, ints)) | inr k ↦ absurd k ]; reached = (G, inl refl, refl) }
 
 pub least-more : (f : Tree → ℤ) (G : Tree) (Gs : Trees) (x : ℤ) → IsLeast f Gs x → IsLeast f (more G Gs) (int_min (f G) x)
-least-more f G Gs x g = record { bound = bound; reached = by_lt_z (f G) x low high }
-  where
-    bound : (X : Tree) → Has (more G Gs) X → int_min (f G) x ≤ℤ f X
-    bound X (inl i) = subst (λ t. int_min (f G) x ≤ℤ f t) (sym i) (omega (arith, ints, clamps))
-    bound X (inr h) = omega (arith, ints, clamps, g.bound X h)
-
-    low : f G <ℤ x → (X : Tree) × Has (more G Gs) X × (f X ≡ int_min (f G) x)
-    low l = (G, inl refl, omega (arith, ints, clamps, l))
-
-    high : x ≤ℤ f G → (X : Tree) × Has (more G Gs) X × (f X ≡ int_min (f G) x)
-    high l = (g.reached.0, inr g.reached.1, omega (arith, ints, clamps, l, g.reached.2))
+least-more f G Gs x g = record {
+  bound = λ X h. elim h [ inl i ↦ subst (λ t. int_min (f G) x ≤ℤ f t) (sym i) (omega (arith, ints, clamps)) | inr k ↦ omega (arith, ints, clamps, g.bound X k) ];
+  reached = by_lt_z (f G) x (λ l. (G, inl refl, omega (arith, ints, clamps, l))) (λ l. (g.reached.0, inr g.reached.1, omega (arith, ints, clamps, l, g.reached.2)));
+}

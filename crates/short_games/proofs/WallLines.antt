@@ -1,5 +1,5 @@
 -- Lines that rise or fall by at most 1 a step, the greatest of several, and the first meeting of two.
-use Rattle.std.proofs.Common.{ℕ, zero, suc, ◌+◌, ◌/◌, ◌<◌, ◌≤◌, ◌≡◌, ◌⊎◌, arith, refl, inl, inr, sym, ◌∙◌, ap, ap₂, subst, ℤ, pos, ◌+ℤ◌, ◌<ℤ◌, ◌≤ℤ◌}
+use Rattle.std.proofs.Common.{ℕ, zero, suc, ◌+◌, ◌<◌, ◌≤◌, ◌≡◌, ◌⊎◌, arith, refl, inl, inr, sym, ◌∙◌, ap, ap₂, subst, ℤ, ◌+ℤ◌, ◌<ℤ◌, ◌≤ℤ◌}
 use Rattle.std.proofs.lemmas.Int.{ints, by_lt_z}
 use Rattle.short_games.specs.Tree.{Tree, Trees, Has}
 use Rattle.short_games.specs.WallGrids.{IsGreatest, IsLeast, Follow, finer}
@@ -13,18 +13,9 @@ pub record Doubles (f f' : ℕ → ℤ) : Type 0 where
 
 pub finer-doubles : (f : ℕ → ℤ) → Doubles f (finer f)
 finer-doubles f = record {
-  at_even = λ t. ap₂ (λ a b. f a +ℤ f b) (half_even t) (half_odd t);
-  at_odd = λ t. ap₂ (λ a b. f a +ℤ f b) (half_odd t) (half_next t);
+  at_even = λ t. ap₂ (λ a b. f a +ℤ f b) (omega arith) (omega arith);
+  at_odd = λ t. ap₂ (λ a b. f a +ℤ f b) (omega arith) (omega arith);
 }
-  where
-    half_even : (t : ℕ) → (t + t) / 2 ≡ t
-    half_even t = omega arith
-
-    half_odd : (t : ℕ) → suc (t + t) / 2 ≡ t
-    half_odd t = omega arith
-
-    half_next : (t : ℕ) → suc (suc (t + t)) / 2 ≡ suc t
-    half_next t = omega arith
 
 -- up to a number is below it or at it
 pub below-or_at : (m n : ℕ) → m ≤ n → (m < n) ⊎ (m ≡ n)
@@ -48,6 +39,15 @@ parity (suc n) = next n (parity n)
     next : (n : ℕ) → Parity n → Parity (suc n)
     next _ (even t) = odd t
     next _ (odd t) = subst Parity (omega arith) (even (suc t))
+
+-- lines that fall or rise, some steps on
+pub falls-from : (f : ℕ → ℤ) → Falls f → (n u t : ℕ) → t ≡ n + u → f t ≤ℤ f u
+falls-from f s zero u t e = let i : t ≡ u = omega (arith, e) in subst (λ z. f z ≤ℤ f u) (sym i) (omega (arith, ints))
+falls-from f s (suc n) u t e = let i : t ≡ suc (n + u) = omega (arith, e) in subst (λ z. f z ≤ℤ f u) (sym i) (omega (arith, ints, s.no_rise (n + u), falls-from f s n u (n + u) refl))
+
+pub rises-from : (f : ℕ → ℤ) → Rises f → (n u t : ℕ) → t ≡ n + u → f u ≤ℤ f t
+rises-from f s zero u t e = let i : t ≡ u = omega (arith, e) in subst (λ z. f u ≤ℤ f z) (sym i) (omega (arith, ints))
+rises-from f s (suc n) u t e = let i : t ≡ suc (n + u) = omega (arith, e) in subst (λ z. f u ≤ℤ f z) (sym i) (omega (arith, ints, s.no_fall (n + u), rises-from f s n u (n + u) refl))
 
 -- the greatest or least is one number
 pub greatest-same : (f g : Tree → ℤ) (Gs : Trees) (x y : ℤ) → ((X : Tree) → Has Gs X → f X ≡ g X) → IsGreatest f Gs x → IsGreatest g Gs y → x ≡ y
@@ -141,33 +141,19 @@ module _ (L R l r : ℕ → ℤ) (falls : Falls L) (rises : Rises R) (follows : 
       at (met u h e a x y) f = (let s = follow-same L R L R (suc t) _ _ (L u) (R u) (λ v. refl) (λ v. refl) f (met u (omega (arith, h)) e a refl refl) in stays u h e a x s.0 y s.1)
 
   pub left-falls : Falls l
-  left-falls = record { no_rise = λ t. down t (step t); by_one = λ t. one t (step t) }
-    where
-      down : (t : ℕ) → Step t → l (suc t) ≤ℤ l t
-      down t (goes a x z y w k) = omega (arith, ints, x, z, falls.no_rise t)
-      down t (stays u h e a x z y w) = omega (arith, ints, x, z)
-
-      one : (t : ℕ) → Step t → l t ≤ℤ (l (suc t) +ℤ pos 1)
-      one t (goes a x z y w k) = omega (arith, ints, x, z, falls.by_one t)
-      one t (stays u h e a x z y w) = omega (arith, ints, x, z)
+  left-falls = record {
+    no_rise = λ t. elim (step t) [ goes a x z y w k ↦ omega (arith, ints, x, z, falls.no_rise t) | stays u h e a x z y w ↦ omega (arith, ints, x, z) ];
+    by_one = λ t. elim (step t) [ goes a x z y w k ↦ omega (arith, ints, x, z, falls.by_one t) | stays u h e a x z y w ↦ omega (arith, ints, x, z) ];
+  }
 
   pub right-rises : Rises r
-  right-rises = record { no_fall = λ t. up t (step t); by_one = λ t. one t (step t) }
-    where
-      up : (t : ℕ) → Step t → r t ≤ℤ r (suc t)
-      up t (goes a x z y w k) = omega (arith, ints, y, w, rises.no_fall t)
-      up t (stays u h e a x z y w) = omega (arith, ints, y, w)
-
-      one : (t : ℕ) → Step t → r (suc t) ≤ℤ (r t +ℤ pos 1)
-      one t (goes a x z y w k) = omega (arith, ints, y, w, rises.by_one t)
-      one t (stays u h e a x z y w) = omega (arith, ints, y, w)
+  right-rises = record {
+    no_fall = λ t. elim (step t) [ goes a x z y w k ↦ omega (arith, ints, y, w, rises.no_fall t) | stays u h e a x z y w ↦ omega (arith, ints, y, w) ];
+    by_one = λ t. elim (step t) [ goes a x z y w k ↦ omega (arith, ints, y, w, rises.by_one t) | stays u h e a x z y w ↦ omega (arith, ints, y, w) ];
+  }
 
   pub walls-ordered : (t : ℕ) → r t ≤ℤ l t
-  walls-ordered t = at (follows t)
-    where
-      at : Follow L R t (l t) (r t) → r t ≤ℤ l t
-      at (apart a x y) = omega (arith, ints, a t (omega arith), x, y)
-      at (met u h e a x y) = omega (arith, ints, x, y, e)
+  walls-ordered t = elim (follows t) [ apart a x y ↦ omega (arith, ints, a t (omega arith), x, y) | met u h e a x y ↦ omega (arith, ints, x, y, e) ]
 
   -- the scaffolds and walls at half steps
   module _ (L' R' l' r' : ℕ → ℤ) (dL : Doubles L L') (dR : Doubles R R') (dl : Doubles l l') (dr : Doubles r r') where
@@ -176,28 +162,22 @@ module _ (L R l r : ℕ → ℤ) (falls : Falls L) (rises : Rises R) (follows : 
       where
         at : (v : ℕ) → Parity v → v < n + n → R' v <ℤ L' v
         at _ (even t) h = omega (arith, ints, dL.at_even t, dR.at_even t, a t (omega (arith, h)))
-        at _ (odd t) h = elim (next t h) [
+        at _ (odd t) h = elim (below-or_at (suc t) n (omega (arith, h))) [
           | inl s ↦ omega (arith, ints, dL.at_odd t, dR.at_odd t, a t (omega (arith, h)), a (suc t) s)
           | inr s ↦ omega (arith, ints, dL.at_odd t, dR.at_odd t, a t (omega (arith, h)), subst (λ m. R m ≤ℤ L m) (sym s) k)
         ]
-          where
-            next : (t : ℕ) → suc (t + t) < n + n → (suc t < n) ⊎ (suc t ≡ n)
-            next t h = below-or_at (suc t) n (omega (arith, h))
 
     pub doubled : (t : ℕ) → Follow L' R' t (l' t) (r' t)
     doubled t = at t (parity t)
       where
         even_at : (t : ℕ) → Follow L R t (l t) (r t) → Follow L' R' (t + t) (l' (t + t)) (r' (t + t))
         even_at t (apart a x y) = apart
-            (λ v h. (elim (last v h) [
+            (λ v h. (elim (below-or_at v (t + t) h) [
               | inl s ↦ apart-below t (λ w k. a w (omega (arith, k))) (omega (arith, ints, a t (omega arith))) v s
               | inr s ↦ subst (λ w. R' w <ℤ L' w) (sym s) (omega (arith, ints, dL.at_even t, dR.at_even t, a t (omega arith)))
             ]))
             (omega (arith, ints, dL.at_even t, dl.at_even t, x))
             (omega (arith, ints, dR.at_even t, dr.at_even t, y))
-          where
-            last : (v : ℕ) → v ≤ t + t → (v < t + t) ⊎ (v ≡ t + t)
-            last v h = below-or_at v (t + t) h
         even_at t (met u h e a x y) = met (u + u) (omega (arith, h)) (omega (arith, ints, dL.at_even u, dR.at_even u, e)) (apart-below u a (omega (arith, ints, e)))
             (omega (arith, ints, dL.at_even u, dl.at_even t, x))
             (omega (arith, ints, dR.at_even u, dr.at_even t, y))

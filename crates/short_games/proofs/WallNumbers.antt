@@ -1,21 +1,13 @@
 -- A test for the numbers over one power of two, and that a number's tree gives the number back.
-use Rattle.std.proofs.Common.{ℕ, zero, suc, ◌+◌, ◌^◌, ◌<◌, ◌≡◌, arith, refl, inl, inr, sym, ◌∙◌, ap, ap₂, subst, ℤ, pos, negsuc, ◌+ℤ◌, ◌-ℤ◌, true, false, Bool, ◌&&◌, cond, Option, Some, None}
-use Rattle.std.proofs.lemmas.Bool.{and_parts, and_from, cases_Bool, true≢false}
+use Rattle.std.proofs.Common.{ℕ, zero, suc, ◌+◌, ◌^◌, ◌<◌, ◌≡◌, arith, refl, inl, inr, sym, ◌∙◌, ap, ap₂, subst, ℤ, pos, negsuc, ◌+ℤ◌, ◌-ℤ◌, true, false, Bool, cond, Option, Some, None}
+use Rattle.std.proofs.lemmas.Bool.{and_from, cases_Bool, true≢false}
 use Rattle.std.proofs.lemmas.Int.{ints}
 use Rattle.short_games.specs.Tree.{Tree, Trees, node, none, more, size, neg}
 use Rattle.short_games.specs.Number.{num, half, is_even, whole, count_tree}
+use Rattle.short_games.specs.NumberText.{same, same_each}
+use Rattle.short_games.proofs.NumberTextLaws.{same-is}
 use Rattle.short_games.proofs.OrderLaws.{by_measure, size-left, size-right}
 use Rattle.short_games.proofs.NumberLaws.{num-even, num-odd, num-double, half-even, half-odd, half-double}
-
-unfoldable mutual
-  pub same : Tree → Tree → Bool
-  same (node ls rs) (node ms ns) = same_each ls ms && same_each rs ns
-
-  pub same_each : Trees → Trees → Bool
-  same_each none none = true
-  same_each none (more H Hs) = false
-  same_each (more G Gs) none = false
-  same_each (more G Gs) (more H Hs) = same G H && same_each Gs Hs
 
 -- of the tree of m / 2 ^ e this is m, of another tree it is some integer
 unfoldable pub numerator : ℕ → Tree → ℤ
@@ -37,18 +29,6 @@ mutual
   same_each-refl : (Gs : Trees) → same_each Gs Gs ≡ true
   same_each-refl none = refl
   same_each-refl (more G Gs) = and_from _ _ (same-refl G) (same_each-refl Gs)
-
-mutual
-  unfolding same
-
-  same-is : (G H : Tree) → same G H ≡ true → G ≡ H
-  same-is (node ls rs) (node ms ns) e = ap₂ node (same_each-is ls ms (and_parts _ _ e).0) (same_each-is rs ns (and_parts _ _ e).1)
-
-  same_each-is : (Gs Hs : Trees) → same_each Gs Hs ≡ true → Gs ≡ Hs
-  same_each-is none none e = refl
-  same_each-is none (more H Hs) e = absurd (true≢false (sym e))
-  same_each-is (more G Gs) none e = absurd (true≢false (sym e))
-  same_each-is (more G Gs) (more H Hs) e = ap₂ more (same-is G H (and_parts _ _ e).0) (same_each-is Gs Hs (and_parts _ _ e).1)
 
 -- the four forms of a number
 data NumForm (e : ℕ) (m : ℤ) : Type 0 where

@@ -1,7 +1,6 @@
 -- Walls by their rule are the walls on each grid.
 use Rattle.std.proofs.Math.Nat.{pow-suc}
-use Rattle.std.proofs.Math.IntN.{pos-*ℤ-pos, negsuc-*ℤ-pos}
-use Rattle.std.proofs.Common.{ℕ, zero, suc, ◌+◌, ◌-◌, ◌*◌, ◌^◌, ◌<◌, ◌≤◌, ◌≡◌, ◌⊎◌, ◌↔◌, arith, refl, inl, inr, sym, ◌∙◌, ap, subst, ℤ, pos, negsuc, neg_ℤ, ◌+ℤ◌, ◌-ℤ◌, ◌*ℤ◌, ◌<ℤ◌, ◌≤ℤ◌}
+use Rattle.std.proofs.Common.{ℕ, zero, suc, ◌+◌, ◌-◌, ◌*◌, ◌^◌, ◌<◌, ◌≤◌, ◌≡◌, ◌⊎◌, ◌↔◌, arith, refl, inl, inr, sym, ◌∙◌, ap, subst, ℤ, pos, ◌+ℤ◌, ◌-ℤ◌, ◌*ℤ◌, ◌<ℤ◌}
 use Rattle.std.specs.Int.{int_max, int_min}
 use Rattle.std.proofs.lemmas.Int.{ints, clamps}
 use Rattle.std.proofs.lemmas.Bool.{cases_lt}
@@ -16,7 +15,7 @@ use Rattle.short_games.specs.WallGrids.WallsAre.{of_number, of_game}
 use Rattle.short_games.proofs.OrderLaws.{by_measure, size-option}
 use Rattle.short_games.proofs.WallNumbers.{num-one_to_one}
 use Rattle.short_games.proofs.WallGreatest.{IsFilled, filled, greatest-one, greatest-more, least-one, least-more, max-one, min-one}
-use Rattle.short_games.proofs.WallLines.{finer-doubles, greatest-same, least-same}
+use Rattle.short_games.proofs.WallLines.{falls-from, rises-from, finer-doubles, greatest-same, least-same}
 use Rattle.short_games.proofs.WallSolutions.{by_walls, all-here, all-left, all-right, walls-steady, walls-finer, left_scaffold-falls, right_scaffold-rises}
 
 -- where f gives the walls at t, the greatest that f gives is the greatest wall
@@ -71,12 +70,10 @@ twice_ℕ : (m a b : ℕ) → b ≡ a + a → m * b ≡ (m + m) * a
 twice_ℕ m a b e = grind arith
 
 twice : (m : ℤ) (a b : ℕ) → b ≡ a + a → m *ℤ pos b ≡ (m +ℤ m) *ℤ pos a
-twice (pos m) a b e = let i : pos (m + m) ≡ pos m +ℤ pos m = omega (arith, ints) in
-    pos-*ℤ-pos m b ∙ ap pos (twice_ℕ m a b e) ∙ sym (pos-*ℤ-pos (m + m) a) ∙ ap (λ z. z *ℤ pos a) i
-twice (negsuc m) a b e =
-    let i : negsuc (m + suc m) ≡ negsuc m +ℤ negsuc m = omega (arith, ints) in
-    let j : suc m + suc m ≡ suc (m + suc m) = omega arith in
-    negsuc-*ℤ-pos m b ∙ ap (λ n. neg_ℤ (pos n)) (twice_ℕ (suc m) a b e ∙ ap (λ n. n * a) j) ∙ sym (negsuc-*ℤ-pos (m + suc m) a) ∙ ap (λ z. z *ℤ pos a) i
+twice m a b e = shared m a b e ∙ grind (arith, ints)
+  where
+    shared : (m : ℤ) (a b : ℕ) → b ≡ a + a → m *ℤ pos b ≡ (m *ℤ pos a) +ℤ (m *ℤ pos a)
+    shared m a b e = grind (arith, ints)
 
 doubled : (d : ℕ) → 2 ^ suc d ≡ 2 ^ d + 2 ^ d
 doubled d = omega (arith, pow-suc 2 d)
@@ -99,14 +96,6 @@ refined-walls : (d k : ℕ) (lw rw : Tree → ℕ → ℤ) (G : Tree) → AllWal
 refined-walls zero k lw rw G a = subst (λ j. AllWallsAre j lw rw G) (omega arith) a
 refined-walls (suc d) k lw rw G a = subst (λ j. AllWallsAre j (λ X. refined d (finer (lw X))) (λ X. refined d (finer (rw X))) G) (omega arith)
     (refined-walls d (suc k) (λ X. finer (lw X)) (λ X. finer (rw X)) G (walls-finer k lw rw G a))
-
-falls-from : (f : ℕ → ℤ) → Falls f → (n u t : ℕ) → t ≡ n + u → f t ≤ℤ f u
-falls-from f s zero u t e = let i : t ≡ u = omega (arith, e) in subst (λ z. f z ≤ℤ f u) (sym i) (omega (arith, ints))
-falls-from f s (suc n) u t e = let i : t ≡ suc (n + u) = omega (arith, e) in subst (λ z. f z ≤ℤ f u) (sym i) (omega (arith, ints, s.no_rise (n + u), falls-from f s n u (n + u) refl))
-
-rises-from : (f : ℕ → ℤ) → Rises f → (n u t : ℕ) → t ≡ n + u → f u ≤ℤ f t
-rises-from f s zero u t e = let i : t ≡ u = omega (arith, e) in subst (λ z. f u ≤ℤ f z) (sym i) (omega (arith, ints))
-rises-from f s (suc n) u t e = let i : t ≡ suc (n + u) = omega (arith, e) in subst (λ z. f u ≤ℤ f z) (sym i) (omega (arith, ints, s.no_fall (n + u), rises-from f s n u (n + u) refl))
 
 -- where the scaffolds are the same at u, both walls are that number from there on
 module _ (L R : ℕ → ℤ) (falls : Falls L) (rises : Rises R) where

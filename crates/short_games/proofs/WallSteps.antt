@@ -10,7 +10,7 @@ use Rattle.short_games.proofs.WallGreatest.{IsFilled, filled}
 use Rattle.short_games.specs.inner.Lines.{Rises, Falls}
 use Rattle.short_games.specs.WallGrids.Follow.{apart, met}
 use Rattle.short_games.specs.WallGrids.WallsAre.{of_number, of_game}
-use Rattle.short_games.proofs.WallLines.{Doubles, greatest-same, least-same, follow-same, parity, Parity}
+use Rattle.short_games.proofs.WallLines.{falls-from, rises-from, Doubles, greatest-same, least-same, follow-same, parity, Parity}
 use Rattle.short_games.proofs.WallLines.Parity.{even, odd}
 use Rattle.short_games.proofs.WallSolutions.{by_walls, all-left, all-right, all-from, walls-unique, walls-steady, IsSteady}
 use Rattle.short_games.proofs.WallsDrawn.{left_wall, right_wall, left_scaffold, right_scaffold, left_scaffold-is, right_scaffold-is, NoJump, walls-at}
@@ -146,18 +146,10 @@ pub record IsBounded (k : ℕ) (bound : ℤ) (In : Tree → Type 0) : Type 0 whe
 abbrev InBounds : (bound : ℤ) (l r : ℕ → ℤ) → Type 0
 InBounds bound l r = (t : ℕ) → (neg_ℤ bound ≤ℤ r t) × (r t ≤ℤ l t) × (l t ≤ℤ bound)
 
-falls-far : (f : ℕ → ℤ) → Falls f → (t : ℕ) → f t ≤ℤ f 0
-falls-far f h zero = omega (arith, ints)
-falls-far f h (suc t) = omega (arith, ints, falls-far f h t, h.no_rise t)
-
-rises-far : (f : ℕ → ℤ) → Rises f → (t : ℕ) → f 0 ≤ℤ f t
-rises-far f h zero = omega (arith, ints)
-rises-far f h (suc t) = omega (arith, ints, rises-far f h t, h.no_fall t)
-
 bounds_at : (k : ℕ) (bound : ℤ) (In : Tree → Type 0) (lw rw : Tree → ℕ → ℤ) (G : Tree) → IsSteady (lw G) (rw G) → IsBounded k bound In → In G
     → ((IsNumberTree G → ⊥) → (X : Tree) → IsOption G X → InBounds bound (lw X) (rw X)) → WallsAre k lw rw G → InBounds bound (lw G) (rw G)
 bounds_at k bound In lw rw G s b m f (of_number x i p q) t = let c = b.number G x m i in (omega (arith, ints, c.0, q t), s.ordered t, omega (arith, ints, c.1, p t))
-bounds_at k bound In lw rw G s b m f (of_game n L R h h' w) t = (omega (arith, ints, rises-far (rw G) s.rises t, right_zero (w 0)), s.ordered t, omega (arith, ints, falls-far (lw G) s.falls t, left_zero (w 0)))
+bounds_at k bound In lw rw G s b m f (of_game n L R h h' w) t = (omega (arith, ints, rises-from (rw G) s.rises t 0 t (omega arith), right_zero (w 0)), s.ordered t, omega (arith, ints, falls-from (lw G) s.falls t 0 t (omega arith), left_zero (w 0)))
   where
     left_top : L 0 ≤ℤ bound
     left_top = let a = (h 0).reached in let c = f n a.0 (inl a.1) 0 in omega (arith, ints, a.2, c.1, c.2)
