@@ -6,20 +6,25 @@ use Rattle.short_games.specs.Canonical.{Ascends, IsReduced, IsCanonical, AreCano
 use Rattle.short_games.proofs.OrderLaws.{by_sizes, le-out, le-trans, not-le, size-left, size-right}
 use Rattle.short_games.proofs.SumLaws.{tree-same}
 
-module _ (Before : Tree → Tree → Type 0) (irreflexive : (G : Tree) → Before G G → ⊥) (transitive : (G H K : Tree) → Before G H → Before H K → Before G K) where
+module _ (Before : Tree → Tree → Type 0) where
   pub canonical-at : (Gs : Trees) (G : Tree) → AreCanonical Before Gs → Has Gs G → IsCanonical Before G
   canonical-at none G c h = absurd h
   canonical-at (more K Ks) G c (inl e) = rw e c.0
   canonical-at (more K Ks) G c (inr h) = canonical-at Ks G c.1 h
 
+  pub rest-ascends : (G : Tree) (Gs : Trees) → Ascends Before (more G Gs) → Ascends Before Gs
+  rest-ascends G none a = tt
+  rest-ascends G (more K Ks) a = a.1
+
+module _ (Before : Tree → Tree → Type 0) (irreflexive : (G : Tree) → Before G G → ⊥) (transitive : (G H K : Tree) → Before G H → Before H K → Before G K) where
   pub reduced : (G : Tree) → IsCanonical Before G → IsReduced Before G
   reduced (node ls rs) c = c.0
 
   pub canonical-left : (G L : Tree) → IsCanonical Before G → Has (left G) L → IsCanonical Before L
-  canonical-left (node ls rs) L c h = canonical-at ls L c.1 h
+  canonical-left (node ls rs) L c h = canonical-at Before ls L c.1 h
 
   pub canonical-right : (G R : Tree) → IsCanonical Before G → Has (right G) R → IsCanonical Before R
-  canonical-right (node ls rs) R c h = canonical-at rs R c.2 h
+  canonical-right (node ls rs) R c h = canonical-at Before rs R c.2 h
 
   -- the first of an ascending list stands before the others
   first_before : (G : Tree) (Gs : Trees) → Ascends Before (more G Gs) → (H : Tree) → Has Gs H → Before G H
@@ -28,8 +33,7 @@ module _ (Before : Tree → Tree → Type 0) (irreflexive : (G : Tree) → Befor
   first_before G (more K Ks) a H (inr h) = transitive G K H a.0 (first_before K Ks a.1 H h)
 
   pub ascends-rest : (G : Tree) (Gs : Trees) → Ascends Before (more G Gs) → Ascends Before Gs
-  ascends-rest G none a = tt
-  ascends-rest G (more K Ks) a = a.1
+  ascends-rest = rest-ascends Before
 
   -- ascending lists of the same trees are the same list
   same_list : (Gs Hs : Trees) → Ascends Before Gs → Ascends Before Hs → ((X : Tree) → Has Gs X → Has Hs X) → ((X : Tree) → Has Hs X → Has Gs X) → Gs ≡ Hs

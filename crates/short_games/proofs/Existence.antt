@@ -6,10 +6,12 @@ use Rattle.short_games.specs.Order.{◌≤ᵍ◌}
 use Rattle.short_games.specs.Canonical.{Ascends, IsCanonical, AreCanonical}
 use Rattle.short_games.specs.Parts.{IsFollower, IsOption}
 use Rattle.short_games.specs.Parts.IsFollower.{itself, further}
-use Rattle.short_games.proofs.OrderLaws.{no_one, no_one-has, some_one, le, from-test, to-test, le-out, le-in, le-refl, le-trans, size-left, size-right, size-node}
-use Rattle.short_games.proofs.SumLaws.{not_le_left, not_right_le, then-has, has-then_left, has-then_right}
+use Rattle.short_games.proofs.OrderLaws.{left_side, right_side, no_one, no_one-has, some_one, le, from-test, to-test, le-refl, le-trans, size-left, size-right, size-node}
+use Rattle.short_games.proofs.SumLaws.{then-has, has-then_left, has-then_right}
 use Rattle.short_games.proofs.PartLaws.{follower-trans}
-use Rattle.short_games.proofs.FormLaws.{by_better, all-canonical}
+use Rattle.short_games.proofs.CanonicalLaws.{canonical-at, rest-ascends}
+use Rattle.short_games.proofs.TextOrderLaws.{Inserted, into-none, in_front, there_already, further_on, Sorted, sorted-none, sorted-more}
+use Rattle.short_games.proofs.FormLaws.{bypassed, by_better, all-canonical}
 
 -- for one side: `near` has a side's options, `far` the other side's, and ans G R says that R is a good enough answer in G
 module _ (Before : Tree → Tree → Type 0) (near far : Tree → Trees) (ans : Tree → Tree → Bool) (near-size : (G : Tree) → sizes (near G) < size G) (far-size : (G R : Tree) → Has (far G) R → size R < size G)
@@ -152,56 +154,20 @@ module _ (below : Tree → Tree → Bool) (below-refl : (G : Tree) → below G G
           frees r t A B (inr a) (inl b) l = absurd (true≢false (sym (subst (λ z. below A z ≡ true) b l) ∙ (has-without L r.0 A a).1))
           frees r t A B (inr a) (inr b) l = r.1.free A B (has-without L r.0 A a).0 (has-without L r.0 B b).0 l
 
--- sorted by a total order, each once
 module _ (Before : Tree → Tree → Type 0) (total : (G H : Tree) → Before G H ⊎ ((G ≡ H) ⊎ Before H G)) where
-  record Inserted (A : Tree) (Gs Hs : Trees) : Type 0 where
-    to : (X : Tree) → Has Hs X → (X ≡ A) ⊎ Has Gs X
-    new : Has Hs A
-    old : (X : Tree) → Has Gs X → Has Hs X
-    ascends : Ascends Before Hs
-    -- who stands before A and all of Gs stands before the first of Hs
-    heads : (Z : Tree) → Before Z A → Ascends Before (more Z Gs) → Ascends Before (more Z Hs)
+  insert : (A : Tree) (Gs : Trees) → Ascends Before Gs → (Hs : Trees) × Inserted Before A Gs Hs
+  insert A none a = (more A none, into-none Before A)
+  insert A (more G Gs) a = elim (total A G) [
+    | inl b ↦ (more A (more G Gs), in_front Before A G Gs b a)
+    | inr c ↦ elim c [
+      | inl e ↦ (more G Gs, there_already Before A G Gs e a)
+      | inr b ↦ (let r = insert A Gs (rest-ascends Before G Gs a) in (more G r.0, further_on Before A G Gs r.0 b a r.1))
+    ]
+  ]
 
-  tail : (G : Tree) (Gs : Trees) → Ascends Before (more G Gs) → Ascends Before Gs
-  tail G none a = tt
-  tail G (more H Hs) a = a.1
-
-  insert : (A : Tree) (Gs : Trees) → Ascends Before Gs → (Hs : Trees) × Inserted A Gs Hs
-  insert A none a = (more A none, record { to = λ X h. h; new = inl refl; old = λ X h. absurd h; ascends = tt; heads = λ Z b c. (b, tt) })
-  insert A (more G Gs) a = by_order (total A G) (insert A Gs (tail G Gs a))
-    where
-      by_order : Before A G ⊎ ((A ≡ G) ⊎ Before G A) → (Hs : Trees) × Inserted A Gs Hs → (Hs : Trees) × Inserted A (more G Gs) Hs
-      by_order (inl b) r = (more A (more G Gs), record { to = λ X h. h; new = inl refl; old = λ X h. inr h; ascends = (b, a); heads = λ Z c d. (c, (b, a)) })
-      by_order (inr (inl e)) r = (more G Gs, record { to = λ X h. inr h; new = inl e; old = λ X h. h; ascends = a; heads = λ Z c d. d })
-      by_order (inr (inr b)) r = (
-        more G r.0,
-        record {
-          to = λ X h. elim h [ inl e ↦ inr (inl e) | inr x ↦ elim (r.1.to X x) [ inl e ↦ inl e | inr y ↦ inr (inr y) ] ];
-          new = inr r.1.new;
-          old = λ X h. elim h [ inl e ↦ inl e | inr x ↦ inr (r.1.old X x) ];
-          ascends = r.1.heads G b a;
-          heads = λ Z c d. (d.0, r.1.heads G b a);
-        },
-      )
-
-  record Sorted (Gs Hs : Trees) : Type 0 where
-    to : (X : Tree) → Has Hs X → Has Gs X
-    from : (X : Tree) → Has Gs X → Has Hs X
-    ascends : Ascends Before Hs
-
-  sort : (Gs : Trees) → (Hs : Trees) × Sorted Gs Hs
-  sort none = (none, record { to = λ X h. h; from = λ X h. h; ascends = tt })
-  sort (more G Gs) = put (sort Gs)
-    where
-      put : (Hs : Trees) × Sorted Gs Hs → (Hs : Trees) × Sorted (more G Gs) Hs
-      put r = let i = insert G r.0 r.1.ascends in (
-        i.0,
-        record {
-          to = λ X h. elim (i.1.to X h) [ inl e ↦ inl e | inr x ↦ inr (r.1.to X x) ];
-          from = λ X h. elim h [ inl e ↦ subst (λ z. Has i.0 z) (sym e) i.1.new | inr x ↦ i.1.old X (r.1.from X x) ];
-          ascends = i.1.ascends;
-        },
-      )
+  sort : (Gs : Trees) → (Hs : Trees) × Sorted Before Gs Hs
+  sort none = (none, sorted-none Before)
+  sort (more G Gs) = let r = sort Gs in let i = insert G r.0 r.1.ascends in (i.0, sorted-more Before G Gs r.0 i.0 r.1 i.1)
 
   left-size : (G : Tree) → sizes (left G) < size G
   left-size (node ls rs) = omega (arith, size-node ls rs)
@@ -215,50 +181,21 @@ module _ (Before : Tree → Tree → Type 0) (total : (G H : Tree) → Before G 
   right-canonical : (G : Tree) → IsCanonical Before G → AreCanonical Before (right G)
   right-canonical (node ls rs) c = c.2
 
-  at-canonical : (Gs : Trees) (X : Tree) → AreCanonical Before Gs → Has Gs X → IsCanonical Before X
-  at-canonical none X c h = absurd h
-  at-canonical (more K Ks) X c (inl e) = subst (IsCanonical Before) (sym e) c.0
-  at-canonical (more K Ks) X c (inr h) = at-canonical Ks X c.1 h
-
   abbrev ByLeft : Tree → Trees → Trees → Type 0
-  ByLeft = Bypassed Before left right (λ G R. le R G) left-size size-right left-canonical (λ G R c h. at-canonical (right G) R (right-canonical G c) h) (λ G X h. inl h) (λ G X h. inr h)
+  ByLeft = Bypassed Before left right (λ G R. le R G) left-size size-right left-canonical (λ G R c h. canonical-at Before (right G) R (right-canonical G c) h) (λ G X h. inl h) (λ G X h. inr h)
 
   abbrev ByRight : Tree → Trees → Trees → Type 0
-  ByRight = Bypassed Before right left (λ G L. le G L) right-size size-left right-canonical (λ G L c h. at-canonical (left G) L (left-canonical G c) h) (λ G X h. inr h) (λ G X h. inl h)
+  ByRight = Bypassed Before right left (λ G L. le G L) right-size size-left right-canonical (λ G L c h. canonical-at Before (left G) L (left-canonical G c) h) (λ G X h. inr h) (λ G X h. inl h)
 
   bypass-equal : (ls rs Ms : Trees) → ByLeft (node ls rs) ls Ms → (node ls rs ≤ᵍ node Ms rs) × (node Ms rs ≤ᵍ node ls rs)
-  bypass-equal ls rs Ms b = (
-    le-in (node ls rs) (node Ms rs) record { from_left = λ X x y. at X (b.kept X x) y; from_right = λ X x y. not_right_le (node ls rs) X x y },
-    le-in (node Ms rs) (node ls rs) record { from_left = λ X x y. at' X (b.from X x) y; from_right = λ X x y. not_right_le (node Ms rs) X x y },
-  )
-    where
-      at : (X : Tree) → Has Ms X ⊎ ((R : Tree) × Has (right X) R × (le R (node ls rs) ≡ true) × ((Y : Tree) → Has (left R) Y → Has Ms Y)) → node Ms rs ≤ᵍ X → ⊥
-      at X (inl h) y = not_le_left (node Ms rs) X h y
-      at X (inr w) y = (le-out (node Ms rs) X y).from_right w.0 w.1 (le-in w.0 (node Ms rs) record {
-        from_left = λ Y h z. not_le_left (node Ms rs) Y (w.3 Y h) z;
-        from_right = λ Y h z. not_right_le (node ls rs) Y h (le-trans Y w.0 (node ls rs) z (from-test w.0 (node ls rs) w.2));
-      })
-
-      at' : (X : Tree) → Has ls X ⊎ ((R : Tree) × (le R (node ls rs) ≡ true) × Has (left R) X) → node ls rs ≤ᵍ X → ⊥
-      at' X (inl h) y = not_le_left (node ls rs) X h y
-      at' X (inr w) y = not_le_left w.0 X w.2 (le-trans w.0 (node ls rs) X (from-test w.0 (node ls rs) w.1) y)
+  bypass-equal ls rs Ms b = bypassed left right (λ A B. A ≤ᵍ B) left_side (node ls rs) (node Ms rs)
+      (λ X x. elim (b.kept X x) [ inl h ↦ inl h | inr w ↦ inr (w.0, w.1, from-test w.0 (node ls rs) w.2, λ Y y. (Y, w.3 Y y, le-refl Y)) ])
+      (λ X x. elim (b.from X x) [ inl h ↦ inl h | inr w ↦ inr (w.0, from-test w.0 (node ls rs) w.1, w.2) ]) refl
 
   bypass-equal_right : (ls rs Ms : Trees) → ByRight (node ls rs) rs Ms → (node ls rs ≤ᵍ node ls Ms) × (node ls Ms ≤ᵍ node ls rs)
-  bypass-equal_right ls rs Ms b = (
-    le-in (node ls rs) (node ls Ms) record { from_left = λ X x y. not_le_left (node ls Ms) X x y; from_right = λ X x y. at' X (b.from X x) y },
-    le-in (node ls Ms) (node ls rs) record { from_left = λ X x y. not_le_left (node ls rs) X x y; from_right = λ X x y. at X (b.kept X x) y },
-  )
-    where
-      at : (X : Tree) → Has Ms X ⊎ ((L : Tree) × Has (left X) L × (le (node ls rs) L ≡ true) × ((Y : Tree) → Has (right L) Y → Has Ms Y)) → X ≤ᵍ node ls Ms → ⊥
-      at X (inl h) y = not_right_le (node ls Ms) X h y
-      at X (inr w) y = (le-out X (node ls Ms) y).from_left w.0 w.1 (le-in (node ls Ms) w.0 record {
-        from_left = λ Y h z. not_le_left (node ls rs) Y h (le-trans (node ls rs) w.0 Y (from-test (node ls rs) w.0 w.2) z);
-        from_right = λ Y h z. not_right_le (node ls Ms) Y (w.3 Y h) z;
-      })
-
-      at' : (X : Tree) → Has rs X ⊎ ((L : Tree) × (le (node ls rs) L ≡ true) × Has (right L) X) → X ≤ᵍ node ls rs → ⊥
-      at' X (inl h) y = not_right_le (node ls rs) X h y
-      at' X (inr w) y = not_right_le w.0 X w.2 (le-trans X (node ls rs) w.0 y (from-test (node ls rs) w.0 w.1))
+  bypass-equal_right ls rs Ms b = let both = bypassed right left (λ A B. B ≤ᵍ A) right_side (node ls rs) (node ls Ms)
+      (λ X x. elim (b.kept X x) [ inl h ↦ inl h | inr w ↦ inr (w.0, w.1, from-test (node ls rs) w.0 w.2, λ Y y. (Y, w.3 Y y, le-refl Y)) ])
+      (λ X x. elim (b.from X x) [ inl h ↦ inl h | inr w ↦ inr (w.0, from-test (node ls rs) w.0 w.1, w.2) ]) refl in (both.1, both.0)
 
   -- a canonical tree that is equal to G
   pub record Canon (G : Tree) : Type 0 where
@@ -295,10 +232,10 @@ module _ (Before : Tree → Tree → Type 0) (total : (G H : Tree) → Before G 
       least : (Ms : Trees) × Greatest (λ A B. le B A) test-refl (λ A B C p q. test-trans C B A q p) rs Ms
       least = greatest (λ A B. le B A) test-refl (λ A B C p q. test-trans C B A q p) rs
 
-      lefts : (Hs : Trees) × Sorted most.0 Hs
+      lefts : (Hs : Trees) × Sorted Before most.0 Hs
       lefts = sort most.0
 
-      rights : (Hs : Trees) × Sorted least.0 Hs
+      rights : (Hs : Trees) × Sorted Before least.0 Hs
       rights = sort least.0
 
       under : node ls rs ≤ᵍ node lefts.0 rights.0
@@ -321,8 +258,8 @@ module _ (Before : Tree → Tree → Type 0) (total : (G H : Tree) → Before G 
           left_ascends = lefts.1.ascends;
           right_ascends = rights.1.ascends;
         },
-        all-canonical Before lefts.0 (λ X x. at-canonical ls X c (most.1.among X (lefts.1.to X x))),
-        all-canonical Before rights.0 (λ X x. at-canonical rs X d (least.1.among X (rights.1.to X x))),
+        all-canonical Before lefts.0 (λ X x. canonical-at Before ls X c (most.1.among X (lefts.1.to X x))),
+        all-canonical Before rights.0 (λ X x. canonical-at Before rs X d (least.1.among X (rights.1.to X x))),
       )
 
   along : (G H : Tree) → (G ≤ᵍ H) × (H ≤ᵍ G) → Canon H → Canon G
@@ -341,7 +278,7 @@ module _ (Before : Tree → Tree → Type 0) (total : (G H : Tree) → Before G 
   -- one round: replace on the left, else on the right, else finish
   round : (n : ℕ) → Canons n → Canons (suc n)
   unfolding Canons
-  round n ih ls rs a c d = by_left (bypass Before left right (λ G R. le R G) left-size size-right left-canonical (λ G R c h. at-canonical (right G) R (right-canonical G c) h) (λ G X h. inl h) (λ G X h. inr h) (node ls rs) ls c)
+  round n ih ls rs a c d = by_left (bypass Before left right (λ G R. le R G) left-size size-right left-canonical (λ G R c h. canonical-at Before (right G) R (right-canonical G c) h) (λ G X h. inl h) (λ G X h. inr h) (node ls rs) ls c)
     where
       by_right : ((X R : Tree) → Has ls X → Has (right X) R → R ≤ᵍ node ls rs → ⊥) → (Ms : Trees) × ByRight (node ls rs) rs Ms → CanonBelow (node ls rs)
       by_right f r = elim r.1.done [
@@ -356,7 +293,7 @@ module _ (Before : Tree → Tree → Type 0) (total : (G H : Tree) → Before G 
         | inl l ↦ along_below _ _ (bypass-equal ls rs r.0 r.1)
             (λ X h. elim h [ inl x ↦ (let w = r.1.under X x in (w.0, inl w.1, w.2)) | inr y ↦ (X, inr y, itself X) ])
             (ih r.0 rs (omega (arith, l, a)) r.1.canonical d)
-        | inr f ↦ by_right (λ X R x r y. f X x (R, r, to-test R (node ls rs) y)) (bypass Before right left (λ G L. le G L) right-size size-left right-canonical (λ G L c h. at-canonical (left G) L (left-canonical G c) h) (λ G X h. inr h) (λ G X h. inl h) (node ls rs) rs d)
+        | inr f ↦ by_right (λ X R x r y. f X x (R, r, to-test R (node ls rs) y)) (bypass Before right left (λ G L. le G L) right-size size-left right-canonical (λ G L c h. canonical-at Before (left G) L (left-canonical G c) h) (λ G X h. inr h) (λ G X h. inl h) (node ls rs) rs d)
       ]
 
   rounds : (n : ℕ) → Canons n

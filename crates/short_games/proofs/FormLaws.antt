@@ -1,5 +1,5 @@
 -- What may be done to a form: options exchanged for better ones, reversible options replaced, numbers found, numbers added.
-use Rattle.std.proofs.Common.{ℕ, zero, suc, ◌<◌, ◌≡◌, arith, refl, inl, inr, sym, ◌∙◌, ap, subst, ℤ, pos, negsuc, ◌+ℤ◌, ◌<ℤ◌, neg_ℤ}
+use Rattle.std.proofs.Common.{ℕ, zero, suc, ◌<◌, ◌≡◌, ◌⊎◌, arith, refl, inl, inr, sym, ◌∙◌, ap, subst, ℤ, pos, negsuc, ◌+ℤ◌, ◌<ℤ◌, neg_ℤ}
 use Rattle.std.proofs.lemmas.Int.{ints}
 use Rattle.std.proofs.lemmas.Bool.{cases_Bool}
 use Rattle.short_games.specs.Tree.{Tree, Trees, node, none, more, left, right, Has, size, neg, neg_each}
@@ -8,7 +8,7 @@ use Rattle.short_games.specs.Sum.{◌+ᵍ◌, each_plus}
 use Rattle.short_games.specs.Number.{num, IsNumber, half, is_even, whole, count_tree}
 use Rattle.short_games.specs.Simplest.{FitsForm}
 use Rattle.short_games.specs.Canonical.{Ascends, IsReduced, IsCanonical, AreCanonical}
-use Rattle.short_games.proofs.OrderLaws.{by_measure, le-in, le-refl, le-trans, size-left, size-right, not-le, le-or_not}
+use Rattle.short_games.proofs.OrderLaws.{IsSide, by_measure, le-in, le-refl, le-trans, size-left, size-right, not-le, le-or_not}
 use Rattle.short_games.proofs.SumLaws.{left_of_sum, right_of_sum, left_in_first, right_in_first, InSum, has-each_plus, each_plus-has, not_le_left, not_right_le, neg-neg, neg-right, has-neg_each}
 use Rattle.short_games.proofs.SumLaws.InSum.{in_first, in_second}
 use Rattle.short_games.proofs.NumberLaws.{no-right, num-turned, num-shift, num-left, num-right, num-le, num-lt, num-double, num-even, num-odd, half-even, half-odd, neg-num}
@@ -20,6 +20,24 @@ by_better G H f g = le-in G H record {
   from_left = λ L l y. (let m = f L l in not_le_left H m.0 m.1 (le-trans H L m.0 y m.2));
   from_right = λ S s y. (let r = g S s in not_right_le G r.0 r.1 (le-trans r.0 S G r.2 y));
 }
+
+-- reversible options replaced: an option of G is one of H or has an answer that is good enough, whose own options are no
+-- better than those of H; and an option of H is one of G or of such an answer
+pub bypassed : (near far : Tree → Trees) (Le : Tree → Tree → Type 0) (s : IsSide near far Le) (G H : Tree)
+    → ((X : Tree) → Has (near G) X → Has (near H) X ⊎ ((R : Tree) × Has (far X) R × Le R G × ((Y : Tree) → Has (near R) Y → (Z : Tree) × Has (near H) Z × Le Y Z)))
+    → ((X : Tree) → Has (near H) X → Has (near G) X ⊎ ((R : Tree) × Le R G × Has (near R) X)) → far H ≡ far G → Le G H × Le H G
+bypassed near far Le s G H kept from others = (
+  s.build G H (λ X x y. elim (kept X x) [
+    | inl h ↦ s.out_near H H X (s.itself H) h y
+    | inr w ↦ s.out_far H X w.0 y w.1 (s.build w.0 H
+      (λ Y k z. (let a = w.3 Y k in s.out_near H H a.0 (s.itself H) a.1 (s.trans H Y a.0 z a.2)))
+      (λ Y k z. s.out_far G G Y (s.itself G) (subst (λ t. Has t Y) others k) (s.trans Y w.0 G z w.2)))
+  ]) (λ X x y. s.out_far G G X (s.itself G) (subst (λ t. Has t X) others x) y),
+  s.build H G (λ X x y. elim (from X x) [
+    | inl h ↦ s.out_near G G X (s.itself G) h y
+    | inr w ↦ s.out_near w.0 w.0 X (s.itself w.0) w.2 (s.trans w.0 G X w.1 y)
+  ]) (λ X x y. s.out_far H H X (s.itself H) (subst (λ t. Has t X) (sym others) x) y),
+)
 
 -- a game with a number between its options is a number
 number_step : (G : Tree) (e : ℕ) (z : ℤ) → ((y : ℤ) → size (num e y) < size (num e z) → FitsForm G (num e y) → IsNumber G) → FitsForm G (num e z) → IsNumber G

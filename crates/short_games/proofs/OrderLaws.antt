@@ -147,6 +147,32 @@ le-trans = by_three_sizes (λ G H K. G ≤ᵍ H → H ≤ᵍ K → G ≤ᵍ K) (
   from_right = λ R r e. (le-out H K q).from_right R r (ih R G H (omega (arith, size-right K R r)) e p);
 })
 
+-- a side's own options, the other side's, and the order that the side would have: the laws are the same for both
+pub record IsSide (near far : Tree → Trees) (Le : Tree → Tree → Type 0) : Type 0 where
+  pub out_near : (G H L : Tree) → Le G H → Has (near G) L → Le H L → ⊥
+  pub out_far : (G H R : Tree) → Le G H → Has (far H) R → Le R G → ⊥
+  pub build : (G H : Tree) → ((L : Tree) → Has (near G) L → Le H L → ⊥) → ((R : Tree) → Has (far H) R → Le R G → ⊥) → Le G H
+  pub itself : (G : Tree) → Le G G
+  pub trans : (G H K : Tree) → Le G H → Le H K → Le G K
+
+pub left_side : IsSide left right (λ G H. G ≤ᵍ H)
+left_side = record {
+  out_near = λ G H L p. (le-out G H p).from_left L;
+  out_far = λ G H R p. (le-out G H p).from_right R;
+  build = λ G H f g. le-in G H record { from_left = f; from_right = g };
+  itself = le-refl;
+  trans = le-trans;
+}
+
+pub right_side : IsSide right left (λ G H. H ≤ᵍ G)
+right_side = record {
+  out_near = λ G H L p. (le-out H G p).from_right L;
+  out_far = λ G H R p. (le-out H G p).from_left R;
+  build = λ G H f g. le-in H G record { from_left = g; from_right = f };
+  itself = le-refl;
+  trans = λ G H K p q. le-trans K H G q p;
+}
+
 -- equal as games
 pub same-refl : (G : Tree) → G ≡ᵍ G
 same-refl G = (le-refl G, le-refl G)

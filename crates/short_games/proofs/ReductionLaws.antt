@@ -1,16 +1,16 @@
 -- What is left of a form when nothing more can be dropped or bypassed is canonical, but for the order.
-use Rattle.std.proofs.Common.{ℕ, ◌≡◌, ◌⊎◌, inl, inr, sym, subst, ℤ, arith}
+use Rattle.std.proofs.Common.{ℕ, ◌≡◌, inl, inr, sym, subst, ℤ, arith}
 use Rattle.std.proofs.lemmas.Int.{ints}
 use Rattle.short_games.specs.Tree.{Tree, Trees, node, left, right, Has}
 use Rattle.short_games.specs.Order.{◌≤ᵍ◌}
 use Rattle.short_games.specs.Number.{num, IsNumber}
 use Rattle.short_games.specs.TextOrder.{TextBefore, sorted, IsCanonicalTree, IsCanonicalFor}
 use Rattle.short_games.specs.inner.Reduction.{DropsLeft, DropsRight, BypassesLeft, BypassesRight, IsFreeLeft, KeepsLeft, KeepsRight}
-use Rattle.short_games.proofs.OrderLaws.{le-out, le-in, le-refl, le-trans, none-or_some, le-or_not}
+use Rattle.short_games.proofs.OrderLaws.{left_side, right_side, le-refl, le-trans, none-or_some, le-or_not}
 use Rattle.short_games.proofs.SumLaws.{not_le_left, not_right_le}
 use Rattle.short_games.proofs.NumberLaws.{num-left, num-right, num-le}
 use Rattle.short_games.proofs.CanonicalLaws.{canonical-unique}
-use Rattle.short_games.proofs.FormLaws.{by_better, number_between, all-canonical, num-canonical}
+use Rattle.short_games.proofs.FormLaws.{bypassed, by_better, number_between, all-canonical, num-canonical}
 use Rattle.short_games.proofs.TextOrderLaws.{text-order, sorted-has, has-sorted, sorted-ascends}
 
 pub drops-left : (G H : Tree) → DropsLeft G H → (G ≤ᵍ H) × (H ≤ᵍ G)
@@ -26,44 +26,14 @@ drops-right G H d = (
 )
 
 pub bypasses-left : (G H L R : Tree) → BypassesLeft G H L R → (G ≤ᵍ H) × (H ≤ᵍ G)
-bypasses-left G H L R v = (
-  le-in G H record { from_left = λ X x y. at X (v.kept X x) y; from_right = λ X x y. not_right_le G X (subst (λ t. Has t X) v.others x) y },
-  le-in H G record { from_left = λ X x y. at' X (v.from X x) y; from_right = λ X x y. not_right_le H X (subst (λ t. Has t X) (sym v.others) x) y },
-)
-  where
-    back : R ≤ᵍ H
-    back = le-in R H record {
-      from_left = λ X x y. (let a = v.added X x in not_le_left H a.0 a.1 (le-trans H X a.0 y a.2));
-      from_right = λ X x y. not_right_le G X (subst (λ t. Has t X) v.others x) (le-trans X R G y v.reverses);
-    }
-
-    at : (X : Tree) → (X ≡ L) ⊎ Has (left H) X → H ≤ᵍ X → ⊥
-    at X (inl e) y = (le-out H L (subst (λ t. H ≤ᵍ t) e y)).from_right R v.answer back
-    at X (inr h) y = not_le_left H X h y
-
-    at' : (X : Tree) → Has (left G) X ⊎ Has (left R) X → G ≤ᵍ X → ⊥
-    at' X (inl h) y = not_le_left G X h y
-    at' X (inr h) y = not_le_left R X h (le-trans R G X v.reverses y)
+bypasses-left G H L R v = bypassed left right (λ A B. A ≤ᵍ B) left_side G H
+    (λ X x. elim (v.kept X x) [ inl e ↦ inr (R, subst (λ t. Has (right t) R) (sym e) v.answer, v.reverses, v.added) | inr h ↦ inl h ])
+    (λ X x. elim (v.from X x) [ inl h ↦ inl h | inr h ↦ inr (R, v.reverses, h) ]) v.others
 
 pub bypasses-right : (G H R L : Tree) → BypassesRight G H R L → (G ≤ᵍ H) × (H ≤ᵍ G)
-bypasses-right G H R L v = (
-  le-in G H record { from_left = λ X x y. not_le_left H X (subst (λ t. Has t X) (sym v.others) x) y; from_right = λ X x y. at' X (v.from X x) y },
-  le-in H G record { from_left = λ X x y. not_le_left G X (subst (λ t. Has t X) v.others x) y; from_right = λ X x y. at X (v.kept X x) y },
-)
-  where
-    back : H ≤ᵍ L
-    back = le-in H L record {
-      from_left = λ X x y. not_le_left G X (subst (λ t. Has t X) v.others x) (le-trans G L X v.reverses y);
-      from_right = λ X x y. (let a = v.added X x in not_right_le H a.0 a.1 (le-trans a.0 X H a.2 y));
-    }
-
-    at : (X : Tree) → (X ≡ R) ⊎ Has (right H) X → X ≤ᵍ H → ⊥
-    at X (inl e) y = (le-out R H (subst (λ t. t ≤ᵍ H) e y)).from_left L v.answer back
-    at X (inr h) y = not_right_le H X h y
-
-    at' : (X : Tree) → Has (right G) X ⊎ Has (right L) X → X ≤ᵍ G → ⊥
-    at' X (inl h) y = not_right_le G X h y
-    at' X (inr h) y = not_right_le L X h (le-trans X G L y v.reverses)
+bypasses-right G H R L v = let both = bypassed right left (λ A B. B ≤ᵍ A) right_side G H
+    (λ X x. elim (v.kept X x) [ inl e ↦ inr (L, subst (λ t. Has (left t) L) (sym e) v.answer, v.reverses, v.added) | inr h ↦ inl h ])
+    (λ X x. elim (v.from X x) [ inl h ↦ inl h | inr h ↦ inr (L, v.reverses, h) ]) v.others in (both.1, both.0)
 
 -- where a game that is no number is at least a number, one of its Left options is too
 pub option-over : (G : Tree) → (IsNumber G → ⊥) → (e : ℕ) (m : ℤ) → num e m ≤ᵍ G → (Y : Tree) × Has (left G) Y × (num e m ≤ᵍ Y)

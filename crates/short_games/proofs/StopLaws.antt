@@ -220,13 +220,13 @@ module _ (e : ℕ) where
   pub goes_with-right : (G : Tree) (k : ℤ) → IsCanonicalTree G → IsFloor e G k → (x : ℤ) × IsRightStop e G x → GoesWithRightStop e G k
   goes_with-right G k c h s = let r = floor-of G c s.0 s.1 in (s.0, s.1, rw (one-floor e G k r.0 h r.1) r.2)
 
-twice : (m : ℤ) (a b : ℕ) → b ≡ a + a → m *ℤ pos b ≡ (m *ℤ pos a) +ℤ (m *ℤ pos a)
-twice m a b e = grind (arith, ints)
+pub times-twice : (m : ℤ) (a b : ℕ) → b ≡ a + a → m *ℤ pos b ≡ (m *ℤ pos a) +ℤ (m *ℤ pos a)
+times-twice m a b e = grind (arith, ints)
 
 -- a number over a power of two that is greater by d
 pub num-scaled : (d e : ℕ) (m : ℤ) → num (d + e) (m *ℤ pos (2 ^ d)) ≡ num e m
 num-scaled zero e m = ap₂ num (omega arith) (grind (arith, ints))
-num-scaled (suc d) e m = ap₂ num (omega arith) (twice m (2 ^ d) (2 ^ suc d) (omega (arith, pow-suc 2 d))) ∙ num-double (d + e) (m *ℤ pos (2 ^ d)) ∙ num-scaled d e m
+num-scaled (suc d) e m = ap₂ num (omega arith) (times-twice m (2 ^ d) (2 ^ suc d) (omega (arith, pow-suc 2 d))) ∙ num-double (d + e) (m *ℤ pos (2 ^ d)) ∙ num-scaled d e m
 
 -- a game is at most each number above its left stop, and at least each number below its right stop
 pub under-left_stop : (e : ℕ) (G : Tree) (x : ℤ) → IsCanonicalTree G → IsLeftStop e G x → (d : ℕ) (y : ℤ) → pos 0 <ℤ y → G ≤ᵍ num (d + e) ((x *ℤ pos (2 ^ d)) +ℤ y)

@@ -8,7 +8,7 @@ use Rattle.short_games.specs.inner.Canonical.{IsStrictOrder}
 use Rattle.short_games.specs.NumberText.{number_text}
 use Rattle.short_games.specs.TextOrder.{tree_text, lesser_text, text_before, TextBefore, insert, sorted}
 use Rattle.short_games.proofs.NumberTextLaws.{number_text-bytes, number_text-some, number_text-one_to_one}
-use Rattle.short_games.proofs.CanonicalLaws.{ascends-rest}
+use Rattle.short_games.proofs.CanonicalLaws.{rest-ascends}
 use Rattle.short_games.proofs.TextLaws.{text-one_to_one}
 
 -- trees of equal texts are one tree
@@ -86,75 +86,73 @@ text-order = record {
   ];
 }
 
--- a list in order has the same trees
-pub insert-has : (G : Tree) (Hs : Trees) (X : Tree) → Has (insert G Hs) X → (X ≡ G) ⊎ Has Hs X
-unfolding insert
-insert-has G none X h = h
-insert-has G (more H Hs) X h = at (text_before G H) (text_before H G) (insert-has G Hs X) h
-  where
-    at : (b c : Bool) → (Has (insert G Hs) X → (X ≡ G) ⊎ Has Hs X) → Has (cond b (more G (more H Hs)) (cond c (more H (insert G Hs)) (more H Hs))) X → (X ≡ G) ⊎ Has (more H Hs) X
-    at true c f h = h
-    at false true f (inl e) = inr (inl e)
-    at false true f (inr h) = elim (f h) [ inl e ↦ inl e | inr x ↦ inr (inr x) ]
-    at false false f h = inr h
+-- lists put in order, each tree once: a tree inserted in an ascending list
+module _ (Before : Tree → Tree → Type 0) where
+  pub record Inserted (A : Tree) (Gs Hs : Trees) : Type 0 where
+    pub to : (X : Tree) → Has Hs X → (X ≡ A) ⊎ Has Gs X
+    pub new : Has Hs A
+    pub old : (X : Tree) → Has Gs X → Has Hs X
+    pub ascends : Ascends Before Hs
+    -- who stands before A and all of Gs stands before the first of Hs
+    pub heads : (Z : Tree) → Before Z A → Ascends Before (more Z Gs) → Ascends Before (more Z Hs)
 
-pub has-insert_new : (G : Tree) (Hs : Trees) → Has (insert G Hs) G
-unfolding insert
-has-insert_new G none = inl refl
-has-insert_new G (more H Hs) = at (text_before G H) refl (text_before H G) refl (has-insert_new G Hs)
-  where
-    at : (b : Bool) → text_before G H ≡ b → (c : Bool) → text_before H G ≡ c → Has (insert G Hs) G → Has (cond b (more G (more H Hs)) (cond c (more H (insert G Hs)) (more H Hs))) G
-    at true p c q h = inl refl
-    at false p true q h = inr h
-    at false p false q h = elim (text-order.total G H) [
-      | inl a ↦ absurd (true≢false (sym a ∙ p))
-      | inr b ↦ elim b [ inl e ↦ inl e | inr a ↦ absurd (true≢false (sym a ∙ q)) ]
-    ]
+  pub into-none : (A : Tree) → Inserted A none (more A none)
+  into-none A = record { to = λ X h. h; new = inl refl; old = λ X h. absurd h; ascends = tt; heads = λ Z b c. (b, tt) }
 
-pub has-insert_old : (G : Tree) (Hs : Trees) (X : Tree) → Has Hs X → Has (insert G Hs) X
-unfolding insert
-has-insert_old G none X h = absurd h
-has-insert_old G (more H Hs) X h = at (text_before G H) (text_before H G) (has-insert_old G Hs X) h
-  where
-    at : (b c : Bool) → (Has Hs X → Has (insert G Hs) X) → Has (more H Hs) X → Has (cond b (more G (more H Hs)) (cond c (more H (insert G Hs)) (more H Hs))) X
-    at true c f h = inr h
-    at false true f (inl e) = inl e
-    at false true f (inr h) = inr (f h)
-    at false false f h = h
+  pub in_front : (A G : Tree) (Gs : Trees) → Before A G → Ascends Before (more G Gs) → Inserted A (more G Gs) (more A (more G Gs))
+  in_front A G Gs b a = record { to = λ X h. h; new = inl refl; old = λ X h. inr h; ascends = (b, a); heads = λ Z c d. (c, (b, a)) }
 
--- who stands before G and the list stands before the list with G
-heads : (Z G : Tree) (Hs : Trees) → TextBefore Z G → Ascends TextBefore (more Z Hs) → (Ascends TextBefore (insert G Hs)) → Ascends TextBefore (more Z (insert G Hs))
-unfolding insert
-heads Z G none b a i = (b, tt)
-heads Z G (more H Hs) b a i = at (text_before G H) (text_before H G) i
-  where
-    at : (p q : Bool) → Ascends TextBefore (cond p (more G (more H Hs)) (cond q (more H (insert G Hs)) (more H Hs))) → Ascends TextBefore (more Z (cond p (more G (more H Hs)) (cond q (more H (insert G Hs)) (more H Hs))))
-    at true q i = (b, i)
-    at false true i = (a.0, i)
-    at false false i = (a.0, i)
+  pub there_already : (A G : Tree) (Gs : Trees) → A ≡ G → Ascends Before (more G Gs) → Inserted A (more G Gs) (more G Gs)
+  there_already A G Gs e a = record { to = λ X h. inr h; new = inl e; old = λ X h. h; ascends = a; heads = λ Z c d. d }
 
-insert-ascends : (G : Tree) (Hs : Trees) → Ascends TextBefore Hs → Ascends TextBefore (insert G Hs)
+  pub further_on : (A G : Tree) (Gs Hs : Trees) → Before G A → Ascends Before (more G Gs) → Inserted A Gs Hs → Inserted A (more G Gs) (more G Hs)
+  further_on A G Gs Hs b a r = record {
+    to = λ X h. elim h [ inl e ↦ inr (inl e) | inr x ↦ elim (r.to X x) [ inl e ↦ inl e | inr y ↦ inr (inr y) ] ];
+    new = inr r.new;
+    old = λ X h. elim h [ inl e ↦ inl e | inr x ↦ inr (r.old X x) ];
+    ascends = r.heads G b a;
+    heads = λ Z c d. (d.0, r.heads G b a);
+  }
+
+  pub record Sorted (Gs Hs : Trees) : Type 0 where
+    pub to : (X : Tree) → Has Hs X → Has Gs X
+    pub from : (X : Tree) → Has Gs X → Has Hs X
+    pub ascends : Ascends Before Hs
+
+  pub sorted-none : Sorted none none
+  sorted-none = record { to = λ X h. h; from = λ X h. h; ascends = tt }
+
+  pub sorted-more : (G : Tree) (Gs Hs Ks : Trees) → Sorted Gs Hs → Inserted G Hs Ks → Sorted (more G Gs) Ks
+  sorted-more G Gs Hs Ks r i = record {
+    to = λ X h. elim (i.to X h) [ inl e ↦ inl e | inr x ↦ inr (r.to X x) ];
+    from = λ X h. elim h [ inl e ↦ subst (λ z. Has Ks z) (sym e) i.new | inr x ↦ i.old X (r.from X x) ];
+    ascends = i.ascends;
+  }
+
+insert-is : (G : Tree) (Hs : Trees) → Ascends TextBefore Hs → Inserted TextBefore G Hs (insert G Hs)
 unfolding insert
-insert-ascends G none a = tt
-insert-ascends G (more H Hs) a = at (text_before G H) refl (text_before H G) refl (insert-ascends G Hs (ascends-rest TextBefore text-order.irreflexive text-order.transitive H Hs a))
+insert-is G none a = into-none TextBefore G
+insert-is G (more H Hs) a = at (text_before G H) refl (text_before H G) refl (insert-is G Hs (rest-ascends TextBefore H Hs a))
   where
-    at : (b : Bool) → text_before G H ≡ b → (c : Bool) → text_before H G ≡ c → Ascends TextBefore (insert G Hs) → Ascends TextBefore (cond b (more G (more H Hs)) (cond c (more H (insert G Hs)) (more H Hs)))
-    at true p c q i = (p, a)
-    at false p true q i = heads H G Hs q a i
-    at false p false q i = a
+    at : (b : Bool) → text_before G H ≡ b → (c : Bool) → text_before H G ≡ c → Inserted TextBefore G Hs (insert G Hs)
+        → Inserted TextBefore G (more H Hs) (cond b (more G (more H Hs)) (cond c (more H (insert G Hs)) (more H Hs)))
+    at true p c q i = in_front TextBefore G H Hs p a
+    at false p true q i = further_on TextBefore G H Hs (insert G Hs) q a i
+    at false p false q i = there_already TextBefore G H Hs (elim (text-order.total G H) [
+      | inl b ↦ absurd (true≢false (sym b ∙ p))
+      | inr o ↦ elim o [ inl e ↦ e | inr b ↦ absurd (true≢false (sym b ∙ q)) ]
+    ]) a
+
+sorted-is : (Gs : Trees) → Sorted TextBefore Gs (sorted Gs)
+unfolding sorted
+sorted-is none = sorted-none TextBefore
+sorted-is (more G Gs) = let r = sorted-is Gs in sorted-more TextBefore G Gs (sorted Gs) (insert G (sorted Gs)) r (insert-is G (sorted Gs) r.ascends)
 
 pub sorted-ascends : (Gs : Trees) → Ascends TextBefore (sorted Gs)
-unfolding sorted
-sorted-ascends none = tt
-sorted-ascends (more G Gs) = insert-ascends G (sorted Gs) (sorted-ascends Gs)
+sorted-ascends Gs = (sorted-is Gs).ascends
 
 pub sorted-has : (Gs : Trees) (X : Tree) → Has (sorted Gs) X → Has Gs X
-unfolding sorted
-sorted-has none X h = h
-sorted-has (more G Gs) X h = elim (insert-has G (sorted Gs) X h) [ inl e ↦ inl e | inr x ↦ inr (sorted-has Gs X x) ]
+sorted-has Gs = (sorted-is Gs).to
 
 pub has-sorted : (Gs : Trees) (X : Tree) → Has Gs X → Has (sorted Gs) X
-unfolding sorted
-has-sorted none X h = h
-has-sorted (more G Gs) X (inl e) = subst (λ t. Has (insert G (sorted Gs)) t) (sym e) (has-insert_new G (sorted Gs))
-has-sorted (more G Gs) X (inr h) = has-insert_old G (sorted Gs) X (has-sorted Gs X h)
+has-sorted Gs = (sorted-is Gs).from

@@ -13,6 +13,7 @@ use Rattle.short_games.specs.WallGrids.{IsGreatest, IsLeast, Follow, WallsAre, A
 use Rattle.short_games.specs.WallGrids.Follow.{apart, met}
 use Rattle.short_games.specs.WallGrids.WallsAre.{of_number, of_game}
 use Rattle.short_games.proofs.OrderLaws.{by_measure, size-option}
+use Rattle.short_games.proofs.StopLaws.{times-twice}
 use Rattle.short_games.proofs.WallNumbers.{num-one_to_one}
 use Rattle.short_games.proofs.WallGreatest.{IsFilled, filled, greatest-one, greatest-more, least-one, least-more, max-one, min-one}
 use Rattle.short_games.proofs.WallLines.{falls-from, rises-from, finer-doubles, greatest-same, least-same}
@@ -70,10 +71,7 @@ twice_ℕ : (m a b : ℕ) → b ≡ a + a → m * b ≡ (m + m) * a
 twice_ℕ m a b e = grind arith
 
 twice : (m : ℤ) (a b : ℕ) → b ≡ a + a → m *ℤ pos b ≡ (m +ℤ m) *ℤ pos a
-twice m a b e = shared m a b e ∙ grind (arith, ints)
-  where
-    shared : (m : ℤ) (a b : ℕ) → b ≡ a + a → m *ℤ pos b ≡ (m *ℤ pos a) +ℤ (m *ℤ pos a)
-    shared m a b e = grind (arith, ints)
+twice m a b e = times-twice m a b e ∙ grind (arith, ints)
 
 doubled : (d : ℕ) → 2 ^ suc d ≡ 2 ^ d + 2 ^ d
 doubled d = omega (arith, pow-suc 2 d)
