@@ -108,9 +108,6 @@ pub data Gap (e : ℕ) (m n k : ℤ) : Type 0 where
   up_first : (m' : ℤ) → Has (right (num e m)) (num e m') → (m' +ℤ n) ≤ℤ k → Gap e m n k
   up_second : (n' : ℤ) → Has (right (num e n)) (num e n') → (m +ℤ n') ≤ℤ k → Gap e m n k
 
-odd_down : (e : ℕ) (m : ℤ) → is_even m ≡ false → (k : ℤ) × (k +ℤ pos 1 ≡ m) × Has (left (num (suc e) m)) (num (suc e) k)
-odd_down e m f = (half m +ℤ half m, omega (arith, ints, half-odd m f), rw (num-odd e m f) (inl (num-double e (half m))))
-
 odd_up : (e : ℕ) (m : ℤ) → is_even m ≡ false → (k : ℤ) × (m +ℤ pos 1 ≡ k) × Has (right (num (suc e) m)) (num (suc e) k)
 odd_up e m f = ((half m +ℤ pos 1) +ℤ (half m +ℤ pos 1), omega (arith, ints, half-odd m f), rw (num-odd e m f) (inl (num-double e (half m +ℤ pos 1))))
 
@@ -126,7 +123,7 @@ gap zero m n k h = by_lt_z (pos 0) k (λ a. (let r = whole-has_left k a in down 
     (λ a. by_lt_z m (pos 0) (λ b. (let r = whole-has_right m b in up_first r.0 r.2 (omega (arith, ints, r.1))))
     (λ b. (let r = whole-has_right n (omega (arith, ints)) in up_second r.0 r.2 (omega (arith, ints, r.1)))))
 gap (suc e) m n k h = elim (cases_Bool (is_even k)) [
-  | inr f ↦ (let r = odd_down e k f in down r.0 r.2 (omega (arith, ints, r.1)))
+  | inr f ↦ down (half k +ℤ half k) (rw (num-odd e k f) (inl (num-double e (half k)))) (omega (arith, ints, half-odd k f))
   | inl kt ↦ elim (cases_Bool (is_even m)) [
     | inr f ↦ (let r = odd_up e m f in up_first r.0 r.2 (omega (arith, ints, r.1)))
     | inl mt ↦ elim (cases_Bool (is_even n)) [

@@ -81,14 +81,8 @@ cell e f m = let w = scaled e f m in let c = cell-of f e w.0 in (c.0, subst (λ 
 
 pub half-cell : (e : ℕ) (k : ℤ) → IsCell e (num (suc e) k) k
 half-cell e k = record {
-  under = λ z. (
-    λ y. le-num (suc e) k (z +ℤ z) (subst (λ t. num (suc e) k ≤ᵍ t) (sym (num-double e z)) y),
-    λ l. subst (λ t. num (suc e) k ≤ᵍ t) (num-double e z) (num-le (suc e) k (z +ℤ z) l),
-  );
-  over = λ z. (
-    λ y. le-num (suc e) (z +ℤ z) k (subst (λ t. t ≤ᵍ num (suc e) k) (sym (num-double e z)) y),
-    λ l. subst (λ t. t ≤ᵍ num (suc e) k) (num-double e z) (num-le (suc e) (z +ℤ z) k l),
-  );
+  under = λ z. subst (λ t. (num (suc e) k ≤ᵍ t) ↔ (k ≤ℤ (z +ℤ z))) (num-double e z) (le-num (suc e) k (z +ℤ z), num-le (suc e) k (z +ℤ z));
+  over = λ z. subst (λ t. (t ≤ᵍ num (suc e) k) ↔ ((z +ℤ z) ≤ℤ k)) (num-double e z) (le-num (suc e) (z +ℤ z) k, num-le (suc e) (z +ℤ z) k);
 }
 
 -- of a number, floor and ceiling are itself

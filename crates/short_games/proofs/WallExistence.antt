@@ -7,18 +7,17 @@ use Rattle.short_games.specs.Parts.{IsOption}
 use Rattle.short_games.specs.Number.{num, IsNumberTree}
 use Rattle.short_games.specs.Stops.{IsLeftStop, IsRightStop, IsGreatestRight, IsLeastLeft}
 use Rattle.short_games.specs.TextOrder.{IsCanonicalTree}
-use Rattle.short_games.specs.WallGrids.{IsGreatest, IsLeast, Follow, WallsAre, AllWallsAre, IsMeeting, finer}
-use Rattle.short_games.specs.WallGrids.Follow.{apart, met}
+use Rattle.short_games.specs.WallGrids.{IsGreatest, IsLeast, WallsAre, AllWallsAre, IsMeeting, finer}
 use Rattle.short_games.specs.WallGrids.WallsAre.{of_number, of_game}
 use Rattle.short_games.specs.inner.Lines.{Rises, Falls}
 use Rattle.short_games.proofs.OrderLaws.{size-left, size-right, size-pos}
 use Rattle.short_games.proofs.StopLaws.{number-left_stop, number-right_stop, stops-ordered}
 use Rattle.short_games.proofs.WallGreatest.{IsFilled, filled, greatest-one, greatest-more, least-one, least-more, max-one, min-one}
 use Rattle.short_games.proofs.WallOver.{IsFine, fine-left, fine-right, over-more, no_number, canonical-filled}
-use Rattle.short_games.proofs.WallLines.{Doubles, finer-doubles, greatest-same, least-same}
+use Rattle.short_games.proofs.WallLines.{follow-zero, Doubles, finer-doubles, greatest-same, least-same}
 use Rattle.short_games.proofs.WallSolutions.{by_walls, all-from, walls-unique, walls-steady, walls-finer, left_scaffold-falls, right_scaffold-rises, left_scaffold-doubles, right_scaffold-doubles}
 use Rattle.short_games.proofs.WallSteps.{AllDrawn, solution-drawn, jump-middle, follow-meeting}
-use Rattle.short_games.proofs.WallsDrawn.{left_wall, right_wall, left_scaffold, right_scaffold, left_scaffold-is, right_scaffold-is, IsDrawable, no_jump-doubled, walls-at}
+use Rattle.short_games.proofs.WallsDrawn.{left_same, right_same, left_wall, right_wall, left_scaffold, right_scaffold, left_scaffold-is, right_scaffold-is, IsDrawable, no_jump-doubled, walls-at}
 
 -- where f gives the stops, the greatest that f gives is the greatest stop
 greatest_stop : (k : ℕ) (f : Tree → ℤ) (Gs : Trees) → ((X : Tree) → Has Gs X → IsRightStop k X (f X)) → IsFilled Gs → (x : ℤ) × IsGreatestRight k Gs x × IsGreatest f Gs x
@@ -64,18 +63,10 @@ module _ (k : ℕ) (lw rw : Tree → ℕ → ℤ) where
 
   zero_at : (G : Tree) → ((X : Tree) → IsOption G X → AtZero X) → WallsAre k lw rw G → AtZero G
   zero_at G f (of_number x i p q) = (number-left_stop k G (lw G 0) (i ∙ ap (num k) (sym (p 0))), number-right_stop k G (rw G 0) (i ∙ ap (num k) (sym (q 0))))
-  zero_at G f (of_game n L R h h' w) = at (w 0)
-    where
-      lefts : IsLeftStop k G (L 0)
-      lefts = left_at_zero k (λ X. rw X 0) G (L 0) n (λ X x. (f X (inl x)).1) (h 0)
-
-      rights : IsRightStop k G (R 0)
-      rights = right_at_zero k (λ X. lw X 0) G (R 0) n (λ X x. (f X (inr x)).0) (h' 0)
-
-      at : Follow L R 0 (lw G 0) (rw G 0) → IsLeftStop k G (lw G 0) × IsRightStop k G (rw G 0)
-      at (apart c x y) = (subst (IsLeftStop k G) (sym x) lefts, subst (IsRightStop k G) (sym y) rights)
-      at (met u c d e x y) = let same : u ≡ 0 = omega (arith, c) in
-          (subst (IsLeftStop k G) (sym (x ∙ ap L same)) lefts, subst (IsRightStop k G) (sym (y ∙ ap R same)) rights)
+  zero_at G f (of_game n L R h h' w) = let z = follow-zero L R (lw G 0) (rw G 0) (w 0) in (
+    subst (IsLeftStop k G) (sym z.0) (left_at_zero k (λ X. rw X 0) G (L 0) n (λ X x. (f X (inl x)).1) (h 0)),
+    subst (IsRightStop k G) (sym z.1) (right_at_zero k (λ X. lw X 0) G (R 0) n (λ X x. (f X (inr x)).0) (h' 0)),
+  )
 
   -- at 0 the walls are the stops
   pub walls-zero : (G : Tree) → AllWallsAre k lw rw G → IsLeftStop k G (lw G 0) × IsRightStop k G (rw G 0)
@@ -114,20 +105,14 @@ module _ (k : ℕ) (G : Tree) (p : IsFilled (left G)) (q : IsFilled (right G)) (
 
   -- the scaffolds of the next grid
   left_is : (t : ℕ) → left_scaffold (suc k) G t ≡ finer (left_scaffold k G) t
-  left_is t = omega (
-    arith,
-    ints,
-    greatest-same (λ X. right_wall (suc k) X t) (λ X. right_wall (suc k) X t) (left G) _ _ (λ X x. refl) (left_scaffold-is (suc k) G p t)
-        (left_scaffold-doubles k (left_wall k) (right_wall k) (left_wall (suc k)) (right_wall (suc k)) (left G) (left_scaffold k G) (finer (left_scaffold k G)) (λ X x. (walls-steady k (left_wall k) (right_wall k) X (drawn X (inl x))).rises) (λ X x. (doubles X (inl x)).1) (finer-doubles (left_scaffold k G)) (left_scaffold-is k G p) t),
-  )
+  left_is t = sym (left_same (suc k) G (finer (left_scaffold k G)) (left_scaffold-doubles k (left_wall k) (right_wall k) (left_wall (suc k)) (right_wall (suc k)) (left G)
+      (left_scaffold k G) (finer (left_scaffold k G)) (λ X x. (walls-steady k (left_wall k) (right_wall k) X (drawn X (inl x))).rises) (λ X x. (doubles X (inl x)).1)
+      (finer-doubles (left_scaffold k G)) (left_scaffold-is k G p)) t)
 
   right_is : (t : ℕ) → right_scaffold (suc k) G t ≡ finer (right_scaffold k G) t
-  right_is t = omega (
-    arith,
-    ints,
-    least-same (λ X. left_wall (suc k) X t) (λ X. left_wall (suc k) X t) (right G) _ _ (λ X x. refl) (right_scaffold-is (suc k) G q t)
-        (right_scaffold-doubles k (left_wall k) (right_wall k) (left_wall (suc k)) (right_wall (suc k)) (right G) (right_scaffold k G) (finer (right_scaffold k G)) (λ X x. (walls-steady k (left_wall k) (right_wall k) X (drawn X (inr x))).falls) (λ X x. (doubles X (inr x)).0) (finer-doubles (right_scaffold k G)) (right_scaffold-is k G q) t),
-  )
+  right_is t = sym (right_same (suc k) G (finer (right_scaffold k G)) (right_scaffold-doubles k (left_wall k) (right_wall k) (left_wall (suc k)) (right_wall (suc k)) (right G)
+      (right_scaffold k G) (finer (right_scaffold k G)) (λ X x. (walls-steady k (left_wall k) (right_wall k) X (drawn X (inr x))).falls) (λ X x. (doubles X (inr x)).0)
+      (finer-doubles (right_scaffold k G)) (right_scaffold-is k G q)) t)
 
   left_doubles : Doubles (left_scaffold k G) (left_scaffold (suc k) G)
   left_doubles = same-doubles (left_scaffold k G) (left_scaffold (suc k) G) left_is
@@ -191,13 +176,7 @@ jump-odd k G f n a b u p h = (middle.0, middle.1, drawn_next k G f drawn, meets 
 
     meets : WallsAre (suc k) (left_wall (suc k)) (right_wall (suc k)) G → IsMeeting (left_wall (suc k) G) (right_wall (suc k) G) (suc (middle.0 + middle.0)) (left_scaffold (suc k) G (suc (middle.0 + middle.0)))
     meets (of_number x i _ _) = absurd (n (suc k, x, i))
-    meets (of_game _ M S g g' w) = subst (IsMeeting (left_wall (suc k) G) (right_wall (suc k) G) (suc (middle.0 + middle.0))) (left_same (suc (middle.0 + middle.0)))
+    meets (of_game _ M S g g' w) = subst (IsMeeting (left_wall (suc k) G) (right_wall (suc k) G) (suc (middle.0 + middle.0))) (left_same (suc k) G M g (suc (middle.0 + middle.0)))
         (follow-meeting M S (left_wall (suc k) G) (right_wall (suc k) G) (suc (middle.0 + middle.0)) w
-        (omega (arith, ints, left_same (suc (middle.0 + middle.0)), right_same (suc (middle.0 + middle.0)), middle.2))
-        (λ v l. omega (arith, ints, left_same v, right_same v, middle.3 v l)))
-      where
-        left_same : (t : ℕ) → M t ≡ left_scaffold (suc k) G t
-        left_same t = omega (arith, ints, greatest-same (λ X. right_wall (suc k) X t) (λ X. right_wall (suc k) X t) (left G) _ _ (λ X x. refl) (g t) (left_scaffold-is (suc k) G full.0 t))
-
-        right_same : (t : ℕ) → S t ≡ right_scaffold (suc k) G t
-        right_same t = omega (arith, ints, least-same (λ X. left_wall (suc k) X t) (λ X. left_wall (suc k) X t) (right G) _ _ (λ X x. refl) (g' t) (right_scaffold-is (suc k) G full.1 t))
+        (omega (arith, ints, left_same (suc k) G M g (suc (middle.0 + middle.0)), right_same (suc k) G S g' (suc (middle.0 + middle.0)), middle.2))
+        (λ v l. omega (arith, ints, left_same (suc k) G M g v, right_same (suc k) G S g' v, middle.3 v l)))

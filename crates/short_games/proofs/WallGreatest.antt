@@ -14,6 +14,12 @@ pub filled : (Gs : Trees) (G : Tree) → Has Gs G → IsFilled Gs
 filled none G h = absurd h
 filled (more H Hs) G h = tt
 
+pub greatest-filled : (f : Tree → ℤ) (Gs : Trees) (x : ℤ) → IsGreatest f Gs x → IsFilled Gs
+greatest-filled f Gs x g = filled Gs g.reached.0 g.reached.1
+
+pub least-filled : (f : Tree → ℤ) (Gs : Trees) (x : ℤ) → IsLeast f Gs x → IsFilled Gs
+least-filled f Gs x g = filled Gs g.reached.0 g.reached.1
+
 -- the greater, and the less, of two numbers is one of them
 pub max-one : (y z : ℤ) → (y ≡ int_max y z) ⊎ (z ≡ int_max y z)
 max-one y z = by_lt_z y z (λ l. inr (omega (arith, ints, clamps, l))) (λ l. inl (omega (arith, ints, clamps, l)))

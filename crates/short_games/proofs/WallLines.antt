@@ -123,6 +123,10 @@ follow-same L R L' R' t l r l' r' p q (met u h e a x y) (met v k d b z w) = (x �
     same : u ≡ v
     same = omega (arith, early, late)
 
+pub follow-zero : (L R : ℕ → ℤ) (l r : ℤ) → Follow L R 0 l r → (l ≡ L 0) × (r ≡ R 0)
+follow-zero L R l r (apart c x y) = (x, y)
+follow-zero L R l r (met u c d e x y) = let z : u ≡ 0 = omega (arith, c) in (x ∙ ap L z, y ∙ ap R z)
+
 -- walls that follow two scaffolds, the left one falling and the right one rising
 module _ (L R l r : ℕ → ℤ) (falls : Falls L) (rises : Rises R) (follows : (t : ℕ) → Follow L R t (l t) (r t)) where
   -- from a step to the next both go on, or both stay

@@ -40,11 +40,10 @@ unfolding reach
 reach-number k (node ls rs) = omega arith
 
 -- the trees of which this bounds the numbers
-IsReached : ℕ → ℕ → Tree → Type 0
+abbrev IsReached : ℕ → ℕ → Tree → Type 0
 IsReached k m G = reach k G ≤ m
 
 reach-bounds : (k m : ℕ) → IsBounded k (pos m) (IsReached k m)
-unfolding IsReached
 reach-bounds k m = record {
   number = λ G x h i. abs-within x m (let e : numerator k G ≡ x = ap (numerator k) i ∙ numerator-num k x in subst (λ y. nat_abs y ≤ m) e (omega (arith, h, reach-number k G)));
   left_in = λ G X n h x. omega (arith, h, reach-option k G X (inl x));
@@ -65,12 +64,8 @@ meeting_of k m lw rw G b all n (of_game _ L R h h' w) = at (w m)
     at (apart c x y) = absurd (omega (arith, ints, c m (omega arith), low, high))
     at (met u c d e x y) = (u, L u, follow-meeting L R (lw G) (rw G) u w d e)
 
-reached-itself : (k : ℕ) (G : Tree) → IsReached k (reach k G) G
-unfolding IsReached
-reached-itself k G = omega arith
-
 pub meeting-exists : (k : ℕ) (G : Tree) (l r : ℕ → ℤ) → HasWalls k G l r → (IsNumberTree G → ⊥) → (u : ℕ) × (x : ℤ) × IsMeeting l r u x
-meeting-exists k G l r h n = let m = meeting_of k (reach k G) h.lw h.rw G (reached-itself k G) h.all n (all-here k h.lw h.rw G h.all) in (
+meeting-exists k G l r h n = let m = meeting_of k (reach k G) h.lw h.rw G (omega arith) h.all n (all-here k h.lw h.rw G h.all) in (
   m.0,
   m.1,
   record { left_at = sym (h.left_is m.0) ∙ m.2.left_at; right_at = sym (h.right_is m.0) ∙ m.2.right_at; before = λ v i. omega (arith, ints, h.left_is v, h.right_is v, m.2.before v i) },

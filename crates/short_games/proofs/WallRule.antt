@@ -1,6 +1,6 @@
 -- Walls by their rule are the walls on each grid.
 use Rattle.std.proofs.Math.Nat.{pow-suc}
-use Rattle.std.proofs.Common.{ℕ, zero, suc, ◌+◌, ◌-◌, ◌*◌, ◌^◌, ◌<◌, ◌≤◌, ◌≡◌, ◌⊎◌, ◌↔◌, arith, refl, inl, inr, sym, ◌∙◌, ap, subst, ℤ, pos, ◌+ℤ◌, ◌-ℤ◌, ◌*ℤ◌, ◌<ℤ◌}
+use Rattle.std.proofs.Common.{ℕ, zero, suc, ◌+◌, ◌-◌, ◌*◌, ◌^◌, ◌≤◌, ◌≡◌, ◌⊎◌, ◌↔◌, arith, refl, inl, inr, sym, ◌∙◌, ap, subst, ℤ, pos, ◌+ℤ◌, ◌-ℤ◌, ◌*ℤ◌, ◌<ℤ◌}
 use Rattle.std.specs.Int.{int_max, int_min}
 use Rattle.std.proofs.lemmas.Int.{ints, clamps}
 use Rattle.std.proofs.lemmas.Bool.{cases_lt}
@@ -100,13 +100,10 @@ module _ (L R : ℕ → ℤ) (falls : Falls L) (rises : Rises R) where
   later : (x : ℤ) (u t : ℕ) → u ≤ t → L u ≡ x → R u ≡ x → (l r : ℤ) → Follow L R t l r → (l ≡ x) × (r ≡ x)
   later x u t a p q l r (apart c i j) = absurd (omega (arith, ints, p, q, c u a))
   later x u t a p q l r (met v b e c i j) =
-      let before : v ≤ u = by_le u v (λ m. absurd (omega (arith, ints, p, q, c u m))) (λ m. m) in
+      let before : v ≤ u = elim (cases_lt u v) [ inl m ↦ absurd (omega (arith, ints, p, q, c u m)) | inr m ↦ m ] in
       let down = falls-from L falls (u - v) v u (omega (arith, before)) in
       let up = rises-from R rises (u - v) v u (omega (arith, before)) in
       (omega (arith, ints, p, q, e, down, up, i), omega (arith, ints, p, q, e, down, up, j))
-    where
-      by_le : {A : Type 0} → (m n : ℕ) → (m < n → A) → (n ≤ m → A) → A
-      by_le m n f g = elim (cases_lt m n) [ inl l ↦ f l | inr l ↦ g l ]
 
   -- and they are the scaffolds where the left one is greater
   ahead : (t : ℕ) → R t <ℤ L t → (l r : ℤ) → Follow L R t l r → (l ≡ L t) × (r ≡ R t)
@@ -126,21 +123,13 @@ LeftRule G k t x = (G ≡ num k x) ⊎ ((IsNumberTree G → ⊥) × ((IsGreatest
 abbrev RightRule : Tree → (k t : ℕ) → ℤ → Type 0
 RightRule G k t x = (G ≡ num k x) ⊎ ((IsNumberTree G → ⊥) × ((IsLeastLeftWall (right G) k t (x -ℤ pos t) × ((y : ℤ) × IsGreatestRightWall (left G) k t (y +ℤ pos t) × (x <ℤ y))) ⊎ Mast G k t x))
 
-to_left : (G : Tree) (k t : ℕ) (x : ℤ) → LeftRule G k t x → IsLeftWall G k t x
+left_rule : (G : Tree) (k t : ℕ) (x : ℤ) → LeftRule G k t x ↔ IsLeftWall G k t x
 unfolding IsLeftWall
-to_left (node ls rs) k t x h = h
+left_rule (node ls rs) k t x = (λ h. h, λ h. h)
 
-to_right : (G : Tree) (k t : ℕ) (x : ℤ) → RightRule G k t x → IsRightWall G k t x
+right_rule : (G : Tree) (k t : ℕ) (x : ℤ) → RightRule G k t x ↔ IsRightWall G k t x
 unfolding IsLeftWall
-to_right (node ls rs) k t x h = h
-
-from_left : (G : Tree) (k t : ℕ) (x : ℤ) → IsLeftWall G k t x → LeftRule G k t x
-unfolding IsLeftWall
-from_left (node ls rs) k t x h = h
-
-from_right : (G : Tree) (k t : ℕ) (x : ℤ) → IsRightWall G k t x → RightRule G k t x
-unfolding IsLeftWall
-from_right (node ls rs) k t x h = h
+right_rule (node ls rs) k t x = (λ h. h, λ h. h)
 
 -- the walls on a grid follow the rule
 module _ (k : ℕ) (lw rw : Tree → ℕ → ℤ) where
@@ -148,7 +137,7 @@ module _ (k : ℕ) (lw rw : Tree → ℕ → ℤ) where
   Follows G = (t : ℕ) → IsLeftWall G k t (lw G t) × IsRightWall G k t (rw G t)
 
   follows_at : (G : Tree) → ((X : Tree) → IsOption G X → Follows X) → WallsAre k lw rw G → Follows G
-  follows_at G f (of_number x i p q) t = (to_left G k t (lw G t) (inl (i ∙ ap (num k) (sym (p t)))), to_right G k t (rw G t) (inl (i ∙ ap (num k) (sym (q t)))))
+  follows_at G f (of_number x i p q) t = ((left_rule G k t (lw G t)).0 (inl (i ∙ ap (num k) (sym (p t)))), (right_rule G k t (rw G t)).0 (inl (i ∙ ap (num k) (sym (q t)))))
   follows_at G f (of_game n L R h h' w) t = at (w t)
     where
       lefts : (u : ℕ) (x : ℤ) → L u ≡ x → IsGreatestRightWall (left G) k u (x +ℤ pos u)
@@ -157,26 +146,23 @@ module _ (k : ℕ) (lw rw : Tree → ℕ → ℤ) where
       rights : (u : ℕ) (x : ℤ) → R u ≡ x → IsLeastLeftWall (right G) k u (x -ℤ pos u)
       rights u x e = subst (λ z. IsLeastLeftWall (right G) k u (z -ℤ pos u)) e (to_least k u (λ X. lw X u) (right G) (R u -ℤ pos u) (λ X x. (f X (inr x) u).0) (h' u))
 
-      same_grid : k ≡ 0 + k
-      same_grid = omega arith
-
       mast : (u : ℕ) (x : ℤ) → u ≤ t → L u ≡ x → R u ≡ x → Mast G k t x
       mast u x b d e = (
         0,
         u,
         grind (arith, b),
-        subst (λ j. IsGreatestRightWall (left G) j u ((x *ℤ pos (2 ^ 0)) +ℤ pos u)) same_grid (lefts u (x *ℤ pos (2 ^ 0)) (d ∙ sym (once x))),
-        subst (λ j. IsLeastLeftWall (right G) j u ((x *ℤ pos (2 ^ 0)) -ℤ pos u)) same_grid (rights u (x *ℤ pos (2 ^ 0)) (e ∙ sym (once x))),
+        subst (λ j. IsGreatestRightWall (left G) j u ((x *ℤ pos (2 ^ 0)) +ℤ pos u)) (omega arith) (lefts u (x *ℤ pos (2 ^ 0)) (d ∙ sym (once x))),
+        subst (λ j. IsLeastLeftWall (right G) j u ((x *ℤ pos (2 ^ 0)) -ℤ pos u)) (omega arith) (rights u (x *ℤ pos (2 ^ 0)) (e ∙ sym (once x))),
       )
 
       at : Follow L R t (lw G t) (rw G t) → IsLeftWall G k t (lw G t) × IsRightWall G k t (rw G t)
       at (apart c x y) = (
-        to_left G k t (lw G t) (inr (n, inl (lefts t (lw G t) (sym x), (R t, rights t (R t) refl, subst (λ z. R t <ℤ z) (sym x) (c t (omega arith)))))),
-        to_right G k t (rw G t) (inr (n, inl (rights t (rw G t) (sym y), (L t, lefts t (L t) refl, subst (λ z. z <ℤ L t) (sym y) (c t (omega arith)))))),
+        (left_rule G k t (lw G t)).0 (inr (n, inl (lefts t (lw G t) (sym x), (R t, rights t (R t) refl, subst (λ z. R t <ℤ z) (sym x) (c t (omega arith)))))),
+        (right_rule G k t (rw G t)).0 (inr (n, inl (rights t (rw G t) (sym y), (L t, lefts t (L t) refl, subst (λ z. z <ℤ L t) (sym y) (c t (omega arith)))))),
       )
       at (met u b e c x y) = (
-        to_left G k t (lw G t) (inr (n, inr (mast u (lw G t) b (sym x) (sym e ∙ sym x)))),
-        to_right G k t (rw G t) (inr (n, inr (mast u (rw G t) b (e ∙ sym y) (sym y)))),
+        (left_rule G k t (lw G t)).0 (inr (n, inr (mast u (lw G t) b (sym x) (sym e ∙ sym x)))),
+        (right_rule G k t (rw G t)).0 (inr (n, inr (mast u (rw G t) b (e ∙ sym y) (sym y)))),
       )
 
   pub walls-follow : (G : Tree) → AllWallsAre k lw rw G → (t : ℕ) → IsLeftWall G k t (lw G t) × IsRightWall G k t (rw G t)
@@ -218,7 +204,7 @@ module _ (k : ℕ) (lw rw : Tree → ℕ → ℤ) (G : Tree) (all : AllWallsAre 
   }
 
 value_at : (k : ℕ) (lw rw : Tree → ℕ → ℤ) (G : Tree) → AllWallsAre k lw rw G → OptionsGive G → Gives k lw rw G
-value_at k lw rw G all give t x = (λ h. left_at (from_left G k t x h), λ h. right_at (from_right G k t x h))
+value_at k lw rw G all give t x = (λ h. left_at ((left_rule G k t x).1 h), λ h. right_at ((right_rule G k t x).1 h))
   where
     here : WallsAre k lw rw G
     here = all-here k lw rw G all

@@ -6,25 +6,21 @@ use Rattle.short_games.specs.Tree.{Tree, left, right, Has}
 use Rattle.short_games.specs.Number.{num, IsNumberTree}
 use Rattle.short_games.specs.Parts.{IsOption}
 use Rattle.short_games.specs.WallGrids.{IsGreatest, IsLeast, Follow, WallsAre, AllWallsAre, IsMeeting}
-use Rattle.short_games.proofs.WallGreatest.{IsFilled, filled}
+use Rattle.short_games.proofs.WallGreatest.{greatest-filled, least-filled}
 use Rattle.short_games.specs.inner.Lines.{Rises, Falls}
 use Rattle.short_games.specs.WallGrids.Follow.{apart, met}
 use Rattle.short_games.specs.WallGrids.WallsAre.{of_number, of_game}
-use Rattle.short_games.proofs.WallLines.{falls-from, rises-from, Doubles, greatest-same, least-same, follow-same, parity, Parity}
+use Rattle.short_games.proofs.WallLines.{follow-zero, falls-from, rises-from, Doubles, greatest-same, least-same, follow-same, parity, Parity}
 use Rattle.short_games.proofs.WallLines.Parity.{even, odd}
 use Rattle.short_games.proofs.WallSolutions.{by_walls, all-left, all-right, all-from, walls-unique, walls-steady, IsSteady}
-use Rattle.short_games.proofs.WallsDrawn.{left_wall, right_wall, left_scaffold, right_scaffold, left_scaffold-is, right_scaffold-is, NoJump, walls-at}
+use Rattle.short_games.proofs.WallsDrawn.{left_same, right_same, left_wall, right_wall, left_scaffold, right_scaffold, left_scaffold-is, right_scaffold-is, NoJump, walls-at}
 
 no_jump-from : (L R l r : ℕ → ℤ) → ((t : ℕ) → Follow L R t (l t) (r t)) → NoJump L R
 unfolding NoJump
-no_jump-from L R l r w u h = at (w u)
-  where
-    at : Follow L R u (l u) (r u) → R u ≤ℤ L u
-    at (apart a x y) = omega (arith, ints, a u (omega arith))
-    at (met v k e a x y) = elim (cases_lt v u) [
-      | inl i ↦ absurd (omega (arith, ints, h v i, e))
-      | inr i ↦ (let s : v ≡ u = omega (arith, k, i) in subst (λ n. R n ≤ℤ L n) s (omega (arith, ints, e)))
-    ]
+no_jump-from L R l r w u h = elim (w u) [
+  | apart a x y ↦ omega (arith, ints, a u (omega arith))
+  | met v k e a x y ↦ (let no : v < u → ⊥ = λ i. omega (arith, ints, h v i, e) in let s : v ≡ u = omega (arith, k, no) in subst (λ n. R n ≤ℤ L n) s (omega (arith, ints, e)))
+]
 
 no_jump-same : (L R L' R' : ℕ → ℤ) → ((t : ℕ) → L t ≡ L' t) → ((t : ℕ) → R t ≡ R' t) → NoJump L R → NoJump L' R'
 unfolding NoJump
@@ -49,19 +45,18 @@ module _ (k : ℕ) where
   -- any solution is the drawn one
   solved_at : (lw rw : Tree → ℕ → ℤ) (G : Tree) → AllWallsAre k lw rw G → ((X : Tree) → IsOption G X → AllDrawn k X) → WallsAre k lw rw G → WallsAre k (left_wall k) (right_wall k) G
   solved_at lw rw G all f (of_number x i p q) = walls-at k G (λ n. absurd (n x i))
-  solved_at lw rw G all f (of_game n L R h h' w) = walls-at k G (λ _. record { no_number = n; left_filled = lefts; right_filled = rights; no_jump = no_jump-same L R _ _ left_same right_same (no_jump-from L R (lw G) (rw G) w) })
+  solved_at lw rw G all f (of_game n L R h h' w) = walls-at k G (λ _. record {
+    no_number = n;
+    left_filled = greatest-filled _ (left G) _ (h 0);
+    right_filled = least-filled _ (right G) _ (h' 0);
+    no_jump = no_jump-same L R _ _ lefts rights (no_jump-from L R (lw G) (rw G) w);
+  })
     where
-      lefts : IsFilled (left G)
-      lefts = filled (left G) (h 0).reached.0 (h 0).reached.1
+      lefts : (t : ℕ) → L t ≡ left_scaffold k G t
+      lefts t = omega (arith, ints, greatest-same (λ X. rw X t) (λ X. right_wall k X t) (left G) _ _ (λ X x. (walls-unique k lw rw (left_wall k) (right_wall k) X (all-left k lw rw G X all x) (f X (inl x)) t).1) (h t) (left_scaffold-is k G (greatest-filled _ (left G) _ (h 0)) t))
 
-      rights : IsFilled (right G)
-      rights = filled (right G) (h' 0).reached.0 (h' 0).reached.1
-
-      left_same : (t : ℕ) → L t ≡ left_scaffold k G t
-      left_same t = omega (arith, ints, greatest-same (λ X. rw X t) (λ X. right_wall k X t) (left G) _ _ (λ X x. (walls-unique k lw rw (left_wall k) (right_wall k) X (all-left k lw rw G X all x) (f X (inl x)) t).1) (h t) (left_scaffold-is k G lefts t))
-
-      right_same : (t : ℕ) → R t ≡ right_scaffold k G t
-      right_same t = omega (arith, ints, least-same (λ X. lw X t) (λ X. left_wall k X t) (right G) _ _ (λ X x. (walls-unique k lw rw (left_wall k) (right_wall k) X (all-right k lw rw G X all x) (f X (inr x)) t).0) (h' t) (right_scaffold-is k G rights t))
+      rights : (t : ℕ) → R t ≡ right_scaffold k G t
+      rights t = omega (arith, ints, least-same (λ X. lw X t) (λ X. left_wall k X t) (right G) _ _ (λ X x. (walls-unique k lw rw (left_wall k) (right_wall k) X (all-right k lw rw G X all x) (f X (inr x)) t).0) (h' t) (right_scaffold-is k G (least-filled _ (right G) _ (h' 0)) t))
 
   pub solution-drawn : (lw rw : Tree → ℕ → ℤ) (G : Tree) → AllWallsAre k lw rw G → AllWallsAre k (left_wall k) (right_wall k) G
   solution-drawn lw rw = by_walls k lw rw (AllDrawn k) (λ G a f w. all-from k (left_wall k) (right_wall k) G (solved_at lw rw G a f w) f)
@@ -84,20 +79,13 @@ module _ (k : ℕ) where
       → AllWallsAre k (left_wall k) (right_wall k) G × ((t : ℕ) → (left_wall k G t ≡ l t) × (right_wall k G t ≡ r t))
   join-drawn G L R l r j f g = (all-from k (left_wall k) (right_wall k) G here (λ X o. elim o [ inl x ↦ f X x | inr x ↦ g X x ]), λ t. same t here)
     where
-      lefts : IsFilled (left G)
-      lefts = filled (left G) (j.left_is 0).reached.0 (j.left_is 0).reached.1
-
-      rights : IsFilled (right G)
-      rights = filled (right G) (j.right_is 0).reached.0 (j.right_is 0).reached.1
-
-      left_same : (t : ℕ) → L t ≡ left_scaffold k G t
-      left_same t = omega (arith, ints, greatest-same (λ X. right_wall k X t) (λ X. right_wall k X t) (left G) _ _ (λ X x. refl) (j.left_is t) (left_scaffold-is k G lefts t))
-
-      right_same : (t : ℕ) → R t ≡ right_scaffold k G t
-      right_same t = omega (arith, ints, least-same (λ X. left_wall k X t) (λ X. left_wall k X t) (right G) _ _ (λ X x. refl) (j.right_is t) (right_scaffold-is k G rights t))
-
       here : WallsAre k (left_wall k) (right_wall k) G
-      here = walls-at k G (λ _. record { no_number = j.no_number; left_filled = lefts; right_filled = rights; no_jump = no_jump-same L R _ _ left_same right_same (no_jump-met L R j.meeting j.meets j.before) })
+      here = walls-at k G (λ _. record {
+        no_number = j.no_number;
+        left_filled = greatest-filled _ (left G) _ (j.left_is 0);
+        right_filled = least-filled _ (right G) _ (j.right_is 0);
+        no_jump = no_jump-same L R _ _ (left_same k G L j.left_is) (right_same k G R j.right_is) (no_jump-met L R j.meeting j.meets j.before);
+      })
 
       follows : (t : ℕ) → Follow L R t (l t) (r t)
       follows t = elim (cases_lt t j.meeting) [
@@ -108,8 +96,7 @@ module _ (k : ℕ) where
       same : (t : ℕ) → WallsAre k (left_wall k) (right_wall k) G → (left_wall k G t ≡ l t) × (right_wall k G t ≡ r t)
       same t (of_number x i p q) = absurd (j.no_number (k, x, i))
       same t (of_game n M S h h' w) = follow-same M S L R t _ _ _ _
-          (λ v. omega (arith, ints, greatest-same (λ X. right_wall k X v) (λ X. right_wall k X v) (left G) _ _ (λ X x. refl) (h v) (j.left_is v)))
-          (λ v. omega (arith, ints, least-same (λ X. left_wall k X v) (λ X. left_wall k X v) (right G) _ _ (λ X x. refl) (h' v) (j.right_is v)))
+          (λ v. left_same k G M h v ∙ sym (left_same k G L j.left_is v)) (λ v. right_same k G S h' v ∙ sym (right_same k G R j.right_is v))
           (w t) (follows t)
 
 -- where the right scaffold comes to be greater without a meeting, the two meet in the middle of the last step
@@ -149,21 +136,16 @@ InBounds bound l r = (t : ℕ) → (neg_ℤ bound ≤ℤ r t) × (r t ≤ℤ l t
 bounds_at : (k : ℕ) (bound : ℤ) (In : Tree → Type 0) (lw rw : Tree → ℕ → ℤ) (G : Tree) → IsSteady (lw G) (rw G) → IsBounded k bound In → In G
     → ((IsNumberTree G → ⊥) → (X : Tree) → IsOption G X → InBounds bound (lw X) (rw X)) → WallsAre k lw rw G → InBounds bound (lw G) (rw G)
 bounds_at k bound In lw rw G s b m f (of_number x i p q) t = let c = b.number G x m i in (omega (arith, ints, c.0, q t), s.ordered t, omega (arith, ints, c.1, p t))
-bounds_at k bound In lw rw G s b m f (of_game n L R h h' w) t = (omega (arith, ints, rises-from (rw G) s.rises t 0 t (omega arith), right_zero (w 0)), s.ordered t, omega (arith, ints, falls-from (lw G) s.falls t 0 t (omega arith), left_zero (w 0)))
-  where
-    left_top : L 0 ≤ℤ bound
-    left_top = let a = (h 0).reached in let c = f n a.0 (inl a.1) 0 in omega (arith, ints, a.2, c.1, c.2)
-
-    right_top : neg_ℤ bound ≤ℤ R 0
-    right_top = let a = (h' 0).reached in let c = f n a.0 (inr a.1) 0 in omega (arith, ints, a.2, c.0, c.1)
-
-    left_zero : Follow L R 0 (lw G 0) (rw G 0) → lw G 0 ≤ℤ bound
-    left_zero (apart c x y) = omega (arith, ints, x, left_top)
-    left_zero (met u c d e x y) = let z : u ≡ 0 = omega (arith, c) in let l : L u ≡ L 0 = ap L z in omega (arith, ints, x, l, left_top)
-
-    right_zero : Follow L R 0 (lw G 0) (rw G 0) → neg_ℤ bound ≤ℤ rw G 0
-    right_zero (apart c x y) = omega (arith, ints, y, right_top)
-    right_zero (met u c d e x y) = let z : u ≡ 0 = omega (arith, c) in let l : R u ≡ R 0 = ap R z in omega (arith, ints, y, l, right_top)
+bounds_at k bound In lw rw G s b m f (of_game n L R h h' w) t =
+    let z = follow-zero L R (lw G 0) (rw G 0) (w 0) in
+    let a = (h 0).reached in
+    let b = (h' 0).reached in
+    let c = f n a.0 (inl a.1) 0 in
+    let d = f n b.0 (inr b.1) 0 in (
+      omega (arith, ints, rises-from (rw G) s.rises t 0 t (omega arith), z.1, b.2, d.0, d.1),
+      s.ordered t,
+      omega (arith, ints, falls-from (lw G) s.falls t 0 t (omega arith), z.0, a.2, c.1, c.2),
+    )
 
 -- walls are past no bound of the numbers
 pub walls-within : (k : ℕ) (bound : ℤ) (In : Tree → Type 0) (lw rw : Tree → ℕ → ℤ) (G : Tree) → IsBounded k bound In → In G → AllWallsAre k lw rw G → (t : ℕ) → (neg_ℤ bound ≤ℤ rw G t) × (rw G t ≤ℤ lw G t) × (lw G t ≤ℤ bound)

@@ -8,11 +8,11 @@ use Rattle.short_games.specs.Number.{num, IsNumberTree}
 use Rattle.short_games.proofs.WallNumbers.{number_at, NumberAt, number-cases}
 use Rattle.short_games.specs.WallGrids.{IsGreatest, IsLeast, Follow, WallsAre}
 use Rattle.short_games.proofs.WallNumbers.NumberAt.{is_number, is_none}
-use Rattle.short_games.proofs.WallGreatest.{IsFilled, greatest-one, greatest-more, least-one, least-more}
+use Rattle.short_games.proofs.WallGreatest.{IsFilled, greatest-filled, least-filled, greatest-one, greatest-more, least-one, least-more}
 use Rattle.short_games.specs.WallGrids.Follow.{apart, met}
 use Rattle.short_games.specs.WallGrids.WallsAre.{of_number, of_game}
 use Rattle.short_games.specs.inner.Lines.{Rises, Falls}
-use Rattle.short_games.proofs.WallLines.{Doubles, parity, Parity, below-or_at}
+use Rattle.short_games.proofs.WallLines.{greatest-same, least-same, Doubles, parity, Parity, below-or_at}
 use Rattle.short_games.proofs.WallLines.Parity.{even, odd}
 
 -- the least number that passes, up to t, or t
@@ -29,13 +29,12 @@ until_next : (test : ℕ → Bool) (t u : ℕ) → IsUntil test t u → (b : Boo
 until_next test t u h true e = record { within = omega (arith, h.within); fails = h.fails; passes = λ l. e }
 until_next test t u h false e = record { within = omega arith; fails = λ v l. at v (below-or_at v t (omega (arith, l))); passes = λ l. absurd (omega (arith, l)) }
   where
-    last : (u < t) ⊎ (u ≡ t) → u ≡ t
-    last (inl l) = absurd (both_ways (test u) e (h.passes l))
-    last (inr i) = i
+    last : u ≡ t
+    last = let no : u < t → ⊥ = λ l. both_ways (test u) e (h.passes l) in omega (arith, h.within, no)
 
     at : (v : ℕ) → (v < t) ⊎ (v ≡ t) → test v ≡ false
-    at v (inl l) = h.fails v (omega (arith, l, last (below-or_at u t h.within)))
-    at v (inr i) = subst (λ w. test w ≡ false) (last (below-or_at u t h.within) ∙ sym i) e
+    at v (inl l) = h.fails v (omega (arith, l, last))
+    at v (inr i) = subst (λ w. test w ≡ false) (last ∙ sym i) e
 
 until-is : (test : ℕ → Bool) (t : ℕ) → IsUntil test t (until test t)
 unfolding until
@@ -59,17 +58,13 @@ follow-until L R n t = by (meets L R (until (meets L R) t)) refl
     before : (v : ℕ) → v < until (meets L R) t → R v <ℤ L v
     before v l = (let f : meets L R v ≡ false = h.fails v l in omega (arith, ints, f))
 
-    last : meets L R (until (meets L R) t) ≡ false → (until (meets L R) t < t) ⊎ (until (meets L R) t ≡ t) → until (meets L R) t ≡ t
-    last e (inl l) = absurd (both_ways _ e (h.passes l))
-    last e (inr i) = i
-
     all : meets L R (until (meets L R) t) ≡ false → until (meets L R) t ≡ t → (v : ℕ) → (v < t) ⊎ (v ≡ t) → R v <ℤ L v
     all e i v (inl l) = before v (omega (arith, l, i))
     all e i v (inr j) = subst (λ w. R w <ℤ L w) (i ∙ sym j) (omega (arith, ints, e))
 
     by : (b : Bool) → meets L R (until (meets L R) t) ≡ b → Follow L R t (L (until (meets L R) t)) (R (until (meets L R) t))
     by true e = met (until (meets L R) t) h.within (omega (arith, ints, e, n (until (meets L R) t) before)) before refl refl
-    by false e = let i : until (meets L R) t ≡ t = last e (below-or_at _ t h.within) in
+    by false e = let no : until (meets L R) t < t → ⊥ = λ l. both_ways _ e (h.passes l) in let i : until (meets L R) t ≡ t = omega (arith, h.within, no) in
         apart (λ v l. all e i v (below-or_at v t l)) (ap L i) (ap R i)
 
 pub record Walls : Type 0 where
@@ -127,6 +122,15 @@ module _ (k : ℕ) where
 
   pub right_scaffold-is : (G : Tree) → IsFilled (right G) → (t : ℕ) → IsLeast (λ X. left_wall X t) (right G) (right_scaffold G t -ℤ pos t)
   right_scaffold-is G f t = subst (IsLeast (λ X. left_wall X t) (right G)) (omega (arith, ints)) (least_left-is (right G) f t)
+
+  -- a scaffold by its definition is the one that is drawn
+  pub left_same : (G : Tree) (L : ℕ → ℤ) → ((t : ℕ) → IsGreatest (λ X. right_wall X t) (left G) (L t +ℤ pos t)) → (t : ℕ) → L t ≡ left_scaffold G t
+  left_same G L h t = omega (arith, ints, greatest-same (λ X. right_wall X t) (λ X. right_wall X t) (left G) _ _ (λ X x. refl) (h t)
+      (left_scaffold-is G (greatest-filled _ (left G) _ (h 0)) t))
+
+  pub right_same : (G : Tree) (R : ℕ → ℤ) → ((t : ℕ) → IsLeast (λ X. left_wall X t) (right G) (R t -ℤ pos t)) → (t : ℕ) → R t ≡ right_scaffold G t
+  right_same G R h t = omega (arith, ints, least-same (λ X. left_wall X t) (λ X. left_wall X t) (right G) _ _ (λ X x. refl) (h t)
+      (right_scaffold-is G (least-filled _ (right G) _ (h 0)) t))
 
   pub walls-number : (G : Tree) (x : ℤ) → number_at k G ≡ Some x → walls G ≡ record { left_wall = λ t. x; right_wall = λ t. x }
   unfolding walls
