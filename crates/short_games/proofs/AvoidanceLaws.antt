@@ -87,8 +87,8 @@ cheap_right G no_number e d p =
         let p : R +ᵍ num e (neg_ℤ d) ≤ᵍ G = rw (neg-plus (neg R) (num e d), neg-neg R, neg-num e d, neg-neg G) at (neg-le (neg G) (neg R +ᵍ num e d) q) in
         let zero : nought ≤ᵍ num e (neg_ℤ d) +ᵍ num e d = subst (λ t. t ≤ᵍ num e (neg_ℤ d) +ᵍ num e d) (ap (num e) (omega (arith, ints)) ∙ num-zero e) (num-le_plus e (neg_ℤ d) d) in
         le-trans R ((R +ᵍ num e (neg_ℤ d)) +ᵍ num e d) _
-            (rw (plus-assoc R (num e (neg_ℤ d)) (num e d)) (subst (λ t. t ≤ᵍ R +ᵍ (num e (neg_ℤ d) +ᵍ num e d)) (plus-nought R) (plus-le_both R R nought _ (le-refl R) zero)))
-            (plus-le _ G (num e d) p)
+        (rw (plus-assoc R (num e (neg_ℤ d)) (num e d)) (subst (λ t. t ≤ᵍ R +ᵍ (num e (neg_ℤ d) +ᵍ num e d)) (plus-nought R) (plus-le_both R R nought _ (le-refl R) zero)))
+        (plus-le _ G (num e d) p)
 
 -- beside a third game
 shift-beside : (A B T : Tree) (e : ℕ) (d k m : ℤ) → A ≤ᵍ B +ᵍ num e d → d +ℤ k ≡ m → (A +ᵍ T) +ᵍ num e k ≤ᵍ (B +ᵍ T) +ᵍ num e m

@@ -30,8 +30,8 @@ bypassed near far Le s G H kept from others = (
   s.build G H (λ X x y. elim (kept X x) [
     | inl h ↦ s.out_near H H X (s.itself H) h y
     | inr w ↦ s.out_far H X w.0 y w.1 (s.build w.0 H
-      (λ Y k z. (let a = w.3 Y k in s.out_near H H a.0 (s.itself H) a.1 (s.trans H Y a.0 z a.2)))
-      (λ Y k z. s.out_far G G Y (s.itself G) (subst (λ t. Has t Y) others k) (s.trans Y w.0 G z w.2)))
+        (λ Y k z. (let a = w.3 Y k in s.out_near H H a.0 (s.itself H) a.1 (s.trans H Y a.0 z a.2)))
+        (λ Y k z. s.out_far G G Y (s.itself G) (subst (λ t. Has t Y) others k) (s.trans Y w.0 G z w.2)))
   ]) (λ X x y. s.out_far G G X (s.itself G) (subst (λ t. Has t X) others x) y),
   s.build H G (λ X x y. elim (from X x) [
     | inl h ↦ s.out_near G G X (s.itself G) h y
@@ -165,8 +165,7 @@ translation e G m cheap cheap' = (
     lefts : (L : Tree) → InSum G (num e m) (left G) (left (num e m)) L → (M : Tree) × Has (each_plus (left G) (num e m)) M × (L ≤ᵍ M)
     lefts L (in_first K k) = (K +ᵍ num e m, has-each_plus (left G) (num e m) K k, le-refl (K +ᵍ num e m))
     lefts L (in_second K k) = let r = num-left e m K k in
-        let c = cheap (m +ℤ neg_ℤ r.0) (omega (arith, ints, r.1)) in
-        (
+        let c = cheap (m +ℤ neg_ℤ r.0) (omega (arith, ints, r.1)) in (
           c.0 +ᵍ num e m,
           has-each_plus (left G) (num e m) c.0 c.1,
           subst (λ t. G +ᵍ t ≤ᵍ c.0 +ᵍ num e m) (sym r.2) (num-shift G c.0 e (m +ℤ neg_ℤ r.0) r.0 m c.2 (omega (arith, ints))),
@@ -175,8 +174,7 @@ translation e G m cheap cheap' = (
     rights : (S : Tree) → InSum G (num e m) (right G) (right (num e m)) S → (R : Tree) × Has (each_plus (right G) (num e m)) R × (R ≤ᵍ S)
     rights S (in_first K k) = (K +ᵍ num e m, has-each_plus (right G) (num e m) K k, le-refl (K +ᵍ num e m))
     rights S (in_second K k) = let r = num-right e m K k in
-        let c = cheap' (r.0 +ℤ neg_ℤ m) (omega (arith, ints, r.1)) in
-        (
+        let c = cheap' (r.0 +ℤ neg_ℤ m) (omega (arith, ints, r.1)) in (
           c.0 +ᵍ num e m,
           has-each_plus (right G) (num e m) c.0 c.1,
           subst (λ t. c.0 +ᵍ num e m ≤ᵍ G +ᵍ t) (sym r.2) (num-shift c.0 G e (r.0 +ℤ neg_ℤ m) m r.0 c.2 (omega (arith, ints))),

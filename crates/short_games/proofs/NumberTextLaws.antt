@@ -83,7 +83,7 @@ StopsDigits (x ∷ xs) = x < 48
 digits-both : (m n : ℕ) (s t : List ℕ) → StopsDigits s → StopsDigits t → digits m s ≡ digits n t → (m ≡ n) × (s ≡ t)
 digits-both m n s t u v e = let a = in_front (suc m) m (omega arith) in let b = in_front (suc n) n (omega arith) in
     let r = runs (λ x. (48 ≤ x) × (x < 58)) AreDecimal StopsDigits (λ x xs d. ((d.0, d.1), d.2)) (λ x xs u d. omega (arith, u, d.0))
-        a.bytes b.bytes s t a.decimal b.decimal u v (sym (a.front s) ∙ e ∙ b.front t) in
+    a.bytes b.bytes s t a.decimal b.decimal u v (sym (a.front s) ∙ e ∙ b.front t) in
     (digits-one_to_one m n (a.front [] ∙ ap (λ (x : List ℕ). x ++ []) r.0 ∙ sym (b.front [])), r.1)
 
 -- the first byte of digits

@@ -1,6 +1,6 @@
 -- How stops, floors and ceilings follow from those of the options.
 use Rattle.std.proofs.Math.Nat.{pow-suc}
-use Rattle.std.proofs.Common.{ap₂, ◌<ℤ◌, ◌+◌, ◌*ℤ◌, ◌-ℤ◌, ◌^◌, ◌∙◌, ℕ, zero, suc, ◌≡◌, ◌⊎◌, arith, refl, inl, inr, sym, subst, ℤ, pos, negsuc, ◌+ℤ◌, ◌≤ℤ◌}
+use Rattle.std.proofs.Common.{ap₂, ◌<ℤ◌, ◌+◌, ◌*ℤ◌, ◌-ℤ◌, ◌^◌, ◌∙◌, ℕ, zero, suc, ◌≡◌, ◌⊎◌, ◌↔◌, arith, refl, inl, inr, sym, subst, ℤ, pos, negsuc, ◌+ℤ◌, ◌≤ℤ◌}
 use Rattle.std.proofs.lemmas.Int.{ints, by_lt_z}
 use Rattle.short_games.specs.Tree.{Tree, Trees, node, none, more, left, right, Has, size}
 use Rattle.short_games.specs.Order.{◌≤ᵍ◌}
@@ -16,18 +16,18 @@ use Rattle.short_games.proofs.ReductionLaws.{canonical-number}
 use Rattle.short_games.proofs.ThresholdLaws.{cell, number-floor, number-ceiling, game-floor, game-ceiling, half-cell}
 
 -- a direction along the numbers, upwards or downwards
-record IsDirection (Below : ℤ → ℤ → Type 0) : Type 0 where
-  same : (x : ℤ) → Below x x
-  further : (x y z : ℤ) → Below x y → Below y z → Below x z
-  either : (x y : ℤ) → Below x y ⊎ Below y x
+pub record IsDirection (Below : ℤ → ℤ → Type 0) : Type 0 where
+  pub same : (x : ℤ) → Below x x
+  pub further : (x y z : ℤ) → Below x y → Below y z → Below x z
+  pub either : (x y : ℤ) → Below x y ⊎ Below y x
 
 either_way : (x y : ℤ) → (x ≤ℤ y) ⊎ (y ≤ℤ x)
 either_way x y = by_lt_z x y (λ l. inl (omega (arith, ints, l))) (λ l. inr l)
 
-upwards : IsDirection (λ x y. x ≤ℤ y)
+pub upwards : IsDirection (λ x y. x ≤ℤ y)
 upwards = record { same = λ x. omega (arith, ints); further = λ x y z a b. omega (arith, ints, a, b); either = either_way }
 
-downwards : IsDirection (λ x y. y ≤ℤ x)
+pub downwards : IsDirection (λ x y. y ≤ℤ x)
 downwards = record { same = λ x. omega (arith, ints); further = λ x y z a b. omega (arith, ints, a, b); either = λ x y. either_way y x }
 
 -- the furthest in a direction of what the trees of a list have
@@ -62,6 +62,34 @@ module _ (Below : ℤ → ℤ → Type 0) (o : IsDirection Below) (P : Tree → 
         | inl l ↦ (s.0, most-more G (more H Hs) r.0 s.0 s.0 r.1 s.1 l (o.same s.0) (inr refl))
         | inr l ↦ (r.0, most-more G (more H Hs) r.0 s.0 r.0 r.1 s.1 (o.same r.0) l (inl refl))
       ]
+
+-- the furthest of a list told tree by tree, as the definitions of stops and of walls tell it
+pub record IsChosen (Below : ℤ → ℤ → Type 0) (P : Tree → ℤ → Type 0) (Is : Trees → ℤ → Type 0) : Type 0 where
+  pub none_is : (x : ℤ) → Is none x → ⊥
+  pub one_is : (G : Tree) (x : ℤ) → P G x ↔ Is (more G none) x
+  pub more_is : (G H : Tree) (Hs : Trees) (x : ℤ)
+      → ((y : ℤ) × ((z : ℤ) × P G y × Is (more H Hs) z × Below y x × Below z x × ((y ≡ x) ⊎ (z ≡ x)))) ↔ Is (more G (more H Hs)) x
+
+module _ (Below : ℤ → ℤ → Type 0) (o : IsDirection Below) (P : Tree → ℤ → Type 0) (Is : Trees → ℤ → Type 0) (c : IsChosen Below P Is) where
+  pub chosen-most : (Gs : Trees) (x : ℤ) → Is Gs x → IsMost Below P Gs x
+  chosen-most none x h = absurd (c.none_is x h)
+  chosen-most (more G none) x h = most-one Below o P G x ((c.one_is G x).1 h)
+  chosen-most (more G (more H Hs)) x h = let w = (c.more_is G H Hs x).1 h in
+      most-more Below o P G (more H Hs) w.0 w.1.0 x w.1.1 (chosen-most (more H Hs) w.1.0 w.1.2) w.1.3 w.1.4 w.1.5
+
+  -- a list has one where its trees have what is asked; what else these have, the furthest has too
+  one_more : (Q : Tree → ℤ → Type 0) (G H : Tree) (Hs : Trees) → (x : ℤ) × P G x × Q G x → (x : ℤ) × Is (more H Hs) x × IsMost Below Q (more H Hs) x
+      → (x : ℤ) × Is (more G (more H Hs)) x × IsMost Below Q (more G (more H Hs)) x
+  one_more Q G H Hs r s = elim (o.either r.0 s.0) [ inl l ↦ at s.0 l (o.same s.0) (inr refl) | inr l ↦ at r.0 (o.same r.0) l (inl refl) ]
+    where
+      at : (x : ℤ) → Below r.0 x → Below s.0 x → (r.0 ≡ x) ⊎ (s.0 ≡ x) → (x : ℤ) × Is (more G (more H Hs)) x × IsMost Below Q (more G (more H Hs)) x
+      at x a b e = (x, (c.more_is G H Hs x).0 (r.0, (s.0, r.1, s.1, a, b, e)), most-more Below o Q G (more H Hs) r.0 s.0 x r.2 s.2 a b e)
+
+  pub chosen : (Q : Tree → ℤ → Type 0) (Gs : Trees) → ((G : Tree) → Has Gs G → (x : ℤ) × P G x × Q G x) → (G : Tree) → Has Gs G
+      → (x : ℤ) × Is Gs x × IsMost Below Q Gs x
+  chosen Q none f K k = absurd k
+  chosen Q (more G none) f K k = let r = f G (inl refl) in (r.0, (c.one_is G r.0).0 r.1, most-one Below o Q G r.0 r.2)
+  chosen Q (more G (more H Hs)) f K k = one_more Q G H Hs (f G (inl refl)) (chosen Q (more H Hs) (λ X x. f X (inr x)) H (inl refl))
 
 -- the ceiling of a game that is no number is one above the greatest floor of its Left options
 pub ceiling-by : (e : ℕ) (G : Tree) (k : ℤ) → (IsNumber G → ⊥) → IsGreatest (IsFloor e) (left G) k → IsCeiling e G (k +ℤ pos 1)
@@ -99,46 +127,21 @@ unfolding IsLeftStop
 number-right_stop e (node ls rs) x i = inl i
 
 -- another tree has stops where its options have them
-pub has-greatest_right : (e : ℕ) (Gs : Trees) → ((G : Tree) → Has Gs G → (x : ℤ) × IsRightStop e G x) → (G : Tree) → Has Gs G → (x : ℤ) × IsGreatestRight e Gs x
+pub greatest_right-chosen : (e : ℕ) → IsChosen (λ y z. y ≤ℤ z) (IsRightStop e) (IsGreatestRight e)
 unfolding IsLeftStop
-has-greatest_right e none f K k = absurd k
-has-greatest_right e (more G none) f K k = f G (inl refl)
-has-greatest_right e (more G (more H Hs)) f K k =
-    let r = f G (inl refl) in
-    let s = has-greatest_right e (more H Hs) (λ X x. f X (inr x)) H (inl refl) in
-    by_lt_z r.0 s.0 (λ l. (s.0, (r.0, (s.0, r.1, s.1, omega (arith, ints, l), omega (arith, ints), inr refl)))) (λ l. (r.0, (r.0, (s.0, r.1, s.1, omega (arith, ints), l, inl refl))))
+greatest_right-chosen e = record { none_is = λ x h. h; one_is = λ G x. (λ h. h, λ h. h); more_is = λ G H Hs x. (λ h. h, λ h. h) }
 
-pub has-least_left : (e : ℕ) (Gs : Trees) → ((G : Tree) → Has Gs G → (x : ℤ) × IsLeftStop e G x) → (G : Tree) → Has Gs G → (x : ℤ) × IsLeastLeft e Gs x
+pub least_left-chosen : (e : ℕ) → IsChosen (λ y z. z ≤ℤ y) (IsLeftStop e) (IsLeastLeft e)
 unfolding IsLeftStop
-has-least_left e none f K k = absurd k
-has-least_left e (more G none) f K k = f G (inl refl)
-has-least_left e (more G (more H Hs)) f K k =
-    let r = f G (inl refl) in
-    let s = has-least_left e (more H Hs) (λ X x. f X (inr x)) H (inl refl) in
-    by_lt_z s.0 r.0 (λ l. (s.0, (r.0, (s.0, r.1, s.1, omega (arith, ints, l), omega (arith, ints), inr refl)))) (λ l. (r.0, (r.0, (s.0, r.1, s.1, omega (arith, ints), l, inl refl))))
+least_left-chosen e = record { none_is = λ x h. h; one_is = λ G x. (λ h. h, λ h. h); more_is = λ G H Hs x. (λ h. h, λ h. h) }
 
 pub game-left_stop : (e : ℕ) (G : Tree) → (IsNumberTree G → ⊥) → ((L : Tree) → Has (left G) L → (x : ℤ) × IsRightStop e L x) → (L : Tree) → Has (left G) L → (x : ℤ) × IsLeftStop e G x
 unfolding IsLeftStop
-game-left_stop e (node ls rs) n f L l = let r = has-greatest_right e ls f L l in (r.0, inr (n, r.1))
+game-left_stop e (node ls rs) n f L l = let r = chosen _ upwards _ _ (greatest_right-chosen e) (λ X x. X ≡ X) ls (λ X x. (let s = f X x in (s.0, s.1, refl))) L l in (r.0, inr (n, r.1))
 
 pub game-right_stop : (e : ℕ) (G : Tree) → (IsNumberTree G → ⊥) → ((R : Tree) → Has (right G) R → (x : ℤ) × IsLeftStop e R x) → (R : Tree) → Has (right G) R → (x : ℤ) × IsRightStop e G x
 unfolding IsLeftStop
-game-right_stop e (node ls rs) n f R r = let s = has-least_left e rs f R r in (s.0, inr (n, s.1))
-
--- and the other way round
-greatest_right-is : (e : ℕ) (Gs : Trees) (x : ℤ) → IsGreatestRight e Gs x → IsGreatest (IsRightStop e) Gs x
-unfolding IsLeftStop
-greatest_right-is e none x h = absurd h
-greatest_right-is e (more G none) x h = most-one _ upwards (IsRightStop e) G x h
-greatest_right-is e (more G (more H Hs)) x h =
-    most-more _ upwards (IsRightStop e) G (more H Hs) h.0 h.1.0 x h.1.1 (greatest_right-is e (more H Hs) h.1.0 h.1.2) h.1.3 h.1.4 h.1.5
-
-least_left-is : (e : ℕ) (Gs : Trees) (x : ℤ) → IsLeastLeft e Gs x → IsLeast (IsLeftStop e) Gs x
-unfolding IsLeftStop
-least_left-is e none x h = absurd h
-least_left-is e (more G none) x h = most-one _ downwards (IsLeftStop e) G x h
-least_left-is e (more G (more H Hs)) x h =
-    most-more _ downwards (IsLeftStop e) G (more H Hs) h.0 h.1.0 x h.1.1 (least_left-is e (more H Hs) h.1.0 h.1.2) h.1.3 h.1.4 h.1.5
+game-right_stop e (node ls rs) n f R r = let s = chosen _ downwards _ _ (least_left-chosen e) (λ X x. X ≡ X) rs (λ X x. (let s = f X x in (s.0, s.1, refl))) R r in (s.0, inr (n, s.1))
 
 -- what a stop is
 pub data StopIs (e : ℕ) (G : Tree) (x : ℤ) (Is : Type 0) : Type 0 where
@@ -148,12 +151,12 @@ pub data StopIs (e : ℕ) (G : Tree) (x : ℤ) (Is : Type 0) : Type 0 where
 pub left_stop-is : (e : ℕ) (G : Tree) (x : ℤ) → IsLeftStop e G x → StopIs e G x (IsGreatest (IsRightStop e) (left G) x)
 unfolding IsLeftStop
 left_stop-is e (node ls rs) x (inl i) = of_number i
-left_stop-is e (node ls rs) x (inr h) = of_game h.0 (greatest_right-is e ls x h.1)
+left_stop-is e (node ls rs) x (inr h) = of_game h.0 (chosen-most _ upwards _ _ (greatest_right-chosen e) ls x h.1)
 
 pub right_stop-is : (e : ℕ) (G : Tree) (x : ℤ) → IsRightStop e G x → StopIs e G x (IsLeast (IsLeftStop e) (right G) x)
 unfolding IsLeftStop
 right_stop-is e (node ls rs) x (inl i) = of_number i
-right_stop-is e (node ls rs) x (inr h) = of_game h.0 (least_left-is e rs x h.1)
+right_stop-is e (node ls rs) x (inr h) = of_game h.0 (chosen-most _ downwards _ _ (least_left-chosen e) rs x h.1)
 
 -- the ceiling goes with the left stop, and the floor with the right one
 abbrev pub CeilingBy : ℕ → Tree → ℤ → Type 0

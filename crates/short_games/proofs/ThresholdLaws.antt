@@ -141,13 +141,13 @@ fits-or_not G X = elim (none-or_some (λ L. X ≤ᵍ L) (λ L. le-or_not X L) (l
 -- where a number fits, one of those that fit is simplest
 pub has-simplest : (G X : Tree) → IsNumberTree X → FitsForm G X → (Y : Tree) × IsSimplestFor G Y
 has-simplest G = by_measure size (λ X. IsNumberTree X → FitsForm G X → (Y : Tree) × IsSimplestFor G Y) (λ X ih i f.
-  elim (none-or_some (FitsForm G) (fits-or_not G) (left X)) [
-    | inr s ↦ ih s.0 (size-left X s.0 s.1) (number-option X s.0 i (inl s.1)) s.2
-    | inl l ↦ elim (none-or_some (FitsForm G) (fits-or_not G) (right X)) [
-      | inr s ↦ ih s.0 (size-right X s.0 s.1) (number-option X s.0 i (inr s.1)) s.2
-      | inl r ↦ (X, record { number = i; fits = f; no_left = l; no_right = r })
-    ]
-  ])
+    elim (none-or_some (FitsForm G) (fits-or_not G) (left X)) [
+      | inr s ↦ ih s.0 (size-left X s.0 s.1) (number-option X s.0 i (inl s.1)) s.2
+      | inl l ↦ elim (none-or_some (FitsForm G) (fits-or_not G) (right X)) [
+        | inr s ↦ ih s.0 (size-right X s.0 s.1) (number-option X s.0 i (inr s.1)) s.2
+        | inl r ↦ (X, record { number = i; fits = f; no_left = l; no_right = r })
+      ]
+    ])
 
 pub simplest-value : (G X : Tree) → IsSimplestFor G X → G ≡ᵍ X
 simplest-value G X s = at X s s.number

@@ -1,8 +1,7 @@
 -- At 0 the walls are the stops; and a canonical tree has walls on each grid that is fine enough for its numbers and its height.
-use Rattle.std.proofs.Common.{ℕ, zero, suc, ◌+◌, ◌<◌, ◌≤◌, ◌≡◌, arith, refl, inl, inr, sym, ◌∙◌, ap, subst, ℤ, pos, ◌+ℤ◌, ◌-ℤ◌, ◌<ℤ◌, ◌≤ℤ◌}
-use Rattle.std.specs.Int.{int_max, int_min}
-use Rattle.std.proofs.lemmas.Int.{ints, clamps}
-use Rattle.short_games.specs.Tree.{Tree, Trees, node, none, more, left, right, Has, size}
+use Rattle.std.proofs.Common.{ℕ, zero, suc, ◌+◌, ◌<◌, ◌≤◌, ◌≡◌, arith, inl, inr, sym, ◌∙◌, ap, subst, ℤ, pos, ◌+ℤ◌, ◌-ℤ◌, ◌<ℤ◌, ◌≤ℤ◌}
+use Rattle.std.proofs.lemmas.Int.{ints}
+use Rattle.short_games.specs.Tree.{Tree, node, left, right, Has, size}
 use Rattle.short_games.specs.Parts.{IsOption}
 use Rattle.short_games.specs.Number.{num, IsNumberTree}
 use Rattle.short_games.specs.Stops.{IsLeftStop, IsRightStop, IsGreatestRight, IsLeastLeft}
@@ -11,30 +10,13 @@ use Rattle.short_games.specs.WallGrids.{IsGreatest, IsLeast, WallsAre, AllWallsA
 use Rattle.short_games.specs.WallGrids.WallsAre.{of_number, of_game}
 use Rattle.short_games.specs.inner.Lines.{Rises, Falls}
 use Rattle.short_games.proofs.OrderLaws.{size-left, size-right, size-pos}
-use Rattle.short_games.proofs.StopLaws.{number-left_stop, number-right_stop, stops-ordered}
-use Rattle.short_games.proofs.WallGreatest.{IsFilled, filled, greatest-one, greatest-more, least-one, least-more, max-one, min-one}
+use Rattle.short_games.proofs.StopLaws.{greatest_right-chosen, least_left-chosen, number-left_stop, number-right_stop, stops-ordered}
+use Rattle.short_games.proofs.WallGreatest.{to_greatest, to_least, IsFilled}
 use Rattle.short_games.proofs.WallOver.{IsFine, fine-left, fine-right, over-more, no_number, canonical-filled}
-use Rattle.short_games.proofs.WallLines.{follow-zero, Doubles, finer-doubles, greatest-same, least-same}
+use Rattle.short_games.proofs.WallLines.{follow-zero, Doubles, finer-doubles}
 use Rattle.short_games.proofs.WallSolutions.{by_walls, all-from, walls-unique, walls-steady, walls-finer, left_scaffold-falls, right_scaffold-rises, left_scaffold-doubles, right_scaffold-doubles}
 use Rattle.short_games.proofs.WallSteps.{AllDrawn, solution-drawn, jump-middle, follow-meeting}
 use Rattle.short_games.proofs.WallsDrawn.{left_same, right_same, left_wall, right_wall, left_scaffold, right_scaffold, left_scaffold-is, right_scaffold-is, IsDrawable, no_jump-doubled, walls-at}
-
--- where f gives the stops, the greatest that f gives is the greatest stop
-greatest_stop : (k : ℕ) (f : Tree → ℤ) (Gs : Trees) → ((X : Tree) → Has Gs X → IsRightStop k X (f X)) → IsFilled Gs → (x : ℤ) × IsGreatestRight k Gs x × IsGreatest f Gs x
-unfolding IsLeftStop
-greatest_stop k f none s h = absurd h
-greatest_stop k f (more G none) s h = (f G, s G (inl refl), greatest-one f G)
-greatest_stop k f (more G (more H Hs)) s h =
-    let r = greatest_stop k f (more H Hs) (λ X x. s X (inr x)) tt in
-    (int_max (f G) r.0, (f G, (r.0, s G (inl refl), r.1, omega (arith, ints, clamps), omega (arith, ints, clamps), max-one (f G) r.0)), greatest-more f G (more H Hs) r.0 r.2)
-
-least_stop : (k : ℕ) (f : Tree → ℤ) (Gs : Trees) → ((X : Tree) → Has Gs X → IsLeftStop k X (f X)) → IsFilled Gs → (x : ℤ) × IsLeastLeft k Gs x × IsLeast f Gs x
-unfolding IsLeftStop
-least_stop k f none s h = absurd h
-least_stop k f (more G none) s h = (f G, s G (inl refl), least-one f G)
-least_stop k f (more G (more H Hs)) s h =
-    let r = least_stop k f (more H Hs) (λ X x. s X (inr x)) tt in
-    (int_min (f G) r.0, (f G, (r.0, s G (inl refl), r.1, omega (arith, ints, clamps), omega (arith, ints, clamps), min-one (f G) r.0)), least-more f G (more H Hs) r.0 r.2)
 
 as_left_stop : (k : ℕ) (G : Tree) (x : ℤ) → (IsNumberTree G → ⊥) → IsGreatestRight k (left G) x → IsLeftStop k G x
 unfolding IsLeftStop
@@ -47,15 +29,11 @@ as_right_stop k (node ls rs) x n g = inr (n, g)
 -- scaffolds at 0 are stops
 pub left_at_zero : (k : ℕ) (f : Tree → ℤ) (G : Tree) (x : ℤ) → (IsNumberTree G → ⊥) → ((X : Tree) → Has (left G) X → IsRightStop k X (f X)) → IsGreatest f (left G) (x +ℤ pos 0) → IsLeftStop k G x
 left_at_zero k f G x n s g =
-    let r = greatest_stop k f (left G) s (filled (left G) g.reached.0 g.reached.1) in
-    let same : r.0 ≡ x = omega (arith, ints, greatest-same f f (left G) _ _ (λ X h. refl) r.2 g) in
-    as_left_stop k G x n (subst (IsGreatestRight k (left G)) same r.1)
+    as_left_stop k G x n (to_greatest _ _ (greatest_right-chosen k) f (left G) x s (subst (IsGreatest f (left G)) (omega (arith, ints)) g))
 
 pub right_at_zero : (k : ℕ) (f : Tree → ℤ) (G : Tree) (x : ℤ) → (IsNumberTree G → ⊥) → ((X : Tree) → Has (right G) X → IsLeftStop k X (f X)) → IsLeast f (right G) (x -ℤ pos 0) → IsRightStop k G x
 right_at_zero k f G x n s g =
-    let r = least_stop k f (right G) s (filled (right G) g.reached.0 g.reached.1) in
-    let same : r.0 ≡ x = omega (arith, ints, least-same f f (right G) _ _ (λ X h. refl) r.2 g) in
-    as_right_stop k G x n (subst (IsLeastLeft k (right G)) same r.1)
+    as_right_stop k G x n (to_least _ _ (least_left-chosen k) f (right G) x s (subst (IsLeast f (right G)) (omega (arith, ints)) g))
 
 module _ (k : ℕ) (lw rw : Tree → ℕ → ℤ) where
   abbrev AtZero : Tree → Type 0

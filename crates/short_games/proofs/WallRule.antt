@@ -1,67 +1,31 @@
 -- Walls by their rule are the walls on each grid.
 use Rattle.std.proofs.Math.Nat.{pow-suc}
-use Rattle.std.proofs.Common.{ℕ, zero, suc, ◌+◌, ◌-◌, ◌*◌, ◌^◌, ◌≤◌, ◌≡◌, ◌⊎◌, ◌↔◌, arith, refl, inl, inr, sym, ◌∙◌, ap, subst, ℤ, pos, ◌+ℤ◌, ◌-ℤ◌, ◌*ℤ◌, ◌<ℤ◌}
-use Rattle.std.specs.Int.{int_max, int_min}
-use Rattle.std.proofs.lemmas.Int.{ints, clamps}
+use Rattle.std.proofs.Common.{ℕ, zero, suc, ◌+◌, ◌-◌, ◌*◌, ◌^◌, ◌≤◌, ◌≡◌, ◌⊎◌, ◌↔◌, arith, refl, inl, inr, sym, ◌∙◌, ap, subst, ℤ, pos, ◌+ℤ◌, ◌-ℤ◌, ◌*ℤ◌, ◌<ℤ◌, ◌≤ℤ◌}
+use Rattle.std.proofs.lemmas.Int.{ints}
 use Rattle.std.proofs.lemmas.Bool.{cases_lt}
-use Rattle.short_games.specs.Tree.{Tree, Trees, node, none, more, left, right, Has, size}
+use Rattle.short_games.specs.Tree.{Tree, node, left, right, size}
 use Rattle.short_games.specs.Parts.{IsOption}
 use Rattle.short_games.specs.Number.{num, IsNumberTree}
 use Rattle.short_games.specs.inner.Lines.{Rises, Falls}
 use Rattle.short_games.specs.Walls.{IsLeftWall, IsRightWall, IsGreatestRightWall, IsLeastLeftWall}
-use Rattle.short_games.specs.WallGrids.{IsGreatest, IsLeast, Follow, WallsAre, AllWallsAre, HasWalls, finer}
+use Rattle.short_games.specs.WallGrids.{Follow, WallsAre, AllWallsAre, HasWalls, finer}
 use Rattle.short_games.specs.WallGrids.Follow.{apart, met}
 use Rattle.short_games.specs.WallGrids.WallsAre.{of_number, of_game}
 use Rattle.short_games.proofs.OrderLaws.{by_measure, size-option}
-use Rattle.short_games.proofs.StopLaws.{times-twice}
+use Rattle.short_games.proofs.StopLaws.{IsChosen, times-twice}
 use Rattle.short_games.proofs.WallNumbers.{num-one_to_one}
-use Rattle.short_games.proofs.WallGreatest.{IsFilled, filled, greatest-one, greatest-more, least-one, least-more, max-one, min-one}
+use Rattle.short_games.proofs.WallGreatest.{to_greatest, to_least, from_greatest, from_least}
 use Rattle.short_games.proofs.WallLines.{falls-from, rises-from, finer-doubles, greatest-same, least-same}
 use Rattle.short_games.proofs.WallSolutions.{by_walls, all-here, all-left, all-right, walls-steady, walls-finer, left_scaffold-falls, right_scaffold-rises}
 
--- where f gives the walls at t, the greatest that f gives is the greatest wall
-greatest_wall : (k t : ℕ) (f : Tree → ℤ) (Gs : Trees) → ((X : Tree) → Has Gs X → IsRightWall X k t (f X)) → IsFilled Gs → (x : ℤ) × IsGreatestRightWall Gs k t x × IsGreatest f Gs x
+-- the greatest and the least walls of a list
+greatest_wall-chosen : (k t : ℕ) → IsChosen (λ y z. y ≤ℤ z) (λ X. IsRightWall X k t) (λ Gs. IsGreatestRightWall Gs k t)
 unfolding IsLeftWall
-greatest_wall k t f none s h = absurd h
-greatest_wall k t f (more G none) s h = (f G, s G (inl refl), greatest-one f G)
-greatest_wall k t f (more G (more H Hs)) s h =
-    let r = greatest_wall k t f (more H Hs) (λ X x. s X (inr x)) tt in
-    (int_max (f G) r.0, (f G, (r.0, s G (inl refl), r.1, omega (arith, ints, clamps), omega (arith, ints, clamps), max-one (f G) r.0)), greatest-more f G (more H Hs) r.0 r.2)
+greatest_wall-chosen k t = record { none_is = λ x h. h; one_is = λ G x. (λ h. h, λ h. h); more_is = λ G H Hs x. (λ h. h, λ h. h) }
 
-least_wall : (k t : ℕ) (f : Tree → ℤ) (Gs : Trees) → ((X : Tree) → Has Gs X → IsLeftWall X k t (f X)) → IsFilled Gs → (x : ℤ) × IsLeastLeftWall Gs k t x × IsLeast f Gs x
+least_wall-chosen : (k t : ℕ) → IsChosen (λ y z. z ≤ℤ y) (λ X. IsLeftWall X k t) (λ Gs. IsLeastLeftWall Gs k t)
 unfolding IsLeftWall
-least_wall k t f none s h = absurd h
-least_wall k t f (more G none) s h = (f G, s G (inl refl), least-one f G)
-least_wall k t f (more G (more H Hs)) s h =
-    let r = least_wall k t f (more H Hs) (λ X x. s X (inr x)) tt in
-    (int_min (f G) r.0, (f G, (r.0, s G (inl refl), r.1, omega (arith, ints, clamps), omega (arith, ints, clamps), min-one (f G) r.0)), least-more f G (more H Hs) r.0 r.2)
-
-to_greatest : (k t : ℕ) (f : Tree → ℤ) (Gs : Trees) (x : ℤ) → ((X : Tree) → Has Gs X → IsRightWall X k t (f X)) → IsGreatest f Gs x → IsGreatestRightWall Gs k t x
-to_greatest k t f Gs x s g = let r = greatest_wall k t f Gs s (filled Gs g.reached.0 g.reached.1) in
-    subst (IsGreatestRightWall Gs k t) (greatest-same f f Gs r.0 x (λ X h. refl) r.2 g) r.1
-
-to_least : (k t : ℕ) (f : Tree → ℤ) (Gs : Trees) (x : ℤ) → ((X : Tree) → Has Gs X → IsLeftWall X k t (f X)) → IsLeast f Gs x → IsLeastLeftWall Gs k t x
-to_least k t f Gs x s g = let r = least_wall k t f Gs s (filled Gs g.reached.0 g.reached.1) in
-    subst (IsLeastLeftWall Gs k t) (least-same f f Gs r.0 x (λ X h. refl) r.2 g) r.1
-
--- and the greatest wall is the greatest that f gives
-from_greatest : (k t : ℕ) (f : Tree → ℤ) (Gs : Trees) (x : ℤ) → ((X : Tree) → Has Gs X → (y : ℤ) → IsRightWall X k t y → y ≡ f X) → IsGreatestRightWall Gs k t x → IsGreatest f Gs x
-unfolding IsLeftWall
-from_greatest k t f none x s g = absurd g
-from_greatest k t f (more G none) x s g = subst (IsGreatest f (more G none)) (sym (s G (inl refl) x g)) (greatest-one f G)
-from_greatest k t f (more G (more H Hs)) x s g =
-    let r = from_greatest k t f (more H Hs) g.1.0 (λ X h. s X (inr h)) g.1.2 in
-    let e = s G (inl refl) g.0 g.1.1 in
-    subst (IsGreatest f (more G (more H Hs))) (elim g.1.5 [ inl i ↦ omega (arith, ints, clamps, e, i, g.1.3, g.1.4) | inr i ↦ omega (arith, ints, clamps, e, i, g.1.3, g.1.4) ]) (greatest-more f G (more H Hs) g.1.0 r)
-
-from_least : (k t : ℕ) (f : Tree → ℤ) (Gs : Trees) (x : ℤ) → ((X : Tree) → Has Gs X → (y : ℤ) → IsLeftWall X k t y → y ≡ f X) → IsLeastLeftWall Gs k t x → IsLeast f Gs x
-unfolding IsLeftWall
-from_least k t f none x s g = absurd g
-from_least k t f (more G none) x s g = subst (IsLeast f (more G none)) (sym (s G (inl refl) x g)) (least-one f G)
-from_least k t f (more G (more H Hs)) x s g =
-    let r = from_least k t f (more H Hs) g.1.0 (λ X h. s X (inr h)) g.1.2 in
-    let e = s G (inl refl) g.0 g.1.1 in
-    subst (IsLeast f (more G (more H Hs))) (elim g.1.5 [ inl i ↦ omega (arith, ints, clamps, e, i, g.1.3, g.1.4) | inr i ↦ omega (arith, ints, clamps, e, i, g.1.3, g.1.4) ]) (least-more f G (more H Hs) g.1.0 r)
+least_wall-chosen k t = record { none_is = λ x h. h; one_is = λ G x. (λ h. h, λ h. h); more_is = λ G H Hs x. (λ h. h, λ h. h) }
 
 -- a number by one power of two and the next
 once : (x : ℤ) → (x *ℤ pos (2 ^ 0)) ≡ x
@@ -141,10 +105,10 @@ module _ (k : ℕ) (lw rw : Tree → ℕ → ℤ) where
   follows_at G f (of_game n L R h h' w) t = at (w t)
     where
       lefts : (u : ℕ) (x : ℤ) → L u ≡ x → IsGreatestRightWall (left G) k u (x +ℤ pos u)
-      lefts u x e = subst (λ z. IsGreatestRightWall (left G) k u (z +ℤ pos u)) e (to_greatest k u (λ X. rw X u) (left G) (L u +ℤ pos u) (λ X x. (f X (inl x) u).1) (h u))
+      lefts u x e = subst (λ z. IsGreatestRightWall (left G) k u (z +ℤ pos u)) e (to_greatest _ _ (greatest_wall-chosen k u) (λ X. rw X u) (left G) (L u +ℤ pos u) (λ X x. (f X (inl x) u).1) (h u))
 
       rights : (u : ℕ) (x : ℤ) → R u ≡ x → IsLeastLeftWall (right G) k u (x -ℤ pos u)
-      rights u x e = subst (λ z. IsLeastLeftWall (right G) k u (z -ℤ pos u)) e (to_least k u (λ X. lw X u) (right G) (R u -ℤ pos u) (λ X x. (f X (inr x) u).0) (h' u))
+      rights u x e = subst (λ z. IsLeastLeftWall (right G) k u (z -ℤ pos u)) e (to_least _ _ (least_wall-chosen k u) (λ X. lw X u) (right G) (R u -ℤ pos u) (λ X x. (f X (inr x) u).0) (h' u))
 
       mast : (u : ℕ) (x : ℤ) → u ≤ t → L u ≡ x → R u ≡ x → Mast G k t x
       mast u x b d e = (
@@ -193,11 +157,11 @@ module _ (k : ℕ) (lw rw : Tree → ℕ → ℤ) (G : Tree) (all : AllWallsAre 
     falls = left_scaffold-falls k lw rw (left G) l (λ X x. walls-steady k lw rw X (all-left k lw rw G X all x)) h;
     rises = right_scaffold-rises k lw rw (right G) r (λ X x. walls-steady k lw rw X (all-right k lw rw G X all x)) h';
     left_is = λ t x g. (
-        let e = greatest-same (λ X. rw X t) (λ X. rw X t) (left G) (x +ℤ pos t) (l t +ℤ pos t) (λ X y. refl) (from_greatest k t (λ X. rw X t) (left G) (x +ℤ pos t) (λ X y z. (give k lw rw X (inl y) (all-left k lw rw G X all y) t z).1) g) (h t) in
+        let e = greatest-same (λ X. rw X t) (λ X. rw X t) (left G) (x +ℤ pos t) (l t +ℤ pos t) (λ X y. refl) (from_greatest _ _ (greatest_wall-chosen k t) (λ X. rw X t) (left G) (x +ℤ pos t) (λ X y z. (give k lw rw X (inl y) (all-left k lw rw G X all y) t z).1) g) (h t) in
         omega (arith, ints, e)
         );
     right_is = λ t x g. (
-        let e = least-same (λ X. lw X t) (λ X. lw X t) (right G) (x -ℤ pos t) (r t -ℤ pos t) (λ X y. refl) (from_least k t (λ X. lw X t) (right G) (x -ℤ pos t) (λ X y z. (give k lw rw X (inr y) (all-right k lw rw G X all y) t z).0) g) (h' t) in
+        let e = least-same (λ X. lw X t) (λ X. lw X t) (right G) (x -ℤ pos t) (r t -ℤ pos t) (λ X y. refl) (from_least _ _ (least_wall-chosen k t) (λ X. lw X t) (right G) (x -ℤ pos t) (λ X y z. (give k lw rw X (inr y) (all-right k lw rw G X all y) t z).0) g) (h' t) in
         omega (arith, ints, e)
         );
     follow = w;

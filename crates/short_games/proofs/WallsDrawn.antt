@@ -125,12 +125,20 @@ module _ (k : ℕ) where
 
   -- a scaffold by its definition is the one that is drawn
   pub left_same : (G : Tree) (L : ℕ → ℤ) → ((t : ℕ) → IsGreatest (λ X. right_wall X t) (left G) (L t +ℤ pos t)) → (t : ℕ) → L t ≡ left_scaffold G t
-  left_same G L h t = omega (arith, ints, greatest-same (λ X. right_wall X t) (λ X. right_wall X t) (left G) _ _ (λ X x. refl) (h t)
-      (left_scaffold-is G (greatest-filled _ (left G) _ (h 0)) t))
+  left_same G L h t = omega (
+    arith,
+    ints,
+    greatest-same (λ X. right_wall X t) (λ X. right_wall X t) (left G) _ _ (λ X x. refl) (h t)
+        (left_scaffold-is G (greatest-filled _ (left G) _ (h 0)) t),
+  )
 
   pub right_same : (G : Tree) (R : ℕ → ℤ) → ((t : ℕ) → IsLeast (λ X. left_wall X t) (right G) (R t -ℤ pos t)) → (t : ℕ) → R t ≡ right_scaffold G t
-  right_same G R h t = omega (arith, ints, least-same (λ X. left_wall X t) (λ X. left_wall X t) (right G) _ _ (λ X x. refl) (h t)
-      (right_scaffold-is G (least-filled _ (right G) _ (h 0)) t))
+  right_same G R h t = omega (
+    arith,
+    ints,
+    least-same (λ X. left_wall X t) (λ X. left_wall X t) (right G) _ _ (λ X x. refl) (h t)
+        (right_scaffold-is G (least-filled _ (right G) _ (h 0)) t),
+  )
 
   pub walls-number : (G : Tree) (x : ℤ) → number_at k G ≡ Some x → walls G ≡ record { left_wall = λ t. x; right_wall = λ t. x }
   unfolding walls
