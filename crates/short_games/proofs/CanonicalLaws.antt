@@ -2,6 +2,7 @@
 use Rattle.std.proofs.Common.{◌+◌, ◌<◌, ◌≤◌, ◌≡◌, arith, refl, inl, inr, sym, ◌∙◌, ap₂, subst}
 use Rattle.short_games.specs.Tree.{Tree, Trees, node, none, more, left, right, Has, size}
 use Rattle.short_games.specs.Order.{◌≤ᵍ◌, by_left, by_right}
+use Rattle.short_games.specs.Parts.{IsOption}
 use Rattle.short_games.specs.Canonical.{Ascends, IsReduced, IsCanonical, AreCanonical}
 use Rattle.short_games.proofs.OrderLaws.{by_sizes, le-out, le-trans, not-le, size-left, size-right}
 use Rattle.short_games.proofs.SumLaws.{tree-same}
@@ -25,6 +26,9 @@ module _ (Before : Tree → Tree → Type 0) (irreflexive : (G : Tree) → Befor
 
   pub canonical-right : (G R : Tree) → IsCanonical Before G → Has (right G) R → IsCanonical Before R
   canonical-right (node ls rs) R c h = canonical-at Before rs R c.2 h
+
+  pub canonical-option : (G X : Tree) → IsCanonical Before G → IsOption G X → IsCanonical Before X
+  canonical-option G X c o = elim o [ inl l ↦ canonical-left G X c l | inr r ↦ canonical-right G X c r ]
 
   -- the first of an ascending list stands before the others
   first_before : (G : Tree) (Gs : Trees) → Ascends Before (more G Gs) → (H : Tree) → Has Gs H → Before G H

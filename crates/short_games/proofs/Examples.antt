@@ -109,7 +109,7 @@ pub star-no_number : IsNumberTree star → ⊥
 unfolding le le_within size
 star-no_number = option-no_number star zero zero (inl refl) (inl refl) (from-test zero zero refl)
 
-pub up-canonical : IsCanonicalTree (choice (num 0 (pos 0)) star)
+up-canonical : IsCanonicalTree up
 unfolding canonical_test reduced_test kept_test ascends_test free_test le le_within size same text_before lesser_text tree_text text number_of guess num whole count_tree digits_within
 up-canonical = by_canonical_test up refl
 
@@ -134,14 +134,11 @@ unfolding canonical_test reduced_test kept_test ascends_test free_test le le_wit
 star_two-canonical = by_canonical_test star_two refl
 
 -- what the test tells of two games
-below : (G H : Tree) → le G H ≡ true → G ≤ᵍ H
-below = from-test
-
 apart : (G H : Tree) → le H G ≡ false → G ⧏ᵍ H
 apart G H e = not-le H G (λ p. false≢true (sym e ∙ to-test H G p))
 
 less : (G H : Tree) → le G H ≡ true → le H G ≡ false → IsLess G H
-less G H e f = (below G H e, apart G H f)
+less G H e f = (from-test G H e, apart G H f)
 
 confused : (G H : Tree) → le G H ≡ false → le H G ≡ false → AreConfused G H
 confused G H e f = (apart G H f, apart H G e)
@@ -151,7 +148,7 @@ unfolding le le_within size
 known-order = (less zero half refl refl, less half one refl refl, less zero tiny refl refl, less tiny up refl refl, less up half refl refl, confused zero star refl refl, confused up star refl refl, confused zero star_two refl refl, confused star star_two refl refl, confused one two_switch refl refl)
 
 equal : (G H : Tree) → le G H ≡ true → le H G ≡ true → G ≡ᵍ H
-equal G H e f = (below G H e, below H G f)
+equal G H e f = (from-test G H e, from-test H G f)
 
 pub known-sums : KnownSums
 unfolding le le_within size ◌+ᵍ◌
@@ -165,24 +162,20 @@ half-canonical : IsCanonicalTree half
 unfolding num whole count_tree
 half-canonical = number-canonical 1 (pos 1)
 
-up-is_canonical : IsCanonicalTree up
-unfolding num whole count_tree
-up-is_canonical = up-canonical
-
 pub known-canonical : KnownCanonical
 unfolding le le_within size
-known-canonical = (zero-canonical, half-canonical, star-canonical, up-is_canonical, switch-canonical, tiny-canonical, star_two-canonical, record { canonical = zero-canonical; under = below (choice star star) zero refl; over = below zero (choice star star) refl })
+known-canonical = (zero-canonical, half-canonical, star-canonical, up-canonical, switch-canonical, tiny-canonical, star_two-canonical, record { canonical = zero-canonical; under = from-test (choice star star) zero refl; over = from-test zero (choice star star) refl })
 
 switch-no_number : IsNumberTree two_switch → ⊥
 unfolding le le_within size
-switch-no_number = option-no_number two_switch two zero (inl refl) (inl refl) (below zero two refl)
+switch-no_number = option-no_number two_switch two zero (inl refl) (inl refl) (from-test zero two refl)
 
 up-no_number : IsNumberTree up → ⊥
 up-no_number = right-no_number up star (inl refl) star-no_number
 
 below_zero-no_number : IsNumberTree (choice zero minus_two) → ⊥
 unfolding le le_within size
-below_zero-no_number = option-no_number (choice zero minus_two) zero minus_two (inl refl) (inl refl) (below minus_two zero refl)
+below_zero-no_number = option-no_number (choice zero minus_two) zero minus_two (inl refl) (inl refl) (from-test minus_two zero refl)
 
 tiny-no_number : IsNumberTree tiny → ⊥
 tiny-no_number = right-no_number tiny (choice zero minus_two) (inl refl) below_zero-no_number
@@ -207,7 +200,7 @@ known-numbers = (
     no_right = λ Y h. absurd h;
   },
   no_value star star-canonical star-no_number,
-  no_value up up-is_canonical up-no_number,
+  no_value up up-canonical up-no_number,
   no_value two_switch switch-canonical switch-no_number,
   no_value tiny tiny-canonical tiny-no_number,
   no_value star_two star_two-canonical star_two-no_number,
@@ -242,27 +235,24 @@ zero-number : (k : ℕ) → zero ≡ num k (pos 0)
 zero-number k = sym (num-zero k)
 
 -- where both scaffolds are 0 at 0, both walls are 0 from there on
-upright_at : (k t : ℕ) → 0 ≤ t * 2 ^ 0
-upright_at k t = omega arith
-
 star-left : (k t : ℕ) → IsLeftWall star k t (pos 0)
 unfolding IsLeftWall
-star-left k t = inr (star-no_number, inr (0, 0, upright_at k t, inl (zero-number (0 + k)), inl (zero-number (0 + k))))
+star-left k t = inr (star-no_number, inr (0, 0, omega arith, inl (zero-number (0 + k)), inl (zero-number (0 + k))))
 
 star-right : (k t : ℕ) → IsRightWall star k t (pos 0)
 unfolding IsLeftWall
-star-right k t = inr (star-no_number, inr (0, 0, upright_at k t, inl (zero-number (0 + k)), inl (zero-number (0 + k))))
+star-right k t = inr (star-no_number, inr (0, 0, omega arith, inl (zero-number (0 + k)), inl (zero-number (0 + k))))
 
 up-walls : IsUpright up 0 (pos 0)
 unfolding IsLeftWall
 up-walls t = (
-  inr (up-no_number, inr (0, 0, upright_at 0 t, inl (zero-number (0 + 0)), star-left (0 + 0) 0)),
-  inr (up-no_number, inr (0, 0, upright_at 0 t, inl (zero-number (0 + 0)), star-left (0 + 0) 0)),
+  inr (up-no_number, inr (0, 0, omega arith, inl (zero-number (0 + 0)), star-left (0 + 0) 0)),
+  inr (up-no_number, inr (0, 0, omega arith, inl (zero-number (0 + 0)), star-left (0 + 0) 0)),
 )
 
 star_two-walls : IsUpright star_two 0 (pos 0)
 unfolding IsLeftWall
-star_two-walls t = (inr (star_two-no_number, inr (0, 0, upright_at 0 t, lefts, rights)), inr (star_two-no_number, inr (0, 0, upright_at 0 t, lefts, rights)))
+star_two-walls t = (inr (star_two-no_number, inr (0, 0, omega arith, lefts, rights)), inr (star_two-no_number, inr (0, 0, omega arith, lefts, rights)))
   where
     lefts : IsGreatestRightWall (more zero (more star none)) (0 + 0) 0 (pos 0)
     lefts = (pos 0, (pos 0, inl (zero-number (0 + 0)), star-right (0 + 0) 0, omega (arith, ints), omega (arith, ints), inl refl))
@@ -278,8 +268,8 @@ below_zero-left = inr (below_zero-no_number, inl (inl refl, (negsuc 1, inl refl,
 tiny-walls : IsUpright tiny 0 (pos 0)
 unfolding IsLeftWall
 tiny-walls t = (
-  inr (tiny-no_number, inr (0, 0, upright_at 0 t, inl (zero-number (0 + 0)), below_zero-left)),
-  inr (tiny-no_number, inr (0, 0, upright_at 0 t, inl (zero-number (0 + 0)), below_zero-left)),
+  inr (tiny-no_number, inr (0, 0, omega arith, inl (zero-number (0 + 0)), below_zero-left)),
+  inr (tiny-no_number, inr (0, 0, omega arith, inl (zero-number (0 + 0)), below_zero-left)),
 )
 
 switch-mast : (t : ℕ) → 1 ≤ t → IsLeftWall two_switch 0 t (pos 1) × IsRightWall two_switch 0 t (pos 1)

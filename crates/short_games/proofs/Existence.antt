@@ -1,12 +1,12 @@
 -- Each tree has a canonical tree that is equal to it, where the order of texts is total.
-use Rattle.std.proofs.Common.{ℕ, zero, suc, ◌+◌, ◌<◌, ◌≤◌, ◌≡◌, ◌⊎◌, arith, refl, inl, inr, sym, cond, ◌∙◌, subst, true, false, Bool}
+use Rattle.std.proofs.Common.{◌+◌, ◌<◌, ◌≤◌, ◌≡◌, ◌⊎◌, arith, refl, inl, inr, sym, cond, ◌∙◌, subst, true, false, Bool}
 use Rattle.std.proofs.lemmas.Bool.{cases_Bool, true≢false}
 use Rattle.short_games.specs.Tree.{Tree, Trees, node, none, more, left, right, Has, size, sizes, ◌then◌}
 use Rattle.short_games.specs.Order.{◌≤ᵍ◌}
 use Rattle.short_games.specs.Canonical.{Ascends, IsCanonical, AreCanonical}
 use Rattle.short_games.specs.Parts.{IsFollower, IsOption}
 use Rattle.short_games.specs.Parts.IsFollower.{itself, further}
-use Rattle.short_games.proofs.OrderLaws.{left_side, right_side, no_one, no_one-has, some_one, le, from-test, to-test, le-refl, le-trans, size-left, size-right, size-node}
+use Rattle.short_games.proofs.OrderLaws.{by_measure, left_side, right_side, no_one, no_one-has, some_one, le, from-test, to-test, le-refl, le-trans, size-left, size-right, size-node}
 use Rattle.short_games.proofs.SumLaws.{then-has, has-then_left, has-then_right}
 use Rattle.short_games.proofs.PartLaws.{follower-trans}
 use Rattle.short_games.proofs.CanonicalLaws.{canonical-at, rest-ascends}
@@ -262,29 +262,28 @@ module _ (Before : Tree → Tree → Type 0) (total : (G H : Tree) → Before G 
         all-canonical Before rights.0 (λ X x. canonical-at Before rs X d (least.1.among X (rights.1.to X x))),
       )
 
-  along : (G H : Tree) → (G ≤ᵍ H) × (H ≤ᵍ G) → Canon H → Canon G
+  abbrev along : (G H : Tree) → (G ≤ᵍ H) × (H ≤ᵍ G) → Canon H → Canon G
   along G H e c = record { tree = c.tree; canonical = c.canonical; under = le-trans G H c.tree e.0 c.under; over = le-trans c.tree H G c.over e.1 }
 
   along_below : (G H : Tree) → (G ≤ᵍ H) × (H ≤ᵍ G) → AreBelow G H → CanonBelow H → CanonBelow G
-  unfolding along
   along_below G H e b c = record {
     canon = along G H e c.canon;
     below = λ X h. let w = c.below X h in let v = b w.0 w.1 in (v.0, v.1, follower-trans v.0 w.0 X v.2 w.2);
   }
 
-  Canons : ℕ → Type 0
-  Canons n = (ls rs : Trees) → sizes ls + sizes rs < n → AreCanonical Before ls → AreCanonical Before rs → CanonBelow (node ls rs)
+  abbrev Works : Trees → Trees → Type 0
+  Works ls rs = AreCanonical Before ls → AreCanonical Before rs → CanonBelow (node ls rs)
 
   -- one round: replace on the left, else on the right, else finish
-  round : (n : ℕ) → Canons n → Canons (suc n)
-  unfolding Canons
-  round n ih ls rs a c d = by_left (bypass Before left right (λ G R. le R G) left-size size-right left-canonical (λ G R c h. canonical-at Before (right G) R (right-canonical G c) h) (λ G X h. inl h) (λ G X h. inr h) (node ls rs) ls c)
+  round : (ls rs : Trees) → ((ms ns : Trees) → sizes ms + sizes ns < sizes ls + sizes rs → Works ms ns) → Works ls rs
+  round ls rs ih c d = by_left (bypass Before left right (λ G R. le R G) left-size size-right left-canonical (λ G R c h. canonical-at Before (right G) R (right-canonical G c) h)
+      (λ G X h. inl h) (λ G X h. inr h) (node ls rs) ls c)
     where
       by_right : ((X R : Tree) → Has ls X → Has (right X) R → R ≤ᵍ node ls rs → ⊥) → (Ms : Trees) × ByRight (node ls rs) rs Ms → CanonBelow (node ls rs)
       by_right f r = elim r.1.done [
         | inl l ↦ along_below _ _ (bypass-equal_right ls rs r.0 r.1)
             (λ X h. elim h [ inl x ↦ (X, inl x, itself X) | inr y ↦ (let w = r.1.under X y in (w.0, inr w.1, w.2)) ])
-            (ih ls r.0 (omega (arith, l, a)) c r.1.canonical)
+            (ih ls r.0 (omega (arith, l)) c r.1.canonical)
         | inr g ↦ finish ls rs c d f (λ X L x l y. g X x (L, l, to-test (node ls rs) L y))
       ]
 
@@ -292,19 +291,13 @@ module _ (Before : Tree → Tree → Type 0) (total : (G H : Tree) → Before G 
       by_left r = elim r.1.done [
         | inl l ↦ along_below _ _ (bypass-equal ls rs r.0 r.1)
             (λ X h. elim h [ inl x ↦ (let w = r.1.under X x in (w.0, inl w.1, w.2)) | inr y ↦ (X, inr y, itself X) ])
-            (ih r.0 rs (omega (arith, l, a)) r.1.canonical d)
+            (ih r.0 rs (omega (arith, l)) r.1.canonical d)
         | inr f ↦ by_right (λ X R x r y. f X x (R, r, to-test R (node ls rs) y)) (bypass Before right left (λ G L. le G L) right-size size-left right-canonical (λ G L c h. canonical-at Before (left G) L (left-canonical G c) h) (λ G X h. inr h) (λ G X h. inl h) (node ls rs) rs d)
       ]
 
-  rounds : (n : ℕ) → Canons n
-  unfolding Canons
-  rounds zero ls rs a c d = absurd (omega arith)
-  rounds (suc n) ls rs a c d = round n (rounds n) ls rs a c d
-
   -- where the options are canonical
   pub canon_below : (ls rs : Trees) → AreCanonical Before ls → AreCanonical Before rs → CanonBelow (node ls rs)
-  unfolding Canons
-  canon_below ls rs c d = rounds (suc (sizes ls + sizes rs)) ls rs (omega arith) c d
+  canon_below ls rs = by_measure {A = Trees × Trees} (λ p. sizes p.0 + sizes p.1) (λ p. Works p.0 p.1) (λ p ih. round p.0 p.1 (λ ms ns l. ih (ms, ns) l)) (ls, rs)
 
   -- of every tree
   record Canon_each (Gs : Trees) : Type 0 where
@@ -314,12 +307,11 @@ module _ (Before : Tree → Tree → Type 0) (total : (G H : Tree) → Before G 
     from : (Y : Tree) → Has trees Y → (X : Tree) × Has Gs X × (X ≤ᵍ Y) × (Y ≤ᵍ X)
 
   of_options : (ls rs : Trees) → Canon_each ls → Canon_each rs → Canon (node ls rs)
-  unfolding Canons
   of_options ls rs a b = along (node ls rs) (node a.trees b.trees) (
     by_better _ _ (λ L l. (let y = a.to L l in (y.0, y.1, y.2))) (λ S s. (let x = b.from S s in (x.0, x.1, x.2))),
     by_better _ _ (λ L l. (let x = a.from L l in (x.0, x.1, x.3))) (λ S s. (let y = b.to S s in (y.0, y.1, y.3))),
   )
-      (rounds (suc (sizes a.trees + sizes b.trees)) a.trees b.trees (omega arith) a.canonical b.canonical).canon
+      (canon_below a.trees b.trees a.canonical b.canonical).canon
 
   add_each : (G : Tree) (Gs : Trees) → Canon G → Canon_each Gs → Canon_each (more G Gs)
   add_each G Gs c r = record {

@@ -211,17 +211,11 @@ module _ (e : ℕ) where
       (λ L l. ih L (size-left G L l) (canonical-left TextBefore text-order.irreflexive text-order.transitive G L c l))
       (λ R r. ih R (size-right G R r) (canonical-right TextBefore text-order.irreflexive text-order.transitive G R c r)))
 
-  pub ceiling-of : (G : Tree) → IsCanonicalTree G → (x : ℤ) → IsLeftStop e G x → CeilingBy e G x
-  ceiling-of G c = (both G c).ceiling
-
-  pub floor-of : (G : Tree) → IsCanonicalTree G → (x : ℤ) → IsRightStop e G x → FloorBy e G x
-  floor-of G c = (both G c).floor
-
   pub goes_with-left : (G : Tree) (k : ℤ) → IsCanonicalTree G → IsCeiling e G k → (x : ℤ) × IsLeftStop e G x → GoesWithLeftStop e G k
-  goes_with-left G k c h s = let r = ceiling-of G c s.0 s.1 in (s.0, s.1, rw (one-ceiling e G k r.0 h r.1) r.2)
+  goes_with-left G k c h s = let r = (both G c).ceiling s.0 s.1 in (s.0, s.1, rw (one-ceiling e G k r.0 h r.1) r.2)
 
   pub goes_with-right : (G : Tree) (k : ℤ) → IsCanonicalTree G → IsFloor e G k → (x : ℤ) × IsRightStop e G x → GoesWithRightStop e G k
-  goes_with-right G k c h s = let r = floor-of G c s.0 s.1 in (s.0, s.1, rw (one-floor e G k r.0 h r.1) r.2)
+  goes_with-right G k c h s = let r = (both G c).floor s.0 s.1 in (s.0, s.1, rw (one-floor e G k r.0 h r.1) r.2)
 
 pub times-twice : (m : ℤ) (a b : ℕ) → b ≡ a + a → m *ℤ pos b ≡ (m *ℤ pos a) +ℤ (m *ℤ pos a)
 times-twice m a b e = grind (arith, ints)
@@ -234,7 +228,7 @@ num-scaled (suc d) e m = ap₂ num (omega arith) (times-twice m (2 ^ d) (2 ^ suc
 -- a game is at most each number above its left stop, and at least each number below its right stop
 pub under-left_stop : (e : ℕ) (G : Tree) (x : ℤ) → IsCanonicalTree G → IsLeftStop e G x → (d : ℕ) (y : ℤ) → pos 0 <ℤ y → G ≤ᵍ num (d + e) ((x *ℤ pos (2 ^ d)) +ℤ y)
 under-left_stop e G x c s d y p =
-    let k = ceiling-of e G c x s in
+    let k = (both e G c).ceiling x s in
     let h = cell e (d + e) ((x *ℤ pos (2 ^ d)) +ℤ y) in
     (k.1 (d + e) ((x *ℤ pos (2 ^ d)) +ℤ y) h.0 h.1).1 (by_lt_z (x +ℤ x) h.0
     (λ l. omega (arith, ints, l, k.2.1))
@@ -242,7 +236,7 @@ under-left_stop e G x c s d y p =
 
 pub over-right_stop : (e : ℕ) (G : Tree) (x : ℤ) → IsCanonicalTree G → IsRightStop e G x → (d : ℕ) (y : ℤ) → pos 0 <ℤ y → num (d + e) ((x *ℤ pos (2 ^ d)) -ℤ y) ≤ᵍ G
 over-right_stop e G x c s d y p =
-    let k = floor-of e G c x s in
+    let k = (both e G c).floor x s in
     let h = cell e (d + e) ((x *ℤ pos (2 ^ d)) -ℤ y) in
     (k.1 (d + e) ((x *ℤ pos (2 ^ d)) -ℤ y) h.0 h.1).1 (by_lt_z h.0 (x +ℤ x)
     (λ l. omega (arith, ints, l, k.2.0))

@@ -9,14 +9,14 @@ use Rattle.short_games.specs.TextOrder.{IsCanonicalTree}
 use Rattle.short_games.specs.WallGrids.{IsGreatest, IsLeast, WallsAre, AllWallsAre, IsMeeting, finer}
 use Rattle.short_games.specs.WallGrids.WallsAre.{of_number, of_game}
 use Rattle.short_games.specs.inner.Lines.{Rises, Falls}
-use Rattle.short_games.proofs.OrderLaws.{size-left, size-right, size-pos}
+use Rattle.short_games.proofs.OrderLaws.{size-option, size-pos}
 use Rattle.short_games.proofs.StopLaws.{greatest_right-chosen, least_left-chosen, number-left_stop, number-right_stop, stops-ordered}
 use Rattle.short_games.proofs.WallGreatest.{to_greatest, to_least, IsFilled}
-use Rattle.short_games.proofs.WallOver.{IsFine, fine-left, fine-right, over-more, no_number, canonical-filled}
+use Rattle.short_games.proofs.WallOver.{IsFine, fine-option, over-more, no_number, canonical-filled}
 use Rattle.short_games.proofs.WallLines.{follow-zero, Doubles, finer-doubles}
 use Rattle.short_games.proofs.WallSolutions.{by_walls, all-from, walls-unique, walls-steady, walls-finer, left_scaffold-falls, right_scaffold-rises, left_scaffold-doubles, right_scaffold-doubles}
 use Rattle.short_games.proofs.WallSteps.{AllDrawn, solution-drawn, jump-middle, follow-meeting}
-use Rattle.short_games.proofs.WallsDrawn.{left_same, right_same, left_wall, right_wall, left_scaffold, right_scaffold, left_scaffold-is, right_scaffold-is, IsDrawable, no_jump-doubled, walls-at}
+use Rattle.short_games.proofs.WallsDrawn.{left_same, right_same, left_wall, right_wall, left_scaffold, right_scaffold, left_scaffold-is, right_scaffold-is, no_jump-doubled, walls-at}
 
 as_left_stop : (k : ℕ) (G : Tree) (x : ℤ) → (IsNumberTree G → ⊥) → IsGreatestRight k (left G) x → IsLeftStop k G x
 unfolding IsLeftStop
@@ -50,13 +50,7 @@ module _ (k : ℕ) (lw rw : Tree → ℕ → ℤ) where
   pub walls-zero : (G : Tree) → AllWallsAre k lw rw G → IsLeftStop k G (lw G 0) × IsRightStop k G (rw G 0)
   walls-zero = by_walls k lw rw AtZero (λ G _. zero_at G)
 
--- the scaffolds of a tree at 0 are its stops
-scaffolds_at_zero : (k : ℕ) (G : Tree) → IsCanonicalTree G → (IsNumberTree G → ⊥) → IsFilled (left G) → IsFilled (right G) → ((X : Tree) → IsOption G X → AllDrawn k X)
-    → right_scaffold k G 0 ≤ℤ left_scaffold k G 0
-scaffolds_at_zero k G c n p q a = stops-ordered k G (left_scaffold k G 0) (right_scaffold k G 0) c
-    (left_at_zero k (λ X. right_wall k X 0) G (left_scaffold k G 0) n (λ X x. (walls-zero k (left_wall k) (right_wall k) X (a X (inl x))).1) (left_scaffold-is k G p 0))
-    (right_at_zero k (λ X. left_wall k X 0) G (right_scaffold k G 0) n (λ X x. (walls-zero k (left_wall k) (right_wall k) X (a X (inr x))).0) (right_scaffold-is k G q 0))
-
+-- where a line is the finer one it doubles the first
 same-doubles : (f g : ℕ → ℤ) → ((t : ℕ) → g t ≡ finer f t) → Doubles f g
 same-doubles f g e = record { at_even = λ t. e (t + t) ∙ (finer-doubles f).at_even t; at_odd = λ t. e (suc (t + t)) ∙ (finer-doubles f).at_odd t }
 
@@ -98,36 +92,36 @@ module _ (k : ℕ) (G : Tree) (p : IsFilled (left G)) (q : IsFilled (right G)) (
   right_doubles : Doubles (right_scaffold k G) (right_scaffold (suc k) G)
   right_doubles = same-doubles (right_scaffold k G) (right_scaffold (suc k) G) right_is
 
+  -- the scaffolds at 0 are the stops
   start : IsCanonicalTree G → (IsNumberTree G → ⊥) → right_scaffold (suc k) G 0 ≤ℤ left_scaffold (suc k) G 0
-  start c n = scaffolds_at_zero (suc k) G c n p q (λ X o. next k X (drawn X o))
+  start c n = stops-ordered (suc k) G (left_scaffold (suc k) G 0) (right_scaffold (suc k) G 0) c
+      (left_at_zero (suc k) (λ X. right_wall (suc k) X 0) G _ n (λ X x. (zero X (next k X (drawn X (inl x)))).1) (left_scaffold-is (suc k) G p 0))
+      (right_at_zero (suc k) (λ X. left_wall (suc k) X 0) G _ n (λ X x. (zero X (next k X (drawn X (inr x)))).0) (right_scaffold-is (suc k) G q 0))
+    where
+      zero : (X : Tree) → AllDrawn (suc k) X → IsLeftStop (suc k) X (left_wall (suc k) X 0) × IsRightStop (suc k) X (right_wall (suc k) X 0)
+      zero = walls-zero (suc k) (left_wall (suc k)) (right_wall (suc k))
 
 -- then the tree has them on the next
-drawable : (k : ℕ) (G : Tree) → IsFine (suc k) G → ((X : Tree) → IsOption G X → AllDrawn k X) → (IsNumberTree G → ⊥) → IsDrawable (suc k) G
-drawable k G f drawn n = let full = canonical-filled G f.0 n in record {
-  no_number = n;
-  left_filled = full.0;
-  right_filled = full.1;
-  no_jump = no_jump-doubled (left_scaffold k G) (right_scaffold k G) (left_scaffold (suc k) G) (right_scaffold (suc k) G)
-      (left_falls k G full.0 full.1 drawn) (right_rises k G full.0 full.1 drawn) (left_doubles k G full.0 full.1 drawn) (right_doubles k G full.0 full.1 drawn)
-      (start k G full.0 full.1 drawn f.0 n);
-}
-
 drawn_here : (k : ℕ) (G : Tree) → IsFine (suc k) G → ((X : Tree) → IsOption G X → AllDrawn k X) → WallsAre (suc k) (left_wall (suc k)) (right_wall (suc k)) G
-drawn_here k G f drawn = walls-at (suc k) G (λ n. drawable k G f drawn (no_number (suc k) G f n))
+drawn_here k G f drawn = walls-at (suc k) G (λ x. (
+    let n = no_number (suc k) G f x in
+    let full = canonical-filled G f.0 n in record {
+      no_number = n;
+      left_filled = full.0;
+      right_filled = full.1;
+      no_jump = no_jump-doubled (left_scaffold k G) (right_scaffold k G) (left_scaffold (suc k) G) (right_scaffold (suc k) G)
+          (left_falls k G full.0 full.1 drawn) (right_rises k G full.0 full.1 drawn)
+          (left_doubles k G full.0 full.1 drawn) (right_doubles k G full.0 full.1 drawn) (start k G full.0 full.1 drawn f.0 n);
+    }
+    ))
 
 drawn_next : (k : ℕ) (G : Tree) → IsFine (suc k) G → ((X : Tree) → IsOption G X → AllDrawn k X) → AllDrawn (suc k) G
 drawn_next k G f drawn = all-from (suc k) (left_wall (suc k)) (right_wall (suc k)) G (drawn_here k G f drawn) (λ X o. next k X (drawn X o))
 
-exists_within : (n e k : ℕ) (G : Tree) → size G < n → size G + e ≤ k → IsFine e G → AllDrawn k G
-exists_within zero e k G a h f = absurd (omega arith)
-exists_within (suc n) e zero G a h f = absurd (omega (arith, h, size-pos G))
-exists_within (suc n) e (suc k) G a h f = drawn_next k G (f.0, over-more (suc k) e G (omega (arith, h)) f.1) (λ X o. elim o [
-  | inl x ↦ exists_within n e k X (omega (arith, size-left G X x)) (omega (arith, size-left G X x)) (fine-left e G X f x)
-  | inr x ↦ exists_within n e k X (omega (arith, size-right G X x)) (omega (arith, size-right G X x)) (fine-right e G X f x)
-])
-
 pub walls-exist : (e k : ℕ) (G : Tree) → size G + e ≤ k → IsFine e G → AllWallsAre k (left_wall k) (right_wall k) G
-walls-exist e k G = exists_within (suc (size G)) e k G (omega arith)
+walls-exist e zero G h f = absurd (omega (arith, h, size-pos G))
+walls-exist e (suc k) G h f = drawn_next k G (f.0, over-more (suc k) e G (omega (arith, h)) f.1)
+    (λ X o. walls-exist e k X (omega (arith, h, size-option G X o)) (fine-option e G X f o))
 
 -- where the scaffolds jump on a grid, the tree has walls on the next one, and an odd temperature there
 pub jump-odd : (k : ℕ) (G : Tree) → IsFine (suc k) G → (IsNumberTree G → ⊥) → ((X : Tree) → Has (left G) X → AllWallsAre k (left_wall k) (right_wall k) X) → ((X : Tree) → Has (right G) X → AllWallsAre k (left_wall k) (right_wall k) X)

@@ -2,14 +2,14 @@
 use Rattle.std.proofs.Common.{ℕ, zero, suc, ◌+◌, ◌-◌, ◌*ℤ◌, ◌^◌, ◌<◌, ◌≤◌, ◌≡◌, arith, refl, inl, inr, sym, ◌∙◌, ap, subst, ℤ, pos, ◌+ℤ◌, true, false}
 use Rattle.std.proofs.lemmas.Bool.{cases_Bool}
 use Rattle.std.proofs.lemmas.Int.{ints}
-use Rattle.short_games.specs.Tree.{Tree, node, none, more, left, right, Has, size}
+use Rattle.short_games.specs.Tree.{Tree, node, none, more, left, right, size}
 use Rattle.short_games.specs.Number.{num, half, is_even, IsNumber, IsNumberTree}
 use Rattle.short_games.specs.TextOrder.{TextBefore, IsCanonicalTree}
-use Rattle.short_games.specs.Parts.{IsFollower}
+use Rattle.short_games.specs.Parts.{IsOption, IsFollower}
 use Rattle.short_games.specs.Parts.IsFollower.{itself, further}
 use Rattle.short_games.proofs.OrderLaws.{size-left, size-right, size-pos}
 use Rattle.short_games.proofs.NumberLaws.{num-even, num-odd, half-even}
-use Rattle.short_games.proofs.CanonicalLaws.{canonical-left, canonical-right}
+use Rattle.short_games.proofs.CanonicalLaws.{canonical-option}
 use Rattle.short_games.proofs.TextOrderLaws.{text-order}
 use Rattle.short_games.proofs.ReductionLaws.{canonical-number}
 use Rattle.short_games.proofs.AvoidanceLaws.{cheap_left, cheap_right}
@@ -19,12 +19,6 @@ use Rattle.short_games.proofs.WallGreatest.{IsFilled, filled}
 -- each number in the tree is a whole number of parts of 2 ^ -e
 abbrev pub IsOver : ℕ → Tree → Type 0
 IsOver e G = (P : Tree) → IsFollower G P → IsNumberTree P → (n : ℤ) × (P ≡ num e n)
-
-pub over-left : (e : ℕ) (G L : Tree) → IsOver e G → Has (left G) L → IsOver e L
-over-left e G L o h P f = o P (further G L P (inl h) f)
-
-pub over-right : (e : ℕ) (G R : Tree) → IsOver e G → Has (right G) R → IsOver e R
-over-right e G R o h P f = o P (further G R P (inr h) f)
 
 number-over : (k e : ℕ) (n : ℤ) → e ≤ k → (m : ℤ) × (num e n ≡ num k m)
 number-over k e n h = let d : (k - e) + e ≡ k = omega (arith, h) in
@@ -72,11 +66,8 @@ over-size G P f n =
 abbrev pub IsFine : ℕ → Tree → Type 0
 IsFine e G = IsCanonicalTree G × IsOver e G
 
-pub fine-left : (e : ℕ) (G L : Tree) → IsFine e G → Has (left G) L → IsFine e L
-fine-left e G L f h = (canonical-left TextBefore text-order.irreflexive text-order.transitive G L f.0 h, over-left e G L f.1 h)
-
-pub fine-right : (e : ℕ) (G R : Tree) → IsFine e G → Has (right G) R → IsFine e R
-fine-right e G R f h = (canonical-right TextBefore text-order.irreflexive text-order.transitive G R f.0 h, over-right e G R f.1 h)
+pub fine-option : (e : ℕ) (G X : Tree) → IsFine e G → IsOption G X → IsFine e X
+fine-option e G X f o = (canonical-option TextBefore text-order.irreflexive text-order.transitive G X f.0 o, λ P g. f.1 P (further G X P o g))
 
 pub no_number : (e : ℕ) (G : Tree) → IsFine e G → ((x : ℤ) → G ≡ num e x → ⊥) → IsNumberTree G → ⊥
 no_number e G f n i = let r = f.1 G (itself G) i in n r.0 r.1

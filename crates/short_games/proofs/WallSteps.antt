@@ -31,10 +31,7 @@ no_jump-met : (L R : ℕ → ℤ) (u : ℕ) → L u ≡ R u → ((v : ℕ) → v
 unfolding NoJump
 no_jump-met L R u e a v h = elim (cases_lt v u) [
   | inl k ↦ omega (arith, ints, a v k)
-  | inr k ↦ elim (cases_lt u v) [
-    | inl i ↦ absurd (omega (arith, ints, h u i, e))
-    | inr i ↦ (let s : u ≡ v = omega (arith, i, k) in subst (λ n. R n ≤ℤ L n) s (omega (arith, ints, e)))
-  ]
+  | inr k ↦ (let no : u < v → ⊥ = λ i. omega (arith, ints, h u i, e) in let s : u ≡ v = omega (arith, k, no) in subst (λ n. R n ≤ℤ L n) s (omega (arith, ints, e)))
 ]
 
 -- the walls that are drawn are the walls
