@@ -64,12 +64,11 @@ pub cheap_left : (G : Tree) → (IsNumber G → ⊥) → (e : ℕ) (d : ℤ) →
 cheap_left G no_number e d p = elim (none-or_some (λ L. num e b.at ≤ᵍ L) (λ L. le-or_not (num e b.at) L) (left G)) [
   | inl t ↦ absurd (b.not_over (avoid-le G no_number e b.at t))
   | inr f ↦ (
-      let r = f in (
-        r.0,
-        r.1,
-        le-trans _ _ _ b.over (le-trans _ _ _ (num-le_plus e b.at (pos 1)) (plus-le_both (num e b.at) r.0 (num e (pos 1)) (num e d) r.2 (num-le e (pos 1) d (omega (arith, ints, p))))),
-      )
-      )
+    f.0,
+    f.1,
+    le-trans _ _ _ b.over (le-trans _ _ _ (num-le_plus e b.at (pos 1))
+        (plus-le_both (num e b.at) f.0 (num e (pos 1)) (num e d) f.2 (num-le e (pos 1) d (omega (arith, ints, p))))),
+  )
 ]
   where
     b : Least e G

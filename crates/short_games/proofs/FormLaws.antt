@@ -42,27 +42,24 @@ bypassed near far Le s G H kept from others = (
 -- a game with a number between its options is a number
 number_step : (G : Tree) (e : ℕ) (z : ℤ) → ((y : ℤ) → size (num e y) < size (num e z) → FitsForm G (num e y) → IsNumber G) → FitsForm G (num e z) → IsNumber G
 number_step G e z ih f = elim (le-or_not G (num e z)) [
-  | inr h ↦ higher h
-  | inl p ↦ elim (le-or_not (num e z) G) [ inl q ↦ (e, z, p, q) | inr h ↦ lower h ]
-]
-  where
-    higher : (G ≤ᵍ num e z → ⊥) → IsNumber G
-    higher h = elim (not-le G (num e z) h) [
-      | by_left L l y ↦ absurd (f.over_left L l y)
-      | by_right X x y ↦ (let r = num-right e z X x in ih r.0 (omega (arith, size-right (num e z) X x, ap size r.2)) record {
-        over_left = λ L l w. f.over_left L l (le-trans _ _ _ (num-le e z r.0 (omega (arith, ints, r.1))) w);
-        under_right = λ R k w. not_right_le G R k (le-trans R (num e r.0) G w (subst (λ t. t ≤ᵍ G) r.2 y));
-      })
-    ]
-
-    lower : (num e z ≤ᵍ G → ⊥) → IsNumber G
-    lower h = elim (not-le (num e z) G h) [
+  | inr h ↦ elim (not-le G (num e z) h) [
+    | by_left L l y ↦ absurd (f.over_left L l y)
+    | by_right X x y ↦ (let r = num-right e z X x in ih r.0 (omega (arith, size-right (num e z) X x, ap size r.2)) record {
+      over_left = λ L l w. f.over_left L l (le-trans _ _ _ (num-le e z r.0 (omega (arith, ints, r.1))) w);
+      under_right = λ R k w. not_right_le G R k (le-trans R (num e r.0) G w (subst (λ t. t ≤ᵍ G) r.2 y));
+    })
+  ]
+  | inl p ↦ elim (le-or_not (num e z) G) [
+    | inl q ↦ (e, z, p, q)
+    | inr h ↦ elim (not-le (num e z) G h) [
       | by_left X x y ↦ (let r = num-left e z X x in ih r.0 (omega (arith, size-left (num e z) X x, ap size r.2)) record {
         over_left = λ L l w. not_le_left G L l (le-trans G (num e r.0) L (subst (λ t. G ≤ᵍ t) r.2 y) w);
         under_right = λ R k w. f.under_right R k (le-trans _ _ _ w (num-le e r.0 z (omega (arith, ints, r.1))));
       })
       | by_right R r y ↦ absurd (f.under_right R r y)
     ]
+  ]
+]
 
 pub number_between : (G : Tree) (e : ℕ) (z : ℤ) → ((L : Tree) → Has (left G) L → num e z ≤ᵍ L → ⊥) → ((R : Tree) → Has (right G) R → R ≤ᵍ num e z → ⊥) → IsNumber G
 number_between G e z f g = by_measure (λ y. size (num e y)) (λ y. FitsForm G (num e y) → IsNumber G) (number_step G e) z record { over_left = f; under_right = g }

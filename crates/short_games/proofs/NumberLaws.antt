@@ -111,9 +111,6 @@ pub data Gap (e : ℕ) (m n k : ℤ) : Type 0 where
 odd_up : (e : ℕ) (m : ℤ) → is_even m ≡ false → (k : ℤ) × (m +ℤ pos 1 ≡ k) × Has (right (num (suc e) m)) (num (suc e) k)
 odd_up e m f = ((half m +ℤ pos 1) +ℤ (half m +ℤ pos 1), omega (arith, ints, half-odd m f), rw (num-odd e m f) (inl (num-double e (half m +ℤ pos 1))))
 
-even_left : (e : ℕ) (m k : ℤ) → is_even m ≡ true → Has (left (num e (half m))) (num e k) → Has (left (num (suc e) m)) (num (suc e) (k +ℤ k))
-even_left e m k t h = rw (num-even e m t, num-double e k) h
-
 even_right : (e : ℕ) (m k : ℤ) → is_even m ≡ true → Has (right (num e (half m))) (num e k) → Has (right (num (suc e) m)) (num (suc e) (k +ℤ k))
 even_right e m k t h = rw (num-even e m t, num-double e k) h
 
@@ -129,7 +126,7 @@ gap (suc e) m n k h = elim (cases_Bool (is_even k)) [
     | inl mt ↦ elim (cases_Bool (is_even n)) [
       | inr f ↦ (let r = odd_up e n f in up_second r.0 r.2 (omega (arith, ints, r.1)))
       | inl nt ↦ elim (gap e (half m) (half n) (half k) (omega (arith, ints, half-even m mt, half-even n nt, half-even k kt))) [
-        | down k' x y ↦ down (k' +ℤ k') (even_left e k k' kt x) (omega (arith, ints, half-even m mt, half-even n nt, half-even k kt))
+        | down k' x y ↦ down (k' +ℤ k') (rw (num-even e k kt, num-double e k') x) (omega (arith, ints, half-even m mt, half-even n nt, half-even k kt))
         | up_first m' x y ↦ up_first (m' +ℤ m') (even_right e m m' mt x) (omega (arith, ints, half-even m mt, half-even n nt, half-even k kt))
         | up_second n' x y ↦ up_second (n' +ℤ n') (even_right e n n' nt x) (omega (arith, ints, half-even m mt, half-even n nt, half-even k kt))
       ]
@@ -150,17 +147,16 @@ sum_step e m n k ih = (
     from_left = λ X h. lefts p X (left_of_sum (num e m) (num e n) X h);
     from_right = λ X h y. (let r = num-right e k X h in (ih m n r.0 (omega (arith, size-right (num e k) X h, ap size r.2))).1 (omega (arith, ints, r.1)) (rw r.2 at y));
   },
-  λ p y. gaps (gap e m n k p) y,
+  λ p y. elim (gap e m n k p) [
+    | down k' h b ↦ (le-out _ _ y).from_left (num e k') h ((ih m n k' (omega (arith, size-left (num e k) _ h))).0 b)
+    | up_first m' h b ↦ (le-out _ _ y).from_right (num e m' +ᵍ num e n) (right_in_first _ _ _ h) ((ih m' n k (omega (arith, size-right (num e m) _ h))).0 b)
+    | up_second n' h b ↦ (le-out _ _ y).from_right (num e m +ᵍ num e n') (right_in_second _ _ _ h) ((ih m n' k (omega (arith, size-right (num e n) _ h))).0 b)
+  ],
 )
   where
     lefts : (m +ℤ n) ≤ℤ k → (X : Tree) → InSum (num e m) (num e n) (left (num e m)) (left (num e n)) X → num e k ≤ᵍ X → ⊥
     lefts p X (in_first K h) y = let r = num-left e m K h in (ih r.0 n k (omega (arith, size-left (num e m) K h, ap size r.2))).1 (omega (arith, ints, r.1)) (rw r.2 at y)
     lefts p X (in_second K h) y = let r = num-left e n K h in (ih m r.0 k (omega (arith, size-left (num e n) K h, ap size r.2))).1 (omega (arith, ints, r.1)) (rw r.2 at y)
-
-    gaps : Gap e m n k → num e k ≤ᵍ num e m +ᵍ num e n → ⊥
-    gaps (down k' h b) y = (le-out _ _ y).from_left (num e k') h ((ih m n k' (omega (arith, size-left (num e k) _ h))).0 b)
-    gaps (up_first m' h b) y = (le-out _ _ y).from_right (num e m' +ᵍ num e n) (right_in_first _ _ _ h) ((ih m' n k (omega (arith, size-right (num e m) _ h))).0 b)
-    gaps (up_second n' h b) y = (le-out _ _ y).from_right (num e m +ᵍ num e n') (right_in_second _ _ _ h) ((ih m n' k (omega (arith, size-right (num e n) _ h))).0 b)
 
 pub goes_by : (e : ℕ) (m n k : ℤ) → GoesBy e m n k
 goes_by e m n k = by_measure {A = ℤ × ℤ × ℤ} (λ p. weight e p.0 p.1 p.2) (λ p. GoesBy e p.0 p.1 p.2)

@@ -193,18 +193,19 @@ module _ (e : ℕ) where
     floor : (x : ℤ) → IsRightStop e G x → FloorBy e G x
 
   both_step : (G : Tree) → IsCanonicalTree G → ((L : Tree) → Has (left G) L → Both L) → ((R : Tree) → Has (right G) R → Both R) → Both G
-  both_step G c f g = record { ceiling = λ x s. at_left x (left_stop-is e G x s); floor = λ x s. at_right x (right_stop-is e G x s) }
+  both_step G c f g = record {
+    ceiling = λ x s. elim (left_stop-is e G x s) [
+      | of_number i ↦ (x +ℤ x, subst (λ t. IsCeiling e t (x +ℤ x)) (sym i) (number-ceiling e x), (omega (arith, ints), omega (arith, ints)))
+      | of_game n h ↦ ceiling_step e G x (no_number n) h (λ L l. (f L l).floor)
+    ];
+    floor = λ x s. elim (right_stop-is e G x s) [
+      | of_number i ↦ (x +ℤ x, subst (λ t. IsFloor e t (x +ℤ x)) (sym i) (number-floor e x), (omega (arith, ints), omega (arith, ints)))
+      | of_game n h ↦ floor_step e G x (no_number n) h (λ R r. (g R r).ceiling)
+    ];
+  }
     where
       no_number : (IsNumberTree G → ⊥) → IsNumber G → ⊥
       no_number n i = n (i.0, i.1, canonical-number G c i)
-
-      at_left : (x : ℤ) → StopIs e G x (IsGreatest (IsRightStop e) (left G) x) → CeilingBy e G x
-      at_left x (of_number i) = (x +ℤ x, subst (λ t. IsCeiling e t (x +ℤ x)) (sym i) (number-ceiling e x), (omega (arith, ints), omega (arith, ints)))
-      at_left x (of_game n h) = ceiling_step e G x (no_number n) h (λ L l. (f L l).floor)
-
-      at_right : (x : ℤ) → StopIs e G x (IsLeast (IsLeftStop e) (right G) x) → FloorBy e G x
-      at_right x (of_number i) = (x +ℤ x, subst (λ t. IsFloor e t (x +ℤ x)) (sym i) (number-floor e x), (omega (arith, ints), omega (arith, ints)))
-      at_right x (of_game n h) = floor_step e G x (no_number n) h (λ R r. (g R r).ceiling)
 
   both : (G : Tree) → IsCanonicalTree G → Both G
   both = by_measure size (λ G. IsCanonicalTree G → Both G) (λ G ih c. both_step G c

@@ -5,18 +5,18 @@ use Rattle.short_games.specs.Tree.{Tree}
 use Rattle.short_games.specs.Parts.{IsFollower}
 use Rattle.short_games.specs.WallGrids.{AllWallsAre, HasWalls, HasTemperatureBetween, finer, Bends}
 use Rattle.short_games.proofs.PartLaws.{follower-trans}
-use Rattle.short_games.proofs.WallLines.{Doubles, finer-doubles}
-use Rattle.short_games.proofs.WallSolutions.{IsSteady, walls-steady, has_walls-finer, has_walls-unique}
+use Rattle.short_games.proofs.WallLines.{finer-doubles}
+use Rattle.short_games.proofs.WallSolutions.{walls-steady, has_walls-finer, has_walls-unique}
 
 pub none-between : (k : ℕ) (G P : Tree) (l r : ℕ → ℤ) → HasWalls k G l r → IsFollower G P → HasTemperatureBetween k P → ⊥
 none-between k G P l r h f b = omega (
   arith,
   ints,
-  steady.ordered (suc b.place),
-  lefts.at_even b.place,
-  rights.at_even b.place,
-  lefts.at_odd b.place,
-  rights.at_odd b.place,
+  (walls-steady k h.lw h.rw P drawn).ordered (suc b.place),
+  (finer-doubles (h.lw P)).at_even b.place,
+  (finer-doubles (h.rw P)).at_even b.place,
+  (finer-doubles (h.lw P)).at_odd b.place,
+  (finer-doubles (h.rw P)).at_odd b.place,
   same (b.place + b.place),
   same (suc (b.place + b.place)),
   b.meets.left_at,
@@ -26,15 +26,6 @@ none-between k G P l r h f b = omega (
   where
     drawn : AllWallsAre k h.lw h.rw P
     drawn Q g = h.all Q (follower-trans G P Q f g)
-
-    steady : IsSteady (h.lw P) (h.rw P)
-    steady = walls-steady k h.lw h.rw P drawn
-
-    lefts : Doubles (h.lw P) (finer (h.lw P))
-    lefts = finer-doubles (h.lw P)
-
-    rights : Doubles (h.rw P) (finer (h.rw P))
-    rights = finer-doubles (h.rw P)
 
     same : (t : ℕ) → (finer (h.lw P) t ≡ b.left t) × (finer (h.rw P) t ≡ b.right t)
     same = has_walls-unique (suc k) P (finer (h.lw P)) (finer (h.rw P)) b.left b.right (has_walls-finer k P (h.lw P) (h.rw P) (record { lw = h.lw; rw = h.rw; all = drawn; left_is = λ t. refl; right_is = λ t. refl })) b.walls

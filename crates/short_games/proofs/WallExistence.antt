@@ -4,7 +4,7 @@ use Rattle.std.proofs.lemmas.Int.{ints}
 use Rattle.short_games.specs.Tree.{Tree, node, left, right, Has, size}
 use Rattle.short_games.specs.Parts.{IsOption}
 use Rattle.short_games.specs.Number.{num, IsNumberTree}
-use Rattle.short_games.specs.Stops.{IsLeftStop, IsRightStop, IsGreatestRight, IsLeastLeft}
+use Rattle.short_games.specs.Stops.{IsLeftStop, IsRightStop}
 use Rattle.short_games.specs.TextOrder.{IsCanonicalTree}
 use Rattle.short_games.specs.WallGrids.{IsGreatest, IsLeast, WallsAre, AllWallsAre, IsMeeting, finer}
 use Rattle.short_games.specs.WallGrids.WallsAre.{of_number, of_game}
@@ -18,22 +18,14 @@ use Rattle.short_games.proofs.WallSolutions.{by_walls, all-from, walls-unique, w
 use Rattle.short_games.proofs.WallSteps.{AllDrawn, solution-drawn, jump-middle, follow-meeting}
 use Rattle.short_games.proofs.WallsDrawn.{left_same, right_same, left_wall, right_wall, left_scaffold, right_scaffold, left_scaffold-is, right_scaffold-is, no_jump-doubled, walls-at}
 
-as_left_stop : (k : ℕ) (G : Tree) (x : ℤ) → (IsNumberTree G → ⊥) → IsGreatestRight k (left G) x → IsLeftStop k G x
-unfolding IsLeftStop
-as_left_stop k (node ls rs) x n g = inr (n, g)
-
-as_right_stop : (k : ℕ) (G : Tree) (x : ℤ) → (IsNumberTree G → ⊥) → IsLeastLeft k (right G) x → IsRightStop k G x
-unfolding IsLeftStop
-as_right_stop k (node ls rs) x n g = inr (n, g)
-
 -- scaffolds at 0 are stops
 pub left_at_zero : (k : ℕ) (f : Tree → ℤ) (G : Tree) (x : ℤ) → (IsNumberTree G → ⊥) → ((X : Tree) → Has (left G) X → IsRightStop k X (f X)) → IsGreatest f (left G) (x +ℤ pos 0) → IsLeftStop k G x
-left_at_zero k f G x n s g =
-    as_left_stop k G x n (to_greatest _ _ (greatest_right-chosen k) f (left G) x s (subst (IsGreatest f (left G)) (omega (arith, ints)) g))
+unfolding IsLeftStop
+left_at_zero k f (node ls rs) x n s g = inr (n, to_greatest _ _ (greatest_right-chosen k) f ls x s (subst (IsGreatest f ls) (omega (arith, ints)) g))
 
 pub right_at_zero : (k : ℕ) (f : Tree → ℤ) (G : Tree) (x : ℤ) → (IsNumberTree G → ⊥) → ((X : Tree) → Has (right G) X → IsLeftStop k X (f X)) → IsLeast f (right G) (x -ℤ pos 0) → IsRightStop k G x
-right_at_zero k f G x n s g =
-    as_right_stop k G x n (to_least _ _ (least_left-chosen k) f (right G) x s (subst (IsLeast f (right G)) (omega (arith, ints)) g))
+unfolding IsLeftStop
+right_at_zero k f (node ls rs) x n s g = inr (n, to_least _ _ (least_left-chosen k) f rs x s (subst (IsLeast f rs) (omega (arith, ints)) g))
 
 module _ (k : ℕ) (lw rw : Tree → ℕ → ℤ) where
   abbrev AtZero : Tree → Type 0

@@ -112,16 +112,10 @@ pub follow-same : (L R L' R' : ℕ → ℤ) (t : ℕ) (l r l' r' : ℤ) → ((v 
 follow-same L R L' R' t l r l' r' p q (apart a x y) (apart b z w) = (x ∙ p t ∙ sym z, y ∙ q t ∙ sym w)
 follow-same L R L' R' t l r l' r' p q (apart a x y) (met u h e b z w) = absurd (omega (arith, ints, a u h, p u, q u, e))
 follow-same L R L' R' t l r l' r' p q (met u h e a x y) (apart b z w) = absurd (omega (arith, ints, b u h, p u, q u, e))
-follow-same L R L' R' t l r l' r' p q (met u h e a x y) (met v k d b z w) = (x ∙ ap L same ∙ p v ∙ sym z, y ∙ ap R same ∙ q v ∙ sym w)
-  where
-    early : u < v → ⊥
-    early l = omega (arith, ints, b u l, p u, q u, e)
-
-    late : v < u → ⊥
-    late l = omega (arith, ints, a v l, p v, q v, d)
-
-    same : u ≡ v
-    same = omega (arith, early, late)
+follow-same L R L' R' t l r l' r' p q (met u h e a x y) (met v k d b z w) =
+    let early : u < v → ⊥ = λ i. omega (arith, ints, b u i, p u, q u, e) in
+    let late : v < u → ⊥ = λ i. omega (arith, ints, a v i, p v, q v, d) in
+    let same : u ≡ v = omega (arith, early, late) in (x ∙ ap L same ∙ p v ∙ sym z, y ∙ ap R same ∙ q v ∙ sym w)
 
 pub follow-zero : (L R : ℕ → ℤ) (l r : ℤ) → Follow L R 0 l r → (l ≡ L 0) × (r ≡ R 0)
 follow-zero L R l r (apart c x y) = (x, y)

@@ -108,13 +108,12 @@ jump-middle L R L' R' (suc w) f r d e z p a = (w, refl, omega (arith, ints, p, a
 
 -- walls that follow scaffolds meet where these do
 pub follow-meeting : (L R l r : ℕ → ℤ) (m : ℕ) → ((t : ℕ) → Follow L R t (l t) (r t)) → L m ≡ R m → ((v : ℕ) → v < m → R v <ℤ L v) → IsMeeting l r m (L m)
-follow-meeting L R l r m w e a = record { left_at = (at (w m)).0; right_at = (at (w m)).1; before = λ v h. below v h (w v) }
+follow-meeting L R l r m w e a = record { left_at = at.0; right_at = at.1; before = λ v h. below v h (w v) }
   where
-    at : Follow L R m (l m) (r m) → (l m ≡ L m) × (r m ≡ L m)
-    at (apart b x y) = absurd (omega (arith, ints, b m (omega arith), e))
-    at (met u h i b x y) = elim (cases_lt u m) [
-      | inl k ↦ absurd (omega (arith, ints, a u k, i))
-      | inr k ↦ (let s : u ≡ m = omega (arith, h, k) in (x ∙ ap L s, y ∙ ap R s ∙ sym e))
+    at : (l m ≡ L m) × (r m ≡ L m)
+    at = elim (w m) [
+      | apart b x y ↦ absurd (omega (arith, ints, b m (omega arith), e))
+      | met u h i b x y ↦ (let no : u < m → ⊥ = λ k. omega (arith, ints, a u k, i) in let s : u ≡ m = omega (arith, h, no) in (x ∙ ap L s, y ∙ ap R s ∙ sym e))
     ]
 
     below : (v : ℕ) → v < m → Follow L R v (l v) (r v) → r v <ℤ l v
