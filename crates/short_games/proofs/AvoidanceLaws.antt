@@ -83,19 +83,25 @@ cheap_right G no_number e d p =
   where
     turned : (R : Tree) → neg G ≤ᵍ neg R +ᵍ num e d → R ≤ᵍ G +ᵍ num e d
     turned R q =
-        let p : R +ᵍ num e (neg_ℤ d) ≤ᵍ G = rw (neg-plus (neg R) (num e d), neg-neg R, neg-num e d, neg-neg G) at (neg-le (neg G) (neg R +ᵍ num e d) q) in
-        let zero : nought ≤ᵍ num e (neg_ℤ d) +ᵍ num e d = subst (λ t. t ≤ᵍ num e (neg_ℤ d) +ᵍ num e d) (ap (num e) (omega (arith, ints)) ∙ num-zero e) (num-le_plus e (neg_ℤ d) d) in
+        let p : R +ᵍ num e (neg_ℤ d) ≤ᵍ G =
+        rw (neg-plus (neg R) (num e d), neg-neg R, neg-num e d, neg-neg G) at (neg-le (neg G) (neg R +ᵍ num e d) q) in
+        let zero : nought ≤ᵍ num e (neg_ℤ d) +ᵍ num e d =
+        subst (λ t. t ≤ᵍ num e (neg_ℤ d) +ᵍ num e d) (ap (num e) (omega (arith, ints)) ∙ num-zero e) (num-le_plus e (neg_ℤ d) d) in
         le-trans R ((R +ᵍ num e (neg_ℤ d)) +ᵍ num e d) _
-        (rw (plus-assoc R (num e (neg_ℤ d)) (num e d)) (subst (λ t. t ≤ᵍ R +ᵍ (num e (neg_ℤ d) +ᵍ num e d)) (plus-nought R) (plus-le_both R R nought _ (le-refl R) zero)))
+        (rw (plus-assoc R (num e (neg_ℤ d)) (num e d))
+        (subst (λ t. t ≤ᵍ R +ᵍ (num e (neg_ℤ d) +ᵍ num e d)) (plus-nought R) (plus-le_both R R nought _ (le-refl R) zero)))
         (plus-le _ G (num e d) p)
 
 -- beside a third game
 shift-beside : (A B T : Tree) (e : ℕ) (d k m : ℤ) → A ≤ᵍ B +ᵍ num e d → d +ℤ k ≡ m → (A +ᵍ T) +ᵍ num e k ≤ᵍ (B +ᵍ T) +ᵍ num e m
-shift-beside A B T e d k m p i = le-trans _ _ _ (same-swap A T (num e k)).0 (le-trans _ _ _ (plus-le _ _ T (num-shift A B e d k m p i)) (same-swap B (num e m) T).0)
+shift-beside A B T e d k m p i =
+    le-trans _ _ _ (same-swap A T (num e k)).0 (le-trans _ _ _ (plus-le _ _ T (num-shift A B e d k m p i)) (same-swap B (num e m) T).0)
 
 -- an option of the sum of a list is the sum of the list after a move
-module _ (side : Tree → Trees) (Moves : Trees → Trees → Type 0) (of_sum : (G H X : Tree) → Has (side (G +ᵍ H)) X → InSum G H (side G) (side H) X) (of_nought : (X : Tree) → Has (side nought) X → ⊥)
-    (here : (G K : Tree) (Gs : Trees) → Has (side G) K → Moves (more G Gs) (more K Gs)) (there : (G : Tree) (Gs Hs : Trees) → Moves Gs Hs → Moves (more G Gs) (more G Hs)) where
+module _ (side : Tree → Trees) (Moves : Trees → Trees → Type 0) (of_sum : (G H X : Tree) → Has (side (G +ᵍ H)) X → InSum G H (side G) (side H) X)
+    (of_nought : (X : Tree) → Has (side nought) X → ⊥)
+    (here : (G K : Tree) (Gs : Trees) → Has (side G) K → Moves (more G Gs) (more K Gs))
+    (there : (G : Tree) (Gs Hs : Trees) → Moves Gs Hs → Moves (more G Gs) (more G Hs)) where
   of_total : (Gs : Trees) (Y : Tree) → Has (side (total Gs)) Y → (Hs : Trees) × Moves Gs Hs × (Y ≡ total Hs)
   unfolding total
   of_total none Y h = absurd (of_nought Y h)
@@ -111,7 +117,8 @@ unfolding total
 avoid_left G Gs no_number e m X h y = by_option X (left_of_sum (total (more G Gs)) (num e m) X h) y
   where
     by_option : (X : Tree) → InSum (total (more G Gs)) (num e m) (left (total (more G Gs))) (left (num e m)) X → nought ≤ᵍ X → (Hs : Trees) × LeftMoves (more G Gs) Hs × (nought ≤ᵍ total Hs +ᵍ num e m)
-    by_option X (in_first Y k) y = let r = of_total left LeftMoves left_of_sum (λ _ h. h) (λ A K Gs k. inl (k, refl)) (λ A Gs Hs m. inr (refl, m)) (more G Gs) Y k in (r.0, r.1, subst (λ t. nought ≤ᵍ t +ᵍ num e m) r.2 y)
+    by_option X (in_first Y k) y = let r = of_total left LeftMoves left_of_sum (λ _ h. h) (λ A K Gs k. inl (k, refl)) (λ A Gs Hs m. inr (refl, m))
+        (more G Gs) Y k in (r.0, r.1, subst (λ t. nought ≤ᵍ t +ᵍ num e m) r.2 y)
     by_option X (in_second K k) y =
         let r = num-left e m K k in
         let c = cheap_left G no_number e (m +ℤ neg_ℤ r.0) (omega (arith, ints, r.1)) in
@@ -123,7 +130,8 @@ unfolding total
 avoid_right G Gs no_number e m X h y = by_option X (right_of_sum (total (more G Gs)) (num e m) X h) y
   where
     by_option : (X : Tree) → InSum (total (more G Gs)) (num e m) (right (total (more G Gs))) (right (num e m)) X → X ≤ᵍ nought → (Hs : Trees) × RightMoves (more G Gs) Hs × (total Hs +ᵍ num e m ≤ᵍ nought)
-    by_option X (in_first Y k) y = let r = of_total right RightMoves right_of_sum (λ _ h. h) (λ A K Gs k. inl (k, refl)) (λ A Gs Hs m. inr (refl, m)) (more G Gs) Y k in (r.0, r.1, subst (λ t. t +ᵍ num e m ≤ᵍ nought) r.2 y)
+    by_option X (in_first Y k) y = let r = of_total right RightMoves right_of_sum (λ _ h. h) (λ A K Gs k. inl (k, refl)) (λ A Gs Hs m. inr (refl, m))
+        (more G Gs) Y k in (r.0, r.1, subst (λ t. t +ᵍ num e m ≤ᵍ nought) r.2 y)
     by_option X (in_second K k) y =
         let r = num-right e m K k in
         let c = cheap_right G no_number e (r.0 +ℤ neg_ℤ m) (omega (arith, ints, r.1)) in

@@ -297,7 +297,8 @@ module _ (Before : Tree → Tree → Type 0) (total : (G H : Tree) → Before G 
 
   -- where the options are canonical
   pub canon_below : (ls rs : Trees) → AreCanonical Before ls → AreCanonical Before rs → CanonBelow (node ls rs)
-  canon_below ls rs = by_measure {A = Trees × Trees} (λ p. sizes p.0 + sizes p.1) (λ p. Works p.0 p.1) (λ p ih. round p.0 p.1 (λ ms ns l. ih (ms, ns) l)) (ls, rs)
+  canon_below ls rs = by_measure {A = Trees × Trees} (λ p. sizes p.0 + sizes p.1) (λ p. Works p.0 p.1)
+      (λ p ih. round p.0 p.1 (λ ms ns l. ih (ms, ns) l)) (ls, rs)
 
   -- of every tree
   record Canon_each (Gs : Trees) : Type 0 where

@@ -24,7 +24,8 @@ by_better G H f g = le-in G H record {
 -- reversible options replaced: an option of G is one of H or has an answer that is good enough, whose own options are no
 -- better than those of H; and an option of H is one of G or of such an answer
 pub bypassed : (near far : Tree → Trees) (Le : Tree → Tree → Type 0) (s : IsSide near far Le) (G H : Tree)
-    → ((X : Tree) → Has (near G) X → Has (near H) X ⊎ ((R : Tree) × Has (far X) R × Le R G × ((Y : Tree) → Has (near R) Y → (Z : Tree) × Has (near H) Z × Le Y Z)))
+    → ((X : Tree) → Has (near G) X
+    → Has (near H) X ⊎ ((R : Tree) × Has (far X) R × Le R G × ((Y : Tree) → Has (near R) Y → (Z : Tree) × Has (near H) Z × Le Y Z)))
     → ((X : Tree) → Has (near H) X → Has (near G) X ⊎ ((R : Tree) × Le R G × Has (near R) X)) → far H ≡ far G → Le G H × Le H G
 bypassed near far Le s G H kept from others = (
   s.build G H (λ X x y. elim (kept X x) [
@@ -40,7 +41,8 @@ bypassed near far Le s G H kept from others = (
 )
 
 -- a game with a number between its options is a number
-number_step : (G : Tree) (e : ℕ) (z : ℤ) → ((y : ℤ) → size (num e y) < size (num e z) → FitsForm G (num e y) → IsNumber G) → FitsForm G (num e z) → IsNumber G
+number_step : (G : Tree) (e : ℕ) (z : ℤ) → ((y : ℤ) → size (num e y) < size (num e z) → FitsForm G (num e y) → IsNumber G) → FitsForm G (num e z)
+    → IsNumber G
 number_step G e z ih f = elim (le-or_not G (num e z)) [
   | inr h ↦ elim (not-le G (num e z) h) [
     | by_left L l y ↦ absurd (f.over_left L l y)
@@ -62,7 +64,8 @@ number_step G e z ih f = elim (le-or_not G (num e z)) [
 ]
 
 pub number_between : (G : Tree) (e : ℕ) (z : ℤ) → ((L : Tree) → Has (left G) L → num e z ≤ᵍ L → ⊥) → ((R : Tree) → Has (right G) R → R ≤ᵍ num e z → ⊥) → IsNumber G
-number_between G e z f g = by_measure (λ y. size (num e y)) (λ y. FitsForm G (num e y) → IsNumber G) (number_step G e) z record { over_left = f; under_right = g }
+number_between G e z f g =
+    by_measure (λ y. size (num e y)) (λ y. FitsForm G (num e y) → IsNumber G) (number_step G e) z record { over_left = f; under_right = g }
 
 -- an answer to an option of a number goes past the number
 answer_left : (e : ℕ) (m : ℤ) (L R : Tree) → Has (left (num e m)) L → Has (right L) R → (k : ℤ) × (m <ℤ k) × (R ≡ num e k)

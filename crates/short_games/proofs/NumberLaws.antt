@@ -91,7 +91,10 @@ unfolding num
 num-left zero m X h = whole-left m X h
 num-left (suc e) m X h = elim (cases_Bool (is_even m)) [
   | inl t ↦ (let r = num-left e (half m) X (rw (num-even e m t) at h) in (r.0 +ℤ r.0, omega (arith, ints, half-even m t, r.1), r.2 ∙ sym (num-double e r.0)))
-  | inr f ↦ elim (rw (num-odd e m f) at h) [ inl x ↦ (half m +ℤ half m, omega (arith, ints, half-odd m f), x ∙ sym (num-double e (half m))) | inr x ↦ absurd x ]
+  | inr f ↦ elim (rw (num-odd e m f) at h) [
+    | inl x ↦ (half m +ℤ half m, omega (arith, ints, half-odd m f), x ∙ sym (num-double e (half m)))
+    | inr x ↦ absurd x
+  ]
 ]
 
 -- turned, a Right option of a number is a Left option of its negative
@@ -126,7 +129,8 @@ gap (suc e) m n k h = elim (cases_Bool (is_even k)) [
     | inl mt ↦ elim (cases_Bool (is_even n)) [
       | inr f ↦ (let r = odd_up e n f in up_second r.0 r.2 (omega (arith, ints, r.1)))
       | inl nt ↦ elim (gap e (half m) (half n) (half k) (omega (arith, ints, half-even m mt, half-even n nt, half-even k kt))) [
-        | down k' x y ↦ down (k' +ℤ k') (rw (num-even e k kt, num-double e k') x) (omega (arith, ints, half-even m mt, half-even n nt, half-even k kt))
+        | down k' x y ↦ down (k' +ℤ k') (rw (num-even e k kt, num-double e k') x)
+            (omega (arith, ints, half-even m mt, half-even n nt, half-even k kt))
         | up_first m' x y ↦ up_first (m' +ℤ m') (even_right e m m' mt x) (omega (arith, ints, half-even m mt, half-even n nt, half-even k kt))
         | up_second n' x y ↦ up_second (n' +ℤ n') (even_right e n n' nt x) (omega (arith, ints, half-even m mt, half-even n nt, half-even k kt))
       ]
@@ -189,18 +193,20 @@ num-le_plus e m n = rw (neg-plus, neg-num e (neg_ℤ m), neg-num e (neg_ℤ n), 
 
 -- beside a game that is no number, a number's own options don't matter
 pub avoid-le : (G : Tree) → (IsNumber G → ⊥) → (e : ℕ) (m : ℤ) → ((L : Tree) → Has (left G) L → num e m ≤ᵍ L → ⊥) → G ≤ᵍ num e m
-avoid-le G no_number e = by_measure (λ m. size (num e m)) (λ m. ((L : Tree) → Has (left G) L → num e m ≤ᵍ L → ⊥) → G ≤ᵍ num e m) (λ m ih h. le-in _ _ record {
-  from_left = h;
-  from_right = λ X x y. (let r = num-right e m X x in
-      no_number (e, r.0, ih r.0 (omega (arith, size-right (num e m) X x, ap size r.2)) (λ L l z. h L l (le-trans _ _ _ (num-le e m r.0 (omega (arith, ints, r.1))) z)), rw r.2 at y));
-})
+avoid-le G no_number e =
+    by_measure (λ m. size (num e m)) (λ m. ((L : Tree) → Has (left G) L → num e m ≤ᵍ L → ⊥) → G ≤ᵍ num e m) (λ m ih h. le-in _ _ record {
+      from_left = h;
+      from_right = λ X x y. (let r = num-right e m X x in
+          no_number (e, r.0, ih r.0 (omega (arith, size-right (num e m) X x, ap size r.2)) (λ L l z. h L l (le-trans _ _ _ (num-le e m r.0 (omega (arith, ints, r.1))) z)), rw r.2 at y));
+    })
 
 pub avoid-ge : (G : Tree) → (IsNumber G → ⊥) → (e : ℕ) (m : ℤ) → ((R : Tree) → Has (right G) R → R ≤ᵍ num e m → ⊥) → num e m ≤ᵍ G
-avoid-ge G no_number e = by_measure (λ m. size (num e m)) (λ m. ((R : Tree) → Has (right G) R → R ≤ᵍ num e m → ⊥) → num e m ≤ᵍ G) (λ m ih h. le-in _ _ record {
-  from_left = λ X x y. (let r = num-left e m X x in
-      no_number (e, r.0, rw r.2 at y, ih r.0 (omega (arith, size-left (num e m) X x, ap size r.2)) (λ R k z. h R k (le-trans _ _ _ z (num-le e r.0 m (omega (arith, ints, r.1)))))));
-  from_right = h;
-})
+avoid-ge G no_number e =
+    by_measure (λ m. size (num e m)) (λ m. ((R : Tree) → Has (right G) R → R ≤ᵍ num e m → ⊥) → num e m ≤ᵍ G) (λ m ih h. le-in _ _ record {
+      from_left = λ X x y. (let r = num-left e m X x in
+          no_number (e, r.0, rw r.2 at y, ih r.0 (omega (arith, size-left (num e m) X x, ap size r.2)) (λ R k z. h R k (le-trans _ _ _ z (num-le e r.0 m (omega (arith, ints, r.1)))))));
+      from_right = h;
+    })
 
 -- games and their negatives beside numbers
 pub neg-number : (G : Tree) → IsNumber (neg G) → IsNumber G

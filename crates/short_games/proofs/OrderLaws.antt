@@ -42,7 +42,8 @@ by_sizes P step G H = by_measure {A = Tree × Tree} (λ p. size p.0 + size p.1) 
 pub by_three_sizes : (P : Tree → Tree → Tree → Type 0)
     → ((G H K : Tree) → ((A B C : Tree) → size A + size B + size C < size G + size H + size K → P A B C) → P G H K) → (G H K : Tree) → P G H K
 by_three_sizes P step G H K =
-    by_measure {A = Tree × Tree × Tree} (λ p. size p.0 + size p.1 + size p.2) (λ p. P p.0 p.1 p.2) (λ p ih. step p.0 p.1 p.2 (λ A B C l. ih (A, B, C) l)) (G, H, K)
+    by_measure {A = Tree × Tree × Tree} (λ p. size p.0 + size p.1 + size p.2) (λ p. P p.0 p.1 p.2)
+    (λ p ih. step p.0 p.1 p.2 (λ A B C l. ih (A, B, C) l)) (G, H, K)
 
 -- no tree of the list passes the test
 abbrev pub no_one : (Tree → Bool) → Trees → Bool

@@ -137,11 +137,13 @@ least_left-chosen e = record { none_is = λ x h. h; one_is = λ G x. (λ h. h, �
 
 pub game-left_stop : (e : ℕ) (G : Tree) → (IsNumberTree G → ⊥) → ((L : Tree) → Has (left G) L → (x : ℤ) × IsRightStop e L x) → (L : Tree) → Has (left G) L → (x : ℤ) × IsLeftStop e G x
 unfolding IsLeftStop
-game-left_stop e (node ls rs) n f L l = let r = chosen _ upwards _ _ (greatest_right-chosen e) (λ X x. X ≡ X) ls (λ X x. (let s = f X x in (s.0, s.1, refl))) L l in (r.0, inr (n, r.1))
+game-left_stop e (node ls rs) n f L l = let r =
+    chosen _ upwards _ _ (greatest_right-chosen e) (λ X x. X ≡ X) ls (λ X x. (let s = f X x in (s.0, s.1, refl))) L l in (r.0, inr (n, r.1))
 
 pub game-right_stop : (e : ℕ) (G : Tree) → (IsNumberTree G → ⊥) → ((R : Tree) → Has (right G) R → (x : ℤ) × IsLeftStop e R x) → (R : Tree) → Has (right G) R → (x : ℤ) × IsRightStop e G x
 unfolding IsLeftStop
-game-right_stop e (node ls rs) n f R r = let s = chosen _ downwards _ _ (least_left-chosen e) (λ X x. X ≡ X) rs (λ X x. (let s = f X x in (s.0, s.1, refl))) R r in (s.0, inr (n, s.1))
+game-right_stop e (node ls rs) n f R r = let s =
+    chosen _ downwards _ _ (least_left-chosen e) (λ X x. X ≡ X) rs (λ X x. (let s = f X x in (s.0, s.1, refl))) R r in (s.0, inr (n, s.1))
 
 -- what a stop is
 pub data StopIs (e : ℕ) (G : Tree) (x : ℤ) (Is : Type 0) : Type 0 where

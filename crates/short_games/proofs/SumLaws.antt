@@ -264,7 +264,8 @@ assoc_third G H none e = refl
 assoc_third G H (more K Ks) e = ap₂ more (e K (inl refl)) (assoc_third G H Ks (λ X x. e X (inr x)))
 
 -- sums brought in another order of brackets are the same tree
-assoc_step : (G H K : Tree) → ((A B C : Tree) → size A + size B + size C < size G + size H + size K → (A +ᵍ B) +ᵍ C ≡ A +ᵍ (B +ᵍ C)) → (G +ᵍ H) +ᵍ K ≡ G +ᵍ (H +ᵍ K)
+assoc_step : (G H K : Tree) → ((A B C : Tree) → size A + size B + size C < size G + size H + size K → (A +ᵍ B) +ᵍ C ≡ A +ᵍ (B +ᵍ C))
+    → (G +ᵍ H) +ᵍ K ≡ G +ᵍ (H +ᵍ K)
 assoc_step G H K ih = tree-same _ _ (options left plus-left size-left) (options right plus-right size-right)
   where
     options : (side : Tree → Trees) → ((G H : Tree) → side (G +ᵍ H) ≡ each_plus (side G) H then plus_each G (side H)) → ((G X : Tree) → Has (side G) X → size X < size G) → side ((G +ᵍ H) +ᵍ K) ≡ side (G +ᵍ (H +ᵍ K))

@@ -38,7 +38,8 @@ IsMore [] = ⊥
 IsMore (x ∷ xs) = Unit {0}
 
 -- the longest run of bytes of a kind is one, where what stands behind doesn't begin with such a byte
-module _ (Is : ℕ → Type 0) (Are Stops : List ℕ → Type 0) (first : (x : ℕ) (xs : List ℕ) → Are (x ∷ xs) → Is x × Are xs) (stops : (x : ℕ) (xs : List ℕ) → Stops (x ∷ xs) → Is x → ⊥) where
+module _ (Is : ℕ → Type 0) (Are Stops : List ℕ → Type 0) (first : (x : ℕ) (xs : List ℕ) → Are (x ∷ xs) → Is x × Are xs)
+    (stops : (x : ℕ) (xs : List ℕ) → Stops (x ∷ xs) → Is x → ⊥) where
   pub runs : (a b s t : List ℕ) → Are a → Are b → Stops s → Stops t → a ++ s ≡ b ++ t → (a ≡ b) × (s ≡ t)
   runs [] [] s t p q u v e = (refl, e)
   runs [] (y ∷ b) [] t p q u v e = absurd (subst IsMore (sym e) tt)

@@ -69,13 +69,17 @@ module _ (k : ℕ) (G : Tree) (p : IsFilled (left G)) (q : IsFilled (right G)) (
 
   -- the scaffolds of the next grid
   left_is : (t : ℕ) → left_scaffold (suc k) G t ≡ finer (left_scaffold k G) t
-  left_is t = sym (left_same (suc k) G (finer (left_scaffold k G)) (left_scaffold-doubles k (left_wall k) (right_wall k) (left_wall (suc k)) (right_wall (suc k)) (left G)
-      (left_scaffold k G) (finer (left_scaffold k G)) (λ X x. (walls-steady k (left_wall k) (right_wall k) X (drawn X (inl x))).rises) (λ X x. (doubles X (inl x)).1)
+  left_is t = sym (left_same (suc k) G (finer (left_scaffold k G))
+      (left_scaffold-doubles k (left_wall k) (right_wall k) (left_wall (suc k)) (right_wall (suc k)) (left G)
+      (left_scaffold k G) (finer (left_scaffold k G)) (λ X x. (walls-steady k (left_wall k) (right_wall k) X (drawn X (inl x))).rises)
+      (λ X x. (doubles X (inl x)).1)
       (finer-doubles (left_scaffold k G)) (left_scaffold-is k G p)) t)
 
   right_is : (t : ℕ) → right_scaffold (suc k) G t ≡ finer (right_scaffold k G) t
-  right_is t = sym (right_same (suc k) G (finer (right_scaffold k G)) (right_scaffold-doubles k (left_wall k) (right_wall k) (left_wall (suc k)) (right_wall (suc k)) (right G)
-      (right_scaffold k G) (finer (right_scaffold k G)) (λ X x. (walls-steady k (left_wall k) (right_wall k) X (drawn X (inr x))).falls) (λ X x. (doubles X (inr x)).0)
+  right_is t = sym (right_same (suc k) G (finer (right_scaffold k G))
+      (right_scaffold-doubles k (left_wall k) (right_wall k) (left_wall (suc k)) (right_wall (suc k)) (right G)
+      (right_scaffold k G) (finer (right_scaffold k G)) (λ X x. (walls-steady k (left_wall k) (right_wall k) X (drawn X (inr x))).falls)
+      (λ X x. (doubles X (inr x)).0)
       (finer-doubles (right_scaffold k G)) (right_scaffold-is k G q)) t)
 
   left_doubles : Doubles (left_scaffold k G) (left_scaffold (suc k) G)
@@ -94,7 +98,8 @@ module _ (k : ℕ) (G : Tree) (p : IsFilled (left G)) (q : IsFilled (right G)) (
       zero = walls-zero (suc k) (left_wall (suc k)) (right_wall (suc k))
 
 -- then the tree has them on the next
-drawn_here : (k : ℕ) (G : Tree) → IsFine (suc k) G → ((X : Tree) → IsOption G X → AllDrawn k X) → WallsAre (suc k) (left_wall (suc k)) (right_wall (suc k)) G
+drawn_here : (k : ℕ) (G : Tree) → IsFine (suc k) G → ((X : Tree) → IsOption G X → AllDrawn k X)
+    → WallsAre (suc k) (left_wall (suc k)) (right_wall (suc k)) G
 drawn_here k G f drawn = walls-at (suc k) G (λ x. (
     let n = no_number (suc k) G f x in
     let full = canonical-filled G f.0 n in record {

@@ -27,8 +27,12 @@ greatest-one f G = record { bound = λ X h. elim h [ inl i ↦ subst (λ t. f t 
 
 pub greatest-more : (f : Tree → ℤ) (G : Tree) (Gs : Trees) (x : ℤ) → IsGreatest f Gs x → IsGreatest f (more G Gs) (int_max (f G) x)
 greatest-more f G Gs x g = record {
-  bound = λ X h. elim h [ inl i ↦ subst (λ t. f t ≤ℤ int_max (f G) x) (sym i) (omega (arith, ints, clamps)) | inr k ↦ omega (arith, ints, clamps, g.bound X k) ];
-  reached = by_lt_z (f G) x (λ l. (g.reached.0, inr g.reached.1, omega (arith, ints, clamps, l, g.reached.2))) (λ l. (G, inl refl, omega (arith, ints, clamps, l)));
+  bound = λ X h. elim h [
+    | inl i ↦ subst (λ t. f t ≤ℤ int_max (f G) x) (sym i) (omega (arith, ints, clamps))
+    | inr k ↦ omega (arith, ints, clamps, g.bound X k)
+  ];
+  reached = by_lt_z (f G) x (λ l. (g.reached.0, inr g.reached.1, omega (arith, ints, clamps, l, g.reached.2)))
+      (λ l. (G, inl refl, omega (arith, ints, clamps, l)));
 }
 
 pub least-one : (f : Tree → ℤ) (G : Tree) → IsLeast f (more G none) (f G)
@@ -36,8 +40,12 @@ least-one f G = record { bound = λ X h. elim h [ inl i ↦ subst (λ t. f G ≤
 
 pub least-more : (f : Tree → ℤ) (G : Tree) (Gs : Trees) (x : ℤ) → IsLeast f Gs x → IsLeast f (more G Gs) (int_min (f G) x)
 least-more f G Gs x g = record {
-  bound = λ X h. elim h [ inl i ↦ subst (λ t. int_min (f G) x ≤ℤ f t) (sym i) (omega (arith, ints, clamps)) | inr k ↦ omega (arith, ints, clamps, g.bound X k) ];
-  reached = by_lt_z (f G) x (λ l. (G, inl refl, omega (arith, ints, clamps, l))) (λ l. (g.reached.0, inr g.reached.1, omega (arith, ints, clamps, l, g.reached.2)));
+  bound = λ X h. elim h [
+    | inl i ↦ subst (λ t. int_min (f G) x ≤ℤ f t) (sym i) (omega (arith, ints, clamps))
+    | inr k ↦ omega (arith, ints, clamps, g.bound X k)
+  ];
+  reached = by_lt_z (f G) x (λ l. (G, inl refl, omega (arith, ints, clamps, l)))
+      (λ l. (g.reached.0, inr g.reached.1, omega (arith, ints, clamps, l, g.reached.2)));
 }
 
 -- the greatest and the least that f gives, where f gives the stops or the walls

@@ -140,13 +140,19 @@ module _ (L R l r : ℕ → ℤ) (falls : Falls L) (rises : Rises R) (follows : 
 
   pub left-falls : Falls l
   left-falls = record {
-    no_rise = λ t. elim (step t) [ goes a x z y w k ↦ omega (arith, ints, x, z, falls.no_rise t) | stays u h e a x z y w ↦ omega (arith, ints, x, z) ];
+    no_rise = λ t. elim (step t) [
+      | goes a x z y w k ↦ omega (arith, ints, x, z, falls.no_rise t)
+      | stays u h e a x z y w ↦ omega (arith, ints, x, z)
+    ];
     by_one = λ t. elim (step t) [ goes a x z y w k ↦ omega (arith, ints, x, z, falls.by_one t) | stays u h e a x z y w ↦ omega (arith, ints, x, z) ];
   }
 
   pub right-rises : Rises r
   right-rises = record {
-    no_fall = λ t. elim (step t) [ goes a x z y w k ↦ omega (arith, ints, y, w, rises.no_fall t) | stays u h e a x z y w ↦ omega (arith, ints, y, w) ];
+    no_fall = λ t. elim (step t) [
+      | goes a x z y w k ↦ omega (arith, ints, y, w, rises.no_fall t)
+      | stays u h e a x z y w ↦ omega (arith, ints, y, w)
+    ];
     by_one = λ t. elim (step t) [ goes a x z y w k ↦ omega (arith, ints, y, w, rises.by_one t) | stays u h e a x z y w ↦ omega (arith, ints, y, w) ];
   }
 

@@ -121,8 +121,10 @@ module _ (k : ℕ) (lw rw : Tree → ℕ → ℤ) where
 
       at : Follow L R t (lw G t) (rw G t) → IsLeftWall G k t (lw G t) × IsRightWall G k t (rw G t)
       at (apart c x y) = (
-        (left_rule G k t (lw G t)).0 (inr (n, inl (lefts t (lw G t) (sym x), (R t, rights t (R t) refl, subst (λ z. R t <ℤ z) (sym x) (c t (omega arith)))))),
-        (right_rule G k t (rw G t)).0 (inr (n, inl (rights t (rw G t) (sym y), (L t, lefts t (L t) refl, subst (λ z. z <ℤ L t) (sym y) (c t (omega arith)))))),
+        (left_rule G k t (lw G t)).0
+            (inr (n, inl (lefts t (lw G t) (sym x), (R t, rights t (R t) refl, subst (λ z. R t <ℤ z) (sym x) (c t (omega arith)))))),
+        (right_rule G k t (rw G t)).0
+            (inr (n, inl (rights t (rw G t) (sym y), (L t, lefts t (L t) refl, subst (λ z. z <ℤ L t) (sym y) (c t (omega arith)))))),
       )
       at (met u b e c x y) = (
         (left_rule G k t (lw G t)).0 (inr (n, inr (mast u (lw G t) b (sym x) (sym e ∙ sym x)))),

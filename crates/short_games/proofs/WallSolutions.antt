@@ -30,9 +30,11 @@ all-from k lw rw G a f P h = at P (follower-of G P h)
     at P (inr (H, o, h)) = f H o P h
 
 -- what holds of a tree with walls where it holds of its options, holds of each tree with walls
-pub by_walls : (k : ℕ) (lw rw : Tree → ℕ → ℤ) (Q : Tree → Type 0) → ((G : Tree) → AllWallsAre k lw rw G → ((X : Tree) → IsOption G X → Q X) → WallsAre k lw rw G → Q G)
+pub by_walls : (k : ℕ) (lw rw : Tree → ℕ → ℤ) (Q : Tree → Type 0)
+    → ((G : Tree) → AllWallsAre k lw rw G → ((X : Tree) → IsOption G X → Q X) → WallsAre k lw rw G → Q G)
     → (G : Tree) → AllWallsAre k lw rw G → Q G
-by_walls k lw rw Q step = by_measure size (λ G. AllWallsAre k lw rw G → Q G) (λ G ih a. step G a (λ X o. ih X (size-option G X o) (λ P f. a P (further G X P o f))) (all-here k lw rw G a))
+by_walls k lw rw Q step = by_measure size (λ G. AllWallsAre k lw rw G → Q G)
+    (λ G ih a. step G a (λ X o. ih X (size-option G X o) (λ P f. a P (further G X P o f))) (all-here k lw rw G a))
 
 -- two solutions agree
 abbrev SameWalls : (lw rw lw' rw' : Tree → ℕ → ℤ) → Tree → Type 0

@@ -19,7 +19,8 @@ no_jump-from : (L R l r : ℕ → ℤ) → ((t : ℕ) → Follow L R t (l t) (r 
 unfolding NoJump
 no_jump-from L R l r w u h = elim (w u) [
   | apart a x y ↦ omega (arith, ints, a u (omega arith))
-  | met v k e a x y ↦ (let no : v < u → ⊥ = λ i. omega (arith, ints, h v i, e) in let s : v ≡ u = omega (arith, k, no) in subst (λ n. R n ≤ℤ L n) s (omega (arith, ints, e)))
+  | met v k e a x y ↦ (let no : v < u → ⊥ = λ i. omega (arith, ints, h v i, e) in let s : v ≡ u = omega (arith, k, no) in
+      subst (λ n. R n ≤ℤ L n) s (omega (arith, ints, e)))
 ]
 
 no_jump-same : (L R L' R' : ℕ → ℤ) → ((t : ℕ) → L t ≡ L' t) → ((t : ℕ) → R t ≡ R' t) → NoJump L R → NoJump L' R'
@@ -31,7 +32,8 @@ no_jump-met : (L R : ℕ → ℤ) (u : ℕ) → L u ≡ R u → ((v : ℕ) → v
 unfolding NoJump
 no_jump-met L R u e a v h = elim (cases_lt v u) [
   | inl k ↦ omega (arith, ints, a v k)
-  | inr k ↦ (let no : u < v → ⊥ = λ i. omega (arith, ints, h u i, e) in let s : u ≡ v = omega (arith, k, no) in subst (λ n. R n ≤ℤ L n) s (omega (arith, ints, e)))
+  | inr k ↦ (let no : u < v → ⊥ = λ i. omega (arith, ints, h u i, e) in let s : u ≡ v = omega (arith, k, no) in
+      subst (λ n. R n ≤ℤ L n) s (omega (arith, ints, e)))
 ]
 
 -- the walls that are drawn are the walls
@@ -113,7 +115,8 @@ follow-meeting L R l r m w e a = record { left_at = at.0; right_at = at.1; befor
     at : (l m ≡ L m) × (r m ≡ L m)
     at = elim (w m) [
       | apart b x y ↦ absurd (omega (arith, ints, b m (omega arith), e))
-      | met u h i b x y ↦ (let no : u < m → ⊥ = λ k. omega (arith, ints, a u k, i) in let s : u ≡ m = omega (arith, h, no) in (x ∙ ap L s, y ∙ ap R s ∙ sym e))
+      | met u h i b x y ↦ (let no : u < m → ⊥ = λ k. omega (arith, ints, a u k, i) in
+          let s : u ≡ m = omega (arith, h, no) in (x ∙ ap L s, y ∙ ap R s ∙ sym e))
     ]
 
     below : (v : ℕ) → v < m → Follow L R v (l v) (r v) → r v <ℤ l v
@@ -145,5 +148,6 @@ bounds_at k bound In lw rw G s b m f (of_game n L R h h' w) t =
 
 -- walls are past no bound of the numbers
 pub walls-within : (k : ℕ) (bound : ℤ) (In : Tree → Type 0) (lw rw : Tree → ℕ → ℤ) (G : Tree) → IsBounded k bound In → In G → AllWallsAre k lw rw G → (t : ℕ) → (neg_ℤ bound ≤ℤ rw G t) × (rw G t ≤ℤ lw G t) × (lw G t ≤ℤ bound)
-walls-within k bound In lw rw G b i a = by_walls k lw rw (λ H. In H → InBounds bound (lw H) (rw H)) (λ H all f w m. bounds_at k bound In lw rw H (walls-steady k lw rw H all) b m
+walls-within k bound In lw rw G b i a =
+    by_walls k lw rw (λ H. In H → InBounds bound (lw H) (rw H)) (λ H all f w m. bounds_at k bound In lw rw H (walls-steady k lw rw H all) b m
     (λ n X o. f X o (elim o [ inl x ↦ b.left_in H X n m x | inr x ↦ b.right_in H X n m x ])) w) G a i

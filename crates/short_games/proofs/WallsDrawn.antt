@@ -64,7 +64,8 @@ follow-until L R n t = by (meets L R (until (meets L R) t)) refl
 
     by : (b : Bool) → meets L R (until (meets L R) t) ≡ b → Follow L R t (L (until (meets L R) t)) (R (until (meets L R) t))
     by true e = met (until (meets L R) t) h.within (omega (arith, ints, e, n (until (meets L R) t) before)) before refl refl
-    by false e = let no : until (meets L R) t < t → ⊥ = λ l. both_ways _ e (h.passes l) in let i : until (meets L R) t ≡ t = omega (arith, h.within, no) in
+    by false e = let no : until (meets L R) t < t → ⊥ = λ l. both_ways _ e (h.passes l) in
+        let i : until (meets L R) t ≡ t = omega (arith, h.within, no) in
         apart (λ v l. all e i v (below-or_at v t l)) (ap L i) (ap R i)
 
 pub record Walls : Type 0 where
