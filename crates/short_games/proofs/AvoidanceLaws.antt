@@ -61,7 +61,7 @@ module _ (e : ℕ) (G : Tree) where
 
 -- a game that is no number loses next to nothing by some move
 pub cheap_left : (G : Tree) → (IsNumber G → ⊥) → (e : ℕ) (d : ℤ) → pos 0 <ℤ d → (L : Tree) × Has (left G) L × (G ≤ᵍ L +ᵍ num e d)
-cheap_left G no_number e d p = elim (none-or_some (λ L. num e b.at ≤ᵍ L) (λ L. le-or_not (num e b.at) L) (left G)) [
+cheap_left G no_number e d p = let b = least e G in elim (none-or_some (λ L. num e b.at ≤ᵍ L) (λ L. le-or_not (num e b.at) L) (left G)) [
   | inl t ↦ absurd (b.not_over (avoid-le G no_number e b.at t))
   | inr f ↦ (
     f.0,
@@ -70,9 +70,6 @@ cheap_left G no_number e d p = elim (none-or_some (λ L. num e b.at ≤ᵍ L) (�
         (plus-le_both (num e b.at) f.0 (num e (pos 1)) (num e d) f.2 (num-le e (pos 1) d (omega (arith, ints, p))))),
   )
 ]
-  where
-    b : Least e G
-    b = least e G
 
 -- which for Right is a move of Left in the negative
 pub cheap_right : (G : Tree) → (IsNumber G → ⊥) → (e : ℕ) (d : ℤ) → pos 0 <ℤ d → (R : Tree) × Has (right G) R × (R ≤ᵍ G +ᵍ num e d)

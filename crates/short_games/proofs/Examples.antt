@@ -274,10 +274,8 @@ tiny-walls t = (
 
 switch-mast : (t : ℕ) → 1 ≤ t → IsLeftWall two_switch 0 t (pos 1) × IsRightWall two_switch 0 t (pos 1)
 unfolding IsLeftWall num whole count_tree
-switch-mast t l = (inr (switch-no_number, inr (0, 1, at, inl refl, inl refl)), inr (switch-no_number, inr (0, 1, at, inl refl, inl refl)))
-  where
-    at : 1 ≤ t * 2 ^ 0
-    at = grind (arith, l)
+switch-mast t l = let at : 1 ≤ t * 2 ^ 0 = grind (arith, l) in
+    (inr (switch-no_number, inr (0, 1, at, inl refl, inl refl)), inr (switch-no_number, inr (0, 1, at, inl refl, inl refl)))
 
 pub known-walls : KnownWalls
 unfolding IsLeftWall num whole count_tree

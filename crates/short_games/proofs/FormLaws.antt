@@ -109,16 +109,12 @@ short-neg (more G none) s = tt
 short-neg (more G (more H Hs)) s = absurd s
 
 short_right : (e : ℕ) (m : ℤ) → IsShort (right (num e m))
-short_right e m = subst IsShort (sym (neg-right (num e (neg_ℤ m))) ∙ ap right (neg-num e (neg_ℤ m) ∙ ap (num e) back)) (short-neg (left (num e (neg_ℤ m))) (short_left e (neg_ℤ m)))
-  where
-    back : neg_ℤ (neg_ℤ m) ≡ m
-    back = omega (arith, ints)
+short_right e m = let back : neg_ℤ (neg_ℤ m) ≡ m = omega (arith, ints) in
+    subst IsShort (sym (neg-right (num e (neg_ℤ m))) ∙ ap right (neg-num e (neg_ℤ m) ∙ ap (num e) back)) (short-neg (left (num e (neg_ℤ m))) (short_left e (neg_ℤ m)))
 
 only : (Gs : Trees) (A B : Tree) → IsShort Gs → Has Gs A → Has Gs B → A ≡ B
 only none A B s a b = absurd a
-only (more G none) A B s (inl a) (inl b) = a ∙ sym b
-only (more G none) A B s (inl a) (inr b) = absurd b
-only (more G none) A B s (inr a) b = absurd a
+only (more G none) A B s a b = elim a [ inl i ↦ elim b [ inl j ↦ i ∙ sym j | inr j ↦ absurd j ] | inr i ↦ absurd i ]
 only (more G (more H Hs)) A B s a b = absurd s
 
 module _ (Before : Tree → Tree → Type 0) where

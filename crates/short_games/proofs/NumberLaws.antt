@@ -58,16 +58,12 @@ whole-has_right (negsuc zero) h = (pos zero, omega (arith, ints), inl refl)
 whole-has_right (negsuc (suc n)) h = (negsuc n, omega (arith, ints), inl refl)
 
 pub even-neg : (m : ℤ) → is_even m ≡ true → (is_even (neg_ℤ m) ≡ true) × (half (neg_ℤ m) ≡ neg_ℤ (half m))
-even-neg m t = (even, omega (arith, ints, half-even m t, half-even (neg_ℤ m) even))
-  where
-    even : is_even (neg_ℤ m) ≡ true
-    even = true_from_ne_false _ (λ f. omega (arith, ints, half-even m t, half-odd (neg_ℤ m) f))
+even-neg m t = let even : is_even (neg_ℤ m) ≡ true = true_from_ne_false _ (λ f. omega (arith, ints, half-even m t, half-odd (neg_ℤ m) f)) in
+    (even, omega (arith, ints, half-even m t, half-even (neg_ℤ m) even))
 
 pub odd-neg : (m : ℤ) → is_even m ≡ false → (is_even (neg_ℤ m) ≡ false) × (half (neg_ℤ m) ≡ neg_ℤ (half m +ℤ pos 1)) × (half (neg_ℤ m) +ℤ pos 1 ≡ neg_ℤ (half m))
-odd-neg m f = (odd, omega (arith, ints, half-odd m f, half-odd (neg_ℤ m) odd), omega (arith, ints, half-odd m f, half-odd (neg_ℤ m) odd))
-  where
-    odd : is_even (neg_ℤ m) ≡ false
-    odd = false_from_ne_true _ (λ t. omega (arith, ints, half-odd m f, half-even (neg_ℤ m) t))
+odd-neg m f = let odd : is_even (neg_ℤ m) ≡ false = false_from_ne_true _ (λ t. omega (arith, ints, half-odd m f, half-even (neg_ℤ m) t)) in
+    (odd, omega (arith, ints, half-odd m f, half-odd (neg_ℤ m) odd), omega (arith, ints, half-odd m f, half-odd (neg_ℤ m) odd))
 
 pub neg-num : (e : ℕ) (m : ℤ) → neg (num e m) ≡ num e (neg_ℤ m)
 unfolding num whole neg count_tree

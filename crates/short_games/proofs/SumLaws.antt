@@ -322,10 +322,8 @@ minus_step G ih = le-in _ _ record { from_left = λ X h e. from_left_of X (left_
 
 pub plus-neg : (G : Tree) → (G +ᵍ neg G ≤ᵍ nought) × (nought ≤ᵍ G +ᵍ neg G)
 unfolding neg
-plus-neg G = (under, le-trans _ _ _ (rw (neg-plus G (neg G), neg-neg G) at (neg-le _ _ under)) (plus-comm (neg G) G))
-  where
-    under : G +ᵍ neg G ≤ᵍ nought
-    under = by_measure size (λ A. A +ᵍ neg A ≤ᵍ nought) minus_step G
+plus-neg G = let under = by_measure size (λ A. A +ᵍ neg A ≤ᵍ nought) minus_step G in
+    (under, le-trans _ _ _ (rw (neg-plus G (neg G), neg-neg G) at (neg-le _ _ under)) (plus-comm (neg G) G))
 
 -- sums of equal games
 pub same-plus : (G H K M : Tree) → G ≡ᵍ H → K ≡ᵍ M → (G +ᵍ K) ≡ᵍ (H +ᵍ M)

@@ -76,13 +76,10 @@ module _ (number : Tree → Option (List ℕ)) (digits : (G : Tree) (t : List �
 
   no_text : (H : Tree) (s t : List ℕ) → IsListEnd s → s ≡ text number H t → ⊥
   no_text H [] t u e = u
-  no_text H (x ∷ xs) t u e = by_end u (starts H t xs x (sym e))
-    where
-      by_end : (x ≡ bar) ⊎ (x ≡ close_brace) → (x ≡ open_brace) ⊎ IsDigit x → ⊥
-      by_end (inl a) (inl b) = omega (arith, a, b)
-      by_end (inl a) (inr b) = omega (arith, a, b)
-      by_end (inr a) (inl b) = omega (arith, a, b)
-      by_end (inr a) (inr b) = omega (arith, a, b)
+  no_text H (x ∷ xs) t u e = elim u [
+    | inl a ↦ elim (starts H t xs x (sym e)) [ inl b ↦ omega (arith, a, b) | inr b ↦ omega (arith, a, b) ]
+    | inr a ↦ elim (starts H t xs x (sym e)) [ inl b ↦ omega (arith, a, b) | inr b ↦ omega (arith, a, b) ]
+  ]
 
   no_comma : (s t : List ℕ) → IsListEnd s → s ≡ comma ∷ t → ⊥
   no_comma [] t u e = u

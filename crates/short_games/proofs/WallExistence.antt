@@ -46,12 +46,6 @@ module _ (k : ℕ) (lw rw : Tree → ℕ → ℤ) where
 same-doubles : (f g : ℕ → ℤ) → ((t : ℕ) → g t ≡ finer f t) → Doubles f g
 same-doubles f g e = record { at_even = λ t. e (t + t) ∙ (finer-doubles f).at_even t; at_odd = λ t. e (suc (t + t)) ∙ (finer-doubles f).at_odd t }
 
-drawn_doubles : (k : ℕ) (X : Tree) → AllDrawn k X → AllDrawn (suc k) X → Doubles (left_wall k X) (left_wall (suc k) X) × Doubles (right_wall k X) (right_wall (suc k) X)
-drawn_doubles k X a b = (same-doubles (left_wall k X) (left_wall (suc k) X) (λ t. (same t).0), same-doubles (right_wall k X) (right_wall (suc k) X) (λ t. (same t).1))
-  where
-    same : (t : ℕ) → (left_wall (suc k) X t ≡ finer (left_wall k X) t) × (right_wall (suc k) X t ≡ finer (right_wall k X) t)
-    same = walls-unique (suc k) (left_wall (suc k)) (right_wall (suc k)) (λ Y. finer (left_wall k Y)) (λ Y. finer (right_wall k Y)) X b (walls-finer k (left_wall k) (right_wall k) X a)
-
 -- walls on a grid go on to the next
 next : (k : ℕ) (X : Tree) → AllDrawn k X → AllDrawn (suc k) X
 next k X x = solution-drawn (suc k) (λ Y. finer (left_wall k Y)) (λ Y. finer (right_wall k Y)) X (walls-finer k (left_wall k) (right_wall k) X x)
@@ -65,7 +59,11 @@ module _ (k : ℕ) (G : Tree) (p : IsFilled (left G)) (q : IsFilled (right G)) (
   right_rises = right_scaffold-rises k (left_wall k) (right_wall k) (right G) (right_scaffold k G) (λ X x. walls-steady k (left_wall k) (right_wall k) X (drawn X (inr x))) (right_scaffold-is k G q)
 
   doubles : (X : Tree) → IsOption G X → Doubles (left_wall k X) (left_wall (suc k) X) × Doubles (right_wall k X) (right_wall (suc k) X)
-  doubles X o = drawn_doubles k X (drawn X o) (next k X (drawn X o))
+  doubles X o = (same-doubles (left_wall k X) (left_wall (suc k) X) (λ t. (same t).0), same-doubles (right_wall k X) (right_wall (suc k) X) (λ t. (same t).1))
+    where
+      same : (t : ℕ) → (left_wall (suc k) X t ≡ finer (left_wall k X) t) × (right_wall (suc k) X t ≡ finer (right_wall k X) t)
+      same = walls-unique (suc k) (left_wall (suc k)) (right_wall (suc k)) (λ Y. finer (left_wall k Y)) (λ Y. finer (right_wall k Y)) X
+          (next k X (drawn X o)) (walls-finer k (left_wall k) (right_wall k) X (drawn X o))
 
   -- the scaffolds of the next grid
   left_is : (t : ℕ) → left_scaffold (suc k) G t ≡ finer (left_scaffold k G) t

@@ -1,4 +1,4 @@
--- Lists that have a tree, and the greatest and the least of a list with one more tree.
+-- Lists that have a tree, the greatest and the least of a list with one more tree, and of stops and walls.
 use Rattle.std.proofs.Common.{◌≡◌, arith, refl, inl, inr, sym, subst, ℤ, ◌≤ℤ◌}
 use Rattle.std.specs.Int.{int_max, int_min}
 use Rattle.std.proofs.lemmas.Int.{ints, clamps, by_lt_z}

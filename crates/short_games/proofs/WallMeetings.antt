@@ -5,7 +5,7 @@ use Rattle.short_games.specs.Tree.{Tree, Trees, node, none, more, Has}
 use Rattle.short_games.specs.Parts.{IsOption}
 use Rattle.short_games.specs.Number.{IsNumberTree}
 use Rattle.short_games.proofs.WallNumbers.{numerator, numerator-num}
-use Rattle.short_games.specs.WallGrids.{Follow, WallsAre, AllWallsAre, HasWalls, IsMeeting}
+use Rattle.short_games.specs.WallGrids.{WallsAre, AllWallsAre, HasWalls, IsMeeting}
 use Rattle.short_games.specs.WallGrids.Follow.{apart, met}
 use Rattle.short_games.specs.WallGrids.WallsAre.{of_number, of_game}
 use Rattle.short_games.proofs.WallSolutions.{all-here, all-left, all-right}
@@ -52,17 +52,16 @@ reach-bounds k m = record {
 
 meeting_of : (k m : ℕ) (lw rw : Tree → ℕ → ℤ) (G : Tree) → IsReached k m G → AllWallsAre k lw rw G → (IsNumberTree G → ⊥) → WallsAre k lw rw G → (u : ℕ) × (x : ℤ) × IsMeeting (lw G) (rw G) u x
 meeting_of k m lw rw G b all n (of_number x i p q) = absurd (n (k, x, i))
-meeting_of k m lw rw G b all n (of_game _ L R h h' w) = at (w m)
+meeting_of k m lw rw G b all n (of_game _ L R h h' w) = elim (w m) [
+  | apart c x y ↦ absurd (omega (arith, ints, c m (omega arith), low, high))
+  | met u c d e x y ↦ (u, L u, follow-meeting L R (lw G) (rw G) u w d e)
+]
   where
     low : L m ≤ℤ pos 0
     low = let a = (h m).reached in let c = walls-within k (pos m) (IsReached k m) lw rw a.0 (reach-bounds k m) ((reach-bounds k m).left_in G a.0 n b a.1) (all-left k lw rw G a.0 all a.1) m in omega (arith, ints, a.2, c.1, c.2)
 
     high : pos 0 ≤ℤ R m
     high = let a = (h' m).reached in let c = walls-within k (pos m) (IsReached k m) lw rw a.0 (reach-bounds k m) ((reach-bounds k m).right_in G a.0 n b a.1) (all-right k lw rw G a.0 all a.1) m in omega (arith, ints, a.2, c.0, c.1)
-
-    at : Follow L R m (lw G m) (rw G m) → (u : ℕ) × (x : ℤ) × IsMeeting (lw G) (rw G) u x
-    at (apart c x y) = absurd (omega (arith, ints, c m (omega arith), low, high))
-    at (met u c d e x y) = (u, L u, follow-meeting L R (lw G) (rw G) u w d e)
 
 pub meeting-exists : (k : ℕ) (G : Tree) (l r : ℕ → ℤ) → HasWalls k G l r → (IsNumberTree G → ⊥) → (u : ℕ) × (x : ℤ) × IsMeeting l r u x
 meeting-exists k G l r h n = let m = meeting_of k (reach k G) h.lw h.rw G (omega arith) h.all n (all-here k h.lw h.rw G h.all) in (

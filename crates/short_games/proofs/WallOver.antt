@@ -1,6 +1,6 @@
 -- The exponents of the numbers in a tree; and that a canonical tree that is no number's has options on both sides.
 use Rattle.std.proofs.Common.{ℕ, zero, suc, ◌+◌, ◌-◌, ◌*ℤ◌, ◌^◌, ◌<◌, ◌≤◌, ◌≡◌, arith, refl, inl, inr, sym, ◌∙◌, ap, subst, ℤ, pos, ◌+ℤ◌, true, false}
-use Rattle.std.proofs.lemmas.Bool.{cases_Bool}
+use Rattle.std.proofs.lemmas.Bool.{cases_Bool, false_from_ne_true}
 use Rattle.std.proofs.lemmas.Int.{ints}
 use Rattle.short_games.specs.Tree.{Tree, node, none, more, left, right, size}
 use Rattle.short_games.specs.Number.{num, half, is_even, IsNumber, IsNumberTree}
@@ -29,10 +29,7 @@ pub over-more : (k e : ℕ) (G : Tree) → e ≤ k → IsOver e G → IsOver k G
 over-more k e G h o P f n = let r = o P f n in let w = number-over k e r.0 h in (w.0, r.1 ∙ w.1)
 
 next_odd : (m : ℤ) → is_even m ≡ true → is_even (m +ℤ pos 1) ≡ false
-next_odd m t = elim (cases_Bool (is_even (m +ℤ pos 1))) [
-  | inl s ↦ absurd (omega (arith, ints, half-even m t, half-even (m +ℤ pos 1) s))
-  | inr f ↦ f
-]
+next_odd m t = false_from_ne_true _ (λ s. omega (arith, ints, half-even m t, half-even (m +ℤ pos 1) s))
 
 -- a tree has at least as many nodes as its number halves
 odd-size : (e : ℕ) (m : ℤ) → is_even m ≡ false → e < size (num e m)

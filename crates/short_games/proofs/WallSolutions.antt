@@ -42,19 +42,13 @@ SameWalls lw rw lw' rw' G = (t : ℕ) → (lw G t ≡ lw' G t) × (rw G t ≡ rw
 
 module _ (k : ℕ) (lw rw lw' rw' : Tree → ℕ → ℤ) where
   unique_at : (G : Tree) → ((X : Tree) → IsOption G X → SameWalls lw rw lw' rw' X) → WallsAre k lw rw G → WallsAre k lw' rw' G → SameWalls lw rw lw' rw' G
-  unique_at G f (of_number x i p q) (of_number y j r s) t = (p t ∙ same ∙ sym (r t), q t ∙ same ∙ sym (s t))
-    where
-      same : x ≡ y
-      same = num-one_to_one k x y (sym i ∙ j)
+  unique_at G f (of_number x i p q) (of_number y j r s) t = let same : x ≡ y = num-one_to_one k x y (sym i ∙ j) in
+      (p t ∙ same ∙ sym (r t), q t ∙ same ∙ sym (s t))
   unique_at G f (of_number x i p q) (of_game n L R h h' w) t = absurd (n (k, x, i))
   unique_at G f (of_game n L R h h' w) (of_number x i p q) t = absurd (n (k, x, i))
-  unique_at G f (of_game n L R h h' w) (of_game n' M S j j' v) t = follow-same L R M S t _ _ _ _ lefts rights (w t) (v t)
-    where
-      lefts : (t : ℕ) → L t ≡ M t
-      lefts t = omega (arith, ints, greatest-same (λ X. rw X t) (λ X. rw' X t) (left G) _ _ (λ X x. (f X (inl x) t).1) (h t) (j t))
-
-      rights : (t : ℕ) → R t ≡ S t
-      rights t = omega (arith, ints, least-same (λ X. lw X t) (λ X. lw' X t) (right G) _ _ (λ X x. (f X (inr x) t).0) (h' t) (j' t))
+  unique_at G f (of_game n L R h h' w) (of_game n' M S j j' v) t = follow-same L R M S t _ _ _ _
+      (λ u. omega (arith, ints, greatest-same (λ X. rw X u) (λ X. rw' X u) (left G) _ _ (λ X x. (f X (inl x) u).1) (h u) (j u)))
+      (λ u. omega (arith, ints, least-same (λ X. lw X u) (λ X. lw' X u) (right G) _ _ (λ X x. (f X (inr x) u).0) (h' u) (j' u))) (w t) (v t)
 
   pub walls-unique : (G : Tree) → AllWallsAre k lw rw G → AllWallsAre k lw' rw' G → (t : ℕ) → (lw G t ≡ lw' G t) × (rw G t ≡ rw' G t)
   walls-unique = by_walls k lw rw (λ G. AllWallsAre k lw' rw' G → SameWalls lw rw lw' rw' G)
