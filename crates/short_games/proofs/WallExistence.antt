@@ -59,7 +59,11 @@ module _ (k : ℕ) (G : Tree) (p : IsFilled (left G)) (q : IsFilled (right G)) (
   right_rises = right_scaffold-rises k (left_wall k) (right_wall k) (right G) (right_scaffold k G) (λ X x. walls-steady k (left_wall k) (right_wall k) X (drawn X (inr x))) (right_scaffold-is k G q)
 
   doubles : (X : Tree) → IsOption G X → Doubles (left_wall k X) (left_wall (suc k) X) × Doubles (right_wall k X) (right_wall (suc k) X)
-  doubles X o = (same-doubles (left_wall k X) (left_wall (suc k) X) (λ t. (same t).0), same-doubles (right_wall k X) (right_wall (suc k) X) (λ t. (same t).1))
+  doubles X o = (
+    same-doubles (left_wall k X) (left_wall (suc k) X) (λ t. (same t).0),
+    same-doubles (right_wall k X) (right_wall (suc k) X)
+        (λ t. (same t).1),
+  )
     where
       same : (t : ℕ) → (left_wall (suc k) X t ≡ finer (left_wall k X) t) × (right_wall (suc k) X t ≡ finer (right_wall k X) t)
       same = walls-unique (suc k) (left_wall (suc k)) (right_wall (suc k)) (λ Y. finer (left_wall k Y)) (λ Y. finer (right_wall k Y)) X
