@@ -131,9 +131,6 @@ module _ (k : ℕ) (lw rw : Tree → ℕ → ℤ) where
         (right_rule G k t (rw G t)).0 (inr (n, inr (mast u (rw G t) b (e ∙ sym y) (sym y)))),
       )
 
-  pub walls-follow : (G : Tree) → AllWallsAre k lw rw G → (t : ℕ) → IsLeftWall G k t (lw G t) × IsRightWall G k t (rw G t)
-  walls-follow = by_walls k lw rw Follows (λ G _. follows_at G)
-
 -- and the rule gives nothing else
 abbrev Gives : (k : ℕ) (lw rw : Tree → ℕ → ℤ) → Tree → Type 0
 Gives k lw rw G = (t : ℕ) (x : ℤ) → (IsLeftWall G k t x → x ≡ lw G t) × (IsRightWall G k t x → x ≡ rw G t)
@@ -211,7 +208,7 @@ value = by_measure size (λ G. (k : ℕ) (lw rw : Tree → ℕ → ℤ) → AllW
 -- the two definitions of walls are one
 pub rule-is : (k : ℕ) (G : Tree) (l r : ℕ → ℤ) → HasWalls k G l r → (t : ℕ) (x : ℤ) → (IsLeftWall G k t x ↔ (x ≡ l t)) × (IsRightWall G k t x ↔ (x ≡ r t))
 rule-is k G l r h t x =
-    let to = walls-follow k h.lw h.rw G h.all t in
+    let to = by_walls k h.lw h.rw (Follows k h.lw h.rw) (λ P _. follows_at k h.lw h.rw P) G h.all t in
     let from = value G k h.lw h.rw h.all t x in (
       (λ w. from.0 w ∙ h.left_is t, λ e. subst (IsLeftWall G k t) (h.left_is t ∙ sym e) to.0),
       (λ w. from.1 w ∙ h.right_is t, λ e. subst (IsRightWall G k t) (h.right_is t ∙ sym e) to.1),
