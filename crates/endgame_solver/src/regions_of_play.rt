@@ -31,7 +31,8 @@ pub(crate) struct Opening {
 pub(crate) fn opening_of(alloc: Global, setup: &Setup, tax: bool) -> Result<Opening, AllocError>
     requires { IsFit setup.now }
     ensures opens { IfOk result (λ opening. OpensAs setup.now tax opening.whole) }
-    ensures regions { IfOk result (λ opening. AreRegionsOfPlay setup.now.board opening.regions.items) }
+    ensures regions { IfOk result
+        (λ opening. AreRegionsOfPlay setup.now.board opening.regions.items) }
     ensures local { IfOk result (λ opening. (r : Region) → Contains opening.regions.items r
         → PlaysLocally setup.now.board r) }
     ensures few { length setup.now.board.cells ≤ MOST_POINTS }
