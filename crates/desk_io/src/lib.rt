@@ -2,6 +2,7 @@
 #![tactic(auto)]
 
 mod adapters;
+mod calls;
 mod file_shelf;
 mod lines;
 mod memory;

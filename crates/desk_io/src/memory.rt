@@ -4,6 +4,7 @@ ghost use Rattle.std.specs.Io.{ReadsAtMost};
 ghost use Rattle.desk_io.specs.Outside.{Appends, HasCause, TakesBytes};
 ghost use Rattle.desk_io.specs.Memory.{MemorySource, MemorySink, counted, fails_next, uncalled, written};
 
+use crate::calls::CallCounter;
 use crate::{Failed, Sink, Source};
 use std::alloc::{AllocError, Global};
 use std::marker::Model;
@@ -14,9 +15,7 @@ pub struct MemorySource {
     bytes: Vec<u8>,
     at: usize,
     piece: usize,
-    failing: Vec<u64>,
-    calls: u64,
-    faults: u64,
+    calls: CallCounter,
 }
 
 impl Model for MemorySource {
@@ -25,7 +24,7 @@ impl Model for MemorySource {
     ghost view = { λ s. record {
       left = drop s.at s.bytes.items;
       piece = s.piece;
-      calls = record { next = s.calls; failing = s.failing.items; faults = s.faults };
+      calls = s.calls;
     } };
 
     ghost invariant = { λ s. (s.at ≤ vec_len s.bytes) × (1 ≤ s.piece) };
@@ -46,9 +45,7 @@ impl MemorySource {
             bytes,
             at: 0,
             piece,
-            failing,
-            calls: 0,
-            faults: 0,
+            calls: CallCounter::new(failing),
         }
     }
 }
@@ -66,10 +63,7 @@ impl Source for MemorySource {
         ensures piece { IfOk result (λ n. n ≤ self.old.piece) }
         ensures same_piece { self.new.piece ≡ self.old.piece }
     {
-        let call = self.calls;
-        self.calls = call.saturating_add(1);
-        if self.failing.contains(&call) {
-            self.faults = self.faults.saturating_add(1);
+        if self.calls.count() {
             return Err(Failed);
         }
         let rest = &self.bytes[self.at..];
@@ -85,9 +79,7 @@ impl Source for MemorySource {
 pub struct MemorySink {
     bytes: Vec<u8>,
     room: usize,
-    failing: Vec<u64>,
-    calls: u64,
-    faults: u64,
+    calls: CallCounter,
 }
 
 impl Model for MemorySink {
@@ -96,7 +88,7 @@ impl Model for MemorySink {
     ghost view = { λ s. record {
       bytes = s.bytes.items;
       room = s.room;
-      calls = record { next = s.calls; failing = s.failing.items; faults = s.faults };
+      calls = s.calls;
     } };
 
     ghost invariant = { λ s. vec_len s.bytes + s.room ≤ vec_capacity s.bytes };
@@ -111,9 +103,7 @@ impl MemorySink {
         Ok(MemorySink {
             bytes: Vec::with_capacity(alloc, room)?,
             room,
-            failing,
-            calls: 0,
-            faults: 0,
+            calls: CallCounter::new(failing),
         })
     }
 
@@ -135,17 +125,14 @@ impl Sink for MemorySink {
             (length bytes.now)) }
         ensures after { self.new ≡ written self.old bytes.now (is_err result) }
     {
-        let call = self.calls;
-        self.calls = call.saturating_add(1);
-        if self.failing.contains(&call) {
-            self.faults = self.faults.saturating_add(1);
+        if self.calls.count() {
             return Err(Failed);
         }
         let count = bytes.len().min(self.room);
         self.bytes.extend_from_slice(&bytes[..count]).unwrap();
         self.room -= count;
         if count < bytes.len() {
-            self.faults = self.faults.saturating_add(1);
+            self.calls.add_fault();
             return Err(Failed);
         }
         Ok(())

@@ -1,10 +1,12 @@
 // A shelf in memory, whose loads fail where they are told to.
-ghost use Rattle.std.specs.Prelude.{◌≡◌, [], ◌∷◌, ◌++◌, Some, OnOk, OnErr};
+ghost use Rattle.std.specs.Prelude.{◌≡◌, [], ◌∷◌, ◌++◌, false, Some, OnOk, OnErr};
 ghost use Rattle.std.specs.FinMap as map;
 ghost use Rattle.desk_io.specs.Files.{FailsByCount, Loads, has_failed, told_file};
+ghost use Rattle.desk_io.specs.Files.Told.{holding};
 ghost use Rattle.desk_io.specs.Memory.{MemoryShelf, counted, fails_next, shelf_code, uncalled};
 ghost use Rattle.desk_io.specs.inner.Memory.{files_in};
 
+use crate::calls::CallCounter;
 use crate::{LoadError, Loaded, Shelf};
 use std::alloc::{AllocError, Global};
 use std::collections::BTreeMap;
@@ -14,9 +16,7 @@ use std::marker::Model;
 #[derive(Debug, Drop)]
 pub struct MemoryShelf {
     files: BTreeMap<String, Vec<u8>>,
-    failing: Vec<u64>,
-    calls: u64,
-    faults: u64,
+    calls: CallCounter,
 }
 
 impl Model for MemoryShelf {
@@ -26,7 +26,7 @@ impl Model for MemoryShelf {
 
     ghost view = { λ s. record {
       files = files_in s.files;
-      calls = record { next = s.calls; failing = s.failing.items; faults = s.faults };
+      calls = s.calls;
     } };
 }
 
@@ -38,9 +38,7 @@ impl MemoryShelf {
     {
         MemoryShelf {
             files: BTreeMap::new(alloc),
-            failing: Vec::new(alloc),
-            calls: 0,
-            faults: 0,
+            calls: CallCounter::new(Vec::new(alloc)),
         }
     }
 
@@ -52,7 +50,7 @@ impl MemoryShelf {
         }) }
         ensures err { OnErr result (self.new ≡ self.old) }
     {
-        let name = String::from_str(*self.failing.allocator(), name)?;
+        let name = String::from_str(self.calls.allocator(), name)?;
         self.files.insert(name, bytes)?;
         Ok(())
     }
@@ -68,8 +66,21 @@ impl MemoryShelf {
             }) }
         ensures err { OnErr result (self.new ≡ self.old) }
     {
-        Ok(self.failing.push(call)?)
+        self.calls.fail_at(call)
     }
+}
+
+/// Appends the bytes of a file, up to a limit.
+fn copy(file: &[u8], limit: usize, out: &mut Vec<u8>) -> Result<Loaded, LoadError>
+    ensures bytes { Loads (holding file.now) limit out.old.items out.new.items result }
+    ensures memory { has_failed result ≡ false }
+{
+    if file.len() > limit {
+        out.extend_from_slice(&file[..limit])?;
+        return Ok(Loaded::Longer);
+    }
+    out.extend_from_slice(file)?;
+    Ok(Loaded::Whole)
 }
 
 impl Shelf for MemoryShelf {
@@ -92,20 +103,12 @@ impl Shelf for MemoryShelf {
               (fails_next self.old.calls);
         } }
     {
-        let call = self.calls;
-        self.calls = call.saturating_add(1);
-        if self.failing.contains(&call) {
-            self.faults = self.faults.saturating_add(1);
+        if self.calls.count() {
             return Err(LoadError::Failed);
         }
         let Some(bytes) = self.files.get(name) else {
             return Err(LoadError::Absent);
         };
-        if bytes.len() > limit {
-            out.extend_from_slice(&bytes[..limit])?;
-            return Ok(Loaded::Longer);
-        }
-        out.extend_from_slice(bytes)?;
-        Ok(Loaded::Whole)
+        copy(bytes, limit, out)
     }
 }
