@@ -95,6 +95,17 @@ impl Components {
         Ok(())
     }
 
+    /// Tells the component of the position that waits last, which is alone in it or not.
+    fn tell_last(&mut self, edges: &EdgeLists, alone: bool) -> Option<usize>
+        requires under_way { IsUnderWay edges.now self.old }
+        ensures { IsUnderWay edges.now self.new }
+    {
+        let member = self.waiting.pop()?;
+        self.numbers[member] = usize::MAX;
+        self.on_cycle[member] = !alone;
+        Some(member)
+    }
+
     /// Tells the component of a position that none of its moves led back behind.
     fn tell(&mut self, edges: &EdgeLists, node: usize)
         requires under_way { IsUnderWay edges.now self.old }
@@ -102,12 +113,7 @@ impl Components {
     {
         let alone = self.waiting.last() == Some(&node);
         'telling: for _member in 0..self.waiting.len() {
-            let Some(member) = self.waiting.pop() else {
-                return;
-            };
-            self.numbers[member] = usize::MAX;
-            self.on_cycle[member] = !alone;
-            if member == node {
+            if self.tell_last(edges, alone) == Some(node) {
                 return;
             }
         }

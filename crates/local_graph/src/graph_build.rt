@@ -161,6 +161,14 @@ fn await_new(
     Ok(())
 }
 
+/// The edges that were found, the span of them that is each position's, and the places that wait for their edges.
+#[derive(Drop)]
+struct Exploration {
+    edges: Vec<Edge>,
+    spans: Vec<Span>,
+    waiting: Vec<usize>,
+}
+
 /// All positions that are reachable, and their moves. The position that was found last comes next, so that what stands
 /// side by side is used one after the other by the passes to come.
 pub(crate) fn explore<L: Ledger>(
@@ -179,25 +187,35 @@ pub(crate) fn explore<L: Ledger>(
     ensures limited { steps.new ≤ steps.old + limit }
     ensures finite { steps.new ≤ steps.old + 3 ^ length region.now.points }
 {
-    let mut edges = Vec::new(alloc);
-    let mut spans = Vec::new(alloc);
-    let mut waiting = Vec::new(alloc);
+    let mut found = Exploration {
+        edges: Vec::new(alloc),
+        spans: Vec::new(alloc),
+        waiting: Vec::new(alloc),
+    };
     new_place(alloc, table, start(region), limit)?;
-    await_new(&mut spans, &mut waiting, table.positions.len())?;
+    await_new(&mut found.spans, &mut found.waiting, table.positions.len())?;
     let links = Links::of(region);
     let weights = powers();
     let mut moves = Vec::new(alloc);
-    'exploring: while let Some(place) = waiting.pop() {
+    'exploring: while let Some(place) = found.waiting.pop() {
         let position = table.positions[place];
         list_moves(&links, Local(position), steps, &mut moves)?;
-        let first = edges.len();
+        let first = found.edges.len();
         let from = Local(position);
-        list_edges(alloc, table, &weights, from, &moves, limit, &mut edges)?;
-        let end = edges.len();
-        spans[place] = Span { start: first, end };
-        await_new(&mut spans, &mut waiting, table.positions.len())?;
+        list_edges(
+            alloc,
+            table,
+            &weights,
+            from,
+            &moves,
+            limit,
+            &mut found.edges,
+        )?;
+        let end = found.edges.len();
+        found.spans[place] = Span { start: first, end };
+        await_new(&mut found.spans, &mut found.waiting, table.positions.len())?;
     }
-    Ok(EdgeLists::of(edges, spans))
+    Ok(EdgeLists::of(found.edges, found.spans))
 }
 
 /// The positions found, as a list alone: what finds their places is given back.

@@ -22,17 +22,17 @@ new_place-requires-clause-numbered g c =
 pub exploring-init : goal.exploring-init
 exploring-init g c =
     let full : c.len.result ≡ length c.new_place.new.table.positions.items = omega (arith, c.len.ensures, c.new_place.new.table.positions.ok) in
-    let edges = c.new-edges.result.items in
+    let edges = c.new.result.items in
     let awaited = c.in_ok-await_new.ensures.awaited edges in
-    let first = start_found c.args.region.now.touch c.args.region.now.cells c.args.limit _ _ _ _ _ (lists_of edges c.new-spans.result.items) _ _ _
-    c.requires.none c.start.ensures.packed (ap (lists_of edges) c.new-spans.ensures.items) c.new-waiting.ensures.items c.in_ok-new_place.ensures.placed full awaited in
+    let first = start_found c.args.region.now.touch c.args.region.now.cells c.args.limit _ _ _ _ _ (lists_of edges c.new-2.result.items) _ _ _
+    c.requires.none c.start.ensures.packed (ap (lists_of edges) c.new-2.ensures.items) c.new-3.ensures.items c.in_ok-new_place.ensures.placed full awaited in
     record {
       table = c.in_ok-new_place.ensures.table;
       numbers = c.in_ok-new_place.ensures.numbers ∙ c.requires.numbers;
       so_far = first;
-      within = c.in_ok-await_new.ensures.within (length edges) (none_within (length edges) _ c.new-spans.ensures.items);
+      within = c.in_ok-await_new.ensures.within (length edges) (none_within (length edges) _ c.new-2.ensures.items);
       fewer = few_numbers c.args.region.now.touch c.args.region.now.cells c.args.limit (length c.args.region.now.points) _ _ _ first c.start.ensures.full;
-      counted = omega (arith, awaited.many, ap (λ s. length (lists_of edges s)) c.new-spans.ensures.items, ap length c.new-waiting.ensures.items, full);
+      counted = omega (arith, awaited.many, ap (λ s. length (lists_of edges s)) c.new-2.ensures.items, ap length c.new-3.ensures.items, full);
     }
 
 pub index-position-requires : goal.index-position-requires
@@ -77,15 +77,15 @@ returns-in_err-list_edges-clause-graph g c =
     let moves = c.in_ok-list_moves.ensures.moves c.args.region.now.touch next.cells c.of-links.ensures.table full next.packed in
     let p = err_from_is_err_and c.from_residual-in_err-list_edges.result c.from_residual-in_err-list_edges.ensures.1 in
     rw (p.1, p.2)
-    (explored_fails _ _ _ _ _ _ _ c.deref.result.now (drop (length c.exploring.edges.items) c.list_edges.new.edges.items) _ s.reachable next
+    (explored_fails _ _ _ _ _ _ _ c.deref.result.now (drop (length c.exploring.found.edges.items) c.list_edges.new.edges.items) _ s.reachable next
     (rw c.deref.ensures.value moves) c.in_err-list_edges.ensures.edges)
 
 pub index_mut-requires : goal.index_mut-requires
 index_mut-requires g c =
     let s = c.exploring.invariant.so_far in
     let inside = last_waiting _ _ _ _ _ _ c.pop.new.self.items c.in-Some.place s c.in-Some.ensures.items in
-    let spans = c.exploring.spans in
-    omega (arith, inside, s.beside, length-map spans.items (part c.exploring.edges.items), spans.ok)
+    let spans = c.exploring.found.spans in
+    omega (arith, inside, s.beside, length-map spans.items (part c.exploring.found.edges.items), spans.ok)
 
 pub exploring-preserved : goal.exploring-preserved
 exploring-preserved g c =
@@ -95,11 +95,11 @@ exploring-preserved g c =
     let next = next_position c.args.region.now.touch c.args.region.now.cells _ _ _ s.reachable inside c.index-position.ensures in
     let full = next.long ∙ c.start.ensures.full ∙ sym c.of-links.ensures.full in
     let moves = c.in_ok-list_moves.ensures.moves c.args.region.now.touch next.cells c.of-links.ensures.table full next.packed in
-    let edges = c.exploring.edges.items in
+    let edges = c.exploring.found.edges.items in
     let after = c.list_edges.new.edges in
     let behind = drop (length edges) after.items in
-    let spans = c.exploring.spans.items in
-    let from : c.len-first.result ≡ length edges = omega (arith, c.len-first.ensures, c.exploring.edges.ok) in
+    let spans = c.exploring.found.spans.items in
+    let from : c.len-first.result ≡ length edges = omega (arith, c.len-first.ensures, c.exploring.found.edges.ok) in
     let to : c.len-end.result ≡ length after.items = omega (arith, c.len-end.ensures, after.ok) in
     let span : Span = record { start = c.len-first.result; end = c.len-end.result } in
     let put = lists_put edges behind after.items spans _ span c.in-Some.place c.exploring.invariant.within c.in_ok-list_edges.ensures.behind refl from to in
@@ -133,7 +133,7 @@ exploring-preserved g c =
 pub exploring-smaller : goal.exploring-smaller
 exploring-smaller g c =
     let s = c.exploring.invariant.so_far in
-    let spans = c.exploring.spans.items in
+    let spans = c.exploring.found.spans.items in
     let after = c.list_edges.new.edges.items in
     let found = c.list_edges.new.table.positions in
     let awaited = c.in_ok-await_new-2.ensures.awaited after in
@@ -146,7 +146,7 @@ exploring-smaller g c =
       found.ok,
       length-set spans c.in-Some.place (record { start = c.len-first.result; end = c.len-end.result }),
       length-map (set spans c.in-Some.place (record { start = c.len-first.result; end = c.len-end.result })) (part after),
-      length-map spans (part c.exploring.edges.items),
+      length-map spans (part c.exploring.found.edges.items),
       s.beside,
       ap length c.in-Some.ensures.items,
       length_push c.pop.new.self.items c.in-Some.place,
@@ -154,5 +154,5 @@ exploring-smaller g c =
 
 pub returns-clause-graph : goal.returns-clause-graph
 returns-clause-graph g c =
-    let none : length c.exploring.waiting.items ≡ 0 = omega (arith, c.in_default.ensures.cases.0, c.exploring.waiting.ok) in
+    let none : length c.exploring.found.waiting.items ≡ 0 = omega (arith, c.in_default.ensures.cases.0, c.exploring.found.waiting.ok) in
     explored_all _ _ _ _ _ _ _ c.exploring.invariant.so_far none c.of.ensures

@@ -8,11 +8,11 @@ abbrev pub invariant-exploring : goal.invariant-exploring
 invariant-exploring g l = record {
   table : IsPlaceTable l.table;
   numbers : l.table.numbers ≡ 3 ^ length l.region.points;
-  so_far : Exploring l.region.touch l.region.cells l.fn.limit l.table.positions.items (lists_of l.edges.items l.spans.items) l.waiting.items;
-  within : AreWithin (length l.edges.items) l.spans.items;
+  so_far : Exploring l.region.touch l.region.cells l.fn.limit l.table.positions.items (lists_of l.found.edges.items l.found.spans.items) l.found.waiting.items;
+  within : AreWithin (length l.found.edges.items) l.found.spans.items;
   fewer : length l.table.positions.items ≤ 3 ^ length l.region.points;
-  counted : l.steps + length l.waiting.items ≡ l.initial.steps + length l.table.positions.items;
+  counted : l.steps + length l.found.waiting.items ≡ l.initial.steps + length l.table.positions.items;
 }
 
 abbrev pub decreases-exploring : goal.decreases-exploring
-decreases-exploring g l = l.fn.limit + length l.waiting.items - length l.table.positions.items
+decreases-exploring g l = l.fn.limit + length l.found.waiting.items - length l.table.positions.items
