@@ -166,41 +166,6 @@ impl Breadth {
             None => Ok(0),
         }
     }
-
-    /// Takes the way to a position and from there back to it for the best, if it is the first or has fewer moves.
-    fn return_to(
-        &mut self,
-        alloc: Global,
-        edges: &EdgeLists,
-        opening: &[Step],
-        at: usize,
-        marks: &mut Marks,
-        best: &mut RoundTrip,
-    ) -> Result<(), AllocError>
-        requires rooted { IsRooted edges.now }
-        requires ready { IsReady edges.now self.old }
-        requires at { at < length opening.now }
-        requires inside { All (λ s. s.node < length edges.now) opening.now }
-        ensures { OnOk result (IsReady edges.now self.new) }
-    {
-        let step = opening[at];
-        let most = match best.path.len().checked_sub(1) {
-            Some(fewer) => fewer.saturating_sub(step.moves),
-            None => usize::MAX,
-        };
-        set_mark(&mut marks.targets, step.node, true);
-        let found = self.spread(edges, step.node, &marks.left_out, &marks.targets, most)?;
-        set_mark(&mut marks.targets, step.node, false);
-        let Some(found) = found else {
-            return Ok(());
-        };
-        best.path.clear();
-        add_way(alloc, &mut best.path, opening, at)?;
-        add_way(alloc, &mut best.path, &self.steps, found.at)?;
-        best.path.push(found.last)?;
-        best.node = step.node;
-        Ok(())
-    }
 }
 
 /// Puts the frames of the way that the steps took to the one at a place behind others.
@@ -248,6 +213,86 @@ pub(crate) struct RoundTrip {
     pub(crate) node: usize,
 }
 
+/// The search for the path that returns soonest: the way around from a position, what is left out and looked for, and the
+/// best path so far.
+#[derive(Drop)]
+struct Returning {
+    around: Breadth,
+    marks: Marks,
+    best: RoundTrip,
+}
+
+impl Returning {
+    /// Before a position was tried.
+    fn new(alloc: Global, edges: &EdgeLists) -> Result<Returning, AllocError>
+        ensures { IfOk result (λ r. IsReady edges.now r.around) }
+    {
+        let marks = Marks {
+            left_out: vec![in alloc; false; edges.len()]?,
+            targets: vec![in alloc; false; edges.len()]?,
+        };
+        Ok(Returning {
+            around: Breadth::new(alloc, edges)?,
+            marks,
+            best: RoundTrip {
+                path: Vec::new(alloc),
+                node: 0,
+            },
+        })
+    }
+
+    /// The way from a position back to it, if it has at most so many moves.
+    fn way_around(
+        &mut self,
+        edges: &EdgeLists,
+        node: usize,
+        most: usize,
+    ) -> Result<Option<Found>, AllocError>
+        requires rooted { IsRooted edges.now }
+        requires ready { IsReady edges.now self.old.around }
+        requires inside { node < length edges.now }
+        ensures { OnOk result (IsReady edges.now self.new.around) }
+    {
+        let marks = &mut self.marks;
+        set_mark(&mut marks.targets, node, true);
+        let found = self
+            .around
+            .spread(edges, node, &marks.left_out, &marks.targets, most)?;
+        set_mark(&mut marks.targets, node, false);
+        Ok(found)
+    }
+
+    /// Takes the way to a position and from there back to it for the best, if it is the first or has fewer moves.
+    fn return_to(
+        &mut self,
+        alloc: Global,
+        edges: &EdgeLists,
+        opening: &[Step],
+        at: usize,
+    ) -> Result<(), AllocError>
+        requires rooted { IsRooted edges.now }
+        requires ready { IsReady edges.now self.old.around }
+        requires at { at < length opening.now }
+        requires inside { All (λ s. s.node < length edges.now) opening.now }
+        ensures { OnOk result (IsReady edges.now self.new.around) }
+    {
+        let step = opening[at];
+        let most = match self.best.path.len().checked_sub(1) {
+            Some(fewer) => fewer.saturating_sub(step.moves),
+            None => usize::MAX,
+        };
+        let Some(found) = self.way_around(edges, step.node, most)? else {
+            return Ok(());
+        };
+        self.best.path.clear();
+        add_way(alloc, &mut self.best.path, opening, at)?;
+        add_way(alloc, &mut self.best.path, &self.around.steps, found.at)?;
+        self.best.path.push(found.last)?;
+        self.best.node = step.node;
+        Ok(())
+    }
+}
+
 /// Of the paths that return, one with the fewest moves before the position that returns, and of those one with
 /// the fewest moves: a position that was tried is left out from then on. It is looked for and not proved to be one: who shows it checks that it returns.
 pub(crate) fn soonest_return(alloc: Global, edges: &EdgeLists) -> Result<RoundTrip, AllocError>
@@ -257,20 +302,12 @@ pub(crate) fn soonest_return(alloc: Global, edges: &EdgeLists) -> Result<RoundTr
     let mut breadth = Breadth::new(alloc, edges)?;
     let moves = breadth.moves_to_first(edges, &on_cycle)?;
     breadth.spread(edges, 0, &[], &[], moves)?;
-    let mut around = Breadth::new(alloc, edges)?;
-    let mut marks = Marks {
-        left_out: vec![in alloc; false; edges.len()]?,
-        targets: vec![in alloc; false; edges.len()]?,
-    };
-    let mut best = RoundTrip {
-        path: Vec::new(alloc),
-        node: 0,
-    };
+    let mut returning = Returning::new(alloc, edges)?;
     'returning: for (at, step) in breadth.steps.iter().enumerate() {
         if step.moves == moves && on_cycle[step.node] {
-            around.return_to(alloc, edges, &breadth.steps, at, &mut marks, &mut best)?;
+            returning.return_to(alloc, edges, &breadth.steps, at)?;
         }
-        set_mark(&mut marks.left_out, step.node, true);
+        set_mark(&mut returning.marks.left_out, step.node, true);
     }
-    Ok(best)
+    Ok(returning.best)
 }
