@@ -1,7 +1,7 @@
 -- The links of a region as sets, and floods along them.
-use Rattle.std.proofs.Common.{◌≡◌, ℕ, ◌+◌, ◌<◌, ◌≤◌, ◌⊎◌, ◌↔◌, inl, inr, arith, refl, sym, ap, ◌∙◌, List, length, get_or, replicate, Option, Some, None, subst}
+use Rattle.std.proofs.Common.{◌≡◌, ℕ, ◌+◌, ◌<◌, ◌≤◌, ◌⊎◌, ◌↔◌, inl, inr, arith, refl, sym, ap, ◌∙◌, List, length, get_or, set, replicate, Option, Some, None, subst}
 use Rattle.std.proofs.lemmas.Bool.{cases_eq, cases_lt}
-use Rattle.std.proofs.lemmas.List.{get_or_past, length-replicate, get_or-replicate}
+use Rattle.std.proofs.lemmas.List.{get_or_past, get_or-replicate, get_or-set_other, get_or-set_same, length-replicate, length-set}
 use Rattle.go_grid.specs.declared.grid.Cell.{Cell}
 use Rattle.go_grid.specs.declared.grid.Colour.TheVariants as colour
 use Rattle.go_grid.specs.declared.region.Touch.{Touch}
@@ -9,7 +9,7 @@ use Rattle.go_grid.specs.Region.{nothing_near, touch_at, IsRegion}
 use Rattle.go_grid.specs.Path.{HasPath}
 use Rattle.go_grid.proofs.LinkLemmas.{link_at, linked_to, same_point}
 use Rattle.go_grid.proofs.PathLemmas.{carried, leads_here, leads_step}
-use Rattle.local_play.specs.LocalPlay.{IsLinked}
+use Rattle.local_play.specs.LocalPlay.{IsBeside, IsLinked}
 use Rattle.local_play.specs.declared.places.Places.{Places}
 use Rattle.local_play.specs.declared.links.Links.{Links}
 use Rattle.local_play.specs.Places.{Has}
@@ -198,3 +198,52 @@ link_small columns rows points cells touch t i r few at j link =
     let within = links_within columns rows points cells touch r few in
     let linked : IsLinked touch i j = subst (λ x. IsLinkOf x j) at link in
     omega (arith, within.few, within.inside i j linked)
+
+-- the places that one more was added to, below the next number
+marked_more : (old new : Places) (place : ℕ) (P : ℕ → Type 0) → ((q : ℕ) → Has new q ↔ (Has old q ⊎ ((q ≡ place) × P place)))
+    → ((q : ℕ) → Has old q ↔ ((q < place) × P q)) → (q : ℕ) → Has new q ↔ ((q < place + 1) × P q)
+marked_more old new place P is_new was q = (to, from) where
+  to : Has new q → (q < place + 1) × P q
+  to h = elim ((is_new q).0 h) [
+    | inl before ↦ let w = (was q).0 before in (omega (arith, w.0), w.1)
+    | inr (e, here) ↦ (omega (arith, e), subst P (sym e) here)
+  ]
+
+  from : (q < place + 1) × P q → Has new q
+  from (lt, is) = elim (cases_eq q place) [
+    | inl e ↦ (is_new q).1 (inr (e, subst P e is))
+    | inr apart ↦ (is_new q).1 (inl ((was q).1 (omega (arith, lt, apart), is)))
+  ]
+
+-- a place more, with the sets that its touch says
+pub table_more : (touches : List Touch) (links : Links) (place : ℕ) (near all black white : Places) → place < 32
+    → ((q : ℕ) → Has near q ↔ IsLinked touches place q) → ((q : ℕ) → Has all q ↔ (Has links.all q ⊎ (q ≡ place)))
+    → ((q : ℕ) → Has black q ↔ (Has links.black q ⊎ ((q ≡ place) × IsBeside touches colour.Black place)))
+    → ((q : ℕ) → Has white q ↔ (Has links.white q ⊎ ((q ≡ place) × IsBeside touches colour.White place)))
+    → IsTableBelow touches links place
+    → IsTableBelow touches (record { near = set links.near place near; all = all; black = black; white = white }) (place + 1)
+table_more touches links place near all black white small is_near is_all is_black is_white below = record {
+  long = length-set links.near place near ∙ below.long;
+  near = λ i j lt.
+      let near_after = λ (k : ℕ). get_or (set links.near place near) k (record { 0 = 0 }) in
+      elim (cases_eq i place) as (λ _. Has (near_after i) j ↔ ((i < place + 1) × IsLinked touches i j)) [
+        | inl e ↦
+            let here : near_after i ≡ near = ap near_after e ∙ get_or-set_same links.near place near (record { 0 = 0 }) (omega (arith, small, below.long)) in (
+              λ h. (omega (arith, e), subst (λ k. IsLinked touches k j) (sym e) ((is_near j).0 (subst (λ s. Has s j) here h))),
+              λ w. subst (λ s. Has s j) (sym here) ((is_near j).1 (subst (λ k. IsLinked touches k j) e w.1)),
+            )
+        | inr apart ↦
+            let there : near_after i ≡ near_at links i = get_or-set_other links.near place i near (record { 0 = 0 }) apart in (
+              λ h. let w = (below.near i j lt).0 (subst (λ s. Has s j) there h) in (omega (arith, w.0), w.1),
+              λ w. subst (λ s. Has s j) (sym there) ((below.near i j lt).1 (omega (arith, w.0, apart), w.1)),
+            )
+      ];
+  all = λ i. (λ h. ((marks i).0 h).0, λ lt. (marks i).1 (lt, tt));
+  black = marked_more links.black black place (IsBeside touches colour.Black) is_black below.black;
+  white = marked_more links.white white place (IsBeside touches colour.White) is_white below.white;
+}
+  where
+    marks : (i : ℕ) → Has all i ↔ ((i < place + 1) × Unit {0})
+    marks = marked_more links.all all place (λ _. Unit {0})
+        (λ q. (λ h. elim ((is_all q).0 h) [ inl old ↦ inl old | inr e ↦ inr (e, tt) ], λ w. (is_all q).1 (elim w [ inl old ↦ inl old | inr here ↦ inr here.0 ])))
+        (λ q. (λ h. ((below.all q).0 h, tt), λ w. (below.all q).1 w.0))
