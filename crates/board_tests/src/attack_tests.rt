@@ -54,22 +54,24 @@ fn attacked(board: &mut Board, stone: Point) -> Result<Outcome, AllocError> {
     }
 }
 
+/// A board by its columns and rows, its cells, a stone, and what comes of the attack on it.
+const ATTACKS: [(u8, u8, &[u8], u16, Outcome); 8] = [
+    (3, 2, b".X.XXX", 1, Outcome::Alive),
+    (3, 2, b".XXXXX", 1, Outcome::Taken(1)),
+    (4, 1, b".X..", 1, Outcome::Taken(2)),
+    (4, 1, b"..X.", 2, Outcome::Taken(2)),
+    (5, 1, b".X.X.", 1, Outcome::Alive),
+    // Both regions of the first chain are vital to it, and the wall of one of them falls first.
+    (4, 1, b".X.X", 1, Outcome::Taken(2)),
+    (4, 1, b"....", 1, Outcome::NoStone),
+    // Twelve chains, each of which waits for the one on its right.
+    (24, 1, b".X.X.X.X.X.X.X.X.X.X.X.X", 1, Outcome::Taken(12)),
+];
+
 #[test]
 fn attacks(rt: HostRuntime) -> Result<(), AllocError> {
     let alloc = rt.alloc();
-    let rows: [(u8, u8, &[u8], u16, Outcome); 8] = [
-        (3, 2, b".X.XXX", 1, Outcome::Alive),
-        (3, 2, b".XXXXX", 1, Outcome::Taken(1)),
-        (4, 1, b".X..", 1, Outcome::Taken(2)),
-        (4, 1, b"..X.", 2, Outcome::Taken(2)),
-        (5, 1, b".X.X.", 1, Outcome::Alive),
-        // Both regions of the first chain are vital to it, and the wall of one of them falls first.
-        (4, 1, b".X.X", 1, Outcome::Taken(2)),
-        (4, 1, b"....", 1, Outcome::NoStone),
-        // Twelve chains, each of which waits for the one on its right.
-        (24, 1, b".X.X.X.X.X.X.X.X.X.X.X.X", 1, Outcome::Taken(12)),
-    ];
-    for (columns, height, drawing, stone, want) in rows {
+    for (columns, height, drawing, stone, want) in ATTACKS {
         let mut board = board(alloc, columns, height, drawing)?;
         assert!(rt; attacked(&mut board, Point(stone))? == want);
     }

@@ -27,16 +27,18 @@ fn written_of_four(alloc: Global, piece: &[u8]) -> Result<(Result<(), Failed>, M
     Ok((answer, sink))
 }
 
+/// What is written, what comes of it, and what the sink has got then.
+const WRITES: [(&[u8], Result<(), Failed>, &[u8]); 4] = [
+    (b"solve", Err(Failed), b"solv"),
+    (b"end", Ok(()), b"end"),
+    (b"four", Ok(()), b"four"),
+    (b"", Ok(()), b""),
+];
+
 #[test]
 fn memory_sink_takes_what_fits(rt: HostRuntime) -> Result<(), Fail> {
     let alloc = rt.alloc();
-    let table: [(&[u8], Result<(), Failed>, &[u8]); 4] = [
-        (b"solve", Err(Failed), b"solv"),
-        (b"end", Ok(()), b"end"),
-        (b"four", Ok(()), b"four"),
-        (b"", Ok(()), b""),
-    ];
-    for (piece, answer, written) in table {
+    for (piece, answer, written) in WRITES {
         let (got, sink) = written_of_four(alloc, piece)?;
         assert_eq!(rt; got, answer);
         assert_eq!(rt; sink.written(), written);

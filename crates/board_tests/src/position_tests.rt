@@ -95,33 +95,35 @@ fn drawn(alloc: Global, board: &Board) -> Result<Vec<u8>, AllocError> {
     Ok(letters)
 }
 
+/// A value of `KM` and the komi that it names, in half points.
+const KOMI: [(&[u8], Option<i64>); 22] = [
+    (b"6.50", Some(13)),
+    (b"-0.5", Some(-1)),
+    (b".5", Some(1)),
+    (b"6.75", None),
+    (b"-0", Some(0)),
+    (b"+7.", Some(14)),
+    (b"6.", Some(12)),
+    (b"0.000", Some(0)),
+    (b"999999.5", Some(1999999)),
+    (b"-999999.5", Some(-1999999)),
+    (b"1000000", None),
+    (b"0000001", Some(2)),
+    (b"4294967296", None),
+    (b"", None),
+    (b".", None),
+    (b"-", None),
+    (b"+-1", None),
+    (b"1.05", None),
+    (b"1.5x", None),
+    (b" 1", None),
+    (b"1,5", None),
+    (b"1.5.", None),
+];
+
 #[test]
 fn komi(rt: HostRuntime) -> Result<(), Fail> {
-    let table: [(&[u8], Option<i64>); 22] = [
-        (b"6.50", Some(13)),
-        (b"-0.5", Some(-1)),
-        (b".5", Some(1)),
-        (b"6.75", None),
-        (b"-0", Some(0)),
-        (b"+7.", Some(14)),
-        (b"6.", Some(12)),
-        (b"0.000", Some(0)),
-        (b"999999.5", Some(1999999)),
-        (b"-999999.5", Some(-1999999)),
-        (b"1000000", None),
-        (b"0000001", Some(2)),
-        (b"4294967296", None),
-        (b"", None),
-        (b".", None),
-        (b"-", None),
-        (b"+-1", None),
-        (b"1.05", None),
-        (b"1.5x", None),
-        (b" 1", None),
-        (b"1,5", None),
-        (b"1.5.", None),
-    ];
-    for (text, want) in table {
+    for (text, want) in KOMI {
         assert_eq!(rt; read_komi(text), want);
     }
     Ok(())
@@ -223,55 +225,57 @@ fn last_point_of_a_large_board(rt: HostRuntime) -> Result<(), Fail> {
     Ok(())
 }
 
+/// A record and what is wrong with its setup.
+const FAULTS: [(&[u8], SetupFault); 34] = [
+    (b"(;GM[2])", SetupFault::WrongGame),
+    (b"(;GM[])", SetupFault::WrongGame),
+    (b"(;GM[2]SZ[26]KM[x])", SetupFault::WrongGame),
+    (b"(;SZ[26])", SetupFault::BadSize),
+    (b"(;SZ[26]KM[x]AB[zz])", SetupFault::BadSize),
+    (b"(;SZ[])", SetupFault::BadSize),
+    (b"(;SZ[0])", SetupFault::BadSize),
+    (b"(;SZ[005])", SetupFault::BadSize),
+    (b"(;SZ[5:])", SetupFault::BadSize),
+    (b"(;SZ[5:6:7])", SetupFault::BadSize),
+    (b"(;SZ[5: 6])", SetupFault::BadSize),
+    (b"(;KM[6.75])", SetupFault::BadKomi),
+    (b"(;SZ[2]KM[x]AB[zz])", SetupFault::BadKomi),
+    (b"(;SZ[3]AB[da])", SetupFault::BadPoint(0)),
+    (b"(;SZ[3]AW[ad];AB[da])", SetupFault::BadPoint(0)),
+    (b"(;SZ[3];AE[AA])", SetupFault::BadPoint(1)),
+    (b"(;SZ[3]AB[aa:da])", SetupFault::BadPoint(0)),
+    (b"(;SZ[3]AB[aa-ba])", SetupFault::BadPoint(0)),
+    (b"(;SZ[3]AB[aaa])", SetupFault::BadPoint(0)),
+    (b"(;SZ[3];;B[aa:aa])", SetupFault::BadPoint(2)),
+    (b"(;SZ[20:19];B[tt])", SetupFault::BadPoint(1)),
+    (b"(;SZ[3]B[zz]AB[da]PL[x])", SetupFault::BadPoint(0)),
+    (b"(;PL[x])", SetupFault::BadSide),
+    (b"(;PL[])", SetupFault::BadSide),
+    (b"(;SZ[3]B[zz]PL[x])", SetupFault::BadSide),
+    (b"(;SZ[3];B[aa];W[aa])", SetupFault::Occupied(2)),
+    (b"(;SZ[2:1]AB[aa:ba];W[aa])", SetupFault::Occupied(1)),
+    (b"(;SZ[2:2]AB[ba][ab];W[aa])", SetupFault::Suicide(1)),
+    (b"(;SZ[1]W[aa])", SetupFault::Suicide(0)),
+    (b"(;SZ[2:1]AB[aa]AW[ba])", SetupFault::NoLiberty(Point(0))),
+    (
+        b"(;SZ[4:1]AB[ba:da]AW[aa])",
+        SetupFault::NoLiberty(Point(0)),
+    ),
+    (
+        b"(;SZ[5:1]AB[ca]AW[ba][da])",
+        SetupFault::NoLiberty(Point(2)),
+    ),
+    (b"(;SZ[2:1]AB[aa:ba];PL[x])", SetupFault::BadSide),
+    (
+        b"(;SZ[3]AB[ba][bb]AW[aa][ab][bc][ca][cb])",
+        SetupFault::NoLiberty(Point(1)),
+    ),
+];
+
 #[test]
 fn faults(rt: HostRuntime) -> Result<(), Fail> {
     let alloc = rt.alloc();
-    let table: [(&[u8], SetupFault); 34] = [
-        (b"(;GM[2])", SetupFault::WrongGame),
-        (b"(;GM[])", SetupFault::WrongGame),
-        (b"(;GM[2]SZ[26]KM[x])", SetupFault::WrongGame),
-        (b"(;SZ[26])", SetupFault::BadSize),
-        (b"(;SZ[26]KM[x]AB[zz])", SetupFault::BadSize),
-        (b"(;SZ[])", SetupFault::BadSize),
-        (b"(;SZ[0])", SetupFault::BadSize),
-        (b"(;SZ[005])", SetupFault::BadSize),
-        (b"(;SZ[5:])", SetupFault::BadSize),
-        (b"(;SZ[5:6:7])", SetupFault::BadSize),
-        (b"(;SZ[5: 6])", SetupFault::BadSize),
-        (b"(;KM[6.75])", SetupFault::BadKomi),
-        (b"(;SZ[2]KM[x]AB[zz])", SetupFault::BadKomi),
-        (b"(;SZ[3]AB[da])", SetupFault::BadPoint(0)),
-        (b"(;SZ[3]AW[ad];AB[da])", SetupFault::BadPoint(0)),
-        (b"(;SZ[3];AE[AA])", SetupFault::BadPoint(1)),
-        (b"(;SZ[3]AB[aa:da])", SetupFault::BadPoint(0)),
-        (b"(;SZ[3]AB[aa-ba])", SetupFault::BadPoint(0)),
-        (b"(;SZ[3]AB[aaa])", SetupFault::BadPoint(0)),
-        (b"(;SZ[3];;B[aa:aa])", SetupFault::BadPoint(2)),
-        (b"(;SZ[20:19];B[tt])", SetupFault::BadPoint(1)),
-        (b"(;SZ[3]B[zz]AB[da]PL[x])", SetupFault::BadPoint(0)),
-        (b"(;PL[x])", SetupFault::BadSide),
-        (b"(;PL[])", SetupFault::BadSide),
-        (b"(;SZ[3]B[zz]PL[x])", SetupFault::BadSide),
-        (b"(;SZ[3];B[aa];W[aa])", SetupFault::Occupied(2)),
-        (b"(;SZ[2:1]AB[aa:ba];W[aa])", SetupFault::Occupied(1)),
-        (b"(;SZ[2:2]AB[ba][ab];W[aa])", SetupFault::Suicide(1)),
-        (b"(;SZ[1]W[aa])", SetupFault::Suicide(0)),
-        (b"(;SZ[2:1]AB[aa]AW[ba])", SetupFault::NoLiberty(Point(0))),
-        (
-            b"(;SZ[4:1]AB[ba:da]AW[aa])",
-            SetupFault::NoLiberty(Point(0)),
-        ),
-        (
-            b"(;SZ[5:1]AB[ca]AW[ba][da])",
-            SetupFault::NoLiberty(Point(2)),
-        ),
-        (b"(;SZ[2:1]AB[aa:ba];PL[x])", SetupFault::BadSide),
-        (
-            b"(;SZ[3]AB[ba][bb]AW[aa][ab][bc][ca][cb])",
-            SetupFault::NoLiberty(Point(1)),
-        ),
-    ];
-    for (file, want) in table {
+    for (file, want) in FAULTS {
         assert!(rt; file.len() < 100);
         let case = Case { file, ..PLAIN };
         match answer(alloc, &case) {

@@ -21,25 +21,27 @@ fn shown(alloc: Global, nodes: &[Node]) -> Result<Vec<u8>, Fail> {
     Ok(out)
 }
 
+/// A record and its main line.
+const MAIN_LINES: [(&[u8], &[u8]); 10] = [
+    (b"(;SZ[1])", b";SZ[1]"),
+    (b"text ( (\n ;SZ[9]) more (;", b";SZ[9]"),
+    (b"(;)", b";"),
+    (
+        b"(;A[1];B[2](;C[3];D[4](;E[5])(;F[6]))(;G[7]))",
+        b";A[1];B[2];C[3];D[4];E[5]",
+    ),
+    (b"(;A[1](;B[2])(;C[3]))", b";A[1];B[2]"),
+    (b"(;SiZe[9]size[7])", b";SZ[9][7]"),
+    (b"( ; AB [aa] [bb]\t\x0bC[d] ; )", b";AB[aa][bb]C[d];"),
+    (b"(;C[a\\]b\\\\c\\xd])", b";C[a]b\\cxd]"),
+    (b"(;C[])", b";C[]"),
+    (b"(;C[(;)[])", b";C[(;)[]"),
+];
+
 #[test]
 fn main_lines(rt: HostRuntime) -> Result<(), Fail> {
     let alloc = rt.alloc();
-    let table: [(&[u8], &[u8]); 10] = [
-        (b"(;SZ[1])", b";SZ[1]"),
-        (b"text ( (\n ;SZ[9]) more (;", b";SZ[9]"),
-        (b"(;)", b";"),
-        (
-            b"(;A[1];B[2](;C[3];D[4](;E[5])(;F[6]))(;G[7]))",
-            b";A[1];B[2];C[3];D[4];E[5]",
-        ),
-        (b"(;A[1](;B[2])(;C[3]))", b";A[1];B[2]"),
-        (b"(;SiZe[9]size[7])", b";SZ[9][7]"),
-        (b"( ; AB [aa] [bb]\t\x0bC[d] ; )", b";AB[aa][bb]C[d];"),
-        (b"(;C[a\\]b\\\\c\\xd])", b";C[a]b\\cxd]"),
-        (b"(;C[])", b";C[]"),
-        (b"(;C[(;)[])", b";C[(;)[]"),
-    ];
-    for (file, want) in table {
+    for (file, want) in MAIN_LINES {
         assert!(rt; file.len() < 100);
         match read(alloc, file) {
             Ok(tree) => assert_eq!(rt; shown(alloc, &tree.line)?.as_slice(), want),
@@ -49,28 +51,30 @@ fn main_lines(rt: HostRuntime) -> Result<(), Fail> {
     Ok(())
 }
 
+/// A record and why it is refused.
+const FAULTS: [(&[u8], TreeFault); 16] = [
+    (b"", TreeFault::NoTree),
+    (b"SZ[9]", TreeFault::NoTree),
+    (b"(( SZ", TreeFault::NoTree),
+    (b"(;SZ[8:2]AB[ba", TreeFault::CutShort),
+    (b"(;C[a\\", TreeFault::CutShort),
+    (b"(;SZ", TreeFault::CutShort),
+    (b"(;(;)", TreeFault::CutShort),
+    (b"((;(", TreeFault::CutShort),
+    (b"(;SZ[9]]", TreeFault::BadByte(7)),
+    (b"(;S Z[9])", TreeFault::BadByte(4)),
+    (b"(;SZ;)", TreeFault::BadByte(4)),
+    (b"(;(()))", TreeFault::BadByte(3)),
+    (b"(;(;);)", TreeFault::BadByte(5)),
+    (b"(;())", TreeFault::BadByte(3)),
+    (b"(;1[2])", TreeFault::BadByte(2)),
+    (b"(;[2])", TreeFault::BadByte(2)),
+];
+
 #[test]
 fn faults(rt: HostRuntime) -> Result<(), Fail> {
     let alloc = rt.alloc();
-    let table: [(&[u8], TreeFault); 16] = [
-        (b"", TreeFault::NoTree),
-        (b"SZ[9]", TreeFault::NoTree),
-        (b"(( SZ", TreeFault::NoTree),
-        (b"(;SZ[8:2]AB[ba", TreeFault::CutShort),
-        (b"(;C[a\\", TreeFault::CutShort),
-        (b"(;SZ", TreeFault::CutShort),
-        (b"(;(;)", TreeFault::CutShort),
-        (b"((;(", TreeFault::CutShort),
-        (b"(;SZ[9]]", TreeFault::BadByte(7)),
-        (b"(;S Z[9])", TreeFault::BadByte(4)),
-        (b"(;SZ;)", TreeFault::BadByte(4)),
-        (b"(;(()))", TreeFault::BadByte(3)),
-        (b"(;(;);)", TreeFault::BadByte(5)),
-        (b"(;())", TreeFault::BadByte(3)),
-        (b"(;1[2])", TreeFault::BadByte(2)),
-        (b"(;[2])", TreeFault::BadByte(2)),
-    ];
-    for (file, want) in table {
+    for (file, want) in FAULTS {
         assert!(rt; file.len() < 100);
         match read(alloc, file) {
             Err(SgfError::Fault(fault)) => assert_eq!(rt; fault, want),

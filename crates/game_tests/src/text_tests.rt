@@ -20,61 +20,62 @@ fn written(
 
 /// Texts of forms and what is written of them; among them games that the field names (Siegel, Combinatorial Game Theory),
 /// and corridors of one to five points.
+const TEXTS: [(&[u8], &[u8]); 39] = [
+    (b"0", b"0"),
+    (b"-3", b"-3"),
+    (b"-1/2", b"-1/2"),
+    (b"1152921504606846975", b"1152921504606846975"),
+    (b"3/1152921504606846976", b"3/1152921504606846976"),
+    (b"{|}", b"0"),
+    (b"{0|1}", b"1/2"),
+    (b"{1,2|}", b"3"),
+    (b"{|-1,0}", b"-2"),
+    (b"{{0|0}|{0|0}}", b"0"),
+    (b"{1,{0|0},1|{0|0}}", b"{1|*}"),
+    (b"{0,{0|0}|{0|0},0}", b"*2"),
+    (b"{1|-1}", b"+-1"),
+    (b"{1/2|-1/2}", b"+-1/2"),
+    (b"{-1|1}", b"0"),
+    (b"{1|0}", b"{1|0}"),
+    (b"{0|-1}", b"{0|-1}"),
+    (b"{3|1/2,-1/2,7}", b"{3|-1/2}"),
+    (b"{{3|-1},{2|0}|-5}", b"{{2|0},{3|-1}|-5}"),
+    (b"{{3|-1},{10|-20}|-50}", b"{{10|-20},{3|-1}|-50}"),
+    (b"{{0|1}|{1|{{3|5}|}}}", b"1"),
+    // the nimbers of 1 to 4
+    (b"{0|0}", b"*"),
+    (b"{0,{0|0}|0,{0|0}}", b"*2"),
+    (
+        b"{0,{0,{0|0}|0,{0|0}},{0|0}|0,{0,{0|0}|0,{0|0}},{0|0}}",
+        b"*3",
+    ),
+    (
+        b"{0,{0,{0,{0|0}|0,{0|0}},{0|0}|0,{0,{0|0}|0,{0|0}},{0|0}},{0,{0|0}|0,{0|0}},{0|0}|0,{0,{0,{0|0}|0,{0|0}},{0|0}|0,{0,{0|0}|0,{0|0}},{0|0}},{0,{0|0}|0,{0|0}},{0|0}}",
+        b"*4",
+    ),
+    // up, down, up star, double up and double up star
+    (b"{0|{0|0}}", b"^"),
+    (b"{{0|0}|0}", b"v"),
+    (b"{0,{0|0}|0}", b"{*,0|0}"),
+    (b"{0|{0,{0|0}|0}}", b"{0|{*,0|0}}"),
+    (b"{0|{0|{0|0}}}", b"{0|^}"),
+    // tiny and miny one, and switches
+    (b"{0|{0|-1}}", b"{0|{0|-1}}"),
+    (b"{{1|0}|0}", b"{{1|0}|0}"),
+    (b"{2|-2}", b"+-2"),
+    (b"{3|1}", b"{3|1}"),
+    // corridors
+    (b"{1|{0|0}}", b"{1|*}"),
+    (b"{2|{1|{0|0}}}", b"{2|{1|*}}"),
+    (b"{3|{2|{1|{0|0}}}}", b"{3|{2|{1|*}}}"),
+    (b"{4|{3|{2|{1|{0|0}}}}}", b"{4|{3|{2|{1|*}}}}"),
+    (b"{{{{{0|0}|-1}|-2}|-3}|-4}", b"{{{{*|-1}|-2}|-3}|-4}"),
+];
+
 #[test]
 fn texts(rt: HostRuntime) -> Result<(), Fail> {
     let alloc = rt.alloc();
-    let table: [(&[u8], &[u8]); 39] = [
-        (b"0", b"0"),
-        (b"-3", b"-3"),
-        (b"-1/2", b"-1/2"),
-        (b"1152921504606846975", b"1152921504606846975"),
-        (b"3/1152921504606846976", b"3/1152921504606846976"),
-        (b"{|}", b"0"),
-        (b"{0|1}", b"1/2"),
-        (b"{1,2|}", b"3"),
-        (b"{|-1,0}", b"-2"),
-        (b"{{0|0}|{0|0}}", b"0"),
-        (b"{1,{0|0},1|{0|0}}", b"{1|*}"),
-        (b"{0,{0|0}|{0|0},0}", b"*2"),
-        (b"{1|-1}", b"+-1"),
-        (b"{1/2|-1/2}", b"+-1/2"),
-        (b"{-1|1}", b"0"),
-        (b"{1|0}", b"{1|0}"),
-        (b"{0|-1}", b"{0|-1}"),
-        (b"{3|1/2,-1/2,7}", b"{3|-1/2}"),
-        (b"{{3|-1},{2|0}|-5}", b"{{2|0},{3|-1}|-5}"),
-        (b"{{3|-1},{10|-20}|-50}", b"{{10|-20},{3|-1}|-50}"),
-        (b"{{0|1}|{1|{{3|5}|}}}", b"1"),
-        // the nimbers of 1 to 4
-        (b"{0|0}", b"*"),
-        (b"{0,{0|0}|0,{0|0}}", b"*2"),
-        (
-            b"{0,{0,{0|0}|0,{0|0}},{0|0}|0,{0,{0|0}|0,{0|0}},{0|0}}",
-            b"*3",
-        ),
-        (
-            b"{0,{0,{0,{0|0}|0,{0|0}},{0|0}|0,{0,{0|0}|0,{0|0}},{0|0}},{0,{0|0}|0,{0|0}},{0|0}|0,{0,{0,{0|0}|0,{0|0}},{0|0}|0,{0,{0|0}|0,{0|0}},{0|0}},{0,{0|0}|0,{0|0}},{0|0}}",
-            b"*4",
-        ),
-        // up, down, up star, double up and double up star
-        (b"{0|{0|0}}", b"^"),
-        (b"{{0|0}|0}", b"v"),
-        (b"{0,{0|0}|0}", b"{*,0|0}"),
-        (b"{0|{0,{0|0}|0}}", b"{0|{*,0|0}}"),
-        (b"{0|{0|{0|0}}}", b"{0|^}"),
-        // tiny and miny one, and switches
-        (b"{0|{0|-1}}", b"{0|{0|-1}}"),
-        (b"{{1|0}|0}", b"{{1|0}|0}"),
-        (b"{2|-2}", b"+-2"),
-        (b"{3|1}", b"{3|1}"),
-        // corridors
-        (b"{1|{0|0}}", b"{1|*}"),
-        (b"{2|{1|{0|0}}}", b"{2|{1|*}}"),
-        (b"{3|{2|{1|{0|0}}}}", b"{3|{2|{1|*}}}"),
-        (b"{4|{3|{2|{1|{0|0}}}}}", b"{4|{3|{2|{1|*}}}}"),
-        (b"{{{{{0|0}|-1}|-2}|-3}|-4}", b"{{{{*|-1}|-2}|-3}|-4}"),
-    ];
-    for (text, want) in table {
+    for (text, want) in TEXTS {
         match written(alloc, text, 100) {
             Ok(Ok(found)) => assert_eq!(rt; found.as_slice(), want),
             Ok(Err(_)) => assert!(rt; false),
@@ -84,25 +85,27 @@ fn texts(rt: HostRuntime) -> Result<(), Fail> {
     Ok(())
 }
 
+/// The text of a game in braces, and with names.
+const BOTH_EDITIONS: [(&[u8], &[u8]); 12] = [
+    (b"{0|{0|0}}", b"^"),
+    (b"{{0|0}|0}", b"v"),
+    (b"{0|0}", b"*"),
+    (b"{0,{0|0}|0,{0|0}}", b"*2"),
+    (b"{*,*2,0|0,*2,*}", b"*3"),
+    (b"{2|-2}", b"+-2"),
+    (b"{1/2|-1/2}", b"+-1/2"),
+    (b"{1|{0|0}}", b"{1|*}"),
+    (b"{{{0|0}|-1}|-2}", b"{{*|-1}|-2}"),
+    (b"{0,{0|0}|0}", b"{*,0|0}"),
+    (b"{*|*}", b"0"),
+    (b"{^|v}", b"*"),
+];
+
 /// Both texts of a game are read as one id, and names beside other games.
 #[test]
 fn both_editions(rt: HostRuntime) -> Result<(), Fail> {
     let alloc = rt.alloc();
-    let table: [(&[u8], &[u8]); 12] = [
-        (b"{0|{0|0}}", b"^"),
-        (b"{{0|0}|0}", b"v"),
-        (b"{0|0}", b"*"),
-        (b"{0,{0|0}|0,{0|0}}", b"*2"),
-        (b"{*,*2,0|0,*2,*}", b"*3"),
-        (b"{2|-2}", b"+-2"),
-        (b"{1/2|-1/2}", b"+-1/2"),
-        (b"{1|{0|0}}", b"{1|*}"),
-        (b"{{{0|0}|-1}|-2}", b"{{*|-1}|-2}"),
-        (b"{0,{0|0}|0}", b"{*,0|0}"),
-        (b"{*|*}", b"0"),
-        (b"{^|v}", b"*"),
-    ];
-    for (text, named) in table {
+    for (text, named) in BOTH_EDITIONS {
         let mut store = Store::new(alloc);
         let one = read(alloc, &mut store, text, 500).expect(&rt, "a text");
         let other = read(alloc, &mut store, named, 500).expect(&rt, "a named text");
@@ -111,24 +114,26 @@ fn both_editions(rt: HostRuntime) -> Result<(), Fail> {
     Ok(())
 }
 
+/// A text, the most bytes of what is written of it, and that text, or none where it is longer.
+const LENGTHS: [(&[u8], usize, &[u8]); 12] = [
+    (b"{0|0}", 0, b""),
+    (b"{0|0}", 1, b"*"),
+    (b"{1|{0|0}}", 4, b""),
+    (b"{1|{0|0}}", 5, b"{1|*}"),
+    (b"{0,{0|0}|0,{0|0}}", 1, b""),
+    (b"{0,{0|0}|0,{0|0}}", 2, b"*2"),
+    (b"{1234|-1234}", 5, b""),
+    (b"{1234|-1234}", 6, b"+-1234"),
+    (b"-1/2", 3, b""),
+    (b"-1/2", 4, b"-1/2"),
+    (b"{{0|0}|0}", 9, b"v"),
+    (b"{0,{0|0}|0}", 9, b"{*,0|0}"),
+];
+
 #[test]
 fn lengths(rt: HostRuntime) -> Result<(), Fail> {
     let alloc = rt.alloc();
-    let table: [(&[u8], usize, &[u8]); 12] = [
-        (b"{0|0}", 0, b""),
-        (b"{0|0}", 1, b"*"),
-        (b"{1|{0|0}}", 4, b""),
-        (b"{1|{0|0}}", 5, b"{1|*}"),
-        (b"{0,{0|0}|0,{0|0}}", 1, b""),
-        (b"{0,{0|0}|0,{0|0}}", 2, b"*2"),
-        (b"{1234|-1234}", 5, b""),
-        (b"{1234|-1234}", 6, b"+-1234"),
-        (b"-1/2", 3, b""),
-        (b"-1/2", 4, b"-1/2"),
-        (b"{{0|0}|0}", 9, b"v"),
-        (b"{0,{0|0}|0}", 9, b"{*,0|0}"),
-    ];
-    for (text, limit, want) in table {
+    for (text, limit, want) in LENGTHS {
         match written(alloc, text, limit) {
             Ok(Ok(found)) => assert_eq!(rt; found.as_slice(), want),
             Ok(Err(cause)) => {
@@ -141,60 +146,62 @@ fn lengths(rt: HostRuntime) -> Result<(), Fail> {
     Ok(())
 }
 
+/// A text, the most parts of a form, and why it is refused.
+const REFUSALS: [(&[u8], u32, ReadError); 48] = [
+    (b"*1", 500, ReadError::BadNumber(1)),
+    (b"*0", 500, ReadError::BadNumber(1)),
+    (b"*02", 500, ReadError::BadNumber(1)),
+    (b"*4294967296", 500, ReadError::BadNumber(1)),
+    (b"*4294967295", 4_000, ReadError::Parts),
+    (b"*3", 2, ReadError::Parts),
+    (b"*", 0, ReadError::Parts),
+    (b"^", 1, ReadError::Parts),
+    (b"v", 1, ReadError::Parts),
+    (b"+-1", 0, ReadError::Parts),
+    (b"+1", 500, ReadError::BadNumber(1)),
+    (b"+-0", 500, ReadError::BadNumber(1)),
+    (b"+-2/4", 500, ReadError::BadNumber(1)),
+    (b"+", 500, ReadError::CutShort),
+    (b"+*", 500, ReadError::BadByte(1)),
+    (b"+{0|0}", 500, ReadError::BadByte(1)),
+    (b"**", 500, ReadError::BadByte(1)),
+    (b"*-1", 500, ReadError::BadByte(1)),
+    (b"*2/3", 500, ReadError::BadByte(2)),
+    (b"^^", 500, ReadError::BadByte(1)),
+    (b"{*,|0}", 500, ReadError::BadByte(3)),
+    (b"{*", 500, ReadError::CutShort),
+    (b"{1|*}", 1, ReadError::Parts),
+    (b"{0|+-3", 500, ReadError::CutShort),
+    (b"", 500, ReadError::CutShort),
+    (b"{", 500, ReadError::CutShort),
+    (b"{0|", 500, ReadError::CutShort),
+    (b"{0|0", 500, ReadError::CutShort),
+    (b"{0,", 500, ReadError::CutShort),
+    (b"{0|0}x", 500, ReadError::BadByte(5)),
+    (b"0,", 500, ReadError::BadByte(1)),
+    (b" 0", 500, ReadError::BadByte(0)),
+    (b"5.", 500, ReadError::BadByte(1)),
+    (b"{0}", 500, ReadError::BadByte(2)),
+    (b"{0,|0}", 500, ReadError::BadByte(3)),
+    (b"{0|0|0}", 500, ReadError::BadByte(4)),
+    (b"2/4", 500, ReadError::BadNumber(0)),
+    (b"-0", 500, ReadError::BadNumber(0)),
+    (b"01", 500, ReadError::BadNumber(0)),
+    (b"--1", 500, ReadError::BadNumber(0)),
+    (b"{0|1/3}", 500, ReadError::BadNumber(3)),
+    (b"1/2/4", 500, ReadError::BadNumber(0)),
+    (b"1152921504606846976", 500, ReadError::BadNumber(0)),
+    (b"{0|1/2305843009213693952x", 500, ReadError::BadNumber(3)),
+    (b"{1|{0|0}}", 1, ReadError::Parts),
+    (b"{{1|{0|0}}|}", 1, ReadError::Parts),
+    (b"{0|1/1152921504606846976}x", 500, ReadError::Bounds),
+    (b"{1152921504606846975|}", 500, ReadError::Bounds),
+];
+
 #[test]
 fn refusals(rt: HostRuntime) -> Result<(), Fail> {
     let alloc = rt.alloc();
-    let table: [(&[u8], u32, ReadError); 48] = [
-        (b"*1", 500, ReadError::BadNumber(1)),
-        (b"*0", 500, ReadError::BadNumber(1)),
-        (b"*02", 500, ReadError::BadNumber(1)),
-        (b"*4294967296", 500, ReadError::BadNumber(1)),
-        (b"*4294967295", 4_000, ReadError::Parts),
-        (b"*3", 2, ReadError::Parts),
-        (b"*", 0, ReadError::Parts),
-        (b"^", 1, ReadError::Parts),
-        (b"v", 1, ReadError::Parts),
-        (b"+-1", 0, ReadError::Parts),
-        (b"+1", 500, ReadError::BadNumber(1)),
-        (b"+-0", 500, ReadError::BadNumber(1)),
-        (b"+-2/4", 500, ReadError::BadNumber(1)),
-        (b"+", 500, ReadError::CutShort),
-        (b"+*", 500, ReadError::BadByte(1)),
-        (b"+{0|0}", 500, ReadError::BadByte(1)),
-        (b"**", 500, ReadError::BadByte(1)),
-        (b"*-1", 500, ReadError::BadByte(1)),
-        (b"*2/3", 500, ReadError::BadByte(2)),
-        (b"^^", 500, ReadError::BadByte(1)),
-        (b"{*,|0}", 500, ReadError::BadByte(3)),
-        (b"{*", 500, ReadError::CutShort),
-        (b"{1|*}", 1, ReadError::Parts),
-        (b"{0|+-3", 500, ReadError::CutShort),
-        (b"", 500, ReadError::CutShort),
-        (b"{", 500, ReadError::CutShort),
-        (b"{0|", 500, ReadError::CutShort),
-        (b"{0|0", 500, ReadError::CutShort),
-        (b"{0,", 500, ReadError::CutShort),
-        (b"{0|0}x", 500, ReadError::BadByte(5)),
-        (b"0,", 500, ReadError::BadByte(1)),
-        (b" 0", 500, ReadError::BadByte(0)),
-        (b"5.", 500, ReadError::BadByte(1)),
-        (b"{0}", 500, ReadError::BadByte(2)),
-        (b"{0,|0}", 500, ReadError::BadByte(3)),
-        (b"{0|0|0}", 500, ReadError::BadByte(4)),
-        (b"2/4", 500, ReadError::BadNumber(0)),
-        (b"-0", 500, ReadError::BadNumber(0)),
-        (b"01", 500, ReadError::BadNumber(0)),
-        (b"--1", 500, ReadError::BadNumber(0)),
-        (b"{0|1/3}", 500, ReadError::BadNumber(3)),
-        (b"1/2/4", 500, ReadError::BadNumber(0)),
-        (b"1152921504606846976", 500, ReadError::BadNumber(0)),
-        (b"{0|1/2305843009213693952x", 500, ReadError::BadNumber(3)),
-        (b"{1|{0|0}}", 1, ReadError::Parts),
-        (b"{{1|{0|0}}|}", 1, ReadError::Parts),
-        (b"{0|1/1152921504606846976}x", 500, ReadError::Bounds),
-        (b"{1152921504606846975|}", 500, ReadError::Bounds),
-    ];
-    for (text, parts_limit, want) in table {
+    for (text, parts_limit, want) in REFUSALS {
         let mut store = Store::new(alloc);
         assert_eq!(rt; read(alloc, &mut store, text, parts_limit), Err(want));
     }
