@@ -8,7 +8,7 @@ ghost use Rattle.game_canon.specs.inner.Changes.{AreClosed};
 ghost use Rattle.game_text.specs.NamedText.{named_depth, named_text};
 ghost use Rattle.game_text.specs.inner.Nesting.{braces_after};
 ghost use Rattle.game_text.specs.Refusals.{IsWriteRefusal};
-ghost use Rattle.game_text.specs.inner.Written.{AreFound, AreNimbers, AreWritten, HasOptionTexts, IsAdded, IsAmong, IsTooLong};
+ghost use Rattle.game_text.specs.inner.Written.{AreFound, AreNimbers, AreWritten, HasOptionTexts, HasText, IsAdded, IsAmong, IsTooLong};
 
 use crate::errors::WriteError;
 use crate::names::{form_name, nimbers_of};
@@ -126,6 +126,25 @@ fn write_all(
     Ok(())
 }
 
+/// The named text of a form, and those of all that it is made of.
+fn named_texts(alloc: Global, store: &Store, id: GameId, limit: usize) -> Result<Texts, WriteError>
+    requires { id < length store.now }
+    ensures kept { IfOk result (λ texts. HasText store.now texts.bytes.items
+        (get nat_eq texts.spans) id) }
+    ensures refusal { IfErr result (λ e. IsWriteRefusal (tree_at store.now id) limit e) }
+{
+    let _count = store.len();
+    let ids = reachable(alloc, store, id)?;
+    let forms: &[GameId] = &ids;
+    let nimbers = nimbers_of(alloc, store, forms)?;
+    let mut texts = Texts {
+        bytes: Vec::new(alloc),
+        spans: IndexMap::new(alloc),
+    };
+    write_all(alloc, store, &mut texts, &nimbers, forms, limit)?;
+    Ok(texts)
+}
+
 /// How many braces are open behind a byte.
 fn braces_behind(count: usize, byte: u8) -> usize
     requires { count < 2 ^ 63 }
@@ -163,15 +182,7 @@ pub fn write(alloc: Global, store: &Store, id: GameId, limit: usize) -> Result<T
         × (named_depth (tree_at store.now id) ≤ 1000)) }
     ensures refusal { IfErr result (λ e. IsWriteRefusal (tree_at store.now id) limit e) }
 {
-    let _count = store.len();
-    let ids = reachable(alloc, store, id)?;
-    let mut texts = Texts {
-        bytes: Vec::new(alloc),
-        spans: IndexMap::new(alloc),
-    };
-    let forms: &[GameId] = &ids;
-    let nimbers = nimbers_of(alloc, store, forms)?;
-    write_all(alloc, store, &mut texts, &nimbers, forms, limit)?;
+    let texts = named_texts(alloc, store, id, limit)?;
     let text = text_of(&texts, id);
     if text.len() > limit {
         return Err(WriteError::Long);

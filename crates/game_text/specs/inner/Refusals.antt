@@ -4,7 +4,6 @@ use Rattle.short_games.specs.Tree.{Tree}
 use Rattle.game_canon.specs.Outcomes.{IsCause}
 use Rattle.game_canon.specs.declared.errors.FormError.TheVariants as form
 use Rattle.game_text.specs.Depth.{most_open}
-use Rattle.game_text.specs.declared.errors.WriteError.TheVariants.{Deep, Memory}
 use Rattle.game_text.specs.declared.errors.ReadError.{ReadError}
 use Rattle.game_text.specs.declared.errors.ReadError.TheVariants as reading
 

@@ -5,7 +5,7 @@ use Rattle.game_canon.specs.Reachable.{AreReachable}
 use Rattle.game_canon.proofs.ChangeSteps.{reachable-closed}
 use Rattle.game_text.specs.Refusals.{IsWriteRefusal}
 use Rattle.game_text.proofs.WritingSteps.{passed-on, all-too_long}
-use Rattle.game_text.proofs.writing.write.Goals as goal
+use Rattle.game_text.proofs.writing.named_texts.Goals as goal
 
 pub nimbers_of-requires-clause-closed : goal.nimbers_of-requires-clause-closed
 nimbers_of-requires-clause-closed c = reachable-closed c.args.store.now _ c.deref-forms.result.now (subst (AreReachable c.args.store.now (tree_at c.args.store.now c.args.id)) (sym c.deref-forms.ensures) c.in_ok-ids.ensures)
