@@ -1,8 +1,8 @@
 //! Who loses sums of small games.
 
-ghost use Rattle.std.specs.Prelude.{◌≡◌, ◌<◌, ◌≤◌, ◌^◌, pos, length, unsigned_abs, IfOk, IfSome};
+ghost use Rattle.std.specs.Prelude.{◌≡◌, ◌<◌, ◌≤◌, ◌^◌, pos, List, length, unsigned_abs, IfOk, IfSome};
 ghost use Rattle.short_games.specs.Number.{num};
-ghost use Rattle.short_games.specs.Tree.{tree_at};
+ghost use Rattle.short_games.specs.Tree.{Tree, tree_at};
 ghost use Rattle.game_store.specs.Meaning.{IsIdOf, Extends};
 ghost use Rattle.short_games.specs.Examples.{choice, star as the_star};
 ghost use Rattle.sum_outcome.specs.Memo.{Fits};
@@ -14,7 +14,7 @@ use game_store::{GameId, Store};
 use go_grid::Colour;
 use std::alloc::{AllocError, Global};
 use std::test::Fail;
-use sum_outcome::Search;
+use sum_outcome::{MOST_ENTRIES, Search};
 
 /// The game `{0|0}`.
 fn star(store: &mut Store) -> Result<GameId, AllocError>
@@ -54,36 +54,76 @@ pub(crate) fn loses(
     Some(search.loses(store, sum, number, side))
 }
 
+/// Star and `{1|{0|0}}` in a store, and a search that has asked nothing yet.
+#[derive(Drop)]
+struct SearchedGames {
+    store: Store,
+    search: Search,
+    star: GameId,
+    one_or_star: GameId,
+}
+
+/// The two games.
+fn both(store: &mut Store) -> Result<(GameId, GameId), AllocError>
+    ensures star { IfOk result (λ games. IsIdOf store.new the_star games.0) }
+    ensures other { IfOk result (λ games. IsIdOf store.new
+        (choice (num 0 (pos 1)) the_star) games.1) }
+{
+    let star = star(store)?;
+    let other = one_or_star(store, star)?;
+    Ok((star, other))
+}
+
+/// The two games, and a search that remembers at most so many sums.
+fn searched(alloc: Global, most: usize) -> Result<SearchedGames, AllocError>
+    requires some { 1 ≤ most }
+    requires most { most ≤ MOST_ENTRIES }
+    ensures star { IfOk result (λ all. IsIdOf all.store the_star all.star) }
+    ensures other { IfOk result (λ all. IsIdOf all.store
+        (choice (num 0 (pos 1)) the_star) all.one_or_star) }
+    ensures fits { IfOk result (λ all. (Ts : List Tree) → Fits Ts all.search) }
+{
+    let search = Search::new(alloc, most)?;
+    let mut store = Store::new(alloc);
+    let (star, one_or_star) = both(&mut store)?;
+    Ok(SearchedGames {
+        store,
+        search,
+        star,
+        one_or_star,
+    })
+}
+
+/// Whether who is to move loses: star, and two; `{1|{0|0}}` with one less, two less and half of one less, with Black to
+/// move; and 1 with White to move.
+fn lose(search: &mut Search, store: &Store, star: GameId, other: GameId) -> [Option<bool>; 6]
+    requires star { IsIdOf store.now the_star star }
+    requires other { IsIdOf store.now (choice (num 0 (pos 1)) the_star) other }
+    requires fits { Fits store.now search.old }
+{
+    [
+        loses(search, store, &mut [star], 0, Colour::Black),
+        loses(search, store, &mut [star, star], 0, Colour::Black),
+        loses(search, store, &mut [other], -2, Colour::Black),
+        loses(search, store, &mut [other], -4, Colour::Black),
+        loses(search, store, &mut [other], -1, Colour::Black),
+        loses(search, store, &mut [], 2, Colour::White),
+    ]
+}
+
 #[test]
 fn sums(rt: HostRuntime) -> Result<(), Fail> {
-    let alloc = rt.alloc();
-    let mut store = Store::new(alloc);
-    let star = star(&mut store)?;
-    let other = one_or_star(&mut store, star)?;
-    let mut search = Search::new(alloc, 1)?;
+    let mut all = searched(rt.alloc(), 1)?;
     assert_eq!(&rt;
-        loses(&mut search, &store, &mut [star], 0, Colour::Black),
-        Some(false)
-    );
-    assert_eq!(&rt;
-        loses(&mut search, &store, &mut [star, star], 0, Colour::Black),
-        Some(true)
-    );
-    assert_eq!(&rt;
-        loses(&mut search, &store, &mut [other], -2, Colour::Black),
-        Some(false)
-    );
-    assert_eq!(&rt;
-        loses(&mut search, &store, &mut [other], -4, Colour::Black),
-        Some(true)
-    );
-    assert_eq!(&rt;
-        loses(&mut search, &store, &mut [other], -1, Colour::Black),
-        Some(false)
-    );
-    assert_eq!(&rt;
-        loses(&mut search, &store, &mut [], 2, Colour::White),
-        Some(true)
+        lose(&mut all.search, &all.store, all.star, all.one_or_star),
+        [
+            Some(false),
+            Some(true),
+            Some(false),
+            Some(true),
+            Some(false),
+            Some(true)
+        ]
     );
     Ok(())
 }
@@ -106,24 +146,34 @@ fn loses_many(
     (even, odd)
 }
 
+/// Whether Black loses many of star, and of `{1|{0|0}}` with 20 less, and with 19 and a half less.
+fn lose_many(
+    search: &mut Search,
+    store: &Store,
+    star: GameId,
+    other: GameId,
+) -> [(Option<bool>, Option<bool>); 3]
+    requires star { IsIdOf store.now the_star star }
+    requires other { IsIdOf store.now (choice (num 0 (pos 1)) the_star) other }
+    requires fits { Fits store.now search.old }
+{
+    [
+        loses_many(search, store, star, 0),
+        loses_many(search, store, other, -40),
+        loses_many(search, store, other, -39),
+    ]
+}
+
 #[test]
 fn many_games(rt: HostRuntime) -> Result<(), Fail> {
-    let alloc = rt.alloc();
-    let mut store = Store::new(alloc);
-    let star = star(&mut store)?;
-    let other = one_or_star(&mut store, star)?;
-    let mut search = Search::new(alloc, 10000)?;
+    let mut all = searched(rt.alloc(), 10_000)?;
     assert_eq!(&rt;
-        loses_many(&mut search, &store, star, 0),
-        (Some(true), Some(false))
-    );
-    assert_eq!(&rt;
-        loses_many(&mut search, &store, other, -40),
-        (Some(true), Some(true))
-    );
-    assert_eq!(&rt;
-        loses_many(&mut search, &store, other, -39),
-        (Some(false), Some(false))
+        lose_many(&mut all.search, &all.store, all.star, all.one_or_star),
+        [
+            (Some(true), Some(false)),
+            (Some(true), Some(true)),
+            (Some(false), Some(false)),
+        ]
     );
     Ok(())
 }
@@ -160,13 +210,10 @@ fn lose_by_stops(search: &mut Search, store: &Store, sum: &mut [GameId]) -> [Opt
 #[test]
 fn different_games(rt: HostRuntime) -> Result<(), Fail> {
     let alloc = rt.alloc();
-    let mut store = Store::new(alloc);
-    let star = star(&mut store)?;
-    let game = one_or_star(&mut store, star)?;
-    let mut search = Search::new(alloc, 1)?;
-    let mut games = shifted(alloc, &mut store, game).expect(&rt, "memory");
+    let mut all = searched(alloc, 1)?;
+    let mut games = shifted(alloc, &mut all.store, all.one_or_star).expect(&rt, "memory");
     assert_eq!(&rt;
-        lose_by_stops(&mut search, &store, &mut games),
+        lose_by_stops(&mut all.search, &all.store, &mut games),
         [Some(true), Some(true)]
     );
     Ok(())
