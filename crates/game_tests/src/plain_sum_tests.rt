@@ -1,6 +1,6 @@
 //! Sums of three small games, by the search and by trying every move.
 
-ghost use Rattle.std.specs.Prelude.{◌≡◌, ◌<◌, ◌≤◌, ◌^◌, length, unsigned_abs, IfSome, [], ◌∷◌};
+ghost use Rattle.std.specs.Prelude.{◌≡◌, ◌<◌, ◌≤◌, ◌^◌, length, unsigned_abs, IfOk, IfSome, [], ◌∷◌};
 ghost use Rattle.game_store.specs.Meaning.{Extends};
 ghost use Rattle.sum_outcome.specs.Memo.{Fits};
 ghost use Rattle.sum_outcome.specs.inner.Examples.{IsSmallId, AreSmall};
@@ -10,7 +10,7 @@ use dyadic_num::Dyadic;
 use game_canon::canonical;
 use game_store::{Form, GameId, Store};
 use go_grid::Colour;
-use std::alloc::Global;
+use std::alloc::{AllocError, Global};
 use std::test::Fail;
 use sum_outcome::Search;
 
@@ -234,14 +234,31 @@ fn agree_on(alloc: Global, search: &mut Search, store: &mut Store, n: u32) -> Op
     all_agree(search, store, games)
 }
 
+/// A store with 0 in it, and a search that knows it.
+#[derive(Drop)]
+struct StoreAndSearch {
+    store: Store,
+    search: Search,
+}
+
+fn known(alloc: Global) -> Result<StoreAndSearch, AllocError>
+    ensures { IfOk result (λ known. Fits known.store known.search) }
+{
+    let mut search = Search::new(alloc, 1000)?;
+    let mut store = Store::new(alloc);
+    search.note_zero(&mut store)?;
+    Ok(StoreAndSearch { store, search })
+}
+
 #[test]
 fn plain_play(rt: HostRuntime) -> Result<(), Fail> {
     let alloc = rt.alloc();
-    let mut store = Store::new(alloc);
-    let mut search = Search::new(alloc, 1000)?;
-    search.note_zero(&mut store)?;
+    let mut all = known(alloc)?;
     'sums: for n in 0..729 {
-        assert_eq!(&rt; agree_on(alloc, &mut search, &mut store, n), Some(true));
+        assert_eq!(&rt;
+            agree_on(alloc, &mut all.search, &mut all.store, n),
+            Some(true)
+        );
     }
     Ok(())
 }

@@ -238,28 +238,39 @@ fn shown(alloc: Global, store: &Store, id: GameId) -> Option<Result<Text, WriteE
     Some(write(alloc, store, id, 100_000))
 }
 
+/// What reading so many opening braces comes to.
+fn read_openings(alloc: Global, count: usize) -> Result<Result<GameId, ReadError>, AllocError> {
+    let text = openings(alloc, count)?;
+    Ok(read(alloc, &mut Store::new(alloc), &text, 500))
+}
+
+/// Whether a corridor whose braces nest 1,000 deep is read, and written so, and one that is longer by one isn't written.
+fn is_written_to_the_depth(alloc: Global, store: &mut Store) -> Option<bool> {
+    let Ok(text) = corridor(alloc, 1000) else {
+        return None;
+    };
+    let Ok(id) = read(alloc, store, text.as_bytes(), 2000) else {
+        return None;
+    };
+    let Ok(found) = shown(alloc, store, id)? else {
+        return None;
+    };
+    let Ok(top) = store.number(Dyadic::whole(1001)) else {
+        return None;
+    };
+    let Ok(deeper) = form(alloc, store, &[top], &[id]) else {
+        return None;
+    };
+    let refused = matches!(shown(alloc, store, deeper)?, Err(WriteError::Deep));
+    Some(refused && found.as_slice() == text.as_bytes())
+}
+
 #[test]
 fn depths(rt: HostRuntime) -> Result<(), Fail> {
     let alloc = rt.alloc();
+    assert_eq!(rt; read_openings(alloc, 1000)?, Err(ReadError::CutShort));
+    assert_eq!(rt; read_openings(alloc, 1001)?, Err(ReadError::Deep));
     let mut store = Store::new(alloc);
-    let most = openings(alloc, 1000)?;
-    assert_eq!(rt;
-        read(alloc, &mut store, &most, 500),
-        Err(ReadError::CutShort)
-    );
-    let more = openings(alloc, 1001)?;
-    assert_eq!(rt; read(alloc, &mut store, &more, 500), Err(ReadError::Deep));
-    let text = corridor(alloc, 1000)?;
-    let id = read(alloc, &mut store, text.as_bytes(), 2000).expect(&rt, "1,000 braces");
-    match shown(alloc, &store, id).expect(&rt, "an id") {
-        Ok(found) => assert_eq!(rt; found.as_slice(), text.as_bytes()),
-        Err(_) => assert!(rt; false),
-    }
-    let top = store.number(Dyadic::whole(1001))?;
-    let deeper = form(alloc, &mut store, &[top], &[id]).expect(&rt, "a longer corridor");
-    match shown(alloc, &store, deeper).expect(&rt, "an id") {
-        Ok(_) => assert!(rt; false),
-        Err(cause) => assert_eq!(rt; cause, WriteError::Deep),
-    }
+    assert_eq!(rt; is_written_to_the_depth(alloc, &mut store), Some(true));
     Ok(())
 }

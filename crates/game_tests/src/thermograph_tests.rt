@@ -1,64 +1,52 @@
 //! Stops and thermographs of small games.
 
+ghost use Rattle.std.specs.Prelude.{◌<◌, length, IfSome};
+
 use dyadic_num::{Dyadic, EXPONENT};
 use game_stops::{left_stop, right_stop};
 use game_store::{GameId, Store};
+use game_text::read;
 use std::alloc::Global;
 use std::rt::HostRuntime;
 use thermograph::{ThermoError, Thermograph, Wall, draw};
-use worked_forms::{form, fraction};
 
 /// A quarter, in parts of 2^-60.
 const QUARTER: i128 = 1 << (EXPONENT - 2);
 
-/// A game and its thermograph, in quarters.
-#[derive(Drop)]
-struct Row<'a> {
-    name: &'a str,
-    game: GameId,
-    left: &'a [(i32, i32)],
-    right: &'a [(i32, i32)],
-    mean: i32,
-    temperature: Option<i32>,
-}
+/// The text of a game, and its stops in quarters.
+const STOPS: [(&str, i32, i32); 3] = [("^", 0, 0), ("1/2", 2, 2), ("{2|1/2}", 8, 2)];
 
-/// A row of the table.
-fn expected<'a>(
-    name: &'a str,
-    game: GameId,
-    left: &'a [(i32, i32)],
-    right: &'a [(i32, i32)],
-    mean: i32,
-    temperature: Option<i32>,
-) -> Row<'a> {
-    Row {
-        name,
-        game,
-        left,
-        right,
-        mean,
-        temperature,
-    }
-}
+/// The text of a game, and its thermograph in quarters: its left and its right wall, its mean and its temperature.
+type Drawn = (
+    &'static str,
+    &'static [(i32, i32)],
+    &'static [(i32, i32)],
+    i32,
+    Option<i32>,
+);
 
-/// The stops in parts of 2^-60, or none where the id isn't the store's.
-fn stops(store: &Store, id: GameId) -> Option<(i128, i128)> {
-    if id >= store.len() {
+const THERMOGRAPHS: [Drawn; 5] = [
+    ("3", &[(0, 12)], &[(0, 12)], 12, None),
+    ("^", &[(0, 0)], &[(0, 0)], 0, Some(0)),
+    ("{2|0}", &[(0, 8), (4, 4)], &[(0, 0), (4, 4)], 4, Some(4)),
+    ("{1|*}", &[(0, 4), (2, 2)], &[(0, 0), (2, 2)], 2, Some(2)),
+    (
+        "{2|{1|*}}",
+        &[(0, 8), (3, 5)],
+        &[(0, 4), (2, 4), (3, 5)],
+        5,
+        Some(3),
+    ),
+];
+
+/// The id of the game that a text names, where it is the store's.
+fn named(alloc: Global, store: &mut Store, text: &str) -> Option<GameId>
+    ensures { IfSome result (λ id. id < length store.new) }
+{
+    let Ok(id) = read(alloc, store, text.as_bytes(), 500) else {
         return None;
-    }
-    Some((left_stop(store, id).units(), right_stop(store, id).units()))
-}
-
-/// The thermograph, or none where the id isn't the store's.
-fn thermograph(
-    alloc: Global,
-    store: &Store,
-    id: GameId,
-) -> Option<Result<Thermograph, ThermoError>> {
-    if id >= store.len() {
-        return None;
-    }
-    Some(draw(alloc, store, id))
+    };
+    if id < store.len() { Some(id) } else { None }
 }
 
 /// Whether the number is so many quarters.
@@ -90,92 +78,54 @@ fn has_temperature(drawn: Option<Dyadic>, quarters: Option<i32>) -> bool {
     }
 }
 
+/// Whether the game that a text names has these stops.
+fn has_stops(alloc: Global, store: &mut Store, text: &str, left: i32, right: i32) -> bool {
+    let Some(id) = named(alloc, store, text) else {
+        return false;
+    };
+    is_quarters(left_stop(store, id), left) && is_quarters(right_stop(store, id), right)
+}
+
 #[test]
 fn stops_of_games(rt: HostRuntime) {
-    let alloc = rt.alloc();
-    let mut store = Store::new(alloc);
-    let zero = fraction(&mut store, 0, 0).expect(&rt, "0");
-    let half = fraction(&mut store, 1, 1).expect(&rt, "1/2");
-    let two = fraction(&mut store, 2, 0).expect(&rt, "2");
-    let star = form(alloc, &mut store, &[zero], &[zero]).expect(&rt, "{0|0}");
-    let up = form(alloc, &mut store, &[zero], &[star]).expect(&rt, "{0|{0|0}}");
-    let hot = form(alloc, &mut store, &[two], &[half]).expect(&rt, "{2|1/2}");
-    assert_eq!(&rt; stops(&store, up), Some((0, 0)));
-    assert_eq!(&rt; stops(&store, half), Some((2 * QUARTER, 2 * QUARTER)));
-    assert_eq!(&rt; stops(&store, hot), Some((8 * QUARTER, 2 * QUARTER)));
+    for (text, left, right) in STOPS {
+        let mut store = Store::new(rt.alloc());
+        assert!(&rt;
+            has_stops(rt.alloc(), &mut store, text, left, right),
+            "{text}"
+        );
+    }
+}
+
+/// What comes of drawing the thermograph of the game that a text names.
+fn drawn(alloc: Global, store: &mut Store, text: &str) -> Option<Result<Thermograph, ThermoError>> {
+    let id = named(alloc, store, text)?;
+    Some(draw(alloc, store, id))
+}
+
+/// Whether the thermograph is the one of the row.
+fn is_drawn(alloc: Global, store: &mut Store, row: Drawn) -> bool {
+    let (text, left, right, mean, temperature) = row;
+    let Some(Ok(drawn)) = drawn(alloc, store, text) else {
+        return false;
+    };
+    has_points(&drawn.left, left)
+        && has_points(&drawn.right, right)
+        && is_quarters(drawn.mean, mean)
+        && has_temperature(drawn.temperature, temperature)
 }
 
 #[test]
 fn thermographs(rt: HostRuntime) {
-    let alloc = rt.alloc();
-    let mut store = Store::new(alloc);
-    let zero = fraction(&mut store, 0, 0).expect(&rt, "0");
-    let one = fraction(&mut store, 1, 0).expect(&rt, "1");
-    let two = fraction(&mut store, 2, 0).expect(&rt, "2");
-    let three = fraction(&mut store, 3, 0).expect(&rt, "3");
-    let star = form(alloc, &mut store, &[zero], &[zero]).expect(&rt, "{0|0}");
-    let up = form(alloc, &mut store, &[zero], &[star]).expect(&rt, "{0|{0|0}}");
-    let switch = form(alloc, &mut store, &[two], &[zero]).expect(&rt, "{2|0}");
-    let one_or_star = form(alloc, &mut store, &[one], &[star]).expect(&rt, "{1|{0|0}}");
-    let corridor = form(alloc, &mut store, &[two], &[one_or_star]).expect(&rt, "{2|{1|{0|0}}}");
-    let rows = [
-        expected("3", three, &[(0, 12)], &[(0, 12)], 12, None),
-        expected("{0|{0|0}}", up, &[(0, 0)], &[(0, 0)], 0, Some(0)),
-        expected(
-            "{2|0}",
-            switch,
-            &[(0, 8), (4, 4)],
-            &[(0, 0), (4, 4)],
-            4,
-            Some(4),
-        ),
-        expected(
-            "{1|{0|0}}",
-            one_or_star,
-            &[(0, 4), (2, 2)],
-            &[(0, 0), (2, 2)],
-            2,
-            Some(2),
-        ),
-        expected(
-            "{2|{1|{0|0}}}",
-            corridor,
-            &[(0, 8), (3, 5)],
-            &[(0, 4), (2, 4), (3, 5)],
-            5,
-            Some(3),
-        ),
-    ];
-    for row in &rows {
-        let Some(Ok(drawn)) = thermograph(alloc, &store, row.game) else {
-            panic!(&rt; "{} is not drawn", row.name);
-        };
-        assert!(&rt;
-            has_points(&drawn.left, row.left),
-            "left wall of {}",
-            row.name
-        );
-        assert!(&rt;
-            has_points(&drawn.right, row.right),
-            "right wall of {}",
-            row.name
-        );
-        assert!(&rt; is_quarters(drawn.mean, row.mean), "mean of {}", row.name);
-        assert!(&rt;
-            has_temperature(drawn.temperature, row.temperature),
-            "temperature of {}",
-            row.name
-        );
+    for row in THERMOGRAPHS {
+        let mut store = Store::new(rt.alloc());
+        assert!(&rt; is_drawn(rt.alloc(), &mut store, row), "{}", row.0);
     }
 }
 
 #[test]
 fn past_the_bounds(rt: HostRuntime) {
-    let alloc = rt.alloc();
-    let mut store = Store::new(alloc);
-    let zero = fraction(&mut store, 0, 0).expect(&rt, "0");
-    let least = fraction(&mut store, 1, EXPONENT).expect(&rt, "1/2^60");
-    let fine = form(alloc, &mut store, &[least], &[zero]).expect(&rt, "{1/2^60|0}");
-    let drawn = thermograph(alloc, &store, fine);
+    let mut store = Store::new(rt.alloc());
+    let drawn = drawn(rt.alloc(), &mut store, "{1/1152921504606846976|0}");
     assert!(&rt; matches!(drawn, Some(Err(ThermoError::Bounds))));
 }
