@@ -143,7 +143,7 @@ insert-is G (more H Hs) a = at (text_before G H) refl (text_before H G) refl (in
       | inr o ↦ elim o [ inl e ↦ e | inr b ↦ absurd (true≢false (sym b ∙ q)) ]
     ]) a
 
-sorted-is : (Gs : Trees) → Sorted TextBefore Gs (sorted Gs)
+pub sorted-is : (Gs : Trees) → Sorted TextBefore Gs (sorted Gs)
 unfolding sorted
 sorted-is none = sorted-none TextBefore
 sorted-is (more G Gs) = let r = sorted-is Gs in sorted-more TextBefore G Gs (sorted Gs) (insert G (sorted Gs)) r (insert-is G (sorted Gs) r.ascends)
