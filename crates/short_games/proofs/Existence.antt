@@ -3,10 +3,10 @@
 use Rattle.std.proofs.Common.{◌+◌, ◌<◌, ◌≡◌, ◌⊎◌, ◌↔◌, suc, arith, refl, inl, inr, sym, ◌∙◌, ap, subst}
 use Rattle.short_games.specs.Tree.{Tree, Trees, node, none, more, left, right, Has, size, sizes, ◌then◌}
 use Rattle.short_games.specs.Order.{◌≤ᵍ◌, ◌≡ᵍ◌}
-use Rattle.short_games.specs.Canonical.{Ascends, IsCanonical, AreCanonical}
+use Rattle.short_games.specs.Canonical.{Ascends, IsCanonical, IsCanonicalOf, AreCanonical}
 use Rattle.short_games.specs.Parts.{IsFollower, IsOption}
 use Rattle.short_games.specs.Parts.IsFollower.{itself, further}
-use Rattle.short_games.proofs.OrderLaws.{IsSide, left_side, right_side, by_measure, le-or_not, none-or_some, same-trans, size-node, size-pos, sizes-has}
+use Rattle.short_games.proofs.OrderLaws.{IsSide, left_side, right_side, by_measure, le-or_not, none-or_some, same-trans, size-node, size-option, size-pos, sizes-has}
 use Rattle.short_games.proofs.SumLaws.{then-has, has-then_left, has-then_right}
 use Rattle.short_games.proofs.PartLaws.{follower-trans}
 use Rattle.short_games.proofs.CanonicalLaws.{canonical-at, canonical-follower, rest-ascends}
@@ -165,6 +165,16 @@ shorten_right = shorten right left (λ A B. B ≤ᵍ A) right_side (λ A B. le-o
     turned : {A B : Type 0} → A ⊎ B → B ⊎ A
     turned h = elim h [ inl x ↦ inr x | inr x ↦ inl x ]
 
+-- trees that belong to those of a list, one to each
+matched : (P : Tree → Tree → Type 0) (Gs : Trees) → ((X : Tree) → Has Gs X → (Y : Tree) × P X Y)
+    → (Ms : Trees) × ((X : Tree) → Has Gs X → (Y : Tree) × Has Ms Y × P X Y) × ((Y : Tree) → Has Ms Y → (X : Tree) × Has Gs X × P X Y)
+matched P none f = (none, λ X h. absurd h, λ Y h. absurd h)
+matched P (more G Gs) f = let g = f G (inl refl) in let r = matched P Gs (λ X x. f X (inr x)) in (
+  more g.0 r.0,
+  λ X h. elim h [ inl e ↦ (g.0, inl refl, subst (λ Z. P Z g.0) (sym e) g.1) | inr x ↦ (let w = r.1 X x in (w.0, inr w.1, w.2)) ],
+  λ Y h. elim h [ inl e ↦ (G, inl refl, subst (P G) (sym e) g.1) | inr x ↦ (let w = r.2 Y x in (w.0, inr w.1, w.2)) ],
+)
+
 module _ (Before : Tree → Tree → Type 0) (total : (G H : Tree) → Before G H ⊎ ((G ≡ H) ⊎ Before H G)) where
   insert : (A : Tree) (Gs : Trees) → Ascends Before Gs → (Hs : Trees) × Inserted Before A Gs Hs
   insert A none a = (more A none, into-none Before A)
@@ -229,37 +239,18 @@ module _ (Before : Tree → Tree → Type 0) (total : (G H : Tree) → Before G 
   canon_below ls rs c d = canon_from (node ls rs) (λ X h. elim h [ inl x ↦ canonical-at Before ls X c x | inr x ↦ canonical-at Before rs X d x ])
 
   -- of every tree
-  record Canon_each (Gs : Trees) : Type 0 where
-    trees : Trees
-    canonical : AreCanonical Before trees
-    to : (X : Tree) → Has Gs X → (Y : Tree) × Has trees Y × (X ≤ᵍ Y) × (Y ≤ᵍ X)
-    from : (Y : Tree) → Has trees Y → (X : Tree) × Has Gs X × (X ≤ᵍ Y) × (Y ≤ᵍ X)
+  abbrev IsOf : Tree → Tree → Type 0
+  IsOf = IsCanonicalOf Before
 
-  of_options : (ls rs : Trees) → Canon_each ls → Canon_each rs → Canon (node ls rs)
-  of_options ls rs a b = along (node ls rs) (node a.trees b.trees) (
-    by_better _ _ (λ L l. (let y = a.to L l in (y.0, y.1, y.2))) (λ S s. (let x = b.from S s in (x.0, x.1, x.2))),
-    by_better _ _ (λ L l. (let x = a.from L l in (x.0, x.1, x.3))) (λ S s. (let y = b.to S s in (y.0, y.1, y.3))),
-  )
-      (canon_below a.trees b.trees a.canonical b.canonical).canon
+  of_options : (G : Tree) → ((X : Tree) → IsOption G X → (C : Tree) × IsOf X C) → Canon G
+  of_options (node ls rs) f =
+      let a = matched IsOf ls (λ X x. f X (inl x)) in
+      let b = matched IsOf rs (λ X x. f X (inr x)) in
+      along (node ls rs) (node a.0 b.0) (
+        by_better _ _ (λ L l. (let y = a.1 L l in (y.0, y.1, y.2.under))) (λ S s. (let x = b.2 S s in (x.0, x.1, x.2.under))),
+        by_better _ _ (λ L l. (let x = a.2 L l in (x.0, x.1, x.2.over))) (λ S s. (let y = b.1 S s in (y.0, y.1, y.2.over))),
+      ) (canon_from (node a.0 b.0) (λ X h. elim h [ inl x ↦ (a.2 X x).2.canonical | inr x ↦ (b.2 X x).2.canonical ])).canon
 
-  add_each : (G : Tree) (Gs : Trees) → Canon G → Canon_each Gs → Canon_each (more G Gs)
-  add_each G Gs c r = record {
-    trees = more c.tree r.trees;
-    canonical = (c.canonical, r.canonical);
-    to = λ X h. elim h [
-      | inl e ↦ (c.tree, inl refl, subst (λ z. z ≤ᵍ c.tree) (sym e) c.under, subst (λ z. c.tree ≤ᵍ z) (sym e) c.over)
-      | inr x ↦ (let y = r.to X x in (y.0, inr y.1, y.2, y.3))
-    ];
-    from = λ Y h. elim h [
-      | inl e ↦ (G, inl refl, subst (λ z. G ≤ᵍ z) (sym e) c.under, subst (λ z. z ≤ᵍ G) (sym e) c.over)
-      | inr y ↦ (let x = r.from Y y in (x.0, inr x.1, x.2, x.3))
-    ];
-  }
-
-  mutual
-    pub canon : (G : Tree) → Canon G
-    canon (node ls rs) = of_options ls rs (canon_each ls) (canon_each rs)
-
-    canon_each : (Gs : Trees) → Canon_each Gs
-    canon_each none = record { trees = none; canonical = tt; to = λ X h. absurd h; from = λ Y h. absurd h }
-    canon_each (more G Gs) = add_each G Gs (canon G) (canon_each Gs)
+  pub canon : (G : Tree) → Canon G
+  canon = by_measure size Canon (λ G ih. of_options G (λ X o. let c = ih X (size-option G X o) in
+      (c.tree, record { canonical = c.canonical; under = c.under; over = c.over })))
