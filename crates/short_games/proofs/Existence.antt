@@ -68,9 +68,9 @@ none-or_two : (inside : Tree → Trees) (P : Tree → Tree → Type 0) → ((A B
     → ((A B : Tree) → Has Gs A → Has (inside A) B → P A B → ⊥) ⊎ ((A : Tree) × Has Gs A × ((B : Tree) × Has (inside A) B × P A B))
 none-or_two inside P ask Gs = elim (none-or_some (λ A. (B : Tree) × Has (inside A) B × P A B)
     (λ A. elim (none-or_some (P A) (ask A) (inside A)) [ inl f ↦ inr (λ w. f w.0 w.1 w.2) | inr s ↦ inl s ]) Gs) [
-  | inl f ↦ inl (λ A B a b p. f A a (B, b, p))
-  | inr s ↦ inr s
-]
+      | inl f ↦ inl (λ A B a b p. f A a (B, b, p))
+      | inr s ↦ inr s
+    ]
 
 left-nodes : (G : Tree) → size G ≡ suc (sizes (left G) + sizes (right G))
 left-nodes (node ls rs) = size-node ls rs
@@ -152,7 +152,6 @@ module _ (near far : Tree → Trees) (Le : Tree → Tree → Type 0) (side : IsS
         | inl e ↦ inr (λ w. w.1 e)
         | inr n ↦ elim (ask A B) [ inl l ↦ inl (l, n) | inr g ↦ inr (λ w. g w.0) ]
       ]
-
 
 shorten_left : (G : Tree) → Shorter G ⊎ IsShort left right (λ A B. A ≤ᵍ B) G
 shorten_left = shorten left right (λ A B. A ≤ᵍ B) left_side le-or_not (λ A B e. e)

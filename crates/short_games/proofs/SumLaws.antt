@@ -280,17 +280,25 @@ pub plus-assoc : (G H K : Tree) → (G +ᵍ H) +ᵍ K ≡ G +ᵍ (H +ᵍ K)
 plus-assoc = by_three_sizes (λ G H K. (G +ᵍ H) +ᵍ K ≡ G +ᵍ (H +ᵍ K)) assoc_step
 
 neg_plus_step : (G H : Tree) → ((A B : Tree) → size A + size B < size G + size H → neg (A +ᵍ B) ≡ neg A +ᵍ neg B) → neg (G +ᵍ H) ≡ neg G +ᵍ neg H
-neg_plus_step G H ih = tree-same _ _
-    (simp (neg-left, plus-left, plus-right, neg_each-mapped, each_plus-mapped, plus_each-mapped, mapped-then,
-    firsts (right G) (size-right G), seconds (right H) (size-right H)))
-    (simp (neg-right, plus-left, plus-right, neg_each-mapped, each_plus-mapped, plus_each-mapped, mapped-then,
-    firsts (left G) (size-left G), seconds (left H) (size-left H)))
+neg_plus_step G H ih = tree-same _ _ (options left right neg-left plus-left plus-right size-right) (options right left neg-right plus-right plus-left size-left)
   where
-    firsts : (Gs : Trees) → ((X : Tree) → Has Gs X → size X < size G) → mapped neg (mapped (λ X. X +ᵍ H) Gs) ≡ mapped (λ X. X +ᵍ neg H) (mapped neg Gs)
-    firsts Gs small = mapped-twice _ _ (λ X. neg X +ᵍ neg H) Gs (λ X x. ih X H (omega (arith, small X x))) ∙ sym (mapped-twice _ _ _ Gs (λ X x. refl))
-
-    seconds : (Hs : Trees) → ((X : Tree) → Has Hs X → size X < size H) → mapped neg (mapped (λ X. G +ᵍ X) Hs) ≡ mapped (λ X. neg G +ᵍ X) (mapped neg Hs)
-    seconds Hs small = mapped-twice _ _ (λ X. neg G +ᵍ neg X) Hs (λ X x. ih G X (omega (arith, small X x))) ∙ sym (mapped-twice _ _ _ Hs (λ X x. refl))
+    options : (near far : Tree → Trees) → ((A : Tree) → near (neg A) ≡ neg_each (far A))
+        → ((A B : Tree) → near (A +ᵍ B) ≡ each_plus (near A) B then plus_each A (near B))
+        → ((A B : Tree) → far (A +ᵍ B) ≡ each_plus (far A) B then plus_each A (far B)) → ((A X : Tree) → Has (far A) X → size X < size A)
+        → near (neg (G +ᵍ H)) ≡ near (neg G +ᵍ neg H)
+    options near far turned is others small = simp (
+      turned,
+      is,
+      others,
+      neg_each-mapped,
+      each_plus-mapped,
+      plus_each-mapped,
+      mapped-then,
+      mapped-twice neg (λ X. X +ᵍ H) (λ X. neg X +ᵍ neg H) (far G) (λ X x. ih X H (omega (arith, small G X x))),
+      mapped-twice (λ X. X +ᵍ neg H) neg (λ X. neg X +ᵍ neg H) (far G) (λ X x. refl),
+      mapped-twice neg (λ X. G +ᵍ X) (λ X. neg G +ᵍ neg X) (far H) (λ X x. ih G X (omega (arith, small H X x))),
+      mapped-twice (λ X. neg G +ᵍ X) neg (λ X. neg G +ᵍ neg X) (far H) (λ X x. refl),
+    )
 
 pub neg-plus : (G H : Tree) → neg (G +ᵍ H) ≡ neg G +ᵍ neg H
 neg-plus = by_sizes (λ G H. neg (G +ᵍ H) ≡ neg G +ᵍ neg H) neg_plus_step

@@ -6,7 +6,7 @@ use Rattle.short_games.specs.Tree.{Tree, left, right, Has, size}
 use Rattle.short_games.specs.Order.{◌≤ᵍ◌, ◌≡ᵍ◌}
 use Rattle.short_games.specs.Number.{num, IsNumber, IsNumberTree, half, is_even}
 use Rattle.short_games.specs.Threshold.{IsCell, IsFloor, IsCeiling}
-use Rattle.short_games.proofs.OrderLaws.{by_measure, le-out, le-in, le-refl, le-trans, le-or_not, none-or_some, size-left, size-right}
+use Rattle.short_games.proofs.OrderLaws.{by_measure, le-out, le-in, le-trans, le-or_not, none-or_some, size-left, size-right}
 use Rattle.short_games.proofs.SumLaws.{not_le_left, not_right_le}
 use Rattle.short_games.proofs.NumberLaws.{num-left, num-right, num-le, num-lt, num-double, half-even, half-odd, avoid-le, avoid-ge}
 use Rattle.short_games.proofs.PartLaws.{number-option}
@@ -32,14 +32,20 @@ half-within m = elim (cases_Bool (is_even m)) [
 -- a cell over one power of two lies in one over the power before
 coarser : (e : ℕ) (X : Tree) (h : ℤ) → IsCell (suc e) X h → (k : ℤ) × IsCell e X k
 coarser e X h c = elim (cases_Bool (is_even h)) [
-  | inl t ↦ (half h, at (half h) (λ z. (
-    (λ l. omega (arith, ints, half-even h t, l), λ l. omega (arith, ints, half-even h t, l)),
-    (λ l. omega (arith, ints, half-even h t, l), λ l. omega (arith, ints, half-even h t, l)),
-  )))
-  | inr f ↦ (half (half h) +ℤ half (half h) +ℤ pos 1, at (half (half h) +ℤ half (half h) +ℤ pos 1) (λ z. (
-    (λ l. omega (arith, ints, half-odd h f, half-within (half h), l), λ l. omega (arith, ints, half-odd h f, half-within (half h), l)),
-    (λ l. omega (arith, ints, half-odd h f, half-within (half h), l), λ l. omega (arith, ints, half-odd h f, half-within (half h), l)),
-  )))
+  | inl t ↦ (
+    half h,
+    at (half h) (λ z. (
+      (λ l. omega (arith, ints, half-even h t, l), λ l. omega (arith, ints, half-even h t, l)),
+      (λ l. omega (arith, ints, half-even h t, l), λ l. omega (arith, ints, half-even h t, l)),
+    )),
+  )
+  | inr f ↦ (
+    half (half h) +ℤ half (half h) +ℤ pos 1,
+    at (half (half h) +ℤ half (half h) +ℤ pos 1) (λ z. (
+      (λ l. omega (arith, ints, half-odd h f, half-within (half h), l), λ l. omega (arith, ints, half-odd h f, half-within (half h), l)),
+      (λ l. omega (arith, ints, half-odd h f, half-within (half h), l), λ l. omega (arith, ints, half-odd h f, half-within (half h), l)),
+    )),
+  )
 ]
   where
     at : (k : ℤ) → ((z : ℤ) → ((h ≤ℤ ((z +ℤ z) +ℤ (z +ℤ z))) ↔ (k ≤ℤ (z +ℤ z))) × ((((z +ℤ z) +ℤ (z +ℤ z)) ≤ℤ h) ↔ ((z +ℤ z) ≤ℤ k))) → IsCell e X k

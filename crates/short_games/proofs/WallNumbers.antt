@@ -1,10 +1,10 @@
 -- A test for the numbers over one power of two, and that a number's tree gives the number back.
 use Rattle.std.proofs.Common.{ℕ, zero, suc, ◌+◌, ◌^◌, ◌<◌, ◌≡◌, arith, refl, inl, inr, sym, ◌∙◌, ap, ap₂, subst, ℤ, pos, negsuc, ◌+ℤ◌, ◌-ℤ◌, true, false, Bool, cond, Option, Some, None}
-use Rattle.std.proofs.lemmas.Bool.{and_from, cases_Bool, true≢false}
+use Rattle.std.proofs.lemmas.Bool.{cases_Bool, true≢false}
 use Rattle.std.proofs.lemmas.Int.{ints}
 use Rattle.short_games.specs.Tree.{Tree, Trees, node, none, more, size, neg}
 use Rattle.short_games.specs.Number.{num, half, is_even, whole, count_tree}
-use Rattle.short_games.specs.NumberText.{same, same_each}
+use Rattle.short_games.specs.NumberText.{same}
 use Rattle.short_games.proofs.NumberTextLaws.{same-is, same-itself}
 use Rattle.short_games.proofs.OrderLaws.{by_measure, size-left, size-right}
 use Rattle.short_games.proofs.NumberLaws.{num-even, num-odd, num-double, half-even, half-odd, half-double}
