@@ -1,6 +1,6 @@
 use Rattle.game_canon.specs.inner.Games.{trees}
 use Rattle.game_canon.specs.inner.Comparisons.{recalled}
-use Rattle.game_canon.proofs.Waiting.{asking_ask, asking_answer, work_answer}
+use Rattle.game_canon.proofs.QuestionLaws.{asking_ask, asking_answer, work_answer}
 use Rattle.game_canon.proofs.at_most.at_most.Goals as goal
 
 pub asking-preserved-in-Ask : goal.asking-preserved-in-Ask
@@ -10,4 +10,4 @@ pub asking-smaller : goal.asking-smaller
 asking-smaller c = work_answer (trees c.args.games.now) (recalled c.asking.memo) (recalled c.remember.new.memo) c.args.a c.args.b c.asking.question c.in-Some-pop.next c.asking.waiting.items c.pop.new.self.items c.in-Answer.answer c.asking.invariant c.in_ok-remember-in-Answer.ensures.noted c.in-Some-pop.ensures.items
 
 pub asking-preserved : goal.asking-preserved
-asking-preserved c = asking_answer (trees c.args.games.now) (recalled c.asking.memo) (recalled c.remember.new.memo) c.args.a c.args.b c.asking.question c.in-Some-pop.next c.asking.waiting.items c.pop.new.self.items c.in-Answer.answer c.asking.invariant c.in-Answer.ensures c.in_ok-remember-in-Answer.ensures.noted c.in-Some-pop.ensures.items
+asking-preserved c = asking_answer (trees c.args.games.now) (recalled c.asking.memo) (recalled c.remember.new.memo) c.args.a c.args.b c.asking.question c.in-Some-pop.next c.asking.waiting.items c.pop.new.self.items c.in-Answer.answer c.asking.invariant c.in_ok-remember-in-Answer.ensures.noted c.in-Some-pop.ensures.items c.in-Answer.ensures

@@ -1,4 +1,4 @@
-use Rattle.game_canon.proofs.Finish.{made-number, number-few, number-near}
+use Rattle.game_canon.proofs.CanonicalFormLaws.{made-number, number-few, number-near}
 use Rattle.game_canon.proofs.canonical_forms.canonical_with.Goals as goal
 
 pub returns-in_ok-number-in-Number-clause-value : goal.returns-in_ok-number-in-Number-clause-value

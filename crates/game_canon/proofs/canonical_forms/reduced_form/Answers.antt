@@ -1,5 +1,5 @@
 use Rattle.game_store.specs.Meaning.{listed}
-use Rattle.game_canon.proofs.Finish.{ready, made-id, too-many, form-near}
+use Rattle.game_canon.proofs.CanonicalFormLaws.{ready, made-id, too-many, form-near}
 use Rattle.game_canon.proofs.canonical_forms.reduced_form.Goals as goal
 
 pub has_more_parts-requires-clause-no_number : goal.has_more_parts-requires-clause-no_number
