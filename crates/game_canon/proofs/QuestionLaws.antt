@@ -31,24 +31,31 @@ asking_ask Ts known a b q ws us place game other w s e = subst (IsAsking Ts know
     (waiting-ask _ _ _ _ _ _ _ _ q (record { game = q.game; other = q.other; place = place }) _ ws w refl
     s.1 s.2 (λ ls rs ms ns p q j l. absurd (omega (arith, l))) s.0)
 
+abbrev by_pairs : (ℕ → ℕ → Option Bool) → ℕ × ℕ → Option Bool
+by_pairs known p = known p.0 p.1
+
+-- what is remembered stays right with one more answer that is right
+pub right_more : (Ts : List Tree) (known after : ℕ → ℕ → Option Bool) (a b : ℕ) (answer : Bool) → AreRight Ts known → a < length Ts → b < length Ts → SaysAtMost Ts a b answer
+    → ((c d : ℕ) → after c d ≡ with_answer known a b answer c d) → AreRight Ts after
+right_more Ts known after a b answer r x y s noted c d v k = right-more same_pair pair-same pair-itself (by_pairs known) (by_pairs after) (a, b) answer (λ p. noted p.0 p.1)
+    (λ p v. (p.0 < length Ts) × (p.1 < length Ts) × SaysAtMost Ts p.0 p.1 v) (x, y, s) (λ p v e. r p.0 p.1 v e) (c, d) v k
+
+pub right_same : (Ts : List Tree) (known after : ℕ → ℕ → Option Bool) → AreRight Ts known → ((c d : ℕ) → after c d ≡ known c d) → AreRight Ts after
+right_same Ts known after r e c d v k = r c d v (sym (e c d) ∙ k)
+
 -- the measure: how many pairs are open, and then the ids of the question
 abbrev pub open_work : List Tree → (ℕ → ℕ → Option Bool) → Question → ℕ
 open_work Ts known q = undecided known (length Ts) * (length Ts + length Ts) + (q.game + q.other)
 
 module _ (Ts : List Tree) (known after : ℕ → ℕ → Option Bool) (a b : ℕ) (q next : Question) (us ws : List Question) (answer : Bool) (asked : IsAsking Ts known a b q us)
     (noted : (c d : ℕ) → after c d ≡ with_answer known q.game q.other answer c d) (u : us ≡ ws ++ next ∷ []) where
-  abbrev by_pairs : (ℕ → ℕ → Option Bool) → ℕ × ℕ → Option Bool
-  by_pairs known p = known p.0 p.1
-
   waiting : IsAsking Ts known a b q (ws ++ next ∷ [])
   waiting = subst (IsAsking Ts known a b q) u asked
 
   -- the question is answered, and the last that waits goes on
   pub asking_answer : SaysAtMost Ts q.game q.other answer → IsAsking Ts after a b next ws
   asking_answer s = waiting-answer _ _ _ _ _ _ _ _ q next ws waiting (by_pairs after)
-      (λ c d v k. right-more same_pair pair-same pair-itself (by_pairs known) (by_pairs after) (q.game, q.other) answer (λ p. noted p.0 p.1)
-      (λ p v. (p.0 < length Ts) × (p.1 < length Ts) × SaysAtMost Ts p.0 p.1 v) (asked.now.first_id, asked.now.second_id, s)
-      (λ p v e. asked.right p.0 p.1 v e) (c, d) v k)
+      (right_more Ts known after q.game q.other answer asked.right asked.now.first_id asked.now.second_id s noted)
       (λ r l o. record {
         first_id = o.first_id;
         second_id = o.second_id;

@@ -1,5 +1,7 @@
 use Rattle.std.proofs.Common.{sym, subst}
 use Rattle.game_store.specs.Meaning.{AreIds}
+use Rattle.game_canon.specs.Comparisons.{AreRight}
+use Rattle.game_canon.specs.inner.Comparisons.{recalled}
 use Rattle.game_canon.specs.inner.Sides.{StartsWith}
 use Rattle.game_canon.proofs.CanonicalFormLaws.{right-empty}
 use Rattle.game_canon.proofs.reduction.best_lists.Goals as goal
@@ -15,3 +17,15 @@ best_of_both-requires-clause-right c = subst (λ Us. AreIds Us c.args.right.now)
 
 pub returns-clause-starts : goal.returns-clause-starts
 returns-clause-starts c = subst (λ Us. StartsWith Us c.args.left.now c.args.right.now c.in_ok-lists.lists.left.items c.in_ok-lists.lists.right.items) c.games_of-stored.ensures.store c.in_ok-lists.ensures.starts
+
+pub best_of_both-requires-clause-known : goal.best_of_both-requires-clause-known
+best_of_both-requires-clause-known c = record {
+  games_are = c.games_of-stored.ensures.known;
+  right = subst (λ Us. AreRight Us (recalled c.args.memo.now)) (sym c.games_of-stored.ensures.trees) c.requires.memo;
+}
+
+pub returns-clause-memo : goal.returns-clause-memo
+returns-clause-memo c = subst (λ Us. AreRight Us (recalled c.best_of_both.new.memo)) c.games_of-stored.ensures.trees c.best_of_both.ensures.known.right
+
+pub returns-in_err-lists-clause-memo : goal.returns-in_err-lists-clause-memo
+returns-in_err-lists-clause-memo c = subst (λ Us. AreRight Us (recalled c.best_of_both.new.memo)) c.games_of-stored.ensures.trees c.best_of_both.ensures.known.right

@@ -13,3 +13,6 @@ asking-preserved c = sums_answer c.args.store.now (recalled_sums c.asking.memo) 
 
 pub returns-in-None-clause-right : goal.returns-in-None-clause-right
 returns-in-None-clause-right c = c.remember_sums.ensures.right c.args.store.now c.asking.invariant.now.ids c.in-Answer.ensures c.asking.invariant.right
+
+pub returns-in_err-remember_sums-in-Answer-clause-right : goal.returns-in_err-remember_sums-in-Answer-clause-right
+returns-in_err-remember_sums-in-Answer-clause-right c = c.remember_sums.ensures.right c.args.store.now c.asking.invariant.now.ids c.in-Answer.ensures c.asking.invariant.right
