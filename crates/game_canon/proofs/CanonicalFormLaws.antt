@@ -1,9 +1,8 @@
 -- A reduced form in the order of its ids is the canonical tree.
-use Rattle.std.proofs.Common.{ℕ, zero, suc, ◌+◌, ◌<◌, ◌≤◌, ◌≡◌, List, [], length, arith, refl, sym, ap, ◌∙◌, inl, inr, subst, ℤ, pos, negsuc}
-use Rattle.std.proofs.lemmas.Bool.{cases_lt}
-use Rattle.short_games.specs.Tree.{Tree, left, right, Has, neg, size, tree_at, AreDistinct}
+use Rattle.std.proofs.Common.{ℕ, ◌+◌, ◌<◌, ◌≤◌, ◌≡◌, List, [], length, arith, refl, sym, ap, ◌∙◌, inl, inr, subst, ℤ, pos}
+use Rattle.short_games.specs.Tree.{Tree, Has, tree_at, AreDistinct}
 use Rattle.short_games.specs.Order.{◌≤ᵍ◌, ◌≡ᵍ◌}
-use Rattle.short_games.specs.Number.{IsNumberTree, num, IsNumber, whole, count_tree, number_tree}
+use Rattle.short_games.specs.Number.{IsNumberTree, num, IsNumber, number_tree}
 use Rattle.short_games.specs.TextOrder.{IsCanonicalTree, IsCanonicalFor}
 use Rattle.short_games.specs.inner.Reduction.{KeepsLeft, KeepsRight}
 use Rattle.std.specs.Prelude.{Option, Some, None, Bool, IsTrue, ◌↔◌, unsigned_abs, ◌^◌}
@@ -12,7 +11,7 @@ use Rattle.std.proofs.lemmas.Int.{ints}
 use Rattle.short_games.proofs.AvoidanceLaws.{cheap_left, cheap_right}
 use Rattle.short_games.proofs.TextOrderLaws.{sorted-has, has-sorted}
 use Rattle.short_games.proofs.OrderLaws.{le-trans, le-refl, same-trans}
-use Rattle.short_games.proofs.FormLaws.{by_better, number_between}
+use Rattle.short_games.proofs.FormLaws.{by_better}
 use Rattle.short_games.proofs.ReductionLaws.{form-canonical, number-kept_left, number-kept_right, number-canonical, canonical-same}
 use Rattle.game_store.specs.Meaning.{pick, listed, form, AreIds, AreCanonical, IsAscending, IsIdOf, Extends}
 use Rattle.game_store.proofs.Values.{has-pick}

@@ -5,13 +5,12 @@ use Rattle.std.proofs.lemmas.Int.{ints, by_lt_z}
 use Rattle.std.proofs.lemmas.Nat.{pow-add, div-add-mod', mod_below}
 use Rattle.dyadic_num.specs.Units.{IsSimplest, IsInside}
 use Rattle.std.proofs.Math.Nat.{mul_assoc}
-use Rattle.short_games.specs.Order.{◌≤ᵍ◌}
 use Rattle.short_games.specs.Tree.{Tree, size}
 use Rattle.short_games.specs.Number.{IsNumberTree, number_tree}
 use Rattle.short_games.specs.Stops.{IsLeftStop, IsRightStop, IsHalf}
 use Rattle.short_games.specs.Parts.{IsOption, IsFollower, IsNumberOf}
 use Rattle.short_games.specs.Parts.IsFollower.{itself, further}
-use Rattle.short_games.proofs.OrderLaws.{size-left, size-right, le-refl}
+use Rattle.short_games.proofs.OrderLaws.{size-left, size-right}
 use Rattle.short_games.proofs.WallNumbers.{num-one_to_one}
 use Rattle.short_games.proofs.StopLaws.{left_stop-is, right_stop-is}
 use Rattle.short_games.proofs.StopLaws.StopIs.{of_number, of_game}

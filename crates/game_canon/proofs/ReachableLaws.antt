@@ -1,14 +1,6 @@
 -- How what a form is made of is gathered.
-use Rattle.std.proofs.Common.{ℕ, ◌+◌, ◌<◌, ◌≤◌, ◌≡◌, ◌⊎◌, List, [], ◌∷◌, ◌++◌, length, get_or, arith, refl, sym, ◌∙◌, inl, inr, ap, subst, Bool, true, false, nat_eq}
-use Rattle.std.specs.Prelude.{if◌then◌else◌}
-use Rattle.std.specs.List.{list_any, Contains}
-use Rattle.indexmap.specs.IndexSet.{insert_key}
-use Rattle.indexmap.proofs.CallerLemmas.{Contains-insert_key}
+use Rattle.std.proofs.Common.{ℕ, ◌+◌, ◌<◌, ◌≤◌, ◌≡◌, List, [], ◌∷◌, length, get_or, arith, refl, sym, ◌∙◌, inl, inr, ap, subst}
 use Rattle.std.proofs.lemmas.Bool.{cases_lt}
-use Rattle.std.proofs.lemmas.Bool.Decides.{Decides-eqb}
-use Rattle.std.proofs.lemmas.List.{length-append, get_or_append_left}
-use Rattle.std.proofs.lemmas.List.Elements.{at_from_Contains}
-use Rattle.std.proofs.Math.Seq.{get_or-append_seam}
 use Rattle.short_games.specs.Tree.{Tree, Has, tree_at}
 use Rattle.short_games.specs.Number.{IsNumberTree}
 use Rattle.game_store.specs.Meaning.{pick, AreIds}
@@ -21,7 +13,7 @@ use Rattle.game_canon.specs.inner.Reachable.{IsWidened}
 use Rattle.game_canon.proofs.IdLaws.{ordered-ids}
 use Rattle.game_canon.proofs.PartLaws.{in-longer}
 use Rattle.short_games.proofs.PartLaws.{follower-more, number-option}
-use Rattle.game_canon.proofs.SideLaws.{append-has, has-append_left, has-append_right, one}
+use Rattle.game_canon.proofs.SideLaws.{one}
 
 -- all that passes is among the ids
 widened-has : (Ts : List Tree) (P : Tree → Type 0) (ks us : List ℕ) → IsWidened Ts P ks us → (X : Tree) → P X → IsIn Ts us X

@@ -1,9 +1,7 @@
 -- Comparisons of sums that wait for one another.
-use Rattle.std.proofs.Common.{ℕ, ◌+◌, ◌*◌, ◌<◌, ◌≤◌, ◌≡◌, List, [], ◌∷◌, ◌++◌, length, get_or, arith, refl, sym, ◌∙◌, inl, inr, ap, subst, Bool, true, nat_eq, ◌&&◌, cond, Some, None, IfSome, IsTrue, ◌↔◌}
+use Rattle.std.proofs.Common.{ℕ, ◌+◌, ◌*◌, ◌<◌, ◌≤◌, ◌≡◌, List, [], ◌∷◌, ◌++◌, length, arith, refl, sym, ◌∙◌, ap, subst, Bool, true, nat_eq, ◌&&◌, Some, None, IfSome, IsTrue, ◌↔◌}
 use Rattle.std.specs.Prelude.{Option}
-use Rattle.std.proofs.lemmas.Bool.{cases_Bool, cases_lt, and_parts, eqb-true, eq-eqb}
-use Rattle.std.proofs.lemmas.List.{length-append, get_or_append_left}
-use Rattle.std.proofs.Math.Seq.{get_or-append_seam}
+use Rattle.std.proofs.lemmas.Bool.{and_parts, eqb-true, eq-eqb}
 use Rattle.short_games.specs.Tree.{Tree}
 use Rattle.short_games.specs.Order.{◌≤ᵍ◌}
 use Rattle.short_games.specs.Sum.{◌+ᵍ◌}

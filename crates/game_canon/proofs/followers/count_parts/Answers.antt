@@ -1,4 +1,4 @@
-use Rattle.std.proofs.Common.{◌≡◌, ◌<◌, ◌≤◌, List, ℕ, length, get_or, arith, sym, subst, [], ap}
+use Rattle.std.proofs.Common.{◌<◌, ◌≤◌, List, ℕ, length, get_or, arith, sym, subst, ap}
 use Rattle.short_games.specs.Tree.{Has}
 use Rattle.game_store.specs.Meaning.{pick, listed}
 use Rattle.game_canon.specs.inner.Followers.{IsGrown}
