@@ -115,10 +115,12 @@ ready Ts G ms ns vs ws c n r d e = subst (λ z. IsReady Ts G z ws) (sym d) (subs
     m = made Ts G ms ns c n r
 
 -- the form that the reduction starts with
-pub starts : (Ts : List Tree) (ls rs ms ns : List ℕ) → AreBest Left Ts ls ms → IsAscending ms → AreBest Right Ts rs ns → IsAscending ns → StartsWith Ts ls rs ms ns
+pub starts : (Ts : List Tree) (ls rs ms ns : List ℕ) → AreBest Left Ts ls ms → IsAscending ms → AreBest Right Ts rs ns → IsAscending ns
+    → StartsWith Ts ls rs ms ns
 starts Ts ls rs ms ns a u b v = record {
   start = record { left_ids = a.ids; right_ids = b.ids; left_ascends = u; right_ascends = v; left_free = a.free; right_free = b.free };
-  same = same-trans _ (listed Ts ms rs) _ (best-same Left Ts ls rs ms a) (same-trans _ (listed Ts ms ns) _ (best-same Right Ts rs ms ns b) (listed-form Ts ms ns));
+  same = same-trans _ (listed Ts ms rs) _ (best-same Left Ts ls rs ms a)
+      (same-trans _ (listed Ts ms ns) _ (best-same Right Ts rs ms ns b) (listed-form Ts ms ns));
   among = λ X o. elim (option-listed Ts ms ns X o) [ inl h ↦ inl (a.among X h) | inr h ↦ inr (b.among X h) ];
 }
 

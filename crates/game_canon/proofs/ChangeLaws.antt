@@ -243,4 +243,5 @@ module _ (c : Change) (G : Tree) (ms ns : Trees) (canonical : IsCanonicalTree G)
   }
 
   pub changed-no_number : IsNumberTree (node (sorted ms) (sorted ns)) → ⊥
-  changed-no_number n = let k = of-form in no-form (number-same (node (sorted ms) (sorted ns)) (node ms ns) (k.over, k.under) (number-as_game _ n))
+  changed-no_number n = let k = of-form in no-form (number-same (node (sorted ms) (sorted ns)) (node ms ns) (k.over, k.under)
+      (number-as_game _ n))

@@ -31,14 +31,16 @@ mutual
   left-number zero G x l s = absurd (omega (arith, l))
   left-number (suc n) G x l s = elim (left_stop-is 60 G x s) [
     | of_number i ↦ inl i
-    | of_game f g ↦ (let r = g.reached in option-numbers G r.0 x f (inl r.1) (right-number n r.0 x (omega (arith, l, size-left G r.0 r.1)) r.2))
+    | of_game f g ↦ (let r = g.reached in option-numbers G r.0 x f (inl r.1)
+        (right-number n r.0 x (omega (arith, l, size-left G r.0 r.1)) r.2))
   ]
 
   right-number : (n : ℕ) (G : Tree) (x : ℤ) → size G < n → IsRightStop 60 G x → IsNumberOf G x
   right-number zero G x l s = absurd (omega (arith, l))
   right-number (suc n) G x l s = elim (right_stop-is 60 G x s) [
     | of_number i ↦ inl i
-    | of_game f g ↦ (let r = g.reached in option-numbers G r.0 x f (inr r.1) (left-number n r.0 x (omega (arith, l, size-right G r.0 r.1)) r.2))
+    | of_game f g ↦ (let r = g.reached in option-numbers G r.0 x f (inr r.1)
+        (left-number n r.0 x (omega (arith, l, size-right G r.0 r.1)) r.2))
   ]
 
 -- so floors and ceilings are within twice the size of the numbers

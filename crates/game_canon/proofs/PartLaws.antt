@@ -64,7 +64,8 @@ grown-start Ts ks = gathered-same Ts IsNumberTree (Has (pick Ts [])) ks (λ X h.
 pub grown-number : (Ts : List Tree) (ks : List ℕ) (G : Tree) → IsNumberTree G → IsGrown Ts (IsOption G) ks ks
 grown-number Ts ks G n = gathered-same Ts IsNumberTree (IsOption G) ks (λ X o. number-option G X n o)
 
-module _ (Ts : List Tree) (ks us : List ℕ) (longer : length ks ≤ length us) (same : (j : ℕ) → j < length ks → get_or us j 0 ≡ get_or ks j 0) (X : Tree) where
+module _ (Ts : List Tree) (ks us : List ℕ) (longer : length ks ≤ length us)
+    (same : (j : ℕ) → j < length ks → get_or us j 0 ≡ get_or ks j 0) (X : Tree) where
   pub in-longer : IsIn Ts ks X → IsIn Ts us X
   in-longer i = (i.0, omega (arith, i.1, longer), i.2 ∙ ap (tree_at Ts) (sym (same i.0 i.1)))
 
@@ -80,20 +81,25 @@ gathered-both Ts S P Q R ks us vs a b f g h = record {
   same = λ j l. b.same j (omega (arith, l, a.longer)) ∙ a.same j l;
   below = λ j l m. elim (cases_lt j (length us)) [ inl d ↦ subst (λ i. i < length Ts) (sym (b.same j d)) (a.below j d m) | inr d ↦ b.below j l d ];
   passes = λ j l m. elim (cases_lt j (length us)) [ inl d ↦ subst (λ i. R (tree_at Ts i)) (sym (b.same j d)) (f _ (a.passes j d m)) | inr d ↦ g _ (b.passes j l d) ];
-  wanted = λ j l m. elim (cases_lt j (length us)) [ inl d ↦ subst (λ i. S (tree_at Ts i) → ⊥) (sym (b.same j d)) (a.wanted j d m) | inr d ↦ b.wanted j l d ];
+  wanted = λ j l m. elim (cases_lt j (length us)) [
+    | inl d ↦ subst (λ i. S (tree_at Ts i) → ⊥) (sym (b.same j d)) (a.wanted j d m)
+    | inr d ↦ b.wanted j l d
+  ];
   has = λ X r. elim (h X r) [ inl p ↦ out-or_longer Ts us vs b.longer b.same X S (a.has X p) | inr q ↦ b.has X q ];
 }
 
 -- one more id
 module _ (Ts : List Tree) (S : Tree → Type 0) (xs ks us : List ℕ) (y : ℕ) where
-  and_one : (vs : List ℕ) → IsGathered Ts S (Has (pick Ts xs)) ks us → IsGathered Ts S (Has (pick Ts (y ∷ []))) us vs → IsGathered Ts S (Has (pick Ts (xs ++ y ∷ []))) ks vs
+  and_one : (vs : List ℕ) → IsGathered Ts S (Has (pick Ts xs)) ks us → IsGathered Ts S (Has (pick Ts (y ∷ []))) us vs
+      → IsGathered Ts S (Has (pick Ts (xs ++ y ∷ []))) ks vs
   and_one vs g one_more = gathered-both Ts S (Has (pick Ts xs)) (Has (pick Ts (y ∷ []))) (Has (pick Ts (xs ++ y ∷ []))) ks us vs g one_more
       (has-append_left Ts xs (y ∷ [])) (has-append_right Ts xs (y ∷ [])) (append-has Ts xs (y ∷ []))
 
   pub gathered-skip : S (tree_at Ts y) → IsGathered Ts S (Has (pick Ts xs)) ks us → IsGathered Ts S (Has (pick Ts (xs ++ y ∷ []))) ks us
   gathered-skip n g = and_one us g (gathered-same Ts S (Has (pick Ts (y ∷ []))) us (λ X h. subst S (sym (one Ts y X h)) n))
 
-  inserted : (vs : List ℕ) → y < length Ts → (S (tree_at Ts y) → ⊥) → vs ≡ insert_key nat_eq us y → IsGathered Ts S (Has (pick Ts (y ∷ []))) us vs
+  inserted : (vs : List ℕ) → y < length Ts → (S (tree_at Ts y) → ⊥) → vs ≡ insert_key nat_eq us y
+      → IsGathered Ts S (Has (pick Ts (y ∷ []))) us vs
   inserted vs l n e = at (list_any (nat_eq y) us) refl
     where
       found : IsIn Ts vs (tree_at Ts y)
@@ -114,7 +120,9 @@ module _ (Ts : List Tree) (S : Tree → Type 0) (xs ks us : List ℕ) (y : ℕ) 
           }
       at false t =
           let s : us ++ y ∷ [] ≡ vs = sym (e ∙ ap (λ c. if c then us else us ++ y ∷ []) t) in
-          let last : (j : ℕ) → j < length (us ++ y ∷ []) → length us ≤ j → y ≡ get_or (us ++ y ∷ []) j 0 = λ j k m. (let i : length us ≡ j = omega (arith, k, m, length-append us (y ∷ [])) in subst (λ z. y ≡ get_or (us ++ y ∷ []) z 0) i (sym (get_or-append_seam us y [] 0))) in
+          let last : (j : ℕ) → j < length (us ++ y ∷ []) → length us ≤ j → y ≡ get_or (us ++ y ∷ []) j 0 = λ j k m.
+          (let i : length us ≡ j = omega (arith, k, m, length-append us (y ∷ [])) in subst (λ z. y ≡ get_or (us ++ y ∷ []) z 0) i
+          (sym (get_or-append_seam us y [] 0))) in
           subst (IsGathered Ts S (Has (pick Ts (y ∷ []))) us) s record {
             longer = omega (arith, length-append us (y ∷ []));
             same = λ j k. get_or_append_left us (y ∷ []) 0 j k;
@@ -124,7 +132,8 @@ module _ (Ts : List Tree) (S : Tree → Type 0) (xs ks us : List ℕ) (y : ℕ) 
             has = subst (λ z. (X : Tree) → Has (pick Ts (y ∷ [])) X → S X ⊎ IsIn Ts z X) (sym s) all;
           }
 
-  pub gathered-insert : (vs : List ℕ) → y < length Ts → (S (tree_at Ts y) → ⊥) → vs ≡ insert_key nat_eq us y → IsGathered Ts S (Has (pick Ts xs)) ks us
+  pub gathered-insert : (vs : List ℕ) → y < length Ts → (S (tree_at Ts y) → ⊥) → vs ≡ insert_key nat_eq us y
+      → IsGathered Ts S (Has (pick Ts xs)) ks us
       → IsGathered Ts S (Has (pick Ts (xs ++ y ∷ []))) ks vs
   gathered-insert vs l n e g = and_one vs g (inserted vs l n e)
 
@@ -144,18 +153,21 @@ follow-start Ts ls rs us ks a b = record {
 }
   where
     g : IsGrown Ts (IsOption (listed Ts ls rs)) [] ks
-    g = gathered-both Ts IsNumberTree (Has (pick Ts ls)) (Has (pick Ts rs)) (IsOption (listed Ts ls rs)) [] us ks a b (λ X h. inl h) (λ X h. inr h) (λ X h. h)
+    g = gathered-both Ts IsNumberTree (Has (pick Ts ls)) (Has (pick Ts rs)) (IsOption (listed Ts ls rs)) [] us ks a b (λ X h. inl h)
+        (λ X h. inr h) (λ X h. h)
 
 pub follow-step : (Ts : List Tree) (G : Tree) (ks us : List ℕ) (n id : ℕ) → IsFollowing Ts G ks n → n < length ks → id ≡ get_or ks n 0 → IsGrown Ts (IsOption (tree_at Ts id)) ks us → IsFollowing Ts G us (n + 1)
 follow-step Ts G ks us n id w l e g = record {
   ids = λ j k. elim (cases_lt j (length ks)) [ inl d ↦ subst (λ i. i < length Ts) (sym (g.same j d)) (w.ids j d) | inr d ↦ g.below j k d ];
   parts = λ j k. elim (cases_lt j (length ks)) [
     | inl d ↦ subst (λ i. IsPartOfOption G (tree_at Ts i)) (sym (g.same j d)) (w.parts j d)
-    | inr d ↦ (let p = subst (λ i. IsPartOfOption G (tree_at Ts i)) (sym e) (w.parts n l) in (p.0, p.1, (follower-more p.0 _ _ p.2.0 (g.passes j k d), g.wanted j k d)))
+    | inr d ↦ (let p = subst (λ i. IsPartOfOption G (tree_at Ts i)) (sym e) (w.parts n l)
+        in (p.0, p.1, (follower-more p.0 _ _ p.2.0 (g.passes j k d), g.wanted j k d)))
   ];
   starts = λ X o. out-or_longer Ts ks us g.longer g.same X IsNumberTree (w.starts X o);
   closed = λ j k m X o. elim (cases_lt j n) [
-    | inl d ↦ (let i : j < length ks = omega (arith, d, l) in out-or_longer Ts ks us g.longer g.same X IsNumberTree (w.closed j d i X (subst (λ i. IsOption (tree_at Ts i) X) (g.same j i) o)))
+    | inl d ↦ (let i : j < length ks = omega (arith, d, l) in out-or_longer Ts ks us g.longer g.same X IsNumberTree
+        (w.closed j d i X (subst (λ i. IsOption (tree_at Ts i) X) (g.same j i) o)))
     | inr d ↦ (let i : n ≡ j = omega (arith, k, d) in g.has X (subst (λ i. IsOption (tree_at Ts i) X) (sym (e ∙ sym (g.same n l))) (subst (λ z. IsOption (tree_at Ts (get_or us z 0)) X) (sym i) o)))
   ];
 }
@@ -239,7 +251,12 @@ below-part : (Ts : List Tree) (ls rs : List ℕ) (X : Tree) → IsPartOfOption (
 below-part Ts ls rs X b = (further _ b.0 X (listed-option Ts ls rs b.0 b.1) b.2.0, b.2.1)
 
 below-other : (Ts : List Tree) (ls rs : List ℕ) (X : Tree) → IsPartOfOption (listed Ts ls rs) X → form Ts ls rs ≡ X → ⊥
-below-other Ts ls rs X b e = omega (arith, follower-size b.0 X b.2.0, size-option (form Ts ls rs) b.0 (listed-option Ts ls rs b.0 b.1), ap size e)
+below-other Ts ls rs X b e = omega (
+  arith,
+  follower-size b.0 X b.2.0,
+  size-option (form Ts ls rs) b.0 (listed-option Ts ls rs b.0 b.1),
+  ap size e,
+)
 
 with-itself : (Ts : List Tree) (ls rs : List ℕ) (Xs : List Tree) → (IsNumberTree (form Ts ls rs) → ⊥) → ArePartsOfOptions (listed Ts ls rs) Xs → AreParts (form Ts ls rs) (form Ts ls rs ∷ Xs)
 with-itself Ts ls rs Xs n b = record { each = each; different = different }

@@ -19,15 +19,18 @@ pair-itself p = rw (eq-eqb p.0 p.0 refl, eq-eqb p.1 p.1 refl) refl
 
 -- where the search is: at a question, with those that wait for it, the one asked at first at the bottom
 abbrev pub IsAsking : List Tree → (ℕ → ℕ → Option Bool) → (a b : ℕ) → Question → List Question → Type 0
-IsAsking Ts known a b q ws = AreWaiting (λ (q : Question). (q.game, q.other)) (λ (p : ℕ × ℕ). p.0 + p.1) (λ k. AreRight Ts (λ c d. k (c, d)))
+IsAsking Ts known a b q ws = AreWaiting (λ (q : Question). (q.game, q.other)) (λ (p : ℕ × ℕ). p.0 + p.1)
+    (λ k. AreRight Ts (λ c d. k (c, d)))
     (λ k p. IsOpen Ts (λ c d. k (c, d)) p.0 p.1) (λ q. NoneCounters Ts q.game q.other q.place) (record { game = 0; other = 0; place = 0 })
     (λ p. known p.0 p.1) (a, b) q ws
 
 -- another comparison comes first
 pub asking_ask : (Ts : List Tree) (known : ℕ → ℕ → Option Bool) (a b : ℕ) (q : Question) (ws us : List Question) (place game other : ℕ)
-    → IsAsking Ts known a b q ws → IsStep Ts known q (Ask place game other) → us ≡ ws ++ record { game = q.game; other = q.other; place = place } ∷ []
+    → IsAsking Ts known a b q ws → IsStep Ts known q (Ask place game other)
+    → us ≡ ws ++ record { game = q.game; other = q.other; place = place } ∷ []
     → IsAsking Ts known a b (record { game = game; other = other; place = 0 }) us
-asking_ask Ts known a b q ws us place game other w s e = subst (IsAsking Ts known a b (record { game = game; other = other; place = 0 })) (sym e)
+asking_ask Ts known a b q ws us place game other w s e = subst (IsAsking Ts known a b
+    (record { game = game; other = other; place = 0 })) (sym e)
     (waiting-ask _ _ _ _ _ _ _ _ q (record { game = q.game; other = q.other; place = place }) _ ws w refl
     s.1 s.2 (λ ls rs ms ns p q j l. absurd (omega (arith, l))) s.0)
 
@@ -35,9 +38,11 @@ abbrev by_pairs : (ℕ → ℕ → Option Bool) → ℕ × ℕ → Option Bool
 by_pairs known p = known p.0 p.1
 
 -- what is remembered stays right with one more answer that is right
-pub right_more : (Ts : List Tree) (known after : ℕ → ℕ → Option Bool) (a b : ℕ) (answer : Bool) → AreRight Ts known → a < length Ts → b < length Ts → SaysAtMost Ts a b answer
+pub right_more : (Ts : List Tree) (known after : ℕ → ℕ → Option Bool) (a b : ℕ) (answer : Bool) → AreRight Ts known → a < length Ts
+    → b < length Ts → SaysAtMost Ts a b answer
     → ((c d : ℕ) → after c d ≡ with_answer known a b answer c d) → AreRight Ts after
-right_more Ts known after a b answer r x y s noted c d v k = right-more same_pair pair-same pair-itself (by_pairs known) (by_pairs after) (a, b) answer (λ p. noted p.0 p.1)
+right_more Ts known after a b answer r x y s noted c d v k = right-more same_pair pair-same pair-itself (by_pairs known)
+    (by_pairs after) (a, b) answer (λ p. noted p.0 p.1)
     (λ p v. (p.0 < length Ts) × (p.1 < length Ts) × SaysAtMost Ts p.0 p.1 v) (x, y, s) (λ p v e. r p.0 p.1 v e) (c, d) v k
 
 pub right_same : (Ts : List Tree) (known after : ℕ → ℕ → Option Bool) → AreRight Ts known → ((c d : ℕ) → after c d ≡ known c d) → AreRight Ts after
@@ -47,7 +52,8 @@ right_same Ts known after r e c d v k = r c d v (sym (e c d) ∙ k)
 abbrev pub open_work : List Tree → (ℕ → ℕ → Option Bool) → Question → ℕ
 open_work Ts known q = undecided known (length Ts) * (length Ts + length Ts) + (q.game + q.other)
 
-module _ (Ts : List Tree) (known after : ℕ → ℕ → Option Bool) (a b : ℕ) (q next : Question) (us ws : List Question) (answer : Bool) (asked : IsAsking Ts known a b q us)
+module _ (Ts : List Tree) (known after : ℕ → ℕ → Option Bool) (a b : ℕ) (q next : Question) (us ws : List Question) (answer : Bool)
+    (asked : IsAsking Ts known a b q us)
     (noted : (c d : ℕ) → after c d ≡ with_answer known q.game q.other answer c d) (u : us ≡ ws ++ next ∷ []) where
   waiting : IsAsking Ts known a b q (ws ++ next ∷ [])
   waiting = subst (IsAsking Ts known a b q) u asked
@@ -61,7 +67,8 @@ module _ (Ts : List Tree) (known after : ℕ → ℕ → Option Bool) (a b : ℕ
         second_id = o.second_id;
         first_form = o.first_form;
         second_form = o.second_form;
-        unknown = other-key same_pair pair-same pair-itself (by_pairs known) (by_pairs after) (q.game, q.other) answer (λ p. noted p.0 p.1) r
+        unknown = other-key same_pair pair-same pair-itself (by_pairs known) (by_pairs after) (q.game, q.other) answer
+            (λ p. noted p.0 p.1) r
             (λ e. omega (arith, l, subst (λ (p : ℕ × ℕ). q.game + q.other ≡ p.0 + p.1) e refl)) ∙ o.unknown;
       })
 
@@ -69,8 +76,10 @@ module _ (Ts : List Tree) (known after : ℕ → ℕ → Option Bool) (a b : ℕ
   pub work_answer : open_work Ts after next < open_work Ts known q
   work_answer =
       let o = waiting-last _ _ _ _ _ _ _ _ q next ws waiting in
-      let on = λ (c d : ℕ). open-no_more same_pair pair-same pair-itself (by_pairs known) (by_pairs after) (q.game, q.other) answer (λ p. noted p.0 p.1) (c, d) in
+      let on = λ (c d : ℕ). open-no_more same_pair pair-same pair-itself (by_pairs known) (by_pairs after) (q.game, q.other) answer
+      (λ p. noted p.0 p.1) (c, d) in
       measure-answer (undecided known (length Ts)) (undecided after (length Ts)) (q.game + q.other) (next.game + next.other) (length Ts + length Ts)
       (undecided-falls known after (length Ts) q.game q.other on asked.now.first_id asked.now.second_id
-      (open-fewer same_pair pair-same pair-itself (by_pairs known) (by_pairs after) (q.game, q.other) answer (λ p. noted p.0 p.1) asked.now.unknown))
+      (open-fewer same_pair pair-same pair-itself (by_pairs known) (by_pairs after) (q.game, q.other) answer (λ p. noted p.0 p.1)
+      asked.now.unknown))
       (omega (arith, o.first_id, o.second_id))

@@ -52,7 +52,9 @@ reaching-step Ts G ks us n id w l e g = record {
   ];
   closed = λ j k m X o. elim (cases_lt j n) [
     | inl d ↦ (let i : j < length ks = omega (arith, d, l) in in-longer Ts ks us g.longer g.same X (w.closed j d i X (subst (λ i. IsInner (tree_at Ts i) X) (g.same j i) o)))
-    | inr d ↦ (let i : n ≡ j = omega (arith, k, d) in widened-has Ts _ ks us g X (subst (λ i. IsInner (tree_at Ts i) X) (sym (e ∙ sym (g.same n l))) (subst (λ z. IsInner (tree_at Ts (get_or us z 0)) X) (sym i) o)))
+    | inr d ↦ (let i : n ≡ j = omega (arith, k, d) in widened-has Ts _ ks us g X
+        (subst (λ i. IsInner (tree_at Ts i) X) (sym (e ∙ sym (g.same n l)))
+        (subst (λ z. IsInner (tree_at Ts (get_or us z 0)) X) (sym i) o)))
   ];
 }
 

@@ -169,7 +169,8 @@ pub record IsReducing (Ts : List Tree) (G : Tree) (ms ns : List ℕ) : Type 0 wh
   pub right_free : AreFree Right (pick Ts ns)
   pub comes : (X : Tree) → IsOption (listed Ts ms ns) X → Comes G X
 
-comes-smaller : (s : Side) (Ts : List Tree) (G : Tree) (ns vs : List ℕ) → IsSmaller s Ts G ns vs → ((Y : Tree) → Has (pick Ts ns) Y → Comes G Y)
+comes-smaller : (s : Side) (Ts : List Tree) (G : Tree) (ns vs : List ℕ) → IsSmaller s Ts G ns vs
+    → ((Y : Tree) → Has (pick Ts ns) Y → Comes G Y)
     → (X : Tree) → Has (pick Ts vs) X → Comes G X
 comes-smaller s Ts G ns vs r c X h = elim (r.from X h) [ inl a ↦ c X a | inr f ↦ come-further G f.0 f.2.0 X (c f.0 f.1) f.2.1 f.2.2 f.2.3 ]
 

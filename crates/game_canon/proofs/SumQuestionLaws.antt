@@ -41,11 +41,18 @@ games-same p q t =
     λ i. record { first = eqb-true p.first q.first x.0 i; second = eqb-true p.second q.second y.0 i; third = eqb-true p.third q.third z.0 i; fourth = eqb-true p.fourth q.fourth z.1 i }
 
 games-itself : (p : SumPair) → same_games p p ≡ true
-games-itself p = rw (eq-eqb p.first p.first refl, eq-eqb p.second p.second refl, eq-eqb p.third p.third refl, eq-eqb p.fourth p.fourth refl) refl
+games-itself p = rw (
+  eq-eqb p.first p.first refl,
+  eq-eqb p.second p.second refl,
+  eq-eqb p.third p.third refl,
+  eq-eqb p.fourth p.fourth
+      refl,
+) refl
 
 -- what is remembered stays right with one more answer that is right
 pub right_more : (Ts : List Tree) (known after : SumPair → Option Bool) (p : SumPair) (answer : Bool) → AreStored Ts p → Tells Ts p answer → ((r : SumPair) → after r ≡ with_sums known p answer r) → AreSumsRight Ts known → AreSumsRight Ts after
-right_more Ts known after p answer ids s e r = right-more same_games games-same games-itself known after p answer e (λ q v. AreStored Ts q × Tells Ts q v) (ids, s) r
+right_more Ts known after p answer ids s e r = right-more same_games games-same games-itself known after p answer e
+    (λ q v. AreStored Ts q × Tells Ts q v) (ids, s) r
 
 pub right_same : (Ts : List Tree) (before now : Compared) → now ≡ before → AreComparisonsRight Ts before → AreComparisonsRight Ts now
 right_same Ts before now e r = subst (AreComparisonsRight Ts) (sym e) r
@@ -68,7 +75,8 @@ open_sums-falls known after n p h a b c d l = row-lt _ _ n p.first (λ i. row-le
 abbrev pub sums_work : List Tree → (SumPair → Option Bool) → SumPair → ℕ
 sums_work Ts known q = open_sums known (length Ts) * (length Ts + length Ts + length Ts + length Ts) + weight q
 
-module _ (Ts : List Tree) (known after : SumPair → Option Bool) (p : SumPair) (q next : SumQuestion) (us ws : List SumQuestion) (answer : Bool) (asked : AreAsking Ts known p q us)
+module _ (Ts : List Tree) (known after : SumPair → Option Bool) (p : SumPair) (q next : SumQuestion) (us ws : List SumQuestion)
+    (answer : Bool) (asked : AreAsking Ts known p q us)
     (noted : (r : SumPair) → after r ≡ with_sums known q.pair answer r) (u : us ≡ ws ++ next ∷ []) where
   waiting : AreAsking Ts known p q (ws ++ next ∷ [])
   waiting = subst (AreAsking Ts known p q) u asked
@@ -79,7 +87,8 @@ module _ (Ts : List Tree) (known after : SumPair → Option Bool) (p : SumPair) 
       (right_more Ts known after q.pair answer asked.now.ids s noted asked.right) (λ r l o. record {
         ids = o.ids;
         hot = o.hot;
-        unknown = other-key same_games games-same games-itself known after q.pair answer noted r (λ e. omega (arith, l, ap weight e)) ∙ o.unknown;
+        unknown = other-key same_games games-same games-itself known after q.pair answer noted r (λ e. omega (arith, l, ap weight e))
+            ∙ o.unknown;
       })
 
   -- the measure falls
@@ -89,7 +98,8 @@ module _ (Ts : List Tree) (known after : SumPair → Option Bool) (p : SumPair) 
       let i = asked.now.ids in
       measure-answer (open_sums known (length Ts)) (open_sums after (length Ts)) (weight q.pair) (weight next.pair) (length Ts + length Ts + length Ts + length Ts)
       (open_sums-falls known after (length Ts) q.pair (open-no_more same_games games-same games-itself known after q.pair answer noted)
-      i.first_id i.second_id i.third_id i.fourth_id (open-fewer same_games games-same games-itself known after q.pair answer noted asked.now.unknown))
+      i.first_id i.second_id i.third_id i.fourth_id (open-fewer same_games games-same games-itself known after q.pair answer noted
+      asked.now.unknown))
       (omega (arith, o.ids.first_id, o.ids.second_id, o.ids.third_id, o.ids.fourth_id))
 
 -- the same ids after more forms were interned

@@ -17,7 +17,8 @@ module _ {K : Type 0} (same : K → K → Bool) (same-is : (p q : K) → same p 
   other-key q n = elim (cases_Bool (same p q)) [ inl t ↦ absurd (n (same-is p q t)) | inr f ↦ at-key _ q f ]
 
   -- what is remembered stays right where the answer is
-  pub right-more : (Right : K → Bool → Type 0) → Right p answer → ((q : K) (v : Bool) → known q ≡ Some v → Right q v) → (q : K) (v : Bool) → after q ≡ Some v → Right q v
+  pub right-more : (Right : K → Bool → Type 0) → Right p answer → ((q : K) (v : Bool) → known q ≡ Some v → Right q v)
+      → (q : K) (v : Bool) → after q ≡ Some v → Right q v
   right-more Right s r q v k = elim (cases_Bool (same p q)) [
     | inl t ↦ (
         let i : Some answer ≡ Some v = sym (at-key _ q t) ∙ k in
@@ -53,7 +54,8 @@ module _ {Q : Type 0} (nothing : Q) (ws : List Q) (x : Q) where
 
 -- where the search is: at a question, with those that wait for it, that of the key p at the bottom; and the keys weigh less
 -- and less
-module _ {K Q : Type 0} (key : Q → K) (weight : K → ℕ) (Right : (K → Option Bool) → Type 0) (Open : (K → Option Bool) → K → Type 0) (SoFar : Q → Type 0) (nothing : Q) where
+module _ {K Q : Type 0} (key : Q → K) (weight : K → ℕ) (Right : (K → Option Bool) → Type 0) (Open : (K → Option Bool) → K → Type 0)
+    (SoFar : Q → Type 0) (nothing : Q) where
   pub record AreWaiting (known : K → Option Bool) (p : K) (q : Q) (ws : List Q) : Type 0 where
     pub right : Right known
     pub now : Open known (key q)
@@ -73,7 +75,8 @@ module _ {K Q : Type 0} (key : Q → K) (weight : K → ℕ) (Right : (K → Opt
     as_before : weight (key rest) ≡ weight (key q)
     as_before = ap weight same
 
-    pub waiting-ask : Open known (key next) → weight (key next) < weight (key q) → SoFar next → SoFar rest → AreWaiting known p next (ws ++ rest ∷ [])
+    pub waiting-ask : Open known (key next) → weight (key next) < weight (key q) → SoFar next → SoFar rest
+        → AreWaiting known p next (ws ++ rest ∷ [])
     waiting-ask unknown lighter begun so_far = record {
       right = w.right;
       now = unknown;
@@ -96,7 +99,8 @@ module _ {K Q : Type 0} (key : Q → K) (weight : K → ℕ) (Right : (K → Opt
         | inr d ↦ (
             let c : i < length ws = omega (arith, l, m, length-append ws (rest ∷ [])) in
             at-old nothing ws rest (λ x. weight (key (get_or (ws ++ rest ∷ []) j nothing)) < weight (key x)) i c
-            (at-end nothing ws rest (λ x. weight (key x) < weight (key (get_or ws i nothing))) j d m (omega (arith, w.above i c, as_before)))
+            (at-end nothing ws rest (λ x. weight (key x) < weight (key (get_or ws i nothing))) j d m
+            (omega (arith, w.above i c, as_before)))
             )
       ];
       first_is = ap key (first-push nothing ws rest next) ∙ first-same ws ∙ w.first_is;
@@ -116,7 +120,8 @@ module _ {K Q : Type 0} (key : Q → K) (weight : K → ℕ) (Right : (K → Opt
     pub waiting-last : Open known (key next)
     waiting-last = subst (λ x. Open known (key x)) last (w.waits (length ws) in_it)
 
-    pub waiting-answer : (after : K → Option Bool) → Right after → ((r : K) → weight (key q) < weight r → Open known r → Open after r) → AreWaiting after p next ws
+    pub waiting-answer : (after : K → Option Bool) → Right after → ((r : K) → weight (key q) < weight r → Open known r → Open after r)
+        → AreWaiting after p next ws
     waiting-answer after r stays = record {
       right = r;
       now = subst (λ x. Open after (key x)) last (stay (length ws) in_it);
@@ -126,7 +131,8 @@ module _ {K Q : Type 0} (key : Q → K) (weight : K → ℕ) (Right : (K → Opt
       above = λ i l. subst (λ x. weight (key next) < weight (key x)) (old i l)
           (subst (λ x. weight (key x) < weight (key (get_or (ws ++ next ∷ []) i nothing))) last (w.falls i (length ws) l in_it));
       falls = λ i j l m. subst (λ x. weight (key (get_or ws j nothing)) < weight (key x)) (old i (omega (arith, l, m)))
-          (subst (λ x. weight (key x) < weight (key (get_or (ws ++ next ∷ []) i nothing))) (old j m) (w.falls i j l (omega (arith, m, in_it))));
+          (subst (λ x. weight (key x) < weight (key (get_or (ws ++ next ∷ []) i nothing))) (old j m)
+          (w.falls i j l (omega (arith, m, in_it))));
       first_is = ap key (sym (first-push nothing ws next q)) ∙ w.first_is;
     }
       where

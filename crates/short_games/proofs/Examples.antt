@@ -101,7 +101,8 @@ option-no_number G L R a b y n =
 pub right-no_number : (G R : Tree) → Has (right G) R → (IsNumberTree R → ⊥) → IsNumberTree G → ⊥
 right-no_number G R b f n = let r = num-right n.0 n.1 R (subst (λ t. Has (right t) R) n.2 b) in f (n.0, r.0, r.2)
 
-examples-canonical : IsCanonicalTree star × IsCanonicalTree up × IsCanonicalTree two_switch × IsCanonicalTree tiny × IsCanonicalTree star_two
+examples-canonical : IsCanonicalTree star × IsCanonicalTree up × IsCanonicalTree two_switch × IsCanonicalTree tiny
+    × IsCanonicalTree star_two
     × IsCanonicalTree (choice one star)
 unfolding canonical_test reduced_test kept_test ascends_test free_test le le_within size same text_before lesser_text tree_text text number_of guess num whole count_tree digits_within
 examples-canonical = (

@@ -90,7 +90,8 @@ module _ (near far : Tree → Trees) (Le : Tree → Tree → Type 0) (side : IsS
     (nodes : (G : Tree) → size G ≡ suc (sizes (near G) + sizes (far G)))
     (option : (G X : Tree) → (Has (near G) X ⊎ Has (far G) X) ↔ IsOption G X) where
   -- an option is replaced by smaller ones
-  shorter : (G A : Tree) (Bs Ms : Trees) → Has (near G) A → Replaced (near G) A Bs Ms → sizes Bs < size A → ((Y : Tree) → Has Bs Y → IsFollower A Y)
+  shorter : (G A : Tree) (Bs Ms : Trees) → Has (near G) A → Replaced (near G) A Bs Ms → sizes Bs < size A
+      → ((Y : Tree) → Has Bs Y → IsFollower A Y)
       → Le G (put G Ms) × Le (put G Ms) G → Shorter G
   shorter G A Bs Ms a r small behind e = record {
     tree = put G Ms;
@@ -202,7 +203,8 @@ module _ (Before : Tree → Tree → Type 0) (total : (G H : Tree) → Before G 
     pub below : AreBelow G canon.tree
 
   abbrev along : (G H : Tree) → G ≡ᵍ H → Canon H → Canon G
-  along G H e c = let s = same-trans G H c.tree e (c.under, c.over) in record { tree = c.tree; canonical = c.canonical; under = s.0; over = s.1 }
+  along G H e c = let s = same-trans G H c.tree e (c.under, c.over) in record
+      { tree = c.tree; canonical = c.canonical; under = s.0; over = s.1 }
 
   abbrev OfOptions : Tree → Type 0
   OfOptions G = (X : Tree) → IsOption G X → IsCanonical Before X
@@ -222,7 +224,8 @@ module _ (Before : Tree → Tree → Type 0) (total : (G H : Tree) → Before G 
   -- where the options are canonical
   canon_from : (G : Tree) → OfOptions G → CanonBelow G
   canon_from = by_measure size (λ G. OfOptions G → CanonBelow G) (λ G ih c.
-      let go_on = λ (s : Shorter G). again G s (ih s.tree s.smaller (λ X h. let w = s.below X h in canonical-follower Before w.0 X (c w.0 w.1) w.2)) in
+      let go_on = λ (s : Shorter G). again G s (ih s.tree s.smaller (λ X h. let w = s.below X h in canonical-follower Before w.0 X
+      (c w.0 w.1) w.2)) in
       elim (shorten_left G) [
         | inl s ↦ go_on s
         | inr f ↦ elim (shorten_right G) [ inl s ↦ go_on s | inr g ↦ in_order G c f g ]
@@ -235,7 +238,11 @@ module _ (Before : Tree → Tree → Type 0) (total : (G H : Tree) → Before G 
       }
 
   pub canon_below : (ls rs : Trees) → AreCanonical Before ls → AreCanonical Before rs → CanonBelow (node ls rs)
-  canon_below ls rs c d = canon_from (node ls rs) (λ X h. elim h [ inl x ↦ canonical-at Before ls X c x | inr x ↦ canonical-at Before rs X d x ])
+  canon_below ls rs c d = canon_from (node ls rs) (λ X h. elim h [
+    | inl x ↦ canonical-at Before ls X c x
+    | inr x ↦ canonical-at Before rs
+        X d x
+  ])
 
   -- of every tree
   abbrev IsOf : Tree → Tree → Type 0

@@ -47,7 +47,8 @@ pub dropped : (near far : Tree → Trees) (Le : Tree → Tree → Type 0) (s : I
 dropped near far Le s G H covered from others = (
   s.build G H (λ X x y. (let c = covered X x in s.out_near H H c.0 (s.itself H) c.1 (s.trans H X c.0 y c.2)))
       (λ X x y. s.out_far G G X (s.itself G) (subst (λ t. Has t X) others x) y),
-  s.build H G (λ X x y. s.out_near G G X (s.itself G) (from X x) y) (λ X x y. s.out_far H H X (s.itself H) (subst (λ t. Has t X) (sym others) x) y),
+  s.build H G (λ X x y. s.out_near G G X (s.itself G) (from X x) y) (λ X x y. s.out_far H H X (s.itself H)
+      (subst (λ t. Has t X) (sym others) x) y),
 )
 
 -- a game with a number between its options is a number

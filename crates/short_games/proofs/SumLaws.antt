@@ -280,7 +280,8 @@ pub plus-assoc : (G H K : Tree) → (G +ᵍ H) +ᵍ K ≡ G +ᵍ (H +ᵍ K)
 plus-assoc = by_three_sizes (λ G H K. (G +ᵍ H) +ᵍ K ≡ G +ᵍ (H +ᵍ K)) assoc_step
 
 neg_plus_step : (G H : Tree) → ((A B : Tree) → size A + size B < size G + size H → neg (A +ᵍ B) ≡ neg A +ᵍ neg B) → neg (G +ᵍ H) ≡ neg G +ᵍ neg H
-neg_plus_step G H ih = tree-same _ _ (options left right neg-left plus-left plus-right size-right) (options right left neg-right plus-right plus-left size-left)
+neg_plus_step G H ih = tree-same _ _ (options left right neg-left plus-left plus-right size-right)
+    (options right left neg-right plus-right plus-left size-left)
   where
     options : (near far : Tree → Trees) → ((A : Tree) → near (neg A) ≡ neg_each (far A))
         → ((A B : Tree) → near (A +ᵍ B) ≡ each_plus (near A) B then plus_each A (near B))

@@ -22,7 +22,8 @@ tree_text-one_to_one G H e = text-one_to_one number_text number_text-bytes numbe
 -- the order of texts is that of their bytes
 lesser-is : (xs ys : List ℕ) → is_lt (slice_cmp nat_cmp xs ys) ≡ lesser_text xs ys
 unfolding lesser_text
-lesser-is xs ys = same_from_slice_cmp nat_cmp is_lt lesser_text refl (λ _ _. refl) (λ _ _. refl) (λ x y xs ys o e. grind (arith, nat_tests)) xs ys _ refl
+lesser-is xs ys = same_from_slice_cmp nat_cmp is_lt lesser_text refl (λ _ _. refl) (λ _ _. refl)
+    (λ x y xs ys o e. grind (arith, nat_tests)) xs ys _ refl
 
 lesser-less : (xs ys : List ℕ) → lesser_text xs ys ≡ true → slice_cmp nat_cmp xs ys ≡ Less
 lesser-less xs ys e = at (slice_cmp nat_cmp xs ys) (lesser-is xs ys ∙ e)
@@ -47,7 +48,8 @@ pub text-order : IsStrictOrder TextBefore
 unfolding text_before
 text-order = record {
   irreflexive = λ G e. true≢false (ap is_lt (sym (lesser-less _ _ e) ∙ tied_itself nat_list_cmp_total (tree_text G)));
-  transitive = λ G H K p q. less-lesser _ _ (nat_list_cmp_total.trans (tree_text G) (tree_text H) (tree_text K) (lesser-less _ _ p) (lesser-less _ _ q));
+  transitive = λ G H K p q. less-lesser _ _ (nat_list_cmp_total.trans (tree_text G) (tree_text H) (tree_text K) (lesser-less _ _ p)
+      (lesser-less _ _ q));
   total = λ G H. elim (lesser-total (tree_text G) (tree_text H)) [
     | inl a ↦ inl a
     | inr b ↦ elim b [ inl e ↦ inr (inl (tree_text-one_to_one G H e)) | inr a ↦ inr (inr a) ]

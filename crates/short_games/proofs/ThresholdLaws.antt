@@ -48,7 +48,8 @@ coarser e X h c = elim (cases_Bool (is_even h)) [
   )
 ]
   where
-    at : (k : ℤ) → ((z : ℤ) → ((h ≤ℤ ((z +ℤ z) +ℤ (z +ℤ z))) ↔ (k ≤ℤ (z +ℤ z))) × ((((z +ℤ z) +ℤ (z +ℤ z)) ≤ℤ h) ↔ ((z +ℤ z) ≤ℤ k))) → IsCell e X k
+    at : (k : ℤ) → ((z : ℤ) → ((h ≤ℤ ((z +ℤ z) +ℤ (z +ℤ z))) ↔ (k ≤ℤ (z +ℤ z))) × ((((z +ℤ z) +ℤ (z +ℤ z)) ≤ℤ h) ↔ ((z +ℤ z) ≤ℤ k)))
+        → IsCell e X k
     at k f = record {
       under = λ z. subst (λ t. (X ≤ᵍ t) ↔ (k ≤ℤ (z +ℤ z))) (num-double e z)
           (λ y. (f z).0.0 ((c.under (z +ℤ z)).0 y), λ l. (c.under (z +ℤ z)).1 ((f z).0.1 l));

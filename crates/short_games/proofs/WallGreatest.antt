@@ -41,7 +41,8 @@ least-one f G = least-negated f (more G none) (f G) (greatest-one (λ X. neg_ℤ
 
 pub least-more : (f : Tree → ℤ) (G : Tree) (Gs : Trees) (x : ℤ) → IsLeast f Gs x → IsLeast f (more G Gs) (int_min (f G) x)
 least-more f G Gs x l = least-negated f (more G Gs) (int_min (f G) x)
-    (subst (IsGreatest (λ X. neg_ℤ (f X)) (more G Gs)) (omega (arith, ints, clamps)) (greatest-more (λ X. neg_ℤ (f X)) G Gs (neg_ℤ x) (greatest-negated f Gs x l)))
+    (subst (IsGreatest (λ X. neg_ℤ (f X)) (more G Gs)) (omega (arith, ints, clamps))
+    (greatest-more (λ X. neg_ℤ (f X)) G Gs (neg_ℤ x) (greatest-negated f Gs x l)))
 
 -- the greatest and the least that f gives, where f gives the stops or the walls
 module _ (P : Tree → ℤ → Type 0) (Is : Trees → ℤ → Type 0) (c : IsChosen (λ y z. y ≤ℤ z) P Is) (f : Tree → ℤ) (Gs : Trees) (x : ℤ) where

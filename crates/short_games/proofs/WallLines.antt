@@ -85,7 +85,10 @@ module _ (f : Tree → ℕ → ℤ) (Gs : Trees) (g : ℕ → ℤ) where
 
 -- what is least is greatest where all is negated, and what falls rises
 pub greatest-negated : (f : Tree → ℤ) (Gs : Trees) (x : ℤ) → IsLeast f Gs x → IsGreatest (λ X. neg_ℤ (f X)) Gs (neg_ℤ x)
-greatest-negated f Gs x l = record { bound = λ X h. omega (arith, ints, l.bound X h); reached = (l.reached.0, l.reached.1, ap neg_ℤ l.reached.2) }
+greatest-negated f Gs x l = record {
+  bound = λ X h. omega (arith, ints, l.bound X h);
+  reached = (l.reached.0, l.reached.1, ap neg_ℤ l.reached.2);
+}
 
 pub least-negated : (f : Tree → ℤ) (Gs : Trees) (x : ℤ) → IsGreatest (λ X. neg_ℤ (f X)) Gs (neg_ℤ x) → IsLeast f Gs x
 least-negated f Gs x g = let r = g.reached in
@@ -100,7 +103,8 @@ doubles-negated f f' d = record { at_even = λ t. omega (arith, ints, d.at_even 
 module _ (f : Tree → ℕ → ℤ) (Gs : Trees) (g : ℕ → ℤ) (r : (X : Tree) → Has Gs X → Falls (f X)) where
   pub least-falls : ((t : ℕ) → IsLeast (λ X. f X t) Gs (g t)) → Falls g
   least-falls i =
-      let s = greatest-rises (λ X t. neg_ℤ (f X t)) Gs (λ t. neg_ℤ (g t)) (λ X x. rises-negated (f X) (r X x)) (λ t. greatest-negated _ Gs (g t) (i t)) in
+      let s = greatest-rises (λ X t. neg_ℤ (f X t)) Gs (λ t. neg_ℤ (g t)) (λ X x. rises-negated (f X) (r X x))
+      (λ t. greatest-negated _ Gs (g t) (i t)) in
       record { no_rise = λ t. omega (arith, ints, s.no_fall t); by_one = λ t. omega (arith, ints, s.by_one t) }
 
   pub least-doubles : (f' : Tree → ℕ → ℤ) (g' : ℕ → ℤ) → ((X : Tree) → Has Gs X → Doubles (f X) (f' X)) → Doubles g g'

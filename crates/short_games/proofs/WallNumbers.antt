@@ -83,4 +83,5 @@ number-cases e G = by (same (num e (numerator e G)) G) refl
   where
     by : (b : Bool) → same (num e (numerator e G)) G ≡ b → NumberAt e G
     by true i = is_number (numerator e G) (sym (same-is _ _ i)) (rw i refl)
-    by false i = is_none (λ x g. true≢false (sym (subst (λ t. same t G ≡ true) (sym (ap (num e) (ap (numerator e) g ∙ numerator-num e x))) (subst (λ t. same t G ≡ true) g (same-itself G))) ∙ i)) (rw i refl)
+    by false i = is_none (λ x g. true≢false (sym (subst (λ t. same t G ≡ true)
+        (sym (ap (num e) (ap (numerator e) g ∙ numerator-num e x))) (subst (λ t. same t G ≡ true) g (same-itself G))) ∙ i)) (rw i refl)

@@ -10,12 +10,16 @@ pub asking-smaller : goal.asking-smaller
 asking-smaller c = work_answer (trees c.args.games.now) (recalled c.asking.memo) (recalled c.remember.new.memo) c.args.a c.args.b c.asking.question c.in-Some-pop.next c.asking.waiting.items c.pop.new.self.items c.in-Answer.answer c.asking.invariant c.in_ok-remember-in-Answer.ensures.noted c.in-Some-pop.ensures.items
 
 pub asking-preserved : goal.asking-preserved
-asking-preserved c = asking_answer (trees c.args.games.now) (recalled c.asking.memo) (recalled c.remember.new.memo) c.args.a c.args.b c.asking.question c.in-Some-pop.next c.asking.waiting.items c.pop.new.self.items c.in-Answer.answer c.asking.invariant c.in_ok-remember-in-Answer.ensures.noted c.in-Some-pop.ensures.items c.in-Answer.ensures
+asking-preserved c = asking_answer (trees c.args.games.now) (recalled c.asking.memo) (recalled c.remember.new.memo) c.args.a c.args.b
+    c.asking.question c.in-Some-pop.next c.asking.waiting.items c.pop.new.self.items c.in-Answer.answer c.asking.invariant
+    c.in_ok-remember-in-Answer.ensures.noted c.in-Some-pop.ensures.items c.in-Answer.ensures
 
 pub returns-in-None-clause-right : goal.returns-in-None-clause-right
 returns-in-None-clause-right c = let o = c.asking.invariant.now in
-    right_more (trees c.args.games.now) (recalled c.asking.memo) (recalled c.remember.new.memo) c.asking.question.game c.asking.question.other c.in-Answer.answer
+    right_more (trees c.args.games.now) (recalled c.asking.memo) (recalled c.remember.new.memo) c.asking.question.game
+    c.asking.question.other c.in-Answer.answer
     c.asking.invariant.right o.first_id o.second_id c.in-Answer.ensures c.in_ok-remember-in-Answer.ensures.noted
 
 pub returns-in_err-remember-in-Answer-clause-right : goal.returns-in_err-remember-in-Answer-clause-right
-returns-in_err-remember-in-Answer-clause-right c = right_same (trees c.args.games.now) (recalled c.asking.memo) (recalled c.remember.new.memo) c.asking.invariant.right c.in_err-remember-in-Answer.ensures.kept
+returns-in_err-remember-in-Answer-clause-right c = right_same (trees c.args.games.now) (recalled c.asking.memo)
+    (recalled c.remember.new.memo) c.asking.invariant.right c.in_err-remember-in-Answer.ensures.kept

@@ -11,7 +11,9 @@ pub returns-in_ok-number-in-Number-clause-sizes : goal.returns-in_ok-number-in-N
 returns-in_ok-number-in-Number-clause-sizes c = λ b w. number-near _ c.in-Number.x _ b c.in_ok-number-in-Number.ensures.value (c.in-Number.ensures.3 b w)
 
 pub returns-in_ok-number-in-Number-clause-comparisons : goal.returns-in_ok-number-in-Number-clause-comparisons
-returns-in_ok-number-in-Number-clause-comparisons c = right-grown c.args.store.now c.number.new.self _ c.number.ensures.kept c.requires.comparisons
+returns-in_ok-number-in-Number-clause-comparisons c = right-grown c.args.store.now c.number.new.self _ c.number.ensures.kept
+    c.requires.comparisons
 
 pub returns-in_err-number-in-Number-clause-comparisons : goal.returns-in_err-number-in-Number-clause-comparisons
-returns-in_err-number-in-Number-clause-comparisons c = right-grown c.args.store.now c.number.new.self _ c.number.ensures.kept c.requires.comparisons
+returns-in_err-number-in-Number-clause-comparisons c = right-grown c.args.store.now c.number.new.self _ c.number.ensures.kept
+    c.requires.comparisons

@@ -5,7 +5,9 @@ use Rattle.game_canon.proofs.SideLaws.{best-of_ordered}
 use Rattle.game_canon.proofs.domination.best.Goals as goal
 
 pub best_in_order-requires-clause-ids : goal.best_in_order-requires-clause-ids
-best_in_order-requires-clause-ids c = subst (AreIds c.args.games.now.store.now) (sym c.deref.ensures) (ordered-ids c.args.games.now.store.now _ _ c.in_ok-different.ensures c.requires.ids)
+best_in_order-requires-clause-ids c = subst (AreIds c.args.games.now.store.now) (sym c.deref.ensures)
+    (ordered-ids c.args.games.now.store.now _ _ c.in_ok-different.ensures c.requires.ids)
 
 pub returns-clause-best : goal.returns-clause-best
-returns-clause-best c = best-of_ordered c.args.side c.args.games.now.store.now c.args.ids.now _ _ c.in_ok-different.ensures (rw c.deref.ensures at c.in_ok-best.ensures.best)
+returns-clause-best c = best-of_ordered c.args.side c.args.games.now.store.now c.args.ids.now _ _ c.in_ok-different.ensures
+    (rw c.deref.ensures at c.in_ok-best.ensures.best)

@@ -11,4 +11,5 @@ loop-id-init c = gathered-same c.args.store.now _ _ c.args.found.now.keys (λ X 
 
 pub loop-id-preserved : goal.loop-id-preserved
 loop-id-preserved c = subst (λ (z : List ℕ). IsWidened c.args.store.now (Has (pick c.args.store.now z)) c.args.found.now.keys c.insert.new.self.keys) (sym (take_more c.args.ids.now c.loop-id.id-index 0 c.loop-id-test.true))
-    (gathered-insert c.args.store.now _ _ c.args.found.now.keys c.loop-id.found.keys _ c.insert.new.self.keys (c.requires _ c.loop-id-test.true) (λ n. n) c.in_ok-insert.ensures.keys c.loop-id.invariant)
+    (gathered-insert c.args.store.now _ _ c.args.found.now.keys c.loop-id.found.keys _ c.insert.new.self.keys
+    (c.requires _ c.loop-id-test.true) (λ n. n) c.in_ok-insert.ensures.keys c.loop-id.invariant)
