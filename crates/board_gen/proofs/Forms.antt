@@ -25,7 +25,7 @@ use Rattle.short_games.proofs.TextOrderLaws.{text-order}
 use Rattle.game_canon.specs.Changes.{HasNumberPastBounds}
 use Rattle.sum_outcome.specs.Players.{credit, gain, options}
 use Rattle.short_games.proofs.ReductionLaws.{same-canonical}
-use Rattle.game_canon.proofs.NumberParts.{sum-parts}
+use Rattle.game_canon.proofs.NumberPartLaws.{sum-parts}
 use Rattle.game_canon.proofs.PartLaws.{fewer}
 use Rattle.local_value.specs.LocalGame.{Step}
 use Rattle.local_value.specs.Laws.{MovesTo}

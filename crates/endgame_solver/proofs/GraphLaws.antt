@@ -48,7 +48,7 @@ use Rattle.game_store.specs.Forms.{HaveForms}
 use Rattle.short_games.specs.Order.{◌≡ᵍ◌}
 use Rattle.short_games.specs.TextOrder.{IsCanonicalFor}
 use Rattle.short_games.proofs.SumLaws.{neg-le}
-use Rattle.game_canon.proofs.NumberParts.{within-bounds}
+use Rattle.game_canon.proofs.NumberPartLaws.{within-bounds}
 use Rattle.endgame_solver.specs.ShapeValues.{game_after}
 use Rattle.endgame_solver.specs.inner.Sharing.{AreTurnedValues}
 use Rattle.endgame_solver.specs.inner.Solving.{IsGraphWithin, IsSolvedBy}

@@ -20,7 +20,7 @@ use Rattle.endgame_solver.specs.declared.faults.SolveError.TheVariants.{Points, 
 use Rattle.std.proofs.Math.Seq.{take-length}
 use Rattle.short_games.specs.Parts.{HasMoreParts}
 use Rattle.short_games.specs.TextOrder.{IsCanonicalFor}
-use Rattle.game_canon.proofs.ChangeSteps.{extends-on}
+use Rattle.game_canon.proofs.ChangedIdLaws.{extends-on}
 use Rattle.endgame_solver.specs.ShapeValues.{game_after, AreLinked}
 use Rattle.endgame_solver.specs.inner.Sharing.{AreNegatives, IsTurnedValue, AreKinds, AreSharedBy, AreTurnedValues, IsKind, IsViewFor, SharesBelow}
 use Rattle.std.proofs.lemmas.List.Elements.{Contains-get_or}

@@ -16,7 +16,7 @@ use Rattle.game_canon.specs.declared.errors.FormError.TheVariants.{Parts, Bounds
 use Rattle.game_canon.specs.Followers.{IsIn}
 use Rattle.game_canon.specs.Outcomes.{IsCanonicalId}
 use Rattle.game_canon.specs.Reachable.{AreReachable}
-use Rattle.game_canon.proofs.NumberParts.{within-bounds}
+use Rattle.game_canon.proofs.NumberPartLaws.{within-bounds}
 use Rattle.game_calc.specs.Steps.{IsPlace, IsOutOfLimits, IsStepRefusal}
 use Rattle.game_calc.specs.inner.Steps.{IsPairRefusal}
 use Rattle.game_calc.specs.inner.Table.{AreNotedSumsRight, AreRowsKnown}

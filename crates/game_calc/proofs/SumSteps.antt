@@ -21,7 +21,7 @@ use Rattle.game_canon.specs.Changes.{HasNumberPastBounds}
 use Rattle.game_canon.specs.Outcomes.{IsCanonicalId, IsCause}
 use Rattle.game_canon.proofs.ChangeLaws.{tree-number}
 use Rattle.game_canon.proofs.GameLaws.{has-left, left-has, has-right, right-has}
-use Rattle.game_canon.proofs.Sizes.{number-same}
+use Rattle.game_canon.proofs.NumberSizeLaws.{number-same}
 use Rattle.game_canon.proofs.SideLaws.{pick-append}
 use Rattle.game_calc.specs.inner.Steps.{IsPairRefusal}
 use Rattle.game_calc.specs.inner.Table.{AreNoted, AddsMoves, AreNotedSumsRight}

@@ -13,7 +13,7 @@ use Rattle.short_games.specs.Parts.{HasMoreParts, IsInner}
 use Rattle.game_store.proofs.Values.{pick-has, pick-same}
 use Rattle.game_canon.specs.inner.Changes.{AreClosed, AreKnown}
 use Rattle.game_canon.specs.Outcomes.{IsCanonicalId}
-use Rattle.game_canon.proofs.ChangeSteps.{extends-on}
+use Rattle.game_canon.proofs.ChangedIdLaws.{extends-on}
 use Rattle.game_canon.proofs.GameLaws.{left-has, right-has}
 use Rattle.game_calc.specs.inner.Table.{AreNoted, AddsSums, AreNotedSumsRight, IsRightSum, Grows, AreRowsKnown, AreInnerKnown, AreMovesKnown, with_sum}
 use Rattle.game_canon.specs.Comparisons.{same_pair}

@@ -10,7 +10,7 @@ use Rattle.game_text.specs.Reading.{ReadsText, RefusesText, IsReadRefusal, Fault
 use Rattle.game_text.specs.declared.errors.ReadError.{ReadError}
 use Rattle.game_text.specs.Reading.Fault.{bad_byte, bad_number, cut_short}
 use Rattle.game_canon.specs.Outcomes.{IsCanonicalId}
-use Rattle.game_canon.proofs.ChangeSteps.{extends-on}
+use Rattle.game_canon.proofs.ChangedIdLaws.{extends-on}
 use Rattle.game_calc.specs.inner.Amounts.{IsAmount, IsBefore, IsHeldBefore}
 use Rattle.game_calc.specs.Expression.{Expression, ReadsTerm, ReadsTerms, ReadsLine, BeginsNoTerm, fault_of, kind, next, token, rest, with_term, first_sign, first_bytes}
 use Rattle.game_text.specs.Depth.{most_open}

@@ -8,7 +8,7 @@ use Rattle.short_games.specs.Number.{num, IsNumber, IsNumberTree, number_tree}
 use Rattle.short_games.specs.Canonical.{IsReduced}
 use Rattle.short_games.specs.TextOrder.{TextBefore, sorted, IsCanonicalTree, IsCanonicalFor}
 use Rattle.short_games.specs.inner.Reduction.{IsFreeLeft, KeepsLeft, KeepsRight}
-use Rattle.short_games.proofs.OrderLaws.{le-refl, le-trans, not-le}
+use Rattle.short_games.proofs.OrderLaws.{le-refl, le-trans, not-le, same-trans}
 use Rattle.short_games.proofs.SumLaws.{plus-le, plus-le_both, plus-cancel, plus-assoc, plus-nought, each_plus-has, has-each_plus, has-neg_each, neg_each-has, neg-left, neg-right, neg-neg, neg-le, not_le_left, not_right_le}
 use Rattle.short_games.proofs.NumberLaws.{neg-num, num-plus_le, num-le_plus, num-zero}
 use Rattle.short_games.proofs.ThresholdLaws.{scaled}
@@ -21,12 +21,10 @@ use Rattle.short_games.proofs.ReductionLaws.{form-canonical, number-kept_left, n
 use Rattle.game_canon.specs.declared.change.Change.{Change}
 use Rattle.game_canon.specs.declared.change.Change.TheVariants.{Negate, Add}
 use Rattle.game_canon.specs.inner.Changes.{target, lefts, rights, shifted}
+use Rattle.game_canon.proofs.GameLaws.{number-as_game}
 
 abbrev Same : Tree → Tree → Type 0
 Same G H = (G ≤ᵍ H) × (H ≤ᵍ G)
-
-same-trans : (G H K : Tree) → Same G H → Same H K → Same G K
-same-trans G H K p q = (le-trans G H K p.0 q.0, le-trans K H G q.1 p.1)
 
 reduced : (G : Tree) → IsCanonicalTree G → IsReduced TextBefore G
 reduced G c = laws.reduced TextBefore text-order.irreflexive text-order.transitive G c
@@ -138,18 +136,15 @@ number-back c G n = number-same _ G (target-back c G) (target-number (back c) (t
 pub tree-number : (G : Tree) → IsCanonicalTree G → IsNumber G → IsNumberTree G
 tree-number G k n = (n.0, n.1, canonical-number G k n)
 
-pub number-tree : (G : Tree) → IsNumberTree G → IsNumber G
-number-tree G n = (n.0, n.1, subst (λ t. t ≤ᵍ num n.0 n.1) (sym n.2) (le-refl (num n.0 n.1)), subst (λ t. num n.0 n.1 ≤ᵍ t) (sym n.2) (le-refl (num n.0 n.1)))
-
 pub canonical-as : (c : Change) (G C : Tree) → IsCanonicalFor (target c G) C → Same (target c G) C
 canonical-as c G C k = (k.under, k.over)
 
 -- a changed canonical tree is a number's just where the tree is
 pub number-to : (c : Change) (X A : Tree) → IsCanonicalFor (target c X) A → IsNumberTree X → IsNumberTree A
-number-to c X A k n = tree-number A k.canonical (number-same _ A (k.under, k.over) (target-number c X (number-tree X n)))
+number-to c X A k n = tree-number A k.canonical (number-same _ A (k.under, k.over) (target-number c X (number-as_game X n)))
 
 pub number-from : (c : Change) (X A : Tree) → IsCanonicalTree X → IsCanonicalFor (target c X) A → IsNumberTree A → IsNumberTree X
-number-from c X A x k n = tree-number X x (number-back c X (number-same A _ (k.over, k.under) (number-tree A n)))
+number-from c X A x k n = tree-number X x (number-back c X (number-same A _ (k.over, k.under) (number-as_game A n)))
 
 -- the second list has just the changed ones of the first
 pub record AreImages (c : Change) (Xs Ys : Trees) : Type 0 where
@@ -176,21 +171,19 @@ module _ (c : Change) (G : Tree) (ms ns : Trees) (canonical : IsCanonicalTree G)
   no-form : IsNumber (node ms ns) → ⊥
   no-form n = hot (number-back c G (number-same (node ms ns) (target c G) as-target n))
 
-  free-left : IsFreeLeft ms
-  free-left A B h k y =
-      let f = a.from A h in
-      let g = a.from B k in
-      let e = lefts-free c G canonical f.0 g.0 f.1 g.1 (order-out c f.0 g.0 (le-trans _ A _ f.2.under (le-trans A B _ y g.2.over))) in
+  free : (Xs Ys : Trees) → AreImages c Xs Ys → ((A B : Tree) → Has Xs A → Has Xs B → LeBy c A B → A ≡ B) → IsFreeLeft Ys
+  free Xs Ys i one A B h k y =
+      let f = i.from A h in
+      let g = i.from B k in
+      let e = one f.0 g.0 f.1 g.1 (order-out c f.0 g.0 (le-trans _ A _ f.2.under (le-trans A B _ y g.2.over))) in
       let s : Same (target c f.0) B = subst (λ t. Same (target c t) B) (sym e) (g.2.under, g.2.over) in
       canonical-same A B f.2.canonical g.2.canonical y (le-trans B _ A s.1 f.2.under)
 
+  free-left : IsFreeLeft ms
+  free-left = free (lefts c G) ms a (lefts-free c G canonical)
+
   free-right : IsFreeLeft ns
-  free-right A B h k y =
-      let f = b.from A h in
-      let g = b.from B k in
-      let e = rights-free c G canonical f.0 g.0 f.1 g.1 (order-out c f.0 g.0 (le-trans _ A _ f.2.under (le-trans A B _ y g.2.over))) in
-      let s : Same (target c f.0) B = subst (λ t. Same (target c t) B) (sym e) (g.2.under, g.2.over) in
-      canonical-same A B f.2.canonical g.2.canonical y (le-trans B _ A s.1 f.2.under)
+  free-right = free (rights c G) ns b (rights-free c G canonical)
 
   kept-left : (A : Tree) → Has ms A → KeepsLeft (node ms ns) A
   kept-left A h R r y = by_witness (not-le R (image c X) above)
@@ -250,4 +243,5 @@ module _ (c : Change) (G : Tree) (ms ns : Trees) (canonical : IsCanonicalTree G)
   }
 
   pub changed-no_number : IsNumberTree (node (sorted ms) (sorted ns)) → ⊥
-  changed-no_number n = let k = of-form in no-form (number-same (node (sorted ms) (sorted ns)) (node ms ns) (k.over, k.under) (number-tree _ n))
+  changed-no_number n = let k = of-form in no-form (number-same (node (sorted ms) (sorted ns)) (node ms ns) (k.over, k.under)
+      (number-as_game _ n))

@@ -12,7 +12,8 @@ use Rattle.short_games.proofs.TextOrderLaws.{sorted-has, has-sorted}
 use Rattle.short_games.proofs.OrderLaws.{le-refl}
 use Rattle.game_store.proofs.Values.{has-pick, pick-same, pick-one_to_one, extends-same, extends-push, last-value}
 use Rattle.game_canon.specs.declared.games.Unstored.{Unstored}
-use Rattle.game_canon.specs.inner.Games.{with_unstored, IsUnstored, IsBeside}
+use Rattle.game_canon.specs.declared.games.Games.{Games}
+use Rattle.game_canon.specs.inner.Games.{trees, with_unstored, IsUnstored, IsBeside}
 
 pub number-as_game : (G : Tree) → IsNumberTree G → IsNumber G
 number-as_game G n = (n.0, n.1, subst (λ t. G ≤ᵍ t) n.2 (le-refl G), subst (λ t. t ≤ᵍ G) n.2 (le-refl G))
@@ -38,6 +39,10 @@ beside-is Ts o u e b = subst (IsBeside Ts) e b
 
 pub no-number_beside : (Ts : List Tree) (o : Option Unstored) (u : Unstored) (id : ℕ) → o ≡ Some u → id ≡ length Ts → IsBeside Ts o → IsNumberTree (tree_at (with_unstored Ts o) id) → ⊥
 no-number_beside Ts o u id e i b = of-beside Ts o u id (λ t. IsNumberTree t → ⊥) e i (λ n. (beside-is Ts o u e b).no_number (number-as_game _ n))
+
+-- an id of the store is one of the games
+pub in-games : (g : Games) (id : ℕ) → id < length g.store.now → id < length (trees g)
+in-games g id l = omega (arith, l, (trees-extend g.store.now g.unstored).longer)
 
 -- a fact on a tree of the store
 pub of-stored : (Ts : List Tree) (o : Option Unstored) (id : ℕ) (P : Tree → Type 0) → id < length Ts → P (tree_at Ts id) → P (tree_at (with_unstored Ts o) id)

@@ -8,7 +8,7 @@ use Rattle.game_canon.specs.declared.change.Change.TheVariants.{Negate}
 use Rattle.game_canon.specs.Outcomes.{AreWithin}
 use Rattle.short_games.proofs.OrderLaws.{le-trans}
 use Rattle.game_canon.proofs.ChangeLaws.{target-back, target-same}
-use Rattle.game_canon.proofs.NumberParts.{numbers-out, parts-out}
+use Rattle.game_canon.proofs.NumberPartLaws.{numbers-out, parts-out}
 use Rattle.short_games.proofs.ReductionLaws.{same-canonical}
 
 -- a value for each number below n, in a list

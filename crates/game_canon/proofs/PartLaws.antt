@@ -17,10 +17,10 @@ use Rattle.short_games.specs.Number.{IsNumberTree}
 use Rattle.game_store.specs.Meaning.{pick, listed, form, AreIds}
 use Rattle.short_games.specs.Parts.{IsOption, IsFollower, IsPart, AreParts, HasParts, HasMoreParts}
 use Rattle.short_games.specs.Parts.IsFollower.{itself, further}
-use Rattle.short_games.proofs.OrderLaws.{size-left, size-right}
+use Rattle.short_games.proofs.OrderLaws.{size-option}
 use Rattle.short_games.proofs.TextOrderLaws.{sorted-has, has-sorted}
 use Rattle.game_canon.specs.Followers.{IsIn}
-use Rattle.game_canon.specs.inner.Followers.{IsGrown, IsPartOfOption, ArePartsOfOptions, HasBelow, HasMoreBelow}
+use Rattle.game_canon.specs.inner.Followers.{IsGathered, IsGrown, IsPartOfOption, ArePartsOfOptions, HasBelow, HasMoreBelow}
 use Rattle.game_canon.proofs.SideLaws.{append-has, has-append_left, has-append_right, one}
 
 pub number-no_more : (G : Tree) (limit : ℕ) → IsNumberTree G → HasMoreParts G limit → ⊥
@@ -48,78 +48,94 @@ fewer n m R to one_to_one = pigeonhole n m f into one
     one = λ i j k l e. one_to_one i j (f j) (omega (arith, k, l)) (omega (arith, k, l)) (subst (R i) e (picked i (cases_lt i n) (omega (arith, k, l))).1) (picked j (cases_lt j n) (omega (arith, k, l))).1
 
 -- a list of ids that grows
-grown-same : (Ts : List Tree) (P : Tree → Type 0) (ks : List ℕ) → ((X : Tree) → P X → IsNumberTree X) → IsGrown Ts P ks ks
-grown-same Ts P ks f = record {
+pub gathered-same : (Ts : List Tree) (S P : Tree → Type 0) (ks : List ℕ) → ((X : Tree) → P X → S X) → IsGathered Ts S P ks ks
+gathered-same Ts S P ks f = record {
   longer = omega arith;
   same = λ j l. refl;
   below = λ j l m. absurd (omega (arith, l, m));
   passes = λ j l m. absurd (omega (arith, l, m));
-  no_number = λ j l m. absurd (omega (arith, l, m));
+  wanted = λ j l m. absurd (omega (arith, l, m));
   has = λ X p. inl (f X p);
 }
 
 pub grown-start : (Ts : List Tree) (ks : List ℕ) → IsGrown Ts (Has (pick Ts [])) ks ks
-grown-start Ts ks = grown-same Ts (Has (pick Ts [])) ks (λ X h. absurd h)
+grown-start Ts ks = gathered-same Ts IsNumberTree (Has (pick Ts [])) ks (λ X h. absurd h)
 
 pub grown-number : (Ts : List Tree) (ks : List ℕ) (G : Tree) → IsNumberTree G → IsGrown Ts (IsOption G) ks ks
-grown-number Ts ks G n = grown-same Ts (IsOption G) ks (λ X o. number-option G X n o)
+grown-number Ts ks G n = gathered-same Ts IsNumberTree (IsOption G) ks (λ X o. number-option G X n o)
 
-in-longer : (Ts : List Tree) (ks us : List ℕ) → length ks ≤ length us → ((j : ℕ) → j < length ks → get_or us j 0 ≡ get_or ks j 0) → (X : Tree) → IsIn Ts ks X → IsIn Ts us X
-in-longer Ts ks us l s X i = (i.0, omega (arith, i.1, l), i.2 ∙ ap (tree_at Ts) (sym (s i.0 i.1)))
+module _ (Ts : List Tree) (ks us : List ℕ) (longer : length ks ≤ length us)
+    (same : (j : ℕ) → j < length ks → get_or us j 0 ≡ get_or ks j 0) (X : Tree) where
+  pub in-longer : IsIn Ts ks X → IsIn Ts us X
+  in-longer i = (i.0, omega (arith, i.1, longer), i.2 ∙ ap (tree_at Ts) (sym (same i.0 i.1)))
 
-number-or : (Ts : List Tree) (ks us : List ℕ) → length ks ≤ length us → ((j : ℕ) → j < length ks → get_or us j 0 ≡ get_or ks j 0) → (X : Tree) → IsNumberTree X ⊎ IsIn Ts ks X → IsNumberTree X ⊎ IsIn Ts us X
-number-or Ts ks us l s X (inl n) = inl n
-number-or Ts ks us l s X (inr i) = inr (in-longer Ts ks us l s X i)
+  pub out-or_longer : (S : Tree → Type 0) → S X ⊎ IsIn Ts ks X → S X ⊎ IsIn Ts us X
+  out-or_longer S (inl n) = inl n
+  out-or_longer S (inr i) = inr (in-longer i)
 
 -- ids that pass one test, and then ids that pass another
-pub grown-both : (Ts : List Tree) (P Q R : Tree → Type 0) (ks us vs : List ℕ) → IsGrown Ts P ks us → IsGrown Ts Q us vs → ((X : Tree) → P X → R X) → ((X : Tree) → Q X → R X) → ((X : Tree) → R X → P X ⊎ Q X) → IsGrown Ts R ks vs
-grown-both Ts P Q R ks us vs a b f g h = record {
+pub gathered-both : (Ts : List Tree) (S P Q R : Tree → Type 0) (ks us vs : List ℕ) → IsGathered Ts S P ks us → IsGathered Ts S Q us vs
+    → ((X : Tree) → P X → R X) → ((X : Tree) → Q X → R X) → ((X : Tree) → R X → P X ⊎ Q X) → IsGathered Ts S R ks vs
+gathered-both Ts S P Q R ks us vs a b f g h = record {
   longer = omega (arith, a.longer, b.longer);
   same = λ j l. b.same j (omega (arith, l, a.longer)) ∙ a.same j l;
   below = λ j l m. elim (cases_lt j (length us)) [ inl d ↦ subst (λ i. i < length Ts) (sym (b.same j d)) (a.below j d m) | inr d ↦ b.below j l d ];
   passes = λ j l m. elim (cases_lt j (length us)) [ inl d ↦ subst (λ i. R (tree_at Ts i)) (sym (b.same j d)) (f _ (a.passes j d m)) | inr d ↦ g _ (b.passes j l d) ];
-  no_number = λ j l m. elim (cases_lt j (length us)) [ inl d ↦ subst (λ i. IsNumberTree (tree_at Ts i) → ⊥) (sym (b.same j d)) (a.no_number j d m) | inr d ↦ b.no_number j l d ];
-  has = λ X r. elim (h X r) [ inl p ↦ number-or Ts us vs b.longer b.same X (a.has X p) | inr q ↦ b.has X q ];
+  wanted = λ j l m. elim (cases_lt j (length us)) [
+    | inl d ↦ subst (λ i. S (tree_at Ts i) → ⊥) (sym (b.same j d)) (a.wanted j d m)
+    | inr d ↦ b.wanted j l d
+  ];
+  has = λ X r. elim (h X r) [ inl p ↦ out-or_longer Ts us vs b.longer b.same X S (a.has X p) | inr q ↦ b.has X q ];
 }
 
 -- one more id
-pub grown-skip : (Ts : List Tree) (xs ks us : List ℕ) (y : ℕ) → IsNumberTree (tree_at Ts y) → IsGrown Ts (Has (pick Ts xs)) ks us → IsGrown Ts (Has (pick Ts (xs ++ y ∷ []))) ks us
-grown-skip Ts xs ks us y n g = grown-both Ts (Has (pick Ts xs)) (Has (pick Ts (y ∷ []))) (Has (pick Ts (xs ++ y ∷ []))) ks us us g
-    (grown-same Ts (Has (pick Ts (y ∷ []))) us (λ X h. subst IsNumberTree (sym (one Ts y X h)) n))
-    (λ X h. has-append_left Ts xs (y ∷ []) X h) (λ X h. has-append_right Ts xs (y ∷ []) X h) (λ X h. append-has Ts xs (y ∷ []) X h)
+module _ (Ts : List Tree) (S : Tree → Type 0) (xs ks us : List ℕ) (y : ℕ) where
+  and_one : (vs : List ℕ) → IsGathered Ts S (Has (pick Ts xs)) ks us → IsGathered Ts S (Has (pick Ts (y ∷ []))) us vs
+      → IsGathered Ts S (Has (pick Ts (xs ++ y ∷ []))) ks vs
+  and_one vs g one_more = gathered-both Ts S (Has (pick Ts xs)) (Has (pick Ts (y ∷ []))) (Has (pick Ts (xs ++ y ∷ []))) ks us vs g one_more
+      (has-append_left Ts xs (y ∷ [])) (has-append_right Ts xs (y ∷ [])) (append-has Ts xs (y ∷ []))
 
-inserted : (Ts : List Tree) (us vs : List ℕ) (y : ℕ) → y < length Ts → (IsNumberTree (tree_at Ts y) → ⊥) → vs ≡ insert_key nat_eq us y → IsGrown Ts (Has (pick Ts (y ∷ []))) us vs
-inserted Ts us vs y l n e = at (list_any (nat_eq y) us) refl
-  where
-    found : IsIn Ts vs (tree_at Ts y)
-    found = let r = at_from_Contains vs y (subst (λ z. Contains z y) (sym e) (Contains-insert_key nat_eq (λ x y. (Decides-eqb x y).0) us y)) in (r.0, r.1, ap (tree_at Ts) (sym (r.2 0)))
+  pub gathered-skip : S (tree_at Ts y) → IsGathered Ts S (Has (pick Ts xs)) ks us → IsGathered Ts S (Has (pick Ts (xs ++ y ∷ []))) ks us
+  gathered-skip n g = and_one us g (gathered-same Ts S (Has (pick Ts (y ∷ []))) us (λ X h. subst S (sym (one Ts y X h)) n))
 
-    all : (X : Tree) → Has (pick Ts (y ∷ [])) X → IsNumberTree X ⊎ IsIn Ts vs X
-    all X h = inr (subst (IsIn Ts vs) (sym (one Ts y X h)) found)
+  inserted : (vs : List ℕ) → y < length Ts → (S (tree_at Ts y) → ⊥) → vs ≡ insert_key nat_eq us y
+      → IsGathered Ts S (Has (pick Ts (y ∷ []))) us vs
+  inserted vs l n e = at (list_any (nat_eq y) us) refl
+    where
+      found : IsIn Ts vs (tree_at Ts y)
+      found = let r = at_from_Contains vs y (subst (λ z. Contains z y) (sym e) (Contains-insert_key nat_eq (λ x y. (Decides-eqb x y).0) us y)) in (r.0, r.1, ap (tree_at Ts) (sym (r.2 0)))
 
-    at : (b : Bool) → list_any (nat_eq y) us ≡ b → IsGrown Ts (Has (pick Ts (y ∷ []))) us vs
-    at true t = let s : vs ≡ us = e ∙ ap (λ c. if c then us else us ++ y ∷ []) t in record {
-      longer = subst (λ z. length us ≤ length z) (sym s) (omega arith);
-      same = λ j k. ap (λ z. get_or z j 0) s;
-      below = λ j k m. absurd (omega (arith, subst (λ z. j < length z) s k, m));
-      passes = λ j k m. absurd (omega (arith, subst (λ z. j < length z) s k, m));
-      no_number = λ j k m. absurd (omega (arith, subst (λ z. j < length z) s k, m));
-      has = all;
-    }
-    at false t =
-        let s : vs ≡ us ++ y ∷ [] = e ∙ ap (λ c. if c then us else us ++ y ∷ []) t in
-        let last : (j : ℕ) → j < length vs → length us ≤ j → y ≡ get_or vs j 0 = λ j k m. (let i : length us ≡ j = omega (arith, subst (λ z. j < length z) s k, m, length-append us (y ∷ [])) in subst (λ z. y ≡ get_or vs z 0) i (sym (ap (λ z. get_or z (length us) 0) s ∙ get_or-append_seam us y [] 0))) in record {
-          longer = subst (λ z. length us ≤ length z) (sym s) (omega (arith, length-append us (y ∷ [])));
-          same = λ j k. ap (λ z. get_or z j 0) s ∙ get_or_append_left us (y ∷ []) 0 j k;
-          below = λ j k m. subst (λ i. i < length Ts) (last j k m) l;
-          passes = λ j k m. subst (λ i. Has (pick Ts (y ∷ [])) (tree_at Ts i)) (last j k m) (inl refl);
-          no_number = λ j k m. subst (λ i. IsNumberTree (tree_at Ts i) → ⊥) (last j k m) n;
-          has = all;
-        }
+      all : (X : Tree) → Has (pick Ts (y ∷ [])) X → S X ⊎ IsIn Ts vs X
+      all X h = inr (subst (IsIn Ts vs) (sym (one Ts y X h)) found)
 
-pub grown-insert : (Ts : List Tree) (xs ks us vs : List ℕ) (y : ℕ) → y < length Ts → (IsNumberTree (tree_at Ts y) → ⊥) → vs ≡ insert_key nat_eq us y → IsGrown Ts (Has (pick Ts xs)) ks us → IsGrown Ts (Has (pick Ts (xs ++ y ∷ []))) ks vs
-grown-insert Ts xs ks us vs y l n e g = grown-both Ts (Has (pick Ts xs)) (Has (pick Ts (y ∷ []))) (Has (pick Ts (xs ++ y ∷ []))) ks us vs g (inserted Ts us vs y l n e)
-    (λ X h. has-append_left Ts xs (y ∷ []) X h) (λ X h. has-append_right Ts xs (y ∷ []) X h) (λ X h. append-has Ts xs (y ∷ []) X h)
+      at : (b : Bool) → list_any (nat_eq y) us ≡ b → IsGathered Ts S (Has (pick Ts (y ∷ []))) us vs
+      at true t = let s : us ≡ vs = sym (e ∙ ap (λ c. if c then us else us ++ y ∷ []) t) in
+          subst (IsGathered Ts S (Has (pick Ts (y ∷ []))) us) s record {
+            longer = omega arith;
+            same = λ j k. refl;
+            below = λ j k m. absurd (omega (arith, k, m));
+            passes = λ j k m. absurd (omega (arith, k, m));
+            wanted = λ j k m. absurd (omega (arith, k, m));
+            has = subst (λ z. (X : Tree) → Has (pick Ts (y ∷ [])) X → S X ⊎ IsIn Ts z X) (sym s) all;
+          }
+      at false t =
+          let s : us ++ y ∷ [] ≡ vs = sym (e ∙ ap (λ c. if c then us else us ++ y ∷ []) t) in
+          let last : (j : ℕ) → j < length (us ++ y ∷ []) → length us ≤ j → y ≡ get_or (us ++ y ∷ []) j 0 = λ j k m.
+          (let i : length us ≡ j = omega (arith, k, m, length-append us (y ∷ [])) in subst (λ z. y ≡ get_or (us ++ y ∷ []) z 0) i
+          (sym (get_or-append_seam us y [] 0))) in
+          subst (IsGathered Ts S (Has (pick Ts (y ∷ []))) us) s record {
+            longer = omega (arith, length-append us (y ∷ []));
+            same = λ j k. get_or_append_left us (y ∷ []) 0 j k;
+            below = λ j k m. subst (λ i. i < length Ts) (last j k m) l;
+            passes = λ j k m. subst (λ i. Has (pick Ts (y ∷ [])) (tree_at Ts i)) (last j k m) (inl refl);
+            wanted = λ j k m. subst (λ i. S (tree_at Ts i) → ⊥) (last j k m) n;
+            has = subst (λ z. (X : Tree) → Has (pick Ts (y ∷ [])) X → S X ⊎ IsIn Ts z X) (sym s) all;
+          }
+
+  pub gathered-insert : (vs : List ℕ) → y < length Ts → (S (tree_at Ts y) → ⊥) → vs ≡ insert_key nat_eq us y
+      → IsGathered Ts S (Has (pick Ts xs)) ks us
+      → IsGathered Ts S (Has (pick Ts (xs ++ y ∷ []))) ks vs
+  gathered-insert vs l n e g = and_one vs g (inserted vs l n e)
 
 -- where the search is: the ids are those of parts, the options of G are among them, and those of the first n
 pub record IsFollowing (Ts : List Tree) (G : Tree) (ks : List ℕ) (n : ℕ) : Type 0 where
@@ -131,24 +147,27 @@ pub record IsFollowing (Ts : List Tree) (G : Tree) (ks : List ℕ) (n : ℕ) : T
 pub follow-start : (Ts : List Tree) (ls rs us ks : List ℕ) → IsGrown Ts (Has (pick Ts ls)) [] us → IsGrown Ts (Has (pick Ts rs)) us ks → IsFollowing Ts (listed Ts ls rs) ks 0
 follow-start Ts ls rs us ks a b = record {
   ids = λ j l. g.below j l (omega arith);
-  parts = λ j l. (tree_at Ts (get_or ks j 0), g.passes j l (omega arith), (itself _, g.no_number j l (omega arith)));
+  parts = λ j l. (tree_at Ts (get_or ks j 0), g.passes j l (omega arith), (itself _, g.wanted j l (omega arith)));
   starts = g.has;
   closed = λ j l. absurd (omega (arith, l));
 }
   where
     g : IsGrown Ts (IsOption (listed Ts ls rs)) [] ks
-    g = grown-both Ts (Has (pick Ts ls)) (Has (pick Ts rs)) (IsOption (listed Ts ls rs)) [] us ks a b (λ X h. inl h) (λ X h. inr h) (λ X h. h)
+    g = gathered-both Ts IsNumberTree (Has (pick Ts ls)) (Has (pick Ts rs)) (IsOption (listed Ts ls rs)) [] us ks a b (λ X h. inl h)
+        (λ X h. inr h) (λ X h. h)
 
 pub follow-step : (Ts : List Tree) (G : Tree) (ks us : List ℕ) (n id : ℕ) → IsFollowing Ts G ks n → n < length ks → id ≡ get_or ks n 0 → IsGrown Ts (IsOption (tree_at Ts id)) ks us → IsFollowing Ts G us (n + 1)
 follow-step Ts G ks us n id w l e g = record {
   ids = λ j k. elim (cases_lt j (length ks)) [ inl d ↦ subst (λ i. i < length Ts) (sym (g.same j d)) (w.ids j d) | inr d ↦ g.below j k d ];
   parts = λ j k. elim (cases_lt j (length ks)) [
     | inl d ↦ subst (λ i. IsPartOfOption G (tree_at Ts i)) (sym (g.same j d)) (w.parts j d)
-    | inr d ↦ (let p = subst (λ i. IsPartOfOption G (tree_at Ts i)) (sym e) (w.parts n l) in (p.0, p.1, (follower-more p.0 _ _ p.2.0 (g.passes j k d), g.no_number j k d)))
+    | inr d ↦ (let p = subst (λ i. IsPartOfOption G (tree_at Ts i)) (sym e) (w.parts n l)
+        in (p.0, p.1, (follower-more p.0 _ _ p.2.0 (g.passes j k d), g.wanted j k d)))
   ];
-  starts = λ X o. number-or Ts ks us g.longer g.same X (w.starts X o);
+  starts = λ X o. out-or_longer Ts ks us g.longer g.same X IsNumberTree (w.starts X o);
   closed = λ j k m X o. elim (cases_lt j n) [
-    | inl d ↦ (let i : j < length ks = omega (arith, d, l) in number-or Ts ks us g.longer g.same X (w.closed j d i X (subst (λ i. IsOption (tree_at Ts i) X) (g.same j i) o)))
+    | inl d ↦ (let i : j < length ks = omega (arith, d, l) in out-or_longer Ts ks us g.longer g.same X IsNumberTree
+        (w.closed j d i X (subst (λ i. IsOption (tree_at Ts i) X) (g.same j i) o)))
     | inr d ↦ (let i : n ≡ j = omega (arith, k, d) in g.has X (subst (λ i. IsOption (tree_at Ts i) X) (sym (e ∙ sym (g.same n l))) (subst (λ z. IsOption (tree_at Ts (get_or us z 0)) X) (sym i) o)))
   ];
 }
@@ -224,19 +243,20 @@ pub listed-option : (Ts : List Tree) (ls rs : List ℕ) (X : Tree) → IsOption 
 listed-option Ts ls rs X (inl h) = inl (has-sorted (pick Ts ls) X h)
 listed-option Ts ls rs X (inr h) = inr (has-sorted (pick Ts rs) X h)
 
-option-size : (G X : Tree) → IsOption G X → size X < size G
-option-size G X (inl h) = size-left G X h
-option-size G X (inr h) = size-right G X h
-
 follower-size : (G X : Tree) → IsFollower G X → size X ≤ size G
 follower-size _ _ (itself G) = omega arith
-follower-size _ _ (further G H X o f) = omega (arith, option-size G H o, follower-size H X f)
+follower-size _ _ (further G H X o f) = omega (arith, size-option G H o, follower-size H X f)
 
 below-part : (Ts : List Tree) (ls rs : List ℕ) (X : Tree) → IsPartOfOption (listed Ts ls rs) X → IsPart (form Ts ls rs) X
 below-part Ts ls rs X b = (further _ b.0 X (listed-option Ts ls rs b.0 b.1) b.2.0, b.2.1)
 
 below-other : (Ts : List Tree) (ls rs : List ℕ) (X : Tree) → IsPartOfOption (listed Ts ls rs) X → form Ts ls rs ≡ X → ⊥
-below-other Ts ls rs X b e = omega (arith, follower-size b.0 X b.2.0, option-size (form Ts ls rs) b.0 (listed-option Ts ls rs b.0 b.1), ap size e)
+below-other Ts ls rs X b e = omega (
+  arith,
+  follower-size b.0 X b.2.0,
+  size-option (form Ts ls rs) b.0 (listed-option Ts ls rs b.0 b.1),
+  ap size e,
+)
 
 with-itself : (Ts : List Tree) (ls rs : List ℕ) (Xs : List Tree) → (IsNumberTree (form Ts ls rs) → ⊥) → ArePartsOfOptions (listed Ts ls rs) Xs → AreParts (form Ts ls rs) (form Ts ls rs ∷ Xs)
 with-itself Ts ls rs Xs n b = record { each = each; different = different }

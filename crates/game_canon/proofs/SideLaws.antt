@@ -9,7 +9,7 @@ use Rattle.game_canon.specs.declared.side.Side.{Side}
 use Rattle.game_canon.specs.declared.side.Side.TheVariants.{Left, Right}
 use Rattle.game_canon.specs.inner.Sides.{near, far, Covers, near_list, far_list, AreBest, IsWithout}
 use Rattle.game_canon.proofs.GameLaws.{has-left, left-has, has-right, right-has}
-use Rattle.game_canon.proofs.IdSteps.{sizes-order, in-order, out-order, ordered-ids}
+use Rattle.game_canon.proofs.IdLaws.{sizes-order, in-order, out-order, ordered-ids}
 use Rattle.game_canon.specs.inner.Ids.{IsInOrder}
 use Rattle.short_games.specs.Order.{◌≤ᵍ◌}
 
@@ -142,12 +142,21 @@ NearUncovered s Ts is X = (j : ℕ) → j < length is → Covers s X (tree_at Ts
 abbrev pub FarUncovered : Side → List Tree → List ℕ → Tree → Type 0
 FarUncovered s Ts is X = (j : ℕ) → j < length is → Covers s (tree_at Ts (get_or is j 0)) X → ⊥
 
--- the best of ids in order, in order
-pub best-order : (s : Side) (Ts : List Tree) (is ds us vs : List ℕ) → IsInOrder is ds → AreBest s Ts ds us → IsInOrder us vs → AreBest s Ts is vs
-best-order s Ts is ds us vs o b p = record {
-  ids = ordered-ids Ts us vs p b.ids;
-  among = λ X h. out-order Ts is ds o X (b.among X (out-order Ts us vs p X h));
-  covers = λ X h. (let r = b.covers X (in-order Ts is ds o X h) in (r.0, in-order Ts us vs p r.0 r.1, r.2));
-  free = λ A B a c k. b.free A B (out-order Ts us vs p A a) (out-order Ts us vs p B c) k;
-  smaller = omega (arith, sizes-order Ts is ds o, b.smaller, sizes-order Ts us vs p);
+-- the best of ids in order, and the best in order
+pub best-of_ordered : (s : Side) (Ts : List Tree) (is ds vs : List ℕ) → IsInOrder is ds → AreBest s Ts ds vs → AreBest s Ts is vs
+best-of_ordered s Ts is ds vs o b = record {
+  ids = b.ids;
+  among = λ X h. out-order Ts is ds o X (b.among X h);
+  covers = λ X h. b.covers X (in-order Ts is ds o X h);
+  free = b.free;
+  smaller = omega (arith, sizes-order Ts is ds o, b.smaller);
+}
+
+pub best-ordered : (s : Side) (Ts : List Tree) (is us vs : List ℕ) → AreBest s Ts is us → IsInOrder us vs → AreBest s Ts is vs
+best-ordered s Ts is us vs b o = record {
+  ids = ordered-ids Ts us vs o b.ids;
+  among = λ X h. b.among X (out-order Ts us vs o X h);
+  covers = λ X h. (let r = b.covers X h in (r.0, in-order Ts us vs o r.0 r.1, r.2));
+  free = λ A B a c k. b.free A B (out-order Ts us vs o A a) (out-order Ts us vs o B c) k;
+  smaller = omega (arith, b.smaller, sizes-order Ts us vs o);
 }

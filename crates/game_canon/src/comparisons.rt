@@ -1,14 +1,29 @@
 //! Comparisons that are remembered.
 
-ghost use Rattle.std.specs.Prelude.{◌≡◌, ℕ, OnOk, OnErr};
+ghost use Rattle.std.specs.Prelude.{◌≡◌, ℕ, [], OnOk, OnErr};
 ghost use Rattle.game_canon.specs.inner.Comparisons.{recalled, with_answer};
 
 use game_store::GameId;
 use indexmap::IndexMap;
-use std::alloc::AllocError;
+use std::alloc::{AllocError, Global};
 
 /// For pairs of ids, whether the first game is at most the second.
 pub(crate) type Comparisons = IndexMap<(GameId, GameId), bool>;
+
+/// Comparisons that are remembered while one question is answered.
+#[derive(Drop)]
+pub(crate) struct Passing {
+    pub(crate) known: Comparisons,
+}
+
+/// Nothing is remembered yet.
+pub(crate) fn nothing_known(alloc: Global) -> Passing
+    ensures { result.known.entries ≡ [] }
+{
+    Passing {
+        known: IndexMap::new(alloc),
+    }
+}
 
 /// The answer for a pair, if it is remembered.
 pub(crate) fn recall(memo: &Comparisons, a: GameId, b: GameId) -> Option<bool>

@@ -1,6 +1,6 @@
 //! Options that aren't dominated.
 
-ghost use Rattle.std.specs.Prelude.{ℕ, ◌≡◌, ◌<◌, ◌↔◌, length, slice_index, IfOk, IsTrue};
+ghost use Rattle.std.specs.Prelude.{ℕ, ◌≡◌, ◌<◌, ◌↔◌, List, [], ◌∷◌, ◌++◌, length, slice_index, IfOk, IsTrue};
 ghost use Rattle.short_games.specs.Tree.{tree_at};
 ghost use Rattle.game_store.specs.Meaning.{AreIds, IsAscending};
 ghost use Rattle.game_canon.specs.inner.Comparisons.{recalled};
@@ -64,6 +64,27 @@ fn without_covered(
     Ok(left)
 }
 
+/// Those of the games that `top` doesn't cover, and `top`.
+fn with_best(
+    alloc: Global,
+    memo: &mut Comparisons,
+    games: &Games<'_>,
+    side: Side,
+    ids: &[GameId],
+    top: GameId,
+) -> Result<Ids, AllocError>
+    requires known { IsKnown games.now (recalled memo.old) }
+    requires ids { AreIds games.now.store.now ids.now }
+    requires top { top < length games.now.store.now }
+    ensures with_top { IfOk result (λ v. (ws : List ℕ) × IsWithout side games.now.store.now
+        ids.now top ws × (v.items ≡ ws ++ top ∷ [])) }
+    ensures known { IsKnown games.now (recalled memo.new) }
+{
+    let mut left = without_covered(alloc, memo, games, side, ids, top)?;
+    left.push(top)?;
+    Ok(left)
+}
+
 /// The best of the games for the side.
 fn undominated(
     alloc: Global,
@@ -82,10 +103,28 @@ fn undominated(
         if !none_covers(alloc, memo, games, side, &best, *id)? {
             continue;
         }
-        best = without_covered(alloc, memo, games, side, &best, *id)?;
-        best.push(*id)?;
+        best = with_best(alloc, memo, games, side, &best, *id)?;
     }
     Ok(best)
+}
+
+/// The best of games that differ, in ascending order of their ids.
+fn best_in_order(
+    alloc: Global,
+    memo: &mut Comparisons,
+    games: &Games<'_>,
+    side: Side,
+    ids: &[GameId],
+) -> Result<Ids, AllocError>
+    requires known { IsKnown games.now (recalled memo.old) }
+    requires ids { AreIds games.now.store.now ids.now }
+    ensures best { IfOk result (λ v. AreBest side games.now.store.now ids.now v.items) }
+    ensures ascends { IfOk result (λ v. IsAscending v.items) }
+    ensures known { IsKnown games.now (recalled memo.new) }
+{
+    let undominated = undominated(alloc, memo, games, side, ids)?;
+    let sorted = in_order(alloc, &undominated)?;
+    Ok(sorted)
 }
 
 /// The best of the games for the side, in ascending order of their ids.
@@ -103,6 +142,6 @@ pub(crate) fn best(
     ensures known { IsKnown games.now (recalled memo.new) }
 {
     let different = in_order(alloc, ids)?;
-    let undominated = undominated(alloc, memo, games, side, &different)?;
-    Ok(in_order(alloc, &undominated)?)
+    let best = best_in_order(alloc, memo, games, side, &different)?;
+    Ok(best)
 }

@@ -7,6 +7,7 @@ ghost use Rattle.game_store.specs.Meaning.{pick, listed, form, AreIds};
 ghost use Rattle.short_games.specs.Parts.{IsOption, HasParts, HasMoreParts};
 ghost use Rattle.game_canon.specs.inner.Followers.{IsGrown, HasBelow, HasMoreBelow};
 
+use crate::ids::nothing_found;
 use game_store::{Form, GameId, Store};
 use indexmap::IndexSet;
 use std::alloc::{AllocError, Global};
@@ -70,19 +71,19 @@ fn count_parts(
     ensures ended { IfOk result (λ count. IfNone count (limit < 2 ^ 63)) }
 {
     let _count = store.len();
-    let mut found = IndexSet::new(alloc);
-    add_parts(store, &mut found, left)?;
-    add_parts(store, &mut found, right)?;
+    let mut found = nothing_found(alloc);
+    add_parts(store, &mut found.ids, left)?;
+    add_parts(store, &mut found.ids, right)?;
     let mut place = 0;
-    'following: while place < found.len() {
-        if found.len() > limit {
+    'following: while place < found.ids.len() {
+        if found.ids.len() > limit {
             return Ok(None);
         }
-        let id = found.as_slice()[place];
-        add_options(store, &mut found, id)?;
+        let id = found.ids.as_slice()[place];
+        add_options(store, &mut found.ids, id)?;
         place += 1;
     }
-    Ok(Some(found.len()))
+    Ok(Some(found.ids.len()))
 }
 
 /// Whether the form with these options, which is no number, has more than `limit` parts.

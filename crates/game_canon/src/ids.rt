@@ -1,9 +1,10 @@
 //! Short lists of ids.
 
-ghost use Rattle.std.specs.Prelude.{IfOk};
+ghost use Rattle.std.specs.Prelude.{◌≡◌, [], IfOk};
 ghost use Rattle.game_canon.specs.inner.Ids.{IsInOrder};
 
 use game_store::GameId;
+use indexmap::IndexSet;
 use smallvec::SmallVec;
 use std::alloc::{AllocError, Global};
 
@@ -18,4 +19,19 @@ pub(crate) fn in_order(alloc: Global, ids: &[GameId]) -> Result<Ids, AllocError>
     sorted.sort_unstable();
     sorted.dedup();
     Ok(sorted)
+}
+
+/// Ids that were found, each once, in the order in which they were.
+#[derive(Drop)]
+pub(crate) struct Found {
+    pub(crate) ids: IndexSet<GameId>,
+}
+
+/// Nothing is found yet.
+pub(crate) fn nothing_found(alloc: Global) -> Found
+    ensures { result.ids.keys ≡ [] }
+{
+    Found {
+        ids: IndexSet::new(alloc),
+    }
 }

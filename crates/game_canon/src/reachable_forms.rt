@@ -7,7 +7,7 @@ ghost use Rattle.short_games.specs.Parts.{IsInner};
 ghost use Rattle.game_canon.specs.Reachable.{AreReachable};
 ghost use Rattle.game_canon.specs.inner.Reachable.{IsWidened};
 
-use crate::ids::in_order;
+use crate::ids::{in_order, nothing_found};
 use game_store::{Form, GameId, Store};
 use indexmap::IndexSet;
 use smallvec::SmallVec;
@@ -46,13 +46,14 @@ pub fn reachable(alloc: Global, store: &Store, a: GameId) -> Result<SmallVec<Gam
     requires { a < length store.now }
     ensures { IfOk result (λ v. AreReachable store.now (tree_at store.now a) v.items) }
 {
-    let mut found = IndexSet::new(alloc);
-    add_ids(store, &mut found, &[a])?;
+    let mut found = nothing_found(alloc);
+    add_ids(store, &mut found.ids, &[a])?;
     let mut place = 0;
-    'following: while place < found.len() {
-        let id = found.as_slice()[place];
-        add_inner(store, &mut found, id)?;
+    'following: while place < found.ids.len() {
+        let id = found.ids.as_slice()[place];
+        add_inner(store, &mut found.ids, id)?;
         place += 1;
     }
-    Ok(in_order(alloc, found.as_slice())?)
+    let reached = in_order(alloc, found.ids.as_slice())?;
+    Ok(reached)
 }

@@ -1,7 +1,7 @@
 //! The reduction of a form that is no number: dominated options go, and reversible ones are bypassed, until there is none
 //! (Conway).
 
-ghost use Rattle.std.specs.Prelude.{ℕ, IfOk};
+ghost use Rattle.std.specs.Prelude.{ℕ, ◌≡◌, IfOk};
 ghost use Rattle.short_games.specs.Number.{IsNumber};
 ghost use Rattle.short_games.specs.Tree.{AreDistinct};
 ghost use Rattle.short_games.specs.Threshold.{IsFloor, IsCeiling};
@@ -11,7 +11,7 @@ ghost use Rattle.game_canon.specs.inner.Comparisons.{recalled};
 ghost use Rattle.game_canon.specs.inner.Games.{beside, IsFormBeside, IsKnown};
 ghost use Rattle.game_canon.specs.inner.Sides.{IsStart, StartsWith, IsReducedForm};
 
-use crate::comparisons::Comparisons;
+use crate::comparisons::{Comparisons, nothing_known};
 use crate::domination::best;
 use crate::games::{Games, Standing, games_beside, games_of};
 use crate::ids::Ids;
@@ -19,7 +19,6 @@ use crate::reversal::bypassed;
 use crate::side::Side;
 use dyadic_num::EXPONENT;
 use game_store::{Bound, GameId, Store};
-use indexmap::IndexMap;
 use std::alloc::{AllocError, Global};
 
 /// The options of both sides.
@@ -27,6 +26,23 @@ use std::alloc::{AllocError, Global};
 pub(crate) struct Lists {
     pub(crate) left: Ids,
     pub(crate) right: Ids,
+}
+
+/// A copy of the options.
+fn copied(alloc: Global, left: &[GameId], right: &[GameId]) -> Result<Lists, AllocError>
+    ensures left { IfOk result (λ lists. lists.left.items ≡ left.now) }
+    ensures right { IfOk result (λ lists. lists.right.items ≡ right.now) }
+{
+    let left = Ids::from_slice(alloc, left)?;
+    let right = Ids::from_slice(alloc, right)?;
+    Ok(Lists { left, right })
+}
+
+/// Puts other options in the place of those of a side.
+fn put(place: &mut Ids, found: Ids)
+    ensures { place.new.items ≡ found.items }
+{
+    *place = found;
 }
 
 /// The options of the form beside the store, of which none is dominated, with every reversible one bypassed.
@@ -43,21 +59,38 @@ fn bypass_all(
     ensures { IfOk result (λ lists. IsReducedForm games.now.store.now
         (beside games.now) lists.left.items lists.right.items) }
 {
-    let mut lists = Lists {
-        left: Ids::from_slice(alloc, left)?,
-        right: Ids::from_slice(alloc, right)?,
-    };
+    let mut lists = copied(alloc, left, right)?;
     'rounds: loop {
         if let Some(found) = bypassed(alloc, memo, games, Side::Left, &lists.left)? {
-            lists.left = found;
+            put(&mut lists.left, found);
             continue;
         }
         if let Some(found) = bypassed(alloc, memo, games, Side::Right, &lists.right)? {
-            lists.right = found;
+            put(&mut lists.right, found);
             continue;
         }
         return Ok(lists);
     }
+}
+
+/// The best of the options of both sides, in ascending order.
+fn best_of_both(
+    alloc: Global,
+    memo: &mut Comparisons,
+    games: &Games<'_>,
+    left: &[GameId],
+    right: &[GameId],
+) -> Result<Lists, AllocError>
+    requires known { IsKnown games.now (recalled memo.old) }
+    requires left { AreIds games.now.store.now left.now }
+    requires right { AreIds games.now.store.now right.now }
+    ensures starts { IfOk result (λ lists. StartsWith games.now.store.now
+        left.now right.now lists.left.items lists.right.items) }
+    ensures known { IsKnown games.now (recalled memo.new) }
+{
+    let left = best(alloc, memo, games, Side::Left, left)?;
+    let right = best(alloc, memo, games, Side::Right, right)?;
+    Ok(Lists { left, right })
 }
 
 /// The best of the options of both sides, in ascending order. What is found out of the store's games is remembered.
@@ -76,11 +109,10 @@ fn best_lists(
     ensures memo { AreRight store.now (recalled memo.new) }
     ensures distinct { AreDistinct store.now }
 {
-    let none = IndexMap::new(alloc);
-    let stored = games_of(store, &none);
-    let left = best(alloc, memo, &stored, Side::Left, left)?;
-    let right = best(alloc, memo, &stored, Side::Right, right)?;
-    Ok(Lists { left, right })
+    let none = nothing_known(alloc);
+    let stored = games_of(store, &none.known);
+    let lists = best_of_both(alloc, memo, &stored, left, right)?;
+    Ok(lists)
 }
 
 /// The options of a form that is no number, in ascending order, of which none is dominated or reversible any more. The
@@ -108,6 +140,7 @@ pub(crate) fn reduced(
     let lists = best_lists(alloc, store, memo, left, right)?;
     let standing = Standing { floor, ceiling };
     let games = games_beside(store, memo, &lists.left, &lists.right, &standing);
-    let mut beside = IndexMap::new(alloc);
-    Ok(bypass_all(alloc, &mut beside, &games, &lists.left, &lists.right)?)
+    let mut beside = nothing_known(alloc);
+    let reduced = bypass_all(alloc, &mut beside.known, &games, &lists.left, &lists.right)?;
+    Ok(reduced)
 }

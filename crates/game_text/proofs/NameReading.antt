@@ -21,7 +21,7 @@ use Rattle.game_text.specs.inner.Refusals.{IsFormRefusal}
 use Rattle.game_text.specs.declared.errors.ReadError.{ReadError}
 use Rattle.game_text.specs.declared.errors.ReadError.TheVariants as error
 use Rattle.short_games.proofs.TextOrderLaws.{tree_text-one_to_one}
-use Rattle.game_canon.proofs.Sizes.{number-same}
+use Rattle.game_canon.proofs.NumberSizeLaws.{number-same}
 use Rattle.game_text.proofs.ReadingSteps.{byte-drop}
 use Rattle.game_text.proofs.ReadingPlaces.{run-is}
 use Rattle.game_text.specs.declared.named_games.Found.{Found}

@@ -17,7 +17,7 @@ use Rattle.game_text.specs.NamedText.{nimbers_below, nimber, up, down, switch, c
 use Rattle.game_text.proofs.NumberTexts.{guess-num, same-refl, text-number}
 use Rattle.game_text.proofs.BracesTexts.{no-number_text}
 use Rattle.short_games.proofs.StopLaws.{num-scaled}
-use Rattle.game_canon.proofs.Sizes.{number-same}
+use Rattle.game_canon.proofs.NumberSizeLaws.{number-same}
 use Rattle.game_text.proofs.Nimbers.{option-nimber, nimber-option, nimber-same, nimber-no_number, nimber-count}
 use Rattle.game_text.proofs.NameKinds.{IsNamed, a_number, a_nimber, an_up, a_down, a_switch, is-named}
 

@@ -25,7 +25,7 @@ use Rattle.game_text.proofs.NamesFound.{number-text, zero-tree, name-number, nam
 use Rattle.game_text.proofs.WritingSteps.{before}
 use Rattle.short_games.specs.Parts.{IsInner, IsOption}
 use Rattle.game_canon.proofs.GameLaws.{has-left, has-right}
-use Rattle.game_canon.proofs.Sizes.{number-same}
+use Rattle.game_canon.proofs.NumberSizeLaws.{number-same}
 use Rattle.game_store.specs.Meaning.Wanted.{number, options}
 use Rattle.short_games.specs.Text.{text}
 use Rattle.short_games.proofs.NumberLaws.{num-zero}

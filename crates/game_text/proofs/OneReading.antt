@@ -12,7 +12,7 @@ use Rattle.game_text.proofs.Runs.{one-run, one-digits, more-length, run-first, r
 use Rattle.game_text.proofs.NameKinds.{digits-bytes}
 use Rattle.short_games.specs.NumberText.{digits}
 use Rattle.short_games.proofs.NumberTextLaws.{digits-one_to_one}
-use Rattle.game_canon.proofs.Sizes.{number-same}
+use Rattle.game_canon.proofs.NumberSizeLaws.{number-same}
 use Rattle.game_text.specs.NamedText.{nimber}
 use Rattle.game_text.specs.Reading.{IsDigitRun, EndsDigits, switch_below, IsNumberByte, IsNameByte, ReadsNimber, ReadsSwitch, ReadsName, IsNimberDigits, IsNumberRun, IsNumberText, Fault, Outcome, behind, Side, left_side, right_side, mark_of, BeginsOtherwise, IsClosed, ReadsGame, ReadsOptions, ReadsMore, ReadsText}
 use Rattle.game_text.specs.Reading.ReadsNimber.{of_one, of_number, of_none}

@@ -28,8 +28,8 @@ use Rattle.short_games.proofs.StopLaws.{num-scaled}
 use Rattle.game_canon.specs.declared.errors.FormError.TheVariants.{Bounds, Parts, Memory}
 use Rattle.game_canon.specs.Changes.{IsSumRefusal}
 use Rattle.sum_outcome.specs.Players.{credit, gain, options}
-use Rattle.game_canon.proofs.ChangeSteps.{extends-on}
-use Rattle.game_canon.proofs.NumberParts.{sum-fits, same-sum}
+use Rattle.game_canon.proofs.ChangedIdLaws.{extends-on}
+use Rattle.game_canon.proofs.NumberPartLaws.{sum-fits, same-sum}
 use Rattle.local_value.specs.inner.Valuing.{noted, IsWithinAfter, IsAfter, most_units, IsNoted, tree_after, AreWithinAfter, AreAfter, AreBothAfter, IsAdded, HasEdges}
 use Rattle.std.proofs.lemmas.List.{get_or_default, length-append, get_or_append_left, get_or_push, take_all, take_more}
 use Rattle.std.proofs.lemmas.List.Elements.{Contains-append_left, Contains-get_or, Contains-push, Contains-push_cases}

@@ -24,7 +24,7 @@ use Rattle.sum_outcome.specs.Players.{options, gain}
 use Rattle.game_canon.proofs.PartLaws.{fewer}
 use Rattle.short_games.proofs.OrderLaws.{same-path, same-refl, same-trans}
 use Rattle.short_games.proofs.SumLaws.{same-plus}
-use Rattle.game_canon.proofs.Sizes.{own-number}
+use Rattle.game_canon.proofs.NumberSizeLaws.{own-number}
 use Rattle.local_value.specs.Ending.{EndsWithin}
 use Rattle.local_value.specs.inner.GraphMoves.{step_of, steps_of}
 use Rattle.local_value.specs.LocalGame.{Step, StepsTo, tree_within}
@@ -40,7 +40,7 @@ use Rattle.short_games.proofs.TextOrderLaws.{text-order}
 use Rattle.game_canon.specs.declared.errors.FormError.{FormError}
 use Rattle.game_canon.specs.declared.errors.FormError.TheVariants.{Parts, Bounds, Memory}
 use Rattle.game_canon.proofs.ChangeLaws.{tree-number}
-use Rattle.game_canon.proofs.Finish.{made-no_number}
+use Rattle.game_canon.proofs.CanonicalFormLaws.{made-no_number}
 use Rattle.local_value.specs.PositionTree.{IsValueOf}
 use Rattle.local_value.specs.Refusals.{IsValueAt, IsValueRefusal}
 use Rattle.local_graph.specs.declared.graph.TheConstants.{MOST_POSITIONS}

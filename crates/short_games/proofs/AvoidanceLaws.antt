@@ -1,6 +1,6 @@
 -- Number avoidance: a game that is no number has a move that loses next to nothing, so no move in a number is needed.
-use Rattle.std.proofs.Common.{ℕ, zero, suc, ◌≤◌, ◌≡◌, arith, refl, inl, inr, sym, ◌∙◌, ap, subst, ℤ, pos, negsuc, ◌+ℤ◌, ◌<ℤ◌, ◌≤ℤ◌, neg_ℤ}
-use Rattle.std.proofs.lemmas.Int.{ints, by_lt_z}
+use Rattle.std.proofs.Common.{ℕ, zero, suc, ◌+◌, ◌≤◌, ◌≡◌, arith, refl, inl, inr, sym, ◌∙◌, ap, subst, ℤ, pos, negsuc, ◌+ℤ◌, ◌<ℤ◌, neg_ℤ}
+use Rattle.std.proofs.lemmas.Int.{ints}
 use Rattle.short_games.specs.Tree.{Tree, node, Trees, none, more, left, right, Has, size, neg}
 use Rattle.short_games.specs.Order.{◌≤ᵍ◌}
 use Rattle.short_games.specs.Sum.{◌+ᵍ◌, total}
@@ -23,11 +23,16 @@ at-most_integer (suc n) G a = le-in G (num 0 (pos (suc n))) record {
   from_right = λ X x _. no-right (suc n) X x;
 }
 
-upper : (e : ℕ) (G : Tree) → (k : ℤ) × (G ≤ᵍ num e k)
-upper e G = let w = scaled e 0 (pos (size G)) in (w.0, subst (λ t. G ≤ᵍ t) (sym w.1 ∙ ap (λ n. num n w.0) (omega arith)) (at-most_integer (size G) G (omega arith)))
+upper : (e : ℕ) (G : Tree) → (n : ℕ) × (G ≤ᵍ num e (pos n))
+upper e G = let w = scaled e 0 (pos (size G)) in
+    at w.0 (subst (λ t. G ≤ᵍ t) (sym w.1 ∙ ap (λ n. num n w.0) (omega arith)) (at-most_integer (size G) G (omega arith)))
+  where
+    at : (k : ℤ) → G ≤ᵍ num e k → (n : ℕ) × (G ≤ᵍ num e (pos n))
+    at (pos n) l = (n, l)
+    at (negsuc n) l = (0, le-trans _ _ _ l (num-le e (negsuc n) (pos 0) (omega (arith, ints))))
 
-lower : (e : ℕ) (G : Tree) → (k : ℤ) × (num e k ≤ᵍ G)
-lower e G = let u = upper e (neg G) in (neg_ℤ u.0, rw (neg-num e u.0, neg-neg G) at (neg-le (neg G) (num e u.0) u.1))
+lower : (e : ℕ) (G : Tree) → (n : ℕ) × (num e (neg_ℤ (pos n)) ≤ᵍ G)
+lower e G = let u = upper e (neg G) in (u.0, rw (neg-num e (pos u.0), neg-neg G) at (neg-le (neg G) (num e (pos u.0)) u.1))
 
 module _ (e : ℕ) (G : Tree) where
   -- the least number over 2 ^ e that is at least the game
@@ -43,21 +48,13 @@ module _ (e : ℕ) (G : Tree) where
     | inr f ↦ search_up n (k +ℤ pos 1) f (subst (λ z. G ≤ᵍ num e z) (omega (arith, ints)) b)
   ]
 
-  -- so far apart
-  distance : (j k : ℤ) → j <ℤ k → (n : ℕ) × (k ≡ j +ℤ pos n)
-  distance j k l = at (k +ℤ neg_ℤ j) refl
-    where
-      at : (z : ℤ) → k +ℤ neg_ℤ j ≡ z → (n : ℕ) × (k ≡ j +ℤ pos n)
-      at (pos n) i = (n, omega (arith, ints, i))
-      at (negsuc n) i = absurd (omega (arith, ints, i, l))
-
   least : Least
   least =
       let u = upper e G in
       let l = lower e G in
-      let ends : l.0 ≤ℤ u.0 = by_lt_z u.0 l.0 (λ m. absurd (num-lt e u.0 l.0 m (le-trans _ G _ l.1 u.1))) (λ m. m) in
-      let d = distance (l.0 +ℤ negsuc 0) u.0 (omega (arith, ints, ends)) in
-      search_up d.0 (l.0 +ℤ negsuc 0) (λ y. num-lt e (l.0 +ℤ negsuc 0) l.0 (omega (arith, ints)) (le-trans _ G _ l.1 y)) (subst (λ z. G ≤ᵍ num e z) d.1 u.1)
+      let first = neg_ℤ (pos (suc l.0)) in
+      search_up (suc (l.0 + u.0)) first (λ y. num-lt e first (neg_ℤ (pos l.0)) (omega (arith, ints)) (le-trans _ G _ l.1 y))
+      (subst (λ z. G ≤ᵍ num e z) (omega (arith, ints)) u.1)
 
 -- a game that is no number loses next to nothing by some move
 pub cheap_left : (G : Tree) → (IsNumber G → ⊥) → (e : ℕ) (d : ℤ) → pos 0 <ℤ d → (L : Tree) × Has (left G) L × (G ≤ᵍ L +ᵍ num e d)

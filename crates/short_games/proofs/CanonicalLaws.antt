@@ -2,7 +2,8 @@
 use Rattle.std.proofs.Common.{◌+◌, ◌<◌, ◌≤◌, ◌≡◌, arith, refl, inl, inr, sym, ◌∙◌, ap₂, subst}
 use Rattle.short_games.specs.Tree.{Tree, Trees, node, none, more, left, right, Has, size}
 use Rattle.short_games.specs.Order.{◌≤ᵍ◌, by_left, by_right}
-use Rattle.short_games.specs.Parts.{IsOption}
+use Rattle.short_games.specs.Parts.{IsOption, IsFollower}
+use Rattle.short_games.specs.Parts.IsFollower.{itself, further}
 use Rattle.short_games.specs.Canonical.{Ascends, IsReduced, IsCanonical, AreCanonical}
 use Rattle.short_games.proofs.OrderLaws.{by_sizes, le-out, le-trans, not-le, size-left, size-right}
 use Rattle.short_games.proofs.SumLaws.{tree-same}
@@ -13,6 +14,14 @@ module _ (Before : Tree → Tree → Type 0) where
   canonical-at (more K Ks) G c (inl e) = rw e c.0
   canonical-at (more K Ks) G c (inr h) = canonical-at Ks G c.1 h
 
+  pub option-canonical : (G X : Tree) → IsCanonical Before G → IsOption G X → IsCanonical Before X
+  option-canonical (node ls rs) X c (inl h) = canonical-at ls X c.1 h
+  option-canonical (node ls rs) X c (inr h) = canonical-at rs X c.2 h
+
+  pub canonical-follower : (G X : Tree) → IsCanonical Before G → IsFollower G X → IsCanonical Before X
+  canonical-follower _ _ c (itself G) = c
+  canonical-follower _ _ c (further G H X o f) = canonical-follower H X (option-canonical G H c o) f
+
   pub rest-ascends : (G : Tree) (Gs : Trees) → Ascends Before (more G Gs) → Ascends Before Gs
   rest-ascends G none a = tt
   rest-ascends G (more K Ks) a = a.1
@@ -22,13 +31,13 @@ module _ (Before : Tree → Tree → Type 0) (irreflexive : (G : Tree) → Befor
   reduced (node ls rs) c = c.0
 
   pub canonical-left : (G L : Tree) → IsCanonical Before G → Has (left G) L → IsCanonical Before L
-  canonical-left (node ls rs) L c h = canonical-at Before ls L c.1 h
+  canonical-left G L c h = option-canonical Before G L c (inl h)
 
   pub canonical-right : (G R : Tree) → IsCanonical Before G → Has (right G) R → IsCanonical Before R
-  canonical-right (node ls rs) R c h = canonical-at Before rs R c.2 h
+  canonical-right G R c h = option-canonical Before G R c (inr h)
 
   pub canonical-option : (G X : Tree) → IsCanonical Before G → IsOption G X → IsCanonical Before X
-  canonical-option G X c o = elim o [ inl l ↦ canonical-left G X c l | inr r ↦ canonical-right G X c r ]
+  canonical-option = option-canonical Before
 
   -- the first of an ascending list stands before the others
   first_before : (G : Tree) (Gs : Trees) → Ascends Before (more G Gs) → (H : Tree) → Has Gs H → Before G H

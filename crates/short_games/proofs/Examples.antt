@@ -101,37 +101,33 @@ option-no_number G L R a b y n =
 pub right-no_number : (G R : Tree) → Has (right G) R → (IsNumberTree R → ⊥) → IsNumberTree G → ⊥
 right-no_number G R b f n = let r = num-right n.0 n.1 R (subst (λ t. Has (right t) R) n.2 b) in f (n.0, r.0, r.2)
 
-pub star-canonical : IsCanonicalTree star
+examples-canonical : IsCanonicalTree star × IsCanonicalTree up × IsCanonicalTree two_switch × IsCanonicalTree tiny
+    × IsCanonicalTree star_two
+    × IsCanonicalTree (choice one star)
 unfolding canonical_test reduced_test kept_test ascends_test free_test le le_within size same text_before lesser_text tree_text text number_of guess num whole count_tree digits_within
-star-canonical = by_canonical_test star refl
+examples-canonical = (
+  by_canonical_test star refl,
+  by_canonical_test up refl,
+  by_canonical_test two_switch refl,
+  by_canonical_test tiny refl,
+  by_canonical_test star_two refl,
+  by_canonical_test (choice one star) refl,
+)
+
+pub star-canonical : IsCanonicalTree star
+star-canonical = examples-canonical.0
+
+pub one_or_star-canonical : IsCanonicalTree (choice (num 0 (pos 1)) star)
+unfolding num whole count_tree
+one_or_star-canonical = examples-canonical.5
 
 pub star-no_number : IsNumberTree star → ⊥
 unfolding le le_within size
 star-no_number = option-no_number star zero zero (inl refl) (inl refl) (from-test zero zero refl)
 
-up-canonical : IsCanonicalTree up
-unfolding canonical_test reduced_test kept_test ascends_test free_test le le_within size same text_before lesser_text tree_text text number_of guess num whole count_tree digits_within
-up-canonical = by_canonical_test up refl
-
-pub one_or_star-canonical : IsCanonicalTree (choice (num 0 (pos 1)) star)
-unfolding canonical_test reduced_test kept_test ascends_test free_test le le_within size same text_before lesser_text tree_text text number_of guess num whole count_tree digits_within
-one_or_star-canonical = by_canonical_test (choice one star) refl
-
 pub one_or_star-no_number : IsNumberTree (choice (num 0 (pos 1)) star) → ⊥
 unfolding num whole count_tree le le_within size
 one_or_star-no_number = option-no_number (choice (num 0 (pos 1)) star) (num 0 (pos 1)) star (inl refl) (inl refl) (from-test star one refl)
-
-pub switch-canonical : IsCanonicalTree two_switch
-unfolding canonical_test reduced_test kept_test ascends_test free_test le le_within size same text_before lesser_text tree_text text number_of guess num whole count_tree digits_within
-switch-canonical = by_canonical_test two_switch refl
-
-pub tiny-canonical : IsCanonicalTree tiny
-unfolding canonical_test reduced_test kept_test ascends_test free_test le le_within size same text_before lesser_text tree_text text number_of guess num whole count_tree digits_within
-tiny-canonical = by_canonical_test tiny refl
-
-pub star_two-canonical : IsCanonicalTree star_two
-unfolding canonical_test reduced_test kept_test ascends_test free_test le le_within size same text_before lesser_text tree_text text number_of guess num whole count_tree digits_within
-star_two-canonical = by_canonical_test star_two refl
 
 -- what the test tells of two games
 apart : (G H : Tree) → le H G ≡ false → G ⧏ᵍ H
@@ -164,7 +160,16 @@ half-canonical = number-canonical 1 (pos 1)
 
 pub known-canonical : KnownCanonical
 unfolding le le_within size
-known-canonical = (zero-canonical, half-canonical, star-canonical, up-canonical, switch-canonical, tiny-canonical, star_two-canonical, record { canonical = zero-canonical; under = from-test (choice star star) zero refl; over = from-test zero (choice star star) refl })
+known-canonical = let (star-is, up-is, switch-is, tiny-is, star_two-is, _) = examples-canonical in (
+  zero-canonical,
+  half-canonical,
+  star-is,
+  up-is,
+  switch-is,
+  tiny-is,
+  star_two-is,
+  record { canonical = zero-canonical; under = from-test (choice star star) zero refl; over = from-test zero (choice star star) refl },
+)
 
 switch-no_number : IsNumberTree two_switch → ⊥
 unfolding le le_within size
@@ -200,10 +205,10 @@ known-numbers = (
     no_right = λ Y h. absurd h;
   },
   no_value star star-canonical star-no_number,
-  no_value up up-canonical up-no_number,
-  no_value two_switch switch-canonical switch-no_number,
-  no_value tiny tiny-canonical tiny-no_number,
-  no_value star_two star_two-canonical star_two-no_number,
+  no_value up examples-canonical.1 up-no_number,
+  no_value two_switch examples-canonical.2 switch-no_number,
+  no_value tiny examples-canonical.3 tiny-no_number,
+  no_value star_two examples-canonical.4 star_two-no_number,
 )
 
 -- one option on each side, which is a number, gives the stop

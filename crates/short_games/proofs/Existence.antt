@@ -1,158 +1,179 @@
--- Each tree has a canonical tree that is equal to it, where the order of texts is total.
-use Rattle.std.proofs.Common.{◌+◌, ◌<◌, ◌≤◌, ◌≡◌, ◌⊎◌, arith, refl, inl, inr, sym, cond, ◌∙◌, subst, true, false, Bool}
-use Rattle.std.proofs.lemmas.Bool.{cases_Bool, true≢false}
+-- Each tree has a canonical tree that is equal to it, where the order of texts is total: options that are dominated or
+-- reversible are replaced by smaller ones while there are some, and what is left is put in order.
+use Rattle.std.proofs.Common.{◌+◌, ◌<◌, ◌≡◌, ◌⊎◌, ◌↔◌, suc, arith, refl, inl, inr, sym, ◌∙◌, ap, subst}
 use Rattle.short_games.specs.Tree.{Tree, Trees, node, none, more, left, right, Has, size, sizes, ◌then◌}
-use Rattle.short_games.specs.Order.{◌≤ᵍ◌}
-use Rattle.short_games.specs.Canonical.{Ascends, IsCanonical, AreCanonical}
+use Rattle.short_games.specs.Order.{◌≤ᵍ◌, ◌≡ᵍ◌}
+use Rattle.short_games.specs.Canonical.{Ascends, IsCanonical, IsCanonicalOf, AreCanonical}
 use Rattle.short_games.specs.Parts.{IsFollower, IsOption}
 use Rattle.short_games.specs.Parts.IsFollower.{itself, further}
-use Rattle.short_games.proofs.OrderLaws.{by_measure, left_side, right_side, no_one, no_one-has, some_one, le, from-test, to-test, le-refl, le-trans, size-left, size-right, size-node}
+use Rattle.short_games.proofs.OrderLaws.{IsSide, left_side, right_side, by_measure, le-or_not, none-or_some, same-trans, size-node, size-option, size-pos, sizes-has}
 use Rattle.short_games.proofs.SumLaws.{then-has, has-then_left, has-then_right}
 use Rattle.short_games.proofs.PartLaws.{follower-trans}
-use Rattle.short_games.proofs.CanonicalLaws.{canonical-at, rest-ascends}
+use Rattle.short_games.proofs.CanonicalLaws.{canonical-at, canonical-follower, rest-ascends}
+use Rattle.short_games.proofs.NumberTextLaws.{same-or_not}
 use Rattle.short_games.proofs.TextOrderLaws.{Inserted, into-none, in_front, there_already, further_on, Sorted, sorted-none, sorted-more}
-use Rattle.short_games.proofs.FormLaws.{bypassed, by_better, all-canonical}
+use Rattle.short_games.proofs.FormLaws.{by_better, bypassed, dropped}
+use Rattle.short_games.proofs.ReductionLaws.{form-in_order}
 
--- for one side: `near` has a side's options, `far` the other side's, and ans G R says that R is a good enough answer in G
-module _ (Before : Tree → Tree → Type 0) (near far : Tree → Trees) (ans : Tree → Tree → Bool) (near-size : (G : Tree) → sizes (near G) < size G) (far-size : (G R : Tree) → Has (far G) R → size R < size G)
-    (near-canonical : (G : Tree) → IsCanonical Before G → AreCanonical Before (near G)) (far-canonical : (G R : Tree) → IsCanonical Before G → Has (far G) R → IsCanonical Before R)
-    (near-option : (G X : Tree) → Has (near G) X → IsOption G X) (far-option : (G X : Tree) → Has (far G) X → IsOption G X) where
-  -- X can be answered
-  abbrev IsAnswered : Tree → Tree → Type 0
-  IsAnswered G X = (R : Tree) × Has (far X) R × (ans G R ≡ true)
+sizes-then : (As Bs : Trees) → sizes (As then Bs) ≡ sizes As + sizes Bs
+unfolding size
+sizes-then none Bs = omega arith
+sizes-then (more A As) Bs = omega (arith, sizes-then As Bs)
 
-  -- Ms is Ls with each option that can be answered replaced by the Left options of an answer
-  record Bypassed (G : Tree) (Ls Ms : Trees) : Type 0 where
-    kept : (X : Tree) → Has Ls X → Has Ms X ⊎ ((R : Tree) × Has (far X) R × (ans G R ≡ true) × ((Y : Tree) → Has (near R) Y → Has Ms Y))
-    from : (X : Tree) → Has Ms X → Has Ls X ⊎ ((R : Tree) × (ans G R ≡ true) × Has (near R) X)
-    under : (X : Tree) → Has Ms X → (L : Tree) × Has Ls L × IsFollower L X
-    smaller : sizes Ms ≤ sizes Ls
-    done : (sizes Ms < sizes Ls) ⊎ ((X : Tree) → Has Ls X → IsAnswered G X → ⊥)
-    canonical : AreCanonical Before Ms
+sizes-more : (A : Tree) (As : Trees) → sizes (more A As) ≡ size A + sizes As
+unfolding size
+sizes-more A As = refl
 
-  both-canonical : (As Bs : Trees) → AreCanonical Before As → AreCanonical Before Bs → AreCanonical Before (As then Bs)
-  both-canonical none Bs a b = b
-  both-canonical (more A As) Bs a b = (a.0, both-canonical As Bs a.1 b)
+-- Ms is Gs with the tree A replaced by the trees of Bs
+record Replaced (Gs : Trees) (A : Tree) (Bs Ms : Trees) : Type 0 where
+  kept : (X : Tree) → Has Gs X → (X ≡ A) ⊎ Has Ms X
+  added : (X : Tree) → Has Bs X → Has Ms X
+  from : (X : Tree) → Has Ms X → Has Gs X ⊎ Has Bs X
+  smaller : sizes Bs < size A → sizes Ms < sizes Gs
 
-  sizes-then : (As Bs : Trees) → sizes (As then Bs) ≡ sizes As + sizes Bs
-  unfolding size
-  sizes-then none Bs = omega arith
-  sizes-then (more A As) Bs = omega (arith, sizes-then As Bs)
+replaced : (Gs : Trees) (A : Tree) (Bs : Trees) → Has Gs A → (Ms : Trees) × Replaced Gs A Bs Ms
+replaced none A Bs h = absurd h
+replaced (more G Gs) A Bs (inl e) = (
+  Bs then Gs,
+  record {
+    kept = λ X h. elim h [ inl i ↦ inl (i ∙ sym e) | inr x ↦ inr (has-then_right Bs Gs X x) ];
+    added = has-then_left Bs Gs;
+    from = λ X h. elim (then-has Bs Gs X h) [ inl x ↦ inr x | inr x ↦ inl (inr x) ];
+    smaller = λ l. (let i : size A ≡ size G = ap size e in omega (arith, l, i, sizes-more G Gs, sizes-then Bs Gs));
+  },
+)
+replaced (more G Gs) A Bs (inr a) = let r = replaced Gs A Bs a in (
+  more G r.0,
+  record {
+    kept = λ X h. elim h [ inl i ↦ inr (inl i) | inr x ↦ elim (r.1.kept X x) [ inl i ↦ inl i | inr k ↦ inr (inr k) ] ];
+    added = λ X x. inr (r.1.added X x);
+    from = λ X h. elim h [ inl i ↦ inl (inl i) | inr x ↦ elim (r.1.from X x) [ inl k ↦ inl (inr k) | inr k ↦ inr k ] ];
+    smaller = λ l. omega (arith, sizes-more G Gs, sizes-more G r.0, r.1.smaller l);
+  },
+)
 
-  sizes-more : (A : Tree) (As : Trees) → sizes (more A As) ≡ size A + sizes As
-  unfolding size
-  sizes-more A As = refl
+-- each option of the one is a follower of an option of the other
+abbrev pub AreBelow : Tree → Tree → Type 0
+AreBelow G C = (X : Tree) → IsOption C X → (L : Tree) × IsOption G L × IsFollower L X
 
-  extend : (G L : Tree) (Ls : Trees) → IsCanonical Before L → (Ms : Trees) × Bypassed G Ls Ms → (b : Bool) → no_one (λ R. ans G R) (far L) ≡ b → (Ms : Trees) × Bypassed G (more L Ls) Ms
-  extend G L Ls c r true e = (
-    more L r.0,
-    record {
-      kept = λ X h. elim h [ inl i ↦ inl (inl i) | inr x ↦ elim (r.1.kept X x) [ inl y ↦ inl (inr y) | inr w ↦ inr (w.0, w.1, w.2, λ Y y. inr (w.3 Y y)) ] ];
-      from = λ X h. elim h [ inl i ↦ inl (inl i) | inr x ↦ elim (r.1.from X x) [ inl y ↦ inl (inr y) | inr w ↦ inr w ] ];
-      under = λ X h. elim h [
-        | inl i ↦ (L, inl refl, subst (IsFollower L) (sym i) (itself L))
-        | inr x ↦ (let w = r.1.under X x in (w.0, inr w.1, w.2))
-      ];
-      smaller = omega (arith, sizes-more L Ls, sizes-more L r.0, r.1.smaller);
-      done = elim r.1.done [
-        | inl l ↦ inl (omega (arith, sizes-more L Ls, sizes-more L r.0, l))
-        | inr f ↦ inr (λ X h. elim h [ inl i ↦ (λ w. no_one-has (λ R. ans G R) (far L) e w.0 (subst (λ t. Has (far t) w.0) i w.1) w.2) | inr x ↦ f X x ])
-      ];
-      canonical = (c, r.1.canonical);
-    },
-  )
-  extend G L Ls c r false e = by_answer (some_one (λ R. ans G R) (far L) e)
-    where
-      by_answer : (R : Tree) × Has (far L) R × (ans G R ≡ true) → (Ms : Trees) × Bypassed G (more L Ls) Ms
-      by_answer a = (
-        near a.0 then r.0,
-        record {
-          kept = λ X h. elim h [
-            | inl i ↦ inr (a.0, subst (λ t. Has (far t) a.0) (sym i) a.1, a.2, λ Y y. has-then_left (near a.0) r.0 Y y)
-            | inr x ↦ elim (r.1.kept X x) [ inl y ↦ inl (has-then_right (near a.0) r.0 X y) | inr w ↦ inr (w.0, w.1, w.2, λ Y y. has-then_right (near a.0) r.0 Y (w.3 Y y)) ]
-          ];
-          from = λ X h. elim (then-has (near a.0) r.0 X h) [ inl y ↦ inr (a.0, a.2, y) | inr x ↦ elim (r.1.from X x) [ inl y ↦ inl (inr y) | inr w ↦ inr w ] ];
-          under = λ X h. elim (then-has (near a.0) r.0 X h) [
-            | inl y ↦ (L, inl refl, further L a.0 X (far-option L a.0 a.1) (further a.0 X X (near-option a.0 X y) (itself X)))
-            | inr x ↦ (let w = r.1.under X x in (w.0, inr w.1, w.2))
-          ];
-          smaller = omega (arith, sizes-more L Ls, sizes-then (near a.0) r.0, r.1.smaller, near-size a.0, far-size L a.0 a.1);
-          done = inl (omega (arith, sizes-more L Ls, sizes-then (near a.0) r.0, r.1.smaller, near-size a.0, far-size L a.0 a.1));
-          canonical = both-canonical (near a.0) r.0 (near-canonical a.0 (far-canonical L a.0 c a.1)) r.1.canonical;
-        },
-      )
+-- a tree with fewer nodes that is equal to G, whose options are below those of G
+record Shorter (G : Tree) : Type 0 where
+  tree : Tree
+  smaller : size tree < size G
+  same : G ≡ᵍ tree
+  below : AreBelow G tree
 
-  bypass : (G : Tree) (Ls : Trees) → AreCanonical Before Ls → (Ms : Trees) × Bypassed G Ls Ms
-  bypass G none c = (none, record { kept = λ X h. absurd h; from = λ X h. absurd h; under = λ X h. absurd h; smaller = omega arith; done = inr (λ X h. absurd h); canonical = tt })
-  bypass G (more L Ls) c = extend G L Ls c.0 (bypass G Ls c.1) (no_one (λ R. ans G R) (far L)) refl
+-- what can be asked of two trees holds of no tree of a list and one inside it, or of some
+none-or_two : (inside : Tree → Trees) (P : Tree → Tree → Type 0) → ((A B : Tree) → P A B ⊎ (P A B → ⊥)) → (Gs : Trees)
+    → ((A B : Tree) → Has Gs A → Has (inside A) B → P A B → ⊥) ⊎ ((A : Tree) × Has Gs A × ((B : Tree) × Has (inside A) B × P A B))
+none-or_two inside P ask Gs = elim (none-or_some (λ A. (B : Tree) × Has (inside A) B × P A B)
+    (λ A. elim (none-or_some (P A) (ask A) (inside A)) [ inl f ↦ inr (λ w. f w.0 w.1 w.2) | inr s ↦ inl s ]) Gs) [
+      | inl f ↦ inl (λ A B a b p. f A a (B, b, p))
+      | inr s ↦ inr s
+    ]
 
--- the greatest of a list by a preorder
-module _ (below : Tree → Tree → Bool) (below-refl : (G : Tree) → below G G ≡ true) (below-trans : (G H K : Tree) → below G H ≡ true → below H K ≡ true → below G K ≡ true) where
-  record Greatest (Ls Ms : Trees) : Type 0 where
-    among : (X : Tree) → Has Ms X → Has Ls X
-    covers : (X : Tree) → Has Ls X → (Y : Tree) × Has Ms Y × (below X Y ≡ true)
-    free : (A B : Tree) → Has Ms A → Has Ms B → below A B ≡ true → A ≡ B
+left-nodes : (G : Tree) → size G ≡ suc (sizes (left G) + sizes (right G))
+left-nodes (node ls rs) = size-node ls rs
 
-  without : Tree → Trees → Trees
-  without A none = none
-  without A (more G Gs) = cond (below G A) (without A Gs) (more G (without A Gs))
+right-nodes : (G : Tree) → size G ≡ suc (sizes (right G) + sizes (left G))
+right-nodes G = omega (arith, left-nodes G)
 
-  has-without : (A : Tree) (Gs : Trees) (X : Tree) → Has (without A Gs) X → Has Gs X × (below X A ≡ false)
-  unfolding without
-  has-without A none X h = absurd h
-  has-without A (more G Gs) X h = at (below G A) refl (has-without A Gs X) h
-    where
-      at : (b : Bool) → below G A ≡ b → (Has (without A Gs) X → Has Gs X × (below X A ≡ false)) → Has (cond b (without A Gs) (more G (without A Gs))) X → Has (more G Gs) X × (below X A ≡ false)
-      at true e f x = (inr (f x).0, (f x).1)
-      at false e f (inl y) = (inl y, subst (λ z. below z A ≡ false) (sym y) e)
-      at false e f (inr x) = (inr (f x).0, (f x).1)
+-- nothing near can be dropped or bypassed
+record IsShort (near far : Tree → Trees) (Le : Tree → Tree → Type 0) (G : Tree) : Type 0 where
+  free : (A B : Tree) → Has (near G) A → Has (near G) B → Le A B → A ≡ B
+  kept : (A : Tree) → Has (near G) A → (R : Tree) → Has (far A) R → Le R G → ⊥
 
-  without-has : (A : Tree) (Gs : Trees) (X : Tree) → Has Gs X → (below X A ≡ true) ⊎ Has (without A Gs) X
-  unfolding without
-  without-has A none X h = absurd h
-  without-has A (more G Gs) X h = at (below G A) refl (without-has A Gs X) h
-    where
-      at : (b : Bool) → below G A ≡ b → (Has Gs X → (below X A ≡ true) ⊎ Has (without A Gs) X) → Has (more G Gs) X → (below X A ≡ true) ⊎ Has (cond b (without A Gs) (more G (without A Gs))) X
-      at true e f (inl y) = inl (subst (λ z. below z A ≡ true) (sym y) e)
-      at true e f (inr x) = f x
-      at false e f (inl y) = inr (inl y)
-      at false e f (inr x) = elim (f x) [ inl l ↦ inl l | inr z ↦ inr (inr z) ]
-
-  greatest : (Ls : Trees) → (Ms : Trees) × Greatest Ls Ms
-  greatest none = (none, record { among = λ X h. h; covers = λ X h. absurd h; free = λ A B a. absurd a })
-  greatest (more L Ls) = by_test (greatest Ls)
-    where
-      by_test : (Ms : Trees) × Greatest Ls Ms → (Ms : Trees) × Greatest (more L Ls) Ms
-      by_test r = elim (cases_Bool (no_one (λ M. below L M) r.0)) [
-        | inl t ↦ (
-          more L (without L r.0),
-          record {
-            among = λ X h. elim h [ inl e ↦ inl e | inr x ↦ inr (r.1.among X (has-without L r.0 X x).0) ];
-            covers = λ X h. elim h [
-              | inl e ↦ (L, inl refl, subst (λ z. below z L ≡ true) (sym e) (below-refl L))
-              | inr x ↦ (let y = r.1.covers X x in elim (without-has L r.0 y.0 y.1) [ inl z ↦ (L, inl refl, below-trans X y.0 L y.2 z) | inr z ↦ (y.0, inr z, y.2) ])
-            ];
-            free = λ A B a b l. frees r t A B a b l;
-          },
-        )
-        | inr f ↦ (
-          r.0,
-          record {
-            among = λ X h. inr (r.1.among X h);
-            covers = λ X h. elim h [
-              | inl e ↦ (let w = some_one (λ M. below L M) r.0 f in (w.0, w.1, subst (λ z. below z w.0 ≡ true) (sym e) w.2))
-              | inr x ↦ r.1.covers X x
-            ];
-            free = r.1.free;
-          },
-        )
+-- for one side: `near` has a side's options, `far` the other side's, and `put` gives a tree other options near
+module _ (near far : Tree → Trees) (Le : Tree → Tree → Type 0) (side : IsSide near far Le) (ask : (A B : Tree) → Le A B ⊎ (Le A B → ⊥))
+    (equal : (A B : Tree) → Le A B × Le B A → A ≡ᵍ B) (put : Tree → Trees → Tree)
+    (near-put : (G : Tree) (Ms : Trees) → near (put G Ms) ≡ Ms) (far-put : (G : Tree) (Ms : Trees) → far (put G Ms) ≡ far G)
+    (nodes : (G : Tree) → size G ≡ suc (sizes (near G) + sizes (far G)))
+    (option : (G X : Tree) → (Has (near G) X ⊎ Has (far G) X) ↔ IsOption G X) where
+  -- an option is replaced by smaller ones
+  shorter : (G A : Tree) (Bs Ms : Trees) → Has (near G) A → Replaced (near G) A Bs Ms → sizes Bs < size A
+      → ((Y : Tree) → Has Bs Y → IsFollower A Y)
+      → Le G (put G Ms) × Le (put G Ms) G → Shorter G
+  shorter G A Bs Ms a r small behind e = record {
+    tree = put G Ms;
+    smaller = (let i : sizes (near (put G Ms)) ≡ sizes Ms = ap sizes (near-put G Ms) in
+        let j : sizes (far (put G Ms)) ≡ sizes (far G) = ap sizes (far-put G Ms) in
+        omega (arith, nodes G, nodes (put G Ms), i, j, r.smaller small));
+    same = equal G (put G Ms) e;
+    below = λ X h. elim ((option (put G Ms) X).1 h) [
+      | inl x ↦ elim (r.from X (subst (λ t. Has t X) (near-put G Ms) x)) [
+        | inl k ↦ (X, (option G X).0 (inl k), itself X)
+        | inr k ↦ (A, (option G A).0 (inl a), behind X k)
       ]
-        where
-          frees : (r : (Ms : Trees) × Greatest Ls Ms) → no_one (λ M. below L M) r.0 ≡ true → (A B : Tree) → Has (more L (without L r.0)) A → Has (more L (without L r.0)) B → below A B ≡ true → A ≡ B
-          frees r t A B (inl a) (inl b) l = a ∙ sym b
-          frees r t A B (inl a) (inr b) l = absurd (no_one-has (λ M. below L M) r.0 t B (has-without L r.0 B b).0 (subst (λ z. below z B ≡ true) a l))
-          frees r t A B (inr a) (inl b) l = absurd (true≢false (sym (subst (λ z. below A z ≡ true) b l) ∙ (has-without L r.0 A a).1))
-          frees r t A B (inr a) (inr b) l = r.1.free A B (has-without L r.0 A a).0 (has-without L r.0 B b).0 l
+      | inr x ↦ (X, (option G X).0 (inr (subst (λ t. Has t X) (far-put G Ms) x)), itself X)
+    ];
+  }
+
+  -- a reversible one by the options of the answer
+  bypass : (G A R : Tree) → Has (near G) A → Has (far A) R → Le R G → Shorter G
+  bypass G A R a f y =
+      let m = replaced (near G) A (near R) a in
+      let now = λ (X : Tree) (x : Has m.0 X). subst (λ t. Has t X) (sym (near-put G m.0)) x in
+      shorter G A (near R) m.0 a m.1 (omega (arith, nodes A, nodes R, sizes-has (far A) R f))
+      (λ Y k. further A R Y ((option A R).0 (inr f)) (further R Y Y ((option R Y).0 (inl k)) (itself Y)))
+      (bypassed near far Le side G (put G m.0)
+      (λ X x. elim (m.1.kept X x) [
+        | inl i ↦ inr (R, subst (λ t. Has (far t) R) (sym i) f, y, λ Y k. (Y, now Y (m.1.added Y k), side.itself Y))
+        | inr k ↦ inl (now X k)
+      ])
+      (λ X x. elim (m.1.from X (subst (λ t. Has t X) (near-put G m.0) x)) [ inl k ↦ inl k | inr k ↦ inr (R, y, k) ]) (far-put G m.0))
+
+  -- and a dominated one by none
+  drop : (G A B : Tree) → Has (near G) A → Has (near G) B → Le A B → (A ≡ B → ⊥) → Shorter G
+  unfolding size
+  drop G A B a b l n =
+      let m = replaced (near G) A none a in
+      let now = λ (X : Tree) (x : Has m.0 X). subst (λ t. Has t X) (sym (near-put G m.0)) x in
+      shorter G A none m.0 a m.1 (size-pos A) (λ Y k. absurd k)
+      (dropped near far Le side G (put G m.0)
+      (λ X x. elim (m.1.kept X x) [
+        | inl i ↦ elim (m.1.kept B b) [ inl j ↦ absurd (n (sym j)) | inr k ↦ (B, now B k, subst (λ Z. Le Z B) (sym i) l) ]
+        | inr k ↦ (X, now X k, side.itself X)
+      ])
+      (λ X x. elim (m.1.from X (subst (λ t. Has t X) (near-put G m.0) x)) [ inl k ↦ k | inr k ↦ absurd k ]) (far-put G m.0))
+
+  shorten : (G : Tree) → Shorter G ⊎ IsShort near far Le G
+  shorten G = elim (none-or_two far (λ A R. Le R G) (λ A R. ask R G) (near G)) [
+    | inr (A, a, (R, f, y)) ↦ inl (bypass G A R a f y)
+    | inl k ↦ elim (none-or_two (λ _. near G) (λ A B. Le A B × (A ≡ B → ⊥)) other (near G)) [
+      | inr (A, a, (B, b, w)) ↦ inl (drop G A B a b w.0 w.1)
+      | inl f ↦ inr (record {
+        free = λ A B a b l. elim (same-or_not A B) [ inl e ↦ e | inr n ↦ absurd (f A B a b (l, n)) ];
+        kept = λ A a R r. k A R a r;
+      })
+    ]
+  ]
+    where
+      other : (A B : Tree) → (Le A B × (A ≡ B → ⊥)) ⊎ (Le A B × (A ≡ B → ⊥) → ⊥)
+      other A B = elim (same-or_not A B) [
+        | inl e ↦ inr (λ w. w.1 e)
+        | inr n ↦ elim (ask A B) [ inl l ↦ inl (l, n) | inr g ↦ inr (λ w. g w.0) ]
+      ]
+
+shorten_left : (G : Tree) → Shorter G ⊎ IsShort left right (λ A B. A ≤ᵍ B) G
+shorten_left = shorten left right (λ A B. A ≤ᵍ B) left_side le-or_not (λ A B e. e)
+    (λ G Ms. node Ms (right G)) (λ G Ms. refl) (λ G Ms. refl) left-nodes (λ G X. (λ h. h, λ h. h))
+
+shorten_right : (G : Tree) → Shorter G ⊎ IsShort right left (λ A B. B ≤ᵍ A) G
+shorten_right = shorten right left (λ A B. B ≤ᵍ A) right_side (λ A B. le-or_not B A) (λ A B e. (e.1, e.0))
+    (λ G Ms. node (left G) Ms) (λ G Ms. refl) (λ G Ms. refl) right-nodes (λ G X. (turned, turned))
+  where
+    turned : {A B : Type 0} → A ⊎ B → B ⊎ A
+    turned h = elim h [ inl x ↦ inr x | inr x ↦ inl x ]
+
+-- trees that belong to those of a list, one to each
+matched : (P : Tree → Tree → Type 0) (Gs : Trees) → ((X : Tree) → Has Gs X → (Y : Tree) × P X Y)
+    → (Ms : Trees) × ((X : Tree) → Has Gs X → (Y : Tree) × Has Ms Y × P X Y) × ((Y : Tree) → Has Ms Y → (X : Tree) × Has Gs X × P X Y)
+matched P none f = (none, λ X h. absurd h, λ Y h. absurd h)
+matched P (more G Gs) f = let g = f G (inl refl) in let r = matched P Gs (λ X x. f X (inr x)) in (
+  more g.0 r.0,
+  λ X h. elim h [ inl e ↦ (g.0, inl refl, subst (λ Z. P Z g.0) (sym e) g.1) | inr x ↦ (let w = r.1 X x in (w.0, inr w.1, w.2)) ],
+  λ Y h. elim h [ inl e ↦ (G, inl refl, subst (P G) (sym e) g.1) | inr x ↦ (let w = r.2 Y x in (w.0, inr w.1, w.2)) ],
+)
 
 module _ (Before : Tree → Tree → Type 0) (total : (G H : Tree) → Before G H ⊎ ((G ≡ H) ⊎ Before H G)) where
   insert : (A : Tree) (Gs : Trees) → Ascends Before Gs → (Hs : Trees) × Inserted Before A Gs Hs
@@ -169,34 +190,6 @@ module _ (Before : Tree → Tree → Type 0) (total : (G H : Tree) → Before G 
   sort none = (none, sorted-none Before)
   sort (more G Gs) = let r = sort Gs in let i = insert G r.0 r.1.ascends in (i.0, sorted-more Before G Gs r.0 i.0 r.1 i.1)
 
-  left-size : (G : Tree) → sizes (left G) < size G
-  left-size (node ls rs) = omega (arith, size-node ls rs)
-
-  right-size : (G : Tree) → sizes (right G) < size G
-  right-size (node ls rs) = omega (arith, size-node ls rs)
-
-  left-canonical : (G : Tree) → IsCanonical Before G → AreCanonical Before (left G)
-  left-canonical (node ls rs) c = c.1
-
-  right-canonical : (G : Tree) → IsCanonical Before G → AreCanonical Before (right G)
-  right-canonical (node ls rs) c = c.2
-
-  abbrev ByLeft : Tree → Trees → Trees → Type 0
-  ByLeft = Bypassed Before left right (λ G R. le R G) left-size size-right left-canonical (λ G R c h. canonical-at Before (right G) R (right-canonical G c) h) (λ G X h. inl h) (λ G X h. inr h)
-
-  abbrev ByRight : Tree → Trees → Trees → Type 0
-  ByRight = Bypassed Before right left (λ G L. le G L) right-size size-left right-canonical (λ G L c h. canonical-at Before (left G) L (left-canonical G c) h) (λ G X h. inr h) (λ G X h. inl h)
-
-  bypass-equal : (ls rs Ms : Trees) → ByLeft (node ls rs) ls Ms → (node ls rs ≤ᵍ node Ms rs) × (node Ms rs ≤ᵍ node ls rs)
-  bypass-equal ls rs Ms b = bypassed left right (λ A B. A ≤ᵍ B) left_side (node ls rs) (node Ms rs)
-      (λ X x. elim (b.kept X x) [ inl h ↦ inl h | inr w ↦ inr (w.0, w.1, from-test w.0 (node ls rs) w.2, λ Y y. (Y, w.3 Y y, le-refl Y)) ])
-      (λ X x. elim (b.from X x) [ inl h ↦ inl h | inr w ↦ inr (w.0, from-test w.0 (node ls rs) w.1, w.2) ]) refl
-
-  bypass-equal_right : (ls rs Ms : Trees) → ByRight (node ls rs) rs Ms → (node ls rs ≤ᵍ node ls Ms) × (node ls Ms ≤ᵍ node ls rs)
-  bypass-equal_right ls rs Ms b = let both = bypassed right left (λ A B. B ≤ᵍ A) right_side (node ls rs) (node ls Ms)
-      (λ X x. elim (b.kept X x) [ inl h ↦ inl h | inr w ↦ inr (w.0, w.1, from-test (node ls rs) w.0 w.2, λ Y y. (Y, w.3 Y y, le-refl Y)) ])
-      (λ X x. elim (b.from X x) [ inl h ↦ inl h | inr w ↦ inr (w.0, from-test (node ls rs) w.0 w.1, w.2) ]) refl in (both.1, both.0)
-
   -- a canonical tree that is equal to G
   pub record Canon (G : Tree) : Type 0 where
     pub tree : Tree
@@ -204,134 +197,66 @@ module _ (Before : Tree → Tree → Type 0) (total : (G H : Tree) → Before G 
     pub under : G ≤ᵍ tree
     pub over : tree ≤ᵍ G
 
-  -- each option of the one is a follower of an option of the other
-  abbrev pub AreBelow : Tree → Tree → Type 0
-  AreBelow G C = (X : Tree) → IsOption C X → (L : Tree) × IsOption G L × IsFollower L X
-
   -- a canonical tree that is equal to G, whose options are below those of G
   pub record CanonBelow (G : Tree) : Type 0 where
     pub canon : Canon G
     pub below : AreBelow G canon.tree
 
-  test-refl : (G : Tree) → le G G ≡ true
-  test-refl G = to-test G G (le-refl G)
+  abbrev along : (G H : Tree) → G ≡ᵍ H → Canon H → Canon G
+  along G H e c = let s = same-trans G H c.tree e (c.under, c.over) in record
+      { tree = c.tree; canonical = c.canonical; under = s.0; over = s.1 }
 
-  test-trans : (G H K : Tree) → le G H ≡ true → le H K ≡ true → le G K ≡ true
-  test-trans G H K p q = to-test G K (le-trans G H K (from-test G H p) (from-test H K q))
+  abbrev OfOptions : Tree → Type 0
+  OfOptions G = (X : Tree) → IsOption G X → IsCanonical Before X
 
-  -- where no option can be answered: the greatest Left options and the least Right ones, sorted
-  finish : (ls rs : Trees) → AreCanonical Before ls → AreCanonical Before rs → ((X R : Tree) → Has ls X → Has (right X) R → R ≤ᵍ node ls rs → ⊥) → ((X L : Tree) → Has rs X → Has (left X) L → node ls rs ≤ᵍ L → ⊥) → CanonBelow (node ls rs)
-  finish ls rs c d no_left no_right = record {
-    canon = record { tree = node lefts.0 rights.0; canonical = canonical; under = under; over = over };
-    below = λ X h. (X, elim h [ inl l ↦ inl (most.1.among X (lefts.1.to X l)) | inr r ↦ inr (least.1.among X (rights.1.to X r)) ], itself X);
-  }
-    where
-      most : (Ms : Trees) × Greatest le test-refl test-trans ls Ms
-      most = greatest le test-refl test-trans ls
-
-      least : (Ms : Trees) × Greatest (λ A B. le B A) test-refl (λ A B C p q. test-trans C B A q p) rs Ms
-      least = greatest (λ A B. le B A) test-refl (λ A B C p q. test-trans C B A q p) rs
-
-      lefts : (Hs : Trees) × Sorted Before most.0 Hs
-      lefts = sort most.0
-
-      rights : (Hs : Trees) × Sorted Before least.0 Hs
-      rights = sort least.0
-
-      under : node ls rs ≤ᵍ node lefts.0 rights.0
-      under = by_better (node ls rs) (node lefts.0 rights.0)
-          (λ L l. (let y = most.1.covers L l in (y.0, lefts.1.from y.0 y.1, from-test L y.0 y.2)))
-          (λ S s. (S, least.1.among S (rights.1.to S s), le-refl S))
-
-      over : node lefts.0 rights.0 ≤ᵍ node ls rs
-      over = by_better (node lefts.0 rights.0) (node ls rs)
-          (λ L l. (L, most.1.among L (lefts.1.to L l), le-refl L))
-          (λ S s. (let y = least.1.covers S s in (y.0, rights.1.from y.0 y.1, from-test y.0 S y.2)))
-
-      canonical : IsCanonical Before (node lefts.0 rights.0)
-      canonical = (
-        record {
-          left_free = λ A B a b l. most.1.free A B (lefts.1.to A a) (lefts.1.to B b) (to-test A B l);
-          right_free = λ A B a b l. sym (least.1.free B A (rights.1.to B b) (rights.1.to A a) (to-test A B l));
-          left_kept = λ L R l r y. no_left L R (most.1.among L (lefts.1.to L l)) r (le-trans R (node lefts.0 rights.0) (node ls rs) y over);
-          right_kept = λ R L r l y. no_right R L (least.1.among R (rights.1.to R r)) l (le-trans (node ls rs) (node lefts.0 rights.0) L under y);
-          left_ascends = lefts.1.ascends;
-          right_ascends = rights.1.ascends;
-        },
-        all-canonical Before lefts.0 (λ X x. canonical-at Before ls X c (most.1.among X (lefts.1.to X x))),
-        all-canonical Before rights.0 (λ X x. canonical-at Before rs X d (least.1.among X (rights.1.to X x))),
-      )
-
-  abbrev along : (G H : Tree) → (G ≤ᵍ H) × (H ≤ᵍ G) → Canon H → Canon G
-  along G H e c = record { tree = c.tree; canonical = c.canonical; under = le-trans G H c.tree e.0 c.under; over = le-trans c.tree H G c.over e.1 }
-
-  along_below : (G H : Tree) → (G ≤ᵍ H) × (H ≤ᵍ G) → AreBelow G H → CanonBelow H → CanonBelow G
-  along_below G H e b c = record {
-    canon = along G H e c.canon;
-    below = λ X h. let w = c.below X h in let v = b w.0 w.1 in (v.0, v.1, follower-trans v.0 w.0 X v.2 w.2);
-  }
-
-  abbrev Works : Trees → Trees → Type 0
-  Works ls rs = AreCanonical Before ls → AreCanonical Before rs → CanonBelow (node ls rs)
-
-  -- one round: replace on the left, else on the right, else finish
-  round : (ls rs : Trees) → ((ms ns : Trees) → sizes ms + sizes ns < sizes ls + sizes rs → Works ms ns) → Works ls rs
-  round ls rs ih c d = by_left (bypass Before left right (λ G R. le R G) left-size size-right left-canonical (λ G R c h. canonical-at Before (right G) R (right-canonical G c) h)
-      (λ G X h. inl h) (λ G X h. inr h) (node ls rs) ls c)
-    where
-      by_right : ((X R : Tree) → Has ls X → Has (right X) R → R ≤ᵍ node ls rs → ⊥) → (Ms : Trees) × ByRight (node ls rs) rs Ms → CanonBelow (node ls rs)
-      by_right f r = elim r.1.done [
-        | inl l ↦ along_below _ _ (bypass-equal_right ls rs r.0 r.1)
-            (λ X h. elim h [ inl x ↦ (X, inl x, itself X) | inr y ↦ (let w = r.1.under X y in (w.0, inr w.1, w.2)) ])
-            (ih ls r.0 (omega (arith, l)) c r.1.canonical)
-        | inr g ↦ finish ls rs c d f (λ X L x l y. g X x (L, l, to-test (node ls rs) L y))
-      ]
-
-      by_left : (Ms : Trees) × ByLeft (node ls rs) ls Ms → CanonBelow (node ls rs)
-      by_left r = elim r.1.done [
-        | inl l ↦ along_below _ _ (bypass-equal ls rs r.0 r.1)
-            (λ X h. elim h [ inl x ↦ (let w = r.1.under X x in (w.0, inl w.1, w.2)) | inr y ↦ (X, inr y, itself X) ])
-            (ih r.0 rs (omega (arith, l)) r.1.canonical d)
-        | inr f ↦ by_right (λ X R x r y. f X x (R, r, to-test R (node ls rs) y)) (bypass Before right left (λ G L. le G L) right-size size-left right-canonical (λ G L c h. canonical-at Before (left G) L (left-canonical G c) h) (λ G X h. inr h) (λ G X h. inl h) (node ls rs) rs d)
-      ]
+  -- a form that is short, put in order
+  in_order : (G : Tree) → OfOptions G → IsShort left right (λ A B. A ≤ᵍ B) G → IsShort right left (λ A B. B ≤ᵍ A) G → CanonBelow G
+  in_order (node ls rs) c s t =
+      let m = sort ls in
+      let n = sort rs in
+      let f = form-in_order Before ls rs m.0 n.0 m.1 n.1 (λ X x. c X (inl x)) (λ X x. c X (inr x))
+      s.free (λ A B a b l. sym (t.free B A b a l)) s.kept t.kept in
+      record {
+        canon = record { tree = node m.0 n.0; canonical = f.canonical; under = f.under; over = f.over };
+        below = λ X h. (X, elim h [ inl x ↦ inl (m.1.to X x) | inr x ↦ inr (n.1.to X x) ], itself X);
+      }
 
   -- where the options are canonical
+  canon_from : (G : Tree) → OfOptions G → CanonBelow G
+  canon_from = by_measure size (λ G. OfOptions G → CanonBelow G) (λ G ih c.
+      let go_on = λ (s : Shorter G). again G s (ih s.tree s.smaller (λ X h. let w = s.below X h in canonical-follower Before w.0 X
+      (c w.0 w.1) w.2)) in
+      elim (shorten_left G) [
+        | inl s ↦ go_on s
+        | inr f ↦ elim (shorten_right G) [ inl s ↦ go_on s | inr g ↦ in_order G c f g ]
+      ])
+    where
+      again : (G : Tree) (s : Shorter G) → CanonBelow s.tree → CanonBelow G
+      again G s r = record {
+        canon = along G s.tree s.same r.canon;
+        below = λ X h. let w = r.below X h in let v = s.below w.0 w.1 in (v.0, v.1, follower-trans v.0 w.0 X v.2 w.2);
+      }
+
   pub canon_below : (ls rs : Trees) → AreCanonical Before ls → AreCanonical Before rs → CanonBelow (node ls rs)
-  canon_below ls rs = by_measure {A = Trees × Trees} (λ p. sizes p.0 + sizes p.1) (λ p. Works p.0 p.1)
-      (λ p ih. round p.0 p.1 (λ ms ns l. ih (ms, ns) l)) (ls, rs)
+  canon_below ls rs c d = canon_from (node ls rs) (λ X h. elim h [
+    | inl x ↦ canonical-at Before ls X c x
+    | inr x ↦ canonical-at Before rs
+        X d x
+  ])
 
   -- of every tree
-  record Canon_each (Gs : Trees) : Type 0 where
-    trees : Trees
-    canonical : AreCanonical Before trees
-    to : (X : Tree) → Has Gs X → (Y : Tree) × Has trees Y × (X ≤ᵍ Y) × (Y ≤ᵍ X)
-    from : (Y : Tree) → Has trees Y → (X : Tree) × Has Gs X × (X ≤ᵍ Y) × (Y ≤ᵍ X)
+  abbrev IsOf : Tree → Tree → Type 0
+  IsOf = IsCanonicalOf Before
 
-  of_options : (ls rs : Trees) → Canon_each ls → Canon_each rs → Canon (node ls rs)
-  of_options ls rs a b = along (node ls rs) (node a.trees b.trees) (
-    by_better _ _ (λ L l. (let y = a.to L l in (y.0, y.1, y.2))) (λ S s. (let x = b.from S s in (x.0, x.1, x.2))),
-    by_better _ _ (λ L l. (let x = a.from L l in (x.0, x.1, x.3))) (λ S s. (let y = b.to S s in (y.0, y.1, y.3))),
-  )
-      (canon_below a.trees b.trees a.canonical b.canonical).canon
+  of_options : (G : Tree) → ((X : Tree) → IsOption G X → (C : Tree) × IsOf X C) → Canon G
+  of_options (node ls rs) f =
+      let a = matched IsOf ls (λ X x. f X (inl x)) in
+      let b = matched IsOf rs (λ X x. f X (inr x)) in
+      along (node ls rs) (node a.0 b.0) (
+        by_better _ _ (λ L l. (let y = a.1 L l in (y.0, y.1, y.2.under))) (λ S s. (let x = b.2 S s in (x.0, x.1, x.2.under))),
+        by_better _ _ (λ L l. (let x = a.2 L l in (x.0, x.1, x.2.over))) (λ S s. (let y = b.1 S s in (y.0, y.1, y.2.over))),
+      ) (canon_from (node a.0 b.0) (λ X h. elim h [ inl x ↦ (a.2 X x).2.canonical | inr x ↦ (b.2 X x).2.canonical ])).canon
 
-  add_each : (G : Tree) (Gs : Trees) → Canon G → Canon_each Gs → Canon_each (more G Gs)
-  add_each G Gs c r = record {
-    trees = more c.tree r.trees;
-    canonical = (c.canonical, r.canonical);
-    to = λ X h. elim h [
-      | inl e ↦ (c.tree, inl refl, subst (λ z. z ≤ᵍ c.tree) (sym e) c.under, subst (λ z. c.tree ≤ᵍ z) (sym e) c.over)
-      | inr x ↦ (let y = r.to X x in (y.0, inr y.1, y.2, y.3))
-    ];
-    from = λ Y h. elim h [
-      | inl e ↦ (G, inl refl, subst (λ z. G ≤ᵍ z) (sym e) c.under, subst (λ z. z ≤ᵍ G) (sym e) c.over)
-      | inr y ↦ (let x = r.from Y y in (x.0, inr x.1, x.2, x.3))
-    ];
-  }
-
-  mutual
-    pub canon : (G : Tree) → Canon G
-    canon (node ls rs) = of_options ls rs (canon_each ls) (canon_each rs)
-
-    canon_each : (Gs : Trees) → Canon_each Gs
-    canon_each none = record { trees = none; canonical = tt; to = λ X h. absurd h; from = λ Y h. absurd h }
-    canon_each (more G Gs) = add_each G Gs (canon G) (canon_each Gs)
+  pub canon : (G : Tree) → Canon G
+  canon = by_measure size Canon (λ G ih. of_options G (λ X o. let c = ih X (size-option G X o) in
+      (c.tree, record { canonical = c.canonical; under = c.under; over = c.over })))

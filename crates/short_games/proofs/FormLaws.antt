@@ -40,6 +40,17 @@ bypassed near far Le s G H kept from others = (
   ]) (λ X x y. s.out_far H H X (s.itself H) (subst (λ t. Has t X) (sym others) x) y),
 )
 
+-- dominated options dropped: an option of G is no better than one of H, and an option of H is one of G
+pub dropped : (near far : Tree → Trees) (Le : Tree → Tree → Type 0) (s : IsSide near far Le) (G H : Tree)
+    → ((X : Tree) → Has (near G) X → (Y : Tree) × Has (near H) Y × Le X Y) → ((X : Tree) → Has (near H) X → Has (near G) X) → far H ≡ far G
+    → Le G H × Le H G
+dropped near far Le s G H covered from others = (
+  s.build G H (λ X x y. (let c = covered X x in s.out_near H H c.0 (s.itself H) c.1 (s.trans H X c.0 y c.2)))
+      (λ X x y. s.out_far G G X (s.itself G) (subst (λ t. Has t X) others x) y),
+  s.build H G (λ X x y. s.out_near G G X (s.itself G) (from X x) y) (λ X x y. s.out_far H H X (s.itself H)
+      (subst (λ t. Has t X) (sym others) x) y),
+)
+
 -- a game with a number between its options is a number
 number_step : (G : Tree) (e : ℕ) (z : ℤ) → ((y : ℤ) → size (num e y) < size (num e z) → FitsForm G (num e y) → IsNumber G) → FitsForm G (num e z)
     → IsNumber G

@@ -1,7 +1,7 @@
 -- Numbers have texts of their own.
-use Rattle.std.proofs.Common.{append_assoc, ℕ, zero, suc, ◌+◌, ◌-◌, ◌*◌, ◌/◌, ◌%◌, ◌^◌, ◌<◌, ◌≤◌, ◌≡◌, List, [], ◌∷◌, ◌++◌, arith, refl, sym, ◌∙◌, ap, ap₂, subst, Some, None, ℤ, pos, negsuc, Bool, true, false, cond}
+use Rattle.std.proofs.Common.{append_assoc, ℕ, zero, suc, ◌+◌, ◌-◌, ◌*◌, ◌/◌, ◌%◌, ◌^◌, ◌<◌, ◌≤◌, ◌≡◌, ◌⊎◌, inl, inr, List, [], ◌∷◌, ◌++◌, arith, refl, sym, ◌∙◌, ap, ap₂, subst, Some, None, ℤ, pos, negsuc, Bool, true, false, cond}
 use Rattle.std.specs.Prelude.{Option, nat_lt}
-use Rattle.std.proofs.lemmas.Bool.{true≢false, ltb-true, ltb-false, and_parts}
+use Rattle.std.proofs.lemmas.Bool.{true≢false, ltb-true, ltb-false, and_parts, and_from, cases_Bool}
 use Rattle.short_games.specs.Tree.{Tree, Trees, node, none, more}
 use Rattle.short_games.specs.Number.{num}
 use Rattle.short_games.specs.NumberText.{same, same_each, Fraction, guess, number_of, digits_within, digits, integer_text, denominator_text, fraction_text, text_of_number, number_text}
@@ -18,6 +18,22 @@ mutual
   same_each-is none (more H Hs) e = absurd (true≢false (sym e))
   same_each-is (more G Gs) none e = absurd (true≢false (sym e))
   same_each-is (more G Gs) (more H Hs) e = let b = and_parts _ _ e in ap₂ more (same-is G H b.0) (same_each-is Gs Hs b.1)
+
+mutual
+  unfolding same
+
+  pub same-itself : (G : Tree) → same G G ≡ true
+  same-itself (node ls rs) = and_from _ _ (same_each-itself ls) (same_each-itself rs)
+
+  same_each-itself : (Gs : Trees) → same_each Gs Gs ≡ true
+  same_each-itself none = refl
+  same_each-itself (more G Gs) = and_from _ _ (same-itself G) (same_each-itself Gs)
+
+pub same-or_not : (G H : Tree) → (G ≡ H) ⊎ (G ≡ H → ⊥)
+same-or_not G H = elim (cases_Bool (same G H)) [
+  | inl t ↦ inl (same-is G H t)
+  | inr f ↦ inr (λ e. true≢false (sym (subst (λ K. same G K ≡ true) e (same-itself G)) ∙ f))
+]
 
 -- the tree is the number's
 pub number_of-is : (G : Tree) (x : Fraction) → number_of G ≡ Some x → G ≡ num x.exponent x.numerator

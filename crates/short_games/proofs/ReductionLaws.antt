@@ -4,26 +4,21 @@ use Rattle.std.proofs.lemmas.Int.{ints}
 use Rattle.short_games.specs.Tree.{Tree, Trees, node, left, right, Has}
 use Rattle.short_games.specs.Order.{◌≤ᵍ◌}
 use Rattle.short_games.specs.Number.{num, IsNumber}
+use Rattle.short_games.specs.Canonical.{IsCanonical, IsCanonicalOf}
 use Rattle.short_games.specs.TextOrder.{TextBefore, sorted, IsCanonicalTree, IsCanonicalFor}
 use Rattle.short_games.specs.inner.Reduction.{DropsLeft, DropsRight, BypassesLeft, BypassesRight, IsFreeLeft, KeepsLeft, KeepsRight}
 use Rattle.short_games.proofs.OrderLaws.{left_side, right_side, le-refl, le-trans, none-or_some, le-or_not}
 use Rattle.short_games.proofs.SumLaws.{not_le_left, not_right_le}
 use Rattle.short_games.proofs.NumberLaws.{num-left, num-right, num-le}
 use Rattle.short_games.proofs.CanonicalLaws.{canonical-unique}
-use Rattle.short_games.proofs.FormLaws.{bypassed, by_better, number_between, all-canonical, num-canonical}
-use Rattle.short_games.proofs.TextOrderLaws.{text-order, sorted-has, has-sorted, sorted-ascends}
+use Rattle.short_games.proofs.FormLaws.{bypassed, dropped, by_better, number_between, all-canonical, num-canonical}
+use Rattle.short_games.proofs.TextOrderLaws.{text-order, Sorted, sorted-is}
 
 pub drops-left : (G H : Tree) → DropsLeft G H → (G ≤ᵍ H) × (H ≤ᵍ G)
-drops-left G H d = (
-  by_better G H d.covered (λ S s. (S, subst (λ t. Has t S) d.others s, le-refl S)),
-  by_better H G (λ L l. (L, d.from L l, le-refl L)) (λ S s. (S, subst (λ t. Has t S) (sym d.others) s, le-refl S)),
-)
+drops-left G H d = dropped left right (λ A B. A ≤ᵍ B) left_side G H d.covered d.from d.others
 
 pub drops-right : (G H : Tree) → DropsRight G H → (G ≤ᵍ H) × (H ≤ᵍ G)
-drops-right G H d = (
-  by_better G H (λ L l. (L, subst (λ t. Has t L) (sym d.others) l, le-refl L)) (λ S s. (S, d.from S s, le-refl S)),
-  by_better H G (λ L l. (L, subst (λ t. Has t L) d.others l, le-refl L)) d.covered,
-)
+drops-right G H d = let both = dropped right left (λ A B. B ≤ᵍ A) right_side G H d.covered d.from d.others in (both.1, both.0)
 
 pub bypasses-left : (G H L R : Tree) → BypassesLeft G H L R → (G ≤ᵍ H) × (H ≤ᵍ G)
 bypasses-left G H L R v = bypassed left right (λ A B. A ≤ᵍ B) left_side G H
@@ -79,29 +74,35 @@ number-answers_right G no_number R e m l p X x =
     (y.0, y.1, λ i. not_le_left R (num e m) l (subst (λ t. t ≤ᵍ num e m) i y.2), le-trans y.0 (num e m) X y.2 (subst (λ t. num e m ≤ᵍ t) (sym k.2) (num-le e m k.0 (omega (arith, ints, k.1)))))
 
 -- a form of which nothing can be dropped or bypassed, put in order, is the canonical tree
-pub form-canonical : (ls rs : Trees) → ((X : Tree) → Has ls X → IsCanonicalTree X) → ((X : Tree) → Has rs X → IsCanonicalTree X) → IsFreeLeft ls → IsFreeLeft rs → ((L : Tree) → Has ls L → KeepsLeft (node ls rs) L) → ((R : Tree) → Has rs R → KeepsRight (node ls rs) R)
-    → IsCanonicalFor (node ls rs) (node (sorted ls) (sorted rs))
-form-canonical ls rs c d free free' kept kept' = record { canonical = canonical; under = under; over = over }
+pub form-in_order : (Before : Tree → Tree → Type 0) (ls rs ms ns : Trees) → Sorted Before ls ms → Sorted Before rs ns
+    → ((X : Tree) → Has ls X → IsCanonical Before X) → ((X : Tree) → Has rs X → IsCanonical Before X) → IsFreeLeft ls → IsFreeLeft rs
+    → ((L : Tree) → Has ls L → KeepsLeft (node ls rs) L) → ((R : Tree) → Has rs R → KeepsRight (node ls rs) R)
+    → IsCanonicalOf Before (node ls rs) (node ms ns)
+form-in_order Before ls rs ms ns s t c d free free' kept kept' = record { canonical = canonical; under = under; over = over }
   where
-    under : node ls rs ≤ᵍ node (sorted ls) (sorted rs)
-    under = by_better (node ls rs) (node (sorted ls) (sorted rs)) (λ L l. (L, has-sorted ls L l, le-refl L)) (λ S s. (S, sorted-has rs S s, le-refl S))
+    under : node ls rs ≤ᵍ node ms ns
+    under = by_better (node ls rs) (node ms ns) (λ L l. (L, s.from L l, le-refl L)) (λ R r. (R, t.to R r, le-refl R))
 
-    over : node (sorted ls) (sorted rs) ≤ᵍ node ls rs
-    over = by_better (node (sorted ls) (sorted rs)) (node ls rs) (λ L l. (L, sorted-has ls L l, le-refl L)) (λ S s. (S, has-sorted rs S s, le-refl S))
+    over : node ms ns ≤ᵍ node ls rs
+    over = by_better (node ms ns) (node ls rs) (λ L l. (L, s.to L l, le-refl L)) (λ R r. (R, t.from R r, le-refl R))
 
-    canonical : IsCanonicalTree (node (sorted ls) (sorted rs))
+    canonical : IsCanonical Before (node ms ns)
     canonical = (
       record {
-        left_free = λ A B a b l. free A B (sorted-has ls A a) (sorted-has ls B b) l;
-        right_free = λ A B a b l. free' A B (sorted-has rs A a) (sorted-has rs B b) l;
-        left_kept = λ L R l r y. kept L (sorted-has ls L l) R r (le-trans R (node (sorted ls) (sorted rs)) (node ls rs) y over);
-        right_kept = λ R L r l y. kept' R (sorted-has rs R r) L l (le-trans (node ls rs) (node (sorted ls) (sorted rs)) L under y);
-        left_ascends = sorted-ascends ls;
-        right_ascends = sorted-ascends rs;
+        left_free = λ A B a b l. free A B (s.to A a) (s.to B b) l;
+        right_free = λ A B a b l. free' A B (t.to A a) (t.to B b) l;
+        left_kept = λ L R l r y. kept L (s.to L l) R r (le-trans R (node ms ns) (node ls rs) y over);
+        right_kept = λ R L r l y. kept' R (t.to R r) L l (le-trans (node ls rs) (node ms ns) L under y);
+        left_ascends = s.ascends;
+        right_ascends = t.ascends;
       },
-      all-canonical TextBefore (sorted ls) (λ X x. c X (sorted-has ls X x)),
-      all-canonical TextBefore (sorted rs) (λ X x. d X (sorted-has rs X x)),
+      all-canonical Before ms (λ X x. c X (s.to X x)),
+      all-canonical Before ns (λ X x. d X (t.to X x)),
     )
+
+pub form-canonical : (ls rs : Trees) → ((X : Tree) → Has ls X → IsCanonicalTree X) → ((X : Tree) → Has rs X → IsCanonicalTree X) → IsFreeLeft ls → IsFreeLeft rs → ((L : Tree) → Has ls L → KeepsLeft (node ls rs) L) → ((R : Tree) → Has rs R → KeepsRight (node ls rs) R)
+    → IsCanonicalFor (node ls rs) (node (sorted ls) (sorted rs))
+form-canonical ls rs = form-in_order TextBefore ls rs (sorted ls) (sorted rs) (sorted-is ls) (sorted-is rs)
 
 -- numbers are canonical, and a canonical tree that is none is no number as a game
 pub number-canonical : (e : ℕ) (m : ℤ) → IsCanonicalTree (num e m)

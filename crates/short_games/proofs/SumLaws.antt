@@ -1,5 +1,5 @@
 -- Sums: their options, and that they keep the order.
-use Rattle.std.proofs.Common.{◌+◌, ◌<◌, ◌≡◌, ◌⊎◌, arith, refl, inl, inr, ◌∙◌, ap, ap₂}
+use Rattle.std.proofs.Common.{◌+◌, ◌<◌, ◌≡◌, ◌⊎◌, arith, refl, inl, inr, sym, ◌∙◌, ap, ap₂}
 use Rattle.short_games.specs.Tree.{Tree, Trees, node, none, more, left, right, Has, size, sizes, ◌then◌, neg, neg_each}
 use Rattle.short_games.specs.Order.{◌≡ᵍ◌, ◌≤ᵍ◌}
 use Rattle.short_games.specs.Sum.{◌+ᵍ◌, each_plus, plus_each, sum_of_each}
@@ -32,29 +32,55 @@ pub has-then_right : (As Bs : Trees) (X : Tree) → Has Bs X → Has (As then Bs
 has-then_right none Bs X h = h
 has-then_right (more A As) Bs X h = inr (has-then_right As Bs X h)
 
-pub each_plus-has : (Gs : Trees) (H X : Tree) → Has (each_plus Gs H) X → (G : Tree) × Has Gs G × (X ≡ G +ᵍ H)
+-- the trees that f gives for those of a list
+abbrev mapped : (Tree → Tree) → Trees → Trees
+mapped f none = none
+mapped f (more G Gs) = more (f G) (mapped f Gs)
+
+each_plus-mapped : (Gs : Trees) (H : Tree) → each_plus Gs H ≡ mapped (λ G. G +ᵍ H) Gs
 unfolding ◌+ᵍ◌
-each_plus-has none H X h = elim h [ ]
-each_plus-has (more G Gs) H X (inl e) = (G, inl refl, e)
-each_plus-has (more G Gs) H X (inr h) = let r = each_plus-has Gs H X h in (r.0, inr r.1, r.2)
+each_plus-mapped none H = refl
+each_plus-mapped (more G Gs) H = ap (more (G +ᵍ H)) (each_plus-mapped Gs H)
+
+plus_each-mapped : (G : Tree) (Hs : Trees) → plus_each G Hs ≡ mapped (λ H. G +ᵍ H) Hs
+unfolding plus_each
+plus_each-mapped G none = refl
+plus_each-mapped G (more H Hs) = ap (more (G +ᵍ H)) (plus_each-mapped G Hs)
+
+neg_each-mapped : (Gs : Trees) → neg_each Gs ≡ mapped neg Gs
+unfolding neg
+neg_each-mapped none = refl
+neg_each-mapped (more G Gs) = ap (more (neg G)) (neg_each-mapped Gs)
+
+mapped-has : (f : Tree → Tree) (Gs : Trees) (X : Tree) → Has (mapped f Gs) X → (G : Tree) × Has Gs G × (X ≡ f G)
+mapped-has f none X h = absurd h
+mapped-has f (more G Gs) X (inl e) = (G, inl refl, e)
+mapped-has f (more G Gs) X (inr h) = let r = mapped-has f Gs X h in (r.0, inr r.1, r.2)
+
+has-mapped : (f : Tree → Tree) (Gs : Trees) (G : Tree) → Has Gs G → Has (mapped f Gs) (f G)
+has-mapped f none G h = absurd h
+has-mapped f (more K Ks) G (inl e) = inl (ap f e)
+has-mapped f (more K Ks) G (inr h) = inr (has-mapped f Ks G h)
+
+mapped-then : (f : Tree → Tree) (As Bs : Trees) → mapped f (As then Bs) ≡ mapped f As then mapped f Bs
+mapped-then f none Bs = refl
+mapped-then f (more A As) Bs = ap (more (f A)) (mapped-then f As Bs)
+
+mapped-twice : (f g h : Tree → Tree) (Gs : Trees) → ((X : Tree) → Has Gs X → f (g X) ≡ h X) → mapped f (mapped g Gs) ≡ mapped h Gs
+mapped-twice f g h none e = refl
+mapped-twice f g h (more G Gs) e = ap₂ more (e G (inl refl)) (mapped-twice f g h Gs (λ X x. e X (inr x)))
+
+pub each_plus-has : (Gs : Trees) (H X : Tree) → Has (each_plus Gs H) X → (G : Tree) × Has Gs G × (X ≡ G +ᵍ H)
+each_plus-has Gs H X h = mapped-has (λ G. G +ᵍ H) Gs X (rw (each_plus-mapped Gs H) at h)
 
 pub has-each_plus : (Gs : Trees) (H G : Tree) → Has Gs G → Has (each_plus Gs H) (G +ᵍ H)
-unfolding ◌+ᵍ◌
-has-each_plus none H G h = elim h [ ]
-has-each_plus (more K Ks) H G (inl e) = inl (ap (λ z. z +ᵍ H) e)
-has-each_plus (more K Ks) H G (inr h) = inr (has-each_plus Ks H G h)
+has-each_plus Gs H G h = rw (each_plus-mapped Gs H) (has-mapped (λ G. G +ᵍ H) Gs G h)
 
 pub plus_each-has : (G : Tree) (Hs : Trees) (X : Tree) → Has (plus_each G Hs) X → (H : Tree) × Has Hs H × (X ≡ G +ᵍ H)
-unfolding plus_each
-plus_each-has G none X h = elim h [ ]
-plus_each-has G (more H Hs) X (inl e) = (H, inl refl, e)
-plus_each-has G (more H Hs) X (inr h) = let r = plus_each-has G Hs X h in (r.0, inr r.1, r.2)
+plus_each-has G Hs X h = mapped-has (λ H. G +ᵍ H) Hs X (rw (plus_each-mapped G Hs) at h)
 
 pub has-plus_each : (G : Tree) (Hs : Trees) (H : Tree) → Has Hs H → Has (plus_each G Hs) (G +ᵍ H)
-unfolding plus_each
-has-plus_each G none H h = elim h [ ]
-has-plus_each G (more K Ks) H (inl e) = inl (ap (λ z. G +ᵍ z) e)
-has-plus_each G (more K Ks) H (inr h) = inr (has-plus_each G Ks H h)
+has-plus_each G Hs H h = rw (plus_each-mapped G Hs) (has-mapped (λ H. G +ᵍ H) Hs H h)
 
 -- an option of a sum is a move in the first game, or one in the second
 pub data InSum (G H : Tree) (Gs Hs : Trees) : Tree → Type 0 where
@@ -148,16 +174,10 @@ plus-le_both G H K M p q = le-trans _ _ _ (plus-le G H K p) (le-trans _ _ _ (plu
 
 -- `neg` and the options
 pub has-neg_each : (Gs : Trees) (G : Tree) → Has Gs G → Has (neg_each Gs) (neg G)
-unfolding neg
-has-neg_each none G h = elim h [ ]
-has-neg_each (more K Ks) G (inl e) = inl (ap neg e)
-has-neg_each (more K Ks) G (inr h) = inr (has-neg_each Ks G h)
+has-neg_each Gs G h = rw (neg_each-mapped Gs) (has-mapped neg Gs G h)
 
 pub neg_each-has : (Gs : Trees) (X : Tree) → Has (neg_each Gs) X → (G : Tree) × Has Gs G × (X ≡ neg G)
-unfolding neg
-neg_each-has none X h = elim h [ ]
-neg_each-has (more K Ks) X (inl e) = (K, inl refl, e)
-neg_each-has (more K Ks) X (inr h) = let r = neg_each-has Ks X h in (r.0, inr r.1, r.2)
+neg_each-has Gs X h = mapped-has neg Gs X (rw (neg_each-mapped Gs) at h)
 
 pub neg-left : (G : Tree) → left (neg G) ≡ neg_each (right G)
 unfolding neg
@@ -238,31 +258,6 @@ neg_step G H ih p = le-in _ _ record {
 pub neg-le : (G H : Tree) → G ≤ᵍ H → neg H ≤ᵍ neg G
 neg-le = by_sizes (λ G H. G ≤ᵍ H → neg H ≤ᵍ neg G) neg_step
 
-pub each_plus-then : (As Bs : Trees) (H : Tree) → each_plus (As then Bs) H ≡ each_plus As H then each_plus Bs H
-unfolding ◌+ᵍ◌
-each_plus-then none Bs H = refl
-each_plus-then (more A As) Bs H = ap (more (A +ᵍ H)) (each_plus-then As Bs H)
-
-pub plus_each-then : (G : Tree) (As Bs : Trees) → plus_each G (As then Bs) ≡ plus_each G As then plus_each G Bs
-unfolding plus_each
-plus_each-then G none Bs = refl
-plus_each-then G (more A As) Bs = ap (more (G +ᵍ A)) (plus_each-then G As Bs)
-
-assoc_first : (Gs : Trees) (H K : Tree) → ((G : Tree) → Has Gs G → (G +ᵍ H) +ᵍ K ≡ G +ᵍ (H +ᵍ K)) → each_plus (each_plus Gs H) K ≡ each_plus Gs (H +ᵍ K)
-unfolding ◌+ᵍ◌
-assoc_first none H K e = refl
-assoc_first (more G Gs) H K e = ap₂ more (e G (inl refl)) (assoc_first Gs H K (λ X x. e X (inr x)))
-
-assoc_second : (G : Tree) (Hs : Trees) (K : Tree) → ((H : Tree) → Has Hs H → (G +ᵍ H) +ᵍ K ≡ G +ᵍ (H +ᵍ K)) → each_plus (plus_each G Hs) K ≡ plus_each G (each_plus Hs K)
-unfolding ◌+ᵍ◌ plus_each
-assoc_second G none K e = refl
-assoc_second G (more H Hs) K e = ap₂ more (e H (inl refl)) (assoc_second G Hs K (λ X x. e X (inr x)))
-
-assoc_third : (G H : Tree) (Ks : Trees) → ((K : Tree) → Has Ks K → (G +ᵍ H) +ᵍ K ≡ G +ᵍ (H +ᵍ K)) → plus_each (G +ᵍ H) Ks ≡ plus_each G (plus_each H Ks)
-unfolding plus_each
-assoc_third G H none e = refl
-assoc_third G H (more K Ks) e = ap₂ more (e K (inl refl)) (assoc_third G H Ks (λ X x. e X (inr x)))
-
 -- sums brought in another order of brackets are the same tree
 assoc_step : (G H K : Tree) → ((A B C : Tree) → size A + size B + size C < size G + size H + size K → (A +ᵍ B) +ᵍ C ≡ A +ᵍ (B +ᵍ C))
     → (G +ᵍ H) +ᵍ K ≡ G +ᵍ (H +ᵍ K)
@@ -271,42 +266,40 @@ assoc_step G H K ih = tree-same _ _ (options left plus-left size-left) (options 
     options : (side : Tree → Trees) → ((G H : Tree) → side (G +ᵍ H) ≡ each_plus (side G) H then plus_each G (side H)) → ((G X : Tree) → Has (side G) X → size X < size G) → side ((G +ᵍ H) +ᵍ K) ≡ side (G +ᵍ (H +ᵍ K))
     options side is small = simp (
       is,
-      each_plus-then,
-      plus_each-then,
+      each_plus-mapped,
+      plus_each-mapped,
+      mapped-then,
       then-assoc,
-      assoc_first (side G) H K (λ X x. ih X H K (omega (arith, small G X x))),
-      assoc_second G (side H) K (λ X x. ih G X K (omega (arith, small H X x))),
-      assoc_third G H (side K) (λ X x. ih G H X (omega (arith, small K X x))),
+      mapped-twice (λ X. X +ᵍ K) (λ X. X +ᵍ H) (λ X. X +ᵍ (H +ᵍ K)) (side G) (λ X x. ih X H K (omega (arith, small G X x))),
+      mapped-twice (λ X. X +ᵍ K) (λ X. G +ᵍ X) (λ X. G +ᵍ (X +ᵍ K)) (side H) (λ X x. ih G X K (omega (arith, small H X x))),
+      mapped-twice (λ X. G +ᵍ X) (λ X. X +ᵍ K) (λ X. G +ᵍ (X +ᵍ K)) (side H) (λ X x. refl),
+      mapped-twice (λ X. G +ᵍ X) (λ X. H +ᵍ X) (λ X. (G +ᵍ H) +ᵍ X) (side K) (λ X x. sym (ih G H X (omega (arith, small K X x)))),
     )
 
 pub plus-assoc : (G H K : Tree) → (G +ᵍ H) +ᵍ K ≡ G +ᵍ (H +ᵍ K)
 plus-assoc = by_three_sizes (λ G H K. (G +ᵍ H) +ᵍ K ≡ G +ᵍ (H +ᵍ K)) assoc_step
 
-pub neg-then : (As Bs : Trees) → neg_each (As then Bs) ≡ neg_each As then neg_each Bs
-unfolding neg
-neg-then none Bs = refl
-neg-then (more A As) Bs = ap (more (neg A)) (neg-then As Bs)
-
-neg-each_plus : (Gs : Trees) (H : Tree) → ((G : Tree) → Has Gs G → neg (G +ᵍ H) ≡ neg G +ᵍ neg H) → neg_each (each_plus Gs H) ≡ each_plus (neg_each Gs) (neg H)
-unfolding neg ◌+ᵍ◌
-neg-each_plus none H e = refl
-neg-each_plus (more G Gs) H e = ap₂ more (e G (inl refl)) (neg-each_plus Gs H (λ X x. e X (inr x)))
-
-neg-plus_each : (G : Tree) (Hs : Trees) → ((H : Tree) → Has Hs H → neg (G +ᵍ H) ≡ neg G +ᵍ neg H) → neg_each (plus_each G Hs) ≡ plus_each (neg G) (neg_each Hs)
-unfolding neg plus_each
-neg-plus_each G none e = refl
-neg-plus_each G (more H Hs) e = ap₂ more (e H (inl refl)) (neg-plus_each G Hs (λ X x. e X (inr x)))
-
 neg_plus_step : (G H : Tree) → ((A B : Tree) → size A + size B < size G + size H → neg (A +ᵍ B) ≡ neg A +ᵍ neg B) → neg (G +ᵍ H) ≡ neg G +ᵍ neg H
-neg_plus_step G H ih = tree-same _ _
-    (simp (neg-left, plus-left, plus-right, neg-then, firsts (right G) (size-right G), seconds (right H) (size-right H)))
-    (simp (neg-right, plus-left, plus-right, neg-then, firsts (left G) (size-left G), seconds (left H) (size-left H)))
+neg_plus_step G H ih = tree-same _ _ (options left right neg-left plus-left plus-right size-right)
+    (options right left neg-right plus-right plus-left size-left)
   where
-    firsts : (Gs : Trees) → ((X : Tree) → Has Gs X → size X < size G) → neg_each (each_plus Gs H) ≡ each_plus (neg_each Gs) (neg H)
-    firsts Gs small = neg-each_plus Gs H (λ X x. ih X H (omega (arith, small X x)))
-
-    seconds : (Hs : Trees) → ((X : Tree) → Has Hs X → size X < size H) → neg_each (plus_each G Hs) ≡ plus_each (neg G) (neg_each Hs)
-    seconds Hs small = neg-plus_each G Hs (λ X x. ih G X (omega (arith, small X x)))
+    options : (near far : Tree → Trees) → ((A : Tree) → near (neg A) ≡ neg_each (far A))
+        → ((A B : Tree) → near (A +ᵍ B) ≡ each_plus (near A) B then plus_each A (near B))
+        → ((A B : Tree) → far (A +ᵍ B) ≡ each_plus (far A) B then plus_each A (far B)) → ((A X : Tree) → Has (far A) X → size X < size A)
+        → near (neg (G +ᵍ H)) ≡ near (neg G +ᵍ neg H)
+    options near far turned is others small = simp (
+      turned,
+      is,
+      others,
+      neg_each-mapped,
+      each_plus-mapped,
+      plus_each-mapped,
+      mapped-then,
+      mapped-twice neg (λ X. X +ᵍ H) (λ X. neg X +ᵍ neg H) (far G) (λ X x. ih X H (omega (arith, small G X x))),
+      mapped-twice (λ X. X +ᵍ neg H) neg (λ X. neg X +ᵍ neg H) (far G) (λ X x. refl),
+      mapped-twice neg (λ X. G +ᵍ X) (λ X. neg G +ᵍ neg X) (far H) (λ X x. ih G X (omega (arith, small H X x))),
+      mapped-twice (λ X. neg G +ᵍ X) neg (λ X. neg G +ᵍ neg X) (far H) (λ X x. refl),
+    )
 
 pub neg-plus : (G H : Tree) → neg (G +ᵍ H) ≡ neg G +ᵍ neg H
 neg-plus = by_sizes (λ G H. neg (G +ᵍ H) ≡ neg G +ᵍ neg H) neg_plus_step

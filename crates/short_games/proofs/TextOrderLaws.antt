@@ -1,7 +1,10 @@
 -- Texts are strictly and totally ordered, and lists of trees can be put in their order.
-use Rattle.std.proofs.Common.{ℕ, ◌<◌, ◌≡◌, ◌⊎◌, List, [], ◌∷◌, arith, refl, inl, inr, sym, ◌∙◌, ap, ap₂, subst, Bool, true, false, cond}
-use Rattle.std.specs.Prelude.{nat_lt, nat_eq}
-use Rattle.std.proofs.lemmas.Bool.{cases_Bool, true≢false, ltb-true, eqb-true, lt-ltb, ne_eqb, eq-eqb, cases_order}
+use Rattle.std.proofs.Common.{ℕ, ◌≡◌, ◌⊎◌, List, arith, Ordering, Less, Equal, Greater, refl, inl, inr, sym, ◌∙◌, ap, subst, Bool, true, false, cond}
+use Rattle.std.specs.Ordering.{is_eq, is_lt, nat_cmp, ordering_reverse}
+use Rattle.std.specs.Cmp.Lexicographic.{slice_cmp, bytes_decides, texts_ties}
+use Rattle.std.proofs.lemmas.Bool.{true≢false}
+use Rattle.std.proofs.lemmas.Bool.Decides.{nat_tests}
+use Rattle.std.proofs.lemmas.Cmp.{same_from_slice_cmp, nat_list_cmp_total, tied_itself}
 use Rattle.short_games.specs.Tree.{Tree, Trees, none, more, Has}
 use Rattle.short_games.specs.Canonical.{Ascends}
 use Rattle.short_games.specs.inner.Canonical.{IsStrictOrder}
@@ -16,70 +19,37 @@ pub tree_text-one_to_one : (G H : Tree) → tree_text G ≡ tree_text H → G �
 unfolding tree_text
 tree_text-one_to_one G H e = text-one_to_one number_text number_text-bytes number_text-some number_text-one_to_one G H e
 
-lesser-step : (x y : ℕ) (xs ys : List ℕ) → lesser_text (x ∷ xs) (y ∷ ys) ≡ cond (nat_eq x y) (lesser_text xs ys) (nat_lt x y)
+-- the order of texts is that of their bytes
+lesser-is : (xs ys : List ℕ) → is_lt (slice_cmp nat_cmp xs ys) ≡ lesser_text xs ys
 unfolding lesser_text
-lesser-step x y xs ys = refl
+lesser-is xs ys = same_from_slice_cmp nat_cmp is_lt lesser_text refl (λ _ _. refl) (λ _ _. refl)
+    (λ x y xs ys o e. grind (arith, nat_tests)) xs ys _ refl
 
-at_equal : (x y : ℕ) (xs ys : List ℕ) → x ≡ y → lesser_text (x ∷ xs) (y ∷ ys) ≡ lesser_text xs ys
-at_equal x y xs ys e = lesser-step x y xs ys ∙ ap (λ b. cond b (lesser_text xs ys) (nat_lt x y)) (eq-eqb x y e)
+lesser-less : (xs ys : List ℕ) → lesser_text xs ys ≡ true → slice_cmp nat_cmp xs ys ≡ Less
+lesser-less xs ys e = at (slice_cmp nat_cmp xs ys) (lesser-is xs ys ∙ e)
+  where
+    at : (o : Ordering) → is_lt o ≡ true → o ≡ Less
+    at Less e = refl
+    at Equal e = absurd (true≢false (sym e))
+    at Greater e = absurd (true≢false (sym e))
 
-at_less : (x y : ℕ) (xs ys : List ℕ) → x < y → lesser_text (x ∷ xs) (y ∷ ys) ≡ true
-at_less x y xs ys l = lesser-step x y xs ys ∙ ap (λ b. cond b (lesser_text xs ys) (nat_lt x y)) (ne_eqb x y (λ e. omega (arith, e, l))) ∙ lt-ltb x y l
-
--- what makes one text less than another
-lesser-parts : (x y : ℕ) (xs ys : List ℕ) → lesser_text (x ∷ xs) (y ∷ ys) ≡ true → ((x ≡ y) × (lesser_text xs ys ≡ true)) ⊎ (x < y)
-lesser-parts x y xs ys e = elim (cases_Bool (nat_eq x y)) [
-  | inl t ↦ inl (eqb-true x y t, sym (at_equal x y xs ys (eqb-true x y t)) ∙ e)
-  | inr f ↦ inr (ltb-true x y (sym (lesser-step x y xs ys ∙ ap (λ b. cond b (lesser_text xs ys) (nat_lt x y)) f) ∙ e))
-]
-
-lesser-irreflexive : (xs : List ℕ) → lesser_text xs xs ≡ true → ⊥
-unfolding lesser_text
-lesser-irreflexive [] e = true≢false (sym e)
-lesser-irreflexive (x ∷ xs) e = elim (lesser-parts x x xs xs e) [ inl r ↦ lesser-irreflexive xs r.1 | inr l ↦ omega (arith, l) ]
-
-lesser-transitive : (xs ys zs : List ℕ) → lesser_text xs ys ≡ true → lesser_text ys zs ≡ true → lesser_text xs zs ≡ true
-unfolding lesser_text
-lesser-transitive [] [] zs p q = q
-lesser-transitive [] (y ∷ ys) [] p q = absurd (true≢false (sym q))
-lesser-transitive [] (y ∷ ys) (z ∷ zs) p q = refl
-lesser-transitive (x ∷ xs) [] zs p q = absurd (true≢false (sym p))
-lesser-transitive (x ∷ xs) (y ∷ ys) [] p q = absurd (true≢false (sym q))
-lesser-transitive (x ∷ xs) (y ∷ ys) (z ∷ zs) p q = elim (lesser-parts x y xs ys p) [
-  | inl a ↦ elim (lesser-parts y z ys zs q) [
-    | inl b ↦ at_equal x z xs zs (a.0 ∙ b.0) ∙ lesser-transitive xs ys zs a.1 b.1
-    | inr b ↦ at_less x z xs zs (omega (arith, a.0, b))
-  ]
-  | inr a ↦ elim (lesser-parts y z ys zs q) [
-    | inl b ↦ at_less x z xs zs (omega (arith, a, b.0))
-    | inr b ↦ at_less x z xs zs (omega (arith, a, b))
-  ]
-]
+less-lesser : (xs ys : List ℕ) → slice_cmp nat_cmp xs ys ≡ Less → lesser_text xs ys ≡ true
+less-lesser xs ys e = sym (lesser-is xs ys) ∙ ap is_lt e
 
 lesser-total : (xs ys : List ℕ) → (lesser_text xs ys ≡ true) ⊎ ((xs ≡ ys) ⊎ (lesser_text ys xs ≡ true))
-unfolding lesser_text
-lesser-total [] [] = inr (inl refl)
-lesser-total [] (y ∷ ys) = inl refl
-lesser-total (x ∷ xs) [] = inr (inr refl)
-lesser-total (x ∷ xs) (y ∷ ys) = elim (cases_order x y) [
-  | inl e ↦ elim (lesser-total xs ys) [
-    | inl a ↦ inl (at_equal x y xs ys e ∙ a)
-    | inr b ↦ elim b [
-      | inl i ↦ inr (inl (ap₂ ◌∷◌ e i))
-      | inr a ↦ inr (inr (at_equal y x ys xs (sym e) ∙ a))
-    ]
-  ]
-  | inr o ↦ elim o [
-    | inl l ↦ inl (at_less x y xs ys l)
-    | inr l ↦ inr (inr (at_less y x ys xs l))
-  ]
-]
+lesser-total xs ys = at (slice_cmp nat_cmp xs ys) refl
+  where
+    at : (o : Ordering) → slice_cmp nat_cmp xs ys ≡ o → (lesser_text xs ys ≡ true) ⊎ ((xs ≡ ys) ⊎ (lesser_text ys xs ≡ true))
+    at Less e = inl (less-lesser xs ys e)
+    at Equal e = inr (inl ((bytes_decides xs ys).0 (texts_ties xs ys ∙ ap is_eq e)))
+    at Greater e = inr (inr (less-lesser ys xs (nat_list_cmp_total.antisymm ys xs ∙ ap ordering_reverse e)))
 
 pub text-order : IsStrictOrder TextBefore
 unfolding text_before
 text-order = record {
-  irreflexive = λ G e. lesser-irreflexive (tree_text G) e;
-  transitive = λ G H K p q. lesser-transitive (tree_text G) (tree_text H) (tree_text K) p q;
+  irreflexive = λ G e. true≢false (ap is_lt (sym (lesser-less _ _ e) ∙ tied_itself nat_list_cmp_total (tree_text G)));
+  transitive = λ G H K p q. less-lesser _ _ (nat_list_cmp_total.trans (tree_text G) (tree_text H) (tree_text K) (lesser-less _ _ p)
+      (lesser-less _ _ q));
   total = λ G H. elim (lesser-total (tree_text G) (tree_text H)) [
     | inl a ↦ inl a
     | inr b ↦ elim b [ inl e ↦ inr (inl (tree_text-one_to_one G H e)) | inr a ↦ inr (inr a) ]
@@ -143,7 +113,7 @@ insert-is G (more H Hs) a = at (text_before G H) refl (text_before H G) refl (in
       | inr o ↦ elim o [ inl e ↦ e | inr b ↦ absurd (true≢false (sym b ∙ q)) ]
     ]) a
 
-sorted-is : (Gs : Trees) → Sorted TextBefore Gs (sorted Gs)
+pub sorted-is : (Gs : Trees) → Sorted TextBefore Gs (sorted Gs)
 unfolding sorted
 sorted-is none = sorted-none TextBefore
 sorted-is (more G Gs) = let r = sorted-is Gs in sorted-more TextBefore G Gs (sorted Gs) (insert G (sorted Gs)) r (insert-is G (sorted Gs) r.ascends)

@@ -6,9 +6,9 @@ use Rattle.short_games.specs.Tree.{Tree, left, right, Has, size}
 use Rattle.short_games.specs.Order.{◌≤ᵍ◌, ◌≡ᵍ◌}
 use Rattle.short_games.specs.Number.{num, IsNumber, IsNumberTree, half, is_even}
 use Rattle.short_games.specs.Threshold.{IsCell, IsFloor, IsCeiling}
-use Rattle.short_games.proofs.OrderLaws.{by_measure, le-out, le-in, le-refl, le-trans, le-or_not, none-or_some, size-left, size-right}
+use Rattle.short_games.proofs.OrderLaws.{by_measure, le-out, le-in, le-trans, le-or_not, none-or_some, size-left, size-right}
 use Rattle.short_games.proofs.SumLaws.{not_le_left, not_right_le}
-use Rattle.short_games.proofs.NumberLaws.{num-left, num-right, num-le, num-lt, num-double, num-even, half-odd, avoid-le, avoid-ge}
+use Rattle.short_games.proofs.NumberLaws.{num-left, num-right, num-le, num-lt, num-double, half-even, half-odd, avoid-le, avoid-ge}
 use Rattle.short_games.proofs.PartLaws.{number-option}
 use Rattle.short_games.proofs.ReductionLaws.{number-canonical, canonical-same}
 use Rattle.short_games.specs.Simplest.{FitsForm, IsSimplestFor}
@@ -19,61 +19,53 @@ pub scaled : (d e : ℕ) (z : ℤ) → (w : ℤ) × (num (d + e) w ≡ num e z)
 scaled zero e z = (z, ap (λ n. num n z) (omega arith))
 scaled (suc d) e z = let r = scaled d e z in (r.0 +ℤ r.0, ap (λ n. num n (r.0 +ℤ r.0)) (omega arith) ∙ num-double (d + e) r.0 ∙ r.1)
 
--- the greatest number over 2 ^ e that is at most num (d + e) m
-record Under (e : ℕ) (X : Tree) : Type 0 where
-  part : ℤ
-  under : num e part ≤ᵍ X
-  last : num e (part +ℤ pos 1) ≤ᵍ X → ⊥
-
 -- of two numbers over one power of two
 le-num : (e : ℕ) (m n : ℤ) → num e m ≤ᵍ num e n → m ≤ℤ n
 le-num e m n h = by_lt_z n m (λ l. absurd (num-lt e n m l h)) (λ l. l)
 
-under-of : (d e : ℕ) (m : ℤ) → Under e (num (d + e) m)
-under-of zero e m = subst (Under e) (ap (λ n. num n m) (omega arith)) (record { part = m; under = le-refl (num e m); last = λ y. omega (arith, ints, le-num e (m +ℤ pos 1) m y) })
-under-of (suc d) e m = subst (λ n. Under e (num n m)) (omega arith) (elim (cases_Bool (is_even m)) [
-  | inl t ↦ subst (Under e) (sym (num-even (d + e) m t)) (under-of d e (half m))
-  | inr f ↦ (let r = under-of d e (half m) in record {
-    part = r.part;
-    under = le-trans _ _ _ r.under (subst (λ t. t ≤ᵍ num (suc (d + e)) m) (num-double (d + e) (half m)) (num-le (suc (d + e)) (half m +ℤ half m) m (omega (arith, ints, half-odd m f))));
-    last = λ y. (let w = scaled d e (r.part +ℤ pos 1) in
-        let low = le-num (suc (d + e)) (w.0 +ℤ w.0) m (subst (λ t. t ≤ᵍ num (suc (d + e)) m) (sym (num-double (d + e) w.0 ∙ w.1)) y) in
-        r.last (subst (λ t. t ≤ᵍ num (d + e) (half m)) w.1 (num-le (d + e) w.0 (half m) (omega (arith, ints, half-odd m f, low)))));
-  })
-])
+half-within : (m : ℤ) → ((half m +ℤ half m) ≤ℤ m) × (m ≤ℤ (half m +ℤ half m +ℤ pos 1))
+half-within m = elim (cases_Bool (is_even m)) [
+  | inl t ↦ (omega (arith, ints, half-even m t), omega (arith, ints, half-even m t))
+  | inr f ↦ (omega (arith, ints, half-odd m f), omega (arith, ints, half-odd m f))
+]
 
--- numbers over different powers of two can be compared
-num-total : (d e : ℕ) (m z : ℤ) → (num e z ≤ᵍ num (d + e) m → ⊥) → num (d + e) m ≤ᵍ num e z
-num-total d e m z h = let w = scaled d e z in subst (λ t. num (d + e) m ≤ᵍ t) w.1
-    (num-le (d + e) m w.0 (by_lt_z w.0 m (λ l. absurd (h (subst (λ t. t ≤ᵍ num (d + e) m) w.1 (num-le (d + e) w.0 m (omega (arith, ints, l)))))) (λ l. l)))
+-- a cell over one power of two lies in one over the power before
+coarser : (e : ℕ) (X : Tree) (h : ℤ) → IsCell (suc e) X h → (k : ℤ) × IsCell e X k
+coarser e X h c = elim (cases_Bool (is_even h)) [
+  | inl t ↦ (
+    half h,
+    at (half h) (λ z. (
+      (λ l. omega (arith, ints, half-even h t, l), λ l. omega (arith, ints, half-even h t, l)),
+      (λ l. omega (arith, ints, half-even h t, l), λ l. omega (arith, ints, half-even h t, l)),
+    )),
+  )
+  | inr f ↦ (
+    half (half h) +ℤ half (half h) +ℤ pos 1,
+    at (half (half h) +ℤ half (half h) +ℤ pos 1) (λ z. (
+      (λ l. omega (arith, ints, half-odd h f, half-within (half h), l), λ l. omega (arith, ints, half-odd h f, half-within (half h), l)),
+      (λ l. omega (arith, ints, half-odd h f, half-within (half h), l), λ l. omega (arith, ints, half-odd h f, half-within (half h), l)),
+    )),
+  )
+]
+  where
+    at : (k : ℤ) → ((z : ℤ) → ((h ≤ℤ ((z +ℤ z) +ℤ (z +ℤ z))) ↔ (k ≤ℤ (z +ℤ z))) × ((((z +ℤ z) +ℤ (z +ℤ z)) ≤ℤ h) ↔ ((z +ℤ z) ≤ℤ k)))
+        → IsCell e X k
+    at k f = record {
+      under = λ z. subst (λ t. (X ≤ᵍ t) ↔ (k ≤ℤ (z +ℤ z))) (num-double e z)
+          (λ y. (f z).0.0 ((c.under (z +ℤ z)).0 y), λ l. (c.under (z +ℤ z)).1 ((f z).0.1 l));
+      over = λ z. subst (λ t. (t ≤ᵍ X) ↔ ((z +ℤ z) ≤ℤ k)) (num-double e z)
+          (λ y. (f z).1.0 ((c.over (z +ℤ z)).0 y), λ l. (c.over (z +ℤ z)).1 ((f z).1.1 l));
+    }
 
 cell-of : (d e : ℕ) (m : ℤ) → (h : ℤ) × IsCell e (num (d + e) m) h
-cell-of d e m = by_cases (le-or_not (num (d + e) m) (num e u.part))
-  where
-    u : Under e (num (d + e) m)
-    u = under-of d e m
-
-    below : (z : ℤ) → num e z ≤ᵍ num (d + e) m → z ≤ℤ u.part
-    below z y = by_lt_z u.part z (λ l. absurd (u.last (le-trans _ _ _ (num-le e (u.part +ℤ pos 1) z (omega (arith, ints, l))) y))) (λ l. l)
-
-    by_cases : (num (d + e) m ≤ᵍ num e u.part) ⊎ (num (d + e) m ≤ᵍ num e u.part → ⊥) → (h : ℤ) × IsCell e (num (d + e) m) h
-    by_cases (inl p) = (
-      u.part +ℤ u.part,
-      record {
-        under = λ z. (λ y. (let l = le-num e u.part z (le-trans _ _ _ u.under y) in omega (arith, ints, l)), λ l. le-trans _ _ _ p (num-le e u.part z (omega (arith, ints, l))));
-        over = λ z. (λ y. (let l = below z y in omega (arith, ints, l)), λ l. le-trans _ _ _ (num-le e z u.part (omega (arith, ints, l))) u.under);
-      },
-    )
-    by_cases (inr p) = (
-      u.part +ℤ u.part +ℤ pos 1,
-      record {
-        under = λ z. (
-          λ y. by_lt_z u.part z (λ l. omega (arith, ints, l)) (λ l. absurd (p (le-trans (num (d + e) m) (num e z) (num e u.part) y (num-le e z u.part l)))),
-          λ l. le-trans _ _ _ (num-total d e m (u.part +ℤ pos 1) u.last) (num-le e (u.part +ℤ pos 1) z (omega (arith, ints, l))),
-        );
-        over = λ z. (λ y. (let l = below z y in omega (arith, ints, l)), λ l. le-trans _ _ _ (num-le e z u.part (omega (arith, ints, l))) u.under);
-      },
-    )
+cell-of zero e m = (
+  m +ℤ m,
+  subst (λ n. IsCell e (num n m) (m +ℤ m)) (omega arith) (record {
+    under = λ z. (λ y. (let l = le-num e m z y in omega (arith, ints, l)), λ l. num-le e m z (omega (arith, ints, l)));
+    over = λ z. (λ y. (let l = le-num e z m y in omega (arith, ints, l)), λ l. num-le e z m (omega (arith, ints, l)));
+  }),
+)
+cell-of (suc d) e m = let c = cell-of d (suc e) m in coarser e _ c.0 (subst (λ n. IsCell (suc e) (num n m) c.0) (omega arith) c.1)
 
 -- every number has a cell, and a half part is its own
 pub cell : (e f : ℕ) (m : ℤ) → (h : ℤ) × IsCell e (num f m) h

@@ -1,9 +1,10 @@
 -- Lists that have a tree, the greatest and the least of a list with one more tree, and of stops and walls.
-use Rattle.std.proofs.Common.{◌≡◌, arith, refl, inl, inr, sym, subst, ℤ, ◌≤ℤ◌}
+use Rattle.std.proofs.Common.{◌≡◌, arith, refl, inl, inr, sym, subst, ℤ, neg_ℤ, ◌≤ℤ◌}
 use Rattle.std.specs.Int.{int_max, int_min}
 use Rattle.std.proofs.lemmas.Int.{ints, clamps, by_lt_z}
 use Rattle.short_games.specs.Tree.{Tree, Trees, none, more, Has}
 use Rattle.short_games.specs.WallGrids.{IsGreatest, IsLeast}
+use Rattle.short_games.proofs.WallLines.{greatest-negated, least-negated}
 use Rattle.short_games.proofs.StopLaws.{IsChosen, chosen, chosen-most, upwards, downwards}
 
 -- a list that has a tree
@@ -36,17 +37,12 @@ greatest-more f G Gs x g = record {
 }
 
 pub least-one : (f : Tree → ℤ) (G : Tree) → IsLeast f (more G none) (f G)
-least-one f G = record { bound = λ X h. elim h [ inl i ↦ subst (λ t. f G ≤ℤ f t) (sym i) (omega (arith, ints)) | inr k ↦ absurd k ]; reached = (G, inl refl, refl) }
+least-one f G = least-negated f (more G none) (f G) (greatest-one (λ X. neg_ℤ (f X)) G)
 
 pub least-more : (f : Tree → ℤ) (G : Tree) (Gs : Trees) (x : ℤ) → IsLeast f Gs x → IsLeast f (more G Gs) (int_min (f G) x)
-least-more f G Gs x g = record {
-  bound = λ X h. elim h [
-    | inl i ↦ subst (λ t. int_min (f G) x ≤ℤ f t) (sym i) (omega (arith, ints, clamps))
-    | inr k ↦ omega (arith, ints, clamps, g.bound X k)
-  ];
-  reached = by_lt_z (f G) x (λ l. (G, inl refl, omega (arith, ints, clamps, l)))
-      (λ l. (g.reached.0, inr g.reached.1, omega (arith, ints, clamps, l, g.reached.2)));
-}
+least-more f G Gs x l = least-negated f (more G Gs) (int_min (f G) x)
+    (subst (IsGreatest (λ X. neg_ℤ (f X)) (more G Gs)) (omega (arith, ints, clamps))
+    (greatest-more (λ X. neg_ℤ (f X)) G Gs (neg_ℤ x) (greatest-negated f Gs x l)))
 
 -- the greatest and the least that f gives, where f gives the stops or the walls
 module _ (P : Tree → ℤ → Type 0) (Is : Trees → ℤ → Type 0) (c : IsChosen (λ y z. y ≤ℤ z) P Is) (f : Tree → ℤ) (Gs : Trees) (x : ℤ) where

@@ -1,5 +1,5 @@
 -- Lines that rise or fall by at most 1 a step, the greatest of several, and the first meeting of two.
-use Rattle.std.proofs.Common.{ℕ, zero, suc, ◌+◌, ◌<◌, ◌≤◌, ◌≡◌, ◌⊎◌, arith, refl, inl, inr, sym, ◌∙◌, ap, ap₂, subst, ℤ, ◌+ℤ◌, ◌<ℤ◌, ◌≤ℤ◌}
+use Rattle.std.proofs.Common.{ℕ, zero, suc, ◌+◌, ◌<◌, ◌≤◌, ◌≡◌, ◌⊎◌, arith, refl, inl, inr, sym, ◌∙◌, ap, ap₂, subst, ℤ, neg_ℤ, ◌+ℤ◌, ◌<ℤ◌, ◌≤ℤ◌}
 use Rattle.std.proofs.lemmas.Int.{ints, by_lt_z}
 use Rattle.short_games.specs.Tree.{Tree, Trees, Has}
 use Rattle.short_games.specs.WallGrids.{IsGreatest, IsLeast, Follow, finer}
@@ -56,17 +56,11 @@ greatest-same f g Gs x y s a b = omega (arith, ints, a.reached.2, b.reached.2, a
 pub least-same : (f g : Tree → ℤ) (Gs : Trees) (x y : ℤ) → ((X : Tree) → Has Gs X → f X ≡ g X) → IsLeast f Gs x → IsLeast g Gs y → x ≡ y
 least-same f g Gs x y s a b = omega (arith, ints, a.reached.2, b.reached.2, a.bound b.reached.0 b.reached.1, b.bound a.reached.0 a.reached.1, s a.reached.0 a.reached.1, s b.reached.0 b.reached.1)
 
--- the greatest of lines that rise rises, and the least of lines that fall falls
+-- the greatest of lines that rise rises
 module _ (f : Tree → ℕ → ℤ) (Gs : Trees) (g : ℕ → ℤ) where
   pub greatest-rises : ((X : Tree) → Has Gs X → Rises (f X)) → ((t : ℕ) → IsGreatest (λ X. f X t) Gs (g t)) → Rises g
   greatest-rises r i = record {
     no_fall = λ t. (let a = (i t).reached in omega (arith, ints, a.2, (i (suc t)).bound a.0 a.1, (r a.0 a.1).no_fall t));
-    by_one = λ t. (let a = (i (suc t)).reached in omega (arith, ints, a.2, (i t).bound a.0 a.1, (r a.0 a.1).by_one t));
-  }
-
-  pub least-falls : ((X : Tree) → Has Gs X → Falls (f X)) → ((t : ℕ) → IsLeast (λ X. f X t) Gs (g t)) → Falls g
-  least-falls r i = record {
-    no_rise = λ t. (let a = (i t).reached in omega (arith, ints, a.2, (i (suc t)).bound a.0 a.1, (r a.0 a.1).no_rise t));
     by_one = λ t. (let a = (i (suc t)).reached in omega (arith, ints, a.2, (i t).bound a.0 a.1, (r a.0 a.1).by_one t));
   }
 
@@ -89,23 +83,35 @@ module _ (f : Tree → ℕ → ℤ) (Gs : Trees) (g : ℕ → ℤ) where
       }
       at _ (odd t) = record { bound = λ X x. omega (arith, ints, (i t).bound X x, (i (suc t)).bound X x, (d X x).at_odd t, e.at_odd t); reached = reached t }
 
-  pub least-doubles : (f' : Tree → ℕ → ℤ) (g' : ℕ → ℤ) → ((X : Tree) → Has Gs X → Falls (f X)) → ((X : Tree) → Has Gs X → Doubles (f X) (f' X)) → Doubles g g' → ((t : ℕ) → IsLeast (λ X. f X t) Gs (g t))
-      → (t : ℕ) → IsLeast (λ X. f' X t) Gs (g' t)
-  least-doubles f' g' r d e i t = at t (parity t)
-    where
-      reached : (t : ℕ) → (X : Tree) × Has Gs X × (f' X (suc (t + t)) ≡ g' (suc (t + t)))
-      reached t = let a = (i t).reached in
-          let b = (i (suc t)).reached in
-          by_lt_z (g (suc t)) (g t)
-          (λ l. (b.0, b.1, omega (arith, ints, l, b.2, (r b.0 b.1).by_one t, (i t).bound b.0 b.1, (least-falls r i).by_one t, (d b.0 b.1).at_odd t, e.at_odd t)))
-          (λ l. (a.0, a.1, omega (arith, ints, l, a.2, (r a.0 a.1).no_rise t, (i (suc t)).bound a.0 a.1, (least-falls r i).no_rise t, (d a.0 a.1).at_odd t, e.at_odd t)))
+-- what is least is greatest where all is negated, and what falls rises
+pub greatest-negated : (f : Tree → ℤ) (Gs : Trees) (x : ℤ) → IsLeast f Gs x → IsGreatest (λ X. neg_ℤ (f X)) Gs (neg_ℤ x)
+greatest-negated f Gs x l = record {
+  bound = λ X h. omega (arith, ints, l.bound X h);
+  reached = (l.reached.0, l.reached.1, ap neg_ℤ l.reached.2);
+}
 
-      at : (t : ℕ) → Parity t → IsLeast (λ X. f' X t) Gs (g' t)
-      at _ (even t) = record {
-        bound = λ X x. omega (arith, ints, (i t).bound X x, (d X x).at_even t, e.at_even t);
-        reached = (let a = (i t).reached in (a.0, a.1, omega (arith, ints, a.2, (d a.0 a.1).at_even t, e.at_even t)));
-      }
-      at _ (odd t) = record { bound = λ X x. omega (arith, ints, (i t).bound X x, (i (suc t)).bound X x, (d X x).at_odd t, e.at_odd t); reached = reached t }
+pub least-negated : (f : Tree → ℤ) (Gs : Trees) (x : ℤ) → IsGreatest (λ X. neg_ℤ (f X)) Gs (neg_ℤ x) → IsLeast f Gs x
+least-negated f Gs x g = let r = g.reached in
+    record { bound = λ X h. omega (arith, ints, g.bound X h); reached = (r.0, r.1, omega (arith, ints, r.2)) }
+
+rises-negated : (f : ℕ → ℤ) → Falls f → Rises (λ t. neg_ℤ (f t))
+rises-negated f s = record { no_fall = λ t. omega (arith, ints, s.no_rise t); by_one = λ t. omega (arith, ints, s.by_one t) }
+
+doubles-negated : (f f' : ℕ → ℤ) → Doubles f f' → Doubles (λ t. neg_ℤ (f t)) (λ t. neg_ℤ (f' t))
+doubles-negated f f' d = record { at_even = λ t. omega (arith, ints, d.at_even t); at_odd = λ t. omega (arith, ints, d.at_odd t) }
+
+module _ (f : Tree → ℕ → ℤ) (Gs : Trees) (g : ℕ → ℤ) (r : (X : Tree) → Has Gs X → Falls (f X)) where
+  pub least-falls : ((t : ℕ) → IsLeast (λ X. f X t) Gs (g t)) → Falls g
+  least-falls i =
+      let s = greatest-rises (λ X t. neg_ℤ (f X t)) Gs (λ t. neg_ℤ (g t)) (λ X x. rises-negated (f X) (r X x))
+      (λ t. greatest-negated _ Gs (g t) (i t)) in
+      record { no_rise = λ t. omega (arith, ints, s.no_fall t); by_one = λ t. omega (arith, ints, s.by_one t) }
+
+  pub least-doubles : (f' : Tree → ℕ → ℤ) (g' : ℕ → ℤ) → ((X : Tree) → Has Gs X → Doubles (f X) (f' X)) → Doubles g g'
+      → ((t : ℕ) → IsLeast (λ X. f X t) Gs (g t)) → (t : ℕ) → IsLeast (λ X. f' X t) Gs (g' t)
+  least-doubles f' g' d e i t = least-negated (λ X. f' X t) Gs (g' t) (greatest-doubles (λ X t. neg_ℤ (f X t)) Gs (λ t. neg_ℤ (g t))
+      (λ X t. neg_ℤ (f' X t)) (λ t. neg_ℤ (g' t)) (λ X x. rises-negated (f X) (r X x)) (λ X x. doubles-negated (f X) (f' X) (d X x))
+      (doubles-negated g g' e) (λ t. greatest-negated (λ X. f X t) Gs (g t) (i t)) t)
 
 -- the same scaffolds give the same walls
 pub follow-same : (L R L' R' : ℕ → ℤ) (t : ℕ) (l r l' r' : ℤ) → ((v : ℕ) → L v ≡ L' v) → ((v : ℕ) → R v ≡ R' v) → Follow L R t l r → Follow L' R' t l' r' → (l ≡ l') × (r ≡ r')

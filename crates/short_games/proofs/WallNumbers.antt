@@ -1,11 +1,11 @@
 -- A test for the numbers over one power of two, and that a number's tree gives the number back.
 use Rattle.std.proofs.Common.{ℕ, zero, suc, ◌+◌, ◌^◌, ◌<◌, ◌≡◌, arith, refl, inl, inr, sym, ◌∙◌, ap, ap₂, subst, ℤ, pos, negsuc, ◌+ℤ◌, ◌-ℤ◌, true, false, Bool, cond, Option, Some, None}
-use Rattle.std.proofs.lemmas.Bool.{and_from, cases_Bool, true≢false}
+use Rattle.std.proofs.lemmas.Bool.{cases_Bool, true≢false}
 use Rattle.std.proofs.lemmas.Int.{ints}
 use Rattle.short_games.specs.Tree.{Tree, Trees, node, none, more, size, neg}
 use Rattle.short_games.specs.Number.{num, half, is_even, whole, count_tree}
-use Rattle.short_games.specs.NumberText.{same, same_each}
-use Rattle.short_games.proofs.NumberTextLaws.{same-is}
+use Rattle.short_games.specs.NumberText.{same}
+use Rattle.short_games.proofs.NumberTextLaws.{same-is, same-itself}
 use Rattle.short_games.proofs.OrderLaws.{by_measure, size-left, size-right}
 use Rattle.short_games.proofs.NumberLaws.{num-even, num-odd, num-double, half-even, half-odd, half-double}
 
@@ -19,16 +19,6 @@ numerator e (node (more L Ls) (more R Rs)) = half (numerator e L +ℤ numerator 
 -- the m for which the tree is that of m / 2 ^ e, where there is one
 unfoldable pub number_at : ℕ → Tree → Option ℤ
 number_at e G = cond (same (num e (numerator e G)) G) (Some (numerator e G)) None
-
-mutual
-  unfolding same
-
-  same-refl : (G : Tree) → same G G ≡ true
-  same-refl (node ls rs) = and_from _ _ (same_each-refl ls) (same_each-refl rs)
-
-  same_each-refl : (Gs : Trees) → same_each Gs Gs ≡ true
-  same_each-refl none = refl
-  same_each-refl (more G Gs) = and_from _ _ (same-refl G) (same_each-refl Gs)
 
 -- the four forms of a number
 data NumForm (e : ℕ) (m : ℤ) : Type 0 where
@@ -93,4 +83,5 @@ number-cases e G = by (same (num e (numerator e G)) G) refl
   where
     by : (b : Bool) → same (num e (numerator e G)) G ≡ b → NumberAt e G
     by true i = is_number (numerator e G) (sym (same-is _ _ i)) (rw i refl)
-    by false i = is_none (λ x g. true≢false (sym (subst (λ t. same t G ≡ true) (sym (ap (num e) (ap (numerator e) g ∙ numerator-num e x))) (subst (λ t. same t G ≡ true) g (same-refl G))) ∙ i)) (rw i refl)
+    by false i = is_none (λ x g. true≢false (sym (subst (λ t. same t G ≡ true)
+        (sym (ap (num e) (ap (numerator e) g ∙ numerator-num e x))) (subst (λ t. same t G ≡ true) g (same-itself G))) ∙ i)) (rw i refl)

@@ -91,7 +91,7 @@ module _ (k : ℕ) (lw rw : Tree → ℕ → ℤ) where
 
   pub right_scaffold-doubles : (lw' rw' : Tree → ℕ → ℤ) (Gs : Trees) (R R' : ℕ → ℤ) → ((X : Tree) → Has Gs X → Falls (lw X)) → ((X : Tree) → Has Gs X → Doubles (lw X) (lw' X)) → Doubles R R' → ((t : ℕ) → IsLeast (λ X. lw X t) Gs (R t -ℤ pos t))
       → (t : ℕ) → IsLeast (λ X. lw' X t) Gs (R' t -ℤ pos t)
-  right_scaffold-doubles lw' rw' Gs R R' f d e h = least-doubles lw Gs (λ t. R t -ℤ pos t) lw' (λ t. R' t -ℤ pos t) f d
+  right_scaffold-doubles lw' rw' Gs R R' f d e h = least-doubles lw Gs (λ t. R t -ℤ pos t) f lw' (λ t. R' t -ℤ pos t) d
       record { at_even = λ t. omega (arith, ints, e.at_even t); at_odd = λ t. omega (arith, ints, e.at_odd t) } h
 
   finer_at : (G : Tree) → AllWallsAre k lw rw G → WallsAre k lw rw G → WallsAre (suc k) (λ X. finer (lw X)) (λ X. finer (rw X)) G

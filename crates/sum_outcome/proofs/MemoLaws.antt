@@ -24,7 +24,7 @@ use Rattle.short_games.specs.Number.{number_tree}
 use Rattle.sum_outcome.specs.Players.{LosesGame}
 use Rattle.sum_outcome.proofs.PlayerLaws.{loses-same}
 use Rattle.short_games.proofs.OrderLaws.{same-sym}
-use Rattle.game_canon.proofs.SumWaiting.{right_grown}
+use Rattle.game_canon.proofs.SumQuestionLaws.{right_grown}
 use Rattle.sum_outcome.specs.Sums.{sum_tree}
 use Rattle.sum_outcome.specs.Incentives as pairs
 use Rattle.sum_outcome.specs.inner.Incentives.{IsKnownRight}

@@ -15,7 +15,7 @@ use Rattle.short_games.specs.SumLaws.{incentive}
 use Rattle.sum_outcome.specs.Players.{LosesGame}
 use Rattle.short_games.proofs.IncentiveLaws.{incentive-dominates}
 use Rattle.sum_outcome.proofs.PlayerLaws.{loses-same}
-use Rattle.game_canon.proofs.Sizes.{own-number}
+use Rattle.game_canon.proofs.NumberSizeLaws.{own-number}
 use Rattle.sum_outcome.specs.Sums.{sum_tree, AreBounds, IsBounded}
 use Rattle.sum_outcome.specs.inner.Search.{put}
 use Rattle.sum_outcome.specs.Opposites.{MayBeTakenOut, IsZero}

@@ -6,14 +6,18 @@ use Rattle.short_games.specs.Number.{IsNumberTree}
 use Rattle.short_games.specs.Parts.{IsOption, IsPart}
 use Rattle.game_canon.specs.Followers.{IsIn}
 
--- us has the ids ks, behind them ids of trees that pass and are no numbers, and all trees that pass but for numbers
-pub record IsGrown (Ts : List Tree) (Passes : Tree → Type 0) (ks us : List ℕ) : Type 0 where
+-- us has the ids ks, behind them ids of trees that pass and are not left out, and all trees that pass but for those left out
+pub record IsGathered (Ts : List Tree) (IsLeftOut Passes : Tree → Type 0) (ks us : List ℕ) : Type 0 where
   pub longer : length ks ≤ length us
   pub same : (j : ℕ) → j < length ks → slice_index_or us j 0 ≡ slice_index_or ks j 0
   pub below : (j : ℕ) → j < length us → length ks ≤ j → slice_index_or us j 0 < length Ts
   pub passes : (j : ℕ) → j < length us → length ks ≤ j → Passes (tree_at Ts (slice_index_or us j 0))
-  pub no_number : (j : ℕ) → j < length us → length ks ≤ j → IsNumberTree (tree_at Ts (slice_index_or us j 0)) → ⊥
-  pub has : (X : Tree) → Passes X → IsNumberTree X ⊎ IsIn Ts us X
+  pub wanted : (j : ℕ) → j < length us → length ks ≤ j → IsLeftOut (tree_at Ts (slice_index_or us j 0)) → ⊥
+  pub has : (X : Tree) → Passes X → IsLeftOut X ⊎ IsIn Ts us X
+
+-- us has the ids ks, behind them ids of trees that pass and are no numbers, and all trees that pass but for numbers
+abbrev pub IsGrown : List Tree → (Tree → Type 0) → List ℕ → List ℕ → Type 0
+IsGrown Ts Passes ks us = IsGathered Ts IsNumberTree Passes ks us
 
 -- a part of an option of G
 abbrev pub IsPartOfOption : Tree → Tree → Type 0

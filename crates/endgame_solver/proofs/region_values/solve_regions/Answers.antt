@@ -1,5 +1,5 @@
 use Rattle.std.proofs.Common.{◌≡◌, arith, length}
-use Rattle.game_canon.proofs.ChangeSteps.{extends-on}
+use Rattle.game_canon.proofs.ChangedIdLaws.{extends-on}
 use Rattle.endgame_solver.proofs.SharingLaws.{shared_by, steps_after, steps_before}
 use Rattle.endgame_solver.proofs.region_values.solve_regions.Goals as goal
 

@@ -1,4 +1,4 @@
-use Rattle.game_canon.proofs.Finish.{number-few}
+use Rattle.game_canon.proofs.CanonicalFormLaws.{number-few}
 use Rattle.game_calc.proofs.SumSteps.{number-sum, number-refused}
 use Rattle.game_calc.proofs.pair.number_sum.Goals as goal
 

@@ -2,7 +2,7 @@ use Rattle.std.proofs.Common.{sym, ◌∙◌, subst}
 use Rattle.std.proofs.lemmas.Result.{err_from_is_err_and}
 use Rattle.short_games.specs.Tree.{tree_at}
 use Rattle.game_canon.specs.Reachable.{AreReachable}
-use Rattle.game_canon.proofs.ChangeSteps.{passed-on, reachable-closed}
+use Rattle.game_canon.proofs.ChangedIdLaws.{passed-on, reachable-closed}
 use Rattle.game_calc.specs.Steps.{IsStepRefusal}
 use Rattle.game_calc.specs.inner.Table.{noted}
 use Rattle.game_calc.proofs.TableSteps.{not-none}

@@ -2,7 +2,7 @@ use Rattle.std.proofs.Common.{ℕ, ◌<◌, length, get_or}
 use Rattle.std.proofs.lemmas.Result.{err_from_is_err_and}
 use Rattle.short_games.specs.Sum.{◌+ᵍ◌}
 use Rattle.short_games.specs.Tree.{tree_at}
-use Rattle.game_canon.proofs.ChangeSteps.{passed-on}
+use Rattle.game_canon.proofs.ChangedIdLaws.{passed-on}
 use Rattle.game_calc.specs.inner.Steps.{IsPairRefusal}
 use Rattle.game_calc.specs.inner.Table.{noted}
 use Rattle.game_calc.proofs.TableSteps.{row-first, row-second, row-step}

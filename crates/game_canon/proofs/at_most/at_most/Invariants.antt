@@ -1,6 +1,6 @@
 use Rattle.game_canon.specs.inner.Games.{trees}
 use Rattle.game_canon.specs.inner.Comparisons.{recalled}
-use Rattle.game_canon.proofs.Waiting.{IsAsking, open_work}
+use Rattle.game_canon.proofs.QuestionLaws.{IsAsking, open_work}
 use Rattle.game_canon.proofs.at_most.at_most.Given as goal
 
 abbrev pub invariant-asking : goal.invariant-asking

@@ -1,7 +1,7 @@
 use Rattle.std.proofs.Common.{refl}
 use Rattle.std.proofs.lemmas.Bool.{false≢true}
 use Rattle.game_store.proofs.Interned.{at_most, is_above}
-use Rattle.game_canon.proofs.Steps.{number_between, number_under, number_over}
+use Rattle.game_canon.proofs.ComparisonLaws.{number_between, number_under, number_over}
 use Rattle.game_canon.proofs.at_most.by_numbers.Goals as goal
 
 pub returns-then-le : goal.returns-then-le

@@ -2,7 +2,7 @@ use Rattle.std.proofs.Common.{◌<◌, ◌+◌, arith, refl, sym, subst}
 use Rattle.std.proofs.lemmas.Bool.{false≢true}
 use Rattle.game_canon.specs.inner.Games.{trees}
 use Rattle.game_canon.specs.inner.Comparisons.{counter, IsCountered}
-use Rattle.game_canon.proofs.Steps.{counter-below, none-counters, one-counters, for-all-lists}
+use Rattle.game_canon.proofs.ComparisonLaws.{counter-below, none-counters, one-counters, for-all-lists}
 use Rattle.game_canon.proofs.at_most.go_on.Goals as goal
 
 pub returns-in-None : goal.returns-in-None

@@ -1,4 +1,4 @@
-use Rattle.game_canon.proofs.Finish.{made-number, number-few, number-near}
+use Rattle.game_canon.proofs.CanonicalFormLaws.{made-number, number-few, number-near, right-grown}
 use Rattle.game_canon.proofs.canonical_forms.canonical_with.Goals as goal
 
 pub returns-in_ok-number-in-Number-clause-value : goal.returns-in_ok-number-in-Number-clause-value
@@ -9,3 +9,11 @@ returns-in_ok-number-in-Number-clause-parts c = number-few _ c.in-Number.x _ c.a
 
 pub returns-in_ok-number-in-Number-clause-sizes : goal.returns-in_ok-number-in-Number-clause-sizes
 returns-in_ok-number-in-Number-clause-sizes c = λ b w. number-near _ c.in-Number.x _ b c.in_ok-number-in-Number.ensures.value (c.in-Number.ensures.3 b w)
+
+pub returns-in_ok-number-in-Number-clause-comparisons : goal.returns-in_ok-number-in-Number-clause-comparisons
+returns-in_ok-number-in-Number-clause-comparisons c = right-grown c.args.store.now c.number.new.self _ c.number.ensures.kept
+    c.requires.comparisons
+
+pub returns-in_err-number-in-Number-clause-comparisons : goal.returns-in_err-number-in-Number-clause-comparisons
+returns-in_err-number-in-Number-clause-comparisons c = right-grown c.args.store.now c.number.new.self _ c.number.ensures.kept
+    c.requires.comparisons

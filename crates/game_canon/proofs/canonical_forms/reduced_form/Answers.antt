@@ -1,5 +1,5 @@
 use Rattle.game_store.specs.Meaning.{listed}
-use Rattle.game_canon.proofs.Finish.{ready, made-id, too-many, form-near}
+use Rattle.game_canon.proofs.CanonicalFormLaws.{ready, made-id, too-many, form-near, right-grown}
 use Rattle.game_canon.proofs.canonical_forms.reduced_form.Goals as goal
 
 pub has_more_parts-requires-clause-no_number : goal.has_more_parts-requires-clause-no_number
@@ -31,3 +31,9 @@ returns-clause-value c = made-id c.intern.new.self _ _ _ (ready c.args.store.now
 
 pub returns-clause-sizes : goal.returns-clause-sizes
 returns-clause-sizes c = λ b w. form-near c.args.store.now c.intern.new.self (listed c.args.store.now c.args.left.now c.args.right.now) _ _ _ _ _ b c.in_ok-lists.ensures.reduced c.deref-3.ensures c.deref-4.ensures (ready c.args.store.now (listed c.args.store.now c.args.left.now c.args.right.now) _ _ _ _ c.len-count.ensures.canonical c.requires.no_number c.in_ok-lists.ensures.reduced c.deref-3.ensures c.deref-4.ensures).no_number c.in_ok-intern.ensures.value w
+
+pub returns-clause-comparisons : goal.returns-clause-comparisons
+returns-clause-comparisons c = right-grown c.args.store.now c.intern.new.self _ c.intern.ensures.kept c.reduced.ensures.memo
+
+pub returns-in_err-intern-clause-comparisons : goal.returns-in_err-intern-clause-comparisons
+returns-in_err-intern-clause-comparisons c = right-grown c.args.store.now c.intern.new.self _ c.intern.ensures.kept c.reduced.ensures.memo

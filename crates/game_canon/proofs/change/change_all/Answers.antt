@@ -1,6 +1,6 @@
 use Rattle.std.proofs.Common.{nat_eq}
 use Rattle.indexmap.specs.IndexMap.{get}
-use Rattle.game_canon.proofs.ChangeSteps.{changing-start, step-id, step-noted, step-done}
+use Rattle.game_canon.proofs.ChangedIdLaws.{changing-start, step-id, step-noted, step-done}
 use Rattle.game_canon.proofs.change.change_all.Goals as goal
 
 pub loop-id-init : goal.loop-id-init

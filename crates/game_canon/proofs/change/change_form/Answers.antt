@@ -4,7 +4,7 @@ use Rattle.indexmap.specs.IndexMap.{get}
 use Rattle.short_games.specs.Tree.{tree_at}
 use Rattle.game_canon.specs.Reachable.{AreReachable}
 use Rattle.game_canon.specs.inner.Changes.{IsRefused}
-use Rattle.game_canon.proofs.ChangeSteps.{passed-on, not-none, reachable-closed, root-noted, root-is, all-refused}
+use Rattle.game_canon.proofs.ChangedIdLaws.{passed-on, not-none, reachable-closed, root-noted, root-is, all-refused}
 use Rattle.game_canon.proofs.change.change_form.Goals as goal
 
 there : (c : goal.After-deref) → AreReachable c.args.store.now (tree_at c.args.store.now c.args.a) c.deref.result.now

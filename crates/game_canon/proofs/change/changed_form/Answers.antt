@@ -1,6 +1,6 @@
 use Rattle.std.proofs.Common.{nat_eq}
 use Rattle.indexmap.specs.IndexMap.{get}
-use Rattle.game_canon.proofs.ChangeSteps.{known-left, known-right, IsMade, made-lent, made-id}
+use Rattle.game_canon.proofs.ChangedIdLaws.{known-left, known-right, IsMade, made-lent, made-id}
 use Rattle.game_canon.proofs.change.changed_form.Goals as goal
 
 pub changed_lists-requires-clause-left : goal.changed_lists-requires-clause-left

@@ -1,7 +1,7 @@
 use Rattle.std.proofs.Common.{ℕ, List, sym, ◌∙◌, subst, nat_eq, get_or, arith}
 use Rattle.indexmap.specs.IndexMap.{get}
 use Rattle.game_canon.specs.inner.Ids.{IsInOrder}
-use Rattle.game_canon.proofs.ChangeSteps.{not-none, mapping-start, mapping-push, mapping-end}
+use Rattle.game_canon.proofs.ChangedIdLaws.{not-none, mapping-start, mapping-push, mapping-end}
 use Rattle.game_canon.proofs.change.changed_list.Goals as goal
 
 pub loop-id-init : goal.loop-id-init

@@ -1,4 +1,4 @@
-use Rattle.game_canon.proofs.ChangeSteps.{changed-number}
+use Rattle.game_canon.proofs.ChangedIdLaws.{changed-number}
 use Rattle.game_canon.proofs.change.changed_number.Goals as goal
 
 pub returns-clause-value : goal.returns-clause-value

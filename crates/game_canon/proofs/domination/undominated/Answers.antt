@@ -19,12 +19,14 @@ loop-id-preserved-then-not-branch c = record {
 
 pub loop-id-preserved : goal.loop-id-preserved
 loop-id-preserved c =
-    let w = rw c.deref-in-loop-id.ensures at c.in_ok-best.ensures.without in record {
-      known = c.without_covered.ensures.known;
-      so_far = subst (λ (z : List ℕ). AreBest c.args.side c.args.games.now.store.now z c.push.new.self.items) (sym (take_more c.args.ids.now c.loop-id.id-index 0 c.loop-id-test.true))
-          (subst (λ (z : List ℕ). AreBest c.args.side c.args.games.now.store.now (take c.loop-id.id-index c.args.ids.now ++ get_or c.args.ids.now c.loop-id.id-index 0 ∷ []) z) (sym c.in_ok-push.ensures.ok)
+    let w = rw c.deref-in-loop-id.ensures at c.in_ok-best.ensures.with_top in record {
+      known = c.with_best.ensures.known;
+      so_far = subst (λ (z : List ℕ). AreBest c.args.side c.args.games.now.store.now z c.in_ok-best.best.items)
+          (sym (take_more c.args.ids.now c.loop-id.id-index 0 c.loop-id-test.true))
+          (subst (λ (z : List ℕ). AreBest c.args.side c.args.games.now.store.now
+          (take c.loop-id.id-index c.args.ids.now ++ get_or c.args.ids.now c.loop-id.id-index 0 ∷ []) z) (sym w.2)
           (best-push c.args.side c.args.games.now.store.now _ c.loop-id.best.items _ _ (c.requires.ids _ c.loop-id-test.true)
           (none-list c.args.games.now.store.now c.loop-id.best.items (λ Z. Covers c.args.side (tree_at c.args.games.now.store.now (get_or c.args.ids.now c.loop-id.id-index 0)) Z)
           (subst (λ (z : List ℕ). NearUncovered c.args.side c.args.games.now.store.now z (tree_at c.args.games.now.store.now (get_or c.args.ids.now c.loop-id.id-index 0))) c.deref.ensures (c.in_ok-none_covers.ensures.answer.0 c.if-not-branch.false)))
-          c.loop-id.invariant.so_far w));
+          c.loop-id.invariant.so_far w.1));
     }

@@ -4,7 +4,7 @@ use Rattle.std.proofs.lemmas.List.Kept.{Contains-dedup_nat, Contains-from_dedup}
 use Rattle.std.proofs.lemmas.List.Sorted.{Contains-permutation, IsPermutation-sym, sum_by-IsPermutation}
 use Rattle.std.proofs.lemmas.Map.Keys.{IsStrictlyIncreasing-dedup}
 use Rattle.smallvec.proofs.SmallVecLemmas.{items-with_items}
-use Rattle.game_canon.proofs.IdSteps.{from-words, sum-dedup}
+use Rattle.game_canon.proofs.IdLaws.{from-words, sum-dedup}
 use Rattle.game_canon.proofs.ids.in_order.Goals as goal
 
 pub returns : goal.returns

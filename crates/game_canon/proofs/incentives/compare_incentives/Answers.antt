@@ -1,6 +1,6 @@
 use Rattle.short_games.specs.Tree.{tree_at}
 use Rattle.short_games.proofs.IncentiveLaws.{incentive-dominates, incentive-dominates_back}
-use Rattle.game_canon.proofs.Steps.{through}
+use Rattle.game_canon.proofs.ComparisonLaws.{through}
 use Rattle.game_canon.proofs.incentives.compare_incentives.Goals as goal
 
 pub returns-clause-answer : goal.returns-clause-answer

@@ -1,5 +1,4 @@
-use Rattle.std.proofs.Common.{◌≡◌, ◌<◌, ◌≤◌, List, ℕ, length, get_or, arith, sym, subst, [], ◌∷◌, ap}
-use Rattle.std.proofs.lemmas.List.{nil_from_length}
+use Rattle.std.proofs.Common.{◌<◌, ◌≤◌, List, ℕ, length, get_or, arith, sym, subst, [], ◌∷◌, ap}
 use Rattle.short_games.specs.Tree.{Has, tree_at}
 use Rattle.game_store.specs.Meaning.{pick}
 use Rattle.game_canon.specs.inner.Ids.{IsInOrder}
@@ -10,28 +9,31 @@ use Rattle.game_canon.proofs.reachable_forms.reachable.Goals as goal
 
 pub following-init : goal.following-init
 following-init c =
-    let empty : c.new-found.result.keys ≡ [] = nil_from_length c.new-found.result.keys c.new-found.ensures.len in
     reaching-start c.args.store.now c.args.a c.add_ids.new.found.keys
-    (subst (λ (z : List ℕ). IsWidened c.args.store.now (Has (pick c.args.store.now (c.args.a ∷ []))) z c.add_ids.new.found.keys) empty c.in_ok-add_ids.ensures)
+    (subst (λ (z : List ℕ). IsWidened c.args.store.now (Has (pick c.args.store.now (c.args.a ∷ []))) z c.add_ids.new.found.keys)
+    c.nothing_found-found.ensures c.in_ok-add_ids.ensures)
 
 pub following-preserved : goal.following-preserved
 following-preserved c =
-    let l : c.following.place < length c.following.found.keys = subst (λ n. c.following.place < n) c.len.ensures.len c.following-test.true in
-    reaching-step c.args.store.now (tree_at c.args.store.now c.args.a) c.following.found.keys c.add_inner.new.found.keys c.following.place _ c.following.invariant l
+    let l : c.following.place < length c.following.found.ids.keys = omega (arith, c.len.ensures.len, c.following-test.true) in
+    reaching-step c.args.store.now (tree_at c.args.store.now c.args.a) c.following.found.ids.keys c.add_inner.new.found.keys
+    c.following.place _ c.following.invariant l
     (ap (λ (z : List ℕ). get_or z c.following.place 0) c.as_slice.ensures.keys) c.in_ok-add_inner.ensures
 
 pub following-smaller : goal.following-smaller
 following-smaller c =
-    let l : c.following.place < length c.following.found.keys = subst (λ n. c.following.place < n) c.len.ensures.len c.following-test.true in
-    let m : length c.following.found.keys ≤ length c.args.store.now = ids-few c.args.store.now c.following.found.keys c.len.ensures.unique c.following.invariant.ids in
+    let l : c.following.place < length c.following.found.ids.keys = omega (arith, c.len.ensures.len, c.following-test.true) in
+    let m : length c.following.found.ids.keys ≤ length c.args.store.now = ids-few c.args.store.now c.following.found.ids.keys
+    c.len.ensures.unique c.following.invariant.ids in
     omega (arith, l, m)
 
 pub add_inner-requires : goal.add_inner-requires
 add_inner-requires c =
-    let l : c.following.place < length c.following.found.keys = subst (λ n. c.following.place < n) c.len.ensures.len c.following-test.true in
+    let l : c.following.place < length c.following.found.ids.keys = omega (arith, c.len.ensures.len, c.following-test.true) in
     subst (λ i. i < length c.args.store.now) (ap (λ (z : List ℕ). get_or z c.following.place 0) (sym c.as_slice.ensures.keys)) (c.following.invariant.ids c.following.place l)
 
 pub returns : goal.returns
-returns c = reaching-end c.args.store.now (tree_at c.args.store.now c.args.a) c.following.found.keys _ c.following.place c.following.invariant
+returns c = reaching-end c.args.store.now (tree_at c.args.store.now c.args.a) c.following.found.ids.keys _ c.following.place
+    c.following.invariant
     (omega (arith, c.len.ensures.len, c.following-test.false))
-    (subst (λ (z : List ℕ). IsInOrder z c.in_ok-in_order.field-0.items) c.as_slice-2.ensures.keys c.in_ok-in_order.ensures)
+    (subst (λ (z : List ℕ). IsInOrder z c.in_ok-reached.reached.items) c.as_slice-2.ensures.keys c.in_ok-reached.ensures)

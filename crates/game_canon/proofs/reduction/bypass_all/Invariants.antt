@@ -3,7 +3,7 @@ use Rattle.short_games.specs.Tree.{sizes}
 use Rattle.game_store.specs.Meaning.{pick}
 use Rattle.game_canon.specs.inner.Comparisons.{recalled}
 use Rattle.game_canon.specs.inner.Games.{beside, IsKnown}
-use Rattle.game_canon.proofs.Reduce.{IsReducing}
+use Rattle.game_canon.proofs.ReductionLaws.{IsReducing}
 use Rattle.game_canon.proofs.reduction.bypass_all.Given as goal
 
 abbrev pub invariant-rounds : goal.invariant-rounds

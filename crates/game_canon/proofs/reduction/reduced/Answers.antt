@@ -1,7 +1,7 @@
 use Rattle.std.proofs.Common.{◌∙◌, ap, sym, subst}
 use Rattle.game_canon.specs.Comparisons.{AreRight}
 use Rattle.game_canon.specs.inner.Comparisons.{recalled}
-use Rattle.game_canon.proofs.Finish.{known-beside, reduced-beside, right-empty}
+use Rattle.game_canon.proofs.CanonicalFormLaws.{known-beside, reduced-beside, right-empty}
 use Rattle.game_canon.proofs.reduction.reduced.Goals as goal
 
 pub bypass_all-requires-clause-known : goal.bypass_all-requires-clause-known
@@ -9,8 +9,10 @@ bypass_all-requires-clause-known c =
     let f = c.games_beside-games.ensures.form in
     let s = c.in_ok-lists.ensures.starts in
     known-beside c.args.store.now c.games_beside-games.result f.0 _ c.in_ok-lists.lists.left.items c.in_ok-lists.lists.right.items
-    c.games_beside-games.ensures.store f.1 (f.2 ∙ c.deref.ensures) (f.3 ∙ c.deref-2.ensures) s.same s.among (recalled c.new-beside.result)
-    c.args.floor c.args.ceiling c.best_lists.ensures.distinct (right-empty c.args.store.now c.new-beside.result c.new-beside.ensures.empty)
+    c.games_beside-games.ensures.store f.1 (f.2 ∙ c.deref.ensures) (f.3 ∙ c.deref-2.ensures) s.same s.among
+    (recalled c.nothing_known-beside.result.known)
+    c.args.floor c.args.ceiling c.best_lists.ensures.distinct (right-empty c.args.store.now c.nothing_known-beside.result.known
+    c.nothing_known-beside.ensures)
     (subst (λ m. AreRight c.args.store.now (recalled m)) (sym c.games_beside-games.ensures.earlier) c.best_lists.ensures.memo)
     c.requires.no_number s.start c.requires.floor c.requires.ceiling (ap (λ s. s.floor) f.4) (ap (λ s. s.ceiling) f.4)
 
@@ -19,4 +21,4 @@ returns-clause-reduced c =
     let f = c.games_beside-games.ensures.form in
     let s = c.in_ok-lists.ensures.starts in
     reduced-beside c.args.store.now c.games_beside-games.result f.0 _ c.in_ok-lists.lists.left.items c.in_ok-lists.lists.right.items
-    c.games_beside-games.ensures.store f.1 (f.2 ∙ c.deref.ensures) (f.3 ∙ c.deref-2.ensures) s.same s.among _ _ c.in_ok-bypass_all.ensures
+    c.games_beside-games.ensures.store f.1 (f.2 ∙ c.deref.ensures) (f.3 ∙ c.deref-2.ensures) s.same s.among _ _ c.in_ok-reduced.ensures

@@ -1,5 +1,5 @@
 use Rattle.std.proofs.Common.{inr}
-use Rattle.game_canon.proofs.Reduce.{match-along, answer-from, kept-from}
+use Rattle.game_canon.proofs.ReductionLaws.{match-along, answer-from, kept-from}
 use Rattle.game_canon.proofs.reversal.answer_to.Goals as goal
 
 pub returns-in_ok-first_covered-in-Options-clause-found :

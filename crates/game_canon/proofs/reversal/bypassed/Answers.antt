@@ -1,5 +1,5 @@
 use Rattle.game_canon.proofs.GameLaws.{beside-no_number}
-use Rattle.game_canon.proofs.Reduce.{smaller-from}
+use Rattle.game_canon.proofs.ReductionLaws.{smaller-from}
 use Rattle.game_canon.proofs.reversal.bypassed.Goals as goal
 
 pub returns-in_ok-best-in-Some-clause-found : goal.returns-in_ok-best-in-Some-clause-found

@@ -2,7 +2,7 @@ use Rattle.std.proofs.Common.{sym, subst, inl, inr, arith, ◌∙◌, ap, ◌++�
 use Rattle.std.proofs.lemmas.Grind.{common_steps}
 use Rattle.game_store.specs.Meaning.{AreIds, pick}
 use Rattle.short_games.specs.Tree.{Has}
-use Rattle.game_canon.proofs.Reduce.{replaced-from, few-near, nought-few, near-ids, pieces}
+use Rattle.game_canon.proofs.ReductionLaws.{replaced-from, few-near, nought-few, near-ids, pieces}
 use Rattle.game_canon.proofs.SideLaws.{near-has, has-near}
 use Rattle.game_canon.proofs.reversal.replaced.Goals as goal
 

@@ -1,4 +1,4 @@
-use Rattle.game_canon.proofs.SumWaiting.{right_grown}
+use Rattle.game_canon.proofs.SumQuestionLaws.{right_grown}
 use Rattle.game_canon.proofs.sum_comparisons.comparisons_laws.Goals as goal
 
 pub returns : goal.returns

@@ -1,4 +1,4 @@
-use Rattle.game_canon.proofs.SumCancelling.{cancels-first_third, cancels-first_fourth, cancels-second_third, cancels-second_fourth}
+use Rattle.game_canon.proofs.SumCancellingLaws.{cancels-first_third, cancels-first_fourth, cancels-second_third, cancels-second_fourth}
 use Rattle.game_canon.proofs.sums.cancelled.Goals as goal
 
 pub returns-then-pair : goal.returns-then-pair

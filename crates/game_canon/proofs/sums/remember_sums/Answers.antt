@@ -1,5 +1,5 @@
 use Rattle.game_canon.specs.inner.SumComparisons.{recalled_sums}
-use Rattle.game_canon.proofs.SumWaiting.{right_more}
+use Rattle.game_canon.proofs.SumQuestionLaws.{right_more}
 use Rattle.game_canon.proofs.sums.remember_sums.Goals as goal
 
 pub returns-clause-noted : goal.returns-clause-noted

@@ -1,6 +1,6 @@
 use Rattle.std.proofs.Common.{ap}
 use Rattle.short_games.specs.Tree.{right}
-use Rattle.game_canon.proofs.SumMoves.{listed-moves}
+use Rattle.game_canon.proofs.SumMoveLaws.{listed-moves}
 use Rattle.game_canon.proofs.sums.right_moves.Goals as goal
 
 pub returns-in-Options : goal.returns-in-Options

@@ -1,7 +1,7 @@
 use Rattle.std.proofs.Common.{refl, sym, ◌∙◌}
 use Rattle.std.proofs.lemmas.Bool.{false≢true}
 use Rattle.game_store.proofs.Interned.{at_most}
-use Rattle.game_canon.proofs.SumBounds.{ceilings-hold, floors-hold, numbers-hold}
+use Rattle.game_canon.proofs.SumBoundLaws.{ceilings-hold, floors-hold, numbers-hold}
 use Rattle.game_canon.proofs.sums_at_most.by_bounds.Goals as goal
 
 pub returns-then-le-clause-some : goal.returns-then-le-clause-some

@@ -1,7 +1,7 @@
 use Rattle.std.proofs.Common.{sym, subst, refl}
 use Rattle.game_canon.specs.SumComparisons.{IsSumWithin, AreStored}
 use Rattle.game_canon.specs.inner.SumComparisons.{AreNumbers}
-use Rattle.game_canon.proofs.SumMoves.{resisted_last}
+use Rattle.game_canon.proofs.SumMoveLaws.{resisted_last}
 use Rattle.game_canon.proofs.sums_at_most.go_on_with_sums.Goals as goal
 
 pub returns-in_default-next_place : goal.returns-in_default-next_place

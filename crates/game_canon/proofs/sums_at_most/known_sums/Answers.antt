@@ -1,7 +1,7 @@
 use Rattle.std.proofs.Common.{refl}
 use Rattle.game_canon.specs.inner.SumComparisons.{recalled_sums}
-use Rattle.game_canon.proofs.SumBounds.{same-within}
-use Rattle.game_canon.proofs.SumWaiting.{right_tells}
+use Rattle.game_canon.proofs.SumBoundLaws.{same-within}
+use Rattle.game_canon.proofs.SumQuestionLaws.{right_tells}
 use Rattle.game_canon.proofs.sums_at_most.known_sums.Goals as goal
 
 pub returns-then-is_same-clause-some : goal.returns-then-is_same-clause-some

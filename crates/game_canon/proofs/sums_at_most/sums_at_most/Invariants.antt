@@ -1,5 +1,5 @@
 use Rattle.game_canon.specs.inner.SumComparisons.{recalled_sums}
-use Rattle.game_canon.proofs.SumWaiting.{AreAsking, sums_work}
+use Rattle.game_canon.proofs.SumQuestionLaws.{AreAsking, sums_work}
 use Rattle.game_canon.proofs.sums_at_most.sums_at_most.Given as goal
 
 abbrev pub invariant-asking : goal.invariant-asking

@@ -2,7 +2,7 @@ use Rattle.std.proofs.Common.{◌<◌, arith, ap, subst, refl, below_more, get_o
 use Rattle.std.proofs.lemmas.Bool.{false≢true}
 use Rattle.game_canon.specs.SumComparisons.{IsSumWithin}
 use Rattle.game_canon.specs.inner.SumComparisons.{counter_by, weight}
-use Rattle.game_canon.proofs.SumMoves.{countered, none-counter, not_counter, counter-lighter, resists_below, stored_at}
+use Rattle.game_canon.proofs.SumMoveLaws.{countered, none-counter, not_counter, counter-lighter, resists_below, stored_at}
 use Rattle.game_canon.proofs.sums_at_most.tried.Goals as goal
 
 pub returns-in-Some-true : goal.returns-in-Some-true

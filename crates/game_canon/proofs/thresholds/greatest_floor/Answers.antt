@@ -1,4 +1,4 @@
-use Rattle.game_canon.proofs.ThresholdSteps.{greatest-step}
+use Rattle.game_canon.proofs.ThresholdLaws.{greatest-step}
 use Rattle.game_canon.proofs.thresholds.greatest_floor.Goals as goal
 
 pub loop-id-preserved : goal.loop-id-preserved

@@ -1,4 +1,4 @@
-use Rattle.game_canon.proofs.ThresholdSteps.{GreatestSoFar}
+use Rattle.game_canon.proofs.ThresholdLaws.{GreatestSoFar}
 use Rattle.game_canon.proofs.thresholds.greatest_floor.Given as goal
 
 abbrev pub invariant-loop-id : goal.invariant-loop-id

@@ -1,4 +1,4 @@
-use Rattle.game_canon.proofs.ThresholdSteps.{least-step}
+use Rattle.game_canon.proofs.ThresholdLaws.{least-step}
 use Rattle.game_canon.proofs.thresholds.least_ceiling.Goals as goal
 
 pub loop-id-preserved : goal.loop-id-preserved

@@ -1,4 +1,4 @@
-use Rattle.game_canon.proofs.ThresholdSteps.{LeastSoFar}
+use Rattle.game_canon.proofs.ThresholdLaws.{LeastSoFar}
 use Rattle.game_canon.proofs.thresholds.least_ceiling.Given as goal
 
 abbrev pub invariant-loop-id : goal.invariant-loop-id

@@ -2,9 +2,9 @@ use Rattle.std.proofs.lemmas.Result.{err_from_is_err_and}
 use Rattle.short_games.specs.Sum.{◌+ᵍ◌}
 use Rattle.short_games.specs.Tree.{tree_at}
 use Rattle.short_games.specs.Number.{number_tree}
-use Rattle.game_canon.proofs.ChangeSteps.{passed-on}
+use Rattle.game_canon.proofs.ChangedIdLaws.{passed-on}
 use Rattle.game_canon.specs.Changes.{IsSumRefusal}
-use Rattle.game_canon.proofs.NumberParts.{sum-refused, sum-numbers, same-sum, within-bounds}
+use Rattle.game_canon.proofs.NumberPartLaws.{sum-refused, sum-numbers, same-sum, within-bounds}
 use Rattle.game_canon.proofs.translation.add_number.Goals as goal
 
 pub returns-then-is_zero-clause-value : goal.returns-then-is_zero-clause-value

@@ -2,7 +2,7 @@ use Rattle.std.proofs.Common.{sym, subst}
 use Rattle.std.proofs.lemmas.Result.{err_from_is_err_and}
 use Rattle.short_games.specs.Tree.{tree_at}
 use Rattle.game_canon.specs.Reachable.{AreReachable}
-use Rattle.game_canon.proofs.ChangeSteps.{reachable-closed}
+use Rattle.game_canon.proofs.ChangedIdLaws.{reachable-closed}
 use Rattle.game_text.specs.Refusals.{IsWriteRefusal}
 use Rattle.game_text.proofs.WritingSteps.{passed-on, all-too_long}
 use Rattle.game_text.proofs.writing.named_texts.Goals as goal

@@ -1,8 +1,8 @@
 use Rattle.std.proofs.Common.{arith, refl}
 use Rattle.std.proofs.lemmas.Result.{err_from_is_err_and}
 use Rattle.go_grid.specs.Region.{Region}
-use Rattle.game_canon.proofs.ChangeSteps.{extends-on, passed-on}
-use Rattle.game_canon.proofs.NumberParts.{within-bounds}
+use Rattle.game_canon.proofs.ChangedIdLaws.{extends-on, passed-on}
+use Rattle.game_canon.proofs.NumberPartLaws.{within-bounds}
 use Rattle.local_value.specs.Refusals.{IsValueRefusal}
 use Rattle.local_value.specs.Values.{IsGraphOf}
 use Rattle.local_value.proofs.PassLaws.{call, pass-parts, pass-sizes, pass-values}

@@ -14,7 +14,7 @@ use Rattle.game_store.specs.Meaning.{listed}
 use Rattle.game_canon.specs.inner.Bounds.{AreAllWithin, HasCeilingFrom, HasFloorUpTo, AreAllFrom, AreAllUpTo, AreFloorRange, AreCeilingRange, lower, upper}
 use Rattle.game_store.proofs.Values.{pick-has}
 use Rattle.short_games.specs.Stops.{GoesWithLeftStop, GoesWithRightStop}
-use Rattle.game_canon.proofs.Sizes.{floor-within, ceiling-within}
+use Rattle.game_canon.proofs.NumberSizeLaws.{floor-within, ceiling-within}
 use Rattle.game_canon.proofs.GameLaws.{none-list}
 
 -- one more id

@@ -10,14 +10,14 @@ use Rattle.short_games.specs.Tree.{AreDistinct, Tree, Trees, node, none, more, l
 use Rattle.game_store.specs.Meaning.{AreBelow, IsAscending, pick, listed, AreIds}
 use Rattle.short_games.specs.Order.{◌≤ᵍ◌, ◌≡ᵍ◌}
 use Rattle.short_games.specs.Number.{IsNumberTree, IsNumber}
-use Rattle.short_games.proofs.OrderLaws.{le-refl, le-trans, size-left, size-right, size-node}
+use Rattle.short_games.proofs.OrderLaws.{le-refl, le-trans, same-trans, size-left, size-right, size-node}
 use Rattle.short_games.proofs.ReductionLaws.{drops-left, drops-right, bypasses-left, bypasses-right, number-answers_left, number-answers_right}
 use Rattle.game_store.specs.Forms.{IsOptions}
 use Rattle.game_store.proofs.Values.{has-pick, pick-has}
 use Rattle.game_canon.specs.declared.side.Side.{Side}
 use Rattle.game_canon.specs.declared.side.Side.TheVariants.{Left, Right}
 use Rattle.short_games.specs.Parts.{IsOption}
-use Rattle.game_canon.proofs.Sizes.{come-further}
+use Rattle.game_canon.proofs.NumberSizeLaws.{come-further}
 use Rattle.game_canon.specs.inner.Sides.{Comes, near, far, Covers, with_near, near_list, far_list, AreFree, AreBest, IsReplaced, IsReversal, IsIrreversible, IsDone, IsSmaller, IsReducedForm}
 use Rattle.game_canon.proofs.SideLaws.{append-has, has-append_left, has-append_right, sizes-append, ids-append, has-far, far-has, FarUncovered}
 use Rattle.game_canon.proofs.GameLaws.{none-list}
@@ -93,12 +93,14 @@ replaced-from s Ts is place answer extra vs ids l extra_ids added from few e = s
 abbrev pub Better : Side → List Tree → List ℕ → List ℕ → List ℕ → Type 0
 Better s Ts ns fs vs = with_near s Ts ns fs ≡ᵍ with_near s Ts vs fs
 
-pub equal-trans : (G H K : Tree) → G ≡ᵍ H → H ≡ᵍ K → G ≡ᵍ K
-equal-trans G H K p q = (le-trans G H K p.0 q.0, le-trans K H G q.1 p.1)
-
 pub best-same : (s : Side) (Ts : List Tree) (ns fs vs : List ℕ) → AreBest s Ts ns vs → Better s Ts ns fs vs
 best-same Left Ts ns fs vs b = drops-left _ _ record { from = b.among; covered = b.covers; others = refl }
 best-same Right Ts ns fs vs b = drops-right _ _ record { from = b.among; covered = b.covers; others = refl }
+
+-- what is kept and isn't the one that is replaced
+other-kept : (Ts : List Tree) (vs : List ℕ) (Y Z : Tree) → (Y ≡ Z → ⊥) → (Y ≡ Z) ⊎ Has (pick Ts vs) Y → Has (pick Ts vs) Y
+other-kept Ts vs Y Z f (inl e) = absurd (f e)
+other-kept Ts vs Y Z f (inr h) = h
 
 replaced-same : (s : Side) (Ts : List Tree) (ns fs vs : List ℕ) (place answer : ℕ) → (IsNumber (with_near s Ts ns fs) → ⊥) → place < length ns → IsReversal s Ts (with_near s Ts ns fs) (get_or ns place 0) answer → IsReplaced s Ts ns place answer vs → Better s Ts ns fs vs
 replaced-same Left Ts ns fs vs place answer n l a r = bypasses-left (listed Ts ns fs) (listed Ts vs fs) (tree_at Ts (get_or ns place 0)) (tree_at Ts answer) record {
@@ -111,13 +113,9 @@ replaced-same Left Ts ns fs vs place answer n l a r = bypasses-left (listed Ts n
   others = refl;
 }
   where
-    by_kept : (Y : Tree) → (Y ≡ tree_at Ts (get_or ns place 0) → ⊥) → (Y ≡ tree_at Ts (get_or ns place 0)) ⊎ Has (pick Ts vs) Y → Has (pick Ts vs) Y
-    by_kept Y f (inl e) = absurd (f e)
-    by_kept Y f (inr h) = h
-
     by_added : (X : Tree) → Has (left (tree_at Ts answer)) X → IsNumberTree (tree_at Ts answer) ⊎ ((X : Tree) → Has (left (tree_at Ts answer)) X → Has (pick Ts vs) X) → (Y : Tree) × Has (pick Ts vs) Y × (X ≤ᵍ Y)
     by_added X x (inl t) = let k = number-answers_left (listed Ts ns fs) n (tree_at Ts (get_or ns place 0)) t.0 t.1 (subst (λ z. Has (right (tree_at Ts (get_or ns place 0))) z) t.2 a.option) (subst (λ z. z ≤ᵍ listed Ts ns fs) t.2 a.covered) X (subst (λ z. Has (left z) X) t.2 x) in
-        (k.0, by_kept k.0 k.2 (r.kept k.0 k.1), k.3)
+        (k.0, other-kept Ts vs k.0 _ k.2 (r.kept k.0 k.1), k.3)
     by_added X x (inr f) = (X, f X x, le-refl X)
 replaced-same Right Ts ns fs vs place answer n l a r = bypasses-right (listed Ts fs ns) (listed Ts fs vs) (tree_at Ts (get_or ns place 0)) (tree_at Ts answer) record {
   option = pick-has Ts ns place l;
@@ -129,13 +127,9 @@ replaced-same Right Ts ns fs vs place answer n l a r = bypasses-right (listed Ts
   others = refl;
 }
   where
-    by_kept : (Y : Tree) → (Y ≡ tree_at Ts (get_or ns place 0) → ⊥) → (Y ≡ tree_at Ts (get_or ns place 0)) ⊎ Has (pick Ts vs) Y → Has (pick Ts vs) Y
-    by_kept Y f (inl e) = absurd (f e)
-    by_kept Y f (inr h) = h
-
     by_added : (X : Tree) → Has (right (tree_at Ts answer)) X → IsNumberTree (tree_at Ts answer) ⊎ ((X : Tree) → Has (right (tree_at Ts answer)) X → Has (pick Ts vs) X) → (Y : Tree) × Has (pick Ts vs) Y × (Y ≤ᵍ X)
     by_added X x (inl t) = let k = number-answers_right (listed Ts fs ns) n (tree_at Ts (get_or ns place 0)) t.0 t.1 (subst (λ z. Has (left (tree_at Ts (get_or ns place 0))) z) t.2 a.option) (subst (λ z. listed Ts fs ns ≤ᵍ z) t.2 a.covered) X (subst (λ z. Has (right z) X) t.2 x) in
-        (k.0, by_kept k.0 k.2 (r.kept k.0 k.1), k.3)
+        (k.0, other-kept Ts vs k.0 _ k.2 (r.kept k.0 k.1), k.3)
     by_added X x (inr f) = (X, f X x, le-refl X)
 
 covers-equal : (s : Side) (X G H : Tree) → G ≡ᵍ H → Covers s X G → Covers s X H
@@ -157,7 +151,7 @@ smaller-from s Ts G ns is vs place answer n l a r b u = record {
   same = λ fs e. (
       let m : IsNumber (with_near s Ts ns fs) → ⊥ = λ k. n (k.0, k.1, le-trans _ _ _ e.1 k.2, le-trans _ _ _ k.3 e.0) in
       let c : IsReversal s Ts (with_near s Ts ns fs) (get_or ns place 0) answer = record { below = a.below; option = a.option; covered = covers-equal s _ _ _ (e.1, e.0) a.covered } in
-      equal-trans _ _ _ (replaced-same s Ts ns fs is place answer m l c r) (best-same s Ts is fs vs b)
+      same-trans _ _ _ (replaced-same s Ts ns fs is place answer m l c r) (best-same s Ts is fs vs b)
       );
   free = b.free;
   from = λ X x. elim (r.from X (b.among X x)) [ inl h ↦ inl h | inr h ↦ inr (tree_at Ts (get_or ns place 0), pick-has Ts ns place l, (tree_at Ts answer, far-option s _ _ a.option, h.0, near-option s _ _ h.1)) ];
@@ -175,11 +169,34 @@ pub record IsReducing (Ts : List Tree) (G : Tree) (ms ns : List ℕ) : Type 0 wh
   pub right_free : AreFree Right (pick Ts ns)
   pub comes : (X : Tree) → IsOption (listed Ts ms ns) X → Comes G X
 
+comes-smaller : (s : Side) (Ts : List Tree) (G : Tree) (ns vs : List ℕ) → IsSmaller s Ts G ns vs
+    → ((Y : Tree) → Has (pick Ts ns) Y → Comes G Y)
+    → (X : Tree) → Has (pick Ts vs) X → Comes G X
+comes-smaller s Ts G ns vs r c X h = elim (r.from X h) [ inl a ↦ c X a | inr f ↦ come-further G f.0 f.2.0 X (c f.0 f.1) f.2.1 f.2.2 f.2.3 ]
+
 pub reducing-left : (Ts : List Tree) (G : Tree) (ms ns vs : List ℕ) → IsReducing Ts G ms ns → IsSmaller Left Ts G ms vs → IsReducing Ts G vs ns
-reducing-left Ts G ms ns vs r s = record { left_ids = s.ids; right_ids = r.right_ids; left_ascends = s.ascends; right_ascends = r.right_ascends; same = equal-trans _ _ _ r.same (s.same ns (r.same.1, r.same.0)); left_free = s.free; right_free = r.right_free; comes = λ X o. elim o [ inl h ↦ elim (s.from X h) [ inl a ↦ r.comes X (inl a) | inr f ↦ come-further G f.0 f.2.0 X (r.comes f.0 (inl f.1)) f.2.1 f.2.2 f.2.3 ] | inr h ↦ r.comes X (inr h) ] }
+reducing-left Ts G ms ns vs r s = record {
+  left_ids = s.ids;
+  right_ids = r.right_ids;
+  left_ascends = s.ascends;
+  right_ascends = r.right_ascends;
+  same = same-trans _ _ _ r.same (s.same ns (r.same.1, r.same.0));
+  left_free = s.free;
+  right_free = r.right_free;
+  comes = λ X o. elim o [ inl h ↦ comes-smaller Left Ts G ms vs s (λ Y y. r.comes Y (inl y)) X h | inr h ↦ r.comes X (inr h) ];
+}
 
 pub reducing-right : (Ts : List Tree) (G : Tree) (ms ns vs : List ℕ) → IsReducing Ts G ms ns → IsSmaller Right Ts G ns vs → IsReducing Ts G ms vs
-reducing-right Ts G ms ns vs r s = record { left_ids = r.left_ids; right_ids = s.ids; left_ascends = r.left_ascends; right_ascends = s.ascends; same = equal-trans _ _ _ r.same (s.same ms (r.same.1, r.same.0)); left_free = r.left_free; right_free = s.free; comes = λ X o. elim o [ inr h ↦ elim (s.from X h) [ inl a ↦ r.comes X (inr a) | inr f ↦ come-further G f.0 f.2.0 X (r.comes f.0 (inr f.1)) f.2.1 f.2.2 f.2.3 ] | inl h ↦ r.comes X (inl h) ] }
+reducing-right Ts G ms ns vs r s = record {
+  left_ids = r.left_ids;
+  right_ids = s.ids;
+  left_ascends = r.left_ascends;
+  right_ascends = s.ascends;
+  same = same-trans _ _ _ r.same (s.same ms (r.same.1, r.same.0));
+  left_free = r.left_free;
+  right_free = s.free;
+  comes = λ X o. elim o [ inl h ↦ r.comes X (inl h) | inr h ↦ comes-smaller Right Ts G ns vs s (λ Y y. r.comes Y (inr y)) X h ];
+}
 
 pub reducing-end : (Ts : List Tree) (G : Tree) (ms ns : List ℕ) → IsReducing Ts G ms ns → IsDone Left Ts G ms → IsDone Right Ts G ns → IsReducedForm Ts G ms ns
 reducing-end Ts G ms ns r a b = record { left_ids = r.left_ids; right_ids = r.right_ids; left_ascends = r.left_ascends; right_ascends = r.right_ascends; same = r.same; left_free = r.left_free; right_free = r.right_free; comes = r.comes; left_kept = a; right_kept = b }

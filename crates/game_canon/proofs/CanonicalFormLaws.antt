@@ -1,18 +1,17 @@
 -- A reduced form in the order of its ids is the canonical tree.
-use Rattle.std.proofs.Common.{ℕ, zero, suc, ◌+◌, ◌<◌, ◌≤◌, ◌≡◌, List, [], length, arith, refl, sym, ap, ◌∙◌, inl, inr, subst, ℤ, pos, negsuc}
-use Rattle.std.proofs.lemmas.Bool.{cases_lt}
-use Rattle.short_games.specs.Tree.{Tree, left, right, Has, neg, size, tree_at, AreDistinct}
+use Rattle.std.proofs.Common.{ℕ, ◌+◌, ◌<◌, ◌≤◌, ◌≡◌, List, [], length, arith, refl, sym, ap, ◌∙◌, inl, inr, subst, ℤ, pos}
+use Rattle.short_games.specs.Tree.{Tree, Has, tree_at, AreDistinct}
 use Rattle.short_games.specs.Order.{◌≤ᵍ◌, ◌≡ᵍ◌}
-use Rattle.short_games.specs.Number.{IsNumberTree, num, IsNumber, whole, count_tree, number_tree}
+use Rattle.short_games.specs.Number.{IsNumberTree, num, IsNumber, number_tree}
 use Rattle.short_games.specs.TextOrder.{IsCanonicalTree, IsCanonicalFor}
 use Rattle.short_games.specs.inner.Reduction.{KeepsLeft, KeepsRight}
 use Rattle.std.specs.Prelude.{Option, Some, None, Bool, IsTrue, ◌↔◌, unsigned_abs, ◌^◌}
 use Rattle.short_games.specs.Threshold.{IsFloor, IsCeiling}
 use Rattle.std.proofs.lemmas.Int.{ints}
-use Rattle.short_games.proofs.NumberLaws.{num-lt}
+use Rattle.short_games.proofs.AvoidanceLaws.{cheap_left, cheap_right}
 use Rattle.short_games.proofs.TextOrderLaws.{sorted-has, has-sorted}
-use Rattle.short_games.proofs.OrderLaws.{le-trans, le-refl, le-in, size-left, size-right, size-pos}
-use Rattle.short_games.proofs.FormLaws.{by_better, number_between}
+use Rattle.short_games.proofs.OrderLaws.{le-trans, le-refl, same-trans}
+use Rattle.short_games.proofs.FormLaws.{by_better}
 use Rattle.short_games.proofs.ReductionLaws.{form-canonical, number-kept_left, number-kept_right, number-canonical, canonical-same}
 use Rattle.game_store.specs.Meaning.{pick, listed, form, AreIds, AreCanonical, IsAscending, IsIdOf, Extends}
 use Rattle.game_store.proofs.Values.{has-pick}
@@ -29,10 +28,10 @@ use Rattle.dyadic_num.specs.Units.{IsInBounds}
 use Rattle.short_games.specs.Parts.{HasMoreParts, IsOption, IsNumberOf}
 use Rattle.game_canon.specs.Outcomes.{IsCanonicalId, AreOptionsWithin}
 use Rattle.game_canon.specs.inner.Bounds.{IsNear}
-use Rattle.game_canon.proofs.Sizes.{form-number, own-number}
+use Rattle.game_canon.proofs.NumberSizeLaws.{form-number, own-number}
 use Rattle.game_canon.proofs.PartLaws.{number-no_more, listed-option, option-listed}
 use Rattle.game_canon.proofs.GameLaws.{trees-extend, of-beside}
-use Rattle.game_canon.proofs.Reduce.{IsReducing, best-same, equal-trans}
+use Rattle.game_canon.proofs.ReductionLaws.{IsReducing, best-same}
 
 -- the order of the options doesn't matter
 pub listed-form : (Ts : List Tree) (ls rs : List ℕ) → listed Ts ls rs ≡ᵍ form Ts ls rs
@@ -75,38 +74,16 @@ made-id Ts G C id c i = (i.0, subst (IsCanonicalFor G) (sym i.1) c)
 pub made-number : (Ts : List Tree) (G : Tree) (x : ℤ) (id : ℕ) → IsInBounds x × (G ≤ᵍ number_tree x) × (number_tree x ≤ᵍ G) × IsNear G x → IsIdOf Ts (number_tree x) id → IsCanonicalId Ts G id
 made-number Ts G x id e i = made-id Ts G (number_tree x) id record { canonical = number-canonical 60 x; under = e.1; over = e.2 } i
 
--- each game is between two whole numbers
-whole-under : (n : ℕ) (G : Tree) → size G ≤ suc n → num 0 (negsuc n) ≤ᵍ G
-unfolding num whole count_tree neg
-whole-under zero G l = le-in _ _ record { from_left = λ X h y. h; from_right = λ X h y. omega (arith, size-right G X h, size-pos X, l) }
-whole-under (suc n) G l = le-in _ _ record {
-  from_left = λ X h y. h;
-  from_right = λ X h y. num-lt 0 (negsuc (suc n)) (negsuc n) (omega (arith, ints)) (le-trans _ _ _ (whole-under n X (omega (arith, size-right G X h, l))) y);
-}
-
-whole-over : (n : ℕ) (G : Tree) → size G ≤ suc n → G ≤ᵍ num 0 (pos (suc n))
-unfolding num whole count_tree neg
-whole-over zero G l = le-in _ _ record { from_left = λ X h y. omega (arith, size-left G X h, size-pos X, l); from_right = λ X h y. h }
-whole-over (suc n) G l = le-in _ _ record {
-  from_left = λ X h y. num-lt 0 (pos (suc n)) (pos (suc (suc n))) (omega (arith, ints)) (le-trans _ _ _ y (whole-over n X (omega (arith, size-left G X h, l))));
-  from_right = λ X h y. h;
-}
-
--- a game in which one side has no move is a number
-no-left : (G : Tree) → ((X : Tree) → Has (left G) X → ⊥) → IsNumber G
-no-left G h = number_between G 0 (negsuc (suc (size G))) (λ L l y. h L l)
-    (λ R r y. num-lt 0 (negsuc (suc (size G))) (negsuc (size G)) (omega (arith, ints)) (le-trans _ _ _ (whole-under (size G) R (omega (arith, size-right G R r))) y))
-
-no-right : (G : Tree) → ((X : Tree) → Has (right G) X → ⊥) → IsNumber G
-no-right G h = number_between G 0 (pos (suc (suc (size G))))
-    (λ L l y. num-lt 0 (pos (suc (size G))) (pos (suc (suc (size G)))) (omega (arith, ints)) (le-trans _ _ _ y (whole-over (size G) L (omega (arith, size-left G L l)))))
-    (λ R r y. h R r)
-
+-- a game that is no number has a move for each side
 pub some-left : (Ts : List Tree) (vs ws : List ℕ) → (IsNumber (form Ts vs ws) → ⊥) → 0 < length vs
-some-left Ts vs ws n = elim (cases_lt 0 (length vs)) [ inl l ↦ l | inr l ↦ absurd (n (no-left (form Ts vs ws) (λ X h. (let r = has-pick Ts vs X (sorted-has (pick Ts vs) X h) in omega (arith, r.1, l))))) ]
+some-left Ts vs ws n =
+    let l = cheap_left (form Ts vs ws) n 0 (pos 1) (omega (arith, ints)) in
+    let r = has-pick Ts vs l.0 (sorted-has (pick Ts vs) l.0 l.1) in omega (arith, r.1)
 
 pub some-right : (Ts : List Tree) (vs ws : List ℕ) → (IsNumber (form Ts vs ws) → ⊥) → 0 < length ws
-some-right Ts vs ws n = elim (cases_lt 0 (length ws)) [ inl l ↦ l | inr l ↦ absurd (n (no-right (form Ts vs ws) (λ X h. (let r = has-pick Ts ws X (sorted-has (pick Ts ws) X h) in omega (arith, r.1, l))))) ]
+some-right Ts vs ws n =
+    let l = cheap_right (form Ts vs ws) n 0 (pos 1) (omega (arith, ints)) in
+    let r = has-pick Ts ws l.0 (sorted-has (pick Ts ws) l.0 l.1) in omega (arith, r.1)
 
 pub made-not : (G C : Tree) → (IsNumber G → ⊥) → IsCanonicalFor G C → IsNumber C → ⊥
 made-not G C n c k = n (k.0, k.1, le-trans _ _ _ c.under k.2, le-trans _ _ _ k.3 c.over)
@@ -138,15 +115,14 @@ ready Ts G ms ns vs ws c n r d e = subst (λ z. IsReady Ts G z ws) (sym d) (subs
     m = made Ts G ms ns c n r
 
 -- the form that the reduction starts with
-pub starts : (Ts Us : List Tree) (ls rs ms ns : List ℕ) → Us ≡ Ts → AreBest Left Us ls ms → IsAscending ms → AreBest Right Us rs ns → IsAscending ns → StartsWith Ts ls rs ms ns
-starts Ts Us ls rs ms ns e a u b v = at (subst (λ z. AreBest Left z ls ms) e a) (subst (λ z. AreBest Right z rs ns) e b)
-  where
-    at : AreBest Left Ts ls ms → AreBest Right Ts rs ns → StartsWith Ts ls rs ms ns
-    at a b = record {
-      start = record { left_ids = a.ids; right_ids = b.ids; left_ascends = u; right_ascends = v; left_free = a.free; right_free = b.free };
-      same = equal-trans _ (listed Ts ms rs) _ (best-same Left Ts ls rs ms a) (equal-trans _ (listed Ts ms ns) _ (best-same Right Ts rs ms ns b) (listed-form Ts ms ns));
-      among = λ X o. elim (option-listed Ts ms ns X o) [ inl h ↦ inl (a.among X h) | inr h ↦ inr (b.among X h) ];
-    }
+pub starts : (Ts : List Tree) (ls rs ms ns : List ℕ) → AreBest Left Ts ls ms → IsAscending ms → AreBest Right Ts rs ns → IsAscending ns
+    → StartsWith Ts ls rs ms ns
+starts Ts ls rs ms ns a u b v = record {
+  start = record { left_ids = a.ids; right_ids = b.ids; left_ascends = u; right_ascends = v; left_free = a.free; right_free = b.free };
+  same = same-trans _ (listed Ts ms rs) _ (best-same Left Ts ls rs ms a)
+      (same-trans _ (listed Ts ms ns) _ (best-same Right Ts rs ms ns b) (listed-form Ts ms ns));
+  among = λ X o. elim (option-listed Ts ms ns X o) [ inl h ↦ inl (a.among X h) | inr h ↦ inr (b.among X h) ];
+}
 
 pub start-as : (Ts Us : List Tree) (ms ns vs ws : List ℕ) → Us ≡ Ts → vs ≡ ms → ws ≡ ns → IsStart Ts ms ns → IsStart Us vs ws
 start-as Ts Us ms ns vs ws e p q s = subst (λ z. IsStart z vs ws) (sym e) (subst (λ z. IsStart Ts z ws) (sym p) (subst (λ z. IsStart Ts ms z) (sym q) s))
@@ -205,7 +181,7 @@ reduced-of Ts G H ms ns e among r = record {
   right_ids = r.right_ids;
   left_ascends = r.left_ascends;
   right_ascends = r.right_ascends;
-  same = equal-trans _ _ _ e r.same;
+  same = same-trans _ _ _ e r.same;
   left_free = r.left_free;
   right_free = r.right_free;
   comes = λ X o. (let c = r.comes X o in (c.0, among c.0 c.1, c.2));

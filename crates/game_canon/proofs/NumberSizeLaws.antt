@@ -5,32 +5,25 @@ use Rattle.std.proofs.lemmas.Int.{ints, by_lt_z}
 use Rattle.std.proofs.lemmas.Nat.{pow-add, div-add-mod', mod_below}
 use Rattle.dyadic_num.specs.Units.{IsSimplest, IsInside}
 use Rattle.std.proofs.Math.Nat.{mul_assoc}
-use Rattle.short_games.specs.Order.{◌≤ᵍ◌}
 use Rattle.short_games.specs.Tree.{Tree, size}
 use Rattle.short_games.specs.Number.{IsNumberTree, number_tree}
 use Rattle.short_games.specs.Stops.{IsLeftStop, IsRightStop, IsHalf}
 use Rattle.short_games.specs.Parts.{IsOption, IsFollower, IsNumberOf}
 use Rattle.short_games.specs.Parts.IsFollower.{itself, further}
-use Rattle.short_games.proofs.OrderLaws.{size-left, size-right, le-refl}
-use Rattle.short_games.proofs.NumberLaws.{num-lt}
+use Rattle.short_games.proofs.OrderLaws.{size-left, size-right}
+use Rattle.short_games.proofs.WallNumbers.{num-one_to_one}
 use Rattle.short_games.proofs.StopLaws.{left_stop-is, right_stop-is}
 use Rattle.short_games.proofs.StopLaws.StopIs.{of_number, of_game}
 use Rattle.game_canon.specs.inner.Sides.{Comes}
-use Rattle.short_games.proofs.PartLaws.{follower-more, follower-trans, number-follower}
+use Rattle.short_games.proofs.PartLaws.{follower-more, follower-trans, number-follower, option-numbers}
 
 pub number-same : (x y : ℤ) → number_tree x ≡ number_tree y → x ≡ y
-number-same x y e = by_lt_z x y (λ l. absurd (num-lt 60 x y l (subst (λ t. t ≤ᵍ number_tree x) e (le-refl (number_tree x)))))
-    (λ l. by_lt_z y x (λ k. absurd (num-lt 60 y x k (subst (λ t. number_tree x ≤ᵍ t) e (le-refl (number_tree x))))) (λ k. grind (arith, ints)))
+number-same = num-one_to_one 60
 
 -- the one number of a number
 pub own-number : (G : Tree) (x y : ℤ) → G ≡ number_tree x → IsNumberOf G y → y ≡ x
 own-number G x y e (inl i) = number-same y x (sym i ∙ e)
 own-number G x y e (inr p) = absurd (p.1.1 (number-follower G p.0 p.1.0 (60, x, e)))
-
--- a number of an option is a number of the game
-option-number : (G H : Tree) (x : ℤ) → (IsNumberTree G → ⊥) → IsOption G H → IsNumberOf H x → IsNumberOf G x
-option-number G H x n o (inl i) = inr (G, (itself G, n), subst (IsOption G) i o)
-option-number G H x n o (inr p) = inr (p.0, (further G H p.0 o p.1.0, p.1.1), p.2)
 
 -- stops are numbers of the game
 mutual
@@ -38,14 +31,16 @@ mutual
   left-number zero G x l s = absurd (omega (arith, l))
   left-number (suc n) G x l s = elim (left_stop-is 60 G x s) [
     | of_number i ↦ inl i
-    | of_game f g ↦ (let r = g.reached in option-number G r.0 x f (inl r.1) (right-number n r.0 x (omega (arith, l, size-left G r.0 r.1)) r.2))
+    | of_game f g ↦ (let r = g.reached in option-numbers G r.0 x f (inl r.1)
+        (right-number n r.0 x (omega (arith, l, size-left G r.0 r.1)) r.2))
   ]
 
   right-number : (n : ℕ) (G : Tree) (x : ℤ) → size G < n → IsRightStop 60 G x → IsNumberOf G x
   right-number zero G x l s = absurd (omega (arith, l))
   right-number (suc n) G x l s = elim (right_stop-is 60 G x s) [
     | of_number i ↦ inl i
-    | of_game f g ↦ (let r = g.reached in option-number G r.0 x f (inr r.1) (left-number n r.0 x (omega (arith, l, size-right G r.0 r.1)) r.2))
+    | of_game f g ↦ (let r = g.reached in option-numbers G r.0 x f (inr r.1)
+        (left-number n r.0 x (omega (arith, l, size-right G r.0 r.1)) r.2))
   ]
 
 -- so floors and ceilings are within twice the size of the numbers

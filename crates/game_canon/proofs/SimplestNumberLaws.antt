@@ -17,8 +17,8 @@ use Rattle.short_games.proofs.ThresholdLaws.{cell, half-cell, simplest-is, equal
 use Rattle.game_store.specs.Meaning.{listed}
 use Rattle.game_store.proofs.Values.{has-pick, pick-has}
 use Rattle.game_canon.specs.Outcomes.{AreOptionsWithin}
-use Rattle.game_canon.proofs.Sizes.{simplest-within}
-use Rattle.game_canon.proofs.ThresholdSteps.{form-floor, form-ceiling, lower-near, upper-near}
+use Rattle.game_canon.proofs.NumberSizeLaws.{simplest-within}
+use Rattle.game_canon.proofs.ThresholdLaws.{form-floor, form-ceiling, lower-near, upper-near}
 use Rattle.game_canon.specs.inner.Bounds.{AreAllWithin, HasFloorUpTo, HasCeilingFrom, AreAllFrom, AreAllUpTo, AreFloorRange, AreCeilingRange, IsValue, IsWorth, lower, upper}
 use Rattle.game_canon.specs.declared.thresholds.Value.{Value}
 use Rattle.game_canon.specs.declared.thresholds.Value.TheVariants.{Number, PastBounds, NoNumber}
