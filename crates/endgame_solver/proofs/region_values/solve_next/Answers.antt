@@ -17,8 +17,8 @@ pub returns-in-Some-clause-next : goal.returns-in-Some-clause-next
 returns-in-Some-clause-next g c =
     let at = get_or_read c.args.regions.now c.args.number c.index-regions-number.result c.requires.number c.index-regions-number.is no_region in
     let w = c.in_ok-add_view.ensures {u = tt} in
-    rw w.graphs (next_seen c.in-Some.place c.index-known.result.now c.deref.ensures.value c.requires.before c.in-Some.ensures (sym c.index-known.ensures)
-    c.in_ok-kind.ensures.shape c.requires.number c.requires.small at w.view.2 w.more c.add_view.ensures.kept w.forms w.view.1)
+    rw w.graphs (next_seen c.in-Some.place c.index-known.result.now c.deref.ensures.value c.requires.before c.in-Some.ensures
+    (sym c.index-known.ensures) c.in_ok-kind.ensures.shape c.requires.number c.requires.small at w.view.2 w.more c.add_view.ensures.kept w.forms w.view.1)
 
 pub returns-in_err-graph-clause-refusal : goal.returns-in_err-graph-clause-refusal
 returns-in_err-graph-clause-refusal g c =
