@@ -34,13 +34,13 @@ use Rattle.endgame_solver.specs.declared.views.View.{View}
 use Rattle.endgame_solver.proofs.BookkeepingLaws.{own-less, paid-in}
 use Rattle.endgame_solver.proofs.HeldLaws.{decided, fits, kept_applied, kept_stone, present, stone_leads, stone_legal, stone_next, stone_taken}
 
+modest : {m : Purses} → ((c : Colour) → purse c m ≤ 2 ^ 42) → AreModest m
+modest small = record { black = small Black; white = small White }
+
 -- purses of at most 2 ^ 41 stay modest
 module _ {graphs : List Graph} {places : List ℕ} {s : Whole} (room : HasRoom graphs places s) where
   modest_paid : (c : Colour) (n : ℕ) → n < 256 → AreModest (paid_in c n s.purses)
-  modest_paid c n few = record {
-    black = omega (arith, few, room.room Black, paid-in Black c n s.purses, own-less Black c n);
-    white = omega (arith, few, room.room White, paid-in White c n s.purses, own-less White c n);
-  }
+  modest_paid c n few = modest (λ d. omega (arith, few, room.room d, paid-in d c n s.purses, own-less d c n))
 
   modest_spent : (c : Colour) → AreModest (paid_out c s.purses)
   modest_spent Black = record { black = omega (arith, room.room Black); white = omega (arith, room.room White) }
@@ -206,14 +206,6 @@ module _ {regions : List Region} (book : Book) {places : List ℕ} (c : Colour) 
     };
   }
 
-pub none_end : (regions : List Region) (book : Book) (places : List ℕ) (c : Colour) (p n : ℕ) → length regions ≤ n → NoneIn regions book places c p n
-    → (graphs : List Graph) (values : List (List ℕ)) → ShowsAll book graphs values (length regions) → (k : ℕ) (e : Edge) → ¬ IsStoneEdge regions graphs places c p k e
-none_end regions book places c p n le none graphs values shows k e x = none graphs values shows k e (omega (arith, x.known, le)) x
-
-pub asks_small : (regions : List Region) (book : Book) (places : List ℕ) → ShowsPlaces regions book places → (k : ℕ) → k < length regions
-    → (i : ℕ) (edges : List Edge) → edges ≡ edges_at (seen_graph book k).edges i → (f : Edge) → Contains edges f → f.place < 32
-asks_small regions book places shows k lt i edges e f among = (shows.views_are.each k lt).seen.inside i f (subst (λ es. Contains es f) e among)
-
 -- What is read of a region's graph and values in the book is what they are.
 
 -- the same edge of lists that are equal
@@ -276,8 +268,7 @@ module _ {regions : List Region} {book : Book} {places ids : List ℕ} {Ts : Lis
 
   -- the purses are modest, after a point is given back too; and beside modest ones the sum is bounded
   pub held_modest : {m : Purses} → m ≡ s.purses → AreModest m
-  held_modest is =
-      subst AreModest (sym is) record { black = omega (arith, held.kept.room.room Black); white = omega (arith, held.kept.room.room White) }
+  held_modest is = subst AreModest (sym is) (modest (λ c. omega (arith, held.kept.room.room c)))
 
   pub held_spent : {m : Purses} (c : Colour) → m ≡ paid_out c s.purses → AreModest m
   held_spent c is = subst AreModest (sym is) (modest_spent held.kept.room c)

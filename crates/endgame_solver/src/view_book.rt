@@ -157,8 +157,8 @@ fn negatives(alloc: Global, ids: &[GameId], store: &mut Store) -> Result<Values,
     ensures turned { IfOk result (λ turned. AreTurnedValues true store.new ids.now turned) }
     ensures kept { Extends store.old store.new }
 {
-    let mut turned = Values::new(alloc);
     let mut known = vec![in alloc; None; store.len() as usize]?;
+    let mut turned = Values::new(alloc);
     'ids: for id in ids {
         turned.push(negative_of(alloc, store, &mut known, *id)?)?;
     }
