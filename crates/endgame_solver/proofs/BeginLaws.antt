@@ -1,21 +1,17 @@
 -- A board has one list of regions of play; what beginning answers, and what a solved game keeps at the opening.
-use Rattle.std.proofs.Common.{◌≡◌, ℕ, zero, suc, ◌+◌, ◌<◌, ◌≤◌, refl, sym, ap, ◌∙◌, subst, arith, List, [], ◌∷◌, length, get_or, map, ◌*◌, ◌/◌, ◌%◌, ◌↔◌, inl, inr, Bool, true, false, Some, None, ℤ, unsigned_abs, ◌^◌, Err, pos, negsuc, replicate}
-use Rattle.std.specs.List.{Contains, sum_by, All}
+use Rattle.std.proofs.Common.{◌≡◌, ℕ, suc, ◌+◌, ◌<◌, ◌≤◌, refl, sym, ap, ◌∙◌, subst, arith, List, [], ◌∷◌, length, get_or, map, ◌*◌, ◌↔◌, inl, inr, Bool, true, false, Option, Some, None, ℤ, unsigned_abs, ◌^◌, Err, pos, negsuc, replicate, All, AllPairs, Contains, sum_by}
 use Rattle.std.specs.List.Sorted.{IsStrictlyIncreasing}
 use Rattle.std.proofs.lemmas.List.{ext_get_or, get_or-map, get_or_default, length-map, get_or-replicate, length-replicate}
 use Rattle.std.proofs.lemmas.List.Elements.{Contains-get_or}
 use Rattle.std.proofs.lemmas.List.Sums.{sum_by-le}
-use Rattle.std.proofs.lemmas.Map.Keys.{sorted_from_strictly_increasing, below_from_sorted}
+use Rattle.std.proofs.lemmas.List.Kept.{AllPairs-from_increasing}
 use Rattle.go_grid.specs.Board.{Board, NextTo, cell_at}
-use Rattle.go_grid.specs.Region.{Region, AreLinks, IsBeside, IsLink, IsRegion, nothing_near, touch_at}
+use Rattle.go_grid.specs.Region.{Region, AreLinks, IsBeside, IsLink, nothing_near, touch_at}
 use Rattle.go_grid.proofs.WalkLemmas.{joined_back}
 use Rattle.benson_life.specs.Region.{IsContested, InRegionOfPlay}
 use Rattle.region_cut.specs.Cut.{lowest, AreRegionsOfPlay, IsRegionOfPlay}
-use Rattle.game_store.specs.Meaning.{IsAscending}
 use Rattle.endgame_solver.specs.Regions.{no_region, region_at}
-use Rattle.std.specs.Prelude.{Option}
-use Rattle.std.proofs.lemmas.Bool.{cases_order}
-use Rattle.std.proofs.lemmas.Nat.{div-add-mod'}
+use Rattle.go_grid.proofs.LinkLemmas.{linked_to, same_point}
 use Rattle.go_grid.specs.declared.grid.Cell.TheVariants.{Empty}
 use Rattle.go_grid.specs.declared.grid.Colour.TheVariants.{Black, White}
 use Rattle.go_grid.specs.declared.region.Touch.{Touch}
@@ -45,127 +41,59 @@ use Rattle.short_games.specs.Tree.{Tree}
 use Rattle.endgame_solver.specs.inner.Solving.{AreSolvedBelow}
 use Rattle.whole_rules.specs.declared.money.Token.TheVariants as token
 use Rattle.local_value.specs.Values.{IsPlaceOf}
+use Rattle.local_value.proofs.MoveLaws.{contains-cases, contains-head, contains-tail}
 use Rattle.local_value.proofs.PassLaws.{order_short}
 use Rattle.region_cut.proofs.LocalBoardLemmas.{holds_start, point_contested}
 
--- A board has one list of regions of play, as far as their points go.
+-- A board has one list of regions of play.
 
--- two ways of saying that a list ascends
-ascends : (xs : List ℕ) → IsStrictlyIncreasing xs → IsAscending xs
-ascends xs up i j lt short = below_from_sorted xs i j 0 (sorted_from_strictly_increasing xs up) lt short
+-- ascending lists of the same items are the same, whatever number they ascend by
+module _ {X : Type 0} (key : X → ℕ) where
+  abbrev Rises : List X → Type 0
+  Rises xs = AllPairs (λ a b. key a < key b) xs
 
-increases : (xs : List ℕ) → IsAscending xs → IsStrictlyIncreasing xs
-increases xs up k lt = up k (k + 1) (omega arith) lt
+  tail : (x : X) (xs : List X) → Rises (x ∷ xs) → Rises xs
+  tail x xs up i j d lt short = up (suc i) (suc j) d (omega (arith, lt)) (omega (arith, short))
 
-tail : (x : ℕ) (xs : List ℕ) → IsAscending (x ∷ xs) → IsAscending xs
-tail x xs up i j lt short = up (suc i) (suc j) (omega (arith, lt)) (omega (arith, short))
+  above : (x : X) (xs : List X) (p : X) → Rises (x ∷ xs) → Contains xs p → key x < key p
+  above x xs p up (k, short, at) = subst (λ q. key x < key q) at (up 0 (suc k) p (omega arith) (omega (arith, short)))
 
-above : (x : ℕ) (xs : List ℕ) (p : ℕ) → IsAscending (x ∷ xs) → Contains xs p → x < p
-above x xs p up (k, short, at) =
-    let later : x < get_or xs k 0 = up 0 (suc k) (omega arith) (omega (arith, short)) in
-    omega (arith, later, get_or_default xs k 0 p short, at)
-
--- ascending lists of the same numbers are the same
-one_list : (xs ys : List ℕ) → IsAscending xs → IsAscending ys → ((p : ℕ) → Contains xs p → Contains ys p)
-    → ((p : ℕ) → Contains ys p → Contains xs p) → xs ≡ ys
-one_list [] [] a b f g = refl
-one_list [] (y ∷ ys) a b f g = absurd (let w = g y (0, omega arith, refl) in omega (arith, w.1))
-one_list (x ∷ xs) [] a b f g = absurd (let w = f x (0, omega arith, refl) in omega (arith, w.1))
-one_list (x ∷ xs) (y ∷ ys) a b f g =
-    let low = least x y ys b (f x (0, omega arith, refl)) in
-    let high = least y x xs a (g y (0, omega arith, refl)) in
-    let same : x ≡ y = omega (arith, low, high) in
-    λ i. same i ∷ one_list xs ys (tail x xs a) (tail y ys b)
-    (λ p h. later y ys p (f p (further x xs p h)) (let w = above x xs p a h in omega (arith, same, w)))
-    (λ p h. later x xs p (g p (further y ys p h)) (let w = above y ys p b h in omega (arith, same, w))) i
-  where
-    further : (z : ℕ) (zs : List ℕ) (p : ℕ) → Contains zs p → Contains (z ∷ zs) p
-    further z zs p (k, short, at) = (suc k, omega (arith, short), at)
-
-    least : (p z : ℕ) (zs : List ℕ) → IsAscending (z ∷ zs) → Contains (z ∷ zs) p → z ≤ p
-    least p z zs up (zero, short, at) = omega (arith, at)
-    least p z zs up (suc k, short, at) = let w = above z zs p up (k, omega (arith, short), at) in omega (arith, w)
-
-    later : (z : ℕ) (zs : List ℕ) (p : ℕ) → Contains (z ∷ zs) p → z < p → Contains zs p
-    later z zs p (zero, short, at) less = absurd (omega (arith, at, less))
-    later z zs p (suc k, short, at) less = (k, omega (arith, short), at)
-
-module _ (g : Board) (rs : List Region) (are : AreRegionsOfPlay g rs) where
-  -- the lowest point of a region is contested
-  low_contested : (r : Region) → Contains rs r → IsContested g (lowest r)
-  low_contested r h = let play = are.each r h in point_contested g r play (lowest r) (Contains-get_or r.points 0 0 play.proper.some)
-
-  lows_ascend : IsAscending (map lowest rs)
-  lows_ascend i j lt short =
-      let inside : j < length rs = omega (arith, short, length-map rs lowest) in
-      let before : i < length rs = omega (arith, lt, inside) in
-      let less = are.ascending i j no_region lt inside in
-      omega (arith, less, get_or-map lowest rs i no_region 0 before, get_or-map lowest rs j no_region 0 inside)
-
--- the lowest points of one list are among those of the other
-module _ (g : Board) (rs ss : List Region) (a : AreRegionsOfPlay g rs) (b : AreRegionsOfPlay g ss) where
-  low_of : (r : Region) → Contains rs r → (s : Region) × Contains ss s × (lowest s ≡ lowest r)
-  low_of r h =
-      let p = lowest r in
-      let (s, among, inside) = b.every p (low_contested g rs a r h) in
-      let to : InRegionOfPlay g (lowest s) p = ((b.each s among).points p).0 inside in
-      let back : InRegionOfPlay g p (lowest s) = joined_back g.columns (IsContested g) (lowest s) p to in
-      let low = (a.each r h).first (lowest s) (((a.each r h).points (lowest s)).1 back) in
-      let high = (b.each s among).first p inside in
-      (s, among, omega (arith, low, high))
-
-  lows_among : (p : ℕ) → Contains (map lowest rs) p → Contains (map lowest ss) p
-  lows_among p (k, short, at) =
-      let inside : k < length rs = omega (arith, short, length-map rs lowest) in
-      let is : p ≡ lowest (region_at rs k) = sym at ∙ get_or-map lowest rs k no_region p inside in
-      let (s, (j, known, here), same) = low_of (region_at rs k) (Contains-get_or rs k no_region inside) in
-      let there : get_or (map lowest ss) j p ≡ p = get_or-map lowest ss j s p known ∙ ap lowest here ∙ same ∙ sym is in
-      (j, omega (arith, known, length-map ss lowest), there)
-
-module _ (g : Board) (rs ss : List Region) (a : AreRegionsOfPlay g rs) (b : AreRegionsOfPlay g ss) where
-  same_lows : map lowest rs ≡ map lowest ss
-  same_lows = one_list (map lowest rs) (map lowest ss) (lows_ascend g rs a) (lows_ascend g ss b) (lows_among g rs ss a b) (lows_among g ss rs b a)
-
-  same_count : length rs ≡ length ss
-  same_count = sym (length-map rs lowest) ∙ ap length same_lows ∙ length-map ss lowest
-
-  same_points : (k : ℕ) → k < length rs → (region_at rs k).points ≡ (region_at ss k).points
-  same_points k lt =
-      let r = region_at rs k in
-      let s = region_at ss k in
-      let lt' : k < length ss = omega (arith, lt, same_count) in
-      let h = Contains-get_or rs k no_region lt in
-      let h' = Contains-get_or ss k no_region lt' in
-      let same : lowest r ≡ lowest s = sym (get_or-map lowest rs k no_region 0 lt) ∙ ap (λ xs. get_or xs k 0) same_lows ∙ get_or-map lowest ss k no_region 0 lt' in
-      one_list r.points s.points (ascends r.points (a.each r h).proper.ascending) (ascends s.points (b.each s h').proper.ascending)
-      (λ p i. ((b.each s h').points p).1 (subst (λ z. InRegionOfPlay g z p) same (((a.each r h).points p).0 i)))
-      (λ p i. ((a.each r h).points p).1 (subst (λ z. InRegionOfPlay g z p) (sym same) (((b.each s h').points p).0 i)))
-
--- And so it has one list of regions.
-
--- a point is given by its row and its column
-same_point : (c p q : ℕ) → p / c ≡ q / c → p % c ≡ q % c → p ≡ q
-same_point c p q rows columns = sym (div-add-mod' p c) ∙ ap (λ n. n * c + p % c) rows ∙ ap (λ n. q / c * c + n) columns ∙ div-add-mod' q c
+  one_list : (xs ys : List X) → Rises xs → Rises ys → ((p : X) → Contains xs p → Contains ys p)
+      → ((p : X) → Contains ys p → Contains xs p) → xs ≡ ys
+  one_list [] [] a b f g = refl
+  one_list [] (y ∷ ys) a b f g = absurd (let w = g y (contains-head X y ys) in omega (arith, w.1))
+  one_list (x ∷ xs) [] a b f g = absurd (let w = f x (contains-head X x xs) in omega (arith, w.1))
+  one_list (x ∷ xs) (y ∷ ys) a b f g =
+      let same : y ≡ x = elim (contains-cases X y x ys (f x (contains-head X x xs))) as (λ _. y ≡ x) [
+        | inl e ↦ e
+        | inr late ↦ elim (contains-cases X x y xs (g y (contains-head X y ys))) as (λ _. y ≡ x) [
+          | inl e ↦ sym e
+          | inr later ↦ absurd (omega (arith, above x xs y a later, above y ys x b late))
+        ]
+      ] in
+      let equal = ap key same in
+      λ i. sym same i ∷ one_list xs ys (tail x xs a) (tail y ys b)
+      (λ p h. rest y ys p (f p (contains-tail X x p xs h)) (omega (arith, above x xs p a h, equal)))
+      (λ p h. rest x xs p (g p (contains-tail X y p ys h)) (omega (arith, above y ys p b h, equal))) i
+    where
+      rest : (z : X) (zs : List X) (p : X) → Contains (z ∷ zs) p → key z < key p → Contains zs p
+      rest z zs p c less = elim (contains-cases X z p zs c) as (λ _. Contains zs p) [
+        | inl e ↦ absurd (omega (arith, less, ap key e))
+        | inr later ↦ later
+      ]
 
 -- a list without repeats has one link to a point
-one_link : (points : List ℕ) (Near : ℕ → Type 0) (o u : Option ℕ) → IsStrictlyIncreasing points → ((p q : ℕ) → Near p → Near q → p ≡ q) → IsLink points Near o → IsLink points Near u → o ≡ u
+one_link : (points : List ℕ) (Near : ℕ → Type 0) (o u : Option ℕ) → IsStrictlyIncreasing points → ((p q : ℕ) → Near p → Near q → p ≡ q)
+    → IsLink points Near o → IsLink points Near u → o ≡ u
 one_link points Near None None up one a b = refl
-one_link points Near None (Some j) up one a b = absurd (a (get_or points j 0) (Contains-get_or points j 0 b.0) b.1)
-one_link points Near (Some i) None up one a b = absurd (b (get_or points i 0) (Contains-get_or points i 0 a.0) a.1)
-one_link points Near (Some i) (Some j) up one a b =
-    let same = one (get_or points i 0) (get_or points j 0) a.1 b.1 in
-    elim (cases_order i j) as (λ _. Path (Option ℕ) (Some i) (Some j)) [
-      | inl e ↦ ap Some e
-      | inr (inl less) ↦ absurd (let w = below_from_sorted points i j 0 (sorted_from_strictly_increasing points up) less b.0 in omega (arith, w, same))
-      | inr (inr more) ↦ absurd (let w = below_from_sorted points j i 0 (sorted_from_strictly_increasing points up) more a.0 in omega (arith, w, same))
-    ]
+one_link points Near (Some i) None up one a b = sym (linked_to points Near None i up b one a.0 a.1)
+one_link points Near o (Some j) up one a b = linked_to points Near o j up a one b.0 b.1
 
 -- a mark is given by what it stands for
 one_mark : (P : Type 0) (a b : Bool) → (a ≡ true) ↔ P → (b ≡ true) ↔ P → a ≡ b
-one_mark P true true f g = refl
+one_mark P true b f g = sym (g.1 (f.0 refl))
+one_mark P false true f g = f.1 (g.0 refl)
 one_mark P false false f g = refl
-one_mark P true false f g = absurd (let e = g.1 (f.0 refl) in cc)
-one_mark P false true f g = absurd (let e = f.1 (g.0 refl) in cc)
 
 -- what is next to a point
 one_touch : (c : ℕ) (points : List ℕ) (p : ℕ) (B W : Type 0) (t u : Touch) → IsStrictlyIncreasing points → AreLinks c points p t → AreLinks c points p u
@@ -173,16 +101,17 @@ one_touch : (c : ℕ) (points : List ℕ) (p : ℕ) (B W : Type 0) (t u : Touch)
 one_touch c points p B W t u up a b tb ub tw uw =
     let black = one_mark B t.black u.black tb ub in
     let white = one_mark W t.white u.white tw uw in
-    let above = one_link points _ t.up u.up up (λ q r x y. same_point c q r (omega (arith, x.0, y.0)) (x.1 ∙ sym y.1)) a.up b.up in
+    let over = one_link points _ t.up u.up up (λ q r x y. same_point c q r (omega (arith, x.0, y.0)) (x.1 ∙ sym y.1)) a.up b.up in
     let before = one_link points _ t.left u.left up (λ q r x y. same_point c q r (x.0 ∙ sym y.0) (omega (arith, x.1, y.1))) a.left b.left in
     let after = one_link points _ t.right u.right up (λ q r x y. same_point c q r (sym x.0 ∙ y.0) (sym x.1 ∙ y.1)) a.right b.right in
     let below = one_link points _ t.down u.down up (λ q r x y. same_point c q r (sym x.0 ∙ y.0) (sym x.1 ∙ y.1)) a.down b.down in
-    λ i. record { black = black i; white = white i; up = above i; left = before i; right = after i; down = below i }
+    λ i. record { black = black i; white = white i; up = over i; left = before i; right = after i; down = below i }
 
 -- a region of play is given by its points
-one_shape : (g : Board) (r s : Region) → IsRegionOfPlay g r → IsRegionOfPlay g s → IsRegion r.columns r.rows r.points r.cells r.touch → IsRegion s.columns s.rows s.points s.cells s.touch
-    → r.points ≡ s.points → r ≡ s
-one_shape g r s a b m n points =
+one_shape : (g : Board) (r s : Region) → IsRegionOfPlay g r → IsRegionOfPlay g s → r.points ≡ s.points → r ≡ s
+one_shape g r s a b points =
+    let m = a.proper in
+    let n = b.proper in
     let columns = a.columns ∙ sym b.columns in
     let rows = a.rows ∙ sym b.rows in
     let point : (k : ℕ) → get_or r.points k 0 ≡ get_or s.points k 0 = λ k. ap (λ l. get_or l k 0) points in
@@ -201,11 +130,32 @@ one_shape g r s a b m n points =
     (a.walls k Black here) (there_too Black k there) (a.walls k White here) (there_too White k there)) in
     λ i. record { columns = columns i; rows = rows i; points = points i; cells = cells i; touch = touch i }
 
+-- and these by the lowest of them
+same_points : (g : Board) (r s : Region) → IsRegionOfPlay g r → IsRegionOfPlay g s → lowest r ≡ lowest s → r.points ≡ s.points
+same_points g r s a b low = one_list (λ p. p) r.points s.points
+    (AllPairs-from_increasing r.points a.proper.ascending) (AllPairs-from_increasing s.points b.proper.ascending)
+    (λ p i. (b.points p).1 (subst (λ z. InRegionOfPlay g z p) low ((a.points p).0 i)))
+    (λ p i. (a.points p).1 (subst (λ z. InRegionOfPlay g z p) (sym low) ((b.points p).0 i)))
+
+-- the lowest point of a region is contested
+low_contested : (g : Board) (rs : List Region) → AreRegionsOfPlay g rs → (r : Region) → Contains rs r → IsContested g (lowest r)
+low_contested g rs are r h = let play = are.each r h in point_contested g r play (lowest r) (Contains-get_or r.points 0 0 play.proper.some)
+
+-- the regions of one list are among those of the other
+among_others : {g : Board} {rs ss : List Region} → AreRegionsOfPlay g rs → AreRegionsOfPlay g ss → (r : Region) → Contains rs r
+    → Contains ss r
+among_others {g} {rs} {ss} a b r h =
+    let p = lowest r in
+    let (s, among, inside) = b.every p (low_contested g rs a r h) in
+    let to : InRegionOfPlay g (lowest s) p = ((b.each s among).points p).0 inside in
+    let back : InRegionOfPlay g p (lowest s) = joined_back g.columns (IsContested g) (lowest s) p to in
+    let low = (a.each r h).first (lowest s) (((a.each r h).points (lowest s)).1 back) in
+    let high = (b.each s among).first p inside in
+    let points = same_points g s r (b.each s among) (a.each r h) (omega (arith, low, high)) in
+    subst (Contains ss) (one_shape g s r (b.each s among) (a.each r h) points) among
+
 pub one_regions : (g : Board) (rs ss : List Region) → AreRegionsOfPlay g rs → AreRegionsOfPlay g ss → rs ≡ ss
-one_regions g rs ss a b = ext_get_or no_region rs ss (same_count g rs ss a b) (λ k lt.
-    let h = Contains-get_or rs k no_region lt in
-    let h' = Contains-get_or ss k no_region (omega (arith, lt, same_count g rs ss a b)) in
-    one_shape g (region_at rs k) (region_at ss k) (a.each _ h) (b.each _ h') (a.each _ h).proper (b.each _ h').proper (same_points g rs ss a b k lt))
+one_regions g rs ss a b = one_list lowest rs ss a.ascending b.ascending (among_others a b) (among_others b a)
 
 -- What beginning answers, and how many steps it takes, whatever list of the board's regions is meant.
 pub steps_within : (limits : Limits) (start : ℕ) {g : Board} {rs lent : List Region} {now : ℕ} → AreRegionsOfPlay g rs → lent ≡ rs
@@ -294,9 +244,16 @@ room_at_start graphs places s many among short few = record {
 -- a board has no more regions than points
 few_regions : (g : Board) (regions : List Region) → AreRegionsOfPlay g regions → length g.cells ≤ 625 → length regions ≤ 625
 few_regions g regions are few =
-    let bound = short (map lowest regions) (length g.cells) (increases (map lowest regions) (lows_ascend g regions are)) inside in
+    let bound = short (map lowest regions) (length g.cells) rises inside in
     omega (arith, bound, few, length-map regions lowest)
   where
+    rises : IsStrictlyIncreasing (map lowest regions)
+    rises k lt =
+        let next : k + 1 < length regions = omega (arith, lt, length-map regions lowest) in
+        let here : k < length regions = omega (arith, next) in
+        let less = are.ascending k (k + 1) no_region (omega arith) next in
+        omega (arith, less, get_or-map lowest regions k no_region 0 here, get_or-map lowest regions (k + 1) no_region 0 next)
+
     inside : All (λ p. p < length g.cells) (map lowest regions)
     inside k d lt =
         let known : k < length regions = omega (arith, lt, length-map regions lowest) in

@@ -1,10 +1,9 @@
 -- Where a pairing carries one local position onto another: their local moves are paired, and take as many stones; it carries what is
 -- reached from the one onto what is reached from the other; and their trees are equal, or the one is the negative of the other.
-use Rattle.std.proofs.Common.{◌≡◌, ◌≢◌, ℕ, zero, suc, pos, neg_ℤ, ◌<◌, ◌≤◌, ◌⊎◌, inl, inr, refl, sym, ap, ◌∙◌, subst, arith, List, [], ◌∷◌, ◌++◌, length, set, take, drop, length-drop, Bool, true, false, Some}
-use Rattle.std.specs.Prelude.{cond, count_by}
+use Rattle.std.proofs.Common.{◌≡◌, ◌≢◌, ℕ, zero, suc, pos, neg_ℤ, ◌<◌, ◌≤◌, inl, inr, refl, sym, ap, ◌∙◌, subst, arith, List, [], ◌∷◌, ◌++◌, length, set, take, drop, length-drop, Bool, true, false, Some, cond, count_by}
 use Rattle.std.proofs.Math.IntN.{neg_ℤ-neg_ℤ}
 use Rattle.std.proofs.Math.Seq.{take-append_seam, drop-append_seam}
-use Rattle.std.proofs.lemmas.Bool.{cases_eq, cases_lt, true≢false}
+use Rattle.std.proofs.lemmas.Bool.{cases_Bool, cases_eq, cases_lt, true≢false}
 use Rattle.std.proofs.lemmas.List.{ext_get_or, get_or_past, get_or-set_same, get_or-set_other, length-append, length-set}
 use Rattle.std.proofs.lemmas.List.Sums.{sum_by-cons, sum_by-set}
 use Rattle.go_grid.specs.declared.grid.Cell.{Cell}
@@ -61,7 +60,7 @@ other_after false c = refl
 other_after true c = refl
 
 -- a link in a direction
-link_in : (touch : List Touch) (i k : ℕ) (d : Direction) → link (touch_at touch i) d ≡ Some k → IsLinked touch i k
+pub link_in : (touch : List Touch) (i k : ℕ) (d : Direction) → link (touch_at touch i) d ≡ Some k → IsLinked touch i k
 link_in touch i k up e = inl e
 link_in touch i k left e = inr (inl e)
 link_in touch i k right e = inr (inr (inl e))
@@ -77,11 +76,6 @@ direction_of touch i k (inr (inr (inr e))) = (down, e)
 abbrev weight : Cell → ℕ
 weight x = cond (is_stone x) 1 0
 
-stone_or_not : (x : Cell) → (is_stone x ≡ true) ⊎ (is_stone x ≡ false)
-stone_or_not cell.Empty = inr refl
-stone_or_not cell.Black = inl refl
-stone_or_not cell.White = inl refl
-
 stone_within : (b : List Cell) (j : ℕ) → is_stone (held_at b j) ≡ true → j < length b
 stone_within b j e = elim (cases_lt j (length b)) as (λ _. j < length b) [
   | inl lt ↦ lt
@@ -92,7 +86,7 @@ stone_within b j e = elim (cases_lt j (length b)) as (λ _. j < length b) [
 count_over : (a b : List Cell) (R : ℕ → ℕ → Type 0) → ((i : ℕ) → is_stone (held_at a i) ≡ true → (j : ℕ) × R i j × (is_stone (held_at b j) ≡ true))
     → ((i k j : ℕ) → R i j → R k j → i ≡ k) → count_by is_stone a ≤ count_by is_stone b
 count_over [] b R there one = omega arith
-count_over (x ∷ a) b R there one = elim (stone_or_not x) as (λ _. count_by is_stone (x ∷ a) ≤ count_by is_stone b) [
+count_over (x ∷ a) b R there one = elim (cases_Bool (is_stone x)) as (λ _. count_by is_stone (x ∷ a) ≤ count_by is_stone b) [
   | inl some ↦
       let (j, r, stands) = there 0 some in
       let lt = stone_within b j stands in
@@ -224,9 +218,6 @@ module _ {touch touch' : List Touch} {Paired : ℕ → ℕ → Type 0} {colours 
       m.carries.held i j p ∙ sym (n.carries.held i j p))
 
 module _ {touch touch' : List Touch} {Paired : ℕ → ℕ → Type 0} {colours : Bool} {a b : List Cell} (m : Matched touch touch' Paired colours a b) where
-  free_back : (c : Colour) (i j : ℕ) → Paired i j → IsFree touch' b (colour_after colours c) j → IsFree touch a c i
-  free_back c i j p free = subst (λ d. IsFree touch a d i) (colour_back colours c) (free_over (matched_back m) (colour_after colours c) j i p free)
-
   removed_over : (d : Colour) (p q j l : ℕ) → Paired p q → Paired j l → IsRemoved touch a p d j → IsRemoved touch' b q (colour_after colours d) l
   removed_over d p q j l at there (i, link, chain, bound) =
       let own = leads_start (IsLinked touch) (Holds a d) i j chain in
@@ -236,7 +227,8 @@ module _ {touch touch' : List Touch} {Paired : ℕ → ℕ → Type 0} {colours 
         k,
         linked_over m p q i k at r link,
         subst (InLocalChain touch' b (colour_after colours d) k) same chain',
-        λ free. bound (free_back d i k r free),
+        λ free. bound (subst (λ e. IsFree touch a e i) (colour_back colours d)
+            (free_over (matched_back m) (colour_after colours d) k i r free)),
       )
 
   count_same : count_by is_stone b ≡ count_by is_stone a

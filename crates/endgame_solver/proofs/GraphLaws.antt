@@ -1,9 +1,7 @@
 -- What a region's graph and values say of it; and where a pairing carries one opening onto another, the first region's graph and values,
 -- turned, are those of the second.
-use Rattle.std.proofs.Common.{◌≡◌, ℕ, ◌*◌, ◌^◌, ◌<◌, ◌≤◌, inl, inr, sym, ◌∙◌, subst, arith, List, [], ◌∷◌, ◌++◌, length, get_or, take, drop, true, false, zero, suc, ◌+◌, ◌⊎◌, refl, ap, map, Contains, Bool}
+use Rattle.std.proofs.Common.{◌≡◌, ℕ, ◌*◌, ◌^◌, ◌<◌, ◌≤◌, inl, inr, sym, ◌∙◌, subst, arith, List, [], ◌∷◌, ◌++◌, length, get_or, take, drop, true, false, zero, suc, ◌+◌, ◌⊎◌, refl, ap, map, Contains, Bool, All, AllPairs, mul-le-mul, mul-le-mul_right}
 use Rattle.local_graph.specs.declared.graph.TheConstants.{MOST_POSITIONS}
-use Rattle.std.specs.List.{All, AllPairs, Contains}
-use Rattle.std.proofs.Math.Nat.{mul-le-mul, mul-le-mul_right}
 use Rattle.std.proofs.lemmas.Bool.{cases_lt, cases_eq}
 use Rattle.std.proofs.lemmas.List.{get_or_default, take-append-drop, get_or-map, length-map}
 use Rattle.std.proofs.lemmas.List.Elements.{All-cons, All-nil, All-weaker, Contains-get_or, Contains-append_left, Contains-push, Contains-push_cases}
@@ -122,12 +120,8 @@ abbrev key_of : Colour → ℕ → ℕ
 key_of Black n = n
 key_of White n = 32 + n
 
-key : Edge → ℕ
+abbrev key : Edge → ℕ
 key e = key_of e.colour e.place
-
-key_is : (e : Edge) → key e ≡ key_of e.colour e.place
-unfolding key
-key_is e = refl
 
 key_small : (c : Colour) (n : ℕ) → n < 32 → key_of c n < 64
 key_small Black n lt = omega (arith, lt)
@@ -166,26 +160,19 @@ module _ {q : Region} (r : Region) {h : Graph} {Paired : ℕ → ℕ → Type 0}
     reached : IsReachable r.touch r.cells turned
     number : n ≡ pack turned
 
+  -- the numbers of the turned positions, one for each place
   all : (ns : List ℕ) × (length ns ≡ length h.positions) × ((i : ℕ) → i < length h.positions → AtPlace i (get_or ns i 0))
   all = chosen 0 AtPlace (length h.positions) (λ i lt.
       let (cells, has) = position_at q h of i lt in
       let (turned, reached, matched) = reach_matched opening cells has.reachable in
       (pack turned, record { cells = cells; has = has; turned = turned; matched = matched; reached = reached; number = refl }))
 
-  positions : List ℕ
+  abbrev positions : List ℕ
   positions = all.0
-
-  many : length positions ≡ length h.positions
-  unfolding positions
-  many = all.1
-
-  at : (i : ℕ) → i < length h.positions → AtPlace i (get_or positions i 0)
-  unfolding positions
-  at = all.2
 
   at_number : (i : ℕ) (a b : List Cell) → IsPlaceOf q h i a → Onto a b → get_or positions i 0 ≡ pack b
   at_number i a b has m =
-      let w = at i has.inside in
+      let w = all.2 i has.inside in
       let same : w.cells ≡ a = pack_same w.cells a (long w.cells w.has.reachable ∙ sym (long a has.reachable)) (sym w.has.packed ∙ has.packed) in
       w.number ∙ ap pack (matched_one (subst (λ x. Onto x w.turned) same w.matched) m)
 
@@ -232,7 +219,7 @@ module _ {q : Region} (r : Region) {h : Graph} {Paired : ℕ → ℕ → Type 0}
   own_place i f among =
       let (cells, has) = cells_at q h of i f among in
       let (a, m, e) = move_of q h of i cells f has among in
-      let w = at i has.inside in
+      let w = all.2 i has.inside in
       let lt : f.place < length q.cells = omega (arith, m.place, long cells has.reachable) in
       let (p, paired) = opening.carries.first f.place (omega (arith, lt, opening.linked.full)) in
       let inside = (opening.carries.inside f.place p paired).1 in
@@ -302,12 +289,10 @@ module _ {q : Region} (r : Region) {h : Graph} {Paired : ℕ → ℕ → Type 0}
       → (g : Edge) × Contains es g × (g.colour ≡ colour_after v.colours f.colour) × (g.place ≡ get_or v.places f.place 0)
   among_sorted i es s f among =
       let small = own_small i f among in
-      let (g, there, same) = s.to f among (subst (λ z. z < 64) (sym (key_is (own v f))) (key_small _ _ small)) in
+      let (g, there, same) = s.to f among (key_small _ _ small) in
       let (f', among', is, less) = s.from g there in
       let small' : g.place < 32 = subst (λ e. e.place < 32) (sym is) (own_small i f' among') in
-      let keys : key_of g.colour g.place ≡ key_of (colour_after v.colours f.colour) (get_or v.places f.place 0) = sym (key_is g) ∙ same ∙ key_is
-      (own v f) in
-      let (colour, place) = same_key _ _ _ _ small' small keys in
+      let (colour, place) = same_key _ _ _ _ small' small same in
       (g, there, colour, place)
 
   abbrev move_for : Edge → LocalMove
@@ -341,9 +326,8 @@ module _ {q : Region} (r : Region) {h : Graph} {Paired : ℕ → ℕ → Type 0}
           let first : j < length es = omega (arith, lt, last) in
           let a = get_or es j no_edge in
           let b = get_or es k no_edge in
-          let less = subst (λ z. z < key b) (key_is a) (s.rising j k no_edge lt last) in
           rw (get_or-map move_for es j no_edge d first, get_or-map move_for es k no_edge d last)
-          (key_before a.colour b.colour a.place b.place (item_small j first) (item_small k last) (subst (λ z. key_of a.colour a.place < z) (key_is b) less));
+          (key_before a.colour b.colour a.place b.place (item_small j first) (item_small k last) (s.rising j k no_edge lt last));
     }
 
     are_edges : AreEdges positions (map move_for es) es
@@ -353,7 +337,7 @@ module _ {q : Region} (r : Region) {h : Graph} {Paired : ℕ → ℕ → Type 0}
           let (f, among, same, less) = s.from e (k, lt, is') in
           let (cells, has) = cells_at q h of i f among in
           let (a, move, edge) = move_of q h of i cells f has among in
-          let inside : e.next < length positions = subst (λ y. y.next < length positions) (sym same) (omega (arith, edge.inside, many)) in
+          let inside : e.next < length positions = subst (λ y. y.next < length positions) (sym same) (omega (arith, edge.inside, all.1)) in
           subst (λ m. IsEdgeOf positions m e) (ap move_for (sym is') ∙ sym (get_or-map move_for es k e m lt) ∙ is)
           record { colour = refl; place = refl; taken = refl; inside = inside; next = refl },
     )
@@ -361,71 +345,62 @@ module _ {q : Region} (r : Region) {h : Graph} {Paired : ℕ → ℕ → Type 0}
     has_moves : HasMoves r.touch w.turned positions es
     has_moves = (map move_for es, lists, are_edges)
 
+  -- the turned edges, in their order, of each place
   lists_all : (es : List (List Edge)) × (length es ≡ length h.positions) × ((i : ℕ) → i < length h.positions → Sorted i 64 (get_or es i []))
   lists_all = chosen [] (λ i es. Sorted i 64 es) (length h.positions) (λ i lt. sorted i 64)
 
-  edges : List (List Edge)
+  abbrev edges : List (List Edge)
   edges = lists_all.0
 
-  many_edges : length edges ≡ length h.positions
-  unfolding edges
-  many_edges = lists_all.1
-
-  edges_of : (i : ℕ) → i < length h.positions → Sorted i 64 (edges_at edges i)
-  unfolding edges
-  edges_of = lists_all.2
-
-  graph : Graph
+  abbrev graph : Graph
   graph = record { positions = positions; edges = edges; order = h.order }
 
   graph_is : IsGraph r.touch r.cells positions edges
   graph_is = record {
-    some = omega (arith, of.graph.some, many);
+    some = omega (arith, of.graph.some, all.1);
     first = at_number 0 q.cells r.cells (record { inside = of.graph.some; reachable = ([], refl); packed = of.graph.first }) opening;
     once = λ j k d lt short e.
-        let last : k < length h.positions = omega (arith, short, many) in
+        let last : k < length h.positions = omega (arith, short, all.1) in
         let first : j < length h.positions = omega (arith, lt, last) in
-        let a = at j first in
-        let b = at k last in
-        let numbers = get_or_default positions j 0 d (omega (arith, first, many)) ∙ e ∙ sym (get_or_default positions k 0 d short) in
+        let a = all.2 j first in
+        let b = all.2 k last in
+        let numbers = get_or_default positions j 0 d (omega (arith, first, all.1)) ∙ e ∙ sym (get_or_default positions k 0 d short) in
         let same = pack_same a.turned b.turned (turned_long a.turned a.reached ∙ sym (turned_long b.turned b.reached)) (sym a.number ∙ numbers ∙ b.number) in
         let cells = matched_one (matched_back a.matched) (matched_back (subst (Onto b.cells) (sym same) b.matched)) in
         of.graph.once j k 0 lt last (a.has.packed ∙ ap pack cells ∙ sym b.has.packed);
     reachable = λ n (i, lt, is).
-        let w = at i (omega (arith, lt, many)) in
+        let w = all.2 i (omega (arith, lt, all.1)) in
         (w.turned, w.reached, sym is ∙ sym (get_or_default positions i 0 n lt) ∙ w.number);
     all = λ b reach.
         let (i, a, has, m) = place_of b reach in
-        let lt : i < length positions = omega (arith, has.inside, many) in
+        let lt : i < length positions = omega (arith, has.inside, all.1) in
         (i, lt, sym (get_or_default positions i 0 (pack b) lt) ∙ at_number i a b has m);
-    beside = many_edges ∙ sym many;
+    beside = lists_all.1 ∙ sym all.1;
     moves = λ i b lt reach is.
-        let inside : i < length h.positions = omega (arith, lt, many) in
-        let w = at i inside in
+        let inside : i < length h.positions = omega (arith, lt, all.1) in
+        let w = all.2 i inside in
         let same = pack_same w.turned b (turned_long w.turned w.reached ∙ sym (turned_long b reach)) (sym w.number ∙ is) in
-        subst (λ x. HasMoves r.touch x positions (edges_at edges i)) same (has_moves i (get_or positions i 0) w (edges_at edges i) (edges_of i inside));
+        subst (λ x. HasMoves r.touch x positions (edges_at edges i)) same (has_moves i (get_or positions i 0) w (edges_at edges i) (lists_all.2 i inside));
   }
 
   position_of : (i : ℕ) (b : List Cell) → IsPlaceOf r graph i b → (a : List Cell) × IsPlaceOf q h i a × Onto a b
-  unfolding graph
   position_of i b has =
-      let w = at i (omega (arith, has.inside, many)) in
+      let w = all.2 i (omega (arith, has.inside, all.1)) in
       let same = pack_same w.turned b (turned_long w.turned w.reached ∙ sym (turned_long b has.reachable)) (sym w.number ∙ has.packed) in
       (w.cells, w.has, subst (Onto w.cells) same w.matched)
 
   seen : Serves v h graph
-  unfolding graph
   seen = record {
-    as_many = many;
+    as_many = all.1;
     inside = λ i f among. omega (arith, (own_place i f among).0, of.few);
     moves = λ i e. (
       λ (j, lt, is).
-          let inside : i < length h.positions = omega (arith, node_inside edges i j lt, many_edges) in
-          let (f, among, same, less) = (edges_of i inside).from e (j, lt, is) in
+          let inside : i < length h.positions = omega (arith, node_inside edges i j lt, lists_all.1) in
+          let (f, among, same, less) = (lists_all.2 i inside).from e (j, lt, is) in
           (f, among, same),
       λ (f, among, is).
           let inside : i < length h.positions = omega (arith, node_inside h.edges i among.0 among.1, of.graph.beside) in
-          let s = edges_of i inside in
+          let s = lists_all.2 i inside in
           let (g, there, ec, ep) = among_sorted i (edges_at edges i) s f among in
           let (f', among', is', less) = s.from g there in
           let colour = sym (colour_back v.colours f'.colour) ∙ ap (colour_after v.colours)
@@ -439,14 +414,13 @@ module _ {q : Region} (r : Region) {h : Graph} {Paired : ℕ → ℕ → Type 0}
   }
 
   graph_of : HasNoCycle q.touch q.cells → IsGraphOf r graph
-  unfolding graph
   graph_of none = record {
     few = few;
     graph = graph_is;
     order = record {
       once = of.order.once;
-      inside = λ k lt. omega (arith, of.order.inside k lt, of.graph.beside, many_edges);
-      every = λ i lt. of.order.every i (omega (arith, lt, of.graph.beside, many_edges));
+      inside = λ k lt. omega (arith, of.order.inside k lt, of.graph.beside, lists_all.1);
+      every = λ i lt. of.order.every i (omega (arith, lt, of.graph.beside, lists_all.1));
       ends_first = λ k e lt c.
           let (f, among, is) = (seen.moves (get_or h.order k 0) e).0 c in
           let (j, less, same) = of.order.ends_first k f lt among in
@@ -483,15 +457,13 @@ module _ {limits : Limits} {q : Region} (r : Region) {h : Graph} {Paired : ℕ �
   small : length r.cells ≤ 32
   small = omega (arith, few, full)
 
-  turned_graph : Graph
+  abbrev turned_graph : Graph
   turned_graph = graph r v opening s.graph.graph small partner
 
   turned_seen : Serves v h turned_graph
-  unfolding turned_graph
   turned_seen = seen r v opening s.graph.graph small partner
 
   within : IsGraphWithin limits.positions r turned_graph
-  unfolding turned_graph
   within =
       let of = graph_of r v opening s.graph.graph small partner s.graph.graph.no_cycle in
       let few' : length turned_graph.positions ≤ limits.positions = omega (arith, turned_seen.as_many, s.graph.few) in
@@ -502,7 +474,6 @@ module _ {limits : Limits} {q : Region} (r : Region) {h : Graph} {Paired : ℕ �
       }
 
   valued : AreValues r turned_graph Ts turned
-  unfolding turned_graph
   valued = record {
     long = t.many ∙ s.values.long ∙ sym turned_seen.as_many;
     known = λ i lt. (t.each i (omega (arith, lt, t.many))).known;

@@ -1,7 +1,5 @@
 -- What a solved game keeps: its numbers are small, the values of its positions decide it, and each move keeps it.
-use Rattle.std.proofs.Common.{ℕ, ℤ, zero, suc, ◌≡◌, ◌⊎◌, ◌↔◌, ◌*◌, ◌^◌, ◌+◌, ◌<◌, ◌≤◌, inl, inr, refl, sym, ap, ◌∙◌, subst, arith, List, [], ◌∷◌, length, get_or, set, pos, neg_ℤ, ◌+ℤ◌, ◌*ℤ◌, unsigned_abs, replicate, sum, Contains, Result, Ok, Err}
-use Rattle.std.specs.List.{sum_by}
-use Rattle.std.proofs.Math.Nat.{mul-le-mul_right}
+use Rattle.std.proofs.Common.{ℕ, ℤ, zero, suc, ◌≡◌, ◌⊎◌, ◌↔◌, ◌*◌, ◌^◌, ◌+◌, ◌<◌, ◌≤◌, inl, inr, refl, sym, ap, ◌∙◌, subst, arith, List, [], ◌∷◌, length, get_or, set, pos, neg_ℤ, ◌+ℤ◌, ◌*ℤ◌, unsigned_abs, replicate, sum, Contains, Result, Ok, Err, sum_by, mul-le-mul_right}
 use Rattle.std.proofs.lemmas.Bool.{cases_eq}
 use Rattle.std.proofs.lemmas.Int.{ints, unsigned_abs-mul}
 use Rattle.std.proofs.lemmas.List.{get_or_default, get_or-set_same, get_or-set_other, length-set}
@@ -129,15 +127,12 @@ module _ {g : Board} {regions : List Region} {graphs : List Graph} {values : Lis
         (cells, (holds.long, holds.local), (known, value));
   }
 
-  fits_within : (ids : List ℕ) → AreSummed regions values places ids → (x : ℤ) → unsigned_abs x ≤ 2 ^ 110 → IsBounded (pick Ts ids) x
-  fits_within ids summed x small = bounded Ts ids x (omega (arith, summed.many, are.few)) (λ j lt.
-      let known : j < length regions = omega (arith, lt, summed.many) in
-      subst (λ z. AreWithin most_units (tree_at Ts z)) (sym (summed.each j known))
-      (are.within j (place_at places j) known (place_inside j known))) small
-
   -- the sum fits a search, whatever small number is beside it
   pub fits : (ids : List ℕ) → AreSummed regions values places ids → (m : Purses) → AreModest m → IsBounded (pick Ts ids) (balance m *ℤ pos (2 ^ 59))
-  fits ids summed m few = fits_within ids summed (balance m *ℤ pos (2 ^ 59)) (small_units m few)
+  fits ids summed m few = bounded Ts ids (balance m *ℤ pos (2 ^ 59)) (omega (arith, summed.many, are.few)) (λ j lt.
+      let known : j < length regions = omega (arith, lt, summed.many) in
+      subst (λ z. AreWithin most_units (tree_at Ts z)) (sym (summed.each j known))
+      (are.within j (place_at places j) known (place_inside j known))) (small_units m few)
 
   keeps : Keeps g s
   keeps = record { walls = at.walls; contested = at.contested }
@@ -202,7 +197,7 @@ module _ {g : Board} {regions : List Region} {graphs : List Graph} {values : Lis
       (after h (paid_in s.side e.taken s.purses) s, ((at.contested p).1 contested, (h, (e.taken, placed', (local.taken e.taken).1 l.edge.number, refl))))
 
   -- a stone is an edge
-  pub stone_edge : (t : Whole) (p : ℕ) → IsMove s (Stone p) t → (k : ℕ) × ((e : Edge) × IsStoneEdge regions graphs places s.side p k e)
+  stone_edge : (t : Whole) (p : ℕ) → IsMove s (Stone p) t → (k : ℕ) × ((e : Edge) × IsStoneEdge regions graphs places s.side p k e)
   stone_edge t p (mark, (h, (n, placed, number, is))) =
       let (k, known, (i, short, there), alone) = only_region g regions are.cut.cut p no_region ((at.contested p).0 mark) in
       let r = region_at regions k in
@@ -254,7 +249,7 @@ module _ {g : Board} {regions : List Region} {graphs : List Graph} {values : Lis
       }
 
   -- a move on the purses alone
-  pub money_leads : (m : Move) (ms : Purses) (t : Whole) → IsMove s m t → t ≡ after s.board ms s → IsAt g regions graphs places t
+  money_leads : (m : Move) (ms : Purses) (t : Whole) → IsMove s m t → t ≡ after s.board ms s → IsAt g regions graphs places t
   money_leads m ms t move is =
       let kept = keeps_move g are.settled s t m keeps move in
       record {
@@ -287,17 +282,11 @@ module _ {g : Board} {regions : List Region} {graphs : List Graph} {values : Lis
               rw (get_or-set_other room.ranks k i j 0 ne, get_or-set_other places k i e.next 0 ne)
               (room.each i (omega (arith, lt, length-set places k e.next)))
         ];
-        room = λ c. subst (λ m. purse c m + 33 * sum_by (λ n. n) (set room.ranks k j) + token_left m.token ≤ 2 ^ 41) (sym leads.purses)
-            (omega (
-              arith,
-              few,
-              less,
-              room.room c,
-              paid-in c s.side e.taken s.purses,
-              own-less c s.side e.taken,
-              ap token_left
-                  (token-in s.side e.taken s.purses),
-            ));
+        room = λ c.
+            let paid = paid-in c s.side e.taken s.purses in
+            let token = ap token_left (token-in s.side e.taken s.purses) in
+            subst (λ m. purse c m + 33 * sum_by (λ n. n) (set room.ranks k j) + token_left m.token ≤ 2 ^ 41) (sym leads.purses)
+            (omega (arith, few, less, room.room c, paid, own-less c s.side e.taken, token));
       }
     where
       Ranked : ℕ → ℕ → Type 0
@@ -308,29 +297,29 @@ module _ {g : Board} {regions : List Region} {graphs : List Graph} {values : Lis
 module _ {regions : List Region} {graphs : List Graph} {values : List (List ℕ)} {places ids : List ℕ} {Ts : List Tree} {s : Whole}
     (kept : AreSolvedAt regions graphs values places ids Ts s) where
   -- the sum with another place of a region
-  pub summed_set : (k i : ℕ) → k < length regions → AreSummed regions values (set places k i) (set ids k (get_or (ids_at values k) i 0))
-  summed_set k i known =
+  summed_set : (k i v : ℕ) → k < length regions → v ≡ get_or (ids_at values k) i 0 → AreSummed regions values (set places k i) (set ids k v)
+  summed_set k i v known value =
       let summed = kept.summed in
       record {
-        many = length-set ids k (get_or (ids_at values k) i 0) ∙ summed.many;
-        each = λ j lt. elim (cases_eq j k) as (λ _. get_or (set ids k (get_or (ids_at values k) i 0)) j 0 ≡ get_or (ids_at values j) (place_at (set places k i) j) 0) [
-          | inl e ↦ subst (λ z. get_or (set ids k (get_or (ids_at values k) i 0)) z 0 ≡ get_or (ids_at values z) (place_at (set places k i) z) 0) (sym e)
-              (get_or-set_same ids k (get_or (ids_at values k) i 0) 0 (omega (arith, known, summed.many))
-              ∙ ap (λ z. get_or (ids_at values k) z 0) (sym (get_or-set_same places k i 0 (omega (arith, known, kept.at.many)))))
-          | inr ne ↦ get_or-set_other ids k j (get_or (ids_at values k) i 0) 0 ne ∙ summed.each j lt
+        many = length-set ids k v ∙ summed.many;
+        each = λ j lt. elim (cases_eq j k) as (λ _. get_or (set ids k v) j 0 ≡ get_or (ids_at values j) (place_at (set places k i) j) 0) [
+          | inl e ↦ subst (λ z. get_or (set ids k v) z 0 ≡ get_or (ids_at values z) (place_at (set places k i) z) 0) (sym e)
+              (get_or-set_same ids k v 0 (omega (arith, known, summed.many))
+              ∙ value ∙ ap (λ z. get_or (ids_at values k) z 0) (sym (get_or-set_same places k i 0 (omega (arith, known, kept.at.many)))))
+          | inr ne ↦ get_or-set_other ids k j v 0 ne ∙ summed.each j lt
               ∙ ap (λ z. get_or (ids_at values j) z 0) (sym (get_or-set_other places k j i 0 ne))
         ];
       }
 
-  pub kept_stone : (t : Whole) {p k : ℕ} {e : Edge} → IsStoneEdge regions graphs places s.side p k e → IsMove s (Stone p) t
-      → AreSolvedAt regions graphs values (set places k e.next) (set ids k (get_or (ids_at values k) e.next 0)) Ts t
-  kept_stone t {p} {k} {e} x m =
+  pub kept_stone : (t : Whole) {p k v : ℕ} {e : Edge} → IsStoneEdge regions graphs places s.side p k e → v ≡ get_or (ids_at values k) e.next 0
+      → IsMove s (Stone p) t → AreSolvedAt regions graphs values (set places k e.next) (set ids k v) Ts t
+  kept_stone t {p} {k} {v} {e} x value m =
       let leads = stone_leads kept.solved kept.at t x m in
       record {
         board = kept.board;
         solved = kept.solved;
         at = leads.held;
-        summed = summed_set k e.next x.known;
+        summed = summed_set k e.next v x.known value;
         room = stone_room kept.solved kept.at kept.room t x leads;
       }
 

@@ -48,11 +48,6 @@ module _ (S T : Type 0) (LeadsS : S → S → Type 0) (LeadsT : T → T → Type
       loses-forth zero s t e l = λ u h. (let r = m.back s t u e h in l r.0 r.1)
       loses-forth (suc n) s t e l = λ u h. (let r = m.back s t u e h in wins-forth n r.0 u r.2 (l r.0 r.1))
 
--- the other way round
-pub flipped : (S T : Type 0) (LeadsS : S → S → Type 0) (LeadsT : T → T → Type 0) (R : S → T → Type 0) → Matches S T LeadsS LeadsT R
-    → Matches T S LeadsT LeadsS (λ t s. R s t)
-flipped S T LeadsS LeadsT R m = record { forth = λ t u s e h. m.back s t u e h; back = λ t s r e h. m.forth s r t e h }
-
 -- Plain recursion over a game whose states have trees, such that the moves of a state lead to its tree's options.
 module _ (S : Type 0) (Leads : S → S → Type 0) (side : S → Colour) (value : S → Tree) (Fine : S → Type 0) where
   pub record Mirrors : Type 0 where
@@ -163,17 +158,12 @@ one_less : (c : Colour) (n : ℕ) → 1 ≤ n → Has (options c (gain c n)) (ga
 one_less c zero h = absurd (omega (arith, h))
 one_less c (suc n) h = let e : suc n - 1 ≡ n = omega arith in rw e (gain-has c n)
 
-pub purses-moved : (c : Colour) (m n : Purses) → IsPurseMove c m n → (X : Tree) × Has (options c (purses_tree m)) X × (X ≡ᵍ purses_tree n)
-purses-moved Black m n (inl (h, e)) = (
-  (gain Black (m.black - 1) +ᵍ gain White m.white) +ᵍ token_tree m.token,
-  option_in_first Black _ _ _ (option_in_first Black _ _ _ (one_less Black m.black h)),
-  same-path _ _ (ap purses_tree (sym e)),
-)
-purses-moved White m n (inl (h, e)) = (
-  (gain Black m.black +ᵍ gain White (m.white - 1)) +ᵍ token_tree m.token,
-  option_in_first White _ _ _ (option_in_second White _ _ _ (one_less White m.white h)),
-  same-path _ _ (ap purses_tree (sym e)),
-)
+paid_out-option : (c : Colour) (m : Purses) → 1 ≤ purse c m → Has (options c (purses_tree m)) (purses_tree (paid_out c m))
+paid_out-option Black m h = option_in_first Black _ _ _ (option_in_first Black _ _ _ (one_less Black m.black h))
+paid_out-option White m h = option_in_first White _ _ _ (option_in_second White _ _ _ (one_less White m.white h))
+
+purses-moved : (c : Colour) (m n : Purses) → IsPurseMove c m n → (X : Tree) × Has (options c (purses_tree m)) X × (X ≡ᵍ purses_tree n)
+purses-moved c m n (inl (h, e)) = (purses_tree (paid_out c m), paid_out-option c m h, same-path _ _ (ap purses_tree (sym e)))
 purses-moved c m n (inr (h, e)) = (
   (gain Black m.black +ᵍ gain White m.white) +ᵍ reward m.token c,
   option_in_second c _ _ _ (token-has c m.token h),
@@ -194,7 +184,7 @@ purses-met c m X h = at c X (option_of_sum c _ _ X h)
     at d _ (in_second K k) = let r = token-option d m.token K k in (halved d m, inr (r.0, refl), same-trans _ _ _ (same-path _ _ (ap (λ z. (gain Black m.black +ᵍ gain White m.white) +ᵍ z) r.1)) (halved-same d m.black m.white m.token))
 
 -- how many moves purses and a token can give
-unfoldable pub tokens : Token → ℕ
+abbrev tokens : Token → ℕ
 tokens token.Nobody = 0
 tokens token.Black = 2
 tokens token.White = 2
@@ -211,7 +201,6 @@ paid_out-funds Black m h = omega (arith, h)
 paid_out-funds White m h = omega (arith, h)
 
 halved-funds-by : (c : Colour) (a b : ℕ) (t : Token) → t ≢ token.Nobody → funds (halved c (record { black = a; white = b; token = t })) < a + b + tokens t
-unfolding tokens
 halved-funds-by c a b token.Nobody h = absurd (h refl)
 halved-funds-by Black a b token.Black h = omega arith
 halved-funds-by White a b token.Black h = omega arith
@@ -237,21 +226,13 @@ purses-balance m = let n : ℤ = credit Black m.black +ℤ credit White m.white 
     (rw (← num-double 0 n) (num-plus_le 1 (n +ℤ n) (halves m.token), num-le_plus 1 (n +ℤ n) (halves m.token)))
 
 -- what n local moves can bring, each with the stones that it takes
-unfoldable pub yield : ℕ → ℕ → ℕ
+abbrev yield : ℕ → ℕ → ℕ
 yield most zero = 0
 yield most (suc n) = suc (most + yield most n)
 
-yield-more : (most n : ℕ) → yield most (suc n) ≡ suc (most + yield most n)
-unfolding yield
-yield-more most n = refl
-
-unfoldable pub yields : ℕ → List ℕ → ℕ
+abbrev yields : ℕ → List ℕ → ℕ
 yields most [] = 0
 yields most (n ∷ ns) = yield most n + yields most ns
-
-yields-more : (most n : ℕ) (ns : List ℕ) → yields most (n ∷ ns) ≡ yield most n + yields most ns
-unfolding yields
-yields-more most n ns = refl
 
 pub no_option : (c : Colour) (X : Tree) → Has (options c (node none none)) X → ⊥
 no_option Black X h = h
@@ -259,14 +240,6 @@ no_option White X h = h
 
 module _ (P : Type 0) (moves : Colour → P → List (Step P)) where
   -- The sum of the parts' trees: its options are the local moves.
-  parts-more : (n : ℕ) (p : P) (ps : List P) → parts_tree P moves n (p ∷ ps) ≡ tree_within P moves n p +ᵍ parts_tree P moves n ps
-  unfolding parts_tree
-  parts-more n p ps = refl
-
-  parts-none : (n : ℕ) → parts_tree P moves n [] ≡ node none none
-  unfolding parts_tree
-  parts-none n = refl
-
   pub parts-moved : (n : ℕ) (c : Colour) (ps qs : List P) (k : ℕ) → AllEnd P moves n ps → StepIn P moves c ps qs k → (X : Tree) × Has (options c (parts_tree P moves n ps)) X × (X ≡ᵍ (parts_tree P moves n qs +ᵍ gain c k))
   unfolding parts_tree
   parts-moved n c [] qs k e h = absurd h
@@ -288,8 +261,8 @@ module _ (P : Type 0) (moves : Colour → P → List (Step P)) where
 
   pub parts-met : (n : ℕ) (c : Colour) (ps : List P) (X : Tree) → AllEnd P moves n ps → Has (options c (parts_tree P moves n ps)) X → (qs : List P) × ((k : ℕ) × StepIn P moves c ps qs k × (X ≡ᵍ (parts_tree P moves n qs +ᵍ gain c k)))
   unfolding parts_tree
-  parts-met n c [] X e h = absurd (no_option c X (rw (parts-none n) at h))
-  parts-met n c (p ∷ ps) X e h = at X (option_of_sum c _ _ X (rw (parts-more n p ps) at h)) (λ K k. parts-met n c ps K e.1 k)
+  parts-met n c [] X e h = absurd (no_option c X h)
+  parts-met n c (p ∷ ps) X e h = at X (option_of_sum c _ _ X h) (λ K k. parts-met n c ps K e.1 k)
     where
       at : (Y : Tree) → InSum (tree_within P moves n p) (parts_tree P moves n ps) (options c (tree_within P moves n p)) (options c (parts_tree P moves n ps)) Y
           → ((K : Tree) → Has (options c (parts_tree P moves n ps)) K → (qs : List P) × ((k : ℕ) × StepIn P moves c ps qs k × (K ≡ᵍ (parts_tree P moves n qs +ᵍ gain c k))))
@@ -345,12 +318,12 @@ module _ (P : Type 0) (moves : Colour → P → List (Step P)) where
     step-lasts c (suc n ∷ ns) (p ∷ ps) (q ∷ qs) k e (inl (m, r)) = (
       n ∷ ns,
       (e.0 q (c, (m.0, m.1, m.2)), subst (λ z. Lasts ns z) r e.1),
-      omega (arith, few c p m.0 m.1, m.3, yield-more most n, yields-more most n ns, yields-more most (suc n) ns),
+      omega (arith, few c p m.0 m.1, m.3),
     )
     step-lasts c (n ∷ ns) (p ∷ ps) (q ∷ qs) k e (inr (r, h)) = let x = step-lasts c ns ps qs k e.1 h in (
       n ∷ x.0,
       (subst (λ z. EndsWithin P (StepsTo P moves) n z) r e.0, x.1),
-      omega (arith, x.2, yields-more most n ns, yields-more most n x.0),
+      omega (arith, x.2),
     )
 
     pub state-lasts : (ns : List ℕ) (s t : State P) → Lasts ns s.parts → Leads P moves s t → (ms : List ℕ) × Lasts ms t.parts × (yields most ms + funds t.purses < yields most ns + funds s.purses)

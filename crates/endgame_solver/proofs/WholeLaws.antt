@@ -16,6 +16,7 @@ use Rattle.go_grid.specs.Region.{Region}
 use Rattle.go_grid.proofs.PlayLemmas.{long_after}
 use Rattle.go_play.specs.Place.{IsPlaced, IsNumberTaken}
 use Rattle.benson_life.specs.Walls.{WallsStand}
+use Rattle.benson_life.proofs.HeldLemmas.{short}
 use Rattle.whole_rules.specs.declared.money.Purses.{Purses}
 use Rattle.whole_rules.specs.declared.states.Move.{Move}
 use Rattle.whole_rules.specs.declared.states.Move.TheVariants.{Stone, Spend, Half}
@@ -55,7 +56,7 @@ use Rattle.endgame_solver.specs.Solved.{HoldsCells}
 use Rattle.endgame_solver.specs.SumGame.{State, Leads, StepIn, AllEnd, balance, parts_tree, purses_tree, state_tree, token_tree}
 use Rattle.endgame_solver.specs.inner.Regions.{IsPointOf}
 use Rattle.endgame_solver.specs.inner.WholeParts.{OthersStay, IsPlayedIn, IsPlayableIn, IsLocalPlay, AllShown, IsSeenAs}
-use Rattle.endgame_solver.proofs.PartsLaws.{Matches, decomposes, flipped, loses-forth, purses-balance, wins-forth}
+use Rattle.endgame_solver.proofs.PartsLaws.{Matches, decomposes, loses-forth, purses-balance, wins-forth}
 
 -- The moves of a whole state are the local moves of its parts and the moves on purses and token.
 module _ (P : Type 0) (moves : Colour → P → List (Step P)) (InPart : ℕ → ℕ → Type 0) (Shown : Board → ℕ → P → Type 0) where
@@ -96,24 +97,9 @@ module _ (P : Type 0) (moves : Colour → P → List (Step P)) (InPart : ℕ →
     step_back n i (q ∷ qs) (r ∷ rs) w most (inl ((x, among, to, taken), e)) =
         let (p, (k, inside, placed, number, held, stay)) = play.playable h c i q x walls (omega (arith, most)) w.0 among in
         let later = subst (Showing k (suc i)) e (later_stay h k i (suc i) qs (omega arith) stay w.1) in
-        let shown : Showing k i (r ∷ rs) = (subst (Shown k i) to held, later) in (
-          i,
-          (
-            p,
-            (
-              k,
-              omega arith,
-              omega (arith, most),
-              inside,
-              placed,
-              subst (IsNumberTaken h k) taken number,
-              shown,
-              ap suc
-                  (ap length (sym e)),
-              stay,
-            ),
-          ),
-        )
+        let shown : Showing k i (r ∷ rs) = (subst (Shown k i) to held, later) in
+        let number' = subst (IsNumberTaken h k) taken number in
+        (i, (p, (k, omega arith, omega (arith, most), inside, placed, number', shown, ap suc (ap length (sym e)), stay)))
     step_back n i (q ∷ qs) (r ∷ rs) w most (inr (e, m)) =
         let (j, (p, (k, le, lt, inside, placed, number, held, long, stay))) = step_back n (suc i) qs rs w.1 (omega (arith, most)) m in
         let shown : Showing k i (r ∷ rs) = (subst (Shown k i) e (stay i q (λ z. omega (arith, le, z)) w.0), held) in
@@ -141,6 +127,13 @@ module _ (P : Type 0) (moves : Colour → P → List (Step P)) (InPart : ℕ →
     )
 
     module _ (s : Whole) (ps : List P) (keeps : Keeps g s) (count : length ps ≡ parts) (shown : Showing s.board 0 ps) where
+      -- the state after a move is seen as one that the parts' state leads to
+      led_to : (t : Whole) (m : Move) (h : Board) (ms : Purses) (qs : List P) → whole.IsMove s m t → t ≡ whole.after h ms s
+          → length qs ≡ parts → Showing h 0 qs → Leads P moves (with_parts ps s.purses s.side) (with_parts qs ms (other s.side))
+          → (v : State P) × Leads P moves (with_parts ps s.purses s.side) v × Sees t v
+      led_to t m h ms qs move is long held leads =
+          (with_parts qs ms (other s.side), leads, sees_after s t m h ms qs keeps move is long held)
+
       forth_from : (t : Whole) → whole.Leads s t → (v : State P) × Leads P moves (with_parts ps s.purses s.side) v × Sees t v
       forth_from t (Stone p, m) =
           let (mark, (h, (n, placed, number, is))) = m in
@@ -148,31 +141,11 @@ module _ (P : Type 0) (moves : Colour → P → List (Step P)) (InPart : ℕ →
           let first : j < 0 + length ps = omega (arith, lt, count) in
           let (qs, step, held, long, stay) = step_forth g parts play s.board keeps.walls s.side h p n j 0 ps shown (omega arith) first
           (omega (arith, count)) at placed number in
-          let ms = paid_in s.side n s.purses in (
-            with_parts qs ms (other s.side),
-            record { turn = refl; move = inl (n, step, refl) },
-            sees_after s t (Stone p) h ms qs keeps m is (long ∙ count) held,
-          )
+          led_to t (Stone p) h (paid_in s.side n s.purses) qs m is (long ∙ count) held record { turn = refl; move = inl (n, step, refl) }
       forth_from t (Spend, m) =
-          let ms = paid_out s.side s.purses in (
-            with_parts ps ms (other s.side),
-            record {
-              turn = refl;
-              move = inr
-                  (inl (m.0, refl, refl));
-            },
-            sees_after s t Spend s.board ms ps keeps m m.1 count shown,
-          )
+          led_to t Spend s.board (paid_out s.side s.purses) ps m m.1 count shown record { turn = refl; move = inr (inl (m.0, refl, refl)) }
       forth_from t (Half, m) =
-          let ms = halved s.side s.purses in (
-            with_parts ps ms (other s.side),
-            record {
-              turn = refl;
-              move = inr
-                  (inr (m.0, refl, refl));
-            },
-            sees_after s t Half s.board ms ps keeps m m.1 count shown,
-          )
+          led_to t Half s.board (halved s.side s.purses) ps m m.1 count shown record { turn = refl; move = inr (inr (m.0, refl, refl)) }
 
       back_from : (v : State P) → Leads P moves (with_parts ps s.purses s.side) v → (t : Whole) × whole.Leads s t × Sees t v
       back_from v l = elim l.move [
@@ -214,7 +187,8 @@ module _ (P : Type 0) (moves : Colour → P → List (Step P)) (InPart : ℕ →
         → (MoverWins Whole whole.Leads s ⊎ MoverLoses Whole whole.Leads s) × (MoverLoses Whole whole.Leads s ↔ LosesGame s.side (state_tree P moves n u))
     whole_decomposes most n s u few end w =
         let d = decomposes P moves n most u few end in
-        let back = flipped _ _ _ _ Sees bookkeeping in (
+        let back : Matches (State P) Whole (Leads P moves) whole.Leads (λ v t. Sees t v) =
+        record { forth = λ v w t e l. bookkeeping.back t v w e l; back = λ v t r e l. bookkeeping.forth t r v e l } in (
           elim d.has_winner [
             | inl x ↦ inl (x.0, wins-forth _ _ _ _ _ back x.0 u s w x.1)
             | inr x ↦ inr (x.0, loses-forth _ _ _ _ _ back x.0 u s w x.1)
@@ -236,17 +210,6 @@ pub record Position : Type 0 where
 
 abbrev pub position_in : ℕ → List Cell → Position
 position_in k cells = record { region = k; cells = cells }
-
--- as many points as any region has
-pub largest : (rs : List Region) → (b : ℕ) × ((r : Region) → Contains rs r → length r.cells ≤ b)
-largest [] = (0, λ r h. absurd (omega (arith, h.1)))
-largest (r ∷ rs) =
-    let (b, all) = largest rs in
-    (length r.cells + b, within b all)
-  where
-    within : (b : ℕ) → ((s : Region) → Contains rs s → length s.cells ≤ b) → (s : Region) → Contains (r ∷ rs) s → length s.cells ≤ length r.cells + b
-    within b all s (zero, lt, e) = let same = ap (λ z. length z.cells) e in omega (arith, same)
-    within b all s (suc k, lt, e) = let less = all s (k, omega (arith, lt), e) in omega (arith, less)
 
 -- the steps from a position of at most b places
 limited : (b n : ℕ) → (b < n) ⊎ (n ≤ b) → List (Step Position) → List (Step Position)
@@ -288,7 +251,7 @@ money_same m =
 
 module _ (g : Board) (settled : IsSettled g) (regions : List Region) (are : AreRegionsOfPlay g regions) where
   abbrev Most : ℕ
-  Most = (largest regions).0
+  Most = length g.cells
 
   abbrev Moves : Colour → Position → List (Step Position)
   Moves = moves_of regions Most
@@ -304,11 +267,19 @@ module _ (g : Board) (settled : IsSettled g) (regions : List Region) (are : AreR
   pub region_in : (k : ℕ) → k < length regions → Contains regions (region_at regions k)
   region_in k lt = Contains-get_or regions k no_region lt
 
+  -- no region has more points than the board
+  cells_few : (k : ℕ) → k < length regions → length (region_at regions k).cells ≤ Most
+  cells_few k lt =
+      let r = region_at regions k in
+      let play = are.each r (region_in k lt) in
+      let on_board = λ (i d : ℕ) (inside : i < length r.points).
+      (point_contested g r play (get_or r.points i d) (Contains-get_or r.points i d inside)).0 in
+      omega (arith, play.proper.full, short r.points (length g.cells) play.proper.ascending on_board)
+
   held_long : (h : Board) (k : ℕ) (q : Position) → IsHeld g regions h k q → length q.cells ≤ Most
   held_long h k q s =
       let r = region_at regions k in
-      let most = (largest regions).1 r (region_in k s.known) in
-      omega (arith, most, plays_long r.touch r.cells q.cells s.reachable.0 s.reachable.1)
+      omega (arith, cells_few k s.known, plays_long r.touch r.cells q.cells s.reachable.0 s.reachable.1)
 
   position_is : (k : ℕ) (q : Position) → q.region ≡ k → position_in k q.cells ≡ q
   position_is k q e = λ i. record { region = sym e i; cells = q.cells }
@@ -422,17 +393,17 @@ module _ (g : Board) (settled : IsSettled g) (regions : List Region) (are : AreR
     abbrev Depth : ℕ
     Depth = 3 ^ Most
 
-    short : (h : Board) (k : ℕ) (q : Position) → IsHeld g regions h k q
+    shorter : (h : Board) (k : ℕ) (q : Position) → IsHeld g regions h k q
         → PlaysAreShort (List Cell) (MovesTo (region_at regions k).touch) (3 ^ length (region_at regions k).cells) q.cells
-    short h k q s =
+    shorter h k q s =
         let r = region_at regions k in
         short_plays r.touch r.cells (calm r (region_in k s.known)) q.cells s.reachable
 
     deep : (h : Board) (k : ℕ) (q : Position) → IsHeld g regions h k q → PlaysAreShort (List Cell) (MovesTo (region_at regions k).touch) Depth q.cells
     deep h k q s qs w =
         let three : 0 < 3 = omega arith in
-        let most = pow-le-pow_right {n = 3} three ((largest regions).1 (region_at regions k) (region_in k s.known)) in
-        omega (arith, short h k q s qs w, most)
+        let most = pow-le-pow_right {n = 3} three (cells_few k s.known) in
+        omega (arith, shorter h k q s qs w, most)
 
     -- a tree of the position is as good as that over the listed moves
     held_tree : (h : Board) (k : ℕ) (q : Position) (G : Tree) → IsHeld g regions h k q
@@ -440,9 +411,9 @@ module _ (g : Board) (settled : IsSettled g) (regions : List Region) (are : AreR
     held_tree h k q G s tree =
         let r = region_at regions k in
         let long = plays_long r.touch r.cells q.cells s.reachable.0 s.reachable.1 in
-        let shorter : PlaysAreShort (List Cell) (MovesTo r.touch) (3 ^ length q.cells) q.cells = λ qs w. omega (arith, short h k q s qs w, ap (λ m. 3 ^ m) long) in
+        let own : PlaysAreShort (List Cell) (MovesTo r.touch) (3 ^ length q.cells) q.cells = λ qs w. omega (arith, shorter h k q s qs w, ap (λ m. 3 ^ m) long) in
         subst (λ z. G ≡ᵍ tree_within Position Moves Depth z) (position_is k q s.region)
-        (tree_as Position r.touch Most (position_in k) Moves (moves-are k) Depth (3 ^ length q.cells) q.cells G (held_long h k q s) shorter
+        (tree_as Position r.touch Most (position_in k) Moves (moves-are k) Depth (3 ^ length q.cells) q.cells G (held_long h k q s) own
         (deep h k q s) tree)
 
     -- play ends in each part

@@ -1,18 +1,19 @@
 -- Who wins the present state, and by which moves; and that what is read of the graphs and the values in the book is what they are.
-use Rattle.std.proofs.Common.{ℕ, zero, suc, ◌≡◌, ◌↔◌, ◌+◌, ◌*ℤ◌, ◌^◌, ◌<◌, ◌≤◌, ℤ, pos, inl, inr, refl, sym, ap, ◌∙◌, subst, arith, List, [], length, get_or, set, map, Bool, IsTrue, Option, Some, None, Contains}
+use Rattle.std.proofs.Common.{ℕ, zero, suc, ◌≡◌, ◌↔◌, ◌+◌, ◌*ℤ◌, ◌^◌, ◌<◌, ◌≤◌, ℤ, pos, inl, inr, refl, sym, ap, ◌∙◌, subst, arith, List, [], length, get_or, set, map, Bool, IsTrue, Option, Some, None, Contains, Ok}
 use Rattle.std.proofs.lemmas.Bool.{cases_eq, cases_lt}
 use Rattle.std.proofs.lemmas.List.{ext_get_or, get_or-map, get_or_default, length-map}
 use Rattle.go_grid.specs.declared.grid.Colour.{Colour}
 use Rattle.go_grid.specs.declared.grid.Colour.TheVariants.{Black, White}
-use Rattle.go_grid.specs.Board.{other}
+use Rattle.go_grid.specs.Board.{other, stone}
+use Rattle.go_grid.proofs.BoardLemmas.{not_other}
 use Rattle.go_grid.specs.Region.{Region}
 use Rattle.whole_rules.specs.declared.money.Purses.{Purses}
 use Rattle.whole_rules.specs.declared.states.Move.{Move}
 use Rattle.whole_rules.specs.declared.states.Move.TheVariants.{Stone, Spend, Half}
 use Rattle.whole_rules.specs.FirstWinningMove.{IsFirstWinning, IsWinner, IsWinning}
-use Rattle.whole_rules.specs.PlainRecursion.{WinsWithin, MoverLoses}
+use Rattle.whole_rules.specs.PlainRecursion.{WinsWithin, MoverLoses, MoverWins}
 use Rattle.whole_rules.specs.Purses.{purse, paid_in, paid_out}
-use Rattle.whole_rules.specs.WholeGame.{Whole, IsMove, Leads, after, rank}
+use Rattle.whole_rules.specs.WholeGame.{Whole, IsLegal, IsMove, Leads, after, rank}
 use Rattle.whole_rules.proofs.OutcomeLaws.{wins-not_loses}
 use Rattle.local_graph.specs.declared.graph.Edge.{Edge}
 use Rattle.local_graph.specs.Graph.{Graph}
@@ -24,22 +25,22 @@ use Rattle.sum_outcome.specs.Sums.{IsBounded, sum_tree}
 use Rattle.endgame_solver.specs.Regions.{region_at}
 use Rattle.endgame_solver.specs.Solved.{ArePresent, balance_units}
 use Rattle.endgame_solver.specs.SumGame.{balance}
-use Rattle.endgame_solver.specs.inner.Held.{AreModest, AreSolvedAt, AreSummed, HasRoom, IsAt, IsFirstStone, IsStoneAt, IsStoneEdge, ids_at, place_at}
+use Rattle.endgame_solver.specs.inner.Held.{AreModest, AreSolvedAt, HasRoom, IsFirstStone, IsStoneAt, IsStoneEdge, ids_at, place_at}
 use Rattle.endgame_solver.specs.inner.Sharing.{AreSharedBy}
-use Rattle.endgame_solver.specs.inner.Views.{IsHeldInBook, ShowsAll, ShowsPlaces, own, seen_graph, seen_ids, view_at}
+use Rattle.endgame_solver.specs.inner.Views.{HasGraph, HasValue, IsHeldInBook, ShowsAll, ShowsPlaces, own, seen_graph, seen_ids, view_at}
 use Rattle.endgame_solver.specs.declared.limits.Limits.{Limits}
 use Rattle.endgame_solver.specs.declared.view_book.Book.{Book}
 use Rattle.endgame_solver.specs.declared.views.View.{View}
 use Rattle.endgame_solver.proofs.BookkeepingLaws.{own-less, paid-in}
-use Rattle.endgame_solver.proofs.HeldLaws.{decided, fits, kept_stone, money_leads, present, stone_edge, stone_leads, stone_legal, stone_next, stone_taken, summed_set}
+use Rattle.endgame_solver.proofs.HeldLaws.{decided, fits, kept_applied, kept_stone, present, stone_leads, stone_legal, stone_next, stone_taken}
+
+modest : {m : Purses} → ((c : Colour) → purse c m ≤ 2 ^ 42) → AreModest m
+modest small = record { black = small Black; white = small White }
 
 -- purses of at most 2 ^ 41 stay modest
 module _ {graphs : List Graph} {places : List ℕ} {s : Whole} (room : HasRoom graphs places s) where
   modest_paid : (c : Colour) (n : ℕ) → n < 256 → AreModest (paid_in c n s.purses)
-  modest_paid c n few = record {
-    black = omega (arith, few, room.room Black, paid-in Black c n s.purses, own-less Black c n);
-    white = omega (arith, few, room.room White, paid-in White c n s.purses, own-less White c n);
-  }
+  modest_paid c n few = modest (λ d. omega (arith, few, room.room d, paid-in d c n s.purses, own-less d c n))
 
   modest_spent : (c : Colour) → AreModest (paid_out c s.purses)
   modest_spent Black = record { black = omega (arith, room.room Black); white = omega (arith, room.room White) }
@@ -49,108 +50,45 @@ module _ {graphs : List Graph} {places : List ℕ} {s : Whole} (room : HasRoom g
 pub loses_none : (s : Whole) → MoverLoses Whole Leads s → IsFirstWinning s None
 loses_none s loses m w = wins-not_loses Whole Leads (suc w.2.0) loses.0 s (w.0, (m, w.1), w.2.1) loses.1
 
-not_other : (c : Colour) → c ≡ other c → ⊥
-not_other Black e = cc
-not_other White e = cc
+-- a legal move wins where each state that it leads to is lost
+wins_by : (s : Whole) {b : Bool} (m : Move) → IsLegal s m → ((t : Whole) → IsMove s m t → IsTrue b ↔ MoverLoses Whole Leads t)
+    → IsTrue b ↔ IsWinning s m
+wins_by s m (t, move) lost = (λ h. (t, move, (lost t move).0 h), λ w. (lost w.0 w.1).1 w.2)
 
--- A move wins exactly where the sum that it leaves is lost.
+-- Who wins the present state.
 module _ {regions : List Region} {graphs : List Graph} {values : List (List ℕ)} {places ids : List ℕ} {Ts : List Tree} {s : Whole}
     (kept : AreSolvedAt regions graphs values places ids Ts s) where
-  -- the state after a move is lost exactly where its sum is
-  loses_after : {t : Whole} {places' ids' : List ℕ} {m : Purses} → IsAt kept.board regions graphs places' t → AreSummed regions values places' ids'
-      → t.purses ≡ m → t.side ≡ other s.side → MoverLoses Whole Leads t ↔ LosesGame (other s.side) (sum_tree Ts ids' (balance m *ℤ pos (2 ^ 59)))
-  loses_after {t} {places'} {ids'} {m} at summed purses turn =
-      subst (λ T. MoverLoses Whole Leads t ↔ T) (λ i. LosesGame (turn i) (sum_tree Ts ids' (balance (purses i) *ℤ pos (2 ^ 59))))
-      (decided kept.solved at ids' (present kept.solved at ids' summed)).1
+  now : ArePresent (record { regions = regions; trees = Ts; state = s }) ids
+  now = present kept.solved kept.at ids kept.summed
 
-  -- a stone leaves a sum that fits a search
-  module _ {p k : ℕ} {e : Edge} (x : IsStoneEdge regions graphs places s.side p k e) where
-    abbrev left : List ℕ
-    left = set ids k (get_or (ids_at values k) e.next 0)
+  -- the player to move loses where a search of the sum says so
+  pub by_search : {c : Colour} {m : Purses} {x : ℤ} {b : Bool} → c ≡ s.side → m ≡ s.purses → x ≡ balance m *ℤ pos (2 ^ 59)
+      → IsTrue b ↔ LosesGame c (sum_tree Ts ids x) → IsTrue b ↔ MoverLoses Whole Leads s
+  by_search {b = b} side purses number answer =
+      let d = (decided kept.solved kept.at ids now).1 in
+      let units = number ∙ ap (λ z. balance z *ℤ pos (2 ^ 59)) purses in
+      let same = subst (λ T. IsTrue b ↔ T) (λ i. LosesGame (side i) (sum_tree Ts ids (units i))) answer in
+      (λ h. d.1 (same.0 h), λ h. same.1 (d.0 h))
 
-    left_known : AreIds Ts left
-    left_known j lt =
-        let (t, m) = stone_legal kept.solved kept.at x in
-        let summed = summed_set kept k e.next x.known in
-        ((present kept.solved (stone_leads kept.solved kept.at t x m).held left summed).each j (omega (arith, lt, summed.many))).2.0
-
-    left_bounds : (m : Purses) → AreModest m → IsBounded (pick Ts left) (balance m *ℤ pos (2 ^ 59))
-    left_bounds =
-        let (t, m) = stone_legal kept.solved kept.at x in
-        fits kept.solved (stone_leads kept.solved kept.at t x m).held left (summed_set kept k e.next x.known)
-
-    left_wins : (b : Bool) → IsTrue b ↔ LosesGame (other s.side) (sum_tree Ts left (balance (paid_in s.side e.taken s.purses) *ℤ pos (2 ^ 59)))
-        → IsTrue b ↔ IsWinning s (Stone p)
-    left_wins b w =
-        let (t, m) = stone_legal kept.solved kept.at x in (
-          λ h. (t, m, (lost t m).1 (w.0 h)),
-          λ h. w.1 ((lost h.0 h.1).0 h.2),
-        )
-      where
-        lost : (u : Whole) → IsMove s (Stone p) u
-            → MoverLoses Whole Leads u ↔ LosesGame (other s.side) (sum_tree Ts left (balance (paid_in s.side e.taken s.purses) *ℤ pos (2 ^ 59)))
-        lost u m =
-            let leads = stone_leads kept.solved kept.at u x m in loses_after leads.held (summed_set kept k e.next x.known) leads.purses leads.turn
-
-  -- where no edge is the stone's it doesn't win
-  pub no_stone : (p : ℕ) → ((k : ℕ) (e : Edge) → ¬ IsStoneEdge regions graphs places s.side p k e) → ¬ IsWinning s (Stone p)
-  no_stone p none (t, m, h) = let (k, (e, x)) = stone_edge kept.solved kept.at t p m in none k e x
-
-  pub spend_wins : (b : Bool) → 1 ≤ purse s.side s.purses → IsTrue b ↔ LosesGame (other s.side) (sum_tree Ts ids (balance (paid_out s.side s.purses) *ℤ pos (2 ^ 59)))
-      → IsTrue b ↔ IsWinning s Spend
-  spend_wins b some w =
-      let t = after s.board (paid_out s.side s.purses) s in
-      (λ h. (t, (some, refl), (lost t (some, refl)).1 (w.0 h)), λ h. w.1 ((lost h.0 h.1).0 h.2))
-    where
-      lost : (u : Whole) → IsMove s Spend u → MoverLoses Whole Leads u ↔ LosesGame (other s.side)
-          (sum_tree Ts ids (balance (paid_out s.side s.purses) *ℤ pos (2 ^ 59)))
-      lost u m =
-          loses_after (money_leads kept.solved kept.at Spend (paid_out s.side s.purses) u m m.1) kept.summed (ap (λ z. z.purses) m.1)
-          (ap (λ z. z.side) m.1)
-
-  -- The winner of the present state by the sum of its values: the player to move loses that sum and the balance.
-  abbrev pub LosesSum : Type 0
-  LosesSum = LosesGame s.side (sum_tree Ts ids (balance_units s))
-
-  -- what a search of the kept ids answers
-  pub by_search : {b : Bool} {c : Colour} {list : List ℕ} {x : ℤ} {m : Purses} → c ≡ s.side → list ≡ ids → m ≡ s.purses
-      → x ≡ balance m *ℤ pos (2 ^ 59)
-      → IsTrue b ↔ LosesGame c (sum_tree Ts list x) → IsTrue b ↔ LosesSum
-  by_search {b} side same purses number answer =
-      let number' = number ∙ ap (λ z. balance z *ℤ pos (2 ^ 59)) purses in
-      subst (λ T. IsTrue b ↔ T) (λ i. LosesGame (side i) (sum_tree Ts (same i) (number' i))) answer
-
-  pub loses_state : LosesSum → MoverLoses Whole Leads s
-  loses_state h = (decided kept.solved kept.at ids (present kept.solved kept.at ids kept.summed)).1.1 h
-
-  pub loses_sum : MoverLoses Whole Leads s → LosesSum
-  loses_sum h = (decided kept.solved kept.at ids (present kept.solved kept.at ids kept.summed)).1.0 h
-
-  pub other_wins : {c : Colour} → c ≡ other s.side → LosesSum → IsWinner s c
-  other_wins is h = inr (is, loses_state h)
-
-  pub side_wins : {c : Colour} → c ≡ s.side → ¬ LosesSum → IsWinner s c
-  side_wins is not = elim (decided kept.solved kept.at ids (present kept.solved kept.at ids kept.summed)).0 [
-    | inl wins ↦ inl (is, wins)
-    | inr loses ↦ absurd (not (loses_sum loses))
+  pub mover_wins : ¬ MoverLoses Whole Leads s → MoverWins Whole Leads s
+  mover_wins not = elim (decided kept.solved kept.at ids now).0 [
+    | inl wins ↦ wins
+    | inr loses ↦ absurd (not loses)
   ]
 
-  -- any ids of the present values will do
-  present_sum : (others : List ℕ) → ArePresent (record { regions = regions; trees = Ts; state = s }) others
-      → LosesGame s.side (sum_tree Ts others (balance_units s)) ↔ LosesSum
-  present_sum others there =
+  -- any ids of the present values tell the winner
+  pub winner_by_sum : {c : Colour} → IsWinner s c → (others : List ℕ)
+      → ArePresent (record { regions = regions; trees = Ts; state = s }) others
+      → c ≡ other s.side ↔ LosesGame s.side (sum_tree Ts others (balance_units s))
+  winner_by_sum winner others there =
       let d = (decided kept.solved kept.at others there).1 in
-      (λ h. loses_sum (d.1 h), λ h. d.0 (loses_state h))
-
-  pub winner_by_sum : {c : Colour} → c ≡ other s.side → LosesSum → (others : List ℕ) → ArePresent
-      (record { regions = regions; trees = Ts; state = s }) others
-      → c ≡ other s.side ↔ LosesGame s.side (sum_tree Ts others (balance_units s))
-  winner_by_sum is lost others there = (λ _. (present_sum others there).1 lost, λ _. is)
-
-  pub side_by_sum : {c : Colour} → c ≡ s.side → ¬ LosesSum → (others : List ℕ) → ArePresent
-      (record { regions = regions; trees = Ts; state = s }) others
-      → c ≡ other s.side ↔ LosesGame s.side (sum_tree Ts others (balance_units s))
-  side_by_sum is not others there = (λ e. absurd (not_other s.side (sym is ∙ e)), λ h. absurd (not ((present_sum others there).0 h)))
+      elim winner [
+        | inl (is, wins) ↦ (
+          λ e. absurd (not_other s.side (ap stone (sym is ∙ e))),
+          λ h. let l = d.1 h in absurd (wins-not_loses Whole Leads wins.0 l.0 s wins.1 l.1),
+        )
+        | inr (is, loses) ↦ (λ _. d.0 loses, λ _. is)
+      ]
 
   wins_none : (n : ℕ) → WinsWithin Whole Leads n s → ((m : Move) → ¬ IsWinning s m) → ⊥
   wins_none zero w none = w
@@ -159,7 +97,7 @@ module _ {regions : List Region} {graphs : List Graph} {values : List (List ℕ)
   -- no move wins exactly where the player to move loses
   pub none_loses : (m : Option Move) → IsFirstWinning s m → (m ≡ None) ↔ MoverLoses Whole Leads s
   none_loses None first = (
-    λ _. elim (decided kept.solved kept.at ids (present kept.solved kept.at ids kept.summed)).0 [
+    λ _. elim (decided kept.solved kept.at ids now).0 [
       | inl wins ↦ absurd (wins_none wins.0 wins.1 first)
       | inr loses ↦ loses
     ],
@@ -169,10 +107,7 @@ module _ {regions : List Region} {graphs : List Graph} {values : List (List ℕ)
 
   -- where the player to move wins by no other move, the half wins: it may be moved exactly where there is a token
   pub last_wins : ¬ MoverLoses Whole Leads s → IsFirstStone s None → ¬ IsWinning s Spend → IsWinning s Half
-  last_wins not none spend = elim (decided kept.solved kept.at ids (present kept.solved kept.at ids kept.summed)).0 [
-    | inl wins ↦ by wins.0 wins.1
-    | inr loses ↦ absurd (not loses)
-  ]
+  last_wins not none spend = let w = mover_wins not in by w.0 w.1
     where
       half : (m : Move) → IsWinning s m → IsWinning s Half
       half (Stone q) w = absurd (none q w)
@@ -182,6 +117,15 @@ module _ {regions : List Region} {graphs : List Graph} {values : List (List ℕ)
       by : (n : ℕ) → WinsWithin Whole Leads n s → IsWinning s Half
       by zero w = absurd w
       by (suc n) (t, (m, move), loses) = half m (t, move, (n, loses))
+
+-- a point given back wins where the sum is then lost
+pub spend_wins : {regions : List Region} {graphs : List Graph} {values : List (List ℕ)} {places ids : List ℕ} {Ts : List Tree} {s : Whole}
+    {c : Colour} {m : Purses} {x : ℤ} {b : Bool} → AreSolvedAt regions graphs values places ids Ts s → 1 ≤ purse s.side s.purses
+    → c ≡ other s.side → m ≡ paid_out s.side s.purses → x ≡ balance m *ℤ pos (2 ^ 59) → IsTrue b ↔ LosesGame c (sum_tree Ts ids x)
+    → IsTrue b ↔ IsWinning s Spend
+spend_wins {s = s} kept some side purses number answer = wins_by s Spend (after s.board (paid_out s.side s.purses) s, (some, refl)) (λ t m.
+    let later = kept_applied kept Spend (λ p e. cc) t (Ok tt) m in
+    by_search later (side ∙ sym (ap (λ z. z.side) m.1)) (purses ∙ sym (ap (λ z. z.purses) m.1)) number answer)
 
 -- Looking for the edge of a stone, and for the first stone that wins.
 
@@ -262,14 +206,6 @@ module _ {regions : List Region} (book : Book) {places : List ℕ} (c : Colour) 
     };
   }
 
-pub none_end : (regions : List Region) (book : Book) (places : List ℕ) (c : Colour) (p n : ℕ) → length regions ≤ n → NoneIn regions book places c p n
-    → (graphs : List Graph) (values : List (List ℕ)) → ShowsAll book graphs values (length regions) → (k : ℕ) (e : Edge) → ¬ IsStoneEdge regions graphs places c p k e
-none_end regions book places c p n le none graphs values shows k e x = none graphs values shows k e (omega (arith, x.known, le)) x
-
-pub asks_small : (regions : List Region) (book : Book) (places : List ℕ) → ShowsPlaces regions book places → (k : ℕ) → k < length regions
-    → (i : ℕ) (edges : List Edge) → edges ≡ edges_at (seen_graph book k).edges i → (f : Edge) → Contains edges f → f.place < 32
-asks_small regions book places shows k lt i edges e f among = (shows.views_are.each k lt).seen.inside i f (subst (λ es. Contains es f) e among)
-
 -- What is read of a region's graph and values in the book is what they are.
 
 -- the same edge of lists that are equal
@@ -278,13 +214,13 @@ edge_seen : {rs rs' : List Region} {ps ps' : List ℕ} {c c' : Colour} (gs : Lis
 edge_seen gs p k e r l d x = subst (λ T. T) (λ i. IsStoneEdge (r i) gs (l i) (d i) p k e) x
 
 -- each region's opening has a value
-pub openings_known : (limits : Limits) (regions : List Region) (book : Book) (Ts : List Tree) → AreSharedBy limits regions book Ts → (k : ℕ) → k < length book.views.items
-    → ((view_at book.views.items k).values < length book.values.items) × (0 < length (seen_ids book k))
+pub openings_known : (limits : Limits) (regions : List Region) (book : Book) (Ts : List Tree) → AreSharedBy limits regions book Ts → (k : ℕ)
+    → k < length book.views.items → HasValue book k 0
 openings_known limits regions book Ts s k lt =
     let short : k < length regions = omega (arith, lt, s.views_are.many) in
     let w = s.views_are.each k short in
     let solved = s.solved.each k short in
-    (w.values, omega (arith, ap length w.same, solved.values.long, solved.graph.graph.graph.some))
+    record { view = lt; values = w.values; place = omega (arith, ap length w.same, solved.values.long, solved.graph.graph.graph.some) }
 
 -- the values of the openings
 pub sum_is : (book : Book) (graphs : List Graph) (values : List (List ℕ)) (n : ℕ) (sum : List ℕ) → ShowsAll book graphs values n → length values ≡ n
@@ -319,19 +255,20 @@ module _ {regions : List Region} {book : Book} {places ids : List ℕ} {Ts : Lis
   }
 
   -- what may be asked of the book, and what the region's view shows
-  pub asks_view : {k : ℕ} → k < length regions → k < length book.views.items
-  asks_view lt = omega (arith, lt, held.views_are.many)
+  pub has_graph : {k : ℕ} → k < length regions → HasGraph book k
+  has_graph {k} lt = record { view = omega (arith, lt, held.views_are.many); graph = (held.views_are.each k lt).graph }
 
-  pub asks_values : {k : ℕ} → k < length regions → (view_at book.views.items k).values < length book.values.items
-  asks_values {k} lt = (held.views_are.each k lt).values
+  pub has_value : {k : ℕ} (i : ℕ) → k < length regions → i < length (ids_at held.values k) → HasValue book k i
+  has_value {k} i lt short =
+      let w = held.views_are.each k lt in
+      record { view = omega (arith, lt, held.views_are.many); values = w.values; place = omega (arith, short, ap length w.same) }
 
   pub ids_seen : {k : ℕ} → k < length regions → seen_ids book k ≡ ids_at held.values k
   ids_seen {k} lt = (held.views_are.each k lt).same
 
   -- the purses are modest, after a point is given back too; and beside modest ones the sum is bounded
   pub held_modest : {m : Purses} → m ≡ s.purses → AreModest m
-  held_modest is =
-      subst AreModest (sym is) record { black = omega (arith, held.kept.room.room Black); white = omega (arith, held.kept.room.room White) }
+  held_modest is = subst AreModest (sym is) (modest (λ c. omega (arith, held.kept.room.room c)))
 
   pub held_spent : {m : Purses} (c : Colour) → m ≡ paid_out c s.purses → AreModest m
   held_spent c is = subst AreModest (sym is) (modest_spent held.kept.room c)
@@ -339,7 +276,7 @@ module _ {regions : List Region} {book : Book} {places ids : List ℕ} {Ts : Lis
   pub held_bounds : {m : Purses} {x : ℤ} → AreModest m → x ≡ balance m *ℤ pos (2 ^ 59) → IsBounded (pick Ts ids) x
   held_bounds {m} modest number = subst (IsBounded (pick Ts ids)) (sym number) (fits held.kept.solved held.kept.at ids held.kept.summed m modest)
 
--- a stone that the book shows: what may be asked of the book for it, and what the sum and the purses are that it leaves
+-- a stone that the book shows: what may be asked of the book for it, and what it leaves
 module _ {regions rs : List Region} {book : Book} {places ps ids : List ℕ} {Ts : List Tree} {s : Whole} (held : IsHeldInBook regions book places ids Ts s)
     (lent : rs ≡ regions) (at : ps ≡ places) {d : Colour} (side : d ≡ s.side) where
   shows_lent : ShowsAll book held.graphs held.values (length rs)
@@ -350,49 +287,43 @@ module _ {regions rs : List Region} {book : Book} {places ps ids : List ℕ} {Ts
       → (k : ℕ) (e : Edge) → ¬ IsStoneEdge regions held.graphs places s.side p k e
   stone_none {p} none k e x = none held.graphs held.values shows_lent k e (edge_seen held.graphs p k e (sym lent) (sym at) (sym side) x)
 
-module _ {regions rs : List Region} {book : Book} {places ps ids : List ℕ} {Ts : List Tree} {s : Whole} (held : IsHeldInBook regions book places ids Ts s)
-    (lent : rs ≡ regions) (at : ps ≡ places) {d : Colour} (side : d ≡ s.side) {p k : ℕ} {e : Edge}
-    (found : (graphs : List Graph) (values : List (List ℕ)) → ShowsAll book graphs values (length rs) → IsStoneEdge rs graphs ps d p k e) where
-  stone_seen : IsStoneEdge regions held.graphs places s.side p k e
-  stone_seen = edge_seen held.graphs p k e lent at side (found held.graphs held.values (shows_lent held lent at side))
+  module _ {p k : ℕ} {e : Edge} (found : (graphs : List Graph) (values : List (List ℕ)) → ShowsAll book graphs values (length rs)
+      → IsStoneEdge rs graphs ps d p k e) where
+    stone_seen : IsStoneEdge regions held.graphs places s.side p k e
+    stone_seen = edge_seen held.graphs p k e lent at side (found held.graphs held.values shows_lent)
 
-  pub stone_view : k < length book.views.items
-  stone_view = asks_view held stone_seen.known
+    pub stone_has : HasValue book k e.next
+    stone_has =
+        let x = stone_seen in
+        has_value held e.next x.known (omega (arith, stone_next held.kept.solved held.kept.at x, (held.kept.solved.valued k x.known).long))
 
-  pub stone_values : (view_at book.views.items k).values < length book.values.items
-  stone_values = asks_values held stone_seen.known
+    pub stone_modest : {n : ℕ} {m : Purses} → n ≡ e.taken → m ≡ paid_in d n s.purses → AreModest m
+    stone_modest {n} {m} taken paid =
+        let few = stone_taken held.kept.solved held.kept.at stone_seen in
+        subst AreModest (sym paid) (modest_paid held.kept.room d n (omega (arith, taken, few)))
 
-  pub stone_place : e.next < length (seen_ids book k)
-  stone_place =
-      let x = stone_seen in
-      omega (arith, ap length (ids_seen held x.known), stone_next held.kept.solved held.kept.at x, (held.kept.solved.valued k x.known).long)
+    module _ {v : ℕ} (value : v ≡ get_or (seen_ids book k) e.next 0) where
+      -- the game after it
+      kept_after : (t : Whole) → IsMove s (Stone p) t → AreSolvedAt regions held.graphs held.values (set places k e.next) (set ids k v) Ts t
+      kept_after t m = kept_stone held.kept t stone_seen (value ∙ ap (λ z. get_or z e.next 0) (ids_seen held stone_seen.known)) m
 
-  pub stone_modest : {n : ℕ} {m : Purses} → n ≡ e.taken → m ≡ paid_in d n s.purses → AreModest m
-  stone_modest {n} {m} taken paid =
-      subst AreModest (sym paid) (modest_paid held.kept.room d n (omega (arith, taken, stone_taken held.kept.solved held.kept.at stone_seen)))
+      pub stone_held : (t : Whole) → IsMove s (Stone p) t → IsHeldInBook regions book (set places k e.next) (set ids k v) Ts t
+      stone_held t m = held_as held (kept_after t m)
 
-  module _ {v : ℕ} (value : v ≡ get_or (seen_ids book k) e.next 0) where
-    stone_value : get_or (ids_at held.values k) e.next 0 ≡ v
-    stone_value = ap (λ z. get_or z e.next 0) (sym (ids_seen held stone_seen.known)) ∙ sym value
+      legal : IsLegal s (Stone p)
+      legal = stone_legal held.kept.solved held.kept.at stone_seen
 
-    -- the game after it
-    pub stone_held : (t : Whole) → IsMove s (Stone p) t → IsHeldInBook regions book (set places k e.next) (set ids k v) Ts t
-    stone_held t m = held_as held (subst (λ w. AreSolvedAt regions held.graphs held.values (set places k e.next) (set ids k w) Ts t) stone_value
-        (kept_stone held.kept t stone_seen m))
+      pub stone_known : AreIds Ts (set ids k v)
+      stone_known j lt = let w = kept_after legal.0 legal.1 in ((now w).each j (omega (arith, lt, w.summed.many))).2.0
 
-    pub stone_known : AreIds Ts (set ids k v)
-    stone_known = subst (λ w. AreIds Ts (set ids k w)) stone_value (left_known held.kept stone_seen)
+      module _ {n : ℕ} {m : Purses} {x : ℤ} (taken : n ≡ e.taken) (paid : m ≡ paid_in d n s.purses)
+          (number : x ≡ balance m *ℤ pos (2 ^ 59)) where
+        pub stone_bounds : IsBounded (pick Ts (set ids k v)) x
+        stone_bounds = held_bounds (stone_held legal.0 legal.1) (stone_modest taken paid) number
 
-    module _ {n : ℕ} {m : Purses} {x : ℤ} (taken : n ≡ e.taken) (paid : m ≡ paid_in d n s.purses) (number : x ≡ balance m *ℤ pos (2 ^ 59)) where
-      pub stone_bounds : IsBounded (pick Ts (set ids k v)) x
-      stone_bounds =
-          subst (λ T. T) (λ i. IsBounded (pick Ts (set ids k (stone_value i))) (sym number i))
-          (left_bounds held.kept stone_seen m (stone_modest taken paid))
-
-      pub stone_wins : {b : Bool} {o : Colour} → o ≡ other d → IsTrue b ↔ LosesGame o (sum_tree Ts (set ids k v) x) → IsTrue b ↔ IsWinning s (Stone p)
-      stone_wins {b} {o} turn answer =
-          let to_move = turn ∙ ap other side in
-          let units = number ∙ ap (λ z. balance z *ℤ pos (2 ^ 59)) (paid ∙ ap (λ c. paid_in c n s.purses) side ∙ ap (λ j. paid_in s.side j s.purses) taken) in
-          let back = sym stone_value in
-          left_wins held.kept stone_seen b
-          (subst (λ T. IsTrue b ↔ T) (λ i. LosesGame (to_move i) (sum_tree Ts (set ids k (back i)) (units i))) answer)
+        pub stone_wins : {b : Bool} {o : Colour} → o ≡ other d → IsTrue b ↔ LosesGame o (sum_tree Ts (set ids k v) x)
+            → IsTrue b ↔ IsWinning s (Stone p)
+        stone_wins turn answer = wins_by s (Stone p) legal (λ t move.
+            let leads = stone_leads held.kept.solved held.kept.at t stone_seen move in
+            let purses = paid ∙ (λ i. paid_in (side i) (taken i) s.purses) ∙ sym leads.purses in
+            by_search (kept_after t move) (turn ∙ ap other side ∙ sym leads.turn) purses number answer)

@@ -10,14 +10,13 @@ ghost use Rattle.endgame_solver.specs.inner.Solving.{IsGraphWithin, IsRefusalOf,
 use crate::cycle_names::CycleNames;
 use crate::faults::SolveError;
 use crate::limits::Limits;
-use crate::view_book::{Book, Kind, kind_of, own_view, view_for};
+use crate::view_book::{Book, Kind, add_own, add_view, first_kind, kind_of};
 use game_canon::FormError;
 use game_store::Store;
 use go_grid::Region;
 use local_graph::{CycleMove, Graph, GraphError, MOST_POSITIONS, build};
-use local_play::{Steps, start};
+use local_play::Steps;
 use local_value::{Values, value_all};
-use region_book::shape;
 use std::alloc::{AllocError, Global};
 use std::sync::ledger::Ledger;
 
@@ -135,23 +134,15 @@ fn solve_next<L: Ledger>(
         + min limits.now.positions (3 ^ length (region_at regions.now number).points) }
 {
     let region = &regions[number];
-    let (image, turn) = shape(alloc, region, start(region))?;
-    if let Some(place) = kind_of(kinds, &image) {
-        let kind = &kinds[place];
-        let view = view_for(alloc, region, &turn, place, kind, &mut book.values, store)?;
-        book.views.push(view)?;
+    let kind = first_kind(alloc, region, book.values.len())?;
+    if let Some(place) = kind_of(kinds, &kind.shape) {
+        let known = &kinds[place];
+        add_view(alloc, region, &kind.turn, place, known, book, store)?;
         return Ok(());
     }
     let (graph, ids) = solve_region(alloc, region, limits, store, steps)?;
-    let values = book.values.len();
-    book.views.push(own_view(book.graphs.len(), values))?;
-    book.graphs.push(graph)?;
-    book.values.push(ids)?;
-    kinds.push(Kind {
-        shape: image,
-        turn,
-        values,
-    })?;
+    add_own(book, graph, ids)?;
+    kinds.push(kind)?;
     Ok(())
 }
 

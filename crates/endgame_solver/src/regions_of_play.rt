@@ -7,7 +7,7 @@ ghost use Rattle.region_cut.specs.Cut.{AreRegionsOfPlay};
 ghost use Rattle.sgf_go.specs.Position.{IsFit};
 ghost use Rattle.endgame_solver.specs.Solved.{OpensAs};
 ghost use Rattle.endgame_solver.specs.inner.Solving.{FindsLarge};
-ghost use Rattle.endgame_solver.specs.inner.Views.{seen_ids, view_at};
+ghost use Rattle.endgame_solver.specs.inner.Views.{HasValue, seen_ids};
 
 use crate::view_book::Book;
 use crate::winning_moves::value_seen;
@@ -67,18 +67,9 @@ pub(crate) fn first_large(regions: &[Region]) -> Option<(Point, u16)>
     None
 }
 
-/// The opening of each of so many regions stands first in its graph.
-pub(crate) fn opening_places(alloc: Global, regions: usize) -> Result<Vec<usize>, AllocError>
-    ensures { IfOk result (λ places. places.items ≡ replicate regions 0) }
-{
-    Ok(vec![in alloc; 0; regions]?)
-}
-
 /// The values of the openings.
-pub(crate) fn opening_values(alloc: Global, book: &Book) -> Result<Vec<GameId>, AllocError>
-    requires { (k : ℕ) → k < length book.now.views.items
-        → ((view_at book.now.views.items k).values < length book.now.values.items)
-        × (0 < length (seen_ids book.now k)) }
+fn opening_values(alloc: Global, book: &Book) -> Result<Vec<GameId>, AllocError>
+    requires { (k : ℕ) → k < length book.now.views.items → HasValue book.now k 0 }
     ensures long { IfOk result (λ sum. length sum.items ≡ length book.now.views.items) }
     ensures each { IfOk result (λ sum. (k : ℕ) → k < length book.now.views.items
         → slice_index sum.items k ≡ slice_index (seen_ids book.now k) 0) }
@@ -88,4 +79,25 @@ pub(crate) fn opening_values(alloc: Global, book: &Book) -> Result<Vec<GameId>, 
         sum.push(value_seen(book, region, 0))?;
     }
     Ok(sum)
+}
+
+/// Where the regions stand in their graphs at the opening, and their values there.
+#[derive(Drop)]
+pub(crate) struct Start {
+    pub(crate) places: Vec<usize>,
+    pub(crate) sum: Vec<GameId>,
+}
+
+/// The openings of the regions, each of which stands first in its graph.
+pub(crate) fn start_of(alloc: Global, book: &Book) -> Result<Start, AllocError>
+    requires { (k : ℕ) → k < length book.now.views.items → HasValue book.now k 0 }
+    ensures places { IfOk result
+        (λ start. start.places.items ≡ replicate (length book.now.views.items) 0) }
+    ensures long { IfOk result (λ start. length start.sum.items ≡ length book.now.views.items) }
+    ensures each { IfOk result (λ start. (k : ℕ) → k < length book.now.views.items
+        → slice_index start.sum.items k ≡ slice_index (seen_ids book.now k) 0) }
+{
+    let places = vec![in alloc; 0; book.views.len()]?;
+    let sum = opening_values(alloc, book)?;
+    Ok(Start { places, sum })
 }

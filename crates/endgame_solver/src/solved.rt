@@ -17,10 +17,10 @@ ghost use Rattle.endgame_solver.specs.Solved.{Begun, IsNumberOfShapes, IsPresent
 use crate::faults::SolveError;
 use crate::limits::Limits;
 use crate::region_values::solve_regions;
-use crate::regions_of_play::{first_large, opening_of, opening_places, opening_values};
+use crate::regions_of_play::{first_large, opening_of, start_of};
 use crate::view_book::Book;
 use crate::winning_moves::{
-    Present, balance_of, first_winning_move, positions_seen, stone_edge, value_seen,
+    Present, balance_of, first_winning_move, mover_loses, positions_seen, stone_edge, value_seen,
 };
 use dyadic_num::Dyadic;
 use game_store::{GameId, Store};
@@ -88,10 +88,13 @@ struct Known {
 fn first_known(alloc: Global) -> Result<Known, AllocError>
     ensures { IfOk result (λ known. Fits known.store known.search) }
 {
-    let mut store = Store::new(alloc);
-    let mut search = Search::new(alloc, MOST_ENTRIES)?;
-    search.note_zero(&mut store)?;
-    Ok(Known { store, search })
+    let search = Search::new(alloc, MOST_ENTRIES)?;
+    let mut known = Known {
+        store: Store::new(alloc),
+        search,
+    };
+    known.search.note_zero(&mut known.store)?;
+    Ok(known)
 }
 
 impl Solved {
@@ -116,15 +119,14 @@ impl Solved {
         }
         let mut known = first_known(alloc)?;
         let book = solve_regions(alloc, &opening.regions, limits, &mut known.store, steps)?;
-        let places = opening_places(alloc, opening.regions.len())?;
-        let sum = opening_values(alloc, &book)?;
+        let start = start_of(alloc, &book)?;
         Ok(Solved {
             whole: opening.whole,
             store: known.store,
             regions: opening.regions,
             book,
-            places,
-            sum,
+            places: start.places,
+            sum: start.sum,
             search: known.search,
         })
     }
@@ -197,8 +199,14 @@ impl Solved {
         ensures same { self.new ≡ self.old }
     {
         let side = self.whole.side();
-        let balance = balance_of(self.whole.purses());
-        if self.search.loses(&self.store, &mut self.sum, balance, side) {
+        let present = Present {
+            whole: &self.whole,
+            regions: &self.regions,
+            book: &self.book,
+            places: &self.places,
+            store: &self.store,
+        };
+        if mover_loses(&present, &mut self.search, &mut self.sum) {
             return side.other();
         }
         side

@@ -1,20 +1,24 @@
 //! Regions of one shape: what was found of the first of them serves the others.
 
-ghost use Rattle.std.specs.Prelude.{◌≡◌, ◌≢◌, ℕ, ◌+◌, ◌^◌, ◌<◌, ◌≤◌, ◌++◌, ◌↔◌, IfErr, IfOk, IsTrue, List, MatchOption, OnOk, Contains, length, min, replicate, slice_index, slice_index_or, false, true};
+ghost use Rattle.std.specs.Prelude.{◌≡◌, ◌≢◌, ℕ, ◌+◌, ◌^◌, ◌<◌, ◌≤◌, ◌++◌, ◌∷◌, [], ◌↔◌, IfErr, IfOk, IsTrue, List, MatchOption, OnOk, Contains, length, min, replicate, slice_index, slice_index_or, false, true};
 ghost use Rattle.game_store.specs.Forms.{HaveForms};
 ghost use Rattle.game_store.specs.Meaning.{AreIds, Extends};
 ghost use Rattle.region_book.specs.Law.{differ};
 ghost use Rattle.endgame_solver.specs.declared.view_book.Kind.{Kind};
 ghost use Rattle.endgame_solver.specs.inner.Held.{ids_at};
 ghost use Rattle.endgame_solver.specs.inner.Sharing.{AreNegatives, AreTurnedValues, IsTurnedValue, IsViewFor, PairsWith};
+ghost use Rattle.endgame_solver.specs.inner.Views.{IsOwnView};
+ghost use Rattle.endgame_solver.specs.declared.views.View.{View};
+ghost use Rattle.region_book.specs.Image.{IsShape};
 
 use crate::views::View;
 use game_canon::negate;
 use game_store::{GameId, Store};
 use go_grid::Region;
 use local_graph::Graph;
+use local_play::start;
 use local_value::Values;
-use region_book::{Shape, Turn};
+use region_book::{Shape, Turn, shape};
 use std::alloc::{AllocError, Global};
 
 /// A shape, how the opening of the first region that has it is turned into it, and where that region's values stand. Its graph
@@ -39,6 +43,21 @@ fn is_same(a: &Shape, b: &Shape) -> bool
     ensures { IsTrue result ↔ (a.now.spots.items ≡ b.now.spots.items) }
 {
     a == b
+}
+
+/// The kind of a region that is the first of its shape, whose values are to stand at the place.
+pub(crate) fn first_kind(alloc: Global, region: &Region, values: usize) -> Result<Kind, AllocError>
+    requires { length region.now.points ≤ 32 }
+    ensures shape { IfOk result (λ kind. IsShape region.now region.now.cells
+        kind.shape.spots.items kind.turn) }
+    ensures values { IfOk result (λ kind. kind.values ≡ values) }
+{
+    let (image, turn) = shape(alloc, region, start(region))?;
+    Ok(Kind {
+        shape: image,
+        turn,
+        values,
+    })
 }
 
 /// The kind that has the shape.
@@ -138,8 +157,8 @@ fn negatives(alloc: Global, ids: &[GameId], store: &mut Store) -> Result<Values,
     ensures turned { IfOk result (λ turned. AreTurnedValues true store.new ids.now turned) }
     ensures kept { Extends store.old store.new }
 {
-    let mut turned = Values::new(alloc);
     let mut known = vec![in alloc; None; store.len() as usize]?;
+    let mut turned = Values::new(alloc);
     'ids: for id in ids {
         turned.push(negative_of(alloc, store, &mut known, *id)?)?;
     }
@@ -173,48 +192,48 @@ fn values_for(
     Ok(place)
 }
 
-/// How a region sees the graph at a place and the values of its kind.
-pub(crate) fn view_for(
+/// Adds how a region sees the graph at a place and the values of its kind.
+pub(crate) fn add_view(
     alloc: Global,
     region: &Region,
     turn: &Turn,
     place: usize,
     kind: &Kind,
-    values: &mut Vec<Values>,
+    book: &mut Book,
     store: &mut Store,
-) -> Result<View, AllocError>
+) -> Result<(), AllocError>
     requires few { length region.now.points ≤ 32 }
-    requires known { kind.now.values < length values.old.items }
-    requires ids { AreIds store.old (ids_at values.old.items kind.now.values) }
+    requires known { kind.now.values < length book.old.values.items }
+    requires ids { AreIds store.old (ids_at book.old.values.items kind.now.values) }
     requires some { (j : ℕ) → j < length region.now.points
         → (i : ℕ) × (i < length region.now.points)
         × (slice_index turn.now.places i ≡ slice_index kind.now.turn.places j) }
-    ensures view { IfOk result (λ v. IsViewFor
-        (length region.now.points) place turn.now kind.now values.old.items values.new.items
-        store.new v) }
+    ensures view { OnOk result ((v : View)
+        × (book.new.views.items ≡ book.old.views.items ++ v ∷ []) × IsViewFor
+        (length region.now.points) place turn.now kind.now book.old.values.items
+        book.new.values.items store.new v) }
     ensures more { OnOk result ((more : List (List ℕ))
-        × (values.new.items ≡ values.old.items ++ more)) }
+        × (book.new.values.items ≡ book.old.values.items ++ more)) }
+    ensures graphs { OnOk result (book.new.graphs.items ≡ book.old.graphs.items) }
     ensures kept { Extends store.old store.new }
     ensures forms { OnOk result (HaveForms store.new) }
 {
     let places = pairing(region.points.len(), turn, &kind.turn);
     let colours = differ(kind.turn.colours, turn.colours);
-    let held = values_for(alloc, colours, kind.values, values, store)?;
+    let values = values_for(alloc, colours, kind.values, &mut book.values, store)?;
     let _count = store.len();
-    Ok(View {
+    book.views.push(View {
         graph: place,
-        values: held,
+        values,
         places,
         colours,
-    })
+    })?;
+    Ok(())
 }
 
 /// How a region sees its own graph and values.
-pub(crate) fn own_view(graph: usize, values: usize) -> View
-    ensures graph { result.graph ≡ graph }
-    ensures values { result.values ≡ values }
-    ensures colours { result.colours ≡ false }
-    ensures places { (i : ℕ) → i < 32 → slice_index result.places i ≡ i }
+fn own_view(graph: usize, values: usize) -> View
+    ensures { IsOwnView result graph values }
 {
     View {
         graph,
@@ -222,4 +241,19 @@ pub(crate) fn own_view(graph: usize, values: usize) -> View
         places: own_places(),
         colours: false,
     }
+}
+
+/// Adds the graph and the values of a region, and how it sees them.
+pub(crate) fn add_own(book: &mut Book, graph: Graph, values: Values) -> Result<(), AllocError>
+    ensures graphs { OnOk result (book.new.graphs.items ≡ book.old.graphs.items ++ graph ∷ []) }
+    ensures values { OnOk result (book.new.values.items ≡ book.old.values.items ++ values ∷ []) }
+    ensures view { OnOk result ((v : View)
+        × (book.new.views.items ≡ book.old.views.items ++ v ∷ [])
+        × IsOwnView v (length book.old.graphs.items) (length book.old.values.items)) }
+{
+    book.views
+        .push(own_view(book.graphs.len(), book.values.len()))?;
+    book.graphs.push(graph)?;
+    book.values.push(values)?;
+    Ok(())
 }

@@ -8,7 +8,7 @@ ghost use Rattle.whole_rules.specs.FirstWinningMove.{IsFirstWinning, IsLosing, I
 ghost use Rattle.sum_outcome.specs.Memo.{Fits};
 ghost use Rattle.endgame_solver.specs.SumGame.{balance, halves};
 ghost use Rattle.endgame_solver.specs.inner.Held.{IsStoneAt, IsStoneEdge, IsFirstStone, AreModest};
-ghost use Rattle.endgame_solver.specs.inner.Views.{IsSeen, ShowsAll, ShowsPlaces, own, seen_graph, seen_ids, view_at};
+ghost use Rattle.endgame_solver.specs.inner.Views.{HasGraph, HasValue, IsSeen, ShowsAll, ShowsPlaces, own, seen_graph, seen_ids, view_at};
 ghost use Rattle.local_graph.specs.Graph.{Graph};
 ghost use Rattle.local_graph.specs.inner.Graph.{edges_at};
 
@@ -187,9 +187,7 @@ pub(crate) fn value_at(values: &Values, place: usize) -> GameId
 
 /// The value of a region's position at a place.
 pub(crate) fn value_seen(book: &Book, region: usize, place: usize) -> GameId
-    requires view { region < length book.now.views.items }
-    requires values { (view_at book.now.views.items region).values < length book.now.values.items }
-    requires place { place < length (seen_ids book.now region) }
+    requires { HasValue book.now region place }
     ensures { result ≡ slice_index (seen_ids book.now region) place }
 {
     let view = view_of(book, region);
@@ -198,8 +196,7 @@ pub(crate) fn value_seen(book: &Book, region: usize, place: usize) -> GameId
 
 /// The number of a region's positions.
 pub(crate) fn positions_seen(book: &Book, region: usize) -> usize
-    requires view { region < length book.now.views.items }
-    requires graph { (view_at book.now.views.items region).graph < length book.now.graphs.items }
+    requires { HasGraph book.now region }
     ensures { result ≡ length (seen_graph book.now region).positions }
 {
     let view = view_of(book, region);

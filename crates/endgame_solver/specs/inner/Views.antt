@@ -32,6 +32,13 @@ no_view = record { graph = 0; values = 0; places = []; colours = false }
 abbrev pub view_at : List View → ℕ → View
 view_at views k = slice_index_or views k no_view
 
+-- the view shows the graph and the values at the two places as they are
+pub record IsOwnView (v : View) (i j : ℕ) : Type 0 where
+  pub graph : v.graph ≡ i
+  pub values : v.values ≡ j
+  pub colours : v.colours ≡ false
+  pub places : (k : ℕ) → k < 32 → slice_index v.places k ≡ k
+
 -- a region's graph and values are those that its view shows
 pub record IsView (shared : List Graph) (held : List (List ℕ)) (v : View) (g : Graph) (ids : List ℕ) : Type 0 where
   pub graph : v.graph < length shared
@@ -51,6 +58,17 @@ seen_graph book k = graph_at book.graphs.items (view_at book.views.items k).grap
 -- the ids of the values that the view of a region shows in a book
 abbrev pub seen_ids : Book → ℕ → List ℕ
 seen_ids book k = ids_at book.values.items (view_at book.views.items k).values
+
+-- the book has a view of the region and the graph that it shows
+pub record HasGraph (book : Book) (k : ℕ) : Type 0 where
+  pub view : k < length book.views.items
+  pub graph : (view_at book.views.items k).graph < length book.graphs.items
+
+-- the book has a view of the region and the values that it shows, and one of them at the place
+pub record HasValue (book : Book) (k i : ℕ) : Type 0 where
+  pub view : k < length book.views.items
+  pub values : (view_at book.views.items k).values < length book.values.items
+  pub place : i < length (seen_ids book k)
 
 -- the book shows these graphs and values, one for each region
 abbrev pub ShowsAll : Book → List Graph → List (List ℕ) → ℕ → Type 0

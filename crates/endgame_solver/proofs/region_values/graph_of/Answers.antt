@@ -1,5 +1,4 @@
-use Rattle.std.proofs.Common.{◌≡◌, ◌<◌, sym, subst, arith, length}
-use Rattle.std.specs.List.{All}
+use Rattle.std.proofs.Common.{◌≡◌, ◌<◌, sym, subst, arith, length, All}
 use Rattle.endgame_solver.proofs.GraphLaws.{cycle_places, positions_few}
 use Rattle.endgame_solver.proofs.region_values.graph_of.Goals as goal
 

@@ -8,19 +8,17 @@ use Rattle.endgame_solver.specs.declared.view_book.Kind.{Kind}
 use Rattle.endgame_solver.proofs.SharingLaws.{next_seen, partner_for, shares_new, refused_at}
 use Rattle.endgame_solver.proofs.region_values.solve_next.Goals as goal
 
-pub view_for-requires-clause-some : goal.view_for-requires-clause-some
-view_for-requires-clause-some g c =
-    let r = c.index-regions-number.result in
-    let shape = c.in_ok-image.ensures r.cells c.start.ensures.full c.start.ensures.packed in
-    partner_for c.in-Some.place c.index-kind.result.now c.deref.ensures.value c.requires.before c.in-Some.ensures (sym c.index-kind.ensures) shape
+pub add_view-requires-clause-some : goal.add_view-requires-clause-some
+add_view-requires-clause-some g c =
+    partner_for c.in-Some.place c.index-known.result.now c.deref.ensures.value c.requires.before c.in-Some.ensures
+    (sym c.index-known.ensures) c.in_ok-kind.ensures.shape
 
 pub returns-in-Some-clause-next : goal.returns-in-Some-clause-next
 returns-in-Some-clause-next g c =
-    let r = c.index-regions-number.result in
-    let at = get_or_read c.args.regions.now c.args.number r c.requires.number c.index-regions-number.is no_region in
-    let shape = c.in_ok-image.ensures r.cells c.start.ensures.full c.start.ensures.packed in
-    next_seen c.in-Some.place c.index-kind.result.now c.deref.ensures.value c.requires.before c.requires.number c.requires.small at c.in-Some.ensures (sym c.index-kind.ensures) shape
-    c.in_ok-view.ensures.view c.in_ok-view.ensures.more c.in_ok-view.ensures.kept c.in_ok-view.ensures.forms c.in_ok-push.ensures.items
+    let at = get_or_read c.args.regions.now c.args.number c.index-regions-number.result c.requires.number c.index-regions-number.is no_region in
+    let w = c.in_ok-add_view.ensures {u = tt} in
+    rw w.graphs (next_seen c.in-Some.place c.index-known.result.now c.deref.ensures.value c.requires.before c.in-Some.ensures
+    (sym c.index-known.ensures) c.in_ok-kind.ensures.shape c.requires.number c.requires.small at w.view.2 w.more c.add_view.ensures.kept w.forms w.view.1)
 
 pub returns-in_err-graph-clause-refusal : goal.returns-in_err-graph-clause-refusal
 returns-in_err-graph-clause-refusal g c =
@@ -32,17 +30,14 @@ returns-in_err-graph-clause-refusal g c =
 
 pub returns-clause-next : goal.returns-clause-next
 returns-clause-next g c =
-    let r = c.index-regions-number.result in
-    let at = get_or_read c.args.regions.now c.args.number r c.requires.number c.index-regions-number.is no_region in
-    let x = c.in_ok-image.image.spots.items in
-    let t = c.in_ok-image.turn in
-    let shape = c.in_ok-image.ensures r.cells c.start.ensures.full c.start.ensures.packed in
-    let apart = subst (λ ks. (k : Kind) → Contains ks k → k.shape.spots.items ≢ x) c.deref.ensures.value (c.in_default.ensures {u = tt}) in
-    let kind : Kind = record { shape = c.in_ok-image.image; turn = t; values = c.len-values.result } in
-    let book = c.args.book.now in
-    let graphs = c.len.ensures ∙ book.graphs.ok.0 in
-    let values = c.len-values.ensures ∙ book.values.ok.0 in
-    rw (c.in_ok-push-2.ensures.items, c.in_ok-push-3.ensures.items, c.in_ok-push-4.ensures.items, c.in_ok-push-5.ensures.items)
-    (shares_new c.own_view.result kind c.solve_region.ensures.kept c.requires.before
+    let at = get_or_read c.args.regions.now c.args.number c.index-regions-number.result c.requires.number c.index-regions-number.is no_region in
+    let kind = c.in_ok-kind.kind in
+    let added = c.in_ok-add_own.ensures {u = tt} in
+    let (v, seen, own) = added.view in
+    let apart = subst (λ ks. (k : Kind) → Contains ks k → k.shape.spots.items ≢ kind.shape.spots.items) c.deref.ensures.value
+    (c.in_default.ensures {u = tt}) in
+    rw (added.graphs, added.values, seen, c.in_ok-push.ensures.items)
+    (shares_new v kind c.solve_region.ensures.kept c.requires.before
     (subst (λ z. IsSolvedBy c.args.limits.now z c.in_ok-graph.graph c.solve_region.new.store c.in_ok-graph.ids) at c.in_ok-graph.ensures.solved)
-    (subst (λ z. IsShape z z.cells x t) at shape) apart values (c.own_view.ensures.graph ∙ graphs) (c.own_view.ensures.values ∙ values) c.own_view.ensures.colours c.own_view.ensures.places)
+    (subst (λ z. IsShape z z.cells kind.shape.spots.items kind.turn) at c.in_ok-kind.ensures.shape) apart
+    (c.in_ok-kind.ensures.values ∙ c.len.ensures ∙ c.args.book.now.values.ok.0) own)

@@ -1,5 +1,4 @@
-use Rattle.std.proofs.Common.{refl}
-use Rattle.endgame_solver.proofs.WinningLaws.{by_search, held_bounds, held_modest, loses_state, loses_sum}
+use Rattle.endgame_solver.proofs.WinningLaws.{by_search, held_bounds, held_modest}
 use Rattle.endgame_solver.proofs.winning_moves.mover_loses.Goals as goal
 
 pub balance_of-balance-requires : goal.balance_of-balance-requires
@@ -10,6 +9,4 @@ loses-requires-clause-bounds c = held_bounds c.requires.seen (held_modest c.requ
 
 pub returns-clause-loses : goal.returns-clause-loses
 returns-clause-loses c =
-    let kept = c.requires.seen.kept in
-    let answer = by_search kept c.side-side.ensures refl c.purses.ensures c.balance_of-balance.ensures c.loses.ensures.answer in
-    (λ e. loses_state kept (answer.0 e), λ l. answer.1 (loses_sum kept l))
+    by_search c.requires.seen.kept c.side-side.ensures c.purses.ensures c.balance_of-balance.ensures c.loses.ensures.answer

@@ -1,12 +1,12 @@
-use Rattle.std.proofs.Common.{arith}
+use Rattle.std.proofs.Common.{arith, subst, Contains}
 use Rattle.std.proofs.lemmas.List.{get_or_read}
 use Rattle.endgame_solver.specs.Regions.{no_region}
-use Rattle.endgame_solver.proofs.WinningLaws.{asks_small, none_end, none_more, some_found}
+use Rattle.endgame_solver.proofs.WinningLaws.{none_more, some_found}
 use Rattle.endgame_solver.proofs.winning_moves.stone_edge.Goals as goal
 
 pub edge_in-requires : goal.edge_in-requires
-edge_in-requires c =
-    asks_small c.args.regions.now c.args.book.now c.args.places.now c.requires c.regions.k c.regions-test.true _ c.edges_seen-edges.result.now c.edges_seen-edges.ensures
+edge_in-requires c = λ f among.
+    (c.requires.views_are.each c.regions.k c.regions-test.true).seen.inside _ f (subst (λ es. Contains es f) c.edges_seen-edges.ensures among)
 
 pub returns-in-Some-clause-edges : goal.returns-in-Some-clause-edges
 returns-in-Some-clause-edges c =
@@ -20,4 +20,4 @@ regions-preserved c =
     tt})
 
 pub returns-clause-edges : goal.returns-clause-edges
-returns-clause-edges c = none_end c.args.regions.now c.args.book.now c.args.places.now c.args.colour c.args.point c.regions.k (omega (arith, c.regions-test.false)) c.regions.invariant
+returns-clause-edges c = λ graphs values shows k e x. c.regions.invariant graphs values shows k e (omega (arith, x.known, c.regions-test.false)) x

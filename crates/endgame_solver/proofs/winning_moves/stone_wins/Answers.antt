@@ -2,7 +2,8 @@ use Rattle.std.proofs.Common.{◌∙◌, refl, ap, get_or, set}
 use Rattle.std.proofs.lemmas.Bool.{both_ways}
 use Rattle.whole_rules.specs.Purses.{paid_in}
 use Rattle.sum_outcome.proofs.Lists.{put_back}
-use Rattle.endgame_solver.proofs.WinningLaws.{no_stone, shows_places, stone_bounds, stone_known, stone_modest, stone_none, stone_place, stone_values, stone_view, stone_wins}
+use Rattle.endgame_solver.proofs.HeldLaws.{some_edge}
+use Rattle.endgame_solver.proofs.WinningLaws.{shows_places, stone_bounds, stone_has, stone_known, stone_modest, stone_none, stone_wins}
 use Rattle.endgame_solver.proofs.winning_moves.stone_wins.Goals as goal
 
 pub returns-then-not-contested-clause-wins : goal.returns-then-not-contested-clause-wins
@@ -14,19 +15,13 @@ returns-then-not-contested-clause-wins c = (
 pub returns-in_default-clause-wins : goal.returns-in_default-clause-wins
 returns-in_default-clause-wins c =
     let none = stone_none c.requires.seen refl refl c.side-side.ensures (c.in_default.ensures {u = tt}).edges in
-    (λ e. absurd (cc), λ w. absurd (no_stone c.requires.seen.kept c.args.point none w))
+    (λ e. absurd (cc), λ w. absurd (some_edge c.requires.seen.kept c.args.point w.0 w.1 none))
 
 pub stone_edge-requires : goal.stone_edge-requires
 stone_edge-requires c = shows_places c.requires.seen refl refl
 
-pub value_seen-requires-clause-view : goal.value_seen-requires-clause-view
-value_seen-requires-clause-view c = stone_view c.requires.seen refl refl c.side-side.ensures c.in-Some.ensures.edges
-
-pub value_seen-requires-clause-values : goal.value_seen-requires-clause-values
-value_seen-requires-clause-values c = stone_values c.requires.seen refl refl c.side-side.ensures c.in-Some.ensures.edges
-
-pub value_seen-requires-clause-place : goal.value_seen-requires-clause-place
-value_seen-requires-clause-place c = stone_place c.requires.seen refl refl c.side-side.ensures c.in-Some.ensures.edges
+pub value_seen-requires : goal.value_seen-requires
+value_seen-requires c = stone_has c.requires.seen refl refl c.side-side.ensures c.in-Some.ensures.edges
 
 pub balance_of-requires : goal.balance_of-requires
 balance_of-requires c = stone_modest c.requires.seen refl refl c.side-side.ensures c.in-Some.ensures.edges c.from.ensures (c.paid_in-purses.ensures ∙ ap (paid_in c.side-side.result c.from.result) c.purses.ensures)

@@ -1,4 +1,4 @@
-use Rattle.std.proofs.Common.{◌≤◌, ap, ◌∙◌, subst, length, replicate}
+use Rattle.std.proofs.Common.{ap, ◌∙◌, subst, length, replicate}
 use Rattle.std.proofs.lemmas.Result.{err_from_is_err_and}
 use Rattle.sum_outcome.proofs.MemoLaws.{fits_grown}
 use Rattle.endgame_solver.proofs.BeginLaws.{refusal_begun, steps_within, is_kept, are_sound}
@@ -15,23 +15,15 @@ pub returns-in_err-book-clause-steps : goal.returns-in_err-book-clause-steps
 returns-in_err-book-clause-steps g c =
     steps_within c.args.limits.now c.args.steps.now c.in_ok-opening.ensures.regions c.deref-2.ensures.value c.solve_regions.ensures.steps
 
-pub returns-in_err-places-clause-steps : goal.returns-in_err-places-clause-steps
-returns-in_err-places-clause-steps g c =
-    steps_within c.args.limits.now c.args.steps.now c.in_ok-opening.ensures.regions c.deref-2.ensures.value c.solve_regions.ensures.steps
+pub returns-in_err-start-clause-begun : goal.returns-in_err-start-clause-begun
+returns-in_err-start-clause-begun g c =
+    let p = err_from_is_err_and c.from_residual-in_err-start.result c.from_residual-in_err-start.ensures.1 in rw (p.1, p.2) tt
 
-pub returns-in_err-places-clause-begun : goal.returns-in_err-places-clause-begun
-returns-in_err-places-clause-begun g c =
-    let p = err_from_is_err_and c.from_residual-in_err-places.result c.from_residual-in_err-places.ensures.1 in rw (p.1, p.2) tt
+pub start_of-requires : goal.start_of-requires
+start_of-requires g c = openings_known c.args.limits.now c.deref-2.result.now c.in_ok-book.book c.solve_regions.new.store c.in_ok-book.ensures.solved
 
-pub returns-in_err-sum-clause-begun : goal.returns-in_err-sum-clause-begun
-returns-in_err-sum-clause-begun g c =
-    let p = err_from_is_err_and c.from_residual-in_err-sum.result c.from_residual-in_err-sum.ensures.1 in rw (p.1, p.2) tt
-
-pub opening_values-requires : goal.opening_values-requires
-opening_values-requires g c = openings_known c.args.limits.now c.deref-2.result.now c.in_ok-book.book c.solve_regions.new.store c.in_ok-book.ensures.solved
-
-pub returns-in_err-sum-clause-steps : goal.returns-in_err-sum-clause-steps
-returns-in_err-sum-clause-steps g c =
+pub returns-in_err-start-clause-steps : goal.returns-in_err-start-clause-steps
+returns-in_err-start-clause-steps g c =
     steps_within c.args.limits.now c.args.steps.now c.in_ok-opening.ensures.regions c.deref-2.ensures.value c.solve_regions.ensures.steps
 
 pub invariant_of-result : goal.invariant_of-result
@@ -47,8 +39,8 @@ invariant_of-result g c =
         views_are = shared.views_are;
         shapes = shared.shapes;
         kept = is_kept c.requires.fit.settled made.regions made.local made.few c.requires.positions shared.solved made.opens
-            (c.in_ok-places.ensures ∙ ap (λ n. replicate n 0) (c.len.ensures ∙ c.in_ok-opening.opening.regions.ok.0))
-            (sum_is book shared.graphs shared.values (length regions) _ shared.views_are shared.solved.as_many_values c.in_ok-sum.ensures.long c.in_ok-sum.ensures.each)
+            (c.in_ok-start.ensures.places ∙ ap (λ n. replicate n 0) shared.views_are.many)
+            (sum_is book shared.graphs shared.values (length regions) _ shared.views_are shared.solved.as_many_values c.in_ok-start.ensures.long c.in_ok-start.ensures.each)
             c.requires.fit.black c.requires.fit.white c.requires.fit.komi;
       },
       fits_grown c.in_ok-known.known.store c.solve_regions.new.store c.in_ok-known.known.search c.in_ok-book.ensures.kept c.in_ok-known.ensures,

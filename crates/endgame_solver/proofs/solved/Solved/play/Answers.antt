@@ -1,7 +1,7 @@
 use Rattle.std.proofs.Common.{arith}
 use Rattle.go_grid.specs.declared.grid.Colour.TheVariants.{Black, White}
 use Rattle.endgame_solver.proofs.HeldLaws.{kept_applied, some_edge}
-use Rattle.endgame_solver.proofs.WinningLaws.{held_as, shows_places, stone_held, stone_none, stone_place, stone_values, stone_view}
+use Rattle.endgame_solver.proofs.WinningLaws.{held_as, shows_places, stone_has, stone_held, stone_none}
 use Rattle.endgame_solver.proofs.solved.Solved.play.Goals as goal
 
 pub apply-requires : goal.apply-requires
@@ -23,15 +23,9 @@ apply-requires-2-clause-white c = omega (arith, c.self.invariant.0.kept.room.roo
 pub stone_edge-edge-requires : goal.stone_edge-edge-requires
 stone_edge-edge-requires c = shows_places c.self.invariant.0 c.deref.ensures.value c.deref-2.ensures.value
 
-pub value_seen-requires-clause-view : goal.value_seen-requires-clause-view
-value_seen-requires-clause-view c = stone_view c.self.invariant.0 c.deref.ensures.value c.deref-2.ensures.value c.side-side.ensures (c.in-Some.ensures {u = tt}).edges
-
-pub value_seen-requires-clause-values : goal.value_seen-requires-clause-values
-value_seen-requires-clause-values c = stone_values c.self.invariant.0 c.deref.ensures.value c.deref-2.ensures.value c.side-side.ensures (c.in-Some.ensures {u = tt}).edges
-
-pub value_seen-requires-clause-place : goal.value_seen-requires-clause-place
-value_seen-requires-clause-place c =
-    stone_place c.self.invariant.0 c.deref.ensures.value c.deref-2.ensures.value c.side-side.ensures (c.in-Some.ensures {u = tt}).edges
+pub value_seen-requires : goal.value_seen-requires
+value_seen-requires c =
+    stone_has c.self.invariant.0 c.deref.ensures.value c.deref-2.ensures.value c.side-side.ensures (c.in-Some.ensures {u = tt}).edges
 
 pub invariant_of-self-in-Some : goal.invariant_of-self-in-Some
 invariant_of-self-in-Some c =

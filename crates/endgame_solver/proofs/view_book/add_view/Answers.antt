@@ -1,5 +1,5 @@
 use Rattle.std.proofs.Common.{ℕ, ◌≡◌, ◌<◌, sym, ap, subst, arith, length, get_or}
-use Rattle.endgame_solver.proofs.view_book.view_for.Goals as goal
+use Rattle.endgame_solver.proofs.view_book.add_view.Goals as goal
 
 pub pairing-places-requires-clause-some : goal.pairing-places-requires-clause-some
 pairing-places-requires-clause-some c =
