@@ -7,7 +7,7 @@ use Rattle.game_store.specs.Meaning.{pick, Wanted}
 use Rattle.short_games.specs.Parts.{IsFollower, IsOption}
 use Rattle.short_games.specs.Parts.IsFollower.{itself, further}
 use Rattle.game_store.specs.Forms.{IsOptions, IsMeaning, IsWithinBounds, HaveForms}
-use Rattle.game_store.proofs.Values.{has-pick, pick-has}
+use Rattle.game_store.proofs.EntryLaws.{has-pick, pick-has}
 use Rattle.short_games.proofs.TextOrderLaws.{sorted-has, has-sorted}
 use Rattle.thermograph.specs.inner.Flags.{IsFlagged, AreAdded, IsAmong, IsInnerId, AreFollowers}
 use Rattle.short_games.proofs.PartLaws.{follower-trans, follower-of}

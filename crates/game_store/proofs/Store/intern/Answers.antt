@@ -4,8 +4,8 @@ use Rattle.std.specs.HashMap.{get}
 use Rattle.std.specs.Map.{lookup}
 use Rattle.game_store.specs.Meaning.{form}
 use Rattle.game_store.specs.Meaning.Wanted.{options}
-use Rattle.game_store.proofs.Values.{extends-push, last-value, MayKeep}
-use Rattle.game_store.proofs.Interned.{floor-small, found, Holds, holds, holds-options, ids-below, length-trees, options-placed, slot-behind}
+use Rattle.game_store.proofs.EntryLaws.{extends-push, last-value, MayKeep}
+use Rattle.game_store.proofs.StoreLaws.{floor-small, found, Holds, holds, holds-options, ids-below, length-trees, options-placed, slot-behind}
 use Rattle.game_store.proofs.Store.intern.Goals as goal
 
 pub returns-in-Some-clause-value : goal.returns-in-Some-clause-value

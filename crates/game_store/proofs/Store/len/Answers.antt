@@ -1,5 +1,5 @@
 use Rattle.std.proofs.Common.{sym, ◌∙◌, ◌≡◌, length, rules}
-use Rattle.game_store.proofs.Interned.{have-forms, holds, length-trees}
+use Rattle.game_store.proofs.StoreLaws.{have-forms, holds, length-trees}
 use Rattle.game_store.proofs.Store.len.Goals as goal
 
 pub returns-clause-count : goal.returns-clause-count

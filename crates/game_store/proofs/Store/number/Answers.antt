@@ -4,8 +4,8 @@ use Rattle.std.specs.Map.{lookup}
 use Rattle.short_games.specs.Number.{number_tree}
 use Rattle.short_games.proofs.ReductionLaws.{number-canonical}
 use Rattle.game_store.specs.Meaning.Wanted.{number}
-use Rattle.game_store.proofs.Values.{extends-push, last-value}
-use Rattle.game_store.proofs.Interned.{Holds, found, holds, holds-map, holds-new, length-trees, number-placed}
+use Rattle.game_store.proofs.EntryLaws.{extends-push, last-value}
+use Rattle.game_store.proofs.StoreLaws.{Holds, found, holds, holds-map, holds-new, length-trees, number-placed}
 use Rattle.game_store.proofs.Store.number.Goals as goal
 
 pub returns-in-Some-clause-value : goal.returns-in-Some-clause-value

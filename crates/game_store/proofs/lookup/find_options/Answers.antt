@@ -1,7 +1,7 @@
 use Rattle.std.proofs.Common.{ap, sym, ◌∙◌}
 use Rattle.std.proofs.lemmas.Bool.{false≢true}
 use Rattle.game_store.specs.declared.Slot.{Slot}
-use Rattle.game_store.proofs.Values.{at-within, at-next, at-smaller, at-end, entry-at, within-at}
+use Rattle.game_store.proofs.EntryLaws.{at-within, at-next, at-smaller, at-end, entry-at, within-at}
 use Rattle.game_store.proofs.lookup.find_options.Goals as goal
 
 pub read_slot-slot-requires : goal.read_slot-slot-requires
