@@ -1,5 +1,5 @@
 -- Regions of play: what stands next to them, their links, and all of them, lowest point by lowest point.
-use Rattle.std.proofs.Common.{ℕ, zero, suc, inl, inr, ◌≡◌, ◌+◌, ◌<◌, sym, ◌∙◌, arith, refl, subst, List, [], ◌∷◌, ◌++◌, length, get_or, Option, None, Some, below_more, ◌↔◌, ◌*◌, ◌≤◌, ◌⊎◌, Bool, true, false}
+use Rattle.std.proofs.Common.{ℕ, zero, suc, inl, inr, ◌≡◌, ◌+◌, ◌<◌, sym, ◌∙◌, arith, refl, subst, List, [], ◌∷◌, ◌++◌, length, get_or, Option, None, Some, below_more, ◌↔◌, ◌*◌, ◌≤◌, ◌⊎◌, Bool, true, false, Contains, AllPairs}
 use Rattle.go_grid.specs.declared.grid.Colour.{Colour}
 use Rattle.go_grid.specs.declared.grid.Colour.TheVariants as colour
 use Rattle.go_grid.specs.Board.{Board, NextTo, Lacks, cell_at, stone, IsAbove, IsLeftOf, IsThe, AreNear}
@@ -9,7 +9,6 @@ use Rattle.benson_life.proofs.WallLemmas.{counted_region}
 use Rattle.benson_life.specs.Life.{IsAlive, IsCounted}
 use Rattle.benson_life.specs.Region.{IsContested, InRegionOfPlay}
 use Rattle.go_grid.proofs.BoardLemmas.{same_or_not}
-use Rattle.std.specs.List.{Contains, AllPairs}
 use Rattle.std.proofs.lemmas.List.{get_or_append_left, get_or_push, get_or_default}
 use Rattle.go_grid.specs.declared.region.Touch.{Touch}
 use Rattle.go_grid.specs.Region.{IsLink, AreLinks, Region, IsRegion, touch_at, IsBeside}
@@ -17,7 +16,7 @@ use Rattle.go_grid.proofs.LinkLemmas.{same_point, link_at, linked_to}
 use Rattle.region_cut.specs.inner.Places.{IsPlace, IsTouch}
 use Rattle.local_play.specs.LocalPlay.{IsLinked}
 use Rattle.std.specs.List.Sorted.{IsStrictlyIncreasing}
-use Rattle.std.proofs.lemmas.Bool.{both_ways, cases_Bool, cases_eq}
+use Rattle.std.proofs.lemmas.Bool.{both_ways, cases_Bool, cases_eq, true_from_ne_false}
 use Rattle.std.proofs.lemmas.List.Elements.{Contains-get_or, Contains-push, Contains-push_cases, Contains-append_left}
 use Rattle.std.proofs.lemmas.Map.Keys.{sorted_from_strictly_increasing, below_from_sorted}
 use Rattle.go_grid.specs.declared.grid.Cell.{Cell}
@@ -181,10 +180,6 @@ module _ (g : Board) (start : ℕ) {points : List ℕ} (lists : Lists points (In
             joined_step c (Contains points) p x y at next
             ((lists.exact y).1 (joined_step c (IsContested g) start x y ((lists.exact x).0 here) next h))
 
-    -- what the type of a region keeps
-    pub keeps_region : IsRegion k r points cells touch
-    keeps_region = rw (ek, er) is_region
-
     walls_of : Marks black (IsAlive g Black) → Marks white (IsAlive g White) → (i : ℕ) (c : Colour) → i < length points
         → IsBeside c (touch_at touch i) ↔ ((s : ℕ) × NextTo g.columns (get_or points i 0) s × IsAlive g c s)
     walls_of isb isw i Black l = (
@@ -205,7 +200,7 @@ module _ (g : Board) (start : ℕ) {points : List ℕ} (lists : Lists points (In
         let first = region_first contested least in record {
           columns = ek;
           rows = er;
-          proper = keeps_region;
+          proper = rw (ek, er) is_region;
           points = λ p. subst (λ s. Contains points p ↔ InRegionOfPlay g s p) (sym first) (lists.exact p);
           first = λ p h. subst (λ s. s ≤ p) (sym first) (least p ((lists.exact p).0 h));
           cells = read;
@@ -213,8 +208,7 @@ module _ (g : Board) (start : ℕ) {points : List ℕ} (lists : Lists points (In
         }
 
 pub true_stable : (b : Bool) → ¬ ¬ (b ≡ true) → b ≡ true
-true_stable true never = refl
-true_stable false never = absurd (never (λ e. both_ways _ refl e))
+true_stable b never = true_from_ne_false b (λ f. never (λ t. both_ways b f t))
 
 -- what stands next to the region and outside it can't but be an alive stone
 pub never_open : (g : Board) (r : Region) → IsRegionOfPlay g r → (p q : ℕ) → Contains r.points p → NextTo g.columns p q
