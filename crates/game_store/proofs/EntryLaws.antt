@@ -1,9 +1,8 @@
 -- What a store's entries mean, and the chains along which they are found.
-use Rattle.std.proofs.Common.{ℕ, zero, suc, ◌+◌, ◌-◌, ◌<◌, ◌≤◌, ◌≡◌, List, [], ◌∷◌, ◌++◌, length, get_or, take, drop, arith, refl, sym, ◌∙◌, ap, ap₂, subst, pos, inl, inr, cond, nat_eq, Some, None}
+use Rattle.std.proofs.Common.{ℕ, zero, suc, ◌+◌, ◌-◌, ◌<◌, ◌≤◌, ◌≡◌, List, [], ◌∷◌, ◌++◌, length, get_or, take, drop, arith, refl, sym, ◌∙◌, ap, ap₂, subst, pos, inl, inr, cond, nat_eq, Some, None, add-zero, zero-add, Option}
 use Rattle.std.proofs.lemmas.Bool.{eqb-true, eqb-false, cases_Bool, cases_lt}
 use Rattle.std.proofs.lemmas.List.{length-map, length-drop, length-append, length-take, get_or-take, get_or-drop, get_or_append_left, get_or_push}
 use Rattle.std.proofs.Math.Seq.{get_or-append_seam, get_or-append_right, take-append_seam, drop-append_seam}
-use native.Mathlib.Nat.{add-zero, zero-add}
 use Rattle.short_games.specs.Tree.{Tree, Trees, node, none, more, left, right, tree_at, AreDistinct, Has}
 use Rattle.short_games.specs.Number.{IsNumberTree}
 use Rattle.game_store.specs.declared.Entry.{Entry}
@@ -15,7 +14,6 @@ use Rattle.short_games.specs.TextOrder.{sorted, IsCanonicalTree}
 use Rattle.short_games.proofs.TextOrderLaws.{sorted-has, has-sorted}
 use Rattle.short_games.proofs.WallNumbers.{num-one_to_one}
 use Rattle.std.proofs.Math.ListN.{get_or-map}
-use Rattle.std.specs.Prelude.{Option}
 use Rattle.std.proofs.lemmas.Option.{same_Some}
 use Rattle.game_store.specs.declared.Slot.{Slot}
 use Rattle.game_store.specs.inner.Chain.{entries_of, fingerprint, fingerprints, latest_of, slot_at, before_at, HasBefores, IsChained, IsAt, place}

@@ -1,5 +1,5 @@
 -- The floors and ceilings of forms, and what holds of a store's fields as a form is added.
-use Rattle.std.proofs.Common.{below_more, ℕ, ◌+◌, ◌<◌, ◌≡◌, List, length, get_or, arith, refl, sym, subst, ℤ, pos, ◌-ℤ◌, ◌+ℤ◌, ◌≤ℤ◌, [], ◌∷◌, ◌++◌, ◌∙◌, ap, ap₂, cond, nat_eq, Some, ◌↔◌, ◌<ℤ◌, Bool, true, take, drop}
+use Rattle.std.proofs.Common.{below_more, ℕ, ◌+◌, ◌<◌, ◌≡◌, List, length, get_or, arith, refl, sym, subst, ℤ, pos, ◌-ℤ◌, ◌+ℤ◌, ◌≤ℤ◌, [], ◌∷◌, ◌++◌, ◌∙◌, ap, ap₂, cond, nat_eq, Some, ◌↔◌, ◌<ℤ◌, Bool, true, take, drop, Option, Ordering, Less, Equal, Greater}
 use Rattle.std.specs.Int.{int_max, int_min}
 use Rattle.std.proofs.lemmas.Int.{ints, by_lt_z}
 use Rattle.std.proofs.lemmas.Bool.{false≢true}
@@ -18,7 +18,6 @@ use Rattle.short_games.proofs.ReductionLaws.{canonical-number}
 use Rattle.short_games.proofs.ThresholdLaws.{number-floor, number-ceiling, half-cell}
 use Rattle.short_games.proofs.StopLaws.{IsGreatest, IsLeast, ceiling-by, floor-by, number-left_stop, number-right_stop, game-left_stop, game-right_stop}
 use Rattle.game_store.proofs.EntryLaws.{has-pick, pick-has, joined-options, left-below, right-below, MayKeep, new-entry, IsNew, held-more, held-from, length-values, chained-more, chained-push, length-entries, kept-more, values-more, push_both}
-use Rattle.std.specs.Prelude.{Option, take, drop}
 use Rattle.game_store.specs.declared.Entry.{Entry}
 use Rattle.game_store.specs.declared.Entry.TheVariants.{Number, Options}
 use Rattle.game_store.specs.inner.Meaning.{values, IsKept, entry_at, held, meaning, Fits, AreOptions, list_at, IsNoNumber}
@@ -31,8 +30,6 @@ use Rattle.short_games.proofs.OrderLaws.{le-refl}
 use Rattle.short_games.proofs.NumberLaws.{num-double}
 use Rattle.std.specs.Cmp.{int_ranks}
 use Rattle.std.specs.Ordering.{MatchOrdering, is_le, is_gt, int_cmp}
-use Rattle.std.specs.declared.cmp.Ordering.{Ordering}
-use Rattle.std.specs.declared.cmp.Ordering.TheVariants.{Less, Equal, Greater}
 
 -- what comparing two places says of them as numbers of half parts
 pub at_most : (x y : ℤ) (b : Bool) → b ≡ is_le (int_cmp x y) → (b ≡ true) ↔ (x ≤ℤ y)

@@ -1,14 +1,11 @@
 -- What is remembered, the ids after the edges of a place as the store grows, and the form of those ids.
-use Rattle.std.proofs.Common.{ℕ, ◌+◌, ◌^◌, ◌≡◌, ◌<◌, ◌↔◌, arith, inl, inr, sym, ap, ap₂, true, Bool, get_or, subst, ◌∙◌, List, [], length, cond, Option, Some, Result, Ok, Err, OnOk, OnErr, nat_eq, ℤ, ◌+ℤ◌, ◌≤◌, to_z, of_z, w32, ◌*◌, refl, pos, neg_ℤ, ◌*ℤ◌, ◌∷◌, ◌++◌, take, Contains}
-use Rattle.std.specs.Str.{bytes_eq}
-use Rattle.std.specs.Ordering.{int_eq}
+use Rattle.std.proofs.Common.{ℕ, ◌+◌, ◌^◌, ◌≡◌, ◌<◌, ◌↔◌, arith, inl, inr, sym, ap, ap₂, true, Bool, get_or, subst, ◌∙◌, List, [], length, cond, Option, Some, Result, Ok, Err, OnOk, OnErr, nat_eq, ℤ, ◌+ℤ◌, ◌≤◌, to_z, of_z, w32, ◌*◌, refl, pos, neg_ℤ, ◌*ℤ◌, ◌∷◌, ◌++◌, take, Contains, bytes_eq, int_eq, unsigned_abs, IfOk, IfErr}
 use Rattle.std.specs.Map.{lookup}
 use Rattle.std.proofs.lemmas.Option.{same_Some}
 use Rattle.game_store.proofs.EntryLaws.{pick-same, has-pick, pick-has, push_one}
 use Rattle.std.proofs.lemmas.Bool.{cases_Bool, and_parts, eqb-true}
 use Rattle.std.proofs.lemmas.Bool.Decides.{Decides-int_eq}
 use Rattle.std.proofs.lemmas.Slice.Eq.{bytes_eq-Decides}
-use Rattle.std.specs.Prelude.{unsigned_abs, Result, IfOk, IfErr}
 use Rattle.std.proofs.lemmas.Int.{to_z-of_z, fits_signed_from_abs, ints}
 use Rattle.indexmap.specs.IndexMap.{get, IndexMap, IsUnchanged, Updates}
 use Rattle.short_games.specs.Tree.{Tree, node, tree_at, none, Has}

@@ -1,8 +1,5 @@
 -- One pass over the places of a graph, each after those that its moves lead to, what it gives in the end, and what a refusal on the way means.
-use Rattle.std.proofs.Common.{ℕ, suc, ◌+◌, ◌-◌, ◌*◌, ◌^◌, ◌≡◌, ◌<◌, ◌≤◌, inl, inr, refl, sym, ap, ◌∙◌, subst, arith, pos, List, [], ◌∷◌, length, get_or, set, below_more, Contains}
-use Rattle.std.specs.Prelude.{unsigned_abs}
-use Rattle.std.proofs.Math.Nat.{mul-le-mul_right}
-use Rattle.std.proofs.lemmas.Bool.{cases_lt}
+use Rattle.std.proofs.Common.{ℕ, suc, ◌+◌, ◌-◌, ◌*◌, ◌^◌, ◌≡◌, ◌<◌, ◌≤◌, inl, refl, sym, ap, ◌∙◌, subst, arith, pos, List, [], ◌∷◌, length, get_or, set, below_more, Contains, unsigned_abs, mul-le-mul_right}
 use Rattle.std.proofs.lemmas.Int.{ints}
 use Rattle.std.proofs.lemmas.List.{get_or-set_same, get_or-set_other, length-set, get_or_default}
 use Rattle.go_grid.specs.declared.grid.Colour.{Colour}
@@ -34,6 +31,7 @@ use Rattle.local_value.proofs.MoveLaws.{position_at, taken_less, steps-in, steps
 use Rattle.local_value.proofs.TreeLaws.{place_ends, place_tree, move-option, option-move}
 use Rattle.local_value.proofs.OptionsLaws.{no-edges, number-as}
 use Rattle.go_grid.specs.declared.grid.Cell.{Cell}
+use Rattle.local_graph.proofs.OrderLemmas.{same_place}
 use Rattle.local_graph.proofs.PlayLemmas.{plays_long}
 use Rattle.short_games.proofs.Existence.{canon}
 use Rattle.short_games.proofs.TextOrderLaws.{text-order}
@@ -94,14 +92,9 @@ module _ {r : Region} {g : Graph} (of : IsGraphOf r g) where
   -- places are as many as positions at most
   pub order_short : length g.order ≤ length g.positions
   order_short =
-      let le = fewer (length g.order) (length g.edges) (λ j i. get_or g.order j 0 ≡ i) (λ j lt. (get_or g.order j 0, of.order.inside j lt, refl)) one in
+      let le = fewer (length g.order) (length g.edges) (λ j i. get_or g.order j 0 ≡ i) (λ j lt. (get_or g.order j 0, of.order.inside j lt, refl))
+      (λ i j k li lj e f. same_place g.order i j of.order.once li lj (e ∙ sym f)) in
       omega (arith, le, of.graph.beside)
-    where
-      one : (i j k : ℕ) → i < length g.order → j < length g.order → get_or g.order i 0 ≡ k → get_or g.order j 0 ≡ k → i ≡ j
-      one i j k li lj e f = elim (cases_lt i j) [
-        | inl lt ↦ absurd (of.order.once i j 0 lt lj (e ∙ sym f))
-        | inr ge ↦ elim (cases_lt j i) [ inl lt ↦ absurd (of.order.once j i 0 lt li (f ∙ sym e)) | inr le ↦ omega (arith, ge, le) ]
-      ]
 
   deep : (i : ℕ) (cells : List Cell) → IsPlaceOf r g i cells → 3 ^ length r.cells ≤ 3 ^ length cells
   deep i cells has =
