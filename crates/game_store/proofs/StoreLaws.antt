@@ -145,14 +145,8 @@ module _ {Ts : List Tree} {lists : List (List ℕ)} {slots : List Slot} {L : ℕ
 
   -- each number of a store is within the bounds of a Dyadic, since its floor and its ceiling are
   pub have-forms : HaveForms Ts
-  have-forms id l = (w, m, bounds w m)
+  have-forms id l = let w = held lists (entry_at es id) in let m = means id (in_range id l) w refl in (w, m, bounds w m)
     where
-      w : Wanted
-      w = held lists (entry_at es id)
-
-      m : IsMeaning Ts id w
-      m = means id (in_range id l) w refl
-
       bounds : (w : Wanted) → IsMeaning Ts id w → IsWithinBounds w
       bounds (number x) t = placed-number x _ _ (subst (λ G. IsPlaced G (floor_at slots id) (ceiling_at slots id)) t (placed-at id l))
       bounds (options ls rs) t = tt
@@ -185,26 +179,22 @@ module _ {Ts : List Tree} {lists : List (List ℕ)} {slots : List Slot} {L : ℕ
   -- the places of a form are what its options set
   pub options-placed : (ls rs : List ℕ) (f c : ℤ) → MayKeep Ts (options ls rs) → IsLeastCeiling slots rs f → IsGreatestFloor slots ls c
       → (x y : ℤ) → x ≡ f -ℤ pos 1 → y ≡ c +ℤ pos 1 → IsPlaced (form Ts ls rs) x y
-  options-placed ls rs f c keep p q x y x_is y_is = rw (x_is, y_is) record {
-    floor_is = floor-by 60 G f no_number (least-ceiling rs f b p);
-    ceiling_is = ceiling-by 60 G c no_number (greatest-floor ls c a q);
-    floor_range = (let r = ceiling-small rs f b p in (grind (arith, ints), grind (arith, ints)));
-    ceiling_range = (let r = floor-small ls c a q in (grind (arith, ints), grind (arith, ints)));
-    left_stop = game-left_stop 60 G keep.lists.4 (λ L h. (let o = option ls L h in subst (λ t. (x : ℤ) × IsRightStop 60 t x) (sym o.2) (placed-at _ (a o.0 o.1)).right_stop)) _ (has-option ls q.reached.0 q.reached.1);
-    right_stop = game-right_stop 60 G keep.lists.4 (λ R h. (let o = option rs R h in subst (λ t. (x : ℤ) × IsLeftStop 60 t x) (sym o.2) (placed-at _ (b o.0 o.1)).left_stop)) _ (has-option rs p.reached.0 p.reached.1);
-  }
-    where
-      G : Tree
-      G = form Ts ls rs
-
-      a : AreIds Ts ls
-      a = keep.lists.0
-
-      b : AreIds Ts rs
-      b = keep.lists.1
-
-      no_number : IsNumber G → ⊥
-      no_number i = keep.lists.4 (i.0, i.1, canonical-number G keep.canonical i)
+  options-placed ls rs f c keep p q x y x_is y_is =
+      let G = form Ts ls rs in
+      let a = keep.lists.0 in
+      let b = keep.lists.1 in
+      let no_number : IsNumber G → ⊥ = λ i. keep.lists.4 (i.0, i.1, canonical-number G keep.canonical i) in rw (x_is, y_is) record {
+        floor_is = floor-by 60 G f no_number (least-ceiling rs f b p);
+        ceiling_is = ceiling-by 60 G c no_number (greatest-floor ls c a q);
+        floor_range = (let r = ceiling-small rs f b p in (grind (arith, ints), grind (arith, ints)));
+        ceiling_range = (let r = floor-small ls c a q in (grind (arith, ints), grind (arith, ints)));
+        left_stop = game-left_stop 60 G keep.lists.4
+            (λ L h. (let o = option ls L h in subst (λ t. (x : ℤ) × IsRightStop 60 t x) (sym o.2) (placed-at _ (a o.0 o.1)).right_stop))
+            _ (has-option ls q.reached.0 q.reached.1);
+        right_stop = game-right_stop 60 G keep.lists.4
+            (λ R h. (let o = option rs R h in subst (λ t. (x : ℤ) × IsLeftStop 60 t x) (sym o.2) (placed-at _ (b o.0 o.1)).left_stop))
+            _ (has-option rs p.reached.0 p.reached.1);
+      }
 
   -- more lists, and another way to look up the latest
   pub holds-more : (extra lists1 : List (List ℕ)) → lists1 ≡ lists ++ extra → Holds Ts lists1 slots L
@@ -222,29 +212,23 @@ module _ {Ts : List Tree} {lists : List (List ℕ)} {slots : List Slot} {L : ℕ
       → MayKeep Ts w → IsPlaced (meaning Ts w) s.floor s.ceiling → Fits lists (length slots) s.entry → held lists s.entry ≡ w → ((k : ℕ) → k < length slots → held lists (entry_at es k) ≡ w → ⊥)
       → slots2 ≡ slots ++ s ∷ [] → s.before ≡ L (fingerprint w)
       → ((q : ℕ) → L' q ≡ cond (nat_eq (fingerprint w) q) (Some (length slots)) (L q)) → Holds (Ts ++ meaning Ts w ∷ []) lists slots2 L'
-  holds-new slots2 L' w s keep place fits is absent slots_is before_is map_is = rw slots_is record {
-    all = (
-      subst (IsKept lists) (sym es_is) new.kept,
-      chained-push lists slots L L' s (fingerprint w) h.all.1 (ap fingerprint is) before_is map_is,
-      subst (λ us. ArePlaced us (slots ++ s ∷ [])) (sym values_is) (push_both (λ _ G (t : Slot). IsPlaced G t.floor t.ceiling) Ts slots (meaning Ts w) (node none none) s _
-          length-trees (subst (λ us. ArePlaced us slots) h.values_are h.all.2) place),
-    );
-    values_are = values_is;
-  }
-    where
-      es_is : entries_of (slots ++ s ∷ []) ≡ entries_of slots ++ s.entry ∷ []
-      es_is = map-append (λ t. t.entry) slots (s ∷ [])
-
-      new : IsNew lists (entries_of slots) (entries_of slots ++ s.entry ∷ []) w
-      new = new-entry lists es s.entry w h.all.0 (subst (λ us. MayKeep us w) (sym h.values_are) keep)
-          (subst (λ n. Fits lists n s.entry) (sym (length-entries slots)) fits) is (λ k l. absent k (omega (arith, l, length-entries slots)))
-
-      values_is : values lists (entries_of (slots ++ s ∷ [])) ≡ Ts ++ meaning Ts w ∷ []
-      values_is = ap (values lists) es_is ∙ new.values_are ∙ ap (λ us. us ++ meaning us w ∷ []) h.values_are
-
--- a slot behind the same slots
-pub slot-behind : (slots same more : List Slot) (s : Slot) → more ≡ same ++ s ∷ [] → same ≡ slots → more ≡ slots ++ s ∷ []
-slot-behind slots same more s e i = e ∙ ap (λ (us : List Slot). us ++ s ∷ []) i
+  holds-new slots2 L' w s keep place fits is absent slots_is before_is map_is =
+      let es_is : entries_of (slots ++ s ∷ []) ≡ es ++ s.entry ∷ [] = map-append (λ t. t.entry) slots (s ∷ []) in
+      let new : IsNew lists es (es ++ s.entry ∷ []) w =
+      new-entry lists es s.entry w h.all.0 (subst (λ us. MayKeep us w) (sym h.values_are) keep)
+      (subst (λ n. Fits lists n s.entry) (sym (length-entries slots)) fits) is (λ k l. absent k (omega (arith, l, length-entries slots))) in
+      let values_is : values lists (entries_of (slots ++ s ∷ [])) ≡ Ts ++ meaning Ts w ∷ [] =
+      ap (values lists) es_is ∙ new.values_are ∙ ap (λ us. us ++ meaning us w ∷ []) h.values_are in
+      rw slots_is record {
+        all = (
+          subst (IsKept lists) (sym es_is) new.kept,
+          chained-push lists slots L L' s (fingerprint w) h.all.1 (ap fingerprint is) before_is map_is,
+          subst (λ us. ArePlaced us (slots ++ s ∷ [])) (sym values_is)
+              (push_both (λ _ G (t : Slot). IsPlaced G t.floor t.ceiling) Ts slots (meaning Ts w) (node none none) s _
+              length-trees (subst (λ us. ArePlaced us slots) h.values_are h.all.2) place),
+        );
+        values_are = values_is;
+      }
 
 -- the options of a new form are one more list
 pub holds-options : {Ts : List Tree} {lists : List (List ℕ)} {slots : List Slot} {L : ℕ → Option ℕ} → Holds Ts lists slots L
@@ -254,6 +238,7 @@ pub holds-options : {Ts : List Tree} {lists : List (List ℕ)} {slots : List Slo
     → slots2 ≡ slots ++ s ∷ [] → s.before ≡ L (fingerprint (options ls rs))
     → ((q : ℕ) → L' q ≡ cond (nat_eq (fingerprint (options ls rs)) q) (Some (length slots)) (L q)) → Holds (Ts ++ form Ts ls rs ∷ []) lists2 slots2 L'
 holds-options {Ts} {lists} {slots} {L} h lists2 slots2 L' ls rs place left_count s keep placed absent is entry_is place_is count_is slots_is before_is map_is =
+    let last : list_at (lists ++ (ls ++ rs) ∷ []) (length lists) ≡ ls ++ rs = get_or-append_seam lists (ls ++ rs) [] [] in
     holds-new (holds-more h ((ls ++ rs) ∷ []) lists2 is) slots2 L' (options ls rs) s keep placed
     (rw (entry_is, place_is, count_is, is) (
       omega (arith, length-append lists ((ls ++ rs) ∷ [])),
@@ -264,6 +249,3 @@ holds-options {Ts} {lists} {slots} {L} h lists2 slots2 L' ls rs place left_count
     (λ k l i. absent k l (sym (held-more lists ((ls ++ rs) ∷ []) k _ (h.all.0.fit k (omega (arith, l, length-entries slots))))
     ∙ subst (λ us. held us (entry_at (entries_of slots) k) ≡ options ls rs) is i))
     slots_is before_is map_is
-  where
-    last : list_at (lists ++ (ls ++ rs) ∷ []) (length lists) ≡ ls ++ rs
-    last = get_or-append_seam lists (ls ++ rs) [] []

@@ -143,24 +143,23 @@ module _ {r : Region} {g : Graph} (of : IsGraphOf r g) where
 
       -- the options of the place's tree are those after its edges
       has_edges : (n : ℕ) → 3 ^ length r.cells ≤ n → HasEdges Ts ids es (graph_tree g n (place g k))
-      has_edges n long = record { from = out; to = back }
-        where
-          summed : (e : Edge) → Contains es e → (graph_tree g n e.next +ᵍ gain e.colour e.taken) ≡ᵍ tree_after Ts ids e
-          summed e among = same-plus _ _ _ _ (next_same n long e among) (same-refl (gain e.colour e.taken))
-
-          out : (c : Colour) (X : Tree) → Has (options c (graph_tree g n (place g k))) X → (e : Edge) × Contains es e × (e.colour ≡ c) × (X ≡ᵍ tree_after Ts ids e)
-          out c X h =
-              let (x, among, is) = option-move ℕ (edge_steps g) c n (place g k) X (ends n long) h in
-              let s = steps-out ℕ (λ j. j) c es x among in
-              let there : X ≡ graph_tree g n s.edge.next +ᵍ gain s.edge.colour s.edge.taken = is ∙ ap (λ y. graph_tree g n y.to +ᵍ gain c y.taken) (sym s.is) ∙ ap (λ d. graph_tree g n s.edge.next +ᵍ gain d s.edge.taken) (sym s.colour) in
-              (s.edge, s.among, s.colour, same-trans _ _ _ (same-path _ _ there) (summed s.edge s.among))
-
-          back : (e : Edge) → Contains es e → (X : Tree) × Has (options e.colour (graph_tree g n (place g k))) X × (X ≡ᵍ tree_after Ts ids e)
-          back e among = (
-            graph_tree g n e.next +ᵍ gain e.colour e.taken,
-            move-option ℕ (edge_steps g) e.colour n (place g k) (step_of ℕ (λ j. j) e) (ends n long) (steps-in ℕ (λ j. j) e.colour es e among refl),
-            summed e among,
-          )
+      has_edges n long =
+          let summed : (e : Edge) → Contains es e → (graph_tree g n e.next +ᵍ gain e.colour e.taken) ≡ᵍ tree_after Ts ids e = λ e among.
+          same-plus _ _ _ _ (next_same n long e among) (same-refl (gain e.colour e.taken)) in record {
+            from = λ c X h.
+                let (x, among, is) = option-move ℕ (edge_steps g) c n (place g k) X (ends n long) h in
+                let s = steps-out ℕ (λ j. j) c es x among in
+                let there : X ≡ graph_tree g n s.edge.next +ᵍ gain s.edge.colour s.edge.taken =
+                is ∙ ap (λ y. graph_tree g n y.to +ᵍ gain c y.taken) (sym s.is)
+                ∙ ap (λ d. graph_tree g n s.edge.next +ᵍ gain d s.edge.taken) (sym s.colour) in
+                (s.edge, s.among, s.colour, same-trans _ _ _ (same-path _ _ there) (summed s.edge s.among));
+            to = λ e among. (
+              graph_tree g n e.next +ᵍ gain e.colour e.taken,
+              move-option ℕ (edge_steps g) e.colour n (place g k) (step_of ℕ (λ j. j) e) (ends n long)
+                  (steps-in ℕ (λ j. j) e.colour es e among refl),
+              summed e among,
+            );
+          }
 
       module _ (Us : List Tree) (id : ℕ) (kept : Extends Ts Us) (value : (G : Tree) → HasEdges Ts ids es G → IsCanonicalId Us G id)
           (sizes : (b : ℕ) → AreWithinAfter b Ts ids es → AreWithin (b + 2 ^ 60) (tree_at Us id)) (parts : HasMoreParts (tree_at Us id) limit → ⊥) where
@@ -168,14 +167,14 @@ module _ {r : Region} {g : Graph} (of : IsGraphOf r g) where
         within : AreWithin (most r k) (tree_at Us id)
         within x n = at (edges_at g.edges (place g k)) refl
           where
-            zero-tree : IsCanonicalFor (number_tree (pos 0)) (tree_at Us id) → tree_at Us id ≡ number_tree (pos 0)
-            zero-tree c = same-canonical (number_tree (pos 0)) _ _ c record { canonical = number-canonical 60 (pos 0); under = (same-refl (number_tree (pos 0))).0; over = (same-refl (number_tree (pos 0))).1 }
-
             at : (xs : List Edge) → edges_at g.edges (place g k) ≡ xs → unsigned_abs x ≤ most r k
             at [] e =
                 let empty = value (node none none) (subst (λ z. HasEdges Ts ids z (node none none)) (sym e) (no-edges Ts ids)) in
                 let zero' : IsCanonicalFor (number_tree (pos 0)) (tree_at Us id) = subst (λ t. IsCanonicalFor t (tree_at Us id)) (sym (num-zero 60)) empty.1 in
-                let own = own-number (tree_at Us id) (pos 0) x (zero-tree zero') n in
+                let same = same-refl (number_tree (pos 0)) in
+                let zero-tree = same-canonical (number_tree (pos 0)) _ _ zero'
+                record { canonical = number-canonical 60 (pos 0); under = same.0; over = same.1 } in
+                let own = own-number (tree_at Us id) (pos 0) x zero-tree n in
                 omega (arith, ints, own)
             at (e ∷ xs) same =
                 let some = taken_less r g of (place g k) e (subst (λ z. Contains z e) (sym same) (0, omega arith, refl)) in

@@ -89,35 +89,28 @@ links_from c area p points u l r d t inside near pu pl pr pd = record {
 -- the links of the region are exactly its points' being next to each other
 pub links_are_next : (r : Region) → IsRegion r.columns r.rows r.points r.cells r.touch → (i j : ℕ) → i < length r.points → IsLinked r.touch i j
     ↔ ((j < length r.points) × NextTo r.columns (get_or r.points i 0) (get_or r.points j 0))
-links_are_next r reg i j lt = (there, back)
-  where
-    there : IsLinked r.touch i j → (j < length r.points) × NextTo r.columns (get_or r.points i 0) (get_or r.points j 0)
-    there link =
-        let links = reg.links i lt in
-        let t = touch_at r.touch i in
-        elim link [
-          | inl e ↦ let w = link_at r.points _ t.up j links.up e in (w.0, inr (sym w.1.1, inr w.1.0))
-          | inr (inl e) ↦ let w = link_at r.points _ t.left j links.left e in (w.0, inl (sym w.1.0, inr w.1.1))
-          | inr (inr (inl e)) ↦ let w = link_at r.points _ t.right j links.right e in (w.0, inl (w.1.0, inl w.1.1))
-          | inr (inr (inr e)) ↦ let w = link_at r.points _ t.down j links.down e in (w.0, inr (w.1.1, inl w.1.0))
-        ]
-
-    back : (j < length r.points) × NextTo r.columns (get_or r.points i 0) (get_or r.points j 0) → IsLinked r.touch i j
-    back (ltj, next) =
-        let c = r.columns in
-        let p = get_or r.points i 0 in
-        let links = reg.links i lt in
-        let t = touch_at r.touch i in
-        elim next [
-          | inl (row, inl e) ↦ inr (inr (inl (linked_to r.points (λ q. IsLeftOf c q p) t.right j reg.ascending links.right
-              (λ q s a b. same_point c q s (sym a.0 ∙ b.0) (sym a.1 ∙ b.1)) ltj (row, e))))
-          | inl (row, inr e) ↦ inr (inl (linked_to r.points (λ q. IsLeftOf c p q) t.left j reg.ascending links.left
-              (λ q s a b. same_point c q s (a.0 ∙ sym b.0) (omega (arith, a.1, b.1))) ltj (sym row, e)))
-          | inr (column, inl e) ↦ inr (inr (inr (linked_to r.points (λ q. IsAbove c q p) t.down j reg.ascending links.down
-              (λ q s a b. same_point c q s (sym a.0 ∙ b.0) (sym a.1 ∙ b.1)) ltj (e, column))))
-          | inr (column, inr e) ↦ inl (linked_to r.points (λ q. IsAbove c p q) t.up j reg.ascending links.up
-              (λ q s a b. same_point c q s (omega (arith, a.0, b.0)) (a.1 ∙ sym b.1)) ltj (e, sym column))
-        ]
+links_are_next r reg i j lt =
+    let c = r.columns in
+    let p = get_or r.points i 0 in
+    let links = reg.links i lt in
+    let t = touch_at r.touch i in (
+      λ link. elim link [
+        | inl e ↦ let w = link_at r.points _ t.up j links.up e in (w.0, inr (sym w.1.1, inr w.1.0))
+        | inr (inl e) ↦ let w = link_at r.points _ t.left j links.left e in (w.0, inl (sym w.1.0, inr w.1.1))
+        | inr (inr (inl e)) ↦ let w = link_at r.points _ t.right j links.right e in (w.0, inl (w.1.0, inl w.1.1))
+        | inr (inr (inr e)) ↦ let w = link_at r.points _ t.down j links.down e in (w.0, inr (w.1.1, inl w.1.0))
+      ],
+      λ (ltj, next). elim next [
+        | inl (row, inl e) ↦ inr (inr (inl (linked_to r.points (λ q. IsLeftOf c q p) t.right j reg.ascending links.right
+            (λ q s a b. same_point c q s (sym a.0 ∙ b.0) (sym a.1 ∙ b.1)) ltj (row, e))))
+        | inl (row, inr e) ↦ inr (inl (linked_to r.points (λ q. IsLeftOf c p q) t.left j reg.ascending links.left
+            (λ q s a b. same_point c q s (a.0 ∙ sym b.0) (omega (arith, a.1, b.1))) ltj (sym row, e)))
+        | inr (column, inl e) ↦ inr (inr (inr (linked_to r.points (λ q. IsAbove c q p) t.down j reg.ascending links.down
+            (λ q s a b. same_point c q s (sym a.0 ∙ b.0) (sym a.1 ∙ b.1)) ltj (e, column))))
+        | inr (column, inr e) ↦ inl (linked_to r.points (λ q. IsAbove c p q) t.up j reg.ascending links.up
+            (λ q s a b. same_point c q s (omega (arith, a.0, b.0)) (a.1 ∙ sym b.1)) ltj (e, sym column))
+      ],
+    )
 
 -- The region of a contested point.
 
@@ -159,26 +152,23 @@ module _ (g : Board) (start : ℕ) {points : List ℕ} (lists : Lists points (In
     touches i l = subst (λ n. IsTouch n points black white (get_or points i 0) (touch_at touch i)) ek (each i l)
 
     is_region : IsRegion g.columns g.rows points cells touch
-    is_region = record {
-      some = let h = (lists.exact start).1 (joined_here c (IsContested g) start contested) in omega (arith, h.1);
-      full = lc;
-      beside = lt;
-      ascending = lists.ascending;
-      on_board = λ p h. rw area at (joined_end c (IsContested g) start p ((lists.exact p).0 h)).0;
-      joined = λ p q hp hq. carried c (IsContested g) (Joined c (Contains points) p) (onward p) p q
-          (joined_here c (Contains points) p hp)
-          (joined_join c (IsContested g) p start q (joined_back c (IsContested g) start p ((lists.exact p).0 hp)) ((lists.exact q).0 hq));
-      links = λ i l. (touches i l).links;
-    }
-      where
-        c : ℕ
-        c = g.columns
-
-        onward : (p x y : ℕ) → Joined c (Contains points) p x → NextTo c x y → IsContested g y → Joined c (Contains points) p y
-        onward p x y at next h =
-            let here = joined_end c (Contains points) p x at in
-            joined_step c (Contains points) p x y at next
-            ((lists.exact y).1 (joined_step c (IsContested g) start x y ((lists.exact x).0 here) next h))
+    is_region =
+        let c = g.columns in
+        let onward : (p x y : ℕ) → Joined c (Contains points) p x → NextTo c x y → IsContested g y → Joined c (Contains points) p y
+        = λ p x y at next h.
+        let here = joined_end c (Contains points) p x at in
+        joined_step c (Contains points) p x y at next
+        ((lists.exact y).1 (joined_step c (IsContested g) start x y ((lists.exact x).0 here) next h)) in record {
+          some = let h = (lists.exact start).1 (joined_here c (IsContested g) start contested) in omega (arith, h.1);
+          full = lc;
+          beside = lt;
+          ascending = lists.ascending;
+          on_board = λ p h. rw area at (joined_end c (IsContested g) start p ((lists.exact p).0 h)).0;
+          joined = λ p q hp hq. carried c (IsContested g) (Joined c (Contains points) p) (onward p) p q
+              (joined_here c (Contains points) p hp)
+              (joined_join c (IsContested g) p start q (joined_back c (IsContested g) start p ((lists.exact p).0 hp)) ((lists.exact q).0 hq));
+          links = λ i l. (touches i l).links;
+        }
 
     walls_of : Marks black (IsAlive g Black) → Marks white (IsAlive g White) → (i : ℕ) (c : Colour) → i < length points
         → IsBeside c (touch_at touch i) ↔ ((s : ℕ) × NextTo g.columns (get_or points i 0) s × IsAlive g c s)

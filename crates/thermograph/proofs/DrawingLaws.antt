@@ -233,17 +233,14 @@ module _ (Ts : List Tree) (flags : List Bool) where
   pub drawn-push : (n : ℕ) (lefts rights lefts' rights' : List (Vec Break Global)) (l r : Vec Break Global) → AreDrawn Ts flags n lefts rights
       → lefts' ≡ lefts ++ l ∷ [] → rights' ≡ rights ++ r ∷ [] → (IsFlagged flags n → IsDrawn (tree_at Ts n) l.items r.items)
       → AreDrawn Ts flags (n + 1) lefts' rights'
-  drawn-push n lefts rights lefts' rights' l r d p q new = rw (p, q) record {
-    left_count = omega (arith, length-append lefts (l ∷ []), d.left_count);
-    right_count = omega (arith, length-append rights (r ∷ []), d.right_count);
-    drawn = λ i h. rw (map-append items lefts (l ∷ []), map-append items rights (r ∷ []))
-        (push_both (λ k a b. IsFlagged flags k → IsDrawn (tree_at Ts k) a b) (map items lefts) (map items rights) l.items [] r.items []
-        (lefts_long ∙ sym rights_long) (λ k b. d.drawn k (omega (arith, b, rights_long))) (subst (λ k. IsFlagged flags k → IsDrawn (tree_at Ts k) l.items r.items) (sym rights_long) new)
-        i (omega (arith, h, rights_long, length-append (map items rights) (r.items ∷ []))));
-  }
-    where
-      lefts_long : length (map items lefts) ≡ n
-      lefts_long = length-map lefts items ∙ d.left_count
-
-      rights_long : length (map items rights) ≡ n
-      rights_long = length-map rights items ∙ d.right_count
+  drawn-push n lefts rights lefts' rights' l r d p q new =
+      let lefts_long : length (map items lefts) ≡ n = length-map lefts items ∙ d.left_count in
+      let rights_long : length (map items rights) ≡ n = length-map rights items ∙ d.right_count in rw (p, q) record {
+        left_count = omega (arith, length-append lefts (l ∷ []), d.left_count);
+        right_count = omega (arith, length-append rights (r ∷ []), d.right_count);
+        drawn = λ i h. rw (map-append items lefts (l ∷ []), map-append items rights (r ∷ []))
+            (push_both (λ k a b. IsFlagged flags k → IsDrawn (tree_at Ts k) a b) (map items lefts) (map items rights) l.items [] r.items []
+            (lefts_long ∙ sym rights_long) (λ k b. d.drawn k (omega (arith, b, rights_long)))
+            (subst (λ k. IsFlagged flags k → IsDrawn (tree_at Ts k) l.items r.items) (sym rights_long) new)
+            i (omega (arith, h, rights_long, length-append (map items rights) (r.items ∷ []))));
+      }

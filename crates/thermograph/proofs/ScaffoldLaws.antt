@@ -258,23 +258,19 @@ module _ (f : ℕ → ℤ) (rises : Rises f) (start u v : ℕ) (order : start �
   steep-last true e a n b = n (omega (arith, ints, clamps, order, apart, a, b, hinge (u + 1) (omega arith) (omega (arith, apart)), rises-slow f rises start v (omega (arith, order, apart))))
   steep-last false e _ _ _ = absurd (true≢false (sym e))
 
-  pub flat-last : (b : Bool) (r : ℕ) → b ≡ false → IsAlong f b start u → (IsAlong f b start v → ⊥) → pos r ≡ pos v -ℤ (f v -ℤ f start) → (u ≤ r) × (r < v) × IsAlong f b start r × (IsAlong f b start (r + 1) → ⊥)
+  pub flat-last : (b : Bool) (r : ℕ) → b ≡ false → IsAlong f b start u → (IsAlong f b start v → ⊥) → pos r ≡ pos v -ℤ (f v -ℤ f start)
+      → (u ≤ r) × (r < v) × IsAlong f b start r × (IsAlong f b start (r + 1) → ⊥)
   flat-last true r e _ _ _ = absurd (true≢false e)
-  flat-last false r _ a n e = (
-    low,
-    high,
-    omega (arith, ints, clamps, a, e, low, high, hinge r low (omega (arith, high))),
-    λ b. omega (arith, ints, clamps, a, b, e, low, high, hinge (r + 1) (omega (arith, low)) (omega (arith, high))),
-  )
-    where
-      low : u ≤ r
-      low = omega (arith, ints, a, e, apart, rises-slow f rises u v (omega (arith, apart)))
-
-      above : f start <ℤ f v
-      above = by_lt_z (f start) (f v) (λ l. l) (λ l. absurd (n (omega (arith, ints, l, rises-far f rises start v (omega (arith, order, apart))))))
-
-      high : r < v
-      high = omega (arith, ints, e, above)
+  flat-last false r _ a n e =
+      let above : f start <ℤ f v = by_lt_z (f start) (f v) (λ l. l)
+      (λ l. absurd (n (omega (arith, ints, l, rises-far f rises start v (omega (arith, order, apart)))))) in
+      let low : u ≤ r = omega (arith, ints, a, e, apart, rises-slow f rises u v (omega (arith, apart))) in
+      let high : r < v = omega (arith, ints, e, above) in (
+        low,
+        high,
+        omega (arith, ints, clamps, a, e, low, high, hinge r low (omega (arith, high))),
+        λ b. omega (arith, ints, clamps, a, b, e, low, high, hinge (r + 1) (omega (arith, low)) (omega (arith, high))),
+      )
 
 -- Where two straight lines meet, of which one doesn't rise and the other doesn't fall.
 module _ (f : ℕ → ℤ) (u v : ℕ) (straight : IsStraight f u v) where
@@ -291,19 +287,15 @@ module _ (L R : ℕ → ℤ) (u v : ℕ) (order : u < v) (left : IsStraight L u 
   -- lines that come `near n` nearer in n steps first meet after the d steps that this takes
   crosses : (near : ℕ → ℕ) → ((t : ℕ) → u ≤ t → t ≤ v → (L t -ℤ R t) ≡ (L u -ℤ R u) -ℤ pos (near (t - u)))
       → (gap d m : ℕ) → pos gap ≡ L u -ℤ R u → gap ≤ near d → ((n : ℕ) → n < d → near n < gap) → m ≡ u + d → (m ≤ v) × IsCrossing L R u m
-  crosses near nearer gap d m g far short i = (
-    within,
-    record {
-      met = (let e : m - u ≡ d = omega (arith, i) in omega (arith, ints, g, far, ap near e, nearer m (omega (arith, i)) within));
-      apart = λ t h k. omega (arith, ints, g, nearer t h (omega (arith, k, within)), short (t - u) (omega (arith, h, k, i)));
-    },
-  )
-    where
-      within : m ≤ v
-      within = elim (cases_lt v m) as (λ _. m ≤ v) [
+  crosses near nearer gap d m g far short i =
+      let within : m ≤ v = elim (cases_lt v m) as (λ _. m ≤ v) [
         | inl l ↦ absurd (omega (arith, ints, met, g, nearer v (omega (arith, order)) (omega arith), short (v - u) (omega (arith, order, l, i))))
         | inr l ↦ l
-      ]
+      ] in
+      let steps : m - u ≡ d = omega (arith, i) in (within, record {
+        met = omega (arith, ints, g, far, ap near steps, nearer m (omega (arith, i)) within);
+        apart = λ t h k. omega (arith, ints, g, nearer t h (omega (arith, k, within)), short (t - u) (omega (arith, h, k, i)));
+      })
 
   -- where both lines move they come nearer by 2 a step
   pub both-cross : (gap d m : ℕ) → L v <ℤ L u → R u <ℤ R v → pos gap ≡ L u -ℤ R u → d ≡ (gap + 1) / 2 → m ≡ u + d → (m ≤ v) × IsCrossing L R u m
@@ -312,14 +304,11 @@ module _ (L R : ℕ → ℤ) (u v : ℕ) (order : u < v) (left : IsStraight L u 
 
   -- where one line moves they come nearer by 1 a step
   pub one-crosses : (gap m : ℕ) → L v ≤ℤ L u → R u ≤ℤ R v → (L v <ℤ L u → R u <ℤ R v → ⊥) → pos gap ≡ L u -ℤ R u → m ≡ u + gap → (m ≤ v) × IsCrossing L R u m
-  one-crosses gap m p q n g i = crosses (λ n. n) nearer gap gap m g (omega arith) (λ n l. l) i
-    where
-      nearer : (t : ℕ) → u ≤ t → t ≤ v → (L t -ℤ R t) ≡ (L u -ℤ R u) -ℤ pos (t - u)
-      nearer t h k = by_lt_z (L v) (L u)
-          (λ a. by_lt_z (R u) (R v) (λ b. absurd (n a b))
-          (λ b. omega (arith, ints, falling L u v left a t h k, staying R u v right (omega (arith, ints, b, q)) t h k)))
-          (λ a. by_lt_z (R u) (R v) (λ b. omega (arith, ints, staying L u v left (omega (arith, ints, a, p)) t h k, rising R u v right b t h k))
-          (λ b. absurd (omega (arith, ints, a, b, apart, met))))
+  one-crosses gap m p q n g i = crosses (λ n. n) (λ t h k. by_lt_z (L v) (L u)
+      (λ a. by_lt_z (R u) (R v) (λ b. absurd (n a b))
+      (λ b. omega (arith, ints, falling L u v left a t h k, staying R u v right (omega (arith, ints, b, q)) t h k)))
+      (λ a. by_lt_z (R u) (R v) (λ b. omega (arith, ints, staying L u v left (omega (arith, ints, a, p)) t h k, rising R u v right b t h k))
+      (λ b. absurd (omega (arith, ints, a, b, apart, met))))) gap gap m g (omega arith) (λ n l. l) i
 
 left-line : (s : Scaffold) → s.side ≡ side.Left → (t : ℕ) → line s t ≡ rise s t -ℤ pos t
 left-line s e t = ap (λ d. turned d (rise s t -ℤ pos t)) e

@@ -186,25 +186,24 @@ pub tracing-push : (f : ℕ → ℤ) (end at next : ℕ) (xs ys : List Break) (c
 tracing-push f end at next _ ys c (tracing b bs z l r old now) i a h w e s n none = subst (IsTracing f end next) (sym i)
     (tracing b (bs ++ c ∷ []) z (ap (λ d. d.at) (last-push b bs c) ∙ a)
     (traces-push f b bs c r (omega (arith, l, a, h)) (e ∙ ap f (sym a)) (λ t p q. (s t (omega (arith, p, l)) (omega (arith, q, a)) ∙ ap₂ (λ u v. toward (f u) (f v) (t - u)) (sym l) (sym a))))
-    (λ t p q. (to t p q, from_bend t p q)) (λ p q. n q))
-  where
-    to : (t : ℕ) → 0 < t → t < next → IsBreakAt (b ∷ (bs ++ c ∷ [])) t → Bends f t
-    to t p q k = elim (break-of_push (b ∷ bs) c t k) [
-      | inl m ↦ elim (cases_lt t at) [
-        | inl g ↦ (old t p g).0 m
-        | inr g ↦ (let j : at ≡ t = omega (arith, g, break-early b bs t r.reaches m, l) in subst (Bends f) j (now (omega (arith, p, j)) (omega (arith, h, w))))
-      ]
-      | inr m ↦ absurd (omega (arith, m, a, q))
-    ]
-
-    from_bend : (t : ℕ) → 0 < t → t < next → Bends f t → IsBreakAt (b ∷ (bs ++ c ∷ [])) t
-    from_bend t p q k = elim (cases_lt t at) [
-      | inl g ↦ break-in_push (b ∷ bs) c t ((old t p g).1 k)
-      | inr g ↦ elim (cases_lt at t) [
-        | inl m ↦ absurd (none t m q k)
-        | inr m ↦ (let j : (last_of b bs).at ≡ t = omega (arith, g, m, l) in break-in_push (b ∷ bs) c t (subst (IsBreakAt (b ∷ bs)) j (last-is_break b bs)))
-      ]
-    ]
+    (λ t p q. (
+      λ k. elim (break-of_push (b ∷ bs) c t k) [
+        | inl m ↦ elim (cases_lt t at) [
+          | inl g ↦ (old t p g).0 m
+          | inr g ↦ (let j : at ≡ t = omega (arith, g, break-early b bs t r.reaches m, l) in
+              subst (Bends f) j (now (omega (arith, p, j)) (omega (arith, h, w))))
+        ]
+        | inr m ↦ absurd (omega (arith, m, a, q))
+      ],
+      λ k. elim (cases_lt t at) [
+        | inl g ↦ break-in_push (b ∷ bs) c t ((old t p g).1 k)
+        | inr g ↦ elim (cases_lt at t) [
+          | inl m ↦ absurd (none t m q k)
+          | inr m ↦ (let j : (last_of b bs).at ≡ t = omega (arith, g, m, l) in
+              break-in_push (b ∷ bs) c t (subst (IsBreakAt (b ∷ bs)) j (last-is_break b bs)))
+        ]
+      ],
+    )) (λ p q. n q))
 
 pub last-is : (b : Break) (bs : List Break) (d : Break) → get_or (b ∷ bs) (length bs) d ≡ last_of b bs
 last-is b [] d = refl
