@@ -4,7 +4,7 @@ use Rattle.std.specs.HashMap.{get}
 use Rattle.game_store.specs.Meaning.{form}
 use Rattle.game_store.specs.Meaning.Wanted.{options}
 use Rattle.game_store.proofs.EntryLaws.{extends-push, last-value, MayKeep}
-use Rattle.game_store.proofs.StoreLaws.{floor-small, found, Holds, holds, holds-options, ids-below, length-trees, options-placed}
+use Rattle.game_store.proofs.StoreLaws.{floor-small, found, Holds, holds, holds-map, holds-options, ids-below, length-trees, options-placed}
 use Rattle.game_store.proofs.Store.intern.Goals as goal
 
 pub returns-in-Some-clause-value : goal.returns-in-Some-clause-value
@@ -43,3 +43,7 @@ pub just_above-ceiling-requires : goal.just_above-ceiling-requires
 just_above-ceiling-requires c =
     let r = floor-small (holds c.self.invariant c.self.view_is) _ _ c.requires.left_ids (rw c.deref-3.ensures.value at c.greatest_floor.ensures) in
     omega (arith, ints, r.0, r.1)
+
+pub invariant_of-self-in_err-id : goal.invariant_of-self-in_err-id
+invariant_of-self-in_err-id c = rw (c.in_err-id.ensures.slots_kept, c.in_ok-reserve.ensures.lists)
+    (holds-map (holds c.self.invariant c.self.view_is) _ c.in_err-id.ensures.latest_kept).all
