@@ -1,7 +1,7 @@
 -- The floors and ceilings of forms, and what holds of a store's fields as a form is added.
 use Rattle.std.proofs.Common.{below_more, ℕ, ◌+◌, ◌<◌, ◌≡◌, List, length, get_or, arith, refl, sym, subst, ℤ, pos, ◌-ℤ◌, ◌+ℤ◌, ◌≤ℤ◌, [], ◌∷◌, ◌++◌, ◌∙◌, ap, ap₂, cond, nat_eq, Some, ◌↔◌, ◌<ℤ◌, Bool, true, take, drop, Option, Ordering, Less, Equal, Greater}
 use Rattle.std.specs.Int.{int_max, int_min}
-use Rattle.std.proofs.lemmas.Int.{ints, by_lt_z}
+use Rattle.std.proofs.lemmas.Int.{ints, clamps, by_lt_z}
 use Rattle.std.proofs.lemmas.Bool.{false≢true}
 use Rattle.game_store.specs.declared.Slot.{Slot}
 use Rattle.dyadic_num.specs.Units.{IsInBounds}
@@ -59,14 +59,18 @@ pub record GreatestSoFar (slots : List Slot) (is : List ℕ) (n : ℕ) (x : ℤ)
 
 pub least_step : (slots : List Slot) (is : List ℕ) (n : ℕ) (x y z : ℤ) → LeastSoFar slots is n x → n < length is → y ≡ ceiling_at slots (get_or is n 0) → z ≡ int_min x y → LeastSoFar slots is (n + 1) z
 least_step slots is n x y z s l e d = record {
-  bound = below_more (λ j. z ≤ℤ ceiling_at slots (get_or is j 0)) n (λ j c. (let q = s.bound j c in grind (arith, ints))) (grind (arith, ints));
-  reached = by_lt_z y x (λ c. (n, l, grind (arith, ints))) (λ c. (s.reached.0, s.reached.1, (let q = s.reached.2 in grind (arith, ints))));
+  bound = below_more (λ j. z ≤ℤ ceiling_at slots (get_or is j 0)) n (λ j c. omega (arith, ints, clamps, s.bound j c, d))
+      (omega (arith, ints, clamps, e, d));
+  reached = by_lt_z y x (λ c. (n, l, omega (arith, ints, clamps, c, e, d)))
+      (λ c. (s.reached.0, s.reached.1, omega (arith, ints, clamps, c, d, s.reached.2)));
 }
 
 pub greatest_step : (slots : List Slot) (is : List ℕ) (n : ℕ) (x y z : ℤ) → GreatestSoFar slots is n x → n < length is → y ≡ floor_at slots (get_or is n 0) → z ≡ int_max x y → GreatestSoFar slots is (n + 1) z
 greatest_step slots is n x y z s l e d = record {
-  bound = below_more (λ j. floor_at slots (get_or is j 0) ≤ℤ z) n (λ j c. (let q = s.bound j c in grind (arith, ints))) (grind (arith, ints));
-  reached = by_lt_z x y (λ c. (n, l, grind (arith, ints))) (λ c. (s.reached.0, s.reached.1, (let q = s.reached.2 in grind (arith, ints))));
+  bound = below_more (λ j. floor_at slots (get_or is j 0) ≤ℤ z) n (λ j c. omega (arith, ints, clamps, s.bound j c, d))
+      (omega (arith, ints, clamps, e, d));
+  reached = by_lt_z x y (λ c. (n, l, omega (arith, ints, clamps, c, e, d)))
+      (λ c. (s.reached.0, s.reached.1, omega (arith, ints, clamps, c, d, s.reached.2)));
 }
 
 -- a number's floor and ceiling are twice the number
@@ -74,8 +78,8 @@ pub number-placed : (x y : ℤ) → IsInBounds x → y ≡ x +ℤ x → IsPlaced
 number-placed x y b e = rw e record {
   floor_is = number-floor 60 x;
   ceiling_is = number-ceiling 60 x;
-  floor_range = (grind (arith, ints), grind (arith, ints));
-  ceiling_range = (grind (arith, ints), grind (arith, ints));
+  floor_range = (omega (arith, ints, b), omega (arith, ints, b));
+  ceiling_range = (omega (arith, ints, b), omega (arith, ints, b));
   left_stop = (x, number-left_stop 60 (num 60 x) x refl);
   right_stop = (x, number-right_stop 60 (num 60 x) x refl);
 }
@@ -186,8 +190,8 @@ module _ {Ts : List Tree} {lists : List (List ℕ)} {slots : List Slot} {L : ℕ
       let no_number : IsNumber G → ⊥ = λ i. keep.lists.4 (i.0, i.1, canonical-number G keep.canonical i) in rw (x_is, y_is) record {
         floor_is = floor-by 60 G f no_number (least-ceiling rs f b p);
         ceiling_is = ceiling-by 60 G c no_number (greatest-floor ls c a q);
-        floor_range = (let r = ceiling-small rs f b p in (grind (arith, ints), grind (arith, ints)));
-        ceiling_range = (let r = floor-small ls c a q in (grind (arith, ints), grind (arith, ints)));
+        floor_range = (let r = ceiling-small rs f b p in (omega (arith, ints, r.0, r.1), omega (arith, ints, r.0, r.1)));
+        ceiling_range = (let r = floor-small ls c a q in (omega (arith, ints, r.0, r.1), omega (arith, ints, r.0, r.1)));
         left_stop = game-left_stop 60 G keep.lists.4
             (λ L h. (let o = option ls L h in subst (λ t. (x : ℤ) × IsRightStop 60 t x) (sym o.2) (placed-at _ (a o.0 o.1)).right_stop))
             _ (has-option ls q.reached.0 q.reached.1);

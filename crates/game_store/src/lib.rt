@@ -178,7 +178,15 @@ impl Store {
         }
         let at = Bound::at(x);
         let entry = Entry::Number(x);
-        let id = enter(&mut self.slots, &mut self.latest, fingerprint, entry, before, at, at)?;
+        let id = enter(
+            &mut self.slots,
+            &mut self.latest,
+            fingerprint,
+            entry,
+            before,
+            at,
+            at,
+        )?;
         Ok(id)
     }
 

@@ -252,8 +252,11 @@ module _ {Ts Us : List Tree} {ids : List ℕ} {c : Colour} {es : List Edge} {n :
             to = λ d h s. elim (Contains-push_cases (take n es) e d h) [
               | inl i ↦ (let t = old.to d i s in
                   (t.0, omega (arith, t.1, more), subst (IsAfter Ts Vs ids d) (sym (get_or_append_left afters (id ∷ []) 0 t.0 t.1)) t.2))
-              | inr i ↦ (length afters, omega (arith, more),
-                  subst (λ z. IsAfter Ts Vs ids z (get_or (afters ++ id ∷ []) (length afters) 0)) i (subst (IsAfter Ts Vs ids e) (sym (get_or_push afters id 0 (length afters) refl)) here))
+              | inr i ↦ (
+                length afters,
+                omega (arith, more),
+                subst (λ z. IsAfter Ts Vs ids z (get_or (afters ++ id ∷ []) (length afters) 0)) i (subst (IsAfter Ts Vs ids e) (sym (get_or_push afters id 0 (length afters) refl)) here),
+              )
             ];
           };
         }

@@ -7,7 +7,7 @@ use Rattle.go_grid.specs.Region.{Region}
 use Rattle.local_graph.specs.declared.graph.Edge.{Edge}
 use Rattle.local_graph.specs.Graph.{Graph}
 use Rattle.local_graph.specs.inner.Graph.{edges_at}
-use Rattle.short_games.specs.Tree.{Tree, node, none, Has, tree_at}
+use Rattle.short_games.specs.Tree.{Tree, node, none, tree_at}
 use Rattle.short_games.specs.Order.{◌≡ᵍ◌, ◌≤ᵍ◌}
 use Rattle.short_games.specs.Sum.{◌+ᵍ◌}
 use Rattle.short_games.specs.TextOrder.{IsCanonicalFor, TextBefore}
@@ -17,7 +17,7 @@ use Rattle.short_games.specs.Parts.{HasMoreParts}
 use Rattle.short_games.proofs.NumberLaws.{num-zero}
 use Rattle.short_games.proofs.ReductionLaws.{number-canonical, same-canonical}
 use Rattle.game_canon.specs.Outcomes.{IsCanonicalId, AreWithin, IsCause}
-use Rattle.sum_outcome.specs.Players.{options, gain}
+use Rattle.sum_outcome.specs.Players.{gain}
 use Rattle.game_canon.proofs.PartLaws.{fewer}
 use Rattle.short_games.proofs.OrderLaws.{same-path, same-refl, same-trans}
 use Rattle.short_games.proofs.SumLaws.{same-plus}

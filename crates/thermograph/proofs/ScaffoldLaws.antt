@@ -1,5 +1,5 @@
 -- Scaffolds: the greatest of the walls, where they are straight, where they bend, and where two of them meet.
-use Rattle.std.proofs.Common.{ℕ, zero, suc, ◌+◌, ◌<◌, ◌≤◌, ◌≡◌, arith, refl, sym, ◌∙◌, ap, ap₂, subst, ℤ, pos, List, [], ◌∷◌, length, take, get_or, Bool, true, false, nat_eq, cond, Vec, inl, inr, below_more, ◌-◌, ◌^◌, ◌≤ℤ◌, ◌+ℤ◌, ◌-ℤ◌, ◌⊎◌, ◌<ℤ◌, ◌/◌, neg_ℤ, ◌↔◌, Global}
+use Rattle.std.proofs.Common.{ℕ, zero, suc, ◌+◌, ◌<◌, ◌≤◌, ◌≡◌, arith, refl, sym, ◌∙◌, ap, ap₂, subst, ℤ, pos, List, [], ◌∷◌, length, take, get_or, Bool, true, false, nat_eq, cond, Vec, inl, inr, below_more, ◌-◌, ◌^◌, ◌≤ℤ◌, ◌+ℤ◌, ◌-ℤ◌, ◌<ℤ◌, ◌/◌, neg_ℤ, ◌↔◌, Global}
 use Rattle.std.specs.Int.{int_max}
 use Rattle.std.proofs.lemmas.Int.{ints, clamps, by_lt_z}
 use Rattle.std.proofs.lemmas.List.{get_or-map, length-map}
@@ -171,11 +171,12 @@ toward-slope x y p u v o = by_lt_z x y
 from-slope : (b : Break) (bs : List Break) (u v : ℕ) → Reaches b bs → b.at ≤ u → u ≤ v → IsClear u v (b ∷ bs) → IsSlope (from b bs) u v
 unfolding from
 from-slope b [] u v r p o k = stays (λ t _ _. refl)
-from-slope b (c ∷ bs) u v r p o k = at (k 1 (omega arith)) (λ l. from-slope c bs u v r.2 l o (λ j h. k (suc j) (omega (arith, h))))
-  where
-    at : (c.at ≤ u) ⊎ (v ≤ c.at) → (c.at ≤ u → IsSlope (from c bs) u v) → IsSlope (from b (c ∷ bs)) u v
-    at (inl l) f = slope-same (from c bs) (from b (c ∷ bs)) u v o (λ t h _. at-after t c.at _ _ (omega (arith, h, l))) (f l)
-    at (inr l) f = slope-same (λ t. toward b.value c.value (t - b.at)) (from b (c ∷ bs)) u v o (λ t _ h. from-piece b c bs t r (omega (arith, h, l))) (toward-slope b.value c.value b.at u v p)
+from-slope b (c ∷ bs) u v r p o k = elim (k 1 (omega arith)) [
+  | inl l ↦ slope-same (from c bs) (from b (c ∷ bs)) u v o (λ t h _. at-after t c.at _ _ (omega (arith, h, l)))
+      (from-slope c bs u v r.2 l o (λ j h. k (suc j) (omega (arith, h))))
+  | inr l ↦ slope-same (λ t. toward b.value c.value (t - b.at)) (from b (c ∷ bs)) u v o (λ t _ h. from-piece b c bs t r (omega (arith, h, l)))
+      (toward-slope b.value c.value b.at u v p)
+]
 
 -- before its first break point a wall stays too
 from-before : (b : Break) (bs : List Break) (t : ℕ) → Reaches b bs → t ≤ b.at → from b bs t ≡ b.value
@@ -186,11 +187,10 @@ from-before b (c ∷ bs) t r h = let z : t - b.at ≡ 0 = omega (arith, h) in at
 wall-slope : (w : List Break) (u v : ℕ) → IsPath w → u ≤ v → IsClear u v w → IsSlope (wall_at w) u v
 unfolding wall_at
 wall-slope [] u v r o k = stays (λ t _ _. refl)
-wall-slope (b ∷ bs) u v r o k = at (k 0 (omega arith))
-  where
-    at : (b.at ≤ u) ⊎ (v ≤ b.at) → IsSlope (from b bs) u v
-    at (inl l) = from-slope b bs u v r l o k
-    at (inr l) = stays (λ t h m. from-before b bs t r (omega (arith, m, l)) ∙ sym (from-before b bs u r (omega (arith, o, l))))
+wall-slope (b ∷ bs) u v r o k = elim (k 0 (omega arith)) [
+  | inl l ↦ from-slope b bs u v r l o k
+  | inr l ↦ stays (λ t h m. from-before b bs t r (omega (arith, m, l)) ∙ sym (from-before b bs u r (omega (arith, o, l))))
+]
 
 -- from u to v the line stays, and then rises to the end
 abbrev pub IsHinge : (ℕ → ℤ) → ℕ → ℕ → Type 0
@@ -292,10 +292,13 @@ module _ (L R : ℕ → ℤ) (u v : ℕ) (order : u < v) (left : IsStraight L u 
         | inl l ↦ absurd (omega (arith, ints, met, g, nearer v (omega (arith, order)) (omega arith), short (v - u) (omega (arith, order, l, i))))
         | inr l ↦ l
       ] in
-      let steps : m - u ≡ d = omega (arith, i) in (within, record {
-        met = omega (arith, ints, g, far, ap near steps, nearer m (omega (arith, i)) within);
-        apart = λ t h k. omega (arith, ints, g, nearer t h (omega (arith, k, within)), short (t - u) (omega (arith, h, k, i)));
-      })
+      let steps : m - u ≡ d = omega (arith, i) in (
+        within,
+        record {
+          met = omega (arith, ints, g, far, ap near steps, nearer m (omega (arith, i)) within);
+          apart = λ t h k. omega (arith, ints, g, nearer t h (omega (arith, k, within)), short (t - u) (omega (arith, h, k, i)));
+        },
+      )
 
   -- where both lines move they come nearer by 2 a step
   pub both-cross : (gap d m : ℕ) → L v <ℤ L u → R u <ℤ R v → pos gap ≡ L u -ℤ R u → d ≡ (gap + 1) / 2 → m ≡ u + d → (m ≤ v) × IsCrossing L R u m

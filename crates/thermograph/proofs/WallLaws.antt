@@ -57,11 +57,10 @@ from-first b (c ∷ bs) r = let z : b.at - b.at ≡ 0 = omega arith in at-before
 -- up to the next break point the wall goes straight
 pub from-piece : (b c : Break) (bs : List Break) (t : ℕ) → Reaches b (c ∷ bs) → t ≤ c.at → from b (c ∷ bs) t ≡ toward b.value c.value (t - b.at)
 unfolding from
-from-piece b c bs t r h = at (below-or_at t c.at h)
-  where
-    at : (t < c.at) ⊎ (t ≡ c.at) → from b (c ∷ bs) t ≡ toward b.value c.value (t - b.at)
-    at (inl l) = at-before t c.at _ _ l
-    at (inr e) = at-after t c.at _ _ (omega (arith, e)) ∙ ap (from c bs) e ∙ from-first c bs r.2 ∙ sym r.1 ∙ ap (λ n. toward b.value c.value (n - b.at)) (sym e)
+from-piece b c bs t r h = elim (below-or_at t c.at h) [
+  | inl l ↦ at-before t c.at _ _ l
+  | inr e ↦ at-after t c.at _ _ (omega (arith, e)) ∙ ap (from c bs) e ∙ from-first c bs r.2 ∙ sym r.1 ∙ ap (λ n. toward b.value c.value (n - b.at)) (sym e)
+]
 
 abbrev pub last_of : Break → List Break → Break
 last_of b [] = b
