@@ -166,7 +166,8 @@ module _ (g : Board) (start : ℕ) {points : List ℕ} (lists : Lists points (In
           on_board = λ p h. rw area at (joined_end c (IsContested g) start p ((lists.exact p).0 h)).0;
           joined = λ p q hp hq. carried c (IsContested g) (Joined c (Contains points) p) (onward p) p q
               (joined_here c (Contains points) p hp)
-              (joined_join c (IsContested g) p start q (joined_back c (IsContested g) start p ((lists.exact p).0 hp)) ((lists.exact q).0 hq));
+              (joined_join c (IsContested g) p start q (joined_back c (IsContested g) start p ((lists.exact p).0 hp))
+              ((lists.exact q).0 hq));
           links = λ i l. (touches i l).links;
         }
 

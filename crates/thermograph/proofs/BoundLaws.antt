@@ -288,7 +288,7 @@ past-bounds_of G P f b = (P, inr (f, between-no_number 60 P b), between-past P b
 pub none-past_bounds : (Ts : List Tree) (forms : HaveForms Ts) (id : ℕ) → id < length Ts → (l r : ℕ → ℤ) → HasWalls 60 (tree_at Ts id) l r → IsDrawnPastBounds (tree_at Ts id) → ⊥
 none-past_bounds Ts forms id lt l r h (P, which, b) =
     let G = tree_at Ts id in
-    let stored : IsStored Ts P = elim which [ inl e ↦ (id, lt, sym e) | inr part ↦ part-stored Ts forms G P part.0 part.1 (id, lt, refl) ] in
+    let stored : IsStored Ts P = elim which [ inl e ↦ (id, lt, sym e) | inr p ↦ part-stored Ts forms G P p.0 p.1 (id, lt, refl) ] in
     let follows : IsFollower G P = elim which [ inl e ↦ subst (IsFollower G) (sym e) (itself G) | inr part ↦ part.0 ] in
     none-past (IsStored Ts) (store-bounded Ts forms) P stored (h.lw P) (h.rw P)
     (record { lw = h.lw; rw = h.rw; all = λ Q g. h.all Q (follower-trans G P Q follows g); left_is = λ t. refl; right_is = λ t. refl }) b

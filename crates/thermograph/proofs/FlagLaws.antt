@@ -98,11 +98,10 @@ number-over e x _ _ i (further G H X (inr o) f) = let r = num-right e x H (subst
 module _ (Ts : List Tree) (forms : HaveForms Ts) where
   over_at : (i : ℕ) → ((j : ℕ) → j < i → IsOver 60 (tree_at Ts j)) → (w : Wanted) → IsMeaning Ts i w → IsOver 60 (tree_at Ts i)
   over_at i ih (number x) m P f n = number-over 60 x (tree_at Ts i) P m f
-  over_at i ih (options ls rs) o P f n = at (follower-of (tree_at Ts i) P f)
-    where
-      at : (P ≡ tree_at Ts i) ⊎ ((H : Tree) × IsOption (tree_at Ts i) H × IsFollower H P) → (x : ℤ) × (P ≡ num 60 x)
-      at (inl e) = absurd (o.no_number (subst IsNumberTree e n))
-      at (inr (H, x, g)) = let a = option-listed Ts i ls rs o H x in ih a.0 a.1 P (subst (λ t. IsFollower t P) a.2 g) n
+  over_at i ih (options ls rs) o P f n = elim (follower-of (tree_at Ts i) P f) [
+    | inl e ↦ absurd (o.no_number (subst IsNumberTree e n))
+    | inr (H, x, g) ↦ let a = option-listed Ts i ls rs o H x in ih a.0 a.1 P (subst (λ t. IsFollower t P) a.2 g) n
+  ]
 
   over_within : (n i : ℕ) → i < n → i < length Ts → IsOver 60 (tree_at Ts i)
   over_within zero i a l = absurd (omega arith)

@@ -113,15 +113,15 @@ module _ (f : ℕ → ℤ) (rises : Rises f) where
   along-between false u v t a h k = omega (arith, ints, a, rises-far u t h, rises-far t v k)
   along-between true u v t a h k = omega (arith, ints, h, k, a, rises-slow u t h, rises-slow t v k)
 
-  pub along-next : (u : ℕ) → (IsAlong f false u (u + 1) → ⊥) → IsAlong f true u (u + 1)
-  along-next u n = let s : suc u ≡ u + 1 = omega arith in
-      let up : f (u + 1) ≤ℤ (f u +ℤ pos 1) = subst (λ m. f m ≤ℤ (f u +ℤ pos 1)) s (rises.by_one u) in
-      let down : f u ≤ℤ f (u + 1) = subst (λ m. f u ≤ℤ f m) s (rises.no_fall u) in
-      by_lt_z (f u) (f (u + 1)) (λ l. omega (arith, ints, l, up)) (λ l. absurd (n (omega (arith, ints, l, down))))
-
 -- a line doesn't stop both being flat and rising at one place before the end
 pub goes_on : (f : ℕ → ℤ) → Rises f → (start end flat steep : ℕ) → start < end → flat ≡ start → steep ≡ start → (flat < end → IsAlong f false start (flat + 1) → ⊥) → (steep < end → IsAlong f true start (steep + 1) → ⊥) → ⊥
-goes_on f r start end flat steep h p q a b = b (omega (arith, h, q)) (subst (λ n. IsAlong f true start (n + 1)) (sym q) (along-next f r start (λ e. a (omega (arith, h, p)) (subst (λ n. IsAlong f false start (n + 1)) (sym p) e))))
+goes_on f r start end flat steep h p q a b =
+    let s : suc start ≡ start + 1 = omega arith in
+    let up : f (start + 1) ≤ℤ (f start +ℤ pos 1) = subst (λ m. f m ≤ℤ (f start +ℤ pos 1)) s (r.by_one start) in
+    let down : f start ≤ℤ f (start + 1) = subst (λ m. f start ≤ℤ f m) s (r.no_fall start) in
+    let stops = subst (λ n. IsAlong f false start (n + 1) → ⊥) p (a (omega (arith, h, p))) in
+    b (omega (arith, h, q)) (subst (λ n. IsAlong f true start (n + 1)) (sym q) (by_lt_z (f start) (f (start + 1))
+    (λ l. omega (arith, ints, l, up)) (λ l. absurd (stops (omega (arith, ints, l, down))))))
 
 -- a line bends exactly where it bends with t taken off, and turned over
 turned-even : (s : Side) (f : ℕ → ℤ) (t : ℕ) → 0 < t
@@ -147,7 +147,8 @@ module _ (s : Side) (f : ℕ → ℤ) (rising : Bool) (r : Rises f) (u v : ℕ) 
       let on : (n : ℕ) → u ≤ n → n ≤ v → IsAlong f rising u n = λ n. along-between f r rising u v n a in
       let before = on (t - 1) (omega (arith, h)) (omega (arith, k)) in
       let here = on t (omega (arith, h)) (omega (arith, k)) in
-      b ((turned-even s f t (omega (arith, h))).0 ((along-even f rising u t h before here).0 (on (t + 1) (omega (arith, h)) (omega (arith, k)))))
+      b ((turned-even s f t (omega (arith, h))).0 ((along-even f rising u t h before here).0
+      (on (t + 1) (omega (arith, h)) (omega (arith, k)))))
 
 -- Between neighbouring break points a wall is straight, and the greatest of walls that rise stays and then rises.
 -- from u to v the line stays, rises all the way or falls all the way
@@ -174,8 +175,8 @@ from-slope b [] u v r p o k = stays (λ t _ _. refl)
 from-slope b (c ∷ bs) u v r p o k = elim (k 1 (omega arith)) [
   | inl l ↦ slope-same (from c bs) (from b (c ∷ bs)) u v o (λ t h _. at-after t c.at _ _ (omega (arith, h, l)))
       (from-slope c bs u v r.2 l o (λ j h. k (suc j) (omega (arith, h))))
-  | inr l ↦ slope-same (λ t. toward b.value c.value (t - b.at)) (from b (c ∷ bs)) u v o (λ t _ h. from-piece b c bs t r (omega (arith, h, l)))
-      (toward-slope b.value c.value b.at u v p)
+  | inr l ↦ slope-same (λ t. toward b.value c.value (t - b.at)) (from b (c ∷ bs)) u v o
+      (λ t _ h. from-piece b c bs t r (omega (arith, h, l))) (toward-slope b.value c.value b.at u v p)
 ]
 
 -- before its first break point a wall stays too
@@ -215,13 +216,15 @@ slope-straight f u v w o p (falls a) t h k =
 
 pub straight-short : (f : ℕ → ℤ) (u v w : ℕ) → u ≤ w → w ≤ v → IsStraight f u v → IsStraight f u w
 straight-short f u v w o p s =
-    slope-straight f u v w o p (slope-same (λ t. toward (f u) (f v) (t - u)) f u v (omega (arith, o, p)) s (toward-slope (f u) (f v) u u v (omega arith)))
+    slope-straight f u v w o p
+    (slope-same (λ t. toward (f u) (f v) (t - u)) f u v (omega (arith, o, p)) s (toward-slope (f u) (f v) u u v (omega arith)))
 
 -- and so is a scaffold where its rise goes on as it began
 along-straight : (s : Side) (f : ℕ → ℤ) (rising : Bool) → Rises f → (u v : ℕ) → u ≤ v → IsAlong f rising u v
     → IsStraight (λ t. turned s (f t -ℤ pos t)) u v
 along-straight s f rising r u v o a =
-    slope-straight (λ t. turned s (f t -ℤ pos t)) u v v o (omega arith) (slope-turned s (λ t. f t -ℤ pos t) u v (slope rising (λ t. along-between f r rising u v t a)))
+    slope-straight (λ t. turned s (f t -ℤ pos t)) u v v o (omega arith)
+    (slope-turned s (λ t. f t -ℤ pos t) u v (slope rising (λ t. along-between f r rising u v t a)))
   where
     slope : (rising : Bool) → ((t : ℕ) → u ≤ t → t ≤ v → IsAlong f rising u t) → IsSlope (λ t. f t -ℤ pos t) u v
     slope true on = stays (λ t h k. omega (arith, ints, h, on t h k))

@@ -59,7 +59,8 @@ pub from-piece : (b c : Break) (bs : List Break) (t : ℕ) → Reaches b (c ∷ 
 unfolding from
 from-piece b c bs t r h = elim (below-or_at t c.at h) [
   | inl l ↦ at-before t c.at _ _ l
-  | inr e ↦ at-after t c.at _ _ (omega (arith, e)) ∙ ap (from c bs) e ∙ from-first c bs r.2 ∙ sym r.1 ∙ ap (λ n. toward b.value c.value (n - b.at)) (sym e)
+  | inr e ↦ at-after t c.at _ _ (omega (arith, e)) ∙ ap (from c bs) e ∙ from-first c bs r.2 ∙ sym r.1
+      ∙ ap (λ n. toward b.value c.value (n - b.at)) (sym e)
 ]
 
 abbrev pub last_of : Break → List Break → Break
@@ -276,8 +277,8 @@ from-sum : (b : Break) (bs : List Break) (t u n : ℕ) → Reaches b bs → n �
 unfolding from
 from-sum b [] t u n r e p q = refl
 from-sum b (c ∷ bs) t u n r e p q = elim (cases_lt t c.at) [
-  | inl h ↦ at-before n (c.at + c.at) _ _ (omega (arith, e, h, q)) ∙ toward-twice b.value c.value (t - b.at) (u - b.at) _ (omega (arith, e, p, q))
-      ∙ sym (ap₂ ◌+ℤ◌ (at-before t c.at _ _ h) (from-piece b c bs u r (omega (arith, h, q))))
+  | inl h ↦ at-before n (c.at + c.at) _ _ (omega (arith, e, h, q)) ∙ toward-twice b.value c.value (t - b.at) (u - b.at) _
+      (omega (arith, e, p, q)) ∙ sym (ap₂ ◌+ℤ◌ (at-before t c.at _ _ h) (from-piece b c bs u r (omega (arith, h, q))))
   | inr h ↦ at-after n (c.at + c.at) _ _ (omega (arith, e, h, p)) ∙ from-sum c bs t u n r.2 e p q
       ∙ sym (ap₂ ◌+ℤ◌ (at-after t c.at _ _ h) (at-after u c.at _ _ (omega (arith, h, p))))
 ]

@@ -17,8 +17,10 @@ join-requires c =
     let h = known (goal.at.join-requires c).After-deref-in-Options in
     let left = left-known c.args.store.now c.args.id _ _ _ _ o h in
     let right = right-known c.args.store.now c.args.id _ _ _ _ o h in record {
-      left = record { ids = λ j l. omega (arith, o.left_below j l, h.right_count); level = left.0; steady = left.1; rises = rise-rises _ _ left.1 };
-      right = record { ids = λ j l. omega (arith, o.right_below j l, h.left_count); level = right.0; steady = right.1; rises = rise-rises _ _ right.1 };
+      left = record { ids = λ j l. omega (arith, o.left_below j l, h.right_count); level = left.0; steady = left.1;
+        rises = rise-rises _ _ left.1 };
+      right = record { ids = λ j l. omega (arith, o.right_below j l, h.left_count); level = right.0; steady = right.1;
+        rises = rise-rises _ _ right.1 };
       left_side = refl;
       right_side = refl;
       stays = scaffolds-stay c.args.store.now c.args.id _ _ _ _ o h;
