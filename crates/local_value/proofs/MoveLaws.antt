@@ -322,10 +322,11 @@ module _ (r : Region) (g : Graph) (of : IsGraphOf r g) where
       )
 
   -- a local move is an edge
-  pub edge_of : (k : ℕ) (cells next : List Cell) (c : Colour) (i n : ℕ) → IsPlaceOf r g k cells → IsLocalMove r.touch cells c i next → IsNumberTaken cells next n
-      → (e : Edge) × Contains (edges_at g.edges k) e × IsEdgeFor g.positions cells next c i n e
+  pub edge_of : (k : ℕ) (cells next : List Cell) (c : Colour) (i n : ℕ) → IsPlaceOf r g k cells → IsLocalMove r.touch cells c i next
+      → IsNumberTaken cells next n → (e : Edge) × Contains (edges_at g.edges k) e × IsEdgeFor g.positions cells next c i n e
   edge_of k cells next c i n has move number =
-      let h = edge_for r.touch r.cells g.positions g.edges of.graph k cells next (record { colour = c; place = i }) has.inside has.reachable has.packed move in
+      let h = edge_for r.touch r.cells g.positions g.edges of.graph k cells next (record { colour = c; place = i })
+      has.inside has.reachable has.packed move in
       let (after, its_move, edge) = move_of k cells h.e has h.among in
       let move' = subst (λ d. IsLocalMove r.touch cells d h.e.place next) (sym h.colour)
       (subst (λ x. IsLocalMove r.touch cells c x next) (sym h.place) move) in

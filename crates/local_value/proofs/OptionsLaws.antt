@@ -255,7 +255,8 @@ module _ {Ts Us : List Tree} {ids : List ℕ} {c : Colour} {es : List Edge} {n :
               | inr i ↦ (
                 length afters,
                 omega (arith, more),
-                subst (λ z. IsAfter Ts Vs ids z (get_or (afters ++ id ∷ []) (length afters) 0)) i (subst (IsAfter Ts Vs ids e) (sym (get_or_push afters id 0 (length afters) refl)) here),
+                subst (λ z. IsAfter Ts Vs ids z (get_or (afters ++ id ∷ []) (length afters) 0)) i
+                    (subst (IsAfter Ts Vs ids e) (sym (get_or_push afters id 0 (length afters) refl)) here),
               )
             ];
           };
