@@ -284,19 +284,6 @@ pub record IsEdgeFor (positions : List ℕ) (cells next : List Cell) (c : Colour
   pub number : IsNumberTaken cells next e.taken
   pub taken : e.taken ≡ n
 
--- an empty place is no stone, and a stone is one
-count_free : (cells : List Cell) (p : ℕ) → p < length cells → held_at cells p ≡ cell.Empty → count_by is_stone cells < length cells
-count_free cells p lt free =
-    let one = sum_by-set weight cells p cell.Black cell.Empty lt in
-    let nothing : weight (get_or cells p cell.Empty) ≡ weight cell.Empty = ap weight free in
-    omega (arith, one, nothing, count_by-le-length is_stone (set cells p cell.Black), length-set cells p cell.Black)
-
-count_stone : (cells : List Cell) (c : Colour) (p : ℕ) → p < length cells → Holds cells c p → 0 < count_by is_stone cells
-count_stone cells c p lt holds =
-    let one = sum_by-set weight cells p cell.Empty cell.Empty lt in
-    let here : weight (get_or cells p cell.Empty) ≡ weight (stone c) = ap weight holds in
-    omega (arith, one, here, weight-stone c)
-
 module _ (r : Region) (g : Graph) (of : IsGraphOf r g) where
   -- an edge is a local move
   pub move_of : (k : ℕ) (cells : List Cell) (e : Edge) → IsPlaceOf r g k cells → Contains (edges_at g.edges k) e
@@ -368,12 +355,15 @@ module _ (r : Region) (g : Graph) (of : IsGraphOf r g) where
   pub taken_less : (k : ℕ) (e : Edge) → Contains (edges_at g.edges k) e → e.taken < length r.cells
   taken_less k e among =
       let (cells, has) = cells_at k e among in
-      let m = move_of k cells e has among in
-      let move = m.1 in
+      let (after, move, edge) = move_of k cells e has among in
       let long = plays_long r.touch r.cells cells has.reachable.0 has.reachable.1 in
-      let free = count_free cells e.place move.place move.free in
-      let stone = count_stone m.0 e.colour e.place (omega (arith, move.place, long_after move)) (leads_start _ _ e.place move.stands.0 move.stands.1) in
-      omega (arith, m.2.number, free, stone, long)
+      let free : weight (held_at cells e.place) ≡ 0 = ap weight move.free in
+      let one = sum_by-set weight cells e.place cell.Black cell.Empty move.place in
+      let room = count_by-le-length is_stone (set cells e.place cell.Black) in
+      let stands : weight (held_at after e.place) ≡ 1 =
+      ap weight (leads_start _ _ e.place move.stands.0 move.stands.1) ∙ weight-stone e.colour in
+      let some = sum_by-set weight after e.place cell.Empty cell.Empty (omega (arith, move.place, long_after move)) in
+      omega (arith, edge.number, free, one, room, length-set cells e.place cell.Black, stands, some, long)
 
 -- The steps of a graph are its edges, by player.
 
