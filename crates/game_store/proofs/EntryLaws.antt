@@ -198,7 +198,8 @@ held-is lists es h w keep k l e = at_entry (entry_at es k) w (h.fit k l) (h.no_n
     at_entry (Options place n) (options ls rs) f no_number a i t =
         let is = list_at lists place in
         let same = pick-one_to_one (values lists es) h.distinct in
-        let ids : (is : List ℕ) → AreBelow k is → AreIds (values lists es) is = λ _ b j i. omega (arith, b j i, l, length-values lists es) in
+        let ids : (is : List ℕ) → AreBelow k is → AreIds (values lists es) is =
+        λ _ b j i. omega (arith, b j i, l, length-values lists es) in
         ap₂ options (same (take n is) ls f.1.left_ascends a.2 (ids (take n is) (left-below k n is f.1.below)) a.0 (ap left i))
         (same (drop n is) rs f.1.right_ascends a.3 (ids (drop n is) (right-below k n is f.1.below)) a.1 (ap right i))
 

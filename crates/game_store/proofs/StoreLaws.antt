@@ -174,9 +174,6 @@ module _ {Ts : List Tree} {lists : List (List ℕ)} {slots : List Slot} {L : ℕ
     reached = (tree_at Ts (get_or is g.reached.0 0), has-option is g.reached.0 g.reached.1, subst (IsCeiling 60 (tree_at Ts (get_or is g.reached.0 0))) g.reached.2 (placed-at _ (a g.reached.0 g.reached.1)).ceiling_is);
   }
 
-  pub ceiling-small : (is : List ℕ) (x : ℤ) → AreIds Ts is → IsLeastCeiling slots is x → IsCeilingRange x
-  ceiling-small is x a l = subst IsCeilingRange l.reached.2 (placed-at _ (a l.reached.0 l.reached.1)).ceiling_range
-
   pub floor-small : (is : List ℕ) (x : ℤ) → AreIds Ts is → IsGreatestFloor slots is x → IsFloorRange x
   floor-small is x a l = subst IsFloorRange l.reached.2 (placed-at _ (a l.reached.0 l.reached.1)).floor_range
 
@@ -190,7 +187,8 @@ module _ {Ts : List Tree} {lists : List (List ℕ)} {slots : List Slot} {L : ℕ
       let no_number : IsNumber G → ⊥ = λ i. keep.lists.4 (i.0, i.1, canonical-number G keep.canonical i) in rw (x_is, y_is) record {
         floor_is = floor-by 60 G f no_number (least-ceiling rs f b p);
         ceiling_is = ceiling-by 60 G c no_number (greatest-floor ls c a q);
-        floor_range = (let r = ceiling-small rs f b p in (omega (arith, ints, r.0, r.1), omega (arith, ints, r.0, r.1)));
+        floor_range = (let r = subst IsCeilingRange p.reached.2 (placed-at _ (b p.reached.0 p.reached.1)).ceiling_range in
+            (omega (arith, ints, r.0, r.1), omega (arith, ints, r.0, r.1)));
         ceiling_range = (let r = floor-small ls c a q in (omega (arith, ints, r.0, r.1), omega (arith, ints, r.0, r.1)));
         left_stop = game-left_stop 60 G keep.lists.4
             (λ L h. (let o = option ls L h in subst (λ t. (x : ℤ) × IsRightStop 60 t x) (sym o.2) (placed-at _ (a o.0 o.1)).right_stop))

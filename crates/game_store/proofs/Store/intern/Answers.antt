@@ -13,7 +13,10 @@ returns-in-Some-clause-value c = found (holds c.self.invariant c.self.view_is) c
 full : (c : goal.After-drop-options-2) → Holds (c.args.self.now ++ form c.args.self.now c.args.left.now c.args.right.now ∷ []) c.push_reserved.new.self.lists c.enter.new.slots.items (get nat_eq c.enter.new.latest)
 full c =
     let here = holds c.self.invariant c.self.view_is in
-    let may : MayKeep c.args.self.now (options c.args.left.now c.args.right.now) = record { canonical = c.requires.canonical; lists = (c.requires.left_ids, c.requires.right_ids, c.requires.left_ascends, c.requires.right_ascends, c.requires.no_number, c.requires.left_some, c.requires.right_some) } in
+    let may : MayKeep c.args.self.now (options c.args.left.now c.args.right.now) = (let q = c.requires in record {
+      canonical = q.canonical;
+      lists = (q.left_ids, q.right_ids, q.left_ascends, q.right_ascends, q.no_number, q.left_some, q.right_some);
+    }) in
     holds-options here _ _ (get nat_eq c.enter.new.latest) c.args.left.now c.args.right.now _ (length c.args.left.now) _ may
     (options-placed here _ _ c.least_ceiling.result c.greatest_floor.result may (rw c.deref-2.ensures.value at c.least_ceiling.ensures)
     (rw c.deref-3.ensures.value at c.greatest_floor.ensures) _ _ c.just_below-floor.ensures c.just_above-ceiling.ensures)

@@ -28,4 +28,5 @@ pub returns-clause-kept : goal.returns-clause-kept
 returns-clause-kept c = extends-push _ _ _ (full c).values_are
 
 pub invariant_of-self : goal.invariant_of-self
-invariant_of-self c = rw c.in_err-id.ensures.slots_kept (holds-map (holds c.self.invariant c.self.view_is) _ c.in_err-id.ensures.latest_kept).all
+invariant_of-self c = rw c.in_err-id.ensures.slots_kept
+    (holds-map (holds c.self.invariant c.self.view_is) _ c.in_err-id.ensures.latest_kept).all

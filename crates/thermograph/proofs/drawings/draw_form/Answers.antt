@@ -15,12 +15,10 @@ pub join-requires : goal.join-requires
 join-requires c =
     let o = c.in-Options.ensures.form in
     let h = known (goal.at.join-requires c).After-deref-in-Options in
-    let left = left-known c.args.store.now c.args.id _ _ _ _ o h in
-    let right = right-known c.args.store.now c.args.id _ _ _ _ o h in record {
-      left = record { ids = λ j l. omega (arith, o.left_below j l, h.right_count); level = left.0; steady = left.1;
-        rises = rise-rises _ _ left.1 };
-      right = record { ids = λ j l. omega (arith, o.right_below j l, h.left_count); level = right.0; steady = right.1;
-        rises = rise-rises _ _ right.1 };
+    let l = left-known c.args.store.now c.args.id _ _ _ _ o h in
+    let r = right-known c.args.store.now c.args.id _ _ _ _ o h in record {
+      left = record { ids = λ j i. omega (arith, o.left_below j i, h.right_count); level = l.0; steady = l.1; rises = rise-rises _ _ l.1 };
+      right = record { ids = λ j i. omega (arith, o.right_below j i, h.left_count); level = r.0; steady = r.1; rises = rise-rises _ _ r.1 };
       left_side = refl;
       right_side = refl;
       stays = scaffolds-stay c.args.store.now c.args.id _ _ _ _ o h;
