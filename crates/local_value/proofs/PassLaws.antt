@@ -93,7 +93,8 @@ module _ {r : Region} {g : Graph} (of : IsGraphOf r g) where
   pub order_short : length g.order ≤ length g.positions
   order_short =
       let le = fewer (length g.order) (length g.edges) (λ j i. get_or g.order j 0 ≡ i)
-      (λ j lt. (get_or g.order j 0, of.order.inside j lt, refl)) (λ i j k li lj e f. same_place g.order i j of.order.once li lj (e ∙ sym f)) in
+      (λ j lt. (get_or g.order j 0, of.order.inside j lt, refl))
+      (λ i j k li lj e f. same_place g.order i j of.order.once li lj (e ∙ sym f)) in
       omega (arith, le, of.graph.beside)
 
   deep : (i : ℕ) (cells : List Cell) → IsPlaceOf r g i cells → 3 ^ length r.cells ≤ 3 ^ length cells

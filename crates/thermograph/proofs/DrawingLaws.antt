@@ -231,8 +231,8 @@ module _ (Ts : List Tree) (flags : List Bool) where
   drawn-below id n lefts rights f d l m = record { left_count = d.left_count; right_count = d.right_count; drawn = λ i o. d.drawn i o.0 (f.closed n i (omega arith) l m o) }
 
   pub drawn-push : (n : ℕ) (lefts rights lefts' rights' : List (Vec Break Global)) (l r : Vec Break Global)
-      → AreDrawn Ts flags n lefts rights → lefts' ≡ lefts ++ l ∷ [] → rights' ≡ rights ++ r ∷ [] → (IsFlagged flags n → IsDrawn (tree_at Ts n) l.items r.items)
-      → AreDrawn Ts flags (n + 1) lefts' rights'
+      → AreDrawn Ts flags n lefts rights → lefts' ≡ lefts ++ l ∷ [] → rights' ≡ rights ++ r ∷ []
+      → (IsFlagged flags n → IsDrawn (tree_at Ts n) l.items r.items) → AreDrawn Ts flags (n + 1) lefts' rights'
   drawn-push n lefts rights lefts' rights' l r d p q new =
       let lefts_long : length (map items lefts) ≡ n = length-map lefts items ∙ d.left_count in
       let rights_long : length (map items rights) ≡ n = length-map rights items ∙ d.right_count in rw (p, q) record {

@@ -18,7 +18,8 @@ valuing-init c = record {
 pub value_of-requires : goal.value_of-requires
 value_of-requires c =
     let (r, of) = c.requires.graph in
-    let w = call of (c.valuing.invariant.pass r of) c.order-place-items.ensures c.edges-edges.ensures c.deref.ensures.value c.valuing-test.true in
+    let w = call of (c.valuing.invariant.pass r of) c.order-place-items.ensures c.edges-edges.ensures c.deref.ensures.value
+    c.valuing-test.true in
     record { noted = w.noted; small = w.small c.requires.few; memo = c.valuing.invariant.memo }
 
 pub valuing-preserved : goal.valuing-preserved

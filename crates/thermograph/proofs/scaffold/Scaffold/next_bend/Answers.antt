@@ -16,8 +16,8 @@ returns c =
     let steep = c.last_along.ensures in
     let after : c.args.start < c.last_along.result = elim (cases_lt c.args.start c.last_along.result) [
       | inl h ↦ h
-      | inr h ↦ absurd (goes_on (rise c.args.self.now) c.requires.known.rises c.args.start c.args.end
-          c.last_along-flat.result c.last_along.result (omega arith) (omega arith) (omega (arith, h)) c.last_along-flat.ensures.last steep.last)
+      | inr h ↦ absurd (goes_on (rise c.args.self.now) c.requires.known.rises c.args.start c.args.end c.last_along-flat.result
+          c.last_along.result (omega arith) (omega arith) (omega (arith, h)) c.last_along-flat.ensures.last steep.last)
     ] in
     let bend = goes-straight c.args.self.now.side (rise c.args.self.now) true c.requires.known.rises c.args.start _ c.args.end
     after steep.along steep.last in
