@@ -10,7 +10,7 @@ use Rattle.short_games.specs.Sum.{◌+ᵍ◌}
 use Rattle.game_store.specs.Meaning.{pick, AreBelow, Extends}
 use Rattle.game_store.specs.Forms.{IsOptions}
 use Rattle.short_games.specs.Parts.{HasMoreParts, IsInner}
-use Rattle.game_store.proofs.Values.{pick-has, pick-same}
+use Rattle.game_store.proofs.EntryLaws.{pick-has, pick-same}
 use Rattle.game_canon.specs.inner.Changes.{AreClosed, AreKnown}
 use Rattle.game_canon.specs.Outcomes.{IsCanonicalId}
 use Rattle.game_canon.proofs.ChangedIdLaws.{extends-on}

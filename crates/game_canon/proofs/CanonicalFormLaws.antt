@@ -14,7 +14,7 @@ use Rattle.short_games.proofs.OrderLaws.{le-trans, le-refl, same-trans}
 use Rattle.short_games.proofs.FormLaws.{by_better}
 use Rattle.short_games.proofs.ReductionLaws.{form-canonical, number-kept_left, number-kept_right, number-canonical, canonical-same}
 use Rattle.game_store.specs.Meaning.{pick, listed, form, AreIds, AreCanonical, IsAscending, IsIdOf, Extends}
-use Rattle.game_store.proofs.Values.{has-pick}
+use Rattle.game_store.proofs.EntryLaws.{has-pick}
 use Rattle.game_canon.specs.declared.side.Side.TheVariants.{Left, Right}
 use Rattle.game_canon.specs.inner.Sides.{IsReducedForm, IsStart, StartsWith, AreBest, Comes}
 use Rattle.game_canon.specs.declared.games.Unstored.{Unstored}

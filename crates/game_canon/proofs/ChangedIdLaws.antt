@@ -10,7 +10,7 @@ use Rattle.short_games.specs.TextOrder.{IsCanonicalTree, IsCanonicalFor}
 use Rattle.game_store.specs.Meaning.{pick, form, AreIds, AreBelow, Extends, IsIdOf}
 use Rattle.game_store.specs.Forms.{IsOptions}
 use Rattle.short_games.specs.Parts.{IsOption, IsNumberOf, IsInner, IsReached}
-use Rattle.game_store.proofs.Values.{has-pick, pick-has}
+use Rattle.game_store.proofs.EntryLaws.{has-pick, pick-has}
 use Rattle.short_games.proofs.ReductionLaws.{number-canonical}
 use Rattle.game_canon.specs.declared.change.Change.{Change}
 use Rattle.game_canon.specs.declared.change.Change.TheVariants.{Negate, Add}

@@ -13,7 +13,7 @@ use Rattle.short_games.proofs.ThresholdLaws.{number-floor, number-ceiling, half-
 use Rattle.short_games.proofs.StopLaws.{one-floor, one-ceiling}
 use Rattle.game_store.specs.Meaning.{pick}
 use Rattle.game_store.specs.Forms.{IsOptions}
-use Rattle.game_store.proofs.Values.{has-pick, pick-has}
+use Rattle.game_store.proofs.EntryLaws.{has-pick, pick-has}
 use Rattle.std.specs.Prelude.{Option}
 use Rattle.game_canon.specs.declared.games.Unstored.{Unstored}
 use Rattle.game_canon.specs.inner.Games.{with_unstored}

@@ -10,7 +10,7 @@ use Rattle.game_store.specs.Meaning.{pick, form, AreBelow, Extends}
 use Rattle.game_store.specs.Forms.{IsOptions}
 use Rattle.short_games.proofs.TextOrderLaws.{sorted-has, has-sorted}
 use Rattle.short_games.proofs.OrderLaws.{le-refl}
-use Rattle.game_store.proofs.Values.{has-pick, pick-same, pick-one_to_one, extends-same, extends-push, last-value}
+use Rattle.game_store.proofs.EntryLaws.{has-pick, pick-same, pick-one_to_one, extends-same, extends-push, last-value}
 use Rattle.game_canon.specs.declared.games.Unstored.{Unstored}
 use Rattle.game_canon.specs.declared.games.Games.{Games}
 use Rattle.game_canon.specs.inner.Games.{trees, with_unstored, IsUnstored, IsBeside}

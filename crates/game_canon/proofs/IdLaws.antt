@@ -7,7 +7,7 @@ use Rattle.std.proofs.lemmas.List.Kept.{AllPairs-from_increasing}
 use Rattle.std.proofs.lemmas.List.Elements.{Contains-get_or, at_from_Contains}
 use Rattle.short_games.specs.Tree.{Tree, Has, size, sizes, tree_at}
 use Rattle.game_store.specs.Meaning.{pick, AreIds}
-use Rattle.game_store.proofs.Values.{has-pick, pick-has}
+use Rattle.game_store.proofs.EntryLaws.{has-pick, pick-has}
 use Rattle.game_canon.specs.inner.Ids.{IsInOrder}
 
 sum-dedup_from : (f : ℕ → ℕ) (x : ℕ) (xs : List ℕ) → sum_by f (dedup_from nat_eq x xs) ≤ f x + sum_by f xs

@@ -13,7 +13,7 @@ use Rattle.short_games.specs.Number.{IsNumberTree, IsNumber}
 use Rattle.short_games.proofs.OrderLaws.{le-refl, le-trans, same-trans, size-left, size-right, size-node}
 use Rattle.short_games.proofs.ReductionLaws.{drops-left, drops-right, bypasses-left, bypasses-right, number-answers_left, number-answers_right}
 use Rattle.game_store.specs.Forms.{IsOptions}
-use Rattle.game_store.proofs.Values.{has-pick, pick-has}
+use Rattle.game_store.proofs.EntryLaws.{has-pick, pick-has}
 use Rattle.game_canon.specs.declared.side.Side.{Side}
 use Rattle.game_canon.specs.declared.side.Side.TheVariants.{Left, Right}
 use Rattle.short_games.specs.Parts.{IsOption}

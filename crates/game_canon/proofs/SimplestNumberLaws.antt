@@ -15,7 +15,7 @@ use Rattle.short_games.proofs.OrderLaws.{le-trans}
 use Rattle.short_games.proofs.NumberLaws.{num-even, num-odd, num-double, num-lt, half-even, half-odd}
 use Rattle.short_games.proofs.ThresholdLaws.{cell, half-cell, simplest-is, equal-fits}
 use Rattle.game_store.specs.Meaning.{listed}
-use Rattle.game_store.proofs.Values.{has-pick, pick-has}
+use Rattle.game_store.proofs.EntryLaws.{has-pick, pick-has}
 use Rattle.game_canon.specs.Outcomes.{AreOptionsWithin}
 use Rattle.game_canon.proofs.NumberSizeLaws.{simplest-within}
 use Rattle.game_canon.proofs.ThresholdLaws.{form-floor, form-ceiling, lower-near, upper-near}

@@ -14,7 +14,7 @@ use Rattle.short_games.proofs.SumLaws.InSum.{in_first, in_second}
 use Rattle.short_games.proofs.NumberLaws.{num-left, num-right, num-le, num-plus_le}
 use Rattle.short_games.proofs.ReductionLaws.{canonical-number}
 use Rattle.short_games.proofs.AvoidanceLaws.{cheap_left, cheap_right}
-use Rattle.game_store.proofs.Values.{pick-has, has-pick}
+use Rattle.game_store.proofs.EntryLaws.{pick-has, has-pick}
 use Rattle.short_games.proofs.TextOrderLaws.{sorted-has, has-sorted}
 use Rattle.game_canon.specs.declared.sums.SumPair.{SumPair}
 use Rattle.game_canon.specs.declared.sums.Place.{Place}

@@ -12,7 +12,7 @@ use Rattle.game_store.specs.Places.{IsFloorRange, IsCeilingRange}
 use Rattle.short_games.proofs.ThresholdLaws.{game-floor, game-ceiling}
 use Rattle.game_store.specs.Meaning.{listed}
 use Rattle.game_canon.specs.inner.Bounds.{AreAllWithin, HasCeilingFrom, HasFloorUpTo, AreAllFrom, AreAllUpTo, AreFloorRange, AreCeilingRange, lower, upper}
-use Rattle.game_store.proofs.Values.{pick-has}
+use Rattle.game_store.proofs.EntryLaws.{pick-has}
 use Rattle.short_games.specs.Stops.{GoesWithLeftStop, GoesWithRightStop}
 use Rattle.game_canon.proofs.NumberSizeLaws.{floor-within, ceiling-within}
 use Rattle.game_canon.proofs.GameLaws.{none-list}

@@ -1,2 +1,2 @@
-pub mod Values
-pub mod Interned
+pub mod EntryLaws
+pub mod StoreLaws

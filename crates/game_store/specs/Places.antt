@@ -1,5 +1,5 @@
 -- Where the forms of a store stand among the numbers, as its slots keep it.
-use Rattle.std.specs.Prelude.{◌<◌, ℤ, pos, neg_ℤ, ◌+ℤ◌, ◌-ℤ◌, ◌<ℤ◌}
+use Rattle.std.specs.Prelude.{ℤ, pos, neg_ℤ, ◌+ℤ◌, ◌-ℤ◌, ◌<ℤ◌}
 use Rattle.dyadic_num.specs.declared.TheConstants.{LIMIT}
 
 -- what a floor can be, where each number is within the bounds of a Dyadic: at such a number, or just below it

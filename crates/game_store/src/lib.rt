@@ -1,7 +1,8 @@
 //! A store of canonical forms, each kept once under an id.
 #![tactic(auto)]
 
-ghost use Rattle.std.specs.Prelude.{◌≡◌, ◌<◌, ◌++◌, length, IfOk, OnErr};
+ghost use Rattle.std.specs.Prelude.{◌≡◌, ◌<◌, ◌++◌, ◌∷◌, [], ℕ, length, cond, nat_eq, Some, IfOk, OnErr, OnOk};
+ghost use Rattle.indexmap.specs.IndexMap.{get};
 ghost use Rattle.short_games.specs.Number.{IsNumberTree, number_tree};
 ghost use Rattle.short_games.specs.TextOrder.{IsCanonicalTree};
 ghost use Rattle.short_games.specs.Threshold.{IsFloor, IsCeiling};
@@ -19,7 +20,7 @@ mod lookup;
 
 use crate::bounds::{greatest_floor, least_ceiling, read_ceiling, read_floor};
 use crate::fingerprint::{fingerprint_number, fingerprint_options};
-use crate::lookup::{find_number, find_options, read_slot};
+use crate::lookup::{find, read_slot};
 pub use bound::Bound;
 use dyadic_num::{Dyadic, EXPONENT};
 use indexmap::IndexMap;
@@ -110,6 +111,37 @@ fn join(alloc: Global, left: &[GameId], right: &[GameId]) -> Result<Vec<GameId>,
     Ok(options)
 }
 
+/// Puts a slot behind the others and at the head of the chain of its fingerprint. Its id is the number of those before it.
+fn enter(
+    slots: &mut Vec<Slot>,
+    latest: &mut IndexMap<u64, u64>,
+    fingerprint: u64,
+    entry: Entry,
+    before: Option<u64>,
+    floor: Bound,
+    ceiling: Bound,
+) -> Result<GameId, AllocError>
+    ensures id { IfOk result (λ id. id ≡ length slots.old.items) }
+    ensures slots { OnOk result (slots.new.items ≡ slots.old.items
+        ++ record { entry = entry; before = before; floor = floor; ceiling = ceiling } ∷ []) }
+    ensures latest { OnOk result ((q : ℕ) → get nat_eq latest.new q
+        ≡ cond (nat_eq fingerprint q) (Some (length slots.old.items)) (get nat_eq latest.old q)) }
+    ensures slots_kept { OnErr result (slots.new.items ≡ slots.old.items) }
+    ensures latest_kept { OnErr result ((q : ℕ) → get nat_eq latest.new q ≡ get nat_eq latest.old q) }
+{
+    latest.reserve(1)?;
+    slots.reserve(1)?;
+    let id = slots.len();
+    slots.push_reserved(Slot {
+        entry,
+        before,
+        floor,
+        ceiling,
+    });
+    latest.insert(fingerprint, id as u64)?;
+    Ok(id as u64)
+}
+
 impl Store {
     /// A store without a form.
     pub fn new(alloc: Global) -> Store
@@ -141,21 +173,21 @@ impl Store {
     {
         let fingerprint = fingerprint_number(x);
         let before = self.latest.get(&fingerprint).copied();
-        if let Some(id) = find_number(&self.slots, &self.pool, before, x) {
+        if let Some(id) = find(&self.slots, &self.pool, before, &Form::Number(x)) {
             return Ok(id);
         }
         let at = Bound::at(x);
-        let slot = Slot {
-            entry: Entry::Number(x),
+        let entry = Entry::Number(x);
+        let id = enter(
+            &mut self.slots,
+            &mut self.latest,
+            fingerprint,
+            entry,
             before,
-            floor: at,
-            ceiling: at,
-        };
-        self.latest.reserve(1)?;
-        let id = self.slots.len();
-        self.slots.push(slot)?;
-        self.latest.insert(fingerprint, id as u64)?;
-        Ok(id as u64)
+            at,
+            at,
+        )?;
+        Ok(id)
     }
 
     /// The id of the form with these options, which has to be canonical and no number. Every id keeps its form, and after
@@ -175,29 +207,29 @@ impl Store {
     {
         let fingerprint = fingerprint_options(left, right);
         let before = self.latest.get(&fingerprint).copied();
-        if let Some(id) = find_options(&self.slots, &self.pool, before, left, right) {
+        let form = Form::Options { left, right };
+        if let Some(id) = find(&self.slots, &self.pool, before, &form) {
             return Ok(id);
         }
         let floor = least_ceiling(&self.slots, right).just_below();
         let ceiling = greatest_floor(&self.slots, left).just_above();
         let options = join(self.alloc, left, right)?;
-        self.latest.reserve(1)?;
-        self.slots.reserve(1)?;
         self.pool.reserve(options.len())?;
-        let place = self.pool.push_reserved(&options);
-        let slot = Slot {
-            entry: Entry::Options {
-                place,
-                left_count: left.len(),
-            },
+        let entry = Entry::Options {
+            place: self.pool.len(),
+            left_count: left.len(),
+        };
+        let id = enter(
+            &mut self.slots,
+            &mut self.latest,
+            fingerprint,
+            entry,
             before,
             floor,
             ceiling,
-        };
-        let id = self.slots.len();
-        self.slots.push_reserved(slot);
-        self.latest.insert(fingerprint, id as u64)?;
-        Ok(id as u64)
+        )?;
+        self.pool.push_reserved(&options);
+        Ok(id)
     }
 
     /// The form of an id.

@@ -1,11 +1,12 @@
 //! Look-ups along the chains of slots with one fingerprint.
 
 ghost use Rattle.std.specs.Prelude.{◌≡◌, ◌<◌, ℕ, length, IfSome, IfNone, IsTrue, ◌↔◌};
-ghost use Rattle.game_store.specs.inner.Chain.{entries_of, fingerprints, number_fingerprint, options_fingerprint, latest_of, slot_at, HasBefores};
+ghost use Rattle.game_store.specs.inner.Chain.{entries_of, fingerprint, fingerprints, latest_of, slot_at, HasBefores};
 ghost use Rattle.game_store.specs.inner.Meaning.{entry_at, held, Within, IsWithin};
 ghost use Rattle.game_store.specs.Meaning.Wanted.{number, options};
+ghost use Rattle.game_store.specs.Forms.{wanted};
 
-use crate::{Entry, Slot};
+use crate::{Entry, Form, Slot};
 use dyadic_num::Dyadic;
 use list_pool::ListPool;
 
@@ -41,54 +42,37 @@ fn holds_options(entry: Entry, pool: &ListPool, left: &[u64], right: &[u64]) -> 
     }
 }
 
-/// The place of the slot that holds this number, from the latest with its fingerprint back.
-pub(crate) fn find_number(
-    slots: &[Slot],
-    pool: &ListPool,
-    latest: Option<u64>,
-    x: Dyadic,
-) -> Option<u64>
-    requires befores { HasBefores pool.now.lists slots.now }
-    requires latest { latest ≡ latest_of (fingerprints pool.now.lists slots.now) (length slots.now)
-        (number_fingerprint x) }
-    ensures found { IfSome result (λ i. (i < length slots.now)
-        × (held pool.now.lists (entry_at (entries_of slots.now) i) ≡ number x)) }
-    ensures absent { IfNone result ((i : ℕ) → i < length slots.now
-        → held pool.now.lists (entry_at (entries_of slots.now) i) ≡ number x → ⊥) }
+/// Whether the entry holds this form.
+fn holds(entry: Entry, pool: &ListPool, form: &Form<'_>) -> bool
+    requires { IsWithin pool.now.lists entry }
+    ensures { IsTrue result ↔ (held pool.now.lists entry ≡ wanted form.now) }
 {
-    let mut at = latest;
-    while let Some(id) = at {
-        let slot = read_slot(slots, id as usize);
-        if holds_number(slot.entry, pool, x) {
-            return Some(id);
-        }
-        at = slot.before;
+    match form {
+        Form::Number(x) => holds_number(entry, pool, *x),
+        Form::Options { left, right } => holds_options(entry, pool, left, right),
     }
-    None
 }
 
-/// The place of the slot that holds these options, from the latest with their fingerprint back.
-pub(crate) fn find_options(
+/// The place of the slot that holds this form, from the latest with its fingerprint back.
+pub(crate) fn find(
     slots: &[Slot],
     pool: &ListPool,
     latest: Option<u64>,
-    left: &[u64],
-    right: &[u64],
+    form: &Form<'_>,
 ) -> Option<u64>
     requires within { Within pool.now.lists (entries_of slots.now) }
     requires befores { HasBefores pool.now.lists slots.now }
     requires latest { latest ≡ latest_of (fingerprints pool.now.lists slots.now) (length slots.now)
-        (options_fingerprint left.now right.now) }
+        (fingerprint (wanted form.now)) }
     ensures found { IfSome result (λ i. (i < length slots.now)
-        × (held pool.now.lists (entry_at (entries_of slots.now) i) ≡ options left.now right.now)) }
+        × (held pool.now.lists (entry_at (entries_of slots.now) i) ≡ wanted form.now)) }
     ensures absent { IfNone result ((i : ℕ) → i < length slots.now
-        → held pool.now.lists (entry_at (entries_of slots.now) i) ≡ options left.now right.now
-        → ⊥) }
+        → held pool.now.lists (entry_at (entries_of slots.now) i) ≡ wanted form.now → ⊥) }
 {
     let mut at = latest;
     while let Some(id) = at {
         let slot = read_slot(slots, id as usize);
-        if holds_options(slot.entry, pool, left, right) {
+        if holds(slot.entry, pool, form) {
             return Some(id);
         }
         at = slot.before;

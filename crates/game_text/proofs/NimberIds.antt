@@ -12,7 +12,7 @@ use Rattle.game_store.specs.Meaning.{pick, form, AreIds, IsAscending, Wanted}
 use Rattle.game_store.specs.Forms.{IsOptions, HaveForms, IsMeaning}
 use Rattle.short_games.proofs.CanonicalLaws.{ascends-rest}
 use Rattle.short_games.proofs.TextOrderLaws.{text-order, sorted-ascends, sorted-has, has-sorted}
-use Rattle.game_store.proofs.Values.{has-pick, pick-has, pick-one_to_one}
+use Rattle.game_store.proofs.EntryLaws.{has-pick, pick-has, pick-one_to_one}
 use Rattle.short_games.specs.Examples.{choice}
 use Rattle.game_canon.specs.inner.Changes.{AreClosed}
 use Rattle.game_text.specs.NamedText.{nimbers_below, nimber, nimber_name, name, named_text}

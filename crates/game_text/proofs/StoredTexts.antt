@@ -10,7 +10,7 @@ use Rattle.game_store.specs.Meaning.Wanted.{number, options}
 use Rattle.game_store.specs.Forms.{HaveForms, IsMeaning, IsWithinBounds}
 use Rattle.short_games.specs.Parts.{IsOption, IsFollower}
 use Rattle.short_games.specs.Parts.IsFollower.{itself, further}
-use Rattle.game_store.proofs.Values.{has-pick}
+use Rattle.game_store.proofs.EntryLaws.{has-pick}
 use Rattle.short_games.proofs.ReductionLaws.{canonical-same}
 use Rattle.game_canon.specs.Outcomes.{IsCanonicalId}
 use Rattle.game_canon.proofs.GameLaws.{has-left, has-right}

@@ -12,7 +12,7 @@ use Rattle.game_text.specs.NamedText.{nimber, name, in_braces, named_text, named
 use Rattle.game_store.specs.Forms.{IsOptions}
 use Rattle.short_games.specs.Parts.{IsOption, IsFollower, IsReached}
 use Rattle.short_games.specs.Parts.IsFollower.{itself, further}
-use Rattle.game_store.proofs.Values.{pick-has}
+use Rattle.game_store.proofs.EntryLaws.{pick-has}
 use Rattle.game_canon.specs.inner.Changes.{AreClosed}
 use Rattle.game_canon.specs.Reachable.{AreReachable}
 use Rattle.game_canon.proofs.GameLaws.{left-has, right-has}

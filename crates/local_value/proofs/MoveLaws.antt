@@ -1,6 +1,5 @@
 -- The local moves of a position: they can be listed, and in a graph they are its edges.
-use Rattle.std.proofs.Common.{zero, suc, ◌≡◌, ◌⊎◌, arith, inl, inr, refl, List, ◌∷◌, ℕ, ◌+◌, ◌-◌, ◌<◌, ◌≤◌, sym, ap, ◌∙◌, subst, [], length, Bool, true, false, Option, Some, None, Contains, Ok, ◌++◌, get_or, set}
-use Rattle.std.specs.Prelude.{Contains, cond, count_by, map}
+use Rattle.std.proofs.Common.{zero, suc, ◌≡◌, ◌⊎◌, arith, inl, inr, refl, List, ◌∷◌, ℕ, ◌+◌, ◌-◌, ◌<◌, ◌≤◌, sym, ap, ◌∙◌, subst, [], length, Bool, true, false, Option, Some, None, Contains, Ok, ◌++◌, get_or, set, cond, count_by, map}
 use Rattle.std.specs.List.{range_with_len}
 use Rattle.std.proofs.lemmas.List.FromFn.{get_or-map-range_with_len, length-map-range_with_len}
 use Rattle.std.proofs.lemmas.Bool.{cases_eq, cases_lt}
@@ -29,9 +28,9 @@ use Rattle.local_play.specs.declared.local_move.LocalMove.{LocalMove}
 use Rattle.local_play.specs.Packed.{pack}
 use Rattle.local_graph.specs.declared.cycle.CycleMove.{CycleMove}
 use Rattle.local_graph.specs.declared.graph.Edge.{Edge}
-use Rattle.local_graph.specs.LocalGraph.{HasMoves}
-use Rattle.local_graph.specs.inner.Graph.{edges_at, no_edge}
+use Rattle.local_graph.specs.inner.Graph.{edges_at}
 use Rattle.local_graph.proofs.EdgeListLemmas.{node_inside}
+use Rattle.local_graph.proofs.OrderLemmas.{edge_for}
 use Rattle.local_graph.proofs.PlayLemmas.{plays_more, plays_long, one_after}
 use Rattle.local_value.specs.inner.GraphMoves.{step_of, step_for, steps_of}
 
@@ -285,55 +284,12 @@ pub record IsEdgeFor (positions : List ℕ) (cells next : List Cell) (c : Colour
   pub number : IsNumberTaken cells next e.taken
   pub taken : e.taken ≡ n
 
--- an empty place is no stone, and a stone is one
-count_free : (cells : List Cell) (p : ℕ) → p < length cells → held_at cells p ≡ cell.Empty → count_by is_stone cells < length cells
-count_free cells p lt free =
-    let one = sum_by-set weight cells p cell.Black cell.Empty lt in
-    let nothing : weight (get_or cells p cell.Empty) ≡ weight cell.Empty = ap weight free in
-    omega (arith, one, nothing, count_by-le-length is_stone (set cells p cell.Black), length-set cells p cell.Black)
-
-count_stone : (cells : List Cell) (c : Colour) (p : ℕ) → p < length cells → Holds cells c p → 0 < count_by is_stone cells
-count_stone cells c p lt holds =
-    let one = sum_by-set weight cells p cell.Empty cell.Empty lt in
-    let here : weight (get_or cells p cell.Empty) ≡ weight (stone c) = ap weight holds in
-    omega (arith, one, here, weight-stone c)
-
 module _ (r : Region) (g : Graph) (of : IsGraphOf r g) where
-  moves_of : (i : ℕ) (cells : List Cell) → IsPlaceOf r g i cells → HasMoves r.touch cells g.positions (edges_at g.edges i)
-  moves_of i cells h = of.graph.moves i cells h.inside h.reachable h.packed
-
-  -- a local move is an edge
-  pub edge_of : (k : ℕ) (cells next : List Cell) (c : Colour) (i n : ℕ) → IsPlaceOf r g k cells → IsLocalMove r.touch cells c i next → IsNumberTaken cells next n
-      → (e : Edge) × Contains (edges_at g.edges k) e × IsEdgeFor g.positions cells next c i n e
-  edge_of k cells next c i n has move number =
-      let es = edges_at g.edges k in
-      let h = moves_of k cells has in
-      let found = h.1.all c i next move in
-      let legal = h.1.legal found.0 found.1 in
-      let move' = subst (λ x. IsLocalMove r.touch cells c x next) (sym found.3) move in
-      let move'' = subst (λ d. IsLocalMove r.touch cells d found.0.place next) (sym found.2) move' in
-      let same : legal.after ≡ next = one_after r.touch cells legal.after next found.0.colour found.0.place legal.move move'' in
-      let short : found.1.0 < length es = omega (arith, found.1.1, h.2.0) in
-      let e = get_or es found.1.0 no_edge in
-      let w = h.2.1 found.1.0 found.0 e short found.1.2 (get_or_default es found.1.0 e no_edge short) in
-      let number' : IsNumberTaken cells next found.0.taken = subst (λ x. IsNumberTaken cells x found.0.taken) same legal.taken in (
-        e,
-        Contains-get_or es found.1.0 no_edge short,
-        record {
-          colour = w.colour ∙ found.2;
-          place = w.place ∙ found.3;
-          inside = w.inside;
-          leads = w.next ∙ legal.next ∙ ap pack same;
-          number = subst (IsNumberTaken cells next) (sym w.taken) number';
-          taken = w.taken ∙ omega (arith, number', number);
-        },
-      )
-
   -- an edge is a local move
   pub move_of : (k : ℕ) (cells : List Cell) (e : Edge) → IsPlaceOf r g k cells → Contains (edges_at g.edges k) e
       → (next : List Cell) × IsLocalMove r.touch cells e.colour e.place next × IsEdgeFor g.positions cells next e.colour e.place e.taken e
   move_of k cells e has (j, lt, at) =
-      let h = moves_of k cells has in
+      let h = of.graph.moves k cells has.inside has.reachable has.packed in
       let none : LocalMove = record { colour = e.colour; place = 0; next = 0; taken = 0 } in
       let short : j < length h.0 = omega (arith, lt, h.2.0) in
       let m = get_or h.0 j none in
@@ -349,6 +305,29 @@ module _ (r : Region) (g : Graph) (of : IsGraphOf r g) where
           leads = w.next ∙ legal.next;
           number = subst (IsNumberTaken cells legal.after) (sym w.taken) legal.taken;
           taken = refl;
+        },
+      )
+
+  -- a local move is an edge
+  pub edge_of : (k : ℕ) (cells next : List Cell) (c : Colour) (i n : ℕ) → IsPlaceOf r g k cells → IsLocalMove r.touch cells c i next
+      → IsNumberTaken cells next n → (e : Edge) × Contains (edges_at g.edges k) e × IsEdgeFor g.positions cells next c i n e
+  edge_of k cells next c i n has move number =
+      let h = edge_for r.touch r.cells g.positions g.edges of.graph k cells next (record { colour = c; place = i })
+      has.inside has.reachable has.packed move in
+      let (after, its_move, edge) = move_of k cells h.e has h.among in
+      let move' = subst (λ d. IsLocalMove r.touch cells d h.e.place next) (sym h.colour)
+      (subst (λ x. IsLocalMove r.touch cells c x next) (sym h.place) move) in
+      let same : after ≡ next = one_after r.touch cells after next h.e.colour h.e.place its_move move' in
+      let number' : IsNumberTaken cells next h.e.taken = subst (λ x. IsNumberTaken cells x h.e.taken) same edge.number in (
+        h.e,
+        h.among,
+        record {
+          colour = h.colour;
+          place = h.place;
+          inside = h.inside;
+          leads = h.leads;
+          number = number';
+          taken = omega (arith, number', number);
         },
       )
 
@@ -376,12 +355,15 @@ module _ (r : Region) (g : Graph) (of : IsGraphOf r g) where
   pub taken_less : (k : ℕ) (e : Edge) → Contains (edges_at g.edges k) e → e.taken < length r.cells
   taken_less k e among =
       let (cells, has) = cells_at k e among in
-      let m = move_of k cells e has among in
-      let move = m.1 in
+      let (after, move, edge) = move_of k cells e has among in
       let long = plays_long r.touch r.cells cells has.reachable.0 has.reachable.1 in
-      let free = count_free cells e.place move.place move.free in
-      let stone = count_stone m.0 e.colour e.place (omega (arith, move.place, long_after move)) (leads_start _ _ e.place move.stands.0 move.stands.1) in
-      omega (arith, m.2.number, free, stone, long)
+      let free : weight (held_at cells e.place) ≡ 0 = ap weight move.free in
+      let one = sum_by-set weight cells e.place cell.Black cell.Empty move.place in
+      let room = count_by-le-length is_stone (set cells e.place cell.Black) in
+      let stands : weight (held_at after e.place) ≡ 1 =
+      ap weight (leads_start _ _ e.place move.stands.0 move.stands.1) ∙ weight-stone e.colour in
+      let some = sum_by-set weight after e.place cell.Empty cell.Empty (omega (arith, move.place, long_after move)) in
+      omega (arith, edge.number, free, one, room, length-set cells e.place cell.Black, stands, some, long)
 
 -- The steps of a graph are its edges, by player.
 

@@ -1,14 +1,11 @@
 -- What is remembered, the ids after the edges of a place as the store grows, and the form of those ids.
-use Rattle.std.proofs.Common.{ℕ, ◌+◌, ◌^◌, ◌≡◌, ◌<◌, ◌↔◌, arith, inl, inr, sym, ap, ap₂, true, Bool, get_or, subst, ◌∙◌, List, [], length, cond, Option, Some, Result, Ok, Err, OnOk, OnErr, nat_eq, ℤ, ◌+ℤ◌, ◌≤◌, to_z, of_z, w32, ◌*◌, refl, pos, neg_ℤ, ◌*ℤ◌, ◌∷◌, ◌++◌, take, Contains}
-use Rattle.std.specs.Str.{bytes_eq}
-use Rattle.std.specs.Ordering.{int_eq}
+use Rattle.std.proofs.Common.{ℕ, ◌+◌, ◌^◌, ◌≡◌, ◌<◌, ◌↔◌, arith, inl, inr, sym, ap, ap₂, true, Bool, get_or, subst, ◌∙◌, List, [], length, cond, Option, Some, Result, Ok, Err, OnOk, OnErr, nat_eq, ℤ, ◌+ℤ◌, ◌≤◌, to_z, of_z, w32, ◌*◌, refl, pos, neg_ℤ, ◌*ℤ◌, ◌∷◌, ◌++◌, take, Contains, bytes_eq, int_eq, unsigned_abs, IfOk, IfErr}
 use Rattle.std.specs.Map.{lookup}
 use Rattle.std.proofs.lemmas.Option.{same_Some}
-use Rattle.game_store.proofs.Values.{pick-same, has-pick, pick-has, push_one}
+use Rattle.game_store.proofs.EntryLaws.{pick-same, has-pick, pick-has, push_one}
 use Rattle.std.proofs.lemmas.Bool.{cases_Bool, and_parts, eqb-true}
 use Rattle.std.proofs.lemmas.Bool.Decides.{Decides-int_eq}
 use Rattle.std.proofs.lemmas.Slice.Eq.{bytes_eq-Decides}
-use Rattle.std.specs.Prelude.{unsigned_abs, Result, IfOk, IfErr}
 use Rattle.std.proofs.lemmas.Int.{to_z-of_z, fits_signed_from_abs, ints}
 use Rattle.indexmap.specs.IndexMap.{get, IndexMap, IsUnchanged, Updates}
 use Rattle.short_games.specs.Tree.{Tree, node, tree_at, none, Has}
@@ -161,19 +158,14 @@ module _ (Ts : List Tree) (ids : List ℕ) (e : Edge) (x : ℤ) (is : x ≡ cred
         subst (λ y. unsigned_abs y ≤ b) back (sum-size (z +ℤ neg_ℤ x) x (e.taken * 2 ^ 60) b size (w (z +ℤ neg_ℤ x) old)));
   }
 
-credit-zero : (c : Colour) (n : ℕ) → n ≡ 0 → credit c n *ℤ pos (2 ^ 60) ≡ pos 0
-credit-zero Black n e = omega (arith, ints, e)
-credit-zero White n e = omega (arith, ints, e)
-
 -- where no stones are taken, the value stays
 pub value-untaken : (Ts : List Tree) (ids : List ℕ) (e : Edge) → e.taken ≡ 0 → get_or ids e.next 0 < length Ts → AreCanonical Ts → IsAfter Ts Ts ids e (get_or ids e.next 0)
 value-untaken Ts ids e untaken lt canonical =
-    let zero = credit-zero e.colour e.taken untaken in
-    value-after Ts ids e (credit e.colour e.taken *ℤ pos (2 ^ 60)) refl Ts (get_or ids e.next 0) (same-sum Ts (get_or ids e.next 0) _ zero lt (canonical (get_or ids e.next 0) lt))
+    let zero : credit e.colour e.taken *ℤ pos (2 ^ 60) ≡ pos 0 = omega (arith, ints, credit-size e.colour e.taken _ refl, untaken) in
+    let same : (y x : ℤ) → x ≡ pos 0 → y ≡ y +ℤ x = λ y x z. omega (arith, ints, z) in
+    value-after Ts ids e (credit e.colour e.taken *ℤ pos (2 ^ 60)) refl Ts (get_or ids e.next 0)
+    (same-sum Ts (get_or ids e.next 0) _ zero lt (canonical (get_or ids e.next 0) lt))
     (λ y. subst (λ z. IsNumberOf (noted Ts ids e.next) y ↔ IsNumberOf (noted Ts ids e.next) z) (same y _ zero) (λ n. n, λ n. n))
-  where
-    same : (y x : ℤ) → x ≡ pos 0 → y ≡ y +ℤ x
-    same y x z = omega (arith, ints, z)
 
 -- the sum with the stones that an edge takes
 pub value-summed : (Ts Us : List Tree) (ids : List ℕ) (e : Edge) (stones : ℤ) (id : ℕ) → stones ≡ credit e.colour e.taken → Extends Ts Us → get_or ids e.next 0 < length Ts → IsStonesSum Us (get_or ids e.next 0) stones id → IsAfter Ts Us ids e id
@@ -248,29 +240,27 @@ module _ {Ts Us : List Tree} {ids : List ℕ} {c : Colour} {es : List Edge} {n :
     step-within b small = within-on w.kept ids e b (noted e edge_among) (small e edge_among)
 
     listing-push : {Vs : List Tree} (id : ℕ) → e.colour ≡ c → Extends Us Vs → IsAfter Us Vs ids e id → IsListing Ts Vs ids c es (n + 1) (afters ++ id ∷ [])
-    listing-push {Vs} id same x a = record {
-      kept = extends-on Ts Us Vs w.kept x;
-      so_far = subst (λ z. AreAfter Ts Vs ids c z (afters ++ id ∷ [])) (sym next) record { from = from; to = to };
-    }
-      where
-        old : AreAfter Ts Vs ids c (take n es) afters
-        old = all-kept x w.so_far
-
-        here : IsAfter Ts Vs ids e id
-        here = after-from w.kept ids e id (noted e edge_among) a
-
-        more : length (afters ++ id ∷ []) ≡ length afters + 1
-        more = length-append afters (id ∷ [])
-
-        from : (j : ℕ) → j < length (afters ++ id ∷ []) → (d : Edge) × Contains (take n es ++ e ∷ []) d × (d.colour ≡ c) × IsAfter Ts Vs ids d (get_or (afters ++ id ∷ []) j 0)
-        from = push_one (λ _ i. (d : Edge) × Contains (take n es ++ e ∷ []) d × (d.colour ≡ c) × IsAfter Ts Vs ids d i) afters id 0
-            (λ j l. let f = old.from j l in (f.0, Contains-append_left (take n es) (e ∷ []) f.0 f.1, f.2, f.3)) (e, Contains-push (take n es) e, same, here)
-
-        to : (d : Edge) → Contains (take n es ++ e ∷ []) d → d.colour ≡ c → (j : ℕ) × (j < length (afters ++ id ∷ [])) × IsAfter Ts Vs ids d (get_or (afters ++ id ∷ []) j 0)
-        to d h s = elim (Contains-push_cases (take n es) e d h) [
-          | inl i ↦ (let t = old.to d i s in (t.0, omega (arith, t.1, more), subst (IsAfter Ts Vs ids d) (sym (get_or_append_left afters (id ∷ []) 0 t.0 t.1)) t.2))
-          | inr i ↦ (length afters, omega (arith, more), subst (λ z. IsAfter Ts Vs ids z (get_or (afters ++ id ∷ []) (length afters) 0)) i (subst (IsAfter Ts Vs ids e) (sym (get_or_push afters id 0 (length afters) refl)) here))
-        ]
+    listing-push {Vs} id same x a =
+        let old = all-kept x w.so_far in
+        let here = after-from w.kept ids e id (noted e edge_among) a in
+        let more : length (afters ++ id ∷ []) ≡ length afters + 1 = length-append afters (id ∷ []) in record {
+          kept = extends-on Ts Us Vs w.kept x;
+          so_far = subst (λ z. AreAfter Ts Vs ids c z (afters ++ id ∷ [])) (sym next) record {
+            from = push_one (λ _ i. (d : Edge) × Contains (take n es ++ e ∷ []) d × (d.colour ≡ c) × IsAfter Ts Vs ids d i) afters id 0
+                (λ j l. let f = old.from j l in (f.0, Contains-append_left (take n es) (e ∷ []) f.0 f.1, f.2, f.3))
+                (e, Contains-push (take n es) e, same, here);
+            to = λ d h s. elim (Contains-push_cases (take n es) e d h) [
+              | inl i ↦ (let t = old.to d i s in
+                  (t.0, omega (arith, t.1, more), subst (IsAfter Ts Vs ids d) (sym (get_or_append_left afters (id ∷ []) 0 t.0 t.1)) t.2))
+              | inr i ↦ (
+                length afters,
+                omega (arith, more),
+                subst (λ z. IsAfter Ts Vs ids z (get_or (afters ++ id ∷ []) (length afters) 0)) i
+                    (subst (IsAfter Ts Vs ids e) (sym (get_or_push afters id 0 (length afters) refl)) here),
+              )
+            ];
+          };
+        }
 
 -- the loop goes on for both players
 pub listing-add : {Ts Us Vs : List Tree} {ids : List ℕ} {es : List Edge} {n : ℕ} (before now : Options) (id : ℕ) (c : Colour) → n < length es

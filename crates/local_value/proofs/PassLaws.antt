@@ -1,8 +1,5 @@
 -- One pass over the places of a graph, each after those that its moves lead to, what it gives in the end, and what a refusal on the way means.
-use Rattle.std.proofs.Common.{ℕ, suc, ◌+◌, ◌-◌, ◌*◌, ◌^◌, ◌≡◌, ◌<◌, ◌≤◌, inl, inr, refl, sym, ap, ◌∙◌, subst, arith, pos, List, [], ◌∷◌, length, get_or, set, below_more, Contains}
-use Rattle.std.specs.Prelude.{unsigned_abs}
-use Rattle.std.proofs.Math.Nat.{mul-le-mul_right}
-use Rattle.std.proofs.lemmas.Bool.{cases_lt}
+use Rattle.std.proofs.Common.{ℕ, suc, ◌+◌, ◌-◌, ◌*◌, ◌^◌, ◌≡◌, ◌<◌, ◌≤◌, inl, refl, sym, ap, ◌∙◌, subst, arith, pos, List, [], ◌∷◌, length, get_or, set, below_more, Contains, unsigned_abs, mul-le-mul_right}
 use Rattle.std.proofs.lemmas.Int.{ints}
 use Rattle.std.proofs.lemmas.List.{get_or-set_same, get_or-set_other, length-set, get_or_default}
 use Rattle.go_grid.specs.declared.grid.Colour.{Colour}
@@ -10,7 +7,7 @@ use Rattle.go_grid.specs.Region.{Region}
 use Rattle.local_graph.specs.declared.graph.Edge.{Edge}
 use Rattle.local_graph.specs.Graph.{Graph}
 use Rattle.local_graph.specs.inner.Graph.{edges_at}
-use Rattle.short_games.specs.Tree.{Tree, node, none, Has, tree_at}
+use Rattle.short_games.specs.Tree.{Tree, node, none, tree_at}
 use Rattle.short_games.specs.Order.{◌≡ᵍ◌, ◌≤ᵍ◌}
 use Rattle.short_games.specs.Sum.{◌+ᵍ◌}
 use Rattle.short_games.specs.TextOrder.{IsCanonicalFor, TextBefore}
@@ -20,7 +17,7 @@ use Rattle.short_games.specs.Parts.{HasMoreParts}
 use Rattle.short_games.proofs.NumberLaws.{num-zero}
 use Rattle.short_games.proofs.ReductionLaws.{number-canonical, same-canonical}
 use Rattle.game_canon.specs.Outcomes.{IsCanonicalId, AreWithin, IsCause}
-use Rattle.sum_outcome.specs.Players.{options, gain}
+use Rattle.sum_outcome.specs.Players.{gain}
 use Rattle.game_canon.proofs.PartLaws.{fewer}
 use Rattle.short_games.proofs.OrderLaws.{same-path, same-refl, same-trans}
 use Rattle.short_games.proofs.SumLaws.{same-plus}
@@ -34,6 +31,7 @@ use Rattle.local_value.proofs.MoveLaws.{position_at, taken_less, steps-in, steps
 use Rattle.local_value.proofs.TreeLaws.{place_ends, place_tree, move-option, option-move}
 use Rattle.local_value.proofs.OptionsLaws.{no-edges, number-as}
 use Rattle.go_grid.specs.declared.grid.Cell.{Cell}
+use Rattle.local_graph.proofs.OrderLemmas.{same_place}
 use Rattle.local_graph.proofs.PlayLemmas.{plays_long}
 use Rattle.short_games.proofs.Existence.{canon}
 use Rattle.short_games.proofs.TextOrderLaws.{text-order}
@@ -94,14 +92,10 @@ module _ {r : Region} {g : Graph} (of : IsGraphOf r g) where
   -- places are as many as positions at most
   pub order_short : length g.order ≤ length g.positions
   order_short =
-      let le = fewer (length g.order) (length g.edges) (λ j i. get_or g.order j 0 ≡ i) (λ j lt. (get_or g.order j 0, of.order.inside j lt, refl)) one in
+      let le = fewer (length g.order) (length g.edges) (λ j i. get_or g.order j 0 ≡ i)
+      (λ j lt. (get_or g.order j 0, of.order.inside j lt, refl))
+      (λ i j k li lj e f. same_place g.order i j of.order.once li lj (e ∙ sym f)) in
       omega (arith, le, of.graph.beside)
-    where
-      one : (i j k : ℕ) → i < length g.order → j < length g.order → get_or g.order i 0 ≡ k → get_or g.order j 0 ≡ k → i ≡ j
-      one i j k li lj e f = elim (cases_lt i j) [
-        | inl lt ↦ absurd (of.order.once i j 0 lt lj (e ∙ sym f))
-        | inr ge ↦ elim (cases_lt j i) [ inl lt ↦ absurd (of.order.once j i 0 lt li (f ∙ sym e)) | inr le ↦ omega (arith, ge, le) ]
-      ]
 
   deep : (i : ℕ) (cells : List Cell) → IsPlaceOf r g i cells → 3 ^ length r.cells ≤ 3 ^ length cells
   deep i cells has =
@@ -150,24 +144,23 @@ module _ {r : Region} {g : Graph} (of : IsGraphOf r g) where
 
       -- the options of the place's tree are those after its edges
       has_edges : (n : ℕ) → 3 ^ length r.cells ≤ n → HasEdges Ts ids es (graph_tree g n (place g k))
-      has_edges n long = record { from = out; to = back }
-        where
-          summed : (e : Edge) → Contains es e → (graph_tree g n e.next +ᵍ gain e.colour e.taken) ≡ᵍ tree_after Ts ids e
-          summed e among = same-plus _ _ _ _ (next_same n long e among) (same-refl (gain e.colour e.taken))
-
-          out : (c : Colour) (X : Tree) → Has (options c (graph_tree g n (place g k))) X → (e : Edge) × Contains es e × (e.colour ≡ c) × (X ≡ᵍ tree_after Ts ids e)
-          out c X h =
-              let (x, among, is) = option-move ℕ (edge_steps g) c n (place g k) X (ends n long) h in
-              let s = steps-out ℕ (λ j. j) c es x among in
-              let there : X ≡ graph_tree g n s.edge.next +ᵍ gain s.edge.colour s.edge.taken = is ∙ ap (λ y. graph_tree g n y.to +ᵍ gain c y.taken) (sym s.is) ∙ ap (λ d. graph_tree g n s.edge.next +ᵍ gain d s.edge.taken) (sym s.colour) in
-              (s.edge, s.among, s.colour, same-trans _ _ _ (same-path _ _ there) (summed s.edge s.among))
-
-          back : (e : Edge) → Contains es e → (X : Tree) × Has (options e.colour (graph_tree g n (place g k))) X × (X ≡ᵍ tree_after Ts ids e)
-          back e among = (
-            graph_tree g n e.next +ᵍ gain e.colour e.taken,
-            move-option ℕ (edge_steps g) e.colour n (place g k) (step_of ℕ (λ j. j) e) (ends n long) (steps-in ℕ (λ j. j) e.colour es e among refl),
-            summed e among,
-          )
+      has_edges n long =
+          let summed : (e : Edge) → Contains es e → (graph_tree g n e.next +ᵍ gain e.colour e.taken) ≡ᵍ tree_after Ts ids e = λ e among.
+          same-plus _ _ _ _ (next_same n long e among) (same-refl (gain e.colour e.taken)) in record {
+            from = λ c X h.
+                let (x, among, is) = option-move ℕ (edge_steps g) c n (place g k) X (ends n long) h in
+                let s = steps-out ℕ (λ j. j) c es x among in
+                let there : X ≡ graph_tree g n s.edge.next +ᵍ gain s.edge.colour s.edge.taken =
+                is ∙ ap (λ y. graph_tree g n y.to +ᵍ gain c y.taken) (sym s.is)
+                ∙ ap (λ d. graph_tree g n s.edge.next +ᵍ gain d s.edge.taken) (sym s.colour) in
+                (s.edge, s.among, s.colour, same-trans _ _ _ (same-path _ _ there) (summed s.edge s.among));
+            to = λ e among. (
+              graph_tree g n e.next +ᵍ gain e.colour e.taken,
+              move-option ℕ (edge_steps g) e.colour n (place g k) (step_of ℕ (λ j. j) e) (ends n long)
+                  (steps-in ℕ (λ j. j) e.colour es e among refl),
+              summed e among,
+            );
+          }
 
       module _ (Us : List Tree) (id : ℕ) (kept : Extends Ts Us) (value : (G : Tree) → HasEdges Ts ids es G → IsCanonicalId Us G id)
           (sizes : (b : ℕ) → AreWithinAfter b Ts ids es → AreWithin (b + 2 ^ 60) (tree_at Us id)) (parts : HasMoreParts (tree_at Us id) limit → ⊥) where
@@ -175,14 +168,14 @@ module _ {r : Region} {g : Graph} (of : IsGraphOf r g) where
         within : AreWithin (most r k) (tree_at Us id)
         within x n = at (edges_at g.edges (place g k)) refl
           where
-            zero-tree : IsCanonicalFor (number_tree (pos 0)) (tree_at Us id) → tree_at Us id ≡ number_tree (pos 0)
-            zero-tree c = same-canonical (number_tree (pos 0)) _ _ c record { canonical = number-canonical 60 (pos 0); under = (same-refl (number_tree (pos 0))).0; over = (same-refl (number_tree (pos 0))).1 }
-
             at : (xs : List Edge) → edges_at g.edges (place g k) ≡ xs → unsigned_abs x ≤ most r k
             at [] e =
                 let empty = value (node none none) (subst (λ z. HasEdges Ts ids z (node none none)) (sym e) (no-edges Ts ids)) in
                 let zero' : IsCanonicalFor (number_tree (pos 0)) (tree_at Us id) = subst (λ t. IsCanonicalFor t (tree_at Us id)) (sym (num-zero 60)) empty.1 in
-                let own = own-number (tree_at Us id) (pos 0) x (zero-tree zero') n in
+                let same = same-refl (number_tree (pos 0)) in
+                let zero-tree = same-canonical (number_tree (pos 0)) _ _ zero'
+                record { canonical = number-canonical 60 (pos 0); under = same.0; over = same.1 } in
+                let own = own-number (tree_at Us id) (pos 0) x zero-tree n in
                 omega (arith, ints, own)
             at (e ∷ xs) same =
                 let some = taken_less r g of (place g k) e (subst (λ z. Contains z e) (sym same) (0, omega arith, refl)) in

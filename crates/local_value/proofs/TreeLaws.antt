@@ -1,6 +1,5 @@
 -- Trees of local positions: their options, the depth they need, and the games over listed moves whose trees they are.
 use Rattle.std.proofs.Common.{ℕ, zero, suc, ◌≡◌, ◌≤◌, arith, inl, inr, refl, sym, ap, ap₂, ◌∙◌, List, [], ◌∷◌, subst, ◌^◌, ◌++◌, length, length-append, Contains}
-use Rattle.std.specs.Prelude.{Contains}
 use Rattle.go_grid.specs.declared.grid.Colour.{Colour}
 use Rattle.go_grid.specs.declared.grid.Colour.TheVariants.{Black, White}
 use Rattle.short_games.specs.Tree.{Tree, node, none, more, Has, left, right}

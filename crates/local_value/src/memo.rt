@@ -33,11 +33,12 @@ pub(crate) type Sums = IndexMap<(GameId, i32), GameId>;
 /// For options, the canonical forms of the games that have them.
 pub(crate) type Forms = IndexMap<Options, GameId>;
 
-/// What is remembered from position to position.
+/// What is remembered from position to position, and lists of options as room to work in.
 #[derive(Drop)]
 pub(crate) struct Memo {
     pub(crate) sums: Sums,
     pub(crate) forms: Forms,
+    pub(crate) options: Options,
 }
 
 impl Memo {
@@ -48,6 +49,10 @@ impl Memo {
         Memo {
             sums: IndexMap::new(alloc),
             forms: IndexMap::new(alloc),
+            options: Options {
+                left: Vec::new(alloc),
+                right: Vec::new(alloc),
+            },
         }
     }
 }

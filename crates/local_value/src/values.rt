@@ -115,14 +115,13 @@ fn list_options(
     Ok(())
 }
 
-/// The value of a position with these edges. The options' lists are only room to work in.
+/// The value of a position with these edges.
 fn value_of(
     alloc: Global,
     store: &mut Store,
     memo: &mut Memo,
     ids: &[GameId],
     edges: &[Edge],
-    options: &mut Options,
     parts_limit: u32,
 ) -> Result<GameId, FormError>
     requires noted { (e : Edge) → Contains edges.now e → IsNoted store.old ids.now e.next }
@@ -138,8 +137,8 @@ fn value_of(
     ensures memo { OnOk result (IsMemoRight store.new parts_limit memo.new) }
     ensures kept { Extends store.old store.new }
 {
-    list_options(alloc, store, &mut memo.sums, ids, edges, options)?;
-    form_of(alloc, store, &mut memo.forms, options, parts_limit)
+    list_options(alloc, store, &mut memo.sums, ids, edges, &mut memo.options)?;
+    form_of(alloc, store, &mut memo.forms, &memo.options, parts_limit)
 }
 
 /// The values of all positions of a graph, as ids by place: the canonical forms of their trees, to each option of which the
@@ -169,22 +168,10 @@ pub fn value_all(
     ensures kept { Extends store.old store.new }
 {
     let mut ids = vec![in alloc; 0; graph.len()]?;
-    let mut options = Options {
-        left: Vec::new(alloc),
-        right: Vec::new(alloc),
-    };
     let mut memo = Memo::new(alloc);
     'valuing: for place in graph.order() {
         let edges = graph.edges(*place);
-        let id = value_of(
-            alloc,
-            store,
-            &mut memo,
-            &ids,
-            edges,
-            &mut options,
-            parts_limit,
-        )?;
+        let id = value_of(alloc, store, &mut memo, &ids, edges, parts_limit)?;
         ids[*place] = id;
     }
     let _count = store.len();

@@ -1,5 +1,5 @@
 -- Regions of play: what stands next to them, their links, and all of them, lowest point by lowest point.
-use Rattle.std.proofs.Common.{ℕ, zero, suc, inl, inr, ◌≡◌, ◌+◌, ◌<◌, sym, ◌∙◌, arith, refl, subst, List, [], ◌∷◌, ◌++◌, length, get_or, Option, None, Some, below_more, ◌↔◌, ◌*◌, ◌≤◌, ◌⊎◌, Bool, true, false}
+use Rattle.std.proofs.Common.{ℕ, zero, suc, inl, inr, ◌≡◌, ◌+◌, ◌<◌, sym, ◌∙◌, arith, refl, subst, List, [], ◌∷◌, ◌++◌, length, get_or, Option, None, Some, below_more, ◌↔◌, ◌*◌, ◌≤◌, ◌⊎◌, Bool, true, false, Contains, AllPairs}
 use Rattle.go_grid.specs.declared.grid.Colour.{Colour}
 use Rattle.go_grid.specs.declared.grid.Colour.TheVariants as colour
 use Rattle.go_grid.specs.Board.{Board, NextTo, Lacks, cell_at, stone, IsAbove, IsLeftOf, IsThe, AreNear}
@@ -9,7 +9,6 @@ use Rattle.benson_life.proofs.WallLemmas.{counted_region}
 use Rattle.benson_life.specs.Life.{IsAlive, IsCounted}
 use Rattle.benson_life.specs.Region.{IsContested, InRegionOfPlay}
 use Rattle.go_grid.proofs.BoardLemmas.{same_or_not}
-use Rattle.std.specs.List.{Contains, AllPairs}
 use Rattle.std.proofs.lemmas.List.{get_or_append_left, get_or_push, get_or_default}
 use Rattle.go_grid.specs.declared.region.Touch.{Touch}
 use Rattle.go_grid.specs.Region.{IsLink, AreLinks, Region, IsRegion, touch_at, IsBeside}
@@ -17,7 +16,7 @@ use Rattle.go_grid.proofs.LinkLemmas.{same_point, link_at, linked_to}
 use Rattle.region_cut.specs.inner.Places.{IsPlace, IsTouch}
 use Rattle.local_play.specs.LocalPlay.{IsLinked}
 use Rattle.std.specs.List.Sorted.{IsStrictlyIncreasing}
-use Rattle.std.proofs.lemmas.Bool.{both_ways, cases_Bool, cases_eq}
+use Rattle.std.proofs.lemmas.Bool.{both_ways, cases_Bool, cases_eq, true_from_ne_false}
 use Rattle.std.proofs.lemmas.List.Elements.{Contains-get_or, Contains-push, Contains-push_cases, Contains-append_left}
 use Rattle.std.proofs.lemmas.Map.Keys.{sorted_from_strictly_increasing, below_from_sorted}
 use Rattle.go_grid.specs.declared.grid.Cell.{Cell}
@@ -90,35 +89,28 @@ links_from c area p points u l r d t inside near pu pl pr pd = record {
 -- the links of the region are exactly its points' being next to each other
 pub links_are_next : (r : Region) → IsRegion r.columns r.rows r.points r.cells r.touch → (i j : ℕ) → i < length r.points → IsLinked r.touch i j
     ↔ ((j < length r.points) × NextTo r.columns (get_or r.points i 0) (get_or r.points j 0))
-links_are_next r reg i j lt = (there, back)
-  where
-    there : IsLinked r.touch i j → (j < length r.points) × NextTo r.columns (get_or r.points i 0) (get_or r.points j 0)
-    there link =
-        let links = reg.links i lt in
-        let t = touch_at r.touch i in
-        elim link [
-          | inl e ↦ let w = link_at r.points _ t.up j links.up e in (w.0, inr (sym w.1.1, inr w.1.0))
-          | inr (inl e) ↦ let w = link_at r.points _ t.left j links.left e in (w.0, inl (sym w.1.0, inr w.1.1))
-          | inr (inr (inl e)) ↦ let w = link_at r.points _ t.right j links.right e in (w.0, inl (w.1.0, inl w.1.1))
-          | inr (inr (inr e)) ↦ let w = link_at r.points _ t.down j links.down e in (w.0, inr (w.1.1, inl w.1.0))
-        ]
-
-    back : (j < length r.points) × NextTo r.columns (get_or r.points i 0) (get_or r.points j 0) → IsLinked r.touch i j
-    back (ltj, next) =
-        let c = r.columns in
-        let p = get_or r.points i 0 in
-        let links = reg.links i lt in
-        let t = touch_at r.touch i in
-        elim next [
-          | inl (row, inl e) ↦ inr (inr (inl (linked_to r.points (λ q. IsLeftOf c q p) t.right j reg.ascending links.right
-              (λ q s a b. same_point c q s (sym a.0 ∙ b.0) (sym a.1 ∙ b.1)) ltj (row, e))))
-          | inl (row, inr e) ↦ inr (inl (linked_to r.points (λ q. IsLeftOf c p q) t.left j reg.ascending links.left
-              (λ q s a b. same_point c q s (a.0 ∙ sym b.0) (omega (arith, a.1, b.1))) ltj (sym row, e)))
-          | inr (column, inl e) ↦ inr (inr (inr (linked_to r.points (λ q. IsAbove c q p) t.down j reg.ascending links.down
-              (λ q s a b. same_point c q s (sym a.0 ∙ b.0) (sym a.1 ∙ b.1)) ltj (e, column))))
-          | inr (column, inr e) ↦ inl (linked_to r.points (λ q. IsAbove c p q) t.up j reg.ascending links.up
-              (λ q s a b. same_point c q s (omega (arith, a.0, b.0)) (a.1 ∙ sym b.1)) ltj (e, sym column))
-        ]
+links_are_next r reg i j lt =
+    let c = r.columns in
+    let p = get_or r.points i 0 in
+    let links = reg.links i lt in
+    let t = touch_at r.touch i in (
+      λ link. elim link [
+        | inl e ↦ let w = link_at r.points _ t.up j links.up e in (w.0, inr (sym w.1.1, inr w.1.0))
+        | inr (inl e) ↦ let w = link_at r.points _ t.left j links.left e in (w.0, inl (sym w.1.0, inr w.1.1))
+        | inr (inr (inl e)) ↦ let w = link_at r.points _ t.right j links.right e in (w.0, inl (w.1.0, inl w.1.1))
+        | inr (inr (inr e)) ↦ let w = link_at r.points _ t.down j links.down e in (w.0, inr (w.1.1, inl w.1.0))
+      ],
+      λ (ltj, next). elim next [
+        | inl (row, inl e) ↦ inr (inr (inl (linked_to r.points (λ q. IsLeftOf c q p) t.right j reg.ascending links.right
+            (λ q s a b. same_point c q s (sym a.0 ∙ b.0) (sym a.1 ∙ b.1)) ltj (row, e))))
+        | inl (row, inr e) ↦ inr (inl (linked_to r.points (λ q. IsLeftOf c p q) t.left j reg.ascending links.left
+            (λ q s a b. same_point c q s (a.0 ∙ sym b.0) (omega (arith, a.1, b.1))) ltj (sym row, e)))
+        | inr (column, inl e) ↦ inr (inr (inr (linked_to r.points (λ q. IsAbove c q p) t.down j reg.ascending links.down
+            (λ q s a b. same_point c q s (sym a.0 ∙ b.0) (sym a.1 ∙ b.1)) ltj (e, column))))
+        | inr (column, inr e) ↦ inl (linked_to r.points (λ q. IsAbove c p q) t.up j reg.ascending links.up
+            (λ q s a b. same_point c q s (omega (arith, a.0, b.0)) (a.1 ∙ sym b.1)) ltj (e, sym column))
+      ],
+    )
 
 -- The region of a contested point.
 
@@ -160,30 +152,24 @@ module _ (g : Board) (start : ℕ) {points : List ℕ} (lists : Lists points (In
     touches i l = subst (λ n. IsTouch n points black white (get_or points i 0) (touch_at touch i)) ek (each i l)
 
     is_region : IsRegion g.columns g.rows points cells touch
-    is_region = record {
-      some = let h = (lists.exact start).1 (joined_here c (IsContested g) start contested) in omega (arith, h.1);
-      full = lc;
-      beside = lt;
-      ascending = lists.ascending;
-      on_board = λ p h. rw area at (joined_end c (IsContested g) start p ((lists.exact p).0 h)).0;
-      joined = λ p q hp hq. carried c (IsContested g) (Joined c (Contains points) p) (onward p) p q
-          (joined_here c (Contains points) p hp)
-          (joined_join c (IsContested g) p start q (joined_back c (IsContested g) start p ((lists.exact p).0 hp)) ((lists.exact q).0 hq));
-      links = λ i l. (touches i l).links;
-    }
-      where
-        c : ℕ
-        c = g.columns
-
-        onward : (p x y : ℕ) → Joined c (Contains points) p x → NextTo c x y → IsContested g y → Joined c (Contains points) p y
-        onward p x y at next h =
-            let here = joined_end c (Contains points) p x at in
-            joined_step c (Contains points) p x y at next
-            ((lists.exact y).1 (joined_step c (IsContested g) start x y ((lists.exact x).0 here) next h))
-
-    -- what the type of a region keeps
-    pub keeps_region : IsRegion k r points cells touch
-    keeps_region = rw (ek, er) is_region
+    is_region =
+        let c = g.columns in
+        let onward : (p x y : ℕ) → Joined c (Contains points) p x → NextTo c x y → IsContested g y → Joined c (Contains points) p y
+        = λ p x y at next h.
+        let here = joined_end c (Contains points) p x at in
+        joined_step c (Contains points) p x y at next
+        ((lists.exact y).1 (joined_step c (IsContested g) start x y ((lists.exact x).0 here) next h)) in record {
+          some = let h = (lists.exact start).1 (joined_here c (IsContested g) start contested) in omega (arith, h.1);
+          full = lc;
+          beside = lt;
+          ascending = lists.ascending;
+          on_board = λ p h. rw area at (joined_end c (IsContested g) start p ((lists.exact p).0 h)).0;
+          joined = λ p q hp hq. carried c (IsContested g) (Joined c (Contains points) p) (onward p) p q
+              (joined_here c (Contains points) p hp)
+              (joined_join c (IsContested g) p start q (joined_back c (IsContested g) start p ((lists.exact p).0 hp))
+              ((lists.exact q).0 hq));
+          links = λ i l. (touches i l).links;
+        }
 
     walls_of : Marks black (IsAlive g Black) → Marks white (IsAlive g White) → (i : ℕ) (c : Colour) → i < length points
         → IsBeside c (touch_at touch i) ↔ ((s : ℕ) × NextTo g.columns (get_or points i 0) s × IsAlive g c s)
@@ -205,7 +191,7 @@ module _ (g : Board) (start : ℕ) {points : List ℕ} (lists : Lists points (In
         let first = region_first contested least in record {
           columns = ek;
           rows = er;
-          proper = keeps_region;
+          proper = rw (ek, er) is_region;
           points = λ p. subst (λ s. Contains points p ↔ InRegionOfPlay g s p) (sym first) (lists.exact p);
           first = λ p h. subst (λ s. s ≤ p) (sym first) (least p ((lists.exact p).0 h));
           cells = read;
@@ -213,8 +199,7 @@ module _ (g : Board) (start : ℕ) {points : List ℕ} (lists : Lists points (In
         }
 
 pub true_stable : (b : Bool) → ¬ ¬ (b ≡ true) → b ≡ true
-true_stable true never = refl
-true_stable false never = absurd (never (λ e. both_ways _ refl e))
+true_stable b never = true_from_ne_false b (λ f. never (λ t. both_ways b f t))
 
 -- what stands next to the region and outside it can't but be an alive stone
 pub never_open : (g : Board) (r : Region) → IsRegionOfPlay g r → (p q : ℕ) → Contains r.points p → NextTo g.columns p q

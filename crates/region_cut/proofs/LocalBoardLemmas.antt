@@ -293,36 +293,25 @@ module _ (g : Board) (r : Region) (settled : IsSettled g) (play : IsRegionOfPlay
     is_local : (after : Board) (next : List Cell) → length after.cells ≡ length h.cells → length next ≡ length cells
         → ((i : ℕ) → i < length r.points → cell_at after (at i) ≡ held_at next i)
         → ((p : ℕ) → ¬ Contains r.points p → cell_at after p ≡ cell_at h p) → IsLocal r h after cells next
-    is_local after next full long within outside = record {
-      inside = within;
-      outside = outside;
-      taken = λ n. (λ e. omega (arith, e, count), λ e. omega (arith, e, count));
-    }
-      where
-        same : (q : ℕ) → get_or after.cells q cell.Empty ≡ get_or (put next) q cell.Empty
-        same q = elim (among_or_not r.points q) [
+    is_local after next full long within outside =
+        let same : (q : ℕ) → get_or after.cells q cell.Empty ≡ get_or (put next) q cell.Empty = λ q. elim (among_or_not r.points q) [
           | inl (j, lt, e) ↦
               subst (λ z. get_or after.cells z cell.Empty ≡ get_or (put next) z cell.Empty) (get_or_default r.points j 0 q lt ∙ e)
               (within j lt ∙ sym (put_at next j lt))
           | inr out ↦ outside q out ∙ sym (put_outside next q out)
-        ]
-
-        equal : after.cells ≡ put next
-        equal = ext_get_or cell.Empty after.cells (put next) (full ∙ sym (length-put next)) (λ q _. same q)
-
-        ln : length next ≡ length r.points
-        ln = long ∙ holds.long
-
-        count : count_by is_stone after.cells + count_by is_stone cells ≡ count_by is_stone h.cells + count_by is_stone next
-        count =
-            let w = count_written r.points play.proper.ascending h.cells next own is_stone cells ln holds.long (λ i lt. holds.local i lt) (length r.points) (omega arith) in
-            omega (
-              arith,
-              w,
-              ap (count_by is_stone) equal,
-              ap (count_by is_stone) (take_all (length r.points) cells (omega (arith, holds.long))),
-              ap (count_by is_stone) (take_all (length r.points) next (omega (arith, ln))),
-            )
+        ] in
+        let equal : after.cells ≡ put next = ext_get_or cell.Empty after.cells (put next) (full ∙ sym (length-put next)) (λ q _. same q) in
+        let ln : length next ≡ length r.points = long ∙ holds.long in
+        let w = count_written r.points play.proper.ascending h.cells next own is_stone cells ln holds.long (λ i lt. holds.local i lt)
+        (length r.points) (omega arith) in
+        let count : count_by is_stone after.cells + count_by is_stone cells ≡ count_by is_stone h.cells + count_by is_stone next = omega (
+          arith,
+          w,
+          ap (count_by is_stone) equal,
+          ap (count_by is_stone) (take_all (length r.points) cells (omega (arith, holds.long))),
+          ap (count_by is_stone) (take_all (length r.points) next (omega (arith, ln))),
+        ) in
+        record { inside = within; outside = outside; taken = λ n. (λ e. omega (arith, e, count), λ e. omega (arith, e, count)) }
 
     module _ (i : ℕ) (lt : i < length r.points) (c : Colour) where
       abbrev b : Board
@@ -370,35 +359,23 @@ module _ (g : Board) (r : Region) (settled : IsSettled g) (play : IsRegionOfPlay
       -- a placing is a local move
       pub placing_is_local : (after : Board) → IsPlaced h (at i) c after
           → (next : List Cell) × IsLocalMove r.touch cells c i next × IsLocal r h after cells next
-      placing_is_local after placed = (next, move, is_local after next full long within outside)
-        where
-          next : List Cell
-          next = map (cell_at after) r.points
-
-          long : length next ≡ length cells
-          long = length-map r.points (cell_at after) ∙ sym holds.long
-
-          full : length after.cells ≡ length h.cells
-          full = placed_long h (at i) c after placed
-
-          within : (j : ℕ) → j < length r.points → cell_at after (at j) ≡ held_at next j
-          within j l = sym (get_or-map (cell_at after) r.points j 0 cell.Empty l)
-
-          outside : (q : ℕ) → ¬ Contains r.points q → cell_at after q ≡ cell_at h q
-          outside q out =
-              placed.1.without.kept q (λ t. (let w = down q t in out (subst (Contains r.points) w.2 (Contains-get_or r.points w.0 0 w.1))))
-              ∙ elsewhere q (λ e. out (subst (Contains r.points) (sym e) (Contains-get_or r.points i 0 lt)))
-
-          kept : (j : ℕ) → ¬ Removed j → held_at next j ≡ held_at more j
-          kept j out = elim (cases_lt j (length r.points)) as (λ _. held_at next j ≡ held_at more j) [
+      placing_is_local after placed =
+          let next : List Cell = map (cell_at after) r.points in
+          let long : length next ≡ length cells = length-map r.points (cell_at after) ∙ sym holds.long in
+          let full : length after.cells ≡ length h.cells = placed_long h (at i) c after placed in
+          let within : (j : ℕ) → j < length r.points → cell_at after (at j) ≡ held_at next j = λ j l.
+          sym (get_or-map (cell_at after) r.points j 0 cell.Empty l) in
+          let outside : (q : ℕ) → ¬ Contains r.points q → cell_at after q ≡ cell_at h q = λ q out.
+          placed.1.without.kept q (λ t. (let w = down q t in out (subst (Contains r.points) w.2 (Contains-get_or r.points w.0 0 w.1))))
+          ∙ elsewhere q (λ e. out (subst (Contains r.points) (sym e) (Contains-get_or r.points i 0 lt))) in
+          let kept : (j : ℕ) → ¬ Removed j → held_at next j ≡ held_at more j = λ j out.
+          elim (cases_lt j (length r.points)) as (λ _. held_at next j ≡ held_at more j) [
             | inl l ↦ sym (within j l) ∙ placed.1.without.kept (at j) (λ t. out (down_at j l t)) ∙ holds_more.local j l
             | inr past ↦
                 get_or_past next j cell.Empty (omega (arith, past, long, holds.long))
                 ∙ sym (get_or_past more j cell.Empty (omega (arith, past, holds_more.long)))
-          ]
-
-          move : IsLocalMove r.touch cells c i next
-          move = record {
+          ] in
+          let move : IsLocalMove r.touch cells c i next = record {
             place = short;
             free = sym (holds.local i lt) ∙ placed.1.free;
             without = record {
@@ -409,28 +386,23 @@ module _ (g : Board) (r : Region) (settled : IsSettled g) (play : IsRegionOfPlay
             stands = free_down
                 (holds_after g r cells next h after play holds placed.0.columns full long within outside) placed.0 full c i lt
                 (sym (within i lt) ∙ leads_start _ _ (at i) placed.1.stands.0 placed.1.stands.1) placed.1.stands;
-          }
+          } in
+          (next, move, is_local after next full long within outside)
 
       -- a local move is a placing
       pub local_is_placing : (next : List Cell) → IsLocalMove r.touch cells c i next
           → (after : Board) × IsPlaced h (at i) c after
-      local_is_placing next move = (after, placed)
-        where
-          after : Board
-          after = record h { cells = put next }
-
-          kept : (q : ℕ) → ¬ Taken q → cell_at after q ≡ cell_at b q
-          kept q out = elim (among_or_not r.points q) [
+      local_is_placing next move =
+          let after : Board = record h { cells = put next } in
+          let kept : (q : ℕ) → ¬ Taken q → cell_at after q ≡ cell_at b q = λ q out. elim (among_or_not r.points q) [
             | inl (j, l, e) ↦
                 let here = get_or_default r.points j 0 q l ∙ e in
                 let stays : ¬ Removed j = λ t. out (subst (λ z. Taken z) here (up j t).1) in
                 subst (λ z. cell_at after z ≡ cell_at b z) here (put_at next j l ∙ move.without.kept j stays ∙ sym (holds_more.local j l))
             | inr none ↦
                 put_outside next q none ∙ sym (elsewhere q (λ e. none (subst (Contains r.points) (sym e) (Contains-get_or r.points i 0 lt))))
-          ]
-
-          placed : IsPlaced h (at i) c after
-          placed = (
+          ] in
+          let placed : IsPlaced h (at i) c after = (
             same_size h,
             record {
               place = own i lt;
@@ -444,7 +416,8 @@ module _ (g : Board) (r : Region) (settled : IsSettled g) (play : IsRegionOfPlay
                   (holds_after g r cells next h after play holds refl (length-put next) (long_after move) (put_at next) (put_outside next))
                   (same_size h) (length-put next) c i lt move.stands;
             },
-          )
+          ) in
+          (after, placed)
 
 pub plays_locally : (g : Board) (r : Region) → IsSettled g → IsRegionOfPlay g r → PlaysLocally g r
 plays_locally g r settled play = record {
@@ -516,33 +489,28 @@ module _ (g : Board) (regions : List Region) (are : AreRegionsOfPlay g regions) 
   pub positions_after : (positions : List (List Cell)) (next : List Cell) (h after : Board) (k p : ℕ) (c : Colour) (d : Region)
       → HoldPositions positions h → k < length regions → IsPlaced h p c after → length next ≡ length (get_or positions k [])
       → IsLocal (get_or regions k d) h after (get_or positions k []) next → HoldPositions (set positions k next) after
-  positions_after positions next h after k p c d all lk placed long local = record {
-    many = length-set positions k next ∙ all.many;
-    each = λ l e ll. subst (λ r. HoldsPosition g r (get_or (set positions k next) l []) after) (get_or_default regions l d e ll) (at l ll);
-  }
-    where
-      own : HoldsPosition g (get_or regions k d) next after
-      own =
-          let r = get_or regions k d in
-          holds_after g r (get_or positions k []) next h after (are.each r (Contains-get_or regions k d lk)) (all.each k d lk)
-          placed.0.columns (placed_long h p c after placed) long local.inside local.outside
-
-      kept : (l : ℕ) → l < length regions → l ≢ k → HoldsPosition g (get_or regions l d) (get_or positions l []) after
-      kept l ll ne =
-          let s = get_or regions l d in
-          let was = all.each l d ll in
-          record {
-            walls = own.walls;
-            long = was.long;
-            local = λ i lt.
-                other_kept k l d h after (get_or positions k []) next lk ll ne local (get_or s.points i 0) (Contains-get_or s.points i 0 lt)
-                ∙ was.local i lt;
-          }
-
-      at : (l : ℕ) → l < length regions → HoldsPosition g (get_or regions l d) (get_or (set positions k next) l []) after
-      at l ll = elim (cases_eq l k) as (λ _. HoldsPosition g (get_or regions l d) (get_or (set positions k next) l []) after) [
+  positions_after positions next h after k p c d all lk placed long local =
+      let Holds' : ℕ → Type 0 = λ l. HoldsPosition g (get_or regions l d) (get_or (set positions k next) l []) after in
+      let r = get_or regions k d in
+      let own : HoldsPosition g r next after =
+      holds_after g r (get_or positions k []) next h after (are.each r (Contains-get_or regions k d lk)) (all.each k d lk)
+      placed.0.columns (placed_long h p c after placed) long local.inside local.outside in
+      let kept : (l : ℕ) → l < length regions → l ≢ k → HoldsPosition g (get_or regions l d) (get_or positions l []) after = λ l ll ne.
+      let s = get_or regions l d in
+      let was = all.each l d ll in record {
+        walls = own.walls;
+        long = was.long;
+        local = λ i lt.
+            other_kept k l d h after (get_or positions k []) next lk ll ne local (get_or s.points i 0) (Contains-get_or s.points i 0 lt)
+            ∙ was.local i lt;
+      } in
+      let at : (l : ℕ) → l < length regions → Holds' l = λ l ll. elim (cases_eq l k) as (λ _. Holds' l) [
         | inl same ↦
-            subst (λ z. HoldsPosition g (get_or regions z d) (get_or (set positions k next) z []) after) (sym same)
-            (subst (λ x. HoldsPosition g (get_or regions k d) x after) (sym (get_or-set_same positions k next [] (omega (arith, lk, all.many)))) own)
+            subst Holds' (sym same)
+            (subst (λ x. HoldsPosition g r x after) (sym (get_or-set_same positions k next [] (omega (arith, lk, all.many)))) own)
         | inr ne ↦ subst (λ x. HoldsPosition g (get_or regions l d) x after) (sym (get_or-set_other positions k l next [] ne)) (kept l ll ne)
-      ]
+      ] in record {
+        many = length-set positions k next ∙ all.many;
+        each = λ l e ll. subst (λ s. HoldsPosition g s (get_or (set positions k next) l []) after)
+            (get_or_default regions l d e ll) (at l ll);
+      }

@@ -10,7 +10,7 @@ use Rattle.game_store.specs.Meaning.{pick}
 use Rattle.short_games.specs.Number.{number_tree}
 use Rattle.short_games.proofs.OrderLaws.{le-refl, same-refl, same-path, same-sym, same-trans}
 use Rattle.short_games.proofs.SumLaws.{plus-assoc, same-plus, same-comm, same-swap}
-use Rattle.game_store.proofs.Values.{has-pick}
+use Rattle.game_store.proofs.EntryLaws.{has-pick}
 use Rattle.short_games.specs.SumLaws.{incentive}
 use Rattle.sum_outcome.specs.Players.{options, LosesGame}
 use Rattle.short_games.proofs.IncentiveLaws.{incentive-dominates, incentive-dominates_back}

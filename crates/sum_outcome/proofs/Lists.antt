@@ -12,7 +12,7 @@ use Rattle.short_games.specs.Number.{IsNumberTree, number_tree}
 use Rattle.short_games.specs.Parts.{IsOption}
 use Rattle.short_games.specs.TextOrder.{sorted}
 use Rattle.game_store.specs.Meaning.{pick, AreIds}
-use Rattle.game_store.proofs.Values.{pick-has}
+use Rattle.game_store.proofs.EntryLaws.{pick-has}
 use Rattle.short_games.proofs.TextOrderLaws.{sorted-has, has-sorted}
 use Rattle.short_games.proofs.PartLaws.{option-numbers}
 use Rattle.sum_outcome.specs.Players.{options, LosesGame}

@@ -1,12 +1,11 @@
 -- Break points past the bounds of a Dyadic: where a game has walls on the grid of 2 ^ -60 there is none.
-use Rattle.std.proofs.Common.{ℕ, zero, suc, ap₂, ◌+◌, ◌-◌, ◌*◌, ◌^◌, ◌<◌, ◌≤◌, ◌≡◌, ◌⊎◌, inl, inr, arith, refl, sym, ◌∙◌, ap, subst, List, length, ℤ, pos, ◌+ℤ◌, ◌-ℤ◌, ◌*ℤ◌, ◌<ℤ◌, ◌≤ℤ◌, neg_ℤ}
-use Rattle.std.specs.Prelude.{unsigned_abs}
+use Rattle.std.proofs.Common.{ℕ, zero, suc, ap₂, ◌+◌, ◌-◌, ◌*◌, ◌^◌, ◌<◌, ◌≤◌, ◌≡◌, ◌⊎◌, inl, inr, arith, refl, sym, ◌∙◌, ap, subst, List, length, ℤ, pos, ◌+ℤ◌, ◌-ℤ◌, ◌*ℤ◌, ◌<ℤ◌, ◌≤ℤ◌, neg_ℤ, unsigned_abs}
 use Rattle.std.proofs.lemmas.Bool.{cases_lt}
 use Rattle.std.proofs.lemmas.Int.{ints}
 use Rattle.std.proofs.Math.IntN.{pos-*ℤ-pos}
 use Rattle.short_games.specs.Tree.{Tree, tree_at}
 use Rattle.short_games.specs.Number.{IsNumberTree}
-use Rattle.short_games.specs.Parts.{IsFollower, IsOption, IsPart}
+use Rattle.short_games.specs.Parts.{IsFollower, IsOption}
 use Rattle.short_games.specs.Parts.IsFollower.{itself, further}
 use Rattle.game_store.specs.Forms.{HaveForms}
 use Rattle.short_games.specs.WallGrids.{Follow, HasWalls, HasTemperatureBetween, IsMeeting, WallsAre, finer, Bends}
@@ -29,11 +28,8 @@ module _ (k : ℕ) (In : Tree → Type 0) (bounded : IsBounded k (pos (2 ^ 120 -
   meets-within P l r zero x in' h m = omega arith
   meets-within P l r (suc v) x in' h m = at (h.all P (itself P))
     where
-      before : r v <ℤ l v
-      before = m.before v (omega arith)
-
       at : WallsAre k h.lw h.rw P → suc v ≤ 2 ^ 120 - 1
-      at (of_number y i p q) = absurd (omega (arith, ints, before, h.left_is v, h.right_is v, p v, q v))
+      at (of_number y i p q) = absurd (omega (arith, ints, m.before v (omega arith), h.left_is v, h.right_is v, p v, q v))
       at (of_game f L R hl hr w) = go (w v)
         where
           low : (L v +ℤ pos v) ≤ℤ pos (2 ^ 120 - 1)
@@ -50,7 +46,7 @@ module _ (k : ℕ) (In : Tree → Type 0) (bounded : IsBounded k (pos (2 ^ 120 -
 
           go : Follow L R v (h.lw P v) (h.rw P v) → suc v ≤ 2 ^ 120 - 1
           go (apart less e f) = omega (arith, ints, less v (omega arith), low, high)
-          go (met t le e less x y) = absurd (omega (arith, ints, before, h.left_is v, h.right_is v, x, y, e))
+          go (met t le e less x y) = absurd (omega (arith, ints, m.before v (omega arith), h.left_is v, h.right_is v, x, y, e))
 
 -- past their meeting walls don't bend
 after-meeting : (k : ℕ) (P : Tree) (l r : ℕ → ℤ) (u : ℕ) (x : ℤ) → HasWalls k P l r → IsMeeting l r u x → (t : ℕ) → u ≤ t → (l t ≡ x) × (r t ≡ x)
@@ -291,13 +287,8 @@ past-bounds_of G P f b = (P, inr (f, between-no_number 60 P b), between-past P b
 
 pub none-past_bounds : (Ts : List Tree) (forms : HaveForms Ts) (id : ℕ) → id < length Ts → (l r : ℕ → ℤ) → HasWalls 60 (tree_at Ts id) l r → IsDrawnPastBounds (tree_at Ts id) → ⊥
 none-past_bounds Ts forms id lt l r h (P, which, b) =
-    none-past (IsStored Ts) (store-bounded Ts forms) P (stored which) (h.lw P) (h.rw P)
-    (record { lw = h.lw; rw = h.rw; all = λ Q g. h.all Q (follower-trans (tree_at Ts id) P Q (follows which) g); left_is = λ t. refl; right_is = λ t. refl }) b
-  where
-    stored : (P ≡ tree_at Ts id) ⊎ IsPart (tree_at Ts id) P → IsStored Ts P
-    stored (inl e) = (id, lt, sym e)
-    stored (inr part) = part-stored Ts forms (tree_at Ts id) P part.0 part.1 (id, lt, refl)
-
-    follows : (P ≡ tree_at Ts id) ⊎ IsPart (tree_at Ts id) P → IsFollower (tree_at Ts id) P
-    follows (inl e) = subst (IsFollower (tree_at Ts id)) (sym e) (itself (tree_at Ts id))
-    follows (inr part) = part.0
+    let G = tree_at Ts id in
+    let stored : IsStored Ts P = elim which [ inl e ↦ (id, lt, sym e) | inr p ↦ part-stored Ts forms G P p.0 p.1 (id, lt, refl) ] in
+    let follows : IsFollower G P = elim which [ inl e ↦ subst (IsFollower G) (sym e) (itself G) | inr part ↦ part.0 ] in
+    none-past (IsStored Ts) (store-bounded Ts forms) P stored (h.lw P) (h.rw P)
+    (record { lw = h.lw; rw = h.rw; all = λ Q g. h.all Q (follower-trans G P Q follows g); left_is = λ t. refl; right_is = λ t. refl }) b

@@ -1,14 +1,14 @@
 -- Drawings: the scaffolds over drawn options, what is joined of them, and the pass up over the ids.
-use Rattle.std.specs.declared.alloc.Global.{Global}
-use Rattle.std.proofs.Common.{ℕ, suc, ◌<◌, ◌≡◌, arith, refl, sym, ◌∙◌, ap, subst, ℤ, neg_ℤ, List, [], ◌∷◌, length, get_or, Vec, ◌+◌, ◌-◌, ◌^◌, pos, None, zero, ◌⊎◌, inl, inr, ◌++◌, Bool}
+use Rattle.std.proofs.Common.{ℕ, suc, ◌<◌, ◌≡◌, arith, refl, sym, ◌∙◌, ap, subst, ℤ, neg_ℤ, List, [], ◌∷◌, length, map, get_or, Vec, ◌+◌, ◌-◌, ◌^◌, pos, None, inl, inr, ◌++◌, Bool, Global}
 use Rattle.std.specs.Int.{int_max}
 use Rattle.std.proofs.lemmas.Int.{ints}
-use Rattle.std.proofs.lemmas.List.{length-append}
+use Rattle.std.proofs.lemmas.List.{length-append, length-map, map-append}
 use Rattle.short_games.specs.Parts.{IsOption}
 use Rattle.short_games.specs.Tree.{Tree, Trees, none, more, left, right, tree_at}
 use Rattle.short_games.specs.TextOrder.{sorted, IsCanonicalTree}
 use Rattle.game_store.specs.Meaning.{pick}
 use Rattle.game_store.specs.Forms.{IsOptions, HaveForms}
+use Rattle.game_store.proofs.EntryLaws.{push_both}
 use Rattle.short_games.proofs.TextOrderLaws.{sorted-has, has-sorted}
 use Rattle.thermograph.specs.declared.breaks.Break.{Break}
 use Rattle.thermograph.specs.declared.side.Side.TheVariants as side
@@ -18,7 +18,7 @@ use Rattle.thermograph.specs.inner.Breaks.{IsLevel}
 use Rattle.thermograph.specs.inner.Scaffolds.{wall_of, picked, turned_wall, greatest, rise_at, scaffold_at, AreLevel, AreSteady, IsSteadyLine, Stays, IsTraced}
 use Rattle.thermograph.specs.inner.Drawings.{IsDrawn, AreDrawnBelow, IsDrawing, IsJoined, Jumps, AreDrawn}
 use Rattle.short_games.proofs.WallGreatest.{IsFilled, filled, greatest-one, greatest-more}
-use Rattle.short_games.proofs.WallLines.{greatest-same, least-same, below-or_at}
+use Rattle.short_games.proofs.WallLines.{greatest-same, least-same}
 use Rattle.short_games.proofs.WallSolutions.{walls-unique, walls-steady}
 use Rattle.short_games.proofs.WallsDrawn.{left_wall, right_wall, left_scaffold, right_scaffold, left_scaffold-is, right_scaffold-is, walls-at}
 use Rattle.short_games.proofs.WallSteps.{solution-drawn, join-drawn, walls-within}
@@ -91,7 +91,7 @@ module _ (Ts : List Tree) (id : ℕ) (lefts rights : List (Vec Break Global)) (l
   pub right-is : (t : ℕ) → scaffold_at side.Right (picked lefts rs) t ≡ right_scaffold 60 (tree_at Ts id) t
   right-is t = omega (arith, ints, least-same (λ X. left_wall 60 X t) (λ X. left_wall 60 X t) (right (tree_at Ts id)) _ _ (λ X x. refl) (right_rise t) (right_scaffold-is 60 (tree_at Ts id) right_filled t))
 
-  -- what is known of the two scaffolds
+  -- what is known of the walls of the two scaffolds
   pub left-known : AreLevel (picked rights ls) × AreSteady side.Left (picked rights ls)
   left-known = (
     each-picked IsLevel rights ls (λ j l. (left_drawn j l).right_level),
@@ -222,32 +222,25 @@ module _ (Ts : List Tree) (id : ℕ) (lefts rights : List (Vec Break Global)) (l
       }
 
 -- The pass up over the ids, and what is drawn at its end.
+abbrev items : Vec Break Global → List Break
+items w = w.items
+
 module _ (Ts : List Tree) (flags : List Bool) where
   -- the options of a flagged form are drawn
   pub drawn-below : (id n : ℕ) (lefts rights : List (Vec Break Global)) → AreFollowers Ts id 0 flags → AreDrawn Ts flags n lefts rights → n < length flags → IsFlagged flags n → AreDrawnBelow Ts n lefts rights
   drawn-below id n lefts rights f d l m = record { left_count = d.left_count; right_count = d.right_count; drawn = λ i o. d.drawn i o.0 (f.closed n i (omega arith) l m o) }
 
-  wall-kept : (ws : List (Vec Break Global)) (w : Vec Break Global) (i : ℕ) → i < length ws → wall_of (ws ++ w ∷ []) i ≡ wall_of ws i
-  wall-kept [] w i h = absurd (omega (arith, h))
-  wall-kept (v ∷ ws) w zero h = refl
-  wall-kept (v ∷ ws) w (suc i) h = wall-kept ws w i (omega (arith, h))
-
-  wall-new : (ws : List (Vec Break Global)) (w : Vec Break Global) → wall_of (ws ++ w ∷ []) (length ws) ≡ w.items
-  wall-new [] w = refl
-  wall-new (v ∷ ws) w = wall-new ws w
-
-  pub drawn-push : (n next : ℕ) (lefts rights lefts' rights' : List (Vec Break Global)) (l r : Vec Break Global) → AreDrawn Ts flags n lefts rights → next ≡ n + 1 → lefts' ≡ lefts ++ l ∷ [] → rights' ≡ rights ++ r ∷ [] → (IsFlagged flags n → IsDrawn (tree_at Ts n) l.items r.items)
-      → AreDrawn Ts flags next lefts' rights'
-  drawn-push n next lefts rights lefts' rights' l r d e p q new = subst (λ ws. AreDrawn Ts flags next ws rights') (sym p) (subst (λ ws. AreDrawn Ts flags next (lefts ++ l ∷ []) ws) (sym q) record {
-    left_count = omega (arith, length-append lefts (l ∷ []), d.left_count, e);
-    right_count = omega (arith, length-append rights (r ∷ []), d.right_count, e);
-    drawn = λ i h m. at i (below-or_at i n (omega (arith, h, e))) m;
-  })
-    where
-      same : (i : ℕ) (a b a' b' : List Break) → a' ≡ a → b' ≡ b → IsDrawn (tree_at Ts i) a b → IsDrawn (tree_at Ts i) a' b'
-      same i a b a' b' x y k = subst (λ z. IsDrawn (tree_at Ts i) z b') (sym x) (subst (IsDrawn (tree_at Ts i) a) (sym y) k)
-
-      at : (i : ℕ) → (i < n) ⊎ (i ≡ n) → IsFlagged flags i → IsDrawn (tree_at Ts i) (wall_of (lefts ++ l ∷ []) i) (wall_of (rights ++ r ∷ []) i)
-      at i (inl h) m = same i _ _ _ _ (wall-kept lefts l i (omega (arith, h, d.left_count))) (wall-kept rights r i (omega (arith, h, d.right_count))) (d.drawn i h m)
-      at i (inr h) m = subst (λ k. IsDrawn (tree_at Ts k) (wall_of (lefts ++ l ∷ []) k) (wall_of (rights ++ r ∷ []) k)) (sym h)
-          (same n _ _ _ _ (ap (wall_of (lefts ++ l ∷ [])) (sym d.left_count) ∙ wall-new lefts l) (ap (wall_of (rights ++ r ∷ [])) (sym d.right_count) ∙ wall-new rights r) (new (subst (IsFlagged flags) h m)))
+  pub drawn-push : (n : ℕ) (lefts rights lefts' rights' : List (Vec Break Global)) (l r : Vec Break Global)
+      → AreDrawn Ts flags n lefts rights → lefts' ≡ lefts ++ l ∷ [] → rights' ≡ rights ++ r ∷ []
+      → (IsFlagged flags n → IsDrawn (tree_at Ts n) l.items r.items) → AreDrawn Ts flags (n + 1) lefts' rights'
+  drawn-push n lefts rights lefts' rights' l r d p q new =
+      let lefts_long : length (map items lefts) ≡ n = length-map lefts items ∙ d.left_count in
+      let rights_long : length (map items rights) ≡ n = length-map rights items ∙ d.right_count in rw (p, q) record {
+        left_count = omega (arith, length-append lefts (l ∷ []), d.left_count);
+        right_count = omega (arith, length-append rights (r ∷ []), d.right_count);
+        drawn = λ i h. rw (map-append items lefts (l ∷ []), map-append items rights (r ∷ []))
+            (push_both (λ k a b. IsFlagged flags k → IsDrawn (tree_at Ts k) a b) (map items lefts) (map items rights) l.items [] r.items []
+            (lefts_long ∙ sym rights_long) (λ k b. d.drawn k (omega (arith, b, rights_long)))
+            (subst (λ k. IsFlagged flags k → IsDrawn (tree_at Ts k) l.items r.items) (sym rights_long) new)
+            i (omega (arith, h, rights_long, length-append (map items rights) (r.items ∷ []))));
+      }

@@ -7,7 +7,7 @@ use Rattle.game_store.specs.Meaning.{pick, Wanted}
 use Rattle.short_games.specs.Parts.{IsFollower, IsOption}
 use Rattle.short_games.specs.Parts.IsFollower.{itself, further}
 use Rattle.game_store.specs.Forms.{IsOptions, IsMeaning, IsWithinBounds, HaveForms}
-use Rattle.game_store.proofs.Values.{has-pick, pick-has}
+use Rattle.game_store.proofs.EntryLaws.{has-pick, pick-has}
 use Rattle.short_games.proofs.TextOrderLaws.{sorted-has, has-sorted}
 use Rattle.thermograph.specs.inner.Flags.{IsFlagged, AreAdded, IsAmong, IsInnerId, AreFollowers}
 use Rattle.short_games.proofs.PartLaws.{follower-trans, follower-of}
@@ -22,20 +22,22 @@ use Rattle.short_games.proofs.WallSteps.{IsBounded}
 -- flags, step by step.
 -- flags of one set, and then of another
 pub added-both : (A B Both : ℕ → Type 0) (xs ys zs : List Bool) → AreAdded A xs ys → AreAdded B ys zs → ((i : ℕ) → i < length xs → Both i ↔ (A i ⊎ B i)) → AreAdded Both xs zs
-added-both A B Both xs ys zs a b n = record { size = b.size ∙ a.size; flagged = λ i h. (to i h, from i h) }
-  where
-    in_second : (i : ℕ) → i < length xs → i < length ys
-    in_second i h = omega (arith, h, a.size)
-
-    to : (i : ℕ) → i < length xs → IsFlagged zs i → IsFlagged xs i ⊎ Both i
-    to i h m = elim ((b.flagged i (in_second i h)).0 m) [
-      | inl c ↦ elim ((a.flagged i h).0 c) [ inl d ↦ inl d | inr d ↦ inr ((n i h).1 (inl d)) ]
-      | inr d ↦ inr ((n i h).1 (inr d))
-    ]
-
-    from : (i : ℕ) → i < length xs → IsFlagged xs i ⊎ Both i → IsFlagged zs i
-    from i h (inl m) = (b.flagged i (in_second i h)).1 (inl ((a.flagged i h).1 (inl m)))
-    from i h (inr m) = (b.flagged i (in_second i h)).1 (elim ((n i h).0 m) [ inl d ↦ inl ((a.flagged i h).1 (inr d)) | inr d ↦ inr d ])
+added-both A B Both xs ys zs a b n = record {
+  size = b.size ∙ a.size;
+  flagged = λ i h.
+      let first = a.flagged i h in
+      let both = n i h in
+      let second = b.flagged i (omega (arith, h, a.size)) in (
+        λ m. elim (second.0 m) [
+          | inl c ↦ elim (first.0 c) [ inl d ↦ inl d | inr d ↦ inr (both.1 (inl d)) ]
+          | inr d ↦ inr (both.1 (inr d))
+        ],
+        λ w. elim w [
+          | inl m ↦ second.1 (inl (first.1 (inl m)))
+          | inr m ↦ second.1 (elim (both.0 m) [ inl d ↦ inl (first.1 (inr d)) | inr d ↦ inr d ])
+        ],
+      );
+}
 
 module _ (Ts : List Tree) (id : ℕ) (ls rs : List ℕ) (o : IsOptions Ts id ls rs) where
   -- an id of the form is an option below it
@@ -59,16 +61,15 @@ pub following-start : (Ts : List Tree) (id count : ℕ) (ys : List Bool) → cou
 following-start Ts id count ys k e = subst (AreFollowers Ts id count) (sym e) record {
   size = length-set (replicate count false) id true ∙ length-replicate count false ∙ k;
   root = get_or-set_same (replicate count false) id true false (omega (arith, k, length-replicate count false));
-  follows = λ i h m. one i m (cases_eq i id);
-  closed = λ j i p q. absurd (omega (arith, p, q, length-set (replicate count false) id true, length-replicate count false));
-}
-  where
-    one : (i : ℕ) → IsFlagged (set (replicate count false) id true) i → (i ≡ id) ⊎ (i ≡ id → ⊥) → IsFollower (tree_at Ts id) (tree_at Ts i)
-    one i m (inl s) = subst (λ n. IsFollower (tree_at Ts id) (tree_at Ts n)) (sym s) (itself (tree_at Ts id))
-    one i m (inr d) = let unflagged : get_or (replicate count false) i false ≡ false = elim (cases_lt i count) [
+  follows = λ i h m. elim (cases_eq i id) [
+    | inl s ↦ subst (λ n. IsFollower (tree_at Ts id) (tree_at Ts n)) (sym s) (itself (tree_at Ts id))
+    | inr d ↦ (let unflagged : get_or (replicate count false) i false ≡ false = elim (cases_lt i count) [
       | inl l ↦ get_or-replicate count i false false l
       | inr l ↦ get_or_past (replicate count false) i false (omega (arith, l, length-replicate count false))
-    ] in absurd (true≢false (sym m ∙ get_or-set_other (replicate count false) id i true false d ∙ unflagged))
+    ] in absurd (true≢false (sym m ∙ get_or-set_other (replicate count false) id i true false d ∙ unflagged)))
+  ];
+  closed = λ j i p q. absurd (omega (arith, p, q, length-set (replicate count false) id true, length-replicate count false));
+}
 
 pub following-step : (Ts : List Tree) (id place next : ℕ) (ys zs : List Bool) → AreFollowers Ts id place ys → place ≡ next + 1 → place ≤ length ys → IsFlagged ys next → AreAdded (IsInnerId Ts next) ys zs → AreFollowers Ts id next zs
 following-step Ts id place next ys zs f e b n a = record {
@@ -97,11 +98,10 @@ number-over e x _ _ i (further G H X (inr o) f) = let r = num-right e x H (subst
 module _ (Ts : List Tree) (forms : HaveForms Ts) where
   over_at : (i : ℕ) → ((j : ℕ) → j < i → IsOver 60 (tree_at Ts j)) → (w : Wanted) → IsMeaning Ts i w → IsOver 60 (tree_at Ts i)
   over_at i ih (number x) m P f n = number-over 60 x (tree_at Ts i) P m f
-  over_at i ih (options ls rs) o P f n = at (follower-of (tree_at Ts i) P f)
-    where
-      at : (P ≡ tree_at Ts i) ⊎ ((H : Tree) × IsOption (tree_at Ts i) H × IsFollower H P) → (x : ℤ) × (P ≡ num 60 x)
-      at (inl e) = absurd (o.no_number (subst IsNumberTree e n))
-      at (inr (H, x, g)) = let a = option-listed Ts i ls rs o H x in ih a.0 a.1 P (subst (λ t. IsFollower t P) a.2 g) n
+  over_at i ih (options ls rs) o P f n = elim (follower-of (tree_at Ts i) P f) [
+    | inl e ↦ absurd (o.no_number (subst IsNumberTree e n))
+    | inr (H, x, g) ↦ let a = option-listed Ts i ls rs o H x in ih a.0 a.1 P (subst (λ t. IsFollower t P) a.2 g) n
+  ]
 
   over_within : (n i : ℕ) → i < n → i < length Ts → IsOver 60 (tree_at Ts i)
   over_within zero i a l = absurd (omega arith)

@@ -1,6 +1,5 @@
 -- Scaffolds: the greatest of the walls, where they are straight, where they bend, and where two of them meet.
-use Rattle.std.specs.declared.alloc.Global.{Global}
-use Rattle.std.proofs.Common.{ℕ, zero, suc, ◌+◌, ◌<◌, ◌≤◌, ◌≡◌, arith, refl, sym, ◌∙◌, ap, ap₂, subst, ℤ, pos, List, [], ◌∷◌, length, take, get_or, Bool, true, false, nat_eq, cond, Vec, inl, inr, below_more, ◌-◌, ◌^◌, ◌≤ℤ◌, ◌+ℤ◌, ◌-ℤ◌, ◌⊎◌, ◌<ℤ◌, ◌/◌, neg_ℤ, ◌↔◌}
+use Rattle.std.proofs.Common.{ℕ, zero, suc, ◌+◌, ◌<◌, ◌≤◌, ◌≡◌, arith, refl, sym, ◌∙◌, ap, ap₂, subst, ℤ, pos, List, [], ◌∷◌, length, take, get_or, Bool, true, false, nat_eq, cond, Vec, inl, inr, below_more, ◌-◌, ◌^◌, ◌≤ℤ◌, ◌+ℤ◌, ◌-ℤ◌, ◌<ℤ◌, ◌/◌, neg_ℤ, ◌↔◌, Global}
 use Rattle.std.specs.Int.{int_max}
 use Rattle.std.proofs.lemmas.Int.{ints, clamps, by_lt_z}
 use Rattle.std.proofs.lemmas.List.{get_or-map, length-map}
@@ -9,7 +8,7 @@ use Rattle.thermograph.specs.declared.breaks.Break.{Break}
 use Rattle.thermograph.specs.declared.side.Side.{Side}
 use Rattle.thermograph.specs.declared.side.Side.TheVariants as side
 use Rattle.thermograph.specs.inner.Breaks.{IsInRange}
-use Rattle.thermograph.specs.inner.Scaffolds.{wall_of, picked, EachWall, IsClear, turned, greatest, rise_at, scaffold_at, AreLevel, IsAlong, IsStraight, AreSteady, rise, line, IsKnown, Stays, AreApart, IsCrossing, turned_wall, IsSteadyLine}
+use Rattle.thermograph.specs.inner.Scaffolds.{wall_of, picked, EachWall, IsClear, turned, greatest, rise_at, AreLevel, IsAlong, IsStraight, AreSteady, rise, line, IsKnown, Stays, AreApart, IsCrossing, turned_wall, IsSteadyLine}
 use Rattle.thermograph.specs.Breaks.{wall_at, toward, from, Reaches, IsPath}
 use Rattle.short_games.specs.WallGrids.{Bends}
 use Rattle.thermograph.proofs.WallLaws.{toward-up, toward-down, toward-same, toward-none, at-before, at-after, from-piece, toward-climbs, toward-dives}
@@ -72,23 +71,27 @@ module _ (f : List Break → ℤ) where
   run-step ws i j d g h r b s l p q m e k = record { is = step ws i d g h r b l p.is q e k ∙ ap (λ n. greatest f (take n ws)) (sym s); in_range = range g h r b p.in_range m k }
 
 -- How far the walls' greatest and the scaffolds go.
-pub rise-range : (s : Side) (ws : List (List Break)) (t : ℕ) → AreLevel ws → IsInRange (rise_at s ws t)
+-- what holds of 0 and of each wall's line, and of the greater of two lines of which it holds, holds of the greatest
+greatest-of : (P : (ℕ → ℤ) → Type 0) (f : List Break → ℕ → ℤ) (ws : List (List Break)) → P (λ t. pos 0)
+    → ((g h : ℕ → ℤ) → P g → P h → P (λ t. int_max (g t) (h t))) → EachWall (λ w. P (f w)) ws → P (λ t. greatest (λ w. f w t) ws)
 unfolding greatest
-rise-range s [] t l = (omega (arith, ints), omega (arith, ints))
-rise-range s (w ∷ []) t l = turned-range s (wall_at w t) (l 0 (omega arith) t)
-rise-range s (w ∷ v ∷ ws) t l = let a = turned-range s (wall_at w t) (l 0 (omega arith) t) in
-    let b = rise-range s (v ∷ ws) t (λ j h. l (suc j) (omega (arith, h))) in
-    (omega (arith, ints, clamps, a.0, b.0), omega (arith, ints, clamps, a.1, b.1))
+greatest-of P f [] none two a = none
+greatest-of P f (w ∷ []) none two a = a 0 (omega arith)
+greatest-of P f (w ∷ v ∷ ws) none two a = two (f w) (λ t. greatest (λ w. f w t) (v ∷ ws)) (a 0 (omega arith))
+    (greatest-of P f (v ∷ ws) none two (λ j l. a (suc j) (omega (arith, l))))
+
+pub rise-range : (s : Side) (ws : List (List Break)) (t : ℕ) → AreLevel ws → IsInRange (rise_at s ws t)
+rise-range s ws t l = greatest-of (λ g. IsInRange (g t)) (λ w t. turned_wall s t w) ws (omega (arith, ints), omega (arith, ints))
+    (λ g h a b. (omega (arith, ints, clamps, a.0, b.0), omega (arith, ints, clamps, a.1, b.1))) (λ j h. turned-range s _ (l j h t))
 
 -- walls that rise by 0 or 1 a step have a greatest that does
 pub rise-rises : (s : Side) (ws : List (List Break)) → AreSteady s ws → Rises (rise_at s ws)
-unfolding greatest
-rise-rises s [] a = record { no_fall = λ t. omega (arith, ints); by_one = λ t. omega (arith, ints) }
-rise-rises s (w ∷ []) a = (a 0 (omega arith)).rises
-rise-rises s (w ∷ x ∷ ws) a =
-    let p = (a 0 (omega arith)).rises in
-    let q = rise-rises s (x ∷ ws) (λ j l. a (suc j) (omega (arith, l))) in
-    record { no_fall = λ t. omega (arith, ints, clamps, p.no_fall t, q.no_fall t); by_one = λ t. omega (arith, ints, clamps, p.by_one t, q.by_one t) }
+rise-rises s ws a = greatest-of Rises (λ w t. turned_wall s t w) ws
+    (record { no_fall = λ t. omega (arith, ints); by_one = λ t. omega (arith, ints) })
+    (λ g h p q. record {
+      no_fall = λ t. omega (arith, ints, clamps, p.no_fall t, q.no_fall t);
+      by_one = λ t. omega (arith, ints, clamps, p.by_one t, q.by_one t);
+    }) (λ j l. (a j l).rises)
 
 -- A line that rises by 0 or 1 a step is straight where it goes on as it began.
 rises_to : (f : ℕ → ℤ) → ((t : ℕ) → f t ≤ℤ f (suc t)) → (u v : ℕ) → u ≤ v → f u ≤ℤ f v
@@ -105,21 +108,20 @@ module _ (f : ℕ → ℤ) (rises : Rises f) where
   pub rises-slow : (u v : ℕ) → u ≤ v → (f v -ℤ pos v) ≤ℤ (f u -ℤ pos u)
   rises-slow u v h = omega (arith, ints, rises_to (λ t. pos t -ℤ f t) (λ t. omega (arith, ints, rises.by_one t)) u v h)
 
-  pub flat-between : (u v t : ℕ) → IsAlong f false u v → u ≤ t → t ≤ v → f t ≡ f u
-  flat-between u v t a h k = omega (arith, ints, a, rises-far u t h, rises-far t v k)
-
-  pub steep-between : (u v t : ℕ) → IsAlong f true u v → u ≤ t → t ≤ v → f t ≡ f u +ℤ pos (t - u)
-  steep-between u v t a h k = omega (arith, ints, h, k, a, rises-slow u t h, rises-slow t v k)
-
-  pub along-next : (u : ℕ) → (IsAlong f false u (u + 1) → ⊥) → IsAlong f true u (u + 1)
-  along-next u n = let s : suc u ≡ u + 1 = omega arith in
-      let up : f (u + 1) ≤ℤ (f u +ℤ pos 1) = subst (λ m. f m ≤ℤ (f u +ℤ pos 1)) s (rises.by_one u) in
-      let down : f u ≤ℤ f (u + 1) = subst (λ m. f u ≤ℤ f m) s (rises.no_fall u) in
-      by_lt_z (f u) (f (u + 1)) (λ l. omega (arith, ints, l, up)) (λ l. absurd (n (omega (arith, ints, l, down))))
+  -- up to v the line goes as it goes to v
+  pub along-between : (rising : Bool) (u v t : ℕ) → IsAlong f rising u v → u ≤ t → t ≤ v → IsAlong f rising u t
+  along-between false u v t a h k = omega (arith, ints, a, rises-far u t h, rises-far t v k)
+  along-between true u v t a h k = omega (arith, ints, h, k, a, rises-slow u t h, rises-slow t v k)
 
 -- a line doesn't stop both being flat and rising at one place before the end
 pub goes_on : (f : ℕ → ℤ) → Rises f → (start end flat steep : ℕ) → start < end → flat ≡ start → steep ≡ start → (flat < end → IsAlong f false start (flat + 1) → ⊥) → (steep < end → IsAlong f true start (steep + 1) → ⊥) → ⊥
-goes_on f r start end flat steep h p q a b = b (omega (arith, h, q)) (subst (λ n. IsAlong f true start (n + 1)) (sym q) (along-next f r start (λ e. a (omega (arith, h, p)) (subst (λ n. IsAlong f false start (n + 1)) (sym p) e))))
+goes_on f r start end flat steep h p q a b =
+    let s : suc start ≡ start + 1 = omega arith in
+    let up : f (start + 1) ≤ℤ (f start +ℤ pos 1) = subst (λ m. f m ≤ℤ (f start +ℤ pos 1)) s (r.by_one start) in
+    let down : f start ≤ℤ f (start + 1) = subst (λ m. f start ≤ℤ f m) s (r.no_fall start) in
+    let stops = subst (λ n. IsAlong f false start (n + 1) → ⊥) p (a (omega (arith, h, p))) in
+    b (omega (arith, h, q)) (subst (λ n. IsAlong f true start (n + 1)) (sym q) (by_lt_z (f start) (f (start + 1))
+    (λ l. omega (arith, ints, l, up)) (λ l. absurd (stops (omega (arith, ints, l, down))))))
 
 -- a line bends exactly where it bends with t taken off, and turned over
 turned-even : (s : Side) (f : ℕ → ℤ) (t : ℕ) → 0 < t
@@ -128,41 +130,25 @@ turned-even : (s : Side) (f : ℕ → ℤ) (t : ℕ) → 0 < t
 turned-even side.Left f t p = (λ e. omega (arith, ints, p, e), λ e. omega (arith, ints, p, e))
 turned-even side.Right f t p = (λ e. omega (arith, ints, p, e), λ e. omega (arith, ints, p, e))
 
+-- a line goes on as it came exactly where it doesn't bend
+along-even : (f : ℕ → ℤ) (rising : Bool) (u t : ℕ) → u < t → IsAlong f rising u (t - 1) → IsAlong f rising u t
+    → IsAlong f rising u (t + 1) ↔ (f (t - 1) +ℤ f (t + 1) ≡ f t +ℤ f t)
+along-even f true u t h a b = (λ c. omega (arith, ints, h, a, b, c), λ e. omega (arith, ints, h, a, b, e))
+along-even f false u t h a b = (λ c. omega (arith, ints, h, a, b, c), λ e. omega (arith, ints, h, a, b, e))
+
 -- the last place to which the line goes as it began is a bend, and there is none before
-module _ (s : Side) (f : ℕ → ℤ) where
-  pub last-bends : (rising : Bool) → Rises f → (u v : ℕ) → u < v → IsAlong f rising u v → (IsAlong f rising u (v + 1) → ⊥) → Bends (λ w. turned s (f w -ℤ pos w)) v
-  last-bends true r u v h a n e = n (omega (arith, ints, h, a, (turned-even s f v (omega (arith, h))).1 e, steep-between f r u v (v - 1) a (omega (arith, h)) (omega arith)))
-  last-bends false r u v h a n e = n (omega (arith, ints, h, a, (turned-even s f v (omega (arith, h))).1 e, flat-between f r u v (v - 1) a (omega (arith, h)) (omega arith)))
+module _ (s : Side) (f : ℕ → ℤ) (rising : Bool) (r : Rises f) (u v : ℕ) where
+  last-bends : u < v → IsAlong f rising u v → (IsAlong f rising u (v + 1) → ⊥) → Bends (λ w. turned s (f w -ℤ pos w)) v
+  last-bends h a n e = n ((along-even f rising u v h (along-between f r rising u v (v - 1) a (omega (arith, h)) (omega arith)) a).1
+      ((turned-even s f v (omega (arith, h))).1 e))
 
-  pub even-between : (rising : Bool) → Rises f → (u v : ℕ) → IsAlong f rising u v → (t : ℕ) → u < t → t < v
-      → Bends (λ w. turned s (f w -ℤ pos w)) t → ⊥
-  even-between true r u v a t h k b =
-      let on : (n : ℕ) → u ≤ n → n ≤ v → f n ≡ f u +ℤ pos (n - u) = λ n. steep-between f r u v n a in
+  even-between : IsAlong f rising u v → (t : ℕ) → u < t → t < v → Bends (λ w. turned s (f w -ℤ pos w)) t → ⊥
+  even-between a t h k b =
+      let on : (n : ℕ) → u ≤ n → n ≤ v → IsAlong f rising u n = λ n. along-between f r rising u v n a in
       let before = on (t - 1) (omega (arith, h)) (omega (arith, k)) in
-      let after = on (t + 1) (omega (arith, h)) (omega (arith, k)) in
-      b ((turned-even s f t (omega (arith, h))).0 (omega (arith, ints, h, k, before, on t (omega (arith, h)) (omega (arith, k)), after)))
-  even-between false r u v a t h k b =
-      let on : (n : ℕ) → u ≤ n → n ≤ v → f n ≡ f u = λ n. flat-between f r u v n a in
-      let before = on (t - 1) (omega (arith, h)) (omega (arith, k)) in
-      let after = on (t + 1) (omega (arith, h)) (omega (arith, k)) in
-      b ((turned-even s f t (omega (arith, h))).0 (omega (arith, ints, h, k, before, on t (omega (arith, h)) (omega (arith, k)), after)))
-
-module _ (ws : List (List Break)) where
-  flat-straight : (s : Side) → Rises (rise_at s ws) → (u v : ℕ) → u ≤ v → IsAlong (rise_at s ws) false u v → IsStraight (scaffold_at s ws) u v
-  flat-straight side.Left r u v o a t h k =
-      let way = toward-dives (scaffold_at side.Left ws u) (scaffold_at side.Left ws v) (v - u) (t - u) (omega (arith, ints, o, a)) (omega (arith, k)) in
-      omega (arith, ints, h, way, flat-between (rise_at side.Left ws) r u v t a h k)
-  flat-straight side.Right r u v o a t h k =
-      let way = toward-climbs (scaffold_at side.Right ws u) (scaffold_at side.Right ws v) (v - u) (t - u) (omega (arith, ints, o, a)) (omega (arith, k)) in
-      omega (arith, ints, h, way, flat-between (rise_at side.Right ws) r u v t a h k)
-
-  steep-straight : (s : Side) → Rises (rise_at s ws) → (u v : ℕ) → u ≤ v → IsAlong (rise_at s ws) true u v → IsStraight (scaffold_at s ws) u v
-  steep-straight side.Left r u v o a t h k = omega (arith, ints, o, h, toward-same (scaffold_at side.Left ws u) (scaffold_at side.Left ws v) (t - u) (omega (arith, ints, o, a)), steep-between (rise_at side.Left ws) r u v t a h k)
-  steep-straight side.Right r u v o a t h k = omega (arith, ints, o, h, toward-same (scaffold_at side.Right ws u) (scaffold_at side.Right ws v) (t - u) (omega (arith, ints, o, a)), steep-between (rise_at side.Right ws) r u v t a h k)
-
-  pub along-straight : (s : Side) (rising : Bool) → Rises (rise_at s ws) → (u v : ℕ) → u ≤ v → IsAlong (rise_at s ws) rising u v → IsStraight (scaffold_at s ws) u v
-  along-straight s true = steep-straight s
-  along-straight s false = flat-straight s
+      let here = on t (omega (arith, h)) (omega (arith, k)) in
+      b ((turned-even s f t (omega (arith, h))).0 ((along-even f rising u t h before here).0
+      (on (t + 1) (omega (arith, h)) (omega (arith, k)))))
 
 -- Between neighbouring break points a wall is straight, and the greatest of walls that rise stays and then rises.
 -- from u to v the line stays, rises all the way or falls all the way
@@ -186,11 +172,12 @@ toward-slope x y p u v o = by_lt_z x y
 from-slope : (b : Break) (bs : List Break) (u v : ℕ) → Reaches b bs → b.at ≤ u → u ≤ v → IsClear u v (b ∷ bs) → IsSlope (from b bs) u v
 unfolding from
 from-slope b [] u v r p o k = stays (λ t _ _. refl)
-from-slope b (c ∷ bs) u v r p o k = at (k 1 (omega arith)) (λ l. from-slope c bs u v r.2 l o (λ j h. k (suc j) (omega (arith, h))))
-  where
-    at : (c.at ≤ u) ⊎ (v ≤ c.at) → (c.at ≤ u → IsSlope (from c bs) u v) → IsSlope (from b (c ∷ bs)) u v
-    at (inl l) f = slope-same (from c bs) (from b (c ∷ bs)) u v o (λ t h _. at-after t c.at _ _ (omega (arith, h, l))) (f l)
-    at (inr l) f = slope-same (λ t. toward b.value c.value (t - b.at)) (from b (c ∷ bs)) u v o (λ t _ h. from-piece b c bs t r (omega (arith, h, l))) (toward-slope b.value c.value b.at u v p)
+from-slope b (c ∷ bs) u v r p o k = elim (k 1 (omega arith)) [
+  | inl l ↦ slope-same (from c bs) (from b (c ∷ bs)) u v o (λ t h _. at-after t c.at _ _ (omega (arith, h, l)))
+      (from-slope c bs u v r.2 l o (λ j h. k (suc j) (omega (arith, h))))
+  | inr l ↦ slope-same (λ t. toward b.value c.value (t - b.at)) (from b (c ∷ bs)) u v o
+      (λ t _ h. from-piece b c bs t r (omega (arith, h, l))) (toward-slope b.value c.value b.at u v p)
+]
 
 -- before its first break point a wall stays too
 from-before : (b : Break) (bs : List Break) (t : ℕ) → Reaches b bs → t ≤ b.at → from b bs t ≡ b.value
@@ -201,11 +188,10 @@ from-before b (c ∷ bs) t r h = let z : t - b.at ≡ 0 = omega (arith, h) in at
 wall-slope : (w : List Break) (u v : ℕ) → IsPath w → u ≤ v → IsClear u v w → IsSlope (wall_at w) u v
 unfolding wall_at
 wall-slope [] u v r o k = stays (λ t _ _. refl)
-wall-slope (b ∷ bs) u v r o k = at (k 0 (omega arith))
-  where
-    at : (b.at ≤ u) ⊎ (v ≤ b.at) → IsSlope (from b bs) u v
-    at (inl l) = from-slope b bs u v r l o k
-    at (inr l) = stays (λ t h m. from-before b bs t r (omega (arith, m, l)) ∙ sym (from-before b bs u r (omega (arith, o, l))))
+wall-slope (b ∷ bs) u v r o k = elim (k 0 (omega arith)) [
+  | inl l ↦ from-slope b bs u v r l o k
+  | inr l ↦ stays (λ t h m. from-before b bs t r (omega (arith, m, l)) ∙ sym (from-before b bs u r (omega (arith, o, l))))
+]
 
 -- from u to v the line stays, and then rises to the end
 abbrev pub IsHinge : (ℕ → ℤ) → ℕ → ℕ → Type 0
@@ -220,6 +206,40 @@ slope-turned side.Right f u v (stays a) = stays (λ t h k. ap neg_ℤ (a t h k))
 slope-turned side.Right f u v (climbs a) = falls (λ t h k. omega (arith, ints, a t h k))
 slope-turned side.Right f u v (falls a) = climbs (λ t h k. omega (arith, ints, a t h k))
 
+-- a line of one slope is straight to each place before the end
+slope-straight : (f : ℕ → ℤ) (u v w : ℕ) → u ≤ w → w ≤ v → IsSlope f u v → IsStraight f u w
+slope-straight f u v w o p (stays a) t h k = a t h (omega (arith, k, p)) ∙ sym (toward-same (f u) (f w) (t - u) (a w o p))
+slope-straight f u v w o p (climbs a) t h k =
+    a t h (omega (arith, k, p)) ∙ sym (toward-climbs (f u) (f w) (w - u) (t - u) (a w o p) (omega (arith, k)))
+slope-straight f u v w o p (falls a) t h k =
+    a t h (omega (arith, k, p)) ∙ sym (toward-dives (f u) (f w) (w - u) (t - u) (a w o p) (omega (arith, k)))
+
+pub straight-short : (f : ℕ → ℤ) (u v w : ℕ) → u ≤ w → w ≤ v → IsStraight f u v → IsStraight f u w
+straight-short f u v w o p s =
+    slope-straight f u v w o p
+    (slope-same (λ t. toward (f u) (f v) (t - u)) f u v (omega (arith, o, p)) s (toward-slope (f u) (f v) u u v (omega arith)))
+
+-- and so is a scaffold where its rise goes on as it began
+along-straight : (s : Side) (f : ℕ → ℤ) (rising : Bool) → Rises f → (u v : ℕ) → u ≤ v → IsAlong f rising u v
+    → IsStraight (λ t. turned s (f t -ℤ pos t)) u v
+along-straight s f rising r u v o a =
+    slope-straight (λ t. turned s (f t -ℤ pos t)) u v v o (omega arith)
+    (slope-turned s (λ t. f t -ℤ pos t) u v (slope rising (λ t. along-between f r rising u v t a)))
+  where
+    slope : (rising : Bool) → ((t : ℕ) → u ≤ t → t ≤ v → IsAlong f rising u t) → IsSlope (λ t. f t -ℤ pos t) u v
+    slope true on = stays (λ t h k. omega (arith, ints, h, on t h k))
+    slope false on = falls (λ t h k. omega (arith, ints, h, on t h k))
+
+-- where a line goes up to v as it began, and no further unless v is the end, its scaffold is straight to v, bends there, and not before
+pub goes-straight : (s : Side) (f : ℕ → ℤ) (rising : Bool) → Rises f → (u v end : ℕ) → u < v → IsAlong f rising u v
+    → (v < end → IsAlong f rising u (v + 1) → ⊥) → IsStraight (λ t. turned s (f t -ℤ pos t)) u v
+    × (v < end → Bends (λ t. turned s (f t -ℤ pos t)) v) × ((t : ℕ) → u < t → t < v → Bends (λ t. turned s (f t -ℤ pos t)) t → ⊥)
+goes-straight s f rising r u v end h a last = (
+  along-straight s f rising r u v (omega (arith, h)) a,
+  λ l. last-bends s f rising r u v h a (last l),
+  even-between s f rising r u v a,
+)
+
 slope-hinge : (f : ℕ → ℤ) (u v : ℕ) → u < v → Rises f → IsSlope f u v → IsHinge f u v
 slope-hinge f u v o r (stays a) t h k = omega (arith, ints, clamps, a t h k, a v (omega (arith, o)) (omega arith))
 slope-hinge f u v o r (climbs a) t h k =
@@ -232,13 +252,8 @@ module _ (s : Side) (u v : ℕ) (o : u < v) where
   wall-hinge w a c = slope-hinge (λ t. turned_wall s t w) u v o a.rises (slope-turned s (wall_at w) u v (wall-slope w u v a.path (omega (arith, o)) c))
 
   pub rise-hinge : (ws : List (List Break)) → AreSteady s ws → EachWall (IsClear u v) ws → IsHinge (rise_at s ws) u v
-  unfolding greatest
-  rise-hinge [] a c t h k = omega (arith, ints, clamps)
-  rise-hinge (w ∷ []) a c t h k = wall-hinge w (a 0 (omega arith)) (c 0 (omega arith)) t h k
-  rise-hinge (w ∷ x ∷ ws) a c t h k =
-      let first = wall-hinge w (a 0 (omega arith)) (c 0 (omega arith)) t h k in
-      let others = rise-hinge (x ∷ ws) (λ j l. a (suc j) (omega (arith, l))) (λ j l. c (suc j) (omega (arith, l))) t h k in
-      ap₂ int_max first others ∙ max-hinges _ _ _ _ (v - t)
+  rise-hinge ws a c = greatest-of (λ g. IsHinge g u v) (λ w t. turned_wall s t w) ws (λ t h k. omega (arith, ints, clamps))
+      (λ g h p q t i k. ap₂ int_max (p t i k) (q t i k) ∙ max-hinges _ _ _ _ (v - t)) (λ j l. wall-hinge _ (a j l) (c j l))
 
 -- where a line that rises stops going on, between two such places
 module _ (f : ℕ → ℤ) (rises : Rises f) (start u v : ℕ) (order : start ≤ u) (apart : u < v) (hinge : IsHinge f u v) where
@@ -246,23 +261,19 @@ module _ (f : ℕ → ℤ) (rises : Rises f) (start u v : ℕ) (order : start �
   steep-last true e a n b = n (omega (arith, ints, clamps, order, apart, a, b, hinge (u + 1) (omega arith) (omega (arith, apart)), rises-slow f rises start v (omega (arith, order, apart))))
   steep-last false e _ _ _ = absurd (true≢false (sym e))
 
-  pub flat-last : (b : Bool) (r : ℕ) → b ≡ false → IsAlong f b start u → (IsAlong f b start v → ⊥) → pos r ≡ pos v -ℤ (f v -ℤ f start) → (u ≤ r) × (r < v) × IsAlong f b start r × (IsAlong f b start (r + 1) → ⊥)
+  pub flat-last : (b : Bool) (r : ℕ) → b ≡ false → IsAlong f b start u → (IsAlong f b start v → ⊥) → pos r ≡ pos v -ℤ (f v -ℤ f start)
+      → (u ≤ r) × (r < v) × IsAlong f b start r × (IsAlong f b start (r + 1) → ⊥)
   flat-last true r e _ _ _ = absurd (true≢false e)
-  flat-last false r _ a n e = (
-    low,
-    high,
-    omega (arith, ints, clamps, a, e, low, high, hinge r low (omega (arith, high))),
-    λ b. omega (arith, ints, clamps, a, b, e, low, high, hinge (r + 1) (omega (arith, low)) (omega (arith, high))),
-  )
-    where
-      low : u ≤ r
-      low = omega (arith, ints, a, e, apart, rises-slow f rises u v (omega (arith, apart)))
-
-      above : f start <ℤ f v
-      above = by_lt_z (f start) (f v) (λ l. l) (λ l. absurd (n (omega (arith, ints, l, rises-far f rises start v (omega (arith, order, apart))))))
-
-      high : r < v
-      high = omega (arith, ints, e, above)
+  flat-last false r _ a n e =
+      let above : f start <ℤ f v = by_lt_z (f start) (f v) (λ l. l)
+      (λ l. absurd (n (omega (arith, ints, l, rises-far f rises start v (omega (arith, order, apart)))))) in
+      let low : u ≤ r = omega (arith, ints, a, e, apart, rises-slow f rises u v (omega (arith, apart))) in
+      let high : r < v = omega (arith, ints, e, above) in (
+        low,
+        high,
+        omega (arith, ints, clamps, a, e, low, high, hinge r low (omega (arith, high))),
+        λ b. omega (arith, ints, clamps, a, b, e, low, high, hinge (r + 1) (omega (arith, low)) (omega (arith, high))),
+      )
 
 -- Where two straight lines meet, of which one doesn't rise and the other doesn't fall.
 module _ (f : ℕ → ℤ) (u v : ℕ) (straight : IsStraight f u v) where
@@ -279,19 +290,18 @@ module _ (L R : ℕ → ℤ) (u v : ℕ) (order : u < v) (left : IsStraight L u 
   -- lines that come `near n` nearer in n steps first meet after the d steps that this takes
   crosses : (near : ℕ → ℕ) → ((t : ℕ) → u ≤ t → t ≤ v → (L t -ℤ R t) ≡ (L u -ℤ R u) -ℤ pos (near (t - u)))
       → (gap d m : ℕ) → pos gap ≡ L u -ℤ R u → gap ≤ near d → ((n : ℕ) → n < d → near n < gap) → m ≡ u + d → (m ≤ v) × IsCrossing L R u m
-  crosses near nearer gap d m g far short i = (
-    within,
-    record {
-      met = (let e : m - u ≡ d = omega (arith, i) in omega (arith, ints, g, far, ap near e, nearer m (omega (arith, i)) within));
-      apart = λ t h k. omega (arith, ints, g, nearer t h (omega (arith, k, within)), short (t - u) (omega (arith, h, k, i)));
-    },
-  )
-    where
-      within : m ≤ v
-      within = elim (cases_lt v m) as (λ _. m ≤ v) [
+  crosses near nearer gap d m g far short i =
+      let within : m ≤ v = elim (cases_lt v m) as (λ _. m ≤ v) [
         | inl l ↦ absurd (omega (arith, ints, met, g, nearer v (omega (arith, order)) (omega arith), short (v - u) (omega (arith, order, l, i))))
         | inr l ↦ l
-      ]
+      ] in
+      let steps : m - u ≡ d = omega (arith, i) in (
+        within,
+        record {
+          met = omega (arith, ints, g, far, ap near steps, nearer m (omega (arith, i)) within);
+          apart = λ t h k. omega (arith, ints, g, nearer t h (omega (arith, k, within)), short (t - u) (omega (arith, h, k, i)));
+        },
+      )
 
   -- where both lines move they come nearer by 2 a step
   pub both-cross : (gap d m : ℕ) → L v <ℤ L u → R u <ℤ R v → pos gap ≡ L u -ℤ R u → d ≡ (gap + 1) / 2 → m ≡ u + d → (m ≤ v) × IsCrossing L R u m
@@ -300,14 +310,11 @@ module _ (L R : ℕ → ℤ) (u v : ℕ) (order : u < v) (left : IsStraight L u 
 
   -- where one line moves they come nearer by 1 a step
   pub one-crosses : (gap m : ℕ) → L v ≤ℤ L u → R u ≤ℤ R v → (L v <ℤ L u → R u <ℤ R v → ⊥) → pos gap ≡ L u -ℤ R u → m ≡ u + gap → (m ≤ v) × IsCrossing L R u m
-  one-crosses gap m p q n g i = crosses (λ n. n) nearer gap gap m g (omega arith) (λ n l. l) i
-    where
-      nearer : (t : ℕ) → u ≤ t → t ≤ v → (L t -ℤ R t) ≡ (L u -ℤ R u) -ℤ pos (t - u)
-      nearer t h k = by_lt_z (L v) (L u)
-          (λ a. by_lt_z (R u) (R v) (λ b. absurd (n a b))
-          (λ b. omega (arith, ints, falling L u v left a t h k, staying R u v right (omega (arith, ints, b, q)) t h k)))
-          (λ a. by_lt_z (R u) (R v) (λ b. omega (arith, ints, staying L u v left (omega (arith, ints, a, p)) t h k, rising R u v right b t h k))
-          (λ b. absurd (omega (arith, ints, a, b, apart, met))))
+  one-crosses gap m p q n g i = crosses (λ n. n) (λ t h k. by_lt_z (L v) (L u)
+      (λ a. by_lt_z (R u) (R v) (λ b. absurd (n a b))
+      (λ b. omega (arith, ints, falling L u v left a t h k, staying R u v right (omega (arith, ints, b, q)) t h k)))
+      (λ a. by_lt_z (R u) (R v) (λ b. omega (arith, ints, staying L u v left (omega (arith, ints, a, p)) t h k, rising R u v right b t h k))
+      (λ b. absurd (omega (arith, ints, a, b, apart, met))))) gap gap m g (omega arith) (λ n l. l) i
 
 left-line : (s : Scaffold) → s.side ≡ side.Left → (t : ℕ) → line s t ≡ rise s t -ℤ pos t
 left-line s e t = ap (λ d. turned d (rise s t -ℤ pos t)) e
@@ -353,14 +360,3 @@ apart-crossing L R u m a c v h = elim (cases_lt v u) [
   | inl l ↦ a v l
   | inr l ↦ c.apart v l h
 ]
-
--- a straight line is straight to each place before the end
-pub straight-short : (f : ℕ → ℤ) (u v w : ℕ) → u ≤ w → w ≤ v → IsStraight f u v → IsStraight f u w
-straight-short f u v w first last s t h k = let before : t ≤ v = omega (arith, k, last) in
-    by_lt_z (f u) (f v)
-    (λ l. (let way = toward-climbs (f u) (f w) (w - u) (t - u) (omega (arith, ints, rising f u v s l w first last)) (omega (arith, k)) in
-    omega (arith, ints, rising f u v s l t h before, way)))
-    (λ l. by_lt_z (f v) (f u)
-    (λ m. omega (arith, ints, falling f u v s m t h before, toward-dives (f u) (f w) (w - u) (t - u) (falling f u v s m w first last) (omega (arith, k))))
-    (λ m. (let e : f v ≡ f u = omega (arith, ints, l, m) in
-    staying f u v s e t h before ∙ sym (toward-same (f u) (f w) (t - u) (staying f u v s e w first last)))))

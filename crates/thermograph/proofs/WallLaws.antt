@@ -57,11 +57,11 @@ from-first b (c ∷ bs) r = let z : b.at - b.at ≡ 0 = omega arith in at-before
 -- up to the next break point the wall goes straight
 pub from-piece : (b c : Break) (bs : List Break) (t : ℕ) → Reaches b (c ∷ bs) → t ≤ c.at → from b (c ∷ bs) t ≡ toward b.value c.value (t - b.at)
 unfolding from
-from-piece b c bs t r h = at (below-or_at t c.at h)
-  where
-    at : (t < c.at) ⊎ (t ≡ c.at) → from b (c ∷ bs) t ≡ toward b.value c.value (t - b.at)
-    at (inl l) = at-before t c.at _ _ l
-    at (inr e) = at-after t c.at _ _ (omega (arith, e)) ∙ ap (from c bs) e ∙ from-first c bs r.2 ∙ sym r.1 ∙ ap (λ n. toward b.value c.value (n - b.at)) (sym e)
+from-piece b c bs t r h = elim (below-or_at t c.at h) [
+  | inl l ↦ at-before t c.at _ _ l
+  | inr e ↦ at-after t c.at _ _ (omega (arith, e)) ∙ ap (from c bs) e ∙ from-first c bs r.2 ∙ sym r.1
+      ∙ ap (λ n. toward b.value c.value (n - b.at)) (sym e)
+]
 
 abbrev pub last_of : Break → List Break → Break
 last_of b [] = b
@@ -186,25 +186,24 @@ pub tracing-push : (f : ℕ → ℤ) (end at next : ℕ) (xs ys : List Break) (c
 tracing-push f end at next _ ys c (tracing b bs z l r old now) i a h w e s n none = subst (IsTracing f end next) (sym i)
     (tracing b (bs ++ c ∷ []) z (ap (λ d. d.at) (last-push b bs c) ∙ a)
     (traces-push f b bs c r (omega (arith, l, a, h)) (e ∙ ap f (sym a)) (λ t p q. (s t (omega (arith, p, l)) (omega (arith, q, a)) ∙ ap₂ (λ u v. toward (f u) (f v) (t - u)) (sym l) (sym a))))
-    (λ t p q. (to t p q, from_bend t p q)) (λ p q. n q))
-  where
-    to : (t : ℕ) → 0 < t → t < next → IsBreakAt (b ∷ (bs ++ c ∷ [])) t → Bends f t
-    to t p q k = elim (break-of_push (b ∷ bs) c t k) [
-      | inl m ↦ elim (cases_lt t at) [
-        | inl g ↦ (old t p g).0 m
-        | inr g ↦ (let j : at ≡ t = omega (arith, g, break-early b bs t r.reaches m, l) in subst (Bends f) j (now (omega (arith, p, j)) (omega (arith, h, w))))
-      ]
-      | inr m ↦ absurd (omega (arith, m, a, q))
-    ]
-
-    from_bend : (t : ℕ) → 0 < t → t < next → Bends f t → IsBreakAt (b ∷ (bs ++ c ∷ [])) t
-    from_bend t p q k = elim (cases_lt t at) [
-      | inl g ↦ break-in_push (b ∷ bs) c t ((old t p g).1 k)
-      | inr g ↦ elim (cases_lt at t) [
-        | inl m ↦ absurd (none t m q k)
-        | inr m ↦ (let j : (last_of b bs).at ≡ t = omega (arith, g, m, l) in break-in_push (b ∷ bs) c t (subst (IsBreakAt (b ∷ bs)) j (last-is_break b bs)))
-      ]
-    ]
+    (λ t p q. (
+      λ k. elim (break-of_push (b ∷ bs) c t k) [
+        | inl m ↦ elim (cases_lt t at) [
+          | inl g ↦ (old t p g).0 m
+          | inr g ↦ (let j : at ≡ t = omega (arith, g, break-early b bs t r.reaches m, l) in
+              subst (Bends f) j (now (omega (arith, p, j)) (omega (arith, h, w))))
+        ]
+        | inr m ↦ absurd (omega (arith, m, a, q))
+      ],
+      λ k. elim (cases_lt t at) [
+        | inl g ↦ break-in_push (b ∷ bs) c t ((old t p g).1 k)
+        | inr g ↦ elim (cases_lt at t) [
+          | inl m ↦ absurd (none t m q k)
+          | inr m ↦ (let j : (last_of b bs).at ≡ t = omega (arith, g, m, l) in
+              break-in_push (b ∷ bs) c t (subst (IsBreakAt (b ∷ bs)) j (last-is_break b bs)))
+        ]
+      ],
+    )) (λ p q. n q))
 
 pub last-is : (b : Break) (bs : List Break) (d : Break) → get_or (b ∷ bs) (length bs) d ≡ last_of b bs
 last-is b [] d = refl
@@ -272,27 +271,25 @@ toward-twice x y d e n h = by_lt_z x y
     (λ m. omega (arith, ints, h, toward-down (x +ℤ x) (y +ℤ y) n (omega (arith, ints, m)), toward-down x y d m, toward-down x y e m))
     (λ m. omega (arith, ints, toward-same (x +ℤ x) (y +ℤ y) n (omega (arith, ints, l, m)), toward-same x y d (omega (arith, ints, l, m)), toward-same x y e (omega (arith, ints, l, m)))))
 
-from-even : (b : Break) (bs : List Break) (t : ℕ) → from (twice b) (doubled bs) (t + t) ≡ from b bs t +ℤ from b bs t
+-- at twice a place the wall is twice what it was there, and half-way between two places it is the sum of what it was at both
+from-sum : (b : Break) (bs : List Break) (t u n : ℕ) → Reaches b bs → n ≡ t + u → t ≤ u → u ≤ suc t
+    → from (twice b) (doubled bs) n ≡ from b bs t +ℤ from b bs u
 unfolding from
-from-even b [] t = refl
-from-even b (c ∷ bs) t = elim (cases_lt t c.at) [
-  | inl h ↦ at-before (t + t) (c.at + c.at) _ _ (omega (arith, h)) ∙ toward-twice b.value c.value (t - b.at) (t - b.at) _ (omega arith) ∙ sym (ap₂ ◌+ℤ◌ (at-before t c.at _ _ h) (at-before t c.at _ _ h))
-  | inr h ↦ at-after (t + t) (c.at + c.at) _ _ (omega (arith, h)) ∙ from-even c bs t ∙ sym (ap₂ ◌+ℤ◌ (at-after t c.at _ _ h) (at-after t c.at _ _ h))
-]
-
-from-odd : (b : Break) (bs : List Break) (t : ℕ) → Reaches b bs → from (twice b) (doubled bs) (suc (t + t)) ≡ from b bs t +ℤ from b bs (suc t)
-unfolding from
-from-odd b [] t r = refl
-from-odd b (c ∷ bs) t r = elim (cases_lt t c.at) [
-  | inl h ↦ at-before (suc (t + t)) (c.at + c.at) _ _ (omega (arith, h)) ∙ toward-twice b.value c.value (t - b.at) (suc t - b.at) _ (omega arith)
-      ∙ sym (ap₂ ◌+ℤ◌ (at-before t c.at _ _ h) (from-piece b c bs (suc t) r h))
-  | inr h ↦ at-after (suc (t + t)) (c.at + c.at) _ _ (omega (arith, h)) ∙ from-odd c bs t r.2 ∙ sym (ap₂ ◌+ℤ◌ (at-after t c.at _ _ h) (at-after (suc t) c.at _ _ (omega (arith, h))))
+from-sum b [] t u n r e p q = refl
+from-sum b (c ∷ bs) t u n r e p q = elim (cases_lt t c.at) [
+  | inl h ↦ at-before n (c.at + c.at) _ _ (omega (arith, e, h, q)) ∙ toward-twice b.value c.value (t - b.at) (u - b.at) _
+      (omega (arith, e, p, q)) ∙ sym (ap₂ ◌+ℤ◌ (at-before t c.at _ _ h) (from-piece b c bs u r (omega (arith, h, q))))
+  | inr h ↦ at-after n (c.at + c.at) _ _ (omega (arith, e, h, p)) ∙ from-sum c bs t u n r.2 e p q
+      ∙ sym (ap₂ ◌+ℤ◌ (at-after t c.at _ _ h) (at-after u c.at _ _ (omega (arith, h, p))))
 ]
 
 wall-doubles : (bs : List Break) → IsPath bs → Doubles (wall_at bs) (wall_at (doubled bs))
 unfolding wall_at
 wall-doubles [] r = record { at_even = λ t. refl; at_odd = λ t. refl }
-wall-doubles (b ∷ bs) r = record { at_even = λ t. from-even b bs t; at_odd = λ t. from-odd b bs t r }
+wall-doubles (b ∷ bs) r = record {
+  at_even = λ t. from-sum b bs t t (t + t) r refl (omega arith) (omega arith);
+  at_odd = λ t. from-sum b bs t (suc t) (suc (t + t)) r (omega arith) (omega arith) (omega arith);
+}
 
 wall-finer : (bs : List Break) → IsPath bs → (t : ℕ) → finer (wall_at bs) t ≡ wall_at (doubled bs) t
 wall-finer bs r t = at t (parity t)

@@ -1,6 +1,6 @@
 use Rattle.std.proofs.Common.{refl}
 use Rattle.std.proofs.lemmas.Bool.{false≢true}
-use Rattle.game_store.proofs.Interned.{at_most, is_above}
+use Rattle.game_store.proofs.StoreLaws.{at_most, is_above}
 use Rattle.game_canon.proofs.ComparisonLaws.{number_between, number_under, number_over}
 use Rattle.game_canon.proofs.at_most.by_numbers.Goals as goal
 

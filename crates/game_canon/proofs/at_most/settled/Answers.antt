@@ -2,7 +2,7 @@ use Rattle.std.proofs.Common.{refl, subst}
 use Rattle.short_games.specs.Order.{◌≤ᵍ◌}
 use Rattle.short_games.specs.Tree.{tree_at}
 use Rattle.short_games.proofs.OrderLaws.{le-refl}
-use Rattle.game_store.proofs.Interned.{at_most}
+use Rattle.game_store.proofs.StoreLaws.{at_most}
 use Rattle.game_canon.specs.inner.Games.{trees}
 use Rattle.game_canon.proofs.ComparisonLaws.{first_number, second_number, through}
 use Rattle.game_canon.proofs.at_most.settled.Goals as goal

@@ -2,7 +2,7 @@ use Rattle.std.proofs.Common.{get_or, take, ◌++◌, [], ◌∷◌, List, ℕ, 
 use Rattle.std.proofs.lemmas.List.{take_more}
 use Rattle.std.proofs.lemmas.Bool.{both_ways}
 use Rattle.short_games.specs.Tree.{tree_at}
-use Rattle.game_store.proofs.Values.{pick-has}
+use Rattle.game_store.proofs.EntryLaws.{pick-has}
 use Rattle.game_canon.specs.inner.Sides.{AreBest, Covers}
 use Rattle.game_canon.proofs.GameLaws.{none-list}
 use Rattle.game_canon.proofs.SideLaws.{best-skip, best-push, NearUncovered}

@@ -1,4 +1,4 @@
-use Rattle.game_store.proofs.Values.{pick-has}
+use Rattle.game_store.proofs.EntryLaws.{pick-has}
 use Rattle.game_canon.proofs.reversal.first_covered.Goals as goal
 
 pub returns-then-branch-clause-found : goal.returns-then-branch-clause-found

@@ -1,6 +1,6 @@
 use Rattle.std.proofs.Common.{refl, sym, ◌∙◌}
 use Rattle.std.proofs.lemmas.Bool.{false≢true}
-use Rattle.game_store.proofs.Interned.{at_most}
+use Rattle.game_store.proofs.StoreLaws.{at_most}
 use Rattle.game_canon.proofs.SumBoundLaws.{ceilings-hold, floors-hold, numbers-hold}
 use Rattle.game_canon.proofs.sums_at_most.by_bounds.Goals as goal
 

@@ -3,7 +3,7 @@ use Rattle.std.proofs.lemmas.Int.{ints}
 use Rattle.dyadic_num.proofs.Simplest.{along}
 use Rattle.short_games.specs.Threshold.{IsFloor, IsCeiling}
 use Rattle.game_store.specs.Meaning.{listed}
-use Rattle.game_store.proofs.Interned.{at_most}
+use Rattle.game_store.proofs.StoreLaws.{at_most}
 use Rattle.game_canon.specs.inner.Bounds.{lower, upper}
 use Rattle.game_canon.proofs.SimplestNumberLaws.{no-number-fits, floor-there, ceiling-there, worth}
 use Rattle.game_canon.proofs.thresholds.number_value.Goals as goal

@@ -2,7 +2,7 @@ use Rattle.std.proofs.Common.{sym, ap, ◌∙◌, subst}
 use Rattle.short_games.specs.Tree.{tree_at}
 use Rattle.short_games.proofs.StopLaws.{goes_with-left}
 use Rattle.game_store.specs.inner.Places.{IsPlaced, floor_at, ceiling_at}
-use Rattle.game_store.proofs.Interned.{canonical-at, holds, in_range, placed-at}
+use Rattle.game_store.proofs.StoreLaws.{canonical-at, holds, in_range, placed-at}
 use Rattle.game_store.proofs.Store.ceiling.Goals as goal
 
 pub read_ceiling-requires : goal.read_ceiling-requires

@@ -2,7 +2,7 @@ use Rattle.std.proofs.Common.{sym, ap, ◌∙◌, subst}
 use Rattle.short_games.specs.Tree.{tree_at}
 use Rattle.short_games.proofs.StopLaws.{goes_with-right}
 use Rattle.game_store.specs.inner.Places.{IsPlaced, floor_at, ceiling_at}
-use Rattle.game_store.proofs.Interned.{canonical-at, holds, in_range, placed-at}
+use Rattle.game_store.proofs.StoreLaws.{canonical-at, holds, in_range, placed-at}
 use Rattle.game_store.proofs.Store.floor.Goals as goal
 
 pub read_floor-requires : goal.read_floor-requires

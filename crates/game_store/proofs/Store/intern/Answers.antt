@@ -1,43 +1,37 @@
-use Rattle.std.proofs.Common.{arith, rules, refl, ◌≡◌, length, [], ◌∷◌, ◌++◌, sym, ◌∙◌, ap, ap₂, nat_eq, cond, Some, ℕ, List}
+use Rattle.std.proofs.Common.{arith, refl, [], ◌∷◌, ◌++◌, sym, ◌∙◌, ap, ap₂, length, nat_eq, ℕ, List}
 use Rattle.std.proofs.lemmas.Int.{ints}
 use Rattle.std.specs.HashMap.{get}
-use Rattle.std.specs.Map.{lookup}
 use Rattle.game_store.specs.Meaning.{form}
 use Rattle.game_store.specs.Meaning.Wanted.{options}
-use Rattle.game_store.proofs.Values.{extends-push, last-value, MayKeep}
-use Rattle.game_store.proofs.Interned.{floor-small, found, Holds, holds, holds-options, ids-below, length-trees, options-placed, slot-behind}
+use Rattle.game_store.proofs.EntryLaws.{extends-push, last-value, MayKeep}
+use Rattle.game_store.proofs.StoreLaws.{floor-small, found, Holds, holds, holds-map, holds-options, ids-below, length-trees, options-placed}
 use Rattle.game_store.proofs.Store.intern.Goals as goal
 
 pub returns-in-Some-clause-value : goal.returns-in-Some-clause-value
 returns-in-Some-clause-value c = found (holds c.self.invariant c.self.view_is) c.in-Some.id (options c.args.left.now c.args.right.now) (rw c.deref.ensures.value at c.in-Some.ensures.found)
 
-last_id : (c : goal.After-drop-options-2) → c.len-id.result ≡ length c.self.inside.slots.items
-last_id c = search rules
-
-may : (c : goal.After-drop-options-2) → MayKeep c.args.self.now (options c.args.left.now c.args.right.now)
-may c = record { canonical = c.requires.canonical; lists = (c.requires.left_ids, c.requires.right_ids, c.requires.left_ascends, c.requires.right_ascends, c.requires.no_number, c.requires.left_some, c.requires.right_some) }
-
-one_list : (c : goal.After-drop-options-2) → c.push_reserved-place.new.self.lists ≡ c.self.inside.pool.lists ++ (c.args.left.now ++ c.args.right.now) ∷ []
-one_list c = c.push_reserved-place.ensures.lists ∙ ap₂ (λ (lists : List (List ℕ)) (is : List ℕ). lists ++ is ∷ []) c.in_ok-reserve-3.ensures.lists (c.deref-4.ensures.value ∙ c.in_ok-options.ensures)
-
-full : (c : goal.After-drop-options-2) → Holds (c.args.self.now ++ form c.args.self.now c.args.left.now c.args.right.now ∷ []) c.push_reserved-place.new.self.lists c.push_reserved.new.self.items (get nat_eq c.insert.new.self)
+full : (c : goal.After-drop-options-2) → Holds (c.args.self.now ++ form c.args.self.now c.args.left.now c.args.right.now ∷ []) c.push_reserved.new.self.lists c.enter.new.slots.items (get nat_eq c.enter.new.latest)
 full c =
     let here = holds c.self.invariant c.self.view_is in
-    holds-options here _ _ (get nat_eq c.insert.new.self) c.args.left.now c.args.right.now c.push_reserved-place.result (length c.args.left.now) _
-    (may c)
-    (options-placed here _ _ c.least_ceiling.result c.greatest_floor.result (may c) (rw c.deref-2.ensures.value at c.least_ceiling.ensures)
+    let may : MayKeep c.args.self.now (options c.args.left.now c.args.right.now) = (let q = c.requires in record {
+      canonical = q.canonical;
+      lists = (q.left_ids, q.right_ids, q.left_ascends, q.right_ascends, q.no_number, q.left_some, q.right_some);
+    }) in
+    holds-options here _ _ (get nat_eq c.enter.new.latest) c.args.left.now c.args.right.now _ (length c.args.left.now) _ may
+    (options-placed here _ _ c.least_ceiling.result c.greatest_floor.result may (rw c.deref-2.ensures.value at c.least_ceiling.ensures)
     (rw c.deref-3.ensures.value at c.greatest_floor.ensures) _ _ c.just_below-floor.ensures c.just_above-ceiling.ensures)
     (rw c.deref.ensures.value at c.in_default.ensures.absent)
-    (one_list c) refl (c.push_reserved-place.ensures.place ∙ ap (λ (lists : List (List ℕ)). length lists) c.in_ok-reserve-3.ensures.lists) refl
-    (slot-behind _ _ _ _ c.push_reserved.ensures.items c.in_ok-reserve-2.ensures.items)
+    (c.push_reserved.ensures.lists ∙ ap₂ (λ (lists : List (List ℕ)) (is : List ℕ). lists ++ is ∷ []) c.in_ok-reserve.ensures.lists (c.deref-4.ensures.value ∙ c.in_ok-options.ensures))
+    refl (c.len-2.ensures.count ∙ ap length c.in_ok-reserve.ensures.lists) refl
+    c.in_ok-id.ensures.slots
     (rw (← c.fingerprint_options-fingerprint.ensures) (c.copied-before.ensures ∙ c.get.ensures.value))
-    (λ q. rw (← c.fingerprint_options-fingerprint.ensures, ← last_id c) (c.in_ok-insert.ensures.updates.0 q ∙ ap (cond (nat_eq c.fingerprint_options-fingerprint.result q) (Some c.len-id.result)) (ap (lookup (nat_eq q)) c.reserve.ensures.entries)))
+    (rw c.fingerprint_options-fingerprint.ensures at c.in_ok-id.ensures.latest)
 
 pub invariant_of-self-2 : goal.invariant_of-self-2
 invariant_of-self-2 c = (full c).all
 
 pub returns-clause-value : goal.returns-clause-value
-returns-clause-value c = last-value _ _ _ _ (last_id c ∙ sym (length-trees (holds c.self.invariant c.self.view_is))) (full c).values_are
+returns-clause-value c = last-value _ _ _ _ (c.in_ok-id.ensures.id ∙ sym (length-trees (holds c.self.invariant c.self.view_is))) (full c).values_are
 
 pub returns-clause-kept : goal.returns-clause-kept
 returns-clause-kept c = extends-push _ _ _ (full c).values_are
@@ -52,3 +46,7 @@ pub just_above-ceiling-requires : goal.just_above-ceiling-requires
 just_above-ceiling-requires c =
     let r = floor-small (holds c.self.invariant c.self.view_is) _ _ c.requires.left_ids (rw c.deref-3.ensures.value at c.greatest_floor.ensures) in
     omega (arith, ints, r.0, r.1)
+
+pub invariant_of-self-in_err-id : goal.invariant_of-self-in_err-id
+invariant_of-self-in_err-id c = rw (c.in_err-id.ensures.slots_kept, c.in_ok-reserve.ensures.lists)
+    (holds-map (holds c.self.invariant c.self.view_is) _ c.in_err-id.ensures.latest_kept).all

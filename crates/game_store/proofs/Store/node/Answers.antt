@@ -1,8 +1,8 @@
 use Rattle.std.proofs.Common.{◌∙◌, ap}
 use Rattle.game_store.specs.inner.Meaning.{held}
 use Rattle.game_store.specs.Forms.{wanted}
-use Rattle.game_store.proofs.Values.{entry-at}
-use Rattle.game_store.proofs.Interned.{holds, in_range, means}
+use Rattle.game_store.proofs.EntryLaws.{entry-at}
+use Rattle.game_store.proofs.StoreLaws.{holds, in_range, means}
 use Rattle.game_store.proofs.Store.node.Goals as goal
 
 pub read_slot-requires : goal.read_slot-requires

@@ -1,5 +1,5 @@
 use Rattle.std.proofs.Common.{arith}
-use Rattle.game_store.proofs.Interned.{greatest_step}
+use Rattle.game_store.proofs.StoreLaws.{greatest_step}
 use Rattle.game_store.proofs.bounds.greatest_floor.Goals as goal
 
 pub loop-id-preserved : goal.loop-id-preserved

@@ -1,4 +1,4 @@
-use Rattle.game_store.proofs.Interned.{GreatestSoFar}
+use Rattle.game_store.proofs.StoreLaws.{GreatestSoFar}
 use Rattle.game_store.proofs.bounds.greatest_floor.Given as goal
 
 abbrev pub invariant-loop-id : goal.invariant-loop-id

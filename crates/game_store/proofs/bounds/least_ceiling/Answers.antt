@@ -1,5 +1,5 @@
 use Rattle.std.proofs.Common.{arith}
-use Rattle.game_store.proofs.Interned.{least_step}
+use Rattle.game_store.proofs.StoreLaws.{least_step}
 use Rattle.game_store.proofs.bounds.least_ceiling.Goals as goal
 
 pub loop-id-preserved : goal.loop-id-preserved

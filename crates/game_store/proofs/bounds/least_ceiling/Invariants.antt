@@ -1,4 +1,4 @@
-use Rattle.game_store.proofs.Interned.{LeastSoFar}
+use Rattle.game_store.proofs.StoreLaws.{LeastSoFar}
 use Rattle.game_store.proofs.bounds.least_ceiling.Given as goal
 
 abbrev pub invariant-loop-id : goal.invariant-loop-id

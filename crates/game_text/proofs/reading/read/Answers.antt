@@ -1,5 +1,5 @@
 use Rattle.std.proofs.Common.{arith, refl}
-use Rattle.game_store.proofs.Values.{extends-same}
+use Rattle.game_store.proofs.EntryLaws.{extends-same}
 use Rattle.game_text.proofs.ReadingPlaces.{reading-start, ended-named, ended-cut}
 use Rattle.game_text.proofs.ReadingGoals.{ended-ok, ended-err}
 use Rattle.game_text.proofs.reading.read.Goals as goal

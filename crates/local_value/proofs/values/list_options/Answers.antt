@@ -3,11 +3,12 @@ use Rattle.local_value.specs.inner.Valuing.{most_units}
 use Rattle.local_value.proofs.OptionsLaws.{listing-add, listing-done, both-same, step-noted, step-within}
 use Rattle.local_value.proofs.values.list_options.Goals as goal
 
-pub value_after-requires-clause-noted : goal.value_after-requires-clause-noted
-value_after-requires-clause-noted c = step-noted c.loop-edge.invariant.left c.loop-edge-test.true c.requires.noted
-
-pub value_after-requires-clause-small : goal.value_after-requires-clause-small
-value_after-requires-clause-small c = step-within c.loop-edge.invariant.left c.loop-edge-test.true c.requires.noted most_units c.requires.small
+pub value_after-requires : goal.value_after-requires
+value_after-requires c = let w = c.loop-edge.invariant in record {
+  noted = step-noted w.left c.loop-edge-test.true c.requires.noted;
+  small = step-within w.left c.loop-edge-test.true c.requires.noted most_units c.requires.small;
+  sums = w.sums;
+}
 
 pub loop-edge-preserved : goal.loop-edge-preserved
 loop-edge-preserved c =

@@ -15,13 +15,12 @@ valuing-init c = record {
   memo = c.new-memo.ensures c.args.store.now c.args.parts_limit;
 }
 
-pub value_of-requires-clause-noted : goal.value_of-requires-clause-noted
-value_of-requires-clause-noted c = let (r, of) = c.requires.graph in
-    (call of (c.valuing.invariant.pass r of) c.order-place-items.ensures c.edges-edges.ensures c.deref.ensures.value c.valuing-test.true).noted
-
-pub value_of-requires-clause-small : goal.value_of-requires-clause-small
-value_of-requires-clause-small c = let (r, of) = c.requires.graph in
-    (call of (c.valuing.invariant.pass r of) c.order-place-items.ensures c.edges-edges.ensures c.deref.ensures.value c.valuing-test.true).small c.requires.few
+pub value_of-requires : goal.value_of-requires
+value_of-requires c =
+    let (r, of) = c.requires.graph in
+    let w = call of (c.valuing.invariant.pass r of) c.order-place-items.ensures c.edges-edges.ensures c.deref.ensures.value
+    c.valuing-test.true in
+    record { noted = w.noted; small = w.small c.requires.few; memo = c.valuing.invariant.memo }
 
 pub valuing-preserved : goal.valuing-preserved
 valuing-preserved c = record {

@@ -3,11 +3,12 @@ use Rattle.local_value.specs.inner.Memo.{recalled_form, recalled_sum}
 use Rattle.local_value.proofs.OptionsLaws.{sums-grown, forms-grown, left-ids, right-ids, form-refused, form-sizes, form-values}
 use Rattle.local_value.proofs.values.value_of.Goals as goal
 
-pub form_of-requires-clause-left : goal.form_of-requires-clause-left
-form_of-requires-clause-left c = left-ids c.in_ok-list_options.ensures.options
-
-pub form_of-requires-clause-right : goal.form_of-requires-clause-right
-form_of-requires-clause-right c = right-ids c.in_ok-list_options.ensures.options
+pub form_of-requires : goal.form_of-requires
+form_of-requires c = record {
+  left = left-ids c.in_ok-list_options.ensures.options;
+  right = right-ids c.in_ok-list_options.ensures.options;
+  forms = forms-grown c.list_options.ensures.kept c.args.parts_limit (recalled_form c.args.memo.now.forms) c.requires.memo.forms;
+}
 
 pub returns-clause-value : goal.returns-clause-value
 returns-clause-value c = form-values c.in_ok-list_options.ensures.options c.form_of.ensures.kept c.args.parts_limit c.form_of.result c.form_of.ensures.form
@@ -17,9 +18,6 @@ returns-clause-sizes c = form-sizes c.in_ok-list_options.ensures.options c.form_
 
 pub returns-clause-refusal : goal.returns-clause-refusal
 returns-clause-refusal c = form-refused c.in_ok-list_options.ensures.options c.form_of.ensures.kept c.args.parts_limit c.form_of.result c.form_of.ensures.refusal
-
-pub form_of-requires-clause-forms : goal.form_of-requires-clause-forms
-form_of-requires-clause-forms c = forms-grown c.list_options.ensures.kept c.args.parts_limit (recalled_form c.args.memo.now.forms) c.requires.memo.forms
 
 pub returns-clause-memo : goal.returns-clause-memo
 returns-clause-memo c = on_ok_weaker c.form_of.result (λ forms. record {

@@ -7,6 +7,9 @@ use Rattle.region_cut.proofs.LocalBoardLemmas.{plays_locally}
 use Rattle.region_cut.proofs.cuts.cut_sets.Goals as goal
 use Rattle.region_cut.proofs.cuts.cut_sets.Goals.{then-contains+then-is+in_ok-region_of+in_ok-push, else-contains, else-contains-via-then-contains+else-is, else-contains-via-else-contains}
 
+pub region_of-requires-clause-contested : goal.region_of-requires-clause-contested
+region_of-requires-clause-contested c = (c.requires.within c.cutting.number).0 (c.contains.ensures.0 c.if-contains.true)
+
 pub region_of-requires-clause-lowest : goal.region_of-requires-clause-lowest
 region_of-requires-clause-lowest c p j =
     let g = c.args.board.now in
@@ -34,6 +37,9 @@ pub returns-clause-regions : goal.returns-clause-regions
 returns-clause-regions c =
     let are = parts_of c.args.board.now c.args.within.now c.size-size.ensures.columns c.requires.within c.components-parts.ensures in
     cut_all are c.cutting.invariant (omega (arith, c.size-size.ensures.area, c.area-number-end.ensures.value))
+
+pub returns-clause-walled : goal.returns-clause-walled
+returns-clause-walled c r h = (c.cutting.invariant.each r h).0.walled
 
 pub returns-clause-local : goal.returns-clause-local
 returns-clause-local c r h = plays_locally c.args.board.now r c.requires.settled (c.cutting.invariant.each r h).0.play

@@ -1,6 +1,6 @@
 use Rattle.std.proofs.Common.{get_or}
 use Rattle.short_games.specs.Tree.{tree_at}
-use Rattle.game_store.proofs.Values.{pick-has}
+use Rattle.game_store.proofs.EntryLaws.{pick-has}
 use Rattle.sum_outcome.proofs.incentives.has_preferred.Goals as goal
 
 pub returns-then-is_preferred-clause-answer : goal.returns-then-is_preferred-clause-answer

@@ -1,5 +1,4 @@
-use Rattle.std.proofs.Common.{List, arith, sym, subst, Vec}
-use Rattle.std.specs.declared.alloc.Global.{Global}
+use Rattle.std.proofs.Common.{List, arith, refl, sym, subst, Vec, Global}
 use Rattle.std.proofs.lemmas.Result.{err_from_is_err_and}
 use Rattle.thermograph.specs.declared.breaks.Break.{Break}
 use Rattle.thermograph.specs.inner.Drawings.{AreDrawnBelow}
@@ -12,22 +11,18 @@ known : (c : After-deref-in-Options) → AreDrawnBelow c.args.store.now c.args.i
 known c = subst (λ (ws : List (Vec Break Global)). AreDrawnBelow c.args.store.now c.args.id ws c.deref.result.now) (sym c.deref-in-Options.ensures.value)
     (subst (λ (ws : List (Vec Break Global)). AreDrawnBelow c.args.store.now c.args.id c.args.walls.now.left.items ws) (sym c.deref.ensures.value) c.requires.known)
 
-pub join-requires-clause-left : goal.join-requires-clause-left
-join-requires-clause-left c =
+pub join-requires : goal.join-requires
+join-requires c =
     let o = c.in-Options.ensures.form in
-    let h = known (goal.at.join-requires-clause-left c).After-deref-in-Options in
-    let known = left-known c.args.store.now c.args.id _ _ _ _ o h in
-    record { ids = λ j l. omega (arith, o.left_below j l, h.right_count); level = known.0; steady = known.1; rises = rise-rises _ _ known.1 }
-
-pub join-requires-clause-right : goal.join-requires-clause-right
-join-requires-clause-right c =
-    let o = c.in-Options.ensures.form in
-    let h = known (goal.at.join-requires-clause-right c).After-deref-in-Options in
-    let known = right-known c.args.store.now c.args.id _ _ _ _ o h in
-    record { ids = λ j l. omega (arith, o.right_below j l, h.left_count); level = known.0; steady = known.1; rises = rise-rises _ _ known.1 }
-
-pub join-requires-clause-stays : goal.join-requires-clause-stays
-join-requires-clause-stays c = scaffolds-stay c.args.store.now c.args.id _ _ _ _ c.in-Options.ensures.form (known (goal.at.join-requires-clause-stays c).After-deref-in-Options)
+    let h = known (goal.at.join-requires c).After-deref-in-Options in
+    let l = left-known c.args.store.now c.args.id _ _ _ _ o h in
+    let r = right-known c.args.store.now c.args.id _ _ _ _ o h in record {
+      left = record { ids = λ j i. omega (arith, o.left_below j i, h.right_count); level = l.0; steady = l.1; rises = rise-rises _ _ l.1 };
+      right = record { ids = λ j i. omega (arith, o.right_below j i, h.left_count); level = r.0; steady = r.1; rises = rise-rises _ _ r.1 };
+      left_side = refl;
+      right_side = refl;
+      stays = scaffolds-stay c.args.store.now c.args.id _ _ _ _ o h;
+    }
 
 pub returns-in_err-drawing-in-Options-clause-bounds :
     goal.returns-in_err-drawing-in-Options-clause-bounds

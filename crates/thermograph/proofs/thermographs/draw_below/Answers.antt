@@ -1,5 +1,4 @@
-use Rattle.std.proofs.Common.{◌+◌, arith, sym, ◌∙◌, ap, refl}
-use Rattle.std.proofs.lemmas.Bool.{true≢false}
+use Rattle.std.proofs.Common.{arith, sym, ◌∙◌, ap, true≢false}
 use Rattle.std.proofs.lemmas.Result.{err_from_is_err_and}
 use Rattle.thermograph.specs.declared.drawings.Walls.{Walls}
 use Rattle.thermograph.proofs.DrawingLaws.{drawn-below, drawn-push}
@@ -18,8 +17,8 @@ returns-in_err-drawing-clause-bounds c =
 
 pub loop-place-preserved : goal.loop-place-preserved
 loop-place-preserved c = elim c.if-flags-place.branch [
-  | then-flags-place+in_ok-drawing+in_ok-push w ↦ drawn-push c.args.store.now c.args.flags.now c.loop-place.place (c.loop-place.place + 1) c.loop-place.walls.left.items c.loop-place.walls.right.items _ _ w.in_ok-drawing.drawing.left w.in_ok-drawing.drawing.right c.loop-place.invariant refl
+  | then-flags-place+in_ok-drawing+in_ok-push w ↦ drawn-push c.args.store.now c.args.flags.now c.loop-place.place c.loop-place.walls.left.items c.loop-place.walls.right.items _ _ w.in_ok-drawing.drawing.left w.in_ok-drawing.drawing.right c.loop-place.invariant
       (ap (λ (x : Walls). x.left.items) w.walls-is ∙ (w.in_ok-push.ensures {u = tt}).left) (ap (λ (x : Walls). x.right.items) w.walls-is ∙ (w.in_ok-push.ensures {u = tt}).right) (λ _. (w.in_ok-drawing.ensures {u = tt}).drawn.drawn)
-  | else-flags-place+in_ok-push-2 w ↦ drawn-push c.args.store.now c.args.flags.now c.loop-place.place (c.loop-place.place + 1) c.loop-place.walls.left.items c.loop-place.walls.right.items _ _ w.new-else-flags-place.result w.new-else-flags-place-2.result c.loop-place.invariant refl
+  | else-flags-place+in_ok-push-2 w ↦ drawn-push c.args.store.now c.args.flags.now c.loop-place.place c.loop-place.walls.left.items c.loop-place.walls.right.items _ _ w.new-else-flags-place.result w.new-else-flags-place-2.result c.loop-place.invariant
       (ap (λ (x : Walls). x.left.items) w.walls-is ∙ (w.in_ok-push-2.ensures {u = tt}).left) (ap (λ (x : Walls). x.right.items) w.walls-is ∙ (w.in_ok-push-2.ensures {u = tt}).right) (λ m. absurd (true≢false (sym m ∙ w.if-flags-place.false)))
 ]

@@ -1,9 +1,8 @@
 -- What a store's entries mean, and the chains along which they are found.
-use Rattle.std.proofs.Common.{ℕ, zero, suc, ◌+◌, ◌-◌, ◌<◌, ◌≤◌, ◌≡◌, List, [], ◌∷◌, ◌++◌, length, get_or, take, drop, arith, refl, sym, ◌∙◌, ap, ap₂, subst, pos, inl, inr, cond, nat_eq, Some, None}
+use Rattle.std.proofs.Common.{ℕ, zero, suc, ◌+◌, ◌-◌, ◌<◌, ◌≤◌, ◌≡◌, List, [], ◌∷◌, ◌++◌, length, get_or, take, drop, arith, refl, sym, ◌∙◌, ap, ap₂, subst, pos, inl, inr, cond, nat_eq, Some, None, add-zero, zero-add, Option}
 use Rattle.std.proofs.lemmas.Bool.{eqb-true, eqb-false, cases_Bool, cases_lt}
 use Rattle.std.proofs.lemmas.List.{length-map, length-drop, length-append, length-take, get_or-take, get_or-drop, get_or_append_left, get_or_push}
 use Rattle.std.proofs.Math.Seq.{get_or-append_seam, get_or-append_right, take-append_seam, drop-append_seam}
-use native.Mathlib.Nat.{add-zero, zero-add}
 use Rattle.short_games.specs.Tree.{Tree, Trees, node, none, more, left, right, tree_at, AreDistinct, Has}
 use Rattle.short_games.specs.Number.{IsNumberTree}
 use Rattle.game_store.specs.declared.Entry.{Entry}
@@ -15,7 +14,6 @@ use Rattle.short_games.specs.TextOrder.{sorted, IsCanonicalTree}
 use Rattle.short_games.proofs.TextOrderLaws.{sorted-has, has-sorted}
 use Rattle.short_games.proofs.WallNumbers.{num-one_to_one}
 use Rattle.std.proofs.Math.ListN.{get_or-map}
-use Rattle.std.specs.Prelude.{Option}
 use Rattle.std.proofs.lemmas.Option.{same_Some}
 use Rattle.game_store.specs.declared.Slot.{Slot}
 use Rattle.game_store.specs.inner.Chain.{entries_of, fingerprint, fingerprints, latest_of, slot_at, before_at, HasBefores, IsChained, IsAt, place}
@@ -72,20 +70,15 @@ value_of-same lists Ts Us k (Options place n) f h = ap₂ (λ (a b : Trees). nod
 -- the tree of an id is what its entry means by all the trees
 values_at : (lists : List (List ℕ)) (Ts : List Tree) (es : List Entry) → ((k : ℕ) → k < length es → Fits lists (length Ts + k) (entry_at es k)) → (k : ℕ) → k < length es → tree_at (values_after lists Ts es) (length Ts + k) ≡ value_of lists (values_after lists Ts es) (entry_at es k)
 values_at lists Ts [] f k h = absurd (omega arith)
-values_at lists Ts (e ∷ es) f zero h = at_first
-  where
-    Us : List Tree
-    Us = Ts ++ value_of lists Ts e ∷ []
-
-    at_first : tree_at (values_after lists Us es) (length Ts + 0) ≡ value_of lists (values_after lists Us es) e
-    at_first = values_after-first lists Us es (length Ts + 0) (omega (arith, length-append Ts (value_of lists Ts e ∷ [])))
-        ∙ (rw add-zero (get_or-append_seam Ts (value_of lists Ts e) [] (node none none)))
-        ∙ sym (value_of-same lists Ts (values_after lists Us es) (length Ts + 0) e (f 0 (omega arith)) (λ i b. values_after-first lists Us es i (omega (arith, length-append Ts (value_of lists Ts e ∷ []))) ∙ get_or_append_left Ts _ _ i (omega arith)))
-values_at lists Ts (e ∷ es) f (suc k) h =
+values_at lists Ts (e ∷ es) f zero h =
+    let Us = Ts ++ value_of lists Ts e ∷ [] in
+    let longer : length Us ≡ suc (length Ts) = omega (arith, length-append Ts (value_of lists Ts e ∷ [])) in
+    values_after-first lists Us es (length Ts + 0) (omega (arith, longer))
+    ∙ (rw add-zero (get_or-append_seam Ts (value_of lists Ts e) [] (node none none)))
+    ∙ sym (value_of-same lists Ts (values_after lists Us es) (length Ts + 0) e (f 0 (omega arith))
+    (λ i b. values_after-first lists Us es i (omega (arith, longer)) ∙ get_or_append_left Ts _ _ i (omega arith)))
+values_at lists Ts (e ∷ es) f (suc k) h = let v = value_of lists Ts e in
     rw (moved Ts v k) (values_at lists (Ts ++ v ∷ []) es (λ j b. rw (← moved Ts v j) (f (suc j) (omega arith))) k (omega arith))
-  where
-    v : Tree
-    v = value_of lists Ts e
 
 pub values-at : (lists : List (List ℕ)) (es : List Entry) → AllFit lists es → (k : ℕ) → k < length es → tree_at (values lists es) k ≡ value_of lists (values lists es) (entry_at es k)
 values-at lists es f k h = rw (zero-add k) at (values_at lists [] es (λ j b. rw (zero-add j) (f j b)) k h)
@@ -100,12 +93,9 @@ held-more lists extra k (Options place n) f = ap (λ (is : List ℕ). options (t
 
 values_after-more : (lists extra : List (List ℕ)) (Ts : List Tree) (es : List Entry) → ((k : ℕ) → k < length es → Fits lists (length Ts + k) (entry_at es k)) → values_after (lists ++ extra) Ts es ≡ values_after lists Ts es
 values_after-more lists extra Ts [] f = refl
-values_after-more lists extra Ts (e ∷ es) f =
+values_after-more lists extra Ts (e ∷ es) f = let v = value_of lists Ts e in
     ap (λ w. values_after (lists ++ extra) (Ts ++ meaning Ts w ∷ []) es) (held-more lists extra (length Ts + 0) e (f 0 (omega arith)))
     ∙ values_after-more lists extra (Ts ++ v ∷ []) es (λ j b. rw (← moved Ts v j) (f (suc j) (omega arith)))
-  where
-    v : Tree
-    v = value_of lists Ts e
 
 pub values-more : (lists extra : List (List ℕ)) (es : List Entry) → AllFit lists es → values (lists ++ extra) es ≡ values lists es
 values-more lists extra es f = values_after-more lists extra [] es (λ j b. rw (zero-add j) (f j b))
@@ -123,28 +113,20 @@ pub length-values : (lists : List (List ℕ)) (es : List Entry) → length (valu
 length-values lists es = length-values_after lists [] es ∙ zero-add (length es)
 
 pub kept-push : (lists : List (List ℕ)) (es : List Entry) (e : Entry) → IsKept lists es → Fits lists (length es) e → ((k : ℕ) → k < length es → tree_at (values lists es) k ≡ value_of lists (values lists es) e → ⊥) → IsNoNumber (value_of lists (values lists es) e) e → IsCanonicalTree (value_of lists (values lists es) e) → IsKept lists (es ++ e ∷ [])
-kept-push lists es e h f new no_number is_canonical = record {
-  fit = push_one (Fits lists) es e (Number (pos 0)) h.fit f;
-  distinct = rw (values_after-push lists [] es e) distinct;
-  canonical = rw (values_after-push lists [] es e) (push_one (λ _ t. IsCanonicalTree t) Ts v (node none none) h.canonical is_canonical);
-  no_numbers = rw (values_after-push lists [] es e)
-      (push_both (λ _ t d. IsNoNumber t d) Ts es v (node none none) e (Number (pos 0)) (length-values lists es) h.no_numbers no_number);
-}
-  where
-    Ts : List Tree
-    Ts = values lists es
-
-    v : Tree
-    v = value_of lists (values lists es) e
-
-    other : (i : ℕ) → i < length (values lists es) → tree_at (values lists es) i ≡ value_of lists (values lists es) e → ⊥
-    other i p = new i (omega (arith, p, length-values lists es))
-
-    distinct : AreDistinct (values lists es ++ value_of lists (values lists es) e ∷ [])
-    distinct i j a b = push_one (λ m t. t ≡ tree_at (Ts ++ v ∷ []) j → m ≡ j) Ts v (node none none)
-        (λ m p. push_one (λ n t. tree_at Ts m ≡ t → m ≡ n) Ts v (node none none) (λ n q. h.distinct m n p q) (λ e'. absurd (other m p e')) j b)
-        (push_one (λ n t. v ≡ t → length Ts ≡ n) Ts v (node none none) (λ n q e'. absurd (other n q (sym e'))) (λ _. refl) j b)
-        i a
+kept-push lists es e h f new no_number is_canonical =
+    let Ts = values lists es in
+    let v = value_of lists Ts e in
+    let other : (i : ℕ) → i < length Ts → tree_at Ts i ≡ v → ⊥ = λ i p. new i (omega (arith, p, length-values lists es)) in
+    let distinct : AreDistinct (Ts ++ v ∷ []) = λ i j a b.
+    push_one (λ m t. t ≡ tree_at (Ts ++ v ∷ []) j → m ≡ j) Ts v (node none none)
+    (λ m p. push_one (λ n t. tree_at Ts m ≡ t → m ≡ n) Ts v (node none none) (λ n q. h.distinct m n p q) (λ e'. absurd (other m p e')) j b)
+    (push_one (λ n t. v ≡ t → length Ts ≡ n) Ts v (node none none) (λ n q e'. absurd (other n q (sym e'))) (λ _. refl) j b) i a in record {
+      fit = push_one (Fits lists) es e (Number (pos 0)) h.fit f;
+      distinct = rw (values_after-push lists [] es e) distinct;
+      canonical = rw (values_after-push lists [] es e) (push_one (λ _ t. IsCanonicalTree t) Ts v (node none none) h.canonical is_canonical);
+      no_numbers = rw (values_after-push lists [] es e)
+          (push_both (λ _ t d. IsNoNumber t d) Ts es v (node none none) e (Number (pos 0)) (length-values lists es) h.no_numbers no_number);
+    }
 
 -- the ids of a list, by the trees
 pub has-pick : (Ts : List Tree) (xs : List ℕ) (G : Tree) → Has (pick Ts xs) G → (j : ℕ) × (j < length xs) × (G ≡ tree_at Ts (get_or xs j 0))
@@ -207,19 +189,19 @@ pub record MayKeep (Ts : List Tree) (w : Wanted) : Type 0 where
 pub held-is : (lists : List (List ℕ)) (es : List Entry) → IsKept lists es → (w : Wanted) → MayKeep (values lists es) w → (k : ℕ) → k < length es → tree_at (values lists es) k ≡ meaning (values lists es) w → held lists (entry_at es k) ≡ w
 held-is lists es h w keep k l e = at_entry (entry_at es k) w (h.fit k l) (h.no_numbers k l) keep.lists (sym (values-at lists es h.fit k l) ∙ e) e
   where
-    Ts : List Tree
-    Ts = values lists es
-
-    ids : (is : List ℕ) → AreBelow k is → AreIds Ts is
-    ids is b j i = omega (arith, b j i, l, length-values lists es)
-
-    at_entry : (e : Entry) (w : Wanted) → Fits lists k e → IsNoNumber (tree_at Ts k) e → AreLists Ts w → value_of lists Ts e ≡ meaning Ts w → tree_at Ts k ≡ meaning Ts w → held lists e ≡ w
+    at_entry : (e : Entry) (w : Wanted) → Fits lists k e → IsNoNumber (tree_at (values lists es) k) e → AreLists (values lists es) w
+        → value_of lists (values lists es) e ≡ meaning (values lists es) w → tree_at (values lists es) k ≡ meaning (values lists es) w
+        → held lists e ≡ w
     at_entry (Number x) (number y) f n a i t = ap number (num-one_to_one 60 x y i)
     at_entry (Number x) (options ls rs) f n a i t = absurd (a.4 (60, x, sym i))
     at_entry (Options place n) (number y) f no_number a i t = absurd (no_number (60, y, t))
-    at_entry (Options place n) (options ls rs) f no_number a i t = let is = list_at lists place in ap₂ options
-        (pick-one_to_one Ts h.distinct (take n is) ls f.1.left_ascends a.2 (ids (take n is) (left-below k n is f.1.below)) a.0 (ap left i))
-        (pick-one_to_one Ts h.distinct (drop n is) rs f.1.right_ascends a.3 (ids (drop n is) (right-below k n is f.1.below)) a.1 (ap right i))
+    at_entry (Options place n) (options ls rs) f no_number a i t =
+        let is = list_at lists place in
+        let same = pick-one_to_one (values lists es) h.distinct in
+        let ids : (is : List ℕ) → AreBelow k is → AreIds (values lists es) is =
+        λ _ b j i. omega (arith, b j i, l, length-values lists es) in
+        ap₂ options (same (take n is) ls f.1.left_ascends a.2 (ids (take n is) (left-below k n is f.1.below)) a.0 (ap left i))
+        (same (drop n is) rs f.1.right_ascends a.3 (ids (drop n is) (right-below k n is f.1.below)) a.1 (ap right i))
 
 -- and such an entry does mean it
 pub held-from : (lists : List (List ℕ)) (es : List Entry) → IsKept lists es → (w : Wanted) → (k : ℕ) → k < length es → held lists (entry_at es k) ≡ w → tree_at (values lists es) k ≡ meaning (values lists es) w
@@ -364,30 +346,18 @@ chained-more lists extra slots L f c = record {
     same k l = ap fingerprint (held-more lists extra k _ (f k (omega (arith, l, length-entries slots))))
 
 pub chained-push : (lists : List (List ℕ)) (slots : List Slot) (L L' : ℕ → Option ℕ) (s : Slot) (p : ℕ) → IsChained lists slots L → fingerprint (held lists s.entry) ≡ p → s.before ≡ L p → ((q : ℕ) → L' q ≡ cond (nat_eq p q) (Some (length slots)) (L q)) → IsChained lists (slots ++ s ∷ []) L'
-chained-push lists slots L L' s p c p_is b_is l_is = record {
-  befores = push_one (λ k t. t.before ≡ latest_of P' k (P' k)) slots s _
-      (λ k b. c.befores k b ∙ sym (latest-same _ _ k _ (λ j d. old j (omega (arith, b, d)))) ∙ ap (latest_of P' k) (sym (old k b)))
-      (b_is ∙ c.latest_is p ∙ sym (all_old p) ∙ ap (latest_of P' (length slots)) (sym new));
-  latest_is = λ q. rw (count, new, all_old q, ← c.latest_is q) (l_is q);
-}
-  where
-    P : ℕ → ℕ
-    P = fingerprints lists slots
-
-    P' : ℕ → ℕ
-    P' = fingerprints lists (slots ++ s ∷ [])
-
-    at : (k : ℕ) (t : Slot) → slot_at (slots ++ s ∷ []) k ≡ t → P' k ≡ fingerprint (held lists t.entry)
-    at k t e = ap (λ x. fingerprint (held lists x)) (entry-at (slots ++ s ∷ []) k ∙ ap (λ x. x.entry) e)
-
-    old : (k : ℕ) → k < length slots → fingerprints lists (slots ++ s ∷ []) k ≡ fingerprints lists slots k
-    old k l = at k _ (get_or_append_left slots (s ∷ []) _ k l) ∙ ap (λ x. fingerprint (held lists x)) (sym (entry-at slots k))
-
-    new : fingerprints lists (slots ++ s ∷ []) (length slots) ≡ p
-    new = at (length slots) s (get_or-append_seam slots s [] _) ∙ p_is
-
-    count : length (slots ++ s ∷ []) ≡ suc (length slots)
-    count = omega (arith, length-append slots (s ∷ []))
-
-    all_old : (q : ℕ) → latest_of (fingerprints lists (slots ++ s ∷ [])) (length slots) q ≡ latest_of (fingerprints lists slots) (length slots) q
-    all_old q = latest-same _ _ (length slots) q old
+chained-push lists slots L L' s p c p_is b_is l_is =
+    let P = fingerprints lists (slots ++ s ∷ []) in
+    let at : (k : ℕ) (t : Slot) → slot_at (slots ++ s ∷ []) k ≡ t → P k ≡ fingerprint (held lists t.entry) = λ k t e.
+    ap (λ x. fingerprint (held lists x)) (entry-at (slots ++ s ∷ []) k ∙ ap (λ x. x.entry) e) in
+    let old : (k : ℕ) → k < length slots → P k ≡ fingerprints lists slots k = λ k l.
+    at k _ (get_or_append_left slots (s ∷ []) _ k l) ∙ ap (λ x. fingerprint (held lists x)) (sym (entry-at slots k)) in
+    let new : P (length slots) ≡ p = at (length slots) s (get_or-append_seam slots s [] _) ∙ p_is in
+    let all_old : (q : ℕ) → latest_of P (length slots) q ≡ latest_of (fingerprints lists slots) (length slots) q = λ q.
+    latest-same _ _ (length slots) q old in
+    let count : length (slots ++ s ∷ []) ≡ suc (length slots) = omega (arith, length-append slots (s ∷ [])) in record {
+      befores = push_one (λ k t. t.before ≡ latest_of P k (P k)) slots s _
+          (λ k b. c.befores k b ∙ sym (latest-same _ _ k _ (λ j d. old j (omega (arith, b, d)))) ∙ ap (latest_of P k) (sym (old k b)))
+          (b_is ∙ c.latest_is p ∙ sym (all_old p) ∙ ap (latest_of P (length slots)) (sym new));
+      latest_is = λ q. rw (count, new, all_old q, ← c.latest_is q) (l_is q);
+    }

@@ -1,7 +1,7 @@
 -- The floors and ceilings of forms, and what holds of a store's fields as a form is added.
-use Rattle.std.proofs.Common.{below_more, ℕ, ◌+◌, ◌<◌, ◌≡◌, List, length, get_or, arith, refl, sym, subst, ℤ, pos, ◌-ℤ◌, ◌+ℤ◌, ◌≤ℤ◌, [], ◌∷◌, ◌++◌, ◌∙◌, ap, ap₂, cond, nat_eq, Some, ◌↔◌, ◌<ℤ◌, Bool, true, take, drop}
+use Rattle.std.proofs.Common.{below_more, ℕ, ◌+◌, ◌<◌, ◌≡◌, List, length, get_or, arith, refl, sym, subst, ℤ, pos, ◌-ℤ◌, ◌+ℤ◌, ◌≤ℤ◌, [], ◌∷◌, ◌++◌, ◌∙◌, ap, ap₂, cond, nat_eq, Some, ◌↔◌, ◌<ℤ◌, Bool, true, take, drop, Option, Ordering, Less, Equal, Greater}
 use Rattle.std.specs.Int.{int_max, int_min}
-use Rattle.std.proofs.lemmas.Int.{ints, by_lt_z}
+use Rattle.std.proofs.lemmas.Int.{ints, clamps, by_lt_z}
 use Rattle.std.proofs.lemmas.Bool.{false≢true}
 use Rattle.game_store.specs.declared.Slot.{Slot}
 use Rattle.dyadic_num.specs.Units.{IsInBounds}
@@ -17,8 +17,7 @@ use Rattle.short_games.proofs.TextOrderLaws.{sorted-has, has-sorted}
 use Rattle.short_games.proofs.ReductionLaws.{canonical-number}
 use Rattle.short_games.proofs.ThresholdLaws.{number-floor, number-ceiling, half-cell}
 use Rattle.short_games.proofs.StopLaws.{IsGreatest, IsLeast, ceiling-by, floor-by, number-left_stop, number-right_stop, game-left_stop, game-right_stop}
-use Rattle.game_store.proofs.Values.{has-pick, pick-has, joined-options, left-below, right-below, MayKeep, new-entry, IsNew, held-more, held-from, length-values, chained-more, chained-push, length-entries, kept-more, values-more, push_both}
-use Rattle.std.specs.Prelude.{Option, take, drop}
+use Rattle.game_store.proofs.EntryLaws.{has-pick, pick-has, joined-options, left-below, right-below, MayKeep, new-entry, IsNew, held-more, held-from, length-values, chained-more, chained-push, length-entries, kept-more, values-more, push_both}
 use Rattle.game_store.specs.declared.Entry.{Entry}
 use Rattle.game_store.specs.declared.Entry.TheVariants.{Number, Options}
 use Rattle.game_store.specs.inner.Meaning.{values, IsKept, entry_at, held, meaning, Fits, AreOptions, list_at, IsNoNumber}
@@ -31,8 +30,6 @@ use Rattle.short_games.proofs.OrderLaws.{le-refl}
 use Rattle.short_games.proofs.NumberLaws.{num-double}
 use Rattle.std.specs.Cmp.{int_ranks}
 use Rattle.std.specs.Ordering.{MatchOrdering, is_le, is_gt, int_cmp}
-use Rattle.std.specs.declared.cmp.Ordering.{Ordering}
-use Rattle.std.specs.declared.cmp.Ordering.TheVariants.{Less, Equal, Greater}
 
 -- what comparing two places says of them as numbers of half parts
 pub at_most : (x y : ℤ) (b : Bool) → b ≡ is_le (int_cmp x y) → (b ≡ true) ↔ (x ≤ℤ y)
@@ -62,14 +59,18 @@ pub record GreatestSoFar (slots : List Slot) (is : List ℕ) (n : ℕ) (x : ℤ)
 
 pub least_step : (slots : List Slot) (is : List ℕ) (n : ℕ) (x y z : ℤ) → LeastSoFar slots is n x → n < length is → y ≡ ceiling_at slots (get_or is n 0) → z ≡ int_min x y → LeastSoFar slots is (n + 1) z
 least_step slots is n x y z s l e d = record {
-  bound = below_more (λ j. z ≤ℤ ceiling_at slots (get_or is j 0)) n (λ j c. (let q = s.bound j c in grind (arith, ints))) (grind (arith, ints));
-  reached = by_lt_z y x (λ c. (n, l, grind (arith, ints))) (λ c. (s.reached.0, s.reached.1, (let q = s.reached.2 in grind (arith, ints))));
+  bound = below_more (λ j. z ≤ℤ ceiling_at slots (get_or is j 0)) n (λ j c. omega (arith, ints, clamps, s.bound j c, d))
+      (omega (arith, ints, clamps, e, d));
+  reached = by_lt_z y x (λ c. (n, l, omega (arith, ints, clamps, c, e, d)))
+      (λ c. (s.reached.0, s.reached.1, omega (arith, ints, clamps, c, d, s.reached.2)));
 }
 
 pub greatest_step : (slots : List Slot) (is : List ℕ) (n : ℕ) (x y z : ℤ) → GreatestSoFar slots is n x → n < length is → y ≡ floor_at slots (get_or is n 0) → z ≡ int_max x y → GreatestSoFar slots is (n + 1) z
 greatest_step slots is n x y z s l e d = record {
-  bound = below_more (λ j. floor_at slots (get_or is j 0) ≤ℤ z) n (λ j c. (let q = s.bound j c in grind (arith, ints))) (grind (arith, ints));
-  reached = by_lt_z x y (λ c. (n, l, grind (arith, ints))) (λ c. (s.reached.0, s.reached.1, (let q = s.reached.2 in grind (arith, ints))));
+  bound = below_more (λ j. floor_at slots (get_or is j 0) ≤ℤ z) n (λ j c. omega (arith, ints, clamps, s.bound j c, d))
+      (omega (arith, ints, clamps, e, d));
+  reached = by_lt_z x y (λ c. (n, l, omega (arith, ints, clamps, c, e, d)))
+      (λ c. (s.reached.0, s.reached.1, omega (arith, ints, clamps, c, d, s.reached.2)));
 }
 
 -- a number's floor and ceiling are twice the number
@@ -77,8 +78,8 @@ pub number-placed : (x y : ℤ) → IsInBounds x → y ≡ x +ℤ x → IsPlaced
 number-placed x y b e = rw e record {
   floor_is = number-floor 60 x;
   ceiling_is = number-ceiling 60 x;
-  floor_range = (grind (arith, ints), grind (arith, ints));
-  ceiling_range = (grind (arith, ints), grind (arith, ints));
+  floor_range = (omega (arith, ints, b), omega (arith, ints, b));
+  ceiling_range = (omega (arith, ints, b), omega (arith, ints, b));
   left_stop = (x, number-left_stop 60 (num 60 x) x refl);
   right_stop = (x, number-right_stop 60 (num 60 x) x refl);
 }
@@ -148,14 +149,8 @@ module _ {Ts : List Tree} {lists : List (List ℕ)} {slots : List Slot} {L : ℕ
 
   -- each number of a store is within the bounds of a Dyadic, since its floor and its ceiling are
   pub have-forms : HaveForms Ts
-  have-forms id l = (w, m, bounds w m)
+  have-forms id l = let w = held lists (entry_at es id) in let m = means id (in_range id l) w refl in (w, m, bounds w m)
     where
-      w : Wanted
-      w = held lists (entry_at es id)
-
-      m : IsMeaning Ts id w
-      m = means id (in_range id l) w refl
-
       bounds : (w : Wanted) → IsMeaning Ts id w → IsWithinBounds w
       bounds (number x) t = placed-number x _ _ (subst (λ G. IsPlaced G (floor_at slots id) (ceiling_at slots id)) t (placed-at id l))
       bounds (options ls rs) t = tt
@@ -179,35 +174,29 @@ module _ {Ts : List Tree} {lists : List (List ℕ)} {slots : List Slot} {L : ℕ
     reached = (tree_at Ts (get_or is g.reached.0 0), has-option is g.reached.0 g.reached.1, subst (IsCeiling 60 (tree_at Ts (get_or is g.reached.0 0))) g.reached.2 (placed-at _ (a g.reached.0 g.reached.1)).ceiling_is);
   }
 
-  pub ceiling-small : (is : List ℕ) (x : ℤ) → AreIds Ts is → IsLeastCeiling slots is x → IsCeilingRange x
-  ceiling-small is x a l = subst IsCeilingRange l.reached.2 (placed-at _ (a l.reached.0 l.reached.1)).ceiling_range
-
   pub floor-small : (is : List ℕ) (x : ℤ) → AreIds Ts is → IsGreatestFloor slots is x → IsFloorRange x
   floor-small is x a l = subst IsFloorRange l.reached.2 (placed-at _ (a l.reached.0 l.reached.1)).floor_range
 
   -- the places of a form are what its options set
   pub options-placed : (ls rs : List ℕ) (f c : ℤ) → MayKeep Ts (options ls rs) → IsLeastCeiling slots rs f → IsGreatestFloor slots ls c
       → (x y : ℤ) → x ≡ f -ℤ pos 1 → y ≡ c +ℤ pos 1 → IsPlaced (form Ts ls rs) x y
-  options-placed ls rs f c keep p q x y x_is y_is = rw (x_is, y_is) record {
-    floor_is = floor-by 60 G f no_number (least-ceiling rs f b p);
-    ceiling_is = ceiling-by 60 G c no_number (greatest-floor ls c a q);
-    floor_range = (let r = ceiling-small rs f b p in (grind (arith, ints), grind (arith, ints)));
-    ceiling_range = (let r = floor-small ls c a q in (grind (arith, ints), grind (arith, ints)));
-    left_stop = game-left_stop 60 G keep.lists.4 (λ L h. (let o = option ls L h in subst (λ t. (x : ℤ) × IsRightStop 60 t x) (sym o.2) (placed-at _ (a o.0 o.1)).right_stop)) _ (has-option ls q.reached.0 q.reached.1);
-    right_stop = game-right_stop 60 G keep.lists.4 (λ R h. (let o = option rs R h in subst (λ t. (x : ℤ) × IsLeftStop 60 t x) (sym o.2) (placed-at _ (b o.0 o.1)).left_stop)) _ (has-option rs p.reached.0 p.reached.1);
-  }
-    where
-      G : Tree
-      G = form Ts ls rs
-
-      a : AreIds Ts ls
-      a = keep.lists.0
-
-      b : AreIds Ts rs
-      b = keep.lists.1
-
-      no_number : IsNumber G → ⊥
-      no_number i = keep.lists.4 (i.0, i.1, canonical-number G keep.canonical i)
+  options-placed ls rs f c keep p q x y x_is y_is =
+      let G = form Ts ls rs in
+      let a = keep.lists.0 in
+      let b = keep.lists.1 in
+      let no_number : IsNumber G → ⊥ = λ i. keep.lists.4 (i.0, i.1, canonical-number G keep.canonical i) in rw (x_is, y_is) record {
+        floor_is = floor-by 60 G f no_number (least-ceiling rs f b p);
+        ceiling_is = ceiling-by 60 G c no_number (greatest-floor ls c a q);
+        floor_range = (let r = subst IsCeilingRange p.reached.2 (placed-at _ (b p.reached.0 p.reached.1)).ceiling_range in
+            (omega (arith, ints, r.0, r.1), omega (arith, ints, r.0, r.1)));
+        ceiling_range = (let r = floor-small ls c a q in (omega (arith, ints, r.0, r.1), omega (arith, ints, r.0, r.1)));
+        left_stop = game-left_stop 60 G keep.lists.4
+            (λ L h. (let o = option ls L h in subst (λ t. (x : ℤ) × IsRightStop 60 t x) (sym o.2) (placed-at _ (a o.0 o.1)).right_stop))
+            _ (has-option ls q.reached.0 q.reached.1);
+        right_stop = game-right_stop 60 G keep.lists.4
+            (λ R h. (let o = option rs R h in subst (λ t. (x : ℤ) × IsLeftStop 60 t x) (sym o.2) (placed-at _ (b o.0 o.1)).left_stop))
+            _ (has-option rs p.reached.0 p.reached.1);
+      }
 
   -- more lists, and another way to look up the latest
   pub holds-more : (extra lists1 : List (List ℕ)) → lists1 ≡ lists ++ extra → Holds Ts lists1 slots L
@@ -225,29 +214,23 @@ module _ {Ts : List Tree} {lists : List (List ℕ)} {slots : List Slot} {L : ℕ
       → MayKeep Ts w → IsPlaced (meaning Ts w) s.floor s.ceiling → Fits lists (length slots) s.entry → held lists s.entry ≡ w → ((k : ℕ) → k < length slots → held lists (entry_at es k) ≡ w → ⊥)
       → slots2 ≡ slots ++ s ∷ [] → s.before ≡ L (fingerprint w)
       → ((q : ℕ) → L' q ≡ cond (nat_eq (fingerprint w) q) (Some (length slots)) (L q)) → Holds (Ts ++ meaning Ts w ∷ []) lists slots2 L'
-  holds-new slots2 L' w s keep place fits is absent slots_is before_is map_is = rw slots_is record {
-    all = (
-      subst (IsKept lists) (sym es_is) new.kept,
-      chained-push lists slots L L' s (fingerprint w) h.all.1 (ap fingerprint is) before_is map_is,
-      subst (λ us. ArePlaced us (slots ++ s ∷ [])) (sym values_is) (push_both (λ _ G (t : Slot). IsPlaced G t.floor t.ceiling) Ts slots (meaning Ts w) (node none none) s _
-          length-trees (subst (λ us. ArePlaced us slots) h.values_are h.all.2) place),
-    );
-    values_are = values_is;
-  }
-    where
-      es_is : entries_of (slots ++ s ∷ []) ≡ entries_of slots ++ s.entry ∷ []
-      es_is = map-append (λ t. t.entry) slots (s ∷ [])
-
-      new : IsNew lists (entries_of slots) (entries_of slots ++ s.entry ∷ []) w
-      new = new-entry lists es s.entry w h.all.0 (subst (λ us. MayKeep us w) (sym h.values_are) keep)
-          (subst (λ n. Fits lists n s.entry) (sym (length-entries slots)) fits) is (λ k l. absent k (omega (arith, l, length-entries slots)))
-
-      values_is : values lists (entries_of (slots ++ s ∷ [])) ≡ Ts ++ meaning Ts w ∷ []
-      values_is = ap (values lists) es_is ∙ new.values_are ∙ ap (λ us. us ++ meaning us w ∷ []) h.values_are
-
--- a slot behind the same slots
-pub slot-behind : (slots same more : List Slot) (s : Slot) → more ≡ same ++ s ∷ [] → same ≡ slots → more ≡ slots ++ s ∷ []
-slot-behind slots same more s e i = e ∙ ap (λ (us : List Slot). us ++ s ∷ []) i
+  holds-new slots2 L' w s keep place fits is absent slots_is before_is map_is =
+      let es_is : entries_of (slots ++ s ∷ []) ≡ es ++ s.entry ∷ [] = map-append (λ t. t.entry) slots (s ∷ []) in
+      let new : IsNew lists es (es ++ s.entry ∷ []) w =
+      new-entry lists es s.entry w h.all.0 (subst (λ us. MayKeep us w) (sym h.values_are) keep)
+      (subst (λ n. Fits lists n s.entry) (sym (length-entries slots)) fits) is (λ k l. absent k (omega (arith, l, length-entries slots))) in
+      let values_is : values lists (entries_of (slots ++ s ∷ [])) ≡ Ts ++ meaning Ts w ∷ [] =
+      ap (values lists) es_is ∙ new.values_are ∙ ap (λ us. us ++ meaning us w ∷ []) h.values_are in
+      rw slots_is record {
+        all = (
+          subst (IsKept lists) (sym es_is) new.kept,
+          chained-push lists slots L L' s (fingerprint w) h.all.1 (ap fingerprint is) before_is map_is,
+          subst (λ us. ArePlaced us (slots ++ s ∷ [])) (sym values_is)
+              (push_both (λ _ G (t : Slot). IsPlaced G t.floor t.ceiling) Ts slots (meaning Ts w) (node none none) s _
+              length-trees (subst (λ us. ArePlaced us slots) h.values_are h.all.2) place),
+        );
+        values_are = values_is;
+      }
 
 -- the options of a new form are one more list
 pub holds-options : {Ts : List Tree} {lists : List (List ℕ)} {slots : List Slot} {L : ℕ → Option ℕ} → Holds Ts lists slots L
@@ -257,6 +240,7 @@ pub holds-options : {Ts : List Tree} {lists : List (List ℕ)} {slots : List Slo
     → slots2 ≡ slots ++ s ∷ [] → s.before ≡ L (fingerprint (options ls rs))
     → ((q : ℕ) → L' q ≡ cond (nat_eq (fingerprint (options ls rs)) q) (Some (length slots)) (L q)) → Holds (Ts ++ form Ts ls rs ∷ []) lists2 slots2 L'
 holds-options {Ts} {lists} {slots} {L} h lists2 slots2 L' ls rs place left_count s keep placed absent is entry_is place_is count_is slots_is before_is map_is =
+    let last : list_at (lists ++ (ls ++ rs) ∷ []) (length lists) ≡ ls ++ rs = get_or-append_seam lists (ls ++ rs) [] [] in
     holds-new (holds-more h ((ls ++ rs) ∷ []) lists2 is) slots2 L' (options ls rs) s keep placed
     (rw (entry_is, place_is, count_is, is) (
       omega (arith, length-append lists ((ls ++ rs) ∷ [])),
@@ -267,6 +251,3 @@ holds-options {Ts} {lists} {slots} {L} h lists2 slots2 L' ls rs place left_count
     (λ k l i. absent k l (sym (held-more lists ((ls ++ rs) ∷ []) k _ (h.all.0.fit k (omega (arith, l, length-entries slots))))
     ∙ subst (λ us. held us (entry_at (entries_of slots) k) ≡ options ls rs) is i))
     slots_is before_is map_is
-  where
-    last : list_at (lists ++ (ls ++ rs) ∷ []) (length lists) ≡ ls ++ rs
-    last = get_or-append_seam lists (ls ++ rs) [] []
