@@ -13,7 +13,7 @@ use Rattle.go_play.specs.inner.Place.{with_stone}
 use Rattle.benson_attack.specs.Reached.{number_of_stones}
 use Rattle.go_grid.specs.Stones.{is_of}
 use Rattle.go_grid.proofs.BoardLemmas.{not_other}
-use Rattle.go_play.proofs.BoardPlay.{taken_stone}
+use Rattle.go_play.proofs.BoardPlayLemmas.{taken_stone}
 
 counted : (f : Cell → Bool) (x : Cell) (xs : List Cell) (b : Bool) → f x ≡ b → count_by f (x ∷ xs) ≡ cond b 1 0 + count_by f xs
 counted f x xs b e = sum_by-cons (λ z. cond (f z) 1 0) x xs ∙ ap (λ b. cond b 1 0 + count_by f xs) e

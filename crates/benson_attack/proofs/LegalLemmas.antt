@@ -13,7 +13,7 @@ use Rattle.go_play.specs.inner.Place.{with_stone}
 use Rattle.benson_life.specs.Life.{InRegion}
 use Rattle.benson_life.proofs.StandLemmas.{empty_or_other}
 use Rattle.go_grid.proofs.BoardLemmas.{empty_not_stone, not_other}
-use Rattle.go_play.proofs.BoardPlay.{breathes_from, placed_long, takes_by, taken_stone}
+use Rattle.go_play.proofs.BoardPlayLemmas.{breathes_from, placed_long, takes_by, taken_stone}
 
 -- the board with a stone of `d` more at the empty point `p`, and `m` is that board without what the stone takes
 module _ (h : Board) (d : Colour) (p : ℕ) (m : Board) (free : IsEmpty h p) (size : IsSameSize h m) (cleared : IsCleared h p d m.cells) where

@@ -5,5 +5,5 @@ pub mod RunLemmas
 pub mod AttackLemmas
 pub mod TriedLemmas
 pub mod CampaignLemmas
-pub mod PlacingDecided
-pub mod AliveDecided
+pub mod PlacingLemmas
+pub mod AliveLemmas

@@ -16,7 +16,7 @@ use Rattle.benson_life.proofs.StandLemmas.{empty_or_other, joined_along}
 use Rattle.benson_attack.specs.Reached.{IsReachedUnderAttack}
 use Rattle.benson_attack.proofs.LegalLemmas.{room, stays_empty, with_other, had_liberty, still, stood_earlier, not_suicide}
 use Rattle.go_grid.proofs.BoardLemmas.{empty_not_stone, same_or_not}
-use Rattle.go_play.proofs.BoardPlay.{placed_long, taken_choked, taken_near, takes, takes_by}
+use Rattle.go_play.proofs.BoardPlayLemmas.{placed_long, taken_choked, taken_near, takes, takes_by}
 use Rattle.go_grid.proofs.ChainLemmas.{same_liberty}
 
 module _ (g : Board) (d : Colour) (Under : ℕ → Type 0) (h : Board) (w : IsReachedUnderAttack g d Under h) where

@@ -3,7 +3,7 @@ pub mod CountLemmas
 pub mod PartsLemmas
 pub mod SurveyLemmas
 pub mod EyesLemmas
-pub mod EyeLists
+pub mod EyeListLemmas
 pub mod StrikingLemmas
 pub mod HeldLemmas
 pub mod ContestLemmas

@@ -15,7 +15,7 @@ use Rattle.benson_life.specs.Life.{InRegion, IsWalledBy, IsEye, IsHealthy}
 use Rattle.go_play.specs.Place.{IsPlaced, Placings, Stands}
 use Rattle.go_play.specs.inner.Place.{with_stone}
 use Rattle.go_grid.proofs.BoardLemmas.{empty_not_stone, not_other, same_or_not}
-use Rattle.go_play.proofs.BoardPlay.{breathes, placed_long, taken_choked, taken_stone}
+use Rattle.go_play.proofs.BoardPlayLemmas.{breathes, placed_long, taken_choked, taken_stone}
 
 -- what holds no stone of one colour is empty or holds one of the other
 pub empty_or_other : (x : Cell) (d : Colour) → x ≢ stone (other d) → (x ≡ cell.Empty) ⊎ (x ≡ stone d)

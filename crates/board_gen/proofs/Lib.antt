@@ -3,10 +3,10 @@ pub mod BoardLemmas
 pub mod LineLemmas
 pub mod SettledLemmas
 pub mod AliveLemmas
-pub mod NoReturn
+pub mod ReturnLemmas
 pub mod GapLemmas
 pub mod RegionLemmas
-pub mod Heights
-pub mod Owners
-pub mod Forms
-pub mod OneBoard
+pub mod HeightLemmas
+pub mod OwnerLemmas
+pub mod FormLemmas
+pub mod OneBoardLemmas

@@ -24,8 +24,8 @@ use Rattle.board_gen.specs.Short.{HasShortRegions, IsShort}
 use Rattle.board_gen.specs.Trial.{IsTrialBoard}
 use Rattle.board_gen.proofs.AliveLemmas.{all_alive}
 use Rattle.board_gen.proofs.GapLemmas.{IsGap, IsInGap, few_in_gap, gap_of, next_in_gap}
-use Rattle.board_gen.proofs.Forms.{few_parts, small_numbers}
-use Rattle.board_gen.proofs.NoReturn.{AreWalled, no_cycle, plays_long}
+use Rattle.board_gen.proofs.FormLemmas.{few_parts, small_numbers}
+use Rattle.board_gen.proofs.ReturnLemmas.{AreWalled, no_cycle, plays_long}
 
 -- the two ways to say that an alive stone is next to a place
 beside_same : (c : Colour) (r : Region) (i : ℕ) → IsBesideTouch c (touch_at r.touch i) → IsBeside r.touch c i

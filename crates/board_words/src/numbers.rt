@@ -27,7 +27,7 @@ pub fn is_numeral(word: &[u8]) -> bool
     are_digits(word)
 }
 
-#[tactic(auto, using(crate::proofs::Digits::parsed))]
+#[tactic(auto, using(crate::proofs::DigitLemmas::parsed))]
 fn value_of(digits: &str) -> u64
     requires digits { list_all is_ascii_digit digits.now ≡ true }
     requires some { 1 ≤ length digits.now }
@@ -42,7 +42,7 @@ fn value_of(digits: &str) -> u64
 }
 
 /// The number that a word of one to ten digits writes.
-#[tactic(auto, using(crate::proofs::Digits::not_text))]
+#[tactic(auto, using(crate::proofs::DigitLemmas::not_text))]
 pub fn read_number(word: &[u8]) -> Option<u64>
     ensures some { IfSome result (λ n. IsNumberWord word.now n) }
     ensures none { IfNone result ((n : ℕ) → ¬ IsNumberWord word.now n) }

@@ -1,6 +1,6 @@
-pub mod Copies
-pub mod Kept
-pub mod Pieces
-pub mod Held
-pub mod OneLine
-pub mod Used
+pub mod CopyLemmas
+pub mod FilesLemmas
+pub mod PieceLemmas
+pub mod HeldLemmas
+pub mod LineLemmas
+pub mod UsedLineLemmas

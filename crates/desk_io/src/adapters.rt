@@ -69,7 +69,7 @@ impl<W: Write + Drop> Sink for StdSink<W> {
 
     ghost faults = { λ s. s.faults };
 
-    #[tactic(auto, using(crate::proofs::Pieces::passed_more))]
+    #[tactic(auto, using(crate::proofs::PieceLemmas::passed_more))]
     fn write(&mut self, bytes: &[u8]) -> Result<(), Failed>
         ensures bytes { Appends None None result bytes.now }
         ensures count { self.new.faults ≡ faults_after self.old.faults (is_err result) }

@@ -43,7 +43,7 @@ impl MemoryShelf {
     }
 
     /// Puts a file on the shelf, in the place of an earlier one of that name. At an error the shelf is as before.
-    #[tactic(auto, using(crate::proofs::Kept::files_after, crate::proofs::Kept::files_same))]
+    #[tactic(auto, using(crate::proofs::FilesLemmas::files_after, crate::proofs::FilesLemmas::files_same))]
     pub fn add(&mut self, name: &str, bytes: Vec<u8>) -> Result<(), AllocError>
         ensures ok { OnOk result (self.new ≡ record self.old {
           files = map.insert self.old.files name.now bytes.items;
@@ -90,7 +90,7 @@ impl Shelf for MemoryShelf {
 
     ghost asks = { λ s name t. t ≡ record s { calls = counted s.calls (fails_next s.calls) } };
 
-    #[tactic(auto, using(crate::proofs::Kept::file_in))]
+    #[tactic(auto, using(crate::proofs::FilesLemmas::file_in))]
     fn load(&mut self, name: &str, limit: usize, out: &mut Vec<u8>) -> Result<Loaded, LoadError>
         ensures same { self.new.files ≡ self.old.files }
         ensures bytes { Loads (told_file

@@ -1,3 +1,3 @@
-pub mod Simplest
-pub mod Fractions
-pub mod Exponents
+pub mod SimplestLemmas
+pub mod FractionLemmas
+pub mod ExponentLemmas

@@ -7,7 +7,7 @@ use Rattle.game_calc.specs.Expression.Fault.{stray, no_number, unfinished, deep,
 use Rattle.game_calc.specs.declared.errors.CalcError.TheVariants as calc
 use Rattle.game_calc.specs.declared.errors.CalcFault.{CalcFault}
 use Rattle.game_calc.specs.declared.errors.CalcFault.TheVariants as fault
-use Rattle.game_calc.proofs.OneLine.{one-line}
+use Rattle.game_calc.proofs.OneLineLaws.{one-line}
 use Rattle.gd_words.specs.Job.{IsOnlyJob, Job}
 use Rattle.gd_words.specs.Task.Task.{calc as calculate}
 use Rattle.endgame_run.specs.declared.status.Status.{Status}

@@ -27,9 +27,9 @@ use Rattle.sgf_go.specs.File.{HasFewBytes, Reads}
 use Rattle.endgame_run.specs.File.{Outside, count_of, dash, told_of}
 use Rattle.endgame_run.specs.Game.{IsGameRun}
 use Rattle.endgame_run.specs.Verdict.{IsAnswerOn, HasReason, IsVerdict, IsFileAnswer, IsPositionAnswer, IsTextAlone, Pose, limits_of}
-use Rattle.endgame_run.proofs.GameWins.{map_told}
-use Rattle.sgf_go.proofs.OneReading.{not_both, one_setup}
-use Rattle.endgame_run.proofs.OneStatus.{file_or_position, safe_is_done, shows_shown, solves_sound}
+use Rattle.endgame_run.proofs.GameWinLaws.{map_told}
+use Rattle.sgf_go.proofs.OneReadingLemmas.{not_both, one_setup}
+use Rattle.endgame_run.proofs.OneStatusLaws.{file_or_position, safe_is_done, shows_shown, solves_sound}
 use Rattle.endgame_run.proofs.OutputLaws.{pose_said}
 use Rattle.endgame_run.proofs.PoseLaws.{alone_unposed, calc_unposed, engine_unposed, one_pose, trial_unposed}
 

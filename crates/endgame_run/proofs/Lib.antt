@@ -1,11 +1,11 @@
 mod CalcLaws
 mod CompleteLaws
 mod EngineLaws
-mod EngineRuns
+mod EngineRunLaws
 mod GameLaws
-mod GameWins
-mod OneGame
-mod OneStatus
+mod GameWinLaws
+mod OneGameLaws
+mod OneStatusLaws
 mod OutputLaws
 mod RefusalLaws
 mod SessionLaws

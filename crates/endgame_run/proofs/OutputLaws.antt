@@ -11,7 +11,7 @@ use Rattle.endgame_run.specs.File.{Outside}
 use Rattle.endgame_run.specs.Game.{IsGameRun}
 use Rattle.endgame_run.specs.Output.{IsPartOfDecided}
 use Rattle.endgame_run.specs.Verdict.{HasReason, IsWritten, Pose}
-use Rattle.endgame_run.proofs.GameWins.{map_told}
+use Rattle.endgame_run.proofs.GameWinLaws.{map_told}
 
 pub part_output : (words : List (List ℕ)) (o : Outside) (before now : Option (List ℕ)) (result : Status) → IsWritten words o before now result ⊎ IsGameRun words o before now result
     → result ≢ Done → IsPartOfDecided words o before now result

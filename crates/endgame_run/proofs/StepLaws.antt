@@ -6,7 +6,7 @@ use Rattle.std.specs.Prelude.{Option}
 use Rattle.go_grid.specs.Region.{Region}
 use Rattle.sgf_go.specs.declared.settings.Setup.{Setup}
 use Rattle.board_gen.specs.Trial.{IsTrialBoard}
-use Rattle.board_gen.proofs.OneBoard.{one_board}
+use Rattle.board_gen.proofs.OneBoardLemmas.{one_board}
 use Rattle.gd_words.specs.Job.{IsOnlyJob, Job}
 use Rattle.gd_words.specs.Task.{Task}
 use Rattle.gd_words.specs.Task.Task.{solve, safe, values, play, trial, calc, gtp}
@@ -20,7 +20,7 @@ use Rattle.sgf_go.specs.File.{Reads}
 use Rattle.endgame_run.specs.File.{World, told_of}
 use Rattle.desk_io.specs.Files.{Files}
 use Rattle.endgame_run.specs.inner.Top.{AreToldSteps, IsModest}
-use Rattle.sgf_go.proofs.OneReading.{one_setup}
+use Rattle.sgf_go.proofs.OneReadingLemmas.{one_setup}
 use Rattle.endgame_run.proofs.PoseLaws.{one_number, trial_unposed}
 use Rattle.endgame_run.specs.Verdict.{AreNeededRegions, AreSteps, AreStepsFor, AsksAbout, HasLimits, NeedRegions, Pose, limits_of}
 

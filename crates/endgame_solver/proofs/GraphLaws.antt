@@ -35,7 +35,7 @@ use Rattle.local_graph.specs.FiniteLocalPlay.{HasNoCycle}
 use Rattle.local_graph.specs.inner.Graph.{edges_at, no_edge}
 use Rattle.local_graph.proofs.EdgeListLemmas.{node_inside}
 use Rattle.local_graph.proofs.OrderLemmas.{edge_for, same_place}
-use Rattle.go_grid.proofs.Decided.{Decided, alike, some_below}
+use Rattle.go_grid.proofs.DecidedLemmas.{Decided, alike, some_below}
 use Rattle.local_value.proofs.MoveLaws.{cells_at, move_of, next_place, position_at}
 use Rattle.region_book.specs.Shape.{colour_after}
 use Rattle.region_book.proofs.SymmetryLaws.{colour_back, back}

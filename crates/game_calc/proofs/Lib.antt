@@ -7,4 +7,4 @@ pub mod LineSteps
 pub mod BehindSteps
 pub mod TurnSteps
 pub mod AnswerSteps
-pub mod OneLine
+pub mod OneLineLaws

@@ -16,7 +16,7 @@ use Rattle.short_games.proofs.OrderLaws.{le-trans, le-refl}
 use Rattle.short_games.proofs.SumLaws.{plus-nought}
 use Rattle.short_games.proofs.NumberLaws.{num-lt, num-zero}
 use Rattle.game_store.proofs.EntryLaws.{has-pick}
-use Rattle.short_games.proofs.Existence.{canon}
+use Rattle.short_games.proofs.ExistenceLaws.{canon}
 use Rattle.short_games.proofs.TextOrderLaws.{text-order, sorted-has, has-sorted}
 use Rattle.short_games.proofs.ReductionLaws.{number-canonical, canonical-same, same-canonical}
 use Rattle.game_canon.specs.declared.change.Change.{Change}

@@ -11,7 +11,7 @@ use Rattle.short_games.specs.Stops.{IsLeftStop, IsRightStop, IsHalf}
 use Rattle.short_games.specs.Parts.{IsOption, IsFollower, IsNumberOf}
 use Rattle.short_games.specs.Parts.IsFollower.{itself, further}
 use Rattle.short_games.proofs.OrderLaws.{size-left, size-right}
-use Rattle.short_games.proofs.WallNumbers.{num-one_to_one}
+use Rattle.short_games.proofs.WallNumberLaws.{num-one_to_one}
 use Rattle.short_games.proofs.StopLaws.{left_stop-is, right_stop-is}
 use Rattle.short_games.proofs.StopLaws.StopIs.{of_number, of_game}
 use Rattle.game_canon.specs.inner.Sides.{Comes}

@@ -12,7 +12,7 @@ use Rattle.game_store.specs.inner.Meaning.{IsWithin, Within, value_of, values_af
 use Rattle.game_store.specs.Meaning.Wanted.{number, options}
 use Rattle.short_games.specs.TextOrder.{sorted, IsCanonicalTree}
 use Rattle.short_games.proofs.TextOrderLaws.{sorted-has, has-sorted}
-use Rattle.short_games.proofs.WallNumbers.{num-one_to_one}
+use Rattle.short_games.proofs.WallNumberLaws.{num-one_to_one}
 use Rattle.std.proofs.Math.ListN.{get_or-map}
 use Rattle.std.proofs.lemmas.Option.{same_Some}
 use Rattle.game_store.specs.declared.Slot.{Slot}

@@ -13,7 +13,7 @@ use Rattle.game_text.specs.Reading.ReadsOptions.{no_option, first, first_refused
 use Rattle.game_text.specs.Reading.ReadsMore.{no_more, next, next_refused, more_stray, more_cut}
 use Rattle.game_text.specs.Reading.ReadsText.{whole_text, followed, unread}
 use Rattle.game_text.specs.inner.Machine.{Answer, Frame, on_left, on_right, side_in, with_option, BehindRight, BehindSide, BehindGame, TextState, first_option, a_game, other_options, all_read, Rest}
-use Rattle.game_text.proofs.OneReading.{one-options}
+use Rattle.game_text.proofs.OneReadingLaws.{one-options}
 
 then-none : (Gs : Trees) → Gs then none ≡ Gs
 then-none none = refl

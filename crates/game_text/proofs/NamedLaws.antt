@@ -11,9 +11,9 @@ use Rattle.short_games.proofs.CanonicalLaws.{canonical-left, canonical-right}
 use Rattle.short_games.proofs.ReductionLaws.{canonical-same}
 use Rattle.short_games.proofs.TextOrderLaws.{text-order}
 use Rattle.game_text.specs.NamedText.{name, in_braces, joined, name_or, named_text, named_texts}
-use Rattle.game_text.proofs.Spelled.{IsSpelled, plain, braced, AreSpelled, no_texts, spelled-insert, plain-brace, braces-apart}
-use Rattle.game_text.proofs.NameKinds.{is-named, one-named, named-plain}
-use Rattle.game_text.proofs.TextLists.{In, insert-in, in-insert_new, in-insert_old}
+use Rattle.game_text.proofs.SpelledTextLaws.{IsSpelled, plain, braced, AreSpelled, no_texts, spelled-insert, plain-brace, braces-apart}
+use Rattle.game_text.proofs.NameKindLaws.{is-named, one-named, named-plain}
+use Rattle.game_text.proofs.TextListLaws.{In, insert-in, in-insert_new, in-insert_old}
 
 -- the text of a tree with a name, and of one without
 pub text-named : (G : Tree) (t : List ℕ) → name G ≡ Some t → named_text G ≡ t

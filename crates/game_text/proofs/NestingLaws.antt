@@ -11,9 +11,9 @@ use Rattle.short_games.specs.Text.{open_brace, bar, close_brace}
 use Rattle.short_games.specs.TextOrder.{lesser_text}
 use Rattle.game_text.specs.NamedText.{name, insert_text, in_braces, name_or, named_text, named_texts, named_depth_or, named_depth, named_depths}
 use Rattle.game_text.specs.inner.Nesting.{braces_after}
-use Rattle.game_text.proofs.Spelled.{IsPlain, ArePlain, behind_commas, row, braces-row}
-use Rattle.game_text.proofs.NameKinds.{is-named, named-plain}
-use Rattle.game_text.proofs.TextLists.{total}
+use Rattle.game_text.proofs.SpelledTextLaws.{IsPlain, ArePlain, behind_commas, row, braces-row}
+use Rattle.game_text.proofs.NameKindLaws.{is-named, named-plain}
+use Rattle.game_text.proofs.TextListLaws.{total}
 
 -- the greatest number of open braces, where n are open and k is the greatest so far
 unfoldable pub deepest : ℕ → ℕ → List ℕ → ℕ

@@ -9,7 +9,7 @@ use Rattle.game_text.specs.inner.Machine.{Frame, on_left, on_right, side_in, wit
 use Rattle.game_text.specs.declared.pending.Opening.{Opening}
 use Rattle.game_text.specs.declared.pending.Place.TheVariants as place
 use Rattle.game_text.proofs.MachineSteps.{state_after}
-use Rattle.game_text.proofs.NamedForms.{named-more, named-kept}
+use Rattle.game_text.proofs.NamedFormLaws.{named-more, named-kept}
 
 -- the byte at a place, and those behind it
 pub byte-drop : (text : List ℕ) (i : ℕ) → i < length text → drop i text ≡ get_or text i 0 ∷ drop (i + 1) text

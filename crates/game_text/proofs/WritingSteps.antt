@@ -21,13 +21,13 @@ use Rattle.game_text.specs.declared.errors.WriteError.{WriteError}
 use Rattle.game_text.specs.declared.errors.WriteError.TheVariants.{Long, Deep, Memory}
 use Rattle.game_text.specs.Refusals.{IsWriteRefusal}
 use Rattle.game_text.specs.inner.Written.{HasText, AreKept, HaveTexts, HasOptionTexts, IsTooLong, AreWritten}
-use Rattle.game_text.proofs.NumberTexts.{number_of-num}
-use Rattle.game_text.proofs.Nimbers.{option-nimber}
-use Rattle.game_text.proofs.Spelled.{behind_commas, row, braces-row}
-use Rattle.game_text.proofs.TextLists.{In}
-use Rattle.game_text.proofs.NameKinds.{IsNamed, a_number, a_nimber, an_up, a_down, a_switch, is-named}
+use Rattle.game_text.proofs.NumberTextLaws.{number_of-num}
+use Rattle.game_text.proofs.NimberLaws.{option-nimber}
+use Rattle.game_text.proofs.SpelledTextLaws.{behind_commas, row, braces-row}
+use Rattle.game_text.proofs.TextListLaws.{In}
+use Rattle.game_text.proofs.NameKindLaws.{IsNamed, a_number, a_nimber, an_up, a_down, a_switch, is-named}
 use Rattle.game_text.proofs.NamedLaws.{text-unnamed, in-named}
-use Rattle.game_text.proofs.NamesFound.{name-number, name-nimber, number-text, zero-tree, some-none}
+use Rattle.game_text.proofs.FoundNameLaws.{name-number, name-nimber, number-text, zero-tree, some-none}
 
 -- the texts of the options
 pub left-texts : (Ts : List Tree) (id : ℕ) (bytes : List ℕ) (spans : ℕ → Option Span) (ls rs : List ℕ) → IsOptions Ts id ls rs → HasOptionTexts Ts bytes spans id → HaveTexts Ts bytes spans ls

@@ -1,6 +1,6 @@
-pub mod Names
-pub mod Unique
-pub mod Saying
-pub mod Listing
-pub mod Jobs
-pub mod Bounds
+pub mod NameLemmas
+pub mod OneOptionLemmas
+pub mod SayingLemmas
+pub mod ListingLemmas
+pub mod JobLemmas
+pub mod BoundLemmas

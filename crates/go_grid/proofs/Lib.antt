@@ -9,5 +9,5 @@ pub mod ChainLemmas
 pub mod PlayLemmas
 pub mod LinkLemmas
 pub mod NameLemmas
-mod Instances
-pub mod Decided
+mod ExampleLemmas
+pub mod DecidedLemmas

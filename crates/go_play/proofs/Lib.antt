@@ -1,3 +1,3 @@
-pub mod BoardPlay
+pub mod BoardPlayLemmas
 pub mod PlaceLemmas
 pub mod StripLemmas

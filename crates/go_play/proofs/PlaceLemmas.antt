@@ -18,7 +18,7 @@ use Rattle.go_play.specs.declared.placements.PlaceError.TheVariants.{Occupied, S
 use Rattle.go_play.specs.Place.{IsTaken, IsCleared, Breathes, PlacesStone}
 use Rattle.go_play.specs.inner.Place.{with_stone}
 use Rattle.go_play.specs.inner.Tried.{IsLost, Judges}
-use Rattle.go_play.proofs.BoardPlay.{breathes_from, breathes_to, chain_to, taken_stone, takes}
+use Rattle.go_play.proofs.BoardPlayLemmas.{breathes_from, breathes_to, chain_to, taken_stone, takes}
 
 -- a chain of the other colour is taken, or it isn't
 pub lost_chain : (b : Board) (d : Colour) (s : ℕ) (theirs chain old new : List Bool)

@@ -14,7 +14,7 @@ use Rattle.go_grid.specs.Play.{is_stone, IsWithout}
 use Rattle.go_grid.specs.Play as play
 use Rattle.go_grid.proofs.PlayLemmas.{one_without}
 use Rattle.go_play.specs.Place.{IsCleared, IsTaken}
-use Rattle.go_play.proofs.BoardPlay.{taken_stone}
+use Rattle.go_play.proofs.BoardPlayLemmas.{taken_stone}
 
 -- the cells, without those that are marked
 abbrev pub strip : List Bool → List Cell → List Cell

@@ -45,7 +45,7 @@ fn named(word: &str) -> Option<Command>
 }
 
 /// The command that a word names.
-#[tactic(auto, using(crate::proofs::Names::name_is_text))]
+#[tactic(auto, using(crate::proofs::NameLemmas::name_is_text))]
 pub(crate) fn read_command(word: &[u8]) -> Option<Command>
     ensures some { IfSome result (λ command. word.now ≡ command_word command) }
     ensures none { IfNone result ((command : Command) → word.now ≢ command_word command) }

@@ -70,7 +70,7 @@ fn read_column(letter: u8) -> Option<u8>
 }
 
 /// The row from 1 to 25 that digits without a leading zero write.
-#[tactic(auto, using(board_words::proofs::Digits::row_is, board_words::proofs::Digits::row_read))]
+#[tactic(auto, using(board_words::proofs::DigitLemmas::row_is, board_words::proofs::DigitLemmas::row_read))]
 fn read_row(digits: &[u8]) -> Option<u8>
     ensures some { IfSome result (λ row. (1 ≤ row) × (row ≤ 25) × (digits.now ≡ decimal row)) }
     ensures none { IfNone result ((row : ℕ) → 1 ≤ row → row ≤ 25 → ¬ (digits.now ≡ decimal row)) }

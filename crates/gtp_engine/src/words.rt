@@ -20,7 +20,7 @@ fn keep(byte: u8, text: &mut Vec<u8>) -> Result<(), AllocError>
 }
 
 /// What counts of a line.
-#[tactic(auto, using(crate::proofs::Cleaning::cleaned_more, crate::proofs::Cleaning::cleaned_comment, crate::proofs::Cleaning::cleaned_all))]
+#[tactic(auto, using(crate::proofs::CleanLineLemmas::cleaned_more, crate::proofs::CleanLineLemmas::cleaned_comment, crate::proofs::CleanLineLemmas::cleaned_all))]
 pub(crate) fn clean(alloc: Global, line: &[u8]) -> Result<Vec<u8>, AllocError>
     ensures { IfOk result (λ text. text.items ≡ cleaned line.now) }
 {
@@ -42,7 +42,7 @@ fn is_blank(byte: u8) -> bool
 }
 
 /// How many blanks a text begins with.
-#[tactic(auto, using(crate::proofs::Splitting::one_blank, std::proofs::lemmas::List::take_all))]
+#[tactic(auto, using(crate::proofs::WordLemmas::one_blank, std::proofs::lemmas::List::take_all))]
 fn blanks_before(text: &[u8]) -> usize
     ensures within { result ≤ length text.now }
     ensures blanks { AreBlanks (take result text.now) }
@@ -57,7 +57,7 @@ fn blanks_before(text: &[u8]) -> usize
 }
 
 /// How many bytes a text has before its first blank.
-#[tactic(auto, using(crate::proofs::Splitting::one_letter, std::proofs::lemmas::List::take_all))]
+#[tactic(auto, using(crate::proofs::WordLemmas::one_letter, std::proofs::lemmas::List::take_all))]
 fn word_length(text: &[u8]) -> usize
     ensures within { result ≤ length text.now }
     ensures word { All (λ b. ¬ (b ≡ 32)) (take result text.now) }
@@ -96,7 +96,7 @@ fn part(text: &[u8]) -> Option<Parted<'_>>
 }
 
 /// The words of a text.
-#[tactic(auto, using(crate::proofs::Splitting::split_all))]
+#[tactic(auto, using(crate::proofs::WordLemmas::split_all))]
 pub(crate) fn split<'a>(alloc: Global, text: &'a [u8]) -> Result<Vec<&'a [u8]>, AllocError>
     ensures { IfOk result (λ words. AreWords text.now (map (λ w. w.now) words.items)) }
 {

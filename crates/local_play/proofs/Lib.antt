@@ -1,6 +1,6 @@
 pub mod PackLemmas
 pub mod BitLemmas
-pub mod PackBits
+pub mod PackBitLemmas
 pub mod SetLemmas
 pub mod LinkLemmas
 pub mod LastingLemmas

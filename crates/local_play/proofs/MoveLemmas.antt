@@ -20,7 +20,7 @@ use Rattle.local_play.specs.inner.Places.{IsCountOf}
 use Rattle.local_play.specs.Links.{IsTable, near_at}
 use Rattle.local_play.specs.inner.Links.{IsReached}
 use Rattle.local_play.specs.inner.Lasting.{IsTurn, CanStand, Lasts, Takes, Stands}
-use Rattle.local_play.proofs.PackBits.{length-cleared, cleared_gone, cleared_kept, cleared_count}
+use Rattle.local_play.proofs.PackBitLemmas.{length-cleared, cleared_gone, cleared_kept, cleared_count}
 use Rattle.local_play.proofs.SetLemmas.{alone_bit}
 use Rattle.local_play.proofs.LinkLemmas.{linked_place}
 use Rattle.local_play.proofs.LastingLemmas.{stone_stands, removed_is, removed_from, removed_stands, stands_free, not_legal}

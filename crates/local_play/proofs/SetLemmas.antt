@@ -18,7 +18,7 @@ use Rattle.local_play.specs.declared.places.Places.{Places}
 use Rattle.local_play.specs.Places.{HasBit, Has}
 use Rattle.local_play.specs.inner.Places.{IsAlone, IsFirst, HasTwo}
 use Rattle.local_play.proofs.BitLemmas.{bit_cases, has_zero, has_intersection, has_small}
-use Rattle.local_play.proofs.PackBits.{pack_bit, stone_bit, cleared_bits}
+use Rattle.local_play.proofs.PackBitLemmas.{pack_bit, stone_bit, cleared_bits}
 
 -- the bits of all places are those of a position full of black stones
 all_black : 6148914691236517205 ≡ pack (replicate 32 cell.Black)

@@ -17,7 +17,7 @@ use Rattle.local_play.specs.LocalPlay.{held_at, is_beside, is_stone, with_stone,
 use Rattle.local_play.specs.inner.LocalPlay.{InLocalChain, IsFree, IsOpen, IsRemoved}
 use Rattle.local_value.specs.LocalGame.{Step}
 use Rattle.local_value.specs.PositionTree.{IsStep}
-use Rattle.go_grid.proofs.Decided.{Decided, alike, both, denied, either, leads_or_not, some_below}
+use Rattle.go_grid.proofs.DecidedLemmas.{Decided, alike, both, denied, either, leads_or_not, some_below}
 use Rattle.go_grid.proofs.PlayLemmas.{long_after, held_inside}
 use Rattle.go_grid.proofs.BoardLemmas.{same_or_not}
 use Rattle.local_graph.specs.Built.{Built}

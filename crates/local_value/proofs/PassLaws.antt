@@ -33,7 +33,7 @@ use Rattle.local_value.proofs.OptionsLaws.{no-edges, number-as}
 use Rattle.go_grid.specs.declared.grid.Cell.{Cell}
 use Rattle.local_graph.proofs.OrderLemmas.{same_place}
 use Rattle.local_graph.proofs.PlayLemmas.{plays_long}
-use Rattle.short_games.proofs.Existence.{canon}
+use Rattle.short_games.proofs.ExistenceLaws.{canon}
 use Rattle.short_games.proofs.TextOrderLaws.{text-order}
 use Rattle.game_canon.specs.declared.errors.FormError.{FormError}
 use Rattle.game_canon.specs.declared.errors.FormError.TheVariants.{Parts, Bounds, Memory}

@@ -1,8 +1,8 @@
-pub mod Sides
-pub mod Turns
-pub mod Going
-pub mod Wins
-pub mod Named
-pub mod OneAsked
-pub mod OneMove
-pub mod OneText
+pub mod SideLaws
+pub mod TurnLaws
+pub mod SessionLaws
+pub mod WinLaws
+pub mod NamedWinnerLaws
+pub mod OneRequestLaws
+pub mod OneMoveLaws
+pub mod OneTextLaws

@@ -6,4 +6,4 @@ pub mod ShapeLaws
 pub mod MadeLaws
 pub mod BeginLaws
 pub mod PlacesLaws
-mod Instances
+mod ExampleLaws

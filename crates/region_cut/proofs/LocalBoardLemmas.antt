@@ -21,7 +21,7 @@ use Rattle.go_grid.proofs.BoardLemmas.{empty_not_stone, same_stone}
 use Rattle.go_grid.proofs.WalkLemmas.{joined_end, joined_back, joined_join}
 use Rattle.go_grid.specs.Play.{held_at, Holds, InChain, IsTaken as IsTakenBy, is_stone, with_stone as with_cell}
 use Rattle.go_play.specs.Place.{IsBy, Never, Breathes, IsSameSize, IsPlaced, IsTaken}
-use Rattle.go_play.proofs.BoardPlay.{stands_from, placed_long}
+use Rattle.go_play.proofs.BoardPlayLemmas.{stands_from, placed_long}
 use Rattle.benson_life.specs.Life.{IsAlive}
 use Rattle.benson_life.specs.Region.{IsContested}
 use Rattle.benson_life.proofs.WallLemmas.{walls_breathe}

@@ -16,7 +16,7 @@ pub(crate) fn rest_of(text: &[u8], from: usize) -> &[u8]
     &text[from..]
 }
 
-#[tactic(auto, using(crate::proofs::Scans::zeros_first, crate::proofs::Scans::zeros_not, crate::proofs::Scans::zeros_end))]
+#[tactic(auto, using(crate::proofs::ScanLemmas::zeros_first, crate::proofs::ScanLemmas::zeros_not, crate::proofs::ScanLemmas::zeros_end))]
 fn are_zeros(bytes: &[u8]) -> bool
     ensures { result ≡ all_zeros bytes.now }
 {
@@ -50,7 +50,7 @@ fn read_fraction(some: bool, bytes: &[u8]) -> Option<u32>
 }
 
 /// The halves that a text without a sign says.
-#[tactic(auto, using(crate::proofs::Scans::scan_digit, crate::proofs::Scans::scan_large, crate::proofs::Scans::scan_dot, crate::proofs::Scans::scan_bad, crate::proofs::Scans::scan_end))]
+#[tactic(auto, using(crate::proofs::ScanLemmas::scan_digit, crate::proofs::ScanLemmas::scan_large, crate::proofs::ScanLemmas::scan_dot, crate::proofs::ScanLemmas::scan_bad, crate::proofs::ScanLemmas::scan_end))]
 fn read_halves(text: &[u8]) -> Option<u32>
     ensures value { result ≡ scan 0 false text.now }
     ensures most { IfSome result (λ n. n ≤ 2 * MOST_KOMI + 1) }
@@ -96,7 +96,7 @@ fn read_signed(text: &[u8]) -> Option<i64>
 
 /// The half-points of a komi, or `None` where the text isn't one: an optional sign, digits of at most 999,999, and
 /// optionally a point and further digits, that are all `0` or a `5` and then only `0`.
-#[tactic(auto, using(crate::proofs::Komis::komi_some, crate::proofs::Komis::komi_none))]
+#[tactic(auto, using(crate::proofs::KomiLemmas::komi_some, crate::proofs::KomiLemmas::komi_none))]
 pub fn read_komi(text: &[u8]) -> Option<i64>
     ensures some { IfSome result (λ k. IsKomi text.now k) }
     ensures none { IfNone result ((k : ℤ) → ¬ IsKomi text.now k) }

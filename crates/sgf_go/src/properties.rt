@@ -56,7 +56,7 @@ pub(crate) fn first_of(property: &Property) -> &[u8]
 }
 
 /// The first value of the first property of a name, trimmed.
-#[tactic(auto, using(crate::proofs::FirstValues::value_here, crate::proofs::FirstValues::value_on, crate::proofs::FirstValues::value_none))]
+#[tactic(auto, using(crate::proofs::FirstValueLemmas::value_here, crate::proofs::FirstValueLemmas::value_on, crate::proofs::FirstValueLemmas::value_none))]
 pub(crate) fn value_of<'a>(properties: &'a [Property], name: &[u8]) -> Option<&'a [u8]>
     ensures { option_map (λ t. t.now) result ≡ value_of name.now
         (map property_text properties.now) }

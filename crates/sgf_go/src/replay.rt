@@ -46,7 +46,7 @@ fn point_on(board: &Board, text: &[u8]) -> Option<Point>
 }
 
 /// Sets the points of a row from one column to another.
-#[tactic(auto, using(crate::proofs::Areas::row_start, crate::proofs::Areas::row_step, crate::proofs::Areas::row_end))]
+#[tactic(auto, using(crate::proofs::AreaLemmas::row_start, crate::proofs::AreaLemmas::row_step, crate::proofs::AreaLemmas::row_end))]
 fn set_row(board: &mut Board, row: u16, left: u16, right: u16, cell: Cell)
     requires column { right < board.old.columns }
     requires row { row < board.old.rows }
@@ -60,7 +60,7 @@ fn set_row(board: &mut Board, row: u16, left: u16, right: u16, cell: Cell)
 }
 
 /// Sets the points of an area.
-#[tactic(auto, using(crate::proofs::Areas::area_start, crate::proofs::Areas::area_step, crate::proofs::Areas::area_end))]
+#[tactic(auto, using(crate::proofs::AreaLemmas::area_start, crate::proofs::AreaLemmas::area_step, crate::proofs::AreaLemmas::area_end))]
 fn set_area(board: &mut Board, area: Area, cell: Cell)
     requires column { area.right < board.old.columns }
     requires row { area.bottom < board.old.rows }
@@ -74,7 +74,7 @@ fn set_area(board: &mut Board, area: Area, cell: Cell)
 
 impl Replay {
     /// A value of AB, AW or AE.
-    #[tactic(auto, using(crate::proofs::Parts::sets_nothing, crate::proofs::Parts::sets_area, crate::proofs::Parts::sets_fault))]
+    #[tactic(auto, using(crate::proofs::PartLemmas::sets_nothing, crate::proofs::PartLemmas::sets_area, crate::proofs::PartLemmas::sets_fault))]
     fn set_value(&mut self, node: u32, cell: Cell, value: &[u8]) -> Result<(), SetupFault>
         ensures follows { Follows (SetsValue node cell
             (trimmed value.now)) self.old self.new result }
@@ -96,7 +96,7 @@ impl Replay {
     }
 
     /// The values of AB, AW or AE, in order.
-    #[tactic(auto, using(crate::proofs::Parts::goes_step, crate::proofs::Parts::goes_fault, crate::proofs::Parts::goes_end))]
+    #[tactic(auto, using(crate::proofs::PartLemmas::goes_step, crate::proofs::PartLemmas::goes_fault, crate::proofs::PartLemmas::goes_end))]
     fn set_values(&mut self, node: u32, cell: Cell, values: &[Vec<u8>]) -> Result<(), SetupFault>
         ensures follows { Follows (For (λ v. SetsValue node cell
             (trimmed v.items)) values.now) self.old self.new result }
@@ -132,7 +132,7 @@ impl Replay {
     }
 
     /// A move at a point.
-    #[tactic(auto, using(crate::proofs::Parts::counts_move))]
+    #[tactic(auto, using(crate::proofs::PartLemmas::counts_move))]
     fn put_stone(&mut self, node: u32, colour: Colour, point: Point) -> Result<(), SetupFault>
         requires point { point < length self.old.board.cells }
         requires counts { Counts self.old }
@@ -155,7 +155,7 @@ impl Replay {
     }
 
     /// A property that sets points, or any other.
-    #[tactic(auto, using(crate::proofs::Parts::follows_values, crate::proofs::Parts::follows_nothing))]
+    #[tactic(auto, using(crate::proofs::PartLemmas::follows_values, crate::proofs::PartLemmas::follows_nothing))]
     fn set_property(&mut self, node: u32, property: &Property) -> Result<(), SetupFault>
         ensures follows { Follows (SetsProperty node
             (property_text property.now)) self.old self.new result }
@@ -170,7 +170,7 @@ impl Replay {
     }
 
     /// The properties of a node that set points.
-    #[tactic(auto, using(crate::proofs::Parts::goes_step, crate::proofs::Parts::goes_fault, crate::proofs::Parts::goes_end))]
+    #[tactic(auto, using(crate::proofs::PartLemmas::goes_step, crate::proofs::PartLemmas::goes_fault, crate::proofs::PartLemmas::goes_end))]
     fn set_properties(&mut self, node: u32, properties: &[Property]) -> Result<(), SetupFault>
         ensures follows { Follows (For (λ p. SetsProperty node
             (property_text p)) properties.now) self.old self.new result }
@@ -185,7 +185,7 @@ impl Replay {
     }
 
     /// A property that moves, or any other.
-    #[tactic(auto, using(crate::proofs::Parts::moves_by, crate::proofs::Parts::moves_nothing))]
+    #[tactic(auto, using(crate::proofs::PartLemmas::moves_by, crate::proofs::PartLemmas::moves_nothing))]
     fn move_property(&mut self, node: u32, property: &Property) -> Result<(), SetupFault>
         requires counts { Counts self.old }
         requires few { self.old.played < MOST_BYTES }
@@ -201,7 +201,7 @@ impl Replay {
     }
 
     /// The properties of a node that move.
-    #[tactic(auto, using(crate::proofs::Parts::goes_step, crate::proofs::Parts::goes_fault, crate::proofs::Parts::goes_end))]
+    #[tactic(auto, using(crate::proofs::PartLemmas::goes_step, crate::proofs::PartLemmas::goes_fault, crate::proofs::PartLemmas::goes_end))]
     fn move_properties(&mut self, node: u32, properties: &[Property]) -> Result<(), SetupFault>
         requires counts { Counts self.old }
         requires few { self.old.played + length properties.now ≤ MOST_BYTES }
@@ -240,7 +240,7 @@ impl Replay {
     }
 
     /// A node: its setup, then its side, then its moves.
-    #[tactic(auto, using(crate::proofs::Parts::node_follows, crate::proofs::Parts::node_fault, crate::proofs::Parts::side_fault, crate::proofs::Parts::counts_same))]
+    #[tactic(auto, using(crate::proofs::PartLemmas::node_follows, crate::proofs::PartLemmas::node_fault, crate::proofs::PartLemmas::side_fault, crate::proofs::PartLemmas::counts_same))]
     fn read_node(
         &mut self,
         turn: Option<Colour>,
@@ -260,7 +260,7 @@ impl Replay {
     }
 
     /// The nodes of a line, up to the first move after so many.
-    #[tactic(auto, using(crate::proofs::Parts::line_step, crate::proofs::Parts::line_fault, crate::proofs::Parts::line_stops, crate::proofs::Parts::line_ends, std::proofs::lemmas::List::Sums::sum_by_more, std::proofs::lemmas::List::Sums::sum_by_more_le))]
+    #[tactic(auto, using(crate::proofs::PartLemmas::line_step, crate::proofs::PartLemmas::line_fault, crate::proofs::PartLemmas::line_stops, crate::proofs::PartLemmas::line_ends, std::proofs::lemmas::List::Sums::sum_by_more, std::proofs::lemmas::List::Sums::sum_by_more_le))]
     pub(crate) fn read_line(
         &mut self,
         after: Option<u32>,
@@ -287,7 +287,7 @@ impl Replay {
     }
 
     /// A move by its text.
-    #[tactic(auto, using(crate::proofs::Parts::chooses_pass, crate::proofs::Parts::chooses_stone, crate::proofs::Parts::chooses_nothing))]
+    #[tactic(auto, using(crate::proofs::PartLemmas::chooses_pass, crate::proofs::PartLemmas::chooses_stone, crate::proofs::PartLemmas::chooses_nothing))]
     fn play(&mut self, node: u32, colour: Colour, value: &[u8]) -> Result<(), SetupFault>
         requires counts { Counts self.old }
         requires few { self.old.played < MOST_BYTES }

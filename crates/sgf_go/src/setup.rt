@@ -44,7 +44,7 @@ fn in_range(number: u8) -> Option<u8>
 }
 
 /// One or two digits, from 1 to 25.
-#[tactic(auto, using(crate::proofs::Sizes::side_one, crate::proofs::Sizes::side_two, crate::proofs::Sizes::not_digit, crate::proofs::Sizes::far_one, crate::proofs::Sizes::far_two))]
+#[tactic(auto, using(crate::proofs::SizeLemmas::side_one, crate::proofs::SizeLemmas::side_two, crate::proofs::SizeLemmas::not_digit, crate::proofs::SizeLemmas::far_one, crate::proofs::SizeLemmas::far_two))]
 fn read_number(text: &[u8]) -> Option<u8>
     ensures value { Says (IsSide text.now) result }
     ensures range { IfSome result (λ n. (1 ≤ n) × (n ≤ 25)) }
@@ -163,7 +163,7 @@ fn front_of(text: &[u8], end: usize) -> &[u8]
 }
 
 /// `n` or `columns:rows`.
-#[tactic(auto, using(crate::proofs::Sizes::square_only, crate::proofs::Sizes::sides_only, crate::proofs::Sizes::no_rows, crate::proofs::Sizes::square_at, crate::proofs::Sizes::sides_at))]
+#[tactic(auto, using(crate::proofs::SizeLemmas::square_only, crate::proofs::SizeLemmas::sides_only, crate::proofs::SizeLemmas::no_rows, crate::proofs::SizeLemmas::square_at, crate::proofs::SizeLemmas::sides_at))]
 fn read_size(text: &[u8]) -> Option<Size>
     ensures { Says (IsSize text.now) (option_map extent result) }
 {
@@ -202,7 +202,7 @@ pub fn size_of_board(tree: &Tree) -> Option<Size>
 /// The position at the end of the main line of a record (Smart Game Format, FF[4]) under the settings, or the first thing
 /// that is wrong with it: GM, SZ and KM of node 0 in this order, then node by node AB, AW and AE, PL, and the moves, and at
 /// the end a stone without a liberty.
-#[tactic(auto, using(crate::proofs::Positions::wrong_game, crate::proofs::Positions::bad_size, crate::proofs::Positions::bad_komi, crate::proofs::Positions::line_bad, crate::proofs::Positions::line_good))]
+#[tactic(auto, using(crate::proofs::PositionLemmas::wrong_game, crate::proofs::PositionLemmas::bad_size, crate::proofs::PositionLemmas::bad_komi, crate::proofs::PositionLemmas::line_bad, crate::proofs::PositionLemmas::line_good))]
 pub fn position(alloc: Global, tree: &Tree, settings: &Settings) -> Result<Setup, GoError>
     requires nodes { length tree.now.line.items ≤ MOST_BYTES }
     requires properties { sum_by (λ n. length n.properties.items) tree.now.line.items ≤ MOST_BYTES }
@@ -232,7 +232,7 @@ pub fn position(alloc: Global, tree: &Tree, settings: &Settings) -> Result<Setup
 
 /// A record and settings have at most one position or fault, so each answer of `position` comes exactly where its cause
 /// holds.
-#[tactic(auto, using(crate::proofs::Only::one_position))]
+#[tactic(auto, using(crate::proofs::OnePositionLemmas::one_position))]
 pub fn one_position()
     ensures { OnePosition }
 {}

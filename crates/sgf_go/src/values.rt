@@ -70,7 +70,7 @@ pub(crate) fn read_point(size: Size, text: &[u8]) -> Option<Point>
 }
 
 /// The place behind the white space at the front.
-#[tactic(auto, using(crate::proofs::Trims::front_white, crate::proofs::Trims::front_other, crate::proofs::Trims::front_none))]
+#[tactic(auto, using(crate::proofs::TrimLemmas::front_white, crate::proofs::TrimLemmas::front_other, crate::proofs::TrimLemmas::front_none))]
 fn front_end(bytes: &[u8]) -> usize
     ensures within { result ≤ length bytes.now }
     ensures value { drop result bytes.now ≡ trimmed_front bytes.now }
@@ -86,7 +86,7 @@ fn front_end(bytes: &[u8]) -> usize
 }
 
 /// The place where the white space at the end begins.
-#[tactic(auto, using(crate::proofs::Trims::back_white, crate::proofs::Trims::back_other, crate::proofs::Trims::back_none))]
+#[tactic(auto, using(crate::proofs::TrimLemmas::back_white, crate::proofs::TrimLemmas::back_other, crate::proofs::TrimLemmas::back_none))]
 fn back_start(bytes: &[u8]) -> usize
     ensures within { result ≤ length bytes.now }
     ensures value { take result bytes.now ≡ reverse (trimmed_front (reverse bytes.now)) }

@@ -188,7 +188,7 @@ impl Reader {
 }
 
 /// The first place at which a tree begins.
-#[tactic(auto, using(crate::proofs::Starts::searching))]
+#[tactic(auto, using(crate::proofs::StartLemmas::searching))]
 fn find_start(bytes: &[u8]) -> Option<usize>
     ensures first { MatchOption result (NoStart bytes.now) (IsStart bytes.now) }
     ensures within { IfSome result (λ s. s < length bytes.now) }
@@ -238,7 +238,7 @@ fn read_tree(alloc: Global, bytes: &[u8], start: usize) -> Result<Tree, SgfError
 
 /// Reads the main line of the first tree of a file of at most 1,048,576 bytes. A fault is given exactly where the grammar
 /// of SGF gives it.
-#[tactic(auto, using(crate::proofs::Sizes::counts_of))]
+#[tactic(auto, using(crate::proofs::SizeLemmas::counts_of))]
 pub fn read(alloc: Global, bytes: &[u8]) -> Result<Tree, SgfError>
     requires { length bytes.now ≤ MOST_BYTES }
     ensures answer { AnswersFile bytes.now result }
@@ -259,7 +259,7 @@ fn read_main_line(alloc: Global, bytes: &[u8]) -> Result<Tree, SgfError>
 }
 
 /// A file has at most one answer beside want of memory, so each answer of `read` comes exactly where its cause holds.
-#[tactic(auto, using(crate::proofs::Only::one_answer))]
+#[tactic(auto, using(crate::proofs::OneTreeLemmas::one_answer))]
 pub fn one_answer()
     ensures { OneAnswer }
 {}

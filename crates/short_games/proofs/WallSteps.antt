@@ -6,14 +6,14 @@ use Rattle.short_games.specs.Tree.{Tree, left, right, Has}
 use Rattle.short_games.specs.Number.{num, IsNumberTree}
 use Rattle.short_games.specs.Parts.{IsOption}
 use Rattle.short_games.specs.WallGrids.{IsGreatest, IsLeast, Follow, WallsAre, AllWallsAre, IsMeeting}
-use Rattle.short_games.proofs.WallGreatest.{greatest-filled, least-filled}
+use Rattle.short_games.proofs.GreatestLaws.{greatest-filled, least-filled}
 use Rattle.short_games.specs.inner.Lines.{Rises, Falls}
 use Rattle.short_games.specs.WallGrids.Follow.{apart, met}
 use Rattle.short_games.specs.WallGrids.WallsAre.{of_number, of_game}
-use Rattle.short_games.proofs.WallLines.{follow-zero, falls-from, rises-from, Doubles, greatest-same, least-same, follow-same, parity, Parity}
-use Rattle.short_games.proofs.WallLines.Parity.{even, odd}
-use Rattle.short_games.proofs.WallSolutions.{by_walls, all-left, all-right, all-from, walls-unique, walls-steady, IsSteady}
-use Rattle.short_games.proofs.WallsDrawn.{left_same, right_same, left_wall, right_wall, left_scaffold, right_scaffold, left_scaffold-is, right_scaffold-is, NoJump, walls-at}
+use Rattle.short_games.proofs.LineLaws.{follow-zero, falls-from, rises-from, Doubles, greatest-same, least-same, follow-same, parity, Parity}
+use Rattle.short_games.proofs.LineLaws.Parity.{even, odd}
+use Rattle.short_games.proofs.WallSolutionLaws.{by_walls, all-left, all-right, all-from, walls-unique, walls-steady, IsSteady}
+use Rattle.short_games.proofs.DrawnWallLaws.{left_same, right_same, left_wall, right_wall, left_scaffold, right_scaffold, left_scaffold-is, right_scaffold-is, NoJump, walls-at}
 
 no_jump-from : (L R l r : ℕ → ℤ) → ((t : ℕ) → Follow L R t (l t) (r t)) → NoJump L R
 unfolding NoJump

@@ -22,9 +22,9 @@ use Rattle.sum_outcome.specs.Memo.{mover_of_key}
 use Rattle.sum_outcome.specs.inner.Memo.{IsKeyOf}
 use Rattle.sum_outcome.specs.declared.key.Key.{Key}
 use Rattle.sum_outcome.proofs.MemoLaws.{ids_pushed, ids_permuted}
-use Rattle.sum_outcome.proofs.CheapMoves.{IsAt, put-total}
-use Rattle.sum_outcome.proofs.Lists.{pick-at, pick-put}
-use Rattle.sum_outcome.proofs.StopLoop.{same_over, bounded_over, small_fits}
+use Rattle.sum_outcome.proofs.CheapMoveLaws.{IsAt, put-total}
+use Rattle.sum_outcome.proofs.ListLaws.{pick-at, pick-put}
+use Rattle.sum_outcome.proofs.StopLoopLaws.{same_over, bounded_over, small_fits}
 
 -- the games before a place are listed or added to the number
 pub record SplitSoFar (Ts : List Tree) (ids : List ℕ) (x : ℤ) (games : List ℕ) (y : ℤ) (k : ℕ) : Type 0 where

@@ -20,8 +20,8 @@ use Rattle.sum_outcome.specs.Sums.{sum_tree, AreBounds, IsBounded}
 use Rattle.sum_outcome.specs.inner.Search.{put}
 use Rattle.sum_outcome.specs.Opposites.{MayBeTakenOut, IsZero}
 use Rattle.sum_outcome.specs.inner.Opposites.{Cancel, AreOpposite}
-use Rattle.sum_outcome.proofs.CheapMoves.{put-total}
-use Rattle.sum_outcome.proofs.Lists.{pick-at, pick-put, put_back, falls_put, ids_put}
+use Rattle.sum_outcome.proofs.CheapMoveLaws.{put-total}
+use Rattle.sum_outcome.proofs.ListLaws.{pick-at, pick-put, put_back, falls_put, ids_put}
 
 pub taken_out : MayBeTakenOut
 taken_out c G K =

@@ -13,11 +13,11 @@ use Rattle.short_games.specs.WallGrids.Follow.{apart, met}
 use Rattle.short_games.specs.WallGrids.WallsAre.{of_number, of_game}
 use Rattle.thermograph.specs.PastBounds.{IsBreak, IsFractionInBounds, HasBreakPast, IsDrawnPastBounds}
 use Rattle.short_games.proofs.PartLaws.{follower-trans}
-use Rattle.short_games.proofs.WallBetween.{none-between}
-use Rattle.short_games.proofs.WallLines.{below-or_at, follow-same, finer-doubles, Parity, parity}
-use Rattle.short_games.proofs.WallLines.Parity.{even, odd}
-use Rattle.short_games.proofs.WallMeetings.{meeting-exists}
-use Rattle.short_games.proofs.WallSolutions.{all-left, all-right, has_walls-finer, has_walls-unique}
+use Rattle.short_games.proofs.WallBetweenLaws.{none-between}
+use Rattle.short_games.proofs.LineLaws.{below-or_at, follow-same, finer-doubles, Parity, parity}
+use Rattle.short_games.proofs.LineLaws.Parity.{even, odd}
+use Rattle.short_games.proofs.WallMeetingLaws.{meeting-exists}
+use Rattle.short_games.proofs.WallSolutionLaws.{all-left, all-right, has_walls-finer, has_walls-unique}
 use Rattle.short_games.proofs.WallSteps.{IsBounded, walls-within}
 use Rattle.thermograph.proofs.WallLaws.{twice-place, twice-value}
 use Rattle.thermograph.proofs.FlagLaws.{IsStored, number-over, store-bounded}

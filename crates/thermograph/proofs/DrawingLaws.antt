@@ -17,10 +17,10 @@ use Rattle.short_games.specs.WallGrids.{IsGreatest, IsLeast, AllWallsAre, HasWal
 use Rattle.thermograph.specs.inner.Breaks.{IsLevel}
 use Rattle.thermograph.specs.inner.Scaffolds.{wall_of, picked, turned_wall, greatest, rise_at, scaffold_at, AreLevel, AreSteady, IsSteadyLine, Stays, IsTraced}
 use Rattle.thermograph.specs.inner.Drawings.{IsDrawn, AreDrawnBelow, IsDrawing, IsJoined, Jumps, AreDrawn}
-use Rattle.short_games.proofs.WallGreatest.{IsFilled, filled, greatest-one, greatest-more}
-use Rattle.short_games.proofs.WallLines.{greatest-same, least-same}
-use Rattle.short_games.proofs.WallSolutions.{walls-unique, walls-steady}
-use Rattle.short_games.proofs.WallsDrawn.{left_wall, right_wall, left_scaffold, right_scaffold, left_scaffold-is, right_scaffold-is, walls-at}
+use Rattle.short_games.proofs.GreatestLaws.{IsFilled, filled, greatest-one, greatest-more}
+use Rattle.short_games.proofs.LineLaws.{greatest-same, least-same}
+use Rattle.short_games.proofs.WallSolutionLaws.{walls-unique, walls-steady}
+use Rattle.short_games.proofs.DrawnWallLaws.{left_wall, right_wall, left_scaffold, right_scaffold, left_scaffold-is, right_scaffold-is, walls-at}
 use Rattle.short_games.proofs.WallSteps.{solution-drawn, join-drawn, walls-within}
 use Rattle.thermograph.proofs.ScaffoldLaws.{each-picked, rise-rises}
 use Rattle.thermograph.proofs.FlagLaws.{number-over, store-over, store-bounded, IsStored, among-inner, option-listed}
@@ -30,9 +30,9 @@ use Rattle.thermograph.specs.declared.drawings.Drawing.{Drawing}
 use Rattle.short_games.specs.WallGrids.WallsAre.{of_number, of_game}
 use Rattle.thermograph.specs.Breaks.{wall_at, from, IsPath}
 use Rattle.thermograph.specs.Drawings.{AreBreaks, IsTemperature, end_of}
-use Rattle.short_games.proofs.WallNumbers.{num-one_to_one}
-use Rattle.short_games.proofs.WallOver.{over-more}
-use Rattle.short_games.proofs.WallExistence.{jump-odd}
+use Rattle.short_games.proofs.WallNumberLaws.{num-one_to_one}
+use Rattle.short_games.proofs.ExponentLaws.{over-more}
+use Rattle.short_games.proofs.WallExistenceLaws.{jump-odd}
 use Rattle.thermograph.specs.inner.Flags.{IsFlagged, AreFollowers}
 
 -- The scaffolds of a form whose options are drawn.

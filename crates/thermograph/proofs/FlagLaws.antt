@@ -15,8 +15,8 @@ use Rattle.std.proofs.lemmas.Int.{ints}
 use Rattle.short_games.specs.Number.{num, IsNumberTree}
 use Rattle.game_store.specs.Meaning.Wanted.{number, options}
 use Rattle.short_games.proofs.NumberLaws.{num-left, num-right}
-use Rattle.short_games.proofs.WallNumbers.{num-one_to_one}
-use Rattle.short_games.proofs.WallOver.{IsOver}
+use Rattle.short_games.proofs.WallNumberLaws.{num-one_to_one}
+use Rattle.short_games.proofs.ExponentLaws.{IsOver}
 use Rattle.short_games.proofs.WallSteps.{IsBounded}
 
 -- flags, step by step.

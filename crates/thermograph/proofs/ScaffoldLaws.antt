@@ -13,7 +13,7 @@ use Rattle.thermograph.specs.Breaks.{wall_at, toward, from, Reaches, IsPath}
 use Rattle.short_games.specs.WallGrids.{Bends}
 use Rattle.thermograph.proofs.WallLaws.{toward-up, toward-down, toward-same, toward-none, at-before, at-after, from-piece, toward-climbs, toward-dives}
 use Rattle.short_games.specs.inner.Lines.{Rises}
-use Rattle.short_games.proofs.WallLines.{below-or_at}
+use Rattle.short_games.proofs.LineLaws.{below-or_at}
 use Rattle.thermograph.specs.declared.scaffold.Scaffold.{Scaffold}
 
 -- The greatest of several walls, wall by wall.

@@ -12,10 +12,10 @@ use Rattle.thermograph.specs.Drawings.{AreBreaks, DrawWalls, DrawOnGrids, in_par
 use Rattle.thermograph.specs.Thermographs.{breaks, IsFromZero}
 use Rattle.thermograph.specs.inner.Thermographs.{points, AreInBounds}
 use Rattle.short_games.specs.Tree.{Tree}
-use Rattle.short_games.proofs.WallLines.{Doubles, finer-doubles, parity, Parity, below-or_at}
-use Rattle.short_games.proofs.WallLines.Parity.{even, odd}
-use Rattle.short_games.proofs.WallRule.{rule-is}
-use Rattle.short_games.proofs.WallSolutions.{has_walls-finer}
+use Rattle.short_games.proofs.LineLaws.{Doubles, finer-doubles, parity, Parity, below-or_at}
+use Rattle.short_games.proofs.LineLaws.Parity.{even, odd}
+use Rattle.short_games.proofs.WallRuleLaws.{rule-is}
+use Rattle.short_games.proofs.WallSolutionLaws.{has_walls-finer}
 
 -- Lists of break points, break point by break point.
 pub at-before : (t n : ℕ) (x y : ℤ) → t < n → cond (nat_lt t n) x y ≡ x

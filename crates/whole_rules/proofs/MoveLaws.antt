@@ -15,7 +15,7 @@ use Rattle.whole_rules.specs.declared.states.Move.{Move}
 use Rattle.whole_rules.specs.declared.states.Move.TheVariants.{Stone, Spend, Half}
 use Rattle.whole_rules.specs.declared.states.MoveError.{MoveError}
 use Rattle.whole_rules.specs.declared.states.MoveError.TheVariants.{NotContested, Occupied, Suicide, EmptyPurse, NoHalf}
-use Rattle.go_play.proofs.BoardPlay.{suicide_not_placed}
+use Rattle.go_play.proofs.BoardPlayLemmas.{suicide_not_placed}
 use Rattle.whole_rules.specs.WholeGame.{Whole, after, IsLegal, Refuses, rank, ListsMoves, IsFirstMove}
 use Rattle.whole_rules.specs.inner.WholeGame.{MovesBelow}
 

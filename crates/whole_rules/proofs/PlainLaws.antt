@@ -19,7 +19,7 @@ use Rattle.whole_rules.specs.PlainRecursion.{WinsWithin, LosesWithin}
 use Rattle.whole_rules.specs.PlainWinner.{IsOutcome}
 use Rattle.whole_rules.specs.WholeGame.{Whole, IsMove, Leads, after, IsLegal, ListsMoves}
 use Rattle.whole_rules.proofs.OutcomeLaws.{wins-not_loses}
-use Rattle.go_play.proofs.BoardPlay.{placed_same}
+use Rattle.go_play.proofs.BoardPlayLemmas.{placed_same}
 use Rattle.whole_rules.specs.FirstWinningMove.{HasOneWinner}
 
 pub move_same : (s t u : Whole) (m : Move) → IsMove s m t → IsMove s m u → t ≡ u

@@ -21,7 +21,7 @@ use Rattle.whole_rules.specs.declared.states.Move.TheVariants.{Stone, Spend, Hal
 use Rattle.whole_rules.specs.WholeGame.{Whole, IsMove}
 use Rattle.whole_rules.specs.Opening.{IsOpening}
 use Rattle.whole_rules.specs.Walls.{Plays, WallsLast}
-use Rattle.go_play.proofs.BoardPlay.{placed_long, taken_choked, taken_stone}
+use Rattle.go_play.proofs.BoardPlayLemmas.{placed_long, taken_choked, taken_stone}
 
 -- an empty point, and a stone of another colour, lacks the colour
 empty_lacks : (g : Board) (c : Colour) (p : ℕ) → IsEmpty g p → Lacks g c p

@@ -1,7 +1,7 @@
 use Rattle.std.proofs.Common.{arith}
 use Rattle.std.proofs.lemmas.Int.{ints}
-use Rattle.dyadic_num.proofs.Simplest.{along, between-from}
-use Rattle.dyadic_num.proofs.Exponents.{by_exponents}
+use Rattle.dyadic_num.proofs.SimplestLemmas.{along, between-from}
+use Rattle.dyadic_num.proofs.ExponentLemmas.{by_exponents}
 use Rattle.dyadic_num.proofs.simplest_between.Goals as goal
 
 pub returns : goal.returns

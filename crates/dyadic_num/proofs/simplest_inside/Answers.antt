@@ -1,6 +1,6 @@
 use Rattle.std.proofs.Common.{arith, refl}
 use Rattle.std.proofs.lemmas.Int.{ints}
-use Rattle.dyadic_num.proofs.Simplest.{along, mirrored}
+use Rattle.dyadic_num.proofs.SimplestLemmas.{along, mirrored}
 use Rattle.dyadic_num.proofs.simplest_inside.Goals as goal
 
 pub returns-then-low-ge0 : goal.returns-then-low-ge0

@@ -6,7 +6,7 @@ use Rattle.short_games.proofs.OrderLaws.{le-trans}
 use Rattle.short_games.proofs.TextOrderLaws.{text-order}
 use Rattle.short_games.proofs.CanonicalLaws.{canonical-unique}
 use Rattle.short_games.proofs.FormLaws.{all-canonical}
-use Rattle.short_games.proofs.Existence.{canon, canon_below}
+use Rattle.short_games.proofs.ExistenceLaws.{canon, canon_below}
 use Rattle.short_games.proofs.canonical_laws.Goals as goal
 
 pub returns-clause-one : goal.returns-clause-one

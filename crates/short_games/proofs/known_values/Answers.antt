@@ -1,4 +1,4 @@
-use Rattle.short_games.proofs.Examples.{known-numbers, known-order, known-sums, known-canonical, known-stops, known-walls}
+use Rattle.short_games.proofs.ExampleLaws.{known-numbers, known-order, known-sums, known-canonical, known-stops, known-walls}
 use Rattle.short_games.proofs.known_values.Goals as goal
 
 pub returns-clause-numbers : goal.returns-clause-numbers

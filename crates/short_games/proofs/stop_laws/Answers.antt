@@ -1,8 +1,8 @@
 use Rattle.std.proofs.Common.{◌+◌}
 use Rattle.short_games.specs.Tree.{size}
-use Rattle.short_games.proofs.WallsDrawn.{left_wall, right_wall}
-use Rattle.short_games.proofs.WallOver.{over-size}
-use Rattle.short_games.proofs.WallExistence.{walls-zero, walls-exist}
+use Rattle.short_games.proofs.DrawnWallLaws.{left_wall, right_wall}
+use Rattle.short_games.proofs.ExponentLaws.{over-size}
+use Rattle.short_games.proofs.WallExistenceLaws.{walls-zero, walls-exist}
 use Rattle.short_games.proofs.StopLaws.{under-left_stop, over-right_stop, stops-ordered}
 use Rattle.short_games.proofs.stop_laws.Goals as goal
 

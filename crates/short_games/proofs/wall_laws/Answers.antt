@@ -1,13 +1,13 @@
 use Rattle.std.proofs.Common.{◌+◌, refl, subst}
 use Rattle.short_games.specs.Tree.{size}
 use Rattle.short_games.specs.Stops.{IsLeftStop, IsRightStop}
-use Rattle.short_games.proofs.WallSolutions.{has_walls-unique, has_walls-finer}
-use Rattle.short_games.proofs.WallsDrawn.{left_wall, right_wall}
-use Rattle.short_games.proofs.WallOver.{over-size}
-use Rattle.short_games.proofs.WallExistence.{walls-zero, walls-exist}
-use Rattle.short_games.proofs.WallMeetings.{meeting-exists}
-use Rattle.short_games.proofs.WallBetween.{none-between, none-bends}
-use Rattle.short_games.proofs.WallRule.{rule-is}
+use Rattle.short_games.proofs.WallSolutionLaws.{has_walls-unique, has_walls-finer}
+use Rattle.short_games.proofs.DrawnWallLaws.{left_wall, right_wall}
+use Rattle.short_games.proofs.ExponentLaws.{over-size}
+use Rattle.short_games.proofs.WallExistenceLaws.{walls-zero, walls-exist}
+use Rattle.short_games.proofs.WallMeetingLaws.{meeting-exists}
+use Rattle.short_games.proofs.WallBetweenLaws.{none-between, none-bends}
+use Rattle.short_games.proofs.WallRuleLaws.{rule-is}
 use Rattle.short_games.proofs.wall_laws.Goals as goal
 
 pub returns-clause-exist : goal.returns-clause-exist

@@ -2,7 +2,7 @@ use Rattle.std.proofs.Common.{ℕ}
 use Rattle.go_grid.specs.Marks.{IsMarked}
 use Rattle.go_grid.specs.Parts.{label}
 use Rattle.benson_life.proofs.EyesLemmas.{some_is}
-use Rattle.benson_life.proofs.EyeLists.{eyes_inside}
+use Rattle.benson_life.proofs.EyeListLemmas.{eyes_inside}
 use Rattle.benson_life.proofs.StrikingLemmas.{alive_stone, alive_whole, counted_same}
 use Rattle.benson_life.proofs.counted_points.counted_points.Goals as goal
 

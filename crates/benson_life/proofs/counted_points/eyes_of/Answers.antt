@@ -2,7 +2,7 @@ use Rattle.std.proofs.Common.{arith, refl, sym, subst}
 use Rattle.std.proofs.lemmas.Bool.{both_ways}
 use Rattle.go_grid.specs.Marks.{IsMarked}
 use Rattle.go_grid.proofs.PointsLemmas.{noted_start, noted_one, noted_skip}
-use Rattle.benson_life.proofs.EyeLists.{KeptAt, eye_item, kept_end}
+use Rattle.benson_life.proofs.EyeListLemmas.{KeptAt, eye_item, kept_end}
 use Rattle.benson_life.proofs.counted_points.eyes_of.Goals as goal
 use Rattle.benson_life.proofs.counted_points.eyes_of.Goals.{then-not-contains+then-contains, else-not-contains, else-not-contains-via-then-not-contains+else-contains, else-not-contains-via-else-not-contains}
 

@@ -1,6 +1,6 @@
 use Rattle.std.proofs.Common.{◌≡◌, ◌∙◌, arith, refl}
 use Rattle.std.proofs.lemmas.Bool.{both_ways}
-use Rattle.benson_life.proofs.EyeLists.{eye_item, some_set, some_skip, some_end}
+use Rattle.benson_life.proofs.EyeListLemmas.{eye_item, some_set, some_skip, some_end}
 use Rattle.benson_life.proofs.living_chains.some_eyes.Goals as goal
 use Rattle.benson_life.proofs.living_chains.some_eyes.Goals.{then-not-contains, else-not-contains}
 

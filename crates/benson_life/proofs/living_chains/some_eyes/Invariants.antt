@@ -1,4 +1,4 @@
-use Rattle.benson_life.proofs.EyeLists.{SomeEyes}
+use Rattle.benson_life.proofs.EyeListLemmas.{SomeEyes}
 use Rattle.benson_life.proofs.living_chains.some_eyes.Given as goal
 
 abbrev pub invariant-loop-eye : goal.invariant-loop-eye

@@ -2,7 +2,7 @@ use Rattle.std.proofs.Common.{◌≡◌, ◌∙◌, arith, refl, subst, sym}
 use Rattle.std.proofs.lemmas.Bool.{both_ways}
 use Rattle.go_grid.specs.Parts.{label}
 use Rattle.go_grid.proofs.PointsLemmas.{noted_start, noted_one, noted_skip}
-use Rattle.benson_life.proofs.EyeLists.{SecondAt, eye_at, eye_item, two_end}
+use Rattle.benson_life.proofs.EyeListLemmas.{SecondAt, eye_at, eye_item, two_end}
 use Rattle.benson_life.proofs.living_chains.two_eyed.Goals as goal
 use Rattle.benson_life.proofs.living_chains.two_eyed.Goals.{then-not-contains+then-not-is, else-not-contains, else-not-contains-via-then-not-contains+else-not-is, else-not-contains-via-else-not-contains}
 

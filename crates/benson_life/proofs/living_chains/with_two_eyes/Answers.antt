@@ -1,6 +1,6 @@
 use Rattle.go_grid.specs.Marks.{IsMarked}
 use Rattle.benson_life.proofs.EyesLemmas.{two_is}
-use Rattle.benson_life.proofs.EyeLists.{eyes_inside}
+use Rattle.benson_life.proofs.EyeListLemmas.{eyes_inside}
 use Rattle.benson_life.proofs.living_chains.with_two_eyes.Goals as goal
 
 pub two_eyed-requires : goal.two_eyed-requires

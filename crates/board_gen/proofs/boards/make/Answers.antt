@@ -1,6 +1,6 @@
 use Rattle.board_gen.proofs.SettledLemmas.{trial_settled}
 use Rattle.board_gen.proofs.RegionLemmas.{short_regions}
-use Rattle.board_gen.proofs.OneBoard.{one_board}
+use Rattle.board_gen.proofs.OneBoardLemmas.{one_board}
 use Rattle.board_gen.proofs.boards.make.Goals as goal
 
 pub returns-clause-only : goal.returns-clause-only

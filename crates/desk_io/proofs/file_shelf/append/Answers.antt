@@ -3,7 +3,7 @@ use Rattle.std.specs.Io.KnownBytes.{prepend_known}
 use Rattle.std.proofs.lemmas.List.{take-take}
 use Rattle.std.proofs.lemmas.Grind.{common_steps}
 use Rattle.std.proofs.lemmas.Result.{err_from_is_err_and}
-use Rattle.desk_io.proofs.Copies.{copied_none, copied_more, copied_whole, copied_longer, copied_part}
+use Rattle.desk_io.proofs.CopyLemmas.{copied_none, copied_more, copied_whole, copied_longer, copied_part}
 use Rattle.desk_io.proofs.file_shelf.append.Goals as goal
 
 pub loop-init : goal.loop-init

@@ -1,4 +1,4 @@
-use Rattle.desk_io.proofs.Copies.{Copied}
+use Rattle.desk_io.proofs.CopyLemmas.{Copied}
 use Rattle.desk_io.proofs.file_shelf.append.Given as goal
 
 abbrev pub invariant-loop : goal.invariant-loop

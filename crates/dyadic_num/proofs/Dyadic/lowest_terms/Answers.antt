@@ -1,7 +1,7 @@
 use Rattle.std.proofs.Common.{arith, inr, to_z, of_z, ◌≡◌, ◌-◌}
 use Rattle.std.specs.Int.{w128}
 use Rattle.std.proofs.lemmas.Int.{ints}
-use Rattle.dyadic_num.proofs.Fractions.{halving, lowest}
+use Rattle.dyadic_num.proofs.FractionLemmas.{halving, lowest}
 use Rattle.dyadic_num.proofs.Dyadic.lowest_terms.Goals as goal
 
 pub returns-in_default : goal.returns-in_default

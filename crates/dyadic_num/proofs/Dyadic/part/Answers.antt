@@ -1,7 +1,7 @@
 use Rattle.std.proofs.Common.{rules, arith, to_z, of_z, ◌≡◌, ◌-◌, ◌+◌}
 use Rattle.std.specs.Int.{w128}
 use Rattle.std.proofs.lemmas.Int.{ints, to_z-of_z}
-use Rattle.dyadic_num.proofs.Fractions.{scaled-halved, scaled-doubled, scaled-along, too_fine, too_great}
+use Rattle.dyadic_num.proofs.FractionLemmas.{scaled-halved, scaled-doubled, scaled-along, too_fine, too_great}
 use Rattle.dyadic_num.proofs.Dyadic.part.Goals as goal
 
 pub returns-in_err-units : goal.returns-in_err-units

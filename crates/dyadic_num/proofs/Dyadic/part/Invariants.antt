@@ -1,5 +1,5 @@
 use Rattle.std.proofs.Common.{◌+◌, ◌-◌}
-use Rattle.dyadic_num.proofs.Fractions.{Scaled}
+use Rattle.dyadic_num.proofs.FractionLemmas.{Scaled}
 use Rattle.dyadic_num.proofs.Dyadic.part.Given as goal
 
 abbrev pub invariant-scaling : goal.invariant-scaling

@@ -1,5 +1,5 @@
-use Rattle.endgame_run.proofs.OneStatus.{one_status, refuses_faults, refuses_unshown, shows_shown, solves_sound}
-use Rattle.endgame_run.proofs.OneGame.{one_game}
+use Rattle.endgame_run.proofs.OneStatusLaws.{one_status, refuses_faults, refuses_unshown, shows_shown, solves_sound}
+use Rattle.endgame_run.proofs.OneGameLaws.{one_game}
 use Rattle.endgame_run.proofs.CalcLaws.{one_outcome}
 use Rattle.endgame_run.proofs.laws.verdict_laws.Goals as goal
 

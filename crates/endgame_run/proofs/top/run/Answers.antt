@@ -6,7 +6,7 @@ use Rattle.endgame_run.specs.inner.Top.{IsAsked}
 use Rattle.endgame_run.specs.Verdict.{AreToPlay, AskAbout, Pose, limits_of}
 use Rattle.endgame_run.proofs.GameLaws.{game_caused, game_written, only_play, own_outcome, unplayed, played_apart}
 use Rattle.endgame_run.proofs.CompleteLaws.{complete}
-use Rattle.endgame_run.proofs.EngineRuns.{engine_regions, engine_unplayed, run_keeps, run_outside, run_part}
+use Rattle.endgame_run.proofs.EngineRunLaws.{engine_regions, engine_unplayed, run_keeps, run_outside, run_part}
 use Rattle.endgame_run.proofs.PoseLaws.{asked_calc, asked_engine, asked_trial, calc_unposed, engine_unposed, trial_unposed}
 use Rattle.endgame_run.proofs.CalcLaws.{calc_caused, calc_written}
 use Rattle.endgame_run.proofs.TrialLaws.{trial_caused, trial_written}

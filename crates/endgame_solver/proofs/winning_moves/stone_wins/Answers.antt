@@ -1,7 +1,7 @@
 use Rattle.std.proofs.Common.{◌∙◌, refl, ap, get_or, set}
 use Rattle.std.proofs.lemmas.Bool.{both_ways}
 use Rattle.whole_rules.specs.Purses.{paid_in}
-use Rattle.sum_outcome.proofs.Lists.{put_back}
+use Rattle.sum_outcome.proofs.ListLaws.{put_back}
 use Rattle.endgame_solver.proofs.HeldLaws.{some_edge}
 use Rattle.endgame_solver.proofs.WinningLaws.{shows_places, stone_bounds, stone_has, stone_known, stone_modest, stone_none, stone_wins}
 use Rattle.endgame_solver.proofs.winning_moves.stone_wins.Goals as goal

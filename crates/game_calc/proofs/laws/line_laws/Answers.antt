@@ -1,4 +1,4 @@
-use Rattle.game_calc.proofs.OneLine.{one-line}
+use Rattle.game_calc.proofs.OneLineLaws.{one-line}
 use Rattle.game_calc.proofs.laws.line_laws.Goals as goal
 
 pub returns : goal.returns

@@ -1,6 +1,6 @@
 use Rattle.std.proofs.Common.{◌+ℤ◌, ◌<ℤ◌, pos, arith, refl, subst}
 use Rattle.std.proofs.lemmas.Int.{ints}
-use Rattle.dyadic_num.proofs.Simplest.{along}
+use Rattle.dyadic_num.proofs.SimplestLemmas.{along}
 use Rattle.short_games.specs.Threshold.{IsFloor, IsCeiling}
 use Rattle.game_store.specs.Meaning.{listed}
 use Rattle.game_store.proofs.StoreLaws.{at_most}

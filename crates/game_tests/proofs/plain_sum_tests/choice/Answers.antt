@@ -1,5 +1,5 @@
 use Rattle.std.proofs.Common.{arith, ◌^◌}
-use Rattle.sum_outcome.proofs.Examples.{options-small}
+use Rattle.sum_outcome.proofs.ExampleLaws.{options-small}
 use Rattle.game_tests.proofs.plain_sum_tests.choice.Goals as goal
 
 pub returns-clause-small : goal.returns-clause-small

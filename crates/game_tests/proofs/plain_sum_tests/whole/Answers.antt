@@ -1,5 +1,5 @@
 use Rattle.std.proofs.lemmas.Int.{to_z-of_z}
-use Rattle.sum_outcome.proofs.Examples.{small-number}
+use Rattle.sum_outcome.proofs.ExampleLaws.{small-number}
 use Rattle.game_tests.proofs.plain_sum_tests.whole.Goals as goal
 
 pub returns-clause-small : goal.returns-clause-small

@@ -1,5 +1,5 @@
 use Rattle.std.proofs.lemmas.Int.{to_z-of_z}
-use Rattle.sum_outcome.proofs.Examples.{small-bounded, small-ids}
+use Rattle.sum_outcome.proofs.ExampleLaws.{small-bounded, small-ids}
 use Rattle.game_tests.proofs.sum_tests.loses.Goals as goal
 
 pub loses-requires-clause-bounds : goal.loses-requires-clause-bounds

@@ -3,7 +3,7 @@ use Rattle.std.specs.Prelude.{unsigned_abs}
 use mir.Val.{to_z}
 use mir.Syntax.{w32}
 use Rattle.std.proofs.lemmas.Int.{ints, to_z-of_z}
-use Rattle.sum_outcome.proofs.Examples.{ShiftedSoFar, shifted_step}
+use Rattle.sum_outcome.proofs.ExampleLaws.{ShiftedSoFar, shifted_step}
 use Rattle.game_tests.proofs.sum_tests.shifted.Goals as goal
 
 pub adding-preserved : goal.adding-preserved

@@ -1,4 +1,4 @@
-use Rattle.sum_outcome.proofs.Examples.{ShiftedSoFar}
+use Rattle.sum_outcome.proofs.ExampleLaws.{ShiftedSoFar}
 use Rattle.game_tests.proofs.sum_tests.shifted.Given as goal
 
 abbrev pub invariant-adding : goal.invariant-adding

@@ -2,8 +2,8 @@ use Rattle.std.proofs.Common.{IfOk, sym, subst}
 use Rattle.short_games.specs.Number.{IsNumberTree}
 use Rattle.short_games.specs.TextOrder.{IsCanonicalTree}
 use Rattle.game_store.specs.Meaning.{IsIdOf}
-use Rattle.short_games.proofs.Examples.{star-canonical, star-no_number}
-use Rattle.sum_outcome.proofs.Examples.{star-form}
+use Rattle.short_games.proofs.ExampleLaws.{star-canonical, star-no_number}
+use Rattle.sum_outcome.proofs.ExampleLaws.{star-form}
 use Rattle.game_tests.proofs.sum_tests.star.Goals as goal
 
 pub intern-requires-clause-canonical : goal.intern-requires-clause-canonical

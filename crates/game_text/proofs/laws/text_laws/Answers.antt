@@ -1,6 +1,6 @@
-use Rattle.game_text.proofs.OneReading.{one-reading}
-use Rattle.game_text.proofs.RoundTrips.{round-trip}
-use Rattle.game_text.proofs.StoredTexts.{stored-bounds, ids-back}
+use Rattle.game_text.proofs.OneReadingLaws.{one-reading}
+use Rattle.game_text.proofs.RoundTripLaws.{round-trip}
+use Rattle.game_text.proofs.StoredTextLaws.{stored-bounds, ids-back}
 use Rattle.game_text.proofs.laws.text_laws.Goals as goal
 
 pub returns : goal.returns

@@ -1,4 +1,4 @@
-use Rattle.game_text.proofs.NameReading.{next-canonical, next-no_number, nimbers-grown}
+use Rattle.game_text.proofs.NameReadingLaws.{next-canonical, next-no_number, nimbers-grown}
 use Rattle.game_text.proofs.named_games.add_nimber.Goals as goal
 
 pub intern-requires-clause-canonical : goal.intern-requires-clause-canonical

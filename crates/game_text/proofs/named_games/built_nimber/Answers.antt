@@ -1,5 +1,5 @@
 use Rattle.std.proofs.Common.{◌∙◌, ◌++◌, ◌∷◌, [], ap, arith, length}
-use Rattle.game_text.proofs.NameReading.{zero-nimbers}
+use Rattle.game_text.proofs.NameReadingLaws.{zero-nimbers}
 use Rattle.game_text.proofs.named_games.built_nimber.Goals as goal
 
 pub building-init : goal.building-init

@@ -1,8 +1,8 @@
 use Rattle.std.proofs.Common.{ℕ, arith, sym, ◌∙◌, ap}
 use Rattle.std.proofs.lemmas.Bool.{true≢false}
 use Rattle.std.specs.Fmt.{decimal}
-use Rattle.game_text.proofs.Decimals.{digits-are}
-use Rattle.game_text.proofs.Parsing.{not-none, some-is}
+use Rattle.game_text.proofs.DecimalLaws.{digits-are}
+use Rattle.game_text.proofs.ParsingLaws.{not-none, some-is}
 use Rattle.game_text.proofs.named_games.nimber_number.Goals as goal
 
 pub returns-in_default : goal.returns-in_default

@@ -1,8 +1,8 @@
 use Rattle.std.proofs.lemmas.Result.{err_from_is_err_and}
 use Rattle.game_text.specs.Reading.{ReadsNimber}
 use Rattle.game_text.specs.inner.Machine.{IsRefusedBy}
-use Rattle.game_text.proofs.ReadingGoals.{read-passed_on}
-use Rattle.game_text.proofs.NameReading.{taken-refused}
+use Rattle.game_text.proofs.ReadingExitLaws.{read-passed_on}
+use Rattle.game_text.proofs.NameReadingLaws.{taken-refused}
 use Rattle.game_text.proofs.named_games.read_nimber.Goals as goal
 
 pub returns-in_err-number-clause-refusal : goal.returns-in_err-number-clause-refusal

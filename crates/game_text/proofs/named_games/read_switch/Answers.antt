@@ -3,8 +3,8 @@ use Rattle.std.proofs.lemmas.Bool.{true≢false}
 use Rattle.std.proofs.lemmas.Result.{err_from_is_err_and}
 use Rattle.game_text.specs.Reading.{ReadsSwitch}
 use Rattle.game_text.specs.inner.Machine.{IsRefusedBy}
-use Rattle.game_text.proofs.ReadingGoals.{read-passed_on, at-none, at-some}
-use Rattle.game_text.proofs.NameReading.{cut-plus, stray-plus, bad-plus, above-plus, switch-plus, taken-refused}
+use Rattle.game_text.proofs.ReadingExitLaws.{read-passed_on, at-none, at-some}
+use Rattle.game_text.proofs.NameReadingLaws.{cut-plus, stray-plus, bad-plus, above-plus, switch-plus, taken-refused}
 use Rattle.game_text.proofs.named_games.read_switch.Goals as goal
 
 pub returns-then-start-text-clause-refusal : goal.returns-then-start-text-clause-refusal

@@ -1,6 +1,6 @@
 use Rattle.std.proofs.Common.{refl}
-use Rattle.game_text.proofs.NameReading.{one-star, number-star, bad-star}
-use Rattle.game_text.proofs.ReadingGoals.{at-none, at-some}
+use Rattle.game_text.proofs.NameReadingLaws.{one-star, number-star, bad-star}
+use Rattle.game_text.proofs.ReadingExitLaws.{at-none, at-some}
 use Rattle.game_text.proofs.named_games.star_number.Goals as goal
 
 pub returns-then-end-start-clause-number : goal.returns-then-end-start-clause-number

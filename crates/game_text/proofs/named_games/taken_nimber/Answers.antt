@@ -1,6 +1,6 @@
 use Rattle.std.proofs.Common.{arith}
-use Rattle.game_text.proofs.NimberParts.{nimber-cause}
-use Rattle.game_text.proofs.NameReading.{nimber-taken}
+use Rattle.game_text.proofs.NimberPartLaws.{nimber-cause}
+use Rattle.game_text.proofs.NameReadingLaws.{nimber-taken}
 use Rattle.game_text.proofs.named_games.taken_nimber.Goals as goal
 
 pub returns-then-number-from-clause-refusal : goal.returns-then-number-from-clause-refusal

@@ -2,8 +2,8 @@ use Rattle.std.proofs.Common.{◌∙◌, ap, sym, refl, Some, nat_eq}
 use Rattle.std.proofs.lemmas.Bool.{true≢false}
 use Rattle.indexmap.specs.IndexMap.{get}
 use Rattle.short_games.specs.Tree.{tree_at}
-use Rattle.game_text.proofs.NamesFound.{nimber-named}
-use Rattle.game_text.proofs.NimberIds.{among-count, is-pair, pair-named, pair-unnamed, many-unnamed, on-found}
+use Rattle.game_text.proofs.FoundNameLaws.{nimber-named}
+use Rattle.game_text.proofs.NimberIdLaws.{among-count, is-pair, pair-named, pair-unnamed, many-unnamed, on-found}
 use Rattle.game_text.proofs.WritingSteps.{left-texts, right-texts}
 use Rattle.game_text.proofs.names.form_name.Goals as goal
 use Rattle.game_text.proofs.names.form_name.Goals.{else-count-eq1-via-then-count-eq1+else-right-eq1, else-count-eq1-via-else-count-eq1}

@@ -1,4 +1,4 @@
-use Rattle.game_text.proofs.NimberIds.{number-next, next-number, next-nimber, next-options}
+use Rattle.game_text.proofs.NimberIdLaws.{number-next, next-number, next-nimber, next-options}
 use Rattle.game_text.proofs.names.is_next_nimber.Goals as goal
 
 pub returns-in-Number : goal.returns-in-Number

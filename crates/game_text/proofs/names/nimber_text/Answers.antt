@@ -1,5 +1,5 @@
 use Rattle.std.proofs.Common.{arith, ap}
-use Rattle.game_text.proofs.NimberIds.{star-written}
+use Rattle.game_text.proofs.NimberIdLaws.{star-written}
 use Rattle.game_text.proofs.names.nimber_text.Goals as goal
 
 pub returns : goal.returns

@@ -1,7 +1,7 @@
 use Rattle.std.proofs.Common.{◌∙◌, ap, sym, length, refl}
 use Rattle.std.proofs.lemmas.Bool.{true≢false}
 use Rattle.game_text.specs.NamedText.{nimber}
-use Rattle.game_text.proofs.NimberIds.{found-step, found-skip}
+use Rattle.game_text.proofs.NimberIdLaws.{found-step, found-skip}
 use Rattle.game_text.proofs.names.nimbers_of.Goals as goal
 use Rattle.game_text.proofs.names.nimbers_of.Goals.{then-is_next_nimber+in_ok-push, else-is_next_nimber}
 

@@ -1,6 +1,6 @@
 use Rattle.std.proofs.Common.{inl, inr, sym, refl}
 use Rattle.std.proofs.lemmas.Bool.{true≢false}
-use Rattle.game_text.proofs.NimberIds.{zero-is, star-is, on-found, no-pair}
+use Rattle.game_text.proofs.NimberIdLaws.{zero-is, star-is, on-found, no-pair}
 use Rattle.game_text.proofs.names.pair_name.Goals as goal
 
 pub returns-then-are_texts : goal.returns-then-are_texts

@@ -1,6 +1,6 @@
 use Rattle.std.proofs.Common.{sym}
 use Rattle.std.proofs.lemmas.Bool.{true≢false}
-use Rattle.game_text.proofs.NimberIds.{not-opposite}
+use Rattle.game_text.proofs.NimberIdLaws.{not-opposite}
 use Rattle.game_text.proofs.names.switch_name.Goals as goal
 
 pub returns-then-not-are_opposite : goal.returns-then-not-are_opposite

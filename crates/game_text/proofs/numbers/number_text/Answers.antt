@@ -1,4 +1,4 @@
-use Rattle.game_text.proofs.Decimals.{whole-written, part-written}
+use Rattle.game_text.proofs.DecimalLaws.{whole-written, part-written}
 use Rattle.game_text.proofs.numbers.number_text.Goals as goal
 
 pub returns-then-exponent-eq0 : goal.returns-then-exponent-eq0

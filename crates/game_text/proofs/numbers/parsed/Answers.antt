@@ -2,8 +2,8 @@ use Rattle.std.proofs.Common.{◌+◌, refl, ◌∙◌}
 use Rattle.std.proofs.lemmas.List.{take_rest}
 use mir.Val.{to_z, of_z}
 use mir.Syntax.{w128}
-use Rattle.game_text.proofs.Parsing.{not-none, some-is}
-use Rattle.game_text.proofs.Spelling.{part-spelled, whole-spelled, part-is, same-bits}
+use Rattle.game_text.proofs.ParsingLaws.{not-none, some-is}
+use Rattle.game_text.proofs.SpellingLaws.{part-spelled, whole-spelled, part-is, same-bits}
 use Rattle.game_text.proofs.numbers.parsed.Goals as goal
 
 pub returns-in_err-numerator-in-Some : goal.returns-in_err-numerator-in-Some

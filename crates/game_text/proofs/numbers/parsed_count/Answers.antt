@@ -1,5 +1,5 @@
 use Rattle.std.proofs.Common.{arith}
-use Rattle.game_text.proofs.Parsing.{decimal-utf8, utf8-fails, utf8-gives, parsed-is}
+use Rattle.game_text.proofs.ParsingLaws.{decimal-utf8, utf8-fails, utf8-gives, parsed-is}
 use Rattle.game_text.proofs.numbers.parsed_count.Goals as goal
 
 pub returns-in_err-text : goal.returns-in_err-text

@@ -1,6 +1,6 @@
 use Rattle.std.proofs.Common.{ℕ, ◌^◌, ap}
 use Rattle.std.specs.Prelude.{Some}
-use Rattle.game_text.proofs.Parsing.{not-none, some-is, power-fits, power-some, exponent-is}
+use Rattle.game_text.proofs.ParsingLaws.{not-none, some-is, power-fits, power-some, exponent-is}
 use Rattle.game_text.proofs.numbers.parsed_exponent.Goals as goal
 
 pub returns-in_err-power : goal.returns-in_err-power

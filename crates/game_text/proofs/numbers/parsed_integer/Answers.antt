@@ -1,6 +1,6 @@
 use Rattle.std.proofs.Common.{suc, refl, ◌∙◌}
 use Rattle.std.proofs.lemmas.List.{take_rest}
-use Rattle.game_text.proofs.Parsing.{not-none, some-is, sign-is, negative-is, size-of-negative}
+use Rattle.game_text.proofs.ParsingLaws.{not-none, some-is, sign-is, negative-is, size-of-negative}
 use Rattle.game_text.proofs.numbers.parsed_integer.Goals as goal
 
 pub returns-in_err-parsed_size : goal.returns-in_err-parsed_size

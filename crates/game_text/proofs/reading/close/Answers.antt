@@ -1,4 +1,4 @@
-use Rattle.game_text.proofs.ReadingGoals.{if-ok, form-taken}
+use Rattle.game_text.proofs.ReadingExitLaws.{if-ok, form-taken}
 use Rattle.game_text.proofs.reading.close.Goals as goal
 
 pub returns-clause-value : goal.returns-clause-value

@@ -3,8 +3,8 @@ use Rattle.std.specs.Prelude.{Some}
 use Rattle.std.proofs.lemmas.Result.{err_from_is_err_and}
 use Rattle.game_text.specs.inner.Machine.{opening_at}
 use Rattle.game_text.specs.Reading.{IsReadRefusal}
-use Rattle.game_text.proofs.SideEnds.{mark-top, bar-next, left-ids, right-ids, brace-next, brace-refused}
-use Rattle.game_text.proofs.ReadingGoals.{read-passed_on}
+use Rattle.game_text.proofs.SideEndLaws.{mark-top, bar-next, left-ids, right-ids, brace-next, brace-refused}
+use Rattle.game_text.proofs.ReadingExitLaws.{read-passed_on}
 use Rattle.game_text.proofs.reading.end_side.Goals as goal
 
 pub returns-in_default-middle-clause-next : goal.returns-in_default-middle-clause-next

@@ -5,8 +5,8 @@ use Rattle.game_text.specs.NamedText.{up, down}
 use Rattle.game_text.specs.Reading.{ReadsName, ReadsNimber, ReadsSwitch}
 use Rattle.game_text.specs.Reading.ReadsName.{a_nimber, an_up, a_down, a_switch}
 use Rattle.game_text.specs.inner.Machine.{IsRefusedBy}
-use Rattle.game_text.proofs.ReadingGoals.{read-passed_on}
-use Rattle.game_text.proofs.NameReading.{found-as, refused-as, taken-refused, last-name}
+use Rattle.game_text.proofs.ReadingExitLaws.{read-passed_on}
+use Rattle.game_text.proofs.NameReadingLaws.{found-as, refused-as, taken-refused, last-name}
 use Rattle.game_text.proofs.reading.named_game.Goals as goal
 
 pub returns-then-byte-eq42-clause-found : goal.returns-then-byte-eq42-clause-found

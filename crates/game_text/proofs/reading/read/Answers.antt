@@ -1,7 +1,7 @@
 use Rattle.std.proofs.Common.{arith, refl}
 use Rattle.game_store.proofs.EntryLaws.{extends-same}
-use Rattle.game_text.proofs.ReadingPlaces.{reading-start, ended-named, ended-cut}
-use Rattle.game_text.proofs.ReadingGoals.{ended-ok, ended-err}
+use Rattle.game_text.proofs.ReadingPlaceLaws.{reading-start, ended-named, ended-cut}
+use Rattle.game_text.proofs.ReadingExitLaws.{ended-ok, ended-err}
 use Rattle.game_text.proofs.reading.read.Goals as goal
 
 pub reading-init : goal.reading-init

@@ -2,8 +2,8 @@ use Rattle.std.proofs.Common.{arith, sym, length}
 use Rattle.std.proofs.lemmas.Bool.{true≢false}
 use Rattle.std.proofs.lemmas.Result.{err_from_is_err_and}
 use Rattle.game_text.specs.Reading.{IsReadRefusal}
-use Rattle.game_text.proofs.ReadingPlaces.{game-stray, game-deep, game-open}
-use Rattle.game_text.proofs.ReadingGoals.{read-passed_on, opening-refused}
+use Rattle.game_text.proofs.ReadingPlaceLaws.{game-stray, game-deep, game-open}
+use Rattle.game_text.proofs.ReadingExitLaws.{read-passed_on, opening-refused}
 use Rattle.game_text.proofs.reading.read_game.Goals as goal
 
 pub returns-then-byte-ne123-clause-refusal : goal.returns-then-byte-ne123-clause-refusal

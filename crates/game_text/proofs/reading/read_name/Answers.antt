@@ -2,8 +2,8 @@ use Rattle.std.proofs.Common.{arith}
 use Rattle.std.specs.Prelude.{slice_index}
 use Rattle.std.proofs.lemmas.Result.{err_from_is_err_and}
 use Rattle.game_text.specs.Reading.{ReadsName, IsReadRefusal}
-use Rattle.game_text.proofs.ReadingGoals.{read-passed_on}
-use Rattle.game_text.proofs.ReadingPlaces.{game-name, game-name_refused}
+use Rattle.game_text.proofs.ReadingExitLaws.{read-passed_on}
+use Rattle.game_text.proofs.ReadingPlaceLaws.{game-name, game-name_refused}
 use Rattle.game_text.proofs.reading.read_name.Goals as goal
 
 pub returns-in_err-found-clause-refusal : goal.returns-in_err-found-clause-refusal

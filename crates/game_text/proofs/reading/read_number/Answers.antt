@@ -1,5 +1,5 @@
-use Rattle.game_text.proofs.ReadingPlaces.{game-bad_number, game-number, game-number_past}
-use Rattle.game_text.proofs.ReadingGoals.{at-none, at-some}
+use Rattle.game_text.proofs.ReadingPlaceLaws.{game-bad_number, game-number, game-number_past}
+use Rattle.game_text.proofs.ReadingExitLaws.{at-none, at-some}
 use Rattle.game_text.proofs.reading.read_number.Goals as goal
 
 pub returns-in_default-clause-refusal : goal.returns-in_default-clause-refusal

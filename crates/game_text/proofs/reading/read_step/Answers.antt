@@ -1,7 +1,7 @@
 use Rattle.std.proofs.Common.{arith, sym, subst, refl}
 use Rattle.std.proofs.lemmas.Bool.{true≢false}
 use Rattle.game_text.specs.inner.Machine.{IsReading}
-use Rattle.game_text.proofs.ReadingPlaces.{first-as_game, behind-as_first, comma-next, behind-stray, whole-stray}
+use Rattle.game_text.proofs.ReadingPlaceLaws.{first-as_game, behind-as_first, comma-next, behind-stray, whole-stray}
 use Rattle.game_text.proofs.reading.read_step.Goals as goal
 
 pub read_game-requires-in-First-clause-reading : goal.read_game-requires-in-First-clause-reading

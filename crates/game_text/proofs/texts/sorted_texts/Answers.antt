@@ -1,7 +1,7 @@
 use Rattle.std.proofs.Common.{nat_eq, arith}
 use Rattle.indexmap.specs.IndexMap.{get}
 use Rattle.game_text.specs.inner.Written.{text_at}
-use Rattle.game_text.proofs.Sorting.{map-sorted, texts-sorted}
+use Rattle.game_text.proofs.SortingLaws.{map-sorted, texts-sorted}
 use Rattle.game_text.proofs.texts.sorted_texts.Goals as goal
 
 pub returns-clause-permutation : goal.returns-clause-permutation

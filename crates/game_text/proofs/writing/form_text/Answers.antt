@@ -1,6 +1,6 @@
 use Rattle.std.proofs.Common.{◌∙◌, ap, sym}
 use Rattle.short_games.specs.Tree.{tree_at}
-use Rattle.game_text.proofs.NimberIds.{number-is-named}
+use Rattle.game_text.proofs.NimberIdLaws.{number-is-named}
 use Rattle.game_text.proofs.writing.form_text.Goals as goal
 
 pub returns-in_ok-number_text-in-Number-clause-text : goal.returns-in_ok-number_text-in-Number-clause-text

@@ -2,9 +2,9 @@ use Rattle.std.proofs.Common.{nat_eq, sym, arith, subst, length, ◌<◌}
 use Rattle.indexmap.specs.IndexMap.{get}
 use Rattle.short_games.specs.Tree.{tree_at}
 use Rattle.game_text.proofs.NamedLaws.{text-named}
-use Rattle.game_text.proofs.SideTexts.{braces-is}
+use Rattle.game_text.proofs.SideTextLaws.{braces-is}
 use Rattle.game_text.proofs.WritingSteps.{left-texts, right-texts, are-kept}
-use Rattle.game_text.proofs.ReadingGoals.{at-none, at-some}
+use Rattle.game_text.proofs.ReadingExitLaws.{at-none, at-some}
 use Rattle.game_text.proofs.writing.options_text.Goals as goal
 
 pub braces-requires-clause-left : goal.braces-requires-clause-left

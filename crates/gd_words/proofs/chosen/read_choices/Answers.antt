@@ -3,8 +3,8 @@ use Rattle.gd_words.specs.declared.chosen.Chosen.{Chosen}
 use Rattle.gd_words.specs.Viewed.{task_of}
 use Rattle.gd_words.specs.Task.{GoesWith}
 use Rattle.gd_words.specs.inner.Reading.{IsWith}
-use Rattle.gd_words.proofs.Unique.{one_choice}
-use Rattle.gd_words.proofs.Listing.{at_none, read_start, read_two, next_two, next_one}
+use Rattle.gd_words.proofs.OneOptionLemmas.{one_choice}
+use Rattle.gd_words.proofs.ListingLemmas.{at_none, read_start, read_two, next_two, next_one}
 use Rattle.gd_words.proofs.chosen.read_choices.Goals as goal
 
 pub choosing-init : goal.choosing-init

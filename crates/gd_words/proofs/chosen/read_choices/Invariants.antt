@@ -1,6 +1,6 @@
 use Rattle.std.proofs.Common.{length}
 use Rattle.gd_words.specs.Viewed.{task_of, texts}
-use Rattle.gd_words.proofs.Listing.{IsRead}
+use Rattle.gd_words.proofs.ListingLemmas.{IsRead}
 use Rattle.gd_words.proofs.chosen.read_choices.Given as goal
 
 abbrev pub invariant-choosing : goal.invariant-choosing

@@ -1,4 +1,4 @@
-use Rattle.gd_words.proofs.Jobs.{one_job}
+use Rattle.gd_words.proofs.JobLemmas.{one_job}
 use Rattle.gd_words.proofs.laws.words_laws.Goals as goal
 
 pub returns : goal.returns

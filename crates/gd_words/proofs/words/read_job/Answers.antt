@@ -1,7 +1,7 @@
 use Rattle.gd_words.specs.Task.Task.{gtp}
-use Rattle.gd_words.proofs.Bounds.{within}
-use Rattle.gd_words.proofs.Jobs.{begins_with_engine, job_made, map_none, map_some, no_choices, no_task, with_two}
-use Rattle.gd_words.proofs.Listing.{at_none, one_first, two_words}
+use Rattle.gd_words.proofs.BoundLemmas.{within}
+use Rattle.gd_words.proofs.JobLemmas.{begins_with_engine, job_made, map_none, map_some, no_choices, no_task, with_two}
+use Rattle.gd_words.proofs.ListingLemmas.{at_none, one_first, two_words}
 use Rattle.gd_words.proofs.words.read_job.Goals as goal
 
 pub returns-then-is_engine-clause-job : goal.returns-then-is_engine-clause-job

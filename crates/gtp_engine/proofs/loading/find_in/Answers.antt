@@ -2,7 +2,7 @@ use Rattle.std.proofs.Common.{ap, ◌∙◌, Err}
 use Rattle.sgf_tree.specs.Reading.{line_text}
 use Rattle.sgf_go.specs.declared.fault.FileFault.TheVariants as fault
 use Rattle.gtp_engine.specs.Session.{settings_after}
-use Rattle.gtp_engine.proofs.Files.{found_in, tree_fault}
+use Rattle.gtp_engine.proofs.FileLemmas.{found_in, tree_fault}
 use Rattle.gtp_engine.proofs.loading.find_in.Goals as goal
 
 pub returns-in_ok-found-in-Ok : goal.returns-in_ok-found-in-Ok

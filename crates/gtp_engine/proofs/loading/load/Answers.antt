@@ -1,7 +1,7 @@
 use Rattle.desk_io.specs.Files.{told_file, Loads}
 use Rattle.sgf_tree.specs.declared.reader.TheConstants.{MOST_BYTES}
 use Rattle.std.proofs.Common.{subst, ◌∙◌, ap, Ok}
-use Rattle.gtp_engine.proofs.Files.{too_long}
+use Rattle.gtp_engine.proofs.FileLemmas.{too_long}
 use Rattle.gtp_engine.proofs.loading.load.Goals as goal
 
 pub returns-in-Ok-Longer-clause-loaded : goal.returns-in-Ok-Longer-clause-loaded

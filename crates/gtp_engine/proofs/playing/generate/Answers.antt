@@ -1,7 +1,7 @@
 use Rattle.std.proofs.Common.{sym, ap, ◌∙◌, subst}
 use Rattle.whole_rules.proofs.MoveLaws.{refused_not_legal}
 use Rattle.gtp_engine.specs.Moves.{move_text}
-use Rattle.gtp_engine.proofs.Acting.{acted_generated, acted_resigned, chosen_legal}
+use Rattle.gtp_engine.proofs.MoveLemmas.{acted_generated, acted_resigned, chosen_legal}
 use Rattle.gtp_engine.proofs.playing.generate.Goals as goal
 use Rattle.endgame_solver.specs.Solved.{Chooses}
 

@@ -1,4 +1,4 @@
-use Rattle.gtp_engine.proofs.Acting.{cannot_open}
+use Rattle.gtp_engine.proofs.MoveLemmas.{cannot_open}
 use Rattle.gtp_engine.proofs.playing.open.Goals as goal
 
 pub returns-in_ok-unless_memory-in-Err-clause-opened : goal.returns-in_ok-unless_memory-in-Err-clause-opened

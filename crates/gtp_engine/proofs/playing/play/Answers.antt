@@ -1,6 +1,6 @@
 use Rattle.std.proofs.Common.{ap, ◌∙◌}
 use Rattle.gtp_engine.specs.Moves.{move_for}
-use Rattle.gtp_engine.proofs.Acting.{acted_none, acted_played, acted_refused}
+use Rattle.gtp_engine.proofs.MoveLemmas.{acted_none, acted_played, acted_refused}
 use Rattle.gtp_engine.proofs.playing.play.Goals as goal
 
 pub returns-in_default-clause-acted : goal.returns-in_default-clause-acted

@@ -1,6 +1,6 @@
 use Rattle.std.proofs.Common.{◌-◌, length, take, drop}
 use Rattle.std.proofs.lemmas.List.{take_rest}
-use Rattle.gtp_engine.proofs.Splitting.{first_is}
+use Rattle.gtp_engine.proofs.WordLemmas.{first_is}
 use Rattle.gtp_engine.proofs.words.part.Goals as goal
 
 pub returns-clause-some : goal.returns-clause-some

@@ -1,4 +1,4 @@
-use Rattle.gtp_engine.proofs.Splitting.{split_all}
+use Rattle.gtp_engine.proofs.WordLemmas.{split_all}
 use Rattle.gtp_engine.proofs.words.split.Goals as goal
 
 pub returns : goal.returns

@@ -1,5 +1,5 @@
 use Rattle.std.proofs.Common.{length, map}
-use Rattle.gtp_engine.proofs.Splitting.{AreSplit}
+use Rattle.gtp_engine.proofs.WordLemmas.{AreSplit}
 use Rattle.gtp_engine.proofs.words.split.Given as goal
 
 abbrev pub invariant-splitting : goal.invariant-splitting

@@ -1,5 +1,5 @@
-use Rattle.play_session.proofs.OneText.{has_one_text, has_one_beginning}
-use Rattle.play_session.proofs.Wins.{win_is_kept}
+use Rattle.play_session.proofs.OneTextLaws.{has_one_text, has_one_beginning}
+use Rattle.play_session.proofs.WinLaws.{win_is_kept}
 use Rattle.play_session.proofs.laws.session_laws.Goals as goal
 
 pub returns-clause-win : goal.returns-clause-win

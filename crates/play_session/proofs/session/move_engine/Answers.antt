@@ -1,7 +1,7 @@
 use Rattle.std.proofs.Common.{subst, sym}
 use Rattle.whole_rules.specs.WholeGame.{IsLegal}
 use Rattle.whole_rules.proofs.MoveLaws.{refused_not_legal}
-use Rattle.play_session.proofs.Wins.{chosen_legal}
+use Rattle.play_session.proofs.WinLaws.{chosen_legal}
 use Rattle.play_session.proofs.session.move_engine.Goals as goal
 
 pub unreachable-requires : goal.unreachable-requires

@@ -2,7 +2,7 @@ use Rattle.std.proofs.Common.{sym, subst, arith, ap, ◌∙◌, ◌++◌, length
 use Rattle.std.proofs.lemmas.List.{length-append}
 use Rattle.std.proofs.lemmas.Result.{err_from_is_err_and}
 use Rattle.desk_io.specs.Lines.{IsFound, IsLine, UsesLines}
-use Rattle.desk_io.proofs.Used.{used_line, used_none}
+use Rattle.desk_io.proofs.UsedLineLemmas.{used_line, used_none}
 use Rattle.play_session.proofs.session.take_request.Goals as goal
 
 pub returns-clause-used : goal.returns-clause-used

@@ -1,6 +1,6 @@
 use Rattle.std.proofs.Common.{◌+◌, arith, sym, subst}
 use Rattle.sgf_go.specs.Setup.{IsSet}
-use Rattle.sgf_go.proofs.Areas.{Before, row_step}
+use Rattle.sgf_go.proofs.AreaLemmas.{Before, row_step}
 use Rattle.sgf_go.proofs.replay.set_row.Goals as goal
 
 pub loop-column-preserved : goal.loop-column-preserved

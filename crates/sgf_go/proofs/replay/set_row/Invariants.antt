@@ -1,5 +1,5 @@
 use Rattle.sgf_go.specs.Setup.{IsSet}
-use Rattle.sgf_go.proofs.Areas.{Before}
+use Rattle.sgf_go.proofs.AreaLemmas.{Before}
 use Rattle.sgf_go.proofs.replay.set_row.Given as goal
 
 abbrev pub invariant-loop-column : goal.invariant-loop-column

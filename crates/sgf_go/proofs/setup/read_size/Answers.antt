@@ -2,7 +2,7 @@ use Rattle.std.proofs.Common.{sym, subst, None}
 use Rattle.std.specs.Option.{option_map}
 use Rattle.sgf_go.specs.Reading.{extent}
 use Rattle.sgf_go.specs.Values.{Says, IsSide, IsSize}
-use Rattle.sgf_go.proofs.Sizes.{no_rows}
+use Rattle.sgf_go.proofs.SizeLemmas.{no_rows}
 use Rattle.sgf_go.proofs.setup.read_size.Goals as goal
 
 pub returns-in_err-rows-in-Some : goal.returns-in_err-rows-in-Some

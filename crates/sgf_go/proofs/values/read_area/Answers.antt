@@ -1,6 +1,6 @@
 use Rattle.std.proofs.Common.{sym, subst, arith}
 use Rattle.sgf_go.specs.Values.{IsArea}
-use Rattle.sgf_go.proofs.Points.{point_two, corners_five}
+use Rattle.sgf_go.proofs.PointLemmas.{point_two, corners_five}
 use Rattle.sgf_go.proofs.values.read_area.Goals as goal
 
 pub returns-in_ok-point-in-len2-clause-value : goal.returns-in_ok-point-in-len2-clause-value

@@ -1,5 +1,5 @@
 use Rattle.std.proofs.Common.{sym}
-use Rattle.sgf_tree.proofs.Starts.{nothing_searched, passed_other, no_start}
+use Rattle.sgf_tree.proofs.StartLemmas.{nothing_searched, passed_other, no_start}
 use Rattle.sgf_tree.proofs.reader.find_start.Goals as goal
 
 pub loop-at-init : goal.loop-at-init

@@ -1,4 +1,4 @@
-use Rattle.sgf_tree.proofs.Starts.{Searched}
+use Rattle.sgf_tree.proofs.StartLemmas.{Searched}
 use Rattle.sgf_tree.proofs.reader.find_start.Given as goal
 
 abbrev pub invariant-loop-at : goal.invariant-loop-at

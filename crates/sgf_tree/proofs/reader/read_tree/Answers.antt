@@ -1,6 +1,6 @@
 use Rattle.std.proofs.Common.{◌+◌, get_or, refl, sym, ◌∙◌}
 use Rattle.sgf_tree.specs.inner.Machine.{state_of}
-use Rattle.sgf_tree.proofs.Verdicts.{verdict_bad, verdict_deep, verdict_done, verdict_more, verdict_end, depth_more}
+use Rattle.sgf_tree.proofs.VerdictLemmas.{verdict_bad, verdict_deep, verdict_done, verdict_more, verdict_end, depth_more}
 use Rattle.sgf_tree.proofs.reader.read_tree.Goals as goal
 
 pub returns-in_default : goal.returns-in_default

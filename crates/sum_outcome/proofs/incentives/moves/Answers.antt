@@ -1,7 +1,7 @@
 use Rattle.std.proofs.Common.{ap}
 use Rattle.go_grid.specs.declared.grid.Colour.TheVariants.{Black, White}
 use Rattle.short_games.specs.Tree.{left, right, tree_at}
-use Rattle.sum_outcome.proofs.Lists.{listed-moves}
+use Rattle.sum_outcome.proofs.ListLaws.{listed-moves}
 use Rattle.sum_outcome.proofs.incentives.moves.Goals as goal
 
 pub returns-in-Options-Black-clause-options : goal.returns-in-Options-Black-clause-options

@@ -2,7 +2,7 @@ use Rattle.std.proofs.Common.{arith, refl, ◌<◌, ◌+ℤ◌, length}
 use mir.Val.{to_z}
 use mir.Syntax.{w128}
 use Rattle.std.proofs.lemmas.Int.{to_z-of_z}
-use Rattle.sum_outcome.proofs.StopLoop.{small_fits}
+use Rattle.sum_outcome.proofs.StopLoopLaws.{small_fits}
 use Rattle.sum_outcome.proofs.KeyLaws.{split_start, split_fits, split_number, split_game, split_end}
 use Rattle.sum_outcome.proofs.key.key_of.Goals as goal
 use Rattle.sum_outcome.proofs.key.key_of.Goals.{in-Number, in-Options+in-Ok}

@@ -2,10 +2,10 @@ use Rattle.std.proofs.Common.{arith, refl, inl, inr, ap, ◌∙◌, ◌≡◌, �
 use Rattle.std.proofs.lemmas.Bool.{false≢true, both_ways, OnFalse_at}
 use Rattle.sum_outcome.specs.Sums.{sum_tree}
 use Rattle.sum_outcome.specs.inner.Incentives.{IsPlaceSettled}
-use Rattle.sum_outcome.proofs.Domination.{OptionIsSettled, options_settled, repeated_settled, all_fail}
+use Rattle.sum_outcome.proofs.DominationLaws.{OptionIsSettled, options_settled, repeated_settled, all_fail}
 use Rattle.sum_outcome.proofs.MemoLaws.{from_key, to_key, stays_on, incentives_changed}
 use Rattle.sum_outcome.proofs.OppositeLaws.{falls_without, ids_without, bounded_without, restored_both, answer_without}
-use Rattle.sum_outcome.proofs.Lists.{put_back, falls_put, ids_put, loses_all, wins_one, bounded_put, wins_by_option}
+use Rattle.sum_outcome.proofs.ListLaws.{put_back, falls_put, ids_put, loses_all, wins_one, bounded_put, wins_by_option}
 use Rattle.sum_outcome.proofs.outcome.+search.Goals as goal
 
 pub loses_sum-returns-in-Some-sign_by_stops-clause-answer : goal.loses_sum-returns-in-Some-sign_by_stops-clause-answer

@@ -1,7 +1,7 @@
 use Rattle.std.proofs.Common.{◌≡◌, ◌+◌, ◌*◌, ◌<◌, ℕ, get_or, sum}
 use Rattle.sum_outcome.specs.inner.Memo.{StaysRight}
 use Rattle.sum_outcome.specs.inner.Incentives.{IsPlaceSettled}
-use Rattle.sum_outcome.proofs.Domination.{OptionIsSettled}
+use Rattle.sum_outcome.proofs.DominationLaws.{OptionIsSettled}
 use Rattle.sum_outcome.proofs.outcome.+search.Given as goal
 
 abbrev pub decreases-loses_sum : goal.decreases-loses_sum

@@ -2,7 +2,7 @@ use Rattle.std.proofs.Common.{arith, rules, refl, ◌+ℤ◌, ◌<◌, length}
 use mir.Val.{to_z}
 use mir.Syntax.{w128}
 use Rattle.std.proofs.lemmas.Int.{to_z-of_z}
-use Rattle.sum_outcome.proofs.StopLoop.{small_fits, stood_start, low_fits, high_fits, stood_step, stood_above, stood_below, stood_equal}
+use Rattle.sum_outcome.proofs.StopLoopLaws.{small_fits, stood_start, low_fits, high_fits, stood_step, stood_above, stood_below, stood_equal}
 use Rattle.sum_outcome.proofs.outcome.sign_by_stops.Goals as goal
 
 pub adding-init : goal.adding-init

@@ -1,4 +1,4 @@
-use Rattle.sum_outcome.proofs.StopLoop.{StoodSoFar}
+use Rattle.sum_outcome.proofs.StopLoopLaws.{StoodSoFar}
 use Rattle.sum_outcome.proofs.outcome.sign_by_stops.Given as goal
 
 abbrev pub invariant-adding : goal.invariant-adding

@@ -2,7 +2,7 @@ use Rattle.std.proofs.Common.{◌≤ℤ◌, arith, inl, inr, sym, ◌∙◌, sub
 use Rattle.std.proofs.lemmas.Int.{by_lt_z}
 use Rattle.std.proofs.lemmas.Bool.{false≢true}
 use Rattle.thermograph.specs.inner.Scaffolds.{line}
-use Rattle.short_games.proofs.WallLines.{below-or_at}
+use Rattle.short_games.proofs.LineLaws.{below-or_at}
 use Rattle.thermograph.proofs.ScaffoldLaws.{last-met, apart-before, apart-crossing, straight-short}
 use Rattle.thermograph.proofs.meeting.first_meeting.Goals as goal
 use Rattle.thermograph.proofs.meeting.first_meeting.Goals.{In-walking}

@@ -1,6 +1,6 @@
 use Rattle.std.proofs.Common.{◌≡◌, ◌-◌, length, take, drop, ap, ◌∙◌, arith}
 use Rattle.std.proofs.lemmas.List.{length-take-le}
-use Rattle.desk_io.proofs.Held.{dropped}
+use Rattle.desk_io.proofs.HeldLemmas.{dropped}
 use Rattle.desk_io.proofs.lines.LineReader.drop_front.Goals as goal
 
 pub returns : goal.returns

@@ -1,6 +1,6 @@
 use Rattle.std.proofs.Common.{subst, arith, None}
 use Rattle.desk_io.specs.inner.Lines.{IsFeed}
-use Rattle.desk_io.proofs.Held.{found_all}
+use Rattle.desk_io.proofs.HeldLemmas.{found_all}
 use Rattle.desk_io.proofs.lines.LineReader.find_line.Goals as goal
 
 pub returns-clause-found : goal.returns-clause-found

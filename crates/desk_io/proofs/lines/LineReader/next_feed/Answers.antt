@@ -1,6 +1,6 @@
 use Rattle.std.proofs.Common.{length, ap, arith}
 use Rattle.std.proofs.lemmas.List.{length-take-le}
-use Rattle.desk_io.proofs.Held.{looked_all}
+use Rattle.desk_io.proofs.HeldLemmas.{looked_all}
 use Rattle.desk_io.proofs.lines.LineReader.next_feed.Goals as goal
 
 pub returns-clause-feed : goal.returns-clause-feed

@@ -1,5 +1,5 @@
 use Rattle.std.proofs.Common.{◌≤◌}
-use Rattle.desk_io.proofs.Held.{Looked}
+use Rattle.desk_io.proofs.HeldLemmas.{Looked}
 use Rattle.desk_io.proofs.lines.LineReader.next_feed.Given as goal
 
 abbrev pub invariant-looking : goal.invariant-looking

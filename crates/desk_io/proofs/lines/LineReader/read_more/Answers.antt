@@ -1,7 +1,7 @@
 use Rattle.std.proofs.Common.{◌-◌, ◌++◌, length, take, sym, ap, ◌∙◌, subst, arith}
 use Rattle.std.proofs.lemmas.List.{length-take-le}
 use Rattle.desk_io.specs.Lines.{IsSameInput}
-use Rattle.desk_io.proofs.Held.{read_on, input_more}
+use Rattle.desk_io.proofs.HeldLemmas.{read_on, input_more}
 use Rattle.desk_io.proofs.lines.LineReader.read_more.Goals as goal
 
 pub returns-clause-same : goal.returns-clause-same

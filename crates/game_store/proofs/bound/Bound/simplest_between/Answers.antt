@@ -1,6 +1,6 @@
 use Rattle.std.proofs.Common.{arith}
 use Rattle.std.proofs.lemmas.Int.{ints}
-use Rattle.dyadic_num.proofs.Simplest.{along}
+use Rattle.dyadic_num.proofs.SimplestLemmas.{along}
 use Rattle.game_store.proofs.bound.Bound.simplest_between.Goals as goal
 
 pub returns : goal.returns

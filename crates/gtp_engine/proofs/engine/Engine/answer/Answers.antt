@@ -1,8 +1,8 @@
 use Rattle.std.proofs.Common.{length, map, sym, ap, ◌∙◌, subst}
 use Rattle.gtp_engine.specs.inner.Viewed.{asked_of}
 use Rattle.gtp_engine.specs.Words.{AreWords, HasId}
-use Rattle.gtp_engine.proofs.Answering.{answered_words, some_words}
-use Rattle.gtp_engine.proofs.Ranges.{asks_in_range}
+use Rattle.gtp_engine.proofs.AnswerLemmas.{answered_words, some_words}
+use Rattle.gtp_engine.proofs.KomiLemmas.{asks_in_range}
 use Rattle.gtp_engine.proofs.engine.Engine.answer.Goals as goal
 
 pub meet-requires-clause-komi : goal.meet-requires-clause-komi

@@ -2,7 +2,7 @@ use Rattle.std.proofs.Common.{sym, ap, ◌∙◌, Some}
 use Rattle.std.proofs.lemmas.Bool.{both_ways}
 use Rattle.gtp_engine.specs.inner.Doing.{with_table}
 use Rattle.gtp_engine.specs.inner.Kept.{state_in}
-use Rattle.gtp_engine.proofs.Doing.{turn_refused, turn_taken}
+use Rattle.gtp_engine.proofs.OrderLemmas.{turn_refused, turn_taken}
 use Rattle.gtp_engine.proofs.engine.Engine.go_on.Goals as goal
 
 pub returns-then-not-is_same-clause-taken : goal.returns-then-not-is_same-clause-taken

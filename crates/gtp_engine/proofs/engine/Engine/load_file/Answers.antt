@@ -1,7 +1,7 @@
 use Rattle.std.proofs.Common.{subst}
 use Rattle.desk_io.specs.Files.{told_file}
 use Rattle.gtp_engine.specs.inner.Loading.{IsLoaded}
-use Rattle.gtp_engine.proofs.Answering.{loaded_fits, loads_obeyed}
+use Rattle.gtp_engine.proofs.AnswerLemmas.{loaded_fits, loads_obeyed}
 use Rattle.gtp_engine.proofs.engine.Engine.load_file.Goals as goal
 
 pub note-requires-clause-fit : goal.note-requires-clause-fit

@@ -1,6 +1,6 @@
 use Rattle.std.proofs.Common.{ap}
 use Rattle.gtp_engine.specs.inner.Viewed.{asked_of}
-use Rattle.gtp_engine.proofs.Answering.{met_misfit, met_unknown}
+use Rattle.gtp_engine.proofs.AnswerLemmas.{met_misfit, met_unknown}
 use Rattle.gtp_engine.proofs.engine.Engine.meet.Goals as goal
 
 pub returns-in_ok-reply-in-Unknown-clause-met : goal.returns-in_ok-reply-in-Unknown-clause-met

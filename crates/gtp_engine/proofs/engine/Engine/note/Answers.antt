@@ -1,4 +1,4 @@
-use Rattle.gtp_engine.proofs.Keeping.{loads_failed, loads_more}
+use Rattle.gtp_engine.proofs.KeptLemmas.{loads_failed, loads_more}
 use Rattle.gtp_engine.proofs.engine.Engine.note.Goals as goal
 
 pub invariant_of-self : goal.invariant_of-self

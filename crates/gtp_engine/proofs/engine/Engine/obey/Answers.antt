@@ -3,7 +3,7 @@ use Rattle.gtp_engine.specs.declared.playing.Action.TheVariants.{Generate}
 use Rattle.gtp_engine.specs.Request.Order.{protocol_version, name, version, known_command, list_commands, genmove, quit}
 use Rattle.gtp_engine.specs.Session.{all_commands}
 use Rattle.gtp_engine.specs.inner.Viewed.{order_of}
-use Rattle.gtp_engine.proofs.Answering.{obeyed_cleared, obeyed_told, obeyed_turn}
+use Rattle.gtp_engine.proofs.AnswerLemmas.{obeyed_cleared, obeyed_told, obeyed_turn}
 use Rattle.gtp_engine.proofs.engine.Engine.obey.Goals as goal
 
 pub returns-in-ProtocolVersion-clause-obeyed : goal.returns-in-ProtocolVersion-clause-obeyed

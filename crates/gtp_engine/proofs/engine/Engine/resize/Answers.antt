@@ -1,5 +1,5 @@
 use Rattle.std.proofs.Common.{inl, inr, arith}
-use Rattle.gtp_engine.proofs.Doing.{size_refused, size_taken}
+use Rattle.gtp_engine.proofs.OrderLemmas.{size_refused, size_taken}
 use Rattle.gtp_engine.proofs.engine.Engine.resize.Goals as goal
 use Rattle.gtp_engine.proofs.engine.Engine.resize.Goals.{then-number-lt1-via-then-number-lt1, then-number-lt1-via-else-number-lt1+then-number-gt25}
 

@@ -1,9 +1,9 @@
 use Rattle.std.proofs.Common.{◌+◌, ◌++◌, [], length, refl, sym, ap, ◌∙◌, subst, arith, le_refl, le_trans, Some, None}
 use Rattle.desk_io.specs.declared.lines.TheConstants.{MOST_LINES}
-use Rattle.desk_io.proofs.Used.{used_at, used_most, used_none, used_then}
-use Rattle.gtp_engine.proofs.Going.{going_end, going_line, going_over, going_start}
-use Rattle.gtp_engine.proofs.Numbering.{noted_below, noted_loads, noted_rose, unused_below, unused_loads, unused_rose}
-use Rattle.gtp_engine.proofs.Taking.{Taken}
+use Rattle.desk_io.proofs.UsedLineLemmas.{used_at, used_most, used_none, used_then}
+use Rattle.gtp_engine.proofs.SessionLemmas.{going_end, going_line, going_over, going_start}
+use Rattle.gtp_engine.proofs.FailedLoadLemmas.{noted_below, noted_loads, noted_rose, unused_below, unused_loads, unused_rose}
+use Rattle.gtp_engine.proofs.TakenLineLemmas.{Taken}
 use Rattle.gtp_engine.proofs.engine.Engine.run.Goals as goal
 
 pub session-init : goal.session-init

@@ -2,8 +2,8 @@ use Rattle.std.proofs.Common.{◌≡◌, ◌≤◌, [], length}
 use Rattle.desk_io.specs.declared.lines.TheConstants.{MOST_LINES}
 use Rattle.desk_io.specs.Lines.{UsesLines}
 use Rattle.gtp_engine.specs.Written.{RoseBy}
-use Rattle.gtp_engine.proofs.Going.{Going}
-use Rattle.gtp_engine.proofs.Numbering.{AreBelow}
+use Rattle.gtp_engine.proofs.SessionLemmas.{Going}
+use Rattle.gtp_engine.proofs.FailedLoadLemmas.{AreBelow}
 use Rattle.gtp_engine.proofs.engine.Engine.run.Given as goal
 
 abbrev pub invariant-session : goal.invariant-session

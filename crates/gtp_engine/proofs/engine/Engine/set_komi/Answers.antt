@@ -1,7 +1,7 @@
 use Rattle.std.proofs.Common.{ap, to_z, of_z, w64}
 use Rattle.std.proofs.lemmas.Int.{to_z-of_z}
 use Rattle.gtp_engine.specs.inner.Doing.{with_table}
-use Rattle.gtp_engine.proofs.Doing.{komi_refused, komi_taken}
+use Rattle.gtp_engine.proofs.OrderLemmas.{komi_refused, komi_taken}
 use Rattle.gtp_engine.proofs.engine.Engine.set_komi.Goals as goal
 
 pub returns-then-is_running-clause-set : goal.returns-then-is_running-clause-set

@@ -1,7 +1,7 @@
 use Rattle.std.proofs.Common.{ap, subst}
 use Rattle.gtp_engine.specs.inner.Playing.{IsOpened}
-use Rattle.gtp_engine.proofs.Doing.{turn_first, turn_unsolved}
-use Rattle.gtp_engine.proofs.Keeping.{with_side_fit}
+use Rattle.gtp_engine.proofs.OrderLemmas.{turn_first, turn_unsolved}
+use Rattle.gtp_engine.proofs.KeptLemmas.{with_side_fit}
 use Rattle.gtp_engine.proofs.engine.Engine.set_out.Goals as goal
 
 pub open-requires-clause-fit : goal.open-requires-clause-fit

@@ -1,8 +1,8 @@
 use Rattle.std.proofs.Common.{◌≤◌, ◌≡◌, ℕ, length, take, sym, ap, ◌∙◌, subst}
 use Rattle.std.specs.Io.KnownBytes.{append_known}
 use Rattle.desk_io.specs.Lines.{IsFound, UsesLines}
-use Rattle.desk_io.proofs.Used.{used_line}
-use Rattle.gtp_engine.proofs.Taking.{taken_cut, taken_last, taken_on}
+use Rattle.desk_io.proofs.UsedLineLemmas.{used_line}
+use Rattle.gtp_engine.proofs.TakenLineLemmas.{taken_cut, taken_last, taken_on}
 use Rattle.gtp_engine.proofs.engine.Engine.take_line.Goals as goal
 
 pub returns-in-Err-say-clause-taken : goal.returns-in-Err-say-clause-taken

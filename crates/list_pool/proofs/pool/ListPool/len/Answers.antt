@@ -1,6 +1,6 @@
 use Rattle.std.proofs.Common.{subst, vec_len, vec_capacity}
 use Rattle.std.specs.Prelude.{◌≤ℤ◌, negsuc}
-use Rattle.list_pool.proofs.Pools.{least_spare}
+use Rattle.list_pool.proofs.PoolLemmas.{least_spare}
 use Rattle.list_pool.proofs.pool.ListPool.len.Goals as goal
 
 pub returns-clause-spare : goal.returns-clause-spare

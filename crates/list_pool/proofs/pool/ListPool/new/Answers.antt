@@ -1,6 +1,6 @@
 use Rattle.std.proofs.Common.{map, ap, ◌∙◌, vec_len, vec_capacity}
 use Rattle.list_pool.specs.inner.Pool.{list_in, spare_in}
-use Rattle.list_pool.proofs.Pools.{spare_none}
+use Rattle.list_pool.proofs.PoolLemmas.{spare_none}
 use Rattle.list_pool.proofs.pool.ListPool.new.Goals as goal
 
 pub returns : goal.returns

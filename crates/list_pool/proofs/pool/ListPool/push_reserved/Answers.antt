@@ -4,7 +4,7 @@ use Rattle.std.proofs.lemmas.List.{get_or_read_under}
 use Rattle.list_pool.specs.Chunk.{Row}
 use Rattle.list_pool.specs.declared.place.Place.{Place}
 use Rattle.list_pool.specs.inner.Pool.{no_row, list_in, AllLie}
-use Rattle.list_pool.proofs.Pools.{room_in, list_added}
+use Rattle.list_pool.proofs.PoolLemmas.{room_in, list_added}
 use Rattle.list_pool.proofs.pool.ListPool.push_reserved.Goals as goal
 
 pub overflow_sub-chunk : goal.overflow_sub-chunk

@@ -1,7 +1,7 @@
 use Rattle.std.proofs.Common.{◌≤◌, map, sym, ap, ◌∙◌, subst, arith, vec_len, vec_capacity, refl}
 use Rattle.std.specs.Prelude.{◌≤ℤ◌, pos}
 use Rattle.list_pool.specs.inner.Pool.{list_in, left_over, spare_in}
-use Rattle.list_pool.proofs.Pools.{room_there, row_added, room_made}
+use Rattle.list_pool.proofs.PoolLemmas.{room_there, row_added, room_made}
 use Rattle.list_pool.proofs.pool.ListPool.reserve.Goals as goal
 
 pub returns-then-has_room-clause-room : goal.returns-then-has_room-clause-room

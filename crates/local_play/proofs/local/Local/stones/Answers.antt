@@ -1,7 +1,7 @@
 use Rattle.std.proofs.Common.{◌↔◌, ◌/◌, sym, subst, ◌∙◌}
 use Rattle.local_play.specs.LocalPlay.{Holds}
 use Rattle.local_play.specs.Places.{HasBit}
-use Rattle.local_play.proofs.PackBits.{black_stones, white_stones}
+use Rattle.local_play.proofs.PackBitLemmas.{black_stones, white_stones}
 use Rattle.local_play.proofs.local.Local.stones.Goals as goal
 
 pub returns-in-Black : goal.returns-in-Black

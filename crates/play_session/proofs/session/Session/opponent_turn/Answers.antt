@@ -6,10 +6,10 @@ use Rattle.play_session.specs.Session.{IsToAnswer}
 use Rattle.play_session.specs.Written.{Session, standing}
 use Rattle.play_session.specs.inner.Written.{TurnWritten, IsRequested, MovesOrStays}
 use Rattle.desk_io.specs.Lines.{UsesLines}
-use Rattle.play_session.proofs.Turns.{append_none, turn_unread, answer_written, answer_failed, input_ended}
-use Rattle.play_session.proofs.Wins.{answers_step}
-use Rattle.desk_io.proofs.Held.{input_same}
-use Rattle.desk_io.proofs.Used.{used_none}
+use Rattle.play_session.proofs.TurnLaws.{append_none, turn_unread, answer_written, answer_failed, input_ended}
+use Rattle.play_session.proofs.WinLaws.{answers_step}
+use Rattle.desk_io.proofs.HeldLemmas.{input_same}
+use Rattle.desk_io.proofs.UsedLineLemmas.{used_none}
 use Rattle.play_session.proofs.session.Session.opponent_turn.Goals as goal
 
 pub returns-then-read-eq-MOST_LINES-clause-used : goal.returns-then-read-eq-MOST_LINES-clause-used

@@ -4,12 +4,12 @@ use Rattle.whole_rules.specs.FirstWinningMove.{IsWinner}
 use Rattle.whole_rules.specs.WholeGame.{IsFirstMove}
 use Rattle.play_session.specs.Written.{Session, standing}
 use Rattle.play_session.specs.inner.Written.{TurnWritten}
-use Rattle.play_session.proofs.Sides.{not_other}
-use Rattle.play_session.proofs.Turns.{engine_failed, game_ended}
-use Rattle.play_session.proofs.Wins.{engine_keeps, opponent_keeps, end_keeps}
+use Rattle.play_session.proofs.SideLaws.{not_other}
+use Rattle.play_session.proofs.TurnLaws.{engine_failed, game_ended}
+use Rattle.play_session.proofs.WinLaws.{engine_keeps, opponent_keeps, end_keeps}
 use Rattle.desk_io.specs.Lines.{UsesLines}
-use Rattle.desk_io.proofs.Held.{input_same}
-use Rattle.desk_io.proofs.Used.{used_none}
+use Rattle.desk_io.proofs.HeldLemmas.{input_same}
+use Rattle.desk_io.proofs.UsedLineLemmas.{used_none}
 use Rattle.play_session.proofs.session.Session.turn.Goals as goal
 
 pub returns-in-Err-clause-used : goal.returns-in-Err-clause-used

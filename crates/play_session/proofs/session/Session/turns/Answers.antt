@@ -3,9 +3,9 @@ use Rattle.desk_io.specs.declared.lines.TheConstants.{MOST_LINES}
 use Rattle.whole_rules.specs.FirstWinningMove.{IsWinner}
 use Rattle.play_session.specs.Written.{standing}
 use Rattle.play_session.specs.inner.Written.{TurnWritten}
-use Rattle.play_session.proofs.Going.{going_start, going_turn, going_ended, going_failed}
-use Rattle.desk_io.proofs.Used.{used_most, used_none, used_then}
-use Rattle.desk_io.proofs.Held.{input_same}
+use Rattle.play_session.proofs.SessionLaws.{going_start, going_turn, going_ended, going_failed}
+use Rattle.desk_io.proofs.UsedLineLemmas.{used_most, used_none, used_then}
+use Rattle.desk_io.proofs.HeldLemmas.{input_same}
 use Rattle.play_session.proofs.session.Session.turns.Goals as goal
 
 pub turns-init : goal.turns-init

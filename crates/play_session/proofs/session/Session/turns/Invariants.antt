@@ -3,7 +3,7 @@ use Rattle.desk_io.specs.declared.lines.TheConstants.{MOST_LINES}
 use Rattle.whole_rules.specs.FirstWinningMove.{IsWinner}
 use Rattle.desk_io.specs.Lines.{UsesLines}
 use Rattle.play_session.specs.inner.Written.{turns_left}
-use Rattle.play_session.proofs.Going.{Going}
+use Rattle.play_session.proofs.SessionLaws.{Going}
 use Rattle.play_session.proofs.session.Session.turns.Given as goal
 
 abbrev pub invariant-turns : goal.invariant-turns

@@ -2,7 +2,7 @@ use Rattle.std.proofs.Common.{◌≡◌, ◌∙◌, ap, sym, get_or}
 use Rattle.std.specs.Prelude.{map}
 use Rattle.sgf_tree.specs.Reading.{property_text, node_text}
 use Rattle.sgf_go.specs.Setup.{ends_before}
-use Rattle.sgf_go.proofs.Parts.{line_stops}
+use Rattle.sgf_go.proofs.PartLemmas.{line_stops}
 use Rattle.sgf_go.proofs.replay.Replay.read_line.Goals as goal
 
 pub returns-then-ends_before-clause-follows : goal.returns-then-ends_before-clause-follows

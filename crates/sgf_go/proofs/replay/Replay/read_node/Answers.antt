@@ -1,7 +1,7 @@
 use Rattle.std.specs.Prelude.{map}
 use Rattle.sgf_tree.specs.Reading.{property_text}
 use Rattle.sgf_go.specs.Setup.{NodePart}
-use Rattle.sgf_go.proofs.Parts.{fault_out, node_fault, side_fault, node_follows}
+use Rattle.sgf_go.proofs.PartLemmas.{fault_out, node_fault, side_fault, node_follows}
 use Rattle.sgf_go.proofs.replay.Replay.read_node.Goals as goal
 
 pub returns-in_err-set_properties-clause-follows : goal.returns-in_err-set_properties-clause-follows

@@ -1,7 +1,7 @@
 use Rattle.std.proofs.Common.{subst, Err}
 use Rattle.sgf_tree.specs.Reading.{property_text}
 use Rattle.sgf_go.specs.Setup.{For, SetsProperty}
-use Rattle.sgf_go.proofs.Parts.{goes_fault, fault_out}
+use Rattle.sgf_go.proofs.PartLemmas.{goes_fault, fault_out}
 use Rattle.sgf_go.proofs.replay.Replay.set_properties.Goals as goal
 
 pub returns-in_err-set_property-clause-follows : goal.returns-in_err-set_property-clause-follows

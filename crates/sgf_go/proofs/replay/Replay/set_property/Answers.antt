@@ -1,7 +1,7 @@
 use Rattle.std.proofs.Common.{subst}
 use Rattle.sgf_go.specs.Values.{trimmed}
 use Rattle.sgf_go.specs.Setup.{For, SetsValue, Follows}
-use Rattle.sgf_go.proofs.Parts.{follows_values}
+use Rattle.sgf_go.proofs.PartLemmas.{follows_values}
 use Rattle.sgf_go.proofs.replay.Replay.set_property.Goals as goal
 
 pub returns-in-Some-clause-follows : goal.returns-in-Some-clause-follows

@@ -1,7 +1,7 @@
 use Rattle.std.proofs.Common.{◌∙◌, ap, subst, Ok, Err}
 use Rattle.sgf_go.specs.Values.{trimmed}
 use Rattle.sgf_go.specs.Setup.{For, SetsValue}
-use Rattle.sgf_go.proofs.Parts.{goes_step, goes_fault, fault_out}
+use Rattle.sgf_go.proofs.PartLemmas.{goes_step, goes_fault, fault_out}
 use Rattle.sgf_go.proofs.replay.Replay.set_values.Goals as goal
 
 pub returns-in_err-set_value-clause-follows : goal.returns-in_err-set_value-clause-follows

@@ -1,0 +1,264 @@
+-- A question about a file has one status.
+use Rattle.std.proofs.Common.{◌≡◌, ℕ, ◌<◌, ◌⊎◌, inl, inr, refl, sym, ap, ◌∙◌, subst, arith, List, length, Some, None, Result, Ok, Err}
+use Rattle.std.specs.Prelude.{Option}
+use Rattle.std.specs.List.{Contains}
+use Rattle.std.proofs.lemmas.Bool.{cases_order}
+use Rattle.std.proofs.lemmas.List.Elements.{Contains-get_or}
+use Rattle.go_grid.specs.Region.{Region}
+use Rattle.sgf_tree.specs.Grammar.{PropertyText}
+use Rattle.sgf_tree.specs.Reading.{Answer, IsTreeAnswer}
+use Rattle.sgf_tree.specs.Reading.Answer.{line, no_tree, bad_byte, cut_short, too_deep}
+use Rattle.sgf_tree.specs.declared.fault.TreeFault.{TreeFault}
+use Rattle.sgf_tree.specs.declared.fault.TreeFault.TheVariants.{NoTree, BadByte, CutShort, TooDeep}
+use Rattle.sgf_tree.proofs.OneTreeLemmas.{one_answer}
+use Rattle.sgf_go.specs.declared.fault.SetupFault.{SetupFault}
+use Rattle.sgf_go.specs.declared.settings.Settings.{Settings}
+use Rattle.sgf_go.specs.declared.settings.Setup.{Setup}
+use Rattle.sgf_go.specs.Setup.{Gives}
+use Rattle.sgf_go.proofs.OneReadingLemmas.{not_both, one_fault, one_setup}
+use Rattle.endgame_solver.specs.declared.limits.Limits.{Limits}
+use Rattle.endgame_solver.specs.declared.faults.SolveError.{SolveError}
+use Rattle.endgame_solver.specs.declared.faults.SolveError.TheVariants.{Points, Positions, Cycle, Form, Memory}
+use Rattle.endgame_solver.specs.Faults.{AreRefused, AreSmallRegions, AreSound, IsFaultOf, IsFirstFault, IsSound}
+use Rattle.region_cut.specs.Cut.{AreRegionsOfPlay}
+use Rattle.endgame_solver.specs.Regions.{no_region, region_at}
+use Rattle.endgame_run.specs.declared.status.Status.{Status}
+use Rattle.endgame_run.specs.declared.status.Status.TheVariants as status
+use Rattle.sgf_go.specs.declared.fault.FileFault.{FileFault}
+use Rattle.sgf_go.specs.declared.fault.FileFault.TheVariants as fault
+use Rattle.endgame_run.specs.declared.question.Question.{Question}
+use Rattle.endgame_run.specs.declared.question.Question.TheVariants as question
+use Rattle.endgame_run.specs.Laws.{HasOneStatus, RefusesFaults, RefusesUnshown, ShowsShown, SolvesSound}
+use Rattle.sgf_go.specs.File.{Reads}
+use Rattle.endgame_run.specs.Refusal.{HasStatus}
+use Rattle.endgame_run.specs.Verdict.{AreUnshown, IsFileAnswer, IsPositionAnswer, IsRefused, IsSolved, IsValued}
+use Rattle.endgame_solver.proofs.GraphLaws.{one_value}
+use Rattle.report.specs.Values.{HasShownValue, IsFirstUnshown, IsUnshown}
+use Rattle.report.proofs.ValuesLaws.{shown_at}
+use Rattle.endgame_solver.proofs.BeginLaws.{one_regions}
+
+-- a sound region has no fault
+sound_has_none : (limits : Limits) (r : Region) (f : SolveError) → IsSound limits r → IsFaultOf limits r f → ⊥
+sound_has_none limits r (Points p n) s h = h
+sound_has_none limits r (Positions p) s h = s.positions h.1
+sound_has_none limits r (Cycle p names back) s h = s.no_cycle h.2.0 back h.2.1
+sound_has_none limits r (Form p) s h = s.forms h.3
+sound_has_none limits r (Memory e) s h = h
+
+-- the faults of a region have one status
+region_status : (limits : Limits) (r : Region) (f g : SolveError) (s t : Status) → IsFaultOf limits r f → IsFaultOf limits r g → HasStatus f s → HasStatus g t → s ≡ t
+region_status limits r (Points p n) g s t a b x y = absurd a
+region_status limits r (Memory e) g s t a b x y = absurd a
+region_status limits r f (Points p n) s t a b x y = absurd b
+region_status limits r f (Memory e) s t a b x y = absurd b
+region_status limits r (Positions p) (Positions q) s t a b x y = x ∙ sym y
+region_status limits r (Positions p) (Cycle q names back) s t a b x y = absurd (b.1 a.1)
+region_status limits r (Positions p) (Form q) s t a b x y = absurd (b.1 a.1)
+region_status limits r (Cycle p names back) (Positions q) s t a b x y = absurd (a.1 b.1)
+region_status limits r (Cycle p names back) (Cycle q others forth) s t a b x y = x ∙ sym y
+region_status limits r (Cycle p names back) (Form q) s t a b x y = absurd (b.2 a.2.0 back a.2.1)
+region_status limits r (Form p) (Positions q) s t a b x y = absurd (a.1 b.1)
+region_status limits r (Form p) (Cycle q names back) s t a b x y = absurd (a.2 b.2.0 back b.2.1)
+region_status limits r (Form p) (Form q) s t a b x y = x ∙ sym y
+
+-- a region of more than 32 points, or else the first fault of a region
+abbrev HasLarge : List Region → Type 0
+HasLarge rs = (r : Region) × Contains rs r × (32 < length r.points)
+
+by_size : (limits : Limits) (rs : List Region) (f : SolveError) (s : Status) → AreRefused limits rs f → HasStatus f s
+    → (HasLarge rs × (s ≡ status.RegionLimit)) ⊎ (AreSmallRegions rs × IsFirstFault limits rs f)
+by_size limits rs (Points p n) s h x = let many : 32 < length (region_at rs h.0).points = omega (arith, h.3, h.4) in inl ((region_at rs h.0, Contains-get_or rs h.0 no_region h.1, many), x)
+by_size limits rs (Positions p) s h x = inr h
+by_size limits rs (Cycle p names back) s h x = inr h
+by_size limits rs (Form p) s h x = inr h
+by_size limits rs (Memory e) s h x = absurd x
+
+large_or_small : (rs : List Region) → HasLarge rs → AreSmallRegions rs → ⊥
+large_or_small rs (r, among, large) small = let few = small r among in absurd (omega (arith, few, large))
+
+first_status : (limits : Limits) (rs : List Region) (f g : SolveError) (s t : Status) → IsFirstFault limits rs f → IsFirstFault limits rs g → HasStatus f s → HasStatus g t → s ≡ t
+first_status limits rs f g s t (k, lt, a, before) (j, lt', b, earlier) x y = elim (cases_order k j) as (λ _. s ≡ t) [
+  | inl e ↦ region_status limits (region_at rs j) f g s t (subst (λ i. IsFaultOf limits (region_at rs i) f) e a) b x y
+  | inr (inl less) ↦ absurd (sound_has_none limits (region_at rs k) f (earlier k less) a)
+  | inr (inr more) ↦ absurd (sound_has_none limits (region_at rs j) g (before j more) b)
+]
+
+refusals : (limits : Limits) (rs : List Region) (f g : SolveError) (s t : Status) → AreRefused limits rs f → AreRefused limits rs g → HasStatus f s → HasStatus g t → s ≡ t
+refusals limits rs f g s t a b x y = go (by_size limits rs f s a x) (by_size limits rs g t b y) where
+  go : (HasLarge rs × (s ≡ status.RegionLimit)) ⊎ (AreSmallRegions rs × IsFirstFault limits rs f) → (HasLarge rs × (t ≡ status.RegionLimit)) ⊎ (AreSmallRegions rs × IsFirstFault limits rs g) → s ≡ t
+  go (inl l) (inl m) = l.1 ∙ sym m.1
+  go (inl l) (inr m) = absurd (large_or_small rs l.0 m.0)
+  go (inr l) (inl m) = absurd (large_or_small rs m.0 l.0)
+  go (inr l) (inr m) = first_status limits rs f g s t l.1 m.1 x y
+
+sound_or_refused : (limits : Limits) (rs : List Region) (f : SolveError) (s : Status) → AreSound limits rs → AreRefused limits rs f → HasStatus f s → ⊥
+sound_or_refused limits rs f s sound a x = go (by_size limits rs f s a x) where
+  go : (HasLarge rs × (s ≡ status.RegionLimit)) ⊎ (AreSmallRegions rs × IsFirstFault limits rs f) → ⊥
+  go (inl l) = large_or_small rs l.0 (λ r h. (sound r h).points)
+  go (inr (small, (k, lt, fault, before))) = sound_has_none limits (region_at rs k) f (sound (region_at rs k) (Contains-get_or rs k no_region lt)) fault
+
+-- a position that is to be solved is solved or refused
+solved_or_refused : (limits : Limits) (p : Setup) (s : Status) (a : List ℕ) → IsPositionAnswer (question.Solve limits) p s a → ((s ≡ status.Done) × IsSolved limits p a) ⊎ IsRefused limits p s a
+solved_or_refused limits p status.Done a h = inl (refl, h)
+solved_or_refused limits p status.Cycle a h = inr h
+solved_or_refused limits p status.RegionLimit a h = inr h
+solved_or_refused limits p status.FormLimit a h = inr h
+solved_or_refused limits p status.Usage a h = absurd h
+solved_or_refused limits p status.CannotRead a h = absurd h
+solved_or_refused limits p status.CannotWrite a h = absurd h
+solved_or_refused limits p (status.BadFile f) a h = absurd h
+solved_or_refused limits p status.Memory a h = absurd h
+solved_or_refused limits p status.TooLong a h = absurd h
+solved_or_refused limits p status.TooManyLines a h = absurd h
+solved_or_refused limits p (status.BadExpression f) a h = absurd h
+solved_or_refused limits p status.CalcLimit a h = absurd h
+
+-- sound regions aren't refused
+sound_clash : (limits : Limits) (p : Setup) (s : Status) (b : List ℕ) (regions : List Region) → AreRegionsOfPlay p.board regions → AreSound limits regions → IsRefused limits p s b → ⊥
+sound_clash limits p s b regions are sound w =
+    sound_or_refused limits w.regions w.fault s (subst (AreSound limits) (one_regions p.board regions w.regions are w.are_regions) sound) w.refused w.status
+
+-- refused regions have one status
+two_refusals : (limits : Limits) (p : Setup) (s t : Status) (a b : List ℕ) → IsRefused limits p s a → IsRefused limits p t b → s ≡ t
+two_refusals limits p s t a b v w =
+    refusals limits w.regions v.fault w.fault s t (subst (λ l. AreRefused limits l v.fault) (one_regions p.board v.regions w.regions v.are_regions w.are_regions) v.refused) w.refused v.status w.status
+
+pub solves_sound : SolvesSound
+solves_sound limits p regions s a are sound h = go (solved_or_refused limits p s a h) where
+  go : ((s ≡ status.Done) × IsSolved limits p a) ⊎ IsRefused limits p s a → s ≡ status.Done
+  go (inl v) = v.0
+  go (inr w) = absurd (sound_clash limits p s a regions are sound w)
+
+-- a position whose values are asked for has them shown, or is refused, or isn't shown
+valued_or_not : (limits : Limits) (p : Setup) (s : Status) (a : List ℕ) → IsPositionAnswer (question.Values limits) p s a
+    → ((s ≡ status.Done) × IsValued limits p a) ⊎ (IsRefused limits p s a ⊎ AreUnshown limits p s a)
+valued_or_not limits p status.Done a h = inl (refl, h)
+valued_or_not limits p status.Cycle a h = inr h
+valued_or_not limits p status.RegionLimit a h = inr h
+valued_or_not limits p status.FormLimit a h = inr h
+valued_or_not limits p status.Usage a h = absurd h
+valued_or_not limits p status.CannotRead a h = absurd h
+valued_or_not limits p status.CannotWrite a h = absurd h
+valued_or_not limits p (status.BadFile f) a h = absurd h
+valued_or_not limits p status.Memory a h = absurd h
+valued_or_not limits p status.TooLong a h = absurd h
+valued_or_not limits p status.TooManyLines a h = absurd h
+valued_or_not limits p (status.BadExpression f) a h = absurd h
+valued_or_not limits p status.CalcLimit a h = absurd h
+
+-- of regions all of whose values are shown none isn't
+shown_clash : (regions others : List Region) (p : ℕ) → others ≡ regions → ((k : ℕ) → k < length regions → HasShownValue (region_at regions k)) → IsFirstUnshown others p → ⊥
+shown_clash regions others p same shown first =
+    let u = subst (λ rs. IsFirstUnshown rs p) same first in
+    let r = region_at regions u.place in
+    let value = shown u.place u.inside in
+    value.2 (subst IsUnshown (one_value r.touch r.cells u.unshown.0 value.0 u.unshown.1 value.1) u.unshown.2)
+
+valued_clash : (limits : Limits) (p : Setup) (s : Status) (a b : List ℕ) → IsValued limits p a → AreUnshown limits p s b → ⊥
+valued_clash limits p s a b v w =
+    shown_clash v.regions w.regions w.point (one_regions p.board w.regions v.regions w.are_regions v.are_regions) (λ k lt. shown_at v.regions v.is.entries v.is.are k lt) w.first
+
+pub shows_shown : ShowsShown
+shows_shown limits p regions s a are sound shown h = go (valued_or_not limits p s a h) where
+  go : ((s ≡ status.Done) × IsValued limits p a) ⊎ (IsRefused limits p s a ⊎ AreUnshown limits p s a) → s ≡ status.Done
+  go (inl v) = v.0
+  go (inr (inl w)) = absurd (sound_clash limits p s a regions are sound w)
+  go (inr (inr w)) = absurd (shown_clash regions w.regions w.point (one_regions p.board w.regions regions w.are_regions are) shown w.first)
+
+pub refuses_unshown : RefusesUnshown
+refuses_unshown limits p regions point s a are sound first h = go (valued_or_not limits p s a h) where
+  go : ((s ≡ status.Done) × IsValued limits p a) ⊎ (IsRefused limits p s a ⊎ AreUnshown limits p s a) → s ≡ status.FormLimit
+  go (inl v) = absurd (shown_clash v.1.regions regions point (one_regions p.board regions v.1.regions are v.1.are_regions) (λ k lt. shown_at v.1.regions v.1.is.entries v.1.is.are k lt) first)
+  go (inr (inl w)) = absurd (sound_clash limits p s a regions are sound w)
+  go (inr (inr w)) = w.status
+
+-- what is refused for a fault of a region, against an answer
+against : (limits : Limits) (p : Setup) (regions : List Region) (f : SolveError) (s t : Status) (a : List ℕ) → AreRegionsOfPlay p.board regions → AreRefused limits regions f → HasStatus f t
+    → IsRefused limits p s a → s ≡ t
+against limits p regions f s t a are refused x w =
+    refusals limits regions w.fault f s t (subst (λ l. AreRefused limits l w.fault) (one_regions p.board w.regions regions w.are_regions are) w.refused) refused w.status x
+
+never_sound : (limits : Limits) (p : Setup) (regions others : List Region) (f : SolveError) (t : Status) → AreRegionsOfPlay p.board regions → AreRefused limits regions f → HasStatus f t
+    → AreRegionsOfPlay p.board others → AreSound limits others → ⊥
+never_sound limits p regions others f t are refused x too sound =
+    sound_or_refused limits regions f t (subst (AreSound limits) (one_regions p.board others regions too are) sound) refused x
+
+pub refuses_faults : RefusesFaults
+refuses_faults (question.Solve most) limits p regions f s t a e are refused x h = go (solved_or_refused most p s a h) where
+  own : AreRefused most regions f
+  own = subst (λ l. AreRefused l regions f) (sym e) refused
+
+  go : ((s ≡ status.Done) × IsSolved most p a) ⊎ IsRefused most p s a → s ≡ t
+  go (inl v) = absurd (never_sound most p regions v.1.regions f t are own x v.1.are_regions v.1.sound)
+  go (inr w) = against most p regions f s t a are own x w
+refuses_faults (question.Values most) limits p regions f s t a e are refused x h = go (valued_or_not most p s a h) where
+  own : AreRefused most regions f
+  own = subst (λ l. AreRefused l regions f) (sym e) refused
+
+  go : ((s ≡ status.Done) × IsValued most p a) ⊎ (IsRefused most p s a ⊎ AreUnshown most p s a) → s ≡ t
+  go (inl v) = absurd (never_sound most p regions v.1.regions f t are own x v.1.are_regions v.1.sound)
+  go (inr (inl w)) = against most p regions f s t a are own x w
+  go (inr (inr w)) = absurd (never_sound most p regions w.regions f t are own x w.are_regions w.sound)
+refuses_faults question.Safe limits p regions f s t a e are refused x h = absurd e
+
+pub safe_is_done : (p : Setup) (s : Status) (a : List ℕ) → IsPositionAnswer question.Safe p s a → s ≡ status.Done
+safe_is_done p status.Done a h = refl
+safe_is_done p status.Cycle a h = absurd h
+safe_is_done p status.RegionLimit a h = absurd h
+safe_is_done p status.FormLimit a h = absurd h
+safe_is_done p status.Usage a h = absurd h
+safe_is_done p status.CannotRead a h = absurd h
+safe_is_done p status.CannotWrite a h = absurd h
+safe_is_done p (status.BadFile f) a h = absurd h
+safe_is_done p status.Memory a h = absurd h
+safe_is_done p status.TooLong a h = absurd h
+safe_is_done p status.TooManyLines a h = absurd h
+safe_is_done p (status.BadExpression f) a h = absurd h
+safe_is_done p status.CalcLimit a h = absurd h
+
+position_status : (q : Question) (p : Setup) (s t : Status) (a b : List ℕ) → IsPositionAnswer q p s a → IsPositionAnswer q p t b → s ≡ t
+position_status question.Safe p s t a b x y = safe_is_done p s a x ∙ sym (safe_is_done p t b y)
+position_status (question.Solve limits) p s t a b x y = go (solved_or_refused limits p s a x) (solved_or_refused limits p t b y) where
+  go : ((s ≡ status.Done) × IsSolved limits p a) ⊎ IsRefused limits p s a → ((t ≡ status.Done) × IsSolved limits p b) ⊎ IsRefused limits p t b → s ≡ t
+  go (inl v) (inl w) = v.0 ∙ sym w.0
+  go (inl v) (inr w) = absurd (sound_clash limits p t b v.1.regions v.1.are_regions v.1.sound w)
+  go (inr v) (inl w) = absurd (sound_clash limits p s a w.1.regions w.1.are_regions w.1.sound v)
+  go (inr v) (inr w) = two_refusals limits p s t a b v w
+position_status (question.Values limits) p s t a b x y = go (valued_or_not limits p s a x) (valued_or_not limits p t b y) where
+  go : ((s ≡ status.Done) × IsValued limits p a) ⊎ (IsRefused limits p s a ⊎ AreUnshown limits p s a)
+      → ((t ≡ status.Done) × IsValued limits p b) ⊎ (IsRefused limits p t b ⊎ AreUnshown limits p t b) → s ≡ t
+  go (inl v) (inl w) = v.0 ∙ sym w.0
+  go (inl v) (inr (inl w)) = absurd (sound_clash limits p t b v.1.regions v.1.are_regions v.1.sound w)
+  go (inl v) (inr (inr w)) = absurd (valued_clash limits p t a b v.1 w)
+  go (inr (inl v)) (inl w) = absurd (sound_clash limits p s a w.1.regions w.1.are_regions w.1.sound v)
+  go (inr (inl v)) (inr (inl w)) = two_refusals limits p s t a b v w
+  go (inr (inl v)) (inr (inr w)) = absurd (sound_clash limits p s a w.regions w.are_regions w.sound v)
+  go (inr (inr v)) (inl w) = absurd (valued_clash limits p s b a w.1 v)
+  go (inr (inr v)) (inr (inl w)) = absurd (sound_clash limits p t b v.regions v.are_regions v.sound w)
+  go (inr (inr v)) (inr (inr w)) = v.status ∙ sym w.status
+
+-- a file has a fault, or a position whose status it is
+pub file_or_position : (q : Question) (file : List ℕ) (settings : Settings) (s : Status) (a : List ℕ) → IsFileAnswer q file settings s a
+    → ((f : FileFault) × (s ≡ status.BadFile f) × Reads file settings (Err f)) ⊎ ((p : Setup) × Reads file settings (Ok p) × IsPositionAnswer q p s a)
+file_or_position q file settings (status.BadFile f) a h = inl (f, refl, h.0)
+file_or_position q file settings status.Done a h = inr h
+file_or_position q file settings status.Cycle a h = inr h
+file_or_position q file settings status.RegionLimit a h = inr h
+file_or_position q file settings status.FormLimit a h = inr h
+file_or_position q file settings status.Usage a h = inr h
+file_or_position q file settings status.CannotRead a h = inr h
+file_or_position q file settings status.CannotWrite a h = inr h
+file_or_position q file settings status.Memory a h = inr h
+file_or_position q file settings status.TooLong a h = inr h
+file_or_position q file settings status.TooManyLines a h = inr h
+file_or_position q file settings (status.BadExpression f) a h = inr h
+file_or_position q file settings status.CalcLimit a h = inr h
+
+pub one_status : HasOneStatus
+one_status q file settings s t a b x y = go (file_or_position q file settings s a x) (file_or_position q file settings t b y) where
+  go : ((f : FileFault) × (s ≡ status.BadFile f) × Reads file settings (Err f)) ⊎ ((p : Setup) × Reads file settings (Ok p) × IsPositionAnswer q p s a)
+      → ((f : FileFault) × (t ≡ status.BadFile f) × Reads file settings (Err f)) ⊎ ((p : Setup) × Reads file settings (Ok p) × IsPositionAnswer q p t b) → s ≡ t
+  go (inl (f, e, h)) (inl (g, d, k)) = e ∙ ap status.BadFile (one_fault file settings f g h k) ∙ sym d
+  go (inl (f, e, h)) (inr (p, k, z)) = absurd (not_both file settings p f k h)
+  go (inr (p, h, z)) (inl (g, d, k)) = absurd (not_both file settings p g h k)
+  go (inr (p, h, z)) (inr (r, k, w)) = position_status q r s t a b (subst (λ v. IsPositionAnswer q v s a) (one_setup file settings p r h k) z) w

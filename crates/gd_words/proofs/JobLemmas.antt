@@ -1,0 +1,152 @@
+-- Words say at most one job.
+use Rattle.std.proofs.Common.{◌≡◌, ◌≢◌, ◌<◌, ◌⊎◌, ◌∷◌, ℕ, List, Some, None, inl, inr, get_or, refl, sym, ap, ap₂, ◌∙◌, subst}
+use Rattle.std.specs.Prelude.{Option, codes, IfSome, IfNone}
+use Rattle.std.specs.List.{AllPairs, Contains}
+use Rattle.std.proofs.lemmas.Bool.{cases_order}
+use Rattle.std.proofs.lemmas.List.{get_or_default}
+use Rattle.gd_words.specs.declared.choice.Choice.{Choice}
+use Rattle.gd_words.specs.declared.choice.Choice.TheVariants.{Komi, Turn, After, BlackPrisoners, WhitePrisoners, Positions, Parts, Engine, Tax}
+use Rattle.gd_words.specs.declared.chosen.Chosen.{Chosen}
+use Rattle.gd_words.specs.Choice.{name_of}
+use Rattle.gd_words.specs.Task.{Task, solve, safe, values, play, trial, calc, gtp, AreFor, BeginWith}
+use Rattle.gd_words.specs.Job.{GivesOption, Say, AreChoices, Job, job_of, IsJob, IsOnlyJob}
+use Rattle.gd_words.specs.inner.Reading.{IsJobOf}
+use Rattle.gd_words.proofs.NameLemmas.{apart}
+use Rattle.gd_words.proofs.OneOptionLemmas.{one_number}
+use Rattle.gd_words.proofs.ListingLemmas.{one_spelling}
+
+one_task : (word argument : List ℕ) (t u : Task) → AreFor word argument t → AreFor word argument u → t ≡ u
+one_task word argument (solve f) (solve g) a b = ap solve (sym a.1 ∙ b.1)
+one_task word argument (safe f) (safe g) a b = ap safe (sym a.1 ∙ b.1)
+one_task word argument (values f) (values g) a b = ap values (sym a.1 ∙ b.1)
+one_task word argument (play f) (play g) a b = ap play (sym a.1 ∙ b.1)
+one_task word argument (trial n) (trial m) a b = ap trial (one_number 0 4294967295 argument n m a.1 b.1)
+one_task word argument (calc e) (calc f) a b = ap calc (sym a.1 ∙ b.1)
+one_task word argument gtp u a b = absurd a
+one_task word argument t gtp a b = absurd b
+one_task word argument t u a b = absurd (apart (sym a.0 ∙ b.0) refl refl)
+
+abbrev AreOnce : List Choice → Type 0
+AreOnce = AllPairs (λ x y. name_of x ≢ name_of y)
+
+-- options of one name are the same option
+one_of_name : (xs : List Choice) (x y : Choice) → AreOnce xs → Contains xs x → Contains xs y → name_of x ≡ name_of y → x ≡ y
+one_of_name xs x y n a b e = by_place (cases_order a.0 b.0)
+  where
+    there : get_or xs b.0 x ≡ y
+    there = get_or_default xs b.0 x y b.1 ∙ b.2
+
+    by_place : (a.0 ≡ b.0) ⊎ ((a.0 < b.0) ⊎ (b.0 < a.0)) → x ≡ y
+    by_place (inl h) = sym a.2 ∙ ap (λ k. get_or xs k x) h ∙ there
+    by_place (inr (inl h)) = absurd (n a.0 b.0 x h b.1 (ap name_of a.2 ∙ e ∙ ap name_of (sym there)))
+    by_place (inr (inr h)) = absurd (n b.0 a.0 x h a.1 (ap name_of there ∙ sym e ∙ ap name_of (sym a.2)))
+
+one_value : {A : Type 0} (option : A → Choice) (xs : List Choice) (o p : Option A) → AreOnce xs → ((v w : A) → name_of (option v) ≡ name_of (option w)) → ((v w : A) → option v ≡ option w → v ≡ w)
+    → GivesOption xs option o → GivesOption xs option p → o ≡ p
+one_value option xs None None n e i a b = refl
+one_value option xs None (Some w) n e i a b = absurd (a w b)
+one_value option xs (Some v) None n e i a b = absurd (b v a)
+one_value option xs (Some v) (Some w) n e i a b = ap Some (i v w (one_of_name xs (option v) (option w) n a b (e v w)))
+
+one_say : (xs : List Choice) (o p : Chosen) → AreOnce xs → Say xs o → Say xs p → o ≡ p
+one_say xs o p n a b =
+    let komi = one_value Komi xs o.komi p.komi n (λ v w. refl) (λ v w e. cc) a.komi b.komi in
+    let turn = one_value Turn xs o.turn p.turn n (λ v w. refl) (λ v w e. cc) a.turn b.turn in
+    let after = one_value After xs o.after p.after n (λ v w. refl) (λ v w e. cc) a.after b.after in
+    let black = one_value BlackPrisoners xs o.black_prisoners p.black_prisoners n (λ v w. refl) (λ v w e. cc) a.black_prisoners b.black_prisoners in
+    let white = one_value WhitePrisoners xs o.white_prisoners p.white_prisoners n (λ v w. refl) (λ v w e. cc) a.white_prisoners b.white_prisoners in
+    let positions = one_value Positions xs o.positions p.positions n (λ v w. refl) (λ v w e. cc) a.positions b.positions in
+    let parts = one_value Parts xs o.parts p.parts n (λ v w. refl) (λ v w e. cc) a.parts b.parts in
+    let engine = one_value Engine xs o.engine p.engine n (λ v w. refl) (λ v w e. cc) a.engine b.engine in
+    let tax = one_value Tax xs o.tax p.tax n (λ v w. refl) (λ v w e. cc) a.tax b.tax in
+    λ i. record { komi = komi i; turn = turn i; after = after i; black_prisoners = black i; white_prisoners = white i; positions = positions i; parts = parts i; engine = engine i; tax = tax i }
+
+one_choices : (task : Task) (words : List (List ℕ)) (o p : Chosen) → AreChoices task words o → AreChoices task words p → o ≡ p
+one_choices task words o p a b =
+    let same = one_spelling words b.choices a.choices b.spelt a.spelt in
+    one_say a.choices o p a.once a.said (subst (λ xs. Say xs p) same b.said)
+
+-- no two words ask for the engine
+not_engine : (word argument : List ℕ) (t : Task) → AreFor word argument t → word ≡ codes "gtp" → ⊥
+not_engine word argument gtp a e = a
+not_engine word argument t a e = absurd (apart (sym a.0 ∙ e) refl refl)
+
+-- the words of a task that has two
+abbrev BeginWithTwo : Task → List (List ℕ) → List (List ℕ) → Type 0
+BeginWithTwo task words rest = (word : List ℕ) × (argument : List ℕ) × (words ≡ word ∷ argument ∷ rest) × AreFor word argument task
+
+-- a task has one word, or two
+by_words : (P : Type 0) (task : Task) (words rest : List (List ℕ)) → BeginWith task words rest → (task ≡ gtp → words ≡ codes "gtp" ∷ rest → P) → (BeginWithTwo task words rest → P) → P
+by_words P gtp words rest b one two = one refl b
+by_words P (solve f) words rest b one two = two b
+by_words P (safe f) words rest b one two = two b
+by_words P (values f) words rest b one two = two b
+by_words P (play f) words rest b one two = two b
+by_words P (trial n) words rest b one two = two b
+by_words P (calc e) words rest b one two = two b
+
+pub with_two : (task : Task) (words rest : List (List ℕ)) (word argument : List ℕ) → words ≡ word ∷ argument ∷ rest → AreFor word argument task → BeginWith task words rest
+with_two gtp words rest word argument e a = absurd a
+with_two (solve f) words rest word argument e a = (word, argument, e, a)
+with_two (safe f) words rest word argument e a = (word, argument, e, a)
+with_two (values f) words rest word argument e a = (word, argument, e, a)
+with_two (play f) words rest word argument e a = (word, argument, e, a)
+with_two (trial n) words rest word argument e a = (word, argument, e, a)
+with_two (calc f) words rest word argument e a = (word, argument, e, a)
+
+one_or_two : (words rest more : List (List ℕ)) (u : Task) → words ≡ codes "gtp" ∷ rest → BeginWithTwo u words more → ⊥
+one_or_two words rest more u e (word, argument, d, a) =
+    let k : Path (List (List ℕ)) (word ∷ argument ∷ more) (codes "gtp" ∷ rest) = sym d ∙ e in
+    not_engine word argument u a cc
+
+two_and_two : (words rest more : List (List ℕ)) (t u : Task) → BeginWithTwo t words rest → BeginWithTwo u words more → (t ≡ u) × (rest ≡ more)
+two_and_two words rest more t u (word, argument, e, a) (other, second, d, b) =
+    let k : Path (List (List ℕ)) (other ∷ second ∷ more) (word ∷ argument ∷ rest) = sym d ∙ e in
+    let first : other ≡ word = cc in
+    let then : second ≡ argument = cc in
+    (one_task word argument t u a (subst (λ x. AreFor x argument u) first (subst (λ x. AreFor other x u) then b)), cc)
+
+-- words begin with those of one task
+one_beginning : (words rest more : List (List ℕ)) (t u : Task) → BeginWith t words rest → BeginWith u words more → (t ≡ u) × (rest ≡ more)
+one_beginning words rest more t u a b =
+    by_words _ t words rest a
+    (λ e w. by_words _ u words more b (λ d v. let k : Path (List (List ℕ)) (codes "gtp" ∷ rest) (codes "gtp" ∷ more) = sym w ∙ v in (e ∙ sym d, cc)) (λ two. absurd (one_or_two words rest more u w two)))
+    (λ two. by_words _ u words more b (λ d v. absurd (one_or_two words more rest t v two)) (λ more_two. two_and_two words rest more t u two more_two))
+
+pub one_job : (words : List (List ℕ)) (v w : Job) → IsJob words v → IsJob words w → v ≡ w
+one_job words v w a b =
+    let p = one_beginning words a.rest b.rest v.task w.task a.task b.task in
+    let own = subst (λ r. AreChoices w.task r a.chosen) p.1 (subst (λ t. AreChoices t a.rest a.chosen) p.0 a.options) in
+    a.says ∙ ap₂ job_of p.0 (one_choices w.task b.rest a.chosen b.chosen own b.options) ∙ sym b.says
+
+pub job_made : (words rest : List (List ℕ)) (task : Task) (job : Job) → BeginWith task words rest → IsJobOf task rest job → IsOnlyJob words job
+job_made words rest task job t (o, a, j) =
+    let said : IsJob words (job_of task o) = record { rest = rest; task = t; chosen = o; options = a; says = refl } in
+    subst (IsOnlyJob words) (sym j) (record { said = said; only = λ other h. one_job words other (job_of task o) h said })
+
+pub no_choices : (words rest : List (List ℕ)) (task : Task) (job : Job) → BeginWith task words rest → ((o : Chosen) → ¬ AreChoices task rest o) → ¬ IsJob words job
+no_choices words rest task job t none a =
+    let p = one_beginning words a.rest rest job.task task a.task t in
+    none a.chosen (subst (λ r. AreChoices task r a.chosen) p.1 (subst (λ u. AreChoices u a.rest a.chosen) p.0 a.options))
+
+-- words that begin with those of no task
+pub no_task : (words rest : List (List ℕ)) (word argument : List ℕ) (job : Job) → words ≡ word ∷ argument ∷ rest → word ≢ codes "gtp" → ((task : Task) → ¬ AreFor word argument task) → ¬ IsJob words job
+no_task words rest word argument job e apart_from none a =
+    by_words _ job.task words a.rest a.task
+    (λ d w. let k : Path (List (List ℕ)) (codes "gtp" ∷ a.rest) (word ∷ argument ∷ rest) = sym w ∙ e in apart_from cc)
+    (λ (other, second, d, b). let k : Path (List (List ℕ)) (other ∷ second ∷ a.rest) (word ∷ argument ∷ rest) = sym d ∙ e in
+    let first : other ≡ word = cc in
+    let then : second ≡ argument = cc in
+    none job.task (subst (λ x. AreFor x argument job.task) first (subst (λ x. AreFor other x job.task) then b)))
+
+pub begins_with_engine : (words rest : List (List ℕ)) (word : List ℕ) → words ≡ word ∷ rest → word ≡ codes "gtp" → BeginWith gtp words rest
+begins_with_engine words rest word e is = e ∙ ap (λ x. x ∷ rest) is
+
+-- what holds of a value where there is one, and what where there is none
+pub map_some : {A : Type 0} (P Q : A → Type 0) (r : Option A) → ((x : A) → P x → Q x) → IfSome r P → IfSome r Q
+map_some P Q None f h = tt
+map_some P Q (Some x) f h = f x h
+
+pub map_none : {A : Type 0} (P Q : Type 0) (r : Option A) → (P → Q) → IfNone r P → IfNone r Q
+map_none P Q None f h = f h
+map_none P Q (Some x) f h = tt
