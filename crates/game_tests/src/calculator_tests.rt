@@ -30,9 +30,9 @@ const VALUES: [(&[u8], &[u8]); 5] = [
 #[test]
 fn values(rt: HostRuntime) -> Result<(), Fail> {
     let alloc = rt.alloc();
-    for (line, want) in VALUES {
+    for (line, want) in &VALUES {
         match answer(alloc, line, 500) {
-            Ok(text) => assert_eq!(rt; text.as_slice(), want),
+            Ok(text) => assert_eq!(rt; text.as_slice(), *want),
             Err(_) => assert!(rt; false),
         }
     }
@@ -91,9 +91,9 @@ const ORDERS: [(&[u8], &[u8]); 41] = [
 #[test]
 fn orders(rt: HostRuntime) -> Result<(), Fail> {
     let alloc = rt.alloc();
-    for (line, want) in ORDERS {
+    for (line, want) in &ORDERS {
         match answer(alloc, line, 500) {
-            Ok(text) => assert_eq!(rt; text.as_slice(), want),
+            Ok(text) => assert_eq!(rt; text.as_slice(), *want),
             Err(_) => assert!(rt; false),
         }
     }
@@ -136,10 +136,10 @@ const REFUSALS: [(&[u8], u32, CalcError); 24] = [
 #[test]
 fn refusals(rt: HostRuntime) -> Result<(), Fail> {
     let alloc = rt.alloc();
-    for (line, parts_limit, want) in REFUSALS {
-        match answer(alloc, line, parts_limit) {
+    for (line, parts_limit, want) in &REFUSALS {
+        match answer(alloc, line, *parts_limit) {
             Ok(_) => assert!(rt; false),
-            Err(error) => assert!(rt; error == want),
+            Err(error) => assert!(rt; error == *want),
         }
     }
     Ok(())

@@ -75,9 +75,9 @@ const TEXTS: [(&[u8], &[u8]); 39] = [
 #[test]
 fn texts(rt: HostRuntime) -> Result<(), Fail> {
     let alloc = rt.alloc();
-    for (text, want) in TEXTS {
+    for (text, want) in &TEXTS {
         match written(alloc, text, 100) {
-            Ok(Ok(found)) => assert_eq!(rt; found.as_slice(), want),
+            Ok(Ok(found)) => assert_eq!(rt; found.as_slice(), *want),
             Ok(Err(_)) => assert!(rt; false),
             Err(_) => assert!(rt; false),
         }
@@ -105,7 +105,7 @@ const BOTH_EDITIONS: [(&[u8], &[u8]); 12] = [
 #[test]
 fn both_editions(rt: HostRuntime) -> Result<(), Fail> {
     let alloc = rt.alloc();
-    for (text, named) in BOTH_EDITIONS {
+    for (text, named) in &BOTH_EDITIONS {
         let mut store = Store::new(alloc);
         let one = read(alloc, &mut store, text, 500).expect(&rt, "a text");
         let other = read(alloc, &mut store, named, 500).expect(&rt, "a named text");
@@ -133,9 +133,9 @@ const LENGTHS: [(&[u8], usize, &[u8]); 12] = [
 #[test]
 fn lengths(rt: HostRuntime) -> Result<(), Fail> {
     let alloc = rt.alloc();
-    for (text, limit, want) in LENGTHS {
-        match written(alloc, text, limit) {
-            Ok(Ok(found)) => assert_eq!(rt; found.as_slice(), want),
+    for (text, limit, want) in &LENGTHS {
+        match written(alloc, text, *limit) {
+            Ok(Ok(found)) => assert_eq!(rt; found.as_slice(), *want),
             Ok(Err(cause)) => {
                 assert!(rt; want.is_empty());
                 assert_eq!(rt; cause, WriteError::Long);
@@ -201,9 +201,9 @@ const REFUSALS: [(&[u8], u32, ReadError); 48] = [
 #[test]
 fn refusals(rt: HostRuntime) -> Result<(), Fail> {
     let alloc = rt.alloc();
-    for (text, parts_limit, want) in REFUSALS {
+    for (text, parts_limit, want) in &REFUSALS {
         let mut store = Store::new(alloc);
-        assert_eq!(rt; read(alloc, &mut store, text, parts_limit), Err(want));
+        assert_eq!(rt; read(alloc, &mut store, text, *parts_limit), Err(*want));
     }
     Ok(())
 }
