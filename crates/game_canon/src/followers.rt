@@ -55,6 +55,38 @@ fn add_options(store: &Store, found: &mut IndexSet<GameId>, id: GameId) -> Resul
     }
 }
 
+/// How many different parts the forms have together, where nothing is found yet. None where more than `limit` were found
+/// before the end.
+fn count_found(
+    store: &Store,
+    found: &mut IndexSet<GameId>,
+    left: &[GameId],
+    right: &[GameId],
+    limit: usize,
+) -> Result<Option<usize>, AllocError>
+    requires found { found.old.keys ≡ [] }
+    requires left { AreIds store.now left.now }
+    requires right { AreIds store.now right.now }
+    ensures count { IfOk result (λ count. MatchOption count
+        (HasMoreBelow (listed store.now left.now right.now) limit)
+        (λ n. HasBelow (listed store.now left.now right.now) n)) }
+    ensures ended { IfOk result (λ count. IfNone count (limit < 2 ^ 63)) }
+{
+    let _count = store.len();
+    add_parts(store, found, left)?;
+    add_parts(store, found, right)?;
+    let mut place = 0;
+    'following: while place < found.len() {
+        if found.len() > limit {
+            return Ok(None);
+        }
+        let id = found.as_slice()[place];
+        add_options(store, found, id)?;
+        place += 1;
+    }
+    Ok(Some(found.len()))
+}
+
 /// How many different parts the forms have together. None where more than `limit` were found before the end.
 fn count_parts(
     alloc: Global,
@@ -70,20 +102,8 @@ fn count_parts(
         (λ n. HasBelow (listed store.now left.now right.now) n)) }
     ensures ended { IfOk result (λ count. IfNone count (limit < 2 ^ 63)) }
 {
-    let _count = store.len();
     let mut found = nothing_found(alloc);
-    add_parts(store, &mut found.ids, left)?;
-    add_parts(store, &mut found.ids, right)?;
-    let mut place = 0;
-    'following: while place < found.ids.len() {
-        if found.ids.len() > limit {
-            return Ok(None);
-        }
-        let id = found.ids.as_slice()[place];
-        add_options(store, &mut found.ids, id)?;
-        place += 1;
-    }
-    Ok(Some(found.ids.len()))
+    count_found(store, &mut found.ids, left, right, limit)
 }
 
 /// Whether the form with these options, which is no number, has more than `limit` parts.

@@ -56,6 +56,18 @@ fn order_in(
     Ok(order_of(below, above))
 }
 
+/// The order of two of the games, of which nothing is known yet.
+fn order_among(alloc: Global, games: &Games<'_>, a: GameId, b: GameId) -> Result<Order, AllocError>
+    requires games { AreGames games.now }
+    requires a { a < length (trees games.now) }
+    requires b { b < length (trees games.now) }
+    ensures { IfOk result (λ order. IsOrder order (tree_at (trees games.now) a)
+        (tree_at (trees games.now) b)) }
+{
+    let mut memo = nothing_known(alloc);
+    order_in(alloc, &mut memo.known, games, a, b)
+}
+
 /// The order of two games (Conway): the first is at most the second where no Left option of the first is at least the
 /// second, and no Right option of the second at most the first.
 pub fn compare(alloc: Global, store: &Store, a: GameId, b: GameId) -> Result<Order, AllocError>
@@ -63,9 +75,7 @@ pub fn compare(alloc: Global, store: &Store, a: GameId, b: GameId) -> Result<Ord
     requires b { b < length store.now }
     ensures { IfOk result (λ order. IsOrder order (tree_at store.now a) (tree_at store.now b)) }
 {
-    let mut memo = nothing_known(alloc);
     let none = nothing_known(alloc);
     let games = games_of(store, &none.known);
-    let order = order_in(alloc, &mut memo.known, &games, a, b)?;
-    Ok(order)
+    order_among(alloc, &games, a, b)
 }

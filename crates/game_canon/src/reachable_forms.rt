@@ -1,6 +1,6 @@
 //! The forms that a form is made of.
 
-ghost use Rattle.std.specs.Prelude.{◌<◌, length, IfOk, OnOk};
+ghost use Rattle.std.specs.Prelude.{◌≡◌, ◌<◌, [], length, IfOk, OnOk};
 ghost use Rattle.short_games.specs.Tree.{Has, tree_at};
 ghost use Rattle.game_store.specs.Meaning.{pick, AreIds};
 ghost use Rattle.short_games.specs.Parts.{IsInner};
@@ -41,19 +41,33 @@ fn add_inner(store: &Store, found: &mut IndexSet<GameId>, id: GameId) -> Result<
     }
 }
 
+/// The form, its parts and their options, in ascending order of their ids, where nothing is found yet.
+fn reach(
+    alloc: Global,
+    store: &Store,
+    found: &mut IndexSet<GameId>,
+    a: GameId,
+) -> Result<SmallVec<GameId, 8>, AllocError>
+    requires found { found.old.keys ≡ [] }
+    requires id { a < length store.now }
+    ensures { IfOk result (λ v. AreReachable store.now (tree_at store.now a) v.items) }
+{
+    add_ids(store, found, &[a])?;
+    let mut place = 0;
+    'following: while place < found.len() {
+        let id = found.as_slice()[place];
+        add_inner(store, found, id)?;
+        place += 1;
+    }
+    let reached = in_order(alloc, found.as_slice())?;
+    Ok(reached)
+}
+
 /// The form, its parts and their options, in ascending order of their ids: options come before the form.
 pub fn reachable(alloc: Global, store: &Store, a: GameId) -> Result<SmallVec<GameId, 8>, AllocError>
     requires { a < length store.now }
     ensures { IfOk result (λ v. AreReachable store.now (tree_at store.now a) v.items) }
 {
     let mut found = nothing_found(alloc);
-    add_ids(store, &mut found.ids, &[a])?;
-    let mut place = 0;
-    'following: while place < found.ids.len() {
-        let id = found.ids.as_slice()[place];
-        add_inner(store, &mut found.ids, id)?;
-        place += 1;
-    }
-    let reached = in_order(alloc, found.ids.as_slice())?;
-    Ok(reached)
+    reach(alloc, store, &mut found.ids, a)
 }
