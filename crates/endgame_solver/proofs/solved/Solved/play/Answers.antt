@@ -1,5 +1,6 @@
-use Rattle.std.proofs.Common.{arith}
+use Rattle.std.proofs.Common.{arith, subst, sym}
 use Rattle.go_grid.specs.declared.grid.Colour.TheVariants.{Black, White}
+use Rattle.whole_rules.specs.WholeGame.{IsMove}
 use Rattle.endgame_solver.proofs.HeldLaws.{kept_applied, some_edge}
 use Rattle.endgame_solver.proofs.WinningLaws.{held_as, shows_places, stone_has, stone_held, stone_none}
 use Rattle.endgame_solver.proofs.solved.Solved.play.Goals as goal
@@ -38,3 +39,13 @@ invariant_of-self-in_default-edge c =
     let held = c.self.invariant.0 in
     let none = stone_none held c.deref.ensures.value c.deref-2.ensures.value c.side-side.ensures (c.in_default-edge.ensures {u = tt}).edges in
     absurd (some_edge held.kept c.in-Stone.point c.apply-2.new.self (c.in_ok-apply.ensures {u = tt}) none)
+
+pub returns-in_default-edge-clause-applied : goal.returns-in_default-edge-clause-applied
+returns-in_default-edge-clause-applied c =
+    let moved = subst (λ m. IsMove c.self.inside.whole m c.apply-2.new.self) (sym c.in-Stone.is) (c.in_ok-apply.ensures {u = tt}) in
+    subst (λ v. IsMove v.state c.args.chosen c.apply-2.new.self) c.self.view_is moved
+
+pub returns-in-Some-clause-applied : goal.returns-in-Some-clause-applied
+returns-in-Some-clause-applied c =
+    let moved = subst (λ m. IsMove c.self.inside.whole m c.apply-2.new.self) (sym c.in-Stone.is) (c.in_ok-apply.ensures {u = tt}) in
+    subst (λ v. IsMove v.state c.args.chosen c.apply-2.new.self) c.self.view_is moved
