@@ -2,7 +2,7 @@
 use Rattle.std.proofs.Common.{ℕ, ◌≤◌, ◌≡◌, ◌≢◌, List, [], ◌∷◌, length, take, drop, get_or, arith, refl, sym, ◌∙◌, ap, subst}
 use Rattle.std.proofs.lemmas.List.{drop_more, drop_all}
 use Rattle.go_grid.specs.Name.{IsName}
-use Rattle.sgf_go.specs.Values.{IsArea, point, corners, rectangle_between, colon}
+use Rattle.sgf_go.specs.Values.{IsArea, point, corners, Rectangle, rectangle_between, colon}
 
 -- the bytes at a place and behind it
 abbrev pub two_at : List ℕ → ℕ → ℕ → List ℕ
@@ -36,3 +36,17 @@ pub point_not_corners : (columns rows : ℕ) (text : List ℕ) (p : ℕ) → IsN
 point_not_corners columns rows text p a e =
     let bad : 0 ≡ colon = ap (λ t. get_or t 2 0) (sym a.spelt) ∙ e in
     omega (arith, bad)
+
+pub no_point_two : (columns rows : ℕ) (text : List ℕ) → length text ≡ 2 → ((p : ℕ) → ¬ IsName columns rows (two_at text 0 1) p) → (r : Rectangle) → ¬ IsArea columns rows text r
+no_point_two columns rows text h none _ (point p n) = none p (subst (λ t. IsName columns rows t p) (whole_two text h) n)
+no_point_two columns rows text h none _ (corners p q n e m) =
+    let bad : 0 ≡ colon = ap (λ t. get_or t 2 0) (sym (whole_two text h)) ∙ e in
+    omega (arith, bad)
+
+pub no_first_five : (columns rows : ℕ) (text : List ℕ) → length text ≡ 5 → get_or text 2 0 ≡ colon → ((p : ℕ) → ¬ IsName columns rows (two_at text 0 1) p) → (r : Rectangle) → ¬ IsArea columns rows text r
+no_first_five columns rows text h e none _ (point p n) = point_not_corners columns rows text p n e
+no_first_five columns rows text h e none _ (corners p q n f m) = none p (subst (λ t. IsName columns rows t p) (first_two text (omega (arith, h))) n)
+
+pub no_second_five : (columns rows : ℕ) (text : List ℕ) → length text ≡ 5 → get_or text 2 0 ≡ colon → ((q : ℕ) → ¬ IsName columns rows (two_at text 3 4) q) → (r : Rectangle) → ¬ IsArea columns rows text r
+no_second_five columns rows text h e none _ (point p n) = point_not_corners columns rows text p n e
+no_second_five columns rows text h e none _ (corners p q n f m) = none q (subst (λ t. IsName columns rows t q) (last_two text h) m)
