@@ -132,7 +132,6 @@ impl Replay {
     }
 
     /// A move at a point.
-    #[tactic(auto, using(crate::proofs::PartLemmas::counts_move))]
     fn put_stone(&mut self, node: u32, colour: Colour, point: Point) -> Result<(), SetupFault>
         requires point { point < length self.old.board.cells }
         requires counts { Counts self.old }
@@ -170,7 +169,6 @@ impl Replay {
     }
 
     /// The properties of a node that set points.
-    #[tactic(auto, using(crate::proofs::PartLemmas::goes_step, crate::proofs::PartLemmas::goes_fault, crate::proofs::PartLemmas::goes_end))]
     fn set_properties(&mut self, node: u32, properties: &[Property]) -> Result<(), SetupFault>
         ensures follows { Follows (For (λ p. SetsProperty node
             (property_text p)) properties.now) self.old self.new result }
@@ -201,7 +199,6 @@ impl Replay {
     }
 
     /// The properties of a node that move.
-    #[tactic(auto, using(crate::proofs::PartLemmas::goes_step, crate::proofs::PartLemmas::goes_fault, crate::proofs::PartLemmas::goes_end))]
     fn move_properties(&mut self, node: u32, properties: &[Property]) -> Result<(), SetupFault>
         requires counts { Counts self.old }
         requires few { self.old.played + length properties.now ≤ MOST_BYTES }

@@ -1,0 +1,8 @@
+use Rattle.std.proofs.Common.{◌∙◌, ap, arith, subst, sym}
+use Rattle.sgf_go.specs.Setup.{Counts, moved}
+use Rattle.sgf_go.proofs.PartLemmas.{counts_move}
+use Rattle.sgf_go.proofs.replay.Replay.put_stone.Goals as goal
+
+pub returns-in-Ok-clause-counts : goal.returns-in-Ok-clause-counts
+returns-in-Ok-clause-counts c = subst Counts (sym (c.count_move.ensures ∙ ap (moved c.args.colour) c.take.ensures))
+    (counts_move c.args.colour c.in-Ok.taken c.args.self.now c.args.self.now.board c.place.new.board c.requires.counts (omega (arith, c.size-size.ensures.most, c.size-size.ensures.grid.full)) (c.in-Ok.ensures {u = tt}).1)
