@@ -50,7 +50,6 @@ fn read_fraction(some: bool, bytes: &[u8]) -> Option<u32>
 }
 
 /// The halves that a text without a sign says.
-#[tactic(auto, using(crate::proofs::ScanLemmas::scan_digit, crate::proofs::ScanLemmas::scan_large, crate::proofs::ScanLemmas::scan_dot, crate::proofs::ScanLemmas::scan_bad, crate::proofs::ScanLemmas::scan_end))]
 fn read_halves(text: &[u8]) -> Option<u32>
     ensures value { result ≡ scan 0 false text.now }
     ensures most { IfSome result (λ n. n ≤ 2 * MOST_KOMI + 1) }

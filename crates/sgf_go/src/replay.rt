@@ -284,7 +284,6 @@ impl Replay {
     }
 
     /// A move by its text.
-    #[tactic(auto, using(crate::proofs::PartLemmas::chooses_pass, crate::proofs::PartLemmas::chooses_stone, crate::proofs::PartLemmas::chooses_nothing))]
     fn play(&mut self, node: u32, colour: Colour, value: &[u8]) -> Result<(), SetupFault>
         requires counts { Counts self.old }
         requires few { self.old.played < MOST_BYTES }

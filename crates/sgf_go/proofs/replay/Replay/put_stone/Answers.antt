@@ -1,7 +1,10 @@
-use Rattle.std.proofs.Common.{◌∙◌, ap, arith, subst, sym}
+use Rattle.std.proofs.Common.{◌∙◌, ap, arith, subst, sym, Ok}
 use Rattle.sgf_go.specs.Setup.{Counts, moved}
 use Rattle.sgf_go.proofs.PartLemmas.{counts_move}
 use Rattle.sgf_go.proofs.replay.Replay.put_stone.Goals as goal
+
+pub returns-in-Ok-clause-follows : goal.returns-in-Ok-clause-follows
+returns-in-Ok-clause-follows c = (c.place.new.board, Ok c.in-Ok.taken, c.in-Ok.ensures {u = tt}, ap Ok (c.count_move.ensures ∙ ap (moved c.args.colour) c.take.ensures))
 
 pub returns-in-Ok-clause-counts : goal.returns-in-Ok-clause-counts
 returns-in-Ok-clause-counts c = subst Counts (sym (c.count_move.ensures ∙ ap (moved c.args.colour) c.take.ensures))
