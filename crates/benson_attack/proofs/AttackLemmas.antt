@@ -1,5 +1,5 @@
 -- Attacks on a stone of either colour, and why no stone that lives without answers has one.
-use Rattle.std.proofs.Common.{◌≡◌, ℕ, List, refl, subst}
+use Rattle.std.proofs.Common.{◌≡◌, ◌∙◌, ℕ, List, ap, refl, subst}
 use Rattle.go_grid.specs.declared.grid.Colour.{Colour}
 use Rattle.go_grid.specs.declared.grid.Colour.TheVariants as colour
 use Rattle.go_grid.specs.Chain.{IsSettled}
@@ -37,3 +37,6 @@ not_alive g c d s ps settled e at t b alive =
     let there = alive.1.stones s alive.2 in
     let a = attack_on g c d s ps e at t b there in
     a.gone (healthy_stands g b alive.0 settled alive.1 s alive.2 ps a.left a.legal)
+
+pub alive_as : (g : Board) (c d : Colour) (s : ℕ) → d ≡ other c → HasStone g c s → IsAlive g (other d) s → (b : Colour) → HasStone g b s → IsAlive g b s
+alive_as g c d s e at alive b there = subst (λ x. IsAlive g x s) (ap other e ∙ twice c ∙ one_colour g c b s at there) alive
