@@ -72,6 +72,28 @@ two_refused h d v liberties is refused some =
     let (points, listed) = some_list liberties in
     two_listed h d v refused some points (λ p. (λ at. (is p).0 ((listed p).0 at), λ l. (listed p).1 ((is p).1 l)))
 
+-- an attack on a stone that stands begins at the run
+pub pressed_first : (d : Colour) (v : ℕ) (run : Run) → HasStone run.board (other d) v → IsPressed d v run run
+pressed_first d v run at = record {
+  short = λ few. few;
+  long = refl;
+  goes = λ g rest. (
+    record {
+      columns = rest.0.columns;
+      long = rest.0.long;
+      stood = rest.0.stood;
+      taken = rest.0.taken;
+      whole = rest.0.whole;
+      breathes = rest.0.breathes;
+      filled = λ q free held. let (r, next, stood, gone) = rest.0.filled q free held in (r, next, stood, λ there. absurd (gone there));
+    },
+    rest.1,
+  );
+  fewer = λ q there. there;
+  least = omega arith;
+  more = inl at;
+}
+
 -- one placing more
 pub pressed_next : (d : Colour) (v : ℕ) (old now new : Run) (p : ℕ) → IsPressed d v old now → IsLiberty now.board (other d) v p
     → IsPlaced now.board p d new.board → new.placings.items ≡ now.placings.items ++ p ∷ [] → IsPressed d v old new
