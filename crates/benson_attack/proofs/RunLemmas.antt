@@ -156,6 +156,16 @@ failed_copy d v run copy new true same items w e g rest = cc
 failed_copy d v run copy new false same items w e g rest =
     subst (λ b. HasTwoEyes g (other d) (HasStone b (other d)) v) same (w g (rest_of_copy g d run copy same items rest))
 
+pub taken_copy : (d : Colour) (v : ℕ) (run copy new : Run) (b : Bool) → copy.board ≡ run.board
+    → copy.placings.items ≡ run.placings.items → Captures d v copy new b → b ≡ true → Follows d run new
+taken_copy d v run copy new true same items w e = record {
+  short = λ few. w.0.short (omega (arith, few, ap length items, ap (number_of_stones d) same));
+  long = w.0.long ∙ ap (λ b. length b.cells) same;
+  goes = λ g rest. w.0.goes g (rest_of_copy g d run copy same items rest);
+  more = subst (λ b. number_of_stones d b < number_of_stones d new.board) same w.0.more;
+}
+taken_copy d v run copy new false same items w e = cc
+
 -- stones that all have two eyes are a healthy list
 pub healthy_all : (g : Board) (d : Colour) (h : Board) → IsReachedUnderAttack g d (λ _. ⊥) h
     → ((v : ℕ) → HasStone h (other d) v → HasTwoEyes g (other d) (HasStone h (other d)) v)

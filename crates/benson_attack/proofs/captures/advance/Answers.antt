@@ -4,7 +4,7 @@ use Rattle.go_grid.specs.Chain.{InChain}
 use Rattle.go_grid.specs.Board.{HasStone}
 use Rattle.go_grid.specs.Marks.{Marks}
 use Rattle.benson_attack.specs.inner.Reached.{AreTriedBelow}
-use Rattle.benson_attack.proofs.RunLemmas.{failed_copy}
+use Rattle.benson_attack.proofs.RunLemmas.{failed_copy, taken_copy}
 use Rattle.benson_attack.proofs.TriedLemmas.{tried_first, tried_skip, tried_more, tried_all}
 use Rattle.benson_attack.proofs.captures.advance.Goals as goal
 use Rattle.benson_attack.proofs.captures.advance.Goals.{then-contains+in_ok-trial+in_ok-capture+else-branch, else-contains}
@@ -32,6 +32,10 @@ loop-number-preserved c =
           (tried_skip d alive c.loop-number.left run n c.loop-number.invariant
           (λ m. both_ways _ w.if-contains.false (c.contains.ensures.1 m)))
     ]
+
+pub returns-then-branch : goal.returns-then-branch
+returns-then-branch c = taken_copy c.args.colour c.loop-number.number c.args.run.now c.in_ok-trial.trial c.capture.new.run c.in_ok-capture.field-0
+    c.in_ok-trial.ensures.0 c.in_ok-trial.ensures.1 c.in_ok-capture.ensures c.if-branch.true
 
 pub returns : goal.returns
 returns c =
