@@ -1,18 +1,18 @@
 -- Runs: what an attack on one stone keeps, and how it ends.
-use Rattle.std.proofs.Common.{◌≡◌, ◌≢◌, ℕ, ◌<◌, ◌+◌, ◌⊎◌, ◌↔◌, inl, inr, suc, zero, List, [], ◌∷◌, ◌++◌, Bool, true, false, length, refl, sym, ap, ◌∙◌, subst, arith}
+use Rattle.std.proofs.Common.{◌≡◌, ◌≢◌, ℕ, ◌<◌, ◌+◌, ◌⊎◌, ◌↔◌, inl, inr, suc, zero, List, [], ◌∷◌, ◌++◌, Bool, true, false, Some, length, refl, sym, ap, ◌∙◌, subst, arith}
 use Rattle.std.specs.List.{Contains}
 use Rattle.std.proofs.lemmas.Bool.{cases_eq}
 use Rattle.std.proofs.lemmas.List.{length-append}
 use Rattle.go_grid.specs.declared.grid.Colour.{Colour}
 use Rattle.go_grid.specs.Board.{Board, HasStone, other}
 use Rattle.go_grid.specs.Chain.{IsLiberty, HasLiberty, IsSettled}
-use Rattle.go_grid.specs.Marks.{Marks}
+use Rattle.go_grid.specs.Marks.{IsMarked, Marks}
 use Rattle.go_grid.proofs.PointsLemmas.{some_list}
 use Rattle.go_play.specs.Place.{IsPlaced, IsSuicide, Placings}
 use Rattle.benson_life.specs.Life.{HasTwoEyes, IsEye, IsHealthy}
 use Rattle.benson_attack.specs.declared.captures.Run.{Run}
 use Rattle.benson_attack.specs.Reached.{IsReachedUnderAttack, IsAtRest, number_of_stones}
-use Rattle.benson_attack.specs.inner.Reached.{HasRefusals, Follows, Captures, IsPressed, AllAlive, HasEyes}
+use Rattle.benson_attack.specs.inner.Reached.{HasRefusals, Presses, Follows, Captures, IsPressed, AllAlive, HasEyes}
 use Rattle.benson_attack.proofs.LegalLemmas.{captures, long, stood_earlier, not_suicide}
 use Rattle.benson_attack.proofs.ReachLemmas.{refused_eyes, reached_first, reached_over, reached_next, placings_more}
 use Rattle.benson_attack.proofs.CountLemmas.{rises}
@@ -71,6 +71,11 @@ pub two_refused : (h : Board) (d : Colour) (v : ℕ) (liberties : List Bool) →
 two_refused h d v liberties is refused some =
     let (points, listed) = some_list liberties in
     two_listed h d v refused some points (λ p. (λ at. (is p).0 ((listed p).0 at), λ l. (listed p).1 ((is p).1 l)))
+
+-- a legal placing at a liberty
+pub presses_at : (d : Colour) (v : ℕ) (g now h : Board) (p : ℕ) (liberties : List Bool) → Marks liberties (IsLiberty g (other d) v) → IsMarked liberties p → now ≡ g
+    → IsPlaced now p d h → Presses d v g h (Some p)
+presses_at d v g now h p liberties is marked same placed = ((is p).0 marked, subst (λ b. IsPlaced b p d h) same placed)
 
 -- an attack on a stone that stands begins at the run
 pub pressed_first : (d : Colour) (v : ℕ) (run : Run) → HasStone run.board (other d) v → IsPressed d v run run

@@ -2,8 +2,8 @@ use Rattle.std.proofs.Common.{◌∙◌, subst, arith}
 use Rattle.std.proofs.lemmas.Bool.{both_ways, OnFalse_at}
 use Rattle.go_grid.specs.Chain.{IsLiberty}
 use Rattle.go_grid.specs.Marks.{Marks}
-use Rattle.go_play.specs.Place.{IsPlaced, IsSuicide}
-use Rattle.benson_attack.proofs.RunLemmas.{two_refused, refused_more}
+use Rattle.go_play.specs.Place.{IsSuicide}
+use Rattle.benson_attack.proofs.RunLemmas.{presses_at, two_refused, refused_more}
 use Rattle.benson_attack.proofs.captures.press.Goals as goal
 use Rattle.benson_attack.proofs.captures.press.Goals.{else-contains-via-then-contains+else-try_place, else-contains-via-else-contains}
 
@@ -30,11 +30,10 @@ loop-number-preserved c =
 pub returns-then-try_place : goal.returns-then-try_place
 returns-then-try_place c =
     let g = c.args.board.now in
-    let n = c.loop-number.number in
-    let marks = subst (λ k. Marks c.liberties-liberties.result (IsLiberty g k c.args.victim)) c.other.ensures c.liberties-liberties.ensures in (
-      (marks n).0 (c.contains.ensures.0 c.if-contains.true),
-      subst (λ b. IsPlaced b n c.args.colour c.try_place.new.board) c.loop-number.invariant.0 (c.if-try_place.ensures {u = tt}).placed,
-    )
+    let v = c.args.victim in
+    let marks = subst (λ k. Marks c.liberties-liberties.result (IsLiberty g k v)) c.other.ensures c.liberties-liberties.ensures in
+    presses_at c.args.colour v g c.loop-number.board c.try_place.new.board c.loop-number.number c.liberties-liberties.result marks
+    (c.contains.ensures.0 c.if-contains.true) c.loop-number.invariant.0 (c.if-try_place.ensures {u = tt}).placed
 
 pub returns : goal.returns
 returns c =
