@@ -1,12 +1,12 @@
 -- Bytes that are held in an array, and those that a source has left.
-use Rattle.std.proofs.Common.{◌≡◌, ◌≢◌, ◌⊎◌, ℕ, ◌+◌, ◌-◌, ◌≤◌, ◌<◌, List, [], ◌++◌, length, take, drop, get_or, inl, inr, refl, sym, ap, ◌∙◌, arith, append_assoc, append-nil, below_more, Option, Some, None}
+use Rattle.std.proofs.Common.{◌≡◌, ◌≢◌, ◌⊎◌, ℕ, ◌+◌, ◌-◌, ◌≤◌, ◌<◌, List, [], ◌++◌, length, take, drop, get_or, inl, inr, refl, sym, ap, ◌∙◌, arith, append_assoc, append-nil, below_more, Option, Some, None, Result, Ok, Err, OnErr}
 use Rattle.std.specs.List.{copy_within, All}
 use Rattle.std.specs.Io.KnownBytes.{prepend_known}
-use Rattle.std.proofs.lemmas.List.{take_at, take_all, take-append-le, drop-take, length-take-le, length-drop, get_or-take, drop_all, get_or_default}
+use Rattle.std.proofs.lemmas.List.{take_at, take_all, take-append-le, drop-take, length-take-le, length-drop, length-append, get_or_append_left, get_or-take, drop_all, get_or_default}
 use Rattle.std.proofs.lemmas.Bool.{cases_eq}
 use borrow.Rule.Slice.PartMut.{put_mid, post_of}
 use Rattle.std.proofs.Math.Seq.{take-append-add}
-use Rattle.desk_io.specs.Outside.{ended}
+use Rattle.desk_io.specs.Outside.{ended, HasCause}
 use Rattle.desk_io.specs.Lines.{IsCut, IsSameInput, IsFound}
 use Rattle.desk_io.specs.inner.Lines.{IsFeed}
 
@@ -51,6 +51,43 @@ module _ (start held : List ℕ) (before now : Option (List ℕ)) where
     within = omega (arith, lt);
     plain = below_more (λ k. get_or held k 0 ≢ 10) at w.plain none;
   }
+
+-- two steps over the same input
+pub input_on : (a b c : List ℕ) (x y z : Option (List ℕ)) → IsSameInput a x b y → IsSameInput b y c z → IsSameInput a x c z
+input_on a b c x y z first then = λ bytes e. let one = first bytes e in let two = then one.0 one.1 in (two.0, two.1, one.2 ∙ two.2)
+
+-- the byte at a place was looked for, and is held
+pub record Ready (most : ℕ) (start held : List ℕ) (before now : Option (List ℕ)) (at : ℕ) : Type 0 where
+  pub looked : Looked start held before now at
+  pub within : at < length held
+  pub few : length held ≤ most
+
+module _ (start held held' : List ℕ) (before now now' : Option (List ℕ)) (at : ℕ) (w : Looked start held before now at) (end : at ≡ length held)
+    (same : IsSameInput held now held' now') (n : ℕ) (more : (piece : List ℕ) × (held' ≡ held ++ piece) × (length piece ≡ n)) where
+  longer : length held' ≡ at + n
+  longer = ap length more.1 ∙ omega (arith, length-append held more.0, more.2, end)
+
+  pub looked_read : Looked start held' before now' at
+  looked_read = record {
+    same = input_on start held held' before now now' w.same same;
+    within = omega (arith, longer);
+    plain = λ k lt e. w.plain k lt (sym (get_or_append_left held more.0 0 k (omega (arith, lt, end))) ∙ ap (λ l. get_or l k 0) (sym more.1) ∙ e);
+  }
+
+  pub ready_read : (most : ℕ) → n ≢ 0 → length held' ≤ most → Ready most start held' before now' at
+  ready_read most some few = record { looked = looked_read; within = omega (arith, longer, some); few = few }
+
+  -- nothing came
+  pub looked_end : (most : ℕ) → n ≡ 0 → now' ≡ ended now' → IsFeed most held' now' None
+  looked_end most none over = ((λ k lt. looked_read.plain k (omega (arith, lt, longer, none))), inr over)
+
+-- a step that failed, after others that didn't let the count fall
+pub cause_err : {S T E : Type 0} (a b now : ℕ) (e : E) (result : Result T E) → a ≤ b → HasCause {T = S} b now (Err e) → HasCause a now result
+cause_err a b now e result le h = record { later = omega (arith, le, h.later); failed = always result (omega (arith, le, h.failed)) }
+  where
+    always : {T E P : Type 0} (r : Result T E) → P → OnErr r P
+    always (Ok x) p = tt
+    always (Err e) p = p
 
 -- as many were looked at as a line may have
 pub looked_all : (most : ℕ) (start held : List ℕ) (before now : Option (List ℕ)) (at : ℕ) → Looked start held before now at → length held ≤ most → most ≤ at → IsFeed most held now None
