@@ -1,9 +1,12 @@
-use Rattle.std.proofs.Common.{arith, refl, [], ◌∷◌, ◌++◌, sym, ◌∙◌, ap, ap₂, length, nat_eq, ℕ, List}
+use Rattle.std.proofs.Common.{arith, refl, [], ◌∷◌, ◌++◌, sym, ◌∙◌, ap, ap₂, length, nat_eq, ℕ, List, Result, Ok, Err}
 use Rattle.std.proofs.lemmas.Int.{ints}
 use Rattle.std.specs.HashMap.{get}
+use Rattle.std.specs.Result.{OnErr}
+use Rattle.game_store.specs.inner.Meaning.{values}
+use Rattle.game_store.specs.inner.Chain.{entries_of}
 use Rattle.game_store.specs.Meaning.{form}
 use Rattle.game_store.specs.Meaning.Wanted.{options}
-use Rattle.game_store.proofs.EntryLaws.{extends-push, last-value, MayKeep}
+use Rattle.game_store.proofs.EntryLaws.{extends-push, extends-same, last-value, MayKeep}
 use Rattle.game_store.proofs.StoreLaws.{floor-small, found, Holds, holds, holds-map, holds-options, ids-below, length-trees, options-placed}
 use Rattle.game_store.proofs.Store.intern.Goals as goal
 
@@ -50,3 +53,28 @@ just_above-ceiling-requires c =
 pub invariant_of-self-in_err-id : goal.invariant_of-self-in_err-id
 invariant_of-self-in_err-id c = rw (c.in_err-id.ensures.slots_kept, c.in_ok-reserve.ensures.lists)
     (holds-map (holds c.self.invariant c.self.view_is) _ c.in_err-id.ensures.latest_kept).all
+
+pub find-requires-clause-befores : goal.find-requires-clause-befores
+find-requires-clause-befores c = rw c.deref.ensures.value c.self.invariant.1.befores
+
+pub find-requires-clause-latest : goal.find-requires-clause-latest
+find-requires-clause-latest c = rw c.deref.ensures.value (c.copied-before.ensures ∙ c.get.ensures.value ∙ ap (get nat_eq c.self.inside.latest) c.fingerprint_options-fingerprint.ensures ∙ c.self.invariant.1.latest_is _)
+
+pub invariant_of-self : goal.invariant_of-self
+invariant_of-self c = rw c.reserve.ensures.lists c.self.invariant
+
+always : {T E P : Type 0} (r : Result T E) → P → OnErr r P
+always (Ok x) p = tt
+always (Err e) p = p
+
+pub returns-in_err-reserve-clause-kept : goal.returns-in_err-reserve-clause-kept
+returns-in_err-reserve-clause-kept c = extends-same _ _ (ap (λ ls. values ls (entries_of c.self.inside.slots.items)) c.reserve.ensures.lists ∙ c.self.view_is)
+
+pub returns-in_err-reserve-clause-refusal : goal.returns-in_err-reserve-clause-refusal
+returns-in_err-reserve-clause-refusal c = always _ (ap (λ ls. values ls (entries_of c.self.inside.slots.items)) c.reserve.ensures.lists ∙ c.self.view_is)
+
+pub returns-in_err-id-clause-kept : goal.returns-in_err-id-clause-kept
+returns-in_err-id-clause-kept c = extends-same _ _ (ap₂ (λ ls ss. values ls (entries_of ss)) c.reserve.ensures.lists c.in_err-id.ensures.slots_kept ∙ c.self.view_is)
+
+pub returns-in_err-id-clause-refusal : goal.returns-in_err-id-clause-refusal
+returns-in_err-id-clause-refusal c = always _ (ap₂ (λ ls ss. values ls (entries_of ss)) c.reserve.ensures.lists c.in_err-id.ensures.slots_kept ∙ c.self.view_is)
