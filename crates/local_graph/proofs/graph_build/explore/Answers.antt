@@ -156,3 +156,36 @@ pub returns-clause-graph : goal.returns-clause-graph
 returns-clause-graph g c =
     let none : length c.exploring.found.waiting.items ≡ 0 = omega (arith, c.in_default.ensures.cases.0, c.exploring.found.waiting.ok) in
     explored_all _ _ _ _ _ _ _ c.exploring.invariant.so_far none c.of.ensures
+
+pub returns-in_err-await_new-clause-graph : goal.returns-in_err-await_new-clause-graph
+returns-in_err-await_new-clause-graph g c = let p = err_from_is_err_and c.from_residual-in_err-await_new.result c.from_residual-in_err-await_new.ensures.1 in rw (p.1, p.2) tt
+
+pub returns-in_err-list_moves-clause-graph : goal.returns-in_err-list_moves-clause-graph
+returns-in_err-list_moves-clause-graph g c = let p = err_from_is_err_and c.from_residual-in_err-list_moves.result c.from_residual-in_err-list_moves.ensures.1 in rw (p.1, p.2) tt
+
+pub returns-in_err-await_new-2-clause-graph : goal.returns-in_err-await_new-2-clause-graph
+returns-in_err-await_new-2-clause-graph g c = let p = err_from_is_err_and c.from_residual-in_err-await_new-2.result c.from_residual-in_err-await_new-2.ensures.1 in rw (p.1, p.2) tt
+
+pub returns-in_err-list_moves-clause-limited : goal.returns-in_err-list_moves-clause-limited
+returns-in_err-list_moves-clause-limited g c = omega (arith, c.list_moves.ensures.step, c.exploring.invariant.counted, ap length c.in-Some.ensures.items, length_push c.pop.new.self.items c.in-Some.place, c.exploring.invariant.so_far.few)
+
+pub returns-in_err-list_moves-clause-finite : goal.returns-in_err-list_moves-clause-finite
+returns-in_err-list_moves-clause-finite g c = omega (arith, c.list_moves.ensures.step, c.exploring.invariant.counted, ap length c.in-Some.ensures.items, length_push c.pop.new.self.items c.in-Some.place, c.exploring.invariant.fewer)
+
+pub returns-in_err-list_edges-clause-limited : goal.returns-in_err-list_edges-clause-limited
+returns-in_err-list_edges-clause-limited g c = omega (arith, c.list_moves.ensures.step, c.exploring.invariant.counted, ap length c.in-Some.ensures.items, length_push c.pop.new.self.items c.in-Some.place, c.exploring.invariant.so_far.few)
+
+pub returns-in_err-list_edges-clause-finite : goal.returns-in_err-list_edges-clause-finite
+returns-in_err-list_edges-clause-finite g c = omega (arith, c.list_moves.ensures.step, c.exploring.invariant.counted, ap length c.in-Some.ensures.items, length_push c.pop.new.self.items c.in-Some.place, c.exploring.invariant.fewer)
+
+pub returns-in_err-await_new-2-clause-limited : goal.returns-in_err-await_new-2-clause-limited
+returns-in_err-await_new-2-clause-limited g c = omega (arith, c.list_moves.ensures.step, c.exploring.invariant.counted, ap length c.in-Some.ensures.items, length_push c.pop.new.self.items c.in-Some.place, c.exploring.invariant.so_far.few)
+
+pub returns-in_err-await_new-2-clause-finite : goal.returns-in_err-await_new-2-clause-finite
+returns-in_err-await_new-2-clause-finite g c = omega (arith, c.list_moves.ensures.step, c.exploring.invariant.counted, ap length c.in-Some.ensures.items, length_push c.pop.new.self.items c.in-Some.place, c.exploring.invariant.fewer)
+
+pub returns-clause-limited : goal.returns-clause-limited
+returns-clause-limited g c = omega (arith, c.exploring.invariant.counted, c.exploring.invariant.so_far.few)
+
+pub returns-clause-finite : goal.returns-clause-finite
+returns-clause-finite g c = omega (arith, c.exploring.invariant.counted, c.exploring.invariant.fewer)
