@@ -1,5 +1,5 @@
 -- From exploring and searching to a graph.
-use Rattle.std.proofs.Common.{◌≡◌, ◌≢◌, ◌↔◌, ℕ, ◌+◌, ◌-◌, ◌*◌, ◌<◌, ◌≤◌, zero, suc, add-one, arith, refl, sym, ap, ◌∙◌, List, [], ◌∷◌, ◌++◌, map, true, length, get_or, subst, nat_eq}
+use Rattle.std.proofs.Common.{◌≡◌, ◌≢◌, ◌↔◌, ℕ, ◌+◌, ◌-◌, ◌*◌, ◌<◌, ◌≤◌, zero, suc, add-one, arith, refl, sym, ap, ◌∙◌, List, [], ◌∷◌, ◌++◌, map, true, length, get_or, subst, nat_eq, Err}
 use Rattle.std.specs.List.{AllPairs, Contains, list_any}
 use Rattle.std.specs.List.Sorted.{IsStrictlyIncreasing}
 use Rattle.std.specs.Cmp.{nat_eq_equiv}
@@ -11,12 +11,16 @@ use Rattle.std.proofs.lemmas.Map.Made.{length-le_from_is_member}
 use Rattle.std.proofs.lemmas.Map.Views.{Contains-from_any, list_any-from_Contains}
 use Rattle.go_grid.specs.declared.grid.Cell.{Cell}
 use Rattle.go_grid.specs.declared.region.Touch.{Touch}
-use Rattle.go_grid.specs.Region.{IsRegion}
+use Rattle.go_grid.specs.Region.{Region, IsRegion}
 use Rattle.local_play.specs.declared.local_move.LocalMove.{LocalMove}
 use Rattle.local_play.specs.Packed.{pack}
 use Rattle.local_play.proofs.PackLemmas.{pack_same}
 use Rattle.local_graph.specs.declared.cycle.CycleMove.{CycleMove}
 use Rattle.local_graph.specs.declared.graph.Edge.{Edge}
+use Rattle.local_graph.specs.declared.graph_build.GraphError.{GraphError}
+use Rattle.local_graph.specs.declared.graph_build.GraphError.TheVariants.{Points, Positions, Cycle, Memory}
+use Rattle.local_graph.specs.Built.{Built}
+use Rattle.local_graph.specs.inner.Found.{Explored}
 use Rattle.local_graph.specs.inner.Built.{ComesBack, Follows, IsEdgeAt, IsRooted}
 use Rattle.local_graph.specs.FiniteLocalPlay.{HasNoCycle}
 use Rattle.local_graph.specs.LocalGraph.{AreDifferent, IsCycle, IsGraph, IsOrderOfPlaces, IsReachable, MoreThan, Plays}
@@ -142,3 +146,10 @@ pub has_cycle : (touch : List Touch) (opening : List Cell) (limit points back : 
 has_cycle touch opening limit points back positions edges ms (g, few) small c =
     let w = comes_back touch opening positions edges g ms back c in
     (small, not_more touch opening positions edges g limit few, w.0, w.1)
+
+-- what the search for positions refused
+pub refused : (r : Region) (limit : ℕ) (positions : List ℕ) (e : GraphError) → Explored r.touch r.cells limit positions (Err e) → length r.points ≤ 32 → Built r limit (Err e)
+refused r limit positions Positions more few = (few, more)
+refused r limit positions (Points n) e few = absurd e
+refused r limit positions (Cycle ms back) e few = absurd e
+refused r limit positions (Memory cause) e few = tt
