@@ -1,4 +1,4 @@
-use Rattle.std.proofs.Common.{◌<◌, arith, ap, length}
+use Rattle.std.proofs.Common.{◌<◌, arith, ap, ◌∙◌, length}
 use Rattle.local_graph.proofs.TableLemmas.{numbered_at, still_numbered}
 use Rattle.local_graph.proofs.place_table.PlaceTable.grow.Goals as goal
 
@@ -29,3 +29,32 @@ returns-clause-table c =
         ap length same,
       );
     }
+
+pub enter-requires-clause-entered : goal.enter-requires-clause-entered
+enter-requires-clause-entered c = c.entering.invariant.entered
+
+pub enter-requires-clause-few : goal.enter-requires-clause-few
+enter-requires-clause-few c = omega (arith, c.requires.few, ap length c.entering.invariant.positions)
+
+pub enter-requires-clause-more : goal.enter-requires-clause-more
+enter-requires-clause-more c = omega (arith, c.entering.invariant.count, c.entering-test.true, c.len-place-end.ensures, c.args.self.now.positions.ok, ap length c.entering.invariant.positions)
+
+pub entering-preserved : goal.entering-preserved
+entering-preserved c = record {
+  entered = c.in_ok-enter.ensures.entered;
+  count = omega (arith, c.in_ok-enter.ensures.one, c.entering.invariant.count);
+  numbers = c.enter.ensures.numbers ∙ c.entering.invariant.numbers;
+  positions = c.enter.ensures.positions ∙ c.entering.invariant.positions;
+}
+
+pub returns-in_err-enter-clause-positions : goal.returns-in_err-enter-clause-positions
+returns-in_err-enter-clause-positions c = c.enter.ensures.positions ∙ c.entering.invariant.positions
+
+pub returns-in_err-enter-clause-numbers : goal.returns-in_err-enter-clause-numbers
+returns-in_err-enter-clause-numbers c = c.enter.ensures.numbers ∙ c.entering.invariant.numbers
+
+pub returns-clause-positions : goal.returns-clause-positions
+returns-clause-positions c = c.entering.invariant.positions
+
+pub returns-clause-numbers : goal.returns-clause-numbers
+returns-clause-numbers c = c.entering.invariant.numbers
