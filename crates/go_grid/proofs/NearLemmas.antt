@@ -1,5 +1,5 @@
 -- The neighbours that are computed are those that differ by one in exactly one of column and row.
-use Rattle.std.proofs.Common.{◌≡◌, ℕ, ◌+◌, ◌-◌, ◌*◌, ◌/◌, ◌%◌, ◌<◌, ◌≤◌, inl, inr, ap, sym, arith, Option, None, Some, ◌∙◌, ◌⊎◌, List, [], ◌∷◌, ◌++◌, ◌↔◌}
+use Rattle.std.proofs.Common.{◌≡◌, ℕ, ◌+◌, ◌-◌, ◌*◌, ◌/◌, ◌%◌, ◌<◌, ◌≤◌, inl, inr, ap, sym, arith, Option, None, Some, ◌∙◌, ◌⊎◌, List, [], ◌∷◌, ◌++◌, ◌↔◌, IfSome, refl}
 use Rattle.std.specs.List.{Contains}
 use Rattle.std.proofs.lemmas.List.Elements.{Contains-push, Contains-push_cases, Contains-append_left}
 use Rattle.std.proofs.lemmas.Nat.{same_from_place, mod_below, div-add-mod', mul-add-lt, div_below}
@@ -178,3 +178,9 @@ four_added a b d e f u l r w none first second third last q = (
     | inr (inr (inr k)) ↦ (last q).1 (inr k)
   ],
 )
+
+-- each of the four is on the board
+module _ (c area p : ℕ) (u l i d : Option ℕ) (near : AreNear c area p u l i d) where
+  pub near_below : (o : Option ℕ) (most : ℕ) → area ≤ most → ((q : ℕ) → o ≡ Some q → (u ≡ Some q) ⊎ ((l ≡ Some q) ⊎ ((i ≡ Some q) ⊎ (d ≡ Some q)))) → IfSome o (λ q. q < most)
+  near_below None most le of_four = tt
+  near_below (Some q) most le of_four = omega (arith, le, ((near.next q).1 (of_four q refl)).0)
