@@ -3,7 +3,7 @@
 ghost use Rattle.std.specs.Prelude.{◌≡◌, ◌<◌, ◌^◌, IfOk, IfSome};
 
 use crate::solved_tests::{
-    CORRIDOR, Game, LIMITS, ONE_OPEN, ONE_POINT, TWO_APART, TWO_OPEN, WITH_STONE, begin, setup,
+    CORRIDOR, Game, ONE_OPEN, ONE_POINT, TWO_APART, TWO_OPEN, WITH_STONE, answers_of, setup,
 };
 use endgame_solver::SolveError;
 use go_grid::Colour;
@@ -62,22 +62,6 @@ fn first_plain(alloc: Global, game: Game) -> Result<Option<Move>, AllocError> {
     Ok(None)
 }
 
-/// Whether the solved game has this winner and this first winning move.
-fn has_answer<L: Ledger>(
-    alloc: Global,
-    blank: Blank,
-    game: Game,
-    winner: Option<Colour>,
-    chosen: Option<Move>,
-) -> Result<bool, SolveError>
-    requires name { blank.name ≡ L.name }
-    requires parts { blank.parts ≡ L.parts }
-    requires some { 0 < blank.parts }
-{
-    let mut solved = begin::<L>(alloc, blank, game, LIMITS)?;
-    Ok(winner == Some(solved.winner()) && chosen == solved.winning_move())
-}
-
 /// Whether the solved game agrees with plain recursion.
 fn agrees<L: Ledger>(alloc: Global, blank: Blank, game: Game) -> Result<bool, SolveError>
     requires name { blank.name ≡ L.name }
@@ -89,7 +73,8 @@ fn agrees<L: Ledger>(alloc: Global, blank: Blank, game: Game) -> Result<bool, So
     };
     let winner = plain_winner(alloc, &state, 14)?;
     let chosen = first_plain(alloc, game)?;
-    has_answer::<L>(alloc, blank, game, winner, chosen)
+    let answers = answers_of::<L>(alloc, blank, game)?;
+    Ok(winner == Some(answers.winner) && chosen == answers.chosen)
 }
 
 /// Games with few moves.

@@ -1,10 +1,11 @@
 //! Winners, against plain recursion.
 
-ghost use Rattle.std.specs.Prelude.{◌≡◌, ◌^◌, ◌<◌, true};
+ghost use Rattle.std.specs.Prelude.{◌≡◌, ◌^◌, ◌<◌, true, IfOk};
+ghost use Rattle.sgf_go.specs.Position.{IsFit};
 
 use crate::runs::{CAPTIVE, NOTHING_FAILS, TIE, TWO_POINTS, VISITED, outcome_in_pieces};
 use go_grid::Colour;
-use sgf_go::position;
+use sgf_go::{Setup, position};
 use std::alloc::Global;
 use std::test::Fail;
 use whole_rules::{Whole, plain_winner};
@@ -17,23 +18,36 @@ fn has_room(state: &Whole) -> bool
     state.purse(Colour::Black) < 1 << 60 && state.purse(Colour::White) < 1 << 60
 }
 
-/// The winner that plain recursion to twenty plies gives for the words on this file.
-fn plain(alloc: Global, words: &[&str], file: &[u8]) -> Result<Option<Colour>, Fail> {
+/// The position that the words name on this file.
+fn setup_of(alloc: Global, words: &[&str], file: &[u8]) -> Result<Setup, Fail>
+    ensures { IfOk result IsFit }
+{
     if file.len() > 1_048_576 {
         return Err(Fail::new("too long"));
     }
     let job = gd_words::read(words)?;
     let tree = sgf_tree::read(alloc, file)?;
     let setup = position(alloc, &tree, &job.settings)?;
-    let state = Whole::opening(
+    Ok(setup)
+}
+
+/// The state in which it opens, without a tax.
+fn opening_of(alloc: Global, words: &[&str], file: &[u8]) -> Result<Whole, Fail> {
+    let setup = setup_of(alloc, words, file)?;
+    Ok(Whole::opening(
         alloc,
         &setup.board,
         setup.black_prisoners,
         setup.white_prisoners,
         setup.komi_halves,
         setup.side,
-        job.tax,
-    )?;
+        false,
+    )?)
+}
+
+/// The winner that plain recursion to twenty plies gives for the words on this file.
+fn plain(alloc: Global, words: &[&str], file: &[u8]) -> Result<Option<Colour>, Fail> {
+    let state = opening_of(alloc, words, file)?;
     if !has_room(&state) {
         return Err(Fail::new("no room"));
     }

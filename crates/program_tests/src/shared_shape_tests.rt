@@ -1,13 +1,10 @@
 //! Regions whose openings have one shape.
 
-ghost use Rattle.std.specs.Prelude.{◌≡◌, ◌<◌};
-
-use crate::solved_tests::{CORRIDOR, Game, LIMITS, ONE_OPEN, ONE_POINT, TWO_APART, begin};
+use crate::solved_tests::{CORRIDOR, Game, ONE_OPEN, ONE_POINT, TWO_APART, answers_of};
 use endgame_solver::SolveError;
 use go_grid::Colour;
-use std::alloc::Global;
 use std::marker::Brand;
-use std::sync::ledger::{Blank, Ledger};
+use std::sync::ledger::Blank;
 
 /// A corridor of two points for each player: the second is the first, turned and with the colours exchanged.
 const OPPOSITE: Game = Game {
@@ -23,32 +20,6 @@ const DIFFERENT: Game = Game {
     ..CORRIDOR
 };
 
-/// Whether a game has so many regions, and their openings so many shapes.
-fn has_shapes<L: Ledger>(
-    alloc: Global,
-    blank: Blank,
-    game: Game,
-    regions: usize,
-    shapes: usize,
-) -> Result<bool, SolveError>
-    requires name { blank.name ≡ L.name }
-    requires parts { blank.parts ≡ L.parts }
-    requires some { 0 < blank.parts }
-{
-    let solved = begin::<L>(alloc, blank, game, LIMITS)?;
-    Ok(solved.regions() == regions && solved.shapes() == shapes)
-}
-
-/// Whether the side to move loses.
-fn mover_loses<L: Ledger>(alloc: Global, blank: Blank, game: Game) -> Result<bool, SolveError>
-    requires name { blank.name ≡ L.name }
-    requires parts { blank.parts ≡ L.parts }
-    requires some { 0 < blank.parts }
-{
-    let mut solved = begin::<L>(alloc, blank, game, LIMITS)?;
-    Ok(solved.winner() == game.side.other())
-}
-
 /// Games with the number of their regions and that of the shapes of these.
 const SHAPES: [(Game, usize, usize); 5] = [
     (ONE_OPEN, 1, 1),
@@ -61,8 +32,12 @@ const SHAPES: [(Game, usize, usize); 5] = [
 #[test]
 fn numbers_of_shapes(rt: HostRuntime) -> Result<(), SolveError> {
     for (at, (game, regions, shapes)) in SHAPES.into_iter().enumerate() {
-        let same = has_shapes::<Brand>(rt.alloc(), Blank::new(1), game, regions, shapes)?;
-        assert!(rt; same, "at {at}");
+        let answers = answers_of::<Brand>(rt.alloc(), Blank::new(1), game)?;
+        assert_eq!(rt;
+            (answers.regions, answers.shapes),
+            (regions, shapes),
+            "at {at}"
+        );
     }
     Ok(())
 }
@@ -71,8 +46,8 @@ fn numbers_of_shapes(rt: HostRuntime) -> Result<(), SolveError> {
 fn opposite_values(rt: HostRuntime) -> Result<(), SolveError> {
     for side in [Colour::Black, Colour::White] {
         let game = Game { side, ..OPPOSITE };
-        let lost = mover_loses::<Brand>(rt.alloc(), Blank::new(1), game)?;
-        assert!(rt; lost, "the values add up to 0");
+        let answers = answers_of::<Brand>(rt.alloc(), Blank::new(1), game)?;
+        assert_eq!(rt; answers.winner, side.other(), "the values add up to 0");
     }
     Ok(())
 }

@@ -4,7 +4,7 @@ ghost use Rattle.std.specs.Prelude.{◌≡◌, ◌<◌, ◌≤◌, ◌^◌, IfOk
 ghost use Rattle.go_grid.specs.Chain.{IsSettled};
 
 use drawings::board;
-use endgame_solver::{Limits, RegionReport, SolveError, Solved};
+use endgame_solver::{Limits, SolveError, Solved};
 use game_store::{Form, GameId, Store};
 use go_grid::{Colour, Point};
 use local_play::Steps;
@@ -131,12 +131,13 @@ pub(crate) fn begin<L: Ledger>(
     Solved::begin(alloc, &setup, &limits, &mut Steps::<L>::new(blank))
 }
 
-/// The report of the first region, where there is one.
-fn first_report(solved: &Solved) -> Option<RegionReport> {
+/// The lowest point of the first region and how many points and positions it has, where there is one.
+fn first_region(solved: &Solved) -> Option<(u16, u16, u64)> {
     if solved.regions() == 0 {
         return None;
     }
-    Some(solved.region_report(0))
+    let report = solved.region_report(0);
+    Some((report.lowest.0, report.points, report.positions))
 }
 
 /// Whether the game is 0.
@@ -170,30 +171,52 @@ fn is_star(solved: &Solved) -> bool {
     }
 }
 
-/// Whether the game has one region with this lowest point and so many points and positions, this winner and this first
-/// winning move.
-fn is_solved<L: Ledger>(
+/// What a solved game answers: how many regions it has and how many shapes these have, the first region by its lowest point
+/// and the numbers of its points and positions, the winner and the first winning move.
+#[derive(Clone, Copy)]
+pub(crate) struct Answers {
+    pub regions: usize,
+    pub shapes: usize,
+    pub first: Option<(u16, u16, u64)>,
+    pub winner: Colour,
+    pub chosen: Option<Move>,
+}
+
+/// The answers of a solved game.
+fn ask_all(solved: &mut Solved) -> Answers {
+    Answers {
+        regions: solved.regions(),
+        shapes: solved.shapes(),
+        first: first_region(solved),
+        winner: solved.winner(),
+        chosen: solved.winning_move(),
+    }
+}
+
+/// The answers of a game, or want of memory where there is no position.
+pub(crate) fn answers_of<L: Ledger>(
     alloc: Global,
     blank: Blank,
     game: Game,
-    region: (u16, u16, u64),
-    winner: Colour,
-    chosen: Option<Move>,
-) -> Result<bool, SolveError>
+) -> Result<Answers, SolveError>
     requires name { blank.name ≡ L.name }
     requires parts { blank.parts ≡ L.parts }
     requires some { 0 < blank.parts }
 {
     let mut solved = begin::<L>(alloc, blank, game, LIMITS)?;
-    let Some(report) = first_report(&solved) else {
-        return Ok(false);
-    };
-    Ok(
-        solved.regions() == 1
-            && (report.lowest.0, report.points, report.positions) == region
-            && solved.winner() == winner
-            && solved.winning_move() == chosen,
-    )
+    Ok(ask_all(&mut solved))
+}
+
+/// Why a game isn't solved within the limits, if it isn't.
+fn refusal<L: Ledger>(alloc: Global, blank: Blank, game: Game, limits: Limits) -> Option<SolveError>
+    requires name { blank.name ≡ L.name }
+    requires parts { blank.parts ≡ L.parts }
+    requires some { 0 < blank.parts }
+{
+    match begin::<L>(alloc, blank, game, limits) {
+        Ok(_solved) => None,
+        Err(fault) => Some(fault),
+    }
 }
 
 /// A game, the side to move, its one region (its lowest point, its points, its positions), the winner and the point of
@@ -229,96 +252,91 @@ fn games(rt: HostRuntime) -> Result<(), SolveError> {
             Some(number) => Some(Move::Stone(Point(number))),
             None => None,
         };
-        let solved = is_solved::<Brand>(rt.alloc(), Blank::new(1), game, region, winner, chosen)?;
-        assert!(rt; solved, "at {at}");
+        let answers = answers_of::<Brand>(rt.alloc(), Blank::new(1), game)?;
+        assert_eq!(rt;
+            (answers.regions, answers.first),
+            (1, Some(region)),
+            "at {at}"
+        );
+        assert_eq!(rt;
+            (answers.winner, answers.chosen),
+            (winner, chosen),
+            "at {at}"
+        );
     }
     Ok(())
 }
 
-/// Whether a game is refused for too many positions.
-fn has_too_many_positions<L: Ledger>(alloc: Global, blank: Blank, limits: Limits) -> bool
-    requires name { blank.name ≡ L.name }
-    requires parts { blank.parts ≡ L.parts }
-    requires some { 0 < blank.parts }
-{
-    matches!(
-        begin::<L>(alloc, blank, TWO_OPEN, limits),
-        Err(SolveError::Positions(_))
-    )
+/// How a game is refused.
+#[derive(Clone, Copy, Debug, PartialEq, Eq)]
+enum Refused {
+    Not,
+    Points(u16),
+    Positions,
+    /// For a cycle of two moves behind the first position that comes again.
+    ShortCycle,
+    Form,
+    Otherwise,
 }
 
-/// Whether a corridor is refused for a value without a form.
-fn has_no_form<L: Ledger>(alloc: Global, blank: Blank, limits: Limits) -> bool
-    requires name { blank.name ≡ L.name }
-    requires parts { blank.parts ≡ L.parts }
-    requires some { 0 < blank.parts }
-{
-    matches!(
-        begin::<L>(alloc, blank, CORRIDOR, limits),
-        Err(SolveError::Form(_))
-    )
-}
-
-/// Whether the endless region is refused for a cycle of two moves behind the first position that comes again.
-fn has_a_cycle<L: Ledger>(alloc: Global, blank: Blank) -> bool
-    requires name { blank.name ≡ L.name }
-    requires parts { blank.parts ≡ L.parts }
-    requires some { 0 < blank.parts }
-{
-    match begin::<L>(alloc, blank, ENDLESS, LIMITS) {
-        Err(SolveError::Cycle(_, names, back)) => names.as_slice().len() == back.saturating_add(2),
-        _ => false,
+/// How a game is refused for this.
+fn refused_for(refusal: Option<SolveError>) -> Refused {
+    match refusal {
+        None => Refused::Not,
+        Some(SolveError::Points(_, points)) => Refused::Points(points),
+        Some(SolveError::Positions(_)) => Refused::Positions,
+        Some(SolveError::Cycle(_, names, back))
+            if names.as_slice().len() == back.saturating_add(2) => { Refused::ShortCycle }
+        Some(SolveError::Form(_)) => Refused::Form,
+        Some(_) => Refused::Otherwise,
     }
 }
 
-/// The number of points for which an empty board is refused.
-fn large_region<L: Ledger>(alloc: Global, blank: Blank) -> Option<u16>
-    requires name { blank.name ≡ L.name }
-    requires parts { blank.parts ≡ L.parts }
-    requires some { 0 < blank.parts }
-{
-    match begin::<L>(alloc, blank, EMPTY, LIMITS) {
-        Err(SolveError::Points(_, points)) => Some(points),
-        _ => None,
-    }
-}
+/// A game, the most positions of a region and the most parts of a form, and how it is refused.
+const REFUSALS: [(Game, u32, u32, Refused); 6] = [
+    (TWO_OPEN, 8, 500, Refused::Positions),
+    (TWO_OPEN, 9, 500, Refused::Not),
+    (CORRIDOR, 100_000, 1, Refused::Form),
+    (CORRIDOR, 100_000, 2, Refused::Not),
+    (ENDLESS, 100_000, 500, Refused::ShortCycle),
+    (EMPTY, 100_000, 500, Refused::Points(36)),
+];
 
 #[test]
 fn refusals(rt: HostRuntime) {
-    let alloc = rt.alloc();
-    for (positions, refused) in [(8, true), (9, false)] {
+    for (at, (game, positions, parts, refused)) in REFUSALS.into_iter().enumerate() {
         let limits = Limits {
             positions,
-            ..LIMITS
+            parts,
+            tax: false,
         };
-        assert!(rt; has_too_many_positions::<Brand>(alloc, Blank::new(1), limits) == refused);
+        let refusal = refusal::<Brand>(rt.alloc(), Blank::new(1), game, limits);
+        assert_eq!(rt; refused_for(refusal), refused, "at {at}");
     }
-    for (parts, refused) in [(1, true), (2, false)] {
-        let limits = Limits { parts, ..LIMITS };
-        assert!(rt; has_no_form::<Brand>(alloc, Blank::new(1), limits) == refused);
-    }
-    assert!(rt; has_a_cycle::<Brand>(alloc, Blank::new(1)));
-    assert_eq!(rt; large_region::<Brand>(alloc, Blank::new(1)), Some(36));
+}
+
+/// Whether a game with one open point goes on as it must when moves are played in it: two that are refused, and the one at
+/// the point.
+fn goes_on(solved: &mut Solved) -> bool {
+    let refused = [solved.play(Move::Stone(Point(0))), solved.play(Move::Half)];
+    is_star(solved)
+        && solved.balance().units() == 0
+        && refused == [Err(MoveError::NotContested), Err(MoveError::NoHalf)]
+        && solved.play(Move::Stone(Point(4))) == Ok(())
+        && is_nought(solved)
+        && solved.balance().units() == 0
+}
+
+/// Whether Black has won the game, and the open point is taken.
+fn is_over(solved: &mut Solved) -> bool {
+    solved.winner() == Colour::Black
+        && solved.winning_move().is_none()
+        && solved.play(Move::Stone(Point(4))) == Err(MoveError::Occupied)
 }
 
 #[test]
 fn played(rt: HostRuntime) -> Result<(), SolveError> {
     let mut solved = begin::<Brand>(rt.alloc(), Blank::new(1), ONE_OPEN, LIMITS)?;
-    assert!(rt; is_star(&solved));
-    assert_eq!(rt; solved.balance().units(), 0);
-    assert_eq!(rt;
-        solved.play(Move::Stone(Point(0))),
-        Err(MoveError::NotContested)
-    );
-    assert_eq!(rt; solved.play(Move::Half), Err(MoveError::NoHalf));
-    assert_eq!(rt; solved.play(Move::Stone(Point(4))), Ok(()));
-    assert!(rt; is_nought(&solved));
-    assert_eq!(rt; solved.balance().units(), 0);
-    assert_eq!(rt; solved.winner(), Colour::Black);
-    assert_eq!(rt; solved.winning_move(), None);
-    assert_eq!(rt;
-        solved.play(Move::Stone(Point(4))),
-        Err(MoveError::Occupied)
-    );
+    assert!(rt; goes_on(&mut solved) && is_over(&mut solved));
     Ok(())
 }
