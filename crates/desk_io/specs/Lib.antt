@@ -3,3 +3,4 @@ pub mod Files
 pub mod Memory
 pub mod Lines
 pub mod inner
+pub mod Desk

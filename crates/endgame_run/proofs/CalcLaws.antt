@@ -1,52 +1,16 @@
--- An expression: how its run makes the clauses of the top call, and that it has one status.
+-- An expression has one status.
 use Rattle.std.proofs.Common.{◌≡◌, ◌+◌, ◌-◌, ◌⊎◌, ℕ, inl, inr, refl, sym, ap, subst, ◌∙◌, arith, List, length, Result, Ok, Err}
-use Rattle.std.specs.Prelude.{Option}
-use Rattle.game_calc.specs.Answer.{IsAnswered, IsCalcRefusal, IsPastLimit}
+use Rattle.game_calc.specs.Answer.{IsCalcRefusal, IsPastLimit}
 use Rattle.game_calc.specs.Expression.{Fault, Line, ReadsLine}
 use Rattle.game_calc.specs.Expression.Fault.{stray, no_number, unfinished, deep, large}
 use Rattle.game_calc.specs.declared.errors.CalcError.TheVariants as calc
 use Rattle.game_calc.specs.declared.errors.CalcFault.{CalcFault}
 use Rattle.game_calc.specs.declared.errors.CalcFault.TheVariants as fault
 use Rattle.game_calc.proofs.OneLineLaws.{one-line}
-use Rattle.gd_words.specs.Job.{IsOnlyJob, Job}
-use Rattle.gd_words.specs.Task.Task.{calc as calculate}
 use Rattle.endgame_run.specs.declared.status.Status.{Status}
 use Rattle.endgame_run.specs.declared.status.Status.TheVariants as status
 use Rattle.endgame_run.specs.Calc.{IsCalc}
-use Rattle.endgame_run.specs.File.{Outside}
 use Rattle.endgame_run.specs.Laws.{ExpressionHasOneStatus}
-use Rattle.endgame_run.specs.inner.Top.{IsCalcRun}
-use Rattle.endgame_run.specs.Verdict.{HasReason, IsDecided, IsTextAlone, IsWritten}
-use Rattle.endgame_run.proofs.TopLaws.{caused, written}
-
--- the status of an expression, for the words that ask for it
-calc_decided : (words : List (List ℕ)) (o : Outside) (job : Job) (expression : List ℕ) (s : Status) (text : List ℕ) → IsOnlyJob words job → job.task ≡ calculate expression → IsCalc job.parts expression s text → IsDecided words o s text
-calc_decided words o job expression status.Done text only is h = inr (job, only, subst (λ k. IsTextAlone job.parts k status.Done text) (sym is) h)
-calc_decided words o job expression (status.BadExpression f) text only is h = (job, only, subst (λ k. IsTextAlone job.parts k (status.BadExpression f) text) (sym is) h)
-calc_decided words o job expression status.CalcLimit text only is h = (job, only, subst (λ k. IsTextAlone job.parts k status.CalcLimit text) (sym is) h)
-calc_decided words o job expression status.Usage text only is h = absurd h
-calc_decided words o job expression status.CannotRead text only is h = absurd h
-calc_decided words o job expression status.CannotWrite text only is h = absurd h
-calc_decided words o job expression (status.BadFile f) text only is h = absurd h
-calc_decided words o job expression status.Cycle text only is h = absurd h
-calc_decided words o job expression status.RegionLimit text only is h = absurd h
-calc_decided words o job expression status.FormLimit text only is h = absurd h
-calc_decided words o job expression status.Memory text only is h = absurd h
-calc_decided words o job expression status.TooManyLines text only is h = absurd h
-calc_decided words o job expression status.TooLong text only is h = absurd h
-
-module _ (words : List (List ℕ)) (o : Outside) (job : Job) (limit : ℕ) (expression : List ℕ) (kb kn : ℕ) (before now : Option (List ℕ)) (result : Status) (only : IsOnlyJob words job)
-    (is : job.task ≡ calculate expression) (same : limit ≡ job.parts) where
-  own : (s : Status) (text : List ℕ) → IsCalc limit expression s text → IsDecided words o s text
-  own s text h = calc_decided words o job expression s text only is (subst (λ l. IsCalc l expression s text) same h)
-
-  pub calc_caused : IsCalcRun limit expression kb kn before now result → HasReason words o result
-  calc_caused (inl m) = subst (λ r. HasReason words o r) (sym m.0) (job, only.said)
-  calc_caused (inr (s, text, h, f)) = caused words o kb kn before now s text result (own s text h) f
-
-  pub calc_written : IsCalcRun limit expression kb kn before now result → IsWritten words o before now result
-  calc_written (inl m) = subst (λ r. IsWritten words o before now r) (sym m.0) m.1
-  calc_written (inr (s, text, h, f)) = written words o kb kn before now s text result (own s text h) f
 
 -- the status of a line of so many bytes that is refused so
 abbrev status_of : ℕ → Fault → Status

@@ -1,44 +1,45 @@
--- A file that is told, read and within all limits is answered.
-use Rattle.std.proofs.Common.{◌≡◌, ◌⊎◌, ℕ, Bool, true, false, inl, inr, refl, sym, ap, subst, ◌∙◌, arith, List, length, Some, None, Ok, Err}
-use Rattle.sgf_tree.specs.declared.reader.TheConstants.{MOST_BYTES}
-use Rattle.desk_io.specs.Files.Told.{absent, holding}
-use Rattle.std.specs.Prelude.{Option, if◌then◌else◌}
+-- Where nothing keeps a run from its text it is done, but for want of memory.
+use Rattle.std.proofs.Common.{◌≡◌, ℕ, ◌⊎◌, inl, inr, refl, sym, ◌∙◌, subst, arith, List, Bool, true, false, Ok, Err}
+use Rattle.std.specs.Prelude.{Option, codes, if◌then◌else◌}
 use Rattle.std.specs.Str.{bytes_eq}
+use Rattle.desk_io.specs.Desk.{Desk, Known, Outside, known}
+use Rattle.desk_io.specs.Files.Told.{absent, holding}
+use Rattle.desk_io.specs.Files.{IsLonger, IsTold, Told}
 use Rattle.desk_io.specs.Outside.{Rose}
+use Rattle.sgf_tree.specs.declared.reader.TheConstants.{MOST_BYTES}
+use Rattle.sgf_go.specs.File.{HasFewBytes, Reads}
+use Rattle.sgf_go.specs.declared.fault.FileFault.{FileFault}
 use Rattle.sgf_go.specs.declared.settings.Settings.{Settings}
 use Rattle.sgf_go.specs.declared.settings.Setup.{Setup}
-use Rattle.game_calc.specs.declared.errors.CalcFault.{CalcFault}
-use Rattle.gd_words.specs.Job.{IsOnlyJob, Job}
+use Rattle.sgf_go.proofs.OneReadingLemmas.{not_both, one_setup}
+use Rattle.gd_words.specs.Job.{Job}
 use Rattle.gd_words.specs.Task.{Task}
-use Rattle.gd_words.specs.Task.Task.{gtp, trial, calc}
-use Rattle.endgame_solver.specs.declared.limits.Limits.{Limits}
-use Rattle.sgf_go.specs.declared.fault.FileFault.{FileFault}
+use Rattle.gd_words.specs.Task.Task.{calc, gtp, play, safe, solve, trial, values}
+use Rattle.endgame_run.specs.Calc.{IsCalc}
+use Rattle.endgame_run.specs.Complete.{HasManyCommands, HasManyLines, IsAnswerable, IsAnswered, IsCalm, IsComplete, IsDone, IsUnrefused, IsWithinLimits}
+use Rattle.endgame_run.specs.Engine.{IsEnginePlay}
+use Rattle.endgame_run.specs.File.{count_of, told_of}
+use Rattle.endgame_run.specs.Game.{IsPlayedGame}
+use Rattle.endgame_run.specs.Limits.{engine_limits, limits_of}
+use Rattle.endgame_run.specs.Question.{IsAnswer, IsFileAnswer, IsPositionAnswer}
+use Rattle.endgame_run.specs.Run.{RunsTask}
+use Rattle.endgame_run.specs.Trial.{IsTrialAnswer}
+use Rattle.endgame_run.specs.Written.{Reports}
+use Rattle.endgame_run.specs.declared.question.Question.{Question}
+use Rattle.endgame_run.specs.declared.question.Question.TheVariants as question
 use Rattle.endgame_run.specs.declared.status.Status.{Status}
 use Rattle.endgame_run.specs.declared.status.Status.TheVariants.{CannotRead, CannotWrite, Done, Memory, TooManyLines}
 use Rattle.endgame_run.specs.declared.status.Status.TheVariants as status
-use Rattle.endgame_run.specs.declared.question.Question.{Question}
-use Rattle.endgame_run.specs.declared.question.Question.TheVariants as question
-use Rattle.endgame_run.specs.Calc.{IsCalc}
-use Rattle.endgame_run.specs.Complete.{AreAnswerable, IsAnswerable, IsRunDone, IsComplete, IsEngineDone, IsWithinLimits}
-use Rattle.endgame_run.specs.Engine.{AreForEngine, AskForEngine, IsEngineRun}
-use Rattle.endgame_run.specs.Output.{IsCaused}
-use Rattle.desk_io.specs.Files.{Told, IsLonger, IsTold}
-use Rattle.sgf_go.specs.File.{HasFewBytes, Reads}
-use Rattle.endgame_run.specs.File.{Outside, count_of, dash, told_of}
-use Rattle.endgame_run.specs.Game.{IsGameRun}
-use Rattle.endgame_run.specs.Verdict.{IsAnswerOn, HasReason, IsVerdict, IsFileAnswer, IsPositionAnswer, IsTextAlone, Pose, limits_of}
 use Rattle.endgame_run.proofs.GameWinLaws.{map_told}
-use Rattle.sgf_go.proofs.OneReadingLemmas.{not_both, one_setup}
 use Rattle.endgame_run.proofs.OneStatusLaws.{file_or_position, safe_is_done, shows_shown, solves_sound}
-use Rattle.endgame_run.proofs.OutputLaws.{pose_said}
-use Rattle.endgame_run.proofs.PoseLaws.{alone_unposed, calc_unposed, engine_unposed, one_pose, trial_unposed}
+use Rattle.endgame_run.proofs.RunLaws.{reason}
 
 -- neither count has risen, and so not that of the object that holds the file
-count_stays : (word : List ℕ) (a b c d : ℕ) → ¬ Rose a b → ¬ Rose c d → ¬ Rose (count_of a c word) (count_of b d word)
-count_stays word a b c d first second = go (bytes_eq word dash) where
-  go : (k : Bool) → ¬ Rose (if k then c else a) (if k then d else b)
-  go true = second
-  go false = first
+count_stays : (word : List ℕ) (a b : Known) → IsCalm a b → ¬ Rose (count_of a.input word) (count_of b.input word)
+count_stays word a b calm = go (bytes_eq word (codes "-")) where
+  go : (k : Bool) → ¬ Rose (if k then a.input.reads else a.input.loads) (if k then b.input.reads else b.input.loads)
+  go true = calm.reads
+  go false = calm.loads
 
 within_done : (q : Question) (setup : Setup) (s : Status) (text : List ℕ) → IsWithinLimits q setup → IsPositionAnswer q setup s text → s ≡ Done
 within_done (question.Solve limits) setup s text w h = solves_sound limits setup w.0 s text w.1 w.2 h
@@ -52,137 +53,102 @@ file_done q file settings setup s text reads within h = go (file_or_position q f
   go (inl (f, e, bad)) = absurd (not_both file settings setup f reads bad)
   go (inr (p, r, a)) = within_done q setup s text within (subst (λ x. IsPositionAnswer q x s text) (one_setup file settings p setup r reads) a)
 
-module _ (words : List (List ℕ)) (o : Outside) (kb kn : ℕ) (a : IsAnswerable words o kb kn) where
-  abbrev Answer : Status → List ℕ → Type 0
-  Answer s text = IsAnswerOn a.question o a.word a.job.settings s text
+module _ (q : Question) (settings : Settings) (word : List ℕ) (a b : Known) (h : IsAnswerable q settings word a b) where
+  by_file : (s : Status) (text : List ℕ) → (file : List ℕ) × IsTold (told_of a.input word) file × HasFewBytes file × IsFileAnswer q file settings s text → s ≡ Done
+  by_file s text (file, told, short, answer) =
+      let k : IsTold (holding h.file) file = subst (λ x. IsTold x file) h.told told in
+      file_done q h.file settings h.setup s text h.reads h.within (subst (λ f. IsFileAnswer q f settings s text) (sym k) answer)
 
-  -- what is decided about the words' own question
-  own : (job : Job) (q : Question) (word : List ℕ) (s : Status) (text : List ℕ) → Pose words job q word
-      → IsAnswerOn q o word job.settings s text → Answer s text
-  own job q word s text b h =
-      let one = one_pose words a.job job a.question q a.word word a.asks b in
-      subst (λ j. IsAnswerOn a.question o a.word j.settings s text) one.0
-      (subst (λ p. IsAnswerOn p.0 o p.1 job.settings s text) one.1 h)
+  not_absent : told_of a.input word ≡ absent → ⊥
+  not_absent none = let k : Path Told (holding h.file) absent = sym h.told ∙ none in cc
 
-  told_file : (file : List ℕ) → IsTold (told_of o.world a.word) file → file ≡ a.file
-  told_file file t = let k : IsTold (holding a.file) file = subst (λ x. IsTold x file) a.told t in sym k
+  not_longer : IsLonger MOST_BYTES (told_of a.input word) → ⊥
+  not_longer long = let k : IsLonger MOST_BYTES (holding h.file) = subst (IsLonger MOST_BYTES) h.told long in omega (arith, h.short, k)
 
-  by_file : (s : Status) (text : List ℕ) → (file : List ℕ) × IsTold (told_of o.world a.word) file × HasFewBytes file × IsFileAnswer a.question file a.job.settings s text → s ≡ Done
-  by_file s text (file, told, short, h) = file_done a.question a.file a.job.settings a.setup s text a.reads a.within (subst (λ f. IsFileAnswer a.question f a.job.settings s text) (told_file file told) h)
+  answer_done : (s : Status) (text : List ℕ) → IsAnswer q settings word a.input b.input s text → s ≡ Done
+  answer_done CannotRead text (inl none, is) = absurd (not_absent none)
+  answer_done CannotRead text (inr rose, is) = absurd (count_stays word a b h.calm rose)
+  answer_done status.TooLong text (long, is) = absurd (not_longer long)
+  answer_done Done text answer = refl
+  answer_done Memory text answer = by_file Memory text answer
+  answer_done CannotWrite text answer = by_file CannotWrite text answer
+  answer_done TooManyLines text answer = by_file TooManyLines text answer
+  answer_done status.Usage text answer = by_file status.Usage text answer
+  answer_done status.Cycle text answer = by_file status.Cycle text answer
+  answer_done status.RegionLimit text answer = by_file status.RegionLimit text answer
+  answer_done status.FormLimit text answer = by_file status.FormLimit text answer
+  answer_done (status.BadFile f) text answer = by_file (status.BadFile f) text answer
+  answer_done (status.BadExpression f) text answer = by_file (status.BadExpression f) text answer
+  answer_done status.CalcLimit text answer = by_file status.CalcLimit text answer
 
-  unread : (told : Told) → told ≡ holding a.file → told ≡ absent → ⊥
-  unread told e d = let k : Path Told (holding a.file) absent = sym e ∙ d in cc
+-- what is decided of which nothing else than `Done` holds is done
+decided_done : (decided : Status → List ℕ → Type 0) (w x : ℕ) (before now : Option (List ℕ)) (s : Status) → ((t : Status) (text : List ℕ) → decided t text → t ≡ Done) → ¬ Rose w x
+    → Reports decided w x before now s → IsDone s
+decided_done decided w x before now s only calm r = elim (reason decided w x before now s r) [
+  | inl m ↦ inr m
+  | inr (inl f) ↦ absurd (calm f.1)
+  | inr (inr d) ↦ inl (only s d.0 d.1)
+]
 
-  too_long : IsLonger MOST_BYTES (told_of o.world a.word) → ⊥
-  too_long h =
-      let k : IsLonger MOST_BYTES (holding a.file) = subst (IsLonger MOST_BYTES) a.told h in omega (arith, a.short, k)
+calc_done : (limit : ℕ) (expression : List ℕ) → IsUnrefused limit expression → (s : Status) (text : List ℕ) → IsCalc limit expression s text → s ≡ Done
+calc_done limit expression none Done text h = refl
+calc_done limit expression none (status.BadExpression f) text h = absurd (none.0 f h.0)
+calc_done limit expression none status.CalcLimit text h = absurd (none.1 h.0)
+calc_done limit expression none Memory text h = absurd h
+calc_done limit expression none CannotRead text h = absurd h
+calc_done limit expression none CannotWrite text h = absurd h
+calc_done limit expression none TooManyLines text h = absurd h
+calc_done limit expression none status.Usage text h = absurd h
+calc_done limit expression none status.TooLong text h = absurd h
+calc_done limit expression none status.Cycle text h = absurd h
+calc_done limit expression none status.RegionLimit text h = absurd h
+calc_done limit expression none status.FormLimit text h = absurd h
+calc_done limit expression none (status.BadFile f) text h = absurd h
 
-  not_read : (told_of o.world a.word ≡ absent) ⊎ Rose (count_of o.loads.before o.reads.before a.word) (count_of o.loads.now o.reads.now a.word) → ⊥
-  not_read (inl none) = unread (told_of o.world a.word) a.told none
-  not_read (inr rose) = count_stays a.word o.loads.before o.loads.now o.reads.before o.reads.now a.no_load_failed a.no_read_failed rose
-
-  answered : (before now : Option (List ℕ)) (result : Status) → (result ≡ CannotWrite → Rose kb kn) → HasReason words o result ⊎ IsGameRun words o before now result → IsRunDone words o result
-  answered before now Done rose h = inl refl
-  answered before now Memory rose h = inr (inl refl)
-  answered before now CannotWrite rose h = absurd (a.no_write_failed (rose refl))
-  answered before now TooManyLines rose (inr g) = inr (inr (refl, (g.engine, g.state, g.game, map_told _ _ o.world.left (λ bytes h. (h.0, h.2.0)) g.written)))
-  answered before now TooManyLines rose (inl h) = absurd h.1.4.3.2
-  answered before now CannotRead rose (inr g) = absurd (a.no_read_failed (g.read refl))
-  answered before now CannotRead rose (inl h) = absurd (not_read (own h.1.0 h.1.1 h.1.2 CannotRead h.0 h.1.3 h.1.4).0)
-  answered before now status.TooLong rose (inl h) = absurd (too_long (own h.1.0 h.1.1 h.1.2 status.TooLong h.0 h.1.3 h.1.4).0)
-  answered before now status.Usage rose (inl h) = absurd (h.1.0 a.job (pose_said words a.job a.question a.word a.asks))
-  answered before now (status.BadFile f) rose (inl h) = inl (by_file (status.BadFile f) h.0 (own h.1.0 h.1.1 h.1.2 (status.BadFile f) h.0 h.1.3 h.1.4))
-  answered before now status.Cycle rose (inl h) = inl (by_file status.Cycle h.0 (own h.1.0 h.1.1 h.1.2 status.Cycle h.0 h.1.3 h.1.4))
-  answered before now status.RegionLimit rose (inl h) = inl (by_file status.RegionLimit h.0 (own h.1.0 h.1.1 h.1.2 status.RegionLimit h.0 h.1.3 h.1.4))
-  answered before now status.FormLimit rose (inl h) = inl (by_file status.FormLimit h.0 (own h.1.0 h.1.1 h.1.2 status.FormLimit h.0 h.1.3 h.1.4))
-  answered before now status.Usage rose (inr g) = absurd g.begun
-  answered before now status.Cycle rose (inr g) = absurd g.begun
-  answered before now status.RegionLimit rose (inr g) = absurd g.begun
-  answered before now status.FormLimit rose (inr g) = absurd g.begun
-  answered before now status.TooLong rose (inr g) = absurd g.begun
-  answered before now (status.BadFile f) rose (inr g) = absurd g.begun
-  answered before now (status.BadExpression f) rose (inl (text, d)) = absurd (alone_unposed words (status.BadExpression f) text a.job a.question a.word d a.asks)
-  answered before now status.CalcLimit rose (inl (text, d)) = absurd (alone_unposed words status.CalcLimit text a.job a.question a.word d a.asks)
-  answered before now (status.BadExpression f) rose (inr g) = absurd g.begun
-  answered before now status.CalcLimit rose (inr g) = absurd g.begun
-
--- words that pose no question, and whose task is not refused, are done, where no write failed
-alone_answered : (words : List (List ℕ)) (o : Outside) (kb kn : ℕ) (before now : Option (List ℕ)) (result : Status) (own : Job) → IsOnlyJob words own
-    → ((job : Job) (q : Question) (word : List ℕ) → ¬ Pose words job q word) → ((f : CalcFault) (text : List ℕ) → ¬ IsTextAlone own.parts own.task (status.BadExpression f) text)
-    → ((text : List ℕ) → ¬ IsTextAlone own.parts own.task status.CalcLimit text) → ¬ Rose kb kn
-    → (result ≡ CannotWrite → Rose kb kn) → HasReason words o result ⊎ IsGameRun words o before now result → (result ≡ Done) ⊎ (result ≡ Memory)
-alone_answered words o kb kn before now result own only none bad large calm rose (inr g) = absurd (none g.game.job (question.Solve (limits_of g.game.job)) g.game.word (inr (g.game.asks, refl)))
-alone_answered words o kb kn before now Done own only none bad large calm rose (inl h) = inl refl
-alone_answered words o kb kn before now Memory own only none bad large calm rose (inl h) = inr refl
-alone_answered words o kb kn before now CannotWrite own only none bad large calm rose (inl h) = absurd (calm (rose refl))
-alone_answered words o kb kn before now status.Usage own only none bad large calm rose (inl h) = absurd (h.1.0 own only.said)
-alone_answered words o kb kn before now CannotRead own only none bad large calm rose (inl h) = absurd (none h.1.0 h.1.1 h.1.2 h.1.3)
-alone_answered words o kb kn before now TooManyLines own only none bad large calm rose (inl h) = absurd (none h.1.0 h.1.1 h.1.2 h.1.3)
-alone_answered words o kb kn before now status.TooLong own only none bad large calm rose (inl h) = absurd (none h.1.0 h.1.1 h.1.2 h.1.3)
-alone_answered words o kb kn before now (status.BadFile f) own only none bad large calm rose (inl h) = absurd (none h.1.0 h.1.1 h.1.2 h.1.3)
-alone_answered words o kb kn before now status.Cycle own only none bad large calm rose (inl h) = absurd (none h.1.0 h.1.1 h.1.2 h.1.3)
-alone_answered words o kb kn before now status.RegionLimit own only none bad large calm rose (inl h) = absurd (none h.1.0 h.1.1 h.1.2 h.1.3)
-alone_answered words o kb kn before now status.FormLimit own only none bad large calm rose (inl h) = absurd (none h.1.0 h.1.1 h.1.2 h.1.3)
-alone_answered words o kb kn before now (status.BadExpression f) own only none bad large calm rose (inl (text, (job, its, is))) =
-    absurd (bad f text (subst (λ j. IsTextAlone j.parts j.task (status.BadExpression f) text) (only.only job its.said) is))
-alone_answered words o kb kn before now status.CalcLimit own only none bad large calm rose (inl (text, (job, its, is))) =
-    absurd (large text (subst (λ j. IsTextAlone j.parts j.task status.CalcLimit text) (only.only job its.said) is))
-
--- the words that ask for a number's board, or for an expression that no refusal meets
-answerable_done : (words : List (List ℕ)) (o : Outside) (kb kn : ℕ) (before now : Option (List ℕ)) (result : Status) → AreAnswerable words → ¬ Rose kb kn
-    → (result ≡ CannotWrite → Rose kb kn) → HasReason words o result ⊎ IsGameRun words o before now result → (result ≡ Done) ⊎ (result ≡ Memory)
-answerable_done words o kb kn before now result (inl (number, (own, only, is))) calm rose h =
-    alone_answered words o kb kn before now result own only (λ job q word a. trial_unposed words number job q word (own, only, is) a)
-    (λ f text t. subst (λ k. IsTextAlone own.parts k (status.BadExpression f) text) is t) (λ text t. subst (λ k. IsTextAlone own.parts k status.CalcLimit text) is t) calm rose h
-answerable_done words o kb kn before now result (inr (limit, expression, (own, only, is, same), unrefused)) calm rose h =
-    alone_answered words o kb kn before now result own only (λ job q word a. calc_unposed words limit expression job q word (own, only, is, same) a)
-    (λ f text t. unrefused.0 f (subst (λ l. IsCalc l expression (status.BadExpression f) text) (sym same) (subst (λ k. IsTextAlone own.parts k (status.BadExpression f) text) is t)).0)
-    (λ text t. unrefused.1 (subst (λ l. IsCalc l expression status.CalcLimit text) (sym same) (subst (λ k. IsTextAlone own.parts k status.CalcLimit text) is t)).0) calm rose h
-
--- a job that the words have is that of the engine
-engine_task : (words : List (List ℕ)) (limits : Limits) (other : Job) → AreForEngine words limits → IsOnlyJob words other → other.task ≡ gtp
-engine_task words limits other (own, only, is, same) its = ap (λ j. j.task) (only.only other its.said) ∙ is
-
-engine_alone : (words : List (List ℕ)) (limits : Limits) → AreForEngine words limits → AreAnswerable words → ⊥
-engine_alone words limits a (inl (number, (other, its, is))) = let k : Path Task (trial number) gtp = sym is ∙ engine_task words limits other a its in absurd cc
-engine_alone words limits a (inr (limit, expression, (other, its, is, same), u)) = let k : Path Task (calc expression) gtp = sym is ∙ engine_task words limits other a its in absurd cc
-
--- words that ask for the engine, and of which another status holds
-unengaged_done : (words : List (List ℕ)) (o : Outside) (kb kn : ℕ) (before now : Option (List ℕ)) (result : Status) → AskForEngine words → ¬ Rose kb kn
-    → (result ≡ CannotWrite → Rose kb kn) → HasReason words o result ⊎ IsGameRun words o before now result → IsEngineDone words o result
-unengaged_done words o kb kn before now result (limits, (own, only, is, same)) calm rose h =
-    go (alone_answered words o kb kn before now result own only (λ job q word a. engine_unposed words limits job q word (own, only, is, same) a)
-    (λ f text t. subst (λ k. IsTextAlone own.parts k (status.BadExpression f) text) is t) (λ text t. subst (λ k. IsTextAlone own.parts k status.CalcLimit text) is t) calm rose h)
-  where
-    go : (result ≡ Done) ⊎ (result ≡ Memory) → IsEngineDone words o result
-    go (inl e) = inl e
-    go (inr e) = inr (inl e)
+-- a game that no read and no write broke off
+game_done : (job : Job) (word : List ℕ) (a b : Known) (s : Status) → IsCalm a b → IsPlayedGame (limits_of job) job.engine job.settings word a s b → IsDone s ⊎ HasManyLines job word a s
+game_done job word a b Done calm g = inl (inl refl)
+game_done job word a b TooManyLines calm (engine, state, game, run) = inr (refl, (engine, state, game, map_told _ _ a.input.left (λ bytes h. (h.0, h.2.0)) run.written))
+game_done job word a b CannotRead calm (engine, state, game, run) = absurd (calm.reads (run.read refl))
+game_done job word a b CannotWrite calm (engine, state, game, run) = absurd (calm.writes (run.write refl))
+game_done job word a b Memory calm (engine, state, game, run) = absurd run.begun
+game_done job word a b status.Usage calm (engine, state, game, run) = absurd run.begun
+game_done job word a b status.TooLong calm (engine, state, game, run) = absurd run.begun
+game_done job word a b status.Cycle calm (engine, state, game, run) = absurd run.begun
+game_done job word a b status.RegionLimit calm (engine, state, game, run) = absurd run.begun
+game_done job word a b status.FormLimit calm (engine, state, game, run) = absurd run.begun
+game_done job word a b (status.BadFile f) calm (engine, state, game, run) = absurd run.begun
+game_done job word a b (status.BadExpression f) calm (engine, state, game, run) = absurd run.begun
+game_done job word a b status.CalcLimit calm (engine, state, game, run) = absurd run.begun
 
 -- a session that no read and no write broke off
-engine_done : (words : List (List ℕ)) (o : Outside) (kb kn : ℕ) (before now : Option (List ℕ)) (result : Status) → IsEngineRun words o before now result → ¬ Rose o.reads.before o.reads.now → ¬ Rose kb kn
-    → (result ≡ CannotWrite → Rose kb kn) → IsEngineDone words o result
-engine_done words o kb kn before now Done e read calm rose = inl refl
-engine_done words o kb kn before now Memory e read calm rose = inr (inl refl)
-engine_done words o kb kn before now TooManyLines e read calm rose = inr (inr (refl, (e.0, e.2.failing, e.1, e.2.failed, map_told _ _ o.world.left (λ bytes h. (h.0, h.2.0)) e.2.written)))
-engine_done words o kb kn before now CannotRead e read calm rose = absurd (read (e.2.read refl))
-engine_done words o kb kn before now CannotWrite e read calm rose = absurd (calm (rose refl))
-engine_done words o kb kn before now status.Usage e read calm rose = absurd e.2.ends
-engine_done words o kb kn before now status.Cycle e read calm rose = absurd e.2.ends
-engine_done words o kb kn before now status.RegionLimit e read calm rose = absurd e.2.ends
-engine_done words o kb kn before now status.FormLimit e read calm rose = absurd e.2.ends
-engine_done words o kb kn before now status.TooLong e read calm rose = absurd e.2.ends
-engine_done words o kb kn before now (status.BadFile f) e read calm rose = absurd e.2.ends
-engine_done words o kb kn before now (status.BadExpression f) e read calm rose = absurd e.2.ends
-engine_done words o kb kn before now status.CalcLimit e read calm rose = absurd e.2.ends
+engine_done : (job : Job) (a b : Known) (s : Status) → ¬ Rose a.input.reads b.input.reads → ¬ Rose a.writes b.writes → IsEnginePlay (engine_limits job) a s b → IsDone s ⊎ HasManyCommands job a s b
+engine_done job a b Done read write e = inl (inl refl)
+engine_done job a b Memory read write e = inl (inr refl)
+engine_done job a b TooManyLines read write e = inr (refl, (e.failing, e.failed, map_told _ _ a.input.left (λ bytes h. (h.0, h.2.0)) e.written))
+engine_done job a b CannotRead read write e = absurd (read (e.read refl))
+engine_done job a b CannotWrite read write e = absurd (write (e.write refl))
+engine_done job a b status.Usage read write e = absurd e.ends
+engine_done job a b status.TooLong read write e = absurd e.ends
+engine_done job a b status.Cycle read write e = absurd e.ends
+engine_done job a b status.RegionLimit read write e = absurd e.ends
+engine_done job a b status.FormLimit read write e = absurd e.ends
+engine_done job a b (status.BadFile f) read write e = absurd e.ends
+engine_done job a b (status.BadExpression f) read write e = absurd e.ends
+engine_done job a b status.CalcLimit read write e = absurd e.ends
 
-pub complete : (words : List (List ℕ)) (o : Outside) (kb kn : ℕ) (before now : Option (List ℕ)) (result : Status) → (result ≡ CannotWrite → Rose kb kn) → IsCaused words o before now result → IsComplete words o kb kn result
-complete words o kb kn before now result rose (inl h) = (
-  λ a. answered words o kb kn a before now result rose h,
-  λ (a, calm). answerable_done words o kb kn before now result a calm rose h,
-  λ (a, read, calm). unengaged_done words o kb kn before now result a calm rose h,
-)
-complete words o kb kn before now result rose (inr e) = (
-  λ a. absurd (engine_unposed words e.0 a.job a.question a.word e.1 a.asks),
-  λ (a, calm). absurd (engine_alone words e.0 e.1 a),
-  λ (a, read, calm). engine_done words o kb kn before now result e read calm rose,
-)
+module _ {H S K : Type 0} (o : Outside H S K) (job : Job) (a b : Desk H S K) (s : Status) where
+  complete : (task : Task) → RunsTask o task job a s b → IsComplete task job (known o a) s (known o b)
+  complete (solve word) r = λ h. decided_done _ _ _ _ _ s (answer_done (question.Solve (limits_of job)) job.settings word (known o a) (known o b) h) h.calm.writes r.written
+  complete (values word) r = λ h. decided_done _ _ _ _ _ s (answer_done (question.Values (limits_of job)) job.settings word (known o a) (known o b) h) h.calm.writes r.written
+  complete (safe word) r = λ h. decided_done _ _ _ _ _ s (answer_done question.Safe job.settings word (known o a) (known o b) h) h.calm.writes r.written
+  complete (trial number) r = λ calm. decided_done (IsTrialAnswer number) _ _ _ _ s (λ t text d. d.0) calm r.written
+  complete (calc expression) r = λ none calm. decided_done (IsCalc job.parts expression) _ _ _ _ s (calc_done job.parts expression none) calm r.written
+  complete gtp r = λ read write. engine_done job (known o a) (known o b) s read write r.played
+  complete (play word) r = λ h. elim r.outcome [
+    | inl u ↦ inl (decided_done _ _ _ _ _ s (λ t text d. answer_done (question.Solve (limits_of job)) job.settings word (known o a) (known o b) h t text d.0) h.calm.writes u.0)
+    | inr g ↦ game_done job word (known o a) (known o b) s h.calm g
+  ]
+
+pub is_answered : {H S K : Type 0} (o : Outside H S K) → IsAnswered o
+is_answered o job a b s r = complete o job a b s job.task r

@@ -1,8 +1,13 @@
--- A game that the engine wins at its opening.
+-- A game that the engine wins at its opening, and that an engine keeps what it has won.
 use Rattle.std.proofs.Common.{◌≡◌, ◌⊎◌, ◌++◌, ℕ, inl, inr, refl, sym, ap, subst, ◌∙◌, append_assoc, List, [], Some, None}
 use Rattle.std.specs.Prelude.{Option, IfSome, codes, take}
 use Rattle.std.specs.Io.KnownBytes.{append_known}
+use Rattle.desk_io.specs.Desk.{Desk, Outside, known}
+use Rattle.gd_words.specs.Job.{Job}
+use Rattle.gd_words.specs.Task.{Task}
+use Rattle.gd_words.specs.Task.Task.{calc, gtp, play, safe, solve, trial, values}
 use Rattle.go_grid.specs.declared.grid.Colour.{Colour}
+use Rattle.gtp_engine.proofs.WinLemmas.{win_is_kept as gtp_win_is_kept}
 use Rattle.whole_rules.specs.WholeGame.{Whole}
 use Rattle.whole_rules.specs.FirstWinningMove.{IsWinner}
 use Rattle.play_session.specs.declared.end.SessionEnd.TheVariants as end
@@ -12,9 +17,9 @@ use Rattle.play_session.proofs.WinLaws.{win_is_kept}
 use Rattle.endgame_run.specs.declared.status.Status.{Status}
 use Rattle.endgame_run.specs.declared.status.Status.TheVariants.{CannotRead, CannotWrite, Done, Memory, TooManyLines}
 use Rattle.endgame_run.specs.declared.status.Status.TheVariants as status
-use Rattle.endgame_run.specs.File.{Outside}
-use Rattle.endgame_run.specs.Game.{IsGameRun, IsGameWritten, IsSessionStatus, IsStopped, IsWonGame, PlaysWon, game_beginning}
-use Rattle.endgame_run.specs.Verdict.{IsWritten}
+use Rattle.endgame_run.specs.Game.{IsGameWritten, IsSessionStatus, IsStopped, IsWonGame, game_beginning}
+use Rattle.endgame_run.specs.KeepsWin.{EngineKeepsWin, KeepsWin}
+use Rattle.endgame_run.specs.Run.{RunsTask}
 
 pub map_told : (P Q : List ℕ → Type 0) (left : Option (List ℕ)) → ((bytes : List ℕ) → P bytes → Q bytes) → IfSome left P → IfSome left Q
 map_told P Q None f h = tt
@@ -29,7 +34,7 @@ module _ (engine : Colour) (s : Whole) (bytes : List ℕ) (before now : Option (
     first = first;
     last = last;
     turns = turns;
-    kept = λ m text c le more. win_is_kept engine (game_beginning s bytes) c m text wins more;
+    kept = λ m text c more. win_is_kept engine (game_beginning s bytes) c m text wins more;
     written = is;
     unnamed = turns_unnamed engine n (game_beginning s bytes) b first last turns unnamed;
   }
@@ -86,8 +91,19 @@ module _ (engine : Colour) (s : Whole) (bytes : List ℕ) (before now : Option (
   won_game (status.BadExpression f) begun h = absurd begun
   won_game status.CalcLimit begun h = absurd begun
 
-pub plays_won : (words : List (List ℕ)) (o : Outside) (before now : Option (List ℕ)) (result : Status) → IsWritten words o before now result ⊎ IsGameRun words o before now result
-    → IsWritten words o before now result ⊎ PlaysWon words o.world before now
-plays_won words o before now result (inl w) = inl w
-plays_won words o before now result (inr g) =
-    inr (g.engine, g.state, g.game, λ wins. map_told _ _ o.world.left (λ bytes h. won_game g.engine g.state bytes before now wins result g.begun h) g.written)
+-- an engine keeps what it has won, in every run
+module _ {H S K : Type 0} (o : Outside H S K) (job : Job) (a b : Desk H S K) (status : Status) where
+  keeps : (task : Task) → RunsTask o task job a status b → KeepsWin task job (known o a) status (known o b)
+  keeps (play word) r = elim r.outcome [
+    | inl u ↦ inl u.0
+    | inr g ↦ inr (g.0, g.1, g.2, λ wins. map_told _ _ (o.sources.left a.lines) (λ bytes h. won_game g.0 g.1 bytes (o.sinks.holds a.out) (o.sinks.holds b.out) wins status g.3.begun h) g.3.written)
+  ]
+  keeps gtp r = gtp_win_is_kept
+  keeps (solve word) r = tt
+  keeps (values word) r = tt
+  keeps (safe word) r = tt
+  keeps (trial number) r = tt
+  keeps (calc expression) r = tt
+
+pub engine_keeps_win : {H S K : Type 0} (o : Outside H S K) → EngineKeepsWin o
+engine_keeps_win o job a b status r = keeps o job a b status job.task r

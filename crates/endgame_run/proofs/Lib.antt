@@ -1,18 +1,17 @@
-mod CalcLaws
-mod CompleteLaws
-mod EngineLaws
-mod EngineRunLaws
-mod GameLaws
-mod GameWinLaws
-mod OneGameLaws
-mod OneStatusLaws
-mod OutputLaws
-mod RefusalLaws
-mod SessionLaws
-mod SizeLaws
-mod StepLaws
-mod TakenLaws
+-- How the parts of a run answer, then the runs of the commands, then what follows of them.
 mod TopLaws
-mod WrittenLaws
-pub mod PoseLaws
-pub mod TrialLaws
+mod SizeLaws
+mod RefusalLaws
+mod SolveLaws
+mod LineLaws
+mod SessionLaws
+mod EngineLaws
+mod RunLaws
+mod OneStatusLaws
+mod OneGameLaws
+mod CalcLaws
+mod TrialLaws
+mod GameWinLaws
+mod CompleteLaws
+mod UseLaws
+mod StepLaws

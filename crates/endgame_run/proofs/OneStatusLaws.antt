@@ -1,20 +1,11 @@
 -- A question about a file has one status.
-use Rattle.std.proofs.Common.{◌≡◌, ℕ, ◌<◌, ◌⊎◌, inl, inr, refl, sym, ap, ◌∙◌, subst, arith, List, length, Some, None, Result, Ok, Err}
-use Rattle.std.specs.Prelude.{Option}
+use Rattle.std.proofs.Common.{◌≡◌, ℕ, ◌<◌, ◌⊎◌, inl, inr, refl, sym, ap, ◌∙◌, subst, arith, List, length, Ok, Err}
 use Rattle.std.specs.List.{Contains}
 use Rattle.std.proofs.lemmas.Bool.{cases_order}
 use Rattle.std.proofs.lemmas.List.Elements.{Contains-get_or}
 use Rattle.go_grid.specs.Region.{Region}
-use Rattle.sgf_tree.specs.Grammar.{PropertyText}
-use Rattle.sgf_tree.specs.Reading.{Answer, IsTreeAnswer}
-use Rattle.sgf_tree.specs.Reading.Answer.{line, no_tree, bad_byte, cut_short, too_deep}
-use Rattle.sgf_tree.specs.declared.fault.TreeFault.{TreeFault}
-use Rattle.sgf_tree.specs.declared.fault.TreeFault.TheVariants.{NoTree, BadByte, CutShort, TooDeep}
-use Rattle.sgf_tree.proofs.OneTreeLemmas.{one_answer}
-use Rattle.sgf_go.specs.declared.fault.SetupFault.{SetupFault}
 use Rattle.sgf_go.specs.declared.settings.Settings.{Settings}
 use Rattle.sgf_go.specs.declared.settings.Setup.{Setup}
-use Rattle.sgf_go.specs.Setup.{Gives}
 use Rattle.sgf_go.proofs.OneReadingLemmas.{not_both, one_fault, one_setup}
 use Rattle.endgame_solver.specs.declared.limits.Limits.{Limits}
 use Rattle.endgame_solver.specs.declared.faults.SolveError.{SolveError}
@@ -25,13 +16,14 @@ use Rattle.endgame_solver.specs.Regions.{no_region, region_at}
 use Rattle.endgame_run.specs.declared.status.Status.{Status}
 use Rattle.endgame_run.specs.declared.status.Status.TheVariants as status
 use Rattle.sgf_go.specs.declared.fault.FileFault.{FileFault}
-use Rattle.sgf_go.specs.declared.fault.FileFault.TheVariants as fault
 use Rattle.endgame_run.specs.declared.question.Question.{Question}
 use Rattle.endgame_run.specs.declared.question.Question.TheVariants as question
 use Rattle.endgame_run.specs.Laws.{HasOneStatus, RefusesFaults, RefusesUnshown, ShowsShown, SolvesSound}
 use Rattle.sgf_go.specs.File.{Reads}
-use Rattle.endgame_run.specs.Refusal.{HasStatus}
-use Rattle.endgame_run.specs.Verdict.{AreUnshown, IsFileAnswer, IsPositionAnswer, IsRefused, IsSolved, IsValued}
+use Rattle.endgame_run.specs.Refusal.{HasStatus, IsRefused}
+use Rattle.endgame_run.specs.Question.{IsFileAnswer, IsPositionAnswer}
+use Rattle.endgame_run.specs.Solve.{IsSolved}
+use Rattle.endgame_run.specs.Values.{AreUnshown, IsValued}
 use Rattle.endgame_solver.proofs.GraphLaws.{one_value}
 use Rattle.report.specs.Values.{HasShownValue, IsFirstUnshown, IsUnshown}
 use Rattle.report.proofs.ValuesLaws.{shown_at}

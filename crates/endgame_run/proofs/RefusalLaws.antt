@@ -20,16 +20,14 @@ use Rattle.endgame_solver.specs.declared.faults.SolveError.TheVariants.{Points, 
 use Rattle.endgame_solver.specs.Faults.{named}
 use Rattle.endgame_solver.specs.Regions.{region_at, no_region}
 use Rattle.endgame_solver.specs.Solved.{Begun, Solved}
-use Rattle.report.specs.declared.values.ValuesError.{ValuesError}
-use Rattle.report.specs.declared.values.ValuesError.TheVariants as values
 use Rattle.report.specs.Values.{IsValuesText}
 use Rattle.endgame_run.specs.declared.status.Status.{Status}
 use Rattle.endgame_run.specs.declared.status.Status.TheVariants as status
 use Rattle.endgame_run.specs.declared.question.Question.TheVariants as question
-use Rattle.endgame_run.specs.Refusal.{HasStatus, form_line, refusal_line}
+use Rattle.endgame_run.specs.Refusal.{HasStatus, IsRefused, form_line, refusal_line}
 use Rattle.endgame_run.specs.inner.Refusal.{NamesPoints}
 use Rattle.endgame_run.specs.inner.Top.{IsValuesReport}
-use Rattle.endgame_run.specs.Verdict.{IsPositionAnswer, IsRefused}
+use Rattle.endgame_run.specs.Question.{IsPositionAnswer}
 use Rattle.endgame_run.proofs.TopLaws.{refused_question}
 
 -- five pieces of a text

@@ -13,10 +13,19 @@ use Rattle.play_session.specs.Written.{IsPlayed, IsUnread, Played, Session, stan
 use Rattle.endgame_run.specs.declared.status.Status.{Status}
 use Rattle.endgame_run.specs.declared.status.Status.TheVariants.{CannotRead, CannotWrite, Done, Memory, TooManyLines}
 use Rattle.endgame_run.specs.declared.status.Status.TheVariants as status
-use Rattle.endgame_run.specs.Game.{IsGameWritten, IsGameOver, IsSessionOf, IsSessionStatus, IsStopped, game_beginning}
+use Rattle.endgame_run.specs.Game.{IsGameWritten, IsGameOver, IsPlayRun, IsPlayedGame, IsSessionOf, IsSessionStatus, IsStopped, game_beginning}
 use Rattle.endgame_run.specs.File.{TakesAtMost, most_of_game}
-use Rattle.endgame_run.specs.inner.Top.{IsFinished, IsPlayRun}
+use Rattle.endgame_run.specs.Written.{Finishes}
+use Rattle.desk_io.specs.Desk.{Input, Known}
 use Rattle.desk_io.specs.Lines.{UsesLines}
+use Rattle.endgame_solver.specs.declared.limits.Limits.{Limits}
+use Rattle.endgame_run.specs.declared.question.Opened.{Opened}
+use Rattle.endgame_run.specs.declared.question.Opened.TheVariants.{Fault, Game}
+use Rattle.endgame_run.specs.declared.question.Question.TheVariants.{Solve}
+use Rattle.endgame_run.specs.declared.question.Report.{Report}
+use Rattle.endgame_run.specs.Question.{IsAnswer}
+use Rattle.endgame_run.specs.inner.Top.{IsOpened}
+use Rattle.sgf_go.specs.declared.settings.Settings.{Settings}
 
 -- a session that holds nothing begins with the bytes of the source
 begins_here : (session : Session) (bytes : List ℕ) → session.held ≡ [] → standing session 0 bytes ≡ game_beginning session.state bytes
@@ -90,7 +99,7 @@ rose_later a b c le rose = omega (arith, le, rose)
 pub stopped_run : (engine : Colour) (s : Whole) (left : Option (List ℕ)) (reads reads_now writes writes_mid writes_now : ℕ) (before mid now : Option (List ℕ)) (fault result : Status) (line : List ℕ)
     → IsSessionStatus fault → fault ≢ CannotWrite → (fault ≡ CannotRead → Rose reads reads_now) → writes ≤ writes_mid
     → ((bytes : List ℕ) → left ≡ Some bytes → (text : List ℕ) × IsStopped engine s bytes fault text line × (mid ≡ append_known before text))
-    → IsFinished fault line writes_mid writes_now mid now result → IsPlayRun engine s left reads reads_now writes writes_now before now result
+    → Finishes fault line writes_mid writes_now mid now result → IsPlayRun engine s left reads reads_now writes writes_now before now result
 stopped_run engine s left reads reads_now writes writes_mid writes_now before mid now fault result line begun apart rose later p (inl w) = record {
   begun = subst IsSessionStatus (sym w.0) begun;
   read = λ e. rose (sym w.0 ∙ e);
@@ -124,3 +133,16 @@ pub lines_taken : (session : Session) (held : List ℕ) (before now : Option (Li
 lines_taken session held before now none used few = λ bytes e.
     let u = used bytes e in
     (u.0 ++ held, u.1, u.2, ap (λ l. l ++ bytes) (sym none) ∙ u.3 ∙ sym (append_assoc u.0 held u.1), omega (arith, u.4, few, length-append u.0 held))
+
+-- a game that was opened, over lines that were not read for it
+pub opened_game : (limits : Limits) (given : Option Colour) (settings : Settings) (word : List ℕ) (a b : Known) (j : Input) (status : Status) (opened : Opened) (session : Session)
+    → opened ≡ Game session → IsOpened limits given settings word a.input j opened
+    → IsPlayRun session.engine session.state a.input.left a.input.reads b.input.reads a.writes b.writes a.holds b.holds status → IsPlayedGame limits given settings word a status b
+opened_game limits given settings word a b j status opened session e h run =
+    let k : IsOpened limits given settings word a.input j (Game session) = subst (IsOpened limits given settings word a.input j) e h in
+    (session.engine, session.state, k.0, run)
+
+-- what keeps a game from being begun
+pub opened_fault : (limits : Limits) (given : Option Colour) (settings : Settings) (word : List ℕ) (i j : Input) (opened : Opened) (report : Report) → opened ≡ Fault report
+    → IsOpened limits given settings word i j opened → IsAnswer (Solve limits) settings word i j report.status report.text × (report.status ≢ Done)
+opened_fault limits given settings word i j opened report e h = subst (IsOpened limits given settings word i j) e h

@@ -1,9 +1,11 @@
--- The answers of `calc`: what the status and the text of an expression are.
+-- `calc`: the answer to an expression: what the status and the text of an expression are.
 use Rattle.std.specs.Prelude.{◌≡◌, ◌++◌, ℕ, List, codes, decimal}
+use Rattle.desk_io.specs.Desk.{Desk, Outside}
 use Rattle.game_calc.specs.Answer.{IsAnswered, IsCalcRefusal}
 use Rattle.game_calc.specs.declared.errors.CalcError.TheVariants as calc
 use Rattle.game_calc.specs.declared.errors.CalcFault.{CalcFault}
 use Rattle.game_calc.specs.declared.errors.CalcFault.TheVariants as fault
+use Rattle.endgame_run.specs.Written.{Reports}
 use Rattle.endgame_run.specs.declared.status.Status.{Status}
 use Rattle.endgame_run.specs.declared.status.Status.TheVariants.{Done, BadExpression, CalcLimit}
 
@@ -29,3 +31,9 @@ IsCalc limit expression Done text = IsAnswered limit expression text
 IsCalc limit expression (BadExpression f) text = IsCalcRefusal limit expression (calc.Fault f) × (text ≡ expression_fault f)
 IsCalc limit expression CalcLimit text = IsCalcRefusal limit expression calc.Limit × (text ≡ codes "fault calc limit\n")
 IsCalc limit expression s text = ⊥
+
+-- what the run for an expression comes to, within a limit of parts
+pub record RunsCalc {H S K : Type 0} (o : Outside H S K) (limit : ℕ) (expression : List ℕ) (a : Desk H S K) (status : Status) (b : Desk H S K) : Type 0 where
+  pub written : Reports (IsCalc limit expression) (o.sinks.faults a.out) (o.sinks.faults b.out) (o.sinks.holds a.out) (o.sinks.holds b.out) status
+  pub shelf_unread : b.shelf ≡ a.shelf
+  pub lines_unread : b.lines ≡ a.lines

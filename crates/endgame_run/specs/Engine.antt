@@ -1,32 +1,18 @@
--- A session of the engine over the lines of the source: when there is one, which loads may fail, how it ends, and what it writes.
-use Rattle.std.specs.Prelude.{◌≡◌, ◌⊎◌, ◌++◌, ℕ, List, length, codes, take, false, Option, IfSome}
+-- `gtp`: a session of the engine over the lines of the source: which loads may fail, how it ends, and what it writes.
+use Rattle.std.specs.Prelude.{◌≡◌, ◌⊎◌, ◌++◌, ℕ, List, length, codes, take, Option, IfSome}
 use Rattle.std.specs.List.Sorted.{IsStrictlyIncreasing}
 use Rattle.std.specs.Io.KnownBytes.{append_known}
+use Rattle.desk_io.specs.Desk.{Desk, Known, Outside, known}
 use Rattle.desk_io.specs.Files.{Files}
 use Rattle.desk_io.specs.Outside.{Rose}
-use Rattle.gd_words.specs.Job.{IsOnlyJob, Job}
-use Rattle.gd_words.specs.Task.Task.{gtp}
 use Rattle.endgame_solver.specs.declared.limits.Limits.{Limits}
 use Rattle.gtp_engine.specs.declared.end.GtpEnd.{GtpEnd}
 use Rattle.gtp_engine.specs.declared.end.GtpEnd.TheVariants as end
-use Rattle.gtp_engine.specs.Laws.{MoveKeepsWin}
 use Rattle.gtp_engine.specs.Session.{GtpStanding, IsGtpSession, WaitsToReply, BreaksOffReply, beginning}
 use Rattle.gtp_engine.specs.Written.{RoseBy}
+use Rattle.endgame_run.specs.File.{TakesAtMost, most_of_engine}
 use Rattle.endgame_run.specs.declared.status.Status.{Status}
 use Rattle.endgame_run.specs.declared.status.Status.TheVariants.{Done, CannotRead, CannotWrite, Memory, TooManyLines}
-use Rattle.endgame_run.specs.File.{Outside}
-
--- the limits of an engine, where there is no tax
-abbrev pub engine_limits : Job → Limits
-engine_limits job = record { positions = job.positions; parts = job.parts; tax = false }
-
--- the words are the job of the engine within these limits
-abbrev pub AreForEngine : List (List ℕ) → Limits → Type 0
-AreForEngine words limits = (job : Job) × IsOnlyJob words job × (job.task ≡ gtp) × (limits ≡ engine_limits job)
-
--- the words ask for the engine
-abbrev pub AskForEngine : List (List ℕ) → Type 0
-AskForEngine words = (limits : Limits) × AreForEngine words limits
 
 -- The numbers of loads that failed while the count of faults went from `before` to `now`: ascending, and no more of them than the number
 -- by which the count rose. Where it stands at its last value there may be any number of them.
@@ -76,24 +62,16 @@ IsEngineWritten limits files failing bytes before now status =
     (text line : List ℕ) × IsEngineStopped limits files failing bytes status text line × (now ≡ append_known before (text ++ line))
 
 -- A session of the engine within the limits: its status, and its text where the source tells its bytes, for some loads that failed. A read
--- that failed was counted.
-pub record IsEnginePlay (limits : Limits) (o : Outside) (before now : Option (List ℕ)) (status : Status) : Type 0 where
+-- or a write that failed was counted.
+pub record IsEnginePlay (limits : Limits) (a : Known) (status : Status) (b : Known) : Type 0 where
   pub failing : List ℕ
-  pub failed : AreFailedLoads o.loads.before o.loads.now failing
+  pub failed : AreFailedLoads a.input.loads b.input.loads failing
   pub ends : IsEngineStatus status
-  pub read : status ≡ CannotRead → Rose o.reads.before o.reads.now
-  pub written : IfSome o.world.left (λ bytes. IsEngineWritten limits o.world.files failing bytes before now status)
+  pub read : status ≡ CannotRead → Rose a.input.reads b.input.reads
+  pub write : status ≡ CannotWrite → Rose a.writes b.writes
+  pub written : IfSome a.input.left (λ bytes. IsEngineWritten limits a.input.files failing bytes a.holds b.holds status)
 
--- the words ask for the engine, and this is a session of it within their limits, by its status
-abbrev pub IsEngineRun : List (List ℕ) → Outside → Option (List ℕ) → Option (List ℕ) → Status → Type 0
-IsEngineRun words o before now status = (limits : Limits) × AreForEngine words limits × IsEnginePlay limits o before now status
-
--- a session of the engine, and in each session the engine keeps what it has won
-abbrev pub IsKeptRun : List (List ℕ) → Outside → Option (List ℕ) → Option (List ℕ) → Status → Type 0
-IsKeptRun words o before now status = IsEngineRun words o before now status × MoveKeepsWin
-
--- the words ask for the engine, and where the source tells its bytes `holds` is true of the limits, of some loads that failed
--- and of the bytes
-abbrev pub InEngine : List (List ℕ) → Outside → (Limits → List ℕ → List ℕ → Type 0) → Type 0
-InEngine words o holds = (limits : Limits) × (failing : List ℕ) × AreForEngine words limits × AreFailedLoads o.loads.before o.loads.now failing
-    × IfSome o.world.left (λ bytes. holds limits failing bytes)
+-- what a session of the engine comes to
+pub record RunsEngine {H S K : Type 0} (o : Outside H S K) (limits : Limits) (a : Desk H S K) (status : Status) (b : Desk H S K) : Type 0 where
+  pub played : IsEnginePlay limits (known o a) status (known o b)
+  pub taken : TakesAtMost most_of_engine (o.sources.left a.lines) (o.sources.left b.lines)

@@ -1,8 +1,11 @@
 -- A file that is read to its end: from the source where its word is `-`, and else from the shelf.
-use Rattle.std.specs.Prelude.{◌≡◌, ◌≤◌, ◌+◌, ◌*◌, ◌++◌, ℕ, List, length, codes, Option, Some, if◌then◌else◌}
+use Rattle.std.specs.Prelude.{◌≡◌, ◌≢◌, ◌≤◌, ◌+◌, ◌*◌, ◌++◌, ℕ, List, length, codes, Option, Some, if◌then◌else◌}
 use Rattle.std.specs.Str.{bytes_eq}
 use Rattle.desk_io.specs.declared.lines.TheConstants.{MOST_LINES}
-use Rattle.desk_io.specs.Files.{Files, Told, told_file, told_source}
+use Rattle.desk_io.specs.declared.outside.Source as Source
+use Rattle.desk_io.specs.declared.shelf.Shelf as Shelf
+use Rattle.desk_io.specs.Desk.{Input, IsLaterInput, input_of}
+use Rattle.desk_io.specs.Files.{Told, told_file, told_source}
 use Rattle.sgf_tree.specs.declared.reader.TheConstants.{MOST_BYTES}
 
 -- of the bytes that a source tells at most so many were taken
@@ -25,38 +28,19 @@ most_of_engine = (MOST_LINES + 1) * 1024
 abbrev pub dash : List ℕ
 dash = codes "-"
 
--- what the world tells: the files of the shelf, and the bytes that the source has left
-pub record World : Type 0 where
-  pub files : Option Files
-  pub left : Option (List ℕ)
-
--- how often an object had failed before a run, and how often it has now
-pub record Faults : Type 0 where
-  pub before : ℕ
-  pub now : ℕ
-
--- what the world tells, and how often the shelf and the source have failed
-pub record Outside : Type 0 where
-  pub world : World
-  pub loads : Faults
-  pub reads : Faults
-
--- the world of the files that the shelf tells and the bytes that the source has left
-abbrev pub world : Option Files → Option (List ℕ) → World
-world files left = record { files = files; left = left }
-
--- the counts of how often an object had failed before a run, and how often it has now
-abbrev pub faults : ℕ → ℕ → Faults
-faults before now = record { before = before; now = now }
-
--- what the world tells, with how often the shelf and the source have failed
-abbrev pub outside : World → Faults → Faults → Outside
-outside world loads reads = record { world = world; loads = loads; reads = reads }
-
 -- what is told of the file of a word
-abbrev pub told_of : World → List ℕ → Told
-told_of w word = if bytes_eq word dash then told_source w.left else told_file w.files word
+abbrev pub told_of : Input → List ℕ → Told
+told_of i word = if bytes_eq word dash then told_source i.left else told_file i.files word
 
--- the count of the object that holds the file of a word
-abbrev pub count_of : ℕ → ℕ → List ℕ → ℕ
-count_of shelf lines word = if bytes_eq word dash then lines else shelf
+-- how often the object has failed that holds the file of a word
+abbrev pub count_of : Input → List ℕ → ℕ
+count_of i word = if bytes_eq word dash then i.reads else i.loads
+
+module _ {H S : Type 0} (shelves : Shelf.Ghosts H) (sources : Source.Ghosts S) where
+  -- what the reading of the file of a word does: the source is read where the word is `-`, and else the shelf is asked for the file, once
+  pub record ReadsFile (word : List ℕ) (shelf : H) (lines : S) (shelf_now : H) (lines_now : S) : Type 0 where
+    pub later : IsLaterInput (input_of shelves sources shelf lines) (input_of shelves sources shelf_now lines_now)
+    pub taken : TakesAtMost most_of_file (sources.left lines) (sources.left lines_now)
+    pub asked : word ≢ dash → shelves.asks shelf word shelf_now
+    pub lines_unread : word ≢ dash → lines_now ≡ lines
+    pub shelf_unread : word ≡ dash → shelf_now ≡ shelf

@@ -1,45 +1,41 @@
--- A game of a file over the lines of the source: when there is one, how it ends, and what it writes.
-use Rattle.std.specs.Prelude.{◌≡◌, ◌≢◌, ◌⊎◌, ◌++◌, ◌≤◌, ℕ, List, codes, take, Option, IfSome}
+-- `play`: a game of a file over the lines of the source: when there is one, how it ends, and what it writes.
+use Rattle.std.specs.Prelude.{◌≡◌, ◌≢◌, ◌⊎◌, ◌++◌, ℕ, List, codes, take, Option, IfSome}
 use Rattle.std.specs.Option.{unwrap_or}
 use Rattle.std.specs.Io.KnownBytes.{append_known}
+use Rattle.desk_io.specs.Desk.{Desk, Input, Known, Outside, known}
 use Rattle.desk_io.specs.Outside.{Rose}
 use Rattle.go_grid.specs.declared.grid.Colour.{Colour}
 use Rattle.go_grid.specs.Board.{other}
-use Rattle.go_grid.specs.Region.{Region}
 use Rattle.board_words.specs.Words.{winner_line}
+use Rattle.sgf_go.specs.declared.settings.Settings.{Settings}
 use Rattle.sgf_go.specs.declared.settings.Setup.{Setup}
 use Rattle.whole_rules.specs.WholeGame.{Whole}
 use Rattle.whole_rules.specs.FirstWinningMove.{IsWinner}
-use Rattle.gd_words.specs.Job.{Job}
 use Rattle.endgame_solver.specs.declared.limits.Limits.{Limits}
-use Rattle.endgame_solver.specs.Faults.{AreSound}
-use Rattle.region_cut.specs.Cut.{AreRegionsOfPlay}
+use Rattle.endgame_solver.specs.Solved.{IsPlayable}
 use Rattle.play_session.specs.declared.end.SessionEnd.{SessionEnd}
 use Rattle.play_session.specs.declared.end.SessionEnd.TheVariants as end
 use Rattle.play_session.specs.Laws.{IsLineIn, KeepsWin}
 use Rattle.play_session.specs.Session.{Standing, Turns, IsSession, Waits, BreaksOff}
+use Rattle.endgame_run.specs.File.{TakesAtMost, most_of_game, told_of}
+use Rattle.endgame_run.specs.Found.{IsPositionOf}
+use Rattle.endgame_run.specs.Question.{IsAnswer}
+use Rattle.endgame_run.specs.Written.{Reports}
+use Rattle.endgame_run.specs.declared.question.Question.TheVariants.{Solve}
 use Rattle.endgame_run.specs.declared.status.Status.{Status}
 use Rattle.endgame_run.specs.declared.status.Status.TheVariants.{Done, CannotRead, CannotWrite, TooManyLines}
-use Rattle.endgame_run.specs.Engine.{IsKeptRun}
-use Rattle.endgame_run.specs.File.{Outside, World, told_of}
-use Rattle.endgame_run.specs.Found.{IsPositionOf}
-use Rattle.endgame_solver.specs.Solved.{IsPlayable}
-use Rattle.endgame_run.specs.Verdict.{AreToPlay, IsWritten, limits_of}
 
 -- the engine has the colour that is given, or else the side to move
 abbrev pub IsEngine : Option Colour → Setup → Colour → Type 0
 IsEngine given setup engine = engine ≡ unwrap_or given setup.side
 
--- the words ask to play a file, the state opens its position by their settings, which can be played within their limits, and
--- this is the engine's colour
-pub record IsGame (words : List (List ℕ)) (w : World) (engine : Colour) (s : Whole) : Type 0 where
-  pub job : Job
-  pub word : List ℕ
+-- the state opens the position of the file of the word by the settings, which can be played within the limits, and this is the
+-- engine's colour
+pub record IsGame (limits : Limits) (given : Option Colour) (settings : Settings) (word : List ℕ) (i : Input) (engine : Colour) (s : Whole) : Type 0 where
   pub setup : Setup
-  pub asks : AreToPlay words job word
-  pub position : IsPositionOf (told_of w word) job.settings setup
-  pub playable : IsPlayable (limits_of job) setup s
-  pub colour : IsEngine job.engine setup engine
+  pub position : IsPositionOf (told_of i word) settings setup
+  pub playable : IsPlayable limits setup s
+  pub colour : IsEngine given setup engine
 
 -- where a session begins: the state opens the game, and no line was read
 abbrev pub game_beginning : Whole → List ℕ → Standing
@@ -83,14 +79,27 @@ IsGameWritten engine s bytes before now CannotWrite = ((text : List ℕ) × Brea
     ⊎ ((fault : Status) × (text line : List ℕ) × (n : ℕ) × IsStopped engine s bytes fault text line × (now ≡ append_known before (text ++ take n line)))
 IsGameWritten engine s bytes before now status = (text line : List ℕ) × IsStopped engine s bytes status text line × (now ≡ append_known before (text ++ line))
 
--- A game that has begun: its status, and its text where the source tells its bytes. A read that failed was counted.
-pub record IsGameRun (words : List (List ℕ)) (o : Outside) (before now : Option (List ℕ)) (status : Status) : Type 0 where
-  pub engine : Colour
-  pub state : Whole
-  pub game : IsGame words o.world engine state
+-- a session that was played over what the source has left, by its status. A read or a write that failed was counted.
+pub record IsPlayRun (engine : Colour) (s : Whole) (left : Option (List ℕ)) (reads reads_now writes writes_now : ℕ) (before now : Option (List ℕ)) (status : Status) : Type 0 where
   pub begun : IsSessionStatus status
-  pub read : status ≡ CannotRead → Rose o.reads.before o.reads.now
-  pub written : IfSome o.world.left (λ bytes. IsGameWritten engine state bytes before now status)
+  pub read : status ≡ CannotRead → Rose reads reads_now
+  pub write : status ≡ CannotWrite → Rose writes writes_now
+  pub written : IfSome left (λ bytes. IsGameWritten engine s bytes before now status)
+
+-- a game of the file of the word was begun and played
+abbrev pub IsPlayedGame : Limits → Option Colour → Settings → List ℕ → Known → Status → Known → Type 0
+IsPlayedGame limits given settings word a status b = (engine : Colour) × (s : Whole) × IsGame limits given settings word a.input engine s
+    × IsPlayRun engine s a.input.left a.input.reads b.input.reads a.writes b.writes a.holds b.holds status
+
+-- no game was begun: for want of memory, or since the file can't be solved
+abbrev pub IsUnplayed : Limits → Settings → List ℕ → Known → Status → Known → Type 0
+IsUnplayed limits settings word a status b = Reports (λ s text. IsAnswer (Solve limits) settings word a.input b.input s text × (s ≢ Done)) a.writes b.writes a.holds b.holds status
+
+-- what a game of the file of a word comes to
+pub record PlaysFile {H S K : Type 0} (o : Outside H S K) (limits : Limits) (given : Option Colour) (settings : Settings) (word : List ℕ) (a : Desk H S K) (status : Status) (b : Desk H S K) : Type 0 where
+  pub outcome : (IsUnplayed limits settings word (known o a) status (known o b) × (b.lines ≡ a.lines)) ⊎ IsPlayedGame limits given settings word (known o a) status (known o b)
+  pub taken : TakesAtMost most_of_game (o.sources.left a.lines) (o.sources.left b.lines)
+  pub asked : o.shelves.asks a.shelf word b.shelf
 
 -- What was written of a game that the engine wins at its opening: turns, and what stands behind them. Wherever the turns lead the
 -- engine wins, so that after each of its moves the opponent is to move and loses, and no line names the opponent as the winner.
@@ -100,15 +109,6 @@ pub record IsWonGame (engine : Colour) (s : Whole) (bytes : List ℕ) (before no
   pub first : List ℕ
   pub last : List ℕ
   pub turns : Turns engine number (game_beginning s bytes) first reached
-  pub kept : (n : ℕ) (text : List ℕ) (b : Standing) → n ≤ number → Turns engine n (game_beginning s bytes) text b → KeepsWin engine b
+  pub kept : (n : ℕ) (text : List ℕ) (b : Standing) → Turns engine n (game_beginning s bytes) text b → KeepsWin engine b
   pub written : now ≡ append_known before (first ++ last)
   pub unnamed : ¬ IsLineIn (winner_line (other engine)) (first ++ last)
-
--- a game was played over bytes that are told, and where the engine wins at its opening it keeps its win
-abbrev pub PlaysWon : List (List ℕ) → World → Option (List ℕ) → Option (List ℕ) → Type 0
-PlaysWon words w before now = (engine : Colour) × (s : Whole) × IsGame words w engine s
-    × (IsWinner s engine → IfSome w.left (λ bytes. IsWonGame engine s bytes before now))
-
--- what was written is the text of the decided status, or that of a game or a session in which the engine keeps what it has won
-abbrev pub EngineKeepsWin : List (List ℕ) → Outside → Option (List ℕ) → Option (List ℕ) → Status → Type 0
-EngineKeepsWin words o before now status = (IsWritten words o before now status ⊎ PlaysWon words o.world before now) ⊎ IsKeptRun words o before now status

@@ -19,7 +19,7 @@ use Rattle.endgame_solver.specs.Regions.{region_at}
 use Rattle.endgame_run.specs.Calc.{IsCalc}
 use Rattle.endgame_run.specs.Game.{IsGameWritten}
 use Rattle.endgame_run.specs.Refusal.{HasStatus}
-use Rattle.endgame_run.specs.Verdict.{HasLimits, IsFileAnswer, IsPositionAnswer}
+use Rattle.endgame_run.specs.Question.{HasLimits, IsFileAnswer, IsPositionAnswer}
 
 -- a question about a file has at most one status
 abbrev pub HasOneStatus : Type 0

@@ -1,49 +1,66 @@
--- What a run has written, for every command.
-use Rattle.std.specs.Prelude.{◌≡◌, ◌⊎◌, ◌++◌, ℕ, List, codes, take, Option, IfSome}
+-- What a run writes, and why it ends as it does, for every command.
+use Rattle.std.specs.Prelude.{◌≡◌, ◌≢◌, ◌⊎◌, ℕ, List, take}
 use Rattle.std.specs.Io.KnownBytes.{append_known}
-use Rattle.go_grid.specs.declared.grid.Colour.{Colour}
-use Rattle.whole_rules.specs.WholeGame.{Whole}
-use Rattle.play_session.specs.declared.end.SessionEnd.TheVariants as end
+use Rattle.desk_io.specs.Desk.{Desk, Input, Known, Outside, known}
+use Rattle.desk_io.specs.Outside.{Rose}
+use Rattle.gd_words.specs.Job.{Job, SayNoJob}
+use Rattle.gd_words.specs.Task.{Task}
+use Rattle.gd_words.specs.Task.Task.{calc, gtp, play, safe, solve, trial, values}
+use Rattle.endgame_run.specs.Calc.{IsCalc}
+use Rattle.endgame_run.specs.Engine.{IsEnginePlay}
+use Rattle.endgame_run.specs.Game.{IsPlayedGame}
+use Rattle.endgame_run.specs.Limits.{engine_limits, limits_of}
+use Rattle.endgame_run.specs.Question.{IsAnswer}
+use Rattle.endgame_run.specs.Run.{Runs, RunsWords}
+use Rattle.endgame_run.specs.Trial.{IsTrialAnswer}
+use Rattle.endgame_run.specs.declared.question.Question.TheVariants.{Safe, Solve, Values}
 use Rattle.endgame_run.specs.declared.status.Status.{Status}
-use Rattle.endgame_run.specs.declared.status.Status.TheVariants.{CannotRead, CannotWrite, Memory, TooManyLines}
-use Rattle.endgame_run.specs.Engine.{IsEngineRun}
-use Rattle.endgame_run.specs.File.{Outside, World}
-use Rattle.endgame_run.specs.Game.{IsGame, IsGameRun, IsGameWritten, IsSessionOf, WaitsAfter}
-use Rattle.endgame_run.specs.Verdict.{HasReason, IsDecided, IsWritten}
+use Rattle.endgame_run.specs.declared.status.Status.TheVariants.{CannotWrite, Done, Memory, Usage}
 
--- the status was decided with its cause, or it is that of a game that has begun, or of a session of the engine
-abbrev pub IsCaused : List (List ℕ) → Outside → Option (List ℕ) → Option (List ℕ) → Status → Type 0
-IsCaused words o before now status = (HasReason words o status ⊎ IsGameRun words o before now status) ⊎ IsEngineRun words o before now status
+-- The statuses of a task that are decided at once, and their texts, by what is known of the input before and after: what keeps a file
+-- from being solved keeps it from being played. A session decides by its turns.
+abbrev pub IsDecided : Task → Job → Input → Input → Status → List ℕ → Type 0
+IsDecided (solve word) job = IsAnswer (Solve (limits_of job)) job.settings word
+IsDecided (values word) job = IsAnswer (Values (limits_of job)) job.settings word
+IsDecided (safe word) job = IsAnswer Safe job.settings word
+IsDecided (play word) job = λ i j s text. IsAnswer (Solve (limits_of job)) job.settings word i j s text × (s ≢ Done)
+IsDecided (trial number) job = λ i j. IsTrialAnswer number
+IsDecided (calc expression) job = λ i j. IsCalc job.parts expression
+IsDecided gtp job = λ i j s text. ⊥
 
--- the text of the decided status was written, or that of a game that has begun, or of a session of the engine
-abbrev pub IsOutput : List (List ℕ) → Outside → Option (List ℕ) → Option (List ℕ) → Status → Type 0
-IsOutput words o before now status = (IsWritten words o before now status ⊎ IsGameRun words o before now status) ⊎ IsEngineRun words o before now status
+-- a session was held: a game that was begun, or one of the engine
+abbrev pub HoldsSession : Task → Job → Known → Status → Known → Type 0
+HoldsSession (play word) job = IsPlayedGame (limits_of job) job.engine job.settings word
+HoldsSession gtp job = IsEnginePlay (engine_limits job)
+HoldsSession task job = λ a status b. ⊥
 
--- the line of the status was written, and nothing else
-abbrev pub IsLineWritten : List (List ℕ) → Outside → Option (List ℕ) → Option (List ℕ) → Status → Type 0
-IsLineWritten words o before now status = (line : List ℕ) × IsDecided words o status line × (now ≡ append_known before line)
+-- the cause of a status: want of memory, a write that failed and was counted, what was decided, or a session
+abbrev pub HasReason : Task → Job → Known → Status → Known → Type 0
+HasReason task job a status b =
+    (status ≡ Memory) ⊎ (((status ≡ CannotWrite) × Rose a.writes b.writes)
+    ⊎ (((text : List ℕ) × IsDecided task job a.input b.input status text) ⊎ HoldsSession task job a status b))
 
--- a front part of the text of some status was written
-abbrev pub IsFrontWritten : List (List ℕ) → Outside → Option (List ℕ) → Option (List ℕ) → Type 0
-IsFrontWritten words o before now = (status : Status) × (text : List ℕ) × (n : ℕ) × IsDecided words o status text × (now ≡ append_known before (take n text))
+-- What is written of decided texts where the run isn't done: nothing for want of memory, a front part of one where a write failed, and else
+-- the line of the status.
+abbrev pub IsPart : (Status → List ℕ → Type 0) → Known → Status → Known → Type 0
+IsPart decided a Memory b = b.holds ≡ a.holds
+IsPart decided a CannotWrite b = (s : Status) × (text : List ℕ) × (n : ℕ) × decided s text × (b.holds ≡ append_known a.holds (take n text))
+IsPart decided a status b = (line : List ℕ) × decided status line × (b.holds ≡ append_known a.holds line)
 
--- a game was played, and where the source tells its bytes `holds` is true of the engine's colour, the opening and the bytes
-abbrev pub InGame : List (List ℕ) → World → (Colour → Whole → List ℕ → Type 0) → Type 0
-InGame words w holds = (engine : Colour) × (s : Whole) × IsGame words w engine s × IfSome w.left (λ bytes. holds engine s bytes)
+module _ {H S K : Type 0} (o : Outside H S K) where
+  -- each status has its cause
+  abbrev pub HasCauses : Type 0
+  HasCauses = (job : Job) (a b : Desk H S K) (status : Status) → Runs o job a status b → HasReason job.task job (known o a) status (known o b)
 
--- Nothing for want of memory. Where a write failed, a front part of what was to be written: of a text, or of a session and the line of
--- a fault. Else the line of a fault, in a game behind the session: all turns up to the one whose line can't be read, or whose line
--- would be one too many.
-abbrev pub IsPartOfDecided : List (List ℕ) → Outside → Option (List ℕ) → Option (List ℕ) → Status → Type 0
-IsPartOfDecided words o before now Memory = now ≡ before
-IsPartOfDecided words o before now CannotWrite = IsFrontWritten words o before now ⊎ InGame words o.world (λ engine s bytes. IsGameWritten engine s bytes before now CannotWrite)
-IsPartOfDecided words o before now CannotRead = IsLineWritten words o before now CannotRead
-    ⊎ InGame words o.world (λ engine s bytes. (text : List ℕ) × WaitsAfter engine s bytes text × (now ≡ append_known before (text ++ codes "fault cannot read\n")))
-IsPartOfDecided words o before now TooManyLines =
-    InGame words o.world (λ engine s bytes. (text : List ℕ) × IsSessionOf engine s bytes end.TooManyLines text × (now ≡ append_known before (text ++ codes "fault lines\n")))
-IsPartOfDecided words o before now status = IsLineWritten words o before now status
+  -- a failed write was counted
+  abbrev pub CountsWrites : Type 0
+  CountsWrites = (words : List (List ℕ)) (a b : Desk H S K) (status : Status) → RunsWords o words a status b → status ≡ CannotWrite → Rose (o.sinks.faults a.out) (o.sinks.faults b.out)
 
--- what a run has written, by its status: the text of the decided status or of a game, or a part of it; or what a session of
--- the engine has written
-abbrev pub IsPartOutput : List (List ℕ) → Outside → Option (List ℕ) → Option (List ℕ) → Status → Type 0
-IsPartOutput words o before now status = IsPartOfDecided words o before now status ⊎ IsEngineRun words o before now status
+  -- what a run has written that isn't done: a part of what was decided, or of a session, with the line of a fault behind it
+  abbrev pub WritesPart : Type 0
+  WritesPart = (job : Job) (a b : Desk H S K) (status : Status) → Runs o job a status b → status ≢ Done
+      → IsPart (IsDecided job.task job (known o a).input (known o b).input) (known o a) status (known o b) ⊎ HoldsSession job.task job (known o a) status (known o b)
+
+  -- words outside the grammar are refused as such
+  abbrev pub RefusesNoJob : Type 0
+  RefusesNoJob = (words : List (List ℕ)) (a b : Desk H S K) (status : Status) → RunsWords o words a status b → SayNoJob words → (status ≡ Usage) ⊎ (status ≡ CannotWrite)

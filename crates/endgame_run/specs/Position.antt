@@ -7,7 +7,6 @@ use Rattle.sgf_tree.specs.declared.fault.TreeFault.{TreeFault}
 use Rattle.sgf_tree.specs.declared.fault.TreeFault.TheVariants.{NoTree, BadByte, CutShort, TooDeep}
 use Rattle.sgf_go.specs.Setup.{IsBoardSize, value_of, root}
 use Rattle.sgf_go.specs.Values.{Extent}
-use Rattle.sgf_go.specs.declared.settings.Setup.{Setup}
 use Rattle.sgf_go.specs.declared.fault.SetupFault.{SetupFault}
 use Rattle.sgf_go.specs.declared.fault.SetupFault.TheVariants.{WrongGame, BadSize, BadKomi, BadPoint, BadSide, Occupied, Suicide, NoLiberty}
 use Rattle.sgf_go.specs.declared.fault.FileFault.{FileFault}

@@ -2,7 +2,11 @@
 use Rattle.std.specs.Prelude.{◌≡◌, ℕ, List, [], ◌++◌, flat_map, codes, decimal}
 use Rattle.go_grid.specs.declared.grid.Colour.{Colour}
 use Rattle.go_grid.specs.Name.{point_name}
+use Rattle.go_grid.specs.Region.{Region}
 use Rattle.board_words.specs.Words.{word_line, colour_word}
+use Rattle.sgf_go.specs.declared.settings.Setup.{Setup}
+use Rattle.region_cut.specs.Cut.{AreRegionsOfPlay}
+use Rattle.endgame_solver.specs.Faults.{AreRefused}
 use Rattle.endgame_solver.specs.declared.limits.Limits.{Limits}
 use Rattle.endgame_solver.specs.declared.faults.SolveError.{SolveError}
 use Rattle.endgame_solver.specs.declared.faults.SolveError.TheVariants.{Points, Positions, Cycle, Form, Memory}
@@ -44,3 +48,12 @@ refusal_line limits columns (Positions p) = positions_line columns p limits.posi
 refusal_line limits columns (Cycle p names back) = cycle_line columns p back names
 refusal_line limits columns (Form p) = form_line columns p
 refusal_line limits columns (Memory e) = []
+
+-- the regions of play of a position and a fault that keeps it from being solved within the limits, with its status and its line
+pub record IsRefused (limits : Limits) (setup : Setup) (s : Status) (text : List ℕ) : Type 0 where
+  pub regions : List Region
+  pub fault : SolveError
+  pub are_regions : AreRegionsOfPlay setup.board regions
+  pub refused : AreRefused limits regions fault
+  pub status : HasStatus fault s
+  pub is : text ≡ refusal_line limits setup.board.columns fault

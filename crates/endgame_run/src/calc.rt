@@ -2,7 +2,7 @@
 
 ghost use Rattle.std.specs.Prelude.{◌≡◌, ◌≤◌, IfOk, string_bytes};
 ghost use Rattle.endgame_run.specs.Calc.{IsCalc, expression_fault, expression_line, expression_line_at};
-ghost use Rattle.endgame_run.specs.inner.Top.{IsCalcRun};
+ghost use Rattle.endgame_run.specs.Written.{Reports};
 
 use crate::ending::finish;
 use crate::question::{Line, Report};
@@ -64,8 +64,8 @@ fn calculate(alloc: Global, line: &Line<'_>) -> Result<Report, AllocError>
 
 /// Writes the answer to an expression, or why there is none.
 pub(crate) fn run_calc<K: Sink>(alloc: Global, line: &Line<'_>, out: &mut K) -> Status
-    ensures answered { IsCalcRun line.now.parts line.now.expression.now (K.faults out.old)
-        (K.faults out.new) (K.holds out.old) (K.holds out.new) result }
+    ensures answered { Reports (IsCalc line.now.parts line.now.expression.now)
+        (K.faults out.old) (K.faults out.new) (K.holds out.old) (K.holds out.new) result }
     ensures later_writes { K.faults out.old ≤ K.faults out.new }
 {
     match calculate(alloc, line) {

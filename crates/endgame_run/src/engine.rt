@@ -1,9 +1,8 @@
 //! Sessions of the engine.
 
 ghost use Rattle.std.specs.Prelude.{◌≡◌, ◌≤◌, false};
-ghost use Rattle.desk_io.specs.Outside.{Rose};
-ghost use Rattle.endgame_run.specs.Engine.{IsEnginePlay};
-ghost use Rattle.endgame_run.specs.File.{TakesAtMost, faults, most_of_engine, outside, world};
+ghost use Rattle.desk_io.specs.Desk.{IsLater, desk, known, outside};
+ghost use Rattle.endgame_run.specs.Engine.{RunsEngine};
 ghost use Rattle.endgame_run.specs.inner.Top.{IsClosed};
 
 use crate::ending::finish;
@@ -42,18 +41,11 @@ pub(crate) fn run_gtp<H: Shelf, S: Source, K: Sink, L: Ledger>(
 ) -> Status
     requires modest { limits.positions ≤ MOST_POSITIONS }
     requires no_tax { limits.tax ≡ false }
-    ensures played { IsEnginePlay limits
-        (outside (world (H.files shelf.old) (S.left lines.old))
-        (faults (H.faults shelf.old) (H.faults shelf.new))
-        (faults (S.faults lines.old) (S.faults lines.new)))
-        (K.holds out.old) (K.holds out.new) result }
-    ensures cannot_write { result ≡ Status.CannotWrite
-        → Rose (K.faults out.old) (K.faults out.new) }
-    ensures takes { TakesAtMost most_of_engine (S.left lines.old) (S.left lines.new) }
-    ensures same_files { H.files shelf.new ≡ H.files shelf.old }
-    ensures later_loads { H.faults shelf.old ≤ H.faults shelf.new }
-    ensures later_reads { S.faults lines.old ≤ S.faults lines.new }
-    ensures later_writes { K.faults out.old ≤ K.faults out.new }
+    ensures ran { RunsEngine (outside H.Shelf S.Source K.Sink) limits
+        (desk shelf.old lines.old out.old) result (desk shelf.new lines.new out.new) }
+    ensures later { IsLater
+        (known (outside H.Shelf S.Source K.Sink) (desk shelf.old lines.old out.old))
+        (known (outside H.Shelf S.Source K.Sink) (desk shelf.new lines.new out.new)) }
 {
     let Ok(mut engine) = Engine::new(alloc, limits) else {
         return Status::Memory;

@@ -1,12 +1,13 @@
 //! A file that is read to its end.
 
-ghost use Rattle.std.specs.Prelude.{◌≡◌, ◌≢◌, ◌≤◌, ◌⊎◌, Some, None, IfOk, IsErrOf};
+ghost use Rattle.std.specs.Prelude.{◌≡◌, ◌≤◌, ◌⊎◌, Some, None, IfOk, IsErrOf};
+ghost use Rattle.desk_io.specs.Desk.{input_of};
 ghost use Rattle.desk_io.specs.Files.Told.{absent};
 ghost use Rattle.desk_io.specs.Files.{told_file, told_source};
 ghost use Rattle.desk_io.specs.Outside.{Rose, ended};
 ghost use Rattle.desk_io.specs.Files.{IsLonger, IsTold};
 ghost use Rattle.sgf_go.specs.File.{HasFewBytes};
-ghost use Rattle.endgame_run.specs.File.{TakesAtMost, count_of, dash, most_of_file, told_of, world};
+ghost use Rattle.endgame_run.specs.File.{ReadsFile, TakesAtMost, count_of, dash, most_of_file, told_of};
 ghost use Rattle.endgame_run.specs.inner.File.{IsWhole};
 ghost use Rattle.endgame_run.specs.declared.file.FileError.TheVariants.{CannotRead, Memory};
 
@@ -96,23 +97,18 @@ pub(crate) fn read_file<H: Shelf, S: Source>(
     word: &str,
 ) -> Result<Vec<u8>, FileError>
     ensures short { IfOk result (λ file. HasFewBytes file.items) }
-    ensures told { IfOk result (λ file. IsTold
-        (told_of (world (H.files shelf.old) (S.left lines.old)) word.now) file.items) }
-    ensures too_long { IsErrOf result FileError.TooLong
-        → IsLonger MOST_BYTES (told_of (world (H.files shelf.old) (S.left lines.old)) word.now) }
+    ensures told { IfOk result (λ file. IsTold (told_of
+        (input_of H.Shelf S.Source shelf.old lines.old) word.now) file.items) }
+    ensures too_long { IsErrOf result FileError.TooLong → IsLonger MOST_BYTES
+        (told_of (input_of H.Shelf S.Source shelf.old lines.old) word.now) }
     ensures cannot_read { IsErrOf result FileError.CannotRead
-        → (told_of (world (H.files shelf.old) (S.left lines.old)) word.now ≡ absent)
-        ⊎ Rose (count_of (H.faults shelf.old) (S.faults lines.old) word.now)
-        (count_of (H.faults shelf.new) (S.faults lines.new) word.now) }
-    ensures takes { TakesAtMost most_of_file (S.left lines.old) (S.left lines.new) }
-    ensures asked { word.now ≢ dash → H.asks shelf.old word.now shelf.new }
-    ensures same_files { H.files shelf.new ≡ H.files shelf.old }
-    ensures later_loads { H.faults shelf.old ≤ H.faults shelf.new }
-    ensures later_reads { S.faults lines.old ≤ S.faults lines.new }
+        → (told_of (input_of H.Shelf S.Source shelf.old lines.old) word.now ≡ absent)
+        ⊎ Rose (count_of (input_of H.Shelf S.Source shelf.old lines.old) word.now)
+        (count_of (input_of H.Shelf S.Source shelf.new lines.new) word.now) }
+    ensures reads { ReadsFile H.Shelf S.Source word.now
+        shelf.old lines.old shelf.new lines.new }
     ensures at_end { IfOk result (λ file. word.now ≡ dash
         → S.left lines.new ≡ ended (S.left lines.old)) }
-    ensures lines_unread { word.now ≢ dash → lines.new ≡ lines.old }
-    ensures shelf_unread { word.now ≡ dash → shelf.new ≡ shelf.old }
 {
     if word == "-" {
         return read_source(alloc, lines);

@@ -1,10 +1,11 @@
 //! The position of a file.
 
-ghost use Rattle.std.specs.Prelude.{◌≡◌, ◌≢◌, ◌≤◌, length, sum_by, IfOk};
+ghost use Rattle.std.specs.Prelude.{◌≡◌, ◌≤◌, length, sum_by, IfOk};
+ghost use Rattle.desk_io.specs.Desk.{input_of};
 ghost use Rattle.desk_io.specs.Outside.{ended};
 ghost use Rattle.sgf_go.specs.declared.settings.Setup.{Setup as Position};
 ghost use Rattle.sgf_tree.specs.Reading.{line_text};
-ghost use Rattle.endgame_run.specs.File.{TakesAtMost, count_of, dash, most_of_file, told_of, world};
+ghost use Rattle.endgame_run.specs.File.{ReadsFile, dash};
 ghost use Rattle.endgame_run.specs.inner.Found.{HasRanges, IsFileFound, IsFoundInFile, IsLineFound};
 
 use crate::faults::{setup_fault_text, tree_fault_text};
@@ -62,19 +63,13 @@ pub(crate) fn find_position<H: Shelf, S: Source>(
     lines: &mut S,
 ) -> Result<Found, AllocError>
     requires { HasRanges settings.now }
-    ensures found { IfOk result (IsFoundInFile (told_of
-        (world (H.files shelf.old) (S.left lines.old)) word.now)
-        (count_of (H.faults shelf.old) (S.faults lines.old) word.now)
-        (count_of (H.faults shelf.new) (S.faults lines.new) word.now) settings.now) }
-    ensures takes { TakesAtMost most_of_file (S.left lines.old) (S.left lines.new) }
-    ensures asked { word.now ≢ dash → H.asks shelf.old word.now shelf.new }
-    ensures same_files { H.files shelf.new ≡ H.files shelf.old }
-    ensures later_loads { H.faults shelf.old ≤ H.faults shelf.new }
-    ensures later_reads { S.faults lines.old ≤ S.faults lines.new }
+    ensures found { IfOk result (IsFoundInFile settings.now word.now
+        (input_of H.Shelf S.Source shelf.old lines.old)
+        (input_of H.Shelf S.Source shelf.new lines.new)) }
+    ensures reads { ReadsFile H.Shelf S.Source word.now
+        shelf.old lines.old shelf.new lines.new }
     ensures at_end { IfOk result (λ found. (setup : Position) → found ≡ Found.Position setup
         → word.now ≡ dash → S.left lines.new ≡ ended (S.left lines.old)) }
-    ensures lines_unread { word.now ≢ dash → lines.new ≡ lines.old }
-    ensures shelf_unread { word.now ≡ dash → shelf.new ≡ shelf.old }
 {
     match read_file(alloc, shelf, lines, word) {
         Ok(file) => {

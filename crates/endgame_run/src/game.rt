@@ -1,12 +1,13 @@
 //! Games of files.
 
-ghost use Rattle.std.specs.Prelude.{◌≡◌, ◌≢◌, ◌≤◌, ◌⊎◌, [], IfOk};
-ghost use Rattle.sgf_go.specs.declared.settings.Setup.{Setup as Position};
-ghost use Rattle.endgame_solver.specs.declared.limits.Limits.{Limits};
+ghost use Rattle.std.specs.Prelude.{◌≡◌, ◌≢◌, ◌≤◌, [], IfOk};
+ghost use Rattle.desk_io.specs.Desk.{IsLater, desk, input_of, known, outside};
+ghost use Rattle.endgame_run.specs.File.{ReadsFile, TakesAtMost, dash, most_of_game, told_of};
+ghost use Rattle.endgame_run.specs.Game.{IsPlayRun, PlaysFile};
+ghost use Rattle.endgame_run.specs.Question.{AreToldSteps};
 ghost use Rattle.endgame_run.specs.declared.question.Question.TheVariants.{Solve};
-ghost use Rattle.endgame_run.specs.File.{TakesAtMost, count_of, dash, faults, most_of_game, outside, told_of, world};
 ghost use Rattle.endgame_run.specs.inner.Found.{HasRanges};
-ghost use Rattle.endgame_run.specs.inner.Top.{AreToldSteps, IsGameOutcome, IsOpened, IsPlayRun, IsPlayedGame};
+ghost use Rattle.endgame_run.specs.inner.Top.{IsOpened};
 
 use crate::ending::finish;
 use crate::finding::find_position;
@@ -32,17 +33,14 @@ fn open_game<H: Shelf, S: Source, L: Ledger>(
 ) -> Result<Opened, AllocError>
     requires ranges { HasRanges settings.now }
     requires modest { game.now.limits.positions ≤ MOST_POSITIONS }
-    ensures opened { IfOk result (IsOpened game.now.limits game.now.engine
-        (told_of (world (H.files shelf.old) (S.left lines.old)) game.now.word.now)
-        (count_of (H.faults shelf.old) (S.faults lines.old) game.now.word.now)
-        (count_of (H.faults shelf.new) (S.faults lines.new) game.now.word.now) settings.now) }
+    ensures opened { IfOk result (IsOpened game.now.limits game.now.engine settings.now
+        game.now.word.now (input_of H.Shelf S.Source shelf.old lines.old)
+        (input_of H.Shelf S.Source shelf.new lines.new)) }
     ensures steps { AreToldSteps (Solve game.now.limits)
-        (told_of (world (H.files shelf.old) (S.left lines.old)) game.now.word.now)
+        (told_of (input_of H.Shelf S.Source shelf.old lines.old) game.now.word.now)
         settings.now steps.old steps.new }
-    ensures asked { game.now.word.now ≢ dash → H.asks shelf.old game.now.word.now shelf.new }
-    ensures same_files { H.files shelf.new ≡ H.files shelf.old }
-    ensures later_loads { H.faults shelf.old ≤ H.faults shelf.new }
-    ensures lines_unread { game.now.word.now ≢ dash → lines.new ≡ lines.old }
+    ensures reads { ReadsFile H.Shelf S.Source game.now.word.now
+        shelf.old lines.old shelf.new lines.new }
 {
     match find_position(alloc, game.word, settings, shelf, lines)? {
         Found::Position(setup) => {
@@ -84,26 +82,15 @@ pub(crate) fn run_game<H: Shelf, S: Source, K: Sink, L: Ledger>(
     requires ranges { HasRanges settings.now }
     requires modest { game.now.limits.positions ≤ MOST_POSITIONS }
     requires apart { game.now.word.now ≢ dash }
-    ensures outcome { IsGameOutcome game.now.limits game.now.engine settings.now game.now.word.now
-        (outside (world (H.files shelf.old) (S.left lines.old))
-        (faults (H.faults shelf.old) (H.faults shelf.new))
-        (faults (S.faults lines.old) (S.faults lines.new)))
-        (K.faults out.old) (K.faults out.new) (K.holds out.old) (K.holds out.new) result }
+    ensures ran { PlaysFile (outside H.Shelf S.Source K.Sink) game.now.limits game.now.engine
+        settings.now game.now.word.now
+        (desk shelf.old lines.old out.old) result (desk shelf.new lines.new out.new) }
+    ensures later { IsLater
+        (known (outside H.Shelf S.Source K.Sink) (desk shelf.old lines.old out.old))
+        (known (outside H.Shelf S.Source K.Sink) (desk shelf.new lines.new out.new)) }
     ensures steps { AreToldSteps (Solve game.now.limits)
-        (told_of (world (H.files shelf.old) (S.left lines.old)) game.now.word.now)
+        (told_of (input_of H.Shelf S.Source shelf.old lines.old) game.now.word.now)
         settings.now steps.old steps.new }
-    ensures takes { TakesAtMost most_of_game (S.left lines.old) (S.left lines.new) }
-    ensures asked { H.asks shelf.old game.now.word.now shelf.new }
-    ensures same_files { H.files shelf.new ≡ H.files shelf.old }
-    ensures later_loads { H.faults shelf.old ≤ H.faults shelf.new }
-    ensures later_reads { S.faults lines.old ≤ S.faults lines.new }
-    ensures later_writes { K.faults out.old ≤ K.faults out.new }
-    ensures lines_unplayed { (lines.new ≡ lines.old)
-        ⊎ IsPlayedGame game.now.limits game.now.engine settings.now game.now.word.now
-        (outside (world (H.files shelf.old) (S.left lines.old))
-        (faults (H.faults shelf.old) (H.faults shelf.new))
-        (faults (S.faults lines.old) (S.faults lines.new)))
-        (K.faults out.old) (K.faults out.new) (K.holds out.old) (K.holds out.new) result }
 {
     match open_game(alloc, game, settings, shelf, lines, steps) {
         Ok(Opened::Game(mut session)) => play(&mut session, lines, out),

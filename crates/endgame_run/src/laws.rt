@@ -1,6 +1,14 @@
-//! The laws of the verdict.
+//! The laws of the verdict, and of a run.
 
+ghost use Rattle.desk_io.specs.Desk.{outside};
+ghost use Rattle.endgame_run.specs.Complete.{IsAnswered};
+ghost use Rattle.endgame_run.specs.KeepsWin.{EngineKeepsWin};
 ghost use Rattle.endgame_run.specs.Laws.{HasOneGame, ExpressionHasOneStatus, HasOneStatus, RefusesFaults, RefusesUnshown, ShowsShown, SolvesSound};
+ghost use Rattle.endgame_run.specs.Output.{CountsWrites, HasCauses, RefusesNoJob, WritesPart};
+ghost use Rattle.endgame_run.specs.Steps.{TakesFewSteps, TakesNoSteps};
+ghost use Rattle.endgame_run.specs.Use.{AsksShelf, LeavesLines, ReadsToEnd, TakesFew};
+
+use desk_io::{Shelf, Sink, Source};
 
 /// A question about a file has at most one status; where all regions are sound that is `Done`, and else that of the
 /// first fault. Values that can't all be shown are a fault behind those. A game over the same lines has one status and
@@ -13,4 +21,29 @@ pub fn verdict_laws()
     ensures shown { ShowsShown }
     ensures unshown { RefusesUnshown }
     ensures one_game { HasOneGame }
+{}
+
+/// What follows of a run from its relation, for every shelf, source and sink: each status has its cause, and a failed write was
+/// counted; words outside the grammar are refused; a run that isn't done has written a front part of its text, or a session with its
+/// fault; where nothing keeps a run from its text it is done, but for want of memory; an engine keeps what it has won; a file of the
+/// source is read to its end, and else the source is unread but by a session; the shelf is asked for the file of the words alone. It
+/// has no code.
+pub fn run_laws<H: Shelf, S: Source, K: Sink>()
+    ensures cause { HasCauses (outside H.Shelf S.Source K.Sink) }
+    ensures cannot_write { CountsWrites (outside H.Shelf S.Source K.Sink) }
+    ensures outside_grammar { RefusesNoJob (outside H.Shelf S.Source K.Sink) }
+    ensures partial_output { WritesPart (outside H.Shelf S.Source K.Sink) }
+    ensures complete { IsAnswered (outside H.Shelf S.Source K.Sink) }
+    ensures engine_keeps_win { EngineKeepsWin (outside H.Shelf S.Source K.Sink) }
+    ensures at_end { ReadsToEnd (outside H.Shelf S.Source K.Sink) }
+    ensures lines_unread { LeavesLines (outside H.Shelf S.Source K.Sink) }
+    ensures taken { TakesFew (outside H.Shelf S.Source K.Sink) }
+    ensures asked { AsksShelf (outside H.Shelf S.Source K.Sink) }
+{}
+
+/// The steps of a run: at most one for each position of the regions of play that the words need, and none where they need none.
+/// It has no code.
+pub fn step_laws()
+    ensures few { TakesFewSteps }
+    ensures none { TakesNoSteps }
 {}

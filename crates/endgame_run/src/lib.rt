@@ -12,12 +12,13 @@ mod laws;
 mod program;
 mod question;
 mod refusal;
+mod run_question;
 mod solving;
 mod status;
 mod top;
 mod trial;
 
-pub use laws::verdict_laws;
+pub use laws::{run_laws, step_laws, verdict_laws};
 pub use program::{code_of_run, start};
 pub use sgf_go::FileFault;
 pub use status::Status;

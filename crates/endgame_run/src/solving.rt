@@ -9,7 +9,7 @@ ghost use Rattle.report.specs.Values.{IsRefusal};
 ghost use Rattle.endgame_run.specs.Refusal.{HasStatus, form_line, refusal_line};
 ghost use Rattle.endgame_run.specs.inner.Refusal.{NamesPoints, NamesRegion};
 ghost use Rattle.endgame_run.specs.inner.Top.{IsBegun, IsValuesReport};
-ghost use Rattle.endgame_run.specs.Verdict.{IsPositionAnswer};
+ghost use Rattle.endgame_run.specs.Question.{IsPositionAnswer};
 
 use crate::faults::point_text;
 use crate::question::{Opened, Question, Report};

@@ -1,10 +1,9 @@
 //! The boards of `trial`.
 
 ghost use Rattle.std.specs.Prelude.{◌≤◌, IfOk};
-ghost use Rattle.endgame_run.specs.Trial.{IsTrial};
+ghost use Rattle.endgame_run.specs.Trial.{AreTrialSteps, IsTrial, IsTrialAnswer};
 ghost use Rattle.endgame_run.specs.inner.Trial.{IsWantOfMemory};
-ghost use Rattle.endgame_run.specs.inner.Top.{IsTrialRun};
-ghost use Rattle.endgame_run.specs.Verdict.{AreTrialSteps};
+ghost use Rattle.endgame_run.specs.Written.{Reports};
 
 use crate::ending::finish;
 use crate::status::Status;
@@ -59,8 +58,8 @@ pub(crate) fn run_trial<K: Sink, L: Ledger>(
     out: &mut K,
     steps: &mut Steps<L>,
 ) -> Status
-    ensures answered { IsTrialRun number (K.faults out.old) (K.faults out.new) (K.holds out.old)
-        (K.holds out.new) result }
+    ensures answered { Reports (IsTrialAnswer number)
+        (K.faults out.old) (K.faults out.new) (K.holds out.old) (K.holds out.new) result }
     ensures steps { AreTrialSteps number steps.old steps.new }
     ensures later_writes { K.faults out.old ≤ K.faults out.new }
 {

@@ -2,6 +2,7 @@ pub mod SideLaws
 pub mod TurnLaws
 pub mod SessionLaws
 pub mod WinLaws
+pub mod CalmLaws
 pub mod NamedWinnerLaws
 pub mod OneRequestLaws
 pub mod OneMoveLaws

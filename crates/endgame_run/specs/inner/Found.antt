@@ -2,6 +2,7 @@
 use Rattle.std.specs.Prelude.{◌≡◌, ◌≤◌, ◌⊎◌, ℕ, List, codes, Ok, Err, IfSome}
 use Rattle.sgf_go.specs.declared.settings.TheConstants.{MOST_PRISONERS}
 use Rattle.sgf_tree.specs.declared.reader.TheConstants.{MOST_BYTES}
+use Rattle.desk_io.specs.Desk.{Input}
 use Rattle.desk_io.specs.Files.Told.{absent}
 use Rattle.desk_io.specs.Outside.{Rose}
 use Rattle.sgf_tree.specs.Grammar.{PropertyText}
@@ -10,7 +11,6 @@ use Rattle.sgf_go.specs.Position.{IsFit}
 use Rattle.sgf_go.specs.Setup.{Gives}
 use Rattle.sgf_go.specs.declared.fault.SetupFault.{SetupFault}
 use Rattle.sgf_go.specs.declared.settings.Settings.{Settings}
-use Rattle.sgf_go.specs.declared.settings.Setup.{Setup}
 use Rattle.sgf_go.specs.declared.fault.FileFault.{FileFault}
 use Rattle.sgf_go.specs.declared.fault.FileFault.TheVariants as fault
 use Rattle.endgame_run.specs.declared.status.Status.{Status}
@@ -20,6 +20,7 @@ use Rattle.endgame_run.specs.declared.question.Found.TheVariants.{Position, Faul
 use Rattle.desk_io.specs.Files.{Told, IsLonger, IsTold}
 use Rattle.sgf_go.specs.File.{HasFewBytes, Reads}
 use Rattle.endgame_run.specs.Position.{IsFaultText, IsSetupFaultText}
+use Rattle.endgame_run.specs.File.{count_of, told_of}
 use Rattle.endgame_run.specs.Found.{IsPositionOf}
 
 -- the ranges of settings: prisoners in points, a komi in half-points
@@ -45,7 +46,7 @@ IsFileFault told before now settings TooLong text = IsLonger MOST_BYTES told × 
 IsFileFault told before now settings (BadFile f) text = (file : List ℕ) × IsTold told file × HasFewBytes file × Reads file settings (Err f) × IsFaultText file f text
 IsFileFault told before now settings s text = ⊥
 
--- the position of the file of which this is told, or what is wrong with the file
-abbrev pub IsFoundInFile : Told → ℕ → ℕ → Settings → Found → Type 0
-IsFoundInFile told before now settings (Position setup) = IsPositionOf told settings setup × IsFit setup
-IsFoundInFile told before now settings (Fault report) = IsFileFault told before now settings report.status report.text
+-- the position of the file of the word, or what is wrong with the file
+abbrev pub IsFoundInFile : Settings → List ℕ → Input → Input → Found → Type 0
+IsFoundInFile settings word i j (Position setup) = IsPositionOf (told_of i word) settings setup × IsFit setup
+IsFoundInFile settings word i j (Fault report) = IsFileFault (told_of i word) (count_of i word) (count_of j word) settings report.status report.text

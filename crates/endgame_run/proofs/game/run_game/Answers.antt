@@ -1,25 +1,70 @@
-use Rattle.std.proofs.Common.{subst, inr}
-use Rattle.endgame_run.specs.File.{faults, outside, world}
-use Rattle.endgame_run.specs.inner.Top.{IsPlayRun}
-use Rattle.endgame_run.proofs.GameLaws.{opened_game}
+use Rattle.std.proofs.Common.{subst, sym, inl, inr, refl, arith}
+use Rattle.desk_io.specs.Desk.{desk, input_of, known, outside}
+use Rattle.endgame_run.specs.File.{TakesAtMost, most_of_game}
+use Rattle.endgame_run.specs.Game.{IsPlayRun}
+use Rattle.endgame_run.proofs.RunLaws.{finishes_as}
+use Rattle.endgame_run.proofs.SessionLaws.{opened_game, opened_fault}
+use Rattle.endgame_run.proofs.TopLaws.{nothing_taken, rest_of}
 use Rattle.endgame_run.proofs.game.run_game.Goals as goal
 
-pub returns-in-Ok-Game-clause-lines_unplayed : goal.returns-in-Ok-Game-clause-lines_unplayed
-returns-in-Ok-Game-clause-lines_unplayed g c =
+pub returns-in-Ok-Game-clause-ran : goal.returns-in-Ok-Game-clause-ran
+returns-in-Ok-Game-clause-ran g c =
+    let o = outside g.H.Shelf g.S.Source g.K.Sink in
+    let a = known o (desk c.args.shelf.now c.args.lines.now c.args.out.now) in
+    let b = known o (desk c.open_game.new.shelf c.play.new.lines c.play.new.out) in
     let session = c.in-Ok-Game.session in
-    inr (opened_game c.args.game.now.limits c.args.game.now.engine c.args.settings.now c.args.game.now.word.now
-    (outside (world (g.H.Shelf.files c.args.shelf.now) (g.S.Source.left c.args.lines.now)) (faults (g.H.Shelf.faults c.args.shelf.now) (g.H.Shelf.faults c.open_game.new.shelf)) (faults (g.S.Source.faults c.args.lines.now) (g.S.Source.faults c.play.new.lines)))
-    _ _ _ _ _ _ c.play.result c.in-Ok-Game.field-0 session c.in-Ok-Game.field-0-is
-    c.in-Ok-Game.ensures.opened
-    (subst (λ l. IsPlayRun session.engine session.state (g.S.Source.left l) (g.S.Source.faults l) (g.S.Source.faults c.play.new.lines) (g.K.Sink.faults c.args.out.now) (g.K.Sink.faults c.play.new.out)
-    (g.K.Sink.holds c.args.out.now) (g.K.Sink.holds c.play.new.out) c.play.result) (c.in-Ok-Game.ensures.lines_unread c.requires.apart) c.play.ensures.played))
+    let same = c.in-Ok-Game.ensures.reads.lines_unread c.requires.apart in record {
+      outcome = inr (opened_game c.args.game.now.limits c.args.game.now.engine c.args.settings.now c.args.game.now.word.now a b (input_of g.H.Shelf g.S.Source c.open_game.new.shelf c.open_game.new.lines) c.play.result c.in-Ok-Game.field-0 session c.in-Ok-Game.field-0-is
+          c.in-Ok-Game.ensures.opened
+          (subst (λ l. IsPlayRun session.engine session.state (g.S.Source.left l) (g.S.Source.faults l) (g.S.Source.faults c.play.new.lines) (g.K.Sink.faults c.args.out.now) (g.K.Sink.faults c.play.new.out)
+          (g.K.Sink.holds c.args.out.now) (g.K.Sink.holds c.play.new.out) c.play.result) same c.play.ensures.played));
+      taken = subst (λ l. TakesAtMost most_of_game (g.S.Source.left l) (g.S.Source.left c.play.new.lines)) same c.play.ensures.takes;
+      asked = c.in-Ok-Game.ensures.reads.asked c.requires.apart;
+    }
 
-pub returns-in-Ok-Game-clause-outcome : goal.returns-in-Ok-Game-clause-outcome
-returns-in-Ok-Game-clause-outcome g c =
-    let session = c.in-Ok-Game.session in
-    inr (inr (opened_game c.args.game.now.limits c.args.game.now.engine c.args.settings.now c.args.game.now.word.now
-    (outside (world (g.H.Shelf.files c.args.shelf.now) (g.S.Source.left c.args.lines.now)) (faults (g.H.Shelf.faults c.args.shelf.now) (g.H.Shelf.faults c.open_game.new.shelf)) (faults (g.S.Source.faults c.args.lines.now) (g.S.Source.faults c.play.new.lines)))
-    _ _ _ _ _ _ c.play.result c.in-Ok-Game.field-0 session c.in-Ok-Game.field-0-is
-    c.in-Ok-Game.ensures.opened
-    (subst (λ l. IsPlayRun session.engine session.state (g.S.Source.left l) (g.S.Source.faults l) (g.S.Source.faults c.play.new.lines) (g.K.Sink.faults c.args.out.now) (g.K.Sink.faults c.play.new.out)
-    (g.K.Sink.holds c.args.out.now) (g.K.Sink.holds c.play.new.out) c.play.result) (c.in-Ok-Game.ensures.lines_unread c.requires.apart) c.play.ensures.played)))
+pub returns-in-Ok-Game-clause-later : goal.returns-in-Ok-Game-clause-later
+returns-in-Ok-Game-clause-later g c =
+    let same = c.in-Ok-Game.ensures.reads.lines_unread c.requires.apart in
+    let later = c.in-Ok-Game.ensures.reads.later in record {
+      input = record {
+        same_files = later.same_files;
+        loads = later.loads;
+        reads = let more = c.play.ensures.later_reads in let some = later.reads in omega (arith, some, more);
+        rest = rest_of most_of_game _ _ (subst (λ l. TakesAtMost most_of_game (g.S.Source.left l) (g.S.Source.left c.play.new.lines)) same c.play.ensures.takes);
+      };
+      writes = c.play.ensures.later_writes;
+    }
+
+pub returns-in-Ok-Fault-clause-ran : goal.returns-in-Ok-Fault-clause-ran
+returns-in-Ok-Fault-clause-ran g c =
+    let i = input_of g.H.Shelf g.S.Source c.args.shelf.now c.args.lines.now in
+    let j = input_of g.H.Shelf g.S.Source c.open_game.new.shelf c.open_game.new.lines in
+    let report = c.in-Ok-Fault.report in
+    let same = c.in-Ok-Fault.ensures.reads.lines_unread c.requires.apart in record {
+      outcome = inl (
+        inr (
+          report.status,
+          report.text,
+          opened_fault c.args.game.now.limits c.args.game.now.engine c.args.settings.now c.args.game.now.word.now i j c.in-Ok-Fault.field-0 report
+              c.in-Ok-Fault.field-0-is c.in-Ok-Fault.ensures.opened,
+          finishes_as _ _ _ _ _ _ _ c.finish.result c.as_slice.ensures c.finish.ensures.written,
+        ),
+        same,
+      );
+      taken = subst (λ l. TakesAtMost most_of_game (g.S.Source.left c.args.lines.now) (g.S.Source.left l)) (sym same) (nothing_taken most_of_game (g.S.Source.left c.args.lines.now));
+      asked = c.in-Ok-Fault.ensures.reads.asked c.requires.apart;
+    }
+
+pub returns-in-Ok-Fault-clause-later : goal.returns-in-Ok-Fault-clause-later
+returns-in-Ok-Fault-clause-later g c = record { input = c.in-Ok-Fault.ensures.reads.later; writes = c.finish.ensures.later }
+
+pub returns-in-Err-clause-ran : goal.returns-in-Err-clause-ran
+returns-in-Err-clause-ran g c =
+    let same = c.in-Err.ensures.reads.lines_unread c.requires.apart in record {
+      outcome = inl (inl (refl, refl), same);
+      taken = subst (λ l. TakesAtMost most_of_game (g.S.Source.left c.args.lines.now) (g.S.Source.left l)) (sym same) (nothing_taken most_of_game (g.S.Source.left c.args.lines.now));
+      asked = c.in-Err.ensures.reads.asked c.requires.apart;
+    }
+
+pub returns-in-Err-clause-later : goal.returns-in-Err-clause-later
+returns-in-Err-clause-later g c = record { input = c.in-Err.ensures.reads.later; writes = omega arith }

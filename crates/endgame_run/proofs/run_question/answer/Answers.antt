@@ -1,0 +1,10 @@
+use Rattle.desk_io.specs.Desk.{input_of}
+use Rattle.endgame_run.proofs.TopLaws.{found_position, position_answer}
+use Rattle.endgame_run.proofs.run_question.answer.Goals as goal
+
+pub returns-in_ok-report-in-Position-clause-answer : goal.returns-in_ok-report-in-Position-clause-answer
+returns-in_ok-report-in-Position-clause-answer g c =
+    let i = input_of g.H.Shelf g.S.Source c.args.shelf.now c.args.lines.now in
+    let j = input_of g.H.Shelf g.S.Source c.find_position.new.shelf c.find_position.new.lines in
+    position_answer c.args.inquiry.now.question _ _ _ c.args.settings.now c.in-Position.setup c.in_ok-report-in-Position.report.status c.in_ok-report-in-Position.report.text
+    (found_position c.args.settings.now c.args.inquiry.now.word.now i j c.in_ok-setup.field-0 c.in-Position.setup c.in-Position.is c.in_ok-setup.ensures.found) c.in_ok-report-in-Position.ensures.answer

@@ -1,0 +1,42 @@
+use Rattle.std.proofs.Common.{refl, subst}
+use Rattle.desk_io.specs.Desk.{desk, input_of, outside}
+use Rattle.gd_words.specs.Viewed.{viewed}
+use Rattle.endgame_run.specs.inner.Top.{IsAsked}
+use Rattle.endgame_run.proofs.RunLaws.{calc_runs, engine_runs, game_runs, question_runs, question_steps, trial_runs}
+use Rattle.endgame_run.proofs.top.run_job.Goals as goal
+
+pub returns-in-Answer-clause-ran : goal.returns-in-Answer-clause-ran
+returns-in-Answer-clause-ran g c =
+    question_runs (outside g.H.Shelf g.S.Source g.K.Sink) (viewed c.args.job.now) (desk c.args.shelf.now c.args.lines.now c.args.out.now) c.run_question.result
+    (desk c.run_question.new.shelf c.run_question.new.lines c.run_question.new.out) c.in-Answer.inquiry.question c.in-Answer.inquiry.word.now
+    (subst (IsAsked (viewed c.args.job.now)) c.in-Answer.is c.asked.ensures) c.run_question.ensures.ran
+
+pub returns-in-Answer-clause-steps : goal.returns-in-Answer-clause-steps
+returns-in-Answer-clause-steps g c =
+    question_steps (viewed c.args.job.now) (input_of g.H.Shelf g.S.Source c.args.shelf.now c.args.lines.now) c.args.steps.now c.run_question.new.steps c.in-Answer.inquiry.question
+    c.in-Answer.inquiry.word.now (subst (IsAsked (viewed c.args.job.now)) c.in-Answer.is c.asked.ensures) c.run_question.ensures.steps
+
+pub returns-in-Game-clause-ran : goal.returns-in-Game-clause-ran
+returns-in-Game-clause-ran g c =
+    let own = subst (IsAsked (viewed c.args.job.now)) c.in-Game.is c.asked.ensures in
+    game_runs (outside g.H.Shelf g.S.Source g.K.Sink) (viewed c.args.job.now) (desk c.args.shelf.now c.args.lines.now c.args.out.now) c.run_game.result
+    (desk c.run_game.new.shelf c.run_game.new.lines c.run_game.new.out) c.in-Game.game.limits c.in-Game.game.engine c.in-Game.game.word.now own.0 own.1 own.2 c.run_game.ensures.ran
+
+pub returns-in-Trial-clause-ran : goal.returns-in-Trial-clause-ran
+returns-in-Trial-clause-ran g c =
+    trial_runs (outside g.H.Shelf g.S.Source g.K.Sink) (viewed c.args.job.now) (desk c.args.shelf.now c.args.lines.now c.args.out.now) c.run_trial.result
+    (desk c.args.shelf.now c.args.lines.now c.run_trial.new.out) c.in-Trial.number (subst (IsAsked (viewed c.args.job.now)) c.in-Trial.is c.asked.ensures)
+    (record { written = c.run_trial.ensures.answered; shelf_unread = refl; lines_unread = refl })
+
+pub returns-in-Calc-clause-ran : goal.returns-in-Calc-clause-ran
+returns-in-Calc-clause-ran g c =
+    let own = subst (IsAsked (viewed c.args.job.now)) c.in-Calc.is c.asked.ensures in
+    calc_runs (outside g.H.Shelf g.S.Source g.K.Sink) (viewed c.args.job.now) (desk c.args.shelf.now c.args.lines.now c.args.out.now) c.run_calc.result
+    (desk c.args.shelf.now c.args.lines.now c.run_calc.new.out) c.in-Calc.line.parts c.in-Calc.line.expression.now own.0 own.1
+    (record { written = c.run_calc.ensures.answered; shelf_unread = refl; lines_unread = refl })
+
+pub returns-in-Gtp-clause-ran : goal.returns-in-Gtp-clause-ran
+returns-in-Gtp-clause-ran g c =
+    let own = subst (IsAsked (viewed c.args.job.now)) c.in-Gtp.is c.asked.ensures in
+    engine_runs (outside g.H.Shelf g.S.Source g.K.Sink) (viewed c.args.job.now) (desk c.args.shelf.now c.args.lines.now c.args.out.now) c.run_gtp.result
+    (desk c.run_gtp.new.shelf c.run_gtp.new.lines c.run_gtp.new.out) c.in-Gtp.limits own.0 own.1 c.run_gtp.ensures.ran
