@@ -118,7 +118,8 @@ def resolved(target):
 def item(file, name):
     """A type, trait or constant of a file of src/ with its documentation, and how contracts see it; nothing where it isn't there."""
     text = file.read_text(encoding='utf-8')
-    head = re.search(r'((?:^ *///.*\n)*)(?:^#.*\n)*^((?:pub(?:\([a-z]+\))? )?(?:struct|enum|trait|const|type) %s\b(?:[^\n]*;$|(?:.|\n)*?^\}))' % re.escape(name), text, re.M)
+    declared_as = r'^((?:pub(?:\([a-z]+\))? )?(?:struct|enum|trait|const|type) %s\b(?:[^\n]*;$|(?:.|\n)*?^\}))' % re.escape(name)
+    head = re.search(r'((?:^ *///.*\n)*)(?:^#.*\n)*' + declared_as, text, re.M)
     if not head:
         return None
     view = re.search(r'^impl(?:<[^>]*>)? Model for %s\b(?:.|\n)*?^\}' % re.escape(name), text, re.M)

@@ -21,7 +21,7 @@ def diagram(board, drawn, regions, values, title):
     listed = [title] + (values[:1] if values[0].startswith('fault') else [])
     entries = [cut(entry(board, point, count, told), LONGEST_LINE) for point, count in regions]
     width = max(2 * MARGIN + CELL * (board.columns - 1), 60 + 8 * max(map(len, listed + entries)))
-    below = 2 * MARGIN + CELL * (board.rows - 1)
+    below = 2 * MARGIN + CELL * (board.rows - 1) + 6
     height = below + LINE * (len(listed) + len(regions)) + 8
     yield '<svg xmlns="http://www.w3.org/2000/svg" viewBox="0 0 %d %d" width="%d" height="%d">' % (width, height, width, height)
     yield '<title>%s</title>\n<style>\n%s\n</style>' % (escape(title), STYLE)
