@@ -41,7 +41,7 @@ def definitions(file):
             comment.append(line)
         elif re.match('(pub )?use ', line):
             comment = []
-        elif re.match(r'(module|mutual)\b', line):
+        elif re.match(r'(unfoldable )?(module|mutual)\b', line):
             context, comment, current = comment + [line], [], None
         elif head and not (FIELD.match(line) and is_record):
             context = context if head[1] else []
