@@ -1,18 +1,19 @@
-"""Records of games and boards, for the scripts beside it: SGF files read and replayed as docs/FORMATS.md says."""
+"""Records of games and boards, for the scripts beside it: SGF files read and replayed as docs/FORMATS.md says, and written, points' names,
+drawings read and made, and what the program says of a position."""
 
-import os
 import pathlib
 import re
-import subprocess
+import sys
+
+sys.path.insert(0, str(pathlib.Path(__file__).resolve().parent.parent))
+
+from script import Fault, printable
 
 GTP_COLUMNS = 'ABCDEFGHJKLMNOPQRSTUVWXYZ'
 SYMBOL = {'black': 'X', 'white': 'O'}
 OTHER = {'black': 'white', 'white': 'black'}
 COLOURS = ('black', 'white')
-
-
-class Fault(Exception):
-    """What keeps a script from its answer, in words for the user."""
+LONGEST_SIDE = 25
 
 
 # Trees
@@ -44,6 +45,8 @@ def main_line(text):
             nodes.append([])
         elif name is not None:
             nodes[-1].append((''.join(c for c in name.decode() if c.isupper()), []))
+        elif not nodes[-1]:
+            raise Fault('a value before byte %d of the file has no name' % at)
         else:
             nodes[-1][-1][1].append(re.sub(rb'\\(.)', rb'\1', value, flags=re.S).decode('latin-1').strip())
 
@@ -51,7 +54,7 @@ def main_line(text):
 def first_value(node, name):
     """The first value of the first property of this name, or None."""
     for key, values in node:
-        if key == name:
+        if key == name and values:
             return values[0]
     return None
 
@@ -131,7 +134,7 @@ class Board:
 
     def point(self, name):
         if not re.fullmatch('[a-z][a-z]', name):
-            raise Fault('%r is no point' % name)
+            raise Fault('%s is no point' % (printable(name) or 'nothing'))
         point = ord(name[0]) - 97, ord(name[1]) - 97
         if point[0] >= self.columns or point[1] >= self.rows:
             raise Fault('the point %s is not on the board' % name)
@@ -162,7 +165,7 @@ class Record:
         size = first_value(self.nodes[0], 'SZ') or '19'
         found = re.fullmatch(r'(\d\d?)(?:\s*:\s*(\d\d?))?', size)
         if not found or not all(1 <= int(n or 1) <= 25 for n in found.groups()):
-            raise Fault('the size %r is none of 1 to 25 columns and rows' % size)
+            raise Fault('the size %s is none of 1 to 25 columns and rows' % printable(size))
         self.board = Board(int(found[1]), int(found[2] or found[1]))
         self.komi = first_value(self.nodes[0], 'KM') or '0'
         self.side = 'black'
@@ -170,7 +173,7 @@ class Record:
         self.played, self.later = [], []
         is_over = False
         for node in self.nodes:
-            moves = [(key, values[0]) for key, values in node if key in ('B', 'W')]
+            moves = [(key, values[0]) for key, values in node if key in ('B', 'W') and values]
             if moves and after is not None and len(self.played) >= after:
                 is_over = True
             if not is_over:
@@ -198,24 +201,6 @@ class Record:
 
     def is_pass(self, value):
         return value == '' or (value == 'tt' and self.board.columns <= 19 and self.board.rows <= 19)
-
-
-# Programs
-
-
-def gdsolve():
-    """The program: the environment's GDSOLVE, else the one that this repository builds."""
-    built = pathlib.Path(__file__).resolve().parents[2] / 'crates/gdsolve/out/gdsolve'
-    program = os.environ.get('GDSOLVE') or str(built)
-    if not os.access(program, os.X_OK):
-        raise Fault('there is no program %s: build it by ./gdsolve, or set GDSOLVE' % program)
-    return program
-
-
-def ask(command, text, options):
-    """The lines that the program writes for the bytes of a file."""
-    done = subprocess.run([gdsolve(), command, '-', *options], input=text, stdout=subprocess.PIPE)
-    return done.stdout.decode().splitlines()
 
 
 # What is alive
@@ -260,3 +245,118 @@ def agree(does_agree, what):
     """Faults where this script's board isn't the one that the program has read."""
     if not does_agree:
         raise Fault("this script's board and that of the program differ: %s" % what)
+
+
+def walls(board, drawn, point):
+    """The signs of the living stones next to a point."""
+    return {drawn[other] for other in board.near(point)} & {'X', 'O'}
+
+
+def pairs(board, drawn):
+    """The pairs of contested points, the first of which touches Black's wall alone, and the second White's."""
+    contested = [point for point in board.points() if drawn[point] in '.xo']
+    return [
+        (point, other)
+        for point in contested
+        if walls(board, drawn, point) == {'X'}
+        for other in board.near(point)
+        if drawn[other] in '.xo' and walls(board, drawn, other) == {'O'}
+    ]
+
+
+# Writing
+
+
+def komi_halves(text):
+    """A komi in half-points, or None where the text is none that the program takes."""
+    found = re.fullmatch(r'([+-]?)([0-9]*)(?:\.(0*|50*))?', text)
+    if not found or not re.search('[0-9]', text) or int(found[2] or 0) > 999_999:
+        return None
+    halves = 2 * int(found[2] or 0) + bool((found[3] or '').strip('0'))
+    return -halves if found[1] == '-' else halves
+
+
+def komi_text(halves):
+    """A komi of so many half-points, as in SGF."""
+    return '%s%d%s' % ('-' * (halves < 0), abs(halves) // 2, '.5' * (halves % 2))
+
+
+def escaped(text):
+    """The text as a value of SGF, without signs that a terminal obeys."""
+    return '\n'.join(map(printable, text.split('\n'))).replace('\\', '\\\\').replace(']', '\\]')
+
+
+def sgf(board, side, komi=None, comment='', title=''):
+    """A file with the board as its one node; the komi is a text, or None for none."""
+    size = str(board.columns) if board.columns == board.rows else '%d:%d' % (board.columns, board.rows)
+    lines = ['(;GM[1]FF[4]CA[UTF-8]SZ[%s]%sPL[%s]' % (size, 'KM[%s]' % komi if komi else '', side[0].upper())]
+    lines += ['GN[%s]' % escaped(title)] if title else []
+    for key, colour in (('AB', 'black'), ('AW', 'white')):
+        points = ['[%s]' % board.name(point) for point in board.points() if board.stones.get(point) == colour]
+        for at in range(0, len(points), 20):
+            lines.append((key if at == 0 else '') + ''.join(points[at:at + 20]))
+    lines += ['C[%s]' % escaped(comment)] if comment else []
+    return '\n'.join(lines) + ')\n'
+
+
+# Drawings
+
+STONES = {'X': 'black', 'x': 'black', 'W': 'black', 'O': 'white', 'o': 'white', 'B': 'white'}  # W and B are captives
+EMPTY = {'.', 'b', 'w'}
+
+
+def picture(board, drawn, width=1):
+    """The board in lines, with the names of its columns and rows in both letterings; a cell takes `width` signs."""
+    columns = range(board.columns)
+    gtp = '      ' + ' '.join(GTP_COLUMNS[x].rjust(width) for x in columns)
+    sgf_names = '      ' + ' '.join(chr(97 + x).rjust(width) for x in columns)
+    yield gtp.rstrip()
+    yield sgf_names
+    for y in range(board.rows):
+        row = ' '.join(str(drawn[x, y]).rjust(width) for x in columns)
+        yield ' %2d %s %s %s %d' % (board.rows - y, chr(97 + y), row, chr(97 + y), board.rows - y)
+    yield sgf_names
+    yield gtp
+
+
+def read_drawing(text):
+    """The board of a drawing: rows of X, O and . with blanks between, under the letters of the columns and behind those of the rows, or
+    without letters. A drawing of `show` is one too."""
+    lines = [(number, line.split()) for number, line in enumerate(text.split('\n'), 1)]
+    first = next((at for at, (_, words) in enumerate(lines) if is_head(words)), 0)
+    columns, rows = None, []
+    for number, words in lines[first:]:
+        if rows and (not words or is_head(words)):
+            break
+        if not words or is_head(words):
+            columns = columns or len(words) or None
+            continue
+        cells = row_of(words, columns, len(rows))
+        if cells is None or (rows and len(cells) != len(rows[0])):
+            wanted = 'X, O and .' if columns is None and not rows else '%d points' % (columns or len(rows[0]))
+            raise Fault('line %d of the drawing is no row of %s' % (number, wanted))
+        rows.append(cells)
+    if not rows or len(rows) > LONGEST_SIDE or len(rows[0]) > LONGEST_SIDE:
+        raise Fault('the drawing is none of 1 to 25 columns and rows')
+    board = Board(len(rows[0]), len(rows))
+    for x, y in board.points():
+        if rows[y][x] in STONES:
+            board.stones[x, y] = STONES[rows[y][x]]
+    return board
+
+
+def is_head(words):
+    """Whether these are the letters of the columns."""
+    return bool(words) and words in ([chr(97 + x) for x in range(len(words))], list(GTP_COLUMNS[:len(words)]))
+
+
+def row_of(words, columns, row):
+    """The cells of a row, or None where it is none; where the columns have letters, so have the rows."""
+    if columns is not None:
+        words = words[1:] if words[0].isdigit() else words
+        if words[:1] != [chr(97 + row)]:
+            return None
+        words = words[1:] if len(words) == 2 else words[1:columns + 1]
+    cells = list(''.join(words))
+    is_row = all(cell in STONES or cell in EMPTY for cell in cells) and (columns is None or len(cells) == columns)
+    return cells if is_row and (columns is not None or not set(cells) & {'b', 'w', 'B', 'W'}) else None
