@@ -7,3 +7,5 @@ pub mod BookkeepingLaws
 pub mod BeginLaws
 pub mod HeldLaws
 pub mod WinningLaws
+pub mod ThresholdLaws
+pub mod SumThresholdLaws
