@@ -9,3 +9,4 @@ pub mod HeldLaws
 pub mod WinningLaws
 pub mod ThresholdLaws
 pub mod SumThresholdLaws
+pub mod MarginLaws

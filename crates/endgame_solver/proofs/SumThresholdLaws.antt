@@ -17,7 +17,7 @@ use Rattle.endgame_solver.specs.Decomposition.{AreTreesOn}
 use Rattle.endgame_solver.specs.SumGame.{balance}
 use Rattle.endgame_solver.specs.Thresholds.{BlackWins, FirstMoveCostsAHalf, HasOne, IsGreatest, IsWithoutCycle, ThresholdIsInSum, ThresholdsExist}
 use Rattle.endgame_solver.specs.inner.Thresholds.{IsLeastWin}
-use Rattle.endgame_solver.proofs.ThresholdLaws.{IsDecidedBeside, alike_openings, alike_stones, one_threshold, opening_balance, some_least, threshold_by, wins_first}
+use Rattle.endgame_solver.proofs.ThresholdLaws.{IsDecidedBeside, alike_openings, alike_stones, balance_less, one_threshold, opening_balance, some_least, threshold_by, wins_first}
 use Rattle.endgame_solver.proofs.WholeLaws.{decided_alike, decided_by_trees, seen_from_opening}
 
 module _ (x : Ground) (regions : List Region) (calm : IsWithoutCycle x regions) where
@@ -29,17 +29,14 @@ module _ (x : Ground) (regions : List Region) (calm : IsWithoutCycle x regions) 
       let (parts, seen) = seen_from_opening x.board calm.settled regions calm.are_regions x.black_prisoners x.white_prisoners k c x.tax s t (stones ps) o plays in (
         _,
         λ l u v p plays'.
-            let alike = alike_stones (l -ℤ k) ps s u t v (alike_openings x k l c s u o p) plays plays' in
+            let (alike, turn) = alike_stones (l -ℤ k) ps s u t v (alike_openings x k l c c s u o p) (o.turn ∙ sym p.turn) plays plays' in
             let keeps = keeps_plays x.board calm.settled u v (stones ps)
             (keeps_start x.board x.black_prisoners x.white_prisoners l c x.tax u p) plays' in (
               decided_alike x.board calm.settled regions calm.are_regions calm.no_cycle t parts seen v keeps (sym alike.board),
-              sym alike.turn,
-              less (balance v.purses) (balance t.purses) k l alike.balance_is,
+              sym turn,
+              balance_less (balance v.purses) (balance t.purses) k l alike.balance_is,
             ),
       )
-    where
-      less : (a b k l : ℤ) → b ≡ a +ℤ (l -ℤ k) → a ≡ (b +ℤ k) -ℤ l
-      less a b k l e = omega (arith, ints, e)
 
   -- one game decides all openings
   decided_openings : (k : ℤ) (c : Colour) (s : Whole) → OpensWith x k c s

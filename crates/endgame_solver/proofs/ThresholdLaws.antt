@@ -187,10 +187,10 @@ balance_paid White n m = sums m.black m.white n (halves m.token)
         ≡ (((pos b +ℤ neg_ℤ (pos w)) +ℤ (pos b +ℤ neg_ℤ (pos w))) +ℤ h) +ℤ (neg_ℤ (pos n) +ℤ neg_ℤ (pos n))
     sums b w n h = omega (arith, ints)
 
--- two states have one board and one side to move, and the first's balance is so much more
+-- two states have one board, the same contested points, and the first's balance is so much more
 pub record AreAlike (more : ℤ) (s t : Whole) : Type 0 where
   pub board : s.board ≡ t.board
-  pub turn : s.side ≡ t.side
+  pub contested : (q : ℕ) → IsMarked s.contested q ↔ IsMarked t.contested q
   pub balance_is : balance s.purses ≡ balance t.purses +ℤ more
 
 one_board : (g h h' : Board) (p : ℕ) (c : Colour) → IsPlaced g p c h → IsPlaced g p c h' → h ≡ h'
@@ -198,29 +198,34 @@ one_board g h h' p c (size, placed) (size', placed') =
     λ i. record { columns = (size.columns ∙ sym size'.columns) i; rows = (size.rows ∙ sym size'.rows) i; cells = one_outcome placed placed' i }
 
 -- a stone leaves alike states alike
-alike_stone : (more : ℤ) (p : ℕ) (s t s' t' : Whole) → AreAlike more s t → IsMove s (Stone p) s' → IsMove t (Stone p) t' → AreAlike more s' t'
-alike_stone more p s t s' t' alike (_, (h, (n, placed, number, is))) (_, (h', (n', placed', number', is'))) =
-    let there = subst (λ T. T) (λ i. IsPlaced (alike.board i) p (alike.turn i) h) placed in
+alike_stone : (more : ℤ) (p : ℕ) (s t s' t' : Whole) → AreAlike more s t → s.side ≡ t.side → IsMove s (Stone p) s' → IsMove t (Stone p) t'
+    → AreAlike more s' t' × (s'.side ≡ t'.side)
+alike_stone more p s t s' t' alike turn (_, (h, (n, placed, number, is))) (_, (h', (n', placed', number', is'))) =
+    let there = subst (λ T. T) (λ i. IsPlaced (alike.board i) p (turn i) h) placed in
     let board = one_board t.board h h' p t.side there placed' in
     let counted = subst (λ T. T) (λ i. IsNumberTaken (alike.board i) (board i) n) number in
     let taken : n ≡ n' = omega (arith, counted, number') in
-    let paid = balance_paid s.side n s.purses ∙ (λ i. balance s.purses +ℤ (credit (alike.turn i) (taken i) +ℤ credit (alike.turn i) (taken i))) in
-    let paid' = balance_paid t.side n' t.purses in
-    record {
-      board = ap (λ z. z.board) is ∙ board ∙ sym (ap (λ z. z.board) is');
-      turn = ap (λ z. z.side) is ∙ ap other alike.turn ∙ sym (ap (λ z. z.side) is');
-      balance_is = ap (λ z. balance z.purses) is ∙ paid
-          ∙ moved (balance s.purses) (balance t.purses) more (credit t.side n' +ℤ credit t.side n') alike.balance_is
-          ∙ ap (λ z. z +ℤ more) (sym paid' ∙ sym (ap (λ z. balance z.purses) is'));
-    }
+    let paid = balance_paid s.side n s.purses ∙ (λ i. balance s.purses +ℤ (credit (turn i) (taken i) +ℤ credit (turn i) (taken i))) in
+    let paid' = balance_paid t.side n' t.purses in (
+      record {
+        board = ap (λ z. z.board) is ∙ board ∙ sym (ap (λ z. z.board) is');
+        contested = λ q. subst (λ T. T) (λ i. IsMarked (sym is i).contested q ↔ IsMarked (sym is' i).contested q) (alike.contested q);
+        balance_is = ap (λ z. balance z.purses) is ∙ paid
+            ∙ moved (balance s.purses) (balance t.purses) more (credit t.side n' +ℤ credit t.side n') alike.balance_is
+            ∙ ap (λ z. z +ℤ more) (sym paid' ∙ sym (ap (λ z. balance z.purses) is'));
+      },
+      ap (λ z. z.side) is ∙ ap other turn ∙ sym (ap (λ z. z.side) is'),
+    )
   where
     moved : (a b m n : ℤ) → a ≡ b +ℤ m → a +ℤ n ≡ (b +ℤ n) +ℤ m
     moved a b m n e = omega (arith, ints, e)
 
-pub alike_stones : (more : ℤ) (ps : List ℕ) (s t s' t' : Whole) → AreAlike more s t → Plays s (stones ps) s' → Plays t (stones ps) t' → AreAlike more s' t'
-alike_stones more [] s t s' t' alike e e' = subst (λ T. T) (λ i. AreAlike more (e i) (e' i)) alike
-alike_stones more (p ∷ ps) s t s' t' alike (u, move, rest) (u', move', rest') =
-    alike_stones more ps u u' s' t' (alike_stone more p s t u u' alike move move') rest rest'
+pub alike_stones : (more : ℤ) (ps : List ℕ) (s t s' t' : Whole) → AreAlike more s t → s.side ≡ t.side → Plays s (stones ps) s'
+    → Plays t (stones ps) t' → AreAlike more s' t' × (s'.side ≡ t'.side)
+alike_stones more [] s t s' t' alike turn e e' = subst (λ T. T) (λ i. AreAlike more (e i) (e' i) × ((e i).side ≡ (e' i).side)) (alike, turn)
+alike_stones more (p ∷ ps) s t s' t' alike turn (u, move, rest) (u', move', rest') =
+    let (next, turn') = alike_stone more p s t u u' alike turn move move' in
+    alike_stones more ps u u' s' t' next turn' rest rest'
 
 -- a state in which the same stones can be played
 pub follow_stones : (ps : List ℕ) (s t s' : Whole) → s.board ≡ t.board → s.side ≡ t.side → ((p : ℕ) → IsMarked s.contested p → IsMarked t.contested p)
@@ -237,18 +242,21 @@ follow_stones (p ∷ ps) s t s' board turn marks (u, (mark, (h, (n, placed, numb
 
 -- The threshold after stones.
 
--- openings with one side to move are alike
-pub alike_openings : (x : Ground) (k l : ℤ) (c : Colour) (s t : Whole) → OpensWith x k c s → OpensWith x l c t → AreAlike (l -ℤ k) s t
-alike_openings x k l c s t o p =
+pub alike_openings : (x : Ground) (k l : ℤ) (c d : Colour) (s t : Whole) → OpensWith x k c s → OpensWith x l d t → AreAlike (l -ℤ k) s t
+alike_openings x k l c d s t o p =
     let (b, is) = opening_balance x k c s o in
     record {
       board = o.board ∙ sym p.board;
-      turn = o.turn ∙ sym p.turn;
-      balance_is = less (balance s.purses) (balance t.purses) b k l (is k c s o) (is l c t p);
+      contested = λ q. (λ m. (p.contested q).1 ((o.contested q).0 m), λ m. (o.contested q).1 ((p.contested q).0 m));
+      balance_is = less (balance s.purses) (balance t.purses) b k l (is k c s o) (is l d t p);
     }
   where
     less : (a d b k l : ℤ) → a ≡ b -ℤ k → d ≡ b -ℤ l → a ≡ d +ℤ (l -ℤ k)
     less a d b k l e f = omega (arith, ints, e, f)
+
+-- what the balance of the one is, by that of the other and the two komi
+pub balance_less : (a b k l : ℤ) → b ≡ a +ℤ (l -ℤ k) → a ≡ (b +ℤ k) -ℤ l
+balance_less a b k l e = omega (arith, ints, e)
 
 pub stones_serve : (x : Ground) (k l : ℤ) (c : Colour) (s t u : Whole) (ps : List ℕ) → OpensWith x k c s → Plays s (stones ps) t → OpensWith x l c u
     → (v : Whole) × Plays u (stones ps) v

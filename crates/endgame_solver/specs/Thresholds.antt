@@ -22,6 +22,10 @@ abbrev pub BlackWins : Colour → Tree → Type 0
 BlackWins Black G = ¬ LosesGame Black G
 BlackWins White G = LosesGame White G
 
+-- the threshold after these stones, the first of the player, on each ground that the state opens with this komi
+abbrev pub IsThresholdFrom : Whole → ℤ → Colour → List ℕ → ℤ → Type 0
+IsThresholdFrom s k c ps K = (x : Ground) → OpensWith x k s.side s → IsThresholdAfter x c ps K
+
 -- exactly one whole number has the property
 abbrev pub HasOne : (ℤ → Type 0) → Type 0
 HasOne P = (K : ℤ) × P K × ((L : ℤ) → P L → L ≡ K)
