@@ -72,7 +72,7 @@ bounds Ts [] w = tt
 bounds Ts (id ∷ ids) w = (w 0 (omega arith), bounds Ts ids (λ j lt. w (suc j) (omega (arith, lt))))
 
 -- the games and the number fit a search
-bounded : (Ts : List Tree) (ids : List ℕ) (x : ℤ) → length ids ≤ 625 → ((j : ℕ) → j < length ids → AreWithin most_units (tree_at Ts (get_or ids j 0)))
+pub bounded : (Ts : List Tree) (ids : List ℕ) (x : ℤ) → length ids ≤ 625 → ((j : ℕ) → j < length ids → AreWithin most_units (tree_at Ts (get_or ids j 0)))
     → unsigned_abs x ≤ 2 ^ 110 → IsBounded (pick Ts ids) x
 bounded Ts ids x few w small =
     let most : length ids * most_units ≤ 625 * most_units = mul-le-mul_right most_units few in
@@ -127,12 +127,16 @@ module _ {g : Board} {regions : List Region} {graphs : List Graph} {values : Lis
         (cells, (holds.long, holds.local), (known, value));
   }
 
-  -- the sum fits a search, whatever small number is beside it
-  pub fits : (ids : List ℕ) → AreSummed regions values places ids → (m : Purses) → AreModest m → IsBounded (pick Ts ids) (balance m *ℤ pos (2 ^ 59))
-  fits ids summed m few = bounded Ts ids (balance m *ℤ pos (2 ^ 59)) (omega (arith, summed.many, are.few)) (λ j lt.
+  -- the numbers of the present values are small
+  pub small_values : (ids : List ℕ) → AreSummed regions values places ids → (j : ℕ) → j < length ids → AreWithin most_units (tree_at Ts (get_or ids j 0))
+  small_values ids summed j lt =
       let known : j < length regions = omega (arith, lt, summed.many) in
       subst (λ z. AreWithin most_units (tree_at Ts z)) (sym (summed.each j known))
-      (are.within j (place_at places j) known (place_inside j known))) (small_units m few)
+      (are.within j (place_at places j) known (place_inside j known))
+
+  -- the sum fits a search, whatever small number is beside it
+  pub fits : (ids : List ℕ) → AreSummed regions values places ids → (m : Purses) → AreModest m → IsBounded (pick Ts ids) (balance m *ℤ pos (2 ^ 59))
+  fits ids summed m few = bounded Ts ids (balance m *ℤ pos (2 ^ 59)) (omega (arith, summed.many, are.few)) (small_values ids summed) (small_units m few)
 
   keeps : Keeps g s
   keeps = record { walls = at.walls; contested = at.contested }
@@ -141,14 +145,18 @@ module _ {g : Board} {regions : List Region} {graphs : List Graph} {values : Lis
   calm r (k, lt, e) = subst (λ x. HasNoCycle x.touch x.cells) (get_or_default regions k no_region r lt ∙ e) (are.cut.each k lt).no_cycle
 
   -- Who loses is the sign of the sum of any ids of the present values and of the balance.
-  pub decided : (ids : List ℕ) → ArePresent (record { regions = regions; trees = Ts; state = s }) ids
-      → (MoverWins Whole Leads s ⊎ MoverLoses Whole Leads s) × (MoverLoses Whole Leads s ↔ LosesGame s.side (sum_tree Ts ids (balance_units s)))
-  decided ids present =
-      let d = decided_by_values g are.settled regions are.cut.cut calm s Ts ids keeps present.many (λ j lt.
+  pub decided_beside : (ids : List ℕ) → ArePresent (record { regions = regions; trees = Ts; state = s }) ids
+      → (MoverWins Whole Leads s ⊎ MoverLoses Whole Leads s) × (MoverLoses Whole Leads s ↔ LosesGame s.side (total (pick Ts ids) +ᵍ num 1 (balance s.purses)))
+  decided_beside ids present = decided_by_values g are.settled regions are.cut.cut calm s Ts ids keeps present.many (λ j lt.
       let (cells, has, holds) = at.shown j lt in
       let (others, here, (known, value)) = present.each j lt in
       let same = one_cells (region_at regions j) others cells s.board here (holds.long, holds.local) in
-      (cells, (has.at.reachable, holds), subst (λ x. IsValueOf (region_at regions j).touch x (tree_at Ts (get_or ids j 0))) same value)) in
+      (cells, (has.at.reachable, holds), subst (λ x. IsValueOf (region_at regions j).touch x (tree_at Ts (get_or ids j 0))) same value))
+
+  pub decided : (ids : List ℕ) → ArePresent (record { regions = regions; trees = Ts; state = s }) ids
+      → (MoverWins Whole Leads s ⊎ MoverLoses Whole Leads s) × (MoverLoses Whole Leads s ↔ LosesGame s.side (sum_tree Ts ids (balance_units s)))
+  decided ids present =
+      let d = decided_beside ids present in
       let same : num 1 (balance s.purses) ≡ num 60 (balance_units s) = sym (num-scaled 59 1 (balance s.purses)) in (
         d.0,
         (

@@ -7,3 +7,6 @@ pub mod BookkeepingLaws
 pub mod BeginLaws
 pub mod HeldLaws
 pub mod WinningLaws
+pub mod ThresholdLaws
+pub mod SumThresholdLaws
+pub mod MarginLaws

@@ -1,6 +1,6 @@
 -- The whole game over its regions of play: its moves are the local moves of the regions and those on purses and token, and who
 -- loses is the sign of a sum.
-use Rattle.std.proofs.Common.{ℕ, zero, suc, ◌≡◌, ◌⊎◌, ◌↔◌, ◌+◌, ◌^◌, ◌<◌, ◌≤◌, arith, inl, inr, refl, sym, ap, ◌∙◌, subst, List, [], ◌∷◌, ◌++◌, length, get_or, Contains, length-set}
+use Rattle.std.proofs.Common.{ℕ, zero, suc, ◌≡◌, ◌⊎◌, ◌↔◌, ◌+◌, ◌^◌, ◌<◌, ◌≤◌, arith, inl, inr, refl, sym, ap, ◌∙◌, subst, List, [], ◌∷◌, ◌++◌, length, get_or, Contains, length-set, ℤ, Bool}
 use Rattle.std.proofs.lemmas.Bool.{cases_eq, cases_lt}
 use Rattle.std.proofs.lemmas.List.{ext_get_or, get_or_default}
 use Rattle.std.proofs.lemmas.List.Elements.{Contains-get_or}
@@ -21,6 +21,7 @@ use Rattle.whole_rules.specs.declared.money.Purses.{Purses}
 use Rattle.whole_rules.specs.declared.states.Move.{Move}
 use Rattle.whole_rules.specs.declared.states.Move.TheVariants.{Stone, Spend, Half}
 use Rattle.whole_rules.specs.Purses.{paid_in, paid_out, halved}
+use Rattle.whole_rules.specs.Opening.{IsOpening}
 use Rattle.whole_rules.specs.PlainRecursion.{MoverWins, MoverLoses}
 use Rattle.whole_rules.specs.Walls.{Plays}
 use Rattle.whole_rules.specs.WholeGame.{Whole}
@@ -341,7 +342,7 @@ module _ (g : Board) (settled : IsSettled g) (regions : List Region) (are : AreR
       let number' = subst (IsNumberTaken h after) taken ((local.taken y.taken).1 number) in
       (get_or r.points i 0, (after, Contains-get_or r.points i 0 short, placed, number', subst (IsHeld g regions after k) to held, stay))
 
-  cell_play : IsLocalPlay Position Moves (IsPointOf regions) (IsHeld g regions) g (length regions)
+  pub cell_play : IsLocalPlay Position Moves (IsPointOf regions) (IsHeld g regions) g (length regions)
   cell_play = record {
     covers = λ p contested. (let w = only_region g regions are p no_region contested in (w.0, w.1, w.2));
     within = λ k p lt in'. point_contested g (region_at regions k) (are.each (region_at regions k) (region_in k lt)) p in';
@@ -461,6 +462,19 @@ module _ (g : Board) (settled : IsSettled g) (regions : List Region) (are : AreR
               (λ x. loses-same t.side _ _ same (d.1.0 x), λ x. d.1.1 (loses-same t.side _ _ (same-sym _ _ same) x)),
         )
 
+    -- who loses a state is told by the parts that another state with its board shows
+    pub decided_alike : (t : Whole) (v : State Position) → SeenAs t v → (u : Whole) → Keeps g u → u.board ≡ t.board
+        → (MoverWins Whole whole.Leads u ⊎ MoverLoses Whole whole.Leads u)
+        × (MoverLoses Whole whole.Leads u ↔ LosesGame u.side (parts_tree Position Moves Depth v.parts +ᵍ num 1 (balance u.purses)))
+    decided_alike t v w u keeps same =
+        let shown = subst (λ h. AreHeld h 0 v.parts) (sym same) w.1.shown in
+        let seen : SeenAs u (record { parts = v.parts; purses = u.purses; side = u.side }) =
+        (keeps, record { count = w.1.count; shown = shown; purses = refl; turn = refl }) in
+        let d = whole_decomposes Position Moves (IsPointOf regions) (IsHeld g regions) g settled (length regions) cell_play
+        (Most + 1) Depth u (record { parts = v.parts; purses = u.purses; side = u.side }) few_cells (all_end u.board 0 v.parts shown) seen in
+        let money = same-plus _ _ _ _ (same-refl (parts_tree Position Moves Depth v.parts)) (purses-balance u.purses) in
+        (d.0, (λ x. loses-same u.side _ _ money (d.1.0 x), λ x. d.1.1 (loses-same u.side _ _ (same-sym _ _ money) x)))
+
     -- values of positions that a board holds are as good as some trees of them
     valued : (h : Board) (Ts : List Tree) (rs : List Region) (ids : List ℕ) → length ids ≡ length rs
         → ((j : ℕ) → j < length rs → (cells : List Cell) × HoldsPosition g (get_or rs j no_region) cells h
@@ -488,12 +502,35 @@ module _ (g : Board) (settled : IsSettled g) (regions : List Region) (are : AreR
         let same' : (total trees +ᵍ money_tree s.purses) ≡ᵍ (total (pick Ts ids) +ᵍ num 1 (balance s.purses)) = same-plus _ _ _ _ same money in
         (d.0, (λ x. loses-same s.side _ _ same' ((d.1 trees on).0 x), λ x. (d.1 trees on).1 (loses-same s.side _ _ (same-sym _ _ same') x)))
 
-pub decomposes_whole : WholeDecomposes
-decomposes_whole g regions black white komi side tax s t ms settled are calm opening plays =
+-- each state that moves reach from an opening is seen as its regions
+pub seen_from_opening : (g : Board) (settled : IsSettled g) (regions : List Region) (are : AreRegionsOfPlay g regions) (black white : ℕ) (komi : ℤ)
+    (side : Colour) (tax : Bool) (s t : Whole) (ms : List Move) → IsOpening g black white komi side tax s → Plays s ms t
+    → (v : State Position) × SeenAs g settled regions are t v
+seen_from_opening g settled regions are black white komi side tax s t ms opening plays =
     let start : (j : ℕ) → j < length regions → (cells : List Cell) × HoldsReached g settled regions are s.board j cells = λ j lt.
     let r = region_at regions j in
     let play = are.each r (Contains-get_or regions j no_region lt) in
     (r.cells, (([], refl), subst (HoldsPosition g r r.cells) (sym opening.board) (holds_start g r play play.proper.full))) in
     let (u, seen) = seen_now g settled regions are s (keeps_start g black white komi side tax s opening) start in
-    let (v, seen') = seen_plays g settled regions are s t ms u seen plays in
-    decided g settled regions are calm t v seen'
+    seen_plays g settled regions are s t ms u seen plays
+
+pub decomposes_whole : WholeDecomposes
+decomposes_whole g regions black white komi side tax s t ms settled are calm opening plays =
+    let (v, seen) = seen_from_opening g settled regions are black white komi side tax s t ms opening plays in
+    decided g settled regions are calm t v seen
+
+-- Who loses a state with the board of an opening is the sign of the sum of any trees of the regions and of the balance.
+pub decided_by_trees : (g : Board) (settled : IsSettled g) (regions : List Region) (are : AreRegionsOfPlay g regions)
+    (calm : (r : Region) → Contains regions r → HasNoCycle r.touch r.cells) (t : Whole) (v : State Position) → SeenAs g settled regions are t v
+    → (trees : Trees) → AreTreesOn g t.board regions trees
+    → (MoverWins Whole whole.Leads t ⊎ MoverLoses Whole whole.Leads t)
+    × (MoverLoses Whole whole.Leads t ↔ LosesGame t.side (total trees +ᵍ num 1 (balance t.purses)))
+decided_by_trees g settled regions are calm t v seen trees on =
+    let d = decided g settled regions are calm t v seen in
+    let money = same-plus _ _ _ _ (same-refl (total trees)) (same-trans _ _ _ (same-sym _ _ (money_same t.purses)) (purses-balance t.purses)) in (
+      d.0,
+      (
+        λ x. loses-same t.side _ _ money ((d.1 trees on).0 x),
+        λ x. (d.1 trees on).1 (loses-same t.side _ _ (same-sym _ _ money) x),
+      ),
+    )

@@ -1,5 +1,5 @@
 -- Who wins the present state, and by which moves; and that what is read of the graphs and the values in the book is what they are.
-use Rattle.std.proofs.Common.{ℕ, zero, suc, ◌≡◌, ◌↔◌, ◌+◌, ◌*ℤ◌, ◌^◌, ◌<◌, ◌≤◌, ℤ, pos, inl, inr, refl, sym, ap, ◌∙◌, subst, arith, List, [], length, get_or, set, map, Bool, IsTrue, Option, Some, None, Contains, Ok}
+use Rattle.std.proofs.Common.{ℕ, zero, suc, ◌≡◌, ◌≢◌, ◌↔◌, ◌+◌, ◌*ℤ◌, ◌^◌, ◌<◌, ◌≤◌, ℤ, pos, inl, inr, refl, sym, ap, ◌∙◌, subst, arith, List, [], length, get_or, set, map, Bool, IsTrue, Option, Some, None, Contains, Ok}
 use Rattle.std.proofs.lemmas.Bool.{cases_eq, cases_lt}
 use Rattle.std.proofs.lemmas.List.{ext_get_or, get_or-map, get_or_default, length-map}
 use Rattle.go_grid.specs.declared.grid.Colour.{Colour}
@@ -8,11 +8,12 @@ use Rattle.go_grid.specs.Board.{other, stone}
 use Rattle.go_grid.proofs.BoardLemmas.{not_other}
 use Rattle.go_grid.specs.Region.{Region}
 use Rattle.whole_rules.specs.declared.money.Purses.{Purses}
+use Rattle.whole_rules.specs.declared.money.Token.TheVariants.{Nobody}
 use Rattle.whole_rules.specs.declared.states.Move.{Move}
 use Rattle.whole_rules.specs.declared.states.Move.TheVariants.{Stone, Spend, Half}
 use Rattle.whole_rules.specs.FirstWinningMove.{IsFirstWinning, IsWinner, IsWinning}
 use Rattle.whole_rules.specs.PlainRecursion.{WinsWithin, MoverLoses, MoverWins}
-use Rattle.whole_rules.specs.Purses.{purse, paid_in, paid_out}
+use Rattle.whole_rules.specs.Purses.{purse, paid_in, paid_out, halved}
 use Rattle.whole_rules.specs.WholeGame.{Whole, IsLegal, IsMove, Leads, after, rank}
 use Rattle.whole_rules.proofs.OutcomeLaws.{wins-not_loses}
 use Rattle.local_graph.specs.declared.graph.Edge.{Edge}
@@ -118,14 +119,38 @@ module _ {regions : List Region} {graphs : List Graph} {values : List (List ℕ)
       by zero w = absurd w
       by (suc n) (t, (m, move), loses) = half m (t, move, (n, loses))
 
--- a point given back wins where the sum is then lost
-pub spend_wins : {regions : List Region} {graphs : List Graph} {values : List (List ℕ)} {places ids : List ℕ} {Ts : List Tree} {s : Whole}
-    {c : Colour} {m : Purses} {x : ℤ} {b : Bool} → AreSolvedAt regions graphs values places ids Ts s → 1 ≤ purse s.side s.purses
-    → c ≡ other s.side → m ≡ paid_out s.side s.purses → x ≡ balance m *ℤ pos (2 ^ 59) → IsTrue b ↔ LosesGame c (sum_tree Ts ids x)
-    → IsTrue b ↔ IsWinning s Spend
-spend_wins {s = s} kept some side purses number answer = wins_by s Spend (after s.board (paid_out s.side s.purses) s, (some, refl)) (λ t m.
-    let later = kept_applied kept Spend (λ p e. cc) t (Ok tt) m in
-    by_search later (side ∙ sym (ap (λ z. z.side) m.1)) (purses ∙ sym (ap (λ z. z.purses) m.1)) number answer)
+-- a move on the purses and the token wins where the sum is then lost
+money_wins : {regions : List Region} {graphs : List Graph} {values : List (List ℕ)} {places ids : List ℕ} {Ts : List Tree}
+    {c : Colour} {m : Purses} {x : ℤ} {b : Bool} (s : Whole) (move : Move) (ms : Purses) → IsLegal s move
+    → ((t : Whole) → IsMove s move t → AreSolvedAt regions graphs values places ids Ts t × (t ≡ after s.board ms s))
+    → c ≡ other s.side → m ≡ ms → x ≡ balance m *ℤ pos (2 ^ 59) → IsTrue b ↔ LosesGame c (sum_tree Ts ids x) → IsTrue b ↔ IsWinning s move
+money_wins s move ms legal each side purses number answer = wins_by s move legal (λ t m.
+    let (later, is) = each t m in
+    by_search later (side ∙ sym (ap (λ z. z.side) is)) (purses ∙ sym (ap (λ z. z.purses) is)) number answer)
+
+module _ {regions : List Region} {graphs : List Graph} {values : List (List ℕ)} {places ids : List ℕ} {Ts : List Tree} {s : Whole}
+    (kept : AreSolvedAt regions graphs values places ids Ts s) where
+  half_legal : s.purses.token ≢ Nobody → IsLegal s Half
+  half_legal some = (after s.board (halved s.side s.purses) s, (some, refl))
+
+  half_kept : (t : Whole) → IsMove s Half t → AreSolvedAt regions graphs values places ids Ts t
+  half_kept t m = kept_applied kept Half (λ p e. cc) t (Ok tt) m
+
+  -- the purses stay modest after a move on the token
+  pub half_modest : {m : Purses} → s.purses.token ≢ Nobody → m ≡ halved s.side s.purses → AreModest m
+  half_modest some is = let room = (half_kept (after s.board (halved s.side s.purses) s) (some, refl)).room.room in
+      subst AreModest (sym is) (modest (λ c. omega (arith, room c)))
+
+  module _ {c : Colour} {m : Purses} {x : ℤ} {b : Bool} (side : c ≡ other s.side) where
+    pub spend_wins : 1 ≤ purse s.side s.purses → m ≡ paid_out s.side s.purses → x ≡ balance m *ℤ pos (2 ^ 59)
+        → IsTrue b ↔ LosesGame c (sum_tree Ts ids x) → IsTrue b ↔ IsWinning s Spend
+    spend_wins some purses number answer = money_wins s Spend (paid_out s.side s.purses) (after s.board (paid_out s.side s.purses) s, (some, refl))
+        (λ t move. (kept_applied kept Spend (λ p e. cc) t (Ok tt) move, move.1)) side purses number answer
+
+    pub half_wins : s.purses.token ≢ Nobody → m ≡ halved s.side s.purses → x ≡ balance m *ℤ pos (2 ^ 59)
+        → IsTrue b ↔ LosesGame c (sum_tree Ts ids x) → IsTrue b ↔ IsWinning s Half
+    half_wins some purses number answer = money_wins s Half (halved s.side s.purses) (half_legal some)
+        (λ t move. (half_kept t move, move.1)) side purses number answer
 
 -- Looking for the edge of a stone, and for the first stone that wins.
 
@@ -289,7 +314,7 @@ module _ {regions rs : List Region} {book : Book} {places ps ids : List ℕ} {Ts
 
   module _ {p k : ℕ} {e : Edge} (found : (graphs : List Graph) (values : List (List ℕ)) → ShowsAll book graphs values (length rs)
       → IsStoneEdge rs graphs ps d p k e) where
-    stone_seen : IsStoneEdge regions held.graphs places s.side p k e
+    pub stone_seen : IsStoneEdge regions held.graphs places s.side p k e
     stone_seen = edge_seen held.graphs p k e lent at side (found held.graphs held.values shows_lent)
 
     pub stone_has : HasValue book k e.next
@@ -304,26 +329,26 @@ module _ {regions rs : List Region} {book : Book} {places ps ids : List ℕ} {Ts
 
     module _ {v : ℕ} (value : v ≡ get_or (seen_ids book k) e.next 0) where
       -- the game after it
-      kept_after : (t : Whole) → IsMove s (Stone p) t → AreSolvedAt regions held.graphs held.values (set places k e.next) (set ids k v) Ts t
-      kept_after t m = kept_stone held.kept t stone_seen (value ∙ ap (λ z. get_or z e.next 0) (ids_seen held stone_seen.known)) m
+      pub stone_kept : (t : Whole) → IsMove s (Stone p) t → AreSolvedAt regions held.graphs held.values (set places k e.next) (set ids k v) Ts t
+      stone_kept t m = kept_stone held.kept t stone_seen (value ∙ ap (λ z. get_or z e.next 0) (ids_seen held stone_seen.known)) m
 
       pub stone_held : (t : Whole) → IsMove s (Stone p) t → IsHeldInBook regions book (set places k e.next) (set ids k v) Ts t
-      stone_held t m = held_as held (kept_after t m)
+      stone_held t m = held_as held (stone_kept t m)
 
-      legal : IsLegal s (Stone p)
-      legal = stone_legal held.kept.solved held.kept.at stone_seen
+      pub stone_is_legal : IsLegal s (Stone p)
+      stone_is_legal = stone_legal held.kept.solved held.kept.at stone_seen
 
       pub stone_known : AreIds Ts (set ids k v)
-      stone_known j lt = let w = kept_after legal.0 legal.1 in ((now w).each j (omega (arith, lt, w.summed.many))).2.0
+      stone_known j lt = let w = stone_kept stone_is_legal.0 stone_is_legal.1 in ((now w).each j (omega (arith, lt, w.summed.many))).2.0
 
       module _ {n : ℕ} {m : Purses} {x : ℤ} (taken : n ≡ e.taken) (paid : m ≡ paid_in d n s.purses)
           (number : x ≡ balance m *ℤ pos (2 ^ 59)) where
         pub stone_bounds : IsBounded (pick Ts (set ids k v)) x
-        stone_bounds = held_bounds (stone_held legal.0 legal.1) (stone_modest taken paid) number
+        stone_bounds = held_bounds (stone_held stone_is_legal.0 stone_is_legal.1) (stone_modest taken paid) number
 
         pub stone_wins : {b : Bool} {o : Colour} → o ≡ other d → IsTrue b ↔ LosesGame o (sum_tree Ts (set ids k v) x)
             → IsTrue b ↔ IsWinning s (Stone p)
-        stone_wins turn answer = wins_by s (Stone p) legal (λ t move.
+        stone_wins turn answer = wins_by s (Stone p) stone_is_legal (λ t move.
             let leads = stone_leads held.kept.solved held.kept.at t stone_seen move in
             let purses = paid ∙ (λ i. paid_in (side i) (taken i) s.purses) ∙ sym leads.purses in
-            by_search (kept_after t move) (turn ∙ ap other side ∙ sym leads.turn) purses number answer)
+            by_search (stone_kept t move) (turn ∙ ap other side ∙ sym leads.turn) purses number answer)

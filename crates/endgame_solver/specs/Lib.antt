@@ -5,6 +5,7 @@ pub mod Decomposition
 pub mod ShapeValues
 pub mod Bookkeeping
 pub mod Faults
+pub mod Thresholds
 pub mod Solved
 pub mod Code
 pub mod inner

@@ -6,3 +6,4 @@ pub mod WholeParts
 pub mod Held
 pub mod Views
 pub mod Regions
+pub mod Thresholds

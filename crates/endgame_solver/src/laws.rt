@@ -1,9 +1,10 @@
-//! The decomposition law, and that shapes keep values.
+//! The decomposition law, that shapes keep values, and that thresholds exist.
 
 ghost use Rattle.endgame_solver.specs.Decomposition.{WholeDecomposes};
 ghost use Rattle.endgame_solver.specs.Laws.{Decomposes, PursesAreBalance};
 ghost use Rattle.endgame_solver.specs.Bookkeeping.{PursesFollow, RegionsFollow};
 ghost use Rattle.endgame_solver.specs.ShapeValues.{ShapesKeepValues};
+ghost use Rattle.endgame_solver.specs.Thresholds.{FirstMoveCostsAHalf, StonesServeEachKomi, ThresholdIsInSum, ThresholdsExist};
 
 /// Who loses is the sign of a sum (Müller 1999): of any game of several parts, none of which has a cycle, and of the whole
 /// game over the regions of play. It has no code.
@@ -18,4 +19,13 @@ pub fn decomposition_laws()
 /// Positions of one shape have equal trees, or each is the other's negative where the colours are exchanged. It has no code.
 pub fn shape_laws()
     ensures { ShapesKeepValues }
+{}
+
+/// On a settled board whose regions have no cycle there is exactly one threshold for each player who moves first and after
+/// all stones, Black's is at least White's less one half, and it stands in the sum of the regions' trees. It has no code.
+pub fn threshold_laws()
+    ensures stones { StonesServeEachKomi }
+    ensures exist { ThresholdsExist }
+    ensures half { FirstMoveCostsAHalf }
+    ensures sum { ThresholdIsInSum }
 {}

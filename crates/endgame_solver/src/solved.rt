@@ -1,23 +1,27 @@
 //! Solved games.
 
-ghost use Rattle.std.specs.Prelude.{◌≡◌, ℕ, ◌+◌, ◌<◌, ◌≤◌, ◌↔◌, List, length, None, IfOk};
+ghost use Rattle.std.specs.Prelude.{◌≡◌, ℕ, ◌+◌, ◌<◌, ◌≤◌, ◌↔◌, List, [], ◌∷◌, length, None, IfOk, IsTrue, MatchOption};
 ghost use Rattle.go_grid.specs.Region.{Region};
 ghost use Rattle.go_grid.specs.Board.{other};
-ghost use Rattle.whole_rules.specs.FirstWinningMove.{IsFirstWinning, IsLosing, IsWinner};
-ghost use Rattle.whole_rules.specs.WholeGame.{Applies};
+ghost use Rattle.whole_rules.specs.declared.states.Move.TheVariants.{Stone};
+ghost use Rattle.whole_rules.specs.FirstWinningMove.{IsFirstWinning, IsLosing, IsWinner, IsWinning};
+ghost use Rattle.whole_rules.specs.WholeGame.{Applies, IsLegal};
 ghost use Rattle.sum_outcome.specs.Memo.{Fits};
 ghost use Rattle.sum_outcome.specs.Players.{LosesGame};
 ghost use Rattle.sum_outcome.specs.Sums.{sum_tree};
 ghost use Rattle.endgame_solver.specs.Regions.{region_at};
 ghost use Rattle.endgame_solver.specs.Faults.{most_steps};
+ghost use Rattle.endgame_solver.specs.Thresholds.{IsThresholdFrom};
 ghost use Rattle.region_cut.specs.Cut.{AreRegionsOfPlay};
 ghost use Rattle.sgf_go.specs.Position.{IsFit};
 ghost use Rattle.endgame_solver.specs.Solved.{Begun, IsNumberOfShapes, IsPresent, ArePresent, IsReport, balance_units};
 
 use crate::faults::SolveError;
 use crate::limits::Limits;
+use crate::outcomes::outcome;
 use crate::region_values::solve_regions;
 use crate::regions_of_play::{first_large, opening_of, start_of};
+use crate::thresholds::{margin, raised, stone_margin};
 use crate::view_book::Book;
 use crate::winning_moves::{
     Present, balance_of, first_winning_move, mover_loses, positions_seen, stone_edge, value_seen,
@@ -227,6 +231,59 @@ impl Solved {
             store: &self.store,
         };
         first_winning_move(&present, &mut self.search, &mut self.sum)
+    }
+
+    /// Up to which komi, in half-points, Black wins where this player moves first, and the board and the prisoners are those
+    /// with which the present state opens with the given komi.
+    pub fn threshold(&mut self, komi_halves: i64, first: Colour) -> i64
+        ensures threshold { IsThresholdFrom self.old.state komi_halves first [] result }
+        ensures same { self.new ≡ self.old }
+    {
+        let present = Present {
+            whole: &self.whole,
+            regions: &self.regions,
+            book: &self.book,
+            places: &self.places,
+            store: &self.store,
+        };
+        let beyond = margin(&present, &mut self.search, &mut self.sum, first);
+        raised(komi_halves, beyond)
+    }
+
+    /// Up to which komi, in half-points, Black wins after a stone of the side to move, where the board and the prisoners are
+    /// those with which the present state opens with the given komi. None exactly where the stone is illegal.
+    pub fn stone_threshold(&mut self, komi_halves: i64, point: Point) -> Option<i64>
+        ensures threshold { MatchOption result (¬ IsLegal self.old.state (Stone point))
+            (λ K. IsLegal self.old.state (Stone point)
+            × IsThresholdFrom self.old.state komi_halves self.old.state.side (point ∷ []) K) }
+        ensures same { self.new ≡ self.old }
+    {
+        let present = Present {
+            whole: &self.whole,
+            regions: &self.regions,
+            book: &self.book,
+            places: &self.places,
+            store: &self.store,
+        };
+        let beyond = stone_margin(&present, &mut self.search, &mut self.sum, point)?;
+        Some(raised(komi_halves, beyond))
+    }
+
+    /// Whether a move of the side to move leads to a state whose mover loses. None exactly where the move is illegal.
+    pub fn wins(&mut self, chosen: Move) -> Option<bool>
+        ensures wins { MatchOption result (¬ IsLegal self.old.state chosen)
+            (λ wins. IsLegal self.old.state chosen
+            × (IsTrue wins ↔ IsWinning self.old.state chosen)) }
+        ensures same { self.new ≡ self.old }
+    {
+        let present = Present {
+            whole: &self.whole,
+            regions: &self.regions,
+            book: &self.book,
+            places: &self.places,
+            store: &self.store,
+        };
+        outcome(&present, &mut self.search, &mut self.sum, chosen)
     }
 
     /// Makes a move of the side to move, or leaves the game as it was where the move is illegal, as `Whole::apply` does.

@@ -64,11 +64,21 @@ fn in_halves(points: i128, halves: i128) -> i128
 const HALF_POINT: i128 = 1 << (EXPONENT - 1);
 
 /// So many halves of a point.
-fn of_halves(halves: i128) -> Dyadic
+pub(crate) fn of_halves(halves: i128) -> Dyadic
     requires { unsigned_abs halves ≤ 2 ^ 45 }
     ensures { result ≡ halves *ℤ HALF_POINT }
 {
     Dyadic::from_units(halves * HALF_POINT)
+}
+
+/// Black's purse less White's, with the token, in halves of a point.
+pub(crate) fn balance_halves(purses: Purses) -> i128
+    requires { AreModest purses }
+    ensures halves { result ≡ balance purses }
+    ensures small { unsigned_abs result ≤ 2 ^ 45 }
+{
+    let points = difference(purses.black, purses.white);
+    in_halves(points, token_halves(purses.token))
 }
 
 /// Black's purse less White's, with the token's half.
@@ -76,8 +86,7 @@ pub(crate) fn balance_of(purses: Purses) -> Dyadic
     requires { AreModest purses }
     ensures { result ≡ balance purses *ℤ pos (2 ^ 59) }
 {
-    let points = difference(purses.black, purses.white);
-    of_halves(in_halves(points, token_halves(purses.token)))
+    of_halves(balance_halves(purses))
 }
 
 /// Whether the two are the same.

@@ -5,3 +5,4 @@ pub mod TextLaws
 pub mod ValuesLaws
 pub mod ChainLaws
 pub mod TrialLaws
+pub mod AnalysisLaws

@@ -4,4 +4,5 @@ pub mod Chains
 pub mod Safety
 pub mod Values
 pub mod Trial
+pub mod Analysis
 pub mod inner

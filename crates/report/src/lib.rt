@@ -1,12 +1,14 @@
 //! The texts that the commands write.
 #![tactic(auto)]
 
+mod analysis;
 mod chains;
 mod safety;
 mod solution;
 mod trial;
 mod values;
 
+pub use analysis::{margin_text, moves_text};
 pub use chains::ChainLine;
 pub use safety::{CountedLine, safe_text};
 pub use solution::solve_text;

@@ -8,7 +8,7 @@ mod opening;
 mod plain;
 mod states;
 
-pub use laws::whole_laws;
+pub use laws::{opening_laws, whole_laws};
 pub use money::{Purses, Token};
 pub use plain::plain_winner;
 pub use states::{Move, MoveError, Whole};

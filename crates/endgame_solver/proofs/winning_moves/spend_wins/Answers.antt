@@ -16,4 +16,4 @@ returns-clause-wins c =
     let purses = c.paid_out-purses.ensures ∙ (λ i. paid_out (c.side-side.ensures i) (c.purses.ensures i)) in
     let purse_is = c.purse.ensures ∙ ap (λ d. purse d s.purses) c.side-side.ensures in
     let one : 1 ≤ purse s.side s.purses = omega (arith, c.if-purse-eq0.false, purse_is) in
-    spend_wins c.requires.seen.kept one (c.other.ensures ∙ ap other c.side-side.ensures) purses c.balance_of.ensures c.loses.ensures.answer
+    spend_wins c.requires.seen.kept (c.other.ensures ∙ ap other c.side-side.ensures) one purses c.balance_of.ensures c.loses.ensures.answer

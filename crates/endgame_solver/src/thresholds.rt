@@ -1,0 +1,244 @@
+//! By how much a state is won: the least number beside the sum of the present values with which Black wins.
+
+ghost use Rattle.std.specs.Prelude.{◌≡◌, ℕ, ◌+◌, ◌*◌, ◌<◌, ◌≤◌, ◌^◌, ℤ, pos, ◌+ℤ◌, ◌-ℤ◌, ◌*ℤ◌, ◌<ℤ◌, unsigned_abs, ◌↔◌, List, [], ◌∷◌, IfSome, IsTrue, MatchOption, length};
+ghost use Rattle.go_grid.specs.declared.grid.TheConstants.{MOST_POINTS};
+ghost use Rattle.whole_rules.specs.declared.states.Move.TheVariants.{Stone};
+ghost use Rattle.whole_rules.specs.WholeGame.{IsLegal};
+ghost use Rattle.short_games.specs.Tree.{Tree, tree_at};
+ghost use Rattle.short_games.specs.Number.{num};
+ghost use Rattle.short_games.specs.Sum.{◌+ᵍ◌, total};
+ghost use Rattle.game_store.specs.Meaning.{pick};
+ghost use Rattle.game_canon.specs.Outcomes.{AreWithin};
+ghost use Rattle.sum_outcome.specs.Memo.{Fits};
+ghost use Rattle.sum_outcome.specs.Players.{LosesGame};
+ghost use Rattle.endgame_solver.specs.Thresholds.{BlackWins};
+ghost use Rattle.endgame_solver.specs.inner.Held.{most_units};
+ghost use Rattle.endgame_solver.specs.inner.Thresholds.{AreModestGames, IsLeastWin, IsMargin, LiesBetween};
+ghost use Rattle.endgame_solver.specs.inner.Views.{IsSeen};
+
+use crate::winning_moves::{Present, balance_halves, of_halves, stone_edge, value_seen};
+use dyadic_num::Dyadic;
+use game_stops::{left_stop, right_stop};
+use game_store::{GameId, Store};
+use go_grid::{Colour, Point};
+use sum_outcome::Search;
+
+/// What the right stops of games add up to, and their left stops, in the parts of a `Dyadic`. The sum of the games is at
+/// least each number below the first, and at most each number above the second.
+#[derive(Clone, Copy)]
+pub(crate) struct StopSums {
+    pub right: i128,
+    pub left: i128,
+}
+
+impl StopSums {
+    /// Of no games.
+    fn nothing() -> StopSums
+        ensures { result ≡ record { right = pos 0; left = pos 0 } }
+    {
+        StopSums { right: 0, left: 0 }
+    }
+
+    /// Of the games of both.
+    fn plus(self, other: StopSums) -> StopSums
+        requires right { unsigned_abs self.right + unsigned_abs other.right < 2 ^ 120 }
+        requires left { unsigned_abs self.left + unsigned_abs other.left < 2 ^ 120 }
+        ensures { result ≡ record {
+          right = self.right +ℤ other.right;
+          left = self.left +ℤ other.left;
+        } }
+    {
+        StopSums {
+            right: self.right + other.right,
+            left: self.left + other.left,
+        }
+    }
+
+    /// Whether the right stops and the number add up to more than 0.
+    fn is_above(self, number: Dyadic) -> bool
+        requires { unsigned_abs self.right < 2 ^ 120 }
+        ensures { IsTrue result ↔ (pos 0 <ℤ (self.right +ℤ number)) }
+    {
+        self.right + number.units() > 0
+    }
+
+    /// Whether the left stops and the number add up to less than 0.
+    fn is_below(self, number: Dyadic) -> bool
+        requires { unsigned_abs self.left < 2 ^ 120 }
+        ensures { IsTrue result ↔ ((self.left +ℤ number) <ℤ pos 0) }
+    {
+        self.left + number.units() < 0
+    }
+}
+
+/// The stops of a game.
+fn stops_at(store: &Store, id: GameId) -> StopSums
+    requires known { id < length store.now }
+    requires within { AreWithin most_units (tree_at store.now id) }
+    ensures { LiesBetween (tree_at store.now id) most_units result }
+{
+    let _canonical = store.node(id);
+    StopSums {
+        right: right_stop(store, id).units(),
+        left: left_stop(store, id).units(),
+    }
+}
+
+/// The stops of the games of a sum, added up.
+fn stops_of(store: &Store, sum: &[GameId]) -> StopSums
+    requires { AreModestGames store.now sum.now }
+    ensures { LiesBetween (total (pick store.now sum.now)) (MOST_POINTS * most_units) result }
+{
+    let mut stops = StopSums::nothing();
+    'adding: for id in sum {
+        stops = stops.plus(stops_at(store, *id));
+    }
+    stops
+}
+
+/// Whether Black wins a game that the player who moves first loses or not.
+fn wins_where(first: Colour, lost: bool) -> bool
+    ensures { (G : Tree) → IsTrue lost ↔ LosesGame first G → IsTrue result ↔ BlackWins first G }
+{
+    match first {
+        Colour::Black => !lost,
+        Colour::White => lost,
+    }
+}
+
+/// So many halves of a point.
+fn number_of(halves: i64) -> Dyadic
+    requires { unsigned_abs halves ≤ 2 ^ 37 }
+    ensures { result ≡ halves *ℤ pos (2 ^ 59) }
+{
+    of_halves(i128::from(halves))
+}
+
+/// Whether Black wins the sum beside so many halves of a point, where this player moves first. Where the stops don't tell
+/// it, the search does.
+fn black_wins(
+    store: &Store,
+    search: &mut Search,
+    sum: &mut [GameId],
+    stops: StopSums,
+    first: Colour,
+    halves: i64,
+) -> bool
+    requires games { AreModestGames store.now sum.old }
+    requires stops { LiesBetween (total (pick store.now sum.old)) (MOST_POINTS * most_units) stops }
+    requires halves { unsigned_abs halves ≤ 2 ^ 37 }
+    requires fits { Fits store.now search.old }
+    ensures wins { IsTrue result
+        ↔ BlackWins first (total (pick store.now sum.old) +ᵍ num 1 halves) }
+    ensures same { sum.new ≡ sum.old }
+    ensures fits { Fits store.now search.new }
+{
+    let number = number_of(halves);
+    if stops.is_above(number) {
+        return true;
+    }
+    if stops.is_below(number) {
+        return false;
+    }
+    let lost = search.loses(store, sum, number, first);
+    wins_where(first, lost)
+}
+
+/// So many halves of a point more than -2^37, below which no sum lies.
+fn above_least(steps: u64) -> i64
+    requires { steps ≤ 2 ^ 38 }
+    ensures { result ≡ pos steps -ℤ pos (2 ^ 37) }
+{
+    steps as i64 - (1 << 37)
+}
+
+/// The least number of halves of a point beside which Black wins the sum, where this player moves first.
+fn least_win(store: &Store, search: &mut Search, sum: &mut [GameId], first: Colour) -> i64
+    requires games { AreModestGames store.now sum.old }
+    requires fits { Fits store.now search.old }
+    ensures least { IsLeastWin first (total (pick store.now sum.old)) result }
+    ensures small { unsigned_abs result ≤ 2 ^ 37 }
+    ensures same { sum.new ≡ sum.old }
+    ensures fits { Fits store.now search.new }
+{
+    let stops = stops_of(store, sum);
+    let mut lost: u64 = 0;
+    let mut won: u64 = 1 << 38;
+    'halving: while won - lost > 1 {
+        let middle = lost + (won - lost) / 2;
+        if black_wins(store, search, sum, stops, first, above_least(middle)) {
+            won = middle;
+        } else {
+            lost = middle;
+        }
+    }
+    above_least(won)
+}
+
+/// What is left of a balance in halves of a point.
+fn left_of(balance: i128, halves: i64) -> i64
+    requires balance { unsigned_abs balance ≤ 2 ^ 45 }
+    requires halves { unsigned_abs halves ≤ 2 ^ 37 }
+    ensures left { result ≡ balance -ℤ halves }
+    ensures small { unsigned_abs result ≤ 2 ^ 46 }
+{
+    (balance - i128::from(halves)) as i64
+}
+
+/// How many halves of a point the threshold is above the komi, where this player moves first.
+pub(crate) fn margin(
+    present: &Present<'_>,
+    search: &mut Search,
+    sum: &mut [GameId],
+    first: Colour,
+) -> i64
+    requires seen { IsSeen present.now sum.old }
+    requires fits { Fits present.now.store.now search.old }
+    ensures margin { IsMargin present.now.whole.now first [] result }
+    ensures small { unsigned_abs result ≤ 2 ^ 46 }
+    ensures same { sum.new ≡ sum.old }
+    ensures fits { Fits present.now.store.now search.new }
+{
+    let balance = balance_halves(present.whole.purses());
+    left_of(balance, least_win(present.store, search, sum, first))
+}
+
+/// How many halves of a point the threshold of a stone of the side to move is above the komi. None where the stone is
+/// illegal.
+pub(crate) fn stone_margin(
+    present: &Present<'_>,
+    search: &mut Search,
+    sum: &mut [GameId],
+    point: Point,
+) -> Option<i64>
+    requires seen { IsSeen present.now sum.old }
+    requires fits { Fits present.now.store.now search.old }
+    ensures margin { MatchOption result (¬ IsLegal present.now.whole.now (Stone point))
+        (λ n. IsLegal present.now.whole.now (Stone point)
+        × IsMargin present.now.whole.now present.now.whole.now.side (point ∷ []) n) }
+    ensures small { IfSome result (λ n. unsigned_abs n ≤ 2 ^ 46) }
+    ensures same { sum.new ≡ sum.old }
+    ensures fits { Fits present.now.store.now search.new }
+{
+    if !present.whole.contested(point) {
+        return None;
+    }
+    let side = present.whole.side();
+    let Some((k, edge)) = stone_edge(present.regions, present.book, present.places, point, side)
+    else {
+        return None;
+    };
+    let purses = present.whole.purses().paid_in(side, u64::from(edge.taken));
+    let before = sum[k];
+    sum[k] = value_seen(present.book, k, edge.next);
+    let least = least_win(present.store, search, sum, side.other());
+    sum[k] = before;
+    Some(left_of(balance_halves(purses), least))
+}
+
+/// The komi and so many halves more, where 64 bits hold them.
+pub(crate) fn raised(komi: i64, halves: i64) -> i64
+    ensures { unsigned_abs (komi +ℤ halves) < 2 ^ 63 → result ≡ komi +ℤ halves }
+{
+    komi.checked_add(halves).unwrap_or(komi)
+}

@@ -1,0 +1,6 @@
+use Rattle.std.proofs.Common.{◌≡◌, string_bytes}
+use Rattle.report.specs.inner.Analysis.{HasStones}
+use Rattle.report.proofs.analysis.write_stones.Given as goal
+
+abbrev pub invariant-writing : goal.invariant-writing
+invariant-writing l = HasStones l.fn.solved.state l.fn.komi_halves l.number (string_bytes l.fn.text) (string_bytes l.text) × (l.solved ≡ l.fn.solved)

@@ -1,0 +1,84 @@
+-- The texts of `margin` and `moves`.
+use Rattle.std.specs.Prelude.{ℕ, zero, suc, ℤ, pos, negsuc, unsigned_abs, ◌/◌, ◌%◌, ◌≡◌, ◌⊎◌, ◌↔◌, ◌++◌, List, [], ◌∷◌, length, Bool, true, false, IsTrue, codes, decimal}
+use Rattle.go_grid.specs.declared.grid.Colour.{Colour}
+use Rattle.go_grid.specs.declared.grid.Colour.TheVariants.{Black, White}
+use Rattle.go_grid.specs.Name.{point_name}
+use Rattle.whole_rules.specs.declared.states.Move.{Move}
+use Rattle.whole_rules.specs.declared.states.Move.TheVariants.{Stone, Spend, Half}
+use Rattle.whole_rules.specs.FirstWinningMove.{IsWinner, IsWinning}
+use Rattle.whole_rules.specs.WholeGame.{Whole, IsLegal}
+use Rattle.board_words.specs.Words.{colour_word, winner_line, word_line}
+use Rattle.endgame_solver.specs.Thresholds.{IsThresholdFrom}
+
+-- the sign of a komi
+abbrev pub sign_word : ℤ → List ℕ
+sign_word (pos n) = []
+sign_word (negsuc n) = codes "-"
+
+-- what is left of a komi but its whole points
+abbrev pub rest_word : ℕ → List ℕ
+rest_word zero = []
+rest_word (suc n) = codes ".5"
+
+-- a komi of so many half-points, in points
+abbrev pub komi_word : ℤ → List ℕ
+komi_word k = sign_word k ++ (decimal (unsigned_abs k / 2) ++ rest_word (unsigned_abs k % 2))
+
+-- a line of a label and a komi
+unfoldable pub komi_line : List ℕ → ℤ → List ℕ
+komi_line label k = label ++ (codes " " ++ (komi_word k ++ codes "\n"))
+
+-- the lines on the side to move, the komi and the winner
+abbrev pub opening_lines : Colour → ℤ → Colour → List ℕ
+opening_lines side k winner = word_line (codes "side") (colour_word side) ++ (komi_line (codes "komi") k ++ winner_line winner)
+
+-- the lines on the thresholds of Black and of White moving first
+abbrev pub first_lines : ℤ → ℤ → List ℕ
+first_lines black white = komi_line (codes "black first") black ++ komi_line (codes "white first") white
+
+-- the text of `margin` for a state that opens with this komi
+pub record IsMarginText (s : Whole) (k : ℤ) (text : List ℕ) : Type 0 where
+  pub winner : Colour
+  pub black : ℤ
+  pub white : ℤ
+  pub wins : IsWinner s winner
+  pub black_first : IsThresholdFrom s k Black [] black
+  pub white_first : IsThresholdFrom s k White [] white
+  pub is : text ≡ opening_lines s.side k winner ++ first_lines black white
+
+-- the word for a move that wins or doesn't
+abbrev pub outcome_word : Bool → List ℕ
+outcome_word true = codes "wins"
+outcome_word false = codes "loses"
+
+-- the line of a stone: its point, whether it wins, and its threshold
+unfoldable pub stone_line : ℕ → ℕ → Bool → ℤ → List ℕ
+stone_line columns p wins K = codes "stone " ++ (point_name columns p ++ (codes " " ++ komi_line (outcome_word wins) K))
+
+-- what is said of a stone of the side to move: a line where it is legal, and else nothing
+abbrev pub IsStoneText : Whole → ℤ → ℕ → List ℕ → Type 0
+IsStoneText s k p text = (¬ IsLegal s (Stone p) × (text ≡ []))
+    ⊎ (IsLegal s (Stone p) × ((wins : Bool) × ((K : ℤ) × (IsTrue wins ↔ IsWinning s (Stone p)) × IsThresholdFrom s k s.side (p ∷ []) K
+    × (text ≡ stone_line s.board.columns p wins K))))
+
+-- what is said of the stones at the first n points, in their order
+abbrev pub AreStoneTexts : Whole → ℤ → ℕ → List ℕ → Type 0
+AreStoneTexts s k zero text = text ≡ []
+AreStoneTexts s k (suc n) text = (before last : List ℕ) × AreStoneTexts s k n before × IsStoneText s k n last × (text ≡ before ++ last)
+
+-- what is said of a move that is no stone: a line where it is legal, and else nothing
+abbrev pub IsMoveText : Whole → Move → List ℕ → List ℕ → Type 0
+IsMoveText s m label text = (¬ IsLegal s m × (text ≡ []))
+    ⊎ (IsLegal s m × ((wins : Bool) × (IsTrue wins ↔ IsWinning s m) × (text ≡ word_line label (outcome_word wins))))
+
+-- the text of `moves` for a state that opens with this komi
+pub record IsMovesText (s : Whole) (k : ℤ) (text : List ℕ) : Type 0 where
+  pub winner : Colour
+  pub stones : List ℕ
+  pub spend : List ℕ
+  pub half : List ℕ
+  pub wins : IsWinner s winner
+  pub each_stone : AreStoneTexts s k (length s.board.cells) stones
+  pub of_spend : IsMoveText s Spend (codes "spend") spend
+  pub of_half : IsMoveText s Half (codes "half") half
+  pub is : text ≡ opening_lines s.side k winner ++ (stones ++ (spend ++ half))
