@@ -14,7 +14,7 @@ use Rattle.sgf_go.specs.declared.settings.Setup.{Setup}
 use Rattle.sgf_go.proofs.OneReadingLemmas.{not_both, one_setup}
 use Rattle.gd_words.specs.Job.{Job}
 use Rattle.gd_words.specs.Task.{Task}
-use Rattle.gd_words.specs.Task.Task.{calc, gtp, play, safe, solve, trial, values}
+use Rattle.gd_words.specs.Task.Task.{ask, calc, gtp, play, trial}
 use Rattle.endgame_run.specs.Calc.{IsCalc}
 use Rattle.endgame_run.specs.Complete.{HasManyCommands, HasManyLines, IsAnswerable, IsAnswered, IsCalm, IsComplete, IsDone, IsUnrefused, IsWithinLimits}
 use Rattle.endgame_run.specs.Engine.{IsEnginePlay}
@@ -25,13 +25,14 @@ use Rattle.endgame_run.specs.Question.{IsAnswer, IsFileAnswer, IsPositionAnswer}
 use Rattle.endgame_run.specs.Run.{RunsTask}
 use Rattle.endgame_run.specs.Trial.{IsTrialAnswer}
 use Rattle.endgame_run.specs.Written.{Reports}
-use Rattle.endgame_run.specs.declared.question.Question.{Question}
-use Rattle.endgame_run.specs.declared.question.Question.TheVariants as question
+use Rattle.endgame_solver.specs.declared.limits.Limits.{Limits}
+use Rattle.gd_words.specs.declared.job.Question.{Question}
+use Rattle.gd_words.specs.declared.job.Question.TheVariants as question
 use Rattle.endgame_run.specs.declared.status.Status.{Status}
 use Rattle.endgame_run.specs.declared.status.Status.TheVariants.{CannotRead, CannotWrite, Done, Memory, TooManyLines}
 use Rattle.endgame_run.specs.declared.status.Status.TheVariants as status
 use Rattle.endgame_run.proofs.GameWinLaws.{map_told}
-use Rattle.endgame_run.proofs.OneStatusLaws.{file_or_position, safe_is_done, shows_shown, solves_sound}
+use Rattle.endgame_run.proofs.OneStatusLaws.{file_or_position, plain_done, shows_shown, solves_sound}
 use Rattle.endgame_run.proofs.RunLaws.{reason}
 
 -- neither count has risen, and so not that of the object that holds the file
@@ -41,23 +42,26 @@ count_stays word a b calm = go (bytes_eq word (codes "-")) where
   go true = calm.reads
   go false = calm.loads
 
-within_done : (q : Question) (setup : Setup) (s : Status) (text : List ℕ) → IsWithinLimits q setup → IsPositionAnswer q setup s text → s ≡ Done
-within_done (question.Solve limits) setup s text w h = solves_sound limits setup w.0 s text w.1 w.2 h
-within_done (question.Values limits) setup s text w h = shows_shown limits setup w.0 s text w.1 w.2 w.3 h
-within_done question.Safe setup s text w h = safe_is_done setup s text h
+within_done : (q : Question) (limits : Limits) (setup : Setup) (s : Status) (text : List ℕ) → IsWithinLimits q limits setup → IsPositionAnswer q limits setup s text → s ≡ Done
+within_done question.Values limits setup s text w h = shows_shown limits setup w.0 s text w.1 w.2 w.3 h
+within_done question.Solve limits setup s text w h = solves_sound question.Solve limits setup w.0 s text (λ e. absurd cc) w.1 w.2 h
+within_done question.Margin limits setup s text w h = solves_sound question.Margin limits setup w.0 s text (λ e. absurd cc) w.1 w.2 h
+within_done question.Moves limits setup s text w h = solves_sound question.Moves limits setup w.0 s text (λ e. absurd cc) w.1 w.2 h
+within_done question.Safe limits setup s text w h = plain_done question.Safe limits setup s text (λ n. n) h
+within_done question.Board limits setup s text w h = plain_done question.Board limits setup s text (λ n. n) h
 
 -- an answer about the file is the text
-file_done : (q : Question) (file : List ℕ) (settings : Settings) (setup : Setup) (s : Status) (text : List ℕ) → Reads file settings (Ok setup) → IsWithinLimits q setup → IsFileAnswer q file settings s text → s ≡ Done
-file_done q file settings setup s text reads within h = go (file_or_position q file settings s text h) where
-  go : ((f : FileFault) × (s ≡ status.BadFile f) × Reads file settings (Err f)) ⊎ ((p : Setup) × Reads file settings (Ok p) × IsPositionAnswer q p s text) → s ≡ Done
+file_done : (q : Question) (limits : Limits) (file : List ℕ) (settings : Settings) (setup : Setup) (s : Status) (text : List ℕ) → Reads file settings (Ok setup) → IsWithinLimits q limits setup → IsFileAnswer q limits file settings s text → s ≡ Done
+file_done q limits file settings setup s text reads within h = go (file_or_position q limits file settings s text h) where
+  go : ((f : FileFault) × (s ≡ status.BadFile f) × Reads file settings (Err f)) ⊎ ((p : Setup) × Reads file settings (Ok p) × IsPositionAnswer q limits p s text) → s ≡ Done
   go (inl (f, e, bad)) = absurd (not_both file settings setup f reads bad)
-  go (inr (p, r, a)) = within_done q setup s text within (subst (λ x. IsPositionAnswer q x s text) (one_setup file settings p setup r reads) a)
+  go (inr (p, r, a)) = within_done q limits setup s text within (subst (λ x. IsPositionAnswer q limits x s text) (one_setup file settings p setup r reads) a)
 
-module _ (q : Question) (settings : Settings) (word : List ℕ) (a b : Known) (h : IsAnswerable q settings word a b) where
-  by_file : (s : Status) (text : List ℕ) → (file : List ℕ) × IsTold (told_of a.input word) file × HasFewBytes file × IsFileAnswer q file settings s text → s ≡ Done
+module _ (q : Question) (limits : Limits) (settings : Settings) (word : List ℕ) (a b : Known) (h : IsAnswerable q limits settings word a b) where
+  by_file : (s : Status) (text : List ℕ) → (file : List ℕ) × IsTold (told_of a.input word) file × HasFewBytes file × IsFileAnswer q limits file settings s text → s ≡ Done
   by_file s text (file, told, short, answer) =
       let k : IsTold (holding h.file) file = subst (λ x. IsTold x file) h.told told in
-      file_done q h.file settings h.setup s text h.reads h.within (subst (λ f. IsFileAnswer q f settings s text) (sym k) answer)
+      file_done q limits h.file settings h.setup s text h.reads h.within (subst (λ f. IsFileAnswer q limits f settings s text) (sym k) answer)
 
   not_absent : told_of a.input word ≡ absent → ⊥
   not_absent none = let k : Path Told (holding h.file) absent = sym h.told ∙ none in cc
@@ -65,7 +69,7 @@ module _ (q : Question) (settings : Settings) (word : List ℕ) (a b : Known) (h
   not_longer : IsLonger MOST_BYTES (told_of a.input word) → ⊥
   not_longer long = let k : IsLonger MOST_BYTES (holding h.file) = subst (IsLonger MOST_BYTES) h.told long in omega (arith, h.short, k)
 
-  answer_done : (s : Status) (text : List ℕ) → IsAnswer q settings word a.input b.input s text → s ≡ Done
+  answer_done : (s : Status) (text : List ℕ) → IsAnswer q limits settings word a.input b.input s text → s ≡ Done
   answer_done CannotRead text (inl none, is) = absurd (not_absent none)
   answer_done CannotRead text (inr rose, is) = absurd (count_stays word a b h.calm rose)
   answer_done status.TooLong text (long, is) = absurd (not_longer long)
@@ -139,14 +143,12 @@ engine_done job a b status.CalcLimit read write e = absurd e.ends
 
 module _ {H S K : Type 0} (o : Outside H S K) (job : Job) (a b : Desk H S K) (s : Status) where
   complete : (task : Task) → RunsTask o task job a s b → IsComplete task job (known o a) s (known o b)
-  complete (solve word) r = λ h. decided_done _ _ _ _ _ s (answer_done (question.Solve (limits_of job)) job.settings word (known o a) (known o b) h) h.calm.writes r.written
-  complete (values word) r = λ h. decided_done _ _ _ _ _ s (answer_done (question.Values (limits_of job)) job.settings word (known o a) (known o b) h) h.calm.writes r.written
-  complete (safe word) r = λ h. decided_done _ _ _ _ _ s (answer_done question.Safe job.settings word (known o a) (known o b) h) h.calm.writes r.written
+  complete (ask q word) r = λ h. decided_done _ _ _ _ _ s (answer_done q (limits_of job) job.settings word (known o a) (known o b) h) h.calm.writes r.written
   complete (trial number) r = λ calm. decided_done (IsTrialAnswer number) _ _ _ _ s (λ t text d. d.0) calm r.written
   complete (calc expression) r = λ none calm. decided_done (IsCalc job.parts expression) _ _ _ _ s (calc_done job.parts expression none) calm r.written
   complete gtp r = λ read write. engine_done job (known o a) (known o b) s read write r.played
   complete (play word) r = λ h. elim r.outcome [
-    | inl u ↦ inl (decided_done _ _ _ _ _ s (λ t text d. answer_done (question.Solve (limits_of job)) job.settings word (known o a) (known o b) h t text d.0) h.calm.writes u.0)
+    | inl u ↦ inl (decided_done _ _ _ _ _ s (λ t text d. answer_done question.Solve (limits_of job) job.settings word (known o a) (known o b) h t text d.0) h.calm.writes u.0)
     | inr g ↦ game_done job word (known o a) (known o b) s h.calm g
   ]
 

@@ -5,7 +5,7 @@ use Rattle.std.specs.Io.KnownBytes.{append_known}
 use Rattle.desk_io.specs.Desk.{Desk, Outside, known}
 use Rattle.gd_words.specs.Job.{Job}
 use Rattle.gd_words.specs.Task.{Task}
-use Rattle.gd_words.specs.Task.Task.{calc, gtp, play, safe, solve, trial, values}
+use Rattle.gd_words.specs.Task.Task.{ask, calc, gtp, play, trial}
 use Rattle.go_grid.specs.declared.grid.Colour.{Colour}
 use Rattle.gtp_engine.proofs.WinLemmas.{win_is_kept as gtp_win_is_kept}
 use Rattle.whole_rules.specs.WholeGame.{Whole}
@@ -99,9 +99,7 @@ module _ {H S K : Type 0} (o : Outside H S K) (job : Job) (a b : Desk H S K) (st
     | inr g ↦ inr (g.0, g.1, g.2, λ wins. map_told _ _ (o.sources.left a.lines) (λ bytes h. won_game g.0 g.1 bytes (o.sinks.holds a.out) (o.sinks.holds b.out) wins status g.3.begun h) g.3.written)
   ]
   keeps gtp r = gtp_win_is_kept
-  keeps (solve word) r = tt
-  keeps (values word) r = tt
-  keeps (safe word) r = tt
+  keeps (ask question word) r = tt
   keeps (trial number) r = tt
   keeps (calc expression) r = tt
 

@@ -16,12 +16,13 @@ use Rattle.endgame_solver.specs.Regions.{no_region, region_at}
 use Rattle.endgame_run.specs.declared.status.Status.{Status}
 use Rattle.endgame_run.specs.declared.status.Status.TheVariants as status
 use Rattle.sgf_go.specs.declared.fault.FileFault.{FileFault}
-use Rattle.endgame_run.specs.declared.question.Question.{Question}
-use Rattle.endgame_run.specs.declared.question.Question.TheVariants as question
+use Rattle.gd_words.specs.Task.{NeedsRegions}
+use Rattle.gd_words.specs.declared.job.Question.{Question}
+use Rattle.gd_words.specs.declared.job.Question.TheVariants as question
 use Rattle.endgame_run.specs.Laws.{HasOneStatus, RefusesFaults, RefusesUnshown, ShowsShown, SolvesSound}
 use Rattle.sgf_go.specs.File.{Reads}
 use Rattle.endgame_run.specs.Refusal.{HasStatus, IsRefused}
-use Rattle.endgame_run.specs.Question.{IsFileAnswer, IsPositionAnswer}
+use Rattle.endgame_run.specs.Question.{IsFileAnswer, IsPositionAnswer, IsQuestionRefused, IsTextOf}
 use Rattle.endgame_run.specs.Solve.{IsSolved}
 use Rattle.endgame_run.specs.Values.{AreUnshown, IsValued}
 use Rattle.endgame_solver.proofs.GraphLaws.{one_value}
@@ -89,21 +90,48 @@ sound_or_refused limits rs f s sound a x = go (by_size limits rs f s a x) where
   go (inl l) = large_or_small rs l.0 (λ r h. (sound r h).points)
   go (inr (small, (k, lt, fault, before))) = sound_has_none limits (region_at rs k) f (sound (region_at rs k) (Contains-get_or rs k no_region lt)) fault
 
--- a position that is to be solved is solved or refused
-solved_or_refused : (limits : Limits) (p : Setup) (s : Status) (a : List ℕ) → IsPositionAnswer (question.Solve limits) p s a → ((s ≡ status.Done) × IsSolved limits p a) ⊎ IsRefused limits p s a
-solved_or_refused limits p status.Done a h = inl (refl, h)
-solved_or_refused limits p status.Cycle a h = inr h
-solved_or_refused limits p status.RegionLimit a h = inr h
-solved_or_refused limits p status.FormLimit a h = inr h
-solved_or_refused limits p status.Usage a h = absurd h
-solved_or_refused limits p status.CannotRead a h = absurd h
-solved_or_refused limits p status.CannotWrite a h = absurd h
-solved_or_refused limits p (status.BadFile f) a h = absurd h
-solved_or_refused limits p status.Memory a h = absurd h
-solved_or_refused limits p status.TooLong a h = absurd h
-solved_or_refused limits p status.TooManyLines a h = absurd h
-solved_or_refused limits p (status.BadExpression f) a h = absurd h
-solved_or_refused limits p status.CalcLimit a h = absurd h
+-- a question about a position is answered or refused
+by_status : (q : Question) (limits : Limits) (p : Setup) (s : Status) (a : List ℕ) → IsPositionAnswer q limits p s a → ((s ≡ status.Done) × IsTextOf q limits p a) ⊎ IsQuestionRefused q limits p s a
+by_status q limits p status.Done a h = inl (refl, h)
+by_status q limits p status.Cycle a h = inr h
+by_status q limits p status.RegionLimit a h = inr h
+by_status q limits p status.FormLimit a h = inr h
+by_status q limits p status.Usage a h = absurd h
+by_status q limits p status.CannotRead a h = absurd h
+by_status q limits p status.CannotWrite a h = absurd h
+by_status q limits p (status.BadFile f) a h = absurd h
+by_status q limits p status.Memory a h = absurd h
+by_status q limits p status.TooLong a h = absurd h
+by_status q limits p status.TooManyLines a h = absurd h
+by_status q limits p (status.BadExpression f) a h = absurd h
+by_status q limits p status.CalcLimit a h = absurd h
+
+-- what is answered has sound regions, where it needs them
+record HasSound (limits : Limits) (p : Setup) : Type 0 where
+  regions : List Region
+  are_regions : AreRegionsOfPlay p.board regions
+  sound : AreSound limits regions
+
+text_sound : (q : Question) (limits : Limits) (p : Setup) (a : List ℕ) → NeedsRegions q → IsTextOf q limits p a → HasSound limits p
+text_sound question.Solve limits p a needs v = record { regions = v.regions; are_regions = v.are_regions; sound = v.sound }
+text_sound question.Values limits p a needs v = record { regions = v.regions; are_regions = v.are_regions; sound = v.sound }
+text_sound question.Margin limits p a needs v = record { regions = v.regions; are_regions = v.are_regions; sound = v.sound }
+text_sound question.Moves limits p a needs v = record { regions = v.regions; are_regions = v.are_regions; sound = v.sound }
+text_sound question.Safe limits p a needs v = absurd needs
+text_sound question.Board limits p a needs v = absurd needs
+
+-- what is refused needs regions: these are refused, or a value can't be shown
+abbrev IsNotAnswered : Question → Limits → Setup → Status → List ℕ → Type 0
+IsNotAnswered q limits p s a = NeedsRegions q × (IsRefused limits p s a ⊎ ((q ≡ question.Values) × AreUnshown limits p s a))
+
+not_answered : (q : Question) (limits : Limits) (p : Setup) (s : Status) (a : List ℕ) → IsQuestionRefused q limits p s a → IsNotAnswered q limits p s a
+not_answered question.Solve limits p s a h = (tt, inl h)
+not_answered question.Margin limits p s a h = (tt, inl h)
+not_answered question.Moves limits p s a h = (tt, inl h)
+not_answered question.Values limits p s a (inl h) = (tt, inl h)
+not_answered question.Values limits p s a (inr h) = (tt, inr (refl, h))
+not_answered question.Safe limits p s a h = absurd h
+not_answered question.Board limits p s a h = absurd h
 
 -- sound regions aren't refused
 sound_clash : (limits : Limits) (p : Setup) (s : Status) (b : List ℕ) (regions : List Region) → AreRegionsOfPlay p.board regions → AreSound limits regions → IsRefused limits p s b → ⊥
@@ -116,27 +144,10 @@ two_refusals limits p s t a b v w =
     refusals limits w.regions v.fault w.fault s t (subst (λ l. AreRefused limits l v.fault) (one_regions p.board v.regions w.regions v.are_regions w.are_regions) v.refused) w.refused v.status w.status
 
 pub solves_sound : SolvesSound
-solves_sound limits p regions s a are sound h = go (solved_or_refused limits p s a h) where
-  go : ((s ≡ status.Done) × IsSolved limits p a) ⊎ IsRefused limits p s a → s ≡ status.Done
+solves_sound q limits p regions s a apart are sound h = go (by_status q limits p s a h) where
+  go : ((s ≡ status.Done) × IsTextOf q limits p a) ⊎ IsQuestionRefused q limits p s a → s ≡ status.Done
   go (inl v) = v.0
-  go (inr w) = absurd (sound_clash limits p s a regions are sound w)
-
--- a position whose values are asked for has them shown, or is refused, or isn't shown
-valued_or_not : (limits : Limits) (p : Setup) (s : Status) (a : List ℕ) → IsPositionAnswer (question.Values limits) p s a
-    → ((s ≡ status.Done) × IsValued limits p a) ⊎ (IsRefused limits p s a ⊎ AreUnshown limits p s a)
-valued_or_not limits p status.Done a h = inl (refl, h)
-valued_or_not limits p status.Cycle a h = inr h
-valued_or_not limits p status.RegionLimit a h = inr h
-valued_or_not limits p status.FormLimit a h = inr h
-valued_or_not limits p status.Usage a h = absurd h
-valued_or_not limits p status.CannotRead a h = absurd h
-valued_or_not limits p status.CannotWrite a h = absurd h
-valued_or_not limits p (status.BadFile f) a h = absurd h
-valued_or_not limits p status.Memory a h = absurd h
-valued_or_not limits p status.TooLong a h = absurd h
-valued_or_not limits p status.TooManyLines a h = absurd h
-valued_or_not limits p (status.BadExpression f) a h = absurd h
-valued_or_not limits p status.CalcLimit a h = absurd h
+  go (inr w) = elim (not_answered q limits p s a w).1 [ inl r ↦ absurd (sound_clash limits p s a regions are sound r) | inr u ↦ absurd (apart u.0) ]
 
 -- of regions all of whose values are shown none isn't
 shown_clash : (regions others : List Region) (p : ℕ) → others ≡ regions → ((k : ℕ) → k < length regions → HasShownValue (region_at regions k)) → IsFirstUnshown others p → ⊥
@@ -151,14 +162,14 @@ valued_clash limits p s a b v w =
     shown_clash v.regions w.regions w.point (one_regions p.board w.regions v.regions w.are_regions v.are_regions) (λ k lt. shown_at v.regions v.is.entries v.is.are k lt) w.first
 
 pub shows_shown : ShowsShown
-shows_shown limits p regions s a are sound shown h = go (valued_or_not limits p s a h) where
+shows_shown limits p regions s a are sound shown h = go (by_status question.Values limits p s a h) where
   go : ((s ≡ status.Done) × IsValued limits p a) ⊎ (IsRefused limits p s a ⊎ AreUnshown limits p s a) → s ≡ status.Done
   go (inl v) = v.0
   go (inr (inl w)) = absurd (sound_clash limits p s a regions are sound w)
   go (inr (inr w)) = absurd (shown_clash regions w.regions w.point (one_regions p.board w.regions regions w.are_regions are) shown w.first)
 
 pub refuses_unshown : RefusesUnshown
-refuses_unshown limits p regions point s a are sound first h = go (valued_or_not limits p s a h) where
+refuses_unshown limits p regions point s a are sound first h = go (by_status question.Values limits p s a h) where
   go : ((s ≡ status.Done) × IsValued limits p a) ⊎ (IsRefused limits p s a ⊎ AreUnshown limits p s a) → s ≡ status.FormLimit
   go (inl v) = absurd (shown_clash v.1.regions regions point (one_regions p.board regions v.1.regions are v.1.are_regions) (λ k lt. shown_at v.1.regions v.1.is.entries v.1.is.are k lt) first)
   go (inr (inl w)) = absurd (sound_clash limits p s a regions are sound w)
@@ -176,81 +187,60 @@ never_sound limits p regions others f t are refused x too sound =
     sound_or_refused limits regions f t (subst (AreSound limits) (one_regions p.board others regions too are) sound) refused x
 
 pub refuses_faults : RefusesFaults
-refuses_faults (question.Solve most) limits p regions f s t a e are refused x h = go (solved_or_refused most p s a h) where
-  own : AreRefused most regions f
-  own = subst (λ l. AreRefused l regions f) (sym e) refused
+refuses_faults q limits p regions f s t a needs are refused x h = go (by_status q limits p s a h) where
+  go : ((s ≡ status.Done) × IsTextOf q limits p a) ⊎ IsQuestionRefused q limits p s a → s ≡ t
+  go (inl v) = let k = text_sound q limits p a needs v.1 in absurd (never_sound limits p regions k.regions f t are refused x k.are_regions k.sound)
+  go (inr w) = elim (not_answered q limits p s a w).1 [
+    | inl r ↦ against limits p regions f s t a are refused x r
+    | inr u ↦ absurd (never_sound limits p regions u.1.regions f t are refused x u.1.are_regions u.1.sound)
+  ]
 
-  go : ((s ≡ status.Done) × IsSolved most p a) ⊎ IsRefused most p s a → s ≡ t
-  go (inl v) = absurd (never_sound most p regions v.1.regions f t are own x v.1.are_regions v.1.sound)
-  go (inr w) = against most p regions f s t a are own x w
-refuses_faults (question.Values most) limits p regions f s t a e are refused x h = go (valued_or_not most p s a h) where
-  own : AreRefused most regions f
-  own = subst (λ l. AreRefused l regions f) (sym e) refused
+-- an answer, and a refusal of the same question
+clash : (q : Question) (limits : Limits) (p : Setup) (s : Status) (a b : List ℕ) → IsTextOf q limits p a → IsNotAnswered q limits p s b → ⊥
+clash q limits p s a b v (needs, inl r) = let k = text_sound q limits p a needs v in sound_clash limits p s b k.regions k.are_regions k.sound r
+clash q limits p s a b v (needs, inr (is, u)) = valued_clash limits p s a b (subst (λ k. IsTextOf k limits p a) is v) u
 
-  go : ((s ≡ status.Done) × IsValued most p a) ⊎ (IsRefused most p s a ⊎ AreUnshown most p s a) → s ≡ t
-  go (inl v) = absurd (never_sound most p regions v.1.regions f t are own x v.1.are_regions v.1.sound)
-  go (inr (inl w)) = against most p regions f s t a are own x w
-  go (inr (inr w)) = absurd (never_sound most p regions w.regions f t are own x w.are_regions w.sound)
-refuses_faults question.Safe limits p regions f s t a e are refused x h = absurd e
+-- two refusals of one question
+alike : (q : Question) (limits : Limits) (p : Setup) (s t : Status) (a b : List ℕ) → IsNotAnswered q limits p s a → IsNotAnswered q limits p t b → s ≡ t
+alike q limits p s t a b (n, inl v) (m, inl w) = two_refusals limits p s t a b v w
+alike q limits p s t a b (n, inl v) (m, inr (is, w)) = absurd (sound_clash limits p s a w.regions w.are_regions w.sound v)
+alike q limits p s t a b (n, inr (is, v)) (m, inl w) = absurd (sound_clash limits p t b v.regions v.are_regions v.sound w)
+alike q limits p s t a b (n, inr (is, v)) (m, inr (so, w)) = v.status ∙ sym w.status
 
-pub safe_is_done : (p : Setup) (s : Status) (a : List ℕ) → IsPositionAnswer question.Safe p s a → s ≡ status.Done
-safe_is_done p status.Done a h = refl
-safe_is_done p status.Cycle a h = absurd h
-safe_is_done p status.RegionLimit a h = absurd h
-safe_is_done p status.FormLimit a h = absurd h
-safe_is_done p status.Usage a h = absurd h
-safe_is_done p status.CannotRead a h = absurd h
-safe_is_done p status.CannotWrite a h = absurd h
-safe_is_done p (status.BadFile f) a h = absurd h
-safe_is_done p status.Memory a h = absurd h
-safe_is_done p status.TooLong a h = absurd h
-safe_is_done p status.TooManyLines a h = absurd h
-safe_is_done p (status.BadExpression f) a h = absurd h
-safe_is_done p status.CalcLimit a h = absurd h
-
-position_status : (q : Question) (p : Setup) (s t : Status) (a b : List ℕ) → IsPositionAnswer q p s a → IsPositionAnswer q p t b → s ≡ t
-position_status question.Safe p s t a b x y = safe_is_done p s a x ∙ sym (safe_is_done p t b y)
-position_status (question.Solve limits) p s t a b x y = go (solved_or_refused limits p s a x) (solved_or_refused limits p t b y) where
-  go : ((s ≡ status.Done) × IsSolved limits p a) ⊎ IsRefused limits p s a → ((t ≡ status.Done) × IsSolved limits p b) ⊎ IsRefused limits p t b → s ≡ t
+position_status : (q : Question) (limits : Limits) (p : Setup) (s t : Status) (a b : List ℕ) → IsPositionAnswer q limits p s a → IsPositionAnswer q limits p t b → s ≡ t
+position_status q limits p s t a b x y = go (by_status q limits p s a x) (by_status q limits p t b y) where
+  go : ((s ≡ status.Done) × IsTextOf q limits p a) ⊎ IsQuestionRefused q limits p s a → ((t ≡ status.Done) × IsTextOf q limits p b) ⊎ IsQuestionRefused q limits p t b → s ≡ t
   go (inl v) (inl w) = v.0 ∙ sym w.0
-  go (inl v) (inr w) = absurd (sound_clash limits p t b v.1.regions v.1.are_regions v.1.sound w)
-  go (inr v) (inl w) = absurd (sound_clash limits p s a w.1.regions w.1.are_regions w.1.sound v)
-  go (inr v) (inr w) = two_refusals limits p s t a b v w
-position_status (question.Values limits) p s t a b x y = go (valued_or_not limits p s a x) (valued_or_not limits p t b y) where
-  go : ((s ≡ status.Done) × IsValued limits p a) ⊎ (IsRefused limits p s a ⊎ AreUnshown limits p s a)
-      → ((t ≡ status.Done) × IsValued limits p b) ⊎ (IsRefused limits p t b ⊎ AreUnshown limits p t b) → s ≡ t
-  go (inl v) (inl w) = v.0 ∙ sym w.0
-  go (inl v) (inr (inl w)) = absurd (sound_clash limits p t b v.1.regions v.1.are_regions v.1.sound w)
-  go (inl v) (inr (inr w)) = absurd (valued_clash limits p t a b v.1 w)
-  go (inr (inl v)) (inl w) = absurd (sound_clash limits p s a w.1.regions w.1.are_regions w.1.sound v)
-  go (inr (inl v)) (inr (inl w)) = two_refusals limits p s t a b v w
-  go (inr (inl v)) (inr (inr w)) = absurd (sound_clash limits p s a w.regions w.are_regions w.sound v)
-  go (inr (inr v)) (inl w) = absurd (valued_clash limits p s b a w.1 v)
-  go (inr (inr v)) (inr (inl w)) = absurd (sound_clash limits p t b v.regions v.are_regions v.sound w)
-  go (inr (inr v)) (inr (inr w)) = v.status ∙ sym w.status
+  go (inl v) (inr w) = absurd (clash q limits p t a b v.1 (not_answered q limits p t b w))
+  go (inr v) (inl w) = absurd (clash q limits p s b a w.1 (not_answered q limits p s a v))
+  go (inr v) (inr w) = alike q limits p s t a b (not_answered q limits p s a v) (not_answered q limits p t b w)
+
+-- a question that needs no regions is answered
+pub plain_done : (q : Question) (limits : Limits) (p : Setup) (s : Status) (a : List ℕ) → ¬ NeedsRegions q → IsPositionAnswer q limits p s a → s ≡ status.Done
+plain_done q limits p s a plain h = elim (by_status q limits p s a h) [ inl v ↦ v.0 | inr w ↦ absurd (plain (not_answered q limits p s a w).0) ]
 
 -- a file has a fault, or a position whose status it is
-pub file_or_position : (q : Question) (file : List ℕ) (settings : Settings) (s : Status) (a : List ℕ) → IsFileAnswer q file settings s a
-    → ((f : FileFault) × (s ≡ status.BadFile f) × Reads file settings (Err f)) ⊎ ((p : Setup) × Reads file settings (Ok p) × IsPositionAnswer q p s a)
-file_or_position q file settings (status.BadFile f) a h = inl (f, refl, h.0)
-file_or_position q file settings status.Done a h = inr h
-file_or_position q file settings status.Cycle a h = inr h
-file_or_position q file settings status.RegionLimit a h = inr h
-file_or_position q file settings status.FormLimit a h = inr h
-file_or_position q file settings status.Usage a h = inr h
-file_or_position q file settings status.CannotRead a h = inr h
-file_or_position q file settings status.CannotWrite a h = inr h
-file_or_position q file settings status.Memory a h = inr h
-file_or_position q file settings status.TooLong a h = inr h
-file_or_position q file settings status.TooManyLines a h = inr h
-file_or_position q file settings (status.BadExpression f) a h = inr h
-file_or_position q file settings status.CalcLimit a h = inr h
+pub file_or_position : (q : Question) (limits : Limits) (file : List ℕ) (settings : Settings) (s : Status) (a : List ℕ) → IsFileAnswer q limits file settings s a
+    → ((f : FileFault) × (s ≡ status.BadFile f) × Reads file settings (Err f)) ⊎ ((p : Setup) × Reads file settings (Ok p) × IsPositionAnswer q limits p s a)
+file_or_position q limits file settings (status.BadFile f) a h = inl (f, refl, h.0)
+file_or_position q limits file settings status.Done a h = inr h
+file_or_position q limits file settings status.Cycle a h = inr h
+file_or_position q limits file settings status.RegionLimit a h = inr h
+file_or_position q limits file settings status.FormLimit a h = inr h
+file_or_position q limits file settings status.Usage a h = inr h
+file_or_position q limits file settings status.CannotRead a h = inr h
+file_or_position q limits file settings status.CannotWrite a h = inr h
+file_or_position q limits file settings status.Memory a h = inr h
+file_or_position q limits file settings status.TooLong a h = inr h
+file_or_position q limits file settings status.TooManyLines a h = inr h
+file_or_position q limits file settings (status.BadExpression f) a h = inr h
+file_or_position q limits file settings status.CalcLimit a h = inr h
 
 pub one_status : HasOneStatus
-one_status q file settings s t a b x y = go (file_or_position q file settings s a x) (file_or_position q file settings t b y) where
-  go : ((f : FileFault) × (s ≡ status.BadFile f) × Reads file settings (Err f)) ⊎ ((p : Setup) × Reads file settings (Ok p) × IsPositionAnswer q p s a)
-      → ((f : FileFault) × (t ≡ status.BadFile f) × Reads file settings (Err f)) ⊎ ((p : Setup) × Reads file settings (Ok p) × IsPositionAnswer q p t b) → s ≡ t
+one_status q limits file settings s t a b x y = go (file_or_position q limits file settings s a x) (file_or_position q limits file settings t b y) where
+  go : ((f : FileFault) × (s ≡ status.BadFile f) × Reads file settings (Err f)) ⊎ ((p : Setup) × Reads file settings (Ok p) × IsPositionAnswer q limits p s a)
+      → ((f : FileFault) × (t ≡ status.BadFile f) × Reads file settings (Err f)) ⊎ ((p : Setup) × Reads file settings (Ok p) × IsPositionAnswer q limits p t b) → s ≡ t
   go (inl (f, e, h)) (inl (g, d, k)) = e ∙ ap status.BadFile (one_fault file settings f g h k) ∙ sym d
   go (inl (f, e, h)) (inr (p, k, z)) = absurd (not_both file settings p f k h)
   go (inr (p, h, z)) (inl (g, d, k)) = absurd (not_both file settings p g h k)
-  go (inr (p, h, z)) (inr (r, k, w)) = position_status q r s t a b (subst (λ v. IsPositionAnswer q v s a) (one_setup file settings p r h k) z) w
+  go (inr (p, h, z)) (inr (r, k, w)) = position_status q limits r s t a b (subst (λ v. IsPositionAnswer q limits v s a) (one_setup file settings p r h k) z) w

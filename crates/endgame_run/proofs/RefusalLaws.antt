@@ -1,5 +1,5 @@
 -- The points that faults of regions name, and what a position that isn't solved comes to.
-use Rattle.std.proofs.Common.{◌≡◌, ℕ, zero, suc, ◌<◌, ◌++◌, inl, inr, refl, List, [], length, map, take, drop, get_or, sym, subst, ap, ◌∙◌, arith, append_assoc, Ok, Err, ◌∷◌}
+use Rattle.std.proofs.Common.{◌≡◌, ℤ, ℕ, zero, suc, ◌<◌, ◌++◌, inl, inr, refl, List, [], length, map, take, drop, get_or, sym, subst, ap, ◌∙◌, arith, append_assoc, Ok, Err, ◌∷◌}
 use Rattle.std.specs.List.{All, Contains}
 use Rattle.std.proofs.lemmas.List.{take-append-drop}
 use Rattle.std.proofs.lemmas.List.Elements.{All-map, Contains-get_or}
@@ -23,12 +23,14 @@ use Rattle.endgame_solver.specs.Solved.{Begun, Solved}
 use Rattle.report.specs.Values.{IsValuesText}
 use Rattle.endgame_run.specs.declared.status.Status.{Status}
 use Rattle.endgame_run.specs.declared.status.Status.TheVariants as status
-use Rattle.endgame_run.specs.declared.question.Question.TheVariants as question
+use Rattle.gd_words.specs.Task.{NeedsRegions}
+use Rattle.gd_words.specs.declared.job.Question.{Question}
+use Rattle.gd_words.specs.declared.job.Question.TheVariants as question
 use Rattle.endgame_run.specs.Refusal.{HasStatus, IsRefused, form_line, refusal_line}
 use Rattle.endgame_run.specs.inner.Refusal.{NamesPoints}
-use Rattle.endgame_run.specs.inner.Top.{IsValuesReport}
+use Rattle.endgame_run.specs.inner.Top.{IsGameReport, IsValuesReport}
 use Rattle.endgame_run.specs.Question.{IsPositionAnswer}
-use Rattle.endgame_run.proofs.TopLaws.{refused_question}
+use Rattle.endgame_run.proofs.TopLaws.{refused_answer}
 
 -- five pieces of a text
 pub five_pieces : (t u v w x y a b c d e : List ℕ) → t ≡ [] → u ≡ t ++ a → v ≡ u ++ b → w ≡ v ++ c → x ≡ w ++ d → y ≡ x ++ e → y ≡ a ++ (b ++ (c ++ (d ++ e)))
@@ -95,13 +97,9 @@ is_refused setup limits (Cycle p names back) s text (regions, are, r) e t =
 is_refused setup limits (Form p) s text (regions, are, r) e t = record { regions = regions; fault = Form p; are_regions = are; refused = r; status = e; is = t }
 is_refused setup limits (Memory m) s text b e t = absurd e
 
-pub refused_values : (setup : Setup) (limits : Limits) (fault : SolveError) (s : Status) (text : List ℕ) → Begun setup limits (Err fault) → HasStatus fault s
-    → text ≡ refusal_line limits setup.board.columns fault → IsPositionAnswer (question.Values limits) setup s text
-refused_values setup limits fault s text b e t = (refused_question (question.Values limits) limits setup s text (λ t x. inl x) (is_refused setup limits fault s text b e t)).0
-
 -- the values of a solved game are the answer to that question
-pub values_are : (setup : Setup) (limits : Limits) (game : Solved) (s : Status) (text : List ℕ) → Begun setup limits (Ok game) → IsValuesReport game s text
-    → IsPositionAnswer (question.Values limits) setup s text
+values_are : (setup : Setup) (limits : Limits) (game : Solved) (s : Status) (text : List ℕ) → Begun setup limits (Ok game) → IsValuesReport game s text
+    → IsPositionAnswer question.Values limits setup s text
 values_are setup limits game status.Done text (opening, are, sound) t =
     record { regions = game.regions; are_regions = are; sound = sound; is = subst (λ g. IsValuesText g.columns game.regions text) opening.board t }
 values_are setup limits game status.FormLimit text (opening, are, sound) (p, first, t) =
@@ -117,3 +115,36 @@ values_are setup limits game status.TooLong text b t = absurd t
 values_are setup limits game status.TooManyLines text b t = absurd t
 values_are setup limits game (status.BadExpression f) text b t = absurd t
 values_are setup limits game status.CalcLimit text b t = absurd t
+
+-- the text of a solved game is the text that answers the question
+game_text : (q : Question) (setup : Setup) (limits : Limits) (game : Solved) (s : Status) (text : List ℕ) → NeedsRegions q → Begun setup limits (Ok game)
+    → IsGameReport q setup.komi_halves game s text → IsPositionAnswer q limits setup s text
+game_text question.Solve setup limits game s text needs (opening, are, sound) (done, v) =
+    subst (λ r. IsPositionAnswer question.Solve limits setup r text) (sym done) record {
+      regions = game.regions;
+      numbers = v.numbers;
+      state = game.state;
+      winner = v.winner;
+      move = v.move;
+      are_regions = are;
+      sound = sound;
+      counted = v.counted;
+      solution = record { opening = opening; wins = v.wins; first = v.first };
+      is = v.is;
+    }
+game_text question.Margin setup limits game s text needs (opening, are, sound) (done, v) =
+    subst (λ r. IsPositionAnswer question.Margin limits setup r text) (sym done) record { regions = game.regions; state = game.state; are_regions = are; sound = sound; opening = opening; is = v }
+game_text question.Moves setup limits game s text needs (opening, are, sound) (done, v) =
+    subst (λ r. IsPositionAnswer question.Moves limits setup r text) (sym done) record { regions = game.regions; state = game.state; are_regions = are; sound = sound; opening = opening; is = v }
+game_text question.Values setup limits game s text needs begun report = values_are setup limits game s text begun report
+game_text question.Safe setup limits game s text needs begun report = absurd needs
+game_text question.Board setup limits game s text needs begun report = absurd needs
+
+pub game_answer : (q : Question) (setup : Setup) (limits : Limits) (game : Solved) (k : ℤ) (s : Status) (text : List ℕ) → NeedsRegions q → k ≡ setup.komi_halves → Begun setup limits (Ok game)
+    → IsGameReport q k game s text → IsPositionAnswer q limits setup s text
+game_answer q setup limits game k s text needs same begun report = game_text q setup limits game s text needs begun (subst (λ z. IsGameReport q z game s text) same report)
+
+-- a fault is the answer to a question that needs regions
+pub fault_answer : (q : Question) (setup : Setup) (limits : Limits) (fault : SolveError) (s : Status) (text : List ℕ) → NeedsRegions q → Begun setup limits (Err fault) → HasStatus fault s
+    → text ≡ refusal_line limits setup.board.columns fault → IsPositionAnswer q limits setup s text
+fault_answer q setup limits fault s text needs b e t = (refused_answer q limits setup s text needs (is_refused setup limits fault s text b e t)).0

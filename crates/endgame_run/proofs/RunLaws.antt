@@ -7,7 +7,7 @@ use Rattle.desk_io.specs.Outside.{Rose}
 use Rattle.go_grid.specs.declared.grid.Colour.{Colour}
 use Rattle.gd_words.specs.Job.{IsJob, Job}
 use Rattle.gd_words.specs.Task.{BeginWith, Task}
-use Rattle.gd_words.specs.Task.Task.{calc, gtp, play, safe, solve, trial, values}
+use Rattle.gd_words.specs.Task.Task.{ask, calc, gtp, play, trial}
 use Rattle.sgf_go.specs.declared.settings.Settings.{Settings}
 use Rattle.endgame_solver.specs.declared.limits.Limits.{Limits}
 use Rattle.endgame_run.specs.Calc.{RunsCalc}
@@ -20,22 +20,18 @@ use Rattle.endgame_run.specs.Question.{AnswersQuestion, AreToldSteps, IsAnswer}
 use Rattle.endgame_run.specs.Run.{AreTaskSteps, Runs, RunsTask}
 use Rattle.endgame_run.specs.Trial.{RunsTrial}
 use Rattle.endgame_run.specs.Written.{Finishes, Reports}
-use Rattle.endgame_run.specs.declared.question.Question.{Question}
-use Rattle.endgame_run.specs.declared.question.Question.TheVariants as question
+use Rattle.gd_words.specs.declared.job.Question.{Question}
 use Rattle.endgame_run.specs.declared.status.Status.{Status}
 use Rattle.endgame_run.specs.declared.status.Status.TheVariants.{CannotWrite, Done, Memory}
 use Rattle.endgame_run.specs.declared.status.Status.TheVariants as status
-use Rattle.endgame_run.specs.inner.Top.{AsksQuestion}
 
 -- the source isn't played
 pub played_apart : (words : List (List ℕ)) (job : Job) (word : List ℕ) → IsJob words job → job.task ≡ play word → word ≢ dash
 played_apart words job word said is = (subst (λ t. BeginWith t words said.rest) is said.task).3.3
 
 module _ {H S K : Type 0} (o : Outside H S K) (job : Job) (a : Desk H S K) (status : Status) (b : Desk H S K) where
-  pub question_runs : (q : Question) (word : List ℕ) → AsksQuestion job q word → AnswersQuestion o q job.settings word a status b → Runs o job a status b
-  question_runs (question.Solve limits) word (is, same) h = subst (λ t. RunsTask o t job a status b) (sym is) (subst (λ l. AnswersQuestion o (question.Solve l) job.settings word a status b) same h)
-  question_runs (question.Values limits) word (is, same) h = subst (λ t. RunsTask o t job a status b) (sym is) (subst (λ l. AnswersQuestion o (question.Values l) job.settings word a status b) same h)
-  question_runs question.Safe word is h = subst (λ t. RunsTask o t job a status b) (sym is) h
+  pub question_runs : (q : Question) (limits : Limits) (word : List ℕ) → job.task ≡ ask q word → limits ≡ limits_of job → AnswersQuestion o q limits job.settings word a status b → Runs o job a status b
+  question_runs q limits word is same h = subst (λ t. RunsTask o t job a status b) (sym is) (subst (λ l. AnswersQuestion o q l job.settings word a status b) same h)
 
   pub game_runs : (limits : Limits) (given : Option Colour) (word : List ℕ) → job.task ≡ play word → limits ≡ limits_of job → given ≡ job.engine
       → PlaysFile o limits given job.settings word a status b → Runs o job a status b
@@ -55,10 +51,9 @@ module _ (job : Job) (i : Input) (before now : ℕ) where
   pub task_steps : (task : Task) → job.task ≡ task → AreTaskSteps task job i before now → AreTaskSteps job.task job i before now
   task_steps task is h = subst (λ t. AreTaskSteps t job i before now) (sym is) h
 
-  pub question_steps : (q : Question) (word : List ℕ) → AsksQuestion job q word → AreToldSteps q (told_of i word) job.settings before now → AreTaskSteps job.task job i before now
-  question_steps (question.Solve limits) word (is, same) h = task_steps (solve word) is (subst (λ l. AreToldSteps (question.Solve l) (told_of i word) job.settings before now) same h)
-  question_steps (question.Values limits) word (is, same) h = task_steps (values word) is (subst (λ l. AreToldSteps (question.Values l) (told_of i word) job.settings before now) same h)
-  question_steps question.Safe word is h = task_steps (safe word) is h
+  pub question_steps : (q : Question) (limits : Limits) (word : List ℕ) → job.task ≡ ask q word → limits ≡ limits_of job → AreToldSteps q limits (told_of i word) job.settings before now
+      → AreTaskSteps job.task job i before now
+  question_steps q limits word is same h = task_steps (ask q word) is (subst (λ l. AreToldSteps q l (told_of i word) job.settings before now) same h)
 
 -- the text as it was lent
 pub finishes_as : (s : Status) (t text : List ℕ) (w x : ℕ) (before now : Option (List ℕ)) (status : Status) → t ≡ text → Finishes s t w x before now status → Finishes s text w x before now status
@@ -109,13 +104,11 @@ module _ (decided : Status → List ℕ → Type 0) (proper : IsProper decided) 
   part s (inr (t, text, d, inr f)) = subst (λ r. IsPart decided a r b) (sym f.0) (t, text, f.2.0, d, f.2.1)
 
 -- the texts of every task are proper
-answers_proper : (q : Question) (settings : Settings) (word : List ℕ) (i j : Input) → IsProper (IsAnswer q settings word i j)
-answers_proper q settings word i j = record { memory = λ text h. h.3.2; write = λ text h. h.3.2 }
+answers_proper : (q : Question) (limits : Limits) (settings : Settings) (word : List ℕ) (i j : Input) → IsProper (IsAnswer q limits settings word i j)
+answers_proper q limits settings word i j = record { memory = λ text h. h.3.2; write = λ text h. h.3.2 }
 
 decided_proper : (task : Task) (job : Job) (i j : Input) → IsProper (IsDecided task job i j)
-decided_proper (solve word) job i j = answers_proper (question.Solve (limits_of job)) job.settings word i j
-decided_proper (values word) job i j = answers_proper (question.Values (limits_of job)) job.settings word i j
-decided_proper (safe word) job i j = answers_proper question.Safe job.settings word i j
+decided_proper (ask q word) job i j = answers_proper q (limits_of job) job.settings word i j
 decided_proper (play word) job i j = record { memory = λ text h. h.0.3.2; write = λ text h. h.0.3.2 }
 decided_proper (trial number) job i j = record { memory = λ text h. absurd (let k : Path Status Memory Done = h.0 in cc); write = λ text h. absurd (let k : Path Status CannotWrite Done = h.0 in cc) }
 decided_proper (calc expression) job i j = record { memory = λ text h. h; write = λ text h. h }
@@ -133,9 +126,7 @@ module _ {H S K : Type 0} (o : Outside H S K) (job : Job) (a b : Desk H S K) (s 
 
   -- a run reports what was decided, or holds a session
   pub reported : (task : Task) → RunsTask o task job a s b → Reported task ⊎ Session task
-  reported (solve word) r = inl r.written
-  reported (values word) r = inl r.written
-  reported (safe word) r = inl r.written
+  reported (ask question word) r = inl r.written
   reported (trial number) r = inl r.written
   reported (calc expression) r = inl r.written
   reported gtp r = inr r.played
@@ -150,9 +141,7 @@ module _ {H S K : Type 0} (o : Outside H S K) (job : Job) (a b : Desk H S K) (s 
   ]
 
   session_counted : (task : Task) → Session task → s ≡ CannotWrite → Rose (known o a).writes (known o b).writes
-  session_counted (solve word) h e = absurd h
-  session_counted (values word) h e = absurd h
-  session_counted (safe word) h e = absurd h
+  session_counted (ask question word) h e = absurd h
   session_counted (trial number) h e = absurd h
   session_counted (calc expression) h e = absurd h
   session_counted (play word) (engine, state, game, run) e = run.write e

@@ -21,7 +21,7 @@ use Rattle.desk_io.specs.Lines.{UsesLines}
 use Rattle.endgame_solver.specs.declared.limits.Limits.{Limits}
 use Rattle.endgame_run.specs.declared.question.Opened.{Opened}
 use Rattle.endgame_run.specs.declared.question.Opened.TheVariants.{Fault, Game}
-use Rattle.endgame_run.specs.declared.question.Question.TheVariants.{Solve}
+use Rattle.gd_words.specs.declared.job.Question.TheVariants.{Solve}
 use Rattle.endgame_run.specs.declared.question.Report.{Report}
 use Rattle.endgame_run.specs.Question.{IsAnswer}
 use Rattle.endgame_run.specs.inner.Top.{IsOpened}
@@ -144,5 +144,5 @@ opened_game limits given settings word a b j status opened session e h run =
 
 -- what keeps a game from being begun
 pub opened_fault : (limits : Limits) (given : Option Colour) (settings : Settings) (word : List ℕ) (i j : Input) (opened : Opened) (report : Report) → opened ≡ Fault report
-    → IsOpened limits given settings word i j opened → IsAnswer (Solve limits) settings word i j report.status report.text × (report.status ≢ Done)
+    → IsOpened limits given settings word i j opened → IsAnswer Solve limits settings word i j report.status report.text × (report.status ≢ Done)
 opened_fault limits given settings word i j opened report e h = subst (IsOpened limits given settings word i j) e h

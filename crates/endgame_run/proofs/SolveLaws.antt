@@ -14,7 +14,7 @@ use Rattle.whole_rules.specs.declared.money.Token.TheVariants as token
 use Rattle.whole_rules.specs.declared.states.Move.{Move}
 use Rattle.whole_rules.specs.declared.states.Move.TheVariants.{Half, Spend, Stone}
 use Rattle.gd_words.specs.Job.{IsOnlyJob, Job}
-use Rattle.gd_words.specs.Task.Task.{solve}
+use Rattle.gd_words.specs.Task.Task.{ask}
 use Rattle.report.specs.Solution.{count_line, move_line, purse_line, regions_text, solve_text, solved_line, solved_lines, state_lines, token_word}
 use Rattle.board_words.specs.Words.{colour_word, winner_line, word_line}
 use Rattle.endgame_run.specs.Limits.{limits_of}
@@ -23,7 +23,7 @@ use Rattle.endgame_run.specs.Question.{IsAnswer}
 use Rattle.endgame_run.specs.Run.{Runs, RunsTask, RunsWords}
 use Rattle.endgame_run.specs.Solve.{AskToSolve, IsPosed, WritesMove, WritesWinner}
 use Rattle.endgame_run.specs.Written.{Reports}
-use Rattle.endgame_run.specs.declared.question.Question.TheVariants as question
+use Rattle.gd_words.specs.declared.job.Question.TheVariants as question
 use Rattle.endgame_run.specs.declared.status.Status.{Status}
 use Rattle.endgame_run.specs.declared.status.Status.TheVariants.{Done, Memory}
 use Rattle.endgame_run.specs.declared.status.Status.TheVariants as status
@@ -166,8 +166,8 @@ module _ (s : Whole) (regions : List Region) (numbers : List ℕ) (winner : Colo
   }
 
 -- the answer that is written to words that ask to solve a file
-module _ (words : List (List ℕ)) (job : Job) (word : List ℕ) (a b : Known) (only : IsOnlyJob words job) (is : job.task ≡ solve word) where
-  both : (text : List ℕ) → IsAnswer (question.Solve (limits_of job)) job.settings word a.input b.input Done text → b.holds ≡ append_known a.holds text → WritesWinner words a b × WritesMove words a b
+module _ (words : List (List ℕ)) (job : Job) (word : List ℕ) (a b : Known) (only : IsOnlyJob words job) (is : job.task ≡ ask question.Solve word) where
+  both : (text : List ℕ) → IsAnswer question.Solve (limits_of job) job.settings word a.input b.input Done text → b.holds ≡ append_known a.holds text → WritesWinner words a b × WritesMove words a b
   both text (file, told, short, (setup, reads, v)) e =
       let posed : IsPosed words a.input setup v.state = record { job = job; word = word; file = file; asks = (only, is); told = told; short = short; reads = reads; opening = v.solution.opening } in
       let written = e ∙ ap (append_known a.holds) v.is in (
@@ -175,15 +175,15 @@ module _ (words : List (List ℕ)) (job : Job) (word : List ℕ) (a b : Known) (
         (setup, v.state, v.move, posed, v.solution.first, (_, move_only v.state v.regions v.numbers v.winner v.move, written)),
       )
 
-  reported : Reports (IsAnswer (question.Solve (limits_of job)) job.settings word a.input b.input) a.writes b.writes a.holds b.holds Done → WritesWinner words a b × WritesMove words a b
+  reported : Reports (IsAnswer question.Solve (limits_of job) job.settings word a.input b.input) a.writes b.writes a.holds b.holds Done → WritesWinner words a b × WritesMove words a b
   reported (inl m) = absurd (let k : Path Status Done Memory = m.0 in cc)
   reported (inr (s, text, d, inr f)) = absurd (let k : Path Status Done status.CannotWrite = f.0 in cc)
-  reported (inr (s, text, d, inl f)) = both text (subst (λ r. IsAnswer (question.Solve (limits_of job)) job.settings word a.input b.input r text) (sym f.0) d) f.1
+  reported (inr (s, text, d, inl f)) = both text (subst (λ r. IsAnswer question.Solve (limits_of job) job.settings word a.input b.input r text) (sym f.0) d) f.1
 
 pub writes_both : {H S K : Type 0} (o : Outside H S K) (words : List (List ℕ)) (a b : Desk H S K) (status : Status) → RunsWords o words a status b → status ≡ Done → AskToSolve words
     → WritesWinner words (known o a) (known o b) × WritesMove words (known o a) (known o b)
 writes_both o words a b status (inl (none, refused)) done (job, word, (only, is)) = absurd (none job only.said)
 writes_both o words a b status (inr (job, only, r)) done (other, word, (its, is)) =
-    let task : job.task ≡ solve word = sym (ap (λ j. j.task) (only.only other its.said)) ∙ is in
-    let h : RunsTask o (solve word) job a Done b = subst (λ t. RunsTask o t job a Done b) task (subst (λ s. Runs o job a s b) done r) in
+    let task : job.task ≡ ask question.Solve word = sym (ap (λ j. j.task) (only.only other its.said)) ∙ is in
+    let h : RunsTask o (ask question.Solve word) job a Done b = subst (λ t. RunsTask o t job a Done b) task (subst (λ s. Runs o job a s b) done r) in
     reported words job word (known o a) (known o b) only task h.written

@@ -11,8 +11,10 @@ use Rattle.sgf_go.specs.declared.settings.Setup.{Setup}
 use Rattle.sgf_go.proofs.OneReadingLemmas.{one_setup}
 use Rattle.board_gen.proofs.OneBoardLemmas.{one_board}
 use Rattle.gd_words.specs.Job.{Job}
+use Rattle.gd_words.specs.declared.job.Question.{Question}
+use Rattle.gd_words.specs.declared.job.Question.TheVariants.{Solve}
 use Rattle.gd_words.specs.Task.{Task}
-use Rattle.gd_words.specs.Task.Task.{calc, gtp, play, safe, solve, trial, values}
+use Rattle.gd_words.specs.Task.Task.{ask, calc, gtp, play, trial}
 use Rattle.region_cut.specs.Cut.{AreRegionsOfPlay}
 use Rattle.endgame_solver.specs.Faults.{most_steps}
 use Rattle.endgame_solver.specs.declared.limits.Limits.{Limits}
@@ -20,27 +22,18 @@ use Rattle.endgame_run.specs.File.{told_of}
 use Rattle.endgame_run.specs.Limits.{limits_of}
 use Rattle.endgame_run.specs.Question.{AreToldSteps}
 use Rattle.endgame_run.specs.Run.{AreTaskSteps}
-use Rattle.endgame_run.specs.Steps.{NeedsNoRegions, NeedsRegions, TakesFewSteps, TakesNoSteps}
+use Rattle.endgame_run.specs.Steps.{IsAbout, NeedsNoRegions, TakesFewSteps, TakesNoSteps}
 use Rattle.endgame_run.specs.Trial.{AreTrialSteps, IsTrialPosition, trial_limits}
-use Rattle.endgame_run.specs.declared.question.Question.{Question}
-use Rattle.endgame_run.specs.declared.question.Question.TheVariants as question
-use Rattle.endgame_run.specs.inner.Top.{AsksQuestion, IsModest}
-
--- a job's limits are such as a search asks for
-pub modest : (job : Job) (q : Question) (word : List ℕ) → AsksQuestion job q word → job.positions ≤ MOST_POSITIONS → IsModest q
-modest job (question.Solve limits) word a few = subst (λ l. l.positions ≤ MOST_POSITIONS) (sym a.1) few
-modest job (question.Values limits) word a few = subst (λ l. l.positions ≤ MOST_POSITIONS) (sym a.1) few
-modest job question.Safe word a few = tt
 
 -- the steps for the position of a file that is told
-told_few : (job : Job) (i : Input) (limits : Limits) (setup : Setup) (regions : List Region) (before now : ℕ) (w word file : List ℕ) → w ≡ word → limits ≡ limits_of job
+told_few : (q : Question) (job : Job) (i : Input) (limits : Limits) (setup : Setup) (regions : List Region) (before now : ℕ) (w word file : List ℕ) → w ≡ word → limits ≡ limits_of job
     → told_of i word ≡ holding file → Reads file job.settings (Ok setup) → AreRegionsOfPlay setup.board regions
-    → AreToldSteps (question.Solve (limits_of job)) (told_of i w) job.settings before now → now ≤ before + most_steps limits regions
-told_few job i limits setup regions before now w word file same own told reads are (inl e) = omega (arith, e)
-told_few job i limits setup regions before now w word file same own told reads are (inr (f, p, known, read, few)) =
+    → AreToldSteps q (limits_of job) (told_of i w) job.settings before now → now ≤ before + most_steps limits regions
+told_few q job i limits setup regions before now w word file same own told reads are (inl e) = omega (arith, e)
+told_few q job i limits setup regions before now w word file same own told reads are (inr (f, p, known, read, few)) =
     let k : IsTold (holding file) f = subst (λ x. IsTold x f) (ap (told_of i) same ∙ told) known in
     let position : p ≡ setup = one_setup file job.settings p setup (subst (λ x. Reads x job.settings (Ok p)) (sym k) read) reads in
-    subst (λ l. now ≤ before + most_steps l regions) (sym own) (few regions (subst (λ x. AreRegionsOfPlay x.board regions) (sym position) are))
+    subst (λ l. now ≤ before + most_steps l regions) (sym own) (few.few regions (subst (λ x. AreRegionsOfPlay x.board regions) (sym position) are))
 
 -- the steps for the position of a number
 trial_few : (number : ℕ) (limits : Limits) (setup : Setup) (regions : List Region) (before now : ℕ) → limits ≡ trial_limits → IsTrialPosition number setup → AreRegionsOfPlay setup.board regions
@@ -51,23 +44,19 @@ trial_few number limits setup regions before now own here are (inr (p, drawn, fe
     subst (λ l. now ≤ before + most_steps l regions) (sym own) (few regions (subst (λ g. AreRegionsOfPlay g regions) (sym board) are))
 
 module _ (job : Job) (i : Input) (limits : Limits) (setup : Setup) (regions : List Region) (before now : ℕ) (are : AreRegionsOfPlay setup.board regions) where
-  by_file : (w : List ℕ) → ((word file : List ℕ) × (Path (Option (List ℕ)) (Some w) (Some word)) × (limits ≡ limits_of job) × (told_of i word ≡ holding file) × Reads file job.settings (Ok setup))
-      → AreToldSteps (question.Solve (limits_of job)) (told_of i w) job.settings before now → now ≤ before + most_steps limits regions
-  by_file w (word, file, is, own, told, reads) s = let same : w ≡ word = cc in told_few job i limits setup regions before now w word file same own told reads are s
+  by_file : (q : Question) (w : List ℕ) → ((word file : List ℕ) × (Path (Option (List ℕ)) (Some w) (Some word)) × (limits ≡ limits_of job) × (told_of i word ≡ holding file) × Reads file job.settings (Ok setup))
+      → AreToldSteps q (limits_of job) (told_of i w) job.settings before now → now ≤ before + most_steps limits regions
+  by_file q w (word, file, is, own, told, reads) s = let same : w ≡ word = cc in told_few q job i limits setup regions before now w word file same own told reads are s
 
-  few : (task : Task) → AreTaskSteps task job i before now → NeedsRegions task job i limits setup → now ≤ before + most_steps limits regions
-  few (solve w) s (inl h) = by_file w h s
-  few (values w) s (inl h) = by_file w h s
-  few (play w) s (inl h) = by_file w h s
-  few (safe w) s (inl h) = absurd cc
+  few : (task : Task) → AreTaskSteps task job i before now → IsAbout task job i limits setup → now ≤ before + most_steps limits regions
+  few (ask q w) s (inl h) = by_file q w h s
+  few (play w) s (inl h) = by_file Solve w h s
   few (trial n) s (inl h) = absurd cc
   few (calc e) s (inl h) = absurd cc
   few gtp s (inl h) = absurd cc
   few (trial n) s (inr (number, is, own, here)) =
       let e : number ≡ n = cc in trial_few n limits setup regions before now own (subst (λ m. IsTrialPosition m setup) e here) are s
-  few (solve w) s (inr h) = absurd cc
-  few (values w) s (inr h) = absurd cc
-  few (safe w) s (inr h) = absurd cc
+  few (ask q w) s (inr h) = absurd cc
   few (play w) s (inr h) = absurd cc
   few (calc e) s (inr h) = absurd cc
   few gtp s (inr h) = absurd cc
@@ -76,11 +65,9 @@ pub takes_few_steps : TakesFewSteps
 takes_few_steps job i limits setup regions before now s needs are = few job i limits setup regions before now are job.task s needs
 
 no_steps : (task : Task) (job : Job) (i : Input) (before now : ℕ) → AreTaskSteps task job i before now → NeedsNoRegions task → now ≡ before
-no_steps (safe word) job i before now (inl e) none = e
-no_steps (safe word) job i before now (inr h) none = h.4
+no_steps (ask q word) job i before now (inl e) none = e
+no_steps (ask q word) job i before now (inr h) none = h.4.none none
 no_steps (calc expression) job i before now s none = s
-no_steps (solve word) job i before now s none = absurd none
-no_steps (values word) job i before now s none = absurd none
 no_steps (play word) job i before now s none = absurd none
 no_steps (trial number) job i before now s none = absurd none
 no_steps gtp job i before now s none = absurd none

@@ -22,8 +22,9 @@ use Rattle.endgame_run.specs.declared.question.Found.{Found}
 use Rattle.endgame_run.specs.declared.question.Found.TheVariants.{Position}
 use Rattle.endgame_run.specs.declared.question.Opened.{Opened}
 use Rattle.endgame_run.specs.declared.question.Opened.TheVariants as opened
-use Rattle.endgame_run.specs.declared.question.Question.{Question}
-use Rattle.endgame_run.specs.declared.question.Question.TheVariants.{Solve}
+use Rattle.gd_words.specs.Task.{NeedsRegions}
+use Rattle.gd_words.specs.declared.job.Question.{Question}
+use Rattle.gd_words.specs.declared.job.Question.TheVariants.{Board, Margin, Moves, Safe, Solve, Values}
 use Rattle.endgame_run.specs.declared.status.Status.{Status}
 use Rattle.endgame_run.specs.declared.status.Status.TheVariants.{Done, Usage, CannotRead, CannotWrite, BadFile, Memory, TooManyLines, TooLong}
 use Rattle.endgame_run.specs.declared.status.Status.TheVariants as status
@@ -32,21 +33,21 @@ use Rattle.endgame_run.specs.inner.Found.{IsFoundInFile}
 use Rattle.endgame_run.specs.inner.Top.{IsBegun, IsOpened}
 
 -- a position's status is an answer about its file
-pub position_answer : (q : Question) (told : Told) (before now : ℕ) (settings : Settings) (setup : Setup) (s : Status) (text : List ℕ)
-    → IsPositionOf told settings setup → IsPositionAnswer q setup s text → IsVerdict q told before now settings s text
-position_answer q told before now settings setup Done text p h = (p.file, p.told_so, p.short, (setup, p.reads, h))
-position_answer q told before now settings setup status.Cycle text p h = (p.file, p.told_so, p.short, (setup, p.reads, h))
-position_answer q told before now settings setup status.RegionLimit text p h = (p.file, p.told_so, p.short, (setup, p.reads, h))
-position_answer q told before now settings setup status.FormLimit text p h = (p.file, p.told_so, p.short, (setup, p.reads, h))
-position_answer q told before now settings setup Usage text p h = absurd h
-position_answer q told before now settings setup CannotRead text p h = absurd h
-position_answer q told before now settings setup CannotWrite text p h = absurd h
-position_answer q told before now settings setup TooLong text p h = absurd h
-position_answer q told before now settings setup TooManyLines text p h = absurd h
-position_answer q told before now settings setup Memory text p h = absurd h
-position_answer q told before now settings setup (BadFile f) text p h = absurd h
-position_answer q told before now settings setup (status.BadExpression f) text p h = absurd h
-position_answer q told before now settings setup status.CalcLimit text p h = absurd h
+pub position_answer : (q : Question) (limits : Limits) (told : Told) (before now : ℕ) (settings : Settings) (setup : Setup) (s : Status) (text : List ℕ)
+    → IsPositionOf told settings setup → IsPositionAnswer q limits setup s text → IsVerdict q limits told before now settings s text
+position_answer q limits told before now settings setup Done text p h = (p.file, p.told_so, p.short, (setup, p.reads, h))
+position_answer q limits told before now settings setup status.Cycle text p h = (p.file, p.told_so, p.short, (setup, p.reads, h))
+position_answer q limits told before now settings setup status.RegionLimit text p h = (p.file, p.told_so, p.short, (setup, p.reads, h))
+position_answer q limits told before now settings setup status.FormLimit text p h = (p.file, p.told_so, p.short, (setup, p.reads, h))
+position_answer q limits told before now settings setup Usage text p h = absurd h
+position_answer q limits told before now settings setup CannotRead text p h = absurd h
+position_answer q limits told before now settings setup CannotWrite text p h = absurd h
+position_answer q limits told before now settings setup TooLong text p h = absurd h
+position_answer q limits told before now settings setup TooManyLines text p h = absurd h
+position_answer q limits told before now settings setup Memory text p h = absurd h
+position_answer q limits told before now settings setup (BadFile f) text p h = absurd h
+position_answer q limits told before now settings setup (status.BadExpression f) text p h = absurd h
+position_answer q limits told before now settings setup status.CalcLimit text p h = absurd h
 
 pub found_position : (settings : Settings) (word : List ℕ) (i j : Input) (found : Found) (setup : Setup) → found ≡ Position setup
     → IsFoundInFile settings word i j found → IsPositionOf (told_of i word) settings setup
@@ -60,26 +61,32 @@ is_refusal (Cycle p names back) s h = inr (inl h)
 is_refusal (Form p) s h = inr (inr h)
 is_refusal (error.Memory e) s h = absurd h
 
-pub refused_question : (q : Question) (limits : Limits) (setup : Setup) (s : Status) (text : List ℕ) → ((t : Status) → IsRefused limits setup t text → IsQuestionRefused q setup t text)
-    → IsRefused limits setup s text → IsPositionAnswer q setup s text × (s ≢ Done)
-refused_question q limits setup s text refusal r = go (is_refusal r.fault s r.status) where
-  at : (t : Status) → (IsQuestionRefused q setup t text → IsPositionAnswer q setup t text) → s ≡ t → IsPositionAnswer q setup s text
-  at t is e = subst (λ x. IsPositionAnswer q setup x text) (sym e) (is (refusal t (subst (λ x. IsRefused limits setup x text) e r)))
+-- a question that needs regions is refused where they are
+question_refused : (q : Question) (limits : Limits) (setup : Setup) (s : Status) (text : List ℕ) → NeedsRegions q → IsRefused limits setup s text → IsQuestionRefused q limits setup s text
+question_refused Solve limits setup s text needs r = r
+question_refused Margin limits setup s text needs r = r
+question_refused Moves limits setup s text needs r = r
+question_refused Values limits setup s text needs r = inl r
+question_refused Safe limits setup s text needs r = absurd needs
+question_refused Board limits setup s text needs r = absurd needs
 
-  go : (s ≡ status.RegionLimit) ⊎ ((s ≡ status.Cycle) ⊎ (s ≡ status.FormLimit)) → IsPositionAnswer q setup s text × (s ≢ Done)
+pub refused_answer : (q : Question) (limits : Limits) (setup : Setup) (s : Status) (text : List ℕ) → NeedsRegions q → IsRefused limits setup s text
+    → IsPositionAnswer q limits setup s text × (s ≢ Done)
+refused_answer q limits setup s text needs r = go (is_refusal r.fault s r.status) where
+  at : (t : Status) → (IsQuestionRefused q limits setup t text → IsPositionAnswer q limits setup t text) → s ≡ t → IsPositionAnswer q limits setup s text
+  at t is e = subst (λ x. IsPositionAnswer q limits setup x text) (sym e) (is (question_refused q limits setup t text needs (subst (λ x. IsRefused limits setup x text) e r)))
+
+  go : (s ≡ status.RegionLimit) ⊎ ((s ≡ status.Cycle) ⊎ (s ≡ status.FormLimit)) → IsPositionAnswer q limits setup s text × (s ≢ Done)
   go (inl e) = (at status.RegionLimit (λ x. x) e, λ d. absurd cc)
   go (inr (inl e)) = (at status.Cycle (λ x. x) e, λ d. absurd cc)
   go (inr (inr e)) = (at status.FormLimit (λ x. x) e, λ d. absurd cc)
-
-pub refused_answer : (limits : Limits) (setup : Setup) (s : Status) (text : List ℕ) → IsRefused limits setup s text → IsPositionAnswer (Solve limits) setup s text × (s ≢ Done)
-refused_answer limits setup s text r = refused_question (Solve limits) limits setup s text (λ t x. x) r
 
 -- a position that was begun, or refused, of a file
 pub begun_opened : (limits : Limits) (given : Option Colour) (settings : Settings) (word : List ℕ) (i j : Input) (setup : Setup) (opened : Opened)
     → IsPositionOf (told_of i word) settings setup → IsBegun limits given setup opened → IsOpened limits given settings word i j opened
 begun_opened limits given settings word i j setup (opened.Game session) p h = (record { setup = setup; position = p; playable = h.0; colour = h.1 }, h.2)
 begun_opened limits given settings word i j setup (opened.Fault report) p r =
-    let h = refused_answer limits setup report.status report.text r in (position_answer (Solve limits) _ _ _ settings setup report.status report.text p h.0, h.1)
+    let h = refused_answer Solve limits setup report.status report.text tt r in (position_answer Solve limits _ _ _ settings setup report.status report.text p h.0, h.1)
 
 pub told_is : (before now : Option (List ℕ)) (file : List ℕ) → IsWhole before now file → IsTold (told_source before) file
 told_is None now file w = tt

@@ -4,7 +4,7 @@ use Rattle.desk_io.specs.Desk.{Desk, Outside}
 use Rattle.desk_io.specs.Outside.{ended}
 use Rattle.gd_words.specs.Job.{Job}
 use Rattle.gd_words.specs.Task.{Task}
-use Rattle.gd_words.specs.Task.Task.{calc, gtp, play, safe, solve, trial, values}
+use Rattle.gd_words.specs.Task.Task.{ask, calc, gtp, play, trial}
 use Rattle.endgame_run.specs.File.{TakesAtMost, dash}
 use Rattle.endgame_run.specs.Question.{AnswersQuestion}
 use Rattle.endgame_run.specs.Run.{RunsTask}
@@ -16,33 +16,21 @@ use Rattle.endgame_run.proofs.TopLaws.{nothing_taken}
 
 module _ {H S K : Type 0} (o : Outside H S K) (job : Job) (a b : Desk H S K) (s : Status) where
   to_end : (task : Task) → RunsTask o task job a s b → s ≡ Done → AsksAbout task dash → o.sources.left b.lines ≡ ended (o.sources.left a.lines)
-  to_end (solve word) r done is = r.at_end done (sym is)
-  to_end (values word) r done is = r.at_end done (sym is)
-  to_end (safe word) r done is = r.at_end done (sym is)
+  to_end (ask question word) r done is = r.at_end done (sym is)
   to_end (play word) r done is = absurd is
   to_end (trial number) r done is = absurd is
   to_end (calc expression) r done is = absurd is
   to_end gtp r done is = absurd is
 
   lines : (task : Task) → RunsTask o task job a s b → TouchesLines o task job a s b
-  lines (solve word) r = λ w is apart. r.reads.lines_unread (λ e. apart (is ∙ e))
-  lines (values word) r = λ w is apart. r.reads.lines_unread (λ e. apart (is ∙ e))
-  lines (safe word) r = λ w is apart. r.reads.lines_unread (λ e. apart (is ∙ e))
+  lines (ask question word) r = r.reads.lines_unread
   lines (play word) r = elim r.outcome [ inl u ↦ inl u.1 | inr g ↦ inr g ]
   lines (trial number) r = r.lines_unread
   lines (calc expression) r = r.lines_unread
   lines gtp r = tt
 
-  shelf_of : (q : Question) (word : List ℕ) → AnswersQuestion o q job.settings word a s b → (w : List ℕ) → w ≡ word → (w ≡ dash → b.shelf ≡ a.shelf) × (w ≢ dash → o.shelves.asks a.shelf w b.shelf)
-  shelf_of q word r w is = (
-    λ e. r.reads.shelf_unread (sym is ∙ e),
-    λ apart. subst (λ x. o.shelves.asks a.shelf x b.shelf) (sym is) (r.reads.asked (λ e. apart (is ∙ e))),
-  )
-
   shelf : (task : Task) → RunsTask o task job a s b → TouchesShelf o task a b
-  shelf (solve word) r = shelf_of _ word r
-  shelf (values word) r = shelf_of _ word r
-  shelf (safe word) r = shelf_of _ word r
+  shelf (ask question word) r = (r.reads.shelf_unread, r.reads.asked)
   shelf (play word) r = r.asked
   shelf (trial number) r = r.shelf_unread
   shelf (calc expression) r = r.shelf_unread
@@ -52,9 +40,7 @@ module _ {H S K : Type 0} (o : Outside H S K) (job : Job) (a b : Desk H S K) (s 
   untaken same = subst (λ l. TakesAtMost 0 (o.sources.left a.lines) (o.sources.left l)) (sym same) (nothing_taken 0 (o.sources.left a.lines))
 
   taken : (task : Task) → RunsTask o task job a s b → TakesAtMost (most_of task) (o.sources.left a.lines) (o.sources.left b.lines)
-  taken (solve word) r = r.reads.taken
-  taken (values word) r = r.reads.taken
-  taken (safe word) r = r.reads.taken
+  taken (ask question word) r = r.reads.taken
   taken (play word) r = r.taken
   taken (trial number) r = untaken r.lines_unread
   taken (calc expression) r = untaken r.lines_unread

@@ -11,8 +11,11 @@ use Rattle.game_calc.specs.Answer.{IsCalcRefusal}
 use Rattle.game_calc.specs.declared.errors.CalcError.TheVariants as calc_error
 use Rattle.game_calc.specs.declared.errors.CalcFault.{CalcFault}
 use Rattle.gd_words.specs.Job.{Job}
+use Rattle.gd_words.specs.declared.job.Question.{Question}
+use Rattle.gd_words.specs.declared.job.Question.TheVariants.{Board, Safe, Solve, Values}
+use Rattle.endgame_solver.specs.declared.limits.Limits.{Limits}
 use Rattle.gd_words.specs.Task.{Task}
-use Rattle.gd_words.specs.Task.Task.{calc, gtp, play, safe, solve, trial, values}
+use Rattle.gd_words.specs.Task.Task.{ask, calc, gtp, play, trial}
 use Rattle.region_cut.specs.Cut.{AreRegionsOfPlay}
 use Rattle.endgame_solver.specs.Faults.{AreSound}
 use Rattle.endgame_solver.specs.Regions.{region_at}
@@ -26,17 +29,16 @@ use Rattle.go_grid.specs.declared.grid.Colour.{Colour}
 use Rattle.whole_rules.specs.WholeGame.{Whole}
 use Rattle.endgame_run.specs.Limits.{engine_limits, limits_of}
 use Rattle.endgame_run.specs.Run.{Runs}
-use Rattle.endgame_run.specs.declared.question.Question.{Question}
-use Rattle.endgame_run.specs.declared.question.Question.TheVariants.{Safe, Solve, Values}
 use Rattle.endgame_run.specs.declared.status.Status.{Status}
 use Rattle.endgame_run.specs.declared.status.Status.TheVariants.{Done, Memory, TooManyLines}
 
 -- the regions of play that the question asks about are all sound within its limits, and the values that it asks for can all be shown
-abbrev pub IsWithinLimits : Question → Setup → Type 0
-IsWithinLimits (Solve limits) setup = (regions : List Region) × AreRegionsOfPlay setup.board regions × AreSound limits regions
-IsWithinLimits (Values limits) setup = (regions : List Region) × AreRegionsOfPlay setup.board regions × AreSound limits regions
+abbrev pub IsWithinLimits : Question → Limits → Setup → Type 0
+IsWithinLimits Safe limits setup = ⊤
+IsWithinLimits Board limits setup = ⊤
+IsWithinLimits Values limits setup = (regions : List Region) × AreRegionsOfPlay setup.board regions × AreSound limits regions
     × ((k : ℕ) → k < length regions → HasShownValue (region_at regions k))
-IsWithinLimits Safe setup = ⊤
+IsWithinLimits question limits setup = (regions : List Region) × AreRegionsOfPlay setup.board regions × AreSound limits regions
 
 -- no read, no load and no write has failed
 pub record IsCalm (a b : Known) : Type 0 where
@@ -45,13 +47,13 @@ pub record IsCalm (a b : Known) : Type 0 where
   pub writes : ¬ Rose a.writes b.writes
 
 -- the file of the word is told, it is read, all that the question asks is within its limits, and no count of faults has risen
-pub record IsAnswerable (question : Question) (settings : Settings) (word : List ℕ) (a b : Known) : Type 0 where
+pub record IsAnswerable (question : Question) (limits : Limits) (settings : Settings) (word : List ℕ) (a b : Known) : Type 0 where
   pub file : List ℕ
   pub setup : Setup
   pub told : told_of a.input word ≡ holding file
   pub short : HasFewBytes file
   pub reads : Reads file settings (Ok setup)
-  pub within : IsWithinLimits question setup
+  pub within : IsWithinLimits question limits setup
   pub calm : IsCalm a b
 
 -- the run is done, or memory was wanted
@@ -75,10 +77,8 @@ IsUnrefused limit expression = ((fault : CalcFault) → ¬ IsCalcRefusal limit e
 -- Where nothing keeps a task from its text it is done, but for want of memory. A game and a session may also have come to 10,000 lines;
 -- a load that fails keeps the engine from nothing.
 abbrev pub IsComplete : Task → Job → Known → Status → Known → Type 0
-IsComplete (solve word) job a status b = IsAnswerable (Solve (limits_of job)) job.settings word a b → IsDone status
-IsComplete (values word) job a status b = IsAnswerable (Values (limits_of job)) job.settings word a b → IsDone status
-IsComplete (safe word) job a status b = IsAnswerable Safe job.settings word a b → IsDone status
-IsComplete (play word) job a status b = IsAnswerable (Solve (limits_of job)) job.settings word a b → IsDone status ⊎ HasManyLines job word a status
+IsComplete (ask question word) job a status b = IsAnswerable question (limits_of job) job.settings word a b → IsDone status
+IsComplete (play word) job a status b = IsAnswerable Solve (limits_of job) job.settings word a b → IsDone status ⊎ HasManyLines job word a status
 IsComplete (trial number) job a status b = ¬ Rose a.writes b.writes → IsDone status
 IsComplete (calc expression) job a status b = IsUnrefused job.parts expression → ¬ Rose a.writes b.writes → IsDone status
 IsComplete gtp job a status b = ¬ Rose a.input.reads b.input.reads → ¬ Rose a.writes b.writes → IsDone status ⊎ HasManyCommands job a status b

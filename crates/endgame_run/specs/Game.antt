@@ -21,7 +21,7 @@ use Rattle.endgame_run.specs.File.{TakesAtMost, most_of_game, told_of}
 use Rattle.endgame_run.specs.Found.{IsPositionOf}
 use Rattle.endgame_run.specs.Question.{IsAnswer}
 use Rattle.endgame_run.specs.Written.{Reports}
-use Rattle.endgame_run.specs.declared.question.Question.TheVariants.{Solve}
+use Rattle.gd_words.specs.declared.job.Question.TheVariants.{Solve}
 use Rattle.endgame_run.specs.declared.status.Status.{Status}
 use Rattle.endgame_run.specs.declared.status.Status.TheVariants.{Done, CannotRead, CannotWrite, TooManyLines}
 
@@ -93,7 +93,7 @@ IsPlayedGame limits given settings word a status b = (engine : Colour) × (s : W
 
 -- no game was begun: for want of memory, or since the file can't be solved
 abbrev pub IsUnplayed : Limits → Settings → List ℕ → Known → Status → Known → Type 0
-IsUnplayed limits settings word a status b = Reports (λ s text. IsAnswer (Solve limits) settings word a.input b.input s text × (s ≢ Done)) a.writes b.writes a.holds b.holds status
+IsUnplayed limits settings word a status b = Reports (λ s text. IsAnswer Solve limits settings word a.input b.input s text × (s ≢ Done)) a.writes b.writes a.holds b.holds status
 
 -- what a game of the file of a word comes to
 pub record PlaysFile {H S K : Type 0} (o : Outside H S K) (limits : Limits) (given : Option Colour) (settings : Settings) (word : List ℕ) (a : Desk H S K) (status : Status) (b : Desk H S K) : Type 0 where

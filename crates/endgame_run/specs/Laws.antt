@@ -1,5 +1,5 @@
 -- The laws of the verdict.
-use Rattle.std.specs.Prelude.{◌≡◌, ◌⊎◌, ◌≤◌, ◌<◌, ℕ, List, length, Option}
+use Rattle.std.specs.Prelude.{◌≡◌, ◌≢◌, ◌⊎◌, ◌≤◌, ◌<◌, ℕ, List, length, Option}
 use Rattle.go_grid.specs.declared.grid.TheConstants.{MOST_POINTS}
 use Rattle.go_grid.specs.declared.grid.Colour.{Colour}
 use Rattle.go_grid.specs.Region.{Region}
@@ -12,43 +12,44 @@ use Rattle.region_cut.specs.Cut.{AreRegionsOfPlay}
 use Rattle.endgame_run.specs.declared.status.Status.{Status}
 use Rattle.whole_rules.specs.WholeGame.{Whole}
 use Rattle.endgame_run.specs.declared.status.Status.TheVariants.{Done, FormLimit, TooManyLines}
-use Rattle.endgame_run.specs.declared.question.Question.{Question}
-use Rattle.endgame_run.specs.declared.question.Question.TheVariants.{Solve, Values}
+use Rattle.gd_words.specs.Task.{NeedsRegions}
+use Rattle.gd_words.specs.declared.job.Question.{Question}
+use Rattle.gd_words.specs.declared.job.Question.TheVariants.{Values}
 use Rattle.report.specs.Values.{HasShownValue, IsFirstUnshown}
 use Rattle.endgame_solver.specs.Regions.{region_at}
 use Rattle.endgame_run.specs.Calc.{IsCalc}
 use Rattle.endgame_run.specs.Game.{IsGameWritten}
 use Rattle.endgame_run.specs.Refusal.{HasStatus}
-use Rattle.endgame_run.specs.Question.{HasLimits, IsFileAnswer, IsPositionAnswer}
+use Rattle.endgame_run.specs.Question.{IsFileAnswer, IsPositionAnswer}
 
 -- a question about a file has at most one status
 abbrev pub HasOneStatus : Type 0
-HasOneStatus = (question : Question) (file : List ℕ) (settings : Settings) (s t : Status) (a b : List ℕ)
-    → IsFileAnswer question file settings s a → IsFileAnswer question file settings t b → s ≡ t
+HasOneStatus = (question : Question) (limits : Limits) (file : List ℕ) (settings : Settings) (s t : Status) (a b : List ℕ)
+    → IsFileAnswer question limits file settings s a → IsFileAnswer question limits file settings t b → s ≡ t
 
 -- an expression has at most one status
 abbrev pub ExpressionHasOneStatus : Type 0
 ExpressionHasOneStatus = (limit : ℕ) (expression : List ℕ) (s t : Status) (a b : List ℕ) → IsCalc limit expression s a → IsCalc limit expression t b → s ≡ t
 
--- a position whose regions are all sound is solved
+-- a question about a position whose regions are all sound is answered, but for values that can't all be shown
 abbrev pub SolvesSound : Type 0
-SolvesSound = (limits : Limits) (setup : Setup) (regions : List Region) (s : Status) (text : List ℕ)
-    → AreRegionsOfPlay setup.board regions → AreSound limits regions → IsPositionAnswer (Solve limits) setup s text → s ≡ Done
+SolvesSound = (question : Question) (limits : Limits) (setup : Setup) (regions : List Region) (s : Status) (text : List ℕ)
+    → question ≢ Values → AreRegionsOfPlay setup.board regions → AreSound limits regions → IsPositionAnswer question limits setup s text → s ≡ Done
 
 -- a position whose regions are all sound has its values shown, where each can be
 abbrev pub ShowsShown : Type 0
 ShowsShown = (limits : Limits) (setup : Setup) (regions : List Region) (s : Status) (text : List ℕ) → AreRegionsOfPlay setup.board regions → AreSound limits regions
-    → ((k : ℕ) → k < length regions → HasShownValue (region_at regions k)) → IsPositionAnswer (Values limits) setup s text → s ≡ Done
+    → ((k : ℕ) → k < length regions → HasShownValue (region_at regions k)) → IsPositionAnswer Values limits setup s text → s ≡ Done
 
 -- a position whose regions are all sound is refused for the first of them whose value can't be shown
 abbrev pub RefusesUnshown : Type 0
 RefusesUnshown = (limits : Limits) (setup : Setup) (regions : List Region) (p : ℕ) (s : Status) (text : List ℕ) → AreRegionsOfPlay setup.board regions → AreSound limits regions
-    → IsFirstUnshown regions p → IsPositionAnswer (Values limits) setup s text → s ≡ FormLimit
+    → IsFirstUnshown regions p → IsPositionAnswer Values limits setup s text → s ≡ FormLimit
 
 -- a position whose regions have a fault is refused with the status of that fault
 abbrev pub RefusesFaults : Type 0
 RefusesFaults = (question : Question) (limits : Limits) (setup : Setup) (regions : List Region) (fault : SolveError) (s t : Status) (text : List ℕ)
-    → HasLimits question limits → AreRegionsOfPlay setup.board regions → AreRefused limits regions fault → HasStatus fault t → IsPositionAnswer question setup s text → s ≡ t
+    → NeedsRegions question → AreRegionsOfPlay setup.board regions → AreRefused limits regions fault → HasStatus fault t → IsPositionAnswer question limits setup s text → s ≡ t
 
 -- a game over these bytes that no read and no write broke off has one status and one text
 abbrev pub HasOneGame : Type 0

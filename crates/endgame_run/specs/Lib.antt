@@ -10,6 +10,7 @@ pub mod Refusal
 pub mod Written
 pub mod Solve
 pub mod Values
+pub mod Analysis
 pub mod Question
 pub mod Game
 pub mod Engine

@@ -5,7 +5,8 @@ use Rattle.desk_io.specs.Desk.{Desk, Input, Known, Outside, known}
 use Rattle.desk_io.specs.Outside.{Rose}
 use Rattle.gd_words.specs.Job.{Job, SayNoJob}
 use Rattle.gd_words.specs.Task.{Task}
-use Rattle.gd_words.specs.Task.Task.{calc, gtp, play, safe, solve, trial, values}
+use Rattle.gd_words.specs.Task.Task.{ask, calc, gtp, play, trial}
+use Rattle.gd_words.specs.declared.job.Question.TheVariants.{Solve}
 use Rattle.endgame_run.specs.Calc.{IsCalc}
 use Rattle.endgame_run.specs.Engine.{IsEnginePlay}
 use Rattle.endgame_run.specs.Game.{IsPlayedGame}
@@ -13,17 +14,14 @@ use Rattle.endgame_run.specs.Limits.{engine_limits, limits_of}
 use Rattle.endgame_run.specs.Question.{IsAnswer}
 use Rattle.endgame_run.specs.Run.{Runs, RunsWords}
 use Rattle.endgame_run.specs.Trial.{IsTrialAnswer}
-use Rattle.endgame_run.specs.declared.question.Question.TheVariants.{Safe, Solve, Values}
 use Rattle.endgame_run.specs.declared.status.Status.{Status}
 use Rattle.endgame_run.specs.declared.status.Status.TheVariants.{CannotWrite, Done, Memory, Usage}
 
 -- The statuses of a task that are decided at once, and their texts, by what is known of the input before and after: what keeps a file
 -- from being solved keeps it from being played. A session decides by its turns.
 abbrev pub IsDecided : Task → Job → Input → Input → Status → List ℕ → Type 0
-IsDecided (solve word) job = IsAnswer (Solve (limits_of job)) job.settings word
-IsDecided (values word) job = IsAnswer (Values (limits_of job)) job.settings word
-IsDecided (safe word) job = IsAnswer Safe job.settings word
-IsDecided (play word) job = λ i j s text. IsAnswer (Solve (limits_of job)) job.settings word i j s text × (s ≢ Done)
+IsDecided (ask question word) job = IsAnswer question (limits_of job) job.settings word
+IsDecided (play word) job = λ i j s text. IsAnswer Solve (limits_of job) job.settings word i j s text × (s ≢ Done)
 IsDecided (trial number) job = λ i j. IsTrialAnswer number
 IsDecided (calc expression) job = λ i j. IsCalc job.parts expression
 IsDecided gtp job = λ i j s text. ⊥

@@ -9,77 +9,78 @@ use Rattle.sgf_tree.specs.declared.reader.TheConstants.{MOST_BYTES}
 use Rattle.sgf_go.specs.File.{HasFewBytes, Reads}
 use Rattle.sgf_go.specs.declared.settings.Settings.{Settings}
 use Rattle.sgf_go.specs.declared.settings.Setup.{Setup}
+use Rattle.gd_words.specs.Task.{NeedsRegions}
+use Rattle.gd_words.specs.declared.job.Question.{Question}
+use Rattle.gd_words.specs.declared.job.Question.TheVariants.{Board, Margin, Moves, Safe, Solve, Values}
 use Rattle.region_cut.specs.Cut.{AreRegionsOfPlay}
 use Rattle.endgame_solver.specs.Faults.{most_steps}
 use Rattle.endgame_solver.specs.declared.limits.Limits.{Limits}
+use Rattle.report.specs.BoardText.{board_text}
 use Rattle.report.specs.Safety.{IsSafeText}
+use Rattle.endgame_run.specs.Analysis.{IsMargin, IsMoves}
 use Rattle.endgame_run.specs.File.{ReadsFile, count_of, dash, told_of}
 use Rattle.endgame_run.specs.Position.{IsFaultText}
 use Rattle.endgame_run.specs.Refusal.{IsRefused}
 use Rattle.endgame_run.specs.Solve.{IsSolved}
 use Rattle.endgame_run.specs.Values.{AreUnshown, IsValued}
 use Rattle.endgame_run.specs.Written.{Reports}
-use Rattle.endgame_run.specs.declared.question.Question.{Question}
-use Rattle.endgame_run.specs.declared.question.Question.TheVariants.{Safe, Solve, Values}
 use Rattle.endgame_run.specs.declared.status.Status.{Status}
 use Rattle.endgame_run.specs.declared.status.Status.TheVariants.{BadFile, CannotRead, Cycle, Done, FormLimit, RegionLimit, TooLong}
 
--- the text that answers a question about a position
-abbrev pub IsTextOf : Question → Setup → List ℕ → Type 0
-IsTextOf (Solve limits) setup text = IsSolved limits setup text
-IsTextOf (Values limits) setup text = IsValued limits setup text
-IsTextOf Safe setup text = IsSafeText setup.board text
+-- the text that answers a question about a position, within the limits
+abbrev pub IsTextOf : Question → Limits → Setup → List ℕ → Type 0
+IsTextOf Solve limits setup text = IsSolved limits setup text
+IsTextOf Values limits setup text = IsValued limits setup text
+IsTextOf Margin limits setup text = IsMargin limits setup text
+IsTextOf Moves limits setup text = IsMoves limits setup text
+IsTextOf Safe limits setup text = IsSafeText setup.board text
+IsTextOf Board limits setup text = text ≡ board_text setup.board setup.side setup.komi_halves setup.black_prisoners setup.white_prisoners
 
 -- a question about a position that isn't answered, and its text
-abbrev pub IsQuestionRefused : Question → Setup → Status → List ℕ → Type 0
-IsQuestionRefused (Solve limits) setup s text = IsRefused limits setup s text
-IsQuestionRefused (Values limits) setup s text = IsRefused limits setup s text ⊎ AreUnshown limits setup s text
-IsQuestionRefused Safe setup s text = ⊥
+abbrev pub IsQuestionRefused : Question → Limits → Setup → Status → List ℕ → Type 0
+IsQuestionRefused Safe limits setup s text = ⊥
+IsQuestionRefused Board limits setup s text = ⊥
+IsQuestionRefused Values limits setup s text = IsRefused limits setup s text ⊎ AreUnshown limits setup s text
+IsQuestionRefused question limits setup s text = IsRefused limits setup s text
 
 -- the status of a question about a position, and its text
-abbrev pub IsPositionAnswer : Question → Setup → Status → List ℕ → Type 0
-IsPositionAnswer question setup Done text = IsTextOf question setup text
-IsPositionAnswer question setup Cycle text = IsQuestionRefused question setup Cycle text
-IsPositionAnswer question setup RegionLimit text = IsQuestionRefused question setup RegionLimit text
-IsPositionAnswer question setup FormLimit text = IsQuestionRefused question setup FormLimit text
-IsPositionAnswer question setup s text = ⊥
+abbrev pub IsPositionAnswer : Question → Limits → Setup → Status → List ℕ → Type 0
+IsPositionAnswer question limits setup Done text = IsTextOf question limits setup text
+IsPositionAnswer question limits setup Cycle text = IsQuestionRefused question limits setup Cycle text
+IsPositionAnswer question limits setup RegionLimit text = IsQuestionRefused question limits setup RegionLimit text
+IsPositionAnswer question limits setup FormLimit text = IsQuestionRefused question limits setup FormLimit text
+IsPositionAnswer question limits setup s text = ⊥
 
 -- The status of a question about a file that is not too long, and its text: no two of these statuses can hold at once.
-abbrev pub IsFileAnswer : Question → List ℕ → Settings → Status → List ℕ → Type 0
-IsFileAnswer question file settings (BadFile f) text = Reads file settings (Err f) × IsFaultText file f text
-IsFileAnswer question file settings s text = (setup : Setup) × Reads file settings (Ok setup) × IsPositionAnswer question setup s text
+abbrev pub IsFileAnswer : Question → Limits → List ℕ → Settings → Status → List ℕ → Type 0
+IsFileAnswer question limits file settings (BadFile f) text = Reads file settings (Err f) × IsFaultText file f text
+IsFileAnswer question limits file settings s text = (setup : Setup) × Reads file settings (Ok setup) × IsPositionAnswer question limits setup s text
 
 -- The status by what is told of the file and by the counts of faults of the object that holds it, and its text.
-abbrev pub IsVerdict : Question → Told → ℕ → ℕ → Settings → Status → List ℕ → Type 0
-IsVerdict question told before now settings CannotRead text = ((told ≡ absent) ⊎ Rose before now) × (text ≡ codes "fault cannot read\n")
-IsVerdict question told before now settings TooLong text = IsLonger MOST_BYTES told × (text ≡ codes "fault too long\n")
-IsVerdict question told before now settings s text = (file : List ℕ) × IsTold told file × HasFewBytes file × IsFileAnswer question file settings s text
+abbrev pub IsVerdict : Question → Limits → Told → ℕ → ℕ → Settings → Status → List ℕ → Type 0
+IsVerdict question limits told before now settings CannotRead text = ((told ≡ absent) ⊎ Rose before now) × (text ≡ codes "fault cannot read\n")
+IsVerdict question limits told before now settings TooLong text = IsLonger MOST_BYTES told × (text ≡ codes "fault too long\n")
+IsVerdict question limits told before now settings s text = (file : List ℕ) × IsTold told file × HasFewBytes file × IsFileAnswer question limits file settings s text
 
 -- The status of a question about the file of a word, by what is known of the input before and after its reading, and its text.
-abbrev pub IsAnswer : Question → Settings → List ℕ → Input → Input → Status → List ℕ → Type 0
-IsAnswer question settings word i j s text = IsVerdict question (told_of i word) (count_of i word) (count_of j word) settings s text
+abbrev pub IsAnswer : Question → Limits → Settings → List ℕ → Input → Input → Status → List ℕ → Type 0
+IsAnswer question limits settings word i j s text = IsVerdict question limits (told_of i word) (count_of i word) (count_of j word) settings s text
 
--- the question is about the regions of play, within these limits
-abbrev pub HasLimits : Question → Limits → Type 0
-HasLimits (Solve most) limits = most ≡ limits
-HasLimits (Values most) limits = most ≡ limits
-HasLimits Safe limits = ⊥
-
--- how many steps a question about a position takes at most: none but about its regions of play, and then for each the limit, or
--- 3 to its points where that is less
-abbrev pub AreStepsFor : Question → Setup → ℕ → ℕ → Type 0
-AreStepsFor (Solve limits) setup before now = (regions : List Region) → AreRegionsOfPlay setup.board regions → now ≤ before + most_steps limits regions
-AreStepsFor (Values limits) setup before now = (regions : List Region) → AreRegionsOfPlay setup.board regions → now ≤ before + most_steps limits regions
-AreStepsFor Safe setup before now = now ≡ before
+-- how many steps a question about a position takes at most: for each of its regions of play the limit, or 3 to its points where that
+-- is less; and none where it needs no regions
+pub record AreStepsFor (question : Question) (limits : Limits) (setup : Setup) (before now : ℕ) : Type 0 where
+  pub few : (regions : List Region) → AreRegionsOfPlay setup.board regions → now ≤ before + most_steps limits regions
+  pub none : ¬ NeedsRegions question → now ≡ before
 
 -- the steps of a question about a file: none, or those for the position of a file that has all that is told of it
-abbrev pub AreToldSteps : Question → Told → Settings → ℕ → ℕ → Type 0
-AreToldSteps question told settings before now = (now ≡ before)
-    ⊎ ((file : List ℕ) × (setup : Setup) × IsTold told file × Reads file settings (Ok setup) × AreStepsFor question setup before now)
+abbrev pub AreToldSteps : Question → Limits → Told → Settings → ℕ → ℕ → Type 0
+AreToldSteps question limits told settings before now = (now ≡ before)
+    ⊎ ((file : List ℕ) × (setup : Setup) × IsTold told file × Reads file settings (Ok setup) × AreStepsFor question limits setup before now)
 
 -- what the run of a question about the file of a word comes to
-pub record AnswersQuestion {H S K : Type 0} (o : Outside H S K) (question : Question) (settings : Settings) (word : List ℕ) (a : Desk H S K) (status : Status) (b : Desk H S K) : Type 0 where
-  pub written : Reports (IsAnswer question settings word (known o a).input (known o b).input)
+pub record AnswersQuestion {H S K : Type 0} (o : Outside H S K) (question : Question) (limits : Limits) (settings : Settings) (word : List ℕ) (a : Desk H S K) (status : Status) (b : Desk H S K)
+    : Type 0 where
+  pub written : Reports (IsAnswer question limits settings word (known o a).input (known o b).input)
       (o.sinks.faults a.out) (o.sinks.faults b.out) (o.sinks.holds a.out) (o.sinks.holds b.out) status
   pub reads : ReadsFile o.shelves o.sources word a.shelf a.lines b.shelf b.lines
   pub at_end : status ≡ Done → word ≡ dash → o.sources.left b.lines ≡ ended (o.sources.left a.lines)

@@ -9,7 +9,8 @@ use Rattle.board_words.specs.Words.{winner_line}
 use Rattle.sgf_go.specs.File.{HasFewBytes, Reads}
 use Rattle.sgf_go.specs.declared.settings.Setup.{Setup}
 use Rattle.gd_words.specs.Job.{IsOnlyJob, Job}
-use Rattle.gd_words.specs.Task.Task.{solve}
+use Rattle.gd_words.specs.Task.Task.{ask}
+use Rattle.gd_words.specs.declared.job.Question.TheVariants.{Solve}
 use Rattle.region_cut.specs.Cut.{AreRegionsOfPlay}
 use Rattle.whole_rules.specs.FirstWinningMove.{IsFirstWinning, IsWinner}
 use Rattle.whole_rules.specs.WholeGame.{Whole}
@@ -37,7 +38,7 @@ pub record IsSolved (limits : Limits) (setup : Setup) (text : List ℕ) : Type 0
 
 -- the words are the job of solving the file of a word
 abbrev pub AreToSolve : List (List ℕ) → Job → List ℕ → Type 0
-AreToSolve words job word = IsOnlyJob words job × (job.task ≡ solve word)
+AreToSolve words job word = IsOnlyJob words job × (job.task ≡ ask Solve word)
 
 -- the words ask to solve a file
 abbrev pub AskToSolve : List (List ℕ) → Type 0

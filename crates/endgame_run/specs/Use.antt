@@ -4,7 +4,7 @@ use Rattle.desk_io.specs.Desk.{Desk, Outside, known}
 use Rattle.desk_io.specs.Outside.{ended}
 use Rattle.gd_words.specs.Job.{Job}
 use Rattle.gd_words.specs.Task.{Task}
-use Rattle.gd_words.specs.Task.Task.{calc, gtp, play, safe, solve, trial, values}
+use Rattle.gd_words.specs.Task.Task.{ask, calc, gtp, play, trial}
 use Rattle.endgame_run.specs.File.{TakesAtMost, dash, most_of_engine, most_of_file, most_of_game}
 use Rattle.endgame_run.specs.Game.{IsPlayedGame}
 use Rattle.endgame_run.specs.Limits.{limits_of}
@@ -14,35 +14,30 @@ use Rattle.endgame_run.specs.declared.status.Status.TheVariants.{Done}
 
 -- the task asks a question about the file of the word
 abbrev pub AsksAbout : Task → List ℕ → Type 0
-AsksAbout (solve file) word = word ≡ file
-AsksAbout (values file) word = word ≡ file
-AsksAbout (safe file) word = word ≡ file
+AsksAbout (ask question file) word = word ≡ file
 AsksAbout task word = ⊥
 
 -- the most bytes of the source that a task takes
 abbrev pub most_of : Task → ℕ
+most_of (ask question word) = most_of_file
 most_of (play word) = most_of_game
 most_of gtp = most_of_engine
-most_of (trial number) = 0
-most_of (calc expression) = 0
-most_of task = most_of_file
+most_of task = 0
 
 module _ {H S K : Type 0} (o : Outside H S K) where
   -- what a task does to the source: it is unread where a file of the shelf is asked about and where none is, and where no game is begun
   abbrev pub TouchesLines : Task → Job → Desk H S K → Status → Desk H S K → Type 0
   TouchesLines (play word) job a status b = (b.lines ≡ a.lines) ⊎ IsPlayedGame (limits_of job) job.engine job.settings word (known o a) status (known o b)
   TouchesLines gtp job a status b = ⊤
-  TouchesLines (trial number) job a status b = b.lines ≡ a.lines
-  TouchesLines (calc expression) job a status b = b.lines ≡ a.lines
-  TouchesLines task job a status b = (word : List ℕ) → AsksAbout task word → word ≢ dash → b.lines ≡ a.lines
+  TouchesLines (ask question word) job a status b = word ≢ dash → b.lines ≡ a.lines
+  TouchesLines task job a status b = b.lines ≡ a.lines
 
   -- what a task does to the shelf: it is asked for the file of the task's word, once, where that isn't the source's, and else it is as before
   abbrev pub TouchesShelf : Task → Desk H S K → Desk H S K → Type 0
   TouchesShelf (play word) a b = o.shelves.asks a.shelf word b.shelf
   TouchesShelf gtp a b = ⊤
-  TouchesShelf (trial number) a b = b.shelf ≡ a.shelf
-  TouchesShelf (calc expression) a b = b.shelf ≡ a.shelf
-  TouchesShelf task a b = (word : List ℕ) → AsksAbout task word → (word ≡ dash → b.shelf ≡ a.shelf) × (word ≢ dash → o.shelves.asks a.shelf word b.shelf)
+  TouchesShelf (ask question word) a b = (word ≡ dash → b.shelf ≡ a.shelf) × (word ≢ dash → o.shelves.asks a.shelf word b.shelf)
+  TouchesShelf task a b = b.shelf ≡ a.shelf
 
   -- a file of the source is read to its end where the run is done
   abbrev pub ReadsToEnd : Type 0

@@ -5,7 +5,7 @@ ghost use Rattle.desk_io.specs.Desk.{IsLater, desk, input_of, known, outside};
 ghost use Rattle.endgame_run.specs.File.{ReadsFile, TakesAtMost, dash, most_of_game, told_of};
 ghost use Rattle.endgame_run.specs.Game.{IsPlayRun, PlaysFile};
 ghost use Rattle.endgame_run.specs.Question.{AreToldSteps};
-ghost use Rattle.endgame_run.specs.declared.question.Question.TheVariants.{Solve};
+ghost use Rattle.gd_words.specs.declared.job.Question.TheVariants.{Solve};
 ghost use Rattle.endgame_run.specs.inner.Found.{HasRanges};
 ghost use Rattle.endgame_run.specs.inner.Top.{IsOpened};
 
@@ -36,7 +36,7 @@ fn open_game<H: Shelf, S: Source, L: Ledger>(
     ensures opened { IfOk result (IsOpened game.now.limits game.now.engine settings.now
         game.now.word.now (input_of H.Shelf S.Source shelf.old lines.old)
         (input_of H.Shelf S.Source shelf.new lines.new)) }
-    ensures steps { AreToldSteps (Solve game.now.limits)
+    ensures steps { AreToldSteps Solve game.now.limits
         (told_of (input_of H.Shelf S.Source shelf.old lines.old) game.now.word.now)
         settings.now steps.old steps.new }
     ensures reads { ReadsFile H.Shelf S.Source game.now.word.now
@@ -88,7 +88,7 @@ pub(crate) fn run_game<H: Shelf, S: Source, K: Sink, L: Ledger>(
     ensures later { IsLater
         (known (outside H.Shelf S.Source K.Sink) (desk shelf.old lines.old out.old))
         (known (outside H.Shelf S.Source K.Sink) (desk shelf.new lines.new out.new)) }
-    ensures steps { AreToldSteps (Solve game.now.limits)
+    ensures steps { AreToldSteps Solve game.now.limits
         (told_of (input_of H.Shelf S.Source shelf.old lines.old) game.now.word.now)
         settings.now steps.old steps.new }
 {

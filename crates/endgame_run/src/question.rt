@@ -3,25 +3,16 @@
 use crate::status::Status;
 use endgame_solver::Limits;
 use game_text::Text;
+use gd_words::Question;
 use go_grid::Colour;
 use play_session::Session;
 use sgf_go::Setup;
 
-/// The commands that read a file and write one text.
-#[derive(Clone, Copy, PartialEq, Eq)]
-pub(crate) enum Question {
-    /// Who wins, and by which move? Regions and values are within the limits.
-    Solve(Limits),
-    /// What are the regions of play worth? Regions and values are within the limits.
-    Values(Limits),
-    /// Which chains are alive?
-    Safe,
-}
-
-/// A question about the file of a word.
+/// A question about the position of the file of a word. Regions and values are within the limits.
 #[derive(Clone, Copy)]
 pub(crate) struct Inquiry<'a> {
     pub question: Question,
+    pub limits: Limits,
     pub word: &'a str,
 }
 

@@ -1,46 +1,71 @@
 //! Questions about the position of a file, each of which is answered by one text.
 
-ghost use Rattle.std.specs.Prelude.{◌≡◌, IfOk};
+ghost use Rattle.std.specs.Prelude.{◌≡◌, ◌≤◌, IfOk};
 ghost use Rattle.desk_io.specs.Desk.{IsLater, desk, input_of, known, outside};
 ghost use Rattle.desk_io.specs.Outside.{ended};
 ghost use Rattle.sgf_go.specs.Position.{IsFit};
 ghost use Rattle.endgame_run.specs.File.{ReadsFile, dash, told_of};
 ghost use Rattle.endgame_run.specs.Question.{AnswersQuestion, AreStepsFor, AreToldSteps, IsAnswer, IsPositionAnswer};
 ghost use Rattle.endgame_run.specs.inner.Found.{HasRanges};
-ghost use Rattle.endgame_run.specs.inner.Top.{IsModest};
 
 use crate::ending::finish;
 use crate::finding::find_position;
-use crate::question::{Found, Inquiry, Question, Report};
-use crate::solving::{solve, value};
+use crate::question::{Found, Inquiry, Report};
+use crate::solving::solve;
 use crate::status::Status;
 use desk_io::{Shelf, Sink, Source};
+use endgame_solver::Limits;
+use gd_words::Question;
+use local_graph::MOST_POSITIONS;
 use local_play::Steps;
-use report::safe_text;
+use report::{Terms, board_text, safe_text};
 use sgf_go::{Settings, Setup};
 use std::alloc::{AllocError, Global};
 use std::sync::ledger::Ledger;
 
-/// The report on a position.
+/// What a position has beside its board.
+fn terms(setup: &Setup) -> Terms
+    ensures { result ≡ record {
+      side = setup.now.side;
+      komi_halves = setup.now.komi_halves;
+      black_prisoners = setup.now.black_prisoners;
+      white_prisoners = setup.now.white_prisoners;
+    } }
+{
+    Terms {
+        side: setup.side,
+        komi_halves: setup.komi_halves,
+        black_prisoners: setup.black_prisoners,
+        white_prisoners: setup.white_prisoners,
+    }
+}
+
+/// The report on a question about a position, within the limits.
 fn report_on_position<L: Ledger>(
     alloc: Global,
     question: Question,
+    limits: &Limits,
     setup: &Setup,
     steps: &mut Steps<L>,
 ) -> Result<Report, AllocError>
     requires fit { IsFit setup.now }
-    requires modest { IsModest question }
-    ensures answer { IfOk result
-        (λ report. IsPositionAnswer question setup.now report.status report.text) }
-    ensures steps { AreStepsFor question setup.now steps.old steps.new }
+    requires modest { limits.now.positions ≤ MOST_POSITIONS }
+    ensures answer { IfOk result (λ report. IsPositionAnswer
+        question limits.now setup.now report.status report.text) }
+    ensures steps { AreStepsFor question limits.now setup.now steps.old steps.new }
 {
     match question {
-        Question::Solve(limits) => solve(alloc, setup, &limits, steps),
-        Question::Values(limits) => value(alloc, setup, &limits, steps),
         Question::Safe => Ok(Report {
             status: Status::Done,
             text: safe_text(alloc, &setup.board)?,
         }),
+        Question::Board => Ok(Report {
+            status: Status::Done,
+            text: board_text(alloc, &setup.board, terms(setup))?,
+        }),
+        Question::Solve | Question::Values | Question::Margin | Question::Moves => {
+            solve(alloc, question, setup, limits, steps)
+        }
     }
 }
 
@@ -54,11 +79,11 @@ fn answer<H: Shelf, S: Source, L: Ledger>(
     steps: &mut Steps<L>,
 ) -> Result<Report, AllocError>
     requires ranges { HasRanges settings.now }
-    requires modest { IsModest inquiry.now.question }
-    ensures answer { IfOk result (λ report. IsAnswer inquiry.now.question settings.now
-        inquiry.now.word.now (input_of H.Shelf S.Source shelf.old lines.old)
+    requires modest { inquiry.now.limits.positions ≤ MOST_POSITIONS }
+    ensures answer { IfOk result (λ report. IsAnswer inquiry.now.question inquiry.now.limits
+        settings.now inquiry.now.word.now (input_of H.Shelf S.Source shelf.old lines.old)
         (input_of H.Shelf S.Source shelf.new lines.new) report.status report.text) }
-    ensures steps { AreToldSteps inquiry.now.question
+    ensures steps { AreToldSteps inquiry.now.question inquiry.now.limits
         (told_of (input_of H.Shelf S.Source shelf.old lines.old) inquiry.now.word.now)
         settings.now steps.old steps.new }
     ensures reads { ReadsFile H.Shelf S.Source inquiry.now.word.now
@@ -68,7 +93,13 @@ fn answer<H: Shelf, S: Source, L: Ledger>(
 {
     match find_position(alloc, inquiry.word, settings, shelf, lines)? {
         Found::Position(setup) => {
-            let report = report_on_position(alloc, inquiry.question, &setup, steps)?;
+            let report = report_on_position(
+                alloc,
+                inquiry.question,
+                &inquiry.limits,
+                &setup,
+                steps,
+            )?;
             Ok(report)
         }
         Found::Fault(report) => Ok(report),
@@ -86,14 +117,14 @@ pub(crate) fn run_question<H: Shelf, S: Source, K: Sink, L: Ledger>(
     steps: &mut Steps<L>,
 ) -> Status
     requires ranges { HasRanges settings.now }
-    requires modest { IsModest inquiry.now.question }
+    requires modest { inquiry.now.limits.positions ≤ MOST_POSITIONS }
     ensures ran { AnswersQuestion (outside H.Shelf S.Source K.Sink) inquiry.now.question
-        settings.now inquiry.now.word.now
+        inquiry.now.limits settings.now inquiry.now.word.now
         (desk shelf.old lines.old out.old) result (desk shelf.new lines.new out.new) }
     ensures later { IsLater
         (known (outside H.Shelf S.Source K.Sink) (desk shelf.old lines.old out.old))
         (known (outside H.Shelf S.Source K.Sink) (desk shelf.new lines.new out.new)) }
-    ensures steps { AreToldSteps inquiry.now.question
+    ensures steps { AreToldSteps inquiry.now.question inquiry.now.limits
         (told_of (input_of H.Shelf S.Source shelf.old lines.old) inquiry.now.word.now)
         settings.now steps.old steps.new }
 {

@@ -8,20 +8,22 @@ ghost use Rattle.region_cut.specs.Cut.{AreRegionsOfPlay};
 ghost use Rattle.report.specs.Values.{IsRefusal};
 ghost use Rattle.endgame_run.specs.Refusal.{HasStatus, form_line, refusal_line};
 ghost use Rattle.endgame_run.specs.inner.Refusal.{NamesPoints, NamesRegion};
-ghost use Rattle.endgame_run.specs.inner.Top.{IsBegun, IsValuesReport};
+ghost use Rattle.gd_words.specs.Task.{NeedsRegions};
+ghost use Rattle.endgame_run.specs.inner.Top.{IsBegun, IsGameReport, IsValuesReport};
 ghost use Rattle.endgame_run.specs.Question.{IsPositionAnswer};
 
 use crate::faults::point_text;
-use crate::question::{Opened, Question, Report};
+use crate::question::{Opened, Report};
 use crate::refusal::{cycle_text, points_text, positions_text};
 use crate::status::Status;
 use endgame_solver::{Limits, SolveError, Solved};
 use game_text::Text;
+use gd_words::Question;
 use go_grid::{Colour, Size};
 use local_graph::MOST_POSITIONS;
 use local_play::Steps;
 use play_session::Session;
-use report::{ValuesError, solve_text, values_text};
+use report::{ValuesError, margin_text, moves_text, solve_text, values_text};
 use sgf_go::Setup;
 use std::alloc::{AllocError, Global};
 use std::sync::ledger::Ledger;
@@ -59,35 +61,6 @@ fn refused(
     }
 }
 
-/// The report on a position that is to be solved within the limits.
-pub(crate) fn solve<L: Ledger>(
-    alloc: Global,
-    setup: &Setup,
-    limits: &Limits,
-    steps: &mut Steps<L>,
-) -> Result<Report, AllocError>
-    requires fit { IsFit setup.now }
-    requires positions { limits.now.positions ≤ MOST_POSITIONS }
-    ensures answer { IfOk result (λ report. IsPositionAnswer
-        (Question.Solve limits.now) setup.now report.status report.text) }
-    ensures steps { (regions : List Region) → AreRegionsOfPlay setup.now.board regions
-        → steps.new ≤ steps.old + most_steps limits.now regions }
-{
-    match Solved::begin(alloc, setup, limits, steps) {
-        Ok(mut solved) => {
-            let text = solve_text(alloc, &mut solved)?;
-            Ok(Report {
-                status: Status::Done,
-                text,
-            })
-        }
-        Err(fault) => {
-            let report = refused(alloc, setup.board.size(), limits, fault)?;
-            Ok(report)
-        }
-    }
-}
-
 /// The report on values that aren't shown.
 fn unshown(alloc: Global, size: Size, fault: ValuesError) -> Result<Report, AllocError>
     requires { IsRefusal (λ p. p < size.columns * size.rows) fault }
@@ -122,23 +95,50 @@ fn report_values(alloc: Global, solved: &Solved) -> Result<Report, AllocError>
     }
 }
 
-/// The report on the values of a position within the limits.
-pub(crate) fn value<L: Ledger>(
+/// The report on a question about a solved game that opens with this komi in half-points.
+fn report_game(
     alloc: Global,
+    question: Question,
+    solved: &mut Solved,
+    komi_halves: i64,
+) -> Result<Report, AllocError>
+    requires { NeedsRegions question }
+    ensures { IfOk result (λ report. IsGameReport
+        question komi_halves solved.old report.status report.text) }
+{
+    let text = match question {
+        Question::Values => return report_values(alloc, solved),
+        Question::Solve => solve_text(alloc, solved)?,
+        Question::Margin => margin_text(alloc, solved, komi_halves)?,
+        Question::Moves => moves_text(alloc, solved, komi_halves)?,
+        // These two need no regions.
+        Question::Safe | Question::Board => unreachable!(),
+    };
+    Ok(Report {
+        status: Status::Done,
+        text,
+    })
+}
+
+/// The report on a question about a position that is solved for it within the limits.
+pub(crate) fn solve<L: Ledger>(
+    alloc: Global,
+    question: Question,
     setup: &Setup,
     limits: &Limits,
     steps: &mut Steps<L>,
 ) -> Result<Report, AllocError>
+    requires regions { NeedsRegions question }
     requires fit { IsFit setup.now }
     requires positions { limits.now.positions ≤ MOST_POSITIONS }
     ensures answer { IfOk result (λ report. IsPositionAnswer
-        (Question.Values limits.now) setup.now report.status report.text) }
+        question limits.now setup.now report.status report.text) }
     ensures steps { (regions : List Region) → AreRegionsOfPlay setup.now.board regions
         → steps.new ≤ steps.old + most_steps limits.now regions }
 {
     match Solved::begin(alloc, setup, limits, steps) {
-        Ok(solved) => {
-            let report = report_values(alloc, &solved)?;
+        Ok(mut solved) => {
+            let report = report_game(alloc, question, &mut solved, setup.komi_halves)?;
             Ok(report)
         }
         Err(fault) => {

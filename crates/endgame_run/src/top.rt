@@ -14,13 +14,13 @@ use crate::calc::run_calc;
 use crate::ending::finish;
 use crate::engine::run_gtp;
 use crate::game::run_game;
-use crate::question::{Asked, Inquiry, Line, Match, Question};
+use crate::question::{Asked, Inquiry, Line, Match};
 use crate::run_question::run_question;
 use crate::status::Status;
 use crate::trial::run_trial;
 use desk_io::{Shelf, Sink, Source};
 use endgame_solver::Limits;
-use gd_words::{Command, Job};
+use gd_words::{Command, Job, Question};
 use local_play::Steps;
 use std::alloc::Global;
 use std::sync::ledger::Ledger;
@@ -46,23 +46,30 @@ fn limits_of_engine(job: &Job<'_>) -> Limits
     }
 }
 
+/// A question about the file of a word, within the limits of a job.
+fn inquiry<'a>(job: &Job<'_>, question: Question, word: &'a str) -> Inquiry<'a>
+    ensures question { result.question ≡ question }
+    ensures limits { result.limits ≡ limits_of (viewed job.now) }
+    ensures word { result.word.now ≡ word.now }
+{
+    Inquiry {
+        question,
+        limits: limits(job),
+        word,
+    }
+}
+
 /// What a job asks for.
 fn asked<'a>(job: &Job<'a>) -> Asked<'a>
     ensures { IsAsked (viewed job.now) result }
 {
     match job.command {
-        Command::Solve(word) => Asked::Answer(Inquiry {
-            question: Question::Solve(limits(job)),
-            word,
-        }),
-        Command::Values(word) => Asked::Answer(Inquiry {
-            question: Question::Values(limits(job)),
-            word,
-        }),
-        Command::Safe(word) => Asked::Answer(Inquiry {
-            question: Question::Safe,
-            word,
-        }),
+        Command::Solve(word) => Asked::Answer(inquiry(job, Question::Solve, word)),
+        Command::Values(word) => Asked::Answer(inquiry(job, Question::Values, word)),
+        Command::Safe(word) => Asked::Answer(inquiry(job, Question::Safe, word)),
+        Command::Board(word) => Asked::Answer(inquiry(job, Question::Board, word)),
+        Command::Margin(word) => Asked::Answer(inquiry(job, Question::Margin, word)),
+        Command::Moves(word) => Asked::Answer(inquiry(job, Question::Moves, word)),
         Command::Play(word) => Asked::Game(Match {
             limits: limits(job),
             engine: job.engine,

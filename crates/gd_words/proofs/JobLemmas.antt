@@ -1,6 +1,7 @@
 -- Words say at most one job.
 use Rattle.std.proofs.Common.{◌≡◌, ◌≢◌, ◌<◌, ◌⊎◌, ◌∷◌, ℕ, List, Some, None, inl, inr, get_or, refl, sym, ap, ap₂, ◌∙◌, subst}
-use Rattle.std.specs.Prelude.{Option, codes, IfSome, IfNone}
+use Rattle.std.specs.Prelude.{Option, codes, IfSome, IfNone, cond}
+use Rattle.std.specs.Str.{bytes_eq}
 use Rattle.std.specs.List.{AllPairs, Contains}
 use Rattle.std.proofs.lemmas.Bool.{cases_order}
 use Rattle.std.proofs.lemmas.List.{get_or_default}
@@ -8,22 +9,48 @@ use Rattle.gd_words.specs.declared.choice.Choice.{Choice}
 use Rattle.gd_words.specs.declared.choice.Choice.TheVariants.{Komi, Turn, After, BlackPrisoners, WhitePrisoners, Positions, Parts, Engine, Tax}
 use Rattle.gd_words.specs.declared.chosen.Chosen.{Chosen}
 use Rattle.gd_words.specs.Choice.{name_of}
-use Rattle.gd_words.specs.Task.{Task, solve, safe, values, play, trial, calc, gtp, AreFor, BeginWith}
+use Rattle.gd_words.specs.declared.job.Question.{Question}
+use Rattle.gd_words.specs.declared.job.Question.TheVariants.{Board, Margin, Moves, Safe, Solve, Values}
+use Rattle.gd_words.specs.Task.{Task, ask, play, trial, calc, gtp, AreFor, BeginWith, question_word}
 use Rattle.gd_words.specs.Job.{GivesOption, Say, AreChoices, Job, job_of, IsJob, IsOnlyJob}
 use Rattle.gd_words.specs.inner.Reading.{IsJobOf}
 use Rattle.gd_words.proofs.NameLemmas.{apart}
 use Rattle.gd_words.proofs.OneOptionLemmas.{one_number}
 use Rattle.gd_words.proofs.ListingLemmas.{one_spelling}
 
+-- the question that a word asks, where it is the word of one
+abbrev question_of : List ℕ → Option Question
+question_of word = cond (bytes_eq word (codes "solve")) (Some Solve) (cond (bytes_eq word (codes "safe")) (Some Safe) (cond (bytes_eq word (codes "values")) (Some Values)
+    (cond (bytes_eq word (codes "board")) (Some Board) (cond (bytes_eq word (codes "margin")) (Some Margin) (cond (bytes_eq word (codes "moves")) (Some Moves) None)))))
+
+question_back : (q : Question) → question_of (question_word q) ≡ Some q
+question_back Solve = refl
+question_back Safe = refl
+question_back Values = refl
+question_back Board = refl
+question_back Margin = refl
+question_back Moves = refl
+
+-- a word that asks no question is that of none
+no_question : (word : List ℕ) (q : Question) → word ≡ question_word q → question_of word ≡ None → ⊥
+no_question word q is none = let k : Path (Option Question) (Some q) None = sym (question_back q) ∙ ap question_of (sym is) ∙ none in absurd cc
+
+one_question : (p q : Question) → question_word p ≡ question_word q → p ≡ q
+one_question p q e = let k : Path (Option Question) (Some p) (Some q) = sym (question_back p) ∙ ap question_of e ∙ question_back q in cc
+
 one_task : (word argument : List ℕ) (t u : Task) → AreFor word argument t → AreFor word argument u → t ≡ u
-one_task word argument (solve f) (solve g) a b = ap solve (sym a.1 ∙ b.1)
-one_task word argument (safe f) (safe g) a b = ap safe (sym a.1 ∙ b.1)
-one_task word argument (values f) (values g) a b = ap values (sym a.1 ∙ b.1)
+one_task word argument (ask p f) (ask q g) a b = ap₂ ask (one_question p q (sym a.0 ∙ b.0)) (sym a.1 ∙ b.1)
 one_task word argument (play f) (play g) a b = ap play (sym a.1 ∙ b.1)
 one_task word argument (trial n) (trial m) a b = ap trial (one_number 0 4294967295 argument n m a.1 b.1)
 one_task word argument (calc e) (calc f) a b = ap calc (sym a.1 ∙ b.1)
 one_task word argument gtp u a b = absurd a
 one_task word argument t gtp a b = absurd b
+one_task word argument (ask p f) (play g) a b = absurd (no_question word p a.0 (ap question_of b.0))
+one_task word argument (ask p f) (trial g) a b = absurd (no_question word p a.0 (ap question_of b.0))
+one_task word argument (ask p f) (calc g) a b = absurd (no_question word p a.0 (ap question_of b.0))
+one_task word argument (play f) (ask q g) a b = absurd (no_question word q b.0 (ap question_of a.0))
+one_task word argument (trial f) (ask q g) a b = absurd (no_question word q b.0 (ap question_of a.0))
+one_task word argument (calc f) (ask q g) a b = absurd (no_question word q b.0 (ap question_of a.0))
 one_task word argument t u a b = absurd (apart (sym a.0 ∙ b.0) refl refl)
 
 abbrev AreOnce : List Choice → Type 0
@@ -69,6 +96,7 @@ one_choices task words o p a b =
 -- no two words ask for the engine
 not_engine : (word argument : List ℕ) (t : Task) → AreFor word argument t → word ≡ codes "gtp" → ⊥
 not_engine word argument gtp a e = a
+not_engine word argument (ask q f) a e = no_question word q a.0 (ap question_of e)
 not_engine word argument t a e = absurd (apart (sym a.0 ∙ e) refl refl)
 
 -- the words of a task that has two
@@ -78,18 +106,14 @@ BeginWithTwo task words rest = (word : List ℕ) × (argument : List ℕ) × (wo
 -- a task has one word, or two
 by_words : (P : Type 0) (task : Task) (words rest : List (List ℕ)) → BeginWith task words rest → (task ≡ gtp → words ≡ codes "gtp" ∷ rest → P) → (BeginWithTwo task words rest → P) → P
 by_words P gtp words rest b one two = one refl b
-by_words P (solve f) words rest b one two = two b
-by_words P (safe f) words rest b one two = two b
-by_words P (values f) words rest b one two = two b
+by_words P (ask q f) words rest b one two = two b
 by_words P (play f) words rest b one two = two b
 by_words P (trial n) words rest b one two = two b
 by_words P (calc e) words rest b one two = two b
 
 pub with_two : (task : Task) (words rest : List (List ℕ)) (word argument : List ℕ) → words ≡ word ∷ argument ∷ rest → AreFor word argument task → BeginWith task words rest
 with_two gtp words rest word argument e a = absurd a
-with_two (solve f) words rest word argument e a = (word, argument, e, a)
-with_two (safe f) words rest word argument e a = (word, argument, e, a)
-with_two (values f) words rest word argument e a = (word, argument, e, a)
+with_two (ask q f) words rest word argument e a = (word, argument, e, a)
 with_two (play f) words rest word argument e a = (word, argument, e, a)
 with_two (trial n) words rest word argument e a = (word, argument, e, a)
 with_two (calc f) words rest word argument e a = (word, argument, e, a)

@@ -2,24 +2,37 @@
 use Rattle.std.specs.Prelude.{◌≡◌, ◌≢◌, ◌∷◌, [], ⊤, ℕ, List, codes}
 use Rattle.gd_words.specs.declared.choice.Choice.{Choice}
 use Rattle.gd_words.specs.declared.choice.Choice.TheVariants.{Positions, Parts, Engine, Tax}
+use Rattle.gd_words.specs.declared.job.Question.{Question}
+use Rattle.gd_words.specs.declared.job.Question.TheVariants.{Board, Margin, Moves, Safe, Solve, Values}
 use Rattle.gd_words.specs.Value.{IsNumberWithin}
 
--- the command, with its file, the number of its board or its expression, or that of the engine
+-- the command: a question about the position of a file, a game of a file, the board of a number, an expression, or the engine
 pub data Task : Type 0 where
-  solve : List ℕ → Task
-  safe : List ℕ → Task
-  values : List ℕ → Task
+  ask : Question → List ℕ → Task
   play : List ℕ → Task
   trial : ℕ → Task
   calc : List ℕ → Task
   gtp : Task
 
+-- the word of a question
+abbrev pub question_word : Question → List ℕ
+question_word Solve = codes "solve"
+question_word Safe = codes "safe"
+question_word Values = codes "values"
+question_word Board = codes "board"
+question_word Margin = codes "margin"
+question_word Moves = codes "moves"
+
+-- the question is about the regions of play, which are solved for it within the limits
+abbrev pub NeedsRegions : Question → Type 0
+NeedsRegions Safe = ⊥
+NeedsRegions Board = ⊥
+NeedsRegions question = ⊤
+
 -- The two words ask for the task. Any word but the empty one is a file, or an expression; `-` is the source, which can't be played.
 -- `gtp` has no second word.
 abbrev pub AreFor : List ℕ → List ℕ → Task → Type 0
-AreFor word argument (solve file) = (word ≡ codes "solve") × (argument ≡ file) × (file ≢ [])
-AreFor word argument (safe file) = (word ≡ codes "safe") × (argument ≡ file) × (file ≢ [])
-AreFor word argument (values file) = (word ≡ codes "values") × (argument ≡ file) × (file ≢ [])
+AreFor word argument (ask question file) = (word ≡ question_word question) × (argument ≡ file) × (file ≢ [])
 AreFor word argument (play file) = (word ≡ codes "play") × (argument ≡ file) × (file ≢ []) × (file ≢ codes "-")
 AreFor word argument (trial n) = (word ≡ codes "trial") × IsNumberWithin 0 4294967295 argument n
 AreFor word argument (calc expression) = (word ≡ codes "calc") × (argument ≡ expression) × (expression ≢ [])
@@ -31,7 +44,7 @@ BeginWith gtp words rest = words ≡ codes "gtp" ∷ rest
 BeginWith task words rest = (word : List ℕ) × (argument : List ℕ) × (words ≡ word ∷ argument ∷ rest) × AreFor word argument task
 
 -- The option goes with the task: none with `trial`, the parts of a form with `calc`, both limits with `gtp`, and each with `play`. Only
--- `play` has a colour for the engine, and `safe` has no limits and no tax.
+-- `play` has a colour for the engine, and a question that needs no regions has no limits and no tax.
 abbrev pub GoesWith : Task → Choice → Type 0
 GoesWith (trial n) choice = ⊥
 GoesWith (play file) choice = ⊤
@@ -40,8 +53,8 @@ GoesWith (calc expression) choice = ⊥
 GoesWith gtp (Positions n) = ⊤
 GoesWith gtp (Parts n) = ⊤
 GoesWith gtp choice = ⊥
-GoesWith (safe file) (Positions n) = ⊥
-GoesWith (safe file) (Parts n) = ⊥
-GoesWith (safe file) (Tax taxed) = ⊥
-GoesWith task (Engine colour) = ⊥
-GoesWith task choice = ⊤
+GoesWith (ask question file) (Positions n) = NeedsRegions question
+GoesWith (ask question file) (Parts n) = NeedsRegions question
+GoesWith (ask question file) (Tax taxed) = NeedsRegions question
+GoesWith (ask question file) (Engine colour) = ⊥
+GoesWith (ask question file) choice = ⊤

@@ -3,7 +3,8 @@ use Rattle.std.specs.Prelude.{ℕ, List, map}
 use Rattle.gd_words.specs.declared.job.Command.{Command}
 use Rattle.gd_words.specs.declared.job.Command.TheVariants as command
 use Rattle.gd_words.specs.declared.job.Job as lent
-use Rattle.gd_words.specs.Task.{Task, solve, safe, values, play, trial, calc, gtp}
+use Rattle.gd_words.specs.declared.job.Question.TheVariants as question
+use Rattle.gd_words.specs.Task.{Task, ask, play, trial, calc, gtp}
 use Rattle.gd_words.specs.Job.{Job}
 use denote.Ref.{Bor}
 
@@ -13,9 +14,12 @@ texts words = map (λ word. word.now) words
 
 -- the task that a command stands for
 abbrev pub task_of : Command → Task
-task_of (command.Solve file) = solve file.now
-task_of (command.Safe file) = safe file.now
-task_of (command.Values file) = values file.now
+task_of (command.Solve file) = ask question.Solve file.now
+task_of (command.Safe file) = ask question.Safe file.now
+task_of (command.Values file) = ask question.Values file.now
+task_of (command.Board file) = ask question.Board file.now
+task_of (command.Margin file) = ask question.Margin file.now
+task_of (command.Moves file) = ask question.Moves file.now
 task_of (command.Play file) = play file.now
 task_of (command.Trial n) = trial n
 task_of (command.Calc expression) = calc expression.now

@@ -9,6 +9,23 @@ use crate::value::read_count;
 use go_grid::Colour;
 use sgf_go::Settings;
 
+/// A question about the position of a file, which one text answers.
+#[derive(Clone, Copy, Debug, PartialEq, Eq)]
+pub enum Question {
+    /// Who wins, and by which move?
+    Solve,
+    /// Which chains are alive?
+    Safe,
+    /// What are the regions of play worth?
+    Values,
+    /// What is the position?
+    Board,
+    /// Up to which komi does Black win?
+    Margin,
+    /// Which moves win, and by how much?
+    Moves,
+}
+
 /// A command with its file, the number of its board, or its expression. The file `-` is the source, which `Play` never has. `Gtp`
 /// has none of these.
 #[derive(Clone, Copy, Debug, PartialEq, Eq)]
@@ -16,6 +33,9 @@ pub enum Command<'a> {
     Solve(&'a str),
     Safe(&'a str),
     Values(&'a str),
+    Board(&'a str),
+    Margin(&'a str),
+    Moves(&'a str),
     Play(&'a str),
     Trial(u32),
     Calc(&'a str),
@@ -49,6 +69,9 @@ pub(crate) fn read_command<'a>(word: &str, argument: &'a str) -> Option<Command<
         "solve" => Some(Command::Solve(argument)),
         "safe" => Some(Command::Safe(argument)),
         "values" => Some(Command::Values(argument)),
+        "board" => Some(Command::Board(argument)),
+        "margin" => Some(Command::Margin(argument)),
+        "moves" => Some(Command::Moves(argument)),
         "play" if argument != "-" => Some(Command::Play(argument)),
         "calc" => Some(Command::Calc(argument)),
         _ => None,
@@ -61,8 +84,10 @@ impl Command<'_> {
         ensures { (result ≡ true) ↔ GoesWith (task_of self.now) choice }
     {
         match self {
-            Command::Solve(_) | Command::Values(_) => !matches!(choice, Choice::Engine(_)),
-            Command::Safe(_) => !matches!(
+            Command::Solve(_) | Command::Values(_) | Command::Margin(_) | Command::Moves(_) => {
+                !matches!(choice, Choice::Engine(_))
+            }
+            Command::Safe(_) | Command::Board(_) => !matches!(
                 choice,
                 Choice::Engine(_) | Choice::Positions(_) | Choice::Parts(_) | Choice::Tax(_)
             ),

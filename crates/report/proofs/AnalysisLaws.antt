@@ -6,7 +6,8 @@ use Rattle.whole_rules.specs.declared.states.Move.TheVariants.{Half, Spend, Ston
 use Rattle.whole_rules.specs.FirstWinningMove.{IsWinning}
 use Rattle.whole_rules.specs.WholeGame.{Whole, IsLegal}
 use Rattle.endgame_solver.specs.Thresholds.{IsThresholdFrom}
-use Rattle.report.specs.Analysis.{AreStoneTexts, IsMarginText, IsMovesText, first_lines, komi_line, opening_lines, stone_line}
+use Rattle.report.specs.Analysis.{AreStoneTexts, IsMarginText, IsMovesText, first_lines, opening_lines, stone_line}
+use Rattle.report.specs.Komi.{komi_line}
 use Rattle.report.specs.inner.Analysis.{HasMove, HasOpening, HasStone, HasStones, HasThresholds}
 use Rattle.report.proofs.TextLaws.{three_more}
 

@@ -1,5 +1,5 @@
 -- The texts of `margin` and `moves`.
-use Rattle.std.specs.Prelude.{ℕ, zero, suc, ℤ, pos, negsuc, unsigned_abs, ◌/◌, ◌%◌, ◌≡◌, ◌⊎◌, ◌↔◌, ◌++◌, List, [], ◌∷◌, length, Bool, true, false, IsTrue, codes, decimal}
+use Rattle.std.specs.Prelude.{ℕ, zero, suc, ℤ, ◌≡◌, ◌⊎◌, ◌↔◌, ◌++◌, List, [], ◌∷◌, length, Bool, true, false, IsTrue, codes}
 use Rattle.go_grid.specs.declared.grid.Colour.{Colour}
 use Rattle.go_grid.specs.declared.grid.Colour.TheVariants.{Black, White}
 use Rattle.go_grid.specs.Name.{point_name}
@@ -9,24 +9,7 @@ use Rattle.whole_rules.specs.FirstWinningMove.{IsWinner, IsWinning}
 use Rattle.whole_rules.specs.WholeGame.{Whole, IsLegal}
 use Rattle.board_words.specs.Words.{colour_word, winner_line, word_line}
 use Rattle.endgame_solver.specs.Thresholds.{IsThresholdFrom}
-
--- the sign of a komi
-abbrev pub sign_word : ℤ → List ℕ
-sign_word (pos n) = []
-sign_word (negsuc n) = codes "-"
-
--- what is left of a komi but its whole points
-abbrev pub rest_word : ℕ → List ℕ
-rest_word zero = []
-rest_word (suc n) = codes ".5"
-
--- a komi of so many half-points, in points
-abbrev pub komi_word : ℤ → List ℕ
-komi_word k = sign_word k ++ (decimal (unsigned_abs k / 2) ++ rest_word (unsigned_abs k % 2))
-
--- a line of a label and a komi
-unfoldable pub komi_line : List ℕ → ℤ → List ℕ
-komi_line label k = label ++ (codes " " ++ (komi_word k ++ codes "\n"))
+use Rattle.report.specs.Komi.{komi_line}
 
 -- the lines on the side to move, the komi and the winner
 abbrev pub opening_lines : Colour → ℤ → Colour → List ℕ

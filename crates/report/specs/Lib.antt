@@ -4,5 +4,7 @@ pub mod Chains
 pub mod Safety
 pub mod Values
 pub mod Trial
+pub mod Komi
 pub mod Analysis
+pub mod BoardText
 pub mod inner

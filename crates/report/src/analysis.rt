@@ -1,43 +1,17 @@
 //! The texts of `margin` and `moves`.
 
-ghost use Rattle.std.specs.Prelude.{◌≡◌, ◌<◌, ◌*◌, ◌%◌, ◌++◌, OnOk, IfOk, codes, length, string_bytes};
+ghost use Rattle.std.specs.Prelude.{◌≡◌, ◌<◌, ◌*◌, ◌++◌, OnOk, IfOk, codes, length, string_bytes};
 ghost use Rattle.whole_rules.specs.declared.states.Move.TheVariants.{Half, Spend};
-ghost use Rattle.report.specs.Analysis.{IsMarginText, IsMovesText, komi_line, opening_lines, outcome_word, rest_word, sign_word, stone_line};
+ghost use Rattle.report.specs.Analysis.{IsMarginText, IsMovesText, opening_lines, outcome_word, stone_line};
 ghost use Rattle.report.specs.inner.Analysis.{HasMove, HasOpening, HasStone, HasStones, HasThresholds};
 
+use crate::komi::write_komi;
 use board_words::{colour_word, write_name, write_words};
 use endgame_solver::Solved;
 use game_text::Text;
 use go_grid::{Colour, Point, Size};
 use std::alloc::{AllocError, Global};
 use whole_rules::Move;
-
-/// The sign of a komi.
-fn sign_word(halves: i64) -> &'static str
-    ensures { result.now ≡ sign_word halves }
-{
-    if halves < 0 { "-" } else { "" }
-}
-
-/// What so many half-points leave but whole points.
-fn rest_word(halves: u64) -> &'static str
-    ensures { result.now ≡ rest_word (halves % 2) }
-{
-    if halves % 2 == 0 { "" } else { ".5" }
-}
-
-/// Appends the line of a komi in half-points.
-#[tactic(auto, unfolding(crate::specs::Analysis::komi_line))]
-fn write_komi(text: &mut String, label: &str, halves: i64) -> Result<(), AllocError>
-    ensures { OnOk result
-        (string_bytes text.new ≡ string_bytes text.old ++ komi_line label.now halves) }
-{
-    let sign = sign_word(halves);
-    let size = halves.unsigned_abs();
-    let points = size / 2;
-    let rest = rest_word(size);
-    writeln!(text, "{label} {sign}{points}{rest}")
-}
 
 /// Appends the lines on the side to move, the komi and the winner.
 #[tactic(auto, using(std::proofs::Common::append_assoc))]

@@ -2,13 +2,16 @@
 #![tactic(auto)]
 
 mod analysis;
+mod board;
 mod chains;
+mod komi;
 mod safety;
 mod solution;
 mod trial;
 mod values;
 
 pub use analysis::{margin_text, moves_text};
+pub use board::{Terms, board_text};
 pub use chains::ChainLine;
 pub use safety::{CountedLine, safe_text};
 pub use solution::solve_text;

@@ -1,16 +1,19 @@
 -- What the parts of the top call answer.
-use Rattle.std.specs.Prelude.{◌≡◌, ◌≢◌, ◌≤◌, codes, ℕ, [], List, Option}
-use Rattle.local_graph.specs.declared.graph.TheConstants.{MOST_POSITIONS}
+use Rattle.std.specs.Prelude.{◌≡◌, ◌≢◌, codes, ℕ, ℤ, [], List, Option}
 use Rattle.desk_io.specs.Desk.{Input}
 use Rattle.go_grid.specs.declared.grid.Colour.{Colour}
 use Rattle.sgf_go.specs.declared.settings.Settings.{Settings}
 use Rattle.sgf_go.specs.declared.settings.Setup.{Setup}
 use Rattle.gd_words.specs.Job.{Job}
-use Rattle.gd_words.specs.Task.Task.{calc, gtp, play, safe, solve, trial, values}
+use Rattle.gd_words.specs.Task.Task.{ask, calc, gtp, play, trial}
+use Rattle.gd_words.specs.declared.job.Question.{Question}
+use Rattle.gd_words.specs.declared.job.Question.TheVariants as question
 use Rattle.endgame_solver.specs.Solved.{IsPlayable, Solved}
 use Rattle.endgame_solver.specs.declared.limits.Limits.{Limits}
 use Rattle.gtp_engine.specs.declared.end.GtpEnd.{GtpEnd}
 use Rattle.gtp_engine.specs.declared.end.GtpEnd.TheVariants as end
+use Rattle.report.specs.Analysis.{IsMarginText, IsMovesText}
+use Rattle.report.specs.Solution.{IsSolveText}
 use Rattle.report.specs.Values.{IsFirstUnshown, IsValuesText}
 use Rattle.endgame_run.specs.Game.{IsEngine, IsGame}
 use Rattle.endgame_run.specs.Limits.{engine_limits, limits_of}
@@ -21,27 +24,14 @@ use Rattle.endgame_run.specs.declared.question.Asked.{Asked}
 use Rattle.endgame_run.specs.declared.question.Asked.TheVariants as asked
 use Rattle.endgame_run.specs.declared.question.Opened.{Opened}
 use Rattle.endgame_run.specs.declared.question.Opened.TheVariants.{Game, Fault}
-use Rattle.endgame_run.specs.declared.question.Question.{Question}
-use Rattle.endgame_run.specs.declared.question.Question.TheVariants.{Solve, Values, Safe}
+use Rattle.gd_words.specs.declared.job.Question.TheVariants.{Solve}
 use Rattle.endgame_run.specs.declared.status.Status.{Status}
 use Rattle.endgame_run.specs.declared.status.Status.TheVariants.{CannotRead, CannotWrite, Done, FormLimit, Memory, TooManyLines}
 
--- a question with limits within which it can be answered
-abbrev pub IsModest : Question → Type 0
-IsModest (Solve limits) = limits.positions ≤ MOST_POSITIONS
-IsModest (Values limits) = limits.positions ≤ MOST_POSITIONS
-IsModest Safe = Unit {0}
-
--- the job asks this about the file of this word, within its limits
-abbrev pub AsksQuestion : Job → Question → List ℕ → Type 0
-AsksQuestion job (Solve limits) word = (job.task ≡ solve word) × (limits ≡ limits_of job)
-AsksQuestion job (Values limits) word = (job.task ≡ values word) × (limits ≡ limits_of job)
-AsksQuestion job Safe word = job.task ≡ safe word
-
--- the job asks a question, or for a game within its limits, with its colour for the engine, for the board of a number, for the answer to
+-- the job asks a question within its limits, or for a game, with its colour for the engine, for the board of a number, for the answer to
 -- an expression within its limit of parts, or for the engine within its limits
 abbrev pub IsAsked : Job → Asked → Type 0
-IsAsked job (asked.Answer inquiry) = AsksQuestion job inquiry.question inquiry.word.now
+IsAsked job (asked.Answer inquiry) = (job.task ≡ ask inquiry.question inquiry.word.now) × (inquiry.limits ≡ limits_of job)
 IsAsked job (asked.Game game) = (job.task ≡ play game.word.now) × (game.limits ≡ limits_of job) × (game.engine ≡ job.engine)
 IsAsked job (asked.Trial number) = job.task ≡ trial number
 IsAsked job (asked.Calc line) = (job.task ≡ calc line.expression.now) × (line.parts ≡ job.parts)
@@ -62,6 +52,14 @@ IsValuesReport game Done text = IsValuesText game.state.board.columns game.regio
 IsValuesReport game FormLimit text = (p : ℕ) × IsFirstUnshown game.regions p × (text ≡ form_line game.state.board.columns p)
 IsValuesReport game s text = ⊥
 
+-- the report on a question about a solved game that opens with this komi in half-points
+abbrev pub IsGameReport : Question → ℤ → Solved → Status → List ℕ → Type 0
+IsGameReport question.Solve k game s text = (s ≡ Done) × IsSolveText game text
+IsGameReport question.Margin k game s text = (s ≡ Done) × IsMarginText game.state k text
+IsGameReport question.Moves k game s text = (s ≡ Done) × IsMovesText game.state k text
+IsGameReport question.Values k game s text = IsValuesReport game s text
+IsGameReport q k game s text = ⊥
+
 -- a session that begins with the position, or the report of what keeps it from being solved
 abbrev pub IsBegun : Limits → Option Colour → Setup → Opened → Type 0
 IsBegun limits given setup (Game session) = IsPlayable limits setup session.state × IsEngine given setup session.engine × (session.held ≡ [])
@@ -70,4 +68,4 @@ IsBegun limits given setup (Fault report) = IsRefused limits setup report.status
 -- a session that begins with the position of the file of the word, or the report of what keeps it from being solved
 abbrev pub IsOpened : Limits → Option Colour → Settings → List ℕ → Input → Input → Opened → Type 0
 IsOpened limits given settings word i j (Game session) = IsGame limits given settings word i session.engine session.state × (session.held ≡ [])
-IsOpened limits given settings word i j (Fault report) = IsAnswer (Solve limits) settings word i j report.status report.text × (report.status ≢ Done)
+IsOpened limits given settings word i j (Fault report) = IsAnswer Solve limits settings word i j report.status report.text × (report.status ≢ Done)

@@ -6,5 +6,5 @@ pub returns-in_ok-report-in-Position-clause-answer : goal.returns-in_ok-report-i
 returns-in_ok-report-in-Position-clause-answer g c =
     let i = input_of g.H.Shelf g.S.Source c.args.shelf.now c.args.lines.now in
     let j = input_of g.H.Shelf g.S.Source c.find_position.new.shelf c.find_position.new.lines in
-    position_answer c.args.inquiry.now.question _ _ _ c.args.settings.now c.in-Position.setup c.in_ok-report-in-Position.report.status c.in_ok-report-in-Position.report.text
+    position_answer c.args.inquiry.now.question c.args.inquiry.now.limits _ _ _ c.args.settings.now c.in-Position.setup c.in_ok-report-in-Position.report.status c.in_ok-report-in-Position.report.text
     (found_position c.args.settings.now c.args.inquiry.now.word.now i j c.in_ok-setup.field-0 c.in-Position.setup c.in-Position.is c.in_ok-setup.ensures.found) c.in_ok-report-in-Position.ensures.answer

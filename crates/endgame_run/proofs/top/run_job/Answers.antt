@@ -7,14 +7,16 @@ use Rattle.endgame_run.proofs.top.run_job.Goals as goal
 
 pub returns-in-Answer-clause-ran : goal.returns-in-Answer-clause-ran
 returns-in-Answer-clause-ran g c =
+    let own = subst (IsAsked (viewed c.args.job.now)) c.in-Answer.is c.asked.ensures in
     question_runs (outside g.H.Shelf g.S.Source g.K.Sink) (viewed c.args.job.now) (desk c.args.shelf.now c.args.lines.now c.args.out.now) c.run_question.result
-    (desk c.run_question.new.shelf c.run_question.new.lines c.run_question.new.out) c.in-Answer.inquiry.question c.in-Answer.inquiry.word.now
-    (subst (IsAsked (viewed c.args.job.now)) c.in-Answer.is c.asked.ensures) c.run_question.ensures.ran
+    (desk c.run_question.new.shelf c.run_question.new.lines c.run_question.new.out) c.in-Answer.inquiry.question c.in-Answer.inquiry.limits c.in-Answer.inquiry.word.now
+    own.0 own.1 c.run_question.ensures.ran
 
 pub returns-in-Answer-clause-steps : goal.returns-in-Answer-clause-steps
 returns-in-Answer-clause-steps g c =
+    let own = subst (IsAsked (viewed c.args.job.now)) c.in-Answer.is c.asked.ensures in
     question_steps (viewed c.args.job.now) (input_of g.H.Shelf g.S.Source c.args.shelf.now c.args.lines.now) c.args.steps.now c.run_question.new.steps c.in-Answer.inquiry.question
-    c.in-Answer.inquiry.word.now (subst (IsAsked (viewed c.args.job.now)) c.in-Answer.is c.asked.ensures) c.run_question.ensures.steps
+    c.in-Answer.inquiry.limits c.in-Answer.inquiry.word.now own.0 own.1 c.run_question.ensures.steps
 
 pub returns-in-Game-clause-ran : goal.returns-in-Game-clause-ran
 returns-in-Game-clause-ran g c =

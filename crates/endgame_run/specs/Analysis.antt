@@ -1,0 +1,28 @@
+-- `margin` and `moves`: by how much the position of a file is won, and what each move is worth.
+use Rattle.std.specs.Prelude.{ℕ, List}
+use Rattle.go_grid.specs.Region.{Region}
+use Rattle.sgf_go.specs.declared.settings.Setup.{Setup}
+use Rattle.region_cut.specs.Cut.{AreRegionsOfPlay}
+use Rattle.whole_rules.specs.WholeGame.{Whole}
+use Rattle.endgame_solver.specs.Faults.{AreSound}
+use Rattle.endgame_solver.specs.Solved.{OpensAs}
+use Rattle.endgame_solver.specs.declared.limits.Limits.{Limits}
+use Rattle.report.specs.Analysis.{IsMarginText, IsMovesText}
+
+-- the regions of play of a position are all sound within the limits, and the text tells the thresholds of its opening
+pub record IsMargin (limits : Limits) (setup : Setup) (text : List ℕ) : Type 0 where
+  pub regions : List Region
+  pub state : Whole
+  pub are_regions : AreRegionsOfPlay setup.board regions
+  pub sound : AreSound limits regions
+  pub opening : OpensAs setup limits.tax state
+  pub is : IsMarginText state setup.komi_halves text
+
+-- the regions of play of a position are all sound within the limits, and the text tells of each move of its opening whether it wins
+pub record IsMoves (limits : Limits) (setup : Setup) (text : List ℕ) : Type 0 where
+  pub regions : List Region
+  pub state : Whole
+  pub are_regions : AreRegionsOfPlay setup.board regions
+  pub sound : AreSound limits regions
+  pub opening : OpensAs setup limits.tax state
+  pub is : IsMovesText state setup.komi_halves text
