@@ -2,6 +2,7 @@ pub mod CarriedLaws
 pub mod GraphLaws
 pub mod SharingLaws
 pub mod PartsLaws
+pub mod AvoidanceLaws
 pub mod WholeLaws
 pub mod BookkeepingLaws
 pub mod BeginLaws
@@ -9,4 +10,5 @@ pub mod HeldLaws
 pub mod WinningLaws
 pub mod ThresholdLaws
 pub mod SumThresholdLaws
+pub mod LineLaws
 pub mod MarginLaws

@@ -175,7 +175,7 @@ opening_balance x k c s o =
           ∙ komi_balance (points Black) (points White) l,
     )
 
-balance_paid : (c : Colour) (n : ℕ) (m : Purses) → balance (paid_in c n m) ≡ balance m +ℤ (credit c n +ℤ credit c n)
+pub balance_paid : (c : Colour) (n : ℕ) (m : Purses) → balance (paid_in c n m) ≡ balance m +ℤ (credit c n +ℤ credit c n)
 balance_paid Black n m = sums m.black m.white n (halves m.token)
   where
     sums : (b w n : ℕ) (h : ℤ) → ((pos (b + n) +ℤ neg_ℤ (pos w)) +ℤ (pos (b + n) +ℤ neg_ℤ (pos w))) +ℤ h

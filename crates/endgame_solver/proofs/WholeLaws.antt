@@ -1,6 +1,6 @@
 -- The whole game over its regions of play: its moves are the local moves of the regions and those on purses and token, and who
 -- loses is the sign of a sum.
-use Rattle.std.proofs.Common.{ℕ, zero, suc, ◌≡◌, ◌⊎◌, ◌↔◌, ◌+◌, ◌^◌, ◌<◌, ◌≤◌, arith, inl, inr, refl, sym, ap, ◌∙◌, subst, List, [], ◌∷◌, ◌++◌, length, get_or, Contains, length-set, ℤ, Bool}
+use Rattle.std.proofs.Common.{ℕ, zero, suc, ◌≡◌, ◌⊎◌, ◌↔◌, ◌+◌, ◌^◌, ◌<◌, ◌≤◌, arith, inl, inr, refl, sym, ap, ◌∙◌, subst, List, [], ◌∷◌, ◌++◌, length, get_or, Contains, length-set, ℤ, Bool, ◌+ℤ◌}
 use Rattle.std.proofs.lemmas.Bool.{cases_eq, cases_lt}
 use Rattle.std.proofs.lemmas.List.{ext_get_or, get_or_default}
 use Rattle.std.proofs.lemmas.List.Elements.{Contains-get_or}
@@ -27,15 +27,15 @@ use Rattle.whole_rules.specs.Walls.{Plays}
 use Rattle.whole_rules.specs.WholeGame.{Whole}
 use Rattle.whole_rules.specs.WholeGame as whole
 use Rattle.whole_rules.proofs.WallLaws.{Keeps, keeps_move, keeps_start}
-use Rattle.short_games.specs.Tree.{Tree, Trees, node, none, more, tree_at}
+use Rattle.short_games.specs.Tree.{Tree, Trees, Has, node, none, more, tree_at}
 use Rattle.short_games.specs.Order.{◌≡ᵍ◌}
-use Rattle.short_games.specs.Number.{num}
+use Rattle.short_games.specs.Number.{IsNumber, num}
 use Rattle.short_games.specs.Sum.{◌+ᵍ◌, total}
-use Rattle.short_games.proofs.NumberLaws.{num-plus_le, num-le_plus}
-use Rattle.short_games.proofs.OrderLaws.{same-refl, same-sym, same-trans}
-use Rattle.short_games.proofs.SumLaws.{same-plus}
+use Rattle.short_games.proofs.NumberLaws.{num-double, num-plus_le, num-le_plus}
+use Rattle.short_games.proofs.OrderLaws.{le-trans, same-path, same-refl, same-sym, same-trans}
+use Rattle.short_games.proofs.SumLaws.{nought, nought-plus, plus-assoc, same-plus}
 use Rattle.game_store.specs.Meaning.{pick}
-use Rattle.sum_outcome.specs.Players.{credit, LosesGame}
+use Rattle.sum_outcome.specs.Players.{credit, gain, options, LosesGame}
 use Rattle.sum_outcome.proofs.PlayerLaws.{loses-same}
 use Rattle.local_play.specs.LocalPlay.{is_stone, IsLocalMove}
 use Rattle.local_graph.specs.declared.cycle.CycleMove.{CycleMove}
@@ -57,6 +57,10 @@ use Rattle.endgame_solver.specs.Solved.{HoldsCells}
 use Rattle.endgame_solver.specs.SumGame.{State, Leads, StepIn, AllEnd, balance, parts_tree, purses_tree, state_tree, token_tree}
 use Rattle.endgame_solver.specs.inner.Regions.{IsPointOf}
 use Rattle.endgame_solver.specs.inner.WholeParts.{OthersStay, IsPlayedIn, IsPlayableIn, IsLocalPlay, AllShown, IsSeenAs}
+use Rattle.std.proofs.lemmas.Int.{ints}
+use Rattle.endgame_solver.specs.PlayLine.{IsHot}
+use Rattle.endgame_solver.proofs.AvoidanceLaws.{Hot, HotIn, HotStep, avoid}
+use Rattle.endgame_solver.proofs.ThresholdLaws.{balance_paid}
 use Rattle.endgame_solver.proofs.PartsLaws.{Matches, decomposes, loses-forth, purses-balance, wins-forth}
 
 -- The moves of a whole state are the local moves of its parts and the moves on purses and token.
@@ -249,6 +253,23 @@ money_same : (m : Purses) → purses_tree m ≡ᵍ money_tree m
 money_same m =
     same-plus _ _ _ _ (num-plus_le 0 (credit Black m.black) (credit White m.white), num-le_plus 0 (credit Black m.black) (credit White m.white))
     (same-refl (token_tree m.token))
+
+-- what a player is paid goes over to the balance
+paid_beside : (G : Tree) (c : Colour) (k : ℕ) (m : Purses) → ((G +ᵍ gain c k) +ᵍ num 1 (balance m)) ≡ᵍ (G +ᵍ num 1 (balance (paid_in c k m)))
+paid_beside G c k m =
+    let x = credit c k in
+    let sum : (num 1 (x +ℤ x) +ᵍ num 1 (balance m)) ≡ᵍ num 1 ((x +ℤ x) +ℤ balance m) = (num-plus_le 1 (x +ℤ x) (balance m), num-le_plus 1 (x +ℤ x) (balance m)) in
+    let is : (x +ℤ x) +ℤ balance m ≡ balance (paid_in c k m) = turned (x +ℤ x) (balance m) ∙ sym (balance_paid c k m) in
+    let inner : (gain c k +ᵍ num 1 (balance m)) ≡ᵍ num 1 (balance (paid_in c k m)) =
+    same-trans _ _ _ (same-path _ _ (ap (λ t. t +ᵍ num 1 (balance m)) (sym (num-double 0 x)))) (same-trans _ _ _ sum (same-path _ _ (ap (num 1) is))) in
+    same-trans _ _ _ (same-path _ _ (plus-assoc G (gain c k) (num 1 (balance m)))) (same-plus G G _ _ (same-refl G) inner)
+  where
+    turned : (a b : ℤ) → a +ℤ b ≡ b +ℤ a
+    turned a b = omega (arith, ints)
+
+no_option : (c : Colour) (X : Tree) → Has (options c nought) X → ⊥
+no_option Black X h = h
+no_option White X h = h
 
 module _ (g : Board) (settled : IsSettled g) (regions : List Region) (are : AreRegionsOfPlay g regions) where
   abbrev Most : ℕ
@@ -474,6 +495,97 @@ module _ (g : Board) (settled : IsSettled g) (regions : List Region) (are : AreR
         (Most + 1) Depth u (record { parts = v.parts; purses = u.purses; side = u.side }) few_cells (all_end u.board 0 v.parts shown) seen in
         let money = same-plus _ _ _ _ (same-refl (parts_tree Position Moves Depth v.parts)) (purses-balance u.purses) in
         (d.0, (λ x. loses-same u.side _ _ money (d.1.0 x), λ x. d.1.1 (loses-same u.side _ _ (same-sym _ _ money) x)))
+
+    -- a step in a part that is no number is a stone on the board
+    hot_back : (h : Board) → WallsStand g h → (c : Colour) (n i : ℕ) (qs rs : List Position) → AreHeld h i qs → i + length qs ≤ length regions
+        → HotStep Position Moves Depth c qs rs n
+        → (j : ℕ) × ((q : Position) × ((p : ℕ) × ((k : Board) × (i ≤ j) × IsHeld g regions h j q × Hot Position Moves Depth c q × IsPointOf regions j p
+        × IsPlaced h p c k × IsNumberTaken h k n × AreHeld k i rs × (length rs ≡ length qs)
+        × OthersStay Position Moves (IsPointOf regions) (IsHeld g regions) j h k)))
+    hot_back h walls c n i [] rs w most m = absurd m
+    hot_back h walls c n i (q ∷ qs) [] w most m = absurd m
+    hot_back h walls c n i (q ∷ qs) (r ∷ rs) w most (inl (hot, (x, among, to, taken), e)) =
+        let (p, (k, inside, placed, number, held, stay)) = cell_play.playable h c i q x walls (omega (arith, most)) w.0 among in
+        let later = subst (AreHeld k (suc i)) e (later_stay Position Moves (IsPointOf regions) (IsHeld g regions) h k i (suc i) qs (omega arith) stay w.1) in
+        let shown : AreHeld k i (r ∷ rs) = (subst (IsHeld g regions k i) to held, later) in
+        (i, (q, (p, (k, omega arith, w.0, hot, inside, placed, subst (IsNumberTaken h k) taken number, shown, ap suc (ap length (sym e)), stay))))
+    hot_back h walls c n i (q ∷ qs) (r ∷ rs) w most (inr (e, m)) =
+        let (j, (q', (p, (k, le, held, hot, inside, placed, number, later, long, stay)))) = hot_back h walls c n (suc i) qs rs w.1 (omega (arith, most)) m in
+        let shown : AreHeld k i (r ∷ rs) = (subst (IsHeld g regions k i) e (stay i q (λ z. omega (arith, le, z)) w.0), later) in
+        (j, (q', (p, (k, omega (arith, le), held, hot, inside, placed, number, shown, omega (arith, long), stay))))
+
+    -- a part is a number where a tree of its position is
+    hot_region : (h : Board) (c : Colour) (j : ℕ) (q : Position) → IsHeld g regions h j q → Hot Position Moves Depth c q → IsHot g h (region_at regions j)
+    hot_region h c j q held hot cells G holds tree (e, m, under, over) =
+        let r = region_at regions j in
+        let same = one_cells r cells q.cells h (holds.long, holds.local) (held.holds.long, held.holds.local) in
+        let alike = held_tree h j q G held (subst (λ x. IsTreeOf r.touch (3 ^ length x) x G) same tree) in
+        hot (e, m, le-trans _ _ _ alike.1 under, le-trans _ _ _ over alike.0)
+
+    region_hot : (h : Board) (c : Colour) (j : ℕ) (q : Position) (cells : List Cell) (G : Tree) → IsHeld g regions h j q
+        → HoldsPosition g (region_at regions j) cells h → IsTreeOf (region_at regions j).touch (3 ^ length cells) cells G → ¬ IsNumber G
+        → Hot Position Moves Depth c q
+    region_hot h c j q cells G held holds tree hot (e, m, under, over) =
+        let r = region_at regions j in
+        let same = one_cells r cells q.cells h (holds.long, holds.local) (held.holds.long, held.holds.local) in
+        let alike = held_tree h j q G held (subst (λ x. IsTreeOf r.touch (3 ^ length x) x G) same tree) in
+        hot (e, m, le-trans _ _ _ alike.0 under, le-trans _ _ _ over alike.1)
+
+    hot_part : (h : Board) (c : Colour) (i : ℕ) (qs : List Position) → AreHeld h i qs → (j : ℕ) → i ≤ j → j < i + length qs
+        → ((q : Position) → IsHeld g regions h j q → Hot Position Moves Depth c q) → HotIn Position Moves Depth c qs
+    hot_part h c i [] w j le lt hot = absurd (omega (arith, le, lt))
+    hot_part h c i (q ∷ qs) w j le lt hot = elim (cases_eq j i) [
+      | inl e ↦ inl (hot q (subst (λ z. IsHeld g regions h z q) (sym e) w.0))
+      | inr ne ↦ inr (hot_part h c (suc i) qs w.1 j (omega (arith, le, ne)) (omega (arith, lt)) hot)
+    ]
+
+    trees_at : (h : Board) (rs : List Region) (trees : Trees) → AreTreesOn g h rs trees → (j : ℕ) → j < length rs
+        → (cells : List Cell) × ((G : Tree) × HoldsPosition g (get_or rs j no_region) cells h
+        × IsTreeOf (get_or rs j no_region).touch (3 ^ length cells) cells G)
+    trees_at h [] trees w j lt = absurd (omega (arith, lt))
+    trees_at h (r ∷ rs) none w j lt = absurd w
+    trees_at h (r ∷ rs) (more G Gs) ((cells, holds, tree), w) zero lt = (cells, (G, holds, tree))
+    trees_at h (r ∷ rs) (more G Gs) (first, w) (suc j) lt = trees_at h rs Gs w j (omega (arith, lt))
+
+    -- Who wins by moving first wins by a stone in a region that is no number, if there is one.
+    pub avoids : (u : Whole) (v : State Position) (trees : Trees) (r : Region) → SeenAs u v → AreTreesOn g u.board regions trees → Contains regions r
+        → IsHot g u.board r → ¬ MoverLoses Whole whole.Leads u
+        → ((p : ℕ) (w : Whole) → whole.IsMove u (Stone p) w → ((r : Region) × Contains regions r × Contains r.points p × IsHot g u.board r)
+        → ¬ MoverLoses Whole whole.Leads w) → ⊥
+    avoids u v trees r seen on (i, lt, is) hot wins unwon =
+        avoid Position Moves Depth u.side v.parts (all_end u.board 0 v.parts seen.1.shown) nought 1 (balance u.purses) (inr hot_in)
+        (λ X h l. no_option u.side X h) by_step
+        (λ l. wins ((decided_alike u v seen u seen.0 refl).1.1 (subst (λ t. LosesGame u.side (t +ᵍ num 1 (balance u.purses))) (nought-plus parts) l)))
+      where
+        parts : Tree
+        parts = parts_tree Position Moves Depth v.parts
+
+        here : region_at regions i ≡ r
+        here = get_or_default regions i no_region r lt ∙ is
+
+        hot_in : HotIn Position Moves Depth u.side v.parts
+        hot_in =
+            let (cells, (G, holds, tree)) = trees_at u.board regions trees on i lt in
+            hot_part u.board u.side 0 v.parts seen.1.shown i (omega arith) (omega (arith, lt, seen.1.count))
+            (λ q held. region_hot u.board u.side i q cells G held holds tree (subst (IsHot g u.board) (sym here) hot cells G holds tree))
+
+        by_step : (qs : List Position) (k : ℕ) → HotStep Position Moves Depth u.side v.parts qs k
+            → ¬ LosesGame (other u.side) ((nought +ᵍ (parts_tree Position Moves Depth qs +ᵍ gain u.side k)) +ᵍ num 1 (balance u.purses))
+        by_step qs k step l =
+            let c = u.side in
+            let (j, (q, (p, (h, le, held, hot', inside, placed, number, shown, long, stay)))) =
+            hot_back u.board seen.0.walls c k 0 v.parts qs seen.1.shown (omega (arith, seen.1.count)) step in
+            let money = paid_in c k u.purses in
+            let w = whole.after h money u in
+            let move : whole.IsMove u (Stone p) w = ((seen.0.contested p).1 (cell_play.within j p held.known inside), (h, (k, placed, number, refl))) in
+            let keeps = keeps_move g settled u w (Stone p) seen.0 move in
+            let next : SeenAs w (record { parts = qs; purses = money; side = other c }) =
+            (keeps, record { count = long ∙ seen.1.count; shown = shown; purses = refl; turn = refl }) in
+            let d = decided_alike w (record { parts = qs; purses = money; side = other c }) next w keeps refl in
+            unwon p w move (region_at regions j, region_in j held.known, inside, hot_region u.board c j q held hot')
+            (d.1.1 (loses-same (other c) _ _ (same-trans _ _ _
+            (same-path _ _ (ap (λ t. t +ᵍ num 1 (balance u.purses)) (nought-plus (parts_tree Position Moves Depth qs +ᵍ gain c k))))
+            (paid_beside (parts_tree Position Moves Depth qs) c k u.purses)) l))
 
     -- values of positions that a board holds are as good as some trees of them
     valued : (h : Board) (Ts : List Tree) (rs : List Region) (ids : List ℕ) → length ids ≡ length rs

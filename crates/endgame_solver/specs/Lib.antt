@@ -6,6 +6,7 @@ pub mod ShapeValues
 pub mod Bookkeeping
 pub mod Faults
 pub mod Thresholds
+pub mod PlayLine
 pub mod Solved
 pub mod Code
 pub mod inner

@@ -3,6 +3,7 @@
 ghost use Rattle.endgame_solver.specs.Decomposition.{WholeDecomposes};
 ghost use Rattle.endgame_solver.specs.Laws.{Decomposes, PursesAreBalance};
 ghost use Rattle.endgame_solver.specs.Bookkeeping.{PursesFollow, RegionsFollow};
+ghost use Rattle.endgame_solver.specs.PlayLine.{BestStoneLosesNothing, NoStoneIsBetter};
 ghost use Rattle.endgame_solver.specs.ShapeValues.{ShapesKeepValues};
 ghost use Rattle.endgame_solver.specs.Thresholds.{FirstMoveCostsAHalf, StonesServeEachKomi, ThresholdIsInSum, ThresholdsExist};
 
@@ -28,4 +29,11 @@ pub fn threshold_laws()
     ensures exist { ThresholdsExist }
     ensures half { FirstMoveCostsAHalf }
     ensures sum { ThresholdIsInSum }
+{}
+
+/// On a settled board whose regions have no cycle no stone has a better threshold than the state in which it is played, and
+/// the best stone in a region that is no number has that threshold. It rests on number avoidance (Conway). It has no code.
+pub fn line_laws()
+    ensures stones { NoStoneIsBetter }
+    ensures best { BestStoneLosesNothing }
 {}

@@ -16,6 +16,6 @@ mod winning_moves;
 
 pub use cycle_names::CycleNames;
 pub use faults::SolveError;
-pub use laws::{decomposition_laws, shape_laws, threshold_laws};
+pub use laws::{decomposition_laws, line_laws, shape_laws, threshold_laws};
 pub use limits::Limits;
 pub use solved::{RegionReport, Solved};

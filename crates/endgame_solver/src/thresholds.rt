@@ -1,6 +1,6 @@
 //! By how much a state is won: the least number beside the sum of the present values with which Black wins.
 
-ghost use Rattle.std.specs.Prelude.{◌≡◌, ℕ, ◌+◌, ◌*◌, ◌<◌, ◌≤◌, ◌^◌, ℤ, pos, ◌+ℤ◌, ◌-ℤ◌, ◌*ℤ◌, ◌<ℤ◌, unsigned_abs, ◌↔◌, List, [], ◌∷◌, IfSome, IsTrue, MatchOption, length};
+ghost use Rattle.std.specs.Prelude.{◌≡◌, ◌+◌, ◌*◌, ◌<◌, ◌≤◌, ◌^◌, ℤ, pos, ◌+ℤ◌, ◌-ℤ◌, ◌*ℤ◌, ◌<ℤ◌, unsigned_abs, ◌↔◌, [], ◌∷◌, IfSome, IsTrue, MatchOption, length};
 ghost use Rattle.go_grid.specs.declared.grid.TheConstants.{MOST_POINTS};
 ghost use Rattle.whole_rules.specs.declared.states.Move.TheVariants.{Stone};
 ghost use Rattle.whole_rules.specs.WholeGame.{IsLegal};

@@ -1,7 +1,6 @@
 //! The texts of `margin` and `moves`.
 
-ghost use Rattle.std.specs.Prelude.{◌≡◌, ◌<◌, ◌*◌, ◌++◌, OnOk, IfOk, codes, length, string_bytes};
-ghost use Rattle.whole_rules.specs.declared.states.Move.TheVariants.{Half, Spend};
+ghost use Rattle.std.specs.Prelude.{◌≡◌, ◌<◌, ◌*◌, ◌++◌, OnOk, IfOk, length, string_bytes};
 ghost use Rattle.report.specs.Analysis.{IsMarginText, IsMovesText, opening_lines, outcome_word, stone_line};
 ghost use Rattle.report.specs.inner.Analysis.{HasMove, HasOpening, HasStone, HasStones, HasThresholds};
 

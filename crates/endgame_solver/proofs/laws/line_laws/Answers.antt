@@ -1,0 +1,8 @@
+use Rattle.endgame_solver.proofs.LineLaws.{best_stone_loses_nothing, no_stone_is_better}
+use Rattle.endgame_solver.proofs.laws.line_laws.Goals as goal
+
+pub returns-clause-stones : goal.returns-clause-stones
+returns-clause-stones c = no_stone_is_better
+
+pub returns-clause-best : goal.returns-clause-best
+returns-clause-best c = best_stone_loses_nothing
