@@ -4,6 +4,7 @@ pub mod Order
 pub mod OrderLaws
 pub mod Sum
 pub mod SumLaws
+pub mod GroupLaws
 pub mod Moves
 pub mod Number
 pub mod Simplest

@@ -5,6 +5,8 @@
 
 ghost use Rattle.short_games.specs.OrderLaws.{OrderIs, ConfusedIs, IsReflexive, IsTransitive};
 ghost use Rattle.short_games.specs.SumLaws.{SumsKeepOrder, CancelsNegative, IncentiveDominates, IncentiveDominatesBack};
+ghost use Rattle.short_games.specs.GroupLaws.{SumsAssociate, SumsCommute, ZeroIsNeutral, NegativesCancel, EqualsAdd};
+ghost use Rattle.short_games.specs.GroupLaws.{SumsOrder, NegativesTurn, NegativesAdd, NegativeTwice, DifferencesTell};
 ghost use Rattle.short_games.specs.NumberLaws.{LeftAvoidsNumbers, RightAvoidsNumbers, NumbersTranslate};
 ghost use Rattle.short_games.specs.NumberLaws.{SimplestIsValue, FittingHaveSimplest, NumbersFit};
 ghost use Rattle.short_games.specs.StopLaws.{IsUnderLeftStop, IsOverRightStop, StopsAreOrdered, StopsExist};
@@ -29,6 +31,22 @@ pub fn sum_laws()
     ensures negative { CancelsNegative }
     ensures dominated { IncentiveDominates }
     ensures back { IncentiveDominatesBack }
+{}
+
+/// Games are a partly ordered group under sums, up to equality (Conway): sums are associative and commutative, 0 is
+/// neutral, a game and its negative cancel, equal games may stand for one another, sums keep the order both ways, and
+/// negatives turn it.
+pub fn group_laws()
+    ensures associate { SumsAssociate }
+    ensures commute { SumsCommute }
+    ensures neutral { ZeroIsNeutral }
+    ensures cancel { NegativesCancel }
+    ensures equals { EqualsAdd }
+    ensures order { SumsOrder }
+    ensures turn { NegativesTurn }
+    ensures negative { NegativesAdd }
+    ensures twice { NegativeTwice }
+    ensures difference { DifferencesTell }
 {}
 
 /// Number avoidance: beside games that are no numbers, moves in numbers aren't needed. Number translation: to add a number
