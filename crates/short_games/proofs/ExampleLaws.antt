@@ -13,7 +13,7 @@ use Rattle.short_games.specs.Examples.{choice, zero, one, star, up, two_switch, 
 use Rattle.short_games.specs.Sum.{◌+ᵍ◌}
 use Rattle.short_games.specs.Stops.{IsLeftStop, IsRightStop}
 use Rattle.short_games.specs.Walls.{IsLeftWall, IsRightWall, IsGreatestRightWall, IsLeastLeftWall}
-use Rattle.short_games.specs.KnownValues.{IsLess, AreConfused, IsUpright, KnownNumbers, KnownOrder, KnownSums, KnownCanonical, KnownStops, KnownWalls}
+use Rattle.short_games.specs.KnownValues.{IsLess, AreConfused, IsUpright, KnownNumbers, KnownFractions, KnownOrder, KnownSums, KnownCanonical, KnownStops, KnownWalls}
 use Rattle.short_games.proofs.NumberTextLaws.{same-is}
 use Rattle.short_games.proofs.OrderLaws.{no_one, no_one-has, le, to-test, le_within, from-test, not-le}
 use Rattle.short_games.proofs.NumberLaws.{num-left, num-right, num-lt, num-zero}
@@ -210,6 +210,10 @@ known-numbers = (
   no_value tiny examples-canonical.3 tiny-no_number,
   no_value star_two examples-canonical.4 star_two-no_number,
 )
+
+pub known-fractions : KnownFractions
+unfolding num whole count_tree neg
+known-fractions = (refl, refl, refl, refl, refl, refl)
 
 -- one option on each side, which is a number, gives the stop
 pub known-stops : KnownStops

@@ -11,6 +11,7 @@ pub mod NumberTextLaws
 pub mod TextOrderLaws
 pub mod ReductionLaws
 pub mod StopLaws
+pub mod DyadicLaws
 pub mod AvoidanceLaws
 pub mod IncentiveLaws
 pub mod ExampleLaws

@@ -8,13 +8,18 @@ use Rattle.short_games.specs.Simplest.{IsSimplestFor}
 use Rattle.short_games.specs.Stops.{IsLeftStop, IsRightStop}
 use Rattle.short_games.specs.TextOrder.{IsCanonicalTree, IsCanonicalFor}
 use Rattle.short_games.specs.Walls.{IsLeftWall, IsRightWall}
-use Rattle.short_games.specs.Examples.{choice, zero, one, two, minus_two, half, star, up, two_switch, tiny, star_two}
+use Rattle.short_games.specs.Examples.{choice, zero, one, two, three, minus_one, minus_two, half, minus_half, three_quarters, minus_five_eighths, star, up, two_switch, tiny, star_two}
 
 -- 0, 2, -2 and 1/2 are numbers, and 0 is the simplest number for {-2|2}; star, up, {2|0}, tiny-two and the nimber of 2 are
 -- no numbers
 abbrev pub KnownNumbers : Type 0
 KnownNumbers = (num 0 (pos 0) ≡ zero) × (num 0 (pos 2) ≡ two) × (num 0 (negsuc 1) ≡ minus_two) × (num 1 (pos 1) ≡ half) × IsSimplestFor (choice minus_two two) zero
     × (IsNumber star → ⊥) × (IsNumber up → ⊥) × (IsNumber two_switch → ⊥) × (IsNumber tiny → ⊥) × (IsNumber star_two → ⊥)
+
+-- the trees of 1, 3, -1, -1/2, 3/4 and -5/8
+abbrev pub KnownFractions : Type 0
+KnownFractions = (num 0 (pos 1) ≡ one) × (num 0 (pos 3) ≡ three) × (num 0 (negsuc 0) ≡ minus_one) × (num 1 (negsuc 0) ≡ minus_half) × (num 2 (pos 3) ≡ three_quarters)
+    × (num 3 (negsuc 4) ≡ minus_five_eighths)
 
 -- G is less than H: at most H, and not at least
 abbrev pub IsLess : Tree → Tree → Type 0

@@ -17,6 +17,7 @@ pub mod TextOrder
 pub mod TextLaws
 pub mod CanonicalLaws
 pub mod NumberLaws
+pub mod DyadicLaws
 pub mod StopLaws
 pub mod Parts
 pub mod Walls

@@ -7,12 +7,13 @@ ghost use Rattle.short_games.specs.OrderLaws.{OrderIs, ConfusedIs, IsReflexive, 
 ghost use Rattle.short_games.specs.SumLaws.{SumsKeepOrder, CancelsNegative, IncentiveDominates, IncentiveDominatesBack};
 ghost use Rattle.short_games.specs.GroupLaws.{SumsAssociate, SumsCommute, ZeroIsNeutral, NegativesCancel, EqualsAdd};
 ghost use Rattle.short_games.specs.GroupLaws.{SumsOrder, NegativesTurn, NegativesAdd, NegativeTwice, DifferencesTell};
+ghost use Rattle.short_games.specs.DyadicLaws.{NumbersOrder, NumbersHaveOneTree, NumbersAdd, NumbersAddOnce, NumbersTurn, NumbersAreCanonical};
 ghost use Rattle.short_games.specs.NumberLaws.{LeftAvoidsNumbers, RightAvoidsNumbers, NumbersTranslate};
 ghost use Rattle.short_games.specs.NumberLaws.{SimplestIsValue, FittingHaveSimplest, NumbersFit};
 ghost use Rattle.short_games.specs.StopLaws.{IsUnderLeftStop, IsOverRightStop, StopsAreOrdered, StopsExist};
 ghost use Rattle.short_games.specs.TextLaws.{TextsAreOneToOne, TextsTellGames};
 ghost use Rattle.short_games.specs.CanonicalLaws.{EachHasCanonical, OptionsAreFollowers};
-ghost use Rattle.short_games.specs.KnownValues.{KnownNumbers, KnownOrder, KnownSums, KnownCanonical, KnownStops, KnownWalls};
+ghost use Rattle.short_games.specs.KnownValues.{KnownNumbers, KnownFractions, KnownOrder, KnownSums, KnownCanonical, KnownStops, KnownWalls};
 ghost use Rattle.short_games.specs.WallLaws.{WallsExist, WallsAreUnique, WallsGoOn, WallsBeginAtStops, TemperaturesExist, NoneBetween, NoneBendsBetween, WallsAreOnGrids};
 
 /// The order of games is a preorder, and what is less or confused is what is not at least (Conway).
@@ -47,6 +48,17 @@ pub fn group_laws()
     ensures negative { NegativesAdd }
     ensures twice { NegativeTwice }
     ensures difference { DifferencesTell }
+{}
+
+/// The tree of m / 2 ^ e is that number: trees of numbers are ordered, the same, added and turned exactly as the numbers
+/// are, and they are canonical (Conway). With `known_values`, by which the tree of 1 is {0|}, no other tree can stand for it.
+pub fn dyadic_laws()
+    ensures order { NumbersOrder }
+    ensures one_tree { NumbersHaveOneTree }
+    ensures add { NumbersAdd }
+    ensures add_once { NumbersAddOnce }
+    ensures turn { NumbersTurn }
+    ensures canonical { NumbersAreCanonical }
 {}
 
 /// Number avoidance: beside games that are no numbers, moves in numbers aren't needed. Number translation: to add a number
@@ -97,6 +109,7 @@ pub fn wall_laws()
 /// Values that every book has (0, 1/2, star, up, {2|0}, a tiny, the nimber of 2) as instances of the definitions.
 pub fn known_values()
     ensures numbers { KnownNumbers }
+    ensures fractions { KnownFractions }
     ensures order { KnownOrder }
     ensures sums { KnownSums }
     ensures canonical { KnownCanonical }
