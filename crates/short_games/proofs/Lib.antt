@@ -13,6 +13,7 @@ pub mod ReductionLaws
 pub mod StopLaws
 pub mod DyadicLaws
 pub mod AvoidanceLaws
+pub mod ShiftLaws
 pub mod IncentiveLaws
 pub mod ExampleLaws
 pub mod LineLaws

@@ -18,6 +18,7 @@ pub mod TextLaws
 pub mod CanonicalLaws
 pub mod NumberLaws
 pub mod DyadicLaws
+pub mod AvoidanceLaws
 pub mod StopLaws
 pub mod Parts
 pub mod Walls

@@ -10,6 +10,7 @@ ghost use Rattle.short_games.specs.GroupLaws.{SumsOrder, NegativesTurn, Negative
 ghost use Rattle.short_games.specs.DyadicLaws.{NumbersOrder, NumbersHaveOneTree, NumbersAdd, NumbersAddOnce, NumbersTurn, NumbersAreCanonical};
 ghost use Rattle.short_games.specs.NumberLaws.{LeftAvoidsNumbers, RightAvoidsNumbers, NumbersTranslate};
 ghost use Rattle.short_games.specs.NumberLaws.{SimplestIsValue, FittingHaveSimplest, NumbersFit};
+ghost use Rattle.short_games.specs.AvoidanceLaws.{LeftMovesInGame, RightMovesInGame, LeftMovesInGames, RightMovesInGames, NumbersShift};
 ghost use Rattle.short_games.specs.StopLaws.{IsUnderLeftStop, IsOverRightStop, StopsAreOrdered, StopsExist};
 ghost use Rattle.short_games.specs.TextLaws.{TextsAreOneToOne, TextsTellGames};
 ghost use Rattle.short_games.specs.CanonicalLaws.{EachHasCanonical, OptionsAreFollowers};
@@ -71,6 +72,17 @@ pub fn number_laws()
     ensures simplest { SimplestIsValue }
     ensures fitting { FittingHaveSimplest }
     ensures fit { NumbersFit }
+{}
+
+/// Number avoidance and number translation for every game that isn't equal to a number, and every form of a number
+/// (Conway): who moves first and wins the sum of the two wins it by a move in the game, and the sum is the game with the
+/// number added to each option.
+pub fn avoidance_laws()
+    ensures left { LeftMovesInGame }
+    ensures right { RightMovesInGame }
+    ensures left_of_sum { LeftMovesInGames }
+    ensures right_of_sum { RightMovesInGames }
+    ensures translation { NumbersShift }
 {}
 
 /// Canonical games have stops, which bound them, and the left stop is at least the right one (Siegel).
