@@ -14,6 +14,7 @@ pub mod StopLaws
 pub mod DyadicLaws
 pub mod AvoidanceLaws
 pub mod ShiftLaws
+pub mod PlayLaws
 pub mod IncentiveLaws
 pub mod ExampleLaws
 pub mod LineLaws

@@ -26,4 +26,6 @@ pub mod WallGrids
 pub mod WallLaws
 pub mod Examples
 pub mod KnownValues
+pub mod Play
+pub mod PlayLaws
 pub mod inner

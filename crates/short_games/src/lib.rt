@@ -4,6 +4,7 @@
 #![tactic(auto)]
 
 ghost use Rattle.short_games.specs.OrderLaws.{OrderIs, ConfusedIs, IsReflexive, IsTransitive};
+ghost use Rattle.short_games.specs.PlayLaws.{GamesAreDetermined, OrderIsPlay, OutcomesAre, PlayCompares, MovesWinByPlay};
 ghost use Rattle.short_games.specs.SumLaws.{SumsKeepOrder, CancelsNegative, IncentiveDominates, IncentiveDominatesBack};
 ghost use Rattle.short_games.specs.GroupLaws.{SumsAssociate, SumsCommute, ZeroIsNeutral, NegativesCancel, EqualsAdd};
 ghost use Rattle.short_games.specs.GroupLaws.{SumsOrder, NegativesTurn, NegativesAdd, NegativeTwice, DifferencesTell};
@@ -23,6 +24,17 @@ pub fn order_laws()
     ensures confused { ConfusedIs }
     ensures reflexive { IsReflexive }
     ensures transitive { IsTransitive }
+{}
+
+/// Outcomes: whoever moves first, exactly one side wins by play, and who wins is how the game stands to 0 (Conway). It is
+/// above, below, equal to or confused with 0 where Left, Right, who moves second or who moves first wins; and it is at most
+/// another where Left, moving second, wins the difference.
+pub fn play_laws()
+    ensures determined { GamesAreDetermined }
+    ensures order { OrderIsPlay }
+    ensures outcomes { OutcomesAre }
+    ensures compares { PlayCompares }
+    ensures moves { MovesWinByPlay }
 {}
 
 /// Sums keep the order, and each game cancels its negative (Conway). The incentive of one game's option is at least that of
