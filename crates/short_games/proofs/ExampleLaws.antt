@@ -14,6 +14,8 @@ use Rattle.short_games.specs.Sum.{◌+ᵍ◌}
 use Rattle.short_games.specs.Stops.{IsLeftStop, IsRightStop}
 use Rattle.short_games.specs.Walls.{IsLeftWall, IsRightWall, IsGreatestRightWall, IsLeastLeftWall}
 use Rattle.short_games.specs.KnownValues.{IsLess, AreConfused, IsUpright, KnownNumbers, KnownFractions, KnownOrder, KnownSums, KnownCanonical, KnownStops, KnownWalls}
+use Rattle.short_games.specs.Nimbers.{nimber, nimbers_below}
+use Rattle.short_games.specs.NimberLaws.{KnownNimbers}
 use Rattle.short_games.proofs.NumberTextLaws.{same-is}
 use Rattle.short_games.proofs.OrderLaws.{no_one, no_one-has, le, to-test, le_within, from-test, not-le}
 use Rattle.short_games.proofs.NumberLaws.{num-left, num-right, num-lt, num-zero}
@@ -214,6 +216,10 @@ known-numbers = (
 pub known-fractions : KnownFractions
 unfolding num whole count_tree neg
 known-fractions = (refl, refl, refl, refl, refl, refl)
+
+pub known-nimbers : KnownNimbers
+unfolding nimbers_below le le_within size
+known-nimbers = (refl, refl, equal (nimber 2) star_two refl refl)
 
 -- one option on each side, which is a number, gives the stop
 pub known-stops : KnownStops

@@ -12,6 +12,7 @@ pub mod TextOrderLaws
 pub mod ReductionLaws
 pub mod StopLaws
 pub mod DyadicLaws
+pub mod NimberLaws
 pub mod AvoidanceLaws
 pub mod ShiftLaws
 pub mod PlayLaws

@@ -28,4 +28,6 @@ pub mod Examples
 pub mod KnownValues
 pub mod Play
 pub mod PlayLaws
+pub mod Nimbers
+pub mod NimberLaws
 pub mod inner

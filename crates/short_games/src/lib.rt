@@ -15,6 +15,7 @@ ghost use Rattle.short_games.specs.AvoidanceLaws.{LeftMovesInGame, RightMovesInG
 ghost use Rattle.short_games.specs.StopLaws.{IsUnderLeftStop, IsOverRightStop, StopsAreOrdered, StopsExist};
 ghost use Rattle.short_games.specs.TextLaws.{TextsAreOneToOne, TextsTellGames};
 ghost use Rattle.short_games.specs.CanonicalLaws.{EachHasCanonical, OptionsAreFollowers};
+ghost use Rattle.short_games.specs.NimberLaws.{KnownNimbers, NimSum, NimbersAreConfused, NimbersAreNegatives, NimbersAreNoNumbers};
 ghost use Rattle.short_games.specs.KnownValues.{KnownNumbers, KnownFractions, KnownOrder, KnownSums, KnownCanonical, KnownStops, KnownWalls};
 ghost use Rattle.short_games.specs.WallLaws.{WallsExist, WallsAreUnique, WallsGoOn, WallsBeginAtStops, TemperaturesExist, NoneBetween, NoneBendsBetween, WallsAreOnGrids};
 
@@ -115,6 +116,16 @@ pub fn text_laws()
 pub fn canonical_laws()
     ensures one { EachHasCanonical }
     ensures followers { OptionsAreFollowers }
+{}
+
+/// Nimbers add up by the rule of nim (Sprague, Grundy); different ones are confused, each is its own negative, and none but
+/// that of 0 is a number.
+pub fn nimber_laws()
+    ensures known { KnownNimbers }
+    ensures add { NimSum }
+    ensures confused { NimbersAreConfused }
+    ensures turn { NimbersAreNegatives }
+    ensures no_numbers { NimbersAreNoNumbers }
 {}
 
 /// A canonical game has exactly one left and one right wall, on each fine grid of places; they begin at its stops, go
