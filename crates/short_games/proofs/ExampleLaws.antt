@@ -16,6 +16,7 @@ use Rattle.short_games.specs.Walls.{IsLeftWall, IsRightWall, IsGreatestRightWall
 use Rattle.short_games.specs.KnownValues.{IsLess, AreConfused, IsUpright, KnownNumbers, KnownFractions, KnownOrder, KnownSums, KnownCanonical, KnownStops, KnownWalls}
 use Rattle.short_games.specs.Nimbers.{nimber, nimbers_below}
 use Rattle.short_games.specs.NimberLaws.{KnownNimbers}
+use Rattle.short_games.specs.UpLaws.{KnownUps}
 use Rattle.short_games.proofs.NumberTextLaws.{same-is}
 use Rattle.short_games.proofs.OrderLaws.{no_one, no_one-has, le, to-test, le_within, from-test, not-le}
 use Rattle.short_games.proofs.NumberLaws.{num-left, num-right, num-lt, num-zero}
@@ -220,6 +221,10 @@ known-fractions = (refl, refl, refl, refl, refl, refl)
 pub known-nimbers : KnownNimbers
 unfolding nimbers_below le le_within size
 known-nimbers = (refl, refl, equal (nimber 2) star_two refl refl)
+
+pub known-ups : KnownUps
+unfolding le le_within size ◌+ᵍ◌
+known-ups = (less zero up refl refl, confused up star refl refl, less star (up +ᵍ up) refl refl, equal (up +ᵍ up +ᵍ star) (choice zero up) refl refl)
 
 -- one option on each side, which is a number, gives the stop
 pub known-stops : KnownStops

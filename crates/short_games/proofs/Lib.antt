@@ -18,6 +18,7 @@ pub mod ShiftLaws
 pub mod PlayLaws
 pub mod IncentiveLaws
 pub mod ExampleLaws
+pub mod UpLaws
 pub mod LineLaws
 pub mod GreatestLaws
 pub mod WallNumberLaws

@@ -30,4 +30,6 @@ pub mod Play
 pub mod PlayLaws
 pub mod Nimbers
 pub mod NimberLaws
+pub mod Multiples
+pub mod UpLaws
 pub mod inner

@@ -16,6 +16,7 @@ ghost use Rattle.short_games.specs.StopLaws.{IsUnderLeftStop, IsOverRightStop, S
 ghost use Rattle.short_games.specs.TextLaws.{TextsAreOneToOne, TextsTellGames};
 ghost use Rattle.short_games.specs.CanonicalLaws.{EachHasCanonical, OptionsAreFollowers};
 ghost use Rattle.short_games.specs.NimberLaws.{KnownNimbers, NimSum, NimbersAreConfused, NimbersAreNegatives, NimbersAreNoNumbers};
+ghost use Rattle.short_games.specs.UpLaws.{KnownUps, UpsGrow, UpsAreInfinitesimal, UpsAreForms};
 ghost use Rattle.short_games.specs.KnownValues.{KnownNumbers, KnownFractions, KnownOrder, KnownSums, KnownCanonical, KnownStops, KnownWalls};
 ghost use Rattle.short_games.specs.WallLaws.{WallsExist, WallsAreUnique, WallsGoOn, WallsBeginAtStops, TemperaturesExist, NoneBetween, NoneBendsBetween, WallsAreOnGrids};
 
@@ -126,6 +127,15 @@ pub fn nimber_laws()
     ensures confused { NimbersAreConfused }
     ensures turn { NimbersAreNegatives }
     ensures no_numbers { NimbersAreNoNumbers }
+{}
+
+/// Up is above 0 and confused with star; its multiples grow, stay below each number above 0, and have the forms that every
+/// book gives them.
+pub fn up_laws()
+    ensures known { KnownUps }
+    ensures grow { UpsGrow }
+    ensures infinitesimal { UpsAreInfinitesimal }
+    ensures forms { UpsAreForms }
 {}
 
 /// A canonical game has exactly one left and one right wall, on each fine grid of places; they begin at its stops, go
