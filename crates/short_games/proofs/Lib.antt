@@ -10,6 +10,7 @@ pub mod ThresholdLaws
 pub mod NumberTextLaws
 pub mod TextOrderLaws
 pub mod ReductionLaws
+pub mod SmallestLaws
 pub mod StopLaws
 pub mod DyadicLaws
 pub mod NimberLaws

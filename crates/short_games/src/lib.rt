@@ -14,7 +14,7 @@ ghost use Rattle.short_games.specs.NumberLaws.{SimplestIsValue, FittingHaveSimpl
 ghost use Rattle.short_games.specs.AvoidanceLaws.{LeftMovesInGame, RightMovesInGame, LeftMovesInGames, RightMovesInGames, NumbersShift};
 ghost use Rattle.short_games.specs.StopLaws.{IsUnderLeftStop, IsOverRightStop, StopsAreOrdered, StopsExist};
 ghost use Rattle.short_games.specs.TextLaws.{TextsAreOneToOne, TextsTellGames};
-ghost use Rattle.short_games.specs.CanonicalLaws.{EachHasCanonical, OptionsAreFollowers};
+ghost use Rattle.short_games.specs.CanonicalLaws.{EachHasCanonical, OptionsAreFollowers, FollowersAreCanonical, CanonicalHasFewestNodes, CanonicalHasFewestParts};
 ghost use Rattle.short_games.specs.NimberLaws.{KnownNimbers, NimSum, NimbersAreConfused, NimbersAreNegatives, NimbersAreNoNumbers};
 ghost use Rattle.short_games.specs.UpLaws.{KnownUps, UpsGrow, UpsAreInfinitesimal, UpsAreForms};
 ghost use Rattle.short_games.specs.KnownValues.{KnownNumbers, KnownFractions, KnownOrder, KnownSums, KnownCanonical, KnownStops, KnownWalls};
@@ -113,10 +113,14 @@ pub fn text_laws()
     ensures games { TextsTellGames }
 {}
 
-/// Each game has exactly one canonical form (Conway). It is made of followers of the options' canonical forms.
+/// Each game has exactly one canonical form (Conway). It is made of followers of the options' canonical forms, each of its
+/// followers is the canonical form of a follower, and of all equal games it has the fewest nodes and the fewest parts.
 pub fn canonical_laws()
     ensures one { EachHasCanonical }
     ensures followers { OptionsAreFollowers }
+    ensures inherited { FollowersAreCanonical }
+    ensures nodes { CanonicalHasFewestNodes }
+    ensures parts { CanonicalHasFewestParts }
 {}
 
 /// Nimbers add up by the rule of nim (Sprague, Grundy); different ones are confused, each is its own negative, and none but

@@ -1,0 +1,91 @@
+-- The canonical tree is the smallest of all equal games: its followers are canonical trees of followers.
+use Rattle.std.proofs.Common.{ℕ, zero, suc, ◌<◌, ◌≤◌, ◌≡◌, List, [], ◌∷◌, length, arith, refl, inl, inr, sym, ◌∙◌, subst}
+use Rattle.short_games.specs.Tree.{Tree, node, size, tree_at}
+use Rattle.short_games.specs.Number.{IsNumberTree}
+use Rattle.short_games.specs.TextOrder.{IsCanonicalFor, IsCanonicalTree, TextBefore}
+use Rattle.short_games.specs.Parts.{IsFollower, IsOption, IsPart, HasMoreParts}
+use Rattle.short_games.specs.Parts.IsFollower.{itself, further}
+use Rattle.short_games.proofs.OrderLaws.{by_measure, le-refl, le-trans, same-trans, same-sym, size-option}
+use Rattle.short_games.proofs.PartLaws.{follower-of, follower-trans}
+use Rattle.short_games.proofs.TextOrderLaws.{text-order}
+use Rattle.short_games.proofs.ReductionLaws.{canonical-same, same-canonical, number-canonical}
+use Rattle.short_games.proofs.FormLaws.{all-canonical}
+use Rattle.short_games.proofs.ExistenceLaws.{canon_below, small_canon, with_canonical_options, WithCanonicalOptions}
+
+-- where the options are canonical, those of the canonical tree are followers of them
+pub options-below : (G C : Tree) → ((X : Tree) → IsOption G X → IsCanonicalTree X) → IsCanonicalFor G C → (X : Tree) → IsOption C X
+    → (L : Tree) × IsOption G L × IsFollower L X
+options-below (node ls rs) C each is X h =
+    let r = canon_below TextBefore text-order.total ls rs (all-canonical TextBefore ls (λ Y y. each Y (inl y))) (all-canonical TextBefore rs (λ Y y. each Y (inr y))) in
+    let t = r.canon in
+    let G = node ls rs in
+    let same = canonical-same C t.tree is.canonical t.canonical (le-trans C G t.tree is.over t.under) (le-trans t.tree G C t.over is.under) in
+    r.below X (subst (λ z. IsOption z X) same h)
+
+canonical-of : (G : Tree) → (C : Tree) × IsCanonicalFor G C × (size C ≤ size G)
+canonical-of G = let r = small_canon TextBefore text-order.total G in
+    (r.0.tree, record { canonical = r.0.canonical; under = r.0.under; over = r.0.over }, r.1)
+
+pub fewest-nodes : (G C : Tree) → IsCanonicalFor G C → size C ≤ size G
+fewest-nodes G C is = let r = canonical-of G in subst (λ t. size t ≤ size G) (same-canonical G r.0 C r.1 is) r.2
+
+abbrev Comes : Tree → Tree → Type 0
+Comes G X = (P : Tree) × IsFollower G P × IsCanonicalFor P X
+
+followers_step : (G : Tree) → ((A : Tree) → size A < size G → (C : Tree) → IsCanonicalFor A C → (X : Tree) → IsFollower C X → Comes A X)
+    → (C : Tree) → IsCanonicalFor G C → (X : Tree) → IsFollower C X → Comes G X
+followers_step (node ls rs) ih C is X f = elim (follower-of C X f) [
+  | inl e ↦ (node ls rs, itself (node ls rs), subst (IsCanonicalFor (node ls rs)) (sym e) is)
+  | inr (Y, o, g) ↦ behind Y o g
+]
+  where
+    w : WithCanonicalOptions TextBefore text-order.total ls rs
+    w = with_canonical_options TextBefore text-order.total ls rs (λ K k. let r = canonical-of K in (r.0, (r.1, r.2)))
+
+    of_form : IsCanonicalFor (node w.lefts w.rights) C
+    of_form = let s = same-trans _ _ _ (same-sym _ _ w.same) (is.under, is.over) in record { canonical = is.canonical; under = s.0; over = s.1 }
+
+    behind : (Y : Tree) → IsOption C Y → IsFollower Y X → Comes (node ls rs) X
+    behind Y o g =
+        let (L, l, b) = options-below (node w.lefts w.rights) C (λ K k. (w.from K k).2.canonical) of_form Y o in
+        let (K, k, r) = w.from L l in
+        let (P, p, q) = ih K (size-option (node ls rs) K k) L r X (follower-trans L Y X b g) in
+        (P, further (node ls rs) K P k p, q)
+
+pub followers-canonical : (G C : Tree) → IsCanonicalFor G C → (X : Tree) → IsFollower C X → Comes G X
+followers-canonical = by_measure size (λ G. (C : Tree) → IsCanonicalFor G C → (X : Tree) → IsFollower C X → Comes G X) followers_step
+
+-- a part of the canonical tree is the canonical tree of a part
+part-of_part : (G C : Tree) → IsCanonicalFor G C → (X : Tree) → IsPart C X → (P : Tree) × (IsPart G P × IsCanonicalFor P X)
+part-of_part G C is X (f, n) = let r = followers-canonical G C is X f in
+    (r.0, ((r.1, λ i. n (i.0, i.1, same-canonical r.0 X r.0 r.2 (itself-for r.0 i) ∙ i.2)), r.2))
+  where
+    itself-for : (P : Tree) → IsNumberTree P → IsCanonicalFor P P
+    itself-for P i = record { canonical = subst IsCanonicalTree (sym i.2) (number-canonical i.0 i.1); under = le-refl P; over = le-refl P }
+
+-- trees that belong to those of a list, each to that at its place
+along : (P : Tree → Tree → Type 0) (Xs : List Tree) → ((j : ℕ) → j < length Xs → (Y : Tree) × P (tree_at Xs j) Y)
+    → (Ys : List Tree) × (length Ys ≡ length Xs) × ((j : ℕ) → j < length Xs → P (tree_at Xs j) (tree_at Ys j))
+along P [] f = ([], refl, λ j l. absurd (omega (arith, l)))
+along P (X ∷ Xs) f =
+    let first = f 0 (omega arith) in
+    let r = along P Xs (λ j l. f (suc j) (omega (arith, l))) in
+    (first.0 ∷ r.0, omega (arith, r.1), at first.0 r.0 first.1 r.2)
+  where
+    at : (Y : Tree) (Ys : List Tree) → P X Y → ((j : ℕ) → j < length Xs → P (tree_at Xs j) (tree_at Ys j))
+        → (j : ℕ) → j < length (X ∷ Xs) → P (tree_at (X ∷ Xs) j) (tree_at (Y ∷ Ys) j)
+    at Y Ys p g zero l = p
+    at Y Ys p g (suc j) l = g j (omega (arith, l))
+
+pub fewest-parts : (G C : Tree) (n : ℕ) → IsCanonicalFor G C → HasMoreParts C n → HasMoreParts G n
+fewest-parts G C n is (Xs, parts, long) =
+    let r = along (λ X P. IsPart G P × IsCanonicalFor P X) Xs (λ j l. part-of_part G C is (tree_at Xs j) (parts.each j l)) in (
+      r.0,
+      record {
+        each = λ j l. (r.2 j (omega (arith, l, r.1))).0;
+        different = λ i j k l e. parts.different i j (omega (arith, k, r.1)) (omega (arith, l, r.1))
+            (same-canonical (tree_at r.0 j) (tree_at Xs i) (tree_at Xs j)
+            (subst (λ t. IsCanonicalFor t (tree_at Xs i)) e (r.2 i (omega (arith, k, r.1))).1) (r.2 j (omega (arith, l, r.1))).1);
+      },
+      omega (arith, long, r.1),
+    )
