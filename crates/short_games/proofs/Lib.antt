@@ -28,6 +28,7 @@ pub mod WallSolutionLaws
 pub mod DrawnWallLaws
 pub mod WallSteps
 pub mod WallExistenceLaws
+pub mod GameStopLaws
 pub mod WallMeetingLaws
 pub mod WallBetweenLaws
 pub mod WallRuleLaws

@@ -20,6 +20,8 @@ pub mod NumberLaws
 pub mod DyadicLaws
 pub mod AvoidanceLaws
 pub mod StopLaws
+pub mod GameStops
+pub mod GameStopLaws
 pub mod Parts
 pub mod Walls
 pub mod WallGrids

@@ -13,6 +13,8 @@ ghost use Rattle.short_games.specs.NumberLaws.{LeftAvoidsNumbers, RightAvoidsNum
 ghost use Rattle.short_games.specs.NumberLaws.{SimplestIsValue, FittingHaveSimplest, NumbersFit};
 ghost use Rattle.short_games.specs.AvoidanceLaws.{LeftMovesInGame, RightMovesInGame, LeftMovesInGames, RightMovesInGames, NumbersShift};
 ghost use Rattle.short_games.specs.StopLaws.{IsUnderLeftStop, IsOverRightStop, StopsAreOrdered, StopsExist};
+ghost use Rattle.short_games.specs.GameStopLaws.{GamesHaveStops, CanonicalStopsAgree, LeftStopBounds, RightStopBounds, StopsKeepOrder};
+ghost use Rattle.short_games.specs.GameStopLaws.{RightStopIsLess, StopsTurn, StopsOfSums, StopsTranslate};
 ghost use Rattle.short_games.specs.TextLaws.{TextsAreOneToOne, TextsTellGames};
 ghost use Rattle.short_games.specs.CanonicalLaws.{EachHasCanonical, OptionsAreFollowers, FollowersAreCanonical, CanonicalHasFewestNodes, CanonicalHasFewestParts};
 ghost use Rattle.short_games.specs.NimberLaws.{KnownNimbers, NimSum, NimbersAreConfused, NimbersAreNegatives, NimbersAreNoNumbers};
@@ -105,6 +107,21 @@ pub fn stop_laws()
     ensures under { IsUnderLeftStop }
     ensures over { IsOverRightStop }
     ensures ordered { StopsAreOrdered }
+{}
+
+/// Games in any form have stops, which for canonical forms are those of `stop_laws`, and by which numbers are told to be at
+/// least or at most the game (Siegel). A greater game has stops no less, the right stop is at most the left one, negatives
+/// turn the stops, those of a sum are bounded by those of the two games, and with a number added both move by it.
+pub fn game_stop_laws()
+    ensures exist { GamesHaveStops }
+    ensures canonical { CanonicalStopsAgree }
+    ensures left { LeftStopBounds }
+    ensures right { RightStopBounds }
+    ensures keep { StopsKeepOrder }
+    ensures ordered { RightStopIsLess }
+    ensures turn { StopsTurn }
+    ensures sums { StopsOfSums }
+    ensures translate { StopsTranslate }
 {}
 
 /// A tree is known by its text, and a game by the text of its canonical form.
