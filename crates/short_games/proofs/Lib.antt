@@ -30,5 +30,6 @@ pub mod WallSteps
 pub mod WallExistenceLaws
 pub mod GameStopLaws
 pub mod WallMeetingLaws
+pub mod MastLaws
 pub mod WallBetweenLaws
 pub mod WallRuleLaws

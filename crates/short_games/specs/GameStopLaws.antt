@@ -7,6 +7,7 @@ use Rattle.short_games.specs.Number.{num}
 use Rattle.short_games.specs.TextOrder.{IsCanonicalTree}
 use Rattle.short_games.specs.Stops.{IsLeftStop, IsRightStop}
 use Rattle.short_games.specs.GameStops.{HasLeftStop, HasRightStop}
+use Rattle.short_games.specs.Examples.{choice, zero, one, minus_one, two, two_switch}
 
 -- each game has both stops on each grid that is fine enough
 abbrev pub GamesHaveStops : Type 0
@@ -71,3 +72,8 @@ StopsOfSums = (e : ℕ) (G H : Tree) (l r l' r' s t : ℤ) → HaveStops e G H l
 abbrev pub StopsTranslate : Type 0
 StopsTranslate = (e : ℕ) (G X : Tree) (x y z : ℤ) → X ≡ᵍ num e y
     → (HasLeftStop e G x → HasLeftStop e (G +ᵍ X) z → z ≡ x +ℤ y) × (HasRightStop e G x → HasRightStop e (G +ᵍ X) z → z ≡ x +ℤ y)
+
+-- {-1|1} is 0 and {0|2} is 1, so these are their stops; those of {2|0} are 2 and 0
+abbrev pub KnownGameStops : Type 0
+KnownGameStops = HasLeftStop 0 (choice minus_one one) (pos 0) × HasRightStop 0 (choice minus_one one) (pos 0) × HasLeftStop 0 (choice zero two) (pos 1) × HasRightStop 0 (choice zero two) (pos 1)
+    × HasLeftStop 0 two_switch (pos 2) × HasRightStop 0 two_switch (pos 0)

@@ -49,13 +49,13 @@ KnownStops = IsLeftStop 0 two_switch (pos 2) × IsRightStop 0 two_switch (pos 0)
     × IsLeftStop 0 star (pos 0) × IsRightStop 0 star (pos 0) × IsLeftStop 0 up (pos 0) × IsRightStop 0 up (pos 0)
     × IsLeftStop 0 tiny (pos 0) × IsRightStop 0 tiny (pos 0) × IsLeftStop 0 star_two (pos 0) × IsRightStop 0 star_two (pos 0)
 
--- both walls of the tree are x at each t
-abbrev pub IsUpright : Tree → ℕ → ℤ → Type 0
-IsUpright G k x = (t : ℕ) → IsLeftWall G k t x × IsRightWall G k t x
+-- the thermograph is a mast alone: both walls of the tree are x at each t
+abbrev pub HasMast : Tree → ℕ → ℤ → Type 0
+HasMast G k x = (t : ℕ) → IsLeftWall G k t x × IsRightWall G k t x
 
 -- the walls of {2|0} are 2 and 0 at 0, 3/2 and 1/2 at 1/2, and 1 from 1 on; those of 1/2 are 1/2, and those of star, up,
 -- tiny-two and the nimber of 2 are 0
 abbrev pub KnownWalls : Type 0
 KnownWalls = IsLeftWall two_switch 0 0 (pos 2) × IsRightWall two_switch 0 0 (pos 0) × IsLeftWall two_switch 1 1 (pos 3) × IsRightWall two_switch 1 1 (pos 1)
     × ((t : ℕ) → 1 ≤ t → IsLeftWall two_switch 0 t (pos 1) × IsRightWall two_switch 0 t (pos 1))
-    × IsUpright half 1 (pos 1) × IsUpright star 0 (pos 0) × IsUpright up 0 (pos 0) × IsUpright tiny 0 (pos 0) × IsUpright star_two 0 (pos 0)
+    × HasMast half 1 (pos 1) × HasMast star 0 (pos 0) × HasMast up 0 (pos 0) × HasMast tiny 0 (pos 0) × HasMast star_two 0 (pos 0)

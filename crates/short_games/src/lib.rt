@@ -14,13 +14,14 @@ ghost use Rattle.short_games.specs.NumberLaws.{SimplestIsValue, FittingHaveSimpl
 ghost use Rattle.short_games.specs.AvoidanceLaws.{LeftMovesInGame, RightMovesInGame, LeftMovesInGames, RightMovesInGames, NumbersShift};
 ghost use Rattle.short_games.specs.StopLaws.{IsUnderLeftStop, IsOverRightStop, StopsAreOrdered, StopsExist};
 ghost use Rattle.short_games.specs.GameStopLaws.{GamesHaveStops, CanonicalStopsAgree, LeftStopBounds, RightStopBounds, StopsKeepOrder};
-ghost use Rattle.short_games.specs.GameStopLaws.{RightStopIsLess, StopsTurn, StopsOfSums, StopsTranslate};
+ghost use Rattle.short_games.specs.GameStopLaws.{RightStopIsLess, StopsTurn, StopsOfSums, StopsTranslate, KnownGameStops};
 ghost use Rattle.short_games.specs.TextLaws.{TextsAreOneToOne, TextsTellGames};
 ghost use Rattle.short_games.specs.CanonicalLaws.{EachHasCanonical, OptionsAreFollowers, FollowersAreCanonical, CanonicalHasFewestNodes, CanonicalHasFewestParts};
 ghost use Rattle.short_games.specs.NimberLaws.{KnownNimbers, NimSum, NimbersAreConfused, NimbersAreNegatives, NimbersAreNoNumbers};
 ghost use Rattle.short_games.specs.UpLaws.{KnownUps, UpsGrow, UpsAreInfinitesimal, UpsAreForms};
 ghost use Rattle.short_games.specs.KnownValues.{KnownNumbers, KnownFractions, KnownOrder, KnownSums, KnownCanonical, KnownStops, KnownWalls};
-ghost use Rattle.short_games.specs.WallLaws.{WallsExist, WallsAreUnique, WallsGoOn, WallsBeginAtStops, TemperaturesExist, NoneBetween, NoneBendsBetween, WallsAreOnGrids};
+ghost use Rattle.short_games.specs.WallLaws.{WallsExist, WallsAreUnique, WallsGoOn, WallsBeginAtStops, TemperaturesExist, MastStands};
+ghost use Rattle.short_games.specs.WallLaws.{WallsAreOrdered, WallsAreUprightOrDiagonal, NoneBetween, NoneBendsBetween, WallsAreOnGrids};
 
 /// The order of games is a preorder, and what is less or confused is what is not at least (Conway).
 pub fn order_laws()
@@ -122,6 +123,7 @@ pub fn game_stop_laws()
     ensures turn { StopsTurn }
     ensures sums { StopsOfSums }
     ensures translate { StopsTranslate }
+    ensures known { KnownGameStops }
 {}
 
 /// A tree is known by its text, and a game by the text of its canonical form.
@@ -160,13 +162,17 @@ pub fn up_laws()
 {}
 
 /// A canonical game has exactly one left and one right wall, on each fine grid of places; they begin at its stops, go
-/// straight from one place of such a grid to the next, and of a game that is no number they meet at one of the places.
+/// straight from one place of such a grid to the next, upright or diagonally, the right one at most the left one; and of a
+/// game that is no number they meet at one of the places, its temperature, from which both are the mast.
 pub fn wall_laws()
     ensures exist { WallsExist }
     ensures unique { WallsAreUnique }
     ensures go_on { WallsGoOn }
     ensures begin { WallsBeginAtStops }
     ensures temperature { TemperaturesExist }
+    ensures mast { MastStands }
+    ensures ordered { WallsAreOrdered }
+    ensures slopes { WallsAreUprightOrDiagonal }
     ensures between { NoneBetween }
     ensures bends { NoneBendsBetween }
     ensures rule { WallsAreOnGrids }

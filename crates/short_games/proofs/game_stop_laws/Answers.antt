@@ -1,4 +1,5 @@
 use Rattle.short_games.proofs.GameStopLaws.{stops-exist, left-agrees, right-agrees, left-bounds, right-bounds, stops-keep, right-less, stops-turn, stops-of_sums, stops-translate}
+use Rattle.short_games.proofs.ExampleLaws.{known-game_stops}
 use Rattle.short_games.proofs.game_stop_laws.Goals as goal
 
 pub returns-clause-exist : goal.returns-clause-exist
@@ -27,3 +28,6 @@ returns-clause-sums c = stops-of_sums
 
 pub returns-clause-translate : goal.returns-clause-translate
 returns-clause-translate c = stops-translate
+
+pub returns-clause-known : goal.returns-clause-known
+returns-clause-known c = known-game_stops
