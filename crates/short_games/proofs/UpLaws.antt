@@ -1,5 +1,5 @@
 -- Up and its multiples.
-use Rattle.std.proofs.Common.{ℕ, zero, suc, ◌+◌, ◌<◌, ◌≡◌, ◌-◌, arith, refl, inl, inr, sym, ◌∙◌, ap, ap₂, subst, pos, ◌+ℤ◌}
+use Rattle.std.proofs.Common.{ℕ, zero, suc, ◌+◌, ◌<◌, ◌≤◌, ◌≡◌, ◌-◌, arith, refl, inl, inr, sym, ◌∙◌, ap, ap₂, subst, pos, ◌+ℤ◌}
 use Rattle.std.proofs.lemmas.Int.{ints}
 use Rattle.short_games.specs.Tree.{Tree, left, right, Has}
 use Rattle.short_games.specs.Order.{◌≤ᵍ◌, ◌≡ᵍ◌}
@@ -9,11 +9,11 @@ use Rattle.short_games.specs.Multiples.{times}
 use Rattle.short_games.specs.Examples.{choice, star, up}
 use Rattle.short_games.specs.KnownValues.{IsLess}
 use Rattle.short_games.proofs.OrderLaws.{by_measure, le-in, le-out, le-refl, le-trans, not-le, not-both, same-path, same-refl, same-sym, same-trans}
-use Rattle.short_games.proofs.SumLaws.{nought, InSum, left_of_sum, right_of_sum, left_in_second, right_in_first, not_le_left, not_right_le, plus-le, plus-le_both, plus-cancel, plus-assoc, plus-nought, nought-plus, same-plus, same-comm}
+use Rattle.short_games.proofs.SumLaws.{nought, InSum, left_of_sum, right_of_sum, left_in_second, right_in_first, right_in_second, not_le_left, not_right_le, plus-le, plus-le_both, plus-cancel, plus-assoc, plus-nought, nought-plus, same-plus, same-comm}
 use Rattle.short_games.proofs.SumLaws.InSum.{in_first, in_second}
 use Rattle.short_games.proofs.NumberLaws.{num-zero, num-double, num-lt, num-le, num-plus_le}
 use Rattle.short_games.proofs.StopLaws.{under-left_stop}
-use Rattle.short_games.proofs.ExampleLaws.{known-ups, known-stops, known-canonical}
+use Rattle.short_games.proofs.ExampleLaws.{known-ups, known-sums, known-stops, known-canonical}
 
 times-suc : (n : ℕ) (G : Tree) → times (suc n) G ≡ G +ᵍ times n G
 unfolding times
@@ -175,6 +175,92 @@ ups-forms = by_measure (λ n. n) (λ n. ups (suc n) ≡ᵍ form n) step
     step : (n : ℕ) → ((k : ℕ) → k < n → ups (suc k) ≡ᵍ form k) → ups (suc n) ≡ᵍ form n
     step zero f = same-path _ _ (up-first ∙ sym form-zero)
     step (suc n) f = next n f
+
+-- {0|the next multiple}, which is the multiple after it and star
+module _ (n : ℕ) where
+  beside : Tree
+  beside = choice nought (ups (suc n))
+
+  beside-over : nought ≤ᵍ beside
+  unfolding beside
+  beside-over = le-in _ _ record {
+    from_left = λ L l. absurd l;
+    from_right = λ R r y. elim r [ inl e ↦ not-under_nought n (subst (λ t. t ≤ᵍ nought) e y) | inr a ↦ absurd a ];
+  }
+
+  not-under_star : beside ≤ᵍ star → ⊥
+  not-under_star p = (le-out _ _ p).from_right nought (inl refl) beside-over
+
+  -- the game and star have the game as a Right option, which is not at most them
+  not-under_own : (X : Tree) → X ≤ᵍ X +ᵍ star → ⊥
+  not-under_own X = not_right_le (X +ᵍ star) X (subst (Has (right (X +ᵍ star))) (plus-nought X) (right_in_second X star nought (inl refl)))
+
+  rights-over : (k : ℕ) → k ≤ suc n → (R : Tree) → Has (right beside) R → R ≤ᵍ ups k +ᵍ star → ⊥
+  unfolding beside
+  rights-over k l R (inl e) y = not-under_own (ups k) (le-trans _ (ups (suc n)) _ (subst (λ m. ups k ≤ᵍ ups m) (omega (arith, l)) (ups-le k (suc n - k))) (subst (λ t. t ≤ᵍ ups k +ᵍ star) e y))
+  rights-over k l R (inr a) y = absurd a
+
+  star-lefts : (k : ℕ) → (beside ≤ᵍ form k → ⊥) → (L : Tree) → InSum (form k) star (left (form k)) (left star) L → beside ≤ᵍ L → ⊥
+  unfolding form
+  star-lefts k away _ (in_first K (inl e)) y = not-under_star (subst (λ t. beside ≤ᵍ t) (ap (λ t. t +ᵍ star) e ∙ nought-plus star) y)
+  star-lefts k away _ (in_first K (inr a)) y = absurd a
+  star-lefts k away _ (in_second K (inl e)) y = away (subst (λ t. beside ≤ᵍ t) (ap (λ t. form k +ᵍ t) e ∙ plus-nought (form k)) y)
+  star-lefts k away _ (in_second K (inr a)) y = absurd a
+
+  star-under : (k : ℕ) → k ≤ suc n → ups k +ᵍ star ≤ᵍ beside
+  unfolding beside form
+  star-under zero l = le-in _ _ record {
+    from_left = λ L h y. elim (subst (λ t. Has (left t) L) (ap (λ t. t +ᵍ star) (times-zero up) ∙ nought-plus star) h) [
+      | inl e ↦ not_le_left beside nought (inl refl) (subst (λ t. beside ≤ᵍ t) e y)
+      | inr a ↦ absurd a
+    ];
+    from_right = rights-over zero l;
+  }
+  star-under (suc k) l = le-trans _ (form k +ᵍ star) _ (plus-le (ups (suc k)) (form k) star (ups-forms k).0) (le-in _ _ record {
+    from_left = λ L h. star-lefts k (λ p. (le-out _ _ p).from_right (ups k +ᵍ star) (inl refl) (star-under k (omega (arith, l)))) L (left_of_sum (form k) star L h);
+    from_right = λ R r y. rights-over (suc k) l R r (le-trans _ _ _ y (plus-le (form k) (ups (suc k)) star (ups-forms k).1));
+  })
+
+  -- two stars cancel
+  taken-back : ((ups (suc n) +ᵍ star) +ᵍ star) ≡ᵍ ups (suc n)
+  taken-back = let s = same-plus (ups (suc n)) (ups (suc n)) (star +ᵍ star) nought (same-refl (ups (suc n))) known-sums.1 in
+      subst (λ t. t ≡ᵍ ups (suc n)) (sym (plus-assoc (ups (suc n)) star star)) (subst (λ t. (ups (suc n) +ᵍ (star +ᵍ star)) ≡ᵍ t) (plus-nought (ups (suc n))) s)
+
+  with_star : Tree
+  with_star = form (suc n) +ᵍ star
+
+  star-sum_under : with_star ≤ᵍ beside
+  unfolding beside form with_star
+  star-sum_under = le-in _ _ record {
+    from_left = λ L h. star-lefts (suc n) (λ p. (le-out _ _ p).from_right (ups (suc n) +ᵍ star) (inl refl) (star-under (suc n) (omega arith))) L (left_of_sum (form (suc n)) star L h);
+    from_right = λ R r y. elim r [
+      | inl e ↦ not_right_le (form (suc n) +ᵍ star) ((ups (suc n) +ᵍ star) +ᵍ star) (right_in_first (form (suc n)) star (ups (suc n) +ᵍ star) (inl refl))
+          (le-trans _ _ _ taken-back.0 (subst (λ t. t ≤ᵍ form (suc n) +ᵍ star) e y))
+      | inr a ↦ absurd a
+    ];
+  }
+
+  sum-rights : (R : Tree) → InSum (form (suc n)) star (right (form (suc n))) (right star) R → ups (suc n) ≤ᵍ R
+  unfolding form
+  sum-rights _ (in_first K (inl e)) = subst (λ t. ups (suc n) ≤ᵍ t +ᵍ star) (sym e) taken-back.1
+  sum-rights _ (in_first K (inr a)) = absurd a
+  sum-rights _ (in_second K (inl e)) = subst (λ t. ups (suc n) ≤ᵍ t) (sym (ap (λ t. form (suc n) +ᵍ t) e ∙ plus-nought (form (suc n)))) (le-trans _ _ _ (ups-more (suc n)).0 (ups-forms (suc n)).0)
+  sum-rights _ (in_second K (inr a)) = absurd a
+
+  star-sum_over : beside ≤ᵍ with_star
+  unfolding beside form with_star
+  star-sum_over = le-in _ _ record {
+    from_left = λ L l y. elim l [
+      | inl e ↦ (le-out _ _ (subst (λ t. form (suc n) +ᵍ star ≤ᵍ t) e y)).from_left (form (suc n) +ᵍ nought) (left_in_second (form (suc n)) star nought (inl refl))
+          (subst (λ t. nought ≤ᵍ t) (sym (plus-nought (form (suc n)))) (form-over (suc n)))
+      | inr a ↦ absurd a
+    ];
+    from_right = λ R h y. not_right_le (beside) (ups (suc n)) (inl refl) (le-trans _ R _ (sum-rights R (right_of_sum (form (suc n)) star R h)) y);
+  }
+
+  pub star-forms : (ups (suc (suc n)) +ᵍ star) ≡ᵍ choice nought (ups (suc n))
+  unfolding beside with_star form
+  star-forms = same-trans _ with_star _ (same-plus _ _ star star (ups-forms (suc n)) (same-refl star)) (star-sum_under, star-sum_over)
 
 -- up is at most each number above 0
 up-small : (e : ℕ) → up ≤ᵍ num e (pos 1)

@@ -22,3 +22,7 @@ UpsAreInfinitesimal = (n e : ℕ) → IsLess (times n up) (num e (pos 1))
 -- a multiple of up is {0|H}, where H is the multiple before it and star
 abbrev pub UpsAreForms : Type 0
 UpsAreForms = (n : ℕ) → times (suc n) up ≡ᵍ choice zero (times n up +ᵍ star)
+
+-- a multiple of up, from twice up on, and star are {0|G}, where G is the multiple before it
+abbrev pub UpsAndStarAreForms : Type 0
+UpsAndStarAreForms = (n : ℕ) → (times (suc (suc n)) up +ᵍ star) ≡ᵍ choice zero (times (suc n) up)

@@ -1,6 +1,6 @@
-//! Short games (Conway, On Numbers and Games; Siegel, Combinatorial Game Theory) as definitions over trees: their order,
-//! sums, numbers, stops, canonical trees, texts, parts and walls. There is no code: each law is the contract of a function
-//! that does nothing.
+//! Short games (Conway, On Numbers and Games; Siegel, Combinatorial Game Theory) as definitions over trees: their order and
+//! play, sums, numbers, stops, canonical trees, texts, parts and walls, nimbers and ups. There is no code: each law is the
+//! contract of a function that does nothing. README.md is the table of contents.
 #![tactic(auto)]
 
 ghost use Rattle.short_games.specs.OrderLaws.{OrderIs, ConfusedIs, IsReflexive, IsTransitive};
@@ -18,7 +18,7 @@ ghost use Rattle.short_games.specs.GameStopLaws.{RightStopIsLess, StopsTurn, Sto
 ghost use Rattle.short_games.specs.TextLaws.{TextsAreOneToOne, TextsTellGames};
 ghost use Rattle.short_games.specs.CanonicalLaws.{EachHasCanonical, OptionsAreFollowers, FollowersAreCanonical, CanonicalHasFewestNodes, CanonicalHasFewestParts};
 ghost use Rattle.short_games.specs.NimberLaws.{KnownNimbers, NimSum, NimbersAreConfused, NimbersAreNegatives, NimbersAreNoNumbers};
-ghost use Rattle.short_games.specs.UpLaws.{KnownUps, UpsGrow, UpsAreInfinitesimal, UpsAreForms};
+ghost use Rattle.short_games.specs.UpLaws.{KnownUps, UpsGrow, UpsAreInfinitesimal, UpsAreForms, UpsAndStarAreForms};
 ghost use Rattle.short_games.specs.KnownValues.{KnownNumbers, KnownFractions, KnownOrder, KnownSums, KnownCanonical, KnownStops, KnownWalls};
 ghost use Rattle.short_games.specs.WallLaws.{WallsExist, WallsAreUnique, WallsGoOn, WallsBeginAtStops, TemperaturesExist, MastStands};
 ghost use Rattle.short_games.specs.WallLaws.{WallsAreOrdered, WallsAreUprightOrDiagonal, NoneBetween, NoneBendsBetween, WallsAreOnGrids};
@@ -159,6 +159,7 @@ pub fn up_laws()
     ensures grow { UpsGrow }
     ensures infinitesimal { UpsAreInfinitesimal }
     ensures forms { UpsAreForms }
+    ensures with_star { UpsAndStarAreForms }
 {}
 
 /// A canonical game has exactly one left and one right wall, on each fine grid of places; they begin at its stops, go

@@ -1,4 +1,4 @@
-use Rattle.short_games.proofs.UpLaws.{ups-grow, ups-infinitesimal, ups-forms}
+use Rattle.short_games.proofs.UpLaws.{ups-grow, ups-infinitesimal, ups-forms, star-forms}
 use Rattle.short_games.proofs.ExampleLaws.{known-ups}
 use Rattle.short_games.proofs.up_laws.Goals as goal
 
@@ -13,3 +13,6 @@ returns-clause-infinitesimal c = ups-infinitesimal
 
 pub returns-clause-forms : goal.returns-clause-forms
 returns-clause-forms c = ups-forms
+
+pub returns-clause-with_star : goal.returns-clause-with_star
+returns-clause-with_star c = star-forms
