@@ -29,6 +29,7 @@ pub mod DrawnWallLaws
 pub mod WallSteps
 pub mod WallExistenceLaws
 pub mod GameStopLaws
+pub mod GameWallLaws
 pub mod WallMeetingLaws
 pub mod MastLaws
 pub mod WallBetweenLaws

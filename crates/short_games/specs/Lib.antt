@@ -26,6 +26,8 @@ pub mod Parts
 pub mod Walls
 pub mod WallGrids
 pub mod WallLaws
+pub mod GameWalls
+pub mod GameWallLaws
 pub mod Examples
 pub mod KnownValues
 pub mod Play

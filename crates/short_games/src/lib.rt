@@ -21,6 +21,7 @@ ghost use Rattle.short_games.specs.NimberLaws.{KnownNimbers, NimSum, NimbersAreC
 ghost use Rattle.short_games.specs.UpLaws.{KnownUps, UpsGrow, UpsAreInfinitesimal, UpsAreForms, UpsAndStarAreForms};
 ghost use Rattle.short_games.specs.KnownValues.{KnownNumbers, KnownFractions, KnownOrder, KnownSums, KnownCanonical, KnownStops, KnownWalls};
 ghost use Rattle.short_games.specs.WallLaws.{WallsExist, WallsAreUnique, WallsGoOn, WallsBeginAtStops, TemperaturesExist, MastStands};
+ghost use Rattle.short_games.specs.GameWallLaws.{GamesHaveWalls, EqualGamesHaveEqualWalls, GameWallsBeginAtStops, NumbersAreMasts, GamesHaveTemperatures};
 ghost use Rattle.short_games.specs.WallLaws.{WallsAreOrdered, WallsAreUprightOrDiagonal, NoneBetween, NoneBendsBetween, WallsAreOnGrids};
 
 /// The order of games is a preorder, and what is less or confused is what is not at least (Conway).
@@ -177,6 +178,16 @@ pub fn wall_laws()
     ensures between { NoneBetween }
     ensures bends { NoneBendsBetween }
     ensures rule { WallsAreOnGrids }
+{}
+
+/// Each game, in any form, has the walls of its canonical form: equal games have equal walls, these begin at the game's stops,
+/// those of a number are a mast, and any other game has a temperature.
+pub fn game_wall_laws()
+    ensures exist { GamesHaveWalls }
+    ensures equal { EqualGamesHaveEqualWalls }
+    ensures begin { GameWallsBeginAtStops }
+    ensures numbers { NumbersAreMasts }
+    ensures temperature { GamesHaveTemperatures }
 {}
 
 /// Values that every book has (0, 1/2, star, up, {2|0}, a tiny, the nimber of 2) as instances of the definitions.
