@@ -10,7 +10,6 @@ pub mod ThresholdLaws
 pub mod NumberTextLaws
 pub mod TextOrderLaws
 pub mod ReductionLaws
-pub mod SmallestLaws
 pub mod StopLaws
 pub mod DyadicLaws
 pub mod NimberLaws
@@ -29,6 +28,8 @@ pub mod DrawnWallLaws
 pub mod WallSteps
 pub mod WallExistenceLaws
 pub mod GameStopLaws
+pub mod CountLaws
+pub mod SmallestLaws
 pub mod GameWallLaws
 pub mod WallMeetingLaws
 pub mod MastLaws

@@ -3,13 +3,14 @@ use Rattle.std.proofs.Common.{ℕ, zero, suc, ◌<◌, ◌≤◌, ◌≡◌, Lis
 use Rattle.short_games.specs.Tree.{Tree, node, size, tree_at}
 use Rattle.short_games.specs.Number.{IsNumberTree}
 use Rattle.short_games.specs.TextOrder.{IsCanonicalFor, IsCanonicalTree, TextBefore}
-use Rattle.short_games.specs.Parts.{IsFollower, IsOption, IsPart, HasMoreParts}
+use Rattle.short_games.specs.Parts.{IsFollower, IsOption, IsPart, AreParts, HasParts, HasMoreParts}
 use Rattle.short_games.specs.Parts.IsFollower.{itself, further}
 use Rattle.short_games.proofs.OrderLaws.{by_measure, le-refl, le-trans, same-trans, same-sym, size-option}
 use Rattle.short_games.proofs.PartLaws.{follower-of, follower-trans}
 use Rattle.short_games.proofs.TextOrderLaws.{text-order}
 use Rattle.short_games.proofs.ReductionLaws.{canonical-same, same-canonical, number-canonical}
 use Rattle.short_games.proofs.FormLaws.{all-canonical}
+use Rattle.short_games.proofs.CountLaws.{no-more}
 use Rattle.short_games.proofs.ExistenceLaws.{canon_below, small_canon, with_canonical_options, WithCanonicalOptions}
 
 -- where the options are canonical, those of the canonical tree are followers of them
@@ -77,8 +78,9 @@ along P (X ∷ Xs) f =
     at Y Ys p g zero l = p
     at Y Ys p g (suc j) l = g j (omega (arith, l))
 
-pub fewest-parts : (G C : Tree) (n : ℕ) → IsCanonicalFor G C → HasMoreParts C n → HasMoreParts G n
-fewest-parts G C n is (Xs, parts, long) =
+-- to different parts of the canonical tree belong different parts of the game
+parts-behind : (G C : Tree) (Xs : List Tree) → IsCanonicalFor G C → AreParts C Xs → (Ys : List Tree) × AreParts G Ys × (length Ys ≡ length Xs)
+parts-behind G C Xs is parts =
     let r = along (λ X P. IsPart G P × IsCanonicalFor P X) Xs (λ j l. part-of_part G C is (tree_at Xs j) (parts.each j l)) in (
       r.0,
       record {
@@ -87,5 +89,14 @@ fewest-parts G C n is (Xs, parts, long) =
             (same-canonical (tree_at r.0 j) (tree_at Xs i) (tree_at Xs j)
             (subst (λ t. IsCanonicalFor t (tree_at Xs i)) e (r.2 i (omega (arith, k, r.1))).1) (r.2 j (omega (arith, l, r.1))).1);
       },
-      omega (arith, long, r.1),
+      r.1,
     )
+
+pub more-parts : (G C : Tree) (n : ℕ) → IsCanonicalFor G C → HasMoreParts C n → HasMoreParts G n
+more-parts G C n is (Xs, parts, long) = let r = parts-behind G C Xs is parts in (r.0, r.1, omega (arith, long, r.2))
+
+pub fewest-parts : (G C : Tree) (m n : ℕ) → IsCanonicalFor G C → HasParts G m → HasParts C n → n ≤ m
+fewest-parts G C m n is (Zs, _, all, short) (Xs, parts, _, long) =
+    let r = parts-behind G C Xs is parts in
+    let few = no-more r.0 Zs r.1.different (λ j l. all (tree_at r.0 j) (r.1.each j l)) in
+    omega (arith, few, short, long, r.2)

@@ -2,7 +2,7 @@
 use Rattle.std.specs.Prelude.{ℕ, ◌≡◌, ◌≤◌}
 use Rattle.short_games.specs.Tree.{Tree, size}
 use Rattle.short_games.specs.TextOrder.{IsCanonicalTree, IsCanonicalFor}
-use Rattle.short_games.specs.Parts.{IsFollower, IsOption, HasMoreParts}
+use Rattle.short_games.specs.Parts.{IsFollower, IsOption, HasParts, HasMoreParts}
 
 -- each tree has exactly one canonical tree that is equal to it
 abbrev pub EachHasCanonical : Type 0
@@ -21,6 +21,14 @@ FollowersAreCanonical = (G C : Tree) → IsCanonicalFor G C → (X : Tree) → I
 abbrev pub CanonicalHasFewestNodes : Type 0
 CanonicalHasFewestNodes = (G C : Tree) → IsCanonicalFor G C → size C ≤ size G
 
--- of all equal games the canonical tree has the fewest parts: where it has more than n, each has
+-- each game has some number of parts
+abbrev pub PartsAreCounted : Type 0
+PartsAreCounted = (G : Tree) → (n : ℕ) × HasParts G n
+
+-- of all equal games the canonical tree has the fewest parts
 abbrev pub CanonicalHasFewestParts : Type 0
-CanonicalHasFewestParts = (G C : Tree) (n : ℕ) → IsCanonicalFor G C → HasMoreParts C n → HasMoreParts G n
+CanonicalHasFewestParts = (G C : Tree) (m n : ℕ) → IsCanonicalFor G C → HasParts G m → HasParts C n → n ≤ m
+
+-- where the canonical tree of a game has more than n parts, so has the game
+abbrev pub GamesHaveNoFewerParts : Type 0
+GamesHaveNoFewerParts = (G C : Tree) (n : ℕ) → IsCanonicalFor G C → HasMoreParts C n → HasMoreParts G n

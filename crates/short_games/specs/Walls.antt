@@ -1,6 +1,6 @@
 -- Walls of canonical trees: what stops become when each move costs t. Whether a tree is a number is told by the tree, so of
--- another form that is equal to a number these aren't its walls: the walls of any form are in `GameWalls`. Here t stands for t / 2 ^ k and x for x / 2 ^ k, so that t
--- and x are any fractions whose denominators are powers of two.
+-- another form that is equal to a number these aren't its walls: the walls of games in any form are in `GameWalls`. Here t
+-- stands for t / 2 ^ k and x for x / 2 ^ k, so that t and x are any fractions whose denominators are powers of two.
 use Rattle.std.specs.Prelude.{ℕ, ◌+◌, ◌*◌, ◌^◌, ◌≡◌, ◌≤◌, ◌⊎◌, ℤ, pos, ◌+ℤ◌, ◌-ℤ◌, ◌*ℤ◌, ◌<ℤ◌, ◌≤ℤ◌}
 use Rattle.short_games.specs.Tree.{Tree, Trees, node, none, more}
 use Rattle.short_games.specs.Number.{num, IsNumberTree}

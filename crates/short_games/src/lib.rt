@@ -16,7 +16,8 @@ ghost use Rattle.short_games.specs.StopLaws.{IsUnderLeftStop, IsOverRightStop, S
 ghost use Rattle.short_games.specs.GameStopLaws.{GamesHaveStops, CanonicalStopsAgree, LeftStopBounds, RightStopBounds, StopsKeepOrder};
 ghost use Rattle.short_games.specs.GameStopLaws.{RightStopIsLess, StopsTurn, StopsOfSums, StopsTranslate, KnownGameStops};
 ghost use Rattle.short_games.specs.TextLaws.{TextsAreOneToOne, TextsTellGames};
-ghost use Rattle.short_games.specs.CanonicalLaws.{EachHasCanonical, OptionsAreFollowers, FollowersAreCanonical, CanonicalHasFewestNodes, CanonicalHasFewestParts};
+ghost use Rattle.short_games.specs.CanonicalLaws.{EachHasCanonical, OptionsAreFollowers, FollowersAreCanonical, CanonicalHasFewestNodes};
+ghost use Rattle.short_games.specs.CanonicalLaws.{PartsAreCounted, CanonicalHasFewestParts, GamesHaveNoFewerParts};
 ghost use Rattle.short_games.specs.NimberLaws.{KnownNimbers, NimSum, NimbersAreConfused, NimbersAreNegatives, NimbersAreNoNumbers};
 ghost use Rattle.short_games.specs.UpLaws.{KnownUps, UpsGrow, UpsAreInfinitesimal, UpsAreForms, UpsAndStarAreForms};
 ghost use Rattle.short_games.specs.KnownValues.{KnownNumbers, KnownFractions, KnownOrder, KnownSums, KnownCanonical, KnownStops, KnownWalls};
@@ -140,7 +141,9 @@ pub fn canonical_laws()
     ensures followers { OptionsAreFollowers }
     ensures inherited { FollowersAreCanonical }
     ensures nodes { CanonicalHasFewestNodes }
+    ensures counted { PartsAreCounted }
     ensures parts { CanonicalHasFewestParts }
+    ensures no_fewer { GamesHaveNoFewerParts }
 {}
 
 /// Nimbers add up by the rule of nim (Sprague, Grundy); different ones are confused, each is its own negative, and none but

@@ -3,7 +3,8 @@ use Rattle.short_games.proofs.OrderLaws.{le-trans}
 use Rattle.short_games.proofs.TextOrderLaws.{text-order}
 use Rattle.short_games.proofs.CanonicalLaws.{canonical-unique}
 use Rattle.short_games.proofs.ExistenceLaws.{canon}
-use Rattle.short_games.proofs.SmallestLaws.{options-below, followers-canonical, fewest-nodes, fewest-parts}
+use Rattle.short_games.proofs.SmallestLaws.{options-below, followers-canonical, fewest-nodes, fewest-parts, more-parts}
+use Rattle.short_games.proofs.CountLaws.{parts-exist}
 use Rattle.short_games.proofs.canonical_laws.Goals as goal
 
 pub returns-clause-one : goal.returns-clause-one
@@ -24,3 +25,9 @@ returns-clause-nodes c = fewest-nodes
 
 pub returns-clause-parts : goal.returns-clause-parts
 returns-clause-parts c = fewest-parts
+
+pub returns-clause-counted : goal.returns-clause-counted
+returns-clause-counted c = parts-exist
+
+pub returns-clause-no_fewer : goal.returns-clause-no_fewer
+returns-clause-no_fewer c = more-parts
