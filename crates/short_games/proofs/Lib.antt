@@ -13,6 +13,7 @@ pub mod ReductionLaws
 pub mod StopLaws
 pub mod DyadicLaws
 pub mod NimberLaws
+pub mod MexLaws
 pub mod AvoidanceLaws
 pub mod ShiftLaws
 pub mod PlayLaws

@@ -1,11 +1,12 @@
 -- The laws of nimbers.
 use Rattle.std.specs.Prelude.{ℕ, suc, ◌≡◌}
 use Rattle.std.specs.Int.Bits.{bit_xor}
-use Rattle.short_games.specs.Tree.{neg}
+use Rattle.short_games.specs.Tree.{Tree, left, right, neg}
 use Rattle.short_games.specs.Order.{◌≡ᵍ◌}
 use Rattle.short_games.specs.Sum.{◌+ᵍ◌}
 use Rattle.short_games.specs.Number.{IsNumber}
-use Rattle.short_games.specs.Nimbers.{nimber}
+use Rattle.short_games.specs.Parts.{IsOption}
+use Rattle.short_games.specs.Nimbers.{nimber, IsMex, IsImpartial}
 use Rattle.short_games.specs.Examples.{zero, star, star_two}
 use Rattle.short_games.specs.KnownValues.{AreConfused}
 
@@ -28,3 +29,11 @@ NimbersAreNegatives = (n : ℕ) → neg (nimber n) ≡ nimber n
 -- of the nimbers only that of 0 is equal to a number
 abbrev pub NimbersAreNoNumbers : Type 0
 NimbersAreNoNumbers = (n : ℕ) → IsNumber (nimber (suc n)) → ⊥
+
+-- the mex rule: a game whose options are nimbers, with one mex on both sides, is the nimber of the mex
+abbrev pub MexRule : Type 0
+MexRule = (G : Tree) (n : ℕ) → ((X : Tree) → IsOption G X → (k : ℕ) × (X ≡ᵍ nimber k)) → IsMex (left G) n → IsMex (right G) n → G ≡ᵍ nimber n
+
+-- each impartial game is equal to a nimber
+abbrev pub ImpartialAreNimbers : Type 0
+ImpartialAreNimbers = (G : Tree) → IsImpartial G → (n : ℕ) × (G ≡ᵍ nimber n)

@@ -18,7 +18,7 @@ ghost use Rattle.short_games.specs.GameStopLaws.{RightStopIsLess, StopsTurn, Sto
 ghost use Rattle.short_games.specs.TextLaws.{TextsAreOneToOne, TextsTellGames};
 ghost use Rattle.short_games.specs.CanonicalLaws.{EachHasCanonical, OptionsAreFollowers, FollowersAreCanonical, CanonicalHasFewestNodes};
 ghost use Rattle.short_games.specs.CanonicalLaws.{PartsAreCounted, CanonicalHasFewestParts, GamesHaveNoFewerParts};
-ghost use Rattle.short_games.specs.NimberLaws.{KnownNimbers, NimSum, NimbersAreConfused, NimbersAreNegatives, NimbersAreNoNumbers};
+ghost use Rattle.short_games.specs.NimberLaws.{KnownNimbers, NimSum, NimbersAreConfused, NimbersAreNegatives, NimbersAreNoNumbers, MexRule, ImpartialAreNimbers};
 ghost use Rattle.short_games.specs.UpLaws.{KnownUps, UpsGrow, UpsAreInfinitesimal, UpsAreForms, UpsAndStarAreForms};
 ghost use Rattle.short_games.specs.KnownValues.{KnownNumbers, KnownFractions, KnownOrder, KnownSums, KnownCanonical, KnownStops, KnownWalls};
 ghost use Rattle.short_games.specs.WallLaws.{WallsExist, WallsAreUnique, WallsGoOn, WallsBeginAtStops, TemperaturesExist, MastStands};
@@ -146,14 +146,16 @@ pub fn canonical_laws()
     ensures no_fewer { GamesHaveNoFewerParts }
 {}
 
-/// Nimbers add up by the rule of nim (Sprague, Grundy); different ones are confused, each is its own negative, and none but
-/// that of 0 is a number.
+/// Nimbers add up by the rule of nim; different ones are confused, each is its own negative, and none but that of 0 is a
+/// number. Each impartial game is a nimber, that of the mex of its options (Sprague, Grundy).
 pub fn nimber_laws()
     ensures known { KnownNimbers }
     ensures add { NimSum }
     ensures confused { NimbersAreConfused }
     ensures turn { NimbersAreNegatives }
     ensures no_numbers { NimbersAreNoNumbers }
+    ensures mex { MexRule }
+    ensures impartial { ImpartialAreNimbers }
 {}
 
 /// Up is above 0 and confused with star; its multiples grow, stay below each number above 0, and have the forms that every

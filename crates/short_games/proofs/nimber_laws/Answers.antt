@@ -1,4 +1,5 @@
 use Rattle.short_games.proofs.NimberLaws.{nimbers-add, nimbers-confused, nimber-turned, nimber-no_number}
+use Rattle.short_games.proofs.MexLaws.{mex-rule, impartial-nimber}
 use Rattle.short_games.proofs.ExampleLaws.{known-nimbers}
 use Rattle.short_games.proofs.nimber_laws.Goals as goal
 
@@ -16,3 +17,9 @@ returns-clause-turn c = nimber-turned
 
 pub returns-clause-no_numbers : goal.returns-clause-no_numbers
 returns-clause-no_numbers c = nimber-no_number
+
+pub returns-clause-mex : goal.returns-clause-mex
+returns-clause-mex c = mex-rule
+
+pub returns-clause-impartial : goal.returns-clause-impartial
+returns-clause-impartial c = impartial-nimber
