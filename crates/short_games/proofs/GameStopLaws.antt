@@ -10,8 +10,8 @@ use Rattle.short_games.specs.Canonical.{AreCanonical}
 use Rattle.short_games.specs.Threshold.{IsCeiling, IsFloor}
 use Rattle.short_games.specs.Stops.{IsLeftStop, IsRightStop, IsGreatestRight, IsLeastLeft}
 use Rattle.short_games.specs.GameStops.{HasLeftStop, HasRightStop, HasGreatestRight, HasLeastLeft}
-use Rattle.short_games.specs.GameStopLaws.{HaveStops, StopsBound}
-use Rattle.short_games.proofs.OrderLaws.{by_measure, le-refl, le-trans, same-path, size-left, size-right}
+use Rattle.short_games.specs.GameStopLaws.{HaveStops, StopsBound, SignsTell}
+use Rattle.short_games.proofs.OrderLaws.{by_measure, not-le, le-refl, le-trans, same-path, size-left, size-right}
 use Rattle.short_games.proofs.SumLaws.{nought, nought-plus, plus-le, plus-le_both, plus-comm, plus-assoc, neg-le, neg-neg, neg-plus}
 use Rattle.short_games.proofs.NumberLaws.{num-zero, num-le, num-lt, num-plus_le, num-le_plus, neg-num, neg-number}
 use Rattle.short_games.proofs.ReductionLaws.{canonical-number}
@@ -123,6 +123,33 @@ pub right-less : (e : ℕ) (G : Tree) (l r : ℤ) → HasLeftStop e G l → HasR
 right-less e G l r s t = by_lt_z l r
     (λ b. absurd (num-lt (2 + e) _ _ (omega (arith, ints, b)) (le-trans (low e r) G (high e l) (right-quarter e G r t).0 (left-quarter e G l s).0)))
     (λ b. b)
+
+-- what the signs of stops tell
+zero-le : (f : ℕ) (k : ℤ) → pos 0 ≤ℤ k → nought ≤ᵍ num f k
+zero-le f k l = subst (λ t. t ≤ᵍ num f k) (num-zero f) (num-le f (pos 0) k l)
+
+le-zero : (f : ℕ) (k : ℤ) → k ≤ℤ pos 0 → num f k ≤ᵍ nought
+le-zero f k l = subst (λ t. num f k ≤ᵍ t) (num-zero f) (num-le f k (pos 0) l)
+
+not-le_zero : (f : ℕ) (k : ℤ) → pos 0 <ℤ k → num f k ≤ᵍ nought → ⊥
+not-le_zero f k l p = num-lt f (pos 0) k l (subst (λ t. num f k ≤ᵍ t) (sym (num-zero f)) p)
+
+not-zero_le : (f : ℕ) (k : ℤ) → k <ℤ pos 0 → nought ≤ᵍ num f k → ⊥
+not-zero_le f k l p = num-lt f k (pos 0) l (subst (λ t. t ≤ᵍ num f k) (sym (num-zero f)) p)
+
+pub signs-tell : (e : ℕ) (G : Tree) (x : ℤ) → SignsTell e G x
+signs-tell e G x = record {
+  positive = λ s l. (let a = (right-quarter e G x s).0 in (
+    le-trans nought (low e x) G (zero-le (2 + e) _ (omega (arith, ints, l))) a,
+    not-le G nought (λ p. not-le_zero (2 + e) _ (omega (arith, ints, l)) (le-trans (low e x) G nought a p)),
+  ));
+  negative = λ s l. (let a = (left-quarter e G x s).0 in (
+    le-trans G (high e x) nought a (le-zero (2 + e) _ (omega (arith, ints, l))),
+    not-le nought G (λ p. not-zero_le (2 + e) _ (omega (arith, ints, l)) (le-trans nought G (high e x) p a)),
+  ));
+  left_first = λ s l. not-le G nought (λ p. (left-quarter e G x s).1 (le-trans G nought (low e x) p (zero-le (2 + e) _ (omega (arith, ints, l)))));
+  right_first = λ s l. not-le nought G (λ p. (right-quarter e G x s).1 (le-trans (high e x) nought G (le-zero (2 + e) _ (omega (arith, ints, l))) p));
+}
 
 -- the negative of a number, and of the one of two that a third is
 number-turned : (e : ℕ) (G : Tree) (x : ℤ) → G ≡ᵍ num e x → neg G ≡ᵍ num e (neg_ℤ x)

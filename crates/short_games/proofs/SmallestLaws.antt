@@ -5,6 +5,7 @@ use Rattle.short_games.specs.Number.{IsNumberTree}
 use Rattle.short_games.specs.TextOrder.{IsCanonicalFor, IsCanonicalTree, TextBefore}
 use Rattle.short_games.specs.Parts.{IsFollower, IsOption, IsPart, AreParts, HasParts, HasMoreParts}
 use Rattle.short_games.specs.Parts.IsFollower.{itself, further}
+use Rattle.short_games.specs.Birthdays.{IsBornBy}
 use Rattle.short_games.proofs.OrderLaws.{by_measure, le-refl, le-trans, same-trans, same-sym, size-option}
 use Rattle.short_games.proofs.PartLaws.{follower-of, follower-trans}
 use Rattle.short_games.proofs.TextOrderLaws.{text-order}
@@ -30,15 +31,19 @@ canonical-of G = let r = small_canon TextBefore text-order.total G in
 pub fewest-nodes : (G C : Tree) → IsCanonicalFor G C → size C ≤ size G
 fewest-nodes G C is = let r = canonical-of G in subst (λ t. size t ≤ size G) (same-canonical G r.0 C r.1 is) r.2
 
-abbrev Comes : Tree → Tree → Type 0
-Comes G X = (P : Tree) × IsFollower G P × IsCanonicalFor P X
+-- an option of the canonical tree is a follower of the canonical tree of an option
+record OptionBehind (G X : Tree) : Type 0 where
+  option : Tree
+  is_option : IsOption G option
+  canonical : Tree
+  is_canonical : IsCanonicalFor option canonical
+  follows : IsFollower canonical X
 
-followers_step : (G : Tree) → ((A : Tree) → size A < size G → (C : Tree) → IsCanonicalFor A C → (X : Tree) → IsFollower C X → Comes A X)
-    → (C : Tree) → IsCanonicalFor G C → (X : Tree) → IsFollower C X → Comes G X
-followers_step (node ls rs) ih C is X f = elim (follower-of C X f) [
-  | inl e ↦ (node ls rs, itself (node ls rs), subst (IsCanonicalFor (node ls rs)) (sym e) is)
-  | inr (Y, o, g) ↦ behind Y o g
-]
+option-behind : (G C : Tree) → IsCanonicalFor G C → (X : Tree) → IsOption C X → OptionBehind G X
+option-behind (node ls rs) C is X o =
+    let (L, l, b) = options-below (node w.lefts w.rights) C (λ K k. (w.from K k).2.canonical) of_form X o in
+    let (K, k, r) = w.from L l in
+    record { option = K; is_option = k; canonical = L; is_canonical = r; follows = b }
   where
     w : WithCanonicalOptions TextBefore text-order.total ls rs
     w = with_canonical_options TextBefore text-order.total ls rs (λ K k. let r = canonical-of K in (r.0, (r.1, r.2)))
@@ -46,15 +51,38 @@ followers_step (node ls rs) ih C is X f = elim (follower-of C X f) [
     of_form : IsCanonicalFor (node w.lefts w.rights) C
     of_form = let s = same-trans _ _ _ (same-sym _ _ w.same) (is.under, is.over) in record { canonical = is.canonical; under = s.0; over = s.1 }
 
-    behind : (Y : Tree) → IsOption C Y → IsFollower Y X → Comes (node ls rs) X
-    behind Y o g =
-        let (L, l, b) = options-below (node w.lefts w.rights) C (λ K k. (w.from K k).2.canonical) of_form Y o in
-        let (K, k, r) = w.from L l in
-        let (P, p, q) = ih K (size-option (node ls rs) K k) L r X (follower-trans L Y X b g) in
-        (P, further (node ls rs) K P k p, q)
+abbrev Comes : Tree → Tree → Type 0
+Comes G X = (P : Tree) × IsFollower G P × IsCanonicalFor P X
+
+followers_step : (G : Tree) → ((A : Tree) → size A < size G → (C : Tree) → IsCanonicalFor A C → (X : Tree) → IsFollower C X → Comes A X)
+    → (C : Tree) → IsCanonicalFor G C → (X : Tree) → IsFollower C X → Comes G X
+followers_step G ih C is X f = elim (follower-of C X f) [
+  | inl e ↦ (G, itself G, subst (IsCanonicalFor G) (sym e) is)
+  | inr (Y, o, g) ↦ (let b = option-behind G C is Y o in
+      let (P, p, q) = ih b.option (size-option G b.option b.is_option) b.canonical b.is_canonical X (follower-trans b.canonical Y X b.follows g) in
+      (P, further G b.option P b.is_option p, q))
+]
 
 pub followers-canonical : (G C : Tree) → IsCanonicalFor G C → (X : Tree) → IsFollower C X → Comes G X
 followers-canonical = by_measure size (λ G. (C : Tree) → IsCanonicalFor G C → (X : Tree) → IsFollower C X → Comes G X) followers_step
+
+-- who is born by a day is born by the next, and so are the followers
+born-later : (n : ℕ) (G : Tree) → IsBornBy n G → IsBornBy (suc n) G
+unfolding IsBornBy
+born-later zero G b = λ X o. absurd (b X o)
+born-later (suc n) G b = λ X o. born-later n X (b X o)
+
+follower-born : (n : ℕ) (G X : Tree) → IsFollower G X → IsBornBy n G → IsBornBy n X
+unfolding IsBornBy
+follower-born n _ _ (itself G) b = b
+follower-born zero _ _ (further G H X o f) b = absurd (b H o)
+follower-born (suc n) _ _ (further G H X o f) b = born-later n X (follower-born n H X f (b H o))
+
+pub born-first : (G C : Tree) (n : ℕ) → IsCanonicalFor G C → IsBornBy n G → IsBornBy n C
+unfolding IsBornBy
+born-first G C zero is b = λ X o. (let w = option-behind G C is X o in b w.option w.is_option)
+born-first G C (suc n) is b = λ X o. (let w = option-behind G C is X o in
+    follower-born n w.canonical X w.follows (born-first w.option w.canonical n w.is_canonical (b w.option w.is_option)))
 
 -- a part of the canonical tree is the canonical tree of a part
 part-of_part : (G C : Tree) → IsCanonicalFor G C → (X : Tree) → IsPart C X → (P : Tree) × (IsPart G P × IsCanonicalFor P X)

@@ -3,6 +3,7 @@ use Rattle.std.specs.Prelude.{ℕ, ◌≡◌, ◌≤◌}
 use Rattle.short_games.specs.Tree.{Tree, size}
 use Rattle.short_games.specs.TextOrder.{IsCanonicalTree, IsCanonicalFor}
 use Rattle.short_games.specs.Parts.{IsFollower, IsOption, HasParts, HasMoreParts}
+use Rattle.short_games.specs.Birthdays.{IsBornBy}
 
 -- each tree has exactly one canonical tree that is equal to it
 abbrev pub EachHasCanonical : Type 0
@@ -20,6 +21,10 @@ FollowersAreCanonical = (G C : Tree) → IsCanonicalFor G C → (X : Tree) → I
 -- of all equal games the canonical tree has the fewest nodes
 abbrev pub CanonicalHasFewestNodes : Type 0
 CanonicalHasFewestNodes = (G C : Tree) → IsCanonicalFor G C → size C ≤ size G
+
+-- of all equal games the canonical tree is born first
+abbrev pub CanonicalIsBornFirst : Type 0
+CanonicalIsBornFirst = (G C : Tree) (n : ℕ) → IsCanonicalFor G C → IsBornBy n G → IsBornBy n C
 
 -- each game has some number of parts
 abbrev pub PartsAreCounted : Type 0

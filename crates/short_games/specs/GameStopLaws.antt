@@ -1,12 +1,13 @@
 -- The laws of stops, for games in any form.
 use Rattle.std.specs.Prelude.{ℕ, ◌+◌, ◌≤◌, ◌^◌, ◌≡◌, ◌↔◌, ℤ, pos, neg_ℤ, ◌+ℤ◌, ◌-ℤ◌, ◌*ℤ◌, ◌<ℤ◌, ◌≤ℤ◌}
 use Rattle.short_games.specs.Tree.{Tree, neg}
-use Rattle.short_games.specs.Order.{◌≤ᵍ◌, ◌≡ᵍ◌}
+use Rattle.short_games.specs.Order.{◌≤ᵍ◌, ◌⧏ᵍ◌, ◌≡ᵍ◌}
 use Rattle.short_games.specs.Sum.{◌+ᵍ◌}
 use Rattle.short_games.specs.Number.{num}
 use Rattle.short_games.specs.TextOrder.{IsCanonicalTree}
 use Rattle.short_games.specs.Stops.{IsLeftStop, IsRightStop}
 use Rattle.short_games.specs.GameStops.{HasLeftStop, HasRightStop}
+use Rattle.short_games.specs.KnownValues.{IsLess}
 use Rattle.short_games.specs.Examples.{choice, zero, one, minus_one, two, two_switch}
 
 -- each game has both stops on each grid that is fine enough
@@ -40,6 +41,18 @@ StopsKeepOrder = (e : ℕ) (G H : Tree) (x y : ℤ) → G ≤ᵍ H → (HasLeftS
 -- the right stop of a game is at most its left stop
 abbrev pub RightStopIsLess : Type 0
 RightStopIsLess = (e : ℕ) (G : Tree) (l r : ℤ) → HasLeftStop e G l → HasRightStop e G r → r ≤ℤ l
+
+-- what the signs of the stops tell: with a right stop above 0 Left wins, with a left stop above 0 Left wins moving first; and
+-- so for Right
+pub record SignsTell (e : ℕ) (G : Tree) (x : ℤ) : Type 0 where
+  pub positive : HasRightStop e G x → pos 0 <ℤ x → IsLess zero G
+  pub negative : HasLeftStop e G x → x <ℤ pos 0 → IsLess G zero
+  pub left_first : HasLeftStop e G x → pos 0 <ℤ x → zero ⧏ᵍ G
+  pub right_first : HasRightStop e G x → x <ℤ pos 0 → G ⧏ᵍ zero
+
+-- stops other than 0 tell who wins
+abbrev pub StopsTellOutcomes : Type 0
+StopsTellOutcomes = (e : ℕ) (G : Tree) (x : ℤ) → SignsTell e G x
 
 -- the right stop of the negative is the negative of the left stop, and the other way round
 abbrev pub StopsTurn : Type 0

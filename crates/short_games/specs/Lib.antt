@@ -23,6 +23,7 @@ pub mod StopLaws
 pub mod GameStops
 pub mod GameStopLaws
 pub mod Parts
+pub mod Birthdays
 pub mod Walls
 pub mod WallGrids
 pub mod WallLaws

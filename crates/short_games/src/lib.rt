@@ -14,10 +14,10 @@ ghost use Rattle.short_games.specs.NumberLaws.{SimplestIsValue, FittingHaveSimpl
 ghost use Rattle.short_games.specs.AvoidanceLaws.{LeftMovesInGame, RightMovesInGame, LeftMovesInGames, RightMovesInGames, NumbersShift};
 ghost use Rattle.short_games.specs.StopLaws.{IsUnderLeftStop, IsOverRightStop, StopsAreOrdered, StopsExist};
 ghost use Rattle.short_games.specs.GameStopLaws.{GamesHaveStops, CanonicalStopsAgree, LeftStopBounds, RightStopBounds, StopsKeepOrder};
-ghost use Rattle.short_games.specs.GameStopLaws.{RightStopIsLess, StopsTurn, StopsOfSums, StopsTranslate, KnownGameStops};
+ghost use Rattle.short_games.specs.GameStopLaws.{RightStopIsLess, StopsTellOutcomes, StopsTurn, StopsOfSums, StopsTranslate, KnownGameStops};
 ghost use Rattle.short_games.specs.TextLaws.{TextsAreOneToOne, TextsTellGames};
 ghost use Rattle.short_games.specs.CanonicalLaws.{EachHasCanonical, OptionsAreFollowers, FollowersAreCanonical, CanonicalHasFewestNodes};
-ghost use Rattle.short_games.specs.CanonicalLaws.{PartsAreCounted, CanonicalHasFewestParts, GamesHaveNoFewerParts};
+ghost use Rattle.short_games.specs.CanonicalLaws.{CanonicalIsBornFirst, PartsAreCounted, CanonicalHasFewestParts, GamesHaveNoFewerParts};
 ghost use Rattle.short_games.specs.NimberLaws.{KnownNimbers, NimSum, NimbersAreConfused, NimbersAreNegatives, NimbersAreNoNumbers, MexRule, ImpartialAreNimbers};
 ghost use Rattle.short_games.specs.UpLaws.{KnownUps, UpsGrow, UpsAreInfinitesimal, UpsAreForms, UpsAndStarAreForms};
 ghost use Rattle.short_games.specs.KnownValues.{KnownNumbers, KnownFractions, KnownOrder, KnownSums, KnownCanonical, KnownStops, KnownWalls};
@@ -122,6 +122,7 @@ pub fn game_stop_laws()
     ensures right { RightStopBounds }
     ensures keep { StopsKeepOrder }
     ensures ordered { RightStopIsLess }
+    ensures outcomes { StopsTellOutcomes }
     ensures turn { StopsTurn }
     ensures sums { StopsOfSums }
     ensures translate { StopsTranslate }
@@ -135,12 +136,13 @@ pub fn text_laws()
 {}
 
 /// Each game has exactly one canonical form (Conway). It is made of followers of the options' canonical forms, each of its
-/// followers is the canonical form of a follower, and of all equal games it has the fewest nodes and the fewest parts.
+/// followers is the canonical form of a follower, and of all equal games it has the fewest nodes and parts and is born first.
 pub fn canonical_laws()
     ensures one { EachHasCanonical }
     ensures followers { OptionsAreFollowers }
     ensures inherited { FollowersAreCanonical }
     ensures nodes { CanonicalHasFewestNodes }
+    ensures born { CanonicalIsBornFirst }
     ensures counted { PartsAreCounted }
     ensures parts { CanonicalHasFewestParts }
     ensures no_fewer { GamesHaveNoFewerParts }

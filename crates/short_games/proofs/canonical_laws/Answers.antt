@@ -3,7 +3,7 @@ use Rattle.short_games.proofs.OrderLaws.{le-trans}
 use Rattle.short_games.proofs.TextOrderLaws.{text-order}
 use Rattle.short_games.proofs.CanonicalLaws.{canonical-unique}
 use Rattle.short_games.proofs.ExistenceLaws.{canon}
-use Rattle.short_games.proofs.SmallestLaws.{options-below, followers-canonical, fewest-nodes, fewest-parts, more-parts}
+use Rattle.short_games.proofs.SmallestLaws.{options-below, followers-canonical, born-first, fewest-nodes, fewest-parts, more-parts}
 use Rattle.short_games.proofs.CountLaws.{parts-exist}
 use Rattle.short_games.proofs.canonical_laws.Goals as goal
 
@@ -31,3 +31,6 @@ returns-clause-counted c = parts-exist
 
 pub returns-clause-no_fewer : goal.returns-clause-no_fewer
 returns-clause-no_fewer c = more-parts
+
+pub returns-clause-born : goal.returns-clause-born
+returns-clause-born c = born-first

@@ -1,4 +1,4 @@
-use Rattle.short_games.proofs.GameStopLaws.{stops-exist, left-agrees, right-agrees, left-bounds, right-bounds, stops-keep, right-less, stops-turn, stops-of_sums, stops-translate}
+use Rattle.short_games.proofs.GameStopLaws.{stops-exist, left-agrees, right-agrees, left-bounds, right-bounds, stops-keep, right-less, signs-tell, stops-turn, stops-of_sums, stops-translate}
 use Rattle.short_games.proofs.ExampleLaws.{known-game_stops}
 use Rattle.short_games.proofs.game_stop_laws.Goals as goal
 
@@ -31,3 +31,6 @@ returns-clause-translate c = stops-translate
 
 pub returns-clause-known : goal.returns-clause-known
 returns-clause-known c = known-game_stops
+
+pub returns-clause-outcomes : goal.returns-clause-outcomes
+returns-clause-outcomes c = signs-tell
