@@ -9,13 +9,18 @@ use Rattle.short_games.specs.Canonical.{Ascends, IsReduced, AreCanonical}
 use Rattle.short_games.specs.TextOrder.{text_before, TextBefore, IsCanonicalTree, tree_text, lesser_text}
 use Rattle.short_games.specs.Number.{num, whole, count_tree, IsNumberTree, IsNumber}
 use Rattle.short_games.specs.Text.{text}
-use Rattle.short_games.specs.Examples.{choice, zero, one, star, up, two_switch, tiny, star_two, two, minus_two, half}
+use Rattle.short_games.specs.Examples.{choice, zero, one, minus_one, star, up, two_switch, tiny, star_two, two, minus_two, half}
 use Rattle.short_games.specs.Sum.{◌+ᵍ◌}
 use Rattle.short_games.specs.Stops.{IsLeftStop, IsRightStop}
 use Rattle.short_games.specs.Walls.{IsLeftWall, IsRightWall, IsGreatestRightWall, IsLeastLeftWall}
-use Rattle.short_games.specs.KnownValues.{IsLess, AreConfused, IsUpright, KnownNumbers, KnownOrder, KnownSums, KnownCanonical, KnownStops, KnownWalls}
+use Rattle.short_games.specs.KnownValues.{IsLess, AreConfused, HasMast, KnownNumbers, KnownFractions, KnownOrder, KnownSums, KnownCanonical, KnownStops, KnownWalls}
+use Rattle.short_games.specs.Nimbers.{nimber, nimbers_below}
+use Rattle.short_games.specs.NimberLaws.{KnownNimbers}
+use Rattle.short_games.specs.UpLaws.{KnownUps}
+use Rattle.short_games.specs.GameStops.{HasLeftStop}
+use Rattle.short_games.specs.GameStopLaws.{KnownGameStops}
 use Rattle.short_games.proofs.NumberTextLaws.{same-is}
-use Rattle.short_games.proofs.OrderLaws.{no_one, no_one-has, le, to-test, le_within, from-test, not-le}
+use Rattle.short_games.proofs.OrderLaws.{le-refl, no_one, no_one-has, le, to-test, le_within, from-test, not-le}
 use Rattle.short_games.proofs.NumberLaws.{num-left, num-right, num-lt, num-zero}
 use Rattle.short_games.proofs.ReductionLaws.{canonical-number, number-canonical}
 
@@ -211,6 +216,18 @@ known-numbers = (
   no_value star_two examples-canonical.4 star_two-no_number,
 )
 
+pub known-fractions : KnownFractions
+unfolding num whole count_tree neg
+known-fractions = (refl, refl, refl, refl, refl, refl)
+
+pub known-nimbers : KnownNimbers
+unfolding nimbers_below le le_within size
+known-nimbers = (refl, refl, equal (nimber 2) star_two refl refl)
+
+pub known-ups : KnownUps
+unfolding le le_within size ◌+ᵍ◌
+known-ups = (less zero up refl refl, confused up star refl refl, less star (up +ᵍ up) refl refl, equal (up +ᵍ up +ᵍ star) (choice zero up) refl refl)
+
 -- one option on each side, which is a number, gives the stop
 pub known-stops : KnownStops
 unfolding IsLeftStop num whole count_tree
@@ -235,6 +252,17 @@ known-stops = (
     star_stop_right : IsRightStop 0 star (pos 0)
     star_stop_right = inr (star-no_number, inl refl)
 
+pub known-game_stops : KnownGameStops
+unfolding HasLeftStop num whole count_tree le le_within size
+known-game_stops = (
+  inl (equal (choice minus_one one) zero refl refl),
+  inl (equal (choice minus_one one) zero refl refl),
+  inl (equal (choice zero two) one refl refl),
+  inl (equal (choice zero two) one refl refl),
+  inr (no_value two_switch examples-canonical.2 switch-no_number, inl (le-refl two, le-refl two)),
+  inr (no_value two_switch examples-canonical.2 switch-no_number, inl (le-refl zero, le-refl zero)),
+)
+
 -- 0 is 0 on each grid
 zero-number : (k : ℕ) → zero ≡ num k (pos 0)
 zero-number k = sym (num-zero k)
@@ -248,14 +276,14 @@ star-right : (k t : ℕ) → IsRightWall star k t (pos 0)
 unfolding IsLeftWall
 star-right k t = inr (star-no_number, inr (0, 0, omega arith, inl (zero-number (0 + k)), inl (zero-number (0 + k))))
 
-up-walls : IsUpright up 0 (pos 0)
+up-walls : HasMast up 0 (pos 0)
 unfolding IsLeftWall
 up-walls t = (
   inr (up-no_number, inr (0, 0, omega arith, inl (zero-number (0 + 0)), star-left (0 + 0) 0)),
   inr (up-no_number, inr (0, 0, omega arith, inl (zero-number (0 + 0)), star-left (0 + 0) 0)),
 )
 
-star_two-walls : IsUpright star_two 0 (pos 0)
+star_two-walls : HasMast star_two 0 (pos 0)
 unfolding IsLeftWall
 star_two-walls t = (inr (star_two-no_number, inr (0, 0, omega arith, lefts, rights)), inr (star_two-no_number, inr (0, 0, omega arith, lefts, rights)))
   where
@@ -270,7 +298,7 @@ below_zero-left : IsLeftWall (choice zero minus_two) 0 0 (pos 0)
 unfolding IsLeftWall num whole count_tree neg
 below_zero-left = inr (below_zero-no_number, inl (inl refl, (negsuc 1, inl refl, omega (arith, ints))))
 
-tiny-walls : IsUpright tiny 0 (pos 0)
+tiny-walls : HasMast tiny 0 (pos 0)
 unfolding IsLeftWall
 tiny-walls t = (
   inr (tiny-no_number, inr (0, 0, omega arith, inl (zero-number (0 + 0)), below_zero-left)),

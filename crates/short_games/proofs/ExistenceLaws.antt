@@ -1,6 +1,6 @@
 -- Each tree has a canonical tree that is equal to it, where the order of texts is total: options that are dominated or
 -- reversible are replaced by smaller ones while there are some, and what is left is put in order.
-use Rattle.std.proofs.Common.{◌+◌, ◌<◌, ◌≡◌, ◌⊎◌, ◌↔◌, suc, arith, refl, inl, inr, sym, ◌∙◌, ap, subst}
+use Rattle.std.proofs.Common.{◌+◌, ◌<◌, ◌≤◌, ◌≡◌, ◌⊎◌, ◌↔◌, suc, arith, refl, inl, inr, sym, ◌∙◌, ap, subst}
 use Rattle.short_games.specs.Tree.{Tree, Trees, node, none, more, left, right, Has, size, sizes, ◌then◌}
 use Rattle.short_games.specs.Order.{◌≤ᵍ◌, ◌≡ᵍ◌}
 use Rattle.short_games.specs.Canonical.{Ascends, IsCanonical, IsCanonicalOf, AreCanonical}
@@ -165,30 +165,34 @@ shorten_right = shorten right left (λ A B. B ≤ᵍ A) right_side (λ A B. le-o
     turned : {A B : Type 0} → A ⊎ B → B ⊎ A
     turned h = elim h [ inl x ↦ inr x | inr x ↦ inl x ]
 
--- trees that belong to those of a list, one to each
-matched : (P : Tree → Tree → Type 0) (Gs : Trees) → ((X : Tree) → Has Gs X → (Y : Tree) × P X Y)
+-- trees that belong to those of a list, one to each, and are no greater
+pub matched : (P : Tree → Tree → Type 0) → ((X Y : Tree) → P X Y → size Y ≤ size X) → (Gs : Trees) → ((X : Tree) → Has Gs X → (Y : Tree) × P X Y)
     → (Ms : Trees) × ((X : Tree) → Has Gs X → (Y : Tree) × Has Ms Y × P X Y) × ((Y : Tree) → Has Ms Y → (X : Tree) × Has Gs X × P X Y)
-matched P none f = (none, λ X h. absurd h, λ Y h. absurd h)
-matched P (more G Gs) f = let g = f G (inl refl) in let r = matched P Gs (λ X x. f X (inr x)) in (
+    × (sizes Ms ≤ sizes Gs)
+matched P small none f = (none, λ X h. absurd h, λ Y h. absurd h, omega arith)
+matched P small (more G Gs) f = let g = f G (inl refl) in let r = matched P small Gs (λ X x. f X (inr x)) in (
   more g.0 r.0,
   λ X h. elim h [ inl e ↦ (g.0, inl refl, subst (λ Z. P Z g.0) (sym e) g.1) | inr x ↦ (let w = r.1 X x in (w.0, inr w.1, w.2)) ],
   λ Y h. elim h [ inl e ↦ (G, inl refl, subst (P G) (sym e) g.1) | inr x ↦ (let w = r.2 Y x in (w.0, inr w.1, w.2)) ],
+  omega (arith, sizes-more G Gs, sizes-more g.0 r.0, small G g.0 g.1, r.3),
 )
 
 module _ (Before : Tree → Tree → Type 0) (total : (G H : Tree) → Before G H ⊎ ((G ≡ H) ⊎ Before H G)) where
-  insert : (A : Tree) (Gs : Trees) → Ascends Before Gs → (Hs : Trees) × Inserted Before A Gs Hs
-  insert A none a = (more A none, into-none Before A)
+  insert : (A : Tree) (Gs : Trees) → Ascends Before Gs → (Hs : Trees) × Inserted Before A Gs Hs × (sizes Hs ≤ size A + sizes Gs)
+  insert A none a = (more A none, into-none Before A, omega (arith, sizes-more A none))
   insert A (more G Gs) a = elim (total A G) [
-    | inl b ↦ (more A (more G Gs), in_front Before A G Gs b a)
+    | inl b ↦ (more A (more G Gs), in_front Before A G Gs b a, omega (arith, sizes-more A (more G Gs)))
     | inr c ↦ elim c [
-      | inl e ↦ (more G Gs, there_already Before A G Gs e a)
-      | inr b ↦ (let r = insert A Gs (rest-ascends Before G Gs a) in (more G r.0, further_on Before A G Gs r.0 b a r.1))
+      | inl e ↦ (more G Gs, there_already Before A G Gs e a, omega arith)
+      | inr b ↦ (let r = insert A Gs (rest-ascends Before G Gs a) in
+          (more G r.0, further_on Before A G Gs r.0 b a r.1, omega (arith, r.2, sizes-more G Gs, sizes-more G r.0)))
     ]
   ]
 
-  sort : (Gs : Trees) → (Hs : Trees) × Sorted Before Gs Hs
-  sort none = (none, sorted-none Before)
-  sort (more G Gs) = let r = sort Gs in let i = insert G r.0 r.1.ascends in (i.0, sorted-more Before G Gs r.0 i.0 r.1 i.1)
+  sort : (Gs : Trees) → (Hs : Trees) × Sorted Before Gs Hs × (sizes Hs ≤ sizes Gs)
+  sort none = (none, sorted-none Before, omega arith)
+  sort (more G Gs) = let r = sort Gs in let i = insert G r.0 r.1.ascends in
+      (i.0, sorted-more Before G Gs r.0 i.0 r.1 i.1, omega (arith, r.2, i.2, sizes-more G Gs))
 
   -- a canonical tree that is equal to G
   pub record Canon (G : Tree) : Type 0 where
@@ -197,10 +201,11 @@ module _ (Before : Tree → Tree → Type 0) (total : (G H : Tree) → Before G 
     pub under : G ≤ᵍ tree
     pub over : tree ≤ᵍ G
 
-  -- a canonical tree that is equal to G, whose options are below those of G
+  -- a canonical tree that is equal to G and no greater, whose options are below those of G
   pub record CanonBelow (G : Tree) : Type 0 where
     pub canon : Canon G
     pub below : AreBelow G canon.tree
+    pub small : size canon.tree ≤ size G
 
   abbrev along : (G H : Tree) → G ≡ᵍ H → Canon H → Canon G
   along G H e c = let s = same-trans G H c.tree e (c.under, c.over) in record
@@ -219,6 +224,7 @@ module _ (Before : Tree → Tree → Type 0) (total : (G H : Tree) → Before G 
       record {
         canon = record { tree = node m.0 n.0; canonical = f.canonical; under = f.under; over = f.over };
         below = λ X h. (X, elim h [ inl x ↦ inl (m.1.to X x) | inr x ↦ inr (n.1.to X x) ], itself X);
+        small = omega (arith, size-node ls rs, size-node m.0 n.0, m.2, n.2);
       }
 
   -- where the options are canonical
@@ -235,6 +241,7 @@ module _ (Before : Tree → Tree → Type 0) (total : (G H : Tree) → Before G 
       again G s r = record {
         canon = along G s.tree s.same r.canon;
         below = λ X h. let w = r.below X h in let v = s.below w.0 w.1 in (v.0, v.1, follower-trans v.0 w.0 X v.2 w.2);
+        small = omega (arith, r.small, s.smaller);
       }
 
   pub canon_below : (ls rs : Trees) → AreCanonical Before ls → AreCanonical Before rs → CanonBelow (node ls rs)
@@ -246,17 +253,44 @@ module _ (Before : Tree → Tree → Type 0) (total : (G H : Tree) → Before G 
 
   -- of every tree
   abbrev IsOf : Tree → Tree → Type 0
-  IsOf = IsCanonicalOf Before
+  IsOf X C = IsCanonicalOf Before X C × (size C ≤ size X)
 
-  of_options : (G : Tree) → ((X : Tree) → IsOption G X → (C : Tree) × IsOf X C) → Canon G
+  -- a tree of canonical options that is equal to G and no greater, with an option for each of G
+  pub record WithCanonicalOptions (ls rs : Trees) : Type 0 where
+    pub lefts : Trees
+    pub rights : Trees
+    pub same : node ls rs ≡ᵍ node lefts rights
+    pub small : size (node lefts rights) ≤ size (node ls rs)
+    pub from : (Y : Tree) → IsOption (node lefts rights) Y → (X : Tree) × IsOption (node ls rs) X × IsCanonicalOf Before X Y
+
+  pub with_canonical_options : (ls rs : Trees) → ((X : Tree) → IsOption (node ls rs) X → (C : Tree) × IsOf X C) → WithCanonicalOptions ls rs
+  with_canonical_options ls rs f =
+      let a = matched IsOf (λ X Y w. w.1) ls (λ X x. f X (inl x)) in
+      let b = matched IsOf (λ X Y w. w.1) rs (λ X x. f X (inr x)) in
+      record {
+        lefts = a.0;
+        rights = b.0;
+        same = (
+          by_better _ _ (λ L l. (let y = a.1 L l in (y.0, y.1, y.2.0.under))) (λ S s. (let x = b.2 S s in (x.0, x.1, x.2.0.under))),
+          by_better _ _ (λ L l. (let x = a.2 L l in (x.0, x.1, x.2.0.over))) (λ S s. (let y = b.1 S s in (y.0, y.1, y.2.0.over))),
+        );
+        small = omega (arith, size-node ls rs, size-node a.0 b.0, a.3, b.3);
+        from = λ Y h. elim h [
+          | inl y ↦ (let x = a.2 Y y in (x.0, inl x.1, x.2.0))
+          | inr y ↦ (let x = b.2 Y y in (x.0, inr x.1, x.2.0))
+        ];
+      }
+
+  of_options : (G : Tree) → ((X : Tree) → IsOption G X → (C : Tree) × IsOf X C) → (c : Canon G) × (size c.tree ≤ size G)
   of_options (node ls rs) f =
-      let a = matched IsOf ls (λ X x. f X (inl x)) in
-      let b = matched IsOf rs (λ X x. f X (inr x)) in
-      along (node ls rs) (node a.0 b.0) (
-        by_better _ _ (λ L l. (let y = a.1 L l in (y.0, y.1, y.2.under))) (λ S s. (let x = b.2 S s in (x.0, x.1, x.2.under))),
-        by_better _ _ (λ L l. (let x = a.2 L l in (x.0, x.1, x.2.over))) (λ S s. (let y = b.1 S s in (y.0, y.1, y.2.over))),
-      ) (canon_from (node a.0 b.0) (λ X h. elim h [ inl x ↦ (a.2 X x).2.canonical | inr x ↦ (b.2 X x).2.canonical ])).canon
+      let w = with_canonical_options ls rs f in
+      let r = canon_from (node w.lefts w.rights) (λ Y h. (w.from Y h).2.canonical) in
+      (along (node ls rs) (node w.lefts w.rights) w.same r.canon, omega (arith, r.small, w.small))
+
+  -- a canonical tree that is no greater
+  pub small_canon : (G : Tree) → (c : Canon G) × (size c.tree ≤ size G)
+  small_canon = by_measure size (λ G. (c : Canon G) × (size c.tree ≤ size G)) (λ G ih. of_options G (λ X o. let c = ih X (size-option G X o) in
+      (c.0.tree, (record { canonical = c.0.canonical; under = c.0.under; over = c.0.over }, c.1))))
 
   pub canon : (G : Tree) → Canon G
-  canon = by_measure size Canon (λ G ih. of_options G (λ X o. let c = ih X (size-option G X o) in
-      (c.tree, record { canonical = c.canonical; under = c.under; over = c.over })))
+  canon G = (small_canon G).0

@@ -11,9 +11,15 @@ pub mod NumberTextLaws
 pub mod TextOrderLaws
 pub mod ReductionLaws
 pub mod StopLaws
+pub mod DyadicLaws
+pub mod NimberLaws
+pub mod MexLaws
 pub mod AvoidanceLaws
+pub mod ShiftLaws
+pub mod PlayLaws
 pub mod IncentiveLaws
 pub mod ExampleLaws
+pub mod UpLaws
 pub mod LineLaws
 pub mod GreatestLaws
 pub mod WallNumberLaws
@@ -22,6 +28,11 @@ pub mod WallSolutionLaws
 pub mod DrawnWallLaws
 pub mod WallSteps
 pub mod WallExistenceLaws
+pub mod GameStopLaws
+pub mod CountLaws
+pub mod SmallestLaws
+pub mod GameWallLaws
 pub mod WallMeetingLaws
+pub mod MastLaws
 pub mod WallBetweenLaws
 pub mod WallRuleLaws

@@ -167,8 +167,8 @@ CeilingBy e G x = (k : ℤ) × IsCeiling e G k × IsHalf x k
 abbrev pub FloorBy : ℕ → Tree → ℤ → Type 0
 FloorBy e G x = (k : ℤ) × IsFloor e G k × IsHalf x (k +ℤ pos 1)
 
-ceiling_step : (e : ℕ) (G : Tree) (x : ℤ) → (IsNumber G → ⊥) → IsGreatest (IsRightStop e) (left G) x → ((L : Tree) → Has (left G) L → (y : ℤ) → IsRightStop e L y → FloorBy e L y) → CeilingBy e G x
-ceiling_step e G x n g f =
+pub ceiling_step : (P : Tree → ℤ → Type 0) (e : ℕ) (G : Tree) (x : ℤ) → (IsNumber G → ⊥) → IsGreatest P (left G) x → ((L : Tree) → Has (left G) L → (y : ℤ) → P L y → FloorBy e L y) → CeilingBy e G x
+ceiling_step P e G x n g f =
     let h = most _ upwards (IsFloor e) (left G) (λ L l. (let b = g.bound L l in let w = f L l b.0 b.1 in (w.0, w.1))) g.reached.0 g.reached.1 in
     let b = g.bound h.1.reached.0 h.1.reached.1 in
     let v = f h.1.reached.0 h.1.reached.1 b.0 b.1 in
@@ -178,8 +178,8 @@ ceiling_step e G x n g f =
     let q : w.0 ≡ j.0 = one-floor e g.reached.0 w.0 j.0 w.1 j.1 in
     (h.0 +ℤ pos 1, ceiling-by e G h.0 n h.1, (omega (arith, ints, w.2.0, q, j.2), omega (arith, ints, v.2.1, p, b.2)))
 
-floor_step : (e : ℕ) (G : Tree) (x : ℤ) → (IsNumber G → ⊥) → IsLeast (IsLeftStop e) (right G) x → ((R : Tree) → Has (right G) R → (y : ℤ) → IsLeftStop e R y → CeilingBy e R y) → FloorBy e G x
-floor_step e G x n g f =
+pub floor_step : (P : Tree → ℤ → Type 0) (e : ℕ) (G : Tree) (x : ℤ) → (IsNumber G → ⊥) → IsLeast P (right G) x → ((R : Tree) → Has (right G) R → (y : ℤ) → P R y → CeilingBy e R y) → FloorBy e G x
+floor_step P e G x n g f =
     let h = most _ downwards (IsCeiling e) (right G) (λ R r. (let b = g.bound R r in let w = f R r b.0 b.1 in (w.0, w.1))) g.reached.0 g.reached.1 in
     let b = g.bound h.1.reached.0 h.1.reached.1 in
     let v = f h.1.reached.0 h.1.reached.1 b.0 b.1 in
@@ -198,11 +198,11 @@ module _ (e : ℕ) where
   both_step G c f g = record {
     ceiling = λ x s. elim (left_stop-is e G x s) [
       | of_number i ↦ (x +ℤ x, subst (λ t. IsCeiling e t (x +ℤ x)) (sym i) (number-ceiling e x), (omega (arith, ints), omega (arith, ints)))
-      | of_game n h ↦ ceiling_step e G x (no_number n) h (λ L l. (f L l).floor)
+      | of_game n h ↦ ceiling_step (IsRightStop e) e G x (no_number n) h (λ L l. (f L l).floor)
     ];
     floor = λ x s. elim (right_stop-is e G x s) [
       | of_number i ↦ (x +ℤ x, subst (λ t. IsFloor e t (x +ℤ x)) (sym i) (number-floor e x), (omega (arith, ints), omega (arith, ints)))
-      | of_game n h ↦ floor_step e G x (no_number n) h (λ R r. (g R r).ceiling)
+      | of_game n h ↦ floor_step (IsLeftStop e) e G x (no_number n) h (λ R r. (g R r).ceiling)
     ];
   }
     where
@@ -228,22 +228,41 @@ pub num-scaled : (d e : ℕ) (m : ℤ) → num (d + e) (m *ℤ pos (2 ^ d)) ≡ 
 num-scaled zero e m = ap₂ num (omega arith) (grind (arith, ints))
 num-scaled (suc d) e m = ap₂ num (omega arith) (times-twice m (2 ^ d) (2 ^ suc d) (omega (arith, pow-suc 2 d))) ∙ num-double (d + e) (m *ℤ pos (2 ^ d)) ∙ num-scaled d e m
 
--- a game is at most each number above its left stop, and at least each number below its right stop
-pub under-left_stop : (e : ℕ) (G : Tree) (x : ℤ) → IsCanonicalTree G → IsLeftStop e G x → (d : ℕ) (y : ℤ) → pos 0 <ℤ y → G ≤ᵍ num (d + e) ((x *ℤ pos (2 ^ d)) +ℤ y)
-under-left_stop e G x c s d y p =
-    let k = (both e G c).ceiling x s in
+-- a game is at most each number above the stop that goes with its ceiling, and at most none below
+pub under-ceiling : (e : ℕ) (G : Tree) (x : ℤ) → CeilingBy e G x → (d : ℕ) (y : ℤ) → pos 0 <ℤ y → G ≤ᵍ num (d + e) ((x *ℤ pos (2 ^ d)) +ℤ y)
+under-ceiling e G x k d y p =
     let h = cell e (d + e) ((x *ℤ pos (2 ^ d)) +ℤ y) in
     (k.1 (d + e) ((x *ℤ pos (2 ^ d)) +ℤ y) h.0 h.1).1 (by_lt_z (x +ℤ x) h.0
     (λ l. omega (arith, ints, l, k.2.1))
     (λ l. absurd (num-lt (d + e) (x *ℤ pos (2 ^ d)) ((x *ℤ pos (2 ^ d)) +ℤ y) (omega (arith, ints, p)) (subst (λ t. num (d + e) ((x *ℤ pos (2 ^ d)) +ℤ y) ≤ᵍ t) (sym (num-scaled d e x)) ((h.1.under x).1 l)))))
 
-pub over-right_stop : (e : ℕ) (G : Tree) (x : ℤ) → IsCanonicalTree G → IsRightStop e G x → (d : ℕ) (y : ℤ) → pos 0 <ℤ y → num (d + e) ((x *ℤ pos (2 ^ d)) -ℤ y) ≤ᵍ G
-over-right_stop e G x c s d y p =
-    let k = (both e G c).floor x s in
+pub not-under_ceiling : (e : ℕ) (G : Tree) (x : ℤ) → CeilingBy e G x → (d : ℕ) (y : ℤ) → pos 0 <ℤ y → G ≤ᵍ num (d + e) ((x *ℤ pos (2 ^ d)) -ℤ y) → ⊥
+not-under_ceiling e G x k d y p q =
+    let h = cell e (d + e) ((x *ℤ pos (2 ^ d)) -ℤ y) in
+    let l : k.0 ≤ℤ h.0 = (k.1 (d + e) ((x *ℤ pos (2 ^ d)) -ℤ y) h.0 h.1).0 q in
+    num-lt (d + e) ((x *ℤ pos (2 ^ d)) -ℤ y) (x *ℤ pos (2 ^ d)) (omega (arith, ints, p))
+    (subst (λ t. t ≤ᵍ num (d + e) ((x *ℤ pos (2 ^ d)) -ℤ y)) (sym (num-scaled d e x)) ((h.1.over x).1 (omega (arith, ints, l, k.2.0))))
+
+-- and at least each number below the stop that goes with its floor, and at least none above
+pub over-floor : (e : ℕ) (G : Tree) (x : ℤ) → FloorBy e G x → (d : ℕ) (y : ℤ) → pos 0 <ℤ y → num (d + e) ((x *ℤ pos (2 ^ d)) -ℤ y) ≤ᵍ G
+over-floor e G x k d y p =
     let h = cell e (d + e) ((x *ℤ pos (2 ^ d)) -ℤ y) in
     (k.1 (d + e) ((x *ℤ pos (2 ^ d)) -ℤ y) h.0 h.1).1 (by_lt_z h.0 (x +ℤ x)
     (λ l. omega (arith, ints, l, k.2.0))
     (λ l. absurd (num-lt (d + e) ((x *ℤ pos (2 ^ d)) -ℤ y) (x *ℤ pos (2 ^ d)) (omega (arith, ints, p)) (subst (λ t. t ≤ᵍ num (d + e) ((x *ℤ pos (2 ^ d)) -ℤ y)) (sym (num-scaled d e x)) ((h.1.over x).1 l)))))
+
+pub not-over_floor : (e : ℕ) (G : Tree) (x : ℤ) → FloorBy e G x → (d : ℕ) (y : ℤ) → pos 0 <ℤ y → num (d + e) ((x *ℤ pos (2 ^ d)) +ℤ y) ≤ᵍ G → ⊥
+not-over_floor e G x k d y p q =
+    let h = cell e (d + e) ((x *ℤ pos (2 ^ d)) +ℤ y) in
+    let l : h.0 ≤ℤ k.0 = (k.1 (d + e) ((x *ℤ pos (2 ^ d)) +ℤ y) h.0 h.1).0 q in
+    num-lt (d + e) (x *ℤ pos (2 ^ d)) ((x *ℤ pos (2 ^ d)) +ℤ y) (omega (arith, ints, p))
+    (subst (λ t. num (d + e) ((x *ℤ pos (2 ^ d)) +ℤ y) ≤ᵍ t) (sym (num-scaled d e x)) ((h.1.under x).1 (omega (arith, ints, l, k.2.1))))
+
+pub under-left_stop : (e : ℕ) (G : Tree) (x : ℤ) → IsCanonicalTree G → IsLeftStop e G x → (d : ℕ) (y : ℤ) → pos 0 <ℤ y → G ≤ᵍ num (d + e) ((x *ℤ pos (2 ^ d)) +ℤ y)
+under-left_stop e G x c s = under-ceiling e G x ((both e G c).ceiling x s)
+
+pub over-right_stop : (e : ℕ) (G : Tree) (x : ℤ) → IsCanonicalTree G → IsRightStop e G x → (d : ℕ) (y : ℤ) → pos 0 <ℤ y → num (d + e) ((x *ℤ pos (2 ^ d)) -ℤ y) ≤ᵍ G
+over-right_stop e G x c s = over-floor e G x ((both e G c).floor x s)
 
 -- so the left stop is at least the right one
 pub stops-ordered : (e : ℕ) (G : Tree) (l r : ℤ) → IsCanonicalTree G → IsLeftStop e G l → IsRightStop e G r → r ≤ℤ l

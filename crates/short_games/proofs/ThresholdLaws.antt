@@ -20,7 +20,7 @@ scaled zero e z = (z, ap (λ n. num n z) (omega arith))
 scaled (suc d) e z = let r = scaled d e z in (r.0 +ℤ r.0, ap (λ n. num n (r.0 +ℤ r.0)) (omega arith) ∙ num-double (d + e) r.0 ∙ r.1)
 
 -- of two numbers over one power of two
-le-num : (e : ℕ) (m n : ℤ) → num e m ≤ᵍ num e n → m ≤ℤ n
+pub le-num : (e : ℕ) (m n : ℤ) → num e m ≤ᵍ num e n → m ≤ℤ n
 le-num e m n h = by_lt_z n m (λ l. absurd (num-lt e n m l h)) (λ l. l)
 
 half-within : (m : ℤ) → ((half m +ℤ half m) ≤ℤ m) × (m ≤ℤ (half m +ℤ half m +ℤ pos 1))

@@ -21,9 +21,29 @@ two = node (more one none) none
 abbrev pub minus_two : Tree
 minus_two = node none (more (node none (more zero none)) none)
 
+-- 3 is {2|}
+abbrev pub three : Tree
+three = node (more two none) none
+
+-- -1 is {|0}
+abbrev pub minus_one : Tree
+minus_one = node none (more zero none)
+
 -- 1/2 is {0|1}
 abbrev pub half : Tree
 half = choice zero one
+
+-- -1/2 is {-1|0}
+abbrev pub minus_half : Tree
+minus_half = choice minus_one zero
+
+-- 3/4 is {1/2|1}
+abbrev pub three_quarters : Tree
+three_quarters = choice half one
+
+-- -5/8 is {-3/4|-1/2}, where -3/4 is {-1|-1/2}
+abbrev pub minus_five_eighths : Tree
+minus_five_eighths = choice (choice minus_one minus_half) minus_half
 
 -- star is {0|0}
 abbrev pub star : Tree

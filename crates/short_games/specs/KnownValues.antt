@@ -8,13 +8,18 @@ use Rattle.short_games.specs.Simplest.{IsSimplestFor}
 use Rattle.short_games.specs.Stops.{IsLeftStop, IsRightStop}
 use Rattle.short_games.specs.TextOrder.{IsCanonicalTree, IsCanonicalFor}
 use Rattle.short_games.specs.Walls.{IsLeftWall, IsRightWall}
-use Rattle.short_games.specs.Examples.{choice, zero, one, two, minus_two, half, star, up, two_switch, tiny, star_two}
+use Rattle.short_games.specs.Examples.{choice, zero, one, two, three, minus_one, minus_two, half, minus_half, three_quarters, minus_five_eighths, star, up, two_switch, tiny, star_two}
 
 -- 0, 2, -2 and 1/2 are numbers, and 0 is the simplest number for {-2|2}; star, up, {2|0}, tiny-two and the nimber of 2 are
 -- no numbers
 abbrev pub KnownNumbers : Type 0
 KnownNumbers = (num 0 (pos 0) ≡ zero) × (num 0 (pos 2) ≡ two) × (num 0 (negsuc 1) ≡ minus_two) × (num 1 (pos 1) ≡ half) × IsSimplestFor (choice minus_two two) zero
     × (IsNumber star → ⊥) × (IsNumber up → ⊥) × (IsNumber two_switch → ⊥) × (IsNumber tiny → ⊥) × (IsNumber star_two → ⊥)
+
+-- the trees of 1, 3, -1, -1/2, 3/4 and -5/8
+abbrev pub KnownFractions : Type 0
+KnownFractions = (num 0 (pos 1) ≡ one) × (num 0 (pos 3) ≡ three) × (num 0 (negsuc 0) ≡ minus_one) × (num 1 (negsuc 0) ≡ minus_half) × (num 2 (pos 3) ≡ three_quarters)
+    × (num 3 (negsuc 4) ≡ minus_five_eighths)
 
 -- G is less than H: at most H, and not at least
 abbrev pub IsLess : Tree → Tree → Type 0
@@ -44,13 +49,13 @@ KnownStops = IsLeftStop 0 two_switch (pos 2) × IsRightStop 0 two_switch (pos 0)
     × IsLeftStop 0 star (pos 0) × IsRightStop 0 star (pos 0) × IsLeftStop 0 up (pos 0) × IsRightStop 0 up (pos 0)
     × IsLeftStop 0 tiny (pos 0) × IsRightStop 0 tiny (pos 0) × IsLeftStop 0 star_two (pos 0) × IsRightStop 0 star_two (pos 0)
 
--- both walls of the tree are x at each t
-abbrev pub IsUpright : Tree → ℕ → ℤ → Type 0
-IsUpright G k x = (t : ℕ) → IsLeftWall G k t x × IsRightWall G k t x
+-- the thermograph is a mast alone: both walls of the tree are x at each t
+abbrev pub HasMast : Tree → ℕ → ℤ → Type 0
+HasMast G k x = (t : ℕ) → IsLeftWall G k t x × IsRightWall G k t x
 
 -- the walls of {2|0} are 2 and 0 at 0, 3/2 and 1/2 at 1/2, and 1 from 1 on; those of 1/2 are 1/2, and those of star, up,
 -- tiny-two and the nimber of 2 are 0
 abbrev pub KnownWalls : Type 0
 KnownWalls = IsLeftWall two_switch 0 0 (pos 2) × IsRightWall two_switch 0 0 (pos 0) × IsLeftWall two_switch 1 1 (pos 3) × IsRightWall two_switch 1 1 (pos 1)
     × ((t : ℕ) → 1 ≤ t → IsLeftWall two_switch 0 t (pos 1) × IsRightWall two_switch 0 t (pos 1))
-    × IsUpright half 1 (pos 1) × IsUpright star 0 (pos 0) × IsUpright up 0 (pos 0) × IsUpright tiny 0 (pos 0) × IsUpright star_two 0 (pos 0)
+    × HasMast half 1 (pos 1) × HasMast star 0 (pos 0) × HasMast up 0 (pos 0) × HasMast tiny 0 (pos 0) × HasMast star_two 0 (pos 0)

@@ -1,26 +1,27 @@
--- Stops: the numbers that a game comes to when the two sides move in turn and stop at the first number. Here x stands
--- for x / 2 ^ e.
+-- Stops of canonical trees: the numbers that a game comes to when the two sides move in turn and stop at the first number.
+-- Whether a tree is a number is told by the tree, so of another form that is equal to a number these aren't its stops: the
+-- stops of games in any form are in `GameStops`. Here x stands for x / 2 ^ e.
 use Rattle.std.specs.Prelude.{ℕ, ◌≡◌, ◌⊎◌, ℤ, pos, ◌+ℤ◌, ◌≤ℤ◌}
 use Rattle.short_games.specs.Tree.{Tree, Trees, node, none, more}
 use Rattle.short_games.specs.Number.{num, IsNumberTree}
 
 module _ (e : ℕ) where
   unfoldable mutual
-    -- x is the left stop of the tree: of a number the number, else the greatest right stop of a Left option
+    -- x is the left stop of the canonical tree: of a number the number, else the greatest right stop of a Left option
     pub IsLeftStop : Tree → ℤ → Type 0
     IsLeftStop (node ls rs) x = (node ls rs ≡ num e x) ⊎ ((IsNumberTree (node ls rs) → ⊥) × IsGreatestRight ls x)
 
-    -- x is the right stop of the tree: of a number the number, else the least left stop of a Right option
+    -- x is the right stop of the canonical tree: of a number the number, else the least left stop of a Right option
     pub IsRightStop : Tree → ℤ → Type 0
     IsRightStop (node ls rs) x = (node ls rs ≡ num e x) ⊎ ((IsNumberTree (node ls rs) → ⊥) × IsLeastLeft rs x)
 
-    -- x is the greatest right stop of the listed trees
+    -- x is the greatest right stop of the listed canonical trees
     pub IsGreatestRight : Trees → ℤ → Type 0
     IsGreatestRight none x = ⊥
     IsGreatestRight (more G none) x = IsRightStop G x
     IsGreatestRight (more G (more H Hs)) x = (y : ℤ) × ((z : ℤ) × IsRightStop G y × IsGreatestRight (more H Hs) z × (y ≤ℤ x) × (z ≤ℤ x) × ((y ≡ x) ⊎ (z ≡ x)))
 
-    -- x is the least left stop of the listed trees
+    -- x is the least left stop of the listed canonical trees
     pub IsLeastLeft : Trees → ℤ → Type 0
     IsLeastLeft none x = ⊥
     IsLeastLeft (more G none) x = IsLeftStop G x

@@ -1,4 +1,4 @@
--- Walls on a grid: here t stands for t / 2 ^ k and x for x / 2 ^ k, with one k for all places.
+-- Walls of canonical trees on a grid: here t stands for t / 2 ^ k and x for x / 2 ^ k, with one k for all places.
 use Rattle.std.specs.Prelude.{ℕ, suc, ◌/◌, ◌+◌, ◌-◌, ◌≡◌, ◌<◌, ◌≤◌, ℤ, pos, ◌+ℤ◌, ◌-ℤ◌, ◌<ℤ◌, ◌≤ℤ◌}
 use Rattle.short_games.specs.Tree.{Tree, Trees, left, right, Has}
 use Rattle.short_games.specs.Number.{num, IsNumberTree}
@@ -20,7 +20,7 @@ pub data Follow (L R : ℕ → ℤ) (t : ℕ) (l r : ℤ) : Type 0 where
   apart : ((v : ℕ) → v ≤ t → R v <ℤ L v) → l ≡ L t → r ≡ R t → Follow L R t l r
   met : (u : ℕ) → u ≤ t → L u ≡ R u → ((v : ℕ) → v < u → R v <ℤ L v) → l ≡ L u → r ≡ R u → Follow L R t l r
 
--- the walls of G, where lw and rw give those of its options. Of a number both are the number; else the left scaffold is
+-- the walls of the canonical tree G, where lw and rw give those of its options. Of a number both are the number; else the left scaffold is
 -- the greatest right wall of a Left option, less t, and the right scaffold the least left wall of a Right option, and t
 pub data WallsAre (k : ℕ) (lw rw : Tree → ℕ → ℤ) (G : Tree) : Type 0 where
   of_number : (x : ℤ) → G ≡ num k x → ((t : ℕ) → lw G t ≡ x) → ((t : ℕ) → rw G t ≡ x) → WallsAre k lw rw G
@@ -31,7 +31,7 @@ pub data WallsAre (k : ℕ) (lw rw : Tree → ℕ → ℤ) (G : Tree) : Type 0 w
 abbrev pub AllWallsAre : (k : ℕ) (lw rw : Tree → ℕ → ℤ) → Tree → Type 0
 AllWallsAre k lw rw G = (P : Tree) → IsFollower G P → WallsAre k lw rw P
 
--- l and r are the walls of G at all multiples of 2 ^ -k
+-- l and r are the walls of the canonical tree G at all multiples of 2 ^ -k
 pub record HasWalls (k : ℕ) (G : Tree) (l r : ℕ → ℤ) : Type 0 where
   pub lw : Tree → ℕ → ℤ
   pub rw : Tree → ℕ → ℤ
@@ -43,13 +43,13 @@ pub record HasWalls (k : ℕ) (G : Tree) (l r : ℕ → ℤ) : Type 0 where
 abbrev pub finer : (ℕ → ℤ) → ℕ → ℤ
 finer f t = f (t / 2) +ℤ f (suc t / 2)
 
--- the temperature and the mean of a game whose walls are l and r: where they first meet
+-- the temperature u of a game whose walls are l and r, where they first meet, and the mast's value x there, called the mean
 pub record IsMeeting (l r : ℕ → ℤ) (u : ℕ) (x : ℤ) : Type 0 where
   pub left_at : l u ≡ x
   pub right_at : r u ≡ x
   pub before : (v : ℕ) → v < u → r v <ℤ l v
 
--- the temperature of G lies in the middle of two neighbouring multiples of 2 ^ -k
+-- the temperature of the canonical tree G lies in the middle of two neighbouring multiples of 2 ^ -k
 pub record HasTemperatureBetween (k : ℕ) (G : Tree) : Type 0 where
   pub left : ℕ → ℤ
   pub right : ℕ → ℤ

@@ -1,5 +1,5 @@
--- The laws of walls.
-use Rattle.std.specs.Prelude.{ℕ, suc, ◌+◌, ◌≡◌, ◌≤◌, ◌↔◌, ℤ}
+-- The laws of walls, of which a tree that isn't canonical may have others than its game: see `Walls`.
+use Rattle.std.specs.Prelude.{ℕ, suc, ◌+◌, ◌≡◌, ◌≤◌, ◌↔◌, ◌⊎◌, ℤ, pos, ◌+ℤ◌, ◌≤ℤ◌}
 use Rattle.short_games.specs.Tree.{Tree}
 use Rattle.short_games.specs.Number.{IsNumberTree}
 use Rattle.short_games.specs.TextOrder.{IsCanonicalTree}
@@ -24,9 +24,23 @@ WallsGoOn = (k : ℕ) (G : Tree) (l r : ℕ → ℤ) → HasWalls k G l r → Ha
 abbrev pub WallsBeginAtStops : Type 0
 WallsBeginAtStops = (k : ℕ) (G : Tree) (l r : ℕ → ℤ) → HasWalls k G l r → IsLeftStop k G (l 0) × IsRightStop k G (r 0)
 
--- a game with walls that is no number has a temperature and a mean
+-- a game with walls that is no number has a temperature and a mean, the mast's value
 abbrev pub TemperaturesExist : Type 0
 TemperaturesExist = (k : ℕ) (G : Tree) (l r : ℕ → ℤ) → HasWalls k G l r → (IsNumberTree G → ⊥) → (u : ℕ) × (x : ℤ) × IsMeeting l r u x
+
+-- from the temperature on both walls are the mast, at the mean
+abbrev pub MastStands : Type 0
+MastStands = (k : ℕ) (G : Tree) (l r : ℕ → ℤ) → HasWalls k G l r → (u : ℕ) (x : ℤ) → IsMeeting l r u x → (t : ℕ) → u ≤ t → (l t ≡ x) × (r t ≡ x)
+
+-- the right wall is at most the left wall
+abbrev pub WallsAreOrdered : Type 0
+WallsAreOrdered = (k : ℕ) (G : Tree) (l r : ℕ → ℤ) → HasWalls k G l r → (t : ℕ) → r t ≤ℤ l t
+
+-- from each place to the next the left wall stands or falls by one place, and the right wall stands or rises by one: walls
+-- are upright or diagonal
+abbrev pub WallsAreUprightOrDiagonal : Type 0
+WallsAreUprightOrDiagonal = (k : ℕ) (G : Tree) (l r : ℕ → ℤ) → HasWalls k G l r
+    → (t : ℕ) → ((l (suc t) ≡ l t) ⊎ (l (suc t) +ℤ pos 1 ≡ l t)) × ((r (suc t) ≡ r t) ⊎ (r (suc t) ≡ r t +ℤ pos 1))
 
 -- where a game has walls on a grid, the temperature of no follower lies between two places of it
 abbrev pub NoneBetween : Type 0

@@ -1,8 +1,11 @@
-use Rattle.short_games.proofs.ExampleLaws.{known-numbers, known-order, known-sums, known-canonical, known-stops, known-walls}
+use Rattle.short_games.proofs.ExampleLaws.{known-numbers, known-fractions, known-order, known-sums, known-canonical, known-stops, known-walls}
 use Rattle.short_games.proofs.known_values.Goals as goal
 
 pub returns-clause-numbers : goal.returns-clause-numbers
 returns-clause-numbers c = known-numbers
+
+pub returns-clause-fractions : goal.returns-clause-fractions
+returns-clause-fractions c = known-fractions
 
 pub returns-clause-order : goal.returns-clause-order
 returns-clause-order c = known-order

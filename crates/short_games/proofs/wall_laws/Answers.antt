@@ -6,6 +6,7 @@ use Rattle.short_games.proofs.DrawnWallLaws.{left_wall, right_wall}
 use Rattle.short_games.proofs.ExponentLaws.{over-size}
 use Rattle.short_games.proofs.WallExistenceLaws.{walls-zero, walls-exist}
 use Rattle.short_games.proofs.WallMeetingLaws.{meeting-exists}
+use Rattle.short_games.proofs.MastLaws.{mast-stands, walls-in_order, upright-or_diagonal}
 use Rattle.short_games.proofs.WallBetweenLaws.{none-between, none-bends}
 use Rattle.short_games.proofs.WallRuleLaws.{rule-is}
 use Rattle.short_games.proofs.wall_laws.Goals as goal
@@ -36,3 +37,12 @@ returns-clause-bends c = none-bends
 
 pub returns-clause-rule : goal.returns-clause-rule
 returns-clause-rule c = rule-is
+
+pub returns-clause-mast : goal.returns-clause-mast
+returns-clause-mast c = mast-stands
+
+pub returns-clause-ordered : goal.returns-clause-ordered
+returns-clause-ordered c = walls-in_order
+
+pub returns-clause-slopes : goal.returns-clause-slopes
+returns-clause-slopes c = upright-or_diagonal
