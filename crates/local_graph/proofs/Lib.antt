@@ -12,3 +12,5 @@ pub mod PathLemmas
 pub mod SearchLemmas
 pub mod BuildLemmas
 pub mod ReturnLemmas
+pub mod CaptureLemmas
+pub mod ReturnLaws

@@ -2,4 +2,5 @@ pub mod LocalGraph
 pub mod FiniteLocalPlay
 pub mod Graph
 pub mod Built
+pub mod Returns
 pub mod inner

@@ -17,4 +17,4 @@ mod soonest_cycles;
 pub use cycle::{CycleList, CycleMove};
 pub use graph::{Edge, Graph, MOST_POSITIONS};
 pub use graph_build::{GraphError, build};
-pub use laws::finite_local_play;
+pub use laws::{cycles_take_both_ways, finite_local_play};
