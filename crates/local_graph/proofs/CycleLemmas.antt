@@ -25,7 +25,7 @@ drop_map f (suc n) [] = refl
 drop_map f (suc n) (x ∷ xs) = drop_map f n xs
 
 -- one list of edges and then another
-follows_both : (edges : List (List Edge)) (i j k : ℕ) (es fs : List Edge) → Follows edges i es j → Follows edges j fs k → Follows edges i (es ++ fs) k
+pub follows_both : (edges : List (List Edge)) (i j k : ℕ) (es fs : List Edge) → Follows edges i es j → Follows edges j fs k → Follows edges i (es ++ fs) k
 follows_both edges i j k [] fs p q = subst (λ x. Follows edges x fs k) (sym p) q
 follows_both edges i j k (e ∷ es) fs (at, rest) q = (at, follows_both edges e.next j k es fs rest q)
 

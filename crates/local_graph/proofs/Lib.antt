@@ -14,3 +14,5 @@ pub mod BuildLemmas
 pub mod ReturnLemmas
 pub mod CaptureLemmas
 pub mod ReturnLaws
+pub mod TellingLemmas
+pub mod TellingSteps

@@ -7,3 +7,4 @@ pub mod Searching
 pub mod Graph
 pub mod Built
 pub mod SearchedFor
+pub mod Telling

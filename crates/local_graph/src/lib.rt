@@ -13,6 +13,7 @@ mod numbers;
 mod place_table;
 mod search;
 mod soonest_cycles;
+mod strong_components;
 
 pub use cycle::{CycleList, CycleMove};
 pub use graph::{Edge, Graph, MOST_POSITIONS};
