@@ -16,18 +16,22 @@ use Rattle.go_grid.proofs.PathLemmas.{leads_end}
 use Rattle.local_play.specs.LocalPlay.{held_at, Holds, IsLinked, IsBeside, IsLocalMove, with_stone, is_stone}
 use Rattle.go_grid.specs.Play.{IsTaken}
 use Rattle.local_graph.specs.Returns.{IsCapture}
+use Rattle.local_graph.specs.inner.Ranks.{stones_of}
 
--- how many stones of the colour there are
-abbrev pub stones_of : Colour → List Cell → ℕ
-stones_of c cells = count_by (is_of c) cells
-
-same_count : (f : Cell → Bool) (xs ys : List Cell) → length xs ≡ length ys
+-- lists that hold the same at each place, and past the end nothing that counts
+pub same_count : (f : Cell → Bool) → f cell.Empty ≡ false → (xs ys : List Cell)
     → ((q : ℕ) → f (get_or xs q cell.Empty) ≡ f (get_or ys q cell.Empty)) → count_by f xs ≡ count_by f ys
-same_count f [] [] e same = refl
-same_count f [] (y ∷ ys) e same = absurd (omega (arith, e))
-same_count f (x ∷ xs) [] e same = absurd (omega (arith, e))
-same_count f (x ∷ xs) (y ∷ ys) e same =
-    let rest = same_count f xs ys (omega (arith, e)) (λ q. same (suc q)) in
+same_count f none [] [] same = refl
+same_count f none [] (y ∷ ys) same =
+    let rest = same_count f none [] ys (λ q. same (suc q)) in
+    let first : cond {A = ℕ} (f y) 1 0 ≡ 0 = ap (λ b. cond {A = ℕ} b 1 0) (sym (same 0) ∙ none) in
+    omega (arith, rest, first, sum_by-cons (λ z. cond (f z) 1 0) y ys)
+same_count f none (x ∷ xs) [] same =
+    let rest = same_count f none xs [] (λ q. same (suc q)) in
+    let first : cond {A = ℕ} (f x) 1 0 ≡ 0 = ap (λ b. cond {A = ℕ} b 1 0) (same 0 ∙ none) in
+    omega (arith, rest, first, sum_by-cons (λ z. cond (f z) 1 0) x xs)
+same_count f none (x ∷ xs) (y ∷ ys) same =
+    let rest = same_count f none xs ys (λ q. same (suc q)) in
     let first : cond {A = ℕ} (f x) 1 0 ≡ cond {A = ℕ} (f y) 1 0 = ap (λ b. cond {A = ℕ} b 1 0) (same 0) in
     omega (arith, rest, first, sum_by-cons (λ z. cond (f z) 1 0) x xs, sum_by-cons (λ z. cond (f z) 1 0) y ys)
 
@@ -43,7 +47,7 @@ own_is colour.White cell.White e = refl
 own_is colour.White cell.Black e = cc
 own_is colour.White cell.Empty e = cc
 
-empty_isn't : (d : Colour) → is_of d cell.Empty ≡ false
+pub empty_isn't : (d : Colour) → is_of d cell.Empty ≡ false
 empty_isn't colour.Black = refl
 empty_isn't colour.White = refl
 
@@ -88,11 +92,11 @@ one_more touch cells after c p m =
         | inr off' ↦ off' ∙ sym off
       ]
     ] in
-    same_count (is_of c) after placed m.without.long same ∙ more
+    same_count (is_of c) (empty_isn't c) after placed same ∙ more
 
--- a number that rises with each move but the captures of a colour: the other colour's stones, and then its own
-abbrev pub weight : ℕ → Colour → List Cell → ℕ
-weight room c cells = stones_of (other c) cells * (room + 1) + stones_of c cells
+-- a number that rises with each move but the captures of a colour
+abbrev pub weight_in : ℕ → Colour → List Cell → ℕ
+weight_in room c cells = stones_of (other c) cells * (room + 1) + stones_of c cells
 
 is_foe : (c d : Colour) → (d ≡ c) ⊎ (d ≡ other c)
 is_foe colour.Black colour.Black = inl refl
@@ -100,13 +104,14 @@ is_foe colour.Black colour.White = inr refl
 is_foe colour.White colour.Black = inr refl
 is_foe colour.White colour.White = inl refl
 
-pub more_or_capture : (touch : List Touch) (cells after : List Cell) (c d : Colour) (p : ℕ) → IsLocalMove touch cells d p after
-    → ((d ≡ c) × IsCapture cells after) ⊎ (weight (length cells) c cells < weight (length cells) c after)
-more_or_capture touch cells after c d p m = elim (is_foe c d) [
+pub more_or_capture : (touch : List Touch) (cells after : List Cell) (c d : Colour) (p room : ℕ) → length cells ≤ room
+    → IsLocalMove touch cells d p after
+    → ((d ≡ c) × IsCapture cells after) ⊎ (weight_in room c cells < weight_in room c after)
+more_or_capture touch cells after c d p room fits m = elim (is_foe c d) [
   | inr foe ↦
       let up = subst (λ x. stones_of x after ≡ stones_of x cells + 1) foe (one_more touch cells after d p m) in
       let few = count_by-le-length (is_of c) cells in
-      inr (further (stones_of (other c) cells) (stones_of (other c) after) (stones_of c cells) (stones_of c after) (length cells) up few)
+      inr (further (stones_of (other c) cells) (stones_of (other c) after) (stones_of c cells) (stones_of c after) room up (omega (arith, few, fits)))
   | inl own ↦
       let up = subst (λ x. stones_of x after ≡ stones_of x cells + 1) own (one_more touch cells after d p m) in
       elim (cases_lt (count_by is_stone after) (count_by is_stone cells + 1)) [
@@ -116,7 +121,7 @@ more_or_capture touch cells after c d p m = elim (is_foe c d) [
             inl (own, n)
         | inr le ↦
             let foes : stones_of (other c) cells ≤ stones_of (other c) after = omega (arith, le, up, both_colours c cells, both_colours c after) in
-            inr (nearer (stones_of (other c) cells) (stones_of (other c) after) (stones_of c cells) (stones_of c after) (length cells) up foes)
+            inr (nearer (stones_of (other c) cells) (stones_of (other c) after) (stones_of c cells) (stones_of c after) room up foes)
       ]
 ]
   where

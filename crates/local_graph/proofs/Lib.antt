@@ -16,3 +16,5 @@ pub mod CaptureLemmas
 pub mod ReturnLaws
 pub mod TellingLemmas
 pub mod TellingSteps
+pub mod RankLemmas
+pub mod ReturnGraphLemmas

@@ -13,20 +13,20 @@ use Rattle.go_grid.proofs.PlayLemmas.{long_after}
 use Rattle.local_graph.specs.declared.cycle.CycleMove.{CycleMove}
 use Rattle.local_graph.specs.LocalGraph.{Plays, IsReachable}
 use Rattle.local_graph.specs.Returns.{IsCapture, IsReturningCapture, HasCapture, HasReturningCaptures, CyclesTakeBothWays, ShortBetweenCaptures}
-use Rattle.local_graph.proofs.CaptureLemmas.{weight, more_or_capture}
+use Rattle.local_graph.proofs.CaptureLemmas.{weight_in, more_or_capture}
 use Rattle.local_graph.proofs.FiniteLemmas.{few_among}
 use Rattle.local_graph.proofs.PlayLemmas.{plays_more, plays_both, one_after}
 
 -- moves with no capture by the colour lead to no less weight
 pub capture_or_more : (touch : List Touch) (c : Colour) (from to : List Cell) (ms : List CycleMove) → Plays touch from ms to
-    → HasCapture touch c from ms ⊎ (weight (length from) c from + length ms ≤ weight (length from) c to)
+    → HasCapture touch c from ms ⊎ (weight_in (length from) c from + length ms ≤ weight_in (length from) c to)
 capture_or_more touch c from to [] h = inr (rw h (omega arith))
-capture_or_more touch c from to (m ∷ ms) (next, move, rest) = elim (more_or_capture touch from next c m.colour m.place move) [
+capture_or_more touch c from to (m ∷ ms) (next, move, rest) = elim (more_or_capture touch from next c m.colour m.place (length from) (omega arith) move) [
   | inl takes ↦ inl (next, move, inl takes)
   | inr more ↦ elim (capture_or_more touch c next to ms rest) [
     | inl takes ↦ inl (next, move, inr takes)
     | inr more' ↦
-        let more'' = subst (λ n. weight n c next + length ms ≤ weight n c to) (long_after move) more' in
+        let more'' = subst (λ n. weight_in n c next + length ms ≤ weight_in n c to) (long_after move) more' in
         inr (omega (arith, more, more''))
   ]
 ]

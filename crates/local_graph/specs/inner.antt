@@ -8,3 +8,5 @@ pub mod Graph
 pub mod Built
 pub mod SearchedFor
 pub mod Telling
+pub mod Ranks
+pub mod MadeWithReturns

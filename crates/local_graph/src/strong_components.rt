@@ -28,7 +28,7 @@ pub(crate) struct Turn {
     left: usize,
 }
 
-/// A search by depth for strong components along a path (Gabow 2000).
+/// A search by depth for strong components, with a list of those so far along the path.
 #[derive(Drop)]
 struct Search {
     path: Vec<Turn>,
