@@ -90,7 +90,7 @@ few_positions touch opening found different reach =
         rw is (subst (λ n. ternary cells < 3 ^ n) full (ternary_small cells))
 
 -- the two parts of a list of moves that comes back make a cycle
-cycle_of : (touch : List Touch) (opening p : List Cell) (front bs : List CycleMove) → Plays touch opening front p → Plays touch p bs p
+pub cycle_of : (touch : List Touch) (opening p : List Cell) (front bs : List CycleMove) → Plays touch opening front p → Plays touch p bs p
     → 0 < length bs → IsCycle touch opening (front ++ bs) (length front)
 cycle_of touch opening p front bs first second some = record {
   before_end = omega (arith, length-append front bs);

@@ -1,5 +1,5 @@
 -- Places sorted by rank are an order with ends first.
-use Rattle.std.proofs.Common.{◌≡◌, ◌≢◌, ℕ, ◌<◌, ◌≤◌, ◌⊎◌, inl, inr, false, arith, rules, sym, ap, ◌∙◌, List, map, length, get_or, subst, nat_eq, Less, Equal}
+use Rattle.std.proofs.Common.{◌≡◌, ◌≢◌, ℕ, ◌<◌, ◌≤◌, ◌⊎◌, inl, inr, false, arith, rules, sym, ap, ◌∙◌, List, map, length, get_or, subst, nat_eq, Less, Equal, Some}
 use Rattle.std.specs.List.{AllPairs, All, Contains, IsDistinct}
 use Rattle.std.specs.List.Sorted.{IsPermutation, IsSorted}
 use Rattle.std.specs.Ordering.{nat_cmp, is_lt}
@@ -104,7 +104,7 @@ module _ (c : Colour) (positions components : List ℕ) (ranks sorted : List Ran
       (k, omega (arith, short, order_long), at_place k i short ∙ ap (λ y. y.place) is ∙ (each_rank i no_rank inside).place_is)
 
   pub sorted_order : (edges : List (List Edge)) → AllFallOrRise c positions components edges
-      → IsOrderBetweenCaptures c edges components (map (λ x. x.place) sorted)
+      → IsOrderBetweenCaptures c edges (Some components) (map (λ x. x.place) sorted)
   sorted_order edges f = record {
     once = once;
     inside = λ k lt.

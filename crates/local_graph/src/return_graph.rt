@@ -1,75 +1,73 @@
 //! Graphs of regions in which moves may return: which of them do, and for each colour an order with ends first in which its
 //! returning captures are left out.
 
-ghost use Rattle.std.specs.Prelude.{ℕ, ◌≡◌, ◌+◌, ◌^◌, ◌<◌, ◌≤◌, ◌↔◌, length, slice_index, slice_index_or, [], IsTrue, IfOk};
+ghost use Rattle.std.specs.Prelude.{◌≡◌, ◌+◌, ◌^◌, ◌<◌, ◌≤◌, ◌↔◌, length, false, None, IsTrue, IfOk};
 ghost use Rattle.local_graph.specs.BuiltWithReturns.{BuiltWithReturns};
 ghost use Rattle.local_graph.specs.ReturnGraph.{StaysIn, IsReturningCaptureAt, order_for};
 ghost use Rattle.local_graph.specs.inner.Built.{IsRooted};
 ghost use Rattle.local_graph.specs.inner.MadeWithReturns.{IsMadeOf};
 
 use crate::edge_lists::EdgeLists;
-use crate::graph::Edge;
+use crate::graph::{Edge, Graph};
 use crate::graph_build::{GraphError, explore, positions_of};
 use crate::place_table::PlaceTable;
 use crate::return_orders::order_between_captures;
+use crate::search::order_from_opening;
 use crate::strong_components::strong_components;
 use go_grid::{Colour, Region};
-use local_play::{Local, Steps};
+use local_play::Steps;
 use std::alloc::{AllocError, Global};
 use std::marker::Model;
 use std::sync::ledger::Ledger;
 
-/// All positions that local moves reach from an opening, their moves, and which of these return.
+/// What tells which moves return, where there is a cycle.
 #[derive(Debug, Drop)]
-pub struct ReturnGraph {
-    positions: Vec<u64>,
-    edges: EdgeLists,
+pub(crate) struct Returning {
     /// By position the number of its component.
     components: Vec<usize>,
-    black_order: Vec<usize>,
     white_order: Vec<usize>,
 }
 
+/// All positions that local moves reach from an opening, their moves, and which of these return.
+#[derive(Debug, Drop)]
+pub struct ReturnGraph {
+    /// With the order for Black, which is one for White too where no move returns.
+    graph: Graph,
+    returning: Option<Returning>,
+}
+
 impl Model for ReturnGraph {
-    ghost use Rattle.std.specs.Prelude.{◌≡◌, length};
     ghost use Rattle.local_graph.specs.ReturnGraph.{ReturnGraph};
+    ghost use Rattle.local_graph.specs.inner.MadeWithReturns.{components_in, white_order_in, AreBeside};
 
     ghost Value = { ReturnGraph };
 
     ghost view = { λ g. record {
-      positions = g.positions.items;
-      edges = g.edges;
-      components = g.components.items;
-      black_order = g.black_order.items;
-      white_order = g.white_order.items;
+      positions = g.graph.positions;
+      edges = g.graph.edges;
+      components = components_in g.returning;
+      black_order = g.graph.order;
+      white_order = white_order_in g.graph.order g.returning;
     } };
 
-    ghost invariant = { λ g. (length g.edges ≡ length g.positions.items)
-        × (length g.components.items ≡ length g.positions.items) };
+    ghost invariant = { λ g. AreBeside g.returning g.graph.positions };
 }
 
 impl ReturnGraph {
-    /// The number of positions.
-    pub fn len(&self) -> usize
-        ensures { result ≡ length self.now.positions }
+    /// The graph with its order for Black. Where there is no cycle, each move leads to an earlier place of that order.
+    pub fn graph(&self) -> &Graph
+        ensures positions { result.now.positions ≡ self.now.positions }
+        ensures edges { result.now.edges ≡ self.now.edges }
+        ensures order { result.now.order ≡ self.now.black_order }
     {
-        self.positions.len()
+        &self.graph
     }
 
-    /// The position at a place. The opening stands at 0.
-    pub fn position(&self, place: usize) -> Local
-        requires { place < length self.now.positions }
-        ensures { result ≡ slice_index self.now.positions place }
+    /// Whether there is a cycle.
+    pub fn has_cycle(&self) -> bool
+        ensures { (result ≡ false) ↔ (self.now.components ≡ None) }
     {
-        Local(self.positions[place])
-    }
-
-    /// The moves of the position at a place, Black's by place and then White's.
-    pub fn edges(&self, place: usize) -> &[Edge]
-        requires { place < length self.now.positions }
-        ensures { result.now ≡ slice_index_or self.now.edges place [] }
-    {
-        self.edges.at(place)
+        self.returning.is_some()
     }
 
     /// Whether a move of the position at a place returns: whether local moves lead back from where it leads to.
@@ -78,7 +76,10 @@ impl ReturnGraph {
         requires next { edge.now.next < length self.now.positions }
         ensures { IsTrue result ↔ StaysIn self.now.components place edge.now }
     {
-        self.components[edge.next] == self.components[place]
+        match &self.returning {
+            Some(returning) => returning.components[edge.next] == returning.components[place],
+            None => false,
+        }
     }
 
     /// Whether a move of the position at a place is a capture by the colour that returns.
@@ -94,9 +95,9 @@ impl ReturnGraph {
     pub fn order(&self, colour: Colour) -> &[usize]
         ensures { result.now ≡ order_for self.now colour }
     {
-        match colour {
-            Colour::Black => &self.black_order,
-            Colour::White => &self.white_order,
+        match (colour, &self.returning) {
+            (Colour::White, Some(returning)) => &returning.white_order,
+            _ => self.graph.order(),
         }
     }
 }
@@ -111,15 +112,21 @@ fn tell_returns(
     requires beside { length edges ≡ length positions.items }
     ensures { IfOk result (IsMadeOf positions.items edges) }
 {
+    if let Some(order) = order_from_opening(alloc, &edges)? {
+        return Ok(ReturnGraph {
+            graph: Graph::new(positions, edges, order),
+            returning: None,
+        });
+    }
     let components = strong_components(alloc, &edges)?;
     let black_order = order_between_captures(alloc, &positions, &components, Colour::Black)?;
     let white_order = order_between_captures(alloc, &positions, &components, Colour::White)?;
     Ok(ReturnGraph {
-        positions,
-        edges,
-        components,
-        black_order,
-        white_order,
+        graph: Graph::new(positions, edges, black_order),
+        returning: Some(Returning {
+            components,
+            white_order,
+        }),
     })
 }
 

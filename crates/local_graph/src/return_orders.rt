@@ -1,6 +1,6 @@
 //! Orders of positions with ends first, where the returning captures of a colour are left out.
 
-ghost use Rattle.std.specs.Prelude.{◌≡◌, ◌+◌, ◌*◌, ◌<◌, ◌≤◌, List, length, map, IfOk};
+ghost use Rattle.std.specs.Prelude.{◌≡◌, ◌+◌, ◌*◌, ◌<◌, ◌≤◌, List, length, map, IfOk, Some};
 ghost use Rattle.go_grid.specs.declared.grid.Cell.{Cell};
 ghost use Rattle.go_grid.specs.Stones.{is_of};
 ghost use Rattle.local_play.specs.Packed.{pack};
@@ -102,7 +102,7 @@ pub(crate) fn order_between_captures(
     requires { length components.now ≡ length positions.now }
     ensures { IfOk result (λ order. (edges : List (List Edge))
         → AllFallOrRise colour positions.now components.now edges
-        → IsOrderBetweenCaptures colour edges components.now order.items) }
+        → IsOrderBetweenCaptures colour edges (Some components.now) order.items) }
 {
     let mut ranks = ranks(alloc, positions, components, colour)?;
     ranks.sort_unstable();
