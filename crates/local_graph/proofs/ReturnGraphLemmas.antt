@@ -7,11 +7,14 @@ use Rattle.go_grid.specs.declared.grid.Cell.{Cell}
 use Rattle.go_grid.specs.declared.grid.Colour.{Colour}
 use Rattle.go_grid.specs.declared.grid.Colour.TheVariants.{Black, White}
 use Rattle.go_grid.specs.declared.region.Touch.{Touch}
+use Rattle.local_play.specs.LocalPlay.{IsNumberTaken}
+use Rattle.local_play.specs.Packed.{pack}
 use Rattle.local_play.proofs.PackLemmas.{pack_same}
 use Rattle.local_graph.specs.declared.graph.Edge.{Edge}
 use Rattle.local_graph.specs.FiniteLocalPlay.{HasNoCycle}
 use Rattle.local_graph.specs.LocalGraph.{IsGraph, IsOrderOfPlaces, IsReachable, MoreThan, Plays}
-use Rattle.local_graph.specs.ReturnGraph.{ReturnGraph, order_for, TellReturns, IsOrderBetweenCaptures}
+use Rattle.local_graph.specs.Returns.{IsReturningCapture}
+use Rattle.local_graph.specs.ReturnGraph.{ReturnGraph, order_for, TellReturns, IsReturningCaptureAt, IsOrderBetweenCaptures}
 use Rattle.local_graph.specs.inner.Built.{Follows, move_of}
 use Rattle.local_graph.specs.inner.MadeWithReturns.{AreTold, HasWayBack, IsMadeOf}
 use Rattle.local_graph.specs.inner.Searching.{nodes_of}
@@ -91,6 +94,22 @@ none_told touch opening positions edges g none i e from to lt among reach reach'
         (sym is' ∙ s.is) in
         none (reach.0 ++ move_of e ∷ ms) (length reach.0)
         (cycle_of touch opening from reach.0 (move_of e ∷ ms) reach.1 (next, move, subst (λ x. Plays touch x ms from) one plays) (omega arith))
+
+-- an edge is a returning capture exactly where its move is one
+pub capture_at : (touch : List Touch) (opening : List Cell) (positions : List ℕ) (edges : List (List Edge)) → IsGraph touch opening positions edges
+    → (components : Option (List ℕ)) → TellReturns touch opening positions edges components → (c : Colour) (i : ℕ) (e : Edge) (from to : List Cell)
+    → i < length positions → Contains (get_or edges i []) e → IsReachable touch opening from → IsReachable touch opening to
+    → get_or positions i 0 ≡ pack from → get_or positions e.next 0 ≡ pack to
+    → IsReturningCaptureAt c components i e ↔ IsReturningCapture touch c from (move_of e) to
+capture_at touch opening positions edges g components tell c i e from to lt among reach reach' is is' =
+    let (next, move, s, taken) = edge_plays touch opening positions edges g i from e (record { inside = lt; reach = reach; is = is }) among in
+    let one = pack_same next to (plays_long touch opening next s.reach.0 s.reach.1 ∙ sym (plays_long touch opening to reach'.0 reach'.1))
+    (sym s.is ∙ is') in
+    let takes = subst (λ x. IsNumberTaken from x e.taken) one taken in
+    let same = tell i e from to lt among reach reach' is is' in (
+      λ (own, some, stays). (own, (e.taken, some, takes), same.0 stays),
+      λ (own, (n, some, count), returns). (own, omega (arith, some, count, takes), same.1 returns),
+    )
 
 -- a path that comes back is a cycle
 way_back : (touch : List Touch) (opening : List Cell) (positions : List ℕ) (edges : List (List Edge)) → IsGraph touch opening positions edges

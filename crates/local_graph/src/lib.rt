@@ -1,5 +1,5 @@
 //! Graphs of local positions: all positions that local play in a region can reach, and an order of them with ends first,
-//! or a cycle.
+//! or a cycle. Or, also where there is a cycle, which moves return, and an order for each colour without its captures that do.
 #![tactic(auto)]
 
 mod breadth;

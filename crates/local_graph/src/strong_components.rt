@@ -30,7 +30,7 @@ pub(crate) struct Turn {
 
 /// A search by depth for strong components, with a list of those so far along the path.
 #[derive(Drop)]
-struct Search {
+struct ComponentSearch {
     path: Vec<Turn>,
     /// The positions met whose components aren't told yet.
     waiting: Vec<usize>,
@@ -69,7 +69,7 @@ fn tell(waiting: &mut Vec<usize>, marks: &mut [Mark], at: usize, number: usize)
     }
 }
 
-impl Search {
+impl ComponentSearch {
     /// Meets a position.
     fn enter(&mut self, edges: &EdgeLists, node: usize) -> Result<(), AllocError>
         requires inside { node < length edges.now }
@@ -99,12 +99,12 @@ impl Search {
     }
 
     /// A search that has met the opening.
-    fn begin(alloc: Global, edges: &EdgeLists) -> Result<Search, AllocError>
+    fn begin(alloc: Global, edges: &EdgeLists) -> Result<ComponentSearch, AllocError>
         requires { IsRooted edges.now }
         ensures { IfOk result (λ s. Telling edges.now s.path.items s.waiting.items s.starts.items
             s.marks.items s.told) }
     {
-        let mut search = Search {
+        let mut search = ComponentSearch {
             path: Vec::new(alloc),
             waiting: Vec::new(alloc),
             starts: Vec::new(alloc),
@@ -216,7 +216,7 @@ pub(crate) fn strong_components(alloc: Global, edges: &EdgeLists) -> Result<Vec<
     requires { IsRooted edges.now }
     ensures { IfOk result (λ numbers. AreComponents edges.now numbers.items) }
 {
-    let mut search = Search::begin(alloc, edges)?;
+    let mut search = ComponentSearch::begin(alloc, edges)?;
     'searching: while search.step(edges)? {}
     numbers_of(alloc, &search.marks)
 }

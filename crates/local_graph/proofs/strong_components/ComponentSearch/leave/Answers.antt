@@ -2,7 +2,7 @@ use Rattle.std.proofs.Common.{◌∙◌, ◌-◌, ◌++◌, ◌∷◌, [], lengt
 use Rattle.local_graph.specs.inner.Telling.{TellsFrom}
 use Rattle.local_graph.proofs.SearchLemmas.{ends_in}
 use Rattle.local_graph.proofs.TellingSteps.{said_inside, said_inner, said_apart, said_last, front_of, lent_back, none_there}
-use Rattle.local_graph.proofs.strong_components.Search.leave.Goals as goal
+use Rattle.local_graph.proofs.strong_components.ComponentSearch.leave.Goals as goal
 
 pub returns-in_default-clause-under_way : goal.returns-in_default-clause-under_way
 returns-in_default-clause-under_way c =

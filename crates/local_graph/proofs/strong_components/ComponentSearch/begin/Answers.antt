@@ -1,5 +1,5 @@
 use Rattle.local_graph.proofs.TellingSteps.{said_begin}
-use Rattle.local_graph.proofs.strong_components.Search.begin.Goals as goal
+use Rattle.local_graph.proofs.strong_components.ComponentSearch.begin.Goals as goal
 
 pub returns : goal.returns
 returns c =

@@ -1,6 +1,6 @@
 use Rattle.std.proofs.Common.{◌∙◌, arith}
 use Rattle.local_graph.proofs.TellingSteps.{said_inside, said_left, said_next, said_told, said_joined, said_entered}
-use Rattle.local_graph.proofs.strong_components.Search.follow.Goals as goal
+use Rattle.local_graph.proofs.strong_components.ComponentSearch.follow.Goals as goal
 
 pub index-requires : goal.index-requires
 index-requires c =
