@@ -54,7 +54,7 @@ few_points columns rows points cells touch wide high r =
 module _ (touch : List Touch) (opening : List Cell) (positions : List ℕ) (edges : List (List Edge))
     (g : IsGraph touch opening positions edges) where
   -- moves lead along edges
-  follow_moves : (i : ℕ) (p to : List Cell) (ms : List CycleMove) → i < length positions → IsReachable touch opening p
+  pub follow_moves : (i : ℕ) (p to : List Cell) (ms : List CycleMove) → i < length positions → IsReachable touch opening p
       → get_or positions i 0 ≡ pack p → Plays touch p ms to
       → (j : ℕ) × (es : List Edge) × Follows edges i es j × (j < length positions) × (get_or positions j 0 ≡ pack to)
   follow_moves i p to [] lt reach is h = (i, [], refl, lt, is ∙ ap pack h)
@@ -64,7 +64,7 @@ module _ (touch : List Touch) (opening : List Cell) (positions : List ℕ) (edge
       (reach.0 ++ m ∷ [], plays_more touch opening p next reach.0 m reach.1 move) w.leads rest in
       (more.0, w.e ∷ more.1, (w.among, more.2), more.3, more.4)
 
-  edge_inside : (i : ℕ) (e : Edge) → IsEdgeAt edges i e → e.next < length edges
+  pub edge_inside : (i : ℕ) (e : Edge) → IsEdgeAt edges i e → e.next < length edges
   edge_inside i e (k, lt, at) =
       let short : i < length positions = omega (arith, node_inside edges i k lt, g.beside) in
       let w = g.reachable (get_or positions i 0) (Contains-get_or positions i 0 short) in

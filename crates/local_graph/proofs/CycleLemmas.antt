@@ -4,7 +4,7 @@ use Rattle.std.proofs.lemmas.List.{get_or_default, length-map, take-append-drop}
 use Rattle.go_grid.specs.declared.grid.Cell.{Cell}
 use Rattle.go_grid.specs.declared.region.Touch.{Touch}
 use Rattle.local_play.specs.declared.local_move.LocalMove.{LocalMove}
-use Rattle.local_play.specs.LocalPlay.{IsLocalMove}
+use Rattle.local_play.specs.LocalPlay.{IsLocalMove, IsNumberTaken}
 use Rattle.local_play.specs.Packed.{pack}
 use Rattle.local_play.proofs.PackLemmas.{pack_same}
 use Rattle.local_graph.specs.declared.cycle.CycleMove.{CycleMove}
@@ -25,7 +25,7 @@ drop_map f (suc n) [] = refl
 drop_map f (suc n) (x ∷ xs) = drop_map f n xs
 
 -- one list of edges and then another
-follows_both : (edges : List (List Edge)) (i j k : ℕ) (es fs : List Edge) → Follows edges i es j → Follows edges j fs k → Follows edges i (es ++ fs) k
+pub follows_both : (edges : List (List Edge)) (i j k : ℕ) (es fs : List Edge) → Follows edges i es j → Follows edges j fs k → Follows edges i (es ++ fs) k
 follows_both edges i j k [] fs p q = subst (λ x. Follows edges x fs k) (sym p) q
 follows_both edges i j k (e ∷ es) fs (at, rest) q = (at, follows_both edges e.next j k es fs rest q)
 
@@ -42,15 +42,15 @@ one_end touch from a b (m ∷ ms) (x, mx, px) (y, my, py) =
     one_end touch y a b ms (subst (λ z. Plays touch z ms a) (one_after touch from x y m.colour m.place mx my) px) py
 
 -- the position at a place of the graph
-record Stands (touch : List Touch) (opening : List Cell) (positions : List ℕ) (i : ℕ) (p : List Cell) : Type 0 where
-  inside : i < length positions
-  reach : IsReachable touch opening p
-  is : get_or positions i 0 ≡ pack p
+pub record Stands (touch : List Touch) (opening : List Cell) (positions : List ℕ) (i : ℕ) (p : List Cell) : Type 0 where
+  pub inside : i < length positions
+  pub reach : IsReachable touch opening p
+  pub is : get_or positions i 0 ≡ pack p
 
--- an edge is a legal move
-edge_plays : (touch : List Touch) (opening : List Cell) (positions : List ℕ) (edges : List (List Edge)) → IsGraph touch opening positions edges
+-- an edge is a legal move that takes as many stones
+pub edge_plays : (touch : List Touch) (opening : List Cell) (positions : List ℕ) (edges : List (List Edge)) → IsGraph touch opening positions edges
     → (i : ℕ) (p : List Cell) (e : Edge) → Stands touch opening positions i p → IsEdgeAt edges i e
-    → (next : List Cell) × IsLocalMove touch p e.colour e.place next × Stands touch opening positions e.next next
+    → (next : List Cell) × IsLocalMove touch p e.colour e.place next × Stands touch opening positions e.next next × IsNumberTaken p next e.taken
 edge_plays touch opening positions edges g i p e s (k, lt, at) =
     let h = g.moves i p s.inside s.reach s.is in
     let none : LocalMove = record { colour = e.colour; place = 0; next = 0; taken = 0 } in
@@ -67,9 +67,10 @@ edge_plays touch opening positions edges g i p e s (k, lt, at) =
         reach = (s.reach.0 ++ move_of e ∷ [], plays_more touch opening p legal.after s.reach.0 (move_of e) s.reach.1 move);
         is = w.next ∙ legal.next;
       },
+      subst (IsNumberTaken p legal.after) (sym w.taken) legal.taken,
     )
 
-edges_play : (touch : List Touch) (opening : List Cell) (positions : List ℕ) (edges : List (List Edge)) → IsGraph touch opening positions edges
+pub edges_play : (touch : List Touch) (opening : List Cell) (positions : List ℕ) (edges : List (List Edge)) → IsGraph touch opening positions edges
     → (i j : ℕ) (p : List Cell) (es : List Edge) → Stands touch opening positions i p → Follows edges i es j
     → (q : List Cell) × Plays touch p (map move_of es) q × Stands touch opening positions j q
 edges_play touch opening positions edges g i j p [] s f = (p, refl, subst (λ x. Stands touch opening positions x p) f s)

@@ -1,5 +1,5 @@
 -- Local play without a cycle is short.
-use Rattle.std.proofs.Common.{◌≡◌, ◌≢◌, ℕ, ◌+◌, ◌*◌, ◌^◌, ◌<◌, inl, inr, suc, zero, arith, refl, sym, ap, ◌∙◌, List, [], ◌∷◌, ◌++◌, map, true, false, length, get_or, subst, length-append, nat_eq}
+use Rattle.std.proofs.Common.{◌≡◌, ◌≢◌, ℕ, ◌+◌, ◌*◌, ◌^◌, ◌<◌, ◌≤◌, inl, inr, suc, zero, arith, refl, sym, ap, ◌∙◌, List, [], ◌∷◌, ◌++◌, map, true, false, length, get_or, subst, length-append, nat_eq}
 use Rattle.std.specs.List.{AllPairs, Contains, IsDistinct, list_any}
 use Rattle.std.proofs.Math.Nat.{pow-suc}
 use Rattle.std.proofs.Math.Seq.{take-append_seam, drop-append_seam}
@@ -90,7 +90,7 @@ few_positions touch opening found different reach =
         rw is (subst (λ n. ternary cells < 3 ^ n) full (ternary_small cells))
 
 -- the two parts of a list of moves that comes back make a cycle
-cycle_of : (touch : List Touch) (opening p : List Cell) (front bs : List CycleMove) → Plays touch opening front p → Plays touch p bs p
+pub cycle_of : (touch : List Touch) (opening p : List Cell) (front bs : List CycleMove) → Plays touch opening front p → Plays touch p bs p
     → 0 < length bs → IsCycle touch opening (front ++ bs) (length front)
 cycle_of touch opening p front bs first second some = record {
   before_end = omega (arith, length-append front bs);
@@ -150,28 +150,30 @@ plays_short touch opening none ms end h =
     let few = few_positions touch opening (trace touch opening ms end h) different (trace_reached touch opening ms end h) in
     omega (arith, few, trace_long touch opening ms end h)
 
-pub short_play : (touch : List Touch) (opening : List Cell) → ShortPlay touch opening
-short_play touch opening none found all ms end h =
-    let xs = trace touch opening ms end h in
-    let reach = λ (x : List Cell) (among : Contains xs x). trace_reached touch opening ms end h x among in
+-- a list that has every reachable position has as many as different ones that are reachable
+pub few_among : (touch : List Touch) (opening : List Cell) (found xs : List (List Cell))
+    → ((cells : List Cell) → IsReachable touch opening cells → Contains found cells) → AllPairs (λ a b. a ≢ b) xs
+    → ((cells : List Cell) → Contains xs cells → IsReachable touch opening cells) → length xs ≤ length found
+few_among touch opening found xs all different reach =
     let long = λ (x : List Cell) (among : Contains xs x). let r = reach x among in plays_long touch opening x r.0 r.1 in
-    let once = distinct ternary ternary_same (length opening) xs (trace_different touch opening opening [] ms end none refl h) long in
+    let once = distinct ternary ternary_same (length opening) xs different long in
     let within = length-le_from_is_member nat_eq_equiv (map ternary xs) (map ternary found) once
-    (λ q is. member q found (subset xs found reach (λ x r. all x r) q is)) in
-    omega (arith, within, length-map xs ternary, length-map found ternary, trace_long touch opening ms end h)
+    (λ q is. list_any-from_Contains nat_eq_equiv q (map ternary found) (subset q is)) in
+    omega (arith, within, length-map xs ternary, length-map found ternary)
   where
-    member : (q : ℕ) (ys : List (List Cell)) → Contains (map ternary ys) q → list_any (nat_eq q) (map ternary ys) ≡ true
-    member q ys among = list_any-from_Contains nat_eq_equiv q (map ternary ys) among
-
-    subset : (xs ys : List (List Cell)) → ((x : List Cell) → Contains xs x → IsReachable touch opening x)
-        → ((x : List Cell) → IsReachable touch opening x → Contains ys x)
-        → (q : ℕ) → list_any (nat_eq q) (map ternary xs) ≡ true → Contains (map ternary ys) q
-    subset xs ys reach all q is =
+    subset : (q : ℕ) → list_any (nat_eq q) (map ternary xs) ≡ true → Contains (map ternary found) q
+    subset q is =
         let w = Contains-from_any {eq = nat_eq} eqb-true q (map ternary xs) is in
         let inside : w.0 < length xs = omega (arith, w.1, length-map xs ternary) in
         let cells = get_or xs w.0 [] in
         let number : q ≡ ternary cells = sym w.2 ∙ at_map ternary xs w.0 q [] inside in
         let there = all cells (reach cells (Contains-get_or xs w.0 [] inside)) in
-        let inside' : there.0 < length (map ternary ys) = omega (arith, there.1, length-map ys ternary) in
-        let at : get_or (map ternary ys) there.0 q ≡ q = at_map ternary ys there.0 q cells there.1 ∙ ap ternary there.2 ∙ sym number in
+        let inside' : there.0 < length (map ternary found) = omega (arith, there.1, length-map found ternary) in
+        let at : get_or (map ternary found) there.0 q ≡ q = at_map ternary found there.0 q cells there.1 ∙ ap ternary there.2 ∙ sym number in
         (there.0, inside', at)
+
+pub short_play : (touch : List Touch) (opening : List Cell) → ShortPlay touch opening
+short_play touch opening none found all ms end h =
+    let xs = trace touch opening ms end h in
+    let few = few_among touch opening found xs all (trace_different touch opening opening [] ms end none refl h) (trace_reached touch opening ms end h) in
+    omega (arith, few, trace_long touch opening ms end h)

@@ -12,3 +12,9 @@ pub mod PathLemmas
 pub mod SearchLemmas
 pub mod BuildLemmas
 pub mod ReturnLemmas
+pub mod CaptureLemmas
+pub mod ReturnLaws
+pub mod TellingLemmas
+pub mod TellingSteps
+pub mod RankLemmas
+pub mod ReturnGraphLemmas

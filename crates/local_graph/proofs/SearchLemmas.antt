@@ -312,14 +312,14 @@ search_end E visits order r s = record {
         let short : w.0 < length order = omega (arith, w.1) in
         reach e.next j es (subst (Contains order) w.2 (Contains-get_or order w.0 0 short)) f.1
 
--- a frame in place of the last
-pub frame_there : (front path : List Frame) (f g : Frame) (k : ℕ) → path ≡ front ++ f ∷ [] → k + 1 ≡ length path
+-- an item in place of the last
+pub frame_there : {X : Type 0} (front path : List X) (f g : X) (k : ℕ) → path ≡ front ++ f ∷ [] → k + 1 ≡ length path
     → set path k g ≡ front ++ g ∷ []
 frame_there front path f g k ends at =
     let here : k ≡ length front = omega (arith, at, ap length ends, length_push front f) in
     ap (λ l. set l k g) ends ∙ ap (λ j. set (front ++ f ∷ []) j g) here ∙ set-append_seam front f [] g
 
-pub path_some : (front path : List Frame) (f : Frame) → path ≡ front ++ f ∷ [] → 0 < length path
+pub path_some : {X : Type 0} (front path : List X) (f : X) → path ≡ front ++ f ∷ [] → 0 < length path
 path_some front path f ends = omega (arith, ap length ends, length_push front f)
 
 -- the same in the words of the code, whose path is a list that ends in the frame
@@ -385,8 +385,8 @@ module _ (E : List (List Edge)) (whole : List Frame) (f : Frame) (visits : List 
                 (enter_edge_less E ends.0 f visits order said g w h next (seen_is New on) seen_inside refl fits),
           )
 
--- what `last` answers is the path's last frame
-pub ends_in : (path now : List Frame) (f : Frame) → now ≡ path → slice_get now (length now - 1) ≡ Some f
+-- what `last` answers is the list's last item
+pub ends_in : {X : Type 0} (path now : List X) (f : X) → now ≡ path → slice_get now (length now - 1) ≡ Some f
     → path ≡ take (length path - 1) path ++ f ∷ []
 ends_in path now f same e =
     let e' : slice_get path (length path - 1) ≡ Some f = subst (λ l. slice_get l (length l - 1) ≡ Some f) same e in

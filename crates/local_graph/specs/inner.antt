@@ -7,3 +7,6 @@ pub mod Searching
 pub mod Graph
 pub mod Built
 pub mod SearchedFor
+pub mod Telling
+pub mod Ranks
+pub mod MadeWithReturns

@@ -219,7 +219,7 @@ pub(crate) fn explore<L: Ledger>(
 }
 
 /// The positions found, as a list alone: what finds their places is given back.
-fn positions_of(table: PlaceTable) -> Vec<u64>
+pub(crate) fn positions_of(table: PlaceTable) -> Vec<u64>
     ensures { result.items ≡ table.positions.items }
 {
     table.positions

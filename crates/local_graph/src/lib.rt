@@ -1,5 +1,5 @@
 //! Graphs of local positions: all positions that local play in a region can reach, and an order of them with ends first,
-//! or a cycle.
+//! or a cycle. Or, also where there is a cycle, which moves return, and an order for each colour without its captures that do.
 #![tactic(auto)]
 
 mod breadth;
@@ -11,10 +11,14 @@ mod graph_build;
 mod laws;
 mod numbers;
 mod place_table;
+mod return_graph;
+mod return_orders;
 mod search;
 mod soonest_cycles;
+mod strong_components;
 
 pub use cycle::{CycleList, CycleMove};
 pub use graph::{Edge, Graph, MOST_POSITIONS};
 pub use graph_build::{GraphError, build};
-pub use laws::finite_local_play;
+pub use laws::{cycles_take_both_ways, finite_local_play};
+pub use return_graph::{ReturnGraph, build_with_returns};

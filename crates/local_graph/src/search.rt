@@ -1,7 +1,9 @@
 //! Depth-first search: an order with ends first, or a cycle.
 
-ghost use Rattle.std.specs.Prelude.{◌≡◌, ℕ, ◌^◌, ◌<◌, ◌≤◌, [], ◌∷◌, ◌++◌, length, map, slice_set, slice_index, slice_index_or, IfOk, OnOk, Contains};
+ghost use Rattle.std.specs.Prelude.{◌≡◌, ℕ, ◌^◌, ◌<◌, ◌≤◌, [], ◌∷◌, ◌++◌, length, map, slice_set, slice_index, slice_index_or, IfOk, OnOk, Contains, MatchOption};
 ghost use Rattle.local_graph.specs.inner.Built.{IsRooted, move_of};
+ghost use Rattle.local_graph.specs.LocalGraph.{IsOrderOfPlaces};
+ghost use Rattle.local_graph.specs.inner.MadeWithReturns.{HasWayBack};
 ghost use Rattle.local_graph.specs.inner.SearchedFor.{IsSearched};
 ghost use Rattle.local_graph.specs.inner.Searching.{Searching, Returns, Stepped, Trail, EndsIn, GoesOn, visit_at, work_left, nodes_of};
 ghost use Rattle.local_graph.specs.inner.Graph.{edges_at, edge_at, no_edge};
@@ -246,6 +248,25 @@ pub(crate) fn search_from_opening(alloc: Global, edges: &EdgeLists) -> Result<Se
             Progress::Forward => {}
             Progress::Back(node) => return soonest_cycle(alloc, edges, &search.path, node),
             Progress::Done => return Ok(Searched::Order(search.order)),
+        }
+    }
+}
+
+/// An order of all positions in which each edge leads to an earlier one, if there is no cycle.
+pub(crate) fn order_from_opening(
+    alloc: Global,
+    edges: &EdgeLists,
+) -> Result<Option<Vec<usize>>, AllocError>
+    requires { IsRooted edges.now }
+    ensures { IfOk result (λ found. MatchOption found (HasWayBack edges.now)
+        (λ order. IsOrderOfPlaces edges.now order.items)) }
+{
+    let mut search = Search::begin(alloc, edges)?;
+    'searching: loop {
+        match search.step(edges)? {
+            Progress::Forward => {}
+            Progress::Back(_node) => return Ok(None),
+            Progress::Done => return Ok(Some(search.order)),
         }
     }
 }

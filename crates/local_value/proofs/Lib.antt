@@ -1,4 +1,7 @@
 pub mod MoveLaws
 pub mod TreeLaws
+pub mod PositionLemmas
+pub mod BudgetTreeLaws
+pub mod ExchangeLaws
 pub mod OptionsLaws
 pub mod PassLaws

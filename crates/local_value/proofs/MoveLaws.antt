@@ -26,6 +26,7 @@ use Rattle.local_value.specs.Values.{IsGraphOf, IsPlaceOf}
 use Rattle.std.proofs.lemmas.List.Elements.{Contains-get_or}
 use Rattle.local_play.specs.declared.local_move.LocalMove.{LocalMove}
 use Rattle.local_play.specs.Packed.{pack}
+use Rattle.local_play.proofs.PackLemmas.{pack_same}
 use Rattle.local_graph.specs.declared.cycle.CycleMove.{CycleMove}
 use Rattle.local_graph.specs.declared.graph.Edge.{Edge}
 use Rattle.local_graph.specs.inner.Graph.{edges_at}
@@ -90,6 +91,10 @@ count_less (x ∷ a) (y ∷ b) e h =
       | inr same ↦ let one = ap weight same in omega (arith, one)
     ] in
     omega (arith, rest, first, sum_by-cons weight x a, sum_by-cons weight y b)
+
+pub same_cells_or_not : (a b : List Cell) → Decided (a ≡ b)
+same_cells_or_not a b = alike _ _ (λ (long, e). pack_same a b long e) (λ e. (ap length e, ap pack e))
+    (both _ _ (cases_eq (length a) (length b)) (cases_eq (pack a) (pack b)))
 
 some_either : (A B P : ℕ → Type 0) → Decided ((j : ℕ) × A j × P j) → Decided ((j : ℕ) × B j × P j) → Decided ((j : ℕ) × (A j ⊎ B j) × P j)
 some_either A B P (inl (j, a, p)) d = inl (j, inl a, p)
@@ -194,6 +199,12 @@ module _ (touch : List Touch) where
         let same : after ≡ next p = ext_get_or cell.Empty after (next p) (long_after m ∙ sym (length-next p)) (λ i _.
         elim (outcome p i) [ inl w ↦ m.without.gone i w.0 ∙ sym w.1 | inr w ↦ m.without.kept i w.0 ∙ sym w.1 ]) in
         ((m.place, (m.free, subst (λ x. IsFree touch x c p) same m.stands)), same)
+
+    -- whether some local move of the player leads to the position
+    pub move_or_not : (after : List Cell) → Decided ((p : ℕ) × IsLocalMove touch cells c p after)
+    move_or_not after = alike _ _ (λ (p, lt, (l, e)). (p, subst (IsLocalMove touch cells c p) (sym e) (legal_move p l)))
+        (λ (p, m). (p, m.place, move_is p after m))
+        (some_below (length cells) (λ p. IsLegal p × (after ≡ next p)) (λ p. both _ _ (legal_or_not p) (same_cells_or_not after (next p))))
 
     taken : ℕ → ℕ
     taken p = (count_by is_stone cells + 1) - count_by is_stone (next p)

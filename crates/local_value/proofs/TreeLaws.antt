@@ -1,5 +1,5 @@
 -- Trees of local positions: their options, the depth they need, and the games over listed moves whose trees they are.
-use Rattle.std.proofs.Common.{ℕ, zero, suc, ◌≡◌, ◌≤◌, arith, inl, inr, refl, sym, ap, ap₂, ◌∙◌, List, [], ◌∷◌, subst, ◌^◌, ◌++◌, length, length-append, Contains}
+use Rattle.std.proofs.Common.{ℕ, zero, suc, ◌≡◌, ◌↔◌, ◌≤◌, arith, inl, inr, refl, sym, ap, ap₂, ◌∙◌, List, [], ◌∷◌, subst, ◌^◌, ◌++◌, length, length-append, Contains}
 use Rattle.go_grid.specs.declared.grid.Colour.{Colour}
 use Rattle.go_grid.specs.declared.grid.Colour.TheVariants.{Black, White}
 use Rattle.short_games.specs.Tree.{Tree, node, none, more, Has, left, right}
@@ -10,7 +10,7 @@ use Rattle.local_value.specs.LocalGame.{Step, after, tree_within, StepsTo}
 use Rattle.short_games.specs.Order.{◌≡ᵍ◌}
 use Rattle.short_games.proofs.FormLaws.{by_better}
 use Rattle.local_value.specs.PositionTree.{IsTree, PlaysAreShort, IsPlay, IsStep, IsTreeOf}
-use Rattle.short_games.proofs.OrderLaws.{same-refl, same-path, same-sym, same-trans}
+use Rattle.short_games.proofs.OrderLaws.{same-path, same-sym, same-trans}
 use Rattle.short_games.proofs.SumLaws.{same-plus}
 use Rattle.local_value.proofs.MoveLaws.{contains-cases, contains-head, contains-tail, steps, step_in, step_out, edge_of, move_of, next_place, steps-out, steps-in}
 use Rattle.go_grid.specs.declared.grid.Cell.{Cell}
@@ -95,18 +95,36 @@ same_options G H there back = (
   by_better H G (λ L l. (let r = back Black L l in (r.0, r.1, r.2.1))) (λ S s. (let r = there White S s in (r.0, r.1, r.2.1))),
 )
 
+-- Trees of two positions are equal where the moves of each have moves of the other that take as many stones, with equal trees after them.
+module _ (P Q : Type 0) (IsMove : Colour → P → Step P → Type 0) (IsMatch : Colour → Q → Step Q → Type 0) where
+  -- the moves take as many stones, and the trees after them are equal
+  abbrev pub AreAlike : ℕ → ℕ → Step P → Step Q → Type 0
+  AreAlike n m x y = (x.taken ≡ y.taken) × ((X Y : Tree) → IsTree P IsMove n x.to X → IsTree Q IsMatch m y.to Y → X ≡ᵍ Y)
+
+  more-alike : (c : Colour) (n k : ℕ) (X Y : Tree) → n ≡ k → X ≡ᵍ Y → (X +ᵍ gain c n) ≡ᵍ (Y +ᵍ gain c k)
+  more-alike c n k X Y e s = same-plus _ _ _ _ s (same-path _ _ (ap (gain c) e))
+
+  pub trees-match : (n m : ℕ) (p : P) (q : Q) (G H : Tree) → IsTree P IsMove (suc n) p G → IsTree Q IsMatch (suc m) q H
+      → ((c : Colour) (x : Step P) → IsMove c p x → (y : Step Q) × IsMatch c q y × AreAlike n m x y)
+      → ((c : Colour) (y : Step Q) → IsMatch c q y → (x : Step P) × IsMove c p x × AreAlike n m x y) → G ≡ᵍ H
+  trees-match n m p q G H g h there back = same_options G H
+      (λ c X i.
+      let (x, (A, move, a, is)) = (g c).0 X i in
+      let (y, move', (taken, same)) = there c x move in
+      let (B, b, has) = (h c).1 y move' in
+      (B +ᵍ gain c y.taken, has, same-trans _ _ _ (same-path _ _ is) (more-alike c x.taken y.taken A B taken (same A B a b))))
+      (λ c Y i.
+      let (y, (B, move, b, is)) = (h c).0 Y i in
+      let (x, move', (taken, same)) = back c y move in
+      let (A, a, has) = (g c).1 x move' in
+      (A +ᵍ gain c x.taken, has, same-trans _ _ _ (more-alike c x.taken y.taken A B taken (same A B a b)) (same-sym _ _ (same-path _ _ is))))
+
 module _ (P : Type 0) (IsMove : Colour → P → Step P → Type 0) where
   -- trees of a position are equal where the trees after each move are
   trees-alike : (n m : ℕ) (p : P) (G H : Tree) → IsTree P IsMove (suc n) p G → IsTree P IsMove (suc m) p H
       → ((c : Colour) (x : Step P) → IsMove c p x → (X Y : Tree) → IsTree P IsMove n x.to X → IsTree P IsMove m x.to Y → X ≡ᵍ Y) → G ≡ᵍ H
-  trees-alike n m p G H g h later = same_options G H
-      (λ c X i. (let r = (g c).0 X i in let s = (h c).1 r.0 r.1.1 in
-      (s.0 +ᵍ gain c r.0.taken, s.2, same-trans _ _ _ (same-path _ _ r.1.3) (more c r.0 (later c r.0 r.1.1 r.1.0 s.0 r.1.2 s.1)))))
-      (λ c Y i. (let r = (h c).0 Y i in let s = (g c).1 r.0 r.1.1 in
-      (s.0 +ᵍ gain c r.0.taken, s.2, same-trans _ _ _ (more c r.0 (later c r.0 r.1.1 s.0 r.1.0 s.1 r.1.2)) (same-sym _ _ (same-path _ _ r.1.3)))))
-    where
-      more : (c : Colour) (x : Step P) {X Y : Tree} → X ≡ᵍ Y → (X +ᵍ gain c x.taken) ≡ᵍ (Y +ᵍ gain c x.taken)
-      more c x s = same-plus _ _ _ _ s (same-refl (gain c x.taken))
+  trees-alike n m p G H g h later =
+      trees-match P P IsMove IsMove n m p p G H g h (λ c x k. (x, k, (refl, later c x k))) (λ c x k. (x, k, (refl, later c x k)))
 
   pub trees-same : (n : ℕ) (p : P) (G H : Tree) → IsTree P IsMove n p G → IsTree P IsMove n p H → G ≡ᵍ H
   trees-same zero p G H g h = same-trans _ _ _ (same-path _ _ g) (same-sym _ _ (same-path _ _ h))
@@ -123,10 +141,10 @@ module _ (P : Type 0) (IsMove : Colour → P → Step P → Type 0) where
   Moves p q = (c : Colour) × ((n : ℕ) × IsMove c p (record { to = q; taken = n }))
 
   -- a play after a move is shorter by one
-  step-short : (n : ℕ) (p : P) (c : Colour) (x : Step P) → IsMove c p x → PlaysAreShort P Moves (suc n) p → PlaysAreShort P Moves n x.to
+  pub step-short : (n : ℕ) (p : P) (c : Colour) (x : Step P) → IsMove c p x → PlaysAreShort P Moves (suc n) p → PlaysAreShort P Moves n x.to
   step-short n p c x m short qs w = omega (arith, short (x.to ∷ qs) ((c, (x.taken, m)), w))
 
-  no-move : (p : P) (c : Colour) (x : Step P) → IsMove c p x → PlaysAreShort P Moves 0 p → ⊥
+  pub no-move : (p : P) (c : Colour) (x : Step P) → IsMove c p x → PlaysAreShort P Moves 0 p → ⊥
   no-move p c x m short = omega (arith, short (x.to ∷ []) ((c, (x.taken, m)), tt))
 
   -- a tree of a position without moves has no option
@@ -158,6 +176,23 @@ short_plays touch opening acyclic cells reach qs w =
     let (ms, end, plays, long) = moves_of touch cells qs w in
     let less = plays_short touch opening acyclic (reach.0 ++ ms) end (plays_both touch opening cells end reach.0 ms reach.1 plays) in
     omega (arith, less, long, length-append reach.0 ms)
+
+-- a position has a tree of each depth where the moves of all can be listed
+module _ (P : Type 0) (IsMove : Colour → P → Step P → Type 0) (moves : Colour → P → List (Step P))
+    (listed : (c : Colour) (p : P) (x : Step P) → Contains (moves c p) x ↔ IsMove c p x) where
+  pub listed_tree : (n : ℕ) (p : P) → IsTree P IsMove n p (tree_within P moves n p)
+  unfolding tree_within
+  listed_tree zero p = refl
+  listed_tree (suc n) p = λ c. (
+    λ X h.
+        (let (x, among, is) = after-has P moves (λ q. tree_within P moves n q) c (moves c p) X (rw (options-step P moves c n p) at h) in
+        (x, (tree_within P moves n x.to, (listed c p x).0 among, listed_tree n x.to, is))),
+    λ x m. (
+      tree_within P moves n x.to,
+      listed_tree n x.to,
+      rw (options-step P moves c n p) (has-after P moves (λ q. tree_within P moves n q) c (moves c p) x ((listed c p x).1 m)),
+    ),
+  )
 
 -- A game each of whose positions stands for a local one: its listed moves are the local moves, both ways.
 module _ (P : Type 0) (touch : List Touch) (moves : Colour → P → List (Step P)) (Stands : P → List Cell → Type 0)

@@ -2,6 +2,9 @@ pub mod Ending
 pub mod LocalGame
 pub mod PositionTree
 pub mod Laws
+pub mod BudgetTree
+pub mod Steady
+pub mod BudgetLaws
 pub mod Values
 pub mod Refusals
 pub mod inner

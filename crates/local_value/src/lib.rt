@@ -5,5 +5,5 @@ mod laws;
 mod memo;
 mod values;
 
-pub use laws::position_tree_laws;
+pub use laws::{budget_tree_laws, position_tree_laws};
 pub use values::{Values, value_all};

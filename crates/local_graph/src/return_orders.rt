@@ -1,0 +1,110 @@
+//! Orders of positions with ends first, where the returning captures of a colour are left out.
+
+ghost use Rattle.std.specs.Prelude.{◌≡◌, ◌+◌, ◌*◌, ◌<◌, ◌≤◌, List, length, map, IfOk, Some};
+ghost use Rattle.go_grid.specs.declared.grid.Cell.{Cell};
+ghost use Rattle.go_grid.specs.Stones.{is_of};
+ghost use Rattle.local_play.specs.Packed.{pack};
+ghost use Rattle.local_graph.specs.declared.graph.Edge.{Edge};
+ghost use Rattle.local_graph.specs.ReturnGraph.{IsOrderBetweenCaptures};
+ghost use Rattle.local_graph.specs.inner.Ranks.{stones_of, weight, IsRank, AreRanks, AllFallOrRise};
+
+use go_grid::{Cell, Colour};
+use local_play::{Local, MOST_PLACES};
+use std::alloc::{AllocError, Global};
+
+/// The most that a position may weigh.
+pub(crate) const MOST_WEIGHT: usize = MOST_PLACES * (MOST_PLACES + 2);
+
+/// What a position is sorted by: its component, and in it the one that weighs most comes first.
+#[derive(Clone, Copy, PartialEq, Eq, PartialOrd, Ord)]
+pub(crate) struct Rank {
+    component: usize,
+    /// How much less it weighs than the most.
+    lack: usize,
+    place: usize,
+}
+
+/// Whether a cell holds a stone of a colour.
+fn is_of(cell: Cell, colour: Colour) -> bool
+    ensures { result ≡ is_of colour cell }
+{
+    match (cell, colour) {
+        (Cell::Empty, _) => false,
+        (Cell::Black, Colour::Black) | (Cell::White, Colour::White) => true,
+        (Cell::Black, Colour::White) | (Cell::White, Colour::Black) => false,
+    }
+}
+
+/// How many stones of a colour there are.
+fn stones_of(cells: &[Cell; MOST_PLACES], colour: Colour) -> usize
+    ensures value { result ≡ stones_of colour cells.now }
+    ensures few { result ≤ MOST_PLACES }
+{
+    let mut count = 0;
+    for cell in cells {
+        if is_of(*cell, colour) {
+            count += 1;
+        }
+    }
+    count
+}
+
+/// The rank of the position at a place.
+fn rank_of(position: u64, component: usize, place: usize, colour: Colour) -> Rank
+    ensures { IsRank colour position component place result }
+{
+    let cells = Local(position).cells();
+    let others = stones_of(&cells, colour.other());
+    let own = stones_of(&cells, colour);
+    Rank {
+        component,
+        lack: MOST_WEIGHT - ((MOST_PLACES + 1) * others + own),
+        place,
+    }
+}
+
+/// The ranks of all positions.
+fn ranks(
+    alloc: Global,
+    positions: &[u64],
+    components: &[usize],
+    colour: Colour,
+) -> Result<Vec<Rank>, AllocError>
+    requires { length components.now ≡ length positions.now }
+    ensures { IfOk result (λ ranks. AreRanks colour positions.now components.now ranks.items) }
+{
+    let mut ranks = Vec::new(alloc);
+    for (place, position) in positions.iter().enumerate() {
+        ranks.push(rank_of(*position, components[place], place, colour))?;
+    }
+    Ok(ranks)
+}
+
+/// The places of the ranks.
+fn places_of(alloc: Global, ranks: &[Rank]) -> Result<Vec<usize>, AllocError>
+    ensures { IfOk result (λ places. places.items ≡ map (λ r. r.place) ranks.now) }
+{
+    let mut places = Vec::new(alloc);
+    for rank in ranks {
+        places.push(rank.place)?;
+    }
+    Ok(places)
+}
+
+/// The places in an order in which each move but the returning captures of a colour leads to an earlier one: each such move
+/// leads to a lower component, or to a position of its own that weighs more.
+pub(crate) fn order_between_captures(
+    alloc: Global,
+    positions: &[u64],
+    components: &[usize],
+    colour: Colour,
+) -> Result<Vec<usize>, AllocError>
+    requires { length components.now ≡ length positions.now }
+    ensures { IfOk result (λ order. (edges : List (List Edge))
+        → AllFallOrRise colour positions.now components.now edges
+        → IsOrderBetweenCaptures colour edges (Some components.now) order.items) }
+{
+    let mut ranks = ranks(alloc, positions, components, colour)?;
+    ranks.sort_unstable();
+    places_of(alloc, &ranks)
+}
