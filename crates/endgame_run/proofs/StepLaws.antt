@@ -13,17 +13,25 @@ use Rattle.board_gen.proofs.OneBoardLemmas.{one_board}
 use Rattle.gd_words.specs.Job.{Job}
 use Rattle.gd_words.specs.declared.job.Question.{Question}
 use Rattle.gd_words.specs.declared.job.Question.TheVariants.{Solve}
-use Rattle.gd_words.specs.Task.{Task}
+use Rattle.gd_words.specs.Task.{NeedsRegions, Task}
 use Rattle.gd_words.specs.Task.Task.{ask, calc, gtp, play, trial}
 use Rattle.region_cut.specs.Cut.{AreRegionsOfPlay}
 use Rattle.endgame_solver.specs.Faults.{most_steps}
 use Rattle.endgame_solver.specs.declared.limits.Limits.{Limits}
 use Rattle.endgame_run.specs.File.{told_of}
 use Rattle.endgame_run.specs.Limits.{limits_of}
-use Rattle.endgame_run.specs.Question.{AreToldSteps}
+use Rattle.endgame_run.specs.Question.{AreStepsFor, AreToldSteps}
 use Rattle.endgame_run.specs.Run.{AreTaskSteps}
 use Rattle.endgame_run.specs.Steps.{IsAbout, NeedsNoRegions, TakesFewSteps, TakesNoSteps}
 use Rattle.endgame_run.specs.Trial.{AreTrialSteps, IsTrialPosition, trial_limits}
+
+-- the steps of a question that needs regions, and of one that doesn't
+pub needed_steps : (q : Question) (limits : Limits) (setup : Setup) (before now : ℕ) → NeedsRegions q
+    → ((regions : List Region) → AreRegionsOfPlay setup.board regions → now ≤ before + most_steps limits regions) → AreStepsFor q limits setup before now
+needed_steps q limits setup before now needs few = record { few = few; none = λ plain. absurd (plain needs) }
+
+pub no_more_steps : (q : Question) (limits : Limits) (setup : Setup) (n : ℕ) → AreStepsFor q limits setup n n
+no_more_steps q limits setup n = record { few = λ regions are. omega arith; none = λ plain. refl }
 
 -- the steps for the position of a file that is told
 told_few : (q : Question) (job : Job) (i : Input) (limits : Limits) (setup : Setup) (regions : List Region) (before now : ℕ) (w word file : List ℕ) → w ≡ word → limits ≡ limits_of job

@@ -6,10 +6,8 @@ use Rattle.gd_words.specs.Job.{Job}
 use Rattle.gd_words.specs.Task.{Task}
 use Rattle.gd_words.specs.Task.Task.{ask, calc, gtp, play, trial}
 use Rattle.endgame_run.specs.File.{TakesAtMost, dash}
-use Rattle.endgame_run.specs.Question.{AnswersQuestion}
 use Rattle.endgame_run.specs.Run.{RunsTask}
 use Rattle.endgame_run.specs.Use.{AsksAbout, AsksShelf, LeavesLines, ReadsToEnd, TakesFew, TouchesLines, TouchesShelf, most_of}
-use Rattle.endgame_run.specs.declared.question.Question.{Question}
 use Rattle.endgame_run.specs.declared.status.Status.{Status}
 use Rattle.endgame_run.specs.declared.status.Status.TheVariants.{Done}
 use Rattle.endgame_run.proofs.TopLaws.{nothing_taken}

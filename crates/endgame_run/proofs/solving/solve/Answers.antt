@@ -1,8 +1,19 @@
-use Rattle.std.proofs.Common.{subst, sym}
+use Rattle.std.proofs.Common.{subst, sym, ap, ◌∙◌}
+use Rattle.endgame_run.specs.Refusal.{refusal_line}
 use Rattle.endgame_run.specs.inner.Refusal.{NamesPoints}
-use Rattle.endgame_run.proofs.RefusalLaws.{names_points}
+use Rattle.endgame_run.proofs.RefusalLaws.{fault_answer, game_answer, names_points}
 use Rattle.endgame_run.proofs.solving.solve.Goals as goal
 
 pub refused-requires : goal.refused-requires
 refused-requires g c =
     subst (λ n. NamesPoints n c.in-Err.fault) (sym c.size.ensures.area) (names_points c.args.setup.now c.args.limits.now c.in-Err.fault c.in-Err.ensures.begun)
+
+pub returns-in_ok-report-in-Ok-clause-answer : goal.returns-in_ok-report-in-Ok-clause-answer
+returns-in_ok-report-in-Ok-clause-answer g c =
+    game_answer c.args.question c.args.setup.now c.args.limits.now c.in-Ok.solved _ c.in_ok-report-in-Ok.report.status c.in_ok-report-in-Ok.report.text c.requires.regions
+    (search rules) c.in-Ok.ensures.begun c.in_ok-report-in-Ok.ensures
+
+pub returns-in_ok-report-in-Err-clause-answer : goal.returns-in_ok-report-in-Err-clause-answer
+returns-in_ok-report-in-Err-clause-answer g c =
+    fault_answer c.args.question c.args.setup.now c.args.limits.now c.in-Err.fault c.in_ok-report-in-Err.report.status c.in_ok-report-in-Err.report.text c.requires.regions c.in-Err.ensures.begun
+    c.in_ok-report-in-Err.ensures.status (c.in_ok-report-in-Err.ensures.text ∙ ap (λ n. refusal_line c.args.limits.now n c.in-Err.fault) c.size.ensures.columns)
