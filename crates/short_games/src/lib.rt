@@ -20,7 +20,7 @@ ghost use Rattle.short_games.specs.CanonicalLaws.{EachHasCanonical, OptionsAreFo
 ghost use Rattle.short_games.specs.CanonicalLaws.{CanonicalIsBornFirst, PartsAreCounted, CanonicalHasFewestParts, GamesHaveNoFewerParts};
 ghost use Rattle.short_games.specs.NimberLaws.{KnownNimbers, NimSum, NimbersAreConfused, NimbersAreNegatives, NimbersAreNoNumbers, MexRule, ImpartialAreNimbers};
 ghost use Rattle.short_games.specs.UpLaws.{KnownUps, UpsGrow, UpsAreInfinitesimal, UpsAreForms, UpsAndStarAreForms};
-ghost use Rattle.short_games.specs.KnownValues.{KnownNumbers, KnownFractions, KnownOrder, KnownSums, KnownCanonical, KnownStops, KnownWalls};
+ghost use Rattle.short_games.specs.KnownValues.{KnownNumbers, KnownFractions, KnownOrder, KnownSums, KnownCanonical, KnownStops, KnownWalls, KnownSwitch, KnownTwoSteps};
 ghost use Rattle.short_games.specs.WallLaws.{WallsExist, WallsAreUnique, WallsGoOn, WallsBeginAtStops, TemperaturesExist, MastStands};
 ghost use Rattle.short_games.specs.GameWallLaws.{GamesHaveWalls, EqualGamesHaveEqualWalls, GameWallsBeginAtStops, NumbersAreMasts, GamesHaveTemperatures};
 ghost use Rattle.short_games.specs.WallLaws.{WallsAreOrdered, WallsAreUprightOrDiagonal, NoneBetween, NoneBendsBetween, WallsAreOnGrids};
@@ -197,7 +197,8 @@ pub fn game_wall_laws()
     ensures temperature { GamesHaveTemperatures }
 {}
 
-/// Values that every book has (0, 1/2, star, up, {2|0}, a tiny, the nimber of 2) as instances of the definitions.
+/// Values that every book has (0, 3, -2, 1/2, 3/4, -5/8, star, up, {2|0}, a tiny, the nimber of 2, and thermographs) as
+/// instances of the definitions.
 pub fn known_values()
     ensures numbers { KnownNumbers }
     ensures fractions { KnownFractions }
@@ -206,4 +207,6 @@ pub fn known_values()
     ensures canonical { KnownCanonical }
     ensures stops { KnownStops }
     ensures walls { KnownWalls }
+    ensures switch { KnownSwitch }
+    ensures two_steps { KnownTwoSteps }
 {}
