@@ -13,7 +13,7 @@ ghost use Rattle.short_games.specs.NumberLaws.{LeftAvoidsNumbers, RightAvoidsNum
 ghost use Rattle.short_games.specs.NumberLaws.{SimplestIsValue, FittingHaveSimplest, NumbersFit};
 ghost use Rattle.short_games.specs.AvoidanceLaws.{LeftMovesInGame, RightMovesInGame, LeftMovesInGames, RightMovesInGames, NumbersShift};
 ghost use Rattle.short_games.specs.StopLaws.{IsUnderLeftStop, IsOverRightStop, StopsAreOrdered, StopsExist};
-ghost use Rattle.short_games.specs.GameStopLaws.{GamesHaveStops, CanonicalStopsAgree, LeftStopBounds, RightStopBounds, StopsKeepOrder};
+ghost use Rattle.short_games.specs.GameStopLaws.{GamesHaveStops, StopsGoOn, CanonicalStopsAgree, LeftStopBounds, RightStopBounds, StopsKeepOrder};
 ghost use Rattle.short_games.specs.GameStopLaws.{RightStopIsLess, StopsTellOutcomes, StopsTurn, StopsOfSums, StopsTranslate, KnownGameStops};
 ghost use Rattle.short_games.specs.TextLaws.{TextsAreOneToOne, TextsTellGames};
 ghost use Rattle.short_games.specs.CanonicalLaws.{EachHasCanonical, OptionsAreFollowers, FollowersAreCanonical, CanonicalHasFewestNodes};
@@ -117,6 +117,7 @@ pub fn stop_laws()
 /// turn the stops, those of a sum are bounded by those of the two games, and with a number added both move by it.
 pub fn game_stop_laws()
     ensures exist { GamesHaveStops }
+    ensures go_on { StopsGoOn }
     ensures canonical { CanonicalStopsAgree }
     ensures left { LeftStopBounds }
     ensures right { RightStopBounds }
