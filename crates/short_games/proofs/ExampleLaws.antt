@@ -9,11 +9,11 @@ use Rattle.short_games.specs.Canonical.{Ascends, IsReduced, AreCanonical}
 use Rattle.short_games.specs.TextOrder.{text_before, TextBefore, IsCanonicalTree, tree_text, lesser_text}
 use Rattle.short_games.specs.Number.{num, whole, count_tree, IsNumberTree, IsNumber}
 use Rattle.short_games.specs.Text.{text}
-use Rattle.short_games.specs.Examples.{choice, zero, one, minus_one, star, up, two_switch, tiny, star_two, two, minus_two, half}
+use Rattle.short_games.specs.Examples.{choice, zero, one, minus_one, star, up, two_switch, uneven_switch, two_steps, tiny, star_two, two, minus_two, half}
 use Rattle.short_games.specs.Sum.{◌+ᵍ◌}
 use Rattle.short_games.specs.Stops.{IsLeftStop, IsRightStop}
 use Rattle.short_games.specs.Walls.{IsLeftWall, IsRightWall, IsGreatestRightWall, IsLeastLeftWall}
-use Rattle.short_games.specs.KnownValues.{IsLess, AreConfused, HasMast, KnownNumbers, KnownFractions, KnownOrder, KnownSums, KnownCanonical, KnownStops, KnownWalls}
+use Rattle.short_games.specs.KnownValues.{IsLess, AreConfused, HasMast, KnownNumbers, KnownFractions, KnownOrder, KnownSums, KnownCanonical, KnownStops, KnownWalls, KnownSwitch, KnownTwoSteps}
 use Rattle.short_games.specs.Nimbers.{nimber, nimbers_below}
 use Rattle.short_games.specs.NimberLaws.{KnownNimbers}
 use Rattle.short_games.specs.UpLaws.{KnownUps}
@@ -323,4 +323,40 @@ known-walls = (
   up-walls,
   tiny-walls,
   star_two-walls,
+)
+
+uneven-no_number : IsNumberTree uneven_switch → ⊥
+unfolding le le_within size
+uneven-no_number = option-no_number uneven_switch two minus_one (inl refl) (inl refl) (from-test minus_one two refl)
+
+pub known-switch : KnownSwitch
+unfolding IsLeftWall num whole count_tree neg
+known-switch = (
+  inr (uneven-no_number, inl (inl refl, (negsuc 0, inl refl, omega (arith, ints)))),
+  inr (uneven-no_number, inl (inl refl, (pos 2, inl refl, omega (arith, ints)))),
+  λ t l. (let at : 3 ≤ t * 2 ^ 0 = grind (arith, l) in
+      (inr (uneven-no_number, inr (0, 3, at, inl refl, inl refl)), inr (uneven-no_number, inr (0, 3, at, inl refl, inl refl)))),
+)
+
+two_steps-no_number : IsNumberTree two_steps → ⊥
+two_steps-no_number = right-no_number two_steps two_switch (inl refl) switch-no_number
+
+-- the left wall of {2|0} is 2 at 0 and 1 at 3/2
+switch-at_zero : IsLeftWall two_switch 0 0 (pos 2)
+unfolding IsLeftWall num whole count_tree
+switch-at_zero = inr (switch-no_number, inl (inl refl, (pos 0, inl refl, omega (arith, ints))))
+
+switch-later : IsLeftWall two_switch 1 3 (pos 2)
+unfolding IsLeftWall num whole count_tree
+switch-later = inr (switch-no_number, inr (0, 2, omega arith, inl refl, inl refl))
+
+pub known-two_steps : KnownTwoSteps
+unfolding IsLeftWall num whole count_tree
+known-two_steps = let at_one : IsLeftWall two_switch 0 1 (pos 1) = (switch-mast 1 (omega arith)).0 in (
+  inr (two_steps-no_number, inl (inl refl, (pos 2, switch-at_zero, omega (arith, ints)))),
+  inr (two_steps-no_number, inl (switch-at_zero, (pos 4, inl refl, omega (arith, ints)))),
+  inr (two_steps-no_number, inl (inl refl, (pos 2, at_one, omega (arith, ints)))),
+  inr (two_steps-no_number, inl (at_one, (pos 3, inl refl, omega (arith, ints)))),
+  λ t l. (let at : 3 ≤ t * 2 ^ 0 = grind (arith, l) in
+      (inr (two_steps-no_number, inr (0, 3, at, inl refl, switch-later)), inr (two_steps-no_number, inr (0, 3, at, inl refl, switch-later)))),
 )

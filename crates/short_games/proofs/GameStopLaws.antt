@@ -1,5 +1,6 @@
 -- Stops of games in any form: they go with ceilings and floors, and so with the order.
-use Rattle.std.proofs.Common.{ℕ, ◌+◌, ◌-◌, ◌^◌, ◌<◌, ◌≤◌, ◌≡◌, ◌⊎◌, ◌↔◌, arith, refl, inl, inr, sym, ◌∙◌, ap, subst, ℤ, pos, neg_ℤ, ◌+ℤ◌, ◌-ℤ◌, ◌*ℤ◌, ◌<ℤ◌, ◌≤ℤ◌}
+use Rattle.std.proofs.Math.Nat.{pow-suc}
+use Rattle.std.proofs.Common.{zero, suc, ℕ, ◌+◌, ◌-◌, ◌^◌, ◌<◌, ◌≤◌, ◌≡◌, ◌⊎◌, ◌↔◌, arith, refl, inl, inr, sym, ◌∙◌, ap, subst, ℤ, pos, neg_ℤ, ◌+ℤ◌, ◌-ℤ◌, ◌*ℤ◌, ◌<ℤ◌, ◌≤ℤ◌}
 use Rattle.std.proofs.lemmas.Int.{ints, by_lt_z}
 use Rattle.short_games.specs.Tree.{Tree, Trees, node, none, more, left, right, Has, size, neg, neg_each}
 use Rattle.short_games.specs.Order.{◌≤ᵍ◌, ◌≡ᵍ◌}
@@ -13,7 +14,7 @@ use Rattle.short_games.specs.GameStops.{HasLeftStop, HasRightStop, HasGreatestRi
 use Rattle.short_games.specs.GameStopLaws.{HaveStops, StopsBound, SignsTell}
 use Rattle.short_games.proofs.OrderLaws.{by_measure, not-le, le-refl, le-trans, same-path, size-left, size-right}
 use Rattle.short_games.proofs.SumLaws.{nought, nought-plus, plus-le, plus-le_both, plus-comm, plus-assoc, neg-le, neg-neg, neg-plus}
-use Rattle.short_games.proofs.NumberLaws.{num-zero, num-le, num-lt, num-plus_le, num-le_plus, neg-num, neg-number}
+use Rattle.short_games.proofs.NumberLaws.{num-zero, num-double, num-le, num-lt, num-plus_le, num-le_plus, neg-num, neg-number}
 use Rattle.short_games.proofs.ReductionLaws.{canonical-number}
 use Rattle.short_games.proofs.TextOrderLaws.{text-order}
 use Rattle.short_games.proofs.ExistenceLaws.{canon}
@@ -23,7 +24,7 @@ use Rattle.short_games.proofs.DrawnWallLaws.{left_wall, right_wall}
 use Rattle.short_games.proofs.WallExistenceLaws.{walls-zero, walls-exist}
 use Rattle.short_games.proofs.StopLaws.StopIs.{of_number, of_game}
 use Rattle.short_games.proofs.ThresholdLaws.{number-ceiling, number-floor}
-use Rattle.short_games.proofs.StopLaws.{left_stop-is, upwards, downwards, IsGreatest, IsLeast, IsChosen, chosen, chosen-most, CeilingBy, FloorBy, ceiling_step, floor_step, num-scaled, under-ceiling, not-under_ceiling, over-floor, not-over_floor}
+use Rattle.short_games.proofs.StopLaws.{left_stop-is, times-twice, upwards, downwards, IsGreatest, IsLeast, IsChosen, chosen, chosen-most, CeilingBy, FloorBy, ceiling_step, floor_step, num-scaled, under-ceiling, not-under_ceiling, over-floor, not-over_floor}
 
 -- a game that is equal to a number has the number as its stops
 pub number-has_left : (e : ℕ) (G : Tree) (x : ℤ) → G ≡ᵍ num e x → HasLeftStop e G x
@@ -190,6 +191,57 @@ pub stops-turn : (e : ℕ) (G : Tree) (x : ℤ) → (HasLeftStop e G x ↔ HasRi
 stops-turn e G x = let back : neg_ℤ (neg_ℤ x) ≡ x = omega (arith, ints) in (
   (left-turned e G x, λ s. rw (neg-neg G, back) at (right-turned e (neg G) (neg_ℤ x) s)),
   (right-turned e G x, λ s. rw (neg-neg G, back) at (left-turned e (neg G) (neg_ℤ x) s)),
+)
+
+-- on a grid of half the distance a stop is twice as far from 0
+number-finer : (e : ℕ) (G : Tree) (x : ℤ) → G ≡ᵍ num e x → G ≡ᵍ num (suc e) (x +ℤ x)
+number-finer e G x s = subst (λ t. G ≡ᵍ t) (sym (num-double e x)) s
+
+twice : (y z x : ℤ) → (y ≡ x) ⊎ (z ≡ x) → (y +ℤ y ≡ x +ℤ x) ⊎ (z +ℤ z ≡ x +ℤ x)
+twice y z x c = elim c [ inl i ↦ inl (ap (λ w. w +ℤ w) i) | inr i ↦ inr (ap (λ w. w +ℤ w) i) ]
+
+mutual
+  unfolding HasLeftStop
+
+  left-finer : (e : ℕ) (G : Tree) (x : ℤ) → HasLeftStop e G x → HasLeftStop (suc e) G (x +ℤ x)
+  left-finer e (node ls rs) x (inl s) = inl (number-finer e (node ls rs) x s)
+  left-finer e (node ls rs) x (inr h) = inr (h.0, greatest-finer e ls x h.1)
+
+  right-finer : (e : ℕ) (G : Tree) (x : ℤ) → HasRightStop e G x → HasRightStop (suc e) G (x +ℤ x)
+  right-finer e (node ls rs) x (inl s) = inl (number-finer e (node ls rs) x s)
+  right-finer e (node ls rs) x (inr h) = inr (h.0, least-finer e rs x h.1)
+
+  greatest-finer : (e : ℕ) (Gs : Trees) (x : ℤ) → HasGreatestRight e Gs x → HasGreatestRight (suc e) Gs (x +ℤ x)
+  greatest-finer e none x h = h
+  greatest-finer e (more G none) x h = right-finer e G x h
+  greatest-finer e (more G (more H Hs)) x (y, (z, p, q, a, b, c)) = (
+    y +ℤ y,
+    (z +ℤ z, right-finer e G y p, greatest-finer e (more H Hs) z q, omega (arith, ints, a), omega (arith, ints, b), twice y z x c),
+  )
+
+  least-finer : (e : ℕ) (Gs : Trees) (x : ℤ) → HasLeastLeft e Gs x → HasLeastLeft (suc e) Gs (x +ℤ x)
+  least-finer e none x h = h
+  least-finer e (more G none) x h = left-finer e G x h
+  least-finer e (more G (more H Hs)) x (y, (z, p, q, a, b, c)) = (
+    y +ℤ y,
+    (z +ℤ z, left-finer e G y p, least-finer e (more H Hs) z q, omega (arith, ints, a), omega (arith, ints, b), twice y z x c),
+  )
+
+-- and so on a grid of any power of two
+finer_by : (P : ℕ → ℤ → Type 0) → ((e : ℕ) (x : ℤ) → P e x → P (suc e) (x +ℤ x)) → (d e : ℕ) (x : ℤ) → P e x → P (d + e) (x *ℤ pos (2 ^ d))
+finer_by P step zero e x p =
+    let same : x ≡ x *ℤ pos (2 ^ 0) = grind (arith, ints) in
+    let grid : e ≡ 0 + e = omega arith in
+    subst (λ n. P n (x *ℤ pos (2 ^ 0))) grid (subst (P e) same p)
+finer_by P step (suc d) e x p =
+    let same : x *ℤ pos (2 ^ suc d) ≡ (x *ℤ pos (2 ^ d)) +ℤ (x *ℤ pos (2 ^ d)) = times-twice x (2 ^ d) (2 ^ suc d) (omega (arith, pow-suc 2 d)) in
+    let grid : suc (d + e) ≡ suc d + e = omega arith in
+    subst (λ n. P n (x *ℤ pos (2 ^ suc d))) grid (subst (P (suc (d + e))) (sym same) (step (d + e) (x *ℤ pos (2 ^ d)) (finer_by P step d e x p)))
+
+pub stops-go_on : (d e : ℕ) (G : Tree) (x : ℤ) → (HasLeftStop e G x → HasLeftStop (d + e) G (x *ℤ pos (2 ^ d))) × (HasRightStop e G x → HasRightStop (d + e) G (x *ℤ pos (2 ^ d)))
+stops-go_on d e G x = (
+  finer_by (λ n y. HasLeftStop n G y) (λ n y. left-finer n G y) d e x,
+  finer_by (λ n y. HasRightStop n G y) (λ n y. right-finer n G y) d e x,
 )
 
 -- a canonical tree is equal to a number where it is the number's tree

@@ -1,5 +1,5 @@
 -- Up and its multiples.
-use Rattle.std.proofs.Common.{ℕ, zero, suc, ◌+◌, ◌<◌, ◌≤◌, ◌≡◌, ◌-◌, arith, refl, inl, inr, sym, ◌∙◌, ap, ap₂, subst, pos, ◌+ℤ◌}
+use Rattle.std.proofs.Common.{ℤ, ◌<ℤ◌, ℕ, zero, suc, ◌+◌, ◌<◌, ◌≤◌, ◌≡◌, ◌-◌, arith, refl, inl, inr, sym, ◌∙◌, ap, ap₂, subst, pos, ◌+ℤ◌}
 use Rattle.std.proofs.lemmas.Int.{ints}
 use Rattle.short_games.specs.Tree.{Tree, left, right, Has}
 use Rattle.short_games.specs.Order.{◌≤ᵍ◌, ◌≡ᵍ◌}
@@ -271,9 +271,10 @@ ups-under zero e = rw (times-zero up, ← num-zero e) (num-le e (pos 0) (pos 1) 
 ups-under (suc n) e = subst (λ t. ups (suc n) ≤ᵍ t) (num-double e (pos 1)) (rw (times-suc n up)
     (le-trans _ _ _ (plus-le_both _ _ _ _ (up-small (suc e)) (ups-under n (suc e))) (num-plus_le (suc e) (pos 1) (pos 1))))
 
-pub ups-infinitesimal : (n e : ℕ) → IsLess (ups n) (num e (pos 1))
-ups-infinitesimal n e = (
-  ups-under n e,
-  not-le (num e (pos 1)) (ups n) (λ p. num-lt (suc e) (pos 1) (pos 1 +ℤ pos 1) (omega (arith, ints))
-      (subst (λ t. t ≤ᵍ num (suc e) (pos 1)) (sym (num-double e (pos 1))) (le-trans _ _ _ p (ups-under n (suc e))))),
-)
+pub ups-infinitesimal : (n e : ℕ) (m : ℤ) → pos 0 <ℤ m → IsLess (ups n) (num e m)
+ups-infinitesimal n e m l =
+    let above : num e (pos 1) ≤ᵍ num e m = num-le e (pos 1) m (omega (arith, ints, l)) in (
+      le-trans _ _ _ (ups-under n e) above,
+      not-le (num e m) (ups n) (λ p. num-lt (suc e) (pos 1) (pos 1 +ℤ pos 1) (omega (arith, ints))
+          (subst (λ t. t ≤ᵍ num (suc e) (pos 1)) (sym (num-double e (pos 1))) (le-trans _ _ _ above (le-trans _ _ _ p (ups-under n (suc e)))))),
+    )

@@ -25,6 +25,10 @@ minus_two = node none (more (node none (more zero none)) none)
 abbrev pub three : Tree
 three = node (more two none) none
 
+-- 4 is {3|}
+abbrev pub four : Tree
+four = node (more three none) none
+
 -- -1 is {|0}
 abbrev pub minus_one : Tree
 minus_one = node none (more zero none)
@@ -56,6 +60,14 @@ up = choice zero star
 -- {2|0}, with a move of 1 for each side
 abbrev pub two_switch : Tree
 two_switch = choice two zero
+
+-- {2|-1}, with a move of 3/2 for each side
+abbrev pub uneven_switch : Tree
+uneven_switch = choice two minus_one
+
+-- {4||2|0}, with a move of 3/2 for each side
+abbrev pub two_steps : Tree
+two_steps = choice four two_switch
 
 -- tiny-two is {0||0|-2}
 abbrev pub tiny : Tree

@@ -14,6 +14,10 @@ use Rattle.short_games.specs.Examples.{choice, zero, one, minus_one, two, two_sw
 abbrev pub GamesHaveStops : Type 0
 GamesHaveStops = (G : Tree) → (e : ℕ) × ((k : ℕ) → e ≤ k → (l r : ℤ) × HasLeftStop k G l × HasRightStop k G r)
 
+-- a stop on a grid is the same number on a finer one
+abbrev pub StopsGoOn : Type 0
+StopsGoOn = (d e : ℕ) (G : Tree) (x : ℤ) → (HasLeftStop e G x → HasLeftStop (d + e) G (x *ℤ pos (2 ^ d))) × (HasRightStop e G x → HasRightStop (d + e) G (x *ℤ pos (2 ^ d)))
+
 -- of a canonical tree they are its stops
 abbrev pub CanonicalStopsAgree : Type 0
 CanonicalStopsAgree = (e : ℕ) (G : Tree) (x : ℤ) → IsCanonicalTree G → (IsLeftStop e G x ↔ HasLeftStop e G x) × (IsRightStop e G x ↔ HasRightStop e G x)

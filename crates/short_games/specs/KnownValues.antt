@@ -8,7 +8,7 @@ use Rattle.short_games.specs.Simplest.{IsSimplestFor}
 use Rattle.short_games.specs.Stops.{IsLeftStop, IsRightStop}
 use Rattle.short_games.specs.TextOrder.{IsCanonicalTree, IsCanonicalFor}
 use Rattle.short_games.specs.Walls.{IsLeftWall, IsRightWall}
-use Rattle.short_games.specs.Examples.{choice, zero, one, two, three, minus_one, minus_two, half, minus_half, three_quarters, minus_five_eighths, star, up, two_switch, tiny, star_two}
+use Rattle.short_games.specs.Examples.{choice, zero, one, two, three, minus_one, minus_two, half, minus_half, three_quarters, minus_five_eighths, star, up, two_switch, uneven_switch, two_steps, tiny, star_two}
 
 -- 0, 2, -2 and 1/2 are numbers, and 0 is the simplest number for {-2|2}; star, up, {2|0}, tiny-two and the nimber of 2 are
 -- no numbers
@@ -59,3 +59,13 @@ abbrev pub KnownWalls : Type 0
 KnownWalls = IsLeftWall two_switch 0 0 (pos 2) × IsRightWall two_switch 0 0 (pos 0) × IsLeftWall two_switch 1 1 (pos 3) × IsRightWall two_switch 1 1 (pos 1)
     × ((t : ℕ) → 1 ≤ t → IsLeftWall two_switch 0 t (pos 1) × IsRightWall two_switch 0 t (pos 1))
     × HasMast half 1 (pos 1) × HasMast star 0 (pos 0) × HasMast up 0 (pos 0) × HasMast tiny 0 (pos 0) × HasMast star_two 0 (pos 0)
+
+-- the walls of {2|-1} are 2 and -1 at 0, and 1/2 from 3/2 on
+abbrev pub KnownSwitch : Type 0
+KnownSwitch = IsLeftWall uneven_switch 0 0 (pos 2) × IsRightWall uneven_switch 0 0 (negsuc 0)
+    × ((t : ℕ) → 3 ≤ t → IsLeftWall uneven_switch 1 t (pos 1) × IsRightWall uneven_switch 1 t (pos 1))
+
+-- the left wall of {4||2|0} is 4 at 0 and 3 at 1, its right wall is 2 at 0 and at 1, and both are 5/2 from 3/2 on
+abbrev pub KnownTwoSteps : Type 0
+KnownTwoSteps = IsLeftWall two_steps 0 0 (pos 4) × IsRightWall two_steps 0 0 (pos 2) × IsLeftWall two_steps 0 1 (pos 3) × IsRightWall two_steps 0 1 (pos 2)
+    × ((t : ℕ) → 3 ≤ t → IsLeftWall two_steps 1 t (pos 5) × IsRightWall two_steps 1 t (pos 5))

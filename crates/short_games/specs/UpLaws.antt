@@ -1,5 +1,5 @@
 -- The laws of up and of its multiples.
-use Rattle.std.specs.Prelude.{ℕ, suc, pos}
+use Rattle.std.specs.Prelude.{ℕ, suc, ℤ, pos, ◌<ℤ◌}
 use Rattle.short_games.specs.Order.{◌≡ᵍ◌}
 use Rattle.short_games.specs.Sum.{◌+ᵍ◌}
 use Rattle.short_games.specs.Number.{num}
@@ -17,7 +17,7 @@ UpsGrow = (n : ℕ) → IsLess (times n up) (times (suc n) up) × IsLess zero (t
 
 -- each multiple of up is below each number above 0
 abbrev pub UpsAreInfinitesimal : Type 0
-UpsAreInfinitesimal = (n e : ℕ) → IsLess (times n up) (num e (pos 1))
+UpsAreInfinitesimal = (n e : ℕ) (m : ℤ) → pos 0 <ℤ m → IsLess (times n up) (num e m)
 
 -- a multiple of up is {0|H}, where H is the multiple before it and star
 abbrev pub UpsAreForms : Type 0

@@ -13,14 +13,14 @@ ghost use Rattle.short_games.specs.NumberLaws.{LeftAvoidsNumbers, RightAvoidsNum
 ghost use Rattle.short_games.specs.NumberLaws.{SimplestIsValue, FittingHaveSimplest, NumbersFit};
 ghost use Rattle.short_games.specs.AvoidanceLaws.{LeftMovesInGame, RightMovesInGame, LeftMovesInGames, RightMovesInGames, NumbersShift};
 ghost use Rattle.short_games.specs.StopLaws.{IsUnderLeftStop, IsOverRightStop, StopsAreOrdered, StopsExist};
-ghost use Rattle.short_games.specs.GameStopLaws.{GamesHaveStops, CanonicalStopsAgree, LeftStopBounds, RightStopBounds, StopsKeepOrder};
+ghost use Rattle.short_games.specs.GameStopLaws.{GamesHaveStops, StopsGoOn, CanonicalStopsAgree, LeftStopBounds, RightStopBounds, StopsKeepOrder};
 ghost use Rattle.short_games.specs.GameStopLaws.{RightStopIsLess, StopsTellOutcomes, StopsTurn, StopsOfSums, StopsTranslate, KnownGameStops};
 ghost use Rattle.short_games.specs.TextLaws.{TextsAreOneToOne, TextsTellGames};
 ghost use Rattle.short_games.specs.CanonicalLaws.{EachHasCanonical, OptionsAreFollowers, FollowersAreCanonical, CanonicalHasFewestNodes};
 ghost use Rattle.short_games.specs.CanonicalLaws.{CanonicalIsBornFirst, PartsAreCounted, CanonicalHasFewestParts, GamesHaveNoFewerParts};
 ghost use Rattle.short_games.specs.NimberLaws.{KnownNimbers, NimSum, NimbersAreConfused, NimbersAreNegatives, NimbersAreNoNumbers, MexRule, ImpartialAreNimbers};
 ghost use Rattle.short_games.specs.UpLaws.{KnownUps, UpsGrow, UpsAreInfinitesimal, UpsAreForms, UpsAndStarAreForms};
-ghost use Rattle.short_games.specs.KnownValues.{KnownNumbers, KnownFractions, KnownOrder, KnownSums, KnownCanonical, KnownStops, KnownWalls};
+ghost use Rattle.short_games.specs.KnownValues.{KnownNumbers, KnownFractions, KnownOrder, KnownSums, KnownCanonical, KnownStops, KnownWalls, KnownSwitch, KnownTwoSteps};
 ghost use Rattle.short_games.specs.WallLaws.{WallsExist, WallsAreUnique, WallsGoOn, WallsBeginAtStops, TemperaturesExist, MastStands};
 ghost use Rattle.short_games.specs.GameWallLaws.{GamesHaveWalls, EqualGamesHaveEqualWalls, GameWallsBeginAtStops, NumbersAreMasts, GamesHaveTemperatures};
 ghost use Rattle.short_games.specs.WallLaws.{WallsAreOrdered, WallsAreUprightOrDiagonal, NoneBetween, NoneBendsBetween, WallsAreOnGrids};
@@ -117,6 +117,7 @@ pub fn stop_laws()
 /// turn the stops, those of a sum are bounded by those of the two games, and with a number added both move by it.
 pub fn game_stop_laws()
     ensures exist { GamesHaveStops }
+    ensures go_on { StopsGoOn }
     ensures canonical { CanonicalStopsAgree }
     ensures left { LeftStopBounds }
     ensures right { RightStopBounds }
@@ -197,7 +198,8 @@ pub fn game_wall_laws()
     ensures temperature { GamesHaveTemperatures }
 {}
 
-/// Values that every book has (0, 1/2, star, up, {2|0}, a tiny, the nimber of 2) as instances of the definitions.
+/// Values that every book has (0, 3, -2, 1/2, 3/4, -5/8, star, up, {2|0}, a tiny, the nimber of 2, and thermographs) as
+/// instances of the definitions.
 pub fn known_values()
     ensures numbers { KnownNumbers }
     ensures fractions { KnownFractions }
@@ -206,4 +208,6 @@ pub fn known_values()
     ensures canonical { KnownCanonical }
     ensures stops { KnownStops }
     ensures walls { KnownWalls }
+    ensures switch { KnownSwitch }
+    ensures two_steps { KnownTwoSteps }
 {}

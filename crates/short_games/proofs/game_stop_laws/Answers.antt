@@ -1,4 +1,4 @@
-use Rattle.short_games.proofs.GameStopLaws.{stops-exist, left-agrees, right-agrees, left-bounds, right-bounds, stops-keep, right-less, signs-tell, stops-turn, stops-of_sums, stops-translate}
+use Rattle.short_games.proofs.GameStopLaws.{stops-exist, stops-go_on, left-agrees, right-agrees, left-bounds, right-bounds, stops-keep, right-less, signs-tell, stops-turn, stops-of_sums, stops-translate}
 use Rattle.short_games.proofs.ExampleLaws.{known-game_stops}
 use Rattle.short_games.proofs.game_stop_laws.Goals as goal
 
@@ -34,3 +34,6 @@ returns-clause-known c = known-game_stops
 
 pub returns-clause-outcomes : goal.returns-clause-outcomes
 returns-clause-outcomes c = signs-tell
+
+pub returns-clause-go_on : goal.returns-clause-go_on
+returns-clause-go_on c = stops-go_on

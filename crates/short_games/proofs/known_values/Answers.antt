@@ -1,4 +1,4 @@
-use Rattle.short_games.proofs.ExampleLaws.{known-numbers, known-fractions, known-order, known-sums, known-canonical, known-stops, known-walls}
+use Rattle.short_games.proofs.ExampleLaws.{known-numbers, known-fractions, known-order, known-sums, known-canonical, known-stops, known-walls, known-switch, known-two_steps}
 use Rattle.short_games.proofs.known_values.Goals as goal
 
 pub returns-clause-numbers : goal.returns-clause-numbers
@@ -21,3 +21,9 @@ returns-clause-stops c = known-stops
 
 pub returns-clause-walls : goal.returns-clause-walls
 returns-clause-walls c = known-walls
+
+pub returns-clause-switch : goal.returns-clause-switch
+returns-clause-switch c = known-switch
+
+pub returns-clause-two_steps : goal.returns-clause-two_steps
+returns-clause-two_steps c = known-two_steps
