@@ -2,6 +2,8 @@
 #![tactic(auto)]
 
 #[cfg(test)]
+mod analysis_tests;
+#[cfg(test)]
 mod calc_tests;
 #[cfg(test)]
 mod device_tests;

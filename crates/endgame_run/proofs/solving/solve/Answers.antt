@@ -1,4 +1,4 @@
-use Rattle.std.proofs.Common.{subst, sym, ap, ◌∙◌}
+use Rattle.std.proofs.Common.{rules, subst, sym, ap, ◌∙◌}
 use Rattle.endgame_run.specs.Refusal.{refusal_line}
 use Rattle.endgame_run.specs.inner.Refusal.{NamesPoints}
 use Rattle.endgame_run.proofs.RefusalLaws.{fault_answer, game_answer, names_points}

@@ -1,0 +1,114 @@
+//! What `board`, `margin` and `moves` write.
+
+use crate::runs::{COPY, Row, first_wrong};
+use endgame_run::Status;
+use std::test::Fail;
+
+const TIE_BOARD: &str =
+    "size 8 2\nside black\nkomi 0\nprisoners black 0\nprisoners white 0\nrow .X.XO.O.\nrow XXXXOOOO\n";
+
+/// A captive was taken, and two passes followed.
+const COPY_BOARD: &str =
+    "size 9 2\nside white\nkomi 6.5\nprisoners black 1\nprisoners white 0\nrow .X.X.O.O.\nrow XXXXXOOOO\n";
+
+const COPY_OPTIONS: &str =
+    "size 9 2\nside black\nkomi -3.5\nprisoners black 8\nprisoners white 999999\nrow .X.X.O.O.\nrow XXXXXOOOO\n";
+
+/// In a tie the player who moves loses.
+const TIE_MARGIN: &str = "side black\nkomi 0\nwinner white\nblack first -0.5\nwhite first 0\n";
+
+const CORRIDOR_MARGIN: &str = "side black\nkomi -0.5\nwinner black\nblack first 1\nwhite first 0\n";
+
+const VISITED_MARGIN: &str = "side black\nkomi 0\nwinner black\nblack first 2\nwhite first -0.5\n";
+
+const LONG_MARGIN: &str = "side white\nkomi 6.5\nwinner white\nblack first 2\nwhite first 1\n";
+
+const TAX_MARGIN: &str = "side black\nkomi 0\nwinner black\nblack first 1.5\nwhite first 2\n";
+
+const COPY_MARGIN: &str = "side white\nkomi 6.5\nwinner white\nblack first 1\nwhite first 0.5\n";
+
+const CORRIDOR_MOVES: &str =
+    "side black\nkomi 0\nwinner black\nstone eb loses -0.5\nstone fb wins 1\nspend loses\n";
+
+const WHITE_MOVES: &str = "side white\nkomi 0.5\nwinner white\nstone eb loses 2\nstone fb wins 0\n\
+    spend loses\nhalf loses\n";
+
+const HALF_MOVES: &str = "side white\nkomi 0.5\nwinner white\nspend loses\nhalf wins\n";
+
+const LONG_MOVES: &str = "side black\nkomi -1.5\nwinner black\nstone eb wins 0\nstone fb wins 0.5\n\
+    stone gb wins 2\nspend wins\nhalf wins\n";
+
+/// Files of the shelf, and one of the source.
+const RUNS: [Row; 20] = [
+    ("board~a", b"", Status::Done, TIE_BOARD),
+    ("board~-", COPY, Status::Done, COPY_BOARD),
+    (
+        "board~-~--turn~black~--komi~-3.5~--black-prisoners~7~--white-prisoners~999999",
+        COPY,
+        Status::Done,
+        COPY_OPTIONS,
+    ),
+    ("board~a~--positions~5", b"", Status::Usage, "fault usage\n"),
+    ("board~a~--tax~no", b"", Status::Usage, "fault usage\n"),
+    (
+        "board~nobody",
+        b"",
+        Status::CannotRead,
+        "fault cannot read\n",
+    ),
+    ("margin~a", b"", Status::Done, TIE_MARGIN),
+    (
+        "margin~d~--komi~-0.5",
+        b"",
+        Status::Done,
+        CORRIDOR_MARGIN,
+    ),
+    ("margin~visited", b"", Status::Done, VISITED_MARGIN),
+    (
+        "margin~f~--turn~white~--komi~6.5",
+        b"",
+        Status::Done,
+        LONG_MARGIN,
+    ),
+    ("margin~g~--tax~yes", b"", Status::Done, TAX_MARGIN),
+    ("margin~-", COPY, Status::Done, COPY_MARGIN),
+    (
+        "margin~d~--positions~7",
+        b"",
+        Status::RegionLimit,
+        "fault region eb positions over 7\n",
+    ),
+    ("moves~d", b"", Status::Done, CORRIDOR_MOVES),
+    (
+        "moves~d~--turn~white~--komi~0.5",
+        b"",
+        Status::Done,
+        WHITE_MOVES,
+    ),
+    (
+        "moves~a~--turn~white~--komi~0.5",
+        b"",
+        Status::Done,
+        HALF_MOVES,
+    ),
+    ("moves~f~--komi~-1.5", b"", Status::Done, LONG_MOVES),
+    (
+        "moves~d~--parts~1",
+        b"",
+        Status::FormLimit,
+        "fault form eb\n",
+    ),
+    (
+        "moves~e",
+        b"",
+        Status::Cycle,
+        "fault cycle eb 1 black:fb white:eb black:fb\n",
+    ),
+    ("moves~a~--as~black", b"", Status::Usage, "fault usage\n"),
+];
+
+#[test]
+fn boards_margins_and_moves(rt: HostRuntime) -> Result<(), Fail> {
+    assert_eq!(rt; first_wrong(rt.alloc(), &RUNS)?, None);
+    Ok(())
+}
