@@ -23,7 +23,6 @@ use Rattle.endgame_run.specs.Laws.{HasOneStatus, RefusesFaults, RefusesUnshown, 
 use Rattle.sgf_go.specs.File.{Reads}
 use Rattle.endgame_run.specs.Refusal.{HasStatus, IsRefused}
 use Rattle.endgame_run.specs.Question.{IsFileAnswer, IsPositionAnswer, IsQuestionRefused, IsTextOf}
-use Rattle.endgame_run.specs.Solve.{IsSolved}
 use Rattle.endgame_run.specs.Values.{AreUnshown, IsValued}
 use Rattle.endgame_solver.proofs.GraphLaws.{one_value}
 use Rattle.report.specs.Values.{HasShownValue, IsFirstUnshown, IsUnshown}

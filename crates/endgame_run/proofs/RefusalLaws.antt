@@ -1,5 +1,5 @@
 -- The points that faults of regions name, and what a position that isn't solved comes to.
-use Rattle.std.proofs.Common.{◌≡◌, ℤ, ℕ, zero, suc, ◌<◌, ◌++◌, inl, inr, refl, List, [], length, map, take, drop, get_or, sym, subst, ap, ◌∙◌, arith, append_assoc, Ok, Err, ◌∷◌}
+use Rattle.std.proofs.Common.{◌≡◌, ℤ, ℕ, zero, suc, ◌<◌, ◌++◌, inr, refl, List, [], length, map, take, drop, get_or, sym, subst, ap, ◌∙◌, arith, append_assoc, Ok, Err, ◌∷◌}
 use Rattle.std.specs.List.{All, Contains}
 use Rattle.std.proofs.lemmas.List.{take-append-drop}
 use Rattle.std.proofs.lemmas.List.Elements.{All-map, Contains-get_or}

@@ -1,7 +1,6 @@
 -- How many steps a run takes, for the regions that its job needs.
 use Rattle.std.proofs.Common.{◌≡◌, ℕ, ◌≤◌, ◌+◌, inl, inr, sym, ap, subst, ◌∙◌, arith, List, Some, Ok}
 use Rattle.std.specs.Prelude.{Option}
-use Rattle.local_graph.specs.declared.graph.TheConstants.{MOST_POSITIONS}
 use Rattle.desk_io.specs.Desk.{Input}
 use Rattle.desk_io.specs.Files.Told.{holding}
 use Rattle.desk_io.specs.Files.{IsTold}
@@ -25,13 +24,10 @@ use Rattle.endgame_run.specs.Run.{AreTaskSteps}
 use Rattle.endgame_run.specs.Steps.{IsAbout, NeedsNoRegions, TakesFewSteps, TakesNoSteps}
 use Rattle.endgame_run.specs.Trial.{AreTrialSteps, IsTrialPosition, trial_limits}
 
--- the steps of a question that needs regions, and of one that doesn't
+-- the steps of a question that needs regions
 pub needed_steps : (q : Question) (limits : Limits) (setup : Setup) (before now : ℕ) → NeedsRegions q
     → ((regions : List Region) → AreRegionsOfPlay setup.board regions → now ≤ before + most_steps limits regions) → AreStepsFor q limits setup before now
 needed_steps q limits setup before now needs few = record { few = few; none = λ plain. absurd (plain needs) }
-
-pub no_more_steps : (q : Question) (limits : Limits) (setup : Setup) (n : ℕ) → AreStepsFor q limits setup n n
-no_more_steps q limits setup n = record { few = λ regions are. omega arith; none = λ plain. refl }
 
 -- the steps for the position of a file that is told
 told_few : (q : Question) (job : Job) (i : Input) (limits : Limits) (setup : Setup) (regions : List Region) (before now : ℕ) (w word file : List ℕ) → w ≡ word → limits ≡ limits_of job

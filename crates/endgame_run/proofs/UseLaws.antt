@@ -1,5 +1,5 @@
 -- What a run does to the objects of the outside, by its relation.
-use Rattle.std.proofs.Common.{◌≡◌, ◌≢◌, ℕ, inl, inr, sym, subst, ◌∙◌, List}
+use Rattle.std.proofs.Common.{◌≡◌, inl, inr, sym, subst}
 use Rattle.desk_io.specs.Desk.{Desk, Outside}
 use Rattle.desk_io.specs.Outside.{ended}
 use Rattle.gd_words.specs.Job.{Job}

@@ -4,7 +4,7 @@ use Rattle.desk_io.specs.Desk.{Desk, Outside, known}
 use Rattle.desk_io.specs.Outside.{ended}
 use Rattle.gd_words.specs.Job.{Job}
 use Rattle.gd_words.specs.Task.{Task}
-use Rattle.gd_words.specs.Task.Task.{ask, calc, gtp, play, trial}
+use Rattle.gd_words.specs.Task.Task.{ask, gtp, play}
 use Rattle.endgame_run.specs.File.{TakesAtMost, dash, most_of_engine, most_of_file, most_of_game}
 use Rattle.endgame_run.specs.Game.{IsPlayedGame}
 use Rattle.endgame_run.specs.Limits.{limits_of}

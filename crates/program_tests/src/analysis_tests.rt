@@ -57,12 +57,7 @@ const RUNS: [Row; 20] = [
         "fault cannot read\n",
     ),
     ("margin~a", b"", Status::Done, TIE_MARGIN),
-    (
-        "margin~d~--komi~-0.5",
-        b"",
-        Status::Done,
-        CORRIDOR_MARGIN,
-    ),
+    ("margin~d~--komi~-0.5", b"", Status::Done, CORRIDOR_MARGIN),
     ("margin~visited", b"", Status::Done, VISITED_MARGIN),
     (
         "margin~f~--turn~white~--komi~6.5",
