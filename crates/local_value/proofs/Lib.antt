@@ -5,3 +5,6 @@ pub mod BudgetTreeLaws
 pub mod ExchangeLaws
 pub mod OptionsLaws
 pub mod PassLaws
+pub mod LayerLaws
+pub mod LayerPassLaws
+pub mod SteadyLaws

@@ -22,6 +22,7 @@ use Rattle.go_grid.proofs.PlayLemmas.{long_after, held_inside}
 use Rattle.go_grid.proofs.BoardLemmas.{same_or_not}
 use Rattle.local_graph.specs.Built.{Built}
 use Rattle.local_graph.specs.Graph.{Graph}
+use Rattle.local_graph.specs.LocalGraph.{IsGraph}
 use Rattle.local_value.specs.Values.{IsGraphOf, IsPlaceOf}
 use Rattle.std.proofs.lemmas.List.Elements.{Contains-get_or}
 use Rattle.local_play.specs.declared.local_move.LocalMove.{LocalMove}
@@ -295,12 +296,12 @@ pub record IsEdgeFor (positions : List ℕ) (cells next : List Cell) (c : Colour
   pub number : IsNumberTaken cells next e.taken
   pub taken : e.taken ≡ n
 
-module _ (r : Region) (g : Graph) (of : IsGraphOf r g) where
+module _ (r : Region) (g : Graph) (graph : IsGraph r.touch r.cells g.positions g.edges) where
   -- an edge is a local move
-  pub move_of : (k : ℕ) (cells : List Cell) (e : Edge) → IsPlaceOf r g k cells → Contains (edges_at g.edges k) e
+  pub graph_move : (k : ℕ) (cells : List Cell) (e : Edge) → IsPlaceOf r g k cells → Contains (edges_at g.edges k) e
       → (next : List Cell) × IsLocalMove r.touch cells e.colour e.place next × IsEdgeFor g.positions cells next e.colour e.place e.taken e
-  move_of k cells e has (j, lt, at) =
-      let h = of.graph.moves k cells has.inside has.reachable has.packed in
+  graph_move k cells e has (j, lt, at) =
+      let h = graph.moves k cells has.inside has.reachable has.packed in
       let none : LocalMove = record { colour = e.colour; place = 0; next = 0; taken = 0 } in
       let short : j < length h.0 = omega (arith, lt, h.2.0) in
       let m = get_or h.0 j none in
@@ -320,12 +321,12 @@ module _ (r : Region) (g : Graph) (of : IsGraphOf r g) where
       )
 
   -- a local move is an edge
-  pub edge_of : (k : ℕ) (cells next : List Cell) (c : Colour) (i n : ℕ) → IsPlaceOf r g k cells → IsLocalMove r.touch cells c i next
+  pub graph_edge : (k : ℕ) (cells next : List Cell) (c : Colour) (i n : ℕ) → IsPlaceOf r g k cells → IsLocalMove r.touch cells c i next
       → IsNumberTaken cells next n → (e : Edge) × Contains (edges_at g.edges k) e × IsEdgeFor g.positions cells next c i n e
-  edge_of k cells next c i n has move number =
-      let h = edge_for r.touch r.cells g.positions g.edges of.graph k cells next (record { colour = c; place = i })
+  graph_edge k cells next c i n has move number =
+      let h = edge_for r.touch r.cells g.positions g.edges graph k cells next (record { colour = c; place = i })
       has.inside has.reachable has.packed move in
-      let (after, its_move, edge) = move_of k cells h.e has h.among in
+      let (after, its_move, edge) = graph_move k cells h.e has h.among in
       let move' = subst (λ d. IsLocalMove r.touch cells d h.e.place next) (sym h.colour)
       (subst (λ x. IsLocalMove r.touch cells c x next) (sym h.place) move) in
       let same : after ≡ next = one_after r.touch cells after next h.e.colour h.e.place its_move move' in
@@ -343,9 +344,9 @@ module _ (r : Region) (g : Graph) (of : IsGraphOf r g) where
       )
 
   -- it leads to a place of the graph
-  pub next_place : (k : ℕ) (cells next : List Cell) (c : Colour) (i n : ℕ) (e : Edge) → IsPlaceOf r g k cells → IsLocalMove r.touch cells c i next
+  pub graph_next : (k : ℕ) (cells next : List Cell) (c : Colour) (i n : ℕ) (e : Edge) → IsPlaceOf r g k cells → IsLocalMove r.touch cells c i next
       → IsEdgeFor g.positions cells next c i n e → IsPlaceOf r g e.next next
-  next_place k cells next c i n e has move edge =
+  graph_next k cells next c i n e has move edge =
       let m : CycleMove = record { colour = c; place = i } in record {
         inside = edge.inside;
         reachable = (has.reachable.0 ++ m ∷ [], plays_more r.touch r.cells cells next has.reachable.0 m has.reachable.1 move);
@@ -353,20 +354,20 @@ module _ (r : Region) (g : Graph) (of : IsGraphOf r g) where
       }
 
   -- a place of the graph is that of some position
-  pub position_at : (k : ℕ) → k < length g.positions → (cells : List Cell) × IsPlaceOf r g k cells
-  position_at k short =
-      let (cells, reach, packed) = of.graph.reachable (get_or g.positions k 0) (Contains-get_or g.positions k 0 short) in
+  pub graph_position : (k : ℕ) → k < length g.positions → (cells : List Cell) × IsPlaceOf r g k cells
+  graph_position k short =
+      let (cells, reach, packed) = graph.reachable (get_or g.positions k 0) (Contains-get_or g.positions k 0 short) in
       (cells, record { inside = short; reachable = reach; packed = packed })
 
   -- each place with an edge is that of some position
-  pub cells_at : (k : ℕ) (e : Edge) → Contains (edges_at g.edges k) e → (cells : List Cell) × IsPlaceOf r g k cells
-  cells_at k e (j, lt, at) = position_at k (omega (arith, node_inside g.edges k j lt, of.graph.beside))
+  pub graph_cells : (k : ℕ) (e : Edge) → Contains (edges_at g.edges k) e → (cells : List Cell) × IsPlaceOf r g k cells
+  graph_cells k e (j, lt, at) = graph_position k (omega (arith, node_inside g.edges k j lt, graph.beside))
 
   -- a move takes fewer stones than there are places
-  pub taken_less : (k : ℕ) (e : Edge) → Contains (edges_at g.edges k) e → e.taken < length r.cells
-  taken_less k e among =
-      let (cells, has) = cells_at k e among in
-      let (after, move, edge) = move_of k cells e has among in
+  pub graph_taken : (k : ℕ) (e : Edge) → Contains (edges_at g.edges k) e → e.taken < length r.cells
+  graph_taken k e among =
+      let (cells, has) = graph_cells k e among in
+      let (after, move, edge) = graph_move k cells e has among in
       let long = plays_long r.touch r.cells cells has.reachable.0 has.reachable.1 in
       let free : weight (held_at cells e.place) ≡ 0 = ap weight move.free in
       let one = sum_by-set weight cells e.place cell.Black cell.Empty move.place in
@@ -375,6 +376,28 @@ module _ (r : Region) (g : Graph) (of : IsGraphOf r g) where
       ap weight (leads_start _ _ e.place move.stands.0 move.stands.1) ∙ weight-stone e.colour in
       let some = sum_by-set weight after e.place cell.Empty cell.Empty (omega (arith, move.place, long_after move)) in
       omega (arith, edge.number, free, one, room, length-set cells e.place cell.Black, stands, some, long)
+
+module _ (r : Region) (g : Graph) (of : IsGraphOf r g) where
+  pub move_of : (k : ℕ) (cells : List Cell) (e : Edge) → IsPlaceOf r g k cells → Contains (edges_at g.edges k) e
+      → (next : List Cell) × IsLocalMove r.touch cells e.colour e.place next × IsEdgeFor g.positions cells next e.colour e.place e.taken e
+  move_of = graph_move r g of.graph
+
+  pub edge_of : (k : ℕ) (cells next : List Cell) (c : Colour) (i n : ℕ) → IsPlaceOf r g k cells → IsLocalMove r.touch cells c i next
+      → IsNumberTaken cells next n → (e : Edge) × Contains (edges_at g.edges k) e × IsEdgeFor g.positions cells next c i n e
+  edge_of = graph_edge r g of.graph
+
+  pub next_place : (k : ℕ) (cells next : List Cell) (c : Colour) (i n : ℕ) (e : Edge) → IsPlaceOf r g k cells → IsLocalMove r.touch cells c i next
+      → IsEdgeFor g.positions cells next c i n e → IsPlaceOf r g e.next next
+  next_place = graph_next r g of.graph
+
+  pub position_at : (k : ℕ) → k < length g.positions → (cells : List Cell) × IsPlaceOf r g k cells
+  position_at = graph_position r g of.graph
+
+  pub cells_at : (k : ℕ) (e : Edge) → Contains (edges_at g.edges k) e → (cells : List Cell) × IsPlaceOf r g k cells
+  cells_at = graph_cells r g of.graph
+
+  pub taken_less : (k : ℕ) (e : Edge) → Contains (edges_at g.edges k) e → e.taken < length r.cells
+  taken_less = graph_taken r g of.graph
 
 -- The steps of a graph are its edges, by player.
 

@@ -299,7 +299,7 @@ both-same ls rs ls' rs' left right w = record { left = after-same ls ls' left w.
 
 -- The form of the ids after the edges of a place, and what it shares with each tree of the same edges.
 
-canonical-as : (G H C : Tree) → G ≡ᵍ H → IsCanonicalFor G C → IsCanonicalFor H C
+pub canonical-as : (G H C : Tree) → G ≡ᵍ H → IsCanonicalFor G C → IsCanonicalFor H C
 canonical-as G H C s k = record { canonical = k.canonical; under = le-trans H G C s.1 k.under; over = le-trans C G H k.over s.0 }
 
 -- equal trees are numbers alike, and refused alike

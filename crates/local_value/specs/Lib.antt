@@ -5,6 +5,7 @@ pub mod Laws
 pub mod BudgetTree
 pub mod Steady
 pub mod BudgetLaws
+pub mod BudgetValues
 pub mod Values
 pub mod Refusals
 pub mod inner

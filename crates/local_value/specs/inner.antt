@@ -2,3 +2,4 @@
 pub mod GraphMoves
 pub mod Memo
 pub mod Valuing
+pub mod Layers

@@ -116,7 +116,7 @@ fn list_options(
 }
 
 /// The value of a position with these edges.
-fn value_of(
+pub(crate) fn value_of(
     alloc: Global,
     store: &mut Store,
     memo: &mut Memo,

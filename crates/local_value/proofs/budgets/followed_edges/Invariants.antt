@@ -1,0 +1,8 @@
+use Rattle.std.proofs.Common.{take, length}
+use Rattle.local_graph.specs.inner.Graph.{edges_at}
+use Rattle.local_value.specs.inner.Layers.{AreFollowed}
+use Rattle.local_value.proofs.budgets.followed_edges.Given as goal
+
+abbrev pub invariant-loop-edge : goal.invariant-loop-edge
+invariant-loop-edge l =
+    AreFollowed l.owner l.graph.components l.place (length l.graph.positions) l.has_budget (take l.edge-index (edges_at l.graph.edges l.place)) l.edges.items

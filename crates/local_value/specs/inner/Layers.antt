@@ -1,0 +1,54 @@
+-- Edges as they are followed in one layer, where a list of ids has those of the layer and behind them those of the layer before.
+use Rattle.std.specs.Prelude.{ℕ, ◌+◌, ◌*◌, ◌^◌, ◌≡◌, ◌<◌, ◌⊎◌, List, Bool, true, false, Option, None, Some, Contains, length, slice_index}
+use Rattle.dyadic_num.specs.declared.TheConstants.{EXPONENT}
+use Rattle.go_grid.specs.declared.grid.Cell.{Cell}
+use Rattle.go_grid.specs.Region.{Region}
+use Rattle.short_games.specs.Tree.{Tree, tree_at}
+use Rattle.short_games.specs.TextOrder.{IsCanonicalFor}
+use Rattle.short_games.specs.Parts.{HasMoreParts}
+use Rattle.game_canon.specs.Outcomes.{AreWithin}
+use Rattle.local_value.specs.BudgetTree.{IsBudgetTree}
+use Rattle.local_value.specs.BudgetValues.{plain_graph}
+use Rattle.local_value.specs.Values.{IsPlaceOf}
+use Rattle.go_grid.specs.declared.grid.Colour.{Colour}
+use Rattle.local_graph.specs.declared.graph.Edge.{Edge}
+use Rattle.local_graph.specs.ReturnGraph.{ReturnGraph, IsReturningCaptureAt}
+
+-- the edge to the layer before, whose ids stand behind so many
+abbrev pub led_back : ℕ → Edge → Edge
+led_back count e = record { next = e.next + count; colour = e.colour; place = e.place; taken = e.taken }
+
+-- the edge as it is followed: a returning capture by the owner leads to the layer before, if there is one, and all else is as it is
+abbrev pub IsFollowed : Colour → Option (List ℕ) → ℕ → ℕ → Bool → Edge → Option Edge → Type 0
+IsFollowed owner components i count budget e None = IsReturningCaptureAt owner components i e × (budget ≡ false)
+IsFollowed owner components i count budget e (Some f) = (¬ IsReturningCaptureAt owner components i e × (f ≡ e))
+    ⊎ (IsReturningCaptureAt owner components i e × ((budget ≡ true) × (f ≡ led_back count e)))
+
+-- the edges of a place as they are followed
+pub record AreFollowed (owner : Colour) (components : Option (List ℕ)) (i count : ℕ) (budget : Bool) (es fs : List Edge) : Type 0 where
+  pub from : (f : Edge) → Contains fs f → (e : Edge) × Contains es e × IsFollowed owner components i count budget e (Some f)
+  pub to : (e : Edge) → Contains es e → (o : Option Edge) × IsFollowed owner components i count budget e o
+      × ((f : Edge) → o ≡ Some f → Contains fs f)
+
+-- the id is that of the value of the position at the place with a budget, whose numbers have a size of at most `size`
+pub record IsLayerValue (r : Region) (g : ReturnGraph) (owner : Colour) (limit budget size : ℕ) (Ts : List Tree) (i id : ℕ) : Type 0 where
+  pub known : id < length Ts
+  pub canonical : (cells : List Cell) → IsPlaceOf r (plain_graph g) i cells → (G : Tree) → IsBudgetTree r.touch owner budget cells G
+      → IsCanonicalFor G (tree_at Ts id)
+  pub sizes : AreWithin size (tree_at Ts id)
+  pub parts : HasMoreParts (tree_at Ts id) limit → ⊥
+
+-- so large are the numbers of the values of the first `count` places of a layer at most, in the parts of a Dyadic
+abbrev pub layer_size : Region → ReturnGraph → ℕ → ℕ → ℕ
+layer_size r g budget count = ((budget * length g.positions + count) * (length r.cells + 1)) * 2 ^ EXPONENT
+
+-- the ids are those of the values with the budget, by place
+pub record IsLayer (r : Region) (g : ReturnGraph) (owner : Colour) (limit budget : ℕ) (Ts : List Tree) (ids : List ℕ) : Type 0 where
+  pub long : length ids ≡ length g.positions
+  pub each : (i : ℕ) → i < length g.positions
+      → IsLayerValue r g owner limit budget (layer_size r g budget (length g.positions)) Ts i (slice_index ids i)
+
+-- the ids are those of the layer before the budget's, or there is none before it
+abbrev pub IsLayerBefore : Region → ReturnGraph → Colour → ℕ → ℕ → Bool → List Tree → List ℕ → Type 0
+IsLayerBefore r g owner limit budget false Ts ids = budget ≡ 0
+IsLayerBefore r g owner limit budget true Ts ids = (k : ℕ) × (budget ≡ k + 1) × IsLayer r g owner limit k Ts ids
