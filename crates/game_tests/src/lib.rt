@@ -4,6 +4,8 @@
 #[cfg(test)]
 mod calculator_tests;
 #[cfg(test)]
+mod comparison_tests;
+#[cfg(test)]
 mod dyadic_tests;
 #[cfg(test)]
 mod order_tests;
