@@ -1,0 +1,2 @@
+pub mod BudgetPlay
+pub mod BudgetPlayLaws
