@@ -44,6 +44,14 @@ class Moves:
         return sorted(self.stones, key=self.shortage)
 
 
+BEFORE = ('--after', '0')  # the position of a problem, where its solution stands behind it
+
+
+def is_problem(text):
+    """Whether the bytes of a file are a problem with its solution behind it."""
+    return b'C[right' in text
+
+
 def moves_of(text, options=()):
     """The first moves of the position of a file's bytes."""
     return Moves(answered('moves', text, options))
