@@ -1,1 +1,2 @@
 pub mod BudgetPlayLemmas
+pub mod RegionLemmas

@@ -1,10 +1,18 @@
 -- What winning with budgets says of the whole game.
-use Rattle.std.specs.Prelude.{ℕ, ◌≡◌, ◌↔◌, List}
+use Rattle.std.specs.Prelude.{ℕ, ◌≡◌, ◌<◌, ◌↔◌, List, length, slice_index}
+use Rattle.go_grid.specs.declared.grid.Cell.{Cell}
 use Rattle.go_grid.specs.declared.grid.Colour.{Colour}
+use Rattle.go_grid.specs.Board.{Board}
+use Rattle.go_grid.specs.Chain.{IsSettled}
 use Rattle.go_grid.specs.Region.{Region}
-use Rattle.whole_rules.specs.WholeGame.{Whole}
+use Rattle.local_play.specs.LocalPlay.{IsLocalMove}
+use Rattle.local_graph.specs.Returns.{IsCapture, Returns}
+use Rattle.region_cut.specs.Cut.{IsRegionOfPlay}
+use Rattle.region_cut.specs.LocalBoard.{HoldsPosition}
+use Rattle.whole_rules.specs.declared.states.Move.TheVariants.{Stone}
+use Rattle.whole_rules.specs.WholeGame.{Whole, IsMove}
 use Rattle.whole_rules.specs.FirstWinningMove.{IsWinner}
-use Rattle.whole_budgets.specs.BudgetPlay.{AreAtMost, WinsWithBudgets, WinsWithCaptures}
+use Rattle.whole_budgets.specs.BudgetPlay.{AreAtMost, IsReturningCapture, WinsWithBudgets, WinsWithCaptures}
 
 -- what a player wins with budgets that player wins by plain recursion
 abbrev pub BudgetsWinTheGame : Type 0
@@ -23,3 +31,9 @@ SomeCapturesWin = (regions : List Region) (owner : Colour) (s : Whole) → IsWin
 abbrev pub OneWinsWithBudgets : Type 0
 OneWinsWithBudgets = (regions : List Region) (c d : Colour) (s : Whole) (b e : Region → ℕ)
     → WinsWithBudgets regions c s b → WinsWithBudgets regions d s e → c ≡ d
+
+-- in a region of play of a settled board a stone is a capture that returns exactly where its local move is one
+abbrev pub StonesReturnLocally : Type 0
+StonesReturnLocally = (g : Board) (r : Region) (s t : Whole) (i : ℕ) (before after : List Cell) → IsSettled g → IsRegionOfPlay g r
+    → HoldsPosition g r before s.board → i < length r.points → IsMove s (Stone (slice_index r.points i)) t → IsLocalMove r.touch before s.side i after
+    → IsReturningCapture r s (Stone (slice_index r.points i)) t ↔ (IsCapture before after × Returns r.touch before after)

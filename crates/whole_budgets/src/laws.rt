@@ -5,13 +5,16 @@ ghost use Rattle.whole_budgets.specs.BudgetPlayLaws.{
   GreaterBudgetsWin,
   OneWinsWithBudgets,
   SomeCapturesWin,
+  StonesReturnLocally,
 };
 
 /// What a player wins with a budget of captures that return, the other player being free of one, that player wins by plain
-/// recursion, and with every greater budget; and who wins by plain recursion wins with some budget. It has no code.
+/// recursion, and with every greater budget; and who wins by plain recursion wins with some budget. In a region of
+/// play of a settled board a stone uses up budget exactly where its local move does. It has no code.
 pub fn budget_play_laws()
     ensures game { BudgetsWinTheGame }
     ensures greater { GreaterBudgetsWin }
     ensures some { SomeCapturesWin }
     ensures one { OneWinsWithBudgets }
+    ensures local { StonesReturnLocally }
 {}
