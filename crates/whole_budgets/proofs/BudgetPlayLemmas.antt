@@ -16,18 +16,22 @@ use Rattle.whole_rules.specs.FirstWinningMove.{IsWinner}
 use Rattle.whole_budgets.specs.BudgetPlay.{Budgeted, WinsWithCaptures, position_on, IsReturningCapture, IsBudgetAfter, AreAtMost, LeadsWithin}
 use Rattle.whole_budgets.specs.BudgetPlayLaws.{BudgetsWinTheGame, GreaterBudgetsWin, SomeCapturesWin, OneWinsWithBudgets}
 
-other_not : (c : Colour) → c ≡ other c → ⊥
+pub other_not : (c : Colour) → c ≡ other c → ⊥
 other_not colour.Black e = cc
 other_not colour.White e = cc
 
-other_twice : (c : Colour) → other (other c) ≡ c
+pub other_twice : (c : Colour) → other (other c) ≡ c
 other_twice colour.Black = refl
 other_twice colour.White = refl
+
+-- whether a point is one of the region's
+pub inside_or_not : (r : Region) (p : ℕ) → Decided (Contains r.points p)
+inside_or_not r p = some_below (length r.points) (λ k. get_or r.points k p ≡ p) (λ k. cases_eq (get_or r.points k p) p)
 
 -- whether a move is a capture in the region that returns
 returning_or_not : (r : Region) (s t : Whole) (m : Move) → Decided (IsReturningCapture r s m t)
 returning_or_not r s t (Stone p) = alike _ _ (λ (inside, (own, takes, returns)). (inside, takes, returns)) (λ (inside, takes, returns). (inside, (refl, takes, returns)))
-    (both _ _ (some_below (length r.points) (λ k. get_or r.points k p ≡ p) (λ k. cases_eq (get_or r.points k p) p))
+    (both _ _ (inside_or_not r p)
     (uses_or_not r.touch colour.Black colour.Black (position_on r s.board) (position_on r t.board)))
 returning_or_not r s t Spend = inr (λ u. u)
 returning_or_not r s t Half = inr (λ u. u)
@@ -48,7 +52,7 @@ pays_more r s t m b c d a (inl (u, e)) = (inl (u, omega (arith, a, e)), omega (a
 pays_more r s t m b c d a (inr (u, e)) = (inr (u, omega (arith, a, e)), omega (arith, a, e))
 
 -- a state with budgets
-abbrev with : Whole → (Region → ℕ) → Budgeted
+abbrev pub with : Whole → (Region → ℕ) → Budgeted
 with s b = record { state = s; budgets = b }
 
 module _ (regions : List Region) (owner : Colour) where
@@ -56,17 +60,17 @@ module _ (regions : List Region) (owner : Colour) where
   Step = LeadsWithin regions owner
 
   -- after a move of the owner's the other player is to move, and after one of the other's the owner
-  theirs : (s t : Whole) (m : Move) → s.side ≡ owner → IsMove s m t → t.side ≡ other owner
+  pub theirs : (s t : Whole) (m : Move) → s.side ≡ owner → IsMove s m t → t.side ≡ other owner
   theirs s t m e h = move_turn s t m h ∙ ap other e
 
-  mine : (s t : Whole) (m : Move) → s.side ≡ other owner → IsMove s m t → t.side ≡ owner
+  pub mine : (s t : Whole) (m : Move) → s.side ≡ other owner → IsMove s m t → t.side ≡ owner
   mine s t m e h = move_turn s t m h ∙ ap other e ∙ other_twice owner
 
-  not_mine : (s : Whole) → s.side ≡ other owner → s.side ≢ owner
+  pub not_mine : (s : Whole) → s.side ≡ other owner → s.side ≢ owner
   not_mine s e o = other_not owner (sym o ∙ e)
 
   -- each move of the other player's is one with the budgets as they are
-  free : (s t : Whole) (b : Region → ℕ) → s.side ≡ other owner → Leads s t → Step (with s b) (with t b)
+  pub free : (s t : Whole) (b : Region → ℕ) → s.side ≡ other owner → Leads s t → Step (with s b) (with t b)
   free s t b e h = (h.0, h.1, inr (not_mine s e, λ r i. refl))
 
   mutual
@@ -124,7 +128,7 @@ module _ (regions : List Region) (owner : Colour) where
     ]
 
 -- who is the other player's other
-turned : (c : Colour) (s : Whole) → c ≡ other s.side → s.side ≡ other c
+pub turned : (c : Colour) (s : Whole) → c ≡ other s.side → s.side ≡ other c
 turned c s e = sym (ap other e ∙ other_twice s.side)
 
 pub budgets_win : BudgetsWinTheGame

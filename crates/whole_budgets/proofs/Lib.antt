@@ -1,2 +1,4 @@
 pub mod BudgetPlayLemmas
 pub mod RegionLemmas
+pub mod QuietLemmas
+pub mod KoRuleLemmas

@@ -9,17 +9,27 @@ use Rattle.go_grid.specs.Play.{held_at}
 use Rattle.go_grid.specs.Region.{Region}
 use Rattle.go_grid.proofs.PlayLemmas.{long_after}
 use Rattle.local_graph.specs.Returns.{IsCapture, Returns}
-use Rattle.region_cut.specs.LocalBoard.{IsLocal}
+use Rattle.region_cut.specs.LocalBoard.{HoldsPosition, IsLocal}
 use Rattle.region_cut.proofs.LocalBoardLemmas.{plays_locally}
+use Rattle.whole_rules.specs.WholeGame.{Whole}
+use Rattle.whole_rules.proofs.WallLaws.{Keeps}
 use Rattle.whole_budgets.specs.BudgetPlay.{position_on}
 use Rattle.whole_budgets.specs.BudgetPlayLaws.{StonesReturnLocally}
 
-position_is : (r : Region) (h : Board) (cells : List Cell) → length cells ≡ length r.points
+pub position_is : (r : Region) (h : Board) (cells : List Cell) → length cells ≡ length r.points
     → ((i : ℕ) → i < length r.points → cell_at h (slice_index r.points i) ≡ held_at cells i) → position_on r h ≡ cells
 position_is r h cells long same =
     let mapped = length-map r.points (λ p. cell_at h p) in
     ext_get_or cell.Empty _ _ (mapped ∙ sym long)
     (λ i lt. get_or-map (λ p. cell_at h p) r.points i 0 cell.Empty (omega (arith, lt, mapped)) ∙ same i (omega (arith, lt, mapped)))
+
+-- on a state that keeps its walls the board holds the position
+pub held : (g : Board) (r : Region) (s : Whole) → Keeps g s → HoldsPosition g r (position_on r s.board) s.board
+held g r s keeps = record {
+  walls = keeps.walls;
+  long = length-map r.points (λ p. cell_at s.board p);
+  local = λ i lt. sym (get_or-map (λ p. cell_at s.board p) r.points i 0 cell.Empty lt);
+}
 
 pub return_locally : StonesReturnLocally
 return_locally g r s t i before after settled play holds lt (inside, (h, (n, placed, taken, is))) local =

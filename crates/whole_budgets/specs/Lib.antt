@@ -1,2 +1,4 @@
 pub mod BudgetPlay
 pub mod BudgetPlayLaws
+pub mod KoRules
+pub mod KoRuleLaws

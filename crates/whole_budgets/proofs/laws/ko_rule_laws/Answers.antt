@@ -1,0 +1,8 @@
+use Rattle.whole_budgets.proofs.KoRuleLemmas.{named_on_returns, no_captures_win}
+use Rattle.whole_budgets.proofs.laws.ko_rule_laws.Goals as goal
+
+pub returns-clause-win : goal.returns-clause-win
+returns-clause-win c = no_captures_win
+
+pub returns-clause-named : goal.returns-clause-named
+returns-clause-named c = named_on_returns
