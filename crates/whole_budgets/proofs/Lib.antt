@@ -2,3 +2,4 @@ pub mod BudgetPlayLemmas
 pub mod RegionLemmas
 pub mod QuietLemmas
 pub mod KoRuleLemmas
+pub mod SimpleKoLemmas

@@ -2,3 +2,4 @@ pub mod BudgetPlay
 pub mod BudgetPlayLaws
 pub mod KoRules
 pub mod KoRuleLaws
+pub mod SimpleKo

@@ -8,6 +8,7 @@ ghost use Rattle.whole_budgets.specs.BudgetPlayLaws.{
   StonesReturnLocally,
 };
 ghost use Rattle.whole_budgets.specs.KoRuleLaws.{KoRulesAreOnReturns, NoCapturesWinUnderRules};
+ghost use Rattle.whole_budgets.specs.SimpleKo.{WinnersStandUnderSimpleKo};
 
 /// What a player wins with a budget of captures that return, the other player being free of one, that player wins by plain
 /// recursion, and with every greater budget; and who wins by plain recursion wins with some budget. In a region of
@@ -21,8 +22,10 @@ pub fn budget_play_laws()
 {}
 
 /// What a player wins without a capture that returns that player wins under every ko rule that forbids only such captures and
-/// boards that were there before, as simple ko, situational and positional superko do. It has no code.
+/// boards that were there before, as simple ko, situational and positional superko do. Under simple ko every
+/// winner stands. It has no code.
 pub fn ko_rule_laws()
     ensures win { NoCapturesWinUnderRules }
     ensures named { KoRulesAreOnReturns }
+    ensures simple { WinnersStandUnderSimpleKo }
 {}
