@@ -1,7 +1,8 @@
 // The page: asks the server for what is to be shown, draws it, and sends what the user does.
 
-import { boardName, draw, place, pointName, pointUnder } from './board.js';
+import { draw, place, pointName, pointUnder } from './board.js';
 import * as panels from './panels.js';
+import { described, summary } from './words.js';
 
 const BUSY_PAUSE = 250; // milliseconds between two questions to the server while it works
 const PAUSE = 1500;
@@ -10,7 +11,7 @@ const OPTIONS = ['black_prisoners', 'white_prisoners', 'positions', 'parts'];
 
 const byId = (id) => document.getElementById(id);
 const board = byId('board');
-const state = { view: null, near: null, cursor: 'aa', step: 0, failures: 0, told: '', stepsOf: '' };
+const state = { view: null, near: null, cursor: 'aa', here: null, step: 0, failures: 0, told: '', stepsOf: '' };
 
 // Talking with the server
 
@@ -83,7 +84,8 @@ function show(view) {
   panels.detail(view, state.near, choose);
   showBoard();
   showText(view);
-  tell(summary(view));
+  showHere(state.here);
+  tell(summary(view, byId('turn-told')));
   if (focused && document.activeElement.id !== focused && byId(focused)) {
     byId(focused).focus();
   }
@@ -197,17 +199,6 @@ function showText(view) {
   byId('legend').textContent = view.safe ? Object.entries(view.signs).map(([sign, meaning]) => `${sign} ${meaning}`).join('; ') + '.' : '';
 }
 
-function summary(view) {
-  if (view.game) {
-    const last = view.game.lines.at(-1) || 'The game begins';
-    return `${last}. ${byId('turn-told').textContent}`;
-  }
-  if (view.refusals.length > 0) {
-    return view.refusals.map((refusal) => `Refused: ${refusal.line}. ${refusal.means}`).join(' ');
-  }
-  return view.summary || '';
-}
-
 /** Says a text to who listens, once. */
 function tell(text) {
   if (text && text !== state.told) {
@@ -216,18 +207,11 @@ function tell(text) {
   }
 }
 
-/** What stands at a point, in words. */
-function described(point) {
-  const { view } = state;
+/** Tells what stands at the point that is pointed at. */
+function showHere(point) {
   const now = shownBoard();
-  const [column, row] = place(point);
-  const stone = { X: 'black stone', O: 'white stone', '.': 'empty' }[now.rows[row][column]];
-  const sign = view.safe && now === view.board ? view.signs[view.safe.signs[point]] : stone;
-  const region = view.safe && view.safe.regions.find((told) => told.points.includes(point));
-  const move = !view.game && view.moves && view.moves.moves.find((told) => told.move === point);
-  const worth = move ? `; a move here ${move.wins ? 'wins' : 'loses'}, Black wins up to komi ${move.komi}, `
-    + (move.best ? 'best' : `${move.loss} less than the best`) : '';
-  return `${point}, ${boardName(point, now)}: ${sign}${region ? `; region ${region.point}` : ''}${worth}`;
+  state.here = point && now && isOn(point, now) ? point : null;
+  byId('here').textContent = state.here ? described(point, state.view, now) : '\u00a0';
 }
 
 // What the user does
@@ -261,8 +245,8 @@ function goTo(point) {
     choose(region.point);
   }
   showBoard();
-  byId('here').textContent = described(point);
-  tell(described(point));
+  showHere(point);
+  tell(byId('here').textContent);
 }
 
 function tool() {
@@ -285,14 +269,18 @@ function undo() {
 }
 
 function after(count) {
-  const { total } = state.view.line;
+  const { played, total } = state.view.line;
+  if (Number.isNaN(count)) {
+    byId('after').value = played;
+    return null;
+  }
   return act({ action: 'configure', options: { after: Math.max(0, Math.min(count, total)) } });
 }
 
 const KEYS = {
   Enter: () => strike(state.cursor), ' ': () => strike(state.cursor), u: undo, '[': () => after(state.view.line.played - 1),
   ']': () => after(state.view.line.played + 1), Escape: () => act({ action: 'stop' }),
-  s: () => state.view.game && act({ action: 'play', move: 'spend' }),
+  Home: () => goTo('aa'), s: () => state.view.game && act({ action: 'play', move: 'spend' }),
   b: () => pick('black'), w: () => pick('white'), x: () => pick(''),
 };
 const ARROWS = { ArrowLeft: [-1, 0], ArrowRight: [1, 0], ArrowUp: [0, -1], ArrowDown: [0, 1] };
@@ -336,8 +324,8 @@ function listen() {
   });
   board.addEventListener('pointermove', (event) => {
     const point = state.view && pointUnder(board, event, shownBoard());
-    if (point && byId('here').textContent !== described(point)) {
-      byId('here').textContent = described(point);
+    if (point && point !== state.here) {
+      showHere(point);
       const region = state.view.safe && state.view.safe.regions.find((told) => told.points.includes(point));
       if (region) {
         choose(region.point);
@@ -358,7 +346,10 @@ function listen() {
   on('turn', 'change', () => configure({ turn: byId('turn').value || null }));
   on('tax', 'change', () => configure({ tax: byId('tax').checked }));
   OPTIONS.forEach((name) => on(name, 'change', () => configure({ [name]: number(name) })));
-  on('file', 'change', () => open(byId('file').files[0]));
+  on('file', 'change', async () => {
+    await open(byId('file').files[0]);
+    byId('file').value = ''; // so that the same file can be opened again
+  });
   on('choose', 'click', () => act({ action: 'choose', name: byId('names').value }));
   on('new', 'click', () => act({ action: 'new', columns: number('columns'), rows: number('rows') }));
   document.addEventListener('dragover', (event) => {

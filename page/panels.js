@@ -159,7 +159,7 @@ export function game(view, act) {
   }
   const { winner, over, thinking, lines, user, spent, refused, fault } = view.game;
   const ended = winner !== null || over;
-  const turn = winner ? `${winner} wins.` : over ? `The game ended. ${fault}` : thinking ? 'The program is thinking.' : `Your move, as ${user}.`;
+  const turn = winner ? `${winner === 'black' ? 'Black' : 'White'} wins.` : over ? `The game ended. ${fault}` : thinking ? 'The program is thinking.' : `Your move, as ${user}.`;
   const waits = ended || thinking;
   fill('game', [
     make('h2', {}, 'Game'), make('p', { id: 'turn-told', class: 'winner' }, turn),

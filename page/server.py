@@ -24,7 +24,7 @@ AWAY = 90  # seconds without a word of the page after which the server ends: a p
 GRACE = 4  # the same after the page said that it goes; one that is only loaded again comes back
 FILES = {
     '': ('page.html', 'text/html; charset=utf-8'), 'page.css': ('page.css', 'text/css; charset=utf-8'),
-    **{name: (name, 'text/javascript; charset=utf-8') for name in ('page.js', 'board.js', 'panels.js')},
+    **{name: (name, 'text/javascript; charset=utf-8') for name in ('page.js', 'board.js', 'panels.js', 'words.js')},
 }
 POLICY = ("default-src 'none'; script-src 'self'; style-src 'self'; img-src 'self' data:; connect-src 'self'; base-uri 'none'; form-action 'none'; "
           "frame-ancestors 'none'")
