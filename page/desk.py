@@ -62,10 +62,20 @@ class Desk:
                     return
                 name, do = task
                 self.working = name, time.monotonic()
-            do()
+            try:
+                do()
+            except (Fault, OSError, LookupError, ValueError) as error:
+                self.fail(name, error)
             with self.wake:
                 self.working = None
                 self.changed()
+
+    def fail(self, name, error):
+        """Ends what failed, so that it isn't tried over and over; `again` does."""
+        with self.lock:
+            self.leave_table()
+            self.mending, self.question.is_stopped = None, True
+            self.note = 'The work on %s failed: %s' % (name, error)
 
     def next_task(self):
         question, table = self.question, self.table
@@ -261,7 +271,7 @@ class Desk:
                 'options': {name: getattr(position, name) for name in (
                     'after', 'komi', 'turn', 'black_prisoners', 'white_prisoners', 'tax', 'positions', 'parts')},
                 'line': record and {'played': len(record.played), 'total': len(record.played) + len(record.later)},
-                'board': data.get('board') or question.fallback(), 'signs': answers.SIGNS,
+                'board': data.get('board') or question.fallback('board' in data), 'signs': answers.SIGNS,
                 **{command: data.get(command) for command in COMMANDS[1:]},
                 'refusals': question.refused, 'steps': question.steps, 'pair': question.pair(), 'closing': question.closing,
                 'working': self.at_work(), 'game': self.table and self.table.view(),
@@ -269,6 +279,15 @@ class Desk:
             if view['moves'] and view['margin']:
                 view['summary'] = answers.summary(view['board'], view['moves'], view['margin'])
             return view
+
+    def settle(self, seconds):
+        """Waits until all work for the present position is done, but no longer than so many seconds."""
+        with self.wake:
+            question = self.question
+            self.wake.wait_for(lambda: self.question is not question or self.is_settled() or self.is_closing, seconds)
+
+    def is_settled(self):
+        return not self.working and self.next_task() is None
 
     def at_work(self):
         if not self.working:

@@ -11,7 +11,7 @@ const OPTIONS = ['black_prisoners', 'white_prisoners', 'positions', 'parts'];
 
 const byId = (id) => document.getElementById(id);
 const board = byId('board');
-const state = { view: null, near: null, cursor: 'aa', here: null, step: 0, failures: 0, told: '', stepsOf: '' };
+const state = { view: null, near: null, cursor: 'aa', here: null, step: 0, failures: 0, summary: '', stepsOf: '' };
 
 // Talking with the server
 
@@ -74,20 +74,32 @@ function show(view) {
     return;
   }
   state.view = view;
-  const focused = document.activeElement && document.activeElement.id;
   forgetWhatHasGone(view);
   showWork(view.working);
   showFile(view);
-  panels.answer(view);
-  panels.refusals(view, state.step, act, stepTo);
-  panels.game(view, act);
-  panels.detail(view, state.near, choose);
+  keepFocus(() => {
+    panels.answer(view);
+    panels.refusals(view, state.step, act, stepTo);
+    panels.game(view, act);
+    panels.detail(view, state.near, choose);
+  });
   showBoard();
   showText(view);
   showHere(state.here);
-  tell(summary(view, byId('turn-told')));
-  if (focused && document.activeElement.id !== focused && byId(focused)) {
-    byId(focused).focus();
+  const told = summary(view, byId('turn-told'));
+  if (told !== state.summary) {
+    state.summary = told;
+    tell(told);
+  }
+}
+
+/** Draws panels anew; the focus stays, or goes to the board where what had it is gone. */
+function keepFocus(render) {
+  const focused = document.activeElement === document.body ? null : document.activeElement;
+  render();
+  if (focused && !document.contains(focused)) {
+    const again = focused.id && byId(focused.id);
+    (again && !again.disabled ? again : board).focus({ preventScroll: true });
   }
 }
 
@@ -199,12 +211,9 @@ function showText(view) {
   byId('legend').textContent = view.safe ? Object.entries(view.signs).map(([sign, meaning]) => `${sign} ${meaning}`).join('; ') + '.' : '';
 }
 
-/** Says a text to who listens, once. */
+/** Says a text to who listens. */
 function tell(text) {
-  if (text && text !== state.told) {
-    state.told = text;
-    byId('said').textContent = text;
-  }
+  byId('said').textContent = text;
 }
 
 /** Tells what stands at the point that is pointed at. */
@@ -219,23 +228,17 @@ function showHere(point) {
 function choose(region) {
   if (state.near !== region) {
     state.near = region;
-    panels.detail(state.view, region, choose);
+    keepFocus(() => panels.detail(state.view, region, choose));
     showBoard();
-    if (byId(`region-${region}`) && document.activeElement === document.body) {
-      byId(`region-${region}`).focus();
-    }
   }
 }
 
 function stepTo(step) {
   state.step = Math.max(0, Math.min(step, state.view.steps.length - 1));
-  const focused = document.activeElement.id;
-  panels.refusals(state.view, state.step, act, stepTo);
+  keepFocus(() => panels.refusals(state.view, state.step, act, stepTo));
   showBoard();
   showText(state.view);
   tell(byId('cycle-told').textContent);
-  const again = byId(focused);
-  (again && !again.disabled ? again : board).focus();
 }
 
 function goTo(point) {

@@ -64,7 +64,7 @@ class Question:
     def owes_step(self):
         """Whether a board of the cycle that is refused is still to be drawn."""
         cycle = self.cycle()
-        return bool(cycle) and len(self.steps) <= min(len(cycle['moves']), LONGEST_CYCLE) and None not in self.steps
+        return bool(cycle) and not self.is_stopped and len(self.steps) <= min(len(cycle['moves']), LONGEST_CYCLE) and None not in self.steps
 
     def pair(self):
         """A pair of neutral points on the cycle that a script can fill."""
@@ -76,14 +76,14 @@ class Question:
         found = [[self.board.name(point) for point in pair] for pair in pairs(self.board, drawn) if not self.board.stones.keys() & set(pair)]
         return next((pair for pair in found if on_cycle.issuperset(pair)), None)
 
-    def fallback(self):
-        """The board as the page reads it, where the program reads none."""
+    def fallback(self, is_refused):
+        """The board as the page reads it, where the program reads none, or hasn't read it yet."""
         if self.record is None:
             return None
         board = self.record.board
         rows = [''.join({'black': 'X', 'white': 'O'}.get(board.stones.get((x, y)), '.') for x in range(board.columns)) for y in range(board.rows)]
         return {'columns': board.columns, 'rows': rows, 'side': self.position.turn or self.record.side,
-                'komi': self.position.komi or self.record.komi, 'prisoners': self.record.prisoners, 'unread': True}
+                'komi': self.position.komi or self.record.komi, 'prisoners': self.record.prisoners, 'unread': is_refused}
 
 
 def has_marks(position):

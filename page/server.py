@@ -20,6 +20,7 @@ ADDRESS = '127.0.0.1'
 MOST_REQUESTS = 16  # at once
 SLOWEST = 10  # seconds that a request may take to come
 LONGEST_ADDRESS = 500
+SETTLING = 0.4  # seconds for which the reply to an action waits for the answers, so that the page needn't be drawn twice
 AWAY = 90  # seconds without a word of the page after which the server ends: a page that is hidden seldom speaks
 GRACE = 4  # the same after the page said that it goes; one that is only loaded again comes back
 FILES = {
@@ -41,7 +42,7 @@ class Server(ThreadingHTTPServer):
     daemon_threads = True
 
     def __init__(self, desk, port=0):
-        self.desk, self.secret = desk, secrets.token_urlsafe(24)
+        self.desk, self.secret, self.key = desk, secrets.token_urlsafe(24), secrets.token_urlsafe(24)
         self.places = threading.BoundedSemaphore(MOST_REQUESTS)
         self.deadline = None  # when the server ends, if the page doesn't speak; none before its first word
         super().__init__((ADDRESS, port), Handler)
@@ -78,6 +79,10 @@ class Server(ThreadingHTTPServer):
     def address(self):
         return '%s/%s/' % (self.origins()[0], self.secret)
 
+    def key_address(self):
+        """An address that leads to the page once. A browser is begun with it, since others can see the words of a process."""
+        return '%s/open/%s' % (self.origins()[0], self.key)
+
 
 class Handler(BaseHTTPRequestHandler):
     server_version, sys_version = 'gdsolve-board', ''
@@ -88,23 +93,33 @@ class Handler(BaseHTTPRequestHandler):
 
     # Who may ask
 
-    def path_behind_secret(self):
-        """What stands behind the secret, or None where the request isn't one of the page's own."""
-        if len(self.path) > LONGEST_ADDRESS or not self.path.isascii():
-            return None
+    def is_own(self):
+        """Whether the request's host and origin are the page's own."""
         hosts = [origin.partition('//')[2] for origin in self.server.origins()]
         host, origin = self.headers.get_all('Host', []), self.headers.get_all('Origin', [])
-        if len(host) != 1 or host[0] not in hosts:
-            return None
-        is_own = origin == ['http://' + host[0]]
-        if not is_own and (origin or self.command != 'GET'):
-            return None
-        if self.headers.get('Sec-Fetch-Site', 'none') not in ('same-origin', 'none'):
-            return None
+        if len(self.path) > LONGEST_ADDRESS or not self.path.isascii() or len(host) != 1 or host[0] not in hosts:
+            return False
+        if origin != ['http://' + host[0]] and (origin or self.command != 'GET'):
+            return False
+        return self.headers.get('Sec-Fetch-Site', 'none') in ('same-origin', 'none')
+
+    def path_behind_secret(self):
+        """What stands behind the secret, or None where the request isn't one of the page's own."""
         _, secret, *rest = self.path.split('/', 2) + ['']
-        return rest[0] if len(rest) == 2 and hmac.compare_digest(secret, self.server.secret) else None
+        is_known = len(rest) == 2 and self.is_own() and hmac.compare_digest(secret, self.server.secret)
+        return rest[0] if is_known else None
+
+    def has_key(self):
+        """Whether the request has the key, which opens once."""
+        key = self.server.key
+        if key is None or not self.is_own() or not hmac.compare_digest(self.path, '/open/' + key):
+            return False
+        self.server.key = None
+        return True
 
     def do_GET(self):
+        if self.has_key():
+            return self.reply(b'', 'text/plain', {'Location': self.server.address()}, 303)
         path = self.path_behind_secret()
         if path is None:
             return self.refuse(403, 'this page is not for you')
@@ -168,6 +183,7 @@ class Handler(BaseHTTPRequestHandler):
             self.act(body)
         else:
             return self.refuse(404, 'there is no such page')
+        desk.settle(SETTLING)
         self.tell(desk.view())
 
     def act(self, body):

@@ -2,6 +2,7 @@
 
 import pathlib
 import tempfile
+import time
 import unittest
 
 import common
@@ -34,7 +35,7 @@ class AtDesk(unittest.TestCase):
         def view():
             seen = desk.view()
             with desk.lock:
-                return seen if not desk.working and desk.next_task() is None and seen['change'] == desk.change else None
+                return seen if desk.is_settled() and seen['change'] == desk.change else None
         return wait_for(view)
 
 
@@ -67,6 +68,18 @@ class Answers(AtDesk):
         view = self.settled(self.desk(b'<script>'))
         self.assertEqual(view['refusals'][0]['line'], 'fault file no tree')
         self.assertIsNone(view['board'])
+
+
+    def test_no_work_is_waited_for_longer_than_told(self):
+        with tempfile.TemporaryDirectory() as folder:
+            desk = self.desk(NEUTRAL, common.script(folder, 'idle', 'import time\ntime.sleep(60)\n'))
+            begun = time.monotonic()
+            desk.settle(0.2)
+            self.assertTrue(0.2 <= time.monotonic() - begun < 5)
+            self.assertFalse(desk.view()['board']['unread'])
+            desk.do('stop')
+            desk.settle(10)
+            self.assertTrue(desk.view()['board']['unread'])
 
 
 class Editing(AtDesk):

@@ -2,19 +2,24 @@
 
 import http.client
 import json
+import pathlib
+import signal
 import socket
 import subprocess
 import sys
+import tempfile
 import threading
 import time
 import unittest
 
 import common
+import answers
 import server as page
 from common import NEUTRAL, wait_for
 from desk import Desk
 from engine import Limits
 from position import LONGEST_FILE, Position
+from script import Fault
 from server import Server
 
 
@@ -74,6 +79,15 @@ class Who(AtServer):
             self.assertEqual(self.ask('GET', self.top + 'view', Origin=origin)[0], 403, origin)
         self.assertEqual(self.ask('POST', self.top + 'do', b'{"action":"undo"}', Origin=None)[0], 403)
         self.assertEqual(self.ask('GET', self.top + 'view', Sec_Fetch_Site='cross-site')[0], 403)
+
+    def test_the_key_opens_once(self):
+        key = '/open/' + self.server.key
+        self.assertEqual(self.ask('GET', key, Host='evil.example')[0], 403)
+        self.assertEqual(self.ask('GET', '/open/None')[0], 403)
+        status, headers, _ = self.ask('GET', key)
+        self.assertEqual((status, headers['Location']), (303, self.server.address()))
+        self.assertEqual(self.ask('GET', key)[0], 403)
+        self.assertEqual(self.ask('GET', '/open/None')[0], 403)
 
     def test_only_this_machine(self):
         self.assertEqual(self.server.server_address[0], '127.0.0.1')
@@ -161,16 +175,44 @@ class HowLong(AtServer):
 
 
 class Script(unittest.TestCase):
+    def begin(self, *words):
+        begun = subprocess.Popen([sys.executable, common.TOP / 'gdsolve-board', '--no-browser', '--program', *words], stdout=subprocess.PIPE, text=True)
+        self.addCleanup(begun.stdout.close)
+        self.addCleanup(begun.wait)
+        self.addCleanup(begun.kill)
+        self.assertRegex(begun.stdout.readline(), r'^http://127\.0\.0\.1:[0-9]+/[-_A-Za-z0-9]{32}/\n$')
+        return begun
+
     def test_the_address_is_printed_and_an_interrupt_ends_it(self):
-        words = [sys.executable, common.TOP / 'gdsolve-board', '--no-browser', '--program', common.solver()]
-        begun = subprocess.Popen(words, stdout=subprocess.PIPE, text=True)
-        try:
-            self.assertRegex(begun.stdout.readline(), r'^http://127\.0\.0\.1:[0-9]+/[-_A-Za-z0-9]{32}/\n$')
-            begun.send_signal(2)
-            self.assertEqual(begun.wait(10), 130)
-        finally:
-            begun.kill()
-            begun.stdout.close()
+        for number, status in ((signal.SIGINT, 130), (signal.SIGTERM, 143)):
+            begun = self.begin(common.solver())
+            begun.send_signal(number)
+            self.assertEqual(begun.wait(10), status)
+
+    def test_what_it_began_ends_with_it(self):
+        with tempfile.TemporaryDirectory() as folder:
+            log = pathlib.Path(folder, 'log')
+            idle = common.script(folder, 'idle', "import os, time\nopen(%r, 'w').write(str(os.getpid()))\ntime.sleep(60)\n" % str(log))
+            begun = self.begin(idle)
+            pid = wait_for(lambda: log.exists() and log.read_text())
+            begun.send_signal(signal.SIGTERM)
+            begun.wait(10)
+            wait_for(lambda: not pathlib.Path('/proc', pid).exists())
+
+    def test_only_files_of_the_folder_are_offered(self):
+        with tempfile.TemporaryDirectory() as folder:
+            pathlib.Path(folder, 'outside.sgf').write_bytes(NEUTRAL)
+            inner = pathlib.Path(folder, 'inner')
+            inner.mkdir()
+            (inner / 'a.sgf').write_bytes(NEUTRAL)
+            (inner / 'link.sgf').symlink_to('../outside.sgf')
+            (inner / 'note.txt').write_text('no record')
+            offered = answers.script('gdsolve-board').offered
+            self.assertEqual(sorted(offered(inner)[0]), ['a.sgf'])
+            self.assertEqual(sorted(offered(inner / 'a.sgf')[0]), ['a.sgf'])
+            (inner / 'a.sgf').unlink()
+            with self.assertRaises(Fault):
+                offered(inner)
 
 
 if __name__ == '__main__':
