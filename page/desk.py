@@ -14,9 +14,9 @@ from functools import partial
 import answers
 from answers import TOP, Fault
 from engine import Limits, Runner
-from position import LONGEST_FILE, Position, configured, edited, empty, settled, with_moves, written
+from position import LONGEST_FILE, Position, configured, edited, empty, record_of, settled, with_moves, written
 from question import COMMANDS, Question, has_marks
-from record import Record, komi_halves, komi_text
+from record import komi_halves, komi_text
 from table import Table
 
 MOST_UNDONE = 300
@@ -153,7 +153,7 @@ class Desk:
         told = self.run_script(words, b'', is_wanted)
         mended = replace(position, text=output.read_bytes(), after=None)
         if position.komi is not None:
-            paid = komi_halves(Record(mended.text).komi) - (komi_halves(Record(position.text).komi) or 0)
+            paid = komi_halves(record_of(mended.text).komi) - (komi_halves(record_of(position.text).komi) or 0)
             mended = replace(mended, komi=komi_text(komi_halves(position.komi) + paid))
         return mended, 'Closed. ' + '; '.join(told)
 

@@ -1,5 +1,6 @@
 """Positions on the page: a file with the program's options, changed by clicks and fields, and written as SGF."""
 
+import re
 from dataclasses import dataclass, replace
 from typing import Optional
 
@@ -9,6 +10,8 @@ from record import COLOURS, Board, Record, komi_halves, komi_text, sgf
 LONGEST_FILE = 1_048_576
 MOST_MOVES = MOST_PRISONERS = 999_999
 MOST_POSITIONS, MOST_PARTS = 1_000_000, 4_000
+RECTANGLE = re.compile(rb'\[\s*[a-y]{2}\s*:\s*[a-y]{2}\s*\]')
+MOST_RECTANGLES = 2_000  # of a file that the page reads by itself: each may set 625 stones
 
 
 @dataclass(frozen=True)
@@ -33,6 +36,13 @@ class Position:
         return [word for name, value in told.items() if value is not None for word in ('--' + name, str(value))]
 
 
+def record_of(text, after=None):
+    """The main line of a file as the page reads it, so that it can be stepped through and edited."""
+    if sum(1 for _ in RECTANGLE.finditer(text)) > MOST_RECTANGLES:
+        raise Fault('the file has more than %d rectangles of stones, so that the page does not step through it' % MOST_RECTANGLES)
+    return Record(text, after)
+
+
 def empty(columns, rows):
     """A board without stones."""
     for number in (columns, rows):
@@ -48,7 +58,7 @@ def whole(value, least, most, what):
 
 def settled(position, record=None):
     """The same position as a board alone, without the moves before and behind it."""
-    record = record or Record(position.text, position.after)
+    record = record or record_of(position.text, position.after)
     komi = record.komi if position.komi is None else position.komi
     if komi_halves(komi) is None:
         raise Fault('the komi of the file is neither whole nor half: give one first')
@@ -62,7 +72,7 @@ def edited(position, name, colour):
     """The position with a stone set at a point, or taken off where one of the colour stands or the colour is none."""
     if colour not in (*COLOURS, None) or not isinstance(name, str):
         raise Fault('a stone is black or white, or none')
-    record = Record(position.text, position.after)
+    record = record_of(position.text, position.after)
     point = record.board.point(name)
     if colour is None or record.board.stones.get(point) == colour:
         record.board.stones.pop(point, None)
@@ -103,7 +113,7 @@ def turn_option(value):
 def written(position):
     """The position as a file that answers alone: its prisoners go into the komi."""
     alone = settled(position)
-    record = Record(alone.text)
+    record = record_of(alone.text)
     komi = komi_text(komi_halves(record.komi) + 2 * (alone.white_prisoners - alone.black_prisoners))
     if komi_halves(komi) is None:
         raise Fault('with so many prisoners the komi is past what a file has')

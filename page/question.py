@@ -5,7 +5,8 @@ import shutil
 import answers
 import refusals
 from answers import Fault
-from record import Record, pairs
+from position import record_of
+from record import main_line, pairs
 
 COMMANDS = ('board', 'safe', 'margin', 'moves', 'values')
 LONGEST_CYCLE = 200  # moves of a cycle that are drawn
@@ -21,7 +22,7 @@ class Question:
         self.is_stopped, self.board, self.note = False, None, ''
         self.closing = closing_of(position)
         try:
-            self.record = Record(position.text, position.after)
+            self.record = record_of(position.text, position.after)
         except Fault as fault:
             self.record, self.note = None, str(fault)
 
@@ -64,7 +65,7 @@ class Question:
     def owes_step(self):
         """Whether a board of the cycle that is refused is still to be drawn."""
         cycle = self.cycle()
-        return bool(cycle) and not self.is_stopped and len(self.steps) <= min(len(cycle['moves']), LONGEST_CYCLE) and None not in self.steps
+        return bool(cycle and self.record) and not self.is_stopped and len(self.steps) <= min(len(cycle['moves']), LONGEST_CYCLE) and None not in self.steps
 
     def pair(self):
         """A pair of neutral points on the cycle that a script can fill."""
@@ -87,8 +88,7 @@ class Question:
 
 
 def has_marks(position):
-    record = Record(position.text)
-    return any(key in ('TB', 'TW') for node in record.nodes for key, _ in node)
+    return any(key in ('TB', 'TW') for node in main_line(position.text) for key, _ in node)
 
 
 def closing_of(position):
@@ -96,7 +96,7 @@ def closing_of(position):
     try:
         if has_marks(position):
             return "the file's own marks"
-        board = Record(position.text).board
+        board = record_of(position.text).board
     except Fault:
         return None
     has_gnugo = shutil.which('gnugo') or shutil.which('gnugo', path='/usr/games')

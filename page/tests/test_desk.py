@@ -82,6 +82,15 @@ class Answers(AtDesk):
             self.assertTrue(desk.view()['board']['unread'])
 
 
+    def test_a_file_that_would_take_the_page_long_is_left_to_the_program(self):
+        desk = self.desk(b'(;SZ[9]' + b'AB[aa:ii]AE[aa:ii]' * 2_000 + b')')
+        view = self.settled(desk)
+        self.assertIsNone(view['line'])
+        self.assertIn('rectangles', view['note'])
+        with self.assertRaises(Fault):
+            desk.do('edit', 'aa', 'black')
+
+
 class Editing(AtDesk):
     def test_stones_and_undo(self):
         desk = self.desk(NEUTRAL)
