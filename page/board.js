@@ -167,7 +167,7 @@ export function draw(svg, scene) {
     drawn.push(square(alarm, 'alarm', CELL * 1.1));
   }
   if (cursor) {
-    drawn.push(square(cursor, 'cursor', CELL * 0.98));
+    drawn.push(square(cursor, 'cursor under', CELL * 0.84), square(cursor, 'cursor', CELL * 0.84));
   }
   svg.replaceChildren(...drawn);
 }

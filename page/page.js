@@ -11,7 +11,7 @@ const OPTIONS = ['black_prisoners', 'white_prisoners', 'positions', 'parts'];
 
 const byId = (id) => document.getElementById(id);
 const board = byId('board');
-const state = { view: null, near: null, cursor: 'aa', here: null, step: 0, failures: 0, summary: '', stepsOf: '' };
+const state = { view: null, near: null, cursor: 'aa', here: null, step: 0, failures: 0, stepsOf: '' };
 
 // Talking with the server
 
@@ -87,9 +87,8 @@ function show(view) {
   showText(view);
   showHere(state.here);
   const told = summary(view, byId('turn-told'));
-  if (told !== state.summary) {
-    state.summary = told;
-    tell(told);
+  if (byId('said').textContent !== told) {
+    byId('said').textContent = told;
   }
 }
 
@@ -213,7 +212,7 @@ function showText(view) {
 
 /** Says a text to who listens. */
 function tell(text) {
-  byId('said').textContent = text;
+  byId('heard').textContent = text;
 }
 
 /** Tells what stands at the point that is pointed at. */

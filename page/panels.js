@@ -63,7 +63,8 @@ export function answer(view) {
     ...none,
     make('div', { class: 'scroll', tabindex: 0, role: 'region', 'aria-label': 'Moves' },
       make('table', {}, make('thead', {}, make('tr', {}, ...heads)), make('tbody', {}, ...moves))),
-    make('p', { class: 'faint' }, 'On the board: up to which komi Black wins after the move, and what it loses against the best one.'),
+    make('p', { class: 'faint' }, 'On the board: up to which komi Black wins after the move, and below what it loses against the best one. '
+      + 'A dark circle is a best move, a pale circle another that wins, a pale square one that loses.'),
   ]);
 }
 
