@@ -1,0 +1,121 @@
+"""The program's lines as data for the page. Nothing is decided here: chains and regions are walked over as the lines name them."""
+
+import importlib.machinery
+import importlib.util
+import pathlib
+import sys
+from fractions import Fraction
+
+TOP = pathlib.Path(__file__).resolve().parent.parent
+sys.path[:0] = [str(TOP / 'docs/positions'), str(TOP / 'docs')]
+
+from record import Board, komi_text, picture, signs
+from script import Fault
+
+STONES = {'X': 'black', 'O': 'white'}
+SIGNS = {
+    'X': 'black stone, alive', 'O': 'white stone, alive', 'x': 'black stone, open', 'o': 'white stone, open', '.': 'empty, open',
+    'b': "empty, Black's point", 'w': "empty, White's point", 'B': "captive white stone, Black's point", 'W': "captive black stone, White's point",
+}
+
+
+def script(path):
+    """A script of the repository as a module."""
+    loader = importlib.machinery.SourceFileLoader('script_' + pathlib.Path(path).name, str(TOP / path))
+    module = importlib.util.module_from_spec(importlib.util.spec_from_loader(loader.name, loader))
+    loader.exec_module(module)
+    return module
+
+
+drawing = script('docs/thermographs/draw')
+
+
+def pairs_of(lines):
+    return [line.partition(' ')[::2] for line in lines]
+
+
+def board_of(lines):
+    """The answer of `board`, and the board itself."""
+    told = [line.split() for line in lines]
+    columns, rows = int(told[0][1]), int(told[0][2])
+    board = Board(columns, rows)
+    texts = [words[1] for words in told if words[0] == 'row']
+    for x, y in board.points():
+        if texts[y][x] in STONES:
+            board.stones[x, y] = STONES[texts[y][x]]
+    values = {' '.join(words[:-1]): words[-1] for words in told if words[0] in ('side', 'komi', 'prisoners')}
+    return {
+        'columns': columns, 'rows': texts, 'side': values['side'], 'komi': values['komi'],
+        'prisoners': {colour: int(values['prisoners ' + colour]) for colour in ('black', 'white')},
+    }, board
+
+
+def safety_of(board, lines):
+    """The answer of `safe`: a sign for each point, the regions with their points, and what is counted."""
+    drawn, regions = signs(board, lines)
+    open_points = {
+        board.name(point): sorted(map(board.name, board.part(point, lambda other: drawn[other] in '.xo'))) for point, _ in regions
+    }
+    words = [line.split() for line in lines]
+    return {
+        'signs': {board.name(point): sign for point, sign in drawn.items()},
+        'regions': [{'point': board.name(point), 'points': open_points[board.name(point)]} for point, _ in regions],
+        'counted': [
+            {'point': row[1], 'colour': row[2], 'points': int(row[4]), 'held': int(row[6])} for row in words if row[0] == 'counted'],
+        'groups': {row[1]: int(row[2]) for row in words if row[0] == 'groups'},
+        'drawing': list(picture(board, drawn)),
+    }
+
+
+def values_of(lines):
+    """The answer of `values`, by region."""
+    return [
+        {'point': region['region'].split()[0], 'positions': int(region['region'].split()[-1]), **{
+            word: region[word] for word in ('value', 'stops', 'mean', 'temperature', 'left', 'right')}}
+        for region in drawing.regions(lines)
+    ]
+
+
+def thermograph(lines, point):
+    """The picture of a region's thermograph as SVG."""
+    for region in drawing.regions(lines):
+        if region['region'].split()[0] == point:
+            return drawing.picture(region)
+    raise Fault('there is no region %s' % point)
+
+
+def margin_of(lines):
+    return dict(line.rsplit(' ', 1) for line in lines)
+
+
+def halves(threshold):
+    """A threshold in half-points; it may be past the range of a file's komi."""
+    return int(2 * Fraction(threshold))
+
+
+def moves_of(lines):
+    """The answer of `moves`; each stone has the difference of its threshold from the best one, for the side to move."""
+    told = dict(pairs_of(lines[:3]))
+    moves = []
+    for word, rest in pairs_of(lines[3:]):
+        *names, outcome, komi = rest.split() if word == 'stone' else [*rest.split(), None]
+        moves.append({'move': names[0] if names else word, 'wins': outcome == 'wins', 'komi': komi})
+    stones = [move for move in moves if move['komi'] is not None]
+    sign = 1 if told['side'] == 'black' else -1
+    best = max((sign * halves(move['komi']) for move in stones), default=None)
+    for move in stones:
+        loss = best - sign * halves(move['komi'])
+        move['loss'], move['best'] = komi_text(loss), loss == 0
+    return {'side': told['side'], 'komi': told['komi'], 'winner': told['winner'], 'moves': moves}
+
+
+def summary(board, moves, margin):
+    """The answer in sentences."""
+    winner, side = moves['winner'], moves['side']
+    winning = [move['move'] for move in moves['moves'] if move['wins']]
+    told = ['%s to move; %s wins.' % (side.capitalize(), winner.capitalize())]
+    if winning:
+        told.append('Winning: %s.' % ', '.join(winning))
+    told.append('Black wins up to komi %s moving first, and up to %s where White moves first; the komi is %s.' % (
+        margin['black first'], margin['white first'], board['komi']))
+    return ' '.join(told)

@@ -1,0 +1,371 @@
+// The page: asks the server for what is to be shown, draws it, and sends what the user does.
+
+import { draw, place, pointName, pointUnder } from './board.js';
+import * as panels from './panels.js';
+import { described, summary } from './words.js';
+
+const BUSY_PAUSE = 250; // milliseconds between two questions to the server while it works
+const PAUSE = 1500;
+const MOST_FAILURES = 4;
+const OPTIONS = ['black_prisoners', 'white_prisoners', 'positions', 'parts'];
+
+const byId = (id) => document.getElementById(id);
+const board = byId('board');
+const state = { view: null, near: null, cursor: 'aa', here: null, step: 0, failures: 0, stepsOf: '' };
+
+// Talking with the server
+
+async function receive(answer) {
+  const data = await answer.json();
+  if (data.fault) {
+    throw new Error(data.fault);
+  }
+  return data;
+}
+
+/** Sends what the user does; the newest view that comes is shown. */
+async function send(path, body) {
+  byId('fault').textContent = '';
+  try {
+    show(await receive(await fetch(path, { method: 'POST', body })));
+  } catch (error) {
+    byId('fault').textContent = error.message;
+  }
+}
+
+function act(action) {
+  return send('do', JSON.stringify(action));
+}
+
+async function ask() {
+  try {
+    const seen = state.view ? `?seen=${state.view.change}` : '';
+    const view = await receive(await fetch(`view${seen}`));
+    state.failures = 0;
+    if (view.same) {
+      showWork(view.working);
+    } else {
+      show(view);
+    }
+    setTimeout(ask, view.working || (state.view.game && state.view.game.thinking) ? BUSY_PAUSE : PAUSE);
+  } catch (error) {
+    state.failures += 1;
+    if (state.failures < MOST_FAILURES) {
+      setTimeout(ask, PAUSE);
+    } else {
+      byId('work').textContent = '';
+      byId('fault').textContent = 'The server has ended. Begin gdsolve-board again.';
+    }
+  }
+}
+
+async function open(file) {
+  if (file && file.size > 1048576) {
+    byId('fault').textContent = 'A file has at most 1,048,576 bytes.';
+  } else if (file) {
+    await send(`open?name=${encodeURIComponent(file.name.slice(0, 80))}`, await file.arrayBuffer());
+  }
+}
+
+// Showing
+
+function show(view) {
+  if (state.view && view.change < state.view.change) {
+    return;
+  }
+  state.view = view;
+  forgetWhatHasGone(view);
+  showWork(view.working);
+  showFile(view);
+  keepFocus(() => {
+    panels.answer(view);
+    panels.refusals(view, state.step, act, stepTo);
+    panels.game(view, act);
+    panels.detail(view, state.near, choose);
+  });
+  showBoard();
+  showText(view);
+  showHere(state.here);
+  const told = summary(view, byId('turn-told'));
+  if (byId('said').textContent !== told) {
+    byId('said').textContent = told;
+  }
+}
+
+/** Draws panels anew; the focus stays, or goes to the board where what had it is gone. */
+function keepFocus(render) {
+  const focused = document.activeElement === document.body ? null : document.activeElement;
+  render();
+  if (focused && !document.contains(focused)) {
+    const again = focused.id && byId(focused.id);
+    (again && !again.disabled ? again : board).focus({ preventScroll: true });
+  }
+}
+
+function forgetWhatHasGone(view) {
+  const cycle = view.refusals.map((refusal) => refusal.line).join();
+  if (cycle !== state.stepsOf) {
+    state.stepsOf = cycle;
+    state.step = 0;
+  }
+  const regions = view.safe ? view.safe.regions : [];
+  const refused = view.refusals.find((refusal) => refusal.at);
+  if (view.safe && !regions.some((region) => region.point === state.near)) {
+    state.near = null;
+  }
+  if (!state.near && refused && regions.some((region) => region.point === refused.at)) {
+    state.near = refused.at;
+  }
+  if (view.board && !isOn(state.cursor, view.board)) {
+    state.cursor = 'aa';
+  }
+}
+
+function isOn(point, { columns, rows }) {
+  const [column, row] = place(point);
+  return column < columns && row < rows.length;
+}
+
+function showWork(working) {
+  const thinking = state.view && state.view.game && state.view.game.thinking;
+  const what = working ? `${working.what}: ${working.seconds} s` : thinking ? 'the program is thinking' : '';
+  byId('work').textContent = what && `at work on ${what}`.replace('at work on the', 'the');
+  byId('stop').hidden = !what;
+}
+
+function showFile(view) {
+  byId('name').textContent = view.name;
+  byId('undo').disabled = view.undo === 0 && !view.game;
+  const line = view.line || { played: 0, total: 0 };
+  byId('line').hidden = line.total === 0;
+  set('after', line.played);
+  byId('total').textContent = line.total;
+  byId('first').disabled = byId('back').disabled = line.played === 0;
+  byId('last').disabled = byId('next').disabled = line.played >= line.total;
+  set('komi', view.options.komi ?? (view.board ? view.board.komi : ''));
+  set('turn', view.options.turn ?? '');
+  OPTIONS.forEach((name) => set(name, view.options[name]));
+  byId('tax').checked = view.options.tax;
+  byId('named').hidden = view.files.length < 2;
+  if (byId('names').options.length !== view.files.length) {
+    byId('names').replaceChildren(...view.files.map((name) => panels.make('option', {}, name)));
+    byId('names').value = view.name;
+  }
+  const now = shownBoard();
+  byId('facts').textContent = now ? `${now.side} to move, komi ${now.komi}, prisoners: black ${now.prisoners.black}, white ${now.prisoners.white}.`
+    + (now.unread ? ' The program does not read this file; the board is as the page reads it.' : '') : 'There is no board.';
+  if (view.note) {
+    byId('facts').textContent += ` ${view.note}`;
+  }
+}
+
+/** Sets a field that the user isn't at. */
+function set(id, value) {
+  if (document.activeElement !== byId(id)) {
+    byId(id).value = value;
+  }
+}
+
+/** The board that is drawn: that of the game, of a step of a cycle, or of the position. */
+function shownBoard() {
+  const { view, step } = state;
+  if (view.game) {
+    return view.game.board || view.board;
+  }
+  return (cycleOf(view) && view.steps[step]) || view.board;
+}
+
+function cycleOf(view) {
+  return view.game ? null : view.refusals.find((refusal) => refusal.moves.length > 0);
+}
+
+function showBoard() {
+  const { view } = state;
+  const now = shownBoard();
+  board.toggleAttribute('hidden', !now);
+  if (!now) {
+    return;
+  }
+  const cycle = cycleOf(view);
+  const stopped = view.refusals.find((refusal) => refusal.line.includes('no liberty'));
+  const withRegions = byId('show-regions').checked && view.safe;
+  const engineMoves = view.game ? view.game.lines.filter((line) => /^engine [a-y]{2}$/.test(line)) : [];
+  draw(board, {
+    board: now,
+    signs: view.safe ? view.safe.signs : {},
+    regions: withRegions ? view.safe.regions : [],
+    moves: !view.game && view.moves && byId('show-moves').checked ? view.moves.moves.filter((move) => move.komi !== null) : [],
+    near: state.near,
+    cursor: state.cursor,
+    cycle: cycle && { moves: cycle.moves, step: state.step },
+    alarm: stopped ? stopped.at : null,
+    last: engineMoves.length > 0 ? engineMoves.at(-1).slice(7) : null,
+  });
+}
+
+function showText(view) {
+  const now = shownBoard();
+  const drawing = view.safe && now === view.board ? view.safe.drawing : now ? now.rows.map((row) => [...row].join(' ')) : [];
+  byId('drawing').textContent = drawing.join('\n');
+  byId('legend').textContent = view.safe ? Object.entries(view.signs).map(([sign, meaning]) => `${sign} ${meaning}`).join('; ') + '.' : '';
+}
+
+/** Says a text to who listens. */
+function tell(text) {
+  byId('heard').textContent = text;
+}
+
+/** Tells what stands at the point that is pointed at. */
+function showHere(point) {
+  const now = shownBoard();
+  state.here = point && now && isOn(point, now) ? point : null;
+  byId('here').textContent = state.here ? described(point, state.view, now) : '\u00a0';
+}
+
+// What the user does
+
+function choose(region) {
+  if (state.near !== region) {
+    state.near = region;
+    keepFocus(() => panels.detail(state.view, region, choose));
+    showBoard();
+  }
+}
+
+function stepTo(step) {
+  state.step = Math.max(0, Math.min(step, state.view.steps.length - 1));
+  keepFocus(() => panels.refusals(state.view, state.step, act, stepTo));
+  showBoard();
+  showText(state.view);
+  tell(byId('cycle-told').textContent);
+}
+
+function goTo(point) {
+  state.cursor = point;
+  const region = state.view.safe && state.view.safe.regions.find((told) => told.points.includes(point));
+  if (region) {
+    choose(region.point);
+  }
+  showBoard();
+  showHere(point);
+  tell(byId('here').textContent);
+}
+
+function tool() {
+  return document.querySelector('input[name=tool]:checked').value || null;
+}
+
+function strike(point) {
+  const { view } = state;
+  if (view.game) {
+    act({ action: 'play', move: point });
+  } else if (cycleOf(view) && state.step > 0) {
+    byId('fault').textContent = 'A step of the cycle is shown: go to its start to set stones.';
+  } else {
+    act({ action: 'edit', point, colour: tool() });
+  }
+}
+
+function undo() {
+  return act({ action: state.view.game ? 'take_back' : 'undo' });
+}
+
+function after(count) {
+  const { played, total } = state.view.line;
+  if (Number.isNaN(count)) {
+    byId('after').value = played;
+    return null;
+  }
+  return act({ action: 'configure', options: { after: Math.max(0, Math.min(count, total)) } });
+}
+
+const KEYS = {
+  Enter: () => strike(state.cursor), ' ': () => strike(state.cursor), u: undo, '[': () => after(state.view.line.played - 1),
+  ']': () => after(state.view.line.played + 1), Escape: () => act({ action: 'stop' }),
+  Home: () => goTo('aa'), s: () => state.view.game && act({ action: 'play', move: 'spend' }),
+  b: () => pick('black'), w: () => pick('white'), x: () => pick(''),
+};
+const ARROWS = { ArrowLeft: [-1, 0], ArrowRight: [1, 0], ArrowUp: [0, -1], ArrowDown: [0, 1] };
+
+function pick(value) {
+  document.querySelector(`input[name=tool][value="${value}"]`).checked = true;
+  tell(`A click sets ${value || 'nothing'}`);
+}
+
+function pressed(event) {
+  const now = state.view && shownBoard();
+  if (!now || event.ctrlKey || event.metaKey || event.altKey) {
+    return;
+  }
+  const arrow = ARROWS[event.key];
+  if (arrow) {
+    const [column, row] = place(state.cursor);
+    const point = pointName(column + arrow[0], row + arrow[1]);
+    if (column + arrow[0] >= 0 && row + arrow[1] >= 0 && isOn(point, now)) {
+      goTo(point);
+    }
+  } else if (KEYS[event.key]) {
+    KEYS[event.key]();
+  } else {
+    return;
+  }
+  event.preventDefault();
+}
+
+function listen() {
+  const on = (id, event, does) => byId(id).addEventListener(event, does);
+  const number = (id) => Number.parseInt(byId(id).value, 10);
+  const configure = (options) => act({ action: 'configure', options });
+  board.addEventListener('keydown', pressed);
+  board.addEventListener('click', (event) => {
+    const point = state.view && pointUnder(board, event, shownBoard());
+    if (point) {
+      state.cursor = point;
+      strike(point);
+    }
+  });
+  board.addEventListener('pointermove', (event) => {
+    const point = state.view && pointUnder(board, event, shownBoard());
+    if (point && point !== state.here) {
+      showHere(point);
+      const region = state.view.safe && state.view.safe.regions.find((told) => told.points.includes(point));
+      if (region) {
+        choose(region.point);
+      }
+    }
+  });
+  on('undo', 'click', undo);
+  on('stop', 'click', () => act({ action: 'stop' }));
+  on('first', 'click', () => after(0));
+  on('back', 'click', () => after(state.view.line.played - 1));
+  on('next', 'click', () => after(state.view.line.played + 1));
+  on('last', 'click', () => after(state.view.line.total));
+  on('after', 'change', () => after(number('after')));
+  on('show-moves', 'change', showBoard);
+  on('show-regions', 'change', showBoard);
+  on('settings', 'submit', (event) => event.preventDefault());
+  on('komi', 'change', () => configure({ komi: byId('komi').value.trim() || null }));
+  on('turn', 'change', () => configure({ turn: byId('turn').value || null }));
+  on('tax', 'change', () => configure({ tax: byId('tax').checked }));
+  OPTIONS.forEach((name) => on(name, 'change', () => configure({ [name]: number(name) })));
+  on('file', 'change', async () => {
+    await open(byId('file').files[0]);
+    byId('file').value = ''; // so that the same file can be opened again
+  });
+  on('choose', 'click', () => act({ action: 'choose', name: byId('names').value }));
+  on('new', 'click', () => act({ action: 'new', columns: number('columns'), rows: number('rows') }));
+  document.addEventListener('dragover', (event) => {
+    event.preventDefault();
+    document.body.classList.add('dropping');
+  });
+  document.addEventListener('dragleave', () => document.body.classList.remove('dropping'));
+  document.addEventListener('drop', (event) => {
+    event.preventDefault();
+    document.body.classList.remove('dropping');
+    open(event.dataTransfer.files[0]);
+  });
+  window.addEventListener('pagehide', () => fetch('leave', { method: 'POST', keepalive: true }));
+}
+
+listen();
+ask();

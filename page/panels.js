@@ -1,0 +1,176 @@
+// The panels beside the board. All that a file or the program says is set as text.
+
+import { SHADES, boardName } from './board.js';
+
+const REMEDIES = {
+  fill_pairs: { action: 'fill_pairs' },
+  close: { action: 'close_position' },
+  positions: { action: 'configure', options: { positions: 1000000 }, text: 'Allow 1,000,000 positions' },
+  parts: { action: 'configure', options: { parts: 4000 }, text: 'Allow 4,000 parts' },
+  again: { action: 'again', text: 'Ask again' },
+};
+
+export function make(tag, attributes = {}, ...children) {
+  const element = document.createElement(tag);
+  for (const [name, value] of Object.entries(attributes)) {
+    if (name.startsWith('on')) {
+      element.addEventListener(name.slice(2), value);
+    } else if (value !== false && value !== null) {
+      element.setAttribute(name, value === true ? '' : value);
+    }
+  }
+  element.append(...children);
+  return element;
+}
+
+function button(id, text, onclick, disabled = false) {
+  return make('button', { id, type: 'button', onclick, disabled }, text);
+}
+
+/** Shows a panel with these children, or hides it where there are none. */
+function fill(id, children) {
+  const panel = document.getElementById(id);
+  panel.hidden = children.length === 0;
+  panel.replaceChildren(...children);
+}
+
+/** A row of a table: a head and cells. */
+function row(head, ...cells) {
+  return make('tr', {}, make('th', { scope: 'row' }, head), ...cells.map((cell) => make('td', {}, cell)));
+}
+
+export function both(point, view) {
+  return view.board && /^[a-y]{2}$/.test(point) ? `${point} (${boardName(point, view.board)})` : point;
+}
+
+export function answer(view) {
+  if (!view.summary || view.game) {
+    return fill('answer', []);
+  }
+  const moves = view.moves.moves.map((move) => make('tr', { class: move.best ? 'best' : '' },
+    make('td', {}, both(move.move, view)), make('td', {}, move.wins ? 'wins' : 'loses'),
+    make('td', {}, move.komi === null ? '' : `up to ${move.komi}`),
+    make('td', {}, move.komi === null ? '' : move.best ? 'best' : `\u2212${move.loss}`)));
+  const heads = ['move', 'for ' + view.moves.side, 'Black wins', 'loses'].map((text) => make('th', { scope: 'col' }, text));
+  const none = moves.length === 0 ? [make('p', {}, 'No move is legal.')] : [];
+  fill('answer', [
+    make('h2', {}, 'Answer'),
+    make('p', { class: 'winner' }, view.summary.split('.')[0] + '.'),
+    make('table', {}, make('tbody', {},
+      row('komi', view.margin.komi),
+      row('Black first', `Black wins up to komi ${view.margin['black first']}`),
+      row('White first', `Black wins up to komi ${view.margin['white first']}`))),
+    ...none,
+    make('div', { class: 'scroll', tabindex: 0, role: 'region', 'aria-label': 'Moves' },
+      make('table', {}, make('thead', {}, make('tr', {}, ...heads)), make('tbody', {}, ...moves))),
+    make('p', { class: 'faint' }, 'On the board: up to which komi Black wins after the move, and below what it loses against the best one. '
+      + 'A dark circle is a best move, a pale circle another that wins, a pale square one that loses.'),
+  ]);
+}
+
+/** The list of regions, and what is told of the one that is pointed at. */
+export function detail(view, near, choose) {
+  const regions = view.safe ? view.safe.regions : [];
+  if (regions.length === 0) {
+    return fill('detail', view.safe && !view.game ? [make('h2', {}, 'Regions'), make('p', {}, 'Nothing is open to play.')] : []);
+  }
+  const buttons = regions.map((region, number) => {
+    const chosen = region.point === near;
+    const swatch = make('span', { class: `swatch shade-${number % SHADES}`, 'aria-hidden': 'true' });
+    return make('button', { id: `region-${region.point}`, type: 'button', 'aria-pressed': String(chosen), onclick: () => choose(region.point) },
+      swatch, region.point);
+  });
+  const chosen = regions.find((region) => region.point === near);
+  const children = [make('h2', {}, 'Regions'), make('div', { class: 'buttons' }, ...buttons)];
+  fill('detail', chosen ? [...children, ...region(view, chosen)] : [...children, make('p', { class: 'faint' }, 'Point at a region to see what it is worth.')]);
+}
+
+function region(view, chosen) {
+  const value = view.values && view.values.find((told) => told.point === chosen.point);
+  const head = make('p', {}, `Region ${both(chosen.point, view)}, ${chosen.points.length} point${chosen.points.length > 1 ? 's' : ''}`);
+  if (!value) {
+    return [head];
+  }
+  const [left, right] = value.stops.split(' ');
+  const told = `left wall ${value.left}, right wall ${value.right}`;
+  const picture = make('img', {
+    src: `thermograph.svg?point=${chosen.point}&of=${encodeURIComponent(value.value)}`, alt: `Thermograph of ${value.value}: ${told}`,
+  });
+  return [head, make('table', {}, make('tbody', {},
+    row('value', value.value), row('stops', `${left} where Black begins, ${right} where White begins`), row('mean', value.mean),
+    row('temperature', value.temperature), row('positions', String(value.positions)))), picture];
+}
+
+export function refusals(view, step, act, stepTo) {
+  const children = view.refusals.flatMap((refusal, number) => refusalOf(view, refusal, number, step, act, stepTo));
+  fill('refusals', children);
+}
+
+function refusalOf(view, refusal, number, step, act, stepTo) {
+  const where = refusal.at ? ` Region ${both(refusal.at, view)}.` : '';
+  const place = refusal.line.includes('no liberty') ? ` At ${both(refusal.at, view)}.` : where;
+  const children = [
+    make('h2', {}, `Refused by ${refusal.command}`), make('p', { class: 'line' }, refusal.line),
+    make('p', {}, refusal.means + place), make('p', {}, 'Next: ' + refusal.advice),
+  ];
+  if (refusal.moves.length > 0 && view.steps.length > 1) {
+    children.push(...cycle(view, refusal, step, stepTo));
+  }
+  const buttons = refusal.remedies.flatMap((name) => remedy(view, name, number, act));
+  return [...children, make('div', { class: 'buttons' }, ...buttons)];
+}
+
+function remedy(view, name, number, act) {
+  const { text, ...action } = REMEDIES[name];
+  const id = `remedy-${name}-${number}`;
+  if (name === 'fill_pairs') {
+    return view.pair ? [button(id, `Fill ${view.pair[0]} by Black and ${view.pair[1]} by White`, () => act(action))] : [];
+  }
+  if (name === 'close') {
+    return view.closing ? [button(id, `Close the position, judged by ${view.closing}`, () => act(action))] :
+      [make('span', { class: 'faint' }, 'docs/positions/close can not judge this position: the file has no marks, and GNU Go is not here or the board is not its own.')];
+  }
+  return [button(id, text, () => act(action))];
+}
+
+function cycle(view, refusal, step, stepTo) {
+  const last = view.steps.length - 1;
+  const items = refusal.moves.map((move, index) => make('li', { class: index + 1 === step ? 'now' : '' }, `${move.colour} ${both(move.point, view)}`));
+  const told = step === refusal.returns || step === refusal.moves.length ? ' This position comes back.' : '';
+  return [
+    make('ol', { class: 'moves' }, ...items),
+    make('div', { class: 'buttons' },
+      button('cycle-first', 'Start', () => stepTo(0), step === 0),
+      button('cycle-back', 'Back', () => stepTo(step - 1), step === 0),
+      button('cycle-next', 'Next move', () => stepTo(step + 1), step >= last),
+      button('cycle-last', 'End', () => stepTo(last), step >= last)),
+    make('p', { id: 'cycle-told' }, `After move ${step} of ${refusal.moves.length}.${told}`),
+  ];
+}
+
+export function game(view, act) {
+  if (!view.game) {
+    const ready = view.moves && view.refusals.length === 0;
+    return fill('game', ready ? [
+      make('h2', {}, 'Game'), make('p', {}, 'Play this position against the program, as'),
+      make('div', { class: 'buttons' },
+        button('play-black', 'Black', () => act({ action: 'begin_game', engine: 'white' })),
+        button('play-white', 'White', () => act({ action: 'begin_game', engine: 'black' }))),
+    ] : []);
+  }
+  const { winner, over, thinking, lines, user, spent, refused, fault } = view.game;
+  const ended = winner !== null || over;
+  const turn = winner ? `${winner === 'black' ? 'Black' : 'White'} wins.` : over ? `The game ended. ${fault}` : thinking ? 'The program is thinking.' : `Your move, as ${user}.`;
+  const waits = ended || thinking;
+  fill('game', [
+    make('h2', {}, 'Game'), make('p', { id: 'turn-told', class: 'winner' }, turn),
+    ...(refused ? [make('p', {}, `Refused: ${refused}.`)] : []),
+    make('div', { class: 'buttons' },
+      button('spend', 'Give back a point', () => act({ action: 'play', move: 'spend' }), waits),
+      button('half', 'Take the half', () => act({ action: 'play', move: 'half' }), waits),
+      button('take-back', 'Take back', () => act({ action: 'take_back' }), !lines.some((line) => line.startsWith('played '))),
+      button('end-game', 'End the game', () => act({ action: 'end_game' }))),
+    make('p', { class: 'faint' }, `A click on the board plays there. Points given back: black ${spent.black}, white ${spent.white}.`),
+    make('ol', { class: 'moves', id: 'game-lines' }, ...lines.map((line) => make('li', {}, line))),
+  ]);
+}

@@ -1,0 +1,87 @@
+"""The program's lines as data."""
+
+import unittest
+
+import common
+import answers
+import refusals
+from position import Position, configured, edited, empty, settled, written
+from record import Record
+from script import Fault
+
+
+class Answers(unittest.TestCase):
+    def test_what_a_move_loses_is_counted_for_the_side_to_move(self):
+        for side, losses in (('black', ['0', '3']), ('white', ['3', '0'])):
+            lines = ['side ' + side, 'komi 0', 'winner black', 'stone aa wins 2', 'stone bb loses -1', 'spend wins']
+            moves = answers.moves_of(lines)['moves']
+            self.assertEqual([move.get('loss') for move in moves], [*losses, None])
+            self.assertEqual([move.get('best') for move in moves], [losses[0] == '0', losses[1] == '0', None])
+
+    def test_thresholds_past_a_file_s_komi(self):
+        lines = ['side black', 'komi 0', 'winner black', 'stone aa wins 1000000.5', 'stone bb loses -1000001']
+        self.assertEqual([move['loss'] for move in answers.moves_of(lines)['moves']], ['0', '2000001.5'])
+
+    def test_no_stone_is_legal(self):
+        self.assertEqual(answers.moves_of(['side black', 'komi 0', 'winner white'])['moves'], [])
+
+    def test_board(self):
+        lines = ['size 3 2', 'side white', 'komi -1.5', 'prisoners black 2', 'prisoners white 0', 'row X.O', 'row ...']
+        data, board = answers.board_of(lines)
+        self.assertEqual((data['columns'], data['rows'], data['side'], data['komi']), (3, ['X.O', '...'], 'white', '-1.5'))
+        self.assertEqual(data['prisoners'], {'black': 2, 'white': 0})
+        self.assertEqual(board.stones, {(0, 0): 'black', (2, 0): 'white'})
+
+    def test_cycle(self):
+        refusal = refusals.explained('moves', 'fault cycle ea 1 black:fa white:ea')
+        self.assertEqual((refusal['at'], refusal['returns']), ('ea', 1))
+        self.assertEqual(refusal['moves'], [{'colour': 'black', 'point': 'fa'}, {'colour': 'white', 'point': 'ea'}])
+
+    def test_each_refusal_has_its_own_words(self):
+        means = {refusals.explained('moves', line)['means'] for line in (
+            'fault cycle aa 0 black:aa', 'fault region aa points 81', 'fault region aa positions over 100', 'fault form aa',
+            'fault file no liberty at aa', 'fault file bad komi', 'fault file bad byte 3', 'fault too long', 'memory was refused',
+            'stopped', 'stopped after 3 seconds', 'what is this')}
+        self.assertEqual(len(means), 12)
+
+    def test_a_thermograph_of_a_region_that_isn_t_there(self):
+        with self.assertRaises(Fault):
+            answers.thermograph(['regions 0'], '../x')
+
+
+class Positions(unittest.TestCase):
+    def test_a_stone_is_set_and_taken_off(self):
+        position = empty(5, 4)
+        for colour, wanted in (('black', {(1, 0): 'black'}), ('white', {(1, 0): 'white'}), ('white', {})):
+            position = edited(position, 'ba', colour)
+            self.assertEqual(Record(position.text).board.stones, wanted)
+
+    def test_points_off_the_board_and_odd_colours(self):
+        for name, colour in (('fa', 'black'), ('ae', 'black'), ('a', 'black'), (None, 'black'), ('aa', 'red')):
+            with self.assertRaises(Fault):
+                edited(empty(5, 4), name, colour)
+
+    def test_settled_keeps_side_komi_and_prisoners(self):
+        text = b'(;SZ[3]KM[0.5]AB[ba][ab]AW[aa];B[bb];W[cc])'
+        taken = b'(;SZ[3]KM[0.5]AB[ba]AW[aa];B[ab])'
+        self.assertEqual(Record(settled(Position(text, 'x', 1)).text).side, 'white')
+        alone = settled(Position(taken, 'x', komi='3', black_prisoners=2))
+        self.assertEqual((alone.black_prisoners, alone.white_prisoners), (3, 0))
+        self.assertEqual(Record(alone.text).komi, '3')
+        self.assertEqual(Record(written(Position(taken, 'x')).encode()).komi, '-0.5')
+
+    def test_options_are_checked(self):
+        for given in ({'komi': '6.25'}, {'komi': 6}, {'turn': 'red'}, {'positions': 0}, {'parts': 4001}, {'after': -1}, {'black_prisoners': True},
+                      {'black_prisoners': '2'}, {'text': 'x'}):
+            with self.assertRaises(Fault):
+                configured(empty(9, 9), given)
+
+    def test_options_as_words(self):
+        position = configured(empty(9, 9), {'komi': '6.5', 'turn': 'white', 'tax': True, 'after': 3, 'white_prisoners': 4})
+        words = ['--after', '3', '--komi', '6.5', '--turn', 'white', '--white-prisoners', '4']
+        self.assertEqual(position.options('safe'), words)
+        self.assertEqual(position.options('moves'), words + ['--tax', 'yes', '--positions', '100000', '--parts', '500'])
+
+
+if __name__ == '__main__':
+    unittest.main()

@@ -1,0 +1,259 @@
+"""The desk: what is asked, in which order, and what is given up; editing, refusals and games."""
+
+import pathlib
+import tempfile
+import time
+import unittest
+
+import common
+from common import CORRIDOR, NEUTRAL, PAIR, wait_for
+from desk import Desk
+from engine import Limits
+from position import Position
+from record import Record
+from script import Fault
+
+# A program that notes when it begins, takes its time and ends: who is given up never ends.
+SLOW = """
+import os, sys, time
+log = open(%r, 'a')
+print('begun', os.getpid(), sys.argv[1], file=log, flush=True)
+time.sleep(%r)
+print('size 9 9\\nside black\\nkomi 0\\nprisoners black 0\\nprisoners white 0' + '\\nrow .........' * 9)
+print('ended', os.getpid(), file=log, flush=True)
+"""
+
+
+class AtDesk(unittest.TestCase):
+    def desk(self, text, program=None, limits=Limits(20, 2048, 20), **options):
+        desk = Desk(program or common.solver(), limits, {}, Position(text, 'test', **options))
+        self.addCleanup(desk.close)
+        return desk
+
+    def settled(self, desk):
+        """What the page shows when all work is done."""
+        def view():
+            seen = desk.view()
+            with desk.lock:
+                return seen if desk.is_settled() and seen['change'] == desk.change else None
+        return wait_for(view)
+
+
+class Answers(AtDesk):
+    def test_a_position_is_answered(self):
+        view = self.settled(self.desk(NEUTRAL))
+        self.assertEqual(view['refusals'], [])
+        self.assertEqual(view['board']['rows'][0], '.X.X.OO.O.')
+        self.assertEqual(view['moves']['moves'][0]['move'], 'ea')
+        self.assertTrue(view['moves']['moves'][0]['best'])
+        self.assertIn('Black to move; Black wins. Winning: ea', view['summary'])
+        self.assertEqual(view['values'][0]['point'], 'ea')
+
+    def test_a_thermograph_is_drawn(self):
+        desk = self.desk(NEUTRAL)
+        self.settled(desk)
+        self.assertIn('mean 0', desk.thermograph('ea'))
+        with self.assertRaises(Fault):
+            desk.thermograph('zz')
+
+    def test_steps_of_the_main_line(self):
+        desk = self.desk(CORRIDOR)
+        self.assertEqual(self.settled(desk)['line'], {'played': 3, 'total': 3})
+        desk.do('configure', {'after': 1})
+        view = self.settled(desk)
+        self.assertEqual(view['line'], {'played': 1, 'total': 3})
+        self.assertEqual(view['board']['rows'][1], 'XXXXX.OOOO')
+
+    def test_a_file_that_is_none(self):
+        view = self.settled(self.desk(b'<script>'))
+        self.assertEqual(view['refusals'][0]['line'], 'fault file no tree')
+        self.assertIsNone(view['board'])
+
+
+    def test_no_work_is_waited_for_longer_than_told(self):
+        with tempfile.TemporaryDirectory() as folder:
+            desk = self.desk(NEUTRAL, common.script(folder, 'idle', 'import time\ntime.sleep(60)\n'))
+            begun = time.monotonic()
+            desk.settle(0.2)
+            self.assertTrue(0.2 <= time.monotonic() - begun < 5)
+            self.assertFalse(desk.view()['board']['unread'])
+            desk.do('stop')
+            desk.settle(10)
+            self.assertTrue(desk.view()['board']['unread'])
+
+
+    def test_a_file_that_would_take_the_page_long_is_left_to_the_program(self):
+        desk = self.desk(b'(;SZ[9]' + b'AB[aa:ii]AE[aa:ii]' * 2_000 + b')')
+        view = self.settled(desk)
+        self.assertIsNone(view['line'])
+        self.assertIn('rectangles', view['note'])
+        with self.assertRaises(Fault):
+            desk.do('edit', 'aa', 'black')
+
+
+class Editing(AtDesk):
+    def test_stones_and_undo(self):
+        desk = self.desk(NEUTRAL)
+        desk.do('edit', 'ea', 'black')
+        self.assertEqual(self.settled(desk)['board']['rows'][0], '.X.XXOO.O.')
+        desk.do('undo')
+        self.assertEqual(self.settled(desk)['board']['rows'][0], '.X.X.OO.O.')
+        with self.assertRaises(Fault):
+            desk.do('undo')
+
+    def test_a_setting_is_undone_too(self):
+        desk = self.desk(NEUTRAL)
+        desk.do('configure', {'komi': '3.5', 'turn': 'white'})
+        view = self.settled(desk)
+        self.assertEqual((view['board']['komi'], view['board']['side']), ('3.5', 'white'))
+        desk.do('undo')
+        self.assertEqual(self.settled(desk)['board']['komi'], '0')
+
+    def test_what_is_written_reads_as_the_same_board(self):
+        desk = self.desk(CORRIDOR)
+        self.assertEqual(Record(desk.sgf().encode()).board.stones, Record(CORRIDOR).board.stones)
+
+    def test_files_by_name_alone(self):
+        with tempfile.TemporaryDirectory() as folder:
+            pathlib.Path(folder, 'in.sgf').write_bytes(PAIR)
+            pathlib.Path(folder, 'out.sgf').write_bytes(PAIR)
+            desk = self.desk(NEUTRAL)
+            desk.files = {'in.sgf': pathlib.Path(folder, 'in.sgf')}
+            desk.do('choose', 'in.sgf')
+            self.assertEqual(desk.view()['name'], 'in.sgf')
+            for name in ('out.sgf', '../out.sgf', str(pathlib.Path(folder, 'out.sgf')), ''):
+                with self.assertRaises(Fault):
+                    desk.do('choose', name)
+
+
+class Refusals(AtDesk):
+    def test_a_cycle_is_drawn_step_by_step(self):
+        view = self.settled(self.desk(PAIR))
+        self.assertEqual((view['refusals'][0]['at'], len(view['refusals'][0]['moves']), len(view['steps'])), ('ea', 3, 4))
+        rows = [step['rows'][0] for step in view['steps']]
+        self.assertEqual(rows, ['.X.X..O.O.', '.X.X.XO.O.', '.X.XO.O.O.', '.X.X.XO.O.'])
+        self.assertIsNone(view['moves'])
+
+    @unittest.skipUnless(common.is_program(), 'the stand-in knows no living walls')
+    def test_a_pair_is_filled(self):
+        desk = self.desk(PAIR)
+        self.assertEqual(self.settled(desk)['pair'], ['ea', 'fa'])
+        desk.do('fill_pairs')
+        view = self.settled(desk)
+        self.assertEqual((view['board']['rows'][0], view['refusals']), ('.X.XXOO.O.', []))
+        desk.do('undo')
+        self.assertEqual(self.settled(desk)['board']['rows'][0], '.X.X..O.O.')
+
+    @unittest.skipUnless(common.is_program(), 'the stand-in knows no living walls')
+    def test_a_position_is_closed_by_the_marks_of_its_file(self):
+        desk = self.desk(b'(;SZ[7:2]KM[6.5]AB[ba][ca][ab:cb]AW[ea][fa][eb:gb];B[da];W[];TB[aa]TW[ga])', after=0)
+        self.assertEqual(self.settled(desk)['closing'], "the file's own marks")
+        desk.do('close_position')
+        view = self.settled(desk)
+        self.assertIn('Closed.', view['note'])
+        self.assertEqual(view['refusals'], [])
+
+    @unittest.skipUnless(common.is_program(), 'the stand-in has no limits')
+    def test_limits_are_told_by_their_names(self):
+        desk = self.desk((common.TOP / 'docs/positions/game.sgf').read_bytes(), after=38)
+        self.assertEqual(self.settled(desk)['refusals'][0]['line'], 'fault region aa points 81')
+
+    def test_time_is_limited(self):
+        with tempfile.TemporaryDirectory() as folder:
+            program = common.script(folder, 'busy', 'while True: pass\n')
+            view = self.settled(self.desk(NEUTRAL, program, Limits(1, 2048, 20)))
+            self.assertIn('1 seconds of the processor', view['refusals'][0]['line'])
+            program = common.script(folder, 'idle', 'import time\ntime.sleep(60)\n')
+            view = self.settled(self.desk(NEUTRAL, program, Limits(20, 2048, 1)))
+            self.assertEqual(view['refusals'][0]['line'], 'stopped after 1 seconds')
+
+    def test_memory_is_limited(self):
+        with tempfile.TemporaryDirectory() as folder:
+            program = common.script(folder, 'large', 'import sys\ntry:\n    bytearray(1 << 30)\nexcept MemoryError:\n    sys.exit(8)\n')
+            view = self.settled(self.desk(NEUTRAL, program, Limits(20, 512, 20)))
+            self.assertEqual(view['refusals'][0]['line'], 'memory was refused')
+
+
+class OneAtATime(AtDesk):
+    def test_clicks_don_t_pile_up(self):
+        with tempfile.TemporaryDirectory() as folder:
+            log = pathlib.Path(folder, 'log')
+            desk = self.desk(NEUTRAL, common.script(folder, 'slow', SLOW % (str(log), 0.3)))
+            for _ in range(50):
+                desk.do('edit', 'ea', 'black')
+            wait_for(lambda: log.exists() and 'ended' in log.read_text())
+            lines = [line.split() for line in log.read_text().splitlines()]
+            begun = [line[1] for line in lines if line[0] == 'begun']
+            self.assertLess(len(begun), 50)
+            running = [pid for pid in begun if pathlib.Path('/proc', pid).exists()]
+            self.assertLessEqual(len(running), 1)
+
+    def test_work_is_stopped_and_begun_again(self):
+        with tempfile.TemporaryDirectory() as folder:
+            log = pathlib.Path(folder, 'log')
+            desk = self.desk(NEUTRAL, common.script(folder, 'slow', SLOW % (str(log), 60)))
+            wait_for(log.exists)
+            self.assertEqual(desk.view()['working']['what'], 'board')
+            desk.do('stop')
+            self.assertEqual(self.settled(desk)['refusals'][0]['line'], 'stopped')
+            pid = log.read_text().split()[1]
+            wait_for(lambda: not pathlib.Path('/proc', pid).exists())
+            desk.do('again')
+            wait_for(lambda: log.read_text().count('begun') == 2)
+
+
+class Games(AtDesk):
+    def test_a_game_to_its_end_and_back(self):
+        desk = self.desk(NEUTRAL)
+        self.settled(desk)
+        desk.do('begin_game', 'white')
+        self.assertFalse(desk.view()['game']['thinking'])
+        desk.do('play', 'spend')
+        game = wait_for(lambda: self.awaited(desk))
+        self.assertEqual(game['lines'][0], 'played spend')
+        self.assertTrue(game['lines'][1].startswith('engine '))
+        self.assertEqual(game['spent']['black'], 1)
+        desk.do('take_back')
+        self.assertEqual(wait_for(lambda: self.awaited(desk))['lines'], [])
+        desk.do('end_game')
+        self.assertIsNone(desk.view()['game'])
+
+    def awaited(self, desk):
+        """The game, where it is the user's turn and its board is drawn."""
+        with desk.lock:
+            game = desk.view()['game']
+            return None if game['thinking'] or desk.table.owes_board() else game
+
+    def test_what_is_no_move(self):
+        desk = self.desk(NEUTRAL)
+        self.settled(desk)
+        with self.assertRaises(Fault):
+            desk.do('play', 'spend')
+        desk.do('begin_game', 'white')
+        for move in ('zz', 'spend\nspend', '', None, 'ea ', 'quit'):
+            with self.assertRaises(Fault):
+                desk.do('play', move)
+
+    @unittest.skipUnless(common.is_program(), 'the stand-in plays no stones')
+    def test_stones_are_played_and_refused(self):
+        desk = self.desk(NEUTRAL)
+        self.settled(desk)
+        desk.do('begin_game', 'black')
+        wait_for(lambda: desk.view()['game']['lines'] == ['engine ea'])
+        self.assertEqual(wait_for(lambda: self.awaited(desk))['board']['rows'][0], '.X.XXOO.O.')
+        desk.do('play', 'ea')
+        self.assertEqual(wait_for(lambda: desk.view()['game']['refused']), 'a stone stands there')
+        self.assertIn(';B[ea]', desk.sgf())
+
+    def test_editing_ends_the_game(self):
+        desk = self.desk(NEUTRAL)
+        self.settled(desk)
+        desk.do('begin_game', 'white')
+        process = desk.table.game.process
+        desk.do('edit', 'ea', 'black')
+        self.assertIsNone(desk.view()['game'])
+        wait_for(lambda: process.poll() is not None)
+
+
+if __name__ == '__main__':
+    unittest.main()
