@@ -3,3 +3,4 @@ pub mod RegionLemmas
 pub mod QuietLemmas
 pub mod KoRuleLemmas
 pub mod SimpleKoLemmas
+pub mod RuleLemmas

@@ -24,3 +24,7 @@ NoCapturesWinUnderRules = (g : Board) (regions : List Region) (black white : ℕ
 abbrev pub KoRulesAreOnReturns : Type 0
 KoRulesAreOnReturns = (regions : List Region) (rule : KoRule) → IsSimpleKo rule ⊎ (IsSituationalSuperko rule ⊎ IsPositionalSuperko rule)
     → IsRuleOnReturns regions rule
+
+-- there are such rules
+abbrev pub KoRulesExist : Type 0
+KoRulesExist = ((rule : KoRule) × IsSimpleKo rule) × ((rule : KoRule) × IsSituationalSuperko rule) × ((rule : KoRule) × IsPositionalSuperko rule)

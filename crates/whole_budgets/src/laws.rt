@@ -7,7 +7,11 @@ ghost use Rattle.whole_budgets.specs.BudgetPlayLaws.{
   SomeCapturesWin,
   StonesReturnLocally,
 };
-ghost use Rattle.whole_budgets.specs.KoRuleLaws.{KoRulesAreOnReturns, NoCapturesWinUnderRules};
+ghost use Rattle.whole_budgets.specs.KoRuleLaws.{
+  KoRulesAreOnReturns,
+  KoRulesExist,
+  NoCapturesWinUnderRules,
+};
 ghost use Rattle.whole_budgets.specs.SimpleKo.{WinnersStandUnderSimpleKo};
 
 /// What a player wins with a budget of captures that return, the other player being free of one, that player wins by plain
@@ -27,5 +31,6 @@ pub fn budget_play_laws()
 pub fn ko_rule_laws()
     ensures win { NoCapturesWinUnderRules }
     ensures named { KoRulesAreOnReturns }
+    ensures exist { KoRulesExist }
     ensures simple { WinnersStandUnderSimpleKo }
 {}
