@@ -8,7 +8,7 @@ use Rattle.go_grid.specs.Board.{Board, HasStone, IsEmpty, Lacks, cell_at, stone,
 use Rattle.go_grid.specs.Chain.{InChain, IsLiberty, HasLiberty}
 use Rattle.go_grid.proofs.NearLemmas.{next_back}
 use Rattle.go_grid.proofs.WalkLemmas.{joined_here, joined_step, joined_start, joined_join, joined_back, joined_more, carried}
-use Rattle.go_play.specs.Place.{IsPlaced, IsTaken, IsCleared, IsSameSize, IsSuicide}
+use Rattle.go_play.specs.Place.{IsPlaced, IsTaken, IsCleared, IsSameGround, IsSuicide}
 use Rattle.go_play.specs.inner.Place.{with_stone}
 use Rattle.benson_life.specs.Life.{InRegion}
 use Rattle.benson_life.proofs.StandLemmas.{empty_or_other}
@@ -16,7 +16,7 @@ use Rattle.go_grid.proofs.BoardLemmas.{empty_not_stone, not_other}
 use Rattle.go_play.proofs.BoardPlayLemmas.{breathes_from, placed_long, takes_by, taken_stone}
 
 -- the board with a stone of `d` more at the empty point `p`, and `m` is that board without what the stone takes
-module _ (h : Board) (d : Colour) (p : ℕ) (m : Board) (free : IsEmpty h p) (size : IsSameSize h m) (cleared : IsCleared h p d m.cells) where
+module _ (h : Board) (d : Colour) (p : ℕ) (m : Board) (free : IsEmpty h p) (size : IsSameGround h m) (cleared : IsCleared h p d m.cells) where
   pub long : length m.cells ≡ length h.cells
   long = cleared.long ∙ length-set h.cells p (stone d)
 

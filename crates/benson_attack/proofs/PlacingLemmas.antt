@@ -1,74 +1,22 @@
 -- Which points are liberties, which stones a placing takes and whether it is legal are decided by the cells.
-use Rattle.std.proofs.Common.{◌≡◌, ℕ, zero, suc, ◌<◌, ◌⊎◌, ◌↔◌, inl, inr, List, [], ◌∷◌, length, get_or, refl, sym, ap, ◌∙◌, arith, subst, ◌+◌, ◌/◌, ◌%◌}
-use Rattle.std.specs.List.{Contains}
-use Rattle.std.proofs.lemmas.Bool.{cases_eq, cases_lt}
+use Rattle.std.proofs.Common.{◌≡◌, ℕ, zero, suc, ◌⊎◌, inl, inr, List, [], ◌∷◌, length, get_or, refl, ap, ◌∙◌}
 use Rattle.go_grid.specs.declared.grid.Cell.{Cell}
 use Rattle.go_grid.specs.declared.grid.Cell.TheVariants as cell
 use Rattle.go_grid.specs.declared.grid.Colour.{Colour}
-use Rattle.go_grid.specs.Board.{Board, DifferByOne, NextTo, HasStone, IsEmpty, cell_at, other, stone}
+use Rattle.go_grid.specs.declared.grid.Colour.TheVariants.{Black, White}
+use Rattle.go_grid.specs.Board.{Board, NextTo, HasStone, IsDeclared, IsEmpty, IsUndeclared, cell_at, other, stone}
 use Rattle.go_grid.specs.Chain.{InChain, IsLiberty, HasLiberty}
-use Rattle.go_grid.proofs.DecidedLemmas.{Decided, alike, both, either, leads_or_not, some_below}
+use Rattle.go_grid.proofs.DeclaredLemmas.{declared_or_not}
+use Rattle.go_grid.proofs.DecidedLemmas.{Decided, alike, both, either}
 use Rattle.go_grid.proofs.WalkLemmas.{joined_end, joined_back}
 use Rattle.go_play.specs.Place.{IsPlaced, IsSuicide, IsTaken, IsCleared}
 use Rattle.go_play.specs.inner.Place.{with_stone}
-use Rattle.benson_attack.proofs.RunLemmas.{in_either, in_first, in_more}
+use Rattle.benson_attack.specs.inner.Reached.{HasDeclaredBreath}
+use Rattle.go_grid.proofs.DecidedChainLemmas.{chain_or_not, lt_or_not, next_or_not, some_or_not}
 use Rattle.go_grid.proofs.BoardLemmas.{same_or_not}
 use Rattle.go_play.proofs.BoardPlayLemmas.{breathes_from, breathes_to, taken_choked, taken_near, takes_by}
 use Rattle.go_grid.proofs.NearLemmas.{next_back}
 use Rattle.std.proofs.lemmas.List.{length-set}
-
-lt_or_not : (p n : ℕ) → Decided (p < n)
-lt_or_not p n = elim (cases_lt p n) [ inl l ↦ inl l | inr g ↦ inr (λ l. absurd (omega (arith, g, l))) ]
-
--- what holds of some point and of points of the board alone holds of one of them, or of none
-some_or_not : (n : ℕ) (P : ℕ → Type 0) → ((p : ℕ) → P p → p < n) → ((p : ℕ) → Decided (P p)) → Decided ((p : ℕ) × P p)
-some_or_not n P below d =
-    alike ((p : ℕ) × (p < n) × P p) ((p : ℕ) × P p) (λ w. (w.0, w.2)) (λ w. (w.0, below w.0 w.1, w.1)) (some_below n P d)
-
--- the list of those points
-pub points_of : (P : ℕ → Type 0) → ((p : ℕ) → Decided (P p)) → (n : ℕ) → (points : List ℕ) × ((p : ℕ) → Contains points p ↔ ((p < n) × P p))
-points_of P d zero = ([], λ p. (λ at. absurd (omega (arith, at.1)), λ w. absurd (omega (arith, w.0))))
-points_of P d (suc n) =
-    let (points, each) = points_of P d n in
-    elim (d n) as (λ _. (points : List ℕ) × ((p : ℕ) → Contains points p ↔ ((p < suc n) × P p))) [
-      | inl yes' ↦ (
-        n ∷ points,
-        λ p. (
-          λ at. elim (in_either n points p at) as (λ _. (p < suc n) × P p) [
-            | inl e ↦ (omega (arith, e), subst P (sym e) yes')
-            | inr more ↦ let w = (each p).0 more in (omega (arith, w.0), w.1)
-          ],
-          λ w. elim (cases_eq p n) as (λ _. Contains (n ∷ points) p) [
-            | inl e ↦ subst (Contains (n ∷ points)) (sym e) (in_first n points)
-            | inr ne ↦ in_more n points p ((each p).1 (omega (arith, ne, w.0), w.1))
-          ],
-        ),
-      )
-      | inr not ↦ (
-        points,
-        λ p. (
-          λ at. let w = (each p).0 at in (omega (arith, w.0), w.1),
-          λ w. elim (cases_eq p n) as (λ _. Contains points p) [
-            | inl e ↦ absurd (not (subst P e w.1))
-            | inr ne ↦ (each p).1 (omega (arith, ne, w.0), w.1)
-          ],
-        ),
-      )
-    ]
-
-differ_or_not : (a b : ℕ) → Decided (DifferByOne a b)
-differ_or_not a b = either _ _ (cases_eq (a + 1) b) (cases_eq (b + 1) a)
-
-next_or_not : (c p q : ℕ) → Decided (NextTo c p q)
-next_or_not c p q =
-    either _ _ (both _ _ (cases_eq (p / c) (q / c)) (differ_or_not (p % c) (q % c)))
-    (both _ _ (cases_eq (p % c) (q % c)) (differ_or_not (p / c) (q / c)))
-
-pub has_or_not : (g : Board) (c : Colour) (p : ℕ) → Decided (HasStone g c p)
-has_or_not g c p = both _ _ (lt_or_not p (length g.cells)) (same_or_not (cell_at g p) (stone c))
-
-chain_or_not : (g : Board) (c : Colour) (s q : ℕ) → Decided (InChain g c s q)
-chain_or_not g c = leads_or_not (NextTo g.columns) (HasStone g c) (length g.cells) (λ i h. h.0) (next_or_not g.columns) (has_or_not g c)
 
 reaches_or_not : (g : Board) (c : Colour) (s p : ℕ) → Decided ((q : ℕ) × InChain g c s q × NextTo g.columns q p)
 reaches_or_not g c s p =
@@ -80,6 +28,30 @@ reaches_or_not g c s p =
 pub liberty_or_not : (g : Board) (c : Colour) (s p : ℕ) → Decided (IsLiberty g c s p)
 liberty_or_not g c s p =
     both _ _ (both _ _ (lt_or_not p (length g.cells)) (same_or_not (cell_at g p) cell.Empty)) (reaches_or_not g c s p)
+
+declared_some_or_not : (g : Board) (p : ℕ) → Decided ((c : Colour) × IsDeclared g c p)
+declared_some_or_not g p =
+    alike (IsDeclared g Black p ⊎ IsDeclared g White p) ((c : Colour) × IsDeclared g c p)
+    (λ w. elim w as (λ _. (c : Colour) × IsDeclared g c p) [ inl b ↦ (Black, b) | inr w' ↦ (White, w') ]) from
+    (either _ _ (declared_or_not g Black p) (declared_or_not g White p))
+  where
+    from : ((c : Colour) × IsDeclared g c p) → IsDeclared g Black p ⊎ IsDeclared g White p
+    from (Black, b) = inl b
+    from (White, w) = inr w
+
+pub undeclared_or_not : (g : Board) (p : ℕ) → Decided (IsUndeclared g p)
+undeclared_or_not g p = elim (declared_some_or_not g p) as (λ _. Decided (IsUndeclared g p)) [
+  | inl (c, declared) ↦ inr (λ outside. outside c declared)
+  | inr none ↦ inl (λ c declared. none (c, declared))
+]
+
+-- a liberty of the stone's chain is declared, or none is
+pub declared_breath_or_not : (g : Board) (d : Colour) (v : ℕ) → Decided (HasDeclaredBreath g d v)
+declared_breath_or_not g d v =
+    alike ((p : ℕ) × (((c : Colour) × IsDeclared g c p) × IsLiberty g (other d) v p)) (HasDeclaredBreath g d v)
+    (λ w. (w.0, w.1.0, w.1.1)) (λ w. (w.0, (w.1, w.2)))
+    (some_or_not (length g.cells) (λ p. ((c : Colour) × IsDeclared g c p) × IsLiberty g (other d) v p) (λ p w. w.1.0.0)
+    (λ p. both _ _ (declared_some_or_not g p) (liberty_or_not g (other d) v p)))
 
 breath_or_not : (g : Board) (c : Colour) (s : ℕ) → Decided (HasLiberty g c s)
 breath_or_not g c s = some_or_not (length g.cells) (IsLiberty g c s) (λ p l. l.0.0) (liberty_or_not g c s)
@@ -146,7 +118,7 @@ placed_or_not g p d free =
       | inl l ↦ inl (
         m,
         (
-          record { columns = refl; rows = refl },
+          record { columns = refl; rows = refl; declared = refl },
           record { place = free.0; free = free.1; without = without; stands = breathes_from g m.cells long d p l },
         ),
       )

@@ -4,18 +4,20 @@ use Rattle.std.proofs.lemmas.Bool.{cases_eq}
 use Rattle.std.proofs.lemmas.List.{get_or-set_other}
 use Rattle.go_grid.specs.declared.grid.Cell.TheVariants as cell
 use Rattle.go_grid.specs.declared.grid.Colour.{Colour}
-use Rattle.go_grid.specs.Board.{Board, NextTo, HasStone, IsEmpty, Lacks, cell_at, stone, other}
+use Rattle.go_grid.specs.Board.{Board, NextTo, HasStone, IsClosedOff, IsDeclared, IsEmpty, IsUndeclared, Lacks, cell_at, stone, other}
 use Rattle.go_grid.specs.Walk.{Joined}
 use Rattle.go_grid.specs.Chain.{InChain, IsLiberty, HasLiberty, IsSettled}
 use Rattle.go_grid.proofs.NearLemmas.{next_back}
 use Rattle.go_grid.proofs.WalkLemmas.{joined_here, joined_step, joined_start, joined_end, joined_join, joined_back, joined_more}
 use Rattle.go_play.specs.Place.{IsPlaced, IsTaken, IsSuicide, Placings}
 use Rattle.go_play.specs.inner.Place.{with_stone}
-use Rattle.benson_life.specs.Life.{InRegion, IsVital, IsEye, HasTwoEyes}
+use Rattle.benson_life.specs.Life.{InRegion, IsVital, IsEye, HasDeclaredLiberty, HasTwoEyes}
 use Rattle.benson_life.proofs.StandLemmas.{empty_or_other, joined_along}
 use Rattle.benson_attack.specs.Reached.{IsReachedUnderAttack}
+use Rattle.benson_attack.specs.inner.Reached.{HasDeclaredBreath}
 use Rattle.benson_attack.proofs.LegalLemmas.{room, stays_empty, with_other, had_liberty, still, stood_earlier, not_suicide}
-use Rattle.go_grid.proofs.BoardLemmas.{empty_not_stone, same_or_not}
+use Rattle.go_grid.proofs.BoardLemmas.{empty_not_stone, one_colour, same_or_not}
+use Rattle.go_grid.proofs.DeclaredLemmas.{declared_on}
 use Rattle.go_play.proofs.BoardPlayLemmas.{placed_long, taken_choked, taken_near, takes, takes_by}
 use Rattle.go_grid.proofs.ChainLemmas.{same_liberty}
 
@@ -44,6 +46,23 @@ module _ (g : Board) (d : Colour) (Under : ℕ → Type 0) (h : Board) (w : IsRe
   region_now r x j =
       subst (λ k. Joined k (Lacks h (other d)) r x) (sym w.columns)
       (joined_more g.columns (Lacks g (other d)) (Lacks h (other d)) lacks_more r x j)
+
+-- a declared liberty was one from the first, and is declared for the colour of its stones
+pub declared_before : (g : Board) (d : Colour) (Under : ℕ → Type 0) (h : Board) → IsReachedUnderAttack g d Under h → IsClosedOff g → (v : ℕ)
+    → HasDeclaredBreath h d v → HasDeclaredLiberty g (other d) v
+declared_before g d Under h w closed v (p, (c, declared), (empty, (q, chain, next))) =
+    let was : IsDeclared g c p = declared_on h g (sym w.declared) (sym w.long) c p declared in
+    let shut = closed c p was in
+    let stone : HasStone g (other d) q = w.stood q (joined_end h.columns (HasStone h (other d)) v q chain) in
+    let near : NextTo g.columns q p = subst (λ k. NextTo k q p) w.columns next in
+    let own : HasStone g c q = elim (shut.around q stone.0 (next_back g.columns q p near)) as (λ _. HasStone g c q) [
+      | inl declared' ↦ absurd (empty_not_stone (other d) (sym (closed c q declared').empty.1 ∙ stone.1))
+      | inr at ↦ at
+    ] in (
+      p,
+      subst (λ x. IsDeclared g x p) (one_colour g c (other d) q own stone) was,
+      (shut.empty, (q, chain_before g d Under h w v q chain, near)),
+    )
 
 -- a region that is vital to a stone under attack was an eye of it from the first
 module _ (g : Board) (d : Colour) (v : ℕ) (h : Board) (w : IsReachedUnderAttack g d (InChain g (other d) v) h) (r : ℕ)
@@ -92,7 +111,7 @@ module _ (g : Board) (d : Colour) (v : ℕ) (h : Board) (w : IsReachedUnderAttac
 vital_alone : (h : Board) (d : Colour) (v p : ℕ) → IsLiberty h (other d) v p → IsSuicide h p d → IsVital h (other d) p v
 vital_alone h d v p l refused e at empty = elim (cases_eq e p) as (λ _. IsLiberty h (other d) v e) [
   | inl k ↦ rw k l
-  | inr ne ↦ absurd (not_suicide h d p refused (room h d p (record h { cells = refused.0 }) l.0 (record { columns = refl; rows = refl }) refused.1 e at empty ne))
+  | inr ne ↦ absurd (not_suicide h d p refused (room h d p (record h { cells = refused.0 }) l.0 (record { columns = refl; rows = refl; declared = refl }) refused.1 e at empty ne))
 ]
 
 -- two liberties at which placings are refused are two eyes
@@ -106,7 +125,7 @@ refused_eyes g d v h w p q ne lp sp lq sq = (
   eye_before g d v h w q (vital_alone h d v q lq sq) (lq.0.0, λ e. empty_not_stone (other d) (sym lq.0.1 ∙ e)),
   λ j. elim (cases_eq q p) [
     | inl k ↦ ne (sym k)
-    | inr ne' ↦ not_suicide h d p sp (room h d p (record h { cells = sp.0 }) lp.0 (record { columns = refl; rows = refl }) sp.1 q (region_now g d (InChain g (other d) v) h w p q j) lq.0 ne')
+    | inr ne' ↦ not_suicide h d p sp (room h d p (record h { cells = sp.0 }) lp.0 (record { columns = refl; rows = refl; declared = refl }) sp.1 q (region_now g d (InChain g (other d) v) h w p q j) lq.0 ne')
   ],
 )
 
@@ -115,10 +134,11 @@ pub reached_first : (g : Board) (d : Colour) → IsSettled g → IsReachedUnderA
 reached_first g d settled = record {
   columns = refl;
   long = refl;
+  declared = refl;
   stood = λ q s. s;
   taken = λ q s n. absurd (n s);
   whole = λ q r j _. joined_end g.columns (HasStone g (other d)) q r j;
-  breathes = λ q s n. n (settled (other d) q s);
+  breathes = λ q s n. n (settled.breathe (other d) q s);
   filled = λ q e s. absurd (empty_not_stone d (sym e.1 ∙ s.1));
 }
 
@@ -126,6 +146,7 @@ pub reached_under : (g : Board) (d : Colour) (h : Board) (Under : ℕ → Type 0
 reached_under g d h Under w = record {
   columns = w.columns;
   long = w.long;
+  declared = w.declared;
   stood = w.stood;
   taken = w.taken;
   whole = w.whole;
@@ -139,6 +160,7 @@ pub reached_over : (g : Board) (d : Colour) (v : ℕ) (h : Board) → IsReachedU
 reached_over g d v h w gone = record {
   columns = w.columns;
   long = w.long;
+  declared = w.declared;
   stood = w.stood;
   taken = w.taken;
   whole = w.whole;
@@ -252,6 +274,7 @@ module _ (g : Board) (d : Colour) (v : ℕ) (h : Board) (w : IsReachedUnderAttac
   reached_next = record {
     columns = columns;
     long = long;
+    declared = placed.0.declared ∙ w.declared;
     stood = λ q s. w.stood q (stood_before q s);
     taken = taken;
     whole = whole;
@@ -259,7 +282,8 @@ module _ (g : Board) (d : Colour) (v : ℕ) (h : Board) (w : IsReachedUnderAttac
     filled = filled;
   }
 
-pub placings_more : (d : Colour) (g : Board) (ps : List ℕ) (h : Board) (p : ℕ) (m : Board) → Placings d g ps h → IsPlaced h p d m
-    → Placings d g (ps ++ p ∷ []) m
-placings_more d g [] h p m run placed = (m, subst (λ x. IsPlaced x p d m) (sym run) placed, refl)
-placings_more d g (q ∷ ps) h p m run placed = (run.0, run.1, placings_more d run.0 ps h p m run.2 placed)
+pub placings_more : (d : Colour) (g : Board) (ps : List ℕ) (h : Board) (p : ℕ) (m : Board) → Placings d g ps h → IsUndeclared h p
+    → IsPlaced h p d m → Placings d g (ps ++ p ∷ []) m
+placings_more d g [] h p m run outside placed =
+    (subst (λ x. IsUndeclared x p) (sym run) outside, (m, subst (λ x. IsPlaced x p d m) (sym run) placed, refl))
+placings_more d g (q ∷ ps) h p m (other', (k, at, run)) outside placed = (other', (k, at, placings_more d k ps h p m run outside placed))

@@ -13,6 +13,7 @@ use Rattle.benson_attack.specs.declared.captures.Run.{Run}
 pub record IsReachedUnderAttack (g : Board) (d : Colour) (Under : ℕ → Type 0) (h : Board) : Type 0 where
   pub columns : h.columns ≡ g.columns
   pub long : length h.cells ≡ length g.cells
+  pub declared : h.declared ≡ g.declared
   pub stood : (q : ℕ) → HasStone h (other d) q → HasStone g (other d) q
   pub taken : (q : ℕ) → HasStone g (other d) q → ¬ HasStone h (other d) q → IsEmpty h q
   pub whole : (q r : ℕ) → InChain g (other d) q r → HasStone h (other d) q → HasStone h (other d) r

@@ -36,8 +36,8 @@ impl Attacks {
         })
     }
 
-    /// An attack on the stone at a point: legal placings of the other colour, none of them answered, after
-    /// which the point holds no stone of its colour. There are no more of them than the board has points. `Alive` exactly
+    /// An attack on the stone at a point: legal placings of the other colour, none of them answered or at a declared
+    /// point, after which the point holds no stone of its colour. There are no more of them than the board has points. `Alive` exactly
     /// where the stone lives without answers (Benson 1976).
     pub fn on(&self, alloc: Global, board: &Board, stone: Point) -> Result<Vec<Point>, AttackError>
         requires attacks { AreAttacks board.now self.now }

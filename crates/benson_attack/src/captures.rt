@@ -2,7 +2,7 @@
 
 ghost use Rattle.std.specs.Prelude.{◌≡◌, ℕ, ◌<◌, ◌↔◌, [], true, length, IfOk, MatchOption};
 ghost use Rattle.std.specs.Bool.{OnFalse, OnTrue};
-ghost use Rattle.go_grid.specs.Board.{HasStone, IsEmpty, other};
+ghost use Rattle.go_grid.specs.Board.{HasStone, IsEmpty, IsUndeclared, other};
 ghost use Rattle.go_play.specs.Place.{IsPlaced, IsSuicide};
 ghost use Rattle.benson_attack.specs.inner.Reached.{AllAlive, Captures, Follows, Presses};
 
@@ -67,7 +67,18 @@ fn try_place(board: &mut Board, point: Point, colour: Colour) -> bool
     place(board, point, colour).is_ok()
 }
 
-/// Places a stone at the lowest liberty of the victim's chain where that is legal.
+/// Places a stone at an empty point if it isn't declared and that is legal.
+fn try_press(board: &mut Board, point: Point, colour: Colour) -> bool
+    requires { IsEmpty board.old point }
+    ensures placed { OnTrue result (IsUndeclared board.old point
+        × IsPlaced board.old point colour board.new) }
+    ensures refused { OnFalse result ((board.new ≡ board.old)
+        × (IsUndeclared board.old point → IsSuicide board.old point colour)) }
+{
+    board.declared_for(point).is_none() && try_place(board, point, colour)
+}
+
+/// Places a stone at the lowest liberty of the victim's chain that isn't declared and where that is legal.
 fn press(board: &mut Board, victim: Point, colour: Colour) -> Option<Point>
     requires { HasStone board.old (other colour) victim }
     ensures { Presses colour victim board.old board.new result }
@@ -75,14 +86,14 @@ fn press(board: &mut Board, victim: Point, colour: Colour) -> Option<Point>
     let liberties = board.liberties(colour.other(), victim);
     for number in 0..board.size().area() {
         let point = Point(number);
-        if liberties.contains(point) && try_place(board, point, colour) {
+        if liberties.contains(point) && try_press(board, point, colour) {
             return Some(point);
         }
     }
     None
 }
 
-/// Places at liberties of the victim's chain until it is taken, or until no such placing is legal.
+/// Places at liberties of the victim's chain that aren't declared until it is taken, or until no such placing is legal.
 /// Tells whether it was taken.
 pub(crate) fn capture(run: &mut Run, victim: Point, colour: Colour) -> Result<bool, AllocError>
     requires { HasStone run.old.board (other colour) victim }

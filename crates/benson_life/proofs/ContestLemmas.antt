@@ -8,12 +8,13 @@ use Rattle.go_grid.specs.Board.{Board}
 use Rattle.go_grid.specs.Marks.{IsMarked, Lists, Marks}
 use Rattle.benson_life.specs.Life.{IsAlive, IsCounted, IsLargestHealthy}
 use Rattle.benson_life.specs.Region.{IsContested}
+use Rattle.benson_life.proofs.WallLemmas.{counted_inside}
 
 pub alive_short : (g : Board) (c : Colour) (xs : List ℕ) → IsLargestHealthy g c xs → (k d : ℕ) → k < length xs → get_or xs k d < length g.cells
 alive_short g c xs h k d lt = (h.healthy.stones _ (Contains-get_or xs k d lt)).0
 
 pub counted_short : (g : Board) (c : Colour) (xs : List ℕ) → Lists xs (IsCounted g c) → (k d : ℕ) → k < length xs → get_or xs k d < length g.cells
-counted_short g c xs h k d lt = ((h.exact _).0 (Contains-get_or xs k d lt)).2.lacks.0
+counted_short g c xs h k d lt = counted_inside g c _ ((h.exact _).0 (Contains-get_or xs k d lt))
 
 pub alive_is : (g : Board) (c : Colour) (xs : List ℕ) → IsLargestHealthy g c xs → (p : ℕ) → Contains xs p ↔ IsAlive g c p
 alive_is g c xs h p = (λ i. (xs, h.healthy, i), λ a. h.largest a.0 a.1 p a.2)

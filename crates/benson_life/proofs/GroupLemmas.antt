@@ -1,7 +1,7 @@
 -- Groups are the parts of the set of alive stones and counted points.
 use Rattle.std.proofs.Common.{◌↔◌, ◌≡◌, ℕ, ◌≤◌, ◌⊎◌, inl, inr, List, Bool}
 use Rattle.go_grid.specs.declared.grid.Colour.{Colour}
-use Rattle.go_grid.specs.Board.{Board, NextTo, HasStone, Lacks}
+use Rattle.go_grid.specs.Board.{Board, NextTo, HasStone, IsClosedOff, Lacks}
 use Rattle.go_grid.specs.Marks.{IsMarked, Marks}
 use Rattle.go_grid.specs.Parts.{ArePartLabels, label}
 use Rattle.go_grid.specs.Walk.{Joined}
@@ -14,9 +14,9 @@ use Rattle.benson_life.specs.Life.{InRegion, IsAlive, IsCounted}
 use Rattle.benson_life.proofs.PartsLemmas.{one_part, parts_over}
 use Rattle.benson_life.proofs.StandLemmas.{joined_along}
 use Rattle.benson_life.proofs.StrikingLemmas.{alive_stone, alive_whole}
-use Rattle.benson_life.proofs.WallLemmas.{counted_region}
+use Rattle.benson_life.proofs.WallLemmas.{counted_lacks, counted_region}
 
-module _ (g : Board) (c : Colour) where
+module _ (g : Board) (c : Colour) (closed : IsClosedOff g) where
   -- an alive stone or a counted point
   abbrev IsSafe : ℕ → Type 0
   IsSafe p = IsAlive g c p ⊎ IsCounted g c p
@@ -24,7 +24,7 @@ module _ (g : Board) (c : Colour) where
   link_joined : (s t : ℕ) → IsAlive g c s → IsAlive g c t → IsLinkedInGroup g c s t → Joined g.columns IsSafe s t
   link_joined s t a b (inl chain) = joined_along g.columns (HasStone g c) IsSafe s t (λ x j. inl (alive_whole g c s x a j)) chain
   link_joined s t a b (inr (p, q, counted, at, n, m)) =
-      let over = joined_along g.columns (Lacks g c) IsSafe p q (λ x j. inr (counted_region g c p x counted j)) at in
+      let over = joined_along g.columns (Lacks g c) IsSafe p q (λ x j. inr (counted_region g closed c p x counted j)) at in
       let first = joined_step g.columns IsSafe s s p (joined_here g.columns IsSafe s (inl a)) (next_back g.columns p s n) (inr counted) in
       joined_step g.columns IsSafe s q t (joined_join g.columns IsSafe s p q first over) m (inl b)
 
@@ -45,20 +45,20 @@ module _ (g : Board) (c : Colour) where
       let chain = joined_step g.columns (HasStone g c) x x y (joined_here g.columns (HasStone g c) x (alive_stone g c x a)) n (alive_stone g c y b) in
       inl (b, leads_step (IsLinkedInGroup g c) (IsAlive g c) s x y j (inl chain) b)
   meets_next s x y (inl (a, j)) n (inr d) =
-      inr (d, (x, y, j, joined_here g.columns (Lacks g c) y d.2.lacks, next_back g.columns x y n))
+      inr (d, (x, y, j, joined_here g.columns (Lacks g c) y (counted_lacks g closed c y d), next_back g.columns x y n))
   meets_next s x y (inr (d, (u, z, j, at, m))) n (inl b) =
       let link : IsLinkedInGroup g c u y =
-      inr (z, x, counted_region g c x z d at, joined_back g.columns (Lacks g c) x z at, m, n) in
+      inr (z, x, counted_region g closed c x z d at, joined_back g.columns (Lacks g c) x z at, m, n) in
       inl (b, leads_step (IsLinkedInGroup g c) (IsAlive g c) s u y j link b)
   meets_next s x y (inr (d, (u, z, j, at, m))) n (inr e) =
-      let step = joined_step g.columns (Lacks g c) y y x (joined_here g.columns (Lacks g c) y e.2.lacks) (next_back g.columns x y n) d.2.lacks in
+      let step = joined_step g.columns (Lacks g c) y y x (joined_here g.columns (Lacks g c) y (counted_lacks g closed c y e)) (next_back g.columns x y n) (counted_lacks g closed c x d) in
       inr (e, (u, z, j, joined_join g.columns (Lacks g c) y x z step at, m))
 
   joined_group : (s t : ℕ) → IsAlive g c s → IsAlive g c t → Joined g.columns IsSafe s t → InGroup g c s t
   joined_group s t a b j =
       elim (carried g.columns IsSafe (Meets s) (meets_next s) s t (inl (a, leads_here (IsLinkedInGroup g c) (IsAlive g c) s a)) j) as (λ _. InGroup g c s t) [
         | inl w ↦ w.1
-        | inr w ↦ absurd (w.0.2.lacks.1 (alive_stone g c t b).1)
+        | inr w ↦ absurd ((counted_lacks g closed c t w.0).1 (alive_stone g c t b).1)
       ]
 
   -- the lowest alive stone of each part is the lowest of its group

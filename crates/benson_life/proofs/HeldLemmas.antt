@@ -14,6 +14,7 @@ use Rattle.go_grid.specs.Board.{Board, HasStone, IsEmpty, cell_at, other, stone}
 use Rattle.go_grid.specs.Marks.{Lists}
 use Rattle.benson_life.specs.Held.{worth, cell_worth, IsHeld}
 use Rattle.benson_life.specs.Life.{IsCounted}
+use Rattle.benson_life.proofs.WallLemmas.{counted_inside}
 
 -- a list of points of a board is no longer than the board
 at_least : (points : List ℕ) → IsStrictlyIncreasing points → (k : ℕ) → k < length points → k ≤ get_or points k 0
@@ -126,13 +127,13 @@ held_is g c points n e l = record {
   empties = (
     filter (λ p. is_empty (cell_at g p)) points,
     lists_filter points (IsCounted g c) (IsEmpty g) (λ p. is_empty (cell_at g p)) l
-        (λ p h. (λ t. (h.2.lacks.0, (empty_is (cell_at g p)).0 t), λ k. (empty_is (cell_at g p)).1 k.1)),
+        (λ p h. (λ t. (counted_inside g c p h, (empty_is (cell_at g p)).0 t), λ k. (empty_is (cell_at g p)).1 k.1)),
     length-filter (λ p. is_empty (cell_at g p)) points,
   );
   captives = (
     filter (λ p. is_captive c (cell_at g p)) points,
     lists_filter points (IsCounted g c) (HasStone g (other c)) (λ p. is_captive c (cell_at g p)) l
-        (λ p h. (λ t. (h.2.lacks.0, (captive_is c (cell_at g p)).0 t), λ k. (captive_is c (cell_at g p)).1 k.1)),
+        (λ p h. (λ t. (counted_inside g c p h, (captive_is c (cell_at g p)).0 t), λ k. (captive_is c (cell_at g p)).1 k.1)),
     length-filter (λ p. is_captive c (cell_at g p)) points,
   );
   sum = e ∙ sum_parts g c points;

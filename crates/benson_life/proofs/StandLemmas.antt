@@ -7,11 +7,12 @@ use Rattle.go_grid.specs.declared.grid.Cell.{Cell}
 use Rattle.go_grid.specs.declared.grid.Cell.TheVariants as cell
 use Rattle.go_grid.specs.declared.grid.Colour.{Colour}
 use Rattle.go_grid.specs.declared.grid.Colour.TheVariants as colour
-use Rattle.go_grid.specs.Board.{Board, NextTo, HasStone, IsEmpty, Lacks, cell_at, stone, other}
+use Rattle.go_grid.specs.Board.{Board, NextTo, HasStone, IsDeclared, IsEmpty, IsUndeclared, Lacks, cell_at, stone, other}
 use Rattle.go_grid.specs.Walk.{Joined}
-use Rattle.go_grid.specs.Chain.{HasLiberty, IsSettled}
+use Rattle.go_grid.specs.Chain.{HasLiberty, IsLiberty, IsSettled}
+use Rattle.go_grid.proofs.DeclaredLemmas.{declared_on}
 use Rattle.go_grid.proofs.WalkLemmas.{joined_here, joined_step, joined_start, joined_end, joined_join, joined_back, carried}
-use Rattle.benson_life.specs.Life.{InRegion, IsWalledBy, IsEye, IsHealthy}
+use Rattle.benson_life.specs.Life.{HasTwoEyes, InRegion, IsWalledBy, IsEye, IsHealthy}
 use Rattle.go_play.specs.Place.{IsPlaced, Placings, Stands}
 use Rattle.go_play.specs.inner.Place.{with_stone}
 use Rattle.go_grid.proofs.BoardLemmas.{empty_not_stone, not_other, same_or_not}
@@ -39,7 +40,7 @@ first_empty g d r settled lacks =
     elim (empty_or_other (cell_at g r) d lacks.1) as (λ _. (e : ℕ) × InRegion g (other d) r e × IsEmpty g e) [
       | inl k ↦ (r, joined_here g.columns (Lacks g (other d)) r lacks, (lacks.0, k))
       | inr k ↦
-          let liberty = settled d r (lacks.0, k) in
+          let liberty = settled.breathe d r (lacks.0, k) in
           let at = carried g.columns (HasStone g d) (InRegion g (other d) r)
           (λ x y in' n j. joined_step g.columns (Lacks g (other d)) r x y in' n (j.0, λ q. not_other d (sym j.1 ∙ q)))
           r liberty.1.1.0 (joined_here g.columns (Lacks g (other d)) r lacks) liberty.1.1.1 in (
@@ -60,10 +61,12 @@ module _ (g : Board) (d : Colour) (S : List ℕ) (healthy : IsHealthy g (other d
   pub record Holds (h : Board) : Type 0 where
     pub columns : h.columns ≡ g.columns
     pub long : length h.cells ≡ length g.cells
+    pub declared : h.declared ≡ g.declared
     pub stones : (s : ℕ) → Contains S s → HasStone h (other d) s
     pub others : (q : ℕ) → HasStone g d q → HasStone h d q
     pub open' : (r : ℕ) → Lacks g (other d) r → IsWalledBy g (other d) (Contains S) r
         → (e : ℕ) × InRegion g (other d) r e × IsEmpty h e
+    pub kept : (e : ℕ) → IsDeclared g (other d) e → IsEmpty h e
 
   -- an empty point of a region was empty from the first
   was_empty : (h : Board) → Holds h → (e : ℕ) → Lacks g (other d) e → IsEmpty h e → IsEmpty g e
@@ -83,50 +86,65 @@ module _ (g : Board) (d : Colour) (S : List ℕ) (healthy : IsHealthy g (other d
         | inr k ↦ joined_step g.columns (Lacks g (other d)) r x y at n (rw long at lt, k)
       ]
 
+  -- a liberty of `s` that is empty still, other than `p`, is one on the board with a stone at `p`
+  still_liberty : (h : Board) → Holds h → (p s e : ℕ) → IsEmpty h p → Contains S s → IsLiberty g (other d) s e → IsEmpty h e → e ≢ p
+      → HasLiberty (with_stone h p d) (other d) s
+  still_liberty h w p s e free in' liberty empty ne = (
+    e,
+    (
+      (rw (length-set h.cells p (stone d)) empty.0, get_or-set_other h.cells p e (stone d) cell.Empty ne ∙ empty.1),
+      (
+        liberty.1.0,
+        joined_along h.columns (HasStone g (other d)) (HasStone (with_stone h p d) (other d)) s liberty.1.0
+            (λ x j.
+            let there = w.stones x (healthy.whole s x in' (rw w.columns at j)) in
+            let apart : x ≢ p = λ k. empty_not_stone (other d) (sym free.1 ∙ ap (cell_at h) (sym k) ∙ there.1) in
+            (rw (length-set h.cells p (stone d)) there.0, get_or-set_other h.cells p x (stone d) cell.Empty apart ∙ there.1))
+            (subst (λ x. Joined x (HasStone g (other d)) s liberty.1.0) (sym w.columns) liberty.1.1),
+        subst (λ x. NextTo x liberty.1.0 e) (sym w.columns) liberty.1.2,
+      ),
+    ),
+  )
+
   -- an empty point of a region vital to `s`, other than `p`, is a liberty of `s` on the board with a stone at `p`
   keeps_liberty : (h : Board) → Holds h → (p s r e : ℕ) → IsEmpty h p → Contains S s → IsEye g (other d) (Contains S) s r
       → InRegion g (other d) r e → IsEmpty h e → e ≢ p → HasLiberty (with_stone h p d) (other d) s
   keeps_liberty h w p s r e free in' eye at empty ne =
       let lacks = joined_end g.columns (Lacks g (other d)) r e at in
-      let liberty = eye.vital e at (was_empty h w e lacks empty) in (
-        e,
-        (
-          (rw (length-set h.cells p (stone d)) empty.0, get_or-set_other h.cells p e (stone d) cell.Empty ne ∙ empty.1),
-          (
-            liberty.1.0,
-            joined_along h.columns (HasStone g (other d)) (HasStone (with_stone h p d) (other d)) s liberty.1.0
-                (λ x j.
-                let there = w.stones x (healthy.whole s x in' (rw w.columns at j)) in
-                let apart : x ≢ p = λ k. empty_not_stone (other d) (sym free.1 ∙ ap (cell_at h) (sym k) ∙ there.1) in
-                (rw (length-set h.cells p (stone d)) there.0, get_or-set_other h.cells p x (stone d) cell.Empty apart ∙ there.1))
-                (subst (λ x. Joined x (HasStone g (other d)) s liberty.1.0) (sym w.columns) liberty.1.1),
-            subst (λ x. NextTo x liberty.1.0 e) (sym w.columns) liberty.1.2,
-          ),
-        ),
-      )
+      still_liberty h w p s e free in' (eye.vital e at (was_empty h w e lacks empty)) empty ne
+
+  -- a point declared for the stones isn't one at which a placing is listed
+  not_here : (h : Board) → Holds h → (p e : ℕ) → IsUndeclared h p → IsDeclared g (other d) e → e ≢ p
+  not_here h w p e free declared same =
+      free (other d) (subst (IsDeclared h (other d)) same (declared_on g h w.declared w.long (other d) e declared))
 
   -- each stone of S has a liberty on the board with a stone more
-  not_choked : (h : Board) → Holds h → (p s : ℕ) → IsEmpty h p → Contains S s → HasLiberty (with_stone h p d) (other d) s
-  not_choked h w p s free in' =
-      let two = healthy.eyes s in' in
-      let a = two.2 in let b = two.3 in
-      let e = w.open' two.0 a.lacks a.walled in
-      let f = w.open' two.1 b.lacks b.walled in
-      elim (cases_eq e.0 p) [
-        | inl k ↦ elim (cases_eq f.0 p) [
-          | inl k' ↦
-              let same : f.0 ≡ e.0 = k' ∙ sym k in
-              absurd (two.4 (joined_join g.columns (Lacks g (other d)) two.0 e.0 two.1 e.1
-              (joined_back g.columns (Lacks g (other d)) two.1 e.0 (subst (λ x. InRegion g (other d) two.1 x) same f.1))))
-          | inr ne ↦ keeps_liberty h w p s two.1 f.0 free in' b f.1 f.2 ne
-        ]
-        | inr ne ↦ keeps_liberty h w p s two.0 e.0 free in' a e.1 e.2 ne
-      ]
+  not_choked : (h : Board) → Holds h → (p s : ℕ) → IsUndeclared h p → IsEmpty h p → Contains S s → HasLiberty (with_stone h p d) (other d) s
+  not_choked h w p s outside free in' = elim (healthy.room s in') as (λ _. HasLiberty (with_stone h p d) (other d) s) [
+    | inl (e, declared, liberty) ↦
+        still_liberty h w p s e free in' liberty (w.kept e declared) (not_here h w p e outside declared)
+    | inr two ↦ has_eyes two
+  ]
+    where
+      has_eyes : HasTwoEyes g (other d) (Contains S) s → HasLiberty (with_stone h p d) (other d) s
+      has_eyes (r, t, a, b, apart) =
+          let e = w.open' r a.lacks a.walled in
+          let f = w.open' t b.lacks b.walled in
+          elim (cases_eq e.0 p) [
+            | inl k ↦ elim (cases_eq f.0 p) [
+              | inl k' ↦
+                  let same : f.0 ≡ e.0 = k' ∙ sym k in
+                  absurd (apart (joined_join g.columns (Lacks g (other d)) r e.0 t e.1
+                  (joined_back g.columns (Lacks g (other d)) t e.0 (subst (λ x. InRegion g (other d) t x) same f.1))))
+              | inr ne ↦ keeps_liberty h w p s t f.0 free in' b f.1 f.2 ne
+            ]
+            | inr ne ↦ keeps_liberty h w p s r e.0 free in' a e.1 e.2 ne
+          ]
 
   -- one legal placing
-  holds_next : (h : Board) → Holds h → (p : ℕ) (m : Board) → IsPlaced h p d m → Holds m
-  holds_next h w p m placed =
-      record { columns = columns; long = long; stones = stand; others = others; open' = opens }
+  holds_next : (h : Board) → Holds h → (p : ℕ) (m : Board) → IsUndeclared h p → IsPlaced h p d m → Holds m
+  holds_next h w p m outside placed =
+      record { columns = columns; long = long; declared = placed.0.declared ∙ w.declared; stones = stand; others = others; open' = opens; kept = kept }
     where
       columns : m.columns ≡ g.columns
       columns = placed.0.columns ∙ w.columns
@@ -147,7 +165,7 @@ module _ (g : Board) (d : Colour) (S : List ℕ) (healthy : IsHealthy g (other d
           let there = w.stones s in' in
           let apart : s ≢ p = λ k. empty_not_stone (other d) (sym placed.1.free ∙ ap (cell_at h) (sym k) ∙ there.1) in (
             on_board s there.0,
-            placed.1.without.kept s (λ t. taken_choked h p d s t (not_choked h w p s (placed.1.place, placed.1.free) in'))
+            placed.1.without.kept s (λ t. taken_choked h p d s t (not_choked h w p s outside (placed.1.place, placed.1.free) in'))
                 ∙ get_or-set_other h.cells p s (stone d) cell.Empty apart ∙ there.1,
           )
 
@@ -176,19 +194,26 @@ module _ (g : Board) (d : Colour) (S : List ℕ) (healthy : IsHealthy g (other d
             | inr ne ↦ (e.0, e.1, (on_board e.0 e.2.0, stays_as e.0 ne (λ q. empty_not_stone (other d) (sym e.2.1 ∙ q)) ∙ e.2.1))
           ]
 
+      kept : (e : ℕ) → IsDeclared g (other d) e → IsEmpty m e
+      kept e declared =
+          let empty = w.kept e declared in
+          (on_board e empty.0, stays_as e (not_here h w p e outside declared) (λ q. empty_not_stone (other d) (sym empty.1 ∙ q)) ∙ empty.1)
+
   -- a settled board, before any placing
   holds_first : IsSettled g → Holds g
   holds_first settled = record {
     columns = refl;
     long = refl;
+    declared = refl;
     stones = healthy.stones;
     others = λ q at. at;
     open' = λ r lacks _. first_empty g d r settled lacks;
+    kept = λ e declared. (settled.closed (other d) e declared).empty;
   }
 
   holds_all : (ps : List ℕ) (h m : Board) → Holds h → Placings d h ps m → Holds m
   holds_all [] h m w e = subst Holds e w
-  holds_all (p ∷ ps) h m w run = holds_all ps run.0 m (holds_next h w p run.0 run.1) run.2
+  holds_all (p ∷ ps) h m w (outside, (k, placed, run)) = holds_all ps k m (holds_next h w p k outside placed) run
 
 -- the law
 pub healthy_stands : (g : Board) (c : Colour) (S : List ℕ) → IsSettled g → IsHealthy g c S → (s : ℕ) → Contains S s → Stands g c s

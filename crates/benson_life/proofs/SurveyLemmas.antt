@@ -3,14 +3,14 @@ use Rattle.std.proofs.Common.{◌↔◌, ◌≡◌, ℕ, inl, inr, List, Bool, f
 use Rattle.std.proofs.lemmas.Bool.{cases_Bool, both_ways}
 use Rattle.go_grid.specs.declared.grid.Colour.{Colour}
 use Rattle.go_grid.specs.Chain.{InChain, IsLiberty}
-use Rattle.go_grid.specs.Board.{Board, NextTo, HasStone, IsEmpty, Lacks}
+use Rattle.go_grid.specs.Board.{Board, DeclaresNothing, NextTo, HasStone, IsClosedOff, IsDeclared, IsEmpty, Lacks}
 use Rattle.go_grid.specs.Marks.{IsMarked, Marks, Touches}
 use Rattle.go_grid.specs.Parts.{label}
 use Rattle.go_grid.proofs.NearLemmas.{next_back}
 use Rattle.go_grid.proofs.WalkLemmas.{joined_back, joined_end, joined_join}
 use Rattle.benson_life.specs.declared.surveys.Survey.{Survey}
 use Rattle.benson_life.specs.inner.Eyes.{IsOfChain}
-use Rattle.benson_life.specs.Life.{InRegion, IsVital, IsWalledBy}
+use Rattle.benson_life.specs.Life.{HasDeclaredLiberty, InRegion, IsVital, IsWalledBy}
 use Rattle.benson_life.specs.inner.Survey.{IsSurvey}
 use Rattle.benson_life.proofs.PartsLemmas.{one_part}
 use Rattle.go_grid.proofs.BoardLemmas.{empty_not_stone}
@@ -63,6 +63,31 @@ module _ (g : Board) (c : Colour) (s : Survey) (is : IsSurvey g c s) where
         let bad = (iss h.3.0).0 h.3.2 in
         bad.1 (walled h.0 h.3.0 (region_of r h.0 lacks ((is.lacking h.0).0 h.1) (sym h.2)) h.3.1 ((is.stones h.3.0).0 bad.0)),
   )
+
+  -- a chain with a declared liberty, by its label
+  pub sure_is : (closed : IsClosedOff g) (declared sure : List Bool) (t : ℕ) → Marks declared (IsDeclared g c)
+      → Marks sure (λ k. (p : ℕ) × IsMarked s.stones p × (label s.chains p ≡ k) × Touches g.columns declared p)
+      → HasStone g c t → IsMarked sure (label s.chains t) ↔ HasDeclaredLiberty g c t
+  sure_is closed declared sure t isd iss stone = (
+    λ m.
+        let (p, on, same, (q, next, marked)) = (iss (label s.chains t)).0 m in
+        let there = (isd q).0 marked in
+        (q, there, ((closed c q there).empty, (p, chain_of t p stone ((is.stones p).0 on) (sym same), next))),
+    λ (q, there, (empty, (p, chain, next))).
+        (iss (label s.chains t)).1 (
+          p,
+          (is.stones p).1 (joined_end g.columns (HasStone g c) t p chain),
+          sym (is.chains.same t p chain),
+          (q, next, (isd q).1 there),
+        ),
+  )
+
+  -- where nothing is declared no chain has a declared liberty
+  pub sure_none : (declared sure : List Bool) → Marks declared (IsDeclared g c)
+      → Marks sure (λ k. (p : ℕ) × IsMarked s.stones p × (label s.chains p ≡ k) × Touches g.columns declared p)
+      → DeclaresNothing g → (k : ℕ) → ¬ IsMarked sure k
+  sure_none declared sure isd iss nothing k m =
+      let (p, on, same, (q, next, marked)) = (iss k).0 m in nothing q c ((isd q).0 marked)
 
   -- a region is vital to each stone of a chain, and from each of its points
   pub vital_at : (r t k u : ℕ) → InRegion g c r t → InChain g c k u → IsVital g c r k → IsVital g c t u

@@ -11,15 +11,15 @@ use Rattle.std.proofs.lemmas.Map.Made.{length-le_from_is_member}
 use Rattle.std.proofs.lemmas.Map.Views.{Contains-from_any, list_any-from_Contains}
 use Rattle.go_grid.specs.declared.grid.Colour.{Colour}
 use Rattle.go_grid.specs.Chain.{IsLiberty, IsSettled}
-use Rattle.go_grid.specs.Board.{Board, HasStone, Lacks}
+use Rattle.go_grid.specs.Board.{Board, DeclaresNothing, HasStone, Lacks}
 use Rattle.go_grid.proofs.PathLemmas.{leads_here, leads_step}
 use Rattle.go_grid.proofs.NearLemmas.{next_back}
 use Rattle.go_grid.proofs.WalkLemmas.{joined_back, joined_here, joined_join}
 use Rattle.benson_life.specs.Groups.{InGroup, IsLinkedInGroup, IsNumberOfGroups}
 use Rattle.benson_life.specs.Held.{IsHeld}
-use Rattle.benson_life.specs.Life.{InRegion, IsAlive, IsCounted}
+use Rattle.benson_life.specs.Life.{HasRoom, HasTwoEyes, InRegion, IsAlive, IsCounted}
 use Rattle.benson_life.proofs.StrikingLemmas.{alive_whole}
-use Rattle.benson_life.proofs.WallLemmas.{eye_point}
+use Rattle.benson_life.proofs.WallLemmas.{counted_lacks, eye_point}
 
 not_any : (y : ℕ) (xs : List ℕ) → ¬ Contains xs y → list_any (nat_eq y) xs ≡ false
 not_any y xs none = elim (cases_Bool (list_any (nat_eq y) xs)) as (λ _. list_any (nat_eq y) xs ≡ false) [
@@ -75,14 +75,18 @@ module _ (xs ys : List ℕ) (R : ℕ → ℕ → Type 0) (up : IsStrictlyIncreas
       list_any-from_Contains nat_eq_equiv q ys (among (get_or xs j 0) q (Contains-get_or xs j 0 lt) r)) in
       omega (arith, fit, w.long)
 
-module _ (g : Board) (c : Colour) (settled : IsSettled g) where
+module _ (g : Board) (c : Colour) (settled : IsSettled g) (nothing : DeclaresNothing g) where
   -- a counted point that is a liberty of the stone's chain
   abbrev IsOwn : ℕ → ℕ → Type 0
   IsOwn s a = IsCounted g c a × IsLiberty g c s a
 
+  undeclared_eyes : {In : ℕ → Type 0} (s : ℕ) → HasRoom g c In s → HasTwoEyes g c In s
+  undeclared_eyes s (inl (p, declared, liberty)) = absurd (nothing p c declared)
+  undeclared_eyes s (inr two) = two
+
   two_own : (s : ℕ) → IsAlive g c s → (a b : ℕ) × IsOwn s a × IsOwn s b × (a ≢ b)
   two_own s (S, healthy, among) =
-      let (r, t, first, second, apart) = healthy.eyes s among in
+      let (r, t, first, second, apart) = undeclared_eyes s (healthy.room s among) in
       let (a, at, counted, liberty) = eye_point g c s r S settled healthy among first in
       let (b, at', counted', liberty') = eye_point g c s t S settled healthy among second in (
         a,
@@ -100,7 +104,7 @@ module _ (g : Board) (c : Colour) (settled : IsSettled g) where
       let far = alive_whole g c t v alive' chain' in
       let to_u = over s s u (leads_here (IsLinkedInGroup g c) (IsAlive g c) s alive) (inl chain) (alive_whole g c s u alive chain) in
       let to_v = over s u v to_u
-      (inr (a, a, counted, joined_here g.columns (Lacks g c) a counted.2.lacks, next_back g.columns u a n, next_back g.columns v a m)) far in
+      (inr (a, a, counted, joined_here g.columns (Lacks g c) a (counted_lacks g settled.closed c a counted), next_back g.columns u a n, next_back g.columns v a m)) far in
       over s v t to_v (inl (joined_back g.columns (HasStone g c) t v chain')) alive'
 
   pub taxed : (held groups : ℕ) → IsHeld g c held → IsNumberOfGroups g c groups → 2 * groups ≤ held

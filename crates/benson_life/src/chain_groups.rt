@@ -1,6 +1,7 @@
 //! Groups of alive stones.
 
 ghost use Rattle.std.specs.Prelude.{◌≡◌, ℕ, ◌*◌, ◌<◌, ◌≤◌, IfOk};
+ghost use Rattle.go_grid.specs.Chain.{IsSettled};
 ghost use Rattle.go_grid.specs.Marks.{IsMarked, IsWithin, Lists, Marks};
 ghost use Rattle.go_grid.specs.Parts.{label};
 ghost use Rattle.benson_life.specs.Groups.{IsLeader, IsNumberOfGroups};
@@ -32,6 +33,7 @@ fn firsts(size: Size, of: &Points, labels: &Labels) -> Points
 
 /// The lowest stone of each group. What joins the stones of a group are walks over alive stones and counted points.
 fn leaders(board: &Board, colour: Colour, alive: &Points, counted: &Points) -> Points
+    requires settled { IsSettled board.now }
     requires alive { Marks alive.now (IsAlive board.now colour) }
     requires counted { Marks counted.now (IsCounted board.now colour) }
     ensures { Marks result (IsLeader board.now colour) }
@@ -49,6 +51,7 @@ pub(crate) fn number_of_groups(
     alive: &Points,
     counted: &Points,
 ) -> Result<u32, AllocError>
+    requires settled { IsSettled board.now }
     requires alive { Marks alive.now (IsAlive board.now colour) }
     requires counted { Marks counted.now (IsCounted board.now colour) }
     ensures { IfOk result (IsNumberOfGroups board.now colour) }
@@ -58,7 +61,7 @@ pub(crate) fn number_of_groups(
     Ok(leaders.len() as u32)
 }
 
-/// The number of groups of the colour. Alive stones are of one group where chains and regions of counted points link
+/// The number of groups of the colour on a settled board. Alive stones are of one group where chains and regions of counted points link
 /// them. The lists are those that `alive` and `counted` give for the colour.
 pub fn groups(
     alloc: Global,
@@ -67,6 +70,7 @@ pub fn groups(
     alive: &[Point],
     counted: &[Point],
 ) -> Result<u32, AllocError>
+    requires settled { IsSettled board.now }
     requires alive { IsLargestHealthy board.now colour alive.now }
     requires counted { Lists counted.now (IsCounted board.now colour) }
     ensures { IfOk result (IsNumberOfGroups board.now colour) }

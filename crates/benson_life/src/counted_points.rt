@@ -1,7 +1,8 @@
 //! Counted points and what they are worth.
 
-ghost use Rattle.std.specs.Prelude.{◌≡◌, ℕ, ◌<◌, length, All, sum_by};
+ghost use Rattle.std.specs.Prelude.{◌≡◌, ℕ, ◌<◌, ◌⊎◌, length, All, sum_by};
 ghost use Rattle.std.specs.List.Sorted.{IsStrictlyIncreasing};
+ghost use Rattle.go_grid.specs.Board.{IsDeclared};
 ghost use Rattle.go_grid.specs.Marks.{IsMarked, Lists, Marks};
 ghost use Rattle.benson_life.specs.inner.Eyes.{AreEyes, HasWalledEye};
 ghost use Rattle.benson_life.specs.Held.{IsHeld, worth};
@@ -28,8 +29,18 @@ fn eyes_of(eyes: &[Eye], breached: &Points, kept: &Points) -> Points
     found
 }
 
+/// The points of a set, and those that are declared for the colour.
+fn with_declared(board: &Board, colour: Colour, points: &Points) -> Points
+    ensures { Marks result (λ p. IsMarked points.now p ⊎ IsDeclared board.now colour p) }
+{
+    if board.declares_nothing() {
+        return *points;
+    }
+    points.union(&board.declared(colour))
+}
+
 /// The points that are counted for the colour: those of each region that is vital to an alive chain and next
-/// to alive stones of the colour alone.
+/// to alive stones of the colour alone, and the declared ones.
 pub(crate) fn counted_points(
     board: &Board,
     colour: Colour,
@@ -45,7 +56,8 @@ pub(crate) fn counted_points(
     let size = board.size();
     let breached = breached(board, colour, survey, alive);
     let found = eyes_of(eyes, &breached, alive);
-    labelled(size, &survey.lacking, &survey.regions, &found)
+    let in_eyes = labelled(size, &survey.lacking, &survey.regions, &found);
+    with_declared(board, colour, &in_eyes)
 }
 
 /// What counted points are worth to the colour: 1 for each empty one, and 2 for each stone of the other

@@ -1,17 +1,18 @@
-//! The stones that live without answers, by striking out those that lack two eyes.
+//! The stones that live without answers, by striking out those that have no room.
 
-ghost use Rattle.std.specs.Prelude.{ℕ, ◌<◌, All, count_by};
+ghost use Rattle.std.specs.Prelude.{ℕ, ◌<◌, ◌↔◌, All, count_by};
 ghost use Rattle.std.specs.Bool.{OnFalse, OnTrue};
-ghost use Rattle.go_grid.specs.Board.{HasStone};
+ghost use Rattle.go_grid.specs.Board.{DeclaresNothing, HasStone};
+ghost use Rattle.go_grid.specs.Chain.{IsSettled};
 ghost use Rattle.go_grid.specs.Marks.{IsMarked, Marks};
 ghost use Rattle.go_grid.specs.Parts.{label};
 ghost use Rattle.benson_life.specs.inner.Eyes.{AreEyes, HasWalledEye, HasTwoWalledEyes};
-ghost use Rattle.benson_life.specs.Life.{HasTwoEyes, IsAlive};
+ghost use Rattle.benson_life.specs.Life.{HasDeclaredLiberty, HasRoom, IsAlive};
 ghost use Rattle.benson_life.specs.inner.Survey.{IsSurvey};
 
 use crate::eyes::Eye;
 use crate::surveys::Survey;
-use crate::walls::{breached, labelled};
+use crate::walls::{breached, either, labelled, labels_beside};
 use go_grid::{Board, Colour, Labels, MOST_POINTS, Point, Points, label_of};
 
 /// Whether a point of the first set is missing from the second, which lies within it.
@@ -54,34 +55,56 @@ fn two_eyed(eyes: &[Eye], breached: &Points) -> Points
     found
 }
 
-/// The kept stones with two eyes whose walls are kept.
-fn with_two_eyes(
+/// The chains that have a declared liberty.
+fn sure_chains(board: &Board, colour: Colour, survey: &Survey) -> Points
+    requires settled { IsSettled board.now }
+    requires survey { IsSurvey board.now colour survey.now }
+    ensures sure { (s : ℕ) → HasStone board.now colour s
+        → IsMarked result (label survey.now.chains s) ↔ HasDeclaredLiberty board.now colour s }
+    ensures none { DeclaresNothing board.now → (k : ℕ) → ¬ IsMarked result k }
+{
+    if board.declares_nothing() {
+        return Points::new();
+    }
+    let declared = board.declared(colour);
+    labels_beside(board.size(), &survey.stones, &survey.chains, &declared)
+}
+
+/// The kept stones with room: their chains are among the sure ones, or have two eyes whose walls are kept.
+fn with_room(
     board: &Board,
     colour: Colour,
     survey: &Survey,
     eyes: &[Eye],
+    sure: &Points,
     kept: &Points,
 ) -> Points
     requires survey { IsSurvey board.now colour survey.now }
     requires eyes { AreEyes board.now colour survey.now eyes.now }
+    requires sure { (s : ℕ) → HasStone board.now colour s
+        → IsMarked sure.now (label survey.now.chains s) ↔ HasDeclaredLiberty board.now colour s }
+    requires none { DeclaresNothing board.now → (k : ℕ) → ¬ IsMarked sure.now k }
     requires kept { (s : ℕ) → IsMarked kept.now s → HasStone board.now colour s }
     ensures { Marks result (λ s. IsMarked kept.now s
-        × HasTwoEyes board.now colour (IsMarked kept.now) s) }
+        × HasRoom board.now colour (IsMarked kept.now) s) }
 {
     let size = board.size();
     let breached = breached(board, colour, survey, kept);
-    labelled(size, kept, &survey.chains, &two_eyed(eyes, &breached))
+    let eyed = two_eyed(eyes, &breached);
+    labelled(size, kept, &survey.chains, &either(board, sure, &eyed))
 }
 
 /// The stones of the colour that live without answers.
 pub(crate) fn living(board: &Board, colour: Colour, survey: &Survey, eyes: &[Eye]) -> Points
+    requires settled { IsSettled board.now }
     requires survey { IsSurvey board.now colour survey.now }
     requires eyes { AreEyes board.now colour survey.now eyes.now }
     ensures { Marks result (IsAlive board.now colour) }
 {
+    let sure = sure_chains(board, colour, survey);
     let mut kept = survey.stones;
     'striking: loop {
-        let left = with_two_eyes(board, colour, survey, eyes, &kept);
+        let left = with_room(board, colour, survey, eyes, &sure, &kept);
         if !lost_some(&kept, &left) {
             break;
         }

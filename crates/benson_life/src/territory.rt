@@ -56,9 +56,10 @@ impl Life {
         Ok(held(board, colour, &counted))
     }
 
-    /// The number of groups of the colour.
+    /// The number of groups of the colour on a settled board.
     pub fn groups(&self, alloc: Global, board: &Board, colour: Colour) -> Result<u32, AllocError>
-        requires { IsLife board.now colour self.now }
+        requires settled { IsSettled board.now }
+        requires life { IsLife board.now colour self.now }
         ensures { IfOk result (IsNumberOfGroups board.now colour) }
     {
         number_of_groups(alloc, board, colour, &self.alive, &self.counted)
@@ -111,8 +112,8 @@ fn open_points(
     alive.union(&counted).complement(board.size())
 }
 
-/// The stones of the colour that live without answers (Benson 1976), lowest first. After every list of
-/// legal and unanswered placings of the other colour each of them still stands.
+/// The stones of the colour that live without answers (Benson 1976), lowest first. After every list of legal and
+/// unanswered placings of the other colour at points that aren't declared each of them still stands.
 pub fn alive(alloc: Global, board: &Board, colour: Colour) -> Result<Vec<Point>, AllocError>
     requires { IsSettled board.now }
     ensures ascending { IfOk result (λ stones. IsStrictlyIncreasing stones.items) }
@@ -143,8 +144,8 @@ pub(crate) fn counted_set(board: &Board, colour: Colour, counted: &[Point]) -> P
     Points::of(counted)
 }
 
-/// The points that are counted for the colour, lowest first: those of each region that is vital to an
-/// alive chain and next to alive stones of the colour alone. `alive` is what `alive` gives for it.
+/// The points that are counted for the colour, lowest first: those of each region that is vital to an alive chain and
+/// next to alive stones of the colour alone, and those that are declared for it. `alive` is what `alive` gives for it.
 pub fn counted(
     alloc: Global,
     board: &Board,

@@ -1,7 +1,7 @@
 //! The walls of regions.
 
-ghost use Rattle.std.specs.Prelude.{◌≡◌, ℕ, ◌*◌, ◌<◌, ◌↔◌};
-ghost use Rattle.go_grid.specs.Board.{Lacks};
+ghost use Rattle.std.specs.Prelude.{◌≡◌, ℕ, ◌*◌, ◌<◌, ◌↔◌, ◌⊎◌};
+ghost use Rattle.go_grid.specs.Board.{DeclaresNothing, Lacks};
 ghost use Rattle.go_grid.specs.Marks.{IsMarked, IsWithin, Marks, Touches};
 ghost use Rattle.go_grid.specs.Parts.{label};
 ghost use Rattle.benson_life.specs.Life.{IsWalledBy};
@@ -20,8 +20,19 @@ pub(crate) fn labelled(size: Size, within: &Points, labels: &Labels, chosen: &Po
     })
 }
 
+/// The points of either set, of which the first has none where nothing is declared.
+pub(crate) fn either(board: &Board, sure: &Points, points: &Points) -> Points
+    requires { DeclaresNothing board.now → (p : ℕ) → ¬ IsMarked sure.now p }
+    ensures { Marks result (λ q. IsMarked sure.now q ⊎ IsMarked points.now q) }
+{
+    if board.declares_nothing() {
+        return *points;
+    }
+    sure.union(points)
+}
+
 /// The labels of the points of a set that are next to a point of another.
-fn labels_beside(size: Size, within: &Points, labels: &Labels, points: &Points) -> Points
+pub(crate) fn labels_beside(size: Size, within: &Points, labels: &Labels, points: &Points) -> Points
     requires within { IsWithin (size.columns * size.rows) within.now }
     requires labels { (p : ℕ) → IsMarked within.now p → label labels.now p < MOST_POINTS }
     requires points { IsWithin (size.columns * size.rows) points.now }

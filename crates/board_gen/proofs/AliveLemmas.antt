@@ -222,7 +222,7 @@ module _ (number : ℕ) (g : Board) (board : IsTrialBoard number g) where
         record {
           stones = λ s here. (is s).0 here;
           whole = λ s t here chain. (is t).1 (joined_end g.columns (HasStone g c) s t chain);
-          eyes = λ s here. two_eyes c s (Contains S) ((is s).0 here) (λ q stone. (is q).1 stone);
+          room = λ s here. inr (two_eyes c s (Contains S) ((is s).0 here) (λ q stone. (is q).1 stone));
         },
         (is p).1 h,
       )

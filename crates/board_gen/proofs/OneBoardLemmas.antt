@@ -44,4 +44,4 @@ one_board number g h a b =
     let rows = a.rows ∙ sym b.rows in
     let cells = ext_get_or cell.Empty g.cells h.cells (a.full ∙ sym b.full) (λ p lt.
     let inside : p < 625 = omega (arith, lt, a.full) in one_cell number p (cell_at g p) (cell_at h p) inside (a.each p inside) (b.each p inside)) in
-    λ i. record { columns = columns i; rows = rows i; cells = cells i }
+    λ i. record { columns = columns i; rows = rows i; cells = cells i; declared = (a.declared ∙ sym b.declared) i }

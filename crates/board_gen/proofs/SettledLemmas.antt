@@ -8,7 +8,8 @@ use Rattle.go_grid.specs.declared.grid.Cell.{Cell}
 use Rattle.go_grid.specs.declared.grid.Cell.TheVariants as cell
 use Rattle.go_grid.specs.declared.grid.Colour.{Colour}
 use Rattle.go_grid.specs.declared.grid.Colour.TheVariants as colour
-use Rattle.go_grid.specs.Chain.{IsSettled}
+use Rattle.go_grid.specs.Chain.{HasLiberty, IsSettled}
+use Rattle.go_grid.proofs.DeclaredLemmas.{none_declared, nothing_closed}
 use Rattle.go_grid.specs.Board.{Board, NextTo, HasStone, IsEmpty, cell_at, stone}
 use Rattle.go_grid.specs.Walk.{Joined}
 use Rattle.go_grid.proofs.BoardLemmas.{same_stone, empty_not_stone}
@@ -198,8 +199,8 @@ module _ (number : ℕ) (g : Board) (board : IsTrialBoard number g) where
             (ap (slice_index last_row) (mod-mul-add 24 25 s is.inside) ∙ is.open_end) drawn),
       )
 
-  pub trial_settled : IsSettled g
-  trial_settled c p h =
+  has_liberty : (c : Colour) (p : ℕ) → HasStone g c p → HasLiberty g c p
+  has_liberty c p h =
       let own = stone_owner c p h in
       let x = p % 25 in
       let lt = mod_below p 25 (omega arith) in
@@ -209,3 +210,6 @@ module _ (number : ℕ) (g : Board) (board : IsTrialBoard number g) where
       let walk = joined_join 25 (HasStone g c) p (r.0 * 25 + x) (23 * 25 + s.0) r.3 to_end in
       subst (λ w. (l : ℕ) × (IsEmpty g l × ((q : ℕ) × Joined w (HasStone g c) p q × NextTo w q l))) (sym board.columns)
       (23 * 25 + s.0 + 25, (open_below c s.0 s.1, (23 * 25 + s.0, walk, next_down 25 (23 * 25 + s.0) (omega arith))))
+
+  pub trial_settled : IsSettled g
+  trial_settled = record { breathe = has_liberty; closed = nothing_closed g (none_declared g board.declared) }

@@ -1,5 +1,5 @@
 -- The boards that numbers draw, of 25 columns and 25 rows. Columns and rows count from 0.
-use Rattle.std.specs.Prelude.{◌≡◌, ◌≢◌, ℕ, zero, suc, ◌+◌, ◌-◌, ◌*◌, ◌/◌, ◌%◌, ◌<◌, ◌≤◌, ◌⊎◌, List, length, slice_index, codes}
+use Rattle.std.specs.Prelude.{◌≡◌, ◌≢◌, ℕ, zero, suc, ◌+◌, ◌-◌, ◌*◌, ◌/◌, ◌%◌, ◌<◌, ◌≤◌, ◌⊎◌, List, [], length, slice_index, codes}
 use Rattle.go_grid.specs.declared.grid.TheConstants.{MOST_POINTS}
 use Rattle.go_grid.specs.declared.grid.Cell.{Cell}
 use Rattle.go_grid.specs.declared.grid.Cell.TheVariants as cell
@@ -61,9 +61,10 @@ pub record IsTrialCell (number p : ℕ) (held : Cell) : Type 0 where
   pub corridor : p / 25 < 24 → IsInSomeCorridor number p → held ≡ cell.Empty
   pub wall : (c : Colour) → p / 25 < 24 → ¬ IsInSomeCorridor number p → IsOwner (p % 25) c → held ≡ stone c
 
--- the board that the number draws
+-- the board that the number draws, on which nothing is declared
 pub record IsTrialBoard (number : ℕ) (g : Board) : Type 0 where
   pub columns : g.columns ≡ 25
   pub rows : g.rows ≡ 25
   pub full : length g.cells ≡ MOST_POINTS
+  pub declared : g.declared ≡ []
   pub each : (p : ℕ) → p < MOST_POINTS → IsTrialCell number p (cell_at g p)

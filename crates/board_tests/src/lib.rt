@@ -4,9 +4,13 @@
 #[cfg(test)]
 mod attack_tests;
 #[cfg(test)]
+mod budget_tests;
+#[cfg(test)]
 mod cut_tests;
 #[cfg(test)]
 mod cycle_tests;
+#[cfg(test)]
+mod declared_tests;
 #[cfg(test)]
 mod expand_tests;
 #[cfg(test)]

@@ -54,6 +54,7 @@ fn taxed(columns: u8, drawing: &'static [u8]) -> Game {
 }
 
 /// The state in which a game opens, without prisoners, or `None` where its board isn't settled.
+#[tactic(auto, using(go_grid::proofs::DeclaredLemmas::none_declared))]
 fn opened(alloc: Global, game: Game) -> Result<Option<Whole>, AllocError> {
     let rows = if game.drawing.len() == 1 { 1 } else { 2 };
     let board = board(alloc, game.columns, rows, game.drawing)?;

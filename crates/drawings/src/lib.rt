@@ -5,6 +5,6 @@ mod boards;
 mod joined_regions;
 mod regions;
 
-pub use boards::{board, cell_of};
+pub use boards::{board, cell_of, declared_board};
 pub use joined_regions::{JoinedDrawing, joined_region};
 pub use regions::{Drawing, region};

@@ -47,6 +47,7 @@ within_done question.Values limits setup s text w h = shows_shown limits setup w
 within_done question.Solve limits setup s text w h = solves_sound question.Solve limits setup w.0 s text (λ e. absurd cc) w.1 w.2 h
 within_done question.Margin limits setup s text w h = solves_sound question.Margin limits setup w.0 s text (λ e. absurd cc) w.1 w.2 h
 within_done question.Moves limits setup s text w h = solves_sound question.Moves limits setup w.0 s text (λ e. absurd cc) w.1 w.2 h
+within_done question.Line limits setup s text w h = solves_sound question.Line limits setup w.0 s text (λ e. absurd cc) w.1 w.2 h
 within_done question.Safe limits setup s text w h = plain_done question.Safe limits setup s text (λ n. n) h
 within_done question.Board limits setup s text w h = plain_done question.Board limits setup s text (λ n. n) h
 

@@ -15,3 +15,4 @@ mod GameWinLaws
 mod CompleteLaws
 mod UseLaws
 mod StepLaws
+mod UndeclaredLaws

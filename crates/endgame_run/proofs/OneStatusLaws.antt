@@ -116,6 +116,7 @@ text_sound question.Solve limits p a needs v = record { regions = v.regions; are
 text_sound question.Values limits p a needs v = record { regions = v.regions; are_regions = v.are_regions; sound = v.sound }
 text_sound question.Margin limits p a needs v = record { regions = v.regions; are_regions = v.are_regions; sound = v.sound }
 text_sound question.Moves limits p a needs v = record { regions = v.regions; are_regions = v.are_regions; sound = v.sound }
+text_sound question.Line limits p a needs v = record { regions = v.regions; are_regions = v.are_regions; sound = v.sound }
 text_sound question.Safe limits p a needs v = absurd needs
 text_sound question.Board limits p a needs v = absurd needs
 
@@ -127,6 +128,7 @@ not_answered : (q : Question) (limits : Limits) (p : Setup) (s : Status) (a : Li
 not_answered question.Solve limits p s a h = (tt, inl h)
 not_answered question.Margin limits p s a h = (tt, inl h)
 not_answered question.Moves limits p s a h = (tt, inl h)
+not_answered question.Line limits p s a h = (tt, inl h)
 not_answered question.Values limits p s a (inl h) = (tt, inl h)
 not_answered question.Values limits p s a (inr h) = (tt, inr (refl, h))
 not_answered question.Safe limits p s a h = absurd h

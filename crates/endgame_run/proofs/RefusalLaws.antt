@@ -136,6 +136,8 @@ game_text question.Margin setup limits game s text needs (opening, are, sound) (
     subst (λ r. IsPositionAnswer question.Margin limits setup r text) (sym done) record { regions = game.regions; state = game.state; are_regions = are; sound = sound; opening = opening; is = v }
 game_text question.Moves setup limits game s text needs (opening, are, sound) (done, v) =
     subst (λ r. IsPositionAnswer question.Moves limits setup r text) (sym done) record { regions = game.regions; state = game.state; are_regions = are; sound = sound; opening = opening; is = v }
+game_text question.Line setup limits game s text needs (opening, are, sound) (done, v) =
+    subst (λ r. IsPositionAnswer question.Line limits setup r text) (sym done) record { regions = game.regions; state = game.state; are_regions = are; sound = sound; opening = opening; is = v }
 game_text question.Values setup limits game s text needs begun report = values_are setup limits game s text begun report
 game_text question.Safe setup limits game s text needs begun report = absurd needs
 game_text question.Board setup limits game s text needs begun report = absurd needs

@@ -24,7 +24,7 @@ use Rattle.endgame_run.specs.declared.question.Opened.{Opened}
 use Rattle.endgame_run.specs.declared.question.Opened.TheVariants as opened
 use Rattle.gd_words.specs.Task.{NeedsRegions}
 use Rattle.gd_words.specs.declared.job.Question.{Question}
-use Rattle.gd_words.specs.declared.job.Question.TheVariants.{Board, Margin, Moves, Safe, Solve, Values}
+use Rattle.gd_words.specs.declared.job.Question.TheVariants.{Board, Line, Margin, Moves, Safe, Solve, Values}
 use Rattle.endgame_run.specs.declared.status.Status.{Status}
 use Rattle.endgame_run.specs.declared.status.Status.TheVariants.{Done, Usage, CannotRead, CannotWrite, BadFile, Memory, TooManyLines, TooLong}
 use Rattle.endgame_run.specs.declared.status.Status.TheVariants as status
@@ -66,6 +66,7 @@ question_refused : (q : Question) (limits : Limits) (setup : Setup) (s : Status)
 question_refused Solve limits setup s text needs r = r
 question_refused Margin limits setup s text needs r = r
 question_refused Moves limits setup s text needs r = r
+question_refused Line limits setup s text needs r = r
 question_refused Values limits setup s text needs r = inl r
 question_refused Safe limits setup s text needs r = absurd needs
 question_refused Board limits setup s text needs r = absurd needs

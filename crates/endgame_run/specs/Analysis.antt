@@ -1,4 +1,4 @@
--- `margin` and `moves`: by how much the position of a file is won, and what each move is worth.
+-- `margin`, `moves` and `line`: by how much the position of a file is won, what each move is worth, and how play goes on.
 use Rattle.std.specs.Prelude.{ℕ, List}
 use Rattle.go_grid.specs.Region.{Region}
 use Rattle.sgf_go.specs.declared.settings.Setup.{Setup}
@@ -7,7 +7,7 @@ use Rattle.whole_rules.specs.WholeGame.{Whole}
 use Rattle.endgame_solver.specs.Faults.{AreSound}
 use Rattle.endgame_solver.specs.Solved.{OpensAs}
 use Rattle.endgame_solver.specs.declared.limits.Limits.{Limits}
-use Rattle.report.specs.Analysis.{IsMarginText, IsMovesText}
+use Rattle.report.specs.Analysis.{IsLineText, IsMarginText, IsMovesText}
 
 -- the regions of play of a position are all sound within the limits, and the text tells the thresholds of its opening
 pub record IsMargin (limits : Limits) (setup : Setup) (text : List ℕ) : Type 0 where
@@ -26,3 +26,12 @@ pub record IsMoves (limits : Limits) (setup : Setup) (text : List ℕ) : Type 0 
   pub sound : AreSound limits regions
   pub opening : OpensAs setup limits.tax state
   pub is : IsMovesText state setup.komi_halves text
+
+-- the regions of play of a position are all sound within the limits, and the text tells the line of play of its opening
+pub record IsPlayLine (limits : Limits) (setup : Setup) (text : List ℕ) : Type 0 where
+  pub regions : List Region
+  pub state : Whole
+  pub are_regions : AreRegionsOfPlay setup.board regions
+  pub sound : AreSound limits regions
+  pub opening : OpensAs setup limits.tax state
+  pub is : IsLineText regions state setup.komi_halves text

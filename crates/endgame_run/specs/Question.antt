@@ -11,13 +11,13 @@ use Rattle.sgf_go.specs.declared.settings.Settings.{Settings}
 use Rattle.sgf_go.specs.declared.settings.Setup.{Setup}
 use Rattle.gd_words.specs.Task.{NeedsRegions}
 use Rattle.gd_words.specs.declared.job.Question.{Question}
-use Rattle.gd_words.specs.declared.job.Question.TheVariants.{Board, Margin, Moves, Safe, Solve, Values}
+use Rattle.gd_words.specs.declared.job.Question.TheVariants.{Board, Line, Margin, Moves, Safe, Solve, Values}
 use Rattle.region_cut.specs.Cut.{AreRegionsOfPlay}
 use Rattle.endgame_solver.specs.Faults.{most_steps}
 use Rattle.endgame_solver.specs.declared.limits.Limits.{Limits}
 use Rattle.report.specs.BoardText.{board_text}
 use Rattle.report.specs.Safety.{IsSafeText}
-use Rattle.endgame_run.specs.Analysis.{IsMargin, IsMoves}
+use Rattle.endgame_run.specs.Analysis.{IsMargin, IsMoves, IsPlayLine}
 use Rattle.endgame_run.specs.File.{ReadsFile, count_of, dash, told_of}
 use Rattle.endgame_run.specs.Position.{IsFaultText}
 use Rattle.endgame_run.specs.Refusal.{IsRefused}
@@ -33,6 +33,7 @@ IsTextOf Solve limits setup text = IsSolved limits setup text
 IsTextOf Values limits setup text = IsValued limits setup text
 IsTextOf Margin limits setup text = IsMargin limits setup text
 IsTextOf Moves limits setup text = IsMoves limits setup text
+IsTextOf Line limits setup text = IsPlayLine limits setup text
 IsTextOf Safe limits setup text = IsSafeText setup.board text
 IsTextOf Board limits setup text = text ≡ board_text setup.board setup.side setup.komi_halves setup.black_prisoners setup.white_prisoners
 

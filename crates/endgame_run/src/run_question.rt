@@ -4,6 +4,7 @@ ghost use Rattle.std.specs.Prelude.{◌≡◌, ◌≤◌, IfOk};
 ghost use Rattle.desk_io.specs.Desk.{IsLater, desk, input_of, known, outside};
 ghost use Rattle.desk_io.specs.Outside.{ended};
 ghost use Rattle.sgf_go.specs.Position.{IsFit};
+ghost use Rattle.whole_rules.specs.Opening.{MayTax};
 ghost use Rattle.endgame_run.specs.File.{ReadsFile, dash, told_of};
 ghost use Rattle.endgame_run.specs.Question.{AnswersQuestion, AreStepsFor, AreToldSteps, IsAnswer, IsPositionAnswer};
 ghost use Rattle.endgame_run.specs.inner.Found.{HasRanges};
@@ -49,6 +50,7 @@ fn report_on_position<L: Ledger>(
     steps: &mut Steps<L>,
 ) -> Result<Report, AllocError>
     requires fit { IsFit setup.now }
+    requires taxed { MayTax limits.now.tax setup.now.board }
     requires modest { limits.now.positions ≤ MOST_POSITIONS }
     ensures answer { IfOk result (λ report. IsPositionAnswer
         question limits.now setup.now report.status report.text) }
@@ -63,9 +65,8 @@ fn report_on_position<L: Ledger>(
             status: Status::Done,
             text: board_text(alloc, &setup.board, terms(setup))?,
         }),
-        Question::Solve | Question::Values | Question::Margin | Question::Moves => {
-            solve(alloc, question, setup, limits, steps)
-        }
+        Question::Solve | Question::Values | Question::Margin | Question::Moves | Question::Line =>
+            solve(alloc, question, setup, limits, steps),
     }
 }
 

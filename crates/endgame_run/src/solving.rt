@@ -3,6 +3,7 @@
 ghost use Rattle.std.specs.Prelude.{◌≡◌, ◌<◌, ◌≤◌, ◌+◌, ◌*◌, ◌^◌, List, IfOk};
 ghost use Rattle.go_grid.specs.Region.{Region};
 ghost use Rattle.sgf_go.specs.Position.{IsFit};
+ghost use Rattle.whole_rules.specs.Opening.{MayTax};
 ghost use Rattle.endgame_solver.specs.Faults.{most_steps};
 ghost use Rattle.region_cut.specs.Cut.{AreRegionsOfPlay};
 ghost use Rattle.report.specs.Values.{IsRefusal};
@@ -23,7 +24,7 @@ use go_grid::{Colour, Size};
 use local_graph::MOST_POSITIONS;
 use local_play::Steps;
 use play_session::Session;
-use report::{ValuesError, margin_text, moves_text, solve_text, values_text};
+use report::{ValuesError, line_text, margin_text, moves_text, solve_text, values_text};
 use sgf_go::Setup;
 use std::alloc::{AllocError, Global};
 use std::sync::ledger::Ledger;
@@ -111,6 +112,7 @@ fn report_game(
         Question::Solve => solve_text(alloc, solved)?,
         Question::Margin => margin_text(alloc, solved, komi_halves)?,
         Question::Moves => moves_text(alloc, solved, komi_halves)?,
+        Question::Line => line_text(alloc, solved, komi_halves)?,
         // These two need no regions.
         Question::Safe | Question::Board => unreachable!(),
     };
@@ -130,6 +132,7 @@ pub(crate) fn solve<L: Ledger>(
 ) -> Result<Report, AllocError>
     requires regions { NeedsRegions question }
     requires fit { IsFit setup.now }
+    requires taxed { MayTax limits.now.tax setup.now.board }
     requires positions { limits.now.positions ≤ MOST_POSITIONS }
     ensures answer { IfOk result (λ report. IsPositionAnswer
         question limits.now setup.now report.status report.text) }
@@ -157,6 +160,7 @@ pub(crate) fn begin<L: Ledger>(
     steps: &mut Steps<L>,
 ) -> Result<Opened, AllocError>
     requires fit { IsFit setup.now }
+    requires taxed { MayTax limits.now.tax setup.now.board }
     requires positions { limits.now.positions ≤ MOST_POSITIONS }
     ensures begun { IfOk result (IsBegun limits.now engine setup.now) }
     ensures steps { (regions : List Region) → AreRegionsOfPlay setup.now.board regions

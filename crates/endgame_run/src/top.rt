@@ -70,6 +70,7 @@ fn asked<'a>(job: &Job<'a>) -> Asked<'a>
         Command::Board(word) => Asked::Answer(inquiry(job, Question::Board, word)),
         Command::Margin(word) => Asked::Answer(inquiry(job, Question::Margin, word)),
         Command::Moves(word) => Asked::Answer(inquiry(job, Question::Moves, word)),
+        Command::Line(word) => Asked::Answer(inquiry(job, Question::Line, word)),
         Command::Play(word) => Asked::Game(Match {
             limits: limits(job),
             engine: job.engine,

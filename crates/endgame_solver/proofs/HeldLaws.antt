@@ -8,6 +8,7 @@ use Rattle.std.proofs.lemmas.List.Folds.{sum_by-replicate}
 use Rattle.std.proofs.lemmas.List.Sums.{sum_by-set}
 use Rattle.go_grid.specs.declared.grid.Cell.{Cell}
 use Rattle.go_grid.specs.declared.grid.Colour.{Colour}
+use Rattle.go_grid.specs.declared.grid.Colour.TheVariants.{Black}
 use Rattle.go_grid.specs.Board.{Board, other}
 use Rattle.go_grid.specs.Region.{Region}
 use Rattle.go_play.specs.Place.{IsPlaced}
@@ -19,6 +20,8 @@ use Rattle.whole_rules.specs.declared.states.Move.TheVariants.{Stone, Spend, Hal
 use Rattle.whole_rules.specs.declared.states.MoveError.{MoveError}
 use Rattle.whole_rules.specs.PlainRecursion.{MoverWins, MoverLoses}
 use Rattle.whole_rules.specs.Purses.{purse, paid_in, paid_out, halved}
+use Rattle.whole_rules.specs.Threshold.{stones}
+use Rattle.whole_rules.specs.Walls.{Plays}
 use Rattle.whole_rules.specs.WholeGame.{Whole, Applies, IsMove, IsLegal, Leads, after}
 use Rattle.whole_rules.proofs.WallLaws.{Keeps, keeps_move}
 use Rattle.local_play.specs.LocalPlay.{IsLocalMove, IsNumberTaken as IsLocalNumberTaken}
@@ -41,8 +44,9 @@ use Rattle.local_value.specs.PositionTree.{IsValueOf}
 use Rattle.local_value.proofs.MoveLaws.{IsEdgeFor, edge_of, move_of, next_place, taken_less}
 use Rattle.endgame_solver.specs.Regions.{no_region, region_at}
 use Rattle.endgame_solver.specs.Solved.{ArePresent, IsValueId, balance_units}
-use Rattle.endgame_solver.specs.SumGame.{balance, halves}
-use Rattle.endgame_solver.specs.inner.Held.{AreModest, AreSolved, AreSolvedAt, AreSummed, HasRoom, IsAt, IsStoneEdge, ids_at, most_units, place_at, token_left}
+use Rattle.endgame_solver.specs.SumGame.{AreModest, balance, halves}
+use Rattle.endgame_solver.specs.inner.Held.{AreSolved, AreSolvedAt, AreSummed, HasRoom, IsAt, IsStoneEdge, ids_at, most_units, place_at, token_left}
+use Rattle.endgame_solver.specs.inner.Line.{HasFewStones}
 use Rattle.endgame_solver.specs.inner.Regions.{graph_at, spot_in, HasCells, IsShown}
 use Rattle.endgame_solver.proofs.BookkeepingLaws.{halved-is, own-less, paid-in, paid-out, token-in, token-out}
 use Rattle.endgame_solver.proofs.WholeLaws.{IsHeld, decided_by_values, held_after, one_cells, position_in}
@@ -60,24 +64,28 @@ small_balance m few = size m.black m.white (halves m.token) few.black few.white 
         → unsigned_abs (((pos b +ℤ neg_ℤ (pos w)) +ℤ (pos b +ℤ neg_ℤ (pos w))) +ℤ h) ≤ 2 ^ 45
     size b w h hb hw hh = omega (arith, ints, hb, hw, hh)
 
-small_units : (m : Purses) → AreModest m → unsigned_abs (balance m *ℤ pos (2 ^ 59)) ≤ 2 ^ 110
+pub small_units : (m : Purses) → AreModest m → unsigned_abs (balance m *ℤ pos (2 ^ 59)) ≤ 2 ^ 110
 small_units m few = times (balance m) (small_balance m few)
   where
     times : (x : ℤ) → unsigned_abs x ≤ 2 ^ 45 → unsigned_abs (x *ℤ pos (2 ^ 59)) ≤ 2 ^ 110
     times x h = omega (arith, h, unsigned_abs-mul x (pos (2 ^ 59)))
 
-bounds : (Ts : List Tree) (ids : List ℕ) → ((j : ℕ) → j < length ids → AreWithin most_units (tree_at Ts (get_or ids j 0)))
-    → AreBounds (pick Ts ids) (replicate (length ids) most_units)
-bounds Ts [] w = tt
-bounds Ts (id ∷ ids) w = (w 0 (omega arith), bounds Ts ids (λ j lt. w (suc j) (omega (arith, lt))))
+bounds : (most : ℕ) (Ts : List Tree) (ids : List ℕ) → ((j : ℕ) → j < length ids → AreWithin most (tree_at Ts (get_or ids j 0)))
+    → AreBounds (pick Ts ids) (replicate (length ids) most)
+bounds most Ts [] w = tt
+bounds most Ts (id ∷ ids) w = (w 0 (omega arith), bounds most Ts ids (λ j lt. w (suc j) (omega (arith, lt))))
 
--- the games and the number fit a search
+-- games with small numbers and a small number fit a search
+pub small_bounded : (most : ℕ) (Ts : List Tree) (ids : List ℕ) (x : ℤ) → most ≤ 2 ^ 100 → length ids ≤ 625
+    → ((j : ℕ) → j < length ids → AreWithin most (tree_at Ts (get_or ids j 0))) → unsigned_abs x ≤ 2 ^ 110 → IsBounded (pick Ts ids) x
+small_bounded most Ts ids x le few w small =
+    let most_of : length ids * most ≤ 625 * most = mul-le-mul_right most few in
+    let total : sum (replicate (length ids) most) ≡ length ids * most = sum_by-replicate (λ x. x) (length ids) most in
+    (replicate (length ids) most, bounds most Ts ids w, omega (arith, le, few, small, total, most_of))
+
 pub bounded : (Ts : List Tree) (ids : List ℕ) (x : ℤ) → length ids ≤ 625 → ((j : ℕ) → j < length ids → AreWithin most_units (tree_at Ts (get_or ids j 0)))
     → unsigned_abs x ≤ 2 ^ 110 → IsBounded (pick Ts ids) x
-bounded Ts ids x few w small =
-    let most : length ids * most_units ≤ 625 * most_units = mul-le-mul_right most_units few in
-    let total : sum (replicate (length ids) most_units) ≡ length ids * most_units = sum_by-replicate (λ x. x) (length ids) most_units in
-    (replicate (length ids) most_units, bounds Ts ids w, omega (arith, few, small, total, most))
+bounded Ts ids x few w small = small_bounded most_units Ts ids x (omega arith) few w small
 
 -- a number over a greater power of two
 num-scaled : (d e : ℕ) (m : ℤ) → num (d + e) (m *ℤ pos (2 ^ d)) ≡ num e m
@@ -267,9 +275,9 @@ module _ {g : Board} {regions : List Region} {graphs : List Graph} {values : Lis
         shown = λ j lt. subst (λ z. IsShown g regions graphs z.board j (spot_in j (place_at places j))) (sym is) (at.shown j lt);
       }
 
-  -- the purses stay below their bound
-  stone_room : HasRoom graphs places s → (t : Whole) {p k : ℕ} {e : Edge} → IsStoneEdge regions graphs places s.side p k e
-      → StoneLeads g regions graphs places s t k e → HasRoom graphs (set places k e.next) t
+  -- the purses stay below their bound, and the ranks add up to less
+  stone_room : (room : HasRoom graphs places s) → (t : Whole) {p k : ℕ} {e : Edge} → IsStoneEdge regions graphs places s.side p k e
+      → StoneLeads g regions graphs places s t k e → (later : HasRoom graphs (set places k e.next) t) × (sum_by (λ n. n) later.ranks + 1 ≤ sum_by (λ n. n) room.ranks)
   stone_room room t {p} {k} {e} x leads =
       let short : k < length places = omega (arith, x.known, at.many) in
       let here = room.each k short in
@@ -279,7 +287,7 @@ module _ {g : Board} {regions : List Region} {graphs : List Graph} {values : Lis
       let sums = sum_by-set (λ n. n) room.ranks k j 0 short' in
       let less : sum_by (λ n. n) (set room.ranks k j) + 1 ≤ sum_by (λ n. n) room.ranks = omega (arith, sums, lower) in
       let few = stone_taken x in
-      record {
+      let later : HasRoom graphs (set places k e.next) t = record {
         ranks = set room.ranks k j;
         many = length-set room.ranks k j ∙ room.many ∙ sym (length-set places k e.next);
         each = λ i lt. elim (cases_eq i k) as (λ _. Ranked j i) [
@@ -295,7 +303,7 @@ module _ {g : Board} {regions : List Region} {graphs : List Graph} {values : Lis
             let token = ap token_left (token-in s.side e.taken s.purses) in
             subst (λ m. purse c m + 33 * sum_by (λ n. n) (set room.ranks k j) + token_left m.token ≤ 2 ^ 41) (sym leads.purses)
             (omega (arith, few, less, room.room c, paid, own-less c s.side e.taken, token));
-      }
+      } in (later, less)
     where
       Ranked : ℕ → ℕ → Type 0
       Ranked j i = (get_or (set room.ranks k j) i 0 < length (graph_at graphs i).order)
@@ -328,7 +336,7 @@ module _ {regions : List Region} {graphs : List Graph} {values : List (List ℕ)
         solved = kept.solved;
         at = leads.held;
         summed = summed_set k e.next v x.known value;
-        room = stone_room kept.solved kept.at kept.room t x leads;
+        room = (stone_room kept.solved kept.at kept.room t x leads).0;
       }
 
   -- a stone has an edge
@@ -381,3 +389,18 @@ module _ {regions : List Region} {graphs : List Graph} {values : List (List ℕ)
       let contested = point_contested kept.board r (kept.solved.cut.cut.each r here) (lowest r)
       (Contains-get_or r.points 0 0 (kept.solved.proper r here).some) in
       omega (arith, contested.0, kept.at.walls.long)
+
+-- no play of stones has more of them than the ranks add up to
+few_stones : {regions : List Region} {graphs : List Graph} {values : List (List ℕ)} {Ts : List Tree} {g : Board} (are : AreSolved g regions graphs values Ts)
+    (ps : List ℕ) {places : List ℕ} {s : Whole} → IsAt g regions graphs places s → (room : HasRoom graphs places s) → (t : Whole)
+    → Plays s (stones ps) t → length ps ≤ sum_by (λ n. n) room.ranks
+few_stones are [] at room t e = omega arith
+few_stones are (p ∷ ps) at room t (u, move, rest) =
+    let (k, (e, x)) = stone_edge are at u p move in
+    let leads = stone_leads are at u x move in
+    let (later, less) = stone_room are at room u x leads in
+    omega (arith, less, few_stones are ps leads.held later t rest)
+
+pub held_few : {regions : List Region} {graphs : List Graph} {values : List (List ℕ)} {places ids : List ℕ} {Ts : List Tree} {s : Whole}
+    → AreSolvedAt regions graphs values places ids Ts s → HasFewStones s
+held_few kept ps t plays = omega (arith, few_stones kept.solved ps kept.at kept.room t plays, kept.room.room Black)

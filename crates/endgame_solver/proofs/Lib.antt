@@ -12,3 +12,4 @@ pub mod ThresholdLaws
 pub mod SumThresholdLaws
 pub mod LineLaws
 pub mod MarginLaws
+pub mod NextStoneLaws

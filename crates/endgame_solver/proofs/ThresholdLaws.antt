@@ -195,7 +195,7 @@ pub record AreAlike (more : ℤ) (s t : Whole) : Type 0 where
 
 one_board : (g h h' : Board) (p : ℕ) (c : Colour) → IsPlaced g p c h → IsPlaced g p c h' → h ≡ h'
 one_board g h h' p c (size, placed) (size', placed') =
-    λ i. record { columns = (size.columns ∙ sym size'.columns) i; rows = (size.rows ∙ sym size'.rows) i; cells = one_outcome placed placed' i }
+    λ i. record { columns = (size.columns ∙ sym size'.columns) i; rows = (size.rows ∙ sym size'.rows) i; cells = one_outcome placed placed' i; declared = (size.declared ∙ sym size'.declared) i }
 
 -- a stone leaves alike states alike
 alike_stone : (more : ℤ) (p : ℕ) (s t s' t' : Whole) → AreAlike more s t → s.side ≡ t.side → IsMove s (Stone p) s' → IsMove t (Stone p) t'

@@ -46,7 +46,7 @@ use Rattle.local_value.specs.Ending.{EndsWithin}
 use Rattle.local_value.specs.Laws.{MovesTo}
 use Rattle.local_value.specs.LocalGame.{Step, StepsTo, TakesAtMost, tree_within}
 use Rattle.local_value.specs.PositionTree.{IsTreeOf, IsValueOf, PlaysAreShort}
-use Rattle.local_value.proofs.TreeLaws.{cells_end, from_step, step_from, tree_as, short_plays}
+use Rattle.local_value.proofs.TreeLaws.{cells_end, from_step, step_from, tree_as, trees-exist, short_plays}
 use Rattle.local_value.proofs.MoveLaws.{steps, step_out}
 use Rattle.region_cut.specs.Cut.{AreRegionsOfPlay}
 use Rattle.region_cut.specs.LocalBoard.{HoldsPosition, IsLocal}
@@ -217,16 +217,16 @@ abbrev pub position_in : ℕ → List Cell → Position
 position_in k cells = record { region = k; cells = cells }
 
 -- the steps from a position of at most b places
-limited : (b n : ℕ) → (b < n) ⊎ (n ≤ b) → List (Step Position) → List (Step Position)
+pub limited : {X : Type 0} (b n : ℕ) → (b < n) ⊎ (n ≤ b) → List X → List X
 limited b n (inl lt) xs = []
 limited b n (inr le) xs = xs
 
-limited-is : (b n : ℕ) (d : (b < n) ⊎ (n ≤ b)) (xs : List (Step Position)) → n ≤ b → limited b n d xs ≡ xs
+pub limited-is : {X : Type 0} (b n : ℕ) (d : (b < n) ⊎ (n ≤ b)) (xs : List X) → n ≤ b → limited b n d xs ≡ xs
 unfolding limited
 limited-is b n (inl lt) xs le = absurd (omega (arith, lt, le))
 limited-is b n (inr le') xs le = refl
 
-limited-in : (b n : ℕ) (d : (b < n) ⊎ (n ≤ b)) (xs : List (Step Position)) (x : Step Position) → Contains (limited b n d xs) x
+pub limited-in : {X : Type 0} (b n : ℕ) (d : (b < n) ⊎ (n ≤ b)) (xs : List X) (x : X) → Contains (limited b n d xs) x
     → (n ≤ b) × Contains xs x
 unfolding limited
 limited-in b n (inl lt) xs x h = absurd (omega (arith, h.1))
@@ -249,7 +249,7 @@ one_cells r a b h x y =
     ext_get_or Empty a b (x.0 ∙ sym y.0) (λ i lt. let short : i < length r.points = omega (arith, lt, x.0) in sym (x.1 i short) ∙ y.1 i short)
 
 -- purses and token, whichever way they are added up
-money_same : (m : Purses) → purses_tree m ≡ᵍ money_tree m
+pub money_same : (m : Purses) → purses_tree m ≡ᵍ money_tree m
 money_same m =
     same-plus _ _ _ _ (num-plus_le 0 (credit Black m.black) (credit White m.white), num-le_plus 0 (credit Black m.black) (credit White m.white))
     (same-refl (token_tree m.token))
@@ -298,7 +298,7 @@ module _ (g : Board) (settled : IsSettled g) (regions : List Region) (are : AreR
       (point_contested g r play (get_or r.points i d) (Contains-get_or r.points i d inside)).0 in
       omega (arith, play.proper.full, short r.points (length g.cells) play.proper.ascending on_board)
 
-  held_long : (h : Board) (k : ℕ) (q : Position) → IsHeld g regions h k q → length q.cells ≤ Most
+  pub held_long : (h : Board) (k : ℕ) (q : Position) → IsHeld g regions h k q → length q.cells ≤ Most
   held_long h k q s =
       let r = region_at regions k in
       omega (arith, cells_few k s.known, plays_long r.touch r.cells q.cells s.reachable.0 s.reachable.1)
@@ -380,7 +380,7 @@ module _ (g : Board) (settled : IsSettled g) (regions : List Region) (are : AreR
       let number = y.1.2 in
       omega (arith, le, number, count_by-le-length is_stone q.cells, y.3)
 
-  abbrev SeenAs : Whole → State Position → Type 0
+  abbrev pub SeenAs : Whole → State Position → Type 0
   SeenAs s u = Sees Position Moves (IsPointOf regions) (IsHeld g regions) g settled (length regions) cell_play s u
 
   -- the board holds these cells in region `k`, and they can be reached
@@ -397,7 +397,7 @@ module _ (g : Board) (settled : IsSettled g) (regions : List Region) (are : AreR
       let (qs, long, held) = gathered h (suc k) n (omega (arith, e)) w in
       (position_in k cells ∷ qs, ap suc long, (record { region = refl; known = lt; reachable = reachable; holds = holds }, held))
 
-  seen_now : (s : Whole) → Keeps g s → ((j : ℕ) → j < length regions → (cells : List Cell) × HoldsReached s.board j cells)
+  pub seen_now : (s : Whole) → Keeps g s → ((j : ℕ) → j < length regions → (cells : List Cell) × HoldsReached s.board j cells)
       → (u : State Position) × SeenAs s u
   seen_now s keeps w =
       let (qs, long, held) = gathered s.board 0 (length regions) (omega arith) w in
@@ -539,20 +539,11 @@ module _ (g : Board) (settled : IsSettled g) (regions : List Region) (are : AreR
       | inr ne ↦ inr (hot_part h c (suc i) qs w.1 j (omega (arith, le, ne)) (omega (arith, lt)) hot)
     ]
 
-    trees_at : (h : Board) (rs : List Region) (trees : Trees) → AreTreesOn g h rs trees → (j : ℕ) → j < length rs
-        → (cells : List Cell) × ((G : Tree) × HoldsPosition g (get_or rs j no_region) cells h
-        × IsTreeOf (get_or rs j no_region).touch (3 ^ length cells) cells G)
-    trees_at h [] trees w j lt = absurd (omega (arith, lt))
-    trees_at h (r ∷ rs) none w j lt = absurd w
-    trees_at h (r ∷ rs) (more G Gs) ((cells, holds, tree), w) zero lt = (cells, (G, holds, tree))
-    trees_at h (r ∷ rs) (more G Gs) (first, w) (suc j) lt = trees_at h rs Gs w j (omega (arith, lt))
-
     -- Who wins by moving first wins by a stone in a region that is no number, if there is one.
-    pub avoids : (u : Whole) (v : State Position) (trees : Trees) (r : Region) → SeenAs u v → AreTreesOn g u.board regions trees → Contains regions r
-        → IsHot g u.board r → ¬ MoverLoses Whole whole.Leads u
+    pub avoids : (u : Whole) (v : State Position) (r : Region) → SeenAs u v → Contains regions r → IsHot g u.board r → ¬ MoverLoses Whole whole.Leads u
         → ((p : ℕ) (w : Whole) → whole.IsMove u (Stone p) w → ((r : Region) × Contains regions r × Contains r.points p × IsHot g u.board r)
         → ¬ MoverLoses Whole whole.Leads w) → ⊥
-    avoids u v trees r seen on (i, lt, is) hot wins unwon =
+    avoids u v r seen (i, lt, is) hot wins unwon =
         avoid Position Moves Depth u.side v.parts (all_end u.board 0 v.parts seen.1.shown) nought 1 (balance u.purses) (inr hot_in)
         (λ X h l. no_option u.side X h) by_step
         (λ l. wins ((decided_alike u v seen u seen.0 refl).1.1 (subst (λ t. LosesGame u.side (t +ᵍ num 1 (balance u.purses))) (nought-plus parts) l)))
@@ -564,10 +555,9 @@ module _ (g : Board) (settled : IsSettled g) (regions : List Region) (are : AreR
         here = get_or_default regions i no_region r lt ∙ is
 
         hot_in : HotIn Position Moves Depth u.side v.parts
-        hot_in =
-            let (cells, (G, holds, tree)) = trees_at u.board regions trees on i lt in
-            hot_part u.board u.side 0 v.parts seen.1.shown i (omega arith) (omega (arith, lt, seen.1.count))
-            (λ q held. region_hot u.board u.side i q cells G held holds tree (subst (IsHot g u.board) (sym here) hot cells G holds tree))
+        hot_in = hot_part u.board u.side 0 v.parts seen.1.shown i (omega arith) (omega (arith, lt, seen.1.count)) (λ q held.
+            let (G, tree) = trees-exist (region_at regions i).touch q.cells (3 ^ length q.cells) in
+            region_hot u.board u.side i q q.cells G held held.holds tree (subst (IsHot g u.board) (sym here) hot q.cells G held.holds tree))
 
         by_step : (qs : List Position) (k : ℕ) → HotStep Position Moves Depth u.side v.parts qs k
             → ¬ LosesGame (other u.side) ((nought +ᵍ (parts_tree Position Moves Depth qs +ᵍ gain u.side k)) +ᵍ num 1 (balance u.purses))

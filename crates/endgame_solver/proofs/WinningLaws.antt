@@ -23,10 +23,10 @@ use Rattle.short_games.specs.Tree.{Tree}
 use Rattle.game_store.specs.Meaning.{pick, AreIds}
 use Rattle.sum_outcome.specs.Players.{LosesGame}
 use Rattle.sum_outcome.specs.Sums.{IsBounded, sum_tree}
-use Rattle.endgame_solver.specs.Regions.{region_at}
+use Rattle.endgame_solver.specs.Regions.{IsStoneAt, region_at}
 use Rattle.endgame_solver.specs.Solved.{ArePresent, balance_units}
-use Rattle.endgame_solver.specs.SumGame.{balance}
-use Rattle.endgame_solver.specs.inner.Held.{AreModest, AreSolvedAt, HasRoom, IsFirstStone, IsStoneAt, IsStoneEdge, ids_at, place_at}
+use Rattle.endgame_solver.specs.SumGame.{AreModest, balance}
+use Rattle.endgame_solver.specs.inner.Held.{AreSolvedAt, HasRoom, IsFirstStone, IsStoneEdge, ids_at, place_at}
 use Rattle.endgame_solver.specs.inner.Sharing.{AreSharedBy}
 use Rattle.endgame_solver.specs.inner.Views.{HasGraph, HasValue, IsHeldInBook, ShowsAll, ShowsPlaces, own, seen_graph, seen_ids, view_at}
 use Rattle.endgame_solver.specs.declared.limits.Limits.{Limits}

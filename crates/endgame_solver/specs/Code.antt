@@ -98,8 +98,10 @@ region_code =
 -- a code for boards, by which a proof tells two of them apart
 abbrev board_code : Coded Board
 board_code =
-    code_by (ℕ × (ℕ × List Cell)) (coded× coded_ℕ (coded× coded_ℕ (coded_list cell_code)))
-    (λ g. (g.columns, (g.rows, g.cells))) (λ p. record { columns = p.0; rows = p.1.0; cells = p.1.1 }) (λ _. refl)
+    code_by (ℕ × (ℕ × (List Cell × List (Option Colour))))
+    (coded× coded_ℕ (coded× coded_ℕ (coded× (coded_list cell_code) (coded_list (coded_option colour_code)))))
+    (λ g. (g.columns, (g.rows, (g.cells, g.declared))))
+    (λ p. record { columns = p.0; rows = p.1.0; cells = p.1.1.0; declared = p.1.1.1 }) (λ _. refl)
 
 -- a code for purses with their token, by which a proof tells two of them apart
 abbrev purses_code : Coded Purses

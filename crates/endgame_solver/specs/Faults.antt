@@ -1,5 +1,5 @@
 -- Faults of regions: what keeps a position from being solved.
-use Rattle.std.specs.Prelude.{◌≡◌, ℕ, ◌<◌, ◌≤◌, ◌⊎◌, List, length, map, slice_index, Contains, min, ◌^◌}
+use Rattle.std.specs.Prelude.{◌≡◌, ℕ, ◌<◌, ◌≤◌, ◌⊎◌, List, length, map, slice_index, Contains, min, ◌^◌, Option, Some, None}
 use Rattle.std.specs.List.{sum_by}
 use Rattle.go_grid.specs.declared.grid.Cell.{Cell}
 use Rattle.go_grid.specs.declared.grid.Colour.{Colour}
@@ -54,6 +54,11 @@ AreSmallRegions regions = (r : Region) → Contains regions r → length r.point
 abbrev pub IsFirstLarge : List Region → ℕ → ℕ → Type 0
 IsFirstLarge regions p n = (k : ℕ) × (k < length regions) × (p ≡ lowest (region_at regions k)) × (n ≡ length (region_at regions k).points) × (32 < n)
     × ((j : ℕ) → j < k → length (region_at regions j).points ≤ 32)
+
+-- the first region with more than 32 points, by its lowest point and its number of points, where there is one
+abbrev pub FindsLarge : List Region → Option (ℕ × ℕ) → Type 0
+FindsLarge regions (Some x) = IsFirstLarge regions x.0 x.1
+FindsLarge regions None = AreSmallRegions regions
 
 -- the first region that isn't sound, and its fault
 abbrev pub IsFirstFault : Limits → List Region → SolveError → Type 0

@@ -1,5 +1,5 @@
 -- A game of several parts, with two purses and a token.
-use Rattle.std.specs.Prelude.{ℕ, ◌≡◌, ◌≢◌, ◌⊎◌, ◌≤◌, ◌↔◌, List, [], ◌∷◌, Contains, ℤ, pos, negsuc, ◌+ℤ◌}
+use Rattle.std.specs.Prelude.{ℕ, ◌≡◌, ◌≢◌, ◌⊎◌, ◌≤◌, ◌^◌, ◌↔◌, List, [], ◌∷◌, Contains, ℤ, pos, negsuc, ◌+ℤ◌}
 use Rattle.go_grid.specs.declared.grid.Colour.{Colour}
 use Rattle.go_grid.specs.declared.grid.Colour.TheVariants.{Black, White}
 use Rattle.go_grid.specs.Board.{other}
@@ -34,6 +34,11 @@ halves token.White = negsuc 0
 -- Black's purse less White's, with the token, in halves of a unit
 abbrev pub balance : Purses → ℤ
 balance m = let n : ℤ = credit Black m.black +ℤ credit White m.white in (n +ℤ n) +ℤ halves m.token
+
+-- neither purse passes 2 ^ 42
+pub record AreModest (m : Purses) : Type 0 where
+  pub black : m.black ≤ 2 ^ 42
+  pub white : m.white ≤ 2 ^ 42
 
 -- a state of the game: the positions of its parts, the purses, and the side to move
 pub record State (P : Type 0) : Type 0 where

@@ -7,3 +7,4 @@ pub mod Held
 pub mod Views
 pub mod Regions
 pub mod Thresholds
+pub mod Line

@@ -1,9 +1,9 @@
-//! The decomposition law, that shapes keep values, and that thresholds exist.
+//! The laws: decomposition, that shapes keep values, that thresholds exist, and that a line of play loses nothing.
 
 ghost use Rattle.endgame_solver.specs.Decomposition.{WholeDecomposes};
 ghost use Rattle.endgame_solver.specs.Laws.{Decomposes, PursesAreBalance};
 ghost use Rattle.endgame_solver.specs.Bookkeeping.{PursesFollow, RegionsFollow};
-ghost use Rattle.endgame_solver.specs.PlayLine.{BestStoneLosesNothing, NoStoneIsBetter};
+ghost use Rattle.endgame_solver.specs.PlayLine.{BestStoneLosesNothing, HasOneLine, LineLosesNothing, NoStoneIsBetter};
 ghost use Rattle.endgame_solver.specs.ShapeValues.{ShapesKeepValues};
 ghost use Rattle.endgame_solver.specs.Thresholds.{FirstMoveCostsAHalf, StonesServeEachKomi, ThresholdIsInSum, ThresholdsExist};
 
@@ -32,8 +32,11 @@ pub fn threshold_laws()
 {}
 
 /// On a settled board whose regions have no cycle no stone has a better threshold than the state in which it is played, and
-/// the best stone in a region that is no number has that threshold. It rests on number avoidance (Conway). It has no code.
+/// the best stone in a region that is no number has that threshold. It rests on number avoidance (Conway). So a line of play
+/// loses nothing, and there is at most one. It has no code.
 pub fn line_laws()
     ensures stones { NoStoneIsBetter }
     ensures best { BestStoneLosesNothing }
+    ensures line { LineLosesNothing }
+    ensures one { HasOneLine }
 {}

@@ -7,7 +7,8 @@ ghost use Rattle.whole_rules.specs.WholeGame.{IsLegal};
 ghost use Rattle.sum_outcome.specs.Memo.{Fits};
 ghost use Rattle.endgame_solver.specs.inner.Views.{IsSeen};
 
-use crate::winning_moves::{Present, balance_of, spend_wins, stone_edge, stone_wins};
+use crate::balance::balance_of;
+use crate::winning_moves::{Present, spend_wins, stone_edge, stone_wins};
 use game_store::GameId;
 use go_grid::Point;
 use sum_outcome::Search;

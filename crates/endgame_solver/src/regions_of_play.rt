@@ -5,8 +5,9 @@ ghost use Rattle.go_grid.specs.Region.{Region};
 ghost use Rattle.region_cut.specs.LocalBoard.{PlaysLocally};
 ghost use Rattle.region_cut.specs.Cut.{AreRegionsOfPlay};
 ghost use Rattle.sgf_go.specs.Position.{IsFit};
+ghost use Rattle.whole_rules.specs.Opening.{MayTax};
 ghost use Rattle.endgame_solver.specs.Solved.{OpensAs};
-ghost use Rattle.endgame_solver.specs.inner.Solving.{FindsLarge};
+ghost use Rattle.endgame_solver.specs.Faults.{FindsLarge};
 ghost use Rattle.endgame_solver.specs.inner.Views.{HasValue, seen_ids};
 
 use crate::view_book::Book;
@@ -22,14 +23,15 @@ use whole_rules::Whole;
 
 /// The state in which a position opens, and its regions of play, by lowest point.
 #[derive(Drop)]
-pub(crate) struct Opening {
-    pub(crate) whole: Whole,
-    pub(crate) regions: Vec<Region>,
+pub struct Opening {
+    pub whole: Whole,
+    pub regions: Vec<Region>,
 }
 
-/// The opening of a fit position, with or without a tax.
-pub(crate) fn opening_of(alloc: Global, setup: &Setup, tax: bool) -> Result<Opening, AllocError>
-    requires { IsFit setup.now }
+/// The opening of a fit position, with or without a tax, which there is only where nothing is declared.
+pub fn opening_of(alloc: Global, setup: &Setup, tax: bool) -> Result<Opening, AllocError>
+    requires fit { IsFit setup.now }
+    requires taxed { MayTax tax setup.now.board }
     ensures opens { IfOk result (λ opening. OpensAs setup.now tax opening.whole) }
     ensures regions { IfOk result
         (λ opening. AreRegionsOfPlay setup.now.board opening.regions.items) }
@@ -55,7 +57,7 @@ pub(crate) fn opening_of(alloc: Global, setup: &Setup, tax: bool) -> Result<Open
 }
 
 /// The lowest point of the first region with more than 32 points, and the number of its points.
-pub(crate) fn first_large(regions: &[Region]) -> Option<(Point, u16)>
+pub fn first_large(regions: &[Region]) -> Option<(Point, u16)>
     ensures { FindsLarge regions.now result }
 {
     'regions: for region in regions {

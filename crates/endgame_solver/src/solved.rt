@@ -1,30 +1,39 @@
 //! Solved games.
 
-ghost use Rattle.std.specs.Prelude.{◌≡◌, ℕ, ◌+◌, ◌<◌, ◌≤◌, ◌↔◌, List, [], ◌∷◌, length, None, IfOk, IsTrue, MatchOption};
+ghost use Rattle.std.specs.Prelude.{◌≡◌, ℕ, ℤ, ◌+◌, ◌<◌, ◌≤◌, ◌^◌, ◌↔◌, List, [], ◌∷◌, length, unsigned_abs, All, None, IfOk, IfSome, IsTrue, MatchOption};
 ghost use Rattle.go_grid.specs.Region.{Region};
 ghost use Rattle.go_grid.specs.Board.{other};
 ghost use Rattle.whole_rules.specs.declared.states.Move.TheVariants.{Stone};
 ghost use Rattle.whole_rules.specs.FirstWinningMove.{IsFirstWinning, IsLosing, IsWinner, IsWinning};
-ghost use Rattle.whole_rules.specs.WholeGame.{Applies, IsLegal};
+ghost use Rattle.whole_rules.specs.Threshold.{stones};
+ghost use Rattle.whole_rules.specs.Walls.{Plays};
+ghost use Rattle.whole_rules.specs.WholeGame.{Applies, IsLegal, IsMove};
 ghost use Rattle.sum_outcome.specs.Memo.{Fits};
 ghost use Rattle.sum_outcome.specs.Players.{LosesGame};
 ghost use Rattle.sum_outcome.specs.Sums.{sum_tree};
 ghost use Rattle.endgame_solver.specs.Regions.{region_at};
 ghost use Rattle.endgame_solver.specs.Faults.{most_steps};
+ghost use Rattle.endgame_solver.specs.PlayLine.{IsLineFrom};
 ghost use Rattle.endgame_solver.specs.Thresholds.{IsThresholdFrom};
+ghost use Rattle.endgame_solver.specs.inner.Line.{HasFewStones, TellsNext};
+ghost use Rattle.endgame_solver.specs.inner.Thresholds.{IsMargin};
 ghost use Rattle.region_cut.specs.Cut.{AreRegionsOfPlay};
 ghost use Rattle.sgf_go.specs.Position.{IsFit};
+ghost use Rattle.whole_rules.specs.Opening.{MayTax};
 ghost use Rattle.endgame_solver.specs.Solved.{Begun, IsNumberOfShapes, IsPresent, ArePresent, IsReport, balance_units};
 
+use crate::balance::balance_of;
 use crate::faults::SolveError;
+use crate::known::first_known;
 use crate::limits::Limits;
+use crate::line_of_play::next_stone;
 use crate::outcomes::outcome;
 use crate::region_values::solve_regions;
 use crate::regions_of_play::{first_large, opening_of, start_of};
 use crate::thresholds::{margin, raised, stone_margin};
 use crate::view_book::Book;
 use crate::winning_moves::{
-    Present, balance_of, first_winning_move, mover_loses, positions_seen, stone_edge, value_seen,
+    Present, first_winning_move, mover_loses, positions_seen, stone_edge, value_seen,
 };
 use dyadic_num::Dyadic;
 use game_store::{GameId, Store};
@@ -35,7 +44,7 @@ use sgf_go::Setup;
 use std::alloc::{AllocError, Global};
 use std::marker::Model;
 use std::sync::ledger::Ledger;
-use sum_outcome::{MOST_ENTRIES, Search};
+use sum_outcome::Search;
 use whole_rules::{Move, MoveError, Whole};
 
 /// What is known of a region at the opening: its lowest point, how many points it has, how many positions are reachable,
@@ -81,28 +90,8 @@ impl Model for Solved {
         s.store s.whole × Fits s.store s.search };
 }
 
-/// A store with 0 in it, and a search that knows it.
-#[derive(Drop)]
-struct Known {
-    store: Store,
-    search: Search,
-}
-
-/// A store and a search for a new game.
-fn first_known(alloc: Global) -> Result<Known, AllocError>
-    ensures { IfOk result (λ known. Fits known.store known.search) }
-{
-    let search = Search::new(alloc, MOST_ENTRIES)?;
-    let mut known = Known {
-        store: Store::new(alloc),
-        search,
-    };
-    known.search.note_zero(&mut known.store)?;
-    Ok(known)
-}
-
 impl Solved {
-    /// The game that a fit position opens, with a tax where the limits say it: its regions, each with its graph and the
+    /// The game that a fit position opens, with a tax where the limits say it, for which nothing may be declared: its regions, each with its graph and the
     /// values of all its positions. Or the first region of more than 32 points; or else the first with too many positions,
     /// a cycle or a value without a form. It takes at most one step for each position of each region.
     pub fn begin<L: Ledger>(
@@ -112,6 +101,7 @@ impl Solved {
         steps: &mut Steps<L>,
     ) -> Result<Solved, SolveError>
         requires fit { IsFit setup.now }
+        requires taxed { MayTax limits.now.tax setup.now.board }
         requires positions { limits.now.positions ≤ MOST_POSITIONS }
         ensures begun { Begun setup.now limits.now result }
         ensures steps { (regions : List Region) → AreRegionsOfPlay setup.now.board regions
@@ -267,6 +257,73 @@ impl Solved {
         };
         let beyond = stone_margin(&present, &mut self.search, &mut self.sum, point)?;
         Some(raised(komi_halves, beyond))
+    }
+
+    /// How many halves of a point the threshold of the side to move is above the komi.
+    fn beyond(&mut self) -> i64
+        ensures beyond { IsMargin self.old.state self.old.state.side [] result }
+        ensures small { unsigned_abs result ≤ 2 ^ 46 }
+        ensures few { HasFewStones self.old.state }
+        ensures same { self.new ≡ self.old }
+    {
+        let side = self.whole.side();
+        let present = Present {
+            whole: &self.whole,
+            regions: &self.regions,
+            book: &self.book,
+            places: &self.places,
+            store: &self.store,
+        };
+        margin(&present, &mut self.search, &mut self.sum, side)
+    }
+
+    /// The next stone of the line of play, where the threshold is so many halves of a point above the komi.
+    fn next_stone(&mut self, beyond: i64) -> Option<Point>
+        requires small { unsigned_abs beyond ≤ 2 ^ 46 }
+        ensures next { TellsNext self.old.regions self.old.state beyond result }
+        ensures legal { IfSome result (λ p. IsLegal self.old.state (Stone p)) }
+        ensures same { self.new ≡ self.old }
+    {
+        let present = Present {
+            whole: &self.whole,
+            regions: &self.regions,
+            book: &self.book,
+            places: &self.places,
+            store: &self.store,
+        };
+        next_stone(&present, &mut self.search, &mut self.sum, beyond)
+    }
+
+    /// Plays a legal stone.
+    fn put(&mut self, point: Point)
+        requires { IsLegal self.old.state (Stone point) }
+        ensures moved { IsMove self.old.state (Stone point) self.new.state }
+        ensures regions { self.new.regions ≡ self.old.regions }
+        ensures trees { self.new.trees ≡ self.old.trees }
+    {
+        let _played = self.play(Move::Stone(point));
+    }
+
+    /// The line of play of the present state, where that is an opening: as long as some region is no number, the best stone
+    /// in such regions, of the greatest threshold where Black moves and the least where White does, and of several the first
+    /// by point. The stones are played.
+    pub fn line(&mut self, alloc: Global) -> Result<Vec<Point>, AllocError>
+        ensures line { IfOk result (λ line. (k : ℤ)
+            → IsLineFrom self.old.regions self.old.state k line.items) }
+        ensures played { IfOk result (λ line. Plays self.old.state (stones line.items)
+            self.new.state) }
+        ensures on_board { IfOk result
+            (λ line. All (λ p. p < length self.old.state.board.cells) line.items) }
+        ensures regions { self.new.regions ≡ self.old.regions }
+        ensures trees { self.new.trees ≡ self.old.trees }
+    {
+        let beyond = self.beyond();
+        let mut line = Vec::new(alloc);
+        'stones: while let Some(point) = self.next_stone(beyond) {
+            line.push(point)?;
+            self.put(point);
+        }
+        Ok(line)
     }
 
     /// Whether a move of the side to move leads to a state whose mover loses. None exactly where the move is illegal.

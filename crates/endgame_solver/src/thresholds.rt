@@ -16,7 +16,8 @@ ghost use Rattle.endgame_solver.specs.inner.Held.{most_units};
 ghost use Rattle.endgame_solver.specs.inner.Thresholds.{AreModestGames, IsLeastWin, IsMargin, LiesBetween};
 ghost use Rattle.endgame_solver.specs.inner.Views.{IsSeen};
 
-use crate::winning_moves::{Present, balance_halves, of_halves, stone_edge, value_seen};
+use crate::balance::{balance_halves, of_halves};
+use crate::winning_moves::{Present, stone_edge, value_seen};
 use dyadic_num::Dyadic;
 use game_stops::{left_stop, right_stop};
 use game_store::{GameId, Store};

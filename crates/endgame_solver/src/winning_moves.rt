@@ -1,26 +1,26 @@
 //! Who wins the present state, and by which moves: each is asked of the sum of the values that the move leaves.
 
-ghost use Rattle.std.specs.Prelude.{◌≡◌, ℕ, ◌<◌, ◌≤◌, ◌^◌, ◌+ℤ◌, ◌*ℤ◌, neg_ℤ, pos, unsigned_abs, ◌↔◌, Contains, IfSome, IsTrue, List, MatchOption, length, slice_index};
+ghost use Rattle.std.specs.Prelude.{◌≡◌, ℕ, ◌<◌, ◌↔◌, Contains, IfSome, IsTrue, List, MatchOption, length, slice_index};
 ghost use Rattle.go_grid.specs.declared.grid.Colour.{Colour};
 ghost use Rattle.local_graph.specs.declared.graph.Edge.{Edge};
 ghost use Rattle.whole_rules.specs.declared.states.Move.TheVariants.{Stone, Spend};
 ghost use Rattle.whole_rules.specs.FirstWinningMove.{IsFirstWinning, IsLosing, IsWinning};
 ghost use Rattle.sum_outcome.specs.Memo.{Fits};
-ghost use Rattle.endgame_solver.specs.SumGame.{balance, halves};
-ghost use Rattle.endgame_solver.specs.inner.Held.{IsStoneAt, IsStoneEdge, IsFirstStone, AreModest};
+ghost use Rattle.endgame_solver.specs.Regions.{IsStoneAt};
+ghost use Rattle.endgame_solver.specs.inner.Held.{IsStoneEdge, IsFirstStone};
 ghost use Rattle.endgame_solver.specs.inner.Views.{HasGraph, HasValue, IsSeen, ShowsAll, ShowsPlaces, own, seen_graph, seen_ids, view_at};
 ghost use Rattle.local_graph.specs.Graph.{Graph};
 ghost use Rattle.local_graph.specs.inner.Graph.{edges_at};
 
+use crate::balance::balance_of;
 use crate::view_book::Book;
 use crate::views::View;
-use dyadic_num::{Dyadic, EXPONENT};
 use game_store::{GameId, Store};
 use go_grid::{Colour, Point, Region};
 use local_graph::Edge;
 use local_value::Values;
 use sum_outcome::Search;
-use whole_rules::{Move, Purses, Token, Whole};
+use whole_rules::{Move, Whole};
 
 /// The present state, and what is known of its regions.
 #[derive(Clone, Copy)]
@@ -30,63 +30,6 @@ pub(crate) struct Present<'a> {
     pub book: &'a Book,
     pub places: &'a [usize],
     pub store: &'a Store,
-}
-
-/// What the token is worth to Black, in halves of a point.
-fn token_halves(token: Token) -> i128
-    ensures value { result ≡ halves token }
-    ensures small { unsigned_abs result ≤ 1 }
-{
-    match token {
-        Token::Nobody => 0,
-        Token::Black => 1,
-        Token::White => -1,
-    }
-}
-
-/// What the first number is more than the second.
-fn difference(first: u64, second: u64) -> i128
-    ensures { result ≡ pos first +ℤ neg_ℤ (pos second) }
-{
-    i128::from(first) - i128::from(second)
-}
-
-/// So many points and halves, in halves of a point.
-fn in_halves(points: i128, halves: i128) -> i128
-    requires points { unsigned_abs points ≤ 2 ^ 42 }
-    requires halves { unsigned_abs halves ≤ 1 }
-    ensures { result ≡ (points +ℤ points) +ℤ halves }
-{
-    points + points + halves
-}
-
-/// Half a point, in the parts of a `Dyadic`.
-const HALF_POINT: i128 = 1 << (EXPONENT - 1);
-
-/// So many halves of a point.
-pub(crate) fn of_halves(halves: i128) -> Dyadic
-    requires { unsigned_abs halves ≤ 2 ^ 45 }
-    ensures { result ≡ halves *ℤ HALF_POINT }
-{
-    Dyadic::from_units(halves * HALF_POINT)
-}
-
-/// Black's purse less White's, with the token, in halves of a point.
-pub(crate) fn balance_halves(purses: Purses) -> i128
-    requires { AreModest purses }
-    ensures halves { result ≡ balance purses }
-    ensures small { unsigned_abs result ≤ 2 ^ 45 }
-{
-    let points = difference(purses.black, purses.white);
-    in_halves(points, token_halves(purses.token))
-}
-
-/// Black's purse less White's, with the token's half.
-pub(crate) fn balance_of(purses: Purses) -> Dyadic
-    requires { AreModest purses }
-    ensures { result ≡ balance purses *ℤ pos (2 ^ 59) }
-{
-    of_halves(balance_halves(purses))
 }
 
 /// Whether the two are the same.
@@ -108,7 +51,7 @@ fn is_at(points: &[Point], place: usize, point: Point) -> bool
 }
 
 /// Whether the edge is that of a stone of the player at the point.
-fn is_stone_at(region: &Region, edge: Edge, point: Point, colour: Colour) -> bool
+pub fn is_stone_at(region: &Region, edge: Edge, point: Point, colour: Colour) -> bool
     ensures { IsTrue result ↔ IsStoneAt region.now colour point edge }
 {
     if !is_same(edge.colour, colour) {

@@ -10,7 +10,7 @@ use Rattle.gd_words.specs.declared.choice.Choice.TheVariants.{Komi, Turn, After,
 use Rattle.gd_words.specs.declared.chosen.Chosen.{Chosen}
 use Rattle.gd_words.specs.Choice.{name_of}
 use Rattle.gd_words.specs.declared.job.Question.{Question}
-use Rattle.gd_words.specs.declared.job.Question.TheVariants.{Board, Margin, Moves, Safe, Solve, Values}
+use Rattle.gd_words.specs.declared.job.Question.TheVariants.{Board, Line, Margin, Moves, Safe, Solve, Values}
 use Rattle.gd_words.specs.Task.{Task, ask, play, trial, calc, gtp, AreFor, BeginWith, question_word}
 use Rattle.gd_words.specs.Job.{GivesOption, Say, AreChoices, Job, job_of, IsJob, IsOnlyJob}
 use Rattle.gd_words.specs.inner.Reading.{IsJobOf}
@@ -21,7 +21,7 @@ use Rattle.gd_words.proofs.ListingLemmas.{one_spelling}
 -- the question that a word asks, where it is the word of one
 abbrev question_of : List ℕ → Option Question
 question_of word = cond (bytes_eq word (codes "solve")) (Some Solve) (cond (bytes_eq word (codes "safe")) (Some Safe) (cond (bytes_eq word (codes "values")) (Some Values)
-    (cond (bytes_eq word (codes "board")) (Some Board) (cond (bytes_eq word (codes "margin")) (Some Margin) (cond (bytes_eq word (codes "moves")) (Some Moves) None)))))
+    (cond (bytes_eq word (codes "board")) (Some Board) (cond (bytes_eq word (codes "margin")) (Some Margin) (cond (bytes_eq word (codes "moves")) (Some Moves) (cond (bytes_eq word (codes "line")) (Some Line) None))))))
 
 question_back : (q : Question) → question_of (question_word q) ≡ Some q
 question_back Solve = refl
@@ -30,6 +30,7 @@ question_back Values = refl
 question_back Board = refl
 question_back Margin = refl
 question_back Moves = refl
+question_back Line = refl
 
 -- a word that asks no question is that of none
 no_question : (word : List ℕ) (q : Question) → word ≡ question_word q → question_of word ≡ None → ⊥

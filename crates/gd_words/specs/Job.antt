@@ -1,5 +1,5 @@
 -- The grammar of the command line, and the job that its words say:
---     words = ( "solve" | "safe" | "values" | "board" | "margin" | "moves" | "play" ) file { name value } | "trial" number | "calc" expression { name value } | "gtp" { name value }
+--     words = ( "solve" | "safe" | "values" | "board" | "margin" | "moves" | "line" | "play" ) file { name value } | "trial" number | "calc" expression { name value } | "gtp" { name value }
 use Rattle.std.specs.Prelude.{◌≡◌, ◌≢◌, ◌∷◌, [], ⊤, ℕ, List, Bool, false, Option, Some, None}
 use Rattle.std.specs.List.{All, AllPairs, Contains}
 use Rattle.std.specs.Option.{unwrap_or}

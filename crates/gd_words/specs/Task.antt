@@ -3,7 +3,7 @@ use Rattle.std.specs.Prelude.{◌≡◌, ◌≢◌, ◌∷◌, [], ⊤, ℕ, Lis
 use Rattle.gd_words.specs.declared.choice.Choice.{Choice}
 use Rattle.gd_words.specs.declared.choice.Choice.TheVariants.{Positions, Parts, Engine, Tax}
 use Rattle.gd_words.specs.declared.job.Question.{Question}
-use Rattle.gd_words.specs.declared.job.Question.TheVariants.{Board, Margin, Moves, Safe, Solve, Values}
+use Rattle.gd_words.specs.declared.job.Question.TheVariants.{Board, Line, Margin, Moves, Safe, Solve, Values}
 use Rattle.gd_words.specs.Value.{IsNumberWithin}
 
 -- the command: a question about the position of a file, a game of a file, the board of a number, an expression, or the engine
@@ -22,6 +22,7 @@ question_word Values = codes "values"
 question_word Board = codes "board"
 question_word Margin = codes "margin"
 question_word Moves = codes "moves"
+question_word Line = codes "line"
 
 -- the question is about the regions of play, which are solved for it within the limits
 abbrev pub NeedsRegions : Question → Type 0

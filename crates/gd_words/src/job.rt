@@ -24,6 +24,8 @@ pub enum Question {
     Margin,
     /// Which moves win, and by how much?
     Moves,
+    /// How does play go on?
+    Line,
 }
 
 /// A command with its file, the number of its board, or its expression. The file `-` is the source, which `Play` never has. `Gtp`
@@ -36,6 +38,7 @@ pub enum Command<'a> {
     Board(&'a str),
     Margin(&'a str),
     Moves(&'a str),
+    Line(&'a str),
     Play(&'a str),
     Trial(u32),
     Calc(&'a str),
@@ -72,6 +75,7 @@ pub(crate) fn read_command<'a>(word: &str, argument: &'a str) -> Option<Command<
         "board" => Some(Command::Board(argument)),
         "margin" => Some(Command::Margin(argument)),
         "moves" => Some(Command::Moves(argument)),
+        "line" => Some(Command::Line(argument)),
         "play" if argument != "-" => Some(Command::Play(argument)),
         "calc" => Some(Command::Calc(argument)),
         _ => None,
@@ -84,9 +88,11 @@ impl Command<'_> {
         ensures { (result ≡ true) ↔ GoesWith (task_of self.now) choice }
     {
         match self {
-            Command::Solve(_) | Command::Values(_) | Command::Margin(_) | Command::Moves(_) => {
-                !matches!(choice, Choice::Engine(_))
-            }
+            Command::Solve(_)
+            | Command::Values(_)
+            | Command::Margin(_)
+            | Command::Moves(_)
+            | Command::Line(_) => !matches!(choice, Choice::Engine(_)),
             Command::Safe(_) | Command::Board(_) => !matches!(
                 choice,
                 Choice::Engine(_) | Choice::Positions(_) | Choice::Parts(_) | Choice::Tax(_)

@@ -52,7 +52,7 @@ fn read_job<'a>(words: &[&'a str]) -> Option<Job<'a>>
     read_options(command, rest)
 }
 
-/// The job that the words of a command line say: `solve`, `safe`, `values`, `board`, `margin`, `moves` or `play` with a file and options, each a
+/// The job that the words of a command line say: `solve`, `safe`, `values`, `board`, `margin`, `moves`, `line` or `play` with a file and options, each a
 /// name and a value, `trial` with a number, `calc` with an expression and options, or `gtp` with options. `Usage` comes exactly where
 /// the words have no such form.
 pub fn read<'a>(words: &[&'a str]) -> Result<Job<'a>, Usage>

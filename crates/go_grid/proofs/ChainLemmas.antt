@@ -1,10 +1,11 @@
 -- Chains and liberties, as sets of points.
-use Rattle.std.proofs.Common.{ℕ, ◌↔◌, List, Bool}
+use Rattle.std.proofs.Common.{ℕ, ◌↔◌, ◌<◌, ◌≤◌, inl, inr, List, Bool, length, arith}
 use Rattle.go_grid.specs.declared.grid.Colour.{Colour}
 use Rattle.go_grid.specs.Board.{Board, HasStone, IsEmpty}
 use Rattle.go_grid.specs.Walk.{Joined}
 use Rattle.go_grid.specs.Marks.{IsMarked, Marks, Touches}
-use Rattle.go_grid.specs.Chain.{InChain, HasLiberty}
+use Rattle.go_grid.specs.Chain.{InChain, HasLiberty, IsFirstUnsettled, IsSettled, IsUnsettled}
+use Rattle.go_grid.specs.inner.Settled.{IsSettledAt}
 use Rattle.go_grid.proofs.WalkLemmas.{joined_back, joined_join, joined_more, joined_end}
 
 -- a chain has a liberty exactly where one of its stones is next to an empty point
@@ -39,3 +40,18 @@ breathing_marks g c stones empties starts marks iss ise isx ism p = (
 pub same_liberty : (g : Board) (c : Colour) (s t : ℕ) → InChain g c s t → HasLiberty g c t → HasLiberty g c s
 same_liberty g c s t j l =
     (l.0, (l.1.0, (l.1.1.0, joined_join g.columns (HasStone g c) s t l.1.1.0 j l.1.1.1, l.1.1.2)))
+
+not_unsettled : (g : Board) (p : ℕ) → IsSettledAt g p → ¬ IsUnsettled g p
+not_unsettled g p w (inl (c, stone, choked)) = choked (w.breathe c stone)
+not_unsettled g p w (inr (c, declared, broken)) = broken (w.closed c declared)
+
+-- the first point that is unsettled, where those below are not
+pub first_unsettled : (g : Board) (p : ℕ) → ((q : ℕ) → q < p → IsSettledAt g q) → IsUnsettled g p → IsFirstUnsettled g p
+first_unsettled g p below here = record { unsettled = here; lowest = λ q lt. not_unsettled g q (below q lt) }
+
+-- a board is settled where each of its points is
+pub all_settled : (g : Board) (n : ℕ) → ((q : ℕ) → q < n → IsSettledAt g q) → length g.cells ≤ n → IsSettled g
+all_settled g n below all = record {
+  breathe = λ c s stone. (below s (omega (arith, stone.0, all))).breathe c stone;
+  closed = λ c p declared. (below p (omega (arith, declared.0, all))).closed c declared;
+}

@@ -11,3 +11,5 @@ pub mod LinkLemmas
 pub mod NameLemmas
 mod ExampleLemmas
 pub mod DecidedLemmas
+pub mod DeclaredLemmas
+pub mod DecidedChainLemmas

@@ -1,15 +1,17 @@
--- Boards: columns, rows and a list of cells, row by row from the top left.
+-- Boards: columns, rows, a list of cells, row by row from the top left, and the points that are declared for a colour.
 use Rattle.std.specs.Prelude.{◌≡◌, ◌≢◌, ℕ, ◌+◌, ◌*◌, ◌/◌, ◌%◌, ◌<◌, ◌≤◌, ◌⊎◌, ◌↔◌, List, Contains, length, slice_index_or, Option, None, Some}
 use Rattle.go_grid.specs.declared.grid.Cell.{Cell}
 use Rattle.go_grid.specs.declared.grid.Cell.TheVariants as cell
 use Rattle.go_grid.specs.declared.grid.Colour.{Colour}
 use Rattle.go_grid.specs.declared.grid.Colour.TheVariants as colour
 
--- a board: its columns, its rows, and its cells row by row from the top left
+-- a board: its columns, its rows, its cells row by row from the top left, and for each point the colour for which the players
+-- declare it; the points past the end of that list are declared for nobody
 pub record Board : Type 0 where
   pub columns : ℕ
   pub rows : ℕ
   pub cells : List Cell
+  pub declared : List (Option Colour)
 
 -- 1 to 25 columns and rows, and a cell for each point
 pub record IsBoard (g : Board) : Type 0 where
@@ -80,3 +82,28 @@ IsEmpty g p = (p < length g.cells) × (cell_at g p ≡ cell.Empty)
 -- a point of the board with no stone of the colour
 abbrev pub Lacks : Board → Colour → ℕ → Type 0
 Lacks g c p = (p < length g.cells) × (cell_at g p ≢ stone c)
+
+-- the colour for which a point is declared, if it is
+abbrev pub declared_at : Board → ℕ → Option Colour
+declared_at g p = slice_index_or g.declared p None
+
+-- `p` is a point of the board that is declared for the colour
+abbrev pub IsDeclared : Board → Colour → ℕ → Type 0
+IsDeclared g c p = (p < length g.cells) × (declared_at g p ≡ Some c)
+
+-- the point is declared for neither colour
+abbrev pub IsUndeclared : Board → ℕ → Type 0
+IsUndeclared g p = (c : Colour) → ¬ IsDeclared g c p
+
+-- no point is declared
+abbrev pub DeclaresNothing : Board → Type 0
+DeclaresNothing g = (p : ℕ) → IsUndeclared g p
+
+-- the point is empty, and each point of the board next to it is declared for the colour or holds a stone of it
+pub record IsClosedOffAt (g : Board) (c : Colour) (p : ℕ) : Type 0 where
+  pub empty : IsEmpty g p
+  pub around : (q : ℕ) → q < length g.cells → NextTo g.columns p q → IsDeclared g c q ⊎ HasStone g c q
+
+-- each declared point is closed off for its colour
+abbrev pub IsClosedOff : Board → Type 0
+IsClosedOff g = (c : Colour) (p : ℕ) → IsDeclared g c p → IsClosedOffAt g c p

@@ -1,16 +1,18 @@
 //! Boards.
 
-ghost use Rattle.std.specs.Prelude.{◌≡◌, ◌-◌, ◌*◌, ◌<◌, ◌≤◌, length, IfOk, slice_set, replicate};
+ghost use Rattle.std.specs.Prelude.{◌≡◌, ◌-◌, ◌*◌, ◌<◌, ◌≤◌, length, IfOk, [], slice_set, replicate};
 
-use crate::grid::{Cell, MOST_POINTS, Point, Size};
+use crate::grid::{Cell, Colour, MOST_POINTS, Point, Size};
 use std::alloc::{AllocError, Global};
 use std::marker::Model;
 
-/// A board: its size and a cell for each of its points.
+/// A board: its size, a cell for each of its points, and the colours for which points are declared.
 #[derive(Debug, Drop)]
 pub struct Board {
     size: Size,
     cells: Vec<Cell>,
+    /// The colour of each point, without an item where nothing is declared.
+    declared: Vec<Option<Colour>>,
 }
 
 impl Model for Board {
@@ -23,25 +25,32 @@ impl Model for Board {
       columns = b.size.columns;
       rows = b.size.rows;
       cells = b.cells.items;
+      declared = b.declared.items;
     } };
 
     ghost invariant = { λ b. length b.cells.items ≡ b.size.columns * b.size.rows };
 }
 
 impl Board {
-    ghost use Rattle.go_grid.specs.Board.{Board, IsBoard, cell_at};
+    ghost use Rattle.go_grid.specs.Board.{Board, DeclaresNothing, IsBoard, cell_at, declared_at};
+    ghost use Rattle.std.specs.Bool.{OnTrue};
     ghost use Rattle.go_grid.specs.declared.grid.Cell.TheVariants.{Empty};
 
-    /// A board of the size without stones.
+    /// A board of the size without stones, and with no point declared.
     pub fn empty(alloc: Global, size: Size) -> Result<Board, AllocError>
         ensures { IfOk result (λ b. b ≡ record {
           columns = size.columns;
           rows = size.rows;
           cells = replicate (size.columns * size.rows) Empty;
+          declared = [];
         }) }
     {
         let cells = vec![in alloc; Cell::Empty; usize::from(size.area())]?;
-        Ok(Board { size, cells })
+        Ok(Board {
+            size,
+            cells,
+            declared: Vec::new(alloc),
+        })
     }
 
     /// The same board once more.
@@ -51,6 +60,7 @@ impl Board {
         Ok(Board {
             size: self.size,
             cells: self.cells.clone()?,
+            declared: self.declared.clone()?,
         })
     }
 
@@ -80,6 +90,32 @@ impl Board {
         ensures { self.new ≡ record self.old { cells = slice_set self.old.cells point cell } }
     {
         self.cells[usize::from(point.0)] = cell;
+    }
+
+    /// The colour for which a point is declared, if it is.
+    pub fn declared_for(&self, point: Point) -> Option<Colour>
+        ensures { result ≡ declared_at self.now point }
+    {
+        let place = usize::from(point.0);
+        if place < self.declared.len() {
+            self.declared[place]
+        } else {
+            None
+        }
+    }
+
+    /// Whether no point has a colour for which it could be declared.
+    pub fn declares_nothing(&self) -> bool
+        ensures { OnTrue result (DeclaresNothing self.now) }
+    {
+        self.declared.is_empty()
+    }
+
+    /// Makes the declared points those for which the list has a colour, and changes no cell.
+    pub fn declare(&mut self, declared: Vec<Option<Colour>>)
+        ensures { self.new ≡ record self.old { declared = declared.items } }
+    {
+        self.declared = declared;
     }
 
     /// Where the board's memory comes from.

@@ -14,7 +14,8 @@ impl Board {
     ghost use Rattle.go_grid.specs.declared.grid.Colour.TheVariants.{Black, White};
     ghost use Rattle.std.specs.Bool.{OnTrue, OnFalse};
     ghost use Rattle.go_grid.specs.Board.{HasStone, IsEmpty, Lacks, stone};
-    ghost use Rattle.go_grid.specs.Chain.{InChain, IsLiberty, HasLiberty, IsSettled, StoneAt, IsChoked, IsFirstChoked};
+    ghost use Rattle.go_grid.specs.inner.Settled.{IsSettledAt};
+    ghost use Rattle.go_grid.specs.Chain.{InChain, IsLiberty, HasLiberty, IsSettled, StoneAt, IsChoked, IsUnsettled, IsFirstUnsettled};
     ghost use Rattle.go_grid.specs.Marks.{Marks, Lists};
 
     /// The stones of the colour.
@@ -122,14 +123,29 @@ impl Board {
         }
     }
 
-    /// The lowest stone whose chain has no liberty, or `None` where the board is settled.
+    /// Whether a point is free, and closed off where it is declared.
+    fn is_settled_at(&self, black: &Points, white: &Points, point: Point) -> bool
+        requires point { point < length self.now.cells }
+        requires black { Marks black.now (λ p. HasStone self.now Black p
+            × HasLiberty self.now Black p) }
+        requires white { Marks white.now (λ p. HasStone self.now White p
+            × HasLiberty self.now White p) }
+        ensures settled { OnTrue result (IsSettledAt self.now point) }
+        ensures unsettled { OnFalse result (IsUnsettled self.now point) }
+    {
+        self.is_free(black, white, point) && self.is_closed_off(point)
+    }
+
+    /// The lowest stone whose chain has no liberty or declared point that isn't closed off, or `None` where the board
+    /// is settled.
     pub fn unsettled(&self) -> Result<Option<Point>, AllocError>
-        ensures { IfOk result (λ r. MatchOption r (IsSettled self.now) (IsFirstChoked self.now)) }
+        ensures { IfOk result
+            (λ r. MatchOption r (IsSettled self.now) (IsFirstUnsettled self.now)) }
     {
         let black = self.breathing(Colour::Black);
         let white = self.breathing(Colour::White);
         for number in 0..self.size().area() {
-            if !self.is_free(&black, &white, Point(number)) {
+            if !self.is_settled_at(&black, &white, Point(number)) {
                 return Ok(Some(Point(number)));
             }
         }

@@ -3,6 +3,7 @@
 
 mod boards;
 mod chains;
+mod declared_points;
 mod fills;
 mod grid;
 mod names;

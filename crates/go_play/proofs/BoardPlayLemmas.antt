@@ -12,7 +12,7 @@ use Rattle.go_grid.proofs.NearLemmas.{next_back}
 use Rattle.go_grid.proofs.PathLemmas.{leads_over}
 use Rattle.go_grid.proofs.PlayLemmas.{held_inside, one_without}
 use Rattle.go_grid.proofs.WalkLemmas.{joined_back, joined_end}
-use Rattle.go_play.specs.Place.{IsBy, IsTaken, Breathes, IsSameSize, IsPlaced, IsSuicide}
+use Rattle.go_play.specs.Place.{IsBy, IsTaken, Breathes, IsSameGround, IsPlaced, IsSuicide}
 use Rattle.go_play.specs.inner.Place.{with_stone}
 
 module _ (g : Board) (cells : List Cell) (long : length cells ≡ length g.cells) where
@@ -72,8 +72,9 @@ module _ (g : Board) (p : ℕ) (c : Colour) where
       takes r q (next_back g.columns r p next) (joined_back g.columns (HasStone b (other c)) q r chain)
       (λ liberty. choked (same_liberty b (other c) q r chain liberty))
 
-same_size : (g h : Board) → IsSameSize g h → record g { cells = h.cells } ≡ h
-same_size g h size = λ i. record { columns = sym size.columns i; rows = sym size.rows i; cells = h.cells }
+same_ground : (g h : Board) → IsSameGround g h → record g { cells = h.cells } ≡ h
+same_ground g h same =
+    λ i. record { columns = sym same.columns i; rows = sym same.rows i; cells = h.cells; declared = sym same.declared i }
 
 pub placed_long : (g : Board) (p : ℕ) (c : Colour) (h : Board) → IsPlaced g p c h → length h.cells ≡ length g.cells
 placed_long g p c h placed = placed.1.without.long ∙ length-set g.cells p (stone c)
@@ -81,18 +82,18 @@ placed_long g p c h placed = placed.1.without.long ∙ length-set g.cells p (sto
 -- the new stone's chain has a liberty
 pub breathes : (g : Board) (p : ℕ) (c : Colour) (h : Board) → IsPlaced g p c h → HasLiberty h c p
 breathes g p c h placed =
-    subst (λ b. HasLiberty b c p) (same_size g h placed.0) (breathes_to g h.cells (placed_long g p c h placed) c p placed.1.stands)
+    subst (λ b. HasLiberty b c p) (same_ground g h placed.0) (breathes_to g h.cells (placed_long g p c h placed) c p placed.1.stands)
 
-pub stands_from : (g : Board) (p : ℕ) (c : Colour) (h : Board) → IsSameSize g h → length h.cells ≡ length g.cells → HasLiberty h c p
+pub stands_from : (g : Board) (p : ℕ) (c : Colour) (h : Board) → IsSameGround g h → length h.cells ≡ length g.cells → HasLiberty h c p
     → Breathes g h.cells c p
-stands_from g p c h size long liberty =
-    breathes_from g h.cells long c p (subst (λ b. HasLiberty b c p) (sym (same_size g h size)) liberty)
+stands_from g p c h same long liberty =
+    breathes_from g h.cells long c p (subst (λ b. HasLiberty b c p) (sym (same_ground g h same)) liberty)
 
 -- a placing has one outcome
 pub placed_same : (g : Board) (p : ℕ) (c : Colour) (h k : Board) → IsPlaced g p c h → IsPlaced g p c k → h ≡ k
 placed_same g p c h k a b =
     let cells = one_without (with_stone g p c).cells (IsTaken g p c) h.cells k.cells a.1.without b.1.without in
-    λ i. record { columns = (a.0.columns ∙ sym b.0.columns) i; rows = (a.0.rows ∙ sym b.0.rows) i; cells = cells i }
+    λ i. record { columns = (a.0.columns ∙ sym b.0.columns) i; rows = (a.0.rows ∙ sym b.0.rows) i; cells = cells i; declared = (a.0.declared ∙ sym b.0.declared) i }
 
 pub suicide_not_placed : (g h : Board) (p : ℕ) (c : Colour) → IsSuicide g p c → ¬ IsPlaced g p c h
 suicide_not_placed g h p c s placed =

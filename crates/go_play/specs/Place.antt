@@ -2,7 +2,7 @@
 use Rattle.std.specs.Prelude.{◌≡◌, ◌<◌, ℕ, List, [], ◌∷◌, length, Result, Ok, Err}
 use Rattle.go_grid.specs.declared.grid.Cell.{Cell}
 use Rattle.go_grid.specs.declared.grid.Colour.{Colour}
-use Rattle.go_grid.specs.Board.{Board, NextTo, HasStone, IsEmpty, other}
+use Rattle.go_grid.specs.Board.{Board, NextTo, HasStone, IsEmpty, IsUndeclared, other}
 use Rattle.go_grid.specs.Play as play
 use Rattle.go_play.specs.declared.placements.PlaceError.{PlaceError}
 use Rattle.go_play.specs.declared.placements.PlaceError.TheVariants.{Occupied, Suicide}
@@ -28,25 +28,26 @@ IsCleared g p c cells = play.IsWithout (play.with_stone g.cells p c) (IsTaken g 
 abbrev pub Breathes : Board → List Cell → Colour → ℕ → Type 0
 Breathes g cells c p = play.IsFree (IsBy g) Never cells c p
 
--- two boards are of one size
-pub record IsSameSize (g h : Board) : Type 0 where
+-- two boards are of one size, with the same points declared
+pub record IsSameGround (g h : Board) : Type 0 where
   pub columns : h.columns ≡ g.columns
   pub rows : h.rows ≡ g.rows
+  pub declared : h.declared ≡ g.declared
 
 -- `h` is `g` after a stone of the colour at `p`, with what it takes off the board
 abbrev pub IsPlaced : Board → ℕ → Colour → Board → Type 0
-IsPlaced g p c h = IsSameSize g h × play.IsPlaced (IsBy g) Never g.cells p c h.cells
+IsPlaced g p c h = IsSameGround g h × play.IsPlaced (IsBy g) Never g.cells p c h.cells
 
 -- how many stones the second board lacks of the first with its new stone
 abbrev pub IsNumberTaken : Board → Board → ℕ → Type 0
 IsNumberTaken g h n = play.IsNumberTaken g.cells h.cells n
 
--- placings of one colour, one after the other, each legal on the board that the earlier ones leave
+-- placings of one colour at points that aren't declared, one after the other, each legal on the board that the earlier ones leave
 abbrev pub Placings : Colour → Board → List ℕ → Board → Type 0
 Placings c g [] h = g ≡ h
-Placings c g (p ∷ ps) h = (m : Board) × IsPlaced g p c m × Placings c m ps h
+Placings c g (p ∷ ps) h = IsUndeclared g p × ((m : Board) × IsPlaced g p c m × Placings c m ps h)
 
--- after every list of placings of the other colour the stone still stands
+-- after every list of such placings of the other colour the stone still stands
 abbrev pub Stands : Board → Colour → ℕ → Type 0
 Stands g c s = (ps : List ℕ) (h : Board) → Placings (other c) g ps h → HasStone h c s
 

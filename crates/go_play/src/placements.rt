@@ -5,7 +5,7 @@ ghost use Rattle.go_grid.specs.Board.{Board, IsEmpty, other, stone};
 ghost use Rattle.go_grid.specs.Marks.{IsMarked, Marks};
 ghost use Rattle.go_grid.specs.declared.grid.Cell.{Cell};
 ghost use Rattle.go_grid.specs.Play.{IsWithout};
-ghost use Rattle.go_play.specs.Place.{Breathes, IsCleared, IsSameSize, IsTaken, PlacesStone};
+ghost use Rattle.go_play.specs.Place.{Breathes, IsCleared, IsSameGround, IsTaken, PlacesStone};
 ghost use Rattle.go_play.specs.inner.Place.{with_stone};
 ghost use Rattle.go_play.specs.inner.Tried.{IsTried, IsLost, Judges};
 
@@ -113,7 +113,7 @@ fn judge(board: &Board, point: Point, colour: Colour) -> Result<Points, PlaceErr
 
 /// Empties the points of a set.
 fn take_off(board: &mut Board, points: &Points)
-    ensures size { IsSameSize board.old board.new }
+    ensures ground { IsSameGround board.old board.new }
     ensures cells { IsWithout board.old.cells (IsMarked points.now) board.new.cells }
 {
     for number in 0..board.size().area() {

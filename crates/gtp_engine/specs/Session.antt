@@ -43,7 +43,7 @@ pub record Table : Type 0 where
 abbrev pub fresh : ℕ → ℕ → ℤ → Table
 fresh columns rows halves = record {
   setup = record {
-    board = record { columns = columns; rows = rows; cells = replicate (columns * rows) cell.Empty };
+    board = record { columns = columns; rows = rows; cells = replicate (columns * rows) cell.Empty; declared = [] };
     black_prisoners = 0;
     white_prisoners = 0;
     komi_halves = halves;

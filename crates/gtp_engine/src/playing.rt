@@ -6,6 +6,7 @@ ghost use Rattle.endgame_solver.specs.Faults.{most_steps};
 ghost use Rattle.go_grid.specs.Region.{Region};
 ghost use Rattle.region_cut.specs.Cut.{AreRegionsOfPlay};
 ghost use Rattle.sgf_go.specs.Position.{IsFit};
+ghost use Rattle.whole_rules.specs.Opening.{MayTax};
 ghost use Rattle.gtp_engine.specs.inner.Playing.{IsActed, IsFault, IsOpened};
 
 use crate::moves::{Wanted, find_move, write_move};
@@ -47,6 +48,7 @@ pub(crate) fn open<L: Ledger>(
     steps: &mut Steps<L>,
 ) -> Result<Option<Solved>, AllocError>
     requires fit { IsFit setup.now }
+    requires taxed { MayTax limits.now.tax setup.now.board }
     requires positions { limits.now.positions ≤ MOST_POSITIONS }
     ensures opened { IfOk result (IsOpened limits.now setup.now) }
     ensures steps { (regions : List Region) → AreRegionsOfPlay setup.now.board regions

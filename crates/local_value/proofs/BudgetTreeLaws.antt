@@ -34,7 +34,7 @@ with_budget j cells = record { cells = cells; budget = j }
 abbrev pub enough : List Cell → ℕ → ℕ
 enough cells j = (j + 1) * 3 ^ length cells
 
-colour_or_not : (c d : Colour) → Decided (c ≡ d)
+pub colour_or_not : (c d : Colour) → Decided (c ≡ d)
 colour_or_not Black Black = inl refl
 colour_or_not White White = inl refl
 colour_or_not Black White = inr (λ e. cc)
@@ -129,10 +129,10 @@ module _ (touch : List Touch) (owner : Colour) where
     | inr k ↦ with_step-later c from j x (uses_or_not c from x.to) (with_steps c from j xs) z (with_steps-in c from j xs z k a)
   ]
 
-  budget_moves : Colour → Budgeted → List (Step Budgeted)
+  pub budget_moves : Colour → Budgeted → List (Step Budgeted)
   budget_moves c p = with_steps c p.cells p.budget (steps touch p.cells c (List Cell) (λ y. y))
 
-  are_listed : (c : Colour) (p : Budgeted) (z : Step Budgeted) → Contains (budget_moves c p) z ↔ BudgetMove c p z
+  pub are_listed : (c : Colour) (p : Budgeted) (z : Step Budgeted) → Contains (budget_moves c p) z ↔ BudgetMove c p z
   unfolding budget_moves
   are_listed c p z = (
     λ h.

@@ -1,12 +1,14 @@
 -- Layers of values: the edges that are followed, one pass over the places, and when two layers are alike.
-use Rattle.std.proofs.Common.{ℕ, ◌+◌, ◌≡◌, ◌<◌, ◌≤◌, ◌⊎◌, inl, inr, sym, ap, subst, arith, List, [], ◌∷◌, ◌++◌, length, get_or, take, Bool, Option, None, Some, Contains}
+use Rattle.std.proofs.Common.{ℕ, ◌+◌, ◌-◌, ◌≡◌, ◌<◌, ◌≤◌, ◌⊎◌, ◌==◌, inl, inr, refl, sym, ◌∙◌, ap, subst, arith, List, [], ◌∷◌, ◌++◌, length, get_or, take, Bool, true, false, not, Option, None, Some, Contains}
+use Rattle.std.proofs.lemmas.Bool.{true≢false, cases_lt, eq-eqb, eqb-true}
 use Rattle.std.proofs.lemmas.Option.{same_Some}
 use Rattle.std.proofs.lemmas.List.{take_all, take_more}
 use Rattle.std.proofs.lemmas.List.Elements.{Contains-append_left, Contains-push, Contains-push_cases}
 use Rattle.go_grid.specs.declared.grid.Colour.{Colour}
 use Rattle.local_graph.specs.declared.graph.Edge.{Edge}
 use Rattle.local_graph.specs.inner.Graph.{no_edge}
-use Rattle.local_value.specs.inner.Layers.{IsFollowed, AreFollowed}
+use Rattle.local_graph.specs.ReturnGraph.{IsReturningCaptureAt}
+use Rattle.local_value.specs.inner.Layers.{IsFollowed, AreFollowed, IsBudgetLeft}
 
 -- Edges that are followed.
 
@@ -53,3 +55,19 @@ module _ {owner : Colour} {components : Option (List ℕ)} {i count : ℕ} {budg
   pub followed-done : (es fs : List Edge) (k : ℕ) → AreFollowed owner components i count budget (take k es) fs → length es ≤ k
       → AreFollowed owner components i count budget es fs
   followed-done es fs k w le = subst (λ xs. AreFollowed owner components i count budget xs fs) (take_all k es le) w
+
+-- edges of which none is a returning capture by the owner are followed as they are
+pub all-followed : {owner : Colour} {components : Option (List ℕ)} {i count : ℕ} {budget : Bool} (es : List Edge)
+    → ((e : Edge) → Contains es e → ¬ IsReturningCaptureAt owner components i e) → AreFollowed owner components i count budget es es
+all-followed es none = record {
+  from = λ f h. (f, h, inl (none f h, refl));
+  to = λ e h. (Some e, inl (none e h, refl), λ f same. subst (Contains es) (same_Some e f same) h);
+}
+
+-- a list of layers is empty, or there is a budget less
+pub left-of : (b : Bool) (n : ℕ) → b ≡ (n == 0) → IsBudgetLeft (not b) n
+left-of true n e = eqb-true n 0 (sym e)
+left-of false n e = elim (cases_lt 0 n) [
+  | inl lt ↦ (n - 1, omega (arith, lt))
+  | inr le ↦ absurd (true≢false (sym (eq-eqb n 0 (omega (arith, le))) ∙ sym e))
+]

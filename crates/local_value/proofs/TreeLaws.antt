@@ -194,17 +194,17 @@ module _ (P : Type 0) (IsMove : Colour → P → Step P → Type 0) (moves : Col
     ),
   )
 
--- A game each of whose positions stands for a local one: its listed moves are the local moves, both ways.
-module _ (P : Type 0) (touch : List Touch) (moves : Colour → P → List (Step P)) (Stands : P → List Cell → Type 0)
-    (out : (p : P) (cells : List Cell) (c : Colour) (x : Step P) → Stands p cells → Contains (moves c p) x
-    → (y : Step (List Cell)) × IsStep touch c cells y × (y.taken ≡ x.taken) × Stands x.to y.to)
-    (back : (p : P) (cells : List Cell) (c : Colour) (y : Step (List Cell)) → Stands p cells → IsStep touch c cells y
+-- A game each of whose positions stands for one of another: its listed moves are that one's moves, both ways.
+module _ (P Q : Type 0) (IsMove : Colour → Q → Step Q → Type 0) (moves : Colour → P → List (Step P)) (Stands : P → Q → Type 0)
+    (out : (p : P) (cells : Q) (c : Colour) (x : Step P) → Stands p cells → Contains (moves c p) x
+    → (y : Step Q) × IsMove c cells y × (y.taken ≡ x.taken) × Stands x.to y.to)
+    (back : (p : P) (cells : Q) (c : Colour) (y : Step Q) → Stands p cells → IsMove c cells y
     → (x : Step P) × Contains (moves c p) x × (x.taken ≡ y.taken) × Stands x.to y.to) where
   abbrev tree : ℕ → P → Tree
   tree n p = tree_within P moves n p
 
-  -- the tree over its moves is a tree of the local position
-  stands_tree : (n : ℕ) (p : P) (cells : List Cell) → Stands p cells → IsTreeOf touch n cells (tree_within P moves n p)
+  -- the tree over its moves is a tree of the position that it stands for
+  pub stands_tree : (n : ℕ) (p : P) (cells : Q) → Stands p cells → IsTree Q IsMove n cells (tree_within P moves n p)
   unfolding tree_within
   stands_tree zero p cells s = refl
   stands_tree (suc n) p cells s = λ c. (
@@ -222,25 +222,25 @@ module _ (P : Type 0) (touch : List Touch) (moves : Colour → P → List (Step 
   )
 
   -- a play of the game is one of positions
-  stands_play : (p : P) (cells : List Cell) (qs : List P) → Stands p cells → IsPlay P (StepsTo P moves) p qs
-      → (cs : List (List Cell)) × IsPlay (List Cell) (MovesTo touch) cells cs × (length cs ≡ length qs)
+  stands_play : (p : P) (cells : Q) (qs : List P) → Stands p cells → IsPlay P (StepsTo P moves) p qs
+      → (cs : List Q) × IsPlay Q (Moves Q IsMove) cells cs × (length cs ≡ length qs)
   stands_play p cells [] s w = ([], w, refl)
   stands_play p cells (q ∷ qs) s ((c, (x, among, at)), w) =
       let y = out p cells c x s among in
       let rest = stands_play q y.0.to qs (subst (λ z. Stands z y.0.to) at y.3) w in
       (y.0.to ∷ rest.0, ((c, (y.0.taken, y.1)), rest.1), ap suc rest.2)
 
-  stands_end : (n : ℕ) (p : P) (cells : List Cell) → Stands p cells → PlaysAreShort (List Cell) (MovesTo touch) n cells
+  pub stands_end : (n : ℕ) (p : P) (cells : Q) → Stands p cells → PlaysAreShort Q (Moves Q IsMove) n cells
       → EndsWithin P (StepsTo P moves) n p
   stands_end n p cells s short = short-ends P (StepsTo P moves) n p (λ qs w.
       let q = stands_play p cells qs s w in
       omega (arith, short q.0 q.1, q.2))
 
   -- a tree of a position is as good as that over its listed moves
-  stands_same : (n m : ℕ) (p : P) (cells : List Cell) (G : Tree) → Stands p cells → PlaysAreShort (List Cell) (MovesTo touch) m cells
-      → PlaysAreShort (List Cell) (MovesTo touch) n cells → IsTreeOf touch m cells G → G ≡ᵍ tree_within P moves n p
+  pub stands_same : (n m : ℕ) (p : P) (cells : Q) (G : Tree) → Stands p cells → PlaysAreShort Q (Moves Q IsMove) m cells
+      → PlaysAreShort Q (Moves Q IsMove) n cells → IsTree Q IsMove m cells G → G ≡ᵍ tree_within P moves n p
   stands_same n m p cells G s short shorter of_position =
-      depths-agree (List Cell) (IsStep touch) m n cells G (tree n p) short shorter of_position (stands_tree n p cells s)
+      depths-agree Q IsMove m n cells G (tree n p) short shorter of_position (stands_tree n p cells s)
 
 -- Positions as the positions of a game: `to` makes one of a local position of at most so many places.
 module _ (P : Type 0) (touch : List Touch) (most : ℕ) (to : List Cell → P) (moves : Colour → P → List (Step P))
@@ -275,16 +275,16 @@ module _ (P : Type 0) (touch : List Touch) (most : ℕ) (to : List Cell → P) (
   )
 
   tree_is : (n : ℕ) (cells : List Cell) → length cells ≤ most → IsTreeOf touch n cells (tree_within P moves n (to cells))
-  tree_is n cells le = stands_tree P touch moves Stands cells_out cells_back n (to cells) cells (refl, le)
+  tree_is n cells le = stands_tree P (List Cell) (IsStep touch) moves Stands cells_out cells_back n (to cells) cells (refl, le)
 
   pub cells_end : (n : ℕ) (cells : List Cell) → length cells ≤ most → PlaysAreShort (List Cell) (MovesTo touch) n cells
       → EndsWithin P (StepsTo P moves) n (to cells)
-  cells_end n cells le short = stands_end P touch moves Stands cells_out cells_back n (to cells) cells (refl, le) short
+  cells_end n cells le short = stands_end P (List Cell) (IsStep touch) moves Stands cells_out cells_back n (to cells) cells (refl, le) short
 
   pub tree_as : (n m : ℕ) (cells : List Cell) (G : Tree) → length cells ≤ most → PlaysAreShort (List Cell) (MovesTo touch) m cells
       → PlaysAreShort (List Cell) (MovesTo touch) n cells → IsTreeOf touch m cells G → G ≡ᵍ tree_within P moves n (to cells)
   tree_as n m cells G le short shorter of_position =
-      stands_same P touch moves Stands cells_out cells_back n m (to cells) cells G (refl, le) short shorter of_position
+      stands_same P (List Cell) (IsStep touch) moves Stands cells_out cells_back n m (to cells) cells G (refl, le) short shorter of_position
 
 pub trees-exist : TreesExist
 trees-exist touch cells n =
@@ -320,10 +320,10 @@ module _ (P : Type 0) (to : ℕ → P) (moves : Colour → P → List (Step P)) 
 
   -- the tree over the graph is a tree of the position
   pub place_tree : (n i : ℕ) (cells : List Cell) → IsPlaceOf r g i cells → IsTreeOf r.touch n cells (tree_within P moves n (to i))
-  place_tree n i cells has = stands_tree P r.touch moves IsAtPlace place_out place_back n (to i) cells (i, refl, has)
+  place_tree n i cells has = stands_tree P (List Cell) (IsStep r.touch) moves IsAtPlace place_out place_back n (to i) cells (i, refl, has)
 
   pub place_ends : (n i : ℕ) (cells : List Cell) → IsPlaceOf r g i cells → 3 ^ length r.cells ≤ n → EndsWithin P (StepsTo P moves) n (to i)
-  place_ends n i cells has le = stands_end P r.touch moves IsAtPlace place_out place_back n (to i) cells (i, refl, has)
+  place_ends n i cells has le = stands_end P (List Cell) (IsStep r.touch) moves IsAtPlace place_out place_back n (to i) cells (i, refl, has)
       (λ qs w. let most = short_plays r.touch r.cells of.no_cycle cells has.reachable qs w in omega (arith, most, le))
 
   -- a tree of a position is as good as that of its place, cut off at any depth that is long enough
@@ -334,4 +334,4 @@ module _ (P : Type 0) (to : ℕ → P) (moves : Colour → P → List (Step P)) 
       let short = short_plays r.touch r.cells of.no_cycle cells has.reachable in
       let short' : PlaysAreShort (List Cell) (MovesTo r.touch) (3 ^ length cells) cells = λ qs w. omega (arith, short qs w, ap (λ m. 3 ^ m) long) in
       let shorter : PlaysAreShort (List Cell) (MovesTo r.touch) n cells = λ qs w. omega (arith, short qs w, deep) in
-      stands_same P r.touch moves IsAtPlace place_out place_back n (3 ^ length cells) (to i) cells G (i, refl, has) short' shorter of_position
+      stands_same P (List Cell) (IsStep r.touch) moves IsAtPlace place_out place_back n (3 ^ length cells) (to i) cells G (i, refl, has) short' shorter of_position

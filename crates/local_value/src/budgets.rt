@@ -1,14 +1,20 @@
 //! The values of all positions of a graph in which one colour has a budget of captures that return.
 
-ghost use Rattle.std.specs.Prelude.{ℕ, ◌≡◌, ◌↔◌, ◌<◌, ◌≤◌, List, true, length, take, slice_index_or, [], IfOk, IfErr, OnOk, Contains};
+ghost use Rattle.std.specs.Prelude.{ℕ, ◌≡◌, ◌↔◌, ◌+◌, ◌-◌, ◌<◌, ◌≤◌, ◌^◌, ◌⊎◌, List, true, false, length, take, slice_index_or, [], ◌∷◌, ◌++◌, IfOk, IfErr, IfSome, IsTrue, OnOk, Contains};
 ghost use Rattle.go_grid.specs.Region.{Region};
 ghost use Rattle.local_graph.specs.declared.graph.Edge.{Edge as EdgeModel};
+ghost use Rattle.local_graph.specs.ReturnGraph.{IsReturningCaptureAt};
+ghost use Rattle.short_games.specs.Tree.{Tree};
 ghost use Rattle.game_store.specs.Meaning.{Extends};
+ghost use Rattle.game_canon.specs.Outcomes.{IsCause};
+ghost use Rattle.local_value.specs.declared.budgets.BudgetError.TheVariants.{Form};
 ghost use Rattle.local_value.specs.BudgetValues.{IsReturnGraphOf, AreWithinLimits, IsPastLimits, Valued};
-ghost use Rattle.local_value.specs.inner.Layers.{IsFollowed, AreFollowed, IsLayer, IsLayerBefore};
+ghost use Rattle.local_value.specs.inner.Layers.{IsFollowed, AreFollowed, IsLayer, AreLayers, IsBudgetLeft, IsLayerBack, IsRoom, IsUnchanged, IsKept, IsMade};
 ghost use Rattle.local_value.specs.inner.Memo.{IsMemoRight};
+ghost use Rattle.local_value.specs.inner.Valuing.{IsNoted, AreWithinAfter, HasEdges, most_units};
 
 use crate::memo::Memo;
+use crate::steady_values::SteadyValues;
 use crate::values::{Values, value_of};
 use game_canon::FormError;
 use game_store::{GameId, Store};
@@ -16,21 +22,20 @@ use go_grid::Colour;
 use local_graph::{Edge, MOST_POSITIONS, ReturnGraph};
 use std::alloc::{AllocError, Global};
 
-/// The values of all positions with the least budget at which the region is steady.
-#[derive(Drop)]
-pub struct SteadyValues {
-    /// How many returning captures the colour may make.
-    pub budget: u16,
-    /// By place.
-    pub values: Values,
-}
-
 /// Why there are no values: one that is needed has no form within the limits, or the region isn't steady at any budget up to
 /// the most.
 #[derive(Clone, Copy, Debug, PartialEq, Eq)]
 pub enum BudgetError {
     Form(FormError),
     Captures,
+}
+
+impl From<FormError> for BudgetError {
+    ghost from_gives = { λ cause e. e ≡ Form cause };
+
+    fn from(cause: FormError) -> Self {
+        BudgetError::Form(cause)
+    }
 }
 
 /// The edge of a place as it is followed in a layer, if it may be.
@@ -61,71 +66,251 @@ fn followed(
     })
 }
 
-/// The edges of a place as they are followed in a layer.
-fn followed_edges(
-    alloc: Global,
+/// Whether a move of the position at a place is a capture by the owner that returns.
+fn has_returning_capture(graph: &ReturnGraph, owner: Colour, place: usize) -> bool
+    requires place { place < length graph.now.positions }
+    requires next { (e : EdgeModel) → Contains (slice_index_or graph.now.edges place []) e
+        → e.next < length graph.now.positions }
+    ensures { result ≡ false → (e : EdgeModel)
+        → Contains (slice_index_or graph.now.edges place []) e
+        → ¬ IsReturningCaptureAt owner graph.now.components place e }
+{
+    if !graph.has_cycle() {
+        return false;
+    }
+    for edge in graph.graph().edges(place) {
+        if graph.is_returning_capture(place, edge, owner) {
+            return true;
+        }
+    }
+    false
+}
+
+/// Puts the edges of a place into `edges`, as they are followed in a layer.
+fn list_followed(
     graph: &ReturnGraph,
     owner: Colour,
     place: usize,
     has_budget: bool,
-) -> Result<Vec<Edge>, AllocError>
+    edges: &mut Vec<Edge>,
+) -> Result<(), AllocError>
     requires few { length graph.now.positions ≤ MOST_POSITIONS }
     requires place { place < length graph.now.positions }
     requires next { (e : EdgeModel) → Contains (slice_index_or graph.now.edges place []) e
         → e.next < length graph.now.positions }
-    ensures { IfOk result (λ edges. AreFollowed owner graph.now.components place
+    ensures { OnOk result (AreFollowed owner graph.now.components place
         (length graph.now.positions) has_budget (slice_index_or graph.now.edges place [])
-        edges.items) }
+        edges.new.items) }
 {
-    let mut edges = Vec::new(alloc);
+    edges.clear();
     for edge in graph.graph().edges(place) {
         match followed(graph, owner, place, has_budget, edge) {
             Some(edge) => edges.push(edge)?,
             None => {}
         }
     }
-    Ok(edges)
+    Ok(())
 }
 
-/// The values of all positions with a budget, by place, where those with one less are given; without one none are.
+/// The edges of a place as they are followed in a layer: the graph's own, where none of them is a returning capture by the owner,
+/// and else in the room that is lent.
+fn followed_edges<'a>(
+    graph: &'a ReturnGraph,
+    owner: Colour,
+    place: usize,
+    has_budget: bool,
+    room: &'a mut Vec<Edge>,
+) -> Result<&'a [Edge], AllocError>
+    requires few { length graph.now.positions ≤ MOST_POSITIONS }
+    requires place { place < length graph.now.positions }
+    requires next { (e : EdgeModel) → Contains (slice_index_or graph.now.edges place []) e
+        → e.next < length graph.now.positions }
+    ensures { IfOk result (λ edges. AreFollowed owner graph.now.components place
+        (length graph.now.positions) has_budget (slice_index_or graph.now.edges place [])
+        edges.now) }
+{
+    if !has_returning_capture(graph, owner, place) {
+        return Ok(graph.graph().edges(place));
+    }
+    list_followed(graph, owner, place, has_budget, room)?;
+    Ok(room)
+}
+
+/// Whether there is a layer.
+fn has_layer(layers: &[Values]) -> bool
+    ensures { IsBudgetLeft result (length layers.now) }
+{
+    !layers.is_empty()
+}
+
+/// Appends the layer that stands so far from the end, if there is one.
+fn append_layer(ids: &mut Vec<GameId>, layers: &[Values], back: usize) -> Result<(), AllocError>
+    requires { 0 < back }
+    ensures { OnOk result ((layer : List ℕ) × IsLayerBack layers.now back layer
+        × (ids.new.items ≡ ids.old.items ++ layer)) }
+{
+    if back > layers.len() {
+        return Ok(());
+    }
+    ids.extend_from_slice(layers[layers.len() - back].as_slice())?;
+    Ok(())
+}
+
+/// Room for a layer, and behind it the last two, the later one first.
+fn room(alloc: Global, count: usize, layers: &[Values]) -> Result<Vec<GameId>, AllocError>
+    ensures { IfOk result (λ ids. IsRoom count layers.now ids.items) }
+{
+    let mut ids = vec![in alloc; 0; count]?;
+    append_layer(&mut ids, layers, 1)?;
+    append_layer(&mut ids, layers, 2)?;
+    Ok(ids)
+}
+
+/// Whether the id behind an edge is as it was one layer before.
+fn is_unchanged(ids: &[GameId], count: usize, edge: &Edge) -> bool
+    requires next { edge.now.next < length ids.now }
+    requires few { length ids.now + count < 2 ^ 64 }
+    ensures { IsTrue result → IsUnchanged count ids.now edge.now }
+{
+    ids.get(edge.next + count) == Some(&ids[edge.next])
+}
+
+/// Whether the id behind each edge is as it was one layer before.
+fn are_unchanged(ids: &[GameId], count: usize, edges: &[Edge]) -> bool
+    requires next { (f : EdgeModel) → Contains edges.now f → f.next < length ids.now }
+    requires few { length ids.now + count < 2 ^ 64 }
+    ensures { IsTrue result → (f : EdgeModel) → Contains edges.now f → IsUnchanged count ids.now f }
+{
+    for edge in edges {
+        if !is_unchanged(ids, count, edge) {
+            return false;
+        }
+    }
+    true
+}
+
+/// The id of a place one layer before, where nothing behind its edges changed.
+fn kept_id(ids: &[GameId], count: usize, place: usize, edges: &[Edge]) -> Option<GameId>
+    requires next { (f : EdgeModel) → Contains edges.now f → f.next < length ids.now }
+    requires place { place < length ids.now }
+    requires few { length ids.now + count < 2 ^ 64 }
+    ensures { IfSome result (λ id. IsKept count ids.now place edges.now id) }
+{
+    if place + count < ids.len() && are_unchanged(ids, count, edges) {
+        return Some(ids[place + count]);
+    }
+    None
+}
+
+/// The id of a place: that of one layer before where nothing behind its edges changed, else that of the value with these edges.
+fn id_of(
+    alloc: Global,
+    store: &mut Store,
+    memo: &mut Memo,
+    ids: &[GameId],
+    count: usize,
+    place: usize,
+    edges: &[Edge],
+    parts_limit: u32,
+) -> Result<GameId, FormError>
+    requires noted { (e : EdgeModel) → Contains edges.now e → IsNoted store.old ids.now e.next }
+    requires small { AreWithinAfter most_units store.old ids.now edges.now }
+    requires place { place < length ids.now }
+    requires few { length ids.now + count < 2 ^ 64 }
+    requires memo { IsMemoRight store.old parts_limit memo.old }
+    ensures id { IfOk result (λ id. IsKept count ids.now place edges.now id
+        ⊎ IsMade store.old store.new ids.now parts_limit edges.now id) }
+    ensures refusal { IfErr result (λ error. (G : Tree) → HasEdges store.old ids.now edges.now G
+        → IsCause G parts_limit error) }
+    ensures memo { OnOk result (IsMemoRight store.new parts_limit memo.new) }
+    ensures kept { Extends store.old store.new }
+{
+    if let Some(id) = kept_id(ids, count, place, edges) {
+        return Ok(id);
+    }
+    value_of(alloc, store, memo, ids, edges, parts_limit)
+}
+
+/// The values of all positions with a budget, by place, where those with each smaller one are given.
 fn layer(
     alloc: Global,
     graph: &ReturnGraph,
     owner: Colour,
     store: &mut Store,
     memo: &mut Memo,
-    before: &[GameId],
-    has_budget: bool,
+    layers: &[Values],
     parts_limit: u32,
-) -> Result<Vec<GameId>, FormError>
-    requires graph { (r : Region) × (budget : ℕ) × IsReturnGraphOf r graph.now × (budget ≤ 256)
-        × IsLayerBefore r graph.now owner parts_limit budget has_budget store.old before.now }
+) -> Result<Values, FormError>
+    requires graph { (r : Region) × IsReturnGraphOf r graph.now
+        × AreLayers r graph.now owner parts_limit store.old layers.now }
     requires few { length graph.now.positions ≤ MOST_POSITIONS }
+    requires low { length layers.now ≤ 256 }
     requires memo { IsMemoRight store.old parts_limit memo.old }
-    ensures layer { IfOk result (λ ids. (r : Region) (budget : ℕ) → IsReturnGraphOf r graph.now
-        → IsLayerBefore r graph.now owner parts_limit budget has_budget store.old before.now
-        → IsLayer r graph.now owner parts_limit budget store.new ids.items) }
-    ensures limits { IfOk result (λ ids. (r : Region) (budget : ℕ) → IsReturnGraphOf r graph.now
-        → IsLayerBefore r graph.now owner parts_limit budget has_budget store.old before.now
-        → AreWithinLimits r graph.now owner parts_limit budget) }
-    ensures refusal { IfErr result (λ error. (r : Region) (budget : ℕ)
-        → IsReturnGraphOf r graph.now
-        → IsLayerBefore r graph.now owner parts_limit budget has_budget store.old before.now
-        → IsPastLimits r graph.now owner parts_limit budget error) }
+    ensures layer { IfOk result (λ ids. (r : Region) → IsReturnGraphOf r graph.now
+        → AreLayers r graph.now owner parts_limit store.old layers.now
+        → IsLayer r graph.now owner parts_limit (length layers.now) store.new ids) }
+    ensures limits { IfOk result (λ ids. (r : Region) → IsReturnGraphOf r graph.now
+        → AreLayers r graph.now owner parts_limit store.old layers.now
+        → AreWithinLimits r graph.now owner parts_limit (length layers.now)) }
+    ensures refusal { IfErr result (λ error. (r : Region) → IsReturnGraphOf r graph.now
+        → AreLayers r graph.now owner parts_limit store.old layers.now
+        → IsPastLimits r graph.now owner parts_limit (length layers.now) error) }
     ensures memo { OnOk result (IsMemoRight store.new parts_limit memo.new) }
     ensures kept { Extends store.old store.new }
 {
     let count = graph.graph().len();
-    let mut ids = vec![in alloc; 0; count]?;
-    ids.extend_from_slice(before)?;
+    let has_budget = has_layer(layers);
+    let mut ids = room(alloc, count, layers)?;
+    let mut followed = Vec::new(alloc);
     'valuing: for place in graph.order(owner) {
-        let edges = followed_edges(alloc, graph, owner, *place, has_budget)?;
-        let id = value_of(alloc, store, memo, &ids, &edges, parts_limit)?;
+        let edges = followed_edges(graph, owner, *place, has_budget, &mut followed)?;
+        let id = id_of(alloc, store, memo, &ids, count, *place, edges, parts_limit)?;
         ids[*place] = id;
     }
     ids.truncate(count);
+    ids.shrink_to_fit();
     let _count = store.len();
-    Ok(ids)
+    Ok(Values::from(ids))
+}
+
+/// Puts a layer behind the others.
+fn append(layers: &mut Vec<Values>, layer: Values) -> Result<(), AllocError>
+    ensures { OnOk result (layers.new.items ≡ layers.old.items ++ layer ∷ []) }
+{
+    Ok(layers.push(layer)?)
+}
+
+/// Works out one layer more: the values with a budget more.
+fn add_layer(
+    alloc: Global,
+    graph: &ReturnGraph,
+    owner: Colour,
+    store: &mut Store,
+    memo: &mut Memo,
+    layers: &mut Vec<Values>,
+    parts_limit: u32,
+) -> Result<(), FormError>
+    requires graph { (r : Region) × IsReturnGraphOf r graph.now
+        × AreLayers r graph.now owner parts_limit store.old layers.old.items }
+    requires few { length graph.now.positions ≤ MOST_POSITIONS }
+    requires low { length layers.old.items ≤ 256 }
+    requires memo { IsMemoRight store.old parts_limit memo.old }
+    ensures layers { OnOk result ((r : Region) → IsReturnGraphOf r graph.now
+        → AreLayers r graph.now owner parts_limit store.old layers.old.items
+        → AreLayers r graph.now owner parts_limit store.new layers.new.items) }
+    ensures many { OnOk result (length layers.new.items ≡ length layers.old.items + 1) }
+    ensures limits { OnOk result ((r : Region) → IsReturnGraphOf r graph.now
+        → AreLayers r graph.now owner parts_limit store.old layers.old.items
+        → AreWithinLimits r graph.now owner parts_limit (length layers.old.items)) }
+    ensures refusal { IfErr result (λ error. (r : Region) → IsReturnGraphOf r graph.now
+        → AreLayers r graph.now owner parts_limit store.old layers.old.items
+        → IsPastLimits r graph.now owner parts_limit (length layers.old.items) error) }
+    ensures memo { OnOk result (IsMemoRight store.new parts_limit memo.new) }
+    ensures kept { Extends store.old store.new }
+{
+    let layer = layer(alloc, graph, owner, store, memo, layers, parts_limit)?;
+    append(layers, layer)?;
+    Ok(())
 }
 
 /// Whether two layers are the same.
@@ -135,8 +320,18 @@ fn are_same(ids: &[GameId], others: &[GameId]) -> bool
     ids == others
 }
 
-/// The values of all positions of a graph with the least budget of returning captures for a colour at which one more changes
-/// nothing. The budget is at most `most`. `Form` where a value that is needed to tell has more than `parts_limit` parts, or a
+/// Whether the last layer is as the one before it.
+fn is_last_repeated(layers: &[Values]) -> bool
+    requires { 2 ≤ length layers.now }
+    ensures { (result ≡ true) ↔ (slice_index_or layers.now (length layers.now - 2) []
+        ≡ slice_index_or layers.now (length layers.now - 1) []) }
+{
+    let last = layers.len() - 1;
+    are_same(layers[last - 1].as_slice(), layers[last].as_slice())
+}
+
+/// The values of all positions of a graph with each budget of returning captures for a colour up to the least at which one more
+/// changes nothing. That is at most `most`. `Form` where a value that is needed to tell has more than `parts_limit` parts, or a
 /// number past the bounds of a `Dyadic`; else `Captures` where there is no such budget. Every id of the store keeps its form,
 /// whatever the answer.
 pub fn value_steady(
@@ -154,41 +349,34 @@ pub fn value_steady(
     ensures kept { Extends store.old store.new }
 {
     let mut memo = Memo::new(alloc);
-    let mut ids = match layer(
+    let mut layers = Vec::new(alloc);
+    add_layer(
         alloc,
         graph,
         owner,
         store,
         &mut memo,
-        &[],
-        false,
+        &mut layers,
         parts_limit,
-    ) {
-        Ok(ids) => ids,
-        Err(error) => return Err(BudgetError::Form(error)),
-    };
+    )?;
+    if !graph.has_cycle() {
+        return Ok(SteadyValues::new(layers));
+    }
     'layers: for budget in 0..u16::from(most) + 1 {
-        let next = match layer(
+        add_layer(
             alloc,
             graph,
             owner,
             store,
             &mut memo,
-            &ids,
-            true,
+            &mut layers,
             parts_limit,
-        ) {
-            Ok(next) => next,
-            Err(error) => return Err(BudgetError::Form(error)),
-        };
+        )?;
         let _count = store.len();
-        if are_same(&ids, &next) {
-            return Ok(SteadyValues {
-                budget,
-                values: Values::from(ids),
-            });
+        if is_last_repeated(&layers) {
+            layers.truncate(usize::from(budget) + 1);
+            return Ok(SteadyValues::new(layers));
         }
-        ids = next;
     }
     Err(BudgetError::Captures)
 }

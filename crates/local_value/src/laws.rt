@@ -2,6 +2,7 @@
 
 ghost use Rattle.local_value.specs.Laws.{DepthIsFree, OneTree, TreesExist};
 ghost use Rattle.local_value.specs.BudgetLaws.{BudgetTreesExist, OneBudgetTree, BudgetDepthIsEnough, SteadyStays, BudgetsNeedCycles, ExchangeNegates};
+ghost use Rattle.local_value.specs.BudgetValues.{LayersServe};
 
 /// A local position has a tree of each depth, which is one as a game, and its depth doesn't matter once no play is longer.
 pub fn position_tree_laws()
@@ -20,4 +21,9 @@ pub fn budget_tree_laws()
     ensures steady { SteadyStays }
     ensures acyclic { BudgetsNeedCycles }
     ensures exchanged { ExchangeNegates }
+{}
+
+/// The layers of steady values serve each budget: a greater one than the last layer's has that layer's values. It has no code.
+pub fn steady_values_laws()
+    ensures { LayersServe }
 {}

@@ -4,8 +4,10 @@
 mod budgets;
 mod laws;
 mod memo;
+mod steady_values;
 mod values;
 
-pub use budgets::{BudgetError, SteadyValues, value_steady};
-pub use laws::{budget_tree_laws, position_tree_laws};
+pub use budgets::{BudgetError, value_steady};
+pub use laws::{budget_tree_laws, position_tree_laws, steady_values_laws};
+pub use steady_values::SteadyValues;
 pub use values::{Values, value_all};

@@ -1,4 +1,4 @@
-//! What `board`, `margin` and `moves` write.
+//! What `board`, `margin`, `moves` and `line` write.
 
 use crate::runs::{COPY, Row, first_wrong};
 use endgame_run::Status;
@@ -38,8 +38,25 @@ const HALF_MOVES: &str = "side white\nkomi 0.5\nwinner white\nspend loses\nhalf 
 const LONG_MOVES: &str = "side black\nkomi -1.5\nwinner black\nstone eb wins 0\nstone fb wins 0.5\n\
     stone gb wins 2\nspend wins\nhalf wins\n";
 
+/// In a tie no region is hot.
+const TIE_LINE: &str = "side black\nkomi 0\nwinner white\nthreshold -0.5\nline 0\n";
+
+const CORRIDOR_LINE: &str = "side black\nkomi -0.5\nwinner black\nthreshold 1\nline 1 black:fb\n";
+
+/// White goes in, and Black closes.
+const WHITE_LINE: &str =
+    "side white\nkomi 0\nwinner black\nthreshold 0\nline 2 white:fb black:eb\n";
+
+const LONG_LINE: &str =
+    "side white\nkomi 6.5\nwinner white\nthreshold 1\nline 2 white:gb black:fb\n";
+
+/// A neutral point is hot.
+const NEUTRAL_LINE: &str = "side black\nkomi 0\nwinner black\nthreshold 0\nline 1 black:ea\n";
+
+const COPY_LINE: &str = "side white\nkomi 6.5\nwinner white\nthreshold 0.5\nline 1 white:ea\n";
+
 /// Files of the shelf, and one of the source.
-const RUNS: [Row; 20] = [
+const RUNS: [Row; 30] = [
     ("board~a", b"", Status::Done, TIE_BOARD),
     ("board~-", COPY, Status::Done, COPY_BOARD),
     (
@@ -100,10 +117,45 @@ const RUNS: [Row; 20] = [
         "fault cycle eb 1 black:fb white:eb black:fb\n",
     ),
     ("moves~a~--as~black", b"", Status::Usage, "fault usage\n"),
+    ("line~a", b"", Status::Done, TIE_LINE),
+    ("line~d~--komi~-0.5", b"", Status::Done, CORRIDOR_LINE),
+    ("line~d~--turn~white", b"", Status::Done, WHITE_LINE),
+    (
+        "line~f~--turn~white~--komi~6.5",
+        b"",
+        Status::Done,
+        LONG_LINE,
+    ),
+    (
+        "line~c~--black-prisoners~5~--white-prisoners~5",
+        b"",
+        Status::Done,
+        NEUTRAL_LINE,
+    ),
+    ("line~-", COPY, Status::Done, COPY_LINE),
+    (
+        "line~d~--positions~7",
+        b"",
+        Status::RegionLimit,
+        "fault region eb positions over 7\n",
+    ),
+    (
+        "line~d~--parts~1",
+        b"",
+        Status::FormLimit,
+        "fault form eb\n",
+    ),
+    (
+        "line~e",
+        b"",
+        Status::Cycle,
+        "fault cycle eb 1 black:fb white:eb black:fb\n",
+    ),
+    ("line~a~--as~black", b"", Status::Usage, "fault usage\n"),
 ];
 
 #[test]
-fn boards_margins_and_moves(rt: HostRuntime) -> Result<(), Fail> {
+fn boards_margins_moves_and_lines(rt: HostRuntime) -> Result<(), Fail> {
     assert_eq!(rt; first_wrong(rt.alloc(), &RUNS)?, None);
     Ok(())
 }

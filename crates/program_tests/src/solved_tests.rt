@@ -111,7 +111,7 @@ pub(crate) fn setup(alloc: Global, game: Game) -> Result<Option<Setup>, AllocErr
     }))
 }
 
-/// The solved game, or want of memory where there is no position.
+/// The solved game, or want of memory where there is no position or a tax.
 pub(crate) fn begin<L: Ledger>(
     alloc: Global,
     blank: Blank,
@@ -125,7 +125,7 @@ pub(crate) fn begin<L: Ledger>(
     let Some(setup) = setup(alloc, game)? else {
         return Err(SolveError::Memory(AllocError));
     };
-    if limits.positions > 1_000_000 {
+    if limits.positions > 1_000_000 || limits.tax {
         return Err(SolveError::Memory(AllocError));
     }
     Solved::begin(alloc, &setup, &limits, &mut Steps::<L>::new(blank))

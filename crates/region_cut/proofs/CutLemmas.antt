@@ -2,10 +2,10 @@
 use Rattle.std.proofs.Common.{ℕ, zero, suc, inl, inr, ◌≡◌, ◌+◌, ◌<◌, sym, ◌∙◌, arith, refl, subst, List, [], ◌∷◌, ◌++◌, length, get_or, Option, None, Some, below_more, ◌↔◌, ◌*◌, ◌≤◌, ◌⊎◌, Bool, true, false, Contains, AllPairs}
 use Rattle.go_grid.specs.declared.grid.Colour.{Colour}
 use Rattle.go_grid.specs.declared.grid.Colour.TheVariants as colour
-use Rattle.go_grid.specs.Board.{Board, NextTo, Lacks, cell_at, stone, IsAbove, IsLeftOf, IsThe, AreNear}
+use Rattle.go_grid.specs.Board.{Board, NextTo, IsClosedOff, Lacks, cell_at, stone, IsAbove, IsLeftOf, IsThe, AreNear}
 use Rattle.go_grid.proofs.NearLemmas.{next_back}
 use Rattle.go_grid.proofs.WalkLemmas.{joined_here, joined_step, carried, joined_back, joined_join, joined_end, marks_joined}
-use Rattle.benson_life.proofs.WallLemmas.{counted_region}
+use Rattle.benson_life.proofs.WallLemmas.{counted_lacks, counted_region, counted_walled}
 use Rattle.benson_life.specs.Life.{IsAlive, IsCounted}
 use Rattle.benson_life.specs.Region.{IsContested, InRegionOfPlay}
 use Rattle.go_grid.proofs.BoardLemmas.{same_or_not}
@@ -42,16 +42,15 @@ not_counted g colour.Black p h = h.3
 not_counted g colour.White p h = h.4
 
 -- no point next to a contested one is counted
-pub never_next_to_counted : (g : Board) (c : Colour) (p q : ℕ) → IsContested g p → NextTo g.columns p q → ¬ IsCounted g c q
-never_next_to_counted g c p q contested next counted =
-    let eye = counted.2 in
-    let here = joined_here g.columns (Lacks g c) q eye.lacks in
+pub never_next_to_counted : (g : Board) → IsClosedOff g → (c : Colour) (p q : ℕ) → IsContested g p → NextTo g.columns p q → ¬ IsCounted g c q
+never_next_to_counted g closed c p q contested next counted =
+    let here = joined_here g.columns (Lacks g c) q (counted_lacks g closed c q counted) in
     let back = next_back g.columns p q next in
     elim (same_or_not (cell_at g p) (stone c)) [
-      | inl e ↦ not_alive g c p contested (eye.walled q p here back (contested.0, e))
+      | inl e ↦ not_alive g c p contested (counted_walled g closed c q p counted back (contested.0, e))
       | inr ne ↦
           let lacks : Lacks g c p = (contested.0, ne) in
-          not_counted g c p contested (counted_region g c q p counted (joined_step g.columns (Lacks g c) q q p here back lacks))
+          not_counted g c p contested (counted_region g closed c q p counted (joined_step g.columns (Lacks g c) q q p here back lacks))
     ]
 
 -- Places of points, and lists that are made item by item.
@@ -202,9 +201,9 @@ pub true_stable : (b : Bool) → ¬ ¬ (b ≡ true) → b ≡ true
 true_stable b never = true_from_ne_false b (λ f. never (λ t. both_ways b f t))
 
 -- what stands next to the region and outside it can't but be an alive stone
-pub never_open : (g : Board) (r : Region) → IsRegionOfPlay g r → (p q : ℕ) → Contains r.points p → NextTo g.columns p q
+pub never_open : (g : Board) (r : Region) → IsClosedOff g → IsRegionOfPlay g r → (p q : ℕ) → Contains r.points p → NextTo g.columns p q
     → q < length g.cells → ¬ Contains r.points q → ¬ ((c : Colour) → ¬ IsAlive g c q)
-never_open g r play p q h next lt out dead =
+never_open g r closed play p q h next lt out dead =
     let start = lowest r in
     let from = (play.points p).0 h in
     let here = joined_end g.columns (IsContested g) start p from in
@@ -212,20 +211,20 @@ never_open g r play p q h next lt out dead =
       lt,
       dead Black,
       dead White,
-      never_next_to_counted g Black p q here next,
-      never_next_to_counted g White p q here next,
+      never_next_to_counted g closed Black p q here next,
+      never_next_to_counted g closed White p q here next,
     ) in
     out ((play.points q).1 (joined_step g.columns (IsContested g) start p q from next contested))
 
 -- it is one, which marks of the alive stones tell
 pub walled_in : (g : Board) (r : Region) (black white : List Bool) → Marks black (IsAlive g Black) → Marks white (IsAlive g White)
-    → IsRegionOfPlay g r → IsWalledIn g r
-walled_in g r black white isb isw play p q h next lt out =
+    → IsClosedOff g → IsRegionOfPlay g r → IsWalledIn g r
+walled_in g r black white isb isw closed play p q h next lt out =
     elim (cases_Bool (get_or black q false)) as (λ _. IsAlive g Black q ⊎ IsAlive g White q) [
       | inl m ↦ inl ((isb q).0 m)
       | inr nb ↦ elim (cases_Bool (get_or white q false)) as (λ _. IsAlive g Black q ⊎ IsAlive g White q) [
         | inl m ↦ inr ((isw q).0 m)
-        | inr nw ↦ absurd (never_open g r play p q h next lt out (dead nb nw))
+        | inr nw ↦ absurd (never_open g r closed play p q h next lt out (dead nb nw))
       ]
     ]
   where

@@ -20,7 +20,7 @@ use Rattle.go_grid.specs.Chain.{IsSettled}
 use Rattle.go_grid.proofs.BoardLemmas.{empty_not_stone, same_stone}
 use Rattle.go_grid.proofs.WalkLemmas.{joined_end, joined_back, joined_join}
 use Rattle.go_grid.specs.Play.{held_at, Holds, InChain, IsTaken as IsTakenBy, is_stone, with_stone as with_cell}
-use Rattle.go_play.specs.Place.{IsBy, Never, Breathes, IsSameSize, IsPlaced, IsTaken}
+use Rattle.go_play.specs.Place.{IsBy, Never, Breathes, IsSameGround, IsPlaced, IsTaken}
 use Rattle.go_play.proofs.BoardPlayLemmas.{stands_from, placed_long}
 use Rattle.benson_life.specs.Life.{IsAlive}
 use Rattle.benson_life.specs.Region.{IsContested}
@@ -131,15 +131,15 @@ holds_after g r cells next h after play holds columns full long within outside =
   local = within;
 }
 
-same_size : (h : Board) {cells : List Cell} → IsSameSize h (record h { cells = cells })
-same_size h = record { columns = refl; rows = refl }
+same_size : (h : Board) {cells : List Cell} → IsSameGround h (record h { cells = cells })
+same_size h = record { columns = refl; rows = refl; declared = refl }
 
 module _ (g : Board) (r : Region) (settled : IsSettled g) (play : IsRegionOfPlay g r) where
   abbrev at : ℕ → ℕ
   at i = get_or r.points i 0
 
   -- the board `h` holds a position, and `f` is a board of its size, whose points are next to each other in the same way
-  module _ {cells : List Cell} {h : Board} (holds : HoldsPosition g r cells h) {f : Board} (size : IsSameSize f h)
+  module _ {cells : List Cell} {h : Board} (holds : HoldsPosition g r cells h) {f : Board} (size : IsSameGround f h)
       (long : length h.cells ≡ length f.cells) where
     same_columns : r.columns ≡ f.columns
     same_columns = play.columns ∙ sym holds.walls.columns ∙ size.columns
@@ -167,7 +167,7 @@ module _ (g : Board) (r : Region) (settled : IsSettled g) (play : IsRegionOfPlay
         → ¬ ¬ ((c : Colour) × IsAlive g c y × NextTo g.columns (at k) y)
     outside k y lt next none never =
         let next' = subst (λ n. NextTo n (at k) y) (sym size.columns ∙ holds.walls.columns) next.1 in
-        never_open g r play (at k) y (Contains-get_or r.points k 0 lt) next' (omega (arith, next.0, long, holds.walls.long)) none
+        never_open g r settled.closed play (at k) y (Contains-get_or r.points k 0 lt) next' (omega (arith, next.0, long, holds.walls.long)) none
         (λ c alive. never (c, alive, next'))
 
     module _ (d : Colour) where

@@ -1,14 +1,17 @@
--- The texts of `margin` and `moves`, piece by piece.
-use Rattle.std.proofs.Common.{ℕ, ℤ, ◌≡◌, ◌↔◌, ◌+◌, ◌++◌, ◌∷◌, suc, inl, inr, refl, sym, ap, subst, ◌∙◌, arith, Bool, IsTrue, List, [], append_assoc, codes, length}
-use Rattle.std.proofs.lemmas.List.{append-nil}
+-- The texts of `margin`, `moves` and `line`, piece by piece.
+use Rattle.std.proofs.Common.{ℕ, ℤ, ◌≡◌, ◌↔◌, ◌+◌, ◌<◌, ◌≤◌, ◌++◌, ◌∷◌, suc, inl, inr, refl, sym, ap, subst, ◌∙◌, arith, Bool, IsTrue, List, [], append_assoc, codes, drop, get_or, length}
+use Rattle.std.proofs.lemmas.List.{append-nil, drop_all, drop_more}
+use Rattle.go_grid.specs.declared.grid.Colour.{Colour}
 use Rattle.go_grid.specs.declared.grid.Colour.TheVariants.{Black, White}
+use Rattle.go_grid.specs.Board.{other}
+use Rattle.go_grid.specs.Region.{Region}
 use Rattle.whole_rules.specs.declared.states.Move.TheVariants.{Half, Spend, Stone}
 use Rattle.whole_rules.specs.FirstWinningMove.{IsWinning}
 use Rattle.whole_rules.specs.WholeGame.{Whole, IsLegal}
 use Rattle.endgame_solver.specs.Thresholds.{IsThresholdFrom}
-use Rattle.report.specs.Analysis.{AreStoneTexts, IsMarginText, IsMovesText, first_lines, opening_lines, stone_line}
+use Rattle.report.specs.Analysis.{AreStoneTexts, IsLineText, IsMarginText, IsMovesText, all_played, first_lines, opening_lines, played, stone_line, stones_line}
 use Rattle.report.specs.Komi.{komi_line}
-use Rattle.report.specs.inner.Analysis.{HasMove, HasOpening, HasStone, HasStones, HasThresholds}
+use Rattle.report.specs.inner.Analysis.{HasLine, HasMove, HasOpening, HasStone, HasStones, HasThreshold, HasThresholds}
 use Rattle.report.proofs.TextLaws.{three_more}
 
 pub thresholds_are : (s : Whole) (k b w b' w' : ℤ) (before now after : List ℕ) → IsThresholdFrom s k Black [] b → IsThresholdFrom s k White [] w
@@ -82,3 +85,46 @@ moves_is s k a b c d e f empty opening stones spend half same = record {
     pieces : (a b c d e p q r t : List ℕ) → a ≡ [] → b ≡ a ++ p → c ≡ b ++ q → d ≡ c ++ r → e ≡ d ++ t → e ≡ p ++ (q ++ (r ++ t))
     pieces a b c d e p q r t empty first second third fourth =
         three_more b c d e q r t second third fourth ∙ ap (λ x. x ++ (q ++ (r ++ t))) (first ∙ ap (λ x. x ++ p) empty)
+
+-- `line`
+
+pub threshold_is : (s : Whole) (k K K' : ℤ) (before now : List ℕ) → IsThresholdFrom s k s.side [] K → K' ≡ K
+    → now ≡ before ++ komi_line (codes "threshold") K' → HasThreshold s k before now
+threshold_is s k K K' before now threshold same line = record {
+  threshold = K;
+  mover_first = threshold;
+  text = line ∙ ap (λ z. before ++ komi_line (codes "threshold") z) same;
+}
+
+-- one stone more: what is left of the line stands behind it
+pub played_more : (columns : ℕ) (stones : List ℕ) (n : ℕ) (c d : Colour) (all now next : List ℕ) → n < length stones → d ≡ other c
+    → next ≡ now ++ played columns c (get_or stones n 0) → all ≡ now ++ all_played columns c (drop n stones)
+    → all ≡ next ++ all_played columns d (drop (n + 1) stones)
+played_more columns stones n c d all now next lt turn line is =
+    is ∙ ap (λ z. now ++ all_played columns c z) (drop_more stones n 0 lt)
+    ∙ sym (append_assoc now (played columns c (get_or stones n 0)) (all_played columns (other c) (drop (n + 1) stones)))
+    ∙ (λ i. sym line i ++ all_played columns (sym turn i) (drop (n + 1) stones))
+
+pub played_end : (columns : ℕ) (stones : List ℕ) (n : ℕ) (c : Colour) (all now : List ℕ) → length stones ≤ n
+    → all ≡ now ++ all_played columns c (drop n stones) → now ≡ all
+played_end columns stones n c all now le is =
+    sym (is ∙ ap (λ z. now ++ all_played columns c z) (drop_all n stones le) ∙ append-nil now)
+
+pub line_is : (regions : List Region) (s : Whole) (k : ℤ) (a b c d e : List ℕ) → a ≡ [] → HasOpening s k a b → HasThreshold s k b c
+    → HasLine regions s c d → e ≡ d → IsLineText regions s k e
+line_is regions s k a b c d e empty opening threshold line same = record {
+  winner = opening.winner;
+  threshold = threshold.threshold;
+  stones = line.stones;
+  wins = opening.wins;
+  mover_first = threshold.mover_first;
+  line = line.line k;
+  is = same ∙ line.text ∙ ap (λ t. t ++ stones) threshold.text ∙ append_assoc b komi stones
+      ∙ ap (λ t. t ++ (komi ++ stones)) (opening.text ∙ ap (λ t. t ++ opening_lines s.side k opening.winner) empty);
+}
+  where
+    komi : List ℕ
+    komi = komi_line (codes "threshold") threshold.threshold
+
+    stones : List ℕ
+    stones = stones_line s.board.columns s.side line.stones

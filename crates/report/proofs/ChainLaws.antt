@@ -56,9 +56,9 @@ chains_on_board g ls are k d lt = (are.each (get_or ls k d) (Contains-get_or ls 
 -- so do the attacks
 placings_on_board : (d : Colour) (g : Board) (ps : List ℕ) (h : Board) → Placings d g ps h → (k e : ℕ) → k < length ps → get_or ps k e < length g.cells
 placings_on_board d g [] h run k e lt = absurd (omega (arith, lt))
-placings_on_board d g (p ∷ ps) h run zero e lt = run.1.1.place
-placings_on_board d g (p ∷ ps) h run (suc k) e lt =
-    subst (λ n. get_or ps k e < n) (run.1.1.without.long ∙ length-set g.cells p (stone d)) (placings_on_board d run.0 ps h run.2 k e (omega (arith, lt)))
+placings_on_board d g (p ∷ ps) h (outside, (m, placed, run)) zero e lt = placed.1.place
+placings_on_board d g (p ∷ ps) h (outside, (m, placed, run)) (suc k) e lt =
+    subst (λ n. get_or ps k e < n) (placed.1.without.long ∙ length-set g.cells p (stone d)) (placings_on_board d m ps h run k e (omega (arith, lt)))
 
 pub attacks_on_board : (g : Board) (ls : List ChainLine) → AreChainLines g ls → (k : ℕ) (d : ChainLine) → k < length ls
     → (get_or ls k d).alive ≡ false → (i e : ℕ) → i < length (get_or ls k d).attack.items → get_or (get_or ls k d).attack.items i e < length g.cells

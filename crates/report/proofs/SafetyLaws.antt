@@ -8,7 +8,7 @@ use Rattle.std.proofs.lemmas.List.Elements.{Contains-get_or}
 use Rattle.std.proofs.lemmas.Map.Keys.{sorted_from_strictly_increasing, below_from_sorted}
 use Rattle.go_grid.specs.declared.grid.Colour.{Colour}
 use Rattle.go_grid.specs.declared.grid.Colour.TheVariants.{Black, White}
-use Rattle.go_grid.specs.Board.{Board, Lacks}
+use Rattle.go_grid.specs.Board.{Board, IsClosedOff, Lacks}
 use Rattle.go_grid.specs.Walk.{Joined}
 use Rattle.go_grid.proofs.PointsLemmas.{lists_same}
 use Rattle.go_grid.proofs.WalkLemmas.{joined_end, joined_here, marks_joined}
@@ -16,6 +16,7 @@ use Rattle.go_grid.specs.Marks.{IsMarked, Marks, Lists}
 use Rattle.benson_life.specs.Groups.{IsNumberOfGroups}
 use Rattle.benson_life.specs.Held.{worth}
 use Rattle.benson_life.specs.Life.{InRegion, IsCounted}
+use Rattle.benson_life.proofs.WallLemmas.{counted_inside, counted_lacks}
 use Rattle.go_grid.specs.Region.{Region}
 use Rattle.region_cut.specs.Cut.{AreRegionsOfPlay}
 use Rattle.report.proofs.TextLaws.{three_pieces}
@@ -61,8 +62,9 @@ region_lists g c k p within filled points e is f lists =
     let joined = subst (λ n. Marks filled (Joined n (IsMarked within) p)) e f in
     lists_same points (IsMarked filled) (InRegion g c p) lists (marks_joined g.columns p within filled (Lacks g c) is joined)
 
-pub region_has_first : (g : Board) (c : Colour) (p : ℕ) (points : List ℕ) → IsCounted g c p → Lists points (InRegion g c p) → 0 < length points
-region_has_first g c p points h lists = has_first points p ((lists.exact p).1 (joined_here g.columns (Lacks g c) p h.2.lacks))
+pub region_has_first : (g : Board) → IsClosedOff g → (c : Colour) (p : ℕ) (points : List ℕ) → IsCounted g c p → Lists points (InRegion g c p) → 0 < length points
+region_has_first g closed c p points h lists =
+    has_first points p ((lists.exact p).1 (joined_here g.columns (Lacks g c) p (counted_lacks g closed c p h)))
 
 pub region_on_board : (g : Board) (c : Colour) (p : ℕ) (points : List ℕ) → Lists points (InRegion g c p) → (k d : ℕ) → k < length points → get_or points k d < length g.cells
 region_on_board g c p points lists k d lt = (joined_end g.columns (Lacks g c) p (get_or points k d) ((lists.exact _).0 (Contains-get_or points k d lt))).0
@@ -70,10 +72,10 @@ region_on_board g c p points lists k d lt = (joined_end g.columns (Lacks g c) p 
 pub no_key_unmarked : (g : Board) (c : Colour) (p : ℕ) (marks : List Bool) → Marks marks (IsCounted g c) → ¬ IsMarked marks p → ¬ IsCountedKey g (2 * p + turn c)
 no_key_unmarked g c p marks is un w = un ((is p).1 (key_is g c p w).0)
 
-pub no_key_from : (g : Board) (c : Colour) (p : ℕ) (points : List ℕ) → IsCounted g c p → Lists points (InRegion g c p) → get_or points 0 0 ≢ p
+pub no_key_from : (g : Board) → IsClosedOff g → (c : Colour) (p : ℕ) (points : List ℕ) → IsCounted g c p → Lists points (InRegion g c p) → get_or points 0 0 ≢ p
     → ¬ IsCountedKey g (2 * p + turn c)
-no_key_from g c p points h lists other w =
-    other (is_first points p lists.ascending ((lists.exact p).1 (joined_here g.columns (Lacks g c) p h.2.lacks)) (λ q i. (key_is g c p w).1 q ((lists.exact q).0 i)))
+no_key_from g closed c p points h lists other w =
+    other (is_first points p lists.ascending ((lists.exact p).1 (joined_here g.columns (Lacks g c) p (counted_lacks g closed c p h))) (λ q i. (key_is g c p w).1 q ((lists.exact q).0 i)))
 
 pub counted_line_is : (g : Board) (c : Colour) (p n held : ℕ) (points : List ℕ) → IsCounted g c p → Lists points (InRegion g c p)
     → get_or points 0 0 ≡ p → length points ≡ n → held ≡ sum_by (worth g c) points → IsCountedLine g (record { lowest = p; colour = c; points = n; held = held })
@@ -87,7 +89,7 @@ counted_line_is g c p n held points h lists first long e = record {
 
 -- the lines name points of the board
 pub counted_on_board : (g : Board) (ls : List CountedLine) → AreCountedLines g ls → (k : ℕ) (d : CountedLine) → k < length ls → (get_or ls k d).lowest < length g.cells
-counted_on_board g ls are k d lt = (are.each (get_or ls k d) (Contains-get_or ls k d lt)).0.lowest.0.2.lacks.0
+counted_on_board g ls are k d lt = counted_inside g (get_or ls k d).colour (get_or ls k d).lowest (are.each (get_or ls k d) (Contains-get_or ls k d lt)).0.lowest.0
 
 -- the text of the lines of a board
 pub safe_text_is : (g : Board) (k : ℕ) (chains : List ChainLine) (counted : List CountedLine) (black white : ℕ) (regions : List Region) (t u v x y w text : List ℕ)

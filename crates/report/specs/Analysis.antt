@@ -1,13 +1,16 @@
--- The texts of `margin` and `moves`.
-use Rattle.std.specs.Prelude.{ℕ, zero, suc, ℤ, ◌≡◌, ◌⊎◌, ◌↔◌, ◌++◌, List, [], ◌∷◌, length, Bool, true, false, IsTrue, codes}
+-- The texts of `margin`, `moves` and `line`.
+use Rattle.std.specs.Prelude.{ℕ, zero, suc, ℤ, ◌≡◌, ◌⊎◌, ◌↔◌, ◌++◌, List, [], ◌∷◌, length, Bool, true, false, IsTrue, codes, decimal}
 use Rattle.go_grid.specs.declared.grid.Colour.{Colour}
 use Rattle.go_grid.specs.declared.grid.Colour.TheVariants.{Black, White}
+use Rattle.go_grid.specs.Board.{other}
 use Rattle.go_grid.specs.Name.{point_name}
+use Rattle.go_grid.specs.Region.{Region}
 use Rattle.whole_rules.specs.declared.states.Move.{Move}
 use Rattle.whole_rules.specs.declared.states.Move.TheVariants.{Stone, Spend, Half}
 use Rattle.whole_rules.specs.FirstWinningMove.{IsWinner, IsWinning}
 use Rattle.whole_rules.specs.WholeGame.{Whole, IsLegal}
 use Rattle.board_words.specs.Words.{colour_word, winner_line, word_line}
+use Rattle.endgame_solver.specs.PlayLine.{IsLineFrom}
 use Rattle.endgame_solver.specs.Thresholds.{IsThresholdFrom}
 use Rattle.report.specs.Komi.{komi_line}
 
@@ -65,3 +68,26 @@ pub record IsMovesText (s : Whole) (k : ℤ) (text : List ℕ) : Type 0 where
   pub of_spend : IsMoveText s Spend (codes "spend") spend
   pub of_half : IsMoveText s Half (codes "half") half
   pub is : text ≡ opening_lines s.side k winner ++ (stones ++ (spend ++ half))
+
+-- a stone of a line, behind a blank
+unfoldable pub played : ℕ → Colour → ℕ → List ℕ
+played columns c p = codes " " ++ (colour_word c ++ (codes ":" ++ point_name columns p))
+
+-- the stones of a line, of which this player has the first; the colours alternate
+abbrev pub all_played : ℕ → Colour → List ℕ → List ℕ
+all_played columns c [] = []
+all_played columns c (p ∷ ps) = played columns c p ++ all_played columns (other c) ps
+
+-- how many stones a line has, and each of them
+unfoldable pub stones_line : ℕ → Colour → List ℕ → List ℕ
+stones_line columns c ps = codes "line " ++ (decimal (length ps) ++ (all_played columns c ps ++ codes "\n"))
+
+-- the text of `line` for a state that opens with this komi, and whose regions of play these are
+pub record IsLineText (regions : List Region) (s : Whole) (k : ℤ) (text : List ℕ) : Type 0 where
+  pub winner : Colour
+  pub threshold : ℤ
+  pub stones : List ℕ
+  pub wins : IsWinner s winner
+  pub mover_first : IsThresholdFrom s k s.side [] threshold
+  pub line : IsLineFrom regions s k stones
+  pub is : text ≡ opening_lines s.side k winner ++ (komi_line (codes "threshold") threshold ++ stones_line s.board.columns s.side stones)

@@ -29,7 +29,11 @@ fn write_opening(
 }
 
 /// Appends the lines on the side to move, the komi and the winner of a solved game.
-fn write_winner(text: &mut String, solved: &mut Solved, komi_halves: i64) -> Result<(), AllocError>
+pub(crate) fn write_winner(
+    text: &mut String,
+    solved: &mut Solved,
+    komi_halves: i64,
+) -> Result<(), AllocError>
     ensures opening { OnOk result (HasOpening solved.old.state komi_halves (string_bytes text.old)
         (string_bytes text.new)) }
     ensures same { solved.new ≡ solved.old }

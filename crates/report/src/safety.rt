@@ -46,7 +46,8 @@ fn region_of(
     colour: Colour,
     point: Point,
 ) -> Result<Vec<Point>, AllocError>
-    requires { IsCounted board.now colour point }
+    requires settled { IsSettled board.now }
+    requires counted { IsCounted board.now colour point }
     ensures { IfOk result (λ points. Lists points.items (InRegion board.now colour point)) }
 {
     let size = board.size();
@@ -64,6 +65,7 @@ fn add_counted(
     counted: &Points,
     point: Point,
 ) -> Result<(), AllocError>
+    requires settled { IsSettled board.now }
     requires on_board { point < length board.now.cells }
     requires counted { Marks counted.now (IsCounted board.now colour) }
     requires below { AreCountedBelow board.now (2 * point + turn colour) lines.old.items }
@@ -94,6 +96,7 @@ fn counted_lines(
     black: &Points,
     white: &Points,
 ) -> Result<Vec<CountedLine>, AllocError>
+    requires settled { IsSettled board.now }
     requires black { Marks black.now (IsCounted board.now Black) }
     requires white { Marks white.now (IsCounted board.now White) }
     ensures { IfOk result (λ lines. AreCountedLines board.now lines.items) }

@@ -12,15 +12,16 @@ use Rattle.sgf_go.specs.Setup.{IsSet}
 use Rattle.go_grid.proofs.BoardLemmas.{cell_stable}
 
 set_none : (g : Board) (In : ℕ → Type 0) (c : Cell) → ((q : ℕ) → ¬ In q) → IsSet g In c g
-set_none g In c f = record { columns = refl; rows = refl; long = refl; set = λ q l i. absurd (f q i); kept = λ q _. refl }
+set_none g In c f = record { columns = refl; rows = refl; declared = refl; long = refl; set = λ q l i. absurd (f q i); kept = λ q _. refl }
 
 set_like : (g h : Board) (In Like : ℕ → Type 0) (c : Cell) → ((q : ℕ) → In q → Like q) → ((q : ℕ) → Like q → In q) → IsSet g In c h → IsSet g Like c h
-set_like g h In Like c to from a = record { columns = a.columns; rows = a.rows; long = a.long; set = λ q l i. a.set q l (from q i); kept = λ q n. a.kept q (λ i. n (to q i)) }
+set_like g h In Like c to from a = record { columns = a.columns; rows = a.rows; declared = a.declared; long = a.long; set = λ q l i. a.set q l (from q i); kept = λ q n. a.kept q (λ i. n (to q i)) }
 
 set_both : (g h k : Board) (In More : ℕ → Type 0) (c : Cell) → IsSet g In c h → IsSet h More c k → IsSet g (λ q. In q ⊎ More q) c k
 set_both g h k In More c a b = record {
   columns = b.columns ∙ a.columns;
   rows = b.rows ∙ a.rows;
+  declared = b.declared ∙ a.declared;
   long = b.long ∙ a.long;
   set = λ q l i. cell_stable (cell_at k q) c (λ other.
       let out : ¬ More q = λ m. other (b.set q (omega (arith, l, a.long)) m) in
@@ -32,6 +33,7 @@ set_point : (g : Board) (c : Cell) (p : ℕ) → p < length g.cells → IsSet g 
 set_point g c p h = record {
   columns = refl;
   rows = refl;
+  declared = refl;
   long = length-set g.cells p c;
   set = λ q l e. ap (λ x. get_or (slice_set g.cells p c) x Empty) e ∙ get_or-set_same g.cells p c Empty h;
   kept = λ q ne. get_or-set_other g.cells p q c Empty ne;

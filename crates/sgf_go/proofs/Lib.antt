@@ -9,3 +9,4 @@ pub mod TrimLemmas
 pub mod PositionLemmas
 pub mod OnePositionLemmas
 pub mod OneReadingLemmas
+pub mod UndeclaredLemmas

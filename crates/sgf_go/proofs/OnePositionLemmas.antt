@@ -7,7 +7,7 @@ use Rattle.go_grid.specs.declared.grid.Colour.{Colour}
 use Rattle.go_grid.specs.declared.grid.Cell.{Cell}
 use Rattle.go_grid.specs.declared.grid.Cell.TheVariants.{Empty}
 use Rattle.go_grid.specs.Board.{Board, cell_at}
-use Rattle.go_grid.specs.Chain.{IsSettled, IsFirstChoked}
+use Rattle.go_grid.specs.Chain.{IsSettled}
 use Rattle.go_play.specs.Place.{PlacesStone}
 use Rattle.go_grid.specs.Play.{is_stone}
 use Rattle.go_play.specs.declared.placements.PlaceError.{PlaceError}
@@ -16,7 +16,7 @@ use Rattle.sgf_tree.specs.Grammar.{PropertyText}
 use Rattle.sgf_go.specs.Values.{trimmed, Says, Rectangle, rectangle_between, IsArea, point, corners, colon, IsInRectangle, Extent, IsSide, IsSize, square, sides}
 use Rattle.sgf_go.specs.inner.Values.{LacksColon}
 use Rattle.go_grid.specs.Name.{IsName}
-use Rattle.sgf_go.specs.Setup.{Part, GoesOn, ◌then◌, For, Skips, IsSet, Sets, SetsValue, SetsValues, SetsProperty, cell_set, SetsSide, TurnsTo, side_of, placed, moved, with_taken, Choice, pass, stone_at, nothing, is_pass, IsMoveText, MovesAsChosen, Moves, MovesProperty, mover, first_value, value_of, TurnsByProperty, NodePart, LinePart, Unless, ends_before, IsKomiFor, EndsMainLine, FromKomi, FromSize, FromGame, is_go, IsBoardSize, root, empty_board, OnePosition}
+use Rattle.sgf_go.specs.Setup.{Part, GoesOn, ◌then◌, For, Skips, IsSet, Sets, SetsValue, SetsValues, SetsProperty, cell_set, SetsSide, TurnsTo, side_of, placed, moved, with_taken, Choice, pass, stone_at, nothing, is_pass, IsMoveText, MovesAsChosen, Moves, MovesProperty, mover, first_value, value_of, TurnsByProperty, NodePart, LinePart, Unless, ends_before, IsKomiFor, IsFirstChoked, EndsMainLine, FromKomi, FromSize, FromGame, is_go, IsBoardSize, root, empty_board, OnePosition}
 use Rattle.sgf_go.specs.declared.replay.Replay.{Replay}
 use Rattle.sgf_go.specs.declared.settings.Settings.{Settings}
 use Rattle.sgf_go.specs.declared.settings.Setup.{Setup}
@@ -30,13 +30,13 @@ use Rattle.go_grid.proofs.BoardLemmas.{cell_stable}
 use Rattle.go_grid.proofs.NameLemmas.{one_named}
 
 -- two boards of one size with the same cells
-same_board : (h k : Board) → h.columns ≡ k.columns → h.rows ≡ k.rows → length h.cells ≡ length k.cells → ((q : ℕ) → q < length h.cells → ¬ ¬ (cell_at h q ≡ cell_at k q)) → h ≡ k
-same_board h k c r l s =
+same_board : (h k : Board) → h.columns ≡ k.columns → h.rows ≡ k.rows → h.declared ≡ k.declared → length h.cells ≡ length k.cells → ((q : ℕ) → q < length h.cells → ¬ ¬ (cell_at h q ≡ cell_at k q)) → h ≡ k
+same_board h k c r d l s =
     let cells : h.cells ≡ k.cells = ext_get_or Empty h.cells k.cells l (λ q b. cell_stable (cell_at h q) (cell_at k q) (s q b)) in
-    λ i. record { columns = c i; rows = r i; cells = cells i }
+    λ i. record { columns = c i; rows = r i; cells = cells i; declared = d i }
 
 one_set : (g h k : Board) (In : ℕ → Type 0) (c : Cell) → IsSet g In c h → IsSet g In c k → h ≡ k
-one_set g h k In c a b = same_board h k (a.columns ∙ sym b.columns) (a.rows ∙ sym b.rows) (a.long ∙ sym b.long) (λ q l differ.
+one_set g h k In c a b = same_board h k (a.columns ∙ sym b.columns) (a.rows ∙ sym b.rows) (a.declared ∙ sym b.declared) (a.long ∙ sym b.long) (λ q l differ.
     let out : ¬ In q = λ i. differ (a.set q (omega (arith, l, a.long)) i ∙ sym (b.set q (omega (arith, l, a.long)) i)) in
     differ (a.kept q out ∙ sym (b.kept q out)))
 
@@ -155,7 +155,7 @@ one_choked g p q a b = elim (cases_lt p q) [
 ]
 
 settled_not_choked : (g : Board) (p : ℕ) → IsSettled g → ¬ IsFirstChoked g p
-settled_not_choked g p s f = f.choked.2 (s f.choked.0 p f.choked.1)
+settled_not_choked g p s f = f.choked.2 (s.breathe f.choked.0 p f.choked.1)
 
 ends_one : (settings : Settings) (komi : ℤ) (m : Result Replay SetupFault) (a b : Result Setup SetupFault) → EndsMainLine settings komi m a → EndsMainLine settings komi m b → a ≡ b
 ends_one settings komi (Err f) a b x y = x ∙ sym y

@@ -9,7 +9,7 @@ use Rattle.go_grid.specs.declared.grid.Colour.TheVariants as colour
 use Rattle.go_grid.specs.declared.grid.Cell.{Cell}
 use Rattle.go_grid.specs.declared.grid.Cell.TheVariants as cell
 use Rattle.go_grid.specs.Board.{Board, cell_at, other}
-use Rattle.go_grid.specs.Chain.{IsSettled, IsFirstChoked}
+use Rattle.go_grid.specs.Chain.{IsChoked, IsSettled}
 use Rattle.go_play.specs.Place.{PlacesStone}
 use Rattle.go_play.specs.declared.placements.PlaceError.{PlaceError}
 use Rattle.go_play.specs.declared.placements.PlaceError.TheVariants as place
@@ -74,6 +74,7 @@ value_of name (p ∷ ps) = if is_named p name then Some (first_value p) else val
 pub record IsSet (g : Board) (In : ℕ → Type 0) (c : Cell) (h : Board) : Type 0 where
   pub columns : h.columns ≡ g.columns
   pub rows : h.rows ≡ g.rows
+  pub declared : h.declared ≡ g.declared
   pub long : length h.cells ≡ length g.cells
   pub set : (p : ℕ) → p < length g.cells → In p → cell_at h p ≡ c
   pub kept : (p : ℕ) → ¬ In p → cell_at h p ≡ cell_at g p
@@ -223,7 +224,7 @@ IsKomiFor None (Some (b ∷ bs)) k = IsKomi (b ∷ bs) k
 -- how things stand before node 0: an empty board, nothing taken or played, and Black to move
 abbrev pub empty_board : Extent → Replay
 empty_board e = record {
-  board = record { columns = e.columns; rows = e.rows; cells = replicate (e.columns * e.rows) cell.Empty };
+  board = record { columns = e.columns; rows = e.rows; cells = replicate (e.columns * e.rows) cell.Empty; declared = [] };
   black = 0;
   white = 0;
   side = colour.Black;
@@ -244,6 +245,11 @@ setup_of settings komi s = record {
   komi_halves = komi;
   side = or_side settings.turn s.side;
 }
+
+-- `p` is the lowest stone whose chain has no liberty
+pub record IsFirstChoked (g : Board) (p : ℕ) : Type 0 where
+  pub choked : IsChoked g p
+  pub lowest : (q : ℕ) → q < p → ¬ IsChoked g q
 
 -- the end of the line: the board is settled, or its lowest stone without a liberty is named
 abbrev pub EndsMainLine : Settings → ℤ → Result Replay SetupFault → Result Setup SetupFault → Type 0

@@ -1,6 +1,7 @@
 //! The position at the end of a main line.
 
 ghost use Rattle.std.specs.Prelude.{false, map, sum_by, get_or, [], ◌≡◌, ◌≤◌, ◌<◌, ◌+◌, ◌-◌, ◌⊎◌, ◌^◌, ◌*◌, true, length, take, IfSome, IfNone, IfOk, codes};
+ghost use Rattle.go_grid.specs.Board.{DeclaresNothing};
 ghost use Rattle.std.specs.Char.{is_ascii_digit};
 ghost use Rattle.std.specs.Option.{option_map};
 ghost use Rattle.sgf_tree.specs.Reading.{property_text, node_text, line_text};
@@ -115,14 +116,17 @@ fn begin(alloc: Global, size: Size) -> Result<Replay, AllocError>
 }
 
 /// The position at the end, where the board is settled.
+#[tactic(auto, using(crate::proofs::UndeclaredLemmas::first_choked))]
 fn finish(replay: Replay, settings: &Settings, komi: i64) -> Result<Setup, GoError>
     requires counts { Counts replay }
     requires few { replay.played ≤ MOST_BYTES }
     requires black { settings.now.black_prisoners ≤ MOST_PRISONERS }
     requires white { settings.now.white_prisoners ≤ MOST_PRISONERS }
     requires komi { IsInRange komi }
+    requires undeclared { DeclaresNothing replay.board }
     ensures answer { AnswersEnd settings.now komi replay result }
     ensures fit { IfOk result IsFit }
+    ensures undeclared { IfOk result (λ s. DeclaresNothing s.board) }
     ensures komi { IfOk result (λ s. s.komi_halves ≡ komi) }
 {
     match replay.board.unsettled()? {
@@ -201,8 +205,8 @@ pub fn size_of_board(tree: &Tree) -> Option<Size>
 
 /// The position at the end of the main line of a record (Smart Game Format, FF[4]) under the settings, or the first thing
 /// that is wrong with it: GM, SZ and KM of node 0 in this order, then node by node AB, AW and AE, PL, and the moves, and at
-/// the end a stone without a liberty.
-#[tactic(auto, using(crate::proofs::PositionLemmas::wrong_game, crate::proofs::PositionLemmas::bad_size, crate::proofs::PositionLemmas::bad_komi, crate::proofs::PositionLemmas::line_bad, crate::proofs::PositionLemmas::line_good))]
+/// the end a stone without a liberty. Nothing is declared on its board.
+#[tactic(auto, using(crate::proofs::PositionLemmas::wrong_game, crate::proofs::PositionLemmas::bad_size, crate::proofs::PositionLemmas::bad_komi, crate::proofs::PositionLemmas::line_bad, crate::proofs::PositionLemmas::line_good, crate::proofs::UndeclaredLemmas::line_declares_nothing))]
 pub fn position(alloc: Global, tree: &Tree, settings: &Settings) -> Result<Setup, GoError>
     requires nodes { length tree.now.line.items ≤ MOST_BYTES }
     requires properties { sum_by (λ n. length n.properties.items) tree.now.line.items ≤ MOST_BYTES }
@@ -211,6 +215,7 @@ pub fn position(alloc: Global, tree: &Tree, settings: &Settings) -> Result<Setup
     requires komi { IfSome settings.now.komi IsInRange }
     ensures answer { AnswersPosition tree.now settings.now result }
     ensures fit { IfOk result IsFit }
+    ensures undeclared { IfOk result (λ s. DeclaresNothing s.board) }
     ensures komi { IfOk result (λ s. IsInRange s.komi_halves) }
 {
     let first = root(&tree.line);

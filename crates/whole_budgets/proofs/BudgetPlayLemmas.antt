@@ -29,7 +29,7 @@ pub inside_or_not : (r : Region) (p : ℕ) → Decided (Contains r.points p)
 inside_or_not r p = some_below (length r.points) (λ k. get_or r.points k p ≡ p) (λ k. cases_eq (get_or r.points k p) p)
 
 -- whether a move is a capture in the region that returns
-returning_or_not : (r : Region) (s t : Whole) (m : Move) → Decided (IsReturningCapture r s m t)
+pub returning_or_not : (r : Region) (s t : Whole) (m : Move) → Decided (IsReturningCapture r s m t)
 returning_or_not r s t (Stone p) = alike _ _ (λ (inside, (own, takes, returns)). (inside, takes, returns)) (λ (inside, takes, returns). (inside, (refl, takes, returns)))
     (both _ _ (inside_or_not r p)
     (uses_or_not r.touch colour.Black colour.Black (position_on r s.board) (position_on r t.board)))
@@ -37,7 +37,7 @@ returning_or_not r s t Spend = inr (λ u. u)
 returning_or_not r s t Half = inr (λ u. u)
 
 -- what is left of a budget after a move
-abbrev left_of : {P : Type 0} → Decided P → ℕ → ℕ
+abbrev pub left_of : {P : Type 0} → Decided P → ℕ → ℕ
 left_of (inl u) b = b - 1
 left_of (inr u) b = b
 

@@ -4,3 +4,8 @@ pub mod QuietLemmas
 pub mod KoRuleLemmas
 pub mod SimpleKoLemmas
 pub mod RuleLemmas
+pub mod SpotLemmas
+pub mod BudgetPartsLemmas
+pub mod BudgetSumLaws
+pub mod DecidedPlayLemmas
+pub mod SuperkoLemmas

@@ -1,5 +1,5 @@
 -- The ko rules that are played can be told, since boards can be compared.
-use Rattle.std.proofs.Common.{◌≡◌, ℕ, ◌↔◌, inl, inr, refl, sym, ap, ◌∙◌, subst, List, [], ◌∷◌, length, get_or, Bool, true, false, Contains}
+use Rattle.std.proofs.Common.{◌≡◌, ℕ, ◌↔◌, inl, inr, refl, sym, ap, ◌∙◌, subst, List, [], ◌∷◌, length, get_or, drop, Bool, true, false, Contains, Option, None, Some}
 use Rattle.std.proofs.lemmas.Bool.{cases_eq}
 use Rattle.std.proofs.lemmas.List.{get_or_default}
 use Rattle.std.proofs.lemmas.List.Elements.{Contains-get_or}
@@ -23,19 +23,35 @@ told : {P : Type 0} → (d : Decided P) → (answer d ≡ true) ↔ P
 told (inl p) = (λ e. p, λ q. refl)
 told (inr f) = (λ e. cc, λ q. absurd (f q))
 
-same_board : (g h : Board) → g.columns ≡ h.columns → g.rows ≡ h.rows → g.cells ≡ h.cells → g ≡ h
-same_board g h c r e = ap (λ z. record { columns = z; rows = g.rows; cells = g.cells }) c
-    ∙ ap (λ z. record { columns = h.columns; rows = z; cells = g.cells }) r ∙ ap (λ z. record { columns = h.columns; rows = h.rows; cells = z }) e
-
-same_board_or_not : (g h : Board) → Decided (g ≡ h)
-same_board_or_not g h = alike _ _ (λ (c, (r, e)). same_board g h c r e) (λ e. (ap (λ z. z.columns) e, (ap (λ z. z.rows) e, ap (λ z. z.cells) e)))
-    (both _ _ (cases_eq g.columns h.columns) (both _ _ (cases_eq g.rows h.rows) (same_cells_or_not g.cells h.cells)))
-
 colour_or_not : (c d : Colour) → Decided (c ≡ d)
 colour_or_not colour.Black colour.Black = inl refl
 colour_or_not colour.White colour.White = inl refl
 colour_or_not colour.Black colour.White = inr (λ e. cc)
 colour_or_not colour.White colour.Black = inr (λ e. cc)
+
+same_board : (g h : Board) → g.columns ≡ h.columns → g.rows ≡ h.rows → g.cells ≡ h.cells → g.declared ≡ h.declared → g ≡ h
+same_board g h c r e d = λ i. record { columns = c i; rows = r i; cells = e i; declared = d i }
+
+same_owner_or_not : (a b : Option Colour) → Decided (a ≡ b)
+same_owner_or_not None None = inl refl
+same_owner_or_not None (Some d) = inr (λ e. cc)
+same_owner_or_not (Some c) None = inr (λ e. cc)
+same_owner_or_not (Some c) (Some d) = alike (c ≡ d) (Some c ≡ Some d) (λ e. ap Some e) (λ e. cc) (colour_or_not c d)
+
+same_declared_or_not : (a b : List (Option Colour)) → Decided (a ≡ b)
+same_declared_or_not [] [] = inl refl
+same_declared_or_not [] (y ∷ ys) = inr (λ e. cc)
+same_declared_or_not (x ∷ xs) [] = inr (λ e. cc)
+same_declared_or_not (x ∷ xs) (y ∷ ys) =
+    alike ((x ≡ y) × (xs ≡ ys)) (x ∷ xs ≡ y ∷ ys) (λ (h, t). ap (λ z. z ∷ xs) h ∙ ap (λ zs. y ∷ zs) t)
+    (λ e. (ap (λ zs. get_or zs 0 x) e, ap (λ zs. drop 1 zs) e)) (both _ _ (same_owner_or_not x y) (same_declared_or_not xs ys))
+
+same_board_or_not : (g h : Board) → Decided (g ≡ h)
+same_board_or_not g h =
+    alike _ _ (λ (c, (r, (e, d))). same_board g h c r e d)
+    (λ e. (ap (λ z. z.columns) e, (ap (λ z. z.rows) e, (ap (λ z. z.cells) e, ap (λ z. z.declared) e))))
+    (both _ _ (cases_eq g.columns h.columns) (both _ _ (cases_eq g.rows h.rows)
+    (both _ _ (same_cells_or_not g.cells h.cells) (same_declared_or_not g.declared h.declared))))
 
 -- one of the list has what can be told of each
 some_of : (us : List Whole) (P : Whole → Type 0) → ((u : Whole) → Decided (P u)) → (z : Whole) → Decided ((u : Whole) × Contains us u × P u)

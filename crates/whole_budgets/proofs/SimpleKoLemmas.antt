@@ -42,7 +42,7 @@ own_is colour.White cell.Black e = cc
 own_is colour.White cell.Empty e = cc
 
 -- a stone adds one of its colour
-one_more : {Next : ℕ → ℕ → Type 0} {Free : Colour → ℕ → Type 0} (cells next : List Cell) (c : Colour) (p : ℕ) → IsPlaced Next Free cells p c next
+pub one_more : {Next : ℕ → ℕ → Type 0} {Free : Colour → ℕ → Type 0} (cells next : List Cell) (c : Colour) (p : ℕ) → IsPlaced Next Free cells p c next
     → stones_of c next ≡ stones_of c cells + 1
 one_more {Next} {Free} cells next c p m =
     let placed = with_stone cells p c in
@@ -65,23 +65,23 @@ one_more {Next} {Free} cells next c p m =
 
 -- A point more for each player
 
-richer_purses : Purses → Purses
+unfoldable pub richer_purses : Purses → Purses
 richer_purses m = record { black = m.black + 1; white = m.white + 1; token = m.token }
 
-abbrev richer : Whole → Whole
+abbrev pub richer : Whole → Whole
 richer s = record { board = s.board; contested = s.contested; purses = richer_purses s.purses; side = s.side }
 
-richer_in : (c : Colour) (n : ℕ) (m : Purses) → richer_purses (paid_in c n m) ≡ paid_in c n (richer_purses m)
+pub richer_in : (c : Colour) (n : ℕ) (m : Purses) → richer_purses (paid_in c n m) ≡ paid_in c n (richer_purses m)
 unfolding richer_purses
 richer_in colour.Black n m = let e : (m.black + n) + 1 ≡ (m.black + 1) + n = omega arith in ap (λ z. record { black = z; white = m.white + 1; token = m.token }) e
 richer_in colour.White n m = let e : (m.white + n) + 1 ≡ (m.white + 1) + n = omega arith in ap (λ z. record { black = m.black + 1; white = z; token = m.token }) e
 
-richer_out : (c : Colour) (m : Purses) → 1 ≤ purse c m → richer_purses (paid_out c m) ≡ paid_out c (richer_purses m)
+pub richer_out : (c : Colour) (m : Purses) → 1 ≤ purse c m → richer_purses (paid_out c m) ≡ paid_out c (richer_purses m)
 unfolding richer_purses
 richer_out colour.Black m some = let e : (m.black - 1) + 1 ≡ (m.black + 1) - 1 = omega (arith, some) in ap (λ z. record { black = z; white = m.white + 1; token = m.token }) e
 richer_out colour.White m some = let e : (m.white - 1) + 1 ≡ (m.white + 1) - 1 = omega (arith, some) in ap (λ z. record { black = m.black + 1; white = z; token = m.token }) e
 
-richer_half : (c : Colour) (m : Purses) → richer_purses (halved c m) ≡ halved c (richer_purses m)
+pub richer_half : (c : Colour) (m : Purses) → richer_purses (halved c m) ≡ halved c (richer_purses m)
 unfolding richer_purses
 richer_half c m = go c m.token
   where
@@ -110,13 +110,13 @@ back_again colour.White m =
     let f : (m.white + 1) - 1 ≡ m.white = omega arith in
     ap (λ z. record { black = z; white = (m.white + 1) - 1; token = m.token }) e ∙ ap (λ z. record { black = m.black; white = z; token = m.token }) f
 
-theirs_some : (c : Colour) (m : Purses) → 1 ≤ purse (other c) (paid_out c (richer_purses m))
+pub theirs_some : (c : Colour) (m : Purses) → 1 ≤ purse (other c) (paid_out c (richer_purses m))
 unfolding richer_purses
 theirs_some colour.Black m = omega arith
 theirs_some colour.White m = omega arith
 
 -- each move stays one
-lifted : (s t : Whole) (m : Move) → IsMove s m t → IsMove (richer s) m (richer t)
+pub lifted : (s t : Whole) (m : Move) → IsMove s m t → IsMove (richer s) m (richer t)
 unfolding richer_purses
 lifted s t (Stone p) (inside, (h, (n, placed, taken, is))) =
     (inside, (h, (n, placed, taken, ap richer is ∙ ap (λ z. after h z (richer s)) (richer_in s.side n s.purses))))
@@ -124,7 +124,7 @@ lifted s t Spend (some, is) = (richer_some s.side s.purses, ap richer is ∙ ap 
 lifted s t Half (there, is) = (there, ap richer is ∙ ap (λ z. after s.board z (richer s)) (richer_half s.side s.purses))
 
 -- the state after both have spent the point that is more
-returned : (s : Whole) → s ≡ after s.board (paid_out (other s.side) (paid_out s.side (richer_purses s.purses))) (after s.board (paid_out s.side (richer_purses s.purses)) (richer s))
+pub returned : (s : Whole) → s ≡ after s.board (paid_out (other s.side) (paid_out s.side (richer_purses s.purses))) (after s.board (paid_out s.side (richer_purses s.purses)) (richer s))
 returned s = ap (λ z. record { board = s.board; contested = s.contested; purses = z; side = s.side }) (sym (back_again s.side s.purses))
     ∙ ap (λ z. record { board = s.board; contested = s.contested; purses = paid_out (other s.side) (paid_out s.side (richer_purses s.purses)); side = z }) (sym (other_twice s.side))
 
@@ -154,7 +154,7 @@ mutual
   spent_back zero s l = absurd (l s (Spend, (theirs_some s.side s.purses, returned s)))
   spent_back (suc n) s l = wins-more Whole Leads n (suc (suc n)) s (omega arith) (l s (Spend, (theirs_some s.side s.purses, returned s)))
 
-  loses_poorer : (n : ℕ) (s : Whole) → LosesWithin Whole Leads n (richer s) → LosesWithin Whole Leads n s
+  pub loses_poorer : (n : ℕ) (s : Whole) → LosesWithin Whole Leads n (richer s) → LosesWithin Whole Leads n s
   loses_poorer zero s l = λ t h. l (richer t) (h.0, lifted s t h.0 h.1)
   loses_poorer (suc n) s l = λ t h. wins_poorer n t (l (richer t) (h.0, lifted s t h.0 h.1))
 

@@ -3,3 +3,5 @@ pub mod BudgetPlayLaws
 pub mod KoRules
 pub mod KoRuleLaws
 pub mod SimpleKo
+pub mod BudgetSums
+pub mod SituationalSuperko

@@ -7,12 +7,14 @@ ghost use Rattle.whole_budgets.specs.BudgetPlayLaws.{
   SomeCapturesWin,
   StonesReturnLocally,
 };
+ghost use Rattle.whole_budgets.specs.BudgetSums.{BudgetsDecompose, SteadyDecides};
 ghost use Rattle.whole_budgets.specs.KoRuleLaws.{
   KoRulesAreOnReturns,
   KoRulesExist,
   NoCapturesWinUnderRules,
 };
 ghost use Rattle.whole_budgets.specs.SimpleKo.{WinnersStandUnderSimpleKo};
+ghost use Rattle.whole_budgets.specs.SituationalSuperko.{WinnersStandUnderSuperko};
 
 /// What a player wins with a budget of captures that return, the other player being free of one, that player wins by plain
 /// recursion, and with every greater budget; and who wins by plain recursion wins with some budget. In a region of
@@ -27,10 +29,18 @@ pub fn budget_play_laws()
 
 /// What a player wins without a capture that returns that player wins under every ko rule that forbids only such captures and
 /// boards that were there before, as simple ko, situational and positional superko do. Under simple ko every
-/// winner stands. It has no code.
+/// winner stands, and under situational superko where nobody owns the token. It has no code.
 pub fn ko_rule_laws()
     ensures win { NoCapturesWinUnderRules }
     ensures named { KoRulesAreOnReturns }
     ensures exist { KoRulesExist }
     ensures simple { WinnersStandUnderSimpleKo }
+    ensures superko { WinnersStandUnderSuperko }
+{}
+
+/// Who wins with budgets is the sign of the sum of trees with these budgets, or with smaller ones at which the regions are
+/// steady; and where all regions are steady, so is who wins by plain recursion. It has no code.
+pub fn budget_sum_laws()
+    ensures budgets { BudgetsDecompose }
+    ensures steady { SteadyDecides }
 {}

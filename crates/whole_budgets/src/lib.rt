@@ -4,4 +4,4 @@
 
 mod laws;
 
-pub use laws::{budget_play_laws, ko_rule_laws};
+pub use laws::{budget_play_laws, budget_sum_laws, ko_rule_laws};

@@ -12,7 +12,7 @@ use Rattle.benson_life.specs.Life.{InRegion, IsAlive, IsCounted}
 use Rattle.benson_life.specs.Region.{IsContested}
 use Rattle.benson_life.specs.Walls.{WallsStand}
 use Rattle.benson_life.proofs.StandLemmas.{joined_along}
-use Rattle.benson_life.proofs.WallLemmas.{counted_region, walls_breathe}
+use Rattle.benson_life.proofs.WallLemmas.{counted_lacks, counted_region, walls_breathe}
 use Rattle.go_play.specs.Place.{IsPlaced, IsTaken}
 use Rattle.go_play.specs.inner.Place.{with_stone}
 use Rattle.whole_rules.proofs.PlacingLaws.{elsewhere, as_long}
@@ -78,15 +78,16 @@ module _ (g : Board) where
         counted_kept d q w t =
             let o = other c in
             let same : cell_at b q ≡ cell_at g q = elsewhere h p q c (counted_elsewhere d q w) ∙ walls.counted d q w in
-            let stood : HasStone g o q = (w.2.lacks.0, sym same ∙ (taken_stone h p c q t).1) in
-            let ne : o ≢ d = λ e. w.2.lacks.1 (stood.1 ∙ ap stone e) in
-            let l = chain_liberty d o q ne stood (settled o q stood) in
+            let lacks : Lacks g d q = counted_lacks g settled.closed d q w in
+            let stood : HasStone g o q = (lacks.0, sym same ∙ (taken_stone h p c q t).1) in
+            let ne : o ≢ d = λ e. lacks.1 (stood.1 ∙ ap stone e) in
+            let l = chain_liberty d o q ne stood (settled.breathe o q stood) in
             let in_chain : (x : ℕ) → InChain g o q x → HasStone h o x = λ x j.
-            let wx = counted_region g d q x w (joined_more g.columns (HasStone g o) (Lacks g d) (λ y v. stone_lacks g d o y ne v) q x j) in
+            let wx = counted_region g settled.closed d q x w (joined_more g.columns (HasStone g o) (Lacks g d) (λ y v. stone_lacks g d o y ne v) q x j) in
             let sx = joined_end g.columns (HasStone g o) q x j in
             (subst (λ n. x < n) (sym walls.long) sx.0, walls.counted d x wx ∙ sx.1) in
             let r = l.2.1 in
-            let wl = counted_region g d q l.0 w l.1 in
+            let wl = counted_region g settled.closed d q l.0 w l.1 in
             let liberty : IsLiberty h o q l.0 = (
               (subst (λ n. l.0 < n) (sym walls.long) l.2.0.0, walls.counted d l.0 wl ∙ l.2.0.1),
               (r.0, subst (λ n. Joined n (HasStone h o) q r.0) (sym walls.columns) (joined_along g.columns (HasStone g o) (HasStone h o) q r.0 in_chain r.1), subst (λ n. NextTo n r.0 l.0) (sym walls.columns) r.2),

@@ -2,7 +2,7 @@
 use Rattle.std.specs.Prelude.{ℕ, suc, ◌≡◌, ◌+◌, ◌*◌, ◌/◌, ◌%◌, ℤ, pos, negsuc, cond, nat_eq, Bool, true, false}
 use Rattle.go_grid.specs.declared.grid.Colour.{Colour}
 use Rattle.go_grid.specs.declared.grid.Colour.TheVariants.{Black, White}
-use Rattle.go_grid.specs.Board.{Board}
+use Rattle.go_grid.specs.Board.{Board, DeclaresNothing}
 use Rattle.go_grid.specs.Marks.{Marks}
 use Rattle.benson_life.specs.Groups.{IsNumberOfGroups}
 use Rattle.benson_life.specs.Held.{IsHeld}
@@ -27,6 +27,10 @@ komi_token (negsuc n) = cond (nat_eq (suc n % 2) 0) token.Nobody token.Black
 abbrev pub GivesAtStart : Board → Colour → Bool → ℕ → Type 0
 GivesAtStart g c false n = IsHeld g c n
 GivesAtStart g c true n = (groups : ℕ) × IsNumberOfGroups g c groups × IsHeld g c (n + 2 * groups)
+
+-- a tax is taken only where nothing is declared: a group with one declared point could not pay it
+abbrev pub MayTax : Bool → Board → Type 0
+MayTax tax g = tax ≡ true → DeclaresNothing g
 
 -- The state opens the board before any move: what it gives each side, with or without a tax, its prisoners and its part of the komi.
 pub record IsOpening (g : Board) (black_prisoners white_prisoners : ℕ) (komi : ℤ) (side : Colour) (tax : Bool) (s : Whole) : Type 0 where

@@ -4,7 +4,7 @@ ghost use Rattle.std.specs.Prelude.{◌≡◌, ◌+◌, ◌-◌, ◌*◌, ◌^�
 ghost use Rattle.go_grid.specs.declared.grid.Colour.TheVariants.{Black, White};
 ghost use Rattle.go_grid.specs.Chain.{IsSettled};
 ghost use Rattle.benson_life.specs.Territory.{IsLife, IsTerritory};
-ghost use Rattle.whole_rules.specs.Opening.{komi_points, komi_token, IsOpening, GivesAtStart};
+ghost use Rattle.whole_rules.specs.Opening.{komi_points, komi_token, IsOpening, GivesAtStart, MayTax};
 
 use crate::money::{Purses, Token};
 use crate::states::Whole;
@@ -47,7 +47,7 @@ fn after_tax(held: u32, groups: u32) -> u32
 }
 
 /// The points that the board gives a player at the start: what it holds, less two for each of its groups where there is
-/// a tax.
+/// a tax, which there is only where nothing is declared.
 fn start_points(
     alloc: Global,
     board: &Board,
@@ -57,6 +57,7 @@ fn start_points(
 ) -> Result<u32, AllocError>
     requires settled { IsSettled board.now }
     requires life { IsLife board.now colour life.now }
+    requires taxed { MayTax tax board.now }
     ensures { IfOk result (GivesAtStart board.now colour tax) }
 {
     let held = life.held(alloc, board, colour)?;
@@ -93,7 +94,8 @@ fn opening_purses(
 
 impl Whole {
     /// The state in which a settled board opens: prisoners in points, each below 2^40, a komi in half-points, White's
-    /// where it is positive, and with or without a tax of two points for each group.
+    /// where it is positive, and with or without a tax of two points for each group, which there is only where nothing is
+    /// declared.
     pub fn opening(
         alloc: Global,
         board: &Board,
@@ -106,6 +108,7 @@ impl Whole {
         requires settled { IsSettled board.now }
         requires black { black_prisoners < 2 ^ 40 }
         requires white { white_prisoners < 2 ^ 40 }
+        requires taxed { MayTax tax board.now }
         ensures { IfOk result
             (λ w. IsOpening board.now black_prisoners white_prisoners komi_halves side tax w) }
     {
@@ -137,6 +140,7 @@ impl Whole {
         requires territory { IsTerritory board.now territory.now }
         requires black { black_prisoners < 2 ^ 40 }
         requires white { white_prisoners < 2 ^ 40 }
+        requires taxed { MayTax tax board.now }
         ensures { IfOk result
             (λ w. IsOpening board.now black_prisoners white_prisoners komi_halves side tax w) }
     {

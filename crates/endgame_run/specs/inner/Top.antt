@@ -12,7 +12,7 @@ use Rattle.endgame_solver.specs.Solved.{IsPlayable, Solved}
 use Rattle.endgame_solver.specs.declared.limits.Limits.{Limits}
 use Rattle.gtp_engine.specs.declared.end.GtpEnd.{GtpEnd}
 use Rattle.gtp_engine.specs.declared.end.GtpEnd.TheVariants as end
-use Rattle.report.specs.Analysis.{IsMarginText, IsMovesText}
+use Rattle.report.specs.Analysis.{IsLineText, IsMarginText, IsMovesText}
 use Rattle.report.specs.Solution.{IsSolveText}
 use Rattle.report.specs.Values.{IsFirstUnshown, IsValuesText}
 use Rattle.endgame_run.specs.Game.{IsEngine, IsGame}
@@ -57,6 +57,7 @@ abbrev pub IsGameReport : Question → ℤ → Solved → Status → List ℕ �
 IsGameReport question.Solve k game s text = (s ≡ Done) × IsSolveText game text
 IsGameReport question.Margin k game s text = (s ≡ Done) × IsMarginText game.state k text
 IsGameReport question.Moves k game s text = (s ≡ Done) × IsMovesText game.state k text
+IsGameReport question.Line k game s text = (s ≡ Done) × IsLineText game.regions game.state k text
 IsGameReport question.Values k game s text = IsValuesReport game s text
 IsGameReport q k game s text = ⊥
 

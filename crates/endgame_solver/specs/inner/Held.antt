@@ -22,7 +22,7 @@ use Rattle.local_graph.specs.inner.Graph.{edges_at}
 use Rattle.short_games.specs.Tree.{Tree, tree_at}
 use Rattle.game_canon.specs.Outcomes.{AreWithin}
 use Rattle.local_value.specs.Values.{AreValues}
-use Rattle.endgame_solver.specs.Regions.{region_at}
+use Rattle.endgame_solver.specs.Regions.{IsStoneAt, region_at}
 use Rattle.endgame_solver.specs.inner.Regions.{graph_at, AreGraphs, spot_in, IsShown}
 
 -- the ids of a region's positions, by place
@@ -83,12 +83,6 @@ pub record AreSolvedAt (regions : List Region) (graphs : List Graph) (values : L
   pub summed : AreSummed regions values places ids
   pub room : HasRoom graphs places s
 
--- the edge is the player's, and its place is that of the point
-pub record IsStoneAt (r : Region) (c : Colour) (p : ℕ) (e : Edge) : Type 0 where
-  pub inside : e.place < length r.points
-  pub point : slice_index r.points e.place ≡ p
-  pub colour : e.colour ≡ c
-
 -- the edge is one of the list, it is the player's, and its place is that of the point
 pub record IsEdgeTo (r : Region) (edges : List Edge) (c : Colour) (p : ℕ) (e : Edge) : Type 0 where
   pub stone : IsStoneAt r c p e
@@ -104,11 +98,6 @@ pub record ArePlaces (regions : List Region) (graphs : List Graph) (places : Lis
   pub many_graphs : length graphs ≡ length regions
   pub many_places : length places ≡ length regions
   pub inside : (k : ℕ) → k < length regions → place_at places k < length (graph_at graphs k).positions
-
--- neither purse passes 2 ^ 42
-pub record AreModest (m : Purses) : Type 0 where
-  pub black : m.black ≤ 2 ^ 42
-  pub white : m.white ≤ 2 ^ 42
 
 -- of the stones that win the one at the lowest point, which is one of at most 625
 abbrev pub IsFirstStone : Whole → Option ℕ → Type 0

@@ -1,5 +1,5 @@
 -- What solving a region gives, and solving one region after the other.
-use Rattle.std.specs.Prelude.{◌≡◌, ℕ, ◌<◌, ◌≤◌, List, length, slice_index, Option, Some, None}
+use Rattle.std.specs.Prelude.{◌≡◌, ℕ, ◌<◌, ◌≤◌, List, length, slice_index}
 use Rattle.go_grid.specs.Region.{Region}
 use Rattle.local_graph.specs.LocalGraph.{MoreThan}
 use Rattle.local_graph.specs.Graph.{Graph}
@@ -8,16 +8,11 @@ use Rattle.game_canon.specs.Outcomes.{AreWithin}
 use Rattle.local_value.specs.Values.{IsGraphOf, AreValues}
 use Rattle.endgame_solver.specs.Regions.{region_at}
 use Rattle.endgame_solver.specs.inner.Regions.{graph_at}
-use Rattle.endgame_solver.specs.Faults.{AreSmallRegions, IsFirstLarge, IsFaultOf, IsSound}
+use Rattle.endgame_solver.specs.Faults.{IsFaultOf, IsSound}
 use Rattle.endgame_solver.specs.inner.Held.{ids_at, most_units}
 use Rattle.endgame_solver.specs.declared.limits.Limits.{Limits}
 use Rattle.endgame_solver.specs.declared.faults.SolveError.{SolveError}
 use Rattle.endgame_solver.specs.declared.faults.SolveError.TheVariants.{Memory}
-
--- the first region with more than 32 points, by its lowest point and its number of points, where there is one
-abbrev pub FindsLarge : List Region → Option (ℕ × ℕ) → Type 0
-FindsLarge regions (Some x) = IsFirstLarge regions x.0 x.1
-FindsLarge regions None = AreSmallRegions regions
 
 -- the region's graph, which has at most so many positions
 pub record IsGraphWithin (limit : ℕ) (r : Region) (g : Graph) : Type 0 where

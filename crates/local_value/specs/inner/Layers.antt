@@ -1,15 +1,16 @@
 -- Edges as they are followed in one layer, where a list of ids has those of the layer and behind them those of the layer before.
-use Rattle.std.specs.Prelude.{ℕ, ◌+◌, ◌*◌, ◌^◌, ◌≡◌, ◌<◌, ◌⊎◌, List, Bool, true, false, Option, None, Some, Contains, length, slice_index}
+use Rattle.std.specs.Prelude.{ℕ, ◌+◌, ◌-◌, ◌*◌, ◌^◌, ◌≡◌, ◌<◌, ◌≤◌, ◌⊎◌, List, [], ◌++◌, Bool, true, false, Option, None, Some, Contains, length, slice_index, slice_index_or}
 use Rattle.dyadic_num.specs.declared.TheConstants.{EXPONENT}
 use Rattle.go_grid.specs.declared.grid.Cell.{Cell}
 use Rattle.go_grid.specs.Region.{Region}
 use Rattle.short_games.specs.Tree.{Tree, tree_at}
 use Rattle.short_games.specs.TextOrder.{IsCanonicalFor}
 use Rattle.short_games.specs.Parts.{HasMoreParts}
-use Rattle.game_canon.specs.Outcomes.{AreWithin}
+use Rattle.game_canon.specs.Outcomes.{AreWithin, IsCanonicalId}
 use Rattle.local_value.specs.BudgetTree.{IsBudgetTree}
 use Rattle.local_value.specs.BudgetValues.{plain_graph}
 use Rattle.local_value.specs.Values.{IsPlaceOf}
+use Rattle.local_value.specs.inner.Valuing.{AreWithinAfter, HasEdges}
 use Rattle.go_grid.specs.declared.grid.Colour.{Colour}
 use Rattle.local_graph.specs.declared.graph.Edge.{Edge}
 use Rattle.local_graph.specs.ReturnGraph.{ReturnGraph, IsReturningCaptureAt}
@@ -48,7 +49,42 @@ pub record IsLayer (r : Region) (g : ReturnGraph) (owner : Colour) (limit budget
   pub each : (i : ℕ) → i < length g.positions
       → IsLayerValue r g owner limit budget (layer_size r g budget (length g.positions)) Ts i (slice_index ids i)
 
--- the ids are those of the layer before the budget's, or there is none before it
-abbrev pub IsLayerBefore : Region → ReturnGraph → Colour → ℕ → ℕ → Bool → List Tree → List ℕ → Type 0
-IsLayerBefore r g owner limit budget false Ts ids = budget ≡ 0
-IsLayerBefore r g owner limit budget true Ts ids = (k : ℕ) × (budget ≡ k + 1) × IsLayer r g owner limit k Ts ids
+-- the lists are those of the values with each budget below their number
+pub record AreLayers (r : Region) (g : ReturnGraph) (owner : Colour) (limit : ℕ) (Ts : List Tree) (layers : List (List ℕ)) : Type 0 where
+  pub each : (j : ℕ) → j < length layers → IsLayer r g owner limit j Ts (slice_index_or layers j [])
+
+-- the budget is 0, or there is one less
+abbrev pub IsBudgetLeft : Bool → ℕ → Type 0
+IsBudgetLeft false j = j ≡ 0
+IsBudgetLeft true j = (k : ℕ) × (j ≡ k + 1)
+
+-- the list stands so far from the end, or there is none and it is empty
+abbrev pub IsLayerBack : List (List ℕ) → ℕ → List ℕ → Type 0
+IsLayerBack layers back layer = ((back ≤ length layers) × (layer ≡ slice_index_or layers (length layers - back) []))
+    ⊎ ((length layers < back) × (layer ≡ []))
+
+-- so many ids, behind them those of the last layer, and behind these those of the layer before it
+pub record IsRoom (count : ℕ) (layers : List (List ℕ)) (ids : List ℕ) : Type 0 where
+  pub own : List ℕ
+  pub last : List ℕ
+  pub earlier : List ℕ
+  pub many : length own ≡ count
+  pub last_is : IsLayerBack layers 1 last
+  pub earlier_is : IsLayerBack layers 2 earlier
+  pub is : ids ≡ (own ++ last) ++ earlier
+
+-- the id behind the edge is as it was one layer before
+abbrev pub IsUnchanged : ℕ → List ℕ → Edge → Type 0
+IsUnchanged count ids f = (f.next + count < length ids) × (slice_index ids (f.next + count) ≡ slice_index ids f.next)
+
+-- the id is that of the place one layer before, and behind none of its followed edges did an id change
+pub record IsKept (count : ℕ) (ids : List ℕ) (i : ℕ) (fs : List Edge) (id : ℕ) : Type 0 where
+  pub there : i + count < length ids
+  pub is : slice_index ids (i + count) ≡ id
+  pub unchanged : (f : Edge) → Contains fs f → IsUnchanged count ids f
+
+-- the id is that of the form of the games with these edges, made as the store grew
+pub record IsMade (Ts Us : List Tree) (ids : List ℕ) (limit : ℕ) (fs : List Edge) (id : ℕ) : Type 0 where
+  pub value : (G : Tree) → HasEdges Ts ids fs G → IsCanonicalId Us G id
+  pub parts : HasMoreParts (tree_at Us id) limit → ⊥
+  pub sizes : (b : ℕ) → AreWithinAfter b Ts ids fs → AreWithin (b + 2 ^ EXPONENT) (tree_at Us id)

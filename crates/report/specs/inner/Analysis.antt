@@ -1,12 +1,15 @@
 -- What of an analysis has been written.
-use Rattle.std.specs.Prelude.{ℕ, ℤ, ◌≡◌, ◌++◌, List, []}
+use Rattle.std.specs.Prelude.{ℕ, ℤ, ◌≡◌, ◌++◌, List, [], codes}
 use Rattle.go_grid.specs.declared.grid.Colour.{Colour}
 use Rattle.go_grid.specs.declared.grid.Colour.TheVariants.{Black, White}
+use Rattle.go_grid.specs.Region.{Region}
 use Rattle.whole_rules.specs.declared.states.Move.{Move}
 use Rattle.whole_rules.specs.FirstWinningMove.{IsWinner}
 use Rattle.whole_rules.specs.WholeGame.{Whole}
+use Rattle.endgame_solver.specs.PlayLine.{IsLineFrom}
 use Rattle.endgame_solver.specs.Thresholds.{IsThresholdFrom}
-use Rattle.report.specs.Analysis.{AreStoneTexts, IsMoveText, IsStoneText, first_lines, opening_lines}
+use Rattle.report.specs.Analysis.{AreStoneTexts, IsMoveText, IsStoneText, first_lines, opening_lines, stones_line}
+use Rattle.report.specs.Komi.{komi_line}
 
 -- behind the text stand the side to move, the komi and the winner
 pub record HasOpening (s : Whole) (k : ℤ) (before now : List ℕ) : Type 0 where
@@ -39,3 +42,15 @@ pub record HasMove (s : Whole) (m : Move) (label before now : List ℕ) : Type 0
   pub said : List ℕ
   pub is : IsMoveText s m label said
   pub text : now ≡ before ++ said
+
+-- behind the text stands the threshold of the side to move
+pub record HasThreshold (s : Whole) (k : ℤ) (before now : List ℕ) : Type 0 where
+  pub threshold : ℤ
+  pub mover_first : IsThresholdFrom s k s.side [] threshold
+  pub text : now ≡ before ++ komi_line (codes "threshold") threshold
+
+-- behind the text stands the line of play, whatever the komi
+pub record HasLine (regions : List Region) (s : Whole) (before now : List ℕ) : Type 0 where
+  pub stones : List ℕ
+  pub line : (k : ℤ) → IsLineFrom regions s k stones
+  pub text : now ≡ before ++ stones_line s.board.columns s.side stones

@@ -26,7 +26,7 @@ loop-number-preserved c =
           subst (λ x. AreTriedBelow d alive x run (n + 1)) (sym w.left-is)
           (tried_more d alive c.loop-number.left run n w.chain.result w.difference-left-then-contains.result c.loop-number.invariant
           (λ g settled marks. failed_copy d n run w.in_ok-trial.trial w.capture.new.run w.in_ok-capture.field-0 w.in_ok-trial.ensures.0
-          w.in_ok-trial.ensures.1 w.in_ok-capture.ensures w.if-branch.false g)
+          w.in_ok-trial.ensures.1 w.in_ok-capture.ensures w.if-branch.false g settled.closed)
           chain w.difference-left-then-contains.ensures)
       | else-contains w ↦ subst (λ x. AreTriedBelow d alive x run (n + 1)) (sym w.left-is)
           (tried_skip d alive c.loop-number.left run n c.loop-number.invariant

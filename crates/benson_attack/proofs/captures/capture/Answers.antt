@@ -17,14 +17,14 @@ pressing-smaller c =
     let d = c.args.colour in
     let p = c.in-Some.point in
     let m = c.press.new.board in
-    let placed = c.in-Some.ensures.1 in
+    let placed = c.in-Some.ensures.2 in
     falls d h m (long h d p m (placed.1.place, placed.1.free) placed.0 placed.1.without) (rises h d p m placed)
 
 pub pressing-preserved : goal.pressing-preserved
 pressing-preserved c =
     pressed_next c.args.colour c.args.victim c.args.run.now c.pressing.run
     (record { board = c.press.new.board; placings = c.push.new.self }) c.in-Some.point c.pressing.invariant
-    c.in-Some.ensures.0 c.in-Some.ensures.1 c.in_ok-push-in-Some.ensures.items
+    c.in-Some.ensures.0 c.in-Some.ensures.1 c.in-Some.ensures.2 c.in_ok-push-in-Some.ensures.items
 
 pub returns-in-None : goal.returns-in-None
 returns-in-None c =

@@ -21,11 +21,11 @@ returns c =
     let whole : (t : ℕ) → IsMarked alive t → IsMarked alive (label s.chains t) = λ t m.
     (c.requires.alive _).1 (alive_whole g col t _ ((c.requires.alive t).0 m) (is.chains.joined t (stones t m))) in
     let some = some_is g col s is c.args.eyes.now c.requires.eyes c.breached-breached.result (IsMarked alive) c.breached-breached.ensures in
-    counted_same g col alive c.labelled.result c.requires.alive (λ p.
-    let w = c.labelled.ensures p in (
+    counted_same g col alive c.labelled-in_eyes.result c.with_declared.result c.requires.alive (λ p.
+    let w = c.labelled-in_eyes.ensures p in (
       λ m.
           let h = w.0 m in
           let lacks = (is.lacking p).0 h.0 in
           (lacks, (some p lacks stones whole).0 ((c.eyes_of-found.ensures _).0 h.1)),
       λ h. w.1 ((is.lacking p).1 h.0, (c.eyes_of-found.ensures _).1 ((some p h.0 stones whole).1 h.1)),
-    ))
+    )) c.with_declared.ensures

@@ -11,6 +11,7 @@ filling-preserved c =
     record {
       columns = ap (λ x. x.columns) e ∙ s.columns;
       rows = ap (λ x. x.rows) e ∙ s.rows;
+      declared = ap (λ x. x.declared) e ∙ s.declared;
       full = ap (λ x. length x.cells) e ∙ length-set _ _ _ ∙ s.full;
       each = filled_more c.args.number c.filling.point c.filling.board _ c.cell_of.result e (omega (arith, s.full, c.filling-test.true)) s.each
           (c.cell_of.ensures c.args.number (subst (AreCorridors c.args.number 16) (sym c.deref.ensures.value) c.in_ok-corridors.ensures));

@@ -3,6 +3,7 @@ use Rattle.std.proofs.Common.{inr}
 use Rattle.gd_words.specs.declared.job.Question.TheVariants.{Solve}
 use Rattle.endgame_run.proofs.StepLaws.{needed_steps}
 use Rattle.endgame_run.proofs.TopLaws.{begun_opened, found_position}
+use Rattle.endgame_run.proofs.UndeclaredLaws.{position_may_tax}
 use Rattle.endgame_run.proofs.game.open_game.Goals as goal
 
 pub returns-in_ok-opened-in-Position-clause-opened : goal.returns-in_ok-opened-in-Position-clause-opened
@@ -18,3 +19,10 @@ returns-in_ok-opened-in-Position-clause-steps g c =
     let j = input_of g.H.Shelf g.S.Source c.find_position.new.shelf c.find_position.new.lines in
     let p = found_position c.args.settings.now c.args.game.now.word.now i j c.in_ok-setup.field-0 c.in-Position.setup c.in-Position.is c.in_ok-setup.ensures.found in
     inr (p.file, c.in-Position.setup, p.told_so, p.reads, needed_steps Solve c.args.game.now.limits c.in-Position.setup c.args.steps.now c.begin.new.steps tt c.begin.ensures.steps)
+
+pub begin-requires-clause-taxed : goal.begin-requires-clause-taxed
+begin-requires-clause-taxed g c =
+    let i = input_of g.H.Shelf g.S.Source c.args.shelf.now c.args.lines.now in
+    let j = input_of g.H.Shelf g.S.Source c.find_position.new.shelf c.find_position.new.lines in
+    position_may_tax _ c.args.settings.now c.in-Position.setup c.args.game.now.limits.tax
+    (found_position c.args.settings.now c.args.game.now.word.now i j c.in_ok-setup.field-0 c.in-Position.setup c.in-Position.is c.in_ok-setup.ensures.found)

@@ -1,5 +1,6 @@
 use Rattle.desk_io.specs.Desk.{input_of}
 use Rattle.endgame_run.proofs.TopLaws.{found_position, position_answer}
+use Rattle.endgame_run.proofs.UndeclaredLaws.{position_may_tax}
 use Rattle.endgame_run.proofs.run_question.answer.Goals as goal
 
 pub returns-in_ok-report-in-Position-clause-answer : goal.returns-in_ok-report-in-Position-clause-answer
@@ -8,3 +9,10 @@ returns-in_ok-report-in-Position-clause-answer g c =
     let j = input_of g.H.Shelf g.S.Source c.find_position.new.shelf c.find_position.new.lines in
     position_answer c.args.inquiry.now.question c.args.inquiry.now.limits _ _ _ c.args.settings.now c.in-Position.setup c.in_ok-report-in-Position.report.status c.in_ok-report-in-Position.report.text
     (found_position c.args.settings.now c.args.inquiry.now.word.now i j c.in_ok-setup.field-0 c.in-Position.setup c.in-Position.is c.in_ok-setup.ensures.found) c.in_ok-report-in-Position.ensures.answer
+
+pub report_on_position-requires-clause-taxed : goal.report_on_position-requires-clause-taxed
+report_on_position-requires-clause-taxed g c =
+    let i = input_of g.H.Shelf g.S.Source c.args.shelf.now c.args.lines.now in
+    let j = input_of g.H.Shelf g.S.Source c.find_position.new.shelf c.find_position.new.lines in
+    position_may_tax _ c.args.settings.now c.in-Position.setup c.args.inquiry.now.limits.tax
+    (found_position c.args.settings.now c.args.inquiry.now.word.now i j c.in_ok-setup.field-0 c.in-Position.setup c.in-Position.is c.in_ok-setup.ensures.found)

@@ -2,7 +2,7 @@ use Rattle.std.proofs.Common.{sym, subst}
 use Rattle.std.proofs.lemmas.Bool.{both_ways}
 use Rattle.std.proofs.lemmas.List.Elements.{Contains-get_or}
 use Rattle.local_graph.specs.inner.Graph.{no_edge}
-use Rattle.endgame_solver.specs.inner.Held.{IsStoneAt}
+use Rattle.endgame_solver.specs.Regions.{IsStoneAt}
 use Rattle.endgame_solver.proofs.WinningLaws.{none_before_more}
 use Rattle.endgame_solver.proofs.winning_moves.edge_in.Goals as goal
 

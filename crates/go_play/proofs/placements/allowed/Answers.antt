@@ -19,7 +19,7 @@ returns c =
     let w = without_stripped b.cells (IsTaken g c.args.point c.args.colour) c.in_ok-taken.taken j.1 in (
       record g { cells = strip c.in_ok-taken.taken b.cells },
       (
-        (record { columns = refl; rows = refl }, record { place = j.0.0; free = j.0.1; without = w; stands = j.2 _ w }),
+        (record { columns = refl; rows = refl; declared = refl }, record { place = j.0.0; free = j.0.1; without = w; stands = j.2 _ w }),
         rw c.len.ensures (number_taken g c.args.point c.args.colour _ c.in_ok-taken.taken j.0 j.1 w),
       ),
     )

@@ -12,7 +12,11 @@ returns c =
     let w = without_marked b.cells (IsTaken g c.args.point c.args.colour) c.in_ok-taken.taken h.cells j.1
     (rw (c.set.ensures, c.stone.ensures) at c.take_off.ensures.cells) in (
       (
-        record { columns = rw c.set.ensures at c.take_off.ensures.size.columns; rows = rw c.set.ensures at c.take_off.ensures.size.rows },
+        record {
+          columns = rw c.set.ensures at c.take_off.ensures.ground.columns;
+          rows = rw c.set.ensures at c.take_off.ensures.ground.rows;
+          declared = rw c.set.ensures at c.take_off.ensures.ground.declared;
+        },
         record { place = j.0.0; free = j.0.1; without = w; stands = j.2 h.cells w },
       ),
       rw c.len-number.ensures (number_taken g c.args.point c.args.colour h.cells c.in_ok-taken.taken j.0 j.1 w),

@@ -1,26 +1,13 @@
-use Rattle.std.proofs.Common.{◌≡◌, ap, ◌∙◌, subst, [], slice_index_or, Contains, List, None, Some}
-use Rattle.std.proofs.lemmas.List.Elements.{Contains-get_or}
+use Rattle.std.proofs.Common.{◌≡◌, ◌∙◌, ap, sym, subst, [], slice_index_or, List, length}
 use Rattle.local_graph.specs.declared.graph.Edge.{Edge}
-use Rattle.local_graph.specs.inner.Graph.{edges_at, no_edge}
-use Rattle.local_value.proofs.LayerLaws.{followed-on}
+use Rattle.local_value.specs.inner.Layers.{AreFollowed}
+use Rattle.local_value.proofs.LayerLaws.{all-followed}
 use Rattle.local_value.proofs.budgets.followed_edges.Goals as goal
-use Rattle.local_value.proofs.budgets.followed_edges.Goals.{in-Some+in_ok-push-in-Some, in-None}
 
-pub followed-requires-clause-next : goal.followed-requires-clause-next
-followed-requires-clause-next c =
-    let same : c.edges-edge-items.result.now ≡ edges_at c.args.graph.now.edges c.args.place =
-    c.edges-edge-items.ensures ∙ ap (λ (z : List (List Edge)). slice_index_or z c.args.place []) c.graph.ensures.edges in
-    c.requires.next _ (subst (λ es. Contains es (slice_index_or c.edges-edge-items.result.now c.loop-edge.edge-index no_edge)) same
-    (Contains-get_or c.edges-edge-items.result.now c.loop-edge.edge-index no_edge c.loop-edge-test.true))
-
-pub loop-edge-preserved : goal.loop-edge-preserved
-loop-edge-preserved c =
-    let edges = edges_at c.args.graph.now.edges c.args.place in
-    let same : c.edges-edge-items.result.now ≡ edges =
-    c.edges-edge-items.ensures ∙ ap (λ (z : List (List Edge)). slice_index_or z c.args.place []) c.graph.ensures.edges in
-    elim c.match-followed.branch [
-      | in-Some+in_ok-push-in-Some w ↦ followed-on edges c.loop-edge.edges.items _ c.loop-edge.edge-index (Some w.in-Some.edge) _ same c.loop-edge.invariant
-          c.loop-edge-test.true (w.in-Some.ensures {u = tt}) (ap (λ v. v.items) w.edges-is ∙ (w.in_ok-push-in-Some.ensures {u = tt}).items)
-      | in-None w ↦ followed-on edges c.loop-edge.edges.items _ c.loop-edge.edge-index None _ same c.loop-edge.invariant
-          c.loop-edge-test.true (w.in-None.ensures {u = tt}) (ap (λ v. v.items) w.edges-is)
-    ]
+pub returns-then-not-has_returning_capture : goal.returns-then-not-has_returning_capture
+returns-then-not-has_returning_capture c =
+    let same : c.edges.result.now ≡ slice_index_or c.args.graph.now.edges c.args.place [] =
+    c.edges.ensures ∙ ap (λ (z : List (List Edge)). slice_index_or z c.args.place []) c.graph.ensures.edges in
+    subst (AreFollowed c.args.owner c.args.graph.now.components c.args.place (length c.args.graph.now.positions) c.args.has_budget
+    (slice_index_or c.args.graph.now.edges c.args.place [])) (sym same)
+    (all-followed (slice_index_or c.args.graph.now.edges c.args.place []) (c.has_returning_capture.ensures c.if-not-has_returning_capture.true))

@@ -34,7 +34,7 @@ invariant_of-result c = (returns-clause-region c).proper
 
 pub returns-clause-walled : goal.returns-clause-walled
 returns-clause-walled c =
-    walled_in c.args.board.now _ c.args.black.now c.args.white.now c.requires.black c.requires.white (returns-clause-region c)
+    walled_in c.args.board.now _ c.args.black.now c.args.white.now c.requires.black c.requires.white c.requires.settled.closed (returns-clause-region c)
 
 pub returns-clause-named : goal.returns-clause-named
 returns-clause-named c =

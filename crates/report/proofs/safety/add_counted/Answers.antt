@@ -13,13 +13,13 @@ returns-then-not-contains c =
     (no_key_unmarked c.args.board.now c.args.colour c.args.point c.args.counted.now c.requires.counted
     (λ m. both_ways c.contains.result c.if-not-contains.true (c.contains.ensures.1 m)))
 
-pub region_of-requires : goal.region_of-requires
-region_of-requires c = (c.requires.counted c.args.point).0 (c.contains.ensures.0 c.if-not-contains.false)
+pub region_of-requires-clause-counted : goal.region_of-requires-clause-counted
+region_of-requires-clause-counted c = (c.requires.counted c.args.point).0 (c.contains.ensures.0 c.if-not-contains.false)
 
 pub stands_first-requires : goal.stands_first-requires
 stands_first-requires c =
     rw c.deref.ensures.value
-    (region_has_first c.args.board.now c.args.colour c.args.point c.in_ok-region.region.items
+    (region_has_first c.args.board.now c.requires.settled.closed c.args.colour c.args.point c.in_ok-region.region.items
     ((c.requires.counted c.args.point).0 (c.contains.ensures.0 c.if-not-contains.false)) c.in_ok-region.ensures)
 
 pub returns-then-not-stands_first : goal.returns-then-not-stands_first
@@ -27,7 +27,7 @@ returns-then-not-stands_first c =
     let counted = (c.requires.counted c.args.point).0 (c.contains.ensures.0 c.if-not-contains.false) in
     let second = subst (λ xs. get_or xs 0 0 ≡ c.args.point → (c.stands_first.result ≡ true)) c.deref.ensures.value c.stands_first.ensures.1 in
     listing_same _ _ _ _ (2 * c.args.point + turn c.args.colour) c.args.lines.now.items c.requires.below
-    (no_key_from c.args.board.now c.args.colour c.args.point c.in_ok-region.region.items counted c.in_ok-region.ensures
+    (no_key_from c.args.board.now c.requires.settled.closed c.args.colour c.args.point c.in_ok-region.region.items counted c.in_ok-region.ensures
     (λ e. both_ways c.stands_first.result c.if-not-stands_first.true (second e)))
 
 pub held-requires-clause-ascending : goal.held-requires-clause-ascending

@@ -2,6 +2,7 @@ use Rattle.std.proofs.Common.{ap, subst}
 use Rattle.gtp_engine.specs.inner.Playing.{IsOpened}
 use Rattle.gtp_engine.proofs.OrderLemmas.{turn_first, turn_unsolved}
 use Rattle.gtp_engine.proofs.KeptLemmas.{with_side_fit}
+use Rattle.std.proofs.lemmas.Bool.{both_ways}
 use Rattle.gtp_engine.proofs.engine.Engine.set_out.Goals as goal
 
 pub open-requires-clause-fit : goal.open-requires-clause-fit
@@ -23,3 +24,7 @@ returns-clause-taken g c =
     (ap (λ a. a.limits) c.self.view_is) (ap (λ a. a.table.setup) c.self.view_is) c.requires c.in_ok-setup.ensures
     _ c.in-Some.solved.state v (subst (IsOpened c.self.inside.limits c.in_ok-setup.setup) c.in-Some.is c.in_ok-solved.ensures.opened) c.in_ok-reply-2.ensures.acted
     c.put.ensures
+
+-- an engine has no tax
+pub open-requires-clause-taxed : goal.open-requires-clause-taxed
+open-requires-clause-taxed g c taxed = absurd (both_ways _ c.self.invariant.limits_fit.no_tax taxed)

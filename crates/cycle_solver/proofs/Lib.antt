@@ -1,0 +1,4 @@
+pub mod GameLaws
+pub mod SumLaws
+pub mod StoneLaws
+pub mod BeginLaws

@@ -1,0 +1,20 @@
+use Rattle.std.proofs.Common.{◌∙◌, ap, get_or}
+use Rattle.std.proofs.lemmas.List.{get_or_default}
+use Rattle.cycle_solver.proofs.GameLaws.{past_bounds, past_parts}
+use Rattle.cycle_solver.proofs.region_game.values_of.Goals as goal
+
+pub returns-in-Err-Form-Parts-clause-refusal : goal.returns-in-Err-Form-Parts-clause-refusal
+returns-in-Err-Form-Parts-clause-refusal c =
+    let r = c.args.region.now in
+    let held = c.requires.graph in
+    let (k, le, needed, past) =
+    rw (c.in-Err-Form-Parts.field-0-is, c.in-Err-Form-Parts.field-0-0-is) at (c.in-Err-Form-Parts.ensures.valued r held.graph) in
+    (c.index-lowest.ensures ∙ get_or_default c.region.inside.points.items 0 c.index-lowest.result.now 0 c.region.invariant.some ∙ ap (λ z. get_or z.points 0 0) c.region.view_is, held.positions, (c.args.colour, (k, le, needed, past_parts r c.args.graph.now held.graph c.args.colour c.args.limits.now.parts k past)))
+
+pub returns-in-Err-Form-Bounds-clause-refusal : goal.returns-in-Err-Form-Bounds-clause-refusal
+returns-in-Err-Form-Bounds-clause-refusal c =
+    let r = c.args.region.now in
+    let held = c.requires.graph in
+    let (k, le, needed, past) =
+    rw (c.in-Err-Form-Bounds.field-0-is, c.in-Err-Form-Bounds.field-0-0-is) at (c.in-Err-Form-Bounds.ensures.valued r held.graph) in
+    (c.index-lowest.ensures ∙ get_or_default c.region.inside.points.items 0 c.index-lowest.result.now 0 c.region.invariant.some ∙ ap (λ z. get_or z.points 0 0) c.region.view_is, held.positions, (c.args.colour, (k, le, needed, past_bounds r c.args.graph.now held.graph c.args.colour c.args.limits.now.parts k past)))

@@ -1,0 +1,4 @@
+pub mod CycleFaults
+pub mod Games
+pub mod Held
+pub mod Winner

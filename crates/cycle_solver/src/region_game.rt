@@ -1,0 +1,152 @@
+//! Regions with their graphs, and the values of their positions by budget.
+
+ghost use Rattle.std.specs.Prelude.{◌≡◌, ℕ, ◌+◌, ◌^◌, ◌<◌, ◌≤◌, IfErr, IfOk, MatchOption, Ok, Err, length, min};
+ghost use Rattle.game_store.specs.Meaning.{Extends};
+ghost use Rattle.local_graph.specs.LocalGraph.{MoreThan};
+ghost use Rattle.local_value.specs.BudgetValues.{IsReturnGraphOf};
+ghost use Rattle.endgame_solver.specs.Faults.{AreSmallRegions, most_steps};
+ghost use Rattle.cycle_solver.specs.CycleFaults.{AreRefused};
+ghost use Rattle.cycle_solver.specs.Held.{IsGameOf, layers_for};
+ghost use Rattle.cycle_solver.specs.Games.{IsGraphWithin, AreSolvedBelow, IsRefusalOf, IsSolvedBy, MayBeSteady};
+
+use crate::faults::CycleError;
+use endgame_solver::Limits;
+use game_canon::FormError;
+use game_store::Store;
+use go_grid::{Colour, Region};
+use local_graph::{GraphError, MOST_POSITIONS, ReturnGraph, build_with_returns};
+use local_play::Steps;
+use local_value::{BudgetError, SteadyValues, value_steady};
+use std::alloc::Global;
+use std::sync::ledger::Ledger;
+
+/// A region's graph, and the values of its positions for each budget of Black's and of White's.
+#[derive(Drop)]
+pub struct RegionGame {
+    pub graph: ReturnGraph,
+    pub black: SteadyValues,
+    pub white: SteadyValues,
+}
+
+/// The values of a colour.
+pub fn values_for(game: &RegionGame, colour: Colour) -> &SteadyValues
+    ensures { result.now ≡ layers_for game.now colour }
+{
+    match colour {
+        Colour::Black => &game.black,
+        Colour::White => &game.white,
+    }
+}
+
+/// The graph of a region of at most 32 points.
+fn graph_of<L: Ledger>(
+    alloc: Global,
+    region: &Region,
+    limits: &Limits,
+    steps: &mut Steps<L>,
+) -> Result<ReturnGraph, CycleError>
+    requires { length region.now.points ≤ 32 }
+    ensures graph { IfOk result (λ g. IsGraphWithin limits.now.positions region.now g) }
+    ensures refusal { IfErr result
+        (λ e. (most : ℕ) → IsRefusalOf limits.now most region.now e) }
+    ensures steps { steps.new ≤ steps.old + min limits.now.positions
+        (3 ^ length region.now.points) }
+{
+    let lowest = region.points[0];
+    match build_with_returns(alloc, region, limits.positions, steps) {
+        Ok(graph) => Ok(graph),
+        Err(GraphError::Points(points)) => Err(CycleError::Points(lowest, points)),
+        Err(GraphError::Positions) => Err(CycleError::Positions(lowest)),
+        Err(GraphError::Cycle(_moves, _back)) => unreachable!(),
+        Err(GraphError::Memory(error)) => Err(CycleError::Memory(error)),
+    }
+}
+
+/// The values of a colour, if the region is steady for it.
+fn values_of(
+    alloc: Global,
+    region: &Region,
+    graph: &ReturnGraph,
+    colour: Colour,
+    limits: &Limits,
+    most: u8,
+    store: &mut Store,
+) -> Result<Option<SteadyValues>, CycleError>
+    requires points { length region.now.points ≤ 32 }
+    requires graph { IsGraphWithin limits.now.positions region.now graph.now }
+    requires limit { limits.now.positions ≤ MOST_POSITIONS }
+    ensures values { IfOk result
+        (λ x. MayBeSteady limits.now most region.now graph.now colour store.new x) }
+    ensures refusal { IfErr result (λ e. IsRefusalOf limits.now most region.now e) }
+    ensures kept { Extends store.old store.new }
+{
+    let lowest = region.points[0];
+    match value_steady(alloc, graph, colour, store, most, limits.parts) {
+        Ok(values) => Ok(Some(values)),
+        Err(BudgetError::Captures) => Ok(None),
+        Err(BudgetError::Form(FormError::Parts)) => Err(CycleError::Form(lowest)),
+        Err(BudgetError::Form(FormError::Bounds)) => Err(CycleError::Form(lowest)),
+        Err(BudgetError::Form(FormError::Memory(error))) => Err(CycleError::Memory(error)),
+    }
+}
+
+/// The graph and the values of a region.
+fn region_game<L: Ledger>(
+    alloc: Global,
+    region: &Region,
+    limits: &Limits,
+    most: u8,
+    store: &mut Store,
+    steps: &mut Steps<L>,
+) -> Result<RegionGame, CycleError>
+    requires points { length region.now.points ≤ 32 }
+    requires limit { limits.now.positions ≤ MOST_POSITIONS }
+    ensures solved { IfOk result (λ game. IsSolvedBy limits.now most region.now store.new game) }
+    ensures refusal { IfErr result (λ e. IsRefusalOf limits.now most region.now e) }
+    ensures kept { Extends store.old store.new }
+    ensures steps { steps.new ≤ steps.old + min limits.now.positions
+        (3 ^ length region.now.points) }
+{
+    let graph = graph_of(alloc, region, limits, steps)?;
+    let black = values_of(alloc, region, &graph, Colour::Black, limits, most, store)?;
+    let white = values_of(alloc, region, &graph, Colour::White, limits, most, store)?;
+    let lowest = region.points[0];
+    match black {
+        None => Err(CycleError::Captures(lowest)),
+        Some(black) => match white {
+            None => Err(CycleError::Captures(lowest)),
+            Some(white) => Ok(RegionGame {
+                graph,
+                black,
+                white,
+            }),
+        },
+    }
+}
+
+/// The graphs and the values of all regions of at most 32 points, or why the first that has none has none: too many positions,
+/// a value without a form, or more captures that return than `most` before it is steady. It takes at most one step for each
+/// position of each region. The values that it makes are of the store.
+pub fn region_games<L: Ledger>(
+    alloc: Global,
+    regions: &[Region],
+    limits: &Limits,
+    most: u8,
+    store: &mut Store,
+    steps: &mut Steps<L>,
+) -> Result<Vec<RegionGame>, CycleError>
+    requires small { AreSmallRegions regions.now }
+    requires limit { limits.now.positions ≤ MOST_POSITIONS }
+    ensures solved { IfOk result (λ games. AreSolvedBelow limits.now most regions.now games.items
+        store.new (length regions.now)) }
+    ensures refusal { IfErr result (λ e. AreRefused limits.now most regions.now e) }
+    ensures kept { IfOk result (λ games. Extends store.old store.new) }
+    ensures steps { steps.new ≤ steps.old + most_steps limits.now regions.now }
+{
+    let mut games = Vec::new(alloc);
+    'regions: for number in 0..regions.len() {
+        let game = region_game(alloc, &regions[number], limits, most, store, steps)?;
+        games.push(game)?;
+    }
+    Ok(games)
+}
