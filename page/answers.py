@@ -9,10 +9,9 @@ from fractions import Fraction
 TOP = pathlib.Path(__file__).resolve().parent.parent
 sys.path[:0] = [str(TOP / 'docs/positions'), str(TOP / 'docs')]
 
-from record import Board, komi_text, picture, signs
+from record import SYMBOL, komi_text, picture, signs
 from script import Fault
 
-STONES = {'X': 'black', 'O': 'white'}
 SIGNS = {
     'X': 'black stone, alive', 'O': 'white stone, alive', 'x': 'black stone, open', 'o': 'white stone, open', '.': 'empty, open',
     'b': "empty, Black's point", 'w': "empty, White's point", 'B': "captive white stone, Black's point", 'W': "captive black stone, White's point",
@@ -34,20 +33,11 @@ def pairs_of(lines):
     return [line.partition(' ')[::2] for line in lines]
 
 
-def board_of(lines):
-    """The answer of `board`, and the board itself."""
-    told = [line.split() for line in lines]
-    columns, rows = int(told[0][1]), int(told[0][2])
-    board = Board(columns, rows)
-    texts = [words[1] for words in told if words[0] == 'row']
-    for x, y in board.points():
-        if texts[y][x] in STONES:
-            board.stones[x, y] = STONES[texts[y][x]]
-    values = {' '.join(words[:-1]): words[-1] for words in told if words[0] in ('side', 'komi', 'prisoners')}
-    return {
-        'columns': columns, 'rows': texts, 'side': values['side'], 'komi': values['komi'],
-        'prisoners': {colour: int(values['prisoners ' + colour]) for colour in ('black', 'white')},
-    }, board
+def board_of(setup):
+    """A setup for the page."""
+    board = setup.board
+    rows = [''.join(SYMBOL.get(board.stones.get((x, y)), '.') for x in range(board.columns)) for y in range(board.rows)]
+    return {'columns': board.columns, 'rows': rows, 'side': setup.side, 'komi': setup.komi, 'prisoners': setup.prisoners}
 
 
 def safety_of(board, lines):
@@ -107,6 +97,17 @@ def moves_of(lines):
         loss = best - sign * halves(move['komi'])
         move['loss'], move['best'] = komi_text(loss), loss == 0
     return {'side': told['side'], 'komi': told['komi'], 'winner': told['winner'], 'moves': moves}
+
+
+def stones_of(words):
+    """Stones as the program lists them, each a colour and a point."""
+    return [dict(zip(('colour', 'point'), word.split(':', 1))) for word in words]
+
+
+def line_of(lines):
+    """The answer of `line`: the threshold, and the stones in turn."""
+    told = dict(pairs_of(lines))
+    return {'threshold': told['threshold'], 'moves': stones_of(told['line'].split()[1:])}
 
 
 def summary(board, moves, margin):

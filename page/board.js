@@ -123,23 +123,23 @@ function mark(move) {
   return shape('g', { class: 'answer' }, ground, ...texts);
 }
 
-/** The moves of a cycle, numbered at their points; those that were made already stand out. */
-function numbers(cycle) {
+/** The moves of a cycle or a line, numbered at their points; those that were made already stand out. */
+function numbers({ moves, step }) {
   const found = new Map();
-  cycle.moves.forEach((move, index) => {
+  moves.forEach((move, index) => {
     const list = found.get(move.point) || [];
     list.push(index + 1);
     found.set(move.point, list);
   });
   return [...found].map(([point, list]) => {
     const { x, y } = at(point);
-    return label(x, y, list.join(' '), list[0] <= cycle.step ? 'number' : 'number later');
+    return label(x, y, list.join(' '), list[0] <= step ? 'number' : 'number later');
   });
 }
 
 /** Draws the whole picture: `scene` has the board, and what is to be drawn on it. */
 export function draw(svg, scene) {
-  const { board, signs, regions, moves, near, cursor, cycle, alarm, last } = scene;
+  const { board, signs, regions, moves, near, cursor, stepped, alarm, last } = scene;
   const [width, height] = [2 * EDGE + CELL * (board.columns - 1), 2 * EDGE + CELL * (board.rows.length - 1)];
   svg.setAttribute('viewBox', `0 0 ${width} ${height}`);
   svg.style.maxWidth = `${Math.max(280, width * 1.6)}px`;
@@ -156,9 +156,7 @@ export function draw(svg, scene) {
     const { x, y } = at(region.point);
     drawn.push(shape('g', { class: 'answer' }, label(x - 11, y - 16, region.point, 'region')));
   });
-  if (cycle) {
-    drawn.push(...numbers(cycle));
-  }
+  drawn.push(...numbers(stepped));
   if (last) {
     const { x, y } = at(last);
     drawn.push(shape('circle', { cx: x, cy: y, r: 8, class: 'last' }));

@@ -14,12 +14,13 @@ from functools import partial
 import answers
 from answers import TOP, Fault
 from engine import Limits, Runner
-from position import LONGEST_FILE, Position, configured, edited, empty, record_of, settled, with_moves, written
-from question import COMMANDS, Question, has_marks
-from record import komi_halves, komi_text
+from position import LONGEST_FILE, Position, configured, edited, empty, settled, with_moves, written
+from question import COMMANDS, Question
+from record import Setup
 from table import Table
 
 MOST_UNDONE = 300
+READING = 10  # seconds for which a change waits until the program has read the position
 
 
 class Desk:
@@ -29,7 +30,7 @@ class Desk:
         self.wake = threading.Condition(self.lock)
         self.runner = Runner(limits, self.lock)
         self.folder = tempfile.TemporaryDirectory(prefix='gdsolve-board-')
-        self.change, self.past, self.note = 0, [], ''
+        self.change, self.past, self.future, self.note = 0, [], [], ''
         self.question = Question(position or empty(9, 9))
         self.table = self.mending = self.working = None
         self.is_closing = False
@@ -101,11 +102,11 @@ class Desk:
     def board_after(self, text, count, is_wanted):
         """The program's board after some moves of a text, or nothing where there is none."""
         outcome = self.runner.run([self.program, 'board', '-', '--after', count], text, is_wanted)
-        return answers.board_of(outcome.lines)[0] if outcome and not outcome.fault() else None
+        return answers.board_of(Setup(outcome.lines)) if outcome and not outcome.fault() else None
 
     def draw_step(self, question):
-        moves = [(move['colour'], move['point']) for move in question.cycle()['moves']]
-        text = with_moves(settled(question.position, question.record), moves)
+        moves = [(move['colour'], move['point']) for move in question.stepped()]
+        text = with_moves(settled(question.position, question.setup), moves)
         question.steps.append(self.board_after(text, len(question.steps), lambda: self.is_asked(question)))
 
     def draw_table(self, table):
@@ -117,10 +118,9 @@ class Desk:
 
     def mend(self, mending):
         kind, question = mending
-        position, note = question.position, ''
         do = self.filled_pairs if kind == 'fill pairs' else self.closed
         try:
-            mended, note = do(position, lambda: self.mending is mending)
+            mended, note = do(question, lambda: self.mending is mending)
         except Fault as fault:
             mended, note = None, str(fault)
         with self.lock:
@@ -139,23 +139,21 @@ class Desk:
             raise Fault(outcome.stopped or (outcome.lines[-1] if outcome.lines else 'the script ended with status %d' % outcome.status))
         return outcome.lines
 
-    def filled_pairs(self, position, is_wanted):
-        alone = settled(position)
+    def filled_pairs(self, question, is_wanted):
+        alone = settled(question.position, question.setup)
         lines = self.run_script([TOP / 'page/fill-pairs'], alone.text, is_wanted)
-        return replace(alone, text='\n'.join(lines).encode() + b'\n'), 'The pairs of neutral points on cycles are filled.'
+        return replace(alone, text='\n'.join(lines).encode() + b'\n', setup=None), 'The pairs of neutral points on cycles are filled.'
 
-    def closed(self, position, is_wanted):
+    def closed(self, question, is_wanted):
+        position = question.position
         given, output = (pathlib.Path(self.folder.name, name) for name in ('given.sgf', 'closed.sgf'))
         given.write_bytes(position.text)
         words = [TOP / 'docs/positions/close', given, '--output', output]
         words += [] if position.after is None else ['--after', position.after]
-        words += ['--marks'] if has_marks(position) else []
+        words += [] if position.komi is None else ['--komi=' + position.komi]
+        words += ['--marks'] if question.has_marks else []
         told = self.run_script(words, b'', is_wanted)
-        mended = replace(position, text=output.read_bytes(), after=None)
-        if position.komi is not None:
-            paid = komi_halves(record_of(mended.text).komi) - (komi_halves(record_of(position.text).komi) or 0)
-            mended = replace(mended, komi=komi_text(komi_halves(position.komi) + paid))
-        return mended, 'Closed. ' + '; '.join(told)
+        return replace(position, text=output.read_bytes(), after=None, komi=None, setup=None), 'Closed. ' + '; '.join(told)
 
     # What the page asks for: `do` holds the lock
 
@@ -165,7 +163,7 @@ class Desk:
 
     def move_to(self, position):
         """Goes to another position, from which `undo` comes back."""
-        self.past = [*self.past[-MOST_UNDONE + 1:], self.question.position]
+        self.past, self.future = [*self.past[-MOST_UNDONE + 1:], self.question.position], []
         self.turn_to(position)
 
     def turn_to(self, position):
@@ -190,8 +188,17 @@ class Desk:
         with open(self.files[name], 'rb') as file:
             self.open(name, file.read(LONGEST_FILE + 1))
 
+    def setup(self):
+        """What stands on the board; the program is waited for where it hasn't said so yet."""
+        question = self.question
+        self.wake.wait_for(lambda: question.is_read() or self.question is not question or self.is_closing, READING)
+        if self.question is not question or question.setup is None:
+            raise Fault('the program has not read this position')
+        return question.setup
+
     def edit(self, point, colour):
-        self.move_to(edited(self.question.position, point, colour))
+        setup = self.setup()
+        self.move_to(edited(self.question.position, setup, point, colour))
 
     def new(self, columns, rows):
         self.move_to(empty(columns, rows))
@@ -206,7 +213,14 @@ class Desk:
     def undo(self):
         if not self.past:
             raise Fault('there is nothing to undo')
+        self.future.append(self.question.position)
         self.turn_to(self.past.pop())
+
+    def redo(self):
+        if not self.future:
+            raise Fault('there is nothing to do again')
+        self.past.append(self.question.position)
+        self.turn_to(self.future.pop())
 
     def stop(self):
         if self.table and self.table.is_thinking():
@@ -227,6 +241,7 @@ class Desk:
         self.begin_mending('close')
 
     def fill_pairs(self):
+        self.setup()
         self.begin_mending('fill pairs')
 
     def begin_mending(self, kind):
@@ -240,7 +255,7 @@ class Desk:
             raise Fault('a game begins from a position that is answered')
         self.leave_table()
         self.note = ''
-        self.table = Table(self, settled(self.question.position), engine)
+        self.table = Table(self, settled(self.question.position, self.question.setup), engine)
         self.changed()
 
     def play(self, move):
@@ -264,16 +279,14 @@ class Desk:
 
     def view(self):
         with self.lock:
-            question, position, record = self.question, self.question.position, self.question.record
-            data = question.data
+            question, position, data = self.question, self.question.position, self.question.data
             view = {
-                'change': self.change, 'name': position.name, 'files': sorted(self.files), 'undo': len(self.past), 'note': self.note or question.note,
+                'change': self.change, 'name': position.name, 'files': sorted(self.files), 'undo': len(self.past), 'redo': len(self.future), 'note': self.note,
                 'options': {name: getattr(position, name) for name in (
                     'after', 'komi', 'turn', 'black_prisoners', 'white_prisoners', 'tax', 'positions', 'parts')},
-                'line': record and {'played': len(record.played), 'total': len(record.played) + len(record.later)},
-                'board': data.get('board') or question.fallback('board' in data), 'signs': answers.SIGNS,
+                'record': question.line(), 'board': question.shown_board(), 'signs': answers.SIGNS,
                 **{command: data.get(command) for command in COMMANDS[1:]},
-                'refusals': question.refused, 'steps': question.steps, 'pair': question.pair(), 'closing': question.closing,
+                'refusals': question.refused, 'steps': question.steps, 'pair': question.pair(), 'closing': question.closing(),
                 'working': self.at_work(), 'game': self.table and self.table.view(),
             }
             if view['moves'] and view['margin']:
@@ -305,4 +318,4 @@ class Desk:
         with self.lock:
             if self.table:
                 return self.table.text(self.table.moves()).decode()
-            return written(self.question.position)
+            return written(self.setup())

@@ -80,6 +80,7 @@ function show(view) {
   keepFocus(() => {
     panels.answer(view);
     panels.refusals(view, state.step, act, stepTo);
+    panels.line(view, state.step, stepTo);
     panels.game(view, act);
     panels.detail(view, state.near, choose);
   });
@@ -103,9 +104,9 @@ function keepFocus(render) {
 }
 
 function forgetWhatHasGone(view) {
-  const cycle = view.refusals.map((refusal) => refusal.line).join();
-  if (cycle !== state.stepsOf) {
-    state.stepsOf = cycle;
+  const told = JSON.stringify([view.refusals.map((refusal) => refusal.line), view.line, view.board && view.board.rows]);
+  if (told !== state.stepsOf) {
+    state.stepsOf = told;
     state.step = 0;
   }
   const regions = view.safe ? view.safe.regions : [];
@@ -136,7 +137,8 @@ function showWork(working) {
 function showFile(view) {
   byId('name').textContent = view.name;
   byId('undo').disabled = view.undo === 0 && !view.game;
-  const line = view.line || { played: 0, total: 0 };
+  byId('redo').disabled = view.redo === 0 || Boolean(view.game);
+  const line = view.record;
   byId('line').hidden = line.total === 0;
   set('after', line.played);
   byId('total').textContent = line.total;
@@ -153,7 +155,7 @@ function showFile(view) {
   }
   const now = shownBoard();
   byId('facts').textContent = now ? `${now.side} to move, komi ${now.komi}, prisoners: black ${now.prisoners.black}, white ${now.prisoners.white}.`
-    + (now.unread ? ' The program does not read this file; the board is as the page reads it.' : '') : 'There is no board.';
+    + (now.unread ? ' The program refuses this board.' : '') : 'There is no board that the program reads.';
   if (view.note) {
     byId('facts').textContent += ` ${view.note}`;
   }
@@ -166,13 +168,13 @@ function set(id, value) {
   }
 }
 
-/** The board that is drawn: that of the game, of a step of a cycle, or of the position. */
+/** The board that is drawn: that of the game, of a step of a cycle or a line, or of the position. */
 function shownBoard() {
   const { view, step } = state;
   if (view.game) {
     return view.game.board || view.board;
   }
-  return (cycleOf(view) && view.steps[step]) || view.board;
+  return (step > 0 && view.steps[step]) || view.board;
 }
 
 function cycleOf(view) {
@@ -187,6 +189,8 @@ function showBoard() {
     return;
   }
   const cycle = cycleOf(view);
+  const made = !view.game && !cycle && view.line ? view.line.moves.slice(0, state.step) : [];
+  const stepped = cycle ? cycle.moves : made;
   const stopped = view.refusals.find((refusal) => refusal.line.includes('no liberty'));
   const withRegions = byId('show-regions').checked && view.safe;
   const engineMoves = view.game ? view.game.lines.filter((line) => /^engine [a-y]{2}$/.test(line)) : [];
@@ -194,10 +198,10 @@ function showBoard() {
     board: now,
     signs: view.safe ? view.safe.signs : {},
     regions: withRegions ? view.safe.regions : [],
-    moves: !view.game && view.moves && byId('show-moves').checked ? view.moves.moves.filter((move) => move.komi !== null) : [],
+    moves: !view.game && view.moves && state.step === 0 && byId('show-moves').checked ? view.moves.moves.filter((move) => move.komi !== null) : [],
     near: state.near,
     cursor: state.cursor,
-    cycle: cycle && { moves: cycle.moves, step: state.step },
+    stepped: { moves: stepped, step: state.step },
     alarm: stopped ? stopped.at : null,
     last: engineMoves.length > 0 ? engineMoves.at(-1).slice(7) : null,
   });
@@ -234,10 +238,14 @@ function choose(region) {
 
 function stepTo(step) {
   state.step = Math.max(0, Math.min(step, state.view.steps.length - 1));
-  keepFocus(() => panels.refusals(state.view, state.step, act, stepTo));
+  keepFocus(() => {
+    panels.refusals(state.view, state.step, act, stepTo);
+    panels.line(state.view, state.step, stepTo);
+  });
   showBoard();
   showText(state.view);
-  tell(byId('cycle-told').textContent);
+  showHere(state.here);
+  tell(byId('step-told').textContent);
 }
 
 function goTo(point) {
@@ -259,8 +267,8 @@ function strike(point) {
   const { view } = state;
   if (view.game) {
     act({ action: 'play', move: point });
-  } else if (cycleOf(view) && state.step > 0) {
-    byId('fault').textContent = 'A step of the cycle is shown: go to its start to set stones.';
+  } else if (state.step > 0) {
+    byId('fault').textContent = 'A later step is shown: go to the start to set stones.';
   } else {
     act({ action: 'edit', point, colour: tool() });
   }
@@ -270,8 +278,12 @@ function undo() {
   return act({ action: state.view.game ? 'take_back' : 'undo' });
 }
 
+function redo() {
+  return !state.view.game && state.view.redo > 0 && act({ action: 'redo' });
+}
+
 function after(count) {
-  const { played, total } = state.view.line;
+  const { played, total } = state.view.record;
   if (Number.isNaN(count)) {
     byId('after').value = played;
     return null;
@@ -280,8 +292,8 @@ function after(count) {
 }
 
 const KEYS = {
-  Enter: () => strike(state.cursor), ' ': () => strike(state.cursor), u: undo, '[': () => after(state.view.line.played - 1),
-  ']': () => after(state.view.line.played + 1), Escape: () => act({ action: 'stop' }),
+  Enter: () => strike(state.cursor), ' ': () => strike(state.cursor), u: undo, r: redo,
+  '[': () => after(state.view.record.played - 1), ']': () => after(state.view.record.played + 1), Escape: () => act({ action: 'stop' }),
   Home: () => goTo('aa'), s: () => state.view.game && act({ action: 'play', move: 'spend' }),
   b: () => pick('black'), w: () => pick('white'), x: () => pick(''),
 };
@@ -335,11 +347,12 @@ function listen() {
     }
   });
   on('undo', 'click', undo);
+  on('redo', 'click', redo);
   on('stop', 'click', () => act({ action: 'stop' }));
   on('first', 'click', () => after(0));
-  on('back', 'click', () => after(state.view.line.played - 1));
-  on('next', 'click', () => after(state.view.line.played + 1));
-  on('last', 'click', () => after(state.view.line.total));
+  on('back', 'click', () => after(state.view.record.played - 1));
+  on('next', 'click', () => after(state.view.record.played + 1));
+  on('last', 'click', () => after(state.view.record.total));
   on('after', 'change', () => after(number('after')));
   on('show-moves', 'change', showBoard);
   on('show-regions', 'change', showBoard);

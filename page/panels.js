@@ -134,18 +134,37 @@ function remedy(view, name, number, act) {
 }
 
 function cycle(view, refusal, step, stepTo) {
+  const back = step === refusal.returns || step === refusal.moves.length ? ' This position comes back.' : '';
+  return steps(view, refusal.moves, step, stepTo, `After move ${step} of ${refusal.moves.length}.${back}`);
+}
+
+/** Moves that are stepped through. */
+function steps(view, moves, step, stepTo, told) {
   const last = view.steps.length - 1;
-  const items = refusal.moves.map((move, index) => make('li', { class: index + 1 === step ? 'now' : '' }, `${move.colour} ${both(move.point, view)}`));
-  const told = step === refusal.returns || step === refusal.moves.length ? ' This position comes back.' : '';
+  const items = moves.map((move, index) => make('li', { class: index + 1 === step ? 'now' : '' }, `${move.colour} ${both(move.point, view)}`));
   return [
     make('ol', { class: 'moves' }, ...items),
     make('div', { class: 'buttons' },
-      button('cycle-first', 'Start', () => stepTo(0), step === 0),
-      button('cycle-back', 'Back', () => stepTo(step - 1), step === 0),
-      button('cycle-next', 'Next move', () => stepTo(step + 1), step >= last),
-      button('cycle-last', 'End', () => stepTo(last), step >= last)),
-    make('p', { id: 'cycle-told' }, `After move ${step} of ${refusal.moves.length}.${told}`),
+      button('step-first', 'Start', () => stepTo(0), step === 0),
+      button('step-back', 'Back', () => stepTo(step - 1), step === 0),
+      button('step-next', 'Next move', () => stepTo(step + 1), step >= last),
+      button('step-last', 'End', () => stepTo(last), step >= last)),
+    make('p', { id: 'step-told' }, told),
   ];
+}
+
+/** The line of play, where the position is answered. */
+export function line(view, step, stepTo) {
+  if (view.game || view.refusals.length > 0 || !view.line) {
+    return fill('play', []);
+  }
+  const { moves, threshold } = view.line;
+  const head = make('h2', {}, 'Line of play');
+  if (moves.length === 0) {
+    return fill('play', [head, make('p', {}, 'No region is hot: none has a first move that gains.')]);
+  }
+  const told = `After stone ${step} of ${moves.length}. Black wins up to komi ${threshold}, and no stone of the line changes that.`;
+  fill('play', [head, make('p', {}, 'Each stone is a best one, while some region is hot.'), ...steps(view, moves, step, stepTo, told)]);
 }
 
 export function game(view, act) {

@@ -1,17 +1,16 @@
-"""Positions on the page: a file with the program's options, changed by clicks and fields, and written as SGF."""
+"""Positions on the page: a file with the program's options, changed by clicks and fields, and written as SGF. What stands on its board is
+what the program's `board` has said, the setup."""
 
-import re
-from dataclasses import dataclass, replace
+import copy
+from dataclasses import dataclass, field, replace
 from typing import Optional
 
 from answers import Fault
-from record import COLOURS, Board, Record, komi_halves, komi_text, sgf
+from record import COLOURS, Board, Setup, komi_halves, komi_text, sgf
 
 LONGEST_FILE = 1_048_576
 MOST_MOVES = MOST_PRISONERS = 999_999
 MOST_POSITIONS, MOST_PARTS = 1_000_000, 4_000
-RECTANGLE = re.compile(rb'\[\s*[a-y]{2}\s*:\s*[a-y]{2}\s*\]')
-MOST_RECTANGLES = 2_000  # of a file that the page reads by itself: each may set 625 stones
 
 
 @dataclass(frozen=True)
@@ -26,6 +25,7 @@ class Position:
     tax: bool = False
     positions: int = 100_000
     parts: int = 500
+    setup: Optional[Setup] = field(default=None, compare=False)  # known where the page wrote the text
 
     def options(self, command):
         """The options that the command takes, as words."""
@@ -34,13 +34,6 @@ class Position:
         if command not in ('board', 'safe'):
             told.update({'tax': 'yes' if self.tax else None, 'positions': self.positions, 'parts': self.parts})
         return [word for name, value in told.items() if value is not None for word in ('--' + name, str(value))]
-
-
-def record_of(text, after=None):
-    """The main line of a file as the page reads it, so that it can be stepped through and edited."""
-    if sum(1 for _ in RECTANGLE.finditer(text)) > MOST_RECTANGLES:
-        raise Fault('the file has more than %d rectangles of stones, so that the page does not step through it' % MOST_RECTANGLES)
-    return Record(text, after)
 
 
 def empty(columns, rows):
@@ -56,29 +49,24 @@ def whole(value, least, most, what):
     return value
 
 
-def settled(position, record=None):
-    """The same position as a board alone, without the moves before and behind it."""
-    record = record or record_of(position.text, position.after)
-    komi = record.komi if position.komi is None else position.komi
-    if komi_halves(komi) is None:
-        raise Fault('the komi of the file is neither whole nor half: give one first')
+def settled(position, setup):
+    """The position as a board alone, without the moves before and behind it; the setup is what `board` says of it."""
     return replace(
-        position, text=sgf(record.board, position.turn or record.side, komi).encode(), after=None, komi=None, turn=None,
-        black_prisoners=position.black_prisoners + record.prisoners['black'],
-        white_prisoners=position.white_prisoners + record.prisoners['white'])
+        position, text=sgf(setup.board, setup.side, setup.komi).encode(), after=None, komi=None, turn=None,
+        black_prisoners=setup.prisoners['black'], white_prisoners=setup.prisoners['white'], setup=setup)
 
 
-def edited(position, name, colour):
+def edited(position, setup, name, colour):
     """The position with a stone set at a point, or taken off where one of the colour stands or the colour is none."""
     if colour not in (*COLOURS, None) or not isinstance(name, str):
         raise Fault('a stone is black or white, or none')
-    record = record_of(position.text, position.after)
-    point = record.board.point(name)
-    if colour is None or record.board.stones.get(point) == colour:
-        record.board.stones.pop(point, None)
+    changed = copy.deepcopy(setup)
+    stones, point = changed.board.stones, changed.board.point(name)
+    if colour is None or stones.get(point) == colour:
+        stones.pop(point, None)
     else:
-        record.board.stones[point] = colour
-    return settled(position, record)
+        stones[point] = colour
+    return settled(position, changed)
 
 
 def configured(position, given):
@@ -93,7 +81,7 @@ def configured(position, given):
     }
     if not given.keys() <= checks.keys():
         raise Fault('there is no such option')
-    return replace(position, **{name: checks[name](value) for name, value in given.items()})
+    return replace(position, setup=None, **{name: checks[name](value) for name, value in given.items()})
 
 
 def komi_option(value):
@@ -110,15 +98,14 @@ def turn_option(value):
     return value
 
 
-def written(position):
-    """The position as a file that answers alone: its prisoners go into the komi."""
-    alone = settled(position)
-    record = record_of(alone.text)
-    komi = komi_text(komi_halves(record.komi) + 2 * (alone.white_prisoners - alone.black_prisoners))
+def written(setup):
+    """A setup as a file that answers alone: its prisoners go into the komi."""
+    black, white = (setup.prisoners[colour] for colour in COLOURS)
+    komi = komi_text(komi_halves(setup.komi) + 2 * (white - black))
     if komi_halves(komi) is None:
         raise Fault('with so many prisoners the komi is past what a file has')
-    return sgf(record.board, record.side, komi, 'Black has %d prisoners and White %d; they are in the komi.' % (
-        alone.black_prisoners, alone.white_prisoners) if alone.black_prisoners or alone.white_prisoners else '')
+    comment = 'Black has %d prisoners and White %d; they are in the komi.' % (black, white)
+    return sgf(setup.board, setup.side, komi, comment if black or white else '')
 
 
 def with_moves(position, moves):

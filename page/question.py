@@ -5,11 +5,10 @@ import shutil
 import answers
 import refusals
 from answers import Fault
-from position import record_of
-from record import main_line, pairs
+from record import MOVES, Setup, has_marks, main_line, pairs
 
-COMMANDS = ('board', 'safe', 'margin', 'moves', 'values')
-LONGEST_CYCLE = 200  # moves of a cycle that are drawn
+COMMANDS = ('board', 'safe', 'margin', 'moves', 'values', 'line')
+MOST_STEPS = 200  # moves of a cycle or a line that are drawn
 GNUGO_LARGEST = 19
 
 
@@ -17,14 +16,15 @@ class Question:
     """A position, and what the program has said of it so far."""
 
     def __init__(self, position):
-        self.position = position
+        self.position, self.setup = position, position.setup
         self.data, self.lines, self.refused, self.steps = {}, {}, [], []
-        self.is_stopped, self.board, self.note = False, None, ''
-        self.closing = closing_of(position)
+        self.is_stopped = False
         try:
-            self.record = record_of(position.text, position.after)
-        except Fault as fault:
-            self.record, self.note = None, str(fault)
+            nodes = main_line(position.text)
+        except Fault:
+            nodes = []
+        self.moves = sum(key in MOVES and bool(values) for node in nodes for key, values in node)
+        self.has_marks = has_marks(nodes)
 
     def take(self, command, outcome):
         """Keeps an answer, or why there is none."""
@@ -40,13 +40,11 @@ class Question:
 
     def read(self, command, lines):
         if command == 'board':
-            data, self.board = answers.board_of(lines)
-            if self.record and self.record.board.stones != self.board.stones:
-                self.note = "the page's own reader reads another board, so editing begins from that one"
-            return data
+            self.setup = Setup(lines)
+            return answers.board_of(self.setup)
         if command == 'safe':
-            return answers.safety_of(self.board, lines)
-        return {'margin': answers.margin_of, 'moves': answers.moves_of, 'values': answers.values_of}[command](lines)
+            return answers.safety_of(self.setup.board, lines)
+        return {'margin': answers.margin_of, 'moves': answers.moves_of, 'values': answers.values_of, 'line': answers.line_of}[command](lines)
 
     def refuse(self, command, line):
         self.data[command] = None
@@ -62,42 +60,44 @@ class Question:
     def cycle(self):
         return next((refusal for refusal in self.refused if refusal['moves']), None)
 
+    def stepped(self):
+        """The moves that can be stepped through: those of the cycle that is refused, or of the line."""
+        return (self.cycle() or self.data.get('line') or {'moves': []})['moves'][:MOST_STEPS]
+
     def owes_step(self):
-        """Whether a board of the cycle that is refused is still to be drawn."""
-        cycle = self.cycle()
-        return bool(cycle and self.record) and not self.is_stopped and len(self.steps) <= min(len(cycle['moves']), LONGEST_CYCLE) and None not in self.steps
+        """Whether a board of those moves is still to be drawn."""
+        moves = self.stepped()
+        return bool(moves and self.setup) and not self.is_stopped and len(self.steps) <= len(moves) and None not in self.steps
 
     def pair(self):
         """A pair of neutral points on the cycle that a script can fill."""
         cycle, safe = self.cycle(), self.data.get('safe')
         if not cycle or not safe:
             return None
-        drawn = {self.board.point(name): sign for name, sign in safe['signs'].items()}
+        board = self.setup.board
+        drawn = {board.point(name): sign for name, sign in safe['signs'].items()}
         on_cycle = {move['point'] for move in cycle['moves']}
-        found = [[self.board.name(point) for point in pair] for pair in pairs(self.board, drawn) if not self.board.stones.keys() & set(pair)]
+        found = [[board.name(point) for point in pair] for pair in pairs(board, drawn) if not board.stones.keys() & set(pair)]
         return next((pair for pair in found if on_cycle.issuperset(pair)), None)
 
-    def fallback(self, is_refused):
-        """The board as the page reads it, where the program reads none, or hasn't read it yet."""
-        if self.record is None:
-            return None
-        board = self.record.board
-        rows = [''.join({'black': 'X', 'white': 'O'}.get(board.stones.get((x, y)), '.') for x in range(board.columns)) for y in range(board.rows)]
-        return {'columns': board.columns, 'rows': rows, 'side': self.position.turn or self.record.side,
-                'komi': self.position.komi or self.record.komi, 'prisoners': self.record.prisoners, 'unread': is_refused}
+    def is_read(self):
+        """Whether it is known what stands on the board, or that the program doesn't say it."""
+        return self.setup is not None or self.is_stopped or 'board' in self.data
 
+    def shown_board(self):
+        """The board as `board` says it, or the one that the page wrote where the program refuses that, or nothing."""
+        if self.data.get('board'):
+            return self.data['board']
+        return self.setup and {**answers.board_of(self.setup), 'unread': 'board' in self.data}
 
-def has_marks(position):
-    return any(key in ('TB', 'TW') for node in main_line(position.text) for key, _ in node)
+    def line(self):
+        """How many moves of the file are played, and how many there are."""
+        return {'played': self.moves if self.position.after is None else min(self.position.after, self.moves), 'total': self.moves}
 
-
-def closing_of(position):
-    """By what `docs/positions/close` can judge the position, or nothing."""
-    try:
-        if has_marks(position):
+    def closing(self):
+        """By what `docs/positions/close` can judge the position, or nothing."""
+        if self.has_marks:
             return "the file's own marks"
-        board = record_of(position.text).board
-    except Fault:
-        return None
-    has_gnugo = shutil.which('gnugo') or shutil.which('gnugo', path='/usr/games')
-    return 'GNU Go' if has_gnugo and board.columns == board.rows <= GNUGO_LARGEST else None
+        has_gnugo = shutil.which('gnugo') or shutil.which('gnugo', path='/usr/games')
+        is_square = self.setup and self.setup.board.columns == self.setup.board.rows <= GNUGO_LARGEST
+        return 'GNU Go' if has_gnugo and is_square else None

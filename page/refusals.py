@@ -2,6 +2,8 @@
 
 import re
 
+from answers import stones_of
+
 ADVICE = [
     ('fault cycle', 'Moves in this region can come back to an earlier position, and there is no ko here.',
      'Step through the moves. A pair of neutral points: fill both, one for each player. A room with a point away from the wall: fill '
@@ -38,7 +40,7 @@ def explained(command, line):
     at, moves, returns = None, [], None
     if line.startswith('fault cycle'):
         at, returns = words[2], int(words[3])
-        moves = [dict(zip(('colour', 'point'), word.split(':', 1))) for word in words[4:]]
+        moves = stones_of(words[4:])
     elif line.startswith(('fault region', 'fault form')):
         at = words[2]
     elif line.startswith('fault file no liberty'):

@@ -6,7 +6,7 @@ from dataclasses import replace
 
 from answers import Fault
 from engine import Game
-from position import record_of, with_moves
+from position import with_moves
 from record import COLOURS, OTHER
 
 MOST_LINES = 2_000
@@ -26,7 +26,7 @@ class Table:
         if engine not in COLOURS:
             raise Fault('the program plays black or white')
         self.desk, self.position, self.engine = desk, position, engine
-        self.side = record_of(position.text).side
+        self.side = position.setup.side
         self.file = pathlib.Path(desk.folder.name, 'game.sgf')
         self.file.write_bytes(position.text)
         self.begin([])

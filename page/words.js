@@ -8,7 +8,7 @@ export function described(point, view, now) {
   const stone = { X: 'black stone', O: 'white stone', '.': 'empty' }[now.rows[row][column]];
   const sign = view.safe && now === view.board ? view.signs[view.safe.signs[point]] : stone;
   const region = view.safe && view.safe.regions.find((told) => told.points.includes(point));
-  const move = !view.game && view.moves && view.moves.moves.find((told) => told.move === point);
+  const move = !view.game && now === view.board && view.moves && view.moves.moves.find((told) => told.move === point);
   const loss = move && (move.best ? 'best' : `${move.loss} less than the best`);
   const worth = move ? `; a move here ${move.wins ? 'wins' : 'loses'}, Black wins up to komi ${move.komi}, ${loss}` : '';
   return `${point}, ${boardName(point, now)}: ${sign}${region ? `; region ${region.point}` : ''}${worth}`;

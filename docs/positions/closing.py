@@ -3,7 +3,7 @@
 import shutil
 import subprocess
 
-from record import COLOURS, OTHER, Board, Record, komi_halves, komi_text, pairs, sgf, signs
+from record import COLOURS, MARKS, OTHER, Board, after_words, has_marks, komi_halves, komi_text, main_line, moves_of, pairs, setup_of, sgf, signs
 from script import Fault, ask
 
 # Judging the end of a game
@@ -68,17 +68,15 @@ def judged_by_gnugo(board, side, level):
     return owners, played
 
 
-def judged_by_marks(record):
-    """The owners of stones and territory by the last node of the main line that has TB or TW."""
-    owners = dict(record.board.stones)
-    marked = [node for node in record.nodes if any(key in ('TB', 'TW') for key, _ in node)]
+def judged_by_marks(nodes, board):
+    """The owners of stones and territory by the last node of the main line that has TB or TW, with the board at its end."""
+    owners = dict(board.stones)
+    marked = [node for node in nodes if has_marks([node])]
     if not marked:
         raise Fault('no node of the main line has TB or TW')
     for key, values in marked[-1]:
-        if key in ('TB', 'TW'):
-            for value in values:
-                for point in record.board.rectangle(value):
-                    owners[point] = 'black' if key == 'TB' else 'white'
+        if key in MARKS:
+            owners.update((point, MARKS[key]) for value in values for point in board.rectangle(value))
     return owners
 
 
@@ -189,29 +187,37 @@ def eyes_among(board, loose, owners, is_open, steps):
 # The position and its file
 
 
-def closed_position(text, after, by_marks, depth, level, judgement=None):
-    """The record up to the position, and the position closed. A judgement of the file's end may be given, to be used again."""
-    record = Record(text, after)
-    if judgement is None:
-        judgement = judge(text, by_marks, level)
-    owners, played, end = judgement
-    later = [point for _, point in record.later if point is not None]
-    return record, Closed(record.board, end, owners, later + played, depth)
+class Game:
+    """A game up to a position: its setup, how many moves were played and which points come later, and the owners at its end."""
+
+    def __init__(self, text, after, komi, judgement):
+        self.setup = setup_of(text, [*after_words(after), *komi_words(komi)])
+        self.owners, self.further, self.end = judgement
+        moves = moves_of(main_line(text), self.end)
+        self.played = len(moves) if after is None else min(after, len(moves))
+        self.later = [point for _, point in moves[self.played:] if point is not None]
+
+    def closed(self, depth):
+        return Closed(self.setup.board, self.end, self.owners, self.later + self.further, depth)
+
+
+def komi_words(komi):
+    return [] if komi is None else ['--komi', komi]
 
 
 def judge(text, by_marks, level):
     """The owners at the end of the main line, the points that GNU Go played after it, and the board then."""
-    whole = Record(text)
+    end = setup_of(text, komi_words('0'))
     if by_marks:
-        return judged_by_marks(whole), [], whole.board
-    owners, played = judged_by_gnugo(whole.board, whole.side, level)
-    return owners, played, whole.board
+        return judged_by_marks(main_line(text), end.board), [], end.board
+    owners, played = judged_by_gnugo(end.board, end.side, level)
+    return owners, played, end.board
 
 
-def komi(record, closed):
+def komi(setup, closed):
     """The komi of the closed position: that of the game, and White's prisoners less Black's, those of the filling too."""
-    white, black = (record.prisoners[colour] + closed.paid(colour) for colour in ('white', 'black'))
-    return komi_text((komi_halves(record.komi) or 0) + 2 * (white - black))
+    white, black = (setup.prisoners[colour] + closed.paid(colour) for colour in ('white', 'black'))
+    return komi_text(komi_halves(setup.komi) + 2 * (white - black))
 
 
 def fill_pairs(board, written):

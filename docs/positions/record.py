@@ -1,5 +1,7 @@
-"""Records of games and boards, for the scripts beside it: SGF files read and replayed as docs/FORMATS.md says, and written, points' names,
-drawings read and made, and what the program says of a position."""
+"""Positions and boards, for the scripts beside it: what the program says of them, points' names, drawings read and made, SGF files written.
+
+A position is read by the program's command `board`. Of a file itself only the properties of its main line are read, for what `board`
+doesn't say: names, comments, marks, and the moves that come later."""
 
 import pathlib
 import re
@@ -7,16 +9,19 @@ import sys
 
 sys.path.insert(0, str(pathlib.Path(__file__).resolve().parent.parent))
 
-from script import Fault, printable
+from script import Fault, answered, printable
 
 GTP_COLUMNS = 'ABCDEFGHJKLMNOPQRSTUVWXYZ'
 SYMBOL = {'black': 'X', 'white': 'O'}
+CELLS = {'X': 'black', 'O': 'white'}
+MOVES = {'B': 'black', 'W': 'white'}
+MARKS = {'TB': 'black', 'TW': 'white'}
 OTHER = {'black': 'white', 'white': 'black'}
 COLOURS = ('black', 'white')
 LONGEST_SIDE = 25
 
 
-# Trees
+# The main line
 
 
 def main_line(text):
@@ -143,8 +148,11 @@ class Board:
     def gtp_point(self, name):
         return GTP_COLUMNS.index(name[0].upper()), self.rows - int(name[1:])
 
+    def is_pass(self, value):
+        return value == '' or (value == 'tt' and self.columns <= 19 and self.rows <= 19)
+
     def rectangle(self, value):
-        """The points of a value of AB, AW, AE, TB or TW: one point, or a rectangle with corners in any order."""
+        """The points of a value of TB or TW: one point, or a rectangle with corners in any order."""
         if not value:
             return []
         corners = [self.point(name.strip()) for name in value.split(':', 1)]
@@ -153,54 +161,38 @@ class Board:
         return [(x, y) for y in range(rows[0], rows[-1] + 1) for x in range(columns[0], columns[-1] + 1)]
 
 
-# Records
+# What a file says
 
 
-class Record:
-    """The main line of a file, replayed up to `after` moves: the board, the side to move, the prisoners, and the moves
-    that were played and that come later, each a colour and a point, None for a pass."""
+class Setup:
+    """What the lines of `board` say: the board, the side to move, the komi, and the prisoners of each colour."""
 
-    def __init__(self, text, after=None):
-        self.nodes = main_line(text)
-        size = first_value(self.nodes[0], 'SZ') or '19'
-        found = re.fullmatch(r'(\d\d?)(?:\s*:\s*(\d\d?))?', size)
-        if not found or not all(1 <= int(n or 1) <= 25 for n in found.groups()):
-            raise Fault('the size %s is none of 1 to 25 columns and rows' % printable(size))
-        self.board = Board(int(found[1]), int(found[2] or found[1]))
-        self.komi = first_value(self.nodes[0], 'KM') or '0'
-        self.side = 'black'
-        self.prisoners = {'black': 0, 'white': 0}
-        self.played, self.later = [], []
-        is_over = False
-        for node in self.nodes:
-            moves = [(key, values[0]) for key, values in node if key in ('B', 'W') and values]
-            if moves and after is not None and len(self.played) >= after:
-                is_over = True
-            if not is_over:
-                self.set_up(node)
-            for key, value in moves:
-                colour = 'black' if key == 'B' else 'white'
-                point = None if self.is_pass(value) else self.board.point(value)
-                (self.later if is_over else self.played).append((colour, point))
-                if not is_over:
-                    if point is not None:
-                        self.prisoners[colour] += self.board.place(point, colour)
-                    self.side = OTHER[colour]
+    def __init__(self, lines):
+        (_, columns, rows), (_, self.side), (_, self.komi), *told = (line.split() for line in lines)
+        self.board = Board(int(columns), int(rows))
+        self.prisoners = {words[1]: int(words[2]) for words in told if words[0] == 'prisoners'}
+        for y, text in enumerate(words[1] for words in told if words[0] == 'row'):
+            self.board.stones.update(((x, y), CELLS[cell]) for x, cell in enumerate(text) if cell in CELLS)
 
-    def set_up(self, node):
-        for key, values in node:
-            if key in ('AB', 'AW', 'AE'):
-                for point in [point for value in values for point in self.board.rectangle(value)]:
-                    if key == 'AE':
-                        self.board.stones.pop(point, None)
-                    else:
-                        self.board.stones[point] = 'black' if key == 'AB' else 'white'
-        side = first_value(node, 'PL')
-        if side:
-            self.side = 'black' if side[0] in 'Bb' else 'white'
 
-    def is_pass(self, value):
-        return value == '' or (value == 'tt' and self.board.columns <= 19 and self.board.rows <= 19)
+def setup_of(text, options=()):
+    """The setup of a file's bytes, with the program's options."""
+    return Setup(answered('board', text, options))
+
+
+def after_words(after):
+    """The option for the position after so many moves, or none."""
+    return [] if after is None else ['--after', str(after)]
+
+
+def moves_of(nodes, board):
+    """The moves of a main line, in order, each a colour and a point, which is None for a pass."""
+    moves = ((key, values[0]) for node in nodes for key, values in node if key in MOVES and values)
+    return [(MOVES[key], None if board.is_pass(value) else board.point(value)) for key, value in moves]
+
+
+def has_marks(nodes):
+    return any(key in MARKS for node in nodes for key, _ in node)
 
 
 # What is alive

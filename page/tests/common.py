@@ -1,4 +1,4 @@
-"""What the server's tests share: the program or its stand-in, positions, and waiting."""
+"""What the server's tests share: the program, positions, and waiting."""
 
 import os
 import pathlib
@@ -10,24 +10,20 @@ HERE = pathlib.Path(__file__).resolve().parent
 TOP = HERE.parents[1]
 sys.path[:0] = [str(TOP / 'page'), str(TOP / 'docs/positions'), str(TOP / 'docs')]
 
-from script import Fault, program
+from record import setup_of
+from script import program
 
-STAND_IN = str(HERE / 'stand_in.py')
 PAIR = b'(;GM[1]SZ[10:2]AB[ba][da][ab:eb]AW[ga][ia][fb:jb])'  # two neutral points: a cycle
 NEUTRAL = b'(;GM[1]SZ[10:2]AB[ba][da][ab:eb]AW[fa][ga][ia][fb:jb])'  # one neutral point
+SETTLED = b'(;GM[1]SZ[10:2]AB[ba][da:ea][ab:eb]AW[fa:ga][ia][fb:jb])'  # nothing is open
 CORRIDOR = b'(;GM[1]SZ[10:3]AB[ba][da:fa][ab:db][ac:fc]AW[ga][ia][gb:jb][gc:jc];B[eb];W[];B[fb])'
 PATIENCE = 20  # seconds
 
 
-def solver():
-    try:
-        return program()
-    except Fault:
-        return STAND_IN
-
-
-def is_program():
-    return solver() != STAND_IN
+def board_rows(text):
+    """The rows of the board of a file's bytes."""
+    board = setup_of(text).board
+    return [''.join({'black': 'X', 'white': 'O'}.get(board.stones.get((x, y)), '.') for x in range(board.columns)) for y in range(board.rows)]
 
 
 def wait_for(holds, patience=PATIENCE):

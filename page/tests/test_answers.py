@@ -6,7 +6,7 @@ import common
 import answers
 import refusals
 from position import Position, configured, edited, empty, settled, written
-from record import Record
+from record import Setup, setup_of
 from script import Fault
 
 
@@ -27,10 +27,17 @@ class Answers(unittest.TestCase):
 
     def test_board(self):
         lines = ['size 3 2', 'side white', 'komi -1.5', 'prisoners black 2', 'prisoners white 0', 'row X.O', 'row ...']
-        data, board = answers.board_of(lines)
+        setup = Setup(lines)
+        data, board = answers.board_of(setup), setup.board
         self.assertEqual((data['columns'], data['rows'], data['side'], data['komi']), (3, ['X.O', '...'], 'white', '-1.5'))
         self.assertEqual(data['prisoners'], {'black': 2, 'white': 0})
         self.assertEqual(board.stones, {(0, 0): 'black', (2, 0): 'white'})
+
+    def test_line(self):
+        lines = ['side white', 'komi 1.5', 'winner white', 'threshold -0.5', 'line 2 white:gb black:fb']
+        moves = [{'colour': 'white', 'point': 'gb'}, {'colour': 'black', 'point': 'fb'}]
+        self.assertEqual(answers.line_of(lines), {'threshold': '-0.5', 'moves': moves})
+        self.assertEqual(answers.line_of(lines[:4] + ['line 0'])['moves'], [])
 
     def test_cycle(self):
         refusal = refusals.explained('moves', 'fault cycle ea 1 black:fa white:ea')
@@ -53,22 +60,27 @@ class Positions(unittest.TestCase):
     def test_a_stone_is_set_and_taken_off(self):
         position = empty(5, 4)
         for colour, wanted in (('black', {(1, 0): 'black'}), ('white', {(1, 0): 'white'}), ('white', {})):
-            position = edited(position, 'ba', colour)
-            self.assertEqual(Record(position.text).board.stones, wanted)
+            position = edited(position, setup_of(position.text), 'ba', colour)
+            self.assertEqual((setup_of(position.text).board.stones, position.setup.board.stones), (wanted, wanted))
 
     def test_points_off_the_board_and_odd_colours(self):
         for name, colour in (('fa', 'black'), ('ae', 'black'), ('a', 'black'), (None, 'black'), ('aa', 'red')):
             with self.assertRaises(Fault):
-                edited(empty(5, 4), name, colour)
+                edited(empty(5, 4), setup_of(empty(5, 4).text), name, colour)
 
     def test_settled_keeps_side_komi_and_prisoners(self):
-        text = b'(;SZ[3]KM[0.5]AB[ba][ab]AW[aa];B[bb];W[cc])'
+        text = b'(;SZ[3]KM[0.5]AB[ba]AW[aa];B[bb];W[cc])'
         taken = b'(;SZ[3]KM[0.5]AB[ba]AW[aa];B[ab])'
-        self.assertEqual(Record(settled(Position(text, 'x', 1)).text).side, 'white')
-        alone = settled(Position(taken, 'x', komi='3', black_prisoners=2))
+        first = Position(text, 'x', 1)
+        self.assertEqual(setup_of(settled(first, self.setup(first)).text).side, 'white')
+        second = Position(taken, 'x', komi='3', black_prisoners=2)
+        alone = settled(second, self.setup(second))
         self.assertEqual((alone.black_prisoners, alone.white_prisoners), (3, 0))
-        self.assertEqual(Record(alone.text).komi, '3')
-        self.assertEqual(Record(written(Position(taken, 'x')).encode()).komi, '-0.5')
+        self.assertEqual(self.setup(alone).komi, '3')
+        self.assertEqual(setup_of(written(setup_of(taken)).encode()).komi, '-0.5')
+
+    def setup(self, position):
+        return setup_of(position.text, position.options('board'))
 
     def test_options_are_checked(self):
         for given in ({'komi': '6.25'}, {'komi': 6}, {'turn': 'red'}, {'positions': 0}, {'parts': 4001}, {'after': -1}, {'black_prisoners': True},

@@ -6,12 +6,11 @@ import time
 import unittest
 
 import common
-from common import CORRIDOR, NEUTRAL, PAIR, wait_for
+from common import CORRIDOR, NEUTRAL, PAIR, SETTLED, wait_for
 from desk import Desk
 from engine import Limits
-from position import Position
-from record import Record
-from script import Fault
+from position import LONGEST_FILE, Position
+from script import Fault, program
 
 # A program that notes when it begins, takes its time and ends: who is given up never ends.
 SLOW = """
@@ -24,9 +23,12 @@ print('ended', os.getpid(), file=log, flush=True)
 """
 
 
+IDLE = 'import time\ntime.sleep(60)\n'
+
+
 class AtDesk(unittest.TestCase):
-    def desk(self, text, program=None, limits=Limits(20, 2048, 20), **options):
-        desk = Desk(program or common.solver(), limits, {}, Position(text, 'test', **options))
+    def desk(self, text, solver=None, limits=Limits(20, 2048, 20), **options):
+        desk = Desk(solver or program(), limits, {}, Position(text, 'test', **options))
         self.addCleanup(desk.close)
         return desk
 
@@ -58,10 +60,10 @@ class Answers(AtDesk):
 
     def test_steps_of_the_main_line(self):
         desk = self.desk(CORRIDOR)
-        self.assertEqual(self.settled(desk)['line'], {'played': 3, 'total': 3})
+        self.assertEqual(self.settled(desk)['record'], {'played': 3, 'total': 3})
         desk.do('configure', {'after': 1})
         view = self.settled(desk)
-        self.assertEqual(view['line'], {'played': 1, 'total': 3})
+        self.assertEqual(view['record'], {'played': 1, 'total': 3})
         self.assertEqual(view['board']['rows'][1], 'XXXXX.OOOO')
 
     def test_a_file_that_is_none(self):
@@ -72,23 +74,29 @@ class Answers(AtDesk):
 
     def test_no_work_is_waited_for_longer_than_told(self):
         with tempfile.TemporaryDirectory() as folder:
-            desk = self.desk(NEUTRAL, common.script(folder, 'idle', 'import time\ntime.sleep(60)\n'))
+            desk = self.desk(NEUTRAL, common.script(folder, 'idle', IDLE))
             begun = time.monotonic()
             desk.settle(0.2)
             self.assertTrue(0.2 <= time.monotonic() - begun < 5)
-            self.assertFalse(desk.view()['board']['unread'])
+            self.assertIsNone(desk.view()['board'])
             desk.do('stop')
             desk.settle(10)
-            self.assertTrue(desk.view()['board']['unread'])
+            with self.assertRaises(Fault):
+                desk.do('edit', 'aa', 'black')
 
-
-    def test_a_file_that_would_take_the_page_long_is_left_to_the_program(self):
-        desk = self.desk(b'(;SZ[9]' + b'AB[aa:ii]AE[aa:ii]' * 2_000 + b')')
+    def test_a_board_that_the_page_wrote_is_shown_where_the_program_refuses_it(self):
+        desk = self.desk(b'(;SZ[2]AB[aa][bb])')
+        desk.do('edit', 'ba', 'white')
         view = self.settled(desk)
-        self.assertIsNone(view['line'])
-        self.assertIn('rectangles', view['note'])
-        with self.assertRaises(Fault):
-            desk.do('edit', 'aa', 'black')
+        self.assertEqual(view['refusals'][0]['line'], 'fault file no liberty at ba')
+        self.assertEqual((view['board']['rows'], view['board']['unread']), (['XO', '.X'], True))
+        desk.do('edit', 'ba', None)
+        self.assertEqual(self.settled(desk)['board']['rows'], ['X.', '.X'])
+
+    def test_many_rectangles_are_the_program_s_work(self):
+        desk = self.desk(b'(;SZ[9]' + b'AB[aa:ii]AE[aa:ii]' * 2_000 + b')')
+        desk.do('edit', 'aa', 'black')
+        self.assertEqual(self.settled(desk)['board']['rows'][0], 'X........')
 
 
 class Editing(AtDesk):
@@ -101,6 +109,23 @@ class Editing(AtDesk):
         with self.assertRaises(Fault):
             desk.do('undo')
 
+    def test_what_was_undone_is_done_again(self):
+        desk = self.desk(NEUTRAL)
+        with self.assertRaises(Fault):
+            desk.do('redo')
+        desk.do('edit', 'ea', 'black')
+        desk.do('configure', {'komi': '3.5'})
+        for _ in range(2):
+            desk.do('undo')
+        self.assertEqual(desk.view()['redo'], 2)
+        desk.do('redo')
+        self.assertEqual(self.settled(desk)['board']['rows'][0], '.X.XXOO.O.')
+        desk.do('redo')
+        self.assertEqual(self.settled(desk)['board']['komi'], '3.5')
+        desk.do('undo')
+        desk.do('edit', 'ea', None)
+        self.assertEqual(desk.view()['redo'], 0)
+
     def test_a_setting_is_undone_too(self):
         desk = self.desk(NEUTRAL)
         desk.do('configure', {'komi': '3.5', 'turn': 'white'})
@@ -111,7 +136,21 @@ class Editing(AtDesk):
 
     def test_what_is_written_reads_as_the_same_board(self):
         desk = self.desk(CORRIDOR)
-        self.assertEqual(Record(desk.sgf().encode()).board.stones, Record(CORRIDOR).board.stones)
+        self.assertEqual(common.board_rows(desk.sgf().encode()), common.board_rows(CORRIDOR))
+
+    def test_a_file_is_bounded(self):
+        with tempfile.TemporaryDirectory() as folder:
+            large = pathlib.Path(folder, 'large.sgf')
+            large.write_bytes(NEUTRAL.ljust(LONGEST_FILE + 1))
+            desk = self.desk(NEUTRAL)
+            desk.files = {'large.sgf': large}
+            with self.assertRaises(Fault):
+                desk.do('choose', 'large.sgf')
+            with self.assertRaises(Fault):
+                desk.do('open', 'large.sgf', large.read_bytes())
+            self.assertEqual(desk.view()['undo'], 0)
+            desk.do('open', 'large.sgf', NEUTRAL.ljust(LONGEST_FILE))
+            self.assertEqual(self.settled(desk)['board']['rows'][0], '.X.X.OO.O.')
 
     def test_files_by_name_alone(self):
         with tempfile.TemporaryDirectory() as folder:
@@ -134,7 +173,6 @@ class Refusals(AtDesk):
         self.assertEqual(rows, ['.X.X..O.O.', '.X.X.XO.O.', '.X.XO.O.O.', '.X.X.XO.O.'])
         self.assertIsNone(view['moves'])
 
-    @unittest.skipUnless(common.is_program(), 'the stand-in knows no living walls')
     def test_a_pair_is_filled(self):
         desk = self.desk(PAIR)
         self.assertEqual(self.settled(desk)['pair'], ['ea', 'fa'])
@@ -144,7 +182,6 @@ class Refusals(AtDesk):
         desk.do('undo')
         self.assertEqual(self.settled(desk)['board']['rows'][0], '.X.X..O.O.')
 
-    @unittest.skipUnless(common.is_program(), 'the stand-in knows no living walls')
     def test_a_position_is_closed_by_the_marks_of_its_file(self):
         desk = self.desk(b'(;SZ[7:2]KM[6.5]AB[ba][ca][ab:cb]AW[ea][fa][eb:gb];B[da];W[];TB[aa]TW[ga])', after=0)
         self.assertEqual(self.settled(desk)['closing'], "the file's own marks")
@@ -153,7 +190,6 @@ class Refusals(AtDesk):
         self.assertIn('Closed.', view['note'])
         self.assertEqual(view['refusals'], [])
 
-    @unittest.skipUnless(common.is_program(), 'the stand-in has no limits')
     def test_limits_are_told_by_their_names(self):
         desk = self.desk((common.TOP / 'docs/positions/game.sgf').read_bytes(), after=38)
         self.assertEqual(self.settled(desk)['refusals'][0]['line'], 'fault region aa points 81')
@@ -172,6 +208,18 @@ class Refusals(AtDesk):
             program = common.script(folder, 'large', 'import sys\ntry:\n    bytearray(1 << 30)\nexcept MemoryError:\n    sys.exit(8)\n')
             view = self.settled(self.desk(NEUTRAL, program, Limits(20, 512, 20)))
             self.assertEqual(view['refusals'][0]['line'], 'memory was refused')
+
+
+class Lines(AtDesk):
+    def test_the_line_is_drawn_step_by_step(self):
+        desk = self.desk(CORRIDOR, after=0)
+        view = self.settled(desk)
+        self.assertEqual(view['line'], {'threshold': '1', 'moves': [{'colour': 'black', 'point': 'fb'}]})
+        self.assertEqual([step['rows'][1] for step in view['steps']], ['XXXX..OOOO', 'XXXX.XOOOO'])
+
+    def test_nothing_is_hot(self):
+        view = self.settled(self.desk(SETTLED))
+        self.assertEqual((view['line']['moves'], view['steps']), ([], []))
 
 
 class OneAtATime(AtDesk):
@@ -234,7 +282,6 @@ class Games(AtDesk):
             with self.assertRaises(Fault):
                 desk.do('play', move)
 
-    @unittest.skipUnless(common.is_program(), 'the stand-in plays no stones')
     def test_stones_are_played_and_refused(self):
         desk = self.desk(NEUTRAL)
         self.settled(desk)

@@ -19,13 +19,13 @@ from common import NEUTRAL, wait_for
 from desk import Desk
 from engine import Limits
 from position import LONGEST_FILE, Position
-from script import Fault
+from script import Fault, program
 from server import Server
 
 
 class AtServer(unittest.TestCase):
     def setUp(self):
-        self.desk = Desk(common.solver(), Limits(), {}, Position(NEUTRAL, '<b>name</b>'))
+        self.desk = Desk(program(), Limits(), {}, Position(NEUTRAL, '<b>name</b>'))
         self.addCleanup(self.desk.close)
         self.server = Server(self.desk)
         self.addCleanup(self.server.server_close)
@@ -125,7 +125,13 @@ class What(AtServer):
         self.assertEqual(self.ask('POST', self.top + 'open', b'', Content_Length=str(LONGEST_FILE + 1))[0], 413)
         for length in ('-1', 'x', '', None):
             self.assertEqual(self.ask('POST', self.top + 'open', None, Content_Length=length)[0], 411, length)
+        self.assertEqual(self.ask('POST', self.top + 'do', b'', Content_Length=str(LONGEST_FILE + 1))[0], 413)
+        self.assertEqual(self.desk.view()['undo'], 0)
         self.assertEqual(self.ask('POST', self.top + 'open', b' ' * LONGEST_FILE)[0], 200)
+        self.assertEqual(self.desk.view()['undo'], 1)
+
+    def test_the_page_has_the_same_bound(self):
+        self.assertIn('size > %d)' % LONGEST_FILE, (common.TOP / 'page/page.js').read_text())
 
     def test_actions_are_those_of_the_list(self):
         for given in (b'', b'x', b'[]', b'{}', b'{"action":1}', b'{"action":"close"}', b'{"action":"view"}', b'{"action":"edit"}', b'[' * 100000,
@@ -185,7 +191,7 @@ class Script(unittest.TestCase):
 
     def test_the_address_is_printed_and_an_interrupt_ends_it(self):
         for number, status in ((signal.SIGINT, 130), (signal.SIGTERM, 143)):
-            begun = self.begin(common.solver())
+            begun = self.begin(program())
             begun.send_signal(number)
             self.assertEqual(begun.wait(10), status)
 
@@ -198,6 +204,14 @@ class Script(unittest.TestCase):
             begun.send_signal(signal.SIGTERM)
             begun.wait(10)
             wait_for(lambda: not pathlib.Path('/proc', pid).exists())
+
+    def test_a_file_that_is_named_is_bounded(self):
+        with tempfile.TemporaryDirectory() as folder:
+            large = pathlib.Path(folder, 'large.sgf')
+            large.write_bytes(NEUTRAL.ljust(LONGEST_FILE + 1))
+            words = [sys.executable, common.TOP / 'gdsolve-board', '--no-browser', '--program', program(), large]
+            done = subprocess.run(words, stdin=subprocess.DEVNULL, capture_output=True, text=True, timeout=10)
+            self.assertEqual((done.returncode, done.stdout, done.stderr), (1, '', 'gdsolve-board: large.sgf has more than 1048576 bytes\n'))
 
     def test_only_files_of_the_folder_are_offered(self):
         with tempfile.TemporaryDirectory() as folder:
