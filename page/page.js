@@ -155,7 +155,7 @@ function showFile(view) {
   }
   const now = shownBoard();
   byId('facts').textContent = now ? `${now.side} to move, komi ${now.komi}, prisoners: black ${now.prisoners.black}, white ${now.prisoners.white}.`
-    + (now.unread ? ' The program refuses this board.' : '') : 'There is no board that the program reads.';
+    + (now.unread ? ' The program refuses this board.' : '') : view.reading ? 'The program reads the position.' : 'There is no board that the program reads.';
   if (view.note) {
     byId('facts').textContent += ` ${view.note}`;
   }
@@ -184,6 +184,9 @@ function cycleOf(view) {
 function showBoard() {
   const { view } = state;
   const now = shownBoard();
+  if (!now && view.reading) {
+    return; // the last picture stays, and with it the focus
+  }
   board.toggleAttribute('hidden', !now);
   if (!now) {
     return;
@@ -249,6 +252,9 @@ function stepTo(step) {
 }
 
 function goTo(point) {
+  if (!shownBoard()) {
+    return;
+  }
   state.cursor = point;
   const region = state.view.safe && state.view.safe.regions.find((told) => told.points.includes(point));
   if (region) {
@@ -306,14 +312,14 @@ function pick(value) {
 
 function pressed(event) {
   const now = state.view && shownBoard();
-  if (!now || event.ctrlKey || event.metaKey || event.altKey) {
+  if (!state.view || event.ctrlKey || event.metaKey || event.altKey) {
     return;
   }
   const arrow = ARROWS[event.key];
   if (arrow) {
     const [column, row] = place(state.cursor);
     const point = pointName(column + arrow[0], row + arrow[1]);
-    if (column + arrow[0] >= 0 && row + arrow[1] >= 0 && isOn(point, now)) {
+    if (now && column + arrow[0] >= 0 && row + arrow[1] >= 0 && isOn(point, now)) {
       goTo(point);
     }
   } else if (KEYS[event.key]) {

@@ -78,9 +78,10 @@ class Answers(AtDesk):
             begun = time.monotonic()
             desk.settle(0.2)
             self.assertTrue(0.2 <= time.monotonic() - begun < 5)
-            self.assertIsNone(desk.view()['board'])
+            self.assertEqual((desk.view()['board'], desk.view()['reading']), (None, True))
             desk.do('stop')
             desk.settle(10)
+            self.assertFalse(desk.view()['reading'])
             with self.assertRaises(Fault):
                 desk.do('edit', 'aa', 'black')
 
