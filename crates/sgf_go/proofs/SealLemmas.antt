@@ -368,3 +368,36 @@ last_marks asked line s node d ps asks last lt same m h =
     subst (λ b. TerritoryPart b (map node_text line) s m) (sym asks)
     (subst (λ l. TerritoryOf (map node_text line) l s m) (sym last)
     (subst (λ x. MarksTerritory node x s m) (ap (map property_text) same ∙ sym (get_or-map node_text line node d [] lt)) h))
+
+-- behind the territory the board has the size that it had, and a point that is marked twice is on it
+pub record IsAsLarge (g h : Board) : Type 0 where
+  pub columns : h.columns ≡ g.columns
+  pub rows : h.rows ≡ g.rows
+  pub long : length h.cells ≡ length g.cells
+
+pub territory_size : (asked : Bool) (line : List (List PropertyText)) (s t : Replay) → TerritoryPart asked line s (Ok t) → IsAsLarge s.board t.board
+territory_size asked line s t = by_asked asked
+  where
+    here : Path (Result Replay SetupFault) (Ok t) (Ok s) → IsAsLarge s.board t.board
+    here e = let same : t ≡ s = cc in subst (λ x. IsAsLarge s.board x.board) (sym same) (record { columns = refl; rows = refl; long = refl })
+
+    by_last : (last : Option ℕ) → TerritoryOf line last s (Ok t) → IsAsLarge s.board t.board
+    by_last None e = here e
+    by_last (Some node) (good, once, so) = subst (λ x. IsAsLarge s.board x.board) (sym so.value)
+        (record { columns = so.sealed.columns; rows = so.sealed.rows; long = so.sealed.long })
+
+    by_asked : (asked : Bool) → TerritoryPart asked line s (Ok t) → IsAsLarge s.board t.board
+    by_asked false e = here e
+    by_asked true h = by_last s.last h
+
+pub twice_on_board : (asked : Bool) (line : List (List PropertyText)) (s : Replay) (p : ℕ) → TerritoryPart asked line s (Err (MarkedTwice p)) → p < length s.board.cells
+twice_on_board asked line s p = by_asked asked
+  where
+    by_last : (last : Option ℕ) → TerritoryOf line last s (Err (MarkedTwice p)) → p < length s.board.cells
+    by_last None e = cc
+    by_last (Some node) (inl (bad, e)) = cc
+    by_last (Some node) (inr (good, (q, first, e))) = let same : p ≡ q = cc in subst (λ x. x < length s.board.cells) (sym same) first.twice.0.0
+
+    by_asked : (asked : Bool) → TerritoryPart asked line s (Err (MarkedTwice p)) → p < length s.board.cells
+    by_asked false e = cc
+    by_asked true h = by_last s.last h

@@ -1,5 +1,5 @@
 -- No part of a line declares a point.
-use Rattle.std.proofs.Common.{◌≡◌, ℕ, ◌+◌, List, [], ◌∷◌, inl, inr, Bool, true, false, Some, None, ap, ◌∙◌}
+use Rattle.std.proofs.Common.{◌≡◌, ℕ, ◌+◌, List, [], ◌∷◌, inl, inr, Bool, true, false, Some, None, ap, subst, sym, ◌∙◌}
 use Rattle.std.specs.Prelude.{Option, Result, Ok, Err, codes}
 use Rattle.go_grid.specs.declared.grid.Colour.{Colour}
 use Rattle.go_grid.specs.declared.grid.Colour.TheVariants.{Black, White}
@@ -12,7 +12,7 @@ use Rattle.go_play.specs.declared.placements.PlaceError.{PlaceError}
 use Rattle.go_play.specs.declared.placements.PlaceError.TheVariants as place
 use Rattle.sgf_tree.specs.Grammar.{PropertyText}
 use Rattle.sgf_go.specs.Values.{Rectangle, Extent, trimmed}
-use Rattle.sgf_go.specs.Setup.{Part, ◌then◌, For, Sets, SetsValue, SetsValues, SetsProperty, cell_set, SetsSide, TurnsTo, side_of, placed, Choice, pass, stone_at, nothing, MovesAsChosen, Moves, MovesProperty, mover, first_value, value_of, TurnsByProperty, NodePart, LinePart, Unless, ends_before, empty_board, IsFirstChoked, IsRead, Skips}
+use Rattle.sgf_go.specs.Setup.{Part, ◌then◌, For, Sets, SetsValue, SetsValues, SetsProperty, cell_set, SetsSide, TurnsTo, side_of, placed, Choice, pass, stone_at, nothing, MovesAsChosen, Moves, MovesProperty, mover, first_value, value_of, TurnsByProperty, NodePart, LinePart, Unless, ends_before, empty_board, IsFirstChoked, IsRead, Skips, TerritoryPart}
 use Rattle.sgf_go.specs.declared.replay.Replay.{Replay}
 use Rattle.sgf_go.specs.declared.fault.SetupFault.{SetupFault}
 
@@ -112,6 +112,17 @@ keeps_line after turn node (ps ∷ line) = λ s t part.
 pub line_declares_nothing : (after : Option ℕ) (turn : Option Colour) (line : List (List PropertyText)) (e : Extent) (s : Replay)
     → LinePart after turn 0 line (empty_board e) (Ok s) → DeclaresNothing s.board
 line_declares_nothing after turn line e s part = none_declared s.board (keeps_line after turn 0 line (empty_board e) s part)
+
+-- nor is it behind the territory, where that isn't asked for
+pub end_declares_nothing : (asked : Bool) (after : Option ℕ) (turn : Option Colour) (line : List (List PropertyText)) (e : Extent) (s : Replay) → asked ≡ false
+    → (LinePart after turn 0 line then TerritoryPart asked line) (empty_board e) (Ok s) → DeclaresNothing s.board
+end_declares_nothing true after turn line e s asks part = absurd (not_true asks)
+  where
+    not_true : true ≡ false → ⊥
+    not_true e = cc
+end_declares_nothing false after turn line e s asks (Ok u, part, same) =
+    subst (λ x. DeclaresNothing x.board) (sym (same_result same)) (line_declares_nothing after turn line e u part)
+end_declares_nothing false after turn line e s asks (Err f, part, same) = cc
 
 -- where the declared points are closed off, what is first unsettled is a stone without a liberty
 pub first_choked : (g : Board) (p : ℕ) → IsClosedOff g → IsFirstUnsettled g p → IsFirstChoked g p
