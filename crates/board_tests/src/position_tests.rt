@@ -8,7 +8,8 @@ use sgf_tree::read;
 use std::alloc::{AllocError, Global};
 use std::test::Fail;
 
-/// A file with settings, and what comes of them: the board row by row with `X` for Black and `O` for White.
+/// A file with settings, and what comes of them: the board row by row with `X` for Black and `O` for White, and `b` and
+/// `w` at points that are declared for them.
 #[derive(Clone, Copy)]
 struct Case {
     file: &'static [u8],
@@ -16,6 +17,7 @@ struct Case {
     komi: Option<i8>,
     turn: Option<Colour>,
     black_before: u8,
+    territory: bool,
     board: &'static [u8],
     black: u64,
     white: u64,
@@ -30,6 +32,7 @@ const PLAIN: Case = Case {
     komi: None,
     turn: None,
     black_before: 0,
+    territory: false,
     board: b".",
     black: 0,
     white: 0,
@@ -47,6 +50,16 @@ const fn on(file: &'static [u8], board: &'static [u8], side: Colour) -> Case {
         board,
         side,
         ..PLAIN
+    }
+}
+
+/// The same with the points that the last node marks declared, and the prisoners that Black and White get by it.
+const fn marked(file: &'static [u8], board: &'static [u8], black: u64, white: u64) -> Case {
+    Case {
+        territory: true,
+        black,
+        white,
+        ..on(file, board, Colour::Black)
     }
 }
 
@@ -72,6 +85,7 @@ fn answer(alloc: Global, case: &Case) -> Result<Setup, Option<SetupFault>>
         turn: case.turn,
         black_prisoners: u64::from(case.black_before),
         white_prisoners: 0,
+        territory: case.territory,
     };
     match read(alloc, case.file) {
         Ok(tree) => match position(alloc, &tree, &settings) {
@@ -86,11 +100,15 @@ fn answer(alloc: Global, case: &Case) -> Result<Setup, Option<SetupFault>>
 fn drawn(alloc: Global, board: &Board) -> Result<Vec<u8>, AllocError> {
     let mut letters = Vec::new(alloc);
     for number in 0..board.size().area() {
-        letters.push(match board.get(Point(number)) {
-            Cell::Empty => b'.',
-            Cell::Black => b'X',
-            Cell::White => b'O',
-        })?;
+        letters.push(
+            match (board.get(Point(number)), board.declared_for(Point(number))) {
+                (Cell::Black, _) => b'X',
+                (Cell::White, _) => b'O',
+                (Cell::Empty, None) => b'.',
+                (Cell::Empty, Some(Colour::Black)) => b'b',
+                (Cell::Empty, Some(Colour::White)) => b'w',
+            },
+        )?;
     }
     Ok(letters)
 }
@@ -191,6 +209,24 @@ fn positions(rt: HostRuntime) -> Result<(), Fail> {
             halves: -5,
             ..on(b"(;SZ[1]KM[x])", b".", Colour::Black)
         },
+        on(b"(;SZ[6:1]TB[aa:ca]TW[ca:fa])", b"......", Colour::Black),
+        marked(
+            b"(;SZ[7:1]AB[aa]AW[ca][fa]TB[ba:da]TW[ea])",
+            b"XbbXOO.",
+            2,
+            1,
+        ),
+        marked(b"(;SZ[6:2]TB[aa:cb]TW[da:fb])", b"bbXOwwbbXOww", 2, 2),
+        marked(b"(;SZ[3:1]AB[aa][ca]AW[ba]TB[ba])", b"XbX", 1, 0),
+        marked(b"(;SZ[4:1]AB[aa]AW[ca]TB[ba:da])", b"Xbbb", 1, 0),
+        marked(b"(;SZ[4:1]AB[aa]AW[ca]TB[ba:ca]TW[ca])", b"XbX.", 2, 0),
+        marked(b"(;SZ[4:1]AB[ca]TB[aa:ba]TW[ca])", b"bXO.", 1, 2),
+        marked(b"(;SZ[3:1]TB[zz];TB[ aa:ca ][])", b"bbb", 0, 0),
+        marked(b"(;SZ[3:1]TB[aa:ca];N[x])", b"...", 0, 0),
+        Case {
+            after: Some(0),
+            ..marked(b"(;SZ[3:1]TB[aa:ca]B[aa])", b"...", 0, 0)
+        },
     ];
     for case in table {
         assert!(rt; case.file.len() < 200);
@@ -271,6 +307,42 @@ const FAULTS: [(&[u8], SetupFault); 34] = [
         SetupFault::NoLiberty(Point(1)),
     ),
 ];
+
+/// A record and what is wrong with its marks.
+const MARK_FAULTS: [(&[u8], SetupFault); 8] = [
+    (b"(;SZ[3];B[aa];TB[zz])", SetupFault::BadPoint(2)),
+    (b"(;SZ[3]TB[aa]TW[aa][a])", SetupFault::BadPoint(0)),
+    (b"(;SZ[3];TB[zz]B[aa]B[aa])", SetupFault::Occupied(1)),
+    (b"(;SZ[3];TW[a]B[aa]PL[x])", SetupFault::BadSide),
+    (
+        b"(;SZ[4]TW[aa:dd]TB[ca][bd][cb])",
+        SetupFault::MarkedTwice(Point(2)),
+    ),
+    (
+        b"(;SZ[3:1]AW[aa]TB[ca]TW[ca])",
+        SetupFault::MarkedTwice(Point(2)),
+    ),
+    (b"(;SZ[3:1]AW[aa]TB[ba])", SetupFault::NoLiberty(Point(0))),
+    (b"(;SZ[2:1]TB[aa]TW[ba])", SetupFault::NoLiberty(Point(0))),
+];
+
+#[test]
+fn mark_faults(rt: HostRuntime) -> Result<(), Fail> {
+    let alloc = rt.alloc();
+    for (file, want) in MARK_FAULTS {
+        assert!(rt; file.len() < 100);
+        let case = Case {
+            file,
+            territory: true,
+            ..PLAIN
+        };
+        match answer(alloc, &case) {
+            Err(fault) => assert!(rt; fault == Some(want)),
+            Ok(_setup) => assert!(rt; false),
+        }
+    }
+    Ok(())
+}
 
 #[test]
 fn faults(rt: HostRuntime) -> Result<(), Fail> {

@@ -13,6 +13,7 @@ const NOTHING_SET: Settings = Settings {
     turn: None,
     black_prisoners: 0,
     white_prisoners: 0,
+    territory: false,
 };
 
 /// `solve c` without options.

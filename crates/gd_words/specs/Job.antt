@@ -61,6 +61,7 @@ job_of task chosen = record {
     turn = chosen.turn;
     black_prisoners = unwrap_or chosen.black_prisoners 0;
     white_prisoners = unwrap_or chosen.white_prisoners 0;
+    territory = false;
   };
   positions = unwrap_or chosen.positions 100000;
   parts = unwrap_or chosen.parts 500;

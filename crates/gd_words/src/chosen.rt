@@ -66,6 +66,7 @@ impl Chosen {
                 turn: self.turn,
                 black_prisoners: u64::from(self.black_prisoners.unwrap_or(0)),
                 white_prisoners: u64::from(self.white_prisoners.unwrap_or(0)),
+                territory: false,
             },
             positions: self.positions.unwrap_or(DEFAULT_POSITIONS),
             parts: self.parts.unwrap_or(DEFAULT_PARTS),

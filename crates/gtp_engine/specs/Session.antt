@@ -139,7 +139,7 @@ pub data Fate : Type 0 where
 
 -- the settings of a file of which so many moves are replayed
 abbrev pub settings_after : Option ℕ → Settings
-settings_after after = record { after = after; komi = None; turn = None; black_prisoners = 0; white_prisoners = 0 }
+settings_after after = record { after = after; komi = None; turn = None; black_prisoners = 0; white_prisoners = 0; territory = false }
 
 -- the file of which this is told is not too long, and gives the position
 abbrev pub GivesSetup : Told → Option ℕ → Setup → Type 0

@@ -31,6 +31,7 @@ fn settings_after(after: Option<u32>) -> Settings
         turn: None,
         black_prisoners: 0,
         white_prisoners: 0,
+        territory: false,
     }
 }
 

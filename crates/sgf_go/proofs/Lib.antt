@@ -10,3 +10,5 @@ pub mod PositionLemmas
 pub mod OnePositionLemmas
 pub mod OneReadingLemmas
 pub mod UndeclaredLemmas
+pub mod MarkLemmas
+pub mod SealLemmas

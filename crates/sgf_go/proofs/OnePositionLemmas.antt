@@ -16,13 +16,14 @@ use Rattle.sgf_tree.specs.Grammar.{PropertyText}
 use Rattle.sgf_go.specs.Values.{trimmed, Says, Rectangle, rectangle_between, IsArea, point, corners, colon, IsInRectangle, Extent, IsSide, IsSize, square, sides}
 use Rattle.sgf_go.specs.inner.Values.{LacksColon}
 use Rattle.go_grid.specs.Name.{IsName}
-use Rattle.sgf_go.specs.Setup.{Part, GoesOn, ◌then◌, For, Skips, IsSet, Sets, SetsValue, SetsValues, SetsProperty, cell_set, SetsSide, TurnsTo, side_of, placed, moved, with_taken, Choice, pass, stone_at, nothing, is_pass, IsMoveText, MovesAsChosen, Moves, MovesProperty, mover, first_value, value_of, TurnsByProperty, NodePart, LinePart, Unless, ends_before, IsKomiFor, IsFirstChoked, EndsMainLine, FromKomi, FromSize, FromGame, is_go, IsBoardSize, root, empty_board, OnePosition}
+use Rattle.sgf_go.specs.Setup.{Part, GoesOn, ◌then◌, For, Skips, IsSet, Sets, SetsValue, SetsValues, SetsProperty, cell_set, SetsSide, TurnsTo, side_of, placed, moved, with_taken, Choice, pass, stone_at, nothing, is_pass, IsMoveText, MovesAsChosen, Moves, MovesProperty, mover, first_value, value_of, TurnsByProperty, NodePart, LinePart, Unless, ends_before, IsKomiFor, IsFirstChoked, IsRead, TerritoryOf, TerritoryPart, EndsMainLine, FromKomi, FromSize, FromGame, is_go, IsBoardSize, root, empty_board, OnePosition}
 use Rattle.sgf_go.specs.declared.replay.Replay.{Replay}
 use Rattle.sgf_go.specs.declared.settings.Settings.{Settings}
 use Rattle.sgf_go.specs.declared.settings.Setup.{Setup}
 use Rattle.sgf_go.specs.declared.fault.SetupFault.{SetupFault}
 use Rattle.sgf_go.specs.declared.fault.SetupFault.TheVariants.{NoLiberty}
 use Rattle.sgf_go.proofs.KomiLemmas.{one_komi}
+use Rattle.sgf_go.proofs.SealLemmas.{territory_one}
 use Rattle.sgf_go.proofs.PointLemmas.{point_not_corners}
 use Rattle.sgf_go.proofs.SizeLemmas.{square_only, sides_only, side_lacks, joint_within, at_joint, in_front}
 use Rattle.go_play.proofs.BoardPlayLemmas.{placed_same, suicide_not_placed}
@@ -57,7 +58,7 @@ one_placing node c s p h k (Err place.Suicide) (Err place.Suicide) a b = refl
 one_point : (columns rows : ℕ) (text : List ℕ) (p q : ℕ) → IsName columns rows text p → IsName columns rows text q → p ≡ q
 one_point columns rows text p q a b = one_named columns p q (sym a.spelt ∙ b.spelt)
 
-one_area : (columns rows : ℕ) (text : List ℕ) (a b : Rectangle) → IsArea columns rows text a → IsArea columns rows text b → a ≡ b
+pub one_area : (columns rows : ℕ) (text : List ℕ) (a b : Rectangle) → IsArea columns rows text a → IsArea columns rows text b → a ≡ b
 one_area columns rows text _ _ (point p a) (point q b) = ap (λ x. rectangle_between columns x x) (one_point columns rows text p q a b)
 one_area columns rows text _ _ (point p a) (corners m n b c d) = absurd (point_not_corners columns rows text p a c)
 one_area columns rows text _ _ (corners m n a c d) (point q b) = absurd (point_not_corners columns rows text q b c)
@@ -132,9 +133,13 @@ moves_one : (node : ℕ) (c : Option Colour) (text : List ℕ) → HasOne (Moves
 moves_one node None text = skips_one
 moves_one node (Some c) text = λ s r q x y. chooses_one node c x.0 s r q x.2 (subst (λ z. MovesAsChosen node c z s q) (one_choice s.board text y.0 x.0 y.1 x.1) y.2)
 
+read_one : (node : ℕ) → HasOne (IsRead node)
+read_one node s r q a b = a ∙ sym b
+
 node_one : (turn : Option Colour) (node : ℕ) (ps : List PropertyText) → HasOne (NodePart turn node ps)
-node_one turn node ps = then_one (For (SetsProperty node) ps) (TurnsByProperty turn ps then For (MovesProperty node) ps) (for_one (SetsProperty node) ps (λ p. values_one node (cell_set p) p.values))
-    (then_one (TurnsByProperty turn ps) (For (MovesProperty node) ps) (side_one turn ps) (for_one (MovesProperty node) ps (λ p. moves_one node (mover p) (first_value p))))
+node_one turn node ps = then_one (For (SetsProperty node) ps) (TurnsByProperty turn ps then For (MovesProperty node) ps then IsRead node) (for_one (SetsProperty node) ps (λ p. values_one node (cell_set p) p.values))
+    (then_one (TurnsByProperty turn ps) (For (MovesProperty node) ps then IsRead node) (side_one turn ps)
+    (then_one (For (MovesProperty node) ps) (IsRead node) (for_one (MovesProperty node) ps (λ p. moves_one node (mover p) (first_value p))) (read_one node)))
 
 line_one : (after : Option ℕ) (turn : Option Colour) (node : ℕ) (line : List (List PropertyText)) → HasOne (LinePart after turn node line)
 line_one after turn node [] = skips_one
@@ -144,6 +149,14 @@ line_one after turn node (ps ∷ line) = λ s. unless_one (ends_before after ps 
     unless_one : (b : Bool) (P : Part) → HasOne P → HasOne (Unless b P)
     unless_one true P d = skips_one
     unless_one false P d = d
+
+marks_one : (asked : Bool) (line : List (List PropertyText)) → HasOne (TerritoryPart asked line)
+marks_one false line = skips_one
+marks_one true line = λ s. last_one s.last s
+  where
+    last_one : (last : Option ℕ) → HasOne (TerritoryOf line last)
+    last_one None = skips_one
+    last_one (Some node) = territory_one node (get_or line node [])
 
 one_choked : (g : Board) (p q : ℕ) → IsFirstChoked g p → IsFirstChoked g q → p ≡ q
 one_choked g p q a b = elim (cases_lt p q) [
@@ -196,7 +209,8 @@ one_board_size (Some text) e f a b = one_size text e f a b
 from_komi_one : (settings : Settings) (line : List (List PropertyText)) (e : Extent) (komi : Option ℤ) (a b : Result Setup SetupFault) → FromKomi settings line e komi a → FromKomi settings line e komi b → a ≡ b
 from_komi_one settings line e None a b x y = x ∙ sym y
 from_komi_one settings line e (Some komi) a b (m, p, f) (n, o, g) =
-    ends_one settings komi m a b f (subst (λ r. EndsMainLine settings komi r b) (line_one settings.after settings.turn 0 line (empty_board e) n m o p) g)
+    let all = then_one (LinePart settings.after settings.turn 0 line) (TerritoryPart settings.territory line) (line_one settings.after settings.turn 0 line) (marks_one settings.territory line) in
+    ends_one settings komi m a b f (subst (λ r. EndsMainLine settings komi r b) (all (empty_board e) n m o p) g)
 
 from_size_one : (settings : Settings) (line : List (List PropertyText)) (e : Option Extent) (a b : Result Setup SetupFault) → FromSize settings line e a → FromSize settings line e b → a ≡ b
 from_size_one settings line None a b x y = x ∙ sym y

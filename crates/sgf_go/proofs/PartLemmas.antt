@@ -91,12 +91,16 @@ moves_by node c p text s t (Err g) e v f = subst (λ o. Moves node o (first_valu
 pub fault_out : (P : Part) (s t : Replay) (f : SetupFault) (r : Result (Unit {0}) SetupFault) → IsErrAnd r (λ y. y ≡ f) → P s (Err f) → Follows P s t r
 fault_out P s t f r i p = let e = err_from_is_err_and r i in subst (Follows P s t) (sym (e.1 ∙ ap Err e.2)) p
 
--- a node is its three parts
-pub node_follows : (turn : Option Colour) (node : ℕ) (ps : List Property) (s a b t : Replay) (r : Result (Unit {0}) SetupFault)
-    → For (λ p. SetsProperty node (property_text p)) ps s (Ok a) → TurnsByProperty turn (map property_text ps) a (Ok b) → Follows (For (λ p. MovesProperty node (property_text p)) ps) b t r
-    → Follows (NodePart turn node (map property_text ps)) s t r
-node_follows turn node ps s a b t (Ok u) f g h = (Ok a, for_map (SetsProperty node) property_text ps s (Ok a) f, (Ok b, g, for_map (MovesProperty node) property_text ps b (Ok t) h))
-node_follows turn node ps s a b t (Err e) f g h = (Ok a, for_map (SetsProperty node) property_text ps s (Ok a) f, (Ok b, g, for_map (MovesProperty node) property_text ps b (Err e) h))
+-- a node is its four parts
+pub node_follows : (turn : Option Colour) (node : ℕ) (ps : List Property) (s a b t : Replay)
+    → For (λ p. SetsProperty node (property_text p)) ps s (Ok a) → TurnsByProperty turn (map property_text ps) a (Ok b) → For (λ p. MovesProperty node (property_text p)) ps b (Ok t)
+    → NodePart turn node (map property_text ps) s (Ok (record t { last = Some node }))
+node_follows turn node ps s a b t f g h = (Ok a, for_map (SetsProperty node) property_text ps s (Ok a) f, (Ok b, g, (Ok t, for_map (MovesProperty node) property_text ps b (Ok t) h, refl)))
+
+pub move_fault : (turn : Option Colour) (node : ℕ) (ps : List Property) (s a b : Replay) (f : SetupFault)
+    → For (λ p. SetsProperty node (property_text p)) ps s (Ok a) → TurnsByProperty turn (map property_text ps) a (Ok b) → For (λ p. MovesProperty node (property_text p)) ps b (Err f)
+    → NodePart turn node (map property_text ps) s (Err f)
+move_fault turn node ps s a b f g h i = (Ok a, for_map (SetsProperty node) property_text ps s (Ok a) g, (Ok b, h, (Err f, for_map (MovesProperty node) property_text ps b (Err f) i, refl)))
 
 pub node_fault : (turn : Option Colour) (node : ℕ) (ps : List Property) (s : Replay) (f : SetupFault) → For (λ p. SetsProperty node (property_text p)) ps s (Err f) → NodePart turn node (map property_text ps) s (Err f)
 node_fault turn node ps s f g = (Err f, for_map (SetsProperty node) property_text ps s (Err f) g, refl)

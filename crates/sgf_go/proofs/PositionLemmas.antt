@@ -5,7 +5,8 @@ use Rattle.sgf_tree.specs.Grammar.{PropertyText}
 use Rattle.go_grid.specs.declared.grid.Size.{Size}
 use Rattle.sgf_go.specs.Values.{Says}
 use Rattle.sgf_go.specs.Reading.{extent}
-use Rattle.sgf_go.specs.Setup.{Gives, FromGame, FromKomi, IsKomiFor, value_of, is_go, IsBoardSize, root, LinePart, EndsMainLine, empty_board}
+use Rattle.sgf_go.specs.Setup.{Gives, FromGame, FromKomi, IsKomiFor, value_of, is_go, IsBoardSize, root, LinePart, empty_board}
+use Rattle.sgf_go.specs.inner.Setup.{EndsWithTerritory}
 use Rattle.sgf_go.specs.declared.replay.Replay.{Replay}
 use Rattle.sgf_go.specs.declared.settings.Settings.{Settings}
 use Rattle.sgf_go.specs.declared.settings.Setup.{Setup}
@@ -29,9 +30,9 @@ bad_komi settings line size e s k = from_komi settings line size None (Err BadKo
 pub line_bad : (settings : Settings) (line : List (List PropertyText)) (size : Size) (komi : ℤ) (f : SetupFault) → is_go (value_of (codes "GM") (root line)) ≡ true
     → Says (IsBoardSize (value_of (codes "SZ") (root line))) (Some (extent size)) → Says (IsKomiFor settings.komi (value_of (codes "KM") (root line))) (Some komi)
     → LinePart settings.after settings.turn 0 line (empty_board (extent size)) (Err f) → Gives settings line (Err f)
-line_bad settings line size komi f e s k p = from_komi settings line size (Some komi) (Err f) e s k (Err f, p, refl)
+line_bad settings line size komi f e s k p = from_komi settings line size (Some komi) (Err f) e s k (Err f, (Err f, p, refl), refl)
 
 pub line_good : (settings : Settings) (line : List (List PropertyText)) (size : Size) (komi : ℤ) (s : Replay) (r : Result Setup SetupFault) → is_go (value_of (codes "GM") (root line)) ≡ true
     → Says (IsBoardSize (value_of (codes "SZ") (root line))) (Some (extent size)) → Says (IsKomiFor settings.komi (value_of (codes "KM") (root line))) (Some komi)
-    → LinePart settings.after settings.turn 0 line (empty_board (extent size)) (Ok s) → EndsMainLine settings komi (Ok s) r → Gives settings line r
-line_good settings line size komi s r e b k p q = from_komi settings line size (Some komi) r e b k (Ok s, p, q)
+    → LinePart settings.after settings.turn 0 line (empty_board (extent size)) (Ok s) → EndsWithTerritory settings line komi s r → Gives settings line r
+line_good settings line size komi s r e b k p (m, q, ends) = from_komi settings line size (Some komi) r e b k (m, (Ok s, p, q), ends)

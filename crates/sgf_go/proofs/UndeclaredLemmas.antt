@@ -1,10 +1,10 @@
 -- No part of a line declares a point.
-use Rattle.std.proofs.Common.{◌≡◌, ℕ, ◌+◌, List, [], ◌∷◌, inl, inr, Bool, true, false, Some, None, ap, ◌∙◌}
+use Rattle.std.proofs.Common.{◌≡◌, ℕ, ◌+◌, List, [], ◌∷◌, inl, inr, Bool, true, false, Some, None, ap, subst, sym, ◌∙◌}
 use Rattle.std.specs.Prelude.{Option, Result, Ok, Err, codes}
 use Rattle.go_grid.specs.declared.grid.Colour.{Colour}
 use Rattle.go_grid.specs.declared.grid.Colour.TheVariants.{Black, White}
 use Rattle.go_grid.specs.declared.grid.Cell.{Cell}
-use Rattle.go_grid.specs.Board.{Board, DeclaresNothing}
+use Rattle.go_grid.specs.Board.{Board, DeclaresNothing, IsClosedOff}
 use Rattle.go_grid.specs.Chain.{IsChoked, IsFirstUnsettled, IsUnsettled}
 use Rattle.go_grid.proofs.DeclaredLemmas.{none_declared}
 use Rattle.go_play.specs.Place.{PlacesStone}
@@ -12,7 +12,7 @@ use Rattle.go_play.specs.declared.placements.PlaceError.{PlaceError}
 use Rattle.go_play.specs.declared.placements.PlaceError.TheVariants as place
 use Rattle.sgf_tree.specs.Grammar.{PropertyText}
 use Rattle.sgf_go.specs.Values.{Rectangle, Extent, trimmed}
-use Rattle.sgf_go.specs.Setup.{Part, ◌then◌, For, Sets, SetsValue, SetsValues, SetsProperty, cell_set, SetsSide, TurnsTo, side_of, placed, Choice, pass, stone_at, nothing, MovesAsChosen, Moves, MovesProperty, mover, first_value, value_of, TurnsByProperty, NodePart, LinePart, Unless, ends_before, empty_board, IsFirstChoked, Skips}
+use Rattle.sgf_go.specs.Setup.{Part, ◌then◌, For, Sets, SetsValue, SetsValues, SetsProperty, cell_set, SetsSide, TurnsTo, side_of, placed, Choice, pass, stone_at, nothing, MovesAsChosen, Moves, MovesProperty, mover, first_value, value_of, TurnsByProperty, NodePart, LinePart, Unless, ends_before, empty_board, IsFirstChoked, IsRead, Skips, TerritoryPart}
 use Rattle.sgf_go.specs.declared.replay.Replay.{Replay}
 use Rattle.sgf_go.specs.declared.fault.SetupFault.{SetupFault}
 
@@ -87,11 +87,15 @@ keeps_move node p = keeps_by (mover p)
     keeps_by None = keeps_nothing
     keeps_by (Some c) = λ s t (x, says, moves). keeps_chosen node c x s t moves
 
+keeps_read : (node : ℕ) → Keeps (IsRead node)
+keeps_read node s t e = ap (λ x. x.board.declared) (same_result e)
+
 keeps_node : (turn : Option Colour) (node : ℕ) (ps : List PropertyText) → Keeps (NodePart turn node ps)
 keeps_node turn node ps =
-    keeps_then (For (SetsProperty node) ps) (TurnsByProperty turn ps then For (MovesProperty node) ps)
+    keeps_then (For (SetsProperty node) ps) (TurnsByProperty turn ps then For (MovesProperty node) ps then IsRead node)
     (keeps_for (SetsProperty node) (keeps_property node) ps)
-    (keeps_then (TurnsByProperty turn ps) (For (MovesProperty node) ps) (keeps_side turn ps) (keeps_for (MovesProperty node) (keeps_move node) ps))
+    (keeps_then (TurnsByProperty turn ps) (For (MovesProperty node) ps then IsRead node) (keeps_side turn ps)
+    (keeps_then (For (MovesProperty node) ps) (IsRead node) (keeps_for (MovesProperty node) (keeps_move node) ps) (keeps_read node)))
 
 keeps_line : (after : Option ℕ) (turn : Option Colour) (node : ℕ) (line : List (List PropertyText)) → Keeps (LinePart after turn node line)
 keeps_line after turn node [] = keeps_nothing
@@ -109,13 +113,24 @@ pub line_declares_nothing : (after : Option ℕ) (turn : Option Colour) (line : 
     → LinePart after turn 0 line (empty_board e) (Ok s) → DeclaresNothing s.board
 line_declares_nothing after turn line e s part = none_declared s.board (keeps_line after turn 0 line (empty_board e) s part)
 
--- what is first unsettled there is a stone without a liberty
-pub first_choked : (g : Board) (p : ℕ) → DeclaresNothing g → IsFirstUnsettled g p → IsFirstChoked g p
-first_choked g p empty first = record {
+-- nor is it behind the territory, where that isn't asked for
+pub end_declares_nothing : (asked : Bool) (after : Option ℕ) (turn : Option Colour) (line : List (List PropertyText)) (e : Extent) (s : Replay) → asked ≡ false
+    → (LinePart after turn 0 line then TerritoryPart asked line) (empty_board e) (Ok s) → DeclaresNothing s.board
+end_declares_nothing true after turn line e s asks part = absurd (not_true asks)
+  where
+    not_true : true ≡ false → ⊥
+    not_true e = cc
+end_declares_nothing false after turn line e s asks (Ok u, part, same) =
+    subst (λ x. DeclaresNothing x.board) (sym (same_result same)) (line_declares_nothing after turn line e u part)
+end_declares_nothing false after turn line e s asks (Err f, part, same) = cc
+
+-- where the declared points are closed off, what is first unsettled is a stone without a liberty
+pub first_choked : (g : Board) (p : ℕ) → IsClosedOff g → IsFirstUnsettled g p → IsFirstChoked g p
+first_choked g p closed first = record {
   choked = choked first.unsettled;
   lowest = λ q lt choked'. first.lowest q lt (inl choked');
 }
   where
     choked : IsUnsettled g p → IsChoked g p
     choked (inl stone) = stone
-    choked (inr (c, declared, broken)) = absurd (empty p c declared)
+    choked (inr (c, declared, broken)) = absurd (broken (closed c p declared))

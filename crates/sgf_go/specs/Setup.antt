@@ -15,6 +15,7 @@ use Rattle.go_play.specs.declared.placements.PlaceError.{PlaceError}
 use Rattle.go_play.specs.declared.placements.PlaceError.TheVariants as place
 use Rattle.sgf_go.specs.Komi.{IsKomi}
 use Rattle.sgf_go.specs.Values.{trimmed, Rectangle, Says, IsArea, IsInRectangle, Extent, IsSize}
+use Rattle.sgf_go.specs.Territory.{MarksTerritory}
 use Rattle.go_grid.specs.Name.{IsName}
 use Rattle.sgf_go.specs.declared.replay.Replay.{Replay}
 use Rattle.sgf_go.specs.declared.settings.Settings.{Settings}
@@ -177,9 +178,13 @@ abbrev pub TurnsByProperty : Option Colour → List PropertyText → Part
 TurnsByProperty None ps = TurnsTo (value_of (codes "PL") ps)
 TurnsByProperty (Some c) ps = Skips
 
+-- the node is the last that has been read
+abbrev pub IsRead : ℕ → Part
+IsRead node s r = r ≡ Ok (record s { last = Some node })
+
 -- a node: its setup, then PL, then its moves
 abbrev pub NodePart : Option Colour → ℕ → List PropertyText → Part
-NodePart turn node ps = For (SetsProperty node) ps then TurnsByProperty turn ps then For (MovesProperty node) ps
+NodePart turn node ps = For (SetsProperty node) ps then TurnsByProperty turn ps then For (MovesProperty node) ps then IsRead node
 
 -- whether some property moves
 abbrev pub has_move : List PropertyText → Bool
@@ -221,7 +226,7 @@ IsKomiFor None None k = k ≡ pos 0
 IsKomiFor None (Some []) k = k ≡ pos 0
 IsKomiFor None (Some (b ∷ bs)) k = IsKomi (b ∷ bs) k
 
--- how things stand before node 0: an empty board, nothing taken or played, and Black to move
+-- how things stand before node 0: an empty board, nothing taken, played or read, and Black to move
 abbrev pub empty_board : Extent → Replay
 empty_board e = record {
   board = record { columns = e.columns; rows = e.rows; cells = replicate (e.columns * e.rows) cell.Empty; declared = [] };
@@ -229,7 +234,18 @@ empty_board e = record {
   white = 0;
   side = colour.Black;
   played = 0;
+  last = None;
 }
+
+-- the territory that a node of the line marks; where there is no node nothing is marked
+abbrev pub TerritoryOf : List (List PropertyText) → Option ℕ → Part
+TerritoryOf line None = Skips
+TerritoryOf line (Some node) = MarksTerritory node (get_or line node [])
+
+-- the territory that the last node read marks, where the settings ask for it
+abbrev pub TerritoryPart : Bool → List (List PropertyText) → Part
+TerritoryPart false line = Skips
+TerritoryPart true line = λ s. TerritoryOf line s.last s
 
 -- the side that is given, or `c` where none is
 abbrev pub or_side : Option Colour → Colour → Colour
@@ -260,7 +276,9 @@ EndsMainLine settings komi (Ok s) (Err f) = (p : ℕ) × IsFirstChoked s.board p
 -- what a main line gives under the settings, from the komi on; a text of KM that is no komi is a fault
 abbrev pub FromKomi : Settings → List (List PropertyText) → Extent → Option ℤ → Result Setup SetupFault → Type 0
 FromKomi settings line e None r = r ≡ Err BadKomi
-FromKomi settings line e (Some komi) r = (m : Result Replay SetupFault) × LinePart settings.after settings.turn 0 line (empty_board e) m × EndsMainLine settings komi m r
+FromKomi settings line e (Some komi) r = (m : Result Replay SetupFault)
+    × (LinePart settings.after settings.turn 0 line then TerritoryPart settings.territory line) (empty_board e) m
+    × EndsMainLine settings komi m r
 
 -- what a main line gives under the settings, from the size on; a text of SZ that is no size is a fault
 abbrev pub FromSize : Settings → List (List PropertyText) → Option Extent → Result Setup SetupFault → Type 0

@@ -3,3 +3,4 @@ pub mod Scan
 pub mod Reading
 pub mod Setup
 pub mod Values
+pub mod Territory

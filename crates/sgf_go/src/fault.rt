@@ -20,8 +20,8 @@ pub enum SetupFault {
     /// KM isn't a komi.
     #[error("bad komi")]
     BadKomi,
-    /// A value of AB, AW or AE is neither a point of the board nor a rectangle on it, or the value of a move neither a
-    /// point nor a pass.
+    /// A value of AB, AW, AE, TB or TW is neither a point of the board nor a rectangle on it, or the value of a move
+    /// neither a point nor a pass.
     #[error("bad point at node {0}")]
     BadPoint(u32),
     /// PL names no colour.
@@ -33,6 +33,9 @@ pub enum SetupFault {
     /// A move that would leave its own chain without a liberty.
     #[error("suicide at node {0}")]
     Suicide(u32),
+    /// The lowest point that is marked for both colours.
+    #[error("marked twice at point {}", .0.0)]
+    MarkedTwice(Point),
     /// At the end, the lowest stone whose chain has no liberty.
     #[error("no liberty at point {}", .0.0)]
     NoLiberty(Point),

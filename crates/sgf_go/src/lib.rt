@@ -3,10 +3,12 @@
 
 mod fault;
 mod komi;
+mod marks;
 mod properties;
 mod replay;
 mod settings;
 mod setup;
+mod territory;
 mod values;
 
 pub use fault::{FileFault, GoError, SetupFault};

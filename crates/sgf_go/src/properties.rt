@@ -10,7 +10,8 @@ use crate::values::trim;
 use go_grid::{Cell, Colour};
 use sgf_tree::Property;
 
-fn is_named(property: &Property, name: &[u8]) -> bool
+/// Whether a property has the name.
+pub(crate) fn is_named(property: &Property, name: &[u8]) -> bool
     ensures { result ≡ bytes_eq property.now.name.items name.now }
 {
     property.name.as_slice() == name

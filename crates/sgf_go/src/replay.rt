@@ -1,6 +1,6 @@
 //! The nodes of a main line, one after the other.
 
-ghost use Rattle.std.specs.Prelude.{map, sum_by, Some, ◌≡◌, ◌≤◌, ◌<◌, ◌+◌, ◌*◌, length, IfSome, OnOk};
+ghost use Rattle.std.specs.Prelude.{map, sum_by, Some, None, ◌≡◌, ◌≤◌, ◌<◌, ◌+◌, ◌*◌, length, IfSome, OnOk};
 ghost use Rattle.std.specs.Option.{option_map};
 ghost use Rattle.sgf_go.specs.inner.Reading.{rectangle};
 ghost use Rattle.sgf_go.specs.Values.{IsInRectangle, Says, IsArea, trimmed};
@@ -16,8 +16,8 @@ use go_grid::{Board, Cell, Colour, Point};
 use go_play::{PlaceError, place};
 use sgf_tree::{MOST_BYTES, Node, Property};
 
-/// How things stand along the line: the board, the stones that each side's moves have taken, the side to move, and the
-/// moves and passes so far.
+/// How things stand along the line: the board, the stones that each side's moves have taken, the side to move, the
+/// moves and passes so far, and the last node read.
 #[derive(Drop)]
 pub struct Replay {
     pub board: Board,
@@ -25,10 +25,11 @@ pub struct Replay {
     pub white: u64,
     pub side: Colour,
     pub played: u32,
+    pub last: Option<u32>,
 }
 
 /// An area that a text names on a board.
-fn area_on(board: &Board, text: &[u8]) -> Option<Area>
+pub(crate) fn area_on(board: &Board, text: &[u8]) -> Option<Area>
     ensures value { Says (IsArea board.now.columns board.now.rows text.now)
         (option_map rectangle result) }
     ensures within { IfSome result (λ a. (a.right < board.now.columns)
@@ -250,10 +251,13 @@ impl Replay {
             (map property_text properties.now)) self.old self.new result }
         ensures counts { OnOk result (Counts self.new) }
         ensures played { OnOk result (self.new.played ≤ self.old.played + length properties.now) }
+        ensures last { OnOk result (self.new.last ≡ Some node) }
     {
         self.set_properties(node, properties)?;
         self.set_side(turn, properties)?;
-        self.move_properties(node, properties)
+        self.move_properties(node, properties)?;
+        self.last = Some(node);
+        Ok(())
     }
 
     /// The nodes of a line, up to the first move after so many.
@@ -265,6 +269,7 @@ impl Replay {
         line: &[Node],
     ) -> Result<(), SetupFault>
         requires start { self.old.played ≡ 0 }
+        requires unread { self.old.last ≡ None }
         requires counts { Counts self.old }
         requires nodes { length line.now ≤ MOST_BYTES }
         requires few { sum_by (λ n. length n.properties.items) line.now ≤ MOST_BYTES }
@@ -272,6 +277,7 @@ impl Replay {
             (map node_text line.now)) self.old self.new result }
         ensures counts { OnOk result (Counts self.new) }
         ensures played { OnOk result (self.new.played ≤ MOST_BYTES) }
+        ensures last { OnOk result (IfSome self.new.last (λ n. n < length line.now)) }
     {
         'nodes: for at in 0..line.len() {
             let properties = line[at].properties.as_slice();

@@ -18,6 +18,8 @@ pub struct Settings {
     pub black_prisoners: u64,
     /// The same of White.
     pub white_prisoners: u64,
+    /// Whether the points that the last node marks by TB and TW are declared.
+    pub territory: bool,
 }
 
 /// A position: its board, the stones that each side has taken, the komi in half-points, and the side to move.

@@ -1,7 +1,7 @@
 //! The position at the end of a main line.
 
 ghost use Rattle.std.specs.Prelude.{false, map, sum_by, get_or, [], ◌≡◌, ◌≤◌, ◌<◌, ◌+◌, ◌-◌, ◌⊎◌, ◌^◌, ◌*◌, true, length, take, IfSome, IfNone, IfOk, codes};
-ghost use Rattle.go_grid.specs.Board.{DeclaresNothing};
+ghost use Rattle.go_grid.specs.Board.{DeclaresNothing, IsClosedOff};
 ghost use Rattle.std.specs.Char.{is_ascii_digit};
 ghost use Rattle.std.specs.Option.{option_map};
 ghost use Rattle.sgf_tree.specs.Reading.{property_text, node_text, line_text};
@@ -11,7 +11,7 @@ ghost use Rattle.sgf_go.specs.Position.{IsFit};
 ghost use Rattle.sgf_go.specs.Values.{colon, Says, IsSide, IsSize};
 ghost use Rattle.sgf_go.specs.inner.Values.{LacksColon};
 ghost use Rattle.sgf_go.specs.Setup.{Counts, AnswersPosition, OnePosition, value_of, is_go, IsBoardSize, IsKomiFor, root, empty_board};
-ghost use Rattle.sgf_go.specs.inner.Setup.{AnswersEnd};
+ghost use Rattle.sgf_go.specs.inner.Setup.{AnswersEnd, AnswersTerritory};
 
 use crate::fault::{GoError, SetupFault};
 use crate::komi::{read_komi, rest_of};
@@ -112,21 +112,22 @@ fn begin(alloc: Global, size: Size) -> Result<Replay, AllocError>
         white: 0,
         side: Colour::Black,
         played: 0,
+        last: None,
     })
 }
 
 /// The position at the end, where the board is settled.
 #[tactic(auto, using(crate::proofs::UndeclaredLemmas::first_choked))]
 fn finish(replay: Replay, settings: &Settings, komi: i64) -> Result<Setup, GoError>
-    requires counts { Counts replay }
-    requires few { replay.played ≤ MOST_BYTES }
+    requires black_taken { replay.black ≤ 2 ^ 33 }
+    requires white_taken { replay.white ≤ 2 ^ 33 }
     requires black { settings.now.black_prisoners ≤ MOST_PRISONERS }
     requires white { settings.now.white_prisoners ≤ MOST_PRISONERS }
     requires komi { IsInRange komi }
-    requires undeclared { DeclaresNothing replay.board }
+    requires closed { IsClosedOff replay.board }
     ensures answer { AnswersEnd settings.now komi replay result }
     ensures fit { IfOk result IsFit }
-    ensures undeclared { IfOk result (λ s. DeclaresNothing s.board) }
+    ensures board { IfOk result (λ s. s.board ≡ replay.board) }
     ensures komi { IfOk result (λ s. s.komi_halves ≡ komi) }
 {
     match replay.board.unsettled()? {
@@ -142,6 +143,30 @@ fn finish(replay: Replay, settings: &Settings, komi: i64) -> Result<Setup, GoErr
             board: replay.board,
         }),
     }
+}
+
+/// The position behind the line, with its territory.
+fn finish_line(
+    mut replay: Replay,
+    settings: &Settings,
+    line: &[Node],
+    komi: i64,
+) -> Result<Setup, GoError>
+    requires counts { Counts replay }
+    requires few { replay.played ≤ MOST_BYTES }
+    requires last { IfSome replay.last (λ n. n < length line.now) }
+    requires black { settings.now.black_prisoners ≤ MOST_PRISONERS }
+    requires white { settings.now.white_prisoners ≤ MOST_PRISONERS }
+    requires komi { IsInRange komi }
+    requires undeclared { DeclaresNothing replay.board }
+    ensures answer { AnswersTerritory settings.now (map node_text line.now) komi replay result }
+    ensures fit { IfOk result IsFit }
+    ensures undeclared { IfOk result (λ s. (settings.now.territory ≡ false)
+        → DeclaresNothing s.board) }
+    ensures komi { IfOk result (λ s. s.komi_halves ≡ komi) }
+{
+    replay.read_territory(settings.territory, line)?;
+    finish(replay, settings, komi)
 }
 
 /// The place of the first `:`.
@@ -205,7 +230,8 @@ pub fn size_of_board(tree: &Tree) -> Option<Size>
 
 /// The position at the end of the main line of a record (Smart Game Format, FF[4]) under the settings, or the first thing
 /// that is wrong with it: GM, SZ and KM of node 0 in this order, then node by node AB, AW and AE, PL, and the moves, and at
-/// the end a stone without a liberty. Nothing is declared on its board.
+/// the end the territory that TB and TW of the last node read mark, where the settings ask for it, and a stone without a
+/// liberty. Without the option nothing is declared on its board.
 #[tactic(auto, using(crate::proofs::PositionLemmas::wrong_game, crate::proofs::PositionLemmas::bad_size, crate::proofs::PositionLemmas::bad_komi, crate::proofs::PositionLemmas::line_bad, crate::proofs::PositionLemmas::line_good, crate::proofs::UndeclaredLemmas::line_declares_nothing))]
 pub fn position(alloc: Global, tree: &Tree, settings: &Settings) -> Result<Setup, GoError>
     requires nodes { length tree.now.line.items ≤ MOST_BYTES }
@@ -215,7 +241,8 @@ pub fn position(alloc: Global, tree: &Tree, settings: &Settings) -> Result<Setup
     requires komi { IfSome settings.now.komi IsInRange }
     ensures answer { AnswersPosition tree.now settings.now result }
     ensures fit { IfOk result IsFit }
-    ensures undeclared { IfOk result (λ s. DeclaresNothing s.board) }
+    ensures undeclared { IfOk result (λ s. (settings.now.territory ≡ false)
+        → DeclaresNothing s.board) }
     ensures komi { IfOk result (λ s. IsInRange s.komi_halves) }
 {
     let first = root(&tree.line);
@@ -230,7 +257,7 @@ pub fn position(alloc: Global, tree: &Tree, settings: &Settings) -> Result<Setup
     };
     let mut replay = begin(alloc, size)?;
     match replay.read_line(settings.after, settings.turn, &tree.line) {
-        Ok(()) => finish(replay, settings, komi),
+        Ok(()) => finish_line(replay, settings, &tree.line, komi),
         Err(fault) => Err(GoError::Fault(fault)),
     }
 }

@@ -5,8 +5,8 @@ use Rattle.sgf_go.specs.Setup.{LinePart}
 use Rattle.sgf_go.proofs.UndeclaredLemmas.{line_declares_nothing}
 use Rattle.sgf_go.proofs.setup.position.Goals as goal
 
-pub finish-requires-clause-undeclared : goal.finish-requires-clause-undeclared
-finish-requires-clause-undeclared c =
+pub finish_line-requires-clause-undeclared : goal.finish_line-requires-clause-undeclared
+finish_line-requires-clause-undeclared c =
     let settings = c.args.settings.now in
     let line = map node_text c.args.tree.now.line.items in
     line_declares_nothing settings.after settings.turn line (extent c.in-Some.size) c.read_line.new.self
