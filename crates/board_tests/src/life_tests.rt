@@ -200,6 +200,12 @@ fn lives_and_counts(rt: HostRuntime) -> Result<(), AllocError> {
             &[0, 1, 3],
             4,
         ),
+        // a false eye, a seki, a bent room, a captive between two empty points, a room with an inner point
+        row((4, 4), b".XO.XOO.XXO..XO.", &[], &[], 0),
+        row((3, 2), b"X.OX.O", &[], &[], 0),
+        row((5, 3), b"...XO.XXXOXXOO.", &[], &[], 0),
+        row((5, 3), b"XXXXXX.O.XXXX.X", &[], &[], 0),
+        row((7, 5), b"XXXXXXXX...X.XX...XXXX...XXXXXXXXXX", &[], &[], 0),
     ];
     for (at, row) in rows.iter().enumerate() {
         assert!(rt; lives(rt.alloc(), row)?, "at {at}");

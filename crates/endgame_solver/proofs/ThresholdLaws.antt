@@ -6,7 +6,7 @@ use Rattle.go_grid.specs.declared.grid.Colour.{Colour}
 use Rattle.go_grid.specs.declared.grid.Colour.TheVariants.{Black, White}
 use Rattle.go_grid.specs.Board.{Board, other}
 use Rattle.go_grid.specs.Marks.{IsMarked}
-use Rattle.go_grid.proofs.PlayLemmas.{one_outcome}
+use Rattle.go_play.proofs.PlaceLemmas.{one_board}
 use Rattle.go_play.specs.Place.{IsPlaced, IsNumberTaken}
 use Rattle.whole_rules.specs.declared.money.Purses.{Purses}
 use Rattle.whole_rules.specs.declared.money.Token.TheVariants as token
@@ -192,10 +192,6 @@ pub record AreAlike (more : ℤ) (s t : Whole) : Type 0 where
   pub board : s.board ≡ t.board
   pub contested : (q : ℕ) → IsMarked s.contested q ↔ IsMarked t.contested q
   pub balance_is : balance s.purses ≡ balance t.purses +ℤ more
-
-one_board : (g h h' : Board) (p : ℕ) (c : Colour) → IsPlaced g p c h → IsPlaced g p c h' → h ≡ h'
-one_board g h h' p c (size, placed) (size', placed') =
-    λ i. record { columns = (size.columns ∙ sym size'.columns) i; rows = (size.rows ∙ sym size'.rows) i; cells = one_outcome placed placed' i; declared = (size.declared ∙ sym size'.declared) i }
 
 -- a stone leaves alike states alike
 alike_stone : (more : ℤ) (p : ℕ) (s t s' t' : Whole) → AreAlike more s t → s.side ≡ t.side → IsMove s (Stone p) s' → IsMove t (Stone p) t'

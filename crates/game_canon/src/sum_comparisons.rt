@@ -1,6 +1,7 @@
 //! Comparisons of sums that are remembered from question to question.
 
 ghost use Rattle.std.specs.Prelude.{◌≡◌, []};
+ghost use Rattle.game_canon.specs.FormComparisons.{FormsStayRightInGrownStores};
 ghost use Rattle.game_canon.specs.SumComparisons.{StayRightInGrownStores};
 
 use crate::sums::SumAnswers;
@@ -34,7 +35,8 @@ impl SumComparisons {
     }
 }
 
-/// Comparisons that are right for a store are right for it after more forms were interned.
+/// Comparisons, of sums or of forms, that are right for a store are right for it after more forms were interned.
 pub fn comparisons_laws()
-    ensures { StayRightInGrownStores }
+    ensures sums { StayRightInGrownStores }
+    ensures forms { FormsStayRightInGrownStores }
 {}

@@ -16,12 +16,14 @@ ghost use Rattle.game_store.specs.Forms.{wanted, IsFormOf, HaveForms};
 mod bound;
 mod bounds;
 mod fingerprint;
+mod laws;
 mod lookup;
 
 use crate::bounds::{greatest_floor, least_ceiling, read_ceiling, read_floor};
 use crate::fingerprint::{fingerprint_number, fingerprint_options};
 use crate::lookup::{find, read_slot};
 pub use bound::Bound;
+pub use laws::id_laws;
 use dyadic_num::{Dyadic, EXPONENT};
 use indexmap::IndexMap;
 use list_pool::ListPool;

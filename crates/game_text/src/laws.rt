@@ -12,8 +12,8 @@ pub fn text_laws()
     ensures ids { IdsComeBack }
 {}
 
-/// A canonical form is known by its named text, and so is its game; what is written of an id is read back as the id. For texts without names that is `text_laws` of
-/// `short_games`.
+/// A canonical form is known by its named text, and so is its game; what is written of an id is read back as the id, as
+/// `text_laws` has it for texts without names.
 pub fn named_text_laws()
     ensures trees { NamedTextsTellTrees }
     ensures games { NamedTextsTellGames }

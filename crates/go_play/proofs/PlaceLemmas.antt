@@ -10,15 +10,25 @@ use Rattle.go_grid.specs.Walk.{Joined}
 use Rattle.go_grid.specs.Marks.{IsMarked, Marks, Touches}
 use Rattle.go_grid.specs.Chain.{InChain, HasLiberty}
 use Rattle.go_grid.proofs.BoardLemmas.{empty_not_stone, not_other, same_or_not}
+use Rattle.go_grid.proofs.PlayLemmas.{one_outcome}
 use Rattle.go_grid.proofs.PointsLemmas.{Noted}
 use Rattle.go_grid.proofs.WalkLemmas.{joined_start, marks_joined}
 use Rattle.go_grid.proofs.ChainLemmas.{liberty_marks}
 use Rattle.go_play.specs.declared.placements.PlaceError.{PlaceError}
 use Rattle.go_play.specs.declared.placements.PlaceError.TheVariants.{Occupied, Suicide}
-use Rattle.go_play.specs.Place.{IsTaken, IsCleared, Breathes, PlacesStone}
+use Rattle.go_play.specs.Place.{IsTaken, IsCleared, IsPlaced, Breathes, PlacesStone}
 use Rattle.go_play.specs.inner.Place.{with_stone}
 use Rattle.go_play.specs.inner.Tried.{IsLost, Judges}
 use Rattle.go_play.proofs.BoardPlayLemmas.{breathes_from, breathes_to, chain_to, taken_stone, takes}
+
+-- a placing leads to one board
+pub one_board : (g h k : Board) (p : ℕ) (c : Colour) → IsPlaced g p c h → IsPlaced g p c k → h ≡ k
+one_board g h k p c (size, placed) (size', placed') = λ i. record {
+  columns = (size.columns ∙ sym size'.columns) i;
+  rows = (size.rows ∙ sym size'.rows) i;
+  cells = one_outcome placed placed' i;
+  declared = (size.declared ∙ sym size'.declared) i;
+}
 
 -- a chain of the other colour is taken, or it isn't
 pub lost_chain : (b : Board) (d : Colour) (s : ℕ) (theirs chain old new : List Bool)

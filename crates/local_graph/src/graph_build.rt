@@ -186,6 +186,8 @@ pub(crate) fn explore<L: Ledger>(
         table.new.positions.items result }
     ensures limited { steps.new ≤ steps.old + limit }
     ensures finite { steps.new ≤ steps.old + 3 ^ length region.now.points }
+    ensures exact { IfOk result
+        (λ _. steps.new ≡ steps.old + length table.new.positions.items) }
 {
     let mut found = Exploration {
         edges: Vec::new(alloc),
@@ -225,8 +227,8 @@ pub(crate) fn positions_of(table: PlaceTable) -> Vec<u64>
     table.positions
 }
 
-/// The graph of exactly the positions that local play reaches from the region's cells, each with exactly its moves. It takes at
-/// most one step for each of them.
+/// The graph of exactly the positions that local play reaches from the region's cells, each with exactly its moves. It takes
+/// exactly one step for each of them, and where there is no graph at most one.
 pub fn build<L: Ledger>(
     alloc: Global,
     region: &Region,
@@ -236,6 +238,7 @@ pub fn build<L: Ledger>(
     ensures built { Built region.now limit result }
     ensures limited { steps.new ≤ steps.old + limit }
     ensures finite { steps.new ≤ steps.old + 3 ^ length region.now.points }
+    ensures exact { IfOk result (λ graph. steps.new ≡ steps.old + length graph.positions) }
 {
     let shape = region;
     let points = shape.points.len();

@@ -131,7 +131,7 @@ fn tell_returns(
 }
 
 /// The graph of exactly the positions that local play reaches from the region's cells, each with exactly its moves, also where
-/// moves return. It takes at most one step for each of them, and never answers `Cycle`.
+/// moves return. It takes exactly one step for each of them, and where there is no graph at most one. It never answers `Cycle`.
 pub fn build_with_returns<L: Ledger>(
     alloc: Global,
     region: &Region,
@@ -141,6 +141,7 @@ pub fn build_with_returns<L: Ledger>(
     ensures built { BuiltWithReturns region.now limit result }
     ensures limited { steps.new ≤ steps.old + limit }
     ensures finite { steps.new ≤ steps.old + 3 ^ length region.now.points }
+    ensures exact { IfOk result (λ graph. steps.new ≡ steps.old + length graph.positions) }
 {
     let shape = region;
     let points = shape.points.len();

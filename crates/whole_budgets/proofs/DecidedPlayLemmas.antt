@@ -9,7 +9,8 @@ use Rattle.go_grid.specs.declared.grid.Colour.TheVariants as colour
 use Rattle.go_grid.specs.Board.{Board, cell_at, stone}
 use Rattle.go_grid.specs.Play.{is_stone, with_stone}
 use Rattle.go_grid.proofs.DecidedLemmas.{Decided, alike, denied, either, some_below}
-use Rattle.go_grid.proofs.PlayLemmas.{one_outcome, one_without}
+use Rattle.go_grid.proofs.PlayLemmas.{one_without}
+use Rattle.go_play.proofs.PlaceLemmas.{one_board}
 use Rattle.go_play.specs.Place.{Breathes, IsNumberTaken, IsPlaced, IsSuicide, IsTaken}
 use Rattle.benson_attack.proofs.PlacingLemmas.{placed_or_not}
 use Rattle.whole_rules.specs.declared.money.Token.{Token}
@@ -100,13 +101,8 @@ never_placed g h p c (cells, cleared, choked) (ground, m) =
 -- a stone leads to one state
 one_state : (s t u : Whole) (p : ℕ) → IsMove s (Stone p) t → IsMove s (Stone p) u → t ≡ u
 one_state s t u p (mark, (h, (n, (ground, m), number, is))) (mark', (k, (n', (ground', m'), number', is'))) =
-    let cells = one_outcome m m' in
-    let board : h ≡ k = λ i. record {
-      columns = (ground.columns ∙ sym ground'.columns) i;
-      rows = (ground.rows ∙ sym ground'.rows) i;
-      cells = cells i;
-      declared = (ground.declared ∙ sym ground'.declared) i;
-    } in
+    let board = one_board s.board h k p s.side (ground, m) (ground', m') in
+    let cells = ap (λ b. b.cells) board in
     let same : n ≡ n' = omega (arith, number, number', ap (count_by is_stone) cells) in
     is ∙ (λ i. after (board i) (paid_in s.side (same i) s.purses) s) ∙ sym is'
 

@@ -65,3 +65,7 @@ returns-in_err-edges-clause-built g c =
     let few : length c.args.region.now.points ≤ 32 = omega (arith, c.if-points-gt32.false, c.len-points.ensures, ap (λ s. length s.points) c.shape.view_is) in
     let p = err_from_is_err_and c.from_residual-in_err-edges.result c.from_residual-in_err-edges.ensures.1 in
     rw (p.1, p.2) (refused c.args.region.now c.args.limit c.explore.new.table.positions.items _ c.in_err-edges.ensures.graph few)
+
+pub returns-in-Order-clause-exact : goal.returns-in-Order-clause-exact
+returns-in-Order-clause-exact g c =
+    omega (arith, c.in_ok-edges.ensures.exact, ap length (ap (λ n. n.positions) c.new-in-Order.ensures ∙ c.positions_of-positions.ensures))

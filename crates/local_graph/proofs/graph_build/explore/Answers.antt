@@ -189,3 +189,6 @@ returns-clause-limited g c = omega (arith, c.exploring.invariant.counted, c.expl
 
 pub returns-clause-finite : goal.returns-clause-finite
 returns-clause-finite g c = omega (arith, c.exploring.invariant.counted, c.exploring.invariant.fewer)
+
+pub returns-clause-exact : goal.returns-clause-exact
+returns-clause-exact g c = omega (arith, c.exploring.invariant.counted, c.in_default.ensures.cases.0, c.exploring.found.waiting.ok)

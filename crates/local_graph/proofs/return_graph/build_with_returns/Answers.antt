@@ -1,4 +1,4 @@
-use Rattle.std.proofs.Common.{arith, ap, length, ◌≤◌, ◌≡◌}
+use Rattle.std.proofs.Common.{arith, ap, ◌∙◌, length, ◌≤◌, ◌≡◌}
 use Rattle.local_graph.proofs.BuildLemmas.{few_points, rooted}
 use Rattle.local_graph.proofs.ReturnGraphLemmas.{built_with_returns}
 use Rattle.local_graph.proofs.return_graph.build_with_returns.Goals as goal
@@ -20,3 +20,6 @@ returns-clause-built g c =
     let few : length c.args.region.now.points ≤ 32 = omega (arith, c.if-points-gt32.false, c.len-points.ensures, points) in
     let full : length c.args.region.now.cells ≡ length c.args.region.now.points = omega (arith, c.shape.invariant.full, points, cells) in
     built_with_returns _ _ _ (length c.args.region.now.points) _ _ _ _ c.in_ok-edges.ensures.graph few full c.positions_of.ensures c.in_ok-graph.ensures
+
+pub returns-clause-exact : goal.returns-clause-exact
+returns-clause-exact g c = omega (arith, c.in_ok-edges.ensures.exact, ap length (c.in_ok-graph.ensures.positions_are ∙ c.positions_of.ensures))
