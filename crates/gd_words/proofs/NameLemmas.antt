@@ -3,7 +3,7 @@ use Rattle.std.proofs.Common.{◌≡◌, ℕ, List, refl, ap}
 use Rattle.std.specs.Prelude.{codes, true, false}
 use Rattle.std.specs.Str.{bytes_eq}
 use Rattle.gd_words.specs.declared.choice.Choice.{Choice}
-use Rattle.gd_words.specs.declared.choice.Choice.TheVariants.{Komi, Turn, After, BlackPrisoners, WhitePrisoners, Positions, Parts, Engine, Tax}
+use Rattle.gd_words.specs.declared.choice.Choice.TheVariants.{Komi, Turn, After, BlackPrisoners, WhitePrisoners, Positions, Parts, Engine, Tax, Territory}
 use Rattle.gd_words.specs.Choice.{name_of}
 
 -- two words that a test tells apart are not the same
@@ -49,3 +49,7 @@ engine_only x e = absurd (apart e refl refl)
 pub tax_only : IsOnly Tax (codes "--tax")
 tax_only (Tax v) e = (v, refl)
 tax_only x e = absurd (apart e refl refl)
+
+pub territory_only : IsOnly Territory (codes "--territory")
+territory_only (Territory v) e = (v, refl)
+territory_only x e = absurd (apart e refl refl)

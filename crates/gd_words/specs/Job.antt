@@ -1,12 +1,12 @@
 -- The grammar of the command line, and the job that its words say:
 --     words = ( "solve" | "safe" | "values" | "board" | "margin" | "moves" | "line" | "play" ) file { name value } | "trial" number | "calc" expression { name value } | "gtp" { name value }
-use Rattle.std.specs.Prelude.{◌≡◌, ◌≢◌, ◌∷◌, [], ⊤, ℕ, List, Bool, false, Option, Some, None}
+use Rattle.std.specs.Prelude.{◌≡◌, ◌≢◌, ◌∷◌, [], ⊤, ℕ, List, Bool, true, false, Option, Some, None}
 use Rattle.std.specs.List.{All, AllPairs, Contains}
 use Rattle.std.specs.Option.{unwrap_or}
 use Rattle.go_grid.specs.declared.grid.Colour.{Colour}
 use Rattle.sgf_go.specs.declared.settings.Settings.{Settings}
 use Rattle.gd_words.specs.declared.choice.Choice.{Choice}
-use Rattle.gd_words.specs.declared.choice.Choice.TheVariants.{Komi, Turn, After, BlackPrisoners, WhitePrisoners, Positions, Parts, Engine, Tax}
+use Rattle.gd_words.specs.declared.choice.Choice.TheVariants.{Komi, Turn, After, BlackPrisoners, WhitePrisoners, Positions, Parts, Engine, Tax, Territory}
 use Rattle.gd_words.specs.declared.chosen.Chosen.{Chosen}
 use Rattle.gd_words.specs.Choice.{IsChoice, name_of}
 use Rattle.gd_words.specs.Task.{Task, BeginWith, GoesWith}
@@ -33,6 +33,7 @@ pub record Say (choices : List Choice) (chosen : Chosen) : Type 0 where
   pub parts : GivesOption choices Parts chosen.parts
   pub engine : GivesOption choices Engine chosen.engine
   pub tax : GivesOption choices Tax chosen.tax
+  pub territory : GivesOption choices Territory chosen.territory
 
 -- the words are options of the task, in any order and none of them twice, and this is what they say
 pub record AreChoices (task : Task) (words : List (List ℕ)) (chosen : Chosen) : Type 0 where
@@ -41,6 +42,10 @@ pub record AreChoices (task : Task) (words : List (List ℕ)) (chosen : Chosen) 
   pub fit : All (GoesWith task) choices
   pub once : AllPairs (λ x y. name_of x ≢ name_of y) choices
   pub said : Say choices chosen
+
+-- the options ask for a tax, and for declared points, out of which a group couldn't pay it
+abbrev pub TaxTerritory : Chosen → Type 0
+TaxTerritory chosen = (chosen.tax ≡ Some true) × (chosen.territory ≡ Some true)
 
 -- a job: what is asked for, of which position, within which limits, with which colour for the engine, and with or without a tax
 pub record Job : Type 0 where
@@ -61,7 +66,7 @@ job_of task chosen = record {
     turn = chosen.turn;
     black_prisoners = unwrap_or chosen.black_prisoners 0;
     white_prisoners = unwrap_or chosen.white_prisoners 0;
-    territory = false;
+    territory = unwrap_or chosen.territory false;
   };
   positions = unwrap_or chosen.positions 100000;
   parts = unwrap_or chosen.parts 500;
@@ -69,12 +74,13 @@ job_of task chosen = record {
   tax = unwrap_or chosen.tax false;
 }
 
--- the words say the job: those of the task, and then its options
+-- the words say the job: those of the task, and then its options, which don't tax declared points
 pub record IsJob (words : List (List ℕ)) (job : Job) : Type 0 where
   pub rest : List (List ℕ)
   pub task : BeginWith job.task words rest
   pub chosen : Chosen
   pub options : AreChoices job.task rest chosen
+  pub untaxed : ¬ TaxTerritory chosen
   pub says : job ≡ job_of job.task chosen
 
 -- the words say no job

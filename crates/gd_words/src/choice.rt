@@ -29,6 +29,8 @@ pub(crate) enum Choice {
     Engine(Colour),
     /// Whether there is a tax of two points for each group.
     Tax(bool),
+    /// Whether the points that a file marks are declared.
+    Territory(bool),
 }
 
 /// The option that a name and a value say.
@@ -46,6 +48,7 @@ pub(crate) fn read_choice(name: &str, value: &str) -> Option<Choice>
         "--parts" => read_count(1, MOST_PARTS, value).map(Choice::Parts),
         "--as" => read_colour(value).map(Choice::Engine),
         "--tax" => read_answer(value).map(Choice::Tax),
+        "--territory" => read_answer(value).map(Choice::Territory),
         _ => None,
     }
 }

@@ -1,8 +1,8 @@
 //! The options that a command line gives.
 
-ghost use Rattle.std.specs.Prelude.{◌≡◌, None, IfSome, IfNone};
+ghost use Rattle.std.specs.Prelude.{◌≡◌, ◌↔◌, true, None, IfSome, IfNone};
 ghost use Rattle.gd_words.specs.inner.Reading.{IsWith};
-ghost use Rattle.gd_words.specs.Job.{AreChoices, job_of};
+ghost use Rattle.gd_words.specs.Job.{AreChoices, TaxTerritory, job_of};
 ghost use Rattle.gd_words.specs.Viewed.{task_of, texts, viewed};
 ghost use Rattle.gd_words.specs.declared.chosen.Chosen.{Chosen};
 
@@ -29,6 +29,7 @@ pub(crate) struct Chosen {
     pub(crate) parts: Option<u32>,
     pub(crate) engine: Option<Colour>,
     pub(crate) tax: Option<bool>,
+    pub(crate) territory: Option<bool>,
 }
 
 impl Chosen {
@@ -49,9 +50,18 @@ impl Chosen {
             Choice::Parts(n) if self.parts.is_none() => self.parts = Some(n),
             Choice::Engine(colour) if self.engine.is_none() => self.engine = Some(colour),
             Choice::Tax(taxed) if self.tax.is_none() => self.tax = Some(taxed),
+            Choice::Territory(declared) if self.territory.is_none() => self.territory =
+                Some(declared),
             _ => return None,
         }
         Some(self)
+    }
+
+    /// Whether there is a tax on groups that would have to pay out of declared points.
+    pub(crate) fn taxes_territory(&self) -> bool
+        ensures { (result ≡ true) ↔ TaxTerritory self.now }
+    {
+        matches!((self.tax, self.territory), (Some(true), Some(true)))
     }
 
     /// The job of a command with these options. What they leave open has its default.
@@ -66,7 +76,7 @@ impl Chosen {
                 turn: self.turn,
                 black_prisoners: u64::from(self.black_prisoners.unwrap_or(0)),
                 white_prisoners: u64::from(self.white_prisoners.unwrap_or(0)),
-                territory: false,
+                territory: self.territory.unwrap_or(false),
             },
             positions: self.positions.unwrap_or(DEFAULT_POSITIONS),
             parts: self.parts.unwrap_or(DEFAULT_PARTS),

@@ -100,7 +100,10 @@ impl Command<'_> {
             Command::Play(_) => true,
             Command::Trial(_) => false,
             Command::Calc(_) => matches!(choice, Choice::Parts(_)),
-            Command::Gtp => matches!(choice, Choice::Positions(_) | Choice::Parts(_)),
+            Command::Gtp => matches!(
+                choice,
+                Choice::Positions(_) | Choice::Parts(_) | Choice::Territory(_)
+            ),
         }
     }
 }

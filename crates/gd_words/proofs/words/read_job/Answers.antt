@@ -9,7 +9,7 @@ returns-then-is_engine-clause-job c =
     map_some _ _ c.read_options.result (λ job made. job_made _ _ gtp _ (begins_with_engine _ _ _ (one_first c.args.words.now _ c.in-len1-up.len_at_least) (c.is_engine.ensures.0 c.if-is_engine.true)) made) c.read_options.ensures.job
 
 pub returns-then-is_engine-clause-bounds : goal.returns-then-is_engine-clause-bounds
-returns-then-is_engine-clause-bounds c = map_some _ _ c.read_options.result (λ job made. within _ _ _ _ made.1 made.2) c.read_options.ensures.job
+returns-then-is_engine-clause-bounds c = map_some _ _ c.read_options.result (λ job made. within _ _ _ _ made.1 made.2 made.3) c.read_options.ensures.job
 
 pub returns-then-is_engine-clause-none : goal.returns-then-is_engine-clause-none
 returns-then-is_engine-clause-none c =
@@ -26,7 +26,7 @@ returns-clause-job c =
     (λ job made. job_made _ _ _ _ (with_two _ _ _ _ _ (two_words c.args.words.now _ _ c.in-len1-up.len_at_least c.in-len1-up-behind.len_at_least) c.in_ok-command.ensures.some) made) c.read_options-2.ensures.job
 
 pub returns-clause-bounds : goal.returns-clause-bounds
-returns-clause-bounds c = map_some _ _ c.read_options-2.result (λ job made. within _ _ _ _ made.1 made.2) c.read_options-2.ensures.job
+returns-clause-bounds c = map_some _ _ c.read_options-2.result (λ job made. within _ _ _ _ made.1 made.2 made.3) c.read_options-2.ensures.job
 
 pub returns-clause-none : goal.returns-clause-none
 returns-clause-none c =
