@@ -7,6 +7,7 @@ use Rattle.gtp_engine.specs.declared.loading.Loading.{Loading}
 use Rattle.gtp_engine.specs.declared.loading.Loading.TheVariants.{Position, Nothing, Failed}
 use Rattle.gtp_engine.specs.declared.reply.Refusal.TheVariants.{CannotLoadFile, SyntaxError, UnknownCommand}
 use Rattle.go_grid.specs.declared.grid.Colour.{Colour}
+use Rattle.sgf_go.specs.declared.settings.Settings.{Settings}
 use Rattle.gtp_engine.specs.declared.playing.Action.{Action}
 use Rattle.gtp_engine.specs.inner.Playing.{Acts}
 use Rattle.gtp_engine.specs.inner.Doing.{IsLoadNoted, IsTurnTaken}
@@ -14,21 +15,21 @@ use Rattle.gtp_engine.specs.inner.Loading.{CanKeep, IsLoaded}
 use Rattle.gtp_engine.specs.Request.{Asked, Asks, Order}
 use Rattle.gtp_engine.specs.Request.Asked.{unknown, misfit}
 use Rattle.gtp_engine.specs.Request.Order.{clear_board, loadsgf}
-use Rattle.gtp_engine.specs.Session.{Obeys, Said, Table, TakesTurn, done, fresh, is_last, refused, reply_text}
+use Rattle.gtp_engine.specs.Session.{Obeys, Said, Table, TakesTurn, done, fresh, is_last, load_settings, refused, reply_text}
 use Rattle.gtp_engine.specs.Session.Fate.{made, failed, no_load}
 use Rattle.gtp_engine.specs.Words.{AreWords, HasId, cleaned}
 use Rattle.gtp_engine.specs.Written.{Engine, IsReply}
 use Rattle.gtp_engine.specs.inner.Written.{IsMet, IsObeyed}
 
 -- what was loaded can be taken over
-pub loaded_fits : (told : Told) (after : Option ℕ) (before now : ℕ) (loading : Loading) → IsLoaded told after before now loading → CanKeep loading
-loaded_fits told after before now (Position setup) l = l.1
-loaded_fits told after before now Nothing l = tt
-loaded_fits told after before now Failed l = tt
+pub loaded_fits : (told : Told) (settings : Settings) (before now : ℕ) (loading : Loading) → IsLoaded told settings before now loading → CanKeep loading
+loaded_fits told settings before now (Position setup) l = l.1
+loaded_fits told settings before now Nothing l = tt
+loaded_fits told settings before now Failed l = tt
 
 -- a load that was noted
 load_obeyed : (files : Option Files) (before now : ℕ) (id file : List ℕ) (after : Option ℕ) (a b : Engine) (loading : Loading) (reply : List ℕ)
-    → IsUtf8 file → IsLoaded (told_file files file) after before now loading → IsLoadNoted id loading a reply b → IsObeyed files before now id (loadsgf file after) a reply b
+    → IsUtf8 file → IsLoaded (told_file files file) (load_settings a.limits.territory after) before now loading → IsLoadNoted id loading a reply b → IsObeyed files before now id (loadsgf file after) a reply b
 load_obeyed files before now id file after a b (Position setup) reply text l n =
     (made, done [], (text, inl (setup, l.0, refl, ap (λ x. x.table) n.1)), n.0, (ap (λ x. x.loads) n.1, ap (λ x. x.failed_loads) n.1), ap (λ x. x.limits) n.1)
 load_obeyed files before now id file after a b Nothing reply text l n =
@@ -37,7 +38,7 @@ load_obeyed files before now id file after a b Failed reply text l n =
     (failed, refused CannotLoadFile, (text, (refl, ap (λ x. x.table) n.1)), n.0, (ap (λ x. x.loads) n.1, ap (λ x. x.failed_loads) n.1, l), ap (λ x. x.limits) n.1)
 
 pub loads_obeyed : {E : Type 0} (files : Option Files) (before now : ℕ) (id file : List ℕ) (after : Option ℕ) (a b : Engine) (loading : Loading) (result : Result (List ℕ) E)
-    → IsUtf8 file → IsLoaded (told_file files file) after before now loading → IfOk result (λ reply. IsLoadNoted id loading a reply b)
+    → IsUtf8 file → IsLoaded (told_file files file) (load_settings a.limits.territory after) before now loading → IfOk result (λ reply. IsLoadNoted id loading a reply b)
     → IfOk result (λ reply. IsObeyed files before now id (loadsgf file after) a reply b)
 loads_obeyed files before now id file after a b loading (Ok reply) text l n = load_obeyed files before now id file after a b loading reply text l n
 loads_obeyed files before now id file after a b loading (Err e) text l n = tt

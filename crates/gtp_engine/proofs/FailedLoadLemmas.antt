@@ -2,7 +2,7 @@
 use Rattle.std.proofs.Common.{◌≡◌, ◌<◌, ◌≤◌, ◌+◌, ◌++◌, ◌∷◌, ◌↔◌, ℕ, List, [], length, inl, inr, sym, subst, arith, length-append}
 use Rattle.std.specs.Prelude.{Contains}
 use Rattle.std.proofs.lemmas.List.Elements.{Contains-append_left, Contains-push, Contains-push_cases}
-use Rattle.endgame_solver.specs.declared.limits.Limits.{Limits}
+use Rattle.gtp_engine.specs.declared.limits.EngineLimits.{EngineLimits}
 use Rattle.gtp_engine.specs.Session.{Fate, IsLoadNumbered}
 use Rattle.gtp_engine.specs.Session.Fate.{no_load, made, failed}
 use Rattle.gtp_engine.specs.Written.{Engine, NotesFate, RoseBy, unused}
@@ -61,11 +61,11 @@ module _ (before now : ℕ) (a b : Engine) where
       subst (λ l. RoseBy (length l) first now) (sym h.1) (subst (λ n. RoseBy n first now) (sym (length-append a.failed_loads (a.loads ∷ []))) (omega (arith, rose, later, h.2)))
 
 -- an engine that has answered nothing
-pub unused_below : (limits : Limits) (a : Engine) → a ≡ unused limits → AreBelow a.loads a.failed_loads
+pub unused_below : (limits : EngineLimits) (a : Engine) → a ≡ unused limits → AreBelow a.loads a.failed_loads
 unused_below limits a first = subst (λ v. AreBelow v.loads v.failed_loads) (sym first) (λ n c. absurd (omega (arith, c.1)))
 
-pub unused_loads : (limits : Limits) (a : Engine) → a ≡ unused limits → a.loads ≤ 0
+pub unused_loads : (limits : EngineLimits) (a : Engine) → a ≡ unused limits → a.loads ≤ 0
 unused_loads limits a first = subst (λ v. v.loads ≤ 0) (sym first) (omega arith)
 
-pub unused_rose : (limits : Limits) (a : Engine) (faults : ℕ) → a ≡ unused limits → RoseBy (length a.failed_loads) faults faults
+pub unused_rose : (limits : EngineLimits) (a : Engine) (faults : ℕ) → a ≡ unused limits → RoseBy (length a.failed_loads) faults faults
 unused_rose limits a faults first = subst (λ v. RoseBy (length v.failed_loads) faults faults) (sym first) (omega arith)

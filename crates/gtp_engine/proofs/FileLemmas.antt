@@ -1,5 +1,5 @@
 -- What files give.
-use Rattle.std.proofs.Common.{◌≡◌, ℕ, List, inl, inr, subst, Option, Ok, Err, Result}
+use Rattle.std.proofs.Common.{◌≡◌, ℕ, List, inl, inr, subst, Ok, Err, Result}
 use Rattle.sgf_tree.specs.declared.reader.TheConstants.{MOST_BYTES}
 use Rattle.desk_io.specs.Files.{Told, Loads}
 use Rattle.desk_io.specs.Files.Told.{untold, absent, holding}
@@ -21,10 +21,10 @@ use Rattle.gtp_engine.specs.inner.Loading.{IsFoundIn, IsFoundOn}
 use Rattle.gtp_engine.specs.Session.{GivesNone}
 
 -- what is on the main line is in the file
-pub found_in : (file : List ℕ) (after : Option ℕ) (l : List (List PropertyText)) (found : Loading) → IsTreeAnswer file (line l) → IsFoundOn l after found → IsFoundIn file after found
-found_in file after l (Position setup) a h = ((l, a, h.0), h.1)
-found_in file after l Nothing a h = (fault.Setup h.0, (l, a, h.1))
-found_in file after l Failed a h = absurd h
+pub found_in : (file : List ℕ) (settings : Settings) (l : List (List PropertyText)) (found : Loading) → IsTreeAnswer file (line l) → IsFoundOn l settings found → IsFoundIn file settings found
+found_in file settings l (Position setup) a h = ((l, a, h.0), h.1)
+found_in file settings l Nothing a h = (fault.Setup h.0, (l, a, h.1))
+found_in file settings l Failed a h = absurd h
 
 -- a tree with a fault gives no position
 pub tree_fault : (file : List ℕ) (settings : Settings) (f : TreeFault) (r : Result Tree SgfError) → r ≡ Err (sgf.Fault f) → AnswersFile file r → Reads file settings (Err (fault.Tree f))
@@ -34,7 +34,7 @@ tree_fault file settings CutShort r e a = subst (AnswersFile file) e a
 tree_fault file settings TooDeep r e a = subst (AnswersFile file) e a
 
 -- a file that is longer
-pub too_long : (told : Told) (after : Option ℕ) (old new : List ℕ) → Loads told MOST_BYTES old new (Ok Longer) → GivesNone told after
-too_long untold after old new h = inr (inl tt)
-too_long absent after old new h = absurd h
-too_long (holding file) after old new h = inr (inl h.0)
+pub too_long : (told : Told) (settings : Settings) (old new : List ℕ) → Loads told MOST_BYTES old new (Ok Longer) → GivesNone told settings
+too_long untold settings old new h = inr (inl tt)
+too_long absent settings old new h = absurd h
+too_long (holding file) settings old new h = inr (inl h.0)

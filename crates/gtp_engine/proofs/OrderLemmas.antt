@@ -10,7 +10,7 @@ use Rattle.gtp_engine.specs.declared.reply.Refusal.TheVariants.{CannotSolve, Gam
 use Rattle.gtp_engine.specs.inner.Doing.{IsDone, IsFresh, IsRunning, IsTurnTaken, with_table}
 use Rattle.gtp_engine.specs.inner.Playing.{IsActed}
 use Rattle.gtp_engine.specs.Request.Order.{boardsize, komi}
-use Rattle.gtp_engine.specs.Session.{CannotOpen, Table, done, fresh, refused, reply_text, with_side}
+use Rattle.gtp_engine.specs.Session.{CannotOpen, Table, done, fresh, game_limits, refused, reply_text, with_side}
 use Rattle.gtp_engine.specs.Written.{Engine}
 
 pub komi_refused : (a : Engine) (halves : ℤ) (id reply : List ℕ) → IsRunning a → reply ≡ reply_text id (refused GameHasBegun) → IsDone (komi halves) id a reply a
@@ -46,7 +46,7 @@ pub turn_taken : (a b : Engine) (c : Colour) (action : Action) (s v : Whole) (id
 turn_taken a b c action s v id reply runs own acted is = (acted.0, record a.table { game = Some v }, inr (inr (inl (s, v, runs, own, acted.1, refl))), acted.2, is)
 
 module _ (a : Engine) (limits : Limits) (setup other : Setup) (c : Colour) (action : Action) (id reply : List ℕ)
-    (same_limits : limits ≡ a.limits) (same_setup : setup ≡ a.table.setup) (none : IsFresh a) (is : other ≡ with_side setup c) where
+    (same_limits : limits ≡ game_limits a.limits) (same_setup : setup ≡ a.table.setup) (none : IsFresh a) (is : other ≡ with_side setup c) where
   with_side_is : other ≡ with_side a.table.setup c
   with_side_is = is ∙ ap (λ x. with_side x c) same_setup
 

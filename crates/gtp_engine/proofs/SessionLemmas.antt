@@ -3,7 +3,7 @@ use Rattle.std.proofs.Common.{Bool, true, false, ◌≡◌, ◌<◌, ◌+◌, �
 use Rattle.desk_io.specs.declared.lines.TheConstants.{MOST_LINES}
 use Rattle.std.specs.Io.KnownBytes.{append_known}
 use Rattle.desk_io.specs.Files.{Files}
-use Rattle.endgame_solver.specs.declared.limits.Limits.{Limits}
+use Rattle.gtp_engine.specs.declared.limits.EngineLimits.{EngineLimits}
 use Rattle.gtp_engine.specs.declared.end.GtpEnd.{GtpEnd}
 use Rattle.gtp_engine.specs.declared.end.GtpEnd.TheVariants.{Quit, InputEnded, ReadFault, WriteFault, TooManyLines, Memory}
 use Rattle.gtp_engine.specs.Session.{AnswersLine, GtpStanding, TakesLine, TakesLines, beginning}
@@ -17,7 +17,7 @@ abbrev pub standing : Engine → ℕ → List ℕ → GtpStanding
 standing a read left = record { table = a.table; loads = a.loads; read = read; left = left }
 
 -- So many lines were answered, and lead to where the session stands, for each list of failed loads that agrees on the loads so far.
-pub record Went (limits : Limits) (files : Option Files) (bytes : List ℕ) (holds₀ : Option (List ℕ)) (a : Engine) (read : ℕ) (held : List ℕ) (left holds : Option (List ℕ)) : Type 0 where
+pub record Went (limits : EngineLimits) (files : Option Files) (bytes : List ℕ) (holds₀ : Option (List ℕ)) (a : Engine) (read : ℕ) (held : List ℕ) (left holds : Option (List ℕ)) : Type 0 where
   pub number : ℕ
   pub rest : List ℕ
   pub text : List ℕ
@@ -25,10 +25,10 @@ pub record Went (limits : Limits) (files : Option Files) (bytes : List ℕ) (hol
   pub turns : (failing : List ℕ) → Agrees a.loads a.failed_loads failing → TakesLines limits files failing number (beginning bytes) text (standing a read (held ++ rest))
   pub written : holds ≡ append_known holds₀ text
 
-pub record Going (limits : Limits) (files : Option Files) (left₀ holds₀ : Option (List ℕ)) (a : Engine) (read : ℕ) (held : List ℕ) (left holds : Option (List ℕ)) : Type 0 where
+pub record Going (limits : EngineLimits) (files : Option Files) (left₀ holds₀ : Option (List ℕ)) (a : Engine) (read : ℕ) (held : List ℕ) (left holds : Option (List ℕ)) : Type 0 where
   pub told : (bytes : List ℕ) → left₀ ≡ Some bytes → Went limits files bytes holds₀ a read held left holds
 
-pub going_start : (limits : Limits) (files : Option Files) (left holds : Option (List ℕ)) (a : Engine) (held : List ℕ) → a ≡ unused limits → held ≡ [] → Going limits files left holds a 0 held left holds
+pub going_start : (limits : EngineLimits) (files : Option Files) (left holds : Option (List ℕ)) (a : Engine) (held : List ℕ) → a ≡ unused limits → held ≡ [] → Going limits files left holds a 0 held left holds
 going_start limits files left holds a held first none = record {
   told = λ bytes e. record {
     number = 0;
@@ -41,7 +41,7 @@ going_start limits files left holds a held first none = record {
 }
 
 -- a line that was answered is one that the session takes
-takes : (limits : Limits) (files : Option Files) (failing : List ℕ) (before now : ℕ) (a b : Engine) (read : ℕ) (bytes text rest : List ℕ) (last : Bool)
+takes : (limits : EngineLimits) (files : Option Files) (failing : List ℕ) (before now : ℕ) (a b : Engine) (read : ℕ) (bytes text rest : List ℕ) (last : Bool)
     → a.limits ≡ limits → read < MOST_LINES → AreBelow a.loads a.failed_loads → Agrees b.loads b.failed_loads failing → Replies files before now a bytes text b rest last
     → TakesLine limits files failing (standing a read bytes) text (standing b (read + 1) rest) last
 takes limits files failing before now a b read bytes text rest last own few below agrees r = record {
@@ -55,7 +55,7 @@ takes limits files failing before now a b read bytes text rest last own few belo
   numbered = noted_numbered before now a b r.answered.0 failing r.answered.2 below agrees;
 }
 
-module _ (limits : Limits) (files : Option Files) (left₀ holds₀ : Option (List ℕ)) (a : Engine) (read : ℕ) (held : List ℕ) (left holds : Option (List ℕ)) (w : Going limits files left₀ holds₀ a read held left holds)
+module _ (limits : EngineLimits) (files : Option Files) (left₀ holds₀ : Option (List ℕ)) (a : Engine) (read : ℕ) (held : List ℕ) (left holds : Option (List ℕ)) (w : Going limits files left₀ holds₀ a read held left holds)
     (before now : ℕ) (b : Engine) (held' : List ℕ) (left' holds' : Option (List ℕ)) (own : a.limits ≡ limits) (few : read < MOST_LINES) (below : AreBelow a.loads a.failed_loads) where
   joined : (first then : List ℕ) → holds ≡ append_known holds₀ first → holds' ≡ append_known holds then → holds' ≡ append_known holds₀ (first ++ then)
   joined first then e f = f ∙ ap (λ h. append_known h then) e ∙ append_twice holds₀ first then
@@ -142,7 +142,7 @@ module _ (limits : Limits) (files : Option Files) (left₀ holds₀ : Option (Li
   going_end TooManyLines taken bytes e = let x = w.told bytes e in absurd (taken x.rest x.unread).2
 
 -- as many lines were read as a session reads
-pub going_over : (limits : Limits) (files : Option Files) (left₀ holds₀ : Option (List ℕ)) (a : Engine) (read : ℕ) (held : List ℕ) (left holds : Option (List ℕ)) → Going limits files left₀ holds₀ a read held left holds → read ≡ MOST_LINES
+pub going_over : (limits : EngineLimits) (files : Option Files) (left₀ holds₀ : Option (List ℕ)) (a : Engine) (read : ℕ) (held : List ℕ) (left holds : Option (List ℕ)) → Going limits files left₀ holds₀ a read held left holds → read ≡ MOST_LINES
     → (bytes : List ℕ) → left₀ ≡ Some bytes → WritesByEnd limits files a.failed_loads bytes holds₀ holds TooManyLines
 going_over limits files left₀ holds₀ a read held left holds w all bytes e =
     let x = w.told bytes e in (

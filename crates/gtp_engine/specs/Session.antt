@@ -20,6 +20,7 @@ use Rattle.whole_rules.specs.declared.states.MoveError.{MoveError}
 use Rattle.whole_rules.specs.WholeGame.{Whole, Applies, IsMove}
 use Rattle.region_cut.specs.Cut.{AreRegionsOfPlay}
 use Rattle.endgame_solver.specs.declared.limits.Limits.{Limits}
+use Rattle.gtp_engine.specs.declared.limits.EngineLimits.{EngineLimits}
 use Rattle.endgame_solver.specs.Faults.{AreSound}
 use Rattle.endgame_solver.specs.Solved.{IsPlayable, HasMove, Chooses}
 use Rattle.gtp_engine.specs.declared.moves.Wanted.{Wanted}
@@ -119,15 +120,19 @@ Generates s said t = ((m : Move) × Chooses s m × IsMove s m t × (said ≡ don
 abbrev pub with_side : Setup → Colour → Setup
 with_side setup c = record setup { side = c }
 
+-- the limits of a game of the engine, in which there is no tax
+abbrev pub game_limits : EngineLimits → Limits
+game_limits limits = record { positions = limits.positions; parts = limits.parts; tax = false }
+
 -- the regions of play aren't all sound within the limits
 abbrev pub CannotOpen : Limits → Setup → Type 0
 CannotOpen limits setup = (regions : List Region) × AreRegionsOfPlay setup.board regions × ¬ AreSound limits regions
 
 -- A turn of the colour in a running game, or in that which a fresh setup opens with the colour to move.
-abbrev pub TakesTurn : Limits → Colour → (Whole → Said → Whole → Type 0) → Table → Said → Table → Type 0
+abbrev pub TakesTurn : EngineLimits → Colour → (Whole → Said → Whole → Type 0) → Table → Said → Table → Type 0
 TakesTurn limits c Act t said u =
-    ((t.game ≡ None) × ((s v : Whole) × IsPlayable limits (with_side t.setup c) s × Act s said v × (u ≡ record { setup = with_side t.setup c; game = Some v })))
-    ⊎ (((t.game ≡ None) × CannotOpen limits (with_side t.setup c) × RefusesWith CannotSolve t said u)
+    ((t.game ≡ None) × ((s v : Whole) × IsPlayable (game_limits limits) (with_side t.setup c) s × Act s said v × (u ≡ record { setup = with_side t.setup c; game = Some v })))
+    ⊎ (((t.game ≡ None) × CannotOpen (game_limits limits) (with_side t.setup c) × RefusesWith CannotSolve t said u)
     ⊎ (((s v : Whole) × (t.game ≡ Some s) × (s.side ≡ c) × Act s said v × (u ≡ record t { game = Some v }))
     ⊎ ((s : Whole) × (t.game ≡ Some s) × (s.side ≢ c) × RefusesWith NotInTurn t said u)))
 
@@ -137,30 +142,30 @@ pub data Fate : Type 0 where
   made : Fate
   failed : Fate
 
--- the settings of a file of which so many moves are replayed
-abbrev pub settings_after : Option ℕ → Settings
-settings_after after = record { after = after; komi = None; turn = None; black_prisoners = 0; white_prisoners = 0; territory = false }
+-- the settings of a load: whether the points that the file marks are declared, and how many moves are replayed
+abbrev pub load_settings : Bool → Option ℕ → Settings
+load_settings territory after = record { after = after; komi = None; turn = None; black_prisoners = 0; white_prisoners = 0; territory = territory }
 
 -- the file of which this is told is not too long, and gives the position
-abbrev pub GivesSetup : Told → Option ℕ → Setup → Type 0
-GivesSetup told after setup = (file : List ℕ) × IsTold told file × HasFewBytes file × Reads file (settings_after after) (Ok setup)
+abbrev pub GivesSetup : Told → Settings → Setup → Type 0
+GivesSetup told settings setup = (file : List ℕ) × IsTold told file × HasFewBytes file × Reads file settings (Ok setup)
 
 -- the shelf doesn't hold the file, or it is too long, or it gives no position
-abbrev pub GivesNone : Told → Option ℕ → Type 0
-GivesNone told after = (told ≡ absent)
+abbrev pub GivesNone : Told → Settings → Type 0
+GivesNone told settings = (told ≡ absent)
     ⊎ (IsLonger MOST_BYTES told
-    ⊎ ((file : List ℕ) × (fault : FileFault) × IsTold told file × HasFewBytes file × Reads file (settings_after after) (Err fault)))
+    ⊎ ((file : List ℕ) × (fault : FileFault) × IsTold told file × HasFewBytes file × Reads file settings (Err fault)))
 
--- a file of the shelf is loaded; a name that isn't UTF-8 isn't asked for
-abbrev pub LoadsFile : Option Files → List ℕ → Option ℕ → Fate → Table → Said → Table → Type 0
-LoadsFile files file after no_load t said u = (¬ IsUtf8 file) × RefusesWith CannotLoadFile t said u
-LoadsFile files file after made t said u = IsUtf8 file
-    × (((setup : Setup) × GivesSetup (told_file files file) after setup × (said ≡ done []) × (u ≡ record { setup = setup; game = None }))
-    ⊎ (GivesNone (told_file files file) after × RefusesWith CannotLoadFile t said u))
-LoadsFile files file after failed t said u = IsUtf8 file × RefusesWith CannotLoadFile t said u
+-- a file of the shelf is loaded by the settings; a name that isn't UTF-8 isn't asked for
+abbrev pub LoadsFile : Settings → Option Files → List ℕ → Fate → Table → Said → Table → Type 0
+LoadsFile settings files file no_load t said u = (¬ IsUtf8 file) × RefusesWith CannotLoadFile t said u
+LoadsFile settings files file made t said u = IsUtf8 file
+    × (((setup : Setup) × GivesSetup (told_file files file) settings setup × (said ≡ done []) × (u ≡ record { setup = setup; game = None }))
+    ⊎ (GivesNone (told_file files file) settings × RefusesWith CannotLoadFile t said u))
+LoadsFile settings files file failed t said u = IsUtf8 file × RefusesWith CannotLoadFile t said u
 
 -- what an order that loads nothing does
-abbrev pub Does : Limits → Order → Table → Said → Table → Type 0
+abbrev pub Does : EngineLimits → Order → Table → Said → Table → Type 0
 Does limits protocol_version t said u = RepliesWith (codes "2") t said u
 Does limits name t said u = RepliesWith (codes "gdsolve") t said u
 Does limits version t said u = RepliesWith (codes "1") t said u
@@ -175,12 +180,12 @@ Does limits quit t said u = RepliesWith [] t said u
 Does limits (loadsgf file after) t said u = ⊥
 
 -- what an order does, by what becomes of its load
-abbrev pub Obeys : Limits → Option Files → Order → Fate → Table → Said → Table → Type 0
-Obeys limits files (loadsgf file after) fate t said u = LoadsFile files file after fate t said u
+abbrev pub Obeys : EngineLimits → Option Files → Order → Fate → Table → Said → Table → Type 0
+Obeys limits files (loadsgf file after) fate t said u = LoadsFile (load_settings limits.territory after) files file fate t said u
 Obeys limits files order fate t said u = (fate ≡ no_load) × Does limits order t said u
 
 -- what is done on what the words ask for
-abbrev pub Meets : Limits → Option Files → Asked → Fate → Table → Said → Table → Type 0
+abbrev pub Meets : EngineLimits → Option Files → Asked → Fate → Table → Said → Table → Type 0
 Meets limits files (something order) fate t said u = Obeys limits files order fate t said u
 Meets limits files unknown fate t said u = (fate ≡ no_load) × RefusesWith UnknownCommand t said u
 Meets limits files misfit fate t said u = (fate ≡ no_load) × RefusesWith SyntaxError t said u
@@ -191,13 +196,13 @@ is_last (something quit) = true
 is_last asked = false
 
 -- words are answered: nothing where there are none, and else by what they ask for behind the id
-abbrev pub AnswersWords : Limits → Option Files → List (List ℕ) → Fate → Table → List ℕ → Table → Bool → Type 0
+abbrev pub AnswersWords : EngineLimits → Option Files → List (List ℕ) → Fate → Table → List ℕ → Table → Bool → Type 0
 AnswersWords limits files [] fate t reply u last = (fate ≡ no_load) × (reply ≡ []) × (u ≡ t) × (last ≡ false)
 AnswersWords limits files (word ∷ words) fate t reply u last = (id : List ℕ) × (rest : List (List ℕ)) × (asked : Asked) × (said : Said)
     × HasId (word ∷ words) id rest × Asks rest asked × Meets limits files asked fate t said u × (reply ≡ reply_text id said) × (last ≡ is_last asked)
 
 -- a line is answered by its words
-abbrev pub AnswersLine : Limits → Option Files → List ℕ → Fate → Table → List ℕ → Table → Bool → Type 0
+abbrev pub AnswersLine : EngineLimits → Option Files → List ℕ → Fate → Table → List ℕ → Table → Bool → Type 0
 AnswersLine limits files line fate t reply u last = (words : List (List ℕ)) × AreWords (cleaned line) words × AnswersWords limits files words fate t reply u last
 
 -- loads are numbered from 0, and those of the list fail
@@ -214,7 +219,7 @@ pub record GtpStanding : Type 0 where
   pub left : List ℕ
 
 -- one line is read and answered
-pub record TakesLine (limits : Limits) (files : Option Files) (failing : List ℕ) (a : GtpStanding) (text : List ℕ) (b : GtpStanding) (last : Bool) : Type 0 where
+pub record TakesLine (limits : EngineLimits) (files : Option Files) (failing : List ℕ) (a : GtpStanding) (text : List ℕ) (b : GtpStanding) (last : Bool) : Type 0 where
   pub few : a.read < MOST_LINES
   pub some : a.left ≢ []
   pub line : List ℕ
@@ -225,20 +230,20 @@ pub record TakesLine (limits : Limits) (files : Option Files) (failing : List �
   pub numbered : IsLoadNumbered failing fate a.loads b.loads
 
 -- the session ends here: with a line that says so, or where no line is left or may be read
-abbrev pub EndsGtpSession : Limits → Option Files → List ℕ → GtpStanding → List ℕ → GtpStanding → GtpEnd → Type 0
+abbrev pub EndsGtpSession : EngineLimits → Option Files → List ℕ → GtpStanding → List ℕ → GtpStanding → GtpEnd → Type 0
 EndsGtpSession limits files failing a text b Quit = TakesLine limits files failing a text b true
 EndsGtpSession limits files failing a text b InputEnded = (a.read < MOST_LINES) × (a.left ≡ []) × (text ≡ []) × (b ≡ a)
 EndsGtpSession limits files failing a text b TooManyLines = (a.read ≡ MOST_LINES) × (text ≡ []) × (b ≡ a)
 EndsGtpSession limits files failing a text b end = ⊥
 
 -- so many lines, one after the other, and their replies
-abbrev pub TakesLines : Limits → Option Files → List ℕ → ℕ → GtpStanding → List ℕ → GtpStanding → Type 0
+abbrev pub TakesLines : EngineLimits → Option Files → List ℕ → ℕ → GtpStanding → List ℕ → GtpStanding → Type 0
 TakesLines limits files failing zero a text b = (text ≡ []) × (b ≡ a)
 TakesLines limits files failing (suc n) a text c = (b : GtpStanding) × ((first then : List ℕ) × TakesLines limits files failing n a first b
     × TakesLine limits files failing b then c false × (text ≡ first ++ then))
 
 -- a whole session: lines, and then its end
-pub record IsGtpSession (limits : Limits) (files : Option Files) (failing : List ℕ) (a : GtpStanding) (text : List ℕ) (c : GtpStanding) (end : GtpEnd) : Type 0 where
+pub record IsGtpSession (limits : EngineLimits) (files : Option Files) (failing : List ℕ) (a : GtpStanding) (text : List ℕ) (c : GtpStanding) (end : GtpEnd) : Type 0 where
   pub number : ℕ
   pub before_end : GtpStanding
   pub first : List ℕ
@@ -248,11 +253,11 @@ pub record IsGtpSession (limits : Limits) (files : Option Files) (failing : List
   pub whole : text ≡ first ++ then
 
 -- the replies to all lines up to one that is still to be answered
-abbrev pub WaitsToReply : Limits → Option Files → List ℕ → GtpStanding → List ℕ → GtpStanding → Type 0
+abbrev pub WaitsToReply : EngineLimits → Option Files → List ℕ → GtpStanding → List ℕ → GtpStanding → Type 0
 WaitsToReply limits files failing a text b = (n : ℕ) × TakesLines limits files failing n a text b × (b.read < MOST_LINES)
 
 -- the replies to some lines, and a front part of the next reply
-abbrev pub BreaksOffReply : Limits → Option Files → List ℕ → GtpStanding → List ℕ → Type 0
+abbrev pub BreaksOffReply : EngineLimits → Option Files → List ℕ → GtpStanding → List ℕ → Type 0
 BreaksOffReply limits files failing a text = (n : ℕ) × (b c : GtpStanding) × (first then more : List ℕ) × (last : Bool) × TakesLines limits files failing n a first b
     × TakesLine limits files failing b (then ++ more) c last × (text ≡ first ++ then)
 

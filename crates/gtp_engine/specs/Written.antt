@@ -3,14 +3,14 @@ use Rattle.std.specs.Prelude.{pos, ◌≡◌, ◌≤◌, ◌+◌, ◌-◌, ◌^�
 use Rattle.std.specs.Io.KnownBytes.{append_known}
 use Rattle.desk_io.specs.Files.{Files}
 use Rattle.desk_io.specs.Outside.{Rose}
-use Rattle.endgame_solver.specs.declared.limits.Limits.{Limits}
+use Rattle.gtp_engine.specs.declared.limits.EngineLimits.{EngineLimits}
 use Rattle.gtp_engine.specs.declared.end.GtpEnd.{GtpEnd}
 use Rattle.gtp_engine.specs.declared.end.GtpEnd.TheVariants.{ReadFault, WriteFault, Memory}
 use Rattle.gtp_engine.specs.Session.{Table, Fate, no_load, made, failed, GtpStanding, AnswersLine, fresh, beginning, IsGtpSession, WaitsToReply, BreaksOffReply}
 
 -- what an engine keeps: its limits, its table, how many loads there were, and the numbers of those that failed
 pub record Engine : Type 0 where
-  pub limits : Limits
+  pub limits : EngineLimits
   pub table : Table
   pub loads : ℕ
   pub failed_loads : List ℕ
@@ -28,25 +28,25 @@ IsReply files before now line a reply b last = (fate : Fate) × AnswersLine a.li
     × NotesFate before now fate a b × (b.limits ≡ a.limits)
 
 -- an engine that has answered nothing
-abbrev pub unused : Limits → Engine
+abbrev pub unused : EngineLimits → Engine
 unused limits = record { limits = limits; table = fresh 19 19 (pos 0); loads = 0; failed_loads = [] }
 
 -- the whole session was written
-abbrev pub WritesSession : Limits → Option Files → List ℕ → List ℕ → Option (List ℕ) → Option (List ℕ) → GtpEnd → Type 0
+abbrev pub WritesSession : EngineLimits → Option Files → List ℕ → List ℕ → Option (List ℕ) → Option (List ℕ) → GtpEnd → Type 0
 WritesSession limits files failing bytes before now end = (c : GtpStanding) × (text : List ℕ) × IsGtpSession limits files failing (beginning bytes) text c end
     × (now ≡ append_known before text)
 
 -- the replies to all lines up to one that is still to be answered were written
-abbrev pub WritesSoFar : Limits → Option Files → List ℕ → List ℕ → Option (List ℕ) → Option (List ℕ) → Type 0
+abbrev pub WritesSoFar : EngineLimits → Option Files → List ℕ → List ℕ → Option (List ℕ) → Option (List ℕ) → Type 0
 WritesSoFar limits files failing bytes before now = (c : GtpStanding) × (text : List ℕ) × WaitsToReply limits files failing (beginning bytes) text c
     × (now ≡ append_known before text)
 
 -- the replies to some lines were written, and a front part of the next reply
-abbrev pub WritesFront : Limits → Option Files → List ℕ → List ℕ → Option (List ℕ) → Option (List ℕ) → Type 0
+abbrev pub WritesFront : EngineLimits → Option Files → List ℕ → List ℕ → Option (List ℕ) → Option (List ℕ) → Type 0
 WritesFront limits files failing bytes before now = (text : List ℕ) × BreaksOffReply limits files failing (beginning bytes) text × (now ≡ append_known before text)
 
 -- what a session over the bytes has written, by its end
-abbrev pub WritesByEnd : Limits → Option Files → List ℕ → List ℕ → Option (List ℕ) → Option (List ℕ) → GtpEnd → Type 0
+abbrev pub WritesByEnd : EngineLimits → Option Files → List ℕ → List ℕ → Option (List ℕ) → Option (List ℕ) → GtpEnd → Type 0
 WritesByEnd limits files failing bytes before now ReadFault = WritesSoFar limits files failing bytes before now
 WritesByEnd limits files failing bytes before now WriteFault = WritesFront limits files failing bytes before now
 WritesByEnd limits files failing bytes before now Memory = WritesSoFar limits files failing bytes before now

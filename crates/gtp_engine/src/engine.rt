@@ -13,11 +13,12 @@ ghost use Rattle.gtp_engine.specs.inner.Viewed.{asked_of, order_of};
 ghost use Rattle.gtp_engine.specs.Kept.{AreLoads};
 ghost use Rattle.gtp_engine.specs.Request.Asked.{something};
 ghost use Rattle.gtp_engine.specs.Request.Order.{boardsize, komi, loadsgf};
-ghost use Rattle.gtp_engine.specs.Session.{SaysWhetherKnown, done, fresh, is_last, reply_text};
+ghost use Rattle.gtp_engine.specs.Session.{SaysWhetherKnown, done, fresh, game_limits, is_last, reply_text};
 ghost use Rattle.gtp_engine.specs.Written.{IsReply, unused};
 ghost use Rattle.gtp_engine.specs.inner.Written.{IsMet, IsObeyed};
 
 use crate::command::read_command;
+use crate::limits::EngineLimits;
 use crate::loading::{Loading, load};
 use crate::playing::Action;
 use crate::reply::{Refusal, accept, refuse};
@@ -25,7 +26,7 @@ use crate::request::{Asked, Request, read_asked};
 use crate::setups::fresh;
 use crate::words::{clean, split, take_id};
 use desk_io::Shelf;
-use endgame_solver::{Limits, Solved};
+use endgame_solver::Solved;
 use game_text::Text;
 use go_grid::Size;
 use local_graph::MOST_POSITIONS;
@@ -46,7 +47,7 @@ pub struct Answer {
 /// A setup, and the game that runs after it, if one does; and the loads so far. Contracts see these and the limits.
 #[derive(Debug, Drop)]
 pub struct Engine {
-    pub(crate) limits: Limits,
+    pub(crate) limits: EngineLimits,
     pub(crate) setup: Setup,
     pub(crate) game: Option<Solved>,
     loads: u32,
@@ -54,7 +55,7 @@ pub struct Engine {
 }
 
 impl Model for Engine {
-    ghost use Rattle.std.specs.Prelude.{◌≡◌, ◌≤◌, ◌<◌, false, ℕ, List};
+    ghost use Rattle.std.specs.Prelude.{◌≡◌, ◌≤◌, ◌<◌, ℕ, List};
     ghost use Rattle.gtp_engine.specs.Written.{Engine};
     ghost use Rattle.gtp_engine.specs.inner.Kept.{state_in, IsFitEngine};
 
@@ -96,9 +97,8 @@ fn is_quit(request: &Request<'_>) -> bool
 
 impl Engine {
     /// An engine with an empty board of 19 by 19, no komi and Black to move.
-    pub fn new(alloc: Global, limits: Limits) -> Result<Engine, AllocError>
+    pub fn new(alloc: Global, limits: EngineLimits) -> Result<Engine, AllocError>
         requires positions { limits.positions ≤ MOST_POSITIONS }
-        requires no_tax { limits.tax ≡ false }
         ensures { IfOk result (λ engine. engine ≡ unused limits) }
     {
         let size = Size {
@@ -250,7 +250,7 @@ impl Engine {
             Ok(name) => name,
             Err(_) => return refuse(alloc, id, Refusal::CannotLoadFile),
         };
-        let loading = load(alloc, shelf, name, after)?;
+        let loading = load(alloc, shelf, name, self.limits.territory, after)?;
         self.note(id, loading)
     }
 
@@ -271,7 +271,7 @@ impl Engine {
         ensures later { H.faults shelf.old ≤ H.faults shelf.new }
         ensures steps { (regions : List Region)
             → AreRegionsOfPlay self.old.table.setup.board regions
-            → steps.new ≤ steps.old + most_steps self.old.limits regions }
+            → steps.new ≤ steps.old + most_steps (game_limits self.old.limits) regions }
     {
         let alloc = self.setup.board.allocator();
         match request {
@@ -313,7 +313,7 @@ impl Engine {
         ensures later { H.faults shelf.old ≤ H.faults shelf.new }
         ensures steps { (regions : List Region)
             → AreRegionsOfPlay self.old.table.setup.board regions
-            → steps.new ≤ steps.old + most_steps self.old.limits regions }
+            → steps.new ≤ steps.old + most_steps (game_limits self.old.limits) regions }
     {
         let alloc = self.setup.board.allocator();
         match asked {
@@ -349,7 +349,7 @@ impl Engine {
         ensures later_loads { H.faults shelf.old ≤ H.faults shelf.new }
         ensures steps { (regions : List Region)
             → AreRegionsOfPlay self.old.table.setup.board regions
-            → steps.new ≤ steps.old + most_steps self.old.limits regions }
+            → steps.new ≤ steps.old + most_steps (game_limits self.old.limits) regions }
     {
         let alloc = self.setup.board.allocator();
         let text = clean(alloc, line)?;

@@ -4,7 +4,7 @@ ghost use Rattle.std.specs.Prelude.{◌≡◌, ◌≤◌, length, sum_by, IfOk};
 ghost use Rattle.sgf_tree.specs.Reading.{line_text};
 ghost use Rattle.desk_io.specs.Files.{told_file};
 ghost use Rattle.gtp_engine.specs.inner.Loading.{IsFoundIn, IsFoundOn, IsLoaded};
-ghost use Rattle.gtp_engine.specs.Session.{settings_after};
+ghost use Rattle.gtp_engine.specs.Session.{load_settings};
 
 use desk_io::{LoadError, Loaded, Shelf};
 use sgf_go::{GoError, Settings, Setup, position};
@@ -21,9 +21,9 @@ pub(crate) enum Loading {
     Failed,
 }
 
-/// The settings of a file of which so many moves are replayed.
-fn settings_after(after: Option<u32>) -> Settings
-    ensures { result ≡ settings_after after }
+/// The settings of a load: whether the points that the file marks are declared, and how many moves are replayed.
+fn load_settings(territory: bool, after: Option<u32>) -> Settings
+    ensures { result ≡ load_settings territory after }
 {
     Settings {
         after,
@@ -31,17 +31,23 @@ fn settings_after(after: Option<u32>) -> Settings
         turn: None,
         black_prisoners: 0,
         white_prisoners: 0,
-        territory: false,
+        territory,
     }
 }
 
 /// The position of a main line, where it gives one.
-fn find_on(alloc: Global, tree: &Tree, after: Option<u32>) -> Result<Loading, AllocError>
+fn find_on(
+    alloc: Global,
+    tree: &Tree,
+    territory: bool,
+    after: Option<u32>,
+) -> Result<Loading, AllocError>
     requires nodes { length tree.now.line.items ≤ MOST_BYTES }
     requires properties { sum_by (λ n. length n.properties.items) tree.now.line.items ≤ MOST_BYTES }
-    ensures { IfOk result (IsFoundOn (line_text tree.now) after) }
+    ensures { IfOk result (IsFoundOn (line_text tree.now)
+        (load_settings territory after)) }
 {
-    match position(alloc, tree, &settings_after(after)) {
+    match position(alloc, tree, &load_settings(territory, after)) {
         Ok(setup) => Ok(Loading::Position(setup)),
         Err(GoError::Fault(_fault)) => Ok(Loading::Nothing),
         Err(GoError::Memory(cause)) => Err(cause),
@@ -49,13 +55,18 @@ fn find_on(alloc: Global, tree: &Tree, after: Option<u32>) -> Result<Loading, Al
 }
 
 /// The position of a file, where it gives one.
-fn find_in(alloc: Global, file: &[u8], after: Option<u32>) -> Result<Loading, AllocError>
+fn find_in(
+    alloc: Global,
+    file: &[u8],
+    territory: bool,
+    after: Option<u32>,
+) -> Result<Loading, AllocError>
     requires { length file.now ≤ MOST_BYTES }
-    ensures { IfOk result (IsFoundIn file.now after) }
+    ensures { IfOk result (IsFoundIn file.now (load_settings territory after)) }
 {
     match sgf_tree::read(alloc, file) {
         Ok(tree) => {
-            let found = find_on(alloc, &tree, after)?;
+            let found = find_on(alloc, &tree, territory, after)?;
             Ok(found)
         }
         Err(SgfError::Fault(_fault)) => Ok(Loading::Nothing),
@@ -68,10 +79,11 @@ pub(crate) fn load<H: Shelf>(
     alloc: Global,
     shelf: &mut H,
     name: &str,
+    territory: bool,
     after: Option<u32>,
 ) -> Result<Loading, AllocError>
-    ensures loaded { IfOk result (IsLoaded (told_file (H.files shelf.old) name.now) after
-        (H.faults shelf.old) (H.faults shelf.new)) }
+    ensures loaded { IfOk result (IsLoaded (told_file (H.files shelf.old) name.now)
+        (load_settings territory after) (H.faults shelf.old) (H.faults shelf.new)) }
     ensures same_files { H.files shelf.new ≡ H.files shelf.old }
     ensures asked { H.asks shelf.old name.now shelf.new }
     ensures later { H.faults shelf.old ≤ H.faults shelf.new }
@@ -79,7 +91,7 @@ pub(crate) fn load<H: Shelf>(
     let mut file = Vec::new(alloc);
     match shelf.load(name, MOST_BYTES, &mut file) {
         Ok(Loaded::Whole) => {
-            let found = find_in(alloc, &file, after)?;
+            let found = find_in(alloc, &file, territory, after)?;
             Ok(found)
         }
         Ok(Loaded::Longer) => Ok(Loading::Nothing),

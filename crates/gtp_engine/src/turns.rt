@@ -4,6 +4,7 @@ ghost use Rattle.std.specs.Prelude.{◌≡◌, ◌↔◌, ◌≤◌, ◌+◌, Li
 ghost use Rattle.endgame_solver.specs.Faults.{most_steps};
 ghost use Rattle.go_grid.specs.Region.{Region};
 ghost use Rattle.region_cut.specs.Cut.{AreRegionsOfPlay};
+ghost use Rattle.gtp_engine.specs.Session.{game_limits};
 ghost use Rattle.gtp_engine.specs.inner.Doing.{IsFresh, IsRunning, IsTurnTaken};
 
 use crate::engine::Engine;
@@ -60,11 +61,12 @@ impl Engine {
         ensures same { OnErr result (self.new ≡ self.old) }
         ensures steps { (regions : List Region)
             → AreRegionsOfPlay self.old.table.setup.board regions
-            → steps.new ≤ steps.old + most_steps self.old.limits regions }
+            → steps.new ≤ steps.old + most_steps (game_limits self.old.limits) regions }
     {
         let alloc = self.setup.board.allocator();
         let setup = with_side(&self.setup, colour)?;
-        let Some(mut solved) = open(alloc, &setup, &self.limits, steps)? else {
+        let limits = self.limits.of_game();
+        let Some(mut solved) = open(alloc, &setup, &limits, steps)? else {
             let reply = refuse(alloc, id, Refusal::CannotSolve)?;
             return Ok(reply);
         };
@@ -86,7 +88,7 @@ impl Engine {
         ensures same { OnErr result (self.new ≡ self.old) }
         ensures steps { (regions : List Region)
             → AreRegionsOfPlay self.old.table.setup.board regions
-            → steps.new ≤ steps.old + most_steps self.old.limits regions }
+            → steps.new ≤ steps.old + most_steps (game_limits self.old.limits) regions }
     {
         if self.is_running() {
             return self.go_on(id, colour, action);

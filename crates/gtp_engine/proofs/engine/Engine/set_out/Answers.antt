@@ -1,8 +1,9 @@
-use Rattle.std.proofs.Common.{ap, subst}
+use Rattle.std.proofs.Common.{ap, subst, ◌∙◌}
 use Rattle.gtp_engine.specs.inner.Playing.{IsOpened}
 use Rattle.gtp_engine.proofs.OrderLemmas.{turn_first, turn_unsolved}
 use Rattle.gtp_engine.proofs.KeptLemmas.{with_side_fit}
 use Rattle.std.proofs.lemmas.Bool.{both_ways}
+use Rattle.gtp_engine.specs.Session.{game_limits}
 use Rattle.gtp_engine.proofs.engine.Engine.set_out.Goals as goal
 
 pub open-requires-clause-fit : goal.open-requires-clause-fit
@@ -10,9 +11,9 @@ open-requires-clause-fit g c = with_side_fit c.self.inside.setup c.in_ok-setup.s
 
 pub returns-in_default-clause-taken : goal.returns-in_default-clause-taken
 returns-in_default-clause-taken g c =
-    turn_unsolved c.args.self.now c.self.inside.limits c.self.inside.setup c.in_ok-setup.setup c.args.colour c.args.action c.args.id.now c.in_ok-reply.reply
-    (ap (λ a. a.limits) c.self.view_is) (ap (λ a. a.table.setup) c.self.view_is) c.requires c.in_ok-setup.ensures
-    (subst (IsOpened c.self.inside.limits c.in_ok-setup.setup) c.in_default.is c.in_ok-solved.ensures.opened) c.in_ok-reply.ensures
+    turn_unsolved c.args.self.now c.of_game-limits.result c.self.inside.setup c.in_ok-setup.setup c.args.colour c.args.action c.args.id.now c.in_ok-reply.reply
+    (c.of_game-limits.ensures ∙ ap (λ a. game_limits a.limits) c.self.view_is) (ap (λ a. a.table.setup) c.self.view_is) c.requires c.in_ok-setup.ensures
+    (subst (IsOpened c.of_game-limits.result c.in_ok-setup.setup) c.in_default.is c.in_ok-solved.ensures.opened) c.in_ok-reply.ensures
 
 pub put-requires : goal.put-requires
 put-requires g c = with_side_fit c.self.inside.setup c.in_ok-setup.setup c.args.colour c.in_ok-setup.ensures c.self.invariant.setup_fit
@@ -20,11 +21,11 @@ put-requires g c = with_side_fit c.self.inside.setup c.in_ok-setup.setup c.args.
 pub returns-clause-taken : goal.returns-clause-taken
 returns-clause-taken g c =
     let v = c.act.new.solved.state in
-    turn_first c.args.self.now c.self.inside.limits c.self.inside.setup c.in_ok-setup.setup c.args.colour c.args.action c.args.id.now c.in_ok-reply-2.reply
-    (ap (λ a. a.limits) c.self.view_is) (ap (λ a. a.table.setup) c.self.view_is) c.requires c.in_ok-setup.ensures
-    _ c.in-Some.solved.state v (subst (IsOpened c.self.inside.limits c.in_ok-setup.setup) c.in-Some.is c.in_ok-solved.ensures.opened) c.in_ok-reply-2.ensures.acted
+    turn_first c.args.self.now c.of_game-limits.result c.self.inside.setup c.in_ok-setup.setup c.args.colour c.args.action c.args.id.now c.in_ok-reply-2.reply
+    (c.of_game-limits.ensures ∙ ap (λ a. game_limits a.limits) c.self.view_is) (ap (λ a. a.table.setup) c.self.view_is) c.requires c.in_ok-setup.ensures
+    _ c.in-Some.solved.state v (subst (IsOpened c.of_game-limits.result c.in_ok-setup.setup) c.in-Some.is c.in_ok-solved.ensures.opened) c.in_ok-reply-2.ensures.acted
     c.put.ensures
 
 -- an engine has no tax
 pub open-requires-clause-taxed : goal.open-requires-clause-taxed
-open-requires-clause-taxed g c taxed = absurd (both_ways _ c.self.invariant.limits_fit.no_tax taxed)
+open-requires-clause-taxed g c taxed = absurd (both_ways _ (ap (λ l. l.tax) c.of_game-limits.ensures) taxed)
