@@ -1,21 +1,30 @@
 //! Worked boards, drawn row by row with X for black and O for white.
 
+ghost use Rattle.go_grid.specs.Chain.{IsSettled};
+
 use benson_life::{alive, counted};
 use drawings::board;
 use go_grid::{Board, Colour, Point, Region, Touch};
 use region_cut::cut;
 use std::alloc::{AllocError, Global};
 
-/// The regions of play of a board, and none where it isn't settled.
-fn regions_of(alloc: Global, board: &Board) -> Result<Vec<Region>, AllocError> {
-    if board.unsettled()?.is_some() {
-        return Ok(Vec::new(alloc));
-    }
+/// The regions of play of a settled board.
+fn settled_regions(alloc: Global, board: &Board) -> Result<Vec<Region>, AllocError>
+    requires { IsSettled board.now }
+{
     let black = alive(alloc, board, Colour::Black)?;
     let white = alive(alloc, board, Colour::White)?;
     let black_counted = counted(alloc, board, Colour::Black, &black)?;
     let white_counted = counted(alloc, board, Colour::White, &white)?;
     cut(alloc, board, &black, &white, &black_counted, &white_counted)
+}
+
+/// The regions of play of a board, and none where it isn't settled.
+fn regions_of(alloc: Global, board: &Board) -> Result<Vec<Region>, AllocError> {
+    if board.unsettled()?.is_some() {
+        return Ok(Vec::new(alloc));
+    }
+    settled_regions(alloc, board)
 }
 
 /// A board, the number of its regions of play, and of the first of them the points and what is next to
