@@ -11,7 +11,6 @@ TOP = HERE.parents[1]
 sys.path[:0] = [str(TOP / 'page'), str(TOP / 'docs/positions'), str(TOP / 'docs')]
 
 from record import setup_of
-from script import program
 
 PAIR = b'(;GM[1]SZ[10:2]AB[ba][da][ab:eb]AW[ga][ia][fb:jb])'  # two neutral points: a cycle
 NEUTRAL = b'(;GM[1]SZ[10:2]AB[ba][da][ab:eb]AW[fa][ga][ia][fb:jb])'  # one neutral point
