@@ -1,23 +1,25 @@
 -- The text of `board`: a position as it is read.
-use Rattle.std.specs.Prelude.{ℕ, zero, suc, ℤ, ◌+◌, ◌*◌, ◌++◌, List, [], codes, decimal}
+use Rattle.std.specs.Prelude.{ℕ, zero, suc, ℤ, ◌+◌, ◌*◌, ◌++◌, List, [], Option, None, Some, codes, decimal}
 use Rattle.go_grid.specs.declared.grid.Cell.{Cell}
 use Rattle.go_grid.specs.declared.grid.Cell.TheVariants as cell
 use Rattle.go_grid.specs.declared.grid.Colour.{Colour}
 use Rattle.go_grid.specs.declared.grid.Colour.TheVariants.{Black, White}
-use Rattle.go_grid.specs.Board.{Board, cell_at}
+use Rattle.go_grid.specs.Board.{Board, cell_at, declared_at}
 use Rattle.board_words.specs.Words.{colour_word, word_line}
 use Rattle.report.specs.Komi.{komi_line}
 
--- the letter of a cell
-abbrev pub cell_word : Cell → List ℕ
-cell_word cell.Empty = codes "."
-cell_word cell.Black = codes "X"
-cell_word cell.White = codes "O"
+-- the letter of a cell: that of its stone, or that of the colour for which the empty point is declared
+abbrev pub cell_word : Cell → Option Colour → List ℕ
+cell_word cell.Black declared = codes "X"
+cell_word cell.White declared = codes "O"
+cell_word cell.Empty None = codes "."
+cell_word cell.Empty (Some Black) = codes "b"
+cell_word cell.Empty (Some White) = codes "w"
 
 -- the letters of the first n cells of a row, from the left
 unfoldable pub cells_text : Board → ℕ → ℕ → List ℕ
 cells_text g row zero = []
-cells_text g row (suc n) = cells_text g row n ++ cell_word (cell_at g (row * g.columns + n))
+cells_text g row (suc n) = cells_text g row n ++ cell_word (cell_at g (row * g.columns + n)) (declared_at g (row * g.columns + n))
 
 -- the line of a row
 abbrev pub row_line : Board → ℕ → List ℕ

@@ -18,14 +18,16 @@ pub struct Terms {
     pub white_prisoners: u64,
 }
 
-/// The letter of a cell.
-fn cell_word(cell: Cell) -> &'static str
-    ensures { result.now ≡ cell_word cell }
+/// The letter of a cell of a point that is declared for a colour, or for nobody.
+fn cell_word(cell: Cell, declared: Option<Colour>) -> &'static str
+    ensures { result.now ≡ cell_word cell declared }
 {
-    match cell {
-        Cell::Empty => ".",
-        Cell::Black => "X",
-        Cell::White => "O",
+    match (cell, declared) {
+        (Cell::Black, _) => "X",
+        (Cell::White, _) => "O",
+        (Cell::Empty, None) => ".",
+        (Cell::Empty, Some(Colour::Black)) => "b",
+        (Cell::Empty, Some(Colour::White)) => "w",
     }
 }
 
@@ -69,7 +71,8 @@ fn write_cells(text: &mut String, board: &Board, row: u8) -> Result<(), AllocErr
 {
     let size = board.size();
     for column in 0..size.columns {
-        text.push_str(cell_word(board.get(point_at(size, row, column))))?;
+        let point = point_at(size, row, column);
+        text.push_str(cell_word(board.get(point), board.declared_for(point)))?;
     }
     Ok(())
 }
@@ -114,7 +117,7 @@ fn write_head(text: &mut String, board: &Board, terms: Terms) -> Result<(), Allo
 }
 
 /// The text of `board` for a position: its size, the side to move, the komi in points, the prisoners of each player, and a line for each row
-/// from the top, with `X`, `O` and `.` for the cells.
+/// from the top, with `X`, `O` and `.` for the cells, and `b` and `w` for the empty ones that are declared for a player.
 #[tactic(auto, using(std::proofs::Common::append_assoc))]
 pub fn board_text(alloc: Global, board: &Board, terms: Terms) -> Result<Text, AllocError>
     ensures { IfOk result (λ text. text ≡ board_text board.now terms.side terms.komi_halves
