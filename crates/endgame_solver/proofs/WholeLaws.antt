@@ -467,6 +467,17 @@ module _ (g : Board) (settled : IsSettled g) (regions : List Region) (are : AreR
         (omega (arith, e)) shown in
         same-plus _ _ _ _ first rest
 
+    -- the positions that a board holds have trees
+    trees_on : (h : Board) (k : ℕ) (rs : List Region) (qs : List Position) → ((j : ℕ) → j < length rs → region_at regions (k + j) ≡ region_at rs j)
+        → length qs ≡ length rs → AreHeld h k qs → (trees : Trees) × AreTreesOn g h rs trees
+    trees_on h k [] qs at e shown = (none, tt)
+    trees_on h k (r ∷ rs) [] at e shown = absurd (omega (arith, e))
+    trees_on h k (r ∷ rs) (q ∷ qs) at e (held, shown) =
+        let here : region_at regions k ≡ r = ap (λ j. region_at regions j) (omega arith) ∙ at 0 (omega arith) in
+        let (trees, on) = trees_on h (suc k) rs qs (λ j lt. ap (λ i. region_at regions i) (omega arith) ∙ at (suc j) (omega (arith, lt))) (omega (arith, e)) shown in
+        let (G, tree) = trees-exist r.touch q.cells (3 ^ length q.cells) in
+        (more G trees, ((q.cells, subst (λ x. HoldsPosition g x q.cells h) here held.holds, tree), on))
+
     -- Who loses a state is the sign of the sum of any trees of the positions on its board, and of its money.
     decided : (t : Whole) (v : State Position) → SeenAs t v → (MoverWins Whole whole.Leads t ⊎ MoverLoses Whole whole.Leads t)
         × ((trees : Trees) → AreTreesOn g t.board regions trees
@@ -619,7 +630,11 @@ seen_from_opening g settled regions are black white komi side tax s t ms opening
 pub decomposes_whole : WholeDecomposes
 decomposes_whole g regions black white komi side tax s t ms settled are calm opening plays =
     let (v, seen) = seen_from_opening g settled regions are black white komi side tax s t ms opening plays in
-    decided g settled regions are calm t v seen
+    let d = decided g settled regions are calm t v seen in (
+      d.0,
+      trees_on g settled regions are calm t.board 0 regions v.parts (λ j lt. ap (region_at regions) (omega arith)) seen.1.count seen.1.shown,
+      d.1,
+    )
 
 -- Who loses a state with the board of an opening is the sign of the sum of any trees of the regions and of the balance.
 pub decided_by_trees : (g : Board) (settled : IsSettled g) (regions : List Region) (are : AreRegionsOfPlay g regions)

@@ -33,12 +33,14 @@ AreTreesOn g h _ _ = ⊥
 abbrev pub money_tree : Purses → Tree
 money_tree m = num 0 (credit Black m.black +ℤ credit White m.white) +ᵍ token_tree m.token
 
--- Where no region of a settled board has a cycle, each state that moves reach from the opening has a winner. And the player to
--- move loses exactly where the sum of trees of the regions' positions and the money is at most 0 for Black, at least 0 for White.
+-- Where no region of a settled board has a cycle, each state that moves reach from the opening has a winner, and there are trees
+-- of its regions' positions. Whatever these are, the player to move loses exactly where their sum and the money is at most 0 for
+-- Black, at least 0 for White.
 abbrev pub WholeDecomposes : Type 0
 WholeDecomposes = (g : Board) (regions : List Region) (black white : ℕ) (komi : ℤ) (side : Colour) (tax : Bool) (s t : Whole) (ms : List Move)
     → IsSettled g → AreRegionsOfPlay g regions → ((r : Region) → Contains regions r → HasNoCycle r.touch r.cells)
     → IsOpening g black white komi side tax s → Plays s ms t
     → (MoverWins Whole whole.Leads t ⊎ MoverLoses Whole whole.Leads t)
+    × ((trees : Trees) × AreTreesOn g t.board regions trees)
     × ((trees : Trees) → AreTreesOn g t.board regions trees
     → MoverLoses Whole whole.Leads t ↔ LosesGame t.side (total trees +ᵍ money_tree t.purses))
