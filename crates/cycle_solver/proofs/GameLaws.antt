@@ -18,6 +18,7 @@ use Rattle.local_value.specs.BudgetValues.{AreWithinLimits, IsBudgetValueAt, IsN
 use Rattle.local_value.specs.Steady.{IsBudgetValue, IsLeastSteady}
 use Rattle.local_value.specs.Values.{IsPlaceOf}
 use Rattle.local_value.proofs.SteadyLaws.{layers-serve}
+use Rattle.endgame_solver.specs.ModestGames.{most_value}
 use Rattle.endgame_solver.specs.Regions.{region_at}
 use Rattle.endgame_solver.specs.Faults.{AreSmallRegions}
 use Rattle.endgame_solver.specs.declared.limits.Limits.{Limits}
@@ -26,7 +27,7 @@ use Rattle.cycle_solver.specs.declared.faults.CycleError.{CycleError}
 use Rattle.cycle_solver.specs.declared.faults.CycleError.TheVariants.{Captures, Form, Memory, Points, Positions}
 use Rattle.cycle_solver.specs.declared.region_game.RegionGame.{RegionGame}
 use Rattle.cycle_solver.specs.Games.{AreSolvedBelow, IsGraphWithin, IsRefusalOf, IsSolvedBy, MayBeSteady}
-use Rattle.cycle_solver.specs.Held.{AreLayersOf, game_at, ids_with, layers_for, most_units, no_game}
+use Rattle.cycle_solver.specs.Held.{AreLayersOf, game_at, ids_with, layers_for, no_game}
 
 module _ (r : Region) (g : ReturnGraph) (of : IsReturnGraphOf r g) (c : Colour) (limit : ℕ) where
   -- where the values of the graph are within the limits none of a reachable position is too large
@@ -174,7 +175,7 @@ game_later {r = r} {Ts} {Us} {game} e s = record {
               };
           within = λ j i lt.
               let short : i < length (ids_with game c j) = omega (arith, lt, (w.values j).long) in
-              subst (AreWithin most_units) (sym (e.same (get_or (ids_with game c j) i 0) ((w.values j).known i short))) (w.within j i lt);
+              subst (AreWithin most_value) (sym (e.same (get_or (ids_with game c j) i 0) ((w.values j).known i short))) (w.within j i lt);
         };
   };
 }

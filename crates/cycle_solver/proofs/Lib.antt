@@ -1,4 +1,7 @@
+pub mod BeginLaws
+pub mod ChangeLaws
 pub mod GameLaws
+pub mod MarginLaws
 pub mod SumLaws
 pub mod StoneLaws
-pub mod BeginLaws
+pub mod ThresholdLaws

@@ -24,6 +24,7 @@ use Rattle.sum_outcome.specs.Players.{LosesGame}
 use Rattle.sum_outcome.specs.Sums.{IsBounded, sum_tree}
 use Rattle.local_value.specs.Steady.{IsBudgetValue, IsSteady}
 use Rattle.endgame_solver.specs.Decomposition.{money_tree}
+use Rattle.endgame_solver.specs.ModestGames.{AreModestGames, most_value}
 use Rattle.endgame_solver.specs.Regions.{no_region, region_at}
 use Rattle.endgame_solver.specs.SumGame.{AreModest, balance}
 use Rattle.endgame_solver.proofs.HeldLaws.{small_bounded, small_units}
@@ -34,7 +35,7 @@ use Rattle.whole_budgets.specs.BudgetSums.{AreTreesWith, ServesFor, WinsGame}
 use Rattle.whole_budgets.proofs.BudgetPlayLemmas.{other_not}
 use Rattle.whole_budgets.proofs.BudgetSumLaws.{winner_by_sum, wins-same, wins_by_sum}
 use Rattle.cycle_solver.specs.declared.region_game.RegionGame.{RegionGame}
-use Rattle.cycle_solver.specs.Held.{AreModestGames, AreSolved, AreSummed, HaveOpenings, HavePlaces, IsAt, IsHeld, enough, game_at, ids_with, layers_for, most_units, place_at}
+use Rattle.cycle_solver.specs.Held.{AreSolved, AreSummed, HaveOpenings, HavePlaces, IsAt, IsHeld, enough, game_at, ids_with, layers_for, place_at}
 
 -- values of positions that a board holds are as good as some trees of them
 module _ (g h : Board) (c : Colour) (IsFit : Region → ℕ → Type 0) (Ts : List Tree) where
@@ -54,7 +55,7 @@ module _ (g h : Board) (c : Colour) (IsFit : Region → ℕ → Type 0) (Ts : Li
       (more value.tree trees, ((cells, holds, (j, fit, value.of_position)), on), same-plus _ _ _ _ value.same same)
 
 -- the purses beside a sum are worth their balance
-beside : (c side : Colour) (G H : Tree) (m : Purses) → G ≡ᵍ H → WinsGame c side (G +ᵍ money_tree m) ↔ WinsGame c side (H +ᵍ num 1 (balance m))
+pub beside : (c side : Colour) (G H : Tree) (m : Purses) → G ≡ᵍ H → WinsGame c side (G +ᵍ money_tree m) ↔ WinsGame c side (H +ᵍ num 1 (balance m))
 beside c side G H m e =
     let same : (G +ᵍ money_tree m) ≡ᵍ (H +ᵍ num 1 (balance m)) =
     same-plus _ _ _ _ e (same-trans _ _ _ (same-sym _ _ (money_same m)) (purses-balance m)) in
@@ -148,7 +149,7 @@ module _ (Ts : List Tree) (ids : List ℕ) (m : Purses) {x : ℤ} (number : x �
 pub sum_bounded : {Ts : List Tree} {ids : List ℕ} {m : Purses} {x : ℤ} → AreModestGames Ts ids → AreModest m → x ≡ balance m *ℤ pos (2 ^ 59)
     → IsBounded (pick Ts ids) x
 sum_bounded {Ts} {ids} {m} {x} games small number =
-    subst (IsBounded (pick Ts ids)) (sym number) (small_bounded most_units Ts ids (balance m *ℤ pos (2 ^ 59)) (omega arith) games.few games.within (small_units m small))
+    subst (IsBounded (pick Ts ids)) (sym number) (small_bounded most_value Ts ids (balance m *ℤ pos (2 ^ 59)) (omega arith) games.few games.within (small_units m small))
 
 module _ {g : Board} {regions : List Region} {games : List RegionGame} {Ts : List Tree} (are : AreSolved g regions games Ts)
     {s : Whole} {places : List ℕ} (at : IsAt g regions games places s) (c : Colour) (budget : ℕ) where
@@ -167,7 +168,7 @@ module _ {g : Board} {regions : List Region} {games : List RegionGame} {Ts : Lis
     known = λ j lt. subst (λ z. z < length Ts) (sym (summed.each j (short j lt)))
         ((((are.each j (known j lt)).layers c).values budget).known (place_at places j) (place_inside j (short j lt)));
     few = omega (arith, summed.many, are.many, are.few);
-    within = λ j lt. subst (λ z. AreWithin most_units (tree_at Ts z)) (sym (summed.each j (short j lt)))
+    within = λ j lt. subst (λ z. AreWithin most_value (tree_at Ts z)) (sym (summed.each j (short j lt)))
         (((are.each j (known j lt)).layers c).within budget (place_at places j) (at.shown j (known j lt)).1.inside);
   }
     where

@@ -17,11 +17,11 @@ use Rattle.whole_rules.specs.WholeGame.{Whole}
 use Rattle.local_graph.specs.declared.graph.Edge.{Edge}
 use Rattle.local_graph.specs.inner.Graph.{edges_at}
 use Rattle.short_games.specs.Tree.{Tree, tree_at}
-use Rattle.game_store.specs.Meaning.{AreIds}
 use Rattle.game_canon.specs.Outcomes.{AreWithin}
 use Rattle.local_value.specs.BudgetValues.{AreBudgetValues, IsReturnGraphOf, layer_with, plain_graph}
 use Rattle.local_value.specs.Steady.{IsLeastSteady}
 use Rattle.local_value.specs.Values.{IsPlaceOf}
+use Rattle.endgame_solver.specs.ModestGames.{most_value}
 use Rattle.endgame_solver.specs.Regions.{IsStoneAt, region_at}
 use Rattle.cycle_solver.specs.declared.asking.Present.{Present}
 use Rattle.cycle_solver.specs.declared.region_game.RegionGame.{RegionGame}
@@ -39,10 +39,6 @@ ids_with game c budget = layer_with (layers_for game c) budget
 abbrev pub enough : ℕ
 enough = 255
 
--- each number of a value is at most so large, in parts of 2 ^ -60
-abbrev pub most_units : ℕ
-most_units = 2 ^ 94
-
 -- the layers serve each budget, and the last is for the least one at which the region is steady for the colour
 pub record AreLayersOf (r : Region) (game : RegionGame) (c : Colour) (Ts : List Tree) : Type 0 where
   pub budget : ℕ
@@ -50,7 +46,7 @@ pub record AreLayersOf (r : Region) (game : RegionGame) (c : Colour) (Ts : List 
   pub few : budget ≤ enough
   pub least : IsLeastSteady r.touch r.cells c budget
   pub values : (j : ℕ) → AreBudgetValues r game.graph c j Ts (ids_with game c j)
-  pub within : (j i : ℕ) → i < length game.graph.positions → AreWithin most_units (tree_at Ts (slice_index (ids_with game c j) i))
+  pub within : (j i : ℕ) → i < length game.graph.positions → AreWithin most_value (tree_at Ts (slice_index (ids_with game c j) i))
 
 -- the region's graph and the values of both colours
 pub record IsGameOf (r : Region) (Ts : List Tree) (game : RegionGame) : Type 0 where
@@ -102,11 +98,11 @@ pub record IsHeld (regions : List Region) (games : List RegionGame) (places : Li
   pub at : IsAt board regions games places s
   pub modest : (c : Colour) → purse c s.purses ≤ 2 ^ 41
 
--- games of a store, no more than a board has points, with numbers that are small enough
-pub record AreModestGames (Ts : List Tree) (ids : List ℕ) : Type 0 where
-  pub known : AreIds Ts ids
-  pub few : length ids ≤ MOST_POINTS
-  pub within : (j : ℕ) → j < length ids → AreWithin most_units (tree_at Ts (slice_index ids j))
+-- and both players' values of the present positions, with a budget that no region needs more than
+pub record IsKept (regions : List Region) (games : List RegionGame) (places low high : List ℕ) (Ts : List Tree) (s : Whole) : Type 0 where
+  pub held : IsHeld regions games places Ts s
+  pub low_sum : AreSummed games places Black enough low
+  pub high_sum : AreSummed games places White enough high
 
 -- each place is one of its region's graph
 pub record HavePlaces (games : List RegionGame) (places : List ℕ) (c : Colour) (budget : ℕ) : Type 0 where
@@ -126,6 +122,12 @@ pub record IsStoneEdge (regions : List Region) (games : List RegionGame) (places
   pub known : k < length regions
   pub stone : IsStoneAt (region_at regions k) c p e
   pub among : Contains (edges_at (game_at games k).graph.edges (place_at places k)) e
+
+-- each region has a game, and its place is one of its graph
+pub record HaveEdges (regions : List Region) (games : List RegionGame) (places : List ℕ) : Type 0 where
+  pub many_games : length games ≡ length regions
+  pub many_places : length places ≡ length regions
+  pub inside : (k : ℕ) → k < length regions → place_at places k < length (game_at games k).graph.positions
 
 -- each graph has a position, and a value of it with each budget
 abbrev pub HaveOpenings : List RegionGame → Type 0

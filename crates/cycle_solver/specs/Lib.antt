@@ -1,4 +1,7 @@
+pub mod Begun
+pub mod Changes
 pub mod CycleFaults
 pub mod Games
 pub mod Held
+pub mod Thresholds
 pub mod Winner

@@ -7,11 +7,12 @@ ghost use Rattle.short_games.specs.Sum.{◌+ᵍ◌, total};
 ghost use Rattle.game_store.specs.Meaning.{pick};
 ghost use Rattle.whole_rules.specs.FirstWinningMove.{IsWinner};
 ghost use Rattle.sum_outcome.specs.Memo.{Fits};
+ghost use Rattle.endgame_solver.specs.ModestGames.{AreModestGames};
 ghost use Rattle.endgame_solver.specs.SumGame.{AreModest, balance};
 ghost use Rattle.whole_budgets.specs.BudgetPlay.{WinsWithCaptures};
 ghost use Rattle.whole_budgets.specs.BudgetSums.{WinsGame};
 ghost use Rattle.cycle_solver.specs.Winner.{AreLeastCaptures, TellsCaptures, TellsWinner};
-ghost use Rattle.cycle_solver.specs.Held.{AreModestGames, AreSummed, HaveOpenings, HavePlaces, IsSeen, IsSeenFor, enough, game_at, ids_with, place_at};
+ghost use Rattle.cycle_solver.specs.Held.{AreSummed, HaveOpenings, HavePlaces, IsSeen, IsSeenFor, enough, game_at, ids_with, place_at};
 
 use crate::region_game::{RegionGame, values_for};
 use endgame_solver::balance_of;
@@ -46,7 +47,7 @@ fn is_not(lost: bool) -> bool
 }
 
 /// Whether a player wins the sum of games and what the purses are worth, where one of the players is to move.
-fn wins_sum(
+pub(crate) fn wins_sum(
     store: &Store,
     search: &mut Search,
     sum: &mut [GameId],
@@ -70,7 +71,7 @@ fn wins_sum(
 }
 
 /// The value of a region's position at a place, with a budget.
-fn value_with(game: &RegionGame, player: Colour, budget: usize, place: usize) -> GameId
+pub(crate) fn value_with(game: &RegionGame, player: Colour, budget: usize, place: usize) -> GameId
     requires { place < length (ids_with game.now player budget) }
     ensures { result ≡ slice_index (ids_with game.now player budget) place }
 {
@@ -89,10 +90,10 @@ fn fill(games: &[RegionGame], places: &[usize], player: Colour, budget: usize, s
 }
 
 /// No region needs a greater budget.
-const ENOUGH: usize = 255;
+pub(crate) const ENOUGH: usize = 255;
 
 /// Whether a player wins.
-fn wins(present: &Present<'_>, search: &mut Search, sum: &mut [GameId], player: Colour) -> bool
+pub(crate) fn wins(present: &Present<'_>, search: &mut Search, sum: &mut [GameId], player: Colour) -> bool
     requires seen { IsSeenFor present.now player enough sum.old }
     requires fits { Fits present.now.store.now search.old }
     ensures wins { IsTrue result ↔ IsWinner present.now.whole.now player }

@@ -2,9 +2,17 @@
 #![tactic(auto)]
 
 mod asking;
+mod changes;
+mod cycle_game;
 mod faults;
+mod laws;
 mod region_game;
+mod thresholds;
+mod winning_moves;
 
 pub use asking::{Present, Start, captures_of, start_of, winner_of};
+pub use cycle_game::{CycleGame, CycleReport};
 pub use faults::CycleError;
+pub use laws::cycle_threshold_laws;
 pub use region_game::{RegionGame, region_games, values_for};
+pub use thresholds::Thresholds;

@@ -199,7 +199,7 @@ komi_few Black (negsuc n) h = omega (arith, h)
 komi_few White (negsuc n) h = omega arith
 komi_few Black (pos n) h = omega arith
 
-purse_few : (g : Board) (black white : ℕ) (komi : ℤ) (side : Colour) (tax : Bool) (s : Whole) → length g.cells ≤ 625
+pub purse_few : (g : Board) (black white : ℕ) (komi : ℤ) (side : Colour) (tax : Bool) (s : Whole) → length g.cells ≤ 625
     → IsOpening g black white komi side tax s
     → black < 2 ^ 40 → white < 2 ^ 40 → unsigned_abs komi ≤ 2000000 → (c : Colour) → purse c s.purses ≤ 2 ^ 40 + 1001875
 purse_few g black white komi side tax s few o small small' half Black =
@@ -209,7 +209,7 @@ purse_few g black white komi side tax s few o small small' half White =
     let (n, start, is) = o.white in
     omega (arith, start_few g White tax n few start, komi_few White komi half, small', is)
 
-token_few : (t : Token) → token_left t ≤ 1
+pub token_few : (t : Token) → token_left t ≤ 1
 token_few token.Nobody = omega arith
 token_few token.Black = omega arith
 token_few token.White = omega arith
@@ -242,7 +242,7 @@ room_at_start graphs places s many among short few = record {
 -- What a solved game keeps, at the opening.
 
 -- a board has no more regions than points
-few_regions : (g : Board) (regions : List Region) → AreRegionsOfPlay g regions → length g.cells ≤ 625 → length regions ≤ 625
+pub few_regions : (g : Board) (regions : List Region) → AreRegionsOfPlay g regions → length g.cells ≤ 625 → length regions ≤ 625
 few_regions g regions are few =
     let bound = short (map lowest regions) (length g.cells) rises inside in
     omega (arith, bound, few, length-map regions lowest)

@@ -19,9 +19,9 @@ use Rattle.sum_outcome.specs.Sums.{IsBounded}
 use Rattle.sum_outcome.proofs.StopLoopLaws.{small_fits}
 use Rattle.sum_outcome.proofs.StopSumLaws.{left_stop-number, over-number, over-plus, over-sign, right_stop-number, under-number, under-plus, under-sign}
 use Rattle.whole_rules.specs.Opening.{komi_points}
-use Rattle.endgame_solver.specs.Thresholds.{BlackWins, IsThresholdFrom}
-use Rattle.endgame_solver.specs.inner.Held.{most_units}
-use Rattle.endgame_solver.specs.inner.Thresholds.{AreModestGames, IsLeastWin, IsMargin, IsOver, IsUnder, LiesBetween}
+use Rattle.endgame_solver.specs.Thresholds.{BlackWins, IsLeastWin, IsThresholdFrom}
+use Rattle.endgame_solver.specs.ModestGames.{AreModestGames, most_value}
+use Rattle.endgame_solver.specs.inner.Thresholds.{IsMargin, IsOver, IsUnder, LiesBetween}
 use Rattle.endgame_solver.specs.declared.thresholds.StopSums.{StopSums}
 use Rattle.go_grid.specs.Board.{Board, other}
 use Rattle.go_grid.specs.Region.{Region}
@@ -39,7 +39,7 @@ use Rattle.endgame_solver.specs.inner.Held.{AreSolvedAt, IsAt, IsStoneEdge, plac
 use Rattle.endgame_solver.specs.inner.Regions.{IsShown, spot_in}
 use Rattle.endgame_solver.specs.inner.Views.{IsHeldInBook, ShowsAll, seen_ids}
 use Rattle.endgame_solver.specs.declared.view_book.Book.{Book}
-use Rattle.endgame_solver.proofs.HeldLaws.{bounded, decided_beside, present, small_values, stone_leads}
+use Rattle.endgame_solver.proofs.HeldLaws.{decided_beside, present, small_bounded, small_values, stone_leads}
 use Rattle.endgame_solver.proofs.ThresholdLaws.{AreAlike, IsDecidedBeside, alike_openings, alike_stones, balance_less, least_by, threshold_by}
 use Rattle.endgame_solver.proofs.WinningLaws.{stone_is_legal, stone_kept, stone_seen}
 
@@ -61,7 +61,7 @@ units_back {u} {r} is small = sym is ∙ sym (to_z-of_z w128 u (small_fits u (su
 pub halves_back : (n : ℤ) → unsigned_abs n ≤ 2 ^ 46 → n ≡ to_z w64 (of_z w64 n)
 halves_back n small = sym (to_z-of_z w64 n (fits_signed_from_abs w64 n (omega (arith, small))))
 
-pub left_back : (b least n : ℤ) → unsigned_abs b ≤ 2 ^ 45 → unsigned_abs least ≤ 2 ^ 37
+pub left_back : (b least n : ℤ) → unsigned_abs b ≤ 2 ^ 45 → unsigned_abs least ≤ 2 ^ 45
     → n ≡ to_z w128 (of_z w128 b) -ℤ to_z w64 (of_z w64 least) → n ≡ b -ℤ least
 left_back b least n small small' is =
     let first : b ≡ to_z w128 (of_z w128 b) = units_back refl (omega (arith, small)) in
@@ -71,8 +71,8 @@ left_back b least n small small' is =
 -- what is known of a sum by the games before a place: numbers between which the others lie, added to their stops
 pub record StopsSoFar (Ts : List Tree) (ids : List ℕ) (stops : StopSums) (k : ℕ) : Type 0 where
   pub inside : k ≤ length ids
-  pub right_small : unsigned_abs stops.right ≤ k * most_units
-  pub left_small : unsigned_abs stops.left ≤ k * most_units
+  pub right_small : unsigned_abs stops.right ≤ k * most_value
+  pub left_small : unsigned_abs stops.left ≤ k * most_value
   pub over : (z : ℤ) → IsOver (total (pick Ts (drop k ids))) z → IsOver (total (pick Ts ids)) (stops.right +ℤ z)
   pub under : (z : ℤ) → IsUnder (total (pick Ts (drop k ids))) z → IsUnder (total (pick Ts ids)) (stops.left +ℤ z)
 
@@ -85,11 +85,11 @@ stops_start Ts ids = record {
   under = λ z o. subst (IsUnder (total (pick Ts ids))) (omega (arith, ints)) o;
 }
 
-size-plus : (y z : ℤ) → unsigned_abs (y +ℤ z) ≤ unsigned_abs y + unsigned_abs z
+pub size-plus : (y z : ℤ) → unsigned_abs (y +ℤ z) ≤ unsigned_abs y + unsigned_abs z
 size-plus y z = omega (arith, ints)
 
 pub stops_next : (Ts : List Tree) (ids : List ℕ) (stops here : StopSums) (k : ℕ) → StopsSoFar Ts ids stops k → k < length ids
-    → LiesBetween (tree_at Ts (get_or ids k 0)) most_units here
+    → LiesBetween (tree_at Ts (get_or ids k 0)) most_value here
     → StopsSoFar Ts ids (record { right = stops.right +ℤ here.right; left = stops.left +ℤ here.left }) (k + 1)
 unfolding total
 stops_next Ts ids stops here k w lt h = record {
@@ -106,7 +106,7 @@ stops_next Ts ids stops here k w lt h = record {
     G = tree_at Ts (get_or ids k 0)
 
 pub stops_end : (Ts : List Tree) (ids : List ℕ) (stops : StopSums) (k : ℕ) → StopsSoFar Ts ids stops k → length ids ≤ k
-    → length ids ≤ 625 → LiesBetween (total (pick Ts ids)) (625 * most_units) stops
+    → length ids ≤ 625 → LiesBetween (total (pick Ts ids)) (625 * most_value) stops
 unfolding total
 stops_end Ts ids stops k w le few = record {
   over = subst (IsOver (total (pick Ts ids))) (omega (arith, ints))
@@ -123,7 +123,7 @@ stops_end Ts ids stops k w le few = record {
 abbrev pub in_units : ℤ → ℤ
 in_units halves = halves *ℤ pos (2 ^ 59)
 
-pub units_of : {x : ℤ} (halves : ℤ) → unsigned_abs halves ≤ 2 ^ 37 → x ≡ in_units (to_z w64 (of_z w64 halves)) → x ≡ in_units halves
+pub units_of : {x : ℤ} (halves : ℤ) → unsigned_abs halves ≤ 2 ^ 45 → x ≡ in_units (to_z w64 (of_z w64 halves)) → x ≡ in_units halves
 units_of {x} halves small is = is ∙ ap in_units (sym (halves_back halves (omega (arith, small))))
 
 pub beside_units : (G : Tree) (halves x : ℤ) → x ≡ in_units halves → G +ᵍ number_tree x ≡ G +ᵍ num 1 halves
@@ -146,31 +146,31 @@ module _ {G : Tree} {most : ℕ} {stops : StopSums} (lies : LiesBetween G most s
       at White = (under-sign _ _ (under-plus G (number_tree x) stops.left x lies.under (under-number x)) lt).1
 
 -- the sum fits a search
-pub games_bounded : (Ts : List Tree) (ids : List ℕ) (halves x : ℤ) → AreModestGames Ts ids → unsigned_abs halves ≤ 2 ^ 37 → x ≡ in_units halves
+pub games_bounded : (Ts : List Tree) (ids : List ℕ) (halves x : ℤ) → AreModestGames Ts ids → unsigned_abs halves ≤ 2 ^ 45 → x ≡ in_units halves
     → IsBounded (pick Ts ids) x
 games_bounded Ts ids halves x modest small is =
     subst (IsBounded (pick Ts ids)) (sym is)
-    (bounded Ts ids (in_units halves) modest.few modest.within (omega (arith, small, unsigned_abs-mul halves (pos (2 ^ 59)))))
+    (small_bounded most_value Ts ids (in_units halves) (omega arith) modest.few modest.within (omega (arith, small, unsigned_abs-mul halves (pos (2 ^ 59)))))
 
 -- Halving.
 
--- so many halves of a point above -2 ^ 37
+-- so many halves of a point above -2 ^ 45
 abbrev pub above_least : ℕ → ℤ
-above_least n = pos n -ℤ pos (2 ^ 37)
+above_least n = pos n -ℤ pos (2 ^ 45)
 
 -- Black doesn't win beside the first of the two numbers, and wins beside the second
 pub record IsBetween (G : Tree) (c : Colour) (lost won : ℕ) : Type 0 where
   pub order : lost < won
-  pub most : won ≤ 2 ^ 38
+  pub most : won ≤ 2 ^ 46
   pub loses : ¬ BlackWins c (G +ᵍ num 1 (above_least lost))
   pub wins : BlackWins c (G +ᵍ num 1 (above_least won))
 
-pub between_start : (G : Tree) (c : Colour) (stops : StopSums) → LiesBetween G (625 * most_units) stops → IsBetween G c 0 (2 ^ 38)
+pub between_start : (G : Tree) (c : Colour) (stops : StopSums) → LiesBetween G (625 * most_value) stops → IsBetween G c 0 (2 ^ 46)
 between_start G c stops lies = record {
   order = omega arith;
   most = omega arith;
   loses = below_loses lies c (above_least 0) refl (omega (arith, ints, lies.left_small));
-  wins = above_wins lies c (above_least (2 ^ 38)) refl (omega (arith, ints, lies.right_small));
+  wins = above_wins lies c (above_least (2 ^ 46)) refl (omega (arith, ints, lies.right_small));
 }
 
 pub between_end : (G : Tree) (c : Colour) (lost won : ℕ) (least : ℤ) → IsBetween G c lost won → won ≤ lost + 1 → least ≡ above_least won
@@ -182,10 +182,17 @@ between_end G c lost won least w le is =
     before : lost < won → won ≤ lost + 1 → above_least lost ≡ above_least won -ℤ pos 1
     before lt le = omega (arith, ints, lt, le)
 
-pub least_small : (n : ℕ) (least : ℤ) → n ≤ 2 ^ 38 → least ≡ above_least n → unsigned_abs least ≤ 2 ^ 46
+pub least_small : (n : ℕ) (least : ℤ) → n ≤ 2 ^ 46 → least ≡ above_least n → unsigned_abs least ≤ 2 ^ 46
 least_small n least le is = omega (arith, ints, le, is)
 
 -- By how much a solved game is won.
+
+-- what is left of a balance, and what was taken from it
+pub taken_back : (b n : ℤ) → n ≡ b -ℤ (b -ℤ n)
+taken_back b n = omega (arith, ints)
+
+pub taken_least : (b least n : ℤ) → n ≡ b -ℤ least → least ≡ b -ℤ n
+taken_least b least n e = omega (arith, ints, e)
 
 added : (b k least n : ℤ) → n ≡ b -ℤ least → (b +ℤ k) -ℤ least ≡ k +ℤ n
 added b k least n e = omega (arith, ints, e)
@@ -206,7 +213,7 @@ module _ {regions : List Region} {graphs : List Graph} {values : List (List ℕ)
   modest_games = record {
     known = λ j lt. ((present kept.solved kept.at ids kept.summed).each j (omega (arith, lt, kept.summed.many))).2.0;
     few = omega (arith, kept.summed.many, kept.solved.few);
-    within = small_values kept.solved kept.at ids kept.summed;
+    within = λ j lt y number. omega (arith, small_values kept.solved kept.at ids kept.summed j lt y number);
   }
 
   -- the sum of the present values decides each state that is alike
@@ -256,7 +263,7 @@ module _ {regions rs : List Region} {book : Book} {places ps ids : List ℕ} {Ts
 -- The threshold is the komi and the margin.
 
 -- a purse that holds few points holds a small komi
-komi_small : (k : ℤ) (b w x y : ℕ) → b ≡ x + komi_points Black k → w ≡ y + komi_points White k → b ≤ 2 ^ 41 → w ≤ 2 ^ 41 → unsigned_abs k ≤ 2 ^ 43
+pub komi_small : (k : ℤ) (b w x y : ℕ) → b ≡ x + komi_points Black k → w ≡ y + komi_points White k → b ≤ 2 ^ 41 → w ≤ 2 ^ 41 → unsigned_abs k ≤ 2 ^ 43
 komi_small (pos n) b w x y eb ew lb lw = omega (arith, ew, lw)
 komi_small (negsuc n) b w x y eb ew lb lw = omega (arith, eb, lb)
 

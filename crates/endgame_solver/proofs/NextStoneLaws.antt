@@ -41,13 +41,14 @@ use Rattle.local_value.proofs.TreeLaws.{trees-same}
 use Rattle.endgame_solver.specs.PlayLine.{IsAsGood, IsHot, IsHotStone, IsLineFrom, LeadsByBest}
 use Rattle.endgame_solver.specs.Regions.{no_region, region_at}
 use Rattle.endgame_solver.specs.SumGame.{AreModest, balance}
-use Rattle.endgame_solver.specs.Thresholds.{IsWithoutCycle}
+use Rattle.endgame_solver.specs.Thresholds.{IsLeastWin, IsWithoutCycle}
 use Rattle.endgame_solver.specs.inner.Held.{AreSolvedAt, IsStoneEdge}
 use Rattle.endgame_solver.specs.inner.Line.{HasFewStones, IsReached, KeepsThreshold, TellsKeeping, TellsNext, last_won}
-use Rattle.endgame_solver.specs.inner.Thresholds.{IsLeastWin, IsMargin}
+use Rattle.endgame_solver.specs.inner.Thresholds.{IsMargin}
 use Rattle.endgame_solver.specs.inner.Views.{IsHeldInBook, ShowsAll, seen_ids}
 use Rattle.endgame_solver.specs.declared.view_book.Book.{Book}
-use Rattle.endgame_solver.proofs.HeldLaws.{bounded, present, small_balance, stone_leads}
+use Rattle.endgame_solver.specs.ModestGames.{most_value}
+use Rattle.endgame_solver.proofs.HeldLaws.{present, small_balance, small_bounded, stone_leads}
 use Rattle.endgame_solver.proofs.LineLaws.{as_good, first_keeps, line_push, no_stone_is_better, plays_push, some_keeps}
 use Rattle.endgame_solver.proofs.MarginLaws.{beside_units, margin_after, stone_games}
 use Rattle.endgame_solver.proofs.ThresholdLaws.{one_threshold, some_least}
@@ -171,7 +172,7 @@ module _ {regions rs : List Region} {book : Book} {places ps ids : List ℕ} {Ts
         → IsBounded (pick Ts (set ids k v)) y
     last_bounds beyond {y} small modest number =
         let games = stone_games held lent at side found value in
-        bounded Ts (set ids k v) y games.few games.within (subst (λ z. unsigned_abs z ≤ 2 ^ 110) (sym number) (small_last m d beyond modest small))
+        small_bounded most_value Ts (set ids k v) y (omega arith) games.few games.within (subst (λ z. unsigned_abs z ≤ 2 ^ 110) (sym number) (small_last m d beyond modest small))
 
     -- in another it keeps the threshold where the other player loses the sum that it leaves, at the last komi with which the mover wins
     pub hot_keeps : {beyond y : ℤ} {b : Bool} → y ≡ (balance m -ℤ last_won d beyond) *ℤ pos (2 ^ 59)

@@ -15,8 +15,7 @@ use Rattle.short_games.specs.Number.{num}
 use Rattle.short_games.specs.Sum.{◌+ᵍ◌, total}
 use Rattle.endgame_solver.specs.Decomposition.{AreTreesOn}
 use Rattle.endgame_solver.specs.SumGame.{balance}
-use Rattle.endgame_solver.specs.Thresholds.{BlackWins, FirstMoveCostsAHalf, HasOne, IsGreatest, IsWithoutCycle, ThresholdIsInSum, ThresholdsExist}
-use Rattle.endgame_solver.specs.inner.Thresholds.{IsLeastWin}
+use Rattle.endgame_solver.specs.Thresholds.{BlackWins, FirstMoveCostsAHalf, HasOne, IsGreatest, IsLeastWin, IsWithoutCycle, ThresholdIsInSum, ThresholdsExist}
 use Rattle.endgame_solver.proofs.ThresholdLaws.{IsDecidedBeside, alike_openings, alike_stones, balance_less, one_threshold, opening_balance, some_least, threshold_by, wins_first}
 use Rattle.endgame_solver.proofs.WholeLaws.{decided_alike, decided_by_trees, seen_from_opening}
 

@@ -31,8 +31,7 @@ use Rattle.short_games.proofs.SumLaws.{neg-le, neg-neg, nought, nought-plus, plu
 use Rattle.sum_outcome.specs.Players.{LosesGame, credit}
 use Rattle.sum_outcome.proofs.PlayerLaws.{loses-or_not}
 use Rattle.endgame_solver.specs.SumGame.{balance, halves}
-use Rattle.endgame_solver.specs.Thresholds.{BlackWins}
-use Rattle.endgame_solver.specs.inner.Thresholds.{IsLeastWin}
+use Rattle.endgame_solver.specs.Thresholds.{BlackWins, IsLeastWin}
 
 -- Games beside numbers of halves.
 

@@ -1,4 +1,5 @@
 pub mod SumGame
+pub mod ModestGames
 pub mod Laws
 pub mod Regions
 pub mod Decomposition

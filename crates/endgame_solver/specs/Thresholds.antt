@@ -22,6 +22,10 @@ abbrev pub BlackWins : Colour → Tree → Type 0
 BlackWins Black G = ¬ LosesGame Black G
 BlackWins White G = LosesGame White G
 
+-- Black wins the game where this player moves first exactly beside at least so many halves of a point
+abbrev pub IsLeastWin : Colour → Tree → ℤ → Type 0
+IsLeastWin c G least = (y : ℤ) → BlackWins c (G +ᵍ num 1 y) ↔ (least ≤ℤ y)
+
 -- the threshold after these stones, the first of the player, on each ground that the state opens with this komi
 abbrev pub IsThresholdFrom : Whole → ℤ → Colour → List ℕ → ℤ → Type 0
 IsThresholdFrom s k c ps K = (x : Ground) → OpensWith x k s.side s → IsThresholdAfter x c ps K

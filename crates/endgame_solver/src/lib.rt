@@ -25,4 +25,5 @@ pub use laws::{decomposition_laws, line_laws, shape_laws, threshold_laws};
 pub use limits::Limits;
 pub use regions_of_play::{Opening, first_large, opening_of};
 pub use solved::{RegionReport, Solved};
+pub use thresholds::{margin_of, raised};
 pub use winning_moves::is_stone_at;

@@ -11,9 +11,10 @@ ghost use Rattle.game_store.specs.Meaning.{pick};
 ghost use Rattle.game_canon.specs.Outcomes.{AreWithin};
 ghost use Rattle.sum_outcome.specs.Memo.{Fits};
 ghost use Rattle.sum_outcome.specs.Players.{LosesGame};
-ghost use Rattle.endgame_solver.specs.Thresholds.{BlackWins};
-ghost use Rattle.endgame_solver.specs.inner.Held.{most_units};
-ghost use Rattle.endgame_solver.specs.inner.Thresholds.{AreModestGames, IsLeastWin, IsMargin, LiesBetween};
+ghost use Rattle.endgame_solver.specs.ModestGames.{AreModestGames, most_value};
+ghost use Rattle.endgame_solver.specs.SumGame.{AreModest, balance};
+ghost use Rattle.endgame_solver.specs.Thresholds.{BlackWins, IsLeastWin};
+ghost use Rattle.endgame_solver.specs.inner.Thresholds.{IsMargin, LiesBetween};
 ghost use Rattle.endgame_solver.specs.inner.Views.{IsSeen};
 
 use crate::balance::{balance_halves, of_halves};
@@ -23,6 +24,7 @@ use game_stops::{left_stop, right_stop};
 use game_store::{GameId, Store};
 use go_grid::{Colour, Point};
 use sum_outcome::Search;
+use whole_rules::Purses;
 
 /// What the right stops of games add up to, and their left stops, in the parts of a `Dyadic`. The sum of the games is at
 /// least each number below the first, and at most each number above the second.
@@ -75,8 +77,8 @@ impl StopSums {
 /// The stops of a game.
 fn stops_at(store: &Store, id: GameId) -> StopSums
     requires known { id < length store.now }
-    requires within { AreWithin most_units (tree_at store.now id) }
-    ensures { LiesBetween (tree_at store.now id) most_units result }
+    requires within { AreWithin most_value (tree_at store.now id) }
+    ensures { LiesBetween (tree_at store.now id) most_value result }
 {
     let _canonical = store.node(id);
     StopSums {
@@ -88,7 +90,7 @@ fn stops_at(store: &Store, id: GameId) -> StopSums
 /// The stops of the games of a sum, added up.
 fn stops_of(store: &Store, sum: &[GameId]) -> StopSums
     requires { AreModestGames store.now sum.now }
-    ensures { LiesBetween (total (pick store.now sum.now)) (MOST_POINTS * most_units) result }
+    ensures { LiesBetween (total (pick store.now sum.now)) (MOST_POINTS * most_value) result }
 {
     let mut stops = StopSums::nothing();
     'adding: for id in sum {
@@ -109,7 +111,7 @@ fn wins_where(first: Colour, lost: bool) -> bool
 
 /// So many halves of a point.
 fn number_of(halves: i64) -> Dyadic
-    requires { unsigned_abs halves ≤ 2 ^ 37 }
+    requires { unsigned_abs halves ≤ 2 ^ 45 }
     ensures { result ≡ halves *ℤ pos (2 ^ 59) }
 {
     of_halves(i128::from(halves))
@@ -126,8 +128,8 @@ fn black_wins(
     halves: i64,
 ) -> bool
     requires games { AreModestGames store.now sum.old }
-    requires stops { LiesBetween (total (pick store.now sum.old)) (MOST_POINTS * most_units) stops }
-    requires halves { unsigned_abs halves ≤ 2 ^ 37 }
+    requires stops { LiesBetween (total (pick store.now sum.old)) (MOST_POINTS * most_value) stops }
+    requires halves { unsigned_abs halves ≤ 2 ^ 45 }
     requires fits { Fits store.now search.old }
     ensures wins { IsTrue result
         ↔ BlackWins first (total (pick store.now sum.old) +ᵍ num 1 halves) }
@@ -145,12 +147,12 @@ fn black_wins(
     wins_where(first, lost)
 }
 
-/// So many halves of a point more than -2^37, below which no sum lies.
+/// So many halves of a point more than -2^45, below which no sum lies.
 fn above_least(steps: u64) -> i64
-    requires { steps ≤ 2 ^ 38 }
-    ensures { result ≡ pos steps -ℤ pos (2 ^ 37) }
+    requires { steps ≤ 2 ^ 46 }
+    ensures { result ≡ pos steps -ℤ pos (2 ^ 45) }
 {
-    steps as i64 - (1 << 37)
+    steps as i64 - (1 << 45)
 }
 
 /// The least number of halves of a point beside which Black wins the sum, where this player moves first.
@@ -158,13 +160,13 @@ fn least_win(store: &Store, search: &mut Search, sum: &mut [GameId], first: Colo
     requires games { AreModestGames store.now sum.old }
     requires fits { Fits store.now search.old }
     ensures least { IsLeastWin first (total (pick store.now sum.old)) result }
-    ensures small { unsigned_abs result ≤ 2 ^ 37 }
+    ensures small { unsigned_abs result ≤ 2 ^ 45 }
     ensures same { sum.new ≡ sum.old }
     ensures fits { Fits store.now search.new }
 {
     let stops = stops_of(store, sum);
     let mut lost: u64 = 0;
-    let mut won: u64 = 1 << 38;
+    let mut won: u64 = 1 << 46;
     'halving: while won - lost > 1 {
         let middle = lost + (won - lost) / 2;
         if black_wins(store, search, sum, stops, first, above_least(middle)) {
@@ -179,11 +181,32 @@ fn least_win(store: &Store, search: &mut Search, sum: &mut [GameId], first: Colo
 /// What is left of a balance in halves of a point.
 fn left_of(balance: i128, halves: i64) -> i64
     requires balance { unsigned_abs balance ≤ 2 ^ 45 }
-    requires halves { unsigned_abs halves ≤ 2 ^ 37 }
+    requires halves { unsigned_abs halves ≤ 2 ^ 45 }
     ensures left { result ≡ balance -ℤ halves }
     ensures small { unsigned_abs result ≤ 2 ^ 46 }
 {
     (balance - i128::from(halves)) as i64
+}
+
+/// How many halves of a point can be taken from the purses so that Black still wins the sum beside them, where this player moves
+/// first.
+pub fn margin_of(
+    store: &Store,
+    search: &mut Search,
+    sum: &mut [GameId],
+    purses: Purses,
+    first: Colour,
+) -> i64
+    requires games { AreModestGames store.now sum.old }
+    requires purses { AreModest purses }
+    requires fits { Fits store.now search.old }
+    ensures margin { IsLeastWin first (total (pick store.now sum.old))
+        (balance purses -ℤ result) }
+    ensures small { unsigned_abs result ≤ 2 ^ 46 }
+    ensures same { sum.new ≡ sum.old }
+    ensures fits { Fits store.now search.new }
+{
+    left_of(balance_halves(purses), least_win(store, search, sum, first))
 }
 
 /// How many halves of a point the threshold is above the komi, where this player moves first.
@@ -200,8 +223,7 @@ pub(crate) fn margin(
     ensures same { sum.new ≡ sum.old }
     ensures fits { Fits present.now.store.now search.new }
 {
-    let balance = balance_halves(present.whole.purses());
-    left_of(balance, least_win(present.store, search, sum, first))
+    margin_of(present.store, search, sum, present.whole.purses(), first)
 }
 
 /// How many halves of a point the threshold of a stone of the side to move is above the komi. None where the stone is
@@ -232,13 +254,13 @@ pub(crate) fn stone_margin(
     let purses = present.whole.purses().paid_in(side, u64::from(edge.taken));
     let before = sum[k];
     sum[k] = value_seen(present.book, k, edge.next);
-    let least = least_win(present.store, search, sum, side.other());
+    let beyond = margin_of(present.store, search, sum, purses, side.other());
     sum[k] = before;
-    Some(left_of(balance_halves(purses), least))
+    Some(beyond)
 }
 
 /// The komi and so many halves more, where 64 bits hold them.
-pub(crate) fn raised(komi: i64, halves: i64) -> i64
+pub fn raised(komi: i64, halves: i64) -> i64
     ensures { unsigned_abs (komi +ℤ halves) < 2 ^ 63 → result ≡ komi +ℤ halves }
 {
     komi.checked_add(halves).unwrap_or(komi)

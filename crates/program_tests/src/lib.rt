@@ -6,6 +6,8 @@ mod analysis_tests;
 #[cfg(test)]
 mod calc_tests;
 #[cfg(test)]
+mod cycle_game_tests;
+#[cfg(test)]
 mod device_tests;
 #[cfg(test)]
 mod engine_tests;

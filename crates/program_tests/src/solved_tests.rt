@@ -61,7 +61,7 @@ pub(crate) const WITH_STONE: Game = Game {
 };
 
 /// Two points at which stones take each other for ever.
-const ENDLESS: Game = Game {
+pub(crate) const ENDLESS: Game = Game {
     drawing: b".X.XXOO.O.XXXX..OOOOXXXXXOOOOO",
     ..CORRIDOR
 };

@@ -1,4 +1,5 @@
 pub mod Solution
+pub mod CycleSolution
 pub mod Listing
 pub mod Chains
 pub mod Safety

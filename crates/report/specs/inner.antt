@@ -2,5 +2,6 @@
 pub mod Analysis
 pub mod Chains
 pub mod Solution
+pub mod CycleSolution
 pub mod Trial
 pub mod Values

@@ -4,6 +4,7 @@
 mod analysis;
 mod board;
 mod chains;
+mod cycle_solution;
 mod komi;
 mod play_line;
 mod safety;
@@ -14,6 +15,7 @@ mod values;
 pub use analysis::{margin_text, moves_text};
 pub use board::{Terms, board_text};
 pub use chains::ChainLine;
+pub use cycle_solution::cycle_solve_text;
 pub use play_line::line_text;
 pub use safety::{CountedLine, safe_text};
 pub use solution::solve_text;

@@ -36,7 +36,7 @@ fn write_purse(text: &mut String, colour: Colour, purse: u64) -> Result<(), Allo
 
 /// Appends the lines on the side to move, the purses and the token.
 #[tactic(auto, using(std::proofs::Common::append_assoc))]
-fn write_state(text: &mut String, state: &Whole) -> Result<(), AllocError>
+pub(crate) fn write_state(text: &mut String, state: &Whole) -> Result<(), AllocError>
     ensures { OnOk result (string_bytes text.new ≡ string_bytes text.old ++ state_lines state.now) }
 {
     write_words(text, "side", colour_word(state.side()))?;
@@ -59,6 +59,22 @@ fn write_move(text: &mut String, size: Size, chosen: Move) -> Result<(), AllocEr
     }
 }
 
+/// Appends the line of a move, if there is one.
+pub(crate) fn write_chosen(
+    text: &mut String,
+    size: Size,
+    chosen: Option<Move>,
+) -> Result<(), AllocError>
+    requires { IfSome chosen (IsMoveOnBoard size.columns size.rows) }
+    ensures { OnOk result
+        (string_bytes text.new ≡ string_bytes text.old ++ move_line size.columns chosen) }
+{
+    match chosen {
+        Some(chosen) => write_move(text, size, chosen),
+        None => write_words(text, "move", "none"),
+    }
+}
+
 /// Appends the lines on the winner and the move.
 #[tactic(auto, using(std::proofs::Common::append_assoc))]
 fn write_outcome(
@@ -72,10 +88,7 @@ fn write_outcome(
         (winner_line winner ++ move_line size.columns chosen)) }
 {
     write_words(text, "winner", colour_word(winner))?;
-    match chosen {
-        Some(chosen) => write_move(text, size, chosen),
-        None => write_words(text, "move", "none"),
-    }
+    write_chosen(text, size, chosen)
 }
 
 /// Who wins where the first winning move of the side to move is this, or where it has none.

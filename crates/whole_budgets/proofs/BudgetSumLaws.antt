@@ -265,7 +265,7 @@ module _ (g : Board) (settled : IsSettled g) (regions : List Region) (are : AreR
 -- each state that moves reach from an opening is such a state
 module _ (g : Board) (settled : IsSettled g) (regions : List Region) (are : AreRegionsOfPlay g regions) (black white : ℕ) (komi : ℤ)
     (side : Colour) (tax : Bool) (s t : Whole) (ms : List Move) (opens : IsOpening g black white komi side tax s) (plays : Plays s ms t) where
-  reached_from : (j : ℕ) → j < length regions → (cells : List Cell) × HoldsReached g settled regions are t.board j cells
+  pub reached_from : (j : ℕ) → j < length regions → (cells : List Cell) × HoldsReached g settled regions are t.board j cells
   reached_from j lt =
       let (v, (keeps, seen)) = seen_from_opening g settled regions are black white komi side tax s t ms opens plays in
       let nought = position_in 0 [] in
@@ -273,7 +273,7 @@ module _ (g : Board) (settled : IsSettled g) (regions : List Region) (are : AreR
       subst (λ z. IsHeld g regions t.board z (get_or v.parts j nought)) (omega arith) (shown_at g regions t.board 0 v.parts nought seen.shown j (omega (arith, lt, seen.count))) in
       ((get_or v.parts j nought).cells, (held.reachable, held.holds))
 
-  keeps_from : Keeps g t
+  pub keeps_from : Keeps g t
   keeps_from = keeps_plays g settled s t ms (keeps_start g black white komi side tax s opens) plays
 
 pub budgets_decompose : BudgetsDecompose

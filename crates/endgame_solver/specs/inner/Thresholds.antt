@@ -1,7 +1,6 @@
 -- What the search for a threshold keeps.
 use Rattle.std.specs.Prelude.{ℕ, ◌+◌, ◌<◌, ◌≤◌, ◌^◌, ◌↔◌, List, length, slice_index, ℤ, pos, unsigned_abs, ◌+ℤ◌, ◌-ℤ◌, ◌*ℤ◌, ◌<ℤ◌, ◌≤ℤ◌}
 use Rattle.go_grid.specs.declared.grid.Colour.{Colour}
-use Rattle.go_grid.specs.declared.grid.TheConstants.{MOST_POINTS}
 use Rattle.whole_rules.specs.OpeningWith.{Ground, OpensWith}
 use Rattle.whole_rules.specs.Threshold.{IsThresholdAfter}
 use Rattle.whole_rules.specs.WholeGame.{Whole}
@@ -9,25 +8,11 @@ use Rattle.short_games.specs.Tree.{Tree, tree_at}
 use Rattle.short_games.specs.Order.{◌≤ᵍ◌}
 use Rattle.short_games.specs.Number.{num}
 use Rattle.short_games.specs.Sum.{◌+ᵍ◌}
-use Rattle.game_canon.specs.Outcomes.{AreWithin}
-use Rattle.game_store.specs.Meaning.{AreIds}
-use Rattle.endgame_solver.specs.Thresholds.{BlackWins}
-use Rattle.endgame_solver.specs.inner.Held.{most_units}
 use Rattle.endgame_solver.specs.declared.thresholds.StopSums.{StopSums}
-
--- Black wins the game where this player moves first exactly beside at least so many halves of a point
-abbrev pub IsLeastWin : Colour → Tree → ℤ → Type 0
-IsLeastWin c G least = (y : ℤ) → BlackWins c (G +ᵍ num 1 y) ↔ (least ≤ℤ y)
 
 -- the threshold after the stones is so many halves of a point above the komi with which the state opens a ground
 abbrev pub IsMargin : Whole → Colour → List ℕ → ℤ → Type 0
 IsMargin s c ps n = (x : Ground) (k : ℤ) → OpensWith x k s.side s → IsThresholdAfter x c ps (k +ℤ n)
-
--- games of a store, no more than a board has points, each with numbers no greater than those of a region's values
-pub record AreModestGames (Ts : List Tree) (ids : List ℕ) : Type 0 where
-  pub known : AreIds Ts ids
-  pub few : length ids ≤ MOST_POINTS
-  pub within : (j : ℕ) → j < length ids → AreWithin most_units (tree_at Ts (slice_index ids j))
 
 -- the game is at least each number below l parts of 2 ^ -60
 abbrev pub IsOver : Tree → ℤ → Type 0

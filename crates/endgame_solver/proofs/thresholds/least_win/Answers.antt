@@ -1,7 +1,7 @@
 use Rattle.std.proofs.Common.{arith, refl, subst}
 use Rattle.short_games.specs.Sum.{total}
 use Rattle.game_store.specs.Meaning.{pick}
-use Rattle.endgame_solver.specs.inner.Thresholds.{IsLeastWin}
+use Rattle.endgame_solver.specs.Thresholds.{IsLeastWin}
 use Rattle.endgame_solver.proofs.MarginLaws.{between_end, between_start, halves_back, least_small}
 use Rattle.endgame_solver.proofs.thresholds.least_win.Goals as goal
 

@@ -6,7 +6,8 @@ use Rattle.whole_rules.specs.Purses.{paid_in}
 use Rattle.std.proofs.lemmas.Bool.{both_ways}
 use Rattle.sum_outcome.proofs.ListLaws.{put_back}
 use Rattle.endgame_solver.proofs.HeldLaws.{some_edge}
-use Rattle.endgame_solver.proofs.MarginLaws.{halves_back, left_back, stone_games, stone_margin}
+use Rattle.endgame_solver.specs.SumGame.{balance}
+use Rattle.endgame_solver.proofs.MarginLaws.{halves_back, stone_games, stone_margin, taken_back}
 use Rattle.endgame_solver.proofs.WinningLaws.{shows_places, stone_has, stone_modest, stone_none}
 use Rattle.endgame_solver.proofs.thresholds.stone_margin.Goals as goal
 
@@ -24,22 +25,22 @@ stone_edge-requires c = shows_places c.requires.seen refl refl
 pub value_seen-requires : goal.value_seen-requires
 value_seen-requires c = stone_has c.requires.seen refl refl c.side-side.ensures c.in-Some.ensures.edges
 
-pub least_win-least-requires-clause-games : goal.least_win-least-requires-clause-games
-least_win-least-requires-clause-games c = stone_games c.requires.seen refl refl c.side-side.ensures c.in-Some.ensures.edges c.value_seen.ensures
+pub margin_of-beyond-requires-clause-games : goal.margin_of-beyond-requires-clause-games
+margin_of-beyond-requires-clause-games c = stone_games c.requires.seen refl refl c.side-side.ensures c.in-Some.ensures.edges c.value_seen.ensures
 
-pub balance_halves-requires : goal.balance_halves-requires
-balance_halves-requires c = stone_modest c.requires.seen refl refl c.side-side.ensures c.in-Some.ensures.edges c.from.ensures
+pub margin_of-beyond-requires-clause-purses : goal.margin_of-beyond-requires-clause-purses
+margin_of-beyond-requires-clause-purses c = stone_modest c.requires.seen refl refl c.side-side.ensures c.in-Some.ensures.edges c.from.ensures
     (c.paid_in-purses.ensures ∙ ap (paid_in c.side-side.result c.from.result) c.purses.ensures)
 
 pub returns-clause-margin : goal.returns-clause-margin
 returns-clause-margin c =
-    let left = left_back c.balance_halves.result c.least_win-least.result c.left_of.result c.balance_halves.ensures.small c.least_win-least.ensures.small
-    c.left_of.ensures.left ∙ ap (λ z. z -ℤ c.least_win-least.result) c.balance_halves.ensures.halves in
     let s = c.args.present.now.whole.now in
-    subst (λ n. IsLegal s (Stone c.args.point) × IsMargin s s.side (c.args.point ∷ []) n) (halves_back c.left_of.result c.left_of.ensures.small)
-    (stone_margin c.requires.seen refl refl c.side-side.ensures c.in-Some.ensures.edges c.value_seen.ensures c.least_win-least.result c.left_of.result
+    let n = c.margin_of-beyond.result in
+    let b = balance c.paid_in-purses.result in
+    subst (λ n. IsLegal s (Stone c.args.point) × IsMargin s s.side (c.args.point ∷ []) n) (halves_back n c.margin_of-beyond.ensures.small)
+    (stone_margin c.requires.seen refl refl c.side-side.ensures c.in-Some.ensures.edges c.value_seen.ensures (b -ℤ n) n
     c.from.ensures (c.paid_in-purses.ensures ∙ ap (paid_in c.side-side.result c.from.result) c.purses.ensures) c.other.ensures
-    c.least_win-least.ensures.least left)
+    c.margin_of-beyond.ensures.margin (taken_back b n))
 
 pub returns-clause-same : goal.returns-clause-same
-returns-clause-same c = ap (λ z. set z c.in-Some.k (get_or c.args.sum.now c.in-Some.k 0)) c.least_win-least.ensures.same ∙ put_back c.args.sum.now c.in-Some.k c.value_seen.result
+returns-clause-same c = ap (λ z. set z c.in-Some.k (get_or c.args.sum.now c.in-Some.k 0)) c.margin_of-beyond.ensures.same ∙ put_back c.args.sum.now c.in-Some.k c.value_seen.result

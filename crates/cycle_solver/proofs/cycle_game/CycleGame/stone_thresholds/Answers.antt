@@ -1,0 +1,29 @@
+use mir.Syntax.{w64}
+use Rattle.std.proofs.lemmas.Int.{to_z-of_z}
+use Rattle.std.proofs.Common.{[], ◌∷◌, subst}
+use Rattle.whole_rules.specs.declared.states.Move.TheVariants.{Stone}
+use Rattle.whole_rules.specs.WholeGame.{IsLegal}
+use Rattle.cycle_solver.specs.Thresholds.{AreThresholdsFrom}
+use Rattle.cycle_solver.proofs.SumLaws.{seen_lent}
+use Rattle.cycle_solver.proofs.cycle_game.CycleGame.stone_thresholds.Goals as goal
+
+pub thresholds_after-requires-clause-low : goal.thresholds_after-requires-clause-low
+thresholds_after-requires-clause-low c =
+    let kept = c.self.invariant.0 in
+    seen_lent kept.held kept.low_sum c.deref.ensures.value c.deref-2.ensures.value c.deref-3.ensures.value c.deref_mut.ensures.value
+
+pub thresholds_after-requires-clause-high : goal.thresholds_after-requires-clause-high
+thresholds_after-requires-clause-high c =
+    let kept = c.self.invariant.0 in
+    seen_lent kept.held kept.high_sum c.deref.ensures.value c.deref-2.ensures.value c.deref-3.ensures.value c.deref_mut-2.ensures.value
+
+pub returns-clause-thresholds : goal.returns-clause-thresholds
+returns-clause-thresholds c =
+    let p = c.args.point in
+    let change = c.in_ok-change.ensures {u = tt} in
+    subst (λ v. IsLegal v.state (Stone p) × AreThresholdsFrom v.state c.args.komi_halves v.state.side (p ∷ []) c.thresholds_after.result) c.self.view_is
+    (
+      change.legal,
+      subst (λ k. AreThresholdsFrom c.self.inside.whole k c.self.inside.whole.side (p ∷ []) c.thresholds_after.result)
+          (to_z-of_z w64 c.args.komi_halves c.ranges.komi_halves) (c.thresholds_after.ensures.thresholds p change),
+    )

@@ -1,0 +1,12 @@
+//! The laws of thresholds where kos can arise.
+
+ghost use Rattle.cycle_solver.specs.Thresholds.{BothThresholdsExist, MovingFirstCostsAHalf, ThresholdsAreInOrder};
+
+/// On a settled board whose regions are steady there is exactly one threshold for each player, whoever moves first and after all
+/// stones; Black's is at most White's; and each is, where Black moves first, at least what it is where White does less one half.
+/// It has no code.
+pub fn cycle_threshold_laws()
+    ensures exist { BothThresholdsExist }
+    ensures order { ThresholdsAreInOrder }
+    ensures half { MovingFirstCostsAHalf }
+{}
