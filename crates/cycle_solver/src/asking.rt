@@ -93,7 +93,12 @@ fn fill(games: &[RegionGame], places: &[usize], player: Colour, budget: usize, s
 pub(crate) const ENOUGH: usize = 255;
 
 /// Whether a player wins.
-pub(crate) fn wins(present: &Present<'_>, search: &mut Search, sum: &mut [GameId], player: Colour) -> bool
+pub(crate) fn wins(
+    present: &Present<'_>,
+    search: &mut Search,
+    sum: &mut [GameId],
+    player: Colour,
+) -> bool
     requires seen { IsSeenFor present.now player enough sum.old }
     requires fits { Fits present.now.store.now search.old }
     ensures wins { IsTrue result ↔ IsWinner present.now.whole.now player }

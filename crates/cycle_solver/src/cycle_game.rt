@@ -109,7 +109,14 @@ impl CycleGame {
             return Err(CycleError::Points(lowest, points));
         }
         let mut known = first_known(alloc)?;
-        let games = region_games(alloc, &opening.regions, limits, most, &mut known.store, steps)?;
+        let games = region_games(
+            alloc,
+            &opening.regions,
+            limits,
+            most,
+            &mut known.store,
+            steps,
+        )?;
         let start = start_of(alloc, &games)?;
         Ok(CycleGame {
             whole: opening.whole,

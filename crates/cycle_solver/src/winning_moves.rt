@@ -17,12 +17,7 @@ use sum_outcome::Search;
 use whole_rules::Move;
 
 /// Whether a move of the side to move wins. The sum has that side's values.
-fn move_wins(
-    present: &Present<'_>,
-    search: &mut Search,
-    sum: &mut [GameId],
-    chosen: Move,
-) -> bool
+fn move_wins(present: &Present<'_>, search: &mut Search, sum: &mut [GameId], chosen: Move) -> bool
     requires seen { IsSeenFor present.now present.now.whole.now.side enough sum.old }
     requires fits { Fits present.now.store.now search.old }
     ensures wins { IsTrue result ↔ IsWinning present.now.whole.now chosen }

@@ -50,8 +50,9 @@ impl Chosen {
             Choice::Parts(n) if self.parts.is_none() => self.parts = Some(n),
             Choice::Engine(colour) if self.engine.is_none() => self.engine = Some(colour),
             Choice::Tax(taxed) if self.tax.is_none() => self.tax = Some(taxed),
-            Choice::Territory(declared) if self.territory.is_none() => self.territory =
-                Some(declared),
+            Choice::Territory(declared) if self.territory.is_none() => self.territory = Some(
+                declared,
+            ),
             _ => return None,
         }
         Some(self)

@@ -21,8 +21,7 @@ pub returns-clause-thresholds : goal.returns-clause-thresholds
 returns-clause-thresholds c =
     let p = c.args.point in
     let change = c.in_ok-change.ensures {u = tt} in
-    subst (λ v. IsLegal v.state (Stone p) × AreThresholdsFrom v.state c.args.komi_halves v.state.side (p ∷ []) c.thresholds_after.result) c.self.view_is
-    (
+    subst (λ v. IsLegal v.state (Stone p) × AreThresholdsFrom v.state c.args.komi_halves v.state.side (p ∷ []) c.thresholds_after.result) c.self.view_is (
       change.legal,
       subst (λ k. AreThresholdsFrom c.self.inside.whole k c.self.inside.whole.side (p ∷ []) c.thresholds_after.result)
           (to_z-of_z w64 c.args.komi_halves c.ranges.komi_halves) (c.thresholds_after.ensures.thresholds p change),
