@@ -7,7 +7,7 @@ use Rattle.desk_io.specs.Desk.{Known}
 use Rattle.desk_io.specs.Files.{Files}
 use Rattle.desk_io.specs.Lines.{UsesLines}
 use Rattle.desk_io.specs.Outside.{Rose}
-use Rattle.endgame_solver.specs.declared.limits.Limits.{Limits}
+use Rattle.gtp_engine.specs.declared.limits.EngineLimits.{EngineLimits}
 use Rattle.gtp_engine.specs.declared.end.GtpEnd.{GtpEnd}
 use Rattle.gtp_engine.specs.declared.end.GtpEnd.TheVariants as end
 use Rattle.gtp_engine.specs.Kept.{AreLoads}
@@ -31,7 +31,7 @@ no_loads : (count : ℕ) → AreFailedLoads count count []
 no_loads count = record { ascending = search rules; counted = omega arith }
 
 -- no memory for an engine
-pub engine_refused : (limits : Limits) (a b : Known) → b.input.loads ≡ a.input.loads → b.holds ≡ a.holds → IsEnginePlay limits a Memory b
+pub engine_refused : (limits : EngineLimits) (a b : Known) → b.input.loads ≡ a.input.loads → b.holds ≡ a.holds → IsEnginePlay limits a Memory b
 engine_refused limits a b loads same = record {
   failing = [];
   failed = subst (λ n. AreFailedLoads a.input.loads n []) (sym loads) (no_loads a.input.loads);
@@ -41,7 +41,7 @@ engine_refused limits a b loads same = record {
   written = told_written _ a.input.left (λ bytes is. ([], (beginning bytes, (0, (refl, refl), omega arith)), same ∙ nothing_behind a.holds));
 }
 
-stopped_whole : (limits : Limits) (files : Option Files) (failing bytes : List ℕ) (before now : Option (List ℕ)) (fault : Status) (text line : List ℕ) → IsEngineStopped limits files failing bytes fault text line
+stopped_whole : (limits : EngineLimits) (files : Option Files) (failing bytes : List ℕ) (before now : Option (List ℕ)) (fault : Status) (text line : List ℕ) → IsEngineStopped limits files failing bytes fault text line
     → now ≡ append_known before (text ++ line) → IsEngineWritten limits files failing bytes before now fault
 stopped_whole limits files failing bytes before now CannotRead text line h e = (text, line, h, e)
 stopped_whole limits files failing bytes before now TooManyLines text line h e = (text, line, h, e)
@@ -57,7 +57,7 @@ stopped_whole limits files failing bytes before now (status.BadFile f) text line
 stopped_whole limits files failing bytes before now (status.BadExpression f) text line h e = absurd h
 stopped_whole limits files failing bytes before now status.CalcLimit text line h e = absurd h
 
-module _ (limits : Limits) (a b : Known) (failing : List ℕ) (failed : AreFailedLoads a.input.loads b.input.loads failing) (middle : ℕ) (mid : Option (List ℕ)) (status : Status) where
+module _ (limits : EngineLimits) (a b : Known) (failing : List ℕ) (failed : AreFailedLoads a.input.loads b.input.loads failing) (middle : ℕ) (mid : Option (List ℕ)) (status : Status) where
   -- a status that stands behind a session without a line of its own
   pub ended : (own : Status) → IsEngineStatus own → own ≢ CannotRead → (own ≡ CannotWrite → Rose a.writes b.writes) → status ≡ own → b.holds ≡ mid
       → ((bytes : List ℕ) → a.input.left ≡ Some bytes → IsEngineWritten limits a.input.files failing bytes a.holds mid own) → IsEnginePlay limits a status b
@@ -105,7 +105,7 @@ module _ (limits : Limits) (a b : Known) (failing : List ℕ) (failed : AreFaile
   engine_play end.TooManyLines p rose writes later up c = stopped TooManyLines (codes "fault lines\n") tt (λ e. absurd cc) (λ e. absurd cc) later (λ bytes told. let h = p bytes told in (h.1, ((h.0, h.2), refl), h.3)) c
 
 -- the same of an engine that had answered nothing
-pub engine_ran : (limits : Limits) (a b : Known) (start over : Engine) (middle : ℕ) (mid : Option (List ℕ)) (status : Status) (final : GtpEnd) → start ≡ unused limits → AreLoads over.loads over.failed_loads
+pub engine_ran : (limits : EngineLimits) (a b : Known) (start over : Engine) (middle : ℕ) (mid : Option (List ℕ)) (status : Status) (final : GtpEnd) → start ≡ unused limits → AreLoads over.loads over.failed_loads
     → RoseBy (length over.failed_loads) a.input.loads b.input.loads → ((bytes : List ℕ) → a.input.left ≡ Some bytes → WritesByEnd start.limits a.input.files over.failed_loads bytes a.holds mid final)
     → (final ≡ end.ReadFault → Rose a.input.reads b.input.reads) → (final ≡ end.WriteFault → Rose a.writes middle) → a.writes ≤ middle → middle ≤ b.writes
     → IsClosed final middle b.writes mid b.holds status → IsEnginePlay limits a status b

@@ -10,6 +10,7 @@ use Rattle.gd_words.specs.Task.{BeginWith, Task}
 use Rattle.gd_words.specs.Task.Task.{ask, calc, gtp, play, trial}
 use Rattle.sgf_go.specs.declared.settings.Settings.{Settings}
 use Rattle.endgame_solver.specs.declared.limits.Limits.{Limits}
+use Rattle.gtp_engine.specs.declared.limits.EngineLimits.{EngineLimits}
 use Rattle.endgame_run.specs.Calc.{RunsCalc}
 use Rattle.endgame_run.specs.Engine.{RunsEngine}
 use Rattle.endgame_run.specs.File.{dash, told_of}
@@ -44,7 +45,7 @@ module _ {H S K : Type 0} (o : Outside H S K) (job : Job) (a : Desk H S K) (stat
   pub calc_runs : (limit : ℕ) (expression : List ℕ) → job.task ≡ calc expression → limit ≡ job.parts → RunsCalc o limit expression a status b → Runs o job a status b
   calc_runs limit expression is same h = subst (λ t. RunsTask o t job a status b) (sym is) (subst (λ l. RunsCalc o l expression a status b) same h)
 
-  pub engine_runs : (limits : Limits) → job.task ≡ gtp → limits ≡ engine_limits job → RunsEngine o limits a status b → Runs o job a status b
+  pub engine_runs : (limits : EngineLimits) → job.task ≡ gtp → limits ≡ engine_limits job → RunsEngine o limits a status b → Runs o job a status b
   engine_runs limits is same h = subst (λ t. RunsTask o t job a status b) (sym is) (subst (λ l. RunsEngine o l a status b) same h)
 
 module _ (job : Job) (i : Input) (before now : ℕ) where

@@ -1,5 +1,5 @@
 -- The board of a main line has one size throughout, so a fault's point lies on the file's board.
-use Rattle.std.proofs.Common.{◌≡◌, ℕ, ◌+◌, ◌*◌, ◌<◌, refl, sym, ap, subst, ◌∙◌, List, [], ◌∷◌, Bool, true, false, length, Some, None, Ok, Err}
+use Rattle.std.proofs.Common.{◌≡◌, ℕ, ◌+◌, ◌*◌, ◌<◌, refl, sym, ap, subst, ◌∙◌, ◌⊎◌, inl, inr, List, [], ◌∷◌, Bool, true, false, length, Some, None, Ok, Err}
 use Rattle.std.specs.Prelude.{Option, Result, codes, ℤ}
 use Rattle.std.proofs.lemmas.List.{length-set, length-replicate}
 use Rattle.go_grid.specs.declared.grid.Cell.{Cell}
@@ -15,7 +15,7 @@ use Rattle.sgf_go.specs.declared.replay.Replay.{Replay}
 use Rattle.sgf_go.specs.declared.settings.Settings.{Settings}
 use Rattle.sgf_go.specs.declared.settings.Setup.{Setup}
 use Rattle.sgf_go.specs.declared.fault.SetupFault.{SetupFault}
-use Rattle.sgf_go.specs.declared.fault.SetupFault.TheVariants.{WrongGame, BadSize, BadKomi, BadPoint, BadSide, Occupied, Suicide, NoLiberty}
+use Rattle.sgf_go.specs.declared.fault.SetupFault.TheVariants.{WrongGame, BadSize, BadKomi, BadPoint, BadSide, Occupied, Suicide, MarkedTwice, NoLiberty}
 use Rattle.sgf_go.specs.Values.{Rectangle, Extent, Says, trimmed}
 use Rattle.sgf_go.specs.Setup.{Part, ◌then◌, GoesOn, Skips, For, Sets, SetsValue, SetsValues, SetsProperty, cell_set, SetsSide, TurnsTo, side_of, TurnsByProperty, Choice, MovesAsChosen, moved, with_taken, placed, Moves, MovesProperty, mover, first_value, NodePart, Unless, LinePart, ends_before, value_of, root, is_go, IsBoardSize, empty_board, EndsMainLine, FromKomi, FromSize, FromGame, Gives}
 use Rattle.endgame_run.specs.inner.Position.{IsOnLine}
@@ -35,6 +35,7 @@ same_along g h k a b = record { columns = b.columns ∙ a.columns; rows = b.rows
 -- behind a part the board has the size that it had; a part has no fault of the end of the line
 abbrev Fine : Replay → Result Replay SetupFault → Type 0
 Fine s (Ok t) = SameSize s.board t.board
+Fine s (Err (MarkedTwice p)) = ⊥
 Fine s (Err (NoLiberty p)) = ⊥
 Fine s (Err f) = Unit {0}
 
@@ -46,6 +47,7 @@ fine_is s r q e h = subst (Fine s) (sym e) h
 
 fine_along : (s u : Replay) (r : Result Replay SetupFault) → SameSize s.board u.board → Fine u r → Fine s r
 fine_along s u (Ok t) a b = same_along s.board u.board t.board a b
+fine_along s u (Err (MarkedTwice p)) a b = b
 fine_along s u (Err (NoLiberty p)) a b = b
 fine_along s u (Err WrongGame) a b = tt
 fine_along s u (Err BadSize) a b = tt
@@ -138,27 +140,51 @@ keeps_line after turn node (ps ∷ line) s r h =
     keeps_unless (ends_before after ps s.played) (NodePart turn node ps then LinePart after turn (node + 1) line)
     (keeps_then (NodePart turn node ps) (LinePart after turn (node + 1) line) (keeps_node turn node ps) (keeps_line after turn (node + 1) line)) s r h
 
-from_end : (settings : Settings) (komi : ℤ) (e : Extent) (p : ℕ) (m : Result Replay SetupFault) → Fine (empty_board e) m → EndsMainLine settings komi m (Err (NoLiberty p)) → p < e.columns * e.rows
-from_end settings komi e p (Ok s) k h =
-    let same : p ≡ h.0 = cc h.2 in
-    let inside = h.1.choked.1.0 in
-    subst (λ n. p < n) (k.long ∙ length-replicate (e.columns * e.rows) cell.Empty) (subst (λ q. q < length s.board.cells) (sym same) inside)
-from_end settings komi e p (Err f) k h = absurd (fine_is (empty_board e) (Err (NoLiberty p)) (Err f) (err_same h) k) where
-  err_same : Path (Result Setup SetupFault) (Err (NoLiberty p)) (Err f) → Path (Result Replay SetupFault) (Err (NoLiberty p)) (Err f)
-  err_same e = let same : NoLiberty p ≡ f = cc in ap Err same
+-- the fault is one of the end of the line, at the point
+abbrev IsAtEnd : SetupFault → ℕ → Type 0
+IsAtEnd f p = (f ≡ MarkedTwice p) ⊎ (f ≡ NoLiberty p)
 
-from_komi : (settings : Settings) (line : List (List PropertyText)) (e : Extent) (p : ℕ) (o : Option ℤ) → FromKomi settings line e o (Err (NoLiberty p)) → p < e.columns * e.rows
-unfolding Keeps
-from_komi settings line e p None h = absurd cc
-from_komi settings line e p (Some k) h = from_end settings k e p h.0 (keeps_line settings.after settings.turn 0 line (empty_board e) h.0 h.1) h.2
+-- no part of a line has such a fault
+not_fine : (s : Replay) (f : SetupFault) (p : ℕ) → IsAtEnd f p → Fine s (Err f) → ⊥
+not_fine s f p (inl twice) fine = subst (λ x. Fine s (Err x)) twice fine
+not_fine s f p (inr choked) fine = subst (λ x. Fine s (Err x)) choked fine
 
-from_size : (settings : Settings) (line : List (List PropertyText)) (p : ℕ) (o : Option Extent) → Says (IsBoardSize (value_of (codes "SZ") (root line))) o → FromSize settings line o (Err (NoLiberty p)) → IsOnLine line p
-from_size settings line p None said h = absurd cc
-from_size settings line p (Some e) said h = (e, said, from_komi settings line e p h.0 h.2)
+nowhere : Replay
+nowhere = empty_board (record { columns = 0; rows = 0 })
 
-from_game : (settings : Settings) (line : List (List PropertyText)) (p : ℕ) (b : Bool) → FromGame settings line b (Err (NoLiberty p)) → IsOnLine line p
-from_game settings line p false h = absurd cc
-from_game settings line p true h = from_size settings line p h.0 h.1 h.2
+module _ (settings : Settings) (line : List (List PropertyText)) (f : SetupFault) (p : ℕ) (at_end : IsAtEnd f p) where
+  from_end : (komi : ℤ) (e : Extent) (m : Result Replay SetupFault) → Fine (empty_board e) m → EndsMainLine settings komi m (Err f) → p < e.columns * e.rows
+  from_end komi e (Ok s) k h =
+      let same : p ≡ h.0 = choked at_end in
+      let inside = h.1.choked.1.0 in
+      subst (λ n. p < n) (k.long ∙ length-replicate (e.columns * e.rows) cell.Empty) (subst (λ q. q < length s.board.cells) (sym same) inside)
+    where
+      choked : (f ≡ MarkedTwice p) ⊎ (f ≡ NoLiberty p) → p ≡ h.0
+      choked (inl twice) = let k : MarkedTwice p ≡ NoLiberty h.0 = sym twice ∙ h.2 in absurd cc
+      choked (inr is) = let k : NoLiberty p ≡ NoLiberty h.0 = sym is ∙ h.2 in cc
+  from_end komi e (Err g) k h = absurd (not_fine (empty_board e) f p at_end (fine_is (empty_board e) (Err f) (Err g) (err_same h) k)) where
+    err_same : Path (Result Setup SetupFault) (Err f) (Err g) → Path (Result Replay SetupFault) (Err f) (Err g)
+    err_same e = let same : f ≡ g = cc in ap Err same
+
+  -- no other fault is of the end of the line
+  never : (g : SetupFault) → Path (Result Setup SetupFault) (Err f) (Err g) → Fine nowhere (Err g) → ⊥
+  never g e fine = let same : f ≡ g = cc in not_fine nowhere f p at_end (subst (λ x. Fine nowhere (Err x)) (sym same) fine)
+
+  from_komi : (e : Extent) (o : Option ℤ) → FromKomi settings line e o (Err f) → p < e.columns * e.rows
+  unfolding Keeps
+  from_komi e None h = absurd (never BadKomi h tt)
+  from_komi e (Some k) h = from_end k e h.0 (keeps_line settings.after settings.turn 0 line (empty_board e) h.0 h.1) h.2
+
+  from_size : (o : Option Extent) → Says (IsBoardSize (value_of (codes "SZ") (root line))) o → FromSize settings line o (Err f) → IsOnLine line p
+  from_size None said h = absurd (never BadSize h tt)
+  from_size (Some e) said h = (e, said, from_komi e h.0 h.2)
+
+  from_game : (b : Bool) → FromGame settings line b (Err f) → IsOnLine line p
+  from_game false h = absurd (never WrongGame h tt)
+  from_game true h = from_size h.0 h.1 h.2
+
+pub twice_on_board : (settings : Settings) (line : List (List PropertyText)) (p : ℕ) → Gives settings line (Err (MarkedTwice p)) → IsOnLine line p
+twice_on_board settings line p h = from_game settings line (MarkedTwice p) p (inl refl) (is_go (value_of (codes "GM") (root line))) h
 
 pub no_liberty_on_board : (settings : Settings) (line : List (List PropertyText)) (p : ℕ) → Gives settings line (Err (NoLiberty p)) → IsOnLine line p
-no_liberty_on_board settings line p h = from_game settings line p (is_go (value_of (codes "GM") (root line))) h
+no_liberty_on_board settings line p h = from_game settings line (NoLiberty p) p (inr refl) (is_go (value_of (codes "GM") (root line))) h

@@ -5,7 +5,7 @@ use Rattle.std.specs.Io.KnownBytes.{append_known}
 use Rattle.desk_io.specs.Desk.{Desk, Known, Outside, known}
 use Rattle.desk_io.specs.Files.{Files}
 use Rattle.desk_io.specs.Outside.{Rose}
-use Rattle.endgame_solver.specs.declared.limits.Limits.{Limits}
+use Rattle.gtp_engine.specs.declared.limits.EngineLimits.{EngineLimits}
 use Rattle.gtp_engine.specs.declared.end.GtpEnd.{GtpEnd}
 use Rattle.gtp_engine.specs.declared.end.GtpEnd.TheVariants as end
 use Rattle.gtp_engine.specs.Session.{GtpStanding, IsGtpSession, WaitsToReply, BreaksOffReply, beginning}
@@ -21,11 +21,11 @@ pub record AreFailedLoads (before now : ℕ) (failing : List ℕ) : Type 0 where
   pub counted : RoseBy (length failing) before now
 
 -- a whole session over the bytes, with its end and its text
-abbrev pub IsEngineSession : Limits → Option Files → List ℕ → List ℕ → GtpEnd → List ℕ → Type 0
+abbrev pub IsEngineSession : EngineLimits → Option Files → List ℕ → List ℕ → GtpEnd → List ℕ → Type 0
 IsEngineSession limits files failing bytes final text = (b : GtpStanding) × IsGtpSession limits files failing (beginning bytes) text b final
 
 -- the replies to all lines up to one that is still to be answered
-abbrev pub AreRepliesSoFar : Limits → Option Files → List ℕ → List ℕ → List ℕ → Type 0
+abbrev pub AreRepliesSoFar : EngineLimits → Option Files → List ℕ → List ℕ → List ℕ → Type 0
 AreRepliesSoFar limits files failing bytes text = (b : GtpStanding) × WaitsToReply limits files failing (beginning bytes) text b
 
 -- the ends of a session that is done
@@ -44,14 +44,14 @@ IsEngineStatus Memory = Unit {0}
 IsEngineStatus s = ⊥
 
 -- the replies up to a fault, and the line of the fault: a read failed, or 10,000 lines were read and none of them ended the session
-abbrev pub IsEngineStopped : Limits → Option Files → List ℕ → List ℕ → Status → List ℕ → List ℕ → Type 0
+abbrev pub IsEngineStopped : EngineLimits → Option Files → List ℕ → List ℕ → Status → List ℕ → List ℕ → Type 0
 IsEngineStopped limits files failing bytes CannotRead text line = AreRepliesSoFar limits files failing bytes text × (line ≡ codes "fault cannot read\n")
 IsEngineStopped limits files failing bytes TooManyLines text line = IsEngineSession limits files failing bytes end.TooManyLines text × (line ≡ codes "fault lines\n")
 IsEngineStopped limits files failing bytes status text line = ⊥
 
 -- What the engine has written in answer to the bytes, by its status: the session, and the line of a fault behind it. For want of memory
 -- it is whole replies. Where a write failed it is replies and a front part of the next one, or a front part of the fault's line.
-abbrev pub IsEngineWritten : Limits → Option Files → List ℕ → List ℕ → Option (List ℕ) → Option (List ℕ) → Status → Type 0
+abbrev pub IsEngineWritten : EngineLimits → Option Files → List ℕ → List ℕ → Option (List ℕ) → Option (List ℕ) → Status → Type 0
 IsEngineWritten limits files failing bytes before now Done = (final : GtpEnd) × (text : List ℕ) × IsSessionOver final
     × IsEngineSession limits files failing bytes final text × (now ≡ append_known before text)
 IsEngineWritten limits files failing bytes before now Memory = (text : List ℕ) × AreRepliesSoFar limits files failing bytes text × (now ≡ append_known before text)
@@ -63,7 +63,7 @@ IsEngineWritten limits files failing bytes before now status =
 
 -- A session of the engine within the limits: its status, and its text where the source tells its bytes, for some loads that failed. A read
 -- or a write that failed was counted.
-pub record IsEnginePlay (limits : Limits) (a : Known) (status : Status) (b : Known) : Type 0 where
+pub record IsEnginePlay (limits : EngineLimits) (a : Known) (status : Status) (b : Known) : Type 0 where
   pub failing : List ℕ
   pub failed : AreFailedLoads a.input.loads b.input.loads failing
   pub ends : IsEngineStatus status
@@ -72,6 +72,6 @@ pub record IsEnginePlay (limits : Limits) (a : Known) (status : Status) (b : Kno
   pub written : IfSome a.input.left (λ bytes. IsEngineWritten limits a.input.files failing bytes a.holds b.holds status)
 
 -- what a session of the engine comes to
-pub record RunsEngine {H S K : Type 0} (o : Outside H S K) (limits : Limits) (a : Desk H S K) (status : Status) (b : Desk H S K) : Type 0 where
+pub record RunsEngine {H S K : Type 0} (o : Outside H S K) (limits : EngineLimits) (a : Desk H S K) (status : Status) (b : Desk H S K) : Type 0 where
   pub played : IsEnginePlay limits (known o a) status (known o b)
   pub taken : TakesAtMost most_of_engine (o.sources.left a.lines) (o.sources.left b.lines)

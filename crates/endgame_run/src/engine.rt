@@ -1,6 +1,6 @@
 //! Sessions of the engine.
 
-ghost use Rattle.std.specs.Prelude.{◌≡◌, ◌≤◌, false};
+ghost use Rattle.std.specs.Prelude.{◌≤◌};
 ghost use Rattle.desk_io.specs.Desk.{IsLater, desk, known, outside};
 ghost use Rattle.endgame_run.specs.Engine.{RunsEngine};
 ghost use Rattle.endgame_run.specs.inner.Top.{IsClosed};
@@ -8,8 +8,7 @@ ghost use Rattle.endgame_run.specs.inner.Top.{IsClosed};
 use crate::ending::finish;
 use crate::status::Status;
 use desk_io::{Shelf, Sink, Source};
-use endgame_solver::Limits;
-use gtp_engine::{Engine, GtpEnd};
+use gtp_engine::{Engine, EngineLimits, GtpEnd};
 use local_graph::MOST_POSITIONS;
 use local_play::Steps;
 use std::alloc::Global;
@@ -33,14 +32,13 @@ fn close<K: Sink>(end: GtpEnd, out: &mut K) -> Status
 /// Answers the lines of the source by an engine within the limits, over the files of the shelf.
 pub(crate) fn run_gtp<H: Shelf, S: Source, K: Sink, L: Ledger>(
     alloc: Global,
-    limits: Limits,
+    limits: EngineLimits,
     shelf: &mut H,
     lines: &mut S,
     out: &mut K,
     steps: &mut Steps<L>,
 ) -> Status
     requires modest { limits.positions ≤ MOST_POSITIONS }
-    requires no_tax { limits.tax ≡ false }
     ensures ran { RunsEngine (outside H.Shelf S.Source K.Sink) limits
         (desk shelf.old lines.old out.old) result (desk shelf.new lines.new out.new) }
     ensures later { IsLater

@@ -4,7 +4,7 @@ ghost use Rattle.std.specs.Prelude.{◌≡◌, ◌<◌, ◌*◌, IfOk, string_by
 ghost use Rattle.go_grid.specs.Name.{point_name};
 ghost use Rattle.board_words.specs.Words.{word_line};
 ghost use Rattle.endgame_run.specs.Texts.{fault_line, fault_line_at};
-ghost use Rattle.endgame_run.specs.Position.{IsSetupFaultText, IsTreeFaultText};
+ghost use Rattle.endgame_run.specs.Position.{IsPointFaultText, IsSetupFaultText, IsTreeFaultText};
 ghost use Rattle.endgame_run.specs.inner.Position.{IsOnLine};
 ghost use Rattle.sgf_go.specs.Setup.{Gives};
 ghost use Rattle.sgf_go.specs.declared.settings.Settings.{Settings};
@@ -48,17 +48,22 @@ fn fault_line_at(alloc: Global, what: &str, number: u32) -> Result<String, Alloc
     format!(in alloc; "fault file {what} {number}\n")
 }
 
-/// The line of a point without a liberty, named by the size of the record's board.
-fn no_liberty_text(alloc: Global, tree: &Tree, point: Point) -> Result<String, AllocError>
+/// The line of a point with a fault, named by the size of the record's board.
+fn point_fault_text(
+    alloc: Global,
+    tree: &Tree,
+    label: &str,
+    point: Point,
+) -> Result<String, AllocError>
     requires { IsOnLine (line_text tree.now) point }
-    ensures { IfOk result (λ text. IsSetupFaultText (line_text tree.now)
-        (SetupFault.NoLiberty point) (string_bytes text)) }
+    ensures { IfOk result (λ text. IsPointFaultText (line_text tree.now) label.now point
+        (string_bytes text)) }
 {
     let Some(size) = size_of_board(tree) else {
         // A point was named by the size of the same record.
         unreachable!()
     };
-    let text = point_text(alloc, "fault file no liberty at", size, point)?;
+    let text = point_text(alloc, label, size, point)?;
     Ok(text)
 }
 
@@ -92,6 +97,11 @@ pub(crate) fn setup_fault_text(
         SetupFault::BadSide => fault_line(alloc, "bad side"),
         SetupFault::Occupied(node) => fault_line_at(alloc, "occupied at node", node),
         SetupFault::Suicide(node) => fault_line_at(alloc, "suicide at node", node),
-        SetupFault::NoLiberty(point) => no_liberty_text(alloc, tree, point),
+        SetupFault::MarkedTwice(point) => {
+            point_fault_text(alloc, tree, "fault file marked twice at", point)
+        }
+        SetupFault::NoLiberty(point) => {
+            point_fault_text(alloc, tree, "fault file no liberty at", point)
+        }
     }
 }

@@ -1,6 +1,6 @@
 //! Games of files.
 
-ghost use Rattle.std.specs.Prelude.{◌≡◌, ◌≢◌, ◌≤◌, [], IfOk};
+ghost use Rattle.std.specs.Prelude.{◌≡◌, ◌≢◌, ◌≤◌, [], true, false, IfOk};
 ghost use Rattle.desk_io.specs.Desk.{IsLater, desk, input_of, known, outside};
 ghost use Rattle.endgame_run.specs.File.{ReadsFile, TakesAtMost, dash, most_of_game, told_of};
 ghost use Rattle.endgame_run.specs.Game.{IsPlayRun, PlaysFile};
@@ -33,6 +33,7 @@ fn open_game<H: Shelf, S: Source, L: Ledger>(
 ) -> Result<Opened, AllocError>
     requires ranges { HasRanges settings.now }
     requires modest { game.now.limits.positions ≤ MOST_POSITIONS }
+    requires untaxed { game.now.limits.tax ≡ true → settings.now.territory ≡ false }
     ensures opened { IfOk result (IsOpened game.now.limits game.now.engine settings.now
         game.now.word.now (input_of H.Shelf S.Source shelf.old lines.old)
         (input_of H.Shelf S.Source shelf.new lines.new)) }
@@ -81,6 +82,7 @@ pub(crate) fn run_game<H: Shelf, S: Source, K: Sink, L: Ledger>(
 ) -> Status
     requires ranges { HasRanges settings.now }
     requires modest { game.now.limits.positions ≤ MOST_POSITIONS }
+    requires untaxed { game.now.limits.tax ≡ true → settings.now.territory ≡ false }
     requires apart { game.now.word.now ≢ dash }
     ensures ran { PlaysFile (outside H.Shelf S.Source K.Sink) game.now.limits game.now.engine
         settings.now game.now.word.now

@@ -5,6 +5,7 @@ use endgame_solver::Limits;
 use game_text::Text;
 use gd_words::Question;
 use go_grid::Colour;
+use gtp_engine::EngineLimits;
 use play_session::Session;
 use sgf_go::Setup;
 
@@ -41,7 +42,7 @@ pub(crate) enum Asked<'a> {
     /// The answer to an expression.
     Calc(Line<'a>),
     /// The engine, within limits.
-    Gtp(Limits),
+    Gtp(EngineLimits),
 }
 
 /// A status and its text.

@@ -1,6 +1,6 @@
 //! Questions about the position of a file, each of which is answered by one text.
 
-ghost use Rattle.std.specs.Prelude.{◌≡◌, ◌≤◌, IfOk};
+ghost use Rattle.std.specs.Prelude.{◌≡◌, ◌≤◌, true, false, IfOk};
 ghost use Rattle.desk_io.specs.Desk.{IsLater, desk, input_of, known, outside};
 ghost use Rattle.desk_io.specs.Outside.{ended};
 ghost use Rattle.sgf_go.specs.Position.{IsFit};
@@ -81,6 +81,7 @@ fn answer<H: Shelf, S: Source, L: Ledger>(
 ) -> Result<Report, AllocError>
     requires ranges { HasRanges settings.now }
     requires modest { inquiry.now.limits.positions ≤ MOST_POSITIONS }
+    requires untaxed { inquiry.now.limits.tax ≡ true → settings.now.territory ≡ false }
     ensures answer { IfOk result (λ report. IsAnswer inquiry.now.question inquiry.now.limits
         settings.now inquiry.now.word.now (input_of H.Shelf S.Source shelf.old lines.old)
         (input_of H.Shelf S.Source shelf.new lines.new) report.status report.text) }
@@ -119,6 +120,7 @@ pub(crate) fn run_question<H: Shelf, S: Source, K: Sink, L: Ledger>(
 ) -> Status
     requires ranges { HasRanges settings.now }
     requires modest { inquiry.now.limits.positions ≤ MOST_POSITIONS }
+    requires untaxed { inquiry.now.limits.tax ≡ true → settings.now.territory ≡ false }
     ensures ran { AnswersQuestion (outside H.Shelf S.Source K.Sink) inquiry.now.question
         inquiry.now.limits settings.now inquiry.now.word.now
         (desk shelf.old lines.old out.old) result (desk shelf.new lines.new out.new) }

@@ -21,6 +21,7 @@ use crate::trial::run_trial;
 use desk_io::{Shelf, Sink, Source};
 use endgame_solver::Limits;
 use gd_words::{Command, Job, Question};
+use gtp_engine::EngineLimits;
 use local_play::Steps;
 use std::alloc::Global;
 use std::sync::ledger::Ledger;
@@ -36,13 +37,14 @@ fn limits(job: &Job<'_>) -> Limits
     }
 }
 
-/// The limits of an engine, where there is no tax.
-fn limits_of_engine(job: &Job<'_>) -> Limits
+/// The limits of an engine, and whether points are declared.
+fn limits_of_engine(job: &Job<'_>) -> EngineLimits
     ensures { result ≡ engine_limits (viewed job.now) }
 {
-    Limits {
-        tax: false,
-        ..limits(job)
+    EngineLimits {
+        positions: job.positions,
+        parts: job.parts,
+        territory: job.settings.territory,
     }
 }
 

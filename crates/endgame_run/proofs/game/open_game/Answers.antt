@@ -24,5 +24,4 @@ pub begin-requires-clause-taxed : goal.begin-requires-clause-taxed
 begin-requires-clause-taxed g c =
     let i = input_of g.H.Shelf g.S.Source c.args.shelf.now c.args.lines.now in
     let j = input_of g.H.Shelf g.S.Source c.find_position.new.shelf c.find_position.new.lines in
-    position_may_tax _ c.args.settings.now c.in-Position.setup c.args.game.now.limits.tax
-    (found_position c.args.settings.now c.args.game.now.word.now i j c.in_ok-setup.field-0 c.in-Position.setup c.in-Position.is c.in_ok-setup.ensures.found)
+    position_may_tax c.args.settings.now c.args.game.now.word.now i j c.in_ok-setup.field-0 c.in-Position.setup c.args.game.now.limits.tax c.in-Position.is c.in_ok-setup.ensures.found c.requires.untaxed

@@ -14,5 +14,4 @@ pub report_on_position-requires-clause-taxed : goal.report_on_position-requires-
 report_on_position-requires-clause-taxed g c =
     let i = input_of g.H.Shelf g.S.Source c.args.shelf.now c.args.lines.now in
     let j = input_of g.H.Shelf g.S.Source c.find_position.new.shelf c.find_position.new.lines in
-    position_may_tax _ c.args.settings.now c.in-Position.setup c.args.inquiry.now.limits.tax
-    (found_position c.args.settings.now c.args.inquiry.now.word.now i j c.in_ok-setup.field-0 c.in-Position.setup c.in-Position.is c.in_ok-setup.ensures.found)
+    position_may_tax c.args.settings.now c.args.inquiry.now.word.now i j c.in_ok-setup.field-0 c.in-Position.setup c.args.inquiry.now.limits.tax c.in-Position.is c.in_ok-setup.ensures.found c.requires.untaxed

@@ -1,4 +1,4 @@
-use Rattle.std.proofs.Common.{refl, subst}
+use Rattle.std.proofs.Common.{ap, refl, subst, sym, ◌∙◌}
 use Rattle.desk_io.specs.Desk.{desk, input_of, outside}
 use Rattle.gd_words.specs.Viewed.{viewed}
 use Rattle.endgame_run.specs.inner.Top.{IsAsked}
@@ -42,3 +42,13 @@ returns-in-Gtp-clause-ran g c =
     let own = subst (IsAsked (viewed c.args.job.now)) c.in-Gtp.is c.asked.ensures in
     engine_runs (outside g.H.Shelf g.S.Source g.K.Sink) (viewed c.args.job.now) (desk c.args.shelf.now c.args.lines.now c.args.out.now) c.run_gtp.result
     (desk c.run_gtp.new.shelf c.run_gtp.new.lines c.run_gtp.new.out) c.in-Gtp.limits own.0 own.1 c.run_gtp.ensures.ran
+
+pub run_question-requires-clause-untaxed : goal.run_question-requires-clause-untaxed
+run_question-requires-clause-untaxed g c taxed =
+    let own = subst (IsAsked (viewed c.args.job.now)) c.in-Answer.is c.asked.ensures in
+    c.requires.bounds.untaxed (ap (λ l. l.tax) (sym own.1) ∙ taxed)
+
+pub run_game-requires-clause-untaxed : goal.run_game-requires-clause-untaxed
+run_game-requires-clause-untaxed g c taxed =
+    let own = subst (IsAsked (viewed c.args.job.now)) c.in-Game.is c.asked.ensures in
+    c.requires.bounds.untaxed (ap (λ l. l.tax) (sym own.1) ∙ taxed)

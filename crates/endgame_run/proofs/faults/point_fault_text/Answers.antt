@@ -1,7 +1,7 @@
 use Rattle.std.proofs.Common.{◌<◌, ◌*◌, subst, sym}
 use Rattle.sgf_go.specs.Reading.{extent}
 use Rattle.sgf_go.proofs.OnePositionLemmas.{one_board_size}
-use Rattle.endgame_run.proofs.faults.no_liberty_text.Goals as goal
+use Rattle.endgame_run.proofs.faults.point_fault_text.Goals as goal
 
 pub point_text-requires : goal.point_text-requires
 point_text-requires c =
