@@ -27,7 +27,7 @@ const PLAIN: Job<'static> = Job {
 };
 
 /// Words between tildes, and their jobs.
-const JOBS: [(&str, Job<'static>); 16] = [
+const JOBS: [(&str, Job<'static>); 19] = [
     ("solve~c", PLAIN),
     (
         "solve~-",
@@ -138,6 +138,32 @@ const JOBS: [(&str, Job<'static>); 16] = [
         },
     ),
     (
+        "board~c~--territory~yes",
+        Job {
+            settings: Settings {
+                territory: true,
+                ..NOTHING_SET
+            },
+            command: Command::Board("c"),
+            ..PLAIN
+        },
+    ),
+    (
+        "solve~c~--tax~yes~--territory~no",
+        Job { tax: true, ..PLAIN },
+    ),
+    (
+        "gtp~--territory~yes",
+        Job {
+            settings: Settings {
+                territory: true,
+                ..NOTHING_SET
+            },
+            command: Command::Gtp,
+            ..PLAIN
+        },
+    ),
+    (
         "gtp~--parts~1~--positions~2",
         Job {
             positions: 2,
@@ -149,7 +175,7 @@ const JOBS: [(&str, Job<'static>); 16] = [
 ];
 
 /// Words between tildes that are outside the grammar.
-const FAULTY: [&str; 46] = [
+const FAULTY: [&str; 51] = [
     "",
     "solve",
     "solve~",
@@ -186,6 +212,11 @@ const FAULTY: [&str; 46] = [
     "trial~7~--tax~no",
     "safe~c~--tax~yes",
     "solve~c~--tax~2",
+    "solve~c~--territory~maybe",
+    "solve~c~--territory~no~--territory~no",
+    "play~c~--territory~yes~--tax~yes",
+    "trial~7~--territory~no",
+    "calc~0~--territory~no",
     "calc",
     "calc~",
     "calc~0~--positions~5",

@@ -3,8 +3,7 @@
 ghost use Rattle.std.specs.Prelude.{◌≡◌, ◌<◌, ◌≤◌};
 
 use desk_io::{MemoryShelf, MemorySink, MemorySource};
-use endgame_solver::Limits;
-use gtp_engine::{Engine, GtpEnd};
+use gtp_engine::{Engine, EngineLimits, GtpEnd};
 use local_play::Steps;
 use std::alloc::{AllocError, Global};
 use std::marker::Brand;
@@ -22,10 +21,10 @@ const CORRIDOR: &[u8] =
 const ATARI: &[u8] = b"(;SZ[10:5]KM[-0.5]AB[ba][da:fa][ab:db][ac:fc][ad:fd][hd:id][ae:fe]\
     AW[ga][ia][eb][gb:jb][gc:jc][jd][ge:je])";
 
-const LIMITS: Limits = Limits {
+const LIMITS: EngineLimits = EngineLimits {
     positions: 100_000,
     parts: 500,
-    tax: false,
+    territory: false,
 };
 
 /// What a session comes to: its end, how many loads there were, those that failed, and what was written.

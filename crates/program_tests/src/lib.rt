@@ -32,4 +32,6 @@ mod source_tests;
 #[cfg(test)]
 mod tax_tests;
 #[cfg(test)]
+mod territory_tests;
+#[cfg(test)]
 mod values_tests;

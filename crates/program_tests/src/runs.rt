@@ -2,6 +2,7 @@
 
 ghost use Rattle.std.specs.Prelude.{◌≡◌, ◌<◌, ◌≤◌};
 
+use crate::territory_tests::{TWICE, WALLS};
 use desk_io::{MemoryShelf, MemorySink, MemorySource, Sink};
 use endgame_run::{Status, run};
 use local_play::Steps;
@@ -60,7 +61,7 @@ pub(crate) const NOTHING_FAILS: Failing = Failing {
 };
 
 /// The files of the tests by their names on the shelf.
-const FILES: [(&str, &[u8]); 9] = [
+const FILES: [(&str, &[u8]); 11] = [
     ("a", TIE),
     ("b", TWO_POINTS),
     ("c", ONE_POINT),
@@ -70,6 +71,8 @@ const FILES: [(&str, &[u8]); 9] = [
     ("visited", VISITED),
     ("g", CAPTIVE),
     ("saved", SAVED),
+    ("walls", WALLS),
+    ("twice", TWICE),
 ];
 
 /// A shelf with the files of the tests.
