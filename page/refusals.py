@@ -13,6 +13,7 @@ ADVICE = [
     ('fault region', 'This region has more than 32 points. Mostly a wall near it is not alive, and all that it walls off, and the wall, '
      'is one region.', 'Find the chain that should be a wall and is drawn open; give it two eyes of one point, or connect it.'),
     ('fault form', 'A value of this region is past a limit.', 'Allow more parts, or make the region smaller by a stone that closes part of it.'),
+    ('fault file marked twice', 'A point is marked as the territory of both players.', 'Take one of the two marks off.'),
     ('fault file no liberty', 'A chain stands without a liberty.', 'Take a stone off.'),
     ('fault file bad komi', 'The komi of the file is neither whole nor half.', 'Give a komi here, and that of the file is not read.'),
     ('fault file bad side', 'The file names a side that is neither black nor white.', 'Give the side to move here.'),
@@ -43,7 +44,7 @@ def explained(command, line):
         moves = stones_of(words[4:])
     elif line.startswith(('fault region', 'fault form')):
         at = words[2]
-    elif line.startswith('fault file no liberty'):
+    elif line.startswith(('fault file no liberty', 'fault file marked twice')):
         at = words[-1]
     return {
         'command': command, 'line': line, 'means': means, 'advice': advice, 'remedies': remedies, 'at': at, 'moves': moves, 'returns': returns}

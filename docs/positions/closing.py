@@ -142,6 +142,24 @@ class Closed:
         return len(self.filled(colour)) + len(self.taken(colour))
 
 
+class Marked:
+    """A position with its territory marked: the board as it is, the open points, and for each colour the points marked for it, dead
+    stones included. Nobody is paid, since the program pays for what it seals."""
+
+    def __init__(self, board, end, owners, played, depth):
+        self.board = board
+        self.open = open_points(board, end, owners, played, depth)
+        sure = [point for point in board.points() if point not in self.open and board.stones.get(point) != owners[point]]
+        self.marks = {colour: [point for point in sure if owners[point] == colour] for colour in COLOURS}
+
+    def taken(self, colour):
+        """The dead stones among the colour's marked points."""
+        return [point for point in self.marks[colour] if point in self.board.stones]
+
+    def paid(self, colour):
+        return 0
+
+
 def open_points(board, end, owners, played, depth):
     """The points at which something still happened after the position, and the territory within `depth` steps of them."""
     found = set(played)
@@ -200,6 +218,9 @@ class Game:
     def closed(self, depth):
         return Closed(self.setup.board, self.end, self.owners, self.later + self.further, depth)
 
+    def marked(self, depth):
+        return Marked(self.setup.board, self.end, self.owners, self.later + self.further, depth)
+
 
 def komi_words(komi):
     return [] if komi is None else ['--komi', komi]
@@ -220,16 +241,16 @@ def komi(setup, closed):
     return komi_text(komi_halves(setup.komi) + 2 * (white - black))
 
 
-def fill_pairs(board, written):
+def fill_pairs(board, written, options=()):
     """Fills pairs of neutral points, one for each player, as long as the program finds a cycle with one. `written` gives the file of the
     board. Gives the pairs that were filled."""
     filled = []
     while True:
-        line = ask('solve', written(board))[0].split()
+        line = ask('solve', written(board), options)[0].split()
         if line[:2] != ['fault', 'cycle']:
             return filled
         on_cycle = {board.point(word.partition(':')[2]) for word in line[4:]}
-        drawn, _ = signs(board, ask('safe', written(board)))
+        drawn, _ = signs(board, ask('safe', written(board), options))
         empty = [pair for pair in pairs(board, drawn) if not board.stones.keys() & set(pair)]
         here = [pair for pair in empty if on_cycle.issuperset(pair)]
         if not here:

@@ -278,13 +278,14 @@ def escaped(text):
     return '\n'.join(map(printable, text.split('\n'))).replace('\\', '\\\\').replace(']', '\\]')
 
 
-def sgf(board, side, komi=None, comment='', title=''):
-    """A file with the board as its one node; the komi is a text, or None for none."""
+def sgf(board, side, komi=None, comment='', title='', marks=None):
+    """A file with the board as its one node; the komi is a text, or None for none. `marks` has the points of each colour's territory."""
     size = str(board.columns) if board.columns == board.rows else '%d:%d' % (board.columns, board.rows)
     lines = ['(;GM[1]FF[4]CA[UTF-8]SZ[%s]%sPL[%s]' % (size, 'KM[%s]' % komi if komi else '', side[0].upper())]
     lines += ['GN[%s]' % escaped(title)] if title else []
-    for key, colour in (('AB', 'black'), ('AW', 'white')):
-        points = ['[%s]' % board.name(point) for point in board.points() if board.stones.get(point) == colour]
+    stones = [(key, [point for point in board.points() if board.stones.get(point) == colour]) for key, colour in (('AB', 'black'), ('AW', 'white'))]
+    for key, named in stones + [(key, (marks or {}).get(colour, [])) for key, colour in MARKS.items()]:
+        points = ['[%s]' % board.name(point) for point in named]
         for at in range(0, len(points), 20):
             lines.append((key if at == 0 else '') + ''.join(points[at:at + 20]))
     lines += ['C[%s]' % escaped(comment)] if comment else []

@@ -93,15 +93,24 @@ fn moves_with_cycles(rt: HostRuntime) -> Result<(), CycleError> {
     Ok(())
 }
 
+/// Why the game isn't solved within the limits, if it isn't.
+fn refusal<L: Ledger>(alloc: Global, blank: Blank, game: Game, limits: Limits) -> Option<CycleError>
+    requires name { blank.name ≡ L.name }
+    requires parts { blank.parts ≡ L.parts }
+    requires some { 0 < blank.parts }
+{
+    match begin::<L>(alloc, blank, game, limits, 32) {
+        Ok(_solved) => None,
+        Err(fault) => Some(fault),
+    }
+}
+
 #[test]
 fn too_many_positions(rt: HostRuntime) {
     let limits = Limits {
         positions: 7,
         ..LIMITS
     };
-    let refused = match begin::<Brand>(rt.alloc(), Blank::new(1), ENDLESS, limits, 32) {
-        Err(CycleError::Positions(Point(14))) => true,
-        _ => false,
-    };
-    assert!(rt; refused);
+    let refusal = refusal::<Brand>(rt.alloc(), Blank::new(1), ENDLESS, limits);
+    assert!(rt; refusal == Some(CycleError::Positions(Point(14))));
 }
