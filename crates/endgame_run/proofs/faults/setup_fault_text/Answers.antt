@@ -8,8 +8,8 @@ pub point_fault_text-requires : goal.point_fault_text-requires
 point_fault_text-requires c =
     twice_on_board c.requires.0 (line_text c.args.tree.now) c.in-MarkedTwice.point (subst (λ f. Gives c.requires.0 (line_text c.args.tree.now) (Err f)) c.in-MarkedTwice.is c.requires.1)
 
-pub point_fault_text-in-NoLiberty-requires : goal.point_fault_text-in-NoLiberty-requires
-point_fault_text-in-NoLiberty-requires c =
+pub point_fault_text-requires-in-NoLiberty : goal.point_fault_text-requires-in-NoLiberty
+point_fault_text-requires-in-NoLiberty c =
     no_liberty_on_board c.requires.0 (line_text c.args.tree.now) c.in-NoLiberty.point (subst (λ f. Gives c.requires.0 (line_text c.args.tree.now) (Err f)) c.in-NoLiberty.is c.requires.1)
 
 pub returns-in-Occupied : goal.returns-in-Occupied
