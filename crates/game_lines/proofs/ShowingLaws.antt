@@ -14,11 +14,22 @@ none_unshown G text is few within (inr (inl long)) = let e = ap length is in ome
 none_unshown G text is few within (inr (inr deep)) = omega (arith, few.1, deep)
 
 -- the lines, piece by piece
-pub lines_are : (t a b d U T back P : List ℕ) → a ≡ t ++ codes "value " → b ≡ a ++ U → U ≡ T → d ≡ b ++ back → back ≡ codes "\n" ++ P → d ≡ t ++ (word_line (codes "value") T ++ P)
+pub lines_are : (t a b d e label L U T back P : List ℕ) → a ≡ t ++ L → L ≡ label → b ≡ a ++ codes " " → d ≡ b ++ U → U ≡ T → e ≡ d ++ back
+    → back ≡ codes "\n" ++ P → e ≡ t ++ (word_line label T ++ P)
 unfolding word_line
-lines_are t a b d U T back P first second text third is =
-    third ∙ ap (λ x. x ++ back) (second ∙ ap (λ x. a ++ x) text ∙ ap (λ x. x ++ T) first ∙ append_assoc t (codes "value ") T) ∙ append_assoc t (codes "value " ++ T) back
-    ∙ ap (λ x. t ++ x) (append_assoc (codes "value ") T back ∙ ap (λ x. codes "value " ++ (T ++ x)) is ∙ ap (λ x. codes "value " ++ x) (tail T P))
+lines_are t a b d e label L U T back P first named blank second text third is =
+    third ∙ (λ i. ends i ++ is i) ∙ append_assoc t front (codes "\n" ++ P) ∙ ap (λ x. t ++ x) (pieces label T P)
   where
-    tail : (T P : List ℕ) → T ++ (codes "\n" ++ P) ≡ (T ++ codes "\n") ++ P
-    tail T P = sym (append_assoc T (codes "\n") P)
+    front : List ℕ
+    front = label ++ (codes " " ++ T)
+
+    ends : d ≡ t ++ front
+    ends =
+        second ∙ (λ i. (blank i) ++ text i) ∙ ap (λ x. (x ++ codes " ") ++ T) (first ∙ ap (λ x. t ++ x) named)
+        ∙ append_assoc (t ++ label) (codes " ") T ∙ append_assoc t label (codes " " ++ T)
+
+    pieces : (label T P : List ℕ) → (label ++ (codes " " ++ T)) ++ (codes "\n" ++ P) ≡ (label ++ (codes " " ++ (T ++ codes "\n"))) ++ P
+    pieces label T P =
+        append_assoc label (codes " " ++ T) (codes "\n" ++ P) ∙ ap (λ x. label ++ x) (append_assoc (codes " ") T (codes "\n" ++ P)
+        ∙ ap (λ x. codes " " ++ x) (sym (append_assoc T (codes "\n") P)) ∙ sym (append_assoc (codes " ") (T ++ codes "\n") P))
+        ∙ sym (append_assoc label (codes " " ++ (T ++ codes "\n")) P)

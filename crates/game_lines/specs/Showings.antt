@@ -24,9 +24,13 @@ pub record IsShowing (G : Tree) (s : Showing) : Type 0 where
   pub drawn : IsPicture G (picture s)
   pub shown : IsUnshown G → ⊥
 
+-- the lines on a game with this text, behind a label, and with this picture
+abbrev pub labelled_lines : List ℕ → List ℕ → Picture → List ℕ
+labelled_lines label text drawn = word_line label text ++ picture_lines drawn
+
 -- the lines on a game with this text, and with this picture
 abbrev pub game_lines : List ℕ → Picture → List ℕ
-game_lines text drawn = word_line (codes "value") text ++ picture_lines drawn
+game_lines = labelled_lines (codes "value")
 
 -- why a game isn't shown
 abbrev pub IsShowRefusal : Tree → ShowError → Type 0

@@ -4,4 +4,4 @@
 mod picture;
 mod showing;
 
-pub use showing::{ShowError, Showing, show, write_showing};
+pub use showing::{ShowError, Showing, show, write_labelled, write_showing};

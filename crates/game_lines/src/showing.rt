@@ -5,7 +5,7 @@ ghost use Rattle.short_games.specs.Tree.{tree_at};
 ghost use Rattle.game_text.specs.NamedText.{named_depth, named_text};
 ghost use Rattle.thermograph.specs.PastBounds.{IsDrawnPastBounds};
 ghost use Rattle.game_lines.specs.Pictures.{IsThermograph, picture_lines};
-ghost use Rattle.game_lines.specs.Showings.{IsShowRefusal, IsShowing, IsUnshown, game_lines, picture};
+ghost use Rattle.game_lines.specs.Showings.{IsShowRefusal, IsShowing, IsUnshown, game_lines, labelled_lines, picture};
 ghost use Rattle.game_lines.specs.declared.showing.ShowError.TheVariants as the_error;
 ghost use Rattle.game_lines.specs.declared.showing.ShowError.TheVariants.{Form, Memory};
 
@@ -108,14 +108,28 @@ fn picture_text(alloc: Global, showing: &Showing) -> Result<String, AllocError>
     Ok(lines)
 }
 
+/// Appends the lines that show a game, with this label in the place of `value`.
+pub fn write_labelled(
+    alloc: Global,
+    text: &mut Text,
+    label: &str,
+    showing: &Showing,
+) -> Result<(), AllocError>
+    ensures { OnOk result (text.new ≡ text.old ++ labelled_lines label.now showing.now.text
+        (picture showing.now)) }
+{
+    text.extend_from_slice(label.as_bytes())?;
+    text.extend_from_slice(b" ")?;
+    text.extend_from_slice(showing.text.as_slice())?;
+    let picture = picture_text(alloc, showing)?;
+    text.extend_from_slice(picture.as_bytes())?;
+    Ok(())
+}
+
 /// Appends the lines that show a game: `value`, `stops`, `mean`, `temperature`, `left` and `right`.
 pub fn write_showing(alloc: Global, text: &mut Text, showing: &Showing) -> Result<(), AllocError>
     ensures { OnOk result (text.new ≡ text.old ++ game_lines showing.now.text
         (picture showing.now)) }
 {
-    text.extend_from_slice(b"value ")?;
-    text.extend_from_slice(showing.text.as_slice())?;
-    let picture = picture_text(alloc, showing)?;
-    text.extend_from_slice(picture.as_bytes())?;
-    Ok(())
+    write_labelled(alloc, text, "value", showing)
 }
