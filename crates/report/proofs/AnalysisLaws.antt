@@ -12,7 +12,7 @@ use Rattle.endgame_solver.specs.Thresholds.{IsThresholdFrom}
 use Rattle.report.specs.Analysis.{AreStoneTexts, IsLineText, IsMarginText, IsMovesText, all_played, first_lines, opening_lines, played, stone_line, stones_line}
 use Rattle.report.specs.Komi.{komi_line}
 use Rattle.report.specs.inner.Analysis.{HasLine, HasMove, HasOpening, HasStone, HasStones, HasThreshold, HasThresholds}
-use Rattle.report.proofs.TextLaws.{three_more}
+use Rattle.report.proofs.TextLaws.{four_pieces}
 
 pub thresholds_are : (s : Whole) (k b w b' w' : ℤ) (before now after : List ℕ) → IsThresholdFrom s k Black [] b → IsThresholdFrom s k White [] w
     → b' ≡ b → w' ≡ w → now ≡ before ++ komi_line (codes "black first") b' → after ≡ now ++ komi_line (codes "white first") w'
@@ -79,12 +79,8 @@ moves_is s k a b c d e f empty opening stones spend half same = record {
   each_stone = stones.are;
   of_spend = spend.is;
   of_half = half.is;
-  is = same ∙ pieces a b c d e (opening_lines s.side k opening.winner) stones.said spend.said half.said empty opening.text stones.text spend.text half.text;
+  is = same ∙ four_pieces a b c d e (opening_lines s.side k opening.winner) stones.said spend.said half.said empty opening.text stones.text spend.text half.text;
 }
-  where
-    pieces : (a b c d e p q r t : List ℕ) → a ≡ [] → b ≡ a ++ p → c ≡ b ++ q → d ≡ c ++ r → e ≡ d ++ t → e ≡ p ++ (q ++ (r ++ t))
-    pieces a b c d e p q r t empty first second third fourth =
-        three_more b c d e q r t second third fourth ∙ ap (λ x. x ++ (q ++ (r ++ t))) (first ∙ ap (λ x. x ++ p) empty)
 
 -- `line`
 

@@ -52,7 +52,7 @@ shown_at (r ∷ rs) [] h j lt = absurd h
 shown_at (r ∷ rs) (e ∷ es) h zero lt = subst HasShownValue h.0 (e.value, h.1.is_value, h.1.shown)
 shown_at (r ∷ rs) (e ∷ es) h (suc j) lt = shown_at rs es h.2 j (omega (arith, lt))
 
-region_taken : (rs : List Region) (i j : ℕ) → j < i → i < length rs → (region_at (take i rs) j ≡ region_at rs j) × (j < length (take i rs))
+pub region_taken : (rs : List Region) (i j : ℕ) → j < i → i < length rs → (region_at (take i rs) j ≡ region_at rs j) × (j < length (take i rs))
 region_taken [] i j before inside = absurd (omega (arith, inside))
 region_taken (r ∷ rs) zero j before inside = absurd (omega (arith, before))
 region_taken (r ∷ rs) (suc i) zero before inside = (refl, omega arith)

@@ -18,3 +18,7 @@ komi_word k = sign_word k ++ (decimal (unsigned_abs k / 2) ++ rest_word (unsigne
 -- a line of a label and a komi
 unfoldable pub komi_line : List ℕ → ℤ → List ℕ
 komi_line label k = label ++ (codes " " ++ (komi_word k ++ codes "\n"))
+
+-- a line of a label and two komi
+unfoldable pub komi_pair_line : List ℕ → ℤ → ℤ → List ℕ
+komi_pair_line label k l = label ++ (codes " " ++ (komi_word k ++ (codes " " ++ (komi_word l ++ codes "\n"))))

@@ -4,8 +4,10 @@ pub mod Listing
 pub mod Chains
 pub mod Safety
 pub mod Values
+pub mod CycleValues
 pub mod Trial
 pub mod Komi
 pub mod Analysis
+pub mod CycleAnalysis
 pub mod BoardText
 pub mod inner

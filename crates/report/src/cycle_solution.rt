@@ -15,7 +15,7 @@ use std::alloc::{AllocError, Global};
 use whole_rules::Move;
 
 /// Appends the line of the winner, if there is one.
-fn write_winner(text: &mut String, winner: Option<Colour>) -> Result<(), AllocError>
+pub(crate) fn write_winner(text: &mut String, winner: Option<Colour>) -> Result<(), AllocError>
     ensures { OnOk result
         (string_bytes text.new ≡ string_bytes text.old ++ winner_or_none winner) }
 {

@@ -1,7 +1,7 @@
 //! Komi in texts.
 
-ghost use Rattle.std.specs.Prelude.{◌≡◌, ◌%◌, ◌++◌, OnOk, string_bytes};
-ghost use Rattle.report.specs.Komi.{komi_line, rest_word, sign_word};
+ghost use Rattle.std.specs.Prelude.{◌≡◌, ◌%◌, ◌++◌, OnOk, codes, string_bytes};
+ghost use Rattle.report.specs.Komi.{komi_line, komi_pair_line, komi_word, rest_word, sign_word};
 
 use std::alloc::AllocError;
 
@@ -30,4 +30,32 @@ pub(crate) fn write_komi(text: &mut String, label: &str, halves: i64) -> Result<
     let points = size / 2;
     let rest = rest_word(size);
     writeln!(text, "{label} {sign}{points}{rest}")
+}
+
+/// Appends a label and a komi in half-points.
+#[tactic(auto, using(std::proofs::Common::append_assoc))]
+fn write_front(text: &mut String, label: &str, halves: i64) -> Result<(), AllocError>
+    ensures { OnOk result (string_bytes text.new
+        ≡ string_bytes text.old ++ (label.now ++ (codes " " ++ komi_word halves))) }
+{
+    let sign = sign_word(halves);
+    let size = halves.unsigned_abs();
+    let points = size / 2;
+    let rest = rest_word(size);
+    write!(text, "{label} {sign}{points}{rest}")
+}
+
+/// Appends the line of two komi in half-points.
+#[tactic(auto, using(std::proofs::Common::append_assoc), unfolding(crate::specs::Komi::komi_line, crate::specs::Komi::komi_pair_line))]
+pub(crate) fn write_komi_pair(
+    text: &mut String,
+    label: &str,
+    first: i64,
+    second: i64,
+) -> Result<(), AllocError>
+    ensures { OnOk result (string_bytes text.new
+        ≡ string_bytes text.old ++ komi_pair_line label.now first second) }
+{
+    write_front(text, label, first)?;
+    write_komi(text, "", second)
 }

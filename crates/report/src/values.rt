@@ -36,7 +36,7 @@ impl From<AllocError> for ValuesError {
 }
 
 /// What is shown of a value, or a refusal with the point.
-fn show_value(
+pub(crate) fn show_value(
     alloc: Global,
     store: &Store,
     value: GameId,
@@ -54,21 +54,20 @@ fn show_value(
     }
 }
 
-/// The line of a region.
-fn region_line(alloc: Global, size: Size, report: RegionReport) -> Result<String, AllocError>
-    requires { report.lowest < size.columns * size.rows }
+/// The line of a region by its lowest point, the number of its points and that of its positions.
+pub(crate) fn region_line(
+    alloc: Global,
+    size: Size,
+    lowest: Point,
+    points: u16,
+    positions: u64,
+) -> Result<String, AllocError>
+    requires { lowest < size.columns * size.rows }
     ensures { IfOk result
-        (λ t. string_bytes t ≡ solved_line size.columns report.lowest report.points
-        report.positions) }
+        (λ t. string_bytes t ≡ solved_line size.columns lowest points positions) }
 {
     let mut line = String::new(alloc);
-    write_region(
-        &mut line,
-        size,
-        report.lowest,
-        report.points,
-        report.positions,
-    )?;
+    write_region(&mut line, size, lowest, points, positions)?;
     Ok(line)
 }
 
@@ -87,7 +86,8 @@ fn write_entry(
         × IsUnshown (tree_at store.now report.value))) }
 {
     let showing = show_value(alloc, store, report.value, report.lowest)?;
-    text.extend_from_slice(region_line(alloc, size, report)?.as_bytes())?;
+    let line = region_line(alloc, size, report.lowest, report.points, report.positions)?;
+    text.extend_from_slice(line.as_bytes())?;
     write_showing(alloc, text, &showing)?;
     Ok(())
 }
