@@ -12,4 +12,5 @@ pub mod ThresholdLaws
 pub mod SumThresholdLaws
 pub mod LineLaws
 pub mod MarginLaws
+pub mod AskedLaws
 pub mod NextStoneLaws

@@ -7,4 +7,5 @@ pub mod Held
 pub mod Views
 pub mod Regions
 pub mod Thresholds
+pub mod Asked
 pub mod Line

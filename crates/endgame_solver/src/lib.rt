@@ -1,6 +1,7 @@
 //! The decomposition of the whole game into its regions of play.
 #![tactic(auto)]
 
+mod asked;
 mod balance;
 mod cycle_names;
 mod faults;

@@ -1,32 +1,62 @@
 //! Which moves are legal, and which of them win.
 
-ghost use Rattle.std.specs.Prelude.{◌↔◌, IsTrue, List, ℕ, MatchOption, ◌≡◌};
+ghost use Rattle.std.specs.Prelude.{◌↔◌, IsTrue, MatchOption, ◌≡◌};
+ghost use Rattle.go_grid.specs.Board.{other};
 ghost use Rattle.whole_rules.specs.declared.states.Move.TheVariants.{Half, Stone};
 ghost use Rattle.whole_rules.specs.FirstWinningMove.{IsWinning};
 ghost use Rattle.whole_rules.specs.WholeGame.{IsLegal};
 ghost use Rattle.sum_outcome.specs.Memo.{Fits};
+ghost use Rattle.endgame_solver.specs.inner.Asked.{AreAnswers};
 ghost use Rattle.endgame_solver.specs.inner.Views.{IsSeen};
 
+use crate::asked::{Answered, loses_after};
 use crate::balance::balance_of;
-use crate::winning_moves::{Present, spend_wins, stone_edge, stone_wins};
+use crate::winning_moves::{Present, spend_wins, stone_edge, value_seen};
 use game_store::GameId;
 use go_grid::Point;
 use sum_outcome::Search;
 use whole_rules::Move;
 
-/// Whether a stone of the side to move at the point is legal.
-fn is_playable(present: &Present<'_>, point: Point) -> bool
-    requires { (ids : List ℕ) × IsSeen present.now ids }
-    ensures { IsTrue result ↔ IsLegal present.now.whole.now (Stone point) }
+/// Whether a stone of the side to move at the point wins. None where the stone is illegal.
+fn stone_outcome(
+    present: &Present<'_>,
+    search: &mut Search,
+    sum: &mut [GameId],
+    answered: &[Answered],
+    point: Point,
+) -> Option<bool>
+    requires seen { IsSeen present.now sum.old }
+    requires fits { Fits present.now.store.now search.old }
+    requires right { AreAnswers present.now.store.now sum.old (other present.now.whole.now.side)
+        answered.now }
+    ensures wins { MatchOption result (¬ IsLegal present.now.whole.now (Stone point))
+        (λ wins. IsLegal present.now.whole.now (Stone point)
+        × (IsTrue wins ↔ IsWinning present.now.whole.now (Stone point))) }
+    ensures same { sum.new ≡ sum.old }
+    ensures fits { Fits present.now.store.now search.new }
 {
     if !present.whole.contested(point) {
-        return false;
+        return None;
     }
     let side = present.whole.side();
-    match stone_edge(present.regions, present.book, present.places, point, side) {
-        Some(_stone) => true,
-        None => false,
-    }
+    let Some((k, edge)) = stone_edge(present.regions, present.book, present.places, point, side)
+    else {
+        return None;
+    };
+    let purses = present.whole.purses().paid_in(side, u64::from(edge.taken));
+    let after = value_seen(present.book, k, edge.next);
+    let first = side.other();
+    let lost = loses_after(
+        present.store,
+        search,
+        sum,
+        answered,
+        k,
+        after,
+        purses,
+        first,
+    );
+    Some(lost)
 }
 
 /// Whether the half wins.
@@ -50,10 +80,13 @@ pub(crate) fn outcome(
     present: &Present<'_>,
     search: &mut Search,
     sum: &mut [GameId],
+    answered: &[Answered],
     chosen: Move,
 ) -> Option<bool>
     requires seen { IsSeen present.now sum.old }
     requires fits { Fits present.now.store.now search.old }
+    requires right { AreAnswers present.now.store.now sum.old (other present.now.whole.now.side)
+        answered.now }
     ensures wins { MatchOption result (¬ IsLegal present.now.whole.now chosen)
         (λ wins. IsLegal present.now.whole.now chosen
         × (IsTrue wins ↔ IsWinning present.now.whole.now chosen)) }
@@ -61,12 +94,7 @@ pub(crate) fn outcome(
     ensures fits { Fits present.now.store.now search.new }
 {
     match chosen {
-        Move::Stone(point) => {
-            if !is_playable(present, point) {
-                return None;
-            }
-            Some(stone_wins(present, search, sum, point))
-        }
+        Move::Stone(point) => stone_outcome(present, search, sum, answered, point),
         Move::Spend => {
             if present.whole.purse(present.whole.side()) == 0 {
                 return None;

@@ -22,6 +22,7 @@ ghost use Rattle.sgf_go.specs.Position.{IsFit};
 ghost use Rattle.whole_rules.specs.Opening.{MayTax};
 ghost use Rattle.endgame_solver.specs.Solved.{Begun, IsNumberOfShapes, IsPresent, ArePresent, IsReport, balance_units};
 
+use crate::asked::{Answered, stone_margin};
 use crate::balance::balance_of;
 use crate::faults::SolveError;
 use crate::known::first_known;
@@ -30,7 +31,7 @@ use crate::line_of_play::next_stone;
 use crate::outcomes::outcome;
 use crate::region_values::solve_regions;
 use crate::regions_of_play::{first_large, opening_of, start_of};
-use crate::thresholds::{margin, raised, stone_margin};
+use crate::thresholds::{margin, raised};
 use crate::view_book::Book;
 use crate::winning_moves::{
     Present, first_winning_move, mover_loses, positions_seen, stone_edge, value_seen,
@@ -72,11 +73,15 @@ pub struct Solved {
     sum: Vec<GameId>,
     /// It fits the store, so what it remembers serves all questions.
     search: Search,
+    /// What was answered on stones of the present state, once for each two games that stones of it take and put.
+    asked: Vec<Answered>,
 }
 
 impl Model for Solved {
     ghost use Rattle.endgame_solver.specs.Solved.{Solved};
     ghost use Rattle.endgame_solver.specs.inner.Views.{IsHeldInBook};
+    ghost use Rattle.endgame_solver.specs.inner.Asked.{AreAnswers};
+    ghost use Rattle.go_grid.specs.Board.{other};
     ghost use Rattle.sum_outcome.specs.Memo.{Fits};
     ghost use Rattle.endgame_solver.specs.Code.{solved_code};
 
@@ -87,7 +92,8 @@ impl Model for Solved {
     ghost view = { λ s. record { regions = s.regions.items; trees = s.store; state = s.whole } };
 
     ghost invariant = { λ s. IsHeldInBook s.regions.items s.book s.places.items s.sum.items
-        s.store s.whole × Fits s.store s.search };
+        s.store s.whole × Fits s.store s.search
+        × AreAnswers s.store s.sum.items (other s.whole.side) s.asked.items };
 }
 
 impl Solved {
@@ -122,6 +128,7 @@ impl Solved {
             places: start.places,
             sum: start.sum,
             search: known.search,
+            asked: Vec::new(alloc),
         })
     }
 
@@ -255,7 +262,13 @@ impl Solved {
             places: &self.places,
             store: &self.store,
         };
-        let beyond = stone_margin(&present, &mut self.search, &mut self.sum, point)?;
+        let beyond = stone_margin(
+            &present,
+            &mut self.search,
+            &mut self.sum,
+            &mut self.asked,
+            point,
+        )?;
         Some(raised(komi_halves, beyond))
     }
 
@@ -340,7 +353,13 @@ impl Solved {
             places: &self.places,
             store: &self.store,
         };
-        outcome(&present, &mut self.search, &mut self.sum, chosen)
+        outcome(
+            &present,
+            &mut self.search,
+            &mut self.sum,
+            &self.asked,
+            chosen,
+        )
     }
 
     /// Makes a move of the side to move, or leaves the game as it was where the move is illegal, as `Whole::apply` does.
@@ -349,6 +368,7 @@ impl Solved {
         ensures regions { self.new.regions ≡ self.old.regions }
         ensures trees { self.new.trees ≡ self.old.trees }
     {
+        self.asked.clear();
         let Move::Stone(point) = chosen else {
             return self.whole.apply(chosen);
         };

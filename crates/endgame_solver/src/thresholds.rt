@@ -1,9 +1,7 @@
 //! By how much a state is won: the least number beside the sum of the present values with which Black wins.
 
-ghost use Rattle.std.specs.Prelude.{◌≡◌, ◌+◌, ◌*◌, ◌<◌, ◌≤◌, ◌^◌, ℤ, pos, ◌+ℤ◌, ◌-ℤ◌, ◌*ℤ◌, ◌<ℤ◌, unsigned_abs, ◌↔◌, [], ◌∷◌, IfSome, IsTrue, MatchOption, length};
+ghost use Rattle.std.specs.Prelude.{◌≡◌, ◌+◌, ◌*◌, ◌<◌, ◌≤◌, ◌^◌, ℤ, pos, ◌+ℤ◌, ◌-ℤ◌, ◌*ℤ◌, ◌<ℤ◌, unsigned_abs, ◌↔◌, [], IsTrue, length};
 ghost use Rattle.go_grid.specs.declared.grid.TheConstants.{MOST_POINTS};
-ghost use Rattle.whole_rules.specs.declared.states.Move.TheVariants.{Stone};
-ghost use Rattle.whole_rules.specs.WholeGame.{IsLegal};
 ghost use Rattle.short_games.specs.Tree.{Tree, tree_at};
 ghost use Rattle.short_games.specs.Number.{num};
 ghost use Rattle.short_games.specs.Sum.{◌+ᵍ◌, total};
@@ -18,11 +16,11 @@ ghost use Rattle.endgame_solver.specs.inner.Thresholds.{IsMargin, LiesBetween};
 ghost use Rattle.endgame_solver.specs.inner.Views.{IsSeen};
 
 use crate::balance::{balance_halves, of_halves};
-use crate::winning_moves::{Present, stone_edge, value_seen};
+use crate::winning_moves::Present;
 use dyadic_num::Dyadic;
 use game_stops::{left_stop, right_stop};
 use game_store::{GameId, Store};
-use go_grid::{Colour, Point};
+use go_grid::Colour;
 use sum_outcome::Search;
 use whole_rules::Purses;
 
@@ -156,7 +154,12 @@ fn above_least(steps: u64) -> i64
 }
 
 /// The least number of halves of a point beside which Black wins the sum, where this player moves first.
-fn least_win(store: &Store, search: &mut Search, sum: &mut [GameId], first: Colour) -> i64
+pub(crate) fn least_win(
+    store: &Store,
+    search: &mut Search,
+    sum: &mut [GameId],
+    first: Colour,
+) -> i64
     requires games { AreModestGames store.now sum.old }
     requires fits { Fits store.now search.old }
     ensures least { IsLeastWin first (total (pick store.now sum.old)) result }
@@ -188,6 +191,16 @@ fn left_of(balance: i128, halves: i64) -> i64
     (balance - i128::from(halves)) as i64
 }
 
+/// How many halves of a point can be taken from the purses so that this least number, beside which Black wins, is left.
+pub(crate) fn margin_from(purses: Purses, least: i64) -> i64
+    requires purses { AreModest purses }
+    requires least { unsigned_abs least ≤ 2 ^ 45 }
+    ensures margin { result ≡ balance purses -ℤ least }
+    ensures small { unsigned_abs result ≤ 2 ^ 46 }
+{
+    left_of(balance_halves(purses), least)
+}
+
 /// How many halves of a point can be taken from the purses so that Black still wins the sum beside them, where this player moves
 /// first.
 pub fn margin_of(
@@ -206,7 +219,7 @@ pub fn margin_of(
     ensures same { sum.new ≡ sum.old }
     ensures fits { Fits store.now search.new }
 {
-    left_of(balance_halves(purses), least_win(store, search, sum, first))
+    margin_from(purses, least_win(store, search, sum, first))
 }
 
 /// How many halves of a point the threshold is above the komi, where this player moves first.
@@ -224,39 +237,6 @@ pub(crate) fn margin(
     ensures fits { Fits present.now.store.now search.new }
 {
     margin_of(present.store, search, sum, present.whole.purses(), first)
-}
-
-/// How many halves of a point the threshold of a stone of the side to move is above the komi. None where the stone is
-/// illegal.
-pub(crate) fn stone_margin(
-    present: &Present<'_>,
-    search: &mut Search,
-    sum: &mut [GameId],
-    point: Point,
-) -> Option<i64>
-    requires seen { IsSeen present.now sum.old }
-    requires fits { Fits present.now.store.now search.old }
-    ensures margin { MatchOption result (¬ IsLegal present.now.whole.now (Stone point))
-        (λ n. IsLegal present.now.whole.now (Stone point)
-        × IsMargin present.now.whole.now present.now.whole.now.side (point ∷ []) n) }
-    ensures small { IfSome result (λ n. unsigned_abs n ≤ 2 ^ 46) }
-    ensures same { sum.new ≡ sum.old }
-    ensures fits { Fits present.now.store.now search.new }
-{
-    if !present.whole.contested(point) {
-        return None;
-    }
-    let side = present.whole.side();
-    let Some((k, edge)) = stone_edge(present.regions, present.book, present.places, point, side)
-    else {
-        return None;
-    };
-    let purses = present.whole.purses().paid_in(side, u64::from(edge.taken));
-    let before = sum[k];
-    sum[k] = value_seen(present.book, k, edge.next);
-    let beyond = margin_of(present.store, search, sum, purses, side.other());
-    sum[k] = before;
-    Some(beyond)
 }
 
 /// The komi and so many halves more, where 64 bits hold them.

@@ -1,19 +1,15 @@
-use Rattle.std.proofs.Common.{◌↔◌, ◌∙◌, ◌≤◌, IsTrue, ap, arith, refl, subst, sym}
+use Rattle.std.proofs.Common.{◌↔◌, ◌∙◌, ◌≤◌, IsTrue, MatchOption, ap, arith, refl, subst, sym}
 use Rattle.std.proofs.lemmas.Bool.{both_ways}
 use Rattle.whole_rules.specs.FirstWinningMove.{IsWinning}
 use Rattle.whole_rules.specs.Purses.{halved, paid_out, purse}
 use Rattle.whole_rules.specs.WholeGame.{IsLegal, after}
 use Rattle.endgame_solver.proofs.outcomes.outcome.Goals as goal
 
-pub returns-then-not-is_playable-clause-wins : goal.returns-then-not-is_playable-clause-wins
-returns-then-not-is_playable-clause-wins c = λ l.
-    both_ways c.is_playable.result c.if-not-is_playable.true (c.is_playable.ensures.1 (subst (IsLegal c.args.present.now.whole.now) c.in-Stone.is l))
-
-pub returns-else-not-is_playable-clause-wins : goal.returns-else-not-is_playable-clause-wins
-returns-else-not-is_playable-clause-wins c =
+pub returns-in-Stone-clause-wins : goal.returns-in-Stone-clause-wins
+returns-in-Stone-clause-wins c =
     let s = c.args.present.now.whole.now in
-    subst (λ m. IsLegal s m × (IsTrue c.stone_wins.result ↔ IsWinning s m)) (sym c.in-Stone.is)
-    (c.is_playable.ensures.0 c.if-not-is_playable.false, c.stone_wins.ensures.wins)
+    subst (λ m. MatchOption c.stone_outcome.result (¬ IsLegal s m) (λ wins. IsLegal s m × (IsTrue wins ↔ IsWinning s m))) (sym c.in-Stone.is)
+    c.stone_outcome.ensures.wins
 
 pub returns-else-purse-eq0-clause-wins : goal.returns-else-purse-eq0-clause-wins
 returns-else-purse-eq0-clause-wins c =

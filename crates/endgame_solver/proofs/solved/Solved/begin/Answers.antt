@@ -3,6 +3,7 @@ use Rattle.std.proofs.lemmas.Result.{err_from_is_err_and}
 use Rattle.sum_outcome.proofs.MemoLaws.{fits_grown}
 use Rattle.endgame_solver.proofs.BeginLaws.{refusal_begun, steps_within, is_kept, are_sound}
 use Rattle.endgame_solver.specs.inner.Sharing.{AreSharedBy}
+use Rattle.endgame_solver.proofs.AskedLaws.{none_answered}
 use Rattle.endgame_solver.proofs.WinningLaws.{openings_known, sum_is}
 use Rattle.endgame_solver.proofs.solved.Solved.begin.Goals as goal
 
@@ -44,6 +45,7 @@ invariant_of-result g c =
             c.requires.fit.black c.requires.fit.white c.requires.fit.komi;
       },
       fits_grown c.in_ok-known.known.store c.solve_regions.new.store c.in_ok-known.known.search c.in_ok-book.ensures.kept c.in_ok-known.ensures,
+      none_answered c.new.ensures.items,
     )
 
 pub returns-clause-begun : goal.returns-clause-begun

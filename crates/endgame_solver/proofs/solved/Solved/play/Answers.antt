@@ -2,6 +2,7 @@ use Rattle.std.proofs.Common.{arith, subst, sym}
 use Rattle.go_grid.specs.declared.grid.Colour.TheVariants.{Black, White}
 use Rattle.whole_rules.specs.WholeGame.{IsMove}
 use Rattle.endgame_solver.proofs.HeldLaws.{kept_applied, some_edge}
+use Rattle.endgame_solver.proofs.AskedLaws.{none_answered}
 use Rattle.endgame_solver.proofs.WinningLaws.{held_as, shows_places, stone_has, stone_held, stone_none}
 use Rattle.endgame_solver.proofs.solved.Solved.play.Goals as goal
 
@@ -13,7 +14,7 @@ apply-requires c =
 pub invariant_of-self : goal.invariant_of-self
 invariant_of-self c =
     let held = c.self.invariant.0 in
-    (held_as held (kept_applied held.kept c.args.chosen c.in_default.not-Stone c.apply.new.self c.apply.result c.apply.ensures), c.self.invariant.1)
+    (held_as held (kept_applied held.kept c.args.chosen c.in_default.not-Stone c.apply.new.self c.apply.result c.apply.ensures), c.self.invariant.1, none_answered c.clear.ensures.items)
 
 pub apply-requires-2-clause-black : goal.apply-requires-2-clause-black
 apply-requires-2-clause-black c = omega (arith, c.self.invariant.0.kept.room.room Black)
@@ -32,7 +33,7 @@ pub invariant_of-self-in-Some : goal.invariant_of-self-in-Some
 invariant_of-self-in-Some c =
     let found = (c.in-Some.ensures {u = tt}).edges in
     let move = c.in_ok-apply.ensures {u = tt} in
-    (stone_held c.self.invariant.0 c.deref.ensures.value c.deref-2.ensures.value c.side-side.ensures found c.value_seen.ensures c.apply-2.new.self move, c.self.invariant.1)
+    (stone_held c.self.invariant.0 c.deref.ensures.value c.deref-2.ensures.value c.side-side.ensures found c.value_seen.ensures c.apply-2.new.self move, c.self.invariant.1, none_answered c.clear.ensures.items)
 
 pub invariant_of-self-in_default-edge : goal.invariant_of-self-in_default-edge
 invariant_of-self-in_default-edge c =
