@@ -92,13 +92,13 @@ module _ (limits : Limits) (most : ℕ) (r : Region) (game : RegionGame) (points
             omega (arith, size, largest);
       }
 
-  pub solved_by : MayBeSteady limits most r game.graph Black Ts (Some game.black) → MayBeSteady limits most r game.graph White Ts (Some game.white)
-      → IsSolvedBy limits most r Ts game
+  pub solved_by : MayBeSteady limits most r game.graph Black Ts (Some (layers_for game Black))
+      → MayBeSteady limits most r game.graph White Ts (Some (layers_for game White)) → IsSolvedBy limits most r Ts game
   solved_by b w = record {
     sound = record {
       points = points;
       positions = within.positions;
-      forms = nothing_large limits most r game.graph within.graph Ts (Some game.black) (Some game.white) b w;
+      forms = nothing_large limits most r game.graph within.graph Ts (Some (layers_for game Black)) (Some (layers_for game White)) b w;
       steady = λ c. steady c;
     };
     holds = record { graph = within.graph; layers = λ c. layers c };

@@ -1,4 +1,5 @@
 pub mod BeginLaws
+pub mod CalmLaws
 pub mod ChangeLaws
 pub mod GameLaws
 pub mod MarginLaws

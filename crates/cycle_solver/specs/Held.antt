@@ -1,5 +1,5 @@
 -- What a game with cycles keeps: the regions with their graphs and values, and where the present state stands in them.
-use Rattle.std.specs.Prelude.{ℕ, ◌+◌, ◌^◌, ◌≡◌, ◌<◌, ◌≤◌, List, [], length, slice_index, slice_index_or, Contains, None}
+use Rattle.std.specs.Prelude.{ℕ, ◌+◌, ◌^◌, ◌≡◌, ◌<◌, ◌≤◌, List, [], length, slice_index, slice_index_or, Contains, Option, None, Some}
 use Rattle.go_grid.specs.declared.grid.Cell.{Cell}
 use Rattle.go_grid.specs.declared.grid.Colour.{Colour}
 use Rattle.go_grid.specs.declared.grid.Colour.TheVariants.{Black, White}
@@ -26,10 +26,15 @@ use Rattle.endgame_solver.specs.Regions.{IsStoneAt, region_at}
 use Rattle.cycle_solver.specs.declared.asking.Present.{Present}
 use Rattle.cycle_solver.specs.declared.region_game.RegionGame.{RegionGame}
 
+-- White's own layers, or Black's where there are none
+abbrev pub own_layers : Option (List (List ℕ)) → List (List ℕ) → List (List ℕ)
+own_layers None black = black
+own_layers (Some white) black = white
+
 -- the layers of a colour's values
 abbrev pub layers_for : RegionGame → Colour → List (List ℕ)
 layers_for game Black = game.black
-layers_for game White = game.white
+layers_for game White = own_layers game.white game.black
 
 -- the layer that serves a budget: its own, or the last
 abbrev pub ids_with : RegionGame → Colour → ℕ → List ℕ
@@ -55,7 +60,7 @@ pub record IsGameOf (r : Region) (Ts : List Tree) (game : RegionGame) : Type 0 w
 
 -- a game without positions, which stands for one past the last
 abbrev pub no_game : RegionGame
-no_game = record { graph = record { positions = []; edges = []; components = None; black_order = []; white_order = [] }; black = []; white = [] }
+no_game = record { graph = record { positions = []; edges = []; components = None; black_order = []; white_order = [] }; black = []; white = None }
 
 -- the game at a place of a list
 abbrev pub game_at : List RegionGame → ℕ → RegionGame

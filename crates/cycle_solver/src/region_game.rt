@@ -25,16 +25,17 @@ use std::sync::ledger::Ledger;
 pub struct RegionGame {
     pub graph: ReturnGraph,
     pub black: SteadyValues,
-    pub white: SteadyValues,
+    /// None where the graph has no cycle: Black's serve White too.
+    pub white: Option<SteadyValues>,
 }
 
 /// The values of a colour.
 pub fn values_for(game: &RegionGame, colour: Colour) -> &SteadyValues
     ensures { result.now ≡ layers_for game.now colour }
 {
-    match colour {
-        Colour::Black => &game.black,
-        Colour::White => &game.white,
+    match (colour, &game.white) {
+        (Colour::White, Some(white)) => white,
+        _ => &game.black,
     }
 }
 
@@ -108,9 +109,19 @@ fn region_game<L: Ledger>(
         (3 ^ length region.now.points) }
 {
     let graph = graph_of(alloc, region, limits, steps)?;
-    let black = values_of(alloc, region, &graph, Colour::Black, limits, most, store)?;
-    let white = values_of(alloc, region, &graph, Colour::White, limits, most, store)?;
     let lowest = region.points[0];
+    let black = values_of(alloc, region, &graph, Colour::Black, limits, most, store)?;
+    if !graph.has_cycle() {
+        return match black {
+            None => Err(CycleError::Captures(lowest)),
+            Some(black) => Ok(RegionGame {
+                graph,
+                black,
+                white: None,
+            }),
+        };
+    }
+    let white = values_of(alloc, region, &graph, Colour::White, limits, most, store)?;
     match black {
         None => Err(CycleError::Captures(lowest)),
         Some(black) => match white {
@@ -118,7 +129,7 @@ fn region_game<L: Ledger>(
             Some(white) => Ok(RegionGame {
                 graph,
                 black,
-                white,
+                white: Some(white),
             }),
         },
     }
