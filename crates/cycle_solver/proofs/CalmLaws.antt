@@ -9,7 +9,7 @@ use Rattle.local_graph.specs.LocalGraph.{IsReachable}
 use Rattle.local_graph.specs.ReturnGraph.{ReturnGraph}
 use Rattle.short_games.specs.Tree.{Tree}
 use Rattle.short_games.proofs.OrderLaws.{same-sym, same-trans}
-use Rattle.local_value.specs.BudgetValues.{AreSteadyLayers, AreWithinLimits, IsBudgetValueAt, IsReturnGraphOf}
+use Rattle.local_value.specs.BudgetValues.{AreWithinLimits, IsBudgetValueAt, IsReturnGraphOf}
 use Rattle.local_value.specs.Steady.{IsBudgetValue, IsSteady}
 use Rattle.local_value.proofs.BudgetTreeLaws.{budget_tree, budgets-need_cycles, enough}
 use Rattle.local_value.proofs.TreeLaws.{trees-exist}

@@ -1,17 +1,17 @@
 -- What a move changes of the present state, and who wins behind it.
-use Rattle.std.proofs.Common.{ℕ, ℤ, ◌≡◌, ◌≢◌, ◌↔◌, ◌<◌, ◌≤◌, ◌+◌, ◌^◌, arith, inl, inr, refl, sym, ap, ◌∙◌, subst, List, length, get_or, set, Bool, IsTrue, MatchOption, Option, None, Some, Contains, length-set, suc, zero}
+use Rattle.std.proofs.Common.{ℕ, ◌≡◌, ◌≢◌, ◌↔◌, ◌<◌, ◌≤◌, ◌+◌, arith, inl, inr, refl, sym, ap, ◌∙◌, subst, List, length, get_or, set, Bool, IsTrue, MatchOption, Option, None, Some, Contains, length-set, suc, zero}
 use Rattle.std.proofs.lemmas.Bool.{cases_eq}
 use Rattle.std.proofs.lemmas.List.{get_or_default, get_or-set_other, get_or-set_same}
 use Rattle.go_grid.specs.declared.grid.Colour.{Colour}
 use Rattle.go_grid.specs.declared.grid.Colour.TheVariants.{Black, White}
-use Rattle.go_grid.specs.Board.{Board, other}
+use Rattle.go_grid.specs.Board.{other}
 use Rattle.go_grid.specs.Region.{Region}
 use Rattle.whole_rules.specs.declared.money.Purses.{Purses}
 use Rattle.whole_rules.specs.declared.money.Token.TheVariants.{Nobody}
 use Rattle.whole_rules.specs.declared.states.Move.{Move}
 use Rattle.whole_rules.specs.declared.states.Move.TheVariants.{Half, Spend, Stone}
 use Rattle.whole_rules.specs.FirstWinningMove.{IsFirstWinning, IsWinner, IsWinning}
-use Rattle.whole_rules.specs.PlainRecursion.{MoverWins, WinsWithin}
+use Rattle.whole_rules.specs.PlainRecursion.{WinsWithin}
 use Rattle.whole_rules.specs.Purses.{halved, paid_in, paid_out, purse}
 use Rattle.whole_rules.specs.WholeGame.{Whole, IsLegal, IsMove, Leads, after}
 use Rattle.whole_rules.proofs.PlainLaws.{move_turn}
@@ -32,8 +32,9 @@ use Rattle.whole_budgets.proofs.BudgetPlayLemmas.{other_not, other_twice}
 use Rattle.cycle_solver.specs.declared.asking.Present.{Present}
 use Rattle.cycle_solver.specs.declared.changes.Change.{Change}
 use Rattle.cycle_solver.specs.declared.region_game.RegionGame.{RegionGame}
-use Rattle.cycle_solver.specs.Changes.{IsChange, IsChanged, IsSomeChange, StandsAt, places_after}
-use Rattle.cycle_solver.specs.Held.{AreSolved, AreSummed, HaveEdges, IsAt, IsHeld, IsSeen, IsStoneEdge, enough, game_at, ids_with, place_at}
+use Rattle.cycle_solver.specs.Changes.{IsChange, IsChanged, IsSomeChange, places_after}
+use Rattle.cycle_solver.specs.GameLists.{game_at}
+use Rattle.cycle_solver.specs.Held.{AreSummed, HaveEdges, IsAt, IsHeld, IsSeen, IsStoneEdge, enough, ids_with, place_at}
 use Rattle.cycle_solver.proofs.StoneLaws.{money_leads, stone_edge, stone_leads, stone_legal, stone_taken}
 use Rattle.cycle_solver.proofs.SumLaws.{have_places, modest_games, told, wins}
 

@@ -27,7 +27,8 @@ use Rattle.cycle_solver.specs.declared.faults.CycleError.{CycleError}
 use Rattle.cycle_solver.specs.declared.faults.CycleError.TheVariants.{Captures, Form, Memory, Points, Positions}
 use Rattle.cycle_solver.specs.declared.region_game.RegionGame.{RegionGame}
 use Rattle.cycle_solver.specs.Games.{AreSolvedBelow, IsGraphWithin, IsRefusalOf, IsSolvedBy, MayBeSteady}
-use Rattle.cycle_solver.specs.Held.{AreLayersOf, game_at, ids_with, layers_for, no_game}
+use Rattle.cycle_solver.specs.GameLists.{game_at, no_game}
+use Rattle.cycle_solver.specs.Held.{AreLayersOf, ids_with, layers_for}
 
 module _ (r : Region) (g : ReturnGraph) (of : IsReturnGraphOf r g) (c : Colour) (limit : ℕ) where
   -- where the values of the graph are within the limits none of a reachable position is too large

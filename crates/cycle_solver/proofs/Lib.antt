@@ -6,3 +6,4 @@ pub mod MarginLaws
 pub mod SumLaws
 pub mod StoneLaws
 pub mod ThresholdLaws
+pub mod TranslateLaws

@@ -1,5 +1,5 @@
 -- By how much a state is won by a player, and the player's threshold.
-use Rattle.std.proofs.Common.{ℕ, ℤ, ◌≡◌, ◌↔◌, ◌+◌, ◌^◌, ◌<◌, ◌≤◌, refl, sym, ap, ◌∙◌, subst, arith, List, [], ◌∷◌, pos, negsuc, unsigned_abs, ◌+ℤ◌, ◌-ℤ◌}
+use Rattle.std.proofs.Common.{ℕ, ℤ, ◌≡◌, ◌^◌, ◌<◌, ◌≤◌, refl, sym, ◌∙◌, subst, arith, List, [], ◌∷◌, unsigned_abs, ◌+ℤ◌, ◌-ℤ◌}
 use Rattle.std.proofs.lemmas.Int.{ints}
 use Rattle.go_grid.specs.declared.grid.Colour.{Colour}
 use Rattle.go_grid.specs.declared.grid.Colour.TheVariants.{Black, White}
@@ -11,8 +11,6 @@ use Rattle.whole_rules.specs.declared.states.Move.TheVariants.{Stone}
 use Rattle.whole_rules.specs.Threshold.{stones}
 use Rattle.whole_rules.specs.Walls.{Plays}
 use Rattle.whole_rules.specs.WholeGame.{Whole}
-use Rattle.local_value.specs.BudgetValues.{plain_graph}
-use Rattle.local_value.specs.Values.{IsPlaceOf}
 use Rattle.short_games.specs.Tree.{Tree}
 use Rattle.short_games.specs.Sum.{total}
 use Rattle.game_store.specs.Meaning.{pick}
@@ -25,7 +23,7 @@ use Rattle.cycle_solver.specs.declared.asking.Present.{Present}
 use Rattle.cycle_solver.specs.declared.changes.Change.{Change}
 use Rattle.cycle_solver.specs.declared.region_game.RegionGame.{RegionGame}
 use Rattle.cycle_solver.specs.Changes.{IsChange, places_after}
-use Rattle.cycle_solver.specs.Held.{AreSolved, AreSummed, IsAt, IsHeld, enough, game_at, place_at}
+use Rattle.cycle_solver.specs.Held.{AreSolved, AreSummed, IsAt, IsHeld, enough}
 use Rattle.cycle_solver.specs.Thresholds.{IsMarginFor, IsThresholdFor, IsThresholdForFrom}
 use Rattle.cycle_solver.proofs.SumLaws.{wins}
 use Rattle.cycle_solver.proofs.ThresholdLaws.{IsWonBeside, threshold_beside}

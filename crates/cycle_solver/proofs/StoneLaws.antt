@@ -25,7 +25,8 @@ use Rattle.local_value.proofs.MoveLaws.{IsEdgeFor, graph_edge, graph_move, graph
 use Rattle.endgame_solver.specs.Regions.{no_region, region_at}
 use Rattle.endgame_solver.proofs.WholeLaws.{IsHeld, held_after, position_in}
 use Rattle.cycle_solver.specs.declared.region_game.RegionGame.{RegionGame}
-use Rattle.cycle_solver.specs.Held.{AreSolved, IsAt, IsStoneEdge, game_at, place_at}
+use Rattle.cycle_solver.specs.GameLists.{game_at}
+use Rattle.cycle_solver.specs.Held.{AreSolved, IsAt, IsStoneEdge, place_at}
 use Rattle.cycle_solver.proofs.SumLaws.{keeps}
 
 module _ {g : Board} {regions : List Region} {games : List RegionGame} {Ts : List Tree} (are : AreSolved g regions games Ts)

@@ -1,10 +1,10 @@
 -- Thresholds where kos can arise: who wins beside a game, that there is exactly one threshold for each player, and how they lie.
-use Rattle.std.proofs.Common.{ℕ, ℤ, suc, ◌≡◌, ◌↔◌, ◌<◌, inl, inr, refl, sym, ap, ◌∙◌, subst, arith, List, [], ◌∷◌, length, get_or, pos, Contains, ◌+ℤ◌, ◌-ℤ◌, ◌<ℤ◌, ◌≤ℤ◌}
+use Rattle.std.proofs.Common.{ℕ, ℤ, suc, ◌≡◌, ◌↔◌, ◌<◌, inl, inr, refl, sym, ◌∙◌, subst, arith, List, [], ◌∷◌, length, get_or, pos, Contains, ◌+ℤ◌, ◌-ℤ◌, ◌<ℤ◌, ◌≤ℤ◌}
 use Rattle.std.proofs.lemmas.Int.{ints, by_lt_z}
 use Rattle.go_grid.specs.declared.grid.Cell.{Cell}
 use Rattle.go_grid.specs.declared.grid.Colour.{Colour}
 use Rattle.go_grid.specs.declared.grid.Colour.TheVariants.{Black, White}
-use Rattle.go_grid.specs.Board.{Board, other}
+use Rattle.go_grid.specs.Board.{Board}
 use Rattle.go_grid.specs.Region.{Region}
 use Rattle.region_cut.specs.LocalBoard.{HoldsPosition}
 use Rattle.whole_rules.specs.FirstWinningMove.{IsWinner}
@@ -14,17 +14,14 @@ use Rattle.whole_rules.specs.Walls.{Plays}
 use Rattle.whole_rules.specs.WholeGame.{Whole}
 use Rattle.whole_rules.proofs.PlainLaws.{one_winner}
 use Rattle.whole_rules.proofs.OpeningLaws.{opens_with_each}
-use Rattle.whole_rules.proofs.WallLaws.{keeps_plays, keeps_start}
 use Rattle.short_games.specs.Tree.{Tree, Trees, none, more}
 use Rattle.short_games.specs.Number.{num}
-use Rattle.short_games.specs.Order.{◌≡ᵍ◌}
 use Rattle.short_games.specs.Sum.{◌+ᵍ◌, total}
 use Rattle.short_games.proofs.OrderLaws.{same-refl}
-use Rattle.sum_outcome.specs.Players.{LosesGame}
 use Rattle.sum_outcome.proofs.PlayerLaws.{loses-or_not}
 use Rattle.local_value.specs.Steady.{IsSteady}
 use Rattle.local_value.proofs.BudgetTreeLaws.{budget_trees-exist}
-use Rattle.endgame_solver.specs.Regions.{no_region, region_at}
+use Rattle.endgame_solver.specs.Regions.{no_region}
 use Rattle.endgame_solver.specs.SumGame.{balance}
 use Rattle.endgame_solver.specs.Thresholds.{BlackWins, HasOne, IsLeastWin}
 use Rattle.endgame_solver.proofs.ThresholdLaws.{alike_openings, alike_stones, balance_less, opening_balance, some_least, stones_serve, wins_first}

@@ -12,7 +12,8 @@ use Rattle.cycle_solver.specs.CycleFaults.{IsFaultOf, IsSteadyWithin}
 use Rattle.cycle_solver.specs.declared.faults.CycleError.{CycleError}
 use Rattle.cycle_solver.specs.declared.faults.CycleError.TheVariants.{Memory}
 use Rattle.cycle_solver.specs.declared.region_game.RegionGame.{RegionGame}
-use Rattle.cycle_solver.specs.Held.{IsGameOf, game_at}
+use Rattle.cycle_solver.specs.GameLists.{game_at}
+use Rattle.cycle_solver.specs.Held.{IsGameOf}
 
 -- the region's graph, which has at most so many positions
 pub record IsGraphWithin (limit : ℕ) (r : Region) (g : ReturnGraph) : Type 0 where
@@ -29,6 +30,11 @@ MayBeSteady limits most r g c Ts None = IsNeeded r c (most + 1) × ((j : ℕ) �
 pub record IsSolvedBy (limits : Limits) (most : ℕ) (r : Region) (Ts : List Tree) (game : RegionGame) : Type 0 where
   pub sound : IsSteadyWithin limits most r
   pub holds : IsGameOf r Ts game
+
+-- the regions hold the same, and the same is next to their places: the one is the other, moved over the board
+pub record IsTranslate (r q : Region) : Type 0 where
+  pub cells : r.cells ≡ q.cells
+  pub touch : r.touch ≡ q.touch
 
 -- the region's fault, or want of memory
 abbrev pub IsRefusalOf : Limits → ℕ → Region → CycleError → Type 0

@@ -1,5 +1,5 @@
 -- What a game with cycles keeps: the regions with their graphs and values, and where the present state stands in them.
-use Rattle.std.specs.Prelude.{ℕ, ◌+◌, ◌^◌, ◌≡◌, ◌<◌, ◌≤◌, List, [], length, slice_index, slice_index_or, Contains, Option, None, Some}
+use Rattle.std.specs.Prelude.{ℕ, ◌+◌, ◌^◌, ◌≡◌, ◌<◌, ◌≤◌, List, length, slice_index, slice_index_or, Contains, Option, None, Some}
 use Rattle.go_grid.specs.declared.grid.Cell.{Cell}
 use Rattle.go_grid.specs.declared.grid.Colour.{Colour}
 use Rattle.go_grid.specs.declared.grid.Colour.TheVariants.{Black, White}
@@ -25,6 +25,7 @@ use Rattle.endgame_solver.specs.ModestGames.{most_value}
 use Rattle.endgame_solver.specs.Regions.{IsStoneAt, region_at}
 use Rattle.cycle_solver.specs.declared.asking.Present.{Present}
 use Rattle.cycle_solver.specs.declared.region_game.RegionGame.{RegionGame}
+use Rattle.cycle_solver.specs.GameLists.{game_at}
 
 -- White's own layers, or Black's where there are none
 abbrev pub own_layers : Option (List (List ℕ)) → List (List ℕ) → List (List ℕ)
@@ -57,14 +58,6 @@ pub record AreLayersOf (r : Region) (game : RegionGame) (c : Colour) (Ts : List 
 pub record IsGameOf (r : Region) (Ts : List Tree) (game : RegionGame) : Type 0 where
   pub graph : IsReturnGraphOf r game.graph
   pub layers : (c : Colour) → AreLayersOf r game c Ts
-
--- a game without positions, which stands for one past the last
-abbrev pub no_game : RegionGame
-no_game = record { graph = record { positions = []; edges = []; components = None; black_order = []; white_order = [] }; black = []; white = None }
-
--- the game at a place of a list
-abbrev pub game_at : List RegionGame → ℕ → RegionGame
-game_at games k = slice_index_or games k no_game
 
 -- the place of a region's present position
 abbrev pub place_at : List ℕ → ℕ → ℕ

@@ -12,9 +12,10 @@ ghost use Rattle.endgame_solver.specs.SumGame.{AreModest, balance};
 ghost use Rattle.whole_budgets.specs.BudgetPlay.{WinsWithCaptures};
 ghost use Rattle.whole_budgets.specs.BudgetSums.{WinsGame};
 ghost use Rattle.cycle_solver.specs.Winner.{AreLeastCaptures, TellsCaptures, TellsWinner};
-ghost use Rattle.cycle_solver.specs.Held.{AreSummed, HaveOpenings, HavePlaces, IsSeen, IsSeenFor, enough, game_at, ids_with, place_at};
+ghost use Rattle.cycle_solver.specs.Held.{AreSummed, HaveOpenings, HavePlaces, IsSeen, IsSeenFor, enough, ids_with};
 
 use crate::region_game::{RegionGame, values_for};
+use crate::shared_games::RegionGames;
 use endgame_solver::balance_of;
 use game_store::{GameId, Store};
 use go_grid::{Colour, Region};
@@ -27,7 +28,7 @@ use whole_rules::{Purses, Whole};
 pub struct Present<'a> {
     pub whole: &'a Whole,
     pub regions: &'a [Region],
-    pub games: &'a [RegionGame],
+    pub games: &'a RegionGames,
     pub places: &'a [usize],
     pub store: &'a Store,
 }
@@ -79,13 +80,13 @@ pub(crate) fn value_with(game: &RegionGame, player: Colour, budget: usize, place
 }
 
 /// Puts the values of the present positions with a budget into a sum.
-fn fill(games: &[RegionGame], places: &[usize], player: Colour, budget: usize, sum: &mut [GameId])
+fn fill(games: &RegionGames, places: &[usize], player: Colour, budget: usize, sum: &mut [GameId])
     requires many { length sum.old ≡ length games.now }
     requires places { HavePlaces games.now places.now player budget }
     ensures { AreSummed games.now places.now player budget sum.new }
 {
     'regions: for k in 0..games.len() {
-        sum[k] = value_with(&games[k], player, budget, places[k]);
+        sum[k] = value_with(games.at(k), player, budget, places[k]);
     }
 }
 
@@ -238,7 +239,7 @@ pub fn captures_of(
 /// A player's values of the positions at the places, with a budget that no region needs more than.
 fn start_values(
     alloc: Global,
-    games: &[RegionGame],
+    games: &RegionGames,
     places: &[usize],
     player: Colour,
 ) -> Result<Vec<GameId>, AllocError>
@@ -251,7 +252,7 @@ fn start_values(
 }
 
 /// The first place of each graph.
-fn first_places(alloc: Global, games: &[RegionGame]) -> Result<Vec<usize>, AllocError>
+fn first_places(alloc: Global, games: &RegionGames) -> Result<Vec<usize>, AllocError>
     ensures { IfOk result (λ places. places.items ≡ replicate (length games.now) 0) }
 {
     let places = vec![in alloc; 0; games.len()]?;
@@ -267,7 +268,7 @@ pub struct Start {
 }
 
 /// The openings of the regions, each of which stands first in its graph.
-pub fn start_of(alloc: Global, games: &[RegionGame]) -> Result<Start, AllocError>
+pub fn start_of(alloc: Global, games: &RegionGames) -> Result<Start, AllocError>
     requires { HaveOpenings games.now }
     ensures places { IfOk result (λ start. start.places.items ≡ replicate (length games.now) 0) }
     ensures low { IfOk result

@@ -14,6 +14,7 @@ ghost use Rattle.cycle_solver.specs.Changes.{IsChange, IsSomeChange, places_afte
 
 use crate::asking::{ENOUGH, Present, value_with, wins_sum};
 use crate::region_game::RegionGame;
+use crate::shared_games::RegionGames;
 use endgame_solver::is_stone_at;
 use game_store::GameId;
 use go_grid::{Colour, Point, Region};
@@ -54,7 +55,7 @@ fn edges_of(game: &RegionGame, place: usize) -> &[Edge]
 /// The region and the edge of a stone at a point.
 fn stone_edge(
     regions: &[Region],
-    games: &[RegionGame],
+    games: &RegionGames,
     places: &[usize],
     point: Point,
     colour: Colour,
@@ -65,7 +66,7 @@ fn stone_edge(
         (λ x. IsStoneEdge regions.now games.now places.now colour point x.0 x.1) }
 {
     'regions: for k in 0..regions.len() {
-        let edges = edges_of(&games[k], places[k]);
+        let edges = edges_of(games.at(k), places[k]);
         if let Some(edge) = edge_in(&regions[k], edges, point, colour) {
             return Some((k, edge));
         }
@@ -142,7 +143,7 @@ pub(crate) fn put_change(
         None => None,
         Some((k, place)) => {
             let before = sum[k];
-            sum[k] = value_with(&present.games[k], player, ENOUGH, place);
+            sum[k] = value_with(present.games.at(k), player, ENOUGH, place);
             Some((k, before))
         }
     }

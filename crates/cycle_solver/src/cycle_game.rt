@@ -18,7 +18,8 @@ ghost use Rattle.cycle_solver.specs.Winner.{TellsCaptures, TellsWinner, TellsWin
 use crate::asking::{ENOUGH, Present, captures_of, start_of, value_with, winner_of};
 use crate::changes::change_of;
 use crate::faults::CycleError;
-use crate::region_game::{RegionGame, region_games};
+use crate::region_game::RegionGame;
+use crate::shared_games::{RegionGames, region_games};
 use crate::thresholds::{Thresholds, thresholds_after, thresholds_of};
 use crate::winning_moves::{first_winning_move, winner_after};
 use endgame_solver::{Limits, first_known, first_large, opening_of};
@@ -51,7 +52,7 @@ pub struct CycleGame {
     whole: Whole,
     store: Store,
     regions: Vec<Region>,
-    games: Vec<RegionGame>,
+    games: RegionGames,
     /// The places of the regions' present positions in their graphs.
     places: Vec<usize>,
     /// Black's values of the present positions.
@@ -74,7 +75,7 @@ impl Model for CycleGame {
 
     ghost view = { λ s. record { regions = s.regions.items; trees = s.store; state = s.whole } };
 
-    ghost invariant = { λ s. IsKept s.regions.items s.games.items s.places.items s.low.items
+    ghost invariant = { λ s. IsKept s.regions.items s.games s.places.items s.low.items
         s.high.items s.store s.whole × Fits s.store s.search };
 }
 
@@ -161,9 +162,9 @@ impl CycleGame {
         CycleReport {
             lowest: points[0],
             points: points.len() as u16,
-            positions: positions_of(&self.games[i]) as u64,
-            low: value_with(&self.games[i], Colour::Black, ENOUGH, 0),
-            high: value_with(&self.games[i], Colour::White, ENOUGH, 0),
+            positions: positions_of(self.games.at(i)) as u64,
+            low: value_with(self.games.at(i), Colour::Black, ENOUGH, 0),
+            high: value_with(self.games.at(i), Colour::White, ENOUGH, 0),
         }
     }
 

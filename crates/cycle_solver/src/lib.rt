@@ -7,6 +7,7 @@ mod cycle_game;
 mod faults;
 mod laws;
 mod region_game;
+mod shared_games;
 mod thresholds;
 mod winning_moves;
 
@@ -14,5 +15,6 @@ pub use asking::{Present, Start, captures_of, start_of, winner_of};
 pub use cycle_game::{CycleGame, CycleReport};
 pub use faults::CycleError;
 pub use laws::cycle_threshold_laws;
-pub use region_game::{RegionGame, region_games, values_for};
+pub use region_game::{RegionGame, values_for};
+pub use shared_games::{RegionGames, region_games};
 pub use thresholds::Thresholds;

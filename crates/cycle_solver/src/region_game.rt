@@ -1,13 +1,11 @@
-//! Regions with their graphs, and the values of their positions by budget.
+//! A region's graph, and the values of its positions by budget.
 
 ghost use Rattle.std.specs.Prelude.{◌≡◌, ℕ, ◌+◌, ◌^◌, ◌<◌, ◌≤◌, IfErr, IfOk, MatchOption, Ok, Err, length, min};
 ghost use Rattle.game_store.specs.Meaning.{Extends};
 ghost use Rattle.local_graph.specs.LocalGraph.{MoreThan};
 ghost use Rattle.local_value.specs.BudgetValues.{IsReturnGraphOf};
-ghost use Rattle.endgame_solver.specs.Faults.{AreSmallRegions, most_steps};
-ghost use Rattle.cycle_solver.specs.CycleFaults.{AreRefused};
 ghost use Rattle.cycle_solver.specs.Held.{IsGameOf, layers_for};
-ghost use Rattle.cycle_solver.specs.Games.{IsGraphWithin, AreSolvedBelow, IsRefusalOf, IsSolvedBy, MayBeSteady};
+ghost use Rattle.cycle_solver.specs.Games.{IsGraphWithin, IsRefusalOf, IsSolvedBy, MayBeSteady};
 
 use crate::faults::CycleError;
 use endgame_solver::Limits;
@@ -92,7 +90,7 @@ fn values_of(
 }
 
 /// The graph and the values of a region.
-fn region_game<L: Ledger>(
+pub(crate) fn region_game<L: Ledger>(
     alloc: Global,
     region: &Region,
     limits: &Limits,
@@ -133,31 +131,4 @@ fn region_game<L: Ledger>(
             }),
         },
     }
-}
-
-/// The graphs and the values of all regions of at most 32 points, or why the first that has none has none: too many positions,
-/// a value without a form, or more captures that return than `most` before it is steady. It takes at most one step for each
-/// position of each region. The values that it makes are of the store.
-pub fn region_games<L: Ledger>(
-    alloc: Global,
-    regions: &[Region],
-    limits: &Limits,
-    most: u8,
-    store: &mut Store,
-    steps: &mut Steps<L>,
-) -> Result<Vec<RegionGame>, CycleError>
-    requires small { AreSmallRegions regions.now }
-    requires limit { limits.now.positions ≤ MOST_POSITIONS }
-    ensures solved { IfOk result (λ games. AreSolvedBelow limits.now most regions.now games.items
-        store.new (length regions.now)) }
-    ensures refusal { IfErr result (λ e. AreRefused limits.now most regions.now e) }
-    ensures kept { IfOk result (λ games. Extends store.old store.new) }
-    ensures steps { steps.new ≤ steps.old + most_steps limits.now regions.now }
-{
-    let mut games = Vec::new(alloc);
-    'regions: for number in 0..regions.len() {
-        let game = region_game(alloc, &regions[number], limits, most, store, steps)?;
-        games.push(game)?;
-    }
-    Ok(games)
 }

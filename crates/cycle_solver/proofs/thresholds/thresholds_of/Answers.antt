@@ -1,4 +1,4 @@
-use Rattle.std.proofs.Common.{[], ◌∷◌}
+use Rattle.std.proofs.Common.{[]}
 use Rattle.go_grid.specs.declared.grid.Colour.TheVariants.{Black, White}
 use Rattle.endgame_solver.proofs.MarginLaws.{raised_back}
 use Rattle.cycle_solver.proofs.MarginLaws.{threshold_from}

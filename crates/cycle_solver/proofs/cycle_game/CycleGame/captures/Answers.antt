@@ -1,4 +1,4 @@
-use Rattle.std.proofs.Common.{subst}
+use Rattle.std.proofs.Common.{subst, refl}
 use Rattle.cycle_solver.specs.Winner.{TellsCaptures}
 use Rattle.cycle_solver.proofs.SumLaws.{seen_lent}
 use Rattle.cycle_solver.proofs.cycle_game.CycleGame.captures.Goals as goal
@@ -6,12 +6,12 @@ use Rattle.cycle_solver.proofs.cycle_game.CycleGame.captures.Goals as goal
 pub captures_of-requires-clause-low : goal.captures_of-requires-clause-low
 captures_of-requires-clause-low c =
     let kept = c.self.invariant.0 in
-    seen_lent kept.held kept.low_sum c.deref.ensures.value c.deref-2.ensures.value c.deref-3.ensures.value c.deref_mut.ensures.value
+    seen_lent kept.held kept.low_sum c.deref.ensures.value refl c.deref-2.ensures.value c.deref_mut.ensures.value
 
 pub captures_of-requires-clause-high : goal.captures_of-requires-clause-high
 captures_of-requires-clause-high c =
     let kept = c.self.invariant.0 in
-    seen_lent kept.held kept.high_sum c.deref.ensures.value c.deref-2.ensures.value c.deref-3.ensures.value c.deref_mut-2.ensures.value
+    seen_lent kept.held kept.high_sum c.deref.ensures.value refl c.deref-2.ensures.value c.deref_mut-2.ensures.value
 
 pub returns-clause-captures : goal.returns-clause-captures
 returns-clause-captures c =

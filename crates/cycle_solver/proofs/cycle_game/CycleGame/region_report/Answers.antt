@@ -1,6 +1,5 @@
-use Rattle.std.proofs.Common.{◌<◌, ◌≤◌, ◌≡◌, ◌∙◌, length, sym, subst, ap, get_or, arith}
+use Rattle.std.proofs.Common.{◌<◌, ◌≡◌, ◌∙◌, length, sym, subst, ap, get_or, arith}
 use Rattle.std.proofs.lemmas.List.{get_or_default}
-use Rattle.go_grid.specs.declared.grid.Colour.{Colour}
 use Rattle.go_grid.specs.declared.grid.Colour.TheVariants.{Black, White}
 use Rattle.local_graph.proofs.BuildLemmas.{all_positions}
 use Rattle.region_cut.specs.Cut.{lowest}
@@ -8,7 +7,8 @@ use Rattle.endgame_solver.specs.Regions.{region_at, no_region}
 use Rattle.endgame_solver.specs.Solved.{IsNumberOfPositions}
 use Rattle.cycle_solver.specs.declared.cycle_game.CycleReport.{CycleReport}
 use Rattle.cycle_solver.specs.Begun.{IsReport, IsSteadyId}
-use Rattle.cycle_solver.specs.Held.{enough, game_at, ids_with, no_game}
+use Rattle.cycle_solver.specs.GameLists.{game_at}
+use Rattle.cycle_solver.specs.Held.{ids_with}
 use Rattle.cycle_solver.proofs.BeginLaws.{few_points, lowest_on_board, opening_id, opening_value}
 use Rattle.cycle_solver.proofs.cycle_game.CycleGame.region_report.Goals as goal
 
@@ -30,8 +30,7 @@ value_with-requires c =
     let n = c.args.i in
     let held = c.self.invariant.0.held in
     let lt = subst (λ v. n < length v.regions) (sym c.self.view_is) c.requires in
-    let shape : game_at i.games.items n ≡ c.index-4.result.now =
-    get_or_default i.games.items n no_game c.index-4.result.now (omega (arith, lt, held.solved.many)) ∙ sym c.index-4.ensures in
+    let shape : game_at i.games n ≡ c.at-2.result.now = sym c.at-2.ensures in
     subst (λ game. 0 < length (ids_with game Black 255)) shape (opening_value held.solved lt Black)
 
 pub value_with-requires-2 : goal.value_with-requires-2
@@ -40,8 +39,7 @@ value_with-requires-2 c =
     let n = c.args.i in
     let held = c.self.invariant.0.held in
     let lt = subst (λ v. n < length v.regions) (sym c.self.view_is) c.requires in
-    let shape : game_at i.games.items n ≡ c.index-5.result.now =
-    get_or_default i.games.items n no_game c.index-5.result.now (omega (arith, lt, held.solved.many)) ∙ sym c.index-5.ensures in
+    let shape : game_at i.games n ≡ c.at-3.result.now = sym c.at-3.ensures in
     subst (λ game. 0 < length (ids_with game White 255)) shape (opening_value held.solved lt White)
 
 pub returns-clause-report : goal.returns-clause-report
@@ -50,16 +48,15 @@ returns-clause-report c =
     let n = c.args.i in
     let held = c.self.invariant.0.held in
     let lt = subst (λ v. n < length v.regions) (sym c.self.view_is) c.requires in
-    let less : n < length i.games.items = omega (arith, lt, held.solved.many) in
     let r = region_at i.regions.items n in
     let positions = all_positions r.touch r.cells _ _ (held.solved.each n lt).graph.graph in
     let points = c.behind-self.inside.points in
     let shape : r ≡ c.index.result.now = get_or_default i.regions.items n no_region c.index.result.now lt ∙ sym c.index.ensures in
     let view = c.behind-self.view_is ∙ sym shape in
     let count : c.len.result ≡ length points.items = omega (arith, c.len.ensures, points.ok) in
-    let third : game_at i.games.items n ≡ c.index-3.result.now = get_or_default i.games.items n no_game c.index-3.result.now less ∙ sym c.index-3.ensures in
-    let fourth : game_at i.games.items n ≡ c.index-4.result.now = get_or_default i.games.items n no_game c.index-4.result.now less ∙ sym c.index-4.ensures in
-    let fifth : game_at i.games.items n ≡ c.index-5.result.now = get_or_default i.games.items n no_game c.index-5.result.now less ∙ sym c.index-5.ensures in
+    let third : game_at i.games n ≡ c.at.result.now = sym c.at.ensures in
+    let fourth : game_at i.games n ≡ c.at-2.result.now = sym c.at-2.ensures in
+    let fifth : game_at i.games n ≡ c.at-3.result.now = sym c.at-3.ensures in
     let low = ap (λ game. get_or (ids_with game Black 255) 0 0) fourth ∙ sym c.value_with.ensures in
     let high = ap (λ game. get_or (ids_with game White 255) 0 0) fifth ∙ sym c.value_with-2.ensures in
     let report : CycleReport =

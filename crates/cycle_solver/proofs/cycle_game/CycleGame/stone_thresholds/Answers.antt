@@ -1,6 +1,6 @@
 use mir.Syntax.{w64}
 use Rattle.std.proofs.lemmas.Int.{to_z-of_z}
-use Rattle.std.proofs.Common.{[], ◌∷◌, subst}
+use Rattle.std.proofs.Common.{[], ◌∷◌, subst, refl}
 use Rattle.whole_rules.specs.declared.states.Move.TheVariants.{Stone}
 use Rattle.whole_rules.specs.WholeGame.{IsLegal}
 use Rattle.cycle_solver.specs.Thresholds.{AreThresholdsFrom}
@@ -10,12 +10,12 @@ use Rattle.cycle_solver.proofs.cycle_game.CycleGame.stone_thresholds.Goals as go
 pub thresholds_after-requires-clause-low : goal.thresholds_after-requires-clause-low
 thresholds_after-requires-clause-low c =
     let kept = c.self.invariant.0 in
-    seen_lent kept.held kept.low_sum c.deref.ensures.value c.deref-2.ensures.value c.deref-3.ensures.value c.deref_mut.ensures.value
+    seen_lent kept.held kept.low_sum c.deref.ensures.value refl c.deref-2.ensures.value c.deref_mut.ensures.value
 
 pub thresholds_after-requires-clause-high : goal.thresholds_after-requires-clause-high
 thresholds_after-requires-clause-high c =
     let kept = c.self.invariant.0 in
-    seen_lent kept.held kept.high_sum c.deref.ensures.value c.deref-2.ensures.value c.deref-3.ensures.value c.deref_mut-2.ensures.value
+    seen_lent kept.held kept.high_sum c.deref.ensures.value refl c.deref-2.ensures.value c.deref_mut-2.ensures.value
 
 pub returns-clause-thresholds : goal.returns-clause-thresholds
 returns-clause-thresholds c =
