@@ -1,4 +1,6 @@
-use Rattle.std.proofs.Common.{ap, subst, ◌∙◌}
+use Rattle.std.proofs.Common.{◌+◌, ◌≤◌, ap, subst, sym, ◌∙◌}
+use Rattle.endgame_solver.specs.Faults.{most_steps}
+use Rattle.region_cut.specs.Cut.{AreRegionsOfPlay}
 use Rattle.gtp_engine.specs.inner.Playing.{IsOpened}
 use Rattle.gtp_engine.proofs.OrderLemmas.{turn_first, turn_unsolved}
 use Rattle.gtp_engine.proofs.KeptLemmas.{with_side_fit}
@@ -29,3 +31,9 @@ returns-clause-taken g c =
 -- an engine has no tax
 pub open-requires-clause-taxed : goal.open-requires-clause-taxed
 open-requires-clause-taxed g c taxed = absurd (both_ways _ (ap (λ l. l.tax) c.of_game-limits.ensures) taxed)
+
+pub returns-clause-steps : goal.returns-clause-steps
+returns-clause-steps g c regions are =
+    let board = ap (λ s. s.board) c.in_ok-setup.ensures ∙ ap (λ a. a.table.setup.board) c.self.view_is in
+    subst (λ l. c.open.new.steps ≤ c.args.steps.now + most_steps l regions) (c.of_game-limits.ensures ∙ ap (λ a. game_limits a.limits) c.self.view_is)
+    (c.open.ensures.steps regions (subst (λ b. AreRegionsOfPlay b regions) (sym board) are))
