@@ -115,7 +115,7 @@ shown_values : (c : ℕ) (r : Region) (text : List ℕ) → AreRegionLines c r t
 shown_values c r text lines Black = (lines.low, lines.is_low, (shown_both lines.low lines.high lines.values lines.are_values).0)
 shown_values c r text lines White = (lines.high, lines.is_high, (shown_both lines.low lines.high lines.values lines.are_values).1)
 
-shown_at : (c : ℕ) (rs : List Region) (text : List ℕ) → AreLinesOfEach c rs text → (j : ℕ) → j < length rs → HasShownValues (region_at rs j)
+pub shown_at : (c : ℕ) (rs : List Region) (text : List ℕ) → AreLinesOfEach c rs text → (j : ℕ) → j < length rs → HasShownValues (region_at rs j)
 shown_at c [] text h j lt = absurd (omega (arith, lt))
 shown_at c (r ∷ rs) text (first, rest, lines, are, is) zero lt = shown_values c r first lines
 shown_at c (r ∷ rs) text (first, rest, lines, are, is) (suc j) lt = shown_at c rs rest are j (omega (arith, lt))

@@ -1,4 +1,7 @@
+use Rattle.std.proofs.Common.{◌∙◌, ◌++◌, ap}
 use Rattle.short_games.specs.Tree.{tree_at}
+use Rattle.game_text.specs.NamedText.{named_text}
+use Rattle.game_lines.specs.Showings.{labelled_lines, picture}
 use Rattle.report.proofs.CycleValuesLaws.{lines_of}
 use Rattle.report.proofs.cycle_values.write_value.Goals as goal
 
