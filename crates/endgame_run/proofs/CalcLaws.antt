@@ -40,6 +40,7 @@ calc_read limit expression (status.BadExpression f) text (h, e) = refused_read l
 calc_read limit expression status.CalcLimit text (inl reads, e) = inr (large, reads, refl)
 calc_read limit expression status.CalcLimit text (inr (line, reads, past), e) = inl (line, reads, inr (past, refl))
 calc_read limit expression status.Usage text h = absurd h
+calc_read limit expression status.CaptureLimit text h = absurd h
 calc_read limit expression status.CannotRead text h = absurd h
 calc_read limit expression status.CannotWrite text h = absurd h
 calc_read limit expression (status.BadFile f) text h = absurd h

@@ -31,6 +31,7 @@ use Rattle.gd_words.specs.declared.job.Question.TheVariants as question
 use Rattle.endgame_run.specs.declared.status.Status.{Status}
 use Rattle.endgame_run.specs.declared.status.Status.TheVariants.{CannotRead, CannotWrite, Done, Memory, TooManyLines}
 use Rattle.endgame_run.specs.declared.status.Status.TheVariants as status
+use Rattle.endgame_run.proofs.CycleLaws.{steady_done}
 use Rattle.endgame_run.proofs.GameWinLaws.{map_told}
 use Rattle.endgame_run.proofs.OneStatusLaws.{file_or_position, plain_done, shows_shown, solves_sound}
 use Rattle.endgame_run.proofs.RunLaws.{reason}
@@ -44,10 +45,11 @@ count_stays word a b calm = go (bytes_eq word (codes "-")) where
 
 within_done : (q : Question) (limits : Limits) (setup : Setup) (s : Status) (text : List ℕ) → IsWithinLimits q limits setup → IsPositionAnswer q limits setup s text → s ≡ Done
 within_done question.Values limits setup s text w h = shows_shown limits setup w.0 s text w.1 w.2 w.3 h
-within_done question.Solve limits setup s text w h = solves_sound question.Solve limits setup w.0 s text (λ e. absurd cc) w.1 w.2 h
-within_done question.Margin limits setup s text w h = solves_sound question.Margin limits setup w.0 s text (λ e. absurd cc) w.1 w.2 h
-within_done question.Moves limits setup s text w h = solves_sound question.Moves limits setup w.0 s text (λ e. absurd cc) w.1 w.2 h
-within_done question.Line limits setup s text w h = solves_sound question.Line limits setup w.0 s text (λ e. absurd cc) w.1 w.2 h
+within_done question.Solve limits setup s text w h = solves_sound question.Solve limits setup w.0 s text tt (λ e. absurd cc) w.1 w.2 h
+within_done question.Margin limits setup s text w h = solves_sound question.Margin limits setup w.0 s text tt (λ e. absurd cc) w.1 w.2 h
+within_done question.Moves limits setup s text w h = solves_sound question.Moves limits setup w.0 s text tt (λ e. absurd cc) w.1 w.2 h
+within_done question.Line limits setup s text w h = solves_sound question.Line limits setup w.0 s text tt (λ e. absurd cc) w.1 w.2 h
+within_done (question.WithCycles asked) limits setup s text w h = steady_done asked limits setup s text w h
 within_done question.Safe limits setup s text w h = plain_done question.Safe limits setup s text (λ n. n) h
 within_done question.Board limits setup s text w h = plain_done question.Board limits setup s text (λ n. n) h
 
@@ -85,6 +87,7 @@ module _ (q : Question) (limits : Limits) (settings : Settings) (word : List ℕ
   answer_done (status.BadFile f) text answer = by_file (status.BadFile f) text answer
   answer_done (status.BadExpression f) text answer = by_file (status.BadExpression f) text answer
   answer_done status.CalcLimit text answer = by_file status.CalcLimit text answer
+  answer_done status.CaptureLimit text answer = by_file status.CaptureLimit text answer
 
 -- what is decided of which nothing else than `Done` holds is done
 decided_done : (decided : Status → List ℕ → Type 0) (w x : ℕ) (before now : Option (List ℕ)) (s : Status) → ((t : Status) (text : List ℕ) → decided t text → t ≡ Done) → ¬ Rose w x
@@ -99,6 +102,7 @@ calc_done : (limit : ℕ) (expression : List ℕ) → IsUnrefused limit expressi
 calc_done limit expression none Done text h = refl
 calc_done limit expression none (status.BadExpression f) text h = absurd (none.0 f h.0)
 calc_done limit expression none status.CalcLimit text h = absurd (none.1 h.0)
+calc_done limit expression none status.CaptureLimit text h = absurd h
 calc_done limit expression none Memory text h = absurd h
 calc_done limit expression none CannotRead text h = absurd h
 calc_done limit expression none CannotWrite text h = absurd h
@@ -125,6 +129,7 @@ game_done job word a b status.FormLimit calm (engine, state, game, run) = absurd
 game_done job word a b (status.BadFile f) calm (engine, state, game, run) = absurd run.begun
 game_done job word a b (status.BadExpression f) calm (engine, state, game, run) = absurd run.begun
 game_done job word a b status.CalcLimit calm (engine, state, game, run) = absurd run.begun
+game_done job word a b status.CaptureLimit calm (engine, state, game, run) = absurd run.begun
 
 -- a session that no read and no write broke off
 engine_done : (job : Job) (a b : Known) (s : Status) → ¬ Rose a.input.reads b.input.reads → ¬ Rose a.writes b.writes → IsEnginePlay (engine_limits job) a s b → IsDone s ⊎ HasManyCommands job a s b
@@ -141,6 +146,7 @@ engine_done job a b status.FormLimit read write e = absurd e.ends
 engine_done job a b (status.BadFile f) read write e = absurd e.ends
 engine_done job a b (status.BadExpression f) read write e = absurd e.ends
 engine_done job a b status.CalcLimit read write e = absurd e.ends
+engine_done job a b status.CaptureLimit read write e = absurd e.ends
 
 module _ {H S K : Type 0} (o : Outside H S K) (job : Job) (a b : Desk H S K) (s : Status) where
   complete : (task : Task) → RunsTask o task job a s b → IsComplete task job (known o a) s (known o b)

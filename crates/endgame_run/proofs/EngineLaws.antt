@@ -56,6 +56,7 @@ stopped_whole limits files failing bytes before now status.TooLong text line h e
 stopped_whole limits files failing bytes before now (status.BadFile f) text line h e = absurd h
 stopped_whole limits files failing bytes before now (status.BadExpression f) text line h e = absurd h
 stopped_whole limits files failing bytes before now status.CalcLimit text line h e = absurd h
+stopped_whole limits files failing bytes before now status.CaptureLimit text line h e = absurd h
 
 module _ (limits : EngineLimits) (a b : Known) (failing : List ℕ) (failed : AreFailedLoads a.input.loads b.input.loads failing) (middle : ℕ) (mid : Option (List ℕ)) (status : Status) where
   -- a status that stands behind a session without a line of its own

@@ -62,6 +62,7 @@ module _ (engine : Colour) (s : Whole) (bytes : List ℕ) (before now : Option (
   won_stopped (status.BadFile f) text line part h unnamed is = absurd h
   won_stopped (status.BadExpression f) text line part h unnamed is = absurd h
   won_stopped status.CalcLimit text line part h unnamed is = absurd h
+  won_stopped status.CaptureLimit text line part h unnamed is = absurd h
 
   line_unnamed : (line whole : List ℕ) (n : ℕ) → line ≡ whole → (whole ≡ codes "fault cannot read\n") ⊎ (whole ≡ codes "fault lines\n") → IsUnnamed engine (take n line)
   line_unnamed line whole n e (inl is) = subst (λ l. IsUnnamed engine (take n l)) (sym (e ∙ is)) (calm_unnamed engine (codes "fault cannot read\n") n refl)
@@ -90,6 +91,7 @@ module _ (engine : Colour) (s : Whole) (bytes : List ℕ) (before now : Option (
   won_game (status.BadFile f) begun h = absurd begun
   won_game (status.BadExpression f) begun h = absurd begun
   won_game status.CalcLimit begun h = absurd begun
+  won_game status.CaptureLimit begun h = absurd begun
 
 -- an engine keeps what it has won, in every run
 module _ {H S K : Type 0} (o : Outside H S K) (job : Job) (a b : Desk H S K) (status : Status) where

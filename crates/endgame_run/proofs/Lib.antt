@@ -8,6 +8,8 @@ mod SessionLaws
 mod EngineLaws
 mod RunLaws
 mod OneStatusLaws
+mod CycleAnswers
+mod CycleLaws
 mod OneGameLaws
 mod CalcLaws
 mod TrialLaws

@@ -16,10 +16,10 @@ use Rattle.endgame_solver.specs.Regions.{no_region, region_at}
 use Rattle.endgame_run.specs.declared.status.Status.{Status}
 use Rattle.endgame_run.specs.declared.status.Status.TheVariants as status
 use Rattle.sgf_go.specs.declared.fault.FileFault.{FileFault}
-use Rattle.gd_words.specs.Task.{NeedsRegions}
+use Rattle.gd_words.specs.Task.{NeedsRegions, TakesNoCycles}
 use Rattle.gd_words.specs.declared.job.Question.{Question}
 use Rattle.gd_words.specs.declared.job.Question.TheVariants as question
-use Rattle.endgame_run.specs.Laws.{HasOneStatus, RefusesFaults, RefusesUnshown, ShowsShown, SolvesSound}
+use Rattle.endgame_run.specs.Laws.{RefusesFaults, RefusesUnshown, ShowsShown, SolvesSound}
 use Rattle.sgf_go.specs.File.{Reads}
 use Rattle.endgame_run.specs.Refusal.{HasStatus, IsRefused}
 use Rattle.endgame_run.specs.Question.{IsFileAnswer, IsPositionAnswer, IsQuestionRefused, IsTextOf}
@@ -54,7 +54,7 @@ region_status limits r (Form p) (Cycle q names back) s t a b x y = absurd (a.2 b
 region_status limits r (Form p) (Form q) s t a b x y = x ∙ sym y
 
 -- a region of more than 32 points, or else the first fault of a region
-abbrev HasLarge : List Region → Type 0
+abbrev pub HasLarge : List Region → Type 0
 HasLarge rs = (r : Region) × Contains rs r × (32 < length r.points)
 
 by_size : (limits : Limits) (rs : List Region) (f : SolveError) (s : Status) → AreRefused limits rs f → HasStatus f s
@@ -65,7 +65,7 @@ by_size limits rs (Cycle p names back) s h x = inr h
 by_size limits rs (Form p) s h x = inr h
 by_size limits rs (Memory e) s h x = absurd x
 
-large_or_small : (rs : List Region) → HasLarge rs → AreSmallRegions rs → ⊥
+pub large_or_small : (rs : List Region) → HasLarge rs → AreSmallRegions rs → ⊥
 large_or_small rs (r, among, large) small = let few = small r among in absurd (omega (arith, few, large))
 
 first_status : (limits : Limits) (rs : List Region) (f g : SolveError) (s t : Status) → IsFirstFault limits rs f → IsFirstFault limits rs g → HasStatus f s → HasStatus g t → s ≡ t
@@ -90,7 +90,7 @@ sound_or_refused limits rs f s sound a x = go (by_size limits rs f s a x) where
   go (inr (small, (k, lt, fault, before))) = sound_has_none limits (region_at rs k) f (sound (region_at rs k) (Contains-get_or rs k no_region lt)) fault
 
 -- a question about a position is answered or refused
-by_status : (q : Question) (limits : Limits) (p : Setup) (s : Status) (a : List ℕ) → IsPositionAnswer q limits p s a → ((s ≡ status.Done) × IsTextOf q limits p a) ⊎ IsQuestionRefused q limits p s a
+pub by_status : (q : Question) (limits : Limits) (p : Setup) (s : Status) (a : List ℕ) → IsPositionAnswer q limits p s a → ((s ≡ status.Done) × IsTextOf q limits p a) ⊎ IsQuestionRefused q limits p s a
 by_status q limits p status.Done a h = inl (refl, h)
 by_status q limits p status.Cycle a h = inr h
 by_status q limits p status.RegionLimit a h = inr h
@@ -104,6 +104,7 @@ by_status q limits p status.TooLong a h = absurd h
 by_status q limits p status.TooManyLines a h = absurd h
 by_status q limits p (status.BadExpression f) a h = absurd h
 by_status q limits p status.CalcLimit a h = absurd h
+by_status q limits p status.CaptureLimit a h = inr h
 
 -- what is answered has sound regions, where it needs them
 record HasSound (limits : Limits) (p : Setup) : Type 0 where
@@ -111,28 +112,30 @@ record HasSound (limits : Limits) (p : Setup) : Type 0 where
   are_regions : AreRegionsOfPlay p.board regions
   sound : AreSound limits regions
 
-text_sound : (q : Question) (limits : Limits) (p : Setup) (a : List ℕ) → NeedsRegions q → IsTextOf q limits p a → HasSound limits p
-text_sound question.Solve limits p a needs v = record { regions = v.regions; are_regions = v.are_regions; sound = v.sound }
-text_sound question.Values limits p a needs v = record { regions = v.regions; are_regions = v.are_regions; sound = v.sound }
-text_sound question.Margin limits p a needs v = record { regions = v.regions; are_regions = v.are_regions; sound = v.sound }
-text_sound question.Moves limits p a needs v = record { regions = v.regions; are_regions = v.are_regions; sound = v.sound }
-text_sound question.Line limits p a needs v = record { regions = v.regions; are_regions = v.are_regions; sound = v.sound }
-text_sound question.Safe limits p a needs v = absurd needs
-text_sound question.Board limits p a needs v = absurd needs
+text_sound : (q : Question) (limits : Limits) (p : Setup) (a : List ℕ) → TakesNoCycles q → NeedsRegions q → IsTextOf q limits p a → HasSound limits p
+text_sound question.Solve limits p a plain needs v = record { regions = v.regions; are_regions = v.are_regions; sound = v.sound }
+text_sound question.Values limits p a plain needs v = record { regions = v.regions; are_regions = v.are_regions; sound = v.sound }
+text_sound question.Margin limits p a plain needs v = record { regions = v.regions; are_regions = v.are_regions; sound = v.sound }
+text_sound question.Moves limits p a plain needs v = record { regions = v.regions; are_regions = v.are_regions; sound = v.sound }
+text_sound question.Line limits p a plain needs v = record { regions = v.regions; are_regions = v.are_regions; sound = v.sound }
+text_sound question.Safe limits p a plain needs v = absurd needs
+text_sound question.Board limits p a plain needs v = absurd needs
+text_sound (question.WithCycles asked) limits p a plain needs v = absurd plain
 
 -- what is refused needs regions: these are refused, or a value can't be shown
 abbrev IsNotAnswered : Question → Limits → Setup → Status → List ℕ → Type 0
 IsNotAnswered q limits p s a = NeedsRegions q × (IsRefused limits p s a ⊎ ((q ≡ question.Values) × AreUnshown limits p s a))
 
-not_answered : (q : Question) (limits : Limits) (p : Setup) (s : Status) (a : List ℕ) → IsQuestionRefused q limits p s a → IsNotAnswered q limits p s a
-not_answered question.Solve limits p s a h = (tt, inl h)
-not_answered question.Margin limits p s a h = (tt, inl h)
-not_answered question.Moves limits p s a h = (tt, inl h)
-not_answered question.Line limits p s a h = (tt, inl h)
-not_answered question.Values limits p s a (inl h) = (tt, inl h)
-not_answered question.Values limits p s a (inr h) = (tt, inr (refl, h))
-not_answered question.Safe limits p s a h = absurd h
-not_answered question.Board limits p s a h = absurd h
+not_answered : (q : Question) (limits : Limits) (p : Setup) (s : Status) (a : List ℕ) → TakesNoCycles q → IsQuestionRefused q limits p s a → IsNotAnswered q limits p s a
+not_answered question.Solve limits p s a plain h = (tt, inl h)
+not_answered question.Margin limits p s a plain h = (tt, inl h)
+not_answered question.Moves limits p s a plain h = (tt, inl h)
+not_answered question.Line limits p s a plain h = (tt, inl h)
+not_answered question.Values limits p s a plain (inl h) = (tt, inl h)
+not_answered question.Values limits p s a plain (inr h) = (tt, inr (refl, h))
+not_answered question.Safe limits p s a plain h = absurd h
+not_answered question.Board limits p s a plain h = absurd h
+not_answered (question.WithCycles asked) limits p s a plain h = absurd plain
 
 -- sound regions aren't refused
 sound_clash : (limits : Limits) (p : Setup) (s : Status) (b : List ℕ) (regions : List Region) → AreRegionsOfPlay p.board regions → AreSound limits regions → IsRefused limits p s b → ⊥
@@ -145,10 +148,10 @@ two_refusals limits p s t a b v w =
     refusals limits w.regions v.fault w.fault s t (subst (λ l. AreRefused limits l v.fault) (one_regions p.board v.regions w.regions v.are_regions w.are_regions) v.refused) w.refused v.status w.status
 
 pub solves_sound : SolvesSound
-solves_sound q limits p regions s a apart are sound h = go (by_status q limits p s a h) where
+solves_sound q limits p regions s a plain apart are sound h = go (by_status q limits p s a h) where
   go : ((s ≡ status.Done) × IsTextOf q limits p a) ⊎ IsQuestionRefused q limits p s a → s ≡ status.Done
   go (inl v) = v.0
-  go (inr w) = elim (not_answered q limits p s a w).1 [ inl r ↦ absurd (sound_clash limits p s a regions are sound r) | inr u ↦ absurd (apart u.0) ]
+  go (inr w) = elim (not_answered q limits p s a plain w).1 [ inl r ↦ absurd (sound_clash limits p s a regions are sound r) | inr u ↦ absurd (apart u.0) ]
 
 -- of regions all of whose values are shown none isn't
 shown_clash : (regions others : List Region) (p : ℕ) → others ≡ regions → ((k : ℕ) → k < length regions → HasShownValue (region_at regions k)) → IsFirstUnshown others p → ⊥
@@ -188,18 +191,18 @@ never_sound limits p regions others f t are refused x too sound =
     sound_or_refused limits regions f t (subst (AreSound limits) (one_regions p.board others regions too are) sound) refused x
 
 pub refuses_faults : RefusesFaults
-refuses_faults q limits p regions f s t a needs are refused x h = go (by_status q limits p s a h) where
+refuses_faults q limits p regions f s t a plain needs are refused x h = go (by_status q limits p s a h) where
   go : ((s ≡ status.Done) × IsTextOf q limits p a) ⊎ IsQuestionRefused q limits p s a → s ≡ t
-  go (inl v) = let k = text_sound q limits p a needs v.1 in absurd (never_sound limits p regions k.regions f t are refused x k.are_regions k.sound)
-  go (inr w) = elim (not_answered q limits p s a w).1 [
+  go (inl v) = let k = text_sound q limits p a plain needs v.1 in absurd (never_sound limits p regions k.regions f t are refused x k.are_regions k.sound)
+  go (inr w) = elim (not_answered q limits p s a plain w).1 [
     | inl r ↦ against limits p regions f s t a are refused x r
     | inr u ↦ absurd (never_sound limits p regions u.1.regions f t are refused x u.1.are_regions u.1.sound)
   ]
 
 -- an answer, and a refusal of the same question
-clash : (q : Question) (limits : Limits) (p : Setup) (s : Status) (a b : List ℕ) → IsTextOf q limits p a → IsNotAnswered q limits p s b → ⊥
-clash q limits p s a b v (needs, inl r) = let k = text_sound q limits p a needs v in sound_clash limits p s b k.regions k.are_regions k.sound r
-clash q limits p s a b v (needs, inr (is, u)) = valued_clash limits p s a b (subst (λ k. IsTextOf k limits p a) is v) u
+clash : (q : Question) (limits : Limits) (p : Setup) (s : Status) (a b : List ℕ) → TakesNoCycles q → IsTextOf q limits p a → IsNotAnswered q limits p s b → ⊥
+clash q limits p s a b plain v (needs, inl r) = let k = text_sound q limits p a plain needs v in sound_clash limits p s b k.regions k.are_regions k.sound r
+clash q limits p s a b plain v (needs, inr (is, u)) = valued_clash limits p s a b (subst (λ k. IsTextOf k limits p a) is v) u
 
 -- two refusals of one question
 alike : (q : Question) (limits : Limits) (p : Setup) (s t : Status) (a b : List ℕ) → IsNotAnswered q limits p s a → IsNotAnswered q limits p t b → s ≡ t
@@ -208,17 +211,28 @@ alike q limits p s t a b (n, inl v) (m, inr (is, w)) = absurd (sound_clash limit
 alike q limits p s t a b (n, inr (is, v)) (m, inl w) = absurd (sound_clash limits p t b v.regions v.are_regions v.sound w)
 alike q limits p s t a b (n, inr (is, v)) (m, inr (so, w)) = v.status ∙ sym w.status
 
-position_status : (q : Question) (limits : Limits) (p : Setup) (s t : Status) (a b : List ℕ) → IsPositionAnswer q limits p s a → IsPositionAnswer q limits p t b → s ≡ t
-position_status q limits p s t a b x y = go (by_status q limits p s a x) (by_status q limits p t b y) where
+pub plain_status : (q : Question) (limits : Limits) (p : Setup) (s t : Status) (a b : List ℕ) → TakesNoCycles q → IsPositionAnswer q limits p s a → IsPositionAnswer q limits p t b → s ≡ t
+plain_status q limits p s t a b plain x y = go (by_status q limits p s a x) (by_status q limits p t b y) where
   go : ((s ≡ status.Done) × IsTextOf q limits p a) ⊎ IsQuestionRefused q limits p s a → ((t ≡ status.Done) × IsTextOf q limits p b) ⊎ IsQuestionRefused q limits p t b → s ≡ t
   go (inl v) (inl w) = v.0 ∙ sym w.0
-  go (inl v) (inr w) = absurd (clash q limits p t a b v.1 (not_answered q limits p t b w))
-  go (inr v) (inl w) = absurd (clash q limits p s b a w.1 (not_answered q limits p s a v))
-  go (inr v) (inr w) = alike q limits p s t a b (not_answered q limits p s a v) (not_answered q limits p t b w)
+  go (inl v) (inr w) = absurd (clash q limits p t a b plain v.1 (not_answered q limits p t b plain w))
+  go (inr v) (inl w) = absurd (clash q limits p s b a plain w.1 (not_answered q limits p s a plain v))
+  go (inr v) (inr w) = alike q limits p s t a b (not_answered q limits p s a plain v) (not_answered q limits p t b plain w)
+
+-- a question that needs no regions is about none that may have cycles
+needs_none : (q : Question) → ¬ NeedsRegions q → TakesNoCycles q
+needs_none (question.WithCycles asked) none = none tt
+needs_none question.Solve none = tt
+needs_none question.Values none = tt
+needs_none question.Margin none = tt
+needs_none question.Moves none = tt
+needs_none question.Line none = tt
+needs_none question.Safe none = tt
+needs_none question.Board none = tt
 
 -- a question that needs no regions is answered
 pub plain_done : (q : Question) (limits : Limits) (p : Setup) (s : Status) (a : List ℕ) → ¬ NeedsRegions q → IsPositionAnswer q limits p s a → s ≡ status.Done
-plain_done q limits p s a plain h = elim (by_status q limits p s a h) [ inl v ↦ v.0 | inr w ↦ absurd (plain (not_answered q limits p s a w).0) ]
+plain_done q limits p s a none h = elim (by_status q limits p s a h) [ inl v ↦ v.0 | inr w ↦ absurd (none (not_answered q limits p s a (needs_none q none) w).0) ]
 
 -- a file has a fault, or a position whose status it is
 pub file_or_position : (q : Question) (limits : Limits) (file : List ℕ) (settings : Settings) (s : Status) (a : List ℕ) → IsFileAnswer q limits file settings s a
@@ -236,12 +250,4 @@ file_or_position q limits file settings status.TooLong a h = inr h
 file_or_position q limits file settings status.TooManyLines a h = inr h
 file_or_position q limits file settings (status.BadExpression f) a h = inr h
 file_or_position q limits file settings status.CalcLimit a h = inr h
-
-pub one_status : HasOneStatus
-one_status q limits file settings s t a b x y = go (file_or_position q limits file settings s a x) (file_or_position q limits file settings t b y) where
-  go : ((f : FileFault) × (s ≡ status.BadFile f) × Reads file settings (Err f)) ⊎ ((p : Setup) × Reads file settings (Ok p) × IsPositionAnswer q limits p s a)
-      → ((f : FileFault) × (t ≡ status.BadFile f) × Reads file settings (Err f)) ⊎ ((p : Setup) × Reads file settings (Ok p) × IsPositionAnswer q limits p t b) → s ≡ t
-  go (inl (f, e, h)) (inl (g, d, k)) = e ∙ ap status.BadFile (one_fault file settings f g h k) ∙ sym d
-  go (inl (f, e, h)) (inr (p, k, z)) = absurd (not_both file settings p f k h)
-  go (inr (p, h, z)) (inl (g, d, k)) = absurd (not_both file settings p g h k)
-  go (inr (p, h, z)) (inr (r, k, w)) = position_status q limits r s t a b (subst (λ v. IsPositionAnswer q limits v s a) (one_setup file settings p r h k) z) w
+file_or_position q limits file settings status.CaptureLimit a h = inr h

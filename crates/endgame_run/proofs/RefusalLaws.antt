@@ -23,7 +23,7 @@ use Rattle.endgame_solver.specs.Solved.{Begun, Solved}
 use Rattle.report.specs.Values.{IsValuesText}
 use Rattle.endgame_run.specs.declared.status.Status.{Status}
 use Rattle.endgame_run.specs.declared.status.Status.TheVariants as status
-use Rattle.gd_words.specs.Task.{NeedsRegions}
+use Rattle.gd_words.specs.Task.{NeedsRegions, TakesNoCycles}
 use Rattle.gd_words.specs.declared.job.Question.{Question}
 use Rattle.gd_words.specs.declared.job.Question.TheVariants as question
 use Rattle.endgame_run.specs.Refusal.{HasStatus, IsRefused, form_line, refusal_line}
@@ -115,11 +115,12 @@ values_are setup limits game status.TooLong text b t = absurd t
 values_are setup limits game status.TooManyLines text b t = absurd t
 values_are setup limits game (status.BadExpression f) text b t = absurd t
 values_are setup limits game status.CalcLimit text b t = absurd t
+values_are setup limits game status.CaptureLimit text b t = absurd t
 
 -- the text of a solved game is the text that answers the question
-game_text : (q : Question) (setup : Setup) (limits : Limits) (game : Solved) (s : Status) (text : List ℕ) → NeedsRegions q → Begun setup limits (Ok game)
+game_text : (q : Question) (setup : Setup) (limits : Limits) (game : Solved) (s : Status) (text : List ℕ) → TakesNoCycles q → NeedsRegions q → Begun setup limits (Ok game)
     → IsGameReport q setup.komi_halves game s text → IsPositionAnswer q limits setup s text
-game_text question.Solve setup limits game s text needs (opening, are, sound) (done, v) =
+game_text question.Solve setup limits game s text plain needs (opening, are, sound) (done, v) =
     subst (λ r. IsPositionAnswer question.Solve limits setup r text) (sym done) record {
       regions = game.regions;
       numbers = v.numbers;
@@ -132,21 +133,22 @@ game_text question.Solve setup limits game s text needs (opening, are, sound) (d
       solution = record { opening = opening; wins = v.wins; first = v.first };
       is = v.is;
     }
-game_text question.Margin setup limits game s text needs (opening, are, sound) (done, v) =
+game_text question.Margin setup limits game s text plain needs (opening, are, sound) (done, v) =
     subst (λ r. IsPositionAnswer question.Margin limits setup r text) (sym done) record { regions = game.regions; state = game.state; are_regions = are; sound = sound; opening = opening; is = v }
-game_text question.Moves setup limits game s text needs (opening, are, sound) (done, v) =
+game_text question.Moves setup limits game s text plain needs (opening, are, sound) (done, v) =
     subst (λ r. IsPositionAnswer question.Moves limits setup r text) (sym done) record { regions = game.regions; state = game.state; are_regions = are; sound = sound; opening = opening; is = v }
-game_text question.Line setup limits game s text needs (opening, are, sound) (done, v) =
+game_text question.Line setup limits game s text plain needs (opening, are, sound) (done, v) =
     subst (λ r. IsPositionAnswer question.Line limits setup r text) (sym done) record { regions = game.regions; state = game.state; are_regions = are; sound = sound; opening = opening; is = v }
-game_text question.Values setup limits game s text needs begun report = values_are setup limits game s text begun report
-game_text question.Safe setup limits game s text needs begun report = absurd needs
-game_text question.Board setup limits game s text needs begun report = absurd needs
+game_text question.Values setup limits game s text plain needs begun report = values_are setup limits game s text begun report
+game_text question.Safe setup limits game s text plain needs begun report = absurd needs
+game_text question.Board setup limits game s text plain needs begun report = absurd needs
+game_text (question.WithCycles asked) setup limits game s text plain needs begun report = absurd plain
 
-pub game_answer : (q : Question) (setup : Setup) (limits : Limits) (game : Solved) (k : ℤ) (s : Status) (text : List ℕ) → NeedsRegions q → k ≡ setup.komi_halves → Begun setup limits (Ok game)
+pub game_answer : (q : Question) (setup : Setup) (limits : Limits) (game : Solved) (k : ℤ) (s : Status) (text : List ℕ) → TakesNoCycles q → NeedsRegions q → k ≡ setup.komi_halves → Begun setup limits (Ok game)
     → IsGameReport q k game s text → IsPositionAnswer q limits setup s text
-game_answer q setup limits game k s text needs same begun report = game_text q setup limits game s text needs begun (subst (λ z. IsGameReport q z game s text) same report)
+game_answer q setup limits game k s text plain needs same begun report = game_text q setup limits game s text plain needs begun (subst (λ z. IsGameReport q z game s text) same report)
 
 -- a fault is the answer to a question that needs regions
-pub fault_answer : (q : Question) (setup : Setup) (limits : Limits) (fault : SolveError) (s : Status) (text : List ℕ) → NeedsRegions q → Begun setup limits (Err fault) → HasStatus fault s
+pub fault_answer : (q : Question) (setup : Setup) (limits : Limits) (fault : SolveError) (s : Status) (text : List ℕ) → TakesNoCycles q → NeedsRegions q → Begun setup limits (Err fault) → HasStatus fault s
     → text ≡ refusal_line limits setup.board.columns fault → IsPositionAnswer q limits setup s text
-fault_answer q setup limits fault s text needs b e t = (refused_answer q limits setup s text needs (is_refused setup limits fault s text b e t)).0
+fault_answer q setup limits fault s text plain needs b e t = (refused_answer q limits setup s text plain needs (is_refused setup limits fault s text b e t)).0

@@ -1,12 +1,13 @@
 -- How the run of each command makes the run for its job, and that each status of a run has its cause and its part of a text.
-use Rattle.std.proofs.Common.{◌≡◌, ◌≢◌, ◌⊎◌, ℕ, inl, inr, sym, subst, ◌∙◌, List}
+use Rattle.std.proofs.Common.{◌≡◌, ◌≢◌, ◌⊎◌, ℕ, Bool, true, false, inl, inr, sym, ap, subst, ◌∙◌, List}
 use Rattle.std.specs.Prelude.{Option}
+use Rattle.std.specs.Option.{unwrap_or}
 use Rattle.std.specs.Io.KnownBytes.{append_known}
 use Rattle.desk_io.specs.Desk.{Desk, Input, Known, Outside, known}
 use Rattle.desk_io.specs.Outside.{Rose}
 use Rattle.go_grid.specs.declared.grid.Colour.{Colour}
 use Rattle.gd_words.specs.Job.{IsJob, Job}
-use Rattle.gd_words.specs.Task.{BeginWith, Task}
+use Rattle.gd_words.specs.Task.{BeginWith, Task, admitting}
 use Rattle.gd_words.specs.Task.Task.{ask, calc, gtp, play, trial}
 use Rattle.sgf_go.specs.declared.settings.Settings.{Settings}
 use Rattle.endgame_solver.specs.declared.limits.Limits.{Limits}
@@ -22,13 +23,32 @@ use Rattle.endgame_run.specs.Run.{AreTaskSteps, Runs, RunsTask}
 use Rattle.endgame_run.specs.Trial.{RunsTrial}
 use Rattle.endgame_run.specs.Written.{Finishes, Reports}
 use Rattle.gd_words.specs.declared.job.Question.{Question}
+use Rattle.gd_words.specs.declared.job.Question.TheVariants as question
 use Rattle.endgame_run.specs.declared.status.Status.{Status}
 use Rattle.endgame_run.specs.declared.status.Status.TheVariants.{CannotWrite, Done, Memory}
 use Rattle.endgame_run.specs.declared.status.Status.TheVariants as status
 
+-- a game is what was asked for where it is what is done
+same_game : (cycles : Bool) (spoken : Task) (word : List ℕ) → admitting cycles spoken ≡ play word → spoken ≡ play word
+same_game false spoken word e = e
+same_game true (play file) word e = e
+same_game true (trial n) word e = cc
+same_game true (calc expression) word e = cc
+same_game true gtp word e = cc
+same_game true (ask question.Solve file) word e = absurd cc
+same_game true (ask question.Values file) word e = absurd cc
+same_game true (ask question.Margin file) word e = absurd cc
+same_game true (ask question.Moves file) word e = absurd cc
+same_game true (ask question.Line file) word e = absurd cc
+same_game true (ask question.Safe file) word e = absurd cc
+same_game true (ask question.Board file) word e = absurd cc
+same_game true (ask (question.WithCycles asked) file) word e = absurd cc
+
 -- the source isn't played
 pub played_apart : (words : List (List ℕ)) (job : Job) (word : List ℕ) → IsJob words job → job.task ≡ play word → word ≢ dash
-played_apart words job word said is = (subst (λ t. BeginWith t words said.rest) is said.task).3.3
+played_apart words job word said is =
+    let spoken = same_game (unwrap_or said.chosen.cycles false) said.spoken word (sym (ap (λ j. j.task) said.says) ∙ is) in
+    (subst (λ t. BeginWith t words said.rest) spoken said.task).3.3
 
 module _ {H S K : Type 0} (o : Outside H S K) (job : Job) (a : Desk H S K) (status : Status) (b : Desk H S K) where
   pub question_runs : (q : Question) (limits : Limits) (word : List ℕ) → job.task ≡ ask q word → limits ≡ limits_of job → AnswersQuestion o q limits job.settings word a status b → Runs o job a status b
@@ -98,6 +118,7 @@ module _ (decided : Status → List ℕ → Type 0) (proper : IsProper decided) 
   whole (status.BadFile f) text d e = (text, d, e)
   whole (status.BadExpression f) text d e = (text, d, e)
   whole status.CalcLimit text d e = (text, d, e)
+  whole status.CaptureLimit text d e = (text, d, e)
 
   part : (s : Status) → Reports decided a.writes b.writes a.holds b.holds s → IsPart decided a s b
   part s (inl m) = subst (λ r. IsPart decided a r b) (sym m.0) m.1

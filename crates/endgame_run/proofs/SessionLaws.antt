@@ -91,6 +91,7 @@ stopped_whole engine s bytes before now status.TooLong text line h e = absurd h
 stopped_whole engine s bytes before now (status.BadFile f) text line h e = absurd h
 stopped_whole engine s bytes before now (status.BadExpression f) text line h e = absurd h
 stopped_whole engine s bytes before now status.CalcLimit text line h e = absurd h
+stopped_whole engine s bytes before now status.CaptureLimit text line h e = absurd h
 
 pub rose_later : (a b c : ℕ) → a ≤ b → Rose b c → Rose a c
 rose_later a b c le rose = omega (arith, le, rose)

@@ -15,14 +15,17 @@ use Rattle.whole_rules.specs.declared.states.Move.{Move}
 use Rattle.whole_rules.specs.declared.states.Move.TheVariants.{Half, Spend, Stone}
 use Rattle.gd_words.specs.Job.{IsOnlyJob, Job}
 use Rattle.gd_words.specs.Task.Task.{ask}
-use Rattle.report.specs.Solution.{count_line, move_line, purse_line, regions_text, solve_text, solved_line, solved_lines, state_lines, token_word}
+use Rattle.report.specs.CycleSolution.{captures_line, winner_or_none}
+use Rattle.report.specs.Solution.{count_line, move_line, purse_line, regions_text, solved_line, solved_lines, state_lines, token_word}
 use Rattle.board_words.specs.Words.{colour_word, winner_line, word_line}
 use Rattle.endgame_run.specs.Limits.{limits_of}
 use Rattle.endgame_run.specs.Line.{HasOnlyLine}
 use Rattle.endgame_run.specs.Question.{IsAnswer}
 use Rattle.endgame_run.specs.Run.{Runs, RunsTask, RunsWords}
-use Rattle.endgame_run.specs.Solve.{AskToSolve, IsPosed, WritesMove, WritesWinner}
+use Rattle.endgame_run.specs.Solve.{AreToSolve, AskToSolve, IsPosed, WritesMove, WritesWinner}
 use Rattle.endgame_run.specs.Written.{Reports}
+use Rattle.gd_words.specs.declared.job.CycleQuestion.TheVariants as cycle
+use Rattle.gd_words.specs.declared.job.Question.{Question}
 use Rattle.gd_words.specs.declared.job.Question.TheVariants as question
 use Rattle.endgame_run.specs.declared.status.Status.{Status}
 use Rattle.endgame_run.specs.declared.status.Status.TheVariants.{Done, Memory}
@@ -138,52 +141,123 @@ move_passes columns move =
     let h = word_passes columns move in
     subst (λ l. Passes 119 true l true) (sym h.2) (words_pass 119 w_other (codes "move") h.0 (record { calm_so = refl; ends_so = refl }) h.1)
 
-module _ (s : Whole) (regions : List Region) (numbers : List ℕ) (winner : Colour) (move : Option Move) where
-  abbrev Front : List ℕ
-  Front = state_lines s ++ regions_text s.board.columns regions numbers
+told_passes : (winner : Option Colour) → Passes 109 true (winner_or_none winner) true
+unfolding word_line
+told_passes (Some c) = winner_passes c
+told_passes None = record { calm_so = refl; ends_so = refl }
 
-  winner_only : HasOnlyLine (codes "winner ") (winner_line winner) (solve_text s regions numbers winner move)
-  winner_only = let p = front_passes 119 w_other s regions numbers in record {
+captures_pass : (w : ℕ) → IsOther w → Passes w true (codes "captures") false → (n : Option ℕ) → Passes w true (captures_line n) true
+captures_pass w other label (Some n) = count_passes w other (codes "captures") n label
+captures_pass w other label None = words_pass w other (codes "captures") (codes "none") label other.none
+
+module _ (s : Whole) (regions : List Region) (numbers : List ℕ) where
+  abbrev Regions : List ℕ
+  Regions = regions_text s.board.columns regions numbers
+
+  abbrev Front : List ℕ
+  Front = state_lines s ++ Regions
+
+  winner_only : (line rest : List ℕ) → Passes 119 true rest true → HasOnlyLine (codes "winner ") line (state_lines s ++ (Regions ++ (line ++ rest)))
+  winner_only line rest h = let p = front_passes 119 w_other s regions numbers in record {
     front = Front;
-    back = move_line s.board.columns move;
-    stands = sym (append_assoc (state_lines s) (regions_text s.board.columns regions numbers) (winner_line winner ++ move_line s.board.columns move));
+    back = rest;
+    stands = sym (append_assoc (state_lines s) Regions (line ++ rest));
     start = starts_line 119 Front p;
     none_before = no_line_in 119 (codes "inner ") Front true p;
-    none_behind = no_line_in 119 (codes "inner ") (move_line s.board.columns move) true (move_passes s.board.columns move);
+    none_behind = no_line_in 119 (codes "inner ") rest true h;
   }
 
   pieces : (a b c d : List ℕ) → a ++ (b ++ (c ++ d)) ≡ ((a ++ b) ++ c) ++ (d ++ [])
   pieces a b c d = simp (append_assoc, append-nil)
 
-  move_only : HasOnlyLine (codes "move ") (move_line s.board.columns move) (solve_text s regions numbers winner move)
-  move_only = let p = passes_append 109 true true true Front (winner_line winner) (front_passes 109 m_other s regions numbers) (winner_passes winner) in record {
-    front = Front ++ winner_line winner;
+  move_only : (between line : List ℕ) → Passes 109 true between true → HasOnlyLine (codes "move ") line (state_lines s ++ (Regions ++ (between ++ line)))
+  move_only between line h = let p = passes_append 109 true true true Front between (front_passes 109 m_other s regions numbers) h in record {
+    front = Front ++ between;
     back = [];
-    stands = pieces (state_lines s) (regions_text s.board.columns regions numbers) (winner_line winner) (move_line s.board.columns move);
-    start = starts_line 109 (Front ++ winner_line winner) p;
-    none_before = no_line_in 109 (codes "ove ") (Front ++ winner_line winner) true p;
+    stands = pieces (state_lines s) Regions between line;
+    start = starts_line 109 (Front ++ between) p;
+    none_before = no_line_in 109 (codes "ove ") (Front ++ between) true p;
     none_behind = no_line_in 109 (codes "ove ") [] true (record { calm_so = refl; ends_so = refl });
   }
 
--- the answer that is written to words that ask to solve a file
-module _ (words : List (List ℕ)) (job : Job) (word : List ℕ) (a b : Known) (only : IsOnlyJob words job) (is : job.task ≡ ask question.Solve word) where
-  both : (text : List ℕ) → IsAnswer question.Solve (limits_of job) job.settings word a.input b.input Done text → b.holds ≡ append_known a.holds text → WritesWinner words a b × WritesMove words a b
-  both text (file, told, short, (setup, reads, v)) e =
-      let posed : IsPosed words a.input setup v.state = record { job = job; word = word; file = file; asks = (only, is); told = told; short = short; reads = reads; opening = v.solution.opening } in
-      let written = e ∙ ap (append_known a.holds) v.is in (
-        (setup, v.state, v.winner, posed, v.solution.wins, (_, winner_only v.state v.regions v.numbers v.winner v.move, written)),
-        (setup, v.state, v.move, posed, v.solution.first, (_, move_only v.state v.regions v.numbers v.winner v.move, written)),
-      )
+  -- the same behind two lines
+  move_behind : (winner captures line : List ℕ) → Passes 109 true winner true → Passes 109 true captures true
+      → HasOnlyLine (codes "move ") line (state_lines s ++ (Regions ++ (winner ++ (captures ++ line))))
+  move_behind winner captures line h k =
+      subst (λ t. HasOnlyLine (codes "move ") line (state_lines s ++ (Regions ++ t))) (append_assoc winner captures line)
+      (move_only (winner ++ captures) line (passes_append 109 true true true winner captures h k))
 
-  reported : Reports (IsAnswer question.Solve (limits_of job) job.settings word a.input b.input) a.writes b.writes a.holds b.holds Done → WritesWinner words a b × WritesMove words a b
-  reported (inl m) = absurd (let k : Path Status Done Memory = m.0 in cc)
-  reported (inr (s, text, d, inr f)) = absurd (let k : Path Status Done status.CannotWrite = f.0 in cc)
-  reported (inr (s, text, d, inl f)) = both text (subst (λ r. IsAnswer question.Solve (limits_of job) job.settings word a.input b.input r text) (sym f.0) d) f.1
+-- the answer that is written to words that ask who wins a file
+module _ (words : List (List ℕ)) (job : Job) (word : List ℕ) (a b : Known) where
+  -- what is said of the winner and of the move
+  abbrev Says : Type 0
+  Says = WritesWinner words a b × WritesMove words a b
+
+  both : (q : Question) → AreToSolve words job q word → (text : List ℕ) → IsAnswer q (limits_of job) job.settings word a.input b.input Done text → b.holds ≡ append_known a.holds text → Says
+  both question.Solve asks text (file, told, short, (setup, reads, v)) e =
+      let posed : IsPosed words question.Solve a.input setup v.state = record { job = job; word = word; file = file; asks = asks; told = told; short = short; reads = reads; opening = v.solution.opening } in
+      let written = e ∙ ap (append_known a.holds) v.is in (
+        (
+          question.Solve,
+          setup,
+          v.state,
+          Some v.winner,
+          posed,
+          v.solution.wins,
+          (_, winner_only v.state v.regions v.numbers (winner_line v.winner) (move_line v.state.board.columns v.move) (move_passes v.state.board.columns v.move), written),
+        ),
+        (
+          question.Solve,
+          setup,
+          v.state,
+          v.move,
+          posed,
+          v.solution.first,
+          (_, move_only v.state v.regions v.numbers (winner_line v.winner) (move_line v.state.board.columns v.move) (winner_passes v.winner), written),
+        ),
+      )
+  both (question.WithCycles cycle.Solve) asks text (file, told, short, (setup, reads, v)) e =
+      let s = v.game.state in
+      let posed : IsPosed words (question.WithCycles cycle.Solve) a.input setup s = record { job = job; word = word; file = file; asks = asks; told = told; short = short; reads = reads; opening = v.steady.0 } in
+      let written = e ∙ ap (append_known a.holds) v.is.is in
+      let captures = captures_line v.is.captures in
+      let move = move_line s.board.columns v.is.move in (
+        (
+          question.WithCycles cycle.Solve,
+          setup,
+          s,
+          v.is.winner,
+          posed,
+          v.is.wins,
+          (
+            _,
+            winner_only s v.game.regions v.is.numbers (winner_or_none v.is.winner) (captures ++ move)
+                (passes_append 119 true true true captures move (captures_pass 119 w_other (record { calm_so = refl; ends_so = refl }) v.is.captures) (move_passes s.board.columns v.is.move)),
+            written,
+          ),
+        ),
+        (
+          question.WithCycles cycle.Solve,
+          setup,
+          s,
+          v.is.move,
+          posed,
+          v.is.first,
+          (_, move_behind s v.game.regions v.is.numbers (winner_or_none v.is.winner) captures move (told_passes v.is.winner) (captures_pass 109 m_other (record { calm_so = refl; ends_so = refl }) v.is.captures), written),
+        ),
+      )
+  both q asks text h e = absurd asks.winner
+
+  reported : (q : Question) → AreToSolve words job q word → Reports (IsAnswer q (limits_of job) job.settings word a.input b.input) a.writes b.writes a.holds b.holds Done → Says
+  reported q asks (inl m) = absurd (let k : Path Status Done Memory = m.0 in cc)
+  reported q asks (inr (s, text, d, inr f)) = absurd (let k : Path Status Done status.CannotWrite = f.0 in cc)
+  reported q asks (inr (s, text, d, inl f)) = both q asks text (subst (λ r. IsAnswer q (limits_of job) job.settings word a.input b.input r text) (sym f.0) d) f.1
 
 pub writes_both : {H S K : Type 0} (o : Outside H S K) (words : List (List ℕ)) (a b : Desk H S K) (status : Status) → RunsWords o words a status b → status ≡ Done → AskToSolve words
     → WritesWinner words (known o a) (known o b) × WritesMove words (known o a) (known o b)
-writes_both o words a b status (inl (none, refused)) done (job, word, (only, is)) = absurd (none job only.said)
-writes_both o words a b status (inr (job, only, r)) done (other, word, (its, is)) =
-    let task : job.task ≡ ask question.Solve word = sym (ap (λ j. j.task) (only.only other its.said)) ∙ is in
-    let h : RunsTask o (ask question.Solve word) job a Done b = subst (λ t. RunsTask o t job a Done b) task (subst (λ s. Runs o job a s b) done r) in
-    reported words job word (known o a) (known o b) only task h.written
+writes_both o words a b status (inl (none, refused)) done (job, q, word, asks) = absurd (none job asks.only.said)
+writes_both o words a b status (inr (job, only, r)) done (other, q, word, asks) =
+    let task : job.task ≡ ask q word = sym (ap (λ j. j.task) (only.only other asks.only.said)) ∙ asks.asks in
+    let h : RunsTask o (ask q word) job a Done b = subst (λ t. RunsTask o t job a Done b) task (subst (λ s. Runs o job a s b) done r) in
+    let own : AreToSolve words job q word = record { only = only; winner = asks.winner; asks = task } in
+    reported words job word (known o a) (known o b) q own h.written

@@ -22,9 +22,9 @@ use Rattle.endgame_run.specs.declared.question.Found.{Found}
 use Rattle.endgame_run.specs.declared.question.Found.TheVariants.{Position}
 use Rattle.endgame_run.specs.declared.question.Opened.{Opened}
 use Rattle.endgame_run.specs.declared.question.Opened.TheVariants as opened
-use Rattle.gd_words.specs.Task.{NeedsRegions}
+use Rattle.gd_words.specs.Task.{NeedsRegions, TakesNoCycles}
 use Rattle.gd_words.specs.declared.job.Question.{Question}
-use Rattle.gd_words.specs.declared.job.Question.TheVariants.{Board, Line, Margin, Moves, Safe, Solve, Values}
+use Rattle.gd_words.specs.declared.job.Question.TheVariants.{Board, Line, Margin, Moves, Safe, Solve, Values, WithCycles}
 use Rattle.endgame_run.specs.declared.status.Status.{Status}
 use Rattle.endgame_run.specs.declared.status.Status.TheVariants.{Done, Usage, CannotRead, CannotWrite, BadFile, Memory, TooManyLines, TooLong}
 use Rattle.endgame_run.specs.declared.status.Status.TheVariants as status
@@ -48,6 +48,7 @@ position_answer q limits told before now settings setup Memory text p h = absurd
 position_answer q limits told before now settings setup (BadFile f) text p h = absurd h
 position_answer q limits told before now settings setup (status.BadExpression f) text p h = absurd h
 position_answer q limits told before now settings setup status.CalcLimit text p h = absurd h
+position_answer q limits told before now settings setup status.CaptureLimit text p h = (p.file, p.told_so, p.short, (setup, p.reads, h))
 
 pub found_position : (settings : Settings) (word : List ℕ) (i j : Input) (found : Found) (setup : Setup) → found ≡ Position setup
     → IsFoundInFile settings word i j found → IsPositionOf (told_of i word) settings setup
@@ -62,20 +63,21 @@ is_refusal (Form p) s h = inr (inr h)
 is_refusal (error.Memory e) s h = absurd h
 
 -- a question that needs regions is refused where they are
-question_refused : (q : Question) (limits : Limits) (setup : Setup) (s : Status) (text : List ℕ) → NeedsRegions q → IsRefused limits setup s text → IsQuestionRefused q limits setup s text
-question_refused Solve limits setup s text needs r = r
-question_refused Margin limits setup s text needs r = r
-question_refused Moves limits setup s text needs r = r
-question_refused Line limits setup s text needs r = r
-question_refused Values limits setup s text needs r = inl r
-question_refused Safe limits setup s text needs r = absurd needs
-question_refused Board limits setup s text needs r = absurd needs
+question_refused : (q : Question) (limits : Limits) (setup : Setup) (s : Status) (text : List ℕ) → TakesNoCycles q → NeedsRegions q → IsRefused limits setup s text → IsQuestionRefused q limits setup s text
+question_refused Solve limits setup s text plain needs r = r
+question_refused Margin limits setup s text plain needs r = r
+question_refused Moves limits setup s text plain needs r = r
+question_refused Line limits setup s text plain needs r = r
+question_refused Values limits setup s text plain needs r = inl r
+question_refused Safe limits setup s text plain needs r = absurd needs
+question_refused Board limits setup s text plain needs r = absurd needs
+question_refused (WithCycles asked) limits setup s text plain needs r = absurd plain
 
-pub refused_answer : (q : Question) (limits : Limits) (setup : Setup) (s : Status) (text : List ℕ) → NeedsRegions q → IsRefused limits setup s text
+pub refused_answer : (q : Question) (limits : Limits) (setup : Setup) (s : Status) (text : List ℕ) → TakesNoCycles q → NeedsRegions q → IsRefused limits setup s text
     → IsPositionAnswer q limits setup s text × (s ≢ Done)
-refused_answer q limits setup s text needs r = go (is_refusal r.fault s r.status) where
+refused_answer q limits setup s text plain needs r = go (is_refusal r.fault s r.status) where
   at : (t : Status) → (IsQuestionRefused q limits setup t text → IsPositionAnswer q limits setup t text) → s ≡ t → IsPositionAnswer q limits setup s text
-  at t is e = subst (λ x. IsPositionAnswer q limits setup x text) (sym e) (is (question_refused q limits setup t text needs (subst (λ x. IsRefused limits setup x text) e r)))
+  at t is e = subst (λ x. IsPositionAnswer q limits setup x text) (sym e) (is (question_refused q limits setup t text plain needs (subst (λ x. IsRefused limits setup x text) e r)))
 
   go : (s ≡ status.RegionLimit) ⊎ ((s ≡ status.Cycle) ⊎ (s ≡ status.FormLimit)) → IsPositionAnswer q limits setup s text × (s ≢ Done)
   go (inl e) = (at status.RegionLimit (λ x. x) e, λ d. absurd cc)
@@ -87,7 +89,7 @@ pub begun_opened : (limits : Limits) (given : Option Colour) (settings : Setting
     → IsPositionOf (told_of i word) settings setup → IsBegun limits given setup opened → IsOpened limits given settings word i j opened
 begun_opened limits given settings word i j setup (opened.Game session) p h = (record { setup = setup; position = p; playable = h.0; colour = h.1 }, h.2)
 begun_opened limits given settings word i j setup (opened.Fault report) p r =
-    let h = refused_answer Solve limits setup report.status report.text tt r in (position_answer Solve limits _ _ _ settings setup report.status report.text p h.0, h.1)
+    let h = refused_answer Solve limits setup report.status report.text tt tt r in (position_answer Solve limits _ _ _ settings setup report.status report.text p h.0, h.1)
 
 pub told_is : (before now : Option (List ℕ)) (file : List ℕ) → IsWhole before now file → IsTold (told_source before) file
 told_is None now file w = tt

@@ -1,7 +1,7 @@
 -- The numbers of the statuses.
 use Rattle.std.specs.Prelude.{ℕ}
 use Rattle.endgame_run.specs.declared.status.Status.{Status}
-use Rattle.endgame_run.specs.declared.status.Status.TheVariants.{Done, Usage, CannotRead, CannotWrite, BadFile, Cycle, RegionLimit, FormLimit, Memory, TooManyLines, TooLong, BadExpression, CalcLimit}
+use Rattle.endgame_run.specs.declared.status.Status.TheVariants.{Done, Usage, CannotRead, CannotWrite, BadFile, Cycle, RegionLimit, FormLimit, Memory, TooManyLines, TooLong, BadExpression, CalcLimit, CaptureLimit}
 
 -- the number of a status, with which the program ends
 abbrev pub code_of : Status → ℕ
@@ -18,3 +18,4 @@ code_of TooManyLines = 9
 code_of TooLong = 10
 code_of (BadExpression fault) = 12
 code_of CalcLimit = 13
+code_of CaptureLimit = 14

@@ -12,7 +12,7 @@ use Rattle.game_calc.specs.declared.errors.CalcError.TheVariants as calc_error
 use Rattle.game_calc.specs.declared.errors.CalcFault.{CalcFault}
 use Rattle.gd_words.specs.Job.{Job}
 use Rattle.gd_words.specs.declared.job.Question.{Question}
-use Rattle.gd_words.specs.declared.job.Question.TheVariants.{Board, Safe, Solve, Values}
+use Rattle.gd_words.specs.declared.job.Question.TheVariants.{Board, Safe, Solve, Values, WithCycles}
 use Rattle.endgame_solver.specs.declared.limits.Limits.{Limits}
 use Rattle.gd_words.specs.Task.{Task}
 use Rattle.gd_words.specs.Task.Task.{ask, calc, gtp, play, trial}
@@ -22,6 +22,7 @@ use Rattle.endgame_solver.specs.Regions.{region_at}
 use Rattle.report.specs.Values.{HasShownValue}
 use Rattle.play_session.specs.declared.end.SessionEnd.TheVariants as end
 use Rattle.gtp_engine.specs.declared.end.GtpEnd.TheVariants as gtp_end
+use Rattle.endgame_run.specs.Cycles.{IsSteadyFor}
 use Rattle.endgame_run.specs.Engine.{AreFailedLoads, IsEngineSession}
 use Rattle.endgame_run.specs.File.{told_of}
 use Rattle.endgame_run.specs.Game.{IsGame, IsSessionOf}
@@ -32,12 +33,14 @@ use Rattle.endgame_run.specs.Run.{Runs}
 use Rattle.endgame_run.specs.declared.status.Status.{Status}
 use Rattle.endgame_run.specs.declared.status.Status.TheVariants.{Done, Memory, TooManyLines}
 
--- the regions of play that the question asks about are all sound within its limits, and the values that it asks for can all be shown
+-- the regions of play that the question asks about are all sound within its limits, or steady where they may have cycles, and the values that
+-- it asks for can all be shown
 abbrev pub IsWithinLimits : Question → Limits → Setup → Type 0
 IsWithinLimits Safe limits setup = ⊤
 IsWithinLimits Board limits setup = ⊤
 IsWithinLimits Values limits setup = (regions : List Region) × AreRegionsOfPlay setup.board regions × AreSound limits regions
     × ((k : ℕ) → k < length regions → HasShownValue (region_at regions k))
+IsWithinLimits (WithCycles asked) limits setup = IsSteadyFor asked limits setup
 IsWithinLimits question limits setup = (regions : List Region) × AreRegionsOfPlay setup.board regions × AreSound limits regions
 
 -- no read, no load and no write has failed

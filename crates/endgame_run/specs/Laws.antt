@@ -12,12 +12,19 @@ use Rattle.region_cut.specs.Cut.{AreRegionsOfPlay}
 use Rattle.endgame_run.specs.declared.status.Status.{Status}
 use Rattle.whole_rules.specs.WholeGame.{Whole}
 use Rattle.endgame_run.specs.declared.status.Status.TheVariants.{Done, FormLimit, TooManyLines}
-use Rattle.gd_words.specs.Task.{NeedsRegions}
+use Rattle.gd_words.specs.Task.{NeedsRegions, TakesNoCycles}
+use Rattle.gd_words.specs.declared.job.CycleQuestion.{CycleQuestion}
+use Rattle.gd_words.specs.declared.job.CycleQuestion.TheVariants as cycle
 use Rattle.gd_words.specs.declared.job.Question.{Question}
-use Rattle.gd_words.specs.declared.job.Question.TheVariants.{Values}
+use Rattle.gd_words.specs.declared.job.Question.TheVariants.{Values, WithCycles}
 use Rattle.report.specs.Values.{HasShownValue, IsFirstUnshown}
 use Rattle.endgame_solver.specs.Regions.{region_at}
+use Rattle.cycle_solver.specs.CycleFaults.{AreSteadyWithin}
+use Rattle.cycle_solver.specs.CycleFaults as unsteady
+use Rattle.cycle_solver.specs.declared.faults.CycleError.{CycleError}
+use Rattle.report.specs.CycleValues.{HasShownValues, IsFirstCycleUnshown}
 use Rattle.endgame_run.specs.Calc.{IsCalc}
+use Rattle.endgame_run.specs.Cycles.{HasCycleStatus, most_captures}
 use Rattle.endgame_run.specs.Game.{IsGameWritten}
 use Rattle.endgame_run.specs.Refusal.{HasStatus}
 use Rattle.endgame_run.specs.Question.{IsFileAnswer, IsPositionAnswer}
@@ -34,7 +41,7 @@ ExpressionHasOneStatus = (limit : ℕ) (expression : List ℕ) (s t : Status) (a
 -- a question about a position whose regions are all sound is answered, but for values that can't all be shown
 abbrev pub SolvesSound : Type 0
 SolvesSound = (question : Question) (limits : Limits) (setup : Setup) (regions : List Region) (s : Status) (text : List ℕ)
-    → question ≢ Values → AreRegionsOfPlay setup.board regions → AreSound limits regions → IsPositionAnswer question limits setup s text → s ≡ Done
+    → TakesNoCycles question → question ≢ Values → AreRegionsOfPlay setup.board regions → AreSound limits regions → IsPositionAnswer question limits setup s text → s ≡ Done
 
 -- a position whose regions are all sound has its values shown, where each can be
 abbrev pub ShowsShown : Type 0
@@ -49,7 +56,25 @@ RefusesUnshown = (limits : Limits) (setup : Setup) (regions : List Region) (p : 
 -- a position whose regions have a fault is refused with the status of that fault
 abbrev pub RefusesFaults : Type 0
 RefusesFaults = (question : Question) (limits : Limits) (setup : Setup) (regions : List Region) (fault : SolveError) (s t : Status) (text : List ℕ)
-    → NeedsRegions question → AreRegionsOfPlay setup.board regions → AreRefused limits regions fault → HasStatus fault t → IsPositionAnswer question limits setup s text → s ≡ t
+    → TakesNoCycles question → NeedsRegions question → AreRegionsOfPlay setup.board regions → AreRefused limits regions fault → HasStatus fault t → IsPositionAnswer question limits setup s text → s ≡ t
+
+-- a question about a position whose regions are all steady is answered, but for values that can't all be shown
+abbrev pub SolvesSteady : Type 0
+SolvesSteady = (question : CycleQuestion) (limits : Limits) (setup : Setup) (regions : List Region) (s : Status) (text : List ℕ)
+    → question ≢ cycle.Values → AreRegionsOfPlay setup.board regions → AreSteadyWithin limits most_captures regions → IsPositionAnswer (WithCycles question) limits setup s text
+    → s ≡ Done
+
+-- a position whose regions are all steady has its values shown, where each can be, and is else refused for the first that can't
+pub record ShowsSteady : Type 0 where
+  pub shown : (limits : Limits) (setup : Setup) (regions : List Region) (s : Status) (text : List ℕ) → AreRegionsOfPlay setup.board regions → AreSteadyWithin limits most_captures regions
+      → ((k : ℕ) → k < length regions → HasShownValues (region_at regions k)) → IsPositionAnswer (WithCycles cycle.Values) limits setup s text → s ≡ Done
+  pub unshown : (limits : Limits) (setup : Setup) (regions : List Region) (p : ℕ) (s : Status) (text : List ℕ) → AreRegionsOfPlay setup.board regions
+      → AreSteadyWithin limits most_captures regions → IsFirstCycleUnshown regions p → IsPositionAnswer (WithCycles cycle.Values) limits setup s text → s ≡ FormLimit
+
+-- a position whose regions may have cycles, and have a fault, is refused with the status of that fault
+abbrev pub RefusesUnsteady : Type 0
+RefusesUnsteady = (question : CycleQuestion) (limits : Limits) (setup : Setup) (regions : List Region) (fault : CycleError) (s t : Status) (text : List ℕ)
+    → AreRegionsOfPlay setup.board regions → unsteady.AreRefused limits most_captures regions fault → HasCycleStatus fault t → IsPositionAnswer (WithCycles question) limits setup s text → s ≡ t
 
 -- a game over these bytes that no read and no write broke off has one status and one text
 abbrev pub HasOneGame : Type 0

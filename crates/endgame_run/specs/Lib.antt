@@ -11,6 +11,7 @@ pub mod Written
 pub mod Solve
 pub mod Values
 pub mod Analysis
+pub mod Cycles
 pub mod Question
 pub mod Game
 pub mod Engine

@@ -11,13 +11,14 @@ use Rattle.sgf_go.specs.declared.settings.Settings.{Settings}
 use Rattle.sgf_go.specs.declared.settings.Setup.{Setup}
 use Rattle.gd_words.specs.Task.{NeedsRegions}
 use Rattle.gd_words.specs.declared.job.Question.{Question}
-use Rattle.gd_words.specs.declared.job.Question.TheVariants.{Board, Line, Margin, Moves, Safe, Solve, Values}
+use Rattle.gd_words.specs.declared.job.Question.TheVariants.{Board, Line, Margin, Moves, Safe, Solve, Values, WithCycles}
 use Rattle.region_cut.specs.Cut.{AreRegionsOfPlay}
 use Rattle.endgame_solver.specs.Faults.{most_steps}
 use Rattle.endgame_solver.specs.declared.limits.Limits.{Limits}
 use Rattle.report.specs.BoardText.{board_text}
 use Rattle.report.specs.Safety.{IsSafeText}
 use Rattle.endgame_run.specs.Analysis.{IsMargin, IsMoves, IsPlayLine}
+use Rattle.endgame_run.specs.Cycles.{IsCycleQuestionRefused, IsCycleText}
 use Rattle.endgame_run.specs.File.{ReadsFile, count_of, dash, told_of}
 use Rattle.endgame_run.specs.Position.{IsFaultText}
 use Rattle.endgame_run.specs.Refusal.{IsRefused}
@@ -25,7 +26,7 @@ use Rattle.endgame_run.specs.Solve.{IsSolved}
 use Rattle.endgame_run.specs.Values.{AreUnshown, IsValued}
 use Rattle.endgame_run.specs.Written.{Reports}
 use Rattle.endgame_run.specs.declared.status.Status.{Status}
-use Rattle.endgame_run.specs.declared.status.Status.TheVariants.{BadFile, CannotRead, Cycle, Done, FormLimit, RegionLimit, TooLong}
+use Rattle.endgame_run.specs.declared.status.Status.TheVariants.{BadFile, CannotRead, CaptureLimit, Cycle, Done, FormLimit, RegionLimit, TooLong}
 
 -- the text that answers a question about a position, within the limits
 abbrev pub IsTextOf : Question → Limits → Setup → List ℕ → Type 0
@@ -34,6 +35,7 @@ IsTextOf Values limits setup text = IsValued limits setup text
 IsTextOf Margin limits setup text = IsMargin limits setup text
 IsTextOf Moves limits setup text = IsMoves limits setup text
 IsTextOf Line limits setup text = IsPlayLine limits setup text
+IsTextOf (WithCycles asked) limits setup text = IsCycleText asked limits setup text
 IsTextOf Safe limits setup text = IsSafeText setup.board text
 IsTextOf Board limits setup text = text ≡ board_text setup.board setup.side setup.komi_halves setup.black_prisoners setup.white_prisoners
 
@@ -41,6 +43,7 @@ IsTextOf Board limits setup text = text ≡ board_text setup.board setup.side se
 abbrev pub IsQuestionRefused : Question → Limits → Setup → Status → List ℕ → Type 0
 IsQuestionRefused Safe limits setup s text = ⊥
 IsQuestionRefused Board limits setup s text = ⊥
+IsQuestionRefused (WithCycles asked) limits setup s text = IsCycleQuestionRefused asked limits setup s text
 IsQuestionRefused Values limits setup s text = IsRefused limits setup s text ⊎ AreUnshown limits setup s text
 IsQuestionRefused question limits setup s text = IsRefused limits setup s text
 
@@ -50,6 +53,7 @@ IsPositionAnswer question limits setup Done text = IsTextOf question limits setu
 IsPositionAnswer question limits setup Cycle text = IsQuestionRefused question limits setup Cycle text
 IsPositionAnswer question limits setup RegionLimit text = IsQuestionRefused question limits setup RegionLimit text
 IsPositionAnswer question limits setup FormLimit text = IsQuestionRefused question limits setup FormLimit text
+IsPositionAnswer question limits setup CaptureLimit text = IsQuestionRefused question limits setup CaptureLimit text
 IsPositionAnswer question limits setup s text = ⊥
 
 -- The status of a question about a file that is not too long, and its text: no two of these statuses can hold at once.

@@ -3,7 +3,7 @@
 ghost use Rattle.desk_io.specs.Desk.{outside};
 ghost use Rattle.endgame_run.specs.Complete.{IsAnswered};
 ghost use Rattle.endgame_run.specs.KeepsWin.{EngineKeepsWin};
-ghost use Rattle.endgame_run.specs.Laws.{HasOneGame, ExpressionHasOneStatus, HasOneStatus, RefusesFaults, RefusesUnshown, ShowsShown, SolvesSound};
+ghost use Rattle.endgame_run.specs.Laws.{HasOneGame, ExpressionHasOneStatus, HasOneStatus, RefusesFaults, RefusesUnshown, RefusesUnsteady, ShowsShown, ShowsSteady, SolvesSound, SolvesSteady};
 ghost use Rattle.endgame_run.specs.Output.{CountsWrites, HasCauses, RefusesNoJob, WritesPart};
 ghost use Rattle.endgame_run.specs.Steps.{TakesFewSteps, TakesNoSteps};
 ghost use Rattle.endgame_run.specs.Use.{AsksShelf, LeavesLines, ReadsToEnd, TakesFew};
@@ -11,8 +11,8 @@ ghost use Rattle.endgame_run.specs.Use.{AsksShelf, LeavesLines, ReadsToEnd, Take
 use desk_io::{Shelf, Sink, Source};
 
 /// A question about a file has at most one status; where all regions are sound that is `Done`, and else that of the
-/// first fault. Values that can't all be shown are a fault behind those. A game over the same lines has one status and
-/// one text, where no read and no write fails. An expression has at most one status. It has no code.
+/// first fault. Values that can't all be shown are a fault behind those. The same where regions may have cycles and are steady. A game over the
+/// same lines has one status and one text, where no read and no write fails. An expression has at most one status. It has no code.
 pub fn verdict_laws()
     ensures one { HasOneStatus }
     ensures one_outcome { ExpressionHasOneStatus }
@@ -21,6 +21,9 @@ pub fn verdict_laws()
     ensures shown { ShowsShown }
     ensures unshown { RefusesUnshown }
     ensures one_game { HasOneGame }
+    ensures steady { SolvesSteady }
+    ensures shows_steady { ShowsSteady }
+    ensures unsteady { RefusesUnsteady }
 {}
 
 /// What follows of a run from its relation, for every shelf, source and sink: each status has its cause, and a failed write was

@@ -2,6 +2,7 @@
 #![tactic(auto)]
 
 mod calc;
+mod cycles;
 mod ending;
 mod engine;
 mod faults;

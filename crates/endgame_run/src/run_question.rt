@@ -9,6 +9,7 @@ ghost use Rattle.endgame_run.specs.File.{ReadsFile, dash, told_of};
 ghost use Rattle.endgame_run.specs.Question.{AnswersQuestion, AreStepsFor, AreToldSteps, IsAnswer, IsPositionAnswer};
 ghost use Rattle.endgame_run.specs.inner.Found.{HasRanges};
 
+use crate::cycles::solve_with_cycles;
 use crate::ending::finish;
 use crate::finding::find_position;
 use crate::question::{Found, Inquiry, Report};
@@ -67,6 +68,7 @@ fn report_on_position<L: Ledger>(
         }),
         Question::Solve | Question::Values | Question::Margin | Question::Moves | Question::Line =>
             solve(alloc, question, setup, limits, steps),
+        Question::WithCycles(asked) => solve_with_cycles(alloc, asked, setup, limits, steps),
     }
 }
 

@@ -9,7 +9,7 @@ ghost use Rattle.region_cut.specs.Cut.{AreRegionsOfPlay};
 ghost use Rattle.report.specs.Values.{IsRefusal};
 ghost use Rattle.endgame_run.specs.Refusal.{HasStatus, form_line, refusal_line};
 ghost use Rattle.endgame_run.specs.inner.Refusal.{NamesPoints, NamesRegion};
-ghost use Rattle.gd_words.specs.Task.{NeedsRegions};
+ghost use Rattle.gd_words.specs.Task.{NeedsRegions, TakesNoCycles};
 ghost use Rattle.endgame_run.specs.inner.Top.{IsBegun, IsGameReport, IsValuesReport};
 ghost use Rattle.endgame_run.specs.Question.{IsPositionAnswer};
 
@@ -63,7 +63,7 @@ fn refused(
 }
 
 /// The report on values that aren't shown.
-fn unshown(alloc: Global, size: Size, fault: ValuesError) -> Result<Report, AllocError>
+pub(crate) fn unshown(alloc: Global, size: Size, fault: ValuesError) -> Result<Report, AllocError>
     requires { IsRefusal (λ p. p < size.columns * size.rows) fault }
     ensures status { IfOk result (λ report. report.status ≡ Status.FormLimit) }
     ensures text { IfOk result (λ report. IsRefusal
@@ -103,7 +103,8 @@ fn report_game(
     solved: &mut Solved,
     komi_halves: i64,
 ) -> Result<Report, AllocError>
-    requires { NeedsRegions question }
+    requires needs { NeedsRegions question }
+    requires plain { TakesNoCycles question }
     ensures { IfOk result (λ report. IsGameReport
         question komi_halves solved.old report.status report.text) }
 {
@@ -113,8 +114,8 @@ fn report_game(
         Question::Margin => margin_text(alloc, solved, komi_halves)?,
         Question::Moves => moves_text(alloc, solved, komi_halves)?,
         Question::Line => line_text(alloc, solved, komi_halves)?,
-        // These two need no regions.
-        Question::Safe | Question::Board => unreachable!(),
+        // Two need no regions, and the last is asked of games with cycles.
+        Question::Safe | Question::Board | Question::WithCycles(_) => unreachable!(),
     };
     Ok(Report {
         status: Status::Done,
@@ -131,6 +132,7 @@ pub(crate) fn solve<L: Ledger>(
     steps: &mut Steps<L>,
 ) -> Result<Report, AllocError>
     requires regions { NeedsRegions question }
+    requires plain { TakesNoCycles question }
     requires fit { IsFit setup.now }
     requires taxed { MayTax limits.now.tax setup.now.board }
     requires positions { limits.now.positions ≤ MOST_POSITIONS }

@@ -34,6 +34,8 @@ pub enum Status {
     BadExpression(CalcFault),
     /// A game or a sum of the expression, or its answer, is past the limits.
     CalcLimit,
+    /// A region isn't steady with any number of captures that return up to 32.
+    CaptureLimit,
 }
 
 impl Status {
@@ -57,6 +59,7 @@ impl Status {
             Status::TooLong => 10,
             Status::BadExpression(_) => 12,
             Status::CalcLimit => 13,
+            Status::CaptureLimit => 14,
         }
     }
 }

@@ -73,6 +73,9 @@ fn asked<'a>(job: &Job<'a>) -> Asked<'a>
         Command::Margin(word) => Asked::Answer(inquiry(job, Question::Margin, word)),
         Command::Moves(word) => Asked::Answer(inquiry(job, Question::Moves, word)),
         Command::Line(word) => Asked::Answer(inquiry(job, Question::Line, word)),
+        Command::WithCycles(question, word) => {
+            Asked::Answer(inquiry(job, Question::WithCycles(question), word))
+        }
         Command::Play(word) => Asked::Game(Match {
             limits: limits(job),
             engine: job.engine,

@@ -6,12 +6,12 @@ use Rattle.std.specs.List.{AllPairs, Contains}
 use Rattle.std.proofs.lemmas.Bool.{cases_order}
 use Rattle.std.proofs.lemmas.List.{get_or_default}
 use Rattle.gd_words.specs.declared.choice.Choice.{Choice}
-use Rattle.gd_words.specs.declared.choice.Choice.TheVariants.{Komi, Turn, After, BlackPrisoners, WhitePrisoners, Positions, Parts, Engine, Tax, Territory}
+use Rattle.gd_words.specs.declared.choice.Choice.TheVariants.{Komi, Turn, After, BlackPrisoners, WhitePrisoners, Positions, Parts, Engine, Tax, Territory, Cycles}
 use Rattle.gd_words.specs.declared.chosen.Chosen.{Chosen}
 use Rattle.gd_words.specs.Choice.{name_of}
 use Rattle.gd_words.specs.declared.job.Question.{Question}
-use Rattle.gd_words.specs.declared.job.Question.TheVariants.{Board, Line, Margin, Moves, Safe, Solve, Values}
-use Rattle.gd_words.specs.Task.{Task, ask, play, trial, calc, gtp, AreFor, BeginWith, question_word}
+use Rattle.gd_words.specs.declared.job.Question.TheVariants.{Board, Line, Margin, Moves, Safe, Solve, Values, WithCycles}
+use Rattle.gd_words.specs.Task.{Task, ask, play, trial, calc, gtp, AreFor, BeginWith, IsWordOf}
 use Rattle.gd_words.specs.Job.{GivesOption, Say, AreChoices, TaxTerritory, Job, job_of, IsJob, IsOnlyJob}
 use Rattle.gd_words.specs.inner.Reading.{IsJobOf}
 use Rattle.gd_words.proofs.NameLemmas.{apart}
@@ -23,24 +23,25 @@ abbrev question_of : List ℕ → Option Question
 question_of word = cond (bytes_eq word (codes "solve")) (Some Solve) (cond (bytes_eq word (codes "safe")) (Some Safe) (cond (bytes_eq word (codes "values")) (Some Values)
     (cond (bytes_eq word (codes "board")) (Some Board) (cond (bytes_eq word (codes "margin")) (Some Margin) (cond (bytes_eq word (codes "moves")) (Some Moves) (cond (bytes_eq word (codes "line")) (Some Line) None))))))
 
-question_back : (q : Question) → question_of (question_word q) ≡ Some q
-question_back Solve = refl
-question_back Safe = refl
-question_back Values = refl
-question_back Board = refl
-question_back Margin = refl
-question_back Moves = refl
-question_back Line = refl
+question_back : (word : List ℕ) (q : Question) → IsWordOf q word → question_of word ≡ Some q
+question_back word Solve is = ap question_of is
+question_back word Safe is = ap question_of is
+question_back word Values is = ap question_of is
+question_back word Board is = ap question_of is
+question_back word Margin is = ap question_of is
+question_back word Moves is = ap question_of is
+question_back word Line is = ap question_of is
+question_back word (WithCycles q) is = absurd is
 
 -- a word that asks no question is that of none
-no_question : (word : List ℕ) (q : Question) → word ≡ question_word q → question_of word ≡ None → ⊥
-no_question word q is none = let k : Path (Option Question) (Some q) None = sym (question_back q) ∙ ap question_of (sym is) ∙ none in absurd cc
+no_question : (word : List ℕ) (q : Question) → IsWordOf q word → question_of word ≡ None → ⊥
+no_question word q is none = let k : Path (Option Question) (Some q) None = sym (question_back word q is) ∙ none in absurd cc
 
-one_question : (p q : Question) → question_word p ≡ question_word q → p ≡ q
-one_question p q e = let k : Path (Option Question) (Some p) (Some q) = sym (question_back p) ∙ ap question_of e ∙ question_back q in cc
+one_question : (word : List ℕ) (p q : Question) → IsWordOf p word → IsWordOf q word → p ≡ q
+one_question word p q a b = let k : Path (Option Question) (Some p) (Some q) = sym (question_back word p a) ∙ question_back word q b in cc
 
 one_task : (word argument : List ℕ) (t u : Task) → AreFor word argument t → AreFor word argument u → t ≡ u
-one_task word argument (ask p f) (ask q g) a b = ap₂ ask (one_question p q (sym a.0 ∙ b.0)) (sym a.1 ∙ b.1)
+one_task word argument (ask p f) (ask q g) a b = ap₂ ask (one_question word p q a.0 b.0) (sym a.1 ∙ b.1)
 one_task word argument (play f) (play g) a b = ap play (sym a.1 ∙ b.1)
 one_task word argument (trial n) (trial m) a b = ap trial (one_number 0 4294967295 argument n m a.1 b.1)
 one_task word argument (calc e) (calc f) a b = ap calc (sym a.1 ∙ b.1)
@@ -88,7 +89,8 @@ one_say xs o p n a b =
     let engine = one_value Engine xs o.engine p.engine n (λ v w. refl) (λ v w e. cc) a.engine b.engine in
     let tax = one_value Tax xs o.tax p.tax n (λ v w. refl) (λ v w e. cc) a.tax b.tax in
     let territory = one_value Territory xs o.territory p.territory n (λ v w. refl) (λ v w e. cc) a.territory b.territory in
-    λ i. record { komi = komi i; turn = turn i; after = after i; black_prisoners = black i; white_prisoners = white i; positions = positions i; parts = parts i; engine = engine i; tax = tax i; territory = territory i }
+    let cycles = one_value Cycles xs o.cycles p.cycles n (λ v w. refl) (λ v w e. cc) a.cycles b.cycles in
+    λ i. record { komi = komi i; turn = turn i; after = after i; black_prisoners = black i; white_prisoners = white i; positions = positions i; parts = parts i; engine = engine i; tax = tax i; territory = territory i; cycles = cycles i }
 
 pub one_choices : (task : Task) (words : List (List ℕ)) (o p : Chosen) → AreChoices task words o → AreChoices task words p → o ≡ p
 one_choices task words o p a b =
@@ -141,29 +143,29 @@ one_beginning words rest more t u a b =
 
 pub one_job : (words : List (List ℕ)) (v w : Job) → IsJob words v → IsJob words w → v ≡ w
 one_job words v w a b =
-    let p = one_beginning words a.rest b.rest v.task w.task a.task b.task in
-    let own = subst (λ r. AreChoices w.task r a.chosen) p.1 (subst (λ t. AreChoices t a.rest a.chosen) p.0 a.options) in
-    a.says ∙ ap₂ job_of p.0 (one_choices w.task b.rest a.chosen b.chosen own b.options) ∙ sym b.says
+    let p = one_beginning words a.rest b.rest a.spoken b.spoken a.task b.task in
+    let own = subst (λ r. AreChoices b.spoken r a.chosen) p.1 (subst (λ t. AreChoices t a.rest a.chosen) p.0 a.options) in
+    a.says ∙ ap₂ job_of p.0 (one_choices b.spoken b.rest a.chosen b.chosen own b.options) ∙ sym b.says
 
 pub job_made : (words rest : List (List ℕ)) (task : Task) (job : Job) → BeginWith task words rest → IsJobOf task rest job → IsOnlyJob words job
 job_made words rest task job t (o, a, untaxed, j) =
-    let said : IsJob words (job_of task o) = record { rest = rest; task = t; chosen = o; options = a; untaxed = untaxed; says = refl } in
+    let said : IsJob words (job_of task o) = record { spoken = task; rest = rest; task = t; chosen = o; options = a; untaxed = untaxed; says = refl } in
     subst (IsOnlyJob words) (sym j) (record { said = said; only = λ other h. one_job words other (job_of task o) h said })
 
 pub no_choices : (words rest : List (List ℕ)) (task : Task) (job : Job) → BeginWith task words rest → ((o : Chosen) → AreChoices task rest o → TaxTerritory o) → ¬ IsJob words job
 no_choices words rest task job t none a =
-    let p = one_beginning words a.rest rest job.task task a.task t in
+    let p = one_beginning words a.rest rest a.spoken task a.task t in
     a.untaxed (none a.chosen (subst (λ r. AreChoices task r a.chosen) p.1 (subst (λ u. AreChoices u a.rest a.chosen) p.0 a.options)))
 
 -- words that begin with those of no task
 pub no_task : (words rest : List (List ℕ)) (word argument : List ℕ) (job : Job) → words ≡ word ∷ argument ∷ rest → word ≢ codes "gtp" → ((task : Task) → ¬ AreFor word argument task) → ¬ IsJob words job
 no_task words rest word argument job e apart_from none a =
-    by_words _ job.task words a.rest a.task
+    by_words _ a.spoken words a.rest a.task
     (λ d w. let k : Path (List (List ℕ)) (codes "gtp" ∷ a.rest) (word ∷ argument ∷ rest) = sym w ∙ e in apart_from cc)
     (λ (other, second, d, b). let k : Path (List (List ℕ)) (other ∷ second ∷ a.rest) (word ∷ argument ∷ rest) = sym d ∙ e in
     let first : other ≡ word = cc in
     let then : second ≡ argument = cc in
-    none job.task (subst (λ x. AreFor x argument job.task) first (subst (λ x. AreFor other x job.task) then b)))
+    none a.spoken (subst (λ x. AreFor x argument a.spoken) first (subst (λ x. AreFor other x a.spoken) then b)))
 
 pub begins_with_engine : (words rest : List (List ℕ)) (word : List ℕ) → words ≡ word ∷ rest → word ≡ codes "gtp" → BeginWith gtp words rest
 begins_with_engine words rest word e is = e ∙ ap (λ x. x ∷ rest) is

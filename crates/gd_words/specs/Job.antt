@@ -6,10 +6,10 @@ use Rattle.std.specs.Option.{unwrap_or}
 use Rattle.go_grid.specs.declared.grid.Colour.{Colour}
 use Rattle.sgf_go.specs.declared.settings.Settings.{Settings}
 use Rattle.gd_words.specs.declared.choice.Choice.{Choice}
-use Rattle.gd_words.specs.declared.choice.Choice.TheVariants.{Komi, Turn, After, BlackPrisoners, WhitePrisoners, Positions, Parts, Engine, Tax, Territory}
+use Rattle.gd_words.specs.declared.choice.Choice.TheVariants.{Komi, Turn, After, BlackPrisoners, WhitePrisoners, Positions, Parts, Engine, Tax, Territory, Cycles}
 use Rattle.gd_words.specs.declared.chosen.Chosen.{Chosen}
 use Rattle.gd_words.specs.Choice.{IsChoice, name_of}
-use Rattle.gd_words.specs.Task.{Task, BeginWith, GoesWith}
+use Rattle.gd_words.specs.Task.{Task, BeginWith, GoesWith, admitting}
 
 -- the words are the names and values of the options, one after the other
 abbrev pub Spell : List (List ℕ) → List Choice → Type 0
@@ -34,6 +34,7 @@ pub record Say (choices : List Choice) (chosen : Chosen) : Type 0 where
   pub engine : GivesOption choices Engine chosen.engine
   pub tax : GivesOption choices Tax chosen.tax
   pub territory : GivesOption choices Territory chosen.territory
+  pub cycles : GivesOption choices Cycles chosen.cycles
 
 -- the words are options of the task, in any order and none of them twice, and this is what they say
 pub record AreChoices (task : Task) (words : List (List ℕ)) (chosen : Chosen) : Type 0 where
@@ -56,10 +57,10 @@ pub record Job : Type 0 where
   pub engine : Option Colour
   pub tax : Bool
 
--- the job of a task and its options: what they leave open has its default
+-- the job of a task and its options: what they leave open has its default; with cycles the task is the one that admits them
 abbrev pub job_of : Task → Chosen → Job
 job_of task chosen = record {
-  task = task;
+  task = admitting (unwrap_or chosen.cycles false) task;
   settings = record {
     after = chosen.after;
     komi = chosen.komi;
@@ -74,14 +75,15 @@ job_of task chosen = record {
   tax = unwrap_or chosen.tax false;
 }
 
--- the words say the job: those of the task, and then its options, which don't tax declared points
+-- the words say the job: those of a task, and then its options, which don't tax declared points
 pub record IsJob (words : List (List ℕ)) (job : Job) : Type 0 where
+  pub spoken : Task
   pub rest : List (List ℕ)
-  pub task : BeginWith job.task words rest
+  pub task : BeginWith spoken words rest
   pub chosen : Chosen
-  pub options : AreChoices job.task rest chosen
+  pub options : AreChoices spoken rest chosen
   pub untaxed : ¬ TaxTerritory chosen
-  pub says : job ≡ job_of job.task chosen
+  pub says : job ≡ job_of spoken chosen
 
 -- the words say no job
 abbrev pub SayNoJob : List (List ℕ) → Type 0

@@ -21,6 +21,7 @@ task_of (command.Board file) = ask question.Board file.now
 task_of (command.Margin file) = ask question.Margin file.now
 task_of (command.Moves file) = ask question.Moves file.now
 task_of (command.Line file) = ask question.Line file.now
+task_of (command.WithCycles asked file) = ask (question.WithCycles asked) file.now
 task_of (command.Play file) = play file.now
 task_of (command.Trial n) = trial n
 task_of (command.Calc expression) = calc expression.now

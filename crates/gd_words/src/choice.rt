@@ -31,6 +31,8 @@ pub(crate) enum Choice {
     Tax(bool),
     /// Whether the points that a file marks are declared.
     Territory(bool),
+    /// Whether regions may have cycles.
+    Cycles(bool),
 }
 
 /// The option that a name and a value say.
@@ -49,6 +51,7 @@ pub(crate) fn read_choice(name: &str, value: &str) -> Option<Choice>
         "--as" => read_colour(value).map(Choice::Engine),
         "--tax" => read_answer(value).map(Choice::Tax),
         "--territory" => read_answer(value).map(Choice::Territory),
+        "--cycles" => read_answer(value).map(Choice::Cycles),
         _ => None,
     }
 }

@@ -30,6 +30,7 @@ pub(crate) struct Chosen {
     pub(crate) engine: Option<Colour>,
     pub(crate) tax: Option<bool>,
     pub(crate) territory: Option<bool>,
+    pub(crate) cycles: Option<bool>,
 }
 
 impl Chosen {
@@ -53,6 +54,7 @@ impl Chosen {
             Choice::Territory(declared) if self.territory.is_none() => self.territory = Some(
                 declared,
             ),
+            Choice::Cycles(admitted) if self.cycles.is_none() => self.cycles = Some(admitted),
             _ => return None,
         }
         Some(self)
@@ -70,7 +72,7 @@ impl Chosen {
         ensures { viewed result ≡ job_of (task_of command.entry) self }
     {
         Job {
-            command,
+            command: command.admitting(self.cycles.unwrap_or(false)),
             settings: Settings {
                 after: self.after,
                 komi: self.komi,

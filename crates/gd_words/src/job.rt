@@ -1,7 +1,7 @@
 //! What the words of a command line ask for.
 
 ghost use Rattle.std.specs.Prelude.{◌≡◌, ◌↔◌, true, IfSome, IfNone};
-ghost use Rattle.gd_words.specs.Task.{Task, AreFor, GoesWith};
+ghost use Rattle.gd_words.specs.Task.{Task, AreFor, GoesWith, admitting};
 ghost use Rattle.gd_words.specs.Viewed.{task_of};
 
 use crate::choice::Choice;
@@ -26,6 +26,21 @@ pub enum Question {
     Moves,
     /// How does play go on?
     Line,
+    /// The same where regions may have cycles.
+    WithCycles(CycleQuestion),
+}
+
+/// A question about a position whose regions may have cycles.
+#[derive(Clone, Copy, Debug, PartialEq, Eq)]
+pub enum CycleQuestion {
+    /// Who wins, with how many captures that return, and by which move?
+    Solve,
+    /// What are the regions of play worth to either player?
+    Values,
+    /// Up to which komi does Black win, and above which White?
+    Margin,
+    /// Which moves win, and by how much?
+    Moves,
 }
 
 /// A command with its file, the number of its board, or its expression. The file `-` is the source, which `Play` never has. `Gtp`
@@ -39,6 +54,8 @@ pub enum Command<'a> {
     Margin(&'a str),
     Moves(&'a str),
     Line(&'a str),
+    /// A question about a file's position whose regions may have cycles.
+    WithCycles(CycleQuestion, &'a str),
     Play(&'a str),
     Trial(u32),
     Calc(&'a str),
@@ -82,6 +99,21 @@ pub(crate) fn read_command<'a>(word: &str, argument: &'a str) -> Option<Command<
     }
 }
 
+impl<'a> Command<'a> {
+    /// The command where regions may have cycles, if they are admitted.
+    pub(crate) fn admitting(self, cycles: bool) -> Command<'a>
+        ensures { task_of result ≡ admitting cycles (task_of self.entry) }
+    {
+        match self {
+            Command::Solve(word) if cycles => Command::WithCycles(CycleQuestion::Solve, word),
+            Command::Values(word) if cycles => Command::WithCycles(CycleQuestion::Values, word),
+            Command::Margin(word) if cycles => Command::WithCycles(CycleQuestion::Margin, word),
+            Command::Moves(word) if cycles => Command::WithCycles(CycleQuestion::Moves, word),
+            command => command,
+        }
+    }
+}
+
 impl Command<'_> {
     /// Whether an option goes with the command.
     pub(crate) fn takes(&self, choice: Choice) -> bool
@@ -92,12 +124,17 @@ impl Command<'_> {
             | Command::Values(_)
             | Command::Margin(_)
             | Command::Moves(_)
-            | Command::Line(_) => !matches!(choice, Choice::Engine(_)),
+            | Command::WithCycles(_, _) => !matches!(choice, Choice::Engine(_)),
+            Command::Line(_) => !matches!(choice, Choice::Engine(_) | Choice::Cycles(_)),
             Command::Safe(_) | Command::Board(_) => !matches!(
                 choice,
-                Choice::Engine(_) | Choice::Positions(_) | Choice::Parts(_) | Choice::Tax(_)
+                Choice::Engine(_)
+                    | Choice::Positions(_)
+                    | Choice::Parts(_)
+                    | Choice::Tax(_)
+                    | Choice::Cycles(_)
             ),
-            Command::Play(_) => true,
+            Command::Play(_) => !matches!(choice, Choice::Cycles(_)),
             Command::Trial(_) => false,
             Command::Calc(_) => matches!(choice, Choice::Parts(_)),
             Command::Gtp => matches!(

@@ -9,6 +9,6 @@ mod value;
 mod words;
 
 pub use choice::{MOST_MOVES, MOST_PARTS};
-pub use job::{Command, Job, Question};
+pub use job::{Command, CycleQuestion, Job, Question};
 pub use laws::words_laws;
 pub use words::{Usage, read};

@@ -55,9 +55,9 @@ fn read_job<'a>(words: &[&'a str]) -> Option<Job<'a>>
     read_options(command, rest)
 }
 
-/// The job that the words of a command line say: `solve`, `safe`, `values`, `board`, `margin`, `moves`, `line` or `play` with a file and options, each a
-/// name and a value, but not both `--tax yes` and `--territory yes`, `trial` with a number, `calc` with an expression and options, or `gtp` with options. `Usage` comes exactly where
-/// the words have no such form.
+/// The job that the words of a command line say: `solve`, `safe`, `values`, `board`, `margin`, `moves`, `line` or `play` with a file and
+/// options, each a name and a value, but not both `--tax yes` and `--territory yes`; `trial` with a number; `calc` with an expression and
+/// options; or `gtp` with options. `Usage` comes exactly where the words have no such form.
 pub fn read<'a>(words: &[&'a str]) -> Result<Job<'a>, Usage>
     ensures job { IfOk result (λ job. IsOnlyJob (texts words.now) (viewed job)) }
     ensures bounds { IfOk result (λ job. IsInRanges (viewed job)) }

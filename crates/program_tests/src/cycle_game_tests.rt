@@ -20,7 +20,7 @@ const WON: Game = Game {
 };
 
 /// The game, with at most so many captures that return in a region, or want of memory where there is no position or a tax.
-fn begin<L: Ledger>(
+pub(crate) fn begin<L: Ledger>(
     alloc: Global,
     blank: Blank,
     game: Game,

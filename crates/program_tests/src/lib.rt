@@ -8,6 +8,10 @@ mod calc_tests;
 #[cfg(test)]
 mod cycle_game_tests;
 #[cfg(test)]
+mod cycle_run_tests;
+#[cfg(test)]
+mod cycle_text_tests;
+#[cfg(test)]
 mod device_tests;
 #[cfg(test)]
 mod engine_tests;

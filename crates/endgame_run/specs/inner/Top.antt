@@ -6,6 +6,8 @@ use Rattle.sgf_go.specs.declared.settings.Settings.{Settings}
 use Rattle.sgf_go.specs.declared.settings.Setup.{Setup}
 use Rattle.gd_words.specs.Job.{Job}
 use Rattle.gd_words.specs.Task.Task.{ask, calc, gtp, play, trial}
+use Rattle.gd_words.specs.declared.job.CycleQuestion.{CycleQuestion}
+use Rattle.gd_words.specs.declared.job.CycleQuestion.TheVariants as cycle
 use Rattle.gd_words.specs.declared.job.Question.{Question}
 use Rattle.gd_words.specs.declared.job.Question.TheVariants as question
 use Rattle.endgame_solver.specs.Solved.{IsPlayable, Solved}
@@ -13,8 +15,10 @@ use Rattle.endgame_solver.specs.declared.limits.Limits.{Limits}
 use Rattle.gtp_engine.specs.declared.end.GtpEnd.{GtpEnd}
 use Rattle.gtp_engine.specs.declared.end.GtpEnd.TheVariants as end
 use Rattle.report.specs.Analysis.{IsLineText, IsMarginText, IsMovesText}
+use Rattle.report.specs.CycleValues.{IsCycleValuesText, IsFirstCycleUnshown}
 use Rattle.report.specs.Solution.{IsSolveText}
 use Rattle.report.specs.Values.{IsFirstUnshown, IsValuesText}
+use Rattle.endgame_run.specs.Cycles.{IsGameText}
 use Rattle.endgame_run.specs.Game.{IsEngine, IsGame}
 use Rattle.endgame_run.specs.Limits.{engine_limits, limits_of}
 use Rattle.endgame_run.specs.Question.{IsAnswer}
@@ -60,6 +64,17 @@ IsGameReport question.Moves k game s text = (s ≡ Done) × IsMovesText game.sta
 IsGameReport question.Line k game s text = (s ≡ Done) × IsLineText game.regions game.state k text
 IsGameReport question.Values k game s text = IsValuesReport game s text
 IsGameReport q k game s text = ⊥
+
+-- the report on the values of a game with cycles
+abbrev pub IsCycleValuesReport : Solved → Status → List ℕ → Type 0
+IsCycleValuesReport game Done text = IsCycleValuesText game.state.board.columns game.regions text
+IsCycleValuesReport game FormLimit text = (p : ℕ) × IsFirstCycleUnshown game.regions p × (text ≡ form_line game.state.board.columns p)
+IsCycleValuesReport game s text = ⊥
+
+-- the report on a question about a game with cycles that opens with this komi in half-points
+abbrev pub IsCycleReport : CycleQuestion → ℤ → Solved → Status → List ℕ → Type 0
+IsCycleReport cycle.Values k game s text = IsCycleValuesReport game s text
+IsCycleReport q k game s text = (s ≡ Done) × IsGameText q k game text
 
 -- a session that begins with the position, or the report of what keeps it from being solved
 abbrev pub IsBegun : Limits → Option Colour → Setup → Opened → Type 0

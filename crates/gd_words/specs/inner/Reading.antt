@@ -1,7 +1,7 @@
 -- One option more, and the job that a task and its options make.
 use Rattle.std.specs.Prelude.{◌≡◌, ℕ, List, Some, None}
 use Rattle.gd_words.specs.declared.choice.Choice.{Choice}
-use Rattle.gd_words.specs.declared.choice.Choice.TheVariants.{Komi, Turn, After, BlackPrisoners, WhitePrisoners, Positions, Parts, Engine, Tax, Territory}
+use Rattle.gd_words.specs.declared.choice.Choice.TheVariants.{Komi, Turn, After, BlackPrisoners, WhitePrisoners, Positions, Parts, Engine, Tax, Territory, Cycles}
 use Rattle.gd_words.specs.declared.chosen.Chosen.{Chosen}
 use Rattle.gd_words.specs.Task.{Task}
 use Rattle.gd_words.specs.Job.{AreChoices, Job, TaxTerritory, job_of}
@@ -18,6 +18,7 @@ IsWith o (Parts n) more = (o.parts ≡ None) × (more ≡ record o { parts = Som
 IsWith o (Engine colour) more = (o.engine ≡ None) × (more ≡ record o { engine = Some colour })
 IsWith o (Tax taxed) more = (o.tax ≡ None) × (more ≡ record o { tax = Some taxed })
 IsWith o (Territory declared) more = (o.territory ≡ None) × (more ≡ record o { territory = Some declared })
+IsWith o (Cycles admitted) more = (o.cycles ≡ None) × (more ≡ record o { cycles = Some admitted })
 
 -- the words are options of the task which don't tax declared points, and the job is that of the task with them
 abbrev pub IsJobOf : Task → List (List ℕ) → Job → Type 0

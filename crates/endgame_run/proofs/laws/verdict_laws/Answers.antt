@@ -1,4 +1,5 @@
-use Rattle.endgame_run.proofs.OneStatusLaws.{one_status, refuses_faults, refuses_unshown, shows_shown, solves_sound}
+use Rattle.endgame_run.proofs.CycleLaws.{one_status, refuses_unsteady, shows_steady, solves_steady}
+use Rattle.endgame_run.proofs.OneStatusLaws.{refuses_faults, refuses_unshown, shows_shown, solves_sound}
 use Rattle.endgame_run.proofs.OneGameLaws.{one_game}
 use Rattle.endgame_run.proofs.CalcLaws.{one_outcome}
 use Rattle.endgame_run.proofs.laws.verdict_laws.Goals as goal
@@ -23,3 +24,12 @@ returns-clause-unshown c = refuses_unshown
 
 pub returns-clause-one_game : goal.returns-clause-one_game
 returns-clause-one_game c = one_game
+
+pub returns-clause-steady : goal.returns-clause-steady
+returns-clause-steady c = solves_steady
+
+pub returns-clause-shows_steady : goal.returns-clause-shows_steady
+returns-clause-shows_steady c = shows_steady
+
+pub returns-clause-unsteady : goal.returns-clause-unsteady
+returns-clause-unsteady c = refuses_unsteady

@@ -10,10 +10,10 @@ refused-requires g c =
 
 pub returns-in_ok-report-in-Ok-clause-answer : goal.returns-in_ok-report-in-Ok-clause-answer
 returns-in_ok-report-in-Ok-clause-answer g c =
-    game_answer c.args.question c.args.setup.now c.args.limits.now c.in-Ok.solved _ c.in_ok-report-in-Ok.report.status c.in_ok-report-in-Ok.report.text c.requires.regions
+    game_answer c.args.question c.args.setup.now c.args.limits.now c.in-Ok.solved _ c.in_ok-report-in-Ok.report.status c.in_ok-report-in-Ok.report.text c.requires.plain c.requires.regions
     (search rules) c.in-Ok.ensures.begun c.in_ok-report-in-Ok.ensures
 
 pub returns-in_ok-report-in-Err-clause-answer : goal.returns-in_ok-report-in-Err-clause-answer
 returns-in_ok-report-in-Err-clause-answer g c =
-    fault_answer c.args.question c.args.setup.now c.args.limits.now c.in-Err.fault c.in_ok-report-in-Err.report.status c.in_ok-report-in-Err.report.text c.requires.regions c.in-Err.ensures.begun
+    fault_answer c.args.question c.args.setup.now c.args.limits.now c.in-Err.fault c.in_ok-report-in-Err.report.status c.in_ok-report-in-Err.report.text c.requires.plain c.requires.regions c.in-Err.ensures.begun
     c.in_ok-report-in-Err.ensures.status (c.in_ok-report-in-Err.ensures.text ∙ ap (λ n. refusal_line c.args.limits.now n c.in-Err.fault) c.size.ensures.columns)

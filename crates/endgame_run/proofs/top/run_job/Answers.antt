@@ -1,7 +1,8 @@
 use Rattle.std.proofs.Common.{ap, refl, subst, sym, ◌∙◌}
-use Rattle.desk_io.specs.Desk.{desk, input_of, outside}
+use Rattle.desk_io.specs.Desk.{desk, input_of, known, outside}
 use Rattle.gd_words.specs.Viewed.{viewed}
 use Rattle.endgame_run.specs.inner.Top.{IsAsked}
+use Rattle.endgame_run.proofs.TopLaws.{later_refl}
 use Rattle.endgame_run.proofs.RunLaws.{calc_runs, engine_runs, game_runs, question_runs, question_steps, trial_runs}
 use Rattle.endgame_run.proofs.top.run_job.Goals as goal
 
@@ -52,3 +53,15 @@ pub run_game-requires-clause-untaxed : goal.run_game-requires-clause-untaxed
 run_game-requires-clause-untaxed g c taxed =
     let own = subst (IsAsked (viewed c.args.job.now)) c.in-Game.is c.asked.ensures in
     c.requires.bounds.untaxed (ap (λ l. l.tax) (sym own.1) ∙ taxed)
+
+pub returns-in-Trial-clause-later : goal.returns-in-Trial-clause-later
+returns-in-Trial-clause-later g c = record {
+  input = (later_refl (known (outside g.H.Shelf g.S.Source g.K.Sink) (desk c.args.shelf.now c.args.lines.now c.args.out.now))).input;
+  writes = c.run_trial.ensures.later_writes;
+}
+
+pub returns-in-Calc-clause-later : goal.returns-in-Calc-clause-later
+returns-in-Calc-clause-later g c = record {
+  input = (later_refl (known (outside g.H.Shelf g.S.Source g.K.Sink) (desk c.args.shelf.now c.args.lines.now c.args.out.now))).input;
+  writes = c.run_calc.ensures.later_writes;
+}
