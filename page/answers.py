@@ -58,10 +58,9 @@ def safety_of(board, lines):
 
 
 def values_of(lines):
-    """The answer of `values`, by region."""
+    """The answer of `values`, by region: one value of each, or, with cycles, a low and a high one."""
     return [
-        {'point': region['region'].split()[0], 'positions': int(region['region'].split()[-1]), **{
-            word: region[word] for word in ('value', 'stops', 'mean', 'temperature', 'left', 'right')}}
+        {'point': region['region'].split()[0], 'positions': int(region['region'].split()[-1]), 'values': region['values']}
         for region in drawing.regions(lines)
     ]
 
@@ -75,7 +74,14 @@ def thermograph(lines, point):
 
 
 def margin_of(lines):
-    return dict(line.rsplit(' ', 1) for line in lines)
+    """The answer of `margin`: for each who moves first up to which komi Black wins, and above which White does."""
+    told = {}
+    for word, *words in map(str.split, lines):
+        if words[0] == 'first':
+            told[word + ' first'], told[word + ' first, white'] = words[1], words[-1]
+        else:
+            told[word] = words[0]
+    return told
 
 
 def halves(threshold):
@@ -84,17 +90,18 @@ def halves(threshold):
 
 
 def moves_of(lines):
-    """The answer of `moves`; each stone has the difference of its threshold from the best one, for the side to move."""
+    """The answer of `moves`; each stone has the difference of the mover's threshold from the best one. Black wins up to `komi`, and White above
+    `white`, which is the same where no kos can arise."""
     told = dict(pairs_of(lines[:3]))
     moves = []
     for word, rest in pairs_of(lines[3:]):
-        *names, outcome, komi = rest.split() if word == 'stone' else [*rest.split(), None]
-        moves.append({'move': names[0] if names else word, 'wins': outcome == 'wins', 'komi': komi})
+        name, outcome, *komi = rest.split() if word == 'stone' else [word, rest]
+        moves.append({'move': name, 'outcome': outcome, 'wins': outcome == 'wins', 'komi': komi[0] if komi else None, 'white': komi[-1] if komi else None})
     stones = [move for move in moves if move['komi'] is not None]
-    sign = 1 if told['side'] == 'black' else -1
-    best = max((sign * halves(move['komi']) for move in stones), default=None)
+    sign, own = (1, 'komi') if told['side'] == 'black' else (-1, 'white')
+    best = max((sign * halves(move[own]) for move in stones), default=None)
     for move in stones:
-        loss = best - sign * halves(move['komi'])
+        loss = best - sign * halves(move[own])
         move['loss'], move['best'] = komi_text(loss), loss == 0
     return {'side': told['side'], 'komi': told['komi'], 'winner': told['winner'], 'moves': moves}
 
@@ -114,9 +121,15 @@ def summary(board, moves, margin):
     """The answer in sentences."""
     winner, side = moves['winner'], moves['side']
     winning = [move['move'] for move in moves['moves'] if move['wins']]
-    told = ['%s to move; %s wins.' % (side.capitalize(), winner.capitalize())]
+    told = ['%s to move; %s.' % (side.capitalize(), 'nobody wins' if winner == 'none' else winner.capitalize() + ' wins')]
     if winning:
         told.append('Winning: %s.' % ', '.join(winning))
-    told.append('Black wins up to komi %s moving first, and up to %s where White moves first; the komi is %s.' % (
-        margin['black first'], margin['white first'], board['komi']))
+    told.append('%s moving first, and %s where White moves first; the komi is %s.' % (
+        bounds(margin, 'black first'), bounds(margin, 'white first', 'up to '), board['komi']))
     return ' '.join(told)
+
+
+def bounds(margin, first, begin='Black wins up to komi '):
+    """Up to which komi Black wins, and above which White does where that differs."""
+    black, white = margin[first], margin[first + ', white']
+    return begin + black + ('' if black == white else ', White above %s,' % white)

@@ -110,11 +110,11 @@ function stones(board, signs) {
   return drawn;
 }
 
-/** What a move is worth: best moves are dark circles, others that win pale circles, moves that lose pale squares. */
+/** What a move is worth: best moves are dark circles, others that win pale circles, moves that lose or after which nobody wins pale squares. */
 function mark(move) {
   const { x, y } = at(move.move);
-  const style = move.best ? 'best' : move.wins ? 'wins' : 'loses';
-  const ground = style === 'loses'
+  const style = move.best ? 'best' : move.outcome;
+  const ground = style === 'loses' || style === 'none'
     ? shape('rect', { x: x - 17, y: y - 15, width: 34, height: 30, rx: 4, class: style })
     : shape('circle', { cx: x, cy: y, r: 17, class: style });
   const texts = move.best
@@ -139,7 +139,7 @@ function numbers({ moves, step }) {
 
 /** Draws the whole picture: `scene` has the board, and what is to be drawn on it. */
 export function draw(svg, scene) {
-  const { board, signs, regions, moves, near, cursor, stepped, alarm, last } = scene;
+  const { board, signs, marks, regions, moves, near, cursor, stepped, alarm, last } = scene;
   const [width, height] = [2 * EDGE + CELL * (board.columns - 1), 2 * EDGE + CELL * (board.rows.length - 1)];
   svg.setAttribute('viewBox', `0 0 ${width} ${height}`);
   svg.style.maxWidth = `${Math.max(280, width * 1.6)}px`;
@@ -148,6 +148,7 @@ export function draw(svg, scene) {
     drawn.push(...region.points.map((point) => square(point, `answer shade-${number % SHADES}`)));
   });
   drawn.push(...lines(board), ...stones(board, signs));
+  drawn.push(...Object.entries(marks).map(([point, colour]) => square(point, `marked ${colour}`, 17)));
   regions.forEach((region) => {
     drawn.push(...walls(region.points, board, region.point === near ? 'wall near answer' : 'wall answer'));
   });

@@ -14,7 +14,7 @@ from functools import partial
 import answers
 from answers import TOP, Fault
 from engine import Limits, Runner
-from position import LONGEST_FILE, Position, configured, edited, empty, settled, with_moves, written
+from position import LONGEST_FILE, UNSEALED, Position, configured, edited, empty, marked, sealed, with_moves, written
 from question import COMMANDS, Question
 from record import Setup
 from table import Table
@@ -90,7 +90,7 @@ class Desk:
         return (command, partial(self.ask, question, command)) if command else None
 
     def ask(self, question, command):
-        words = [self.program, command, '-', *question.position.options(command)]
+        words = [self.program, 'board' if command == UNSEALED else command, '-', *question.position.options(command)]
         outcome = self.runner.run(words, question.position.text, lambda: self.is_asked(question))
         if outcome:
             with self.lock:
@@ -106,7 +106,7 @@ class Desk:
 
     def draw_step(self, question):
         moves = [(move['colour'], move['point']) for move in question.stepped()]
-        text = with_moves(settled(question.position, question.setup), moves)
+        text = with_moves(sealed(question.position, question.setup), moves)
         question.steps.append(self.board_after(text, len(question.steps), lambda: self.is_asked(question)))
 
     def draw_table(self, table):
@@ -140,7 +140,7 @@ class Desk:
         return outcome.lines
 
     def filled_pairs(self, question, is_wanted):
-        alone = settled(question.position, question.setup)
+        alone = sealed(question.position, question.setup)
         lines = self.run_script([TOP / 'page/fill-pairs'], alone.text, is_wanted)
         return replace(alone, text='\n'.join(lines).encode() + b'\n', setup=None), 'The pairs of neutral points on cycles are filled.'
 
@@ -192,13 +192,17 @@ class Desk:
         """What stands on the board; the program is waited for where it hasn't said so yet."""
         question = self.question
         self.wake.wait_for(lambda: question.is_read() or self.question is not question or self.is_closing, READING)
-        if self.question is not question or question.setup is None:
+        if self.question is not question or question.edited_setup() is None:
             raise Fault('the program has not read this position')
-        return question.setup
+        return question.edited_setup()
 
     def edit(self, point, colour):
         setup = self.setup()
         self.move_to(edited(self.question.position, setup, point, colour))
+
+    def mark(self, point, colour):
+        setup = self.setup()
+        self.move_to(marked(self.question.position, setup, point, colour))
 
     def new(self, columns, rows):
         self.move_to(empty(columns, rows))
@@ -253,9 +257,11 @@ class Desk:
     def begin_game(self, engine):
         if self.question.refused or not self.question.data.get('moves'):
             raise Fault('a game begins from a position that is answered')
+        if self.question.position.cycles:
+            raise Fault('a game is played without cycles')
         self.leave_table()
         self.note = ''
-        self.table = Table(self, settled(self.question.position, self.question.setup), engine)
+        self.table = Table(self, sealed(self.question.position, self.question.setup), engine)
         self.changed()
 
     def play(self, move):
@@ -283,8 +289,8 @@ class Desk:
             view = {
                 'change': self.change, 'name': position.name, 'files': sorted(self.files), 'undo': len(self.past), 'redo': len(self.future), 'note': self.note,
                 'options': {name: getattr(position, name) for name in (
-                    'after', 'komi', 'turn', 'black_prisoners', 'white_prisoners', 'tax', 'positions', 'parts')},
-                'record': question.line(), 'reading': not question.is_read(), 'board': question.shown_board(), 'signs': answers.SIGNS,
+                    'after', 'komi', 'turn', 'black_prisoners', 'white_prisoners', 'tax', 'territory', 'cycles', 'positions', 'parts')},
+                'record': question.line(), 'marks': question.marks(), 'marked': question.has_marks, 'reading': not question.is_read(), 'board': question.shown_board(), 'signs': answers.SIGNS,
                 **{command: data.get(command) for command in COMMANDS[1:]},
                 'refusals': question.refused, 'steps': question.steps, 'pair': question.pair(), 'closing': question.closing(),
                 'working': self.at_work(), 'game': self.table and self.table.view(),
@@ -318,4 +324,4 @@ class Desk:
         with self.lock:
             if self.table:
                 return self.table.text(self.table.moves()).decode()
-            return written(self.setup())
+            return written(self.question.position, self.setup())

@@ -8,6 +8,7 @@ const BUSY_PAUSE = 250; // milliseconds between two questions to the server whil
 const PAUSE = 1500;
 const MOST_FAILURES = 4;
 const OPTIONS = ['black_prisoners', 'white_prisoners', 'positions', 'parts'];
+const SWITCHES = ['tax', 'territory', 'cycles'];
 
 const byId = (id) => document.getElementById(id);
 const board = byId('board');
@@ -147,7 +148,7 @@ function showFile(view) {
   set('komi', view.options.komi ?? (view.board ? view.board.komi : ''));
   set('turn', view.options.turn ?? '');
   OPTIONS.forEach((name) => set(name, view.options[name]));
-  byId('tax').checked = view.options.tax;
+  SWITCHES.forEach((name) => { byId(name).checked = view.options[name]; });
   byId('named').hidden = view.files.length < 2;
   if (byId('names').options.length !== view.files.length) {
     byId('names').replaceChildren(...view.files.map((name) => panels.make('option', {}, name)));
@@ -200,6 +201,7 @@ function showBoard() {
   draw(board, {
     board: now,
     signs: view.safe ? view.safe.signs : {},
+    marks: state.step === 0 && !view.game ? view.marks : {},
     regions: withRegions ? view.safe.regions : [],
     moves: !view.game && view.moves && state.step === 0 && byId('show-moves').checked ? view.moves.moves.filter((move) => move.komi !== null) : [],
     near: state.near,
@@ -276,7 +278,9 @@ function strike(point) {
   } else if (state.step > 0) {
     byId('fault').textContent = 'A later step is shown: go to the start to set stones.';
   } else {
-    act({ action: 'edit', point, colour: tool() });
+    const chosen = tool();
+    const colour = chosen && chosen.replace('mark-', '');
+    act({ action: colour === chosen ? 'edit' : 'mark', point, colour });
   }
 }
 
@@ -301,13 +305,13 @@ const KEYS = {
   Enter: () => strike(state.cursor), ' ': () => strike(state.cursor), u: undo, r: redo,
   '[': () => after(state.view.record.played - 1), ']': () => after(state.view.record.played + 1), Escape: () => act({ action: 'stop' }),
   Home: () => goTo('aa'), s: () => state.view.game && act({ action: 'play', move: 'spend' }),
-  b: () => pick('black'), w: () => pick('white'), x: () => pick(''),
+  b: () => pick('black'), w: () => pick('white'), x: () => pick(''), m: () => pick('mark-black'), n: () => pick('mark-white'),
 };
 const ARROWS = { ArrowLeft: [-1, 0], ArrowRight: [1, 0], ArrowUp: [0, -1], ArrowDown: [0, 1] };
 
 function pick(value) {
   document.querySelector(`input[name=tool][value="${value}"]`).checked = true;
-  tell(`A click sets ${value || 'nothing'}`);
+  tell(`A click sets ${value.replace('mark-', 'territory of ') || 'nothing'}`);
 }
 
 function pressed(event) {
@@ -365,7 +369,7 @@ function listen() {
   on('settings', 'submit', (event) => event.preventDefault());
   on('komi', 'change', () => configure({ komi: byId('komi').value.trim() || null }));
   on('turn', 'change', () => configure({ turn: byId('turn').value || null }));
-  on('tax', 'change', () => configure({ tax: byId('tax').checked }));
+  SWITCHES.forEach((name) => on(name, 'change', () => configure({ [name]: byId(name).checked })));
   OPTIONS.forEach((name) => on(name, 'change', () => configure({ [name]: number(name) })));
   on('file', 'change', async () => {
     await open(byId('file').files[0]);

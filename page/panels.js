@@ -8,6 +8,8 @@ const REMEDIES = {
   positions: { action: 'configure', options: { positions: 1000000 }, text: 'Allow 1,000,000 positions' },
   parts: { action: 'configure', options: { parts: 4000 }, text: 'Allow 4,000 parts' },
   again: { action: 'again', text: 'Ask again' },
+  cycles: { action: 'configure', options: { cycles: true }, text: 'Admit cycles' },
+  territory: { action: 'configure', options: { territory: true }, text: 'Take the marked points as territory' },
 };
 
 export function make(tag, attributes = {}, ...children) {
@@ -43,13 +45,20 @@ export function both(point, view) {
   return view.board && /^[a-y]{2}$/.test(point) ? `${point} (${boardName(point, view.board)})` : point;
 }
 
+const OUTCOMES = { wins: 'wins', loses: 'loses', none: 'nobody wins' };
+
+/** Up to which komi Black wins, and above which White does where that differs. */
+function span(black, white) {
+  return black === white ? `up to ${black}` : `up to ${black}, White above ${white}`;
+}
+
 export function answer(view) {
   if (!view.summary || view.game) {
     return fill('answer', []);
   }
   const moves = view.moves.moves.map((move) => make('tr', { class: move.best ? 'best' : '' },
-    make('td', {}, both(move.move, view)), make('td', {}, move.wins ? 'wins' : 'loses'),
-    make('td', {}, move.komi === null ? '' : `up to ${move.komi}`),
+    make('td', {}, both(move.move, view)), make('td', {}, OUTCOMES[move.outcome]),
+    make('td', {}, move.komi === null ? '' : span(move.komi, move.white)),
     make('td', {}, move.komi === null ? '' : move.best ? 'best' : `\u2212${move.loss}`)));
   const heads = ['move', 'for ' + view.moves.side, 'Black wins', 'loses'].map((text) => make('th', { scope: 'col' }, text));
   const none = moves.length === 0 ? [make('p', {}, 'No move is legal.')] : [];
@@ -58,13 +67,13 @@ export function answer(view) {
     make('p', { class: 'winner' }, view.summary.split('.')[0] + '.'),
     make('table', {}, make('tbody', {},
       row('komi', view.margin.komi),
-      row('Black first', `Black wins up to komi ${view.margin['black first']}`),
-      row('White first', `Black wins up to komi ${view.margin['white first']}`))),
+      row('Black first', `Black wins ${span(view.margin['black first'], view.margin['black first, white'])}`),
+      row('White first', `Black wins ${span(view.margin['white first'], view.margin['white first, white'])}`))),
     ...none,
     make('div', { class: 'scroll', tabindex: 0, role: 'region', 'aria-label': 'Moves' },
       make('table', {}, make('thead', {}, make('tr', {}, ...heads)), make('tbody', {}, ...moves))),
     make('p', { class: 'faint' }, 'On the board: up to which komi Black wins after the move, and below what it loses against the best one. '
-      + 'A dark circle is a best move, a pale circle another that wins, a pale square one that loses.'),
+      + 'A dark circle is a best move, a pale circle another that wins, a pale square one that loses or after which nobody wins.'),
   ]);
 }
 
@@ -91,14 +100,20 @@ function region(view, chosen) {
   if (!value) {
     return [head];
   }
-  const [left, right] = value.stops.split(' ');
-  const told = `left wall ${value.left}, right wall ${value.right}`;
-  const picture = make('img', {
-    src: `thermograph.svg?point=${chosen.point}&of=${encodeURIComponent(value.value)}`, alt: `Thermograph of ${value.value}: ${told}`,
-  });
-  return [head, make('table', {}, make('tbody', {},
-    row('value', value.value), row('stops', `${left} where Black begins, ${right} where White begins`), row('mean', value.mean),
-    row('temperature', value.temperature), row('positions', String(value.positions)))), picture];
+  const told = value.values.map((game) => `${game.value}: left wall ${game.left}, right wall ${game.right}`).join('; ');
+  const named = value.values.map((game) => game.value).join(' ');
+  const picture = make('img', { src: `thermograph.svg?point=${chosen.point}&of=${encodeURIComponent(named)}`, alt: `Thermograph of ${told}` });
+  return [head, make('table', {}, make('tbody', {}, ...value.values.flatMap(valueRows), row('positions', String(value.positions)))), picture];
+}
+
+/** What is told of a value; `low` is Black's and `high` White's, where kos make them differ. */
+function valueRows(game) {
+  const [left, right] = game.stops.split(' ');
+  const label = { low: 'value for Black', high: 'value for White' }[game.label] || 'value';
+  return [
+    row(label, game.value), row('stops', `${left} where Black begins, ${right} where White begins`), row('mean', game.mean),
+    row('temperature', game.temperature),
+  ];
 }
 
 export function refusals(view, step, act, stepTo) {
@@ -123,6 +138,9 @@ function refusalOf(view, refusal, number, step, act, stepTo) {
 function remedy(view, name, number, act) {
   const { text, ...action } = REMEDIES[name];
   const id = `remedy-${name}-${number}`;
+  if (name === 'territory' && (!view.marked || view.options.territory)) {
+    return [];
+  }
   if (name === 'fill_pairs') {
     return view.pair ? [button(id, `Fill ${view.pair[0]} by Black and ${view.pair[1]} by White`, () => act(action))] : [];
   }
@@ -169,7 +187,7 @@ export function line(view, step, stepTo) {
 
 export function game(view, act) {
   if (!view.game) {
-    const ready = view.moves && view.refusals.length === 0;
+    const ready = view.moves && view.refusals.length === 0 && !view.options.cycles;
     return fill('game', ready ? [
       make('h2', {}, 'Game'), make('p', {}, 'Play this position against the program, as'),
       make('div', { class: 'buttons' },

@@ -5,6 +5,7 @@ import shutil
 import answers
 import refusals
 from answers import Fault
+from position import UNSEALED
 from record import MOVES, Setup, has_marks, main_line, pairs
 
 COMMANDS = ('board', 'safe', 'margin', 'moves', 'values', 'line')
@@ -16,7 +17,10 @@ class Question:
     """A position, and what the program has said of it so far."""
 
     def __init__(self, position):
-        self.position, self.setup = position, position.setup
+        self.position = position
+        self.has_unsealed = position.marks is not None and position.territory
+        self.setup = None if self.has_unsealed else position.setup
+        self.unsealed = position.setup if self.has_unsealed else None  # without the marks that the page wrote
         self.data, self.lines, self.refused, self.steps = {}, {}, [], []
         self.is_stopped = False
         try:
@@ -25,6 +29,10 @@ class Question:
             nodes = []
         self.moves = sum(key in MOVES and bool(values) for node in nodes for key, values in node)
         self.has_marks = has_marks(nodes)
+
+    def edited_setup(self):
+        """What a click changes: the board without the marks that the page wrote, where it did, or else the board."""
+        return self.unsealed if self.has_unsealed else self.setup
 
     def take(self, command, outcome):
         """Keeps an answer, or why there is none."""
@@ -39,6 +47,9 @@ class Question:
         self.refuse(command, fault)
 
     def read(self, command, lines):
+        if command == UNSEALED:
+            self.unsealed = Setup(lines)
+            return answers.board_of(self.unsealed)
         if command == 'board':
             self.setup = Setup(lines)
             return answers.board_of(self.setup)
@@ -52,10 +63,16 @@ class Question:
         if not any(old['line'] == line for old in self.refused):
             self.refused.append(refusal)
 
+    def commands(self):
+        """What is asked: a line of play is told only where no region has a cycle."""
+        return COMMANDS[:-1] if self.position.cycles else COMMANDS
+
     def next_command(self):
         if self.is_stopped or any(refusals.stops_all(refusal['line']) for refusal in self.refused):
             return None
-        return next((command for command in COMMANDS if command not in self.data), None)
+        if self.has_unsealed and self.unsealed is None and UNSEALED not in self.data:
+            return UNSEALED
+        return next((command for command in self.commands() if command not in self.data), None)
 
     def cycle(self):
         return next((refusal for refusal in self.refused if refusal['moves']), None)
@@ -82,13 +99,20 @@ class Question:
 
     def is_read(self):
         """Whether it is known what stands on the board, or that the program doesn't say it."""
-        return self.setup is not None or self.is_stopped or 'board' in self.data
+        return self.edited_setup() is not None or self.is_stopped or 'board' in self.data
 
     def shown_board(self):
         """The board as `board` says it, or the one that the page wrote where the program refuses that, or nothing."""
         if self.data.get('board'):
             return self.data['board']
-        return self.setup and {**answers.board_of(self.setup), 'unread': 'board' in self.data}
+        setup = self.edited_setup()
+        return setup and {**answers.board_of(setup), 'unread': 'board' in self.data}
+
+    def marks(self):
+        """The marks that the page wrote, by the names of their points."""
+        setup = self.edited_setup()
+        marks = self.position.marks if self.has_unsealed and setup else ()
+        return {setup.board.name(point): colour for point, colour in marks}
 
     def line(self):
         """How many moves of the file are played, and how many there are."""

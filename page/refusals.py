@@ -5,13 +5,15 @@ import re
 from answers import stones_of
 
 ADVICE = [
-    ('fault cycle', 'Moves in this region can come back to an earlier position, and there is no ko here.',
-     'Step through the moves. A pair of neutral points: fill both, one for each player. A room with a point away from the wall: fill '
-     'that point. A ko: decide it, and let the winner fill or connect.'),
+    ('fault cycle', 'Moves in this region can come back to an earlier position, as in a ko.',
+     'Admit cycles: then the answer may be that nobody wins. Or step through the moves, and fill a pair of neutral points, one for each player, or a '
+     'point away from the wall.'),
+    ('fault captures', 'This region changes with more than 32 captures that can return.', 'Decide a ko of it, and let the winner fill or connect.'),
     (r'fault region \S+ positions', 'Too many positions can arise in this region.',
      'Fill what is sure so that the walls live, or allow more positions.'),
     ('fault region', 'This region has more than 32 points. Mostly a wall near it is not alive, and all that it walls off, and the wall, '
-     'is one region.', 'Find the chain that should be a wall and is drawn open; give it two eyes of one point, or connect it.'),
+     'is one region.', 'Mark what is agreed as territory; or find the chain that should be a wall and is drawn open, and give it two eyes of one point, or '
+     'connect it.'),
     ('fault form', 'A value of this region is past a limit.', 'Allow more parts, or make the region smaller by a stone that closes part of it.'),
     ('fault file marked twice', 'A point is marked as the territory of both players.', 'Take one of the two marks off.'),
     ('fault file no liberty', 'A chain stands without a liberty.', 'Take a stone off.'),
@@ -27,7 +29,8 @@ ADVICE = [
 ]
 # What the page can do after a refusal, by the first lines that fit.
 REMEDIES = [
-    ('fault cycle', ('fill_pairs', 'close')), (r'fault region \S+ positions', ('close', 'positions')), ('fault region', ('close',)),
+    ('fault cycle', ('cycles', 'fill_pairs', 'close')), (r'fault region \S+ positions', ('territory', 'close', 'positions')),
+    ('fault region', ('territory', 'close')),
     ('fault form', ('parts',)), ('stopped', ('again',)), ('', ()),
 ]
 UNKNOWN = 'The program has no answer.', 'docs/FORMATS.md has the faults and statuses.'
@@ -42,7 +45,7 @@ def explained(command, line):
     if line.startswith('fault cycle'):
         at, returns = words[2], int(words[3])
         moves = stones_of(words[4:])
-    elif line.startswith(('fault region', 'fault form')):
+    elif line.startswith(('fault region', 'fault form', 'fault captures')):
         at = words[2]
     elif line.startswith(('fault file no liberty', 'fault file marked twice')):
         at = words[-1]

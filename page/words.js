@@ -10,7 +10,9 @@ export function described(point, view, now) {
   const region = view.safe && view.safe.regions.find((told) => told.points.includes(point));
   const move = !view.game && now === view.board && view.moves && view.moves.moves.find((told) => told.move === point);
   const loss = move && (move.best ? 'best' : `${move.loss} less than the best`);
-  const worth = move ? `; a move here ${move.wins ? 'wins' : 'loses'}, Black wins up to komi ${move.komi}, ${loss}` : '';
+  const outcome = move && { wins: 'wins', loses: 'loses', none: 'lets nobody win' }[move.outcome];
+  const above = move && move.white !== move.komi ? `, White above ${move.white}` : '';
+  const worth = move ? `; a move here ${outcome}, Black wins up to komi ${move.komi}${above}, ${loss}` : '';
   return `${point}, ${boardName(point, now)}: ${sign}${region ? `; region ${region.point}` : ''}${worth}`;
 }
 

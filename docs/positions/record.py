@@ -164,15 +164,23 @@ class Board:
 # What a file says
 
 
+DECLARED = {'b': 'black', 'w': 'white'}
+
+
 class Setup:
-    """What the lines of `board` say: the board, the side to move, the komi, and the prisoners of each colour."""
+    """What the lines of `board` say: the board, the side to move, the komi, the prisoners of each colour, and the points that are declared for
+    each, with `--territory yes`."""
 
     def __init__(self, lines):
         (_, columns, rows), (_, self.side), (_, self.komi), *told = (line.split() for line in lines)
         self.board = Board(int(columns), int(rows))
         self.prisoners = {words[1]: int(words[2]) for words in told if words[0] == 'prisoners'}
+        self.declared = {colour: [] for colour in COLOURS}
         for y, text in enumerate(words[1] for words in told if words[0] == 'row'):
             self.board.stones.update(((x, y), CELLS[cell]) for x, cell in enumerate(text) if cell in CELLS)
+            for x, cell in enumerate(text):
+                if cell in DECLARED:
+                    self.declared[DECLARED[cell]].append((x, y))
 
 
 def setup_of(text, options=()):

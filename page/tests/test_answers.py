@@ -5,7 +5,7 @@ import unittest
 import common
 import answers
 import refusals
-from position import Position, configured, edited, empty, settled, written
+from position import Position, configured, edited, empty, marked, settled, written
 from record import Setup, setup_of
 from script import Fault
 
@@ -21,6 +21,22 @@ class Answers(unittest.TestCase):
     def test_thresholds_past_a_file_s_komi(self):
         lines = ['side black', 'komi 0', 'winner black', 'stone aa wins 1000000.5', 'stone bb loses -1000001']
         self.assertEqual([move['loss'] for move in answers.moves_of(lines)['moves']], ['0', '2000001.5'])
+
+    def test_two_thresholds_where_kos_arise(self):
+        lines = ['side white', 'komi 0', 'winner none', 'stone aa wins -1 2', 'stone bb none -4 5', 'half loses']
+        moves = answers.moves_of(lines)['moves']
+        self.assertEqual([(move['outcome'], move['komi'], move['white'], move.get('loss')) for move in moves],
+                         [('wins', '-1', '2', '0'), ('none', '-4', '5', '3'), ('loses', None, None, None)])
+        margin = answers.margin_of(lines[:3] + ['black first -0.5 1', 'white first 0 0'])
+        told = answers.summary({'komi': '0'}, answers.moves_of(lines), margin)
+        self.assertEqual(told, 'White to move; nobody wins. Winning: aa. Black wins up to komi -0.5, White above 1, moving first, and up to 0 '
+                         'where White moves first; the komi is 0.')
+
+    def test_a_region_with_two_values(self):
+        six = '%s {1|*}\nstops 1 0\nmean 1/2\ntemperature 1/2\nleft 0:1 1/2:1/2\nright 0:0 1/2:1/2\n'
+        lines = ('regions 1\nregion eb points 2 positions 8\n' + six % 'low' + six % 'high').splitlines()
+        self.assertEqual([value['label'] for value in answers.values_of(lines)[0]['values']], ['low', 'high'])
+        self.assertIn('high: White', answers.thermograph(lines, 'eb'))
 
     def test_no_stone_is_legal(self):
         self.assertEqual(answers.moves_of(['side black', 'komi 0', 'winner white'])['moves'], [])
@@ -77,10 +93,27 @@ class Positions(unittest.TestCase):
         alone = settled(second, self.setup(second))
         self.assertEqual((alone.black_prisoners, alone.white_prisoners), (3, 0))
         self.assertEqual(self.setup(alone).komi, '3')
-        self.assertEqual(setup_of(written(setup_of(taken)).encode()).komi, '-0.5')
+        self.assertEqual(setup_of(written(second, setup_of(taken)).encode()).komi, '-0.5')
 
     def setup(self, position):
         return setup_of(position.text, position.options('board'))
+
+    def test_marks_are_set_and_taken_off(self):
+        setup = Setup(['size 4 2', 'side black', 'komi 0', 'prisoners black 0', 'prisoners white 0', 'row ..X.', 'row .OXO'])
+        position = marked(empty(4, 2), setup, 'aa', 'black')
+        self.assertEqual([point for point, _ in position.marks], [(0, 0), (1, 0), (0, 1)])
+        self.assertIn(b'TB[aa][ba][ab]', position.text)
+        position = marked(position, setup, 'bb', 'black')  # a dead stone
+        position = marked(position, setup, 'ba', 'black')
+        self.assertEqual(dict(position.marks).keys(), {(0, 0), (0, 1), (1, 1)})
+        self.assertEqual(position.options('safe'), ['--territory', 'yes'])
+        position = edited(position, setup, 'aa', None)
+        self.assertEqual(dict(position.marks).keys(), {(0, 1), (1, 1)})
+        for point, colour in (('ca', 'black'), ('aa', 'red'), ('ea', 'black')):
+            with self.assertRaises(Fault):
+                marked(position, setup, point, colour)
+        with self.assertRaises(Fault):
+            configured(position, {'tax': True})
 
     def test_options_are_checked(self):
         for given in ({'komi': '6.25'}, {'komi': 6}, {'turn': 'red'}, {'positions': 0}, {'parts': 4001}, {'after': -1}, {'black_prisoners': True},
@@ -93,6 +126,10 @@ class Positions(unittest.TestCase):
         words = ['--after', '3', '--komi', '6.5', '--turn', 'white', '--white-prisoners', '4']
         self.assertEqual(position.options('safe'), words)
         self.assertEqual(position.options('moves'), words + ['--tax', 'yes', '--positions', '100000', '--parts', '500'])
+        admitted = configured(empty(9, 9), {'cycles': True, 'territory': True})
+        self.assertEqual(admitted.options('board'), ['--territory', 'yes'])
+        self.assertEqual(admitted.options('margin')[-4:], ['--cycles', 'yes', '--territory', 'yes'])
+        self.assertNotIn('--cycles', admitted.options('line'))
 
 
 if __name__ == '__main__':

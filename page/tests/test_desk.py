@@ -51,6 +51,28 @@ class Answers(AtDesk):
         self.assertIn('Black to move; Black wins. Winning: ea', view['summary'])
         self.assertEqual(view['values'][0]['point'], 'ea')
 
+    def test_kos_are_admitted(self):
+        desk = self.desk(PAIR)
+        self.assertIn('cycles', self.settled(desk)['refusals'][0]['remedies'])
+        desk.do('configure', {'cycles': True})
+        view = self.settled(desk)
+        self.assertEqual((view['refusals'], view['moves']['winner'], view['line']), ([], 'none', None))
+        self.assertEqual([value['label'] for value in view['values'][0]['values']], ['low', 'high'])
+        with self.assertRaises(Fault):
+            desk.do('begin_game', 'white')
+
+    def test_territory_is_marked(self):
+        desk = self.desk(b'(;SZ[7:3]AB[ca:cc]AW[ea:ec])')
+        self.settled(desk)
+        desk.do('mark', 'aa', 'black')
+        desk.do('mark', 'ga', 'white')
+        view = self.settled(desk)
+        self.assertEqual((view['refusals'], view['marks']['aa'], view['marks']['ga']), ([], 'black', 'white'))
+        self.assertEqual([counted['points'] for counted in view['safe']['counted']], [6, 6])
+        desk.do('edit', 'da', 'black')
+        self.assertEqual(self.settled(desk)['board']['rows'][0], '..XXO..')
+        self.assertIn('TB[aa]', desk.sgf())
+
     def test_a_thermograph_is_drawn(self):
         desk = self.desk(NEUTRAL)
         self.settled(desk)
