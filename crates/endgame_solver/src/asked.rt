@@ -77,7 +77,8 @@ fn changed_least(
     requires place { place < length sum.old }
     requires games { AreModestGames store.now (slice_set sum.old place after) }
     requires fits { Fits store.now search.old }
-    ensures least { IsLeastWin first (total (pick store.now (slice_set sum.old place after))) result }
+    ensures least { IsLeastWin first
+        (total (pick store.now (slice_set sum.old place after))) result }
     ensures small { unsigned_abs result ≤ 2 ^ 45 }
     ensures same { sum.new ≡ sum.old }
     ensures fits { Fits store.now search.new }
@@ -103,7 +104,8 @@ fn least_after(
     requires games { AreModestGames store.now (slice_set sum.old place after) }
     requires fits { Fits store.now search.old }
     requires right { AreAnswers store.now sum.old first answered.old.items }
-    ensures least { IsLeastWin first (total (pick store.now (slice_set sum.old place after))) result }
+    ensures least { IsLeastWin first
+        (total (pick store.now (slice_set sum.old place after))) result }
     ensures small { unsigned_abs result ≤ 2 ^ 45 }
     ensures same { sum.new ≡ sum.old }
     ensures fits { Fits store.now search.new }
@@ -171,7 +173,8 @@ fn is_reached(least: i64, balance: i128) -> bool
 
 /// Whether the player who moves first loses a game that Black wins or not.
 fn loses_where(first: Colour, won: bool) -> bool
-    ensures { (G : Tree) → IsTrue won ↔ BlackWins first G → IsTrue result ↔ LosesGame first G }
+    ensures { (G : Tree) → IsTrue won ↔ BlackWins first G
+        → IsTrue result ↔ LosesGame first G }
 {
     match first {
         Colour::Black => !won,
