@@ -13,7 +13,7 @@ use Rattle.whole_rules.specs.WholeGame.{Whole, Leads, IsMove}
 use Rattle.whole_rules.proofs.PlainLaws.{move_turn, one_winner}
 use Rattle.local_value.proofs.BudgetTreeLaws.{uses_or_not}
 use Rattle.whole_rules.specs.FirstWinningMove.{IsWinner}
-use Rattle.whole_budgets.specs.BudgetPlay.{Budgeted, WinsWithCaptures, position_on, IsReturningCapture, IsBudgetAfter, AreAtMost, LeadsWithin}
+use Rattle.whole_budgets.specs.BudgetPlay.{Budgeted, WinsWithCaptures, position_on, IsReturningCapture, IsBudgetAfter, AreBudgetsAfter, AreAtMost, LeadsWithin}
 use Rattle.whole_budgets.specs.BudgetPlayLaws.{BudgetsWinTheGame, GreaterBudgetsWin, SomeCapturesWin, OneWinsWithBudgets}
 
 pub other_not : (c : Colour) → c ≡ other c → ⊥
@@ -82,19 +82,23 @@ module _ (regions : List Region) (owner : Colour) where
     whole_loses zero p e l = λ t h. l (with t p.budgets) (free p.state t p.budgets e h)
     whole_loses (suc n) p e l = λ t h. whole_wins n (with t p.budgets) (mine p.state t h.0 e h.1) (l (with t p.budgets) (free p.state t p.budgets e h))
 
+  -- greater budgets pay for what smaller ones pay for, and stay no less
+  pub paid_more : (s t : Whole) (m : Move) (b c d : Region → ℕ) → AreAtMost regions b d → AreBudgetsAfter regions s m t b c
+      → (e : Region → ℕ) × AreBudgetsAfter regions s m t d e × AreAtMost regions c e
+  paid_more s t m b c d a after =
+      let e : Region → ℕ = λ r. d r - (b r - c r) in
+      let paid : (r : Region) → Contains regions r → IsBudgetAfter r s m t (d r) (e r) × (c r ≤ e r) =
+      λ r i. pays_more r s t m (b r) (c r) (d r) (a r i) (after r i) in
+      (e, λ r i. (paid r i).0, λ r i. (paid r i).1)
+
   mutual
     greater_wins : (n : ℕ) (s : Whole) (b d : Region → ℕ) → s.side ≡ owner → AreAtMost regions b d
         → WinsWithin Budgeted Step n (with s b) → WinsWithin Budgeted Step n (with s d)
     greater_wins zero s b d e a w = absurd w
     greater_wins (suc n) s b d e a (q, (m, h, inr (f, same)), l) = absurd (f e)
     greater_wins (suc n) s b d e a (q, (m, h, inl (own, after)), l) =
-        let c : Region → ℕ = λ r. d r - (b r - q.budgets r) in
-        let paid : (r : Region) → Contains regions r → IsBudgetAfter r s m q.state (d r) (c r) × (q.budgets r ≤ c r) =
-        λ r i. pays_more r s q.state m (b r) (q.budgets r) (d r) (a r i) (after r i) in (
-          with q.state c,
-          (m, h, inl (e, λ r i. (paid r i).0)),
-          greater_loses n q.state q.budgets c (theirs s q.state m e h) (λ r i. (paid r i).1) l,
-        )
+        let (c, paid, more) = paid_more s q.state m b q.budgets d a after in
+        (with q.state c, (m, h, inl (e, paid)), greater_loses n q.state q.budgets c (theirs s q.state m e h) more l)
 
     greater_loses : (n : ℕ) (s : Whole) (b d : Region → ℕ) → s.side ≡ other owner → AreAtMost regions b d
         → LosesWithin Budgeted Step n (with s b) → LosesWithin Budgeted Step n (with s d)

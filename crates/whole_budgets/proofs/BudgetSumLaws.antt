@@ -3,6 +3,7 @@ use Rattle.std.proofs.Common.{ℕ, zero, suc, ◌+◌, ◌≡◌, ◌<◌, ◌�
 use Rattle.std.specs.List.{sum_by}
 use Rattle.std.proofs.lemmas.List.{length-map, get_or-map}
 use Rattle.std.proofs.lemmas.List.Sums.{get_or-le-sum_by}
+use Rattle.std.proofs.Math.Nat.{le_refl}
 use Rattle.go_grid.specs.declared.grid.Cell.{Cell}
 use Rattle.go_grid.specs.declared.grid.Colour.{Colour}
 use Rattle.go_grid.specs.Board.{Board}
@@ -26,6 +27,7 @@ use Rattle.short_games.proofs.SumLaws.{same-plus}
 use Rattle.sum_outcome.specs.Players.{LosesGame}
 use Rattle.sum_outcome.proofs.PlayerLaws.{loses-same}
 use Rattle.local_value.specs.BudgetTree.{IsBudgetTree}
+use Rattle.local_value.specs.Ending.{EndsWithin}
 use Rattle.local_value.proofs.BudgetTreeLaws.{budget_tree, enough, steady_stays}
 use Rattle.local_value.specs.LocalGame.{tree_within}
 use Rattle.endgame_solver.specs.Decomposition.{money_tree}
@@ -33,13 +35,13 @@ use Rattle.endgame_solver.specs.Regions.{no_region, region_at}
 use Rattle.endgame_solver.specs.SumGame.{AllEnd, IsDecidedBy, Leads, State, parts_tree, purses_tree, state_tree}
 use Rattle.endgame_solver.specs.inner.Regions.{IsPointOf}
 use Rattle.endgame_solver.specs.inner.WholeParts.{AllShown}
-use Rattle.endgame_solver.proofs.PartsLaws.{decomposes, loses-forth, wins-forth}
+use Rattle.endgame_solver.proofs.PartsLaws.{all_end-lasts, decomposes, ends, loses-forth, wins-forth}
 use Rattle.endgame_solver.proofs.WholeLaws.{IsHeld, Position, held_long, money_same, moves_of, one_cells, position_in, HoldsReached, SeenAs, seen_from_opening, seen_now}
 use Rattle.whole_budgets.specs.BudgetPlay.{Budgeted, LeadsWithin, WinsWithBudgets}
 use Rattle.whole_budgets.specs.BudgetSums.{AreBudgetTreesOn, AreSteadyTreesOn, BudgetsDecompose, ServesFor, SteadyDecides, WinsGame}
 use Rattle.whole_budgets.proofs.BudgetPlayLemmas.{budgets_win, greater_win, some_win, with}
 use Rattle.whole_budgets.proofs.SpotLemmas.{Spot, Stands, depth, local_of, moves_take, no_spot, spot_ends, spot_is, spot_tree}
-use Rattle.whole_budgets.proofs.BudgetPartsLemmas.{IsSpotOn, Moves, Shows, matches, matches_back, part}
+use Rattle.whole_budgets.proofs.BudgetPartsLemmas.{IsSpotOn, Moves, Shows, forth, matches, matches_back, part}
 
 -- who wins one game wins an equal one
 pub wins-same : (owner side : Colour) (G H : Tree) → G ≡ᵍ H → WinsGame owner side G → WinsGame owner side H
@@ -128,6 +130,10 @@ module _ (g : Board) (settled : IsSettled g) (regions : List Region) (are : AreR
   abbrev PartsPlay : State Spot → State Spot → Type 0
   PartsPlay = Leads Spot (Moves g settled regions are owner)
 
+  parts_on : (t : Whole) (u : State Spot) → Shows g settled regions are owner (with t d) u → AreOn t.board 0 u.parts
+  parts_on t u w i lt = subst (λ z. IsSpotOn g settled regions are owner t.board d z (part g settled regions are owner u.parts i)) (omega arith)
+      (w.each i (omega (arith, lt, w.count)))
+
   -- who wins with the budgets is told by the sum
   decided : (t : Whole) (u : State Spot) (trees : Trees) → Shows g settled regions are owner (with t d) u
       → AreBudgetTreesOn g t.board owner d regions trees → WinsWithBudgets regions owner t d ↔ WinsGame owner t.side (total trees +ᵍ money_tree t.purses)
@@ -137,8 +143,7 @@ module _ (g : Board) (settled : IsSettled g) (regions : List Region) (are : AreR
       G = state_tree Spot (Moves g settled regions are owner) Deep u
 
       on_board : AreOn t.board 0 u.parts
-      on_board i lt = subst (λ z. IsSpotOn g settled regions are owner t.board d z (part g settled regions are owner u.parts i)) (omega arith)
-          (w.each i (omega (arith, lt, w.count)))
+      on_board = parts_on t u w
 
       is : IsDecidedBy Spot (Moves g settled regions are owner) G u
       is = decomposes Spot (Moves g settled regions are owner) Deep (length g.cells + 1) u (moves_take regions owner (length g.cells)) (all_end t.board 0 u.parts on_board)
@@ -183,6 +188,19 @@ module _ (g : Board) (settled : IsSettled g) (regions : List Region) (are : AreR
             | inr x ↦ absurd (f (subst (λ c. LosesGame c G) (sym w.turn) (is.loser.0 x)))
           ]
           by (inr (other_one, l)) = inr (other_one, loses l)
+
+  -- play with the budgets ends
+  ends_by : (n : ℕ) (p : Budgeted) (u : State Spot) → Shows g settled regions are owner p u → EndsWithin (State Spot) PartsPlay n u
+      → EndsWithin Budgeted Play n p
+  ends_by zero p u w e = λ q h. let (v, leads, shows) = forth g settled regions are owner p q u w h in e v leads
+  ends_by (suc n) p u w e = λ q h. let (v, leads, shows) = forth g settled regions are owner p q u w h in ends_by n q v shows (e v leads)
+
+  play_ends : (t : Whole) (u : State Spot) → Shows g settled regions are owner (with t d) u → (n : ℕ) × EndsWithin Budgeted Play n (with t d)
+  play_ends t u w =
+      let few = moves_take regions owner (length g.cells) in
+      let (ns, lasts) = all_end-lasts Spot (Moves g settled regions are owner) (length g.cells + 1) few Deep u.parts
+      (all_end t.board 0 u.parts (parts_on t u w)) in
+      (_, ends_by _ (with t d) u w (ends Spot (Moves g settled regions are owner) (length g.cells + 1) few _ ns u lasts (le_refl _)))
 
 -- Each state that is seen as its regions' positions is seen as these with their budgets.
 module _ (g : Board) (regions : List Region) where
@@ -249,6 +267,13 @@ module _ (g : Board) (settled : IsSettled g) (regions : List Region) (are : AreR
       let (v, seen) = seen_now g settled regions are t keeps reached in
       let (u, shows) = budget_spots g settled regions are owner b t v seen in
       decided g settled regions are owner b t u trees shows on
+
+  -- play with budgets ends
+  pub budget_play_ends : (b : Region → ℕ) → (n : ℕ) × EndsWithin Budgeted (LeadsWithin regions owner) n (with t b)
+  budget_play_ends b =
+      let (v, seen) = seen_now g settled regions are t keeps reached in
+      let (u, shows) = budget_spots g settled regions are owner b t v seen in
+      play_ends g settled regions are owner b t u shows
 
   -- who wins is told by the sum of steady trees
   pub winner_by_sum : (trees : Trees) → AreSteadyTreesOn g t.board owner regions trees

@@ -108,7 +108,7 @@ one_state s t u p (mark, (h, (n, (ground, m), number, is))) (mark', (k, (n', (gr
 
 module _ (P : Whole → Type 0) (told : (t : Whole) → Decided (P t)) (s : Whole) where
   -- some outcome of the move has the property
-  abbrev Leading : Move → Type 0
+  abbrev pub Leading : Move → Type 0
   Leading m = (t : Whole) × IsMove s m t × P t
 
   stone_or_not : (p : ℕ) → Decided (Leading (Stone p))
@@ -150,6 +150,11 @@ module _ (P : Whole → Type 0) (told : (t : Whole) → Decided (P t)) (s : Whol
       | inr not ↦ inr (λ (t, (some', is), w). not (subst P is w))
     ]
   ]
+
+  pub move_or_not : (m : Move) → Decided (Leading m)
+  move_or_not (Stone p) = stone_or_not p
+  move_or_not Spend = spend_or_not
+  move_or_not Half = half_or_not
 
   pub some_move : Decided ((t : Whole) × Leads s t × P t)
   some_move = alike _ _ to from

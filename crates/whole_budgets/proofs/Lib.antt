@@ -1,4 +1,5 @@
 pub mod BudgetPlayLemmas
+pub mod BudgetListLemmas
 pub mod RegionLemmas
 pub mod QuietLemmas
 pub mod KoRuleLemmas

@@ -95,7 +95,7 @@ module _ (g : Board) (settled : IsSettled g) (regions : List Region) (are : AreR
     same_cells s h same = sym (position_is r h (pos s) (length-map r.points (λ p. cell_at s.board p))
         (λ i lt. same i lt ∙ sym (get_or-map (λ p. cell_at s.board p) r.points i 0 cell.Empty lt)))
 
-    stone_inside : (s t : Whole) (i : ℕ) → Keeps g s → i < length r.points → IsMove s (Stone (slice_index r.points i)) t
+    pub stone_inside : (s t : Whole) (i : ℕ) → Keeps g s → i < length r.points → IsMove s (Stone (slice_index r.points i)) t
         → IsQuiet s (Stone (slice_index r.points i)) t → QuietStep (pos s) (pos t)
     stone_inside s t i keeps lt (inside, (h, (n, placed, taken, is))) quiet =
         let here = plays_locally g r settled (are.each r in') in

@@ -166,7 +166,7 @@ unfolding richer_purses
 paid_both colour.Black m a b e f = ap (λ z. record { black = m.black + z; white = m.white + b; token = m.token }) e ∙ ap (λ z. record { black = m.black + 1; white = m.white + z; token = m.token }) f
 paid_both colour.White m a b e f = ap (λ z. record { black = m.black + b; white = m.white + z; token = m.token }) e ∙ ap (λ z. record { black = m.black + z; white = m.white + 1; token = m.token }) f
 
-retaken : (u s t : Whole) (m : Move) (x : ℕ) → IsMove u m s → IsMove s (Stone x) t → u.board ≡ t.board → t ≡ richer u
+pub retaken : (u s t : Whole) (m : Move) (x : ℕ) → IsMove u m s → IsMove s (Stone x) t → u.board ≡ t.board → t ≡ richer u
 retaken u s t Spend x (some, is) (inside, (h, (n, placed, taken, is'))) same =
     let more = one_more s.board.cells h.cells s.side x placed.1 in
     let there : stones_of s.side u.board.cells ≡ stones_of s.side h.cells = ap (λ z. stones_of s.side z.cells) (same ∙ ap (λ z. z.board) is') in

@@ -4,4 +4,5 @@ pub mod KoRules
 pub mod KoRuleLaws
 pub mod SimpleKo
 pub mod BudgetSums
+pub mod EnginePlay
 pub mod SituationalSuperko
