@@ -1,5 +1,5 @@
 -- What a move changes of the present state, and who wins behind it.
-use Rattle.std.proofs.Common.{ℕ, ◌≡◌, ◌≢◌, ◌↔◌, ◌<◌, ◌≤◌, ◌+◌, arith, inl, inr, refl, sym, ap, ◌∙◌, subst, List, length, get_or, set, Bool, IsTrue, MatchOption, Option, None, Some, Contains, length-set, suc, zero}
+use Rattle.std.proofs.Common.{ℕ, ◌≡◌, ◌≢◌, ◌↔◌, ◌<◌, ◌≤◌, ◌+◌, arith, inl, inr, refl, sym, ap, ap₂, ◌∙◌, subst, List, length, get_or, set, Bool, IsTrue, IfSome, MatchOption, Option, None, Some, Contains, length-set, suc, zero, false}
 use Rattle.std.proofs.lemmas.Bool.{cases_eq}
 use Rattle.std.proofs.lemmas.List.{get_or_default, get_or-set_other, get_or-set_same}
 use Rattle.go_grid.specs.declared.grid.Colour.{Colour}
@@ -26,16 +26,18 @@ use Rattle.endgame_solver.specs.SumGame.{AreModest, balance}
 use Rattle.endgame_solver.specs.Regions.{IsStoneAt, region_at}
 use Rattle.endgame_solver.specs.inner.Held.{IsFirstStone}
 use Rattle.endgame_solver.proofs.BeginLaws.{token_few}
-use Rattle.endgame_solver.proofs.BookkeepingLaws.{halved-is, own-less, paid-in}
+use Rattle.endgame_solver.proofs.BookkeepingLaws.{halved-is, own-less, paid-in, paid-out}
+use Rattle.local_graph.specs.ReturnGraph.{IsReturningCaptureAt}
+use Rattle.whole_budgets.specs.BudgetPlay.{IsReturningCapture}
 use Rattle.whole_budgets.specs.BudgetSums.{WinsGame}
 use Rattle.whole_budgets.proofs.BudgetPlayLemmas.{other_not, other_twice}
 use Rattle.cycle_solver.specs.declared.asking.Present.{Present}
 use Rattle.cycle_solver.specs.declared.changes.Change.{Change}
 use Rattle.cycle_solver.specs.declared.region_game.RegionGame.{RegionGame}
-use Rattle.cycle_solver.specs.Changes.{IsChange, IsChanged, IsSomeChange, places_after}
+use Rattle.cycle_solver.specs.Changes.{AreBehind, IsBehind, IsChange, IsChanged, IsSomeChange, places_after}
 use Rattle.cycle_solver.specs.GameLists.{game_at}
-use Rattle.cycle_solver.specs.Held.{AreSummed, HaveEdges, IsAt, IsHeld, IsSeen, IsStoneEdge, enough, ids_with, place_at}
-use Rattle.cycle_solver.proofs.StoneLaws.{money_leads, stone_edge, stone_leads, stone_legal, stone_taken}
+use Rattle.cycle_solver.specs.Held.{AreSummed, AreSummedBy, HaveEdges, IsAt, IsHeld, IsSeen, IsStoneEdge, enough, ids_with, place_at}
+use Rattle.cycle_solver.proofs.StoneLaws.{money_leads, stone_edge, stone_leads, stone_legal, stone_taken, stone_uses}
 use Rattle.cycle_solver.proofs.SumLaws.{have_places, modest_games, told, wins}
 
 -- what an edge at a point changes is the change of the stone
@@ -65,14 +67,21 @@ module _ {regions : List Region} {games : List RegionGame} {places : List ℕ} {
   pub none_legal : {p : ℕ} → ((k : ℕ) (e : Edge) → ¬ IsStoneEdge regions games places s.side p k e) → ¬ IsLegal s (Stone p)
   none_legal {p} none (t, m) = let (k, (e, x)) = stone_edge held.solved held.at t p m in none k e x
 
+-- the region of a stone
+abbrev pub region_in : Option (ℕ × ℕ) → ℕ
+region_in None = 0
+region_in (Some x) = x.0
+
 -- What a move changes.
 module _ (present : Present) (seen : IsSeen present) where
   abbrev now : Whole
   now = present.whole.now
 
-  pub stone_change : {p k i : ℕ} {e : Edge} {m : Purses} → IsStoneEdge present.regions.now present.games.now present.places.now now.side p k e
-      → i ≡ e.next → m ≡ paid_in now.side e.taken now.purses → IsChange present (Stone p) (record { stone = Some (k, i); purses = m })
-  stone_change {p} {k} {i} {e} {m} x next paid = record {
+  pub stone_change : {p k i : ℕ} {e : Edge} {u : Bool} {m : Purses}
+      → IsStoneEdge present.regions.now present.games.now present.places.now now.side p k e → i ≡ e.next
+      → IsTrue u ↔ IsReturningCaptureAt e.colour (game_at present.games.now k).graph.components (place_at present.places.now k) e
+      → m ≡ paid_in now.side e.taken now.purses → IsChange present (Stone p) (record { stone = Some (k, i); uses = u; purses = m })
+  stone_change {p} {k} {i} {e} {u} {m} x next returns paid = record {
     legal = stone_legal seen.solved seen.at x;
     each = λ t move.
         let l = stone_leads seen.solved seen.at t x move in record {
@@ -84,50 +93,90 @@ module _ (present : Present) (seen : IsSeen present) where
           purses = l.purses ∙ sym paid;
           turn = l.turn;
         };
+    uses = λ t move j lt.
+        let w = stone_uses seen.solved seen.at t x move j lt in (
+          λ ret. (returns.1 (w.0 ret).0, (i, ap (λ z. Some (z, i)) (sym (w.0 ret).1))),
+          λ (used, (l, is)). w.1 (returns.0 used, sym (ap region_in is)),
+        );
     modest = subst AreModest (sym paid) (modest_in seen e.taken (stone_taken seen.solved seen.at x));
+    grown = λ c. subst (λ z. purse c z ≤ purse c now.purses + 33) (sym paid)
+        (omega (arith, paid-in c now.side e.taken now.purses, own-less c now.side e.taken, stone_taken seen.solved seen.at x));
     known = x.known;
   }
 
   money_change : (move : Move) (ms : Purses) {m : Purses} → IsMove now move (after present.whole.now.board ms now)
-      → ((t : Whole) → IsMove now move t → t ≡ after now.board ms now) → AreModest ms → m ≡ ms
-      → IsChange present move (record { stone = None; purses = m })
-  money_change move ms {m} legal each modest paid = record {
+      → ((t : Whole) → IsMove now move t → t ≡ after now.board ms now) → ((r : Region) (t : Whole) → ¬ IsReturningCapture r now move t)
+      → AreModest ms → ((c : Colour) → purse c ms ≤ purse c now.purses + 33) → m ≡ ms
+      → IsChange present move (record { stone = None; uses = false; purses = m })
+  money_change move ms {m} legal each never modest grown paid = record {
     legal = (after now.board ms now, legal);
     each = λ t h. record {
       stands = (seen.board, seen.solved, money_leads seen.solved seen.at move ms t h (each t h));
       purses = ap (λ z. z.purses) (each t h) ∙ sym paid;
       turn = ap (λ z. z.side) (each t h);
     };
+    uses = λ t h k lt. (λ ret. absurd (never (region_at present.regions.now k) t ret), λ (used, rest). absurd cc);
     modest = subst AreModest (sym paid) modest;
+    grown = λ c. subst (λ z. purse c z ≤ purse c now.purses + 33) (sym paid) (grown c);
     known = tt;
   }
 
   pub spend_change : {m : Purses} → 1 ≤ purse now.side now.purses → m ≡ paid_out now.side now.purses
-      → IsChange present Spend (record { stone = None; purses = m })
-  spend_change some paid = money_change Spend (paid_out now.side now.purses) (some, refl) (λ t h. h.1) (modest_out seen now.side) paid
+      → IsChange present Spend (record { stone = None; uses = false; purses = m })
+  spend_change some paid = money_change Spend (paid_out now.side now.purses) (some, refl) (λ t h. h.1) (λ r t u. u) (modest_out seen now.side)
+      (λ c. omega (arith, paid-out c now.side now.purses some)) paid
 
   pub half_change : {m : Purses} → now.purses.token ≢ Nobody → m ≡ halved now.side now.purses
-      → IsChange present Half (record { stone = None; purses = m })
-  half_change some paid = money_change Half (halved now.side now.purses) (some, refl) (λ t h. h.1) (modest_half seen now.side) paid
+      → IsChange present Half (record { stone = None; uses = false; purses = m })
+  half_change some paid = money_change Half (halved now.side now.purses) (some, refl) (λ t h. h.1) (λ r t u. u) (modest_half seen now.side)
+      (λ c.
+      let h = halved-is c now.side now.purses.black now.purses.white now.purses.token in
+      omega (arith, h.0, h.1, token_few now.purses.token)) paid
 
 -- Who wins behind a move.
 
 -- a sum in which one value is put
-pub summed_put : {games : List RegionGame} {places : List ℕ} {c : Colour} {budget : ℕ} {ids : List ℕ} (k i v : ℕ) → k < length places
-    → k < length games → AreSummed games places c budget ids → v ≡ get_or (ids_with (game_at games k) c budget) i 0
-    → AreSummed games (set places k i) c budget (set ids k v)
-summed_put {games} {places} {c} {budget} {ids} k i v inside known summed is = record {
+pub summed_put : {games : List RegionGame} {places : List ℕ} {c : Colour} {before behind : ℕ → ℕ} {ids : List ℕ} (k i v : ℕ) → k < length places
+    → k < length games → AreSummedBy games places c before ids → ((j : ℕ) → j ≢ k → behind j ≡ before j)
+    → v ≡ get_or (ids_with (game_at games k) c (behind k)) i 0 → AreSummedBy games (set places k i) c behind (set ids k v)
+summed_put {games} {places} {c} {before} {behind} {ids} k i v inside known summed others is = record {
   many = length-set ids k v ∙ summed.many;
   each = λ j lt. elim (cases_eq j k) as (λ _. Summed j) [
     | inl same ↦ subst Summed (sym same) (get_or-set_same ids k v 0 (omega (arith, known, summed.many)) ∙ is
-        ∙ ap (λ z. get_or (ids_with (game_at games k) c budget) z 0) (sym (get_or-set_same places k i 0 inside)))
+        ∙ ap (λ z. get_or (ids_with (game_at games k) c (behind k)) z 0) (sym (get_or-set_same places k i 0 inside)))
     | inr ne ↦ get_or-set_other ids k j v 0 ne ∙ summed.each j lt
-        ∙ ap (λ z. get_or (ids_with (game_at games j) c budget) z 0) (sym (get_or-set_other places k j i 0 ne))
+        ∙ ap₂ (λ b z. get_or (ids_with (game_at games j) c b) z 0) (sym (others j ne)) (sym (get_or-set_other places k j i 0 ne))
   ];
 }
   where
     Summed : ℕ → Type 0
-    Summed j = get_or (set ids k v) j 0 ≡ get_or (ids_with (game_at games j) c budget) (place_at (set places k i) j) 0
+    Summed j = get_or (set ids k v) j 0 ≡ get_or (ids_with (game_at games j) c (behind j)) (place_at (set places k i) j) 0
+
+-- a sum with budgets that are the same
+pub summed_as : {games : List RegionGame} {places : List ℕ} {c : Colour} {before behind : ℕ → ℕ} {ids : List ℕ}
+    → ((k : ℕ) → k < length games → ids_with (game_at games k) c (behind k) ≡ ids_with (game_at games k) c (before k))
+    → AreSummedBy games places c before ids → AreSummedBy games places c behind ids
+summed_as {places = places} same summed = record {
+  many = summed.many;
+  each = λ k lt. summed.each k lt ∙ ap (λ layer. get_or layer (place_at places k) 0) (sym (same k lt));
+}
+
+-- without a stone the sum stays
+pub summed_none : {games : List RegionGame} {places : List ℕ} {c : Colour} (budget : ℕ) {ids : List ℕ} {stone : Option (ℕ × ℕ)} → stone ≡ None
+    → (before behind : ℕ → ℕ) → AreBehind stone budget before behind → AreSummedBy games places c before ids
+    → AreSummedBy games (places_after places stone) c behind ids
+summed_none {games} {places} {c} budget {ids} {stone} none before behind are summed =
+    subst (λ o. AreSummedBy games (places_after places o) c behind ids) (sym none)
+    (summed_as (λ k lt. ap (λ b. ids_with (game_at games k) c b) (subst (λ o. AreBehind o budget before behind) none are k)) summed)
+
+pub summed_still : {games : List RegionGame} {places : List ℕ} {c : Colour} {ids : List ℕ} {stone : Option (ℕ × ℕ)} → stone ≡ None
+    → AreSummed games places c enough ids → AreSummed games (places_after places stone) c enough ids
+summed_still {games} {places} {c} {ids} none = subst (λ o. AreSummed games (places_after places o) c enough ids) (sym none)
+
+-- with one budget everywhere it is the same behind a move
+pub one_behind : (stone : Option (ℕ × ℕ)) (budget : ℕ) → AreBehind stone budget (λ k. budget) (λ k. budget)
+one_behind None budget = λ k. refl
+one_behind (Some x) budget = (refl, λ k ne. refl)
 
 module _ (present : Present) (x : Change) (some : IsSomeChange present x) where
   abbrev after_it : Whole
@@ -140,12 +189,14 @@ module _ (present : Present) (x : Change) (some : IsSomeChange present x) where
   later = places_after present.places.now x.stone
 
   -- the sum of the values behind the move may be asked
-  pub games_after : (c : Colour) (ids : List ℕ) → AreSummed present.games.now later c enough ids → AreModestGames present.store.now ids
-  games_after c ids summed = modest_games changed.stands.1 changed.stands.2 c enough ids summed
+  pub games_after : (c : Colour) (budget : ℕ → ℕ) (ids : List ℕ) → AreSummedBy present.games.now later c budget ids
+      → AreModestGames present.store.now ids
+  games_after c budget ids summed = modest_games changed.stands.1 changed.stands.2 c budget ids summed
 
   -- each place behind the move has a value
-  pub place_after : (c : Colour) (k : ℕ) → k < length present.games.now → place_at later k < length (ids_with (game_at present.games.now k) c enough)
-  place_after c k lt = (have_places changed.stands.1 changed.stands.2 c enough).inside k lt
+  pub place_after : (c : Colour) (budget k : ℕ) → k < length present.games.now
+      → place_at later k < length (ids_with (game_at present.games.now k) c budget)
+  place_after c budget k lt = (have_places changed.stands.1 changed.stands.2 c budget).inside k lt
 
   pub many_after : length later ≡ length present.games.now
   many_after = (have_places changed.stands.1 changed.stands.2 Black enough).many
@@ -226,6 +277,27 @@ edge_found {c = c} {p} e lt er ee (among, stone) = record {
   among = subst (λ es. Contains es e) ee among;
 }
 
+-- what stands behind a change, and behind a move that changes nothing
+pub behind_change : (present : Present) (seen : IsSeen present) (x : Change) (m : Move) → IsChange present m x → IsBehind present m x.stone
+behind_change present seen x m change = record {
+  stands = λ t move. (change.each t move).stands;
+  grown = λ t move c. subst (λ z. purse c z ≤ purse c present.whole.now.purses + 33) (sym (change.each t move).purses) (change.grown c);
+  still = λ not. absurd (not change.legal);
+  known = within x.stone change.known;
+}
+  where
+    within : (stone : Option (ℕ × ℕ)) → IfSome stone (λ y. y.0 < length present.regions.now) → IfSome stone (λ y. y.0 < length present.places.now)
+    within None known = tt
+    within (Some y) known = omega (arith, known, seen.at.many)
+
+pub behind_none : (present : Present) (seen : IsSeen present) (m : Move) → ¬ IsLegal present.whole.now m → IsBehind present m None
+behind_none present seen m not = record {
+  stands = λ t move. absurd (not (t, move));
+  grown = λ t move c. absurd (not (t, move));
+  still = λ _. refl;
+  known = tt;
+}
+
 -- What was put into the sum is put back.
 pub restored : (before : Option (ℕ × ℕ)) (a b c d : List ℕ) → MatchOption before (b ≡ a) (λ x. set b x.0 x.1 ≡ a) → c ≡ b
     → MatchOption before (d ≡ c) (λ x. d ≡ set c x.0 x.1) → d ≡ a
@@ -234,12 +306,33 @@ restored (Some x) a b c d put same back = back ∙ ap (λ z. set z x.0 x.1) same
 
 -- a stone's place has a value
 pub stone_place : (present : Present) (x : Change) → IsSomeChange present x → {k i : ℕ} → x.stone ≡ Some (k, i) → k < length present.games.now
-    → k < length present.places.now → (c : Colour) → i < length (ids_with (game_at present.games.now k) c enough)
-stone_place present x some {k} {i} is known inside c =
-    let within = place_after present x some c k known in
+    → k < length present.places.now → (c : Colour) (budget : ℕ) → i < length (ids_with (game_at present.games.now k) c budget)
+stone_place present x some {k} {i} is known inside c budget =
+    let within = place_after present x some c budget k known in
     let there : place_at (places_after present.places.now x.stone) k ≡ i =
     ap (λ o. place_at (places_after present.places.now o) k) is ∙ get_or-set_same present.places.now k i 0 inside in
     omega (arith, within, there)
+
+pub stone_inside : (present : Present) → IsSeen present → (x : Change) → IsSomeChange present x → {k i : ℕ} → x.stone ≡ Some (k, i) → (c : Colour) (budget : ℕ)
+    → i < length (ids_with (game_at present.games.now k) c budget)
+stone_inside present seen x some {k} is c budget =
+    let known : k < length present.regions.now = subst (λ o. IfSome o (λ y. y.0 < length present.regions.now)) is some.1.known in
+    stone_place present x some is (omega (arith, known, seen.solved.many)) (omega (arith, known, seen.at.many)) c budget
+
+pub stone_in_sum : (present : Present) → IsSeen present → (x : Change) → IsSomeChange present x → {k i : ℕ} → x.stone ≡ Some (k, i) → {c : Colour} {ids : List ℕ}
+    → AreSummed present.games.now present.places.now c enough ids → k < length ids
+stone_in_sum present seen x some {k} is summed =
+    let known : k < length present.regions.now = subst (λ o. IfSome o (λ y. y.0 < length present.regions.now)) is some.1.known in
+    omega (arith, known, seen.solved.many, summed.many)
+
+-- the sum with the value that the stone leads to
+pub summed_stone : (present : Present) → IsSeen present → (x : Change) → IsSomeChange present x → {k i v : ℕ} → x.stone ≡ Some (k, i) → (c : Colour)
+    → {ids : List ℕ} → AreSummed present.games.now present.places.now c enough ids → v ≡ get_or (ids_with (game_at present.games.now k) c enough) i 0
+    → AreSummed present.games.now (places_after present.places.now x.stone) c enough (set ids k v)
+summed_stone present seen x some {k} {i} {v} is c {ids} summed value =
+    let known : k < length present.regions.now = subst (λ o. IfSome o (λ y. y.0 < length present.regions.now)) is some.1.known in
+    subst (λ o. AreSummed present.games.now (places_after present.places.now o) c enough (set ids k v)) (sym is)
+    (summed_put k i v (omega (arith, known, seen.at.many)) (omega (arith, known, seen.solved.many)) summed (λ j ne. refl) value)
 
 -- no move wins exactly where the side to move isn't the winner
 pub none_winner : (s : Whole) (m : Option Move) → IsFirstWinning s m → (m ≡ None) ↔ (¬ IsWinner s s.side)

@@ -1,9 +1,14 @@
+pub mod AskedLaws
 pub mod BeginLaws
 pub mod CalmLaws
 pub mod ChangeLaws
 pub mod GameLaws
+pub mod KeepingLaws
+pub mod LeastLaws
 pub mod MarginLaws
+pub mod OneSumLaws
 pub mod SumLaws
 pub mod StoneLaws
 pub mod ThresholdLaws
 pub mod TranslateLaws
+pub mod TurnLaws

@@ -1,5 +1,5 @@
 -- The stones of the present state are the edges of its regions' positions, and each leads to where its edge leads.
-use Rattle.std.proofs.Common.{ℕ, ◌≡◌, ◌<◌, ◌≤◌, inl, inr, refl, sym, ap, ◌∙◌, subst, arith, List, length, get_or, set, Contains}
+use Rattle.std.proofs.Common.{ℕ, ◌≡◌, ◌↔◌, ◌<◌, ◌≤◌, inl, inr, refl, sym, ap, ◌∙◌, subst, arith, List, length, get_or, set, Contains}
 use Rattle.std.proofs.lemmas.Bool.{cases_eq}
 use Rattle.std.proofs.lemmas.List.{get_or_default, get_or-set_same, get_or-set_other, length-set}
 use Rattle.std.proofs.lemmas.List.Elements.{Contains-get_or}
@@ -16,6 +16,8 @@ use Rattle.whole_rules.proofs.WallLaws.{keeps_move}
 use Rattle.local_play.specs.LocalPlay.{IsLocalMove, IsNumberTaken as IsLocalNumberTaken}
 use Rattle.local_graph.specs.declared.graph.Edge.{Edge}
 use Rattle.local_graph.specs.Graph.{Graph}
+use Rattle.local_graph.specs.ReturnGraph.{IsReturningCaptureAt}
+use Rattle.local_graph.proofs.ReturnGraphLemmas.{capture_at}
 use Rattle.region_cut.specs.LocalBoard.{HoldsPosition}
 use Rattle.region_cut.proofs.LocalBoardLemmas.{only_region, placing_is_local, plays_locally, point_contested}
 use Rattle.short_games.specs.Tree.{Tree}
@@ -24,6 +26,8 @@ use Rattle.local_value.specs.Values.{IsPlaceOf}
 use Rattle.local_value.proofs.MoveLaws.{IsEdgeFor, graph_edge, graph_move, graph_next, graph_taken}
 use Rattle.endgame_solver.specs.Regions.{no_region, region_at}
 use Rattle.endgame_solver.proofs.WholeLaws.{IsHeld, held_after, position_in}
+use Rattle.whole_budgets.specs.BudgetPlay.{IsReturningCapture}
+use Rattle.whole_budgets.proofs.RegionLemmas.{return_locally}
 use Rattle.cycle_solver.specs.declared.region_game.RegionGame.{RegionGame}
 use Rattle.cycle_solver.specs.GameLists.{game_at}
 use Rattle.cycle_solver.specs.Held.{AreSolved, IsAt, IsStoneEdge, place_at}
@@ -135,6 +139,33 @@ module _ {g : Board} {regions : List Region} {games : List RegionGame} {Ts : Lis
         purses = ap (λ z. z.purses) is ∙ ap (λ z. paid_in s.side z s.purses) same;
         turn = ap (λ z. z.side) is;
       }
+
+  -- a stone is a capture that returns in its own region alone, exactly where its edge is one
+  pub stone_uses : (t : Whole) {p k : ℕ} {e : Edge} → IsStoneEdge regions games places s.side p k e → IsMove s (Stone p) t
+      → (j : ℕ) → j < length regions → IsReturningCapture (region_at regions j) s (Stone p) t
+      ↔ (IsReturningCaptureAt e.colour (game_at games k).graph.components (place_at places k) e × (j ≡ k))
+  stone_uses t {p} {k} {e} x m j lt =
+      let l = local_stone x in
+      let r = region_at regions k in
+      let of = (are.each k x.known).graph in
+      let there = graph_next r (graph_at k) of.graph (place_at places k) l.cells l.next s.side e.place e.taken e l.has l.move l.edge in
+      let at_edge = capture_at r.touch r.cells (game_at games k).graph.positions (game_at games k).graph.edges of.graph (game_at games k).graph.components of.returns
+      e.colour (place_at places k) e l.cells l.next l.has.inside x.among l.has.reachable there.reachable l.has.packed there.packed in
+      let m' : IsMove s (Stone (get_or r.points e.place 0)) t = subst (λ q. IsMove s (Stone q) t) (sym x.stone.point) m in
+      let on_board = return_locally g r s t e.place l.cells l.next are.settled (are.cut.each r (Contains-get_or regions k no_region x.known)) l.holds
+      x.stone.inside m' l.move in
+      let (k', known', among', alone) = only_region g regions are.cut p no_region ((at.contested p).0 m.0) in
+      let among : Contains r.points p = subst (Contains r.points) x.stone.point (Contains-get_or r.points e.place 0 x.stone.inside) in
+      let Here : ℕ → Type 0 = λ q. IsReturningCapture r s (Stone q) t in
+      let There : ℕ → Type 0 = λ i. IsReturningCapture (region_at regions i) s (Stone p) t in (
+        λ ret.
+            let same : j ≡ k = alone j lt ret.0 ∙ sym (alone k x.known among) in
+            let own = on_board.0 (subst Here (sym x.stone.point) (subst There same ret)) in
+            (at_edge.1 (refl, own.0, own.1), same),
+        λ (uses, same).
+            let own = at_edge.0 uses in
+            subst There (sym same) (subst Here x.stone.point (on_board.1 (own.1, own.2))),
+      )
 
   -- a move on the purses alone leaves all positions
   pub money_leads : (m : Move) (ms : Purses) (t : Whole) → IsMove s m t → t ≡ after s.board ms s → IsAt g regions games places t

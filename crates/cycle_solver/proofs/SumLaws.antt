@@ -30,13 +30,15 @@ use Rattle.endgame_solver.specs.SumGame.{AreModest, balance}
 use Rattle.endgame_solver.proofs.HeldLaws.{small_bounded, small_units}
 use Rattle.endgame_solver.proofs.PartsLaws.{purses-balance}
 use Rattle.endgame_solver.proofs.WholeLaws.{HoldsReached, money_same}
-use Rattle.whole_budgets.specs.BudgetPlay.{WinsWithCaptures}
+use Rattle.whole_budgets.specs.BudgetPlay.{WinsWithBudgets, WinsWithCaptures}
 use Rattle.whole_budgets.specs.BudgetSums.{AreTreesWith, ServesFor, WinsGame}
+use Rattle.whole_budgets.specs.EnginePlay.{WinsWithList, budget_in}
+use Rattle.whole_budgets.proofs.BudgetListLemmas.{budget_there}
 use Rattle.whole_budgets.proofs.BudgetPlayLemmas.{other_not}
 use Rattle.whole_budgets.proofs.BudgetSumLaws.{winner_by_sum, wins-same, wins_by_sum}
 use Rattle.cycle_solver.specs.declared.region_game.RegionGame.{RegionGame}
 use Rattle.cycle_solver.specs.GameLists.{game_at}
-use Rattle.cycle_solver.specs.Held.{AreSolved, AreSummed, HaveOpenings, HavePlaces, IsAt, IsHeld, enough, ids_with, layers_for, place_at}
+use Rattle.cycle_solver.specs.Held.{AreSolved, AreSummed, AreSummedBy, HaveOpenings, HavePlaces, IsAt, IsHeld, enough, ids_with, layers_for, place_at}
 
 -- values of positions that a board holds are as good as some trees of them
 module _ (g h : Board) (c : Colour) (IsFit : Region → ℕ → Type 0) (Ts : List Tree) where
@@ -70,13 +72,13 @@ module _ {g : Board} {regions : List Region} {games : List RegionGame} {Ts : Lis
   reached : (k : ℕ) → k < length regions → (cells : List Cell) × HoldsReached g are.settled regions are.cut s.board k cells
   reached k lt = let (cells, has, holds) = at.shown k lt in (cells, (has.reachable, holds))
 
-  module _ (c : Colour) (budget : ℕ) (ids : List ℕ) (summed : AreSummed games places c budget ids) where
+  module _ (c : Colour) (budget : ℕ → ℕ) (ids : List ℕ) (summed : AreSummedBy games places c budget ids) where
     as_many : length ids ≡ length regions
     as_many = summed.many ∙ are.many
 
     -- an id is that of the value with each budget that its layer serves
     value_with : (IsFit : Region → ℕ → Type 0) (j k : ℕ) → k < length regions → IsFit (region_at regions k) j
-        → ids_with (game_at games k) c budget ≡ ids_with (game_at games k) c j
+        → ids_with (game_at games k) c (budget k) ≡ ids_with (game_at games k) c j
         → IsValuedAt g s.board c IsFit Ts (region_at regions k) (get_or ids k 0)
     value_with IsFit j k lt fit same =
         let r = region_at regions k in
@@ -86,25 +88,32 @@ module _ {g : Board} {regions : List Region} {games : List RegionGame} {Ts : Lis
         let values = ((are.each k lt).layers c).values j in
         (cells, holds, (j, fit, subst (λ z. IsBudgetValue r.touch c j cells (tree_at Ts z)) (sym there) (values.each (place_at places k) cells has)))
 
-    -- with so many captures in each region the player wins where the sum says so
-    pub wins_with : WinsWithCaptures regions c s budget ↔ WinsGame c s.side (total (pick Ts ids) +ᵍ num 1 (balance s.purses))
-    wins_with =
-        let (trees, on, same) = valued g s.board c (λ r j. ServesFor r c j budget) Ts regions ids as_many
-        (λ k lt. value_with (λ r j. ServesFor r c j budget) budget k lt (inl refl) refl) in
-        let sum = wins_by_sum g are.settled regions are.cut c s keeps reached (λ r. budget) trees on in
+    -- with these budgets the player wins where the sum says so
+    pub wins_with : (b : Region → ℕ) → ((k : ℕ) → k < length regions → b (region_at regions k) ≡ budget k)
+        → WinsWithBudgets regions c s b ↔ WinsGame c s.side (total (pick Ts ids) +ᵍ num 1 (balance s.purses))
+    wins_with b agree =
+        let (trees, on, same) = valued g s.board c (λ r j. ServesFor r c j (b r)) Ts regions ids as_many
+        (λ k lt. value_with (λ r j. ServesFor r c j (b r)) (budget k) k lt (inl (sym (agree k lt))) refl) in
+        let sum = wins_by_sum g are.settled regions are.cut c s keeps reached b trees on in
         let money = beside c s.side (total trees) (total (pick Ts ids)) s.purses same in
         (λ w. money.0 (sum.0 w), λ w. sum.1 (money.1 w))
 
-    -- and with a budget that no region needs more than, where the player wins
+    -- and so with a list of them
+    pub wins_listed : (bs : List ℕ) → ((k : ℕ) → k < length regions → budget k ≡ get_or bs k 0)
+        → WinsWithList regions c s bs ↔ WinsGame c s.side (total (pick Ts ids) +ᵍ num 1 (balance s.purses))
+    wins_listed bs agree = wins_with (budget_in regions bs) (λ k lt. budget_there g regions are.cut bs k lt ∙ sym (agree k lt))
+
+  module _ (c : Colour) (budget : ℕ) (ids : List ℕ) (summed : AreSummed games places c budget ids) where
+    -- with a budget that no region needs more than the sum says where the player wins
     pub wins : enough ≤ budget → IsWinner s c ↔ WinsGame c s.side (total (pick Ts ids) +ᵍ num 1 (balance s.purses))
     wins le =
         let IsFit : Region → ℕ → Type 0 = λ r j. IsSteady r.touch r.cells c j in
-        let (trees, on, same) = valued g s.board c IsFit Ts regions ids as_many (λ k lt.
+        let (trees, on, same) = valued g s.board c IsFit Ts regions ids (summed.many ∙ are.many) (λ k lt.
         let w = (are.each k lt).layers c in
         let layer : (j : ℕ) → w.budget ≤ j → min j (length (layers_for (game_at games k) c) - 1) ≡ w.budget = λ j more. omega (arith, more, w.many) in
         let last : ids_with (game_at games k) c budget ≡ ids_with (game_at games k) c w.budget =
         ap (λ z. get_or (layers_for (game_at games k) c) z []) (layer budget (omega (arith, le, w.few)) ∙ sym (layer w.budget (omega arith))) in
-        value_with IsFit w.budget k lt w.least.steady last) in
+        value_with c (λ j. budget) ids summed IsFit w.budget k lt w.least.steady last) in
         let sum = winner_by_sum g are.settled regions are.cut c s keeps reached trees on in
         let money = beside c s.side (total trees) (total (pick Ts ids)) s.purses same in
         (λ w. money.0 (sum.0 w), λ w. sum.1 (money.1 w))
@@ -153,24 +162,24 @@ sum_bounded {Ts} {ids} {m} {x} games small number =
     subst (IsBounded (pick Ts ids)) (sym number) (small_bounded most_value Ts ids (balance m *ℤ pos (2 ^ 59)) (omega arith) games.few games.within (small_units m small))
 
 module _ {g : Board} {regions : List Region} {games : List RegionGame} {Ts : List Tree} (are : AreSolved g regions games Ts)
-    {s : Whole} {places : List ℕ} (at : IsAt g regions games places s) (c : Colour) (budget : ℕ) where
-  place_inside : (k : ℕ) → k < length games → place_at places k < length (ids_with (game_at games k) c budget)
-  place_inside k lt =
+    {s : Whole} {places : List ℕ} (at : IsAt g regions games places s) (c : Colour) where
+  place_inside : (budget k : ℕ) → k < length games → place_at places k < length (ids_with (game_at games k) c budget)
+  place_inside budget k lt =
       let known : k < length regions = omega (arith, lt, are.many) in
       omega (arith, (at.shown k known).1.inside, (((are.each k known).layers c).values budget).long)
 
   -- each region's present position has a value
-  pub have_places : HavePlaces games places c budget
-  have_places = record { many = at.many ∙ sym are.many; inside = place_inside }
+  pub have_places : (budget : ℕ) → HavePlaces games places c budget
+  have_places budget = record { many = at.many ∙ sym are.many; inside = place_inside budget }
 
   -- the games of the sum are small
-  pub modest_games : (ids : List ℕ) → AreSummed games places c budget ids → AreModestGames Ts ids
-  modest_games ids summed = record {
+  pub modest_games : (budget : ℕ → ℕ) (ids : List ℕ) → AreSummedBy games places c budget ids → AreModestGames Ts ids
+  modest_games budget ids summed = record {
     known = λ j lt. subst (λ z. z < length Ts) (sym (summed.each j (short j lt)))
-        ((((are.each j (known j lt)).layers c).values budget).known (place_at places j) (place_inside j (short j lt)));
+        ((((are.each j (known j lt)).layers c).values (budget j)).known (place_at places j) (place_inside (budget j) j (short j lt)));
     few = omega (arith, summed.many, are.many, are.few);
     within = λ j lt. subst (λ z. AreWithin most_value (tree_at Ts z)) (sym (summed.each j (short j lt)))
-        (((are.each j (known j lt)).layers c).within budget (place_at places j) (at.shown j (known j lt)).1.inside);
+        (((are.each j (known j lt)).layers c).within (budget j) (place_at places j) (at.shown j (known j lt)).1.inside);
   }
     where
       short : (j : ℕ) → j < length ids → j < length games
@@ -180,23 +189,30 @@ module _ {g : Board} {regions : List Region} {games : List RegionGame} {Ts : Lis
       known j lt = omega (arith, lt, summed.many, are.many)
 
 -- ids are summed one after the other
-abbrev pub SummedBelow : List RegionGame → List ℕ → Colour → ℕ → ℕ → List ℕ → Type 0
+abbrev pub SummedBelow : List RegionGame → List ℕ → Colour → (ℕ → ℕ) → ℕ → List ℕ → Type 0
 SummedBelow games places c budget n ids = (length ids ≡ length games)
-    × ((k : ℕ) → k < n → get_or ids k 0 ≡ get_or (ids_with (game_at games k) c budget) (place_at places k) 0)
+    × ((k : ℕ) → k < n → get_or ids k 0 ≡ get_or (ids_with (game_at games k) c (budget k)) (place_at places k) 0)
 
-pub summed_more : (games : List RegionGame) (places : List ℕ) (c : Colour) (budget n : ℕ) (ids : List ℕ) (id : ℕ) → n < length games
-    → SummedBelow games places c budget n ids → id ≡ get_or (ids_with (game_at games n) c budget) (place_at places n) 0
+pub summed_more : (games : List RegionGame) (places : List ℕ) (c : Colour) (budget : ℕ → ℕ) (n : ℕ) (ids : List ℕ) (id : ℕ) → n < length games
+    → SummedBelow games places c budget n ids → id ≡ get_or (ids_with (game_at games n) c (budget n)) (place_at places n) 0
     → SummedBelow games places c budget (n + 1) (set ids n id)
 summed_more games places c budget n ids id lt (many, each) is = (
   length-set ids n id ∙ many,
-  below_more (λ k. get_or (set ids n id) k 0 ≡ get_or (ids_with (game_at games k) c budget) (place_at places k) 0) n
+  below_more (λ k. get_or (set ids n id) k 0 ≡ get_or (ids_with (game_at games k) c (budget k)) (place_at places k) 0) n
       (λ k less. get_or-set_other ids n k id 0 (λ e. omega (arith, less, e)) ∙ each k less)
       (get_or-set_same ids n id 0 (omega (arith, lt, many)) ∙ is),
 )
 
+-- and are compared one after the other
+pub summed_on : (games : List RegionGame) (places : List ℕ) (c : Colour) (budget : ℕ → ℕ) (n : ℕ) (ids : List ℕ)
+    → SummedBelow games places c budget n ids → get_or ids n 0 ≡ get_or (ids_with (game_at games n) c (budget n)) (place_at places n) 0
+    → SummedBelow games places c budget (n + 1) ids
+summed_on games places c budget n ids (many, each) is =
+    (many, below_more (λ k. get_or ids k 0 ≡ get_or (ids_with (game_at games k) c (budget k)) (place_at places k) 0) n each is)
+
 -- two lists of the same player's values are one
-pub one_sum : {games : List RegionGame} {places : List ℕ} {c : Colour} {budget : ℕ} {ids others : List ℕ} → AreSummed games places c budget ids
-    → AreSummed games places c budget others → ids ≡ others
+pub one_sum : {games : List RegionGame} {places : List ℕ} {c : Colour} {budget : ℕ → ℕ} {ids others : List ℕ} → AreSummedBy games places c budget ids
+    → AreSummedBy games places c budget others → ids ≡ others
 one_sum {ids = ids} {others} a b = ext_get_or 0 ids others (a.many ∙ sym b.many)
     (λ k lt. let short = subst (λ n. k < n) a.many lt in a.each k short ∙ sym (b.each k short))
 
@@ -213,10 +229,14 @@ module _ {regions : List Region} {games : List RegionGame} {places : List ℕ} {
   pub held_modest : {m : Purses} → m ≡ s.purses → AreModest m
   held_modest is = subst AreModest (sym is) record { black = omega (arith, held.modest Black); white = omega (arith, held.modest White) }
 
-  -- the winner wins with a budget that no region needs more than
+  -- the winner wins with a budget whose values are those with one that no region needs more than
+  pub filled_wins : (c : Colour) → IsWinner s c → (budget : ℕ) (ids : List ℕ) → AreSummed games places c budget ids → AreSummed games places c enough ids
+      → WinsWithCaptures regions c s budget
+  filled_wins c winner budget ids filled summed =
+      (wins_with held.solved held.at c (λ k. budget) ids filled (λ r. budget) (λ k lt. refl)).1 ((wins held.solved held.at c enough ids summed (omega arith)).0 winner)
+
   pub enough_wins : (c : Colour) → IsWinner s c → (ids : List ℕ) → AreSummed games places c enough ids → WinsWithCaptures regions c s enough
-  enough_wins c winner ids summed =
-      (wins_with held.solved held.at c enough ids summed).1 ((wins held.solved held.at c enough ids summed (omega arith)).0 winner)
+  enough_wins c winner ids summed = filled_wins c winner enough ids summed summed
 
 -- the openings stand first
 pub first_places : {games : List RegionGame} {places : List ℕ} (c : Colour) (budget : ℕ) → HaveOpenings games → places ≡ replicate (length games) 0

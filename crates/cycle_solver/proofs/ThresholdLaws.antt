@@ -34,7 +34,7 @@ use Rattle.cycle_solver.proofs.SumLaws.{beside}
 -- Who wins a game beside a number.
 
 -- Black wins where Black wins, and White wins where Black doesn't
-abbrev WinsHere : Colour → Colour → Tree → Type 0
+abbrev pub WinsHere : Colour → Colour → Tree → Type 0
 WinsHere Black c G = BlackWins c G
 WinsHere White c G = ¬ BlackWins c G
 
@@ -67,7 +67,7 @@ past : (b least k : ℤ) → least ≤ℤ (b -ℤ k) → (b -ℤ least) <ℤ k �
 past b least k h lt = omega (arith, ints, h, lt)
 
 -- the komi is on the player's side of the threshold exactly where the player wins beside what the komi leaves
-good_here : (d e : Colour) (G : Tree) (b least k : ℤ) → IsLeastWin e G least → WinsHere d e (G +ᵍ num 1 (b -ℤ k)) ↔ IsGoodFor d (b -ℤ least) k
+pub good_here : (d e : Colour) (G : Tree) (b least k : ℤ) → IsLeastWin e G least → WinsHere d e (G +ᵍ num 1 (b -ℤ k)) ↔ IsGoodFor d (b -ℤ least) k
 good_here Black e G b least k is = (
   λ w. (turned b least k).0 ((is (b -ℤ k)).0 w),
   λ h. (is (b -ℤ k)).1 ((turned b least k).1 h),

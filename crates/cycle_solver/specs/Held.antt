@@ -85,9 +85,18 @@ pub record IsAt (g : Board) (regions : List Region) (games : List RegionGame) (p
   pub shown : AreShown g regions games places s.board
 
 -- the ids of a player's values of the present positions, with a budget for each region or the last one that changes anything
-pub record AreSummed (games : List RegionGame) (places : List ℕ) (c : Colour) (budget : ℕ) (ids : List ℕ) : Type 0 where
+pub record AreSummedBy (games : List RegionGame) (places : List ℕ) (c : Colour) (budget : ℕ → ℕ) (ids : List ℕ) : Type 0 where
   pub many : length ids ≡ length games
-  pub each : (k : ℕ) → k < length games → slice_index ids k ≡ slice_index (ids_with (game_at games k) c budget) (place_at places k)
+  pub each : (k : ℕ) → k < length games
+      → slice_index ids k ≡ slice_index (ids_with (game_at games k) c (budget k)) (place_at places k)
+
+-- the same with one budget for all regions
+abbrev pub AreSummed : List RegionGame → List ℕ → Colour → ℕ → List ℕ → Type 0
+AreSummed games places c budget ids = AreSummedBy games places c (λ k. budget) ids
+
+-- the same with a list of budgets
+abbrev pub AreSummedWith : List RegionGame → List ℕ → Colour → List ℕ → List ℕ → Type 0
+AreSummedWith games places c budgets ids = AreSummedBy games places c (λ k. slice_index_or budgets k 0) ids
 
 -- what a game with cycles keeps
 pub record IsHeld (regions : List Region) (games : List RegionGame) (places : List ℕ) (Ts : List Tree) (s : Whole) : Type 0 where

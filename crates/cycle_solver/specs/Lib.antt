@@ -4,5 +4,7 @@ pub mod CycleFaults
 pub mod GameLists
 pub mod Games
 pub mod Held
+pub mod Keeping
 pub mod Thresholds
 pub mod Winner
+pub mod inner

@@ -1,21 +1,16 @@
 -- Who wins a state in which kos can arise, and with how many captures that return.
-use Rattle.std.specs.Prelude.{ℕ, ◌<◌, List, Option, None, Some}
+use Rattle.std.specs.Prelude.{ℕ, List, Option, None, Some}
 use Rattle.go_grid.specs.declared.grid.Colour.{Colour}
 use Rattle.go_grid.specs.Region.{Region}
 use Rattle.whole_rules.specs.FirstWinningMove.{IsWinner}
 use Rattle.whole_rules.specs.declared.states.Move.{Move}
 use Rattle.whole_rules.specs.WholeGame.{Whole, IsMove}
-use Rattle.whole_budgets.specs.BudgetPlay.{WinsWithCaptures}
+use Rattle.whole_budgets.specs.EnginePlay.{AreLeastCaptures}
 
 -- the winner of the state, or that it has none
 abbrev pub TellsWinner : Whole → Option Colour → Type 0
 TellsWinner s (Some c) = IsWinner s c
 TellsWinner s None = (c : Colour) → ¬ IsWinner s c
-
--- the player wins with so many captures that return in each region, and with no fewer
-pub record AreLeastCaptures (regions : List Region) (s : Whole) (c : Colour) (n : ℕ) : Type 0 where
-  pub wins : WinsWithCaptures regions c s n
-  pub least : (j : ℕ) → j < n → ¬ WinsWithCaptures regions c s j
 
 -- with how many captures the winner of the state wins, or that it has none
 abbrev pub TellsCaptures : List Region → Whole → Option ℕ → Type 0

@@ -1,6 +1,6 @@
 //! Who wins the present state: each player is asked of the sum of that player's values.
 
-ghost use Rattle.std.specs.Prelude.{◌≡◌, ◌<◌, ◌↔◌, IfOk, IsTrue, length, replicate, slice_index};
+ghost use Rattle.std.specs.Prelude.{◌≡◌, ◌<◌, ◌↔◌, IfOk, IsTrue, MatchOption, length, replicate, slice_index};
 ghost use Rattle.go_grid.specs.declared.grid.Colour.TheVariants.{Black, White};
 ghost use Rattle.short_games.specs.Number.{num};
 ghost use Rattle.short_games.specs.Sum.{◌+ᵍ◌, total};
@@ -11,9 +11,11 @@ ghost use Rattle.endgame_solver.specs.ModestGames.{AreModestGames};
 ghost use Rattle.endgame_solver.specs.SumGame.{AreModest, balance};
 ghost use Rattle.whole_budgets.specs.BudgetPlay.{WinsWithCaptures};
 ghost use Rattle.whole_budgets.specs.BudgetSums.{WinsGame};
-ghost use Rattle.cycle_solver.specs.Winner.{AreLeastCaptures, TellsCaptures, TellsWinner};
+ghost use Rattle.whole_budgets.specs.EnginePlay.{AreLeastCaptures};
+ghost use Rattle.cycle_solver.specs.Winner.{TellsCaptures, TellsWinner};
 ghost use Rattle.cycle_solver.specs.Held.{AreSummed, HaveOpenings, HavePlaces, IsSeen, IsSeenFor, enough, ids_with};
 
+use crate::one_sum::{are_same_ids, is_same_id};
 use crate::region_game::{RegionGame, values_for};
 use crate::shared_games::RegionGames;
 use endgame_solver::balance_of;
@@ -41,7 +43,7 @@ fn is_same(a: Colour, b: Colour) -> bool
 }
 
 /// Whether it isn't so.
-fn is_not(lost: bool) -> bool
+pub(crate) fn is_not(lost: bool) -> bool
     ensures { IsTrue result ↔ (¬ IsTrue lost) }
 {
     !lost
@@ -80,7 +82,13 @@ pub(crate) fn value_with(game: &RegionGame, player: Colour, budget: usize, place
 }
 
 /// Puts the values of the present positions with a budget into a sum.
-fn fill(games: &RegionGames, places: &[usize], player: Colour, budget: usize, sum: &mut [GameId])
+pub(crate) fn fill(
+    games: &RegionGames,
+    places: &[usize],
+    player: Colour,
+    budget: usize,
+    sum: &mut [GameId],
+)
     requires many { length sum.old ≡ length games.now }
     requires places { HavePlaces games.now places.now player budget }
     ensures { AreSummed games.now places.now player budget sum.new }
@@ -88,6 +96,26 @@ fn fill(games: &RegionGames, places: &[usize], player: Colour, budget: usize, su
     'regions: for k in 0..games.len() {
         sum[k] = value_with(games.at(k), player, budget, places[k]);
     }
+}
+
+/// Whether a sum has the values of the present positions with a budget.
+fn is_filled(
+    games: &RegionGames,
+    places: &[usize],
+    player: Colour,
+    budget: usize,
+    sum: &[GameId],
+) -> bool
+    requires many { length sum.now ≡ length games.now }
+    requires places { HavePlaces games.now places.now player budget }
+    ensures { IsTrue result → AreSummed games.now places.now player budget sum.now }
+{
+    'regions: for k in 0..games.len() {
+        if !is_same_id(sum[k], value_with(games.at(k), player, budget, places[k])) {
+            return false;
+        }
+    }
+    true
 }
 
 /// No region needs a greater budget.
@@ -168,8 +196,8 @@ fn first_that_wins(
     ENOUGH
 }
 
-/// With how many captures that return in each region the winner wins. The sum has the values with a budget that is enough at
-/// the beginning and at the end.
+/// With how many captures that return in each region the winner wins, which needs no question where no value of the sum needs
+/// one. The sum has the values with a budget that is enough at the beginning and at the end.
 fn least_captures(
     present: &Present<'_>,
     search: &mut Search,
@@ -183,9 +211,35 @@ fn least_captures(
     ensures same { sum.new ≡ sum.old }
     ensures fits { Fits present.now.store.now search.new }
 {
+    if is_filled(present.games, present.places, player, 0, sum) {
+        return 0;
+    }
     let captures = first_that_wins(present, search, sum, player);
     fill(present.games, present.places, player, ENOUGH, sum);
     captures
+}
+
+/// With how many captures that return in each region the side to move wins at least. None exactly where it isn't the winner.
+/// The sum has its values with a budget that is enough at the beginning and at the end.
+pub(crate) fn mover_captures(
+    present: &Present<'_>,
+    search: &mut Search,
+    sum: &mut [GameId],
+) -> Option<usize>
+    requires seen { IsSeenFor present.now present.now.whole.now.side enough sum.old }
+    requires fits { Fits present.now.store.now search.old }
+    ensures captures { MatchOption result
+        (¬ IsWinner present.now.whole.now present.now.whole.now.side)
+        (λ n. AreLeastCaptures present.now.regions.now present.now.whole.now
+        present.now.whole.now.side n) }
+    ensures same { sum.new ≡ sum.old }
+    ensures fits { Fits present.now.store.now search.new }
+{
+    let side = present.whole.side();
+    if !wins(present, search, sum, side) {
+        return None;
+    }
+    Some(least_captures(present, search, sum, side))
 }
 
 /// The winner of the present state by plain recursion, by both players' values of the present positions. None exactly where
@@ -206,6 +260,9 @@ pub fn winner_of(
 {
     if wins(present, search, low, Colour::Black) {
         return Some(Colour::Black);
+    }
+    if are_same_ids(low, high) {
+        return Some(Colour::White);
     }
     if wins(present, search, high, Colour::White) {
         return Some(Colour::White);

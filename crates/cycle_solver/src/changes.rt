@@ -9,8 +9,9 @@ ghost use Rattle.whole_rules.specs.declared.states.Move.TheVariants.{Stone};
 ghost use Rattle.whole_rules.specs.FirstWinningMove.{IsWinner};
 ghost use Rattle.whole_rules.specs.WholeGame.{IsLegal, IsMove, Whole};
 ghost use Rattle.endgame_solver.specs.Regions.{IsStoneAt};
-ghost use Rattle.cycle_solver.specs.Held.{AreSummed, HaveEdges, IsSeen, IsSeenFor, IsStoneEdge, enough};
-ghost use Rattle.cycle_solver.specs.Changes.{IsChange, IsSomeChange, places_after};
+ghost use Rattle.local_graph.specs.ReturnGraph.{IsReturningCaptureAt};
+ghost use Rattle.cycle_solver.specs.Held.{AreSummedBy, HaveEdges, IsSeen, IsSeenFor, IsStoneEdge, enough};
+ghost use Rattle.cycle_solver.specs.Changes.{AreBehind, IsChange, IsSomeChange, places_after};
 
 use crate::asking::{ENOUGH, Present, value_with, wins_sum};
 use crate::region_game::RegionGame;
@@ -22,11 +23,12 @@ use local_graph::Edge;
 use sum_outcome::Search;
 use whole_rules::{Move, Purses};
 
-/// What a move changes: for a stone the region in which it is placed and the place of the position that it leads to; and
-/// the purses.
+/// What a move changes: for a stone the region in which it is placed and the place of the position that it leads to, and
+/// whether it is a capture that returns; and the purses.
 #[derive(Clone, Copy)]
 pub struct Change {
     pub stone: Option<(usize, usize)>,
+    pub uses: bool,
     pub purses: Purses,
 }
 
@@ -74,6 +76,16 @@ fn stone_edge(
     None
 }
 
+/// Whether an edge of a region's position at a place is a capture that returns.
+fn is_returning(game: &RegionGame, place: usize, edge: Edge) -> bool
+    requires place { place < length game.now.graph.positions }
+    requires next { edge.next < length game.now.graph.positions }
+    ensures { IsTrue result
+        ↔ IsReturningCaptureAt edge.colour game.now.graph.components place edge }
+{
+    game.graph.is_returning_capture(place, &edge, edge.colour)
+}
+
 /// What a stone of the side to move changes. None exactly where the stone is illegal.
 fn stone_change(present: &Present<'_>, point: Point) -> Option<Change>
     requires { IsSeen present.now }
@@ -90,6 +102,7 @@ fn stone_change(present: &Present<'_>, point: Point) -> Option<Change>
     };
     Some(Change {
         stone: Some((k, edge.next)),
+        uses: is_returning(present.games.at(k), present.places[k], edge),
         purses: present.whole.purses().paid_in(side, u64::from(edge.taken)),
     })
 }
@@ -109,6 +122,7 @@ pub(crate) fn change_of(present: &Present<'_>, chosen: Move) -> Option<Change>
             }
             Some(Change {
                 stone: None,
+                uses: false,
                 purses: present.whole.purses().paid_out(side),
             })
         }
@@ -118,23 +132,29 @@ pub(crate) fn change_of(present: &Present<'_>, chosen: Move) -> Option<Change>
             }
             Some(Change {
                 stone: None,
+                uses: false,
                 purses: present.whole.purses().halved(side),
             })
         }
     }
 }
 
-/// Puts a player's value behind a move into the sum. What stood there before comes back, if anything changes.
+/// Puts a player's value behind a move into the sum, with this budget in the region of the stone. What stood there before
+/// comes back, if anything changes.
 pub(crate) fn put_change(
     present: &Present<'_>,
     sum: &mut [GameId],
     change: Change,
     player: Colour,
+    budget: usize,
 ) -> Option<(usize, GameId)>
-    requires seen { IsSeenFor present.now player enough sum.old }
+    requires seen { IsSeen present.now }
+    requires many { length sum.old ≡ length present.now.games.now }
     requires change { IsSomeChange present.now change }
-    ensures put { AreSummed present.now.games.now
-        (places_after present.now.places.now change.stone) player enough sum.new }
+    ensures put { (before behind : ℕ → ℕ) → AreBehind change.stone budget before behind
+        → AreSummedBy present.now.games.now present.now.places.now player before sum.old
+        → AreSummedBy present.now.games.now
+        (places_after present.now.places.now change.stone) player behind sum.new }
     ensures back { MatchOption result (sum.new ≡ sum.old)
         (λ x. slice_set sum.new x.0 x.1 ≡ sum.old) }
     ensures inside { IfSome result (λ x. x.0 < length sum.new) }
@@ -143,7 +163,7 @@ pub(crate) fn put_change(
         None => None,
         Some((k, place)) => {
             let before = sum[k];
-            sum[k] = value_with(present.games.at(k), player, ENOUGH, place);
+            sum[k] = value_with(present.games.at(k), player, budget, place);
             Some((k, before))
         }
     }
@@ -176,7 +196,7 @@ pub(crate) fn wins_after(
     ensures fits { Fits present.now.store.now search.new }
 {
     let next = present.whole.side().other();
-    let before = put_change(present, sum, change, player);
+    let before = put_change(present, sum, change, player, ENOUGH);
     let wins = wins_sum(present.store, search, sum, change.purses, next, player);
     put_back(sum, before);
     wins

@@ -15,6 +15,7 @@ ghost use Rattle.cycle_solver.specs.Begun.{Begun, IsReport};
 ghost use Rattle.cycle_solver.specs.Thresholds.{AreThresholdsFrom};
 ghost use Rattle.cycle_solver.specs.Winner.{TellsCaptures, TellsWinner, TellsWinnerAfter};
 
+use crate::asked::Answered;
 use crate::asking::{ENOUGH, Present, captures_of, start_of, value_with, winner_of};
 use crate::changes::change_of;
 use crate::faults::CycleError;
@@ -49,25 +50,31 @@ pub struct CycleReport {
 /// for each budget of captures that return. Contracts see the regions, the trees of the store and the present state.
 #[derive(Drop)]
 pub struct CycleGame {
-    whole: Whole,
-    store: Store,
-    regions: Vec<Region>,
-    games: RegionGames,
+    pub(crate) whole: Whole,
+    pub(crate) store: Store,
+    pub(crate) regions: Vec<Region>,
+    pub(crate) games: RegionGames,
     /// The places of the regions' present positions in their graphs.
-    places: Vec<usize>,
+    pub(crate) places: Vec<usize>,
     /// Black's values of the present positions.
-    low: Vec<GameId>,
+    pub(crate) low: Vec<GameId>,
     /// White's values of the present positions.
-    high: Vec<GameId>,
+    pub(crate) high: Vec<GameId>,
     /// It fits the store, so what it remembers serves all questions.
-    search: Search,
+    pub(crate) search: Search,
+    /// What was answered on stones of the present state by Black's values.
+    pub(crate) low_asked: Vec<Answered>,
+    /// What was answered on them by White's values.
+    pub(crate) high_asked: Vec<Answered>,
 }
 
 impl Model for CycleGame {
     ghost use Rattle.endgame_solver.specs.Solved.{Solved};
     ghost use Rattle.endgame_solver.specs.Code.{solved_code};
     ghost use Rattle.sum_outcome.specs.Memo.{Fits};
+    ghost use Rattle.go_grid.specs.Board.{other};
     ghost use Rattle.cycle_solver.specs.Held.{IsKept};
+    ghost use Rattle.cycle_solver.specs.inner.Asked.{AreAnswers};
 
     ghost Value = { Solved };
 
@@ -76,7 +83,9 @@ impl Model for CycleGame {
     ghost view = { λ s. record { regions = s.regions.items; trees = s.store; state = s.whole } };
 
     ghost invariant = { λ s. IsKept s.regions.items s.games s.places.items s.low.items
-        s.high.items s.store s.whole × Fits s.store s.search };
+        s.high.items s.store s.whole × Fits s.store s.search
+        × AreAnswers s.store s.low.items (other s.whole.side) s.low_asked.items
+        × AreAnswers s.store s.high.items (other s.whole.side) s.high_asked.items };
 }
 
 /// The number of positions of a region.
@@ -128,6 +137,8 @@ impl CycleGame {
             low: start.low,
             high: start.high,
             search: known.search,
+            low_asked: Vec::new(alloc),
+            high_asked: Vec::new(alloc),
         })
     }
 
@@ -238,6 +249,8 @@ impl CycleGame {
             &mut self.search,
             &mut self.low,
             &mut self.high,
+            &self.low_asked,
+            &self.high_asked,
             chosen,
         )
     }
@@ -286,6 +299,8 @@ impl CycleGame {
             &mut self.search,
             &mut self.low,
             &mut self.high,
+            &mut self.low_asked,
+            &mut self.high_asked,
             komi_halves,
             change,
         ))

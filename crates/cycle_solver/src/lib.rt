@@ -1,11 +1,17 @@
 //! The whole game where regions have cycles: who wins, and with how many captures that return.
 #![tactic(auto)]
 
+mod asked;
 mod asking;
 mod changes;
 mod cycle_game;
+mod engine_turns;
 mod faults;
+mod holding_moves;
+mod keeping_moves;
 mod laws;
+mod least_budgets;
+mod one_sum;
 mod region_game;
 mod shared_games;
 mod thresholds;

@@ -1,6 +1,7 @@
 //! The first winning move, and who wins behind a move.
 
 ghost use Rattle.std.specs.Prelude.{◌≡◌, ◌↔◌, IsTrue, MatchOption};
+ghost use Rattle.go_grid.specs.Board.{other};
 ghost use Rattle.go_grid.specs.declared.grid.Colour.TheVariants.{Black, White};
 ghost use Rattle.sum_outcome.specs.Memo.{Fits};
 ghost use Rattle.whole_rules.specs.FirstWinningMove.{IsFirstWinning, IsWinning};
@@ -8,9 +9,12 @@ ghost use Rattle.whole_rules.specs.WholeGame.{IsLegal};
 ghost use Rattle.endgame_solver.specs.inner.Held.{IsFirstStone};
 ghost use Rattle.cycle_solver.specs.Held.{IsSeenFor, enough};
 ghost use Rattle.cycle_solver.specs.Winner.{TellsWinnerAfter};
+ghost use Rattle.cycle_solver.specs.inner.Asked.{AreAnswers};
 
+use crate::asked::{Answered, wins_behind};
 use crate::asking::{Present, wins};
 use crate::changes::{change_of, wins_after};
+use crate::one_sum::is_one_behind;
 use game_store::GameId;
 use go_grid::{Colour, Point};
 use sum_outcome::Search;
@@ -79,11 +83,17 @@ pub(crate) fn winner_after(
     search: &mut Search,
     low: &mut [GameId],
     high: &mut [GameId],
+    low_asked: &[Answered],
+    high_asked: &[Answered],
     chosen: Move,
 ) -> Option<Option<Colour>>
     requires low { IsSeenFor present.now Black enough low.old }
     requires high { IsSeenFor present.now White enough high.old }
     requires fits { Fits present.now.store.now search.old }
+    requires low_right { AreAnswers present.now.store.now low.old
+        (other present.now.whole.now.side) low_asked.now }
+    requires high_right { AreAnswers present.now.store.now high.old
+        (other present.now.whole.now.side) high_asked.now }
     ensures winner { MatchOption result (¬ IsLegal present.now.whole.now chosen)
         (λ x. IsLegal present.now.whole.now chosen
         × TellsWinnerAfter present.now.whole.now chosen x) }
@@ -92,10 +102,13 @@ pub(crate) fn winner_after(
     ensures fits { Fits present.now.store.now search.new }
 {
     let change = change_of(present, chosen)?;
-    if wins_after(present, search, low, change, Colour::Black) {
+    if wins_behind(present, search, low, low_asked, change, Colour::Black) {
         return Some(Some(Colour::Black));
     }
-    if wins_after(present, search, high, change, Colour::White) {
+    if is_one_behind(present, low, high, change) {
+        return Some(Some(Colour::White));
+    }
+    if wins_behind(present, search, high, high_asked, change, Colour::White) {
         return Some(Some(Colour::White));
     }
     Some(None)

@@ -3,6 +3,7 @@ use Rattle.std.proofs.lemmas.Result.{err_from_is_err_and}
 use Rattle.sum_outcome.proofs.MemoLaws.{fits_grown}
 use Rattle.endgame_solver.proofs.BeginLaws.{few_regions, steps_within}
 use Rattle.cycle_solver.specs.Games.{AreSolvedBelow}
+use Rattle.cycle_solver.proofs.AskedLaws.{none_answered}
 use Rattle.cycle_solver.proofs.BeginLaws.{are_steady, have_openings, held_start, purses_small, refusal_begun}
 use Rattle.cycle_solver.proofs.cycle_game.CycleGame.begin.Goals as goal
 
@@ -40,6 +41,8 @@ invariant_of-result g c =
         high_sum = c.in_ok-start.ensures.high;
       },
       fits_grown c.in_ok-known.known.store store c.in_ok-known.known.search c.in_ok-games.ensures.kept c.in_ok-known.ensures,
+      none_answered c.new.ensures.items,
+      none_answered c.new-2.ensures.items,
     )
 
 pub returns-clause-begun : goal.returns-clause-begun

@@ -1,0 +1,24 @@
+use Rattle.std.proofs.Common.{arith, subst, sym}
+use Rattle.cycle_solver.specs.Held.{AreSummed, AreSummedWith, enough}
+use Rattle.cycle_solver.proofs.SumLaws.{have_places, one_sum}
+use Rattle.cycle_solver.proofs.keeping_moves.first_keeping.Goals as goal
+
+pub fill_with-requires-clause-places : goal.fill_with-requires-clause-places
+fill_with-requires-clause-places c = let held = c.requires.seen.0 in have_places held.solved held.at c.side-side.result
+
+pub fill_with-requires-clause-listed : goal.fill_with-requires-clause-listed
+fill_with-requires-clause-listed c = omega (arith, c.requires.many, c.requires.seen.0.solved.many)
+
+pub first_of_sum-first-requires-clause-summed : goal.first_of_sum-first-requires-clause-summed
+first_of_sum-first-requires-clause-summed c =
+    let seen = c.args.present.now in
+    subst (λ d. AreSummedWith seen.games.now seen.places.now d c.args.budgets.now c.fill_with.new.sum) c.side-side.ensures c.fill_with.ensures
+
+pub fill-requires-clause-places : goal.fill-requires-clause-places
+fill-requires-clause-places c = let held = c.requires.seen.0 in have_places held.solved held.at c.side-side.result 255
+
+pub returns-clause-same : goal.returns-clause-same
+returns-clause-same c =
+    let seen = c.args.present.now in
+    one_sum c.fill.ensures
+    (subst (λ d. AreSummed seen.games.now seen.places.now d enough c.args.sum.now) (sym c.side-side.ensures) c.requires.seen.1)

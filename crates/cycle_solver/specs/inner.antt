@@ -1,0 +1,3 @@
+-- What private calls keep; no public clause cites it.
+pub mod OneSum
+pub mod Asked
