@@ -6,18 +6,21 @@ use Rattle.short_games.specs.Sum.{◌+ᵍ◌}
 use Rattle.short_games.proofs.SumLaws.{neg-le, plus-le_both}
 use Rattle.game_canon.specs.Outcomes.{IsCanonicalId}
 use Rattle.short_games.proofs.ReductionLaws.{same-canonical}
-use Rattle.game_calc.specs.inner.Amounts.{IsAmount, IsBefore}
+use Rattle.game_calc.specs.inner.Amounts.{IsAmount, IsTerm, IsBefore}
 use Rattle.game_calc.specs.Expression.{Expression, tree_of, HasStepOutOfLimits}
 use Rattle.game_calc.specs.Expression.Expression.{game, opposite, sum}
 use Rattle.game_calc.specs.Steps.{IsOutOfLimits}
 use Rattle.game_calc.specs.declared.amounts.Amount.{Amount}
 use Rattle.game_calc.specs.declared.amounts.Amount.TheVariants.{Known, TooLarge}
+use Rattle.game_calc.specs.declared.amounts.Pass.{Pass}
+use Rattle.game_calc.specs.declared.amounts.Pass.TheVariants.{Grammar, Sums}
 use Rattle.game_calc.proofs.SumSteps.{id-as}
 
 -- a game that a token names
-pub game-known : (Us : List Tree) (limit : ℕ) (G : Tree) (id : ℕ) → IsCanonicalId Us G id → IsAmount Us limit (game G) (Known id)
+pub game-taken_as : (pass : Pass) (Us : List Tree) (limit : ℕ) (G : Tree) (id : ℕ) → IsCanonicalId Us G id → IsTerm pass Us limit (game G) (Known id)
 unfolding tree_of HasStepOutOfLimits
-game-known Us limit G id k = (k, λ x. x)
+game-taken_as Grammar Us limit G id k = k.0
+game-taken_as Sums Us limit G id k = (k, λ x. x)
 
 pub opposite-known : (Ts Us : List Tree) (limit : ℕ) (E : Expression) (id k : ℕ) → IsAmount Ts limit E (Known id) → IsCanonicalId Us (neg (tree_at Ts id)) k → IsAmount Us limit (opposite E) (Known k)
 unfolding tree_of HasStepOutOfLimits
@@ -55,10 +58,10 @@ unfolding HasStepOutOfLimits
 second-large Ts Us limit E F h = inl (inr h)
 
 -- the terms before another one, where there are some
-pub none-before : (Ts : List Tree) (limit : ℕ) (o : Option Expression) (b : Option Amount) → b ≡ None → IsBefore Ts limit o b → o ≡ None
+pub none-before : (Ts : List Tree) (limit : ℕ) (o : Option Expression) (b : Option Amount) → b ≡ None → IsBefore Sums Ts limit o b → o ≡ None
 none-before Ts limit None b e h = refl
-none-before Ts limit (Some E) b e h = absurd (subst (IsBefore Ts limit (Some E)) e h)
+none-before Ts limit (Some E) b e h = absurd (subst (IsBefore Sums Ts limit (Some E)) e h)
 
-pub some-before : (Ts : List Tree) (limit : ℕ) (o : Option Expression) (b : Option Amount) (a : Amount) → b ≡ Some a → IsBefore Ts limit o b → (E : Expression) × (o ≡ Some E) × IsAmount Ts limit E a
-some-before Ts limit None b a e h = absurd (subst (IsBefore Ts limit None) e h)
-some-before Ts limit (Some E) b a e h = (E, refl, subst (IsBefore Ts limit (Some E)) e h)
+pub some-before : (Ts : List Tree) (limit : ℕ) (o : Option Expression) (b : Option Amount) (a : Amount) → b ≡ Some a → IsBefore Sums Ts limit o b → (E : Expression) × (o ≡ Some E) × IsAmount Ts limit E a
+some-before Ts limit None b a e h = absurd (subst (IsBefore Sums Ts limit None) e h)
+some-before Ts limit (Some E) b a e h = (E, refl, subst (IsBefore Sums Ts limit (Some E)) e h)

@@ -1,4 +1,6 @@
 pub mod SumSteps
+pub mod ReturnSteps
+pub mod NumberSteps
 pub mod TableSteps
 pub mod PlaceSteps
 pub mod TokenSteps

@@ -171,7 +171,7 @@ moves-ids Ts note id ls rs ms ns f (inr s) a b = (
 )
 
 -- one game in another's place
-canonical-as : (S F C : Tree) → S ≡ᵍ F → IsCanonicalFor S C → IsCanonicalFor F C
+pub canonical-as : (S F C : Tree) → S ≡ᵍ F → IsCanonicalFor S C → IsCanonicalFor F C
 canonical-as S F C e k = record { canonical = k.canonical; under = le-trans F S C e.1 k.under; over = le-trans C S F k.over e.0 }
 
 pub id-as : (Us : List Tree) (S F : Tree) (id : ℕ) → S ≡ᵍ F → IsCanonicalId Us F id → IsCanonicalId Us S id

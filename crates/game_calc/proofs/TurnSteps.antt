@@ -11,7 +11,7 @@ use Rattle.game_text.specs.declared.errors.ReadError.{ReadError}
 use Rattle.game_text.specs.Reading.Fault.{bad_byte, bad_number, cut_short}
 use Rattle.game_canon.specs.Outcomes.{IsCanonicalId}
 use Rattle.game_canon.proofs.ChangedIdLaws.{extends-on}
-use Rattle.game_calc.specs.inner.Amounts.{IsAmount, IsBefore, IsHeldBefore}
+use Rattle.game_calc.specs.inner.Amounts.{IsTerm, IsBefore, IsHeldBefore}
 use Rattle.game_calc.specs.Expression.{Expression, ReadsTerm, ReadsTerms, ReadsLine, BeginsNoTerm, fault_of, kind, next, token, rest, with_term, first_sign, first_bytes}
 use Rattle.game_text.specs.Depth.{most_open}
 use Rattle.game_calc.specs.Expression.Expression.{game}
@@ -23,6 +23,7 @@ use Rattle.game_calc.specs.inner.Machine.LineState.{a_term}
 use Rattle.game_calc.specs.declared.amounts.Amount.{Amount}
 use Rattle.game_calc.specs.declared.amounts.Amount.TheVariants.{Known}
 use Rattle.game_calc.specs.declared.amounts.Opening.{Opening}
+use Rattle.game_calc.specs.declared.amounts.Pass.{Pass}
 use Rattle.game_calc.specs.declared.errors.CalcError.{CalcError}
 use Rattle.game_calc.specs.declared.errors.CalcError.TheVariants as calc
 use Rattle.game_calc.specs.declared.errors.CalcFault.TheVariants as fault
@@ -32,7 +33,7 @@ use Rattle.game_calc.specs.declared.pending.Turn.TheVariants as turn
 use Rattle.game_calc.specs.declared.tokens.Kind.{Kind}
 use Rattle.game_calc.specs.declared.tokens.Kind.TheVariants.{End, Open, Close, Query, Game}
 use Rattle.game_calc.specs.declared.tokens.Token.{Token}
-use Rattle.game_calc.proofs.AmountSteps.{game-known}
+use Rattle.game_calc.proofs.AmountSteps.{game-taken_as}
 use Rattle.game_calc.proofs.LineSteps.{IsTermDue, IsBehindTerm, term-due, term-behind, named-turn, group-turn, term-refused, before-kept, before-held, open-length}
 use Rattle.game_calc.proofs.BehindSteps.{IsClosing, closing, closed-turn, query-turn}
 
@@ -84,75 +85,75 @@ pub cut-told : (limit : ℕ) (text : List ℕ) → ReadsLine limit text (Err unf
 cut-told limit text r = inr (unfinished, r, refl)
 
 -- where a term is due
-module _ (Ts : List Tree) (limit : ℕ) (text : List ℕ) (spot : ℕ) (o : Opening) (opens : List Opening) (first : Option Amount) (w : IsReading Ts limit text spot (due.Term o) opens first) (t : Token) (at : IsTokenAt text spot t) where
-  d : IsTermDue Ts limit text spot o opens first
-  d = term-due Ts limit text spot o opens first w
+module _ (pass : Pass) (Ts : List Tree) (limit : ℕ) (text : List ℕ) (spot : ℕ) (o : Opening) (opens : List Opening) (first : Option Amount) (w : IsReading pass Ts limit text spot (due.Term o) opens first) (t : Token) (at : IsTokenAt text spot t) where
+  d : IsTermDue pass Ts limit text spot o opens first
+  d = term-due pass Ts limit text spot o opens first w
 
   pub term-held : (Us : List Tree) → Extends Ts Us → IsHeldBefore Us o.before
-  term-held Us x = before-held Us limit d.frame.before o.before (before-kept Ts Us limit d.frame.before o.before x d.opening.0)
+  term-held Us x = before-held pass Us limit d.frame.before o.before (before-kept pass Ts Us limit d.frame.before o.before x d.opening.0)
 
   pub game-refused : (e : CalcError) → t.kind ≡ Game → IsGameRefusal limit text spot e → IsLineRefusal limit text e
   game-refused e k (inl m) = inl m
-  game-refused e k (inr (f, h, told)) = inr (f, term-refused Ts limit text spot o opens first d f (subst (λ k. ReadsTerm limit (length d.frames) (drop spot text) k (refused f)) (sym k ∙ at.kind_is) (h (length d.frames))), told)
+  game-refused e k (inr (f, h, told)) = inr (f, term-refused pass Ts limit text spot o opens first d f (subst (λ k. ReadsTerm limit (length d.frames) (drop spot text) k (refused f)) (sym k ∙ at.kind_is) (h (length d.frames))), told)
 
   pub game-taken : (Us Vs : List Tree) (G : Tree) (id : ℕ) (a : Amount) → Extends Ts Us → Extends Us Vs → t.start < t.end → t.kind ≡ Game → ReadsText limit (token (next (drop spot text))) (Ok G) → IsCanonicalId Us G id
-      → ((b : Option Expression) (F : Expression) → IsBefore Us limit b o.before → IsAmount Us limit F (Known id) → IsAmount Vs limit (with_term b o.sign F) a)
-      → IsTurn Vs limit text spot (turn.Next (record { at = t.end; place = due.Behind a })) opens first
+      → ((b : Option Expression) (F : Expression) → IsBefore pass Us limit b o.before → IsTerm pass Us limit F (Known id) → IsTerm pass Vs limit (with_term b o.sign F) a)
+      → IsTurn pass Vs limit text spot (turn.Next (record { at = t.end; place = due.Behind a })) opens first
   game-taken Us Vs G id a x y some k names i sum = (
-    named-turn Ts limit text spot o opens first d Vs t G a (extends-on Ts Us Vs x y) at k names
-        (subst (λ s. IsAmount Vs limit (with_term d.frame.before s (game G)) a) d.opening.1 (sum d.frame.before (game G) (before-kept Ts Us limit d.frame.before o.before x d.opening.0) (game-known Us limit G id i))),
+    named-turn pass Ts limit text spot o opens first d Vs t G a (extends-on Ts Us Vs x y) at k names
+        (subst (λ s. IsTerm pass Vs limit (with_term d.frame.before s (game G)) a) d.opening.1 (sum d.frame.before (game G) (before-kept pass Ts Us limit d.frame.before o.before x d.opening.0) (game-taken_as pass Us limit G id i))),
     omega (arith, some, at.forward.0),
   )
 
   pub group-opened : (step_at : ℕ) (p : Place) (us : List Opening) → t.start < t.end → t.kind ≡ Open → length opens < most_open → us ≡ opens ++ o ∷ []
       → p ≡ due.Term (record { before = None; sign = first_sign (kind (drop t.end text)) }) → drop step_at text ≡ first_bytes (kind (drop t.end text)) (drop t.end text) → t.end ≤ step_at → step_at ≤ length text
-      → IsTurn Ts limit text spot (turn.Next (record { at = step_at; place = p })) us first
-  group-opened step_at p us some k few e place bytes forward within = (group-turn Ts limit text spot o opens first d t step_at p us at k few e place bytes within, omega (arith, some, at.forward.0, forward))
+      → IsTurn pass Ts limit text spot (turn.Next (record { at = step_at; place = p })) us first
+  group-opened step_at p us some k few e place bytes forward within = (group-turn pass Ts limit text spot o opens first d t step_at p us at k few e place bytes within, omega (arith, some, at.forward.0, forward))
 
   pub group-deep : t.kind ≡ Open → (length opens < most_open → ⊥) → IsLineRefusal limit text (calc.Fault fault.Deep)
   group-deep k many = inr (
     deep,
-    term-refused Ts limit text spot o opens first d deep (subst (λ k. ReadsTerm limit (length d.frames) (drop spot text) k (refused deep)) (sym k ∙ at.kind_is)
-        (one_too_deep (length d.frames) (drop spot text) (omega (arith, many, open-length Ts limit d.frames opens d.open_frames)))),
+    term-refused pass Ts limit text spot o opens first d deep (subst (λ k. ReadsTerm limit (length d.frames) (drop spot text) k (refused deep)) (sym k ∙ at.kind_is)
+        (one_too_deep (length d.frames) (drop spot text) (omega (arith, many, open-length pass Ts limit d.frames opens d.open_frames)))),
     refl,
   )
 
   pub none-due : t.kind ≡ End → IsLineRefusal limit text (calc.Fault fault.CutShort)
-  none-due k = cut-told limit text (term-refused Ts limit text spot o opens first d unfinished (subst (λ k. ReadsTerm limit (length d.frames) (drop spot text) k (refused unfinished)) (sym k ∙ at.kind_is) (none_left (length d.frames) (drop spot text))))
+  none-due k = cut-told limit text (term-refused pass Ts limit text spot o opens first d unfinished (subst (λ k. ReadsTerm limit (length d.frames) (drop spot text) k (refused unfinished)) (sym k ∙ at.kind_is) (none_left (length d.frames) (drop spot text))))
 
   pub stray-due : (k : Kind) → t.kind ≡ k → BeginsNoTerm k → IsLineRefusal limit text (calc.Fault (fault.Byte t.start))
-  stray-due k e b = stray-told limit text spot t at (term-refused Ts limit text spot o opens first d (stray (next (drop spot text))) (subst (λ k. ReadsTerm limit (length d.frames) (drop spot text) k (refused (stray (next (drop spot text))))) (sym e ∙ at.kind_is)
+  stray-due k e b = stray-told limit text spot t at (term-refused pass Ts limit text spot o opens first d (stray (next (drop spot text))) (subst (λ k. ReadsTerm limit (length d.frames) (drop spot text) k (refused (stray (next (drop spot text))))) (sym e ∙ at.kind_is)
       (no_term (length d.frames) (drop spot text) k b)))
 
 -- a parenthesis is closed
-module _ (Ts : List Tree) (limit : ℕ) (text : List ℕ) (spot : ℕ) (a : Amount) (opens : List Opening) (first : Option Amount) (w : IsReading Ts limit text spot (due.Behind a) opens first) (t : Token) (at : IsTokenAt text spot t) (k : t.kind ≡ Close) where
-  b : IsBehindTerm Ts limit text spot a opens first
-  b = term-behind Ts limit text spot a opens first w
+module _ (pass : Pass) (Ts : List Tree) (limit : ℕ) (text : List ℕ) (spot : ℕ) (a : Amount) (opens : List Opening) (first : Option Amount) (w : IsReading pass Ts limit text spot (due.Behind a) opens first) (t : Token) (at : IsTokenAt text spot t) (k : t.kind ≡ Close) where
+  b : IsBehindTerm pass Ts limit text spot a opens first
+  b = term-behind pass Ts limit text spot a opens first w
 
   module _ (o : Opening) (us : List Opening) (e : opens ≡ us ++ o ∷ []) where
-    c : IsClosing Ts limit text spot a opens first b o us
-    c = closing Ts limit text spot a opens first b o us (sym at.kind_is ∙ k) e
+    c : IsClosing pass Ts limit text spot a opens first b o us
+    c = closing pass Ts limit text spot a opens first b o us (sym at.kind_is ∙ k) e
 
     pub closed-held : IsHeldBefore Ts o.before
-    closed-held = before-held Ts limit c.frame.before o.before c.opening.0
+    closed-held = before-held pass Ts limit c.frame.before o.before c.opening.0
 
-    pub group-closed : (Vs : List Tree) (m : Amount) → Extends Ts Vs → t.start < t.end → ((z : Option Expression) (F : Expression) → IsBefore Ts limit z o.before → IsAmount Ts limit F a → IsAmount Vs limit (with_term z o.sign F) m)
-        → IsTurn Vs limit text spot (turn.Next (record { at = t.end; place = due.Behind m })) us first
+    pub group-closed : (Vs : List Tree) (m : Amount) → Extends Ts Vs → t.start < t.end → ((z : Option Expression) (F : Expression) → IsBefore pass Ts limit z o.before → IsTerm pass Ts limit F a → IsTerm pass Vs limit (with_term z o.sign F) m)
+        → IsTurn pass Vs limit text spot (turn.Next (record { at = t.end; place = due.Behind m })) us first
     group-closed Vs m x some sum = (
-      closed-turn Ts limit text spot a opens first b Vs t o us m c x at (subst (λ s. IsAmount Vs limit (with_term c.frame.before s b.so_far) m) c.opening.1 (sum c.frame.before b.so_far c.opening.0 b.amount)),
+      closed-turn pass Ts limit text spot a opens first b Vs t o us m c x at (subst (λ s. IsTerm pass Vs limit (with_term c.frame.before s b.so_far) m) c.opening.1 (sum c.frame.before b.so_far c.opening.0 b.amount)),
       omega (arith, some, at.forward.0),
     )
 
 -- the first token of a line
-pub line-start : (Us : List Tree) (limit : ℕ) (text : List ℕ) (at : ℕ) (p : Place) (us : List Opening) (first : Option Amount) → us ≡ [] → first ≡ None → p ≡ due.Term (record { before = None; sign = first_sign (kind text) }) → drop at text ≡ first_bytes (kind text) text → at ≤ length text
-    → IsReading Us limit text at p us first
-line-start Us limit text at p us first e f place bytes within = record {
+pub line-start : (pass : Pass) (Us : List Tree) (limit : ℕ) (text : List ℕ) (at : ℕ) (p : Place) (us : List Opening) (first : Option Amount) → us ≡ [] → first ≡ None → p ≡ due.Term (record { before = None; sign = first_sign (kind text) }) → drop at text ≡ first_bytes (kind text) text → at ≤ length text
+    → IsReading pass Us limit text at p us first
+line-start pass Us limit text at p us first e f place bytes within = record {
   state = a_term (record { before = None; sign = first_sign (kind text) });
   frames = [];
   before = None;
-  kept = subst (IsState Us limit (a_term (record { before = None; sign = first_sign (kind text) }))) (sym place) (tt, refl);
+  kept = subst (IsState pass Us limit (a_term (record { before = None; sign = first_sign (kind text) }))) (sym place) (tt, refl);
   open_frames = e;
-  first_is = subst (IsBefore Us limit None) (sym f) tt;
+  first_is = subst (IsBefore pass Us limit None) (sym f) tt;
   within = within;
   comes = λ out r. (r.0, subst (λ ys. ReadsTerms limit 0 None (first_sign (kind text)) ys r.0) bytes r.1, r.2);
 }
@@ -168,11 +169,11 @@ filled os n r l e f = elim (cases_lt 0 (length os)) [
 ]
 
 -- the second sum begins
-pub second-begun : (Ts : List Tree) (limit : ℕ) (text : List ℕ) (spot : ℕ) (a : Amount) (opens : List Opening) (first : Option Amount) → IsReading Ts limit text spot (due.Behind a) opens first → (t : Token) → IsTokenAt text spot t → (step_at : ℕ) (p : Place)
+pub second-begun : (pass : Pass) (Ts : List Tree) (limit : ℕ) (text : List ℕ) (spot : ℕ) (a : Amount) (opens : List Opening) (first : Option Amount) → IsReading pass Ts limit text spot (due.Behind a) opens first → (t : Token) → IsTokenAt text spot t → (step_at : ℕ) (p : Place)
     → t.start < t.end → t.kind ≡ Query → length opens ≡ 0 → first ≡ None → p ≡ due.Term (record { before = None; sign = first_sign (kind (drop t.end text)) }) → drop step_at text ≡ first_bytes (kind (drop t.end text)) (drop t.end text) → t.end ≤ step_at → step_at ≤ length text
-    → IsTurn Ts limit text spot (turn.Next (record { at = step_at; place = p })) opens (Some a)
-second-begun Ts limit text spot a opens first w t at step_at p some k empty none place bytes forward within = (
-  query-turn Ts limit text spot a opens first (term-behind Ts limit text spot a opens first w) t step_at p at k empty none place bytes within,
+    → IsTurn pass Ts limit text spot (turn.Next (record { at = step_at; place = p })) opens (Some a)
+second-begun pass Ts limit text spot a opens first w t at step_at p some k empty none place bytes forward within = (
+  query-turn pass Ts limit text spot a opens first (term-behind pass Ts limit text spot a opens first w) t step_at p at k empty none place bytes within,
   omega (arith, some, at.forward.0, forward),
 )
 

@@ -2,5 +2,6 @@
 pub mod Amounts
 pub mod Machine
 pub mod Table
+pub mod Returns
 pub mod Answer
 pub mod Steps

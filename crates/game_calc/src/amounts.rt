@@ -4,8 +4,9 @@ ghost use Rattle.std.specs.Prelude.{◌<◌, ℕ, IfOk, Option, length};
 ghost use Rattle.game_store.specs.Meaning.{Extends};
 ghost use Rattle.game_calc.specs.Expression.{Expression, signed, with_term};
 ghost use Rattle.game_calc.specs.Expression.Expression.{opposite, sum};
-ghost use Rattle.game_calc.specs.inner.Amounts.{IsAmount, IsBefore, IsHeld, IsHeldBefore};
+ghost use Rattle.game_calc.specs.inner.Amounts.{IsAmount, IsBefore, IsHeld, IsHeldBefore, IsTerm};
 ghost use Rattle.game_calc.specs.declared.amounts.Amount.TheVariants.{Known};
+ghost use Rattle.game_calc.specs.declared.amounts.Pass.TheVariants as the_pass;
 
 use crate::sums::add;
 use game_canon::{FormError, negate};
@@ -24,6 +25,13 @@ pub(crate) enum Amount {
 pub(crate) enum Sign {
     Plus,
     Minus,
+}
+
+/// What a pass over a line does with its sums: it makes none and reads the grammar alone, or it makes them.
+#[derive(Clone, Copy)]
+pub(crate) enum Pass {
+    Grammar,
+    Sums,
 }
 
 /// What stands before a term: the terms of its sum so far, where there are some, and its sign.
@@ -116,7 +124,7 @@ fn sum_of(
 }
 
 /// The sum of the terms before, where there are some, and one more with its sign.
-pub(crate) fn with_term(
+fn sum_with(
     alloc: Global,
     store: &mut Store,
     opening: Opening,
@@ -126,7 +134,8 @@ pub(crate) fn with_term(
     requires before { IsHeldBefore store.old opening.before }
     requires term { IsHeld store.old term }
     ensures amount { IfOk result (λ after. (o : Option Expression) (F : Expression)
-        → IsBefore store.old parts_limit o opening.before → IsAmount store.old parts_limit F term
+        → IsBefore the_pass.Sums store.old parts_limit o opening.before
+        → IsAmount store.old parts_limit F term
         → IsAmount store.new parts_limit (with_term o opening.sign F) after) }
     ensures held { IfOk result (λ after. IsHeld store.new after) }
     ensures kept { Extends store.old store.new }
@@ -136,5 +145,30 @@ pub(crate) fn with_term(
     match opening.before {
         None => Ok(term),
         Some(before) => sum_of(alloc, store, before, term, parts_limit),
+    }
+}
+
+/// The sum of the terms before, where there are some, and one more with its sign. Where no sums are made, this is the term,
+/// in the sum's place.
+pub(crate) fn with_term(
+    alloc: Global,
+    store: &mut Store,
+    opening: Opening,
+    term: Amount,
+    parts_limit: u32,
+    pass: Pass,
+) -> Result<Amount, AllocError>
+    requires before { IsHeldBefore store.old opening.before }
+    requires term { IsHeld store.old term }
+    ensures amount { IfOk result (λ after. (o : Option Expression) (F : Expression)
+        → IsBefore pass store.old parts_limit o opening.before
+        → IsTerm pass store.old parts_limit F term
+        → IsTerm pass store.new parts_limit (with_term o opening.sign F) after) }
+    ensures held { IfOk result (λ after. IsHeld store.new after) }
+    ensures kept { Extends store.old store.new }
+{
+    match pass {
+        Pass::Grammar => Ok(term),
+        Pass::Sums => sum_with(alloc, store, opening, term, parts_limit),
     }
 }

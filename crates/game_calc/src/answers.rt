@@ -8,10 +8,11 @@ ghost use Rattle.game_calc.specs.inner.Answer.{IsShown, IsShownRefusal, IsUnansw
 ghost use Rattle.game_calc.specs.Expression.{Expression, Line};
 ghost use Rattle.game_calc.specs.inner.Machine.{IsAsked, IsAskedHeld};
 ghost use Rattle.game_calc.specs.Expression.Line.{order, value};
+ghost use Rattle.game_calc.specs.declared.amounts.Pass.TheVariants as the_pass;
 
 use crate::amounts::Amount;
 use crate::errors::CalcError;
-use crate::expressions::read_line;
+use crate::expressions::read_and_sum;
 use crate::pending::Asked;
 use board_words::write_words;
 use game_canon::{Order, compare};
@@ -105,10 +106,10 @@ fn order_answer(
 fn answer_asked(alloc: Global, store: &Store, asked: Asked) -> Result<Text, CalcError>
     requires { IsAskedHeld store.now asked }
     ensures text { IfOk result (λ text. (limit : ℕ) (line : Line)
-        → IsAsked store.now limit line asked
+        → IsAsked the_pass.Sums store.now limit line asked
         → (IsPastLimit limit line → ⊥) × IsLineAnswer line text) }
     ensures refusal { IfErr result (λ error. (limit : ℕ) (line : Line)
-        → IsAsked store.now limit line asked → IsUnanswered limit line error) }
+        → IsAsked the_pass.Sums store.now limit line asked → IsUnanswered limit line error) }
 {
     match asked {
         Asked::Value(amount) => value_answer(alloc, store, amount),
@@ -127,6 +128,6 @@ pub fn answer(alloc: Global, expression: &[u8], parts_limit: u32) -> Result<Text
     ensures refusal { IfErr result (IsCalcRefusal parts_limit expression.now) }
 {
     let mut store = Store::new(alloc);
-    let asked = read_line(alloc, &mut store, expression, parts_limit)?;
+    let asked = read_and_sum(alloc, &mut store, expression, parts_limit)?;
     answer_asked(alloc, &store, asked)
 }

@@ -7,10 +7,11 @@ ghost use Rattle.game_text.specs.Reading.{IsReadRefusal, ReadsText};
 ghost use Rattle.game_canon.specs.Outcomes.{IsCanonicalId};
 ghost use Rattle.game_calc.specs.Expression.{Line, ReadsLine, first_bytes, first_sign, kind, next, token};
 ghost use Rattle.game_calc.specs.inner.Machine.{GoesOnInLine, IsAsked, IsGameRefusal, IsLineDue, IsLineRefusal, IsTokenAt};
+ghost use Rattle.game_calc.specs.declared.amounts.Pass.TheVariants as the_pass;
 ghost use Rattle.game_calc.specs.declared.pending.Place.TheVariants as due;
 ghost use Rattle.game_calc.specs.declared.tokens.Kind.TheVariants as the_kind;
 
-use crate::amounts::{Amount, Opening, Sign, with_term};
+use crate::amounts::{Amount, Opening, Pass, Sign, with_term};
 use crate::errors::{CalcError, CalcFault};
 use crate::pending::{Asked, Pending, Place, Source, Step, Turn};
 use crate::tokens::{Kind, Token, next_token};
@@ -119,7 +120,8 @@ fn read_named(
     ensures kept { Extends store.old store.new }
 {
     let id = read_game(alloc, store, source, at, word)?;
-    let amount = with_term(alloc, store, opening, Amount::Known(id), source.parts_limit)?;
+    let limit = source.parts_limit;
+    let amount = with_term(alloc, store, opening, Amount::Known(id), limit, source.pass)?;
     Ok(Turn::Next(Step {
         at: word.end,
         place: Place::Behind(amount),
@@ -197,7 +199,8 @@ fn close_group(
     let Some(opening) = pending.opens.pop() else {
         return Err(CalcError::Fault(CalcFault::Byte(word.start)));
     };
-    let amount = with_term(alloc, store, opening, amount, source.parts_limit)?;
+    let limit = source.parts_limit;
+    let amount = with_term(alloc, store, opening, amount, limit, source.pass)?;
     Ok(Turn::Next(Step {
         at: word.end,
         place: Place::Behind(amount),
@@ -311,20 +314,25 @@ fn read_turn(
     }
 }
 
-/// What a line asks for: its sums are taken from left to right, inner parentheses first. The first refusal from the front
-/// is given.
-pub(crate) fn read_line(
+/// What a line asks for: its sums are taken from left to right, inner parentheses first, where the pass makes them. The
+/// first refusal from the front is given.
+fn read_line(
     alloc: Global,
     store: &mut Store,
     text: &[u8],
     parts_limit: u32,
+    pass: Pass,
 ) -> Result<Asked, CalcError>
     ensures asked { IfOk result (λ asked. (line : Line) × ReadsLine parts_limit text.now (Ok line)
-        × IsAsked store.new parts_limit line asked) }
+        × IsAsked pass store.new parts_limit line asked) }
     ensures refusal { IfErr result (IsLineRefusal parts_limit text.now) }
     ensures kept { Extends store.old store.new }
 {
-    let source = Source { text, parts_limit };
+    let source = Source {
+        text,
+        parts_limit,
+        pass,
+    };
     let mut pending = Pending {
         opens: Vec::new(alloc),
         first: None,
@@ -336,4 +344,20 @@ pub(crate) fn read_line(
             Turn::Whole(asked) => return Ok(asked),
         }
     }
+}
+
+/// What a line asks for, with its sums made: they are begun only where the whole line has no fault.
+pub(crate) fn read_and_sum(
+    alloc: Global,
+    store: &mut Store,
+    text: &[u8],
+    parts_limit: u32,
+) -> Result<Asked, CalcError>
+    ensures asked { IfOk result (λ asked. (line : Line) × ReadsLine parts_limit text.now (Ok line)
+        × IsAsked the_pass.Sums store.new parts_limit line asked) }
+    ensures refusal { IfErr result (IsLineRefusal parts_limit text.now) }
+    ensures kept { Extends store.old store.new }
+{
+    read_line(alloc, store, text, parts_limit, Pass::Grammar)?;
+    read_line(alloc, store, text, parts_limit, Pass::Sums)
 }

@@ -4,14 +4,16 @@ ghost use Rattle.std.specs.Prelude.{◌≡◌, ◌<◌, ℕ, List, length, IfOk,
 ghost use Rattle.short_games.specs.Number.{IsNumberTree, number_tree};
 ghost use Rattle.short_games.specs.Sum.{◌+ᵍ◌};
 ghost use Rattle.short_games.specs.Tree.{tree_at};
-ghost use Rattle.game_store.specs.Meaning.{Extends};
+ghost use Rattle.game_store.specs.Meaning.{listed, AreIds, Extends};
 ghost use Rattle.short_games.specs.Parts.{HasMoreParts};
 ghost use Rattle.game_canon.specs.inner.Changes.{AreKnown};
 ghost use Rattle.game_canon.specs.FormComparisons.{AreFormComparisonsRight};
-ghost use Rattle.game_canon.specs.Outcomes.{IsCanonicalId};
+ghost use Rattle.game_canon.specs.Outcomes.{IsCanonicalId, IsCause};
+ghost use Rattle.game_calc.specs.inner.Returns.{IsSmall};
 ghost use Rattle.game_calc.specs.inner.Steps.{IsPairRefusal};
 ghost use Rattle.game_calc.specs.inner.Table.{noted, beside, AreNoted, AddsSums, AddsMoves, AreMovesKnown, AreNotedSumsRight};
 
+use crate::returns::returned;
 use crate::table::{Summand, Sums, noted_sum};
 use dyadic_num::Dyadic;
 use game_canon::{FormComparisons, FormError, canonical_with};
@@ -73,7 +75,7 @@ fn add_moves(
 }
 
 /// The number that a form is.
-fn number_of(store: &Store, id: GameId) -> Option<Dyadic>
+pub(crate) fn number_of(store: &Store, id: GameId) -> Option<Dyadic>
     requires { id < length store.now }
     ensures { MatchOption result (IsNumberTree (tree_at store.now id) → ⊥)
         (λ x. tree_at store.now id ≡ number_tree x) }
@@ -117,9 +119,38 @@ fn number_sum(
     Ok(store.number(sum)?)
 }
 
+/// The canonical form of the form with these options: the one to which it is found to return, or else as `canonical_with`
+/// makes it.
+fn form_of(
+    alloc: Global,
+    store: &mut Store,
+    comparisons: &mut FormComparisons,
+    left: &[GameId],
+    right: &[GameId],
+    latest: Option<GameId>,
+    parts_limit: u32,
+) -> Result<GameId, FormError>
+    requires left { AreIds store.old left.now }
+    requires right { AreIds store.old right.now }
+    requires latest { IsSmall store.old parts_limit latest }
+    requires comparisons { AreFormComparisonsRight store.old comparisons.old }
+    ensures value { IfOk result (λ id. IsCanonicalId store.new
+        (listed store.old left.now right.now) id) }
+    ensures parts { IfOk result (λ id. HasMoreParts (tree_at store.new id) parts_limit → ⊥) }
+    ensures refusal { IfErr result (λ error. IsCause
+        (listed store.old left.now right.now) parts_limit error) }
+    ensures comparisons { AreFormComparisonsRight store.new comparisons.new }
+    ensures kept { Extends store.old store.new }
+{
+    let _count = store.len();
+    if let Some(id) = returned(store, left, right, latest) {
+        return Ok(id);
+    }
+    canonical_with(alloc, store, comparisons, left, right, parts_limit)
+}
+
 /// The canonical form of the sum of two forms: that of the same two the other way round, where it is noted; two numbers are
-/// added; else its options are the sums after each move in a
-/// game that is no number (number avoidance, Conway).
+/// added; else its options are the sums after each move in a game that is no number (number avoidance, Conway).
 pub(crate) fn pair_sum(
     alloc: Global,
     store: &mut Store,
@@ -127,10 +158,12 @@ pub(crate) fn pair_sum(
     comparisons: &mut FormComparisons,
     a: GameId,
     b: GameId,
+    latest: Option<GameId>,
     parts_limit: u32,
 ) -> Result<GameId, FormError>
     requires a { a < length store.old }
     requires b { b < length store.old }
+    requires latest { IsSmall store.old parts_limit latest }
     requires first { AreMovesKnown store.old (λ i. noted sums.now i b) a }
     requires second { AreMovesKnown store.old (λ i. noted sums.now a i) b }
     requires right { AreNotedSumsRight store.old parts_limit (noted sums.now) }
@@ -156,12 +189,13 @@ pub(crate) fn pair_sum(
     };
     add_moves(store, sums, Summand::First, a, b, &mut options)?;
     add_moves(store, sums, Summand::Second, b, a, &mut options)?;
-    canonical_with(
+    form_of(
         alloc,
         store,
         comparisons,
         &options.left,
         &options.right,
+        latest,
         parts_limit,
     )
 }

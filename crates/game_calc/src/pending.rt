@@ -1,6 +1,6 @@
 //! What is kept while a line is read.
 
-use crate::amounts::{Amount, Opening};
+use crate::amounts::{Amount, Opening, Pass};
 
 /// What a line asks for: the value of a sum, or the order of two.
 #[derive(Clone, Copy)]
@@ -37,9 +37,10 @@ pub(crate) struct Pending {
     pub(crate) first: Option<Amount>,
 }
 
-/// A line, and how many parts a form may have.
+/// A line, how many parts a form may have, and what the pass over the line does with its sums.
 #[derive(Clone, Copy)]
 pub(crate) struct Source<'a> {
     pub(crate) text: &'a [u8],
     pub(crate) parts_limit: u32,
+    pub(crate) pass: Pass,
 }

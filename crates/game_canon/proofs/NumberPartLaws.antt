@@ -223,3 +223,12 @@ sum-fits Ts a x f l k small refused = at s.0 s.2 w.0 w.1
 pub sum-parts : (x : ℤ) (C Q G : Tree) → IsFollower C Q → (IsNumberTree Q → ⊥) → IsCanonicalTree G → IsCanonicalFor (G +ᵍ number_tree x) C
     → (P : Tree) × IsPart G P × IsCanonicalTree P × IsCanonicalFor (P +ᵍ number_tree x) Q
 sum-parts x C Q G f hot g k = parts-out (Add x) C Q G f hot g k
+
+-- the options of a sum with a number are those of the game, each with the number added
+pub sum-option : (x : ℤ) (G C X : Tree) → IsCanonicalTree G → (IsNumberTree G → ⊥) → IsCanonicalFor (G +ᵍ number_tree x) C → IsOption G X
+    → (Y : Tree) × IsOption C Y × IsCanonicalTree X × IsCanonicalFor (X +ᵍ number_tree x) Y
+sum-option x G C X g other k o = option-in (Add x) G C g other k X o
+
+-- a game is a number where its sum with one is
+pub sum-number : (x : ℤ) (G C : Tree) → IsCanonicalTree G → IsCanonicalFor (G +ᵍ number_tree x) C → IsNumberTree C → IsNumberTree G
+sum-number x G C g k n = number-from (Add x) G C g k n

@@ -1,5 +1,6 @@
 -- Laws that hold of both sides, and of lists of ids.
-use Rattle.std.proofs.Common.{ℕ, zero, suc, ◌+◌, ◌<◌, ◌≡◌, ◌⊎◌, List, [], ◌∷◌, ◌++◌, length, get_or, arith, refl, sym, ◌∙◌, inl, inr, ap, subst}
+use Rattle.std.proofs.Common.{ℕ, zero, suc, ◌+◌, ◌-◌, ◌<◌, ◌≡◌, ◌⊎◌, List, [], ◌∷◌, ◌++◌, length, get_or, arith, refl, sym, ◌∙◌, inl, inr, ap, subst, take, drop, append_assoc}
+use Rattle.std.proofs.lemmas.List.{append-nil, take_more, take-append-drop, length-append, length-take-le, length-drop}
 use Rattle.short_games.specs.Tree.{Tree, Trees, more, Has, ◌then◌, size, sizes, tree_at}
 use Rattle.short_games.proofs.OrderLaws.{le-refl, le-trans, none-or_some, le-or_not}
 use Rattle.short_games.proofs.SumLaws.{then-has, has-then_left, has-then_right}
@@ -7,7 +8,7 @@ use Rattle.game_store.specs.Meaning.{pick, AreIds}
 use Rattle.game_store.specs.Forms.{IsOptions}
 use Rattle.game_canon.specs.declared.side.Side.{Side}
 use Rattle.game_canon.specs.declared.side.Side.TheVariants.{Left, Right}
-use Rattle.game_canon.specs.inner.Sides.{near, far, Covers, near_list, far_list, AreBest, IsWithout}
+use Rattle.game_canon.specs.inner.Sides.{near, far, Covers, near_list, far_list, AreBest, AreFree, IsRefilled, IsWithout}
 use Rattle.game_canon.proofs.GameLaws.{has-left, left-has, has-right, right-has}
 use Rattle.game_canon.proofs.IdLaws.{sizes-order, in-order, out-order, ordered-ids}
 use Rattle.game_canon.specs.inner.Ids.{IsInOrder}
@@ -79,6 +80,43 @@ without-push s Ts xs vs top y b c w = record {
   ];
   smaller = omega (arith, w.smaller, sizes-append Ts xs (y ∷ []), sizes-append Ts vs (y ∷ []));
 }
+
+-- one more of the ids behind others
+pub one-later : (free ids : List ℕ) (n : ℕ) → n < length ids → (free ++ take n ids) ++ get_or ids n 0 ∷ [] ≡ free ++ take (n + 1) ids
+one-later free ids n l = append_assoc free (take n ids) (get_or ids n 0 ∷ []) ∙ ap (λ z. free ++ z) (sym (take_more ids n 0 l))
+
+pub best-start : (s : Side) (Ts : List Tree) (free bs : List ℕ) → bs ≡ free → AreIds Ts free → AreFree s (pick Ts free) → AreBest s Ts (free ++ []) bs
+best-start s Ts free bs e ids apart = subst (λ z. AreBest s Ts z bs) (sym (append-nil free)) (subst (AreBest s Ts free) (sym e) record {
+  ids = ids;
+  among = λ X h. h;
+  covers = λ X h. (X, h, covers-refl s X);
+  free = apart;
+  smaller = omega arith;
+})
+
+-- a list without one of its ids, and others behind it
+take-front : (xs ys : List ℕ) → take (length xs) (xs ++ ys) ≡ xs
+take-front [] ys = refl
+take-front (x ∷ xs) ys = ap (λ z. x ∷ z) (take-front xs ys)
+
+rest-length : (is : List ℕ) (place : ℕ) → place < length is → length (take place is ++ drop (place + 1) is) ≡ length is - 1
+rest-length is place l = omega (arith, l, length-append (take place is) (drop (place + 1) is), length-take-le place is (omega (arith, l)), length-drop (place + 1) is)
+
+pub rest-front : (is vs : List ℕ) (place : ℕ) → place < length is → IsRefilled is place vs → take (length is - 1) vs ≡ take place is ++ drop (place + 1) is
+rest-front is vs place l (extra, e) = ap (λ z. take z vs) (sym (rest-length is place l)) ∙ ap (take (length (take place is ++ drop (place + 1) is))) e ∙ take-front (take place is ++ drop (place + 1) is) extra
+
+rest-has : (Ts : List Tree) (is : List ℕ) (place : ℕ) (X : Tree) → Has (pick Ts (take place is ++ drop (place + 1) is)) X → Has (pick Ts is) X
+rest-has Ts is place X h = elim (append-has Ts (take place is) (drop (place + 1) is) X h) [
+  | inl a ↦ subst (λ z. Has (pick Ts z) X) (take-append-drop place is) (has-append_left Ts (take place is) (drop place is) X a)
+  | inr b ↦ subst (λ z. Has (pick Ts z) X) (take-append-drop (place + 1) is) (has-append_right Ts (take (place + 1) is) (drop (place + 1) is) X b)
+]
+
+pub rest-free : (s : Side) (Ts : List Tree) (is vs : List ℕ) (place : ℕ) → place < length is → IsRefilled is place vs → AreFree s (pick Ts is) → AreFree s (pick Ts (take (length is - 1) vs))
+rest-free s Ts is vs place l r free = subst (λ z. AreFree s (pick Ts z)) (sym (rest-front is vs place l r)) (λ A B a b c. free A B (rest-has Ts is place A a) (rest-has Ts is place B b) c)
+
+-- a list that is parted
+pub parted : (all ds xs ys : List ℕ) (n : ℕ) → xs ≡ take n ds → ys ≡ drop n ds → ds ≡ all → xs ++ ys ≡ all
+parted all ds xs ys n a b e = ap (λ z. z ++ ys) a ∙ ap (λ z. take n ds ++ z) b ∙ take-append-drop n ds ∙ e
 
 pub best-skip : (s : Side) (Ts : List Tree) (xs bs : List ℕ) (y : ℕ) → (((Y : Tree) → Has (pick Ts bs) Y → Covers s (tree_at Ts y) Y → ⊥) → ⊥) → AreBest s Ts xs bs → AreBest s Ts (xs ++ y ∷ []) bs
 best-skip s Ts xs bs y some b = record {

@@ -2,10 +2,10 @@
 
 ghost use Rattle.std.specs.Prelude.{ℕ, ◌≡◌, ◌<◌, ◌↔◌, List, [], ◌∷◌, ◌++◌, length, slice_index, IfOk, IsTrue};
 ghost use Rattle.short_games.specs.Tree.{tree_at};
-ghost use Rattle.game_store.specs.Meaning.{AreIds, IsAscending};
+ghost use Rattle.game_store.specs.Meaning.{pick, AreIds, IsAscending};
 ghost use Rattle.game_canon.specs.inner.Comparisons.{recalled};
 ghost use Rattle.game_canon.specs.inner.Games.{IsKnown};
-ghost use Rattle.game_canon.specs.inner.Sides.{Covers, AreBest, IsWithout};
+ghost use Rattle.game_canon.specs.inner.Sides.{Covers, AreBest, AreFree, IsWithout};
 
 use crate::comparisons::Comparisons;
 use crate::games::Games;
@@ -85,20 +85,25 @@ fn with_best(
     Ok(left)
 }
 
-/// The best of the games for the side.
+/// The best for the side of games of which none covers another, and others.
 fn undominated(
     alloc: Global,
     memo: &mut Comparisons,
     games: &Games<'_>,
     side: Side,
+    free: &[GameId],
     ids: &[GameId],
 ) -> Result<Ids, AllocError>
     requires known { IsKnown games.now (recalled memo.old) }
+    requires free_ids { AreIds games.now.store.now free.now }
+    requires free { AreFree side (pick games.now.store.now free.now) }
     requires ids { AreIds games.now.store.now ids.now }
-    ensures best { IfOk result (λ v. AreBest side games.now.store.now ids.now v.items) }
+    ensures best { IfOk result (λ v. AreBest side games.now.store.now
+        (free.now ++ ids.now) v.items) }
     ensures known { IsKnown games.now (recalled memo.new) }
 {
-    let mut best = Ids::new(alloc);
+    let start = Ids::from_slice(alloc, free)?;
+    let mut best = start;
     for id in ids {
         if !none_covers(alloc, memo, games, side, &best, *id)? {
             continue;
@@ -108,21 +113,25 @@ fn undominated(
     Ok(best)
 }
 
-/// The best of games that differ, in ascending order of their ids.
-fn best_in_order(
+/// The best for the side of games of which none covers another, and others, in ascending order of their ids.
+pub(crate) fn best_in_order(
     alloc: Global,
     memo: &mut Comparisons,
     games: &Games<'_>,
     side: Side,
+    free: &[GameId],
     ids: &[GameId],
 ) -> Result<Ids, AllocError>
     requires known { IsKnown games.now (recalled memo.old) }
+    requires free_ids { AreIds games.now.store.now free.now }
+    requires free { AreFree side (pick games.now.store.now free.now) }
     requires ids { AreIds games.now.store.now ids.now }
-    ensures best { IfOk result (λ v. AreBest side games.now.store.now ids.now v.items) }
+    ensures best { IfOk result (λ v. AreBest side games.now.store.now
+        (free.now ++ ids.now) v.items) }
     ensures ascends { IfOk result (λ v. IsAscending v.items) }
     ensures known { IsKnown games.now (recalled memo.new) }
 {
-    let undominated = undominated(alloc, memo, games, side, ids)?;
+    let undominated = undominated(alloc, memo, games, side, free, ids)?;
     let sorted = in_order(alloc, &undominated)?;
     Ok(sorted)
 }
@@ -142,6 +151,6 @@ pub(crate) fn best(
     ensures known { IsKnown games.now (recalled memo.new) }
 {
     let different = in_order(alloc, ids)?;
-    let best = best_in_order(alloc, memo, games, side, &different)?;
+    let best = best_in_order(alloc, memo, games, side, &[], &different)?;
     Ok(best)
 }

@@ -6,10 +6,10 @@ ghost use Rattle.short_games.specs.Number.{IsNumberTree};
 ghost use Rattle.game_store.specs.Meaning.{pick, AreIds};
 ghost use Rattle.game_canon.specs.inner.Comparisons.{recalled};
 ghost use Rattle.game_canon.specs.inner.Games.{beside, HasForm, IsKnown};
-ghost use Rattle.game_canon.specs.inner.Sides.{Covers, IsReplaced, IsReversal, IsIrreversible, IsDone, IsSmaller};
+ghost use Rattle.game_canon.specs.inner.Sides.{Covers, AreFree, IsRefilled, IsReplaced, IsReversal, IsIrreversible, IsDone, IsSmaller};
 
 use crate::comparisons::Comparisons;
-use crate::domination::best;
+use crate::domination::best_in_order;
 use crate::games::Games;
 use crate::ids::Ids;
 use crate::side::{Side, far_of, form_covers, near_of};
@@ -106,7 +106,8 @@ fn replaced(
     requires ids { AreIds store.now ids.now }
     requires place { place < length ids.now }
     requires answer { answer < length store.now }
-    ensures { IfOk result (λ v. IsReplaced side store.now ids.now place answer v.items) }
+    ensures replaced { IfOk result (λ v. IsReplaced side store.now ids.now place answer v.items) }
+    ensures refilled { IfOk result (λ v. IsRefilled ids.now place v.items) }
 {
     let mut all = Ids::new(alloc);
     all.extend_from_slice(&ids[..place])?;
@@ -120,8 +121,8 @@ fn replaced(
     }
 }
 
-/// The side's options with one reversible option bypassed and the dominated ones dropped, where there is a reversible
-/// one.
+/// The side's options, of which none is dominated, with one reversible option bypassed and the dominated ones dropped,
+/// where there is a reversible one.
 pub(crate) fn bypassed(
     alloc: Global,
     memo: &mut Comparisons,
@@ -132,6 +133,7 @@ pub(crate) fn bypassed(
     requires known { IsKnown games.now (recalled memo.old) }
     requires form { HasForm games.now }
     requires ids { AreIds games.now.store.now ids.now }
+    requires free { AreFree side (pick games.now.store.now ids.now) }
     ensures found { IfOk result (λ found. MatchOption found
         (IsDone side games.now.store.now (beside games.now) ids.now)
         (λ v. IsSmaller side games.now.store.now (beside games.now) ids.now v.items)) }
@@ -140,7 +142,9 @@ pub(crate) fn bypassed(
     match reversible(alloc, memo, games, side, ids)? {
         Some((place, answer)) => {
             let all = replaced(alloc, games.store, side, ids, place, answer)?;
-            Ok(Some(best(alloc, memo, games, side, &all)?))
+            // None of the others covers another, so the new ones alone are compared with all.
+            let (free, more) = all.split_at(ids.len() - 1);
+            Ok(Some(best_in_order(alloc, memo, games, side, free, more)?))
         }
         None => Ok(None),
     }

@@ -4,7 +4,7 @@ use Rattle.short_games.specs.Tree.{Tree}
 use Rattle.game_text.specs.NamedText.{named_text}
 use Rattle.game_lines.specs.Pictures.{Picture, IsPicture}
 use Rattle.game_lines.specs.Showings.{IsUnshown, game_lines}
-use Rattle.game_calc.specs.Expression.{Line, Fault}
+use Rattle.game_calc.specs.Expression.{Line}
 use Rattle.game_calc.specs.declared.errors.CalcError.{CalcError}
 use Rattle.game_calc.specs.declared.errors.CalcError.TheVariants as calc
 use Rattle.game_calc.specs.Answer.{IsPastLimit}

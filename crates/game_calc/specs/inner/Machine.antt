@@ -1,13 +1,14 @@
 -- Where the reader stands in a line: the parentheses that are open, and what the rest of the line then comes to.
 use Rattle.std.specs.Prelude.{ℕ, ◌≡◌, ◌+◌, ◌<◌, ◌≤◌, ◌⊎◌, List, [], ◌∷◌, ◌++◌, length, drop, slice_range, Option, Some, None, Result, Ok, Err}
 use Rattle.short_games.specs.Tree.{Tree}
-use Rattle.game_calc.specs.inner.Amounts.{IsAmount, IsBefore, IsHeld}
+use Rattle.game_calc.specs.inner.Amounts.{IsTerm, IsBefore, IsHeld}
 use Rattle.game_calc.specs.Expression.{Expression, Line, Fault, Outcome, ReadsTerm, ReadsTerms, ReadsLine, BehindFirst, BehindSecond, closed, kind, next, token, rest, sign_of, with_term}
 use Rattle.game_calc.specs.Expression.Line.{value, order}
 use Rattle.game_calc.specs.Expression.Fault.{stray, no_number, unfinished, deep, large}
 use Rattle.game_calc.specs.Expression.Outcome.{reads, refused}
 use Rattle.game_calc.specs.declared.amounts.Amount.{Amount}
 use Rattle.game_calc.specs.declared.amounts.Opening.{Opening}
+use Rattle.game_calc.specs.declared.amounts.Pass.{Pass}
 use Rattle.game_calc.specs.declared.amounts.Sign.{Sign}
 use Rattle.game_calc.specs.declared.errors.CalcError.{CalcError}
 use Rattle.game_calc.specs.declared.errors.CalcError.TheVariants as calc
@@ -65,36 +66,36 @@ module _ (limit : ℕ) where
   Rest (behind_term E) fs first bytes out = AfterTerm (BehindSum fs first) (length fs) E (sign_of (kind bytes)) bytes out
 
 -- how the reader keeps what stands before a term
-abbrev pub IsOpening : List Tree → ℕ → Frame → Opening → Type 0
-IsOpening Ts limit f o = IsBefore Ts limit f.before o.before × (o.sign ≡ f.sign)
+abbrev pub IsOpening : Pass → List Tree → ℕ → Frame → Opening → Type 0
+IsOpening pass Ts limit f o = IsBefore pass Ts limit f.before o.before × (o.sign ≡ f.sign)
 
 -- how the reader keeps what is due
-abbrev pub IsState : List Tree → ℕ → LineState → Place → Type 0
-IsState Ts limit (a_term f) (due.Term o) = IsOpening Ts limit f o
-IsState Ts limit (behind_term E) (due.Behind a) = IsAmount Ts limit E a
-IsState Ts limit s p = ⊥
+abbrev pub IsState : Pass → List Tree → ℕ → LineState → Place → Type 0
+IsState pass Ts limit (a_term f) (due.Term o) = IsOpening pass Ts limit f o
+IsState pass Ts limit (behind_term E) (due.Behind a) = IsTerm pass Ts limit E a
+IsState pass Ts limit s p = ⊥
 
 -- how the reader keeps what stands before the open parentheses: the frames have the innermost first, the openings have it last
-abbrev pub AreOpen : List Tree → ℕ → List Frame → List Opening → Type 0
-AreOpen Ts limit [] opens = opens ≡ []
-AreOpen Ts limit (f ∷ fs) opens = (below : List Opening) × (top : Opening) × (opens ≡ below ++ top ∷ []) × IsOpening Ts limit f top × AreOpen Ts limit fs below
+abbrev pub AreOpen : Pass → List Tree → ℕ → List Frame → List Opening → Type 0
+AreOpen pass Ts limit [] opens = opens ≡ []
+AreOpen pass Ts limit (f ∷ fs) opens = (below : List Opening) × (top : Opening) × (opens ≡ below ++ top ∷ []) × IsOpening pass Ts limit f top × AreOpen pass Ts limit fs below
 
 -- the line comes to what its rest comes to from the place on
-pub record IsReading (Ts : List Tree) (limit : ℕ) (text : List ℕ) (spot : ℕ) (p : Place) (opens : List Opening) (first : Option Amount) : Type 0 where
+pub record IsReading (pass : Pass) (Ts : List Tree) (limit : ℕ) (text : List ℕ) (spot : ℕ) (p : Place) (opens : List Opening) (first : Option Amount) : Type 0 where
   pub state : LineState
   pub frames : List Frame
   pub before : Option Expression
-  pub kept : IsState Ts limit state p
-  pub open_frames : AreOpen Ts limit frames opens
-  pub first_is : IsBefore Ts limit before first
+  pub kept : IsState pass Ts limit state p
+  pub open_frames : AreOpen pass Ts limit frames opens
+  pub first_is : IsBefore pass Ts limit before first
   pub within : spot ≤ length text
   pub comes : (out : Answer) → Rest limit state frames before (drop spot text) out → ReadsLine limit text out
 
 -- how the reader keeps what a line asks for
-abbrev pub IsAsked : List Tree → ℕ → Line → Asked → Type 0
-IsAsked Ts limit (value E) (asked.Value a) = IsAmount Ts limit E a
-IsAsked Ts limit (order E F) (asked.Order a b) = IsAmount Ts limit E a × IsAmount Ts limit F b
-IsAsked Ts limit line a = ⊥
+abbrev pub IsAsked : Pass → List Tree → ℕ → Line → Asked → Type 0
+IsAsked pass Ts limit (value E) (asked.Value a) = IsTerm pass Ts limit E a
+IsAsked pass Ts limit (order E F) (asked.Order a b) = IsTerm pass Ts limit E a × IsTerm pass Ts limit F b
+IsAsked pass Ts limit line a = ⊥
 
 -- the ids that are known of what a line asks for are ids of the store
 abbrev pub IsAskedHeld : List Tree → Asked → Type 0
@@ -102,17 +103,17 @@ IsAskedHeld Ts (asked.Value a) = IsHeld Ts a
 IsAskedHeld Ts (asked.Order a b) = IsHeld Ts a × IsHeld Ts b
 
 -- the reader goes on further on in the line, or has read it all
-abbrev pub IsTurn : List Tree → ℕ → List ℕ → ℕ → Turn → List Opening → Option Amount → Type 0
-IsTurn Ts limit text spot (turn.Next step) opens first = IsReading Ts limit text step.at step.place opens first × (spot < step.at)
-IsTurn Ts limit text spot (turn.Whole a) opens first = (line : Line) × ReadsLine limit text (Ok line) × IsAsked Ts limit line a
+abbrev pub IsTurn : Pass → List Tree → ℕ → List ℕ → ℕ → Turn → List Opening → Option Amount → Type 0
+IsTurn pass Ts limit text spot (turn.Next step) opens first = IsReading pass Ts limit text step.at step.place opens first × (spot < step.at)
+IsTurn pass Ts limit text spot (turn.Whole a) opens first = (line : Line) × ReadsLine limit text (Ok line) × IsAsked pass Ts limit line a
 
 -- the line of a source comes to what its rest comes to from the place on, behind what is kept
 abbrev pub IsLineDue : List Tree → Source → ℕ → Place → Pending → Type 0
-IsLineDue Ts source spot p kept = IsReading Ts source.parts_limit source.text.now spot p kept.opens.items kept.first
+IsLineDue Ts source spot p kept = IsReading source.pass Ts source.parts_limit source.text.now spot p kept.opens.items kept.first
 
 -- the turn goes on further on in the line of a source, behind what is kept, or has read it all
 abbrev pub GoesOnInLine : List Tree → Source → ℕ → Pending → Turn → Type 0
-GoesOnInLine Ts source spot kept t = IsTurn Ts source.parts_limit source.text.now spot t kept.opens.items kept.first
+GoesOnInLine Ts source spot kept t = IsTurn source.pass Ts source.parts_limit source.text.now spot t kept.opens.items kept.first
 
 -- the place in a text from which these bytes are left, counted from 0
 abbrev pub IsPlaceInText : List ℕ → List ℕ → ℕ → Type 0

@@ -1,5 +1,5 @@
 -- Both sides of a game said once.
-use Rattle.std.specs.Prelude.{ℕ, ◌≡◌, ◌<◌, ◌≤◌, ◌⊎◌, List, length}
+use Rattle.std.specs.Prelude.{ℕ, ◌+◌, ◌≡◌, ◌<◌, ◌≤◌, ◌⊎◌, List, ◌++◌, length, take, drop}
 use Rattle.std.specs.List.{slice_index_or}
 use Rattle.short_games.specs.Tree.{Tree, Trees, left, right, Has, sizes, tree_at}
 use Rattle.short_games.specs.Number.{IsNumberTree}
@@ -87,6 +87,10 @@ pub record IsReplaced (s : Side) (Ts : List Tree) (is : List ℕ) (place answer 
   pub added : IsNumberTree (tree_at Ts answer) ⊎ ((X : Tree) → Has (near s (tree_at Ts answer)) X → Has (pick Ts vs) X)
   pub from : (X : Tree) → Has (pick Ts vs) X → Has (pick Ts is) X ⊎ ((IsNumberTree (tree_at Ts answer) → ⊥) × Has (near s (tree_at Ts answer)) X)
   pub smaller : Has (far s (tree_at Ts (slice_index_or is place 0))) (tree_at Ts answer) → sizes (pick Ts vs) < sizes (pick Ts is)
+
+-- the ids but for that at the place, and behind them others
+abbrev pub IsRefilled : List ℕ → ℕ → List ℕ → Type 0
+IsRefilled is place vs = (more : List ℕ) × (vs ≡ (take place is ++ drop (place + 1) is) ++ more)
 
 -- where an option can be bypassed: in a form equal to G, other options that leave it equal, of fewer nodes and with none
 -- dominated

@@ -9,14 +9,14 @@ use Rattle.game_calc.proofs.expressions.read_behind.Goals as goal
 
 pub returns-in-Plus-clause-turn : goal.returns-in-Plus-clause-turn
 returns-in-Plus-clause-turn c = (
-  sign-turn c.args.store.now c.args.source.now.parts_limit c.args.source.now.text.now c.args.at c.args.amount c.args.pending.now.opens.items c.args.pending.now.first (term-behind _ _ _ _ _ _ _ c.requires.reading) c.next_token-word.result sign.Plus
+  sign-turn c.args.source.now.pass c.args.store.now c.args.source.now.parts_limit c.args.source.now.text.now c.args.at c.args.amount c.args.pending.now.opens.items c.args.pending.now.first (term-behind _ _ _ _ _ _ _ _ c.requires.reading) c.next_token-word.result sign.Plus
       (record { kind_is = c.next_token-word.ensures.kind; start_is = c.next_token-word.ensures.start; token_is = c.next_token-word.ensures.token; rest_is = c.next_token-word.ensures.rest; forward = c.next_token-word.ensures.forward; within = c.next_token-word.ensures.within }) (ap sign_of c.in-Plus.is),
   omega (arith, c.next_token-word.ensures.some (not-end Plus c.next_token-word.result.kind c.in-Plus.is tt), c.next_token-word.ensures.forward.0),
 )
 
 pub returns-in-Minus-clause-turn : goal.returns-in-Minus-clause-turn
 returns-in-Minus-clause-turn c = (
-  sign-turn c.args.store.now c.args.source.now.parts_limit c.args.source.now.text.now c.args.at c.args.amount c.args.pending.now.opens.items c.args.pending.now.first (term-behind _ _ _ _ _ _ _ c.requires.reading) c.next_token-word.result sign.Minus
+  sign-turn c.args.source.now.pass c.args.store.now c.args.source.now.parts_limit c.args.source.now.text.now c.args.at c.args.amount c.args.pending.now.opens.items c.args.pending.now.first (term-behind _ _ _ _ _ _ _ _ c.requires.reading) c.next_token-word.result sign.Minus
       (record { kind_is = c.next_token-word.ensures.kind; start_is = c.next_token-word.ensures.start; token_is = c.next_token-word.ensures.token; rest_is = c.next_token-word.ensures.rest; forward = c.next_token-word.ensures.forward; within = c.next_token-word.ensures.within }) (ap sign_of c.in-Minus.is),
   omega (arith, c.next_token-word.ensures.some (not-end Minus c.next_token-word.result.kind c.in-Minus.is tt), c.next_token-word.ensures.forward.0),
 )
@@ -24,9 +24,9 @@ returns-in-Minus-clause-turn c = (
 pub returns-in-Open-clause-refusal : goal.returns-in-Open-clause-refusal
 returns-in-Open-clause-refusal c = stray-told c.args.source.now.parts_limit c.args.source.now.text.now c.args.at c.next_token-word.result
     (record { kind_is = c.next_token-word.ensures.kind; start_is = c.next_token-word.ensures.start; token_is = c.next_token-word.ensures.token; rest_is = c.next_token-word.ensures.rest; forward = c.next_token-word.ensures.forward; within = c.next_token-word.ensures.within })
-    (open-stray c.args.store.now c.args.source.now.parts_limit c.args.source.now.text.now c.args.at c.args.amount c.args.pending.now.opens.items c.args.pending.now.first (term-behind _ _ _ _ _ _ _ c.requires.reading) (sym c.next_token-word.ensures.kind ∙ c.in-Open.is))
+    (open-stray c.args.source.now.pass c.args.store.now c.args.source.now.parts_limit c.args.source.now.text.now c.args.at c.args.amount c.args.pending.now.opens.items c.args.pending.now.first (term-behind _ _ _ _ _ _ _ _ c.requires.reading) (sym c.next_token-word.ensures.kind ∙ c.in-Open.is))
 
 pub returns-in-Game-clause-refusal : goal.returns-in-Game-clause-refusal
 returns-in-Game-clause-refusal c = stray-told c.args.source.now.parts_limit c.args.source.now.text.now c.args.at c.next_token-word.result
     (record { kind_is = c.next_token-word.ensures.kind; start_is = c.next_token-word.ensures.start; token_is = c.next_token-word.ensures.token; rest_is = c.next_token-word.ensures.rest; forward = c.next_token-word.ensures.forward; within = c.next_token-word.ensures.within })
-    (game-stray c.args.store.now c.args.source.now.parts_limit c.args.source.now.text.now c.args.at c.args.amount c.args.pending.now.opens.items c.args.pending.now.first (term-behind _ _ _ _ _ _ _ c.requires.reading) (sym c.next_token-word.ensures.kind ∙ c.in-Game.is))
+    (game-stray c.args.source.now.pass c.args.store.now c.args.source.now.parts_limit c.args.source.now.text.now c.args.at c.args.amount c.args.pending.now.opens.items c.args.pending.now.first (term-behind _ _ _ _ _ _ _ _ c.requires.reading) (sym c.next_token-word.ensures.kind ∙ c.in-Game.is))

@@ -3,21 +3,21 @@ use Rattle.game_calc.proofs.TurnSteps.{none-due, stray-due}
 use Rattle.game_calc.proofs.expressions.read_term.Goals as goal
 
 pub returns-in-End-clause-refusal : goal.returns-in-End-clause-refusal
-returns-in-End-clause-refusal c = none-due c.args.store.now c.args.source.now.parts_limit c.args.source.now.text.now c.args.at c.args.opening c.args.pending.now.opens.items c.args.pending.now.first c.requires.reading c.next_token-word.result
+returns-in-End-clause-refusal c = none-due c.args.source.now.pass c.args.store.now c.args.source.now.parts_limit c.args.source.now.text.now c.args.at c.args.opening c.args.pending.now.opens.items c.args.pending.now.first c.requires.reading c.next_token-word.result
     (record { kind_is = c.next_token-word.ensures.kind; start_is = c.next_token-word.ensures.start; token_is = c.next_token-word.ensures.token; rest_is = c.next_token-word.ensures.rest; forward = c.next_token-word.ensures.forward; within = c.next_token-word.ensures.within }) c.in-End.is
 
 pub returns-in-Plus-clause-refusal : goal.returns-in-Plus-clause-refusal
-returns-in-Plus-clause-refusal c = stray-due c.args.store.now c.args.source.now.parts_limit c.args.source.now.text.now c.args.at c.args.opening c.args.pending.now.opens.items c.args.pending.now.first c.requires.reading c.next_token-word.result
+returns-in-Plus-clause-refusal c = stray-due c.args.source.now.pass c.args.store.now c.args.source.now.parts_limit c.args.source.now.text.now c.args.at c.args.opening c.args.pending.now.opens.items c.args.pending.now.first c.requires.reading c.next_token-word.result
     (record { kind_is = c.next_token-word.ensures.kind; start_is = c.next_token-word.ensures.start; token_is = c.next_token-word.ensures.token; rest_is = c.next_token-word.ensures.rest; forward = c.next_token-word.ensures.forward; within = c.next_token-word.ensures.within }) Plus c.in-Plus.is tt
 
 pub returns-in-Minus-clause-refusal : goal.returns-in-Minus-clause-refusal
-returns-in-Minus-clause-refusal c = stray-due c.args.store.now c.args.source.now.parts_limit c.args.source.now.text.now c.args.at c.args.opening c.args.pending.now.opens.items c.args.pending.now.first c.requires.reading c.next_token-word.result
+returns-in-Minus-clause-refusal c = stray-due c.args.source.now.pass c.args.store.now c.args.source.now.parts_limit c.args.source.now.text.now c.args.at c.args.opening c.args.pending.now.opens.items c.args.pending.now.first c.requires.reading c.next_token-word.result
     (record { kind_is = c.next_token-word.ensures.kind; start_is = c.next_token-word.ensures.start; token_is = c.next_token-word.ensures.token; rest_is = c.next_token-word.ensures.rest; forward = c.next_token-word.ensures.forward; within = c.next_token-word.ensures.within }) Minus c.in-Minus.is tt
 
 pub returns-in-Close-clause-refusal : goal.returns-in-Close-clause-refusal
-returns-in-Close-clause-refusal c = stray-due c.args.store.now c.args.source.now.parts_limit c.args.source.now.text.now c.args.at c.args.opening c.args.pending.now.opens.items c.args.pending.now.first c.requires.reading c.next_token-word.result
+returns-in-Close-clause-refusal c = stray-due c.args.source.now.pass c.args.store.now c.args.source.now.parts_limit c.args.source.now.text.now c.args.at c.args.opening c.args.pending.now.opens.items c.args.pending.now.first c.requires.reading c.next_token-word.result
     (record { kind_is = c.next_token-word.ensures.kind; start_is = c.next_token-word.ensures.start; token_is = c.next_token-word.ensures.token; rest_is = c.next_token-word.ensures.rest; forward = c.next_token-word.ensures.forward; within = c.next_token-word.ensures.within }) Close c.in-Close.is tt
 
 pub returns-in-Query-clause-refusal : goal.returns-in-Query-clause-refusal
-returns-in-Query-clause-refusal c = stray-due c.args.store.now c.args.source.now.parts_limit c.args.source.now.text.now c.args.at c.args.opening c.args.pending.now.opens.items c.args.pending.now.first c.requires.reading c.next_token-word.result
+returns-in-Query-clause-refusal c = stray-due c.args.source.now.pass c.args.store.now c.args.source.now.parts_limit c.args.source.now.text.now c.args.at c.args.opening c.args.pending.now.opens.items c.args.pending.now.first c.requires.reading c.next_token-word.result
     (record { kind_is = c.next_token-word.ensures.kind; start_is = c.next_token-word.ensures.start; token_is = c.next_token-word.ensures.token; rest_is = c.next_token-word.ensures.rest; forward = c.next_token-word.ensures.forward; within = c.next_token-word.ensures.within }) Query c.in-Query.is tt

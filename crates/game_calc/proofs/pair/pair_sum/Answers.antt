@@ -20,25 +20,25 @@ made' c = pair-form c.args.store.now c.args.parts_limit (noted c.args.sums.now) 
     c.add_moves-2.new.options.left.items c.add_moves-2.new.options.right.items _ _ c.requires.right c.len-count.ensures.canonical c.requires.a c.requires.b c.in_default-both_numbers.ensures c.new.ensures.items c.new-2.ensures.items
     c.in_ok-add_moves.ensures c.in_ok-add_moves-2.ensures c.deref.ensures.value c.deref-2.ensures.value
 
-pub canonical_with-requires-clause-left : goal.canonical_with-requires-clause-left
-canonical_with-requires-clause-left c = (made c).left_ids
+pub form_of-requires-clause-left : goal.form_of-requires-clause-left
+form_of-requires-clause-left c = (made c).left_ids
 
-pub canonical_with-requires-clause-right : goal.canonical_with-requires-clause-right
-canonical_with-requires-clause-right c = (made c).right_ids
+pub form_of-requires-clause-right : goal.form_of-requires-clause-right
+form_of-requires-clause-right c = (made c).right_ids
 
 pub returns-clause-value : goal.returns-clause-value
 returns-clause-value c =
     let S = tree_at c.args.store.now c.args.a +ᵍ tree_at c.args.store.now c.args.b in
     let F = listed c.args.store.now c.deref.result.now c.deref-2.result.now in
-    IfOk-weaker c.canonical_with.result (λ id. IsCanonicalId c.canonical_with.new.store F id) (λ id. IsCanonicalId c.canonical_with.new.store S id)
-    (λ id k. id-as c.canonical_with.new.store S F id (made' c).equal k) c.canonical_with.ensures.value
+    IfOk-weaker c.form_of.result (λ id. IsCanonicalId c.form_of.new.store F id) (λ id. IsCanonicalId c.form_of.new.store S id)
+    (λ id k. id-as c.form_of.new.store S F id (made' c).equal k) c.form_of.ensures.value
 
 pub returns-clause-refusal : goal.returns-clause-refusal
 returns-clause-refusal c =
     let S = tree_at c.args.store.now c.args.a +ᵍ tree_at c.args.store.now c.args.b in
     let F = listed c.args.store.now c.deref.result.now c.deref-2.result.now in
-    IfErr-weaker c.canonical_with.result (λ error. IsCause F c.args.parts_limit error) (λ error. IsPairRefusal S c.args.parts_limit error)
-    (λ error k. refusal-as S F c.args.parts_limit error (made' c).equal k) c.canonical_with.ensures.refusal
+    IfErr-weaker c.form_of.result (λ error. IsCause F c.args.parts_limit error) (λ error. IsPairRefusal S c.args.parts_limit error)
+    (λ error k. refusal-as S F c.args.parts_limit error (made' c).equal k) c.form_of.ensures.refusal
 
 pub returns-in-Some-clause-value : goal.returns-in-Some-clause-value
 returns-in-Some-clause-value c =

@@ -1,41 +1,35 @@
-use Rattle.std.proofs.Common.{sym, ◌∙◌, subst}
-use Rattle.std.proofs.lemmas.Result.{err_from_is_err_and}
-use Rattle.short_games.specs.Tree.{tree_at}
-use Rattle.game_canon.specs.Reachable.{AreReachable}
-use Rattle.game_canon.proofs.ChangedIdLaws.{passed-on, reachable-closed}
-use Rattle.game_calc.specs.Steps.{IsStepRefusal}
-use Rattle.game_calc.specs.inner.Table.{noted}
-use Rattle.game_calc.proofs.TableSteps.{not-none}
-use Rattle.game_calc.proofs.PlaceSteps.{root-known, root-sum, all-within, one-refused}
+use Rattle.std.proofs.Common.{sym, subst}
+use Rattle.std.proofs.lemmas.Result.{IfErr-weaker, IfOk-weaker}
+use Rattle.std.specs.Prelude.{IfOk}
+use Rattle.short_games.specs.Number.{number_tree}
+use Rattle.short_games.specs.Sum.{◌+ᵍ◌}
+use Rattle.short_games.specs.Tree.{Tree, tree_at}
+use Rattle.game_canon.specs.Outcomes.{IsCanonicalId}
+use Rattle.game_calc.specs.Steps.{IsOutOfLimits, IsStepRefusal}
+use Rattle.game_calc.proofs.NumberSteps.{id-turned, out-turned, refusal-turned}
 use Rattle.game_calc.proofs.sums.add.Goals as goal
 
-pub add_all-requires-clause-first : goal.add_all-requires-clause-first
-add_all-requires-clause-first c = reachable-closed c.args.store.now (tree_at c.args.store.now c.args.a) c.deref.result.now (subst (AreReachable c.args.store.now (tree_at c.args.store.now c.args.a)) (sym c.deref.ensures) c.in_ok-first.ensures)
+pub returns-in-Some-clause-within : goal.returns-in-Some-clause-within
+returns-in-Some-clause-within c = subst (λ (t : Tree). IfOk c.sum_with_number.result (λ _. IsOutOfLimits c.args.parts_limit (tree_at c.args.store.now c.args.a) t → ⊥)) (sym c.in-Some.ensures) c.sum_with_number.ensures.within
 
-pub add_all-requires-clause-second : goal.add_all-requires-clause-second
-add_all-requires-clause-second c = reachable-closed c.args.store.now (tree_at c.args.store.now c.args.b) c.deref-2.result.now (subst (AreReachable c.args.store.now (tree_at c.args.store.now c.args.b)) (sym c.deref-2.ensures) c.in_ok-second.ensures)
+pub returns-in-Some-number_of-clause-value : goal.returns-in-Some-number_of-clause-value
+returns-in-Some-number_of-clause-value c =
+    let G = tree_at c.args.store.now c.args.b in
+    let H = tree_at c.args.store.now c.args.a in
+    let Us = c.sum_with_number-in-Some-number_of.new.store in
+    IfOk-weaker c.sum_with_number-in-Some-number_of.result (λ id. IsCanonicalId Us (G +ᵍ number_tree c.in-Some-number_of.x) id) (λ id. IsCanonicalId Us (H +ᵍ G) id)
+    (λ id k. id-turned Us G H id (subst (λ (t : Tree). IsCanonicalId Us (G +ᵍ t) id) (sym c.in-Some-number_of.ensures) k)) c.sum_with_number-in-Some-number_of.ensures.value
 
-pub returns-in_err-add_all-clause-refusal : goal.returns-in_err-add_all-clause-refusal
-returns-in_err-add_all-clause-refusal c =
-    let G = tree_at c.args.store.now c.args.a in
-    let H = tree_at c.args.store.now c.args.b in
-    passed-on c.from_residual-in_err-add_all.result _ (IsStepRefusal c.args.parts_limit G H) (err_from_is_err_and c.from_residual-in_err-add_all.result c.from_residual-in_err-add_all.ensures.1)
-    (one-refused c.args.store.now c.args.parts_limit G H c.deref.result.now c.deref-2.result.now _ c.len-count.ensures.forms (subst (AreReachable c.args.store.now G) (sym c.deref.ensures) c.in_ok-first.ensures)
-    (subst (AreReachable c.args.store.now H) (sym c.deref-2.ensures) c.in_ok-second.ensures) c.in_err-add_all.ensures.refusal)
+pub returns-in-Some-number_of-clause-within : goal.returns-in-Some-number_of-clause-within
+returns-in-Some-number_of-clause-within c =
+    let G = tree_at c.args.store.now c.args.b in
+    let H = tree_at c.args.store.now c.args.a in
+    IfOk-weaker c.sum_with_number-in-Some-number_of.result (λ _. IsOutOfLimits c.args.parts_limit G (number_tree c.in-Some-number_of.x) → ⊥) (λ _. IsOutOfLimits c.args.parts_limit H G → ⊥)
+    (λ id f out. f (subst (IsOutOfLimits c.args.parts_limit G) c.in-Some-number_of.ensures (out-turned c.args.parts_limit H G out))) c.sum_with_number-in-Some-number_of.ensures.within
 
-pub unreachable-requires : goal.unreachable-requires
-unreachable-requires c =
-    let r = root-known c.args.store.now c.args.a c.args.b (noted c.add_all.new.sums) c.deref.result.now c.deref-2.result.now c.len-count.ensures.distinct c.requires.a c.requires.b
-    (subst (AreReachable c.args.store.now (tree_at c.args.store.now c.args.a)) (sym c.deref.ensures) c.in_ok-first.ensures) (subst (AreReachable c.args.store.now (tree_at c.args.store.now c.args.b)) (sym c.deref-2.ensures) c.in_ok-second.ensures)
-    c.in_ok-add_all.ensures.known in
-    not-none r.0 (noted c.add_all.new.sums c.args.a c.args.b) r.1 (sym c.get.ensures.value ∙ sym c.copied.ensures ∙ c.in-None.is)
-
-pub returns-clause-value : goal.returns-clause-value
-returns-clause-value c = root-sum c.args.store.now c.add_all.new.store c.args.parts_limit c.args.a c.args.b c.in-Some.sum (noted c.add_all.new.sums) c.add_all.ensures.kept c.requires.a c.requires.b c.in_ok-add_all.ensures.right
-    (sym c.get.ensures.value ∙ sym c.copied.ensures ∙ c.in-Some.is)
-
-pub returns-clause-within : goal.returns-clause-within
-returns-clause-within c =
-    all-within c.args.store.now c.add_all.new.store c.args.parts_limit (tree_at c.args.store.now c.args.a) (tree_at c.args.store.now c.args.b) (noted c.add_all.new.sums) c.deref.result.now c.deref-2.result.now c.add_all.ensures.kept c.len-new_count.ensures.forms
-    (subst (AreReachable c.args.store.now (tree_at c.args.store.now c.args.a)) (sym c.deref.ensures) c.in_ok-first.ensures) (subst (AreReachable c.args.store.now (tree_at c.args.store.now c.args.b)) (sym c.deref-2.ensures) c.in_ok-second.ensures)
-    c.in_ok-add_all.ensures.known c.in_ok-add_all.ensures.right
+pub returns-in-Some-number_of-clause-refusal : goal.returns-in-Some-number_of-clause-refusal
+returns-in-Some-number_of-clause-refusal c =
+    let G = tree_at c.args.store.now c.args.b in
+    let H = tree_at c.args.store.now c.args.a in
+    IfErr-weaker c.sum_with_number-in-Some-number_of.result (λ error. IsStepRefusal c.args.parts_limit G (number_tree c.in-Some-number_of.x) error) (λ error. IsStepRefusal c.args.parts_limit H G error)
+    (λ error r. refusal-turned c.args.parts_limit G H error (subst (λ (t : Tree). IsStepRefusal c.args.parts_limit G t error) (sym c.in-Some-number_of.ensures) r)) c.sum_with_number-in-Some-number_of.ensures.refusal

@@ -13,19 +13,20 @@ add_row-requires-clause-inner c = rows-inner c.args.store.now c.adding.store c.a
 
 pub adding-preserved : goal.adding-preserved
 adding-preserved c = record {
-  comparisons = c.in_ok-add_row.ensures.comparisons;
+  comparisons = c.in_ok-latest.ensures.comparisons;
+  small = c.in_ok-latest.ensures.latest;
   table = rows-step c.args.store.now c.adding.store c.args.parts_limit (noted c.adding.sums) c.args.first.now c.args.second.now c.adding.place-index c.adding.invariant.table c.requires.first c.adding-test.true
-      c.add_row.new.store (noted c.add_row.new.sums) c.add_row.ensures.kept c.in_ok-add_row.ensures.right c.in_ok-add_row.ensures.grows c.in_ok-add_row.ensures.known;
+      c.add_row.new.store (noted c.add_row.new.sums) c.add_row.ensures.kept c.in_ok-latest.ensures.right c.in_ok-latest.ensures.grows c.in_ok-latest.ensures.known;
 }
 
-pub returns-in_err-add_row-clause-refusal : goal.returns-in_err-add_row-clause-refusal
-returns-in_err-add_row-clause-refusal c =
+pub returns-in_err-latest-clause-refusal : goal.returns-in_err-latest-clause-refusal
+returns-in_err-latest-clause-refusal c =
     let Ts = c.args.store.now in
     let kept = c.adding.invariant.table.kept in
     let n = c.adding.place-index in
-    let r = c.in_err-add_row.ensures.refusal in
+    let r = c.in_err-latest.ensures.refusal in
     let same : tree_at c.adding.store (get_or c.args.first.now n 0) +ᵍ tree_at c.adding.store (get_or c.args.second.now r.0 0) ≡ tree_at Ts (get_or c.args.first.now n 0) +ᵍ tree_at Ts (get_or c.args.second.now r.0 0) =
     ap₂ ◌+ᵍ◌ (kept.same (get_or c.args.first.now n 0) (c.requires.first.ids n c.adding-test.true)) (kept.same (get_or c.args.second.now r.0 0) (c.requires.second.ids r.0 r.1)) in
     passed-on c.from_residual.result _ (λ error. (i j : ℕ) × (i < length c.args.first.now) × (j < length c.args.second.now) × IsPairRefusal (tree_at Ts (get_or c.args.first.now i 0) +ᵍ tree_at Ts (get_or c.args.second.now j 0)) c.args.parts_limit error)
     (err_from_is_err_and c.from_residual.result c.from_residual.ensures.1)
-    (n, r.0, c.adding-test.true, r.1, subst (λ (t : Tree). IsPairRefusal t c.args.parts_limit c.in_err-add_row.field-0.0) same r.2)
+    (n, r.0, c.adding-test.true, r.1, subst (λ (t : Tree). IsPairRefusal t c.args.parts_limit c.in_err-latest.field-0.0) same r.2)

@@ -5,6 +5,7 @@ use Rattle.short_games.specs.Tree.{tree_at}
 use Rattle.game_canon.proofs.ChangedIdLaws.{passed-on}
 use Rattle.game_calc.specs.inner.Steps.{IsPairRefusal}
 use Rattle.game_calc.specs.inner.Table.{noted}
+use Rattle.game_calc.proofs.ReturnSteps.{small-kept}
 use Rattle.game_calc.proofs.TableSteps.{row-first, row-second, row-step}
 use Rattle.game_calc.proofs.sums.add_row.Goals as goal
 
@@ -22,6 +23,7 @@ returns-in_err-note_sum-clause-refusal c =
 pub adding-preserved : goal.adding-preserved
 adding-preserved c = record {
   comparisons = c.pair_sum.ensures.comparisons;
+  small = c.later-latest.ensures c.pair_sum.new.store c.args.parts_limit (small-kept c.adding.store c.pair_sum.new.store c.args.parts_limit c.adding.latest c.pair_sum.ensures.kept c.adding.invariant.small) (c.in_ok-sum.ensures.value.0, c.in_ok-sum.ensures.parts);
   table = row-step c.args.store.now c.adding.store c.args.parts_limit c.args.a (noted c.args.sums.now) (noted c.adding.sums) c.args.places.now c.adding.place-index c.adding.invariant.table c.requires.a c.adding-test.true
       c.pair_sum.new.store (noted c.note_sum.new.sums) c.in_ok-sum.sum (c.requires.places.ids c.adding.place-index c.adding-test.true) c.pair_sum.ensures.kept c.in_ok-sum.ensures.value c.in_ok-sum.ensures.parts c.in_ok-note_sum.ensures;
 }
