@@ -1,2 +1,3 @@
+pub mod Komi
 pub mod Numbers
 pub mod Words

@@ -1,0 +1,10 @@
+pub mod Tallies
+pub mod Positions
+pub mod States
+pub mod Texts
+pub mod Handicaps
+pub mod Orders
+pub mod Session
+pub mod Kept
+pub mod Laws
+pub mod inner

@@ -1,0 +1,53 @@
+-- States of a board session.
+use Rattle.std.specs.Prelude.{◌≡◌, ◌*◌, ◌++◌, ◌∷◌, ℕ, ℤ, List, [], replicate}
+use Rattle.go_grid.specs.Board.{Board}
+use Rattle.go_grid.specs.declared.grid.Cell.TheVariants as cell
+use Rattle.go_grid.specs.declared.grid.Colour.{Colour}
+use Rattle.board_session.specs.declared.position.BoardMove.{BoardMove}
+use Rattle.board_session.specs.declared.position.MadeMove.{MadeMove}
+use Rattle.board_session.specs.declared.position.Position.{Position}
+
+-- the komi, the number of handicap stones, the position before the first move, and the moves so far, each with the komi before it
+-- and the position after it
+pub record BoardState : Type 0 where
+  pub komi_halves : ℤ
+  pub handicap : ℕ
+  pub setup : Position
+  pub moves : List MadeMove
+
+-- the position after the moves
+abbrev pub after_moves : Position → List MadeMove → Position
+after_moves a [] = a
+after_moves a (m ∷ moves) = after_moves m.after moves
+
+-- the position on the board
+abbrev pub present : BoardState → Position
+present s = after_moves s.setup s.moves
+
+-- a board before any move: no prisoners and no passes
+abbrev pub unplayed : Board → Position
+unplayed g = record { board = g; prisoners = record { black = 0; white = 0 }; passes = record { black = 0; white = 0 } }
+
+-- the empty board of the size
+abbrev pub bare : ℕ → ℕ → Position
+bare columns rows = unplayed (record { columns = columns; rows = rows; cells = replicate (columns * rows) cell.Empty; declared = [] })
+
+-- an empty board of the size, and no moves
+abbrev pub fresh : ℕ → ℕ → ℤ → BoardState
+fresh columns rows halves = record { komi_halves = halves; handicap = 0; setup = bare columns rows; moves = [] }
+
+-- a board with so many handicap stones, and no moves
+abbrev pub with_stones : BoardState → ℕ → Board → BoardState
+with_stones s n g = record { komi_halves = s.komi_halves; handicap = n; setup = unplayed g; moves = [] }
+
+-- the state after a move more, which leads to the position
+abbrev pub with_move : BoardState → Colour → BoardMove → Position → BoardState
+with_move s c m b = record s { moves = s.moves ++ record { colour = c; chosen = m; komi_before = s.komi_halves; after = b } ∷ [] }
+
+-- the second state was that before the first one's last move
+pub record IsBeforeLast (s u : BoardState) : Type 0 where
+  pub last : MadeMove
+  pub moves : s.moves ≡ u.moves ++ last ∷ []
+  pub komi : u.komi_halves ≡ last.komi_before
+  pub setup : u.setup ≡ s.setup
+  pub handicap : u.handicap ≡ s.handicap

@@ -1,0 +1,94 @@
+//! A session over lines.
+
+ghost use Rattle.std.specs.Prelude.{◌≡◌, ◌≤◌, ◌<◌, ◌+◌, ◌++◌, List, ℕ, [], Some, length};
+ghost use Rattle.desk_io.specs.Lines.{UsesLines};
+ghost use Rattle.desk_io.specs.Outside.{Appends, HasCause, Rose};
+ghost use Rattle.gtp_words.specs.declared.end.GtpEnd.TheVariants.{ReadFault, WriteFault};
+ghost use Rattle.gtp_words.specs.Sessions.{WritesByEnd};
+ghost use Rattle.gtp_words.specs.inner.Taking.{LineTaken};
+ghost use Rattle.board_session.specs.Session.{AnswersLine, first_state};
+ghost use Rattle.board_session.specs.States.{BoardState};
+
+use crate::session::BoardSession;
+use desk_io::{Failed, LineReader, MOST_LINES, Sink, Source};
+use gtp_words::GtpEnd;
+
+/// The most bytes of a line.
+const MOST_BYTES: usize = 1_024;
+
+/// Writes a reply, where there is one.
+fn say<K: Sink>(out: &mut K, reply: &[u8]) -> Result<(), Failed>
+    ensures bytes { Appends (K.holds out.old) (K.holds out.new) result reply.now }
+    ensures cause { HasCause (K.faults out.old) (K.faults out.new) result }
+{
+    if reply.is_empty() {
+        return Ok(());
+    }
+    out.write(reply)
+}
+
+impl BoardSession {
+    /// Reads and answers one line. The end of the session, if it is one.
+    fn take_line<S: Source, K: Sink>(
+        &mut self,
+        reader: &mut LineReader<MOST_BYTES>,
+        lines: &mut S,
+        out: &mut K,
+    ) -> Option<GtpEnd>
+        requires few { length self.old.moves < MOST_LINES }
+        ensures taken { (bytes : List ℕ) → S.left lines.old ≡ Some bytes → (rest : List ℕ)
+            × (S.left lines.new ≡ Some rest) × LineTaken BoardState AnswersLine self.old
+            (reader.old ++ bytes) (K.holds out.old) (K.holds out.new) result self.new
+            (reader.new ++ rest) }
+        ensures grown { length self.new.moves ≤ length self.old.moves + 1 }
+        ensures read_fault { result ≡ Some ReadFault
+            → Rose (S.faults lines.old) (S.faults lines.new) }
+        ensures write_fault { result ≡ Some WriteFault
+            → Rose (K.faults out.old) (K.faults out.new) }
+        ensures used { UsesLines 1024 0 1 reader.old (S.left lines.old) reader.new
+            (S.left lines.new) }
+        ensures few_held { length reader.new ≤ 1024 }
+        ensures later_reads { S.faults lines.old ≤ S.faults lines.new }
+        ensures later_writes { K.faults out.old ≤ K.faults out.new }
+    {
+        let found = match reader.find_line(lines) {
+            Ok(Some(found)) => found,
+            Ok(None) => return Some(GtpEnd::InputEnded),
+            Err(_) => return Some(GtpEnd::ReadFault),
+        };
+        let Ok(answer) = self.answer(reader.front(found.line)) else {
+            return Some(GtpEnd::Memory);
+        };
+        reader.drop_front(found.taken);
+        match say(out, answer.reply.as_slice()) {
+            Ok(()) => {}
+            Err(_) => return Some(GtpEnd::WriteFault),
+        }
+        if answer.quit {
+            return Some(GtpEnd::Quit);
+        }
+        None
+    }
+
+    /// Reads lines and answers each, until one ends the session, the input is at its end, or 10,000 lines were read.
+    pub fn run<S: Source, K: Sink>(&mut self, lines: &mut S, out: &mut K) -> GtpEnd
+        requires first { self.old ≡ first_state }
+        ensures text { (bytes : List ℕ) → S.left lines.old ≡ Some bytes
+            → WritesByEnd BoardState AnswersLine first_state bytes
+            (K.holds out.old) (K.holds out.new) result }
+        ensures read_fault { result ≡ ReadFault → Rose (S.faults lines.old) (S.faults lines.new) }
+        ensures write_fault { result ≡ WriteFault → Rose (K.faults out.old) (K.faults out.new) }
+        ensures used { (held : List ℕ) × (length held ≤ 1024)
+            × UsesLines 1024 0 MOST_LINES [] (S.left lines.old) held (S.left lines.new) }
+        ensures later_reads { S.faults lines.old ≤ S.faults lines.new }
+        ensures later_writes { K.faults out.old ≤ K.faults out.new }
+    {
+        let mut reader: LineReader<MOST_BYTES> = LineReader::new();
+        'session: for _read in 0..MOST_LINES {
+            if let Some(end) = self.take_line(&mut reader, lines, out) {
+                return end;
+            }
+        }
+        GtpEnd::TooManyLines
+    }
+}

@@ -1,0 +1,52 @@
+//! Replies.
+
+ghost use Rattle.std.specs.Prelude.{◌≡◌, IfOk};
+ghost use Rattle.board_session.specs.Session.{done, refused, refusal_text, reply_text};
+
+use gtp_words::compose;
+use item_list::ItemList;
+use std::alloc::{AllocError, Global};
+
+/// Why an order is refused.
+#[derive(Clone, Copy, Debug, PartialEq, Eq)]
+pub(crate) enum Refusal {
+    UnknownCommand,
+    SyntaxError,
+    UnacceptableSize,
+    IllegalMove,
+    CannotUndo,
+    BoardNotEmpty,
+    BadNumberOfStones,
+    BadVertexList,
+}
+
+impl Refusal {
+    fn text(self) -> &'static str
+        ensures { result.now ≡ refusal_text self }
+    {
+        match self {
+            Refusal::UnknownCommand => "unknown command",
+            Refusal::SyntaxError => "syntax error",
+            Refusal::UnacceptableSize => "unacceptable size",
+            Refusal::IllegalMove => "illegal move",
+            Refusal::CannotUndo => "cannot undo",
+            Refusal::BoardNotEmpty => "board not empty",
+            Refusal::BadNumberOfStones => "invalid number of stones",
+            Refusal::BadVertexList => "bad vertex list",
+        }
+    }
+}
+
+/// The reply to an order that is met, with its text.
+pub(crate) fn accept(alloc: Global, id: &[u8], text: &[u8]) -> Result<ItemList<u8>, AllocError>
+    ensures { IfOk result (λ reply. reply ≡ reply_text id.now (done text.now)) }
+{
+    compose(alloc, b"=", id, text)
+}
+
+/// The reply to an order that is refused.
+pub(crate) fn refuse(alloc: Global, id: &[u8], why: Refusal) -> Result<ItemList<u8>, AllocError>
+    ensures { IfOk result (λ reply. reply ≡ reply_text id.now (refused why)) }
+{
+    compose(alloc, b"?", id, why.text().as_bytes())
+}

@@ -1,0 +1,187 @@
+//! What the words of a line ask for.
+
+ghost use Rattle.std.specs.Prelude.{map, IfSome, IfNone};
+ghost use Rattle.board_session.specs.Orders.{Asks, BoardOrder, FitsArguments, FitsAlone, FitsFew, FitsOne, FitsThree, FitsTwo};
+ghost use Rattle.board_session.specs.inner.Doing.{AsksInRange, HasKomiInRange};
+ghost use Rattle.board_session.specs.inner.Viewed.{asked_of, order_of};
+
+use crate::command::{Command, read_command};
+use crate::question::Question;
+use crate::wanted::{Wanted, read_wanted};
+use board_words::read_number;
+use go_grid::Colour;
+use gtp_words::read_colour;
+use sgf_go::read_komi;
+
+/// The names of all commands, one a line.
+const ALL_COMMANDS: &[u8] =
+    b"protocol_version\nname\nversion\nknown_command\nlist_commands\nquit\nboardsize\nclear_board\nkomi\nplay\nundo\nshowboard\nlist_stones\ncaptures\nmove_history\nquery_boardsize\nget_komi\nget_handicap\nfixed_handicap\nset_free_handicap\nlevel\ntime_settings\ntime_left";
+
+/// A command with its arguments.
+#[derive(Clone, Copy)]
+pub(crate) enum Request<'a, 'b> {
+    /// The text answers it, whatever the state.
+    Tell(&'a [u8]),
+    Known(&'a [u8]),
+    Ask(Question),
+    BoardSize(u64),
+    ClearBoard,
+    /// The komi in half-points.
+    Komi(i64),
+    Play(Colour, Wanted),
+    Undo,
+    FixedHandicap(u64),
+    FreeHandicap(&'b [&'a [u8]]),
+    Quit,
+}
+
+/// What words ask for.
+#[derive(Clone, Copy)]
+pub(crate) enum Asked<'a, 'b> {
+    Something(Request<'a, 'b>),
+    /// There is no such command.
+    Unknown,
+    /// The arguments don't fit the command.
+    Misfit,
+}
+
+/// The request of a command without an argument.
+fn alone<'a, 'b>(command: Command) -> Option<Request<'a, 'b>>
+    ensures some { IfSome result (λ request. FitsAlone command (order_of request)) }
+    ensures range { IfSome result (λ request. HasKomiInRange (order_of request)) }
+    ensures none { IfNone result ((order : BoardOrder) → ¬ FitsAlone command order) }
+{
+    match command {
+        Command::ProtocolVersion => Some(Request::Tell(b"2")),
+        Command::Name => Some(Request::Tell(b"gdsolve")),
+        Command::Version => Some(Request::Tell(b"1")),
+        Command::ListCommands => Some(Request::Tell(ALL_COMMANDS)),
+        Command::Quit => Some(Request::Quit),
+        Command::ClearBoard => Some(Request::ClearBoard),
+        Command::Undo => Some(Request::Undo),
+        Command::ShowBoard => Some(Request::Ask(Question::Board)),
+        Command::MoveHistory => Some(Request::Ask(Question::History)),
+        Command::QueryBoardSize => Some(Request::Ask(Question::Size)),
+        Command::GetKomi => Some(Request::Ask(Question::Komi)),
+        Command::GetHandicap => Some(Request::Ask(Question::Handicap)),
+        _ => None,
+    }
+}
+
+/// The request of a command with one argument.
+fn with_one<'a, 'b>(command: Command, word: &'a [u8]) -> Option<Request<'a, 'b>>
+    ensures some { IfSome result (λ request. FitsOne command word.now (order_of request)) }
+    ensures range { IfSome result (λ request. HasKomiInRange (order_of request)) }
+    ensures none { IfNone result ((order : BoardOrder) → ¬ FitsOne command word.now order) }
+{
+    match command {
+        Command::KnownCommand => Some(Request::Known(word)),
+        Command::BoardSize => Some(Request::BoardSize(read_number(word)?)),
+        Command::Komi => Some(Request::Komi(read_komi(word)?)),
+        Command::ListStones => Some(Request::Ask(Question::Stones(read_colour(word)?))),
+        Command::Captures => Some(Request::Ask(Question::Captures(read_colour(word)?))),
+        Command::FixedHandicap => Some(Request::FixedHandicap(read_number(word)?)),
+        Command::Level => {
+            let _level = read_number(word)?;
+            Some(Request::Tell(b""))
+        }
+        _ => None,
+    }
+}
+
+/// The request of a command with two arguments.
+fn with_two<'a, 'b>(command: Command, first: &[u8], second: &[u8]) -> Option<Request<'a, 'b>>
+    ensures some { IfSome result (λ request. FitsTwo command first.now second.now
+        (order_of request)) }
+    ensures range { IfSome result (λ request. HasKomiInRange (order_of request)) }
+    ensures none { IfNone result ((order : BoardOrder)
+        → ¬ FitsTwo command first.now second.now order) }
+{
+    match command {
+        Command::Play => Some(Request::Play(read_colour(first)?, read_wanted(second)?)),
+        _ => None,
+    }
+}
+
+/// The request of a command with three arguments.
+fn with_three<'a, 'b>(
+    command: Command,
+    first: &[u8],
+    second: &[u8],
+    third: &[u8],
+) -> Option<Request<'a, 'b>>
+    ensures some { IfSome result (λ request. FitsThree command first.now second.now third.now
+        (order_of request)) }
+    ensures range { IfSome result (λ request. HasKomiInRange (order_of request)) }
+    ensures none { IfNone result ((order : BoardOrder)
+        → ¬ FitsThree command first.now second.now third.now order) }
+{
+    match command {
+        Command::TimeSettings => {
+            let _main = read_number(first)?;
+            let _extra = read_number(second)?;
+            let _stones = read_number(third)?;
+            Some(Request::Tell(b""))
+        }
+        Command::TimeLeft => {
+            let _colour = read_colour(first)?;
+            let _time = read_number(second)?;
+            let _stones = read_number(third)?;
+            Some(Request::Tell(b""))
+        }
+        _ => None,
+    }
+}
+
+/// The request of a command with at most three arguments.
+fn with_few<'a, 'b>(command: Command, arguments: &'b [&'a [u8]]) -> Option<Request<'a, 'b>>
+    ensures some { IfSome result (λ request. FitsFew command (map (λ w. w.now) arguments.now)
+        (order_of request)) }
+    ensures range { IfSome result (λ request. HasKomiInRange (order_of request)) }
+    ensures none { IfNone result ((order : BoardOrder)
+        → ¬ FitsFew command (map (λ w. w.now) arguments.now) order) }
+{
+    match arguments {
+        [] => alone(command),
+        [word] => with_one(command, word),
+        [first, second] => with_two(command, first, second),
+        [first, second, third] => with_three(command, first, second, third),
+        _ => None,
+    }
+}
+
+/// The request of a command with arguments.
+fn fit<'a, 'b>(command: Command, arguments: &'b [&'a [u8]]) -> Option<Request<'a, 'b>>
+    ensures some { IfSome result (λ request. FitsArguments command (map (λ w. w.now) arguments.now)
+        (order_of request)) }
+    ensures range { IfSome result (λ request. HasKomiInRange (order_of request)) }
+    ensures none { IfNone result ((order : BoardOrder)
+        → ¬ FitsArguments command (map (λ w. w.now) arguments.now) order) }
+{
+    match command {
+        Command::SetFreeHandicap => {
+            if arguments.len() < 2 {
+                return None;
+            }
+            Some(Request::FreeHandicap(arguments))
+        }
+        _ => with_few(command, arguments),
+    }
+}
+
+/// What words ask for.
+pub(crate) fn read_asked<'a, 'b>(words: &'b [&'a [u8]]) -> Asked<'a, 'b>
+    ensures asked { Asks (map (λ w. w.now) words.now) (asked_of result) }
+    ensures range { AsksInRange (asked_of result) }
+{
+    let [word, arguments @ ..] = words else {
+        return Asked::Unknown;
+    };
+    let Some(command) = read_command(word) else {
+        return Asked::Unknown;
+    };
+    match fit(command, arguments) {
+        Some(request) => Asked::Something(request),
+        None => Asked::Misfit,
+    }
+}

@@ -1,0 +1,6 @@
+pub mod MoveLaws
+pub mod EngineGameLaws
+pub mod PlainLemmas
+pub mod RoomLemmas
+pub mod PreparedLemmas
+pub mod FitLemmas

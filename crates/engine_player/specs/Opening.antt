@@ -1,0 +1,23 @@
+-- The game that a position opens for the engine, and that it opens none.
+use Rattle.std.specs.Prelude.{◌≡◌, List, Bool, true, false, None, Some, Ok}
+use Rattle.go_grid.specs.Region.{Region}
+use Rattle.region_cut.specs.Cut.{AreRegionsOfPlay}
+use Rattle.sgf_go.specs.declared.settings.Setup.{Setup}
+use Rattle.endgame_solver.specs.declared.limits.Limits.{Limits}
+use Rattle.endgame_solver.specs.Faults.{AreSound}
+use Rattle.endgame_solver.specs.Solved.{IsPlayable}
+use Rattle.cycle_solver.specs.CycleFaults.{AreSteadyWithin}
+use Rattle.engine_player.specs.declared.player.TheConstants.{MOST_CAPTURES}
+use Rattle.engine_player.specs.Played.{BeginsPlay, Keeping}
+use Rattle.engine_player.specs.EngineGame.{EngineGame}
+
+-- the position opens the game within the limits: with kos admitted, or without, and nothing is kept
+abbrev pub OpensGame : Bool → Limits → Setup → EngineGame → Type 0
+OpensGame false limits setup p = IsPlayable limits setup p.state × (p.keeping ≡ None)
+OpensGame true limits setup p = (keeping : Keeping) × BeginsPlay setup limits MOST_CAPTURES (Ok (record { state = p.state; keeping = keeping }))
+    × (p.keeping ≡ Some keeping)
+
+-- the regions of play aren't all sound within the limits, or where kos are admitted not all steady
+abbrev pub OpensNone : Bool → Limits → Setup → Type 0
+OpensNone false limits setup = (regions : List Region) × AreRegionsOfPlay setup.board regions × ¬ AreSound limits regions
+OpensNone true limits setup = (regions : List Region) × AreRegionsOfPlay setup.board regions × ¬ AreSteadyWithin limits MOST_CAPTURES regions

@@ -1,0 +1,4 @@
+pub mod CleanLineLemmas
+pub mod WordLemmas
+pub mod TakenLineLemmas
+pub mod SessionLemmas
