@@ -257,8 +257,6 @@ class Desk:
     def begin_game(self, engine):
         if self.question.refused or not self.question.data.get('moves'):
             raise Fault('a game begins from a position that is answered')
-        if self.question.position.cycles:
-            raise Fault('a game is played without cycles')
         self.leave_table()
         self.note = ''
         self.table = Table(self, sealed(self.question.position, self.question.setup), engine)

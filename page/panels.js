@@ -187,12 +187,14 @@ export function line(view, step, stepTo) {
 
 export function game(view, act) {
   if (!view.game) {
-    const ready = view.moves && view.refusals.length === 0 && !view.options.cycles;
+    const ready = view.moves && view.refusals.length === 0;
     return fill('game', ready ? [
       make('h2', {}, 'Game'), make('p', {}, 'Play this position against the program, as'),
       make('div', { class: 'buttons' },
         button('play-black', 'Black', () => act({ action: 'begin_game', engine: 'white' })),
         button('play-white', 'White', () => act({ action: 'begin_game', engine: 'black' }))),
+      ...(view.options.cycles ? [make('p', { class: 'faint' },
+        'There is no ko rule: a stone may be taken back at once. A game that the program wins ends; where nobody wins it may go round.')] : []),
     ] : []);
   }
   const { winner, over, thinking, lines, user, spent, refused, fault } = view.game;

@@ -11,7 +11,7 @@ from record import COLOURS, Board, Setup, komi_halves, komi_text, lowest, sgf
 LONGEST_FILE = 1_048_576
 MOST_MOVES = MOST_PRISONERS = 999_999
 MOST_POSITIONS, MOST_PARTS = 1_000_000, 4_000
-WITH_CYCLES = 'solve', 'values', 'margin', 'moves'
+WITH_CYCLES = 'solve', 'values', 'margin', 'moves', 'play'
 UNSEALED = 'unsealed'  # `board` without the marks
 
 

@@ -129,6 +129,7 @@ class Positions(unittest.TestCase):
         admitted = configured(empty(9, 9), {'cycles': True, 'territory': True})
         self.assertEqual(admitted.options('board'), ['--territory', 'yes'])
         self.assertEqual(admitted.options('margin')[-4:], ['--cycles', 'yes', '--territory', 'yes'])
+        self.assertEqual(admitted.options('play')[-4:], ['--cycles', 'yes', '--territory', 'yes'])
         self.assertNotIn('--cycles', admitted.options('line'))
 
 

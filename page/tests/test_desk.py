@@ -58,8 +58,6 @@ class Answers(AtDesk):
         view = self.settled(desk)
         self.assertEqual((view['refusals'], view['moves']['winner'], view['line']), ([], 'none', None))
         self.assertEqual([value['label'] for value in view['values'][0]['values']], ['low', 'high'])
-        with self.assertRaises(Fault):
-            desk.do('begin_game', 'white')
 
     def test_territory_is_marked(self):
         desk = self.desk(b'(;SZ[7:3]AB[ca:cc]AW[ea:ec])')
@@ -314,6 +312,18 @@ class Games(AtDesk):
         desk.do('play', 'ea')
         self.assertEqual(wait_for(lambda: desk.view()['game']['refused']), 'a stone stands there')
         self.assertIn(';B[ea]', desk.sgf())
+
+    def test_a_game_with_a_ko(self):
+        desk = self.desk(PAIR, cycles=True)
+        self.settled(desk)
+        desk.do('begin_game', 'black')
+        for typed in ('ea', 'spend', 'spend', 'spend'):
+            wait_for(lambda: self.awaited(desk))
+            desk.do('play', typed)
+        wait_for(lambda: desk.view()['game']['over'])
+        made = ['engine fa', 'played ea', 'engine fa', 'played spend', 'engine ea', *['played spend', 'engine spend'] * 2, 'winner black']
+        self.assertEqual(desk.view()['game']['lines'], made)
+        self.assertEqual(wait_for(lambda: self.awaited(desk))['board']['rows'][0], '.X.XXXO.O.')
 
     def test_editing_ends_the_game(self):
         desk = self.desk(NEUTRAL)

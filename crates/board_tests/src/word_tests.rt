@@ -1,6 +1,6 @@
 //! Command lines.
 
-use gd_words::{Command, Job, Usage, read};
+use gd_words::{Command, CycleQuestion, Job, Usage, read};
 use go_grid::Colour;
 use sgf_go::Settings;
 use std::alloc::{AllocError, Global};
@@ -24,11 +24,36 @@ const PLAIN: Job<'static> = Job {
     parts: 500,
     engine: None,
     tax: false,
+    cycles: false,
 };
 
 /// Words between tildes, and their jobs.
-const JOBS: [(&str, Job<'static>); 19] = [
+const JOBS: [(&str, Job<'static>); 22] = [
     ("solve~c", PLAIN),
+    (
+        "solve~c~--cycles~yes",
+        Job {
+            command: Command::WithCycles(CycleQuestion::Solve, "c"),
+            cycles: true,
+            ..PLAIN
+        },
+    ),
+    (
+        "play~c~--cycles~yes",
+        Job {
+            command: Command::Play("c"),
+            cycles: true,
+            ..PLAIN
+        },
+    ),
+    (
+        "gtp~--cycles~yes",
+        Job {
+            command: Command::Gtp,
+            cycles: true,
+            ..PLAIN
+        },
+    ),
     (
         "solve~-",
         Job {

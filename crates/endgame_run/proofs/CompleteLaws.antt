@@ -19,7 +19,7 @@ use Rattle.endgame_run.specs.Calc.{IsCalc}
 use Rattle.endgame_run.specs.Complete.{HasManyCommands, HasManyLines, IsAnswerable, IsAnswered, IsCalm, IsComplete, IsDone, IsUnrefused, IsWithinLimits}
 use Rattle.endgame_run.specs.Engine.{IsEnginePlay}
 use Rattle.endgame_run.specs.File.{count_of, told_of}
-use Rattle.endgame_run.specs.Game.{IsPlayedGame}
+use Rattle.endgame_run.specs.Game.{IsPlayedGame, question_of_game}
 use Rattle.endgame_run.specs.Limits.{engine_limits, limits_of}
 use Rattle.endgame_run.specs.Question.{IsAnswer, IsFileAnswer, IsPositionAnswer}
 use Rattle.endgame_run.specs.Run.{RunsTask}
@@ -115,7 +115,7 @@ calc_done limit expression none status.FormLimit text h = absurd h
 calc_done limit expression none (status.BadFile f) text h = absurd h
 
 -- a game that no read and no write broke off
-game_done : (job : Job) (word : List ℕ) (a b : Known) (s : Status) → IsCalm a b → IsPlayedGame (limits_of job) job.engine job.settings word a s b → IsDone s ⊎ HasManyLines job word a s
+game_done : (job : Job) (word : List ℕ) (a b : Known) (s : Status) → IsCalm a b → IsPlayedGame (limits_of job) job.cycles job.engine job.settings word a s b → IsDone s ⊎ HasManyLines job word a s
 game_done job word a b Done calm g = inl (inl refl)
 game_done job word a b TooManyLines calm (engine, state, game, run) = inr (refl, (engine, state, game, map_told _ _ a.input.left (λ bytes h. (h.0, h.2.0)) run.written))
 game_done job word a b CannotRead calm (engine, state, game, run) = absurd (calm.reads (run.read refl))
@@ -155,7 +155,7 @@ module _ {H S K : Type 0} (o : Outside H S K) (job : Job) (a b : Desk H S K) (s 
   complete (calc expression) r = λ none calm. decided_done (IsCalc job.parts expression) _ _ _ _ s (calc_done job.parts expression none) calm r.written
   complete gtp r = λ read write. engine_done job (known o a) (known o b) s read write r.played
   complete (play word) r = λ h. elim r.outcome [
-    | inl u ↦ inl (decided_done _ _ _ _ _ s (λ t text d. answer_done question.Solve (limits_of job) job.settings word (known o a) (known o b) h t text d.0) h.calm.writes u.0)
+    | inl u ↦ inl (decided_done _ _ _ _ _ s (λ t text d. answer_done (question_of_game job.cycles) (limits_of job) job.settings word (known o a) (known o b) h t text d.0) h.calm.writes u.0)
     | inr g ↦ game_done job word (known o a) (known o b) s h.calm g
   ]
 

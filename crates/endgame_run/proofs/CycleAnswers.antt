@@ -1,5 +1,5 @@
 -- What a game with cycles, or its refusal, answers.
-use Rattle.std.proofs.Common.{◌≡◌, ℤ, ℕ, ◌<◌, ◌⊎◌, inl, inr, refl, sym, ap, ◌∙◌, subst, List, length, Ok, Err}
+use Rattle.std.proofs.Common.{◌≡◌, ◌≢◌, ℤ, ℕ, ◌<◌, ◌⊎◌, inl, inr, refl, sym, ap, ◌∙◌, subst, List, length, Ok, Err}
 use Rattle.sgf_go.specs.declared.settings.Setup.{Setup}
 use Rattle.gd_words.specs.declared.job.CycleQuestion.{CycleQuestion}
 use Rattle.gd_words.specs.declared.job.CycleQuestion.TheVariants as cycle
@@ -9,6 +9,8 @@ use Rattle.endgame_solver.specs.declared.limits.Limits.{Limits}
 use Rattle.cycle_solver.specs.Begun.{Begun}
 use Rattle.cycle_solver.specs.declared.faults.CycleError.{CycleError}
 use Rattle.cycle_solver.specs.declared.faults.CycleError.TheVariants.{Points, Positions, Form, Captures, Memory}
+use Rattle.engine_player.specs.declared.player.TheConstants.{MOST_CAPTURES}
+use Rattle.engine_player.specs.Played.{BeginsPlay}
 use Rattle.endgame_run.specs.Cycles.{HasCycleStatus, IsCycleQuestionRefused, IsCycleRefused, cycle_refusal_line, most_captures}
 use Rattle.endgame_run.specs.Question.{IsPositionAnswer}
 use Rattle.endgame_run.specs.Refusal.{form_line}
@@ -64,6 +66,22 @@ refused_answer q limits setup s text r = go (has_status r.fault s r.status) wher
 pub cycle_fault_answer : (q : CycleQuestion) (setup : Setup) (limits : Limits) (fault : CycleError) (s : Status) (text : List ℕ) → Begun setup limits most_captures (Err fault) → HasCycleStatus fault s
     → text ≡ cycle_refusal_line limits setup.board.columns fault → IsPositionAnswer (question.WithCycles q) limits setup s text
 cycle_fault_answer q setup limits fault s text b e t = refused_answer q limits setup s text (is_refused setup limits fault s text b e t)
+
+-- what keeps a game from being begun keeps it from being played
+pub fault_begun : (setup : Setup) (limits : Limits) (fault : CycleError) → BeginsPlay setup limits MOST_CAPTURES (Err fault) → Begun setup limits most_captures (Err fault)
+fault_begun setup limits (Points p n) b = b
+fault_begun setup limits (Positions p) b = b
+fault_begun setup limits (Form p) b = b
+fault_begun setup limits (Captures p) b = b
+fault_begun setup limits (Memory m) b = tt
+
+-- and is no end of a run that is done
+pub cycle_fault_undone : (fault : CycleError) (s : Status) → HasCycleStatus fault s → s ≢ status.Done
+cycle_fault_undone (Points p n) s h e = absurd (cc (sym h ∙ e))
+cycle_fault_undone (Positions p) s h e = absurd (cc (sym h ∙ e))
+cycle_fault_undone (Form p) s h e = absurd (cc (sym h ∙ e))
+cycle_fault_undone (Captures p) s h e = absurd (cc (sym h ∙ e))
+cycle_fault_undone (Memory m) s h e = absurd h
 
 -- the values of a game are the answer to that question
 values_are : (setup : Setup) (limits : Limits) (game : Solved) (s : Status) (text : List ℕ) → Begun setup limits most_captures (Ok game) → IsCycleValuesReport game s text

@@ -8,8 +8,8 @@ use Rattle.desk_io.specs.Files.{Files}
 use Rattle.desk_io.specs.Lines.{UsesLines}
 use Rattle.desk_io.specs.Outside.{Rose}
 use Rattle.gtp_engine.specs.declared.limits.EngineLimits.{EngineLimits}
-use Rattle.gtp_engine.specs.declared.end.GtpEnd.{GtpEnd}
-use Rattle.gtp_engine.specs.declared.end.GtpEnd.TheVariants as end
+use Rattle.gtp_words.specs.declared.end.GtpEnd.{GtpEnd}
+use Rattle.gtp_words.specs.declared.end.GtpEnd.TheVariants as end
 use Rattle.gtp_engine.specs.Kept.{AreLoads}
 use Rattle.gtp_engine.specs.Written.{Engine, WritesByEnd, RoseBy, unused}
 use Rattle.gtp_engine.specs.Session.{beginning}

@@ -1,23 +1,34 @@
 -- A game that the engine wins at its opening, and that an engine keeps what it has won.
-use Rattle.std.proofs.Common.{◌≡◌, ◌⊎◌, ◌++◌, ℕ, inl, inr, refl, sym, ap, subst, ◌∙◌, append_assoc, List, [], Some, None}
+use Rattle.std.proofs.Common.{◌≡◌, ◌⊎◌, ◌++◌, ℕ, inl, inr, refl, sym, ap, subst, ◌∙◌, append_assoc, Bool, true, false, List, [], Some, None}
 use Rattle.std.specs.Prelude.{Option, IfSome, codes, take}
 use Rattle.std.specs.Io.KnownBytes.{append_known}
-use Rattle.desk_io.specs.Desk.{Desk, Outside, known}
+use Rattle.desk_io.specs.Desk.{Desk, Input, Outside, known}
 use Rattle.gd_words.specs.Job.{Job}
 use Rattle.gd_words.specs.Task.{Task}
 use Rattle.gd_words.specs.Task.Task.{ask, calc, gtp, play, trial}
 use Rattle.go_grid.specs.declared.grid.Colour.{Colour}
-use Rattle.gtp_engine.proofs.WinLemmas.{win_is_kept as gtp_win_is_kept}
+use Rattle.go_grid.specs.declared.grid.Colour.TheVariants.{Black, White}
+use Rattle.go_grid.specs.Chain.{IsSettled}
+use Rattle.sgf_go.specs.declared.settings.Settings.{Settings}
+use Rattle.sgf_go.specs.declared.settings.Setup.{Setup}
+use Rattle.endgame_solver.specs.declared.limits.Limits.{Limits}
+use Rattle.whole_budgets.specs.EnginePlay.{Serves}
+use Rattle.engine_player.specs.Played.{BothServe, Keeping}
+use Rattle.engine_player.specs.Opening.{OpensGame}
 use Rattle.whole_rules.specs.WholeGame.{Whole}
+use Rattle.gtp_engine.proofs.WinLemmas.{win_is_kept as gtp_win_is_kept}
+use Rattle.engine_player.specs.EngineGame.{EngineGame}
 use Rattle.whole_rules.specs.FirstWinningMove.{IsWinner}
 use Rattle.play_session.specs.declared.end.SessionEnd.TheVariants as end
 use Rattle.play_session.specs.Session.{Standing, Turns, IsSession}
 use Rattle.play_session.proofs.NamedWinnerLaws.{IsUnnamed, calm_unnamed, end_unnamed, next_unnamed, turns_unnamed, whole_unnamed}
+use Rattle.play_session.specs.Laws.{IsSoundKeeping}
+use Rattle.play_session.proofs.EndLaws.{session_keeps_ko, turns_sound, won_sessions_end}
 use Rattle.play_session.proofs.WinLaws.{win_is_kept}
 use Rattle.endgame_run.specs.declared.status.Status.{Status}
 use Rattle.endgame_run.specs.declared.status.Status.TheVariants.{CannotRead, CannotWrite, Done, Memory, TooManyLines}
 use Rattle.endgame_run.specs.declared.status.Status.TheVariants as status
-use Rattle.endgame_run.specs.Game.{IsGameWritten, IsSessionStatus, IsStopped, IsWonGame, game_beginning}
+use Rattle.endgame_run.specs.Game.{IsGame, IsGameWritten, IsSessionStatus, IsStopped, IsWonGame, WinsFromHere, WinsFromThere, game_beginning}
 use Rattle.endgame_run.specs.KeepsWin.{EngineKeepsWin, KeepsWin}
 use Rattle.endgame_run.specs.Run.{RunsTask}
 
@@ -25,7 +36,20 @@ pub map_told : (P Q : List ℕ → Type 0) (left : Option (List ℕ)) → ((byte
 map_told P Q None f h = tt
 map_told P Q (Some bytes) f h = f bytes h
 
-module _ (engine : Colour) (s : Whole) (bytes : List ℕ) (before now : Option (List ℕ)) (wins : IsWinner s engine) where
+-- from each state of a sound game that the engine wins, it wins
+wins_from_here : (engine : Colour) (a : Standing) → IsSoundKeeping a.game.keeping a.game.state → IsWinner a.game.state engine → WinsFromHere engine a
+wins_from_here engine a sound wins = record {
+  kept = λ n text b turns. win_is_kept engine a b n text wins turns;
+  ends = λ n text b turns own. won_sessions_end engine a b n text sound wins turns own;
+  ko = λ n text b turns. session_keeps_ko engine a b n text sound wins turns;
+}
+
+wins_from_there : (engine : Colour) (s : EngineGame) (bytes : List ℕ) → IsSoundKeeping s.keeping s.state → WinsFromThere engine s bytes
+wins_from_there engine s bytes sound n text a turns wins =
+    wins_from_here engine a (turns_sound engine n (game_beginning s bytes) a text turns sound) wins
+
+module _ (engine : Colour) (s : EngineGame) (bytes : List ℕ) (before now : Option (List ℕ)) (wins : IsWinner s.state engine)
+    (sound : IsSoundKeeping s.keeping s.state) where
   -- turns, and what stands behind them
   won : (n : ℕ) (b : Standing) (first last : List ℕ) → Turns engine n (game_beginning s bytes) first b → IsUnnamed engine last → now ≡ append_known before (first ++ last) → IsWonGame engine s bytes before now
   won n b first last turns unnamed is = record {
@@ -34,7 +58,7 @@ module _ (engine : Colour) (s : Whole) (bytes : List ℕ) (before now : Option (
     first = first;
     last = last;
     turns = turns;
-    kept = λ m text c more. win_is_kept engine (game_beginning s bytes) c m text wins more;
+    wins = wins_from_here engine (game_beginning s bytes) sound wins;
     written = is;
     unnamed = turns_unnamed engine n (game_beginning s bytes) b first last turns unnamed;
   }
@@ -93,12 +117,51 @@ module _ (engine : Colour) (s : Whole) (bytes : List ℕ) (before now : Option (
   won_game status.CalcLimit begun h = absurd begun
   won_game status.CaptureLimit begun h = absurd begun
 
+-- a game that begins is sound
+nothing_serves : (k : Keeping) (s : Whole) → k.black ≡ None → k.white ≡ None → BothServe (record { state = s; keeping = k })
+nothing_serves k s black white Black = subst (Serves k.regions Black s) (sym black) tt
+nothing_serves k s black white White = subst (Serves k.regions White s) (sym white) tt
+
+sound_start : (cycles : Bool) (limits : Limits) (setup : Setup) (p : EngineGame) → IsSettled setup.board → OpensGame cycles limits setup p → IsSoundKeeping p.keeping p.state
+sound_start false limits setup p settled (playable, is) = subst (λ k. IsSoundKeeping k p.state) (sym is) tt
+sound_start true limits setup p settled (keeping, (opening, cut, steady, black, white, moves), is) = subst (λ k. IsSoundKeeping k p.state) (sym is) (
+  (
+    setup.board,
+    record {
+      black_prisoners = setup.black_prisoners;
+      white_prisoners = setup.white_prisoners;
+      komi = setup.komi_halves;
+      side = setup.side;
+      tax = limits.tax;
+      start = p.state;
+      moves = [];
+      settled = settled;
+      cut = cut;
+      opening = opening;
+      plays = refl;
+    },
+  ),
+  nothing_serves keeping p.state black white,
+)
+
+sound_game : (limits : Limits) (cycles : Bool) (given : Option Colour) (settings : Settings) (word : List ℕ) (i : Input) (engine : Colour) (s : EngineGame)
+    → IsGame limits cycles given settings word i engine s → IsSoundKeeping s.keeping s.state
+sound_game limits cycles given settings word i engine s game = sound_start cycles limits game.setup s game.settled game.playable
+
 -- an engine keeps what it has won, in every run
 module _ {H S K : Type 0} (o : Outside H S K) (job : Job) (a b : Desk H S K) (status : Status) where
   keeps : (task : Task) → RunsTask o task job a status b → KeepsWin task job (known o a) status (known o b)
   keeps (play word) r = elim r.outcome [
     | inl u ↦ inl u.0
-    | inr g ↦ inr (g.0, g.1, g.2, λ wins. map_told _ _ (o.sources.left a.lines) (λ bytes h. won_game g.0 g.1 bytes (o.sinks.holds a.out) (o.sinks.holds b.out) wins status g.3.begun h) g.3.written)
+    | inr g ↦
+        let sound = sound_game _ _ _ _ _ _ g.0 g.1 g.2 in
+        inr (
+          g.0,
+          g.1,
+          g.2,
+          λ wins. map_told _ _ (o.sources.left a.lines) (λ bytes h. won_game g.0 g.1 bytes (o.sinks.holds a.out) (o.sinks.holds b.out) wins sound status g.3.begun h) g.3.written,
+          λ bytes. wins_from_there g.0 g.1 bytes sound,
+        )
   ]
   keeps gtp r = gtp_win_is_kept
   keeps (ask question word) r = tt

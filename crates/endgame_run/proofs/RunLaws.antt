@@ -15,7 +15,7 @@ use Rattle.gtp_engine.specs.declared.limits.EngineLimits.{EngineLimits}
 use Rattle.endgame_run.specs.Calc.{RunsCalc}
 use Rattle.endgame_run.specs.Engine.{RunsEngine}
 use Rattle.endgame_run.specs.File.{dash, told_of}
-use Rattle.endgame_run.specs.Game.{PlaysFile}
+use Rattle.endgame_run.specs.Game.{PlaysFile, question_of_game}
 use Rattle.endgame_run.specs.Limits.{engine_limits, limits_of}
 use Rattle.endgame_run.specs.Output.{CountsWrites, HasCauses, HasReason, HoldsSession, IsDecided, IsPart, RefusesNoJob, WritesPart}
 use Rattle.endgame_run.specs.Question.{AnswersQuestion, AreToldSteps, IsAnswer}
@@ -54,10 +54,11 @@ module _ {H S K : Type 0} (o : Outside H S K) (job : Job) (a : Desk H S K) (stat
   pub question_runs : (q : Question) (limits : Limits) (word : List ℕ) → job.task ≡ ask q word → limits ≡ limits_of job → AnswersQuestion o q limits job.settings word a status b → Runs o job a status b
   question_runs q limits word is same h = subst (λ t. RunsTask o t job a status b) (sym is) (subst (λ l. AnswersQuestion o q l job.settings word a status b) same h)
 
-  pub game_runs : (limits : Limits) (given : Option Colour) (word : List ℕ) → job.task ≡ play word → limits ≡ limits_of job → given ≡ job.engine
-      → PlaysFile o limits given job.settings word a status b → Runs o job a status b
-  game_runs limits given word is same own h =
-      subst (λ t. RunsTask o t job a status b) (sym is) (subst (λ l. PlaysFile o l job.engine job.settings word a status b) same (subst (λ c. PlaysFile o limits c job.settings word a status b) own h))
+  pub game_runs : (limits : Limits) (cycles : Bool) (given : Option Colour) (word : List ℕ) → job.task ≡ play word → limits ≡ limits_of job → cycles ≡ job.cycles
+      → given ≡ job.engine → PlaysFile o limits cycles given job.settings word a status b → Runs o job a status b
+  game_runs limits cycles given word is same kos own h =
+      subst (λ t. RunsTask o t job a status b) (sym is) (subst (λ l. PlaysFile o l job.cycles job.engine job.settings word a status b) same
+      (subst (λ k. PlaysFile o limits k job.engine job.settings word a status b) kos (subst (λ c. PlaysFile o limits cycles c job.settings word a status b) own h)))
 
   pub trial_runs : (number : ℕ) → job.task ≡ trial number → RunsTrial o number a status b → Runs o job a status b
   trial_runs number is h = subst (λ t. RunsTask o t job a status b) (sym is) h
@@ -75,6 +76,12 @@ module _ (job : Job) (i : Input) (before now : ℕ) where
   pub question_steps : (q : Question) (limits : Limits) (word : List ℕ) → job.task ≡ ask q word → limits ≡ limits_of job → AreToldSteps q limits (told_of i word) job.settings before now
       → AreTaskSteps job.task job i before now
   question_steps q limits word is same h = task_steps (ask q word) is (subst (λ l. AreToldSteps q l (told_of i word) job.settings before now) same h)
+
+  pub game_steps : (cycles : Bool) (limits : Limits) (word : List ℕ) → job.task ≡ play word → limits ≡ limits_of job → cycles ≡ job.cycles
+      → AreToldSteps (question_of_game cycles) limits (told_of i word) job.settings before now → AreTaskSteps job.task job i before now
+  game_steps cycles limits word is same kos h =
+      task_steps (play word) is (subst (λ l. AreToldSteps (question_of_game job.cycles) l (told_of i word) job.settings before now) same
+      (subst (λ k. AreToldSteps (question_of_game k) limits (told_of i word) job.settings before now) kos h))
 
 -- the text as it was lent
 pub finishes_as : (s : Status) (t text : List ℕ) (w x : ℕ) (before now : Option (List ℕ)) (status : Status) → t ≡ text → Finishes s t w x before now status → Finishes s text w x before now status

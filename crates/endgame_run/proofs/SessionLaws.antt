@@ -1,10 +1,13 @@
 -- How a session and the line of a fault behind it make the run of a game.
 use Rattle.std.proofs.Common.{append_assoc, length, length-append, ◌≡◌, ◌≢◌, ◌≤◌, ◌++◌, ◌⊎◌, ℕ, inl, inr, refl, sym, ap, subst, ◌∙◌, arith, List, [], Some, None}
-use Rattle.std.specs.Prelude.{Option, IfSome, take, codes}
+use Rattle.std.specs.Prelude.{Bool, true, false, Option, IfSome, take, codes}
 use Rattle.std.specs.Io.KnownBytes.{append_known}
 use Rattle.desk_io.specs.Outside.{Rose}
 use Rattle.go_grid.specs.declared.grid.Colour.{Colour}
-use Rattle.whole_rules.specs.WholeGame.{Whole}
+use Rattle.engine_player.specs.EngineGame.{EngineGame}
+use Rattle.engine_player.specs.Opening.{OpensGame}
+use Rattle.engine_player.specs.Room.{CanTake, MayHaveMovesLeft}
+use Rattle.play_session.specs.declared.session.TheConstants.{MOST_TURNS}
 use Rattle.whole_rules.specs.FirstWinningMove.{IsWinner}
 use Rattle.play_session.specs.declared.end.SessionEnd.{SessionEnd}
 use Rattle.play_session.specs.declared.end.SessionEnd.TheVariants as end
@@ -13,7 +16,7 @@ use Rattle.play_session.specs.Written.{IsPlayed, IsUnread, Played, Session, stan
 use Rattle.endgame_run.specs.declared.status.Status.{Status}
 use Rattle.endgame_run.specs.declared.status.Status.TheVariants.{CannotRead, CannotWrite, Done, Memory, TooManyLines}
 use Rattle.endgame_run.specs.declared.status.Status.TheVariants as status
-use Rattle.endgame_run.specs.Game.{IsGameWritten, IsGameOver, IsPlayRun, IsPlayedGame, IsSessionOf, IsSessionStatus, IsStopped, game_beginning}
+use Rattle.endgame_run.specs.Game.{IsGameWritten, IsGameOver, IsPlayRun, IsPlayedGame, IsSessionOf, IsSessionStatus, IsStopped, game_beginning, question_of_game}
 use Rattle.endgame_run.specs.File.{TakesAtMost, most_of_game}
 use Rattle.endgame_run.specs.Written.{Finishes}
 use Rattle.desk_io.specs.Desk.{Input, Known}
@@ -21,24 +24,24 @@ use Rattle.desk_io.specs.Lines.{UsesLines}
 use Rattle.endgame_solver.specs.declared.limits.Limits.{Limits}
 use Rattle.endgame_run.specs.declared.question.Opened.{Opened}
 use Rattle.endgame_run.specs.declared.question.Opened.TheVariants.{Fault, Game}
-use Rattle.gd_words.specs.declared.job.Question.TheVariants.{Solve}
 use Rattle.endgame_run.specs.declared.question.Report.{Report}
 use Rattle.endgame_run.specs.Question.{IsAnswer}
 use Rattle.endgame_run.specs.inner.Top.{IsOpened}
 use Rattle.sgf_go.specs.declared.settings.Settings.{Settings}
+use Rattle.sgf_go.specs.declared.settings.Setup.{Setup}
 
 -- a session that holds nothing begins with the bytes of the source
-begins_here : (session : Session) (bytes : List ℕ) → session.held ≡ [] → standing session 0 bytes ≡ game_beginning session.state bytes
-begins_here session bytes e = ap (λ held. record { state = session.state; read = 0; left = held ++ bytes }) e
+begins_here : (session : Session) (bytes : List ℕ) → session.held ≡ [] → standing session 0 bytes ≡ game_beginning session.game bytes
+begins_here session bytes e = ap (λ held. record { game = session.game; read = 0; left = held ++ bytes }) e
 
 -- a session that ended by itself
 session_of : (engine : Colour) (session new : Session) (bytes : List ℕ) (before now left : Option (List ℕ)) (final : SessionEnd) → session.held ≡ []
-    → IsPlayed engine (standing session 0 bytes) before now final new left → (text : List ℕ) × IsSessionOf engine session.state bytes final text × (now ≡ append_known before text)
+    → IsPlayed engine (standing session 0 bytes) before now final new left → (text : List ℕ) × IsSessionOf engine session.game bytes final text × (now ≡ append_known before text)
 session_of engine session new bytes before now left final e p =
     (p.text, (standing new p.read p.rest, subst (λ a. IsSession engine a p.text (standing new p.read p.rest) final) (begins_here session bytes e) p.played), p.written)
 
 pub over_written : (engine : Colour) (session new : Session) (bytes : List ℕ) (before now left : Option (List ℕ)) (final : SessionEnd) → session.held ≡ [] → IsGameOver final
-    → (IsWinner session.state engine → final ≢ end.Lost) → IsPlayed engine (standing session 0 bytes) before now final new left → IsGameWritten engine session.state bytes before now Done
+    → (IsWinner session.game.state engine → final ≢ end.Lost) → IsPlayed engine (standing session 0 bytes) before now final new left → IsGameWritten engine session.game bytes before now Done
 over_written engine session new bytes before now left final e over kept p =
     let h = session_of engine session new bytes before now left final e p in (final, h.0, over, kept, h.1, h.2)
 
@@ -62,8 +65,8 @@ told_written P None h = tt
 told_written P (Some bytes) h = h bytes refl
 
 pub over_run : (engine : Colour) (session new : Session) (left rest : Option (List ℕ)) (reads reads_now writes writes_now : ℕ) (before now : Option (List ℕ)) (final : SessionEnd) → session.held ≡ [] → IsGameOver final
-    → (IsWinner session.state engine → final ≢ end.Lost) → ((bytes : List ℕ) → left ≡ Some bytes → Played engine (standing session 0 bytes) before now final new rest)
-    → IsPlayRun engine session.state left reads reads_now writes writes_now before now Done
+    → (IsWinner session.game.state engine → final ≢ end.Lost) → ((bytes : List ℕ) → left ≡ Some bytes → Played engine (standing session 0 bytes) before now final new rest)
+    → IsPlayRun engine session.game left reads reads_now writes writes_now before now Done
 over_run engine session new left rest reads reads_now writes writes_now before now final e over kept p = record {
   begun = tt;
   read = λ d. absurd cc;
@@ -76,7 +79,7 @@ pub behind : (before : Option (List ℕ)) (text line : List ℕ) → append_know
 behind None text line = refl
 behind (Some b) text line = ap Some (append_assoc b text line)
 
-stopped_whole : (engine : Colour) (s : Whole) (bytes : List ℕ) (before now : Option (List ℕ)) (fault : Status) (text line : List ℕ) → IsStopped engine s bytes fault text line
+stopped_whole : (engine : Colour) (s : EngineGame) (bytes : List ℕ) (before now : Option (List ℕ)) (fault : Status) (text line : List ℕ) → IsStopped engine s bytes fault text line
     → now ≡ append_known before (text ++ line) → IsGameWritten engine s bytes before now fault
 stopped_whole engine s bytes before now CannotRead text line h e = (text, line, h, e)
 stopped_whole engine s bytes before now TooManyLines text line h e = (text, line, h, e)
@@ -97,7 +100,7 @@ pub rose_later : (a b c : ℕ) → a ≤ b → Rose b c → Rose a c
 rose_later a b c le rose = omega (arith, le, rose)
 
 -- the line of a fault was written behind the session, or a front part of it
-pub stopped_run : (engine : Colour) (s : Whole) (left : Option (List ℕ)) (reads reads_now writes writes_mid writes_now : ℕ) (before mid now : Option (List ℕ)) (fault result : Status) (line : List ℕ)
+pub stopped_run : (engine : Colour) (s : EngineGame) (left : Option (List ℕ)) (reads reads_now writes writes_mid writes_now : ℕ) (before mid now : Option (List ℕ)) (fault result : Status) (line : List ℕ)
     → IsSessionStatus fault → fault ≢ CannotWrite → (fault ≡ CannotRead → Rose reads reads_now) → writes ≤ writes_mid
     → ((bytes : List ℕ) → left ≡ Some bytes → (text : List ℕ) × IsStopped engine s bytes fault text line × (mid ≡ append_known before text))
     → Finishes fault line writes_mid writes_now mid now result → IsPlayRun engine s left reads reads_now writes writes_now before now result
@@ -118,7 +121,7 @@ stopped_run engine s left reads reads_now writes writes_mid writes_now before mi
 
 pub read_stops : (engine : Colour) (session new : Session) (left rest : Option (List ℕ)) (before mid : Option (List ℕ)) → session.held ≡ []
     → ((bytes : List ℕ) → left ≡ Some bytes → IsUnread engine (standing session 0 bytes) before mid new rest)
-    → (bytes : List ℕ) → left ≡ Some bytes → (text : List ℕ) × IsStopped engine session.state bytes CannotRead text (codes "fault cannot read\n") × (mid ≡ append_known before text)
+    → (bytes : List ℕ) → left ≡ Some bytes → (text : List ℕ) × IsStopped engine session.game bytes CannotRead text (codes "fault cannot read\n") × (mid ≡ append_known before text)
 read_stops engine session new left rest before mid e p bytes is =
     let h = p bytes is in
     let b = standing new h.read h.rest in
@@ -126,7 +129,7 @@ read_stops engine session new left rest before mid e p bytes is =
 
 pub lines_stop : (engine : Colour) (session new : Session) (left rest : Option (List ℕ)) (before mid : Option (List ℕ)) → session.held ≡ []
     → ((bytes : List ℕ) → left ≡ Some bytes → IsPlayed engine (standing session 0 bytes) before mid end.TooManyLines new rest)
-    → (bytes : List ℕ) → left ≡ Some bytes → (text : List ℕ) × IsStopped engine session.state bytes TooManyLines text (codes "fault lines\n") × (mid ≡ append_known before text)
+    → (bytes : List ℕ) → left ≡ Some bytes → (text : List ℕ) × IsStopped engine session.game bytes TooManyLines text (codes "fault lines\n") × (mid ≡ append_known before text)
 lines_stop engine session new left rest before mid e p bytes is = let h = session_of engine session new bytes before mid rest end.TooManyLines e (p bytes is) in (h.0, (h.1, refl), h.2)
 
 -- what a session took of its source
@@ -136,14 +139,25 @@ lines_taken session held before now none used few = λ bytes e.
     (u.0 ++ held, u.1, u.2, ap (λ l. l ++ bytes) (sym none) ∙ u.3 ∙ sym (append_assoc u.0 held u.1), omega (arith, u.4, few, length-append u.0 held))
 
 -- a game that was opened, over lines that were not read for it
-pub opened_game : (limits : Limits) (given : Option Colour) (settings : Settings) (word : List ℕ) (a b : Known) (j : Input) (status : Status) (opened : Opened) (session : Session)
-    → opened ≡ Game session → IsOpened limits given settings word a.input j opened
-    → IsPlayRun session.engine session.state a.input.left a.input.reads b.input.reads a.writes b.writes a.holds b.holds status → IsPlayedGame limits given settings word a status b
-opened_game limits given settings word a b j status opened session e h run =
-    let k : IsOpened limits given settings word a.input j (Game session) = subst (IsOpened limits given settings word a.input j) e h in
-    (session.engine, session.state, k.0, run)
+pub opened_game : (limits : Limits) (cycles : Bool) (given : Option Colour) (settings : Settings) (word : List ℕ) (a b : Known) (j : Input) (status : Status) (opened : Opened) (session : Session)
+    → opened ≡ Game session → IsOpened limits cycles given settings word a.input j opened
+    → IsPlayRun session.engine session.game a.input.left a.input.reads b.input.reads a.writes b.writes a.holds b.holds status → IsPlayedGame limits cycles given settings word a status b
+opened_game limits cycles given settings word a b j status opened session e h run =
+    let k : IsOpened limits cycles given settings word a.input j (Game session) = subst (IsOpened limits cycles given settings word a.input j) e h in
+    (session.engine, session.game, k.0, run)
+
+-- a game that begins has room for all turns of a session
+begins_with_room : (cycles : Bool) (limits : Limits) (setup : Setup) (p : EngineGame) → OpensGame cycles limits setup p → CanTake MOST_TURNS p
+begins_with_room false limits setup p (playable, is) = subst (MayHaveMovesLeft MOST_TURNS) (sym is) tt
+begins_with_room true limits setup p (keeping, begins, is) = subst (MayHaveMovesLeft MOST_TURNS) (sym is) (omega (arith, begins.5))
+
+pub opened_room : (limits : Limits) (cycles : Bool) (given : Option Colour) (settings : Settings) (word : List ℕ) (i j : Input) (opened : Opened) (session : Session)
+    → opened ≡ Game session → IsOpened limits cycles given settings word i j opened → CanTake MOST_TURNS session.game
+opened_room limits cycles given settings word i j opened session e h =
+    let k : IsOpened limits cycles given settings word i j (Game session) = subst (IsOpened limits cycles given settings word i j) e h in
+    begins_with_room cycles limits k.0.setup session.game k.0.playable
 
 -- what keeps a game from being begun
-pub opened_fault : (limits : Limits) (given : Option Colour) (settings : Settings) (word : List ℕ) (i j : Input) (opened : Opened) (report : Report) → opened ≡ Fault report
-    → IsOpened limits given settings word i j opened → IsAnswer Solve limits settings word i j report.status report.text × (report.status ≢ Done)
-opened_fault limits given settings word i j opened report e h = subst (IsOpened limits given settings word i j) e h
+pub opened_fault : (limits : Limits) (cycles : Bool) (given : Option Colour) (settings : Settings) (word : List ℕ) (i j : Input) (opened : Opened) (report : Report) → opened ≡ Fault report
+    → IsOpened limits cycles given settings word i j opened → IsAnswer (question_of_game cycles) limits settings word i j report.status report.text × (report.status ≢ Done)
+opened_fault limits cycles given settings word i j opened report e h = subst (IsOpened limits cycles given settings word i j) e h

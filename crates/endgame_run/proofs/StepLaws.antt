@@ -11,7 +11,7 @@ use Rattle.sgf_go.proofs.OneReadingLemmas.{one_setup}
 use Rattle.board_gen.proofs.OneBoardLemmas.{one_board}
 use Rattle.gd_words.specs.Job.{Job}
 use Rattle.gd_words.specs.declared.job.Question.{Question}
-use Rattle.gd_words.specs.declared.job.Question.TheVariants.{Solve}
+use Rattle.endgame_run.specs.Game.{question_of_game}
 use Rattle.gd_words.specs.Task.{NeedsRegions, Task}
 use Rattle.gd_words.specs.Task.Task.{ask, calc, gtp, play, trial}
 use Rattle.region_cut.specs.Cut.{AreRegionsOfPlay}
@@ -54,7 +54,7 @@ module _ (job : Job) (i : Input) (limits : Limits) (setup : Setup) (regions : Li
 
   few : (task : Task) → AreTaskSteps task job i before now → IsAbout task job i limits setup → now ≤ before + most_steps limits regions
   few (ask q w) s (inl h) = by_file q w h s
-  few (play w) s (inl h) = by_file Solve w h s
+  few (play w) s (inl h) = by_file (question_of_game job.cycles) w h s
   few (trial n) s (inl h) = absurd cc
   few (calc e) s (inl h) = absurd cc
   few gtp s (inl h) = absurd cc

@@ -16,6 +16,7 @@ use Rattle.endgame_solver.specs.declared.faults.SolveError.TheVariants.{Points, 
 use Rattle.endgame_solver.specs.declared.faults.SolveError.TheVariants as error
 use Rattle.endgame_run.specs.File.{TakesAtMost, dash, told_of}
 use Rattle.endgame_run.specs.Found.{IsPositionOf}
+use Rattle.endgame_run.specs.Game.{question_of_game}
 use Rattle.endgame_run.specs.Question.{IsPositionAnswer, IsQuestionRefused, IsVerdict}
 use Rattle.endgame_run.specs.Refusal.{HasStatus, IsRefused}
 use Rattle.endgame_run.specs.declared.question.Found.{Found}
@@ -85,11 +86,16 @@ refused_answer q limits setup s text plain needs r = go (is_refusal r.fault s r.
   go (inr (inr e)) = (at status.FormLimit (λ x. x) e, λ d. absurd cc)
 
 -- a position that was begun, or refused, of a file
-pub begun_opened : (limits : Limits) (given : Option Colour) (settings : Settings) (word : List ℕ) (i j : Input) (setup : Setup) (opened : Opened)
-    → IsPositionOf (told_of i word) settings setup → IsBegun limits given setup opened → IsOpened limits given settings word i j opened
-begun_opened limits given settings word i j setup (opened.Game session) p h = (record { setup = setup; position = p; playable = h.0; colour = h.1 }, h.2)
-begun_opened limits given settings word i j setup (opened.Fault report) p r =
-    let h = refused_answer Solve limits setup report.status report.text tt tt r in (position_answer Solve limits _ _ _ settings setup report.status report.text p h.0, h.1)
+pub begun_opened : (limits : Limits) (cycles : Bool) (given : Option Colour) (settings : Settings) (word : List ℕ) (i j : Input) (setup : Setup) (opened : Opened)
+    → IsPositionOf (told_of i word) settings setup → IsBegun limits cycles given setup opened → IsOpened limits cycles given settings word i j opened
+begun_opened limits cycles given settings word i j setup (opened.Game session) p h = (record { setup = setup; position = p; settled = h.0; playable = h.1; colour = h.2 }, h.3)
+begun_opened limits cycles given settings word i j setup (opened.Fault report) p r =
+    (position_answer (question_of_game cycles) limits _ _ _ settings setup report.status report.text p r.0, r.1)
+
+-- a game needs the regions
+pub game_needs : (cycles : Bool) → NeedsRegions (question_of_game cycles)
+game_needs false = tt
+game_needs true = tt
 
 pub told_is : (before now : Option (List ℕ)) (file : List ℕ) → IsWhole before now file → IsTold (told_source before) file
 told_is None now file w = tt

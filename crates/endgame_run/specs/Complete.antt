@@ -21,13 +21,13 @@ use Rattle.endgame_solver.specs.Faults.{AreSound}
 use Rattle.endgame_solver.specs.Regions.{region_at}
 use Rattle.report.specs.Values.{HasShownValue}
 use Rattle.play_session.specs.declared.end.SessionEnd.TheVariants as end
-use Rattle.gtp_engine.specs.declared.end.GtpEnd.TheVariants as gtp_end
+use Rattle.gtp_words.specs.declared.end.GtpEnd.TheVariants as gtp_end
 use Rattle.endgame_run.specs.Cycles.{IsSteadyFor}
 use Rattle.endgame_run.specs.Engine.{AreFailedLoads, IsEngineSession}
 use Rattle.endgame_run.specs.File.{told_of}
-use Rattle.endgame_run.specs.Game.{IsGame, IsSessionOf}
+use Rattle.endgame_run.specs.Game.{IsGame, IsSessionOf, question_of_game}
 use Rattle.go_grid.specs.declared.grid.Colour.{Colour}
-use Rattle.whole_rules.specs.WholeGame.{Whole}
+use Rattle.engine_player.specs.EngineGame.{EngineGame}
 use Rattle.endgame_run.specs.Limits.{engine_limits, limits_of}
 use Rattle.endgame_run.specs.Run.{Runs}
 use Rattle.endgame_run.specs.declared.status.Status.{Status}
@@ -65,7 +65,7 @@ IsDone status = (status ≡ Done) ⊎ (status ≡ Memory)
 
 -- 10,000 lines were read of a game, and its session over the bytes ends so
 abbrev pub HasManyLines : Job → List ℕ → Known → Status → Type 0
-HasManyLines job word a status = (status ≡ TooManyLines) × ((engine : Colour) × (s : Whole) × IsGame (limits_of job) job.engine job.settings word a.input engine s
+HasManyLines job word a status = (status ≡ TooManyLines) × ((engine : Colour) × (s : EngineGame) × IsGame (limits_of job) job.cycles job.engine job.settings word a.input engine s
     × IfSome a.input.left (λ bytes. (text : List ℕ) × IsSessionOf engine s bytes end.TooManyLines text))
 
 -- 10,000 lines were read of a session of the engine, which over the bytes ends so
@@ -81,7 +81,7 @@ IsUnrefused limit expression = ((fault : CalcFault) → ¬ IsCalcRefusal limit e
 -- a load that fails keeps the engine from nothing.
 abbrev pub IsComplete : Task → Job → Known → Status → Known → Type 0
 IsComplete (ask question word) job a status b = IsAnswerable question (limits_of job) job.settings word a b → IsDone status
-IsComplete (play word) job a status b = IsAnswerable Solve (limits_of job) job.settings word a b → IsDone status ⊎ HasManyLines job word a status
+IsComplete (play word) job a status b = IsAnswerable (question_of_game job.cycles) (limits_of job) job.settings word a b → IsDone status ⊎ HasManyLines job word a status
 IsComplete (trial number) job a status b = ¬ Rose a.writes b.writes → IsDone status
 IsComplete (calc expression) job a status b = IsUnrefused job.parts expression → ¬ Rose a.writes b.writes → IsDone status
 IsComplete gtp job a status b = ¬ Rose a.input.reads b.input.reads → ¬ Rose a.writes b.writes → IsDone status ⊎ HasManyCommands job a status b

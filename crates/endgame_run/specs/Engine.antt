@@ -6,8 +6,8 @@ use Rattle.desk_io.specs.Desk.{Desk, Known, Outside, known}
 use Rattle.desk_io.specs.Files.{Files}
 use Rattle.desk_io.specs.Outside.{Rose}
 use Rattle.gtp_engine.specs.declared.limits.EngineLimits.{EngineLimits}
-use Rattle.gtp_engine.specs.declared.end.GtpEnd.{GtpEnd}
-use Rattle.gtp_engine.specs.declared.end.GtpEnd.TheVariants as end
+use Rattle.gtp_words.specs.declared.end.GtpEnd.{GtpEnd}
+use Rattle.gtp_words.specs.declared.end.GtpEnd.TheVariants as end
 use Rattle.gtp_engine.specs.Session.{GtpStanding, IsGtpSession, WaitsToReply, BreaksOffReply, beginning}
 use Rattle.gtp_engine.specs.Written.{RoseBy}
 use Rattle.endgame_run.specs.File.{TakesAtMost, most_of_engine}

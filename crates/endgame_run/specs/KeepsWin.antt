@@ -7,20 +7,21 @@ use Rattle.gd_words.specs.Task.{Task}
 use Rattle.gd_words.specs.Task.Task.{gtp, play}
 use Rattle.gtp_engine.specs.Laws.{MoveKeepsWin}
 use Rattle.whole_rules.specs.FirstWinningMove.{IsWinner}
-use Rattle.whole_rules.specs.WholeGame.{Whole}
-use Rattle.endgame_run.specs.Game.{IsGame, IsUnplayed, IsWonGame}
+use Rattle.engine_player.specs.EngineGame.{EngineGame}
+use Rattle.endgame_run.specs.Game.{IsGame, IsUnplayed, IsWonGame, WinsFromThere}
 use Rattle.endgame_run.specs.Limits.{limits_of}
 use Rattle.endgame_run.specs.Run.{Runs}
 use Rattle.endgame_run.specs.declared.status.Status.{Status}
 
--- a game of the file of the word was played, and where the engine wins at its opening it keeps its win
+-- a game of the file of the word was played; where the engine wins at its opening it keeps its win, and from a later state that it wins too
 abbrev pub PlaysWon : Job → List ℕ → Known → Known → Type 0
-PlaysWon job word a b = (engine : Colour) × (s : Whole) × IsGame (limits_of job) job.engine job.settings word a.input engine s
-    × (IsWinner s engine → IfSome a.input.left (λ bytes. IsWonGame engine s bytes a.holds b.holds))
+PlaysWon job word a b = (engine : Colour) × (s : EngineGame) × IsGame (limits_of job) job.cycles job.engine job.settings word a.input engine s
+    × (IsWinner s.state engine → IfSome a.input.left (λ bytes. IsWonGame engine s bytes a.holds b.holds))
+    × ((bytes : List ℕ) → WinsFromThere engine s bytes)
 
 -- no game was begun, or one in which the engine keeps what it has won; in each session of the engine a move keeps it
 abbrev pub KeepsWin : Task → Job → Known → Status → Known → Type 0
-KeepsWin (play word) job a status b = IsUnplayed (limits_of job) job.settings word a status b ⊎ PlaysWon job word a b
+KeepsWin (play word) job a status b = IsUnplayed (limits_of job) job.cycles job.settings word a status b ⊎ PlaysWon job word a b
 KeepsWin gtp job a status b = MoveKeepsWin
 KeepsWin task job a status b = ⊤
 

@@ -10,7 +10,7 @@ use Rattle.endgame_solver.specs.declared.faults.SolveError.{SolveError}
 use Rattle.endgame_solver.specs.Faults.{AreRefused, AreSound}
 use Rattle.region_cut.specs.Cut.{AreRegionsOfPlay}
 use Rattle.endgame_run.specs.declared.status.Status.{Status}
-use Rattle.whole_rules.specs.WholeGame.{Whole}
+use Rattle.engine_player.specs.EngineGame.{EngineGame}
 use Rattle.endgame_run.specs.declared.status.Status.TheVariants.{Done, FormLimit, TooManyLines}
 use Rattle.gd_words.specs.Task.{NeedsRegions, TakesNoCycles}
 use Rattle.gd_words.specs.declared.job.CycleQuestion.{CycleQuestion}
@@ -78,6 +78,6 @@ RefusesUnsteady = (question : CycleQuestion) (limits : Limits) (setup : Setup) (
 
 -- a game over these bytes that no read and no write broke off has one status and one text
 abbrev pub HasOneGame : Type 0
-HasOneGame = (engine : Colour) (s : Whole) (bytes : List ℕ) (p q : Status) (before now new : Option (List ℕ)) → length s.board.cells ≤ MOST_POINTS
+HasOneGame = (engine : Colour) (s : EngineGame) (bytes : List ℕ) (p q : Status) (before now new : Option (List ℕ)) → length s.state.board.cells ≤ MOST_POINTS
     → (p ≡ Done) ⊎ (p ≡ TooManyLines) → (q ≡ Done) ⊎ (q ≡ TooManyLines)
     → IsGameWritten engine s bytes before now p → IsGameWritten engine s bytes before new q → (p ≡ q) × (now ≡ new)

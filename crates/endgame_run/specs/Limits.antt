@@ -7,6 +7,6 @@ use Rattle.gtp_engine.specs.declared.limits.EngineLimits.{EngineLimits}
 abbrev pub limits_of : Job → Limits
 limits_of job = record { positions = job.positions; parts = job.parts; tax = job.tax }
 
--- the limits of an engine, and whether points are declared
+-- the limits of an engine, and whether points are declared and cycles admitted
 abbrev pub engine_limits : Job → EngineLimits
-engine_limits job = record { positions = job.positions; parts = job.parts; territory = job.settings.territory }
+engine_limits job = record { positions = job.positions; parts = job.parts; territory = job.settings.territory; cycles = job.cycles }

@@ -6,10 +6,9 @@ use Rattle.desk_io.specs.Outside.{Rose}
 use Rattle.gd_words.specs.Job.{Job, SayNoJob}
 use Rattle.gd_words.specs.Task.{Task}
 use Rattle.gd_words.specs.Task.Task.{ask, calc, gtp, play, trial}
-use Rattle.gd_words.specs.declared.job.Question.TheVariants.{Solve}
 use Rattle.endgame_run.specs.Calc.{IsCalc}
 use Rattle.endgame_run.specs.Engine.{IsEnginePlay}
-use Rattle.endgame_run.specs.Game.{IsPlayedGame}
+use Rattle.endgame_run.specs.Game.{IsPlayedGame, question_of_game}
 use Rattle.endgame_run.specs.Limits.{engine_limits, limits_of}
 use Rattle.endgame_run.specs.Question.{IsAnswer}
 use Rattle.endgame_run.specs.Run.{Runs, RunsWords}
@@ -21,14 +20,14 @@ use Rattle.endgame_run.specs.declared.status.Status.TheVariants.{CannotWrite, Do
 -- from being solved keeps it from being played. A session decides by its turns.
 abbrev pub IsDecided : Task → Job → Input → Input → Status → List ℕ → Type 0
 IsDecided (ask question word) job = IsAnswer question (limits_of job) job.settings word
-IsDecided (play word) job = λ i j s text. IsAnswer Solve (limits_of job) job.settings word i j s text × (s ≢ Done)
+IsDecided (play word) job = λ i j s text. IsAnswer (question_of_game job.cycles) (limits_of job) job.settings word i j s text × (s ≢ Done)
 IsDecided (trial number) job = λ i j. IsTrialAnswer number
 IsDecided (calc expression) job = λ i j. IsCalc job.parts expression
 IsDecided gtp job = λ i j s text. ⊥
 
 -- a session was held: a game that was begun, or one of the engine
 abbrev pub HoldsSession : Task → Job → Known → Status → Known → Type 0
-HoldsSession (play word) job = IsPlayedGame (limits_of job) job.engine job.settings word
+HoldsSession (play word) job = IsPlayedGame (limits_of job) job.cycles job.engine job.settings word
 HoldsSession gtp job = IsEnginePlay (engine_limits job)
 HoldsSession task job = λ a status b. ⊥
 

@@ -4,11 +4,10 @@ use Rattle.desk_io.specs.Desk.{Desk, Input, Outside}
 use Rattle.gd_words.specs.Job.{IsOnlyJob, Job, SayNoJob}
 use Rattle.gd_words.specs.Task.{Task}
 use Rattle.gd_words.specs.Task.Task.{ask, calc, gtp, play, trial}
-use Rattle.gd_words.specs.declared.job.Question.TheVariants.{Solve}
 use Rattle.endgame_run.specs.Calc.{RunsCalc}
 use Rattle.endgame_run.specs.Engine.{RunsEngine}
 use Rattle.endgame_run.specs.File.{told_of}
-use Rattle.endgame_run.specs.Game.{PlaysFile}
+use Rattle.endgame_run.specs.Game.{PlaysFile, question_of_game}
 use Rattle.endgame_run.specs.Limits.{engine_limits, limits_of}
 use Rattle.endgame_run.specs.Question.{AnswersQuestion, AreToldSteps}
 use Rattle.endgame_run.specs.Trial.{AreTrialSteps, RunsTrial}
@@ -20,7 +19,7 @@ module _ {H S K : Type 0} (o : Outside H S K) where
   -- what a run for a task comes to, with the settings and the limits of its job
   abbrev pub RunsTask : Task → Job → Desk H S K → Status → Desk H S K → Type 0
   RunsTask (ask question word) job = AnswersQuestion o question (limits_of job) job.settings word
-  RunsTask (play word) job = PlaysFile o (limits_of job) job.engine job.settings word
+  RunsTask (play word) job = PlaysFile o (limits_of job) job.cycles job.engine job.settings word
   RunsTask (trial number) job = RunsTrial o number
   RunsTask (calc expression) job = RunsCalc o job.parts expression
   RunsTask gtp job = RunsEngine o (engine_limits job)
@@ -42,7 +41,7 @@ module _ {H S K : Type 0} (o : Outside H S K) where
 -- the steps of a run for a task; no number is said of those of the engine
 abbrev pub AreTaskSteps : Task → Job → Input → ℕ → ℕ → Type 0
 AreTaskSteps (ask question word) job i = AreToldSteps question (limits_of job) (told_of i word) job.settings
-AreTaskSteps (play word) job i = AreToldSteps Solve (limits_of job) (told_of i word) job.settings
+AreTaskSteps (play word) job i = AreToldSteps (question_of_game job.cycles) (limits_of job) (told_of i word) job.settings
 AreTaskSteps (trial number) job i = AreTrialSteps number
 AreTaskSteps (calc expression) job i = λ before now. now ≡ before
 AreTaskSteps gtp job i = λ before now. Unit {0}

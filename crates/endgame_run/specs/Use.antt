@@ -27,7 +27,7 @@ most_of task = 0
 module _ {H S K : Type 0} (o : Outside H S K) where
   -- what a task does to the source: it is unread where a file of the shelf is asked about and where none is, and where no game is begun
   abbrev pub TouchesLines : Task → Job → Desk H S K → Status → Desk H S K → Type 0
-  TouchesLines (play word) job a status b = (b.lines ≡ a.lines) ⊎ IsPlayedGame (limits_of job) job.engine job.settings word (known o a) status (known o b)
+  TouchesLines (play word) job a status b = (b.lines ≡ a.lines) ⊎ IsPlayedGame (limits_of job) job.cycles job.engine job.settings word (known o a) status (known o b)
   TouchesLines gtp job a status b = ⊤
   TouchesLines (ask question word) job a status b = word ≢ dash → b.lines ≡ a.lines
   TouchesLines task job a status b = b.lines ≡ a.lines

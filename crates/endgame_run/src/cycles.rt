@@ -19,6 +19,7 @@ use crate::solving::unshown;
 use crate::status::Status;
 use cycle_solver::{CycleError, CycleGame};
 use endgame_solver::Limits;
+use engine_player::MOST_CAPTURES;
 use game_text::Text;
 use gd_words::CycleQuestion;
 use go_grid::Size;
@@ -29,11 +30,8 @@ use sgf_go::Setup;
 use std::alloc::{AllocError, Global};
 use std::sync::ledger::Ledger;
 
-/// Each region is to be steady for both colours with at most so many captures that return.
-const MOST_CAPTURES: u8 = 32;
-
 /// The report on a fault of the regions.
-fn refused_with_cycles(
+pub(crate) fn refused_with_cycles(
     alloc: Global,
     size: Size,
     limits: &Limits,

@@ -2,22 +2,22 @@
 
 ghost use Rattle.std.specs.Prelude.{◌≡◌, ◌≢◌, ◌≤◌, [], true, false, IfOk};
 ghost use Rattle.desk_io.specs.Desk.{IsLater, desk, input_of, known, outside};
+ghost use Rattle.engine_player.specs.Room.{CanTake};
 ghost use Rattle.endgame_run.specs.File.{ReadsFile, TakesAtMost, dash, most_of_game, told_of};
-ghost use Rattle.endgame_run.specs.Game.{IsPlayRun, PlaysFile};
+ghost use Rattle.endgame_run.specs.Game.{IsPlayRun, PlaysFile, question_of_game};
 ghost use Rattle.endgame_run.specs.Question.{AreToldSteps};
-ghost use Rattle.gd_words.specs.declared.job.Question.TheVariants.{Solve};
 ghost use Rattle.endgame_run.specs.inner.Found.{HasRanges};
 ghost use Rattle.endgame_run.specs.inner.Top.{IsOpened};
 
 use crate::ending::finish;
 use crate::finding::find_position;
+use crate::opening::begin;
 use crate::question::{Found, Match, Opened};
-use crate::solving::begin;
 use crate::status::Status;
 use desk_io::{Shelf, Sink, Source};
 use local_graph::MOST_POSITIONS;
 use local_play::Steps;
-use play_session::{Session, SessionEnd};
+use play_session::{MOST_TURNS, Session, SessionEnd};
 use sgf_go::Settings;
 use std::alloc::{AllocError, Global};
 use std::sync::ledger::Ledger;
@@ -34,10 +34,10 @@ fn open_game<H: Shelf, S: Source, L: Ledger>(
     requires ranges { HasRanges settings.now }
     requires modest { game.now.limits.positions ≤ MOST_POSITIONS }
     requires untaxed { game.now.limits.tax ≡ true → settings.now.territory ≡ false }
-    ensures opened { IfOk result (IsOpened game.now.limits game.now.engine settings.now
-        game.now.word.now (input_of H.Shelf S.Source shelf.old lines.old)
+    ensures opened { IfOk result (IsOpened game.now.limits game.now.cycles game.now.engine
+        settings.now game.now.word.now (input_of H.Shelf S.Source shelf.old lines.old)
         (input_of H.Shelf S.Source shelf.new lines.new)) }
-    ensures steps { AreToldSteps Solve game.now.limits
+    ensures steps { AreToldSteps (question_of_game game.now.cycles) game.now.limits
         (told_of (input_of H.Shelf S.Source shelf.old lines.old) game.now.word.now)
         settings.now steps.old steps.new }
     ensures reads { ReadsFile H.Shelf S.Source game.now.word.now
@@ -45,7 +45,7 @@ fn open_game<H: Shelf, S: Source, L: Ledger>(
 {
     match find_position(alloc, game.word, settings, shelf, lines)? {
         Found::Position(setup) => {
-            let opened = begin(alloc, &setup, &game.limits, game.engine, steps)?;
+            let opened = begin(alloc, &setup, game, steps)?;
             Ok(opened)
         }
         Found::Fault(report) => Ok(Opened::Fault(report)),
@@ -54,11 +54,12 @@ fn open_game<H: Shelf, S: Source, L: Ledger>(
 
 /// Plays a session over the lines, and writes the line of a fault behind it.
 fn play<S: Source, K: Sink>(session: &mut Session, lines: &mut S, out: &mut K) -> Status
-    requires { session.old.held ≡ [] }
+    requires fresh { session.old.held ≡ [] }
+    requires room { CanTake MOST_TURNS session.old.game }
     ensures takes { TakesAtMost most_of_game (S.left lines.old) (S.left lines.new) }
     ensures later_reads { S.faults lines.old ≤ S.faults lines.new }
     ensures later_writes { K.faults out.old ≤ K.faults out.new }
-    ensures played { IsPlayRun session.old.engine session.old.state (S.left lines.old)
+    ensures played { IsPlayRun session.old.engine session.old.game (S.left lines.old)
         (S.faults lines.old) (S.faults lines.new)
         (K.faults out.old) (K.faults out.new) (K.holds out.old) (K.holds out.new) result }
 {
@@ -84,13 +85,13 @@ pub(crate) fn run_game<H: Shelf, S: Source, K: Sink, L: Ledger>(
     requires modest { game.now.limits.positions ≤ MOST_POSITIONS }
     requires untaxed { game.now.limits.tax ≡ true → settings.now.territory ≡ false }
     requires apart { game.now.word.now ≢ dash }
-    ensures ran { PlaysFile (outside H.Shelf S.Source K.Sink) game.now.limits game.now.engine
-        settings.now game.now.word.now
+    ensures ran { PlaysFile (outside H.Shelf S.Source K.Sink) game.now.limits game.now.cycles
+        game.now.engine settings.now game.now.word.now
         (desk shelf.old lines.old out.old) result (desk shelf.new lines.new out.new) }
     ensures later { IsLater
         (known (outside H.Shelf S.Source K.Sink) (desk shelf.old lines.old out.old))
         (known (outside H.Shelf S.Source K.Sink) (desk shelf.new lines.new out.new)) }
-    ensures steps { AreToldSteps Solve game.now.limits
+    ensures steps { AreToldSteps (question_of_game game.now.cycles) game.now.limits
         (told_of (input_of H.Shelf S.Source shelf.old lines.old) game.now.word.now)
         settings.now steps.old steps.new }
 {

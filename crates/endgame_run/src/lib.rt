@@ -10,6 +10,7 @@ mod file;
 mod finding;
 mod game;
 mod laws;
+mod opening;
 mod program;
 mod question;
 mod refusal;

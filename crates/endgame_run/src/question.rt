@@ -21,6 +21,8 @@ pub(crate) struct Inquiry<'a> {
 #[derive(Clone, Copy)]
 pub(crate) struct Match<'a> {
     pub limits: Limits,
+    /// Whether regions may have cycles.
+    pub cycles: bool,
     pub engine: Option<Colour>,
     pub word: &'a str,
 }

@@ -10,27 +10,26 @@ ghost use Rattle.report.specs.Values.{IsRefusal};
 ghost use Rattle.endgame_run.specs.Refusal.{HasStatus, form_line, refusal_line};
 ghost use Rattle.endgame_run.specs.inner.Refusal.{NamesPoints, NamesRegion};
 ghost use Rattle.gd_words.specs.Task.{NeedsRegions, TakesNoCycles};
-ghost use Rattle.endgame_run.specs.inner.Top.{IsBegun, IsGameReport, IsValuesReport};
+ghost use Rattle.endgame_run.specs.inner.Top.{IsGameReport, IsValuesReport};
 ghost use Rattle.endgame_run.specs.Question.{IsPositionAnswer};
 
 use crate::faults::point_text;
-use crate::question::{Opened, Report};
+use crate::question::Report;
 use crate::refusal::{cycle_text, points_text, positions_text};
 use crate::status::Status;
 use endgame_solver::{Limits, SolveError, Solved};
 use game_text::Text;
 use gd_words::Question;
-use go_grid::{Colour, Size};
+use go_grid::Size;
 use local_graph::MOST_POSITIONS;
 use local_play::Steps;
-use play_session::Session;
 use report::{ValuesError, line_text, margin_text, moves_text, solve_text, values_text};
 use sgf_go::Setup;
 use std::alloc::{AllocError, Global};
 use std::sync::ledger::Ledger;
 
 /// The report on a fault of the regions.
-fn refused(
+pub(crate) fn refused(
     alloc: Global,
     size: Size,
     limits: &Limits,
@@ -149,30 +148,6 @@ pub(crate) fn solve<L: Ledger>(
         Err(fault) => {
             let report = refused(alloc, setup.board.size(), limits, fault)?;
             Ok(report)
-        }
-    }
-}
-
-/// The session of a position that is solved within the limits. The engine has the colour, or else the side to move.
-pub(crate) fn begin<L: Ledger>(
-    alloc: Global,
-    setup: &Setup,
-    limits: &Limits,
-    engine: Option<Colour>,
-    steps: &mut Steps<L>,
-) -> Result<Opened, AllocError>
-    requires fit { IsFit setup.now }
-    requires taxed { MayTax limits.now.tax setup.now.board }
-    requires positions { limits.now.positions ≤ MOST_POSITIONS }
-    ensures begun { IfOk result (IsBegun limits.now engine setup.now) }
-    ensures steps { (regions : List Region) → AreRegionsOfPlay setup.now.board regions
-        → steps.new ≤ steps.old + most_steps limits.now regions }
-{
-    match Solved::begin(alloc, setup, limits, steps) {
-        Ok(solved) => Ok(Opened::Game(Session::new(solved, engine.unwrap_or(setup.side)))),
-        Err(fault) => {
-            let report = refused(alloc, setup.board.size(), limits, fault)?;
-            Ok(Opened::Fault(report))
         }
     }
 }

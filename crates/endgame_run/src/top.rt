@@ -45,6 +45,7 @@ fn limits_of_engine(job: &Job<'_>) -> EngineLimits
         positions: job.positions,
         parts: job.parts,
         territory: job.settings.territory,
+        cycles: job.cycles,
     }
 }
 
@@ -78,6 +79,7 @@ fn asked<'a>(job: &Job<'a>) -> Asked<'a>
         }
         Command::Play(word) => Asked::Game(Match {
             limits: limits(job),
+            cycles: job.cycles,
             engine: job.engine,
             word,
         }),

@@ -48,7 +48,8 @@ pub record AreChoices (task : Task) (words : List (List ℕ)) (chosen : Chosen) 
 abbrev pub TaxTerritory : Chosen → Type 0
 TaxTerritory chosen = (chosen.tax ≡ Some true) × (chosen.territory ≡ Some true)
 
--- a job: what is asked for, of which position, within which limits, with which colour for the engine, and with or without a tax
+-- a job: what is asked for, of which position, within which limits, with which colour for the engine, with or without a tax, and with
+-- cycles admitted or without
 pub record Job : Type 0 where
   pub task : Task
   pub settings : Settings
@@ -56,6 +57,7 @@ pub record Job : Type 0 where
   pub parts : ℕ
   pub engine : Option Colour
   pub tax : Bool
+  pub cycles : Bool
 
 -- the job of a task and its options: what they leave open has its default; with cycles the task is the one that admits them
 abbrev pub job_of : Task → Chosen → Job
@@ -73,6 +75,7 @@ job_of task chosen = record {
   parts = unwrap_or chosen.parts 500;
   engine = chosen.engine;
   tax = unwrap_or chosen.tax false;
+  cycles = unwrap_or chosen.cycles false;
 }
 
 -- the words say the job: those of a task, and then its options, which don't tax declared points

@@ -71,17 +71,17 @@ abbrev pub BeginWith : Task → List (List ℕ) → List (List ℕ) → Type 0
 BeginWith gtp words rest = words ≡ codes "gtp" ∷ rest
 BeginWith task words rest = (word : List ℕ) × (argument : List ℕ) × (words ≡ word ∷ argument ∷ rest) × AreFor word argument task
 
--- The option goes with the task: none with `trial`, the parts of a form with `calc`, both limits and declared points with `gtp`, and each
--- but cycles with `play`. Only `play` has a colour for the engine, and a question that needs no regions has no limits and no tax.
+-- The option goes with the task: none with `trial`, the parts of a form with `calc`, both limits, declared points and cycles with `gtp`,
+-- and each with `play`. Only `play` has a colour for the engine, and a question that needs no regions has no limits and no tax.
 abbrev pub GoesWith : Task → Choice → Type 0
 GoesWith (trial n) choice = ⊥
-GoesWith (play file) (Cycles admitted) = ⊥
 GoesWith (play file) choice = ⊤
 GoesWith (calc expression) (Parts n) = ⊤
 GoesWith (calc expression) choice = ⊥
 GoesWith gtp (Positions n) = ⊤
 GoesWith gtp (Parts n) = ⊤
 GoesWith gtp (Territory declared) = ⊤
+GoesWith gtp (Cycles admitted) = ⊤
 GoesWith gtp choice = ⊥
 GoesWith (ask question file) (Positions n) = NeedsRegions question
 GoesWith (ask question file) (Parts n) = NeedsRegions question

@@ -36,4 +36,5 @@ viewed job = record {
   parts = job.parts;
   engine = job.engine;
   tax = job.tax;
+  cycles = job.cycles;
 }

@@ -71,8 +71,9 @@ impl Chosen {
     pub(crate) fn job(self, command: Command<'_>) -> Job<'_>
         ensures { viewed result ≡ job_of (task_of command.entry) self }
     {
+        let cycles = self.cycles.unwrap_or(false);
         Job {
-            command: command.admitting(self.cycles.unwrap_or(false)),
+            command: command.admitting(cycles),
             settings: Settings {
                 after: self.after,
                 komi: self.komi,
@@ -85,6 +86,7 @@ impl Chosen {
             parts: self.parts.unwrap_or(DEFAULT_PARTS),
             engine: self.engine,
             tax: self.tax.unwrap_or(false),
+            cycles,
         }
     }
 }

@@ -76,6 +76,8 @@ pub struct Job<'a> {
     pub engine: Option<Colour>,
     /// Whether there is a tax of two points for each group.
     pub tax: bool,
+    /// Whether regions may have cycles.
+    pub cycles: bool,
 }
 
 /// The command that two words ask for.
@@ -134,12 +136,12 @@ impl Command<'_> {
                     | Choice::Tax(_)
                     | Choice::Cycles(_)
             ),
-            Command::Play(_) => !matches!(choice, Choice::Cycles(_)),
+            Command::Play(_) => true,
             Command::Trial(_) => false,
             Command::Calc(_) => matches!(choice, Choice::Parts(_)),
             Command::Gtp => matches!(
                 choice,
-                Choice::Positions(_) | Choice::Parts(_) | Choice::Territory(_)
+                Choice::Positions(_) | Choice::Parts(_) | Choice::Territory(_) | Choice::Cycles(_)
             ),
         }
     }

@@ -17,7 +17,7 @@ use Rattle.gtp_engine.specs.Request.Asked.{unknown, misfit}
 use Rattle.gtp_engine.specs.Request.Order.{clear_board, loadsgf}
 use Rattle.gtp_engine.specs.Session.{Obeys, Said, Table, TakesTurn, done, fresh, is_last, load_settings, refused, reply_text}
 use Rattle.gtp_engine.specs.Session.Fate.{made, failed, no_load}
-use Rattle.gtp_engine.specs.Words.{AreWords, HasId, cleaned}
+use Rattle.gtp_words.specs.Words.{AreWords, HasId, cleaned}
 use Rattle.gtp_engine.specs.Written.{Engine, IsReply}
 use Rattle.gtp_engine.specs.inner.Written.{IsMet, IsObeyed}
 

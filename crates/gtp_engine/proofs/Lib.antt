@@ -1,6 +1,4 @@
 pub mod NameLemmas
-pub mod CleanLineLemmas
-pub mod WordLemmas
 pub mod MoveLemmas
 pub mod KeptLemmas
 pub mod FileLemmas
@@ -11,3 +9,4 @@ pub mod TakenLineLemmas
 pub mod SessionLemmas
 pub mod WinLemmas
 pub mod KomiLemmas
+pub mod RoomLemmas

@@ -2,15 +2,15 @@
 use Rattle.std.proofs.Common.{◌≡◌, ◌≢◌, ◌⊎◌, ◌≤◌, ◌<◌, ℕ, ℤ, List, [], inl, inr, refl, ap, ◌∙◌, subst, Some, None}
 use Rattle.go_grid.specs.declared.grid.Colour.{Colour}
 use Rattle.sgf_go.specs.declared.settings.Setup.{Setup}
-use Rattle.whole_rules.specs.WholeGame.{Whole}
+use Rattle.engine_player.specs.EngineGame.{EngineGame}
+use Rattle.engine_player.specs.Opening.{OpensGame, OpensNone}
 use Rattle.endgame_solver.specs.declared.limits.Limits.{Limits}
-use Rattle.endgame_solver.specs.Solved.{IsPlayable}
 use Rattle.gtp_engine.specs.declared.playing.Action.{Action}
 use Rattle.gtp_engine.specs.declared.reply.Refusal.TheVariants.{CannotSolve, GameHasBegun, NotInTurn, UnacceptableSize}
 use Rattle.gtp_engine.specs.inner.Doing.{IsDone, IsFresh, IsRunning, IsTurnTaken, with_table}
 use Rattle.gtp_engine.specs.inner.Playing.{IsActed}
 use Rattle.gtp_engine.specs.Request.Order.{boardsize, komi}
-use Rattle.gtp_engine.specs.Session.{CannotOpen, Table, done, fresh, game_limits, refused, reply_text, with_side}
+use Rattle.gtp_engine.specs.Session.{Table, done, fresh, game_limits, refused, reply_text, with_side}
 use Rattle.gtp_engine.specs.Written.{Engine}
 
 pub komi_refused : (a : Engine) (halves : ℤ) (id reply : List ℕ) → IsRunning a → reply ≡ reply_text id (refused GameHasBegun) → IsDone (komi halves) id a reply a
@@ -36,12 +36,12 @@ pub size_taken : (a b : Engine) (n : ℕ) (id reply : List ℕ) → 1 ≤ n → 
 size_taken a b n id reply some few is said = (done [], fresh n n a.table.setup.komi_halves, inl (some, few, refl, refl), said, is)
 
 -- the other colour is to move
-pub turn_refused : (a b : Engine) (c : Colour) (action : Action) (s : Whole) (id reply : List ℕ) → a.table.game ≡ Some s → s.side ≢ c → b ≡ a
+pub turn_refused : (a b : Engine) (c : Colour) (action : Action) (s : EngineGame) (id reply : List ℕ) → a.table.game ≡ Some s → s.state.side ≢ c → b ≡ a
     → reply ≡ reply_text id (refused NotInTurn) → IsTurnTaken c action id a reply b
 turn_refused a b c action s id reply runs other same said = (refused NotInTurn, a.table, inr (inr (inr (s, runs, other, (refl, refl)))), said, same)
 
 -- a turn in the running game
-pub turn_taken : (a b : Engine) (c : Colour) (action : Action) (s v : Whole) (id reply : List ℕ) → a.table.game ≡ Some s → s.side ≡ c → IsActed action id s reply v
+pub turn_taken : (a b : Engine) (c : Colour) (action : Action) (s v : EngineGame) (id reply : List ℕ) → a.table.game ≡ Some s → s.state.side ≡ c → IsActed action id s reply v
     → b ≡ record a { table = record a.table { game = Some v } } → IsTurnTaken c action id a reply b
 turn_taken a b c action s v id reply runs own acted is = (acted.0, record a.table { game = Some v }, inr (inr (inl (s, v, runs, own, acted.1, refl))), acted.2, is)
 
@@ -51,17 +51,17 @@ module _ (a : Engine) (limits : Limits) (setup other : Setup) (c : Colour) (acti
   with_side_is = is ∙ ap (λ x. with_side x c) same_setup
 
   -- the setup can't be opened
-  pub turn_unsolved : CannotOpen limits other → reply ≡ reply_text id (refused CannotSolve) → IsTurnTaken c action id a reply a
+  pub turn_unsolved : OpensNone a.limits.cycles limits other → reply ≡ reply_text id (refused CannotSolve) → IsTurnTaken c action id a reply a
   turn_unsolved cannot said =
-      (refused CannotSolve, a.table, inr (inl (none, subst (λ l. CannotOpen l (with_side a.table.setup c)) same_limits (subst (CannotOpen limits) with_side_is cannot), (refl, refl))), said, refl)
+      (refused CannotSolve, a.table, inr (inl (none, subst (λ l. OpensNone a.limits.cycles l (with_side a.table.setup c)) same_limits (subst (OpensNone a.limits.cycles limits) with_side_is cannot), (refl, refl))), said, refl)
 
   -- the first turn of the game that the setup opens
-  pub turn_first : (b : Engine) (s v : Whole) → IsPlayable limits other s → IsActed action id s reply v → b ≡ record a { table = record { setup = other; game = Some v } }
+  pub turn_first : (b : Engine) (s v : EngineGame) → OpensGame a.limits.cycles limits other s → IsActed action id s reply v → b ≡ record a { table = record { setup = other; game = Some v } }
       → IsTurnTaken c action id a reply b
   turn_first b s v playable acted left = (
     acted.0,
     record { setup = with_side a.table.setup c; game = Some v },
-    inl (none, (s, v, subst (λ l. IsPlayable l (with_side a.table.setup c) s) same_limits (subst (λ x. IsPlayable limits x s) with_side_is playable), acted.1, refl)),
+    inl (none, (s, v, subst (λ l. OpensGame a.limits.cycles l (with_side a.table.setup c) s) same_limits (subst (λ x. OpensGame a.limits.cycles limits x s) with_side_is playable), acted.1, refl)),
     acted.2,
     left ∙ ap (λ x. with_table a (record { setup = x; game = Some v })) with_side_is,
   )

@@ -4,8 +4,8 @@ use Rattle.desk_io.specs.declared.lines.TheConstants.{MOST_LINES}
 use Rattle.std.specs.Io.KnownBytes.{append_known}
 use Rattle.desk_io.specs.Files.{Files}
 use Rattle.gtp_engine.specs.declared.limits.EngineLimits.{EngineLimits}
-use Rattle.gtp_engine.specs.declared.end.GtpEnd.{GtpEnd}
-use Rattle.gtp_engine.specs.declared.end.GtpEnd.TheVariants.{Quit, InputEnded, ReadFault, WriteFault, TooManyLines, Memory}
+use Rattle.gtp_words.specs.declared.end.GtpEnd.{GtpEnd}
+use Rattle.gtp_words.specs.declared.end.GtpEnd.TheVariants.{Quit, InputEnded, ReadFault, WriteFault, TooManyLines, Memory}
 use Rattle.gtp_engine.specs.Session.{AnswersLine, GtpStanding, TakesLine, TakesLines, beginning}
 use Rattle.gtp_engine.specs.inner.Taking.{Replies}
 use Rattle.gtp_engine.specs.Written.{Engine, WritesByEnd, unused}

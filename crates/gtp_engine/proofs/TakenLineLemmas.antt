@@ -4,8 +4,8 @@ use Rattle.std.specs.Io.KnownBytes.{append_known}
 use Rattle.desk_io.specs.Files.{Files}
 use Rattle.desk_io.specs.Lines.{IsFound, IsLine, IsSameInput}
 use Rattle.desk_io.specs.declared.lines.FoundLine.{FoundLine}
-use Rattle.gtp_engine.specs.declared.end.GtpEnd.{GtpEnd}
-use Rattle.gtp_engine.specs.declared.end.GtpEnd.TheVariants.{Quit, ReadFault, WriteFault}
+use Rattle.gtp_words.specs.declared.end.GtpEnd.{GtpEnd}
+use Rattle.gtp_words.specs.declared.end.GtpEnd.TheVariants.{Quit, ReadFault, WriteFault}
 use Rattle.gtp_engine.specs.inner.Taking.{LineTaken, Replies}
 use Rattle.gtp_engine.specs.Written.{Engine, IsReply}
 

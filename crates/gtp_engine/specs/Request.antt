@@ -7,7 +7,8 @@ use Rattle.gtp_engine.specs.declared.moves.Wanted.{Wanted}
 use Rattle.gtp_engine.specs.declared.command.Command.{Command}
 use Rattle.gtp_engine.specs.declared.command.Command.TheVariants.{ProtocolVersion, Name, Version, KnownCommand, ListCommands, BoardSize, ClearBoard, Komi, Play, GenMove, LoadSgf, Quit}
 use Rattle.board_words.specs.Numbers.{IsNumberWord}
-use Rattle.gtp_engine.specs.Moves.{IsColour, IsWanted}
+use Rattle.gtp_words.specs.Vertices.{IsColour}
+use Rattle.gtp_engine.specs.Moves.{IsWanted}
 
 -- a command with its arguments
 pub data Order : Type 0 where

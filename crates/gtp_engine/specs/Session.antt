@@ -9,7 +9,6 @@ use Rattle.desk_io.specs.Lines.{IsLine}
 use Rattle.go_grid.specs.declared.grid.Cell.TheVariants as cell
 use Rattle.go_grid.specs.declared.grid.Colour.{Colour}
 use Rattle.go_grid.specs.declared.grid.Colour.TheVariants as colour
-use Rattle.go_grid.specs.Region.{Region}
 use Rattle.sgf_go.specs.declared.fault.FileFault.{FileFault}
 use Rattle.sgf_go.specs.declared.settings.Settings.{Settings}
 use Rattle.sgf_go.specs.declared.settings.Setup.{Setup}
@@ -17,28 +16,28 @@ use Rattle.desk_io.specs.Files.{IsLonger, IsTold}
 use Rattle.sgf_go.specs.File.{HasFewBytes, Reads}
 use Rattle.whole_rules.specs.declared.states.Move.{Move}
 use Rattle.whole_rules.specs.declared.states.MoveError.{MoveError}
-use Rattle.whole_rules.specs.WholeGame.{Whole, Applies, IsMove}
-use Rattle.region_cut.specs.Cut.{AreRegionsOfPlay}
 use Rattle.endgame_solver.specs.declared.limits.Limits.{Limits}
 use Rattle.gtp_engine.specs.declared.limits.EngineLimits.{EngineLimits}
-use Rattle.endgame_solver.specs.Faults.{AreSound}
-use Rattle.endgame_solver.specs.Solved.{IsPlayable, HasMove, Chooses}
+use Rattle.endgame_solver.specs.Solved.{HasMove}
+use Rattle.engine_player.specs.EngineGame.{EngineGame, EngineGoes, GoesByHand}
+use Rattle.engine_player.specs.Opening.{OpensGame, OpensNone}
 use Rattle.gtp_engine.specs.declared.moves.Wanted.{Wanted}
 use Rattle.gtp_engine.specs.declared.command.Command.{Command}
-use Rattle.gtp_engine.specs.declared.end.GtpEnd.{GtpEnd}
-use Rattle.gtp_engine.specs.declared.end.GtpEnd.TheVariants.{Quit, InputEnded, TooManyLines}
+use Rattle.gtp_words.specs.declared.end.GtpEnd.{GtpEnd}
+use Rattle.gtp_words.specs.declared.end.GtpEnd.TheVariants.{Quit, InputEnded, TooManyLines}
 use Rattle.gtp_engine.specs.declared.reply.Refusal.{Refusal}
 use Rattle.gtp_engine.specs.declared.reply.Refusal.TheVariants.{UnknownCommand, SyntaxError, UnacceptableSize, GameHasBegun, CannotSolve, NotInTurn, IllegalMove, CannotLoadFile}
-use Rattle.gtp_engine.specs.Words.{AreWords, HasId, cleaned}
+use Rattle.gtp_words.specs.Replies.{signed_text}
+use Rattle.gtp_words.specs.Words.{AreWords, HasId, cleaned}
 use Rattle.gtp_engine.specs.Moves.{move_for, move_text}
 use Rattle.gtp_engine.specs.Request.{Order, Asked, Asks, command_word}
 use Rattle.gtp_engine.specs.Request.Order.{protocol_version, name, version, known_command, list_commands, boardsize, clear_board, komi, play, genmove, loadsgf, quit}
 use Rattle.gtp_engine.specs.Request.Asked.{something, unknown, misfit}
 
--- a setup, and the state of the game that runs after it, if one does
+-- a setup, and the game that runs after it, if one does
 pub record Table : Type 0 where
   pub setup : Setup
-  pub game : Option Whole
+  pub game : Option EngineGame
 
 -- a fresh empty board of the size: no prisoners, and Black to move
 abbrev pub fresh : ℕ → ℕ → ℤ → Table
@@ -71,8 +70,8 @@ refusal_text CannotLoadFile = codes "cannot load file"
 
 -- the reply: its sign, the id, a blank, the text and two line feeds
 abbrev pub reply_text : List ℕ → Said → List ℕ
-reply_text id (done text) = codes "=" ++ (id ++ (codes " " ++ (text ++ codes "\n\n")))
-reply_text id (refused why) = codes "?" ++ (id ++ (codes " " ++ (refusal_text why ++ codes "\n\n")))
+reply_text id (done text) = signed_text (codes "=") id text
+reply_text id (refused why) = signed_text (codes "?") id (refusal_text why)
 
 -- the names of all commands, one a line
 abbrev pub all_commands : List ℕ
@@ -99,22 +98,22 @@ TakesSize n t said u = ((1 ≤ n) × (n ≤ 25) × (said ≡ done []) × (u ≡ 
 -- the komi is taken where no game runs, and refused where one does
 abbrev pub TakesKomi : ℤ → Table → Said → Table → Type 0
 TakesKomi halves t said u = ((t.game ≡ None) × (said ≡ done []) × (u ≡ record { setup = record t.setup { komi_halves = halves }; game = None }))
-    ⊎ (((s : Whole) × (t.game ≡ Some s)) × RefusesWith GameHasBegun t said u)
+    ⊎ (((p : EngineGame) × (t.game ≡ Some p)) × RefusesWith GameHasBegun t said u)
 
--- what a move of the side to move comes to, in its state
-abbrev pub PlaysMove : Option Move → Whole → Said → Whole → Type 0
-PlaysMove None s said t = (said ≡ refused IllegalMove) × (t ≡ s)
-PlaysMove (Some m) s said t = (IsMove s m t × (said ≡ done []))
-    ⊎ ((e : MoveError) × Applies s m t (Err e) × (said ≡ refused IllegalMove))
+-- what a move of the side to move comes to, in its game
+abbrev pub PlaysMove : Option Move → EngineGame → Said → EngineGame → Type 0
+PlaysMove None p said q = (said ≡ refused IllegalMove) × (q ≡ p)
+PlaysMove (Some m) p said q = (GoesByHand p m (Ok tt) q × (said ≡ done []))
+    ⊎ ((e : MoveError) × GoesByHand p m (Err e) q × (said ≡ refused IllegalMove))
 
--- what a wanted move of the side to move comes to, in its state
-abbrev pub PlaysWanted : Wanted → Whole → Said → Whole → Type 0
-PlaysWanted wanted s said t = PlaysMove (move_for s.board.columns s.board.rows wanted) s said t
+-- what a wanted move of the side to move comes to, in its game
+abbrev pub PlaysWanted : Wanted → EngineGame → Said → EngineGame → Type 0
+PlaysWanted wanted p said q = PlaysMove (move_for p.state.board.columns p.state.board.rows wanted) p said q
 
 -- the engine's move, where the side to move has one
-abbrev pub Generates : Whole → Said → Whole → Type 0
-Generates s said t = ((m : Move) × Chooses s m × IsMove s m t × (said ≡ done (move_text s.board.columns s.board.rows m)))
-    ⊎ ((¬ HasMove s) × (said ≡ done (codes "resign")) × (t ≡ s))
+abbrev pub Generates : EngineGame → Said → EngineGame → Type 0
+Generates p said q = ((m : Move) × EngineGoes p m q × (said ≡ done (move_text p.state.board.columns p.state.board.rows m)))
+    ⊎ ((¬ HasMove p.state) × (said ≡ done (codes "resign")) × (q ≡ p))
 
 -- the setup with the colour to move
 abbrev pub with_side : Setup → Colour → Setup
@@ -124,17 +123,14 @@ with_side setup c = record setup { side = c }
 abbrev pub game_limits : EngineLimits → Limits
 game_limits limits = record { positions = limits.positions; parts = limits.parts; tax = false }
 
--- the regions of play aren't all sound within the limits
-abbrev pub CannotOpen : Limits → Setup → Type 0
-CannotOpen limits setup = (regions : List Region) × AreRegionsOfPlay setup.board regions × ¬ AreSound limits regions
-
 -- A turn of the colour in a running game, or in that which a fresh setup opens with the colour to move.
-abbrev pub TakesTurn : EngineLimits → Colour → (Whole → Said → Whole → Type 0) → Table → Said → Table → Type 0
+abbrev pub TakesTurn : EngineLimits → Colour → (EngineGame → Said → EngineGame → Type 0) → Table → Said → Table → Type 0
 TakesTurn limits c Act t said u =
-    ((t.game ≡ None) × ((s v : Whole) × IsPlayable (game_limits limits) (with_side t.setup c) s × Act s said v × (u ≡ record { setup = with_side t.setup c; game = Some v })))
-    ⊎ (((t.game ≡ None) × CannotOpen (game_limits limits) (with_side t.setup c) × RefusesWith CannotSolve t said u)
-    ⊎ (((s v : Whole) × (t.game ≡ Some s) × (s.side ≡ c) × Act s said v × (u ≡ record t { game = Some v }))
-    ⊎ ((s : Whole) × (t.game ≡ Some s) × (s.side ≢ c) × RefusesWith NotInTurn t said u)))
+    ((t.game ≡ None) × ((p q : EngineGame) × OpensGame limits.cycles (game_limits limits) (with_side t.setup c) p × Act p said q
+    × (u ≡ record { setup = with_side t.setup c; game = Some q })))
+    ⊎ (((t.game ≡ None) × OpensNone limits.cycles (game_limits limits) (with_side t.setup c) × RefusesWith CannotSolve t said u)
+    ⊎ (((p q : EngineGame) × (t.game ≡ Some p) × (p.state.side ≡ c) × Act p said q × (u ≡ record t { game = Some q }))
+    ⊎ ((p : EngineGame) × (t.game ≡ Some p) × (p.state.side ≢ c) × RefusesWith NotInTurn t said u)))
 
 -- what becomes of the load of a line: it has none, or it is made, or it fails
 pub data Fate : Type 0 where

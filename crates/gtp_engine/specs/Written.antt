@@ -4,8 +4,8 @@ use Rattle.std.specs.Io.KnownBytes.{append_known}
 use Rattle.desk_io.specs.Files.{Files}
 use Rattle.desk_io.specs.Outside.{Rose}
 use Rattle.gtp_engine.specs.declared.limits.EngineLimits.{EngineLimits}
-use Rattle.gtp_engine.specs.declared.end.GtpEnd.{GtpEnd}
-use Rattle.gtp_engine.specs.declared.end.GtpEnd.TheVariants.{ReadFault, WriteFault, Memory}
+use Rattle.gtp_words.specs.declared.end.GtpEnd.{GtpEnd}
+use Rattle.gtp_words.specs.declared.end.GtpEnd.TheVariants.{ReadFault, WriteFault, Memory}
 use Rattle.gtp_engine.specs.Session.{Table, Fate, no_load, made, failed, GtpStanding, AnswersLine, fresh, beginning, IsGtpSession, WaitsToReply, BreaksOffReply}
 
 -- what an engine keeps: its limits, its table, how many loads there were, and the numbers of those that failed

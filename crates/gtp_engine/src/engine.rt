@@ -7,10 +7,9 @@ ghost use Rattle.region_cut.specs.Cut.{AreRegionsOfPlay};
 ghost use Rattle.gtp_engine.specs.inner.Loading.{CanKeep};
 ghost use Rattle.sgf_go.specs.Komi.{IsInRange};
 ghost use Rattle.sgf_go.specs.Position.{IsFit};
-ghost use Rattle.gtp_engine.specs.inner.Kept.{state_in};
 ghost use Rattle.gtp_engine.specs.inner.Doing.{AsksInRange, HasKomiInRange, IsDone, IsFresh, IsLoadNoted, IsRunning, IsTurnTaken};
 ghost use Rattle.gtp_engine.specs.inner.Viewed.{asked_of, order_of};
-ghost use Rattle.gtp_engine.specs.Kept.{AreLoads};
+ghost use Rattle.gtp_engine.specs.Kept.{AreLoads, HasRoomFor, LeavesRoom};
 ghost use Rattle.gtp_engine.specs.Request.Asked.{something};
 ghost use Rattle.gtp_engine.specs.Request.Order.{boardsize, komi, loadsgf};
 ghost use Rattle.gtp_engine.specs.Session.{SaysWhetherKnown, done, fresh, game_limits, is_last, reply_text};
@@ -24,11 +23,11 @@ use crate::playing::Action;
 use crate::reply::{Refusal, accept, refuse};
 use crate::request::{Asked, Request, read_asked};
 use crate::setups::fresh;
-use crate::words::{clean, split, take_id};
 use desk_io::Shelf;
-use endgame_solver::Solved;
+use engine_player::Player;
 use game_text::Text;
 use go_grid::Size;
+use gtp_words::{clean, split, take_id};
 use local_graph::MOST_POSITIONS;
 use local_play::Steps;
 use sgf_go::Setup;
@@ -49,7 +48,7 @@ pub struct Answer {
 pub struct Engine {
     pub(crate) limits: EngineLimits,
     pub(crate) setup: Setup,
-    pub(crate) game: Option<Solved>,
+    pub(crate) game: Option<Player>,
     loads: u32,
     failed: Vec<u32>,
 }
@@ -57,13 +56,13 @@ pub struct Engine {
 impl Model for Engine {
     ghost use Rattle.std.specs.Prelude.{◌≡◌, ◌≤◌, ◌<◌, ℕ, List};
     ghost use Rattle.gtp_engine.specs.Written.{Engine};
-    ghost use Rattle.gtp_engine.specs.inner.Kept.{state_in, IsFitEngine};
+    ghost use Rattle.gtp_engine.specs.inner.Kept.{IsFitEngine};
 
     ghost Value = { Engine };
 
     ghost view = { λ e. record {
       limits = e.limits;
-      table = record { setup = e.setup; game = state_in e.game };
+      table = record { setup = e.setup; game = e.game };
       loads = e.loads;
       failed_loads = e.failed.items;
     } };
@@ -130,10 +129,10 @@ impl Engine {
     }
 
     /// Puts a setup and a game in the place of those that stood there.
-    pub(crate) fn put(&mut self, setup: Setup, game: Option<Solved>)
+    pub(crate) fn put(&mut self, setup: Setup, game: Option<Player>)
         requires { IsFit setup }
         ensures { self.new ≡ record self.old {
-          table = record { setup = setup; game = state_in game };
+          table = record { setup = setup; game = game };
         } }
     {
         self.setup = setup;
@@ -181,7 +180,7 @@ impl Engine {
         ensures fresh { result ≡ false → IsFresh self.now }
     {
         match &self.game {
-            Some(_solved) => true,
+            Some(_game) => true,
             None => false,
         }
     }
@@ -263,6 +262,7 @@ impl Engine {
         steps: &mut Steps<L>,
     ) -> Result<Text, AllocError>
         requires few { self.old.loads < MOST_LOADS }
+        requires room { HasRoomFor 1 self.old.table }
         requires komi { HasKomiInRange (order_of request) }
         ensures obeyed { IfOk result (λ reply. IsObeyed (H.files shelf.old) (H.faults shelf.old)
             (H.faults shelf.new) id.now (order_of request.entry) self.old reply self.new) }
@@ -304,6 +304,7 @@ impl Engine {
         steps: &mut Steps<L>,
     ) -> Result<Answer, AllocError>
         requires few { self.old.loads < MOST_LOADS }
+        requires room { HasRoomFor 1 self.old.table }
         requires komi { AsksInRange (asked_of asked) }
         ensures met { IfOk result (λ answer. IsMet (H.files shelf.old) (H.faults shelf.old)
             (H.faults shelf.new) id.now (asked_of asked.entry) self.old answer.reply self.new) }
@@ -333,7 +334,8 @@ impl Engine {
         }
     }
 
-    /// Answers a line, or leaves the engine as it was where memory is refused. A load that fails is noted.
+    /// Answers a line, or leaves the engine as it was where memory is refused. A load that fails is noted. Where
+    /// kos are admitted the game that runs must have room for a move.
     pub fn answer<H: Shelf, L: Ledger>(
         &mut self,
         line: &[u8],
@@ -341,9 +343,11 @@ impl Engine {
         steps: &mut Steps<L>,
     ) -> Result<Answer, AllocError>
         requires few { self.old.loads < MOST_LOADS }
+        requires room { HasRoomFor 1 self.old.table }
         ensures answered { IfOk result (λ answer. IsReply (H.files shelf.old)
             (H.faults shelf.old)
             (H.faults shelf.new) line.now self.old answer.reply self.new answer.quit) }
+        ensures room { LeavesRoom self.old.table self.new.table }
         ensures same { OnErr result (self.new ≡ self.old) }
         ensures same_files { H.files shelf.new ≡ H.files shelf.old }
         ensures later_loads { H.faults shelf.old ≤ H.faults shelf.new }

@@ -2,7 +2,6 @@
 #![tactic(auto)]
 
 mod command;
-mod end;
 mod engine;
 mod laws;
 mod limits;
@@ -14,9 +13,8 @@ mod request;
 mod session;
 mod setups;
 mod turns;
-mod words;
 
-pub use end::GtpEnd;
 pub use engine::{Answer, Engine};
+pub use gtp_words::GtpEnd;
 pub use laws::session_laws;
 pub use limits::EngineLimits;

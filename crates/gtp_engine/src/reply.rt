@@ -1,9 +1,10 @@
 //! Replies.
 
-ghost use Rattle.std.specs.Prelude.{◌≡◌, ◌++◌, codes, IfOk};
+ghost use Rattle.std.specs.Prelude.{◌≡◌, IfOk};
 ghost use Rattle.gtp_engine.specs.Session.{done, refused, refusal_text, reply_text};
 
 use game_text::Text;
+use gtp_words::compose;
 use std::alloc::{AllocError, Global};
 
 /// Why a request is refused.
@@ -34,20 +35,6 @@ impl Refusal {
             Refusal::CannotLoadFile => "cannot load file",
         }
     }
-}
-
-/// A reply with a sign, an id and a text.
-#[tactic(auto, using(std::proofs::Common::append_assoc))]
-fn compose(alloc: Global, sign: &[u8], id: &[u8], text: &[u8]) -> Result<Text, AllocError>
-    ensures { IfOk result (λ reply. reply ≡ sign.now ++
-        (id.now ++ (codes " " ++ (text.now ++ codes "\n\n")))) }
-{
-    let mut reply = Text::from_slice(alloc, sign)?;
-    reply.extend_from_slice(id)?;
-    reply.extend_from_slice(b" ")?;
-    reply.extend_from_slice(text)?;
-    reply.extend_from_slice(b"\n\n")?;
-    Ok(reply)
 }
 
 /// The reply to a request that is met, with its text.

@@ -6,9 +6,10 @@ ghost use Rattle.gtp_engine.specs.inner.Viewed.{asked_of, order_of};
 ghost use Rattle.board_words.specs.Numbers.{IsNumberWord};
 
 use crate::command::{Command, read_command};
-use crate::moves::{Wanted, read_colour, read_wanted};
+use crate::moves::{Wanted, read_wanted};
 use board_words::read_number;
 use go_grid::Colour;
+use gtp_words::read_colour;
 use sgf_go::read_komi;
 
 /// The greatest number of a file's move.

@@ -3,13 +3,14 @@
 ghost use Rattle.std.specs.Prelude.{◌≡◌, ◌≤◌, ◌<◌, ◌++◌, List, ℕ, [], Some, length};
 ghost use Rattle.desk_io.specs.Lines.{UsesLines};
 ghost use Rattle.desk_io.specs.Outside.{Appends, HasCause, Rose};
-ghost use Rattle.gtp_engine.specs.declared.end.GtpEnd.TheVariants.{ReadFault, WriteFault};
+ghost use Rattle.gtp_words.specs.declared.end.GtpEnd.TheVariants.{ReadFault, WriteFault};
 ghost use Rattle.gtp_engine.specs.inner.Taking.{IsSomeNoted, LineTaken};
+ghost use Rattle.gtp_engine.specs.Kept.{HasRoomFor, LeavesRoom};
 ghost use Rattle.gtp_engine.specs.Written.{WritesByEnd, RoseBy, unused};
 
-use crate::end::GtpEnd;
 use crate::engine::{Engine, MOST_LOADS};
 use desk_io::{Failed, LineReader, MOST_LINES, Shelf, Sink, Source};
+use gtp_words::GtpEnd;
 use local_play::Steps;
 use std::sync::ledger::Ledger;
 
@@ -38,6 +39,8 @@ impl Engine {
         steps: &mut Steps<L>,
     ) -> Option<GtpEnd>
         requires few { self.old.loads < MOST_LOADS }
+        requires room { HasRoomFor 1 self.old.table }
+        ensures room { LeavesRoom self.old.table self.new.table }
         ensures taken { (bytes : List ℕ) → S.left lines.old ≡ Some bytes → (rest : List ℕ)
             × (S.left lines.new ≡ Some rest) × LineTaken (H.files shelf.old) (H.faults shelf.old)
             (H.faults shelf.new) self.old (reader.old ++ bytes) (K.holds out.old)

@@ -4,6 +4,7 @@ ghost use Rattle.std.specs.Prelude.{◌≡◌, ◌↔◌, ◌≤◌, ◌+◌, Li
 ghost use Rattle.endgame_solver.specs.Faults.{most_steps};
 ghost use Rattle.go_grid.specs.Region.{Region};
 ghost use Rattle.region_cut.specs.Cut.{AreRegionsOfPlay};
+ghost use Rattle.gtp_engine.specs.Kept.{HasRoomFor};
 ghost use Rattle.gtp_engine.specs.Session.{game_limits};
 ghost use Rattle.gtp_engine.specs.inner.Doing.{IsFresh, IsRunning, IsTurnTaken};
 
@@ -27,19 +28,20 @@ fn is_same(a: Colour, b: Colour) -> bool
 impl Engine {
     /// A turn of the colour in the running game.
     fn go_on(&mut self, id: &[u8], colour: Colour, action: Action) -> Result<Text, AllocError>
-        requires { IsRunning self.old }
+        requires running { IsRunning self.old }
+        requires room { HasRoomFor 1 self.old.table }
         ensures taken { IfOk result
             (λ reply. IsTurnTaken colour action id.now self.old reply self.new) }
         ensures same { OnErr result (self.new ≡ self.old) }
     {
         let alloc = self.setup.board.allocator();
         match &mut self.game {
-            Some(solved) => {
-                if !is_same(solved.whole().side(), colour) {
+            Some(game) => {
+                if !is_same(game.whole().side(), colour) {
                     let reply = refuse(alloc, id, Refusal::NotInTurn)?;
                     return Ok(reply);
                 }
-                let reply = act(alloc, id, solved, action)?;
+                let reply = act(alloc, id, game, action)?;
                 Ok(reply)
             }
             // A setup is opened before a turn is taken.
@@ -55,7 +57,7 @@ impl Engine {
         action: Action,
         steps: &mut Steps<L>,
     ) -> Result<Text, AllocError>
-        requires { IsFresh self.old }
+        requires fresh { IsFresh self.old }
         ensures taken { IfOk result
             (λ reply. IsTurnTaken colour action id.now self.old reply self.new) }
         ensures same { OnErr result (self.new ≡ self.old) }
@@ -66,12 +68,12 @@ impl Engine {
         let alloc = self.setup.board.allocator();
         let setup = with_side(&self.setup, colour)?;
         let limits = self.limits.of_game();
-        let Some(mut solved) = open(alloc, &setup, &limits, steps)? else {
+        let Some(mut game) = open(alloc, &setup, &limits, self.limits.cycles, steps)? else {
             let reply = refuse(alloc, id, Refusal::CannotSolve)?;
             return Ok(reply);
         };
-        let reply = act(alloc, id, &mut solved, action)?;
-        self.put(setup, Some(solved));
+        let reply = act(alloc, id, &mut game, action)?;
+        self.put(setup, Some(game));
         Ok(reply)
     }
 
@@ -83,6 +85,7 @@ impl Engine {
         action: Action,
         steps: &mut Steps<L>,
     ) -> Result<Text, AllocError>
+        requires room { HasRoomFor 1 self.old.table }
         ensures taken { IfOk result
             (λ reply. IsTurnTaken colour action id.now self.old reply self.new) }
         ensures same { OnErr result (self.new ≡ self.old) }

@@ -1,5 +1,6 @@
 pub mod SideLaws
 pub mod TurnLaws
+pub mod TurnRoomLaws
 pub mod SessionLaws
 pub mod WinLaws
 pub mod CalmLaws
@@ -7,3 +8,4 @@ pub mod NamedWinnerLaws
 pub mod OneRequestLaws
 pub mod OneMoveLaws
 pub mod OneTextLaws
+pub mod EndLaws

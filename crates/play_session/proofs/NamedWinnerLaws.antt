@@ -7,7 +7,7 @@ use Rattle.go_grid.specs.declared.grid.Colour.TheVariants as colour
 use Rattle.go_grid.specs.Board.{Board, other}
 use Rattle.board_words.specs.Words.{winner_line, word_line}
 use Rattle.whole_rules.specs.Moves.{move_word}
-use Rattle.whole_rules.specs.WholeGame.{Whole}
+use Rattle.engine_player.specs.EngineGame.{EngineGame}
 use Rattle.whole_rules.specs.declared.states.Move.{Move}
 use Rattle.whole_rules.specs.declared.states.Move.TheVariants.{Stone, Spend, Half}
 use Rattle.whole_rules.specs.declared.states.MoveError.{MoveError}
@@ -51,14 +51,14 @@ line_calm : IsCalm 119 true (refused_line (codes "line"))
 unfolding word_line
 line_calm = (refl, refl)
 
-answer_calm : (s t : Whole) (asked : Option Move) (text : List ℕ) → AnswersOpponent s asked text t → IsCalm 119 true text
-answer_calm s t None text a = subst (IsCalm 119 true) (sym a.0) line_calm
-answer_calm s t (Some m) text (Ok u, h, e) = subst (IsCalm 119 true) (sym e) (played_calm s.board m)
-answer_calm s t (Some m) text (Err f, h, e) = subst (IsCalm 119 true) (sym e) (refused_calm f)
+answer_calm : (p q : EngineGame) (asked : Option Move) (text : List ℕ) → AnswersOpponent p asked text q → IsCalm 119 true text
+answer_calm p q None text a = subst (IsCalm 119 true) (sym a.0) line_calm
+answer_calm p q (Some m) text (Ok u, h, e) = subst (IsCalm 119 true) (sym e) (played_calm p.state.board m)
+answer_calm p q (Some m) text (Err f, h, e) = subst (IsCalm 119 true) (sym e) (refused_calm f)
 
 turn_calm : (engine : Colour) (a b : Standing) (text : List ℕ) → Turn engine a text b → IsCalm 119 true text
-turn_calm engine a b text (inl t) = subst (IsCalm 119 true) (sym t.moved.written) (engine_calm a.state.board t.moved.chosen)
-turn_calm engine a b text (inr t) = answer_calm a.state b.state t.asked text t.answered
+turn_calm engine a b text (inl t) = subst (IsCalm 119 true) (sym t.moved.written) (engine_calm a.game.state.board t.moved.chosen)
+turn_calm engine a b text (inr t) = answer_calm a.game b.game t.asked text t.answered
 
 turns_calm : (engine : Colour) (n : ℕ) (a b : Standing) (text : List ℕ) → Turns engine n a text b → IsCalm 119 true text
 turns_calm engine zero a b text t = subst (IsCalm 119 true) (sym t.0) (refl, refl)

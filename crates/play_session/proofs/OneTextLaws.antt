@@ -9,28 +9,29 @@ use Rattle.endgame_solver.specs.Solved.{HasMove}
 use Rattle.play_session.specs.Session.{Standing, IsEngineTurn, IsOpponentTurn, AnswersOpponent, Turn, Turns, Ends, IsSession, IsNextLine}
 use Rattle.play_session.specs.Words.{NamesMove}
 use Rattle.play_session.proofs.SideLaws.{other_not}
-use Rattle.play_session.proofs.WinLaws.{chosen_legal}
+use Rattle.engine_player.proofs.EngineGameLaws.{engine_moved}
+use Rattle.engine_player.proofs.MoveLaws.{cells_kept}
 use Rattle.desk_io.proofs.LineLemmas.{one_line}
 use Rattle.play_session.proofs.OneRequestLaws.{one_asked}
-use Rattle.play_session.proofs.OneMoveLaws.{one_engine_move, one_answer, answer_cells, cells_kept}
+use Rattle.play_session.proofs.OneMoveLaws.{one_engine_move, one_answer, answer_cells}
 
 IsSmall : Standing → Type 0
-IsSmall a = length a.state.board.cells ≤ 625
+IsSmall a = length a.game.state.board.cells ≤ 625
 
-same_standing : (b c : Standing) → b.state ≡ c.state → b.read ≡ c.read → b.left ≡ c.left → b ≡ c
-same_standing b c s r l = λ i. record { state = s i; read = r i; left = l i }
+same_standing : (b c : Standing) → b.game ≡ c.game → b.read ≡ c.read → b.left ≡ c.left → b ≡ c
+same_standing b c s r l = λ i. record { game = s i; read = r i; left = l i }
 
 one_engine_turn : (engine : Colour) (a b c : Standing) (x y : List ℕ) → IsSmall a → IsEngineTurn engine a x b → IsEngineTurn engine a y c → (x ≡ y) × (b ≡ c)
 unfolding IsSmall
 one_engine_turn engine a b c x y small t u =
-    let e = one_engine_move a.state b.state c.state x y small t.moved u.moved in
+    let e = one_engine_move a.game b.game c.game x y small t.moved u.moved in
     (e.0, same_standing b c e.1 (t.same_count ∙ sym u.same_count) (t.same_bytes ∙ sym u.same_bytes))
 
 one_opponent_turn : (engine : Colour) (a b c : Standing) (x y : List ℕ) → IsOpponentTurn engine a x b → IsOpponentTurn engine a y c → (x ≡ y) × (b ≡ c)
 one_opponent_turn engine a b c x y t u =
     let l = one_line 256 a.left t.line u.line b.left c.left t.taken u.taken in
-    let k = one_asked a.state.board u.line t.asked u.asked (subst (λ n. NamesMove a.state.board n t.asked) l.0 t.asks) u.asks in
-    let e = one_answer a.state b.state c.state u.asked x y (subst (λ m. AnswersOpponent a.state m x b.state) k t.answered) u.answered in
+    let k = one_asked a.game.state.board u.line t.asked u.asked (subst (λ n. NamesMove a.game.state.board n t.asked) l.0 t.asks) u.asks in
+    let e = one_answer a.game b.game c.game u.asked x y (subst (λ m. AnswersOpponent a.game m x b.game) k t.answered) u.answered in
     (e.0, same_standing b c e.1 (t.counted ∙ sym u.counted) l.1)
 
 one_turn : (engine : Colour) (a b c : Standing) (x y : List ℕ) → IsSmall a → Turn engine a x b → Turn engine a y c → (x ≡ y) × (b ≡ c)
@@ -41,16 +42,16 @@ one_turn engine a b c x y small (inr t) (inr u) = one_opponent_turn engine a b c
 
 turn_small : (engine : Colour) (a b : Standing) (x : List ℕ) → IsSmall a → Turn engine a x b → IsSmall b
 unfolding IsSmall
-turn_small engine a b x small (inl t) = omega (arith, small, cells_kept a.state b.state t.moved.chosen t.moved.played)
-turn_small engine a b x small (inr t) = omega (arith, small, answer_cells a.state b.state t.asked x t.answered)
+turn_small engine a b x small (inl t) = omega (arith, small, cells_kept a.game.state b.game.state t.moved.chosen (engine_moved a.game b.game t.moved.chosen t.moved.goes))
+turn_small engine a b x small (inr t) = omega (arith, small, answer_cells a.game b.game t.asked x t.answered)
 
 turns_small : (engine : Colour) (n : ℕ) (a b : Standing) (x : List ℕ) → IsSmall a → Turns engine n a x b → IsSmall b
 turns_small engine zero a b x small t = subst IsSmall (sym t.1) small
 turns_small engine (suc n) a c x small t = turn_small engine t.0 c t.1.1 (turns_small engine n a t.0 t.1.0 small t.1.2) t.1.3
 
 -- no turn follows an end
-turn_moves : (engine : Colour) (a b : Standing) (x : List ℕ) → Turn engine a x b → HasMove a.state
-turn_moves engine a b x (inl t) = (t.moved.chosen, chosen_legal a.state t.moved.chosen t.moved.choice)
+turn_moves : (engine : Colour) (a b : Standing) (x : List ℕ) → Turn engine a x b → HasMove a.game.state
+turn_moves engine a b x (inl t) = (t.moved.chosen, (b.game.state, engine_moved a.game b.game t.moved.chosen t.moved.goes))
 turn_moves engine a b x (inr t) = t.turn.1
 
 no_turn : (engine : Colour) (a b : Standing) (x y : List ℕ) (end : SessionEnd) → Turn engine a x b → Ends engine a y end → ⊥

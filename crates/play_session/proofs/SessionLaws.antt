@@ -60,7 +60,7 @@ module _ (start : Session) (left₀ holds₀ : Option (List ℕ)) (session : Ses
         text = x.text;
         read = count;
         rest = t.0;
-        waits = (x.number, subst (Turns start.engine x.number (standing start 0 bytes) x.text) same x.turns, subst (λ s. IsToAnswer start.engine s.state) same t.2, subst (λ s. s.read < MOST_LINES) same t.3);
+        waits = (x.number, subst (Turns start.engine x.number (standing start 0 bytes) x.text) same x.turns, subst (λ s. IsToAnswer start.engine s.game.state) same t.2, subst (λ s. s.read < MOST_LINES) same t.3);
         written = t.5 ∙ x.written;
         unread = t.1;
       }

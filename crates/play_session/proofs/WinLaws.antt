@@ -6,14 +6,16 @@ use Rattle.go_grid.specs.Board.{other}
 use Rattle.board_words.specs.Words.{winner_line, word_line}
 use Rattle.whole_rules.specs.FirstWinningMove.{IsWinner}
 use Rattle.whole_rules.specs.PlainRecursion.{MoverWins, MoverLoses}
-use Rattle.whole_rules.specs.WholeGame.{Whole, Leads, IsLegal, IsMove, IsFirstMove}
+use Rattle.whole_rules.specs.WholeGame.{Whole, Leads, IsFirstMove}
 use Rattle.whole_rules.specs.declared.states.Move.{Move}
-use Rattle.whole_rules.proofs.PlainLaws.{move_same, move_turn}
+use Rattle.whole_rules.proofs.PlainLaws.{move_turn}
 use Rattle.play_session.proofs.SideLaws.{other_not, other_twice}
 use Rattle.play_session.specs.declared.fault.Fault.{Fault}
 use Rattle.play_session.specs.declared.end.SessionEnd.{SessionEnd}
 use Rattle.play_session.specs.declared.end.SessionEnd.TheVariants.{Won, Lost, InputEnded, ReadFault, WriteFault, TooManyLines}
-use Rattle.endgame_solver.specs.Solved.{HasMove, Chooses}
+use Rattle.endgame_solver.specs.Solved.{HasMove}
+use Rattle.engine_player.specs.EngineGame.{EngineGame}
+use Rattle.engine_player.proofs.EngineGameLaws.{engine_moved, engine_wins}
 use Rattle.play_session.specs.Session.{Standing, EngineMoves, AnswersOpponent, Turn, Turns, Ends, input_line}
 use Rattle.play_session.specs.inner.Written.{MovesOrStays}
 use Rattle.play_session.specs.Laws.{KeepsWin, WinIsKept}
@@ -26,12 +28,6 @@ mover_loses : (s : Whole) (e : Colour) → s.side ≡ other e → IsWinner s e �
 mover_loses s e turn (inl w) = absurd (other_not e (w.0 ∙ turn))
 mover_loses s e turn (inr w) = w.1
 
--- the move that the engine chooses wins, where one does
-chosen_loses : (s t : Whole) (m : Move) → MoverWins Whole Leads s → Chooses s m → IsMove s m t → MoverLoses Whole Leads t
-chosen_loses s t m wins (inl first) moved = subst (MoverLoses Whole Leads) (move_same s first.0.0 t m first.0.1 moved) first.0.2
-chosen_loses s t m (zero, w) (inr none) moved = absurd w
-chosen_loses s t m (suc n, w) (inr none) moved = absurd (none.0 w.1.0 (w.0, w.1.1, (n, w.2)))
-
 answered_wins : (s t : Whole) → MoverLoses Whole Leads s → Leads s t → MoverWins Whole Leads t
 answered_wins s t (zero, l) move = absurd (l t move)
 answered_wins s t (suc n, l) move = (n, l t move)
@@ -40,9 +36,13 @@ no_move : (s : Whole) → MoverWins Whole Leads s → HasMove s
 no_move s (zero, w) = absurd w
 no_move s (suc n, w) = (w.1.0, (w.0, w.1.1))
 
-pub engine_keeps : (s t : Whole) (e : Colour) (text : List ℕ) → s.side ≡ e → IsWinner s e → EngineMoves s text t → IsWinner t e
-engine_keeps s t e text turn w m =
-    inr (sym turn ∙ sym (other_twice s.side) ∙ sym (ap other (move_turn s t m.chosen m.played)), chosen_loses s t m.chosen (mover_wins s e turn w) m.choice m.played)
+pub engine_keeps : (p q : EngineGame) (e : Colour) (text : List ℕ) → p.state.side ≡ e → IsWinner p.state e → EngineMoves p text q → IsWinner q.state e
+engine_keeps p q e text turn w m =
+    let moved = engine_moved p q m.chosen m.goes in
+    inr (
+      sym turn ∙ sym (other_twice p.state.side) ∙ sym (ap other (move_turn p.state q.state m.chosen moved)),
+      engine_wins p q m.chosen (subst (IsWinner p.state) (sym turn) w) m.goes,
+    )
 
 pub opponent_keeps : (s t : Whole) (e : Colour) → s.side ≡ other e → IsWinner s e → MovesOrStays s t → IsWinner t e
 opponent_keeps s t e turn w (inl move) =
@@ -52,10 +52,10 @@ opponent_keeps s t e turn w (inr same) = subst (λ x. IsWinner x e) (sym same) w
 pub not_lost : (s : Whole) (e : Colour) → s.side ≡ e → IsWinner s e → ¬ HasMove s → ⊥
 not_lost s e turn w none = none (no_move s (mover_wins s e turn w))
 
-pub answers_step : (s t : Whole) (asked : Option Move) (text : List ℕ) → AnswersOpponent s asked text t → MovesOrStays s t
-answers_step s t None text a = inr a.1
-answers_step s t (Some m) text (Ok u, h, e) = inl (m, h)
-answers_step s t (Some m) text (Err f, h, e) = inr h.0
+pub answers_step : (p q : EngineGame) (asked : Option Move) (text : List ℕ) → AnswersOpponent p asked text q → MovesOrStays p.state q.state
+answers_step p q None text a = inr (ap (λ x. x.state) a.1)
+answers_step p q (Some m) text (Ok u, h, e) = inl (m, h.0)
+answers_step p q (Some m) text (Err f, h, e) = inr (ap (λ x. x.state) h.0)
 
 first : List ℕ → ℕ
 first text = get_or text 7 0
@@ -75,36 +75,31 @@ unfolding word_line first
 no_input colour.Black e = absurd (omega (arith, ap first e))
 no_input colour.White e = absurd (omega (arith, ap first e))
 
-never_lost : (engine : Colour) (a : Standing) (text : List ℕ) (end : SessionEnd) → IsWinner a.state engine → Ends engine a text end → (end ≢ Lost) × (text ≢ winner_line (other engine))
+never_lost : (engine : Colour) (a : Standing) (text : List ℕ) (end : SessionEnd) → IsWinner a.game.state engine → Ends engine a text end → (end ≢ Lost) × (text ≢ winner_line (other engine))
 never_lost engine a text Won w e = (λ i. cc, λ i. other_winner engine (sym e.2 ∙ i))
-never_lost engine a text Lost w e = absurd (not_lost a.state engine e.1 w e.0)
+never_lost engine a text Lost w e = absurd (not_lost a.game.state engine e.1 w e.0)
 never_lost engine a text TooManyLines w e = (λ i. cc, λ i. not_winner (other engine) (sym e.2 ∙ i))
 never_lost engine a text InputEnded w e = (λ i. cc, λ i. no_input (other engine) (sym e.3 ∙ i))
 never_lost engine a text ReadFault w e = absurd e
 never_lost engine a text WriteFault w e = absurd e
 
-keeps_here : (engine : Colour) (a : Standing) → IsWinner a.state engine → KeepsWin engine a
+keeps_here : (engine : Colour) (a : Standing) → IsWinner a.game.state engine → KeepsWin engine a
 keeps_here engine a w = record {
   winner = w;
-  loses = λ text b t. chosen_loses a.state b.state t.moved.chosen (mover_wins a.state engine t.turn w) t.moved.choice t.moved.played;
+  loses = λ text b t. engine_wins a.game b.game t.moved.chosen (subst (IsWinner a.game.state) (sym t.turn) w) t.moved.goes;
   never_lost = λ text end e. never_lost engine a text end w e;
 }
 
-turn_keeps : (engine : Colour) (a b : Standing) (text : List ℕ) → IsWinner a.state engine → Turn engine a text b → IsWinner b.state engine
-turn_keeps engine a b text w (inl t) = engine_keeps a.state b.state engine text t.turn w t.moved
-turn_keeps engine a b text w (inr t) = opponent_keeps a.state b.state engine t.turn.0 w (answers_step a.state b.state t.asked text t.answered)
+turn_keeps : (engine : Colour) (a b : Standing) (text : List ℕ) → IsWinner a.game.state engine → Turn engine a text b → IsWinner b.game.state engine
+turn_keeps engine a b text w (inl t) = engine_keeps a.game b.game engine text t.turn w t.moved
+turn_keeps engine a b text w (inr t) = opponent_keeps a.game.state b.game.state engine t.turn.0 w (answers_step a.game b.game t.asked text t.answered)
 
-turns_keep : (engine : Colour) (n : ℕ) (a b : Standing) (text : List ℕ) → IsWinner a.state engine → Turns engine n a text b → IsWinner b.state engine
-turns_keep engine zero a b text w t = subst (λ x. IsWinner x.state engine) (sym t.1) w
+turns_keep : (engine : Colour) (n : ℕ) (a b : Standing) (text : List ℕ) → IsWinner a.game.state engine → Turns engine n a text b → IsWinner b.game.state engine
+turns_keep engine zero a b text w t = subst (λ x. IsWinner x.game.state engine) (sym t.1) w
 turns_keep engine (suc n) a c text w t = turn_keeps engine t.0 c t.1.1 (turns_keep engine n a t.0 t.1.0 w t.1.2) t.1.3
 
 pub win_is_kept : WinIsKept
 win_is_kept engine a b n text w t = keeps_here engine b (turns_keep engine n a b text w t)
-
--- a chosen move is legal
-pub chosen_legal : (s : Whole) (m : Move) → Chooses s m → IsLegal s m
-chosen_legal s m (inl first) = (first.0.0, first.0.1)
-chosen_legal s m (inr none) = none.1.0
 
 -- where the side to move has no move, the engine doesn't lose what it has won
 pub end_keeps : (s : Whole) (e winner : Colour) (result : Result (Option SessionEnd) Fault) → IsWinner s e → IsFirstMove s None → winner ≡ other s.side

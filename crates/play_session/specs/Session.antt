@@ -5,8 +5,9 @@ use Rattle.go_grid.specs.declared.grid.Colour.{Colour}
 use Rattle.go_grid.specs.Board.{Board, other}
 use Rattle.board_words.specs.Words.{winner_line, word_line}
 use Rattle.whole_rules.specs.Moves.{move_word}
-use Rattle.endgame_solver.specs.Solved.{HasMove, Chooses}
-use Rattle.whole_rules.specs.WholeGame.{Whole, IsMove, Applies}
+use Rattle.endgame_solver.specs.Solved.{HasMove}
+use Rattle.engine_player.specs.EngineGame.{EngineGame, EngineGoes, GoesByHand}
+use Rattle.whole_rules.specs.WholeGame.{Whole}
 use Rattle.whole_rules.specs.declared.states.Move.{Move}
 use Rattle.whole_rules.specs.declared.states.MoveError.{MoveError}
 use Rattle.whole_rules.specs.declared.states.MoveError.TheVariants.{NotContested, Occupied, Suicide, EmptyPurse, NoHalf}
@@ -15,9 +16,9 @@ use Rattle.play_session.specs.declared.end.SessionEnd.TheVariants.{Won, Lost, In
 use Rattle.desk_io.specs.Lines.{IsLine}
 use Rattle.play_session.specs.Words.{NamesMove}
 
--- where a session stands: the state, how many lines were read, and the bytes that are left
+-- where a session stands: the game, how many lines were read, and the bytes that are left
 pub record Standing : Type 0 where
-  pub state : Whole
+  pub game : EngineGame
   pub read : ℕ
   pub left : List ℕ
 
@@ -51,23 +52,22 @@ answer_line g m (Ok _) = played_line g m
 answer_line g m (Err e) = refused_line (refusal_word e)
 
 -- the engine makes a move that it chooses, and its line is written
-pub record EngineMoves (s : Whole) (text : List ℕ) (t : Whole) : Type 0 where
+pub record EngineMoves (p : EngineGame) (text : List ℕ) (q : EngineGame) : Type 0 where
   pub chosen : Move
-  pub choice : Chooses s chosen
-  pub played : IsMove s chosen t
-  pub written : text ≡ engine_line s.board chosen
+  pub goes : EngineGoes p chosen q
+  pub written : text ≡ engine_line p.state.board chosen
 
 -- the engine's turn: it moves, and no line is read
 pub record IsEngineTurn (engine : Colour) (a : Standing) (text : List ℕ) (b : Standing) : Type 0 where
-  pub turn : a.state.side ≡ engine
-  pub moved : EngineMoves a.state text b.state
+  pub turn : a.game.state.side ≡ engine
+  pub moved : EngineMoves a.game text b.game
   pub same_count : b.read ≡ a.read
   pub same_bytes : b.left ≡ a.left
 
--- what is written in answer to the opponent, and the state after, where a move or none was asked for
-abbrev pub AnswersOpponent : Whole → Option Move → List ℕ → Whole → Type 0
-AnswersOpponent s None text t = (text ≡ refused_line (codes "line")) × (t ≡ s)
-AnswersOpponent s (Some m) text t = (result : Result Unit MoveError) × Applies s m t result × (text ≡ answer_line s.board m result)
+-- what is written in answer to the opponent, and the game after, where a move or none was asked for
+abbrev pub AnswersOpponent : EngineGame → Option Move → List ℕ → EngineGame → Type 0
+AnswersOpponent p None text q = (text ≡ refused_line (codes "line")) × (q ≡ p)
+AnswersOpponent p (Some m) text q = (result : Result Unit MoveError) × GoesByHand p m result q × (text ≡ answer_line p.state.board m result)
 
 -- it is the opponent's turn, and the opponent has a move
 abbrev pub IsToAnswer : Colour → Whole → Type 0
@@ -75,14 +75,14 @@ IsToAnswer engine s = (s.side ≡ other engine) × HasMove s
 
 -- the opponent's turn: one line is read and answered
 pub record IsOpponentTurn (engine : Colour) (a : Standing) (text : List ℕ) (b : Standing) : Type 0 where
-  pub turn : IsToAnswer engine a.state
+  pub turn : IsToAnswer engine a.game.state
   pub few : a.read < MOST_LINES
   pub some : a.left ≢ []
   pub line : List ℕ
   pub asked : Option Move
   pub taken : IsLine 256 a.left line b.left
-  pub asks : NamesMove a.state.board line asked
-  pub answered : AnswersOpponent a.state asked text b.state
+  pub asks : NamesMove a.game.state.board line asked
+  pub answered : AnswersOpponent a.game asked text b.game
   pub counted : b.read ≡ a.read + 1
 
 -- a turn after which the session goes on
@@ -91,10 +91,10 @@ Turn engine a text b = IsEngineTurn engine a text b ⊎ IsOpponentTurn engine a 
 
 -- the session ends here: the side to move has no move, or the opponent is to move and no line may be read or is left
 abbrev pub Ends : Colour → Standing → List ℕ → SessionEnd → Type 0
-Ends engine a text Won = ¬ HasMove a.state × (a.state.side ≡ other engine) × (text ≡ winner_line engine)
-Ends engine a text Lost = ¬ HasMove a.state × (a.state.side ≡ engine) × (text ≡ winner_line (other engine))
-Ends engine a text TooManyLines = IsToAnswer engine a.state × (a.read ≡ MOST_LINES) × (text ≡ [])
-Ends engine a text InputEnded = IsToAnswer engine a.state × (a.read < MOST_LINES) × (a.left ≡ []) × (text ≡ input_line)
+Ends engine a text Won = ¬ HasMove a.game.state × (a.game.state.side ≡ other engine) × (text ≡ winner_line engine)
+Ends engine a text Lost = ¬ HasMove a.game.state × (a.game.state.side ≡ engine) × (text ≡ winner_line (other engine))
+Ends engine a text TooManyLines = IsToAnswer engine a.game.state × (a.read ≡ MOST_LINES) × (text ≡ [])
+Ends engine a text InputEnded = IsToAnswer engine a.game.state × (a.read < MOST_LINES) × (a.left ≡ []) × (text ≡ input_line)
 Ends engine a text _ = ⊥
 
 -- so many turns, one after the other, and what they write
@@ -108,7 +108,7 @@ IsNextLine engine a text = ((b : Standing) × Turn engine a text b) ⊎ ((end : 
 
 -- all turns up to one of the opponent's, whose line is still to be read
 abbrev pub Waits : Colour → Standing → List ℕ → Standing → Type 0
-Waits engine a text b = (n : ℕ) × Turns engine n a text b × IsToAnswer engine b.state × (b.read < MOST_LINES)
+Waits engine a text b = (n : ℕ) × Turns engine n a text b × IsToAnswer engine b.game.state × (b.read < MOST_LINES)
 
 -- turns, and a front part of the line after them
 abbrev pub BreaksOff : Colour → Standing → List ℕ → Type 0

@@ -2,20 +2,20 @@
 use Rattle.std.specs.Prelude.{◌≡◌, ℕ, List, ◌++◌, Option, Some}
 use Rattle.std.specs.Io.KnownBytes.{append_known}
 use Rattle.go_grid.specs.declared.grid.Colour.{Colour}
-use Rattle.whole_rules.specs.WholeGame.{Whole}
+use Rattle.engine_player.specs.EngineGame.{EngineGame}
 use Rattle.play_session.specs.declared.end.SessionEnd.{SessionEnd}
 use Rattle.play_session.specs.declared.end.SessionEnd.TheVariants.{ReadFault, WriteFault}
 use Rattle.play_session.specs.Session.{Standing, IsSession, Waits, BreaksOff}
 
--- what a session keeps: the state, the engine's colour, and the bytes that it holds unread
+-- what a session keeps: the game, the engine's colour, and the bytes that it holds unread
 pub record Session : Type 0 where
-  pub state : Whole
+  pub game : EngineGame
   pub engine : Colour
   pub held : List ℕ
 
 -- where the session stands, with so many lines read and these bytes left in the source
 abbrev pub standing : Session → ℕ → List ℕ → Standing
-standing session read rest = record { state = session.state; read = read; left = session.held ++ rest }
+standing session read rest = record { game = session.game; read = read; left = session.held ++ rest }
 
 -- the whole session was written, and the session stands at its end
 pub record IsPlayed (engine : Colour) (a : Standing) (before now : Option (List ℕ)) (end : SessionEnd) (session : Session) (left : Option (List ℕ)) : Type 0 where

@@ -11,4 +11,4 @@ mod words;
 
 pub use end::SessionEnd;
 pub use laws::session_laws;
-pub use session::Session;
+pub use session::{MOST_TURNS, Session};

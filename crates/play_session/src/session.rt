@@ -10,7 +10,8 @@ ghost use Rattle.play_session.specs.declared.fault.Fault.TheVariants.{Read, Writ
 ghost use Rattle.play_session.specs.declared.end.SessionEnd.TheVariants.{Won, Lost, InputEnded, ReadFault, WriteFault};
 ghost use Rattle.desk_io.specs.Lines.{IsSameInput};
 ghost use Rattle.desk_io.specs.Lines.{UsesLines};
-ghost use Rattle.endgame_solver.specs.Solved.{Chooses};
+ghost use Rattle.endgame_solver.specs.Solved.{HasMove};
+ghost use Rattle.engine_player.specs.Room.{CanTake};
 ghost use Rattle.play_session.specs.Session.{AnswersOpponent, EngineMoves, IsToAnswer, input_line};
 ghost use Rattle.whole_rules.specs.Moves.{IsMoveOnBoard};
 ghost use Rattle.play_session.specs.Written.{Played, standing};
@@ -23,13 +24,16 @@ use crate::reply::Reply;
 use crate::words::asked_move;
 use board_words::colour_word;
 use desk_io::{Failed, LineReader, MOST_LINES, Sink, Source};
-use endgame_solver::Solved;
+use engine_player::Player;
 use go_grid::{Board, Colour};
 use std::marker::Model;
 use whole_rules::Move;
 
 /// The most bytes of a line.
 pub(crate) const MOST_BYTES: usize = 256;
+
+/// The most turns of one run: two for each line, and one of the engine's at either end.
+pub const MOST_TURNS: usize = 20_002;
 
 /// What the opponent's line asks for.
 #[derive(Drop)]
@@ -92,48 +96,40 @@ fn end_input<K: Sink>(out: &mut K) -> Result<Option<SessionEnd>, Fault>
     Ok(Some(SessionEnd::InputEnded))
 }
 
-/// The first winning move, or the first move where no move wins.
-fn choose(solved: &mut Solved, first: Move) -> Move
-    requires { IsFirstMove solved.old.state (Some first) }
-    ensures choice { Chooses solved.old.state result }
-    ensures same { solved.new ≡ solved.old }
-{
-    match solved.winning_move() {
-        Some(winning) => winning,
-        None => first,
-    }
-}
-
 /// Makes the engine's move and writes it.
-fn move_engine<K: Sink>(solved: &mut Solved, first: Move, out: &mut K) -> Result<(), Fault>
-    requires { IsFirstMove solved.old.state (Some first) }
-    ensures moved { (text : List ℕ) × EngineMoves solved.old.state text solved.new.state
+fn move_engine<K: Sink>(player: &mut Player, out: &mut K) -> Result<(), Fault>
+    requires movable { HasMove player.old.state }
+    requires room { CanTake 1 player.old }
+    ensures moved { (text : List ℕ) × EngineMoves player.old text player.new
         × Appends (K.holds out.old) (K.holds out.new) result text }
+    ensures room { (n : ℕ) → CanTake (n + 1) player.old → CanTake n player.new }
     ensures cause { WriteCauses (K.faults out.old) (K.faults out.new) result }
 {
-    let chosen = choose(solved, first);
-    let line = move_line("engine", solved.whole().board().size(), &chosen);
-    match solved.play(chosen) {
-        Ok(()) => say(out, &line),
-        // The first move of a state is legal.
-        Err(_) => unreachable!(),
-    }
+    let Some(chosen) = player.choose() else {
+        // The side to move has a move.
+        unreachable!()
+    };
+    let line = move_line("engine", player.whole().board().size(), &chosen);
+    player.make(chosen);
+    say(out, &line)
 }
 
 /// Answers what a line asks for.
-fn answer<K: Sink>(solved: &mut Solved, asked: Option<Move>, out: &mut K) -> Result<(), Fault>
-    requires { IfSome asked (IsMoveOnBoard solved.old.state.board.columns
-        solved.old.state.board.rows) }
+fn answer<K: Sink>(player: &mut Player, asked: Option<Move>, out: &mut K) -> Result<(), Fault>
+    requires on_board { IfSome asked (IsMoveOnBoard player.old.state.board.columns
+        player.old.state.board.rows) }
+    requires room { CanTake 1 player.old }
     ensures answered { (text : List ℕ)
-        × AnswersOpponent solved.old.state asked text solved.new.state
+        × AnswersOpponent player.old asked text player.new
         × Appends (K.holds out.old) (K.holds out.new) result text }
+    ensures room { (n : ℕ) → CanTake (n + 1) player.old → CanTake n player.new }
     ensures cause { WriteCauses (K.faults out.old) (K.faults out.new) result }
 {
     let Some(chosen) = asked else {
         return say(out, &word_line("refused", b"line"));
     };
-    let played = move_line("played", solved.whole().board().size(), &chosen);
-    match solved.play(chosen) {
+    let played = move_line("played", player.whole().board().size(), &chosen);
+    match player.play(chosen) {
         Ok(()) => say(out, &played),
         Err(error) => say(out, &refusal(error)),
     }
@@ -163,11 +159,11 @@ pub(crate) fn take_request<S: Source>(
     Ok(Request::Line(asked))
 }
 
-/// A game between the engine and whoever writes the lines. Contracts see the state, the engine's colour, and the bytes
+/// A game between the engine and whoever writes the lines. Contracts see the game, the engine's colour, and the bytes
 /// that were read and not yet used.
 #[derive(Debug, Drop)]
 pub struct Session {
-    solved: Solved,
+    player: Player,
     engine: Colour,
     input: LineReader<MOST_BYTES>,
 }
@@ -178,18 +174,18 @@ impl Model for Session {
 
     ghost Value = { Session };
 
-    ghost view = { λ s. record { state = s.solved.state; engine = s.engine; held = s.input } };
+    ghost view = { λ s. record { game = s.player; engine = s.engine; held = s.input } };
 
     ghost invariant = { λ s. length s.input ≤ 256 };
 }
 
 impl Session {
     /// A session that hasn't read anything.
-    pub fn new(solved: Solved, engine: Colour) -> Session
-        ensures { result ≡ record { state = solved.state; engine = engine; held = [] } }
+    pub fn new(player: Player, engine: Colour) -> Session
+        ensures { result ≡ record { game = player; engine = engine; held = [] } }
     {
         Session {
-            solved,
+            player,
             engine,
             input: LineReader::new(),
         }
@@ -202,10 +198,12 @@ impl Session {
         lines: &mut S,
         out: &mut K,
     ) -> Result<Option<SessionEnd>, Fault>
-        requires turn { IsToAnswer self.old.engine self.old.state }
+        requires turn { IsToAnswer self.old.engine self.old.game.state }
         requires few { read.old ≤ MOST_LINES }
         requires few_held { length self.old.held ≤ 256 }
+        requires room { CanTake 1 self.old.game }
         ensures engine { self.new.engine ≡ self.old.engine }
+        ensures room { (n : ℕ) → CanTake (n + 1) self.old.game → CanTake n self.new.game }
         ensures written { (bytes : List ℕ) → S.left lines.old ≡ Some bytes
             → TurnWritten self.old.engine (standing self.old read.old bytes) (K.holds out.old)
             (K.holds out.new) result self.new read.new (S.left lines.new) }
@@ -213,7 +211,7 @@ impl Session {
             self.new.held (S.left lines.new) }
         ensures few_held { length self.new.held ≤ 256 }
         ensures few_read { read.new ≤ MOST_LINES }
-        ensures stepped { MovesOrStays self.old.state self.new.state }
+        ensures stepped { MovesOrStays self.old.game.state self.new.game.state }
         ensures counted { result ≡ Ok None → (read.old < MOST_LINES) × (read.new ≡ read.old + 1) }
         ensures never_lost { result ≢ Ok (Some Lost) }
         ensures natural { IfOk result (λ end. IfSome end IsNatural) }
@@ -223,13 +221,13 @@ impl Session {
         if *read == MOST_LINES {
             return Ok(Some(SessionEnd::TooManyLines));
         }
-        let asked = match take_request(&mut self.input, self.solved.whole().board(), lines) {
+        let asked = match take_request(&mut self.input, self.player.whole().board(), lines) {
             Err(_) => return Err(Fault::Read),
             Ok(Request::Ended) => return end_input(out),
             Ok(Request::Line(asked)) => asked,
         };
         *read += 1;
-        match answer(&mut self.solved, asked, out) {
+        match answer(&mut self.player, asked, out) {
             Err(fault) => return Err(fault),
             Ok(()) => {}
         }
@@ -244,7 +242,9 @@ impl Session {
         out: &mut K,
     ) -> Result<Option<SessionEnd>, Fault>
         requires few { read.old ≤ MOST_LINES }
+        requires room { CanTake 1 self.old.game }
         ensures engine { self.new.engine ≡ self.old.engine }
+        ensures room { (n : ℕ) → CanTake (n + 1) self.old.game → CanTake n self.new.game }
         ensures written { (bytes : List ℕ) → S.left lines.old ≡ Some bytes
             → TurnWritten self.old.engine (standing self.old read.old bytes) (K.holds out.old)
             (K.holds out.new) result self.new read.new (S.left lines.new) }
@@ -252,23 +252,23 @@ impl Session {
             self.new.held (S.left lines.new) }
         ensures few_held { length self.new.held ≤ 256 }
         ensures few_read { read.new ≤ MOST_LINES }
-        ensures keeps { IsWinner self.old.state self.old.engine
-            → IsWinner self.new.state self.old.engine × (result ≢ Ok (Some Lost)) }
+        ensures keeps { IsWinner self.old.game.state self.old.engine
+            → IsWinner self.new.game.state self.old.engine × (result ≢ Ok (Some Lost)) }
         ensures fewer { result ≡ Ok None
             → (turns_left self.new read.new < turns_left self.old read.old) }
         ensures natural { IfOk result (λ end. IfSome end IsNatural) }
         ensures cause { Causes (S.faults lines.old) (S.faults lines.new) (K.faults out.old)
             (K.faults out.new) result }
     {
-        let side = self.solved.whole().side();
-        let first = match self.solved.whole().first_move() {
+        let side = self.player.whole().side();
+        match self.player.whole().first_move() {
             None => return end_game(side.other(), self.engine, out),
-            Some(first) => first,
-        };
+            Some(_) => {}
+        }
         if !is_same(side, self.engine) {
             return self.opponent_turn(read, lines, out);
         }
-        match move_engine(&mut self.solved, first, out) {
+        match move_engine(&mut self.player, out) {
             Err(fault) => return Err(fault),
             Ok(()) => {}
         }
@@ -277,6 +277,7 @@ impl Session {
 
     /// Plays turn by turn.
     fn turns<S: Source, K: Sink>(&mut self, lines: &mut S, out: &mut K) -> Result<SessionEnd, Fault>
+        requires room { CanTake MOST_TURNS self.old.game }
         ensures engine { self.new.engine ≡ self.old.engine }
         ensures written { (bytes : List ℕ) → S.left lines.old ≡ Some bytes
             → IsPlayedTo self.old.engine (standing self.old 0 bytes) (K.holds out.old)
@@ -284,7 +285,7 @@ impl Session {
         ensures used { UsesLines 256 0 MOST_LINES self.old.held (S.left lines.old) self.new.held
             (S.left lines.new) }
         ensures few_held { length self.new.held ≤ 256 }
-        ensures keeps { IsWinner self.old.state self.old.engine → result ≢ Ok Lost }
+        ensures keeps { IsWinner self.old.game.state self.old.engine → result ≢ Ok Lost }
         ensures natural { IfOk result IsNatural }
         ensures cause { Causes (S.faults lines.old) (S.faults lines.new) (K.faults out.old)
             (K.faults out.new) result }
@@ -302,8 +303,10 @@ impl Session {
     /// Plays the session to its end, from the state as it stands. The bytes that count are those that the session holds
     /// unread, at most 256, and then those that the source has left; 10,000 lines are read at most in this call. Where the
     /// source tells its bytes, the text of the session was written. Where a read failed it is all turns up to the one whose
-    /// line was to be read, and where a write failed all turns before that line and a front part of it.
+    /// line was to be read, and where a write failed all turns before that line and a front part of it. Where kos are admitted the
+    /// purses must have room for what so many turns pay in.
     pub fn run<S: Source, K: Sink>(&mut self, lines: &mut S, out: &mut K) -> SessionEnd
+        requires room { CanTake MOST_TURNS self.old.game }
         ensures text { (bytes : List ℕ) → S.left lines.old ≡ Some bytes
             → Played self.old.engine (standing self.old 0 bytes) (K.holds out.old)
             (K.holds out.new) result self.new (S.left lines.new) }
@@ -314,7 +317,7 @@ impl Session {
         ensures write_fault { result ≡ WriteFault → Rose (K.faults out.old) (K.faults out.new) }
         ensures reads_later { S.faults lines.old ≤ S.faults lines.new }
         ensures writes_later { K.faults out.old ≤ K.faults out.new }
-        ensures keeps_win { IsWinner self.old.state self.old.engine → result ≢ Lost }
+        ensures keeps_win { IsWinner self.old.game.state self.old.engine → result ≢ Lost }
         ensures engine { self.new.engine ≡ self.old.engine }
     {
         match self.turns(lines, out) {

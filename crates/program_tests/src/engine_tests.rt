@@ -25,6 +25,7 @@ const LIMITS: EngineLimits = EngineLimits {
     positions: 100_000,
     parts: 500,
     territory: false,
+    cycles: false,
 };
 
 /// What a session comes to: its end, how many loads there were, those that failed, and what was written.

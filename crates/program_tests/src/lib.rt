@@ -8,6 +8,8 @@ mod calc_tests;
 #[cfg(test)]
 mod cycle_game_tests;
 #[cfg(test)]
+mod cycle_play_tests;
+#[cfg(test)]
 mod cycle_run_tests;
 #[cfg(test)]
 mod cycle_text_tests;

@@ -207,24 +207,22 @@ fn reads_ten_thousand_lines(rt: HostRuntime) -> Result<(), Fail> {
 /// What the opponent may try at each turn.
 const TRIES: [&[u8]; 5] = [b"eb\n", b"fb\n", b"gb\n", b"spend\n", b"half\n"];
 
-/// The lines of these tries.
-fn lines_of(alloc: Global, tries: &[usize]) -> Result<Vec<u8>, AllocError> {
+/// The lines of a list of tries, each by its number in a table.
+fn lines_of(alloc: Global, table: &[&[u8]], tries: &[usize]) -> Result<Vec<u8>, AllocError> {
     let mut lines = Vec::new(alloc);
     for number in tries {
-        if let Some(line) = TRIES.get(*number) {
+        if let Some(line) = table.get(*number) {
             lines.extend_from_slice(line)?;
         }
     }
     Ok(lines)
 }
 
-/// The next list of tries that doesn't begin with this one, or the empty one.
-fn go_on(tries: &mut Vec<usize>) -> Result<(), AllocError> {
+/// The next list of so many tries that doesn't begin with this one, or the empty one.
+fn go_on(tries: &mut Vec<usize>, most: usize) -> Result<(), AllocError> {
     for _ in 0..tries.len() {
-        let next = tries
-            .pop()
-            .map_or(TRIES.len(), |last| last.saturating_add(1));
-        if next < TRIES.len() {
+        let next = tries.pop().map_or(most, |last| last.saturating_add(1));
+        if next < most {
             tries.push(next)?;
             return Ok(());
         }
@@ -238,30 +236,52 @@ fn has_line(text: &[u8], beginning: &[u8]) -> bool {
         .any(|place| place == beginning)
 }
 
+/// How many games are played to their end against all lines of the tries, each of which the engine wins; or nothing where one
+/// is lost, or a game is left.
+pub(crate) fn games_won(
+    alloc: Global,
+    words: &str,
+    table: &[&[u8]],
+    winner: &[u8],
+) -> Result<Option<u32>, AllocError> {
+    let mut tries = Vec::new(alloc);
+    let mut games = 0_u32;
+    for _ in 0..5_000 {
+        let lines = lines_of(alloc, table, &tries)?;
+        let (status, text) = outcome(alloc, words, &lines, 5_000, NOTHING_FAILS)?;
+        if status != Status::Done {
+            return Ok(None);
+        }
+        let refused = has_line(&text, b"refused");
+        if has_line(&text, b"input ended") && !refused {
+            tries.push(0)?;
+            continue;
+        }
+        if !refused {
+            if !has_line(&text, winner) {
+                return Ok(None);
+            }
+            games = games.saturating_add(1);
+        }
+        go_on(&mut tries, table.len())?;
+        if tries.is_empty() {
+            return Ok(Some(games));
+        }
+    }
+    Ok(None)
+}
+
 #[test]
 fn an_engine_that_wins_never_loses(rt: HostRuntime) -> Result<(), Fail> {
     let alloc = rt.alloc();
-    for words in ["play~f", "play~d~--turn~white~--as~black"] {
-        let mut tries = Vec::new(alloc);
-        let mut games = 0_u32;
-        for _ in 0..5000 {
-            let lines = lines_of(alloc, &tries)?;
-            let (status, text) = outcome(alloc, words, &lines, 500, NOTHING_FAILS)?;
-            assert_eq!(rt; status, Status::Done);
-            if has_line(&text, b"input ended") && !has_line(&text, b"refused") {
-                tries.push(0)?;
-                continue;
-            }
-            if !has_line(&text, b"refused") {
-                assert!(rt; has_line(&text, b"winner black"));
-                games = games.saturating_add(1);
-            }
-            go_on(&mut tries)?;
-            if tries.is_empty() {
-                break;
-            }
-        }
-        assert!(rt; tries.is_empty() && games > 1);
-    }
+    let long = games_won(alloc, "play~f", &TRIES, b"winner black")?;
+    assert_eq!(rt; long, Some(4));
+    let short = games_won(
+        alloc,
+        "play~d~--turn~white~--as~black",
+        &TRIES,
+        b"winner black",
+    )?;
+    assert_eq!(rt; short, Some(4));
     Ok(())
 }

@@ -39,6 +39,13 @@ const ENDLESS: &[u8] = b"(;SZ[10:3]AB[ba][da:ea][ab:db][ac:ec]AW[fa:ga][ia][gb:j
 /// `.X.XXXXO.O.` / `XXXX...OOOO` / `XXXXXXXOOOO`: a corridor of three points, open to White.
 const LONG_CORRIDOR: &[u8] = b"(;SZ[11:3]AB[ba][da:ga][ab:db][ac:gc]AW[ha][ja][hb:kb][hc:kc])";
 
+/// A board of ten columns and three rows with a ko, in which the first winning move takes back for ever.
+const KO: &[u8] = b"(;SZ[10:3]KM[-3]AB[aa][ca:da][ab:eb][bc:ec]AW[ea][ga:ha][ja][fb:jb][fc:ic])";
+
+/// The same with a second ko below the first.
+const TWO_KOS: &[u8] =
+    b"(;SZ[10:3]AB[aa][ca:da][ab:eb][ac][cc:dc]AW[ea][ga:ha][ja][fb:jb][ec][gc:hc][jc])";
+
 /// A saved game of two lines, after a move, a capture and a pass.
 pub(crate) const COPY: &[u8] =
     b"Saved game (copy)\n(;FF[4]GaMe[1]SiZe[9:2]KM[6.5]C[a \\] b]AB[ba][da][ab:bb][db:eb]AW[ca][fa][ha][fb:ib](;B[cb]C[takes];W[tt];Black[tt])(;B[ea]))";
@@ -61,7 +68,7 @@ pub(crate) const NOTHING_FAILS: Failing = Failing {
 };
 
 /// The files of the tests by their names on the shelf.
-const FILES: [(&str, &[u8]); 11] = [
+const FILES: [(&str, &[u8]); 13] = [
     ("a", TIE),
     ("b", TWO_POINTS),
     ("c", ONE_POINT),
@@ -70,6 +77,8 @@ const FILES: [(&str, &[u8]); 11] = [
     ("f", LONG_CORRIDOR),
     ("visited", VISITED),
     ("g", CAPTIVE),
+    ("k", KO),
+    ("kos", TWO_KOS),
     ("saved", SAVED),
     ("walls", WALLS),
     ("twice", TWICE),

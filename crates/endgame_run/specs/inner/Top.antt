@@ -1,7 +1,8 @@
 -- What the parts of the top call answer.
-use Rattle.std.specs.Prelude.{◌≡◌, ◌≢◌, codes, ℕ, ℤ, [], List, Option}
+use Rattle.std.specs.Prelude.{◌≡◌, ◌≢◌, codes, ℕ, ℤ, [], List, Bool, Option}
 use Rattle.desk_io.specs.Desk.{Input}
 use Rattle.go_grid.specs.declared.grid.Colour.{Colour}
+use Rattle.go_grid.specs.Chain.{IsSettled}
 use Rattle.sgf_go.specs.declared.settings.Settings.{Settings}
 use Rattle.sgf_go.specs.declared.settings.Setup.{Setup}
 use Rattle.gd_words.specs.Job.{Job}
@@ -10,25 +11,25 @@ use Rattle.gd_words.specs.declared.job.CycleQuestion.{CycleQuestion}
 use Rattle.gd_words.specs.declared.job.CycleQuestion.TheVariants as cycle
 use Rattle.gd_words.specs.declared.job.Question.{Question}
 use Rattle.gd_words.specs.declared.job.Question.TheVariants as question
-use Rattle.endgame_solver.specs.Solved.{IsPlayable, Solved}
+use Rattle.endgame_solver.specs.Solved.{Solved}
+use Rattle.engine_player.specs.Opening.{OpensGame}
 use Rattle.endgame_solver.specs.declared.limits.Limits.{Limits}
-use Rattle.gtp_engine.specs.declared.end.GtpEnd.{GtpEnd}
-use Rattle.gtp_engine.specs.declared.end.GtpEnd.TheVariants as end
+use Rattle.gtp_words.specs.declared.end.GtpEnd.{GtpEnd}
+use Rattle.gtp_words.specs.declared.end.GtpEnd.TheVariants as end
 use Rattle.report.specs.Analysis.{IsLineText, IsMarginText, IsMovesText}
 use Rattle.report.specs.CycleValues.{IsCycleValuesText, IsFirstCycleUnshown}
 use Rattle.report.specs.Solution.{IsSolveText}
 use Rattle.report.specs.Values.{IsFirstUnshown, IsValuesText}
 use Rattle.endgame_run.specs.Cycles.{IsGameText}
-use Rattle.endgame_run.specs.Game.{IsEngine, IsGame}
+use Rattle.endgame_run.specs.Game.{IsEngine, IsGame, question_of_game}
 use Rattle.endgame_run.specs.Limits.{engine_limits, limits_of}
-use Rattle.endgame_run.specs.Question.{IsAnswer}
-use Rattle.endgame_run.specs.Refusal.{IsRefused, form_line}
+use Rattle.endgame_run.specs.Question.{IsAnswer, IsPositionAnswer}
+use Rattle.endgame_run.specs.Refusal.{form_line}
 use Rattle.endgame_run.specs.Written.{Finishes}
 use Rattle.endgame_run.specs.declared.question.Asked.{Asked}
 use Rattle.endgame_run.specs.declared.question.Asked.TheVariants as asked
 use Rattle.endgame_run.specs.declared.question.Opened.{Opened}
 use Rattle.endgame_run.specs.declared.question.Opened.TheVariants.{Game, Fault}
-use Rattle.gd_words.specs.declared.job.Question.TheVariants.{Solve}
 use Rattle.endgame_run.specs.declared.status.Status.{Status}
 use Rattle.endgame_run.specs.declared.status.Status.TheVariants.{CannotRead, CannotWrite, Done, FormLimit, Memory, TooManyLines}
 
@@ -36,7 +37,7 @@ use Rattle.endgame_run.specs.declared.status.Status.TheVariants.{CannotRead, Can
 -- an expression within its limit of parts, or for the engine within its limits
 abbrev pub IsAsked : Job → Asked → Type 0
 IsAsked job (asked.Answer inquiry) = (job.task ≡ ask inquiry.question inquiry.word.now) × (inquiry.limits ≡ limits_of job)
-IsAsked job (asked.Game game) = (job.task ≡ play game.word.now) × (game.limits ≡ limits_of job) × (game.engine ≡ job.engine)
+IsAsked job (asked.Game game) = (job.task ≡ play game.word.now) × (game.limits ≡ limits_of job) × (game.cycles ≡ job.cycles) × (game.engine ≡ job.engine)
 IsAsked job (asked.Trial number) = job.task ≡ trial number
 IsAsked job (asked.Calc line) = (job.task ≡ calc line.expression.now) × (line.parts ≡ job.parts)
 IsAsked job (asked.Gtp limits) = (job.task ≡ gtp) × (limits ≡ engine_limits job)
@@ -77,11 +78,14 @@ IsCycleReport cycle.Values k game s text = IsCycleValuesReport game s text
 IsCycleReport q k game s text = (s ≡ Done) × IsGameText q k game text
 
 -- a session that begins with the position, or the report of what keeps it from being solved
-abbrev pub IsBegun : Limits → Option Colour → Setup → Opened → Type 0
-IsBegun limits given setup (Game session) = IsPlayable limits setup session.state × IsEngine given setup session.engine × (session.held ≡ [])
-IsBegun limits given setup (Fault report) = IsRefused limits setup report.status report.text
+abbrev pub IsBegun : Limits → Bool → Option Colour → Setup → Opened → Type 0
+IsBegun limits cycles given setup (Game session) = IsSettled setup.board × OpensGame cycles limits setup session.game × IsEngine given setup session.engine
+    × (session.held ≡ [])
+IsBegun limits cycles given setup (Fault report) = IsPositionAnswer (question_of_game cycles) limits setup report.status report.text
+    × (report.status ≢ Done)
 
 -- a session that begins with the position of the file of the word, or the report of what keeps it from being solved
-abbrev pub IsOpened : Limits → Option Colour → Settings → List ℕ → Input → Input → Opened → Type 0
-IsOpened limits given settings word i j (Game session) = IsGame limits given settings word i session.engine session.state × (session.held ≡ [])
-IsOpened limits given settings word i j (Fault report) = IsAnswer Solve limits settings word i j report.status report.text × (report.status ≢ Done)
+abbrev pub IsOpened : Limits → Bool → Option Colour → Settings → List ℕ → Input → Input → Opened → Type 0
+IsOpened limits cycles given settings word i j (Game session) = IsGame limits cycles given settings word i session.engine session.game × (session.held ≡ [])
+IsOpened limits cycles given settings word i j (Fault report) = IsAnswer (question_of_game cycles) limits settings word i j report.status report.text
+    × (report.status ≢ Done)

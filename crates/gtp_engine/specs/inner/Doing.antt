@@ -1,7 +1,7 @@
 -- What single orders leave behind.
 use Rattle.std.specs.Prelude.{◌≡◌, ◌+◌, ◌++◌, ◌∷◌, [], ℕ, List, Some, None}
 use Rattle.go_grid.specs.declared.grid.Colour.{Colour}
-use Rattle.whole_rules.specs.WholeGame.{Whole}
+use Rattle.engine_player.specs.EngineGame.{EngineGame}
 use Rattle.gtp_engine.specs.declared.loading.Loading.{Loading}
 use Rattle.gtp_engine.specs.declared.loading.Loading.TheVariants.{Position, Nothing, Failed}
 use Rattle.gtp_engine.specs.declared.reply.Refusal.TheVariants.{CannotLoadFile}
@@ -28,7 +28,7 @@ IsTurnTaken c action id a reply b = (said : Said) × (u : Table) × TakesTurn a.
 
 -- a game runs
 abbrev pub IsRunning : Engine → Type 0
-IsRunning a = (s : Whole) × (a.table.game ≡ Some s)
+IsRunning a = (p : EngineGame) × (a.table.game ≡ Some p)
 
 -- no game runs
 abbrev pub IsFresh : Engine → Type 0

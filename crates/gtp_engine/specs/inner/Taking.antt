@@ -3,8 +3,8 @@ use Rattle.std.specs.Prelude.{Bool, true, false, ◌≡◌, ◌≢◌, ◌++◌,
 use Rattle.std.specs.Io.KnownBytes.{append_known}
 use Rattle.desk_io.specs.Files.{Files}
 use Rattle.desk_io.specs.Lines.{IsLine}
-use Rattle.gtp_engine.specs.declared.end.GtpEnd.{GtpEnd}
-use Rattle.gtp_engine.specs.declared.end.GtpEnd.TheVariants.{Quit, InputEnded, ReadFault, WriteFault, TooManyLines, Memory}
+use Rattle.gtp_words.specs.declared.end.GtpEnd.{GtpEnd}
+use Rattle.gtp_words.specs.declared.end.GtpEnd.TheVariants.{Quit, InputEnded, ReadFault, WriteFault, TooManyLines, Memory}
 use Rattle.gtp_engine.specs.Session.{Fate}
 use Rattle.gtp_engine.specs.Written.{Engine, IsReply, NotesFate}
 

@@ -37,7 +37,7 @@ pub record Causes {T : Type 0} (reads reads_now writes writes_now : ℕ) (result
 abbrev pub TurnWritten : Colour → Standing → Option (List ℕ) → Option (List ℕ) → Result (Option SessionEnd) Fault → Session → ℕ → Option (List ℕ) → Type 0
 TurnWritten engine a before now (Ok None) session read left = (rest text : List ℕ) × (left ≡ Some rest) × Turn engine a text (standing session read rest) × (now ≡ append_known before text)
 TurnWritten engine a before now (Ok (Some end)) session read left = (rest text : List ℕ) × (left ≡ Some rest) × Ends engine a text end × (a ≡ standing session read rest) × (now ≡ append_known before text)
-TurnWritten engine a before now (Err Read) session read left = (rest : List ℕ) × (left ≡ Some rest) × IsToAnswer engine a.state × (a.read < MOST_LINES) × (a ≡ standing session read rest) × (now ≡ before)
+TurnWritten engine a before now (Err Read) session read left = (rest : List ℕ) × (left ≡ Some rest) × IsToAnswer engine a.game.state × (a.read < MOST_LINES) × (a ≡ standing session read rest) × (now ≡ before)
 TurnWritten engine a before now (Err Write) session read left = (text more : List ℕ) × IsNextLine engine a (text ++ more) × (now ≡ append_known before text)
 
 -- what was written of a session, by its result: the whole, or where a read failed all turns so far, or where a write failed
@@ -62,7 +62,7 @@ engine_turn White White = 1
 
 -- how many turns may still come: two for each line that may still be read, and one where it is the engine's turn
 abbrev pub turns_left : Session → ℕ → ℕ
-turns_left session read = 2 * (MOST_LINES - read) + engine_turn session.engine session.state.side
+turns_left session read = 2 * (MOST_LINES - read) + engine_turn session.engine session.game.state.side
 
 -- the line that these bytes begin with was taken, or there is none
 abbrev pub IsRequested : Board → List ℕ → Request → List ℕ → Option (List ℕ) → Type 0

@@ -1,8 +1,8 @@
 use Rattle.desk_io.specs.Desk.{input_of}
 use Rattle.std.proofs.Common.{inr}
-use Rattle.gd_words.specs.declared.job.Question.TheVariants.{Solve}
+use Rattle.endgame_run.specs.Game.{question_of_game}
 use Rattle.endgame_run.proofs.StepLaws.{needed_steps}
-use Rattle.endgame_run.proofs.TopLaws.{begun_opened, found_position}
+use Rattle.endgame_run.proofs.TopLaws.{begun_opened, found_position, game_needs}
 use Rattle.endgame_run.proofs.UndeclaredLaws.{position_may_tax}
 use Rattle.endgame_run.proofs.game.open_game.Goals as goal
 
@@ -10,7 +10,7 @@ pub returns-in_ok-opened-in-Position-clause-opened : goal.returns-in_ok-opened-i
 returns-in_ok-opened-in-Position-clause-opened g c =
     let i = input_of g.H.Shelf g.S.Source c.args.shelf.now c.args.lines.now in
     let j = input_of g.H.Shelf g.S.Source c.find_position.new.shelf c.find_position.new.lines in
-    begun_opened c.args.game.now.limits c.args.game.now.engine c.args.settings.now c.args.game.now.word.now i j c.in-Position.setup c.in_ok-opened-in-Position.opened
+    begun_opened c.args.game.now.limits c.args.game.now.cycles c.args.game.now.engine c.args.settings.now c.args.game.now.word.now i j c.in-Position.setup c.in_ok-opened-in-Position.opened
     (found_position c.args.settings.now c.args.game.now.word.now i j c.in_ok-setup.field-0 c.in-Position.setup c.in-Position.is c.in_ok-setup.ensures.found) c.in_ok-opened-in-Position.ensures.begun
 
 pub returns-in_ok-opened-in-Position-clause-steps : goal.returns-in_ok-opened-in-Position-clause-steps
@@ -18,7 +18,7 @@ returns-in_ok-opened-in-Position-clause-steps g c =
     let i = input_of g.H.Shelf g.S.Source c.args.shelf.now c.args.lines.now in
     let j = input_of g.H.Shelf g.S.Source c.find_position.new.shelf c.find_position.new.lines in
     let p = found_position c.args.settings.now c.args.game.now.word.now i j c.in_ok-setup.field-0 c.in-Position.setup c.in-Position.is c.in_ok-setup.ensures.found in
-    inr (p.file, c.in-Position.setup, p.told_so, p.reads, needed_steps Solve c.args.game.now.limits c.in-Position.setup c.args.steps.now c.begin.new.steps tt c.begin.ensures.steps)
+    inr (p.file, c.in-Position.setup, p.told_so, p.reads, needed_steps (question_of_game c.args.game.now.cycles) c.args.game.now.limits c.in-Position.setup c.args.steps.now c.begin.new.steps (game_needs c.args.game.now.cycles) c.begin.ensures.steps)
 
 pub begin-requires-clause-taxed : goal.begin-requires-clause-taxed
 begin-requires-clause-taxed g c =

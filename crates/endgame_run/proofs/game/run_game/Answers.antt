@@ -3,7 +3,7 @@ use Rattle.desk_io.specs.Desk.{desk, input_of, known, outside}
 use Rattle.endgame_run.specs.File.{TakesAtMost, most_of_game}
 use Rattle.endgame_run.specs.Game.{IsPlayRun}
 use Rattle.endgame_run.proofs.RunLaws.{finishes_as}
-use Rattle.endgame_run.proofs.SessionLaws.{opened_game, opened_fault}
+use Rattle.endgame_run.proofs.SessionLaws.{opened_fault, opened_game, opened_room}
 use Rattle.endgame_run.proofs.TopLaws.{nothing_taken, rest_of}
 use Rattle.endgame_run.proofs.game.run_game.Goals as goal
 
@@ -14,9 +14,9 @@ returns-in-Ok-Game-clause-ran g c =
     let b = known o (desk c.open_game.new.shelf c.play.new.lines c.play.new.out) in
     let session = c.in-Ok-Game.session in
     let same = c.in-Ok-Game.ensures.reads.lines_unread c.requires.apart in record {
-      outcome = inr (opened_game c.args.game.now.limits c.args.game.now.engine c.args.settings.now c.args.game.now.word.now a b (input_of g.H.Shelf g.S.Source c.open_game.new.shelf c.open_game.new.lines) c.play.result c.in-Ok-Game.field-0 session c.in-Ok-Game.field-0-is
+      outcome = inr (opened_game c.args.game.now.limits c.args.game.now.cycles c.args.game.now.engine c.args.settings.now c.args.game.now.word.now a b (input_of g.H.Shelf g.S.Source c.open_game.new.shelf c.open_game.new.lines) c.play.result c.in-Ok-Game.field-0 session c.in-Ok-Game.field-0-is
           c.in-Ok-Game.ensures.opened
-          (subst (λ l. IsPlayRun session.engine session.state (g.S.Source.left l) (g.S.Source.faults l) (g.S.Source.faults c.play.new.lines) (g.K.Sink.faults c.args.out.now) (g.K.Sink.faults c.play.new.out)
+          (subst (λ l. IsPlayRun session.engine session.game (g.S.Source.left l) (g.S.Source.faults l) (g.S.Source.faults c.play.new.lines) (g.K.Sink.faults c.args.out.now) (g.K.Sink.faults c.play.new.out)
           (g.K.Sink.holds c.args.out.now) (g.K.Sink.holds c.play.new.out) c.play.result) same c.play.ensures.played));
       taken = subst (λ l. TakesAtMost most_of_game (g.S.Source.left l) (g.S.Source.left c.play.new.lines)) same c.play.ensures.takes;
       asked = c.in-Ok-Game.ensures.reads.asked c.requires.apart;
@@ -45,7 +45,7 @@ returns-in-Ok-Fault-clause-ran g c =
         inr (
           report.status,
           report.text,
-          opened_fault c.args.game.now.limits c.args.game.now.engine c.args.settings.now c.args.game.now.word.now i j c.in-Ok-Fault.field-0 report
+          opened_fault c.args.game.now.limits c.args.game.now.cycles c.args.game.now.engine c.args.settings.now c.args.game.now.word.now i j c.in-Ok-Fault.field-0 report
               c.in-Ok-Fault.field-0-is c.in-Ok-Fault.ensures.opened,
           finishes_as _ _ _ _ _ _ _ c.finish.result c.as_slice.ensures c.finish.ensures.written,
         ),
@@ -68,3 +68,9 @@ returns-in-Err-clause-ran g c =
 
 pub returns-in-Err-clause-later : goal.returns-in-Err-clause-later
 returns-in-Err-clause-later g c = record { input = c.in-Err.ensures.reads.later; writes = omega arith }
+
+pub play-requires-clause-room : goal.play-requires-clause-room
+play-requires-clause-room g c =
+    opened_room c.args.game.now.limits c.args.game.now.cycles c.args.game.now.engine c.args.settings.now c.args.game.now.word.now
+    (input_of g.H.Shelf g.S.Source c.args.shelf.now c.args.lines.now) (input_of g.H.Shelf g.S.Source c.open_game.new.shelf c.open_game.new.lines)
+    c.in-Ok-Game.field-0 c.in-Ok-Game.session c.in-Ok-Game.field-0-is c.in-Ok-Game.ensures.opened

@@ -3,7 +3,7 @@ use Rattle.desk_io.specs.Desk.{desk, input_of, known, outside}
 use Rattle.gd_words.specs.Viewed.{viewed}
 use Rattle.endgame_run.specs.inner.Top.{IsAsked}
 use Rattle.endgame_run.proofs.TopLaws.{later_refl}
-use Rattle.endgame_run.proofs.RunLaws.{calc_runs, engine_runs, game_runs, question_runs, question_steps, trial_runs}
+use Rattle.endgame_run.proofs.RunLaws.{calc_runs, engine_runs, game_runs, game_steps, question_runs, question_steps, trial_runs}
 use Rattle.endgame_run.proofs.top.run_job.Goals as goal
 
 pub returns-in-Answer-clause-ran : goal.returns-in-Answer-clause-ran
@@ -23,7 +23,14 @@ pub returns-in-Game-clause-ran : goal.returns-in-Game-clause-ran
 returns-in-Game-clause-ran g c =
     let own = subst (IsAsked (viewed c.args.job.now)) c.in-Game.is c.asked.ensures in
     game_runs (outside g.H.Shelf g.S.Source g.K.Sink) (viewed c.args.job.now) (desk c.args.shelf.now c.args.lines.now c.args.out.now) c.run_game.result
-    (desk c.run_game.new.shelf c.run_game.new.lines c.run_game.new.out) c.in-Game.game.limits c.in-Game.game.engine c.in-Game.game.word.now own.0 own.1 own.2 c.run_game.ensures.ran
+    (desk c.run_game.new.shelf c.run_game.new.lines c.run_game.new.out) c.in-Game.game.limits c.in-Game.game.cycles c.in-Game.game.engine c.in-Game.game.word.now own.0 own.1
+    own.2 own.3 c.run_game.ensures.ran
+
+pub returns-in-Game-clause-steps : goal.returns-in-Game-clause-steps
+returns-in-Game-clause-steps g c =
+    let own = subst (IsAsked (viewed c.args.job.now)) c.in-Game.is c.asked.ensures in
+    game_steps (viewed c.args.job.now) (input_of g.H.Shelf g.S.Source c.args.shelf.now c.args.lines.now) c.args.steps.now c.run_game.new.steps
+    c.in-Game.game.cycles c.in-Game.game.limits c.in-Game.game.word.now own.0 own.1 own.2 c.run_game.ensures.steps
 
 pub returns-in-Trial-clause-ran : goal.returns-in-Trial-clause-ran
 returns-in-Trial-clause-ran g c =

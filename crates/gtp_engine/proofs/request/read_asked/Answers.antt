@@ -1,5 +1,5 @@
 use Rattle.std.proofs.Common.{◌∷◌, ◌-◌, ap, ◌∙◌, map, take, drop, length}
-use Rattle.gtp_engine.proofs.WordLemmas.{first_of}
+use Rattle.gtp_words.proofs.WordLemmas.{first_of}
 use Rattle.gtp_engine.proofs.request.read_asked.Goals as goal
 
 pub returns-in-None : goal.returns-in-None

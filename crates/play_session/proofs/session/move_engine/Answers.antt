@@ -1,11 +1,12 @@
-use Rattle.std.proofs.Common.{subst, sym}
-use Rattle.whole_rules.specs.WholeGame.{IsLegal}
-use Rattle.whole_rules.proofs.MoveLaws.{refused_not_legal}
-use Rattle.play_session.proofs.WinLaws.{chosen_legal}
+use Rattle.std.proofs.Common.{subst}
+use Rattle.engine_player.specs.EngineGame.{EngineGoes}
+use Rattle.engine_player.proofs.RoomLemmas.{room_behind_engine}
 use Rattle.play_session.proofs.session.move_engine.Goals as goal
 
 pub unreachable-requires : goal.unreachable-requires
-unreachable-requires g c =
-    let chosen = c.choose-chosen.result in
-    let legal = chosen_legal c.args.solved.now.state chosen c.choose-chosen.ensures.choice in
-    refused_not_legal c.choose-chosen.new.solved.state chosen c.in-Err.field-0 c.in-Err.ensures.applied.1 (subst (λ v. IsLegal v.state chosen) (sym c.choose-chosen.ensures.same) legal)
+unreachable-requires g c = c.in_default.ensures.choice c.requires.movable
+
+pub returns-clause-room : goal.returns-clause-room
+returns-clause-room g c = λ n room.
+    room_behind_engine c.args.player.now c.make.new.self c.in-Some.chosen n
+    (subst (λ p. EngineGoes p c.in-Some.chosen c.make.new.self) c.choose.ensures.same c.make.ensures.made) room

@@ -1,8 +1,9 @@
 use Rattle.std.proofs.Common.{length, map, sym, ap, ◌∙◌, subst}
 use Rattle.gtp_engine.specs.inner.Viewed.{asked_of}
-use Rattle.gtp_engine.specs.Words.{AreWords, HasId}
+use Rattle.gtp_words.specs.Words.{AreWords, HasId}
 use Rattle.gtp_engine.proofs.AnswerLemmas.{answered_words, some_words}
 use Rattle.gtp_engine.proofs.KomiLemmas.{asks_in_range}
+use Rattle.gtp_engine.proofs.RoomLemmas.{reply_room}
 use Rattle.gtp_engine.proofs.engine.Engine.answer.Goals as goal
 
 pub meet-requires-clause-komi : goal.meet-requires-clause-komi
@@ -18,3 +19,8 @@ returns-clause-answered g c =
     (some_words (λ w. w.now) c.in_ok-words.words.items c.in_ok-words.words.len c.is_empty.result c.if-is_empty.false c.is_empty.ensures (ap length (sym c.deref-2.ensures.value) ∙ c.deref-2.ensures.len))
     (subst (λ ws. HasId (map (λ w. w.now) ws) id rest) c.deref-2.ensures.value c.take_id-headed.ensures)
     c.read_asked.ensures c.in_ok-answer.ensures.met c.in_ok-answer.ensures.quit
+
+pub returns-clause-room : goal.returns-clause-room
+returns-clause-room g c =
+    reply_room (g.H.Shelf.files c.args.shelf.now) (g.H.Shelf.faults c.args.shelf.now) (g.H.Shelf.faults c.meet.new.shelf) c.args.line.now c.in_ok-answer.answer.reply
+    c.args.self.now c.meet.new.self c.in_ok-answer.answer.quit (returns-clause-answered g c)

@@ -1,8 +1,9 @@
-use Rattle.std.proofs.Common.{◌+◌, ◌++◌, [], length, refl, sym, ap, ◌∙◌, subst, arith, le_refl, le_trans, Some, None}
+use Rattle.std.proofs.Common.{◌+◌, ◌-◌, ◌++◌, [], length, refl, sym, ap, ◌∙◌, subst, arith, le_refl, le_trans, Some, None}
 use Rattle.desk_io.specs.declared.lines.TheConstants.{MOST_LINES}
 use Rattle.desk_io.proofs.UsedLineLemmas.{used_at, used_most, used_none, used_then}
 use Rattle.gtp_engine.proofs.SessionLemmas.{going_end, going_line, going_over, going_start}
 use Rattle.gtp_engine.proofs.FailedLoadLemmas.{noted_below, noted_loads, noted_rose, unused_below, unused_loads, unused_rose}
+use Rattle.gtp_engine.proofs.RoomLemmas.{room_less, unused_room}
 use Rattle.gtp_engine.proofs.TakenLineLemmas.{Taken}
 use Rattle.gtp_engine.proofs.engine.Engine.run.Goals as goal
 
@@ -21,6 +22,7 @@ session-init g c =
       used_none 1024 0 0 [] c.new-reader.result left left (omega arith) (λ bytes e. (bytes, e, ap (λ l. l ++ bytes) (sym c.new-reader.ensures))),
       omega (arith, ap length c.new-reader.ensures),
       omega arith,
+      unused_room start.limits start MOST_LINES c.requires.first,
     )
 
 pub session-preserved : goal.session-preserved
@@ -44,6 +46,8 @@ session-preserved g c =
       used_then 1024 0 at._read (at._read + 1) [] at.reader held left₀ left left' inv.9 (used_at 1024 at._read (at._read + 1) at.reader held left left' (omega arith) c.take_line.ensures.used),
       c.take_line.ensures.few_held,
       omega (arith, c.session-test.true),
+      c.take_line.ensures.room (MOST_LINES - (at._read + 1)) (omega (arith, c.session-test.true))
+          (room_less at.self.table (MOST_LINES - (at._read + 1) + 1) (MOST_LINES - at._read) (omega (arith, c.session-test.true)) inv.12),
     )
 
 pub returns-in-Some-clause-text : goal.returns-in-Some-clause-text
@@ -75,3 +79,7 @@ returns-clause-text g c =
     let start = c.args.self.now in let at = c.session in let inv = at.invariant in let files = g.H.Shelf.files c.args.shelf.now in
     let left₀ = g.S.Source.left c.args.lines.now in let holds₀ = g.K.Sink.holds c.args.out.now in let left = g.S.Source.left at.lines in let holds = g.K.Sink.holds at.out in
     going_over start.limits files left₀ holds₀ at.self at._read at.reader left holds inv.0 (omega (arith, c.session-test.false, inv.11))
+
+pub take_line-requires-clause-room : goal.take_line-requires-clause-room
+take_line-requires-clause-room g c =
+    room_less c.session.self.table 1 (MOST_LINES - c.session._read) (omega (arith, c.session-test.true)) c.session.invariant.12

@@ -1,6 +1,7 @@
-use Rattle.std.proofs.Common.{◌≡◌, ◌≤◌, [], length}
+use Rattle.std.proofs.Common.{◌≡◌, ◌≤◌, ◌-◌, [], length}
 use Rattle.desk_io.specs.declared.lines.TheConstants.{MOST_LINES}
 use Rattle.desk_io.specs.Lines.{UsesLines}
+use Rattle.gtp_engine.specs.Kept.{HasRoomFor}
 use Rattle.gtp_engine.specs.Written.{RoseBy}
 use Rattle.gtp_engine.proofs.SessionLemmas.{Going}
 use Rattle.gtp_engine.proofs.FailedLoadLemmas.{AreBelow}
@@ -13,3 +14,4 @@ invariant-session g l = Going l.fn.self.limits (g.H.Shelf.files l.fn.shelf) (g.S
     × (g.H.Shelf.files l.shelf ≡ g.H.Shelf.files l.fn.shelf) × (g.H.Shelf.faults l.fn.shelf ≤ g.H.Shelf.faults l.shelf)
     × (g.S.Source.faults l.fn.lines ≤ g.S.Source.faults l.lines) × (g.K.Sink.faults l.fn.out ≤ g.K.Sink.faults l.out)
     × UsesLines 1024 0 l._read [] (g.S.Source.left l.fn.lines) l.reader (g.S.Source.left l.lines) × (length l.reader ≤ 1024) × (l._read ≤ MOST_LINES)
+    × HasRoomFor (MOST_LINES - l._read) l.self.table

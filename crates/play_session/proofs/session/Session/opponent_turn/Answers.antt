@@ -28,9 +28,9 @@ pub returns-in-Err-clause-written : goal.returns-in-Err-clause-written
 returns-in-Err-clause-written g c = λ bytes e.
     let i = c.self.inside in let before = g.K.Sink.holds c.args.out.now in
     let left = g.S.Source.left c.take_request.new.lines in let input = c.take_request.new.input in
-    let session : Session = record { state = i.solved.state; engine = i.engine; held = i.input } in
-    let new : Session = record { state = i.solved.state; engine = i.engine; held = input } in
-    let turn : IsToAnswer session.engine session.state = subst (λ v. IsToAnswer v.engine v.state) (sym c.self.view_is) c.requires.turn in
+    let session : Session = record { game = i.player; engine = i.engine; held = i.input } in
+    let new : Session = record { game = i.player; engine = i.engine; held = input } in
+    let turn : IsToAnswer session.engine session.game.state = subst (λ v. IsToAnswer v.engine v.game.state) (sym c.self.view_is) c.requires.turn in
     subst (λ v. TurnWritten v.engine (standing v c.args.read.now bytes) before before (Err Read) new c.args.read.now left) c.self.view_is
     (turn_unread session c.args.read.now bytes left before before input turn c.requires.few c.if-read-eq-MOST_LINES.false (subst (λ l. IsSameInput i.input l input left) e c.in-Err.ensures.same))
 
@@ -38,12 +38,12 @@ pub returns-in-Ok-Ended-clause-written : goal.returns-in-Ok-Ended-clause-written
 returns-in-Ok-Ended-clause-written g c = λ bytes e.
     let i = c.self.inside in let before = g.K.Sink.holds c.args.out.now in let now = g.K.Sink.holds c.end_input.new.out in
     let left = g.S.Source.left c.take_request.new.lines in let input = c.take_request.new.input in
-    let session : Session = record { state = i.solved.state; engine = i.engine; held = i.input } in
-    let new : Session = record { state = i.solved.state; engine = i.engine; held = input } in
+    let session : Session = record { game = i.player; engine = i.engine; held = i.input } in
+    let new : Session = record { game = i.player; engine = i.engine; held = input } in
     let board = c.board.ensures ∙ ap (λ x. x.board) c.whole.ensures in
-    let asked : IsRequested session.state.board (session.held ++ bytes) Ended input left =
-    subst (λ r. IsRequested session.state.board (session.held ++ bytes) r input left) c.in-Ok-Ended.field-0-is (subst (λ b. IsRequested b (session.held ++ bytes) c.in-Ok-Ended.field-0 input left) board (c.in-Ok-Ended.ensures.requested bytes e)) in
-    let turn : IsToAnswer session.engine session.state = subst (λ v. IsToAnswer v.engine v.state) (sym c.self.view_is) c.requires.turn in
+    let asked : IsRequested session.game.state.board (session.held ++ bytes) Ended input left =
+    subst (λ r. IsRequested session.game.state.board (session.held ++ bytes) r input left) c.in-Ok-Ended.field-0-is (subst (λ b. IsRequested b (session.held ++ bytes) c.in-Ok-Ended.field-0 input left) board (c.in-Ok-Ended.ensures.requested bytes e)) in
+    let turn : IsToAnswer session.engine session.game.state = subst (λ v. IsToAnswer v.engine v.game.state) (sym c.self.view_is) c.requires.turn in
     subst (λ v. TurnWritten v.engine (standing v c.args.read.now bytes) before now c.end_input.result new c.args.read.now left) c.self.view_is
     (input_ended session c.args.read.now bytes left before now input c.end_input.result turn c.requires.few c.if-read-eq-MOST_LINES.false asked c.end_input.ensures.bytes c.end_input.ensures.cause.not_read c.end_input.ensures.end)
 
@@ -51,41 +51,41 @@ pub returns-in-Err-answer-clause-written : goal.returns-in-Err-answer-clause-wri
 returns-in-Err-answer-clause-written g c = λ bytes e.
     let i = c.self.inside in let before = g.K.Sink.holds c.args.out.now in let now = g.K.Sink.holds c.answer.new.out in
     let left = g.S.Source.left c.take_request.new.lines in let input = c.take_request.new.input in
-    let session : Session = record { state = i.solved.state; engine = i.engine; held = i.input } in
-    let new : Session = record { state = c.answer.new.solved.state; engine = i.engine; held = input } in
+    let session : Session = record { game = i.player; engine = i.engine; held = i.input } in
+    let new : Session = record { game = c.answer.new.player; engine = i.engine; held = input } in
     let board = c.board.ensures ∙ ap (λ x. x.board) c.whole.ensures in
     let request = Line c.in-Ok-Line.asked in
-    let asked : IsRequested session.state.board (session.held ++ bytes) request input left =
-    subst (λ r. IsRequested session.state.board (session.held ++ bytes) r input left) c.in-Ok-Line.field-0-is (subst (λ b. IsRequested b (session.held ++ bytes) c.in-Ok-Line.field-0 input left) board (c.in-Ok-Line.ensures.requested bytes e)) in
-    let turn : IsToAnswer session.engine session.state = subst (λ v. IsToAnswer v.engine v.state) (sym c.self.view_is) c.requires.turn in
+    let asked : IsRequested session.game.state.board (session.held ++ bytes) request input left =
+    subst (λ r. IsRequested session.game.state.board (session.held ++ bytes) r input left) c.in-Ok-Line.field-0-is (subst (λ b. IsRequested b (session.held ++ bytes) c.in-Ok-Line.field-0 input left) board (c.in-Ok-Line.ensures.requested bytes e)) in
+    let turn : IsToAnswer session.engine session.game.state = subst (λ v. IsToAnswer v.engine v.game.state) (sym c.self.view_is) c.requires.turn in
     let a = c.in-Err-answer.ensures.answered in
     subst (λ v. TurnWritten v.engine (standing v c.args.read.now bytes) before now (Err c.in-Err-answer.fault) new (c.args.read.now + 1) left) c.self.view_is
-    (answer_failed session c.args.read.now bytes left before now c.in-Ok-Line.asked input c.answer.new.solved.state a.0 c.in-Err-answer.fault new (c.args.read.now + 1) turn c.requires.few c.if-read-eq-MOST_LINES.false asked a.1 (λ k. c.in-Err-answer.ensures.cause.not_read (ap Err k)) a.2)
+    (answer_failed session c.args.read.now bytes left before now c.in-Ok-Line.asked input c.answer.new.player a.0 c.in-Err-answer.fault new (c.args.read.now + 1) turn c.requires.few c.if-read-eq-MOST_LINES.false asked a.1 (λ k. c.in-Err-answer.ensures.cause.not_read (ap Err k)) a.2)
 
 pub returns-in-Err-answer-clause-stepped : goal.returns-in-Err-answer-clause-stepped
 returns-in-Err-answer-clause-stepped g c =
-    subst (λ v. MovesOrStays v.state c.answer.new.solved.state) c.self.view_is
-    (answers_step c.self.inside.solved.state c.answer.new.solved.state c.in-Ok-Line.asked c.answer.ensures.answered.0 c.answer.ensures.answered.1)
+    subst (λ v. MovesOrStays v.game.state c.answer.new.player.state) c.self.view_is
+    (answers_step c.self.inside.player c.answer.new.player c.in-Ok-Line.asked c.answer.ensures.answered.0 c.answer.ensures.answered.1)
 
 pub returns-clause-written : goal.returns-clause-written
 returns-clause-written g c = λ bytes e.
     let i = c.self.inside in let before = g.K.Sink.holds c.args.out.now in let now = g.K.Sink.holds c.answer.new.out in
     let left = g.S.Source.left c.take_request.new.lines in let input = c.take_request.new.input in
-    let session : Session = record { state = i.solved.state; engine = i.engine; held = i.input } in
-    let new : Session = record { state = c.answer.new.solved.state; engine = i.engine; held = input } in
+    let session : Session = record { game = i.player; engine = i.engine; held = i.input } in
+    let new : Session = record { game = c.answer.new.player; engine = i.engine; held = input } in
     let board = c.board.ensures ∙ ap (λ x. x.board) c.whole.ensures in
     let request = Line c.in-Ok-Line.asked in
-    let asked : IsRequested session.state.board (session.held ++ bytes) request input left =
-    subst (λ r. IsRequested session.state.board (session.held ++ bytes) r input left) c.in-Ok-Line.field-0-is (subst (λ b. IsRequested b (session.held ++ bytes) c.in-Ok-Line.field-0 input left) board (c.in-Ok-Line.ensures.requested bytes e)) in
-    let turn : IsToAnswer session.engine session.state = subst (λ v. IsToAnswer v.engine v.state) (sym c.self.view_is) c.requires.turn in
+    let asked : IsRequested session.game.state.board (session.held ++ bytes) request input left =
+    subst (λ r. IsRequested session.game.state.board (session.held ++ bytes) r input left) c.in-Ok-Line.field-0-is (subst (λ b. IsRequested b (session.held ++ bytes) c.in-Ok-Line.field-0 input left) board (c.in-Ok-Line.ensures.requested bytes e)) in
+    let turn : IsToAnswer session.engine session.game.state = subst (λ v. IsToAnswer v.engine v.game.state) (sym c.self.view_is) c.requires.turn in
     let a = c.in-Ok.ensures.answered in
     subst (λ v. TurnWritten v.engine (standing v c.args.read.now bytes) before now (Ok None) new (c.args.read.now + 1) left) c.self.view_is
-    (answer_written session c.args.read.now bytes left before now c.in-Ok-Line.asked input c.answer.new.solved.state a.0 turn c.requires.few c.if-read-eq-MOST_LINES.false asked a.1 a.2)
+    (answer_written session c.args.read.now bytes left before now c.in-Ok-Line.asked input c.answer.new.player a.0 turn c.requires.few c.if-read-eq-MOST_LINES.false asked a.1 a.2)
 
 pub returns-clause-stepped : goal.returns-clause-stepped
 returns-clause-stepped g c =
-    subst (λ v. MovesOrStays v.state c.answer.new.solved.state) c.self.view_is
-    (answers_step c.self.inside.solved.state c.answer.new.solved.state c.in-Ok-Line.asked c.answer.ensures.answered.0 c.answer.ensures.answered.1)
+    subst (λ v. MovesOrStays v.game.state c.answer.new.player.state) c.self.view_is
+    (answers_step c.self.inside.player c.answer.new.player c.in-Ok-Line.asked c.answer.ensures.answered.0 c.answer.ensures.answered.1)
 
 pub returns-then-read-eq-MOST_LINES-clause-cause : goal.returns-then-read-eq-MOST_LINES-clause-cause
 returns-then-read-eq-MOST_LINES-clause-cause g c =

@@ -25,8 +25,8 @@ returns-clause-used g c =
 pub returns-in-None-clause-written : goal.returns-in-None-clause-written
 returns-in-None-clause-written g c = λ bytes e.
     let i = c.self.inside in let before = g.K.Sink.holds c.args.out.now in let now = g.K.Sink.holds c.end_game.new.out in let left = g.S.Source.left c.args.lines.now in
-    let session : Session = record { state = i.solved.state; engine = i.engine; held = i.input } in
-    let none : IsFirstMove i.solved.state None = subst (λ s. IsFirstMove s None) c.whole-2.ensures c.in-None.ensures in
+    let session : Session = record { game = i.player; engine = i.engine; held = i.input } in
+    let none : IsFirstMove i.player.state None = subst (λ s. IsFirstMove s None) c.whole-2.ensures c.in-None.ensures in
     let winner = c.other.ensures ∙ ap other (c.side-side.ensures ∙ ap (λ s. s.side) c.whole.ensures) in
     subst (λ v. TurnWritten v.engine (standing v c.args.read.now bytes) before now c.end_game.result v c.args.read.now left) c.self.view_is
     (game_ended session c.args.read.now bytes left before now c.other.result c.end_game.result e (λ m. none m.0 m.1) winner c.end_game.ensures.bytes c.end_game.ensures.cause.not_read c.end_game.ensures.end)
@@ -34,40 +34,40 @@ returns-in-None-clause-written g c = λ bytes e.
 pub returns-in-None-clause-keeps : goal.returns-in-None-clause-keeps
 returns-in-None-clause-keeps g c = λ w.
     let i = c.self.inside in
-    let none : IsFirstMove i.solved.state None = subst (λ s. IsFirstMove s None) c.whole-2.ensures c.in-None.ensures in
+    let none : IsFirstMove i.player.state None = subst (λ s. IsFirstMove s None) c.whole-2.ensures c.in-None.ensures in
     let winner = c.other.ensures ∙ ap other (c.side-side.ensures ∙ ap (λ s. s.side) c.whole.ensures) in
-    (w, end_keeps i.solved.state i.engine c.other.result c.end_game.result (subst (λ v. IsWinner v.state v.engine) (sym c.self.view_is) w) none winner c.end_game.ensures.end)
+    (w, end_keeps i.player.state i.engine c.other.result c.end_game.result (subst (λ v. IsWinner v.game.state v.engine) (sym c.self.view_is) w) none winner c.end_game.ensures.end)
 
 pub returns-then-not-is_same-clause-keeps : goal.returns-then-not-is_same-clause-keeps
 returns-then-not-is_same-clause-keeps g c = λ w.
     let i = c.self.inside in
-    let side = c.side-side.ensures ∙ ap (λ s. s.side) c.whole.ensures ∙ ap (λ v. v.state.side) c.self.view_is in
+    let side = c.side-side.ensures ∙ ap (λ s. s.side) c.whole.ensures ∙ ap (λ v. v.game.state.side) c.self.view_is in
     let turn = sym side ∙ not_other c.side-side.result c.args.self.now.engine (λ same. absurd (cc (sym c.if-not-is_same.true ∙ c.is_same.ensures.1 (same ∙ sym (ap (λ v. v.engine) c.self.view_is))))) in
-    (opponent_keeps c.args.self.now.state c.opponent_turn.new.self.state c.args.self.now.engine turn w c.opponent_turn.ensures.stepped, c.opponent_turn.ensures.never_lost)
+    (opponent_keeps c.args.self.now.game.state c.opponent_turn.new.self.game.state c.args.self.now.engine turn w c.opponent_turn.ensures.stepped, c.opponent_turn.ensures.never_lost)
 
 pub returns-in-Err-clause-written : goal.returns-in-Err-clause-written
 returns-in-Err-clause-written g c = λ bytes e.
     let i = c.self.inside in let before = g.K.Sink.holds c.args.out.now in let now = g.K.Sink.holds c.move_engine.new.out in let left = g.S.Source.left c.args.lines.now in
-    let session : Session = record { state = i.solved.state; engine = i.engine; held = i.input } in
-    let new : Session = record { state = c.move_engine.new.solved.state; engine = i.engine; held = i.input } in
+    let session : Session = record { game = i.player; engine = i.engine; held = i.input } in
+    let new : Session = record { game = c.move_engine.new.player; engine = i.engine; held = i.input } in
     let turn = sym (c.side-side.ensures ∙ ap (λ s. s.side) c.whole.ensures) ∙ c.is_same.ensures.0 c.if-not-is_same.false in
     let m = c.in-Err.ensures.moved in
     subst (λ v. TurnWritten v.engine (standing v c.args.read.now bytes) before now (Err c.in-Err.fault) new c.args.read.now left) c.self.view_is
-    (engine_failed session c.args.read.now bytes left before now c.move_engine.new.solved.state m.0 c.in-Err.fault new turn m.1 (λ k. c.in-Err.ensures.cause.not_read (ap Err k)) m.2)
+    (engine_failed session c.args.read.now bytes left before now c.move_engine.new.player m.0 c.in-Err.fault new turn m.1 (λ k. c.in-Err.ensures.cause.not_read (ap Err k)) m.2)
 
 pub returns-in-Err-clause-keeps : goal.returns-in-Err-clause-keeps
 returns-in-Err-clause-keeps g c = λ w.
     let i = c.self.inside in let m = c.move_engine.ensures.moved in
     let turn = sym (c.side-side.ensures ∙ ap (λ s. s.side) c.whole.ensures) ∙ c.is_same.ensures.0 c.if-not-is_same.false in
-    let kept = engine_keeps i.solved.state c.move_engine.new.solved.state i.engine m.0 turn (subst (λ v. IsWinner v.state v.engine) (sym c.self.view_is) w) m.1 in
-    (subst (λ v. IsWinner c.move_engine.new.solved.state v.engine) c.self.view_is kept, λ n. absurd (cc n))
+    let kept = engine_keeps i.player c.move_engine.new.player i.engine m.0 turn (subst (λ v. IsWinner v.game.state v.engine) (sym c.self.view_is) w) m.1 in
+    (subst (λ v. IsWinner c.move_engine.new.player.state v.engine) c.self.view_is kept, λ n. absurd (cc n))
 
 pub returns-clause-keeps : goal.returns-clause-keeps
 returns-clause-keeps g c = λ w.
     let i = c.self.inside in let m = c.move_engine.ensures.moved in
     let turn = sym (c.side-side.ensures ∙ ap (λ s. s.side) c.whole.ensures) ∙ c.is_same.ensures.0 c.if-not-is_same.false in
-    let kept = engine_keeps i.solved.state c.move_engine.new.solved.state i.engine m.0 turn (subst (λ v. IsWinner v.state v.engine) (sym c.self.view_is) w) m.1 in
-    (subst (λ v. IsWinner c.move_engine.new.solved.state v.engine) c.self.view_is kept, λ n. absurd (cc n))
+    let kept = engine_keeps i.player c.move_engine.new.player i.engine m.0 turn (subst (λ v. IsWinner v.game.state v.engine) (sym c.self.view_is) w) m.1 in
+    (subst (λ v. IsWinner c.move_engine.new.player.state v.engine) c.self.view_is kept, λ n. absurd (cc n))
 
 pub returns-in-None-clause-cause : goal.returns-in-None-clause-cause
 returns-in-None-clause-cause g c = let k = c.end_game.ensures.cause in

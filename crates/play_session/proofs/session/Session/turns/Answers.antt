@@ -1,17 +1,21 @@
-use Rattle.std.proofs.Common.{refl, sym, ◌∙◌, subst, arith, le_refl, le_trans, Ok, Err, Some, None}
+use Rattle.std.proofs.Common.{refl, ap, sym, ◌∙◌, subst, arith, le_refl, le_trans, Ok, Err, Some, None}
 use Rattle.desk_io.specs.declared.lines.TheConstants.{MOST_LINES}
 use Rattle.whole_rules.specs.FirstWinningMove.{IsWinner}
 use Rattle.play_session.specs.Written.{standing}
 use Rattle.play_session.specs.inner.Written.{TurnWritten}
 use Rattle.play_session.proofs.SessionLaws.{going_start, going_turn, going_ended, going_failed}
+use Rattle.play_session.proofs.TurnRoomLaws.{begin_room, some_room, turn_room}
 use Rattle.desk_io.proofs.UsedLineLemmas.{used_most, used_none, used_then}
 use Rattle.desk_io.proofs.HeldLemmas.{input_same}
 use Rattle.play_session.proofs.session.Session.turns.Goals as goal
 
+pub turn-requires-clause-room : goal.turn-requires-clause-room
+turn-requires-clause-room g c = some_room c.turns.self c.turns.read c.turns.invariant.7
+
 pub turns-init : goal.turns-init
 turns-init g c =
     let left = g.S.Source.left c.args.lines.now in
-    (going_start c.args.self.now left (g.K.Sink.holds c.args.out.now), refl, (λ w. w), omega arith, le_refl _, le_refl _, used_none 256 0 0 c.args.self.now.held c.args.self.now.held left left (omega arith) (input_same c.args.self.now.held left))
+    (going_start c.args.self.now left (g.K.Sink.holds c.args.out.now), refl, (λ w. w), omega arith, le_refl _, le_refl _, used_none 256 0 0 c.args.self.now.held c.args.self.now.held left left (omega arith) (input_same c.args.self.now.held left), begin_room c.args.self.now c.requires.room)
 
 pub returns-in-Err-clause-used : goal.returns-in-Err-clause-used
 returns-in-Err-clause-used g c =
@@ -48,9 +52,10 @@ turns-preserved g c =
           (λ rest e. subst (λ s. TurnWritten s (standing at.self at.read rest) holds holds' (Ok None) new c.turn.new.read left') inv.1
           (subst (λ x. TurnWritten at.self.engine (standing at.self at.read rest) holds holds' (Ok x) new c.turn.new.read left') r.field-0-is (r.ensures.written rest e))),
       c.turn.ensures.engine ∙ inv.1,
-      λ w. subst (λ s. IsWinner new.state s) inv.1 (c.turn.ensures.keeps (subst (λ s. IsWinner at.self.state s) (sym inv.1) (inv.2 w))).0,
+      λ w. subst (λ s. IsWinner new.game.state s) inv.1 (c.turn.ensures.keeps (subst (λ s. IsWinner at.self.game.state s) (sym inv.1) (inv.2 w))).0,
       c.turn.ensures.few_read,
       le_trans inv.4 c.turn.ensures.cause.reads_later,
       le_trans inv.5 c.turn.ensures.cause.writes_later,
       used_then 256 0 at.read c.turn.new.read start.held at.self.held new.held (g.S.Source.left c.args.lines.now) left left' inv.6 c.turn.ensures.used,
+      turn_room at.self new at.read c.turn.new.read (c.turn.ensures.fewer (r.is ∙ ap Ok r.field-0-is)) inv.7 c.turn.ensures.room,
     )

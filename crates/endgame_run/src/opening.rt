@@ -1,0 +1,107 @@
+//! Sessions that begin with the position of a file.
+
+ghost use Rattle.std.specs.Prelude.{◌≡◌, ◌≤◌, ◌+◌, List, [], false, true, IfOk};
+ghost use Rattle.go_grid.specs.Region.{Region};
+ghost use Rattle.sgf_go.specs.Position.{IsFit};
+ghost use Rattle.whole_rules.specs.Opening.{MayTax};
+ghost use Rattle.endgame_solver.specs.Faults.{most_steps};
+ghost use Rattle.region_cut.specs.Cut.{AreRegionsOfPlay};
+ghost use Rattle.endgame_run.specs.Game.{IsEngine};
+ghost use Rattle.endgame_run.specs.inner.Top.{IsBegun};
+
+use crate::cycles::refused_with_cycles;
+use crate::question::{Match, Opened};
+use crate::solving::refused;
+use endgame_solver::{Limits, Solved};
+use engine_player::{CyclePlayer, MOST_CAPTURES, Player};
+use go_grid::Colour;
+use local_graph::MOST_POSITIONS;
+use local_play::Steps;
+use play_session::Session;
+use sgf_go::Setup;
+use std::alloc::{AllocError, Global};
+use std::sync::ledger::Ledger;
+
+/// The session of a game in which the engine has the colour, or else the side to move.
+fn session_of(player: Player, engine: Option<Colour>, setup: &Setup) -> Session
+    ensures game { result.game ≡ player }
+    ensures engine { IsEngine engine setup.now result.engine }
+    ensures fresh { result.held ≡ [] }
+{
+    Session::new(player, engine.unwrap_or(setup.side))
+}
+
+/// The session of a position that is solved within the limits.
+fn begin_plain<L: Ledger>(
+    alloc: Global,
+    setup: &Setup,
+    limits: &Limits,
+    engine: Option<Colour>,
+    steps: &mut Steps<L>,
+) -> Result<Opened, AllocError>
+    requires fit { IsFit setup.now }
+    requires taxed { MayTax limits.now.tax setup.now.board }
+    requires positions { limits.now.positions ≤ MOST_POSITIONS }
+    ensures begun { IfOk result (IsBegun limits.now false engine setup.now) }
+    ensures steps { (regions : List Region) → AreRegionsOfPlay setup.now.board regions
+        → steps.new ≤ steps.old + most_steps limits.now regions }
+{
+    match Solved::begin(alloc, setup, limits, steps) {
+        Ok(solved) => {
+            let player = Player::without_cycles(solved);
+            Ok(Opened::Game(session_of(player, engine, setup)))
+        }
+        Err(fault) => {
+            let report = refused(alloc, setup.board.size(), limits, fault)?;
+            Ok(Opened::Fault(report))
+        }
+    }
+}
+
+/// The same where regions may have cycles.
+fn begin_with_cycles<L: Ledger>(
+    alloc: Global,
+    setup: &Setup,
+    limits: &Limits,
+    engine: Option<Colour>,
+    steps: &mut Steps<L>,
+) -> Result<Opened, AllocError>
+    requires fit { IsFit setup.now }
+    requires taxed { MayTax limits.now.tax setup.now.board }
+    requires positions { limits.now.positions ≤ MOST_POSITIONS }
+    ensures begun { IfOk result (IsBegun limits.now true engine setup.now) }
+    ensures steps { (regions : List Region) → AreRegionsOfPlay setup.now.board regions
+        → steps.new ≤ steps.old + most_steps limits.now regions }
+{
+    match CyclePlayer::begin(alloc, setup, limits, MOST_CAPTURES, steps) {
+        Ok(game) => {
+            let player = Player::with_cycles(game);
+            Ok(Opened::Game(session_of(player, engine, setup)))
+        }
+        Err(fault) => {
+            let report = refused_with_cycles(alloc, setup.board.size(), limits, fault)?;
+            Ok(Opened::Fault(report))
+        }
+    }
+}
+
+/// The session of a position within the limits of a game, with cycles admitted or without.
+pub(crate) fn begin<L: Ledger>(
+    alloc: Global,
+    setup: &Setup,
+    game: &Match<'_>,
+    steps: &mut Steps<L>,
+) -> Result<Opened, AllocError>
+    requires fit { IsFit setup.now }
+    requires taxed { MayTax game.now.limits.tax setup.now.board }
+    requires positions { game.now.limits.positions ≤ MOST_POSITIONS }
+    ensures begun { IfOk result (IsBegun game.now.limits game.now.cycles game.now.engine
+        setup.now) }
+    ensures steps { (regions : List Region) → AreRegionsOfPlay setup.now.board regions
+        → steps.new ≤ steps.old + most_steps game.now.limits regions }
+{
+    if game.cycles {
+        return begin_with_cycles(alloc, setup, &game.limits, game.engine, steps);
+    }
+    begin_plain(alloc, setup, &game.limits, game.engine, steps)
+}

@@ -1,5 +1,0 @@
-use Rattle.gtp_engine.proofs.WordLemmas.{split_all}
-use Rattle.gtp_engine.proofs.words.split.Goals as goal
-
-pub returns : goal.returns
-returns c = split_all _ _ _ c.splitting.invariant c.in_default.ensures.none
