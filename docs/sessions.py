@@ -1,6 +1,7 @@
 """The console sessions of documents: an indented line `$ COMMAND` and the indented lines behind it, which are what the command writes.
 
-In a session of gdsolve two blanks or more begin a remark, and of a game (`play`) the lines of one word are what is typed.
+In a session of gdsolve two blanks or more begin a remark. Of a game (`play`) the lines of one word are what is typed, and of the engine (`gtp`) the
+lines that are no replies; of its replies the empty lines and the blanks at the end of a line aren't printed.
 """
 
 import itertools
@@ -15,6 +16,9 @@ from script import TOP, program
 
 INDENT = '    '
 PROMPT = INDENT + '$ '
+
+# Which lines of a session are what is typed, by the words that its command begins with.
+TYPED = {'gdsolve play': lambda text: len(text.split()) == 1, 'gdsolve gtp': lambda text: text[:1] not in ('=', '?')}
 
 
 def sessions(page):
@@ -52,15 +56,17 @@ def differences(pages, named=None):
                     passed_over += 1
                     continue
                 run += 1
-                typed = ''
                 if command.startswith('gdsolve'):
                     stored = [(at, re.split(' {2,}', text)[0]) for at, text in stored]
-                if command.startswith('gdsolve play'):
-                    typed = ''.join(text + '\n' for _, text in stored if len(text.split()) == 1)
-                    stored = [(at, text) for at, text in stored if len(text.split()) != 1]
+                is_typed = next((told for words, told in TYPED.items() if command.startswith(words)), lambda text: False)
+                typed = ''.join(text + '\n' for _, text in stored if is_typed(text))
+                stored = [(at, text) for at, text in stored if not is_typed(text)]
                 env = {**os.environ, 'GDSOLVE': solver, 'PATH': '%s:%s' % (folder, os.environ.get('PATH', os.defpath))}
                 done = subprocess.run(['bash', '-c', command], input=typed, cwd=folder, env=env, stdout=subprocess.PIPE, encoding='utf-8')
-                found += compare('%s' % page.relative_to(TOP), stored + [(number, '')], done.stdout.split('\n'))
+                written = done.stdout.split('\n')
+                if command.startswith('gdsolve gtp'):
+                    written = [line.rstrip() for line in written if line] + ['']
+                found += compare('%s' % page.relative_to(TOP), stored + [(number, '')], written)
     return run, passed_over, found
 
 
