@@ -2,21 +2,15 @@
 use Rattle.std.proofs.Common.{ℕ, ℤ, ◌≡◌, ◌↔◌, ◌⊎◌, ◌^◌, ◌<◌, ◌≤◌, ◌-ℤ◌, inl, inr, refl, sym, ap, ◌∙◌, subst, arith, pos, List, [], length, get_or, set, unsigned_abs, Contains, IfSome, MatchOption, Option, None, Some}
 use Rattle.std.proofs.lemmas.Int.{ints}
 use Rattle.go_grid.specs.declared.grid.Colour.{Colour}
-use Rattle.go_grid.specs.declared.grid.Colour.TheVariants.{Black, White}
 use Rattle.go_grid.specs.Board.{other}
-use Rattle.short_games.specs.Tree.{Tree, tree_at}
-use Rattle.short_games.specs.Order.{◌≡ᵍ◌}
+use Rattle.short_games.specs.Tree.{Tree}
 use Rattle.short_games.specs.Number.{num}
 use Rattle.short_games.specs.Sum.{◌+ᵍ◌, total}
-use Rattle.short_games.proofs.OrderLaws.{le-trans, same-refl, same-sym}
-use Rattle.short_games.proofs.SumLaws.{plus-cancel, same-plus}
 use Rattle.game_store.specs.Meaning.{pick}
-use Rattle.sum_outcome.proofs.CheapMoveLaws.{put-total}
-use Rattle.sum_outcome.proofs.ListLaws.{pick-at, pick-put}
-use Rattle.sum_outcome.proofs.PlayerLaws.{loses-same}
 use Rattle.whole_rules.specs.declared.money.Purses.{Purses}
 use Rattle.endgame_solver.specs.SumGame.{balance}
-use Rattle.endgame_solver.specs.Thresholds.{BlackWins, IsLeastWin}
+use Rattle.endgame_solver.specs.Thresholds.{IsLeastWin}
+use Rattle.endgame_solver.proofs.AskedLaws.{least_same, same_changed}
 use Rattle.whole_budgets.specs.BudgetSums.{WinsGame}
 use Rattle.cycle_solver.specs.Thresholds.{IsGoodFor}
 use Rattle.cycle_solver.specs.inner.Asked.{AreAnswers, IsAnswer, IsOn, IsWonBy}
@@ -28,39 +22,6 @@ use Rattle.cycle_solver.specs.GameLists.{game_at}
 use Rattle.cycle_solver.specs.Held.{AreSummed, IsSeen, enough, ids_with}
 use Rattle.cycle_solver.proofs.ChangeLaws.{stone_in_sum, summed_stone}
 use Rattle.cycle_solver.proofs.ThresholdLaws.{WinsHere, good_here, wins_here}
-
--- equal games are won beside the same numbers
-wins_same : (c : Colour) (G H : Tree) → G ≡ᵍ H → BlackWins c G → BlackWins c H
-wins_same Black G H same w = λ l. w (loses-same Black H G (same-sym G H same) l)
-wins_same White G H same w = loses-same White G H same w
-
-least_same : (c : Colour) (G H : Tree) (n : ℤ) → G ≡ᵍ H → IsLeastWin c G n → IsLeastWin c H n
-least_same c G H n same least y =
-    let beside : (G +ᵍ num 1 y) ≡ᵍ (H +ᵍ num 1 y) = same-plus G H (num 1 y) (num 1 y) same (same-refl (num 1 y)) in (
-      λ w. (least y).0 (wins_same c (H +ᵍ num 1 y) (G +ᵍ num 1 y) (same-sym (G +ᵍ num 1 y) (H +ᵍ num 1 y) beside) w),
-      λ le. wins_same c (G +ᵍ num 1 y) (H +ᵍ num 1 y) beside ((least y).1 le),
-    )
-
--- a game put in the place of another adds it and takes the other
-changed_total : (Ts : List Tree) (ids : List ℕ) (k v : ℕ) → k < length ids
-    → (total (pick Ts (set ids k v)) +ᵍ tree_at Ts (get_or ids k 0)) ≡ᵍ (total (pick Ts ids) +ᵍ tree_at Ts v)
-changed_total Ts ids k v lt =
-    subst (λ Gs. (total Gs +ᵍ tree_at Ts (get_or ids k 0)) ≡ᵍ (total (pick Ts ids) +ᵍ tree_at Ts v)) (sym (pick-put Ts ids k v))
-    (put-total (pick Ts ids) k (tree_at Ts (get_or ids k 0)) (tree_at Ts v) (pick-at Ts ids k lt))
-
--- it doesn't matter which of two equal games gives way
-same_changed : (Ts : List Tree) (ids : List ℕ) (j k v : ℕ) → j < length ids → k < length ids → get_or ids j 0 ≡ get_or ids k 0
-    → total (pick Ts (set ids j v)) ≡ᵍ total (pick Ts (set ids k v))
-same_changed Ts ids j k v short long e =
-    let G = total (pick Ts (set ids j v)) in
-    let H = total (pick Ts (set ids k v)) in
-    let K = tree_at Ts (get_or ids k 0) in
-    let M = total (pick Ts ids) +ᵍ tree_at Ts v in
-    let first : (G +ᵍ K) ≡ᵍ M = subst (λ i. (G +ᵍ tree_at Ts i) ≡ᵍ M) e (changed_total Ts ids j v short) in
-    let second : (H +ᵍ K) ≡ᵍ M = changed_total Ts ids k v long in (
-      plus-cancel G H K (le-trans (G +ᵍ K) M (H +ᵍ K) first.0 second.1),
-      plus-cancel H G K (le-trans (H +ᵍ K) M (G +ᵍ K) second.0 first.1),
-    )
 
 -- What is kept.
 

@@ -22,7 +22,7 @@ wins_same : (c : Colour) (G H : Tree) → G ≡ᵍ H → BlackWins c G → Black
 wins_same Black G H same w = λ l. w (loses-same Black H G (same-sym G H same) l)
 wins_same White G H same w = loses-same White G H same w
 
-least_same : (c : Colour) (G H : Tree) (n : ℤ) → G ≡ᵍ H → IsLeastWin c G n → IsLeastWin c H n
+pub least_same : (c : Colour) (G H : Tree) (n : ℤ) → G ≡ᵍ H → IsLeastWin c G n → IsLeastWin c H n
 least_same c G H n same least y =
     let beside : (G +ᵍ num 1 y) ≡ᵍ (H +ᵍ num 1 y) = same-plus G H (num 1 y) (num 1 y) same (same-refl (num 1 y)) in (
       λ w. (least y).0 (wins_same c (H +ᵍ num 1 y) (G +ᵍ num 1 y) (same-sym (G +ᵍ num 1 y) (H +ᵍ num 1 y) beside) w),
@@ -37,7 +37,7 @@ changed_total Ts ids k v lt =
     (put-total (pick Ts ids) k (tree_at Ts (get_or ids k 0)) (tree_at Ts v) (pick-at Ts ids k lt))
 
 -- it doesn't matter which of two equal games gives way
-same_changed : (Ts : List Tree) (ids : List ℕ) (j k v : ℕ) → j < length ids → k < length ids → get_or ids j 0 ≡ get_or ids k 0
+pub same_changed : (Ts : List Tree) (ids : List ℕ) (j k v : ℕ) → j < length ids → k < length ids → get_or ids j 0 ≡ get_or ids k 0
     → total (pick Ts (set ids j v)) ≡ᵍ total (pick Ts (set ids k v))
 same_changed Ts ids j k v short long e =
     let G = total (pick Ts (set ids j v)) in
