@@ -76,8 +76,10 @@ impl BoardSession {
         ensures text { (bytes : List ℕ) → S.left lines.old ≡ Some bytes
             → WritesByEnd BoardState AnswersLine first_state bytes
             (K.holds out.old) (K.holds out.new) result }
-        ensures read_fault { result ≡ ReadFault → Rose (S.faults lines.old) (S.faults lines.new) }
-        ensures write_fault { result ≡ WriteFault → Rose (K.faults out.old) (K.faults out.new) }
+        ensures read_fault { result ≡ ReadFault
+            → Rose (S.faults lines.old) (S.faults lines.new) }
+        ensures write_fault { result ≡ WriteFault
+            → Rose (K.faults out.old) (K.faults out.new) }
         ensures used { (held : List ℕ) × (length held ≤ 1024)
             × UsesLines 1024 0 MOST_LINES [] (S.left lines.old) held (S.left lines.new) }
         ensures later_reads { S.faults lines.old ≤ S.faults lines.new }

@@ -152,8 +152,8 @@ fn with_few<'a, 'b>(command: Command, arguments: &'b [&'a [u8]]) -> Option<Reque
 
 /// The request of a command with arguments.
 fn fit<'a, 'b>(command: Command, arguments: &'b [&'a [u8]]) -> Option<Request<'a, 'b>>
-    ensures some { IfSome result (λ request. FitsArguments command (map (λ w. w.now) arguments.now)
-        (order_of request)) }
+    ensures some { IfSome result (λ request.
+        FitsArguments command (map (λ w. w.now) arguments.now) (order_of request)) }
     ensures range { IfSome result (λ request. HasKomiInRange (order_of request)) }
     ensures none { IfNone result ((order : BoardOrder)
         → ¬ FitsArguments command (map (λ w. w.now) arguments.now) order) }

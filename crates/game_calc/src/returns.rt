@@ -182,8 +182,8 @@ pub(crate) fn returned(
 
 /// The later of two forms.
 pub(crate) fn later(latest: Option<GameId>, id: GameId) -> Option<GameId>
-    ensures { (Ts : List Tree) (limit : ℕ) → IsSmall Ts limit latest → IsSmall Ts limit (Some id)
-        → IsSmall Ts limit result }
+    ensures { (Ts : List Tree) (limit : ℕ) → IsSmall Ts limit latest
+        → IsSmall Ts limit (Some id) → IsSmall Ts limit result }
 {
     match latest {
         Some(before) if id < before => Some(before),

@@ -60,8 +60,10 @@ fn read_column(letter: u8) -> Option<u8>
 /// The row from 1 to 25 that digits without a leading zero write.
 #[tactic(auto, using(board_words::proofs::DigitLemmas::row_is, board_words::proofs::DigitLemmas::row_read))]
 fn read_row(digits: &[u8]) -> Option<u8>
-    ensures some { IfSome result (λ row. (1 ≤ row) × (row ≤ 25) × (digits.now ≡ decimal row)) }
-    ensures none { IfNone result ((row : ℕ) → 1 ≤ row → row ≤ 25 → ¬ (digits.now ≡ decimal row)) }
+    ensures some { IfSome result (λ row. (1 ≤ row) × (row ≤ 25)
+        × (digits.now ≡ decimal row)) }
+    ensures none { IfNone result ((row : ℕ) → 1 ≤ row → row ≤ 25
+        → ¬ (digits.now ≡ decimal row)) }
 {
     let row = match read_number(digits) {
         Some(row) => row,
@@ -115,7 +117,8 @@ pub fn letter_of(column: u16) -> u8
 /// The text of a point of a board of the size.
 pub fn point_text(alloc: Global, size: Size, point: Point) -> Result<String, AllocError>
     requires { point < size.columns * size.rows }
-    ensures { IfOk result (λ text. string_bytes text ≡ vertex_text size.columns size.rows point) }
+    ensures { IfOk result (λ text.
+        string_bytes text ≡ vertex_text size.columns size.rows point) }
 {
     let columns = u16::from(size.columns);
     let letter = char::from(letter_of(point.0 % columns));
